@@ -1,0 +1,2 @@
+pub mod PeriodicLemmas
+pub mod WholeLemmas

@@ -1,0 +1,6 @@
+pub mod Whole
+pub mod Calendar
+pub mod Moment
+pub mod Periodic
+pub mod Verdict
+pub mod RefusalText
