@@ -4,3 +4,4 @@ pub mod Moment
 pub mod Periodic
 pub mod Verdict
 pub mod RefusalText
+pub mod Rising

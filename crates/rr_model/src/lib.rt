@@ -4,11 +4,17 @@
 mod kind;
 mod laws;
 mod limits;
+mod lists;
 mod refusal;
+mod rule;
+mod sketch;
 mod verdict;
 
 pub use kind::Kind;
 pub use laws::agreement_lasts;
 pub use limits::{MAX_CYCLE_DAYS, MAX_DAY, MAX_INPUT, MAX_SECONDS};
+pub use lists::{Dates, DayItems, DayShapes, Numbers, Rules, Seconds};
 pub use refusal::{Fault, NoMemory, Refusal};
+pub use rule::{DayItem, End, Freq, Rule, Series};
+pub use sketch::{DayShape, Sketch};
 pub use verdict::{Side, Verdict};
