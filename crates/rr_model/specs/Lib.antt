@@ -4,3 +4,5 @@ pub mod Moment
 pub mod Periodic
 pub mod Verdict
 pub mod RefusalText
+pub mod Digits
+pub mod MomentText
