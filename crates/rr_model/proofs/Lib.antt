@@ -1,3 +1,4 @@
 pub mod PeriodicLemmas
 pub mod WholeLemmas
+pub mod DailyLemmas
 mod MomentTextExamples

@@ -7,3 +7,7 @@ pub mod RefusalText
 pub mod Rising
 pub mod Digits
 pub mod MomentText
+pub mod Daily
+pub mod DailyText
+pub mod Command
+pub mod Answer

@@ -1,6 +1,7 @@
 //! The data that every crate speaks of, and beside it, in specs/, the definitions that contracts cite.
 #![tactic(auto)]
 
+mod conclusion;
 mod kind;
 mod laws;
 mod limits;
@@ -11,6 +12,7 @@ mod sketch;
 mod stamp;
 mod verdict;
 
+pub use conclusion::Conclusion;
 pub use kind::Kind;
 pub use laws::agreement_lasts;
 pub use limits::{MAX_CYCLE_DAYS, MAX_DAY, MAX_INPUT, MAX_SECONDS};
