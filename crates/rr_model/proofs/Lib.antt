@@ -1,2 +1,3 @@
 pub mod PeriodicLemmas
+pub mod VerdictLemmas
 pub mod WholeLemmas
