@@ -1,4 +1,5 @@
 pub mod PeriodicLemmas
+pub mod VerdictLemmas
 pub mod WholeLemmas
 pub mod DailyLemmas
 mod MomentTextExamples
