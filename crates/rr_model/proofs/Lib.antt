@@ -1,2 +1,6 @@
+mod CalendarExamples
+pub mod CalendarLemmas
+pub mod CycleLemmas
+pub mod FloorLemmas
 pub mod PeriodicLemmas
 pub mod WholeLemmas
