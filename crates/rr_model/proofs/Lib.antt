@@ -1,3 +1,7 @@
+mod CalendarExamples
+pub mod CalendarLemmas
+pub mod CycleLemmas
+pub mod FloorLemmas
 pub mod PeriodicLemmas
 pub mod VerdictLemmas
 pub mod WholeLemmas
