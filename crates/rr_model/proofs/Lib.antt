@@ -7,3 +7,4 @@ pub mod VerdictLemmas
 pub mod WholeLemmas
 pub mod DailyLemmas
 mod MomentTextExamples
+pub mod AnswerLemmas
