@@ -1,3 +1,2 @@
 pub mod Series
-pub mod Difference
 pub mod Run

@@ -1,0 +1,18 @@
+use Rattle.std.proofs.Common.{◌≡◌, ◌+◌, pos, ◌+ℤ◌, w64, to_z, of_z, arith}
+use Rattle.std.proofs.lemmas.Int.{ints, clamps, to_z-of_z}
+use Rattle.rr_model.proofs.DailyLemmas.{same_days, IsEqualVerdict-yes, IsEqualVerdict-no}
+use Rattle.rr_cli.specs.Series.{series_of}
+use Rattle.rr_cli.proofs.decide.equal.Goals as goal
+
+pub returns-in-None : goal.returns-in-None
+returns-in-None c =
+    let s = series_of c.args.a.now in
+    let t = series_of c.args.b.now in
+    IsEqualVerdict-yes s t (same_days s t (to_z w64 (of_z w64 c.min-from.result)) c.max.result (c.days_between.result + c.args.a.now.interval + c.args.b.now.interval)
+        (omega (arith, c.args.a.now.some)) (omega (arith, c.args.b.now.some))
+        (omega (arith, ints, clamps)) (omega (arith, ints, clamps)) (omega (arith, ints, clamps)) (omega (arith, ints, clamps)) (omega (arith, ints)) (c.in-None.ensures.none))
+
+pub returns-in-Some : goal.returns-in-Some
+returns-in-Some c =
+    IsEqualVerdict-no (series_of c.args.a.now) (series_of c.args.b.now) c.min-from.result (to_z w64 (of_z w64 c.min-from.result)) c.in-Some.at _ c.in-Some.side
+        (omega (arith, ints)) (omega (arith, ints)) (omega (arith, ints, clamps)) (omega (arith, ints, clamps)) c.in-Some.ensures.some
