@@ -1,3 +1,4 @@
+mod MomentTextExamples
+pub mod DigitLemmas
 pub mod PeriodicLemmas
 pub mod WholeLemmas
-mod MomentTextExamples
