@@ -21,6 +21,14 @@ fn count_digits(text: &[u8]) -> usize
     text.iter().take_while(|b| b.is_ascii_digit()).count()
 }
 
+// The digits at the front.
+fn leading(text: &[u8]) -> &[u8]
+    ensures front { result.now ≡ leading_digits text.now }
+    ensures digits { AllPass is_digit result.now }
+{
+    &text[..count_digits(text)]
+}
+
 // The number that digits write, or `None` where it is above `u64::MAX`.
 fn value_of(digits: &[u8]) -> Option<u64>
     requires { AllPass is_digit digits.now }
@@ -40,8 +48,9 @@ pub fn number(text: &[u8], from: usize) -> Digits
     ensures over { IsTrue result.over ↔ (18446744073709551615 < digits_value (leading_digits (drop from text.now))) }
     ensures next { result.next ≡ from + length (leading_digits (drop from text.now)) }
 {
-    let next = from + count_digits(&text[from..]);
-    match value_of(&text[from..next]) {
+    let digits = leading(&text[from..]);
+    let next = from + digits.len();
+    match value_of(digits) {
         Some(value) => Digits { value, over: false, next },
         None => Digits { value: u64::MAX, over: true, next },
     }
