@@ -6,3 +6,4 @@ pub mod CycleLemmas
 pub mod FloorLemmas
 pub mod PeriodicLemmas
 pub mod WholeLemmas
+pub mod MomentTextLemmas
