@@ -1,3 +1,5 @@
+mod MomentTextExamples
+pub mod DigitLemmas
 mod CalendarExamples
 pub mod CalendarLemmas
 pub mod CycleLemmas
@@ -8,3 +10,4 @@ pub mod WholeLemmas
 pub mod DailyLemmas
 mod MomentTextExamples
 pub mod AnswerLemmas
+pub mod MomentTextLemmas

@@ -1,0 +1,69 @@
+// Prints numbers, dates and moments.
+ghost use Rattle.std.specs.Prelude.{◌≡◌, ◌<◌, ◌≤◌, ◌++◌, ◌∷◌, codes, replicate, OnOk, OnErr};
+ghost use Rattle.std.specs.Fmt.{signed_decimal};
+ghost use Rattle.rr_model.specs.MomentText.{padded, extended_date, extended_time_text};
+ghost use Rattle.rr_text.specs.Appending.{StandsInFront};
+
+use itoa::Buffer;
+use rr_model::NoMemory;
+
+/// Appends the number in decimal digits, with `-` before them where it is below 0.
+pub fn push_number(out: &mut Vec<u8>, value: i64) -> Result<(), NoMemory>
+    ensures ok { OnOk result (out.new.items ≡ out.old.items ++ signed_decimal value) }
+    ensures err { OnErr result (out.new.items ≡ out.old.items) }
+{
+    let mut buffer = Buffer::new();
+    out.extend_from_slice(buffer.format(value).as_bytes())?;
+    Ok(())
+}
+
+// Some zeros.
+fn push_zeros(out: &mut Vec<u8>, count: usize) -> Result<(), NoMemory>
+    requires { count ≤ 4 }
+    ensures ok { OnOk result (out.new.items ≡ out.old.items ++ replicate count 48) }
+    ensures err { OnErr result (out.new.items ≡ out.old.items) }
+{
+    out.resize(out.len() + count, b'0')?;
+    Ok(())
+}
+
+// The digits with zeros before them up to a width.
+fn push_padded(out: &mut Vec<u8>, width: usize, value: u64) -> Result<(), NoMemory>
+    requires { width ≤ 4 }
+    ensures ok { OnOk result (out.new.items ≡ out.old.items ++ padded width value) }
+    ensures err { OnErr result (StandsInFront out.old.items out.new.items) }
+{
+    let mut buffer = Buffer::new();
+    let digits = buffer.format(value).as_bytes();
+    push_zeros(out, width.saturating_sub(digits.len()))?;
+    out.extend_from_slice(digits)?;
+    Ok(())
+}
+
+// Two digits behind a separator.
+fn push_part(out: &mut Vec<u8>, separator: u8, value: u64) -> Result<(), NoMemory>
+    ensures ok { OnOk result (out.new.items ≡ out.old.items ++ (separator ∷ padded 2 value)) }
+    ensures err { OnErr result (StandsInFront out.old.items out.new.items) }
+{
+    out.push(separator)?;
+    push_padded(out, 2, value)
+}
+
+fn push_date(out: &mut Vec<u8>, year: u64, month: u8, day: u8) -> Result<(), NoMemory>
+    ensures ok { OnOk result (out.new.items ≡ out.old.items ++ extended_date year month day) }
+    ensures err { OnErr result (StandsInFront out.old.items out.new.items) }
+{
+    push_padded(out, 4, year)?;
+    push_part(out, b'-', u64::from(month))?;
+    push_part(out, b'-', u64::from(day))
+}
+
+#[tactic(auto, unfolding(rr_model::specs::MomentText::extended_time_text))]
+fn push_time(out: &mut Vec<u8>, second: u32) -> Result<(), NoMemory>
+    ensures ok { OnOk result (out.new.items ≡ out.old.items ++ (codes "T" ++ extended_time_text second)) }
+    ensures err { OnErr result (StandsInFront out.old.items out.new.items) }
+{
+    push_part(out, b'T', u64::from(second / 3_600))?;
+    push_part(out, b':', u64::from(second / 60 % 60))?;
+    push_part(out, b':', u64::from(second % 60))
+}
