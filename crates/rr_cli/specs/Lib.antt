@@ -1,2 +1,4 @@
 pub mod Series
+pub mod Outcome
+pub mod Printable
 pub mod Run

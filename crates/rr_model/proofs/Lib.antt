@@ -8,6 +8,5 @@ pub mod PeriodicLemmas
 pub mod VerdictLemmas
 pub mod WholeLemmas
 pub mod DailyLemmas
-mod MomentTextExamples
 pub mod AnswerLemmas
 pub mod MomentTextLemmas

@@ -1,0 +1,2 @@
+pub mod DailyTextParts
+pub mod IntervalText
