@@ -1,6 +1,7 @@
 //! Numbers, dates and moments as text: what a text states, and what is printed.
 #![tactic(auto)]
 
+mod basic;
 mod digits;
 mod print;
 
