@@ -1,6 +1,6 @@
 use Rattle.std.proofs.Common.{◌≡◌, ◌-◌, ◌+◌, Some, sym, ◌∙◌, arith, rules}
 use Rattle.rr_text.proofs.BasicLemmas.{short_number}
-use Rattle.rr_text.proofs.basic.number_at.Goals as goal
+use Rattle.rr_text.proofs.moment.number_at.Goals as goal
 
 pub unwrap-requires : goal.unwrap-requires
 unwrap-requires c =
