@@ -5,5 +5,9 @@ pub mod CalendarLemmas
 pub mod CycleLemmas
 pub mod FloorLemmas
 pub mod PeriodicLemmas
+pub mod VerdictLemmas
 pub mod WholeLemmas
 pub mod MomentTextLemmas
+pub mod DailyLemmas
+mod MomentTextExamples
+pub mod AnswerLemmas
