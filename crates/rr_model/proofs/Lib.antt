@@ -7,6 +7,6 @@ pub mod FloorLemmas
 pub mod PeriodicLemmas
 pub mod VerdictLemmas
 pub mod WholeLemmas
+pub mod MomentTextLemmas
 pub mod DailyLemmas
 pub mod AnswerLemmas
-pub mod MomentTextLemmas

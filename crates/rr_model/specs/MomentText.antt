@@ -1,5 +1,5 @@
 -- The texts of dates and moments: basic ones are read (RFC 5545, sections 3.3.4 and 3.3.5), extended ones printed (ISO 8601).
-use Rattle.std.specs.Prelude.{ℕ, ◌+◌, ◌-◌, ◌*◌, ◌/◌, ◌%◌, ◌==◌, nat_le, nat_lt, Bool, true, false, ◌&&◌, ◌||◌, if◌then◌else◌, ℤ, pos, nat_abs, List, [], ◌∷◌, ◌++◌, length, take, drop, replicate, slice_index, codes, Option, None, Some, option_map, option_and_then}
+use Rattle.std.specs.Prelude.{ℕ, ◌+◌, ◌-◌, ◌*◌, ◌/◌, ◌%◌, ◌==◌, nat_le, nat_lt, Bool, true, false, ◌&&◌, ◌||◌, if◌then◌else◌, ℤ, pos, nat_abs, List, [], ◌∷◌, ◌++◌, length, take, drop, replicate, slice_index, codes, Option, None, Some, option_map}
 use Rattle.std.specs.Fmt.{decimal}
 use Rattle.std.specs.List.{list_all}
 use Rattle.rr_model.specs.Calendar.{is_date, day_number, year_of, month_of, day_of_month}
@@ -10,11 +10,11 @@ use Rattle.rr_model.specs.declared.kind.Kind.TheVariants.{Days, Moments}
 use Rattle.rr_model.specs.declared.stamp.Stamp.{Stamp}
 
 -- the text is so many digits
-abbrev pub is_digits : ℕ → List ℕ → Bool
+unfoldable pub is_digits : ℕ → List ℕ → Bool
 is_digits count text = (length text == count) && list_all is_digit text
 
 -- the number that so many digits write, from a place on
-abbrev pub number_at : ℕ → ℕ → List ℕ → ℕ
+unfoldable pub number_at : ℕ → ℕ → List ℕ → ℕ
 number_at start count text = digits_value (take count (drop start text))
 
 -- ---- basic texts
@@ -80,11 +80,16 @@ date_stamp day = record { kind = Days; at = day; utc = false }
 abbrev pub moment_stamp : ℤ → ℕ → Bool → Stamp
 moment_stamp day second utc = record { kind = Moments; at = moment_at Moments day second; utc = utc }
 
+-- the moment of a date, a time and a mark, where all three are stated
+abbrev pub moment_of : Option ℤ → Option ℕ → Option Bool → Option Stamp
+moment_of (Some day) (Some second) (Some utc) = Some (moment_stamp day second utc)
+moment_of day second utc = None
+
 -- YYYYMMDDTHHMMSS, and behind it a Z or nothing
-abbrev pub basic_moment : List ℕ → Option Stamp
+unfoldable pub basic_moment : List ℕ → Option Stamp
 basic_moment text =
     if is_letter_t (slice_index text 8)
-    then option_and_then (λ day. option_and_then (λ second. option_map (moment_stamp day second) (utc_mark (drop 15 text))) (basic_time (take 6 (drop 9 text)))) (basic_date (take 8 text))
+    then moment_of (basic_date (take 8 text)) (basic_time (take 6 (drop 9 text))) (utc_mark (drop 15 text))
     else None
 
 -- what a basic date or a basic moment states

@@ -30,7 +30,7 @@ fn leading(text: &[u8]) -> &[u8]
 }
 
 // The number that digits write, or `None` where it is above `u64::MAX`.
-fn value_of(digits: &[u8]) -> Option<u64>
+pub fn value_of(digits: &[u8]) -> Option<u64>
     requires { AllPass is_digit digits.now }
     ensures { MatchOption result (18446744073709551615 < digits_value digits.now) (λ n. n ≡ digits_value digits.now) }
 {
