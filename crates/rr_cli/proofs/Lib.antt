@@ -1,2 +1,4 @@
 pub mod DailyTextParts
 pub mod IntervalText
+pub mod BasicDate
+pub mod Reading

@@ -20,4 +20,4 @@ returns-in-Some-clause-verdict c =
 pub returns-in-Some-clause-printable : goal.returns-in-Some-clause-printable
 returns-in-Some-clause-printable c =
     let first = c.in-Some.ensures.some in
-    (omega (arith, ints, clamps, first.from), omega (arith, ints, c.in-Some.ensures.near))
+    (omega (arith, ints, clamps, first.from), (omega (arith, ints, clamps, first.from), omega (arith, ints, c.in-Some.ensures.near)))
