@@ -9,5 +9,5 @@ pub mod VerdictLemmas
 pub mod WholeLemmas
 pub mod MomentTextLemmas
 pub mod DailyLemmas
-mod MomentTextExamples
 pub mod AnswerLemmas
+pub mod MomentLemmas
