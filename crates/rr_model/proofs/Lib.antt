@@ -10,3 +10,4 @@ pub mod WholeLemmas
 pub mod MomentTextLemmas
 pub mod DailyLemmas
 pub mod AnswerLemmas
+pub mod MomentLemmas

@@ -4,7 +4,7 @@ use Rattle.std.specs.List.{AllPass}
 use Rattle.std.proofs.lemmas.Int.{ints, to_z-of_z}
 use Rattle.rr_model.specs.Calendar.{day_number, IsDate}
 use Rattle.rr_model.specs.Digits.{is_digit, digits_value}
-use Rattle.rr_model.specs.MomentText.{number_at}
+use Rattle.rr_model.specs.MomentText.{HasFourDigitYear, number_at}
 use Rattle.rr_model.proofs.MomentTextLemmas.{number_at_below, day_number_bounds}
 
 few : (count : ℕ) → count ≤ 4 → 10 ^ count ≤ 10_000
@@ -34,7 +34,7 @@ short_number (Some n) start width count text e h within all is =
     }
 
 -- a date of these years is near
-pub near : (y shown : ℤ) (m k : ℕ) → shown ≡ to_z w64 (of_z w64 y) → pos 1 ≤ℤ y → y ≤ℤ pos 9_999 → IsDate shown m k → (neg_ℤ (pos 719_162) ≤ℤ day_number y m k) × (day_number y m k ≤ℤ pos 2_932_896)
+pub near : (y shown : ℤ) (m k : ℕ) → shown ≡ to_z w64 (of_z w64 y) → pos 1 ≤ℤ y → y ≤ℤ pos 9_999 → IsDate shown m k → HasFourDigitYear (day_number y m k)
 near y shown m k e low high date =
     let back = e ∙ to_z-of_z w64 y (omega (arith, ints)) in
     day_number_bounds y m k low high (rw back at date)
