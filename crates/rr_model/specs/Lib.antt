@@ -5,3 +5,9 @@ pub mod Periodic
 pub mod Verdict
 pub mod RefusalText
 pub mod Rising
+pub mod Week
+pub mod Count
+pub mod Units
+pub mod Filled
+pub mod Candidate
+pub mod Chosen
