@@ -11,3 +11,9 @@ pub mod Units
 pub mod Filled
 pub mod Candidate
 pub mod Chosen
+pub mod Digits
+pub mod MomentText
+pub mod Daily
+pub mod DailyText
+pub mod Command
+pub mod Answer
