@@ -5,7 +5,9 @@ pub mod FloorLemmas
 pub mod PeriodicLemmas
 pub mod VerdictLemmas
 pub mod WholeLemmas
-pub mod RuleExamples
+mod RuleExamples
 pub mod DailyLemmas
 mod MomentTextExamples
 pub mod AnswerLemmas
+pub mod CountLemmas
+pub mod ShiftLemmas
