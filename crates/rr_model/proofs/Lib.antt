@@ -11,3 +11,5 @@ mod MomentTextExamples
 pub mod AnswerLemmas
 pub mod CountLemmas
 pub mod ShiftLemmas
+pub mod WeekShift
+pub mod PartLemmas

@@ -1,5 +1,5 @@
 -- A shift that keeps the parts of a rule and carries units onto units keeps candidates, their positions and chosen moments.
-use Rattle.std.proofs.Common.{◌≡◌, ℕ, ◌+◌, Bool, ℤ, pos, nat_abs, ◌+ℤ◌, ◌-ℤ◌, refl, sym, ap, ◌∙◌, arith}
+use Rattle.std.proofs.Common.{◌≡◌, ℤ, pos, nat_abs, ◌+ℤ◌, ◌-ℤ◌, refl, ap, ◌∙◌, arith}
 use Rattle.std.proofs.lemmas.Int.{ints}
 use Rattle.rr_model.specs.Whole.{divides}
 use Rattle.rr_model.specs.Moment.{day_part}
