@@ -13,3 +13,4 @@ pub mod CountLemmas
 pub mod ShiftLemmas
 pub mod WeekShift
 pub mod PartLemmas
+pub mod UnitLemmas

@@ -17,3 +17,4 @@ pub mod Daily
 pub mod DailyText
 pub mod Command
 pub mod Answer
+pub mod Repetition
