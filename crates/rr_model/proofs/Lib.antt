@@ -1,2 +1,3 @@
 pub mod PeriodicLemmas
+pub mod RisingLemmas
 pub mod WholeLemmas
