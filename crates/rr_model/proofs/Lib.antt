@@ -9,3 +9,5 @@ pub mod WholeLemmas
 pub mod DailyLemmas
 mod MomentTextExamples
 pub mod AnswerLemmas
+pub mod DivisorLemmas
+mod RuleExamples
