@@ -3,6 +3,7 @@ pub mod CalendarLemmas
 pub mod CycleLemmas
 pub mod FloorLemmas
 pub mod PeriodicLemmas
+pub mod RisingLemmas
 pub mod VerdictLemmas
 pub mod WholeLemmas
 mod RuleExamples
@@ -14,3 +15,5 @@ pub mod ShiftLemmas
 pub mod WeekShift
 pub mod PartLemmas
 pub mod UnitLemmas
+pub mod DivisorLemmas
+mod RuleExamples

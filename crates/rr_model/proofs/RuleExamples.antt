@@ -1,21 +1,17 @@
--- Worked rules against the definitions, most from RFC 5545, section 3.8.5.3.
-use Rattle.std.proofs.Common.{◌≡◌, ℕ, true, false, [], ◌∷◌, ℤ, pos, negsuc, refl, ◌+ℤ◌, ◌*ℤ◌}
-use Rattle.rr_model.specs.Calendar.{days_of_months, first_day_of_year, day_number, year_of, days_into_year, months_over, month_of, day_of_month, day_of_year, weekday_of}
-use Rattle.rr_model.specs.Week.{week_index, week_year, week_number, last_week}
-use Rattle.rr_model.specs.Count.{count_from}
-use Rattle.rr_model.specs.Candidate.{is_candidate}
-use Rattle.rr_model.specs.Chosen.{is_chosen}
-use Rattle.rr_model.specs.declared.kind.Kind.TheVariants.{Days, Moments}
-use Rattle.rr_model.specs.declared.rule.DayItem.{DayItem}
+-- Parts that may stand together, and cycles of some rules, by computing.
+use Rattle.std.proofs.Common.{◌≡◌, ℕ, List, [], ◌∷◌, pos, negsuc, true, false, refl}
+use Rattle.rr_model.specs.Cycle.{gcd_within, gcd, lcm, rule_cycle}
+use Rattle.rr_model.specs.RuleValidity.{is_allowed}
 use Rattle.rr_model.specs.declared.rule.Freq.{Freq}
-use Rattle.rr_model.specs.declared.rule.Freq.TheVariants.{Hourly, Weekly, Monthly, Yearly}
+use Rattle.rr_model.specs.declared.rule.Freq.TheVariants.{Secondly, Hourly, Daily, Weekly, Monthly, Yearly}
 use Rattle.rr_model.specs.declared.rule.End.TheVariants.{Never}
+use Rattle.rr_model.specs.declared.rule.DayItem.{DayItem}
 use Rattle.rr_model.specs.declared.rule.Rule.{Rule}
 
 abbrev bare : Freq → ℕ → Rule
-bare freq interval = record {
-  freq = freq;
-  interval = interval;
+bare f n = record {
+  freq = f;
+  interval = n;
   by_month = [];
   by_week_no = [];
   by_year_day = [];
@@ -29,50 +25,53 @@ bare freq interval = record {
   end = Never;
 }
 
-abbrev item : ℤ → ℕ → DayItem
-item place weekday = record { place = place; weekday = weekday }
+-- the last Friday
+abbrev last_friday : List DayItem
+last_friday = record { place = negsuc 0; weekday = 4 } ∷ []
 
--- the third of the Tuesdays, Wednesdays and Thursdays of a month
-abbrev third_of_three : Rule
-third_of_three = record (bare Monthly 1) { by_day = item (pos 0) 1 ∷ item (pos 0) 2 ∷ item (pos 0) 3 ∷ []; by_set_pos = pos 3 ∷ [] }
+abbrev mondays : List DayItem
+mondays = record { place = pos 0; weekday = 0 } ∷ []
 
--- the Monday of week 20
-abbrev week_20 : Rule
-week_20 = record (bare Yearly 1) { by_week_no = pos 20 ∷ []; by_day = item (pos 0) 0 ∷ [] }
+daily_by_year_day : is_allowed (record (bare Daily 1) { by_year_day = pos 1 ∷ [] }) ≡ false
+daily_by_year_day = refl
 
--- the last Friday of a month
-abbrev last_friday : Rule
-last_friday = record (bare Monthly 1) { by_day = item (negsuc 0) 4 ∷ [] }
+hourly_by_year_day : is_allowed (record (bare Hourly 1) { by_year_day = pos 1 ∷ [] }) ≡ true
+hourly_by_year_day = refl
 
--- the 20th Monday of a year
-abbrev twentieth_monday : Rule
-twentieth_monday = record (bare Yearly 1) { by_day = item (pos 20) 0 ∷ [] }
+weekly_by_month_day : is_allowed (record (bare Weekly 1) { by_month_day = pos 1 ∷ [] }) ≡ false
+weekly_by_month_day = refl
 
--- each second week from Sunday on
-abbrev second_sunday_week : Rule
-second_sunday_week = record (bare Weekly 2) { by_day = item (pos 0) 1 ∷ item (pos 0) 6 ∷ []; week_start = 6 }
+monthly_by_week_number : is_allowed (record (bare Monthly 1) { by_week_no = pos 20 ∷ [] }) ≡ false
+monthly_by_week_number = refl
 
--- days of rules whose start is a date
-on_days :
-    (is_chosen third_of_three Days (day_number (pos 1997) 9 4) (day_number (pos 1997) 10 7)
-    ∷ is_chosen third_of_three Days (day_number (pos 1997) 9 4) (day_number (pos 1997) 10 8)
-    ∷ is_chosen week_20 Days (day_number (pos 1997) 5 12) (day_number (pos 1999) 5 17)
-    ∷ is_chosen week_20 Days (day_number (pos 1997) 5 12) (day_number (pos 1999) 5 10)
-    ∷ is_chosen last_friday Days (day_number (pos 2024) 1 26) (day_number (pos 2024) 2 23)
-    ∷ is_chosen last_friday Days (day_number (pos 2024) 1 26) (day_number (pos 2024) 1 19)
-    ∷ is_chosen twentieth_monday Days (day_number (pos 1997) 5 19) (day_number (pos 1998) 5 18)
-    ∷ is_chosen second_sunday_week Days (day_number (pos 1997) 8 5) (day_number (pos 1997) 8 17)
-    ∷ is_chosen second_sunday_week Days (day_number (pos 1997) 8 5) (day_number (pos 1997) 8 10)
-    ∷ [])
-    ≡ (true ∷ false ∷ true ∷ false ∷ true ∷ false ∷ true ∷ true ∷ false ∷ [])
-unfolding days_of_months first_day_of_year day_number year_of days_into_year months_over month_of day_of_month day_of_year weekday_of week_index week_year week_number last_week count_from is_candidate is_chosen
-on_days = refl
+yearly_last_friday : is_allowed (record (bare Yearly 1) { by_day = last_friday }) ≡ true
+yearly_last_friday = refl
 
--- each seven hours from 09:00:00 on: at 16:00:00, not at 16:01:00
-at_moments :
-    (is_chosen (bare Hourly 7) Moments ((day_number (pos 2024) 1 1 *ℤ pos 86_400) +ℤ pos 32_400) ((day_number (pos 2024) 1 1 *ℤ pos 86_400) +ℤ pos 57_600)
-    ∷ is_chosen (bare Hourly 7) Moments ((day_number (pos 2024) 1 1 *ℤ pos 86_400) +ℤ pos 32_400) ((day_number (pos 2024) 1 1 *ℤ pos 86_400) +ℤ pos 57_660)
-    ∷ [])
-    ≡ (true ∷ false ∷ [])
-unfolding days_of_months first_day_of_year day_number year_of days_into_year months_over month_of day_of_month day_of_year weekday_of week_index week_year week_number last_week count_from is_candidate is_chosen
-at_moments = refl
+last_friday_of_a_week : is_allowed (record (bare Yearly 1) { by_day = last_friday; by_week_no = pos 20 ∷ [] }) ≡ false
+last_friday_of_a_week = refl
+
+mondays_of_a_week : is_allowed (record (bare Yearly 1) { by_day = mondays; by_week_no = pos 20 ∷ [] }) ≡ true
+mondays_of_a_week = refl
+
+set_position_alone : is_allowed (record (bare Monthly 1) { by_set_pos = pos 1 ∷ [] }) ≡ false
+set_position_alone = refl
+
+each_second : rule_cycle (bare Secondly 4_294_967_295) ≡ 286_331_153
+unfolding gcd_within gcd lcm
+each_second = refl
+
+seventh_hour : rule_cycle (record (bare Hourly 7) { by_day = mondays }) ≡ 7
+unfolding gcd_within gcd lcm
+seventh_hour = refl
+
+month_113 : rule_cycle (bare Monthly 113) ≡ 16_508_961
+unfolding gcd_within gcd lcm
+month_113 = refl
+
+fourth_year : rule_cycle (record (bare Yearly 4) { by_month = pos 1 ∷ []; by_month_day = pos 1 ∷ [] }) ≡ 146_097
+unfolding gcd_within gcd lcm
+fourth_year = refl
+
+second_week : rule_cycle (record (bare Weekly 2) { by_month = pos 1 ∷ []; by_day = mondays }) ≡ 292_194
+unfolding gcd_within gcd lcm
+second_week = refl

@@ -1,16 +1,18 @@
 -- The words of the command line.
-use Rattle.std.specs.Prelude.{◌≡◌, ◌⊎◌, ℕ, ◌+◌, ◌&&◌, nat_eq, nat_lt, List, [], ◌∷◌, length, take, drop, Option, Some, None, option_map, option_and_then, if◌then◌else◌, bytes_eq, codes}
-use Rattle.std.specs.List.{starts_with}
+use Rattle.std.specs.Prelude.{◌≡◌, ◌⊎◌, ℕ, ◌+◌, ◌==◌, ◌&&◌, nat_lt, List, [], ◌∷◌, length, take, Option, Some, None, option_map, option_and_then, if◌then◌else◌, bytes_eq, codes}
+use Rattle.std.specs.List.{before_first, after_first}
 use Rattle.rr_model.specs.declared.limits.TheConstants.{MAX_INPUT}
 
 -- what the words ask, with the names of the operands
 pub data Command : Type 0 where
   equal : List ℕ → List ℕ → Command
 
--- the name behind `rrule:`, which is not empty
+-- the name of an operand in the language `rrule`: what stands behind the first colon, and is not empty
 abbrev pub operand_name : List ℕ → Option (List ℕ)
 operand_name word =
-    if starts_with nat_eq word (codes "rrule:") && nat_lt 6 (length word) then Some (drop 6 word) else None
+    if bytes_eq (before_first (λ b. b == 58) word) (codes "rrule") && nat_lt 0 (length (after_first (λ b. b == 58) word))
+    then Some (after_first (λ b. b == 58) word)
+    else None
 
 -- two operands are not both the standard input
 abbrev pub command_of_two : List ℕ → List ℕ → Option Command

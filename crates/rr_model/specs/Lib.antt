@@ -18,3 +18,5 @@ pub mod DailyText
 pub mod Command
 pub mod Answer
 pub mod Repetition
+pub mod RuleValidity
+pub mod Cycle
