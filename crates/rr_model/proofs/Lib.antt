@@ -1,10 +1,13 @@
 mod CalendarExamples
+pub mod CalendarLawProofs
 pub mod CalendarLemmas
 pub mod CycleLemmas
 pub mod FloorLemmas
 pub mod PeriodicLemmas
 pub mod RisingLemmas
 pub mod VerdictLemmas
+mod WeekExamples
+pub mod WeekLemmas
 pub mod WholeLemmas
 mod RuleExamples
 pub mod DailyLemmas

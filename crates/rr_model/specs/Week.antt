@@ -1,24 +1,25 @@
--- Weeks of seven days, which may begin on any weekday w, 0 for Monday (RFC 5545, section 3.3.10, WKST and BYWEEKNO; ISO 8601 for Monday).
-use Rattle.std.specs.Prelude.{ℕ, ℤ, pos, ◌+ℤ◌, ◌-ℤ◌, ◌*ℤ◌}
+-- Weeks that begin on the weekday w, from 0 for Monday (RFC 5545, section 3.3.10, WKST and BYWEEKNO; ISO 8601).
+-- A week belongs to the year in which at least four of its days lie, so to the year of its fourth day.
+use Rattle.std.specs.Prelude.{ℕ, ◌+◌, ◌/◌, ℤ, pos, ◌+ℤ◌, ◌-ℤ◌, ◌*ℤ◌}
 use Rattle.rr_model.specs.Whole.{floor_div}
-use Rattle.rr_model.specs.Calendar.{first_day_of_year, year_of}
+use Rattle.rr_model.specs.Calendar.{day_number, year_of, days_into_year}
 
 -- which week a day lies in
-unfoldable pub week_index : ℕ → ℤ → ℤ
-week_index w d = floor_div ((d +ℤ pos 3) -ℤ pos w) 7
+unfoldable pub week_index : ℤ → ℕ → ℤ
+week_index d w = floor_div ((d +ℤ pos 3) -ℤ pos w) 7
 
 -- the fourth day of a week
-abbrev pub fourth_day : ℕ → ℤ → ℤ
-fourth_day w i = (pos 7 *ℤ i) +ℤ pos w
+unfoldable pub fourth_day : ℤ → ℕ → ℤ
+fourth_day i w = (pos 7 *ℤ i) +ℤ pos w
 
--- the year of a day's week: that of its fourth day
-unfoldable pub week_year : ℕ → ℤ → ℤ
-week_year w d = year_of (fourth_day w (week_index w d))
+-- the year that a week belongs to
+unfoldable pub week_year : ℤ → ℕ → ℤ
+week_year i w = year_of (fourth_day i w)
 
--- the number of a day's week in its week's year, from 1
-unfoldable pub week_number : ℕ → ℤ → ℤ
-week_number w d = pos 1 +ℤ floor_div (fourth_day w (week_index w d) -ℤ first_day_of_year (week_year w d)) 7
+-- a week's number in its year, from 1
+unfoldable pub week_number : ℤ → ℕ → ℕ
+week_number i w = days_into_year (fourth_day i w) / 7 + 1
 
--- the greatest number of a week of the year y
-unfoldable pub last_week : ℕ → ℤ → ℤ
-last_week w y = pos 1 +ℤ floor_div (fourth_day w (floor_div ((first_day_of_year (y +ℤ pos 1) -ℤ pos 1) -ℤ pos w) 7) -ℤ first_day_of_year y) 7
+-- the number of a year's last week, in which 28 December always lies
+unfoldable pub last_week : ℤ → ℕ → ℕ
+last_week y w = week_number (week_index (day_number y 12 28) w) w
