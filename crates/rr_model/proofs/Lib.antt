@@ -9,7 +9,7 @@ pub mod VerdictLemmas
 mod WeekExamples
 pub mod WeekLemmas
 pub mod WholeLemmas
-mod RuleExamples
+mod ChosenExamples
 pub mod DailyLemmas
 mod MomentTextExamples
 pub mod AnswerLemmas
@@ -20,3 +20,5 @@ pub mod PartLemmas
 pub mod UnitLemmas
 pub mod DivisorLemmas
 mod RuleExamples
+pub mod RuleCycleLemmas
+pub mod RepetitionLemmas

@@ -1,9 +1,9 @@
 -- Shifts by days that carry units onto units, frequency by frequency.
-use Rattle.std.proofs.Common.{◌≡◌, ℕ, ◌+◌, ◌-◌, ◌≤◌, ℤ, pos, ◌+ℤ◌, ◌-ℤ◌, ◌*ℤ◌, refl, ap, ◌∙◌, arith}
+use Rattle.std.proofs.Common.{◌≡◌, ℕ, ◌+◌, ◌≤◌, ℤ, pos, ◌+ℤ◌, ◌-ℤ◌, ◌*ℤ◌, refl, ap, ◌∙◌, arith}
 use Rattle.std.proofs.lemmas.Int.{ints}
 use Rattle.rr_model.specs.Whole.{floor_div, floor_mod, divides}
-use Rattle.rr_model.specs.Calendar.{year_of, month_of, first_day_of_year, day_number}
-use Rattle.rr_model.specs.Week.{week_index}
+use Rattle.rr_model.specs.Calendar.{year_of, first_day_of_year}
+use Rattle.rr_model.specs.Week.{week_index, fourth_day}
 use Rattle.rr_model.specs.Moment.{day_part, second_part, moment_at}
 use Rattle.rr_model.specs.Units.{month_number, first_day_of_month, unit_number, unit_start}
 use Rattle.rr_model.specs.Repetition.{days_in}
@@ -13,7 +13,7 @@ use Rattle.rr_model.specs.declared.rule.Freq.{Freq}
 use Rattle.rr_model.specs.declared.rule.Freq.TheVariants.{Secondly, Minutely, Hourly, Daily, Weekly, Monthly, Yearly}
 use Rattle.rr_model.proofs.FloorLemmas.{floor_div-add, floor_mod-add}
 use Rattle.rr_model.proofs.CycleLemmas.{first_day_of_year-cycle, day_number-cycle, year_of-cycle, month_of-cycle}
-use Rattle.rr_model.proofs.WeekShift.{week_index-weeks}
+use Rattle.rr_model.proofs.WeekShift.{week_index-weeks, fourth_day-weeks}
 
 -- whole multiples more leave what is divisible
 pub divides-add : (n : ℕ) (x k : ℤ) → 1 ≤ n → divides n (x +ℤ (k *ℤ pos n)) ≡ divides n x
@@ -71,7 +71,7 @@ unit_number-shift Hourly w Moments days units are t =
 unit_number-shift Daily w kind days units are t = day_part-shift kind t days ∙ omega (arith, ints)
 unit_number-shift Weekly w kind days units are t =
     let e : day_part kind (t +ℤ days_in kind days) ≡ day_part kind t +ℤ (units *ℤ pos 7) = omega (arith, ints, day_part-shift kind t days) in
-    ap (week_index w) e ∙ week_index-weeks w (day_part kind t) units
+    ap (λ d. week_index d w) e ∙ week_index-weeks (day_part kind t) w units
 unit_number-shift Monthly w kind days units are t =
     let e : day_part kind (t +ℤ days_in kind days) ≡ day_part kind t +ℤ (pos 146_097 *ℤ are.0) = omega (arith, ints, are.1.0, day_part-shift kind t days) in
     ap month_number e ∙ month_number-cycle (day_part kind t) are.0 ∙ omega (arith, ints, are.1.1)
@@ -87,7 +87,8 @@ unit_start-shift Minutely w Moments days units are u = omega (arith, ints, are.1
 unit_start-shift Hourly w Days days units are u = absurd (cc (are.0))
 unit_start-shift Hourly w Moments days units are u = omega (arith, ints, are.1)
 unit_start-shift Daily w kind days units are u = moment_at-shift kind u (u +ℤ units) days (omega (arith, ints))
-unit_start-shift Weekly w kind days units are u = moment_at-shift kind _ _ days (omega (arith, ints))
+unit_start-shift Weekly w kind days units are u =
+    moment_at-shift kind (fourth_day u w -ℤ pos 3) (fourth_day (u +ℤ units) w -ℤ pos 3) days (omega (arith, ints, fourth_day-weeks u w units))
 unit_start-shift Monthly w kind days units are u =
     let e : u +ℤ units ≡ u +ℤ (pos 4_800 *ℤ are.0) = omega (arith, ints, are.1.1) in
     moment_at-shift kind (first_day_of_month u) (first_day_of_month (u +ℤ units)) days (ap first_day_of_month e ∙ first_day_of_month-cycle u are.0 ∙ omega (arith, ints, are.1.0))

@@ -4,11 +4,12 @@ use Rattle.std.specs.List.{list_any}
 use Rattle.std.specs.Ordering.{int_eq}
 use Rattle.rr_model.specs.Whole.{divides}
 use Rattle.rr_model.specs.Calendar.{year_of, month_of, day_of_month, day_of_year, weekday_of, month_length, year_length}
-use Rattle.rr_model.specs.Week.{week_year, week_number, last_week}
+use Rattle.rr_model.specs.Week.{week_index, week_year, week_number, last_week}
 use Rattle.rr_model.specs.Moment.{day_part}
 use Rattle.rr_model.specs.Count.{count_from}
 use Rattle.rr_model.specs.Units.{unit_number}
-use Rattle.rr_model.specs.Filled.{is_missing, hour_of, minute_of, second_of, filled}
+use Rattle.rr_model.specs.RuleValidity.{is_absent}
+use Rattle.rr_model.specs.Filled.{hour_of, minute_of, second_of, filled}
 use Rattle.rr_model.specs.declared.kind.Kind.{Kind}
 use Rattle.rr_model.specs.declared.rule.DayItem.{DayItem}
 use Rattle.rr_model.specs.declared.rule.Freq.{Freq}
@@ -21,11 +22,11 @@ lists numbers n = list_any (λ x. int_eq x n) numbers
 
 -- the part does not stand, or lists the number
 abbrev pub allows : List ℤ → ℤ → Bool
-allows numbers n = is_missing numbers || lists numbers n
+allows numbers n = is_absent numbers || lists numbers n
 
 -- the part does not stand, or lists the k-th of so many, from the front or from the back
 abbrev pub allows_place : List ℤ → ℤ → ℤ → Bool
-allows_place numbers k many = is_missing numbers || lists numbers k || lists numbers ((k -ℤ many) -ℤ pos 1)
+allows_place numbers k many = is_absent numbers || lists numbers k || lists numbers ((k -ℤ many) -ℤ pos 1)
 
 -- ---- the days of one weekday in a month or a year
 
@@ -47,7 +48,7 @@ is_weekday_place n d k many = int_eq n (pos (rank_from_front d k)) || int_eq n (
 
 -- places of BYDAY count in the month; in a yearly rule without BYMONTH they count in the year
 abbrev pub counts_in_year : Freq → List ℤ → Bool
-counts_in_year Yearly months = is_missing months
+counts_in_year Yearly months = is_absent months
 counts_in_year freq months = false
 
 abbrev pub is_in_place : ℤ → Bool → ℤ → Bool
@@ -64,8 +65,12 @@ day_item_holds in_year d item = (item.weekday == weekday_of d) && (int_eq item.p
 abbrev pub by_month_holds : Rule → ℤ → Bool
 by_month_holds rule d = allows rule.by_month (pos (month_of d))
 
+-- the day's week has one of the numbers in the year that the week belongs to
+abbrev pub is_week_listed : List ℤ → ℕ → ℤ → Bool
+is_week_listed numbers w i = allows_place numbers (pos (week_number i w)) (pos (last_week (week_year i w) w))
+
 abbrev pub by_week_no_holds : Rule → ℤ → Bool
-by_week_no_holds rule d = allows_place rule.by_week_no (week_number rule.week_start d) (last_week rule.week_start (week_year rule.week_start d))
+by_week_no_holds rule d = is_week_listed rule.by_week_no rule.week_start (week_index d rule.week_start)
 
 abbrev pub by_year_day_holds : Rule → ℤ → Bool
 by_year_day_holds rule d = allows_place rule.by_year_day (pos (day_of_year d)) (pos (year_length (year_of d)))
@@ -74,7 +79,7 @@ abbrev pub by_month_day_holds : Rule → ℤ → Bool
 by_month_day_holds rule d = allows_place rule.by_month_day (pos (day_of_month d)) (pos (month_length (year_of d) (month_of d)))
 
 abbrev pub by_day_holds : Rule → ℤ → Bool
-by_day_holds rule d = is_missing rule.by_day || list_any (day_item_holds (counts_in_year rule.freq rule.by_month) d) rule.by_day
+by_day_holds rule d = is_absent rule.by_day || list_any (day_item_holds (counts_in_year rule.freq rule.by_month) d) rule.by_day
 
 abbrev pub by_hour_holds : Rule → Kind → ℤ → Bool
 by_hour_holds rule kind t = allows rule.by_hour (pos (hour_of kind t))

@@ -2,7 +2,7 @@
 use Rattle.std.specs.Prelude.{ℕ, ◌≤◌, Bool, ◌&&◌, ◌||◌, IsTrue, ⊤, ℤ, pos, neg_ℤ, nat_abs, ◌+ℤ◌, ◌-ℤ◌, ◌≤ℤ◌}
 use Rattle.rr_model.specs.Count.{count_from}
 use Rattle.rr_model.specs.Units.{unit_number, unit_start}
-use Rattle.rr_model.specs.Filled.{is_missing}
+use Rattle.rr_model.specs.RuleValidity.{is_absent}
 use Rattle.rr_model.specs.Candidate.{lists, is_candidate}
 use Rattle.rr_model.specs.declared.kind.Kind.{Kind}
 use Rattle.rr_model.specs.declared.rule.End.{End}
@@ -28,7 +28,7 @@ position_from_back rule kind start t = count_from (is_candidate rule kind start)
 -- BYSETPOS does not stand, or lists one of the two, the second as a negative number
 abbrev pub by_set_pos_holds : Rule → Kind → ℤ → ℤ → Bool
 by_set_pos_holds rule kind start t =
-    is_missing rule.by_set_pos || lists rule.by_set_pos (pos (position_from_front rule kind start t)) || lists rule.by_set_pos (neg_ℤ (pos (position_from_back rule kind start t)))
+    is_absent rule.by_set_pos || lists rule.by_set_pos (pos (position_from_front rule kind start t)) || lists rule.by_set_pos (neg_ℤ (pos (position_from_back rule kind start t)))
 
 -- the rule with this start chooses t
 unfoldable pub is_chosen : Rule → Kind → ℤ → ℤ → Bool

@@ -1,7 +1,8 @@
 -- What a rule takes from its start where a part does not stand (RFC 5545, section 3.3.10, on DTSTART).
-use Rattle.std.specs.Prelude.{ℕ, ◌/◌, ◌%◌, ◌==◌, Bool, true, false, not, ◌&&◌, if◌then◌else◌, List, [], ◌∷◌, length, ℤ, pos}
+use Rattle.std.specs.Prelude.{ℕ, ◌/◌, ◌%◌, Bool, true, false, not, ◌&&◌, if◌then◌else◌, List, [], ◌∷◌, ℤ, pos}
 use Rattle.rr_model.specs.Calendar.{month_of, day_of_month, weekday_of}
 use Rattle.rr_model.specs.Moment.{day_part, second_part}
+use Rattle.rr_model.specs.RuleValidity.{is_absent}
 use Rattle.rr_model.specs.declared.kind.Kind.{Kind}
 use Rattle.rr_model.specs.declared.kind.Kind.TheVariants.{Days, Moments}
 use Rattle.rr_model.specs.declared.rule.DayItem.{DayItem}
@@ -22,13 +23,9 @@ second_of kind t = second_part kind t % 60
 
 -- ---- which parts are filled
 
--- the part does not stand
-abbrev pub is_missing : {X : Type 0} → List X → Bool
-is_missing values = length values == 0
-
--- the part as it stands; missing, and wanted by the rule, it is the start's own value
+-- the part as it stands; absent, and wanted by the rule, it is the start's own value
 abbrev pub filled_part : {X : Type 0} → Bool → List X → X → List X
-filled_part is_wanted values own = if is_wanted && is_missing values then own ∷ [] else values
+filled_part is_wanted values own = if is_wanted && is_absent values then own ∷ [] else values
 
 -- a time part in kind Moments; in kind Days it is dropped
 abbrev pub filled_time : Kind → Bool → List ℤ → ℕ → List ℤ
@@ -54,18 +51,18 @@ wants_second freq = true
 -- a week without BYDAY, or a week of a year by BYWEEKNO alone
 abbrev pub wants_day : Freq → Rule → Bool
 wants_day Weekly rule = true
-wants_day Yearly rule = not (is_missing rule.by_week_no) && is_missing rule.by_year_day && is_missing rule.by_month_day
+wants_day Yearly rule = not (is_absent rule.by_week_no) && is_absent rule.by_year_day && is_absent rule.by_month_day
 wants_day freq rule = false
 
 -- a month or a year in which no part names the day
 abbrev pub wants_month_day : Freq → Rule → Bool
-wants_month_day Monthly rule = is_missing rule.by_day
-wants_month_day Yearly rule = is_missing rule.by_week_no && is_missing rule.by_year_day && is_missing rule.by_day
+wants_month_day Monthly rule = is_absent rule.by_day
+wants_month_day Yearly rule = is_absent rule.by_week_no && is_absent rule.by_year_day && is_absent rule.by_day
 wants_month_day freq rule = false
 
 -- a year in which no part names the day
 abbrev pub wants_month : Freq → Rule → Bool
-wants_month Yearly rule = is_missing rule.by_week_no && is_missing rule.by_year_day && is_missing rule.by_month_day && is_missing rule.by_day
+wants_month Yearly rule = is_absent rule.by_week_no && is_absent rule.by_year_day && is_absent rule.by_month_day && is_absent rule.by_day
 wants_month freq rule = false
 
 -- ---- the filled rule
@@ -74,7 +71,7 @@ wants_month freq rule = false
 abbrev pub day_item_of : ℤ → DayItem
 day_item_of d = record { place = pos 0; weekday = weekday_of d }
 
--- the rule with its missing parts from the start
+-- the rule with its absent parts from the start
 abbrev pub filled : Rule → Kind → ℤ → Rule
 filled rule kind start = record rule {
   by_month = filled_part (wants_month rule.freq rule) rule.by_month (pos (month_of (day_part kind start)));

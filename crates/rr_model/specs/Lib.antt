@@ -7,7 +7,6 @@ pub mod Periodic
 pub mod Verdict
 pub mod RefusalText
 pub mod Rising
-pub mod Week
 pub mod Count
 pub mod Units
 pub mod Filled

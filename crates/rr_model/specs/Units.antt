@@ -2,7 +2,7 @@
 use Rattle.std.specs.Prelude.{ℕ, ◌+◌, ℤ, pos, ◌+ℤ◌, ◌-ℤ◌, ◌*ℤ◌}
 use Rattle.rr_model.specs.Whole.{floor_div, floor_mod}
 use Rattle.rr_model.specs.Calendar.{year_of, month_of, first_day_of_year, day_number}
-use Rattle.rr_model.specs.Week.{week_index}
+use Rattle.rr_model.specs.Week.{week_index, fourth_day}
 use Rattle.rr_model.specs.Moment.{day_part, moment_at}
 use Rattle.rr_model.specs.declared.kind.Kind.{Kind}
 use Rattle.rr_model.specs.declared.rule.Freq.{Freq}
@@ -22,7 +22,7 @@ unit_number Secondly w kind t = t
 unit_number Minutely w kind t = floor_div t 60
 unit_number Hourly w kind t = floor_div t 3_600
 unit_number Daily w kind t = day_part kind t
-unit_number Weekly w kind t = week_index w (day_part kind t)
+unit_number Weekly w kind t = week_index (day_part kind t) w
 unit_number Monthly w kind t = month_number (day_part kind t)
 unit_number Yearly w kind t = year_of (day_part kind t)
 
@@ -32,6 +32,6 @@ unit_start Secondly w kind u = u
 unit_start Minutely w kind u = u *ℤ pos 60
 unit_start Hourly w kind u = u *ℤ pos 3_600
 unit_start Daily w kind u = moment_at kind u 0
-unit_start Weekly w kind u = moment_at kind (((u *ℤ pos 7) +ℤ pos w) -ℤ pos 3) 0
+unit_start Weekly w kind u = moment_at kind (fourth_day u w -ℤ pos 3) 0
 unit_start Monthly w kind u = moment_at kind (first_day_of_month u) 0
 unit_start Yearly w kind u = moment_at kind (first_day_of_year u) 0
