@@ -21,3 +21,12 @@ count_from-shift p r s moved q zero = rw (count_from-zero, count_from-zero) refl
 count_from-shift p r s moved q (suc n) =
     let e : (q +ℤ s) +ℤ pos n ≡ (q +ℤ pos n) +ℤ s = omega (arith, ints) in
     count_from-suc r (q +ℤ s) n ∙ omega (arith, ap (λ t. one (r t)) e, ap one (moved (q +ℤ pos n)), count_from-shift p r s moved q n, count_from-suc p q n)
+
+-- the first of a stretch, and the others
+pub count_from-first : (p : ℤ → Bool) (q : ℤ) (n : ℕ) → count_from p q (suc n) ≡ one (p q) + count_from p (q +ℤ pos 1) n
+count_from-first p q zero =
+    let e : q +ℤ pos 0 ≡ q = omega (arith, ints) in
+    count_from-suc p q 0 ∙ omega (arith, count_from-zero p q, count_from-zero p (q +ℤ pos 1), ap (λ t. one (p t)) e)
+count_from-first p q (suc n) =
+    let e : q +ℤ pos (suc n) ≡ (q +ℤ pos 1) +ℤ pos n = omega (arith, ints) in
+    count_from-suc p q (suc n) ∙ omega (arith, count_from-first p q n, count_from-suc p (q +ℤ pos 1) n, ap (λ t. one (p t)) e)

@@ -22,3 +22,4 @@ pub mod DivisorLemmas
 mod RuleExamples
 pub mod RuleCycleLemmas
 pub mod RepetitionLemmas
+pub mod RankLemmas
