@@ -23,3 +23,4 @@ mod RuleExamples
 pub mod RuleCycleLemmas
 pub mod RepetitionLemmas
 pub mod RankLemmas
+pub mod StretchLemmas

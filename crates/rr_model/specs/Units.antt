@@ -1,5 +1,5 @@
 -- The units of a frequency, numbered over all whole numbers (RFC 5545, section 3.3.10, FREQ, INTERVAL and WKST).
-use Rattle.std.specs.Prelude.{ℕ, ◌+◌, ℤ, pos, ◌+ℤ◌, ◌-ℤ◌, ◌*ℤ◌}
+use Rattle.std.specs.Prelude.{◌≡◌, ◌↔◌, ℕ, ◌+◌, ℤ, pos, ◌+ℤ◌, ◌-ℤ◌, ◌*ℤ◌, ◌≤ℤ◌, ◌<ℤ◌}
 use Rattle.rr_model.specs.Whole.{floor_div, floor_mod}
 use Rattle.rr_model.specs.Calendar.{year_of, month_of, first_day_of_year, day_number}
 use Rattle.rr_model.specs.Week.{week_index, fourth_day}
@@ -35,3 +35,7 @@ unit_start Daily w kind u = moment_at kind u 0
 unit_start Weekly w kind u = moment_at kind (fourth_day u w -ℤ pos 3) 0
 unit_start Monthly w kind u = moment_at kind (first_day_of_month u) 0
 unit_start Yearly w kind u = moment_at kind (first_day_of_year u) 0
+
+-- The moments of a unit are those from its first one on, up to the first one of the next unit.
+abbrev pub UnitsAreStretches : Type 0
+UnitsAreStretches = (freq : Freq) (w : ℕ) (kind : Kind) (t u : ℤ) → (unit_number freq w kind t ≡ u) ↔ ((unit_start freq w kind u ≤ℤ t) × (t <ℤ unit_start freq w kind (u +ℤ pos 1)))
