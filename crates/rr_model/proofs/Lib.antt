@@ -15,7 +15,7 @@ mod MomentTextExamples
 pub mod AnswerLemmas
 pub mod CountLemmas
 pub mod ShiftLemmas
-pub mod WeekShift
+pub mod WeekShiftLemmas
 pub mod PartLemmas
 pub mod UnitLemmas
 pub mod DivisorLemmas

@@ -1,8 +1,7 @@
 -- The rank of a day among the days of its weekday in a month or a year, by arithmetic.
-use Rattle.std.proofs.Common.{◌≡◌, ℕ, zero, suc, ◌+◌, ◌-◌, ◌/◌, ◌%◌, ◌≤◌, ◌==◌, Bool, true, false, cond, ℤ, pos, nat_abs, ◌+ℤ◌, ◌-ℤ◌, inl, inr, refl, sym, ap, ◌∙◌, arith}
+use Rattle.std.proofs.Common.{◌≡◌, ℕ, zero, suc, ◌+◌, ◌-◌, ◌/◌, ◌%◌, ◌≤◌, ◌==◌, ℤ, pos, nat_abs, ◌+ℤ◌, ◌-ℤ◌, inl, inr, sym, ap, ◌∙◌, arith}
 use Rattle.std.proofs.lemmas.Int.{ints}
 use Rattle.std.proofs.lemmas.Bool.{cases_eq, eq-eqb, ne_eqb}
-use Rattle.rr_model.specs.Whole.{floor_mod}
 use Rattle.rr_model.specs.Calendar.{weekday_of}
 use Rattle.rr_model.specs.Count.{count_from}
 use Rattle.rr_model.specs.Candidate.{has_weekday_of, rank_from_front, rank_from_back}

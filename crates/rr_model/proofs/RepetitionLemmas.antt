@@ -3,7 +3,7 @@ use Rattle.std.proofs.Common.{◌≡◌, ◌⊎◌, inl, inr, ℕ, ◌/◌, ◌�
 use Prim.Native.Nat.{◌∣◌}
 use Rattle.std.proofs.lemmas.Int.{ints}
 use Rattle.std.proofs.lemmas.Bool.{false≢true, and_parts, not-true, cases_Bool, cond-true, cond-false, cond_both}
-use Rattle.std.proofs.lemmas.Nat.Gcd.{dvd_trans}
+use Rattle.std.proofs.lemmas.Nat.Gcd.{dvd_refl, dvd_trans}
 use Rattle.std.proofs.Math.Nat.{dvd-mul_right}
 use Rattle.rr_model.specs.Moment.{day_part}
 use Rattle.rr_model.specs.CalendarLaws.{later_day}
@@ -11,6 +11,7 @@ use Rattle.rr_model.specs.RuleValidity.{is_absent, has_place, has_part, takes_ye
 use Rattle.rr_model.specs.Cycle.{gcd, lcm, interval_cycle, asks_calendar, rule_cycle}
 use Rattle.rr_model.specs.Filled.{filled_part, wants_day, wants_month_day, wants_month, day_item_of, filled}
 use Rattle.rr_model.specs.Candidate.{date_parts_hold, time_parts_hold}
+use Rattle.rr_model.specs.Chosen.{is_chosen}
 use Rattle.rr_model.specs.Repetition.{days_in, ChosenRepeats}
 use Rattle.rr_model.specs.declared.kind.Kind.{Kind}
 use Rattle.rr_model.specs.declared.rule.DayItem.{DayItem}
@@ -137,8 +138,9 @@ module _ (rule : Rule) (kind : Kind) (start : ℤ) (valid : IsValidRule kind rul
         },
       )
 
-pub chosen_repeats : ChosenRepeats
-chosen_repeats rule kind start t valid =
+-- with its cycle, and with each multiple of it
+pub chosen_repeats_by : (rule : Rule) (kind : Kind) (start t : ℤ) → IsValidRule kind rule → (c : ℕ) → rule_cycle rule ∣ c → is_chosen rule kind start (t +ℤ days_in kind (pos c)) ≡ is_chosen rule kind start t
+chosen_repeats_by rule kind start t valid c of_cycle =
     let n = interval_cycle rule.freq rule.interval in
     let w : ℕ = cond (is_absent rule.by_day) 1 7 in
     let y : ℕ = cond (asks_calendar rule) 146_097 1 in
@@ -147,5 +149,9 @@ chosen_repeats rule kind start t valid =
     let hy : 1 ≤ y = cond_both (asks_calendar rule) 146_097 1 (λ z. 1 ≤ z) (λ _. omega arith) (λ _. omega arith) in
     let parts = lcm_is w y hw hy in
     let whole = lcm_is n (lcm w y) hn (lcm_some w y hw hy) in
-    let keeps = keeps_rule rule kind start valid (rule_cycle rule) whole.0 (dvd_trans w parts.0 whole.1) (dvd_trans y parts.1 whole.1) in
-    is_chosen-shift rule kind start (days_in kind (pos (rule_cycle rule))) (pos keeps.0 *ℤ pos rule.interval) keeps.1 t
+    let of_parts : lcm w y ∣ c = dvd_trans (lcm w y) whole.1 of_cycle in
+    let keeps = keeps_rule rule kind start valid c (dvd_trans n whole.0 of_cycle) (dvd_trans w parts.0 of_parts) (dvd_trans y parts.1 of_parts) in
+    is_chosen-shift rule kind start (days_in kind (pos c)) (pos keeps.0 *ℤ pos rule.interval) keeps.1 t
+
+pub chosen_repeats : ChosenRepeats
+chosen_repeats rule kind start t valid = chosen_repeats_by rule kind start t valid (rule_cycle rule) (dvd_refl (rule_cycle rule))

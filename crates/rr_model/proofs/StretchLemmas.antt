@@ -1,15 +1,14 @@
 -- Each unit of a frequency is a stretch of moments, from its first one up to the first one of the next unit.
-use Rattle.std.proofs.Common.{◌≡◌, ◌↔◌, inl, inr, ℕ, ◌+◌, ◌-◌, ◌<◌, ◌≤◌, ℤ, pos, nat_abs, ◌+ℤ◌, ◌-ℤ◌, ◌*ℤ◌, ◌≤ℤ◌, ◌<ℤ◌, refl, sym, ap, ◌∙◌, arith}
+use Rattle.std.proofs.Common.{◌≡◌, ◌↔◌, inl, inr, ℕ, ◌+◌, ◌-◌, ◌<◌, ℤ, pos, nat_abs, ◌+ℤ◌, ◌-ℤ◌, ◌*ℤ◌, ◌≤ℤ◌, ◌<ℤ◌, ap, ◌∙◌, arith}
 use Rattle.std.proofs.lemmas.Int.{ints}
 use Rattle.std.proofs.lemmas.Bool.{cases_lt}
 use Rattle.rr_model.specs.Whole.{floor_div, floor_mod}
-use Rattle.rr_model.specs.Calendar.{year_of, month_of, day_of_month, month_length, days_of_months, first_day_of_year, day_number, IsDate}
+use Rattle.rr_model.specs.Calendar.{year_of, month_of, day_of_month, days_of_months, first_day_of_year, IsDate}
 use Rattle.rr_model.specs.Week.{week_index, fourth_day}
 use Rattle.rr_model.specs.Moment.{day_part, moment_at}
-use Rattle.rr_model.specs.Units.{month_number, first_day_of_month, unit_number, unit_start, UnitsAreStretches}
+use Rattle.rr_model.specs.Units.{month_number, first_day_of_month, UnitsAreStretches}
 use Rattle.rr_model.specs.declared.kind.Kind.{Kind}
 use Rattle.rr_model.specs.declared.kind.Kind.TheVariants.{Days, Moments}
-use Rattle.rr_model.specs.declared.rule.Freq.{Freq}
 use Rattle.rr_model.specs.declared.rule.Freq.TheVariants.{Secondly, Minutely, Hourly, Daily, Weekly, Monthly, Yearly}
 use Rattle.rr_model.proofs.WholeLemmas.{floor_only, floor_whole, floor_mod_below}
 use Rattle.rr_model.proofs.FloorLemmas.{*ℤ-add}

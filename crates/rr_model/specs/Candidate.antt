@@ -51,6 +51,7 @@ abbrev pub counts_in_year : Freq → List ℤ → Bool
 counts_in_year Yearly months = is_absent months
 counts_in_year freq months = false
 
+-- the day has the place n in its year, or in its month
 abbrev pub is_in_place : ℤ → Bool → ℤ → Bool
 is_in_place n in_year d =
     if in_year then is_weekday_place n d (day_of_year d) (year_length (year_of d))
@@ -60,8 +61,9 @@ is_in_place n in_year d =
 abbrev pub day_item_holds : Bool → ℤ → DayItem → Bool
 day_item_holds in_year d item = (item.weekday == weekday_of d) && (int_eq item.place (pos 0) || is_in_place item.place in_year d)
 
--- ---- each BY part of a filled rule, as a test of one day or moment
+-- ---- each BY part of a filled rule, as a test of one day or moment: it does not stand, or it is met
 
+-- the day lies in a month of BYMONTH
 abbrev pub by_month_holds : Rule → ℤ → Bool
 by_month_holds rule d = allows rule.by_month (pos (month_of d))
 
@@ -69,24 +71,31 @@ by_month_holds rule d = allows rule.by_month (pos (month_of d))
 abbrev pub is_week_listed : List ℤ → ℕ → ℤ → Bool
 is_week_listed numbers w i = allows_place numbers (pos (week_number i w)) (pos (last_week (week_year i w) w))
 
+-- the day lies in a week of BYWEEKNO
 abbrev pub by_week_no_holds : Rule → ℤ → Bool
 by_week_no_holds rule d = is_week_listed rule.by_week_no rule.week_start (week_index d rule.week_start)
 
+-- BYYEARDAY lists the day's number in its year
 abbrev pub by_year_day_holds : Rule → ℤ → Bool
 by_year_day_holds rule d = allows_place rule.by_year_day (pos (day_of_year d)) (pos (year_length (year_of d)))
 
+-- BYMONTHDAY lists the day's number in its month
 abbrev pub by_month_day_holds : Rule → ℤ → Bool
 by_month_day_holds rule d = allows_place rule.by_month_day (pos (day_of_month d)) (pos (month_length (year_of d) (month_of d)))
 
+-- BYDAY lists the day's weekday, with its place where that is asked
 abbrev pub by_day_holds : Rule → ℤ → Bool
 by_day_holds rule d = is_absent rule.by_day || list_any (day_item_holds (counts_in_year rule.freq rule.by_month) d) rule.by_day
 
+-- BYHOUR lists the hour
 abbrev pub by_hour_holds : Rule → Kind → ℤ → Bool
 by_hour_holds rule kind t = allows rule.by_hour (pos (hour_of kind t))
 
+-- BYMINUTE lists the minute
 abbrev pub by_minute_holds : Rule → Kind → ℤ → Bool
 by_minute_holds rule kind t = allows rule.by_minute (pos (minute_of kind t))
 
+-- BYSECOND lists the second
 abbrev pub by_second_holds : Rule → Kind → ℤ → Bool
 by_second_holds rule kind t = allows rule.by_second (pos (second_of kind t))
 

@@ -10,14 +10,17 @@ use Rattle.rr_model.specs.declared.rule.Freq.{Freq}
 use Rattle.rr_model.specs.declared.rule.Freq.TheVariants.{Secondly, Minutely, Hourly, Weekly, Monthly, Yearly}
 use Rattle.rr_model.specs.declared.rule.Rule.{Rule}
 
--- ---- the hour, the minute and the second of a moment
+-- ---- the time of a moment
 
+-- its hour, from 0 to 23
 abbrev pub hour_of : Kind → ℤ → ℕ
 hour_of kind t = second_part kind t / 3_600
 
+-- its minute, from 0 to 59
 abbrev pub minute_of : Kind → ℤ → ℕ
 minute_of kind t = second_part kind t / 60 % 60
 
+-- its second, from 0 to 59
 abbrev pub second_of : Kind → ℤ → ℕ
 second_of kind t = second_part kind t % 60
 
@@ -39,11 +42,13 @@ wants_hour Minutely = false
 wants_hour Hourly = false
 wants_hour freq = true
 
+-- an hour or a longer unit holds many minutes
 abbrev pub wants_minute : Freq → Bool
 wants_minute Secondly = false
 wants_minute Minutely = false
 wants_minute freq = true
 
+-- a minute or a longer unit holds many seconds
 abbrev pub wants_second : Freq → Bool
 wants_second Secondly = false
 wants_second freq = true
