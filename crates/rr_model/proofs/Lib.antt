@@ -1,13 +1,29 @@
 mod MomentTextExamples
 pub mod DigitLemmas
 mod CalendarExamples
+pub mod CalendarLawProofs
 pub mod CalendarLemmas
 pub mod CycleLemmas
 pub mod FloorLemmas
 pub mod PeriodicLemmas
+pub mod RisingLemmas
 pub mod VerdictLemmas
+mod WeekExamples
+pub mod WeekLemmas
 pub mod WholeLemmas
 pub mod MomentTextLemmas
+mod ChosenExamples
 pub mod DailyLemmas
 pub mod AnswerLemmas
 pub mod MomentLemmas
+pub mod CountLemmas
+pub mod ShiftLemmas
+pub mod WeekShiftLemmas
+pub mod PartLemmas
+pub mod UnitLemmas
+pub mod DivisorLemmas
+mod RuleExamples
+pub mod RuleCycleLemmas
+pub mod RepetitionLemmas
+pub mod RankLemmas
+pub mod StretchLemmas
