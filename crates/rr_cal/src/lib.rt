@@ -2,5 +2,6 @@
 #![tactic(auto)]
 
 mod date;
+mod week;
 
 pub use date::{Date, date_of, day_of, valid};
