@@ -64,9 +64,9 @@ fn number_of_week(fourth: i64) -> u8
     requires near { IsDayWithin 2000 fourth }
     ensures { result ≡ days_into_year fourth / 7 + 1 }
 {
-    let year = date_of_near(fourth).year;
+    let date = date_of_near(fourth);
     let first = day_of_near(Date {
-        year,
+        year: date.year,
         month: 1,
         day: 1,
     });

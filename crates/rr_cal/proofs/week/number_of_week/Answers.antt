@@ -14,19 +14,19 @@ days_from d f n first e =
 pub day_of_near-first-requires-clause-near : goal.day_of_near-first-requires-clause-near
 day_of_near-first-requires-clause-near c =
     let d = c.args.fourth in
-    let y = c.date_of_near-year.result.year in
+    let y = c.date_of_near-date.result.year in
     let fits : FitsSigned w64 y = search rules in
-    let year : to_z w64 (of_z w64 y) ≡ year_of d = to_z-of_z fits ∙ c.date_of_near-year.ensures.year ∙ ap year_of (to_z-of_z c.ranges.fourth) in
+    let year : to_z w64 (of_z w64 y) ≡ year_of d = to_z-of_z fits ∙ c.date_of_near-date.ensures.year ∙ ap year_of (to_z-of_z c.ranges.fourth) in
     rw year (IsDayWithin-wider 2365 3000 (day_number (year_of d) 1 1) (omega arith) (IsDayWithin-same_year 2000 d 1 1 (IsDate-january_1 (year_of d)) c.requires.near))
 
 pub returns : goal.returns
 returns c =
     let d = c.args.fourth in
-    let y = c.date_of_near-year.result.year in
+    let y = c.date_of_near-date.result.year in
     let f = c.day_of_near-first.result in
     let fits : FitsSigned w64 y = search rules in
     let fits_f : FitsSigned w64 f = search rules in
-    let year : to_z w64 (of_z w64 y) ≡ year_of d = to_z-of_z fits ∙ c.date_of_near-year.ensures.year ∙ ap year_of (to_z-of_z c.ranges.fourth) in
+    let year : to_z w64 (of_z w64 y) ≡ year_of d = to_z-of_z fits ∙ c.date_of_near-date.ensures.year ∙ ap year_of (to_z-of_z c.ranges.fourth) in
     let first : f ≡ day_number (year_of d) 1 1 = c.day_of_near-first.ensures ∙ ap (λ z. day_number z 1 1) year in
     let days = rw (to_z-of_z c.ranges.fourth, to_z-of_z fits_f) at c.abs_diff.ensures in
     ap (λ n. n / 7 + 1) (days_from d f c.abs_diff.result first days)
@@ -34,11 +34,11 @@ returns c =
 pub overflow_cast-result : goal.overflow_cast-result
 overflow_cast-result c =
     let d = c.args.fourth in
-    let y = c.date_of_near-year.result.year in
+    let y = c.date_of_near-date.result.year in
     let f = c.day_of_near-first.result in
     let fits : FitsSigned w64 y = search rules in
     let fits_f : FitsSigned w64 f = search rules in
-    let year : to_z w64 (of_z w64 y) ≡ year_of d = to_z-of_z fits ∙ c.date_of_near-year.ensures.year ∙ ap year_of (to_z-of_z c.ranges.fourth) in
+    let year : to_z w64 (of_z w64 y) ≡ year_of d = to_z-of_z fits ∙ c.date_of_near-date.ensures.year ∙ ap year_of (to_z-of_z c.ranges.fourth) in
     let first : f ≡ day_number (year_of d) 1 1 = c.day_of_near-first.ensures ∙ ap (λ z. day_number z 1 1) year in
     let days = rw (to_z-of_z c.ranges.fourth, to_z-of_z fits_f) at c.abs_diff.ensures in
     omega (arith, days_from d f c.abs_diff.result first days, days_into_year_below d, year_length_bounds (year_of d))
