@@ -5,6 +5,7 @@ mod date;
 mod week;
 
 pub use date::{Date, date_of, day_of, valid};
+pub use week::{Week, week_of, weekday, year_kind};
 
 #[cfg(test)]
 mod tests {
