@@ -1,13 +1,8 @@
-// A library with one function.
+//! Whether two sets of occurrences are equal, one within the other, or disjoint, for all years to come.
 #![tactic(auto)]
 
-ghost use Rattle.std.specs.Prelude.{◌≡◌};
-ghost use Rattle.rr_decide.specs.Echo.{echo_of};
-
-// The `ensures` clause is the contract: what `echo` returns is `echo_of` of its argument, a definition
-// in `specs/Echo.antt`, which a caller's clause can cite too.
-pub fn echo(x: usize) -> usize
-    ensures { result ≡ echo_of x }
-{
-    x
-}
+mod days;
+mod merge;
+mod occurrence;
+mod question;
+mod verdicts;
