@@ -1,6 +1,13 @@
+mod CalendarExamples
+pub mod CalendarLemmas
+pub mod CycleLemmas
+pub mod FloorLemmas
 pub mod PeriodicLemmas
 pub mod SecondsLemmas
 pub mod SketchLemmas
 pub mod VerdictLemmas
 pub mod WholeLemmas
 pub mod WindowLemmas
+pub mod DailyLemmas
+mod MomentTextExamples
+pub mod AnswerLemmas

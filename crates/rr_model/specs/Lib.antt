@@ -7,3 +7,9 @@ pub mod RefusalText
 pub mod Rising
 pub mod Sketch
 pub mod SketchLaws
+pub mod Digits
+pub mod MomentText
+pub mod Daily
+pub mod DailyText
+pub mod Command
+pub mod Answer
