@@ -13,3 +13,5 @@ pub mod Daily
 pub mod DailyText
 pub mod Command
 pub mod Answer
+pub mod RuleValidity
+pub mod Cycle
