@@ -4,12 +4,14 @@ use Rattle.std.specs.List.{Contains}
 use Rattle.std.specs.Prelude.{nat_lt}
 use Rattle.std.proofs.lemmas.Bool.{false≢true}
 use Rattle.std.proofs.lemmas.Int.{ints, by_lt_z}
+use Rattle.rr_model.specs.Cycle.{lcm}
 use Rattle.rr_model.specs.Rising.{Rises}
 use Rattle.rr_model.specs.Sketch.{IsValidSketch, times_on}
 use Rattle.rr_model.specs.SketchLaws.{IsCommonMultiple}
 use Rattle.rr_model.specs.declared.sketch.Sketch.{Sketch}
 use Rattle.rr_model.specs.declared.verdict.Side.{Side}
 use Rattle.rr_model.specs.declared.verdict.Side.TheVariants.{A, B, Both}
+use Rattle.rr_model.proofs.DivisorLemmas.{lcm_is, lcm_some}
 use Rattle.rr_model.proofs.SecondsLemmas.{Contains-or_not, one_list}
 use Rattle.rr_model.proofs.SketchLemmas.{agreement_of_sketches_lasts, common_window, rising_on}
 use Rattle.rr_decide.specs.Question.{HasNoneBefore, IsFirstDayShown, IsFirstShown, IsWindow, ShowsNone, ShowsNoneWithin, shown_by}
@@ -69,3 +71,18 @@ none_to_end shows s u from from' k n ef le walked d low high = walked d (omega (
 
 pub rising_list : (s : Sketch) (d : ℤ) (xs : List ℕ) → IsValidSketch s → xs ≡ times_on s d → Rises nat_lt xs
 rising_list s d xs v e = rw e (rising_on s d v)
+
+-- ---- windows as the code has them
+
+pub equal_window_of : (s u : Sketch) (p r : ℕ) → IsValidSketch s → IsValidSketch u → p ≡ s.period → r ≡ u.period → IsWindow (shown_by Equal) s u (p + r)
+equal_window_of s u p r vs vu ep er = rw (ep, er) (equal_window s u vs vu)
+
+pub lcm_window : (shows : Side → Bool) (s u : Sketch) (p r c : ℕ) → IsValidSketch s → IsValidSketch u → p ≡ s.period → r ≡ u.period → c ≡ lcm p r → IsWindow shows s u c
+lcm_window shows s u p r c vs vu ep er ec =
+    let is : c ≡ lcm s.period u.period = rw (← ep, ← er) ec in
+    let multiple = lcm_is s.period u.period vs.period vu.period in
+    rw is (multiple_window shows s u (lcm s.period u.period) vs vu (record {
+      some = lcm_some s.period u.period vs.period vu.period;
+      of_first = multiple.0;
+      of_second = multiple.1;
+    }))

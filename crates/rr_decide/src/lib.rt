@@ -2,7 +2,10 @@
 #![tactic(auto)]
 
 mod days;
+mod decide;
 mod merge;
 mod occurrence;
 mod question;
 mod verdicts;
+
+pub use decide::{disjoint, equal, within};
