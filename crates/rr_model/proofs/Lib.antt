@@ -7,6 +7,8 @@ pub mod CycleLemmas
 pub mod FloorLemmas
 pub mod NearLemmas
 pub mod PeriodicLemmas
+pub mod SecondsLemmas
+pub mod SketchLemmas
 pub mod RisingLemmas
 pub mod VerdictLemmas
 mod WeekExamples
@@ -14,6 +16,7 @@ pub mod WeekLemmas
 pub mod WholeLemmas
 pub mod MomentTextLemmas
 mod ChosenExamples
+pub mod WindowLemmas
 pub mod DailyLemmas
 pub mod AnswerLemmas
 pub mod MomentLemmas

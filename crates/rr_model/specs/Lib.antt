@@ -12,6 +12,8 @@ pub mod Units
 pub mod Filled
 pub mod Candidate
 pub mod Chosen
+pub mod Sketch
+pub mod SketchLaws
 pub mod Digits
 pub mod MomentText
 pub mod Daily
