@@ -4,3 +4,10 @@ pub mod Moment
 pub mod Periodic
 pub mod Verdict
 pub mod RefusalText
+pub mod Rising
+pub mod Digits
+pub mod MomentText
+pub mod Daily
+pub mod DailyText
+pub mod Command
+pub mod Answer

@@ -1,0 +1,18 @@
+-- Rising lists, and how a value gets its place in one.
+use Rattle.std.specs.Prelude.{Bool, ◌&&◌, ◌||◌, List, [], ◌∷◌, int_lt, int_le, nat_lt, if◌then◌else◌, ⊤, IsTrue}
+use Rattle.rr_model.specs.declared.rule.DayItem.{DayItem}
+
+-- each is below the next
+abbrev pub Rises : {X : Type 0} → (X → X → Bool) → List X → Type 0
+Rises below [] = ⊤
+Rises below (x ∷ []) = ⊤
+Rises below (x ∷ y ∷ ys) = IsTrue (below x y) × Rises below (y ∷ ys)
+
+-- the list with x at its place, or as it is where x is there
+abbrev pub with_value : {X : Type 0} → (X → X → Bool) → List X → X → List X
+with_value below [] x = x ∷ []
+with_value below (y ∷ ys) x = if below y x then y ∷ with_value below ys x else (if below x y then x ∷ y ∷ ys else y ∷ ys)
+
+-- values of BYDAY rise by place, then by weekday
+abbrev pub day_item_lt : DayItem → DayItem → Bool
+day_item_lt a b = int_lt a.place b.place || (int_le a.place b.place && nat_lt a.weekday b.weekday)

@@ -1,0 +1,42 @@
+// Values of BYDAY, rising without repeats by place, then by weekday.
+ghost use Rattle.std.specs.Prelude.{◌≡◌, []};
+
+use crate::DayItem;
+use std::alloc::Global;
+use std::marker::Model;
+
+/// Values of BYDAY, rising without repeats by place, then by weekday.
+#[derive(Drop)]
+pub struct DayItems {
+    items: Vec<DayItem>,
+}
+
+impl Model for DayItems {
+    ghost use Rattle.std.specs.Prelude.{List};
+    ghost use Rattle.rr_model.specs.declared.rule.DayItem.{DayItem};
+    ghost use Rattle.rr_model.specs.Rising.{Rises, day_item_lt};
+
+    ghost Value = { List DayItem };
+
+    ghost view = { λ l. l.items.items };
+
+    ghost invariant = { λ l. Rises day_item_lt l.items.items };
+}
+
+impl DayItems {
+    /// The empty list; it takes no memory.
+    pub fn new(alloc: Global) -> Self
+        ensures { result ≡ [] }
+    {
+        DayItems {
+            items: Vec::new(alloc),
+        }
+    }
+
+    /// The values in order.
+    pub fn as_slice(&self) -> &[DayItem]
+        ensures { result.now ≡ self.now }
+    {
+        self.items.as_slice()
+    }
+}

@@ -1,0 +1,39 @@
+// Occupied days with their seconds, in the order in which they were put.
+ghost use Rattle.std.specs.Prelude.{◌≡◌, []};
+
+use crate::DayShape;
+use std::alloc::Global;
+use std::marker::Model;
+
+/// Occupied days with their seconds, in the order in which they were put.
+#[derive(Drop)]
+pub struct DayShapes {
+    items: Vec<DayShape>,
+}
+
+impl Model for DayShapes {
+    ghost use Rattle.std.specs.Prelude.{List};
+    ghost use Rattle.rr_model.specs.declared.sketch.DayShape.{DayShape};
+
+    ghost Value = { List DayShape };
+
+    ghost view = { λ l. l.items.items };
+}
+
+impl DayShapes {
+    /// The empty list; it takes no memory.
+    pub fn new(alloc: Global) -> Self
+        ensures { result ≡ [] }
+    {
+        DayShapes {
+            items: Vec::new(alloc),
+        }
+    }
+
+    /// The values in order.
+    pub fn as_slice(&self) -> &[DayShape]
+        ensures { result.now ≡ self.now }
+    {
+        self.items.as_slice()
+    }
+}

@@ -1,0 +1,39 @@
+// Rules, in the order in which they were put.
+ghost use Rattle.std.specs.Prelude.{◌≡◌, []};
+
+use crate::Rule;
+use std::alloc::Global;
+use std::marker::Model;
+
+/// Rules, in the order in which they were put.
+#[derive(Drop)]
+pub struct Rules {
+    items: Vec<Rule>,
+}
+
+impl Model for Rules {
+    ghost use Rattle.std.specs.Prelude.{List};
+    ghost use Rattle.rr_model.specs.declared.rule.Rule.{Rule};
+
+    ghost Value = { List Rule };
+
+    ghost view = { λ l. l.items.items };
+}
+
+impl Rules {
+    /// The empty list; it takes no memory.
+    pub fn new(alloc: Global) -> Self
+        ensures { result ≡ [] }
+    {
+        Rules {
+            items: Vec::new(alloc),
+        }
+    }
+
+    /// The values in order.
+    pub fn as_slice(&self) -> &[Rule]
+        ensures { result.now ≡ self.now }
+    {
+        self.items.as_slice()
+    }
+}
