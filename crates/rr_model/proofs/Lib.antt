@@ -1,2 +1,3 @@
 pub mod PeriodicLemmas
 pub mod WholeLemmas
+pub mod RisingSetLemmas

@@ -5,3 +5,4 @@ pub mod Periodic
 pub mod Verdict
 pub mod RefusalText
 pub mod Rising
+pub mod RisingSet
