@@ -6,3 +6,9 @@ pub mod Verdict
 pub mod RefusalText
 pub mod Rising
 pub mod RisingSet
+pub mod Digits
+pub mod MomentText
+pub mod Daily
+pub mod DailyText
+pub mod Command
+pub mod Answer

@@ -1,6 +1,7 @@
 //! The data that every crate speaks of, and beside it, in specs/, the definitions that contracts cite.
 #![tactic(auto)]
 
+mod conclusion;
 mod kind;
 mod laws;
 mod limits;
@@ -8,13 +9,16 @@ mod lists;
 mod refusal;
 mod rule;
 mod sketch;
+mod stamp;
 mod verdict;
 
+pub use conclusion::Conclusion;
 pub use kind::Kind;
-pub use laws::agreement_lasts;
+pub use laws::{agreement_lasts, answer_is_one};
 pub use limits::{MAX_CYCLE_DAYS, MAX_DAY, MAX_INPUT, MAX_SECONDS};
 pub use lists::{Dates, DayItems, DayShapes, Numbers, Rules, Seconds};
 pub use refusal::{Fault, NoMemory, Refusal};
 pub use rule::{DayItem, End, Freq, Rule, Series};
 pub use sketch::{DayShape, Sketch};
+pub use stamp::Stamp;
 pub use verdict::{Side, Verdict};
