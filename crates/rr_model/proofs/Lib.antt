@@ -17,6 +17,7 @@ pub mod WholeLemmas
 pub mod MomentTextLemmas
 mod ChosenExamples
 pub mod WindowLemmas
+pub mod RisingSetLemmas
 pub mod DailyLemmas
 pub mod AnswerLemmas
 pub mod MomentLemmas

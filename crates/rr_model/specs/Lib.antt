@@ -14,6 +14,7 @@ pub mod Candidate
 pub mod Chosen
 pub mod Sketch
 pub mod SketchLaws
+pub mod RisingSet
 pub mod Digits
 pub mod MomentText
 pub mod Daily
