@@ -1,4 +1,3 @@
 pub mod DailyTextParts
 pub mod IntervalText
-pub mod BasicDate
 pub mod Reading

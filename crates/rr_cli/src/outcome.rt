@@ -78,7 +78,8 @@ fn said(alloc: Global, verdict: Verdict) -> Result<Outcome, NoMemory>
 pub fn usage(alloc: Global) -> Result<Outcome, NoMemory>
     ensures { IfOk result (λ x. answer_of x ≡ usage) }
 {
-    let text = b"usage: rr equal A B | within A B | disjoint A B | canon A | translate LANG A | infer A | list N A | check A | drill SEED N\n";
+    let text =
+        b"usage: rr equal A B | within A B | disjoint A B | canon A | translate LANG A | infer A | list N A | check A | drill SEED N\n";
     Ok(Outcome {
         conclusion: Conclusion::Usage,
         text: Vec::from_slice(alloc, text)?,

@@ -62,7 +62,12 @@ fn work_out<S: Source>(alloc: Global, words: &[&str], source: &mut S) -> Result<
 /// Does what the words ask: fetches the operands, judges them, and puts the whole answer at once.
 ///
 /// A fetch that fails ends the run with `ReadFault`, a put that fails with `WriteFault`. `NoMemory` may come at any time.
-pub fn run<S: Source, K: Sink>(alloc: Global, words: &[&str], source: &mut S, sink: &mut K) -> Status
+pub fn run<S: Source, K: Sink>(
+    alloc: Global,
+    words: &[&str],
+    source: &mut S,
+    sink: &mut K,
+) -> Status
     // What is put is the answer to the words over the bytes that the source holds, and the status is the answer's.
     ensures answer { IfSome (contents (command_of (words_of words.now)) (S.held source.old)) (λ both. Ends result (IsAnswer (command_of (words_of words.now)) both) (K.written sink.old) (K.written sink.new)) }
 

@@ -24,6 +24,6 @@ returns-in-None c = λ d i t.
 pub returns-in-Some-rule_end : goal.returns-in-Some-rule_end
 returns-in-Some-rule_end c =
     text_of c.args.bytes.now c.in_ok-rest.rest.now c.split_at.result.0.now c.split_at.result.1.now c.in-Some-rule_end.interval.now
-        c.in_ok-rest.ensures (rw (c.split_at.ensures.front, c.split_at.ensures.back) (sym (take-append-drop 8 c.in_ok-rest.rest.now)))
-        (c.in-Some.ensures ∙ ap (λ l. codes "\nRRULE:FREQ=DAILY" ++ l) c.in-Some-rule_end.ensures.0)
-        c.split_at.ensures.front_len (sym c.are_digits.ensures ∙ (let no = c.if-not-are_digits.false in cc)) c.in-Some-rule_end.ensures.1
+    c.in_ok-rest.ensures (rw (c.split_at.ensures.front, c.split_at.ensures.back) (sym (take-append-drop 8 c.in_ok-rest.rest.now)))
+    (c.in-Some.ensures ∙ ap (λ l. codes "\nRRULE:FREQ=DAILY" ++ l) c.in-Some-rule_end.ensures.0)
+    c.split_at.ensures.front_len (sym c.are_digits.ensures ∙ (let no = c.if-not-are_digits.false in cc)) c.in-Some-rule_end.ensures.1

@@ -21,9 +21,9 @@ apart false false e f = false≢true e
 pub returns-then-in_a-has_day-clause-some : goal.returns-then-in_a-has_day-clause-some
 returns-then-in_a-has_day-clause-some c =
     IsFirstDifference-found (series_of c.args.a.now) (series_of c.args.b.now) c.args.from (to_z w64 (of_z w64 c.args.from)) _ c.loop-k.k c.has_day-in_a.result c.has_day.result c.side_with.result
-        (to_z-of_z w64 c.args.from c.ranges.from) (omega (arith, ints)) c.loop-k.invariant c.has_day-in_a.ensures c.has_day.ensures (apart _ _ c.if-in_a-has_day.true) c.side_with.ensures
+    (to_z-of_z w64 c.args.from c.ranges.from) (omega (arith, ints)) c.loop-k.invariant c.has_day-in_a.ensures c.has_day.ensures (apart _ _ c.if-in_a-has_day.true) c.side_with.ensures
 
 pub loop-k-preserved : goal.loop-k-preserved
 loop-k-preserved c =
     agree_more (series_of c.args.a.now) (series_of c.args.b.now) (to_z w64 (of_z w64 c.args.from)) _ c.loop-k.k c.has_day-in_a.result c.has_day.result
-        (omega (arith, ints)) c.loop-k.invariant c.has_day-in_a.ensures c.has_day.ensures (same _ _ c.if-in_a-has_day.false)
+    (omega (arith, ints)) c.loop-k.invariant c.has_day-in_a.ensures c.has_day.ensures (same _ _ c.if-in_a-has_day.false)
