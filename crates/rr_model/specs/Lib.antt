@@ -6,6 +6,7 @@ pub mod Verdict
 pub mod RefusalText
 pub mod Rising
 pub mod RisingSet
+pub mod Refused
 pub mod Digits
 pub mod MomentText
 pub mod Daily
