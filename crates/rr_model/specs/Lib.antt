@@ -15,6 +15,7 @@ pub mod Chosen
 pub mod Sketch
 pub mod SketchLaws
 pub mod RisingSet
+pub mod Refused
 pub mod Digits
 pub mod MomentText
 pub mod Daily
