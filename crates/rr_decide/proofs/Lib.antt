@@ -1,3 +1,4 @@
+pub mod EveryLemmas
 pub mod MergeLemmas
 pub mod OrderLemmas
 pub mod QuestionLemmas

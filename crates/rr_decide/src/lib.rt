@@ -9,3 +9,6 @@ mod question;
 mod verdicts;
 
 pub use decide::{disjoint, equal, within};
+
+#[cfg(test)]
+mod tests;

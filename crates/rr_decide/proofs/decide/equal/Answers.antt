@@ -1,4 +1,3 @@
-use Rattle.std.proofs.Common.{◌+◌}
 use Rattle.rr_decide.proofs.QuestionLemmas.{equal_verdict}
 use Rattle.rr_decide.proofs.WindowLemmas.{equal_window_of}
 use Rattle.rr_decide.proofs.decide.equal.Goals as goal
