@@ -19,7 +19,6 @@ mod ChosenExamples
 pub mod WindowLemmas
 pub mod RisingSetLemmas
 pub mod DailyLemmas
-pub mod AnswerLemmas
 pub mod MomentLemmas
 pub mod CountLemmas
 pub mod ShiftLemmas

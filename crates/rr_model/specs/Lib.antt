@@ -19,9 +19,6 @@ pub mod Refused
 pub mod Digits
 pub mod MomentText
 pub mod Daily
-pub mod DailyText
-pub mod Command
-pub mod Answer
 pub mod Repetition
 pub mod RuleValidity
 pub mod Cycle
