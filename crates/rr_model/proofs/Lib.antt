@@ -11,3 +11,4 @@ pub mod MomentTextLemmas
 pub mod DailyLemmas
 pub mod AnswerLemmas
 pub mod MomentLemmas
+pub mod PrintedLemmas
