@@ -31,3 +31,4 @@ pub mod RuleCycleLemmas
 pub mod RepetitionLemmas
 pub mod RankLemmas
 pub mod StretchLemmas
+pub mod PrintedLemmas
