@@ -1,10 +1,19 @@
 pub mod Whole
 pub mod Calendar
+pub mod Week
+pub mod CalendarLaws
 pub mod Moment
 pub mod Periodic
 pub mod Verdict
 pub mod RefusalText
 pub mod Rising
+pub mod Count
+pub mod Units
+pub mod Filled
+pub mod Candidate
+pub mod Chosen
+pub mod Sketch
+pub mod SketchLaws
 pub mod RisingSet
 pub mod Refused
 pub mod Digits
@@ -13,3 +22,6 @@ pub mod Daily
 pub mod DailyText
 pub mod Command
 pub mod Answer
+pub mod Repetition
+pub mod RuleValidity
+pub mod Cycle

@@ -1,0 +1,5 @@
+pub mod MergeLemmas
+pub mod OrderLemmas
+pub mod QuestionLemmas
+pub mod StandsLemmas
+pub mod WindowLemmas
