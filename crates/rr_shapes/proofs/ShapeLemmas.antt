@@ -1,17 +1,19 @@
 -- Lists of distinct time sets.
-use Rattle.std.proofs.Common.{◌≡◌, ℕ, ◌+◌, ◌<◌, ◌≤◌, List, [], ◌∷◌, ◌++◌, length, Bool, true, false, cond, nat_eq, Some, slice_get, position, Contains, true≢false, refl, sym, ap, ◌∙◌, arith}
+use Rattle.std.proofs.Common.{inl, inr, get_or, length-append, ◌≡◌, ℕ, ◌+◌, ◌<◌, ◌≤◌, List, [], ◌∷◌, ◌++◌, length, Bool, true, false, cond, nat_eq, Some, slice_get, position, Contains, true≢false, refl, sym, ap, ◌∙◌, arith}
 use Rattle.std.proofs.lemmas.Cmp.{nat_list_eq_equiv}
+use Rattle.std.proofs.lemmas.Bool.{cases_lt}
+use Rattle.std.proofs.lemmas.List.{get_or_append_left}
 use Rattle.std.proofs.lemmas.List.Elements.{All-push}
 use Rattle.std.proofs.lemmas.List.Sums.{sum_by-cons, sum_by_push}
 use Rattle.std.proofs.lemmas.List.Quantifiers.{position-Some}
 use Rattle.std.proofs.lemmas.Map.Made.{AllPairs-from_IsDistinct, IsDistinct-from_AllPairs}
 use Rattle.std.proofs.lemmas.Map.Views.{list_any-from_Contains}
-use Rattle.std.proofs.lemmas.Option.{slice_get_read}
+use Rattle.std.proofs.lemmas.Option.{slice_get_read, slice_get_within, get_or_from_slice_get}
 use Rattle.std.specs.Cmp.Lexicographic.{pointwise, bytes_decides}
 use Rattle.std.specs.List.{list_any, AllByRecursion, IsDistinct}
 use Rattle.indexmap.specs.IndexSet.{insert_key}
 use Rattle.rr_model.specs.RisingSet.{IsSecondsOfDay}
-use Rattle.rr_shapes.specs.Numbering.{total_size, IsCounted}
+use Rattle.rr_shapes.specs.Numbering.{total_size, IsNumbering, IsCounted}
 use Rattle.rr_shapes.specs.Placing.{IsPlaced, IsTooMany}
 
 -- the same seconds
@@ -66,20 +68,27 @@ module _ (sets : List (List ℕ)) (size : ℕ) (times : List ℕ) (counts : IsCo
   pub too_many : (more : ℕ) → more ≡ length times → 16_777_216 < size + more → IsTooMany times sets
   too_many more e above = record { fresh = absent sets times fresh; above = omega (arith, counts.sum) }
 
-  -- a new set that fits
-  pub not_too_many : (more : ℕ) → more ≡ length times → size + more ≤ 16_777_216 → IsTooMany times sets → ⊥
-  not_too_many more e room t = omega (arith, counts.sum, t.above)
-
-  -- goes last
+  -- a new set that fits goes last
   pub inserted : (new : List (List ℕ)) → new ≡ insert_key same sets times → new ≡ sets ++ times ∷ []
   inserted new e = e ∙ ap (λ c. cond c sets (sets ++ times ∷ [])) fresh
 
+  -- and gets the next number
+  next_number : (new : List (List ℕ)) (number : ℕ) → new ≡ sets ++ times ∷ [] → slice_get new number ≡ Some times → number ≡ length sets
+  next_number new number last at =
+      let within : number < length sets + 1 = omega (arith, slice_get_within new number times at, ap length last, length-append sets (times ∷ [])) in
+      elim (cases_lt number (length sets)) [
+        | inl l ↦ absurd (absent sets times fresh (number, l, sym (get_or_append_left sets (times ∷ []) times number l) ∙ ap (λ ks. get_or ks number times) (sym last) ∙ get_or_from_slice_get new number times times at))
+        | inr l ↦ omega arith
+      ]
+
   pub new_placed : (new : List (List ℕ)) (number : ℕ) (stored : List ℕ) → new ≡ insert_key same sets times → slice_get new number ≡ Some stored → same times stored ≡ true → IsPlaced times sets new number
-  new_placed new number stored e at is = record {
-    stands = at ∙ ap Some (sym ((bytes_decides times stored).0 is));
-    known = λ there. absurd (absent sets times fresh there);
-    added = λ _. inserted new e;
-  }
+  new_placed new number stored e at is =
+      let stands : slice_get new number ≡ Some times = at ∙ ap Some (sym ((bytes_decides times stored).0 is)) in
+      record {
+        stands = stands;
+        known = λ there. absurd (absent sets times fresh there);
+        added = λ _. (inserted new e, next_number new number (inserted new e) stands);
+      }
 
   -- and is counted
   pub new_counted : (new : List (List ℕ)) (more : ℕ) → new ≡ insert_key same sets times → IsDistinct same new → IsSecondsOfDay times → more ≡ length times → size + more ≤ 16_777_216 → IsCounted new (size + more)
@@ -94,3 +103,16 @@ module _ (sets : List (List ℕ)) (size : ℕ) (times : List ℕ) (counts : IsCo
         sum = omega (arith, counts.sum);
         within = room;
       }
+
+-- a set has one number
+pub one_number : (sets : List (List ℕ)) (times : List ℕ) (m n : ℕ) → IsNumbering sets → slice_get sets m ≡ Some times → slice_get sets n ≡ Some times → m ≡ n
+one_number sets times m n numbering at_m at_n =
+    let read_m = get_or_from_slice_get sets m times times at_m in
+    let read_n = get_or_from_slice_get sets n times times at_n in
+    elim (cases_lt m n) [
+      | inl l ↦ absurd (numbering.distinct m n times l (slice_get_within sets n times at_n) (read_m ∙ sym read_n))
+      | inr h ↦ elim (cases_lt n m) [
+        | inl l ↦ absurd (numbering.distinct n m times l (slice_get_within sets m times at_m) (read_n ∙ sym read_m))
+        | inr l ↦ omega arith
+      ]
+    ]
