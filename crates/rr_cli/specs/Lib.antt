@@ -1,3 +1,4 @@
 pub mod Series
-pub mod Difference
+pub mod Outcome
+pub mod Printable
 pub mod Run

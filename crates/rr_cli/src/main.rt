@@ -6,14 +6,12 @@ mod daily_text;
 mod decide;
 mod outcome;
 mod run;
-mod words;
-
 #[cfg(test)]
 mod tests;
-
-pub use run::{Status, run as run_words};
+mod words;
 
 use rr_io::{HostSink, HostSource};
+pub use run::{Status, run as run_words};
 use std::alloc::AllocError;
 use std::env;
 use std::process::ExitCode;

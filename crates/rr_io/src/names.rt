@@ -1,9 +1,9 @@
 // Names with bytes, which the sources in memory hold.
-ghost use Rattle.std.specs.Prelude.{◌≡◌, [], option_map, OnOk, OnErr};
+ghost use Rattle.std.specs.Prelude.{◌≡◌, ◌+◌, [], take, option_map, IfOk, OnOk, OnErr};
 ghost use Rattle.rr_io.specs.Names.{bytes_at, Sets};
 
-use rr_model::NoMemory;
-use std::alloc::Global;
+use rr_model::{MAX_INPUT, NoMemory};
+use std::alloc::{AllocError, Global};
 use std::collections::BTreeMap;
 use std::marker::Model;
 
@@ -51,4 +51,11 @@ impl Names {
             Some(bytes) => Some(bytes.as_slice()),
         }
     }
+}
+
+// A copy of the bytes, cut behind `MAX_INPUT + 1`.
+pub fn front(alloc: Global, bytes: &[u8]) -> Result<Vec<u8>, AllocError>
+    ensures { IfOk result (λ v. v.items ≡ take (MAX_INPUT + 1) bytes.now) }
+{
+    bytes[..(MAX_INPUT + 1).min(bytes.len())].to_vec(alloc)
 }

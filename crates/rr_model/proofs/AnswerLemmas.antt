@@ -1,10 +1,10 @@
 -- A command over the bytes of its operands has one answer.
-use Rattle.std.proofs.Common.{◌≡◌, ℕ, ℤ, ◌+◌, List, [], ◌∷◌, ◌++◌, length, take, drop, Option, Some, None, Result, Ok, Err, inl, inr, refl, sym, ap, ◌∙◌, arith}
+use Rattle.std.proofs.Common.{◌≡◌, ℕ, ℤ, List, [], ◌∷◌, ◌++◌, length, take, drop, Some, None, Result, Ok, Err, inl, inr, refl, sym, ap, ◌∙◌}
 use Rattle.std.specs.Prelude.{codes}
 use Rattle.std.proofs.Math.Seq.{take-append_seam, drop-append_seam}
 use Rattle.std.proofs.lemmas.List.{append_cancel_left, append_cancel_right}
-use Rattle.rr_model.specs.Answer.{Answer, IsAnswer, IsEqualSaid, IsEqualAnswer, AnswerIsOne, said}
-use Rattle.rr_model.specs.Command.{Command, equal}
+use Rattle.rr_model.specs.Answer.{Answer, IsEqualSaid, IsEqualAnswer, AnswerIsOne, said}
+use Rattle.rr_model.specs.Command.{equal}
 use Rattle.rr_model.specs.Daily.{DailySeries, IsDailyOccurrence}
 use Rattle.rr_model.specs.DailyText.{IsDailyText, interval_part, interval_of, StatesDaily, StatesNoDate, IsDailyReading}
 use Rattle.rr_model.specs.MomentText.{basic_date}

@@ -1,6 +1,7 @@
 //! The data that every crate speaks of, and beside it, in specs/, the definitions that contracts cite.
 #![tactic(auto)]
 
+mod calendar_laws;
 mod conclusion;
 mod kind;
 mod laws;
@@ -12,6 +13,7 @@ mod sketch;
 mod stamp;
 mod verdict;
 
+pub use calendar_laws::{calendar_repeats, dates_and_days_are_inverse, last_week_is_greatest};
 pub use conclusion::Conclusion;
 pub use kind::Kind;
 pub use laws::{agreement_lasts, answer_is_one, gcd_is_greatest, lcm_is_least};

@@ -1,0 +1,3 @@
+pub mod DailyTextParts
+pub mod IntervalText
+pub mod Reading
