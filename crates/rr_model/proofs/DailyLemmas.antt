@@ -1,5 +1,5 @@
 -- Two daily series that agree on the days from the earlier start up to both intervals past the later agree for ever.
-use Rattle.std.proofs.Common.{◌≡◌, ◌↔◌, ℕ, ◌+◌, ◌*◌, ◌<◌, Bool, true, false, ◌==◌, ℤ, pos, ◌+ℤ◌, ◌-ℤ◌, ◌≤ℤ◌, ◌<ℤ◌, inl, inr, refl, sym, ap, ◌∙◌, arith}
+use Rattle.std.proofs.Common.{◌≡◌, ◌↔◌, ℕ, ◌+◌, ◌*◌, ◌<◌, Bool, true, false, ◌==◌, ℤ, pos, ◌+ℤ◌, ◌-ℤ◌, ◌*ℤ◌, ◌≤ℤ◌, ◌<ℤ◌, inl, inr, refl, sym, ap, ◌∙◌, arith}
 use Rattle.std.specs.Prelude.{int_le, IsTrue}
 use Rattle.std.proofs.lemmas.Int.{ints, by_lt_z}
 use Rattle.std.proofs.lemmas.Bool.{false≢true}
@@ -14,7 +14,7 @@ use Rattle.rr_model.specs.declared.verdict.Side.{Side}
 use Rattle.rr_model.specs.declared.verdict.Side.TheVariants.{A, B}
 use Rattle.rr_model.specs.declared.verdict.Verdict.TheVariants.{Yes, No}
 use Rattle.rr_model.proofs.PeriodicLemmas.{agreement_lasts}
-use Rattle.rr_model.proofs.WholeLemmas.{floor_mod-add}
+use Rattle.rr_model.proofs.FloorLemmas.{floor_mod-add}
 
 has_day-early : (s : DailySeries) (d : ℤ) → d <ℤ s.start → has_day s d ≡ false
 has_day-early s d l = let e : int_le s.start d ≡ false = grind (arith, ints) in rw e refl
@@ -23,7 +23,7 @@ has_day-late : (s : DailySeries) (d : ℤ) → s.start ≤ℤ d → has_day s d 
 has_day-late s d l = let e : int_le s.start d ≡ true = grind (arith, ints) in rw e refl
 
 once : (z : ℤ) (n : ℕ) → 0 < n → floor_mod (z +ℤ pos n) n ≡ floor_mod z n
-once z n h = let e : n ≡ 1 * n = omega arith in ap (λ m. floor_mod (z +ℤ pos m) n) e ∙ floor_mod-add z 1 n h
+once z n h = let e : z +ℤ pos n ≡ z +ℤ (pos 1 *ℤ pos n) = omega (arith, ints) in ap (λ w. floor_mod w n) e ∙ floor_mod-add z (pos 1) n h
 
 pub has_day-repeats : (s : DailySeries) (q : ℤ) → 0 < s.interval → s.start ≤ℤ q → RepeatsFrom (has_day s) q s.interval
 has_day-repeats s q h l d m =
