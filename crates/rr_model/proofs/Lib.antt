@@ -1,2 +1,8 @@
+mod MomentTextExamples
+pub mod DigitLemmas
+mod CalendarExamples
+pub mod CalendarLemmas
+pub mod CycleLemmas
+pub mod FloorLemmas
 pub mod PeriodicLemmas
 pub mod WholeLemmas

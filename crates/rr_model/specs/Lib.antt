@@ -5,3 +5,5 @@ pub mod Periodic
 pub mod Verdict
 pub mod RefusalText
 pub mod Rising
+pub mod Digits
+pub mod MomentText

@@ -8,6 +8,7 @@ mod lists;
 mod refusal;
 mod rule;
 mod sketch;
+mod stamp;
 mod verdict;
 
 pub use kind::Kind;
@@ -17,4 +18,5 @@ pub use lists::{Dates, DayItems, DayShapes, Numbers, Rules, Seconds};
 pub use refusal::{Fault, NoMemory, Refusal};
 pub use rule::{DayItem, End, Freq, Rule, Series};
 pub use sketch::{DayShape, Sketch};
+pub use stamp::Stamp;
 pub use verdict::{Side, Verdict};

@@ -1,0 +1,35 @@
+-- Division that rounds down, where whole multiples of the divisor are added.
+use Rattle.std.proofs.Common.{◌≡◌, ℕ, ◌+◌, ◌*◌, ◌<◌, ◌⊎◌, inl, inr, ℤ, pos, ◌+ℤ◌, ◌-ℤ◌, ◌*ℤ◌, ap, arith}
+use Rattle.std.proofs.lemmas.Int.{ints}
+use Rattle.std.proofs.lemmas.Bool.{cases_lt}
+use borrow.Author.Differences.{sum_is_lem}
+use Rattle.rr_model.specs.Whole.{floor_div, floor_mod}
+use Rattle.rr_model.proofs.WholeLemmas.{floor_only, floor_whole, floor_mod_below}
+
+-- a product of a sum: both parts multiplied
+pub *ℤ-add : (a b : ℤ) (n : ℕ) → (a +ℤ b) *ℤ pos n ≡ (a *ℤ pos n) +ℤ (b *ℤ pos n)
+*ℤ-add a b n = let e = ap (λ x. x * n) (sum_is_lem a b) in omega (arith, ints, e)
+
+floor-add : (z k : ℤ) (n : ℕ) → 0 < n → (floor_div (z +ℤ (k *ℤ pos n)) n ≡ floor_div z n +ℤ k) × (floor_mod (z +ℤ (k *ℤ pos n)) n ≡ floor_mod z n)
+floor-add z k n h =
+    floor_only (z +ℤ (k *ℤ pos n)) (floor_div z n +ℤ k) n (floor_mod z n) (floor_mod_below z n h) (omega (arith, ints, floor_whole z n h, *ℤ-add (floor_div z n) k n))
+
+-- k more whole turns add k to the quotient
+pub floor_div-add : (z k : ℤ) (n : ℕ) → 0 < n → floor_div (z +ℤ (k *ℤ pos n)) n ≡ floor_div z n +ℤ k
+floor_div-add z k n h = (floor-add z k n h).0
+
+-- and leave the remainder
+pub floor_mod-add : (z k : ℤ) (n : ℕ) → 0 < n → floor_mod (z +ℤ (k *ℤ pos n)) n ≡ floor_mod z n
+floor_mod-add z k n h = (floor-add z k n h).1
+
+-- one more: the quotient grows exactly where the remainder comes to 0
+pub floor_step : (y : ℤ) (n : ℕ) → 0 < n → ((floor_mod y n ≡ 0) × (floor_div y n ≡ floor_div (y -ℤ pos 1) n +ℤ pos 1)) ⊎ ((floor_mod y n ≡ 0 → ⊥) × (floor_div y n ≡ floor_div (y -ℤ pos 1) n))
+floor_step y n h =
+    let q = floor_div (y -ℤ pos 1) n in
+    let r = floor_mod (y -ℤ pos 1) n in
+    let w = floor_whole (y -ℤ pos 1) n h in
+    let b = floor_mod_below (y -ℤ pos 1) n h in
+    elim (cases_lt (r + 1) n) [
+      | inl lt ↦ (let o = floor_only y q n (r + 1) lt (omega (arith, ints, w)) in inr ((λ e. absurd (omega (arith, o.1))), o.0))
+      | inr ge ↦ (let o = floor_only y (q +ℤ pos 1) n 0 h (omega (arith, ints, w, *ℤ-add q (pos 1) n)) in inl (o.1, o.0))
+    ]

@@ -1,0 +1,9 @@
+//! Numbers, dates and moments as text: what a text states, and what is printed.
+#![tactic(auto)]
+
+mod digits;
+mod print;
+
+pub use digits::{Digits, number};
+pub use print::push_number;
+pub use rr_model::Stamp;
