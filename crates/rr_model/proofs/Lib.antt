@@ -5,4 +5,5 @@ pub mod CalendarLemmas
 pub mod CycleLemmas
 pub mod FloorLemmas
 pub mod PeriodicLemmas
+pub mod RisingLemmas
 pub mod WholeLemmas

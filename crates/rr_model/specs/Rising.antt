@@ -1,5 +1,7 @@
 -- Rising lists, and how a value gets its place in one.
 use Rattle.std.specs.Prelude.{Bool, ◌&&◌, ◌||◌, List, [], ◌∷◌, int_lt, int_le, nat_lt, if◌then◌else◌, ⊤, IsTrue}
+use Rattle.std.specs.Ordering.{is_lt}
+use Rattle.std.specs.declared.cmp.Ordering.{Ordering}
 use Rattle.rr_model.specs.declared.rule.DayItem.{DayItem}
 
 -- each is below the next
@@ -12,6 +14,10 @@ Rises below (x ∷ y ∷ ys) = IsTrue (below x y) × Rises below (y ∷ ys)
 abbrev pub with_value : {X : Type 0} → (X → X → Bool) → List X → X → List X
 with_value below [] x = x ∷ []
 with_value below (y ∷ ys) x = if below y x then y ∷ with_value below ys x else (if below x y then x ∷ y ∷ ys else y ∷ ys)
+
+-- a is below b in the order of `cmp`
+abbrev pub below_by : {X : Type 0} → (X → X → Ordering) → X → X → Bool
+below_by cmp a b = is_lt (cmp a b)
 
 -- values of BYDAY rise by place, then by weekday
 abbrev pub day_item_lt : DayItem → DayItem → Bool

@@ -3,6 +3,7 @@ mod dates;
 mod day_items;
 mod day_shapes;
 mod numbers;
+mod rising;
 mod rules;
 mod seconds;
 

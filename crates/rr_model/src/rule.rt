@@ -46,7 +46,7 @@ pub enum End {
 }
 
 /// One value of BYDAY (RFC 5545, section 3.3.10).
-#[derive(Clone, Copy, Debug, PartialEq, Eq)]
+#[derive(Clone, Copy, Debug, PartialEq, Eq, PartialOrd, Ord)]
 pub struct DayItem {
     /// Which of these weekdays of the month or the year, from the back if negative; 0 for each.
     pub place: i8,

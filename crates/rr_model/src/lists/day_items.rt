@@ -1,7 +1,8 @@
 // Values of BYDAY, rising without repeats by place, then by weekday.
-ghost use Rattle.std.specs.Prelude.{◌≡◌, []};
+ghost use Rattle.std.specs.Prelude.{◌≡◌, [], OnOk, OnErr};
 
-use crate::DayItem;
+use crate::lists::rising::put_rising;
+use crate::{DayItem, NoMemory};
 use std::alloc::Global;
 use std::marker::Model;
 
@@ -24,6 +25,8 @@ impl Model for DayItems {
 }
 
 impl DayItems {
+    ghost use Rattle.rr_model.specs.Rising.{with_value, day_item_lt};
+
     /// The empty list; it takes no memory.
     pub fn new(alloc: Global) -> Self
         ensures { result ≡ [] }
@@ -31,6 +34,14 @@ impl DayItems {
         DayItems {
             items: Vec::new(alloc),
         }
+    }
+
+    /// Puts a value at its place; one that is there already changes nothing.
+    pub fn put(&mut self, value: DayItem) -> Result<(), NoMemory>
+        ensures ok { OnOk result (self.new ≡ with_value day_item_lt self.old value) }
+        ensures err { OnErr result (self.new ≡ self.old) }
+    {
+        put_rising(&mut self.items, value)
     }
 
     /// The values in order.

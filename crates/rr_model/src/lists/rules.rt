@@ -1,7 +1,7 @@
 // Rules, in the order in which they were put.
-ghost use Rattle.std.specs.Prelude.{◌≡◌, []};
+ghost use Rattle.std.specs.Prelude.{◌≡◌, [], ◌∷◌, ◌++◌, OnOk, OnErr};
 
-use crate::Rule;
+use crate::{NoMemory, Rule};
 use std::alloc::Global;
 use std::marker::Model;
 
@@ -28,6 +28,15 @@ impl Rules {
         Rules {
             items: Vec::new(alloc),
         }
+    }
+
+    /// Puts a value at the end.
+    pub fn put(&mut self, value: Rule) -> Result<(), NoMemory>
+        ensures ok { OnOk result (self.new ≡ self.old ++ value ∷ []) }
+        ensures err { OnErr result (self.new ≡ self.old) }
+    {
+        self.items.push(value)?;
+        Ok(())
     }
 
     /// The values in order.

@@ -1,6 +1,9 @@
 // Seconds of a day, rising without repeats.
-ghost use Rattle.std.specs.Prelude.{◌≡◌, []};
+ghost use Rattle.std.specs.Prelude.{◌≡◌, [], OnOk, OnErr, nat_lt};
+ghost use Rattle.rr_model.specs.Rising.{with_value};
 
+use crate::NoMemory;
+use crate::lists::rising::put_rising;
 use std::alloc::Global;
 use std::marker::Model;
 
@@ -29,6 +32,14 @@ impl Seconds {
         Seconds {
             items: Vec::new(alloc),
         }
+    }
+
+    /// Puts a value at its place; one that is there already changes nothing.
+    pub fn put(&mut self, value: u32) -> Result<(), NoMemory>
+        ensures ok { OnOk result (self.new ≡ with_value nat_lt self.old value) }
+        ensures err { OnErr result (self.new ≡ self.old) }
+    {
+        put_rising(&mut self.items, value)
     }
 
     /// The values in order.
