@@ -7,3 +7,4 @@ pub mod FloorLemmas
 pub mod PeriodicLemmas
 pub mod RisingLemmas
 pub mod WholeLemmas
+mod ReadsExamples

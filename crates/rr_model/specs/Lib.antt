@@ -7,3 +7,5 @@ pub mod RefusalText
 pub mod Rising
 pub mod Digits
 pub mod MomentText
+pub mod RuleText
+pub mod Reads
