@@ -6,5 +6,11 @@ pub mod CycleLemmas
 pub mod FloorLemmas
 pub mod PeriodicLemmas
 pub mod RisingLemmas
+pub mod VerdictLemmas
 pub mod WholeLemmas
 mod ReadsExamples
+pub mod DailyLemmas
+mod MomentTextExamples
+pub mod AnswerLemmas
+pub mod DivisorLemmas
+mod RuleExamples

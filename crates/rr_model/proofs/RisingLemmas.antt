@@ -1,7 +1,7 @@
 -- A value put into a rising list.
 use Rattle.std.proofs.Common.{◌≡◌, ℕ, zero, suc, ◌+◌, ◌<◌, ◌≤◌, Bool, true, false, cond, List, [], ◌∷◌, length, get_or, refl, sym, ap, ◌∙◌, arith}
 use Rattle.std.specs.Prelude.{Ok, Err, ℤ, int_lt, nat_lt}
-use Rattle.std.specs.List.{insert}
+use Rattle.std.specs.List.{insert, All, AllByRecursion}
 use Rattle.std.specs.List.Sorted.{IsBinarySearchResult, IsNonDecreasingBy}
 use Rattle.std.specs.Ordering.{is_lt, ordering_index, ordering_reverse, nat_cmp, int_cmp, ordering_then}
 use Rattle.rr_model.specs.declared.rule.DayItem.{DayItem}
@@ -9,6 +9,7 @@ use Rattle.std.specs.declared.cmp.Ordering.{Ordering}
 use Rattle.std.specs.declared.cmp.Ordering.TheVariants.{Less, Equal, Greater}
 use Rattle.std.specs.Cmp.{IsTotalOrder}
 use Rattle.std.proofs.lemmas.Cmp.{alike_right}
+use Rattle.std.proofs.lemmas.List.Elements.{All-from_recursion, recursion_from_All}
 use Rattle.std.proofs.lemmas.List.Sorted.{searchable_from_sorted}
 use Rattle.std.proofs.lemmas.Int.{ints}
 use Rattle.std.proofs.lemmas.Bool.Decides.{nat_tests}
@@ -39,6 +40,19 @@ module _ {X : Type 0} (below : X → X → Bool) where
               | false ↦ λ f. r
             ] refl
       ] refl
+
+-- what holds of each element and of the value holds of each element then
+module _ {X : Type 0} (P : X → Type 0) (below : X → X → Bool) where
+  recursion_with_value : (xs : List X) (v : X) → AllByRecursion P xs → P v → AllByRecursion P (with_value below xs v)
+  recursion_with_value [] v h p = (p, tt)
+  recursion_with_value (y ∷ ys) v h p =
+      elim (below y v) as (λ b. AllByRecursion P (cond b (y ∷ with_value below ys v) (cond (below v y) (v ∷ y ∷ ys) (y ∷ ys)))) [
+        | true ↦ (h.0, recursion_with_value ys v h.1 p)
+        | false ↦ elim (below v y) as (λ b. AllByRecursion P (cond b (v ∷ y ∷ ys) (y ∷ ys))) [ true ↦ (p, h) | false ↦ h ]
+      ]
+
+  pub All-with_value : (xs : List X) (v : X) → All P xs → P v → All P (with_value below xs v)
+  All-with_value xs v h p = All-from_recursion P (with_value below xs v) (recursion_with_value xs v (recursion_from_All P xs h) p)
 
 is_less : (o : Ordering) → is_lt o ≡ true → o ≡ Less
 is_less Less e = refl

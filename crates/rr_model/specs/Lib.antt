@@ -9,3 +9,9 @@ pub mod Digits
 pub mod MomentText
 pub mod RuleText
 pub mod Reads
+pub mod Daily
+pub mod DailyText
+pub mod Command
+pub mod Answer
+pub mod RuleValidity
+pub mod Cycle

@@ -2,6 +2,7 @@
 ghost use Rattle.std.specs.Prelude.{◌≡◌};
 
 use std::alloc::{AllocError, AllocFailed};
+use std::fmt;
 
 /// Why an operand is refused.
 ///
@@ -63,6 +64,24 @@ impl Refusal {
             Refusal::CycleTooLong => "CycleTooLong",
             Refusal::TooManyMoments => "TooManyMoments",
             Refusal::NotBuilt => "NotBuilt",
+        }
+    }
+}
+
+impl fmt::Display for Refusal {
+    ghost use Rattle.std.specs.Prelude.{Some};
+    ghost use Rattle.rr_model.specs.RefusalText.{refusal_text};
+
+    ghost output = { λ refusal. Some (refusal_text refusal) };
+
+    fn fmt<W: fmt::Write>(&self, f: &mut fmt::Formatter<W>) -> fmt::Result {
+        match self {
+            Refusal::BadMoment(line) => write!(f, "BadMoment {line}"),
+            Refusal::BadRule(line) => write!(f, "BadRule {line}"),
+            Refusal::PartTwice(line) => write!(f, "PartTwice {line}"),
+            Refusal::NumberRange(line) => write!(f, "NumberRange {line}"),
+            Refusal::NotSynchronised(rule) => write!(f, "NotSynchronised {rule}"),
+            _ => write!(f, "{}", self.name()),
         }
     }
 }

@@ -1,0 +1,44 @@
+-- What a fetch and a put do to a source and a sink.
+use Rattle.std.specs.Prelude.{◌≡◌, ◌⊎◌, ℕ, ◌+◌, ◌<◌, ◌≤◌, min, List, [], ◌∷◌, ◌++◌, take, Option, option_map, Result, Ok, Err}
+use Rattle.rr_io.specs.declared.source.FetchError.{FetchError}
+use Rattle.rr_io.specs.declared.source.FetchError.TheVariants as fetch
+use Rattle.rr_io.specs.declared.sink.PutError.{PutError}
+use Rattle.rr_io.specs.declared.sink.PutError.TheVariants as put
+
+-- a source keeps what it holds
+abbrev pub KeepsHeld : (List ℕ → Option (List ℕ)) → (List ℕ → Option (List ℕ)) → Type 0
+KeepsHeld old new = (name : List ℕ) → new name ≡ old name
+
+-- the names whose fetch has failed, after one more fetch of this name
+abbrev pub failed_after : {T : Type 0} → Result T FetchError → List ℕ → List (List ℕ) → List (List ℕ)
+failed_after (Ok v) name failed = failed
+failed_after (Err fetch.Failed) name failed = failed ++ name ∷ []
+failed_after (Err fetch.NoMemory) name failed = failed
+
+-- the number after this one, which stays at the last value of a u64
+abbrev pub next_number : ℕ → ℕ
+next_number n = min (n + 1) 18446744073709551615
+
+-- a count of faults rose, or stands at its last value
+abbrev pub Rose : ℕ → ℕ → Type 0
+Rose old new = (old < new) ⊎ (18446744073709551615 ≤ new)
+
+-- the sink has these bytes behind what it had, where it tells
+abbrev pub Appended : Option (List ℕ) → List ℕ → Option (List ℕ) → Type 0
+Appended old bytes new = new ≡ option_map (λ w. w ++ bytes) old
+
+-- or a first part of them
+abbrev pub AppendedPart : Option (List ℕ) → List ℕ → Option (List ℕ) → Type 0
+AppendedPart old bytes new = (n : ℕ) × Appended old (take n bytes) new
+
+-- what a put leaves, by its answer
+abbrev pub IsPut : {T : Type 0} → Result T PutError → List ℕ → Option (List ℕ) → Option (List ℕ) → ℕ → ℕ → Type 0
+IsPut (Ok v) bytes old new faults faults' = Appended old bytes new × (faults' ≡ faults)
+IsPut (Err put.Failed) bytes old new faults faults' = AppendedPart old bytes new × Rose faults faults'
+IsPut (Err put.NoMemory) bytes old new faults faults' = (new ≡ old) × (faults' ≡ faults)
+
+-- the count of faults after one more put
+abbrev pub faults_after : {T : Type 0} → Result T PutError → ℕ → ℕ
+faults_after (Ok v) faults = faults
+faults_after (Err put.Failed) faults = next_number faults
+faults_after (Err put.NoMemory) faults = faults

@@ -1,0 +1,122 @@
+// Files, standard input and standard output.
+ghost use Rattle.std.specs.Prelude.{◌≡◌, ◌+◌, [], take, IfOk, IfSome};
+ghost use Rattle.rr_io.specs.Outside.{failed_after, faults_after};
+
+use crate::{FetchError, PutError, Sink, Source};
+use rr_model::MAX_INPUT;
+use std::alloc::Global;
+use std::fs;
+use std::io::{self, ErrorKind, Read, Write};
+use std::marker::Model;
+use std::rt::Files;
+
+/// The files of the system by their paths, and standard input by the name `-`.
+#[derive(Drop)]
+pub struct HostSource<R: Files + Input + Drop> {
+    alloc: Global,
+    rt: R,
+    failed: Vec<String>,
+}
+
+impl<R: Files + Input + Drop> Model for HostSource<R> {
+    ghost use Rattle.std.specs.Prelude.{ℕ, List, map, string_bytes};
+
+    ghost Value = { List (List ℕ) };
+
+    ghost view = { λ s. map string_bytes s.failed.items };
+}
+
+/// The standard output of the system.
+#[derive(Drop)]
+pub struct HostSink<R: Print + Drop> {
+    rt: R,
+    faults: u64,
+}
+
+impl<R: Print + Drop> Model for HostSink<R> {
+    ghost use Rattle.std.specs.Prelude.{ℕ};
+
+    ghost Value = { ℕ };
+
+    ghost view = { λ s. s.faults };
+}
+
+// What a reader gives, up to `MAX_INPUT + 1` bytes. A read that a signal interrupts is tried again.
+fn read_front<F: Read + Drop>(alloc: Global, reader: F) -> io::Result<Vec<u8>>
+    ensures { IfOk result (λ v. IfSome (F.remaining reader) (λ bytes. v.items ≡ take (MAX_INPUT + 1) bytes)) }
+{
+    let mut bytes = Vec::new(alloc);
+    reader.take(MAX_INPUT as u64 + 1).read_to_end(&mut bytes)?;
+    Ok(bytes)
+}
+
+impl<R: Files + Input + Drop> HostSource<R> {
+    /// No name has failed. The runtime reaches the files and standard input, and the names that fail are kept with the allocator.
+    pub fn new(alloc: Global, rt: R) -> Self
+        ensures { result ≡ [] }
+    {
+        HostSource {
+            alloc,
+            rt,
+            failed: Vec::new(alloc),
+        }
+    }
+
+    fn read_name(&self, alloc: Global, name: &str) -> io::Result<Vec<u8>> {
+        if name == "-" {
+            return read_front(alloc, self.rt.reader());
+        }
+        let file = fs::open(&self.rt, name)?;
+        read_front(alloc, file)
+    }
+}
+
+impl<R: Files + Input + Drop> Source for HostSource<R> {
+    ghost use Rattle.std.specs.Prelude.{None};
+
+    ghost held = { λ _ _. None };
+
+    ghost failed = { λ failed. failed };
+
+    fn fetch(&mut self, alloc: Global, name: &str) -> Result<Vec<u8>, FetchError>
+        ensures { self.new ≡ failed_after result name.now self.old }
+    {
+        let noted = String::from_str(self.alloc, name)?;
+        match self.read_name(alloc, name) {
+            Ok(bytes) => Ok(bytes),
+            Err(error) if error.kind() == ErrorKind::OutOfMemory => Err(FetchError::NoMemory),
+            Err(_) => {
+                self.failed.push(noted)?;
+                Err(FetchError::Failed)
+            }
+        }
+    }
+}
+
+impl<R: Print + Drop> HostSink<R> {
+    /// No put has failed. The runtime reaches standard output.
+    pub fn new(rt: R) -> Self
+        ensures { result ≡ 0 }
+    {
+        HostSink { rt, faults: 0 }
+    }
+}
+
+impl<R: Print + Drop> Sink for HostSink<R> {
+    ghost use Rattle.std.specs.Prelude.{None};
+
+    ghost written = { λ _. None };
+
+    ghost faults = { λ faults. faults };
+
+    fn put(&mut self, bytes: &[u8]) -> Result<(), PutError>
+        ensures { self.new ≡ faults_after result self.old }
+    {
+        // Goes on behind a short write. A write that takes nothing of some bytes is an error.
+        if io::writer(&self.rt).write_all(bytes).is_ok() {
+            return Ok(());
+        }
+        self.faults = self.faults.saturating_add(1);
+        Err(PutError::Failed)
+    }
+}

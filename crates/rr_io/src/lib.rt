@@ -1,0 +1,15 @@
+//! Where operands come from and where the output goes: sources and sinks, in memory and of the system.
+#![tactic(auto)]
+
+mod host;
+mod memory;
+mod names;
+mod sink;
+mod source;
+mod steady;
+
+pub use host::{HostSink, HostSource};
+pub use memory::{MemorySink, MemorySource};
+pub use sink::{PutError, Sink};
+pub use source::{FetchError, Source};
+pub use steady::{SteadySink, SteadySource};

@@ -1,0 +1,191 @@
+// A source and a sink in memory whose failures are listed.
+ghost use Rattle.std.specs.Prelude.{◌≡◌, ◌++◌, ◌+◌, [], ◌∷◌, Some, IfOk, IfSome, OnOk, OnErr, take};
+ghost use Rattle.rr_io.specs.Names.{bytes_at, Sets};
+ghost use Rattle.rr_io.specs.Outside.{KeepsHeld, failed_after, faults_after, next_number, IsPut};
+ghost use Rattle.rr_io.specs.Memory.{IsToFail, FailsExactly, first_of, PutsAs};
+
+use crate::names::Names;
+use crate::steady::front;
+use crate::{FetchError, PutError, Sink, Source};
+use rr_model::{MAX_INPUT, NoMemory};
+use std::alloc::Global;
+use std::marker::Model;
+
+/// Names with bytes, and the numbers of the fetches that are to fail. A name that is not there fails too.
+///
+/// Fetches are numbered from 1, those that end with `NoMemory` among them, and the number stays at the last value of a `u64`.
+#[derive(Drop)]
+pub struct MemorySource {
+    alloc: Global,
+    names: Names,
+    failing: Vec<u64>,
+    fetches: u64,
+    failed: Vec<String>,
+}
+
+impl Model for MemorySource {
+    ghost use Rattle.std.specs.Prelude.{map, string_bytes};
+    ghost use Rattle.rr_io.specs.Memory.{Fetches};
+
+    ghost Value = { Fetches };
+
+    ghost view = { λ s. record { names = s.names; failing = s.failing.items; fetches = s.fetches; failed = map string_bytes s.failed.items } };
+}
+
+/// Bytes, and which puts are to fail after how many bytes.
+///
+/// Puts are numbered from 1, those that end with `NoMemory` among them, and the number stays at the last value of a `u64`.
+#[derive(Drop)]
+pub struct MemorySink {
+    bytes: Vec<u8>,
+    failing: Vec<(u64, usize)>,
+    puts: u64,
+    faults: u64,
+}
+
+impl Model for MemorySink {
+    ghost use Rattle.rr_io.specs.Memory.{Puts};
+
+    ghost Value = { Puts };
+
+    ghost view = { λ s. record { bytes = s.bytes.items; failing = s.failing.items; puts = s.puts; faults = s.faults } };
+}
+
+impl MemorySource {
+    /// No names and no listed failures.
+    pub fn new(alloc: Global) -> Self
+        ensures { result ≡ record { names = []; failing = []; fetches = 0; failed = [] } }
+    {
+        MemorySource {
+            alloc,
+            names: Names::new(alloc),
+            failing: Vec::new(alloc),
+            fetches: 0,
+            failed: Vec::new(alloc),
+        }
+    }
+
+    /// Puts these bytes under the name, in place of those that it had. Every other name keeps its own.
+    pub fn hold(&mut self, name: &str, bytes: &[u8]) -> Result<(), NoMemory>
+        ensures ok { OnOk result (Sets self.old.names self.new.names name.now bytes.now) }
+        ensures rest { self.new ≡ record self.old { names = self.new.names } }
+        ensures err { OnErr result (self.new ≡ self.old) }
+    {
+        self.names.hold(name, bytes)
+    }
+
+    /// Lets the fetch of this number fail. The first fetch has number 1.
+    pub fn fail(&mut self, fetch: u64) -> Result<(), NoMemory>
+        ensures ok { OnOk result (self.new ≡ record self.old { failing = self.old.failing ++ fetch ∷ [] }) }
+        ensures err { OnErr result (self.new ≡ self.old) }
+    {
+        self.failing.push(fetch)?;
+        Ok(())
+    }
+
+    // Notes that a fetch of this name failed.
+    fn note(&mut self, name: &str) -> Result<(), NoMemory>
+        ensures ok { OnOk result (self.new ≡ record self.old { failed = self.old.failed ++ name.now ∷ [] }) }
+        ensures err { OnErr result (self.new ≡ self.old) }
+    {
+        let noted = String::from_str(self.alloc, name)?;
+        self.failed.push(noted)?;
+        Ok(())
+    }
+}
+
+impl Source for MemorySource {
+    ghost use Rattle.rr_io.specs.Names.{bytes_at};
+
+    ghost held = { λ s. bytes_at s.names };
+
+    ghost failed = { λ s. s.failed };
+
+    fn fetch(&mut self, alloc: Global, name: &str) -> Result<Vec<u8>, FetchError>
+        ensures bytes { IfOk result (λ v. IfSome (bytes_at self.old.names name.now) (λ bytes. v.items ≡ take (MAX_INPUT + 1) bytes)) }
+        ensures fails { FailsExactly result (IsToFail self.old (next_number self.old.fetches) name.now) }
+        ensures rest { self.new ≡ record self.old { fetches = next_number self.old.fetches; failed = failed_after result name.now self.old.failed } }
+    {
+        self.fetches = self.fetches.saturating_add(1);
+        if self.failing.contains(&self.fetches) {
+            self.note(name)?;
+            return Err(FetchError::Failed);
+        }
+        let Some(bytes) = self.names.get(name) else {
+            self.note(name)?;
+            return Err(FetchError::Failed);
+        };
+        Ok(front(alloc, bytes)?)
+    }
+}
+
+// How many bytes the put of this number appends before it fails, where it is to fail.
+fn listed(failing: &[(u64, usize)], put: u64) -> Option<usize>
+    ensures { result ≡ first_of failing.now put }
+{
+    for &(number, first) in failing {
+        if number == put {
+            return Some(first);
+        }
+    }
+    None
+}
+
+impl MemorySink {
+    /// No bytes and no listed failures.
+    pub fn new(alloc: Global) -> Self
+        ensures { result ≡ record { bytes = []; failing = []; puts = 0; faults = 0 } }
+    {
+        MemorySink {
+            bytes: Vec::new(alloc),
+            failing: Vec::new(alloc),
+            puts: 0,
+            faults: 0,
+        }
+    }
+
+    /// Lets the put of this number fail once it has appended its first bytes, as many as `first`, or all where it has fewer.
+    ///
+    /// The first put has number 1. Where one put is listed twice, the earlier entry counts.
+    pub fn fail(&mut self, put: u64, first: usize) -> Result<(), NoMemory>
+        ensures ok { OnOk result (self.new ≡ record self.old { failing = self.old.failing ++ (put, first) ∷ [] }) }
+        ensures err { OnErr result (self.new ≡ self.old) }
+    {
+        self.failing.push((put, first))?;
+        Ok(())
+    }
+
+    /// All the bytes that were appended.
+    pub fn bytes(&self) -> &[u8]
+        ensures { result.now ≡ self.now.bytes }
+    {
+        &self.bytes
+    }
+}
+
+impl Sink for MemorySink {
+    ghost use Rattle.std.specs.Prelude.{Some};
+
+    ghost written = { λ s. Some s.bytes };
+
+    ghost faults = { λ s. s.faults };
+
+    fn put(&mut self, bytes: &[u8]) -> Result<(), PutError>
+        ensures puts { PutsAs (first_of self.old.failing (next_number self.old.puts)) result bytes.now self.old.bytes self.new.bytes }
+        ensures rest { self.new ≡ record self.old { bytes = self.new.bytes; puts = next_number self.old.puts; faults = faults_after result self.old.faults } }
+    {
+        self.puts = self.puts.saturating_add(1);
+        match listed(&self.failing, self.puts) {
+            None => {
+                self.bytes.extend_from_slice(bytes)?;
+                Ok(())
+            }
+            Some(first) => {
+                self.bytes
+                    .extend_from_slice(&bytes[..first.min(bytes.len())])?;
+                self.faults = self.faults.saturating_add(1);
+                Err(PutError::Failed)
+            }
+        }
+    }
+}

@@ -1,0 +1,41 @@
+// Where the output goes.
+ghost use Rattle.std.specs.Prelude.{ℕ, List, Option};
+
+use std::alloc::AllocError;
+
+/// Why a put did not append all its bytes.
+#[derive(Clone, Copy, Debug, PartialEq, Eq)]
+pub enum PutError {
+    /// The sink has failed and counted it. It may have taken a first part of the bytes.
+    Failed,
+    /// Memory was wanting, and nothing was appended.
+    NoMemory,
+}
+
+impl From<AllocError> for PutError {
+    ghost use Rattle.std.specs.Prelude.{◌≡◌};
+    ghost use Rattle.rr_io.specs.declared.sink.PutError.TheVariants.{NoMemory};
+
+    ghost from_gives = { λ _ e. e ≡ NoMemory };
+
+    fn from(_error: AllocError) -> Self {
+        PutError::NoMemory
+    }
+}
+
+/// Takes bytes, one behind the other.
+pub trait Sink {
+    ghost use Rattle.rr_io.specs.Outside.{IsPut};
+
+    /// The bytes so far, where the sink tells them.
+    ghost written: { Self → Option (List ℕ) };
+
+    /// How often a put has failed. It never falls, and stays at the last value of a `u64`.
+    ghost faults: { Self → ℕ };
+
+    /// Appends the bytes.
+    ///
+    /// `Failed` comes only with a rise of `faults`, and then a first part of the bytes may stand in the sink.
+    fn put(&mut self, bytes: &[u8]) -> Result<(), PutError>
+        ensures { IsPut result bytes.now (written self.old) (written self.new) (faults self.old) (faults self.new) };
+}

@@ -1,0 +1,66 @@
+// Where operands come from.
+ghost use Rattle.std.specs.Prelude.{◌≡◌, ◌+◌, ℕ, List, Option, take, IfOk, IfSome};
+
+use rr_model::{MAX_INPUT, NoMemory};
+use std::alloc::{AllocError, AllocFailed, Global};
+
+/// Why a fetch gives no bytes.
+#[derive(Clone, Copy, Debug, PartialEq, Eq)]
+pub enum FetchError {
+    /// The bytes could not be had, and the source has noted the name.
+    Failed,
+    /// Memory was wanting.
+    NoMemory,
+}
+
+impl From<AllocError> for FetchError {
+    ghost use Rattle.std.specs.Prelude.{◌≡◌};
+    ghost use Rattle.rr_io.specs.declared.source.FetchError.TheVariants.{NoMemory};
+
+    ghost from_gives = { λ _ e. e ≡ NoMemory };
+
+    fn from(_error: AllocError) -> Self {
+        FetchError::NoMemory
+    }
+}
+
+impl<T: Drop> From<AllocFailed<T>> for FetchError {
+    ghost use Rattle.std.specs.Prelude.{◌≡◌};
+    ghost use Rattle.rr_io.specs.declared.source.FetchError.TheVariants.{NoMemory};
+
+    ghost from_gives = { λ _ e. e ≡ NoMemory };
+
+    fn from(_error: AllocFailed<T>) -> Self {
+        FetchError::NoMemory
+    }
+}
+
+impl From<NoMemory> for FetchError {
+    ghost use Rattle.std.specs.Prelude.{◌≡◌};
+    ghost use Rattle.rr_io.specs.declared.source.FetchError.TheVariants.{NoMemory};
+
+    ghost from_gives = { λ _ e. e ≡ NoMemory };
+
+    fn from(_error: NoMemory) -> Self {
+        FetchError::NoMemory
+    }
+}
+
+/// Named bytes that can be fetched.
+pub trait Source {
+    ghost use Rattle.rr_io.specs.Outside.{KeepsHeld, failed_after};
+
+    /// The bytes under a name, where the source tells them.
+    ghost held: { Self → List ℕ → Option (List ℕ) };
+
+    /// The names whose fetch has failed, in order.
+    ghost failed: { Self → List (List ℕ) };
+
+    /// The bytes under a name, cut behind `MAX_INPUT + 1` bytes: who gets so many knows that there are too many.
+    ///
+    /// `Failed` comes only with the name at the end of those that have failed. `NoMemory` leaves these names as they were.
+    fn fetch(&mut self, alloc: Global, name: &str) -> Result<Vec<u8>, FetchError>
+        ensures bytes { IfOk result (λ v. IfSome (held self.old name.now) (λ bytes. v.items ≡ take (MAX_INPUT + 1) bytes)) }
+        ensures failed { failed self.new ≡ failed_after result name.now (failed self.old) }
+        ensures held { KeepsHeld (held self.old) (held self.new) };
+}

@@ -1,0 +1,123 @@
+// A source and a sink in memory that never fail.
+ghost use Rattle.std.specs.Prelude.{◌≡◌, ◌++◌, ◌+◌, [], Some, take, unwrap_or, OnOk, OnErr, IfOk, IsErrOf};
+ghost use Rattle.rr_io.specs.Names.{bytes_at, Sets};
+ghost use Rattle.rr_io.specs.Outside.{IsPut};
+
+use crate::names::Names;
+use crate::{FetchError, PutError, Sink, Source};
+use rr_model::{MAX_INPUT, NoMemory};
+use std::alloc::{AllocError, Global};
+use std::marker::Model;
+
+/// Names with bytes, of which no fetch fails. A name that is not there has no bytes.
+#[derive(Drop)]
+pub struct SteadySource {
+    names: Names,
+}
+
+impl Model for SteadySource {
+    ghost use Rattle.std.specs.Prelude.{ℕ, List};
+
+    ghost Value = { List (List ℕ × List ℕ) };
+
+    ghost view = { λ s. s.names };
+}
+
+/// Bytes, to which no put fails.
+#[derive(Drop)]
+pub struct SteadySink {
+    bytes: Vec<u8>,
+}
+
+impl Model for SteadySink {
+    ghost use Rattle.std.specs.Prelude.{ℕ, List};
+
+    ghost Value = { List ℕ };
+
+    ghost view = { λ s. s.bytes.items };
+}
+
+// A copy of the bytes, cut behind `MAX_INPUT + 1`.
+pub fn front(alloc: Global, bytes: &[u8]) -> Result<Vec<u8>, AllocError>
+    ensures { IfOk result (λ v. v.items ≡ take (MAX_INPUT + 1) bytes.now) }
+{
+    if bytes.len() > MAX_INPUT {
+        bytes[..MAX_INPUT + 1].to_vec(alloc)
+    } else {
+        bytes.to_vec(alloc)
+    }
+}
+
+impl SteadySource {
+    /// No names.
+    pub fn new(alloc: Global) -> Self
+        ensures { result ≡ [] }
+    {
+        SteadySource {
+            names: Names::new(alloc),
+        }
+    }
+
+    /// Puts these bytes under the name, in place of those that it had. Every other name keeps its own.
+    pub fn hold(&mut self, name: &str, bytes: &[u8]) -> Result<(), NoMemory>
+        ensures ok { OnOk result (Sets self.old self.new name.now bytes.now) }
+        ensures err { OnErr result (self.new ≡ self.old) }
+    {
+        self.names.hold(name, bytes)
+    }
+}
+
+impl Source for SteadySource {
+    ghost use Rattle.std.specs.Prelude.{[], Some, unwrap_or};
+    ghost use Rattle.rr_io.specs.Names.{bytes_at};
+
+    ghost held = { λ s name. Some (unwrap_or (bytes_at s name) []) };
+
+    ghost failed = { λ _. [] };
+
+    fn fetch(&mut self, alloc: Global, name: &str) -> Result<Vec<u8>, FetchError>
+        ensures bytes { IfOk result (λ v. v.items ≡ take (MAX_INPUT + 1) (unwrap_or (bytes_at self.old name.now) [])) }
+        ensures steady { IsErrOf result FetchError.Failed → ⊥ }
+        ensures same { self.new ≡ self.old }
+    {
+        match self.names.get(name) {
+            None => Ok(Vec::new(alloc)),
+            Some(bytes) => Ok(front(alloc, bytes)?),
+        }
+    }
+}
+
+impl SteadySink {
+    /// No bytes.
+    pub fn new(alloc: Global) -> Self
+        ensures { result ≡ [] }
+    {
+        SteadySink {
+            bytes: Vec::new(alloc),
+        }
+    }
+
+    /// All the bytes that were put.
+    pub fn bytes(&self) -> &[u8]
+        ensures { result.now ≡ self.now }
+    {
+        &self.bytes
+    }
+}
+
+impl Sink for SteadySink {
+    ghost use Rattle.std.specs.Prelude.{Some};
+
+    ghost written = { λ s. Some s };
+
+    ghost faults = { λ _. 0 };
+
+    fn put(&mut self, bytes: &[u8]) -> Result<(), PutError>
+        ensures ok { OnOk result (self.new ≡ self.old ++ bytes.now) }
+        ensures err { OnErr result (self.new ≡ self.old) }
+        ensures steady { IsErrOf result PutError.Failed → ⊥ }
+    {
+        self.bytes.extend_from_slice(bytes)?;
+        Ok(())
+    }
+}

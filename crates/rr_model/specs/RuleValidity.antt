@@ -1,0 +1,136 @@
+-- Which rules and series are valid (RFC 5545, section 3.3.10).
+use Rattle.std.specs.Prelude.{◌≡◌, ℕ, ◌+◌, ◌<◌, ◌≤◌, Bool, true, false, not, ◌&&◌, ◌||◌, IsTrue, ⊤, List, [], ◌∷◌, length, All, ℤ, pos, nat_abs, ◌≤ℤ◌, ◌<ℤ◌}
+use Rattle.std.specs.List.{list_any}
+use Rattle.std.specs.Ordering.{int_eq}
+use Rattle.rr_model.specs.Calendar.{first_day_of_year}
+use Rattle.rr_model.specs.Moment.{day_part}
+use Rattle.rr_model.specs.declared.kind.Kind.{Kind}
+use Rattle.rr_model.specs.declared.kind.Kind.TheVariants.{Days}
+use Rattle.rr_model.specs.declared.rule.Freq.{Freq}
+use Rattle.rr_model.specs.declared.rule.Freq.TheVariants.{Secondly, Minutely, Hourly, Daily, Weekly, Monthly, Yearly}
+use Rattle.rr_model.specs.declared.rule.End.{End}
+use Rattle.rr_model.specs.declared.rule.End.TheVariants.{Until, Count, Both}
+use Rattle.rr_model.specs.declared.rule.DayItem.{DayItem}
+use Rattle.rr_model.specs.declared.rule.Rule.{Rule}
+use Rattle.rr_model.specs.declared.rule.Series.{Series}
+
+-- ---- numbers of the parts
+
+-- each number lies from low up to high
+abbrev pub LieFrom : ℕ → ℕ → List ℤ → Type 0
+LieFrom low high numbers = All (λ n. (pos low ≤ℤ n) × (n ≤ℤ pos high)) numbers
+
+-- each number counts from 1 up to the most: from the front, or from the back where it is negative
+abbrev pub CountUpTo : ℕ → List ℤ → Type 0
+CountUpTo most numbers = All (λ n. (1 ≤ nat_abs n) × (nat_abs n ≤ most)) numbers
+
+-- a weekday, and which of them from the front or from the back; 0 for each
+abbrev pub IsDayItem : DayItem → Type 0
+IsDayItem item = (nat_abs item.place ≤ 53) × (item.weekday < 7)
+
+-- a COUNT is at least 1
+abbrev pub CountsSome : End → Type 0
+CountsSome (Count n) = 1 ≤ n
+CountsSome (Both kind at n) = 1 ≤ n
+CountsSome end = ⊤
+
+-- ---- parts that may stand together
+
+-- the part does not stand
+abbrev pub is_absent : {X : Type 0} → List X → Bool
+is_absent [] = true
+is_absent (x ∷ xs) = false
+
+-- BYYEARDAY may not stand with DAILY, WEEKLY or MONTHLY
+abbrev pub takes_year_days : Freq → Bool
+takes_year_days Daily = false
+takes_year_days Weekly = false
+takes_year_days Monthly = false
+takes_year_days freq = true
+
+-- BYMONTHDAY may not stand with WEEKLY
+abbrev pub takes_month_days : Freq → Bool
+takes_month_days Weekly = false
+takes_month_days freq = true
+
+-- BYWEEKNO may stand with YEARLY alone
+abbrev pub takes_week_numbers : Freq → Bool
+takes_week_numbers Yearly = true
+takes_week_numbers freq = false
+
+-- a number in BYDAY may stand with MONTHLY, and with YEARLY where BYWEEKNO is absent
+abbrev pub takes_places : Freq → Bool → Bool
+takes_places Monthly no_weeks = true
+takes_places Yearly no_weeks = no_weeks
+takes_places freq no_weeks = false
+
+-- some value of BYDAY has a number
+abbrev pub has_place : List DayItem → Bool
+has_place items = list_any (λ item. not (int_eq item.place (pos 0))) items
+
+-- a part stands that BYSETPOS may choose from
+abbrev pub has_part : Rule → Bool
+has_part rule =
+    not (is_absent rule.by_month && is_absent rule.by_week_no && is_absent rule.by_year_day && is_absent rule.by_month_day && is_absent rule.by_day
+    && is_absent rule.by_hour && is_absent rule.by_minute && is_absent rule.by_second)
+
+-- the rule has no two parts that may not stand together
+abbrev pub is_allowed : Rule → Bool
+is_allowed rule =
+    (takes_year_days rule.freq || is_absent rule.by_year_day)
+    && (takes_month_days rule.freq || is_absent rule.by_month_day)
+    && (takes_week_numbers rule.freq || is_absent rule.by_week_no)
+    && (takes_places rule.freq (is_absent rule.by_week_no) || not (has_place rule.by_day))
+    && (has_part rule || is_absent rule.by_set_pos)
+
+-- a date as the start takes no frequency finer than DAILY
+abbrev pub takes_start : Freq → Kind → Bool
+takes_start Secondly Days = false
+takes_start Minutely Days = false
+takes_start Hourly Days = false
+takes_start freq kind = true
+
+-- ---- rules and series
+
+-- the rule's numbers lie in their ranges, and its parts may stand together
+pub record IsValidRule (kind : Kind) (rule : Rule) : Type 0 where
+  pub interval_low : 1 ≤ rule.interval
+  pub interval_high : rule.interval ≤ 4_294_967_295
+  pub months : LieFrom 1 12 rule.by_month
+  pub week_numbers : CountUpTo 53 rule.by_week_no
+  pub year_days : CountUpTo 366 rule.by_year_day
+  pub month_days : CountUpTo 31 rule.by_month_day
+  pub days : All IsDayItem rule.by_day
+  pub hours : LieFrom 0 23 rule.by_hour
+  pub minutes : LieFrom 0 59 rule.by_minute
+  pub seconds : LieFrom 0 59 rule.by_second
+  pub set_positions : CountUpTo 366 rule.by_set_pos
+  pub week_start : rule.week_start < 7
+  pub count : CountsSome rule.end
+  pub parts : IsTrue (is_allowed rule)
+  pub start : IsTrue (takes_start rule.freq kind)
+
+-- the moment lies in the years 1 to 9999
+abbrev pub IsInYears : Kind → ℤ → Type 0
+IsInYears kind t = (first_day_of_year (pos 1) ≤ℤ day_part kind t) × (day_part kind t <ℤ first_day_of_year (pos 10_000))
+
+-- an UNTIL lies in the years 1 to 9999
+abbrev pub EndsInYears : End → Type 0
+EndsInYears (Until kind at) = IsInYears kind at
+EndsInYears (Both kind at n) = IsInYears kind at
+EndsInYears end = ⊤
+
+-- nothing occurs in it
+abbrev pub IsEmptySeries : Series → Type 0
+IsEmptySeries series = (series.kind ≡ Days) × (series.start ≡ pos 0) × (series.rules ≡ []) × (series.plus ≡ []) × (series.minus ≡ [])
+
+-- the series' rules are valid beside its start, and its moments lie in the years 1 to 9999
+pub record IsValidSeries (series : Series) : Type 0 where
+  pub start : IsInYears series.kind series.start
+  pub start_counts : series.start_counts ≡ false → IsEmptySeries series
+  pub rules : All (IsValidRule series.kind) series.rules
+  pub few_rules : length series.rules ≤ 16
+  pub ends : All (λ rule. EndsInYears rule.end) series.rules
+  pub plus : All (IsInYears series.kind) series.plus
+  pub minus : All (IsInYears series.kind) series.minus
+  pub few_dates : length series.plus + length series.minus ≤ 10_000
