@@ -10,7 +10,6 @@ pub mod VerdictLemmas
 pub mod WholeLemmas
 mod ReadsExamples
 pub mod DailyLemmas
-mod MomentTextExamples
 pub mod AnswerLemmas
 pub mod DivisorLemmas
 mod RuleExamples

@@ -1,0 +1,5 @@
+//! Reads the text of a recurrence rule (RFC 5545, section 3.3.10).
+#![tactic(auto)]
+
+mod values;
+mod words;
