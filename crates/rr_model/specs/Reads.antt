@@ -1,6 +1,6 @@
 -- What a text of a start and a rule states, or the first refusal (RFC 5545, sections 3.3.10 and 3.8.5.3).
-use Rattle.std.specs.Prelude.{ℕ, ◌+◌, ◌-◌, ◌==◌, nat_lt, nat_le, Bool, true, false, not, ◌&&◌, ◌||◌, if◌then◌else◌, List, [], ◌∷◌, length, take, drop, codes, Option, None, Some, ok_or, unwrap_or, option_map, option_and_then, position, Result, Ok, Err, IsTrue}
-use Rattle.std.specs.List.{list_all, prefix_len, suffix_len}
+use Rattle.std.specs.Prelude.{ℕ, ◌+◌, ◌-◌, ◌==◌, nat_lt, nat_le, Bool, true, false, not, ◌&&◌, ◌||◌, if◌then◌else◌, List, [], ◌∷◌, reverse, length, take, drop, codes, Option, None, Some, ok_or, unwrap_or, option_map, option_and_then, position, Result, Ok, Err, IsTrue}
+use Rattle.std.specs.List.{list_all, take_while}
 use Rattle.std.specs.Option.{is_some}
 use Rattle.std.specs.Str.{bytes_eq, str_to_ascii_uppercase}
 use Rattle.rr_model.specs.MomentText.{basic}
@@ -170,10 +170,10 @@ abbrev pub is_blank : ℕ → Bool
 is_blank b = (b == 32) || (b == 9)
 
 abbrev pub without_blanks_before : List ℕ → List ℕ
-without_blanks_before text = drop (prefix_len is_blank text) text
+without_blanks_before text = drop (length (take_while is_blank text)) text
 
 abbrev pub without_blanks_behind : List ℕ → List ℕ
-without_blanks_behind text = take (length text - suffix_len is_blank text) text
+without_blanks_behind text = take (length text - length (take_while is_blank (reverse text))) text
 
 unfoldable pub line_value : List ℕ → List ℕ
 line_value text = without_blanks_behind (without_blanks_before (str_to_ascii_uppercase text))
