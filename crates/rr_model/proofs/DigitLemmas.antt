@@ -1,13 +1,15 @@
 -- Decimal digits and the numbers that they write.
 use Rattle.std.proofs.Common.{◌≡◌, ℕ, ◌+◌, ◌-◌, ◌*◌, ◌^◌, ◌<◌, ◌≤◌, true, List, [], ◌∷◌, length, get_or, take, ap, ◌∙◌, arith}
 use Rattle.std.specs.Char.{digit_value}
-use Rattle.std.specs.List.{AllPass, list_all}
+use Rattle.std.specs.List.{AllPass, list_all, prefix_len}
 use Rattle.std.specs.Str.Parse.{AllDigits}
 use Rattle.std.proofs.lemmas.Bool.Decides.{nat_tests}
 use Rattle.std.proofs.lemmas.Int.Digits.{digits_value_more, digits_value-lt}
-use Rattle.std.proofs.lemmas.List.Sums.{AllPass-from_list_all}
+use Rattle.std.proofs.lemmas.List.{get_or-take}
+use Rattle.std.proofs.lemmas.List.Folds.{length-prefix_len}
+use Rattle.std.proofs.lemmas.List.Sums.{prefix_len_passes}
 use Rattle.std.proofs.lemmas.Str.Parse.{digits_value-take-le}
-use Rattle.rr_model.specs.Digits.{is_digit, digits_value}
+use Rattle.rr_model.specs.Digits.{is_digit, digits_value, leading_digits}
 
 pub is_digit_bounds : (b : ℕ) → is_digit b ≡ true → (48 ≤ b) × (b ≤ 57)
 is_digit_bounds b h = grind (arith, nat_tests)
@@ -30,3 +32,8 @@ all_digits (b ∷ bs) h = grind (arith, nat_tests, digit_value-digit b, all_digi
 -- n digits write a number below the n-th power of ten
 pub digits_value_below : (bs : List ℕ) → list_all is_digit bs ≡ true → digits_value bs < 10 ^ length bs
 digits_value_below bs h = digits_value-lt 10 bs (all_digits bs h)
+
+pub AllPass-leading_digits : (bs : List ℕ) → AllPass is_digit (leading_digits bs)
+AllPass-leading_digits bs = λ k d h.
+    let inside : k < prefix_len is_digit bs = omega (arith, length-prefix_len is_digit bs) in
+    ap is_digit (get_or-take (prefix_len is_digit bs) bs k d inside) ∙ prefix_len_passes is_digit bs k d inside

@@ -13,3 +13,4 @@ pub mod DailyLemmas
 pub mod AnswerLemmas
 pub mod DivisorLemmas
 mod RuleExamples
+pub mod MomentTextLemmas

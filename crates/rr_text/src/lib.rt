@@ -2,8 +2,10 @@
 #![tactic(auto)]
 
 mod digits;
+mod moment;
 mod print;
 
 pub use digits::{Digits, number};
-pub use print::push_number;
+pub use moment::basic;
+pub use print::{push_extended, push_number};
 pub use rr_model::Stamp;
