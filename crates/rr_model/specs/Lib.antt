@@ -15,3 +15,4 @@ pub mod Command
 pub mod Answer
 pub mod RuleValidity
 pub mod Cycle
+pub mod Answers

@@ -1,5 +1,5 @@
 -- Numbers, weekdays and lists of a rule's text (RFC 5545, section 3.3.10). Letters are capitals.
-use Rattle.std.specs.Prelude.{ℕ, ◌-◌, ◌==◌, nat_le, Bool, true, false, ◌&&◌, ◌||◌, if◌then◌else◌, ℤ, pos, nat_abs, List, [], ◌∷◌, length, take, drop, codes, Option, None, Some, ok_or, Result, Ok, Err, int_lt}
+use Rattle.std.specs.Prelude.{ℕ, ◌-◌, ◌==◌, nat_le, nat_lt, Bool, true, false, ◌&&◌, ◌||◌, if◌then◌else◌, ℤ, pos, nat_abs, List, [], ◌∷◌, length, take, drop, codes, Option, None, Some, ok_or, Result, Ok, Err, int_lt}
 use Rattle.std.specs.List.{list_all, slice_split}
 use Rattle.std.specs.Option.{is_some}
 use Rattle.std.specs.Str.{bytes_eq}
@@ -44,18 +44,18 @@ weekday_named text = in_table
 
 -- one or more digits
 abbrev pub is_number : List ℕ → Bool
-is_number [] = false
-is_number (b ∷ bs) = list_all is_digit (b ∷ bs)
+is_number text = nat_lt 0 (length text) && list_all is_digit text
 
 -- a number, with or without a `+` or a `-` before it
 abbrev pub is_signed_number : List ℕ → Bool
 is_signed_number text = is_number (without_leading_sign text)
 
--- a number from 1 up to `most`
+-- n, where it is from 1 up to `most`
+abbrev pub up_to : ℕ → ℕ → ℕ → Result ℕ Refusal
+up_to line most n = if nat_le 1 n && nat_le n most then Ok n else Err (NumberRange line)
+
 unfoldable pub number_up_to : ℕ → ℕ → List ℕ → Result ℕ Refusal
-number_up_to line most text =
-    if is_number text then (if nat_le 1 (digits_value text) && nat_le (digits_value text) most then Ok (digits_value text) else Err (NumberRange line))
-    else Err (BadRule line)
+number_up_to line most text = if is_number text then up_to line most (digits_value text) else Err (BadRule line)
 
 -- ---- lists
 
@@ -86,12 +86,19 @@ seconds = record { signed = false; least = 0; most = 59; has_leap = true }
 abbrev pub has_number_form : NumberBounds → List ℕ → Bool
 has_number_form bounds text = if bounds.signed then is_signed_number text else is_number text
 
--- the number of a text, where it is within the bounds
+-- the number without its sign
+abbrev pub size_of : List ℕ → ℕ
+size_of text = digits_value (without_leading_sign text)
+
+-- why a number outside its bounds is refused
+abbrev pub outside : ℕ → NumberBounds → ℕ → Refusal
+outside line bounds size = if bounds.has_leap && (size == 60) then LeapSecond else NumberRange line
+
+-- a number of the form and within the bounds
 unfoldable pub number_within : ℕ → NumberBounds → List ℕ → Result ℤ Refusal
 number_within line bounds text =
-    if nat_le bounds.least (nat_abs (signed_digits_value 10 text)) && nat_le (nat_abs (signed_digits_value 10 text)) bounds.most
-    then Ok (signed_digits_value 10 text)
-    else (if bounds.has_leap && (nat_abs (signed_digits_value 10 text) == 60) then Err LeapSecond else Err (NumberRange line))
+    if has_number_form bounds text then (if nat_le bounds.least (size_of text) && nat_le (size_of text) bounds.most then Ok (signed_digits_value 10 text) else Err (outside line bounds (size_of text)))
+    else Err (BadRule line)
 
 unfoldable pub numbers_of : ℕ → NumberBounds → List ℕ → Result (List ℤ) Refusal
 numbers_of line bounds text = list_of line (has_number_form bounds) int_lt (number_within line bounds) text

@@ -3,3 +3,6 @@
 
 mod values;
 mod words;
+mod numbers;
+mod lists;
+mod parts;
