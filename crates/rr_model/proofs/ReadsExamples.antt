@@ -4,7 +4,7 @@ use Rattle.std.specs.Prelude.{codes, Ok, Err}
 use Rattle.rr_model.specs.Calendar.{day_number, first_day_of_year, days_of_months}
 use Rattle.rr_model.specs.MomentText.{is_digits, number_at, basic, basic_date, basic_time, basic_moment}
 use Rattle.rr_model.specs.RuleText.{freq_named, weekday_named, number_up_to, number_within, numbers_of, day_item_within, day_items_of}
-use Rattle.rr_model.specs.Reads.{part_named, name_of, with_part, parts_of, rule_of, series_with, line_value, first_line, values_of, reads, is_plain_text}
+use Rattle.rr_model.specs.Reads.{part_named, name_of, with_part, parts_of, rule_of, series_with, start_of, rule_parts, line_value, first_line, values_of, reads, is_plain_text}
 use Rattle.rr_model.specs.declared.kind.Kind.{Kind}
 use Rattle.rr_model.specs.declared.kind.Kind.TheVariants.{Days, Moments}
 use Rattle.rr_model.specs.declared.refusal.Refusal.{Refusal}
@@ -46,7 +46,7 @@ read_values :
     × (reads (text (codes "19700101T000001") (codes "COUNT=18446744073709551615;BYDAY=+1mo,FR,-53SU;FREQ=MONTHLY")) ≡ Ok (series_of Moments (pos 1) (rule_alone Monthly 1 [] (record { place = neg_ℤ (pos 53); weekday = 6 } ∷ record { place = pos 0; weekday = 4 } ∷ record { place = pos 1; weekday = 0 } ∷ []) (Count 18_446_744_073_709_551_615))))
     × (reads (text (codes "19700101") (codes "FREQ=DAILY;UNTIL=19700102T000000Z")) ≡ Ok (series_of Days (pos 0) (rule_alone Daily 1 [] [] (Until Moments (pos 86_400)))))
     × (reads (text (codes "19700101T000000Z") (codes "FREQ=DAILY;UNTIL=19700102T000000")) ≡ Ok (series_of Moments (pos 0) (rule_alone Daily 1 [] [] (Until Moments (pos 86_400)))))
-unfolding day_number first_day_of_year days_of_months is_digits number_at basic basic_date basic_time basic_moment freq_named weekday_named number_up_to number_within numbers_of day_item_within day_items_of part_named name_of with_part parts_of rule_of series_with line_value first_line values_of reads
+unfolding day_number first_day_of_year days_of_months is_digits number_at basic basic_date basic_time basic_moment freq_named weekday_named number_up_to number_within numbers_of day_item_within day_items_of part_named name_of with_part parts_of rule_of series_with start_of rule_parts line_value first_line values_of reads
 read_values = (refl, refl, refl, refl, refl)
 
 abbrev refused : List ℕ → Refusal → Type 0
@@ -81,7 +81,7 @@ refusals :
     × refused (codes "FREQ=DAILY;BYYEARDAY=1") NotAllowed
     × refused (codes "FREQ=HOURLY;UNTIL=20240101T000000Z") NotAllowed
     × (reads (text (codes "20240101T000000") (codes "FREQ=HOURLY;UNTIL=20240101T000000Z")) ≡ Err UtcMoment)
-unfolding day_number first_day_of_year days_of_months is_digits number_at basic basic_date basic_time basic_moment freq_named weekday_named number_up_to number_within numbers_of day_item_within day_items_of part_named name_of with_part parts_of rule_of series_with line_value first_line values_of reads
+unfolding day_number first_day_of_year days_of_months is_digits number_at basic basic_date basic_time basic_moment freq_named weekday_named number_up_to number_within numbers_of day_item_within day_items_of part_named name_of with_part parts_of rule_of series_with start_of rule_parts line_value first_line values_of reads
 refusals = (refl, refl, refl, refl, refl, refl, refl, refl, refl, refl, refl, refl, refl, refl, refl, refl, refl, refl, refl, refl, refl, refl, refl, refl, refl, refl, refl, refl)
 
 plain :

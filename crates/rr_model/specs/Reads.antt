@@ -158,12 +158,15 @@ abbrev pub needs_offset : Stamp → Option Stamp → Bool
 needs_offset start None = false
 needs_offset start (Some until) = until.utc && not start.utc && has_time start.kind
 
--- the rule beside its start
+-- the series of a start and one rule
+abbrev pub series_of : Stamp → Rule → Series
+series_of start rule = record { kind = start.kind; start = start.at; start_counts = true; rules = rule ∷ []; plus = []; minus = [] }
+
+-- the same, judged beside each other
 unfoldable pub series_with : Stamp → Option Stamp → Rule → Result Series Refusal
 series_with start until rule =
     if needs_offset start until then Err UtcMoment
-    else (if takes_start rule.freq start.kind then Ok (record { kind = start.kind; start = start.at; start_counts = true; rules = rule ∷ []; plus = []; minus = [] })
-    else Err NotAllowed)
+    else (if takes_start rule.freq start.kind then Ok (series_of start rule) else Err NotAllowed)
 
 -- the value of a line: in capitals, without the blanks and tabs around it
 abbrev pub is_blank : ℕ → Bool
@@ -192,11 +195,17 @@ values_of bytes =
     option_and_then (λ start. option_and_then (λ rule. if length rule.1 == 0 then Some (start.0, rule.0) else None)
     (first_line (codes "RRULE:") start.1)) (first_line (codes "DTSTART:") bytes)
 
+unfoldable pub start_of : ℕ → List ℕ → Result Stamp Refusal
+start_of line text = ok_or (basic (line_value text)) (BadMoment line)
+
+unfoldable pub rule_parts : ℕ → List ℕ → Result RuleParts Refusal
+rule_parts line text = parts_of line (line_value text)
+
 -- the series of the two values
 abbrev pub reads_values : List ℕ → List ℕ → Result Series Refusal
 reads_values start rule = do
-  stamp ← ok_or (basic (line_value start)) (BadMoment 1)
-  parts ← parts_of 2 (line_value rule)
+  stamp ← start_of 1 start
+  parts ← rule_parts 2 rule
   known ← rule_of 2 parts
   series_with stamp parts.until known
 

@@ -1,4 +1,4 @@
-use Rattle.std.proofs.Common.{◌≡◌, ℕ, ◌+◌, List, take, drop, option_map, ap}
+use Rattle.std.proofs.Common.{ℕ, ◌+◌, take, drop, option_map, ap}
 use Rattle.std.proofs.lemmas.List.{take_rest}
 use Rattle.rr_rrule.proofs.values.cut.Goals as goal
 
