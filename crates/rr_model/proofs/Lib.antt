@@ -25,6 +25,9 @@ pub mod ShiftLemmas
 pub mod WeekShiftLemmas
 pub mod PartLemmas
 pub mod UnitLemmas
+mod ReadsExamples
+pub mod DailyLemmas
+pub mod AnswerLemmas
 pub mod DivisorLemmas
 mod RuleExamples
 pub mod RuleCycleLemmas
