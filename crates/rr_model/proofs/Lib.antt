@@ -3,6 +3,7 @@ pub mod CalendarLawProofs
 pub mod CalendarLemmas
 pub mod CycleLemmas
 pub mod FloorLemmas
+pub mod NearLemmas
 pub mod PeriodicLemmas
 pub mod RisingLemmas
 pub mod VerdictLemmas

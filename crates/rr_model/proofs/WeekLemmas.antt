@@ -1,7 +1,7 @@
 -- Weeks and their years: the week of 28 December is the year's last.
 use Rattle.std.proofs.Common.{◌≡◌, ℕ, ◌+◌, ◌/◌, ◌≤◌, ℤ, pos, nat_abs, unsigned_abs, ◌+ℤ◌, ◌-ℤ◌, ◌*ℤ◌, ◌≤ℤ◌, ◌<ℤ◌, refl, ap, arith}
 use Rattle.std.proofs.lemmas.Int.{ints}
-use Rattle.rr_model.specs.Calendar.{first_day_of_year, day_number, days_into_year}
+use Rattle.rr_model.specs.Calendar.{first_day_of_year, day_number, days_into_year, IsDate}
 use Rattle.rr_model.specs.Week.{week_index, fourth_day, week_year, week_number, last_week}
 use Rattle.rr_model.specs.CalendarLaws.{IsLastWeek}
 use Rattle.rr_model.proofs.WholeLemmas.{floor_only, floor_whole, floor_mod_below}
@@ -26,6 +26,12 @@ week_index_is d i w before after =
     (floor_only ((d +ℤ pos 3) -ℤ pos w) i 7 r (omega (arith, ints)) (omega (arith, ints))).0
 
 -- ---- the last week of a year
+
+pub IsDate-january_1 : (y : ℤ) → IsDate y 1 1
+IsDate-january_1 y = (omega arith, omega arith, omega arith, omega arith)
+
+pub IsDate-december_28 : (y : ℤ) → IsDate y 12 28
+IsDate-december_28 y = (omega arith, omega arith, omega arith, omega arith)
 
 pub day_number-january_1 : (y : ℤ) → day_number y 1 1 ≡ first_day_of_year y
 unfolding day_number

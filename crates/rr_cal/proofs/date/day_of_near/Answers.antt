@@ -5,7 +5,7 @@ use Rattle.jiff_core.proofs.SignedLemmas.{signed_arith}
 use Rattle.rr_model.specs.Calendar.{day_number}
 use Rattle.rr_model.proofs.CalendarLemmas.{month_length_bounds}
 use Rattle.rr_cal.proofs.JiffLemmas.{day_number-moved, year_near_day}
-use Rattle.rr_cal.proofs.date.day_of.Goals as goal
+use Rattle.rr_cal.proofs.date.day_of_near.Goals as goal
 
 pub overflow_mul-result : goal.overflow_mul-result
 overflow_mul-result c =

@@ -4,7 +4,7 @@ use Rattle.jiff_core.specs.Date.{epoch_day}
 use Rattle.jiff_core.proofs.SignedLemmas.{signed_arith}
 use Rattle.rr_model.proofs.CalendarLemmas.{date_only}
 use Rattle.rr_cal.proofs.JiffLemmas.{IsDate-moved, day_number-moved}
-use Rattle.rr_cal.proofs.date.date_of.Goals as goal
+use Rattle.rr_cal.proofs.date.date_of_near.Goals as goal
 
 pub overflow_mul-result : goal.overflow_mul-result
 overflow_mul-result c = omega (arith, signed_arith, c.div_euclid-cycle.ensures, c.requires.near)
