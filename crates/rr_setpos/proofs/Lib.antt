@@ -1,0 +1,3 @@
+mod ChoiceLemmas
+mod DayLemmas
+mod UnitLemmas
