@@ -27,7 +27,6 @@ pub mod WeekShiftLemmas
 pub mod PartLemmas
 pub mod UnitLemmas
 mod ReadsExamples
-pub mod AnswerLemmas
 pub mod DivisorLemmas
 mod RuleExamples
 pub mod RuleCycleLemmas
