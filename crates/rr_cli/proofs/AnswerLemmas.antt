@@ -75,3 +75,4 @@ equal_answer_is_one a b x y p q =
 pub answer_is_one : AnswerIsOne
 answer_is_one None both x y p q = p ∙ sym q
 answer_is_one (Some (equal n m)) both x y p q = equal_answer_is_one both.0 both.1 x y p q
+answer_is_one (Some (check a)) both x y p q = p ∙ sym q

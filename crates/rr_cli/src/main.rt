@@ -1,6 +1,7 @@
 //! `rr` says of repeating series whether they have the same occurrences for all years to come.
 #![tactic(auto)]
 
+mod check;
 mod conclusion;
 mod daily;
 mod daily_text;
