@@ -4,6 +4,7 @@ pub mod CycleLemmas
 pub mod FloorLemmas
 pub mod PeriodicLemmas
 pub mod RisingLemmas
+pub mod RuleCycleLemmas
 pub mod VerdictLemmas
 pub mod WholeLemmas
 pub mod DailyLemmas
