@@ -11,6 +11,7 @@ pub mod SecondsLemmas
 mod SketchExamples
 pub mod SketchLemmas
 pub mod RisingLemmas
+pub mod RuleCycleLemmas
 pub mod VerdictLemmas
 mod WeekExamples
 pub mod WeekLemmas
@@ -29,7 +30,6 @@ pub mod UnitLemmas
 mod ReadsExamples
 pub mod DivisorLemmas
 mod RuleExamples
-pub mod RuleCycleLemmas
 pub mod RepetitionLemmas
 pub mod RankLemmas
 pub mod StretchLemmas
