@@ -3,7 +3,7 @@ use Rattle.std.proofs.Common.{◌≡◌, ℕ, Option, Some, None, List, length, 
 use Rattle.std.proofs.lemmas.Int.{ints}
 use Rattle.std.specs.Prelude.{Result, Ok, Err}
 use Rattle.rr_model.specs.Daily.{DailySeries}
-use Rattle.rr_model.specs.DailyText.{IsDailyText, StatesDaily, StatesNoDate, interval_of}
+use Rattle.rr_cli.specs.DailyText.{IsDailyText, StatesDaily, StatesNoDate, interval_of}
 use Rattle.rr_model.specs.Moment.{day_part}
 use Rattle.rr_model.specs.MomentText.{basic, basic_date, date_stamp, HasFourDigitYear}
 use Rattle.rr_model.specs.declared.kind.Kind.{Kind}

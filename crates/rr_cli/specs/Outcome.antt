@@ -1,5 +1,5 @@
 -- What an outcome of the program is.
-use Rattle.rr_model.specs.Answer.{Answer}
+use Rattle.rr_cli.specs.Answer.{Answer}
 use Rattle.rr_cli.specs.declared.outcome.Outcome.{Outcome}
 
 abbrev pub answer_of : Outcome → Answer

@@ -1,9 +1,11 @@
 //! `rr` says of repeating series whether they have the same occurrences for all years to come.
 #![tactic(auto)]
 
+mod conclusion;
 mod daily;
 mod daily_text;
 mod decide;
+mod laws;
 mod outcome;
 mod run;
 #[cfg(test)]
@@ -11,6 +13,7 @@ mod tests;
 mod words;
 
 use rr_io::{HostSink, HostSource};
+pub use laws::answer_is_one;
 pub use run::{Status, run as run_words};
 use std::alloc::AllocError;
 use std::env;

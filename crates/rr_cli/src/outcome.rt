@@ -1,13 +1,14 @@
 // What a run says.
 ghost use Rattle.std.specs.Prelude.{◌≡◌, ◌≢◌, IfOk};
-ghost use Rattle.rr_model.specs.Answer.{refused, said, side_text, usage, usage_text, IsEqualAnswer};
+ghost use Rattle.rr_cli.specs.Answer.{refused, said, side_text, usage, usage_text, IsEqualAnswer};
 ghost use Rattle.rr_cli.specs.Outcome.{answer_of};
 ghost use Rattle.rr_cli.specs.Printable.{IsPrintable, IsPrintableAt};
 ghost use Rattle.rr_model.specs.declared.verdict.Verdict.TheVariants as verdict;
 
+use crate::conclusion::Conclusion;
 use crate::daily_text::read;
 use crate::decide::equal;
-use rr_model::{Conclusion, Kind, NoMemory, Refusal, Side, Verdict};
+use rr_model::{Kind, NoMemory, Refusal, Side, Verdict};
 use rr_text::push_extended;
 use std::alloc::Global;
 

@@ -1,15 +1,15 @@
 // The top call.
 ghost use Rattle.std.specs.Prelude.{◌≡◌, ◌≢◌, ◌++◌, ◌⊎◌, [], ◌∷◌, ℕ, List, IfSome, IfOk, IsErrOf, IsNone};
 ghost use Rattle.rr_io.specs.Outside.{Rose};
-ghost use Rattle.rr_model.specs.Answer.{Answer, IsAnswer};
-ghost use Rattle.rr_model.specs.Command.{command_of, contents, IsOperandOf};
+ghost use Rattle.rr_cli.specs.Answer.{Answer, IsAnswer};
+ghost use Rattle.rr_cli.specs.Command.{command_of, contents, IsOperandOf};
 ghost use Rattle.rr_cli.specs.Outcome.{answer_of};
 ghost use Rattle.rr_cli.specs.Run.{words_of, status_of, Ends, HasCause};
 
+use crate::conclusion::Conclusion;
 use crate::outcome::{Outcome, equal_outcome, usage};
 use crate::words::{Command, parse};
 use rr_io::{FetchError, PutError, Sink, Source};
-use rr_model::Conclusion;
 use std::alloc::Global;
 
 /// How a run ends.

@@ -1,7 +1,7 @@
 // What the words of the command line ask.
 ghost use Rattle.std.specs.Prelude.{◌≡◌, option_map, map};
 ghost use Rattle.std.specs.Option.{option_copied};
-ghost use Rattle.rr_model.specs.Command.{operand_name, command_of, command_of_two};
+ghost use Rattle.rr_cli.specs.Command.{operand_name, command_of, command_of_two};
 ghost use Rattle.rr_cli.specs.Run.{words_of, command_in};
 
 /// A command with the names of its operands.

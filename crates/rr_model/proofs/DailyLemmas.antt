@@ -63,8 +63,8 @@ IsEqualVerdict-no s t from q day at side e is fs ft first =
     earlier Days u (inl b) =
         let P : Type 0 = has_day s u ≡ has_day t u in
         along (has_day s u) (has_day t u) (by_lt_z {P = P} u from
-            (λ l. has_day-early s u (omega (arith, ints)) ∙ sym (has_day-early t u (omega (arith, ints))))
-            (λ g. first.earlier u (omega (arith, ints)) (omega (arith, ints))))
+        (λ l. has_day-early s u (omega (arith, ints)) ∙ sym (has_day-early t u (omega (arith, ints))))
+        (λ g. first.earlier u (omega (arith, ints)) (omega (arith, ints))))
 
 -- ---- a walk over the days from q on, of which k agree
 
@@ -72,8 +72,8 @@ pub agree_more : (s t : DailySeries) (q day : ℤ) (k : ℕ) (a b : Bool) → da
 agree_more s t q day k a b e agree ea eb same d from below =
     let P : Type 0 = has_day s d ≡ has_day t d in
     by_lt_z {P = P} d day (λ l. agree d from (omega (arith, ints))) (λ h.
-        let i : d ≡ day = omega (arith, ints) in
-        ap (has_day s) i ∙ sym ea ∙ same ∙ eb ∙ ap (has_day t) (sym i))
+    let i : d ≡ day = omega (arith, ints) in
+    ap (has_day s) i ∙ sym ea ∙ same ∙ eb ∙ ap (has_day t) (sym i))
 
 pub IsFirstDifference-found : (s t : DailySeries) (q r day : ℤ) (k : ℕ) (a b : Bool) (side : Side) → r ≡ q → day ≡ q +ℤ pos k → AgreeOn (has_day s) (has_day t) r k → a ≡ has_day s day → b ≡ has_day t day → (a ≡ b → ⊥) → side ≡ side_of a → IsFirstDifference s t q day side
 IsFirstDifference-found s t q r day k a b side i e agree ea eb differ z = record {

@@ -20,7 +20,6 @@ mod ChosenExamples
 pub mod WindowLemmas
 pub mod RisingSetLemmas
 pub mod DailyLemmas
-pub mod AnswerLemmas
 pub mod MomentLemmas
 pub mod CountLemmas
 pub mod ShiftLemmas
@@ -33,3 +32,4 @@ pub mod RuleCycleLemmas
 pub mod RepetitionLemmas
 pub mod RankLemmas
 pub mod StretchLemmas
+pub mod PrintedLemmas

@@ -15,12 +15,10 @@ pub mod Chosen
 pub mod Sketch
 pub mod SketchLaws
 pub mod RisingSet
+pub mod Refused
 pub mod Digits
 pub mod MomentText
 pub mod Daily
-pub mod DailyText
-pub mod Command
-pub mod Answer
 pub mod Repetition
 pub mod RuleValidity
 pub mod Cycle

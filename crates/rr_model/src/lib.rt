@@ -2,7 +2,6 @@
 #![tactic(auto)]
 
 mod calendar_laws;
-mod conclusion;
 mod kind;
 mod laws;
 mod limits;
@@ -14,9 +13,8 @@ mod stamp;
 mod verdict;
 
 pub use calendar_laws::{calendar_repeats, dates_and_days_are_inverse, last_week_is_greatest};
-pub use conclusion::Conclusion;
 pub use kind::Kind;
-pub use laws::{agreement_lasts, answer_is_one, gcd_is_greatest, lcm_is_least};
+pub use laws::{agreement_lasts, gcd_is_greatest, lcm_is_least};
 pub use limits::{MAX_CYCLE_DAYS, MAX_DAY, MAX_INPUT, MAX_SECONDS};
 pub use lists::{Dates, DayItems, DayShapes, Numbers, Rules, Seconds};
 pub use refusal::{Fault, NoMemory, Refusal};

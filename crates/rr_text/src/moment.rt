@@ -130,7 +130,11 @@ fn basic_moment(text: &[u8]) -> Option<Stamp>
     let day = basic_date(&text[..8])?;
     let second = basic_time(&text[9..15])?;
     let utc = utc_mark(&text[15..])?;
-    Some(Stamp { kind: Kind::Moments, at: moment_at(day, second), utc })
+    Some(Stamp {
+        kind: Kind::Moments,
+        at: moment_at(day, second),
+        utc,
+    })
 }
 
 /// Reads a date YYYYMMDD or a moment YYYYMMDDTHHMMSS, behind which a `Z` may stand.
@@ -144,7 +148,11 @@ pub fn basic(text: &[u8]) -> Option<Stamp>
 {
     if text.len() == 8 {
         let day = basic_date(text)?;
-        return Some(Stamp { kind: Kind::Days, at: day, utc: false });
+        return Some(Stamp {
+            kind: Kind::Days,
+            at: day,
+            utc: false,
+        });
     }
     basic_moment(text)
 }

@@ -1,14 +1,14 @@
 -- What a run answers: a relation between the command, the bytes of its operands, and what is said.
 -- It is no function, since a verdict speaks of all whole numbers. That there is one answer alone is a law.
 use Rattle.std.specs.Prelude.{◌≡◌, ℕ, List, [], ◌∷◌, ◌++◌, codes, Option, Some, None, Result, Ok, Err}
-use Rattle.rr_model.specs.Command.{Command, equal}
+use Rattle.rr_cli.specs.Command.{Command, equal}
 use Rattle.rr_model.specs.Daily.{DailySeries, IsDailyOccurrence}
-use Rattle.rr_model.specs.DailyText.{IsDailyReading}
+use Rattle.rr_cli.specs.DailyText.{IsDailyReading}
 use Rattle.rr_model.specs.MomentText.{extended_text}
 use Rattle.rr_model.specs.RefusalText.{refusal_text}
 use Rattle.rr_model.specs.Verdict.{IsEqualVerdict}
-use Rattle.rr_model.specs.declared.conclusion.Conclusion.{Conclusion}
-use Rattle.rr_model.specs.declared.conclusion.Conclusion.TheVariants as conclusion
+use Rattle.rr_cli.specs.declared.conclusion.Conclusion.{Conclusion}
+use Rattle.rr_cli.specs.declared.conclusion.Conclusion.TheVariants as conclusion
 use Rattle.rr_model.specs.declared.refusal.Refusal.{Refusal}
 use Rattle.rr_model.specs.declared.verdict.Side.{Side}
 use Rattle.rr_model.specs.declared.verdict.Side.TheVariants.{A, B, Both}
