@@ -1,16 +1,10 @@
 // Laws about the definitions, each the contract of a function that does nothing.
-ghost use Rattle.rr_model.specs.Answer.{AnswerIsOne};
 ghost use Rattle.rr_model.specs.Cycle.{GcdIsGreatest, LcmIsLeast};
 ghost use Rattle.rr_model.specs.Periodic.{AgreementLasts};
 
 /// Two sequences that repeat, and agree on as many places in a row as both periods together, agree for ever.
 pub fn agreement_lasts()
     ensures { AgreementLasts }
-{}
-
-/// A command over the bytes of its operands has one answer.
-pub fn answer_is_one()
-    ensures { AnswerIsOne }
 {}
 
 /// The greatest common divisor divides both numbers, and each number that does divides it.
