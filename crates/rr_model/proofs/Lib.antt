@@ -11,7 +11,6 @@ pub mod SecondsLemmas
 mod SketchExamples
 pub mod SketchLemmas
 pub mod RisingLemmas
-pub mod RuleCycleLemmas
 pub mod VerdictLemmas
 mod WeekExamples
 pub mod WeekLemmas

@@ -11,6 +11,8 @@ mod rule;
 mod rule_parts;
 mod sketch;
 mod stamp;
+#[cfg(test)]
+mod tests;
 mod verdict;
 
 pub use calendar_laws::{calendar_repeats, dates_and_days_are_inverse, last_week_is_greatest};
