@@ -33,3 +33,4 @@ pub mod RepetitionLemmas
 pub mod RankLemmas
 pub mod StretchLemmas
 pub mod PrintedLemmas
+pub mod RuleCycleLemmas
