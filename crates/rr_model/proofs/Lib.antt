@@ -25,3 +25,6 @@ pub mod RuleCycleLemmas
 pub mod RepetitionLemmas
 pub mod RankLemmas
 pub mod StretchLemmas
+pub mod SoundnessLemmas
+pub mod SeriesCycleLemmas
+pub mod StartLemmas

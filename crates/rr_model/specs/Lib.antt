@@ -21,3 +21,5 @@ pub mod Answer
 pub mod Repetition
 pub mod RuleValidity
 pub mod Cycle
+pub mod Soundness
+pub mod SeriesCycle
