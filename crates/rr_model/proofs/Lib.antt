@@ -34,3 +34,6 @@ pub mod RankLemmas
 pub mod StretchLemmas
 pub mod PrintedLemmas
 pub mod RuleCycleLemmas
+pub mod SoundnessLemmas
+pub mod SeriesCycleLemmas
+pub mod StartLemmas

@@ -25,3 +25,5 @@ pub mod Repetition
 pub mod RuleValidity
 pub mod Cycle
 pub mod Answers
+pub mod Soundness
+pub mod SeriesCycle
