@@ -14,3 +14,6 @@ pub mod AnswerLemmas
 pub mod DivisorLemmas
 mod RuleExamples
 pub mod MomentTextLemmas
+pub mod ReadingLemmas
+pub mod RulePartLemmas
+pub mod PartOrderLemmas

@@ -16,3 +16,4 @@ pub mod Answer
 pub mod RuleValidity
 pub mod Cycle
 pub mod Answers
+pub mod ReadingLaws

@@ -15,7 +15,10 @@ mod verdict;
 
 pub use conclusion::Conclusion;
 pub use kind::Kind;
-pub use laws::{agreement_lasts, answer_is_one, gcd_is_greatest, lcm_is_least};
+pub use laws::{
+    agreement_lasts, answer_is_one, case_does_not_matter, gcd_is_greatest, lcm_is_least,
+    order_does_not_matter,
+};
 pub use limits::{MAX_CYCLE_DAYS, MAX_DAY, MAX_INPUT, MAX_SECONDS};
 pub use lists::{Dates, DayItems, DayShapes, Numbers, Rules, Seconds};
 pub use refusal::{Fault, NoMemory, Refusal};
