@@ -1,5 +1,4 @@
 // Laws about the definitions, each the contract of a function that does nothing.
-ghost use Rattle.rr_model.specs.Answer.{AnswerIsOne};
 ghost use Rattle.rr_model.specs.Cycle.{GcdIsGreatest, LcmIsLeast};
 ghost use Rattle.rr_model.specs.Periodic.{AgreementLasts};
 ghost use Rattle.rr_model.specs.ReadingLaws.{CaseDoesNotMatter, OrderDoesNotMatter};
@@ -7,11 +6,6 @@ ghost use Rattle.rr_model.specs.ReadingLaws.{CaseDoesNotMatter, OrderDoesNotMatt
 /// Two sequences that repeat, and agree on as many places in a row as both periods together, agree for ever.
 pub fn agreement_lasts()
     ensures { AgreementLasts }
-{}
-
-/// A command over the bytes of its operands has one answer.
-pub fn answer_is_one()
-    ensures { AnswerIsOne }
 {}
 
 /// The greatest common divisor divides both numbers, and each number that does divides it.
