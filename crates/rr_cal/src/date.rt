@@ -16,7 +16,7 @@ pub struct Date {
 }
 
 // After so many years the calendar begins again,
-const CYCLE_YEARS: i64 = 400;
+pub(crate) const CYCLE_YEARS: i64 = 400;
 
 // which are so many days.
 const CYCLE_DAYS: i64 = 146_097;
@@ -30,15 +30,36 @@ pub fn day_of(date: Date) -> i64
     requires near { IsDayWithin 1000 (day_number date.year date.month date.day) }
     ensures { result ≡ day_number date.year date.month date.day }
 {
+    day_of_near(date)
+}
+
+/// The date of a day, given by its number.
+pub fn date_of(day: i64) -> Date
+    requires near { IsDayWithin 1000 day }
+    ensures year { result.year ≡ year_of day }
+    ensures month { result.month ≡ month_of day }
+    ensures day { result.day ≡ day_of_month day }
+    ensures date { IsDate result.year result.month result.day }
+    ensures number { day_number result.year result.month result.day ≡ day }
+{
+    date_of_near(day)
+}
+
+// As `day_of`, somewhat farther: a week's year can begin and end past the days that the calls take.
+pub(crate) fn day_of_near(date: Date) -> i64
+    requires date { IsDate date.year date.month date.day }
+    requires near { IsDayWithin 3000 (day_number date.year date.month date.day) }
+    ensures { result ≡ day_number date.year date.month date.day }
+{
     let cycle = date.year.div_euclid(CYCLE_YEARS);
     let year = date.year.rem_euclid(CYCLE_YEARS) as i16;
     let inner = civil::date(year, date.month as i8, date.day as i8).to_plain();
     inner.to_unix_epoch_day() as i64 + CYCLE_DAYS * cycle
 }
 
-/// The date of a day, given by its number.
-pub fn date_of(day: i64) -> Date
-    requires near { IsDayWithin 1000 day }
+// As `date_of`, somewhat farther.
+pub(crate) fn date_of_near(day: i64) -> Date
+    requires near { IsDayWithin 3000 day }
     ensures year { result.year ≡ year_of day }
     ensures month { result.month ≡ month_of day }
     ensures day { result.day ≡ day_of_month day }

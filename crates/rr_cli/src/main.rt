@@ -1,19 +1,20 @@
 //! `rr` says of repeating series whether they have the same occurrences for all years to come.
 #![tactic(auto)]
 
+mod conclusion;
 mod daily;
 mod daily_text;
 mod decide;
+mod laws;
 mod outcome;
 mod run;
-mod words;
-
 #[cfg(test)]
 mod tests;
-
-pub use run::{Status, run as run_words};
+mod words;
 
 use rr_io::{HostSink, HostSource};
+pub use laws::answer_is_one;
+pub use run::{Status, run as run_words};
 use std::alloc::AllocError;
 use std::env;
 use std::process::ExitCode;

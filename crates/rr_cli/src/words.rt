@@ -1,7 +1,7 @@
 // What the words of the command line ask.
 ghost use Rattle.std.specs.Prelude.{◌≡◌, option_map, map};
 ghost use Rattle.std.specs.Option.{option_copied};
-ghost use Rattle.rr_model.specs.Command.{operand_name, command_of};
+ghost use Rattle.rr_cli.specs.Command.{operand_name, command_of, command_of_two};
 ghost use Rattle.rr_cli.specs.Run.{words_of, command_in};
 
 /// A command with the names of its operands.
@@ -24,7 +24,9 @@ fn operand_name(word: &str) -> Option<&str>
 }
 
 // Two names are not both the standard input.
-fn equal_of<'a>(a: &'a str, b: &'a str) -> Option<Command<'a>> {
+fn equal_of<'a>(a: &'a str, b: &'a str) -> Option<Command<'a>>
+    ensures { option_map command_in result ≡ command_of_two a.now b.now }
+{
     if a == "-" && b == "-" {
         None
     } else {

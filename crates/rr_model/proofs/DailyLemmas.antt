@@ -6,7 +6,7 @@ use Rattle.std.proofs.lemmas.Bool.{false≢true}
 use Rattle.rr_model.specs.Whole.{floor_mod}
 use Rattle.rr_model.specs.Moment.{Before}
 use Rattle.rr_model.specs.Periodic.{RepeatsFrom, AgreeOn}
-use Rattle.rr_model.specs.Daily.{DailySeries, has_day, IsDailyOccurrence}
+use Rattle.rr_model.specs.Daily.{DailySeries, has_day, IsDailyOccurrence, side_of, IsFirstDifference}
 use Rattle.rr_model.specs.Verdict.{IsEqualVerdict, HoldsOnlyOf}
 use Rattle.rr_model.specs.declared.kind.Kind.{Kind}
 use Rattle.rr_model.specs.declared.kind.Kind.TheVariants.{Days, Moments}
@@ -47,20 +47,15 @@ pub IsEqualVerdict-yes : (s t : DailySeries) → ((d : ℤ) → has_day s d ≡ 
 IsEqualVerdict-yes s t same Days d = along (has_day s d) (has_day t d) (same d)
 IsEqualVerdict-yes s t same Moments d = ((λ h. h), (λ h. h))
 
--- the side that has a day which the other lacks
-abbrev pub side_of : Bool → Side
-side_of true = A
-side_of false = B
-
 only : (a b : Bool) → (a ≡ b → ⊥) → HoldsOnlyOf (side_of a) (IsTrue a) (IsTrue b)
 only true true n = absurd (n refl)
 only true false n = (refl, λ e. false≢true e)
 only false true n = (refl, λ e. false≢true e)
 only false false n = absurd (n refl)
 
-pub IsEqualVerdict-no : (s t : DailySeries) (from day : ℤ) (side : Side) → from ≤ℤ s.start → from ≤ℤ t.start → ((d : ℤ) → from ≤ℤ d → d <ℤ day → has_day s d ≡ has_day t d) → (has_day s day ≡ has_day t day → ⊥) → side ≡ side_of (has_day s day) → IsEqualVerdict (IsDailyOccurrence s) (IsDailyOccurrence t) (No Days day side)
-IsEqualVerdict-no s t from day side fs ft same differ e =
-    (rw e (only (has_day s day) (has_day t day) differ), earlier)
+pub IsEqualVerdict-no : (s t : DailySeries) (from q day at : ℤ) (side : Side) → q ≡ from → at ≡ day → from ≤ℤ s.start → from ≤ℤ t.start → IsFirstDifference s t q day side → IsEqualVerdict (IsDailyOccurrence s) (IsDailyOccurrence t) (No Days at side)
+IsEqualVerdict-no s t from q day at side e is fs ft first =
+    rw is (rw first.side (only (has_day s day) (has_day t day) first.differ), earlier)
   where
     earlier : (l : Kind) (u : ℤ) → Before l u Days day → IsDailyOccurrence s l u ↔ IsDailyOccurrence t l u
     earlier Moments u b = ((λ h. h), (λ h. h))
@@ -69,4 +64,21 @@ IsEqualVerdict-no s t from day side fs ft same differ e =
         let P : Type 0 = has_day s u ≡ has_day t u in
         along (has_day s u) (has_day t u) (by_lt_z {P = P} u from
         (λ l. has_day-early s u (omega (arith, ints)) ∙ sym (has_day-early t u (omega (arith, ints))))
-        (λ g. same u g (omega (arith, ints))))
+        (λ g. first.earlier u (omega (arith, ints)) (omega (arith, ints))))
+
+-- ---- a walk over the days from q on, of which k agree
+
+pub agree_more : (s t : DailySeries) (q day : ℤ) (k : ℕ) (a b : Bool) → day ≡ q +ℤ pos k → AgreeOn (has_day s) (has_day t) q k → a ≡ has_day s day → b ≡ has_day t day → a ≡ b → AgreeOn (has_day s) (has_day t) q (k + 1)
+agree_more s t q day k a b e agree ea eb same d from below =
+    let P : Type 0 = has_day s d ≡ has_day t d in
+    by_lt_z {P = P} d day (λ l. agree d from (omega (arith, ints))) (λ h.
+    let i : d ≡ day = omega (arith, ints) in
+    ap (has_day s) i ∙ sym ea ∙ same ∙ eb ∙ ap (has_day t) (sym i))
+
+pub IsFirstDifference-found : (s t : DailySeries) (q r day : ℤ) (k : ℕ) (a b : Bool) (side : Side) → r ≡ q → day ≡ q +ℤ pos k → AgreeOn (has_day s) (has_day t) r k → a ≡ has_day s day → b ≡ has_day t day → (a ≡ b → ⊥) → side ≡ side_of a → IsFirstDifference s t q day side
+IsFirstDifference-found s t q r day k a b side i e agree ea eb differ z = record {
+  from = omega (arith, ints);
+  earlier = λ d from below. agree d (omega (arith, ints)) (omega (arith, ints));
+  differ = λ same. differ (ea ∙ same ∙ sym eb);
+  side = z ∙ ap side_of ea;
+}

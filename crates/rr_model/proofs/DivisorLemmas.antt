@@ -1,12 +1,12 @@
 -- The greatest common divisor and the least common multiple are what their names say.
-use Rattle.std.proofs.Common.{◌≡◌, ℕ, zero, suc, ◌+◌, ◌*◌, ◌/◌, ◌%◌, ◌==◌, ◌≤◌, true, false, cond, refl, sym, ap, ◌∙◌, subst, eqb-true, arith}
+use Rattle.std.proofs.Common.{◌≡◌, ℕ, zero, suc, ◌+◌, ◌*◌, ◌/◌, ◌%◌, ◌==◌, ◌<◌, ◌≤◌, true, false, cond, refl, sym, ap, ◌∙◌, subst, eqb-true, arith}
 use Rattle.std.proofs.lemmas.Bool.{eqb-false}
 use Prim.Native.Nat.{◌∣◌}
 use Rattle.std.specs.Int.{IsGcd}
 use Rattle.std.proofs.lemmas.Nat.{mod_below, mod-mul-add, div-add-mod'}
-use Rattle.std.proofs.lemmas.Nat.Gcd.{IsGcd-from_zero, IsGcd-from_mod, dvd-zero}
+use Rattle.std.proofs.lemmas.Nat.Gcd.{IsGcd-from_zero, IsGcd-from_mod, same_from_IsGcd, le_of_dvd, dvd-zero}
 use Rattle.std.proofs.Math.Nat.{mul-dvd-mul_left, mul-dvd-mul_right, dvd_of_mul-dvd-mul_left, dvd-mul_left, dvd-mul_right, pos_of_dvd_of_pos, div-mul_cancel, mul_comm, mul_assoc, mul_left_comm, mul-add, mul-lt-mul_of_pos_left, mul-zero, mul-pos, one-mul}
-use Rattle.rr_model.specs.Cycle.{gcd_within, gcd, lcm, IsLcm}
+use Rattle.rr_model.specs.Cycle.{gcd_within, gcd, lcm, IsLcm, NoMultipleWithin}
 
 -- n times the remainder is the remainder of n times both
 scaled_mod : (n a b : ℕ) → 1 ≤ n → 1 ≤ b → (n * a) % (n * b) ≡ n * (a % b)
@@ -38,8 +38,17 @@ scaled_is n a b hn = scaled_within n b a b hn (omega arith)
 pub gcd_is : (a b : ℕ) → IsGcd a b (gcd a b)
 gcd_is a b = subst (λ g. IsGcd a b g) (one-mul (gcd a b)) (subst (λ z. IsGcd z b (1 * gcd a b)) (one-mul a) (subst (λ z. IsGcd (1 * a) z (1 * gcd a b)) (one-mul b) (scaled_is 1 a b (omega arith))))
 
-pub gcd_some : (a b : ℕ) → 1 ≤ b → 1 ≤ gcd a b
-gcd_some a b hb = pos_of_dvd_of_pos (gcd_is a b).1 hb
+pub gcd-zero : (a : ℕ) → gcd a 0 ≡ a
+unfolding gcd gcd_within
+gcd-zero a = refl
+
+-- one step of Euclid's division
+pub gcd-mod : (a b : ℕ) → gcd b (a % b) ≡ gcd a b
+gcd-mod a b = same_from_IsGcd a b (gcd b (a % b)) (gcd a b) (IsGcd-from_mod a b (gcd b (a % b)) (gcd_is b (a % b))) (gcd_is a b)
+
+pub gcd_some : (a b : ℕ) → 0 < a + b → 1 ≤ gcd a b
+gcd_some a zero h = pos_of_dvd_of_pos (gcd_is a zero).0 (omega arith)
+gcd_some a (suc b) h = pos_of_dvd_of_pos (gcd_is a (suc b)).1 (omega arith)
 
 -- a over the divisor times b: the divisor times that is a times b
 whole : (a b : ℕ) → gcd a b * (a / gcd a b * b) ≡ a * b
@@ -58,7 +67,7 @@ pub lcm_is : (a b : ℕ) → 1 ≤ a → 1 ≤ b → IsLcm a b (lcm a b)
 unfolding lcm
 lcm_is a b ha hb =
     let g = gcd a b in
-    let some : 1 ≤ g = gcd_some a b hb in
+    let some : 1 ≤ g = gcd_some a b (omega arith) in
     let of_a : a ∣ a / g * b =
     dvd_of_mul-dvd-mul_left a some (subst (λ z. g * a ∣ z) (mul_comm b a ∙ sym (whole a b)) (mul-dvd-mul_right g (gcd_is a b).1 a)) in
     let least : (n : ℕ) → a ∣ n → b ∣ n → a / g * b ∣ n = λ n p q.
@@ -69,3 +78,9 @@ pub lcm_some : (a b : ℕ) → 1 ≤ a → 1 ≤ b → 1 ≤ lcm a b
 lcm_some a b ha hb =
     let of_both : lcm a b ∣ a * b = (lcm_is a b ha hb).2 (a * b) (dvd-mul_right a b) (dvd-mul_left b a) in
     pos_of_dvd_of_pos of_both (mul-pos ha hb)
+
+-- below the least common multiple there is none
+pub none_below_lcm : (a b most : ℕ) → 1 ≤ a → 1 ≤ b → most < lcm a b → NoMultipleWithin a b most
+none_below_lcm a b most ha hb above n hn p q =
+    let le : lcm a b ≤ n = le_of_dvd hn ((lcm_is a b ha hb).2 n p q) in
+    omega arith

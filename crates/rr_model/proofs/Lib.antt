@@ -1,16 +1,38 @@
 mod MomentTextExamples
 pub mod DigitLemmas
 mod CalendarExamples
+pub mod CalendarLawProofs
 pub mod CalendarLemmas
 pub mod CycleLemmas
 pub mod FloorLemmas
+pub mod NearLemmas
 pub mod PeriodicLemmas
+pub mod SecondsLemmas
+pub mod SketchLemmas
 pub mod RisingLemmas
 pub mod VerdictLemmas
+mod WeekExamples
+pub mod WeekLemmas
 pub mod WholeLemmas
-mod ReadsExamples
+pub mod MomentTextLemmas
+mod ChosenExamples
+pub mod WindowLemmas
+pub mod RisingSetLemmas
 pub mod DailyLemmas
-pub mod AnswerLemmas
+pub mod MomentLemmas
+pub mod CountLemmas
+pub mod ShiftLemmas
+pub mod WeekShiftLemmas
+pub mod PartLemmas
+pub mod UnitLemmas
 pub mod DivisorLemmas
 mod RuleExamples
-pub mod MomentTextLemmas
+pub mod RuleCycleLemmas
+pub mod RepetitionLemmas
+pub mod RankLemmas
+pub mod StretchLemmas
+pub mod PrintedLemmas
+mod ReadsExamples
+pub mod ReadingLemmas
+pub mod RulePartLemmas
+pub mod PartOrderLemmas

@@ -1,8 +1,8 @@
--- Two sets of occurrences have one verdict.
+-- Two sets of occurrences have one verdict of each kind.
 use Rattle.std.proofs.Common.{◌≡◌, ◌↔◌, inl, inr, ℤ, ◌<ℤ◌, ◌≤ℤ◌, refl, sym, arith}
 use Rattle.std.proofs.lemmas.Int.{ints, by_lt_z}
 use Rattle.rr_model.specs.Moment.{Before, Occurrences, instant_of}
-use Rattle.rr_model.specs.Verdict.{HoldsOnlyOf, IsEqualVerdict}
+use Rattle.rr_model.specs.Verdict.{HoldsOnlyOf, IsEqualVerdict, IsWithinVerdict, IsDisjointVerdict}
 use Rattle.rr_model.specs.declared.kind.Kind.{Kind}
 use Rattle.rr_model.specs.declared.kind.Kind.TheVariants.{Days, Moments}
 use Rattle.rr_model.specs.declared.verdict.Side.{Side}
@@ -49,6 +49,26 @@ equal_verdict_is_one P Q (No k t s) (No l u r) f g =
     let same = one_of_two k l t u (λ b. they_differ s (P k t) (Q k t) f.0 (g.1 k t b)) (λ b. they_differ r (P l u) (Q l u) g.0 (f.1 l u b)) in
     let here : HoldsOnlyOf s (P l u) (Q l u) = rw (same.0, same.1) at f.0 in
     let side : s ≡ r = one_side s r (P l u) (Q l u) here g.0 in
+    let kind = same.0 in
+    let at = same.1 in
+    cc
+
+pub within_verdict_is_one : (P Q : Occurrences) (v w : Verdict) → IsWithinVerdict P Q v → IsWithinVerdict P Q w → v ≡ w
+within_verdict_is_one P Q Yes Yes f g = refl
+within_verdict_is_one P Q Yes (No k t s) f (side, has, lacks, first) = absurd (lacks (f k t has))
+within_verdict_is_one P Q (No k t s) Yes (side, has, lacks, first) g = absurd (lacks (g k t has))
+within_verdict_is_one P Q (No k t s) (No l u r) (side, has, lacks, first) (side', has', lacks', first') =
+    let same = one_of_two k l t u (λ b. lacks (first' k t b has)) (λ b. lacks' (first l u b has')) in
+    let kind = same.0 in
+    let at = same.1 in
+    cc
+
+pub disjoint_verdict_is_one : (P Q : Occurrences) (v w : Verdict) → IsDisjointVerdict P Q v → IsDisjointVerdict P Q w → v ≡ w
+disjoint_verdict_is_one P Q Yes Yes f g = refl
+disjoint_verdict_is_one P Q Yes (No k t s) f (side, one, other, first) = absurd (f k t one other)
+disjoint_verdict_is_one P Q (No k t s) Yes (side, one, other, first) g = absurd (g k t one other)
+disjoint_verdict_is_one P Q (No k t s) (No l u r) (side, one, other, first) (side', one', other', first') =
+    let same = one_of_two k l t u (λ b. first' k t b one other) (λ b. first l u b one' other') in
     let kind = same.0 in
     let at = same.1 in
     cc

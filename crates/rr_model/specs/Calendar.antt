@@ -79,6 +79,10 @@ day_of_year d = days_into_year d + 1
 unfoldable pub weekday_of : ℤ → ℕ
 weekday_of d = floor_mod (d +ℤ pos 3) 7
 
+-- the kind of a year, of which there are 14: the weekday of 1 January, plus 7 in a leap year
+unfoldable pub kind_of_year : ℤ → ℕ
+kind_of_year y = weekday_of (first_day_of_year y) + (if is_leap y then 7 else 0)
+
 -- ---- how far the calls go
 
 -- the day lies within MAX_DAY and that many days more

@@ -1,5 +1,5 @@
 -- After how many days a rule's chosen moments repeat (RFC 5545, section 3.3.10), from its text alone.
-use Rattle.std.specs.Prelude.{ℕ, zero, suc, ◌≤◌, ◌*◌, ◌/◌, ◌%◌, ◌==◌, Bool, not, ◌&&◌, if◌then◌else◌}
+use Rattle.std.specs.Prelude.{ℕ, zero, suc, ◌<◌, ◌≤◌, ◌*◌, ◌/◌, ◌%◌, ◌==◌, Bool, not, ◌&&◌, if◌then◌else◌}
 use Prim.Native.Nat.{◌∣◌}
 use Rattle.std.specs.Int.{IsGcd}
 use Rattle.rr_model.specs.RuleValidity.{is_absent}
@@ -25,6 +25,10 @@ lcm a b = a / gcd a b * b
 -- m is a multiple of a and of b, and divides each number that is
 abbrev pub IsLcm : ℕ → ℕ → ℕ → Type 0
 IsLcm a b m = (a ∣ m) × (b ∣ m) × ((n : ℕ) → a ∣ n → b ∣ n → m ∣ n)
+
+-- each number that is a multiple of both is above the most
+abbrev pub NoMultipleWithin : ℕ → ℕ → ℕ → Type 0
+NoMultipleWithin a b most = (n : ℕ) → 1 ≤ n → a ∣ n → b ∣ n → most < n
 
 -- the greatest common divisor divides both, and each number that does divides it
 abbrev pub GcdIsGreatest : Type 0

@@ -1,7 +1,7 @@
 //! The data that every crate speaks of, and beside it, in specs/, the definitions that contracts cite.
 #![tactic(auto)]
 
-mod conclusion;
+mod calendar_laws;
 mod kind;
 mod laws;
 mod limits;
@@ -13,9 +13,11 @@ mod sketch;
 mod stamp;
 mod verdict;
 
-pub use conclusion::Conclusion;
+pub use calendar_laws::{calendar_repeats, dates_and_days_are_inverse, last_week_is_greatest};
 pub use kind::Kind;
-pub use laws::{agreement_lasts, answer_is_one, gcd_is_greatest, lcm_is_least};
+pub use laws::{
+    agreement_lasts, case_does_not_matter, gcd_is_greatest, lcm_is_least, order_does_not_matter,
+};
 pub use limits::{MAX_CYCLE_DAYS, MAX_DAY, MAX_INPUT, MAX_SECONDS};
 pub use lists::{Dates, DayItems, DayShapes, Numbers, Rules, Seconds};
 pub use refusal::{Fault, NoMemory, Refusal};

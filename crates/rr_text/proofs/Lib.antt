@@ -1,1 +1,2 @@
 mod BasicLemmas
+mod PrintLemmas

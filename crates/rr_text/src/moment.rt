@@ -1,10 +1,10 @@
 // Reads basic dates and moments (RFC 5545, sections 3.3.4 and 3.3.5).
-ghost use Rattle.std.specs.Prelude.{◌≡◌, ◌+◌, ◌^◌, ◌<◌, ◌≤◌, ◌≤ℤ◌, pos, neg_ℤ, length, IfSome};
+ghost use Rattle.std.specs.Prelude.{◌≡◌, ◌+◌, ◌^◌, ◌<◌, ◌≤◌, ◌≤ℤ◌, pos, length, IfSome};
 ghost use Rattle.std.specs.List.{AllPass, list_all};
 ghost use Rattle.std.specs.Bool.{OnTrue};
 ghost use Rattle.rr_model.specs.Digits.{is_digit};
-ghost use Rattle.rr_model.specs.MomentText.{is_digits, number_at, written_year, written_month, written_day, basic_date, basic_time, basic_moment, basic, is_letter_t, utc_mark};
-ghost use Rattle.rr_model.specs.Moment.{moment_at};
+ghost use Rattle.rr_model.specs.MomentText.{HasFourDigitYear, is_digits, number_at, written_year, written_month, written_day, basic_date, basic_time, basic_moment, basic, is_letter_t, utc_mark};
+ghost use Rattle.rr_model.specs.Moment.{moment_at, day_part};
 ghost use Rattle.rr_model.specs.declared.kind.Kind.TheVariants.{Moments};
 
 use crate::digits::value_of;
@@ -58,7 +58,7 @@ fn date_in(digits: &[u8]) -> Date
 #[tactic(auto, unfolding(rr_model::specs::MomentText::basic_date))]
 fn basic_date(text: &[u8]) -> Option<i64>
     ensures day { result ≡ basic_date text.now }
-    ensures within { IfSome result (λ d. (neg_ℤ (pos 719_162) ≤ℤ d) × (d ≤ℤ pos 2_932_896)) }
+    ensures years { IfSome result HasFourDigitYear }
 {
     if !is_digits(text, 8) {
         return None;
@@ -107,9 +107,10 @@ fn is_letter_t(byte: u8) -> bool
 
 // The moment at a second of a day.
 fn moment_at(day: i64, second: u32) -> i64
-    requires near { (neg_ℤ (pos 719_162) ≤ℤ day) × (day ≤ℤ pos 2_932_896) }
+    requires near { HasFourDigitYear day }
     requires second { second < 86_400 }
-    ensures { result ≡ moment_at Moments day second }
+    ensures value { result ≡ moment_at Moments day second }
+    ensures day { day_part Moments result ≡ day }
 {
     day * DAY_SECONDS + i64::from(second)
 }
@@ -117,7 +118,8 @@ fn moment_at(day: i64, second: u32) -> i64
 // A moment YYYYMMDDTHHMMSS, and behind it a `Z` or nothing.
 #[tactic(auto, unfolding(rr_model::specs::MomentText::basic_moment))]
 fn basic_moment(text: &[u8]) -> Option<Stamp>
-    ensures { result ≡ basic_moment text.now }
+    ensures stamp { result ≡ basic_moment text.now }
+    ensures years { IfSome result (λ s. HasFourDigitYear (day_part s.kind s.at)) }
 {
     if text.len() < 15 {
         return None;
@@ -128,7 +130,11 @@ fn basic_moment(text: &[u8]) -> Option<Stamp>
     let day = basic_date(&text[..8])?;
     let second = basic_time(&text[9..15])?;
     let utc = utc_mark(&text[15..])?;
-    Some(Stamp { kind: Kind::Moments, at: moment_at(day, second), utc })
+    Some(Stamp {
+        kind: Kind::Moments,
+        at: moment_at(day, second),
+        utc,
+    })
 }
 
 /// Reads a date YYYYMMDD or a moment YYYYMMDDTHHMMSS, behind which a `Z` may stand.
@@ -137,11 +143,16 @@ fn basic_moment(text: &[u8]) -> Option<Stamp>
 /// `T` and `Z` stand in either case. Every other text is `None`.
 #[tactic(auto, unfolding(rr_model::specs::MomentText::basic))]
 pub fn basic(text: &[u8]) -> Option<Stamp>
-    ensures { result ≡ basic text.now }
+    ensures stamp { result ≡ basic text.now }
+    ensures years { IfSome result (λ s. HasFourDigitYear (day_part s.kind s.at)) }
 {
     if text.len() == 8 {
         let day = basic_date(text)?;
-        return Some(Stamp { kind: Kind::Days, at: day, utc: false });
+        return Some(Stamp {
+            kind: Kind::Days,
+            at: day,
+            utc: false,
+        });
     }
     basic_moment(text)
 }

@@ -1,9 +1,9 @@
 // Prints numbers, dates and moments.
-ghost use Rattle.std.specs.Prelude.{◌≡◌, ◌≤◌, ◌≤ℤ◌, pos, neg_ℤ, ◌++◌, ◌∷◌, codes, replicate, OnOk, OnErr};
+ghost use Rattle.std.specs.Prelude.{◌≡◌, ◌≤◌, ◌++◌, ◌∷◌, codes, replicate, OnOk, OnErr};
 ghost use Rattle.std.specs.Fmt.{signed_decimal};
 ghost use Rattle.rr_model.specs.Calendar.{IsDayWithin};
 ghost use Rattle.rr_model.specs.Moment.{day_part, second_part};
-ghost use Rattle.rr_model.specs.MomentText.{padded, extended_date, extended_date_text, extended_time_text, extended_text};
+ghost use Rattle.rr_model.specs.MomentText.{IsFromYearOne, padded, extended_date, extended_date_text, extended_time_text, extended_text};
 ghost use Rattle.rr_model.specs.declared.kind.Kind.TheVariants.{Moments};
 ghost use Rattle.rr_text.specs.Appending.{StandsInFront};
 
@@ -76,7 +76,7 @@ fn push_time(out: &mut Vec<u8>, second: u32) -> Result<(), NoMemory>
 
 // A day that does not lie before 0001-01-01.
 fn push_day(out: &mut Vec<u8>, day: i64) -> Result<(), NoMemory>
-    requires from { neg_ℤ (pos 719_162) ≤ℤ day }
+    requires from { IsFromYearOne day }
     requires near { IsDayWithin 0 day }
     ensures ok { OnOk result (out.new.items ≡ out.old.items ++ extended_date_text day) }
     ensures err { OnErr result (StandsInFront out.old.items out.new.items) }
@@ -101,7 +101,7 @@ fn second_part(at: i64) -> u32
 
 #[tactic(auto, unfolding(rr_model::specs::MomentText::extended_text))]
 fn push_parts(out: &mut Vec<u8>, kind: Kind, at: i64) -> Result<(), NoMemory>
-    requires from { neg_ℤ (pos 719_162) ≤ℤ day_part kind at }
+    requires from { IsFromYearOne (day_part kind at) }
     requires near { IsDayWithin 0 (day_part kind at) }
     ensures ok { OnOk result (out.new.items ≡ out.old.items ++ extended_text kind at) }
     ensures err { OnErr result (StandsInFront out.old.items out.new.items) }
@@ -120,7 +120,7 @@ fn push_parts(out: &mut Vec<u8>, kind: Kind, at: i64) -> Result<(), NoMemory>
 /// `at` is a day number, or 86,400 times the day number plus the second of the day.
 /// A year past 9999 has as many digits as it needs.
 pub fn push_extended(out: &mut Vec<u8>, kind: Kind, at: i64) -> Result<(), NoMemory>
-    requires from { neg_ℤ (pos 719_162) ≤ℤ day_part kind at }
+    requires from { IsFromYearOne (day_part kind at) }
     requires near { IsDayWithin 0 (day_part kind at) }
     ensures ok { OnOk result (out.new.items ≡ out.old.items ++ extended_text kind at) }
     ensures err { OnErr result (out.new.items ≡ out.old.items) }

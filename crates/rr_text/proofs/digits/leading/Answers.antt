@@ -1,4 +1,4 @@
-use Rattle.std.proofs.Common.{take, ap, ◌∙◌, rules}
+use Rattle.std.proofs.Common.{take, ap, ◌∙◌}
 use Rattle.std.proofs.lemmas.List.Folds.{length-prefix_len}
 use Rattle.rr_model.specs.Digits.{is_digit}
 use Rattle.rr_model.proofs.DigitLemmas.{AllPass-leading_digits}

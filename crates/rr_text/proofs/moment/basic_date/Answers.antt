@@ -9,8 +9,8 @@ day_of-requires-clause-near c =
     let bounds = near date.year _ date.month date.day refl (omega (arith, ints, c.if-date-lt1.false)) c.date_in-date.ensures.small (c.valid.ensures.date.0 c.if-not-valid.false) in
     (omega (arith, ints, bounds.0), omega (arith, ints, bounds.1))
 
-pub returns-clause-within : goal.returns-clause-within
-returns-clause-within c =
+pub returns-clause-years : goal.returns-clause-years
+returns-clause-years c =
     let date = c.date_in-date.result in
     let bounds = near date.year _ date.month date.day refl (omega (arith, ints, c.if-date-lt1.false)) c.date_in-date.ensures.small (c.valid.ensures.date.0 c.if-not-valid.false) in
     search (rules, bounds.0, bounds.1)

@@ -1,4 +1,4 @@
-use Rattle.std.proofs.Common.{◌≡◌, ◌-◌, ◌+◌, Some, sym, ◌∙◌, arith, rules}
+use Rattle.std.proofs.Common.{arith, rules}
 use Rattle.rr_text.proofs.BasicLemmas.{short_number}
 use Rattle.rr_text.proofs.moment.number_at.Goals as goal
 

@@ -1,0 +1,4 @@
+pub mod DailyTextParts
+pub mod IntervalText
+pub mod Reading
+pub mod AnswerLemmas

@@ -1,0 +1,10 @@
+//! Greatest common divisors, least common multiples within a bound, and the cycle of a rule.
+#![tactic(auto)]
+
+mod cycle;
+mod divisors;
+#[cfg(test)]
+mod tests;
+
+pub use cycle::day_cycle;
+pub use divisors::{gcd, lcm_within};
