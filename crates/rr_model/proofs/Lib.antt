@@ -37,3 +37,7 @@ pub mod RuleCycleLemmas
 pub mod SoundnessLemmas
 pub mod SeriesCycleLemmas
 pub mod StartLemmas
+mod ReadsExamples
+pub mod ReadingLemmas
+pub mod RulePartLemmas
+pub mod PartOrderLemmas

@@ -27,3 +27,4 @@ pub mod Cycle
 pub mod Answers
 pub mod Soundness
 pub mod SeriesCycle
+pub mod ReadingLaws

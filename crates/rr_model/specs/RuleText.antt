@@ -1,5 +1,5 @@
 -- Numbers, weekdays and lists of a rule's text (RFC 5545, section 3.3.10). Letters are capitals.
-use Rattle.std.specs.Prelude.{ℕ, ◌-◌, ◌==◌, nat_le, nat_lt, Bool, true, false, ◌&&◌, ◌||◌, if◌then◌else◌, ℤ, pos, nat_abs, List, [], ◌∷◌, length, take, drop, codes, Option, None, Some, ok_or, Result, Ok, Err, int_lt}
+use Rattle.std.specs.Prelude.{ℕ, ◌-◌, ◌==◌, nat_le, nat_lt, Bool, true, false, ◌&&◌, ◌||◌, if◌then◌else◌, ℤ, pos, List, [], ◌∷◌, length, take, drop, codes, Option, None, Some, ok_or, Result, Ok, Err, int_lt}
 use Rattle.std.specs.List.{list_all, slice_split}
 use Rattle.std.specs.Option.{is_some}
 use Rattle.std.specs.Str.{bytes_eq}
