@@ -37,7 +37,6 @@ pub mod RuleCycleLemmas
 pub mod SoundnessLemmas
 pub mod SeriesCycleLemmas
 pub mod StartLemmas
-mod ReadsExamples
 pub mod ReadingLemmas
 pub mod RulePartLemmas
 pub mod PartOrderLemmas
