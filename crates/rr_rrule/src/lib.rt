@@ -10,3 +10,6 @@ mod values;
 mod words;
 
 pub use reading::{is_plain_text, read};
+
+#[cfg(test)]
+mod tests;
