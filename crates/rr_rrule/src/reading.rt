@@ -1,8 +1,9 @@
 // Reads a text of a start and a rule.
-ghost use Rattle.std.specs.Prelude.{◌≡◌, ◌↔◌, ◌==◌, ◌&&◌, nat_lt, not, IsTrue, IsNone};
+ghost use Rattle.std.specs.Prelude.{◌≡◌, ◌↔◌, ◌==◌, ◌&&◌, nat_lt, not, IsTrue, IsNone, IfOk};
 ghost use Rattle.std.specs.List.{list_all};
 ghost use Rattle.rr_model.specs.Answers.{Answers};
 ghost use Rattle.rr_model.specs.Reads.{start_of, rule_parts, reads_values, reads, IsPlainText};
+ghost use Rattle.rr_model.specs.RuleValidity.{IsValidSeries};
 
 use crate::parts::{moment_of, parts_of};
 use crate::rule::{rule_of, series_with};
@@ -47,7 +48,8 @@ fn read_values(alloc: Global, start: &[u8], rule: &[u8]) -> Result<Series, Fault
 pub fn read(alloc: Global, bytes: &[u8], _offset: Option<i32>) -> Result<Series, Fault>
     requires plain { IsPlainText bytes.now }
     requires no_offset { IsNone _offset }
-    ensures { Answers (reads bytes.now) result }
+    ensures answers { Answers (reads bytes.now) result }
+    ensures valid { IfOk result IsValidSeries }
 {
     match values_of(bytes) {
         Some((start, rule)) => read_values(alloc, start, rule),
