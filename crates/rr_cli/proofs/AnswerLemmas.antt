@@ -4,7 +4,7 @@ use Rattle.std.specs.Prelude.{codes}
 use Rattle.std.proofs.Math.Seq.{take-append_seam, drop-append_seam}
 use Rattle.std.proofs.lemmas.List.{append_cancel_left, append_cancel_right}
 use Rattle.rr_cli.specs.Answer.{Answer, IsEqualSaid, IsEqualAnswer, AnswerIsOne, said}
-use Rattle.rr_cli.specs.Command.{equal}
+use Rattle.rr_cli.specs.Command.{equal, check}
 use Rattle.rr_model.specs.Daily.{DailySeries, IsDailyOccurrence}
 use Rattle.rr_cli.specs.DailyText.{IsDailyText, interval_part, interval_of, StatesDaily, StatesNoDate, IsDailyReading}
 use Rattle.rr_model.specs.MomentText.{basic_date}

@@ -13,8 +13,8 @@ mod run;
 mod tests;
 mod words;
 
-use rr_io::{HostSink, HostSource};
 pub use laws::answer_is_one;
+use rr_io::{HostSink, HostSource};
 pub use run::{Status, run as run_words};
 use std::alloc::AllocError;
 use std::env;

@@ -110,32 +110,115 @@ fn verdicts_and_refusals(rt: HostRuntime) -> Result<(), Fail> {
 fn cycles_and_refusals(rt: HostRuntime) -> Result<(), Fail> {
     let alloc = rt.alloc();
     let cases: [(&[u8], Status, &[u8]); 20] = [
-        (b"DTSTART:20240229\nRRULE:FREQ=YEARLY;INTERVAL=4;BYMONTH=2;BYMONTHDAY=29\n", Status::Yes, b"cycle 146097\n"),
-        (b"DTSTART:20240101T090000\nRRULE:FREQ=HOURLY;INTERVAL=7;BYDAY=MO\n", Status::Yes, b"cycle 7\n"),
-        (b"DTSTART:20240101T000000\nRRULE:FREQ=SECONDLY;INTERVAL=4294967295\n", Status::Refused, b"refused A CycleTooLong\n"),
-        (b"DTSTART:20240102\nRRULE:FREQ=MONTHLY;BYDAY=TU;BYSETPOS=1\n", Status::Refused, b"refused A NotBuilt\n"),
-        (b"DTSTART:20240101\nRRULE:FREQ=MONTHLY;INTERVAL=113\n", Status::Yes, b"cycle 16508961\n"),
-        (b"DTSTART:20240101\nRRULE:FREQ=MONTHLY;INTERVAL=127\n", Status::Refused, b"refused A CycleTooLong\n"),
-        (b"DTSTART:20230229\nRRULE:FREQ=DAILY\n", Status::Refused, b"refused A BadMoment 1\n"),
-        (b"DTSTART:20240101\nRRULE:FREQ=FORTNIGHTLY\n", Status::Refused, b"refused A BadRule 2\n"),
-        (b"DTSTART:20240101\nRRULE:FREQ=DAILY;FREQ=DAILY\n", Status::Refused, b"refused A PartTwice 2\n"),
-        (b"DTSTART:20240101\nRRULE:FREQ=DAILY;COUNT=0\n", Status::Refused, b"refused A NumberRange 2\n"),
-        (b"DTSTART:20240101\nRRULE:FREQ=DAILY;COUNT=2;UNTIL=20240102\n", Status::Refused, b"refused A UntilAndCount\n"),
-        (b"DTSTART:20240101\nRRULE:FREQ=DAILY;BYYEARDAY=1\n", Status::Refused, b"refused A NotAllowed\n"),
-        (b"DTSTART:20240101T090000\nRRULE:FREQ=DAILY;BYSECOND=60\n", Status::Refused, b"refused A LeapSecond\n"),
-        (b"DTSTART:20240101T090000\nRRULE:FREQ=DAILY;UNTIL=20240105\n", Status::Refused, b"refused A UntilKind\n"),
-        (b"DTSTART:20240101\nRRULE:FREQ=DAILY;UNTIL=20231231\n", Status::Refused, b"refused A UntilBeforeStart\n"),
-        (b"DTSTART:20240102\nRRULE:FREQ=WEEKLY;BYDAY=MO\n", Status::Refused, b"refused A NotSynchronised 1\n"),
-        (b"DTSTART:20240101\nRRULE:FREQ=DAILY;SKIP=OMIT\n", Status::Refused, b"refused A Extended\n"),
-        (b"DTSTART:20240101\nRRULE:FREQ=DAILY;INTERVAL=4294967296\n", Status::Refused, b"refused A NumberRange 2\n"),
-        (b"DTSTART:20240101\nRRULE:FREQ=DAILY;COUNT=18446744073709551615\n", Status::Yes, b"cycle 1\n"),
-        (b"DTSTART:20240101\nRRULE:FREQ=DAILY", Status::Refused, b"refused A NotBuilt\n"),
+        (
+            b"DTSTART:20240229\nRRULE:FREQ=YEARLY;INTERVAL=4;BYMONTH=2;BYMONTHDAY=29\n",
+            Status::Yes,
+            b"cycle 146097\n",
+        ),
+        (
+            b"DTSTART:20240101T090000\nRRULE:FREQ=HOURLY;INTERVAL=7;BYDAY=MO\n",
+            Status::Yes,
+            b"cycle 7\n",
+        ),
+        (
+            b"DTSTART:20240101T000000\nRRULE:FREQ=SECONDLY;INTERVAL=4294967295\n",
+            Status::Refused,
+            b"refused A CycleTooLong\n",
+        ),
+        (
+            b"DTSTART:20240102\nRRULE:FREQ=MONTHLY;BYDAY=TU;BYSETPOS=1\n",
+            Status::Refused,
+            b"refused A NotBuilt\n",
+        ),
+        (
+            b"DTSTART:20240101\nRRULE:FREQ=MONTHLY;INTERVAL=113\n",
+            Status::Yes,
+            b"cycle 16508961\n",
+        ),
+        (
+            b"DTSTART:20240101\nRRULE:FREQ=MONTHLY;INTERVAL=127\n",
+            Status::Refused,
+            b"refused A CycleTooLong\n",
+        ),
+        (
+            b"DTSTART:20230229\nRRULE:FREQ=DAILY\n",
+            Status::Refused,
+            b"refused A BadMoment 1\n",
+        ),
+        (
+            b"DTSTART:20240101\nRRULE:FREQ=FORTNIGHTLY\n",
+            Status::Refused,
+            b"refused A BadRule 2\n",
+        ),
+        (
+            b"DTSTART:20240101\nRRULE:FREQ=DAILY;FREQ=DAILY\n",
+            Status::Refused,
+            b"refused A PartTwice 2\n",
+        ),
+        (
+            b"DTSTART:20240101\nRRULE:FREQ=DAILY;COUNT=0\n",
+            Status::Refused,
+            b"refused A NumberRange 2\n",
+        ),
+        (
+            b"DTSTART:20240101\nRRULE:FREQ=DAILY;COUNT=2;UNTIL=20240102\n",
+            Status::Refused,
+            b"refused A UntilAndCount\n",
+        ),
+        (
+            b"DTSTART:20240101\nRRULE:FREQ=DAILY;BYYEARDAY=1\n",
+            Status::Refused,
+            b"refused A NotAllowed\n",
+        ),
+        (
+            b"DTSTART:20240101T090000\nRRULE:FREQ=DAILY;BYSECOND=60\n",
+            Status::Refused,
+            b"refused A LeapSecond\n",
+        ),
+        (
+            b"DTSTART:20240101T090000\nRRULE:FREQ=DAILY;UNTIL=20240105\n",
+            Status::Refused,
+            b"refused A UntilKind\n",
+        ),
+        (
+            b"DTSTART:20240101\nRRULE:FREQ=DAILY;UNTIL=20231231\n",
+            Status::Refused,
+            b"refused A UntilBeforeStart\n",
+        ),
+        (
+            b"DTSTART:20240102\nRRULE:FREQ=WEEKLY;BYDAY=MO\n",
+            Status::Refused,
+            b"refused A NotSynchronised 1\n",
+        ),
+        (
+            b"DTSTART:20240101\nRRULE:FREQ=DAILY;SKIP=OMIT\n",
+            Status::Refused,
+            b"refused A Extended\n",
+        ),
+        (
+            b"DTSTART:20240101\nRRULE:FREQ=DAILY;INTERVAL=4294967296\n",
+            Status::Refused,
+            b"refused A NumberRange 2\n",
+        ),
+        (
+            b"DTSTART:20240101\nRRULE:FREQ=DAILY;COUNT=18446744073709551615\n",
+            Status::Yes,
+            b"cycle 1\n",
+        ),
+        (
+            b"DTSTART:20240101\nRRULE:FREQ=DAILY",
+            Status::Refused,
+            b"refused A NotBuilt\n",
+        ),
     ];
     for (text, status, said) in cases {
         let mut source = SteadySource::new(alloc);
         source.hold("a", text).ok().ok_or("memory")?;
         let mut sink = SteadySink::new(alloc);
-        assert_eq!(rt; run(alloc, &["check", "rrule:a"], &mut source, &mut sink), status);
+        assert_eq!(rt;
+            run(alloc, &["check", "rrule:a"], &mut source, &mut sink),
+            status
+        );
         assert_eq!(rt; sink.bytes(), said);
     }
     Ok(())
