@@ -257,18 +257,18 @@ fn faults(rt: HostRuntime) -> Result<(), Fail> {
     source.hold("b", EVERY_THIRD_DAY).ok().ok_or("memory")?;
     source.fail(2).ok().ok_or("memory")?;
     let mut sink = MemorySink::new(alloc);
-    sink.fail(2, 2).ok().ok_or("memory")?;
+    sink.fail(1, 2).ok().ok_or("memory")?;
     assert_eq!(rt;
         run(alloc, &EQUAL, &mut source, &mut sink),
         Status::ReadFault
     );
     assert_eq!(rt; sink.bytes(), b"".as_slice());
-    assert_eq!(rt; run(alloc, &EQUAL, &mut source, &mut sink), Status::No);
-    assert_eq!(rt; sink.bytes(), b"no 2024-01-03 A\n".as_slice());
     assert_eq!(rt;
         run(alloc, &EQUAL, &mut source, &mut sink),
         Status::WriteFault
     );
-    assert_eq!(rt; sink.bytes(), b"no 2024-01-03 A\nno".as_slice());
+    assert_eq!(rt; sink.bytes(), b"no".as_slice());
+    assert_eq!(rt; run(alloc, &EQUAL, &mut source, &mut sink), Status::No);
+    assert_eq!(rt; sink.bytes(), b"nono 2024-01-03 A\n".as_slice());
     Ok(())
 }
