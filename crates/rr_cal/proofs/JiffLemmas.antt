@@ -1,7 +1,6 @@
 -- The calendar's day numbers, beside those of `jiff`.
 use Rattle.std.proofs.Common.{◌≡◌, ◌↔◌, ℕ, zero, suc, ◌+◌, ◌-◌, ◌%◌, ◌≤◌, cond, not, ◌==◌, ◌&&◌, ◌||◌, refl, sym, ap, ◌∙◌, arith, ℤ, pos, negsuc, neg_ℤ, ◌+ℤ◌, ◌-ℤ◌, ◌*ℤ◌, ◌≤ℤ◌, unsigned_abs}
 use Rattle.std.proofs.lemmas.Bool.Decides.{nat_tests}
-use Rattle.std.specs.Int.{int_div_euclid, int_rem_euclid}
 use Rattle.jiff_core.specs.Calendar.{IsYear, IsDate as IsJiffDate, is_leap_year, days_in_month, days_of_months as days_of_jiff_months, day_count, days_from_civil, weekday_number}
 use Rattle.jiff_core.proofs.SignedLemmas.{signed_arith}
 use Rattle.jiff_core.proofs.CalendarLemmas.{days_from_civil-day_count, day_count-day_of_year}
@@ -10,21 +9,12 @@ use Rattle.jiff_core.specs.Date.{epoch_day}
 use Rattle.jiff_core.specs.declared.civil.date.Date.{Date as Plain}
 use Rattle.rr_model.specs.Whole.{floor_div, floor_mod, divides}
 use Rattle.rr_model.specs.Calendar.{is_leap, month_length, year_length, days_of_months, first_day_of_year, day_number, IsDate, IsDayWithin, weekday_of, kind_of_year}
+use Rattle.rr_model.proofs.FloorLemmas.{floor_div-int, floor_mod-int}
 use Rattle.rr_model.proofs.CalendarLemmas.{first_day_of_year_bounds, IsInYear-day_number}
 use Rattle.rr_model.proofs.CycleLemmas.{IsDate-cycle, day_number-cycle, month_length-cycle}
 use Rattle.rr_model.proofs.WeekLemmas.{day_number-january_1}
 use Rattle.rr_model.proofs.CalendarLawProofs.{kind_of_year-cycle}
 use borrow.Author.Differences.{up, down}
-
--- ---- division
-
-pub floor_div-int : (z : ℤ) (n : ℕ) → floor_div z n ≡ int_div_euclid z (pos n)
-floor_div-int (pos a) n = refl
-floor_div-int (negsuc a) n = refl
-
-pub floor_mod-int : (z : ℤ) (n : ℕ) → floor_mod z n ≡ unsigned_abs (int_rem_euclid z (pos n))
-floor_mod-int (pos a) n = refl
-floor_mod-int (negsuc a) n = refl
 
 -- ---- the same calendar
 
@@ -101,7 +91,7 @@ year_near_day y m k h near =
 
 weekday_of-jiff : (d : ℤ) → weekday_of d ≡ weekday_number d
 unfolding weekday_of weekday_number
-weekday_of-jiff d = floor_mod-int (d +ℤ pos 3) 7
+weekday_of-jiff d = ap unsigned_abs (floor_mod-int (d +ℤ pos 3) 7)
 
 -- a year's kind, by 1 January of the year of the same place in the cycle that holds the year 0
 pub kind_of_year-jiff : (y q : ℤ) (d : Plain) → y ≡ d.year +ℤ (pos 400 *ℤ q) → d.month ≡ 1 → d.day ≡ 1 → kind_of_year y ≡ weekday_number (epoch_day d) + cond (is_leap_year d.year) 7 0

@@ -1,5 +1,5 @@
 // Weekdays, weeks and kinds of year.
-ghost use Rattle.std.specs.Prelude.{◌≡◌, ◌+◌, ◌/◌};
+ghost use Rattle.std.specs.Prelude.{◌≡◌, ◌+◌, ◌/◌, ◌<◌, ◌≤◌};
 ghost use Rattle.rr_model.specs.Calendar.{days_into_year, IsDayWithin, kind_of_year, weekday_of};
 ghost use Rattle.rr_model.specs.Week.{fourth_day, last_week, week_index, week_number, week_year};
 
@@ -20,7 +20,8 @@ pub struct Week {
 /// The weekday of a day, from 0 for Monday to 6 for Sunday.
 pub fn weekday(day: i64) -> u8
     requires near { IsDayWithin 1000 day }
-    ensures { result ≡ weekday_of day }
+    ensures value { result ≡ weekday_of day }
+    ensures below { result < 7 }
 {
     (day + 3).rem_euclid(7) as u8
 }
@@ -41,6 +42,7 @@ pub fn week_of(day: i64, week_start: u8) -> Week
     ensures year { result.year ≡ week_year (week_index day week_start) week_start }
     ensures number { result.number ≡ week_number (week_index day week_start) week_start }
     ensures last { result.last ≡ last_week result.year week_start }
+    ensures range { (1 ≤ result.number) × (result.number ≤ result.last) × (result.last ≤ 53) }
 {
     let fourth = fourth_of_week(day, week_start);
     let year = date_of_near(fourth).year;
@@ -83,7 +85,8 @@ fn number_of_week(fourth: i64) -> u8
 
 /// The kind of a year, of which there are 14: the weekday of 1 January, plus 7 in a leap year. Any year.
 pub fn year_kind(year: i64) -> u8
-    ensures { result ≡ kind_of_year year }
+    ensures value { result ≡ kind_of_year year }
+    ensures below { result < 14 }
 {
     let new_year = civil::date(year.rem_euclid(CYCLE_YEARS) as i16, 1, 1);
     let weekday = new_year.weekday().to_monday_zero_offset() as u8;

@@ -1,3 +1,7 @@
+pub mod Command
+pub mod DailyText
+pub mod Answer
 pub mod Series
-pub mod Difference
+pub mod Outcome
+pub mod Printable
 pub mod Run

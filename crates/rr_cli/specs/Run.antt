@@ -2,12 +2,19 @@
 use Rattle.std.specs.Prelude.{◌≡◌, ◌⊎◌, ℕ, ◌+◌, ◌<◌, ◌≤◌, List, [], ◌∷◌, ◌++◌, take, map, Option, Some, None}
 use Rattle.std.specs.Borrow.{Bor}
 use Rattle.rr_io.specs.Outside.{Appended, AppendedPart, Rose}
-use Rattle.rr_model.specs.Answer.{Answer}
-use Rattle.rr_model.specs.Command.{Command, IsOperandOf}
-use Rattle.rr_model.specs.declared.conclusion.Conclusion.{Conclusion}
-use Rattle.rr_model.specs.declared.conclusion.Conclusion.TheVariants as conclusion
+use Rattle.rr_cli.specs.Answer.{Answer}
+use Rattle.rr_cli.specs.Command.{Command, equal, check, IsOperandOf}
+use Rattle.rr_cli.specs.declared.words.Command.{Command as Parsed}
+use Rattle.rr_cli.specs.declared.words.Command.TheVariants.{Equal, Check}
+use Rattle.rr_cli.specs.declared.conclusion.Conclusion.{Conclusion}
+use Rattle.rr_cli.specs.declared.conclusion.Conclusion.TheVariants as conclusion
 use Rattle.rr_cli.specs.declared.run.Status.{Status}
 use Rattle.rr_cli.specs.declared.run.Status.TheVariants.{Yes, No, Refused, Usage, ReadFault, WriteFault, NoMemory}
+
+-- the command that a value of the program is
+abbrev pub command_in : Parsed → Command
+command_in (Equal a b) = equal a.now b.now
+command_in (Check a) = check a.now
 
 -- the texts that the words are
 abbrev pub words_of : List (Bor (List ℕ)) → List (List ℕ)

@@ -2,7 +2,7 @@
 ghost use Rattle.std.specs.Prelude.{◌≡◌, ◌≢◌, ◌++◌, ◌∷◌, [], ◌≤◌, ℕ, List, MatchOption, length};
 ghost use Rattle.std.specs.List.{list_all};
 ghost use Rattle.rr_model.specs.Digits.{is_digit, digits_value};
-ghost use Rattle.rr_model.specs.DailyText.{IsDailyText, IsIntervalText, IsDailyReading, interval_part, interval_of};
+ghost use Rattle.rr_cli.specs.DailyText.{IsDailyText, IsIntervalText, IsDailyReading, interval_part, interval_of};
 ghost use Rattle.rr_cli.specs.Series.{reading_of};
 
 use crate::daily::Daily;
@@ -27,7 +27,12 @@ fn interval_digits(bytes: &[u8]) -> Option<&[u8]>
     ensures { MatchOption result ((i : List ℕ) → IsIntervalText i → (i ≡ [] → ⊥) → bytes.now ≢ i ++ 10 ∷ []) (λ r. (bytes.now ≡ r.now ++ 10 ∷ []) × IsIntervalText r.now × (r.now ≡ [] → ⊥)) }
 {
     let (last, digits) = bytes.split_last()?;
-    if *last == b'\n' && digits.len() <= 3 && !digits.is_empty() && digits[0] != b'0' && are_digits(digits) {
+    if *last == b'\n'
+        && digits.len() <= 3
+        && !digits.is_empty()
+        && digits[0] != b'0'
+        && are_digits(digits)
+    {
         Some(digits)
     } else {
         None

@@ -1,9 +1,9 @@
 // Whether two daily series have the same occurrences.
 ghost use Rattle.std.specs.Prelude.{◌≡◌, ◌≤◌, ◌+◌, pos, neg_ℤ, ◌+ℤ◌, ◌≤ℤ◌, IfSome, IfNone};
-ghost use Rattle.rr_model.specs.Daily.{has_day, IsDailyOccurrence};
+ghost use Rattle.rr_model.specs.Daily.{has_day, IsDailyOccurrence, IsFirstDifference, side_of};
 ghost use Rattle.rr_model.specs.Periodic.{AgreeOn};
 ghost use Rattle.rr_model.specs.Verdict.{IsEqualVerdict};
-ghost use Rattle.rr_cli.specs.Difference.{IsFirstDifference, side_of};
+ghost use Rattle.rr_cli.specs.Printable.{IsPrintable};
 ghost use Rattle.rr_cli.specs.Series.{series_of};
 
 use crate::daily::Daily;
@@ -34,6 +34,7 @@ fn first_difference(a: &Daily, b: &Daily, from: i64, days: u64) -> Option<(i64, 
     requires few { days ≤ 4_000_000 }
     ensures none { IfNone result (AgreeOn (has_day (series_of a.now)) (has_day (series_of b.now)) from days) }
     ensures some { IfSome result (λ r. IsFirstDifference (series_of a.now) (series_of b.now) from r.0 r.1) }
+    ensures near { IfSome result (λ r. r.0 ≤ℤ pos 10_000_000) }
 {
     for k in 0..days {
         let day = from + k as i64;
@@ -49,7 +50,8 @@ fn first_difference(a: &Daily, b: &Daily, from: i64, days: u64) -> Option<(i64, 
 ///
 /// It looks at no more days than lie between the starts and in both intervals: series that agree so long agree for ever.
 pub fn equal(a: &Daily, b: &Daily) -> Verdict
-    ensures { IsEqualVerdict (IsDailyOccurrence (series_of a.now)) (IsDailyOccurrence (series_of b.now)) result }
+    ensures verdict { IsEqualVerdict (IsDailyOccurrence (series_of a.now)) (IsDailyOccurrence (series_of b.now)) result }
+    ensures printable { IsPrintable result }
 {
     let from = a.start.min(b.start);
     let days = days_between(from, a.start.max(b.start)) + a.interval + b.interval;

@@ -1,19 +1,21 @@
 //! `rr` says of repeating series whether they have the same occurrences for all years to come.
 #![tactic(auto)]
 
+mod check;
+mod conclusion;
 mod daily;
 mod daily_text;
 mod decide;
+mod laws;
 mod outcome;
 mod run;
-mod words;
-
 #[cfg(test)]
 mod tests;
+mod words;
 
-pub use run::{Status, run as run_words};
-
+pub use laws::answer_is_one;
 use rr_io::{HostSink, HostSource};
+pub use run::{Status, run as run_words};
 use std::alloc::AllocError;
 use std::env;
 use std::process::ExitCode;

@@ -1,17 +1,100 @@
 // What a run says.
 ghost use Rattle.std.specs.Prelude.{◌≡◌, ◌≢◌, IfOk};
-ghost use Rattle.rr_model.specs.Answer.{refused, said, usage, IsEqualAnswer};
-ghost use Rattle.rr_cli.specs.Run.{answer_of};
+ghost use Rattle.rr_cli.specs.Answer.{refused, said, side_text, usage, usage_text, IsEqualAnswer};
+ghost use Rattle.rr_cli.specs.Outcome.{answer_of};
+ghost use Rattle.rr_cli.specs.Printable.{IsPrintable, IsPrintableAt};
+ghost use Rattle.rr_model.specs.declared.verdict.Verdict.TheVariants as verdict;
 
+use crate::conclusion::Conclusion;
 use crate::daily_text::read;
 use crate::decide::equal;
-use rr_model::{Conclusion, Kind, NoMemory, Refusal, Side, Verdict};
+use rr_model::{Kind, NoMemory, Refusal, Side, Verdict};
 use rr_text::push_extended;
 use std::alloc::Global;
 
 /// How a run ends, and the bytes that it puts.
 #[derive(Drop)]
 pub struct Outcome {
+    /// How it ends.
     pub conclusion: Conclusion,
+    /// The bytes.
     pub text: Vec<u8>,
+}
+
+fn side_text(side: Side) -> &'static str
+    ensures { result.now ≡ side_text side }
+{
+    match side {
+        Side::A => "A",
+        Side::B => "B",
+        Side::Both => "both",
+    }
+}
+
+/// The refusal of an operand.
+pub fn refused(alloc: Global, side: Side, refusal: Refusal) -> Result<Outcome, NoMemory>
+    ensures answer { IfOk result (λ x. answer_of x ≡ refused side refusal) }
+    ensures not_usage { IfOk result (λ x. x.conclusion ≢ Conclusion.Usage) }
+{
+    let side = side_text(side);
+    let text = format!(in alloc; "refused {side} {refusal}\n")?;
+    Ok(Outcome {
+        conclusion: Conclusion::Refused,
+        text: text.into_bytes(),
+    })
+}
+
+// A no with the first counterexample and its side.
+fn no_text(alloc: Global, kind: Kind, at: i64, side: Side) -> Result<Vec<u8>, NoMemory>
+    requires { IsPrintableAt kind at }
+    ensures { IfOk result (λ text. text.items ≡ (said (verdict.No kind at side)).bytes) }
+{
+    let mut text = Vec::from_slice(alloc, b"no ")?;
+    push_extended(&mut text, kind, at)?;
+    text.push(b' ')?;
+    text.extend_from_slice(side_text(side).as_bytes())?;
+    text.push(b'\n')?;
+    Ok(text)
+}
+
+// A verdict.
+fn said(alloc: Global, verdict: Verdict) -> Result<Outcome, NoMemory>
+    requires { IsPrintable verdict }
+    ensures answer { IfOk result (λ x. answer_of x ≡ said verdict) }
+    ensures not_usage { IfOk result (λ x. x.conclusion ≢ Conclusion.Usage) }
+{
+    match verdict {
+        Verdict::Yes => Ok(Outcome {
+            conclusion: Conclusion::Yes,
+            text: Vec::from_slice(alloc, b"yes\n")?,
+        }),
+        Verdict::No { kind, at, side } => Ok(Outcome {
+            conclusion: Conclusion::No,
+            text: no_text(alloc, kind, at, side)?,
+        }),
+    }
+}
+
+/// The usage line.
+pub fn usage(alloc: Global) -> Result<Outcome, NoMemory>
+    ensures { IfOk result (λ x. answer_of x ≡ usage) }
+{
+    let text =
+        b"usage: rr equal A B | within A B | disjoint A B | canon A | translate LANG A | infer A | list N A | check A | drill SEED N\n";
+    Ok(Outcome {
+        conclusion: Conclusion::Usage,
+        text: Vec::from_slice(alloc, text)?,
+    })
+}
+
+/// What is said of two operands' bytes: the refusal of A, else that of B, else the verdict.
+pub fn equal_outcome(alloc: Global, a: &[u8], b: &[u8]) -> Result<Outcome, NoMemory>
+    ensures answer { IfOk result (λ x. IsEqualAnswer a.now b.now (answer_of x)) }
+    ensures not_usage { IfOk result (λ x. x.conclusion ≢ Conclusion.Usage) }
+{
+    match (read(a), read(b)) {
+        (Err(refusal), _) => refused(alloc, Side::A, refusal),
+        (Ok(_), Err(refusal)) => refused(alloc, Side::B, refusal),
+        (Ok(x), Ok(y)) => said(alloc, equal(&x, &y)),
+    }
 }

@@ -81,7 +81,9 @@ impl<R: Files + Input + Drop> Source for HostSource<R> {
     fn fetch(&mut self, alloc: Global, name: &str) -> Result<Vec<u8>, FetchError>
         ensures { self.new ≡ failed_after result name.now self.old }
     {
+        // The name and room for it first: a fetch that fails then wants no memory to note it.
         let noted = String::from_str(self.alloc, name)?;
+        self.failed.reserve(1)?;
         match self.read_name(alloc, name) {
             Ok(bytes) => Ok(bytes),
             Err(error) if error.kind() == ErrorKind::OutOfMemory => Err(FetchError::NoMemory),

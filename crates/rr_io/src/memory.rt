@@ -4,8 +4,7 @@ ghost use Rattle.rr_io.specs.Names.{bytes_at, Sets};
 ghost use Rattle.rr_io.specs.Outside.{KeepsHeld, failed_after, faults_after, next_number, IsPut};
 ghost use Rattle.rr_io.specs.Memory.{IsToFail, FailsExactly, first_of, PutsAs};
 
-use crate::names::Names;
-use crate::steady::front;
+use crate::names::{Names, front};
 use crate::{FetchError, PutError, Sink, Source};
 use rr_model::{MAX_INPUT, NoMemory};
 use std::alloc::Global;

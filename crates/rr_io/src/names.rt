@@ -1,12 +1,13 @@
 // Names with bytes, which the sources in memory hold.
-ghost use Rattle.std.specs.Prelude.{◌≡◌, [], option_map, OnOk, OnErr};
+ghost use Rattle.std.specs.Prelude.{◌≡◌, ◌+◌, [], take, option_map, IfOk, OnOk, OnErr};
 ghost use Rattle.rr_io.specs.Names.{bytes_at, Sets};
 
-use rr_model::NoMemory;
-use std::alloc::Global;
+use rr_model::{MAX_INPUT, NoMemory};
+use std::alloc::{AllocError, Global};
 use std::collections::BTreeMap;
 use std::marker::Model;
 
+/// Names with bytes, each name once.
 #[derive(Drop)]
 pub struct Names {
     alloc: Global,
@@ -24,6 +25,7 @@ impl Model for Names {
 }
 
 impl Names {
+    /// No names.
     pub fn new(alloc: Global) -> Self
         ensures { result ≡ [] }
     {
@@ -33,6 +35,7 @@ impl Names {
         }
     }
 
+    /// Puts these bytes under the name, in place of those that it had. Every other name keeps its own.
     pub fn hold(&mut self, name: &str, bytes: &[u8]) -> Result<(), NoMemory>
         ensures ok { OnOk result (Sets self.old self.new name.now bytes.now) }
         ensures err { OnErr result (self.new ≡ self.old) }
@@ -43,6 +46,7 @@ impl Names {
         Ok(())
     }
 
+    /// The bytes under the name, where it is there.
     pub fn get(&self, name: &str) -> Option<&[u8]>
         ensures { option_map (λ b. b.now) result ≡ bytes_at self.now name.now }
     {
@@ -51,4 +55,11 @@ impl Names {
             Some(bytes) => Some(bytes.as_slice()),
         }
     }
+}
+
+/// A copy of the bytes, cut behind `MAX_INPUT + 1`.
+pub fn front(alloc: Global, bytes: &[u8]) -> Result<Vec<u8>, AllocError>
+    ensures { IfOk result (λ v. v.items ≡ take (MAX_INPUT + 1) bytes.now) }
+{
+    bytes[..(MAX_INPUT + 1).min(bytes.len())].to_vec(alloc)
 }

@@ -3,10 +3,10 @@ ghost use Rattle.std.specs.Prelude.{◌≡◌, ◌++◌, ◌+◌, [], Some, take
 ghost use Rattle.rr_io.specs.Names.{bytes_at, Sets};
 ghost use Rattle.rr_io.specs.Outside.{IsPut};
 
-use crate::names::Names;
+use crate::names::{Names, front};
 use crate::{FetchError, PutError, Sink, Source};
 use rr_model::{MAX_INPUT, NoMemory};
-use std::alloc::{AllocError, Global};
+use std::alloc::Global;
 use std::marker::Model;
 
 /// Names with bytes, of which no fetch fails. A name that is not there has no bytes.
@@ -35,17 +35,6 @@ impl Model for SteadySink {
     ghost Value = { List ℕ };
 
     ghost view = { λ s. s.bytes.items };
-}
-
-// A copy of the bytes, cut behind `MAX_INPUT + 1`.
-pub fn front(alloc: Global, bytes: &[u8]) -> Result<Vec<u8>, AllocError>
-    ensures { IfOk result (λ v. v.items ≡ take (MAX_INPUT + 1) bytes.now) }
-{
-    if bytes.len() > MAX_INPUT {
-        bytes[..MAX_INPUT + 1].to_vec(alloc)
-    } else {
-        bytes.to_vec(alloc)
-    }
 }
 
 impl SteadySource {

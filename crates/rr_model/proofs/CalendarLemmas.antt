@@ -5,7 +5,7 @@ use Rattle.std.proofs.lemmas.Int.{ints, by_lt_z}
 use Rattle.std.proofs.lemmas.Bool.{cases_lt, cases_order}
 use Rattle.std.proofs.lemmas.Bool.Decides.{nat_tests}
 use Rattle.rr_model.specs.Whole.{floor_div, floor_mod}
-use Rattle.rr_model.specs.Calendar.{year_length, month_length, days_of_months, first_day_of_year, day_number, IsDate, is_date, IsInYear, year_near, year_of, days_into_year, months_over, month_of, day_of_month}
+use Rattle.rr_model.specs.Calendar.{year_length, month_length, days_of_months, first_day_of_year, day_number, IsDate, is_date, IsInYear, year_near, year_of, days_into_year, months_over, month_of, day_of_month, weekday_of, kind_of_year}
 use Rattle.rr_model.proofs.WholeLemmas.{floor_only, floor_whole, floor_mod_below}
 use Rattle.rr_model.proofs.FloorLemmas.{floor_step}
 
@@ -289,3 +289,13 @@ date_only d y m k h e =
 
 pub is_date_is : (y : ℤ) (m k : ℕ) → IsTrue (is_date y m k) ↔ IsDate y m k
 is_date_is y m k = (λ e. grind (arith, nat_tests), λ h. grind (arith, nat_tests))
+
+-- ---- weekdays and kinds of year
+
+pub weekday_of_below : (d : ℤ) → weekday_of d < 7
+unfolding weekday_of
+weekday_of_below d = floor_mod_below (d +ℤ pos 3) 7 (omega arith)
+
+pub kind_of_year_below : (y : ℤ) → kind_of_year y < 14
+unfolding kind_of_year
+kind_of_year_below y = grind (arith, weekday_of_below (first_day_of_year y))

@@ -1,10 +1,23 @@
--- Division that rounds down, where whole multiples of the divisor are added.
-use Rattle.std.proofs.Common.{◌≡◌, ℕ, ◌+◌, ◌*◌, ◌<◌, ◌⊎◌, inl, inr, ℤ, pos, ◌+ℤ◌, ◌-ℤ◌, ◌*ℤ◌, ap, arith}
+-- Division that rounds down: beside `div_euclid` and `rem_euclid`, and where whole multiples of the divisor are added.
+use Rattle.std.proofs.Common.{◌≡◌, ℕ, ◌+◌, ◌*◌, ◌<◌, ◌⊎◌, inl, inr, ℤ, pos, negsuc, refl, ◌+ℤ◌, ◌-ℤ◌, ◌*ℤ◌, ap, arith}
+use Rattle.std.specs.Int.{int_div_euclid, int_rem_euclid}
 use Rattle.std.proofs.lemmas.Int.{ints}
 use Rattle.std.proofs.lemmas.Bool.{cases_lt}
 use borrow.Author.Differences.{sum_is_lem}
 use Rattle.rr_model.specs.Whole.{floor_div, floor_mod}
 use Rattle.rr_model.proofs.WholeLemmas.{floor_only, floor_whole, floor_mod_below}
+
+-- ---- what `div_euclid` and `rem_euclid` give by a positive divisor
+
+pub floor_div-int : (z : ℤ) (n : ℕ) → floor_div z n ≡ int_div_euclid z (pos n)
+floor_div-int (pos a) n = refl
+floor_div-int (negsuc a) n = refl
+
+pub floor_mod-int : (z : ℤ) (n : ℕ) → pos (floor_mod z n) ≡ int_rem_euclid z (pos n)
+floor_mod-int (pos a) n = refl
+floor_mod-int (negsuc a) n = refl
+
+-- ---- more whole turns
 
 -- a product of a sum: both parts multiplied
 pub *ℤ-add : (a b : ℤ) (n : ℕ) → (a +ℤ b) *ℤ pos n ≡ (a *ℤ pos n) +ℤ (b *ℤ pos n)

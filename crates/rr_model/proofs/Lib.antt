@@ -1,3 +1,5 @@
+mod MomentTextExamples
+pub mod DigitLemmas
 mod CalendarExamples
 pub mod CalendarLawProofs
 pub mod CalendarLemmas
@@ -5,26 +7,36 @@ pub mod CycleLemmas
 pub mod FloorLemmas
 pub mod NearLemmas
 pub mod PeriodicLemmas
+pub mod SecondsLemmas
+mod SketchExamples
+pub mod SketchLemmas
 pub mod RisingLemmas
 pub mod VerdictLemmas
 mod WeekExamples
 pub mod WeekLemmas
 pub mod WholeLemmas
+pub mod MomentTextLemmas
 mod ChosenExamples
+pub mod WindowLemmas
+pub mod RisingSetLemmas
 pub mod DailyLemmas
-mod MomentTextExamples
-pub mod AnswerLemmas
+pub mod MomentLemmas
 pub mod CountLemmas
 pub mod ShiftLemmas
 pub mod WeekShiftLemmas
 pub mod PartLemmas
 pub mod UnitLemmas
+mod ReadsExamples
 pub mod DivisorLemmas
 mod RuleExamples
-pub mod RuleCycleLemmas
 pub mod RepetitionLemmas
 pub mod RankLemmas
 pub mod StretchLemmas
+pub mod PrintedLemmas
+pub mod RuleCycleLemmas
 pub mod SoundnessLemmas
 pub mod SeriesCycleLemmas
 pub mod StartLemmas
+pub mod ReadingLemmas
+pub mod RulePartLemmas
+pub mod PartOrderLemmas

@@ -3,7 +3,7 @@ use Rattle.std.proofs.Common.{◌≡◌, pos, neg_ℤ, true, false, refl}
 use Rattle.std.specs.Prelude.{codes, None, Some}
 use Rattle.std.specs.Fmt.{digits}
 use Rattle.rr_model.specs.Calendar.{day_number, first_day_of_year, days_of_months, year_of, days_into_year, months_over, month_of, day_of_month}
-use Rattle.rr_model.specs.MomentText.{basic_date, basic_time, basic, extended_date_text, extended_time_text, extended_text, date_stamp, moment_stamp}
+use Rattle.rr_model.specs.MomentText.{is_digits, number_at, basic_date, basic_time, basic_moment, basic, extended_date_text, extended_time_text, extended_text, date_stamp, moment_stamp}
 use Rattle.rr_model.specs.declared.kind.Kind.TheVariants.{Days, Moments}
 
 basic_dates :
@@ -16,7 +16,7 @@ basic_dates :
     × (basic_date (codes "202401011") ≡ None)
     × (basic_date (codes "2024010") ≡ None)
     × (basic_date (codes "2024 101") ≡ None)
-unfolding day_number first_day_of_year days_of_months basic_date
+unfolding day_number first_day_of_year days_of_months is_digits number_at basic_date
 basic_dates = (refl, refl, refl, refl, refl, refl, refl, refl, refl)
 
 basic_moments :
@@ -28,7 +28,7 @@ basic_moments :
     × (basic (codes "19700101T000000ZZ") ≡ None)
     × (basic (codes "19700101Z") ≡ None)
     × (basic (codes "19700101 000000") ≡ None)
-unfolding day_number first_day_of_year days_of_months basic_date basic_time basic
+unfolding day_number first_day_of_year days_of_months is_digits number_at basic_date basic_time basic_moment basic
 basic_moments = (refl, refl, refl, refl, refl, refl, refl, refl)
 
 extended_texts :

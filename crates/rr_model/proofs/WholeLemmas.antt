@@ -2,7 +2,6 @@
 use Rattle.std.proofs.Common.{◌≡◌, ℕ, ◌+◌, ◌-◌, ◌*◌, ◌/◌, ◌%◌, ◌<◌, ℤ, pos, negsuc, ◌+ℤ◌, ◌*ℤ◌, ap, ◌∙◌, arith}
 use Rattle.std.proofs.lemmas.Int.{ints}
 use Rattle.std.proofs.lemmas.Nat.{div-mul-add, mod-mul-add, mod_below, div-add-mod'}
-use borrow.Author.Differences.{sum_is_lem}
 use Rattle.rr_model.specs.Whole.{floor_div, floor_mod}
 
 pub floor_only : (z q : ℤ) (n r : ℕ) → r < n → z ≡ (q *ℤ pos n) +ℤ pos r → (floor_div z n ≡ q) × (floor_mod z n ≡ r)
@@ -24,18 +23,3 @@ floor_mod_below (negsuc a) n h = omega arith
 pub floor_whole : (z : ℤ) (n : ℕ) → 0 < n → z ≡ (floor_div z n *ℤ pos n) +ℤ pos (floor_mod z n)
 floor_whole (pos a) n h = omega (arith, ints, div-add-mod' a n)
 floor_whole (negsuc a) n h = omega (arith, ints, div-add-mod' a n, mod_below a n h)
-
--- a product of a sum: the two parts of the sum, multiplied out
-pub *ℤ-add : (a : ℤ) (k n : ℕ) → (a +ℤ pos k) *ℤ pos n ≡ (a *ℤ pos n) +ℤ pos (k * n)
-*ℤ-add a k n =
-    let e = ap (λ x. x * n) (sum_is_lem a (pos k)) in
-    omega (arith, ints, e)
-
--- k whole turns more
-pub floor_div-add : (z : ℤ) (k n : ℕ) → 0 < n → floor_div (z +ℤ pos (k * n)) n ≡ floor_div z n +ℤ pos k
-floor_div-add z k n h =
-    (floor_only (z +ℤ pos (k * n)) (floor_div z n +ℤ pos k) n (floor_mod z n) (floor_mod_below z n h) (omega (arith, ints, floor_whole z n h, *ℤ-add (floor_div z n) k n))).0
-
-pub floor_mod-add : (z : ℤ) (k n : ℕ) → 0 < n → floor_mod (z +ℤ pos (k * n)) n ≡ floor_mod z n
-floor_mod-add z k n h =
-    (floor_only (z +ℤ pos (k * n)) (floor_div z n +ℤ pos k) n (floor_mod z n) (floor_mod_below z n h) (omega (arith, ints, floor_whole z n h, *ℤ-add (floor_div z n) k n))).1

@@ -1,5 +1,5 @@
 -- The texts of dates and moments: basic ones are read (RFC 5545, sections 3.3.4 and 3.3.5), extended ones printed (ISO 8601).
-use Rattle.std.specs.Prelude.{ℕ, ◌+◌, ◌-◌, ◌*◌, ◌/◌, ◌%◌, ◌==◌, nat_le, nat_lt, Bool, true, false, ◌&&◌, ◌||◌, if◌then◌else◌, ℤ, pos, nat_abs, List, [], ◌∷◌, ◌++◌, length, take, drop, replicate, slice_index, codes, Option, None, Some, option_map, option_and_then}
+use Rattle.std.specs.Prelude.{ℕ, ◌+◌, ◌-◌, ◌*◌, ◌/◌, ◌%◌, ◌==◌, nat_le, nat_lt, Bool, true, false, ◌&&◌, ◌||◌, if◌then◌else◌, ℤ, pos, neg_ℤ, nat_abs, ◌≤ℤ◌, List, [], ◌∷◌, ◌++◌, length, take, drop, replicate, slice_index, codes, Option, None, Some, option_map}
 use Rattle.std.specs.Fmt.{decimal}
 use Rattle.std.specs.List.{list_all}
 use Rattle.rr_model.specs.Calendar.{is_date, day_number, year_of, month_of, day_of_month}
@@ -9,51 +9,63 @@ use Rattle.rr_model.specs.declared.kind.Kind.{Kind}
 use Rattle.rr_model.specs.declared.kind.Kind.TheVariants.{Days, Moments}
 use Rattle.rr_model.specs.declared.stamp.Stamp.{Stamp}
 
+-- a day from 0001-01-01 on
+abbrev pub IsFromYearOne : ℤ → Type 0
+IsFromYearOne day = neg_ℤ (pos 719_162) ≤ℤ day
+
+-- a day from 0001-01-01 to 9999-12-31
+abbrev pub HasFourDigitYear : ℤ → Type 0
+HasFourDigitYear day = IsFromYearOne day × (day ≤ℤ pos 2_932_896)
+
 -- the text is so many digits
-abbrev pub is_digits : ℕ → List ℕ → Bool
-is_digits n text = (length text == n) && list_all is_digit text
+unfoldable pub is_digits : ℕ → List ℕ → Bool
+is_digits count text = (length text == count) && list_all is_digit text
+
+-- the number that so many digits write, from a place on
+unfoldable pub number_at : ℕ → ℕ → List ℕ → ℕ
+number_at start count text = digits_value (take count (drop start text))
 
 -- ---- basic texts
 
 -- the year, the month and the day of YYYYMMDD
-abbrev pub year_digits : List ℕ → ℕ
-year_digits text = digits_value (take 4 text)
+abbrev pub written_year : List ℕ → ℕ
+written_year text = number_at 0 4 text
 
-abbrev pub month_digits : List ℕ → ℕ
-month_digits text = digits_value (take 2 (drop 4 text))
+abbrev pub written_month : List ℕ → ℕ
+written_month text = number_at 4 2 text
 
-abbrev pub day_digits : List ℕ → ℕ
-day_digits text = digits_value (drop 6 text)
+abbrev pub written_day : List ℕ → ℕ
+written_day text = number_at 6 2 text
 
 -- eight digits YYYYMMDD that write a date of the years 1 to 9999
 abbrev pub is_basic_date : List ℕ → Bool
 is_basic_date text =
-    is_digits 8 text && nat_le 1 (year_digits text) && is_date (pos (year_digits text)) (month_digits text) (day_digits text)
+    is_digits 8 text && nat_le 1 (written_year text) && is_date (pos (written_year text)) (written_month text) (written_day text)
 
 -- the day number of a basic date
 unfoldable pub basic_date : List ℕ → Option ℤ
 basic_date text =
-    if is_basic_date text then Some (day_number (pos (year_digits text)) (month_digits text) (day_digits text)) else None
+    if is_basic_date text then Some (day_number (pos (written_year text)) (written_month text) (written_day text)) else None
 
 -- the hour, the minute and the second of HHMMSS
-abbrev pub hour_digits : List ℕ → ℕ
-hour_digits text = digits_value (take 2 text)
+abbrev pub written_hour : List ℕ → ℕ
+written_hour text = number_at 0 2 text
 
-abbrev pub minute_digits : List ℕ → ℕ
-minute_digits text = digits_value (take 2 (drop 2 text))
+abbrev pub written_minute : List ℕ → ℕ
+written_minute text = number_at 2 2 text
 
-abbrev pub second_digits : List ℕ → ℕ
-second_digits text = digits_value (drop 4 text)
+abbrev pub written_second : List ℕ → ℕ
+written_second text = number_at 4 2 text
 
 -- six digits HHMMSS that write a time of a day
 abbrev pub is_basic_time : List ℕ → Bool
 is_basic_time text =
-    is_digits 6 text && nat_lt (hour_digits text) 24 && nat_lt (minute_digits text) 60 && nat_lt (second_digits text) 60
+    is_digits 6 text && nat_lt (written_hour text) 24 && nat_lt (written_minute text) 60 && nat_lt (written_second text) 60
 
 -- the second of the day of a basic time
 unfoldable pub basic_time : List ℕ → Option ℕ
 basic_time text =
-    if is_basic_time text then Some (hour_digits text * 3_600 + minute_digits text * 60 + second_digits text) else None
+    if is_basic_time text then Some (written_hour text * 3_600 + written_minute text * 60 + written_second text) else None
 
 -- the letter T in either case
 abbrev pub is_letter_t : ℕ → Bool
@@ -76,11 +88,16 @@ date_stamp day = record { kind = Days; at = day; utc = false }
 abbrev pub moment_stamp : ℤ → ℕ → Bool → Stamp
 moment_stamp day second utc = record { kind = Moments; at = moment_at Moments day second; utc = utc }
 
+-- the moment of a date, a time and a mark, where all three are stated
+abbrev pub moment_of : Option ℤ → Option ℕ → Option Bool → Option Stamp
+moment_of (Some day) (Some second) (Some utc) = Some (moment_stamp day second utc)
+moment_of day second utc = None
+
 -- YYYYMMDDTHHMMSS, and behind it a Z or nothing
-abbrev pub basic_moment : List ℕ → Option Stamp
+unfoldable pub basic_moment : List ℕ → Option Stamp
 basic_moment text =
     if is_letter_t (slice_index text 8)
-    then option_and_then (λ day. option_and_then (λ second. option_map (moment_stamp day second) (utc_mark (drop 15 text))) (basic_time (take 6 (drop 9 text)))) (basic_date (take 8 text))
+    then moment_of (basic_date (take 8 text)) (basic_time (take 6 (drop 9 text))) (utc_mark (drop 15 text))
     else None
 
 -- what a basic date or a basic moment states

@@ -1,7 +1,7 @@
 use Rattle.std.proofs.Common.{arith, rules, ◌≡◌, ◌∙◌, ap, ℕ, ◌+◌, ◌/◌, ℤ, FitsSigned, w64, to_z, of_z, to_z-of_z}
 use Rattle.rr_model.specs.Calendar.{day_number, year_of, days_into_year, IsDayWithin}
 use Rattle.rr_model.specs.Week.{week_index, fourth_day, week_year, week_number, last_week}
-use Rattle.rr_model.proofs.WeekLemmas.{IsDate-december_28}
+use Rattle.rr_model.proofs.WeekLemmas.{IsDate-december_28, week_number_bounds, last_week_bounds}
 use Rattle.rr_model.proofs.NearLemmas.{IsDayWithin-wider, IsDayWithin-fourth_day, IsDayWithin-same_year}
 use Rattle.rr_cal.proofs.week.week_of.Goals as goal
 
@@ -111,3 +111,13 @@ returns-clause-last c =
     let last : to_z w64 (of_z w64 l) ≡ fourth_day (week_index (day_number (to_z w64 (of_z w64 y)) 12 28) c.args.week_start) c.args.week_start =
     to_z-of_z hl ∙ c.fourth_of_week-last.ensures ∙ ap (λ z. fourth_day (week_index z c.args.week_start) c.args.week_start) december in
     c.number_of_week-2.ensures ∙ ap (λ z. days_into_year z / 7 + 1) last
+
+pub returns-clause-range : goal.returns-clause-range
+returns-clause-range c =
+    let w = c.args.week_start in
+    let i = week_index c.args.day w in
+    let number = returns-clause-number c in
+    let last = returns-clause-last c ∙ ap (λ y. last_week y w) (returns-clause-year c) in
+    let bounds = week_number_bounds i w in
+    let most = last_week_bounds (week_year i w) w in
+    (omega (arith, number, bounds.0), omega (arith, number, last, bounds.1), omega (arith, last, most.1))

@@ -6,6 +6,7 @@ use Rattle.jiff_core.proofs.CalendarLemmas.{weekday_number_bound}
 use Rattle.jiff_core.specs.Date.{epoch_day, IsYmd}
 use Rattle.jiff_core.specs.declared.civil.date.Date.{Date as Plain}
 use Rattle.rr_model.specs.Calendar.{kind_of_year}
+use Rattle.rr_model.proofs.CalendarLemmas.{kind_of_year_below}
 use Rattle.rr_cal.proofs.JiffLemmas.{kind_of_year-jiff}
 use Rattle.rr_cal.proofs.week.year_kind.Goals as goal
 
@@ -27,7 +28,8 @@ returns-then-in_leap_year c =
     let z = c.to_monday_zero_offset-weekday.result in
     let leap : is_leap_year d.year ≡ true = sym c.in_leap_year.ensures ∙ c.if-in_leap_year.true in
     let kind = rw leap at (kind_by c.args.year c.rem_euclid.result d (c.rem_euclid.ensures.value ∙ ap (λ y. int_rem_euclid y (pos 400)) (to_z-of_z c.ranges.year)) c.date-new_year.ensures) in
-    omega (arith, kind, offset_is z (epoch_day d) (c.to_monday_zero_offset-weekday.ensures.value ∙ ap pos c.weekday.ensures))
+    let value : unsigned_abs (to_z w8 (of_z w8 z)) + 7 ≡ kind_of_year c.args.year = omega (arith, kind, offset_is z (epoch_day d) (c.to_monday_zero_offset-weekday.ensures.value ∙ ap pos c.weekday.ensures)) in
+    record { value = value; below = omega (arith, value, kind_of_year_below c.args.year) }
 
 pub returns-else-in_leap_year : goal.returns-else-in_leap_year
 returns-else-in_leap_year c =
@@ -35,4 +37,5 @@ returns-else-in_leap_year c =
     let z = c.to_monday_zero_offset-weekday.result in
     let leap : is_leap_year d.year ≡ false = sym c.in_leap_year.ensures ∙ c.if-in_leap_year.false in
     let kind = rw leap at (kind_by c.args.year c.rem_euclid.result d (c.rem_euclid.ensures.value ∙ ap (λ y. int_rem_euclid y (pos 400)) (to_z-of_z c.ranges.year)) c.date-new_year.ensures) in
-    omega (arith, kind, offset_is z (epoch_day d) (c.to_monday_zero_offset-weekday.ensures.value ∙ ap pos c.weekday.ensures))
+    let value : unsigned_abs (to_z w8 (of_z w8 z)) ≡ kind_of_year c.args.year = omega (arith, kind, offset_is z (epoch_day d) (c.to_monday_zero_offset-weekday.ensures.value ∙ ap pos c.weekday.ensures)) in
+    record { value = value; below = omega (arith, value, kind_of_year_below c.args.year) }

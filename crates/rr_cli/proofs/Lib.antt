@@ -1,0 +1,5 @@
+pub mod DailyTextParts
+pub mod IntervalText
+pub mod Reading
+pub mod AnswerLemmas
+pub mod CheckLemmas

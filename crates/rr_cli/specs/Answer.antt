@@ -1,0 +1,105 @@
+-- What a run answers: a relation between the command, the bytes of its operands, and what is said.
+-- It is no function, since a verdict speaks of all whole numbers. That there is one answer alone is a law.
+use Rattle.std.specs.Prelude.{◌≡◌, ℕ, Bool, not, nat_le, if◌then◌else◌, List, [], ◌∷◌, ◌++◌, codes, Option, Some, None, Result, Ok, Err}
+use Rattle.std.specs.Fmt.{decimal}
+use Rattle.std.specs.List.{list_any}
+use Rattle.rr_cli.specs.Command.{Command, equal, check}
+use Rattle.rr_model.specs.Daily.{DailySeries, IsDailyOccurrence}
+use Rattle.rr_cli.specs.DailyText.{IsDailyReading}
+use Rattle.rr_model.specs.MomentText.{extended_text}
+use Rattle.rr_model.specs.Reads.{is_plain_text, reads}
+use Rattle.rr_model.specs.RefusalText.{refusal_text}
+use Rattle.rr_model.specs.RuleValidity.{is_absent}
+use Rattle.rr_model.specs.SeriesCycle.{series_cycle}
+use Rattle.rr_model.specs.Soundness.{first_fault}
+use Rattle.rr_model.specs.Verdict.{IsEqualVerdict}
+use Rattle.rr_cli.specs.declared.conclusion.Conclusion.{Conclusion}
+use Rattle.rr_cli.specs.declared.conclusion.Conclusion.TheVariants as conclusion
+use Rattle.rr_model.specs.declared.limits.TheConstants.{MAX_CYCLE_DAYS}
+use Rattle.rr_model.specs.declared.refusal.Refusal.{Refusal}
+use Rattle.rr_model.specs.declared.refusal.Refusal.TheVariants.{CycleTooLong, NotBuilt}
+use Rattle.rr_model.specs.declared.rule.Rule.{Rule}
+use Rattle.rr_model.specs.declared.rule.Series.{Series}
+use Rattle.rr_model.specs.declared.verdict.Side.{Side}
+use Rattle.rr_model.specs.declared.verdict.Side.TheVariants.{A, B, Both}
+use Rattle.rr_model.specs.declared.verdict.Verdict.{Verdict}
+use Rattle.rr_model.specs.declared.verdict.Verdict.TheVariants.{Yes, No}
+
+-- how the run ends, and the bytes that it puts
+pub record Answer : Type 0 where
+  pub conclusion : Conclusion
+  pub bytes : List ℕ
+
+abbrev pub line : List ℕ → List ℕ
+line text = text ++ 10 ∷ []
+
+abbrev pub usage_text : List ℕ
+usage_text =
+    codes "usage: rr equal A B | within A B | disjoint A B | canon A | translate LANG A | infer A | list N A | check A | drill SEED N"
+
+abbrev pub usage : Answer
+usage = record { conclusion = conclusion.Usage; bytes = line usage_text }
+
+abbrev pub side_text : Side → List ℕ
+side_text A = codes "A"
+side_text B = codes "B"
+side_text Both = codes "both"
+
+-- an operand is refused
+abbrev pub refused : Side → Refusal → Answer
+refused side refusal = record { conclusion = conclusion.Refused; bytes = line (codes "refused " ++ side_text side ++ codes " " ++ refusal_text refusal) }
+
+-- a verdict, a no with the first counterexample and its side
+abbrev pub said : Verdict → Answer
+said Yes = record { conclusion = conclusion.Yes; bytes = line (codes "yes") }
+said (No kind at side) = record { conclusion = conclusion.No; bytes = line (codes "no " ++ extended_text kind at ++ codes " " ++ side_text side) }
+
+-- the refusal of A, else that of B, else the verdict
+abbrev pub IsEqualSaid : Result DailySeries Refusal → Result DailySeries Refusal → Answer → Type 0
+IsEqualSaid (Err refusal) b answer = answer ≡ refused A refusal
+IsEqualSaid (Ok s) (Err refusal) answer = answer ≡ refused B refusal
+IsEqualSaid (Ok s) (Ok t) answer = (v : Verdict) × IsEqualVerdict (IsDailyOccurrence s) (IsDailyOccurrence t) v × (answer ≡ said v)
+
+-- what is said of the bytes of two operands
+pub record IsEqualAnswer (bytes_a bytes_b : List ℕ) (answer : Answer) : Type 0 where
+  pub of_a : Result DailySeries Refusal
+  pub of_b : Result DailySeries Refusal
+  pub is_a : IsDailyReading bytes_a of_a
+  pub is_b : IsDailyReading bytes_b of_b
+  pub is_said : IsEqualSaid of_a of_b answer
+
+-- ---- what `check` says
+
+-- the cycle in days, or that it is too long
+abbrev pub cycle_said : ℕ → Answer
+cycle_said days =
+    if nat_le days MAX_CYCLE_DAYS then record { conclusion = conclusion.Yes; bytes = line (codes "cycle " ++ decimal days) }
+    else refused A CycleTooLong
+
+-- the first fault of the series, else its cycle
+abbrev pub soundness_said : Option Refusal → ℕ → Answer
+soundness_said (Some refusal) days = refused A refusal
+soundness_said None days = cycle_said days
+
+-- some rule has BYSETPOS
+abbrev pub has_set_positions : Series → Bool
+has_set_positions series = list_any (λ rule. not (is_absent rule.by_set_pos)) series.rules
+
+-- the refusal of the text, else what is said of its series; set positions are not built yet
+abbrev pub series_said : Result Series Refusal → Answer
+series_said (Err refusal) = refused A refusal
+series_said (Ok series) = if has_set_positions series then refused A NotBuilt else soundness_said (first_fault series) (series_cycle series)
+
+-- what is said of the bytes of an operand; other texts than those of two lines are not built yet
+unfoldable pub check_answer : List ℕ → Answer
+check_answer bytes = if is_plain_text bytes then series_said (reads bytes) else refused A NotBuilt
+
+-- what a command answers over the bytes of its operands
+abbrev pub IsAnswer : Option Command → List ℕ × List ℕ → Answer → Type 0
+IsAnswer None both answer = answer ≡ usage
+IsAnswer (Some (equal a b)) both answer = IsEqualAnswer both.0 both.1 answer
+IsAnswer (Some (check a)) both answer = answer ≡ check_answer both.0
+
+-- A command over its operands' bytes has one answer.
+abbrev pub AnswerIsOne : Type 0
+AnswerIsOne = (command : Option Command) (both : List ℕ × List ℕ) (x y : Answer) → IsAnswer command both x → IsAnswer command both y → x ≡ y

@@ -1,0 +1,4 @@
+pub mod Every
+pub mod Merge
+pub mod Occurrence
+pub mod Question

@@ -1,0 +1,80 @@
+-- A question about two sets, as the sides on which an occurrence shows that the answer is no.
+use Rattle.std.specs.Prelude.{Bool, true, false, IsTrue, ℕ, ◌<◌, ℤ, pos, ◌+ℤ◌, ◌≤ℤ◌, ◌<ℤ◌, List, [], ◌≡◌}
+use Rattle.std.specs.List.{Contains}
+use Rattle.rr_model.specs.Moment.{Before, Occurrences}
+use Rattle.rr_model.specs.Sketch.{StandsIn, times_on}
+use Rattle.rr_model.specs.Verdict.{HoldsOn}
+use Rattle.rr_model.specs.declared.kind.Kind.{Kind}
+use Rattle.rr_model.specs.declared.sketch.Sketch.{Sketch}
+use Rattle.rr_model.specs.declared.verdict.Side.{Side}
+use Rattle.rr_model.specs.declared.verdict.Side.TheVariants.{A, B, Both}
+use Rattle.rr_model.specs.declared.verdict.Verdict.{Verdict}
+use Rattle.rr_model.specs.declared.verdict.Verdict.TheVariants.{Yes, No}
+use Rattle.rr_decide.specs.declared.question.Question.{Question}
+use Rattle.rr_decide.specs.declared.question.Question.TheVariants.{Equal, Within, Disjoint}
+
+-- an occurrence on this side shows that the answer is no
+abbrev pub shown_by : Question → Side → Bool
+shown_by Equal A = true
+shown_by Equal B = true
+shown_by Equal Both = false
+shown_by Within A = true
+shown_by Within B = false
+shown_by Within Both = false
+shown_by Disjoint A = false
+shown_by Disjoint B = false
+shown_by Disjoint Both = true
+
+-- the two facts hold on a side that shows it
+abbrev pub IsShown : (Side → Bool) → Type 0 → Type 0 → Type 0
+IsShown shows P Q = (side : Side) × IsTrue (shows side) × HoldsOn side P Q
+
+-- Yes where no occurrence shows no; no with the first that does.
+abbrev pub IsVerdictBy : (Side → Bool) → Occurrences → Occurrences → Verdict → Type 0
+IsVerdictBy shows P Q Yes = (k : Kind) (t : ℤ) → IsShown shows (P k t) (Q k t) → ⊥
+IsVerdictBy shows P Q (No k t side) =
+    IsTrue (shows side) × HoldsOn side (P k t) (Q k t) × ((l : Kind) (u : ℤ) → Before l u k t → IsShown shows (P l u) (Q l u) → ⊥)
+
+-- ---- on one day
+
+-- no second of the two lists shows it
+abbrev pub ShowsNone : (Side → Bool) → List ℕ → List ℕ → Type 0
+ShowsNone shows xs ys = (w : ℕ) → IsShown shows (Contains xs w) (Contains ys w) → ⊥
+
+-- the first second of the two lists that shows it, and its side
+pub record IsFirstShown (shows : Side → Bool) (xs ys : List ℕ) (second : ℕ) (side : Side) : Type 0 where
+  pub shown : IsTrue (shows side)
+  pub holds : HoldsOn side (Contains xs second) (Contains ys second)
+  pub none_below : (w : ℕ) → w < second → IsShown shows (Contains xs w) (Contains ys w) → ⊥
+
+-- ---- on many days
+
+-- no day from one on and below another shows it
+abbrev pub ShowsNoneWithin : (Side → Bool) → Sketch → Sketch → ℤ → ℤ → Type 0
+ShowsNoneWithin shows s u from to = (d : ℤ) → from ≤ℤ d → d <ℤ to → ShowsNone shows (times_on s d) (times_on u d)
+
+-- from one day on this day is the first that shows it, by this second on this side
+pub record IsFirstDayShown (shows : Side → Bool) (s u : Sketch) (from day : ℤ) (second : ℕ) (side : Side) : Type 0 where
+  pub not_before : from ≤ℤ day
+  pub none_earlier : ShowsNoneWithin shows s u from day
+  pub on_day : IsFirstShown shows (times_on s day) (times_on u day) second side
+
+-- where so many days in a row past both settled days show nothing, no later day does
+abbrev pub IsWindow : (Side → Bool) → Sketch → Sketch → ℕ → Type 0
+IsWindow shows s u n =
+    (q : ℤ) → s.settled ≤ℤ q → u.settled ≤ℤ q → ShowsNoneWithin shows s u q (q +ℤ pos n) → (d : ℤ) → q ≤ℤ d → ShowsNone shows (times_on s d) (times_on u d)
+
+-- ---- first occurrences
+
+-- no day before this one is occupied
+abbrev pub HasNoneBefore : Sketch → ℤ → Type 0
+HasNoneBefore s from = (d : ℤ) → d <ℤ from → times_on s d ≡ []
+
+-- the occurrence stands in the sketch, and none that does comes before it
+pub record IsFirstOccurrence (s : Sketch) (k : Kind) (t : ℤ) : Type 0 where
+  pub stands : StandsIn s k t
+  pub none_before : (l : Kind) (u : ℤ) → Before l u k t → StandsIn s l u → ⊥
+
+-- the two have no common occurrence
+abbrev pub AreApart : Occurrences → Occurrences → Type 0
+AreApart P Q = (k : Kind) (t : ℤ) → P k t → Q k t → ⊥

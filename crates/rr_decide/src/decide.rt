@@ -1,0 +1,60 @@
+// The three verdicts on two sequences.
+ghost use Rattle.std.specs.Prelude.{◌≡◌, ◌≤◌};
+ghost use Rattle.rr_model.specs.Cycle.{lcm};
+ghost use Rattle.rr_model.specs.Sketch.{StandsIn};
+ghost use Rattle.rr_model.specs.Verdict.{IsDisjointVerdict, IsEqualVerdict, IsWithinVerdict};
+
+use crate::question::Question;
+use crate::verdicts::verdict;
+use rr_model::{MAX_CYCLE_DAYS, Verdict};
+use rr_num::lcm_within;
+use rr_word::DaySeq;
+
+/// Whether two sets have equal occurrences for all years to come; else the first that exactly one of them has.
+///
+/// It reads no more days of each than there are from the first occupied day of both to the later settled day,
+/// and both periods together. It takes no memory.
+pub fn equal<A: DaySeq, B: DaySeq>(a: &A, b: &B) -> Verdict
+    ensures { IsEqualVerdict (StandsIn (A.sketch a.now)) (StandsIn (B.sketch b.now)) result }
+{
+    verdict(Question::Equal, a, b, a.period() + b.period())
+}
+
+/// Whether each occurrence of the first set is one of the second; else the first that the second lacks, on side A.
+///
+/// The least common multiple of the periods must be at most `MAX_CYCLE_DAYS`.
+/// It reads the days from the first occupied day of both to that many days past the later settled day.
+/// It takes no memory.
+pub fn within<A: DaySeq, B: DaySeq>(a: &A, b: &B) -> Verdict
+    requires { lcm (A.sketch a.now).period (B.sketch b.now).period ≤ 16_777_216 }
+    ensures { IsWithinVerdict (StandsIn (A.sketch a.now)) (StandsIn (B.sketch b.now)) result }
+{
+    verdict(Question::Within, a, b, common_cycle(a.period(), b.period()))
+}
+
+/// Whether two sets have no occurrence in common; else the first, on side Both.
+///
+/// The least common multiple of the periods must be at most `MAX_CYCLE_DAYS`.
+/// It reads the days from the first occupied day of both to that many days past the later settled day.
+/// It takes no memory.
+pub fn disjoint<A: DaySeq, B: DaySeq>(a: &A, b: &B) -> Verdict
+    requires { lcm (A.sketch a.now).period (B.sketch b.now).period ≤ 16_777_216 }
+    ensures { IsDisjointVerdict (StandsIn (A.sketch a.now)) (StandsIn (B.sketch b.now)) result }
+{
+    verdict(
+        Question::Disjoint,
+        a,
+        b,
+        common_cycle(a.period(), b.period()),
+    )
+}
+
+// After how many days two sequences repeat together.
+fn common_cycle(p: u64, r: u64) -> u64
+    requires first { 1 ≤ p }
+    requires second { 1 ≤ r }
+    requires few { lcm p r ≤ 16_777_216 }
+    ensures { result ≡ lcm p r }
+{
+    lcm_within(p, r, MAX_CYCLE_DAYS).unwrap()
+}

@@ -1,0 +1,74 @@
+// Occurrences of both kinds in one order.
+ghost use Rattle.std.specs.Prelude.{◌≡◌, ◌↔◌, IsTrue, IfSome, MatchOption, pos, neg_ℤ, ◌≤ℤ◌};
+ghost use Rattle.rr_model.specs.Moment.{Before, moment_at};
+ghost use Rattle.rr_model.specs.Sketch.{IsEmptySketch};
+ghost use Rattle.rr_model.specs.declared.verdict.Verdict.TheVariants.{No};
+ghost use Rattle.rr_decide.specs.Occurrence.{IsNearOccurrence};
+ghost use Rattle.rr_decide.specs.Question.{IsFirstOccurrence};
+
+use rr_model::{Kind, Side, Verdict};
+use rr_word::DaySeq;
+
+const SECONDS_OF_A_DAY: i64 = 86_400;
+
+/// A date or a moment.
+#[derive(Clone, Copy)]
+pub struct Occurrence {
+    /// Whether it is a date or a moment.
+    pub kind: Kind,
+    /// Its day number, or its second number.
+    pub at: i64,
+}
+
+impl Occurrence {
+    /// The occurrence at a second of a day.
+    pub fn on_day(kind: Kind, day: i64, second: u32) -> Self
+        requires low { neg_ℤ (pos 3_000_000_000_000) ≤ℤ day }
+        requires high { day ≤ℤ pos 3_000_000_000_000 }
+        ensures kind { result.kind ≡ kind }
+        ensures at { result.at ≡ moment_at kind day second }
+    {
+        match kind {
+            Kind::Days => Occurrence { kind, at: day },
+            Kind::Moments => Occurrence {
+                kind,
+                at: day * SECONDS_OF_A_DAY + i64::from(second),
+            },
+        }
+    }
+
+    /// Whether it comes before another: a date at its midnight, and before the moment there.
+    pub fn comes_before(self, other: Occurrence) -> bool
+        requires near { IsNearOccurrence self }
+        requires other_near { IsNearOccurrence other }
+        ensures { IsTrue result ↔ Before self.kind self.at other.kind other.at }
+    {
+        match (self.kind, other.kind) {
+            (Kind::Days, Kind::Moments) => self.at * SECONDS_OF_A_DAY <= other.at,
+            (Kind::Moments, Kind::Days) => self.at < other.at * SECONDS_OF_A_DAY,
+            _ => self.at < other.at,
+        }
+    }
+
+    /// The verdict that this occurrence, on this side, is the first that shows no.
+    pub fn against(self, side: Side) -> Verdict
+        ensures { result ≡ No self.kind self.at side }
+    {
+        Verdict::No {
+            kind: self.kind,
+            at: self.at,
+            side,
+        }
+    }
+}
+
+/// The first occurrence of a sequence.
+pub fn first_occurrence<S: DaySeq>(seq: &S) -> Option<Occurrence>
+    ensures first { MatchOption result (IsEmptySketch (S.sketch seq.now)) (λ o. IsFirstOccurrence (S.sketch seq.now) o.kind o.at) }
+    ensures near { IfSome result IsNearOccurrence }
+{
+    match seq.first() {
+        None => None,
+        Some(day) => Some(Occurrence::on_day(seq.kind(), day, seq.at(day)[0])),
+    }
+}

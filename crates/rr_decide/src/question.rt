@@ -1,0 +1,29 @@
+// What is asked of two sets.
+ghost use Rattle.std.specs.Prelude.{◌≡◌};
+ghost use Rattle.rr_decide.specs.Question.{shown_by};
+
+use rr_model::Side;
+
+/// What is asked of two sets of occurrences.
+#[derive(Clone, Copy)]
+pub enum Question {
+    /// Whether they are equal.
+    Equal,
+    /// Whether the first is within the second.
+    Within,
+    /// Whether they have nothing in common.
+    Disjoint,
+}
+
+impl Question {
+    /// Whether an occurrence on this side shows that the answer is no.
+    pub fn is_shown_by(self, side: Side) -> bool
+        ensures { result ≡ shown_by self side }
+    {
+        match self {
+            Question::Equal => side != Side::Both,
+            Question::Within => side == Side::A,
+            Question::Disjoint => side == Side::Both,
+        }
+    }
+}

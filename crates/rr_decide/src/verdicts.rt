@@ -1,0 +1,76 @@
+// The verdict on two sequences, for one question.
+ghost use Rattle.std.specs.Prelude.{◌≡◌, ◌≤◌, IsTrue, IfSome, MatchOption};
+ghost use Rattle.rr_model.specs.Sketch.{IsEmptySketch, IsNearDay, StandsIn};
+ghost use Rattle.rr_decide.specs.Occurrence.{IsNearOccurrence};
+ghost use Rattle.rr_decide.specs.Question.{AreApart, HasNoneBefore, IsFirstOccurrence, IsVerdictBy, IsWindow, shown_by};
+
+use crate::days::{days_between, first_day, first_day_shown};
+use crate::occurrence::{Occurrence, first_occurrence};
+use crate::question::Question;
+use rr_model::{Side, Verdict};
+use rr_word::DaySeq;
+
+/// The verdict, where so many days past both settled days tell of all later days.
+pub fn verdict<A: DaySeq, B: DaySeq>(question: Question, a: &A, b: &B, window: u64) -> Verdict
+    requires window { IsWindow (shown_by question) (A.sketch a.now) (B.sketch b.now) window }
+    requires few { window ≤ 2_000_000_000 }
+    ensures { IsVerdictBy (shown_by question) (StandsIn (A.sketch a.now)) (StandsIn (B.sketch b.now)) result }
+{
+    match first_day(a, b) {
+        None => apart(question, a, b),
+        Some(from) => of_one_kind(question, a, b, from, window),
+    }
+}
+
+// The verdict on two sequences of one kind, by a walk from their first occupied day to the window's end.
+fn of_one_kind<A: DaySeq, B: DaySeq>(
+    question: Question,
+    a: &A,
+    b: &B,
+    from: i64,
+    window: u64,
+) -> Verdict
+    requires kind { (A.sketch a.now).kind ≡ (B.sketch b.now).kind }
+    requires first_of_a { HasNoneBefore (A.sketch a.now) from }
+    requires first_of_b { HasNoneBefore (B.sketch b.now) from }
+    requires near { IsNearDay from }
+    requires window { IsWindow (shown_by question) (A.sketch a.now) (B.sketch b.now) window }
+    requires few { window ≤ 2_000_000_000 }
+    ensures { IsVerdictBy (shown_by question) (StandsIn (A.sketch a.now)) (StandsIn (B.sketch b.now)) result }
+{
+    let last = from.max(a.settled()).max(b.settled());
+    let days = days_between(from, last) + window;
+    match first_day_shown(question, a, b, from, days) {
+        None => Verdict::Yes,
+        Some(shown) => { Occurrence::on_day(a.kind(), shown.day, shown.second).against(shown.side) }
+    }
+}
+
+// The first occurrence, where it is asked for.
+fn first_if<S: DaySeq>(asked: bool, seq: &S) -> Option<Occurrence>
+    ensures first { MatchOption result (IsTrue asked → IsEmptySketch (S.sketch seq.now)) (λ o. IsTrue asked × IsFirstOccurrence (S.sketch seq.now) o.kind o.at) }
+    ensures near { IfSome result IsNearOccurrence }
+{
+    if asked { first_occurrence(seq) } else { None }
+}
+
+// The verdict on two sequences with nothing in common: the lesser of the first occurrences that show no.
+fn apart<A: DaySeq, B: DaySeq>(question: Question, a: &A, b: &B) -> Verdict
+    requires { AreApart (StandsIn (A.sketch a.now)) (StandsIn (B.sketch b.now)) }
+    ensures { IsVerdictBy (shown_by question) (StandsIn (A.sketch a.now)) (StandsIn (B.sketch b.now)) result }
+{
+    let shows_a = question.is_shown_by(Side::A);
+    let shows_b = question.is_shown_by(Side::B);
+    match (first_if(shows_a, a), first_if(shows_b, b)) {
+        (None, None) => Verdict::Yes,
+        (Some(one), None) => one.against(Side::A),
+        (None, Some(other)) => other.against(Side::B),
+        (Some(one), Some(other)) => {
+            if one.comes_before(other) {
+                one.against(Side::A)
+            } else {
+                other.against(Side::B)
+            }
+        }
+    }
+}

@@ -1,5 +1,0 @@
-use Rattle.rr_model.proofs.AnswerLemmas.{answer_is_one as law}
-use Rattle.rr_model.proofs.laws.answer_is_one.Goals as goal
-
-pub returns : goal.returns
-returns c = law

@@ -1,0 +1,118 @@
+-- Lists of distinct time sets.
+use Rattle.std.proofs.Common.{inl, inr, get_or, length-append, ◌≡◌, ℕ, ◌+◌, ◌<◌, ◌≤◌, List, [], ◌∷◌, ◌++◌, length, Bool, true, false, cond, nat_eq, Some, slice_get, position, Contains, true≢false, refl, sym, ap, ◌∙◌, arith}
+use Rattle.std.proofs.lemmas.Cmp.{nat_list_eq_equiv}
+use Rattle.std.proofs.lemmas.Bool.{cases_lt}
+use Rattle.std.proofs.lemmas.List.{get_or_append_left}
+use Rattle.std.proofs.lemmas.List.Elements.{All-push}
+use Rattle.std.proofs.lemmas.List.Sums.{sum_by-cons, sum_by_push}
+use Rattle.std.proofs.lemmas.List.Quantifiers.{position-Some}
+use Rattle.std.proofs.lemmas.Map.Made.{AllPairs-from_IsDistinct, IsDistinct-from_AllPairs}
+use Rattle.std.proofs.lemmas.Map.Views.{list_any-from_Contains}
+use Rattle.std.proofs.lemmas.Option.{slice_get_read, slice_get_within, get_or_from_slice_get}
+use Rattle.std.specs.Cmp.Lexicographic.{pointwise, bytes_decides}
+use Rattle.std.specs.List.{list_any, AllByRecursion, IsDistinct}
+use Rattle.indexmap.specs.IndexSet.{insert_key}
+use Rattle.rr_model.specs.RisingSet.{IsSecondsOfDay}
+use Rattle.rr_shapes.specs.Numbering.{total_size, IsNumbering, IsCounted}
+use Rattle.rr_shapes.specs.Placing.{IsPlaced, IsTooMany}
+
+-- the same seconds
+abbrev pub same : List ℕ → List ℕ → Bool
+same = pointwise nat_eq
+
+module _ (sets : List (List ℕ)) (times : List ℕ) where
+  -- a set that was found stands at its number
+  pub found_at : (number : ℕ) → position (same times) sets ≡ Some number → slice_get sets number ≡ Some times
+  found_at number e =
+      let at = position-Some (same times) sets number times e in
+      slice_get_read sets (length sets) number times refl at.0 ((bytes_decides times _).0 at.1)
+
+  pub found_in : (number : ℕ) → position (same times) sets ≡ Some number → Contains sets times
+  found_in number e =
+      let at = position-Some (same times) sets number times e in
+      (number, at.0, sym ((bytes_decides times _).0 at.1))
+
+  -- and changes nothing
+  pub found_placed : (number : ℕ) → position (same times) sets ≡ Some number → IsPlaced times sets sets number
+  found_placed number e = record {
+    stands = found_at number e;
+    known = λ _. refl;
+    added = λ n. absurd (n (found_in number e));
+  }
+
+  -- a set that no test finds is not there
+  pub absent : list_any (same times) sets ≡ false → Contains sets times → ⊥
+  absent e there = true≢false (sym (list_any-from_Contains nat_list_eq_equiv times sets there) ∙ e)
+
+-- sets that are not empty are no more than their seconds
+nonempty_bound : (sets : List (List ℕ)) → AllByRecursion (λ y. same [] y ≡ false) sets → length sets ≤ total_size sets
+nonempty_bound [] h = omega arith
+nonempty_bound ([] ∷ sets) h = absurd (true≢false h.0)
+nonempty_bound ((x ∷ xs) ∷ sets) h = omega (arith, nonempty_bound sets h.1, sum_by-cons length (x ∷ xs) sets)
+
+-- distinct sets are at most one more, since one may be empty
+distinct_bound : (sets : List (List ℕ)) → IsDistinct same sets → length sets ≤ total_size sets + 1
+unfolding IsDistinct
+distinct_bound [] h = omega arith
+distinct_bound ([] ∷ sets) h = omega (arith, nonempty_bound sets h.0, sum_by-cons length [] sets)
+distinct_bound ((x ∷ xs) ∷ sets) h = omega (arith, distinct_bound sets h.1, sum_by-cons length (x ∷ xs) sets)
+
+-- so a number fits its type
+pub few : (sets : List (List ℕ)) (size : ℕ) → IsCounted sets size → length sets ≤ 16_777_217
+few sets size counts =
+    let bound = distinct_bound sets (IsDistinct-from_AllPairs bytes_decides sets counts.numbering.distinct) in
+    omega (arith, counts.sum, counts.within, bound)
+
+module _ (sets : List (List ℕ)) (size : ℕ) (times : List ℕ) (counts : IsCounted sets size) (fresh : list_any (same times) sets ≡ false) where
+  -- a new set that does not fit
+  pub too_many : (more : ℕ) → more ≡ length times → 16_777_216 < size + more → IsTooMany times sets
+  too_many more e above = record { fresh = absent sets times fresh; above = omega (arith, counts.sum) }
+
+  -- a new set that fits goes last
+  pub inserted : (new : List (List ℕ)) → new ≡ insert_key same sets times → new ≡ sets ++ times ∷ []
+  inserted new e = e ∙ ap (λ c. cond c sets (sets ++ times ∷ [])) fresh
+
+  -- and gets the next number
+  next_number : (new : List (List ℕ)) (number : ℕ) → new ≡ sets ++ times ∷ [] → slice_get new number ≡ Some times → number ≡ length sets
+  next_number new number last at =
+      let within : number < length sets + 1 = omega (arith, slice_get_within new number times at, ap length last, length-append sets (times ∷ [])) in
+      elim (cases_lt number (length sets)) [
+        | inl l ↦ absurd (absent sets times fresh (number, l, sym (get_or_append_left sets (times ∷ []) times number l) ∙ ap (λ ks. get_or ks number times) (sym last) ∙ get_or_from_slice_get new number times times at))
+        | inr l ↦ omega arith
+      ]
+
+  pub new_placed : (new : List (List ℕ)) (number : ℕ) (stored : List ℕ) → new ≡ insert_key same sets times → slice_get new number ≡ Some stored → same times stored ≡ true → IsPlaced times sets new number
+  new_placed new number stored e at is =
+      let stands : slice_get new number ≡ Some times = at ∙ ap Some (sym ((bytes_decides times stored).0 is)) in
+      record {
+        stands = stands;
+        known = λ there. absurd (absent sets times fresh there);
+        added = λ _. (inserted new e, next_number new number (inserted new e) stands);
+      }
+
+  -- and is counted
+  pub new_counted : (new : List (List ℕ)) (more : ℕ) → new ≡ insert_key same sets times → IsDistinct same new → IsSecondsOfDay times → more ≡ length times → size + more ≤ 16_777_216 → IsCounted new (size + more)
+  new_counted new more e distinct day sized room =
+      let last = inserted new e in
+      let total : total_size new ≡ total_size sets + length times = ap total_size last ∙ sum_by_push length sets times in
+      record {
+        numbering = record {
+          distinct = AllPairs-from_IsDistinct bytes_decides new distinct;
+          of_day = rw last (All-push IsSecondsOfDay sets times counts.numbering.of_day day);
+        };
+        sum = omega (arith, counts.sum);
+        within = room;
+      }
+
+-- a set has one number
+pub one_number : (sets : List (List ℕ)) (times : List ℕ) (m n : ℕ) → IsNumbering sets → slice_get sets m ≡ Some times → slice_get sets n ≡ Some times → m ≡ n
+one_number sets times m n numbering at_m at_n =
+    let read_m = get_or_from_slice_get sets m times times at_m in
+    let read_n = get_or_from_slice_get sets n times times at_n in
+    elim (cases_lt m n) [
+      | inl l ↦ absurd (numbering.distinct m n times l (slice_get_within sets n times at_n) (read_m ∙ sym read_n))
+      | inr h ↦ elim (cases_lt n m) [
+        | inl l ↦ absurd (numbering.distinct n m times l (slice_get_within sets m times at_m) (read_n ∙ sym read_m))
+        | inr l ↦ omega arith
+      ]
+    ]

@@ -1,0 +1,19 @@
+-- Time sets that are numbered by their places in a list.
+use Rattle.std.specs.Prelude.{◌≡◌, ◌≢◌, ℕ, ◌≤◌, List, All, AllPairs, length, sum_by}
+use Rattle.rr_model.specs.RisingSet.{IsSecondsOfDay}
+use Rattle.rr_model.specs.declared.limits.TheConstants.{MAX_SECONDS}
+
+-- the sum of the sets' sizes
+abbrev pub total_size : List (List ℕ) → ℕ
+total_size sets = sum_by length sets
+
+-- different numbers have different sets, and each is a set of seconds of a day
+pub record IsNumbering (sets : List (List ℕ)) : Type 0 where
+  pub distinct : AllPairs (λ a b. a ≢ b) sets
+  pub of_day : All IsSecondsOfDay sets
+
+-- the size is the sets' sum, within the limit
+pub record IsCounted (sets : List (List ℕ)) (size : ℕ) : Type 0 where
+  pub numbering : IsNumbering sets
+  pub sum : size ≡ total_size sets
+  pub within : size ≤ MAX_SECONDS

@@ -1,0 +1,2 @@
+mod BasicLemmas
+mod PrintLemmas

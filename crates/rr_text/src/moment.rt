@@ -1,0 +1,158 @@
+// Reads basic dates and moments (RFC 5545, sections 3.3.4 and 3.3.5).
+ghost use Rattle.std.specs.Prelude.{◌≡◌, ◌+◌, ◌^◌, ◌<◌, ◌≤◌, ◌≤ℤ◌, pos, length, IfSome};
+ghost use Rattle.std.specs.List.{AllPass, list_all};
+ghost use Rattle.std.specs.Bool.{OnTrue};
+ghost use Rattle.rr_model.specs.Digits.{is_digit};
+ghost use Rattle.rr_model.specs.MomentText.{HasFourDigitYear, is_digits, number_at, written_year, written_month, written_day, basic_date, basic_time, basic_moment, basic, is_letter_t, utc_mark};
+ghost use Rattle.rr_model.specs.Moment.{moment_at, day_part};
+ghost use Rattle.rr_model.specs.declared.kind.Kind.TheVariants.{Moments};
+
+use crate::digits::value_of;
+use rr_cal::{Date, day_of, valid};
+use rr_model::{Kind, Stamp};
+
+const DAY_SECONDS: i64 = 86_400;
+
+fn all_digits(text: &[u8]) -> bool
+    ensures { result ≡ list_all is_digit text.now }
+{
+    text.iter().all(|b| b.is_ascii_digit())
+}
+
+#[tactic(auto, using(rr_model::proofs::MomentTextLemmas::is_digits_means), unfolding(rr_model::specs::MomentText::is_digits))]
+fn is_digits(text: &[u8], count: usize) -> bool
+    ensures test { result ≡ is_digits count text.now }
+    ensures digits { OnTrue result ((length text.now ≡ count) × AllPass is_digit text.now) }
+{
+    text.len() == count && all_digits(text)
+}
+
+// The number that a few digits write, from a place on.
+fn number_at(digits: &[u8], start: usize, count: usize) -> u16
+    requires few { count ≤ 4 }
+    requires within { start + count ≤ length digits.now }
+    requires digits { AllPass is_digit digits.now }
+    ensures value { result ≡ number_at start count digits.now }
+    ensures small { result < 10 ^ count }
+{
+    value_of(&digits[start..start + count]).unwrap() as u16
+}
+
+// The date that eight digits write, which the calendar may lack.
+fn date_in(digits: &[u8]) -> Date
+    requires eight { length digits.now ≡ 8 }
+    requires digits { AllPass is_digit digits.now }
+    ensures year { result.year ≡ pos (written_year digits.now) }
+    ensures month { result.month ≡ written_month digits.now }
+    ensures day { result.day ≡ written_day digits.now }
+    ensures small { result.year ≤ℤ pos 9_999 }
+{
+    Date {
+        year: i64::from(number_at(digits, 0, 4)),
+        month: number_at(digits, 4, 2) as u8,
+        day: number_at(digits, 6, 2) as u8,
+    }
+}
+
+// The day number of a date YYYYMMDD of the years 1 to 9999.
+#[tactic(auto, unfolding(rr_model::specs::MomentText::basic_date))]
+fn basic_date(text: &[u8]) -> Option<i64>
+    ensures day { result ≡ basic_date text.now }
+    ensures years { IfSome result HasFourDigitYear }
+{
+    if !is_digits(text, 8) {
+        return None;
+    }
+    let date = date_in(text);
+    if date.year < 1 || !valid(date.year, date.month, date.day) {
+        return None;
+    }
+    Some(day_of(date))
+}
+
+// The second of the day of a time HHMMSS.
+#[tactic(auto, unfolding(rr_model::specs::MomentText::basic_time))]
+fn basic_time(text: &[u8]) -> Option<u32>
+    ensures second { result ≡ basic_time text.now }
+    ensures below { IfSome result (λ s. s < 86_400) }
+{
+    if !is_digits(text, 6) {
+        return None;
+    }
+    let hour = u32::from(number_at(text, 0, 2));
+    let minute = u32::from(number_at(text, 2, 2));
+    let second = u32::from(number_at(text, 4, 2));
+    if hour > 23 || minute > 59 || second > 59 {
+        return None;
+    }
+    Some(hour * 3_600 + minute * 60 + second)
+}
+
+// Whether what stands behind a moment marks it as UTC: nothing, or one `Z`.
+fn utc_mark(rest: &[u8]) -> Option<bool>
+    ensures { result ≡ utc_mark rest.now }
+{
+    match rest {
+        [] => Some(false),
+        [b'Z' | b'z'] => Some(true),
+        _ => None,
+    }
+}
+
+fn is_letter_t(byte: u8) -> bool
+    ensures { result ≡ is_letter_t byte }
+{
+    byte == b'T' || byte == b't'
+}
+
+// The moment at a second of a day.
+fn moment_at(day: i64, second: u32) -> i64
+    requires near { HasFourDigitYear day }
+    requires second { second < 86_400 }
+    ensures value { result ≡ moment_at Moments day second }
+    ensures day { day_part Moments result ≡ day }
+{
+    day * DAY_SECONDS + i64::from(second)
+}
+
+// A moment YYYYMMDDTHHMMSS, and behind it a `Z` or nothing.
+#[tactic(auto, unfolding(rr_model::specs::MomentText::basic_moment))]
+fn basic_moment(text: &[u8]) -> Option<Stamp>
+    ensures stamp { result ≡ basic_moment text.now }
+    ensures years { IfSome result (λ s. HasFourDigitYear (day_part s.kind s.at)) }
+{
+    if text.len() < 15 {
+        return None;
+    }
+    if !is_letter_t(text[8]) {
+        return None;
+    }
+    let day = basic_date(&text[..8])?;
+    let second = basic_time(&text[9..15])?;
+    let utc = utc_mark(&text[15..])?;
+    Some(Stamp {
+        kind: Kind::Moments,
+        at: moment_at(day, second),
+        utc,
+    })
+}
+
+/// Reads a date YYYYMMDD or a moment YYYYMMDDTHHMMSS, behind which a `Z` may stand.
+///
+/// The date exists and is of the years 1 to 9999, the hour is 00 to 23, minute and second are 00 to 59.
+/// `T` and `Z` stand in either case. Every other text is `None`.
+#[tactic(auto, unfolding(rr_model::specs::MomentText::basic))]
+pub fn basic(text: &[u8]) -> Option<Stamp>
+    ensures stamp { result ≡ basic text.now }
+    ensures years { IfSome result (λ s. HasFourDigitYear (day_part s.kind s.at)) }
+{
+    if text.len() == 8 {
+        let day = basic_date(text)?;
+        return Some(Stamp {
+            kind: Kind::Days,
+            at: day,
+            utc: false,
+        });
+    }
+    basic_moment(text)
+}

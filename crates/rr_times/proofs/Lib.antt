@@ -1,0 +1,3 @@
+pub mod MergeLemmas
+pub mod SetLemmas
+pub mod SplitLemmas

@@ -1,0 +1,124 @@
+// A set of seconds of a day, and the operations on such sets.
+ghost use Rattle.std.specs.Prelude.{◌≡◌, ◌⊎◌, ◌<◌, ◌≤◌, Contains, IfOk, count_by, nat_eq, nat_lt, slice_get};
+ghost use Rattle.std.proofs.Common.{rules};
+ghost use Rattle.std.specs.Cmp.Lexicographic.{pointwise};
+ghost use Rattle.std.proofs.lemmas.Cmp.{nat_list_eq_equiv};
+ghost use Rattle.std.specs.Cmp.{partial_equiv_from_equiv};
+ghost use Rattle.std.specs.Cmp.Rules.{hashing};
+ghost use Rattle.std.specs.Hash as fed;
+ghost use Rattle.rr_model.specs.RisingSet.{IsSetOf, IsSecondsOfDay};
+
+use crate::merge::{difference_of, union_of};
+use crate::rank::count_below;
+use rr_model::NoMemory;
+use std::alloc::Global;
+use std::hash::{Hash, Hasher};
+use std::marker::Model;
+
+/// A set of seconds of a day, each from 0 to 86,399, counted from midnight.
+///
+/// Contracts see it as the rising list of its seconds. Two sets are equal exactly where they have the
+/// same seconds, so a set can be a key of a map.
+#[derive(Drop)]
+pub struct TimeSet {
+    seconds: Vec<u32>,
+}
+
+impl Model for TimeSet {
+    ghost use Rattle.std.specs.Prelude.{List, ℕ};
+    ghost use Rattle.rr_model.specs.RisingSet.{IsSecondsOfDay};
+
+    ghost Value = { List ℕ };
+
+    ghost view = { λ t. t.seconds.items };
+
+    ghost invariant = { λ t. IsSecondsOfDay t.seconds.items };
+}
+
+impl TimeSet {
+    /// The set of these seconds.
+    pub fn of(alloc: Global, seconds: &[u32]) -> Result<TimeSet, NoMemory>
+        requires { IsSecondsOfDay seconds.now }
+        ensures { IfOk result (λ t. t ≡ seconds.now) }
+    {
+        Ok(TimeSet {
+            seconds: Vec::from_slice(alloc, seconds)?,
+        })
+    }
+
+    /// The seconds of either set.
+    pub fn union(alloc: Global, a: &TimeSet, b: &TimeSet) -> Result<TimeSet, NoMemory>
+        ensures { IfOk result (λ t. IsSetOf nat_lt t (λ s. Contains a.now s ⊎ Contains b.now s)) }
+    {
+        Ok(TimeSet {
+            seconds: union_of(alloc, a.as_slice(), b.as_slice())?,
+        })
+    }
+
+    /// The seconds of `a` that `b` lacks.
+    pub fn without(alloc: Global, a: &TimeSet, b: &TimeSet) -> Result<TimeSet, NoMemory>
+        ensures { IfOk result (λ t. IsSetOf nat_lt t (λ s. Contains a.now s × ¬ Contains b.now s)) }
+    {
+        Ok(TimeSet {
+            seconds: difference_of(alloc, a.as_slice(), b.as_slice())?,
+        })
+    }
+
+    /// The seconds of `a` from `from` on and below `to`; none where `to` is not above `from`.
+    pub fn cut(alloc: Global, a: &TimeSet, from: u32, to: u32) -> Result<TimeSet, NoMemory>
+        ensures { IfOk result (λ t. IsSetOf nat_lt t (λ s. Contains a.now s × (from ≤ s) × (s < to))) }
+    {
+        let seconds = a.as_slice();
+        let start = count_below(seconds, from);
+        let end = count_below(seconds, to).max(start);
+        Ok(TimeSet {
+            seconds: Vec::from_slice(alloc, &seconds[start..end])?,
+        })
+    }
+
+    /// How many of the set's seconds lie below `second`, by binary search.
+    pub fn rank(&self, second: u32) -> u32
+        ensures { result ≡ count_by (λ s. nat_lt s second) self.now }
+    {
+        count_below(self.as_slice(), second) as u32
+    }
+
+    /// The second at `place`, counted from 0; none exactly where there are at most `place`.
+    pub fn select(&self, place: u32) -> Option<u32>
+        ensures { result ≡ slice_get self.now place }
+    {
+        self.seconds.as_slice().get(place as usize).copied()
+    }
+
+    /// The seconds in order.
+    pub fn as_slice(&self) -> &[u32]
+        ensures same { result.now ≡ self.now }
+        ensures of_day { IsSecondsOfDay self.now }
+    {
+        self.seconds.as_slice()
+    }
+}
+
+impl PartialEq for TimeSet {
+    ghost eq = { pointwise nat_eq };
+
+    ghost laws = { partial_equiv_from_equiv nat_list_eq_equiv };
+
+    fn eq(&self, other: &TimeSet) -> bool {
+        self.seconds.as_slice() == other.seconds.as_slice()
+    }
+}
+
+impl Eq for TimeSet {
+    ghost laws = { nat_list_eq_equiv };
+}
+
+impl Hash for TimeSet {
+    ghost hash_input = { fed.slice fed.u32 };
+
+    ghost respects_eq = { Prim.search (hashing, rules) };
+
+    fn hash<H: Hasher>(&self, state: &mut H) {
+        self.seconds.as_slice().hash(state);
+    }
+}
