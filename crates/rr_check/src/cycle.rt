@@ -50,7 +50,7 @@ fn endless_cycle(rule: &Rule) -> u128
 }
 
 // The least common multiple of a cycle and another; `None` where it is above `MAX_CYCLE_DAYS`.
-fn joined(cycle: u64, days: u128) -> Option<u64>
+pub(crate) fn joined(cycle: u64, days: u128) -> Option<u64>
     requires some { 1 ≤ cycle }
     requires some_days { 1 ≤ days }
     ensures { SomeIff result (lcm cycle days ≤ MAX_CYCLE_DAYS) (lcm cycle days) }

@@ -34,7 +34,7 @@ fn rule_fault(number: u32, kind: Kind, start: i64, rule: &Rule) -> Option<Refusa
 }
 
 // The fault of the end of a rule.
-fn end_fault(kind: Kind, start: i64, end: End) -> Option<Refusal>
+pub(crate) fn end_fault(kind: Kind, start: i64, end: End) -> Option<Refusal>
     ensures { result ≡ end_fault kind start end }
 {
     match end {

@@ -4,6 +4,8 @@
 mod cycle;
 mod faults;
 mod soundness;
+#[cfg(test)]
+mod tests;
 
 pub use cycle::{admit, chosen_repeats};
 pub use soundness::{Checked, check};

@@ -30,7 +30,7 @@ pub fn chosen(rule: &Rule, kind: Kind, start: i64, at: i64) -> bool
 
 // Whether the moment is a candidate of the rule with this start.
 #[tactic(auto, unfolding(rr_model::specs::Candidate::is_candidate))]
-fn is_candidate(rule: &Rule, start: &Moment, moment: &Moment) -> bool
+pub(crate) fn is_candidate(rule: &Rule, start: &Moment, moment: &Moment) -> bool
     requires kind { start.now.kind ≡ moment.now.kind }
     requires interval { 1 ≤ rule.now.interval }
     ensures { result ≡ is_candidate rule.now start.now.kind start.now.at moment.now.at }

@@ -7,6 +7,8 @@ mod filled;
 mod moment;
 mod numbers;
 mod places;
+#[cfg(test)]
+mod tests;
 mod times;
 mod units;
 

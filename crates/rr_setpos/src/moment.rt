@@ -75,7 +75,7 @@ impl Moment {
 }
 
 // The day of a moment.
-fn day_part(kind: Kind, at: i64) -> i64
+pub(crate) fn day_part(kind: Kind, at: i64) -> i64
     ensures { result ≡ day_part kind at }
 {
     match kind {
