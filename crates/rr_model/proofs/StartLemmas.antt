@@ -1,5 +1,5 @@
 -- A start lies within the days of the calls.
-use Rattle.std.proofs.Common.{◌≡◌, ℕ, ℤ, pos, negsuc, ◌≤ℤ◌, ◌<ℤ◌, refl, arith}
+use Rattle.std.proofs.Common.{◌≡◌, ℕ, ℤ, pos, negsuc, refl, arith}
 use Rattle.std.proofs.lemmas.Int.{ints}
 use Rattle.rr_model.specs.Calendar.{first_day_of_year, IsDayWithin}
 use Rattle.rr_model.specs.Moment.{day_part}
@@ -16,7 +16,3 @@ year_10000 = refl
 
 pub IsDayWithin-start : (more : ℕ) (kind : Kind) (start : ℤ) → IsInYears kind start → IsDayWithin more (day_part kind start)
 IsDayWithin-start more kind start h = (omega (arith, ints, h.0, year_1), omega (arith, ints, h.1, year_10000))
-
--- days of the years 1 to 9999
-pub IsInYears-days : (d : ℤ) → negsuc 719_161 ≤ℤ d → d ≤ℤ pos 2_932_896 → (first_day_of_year (pos 1) ≤ℤ d) × (d <ℤ first_day_of_year (pos 10_000))
-IsInYears-days d low high = (omega (arith, ints, low, year_1), omega (arith, ints, high, year_10000))

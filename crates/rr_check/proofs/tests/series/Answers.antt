@@ -6,7 +6,7 @@ use Rattle.rr_model.specs.RuleValidity.{EndsInYears, IsInYears, IsValidRule, IsV
 use Rattle.rr_model.specs.declared.kind.Kind.TheVariants.{Days}
 use Rattle.rr_model.specs.declared.rule.End.TheVariants.{Never}
 use Rattle.rr_model.specs.declared.rule.Rule.{Rule}
-use Rattle.rr_model.proofs.StartLemmas.{IsInYears-days}
+use Rattle.rr_setpos.proofs.YearLemmas.{IsInYears-days}
 use Rattle.rr_check.proofs.tests.series.Goals as goal
 
 one_rule : (rule : Rule) (start : ℤ) (rules : List Rule) (plus minus : List ℤ) → IsValidRule Days rule → rule.end ≡ Never → rules ≡ rule ∷ [] → plus ≡ [] → minus ≡ [] → pos 0 ≤ℤ start → start ≤ℤ pos 2_932_896 → IsValidSeries (record { kind = Days; start = start; start_counts = true; rules = rules; plus = plus; minus = minus })
