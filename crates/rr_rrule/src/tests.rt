@@ -86,7 +86,7 @@ const TWICE: Refusal = Refusal::PartTwice(2);
 const MOMENT_BAD: Refusal = Refusal::BadMoment(2);
 
 // Each is the first fault of its rule, beside a start that is a date.
-const OF_PARTS: [(&str, Refusal); 54] = [
+const OF_PARTS: [(&str, Refusal); 55] = [
     // forms
     ("", BAD),
     (";", BAD),
@@ -143,6 +143,7 @@ const OF_PARTS: [(&str, Refusal); 54] = [
     ("BYSECOND=60,x", BAD),
     ("UNTIL=2024;COUNT=0", MOMENT_BAD),
     ("COUNT=1;UNTIL=20240101", BAD),
+    ("BYSETPOS=1", BAD),
     (
         "COUNT=1;UNTIL=20240101;FREQ=DAILY;BYYEARDAY=1",
         Refusal::UntilAndCount,
@@ -166,6 +167,34 @@ fn refuses_parts(rt: HostRuntime) -> Result<(), Fail> {
             Some(refusal),
             "{rule}"
         );
+    }
+    Ok(())
+}
+
+// One fault of each kind that a part can have.
+const FAULTS: [(&str, Refusal); 6] = [
+    ("COUNT=x", BAD),
+    ("SKIP=OMIT", Refusal::Extended),
+    ("WKST=MO;WKST=MO", TWICE),
+    ("UNTIL=2024", MOMENT_BAD),
+    ("BYHOUR=24", RANGE),
+    ("BYSECOND=60", Refusal::LeapSecond),
+];
+
+// The first of two faults is the refusal, and both come before what is judged of the whole rule.
+#[test]
+fn refuses_the_first_fault(rt: HostRuntime) -> Result<(), Fail> {
+    for (first, refusal) in FAULTS {
+        for (second, _) in FAULTS {
+            if first != second {
+                let rule = format!(in rt.alloc(); "BYYEARDAY=1;{first};{second};BYSETPOS=1")?;
+                assert_eq!(rt;
+                    refusal_of(rt.alloc(), DATE, rule.as_str())?,
+                    Some(refusal),
+                    "{rule}"
+                );
+            }
+        }
     }
     Ok(())
 }
