@@ -1,6 +1,7 @@
 use super::*;
 use rr_model::{End, Fault, Freq, Kind, Refusal, Series};
 use std::alloc::Global;
+use std::process::Abort;
 use std::test::*;
 
 const DATE: &str = "20240101";
@@ -181,20 +182,22 @@ const FAULTS: [(&str, Refusal); 6] = [
     ("BYSECOND=60", Refusal::LeapSecond),
 ];
 
-// The first of two faults is the refusal, and both come before what is judged of the whole rule.
+// A fault is the refusal where another kind of fault stands behind it.
+fn comes_first(rt: &impl Abort, alloc: Global, fault: &str, refusal: Refusal) -> Result<(), Fail> {
+    for (other, _) in FAULTS {
+        if fault != other {
+            let rule = format!(in alloc; "BYYEARDAY=1;{fault};{other};BYSETPOS=1")?;
+            let refused = refusal_of(alloc, DATE, rule.as_str())?;
+            assert_eq!(rt; refused, Some(refusal), "{rule}");
+        }
+    }
+    Ok(())
+}
+
 #[test]
 fn refuses_the_first_fault(rt: HostRuntime) -> Result<(), Fail> {
-    for (first, refusal) in FAULTS {
-        for (second, _) in FAULTS {
-            if first != second {
-                let rule = format!(in rt.alloc(); "BYYEARDAY=1;{first};{second};BYSETPOS=1")?;
-                assert_eq!(rt;
-                    refusal_of(rt.alloc(), DATE, rule.as_str())?,
-                    Some(refusal),
-                    "{rule}"
-                );
-            }
-        }
+    for (fault, refusal) in FAULTS {
+        comes_first(&rt, rt.alloc(), fault, refusal)?;
     }
     Ok(())
 }
