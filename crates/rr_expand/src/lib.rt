@@ -1,7 +1,14 @@
 //! Exactly the candidates of one unit of a rule (RFC 5545, section 3.3.10).
 #![tactic(auto)]
 
-mod spread;
+mod date_parts;
+mod day;
 mod day_times;
+mod filled;
+mod lengths;
+mod numbers;
+mod places;
+mod spread;
+mod time_parts;
 
 pub use day_times::times;

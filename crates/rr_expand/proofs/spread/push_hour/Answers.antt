@@ -1,6 +1,6 @@
-use Rattle.std.proofs.Common.{◌+◌, ◌*◌, [], ◌∷◌, get_or, pos, nat_abs, refl, arith}
+use Rattle.std.proofs.Common.{◌+◌, ◌*◌, [], ◌∷◌, get_or, refl}
 use Rattle.rr_expand.specs.Spread.{of_minute, of_hour, of_day}
-use Rattle.rr_expand.proofs.SpreadLemmas.{more, all, element}
+use Rattle.rr_expand.proofs.SpreadLemmas.{more, all}
 use Rattle.rr_expand.proofs.spread.push_hour.Goals as goal
 
 pub loop-minute-preserved : goal.loop-minute-preserved
@@ -8,8 +8,7 @@ unfolding of_hour
 loop-minute-preserved c =
     let xs = c.args.minutes.now in
     let i = c.loop-minute.minute-index in
-    let same = element 59 xs i (omega arith) c.requires.minutes c.loop-minute-test.true in
-    more (λ xs. of_hour c.args.base xs c.args.seconds.now) (of_minute (c.args.base + 60 * nat_abs (get_or xs i (pos 0))) c.args.seconds.now) c.loop-minute.out.items _ _ xs i (pos 0) c.loop-minute-test.true refl (rw same at c.in_ok-push_minute.ensures) c.loop-minute.invariant
+    more (λ xs. of_hour c.args.base xs c.args.seconds.now) (of_minute (c.args.base + 60 * get_or xs i 0) c.args.seconds.now) c.loop-minute.out.items _ _ xs i 0 c.loop-minute-test.true refl c.in_ok-push_minute.ensures c.loop-minute.invariant
 
 pub returns : goal.returns
 unfolding of_hour

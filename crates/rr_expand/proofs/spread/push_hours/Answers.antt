@@ -1,6 +1,6 @@
-use Rattle.std.proofs.Common.{◌+◌, ◌*◌, [], ◌∷◌, get_or, pos, nat_abs, refl, arith}
+use Rattle.std.proofs.Common.{◌+◌, ◌*◌, [], ◌∷◌, get_or, refl}
 use Rattle.rr_expand.specs.Spread.{of_minute, of_hour, of_day}
-use Rattle.rr_expand.proofs.SpreadLemmas.{more, all, element}
+use Rattle.rr_expand.proofs.SpreadLemmas.{more, all}
 use Rattle.rr_expand.proofs.spread.push_hours.Goals as goal
 
 pub loop-hour-preserved : goal.loop-hour-preserved
@@ -8,8 +8,7 @@ unfolding of_day
 loop-hour-preserved c =
     let xs = c.args.hours.now in
     let i = c.loop-hour.hour-index in
-    let same = element 23 xs i (omega arith) c.requires.hours c.loop-hour-test.true in
-    more (λ xs. of_day xs c.args.minutes.now c.args.seconds.now) (of_hour (3_600 * nat_abs (get_or xs i (pos 0))) c.args.minutes.now c.args.seconds.now) c.loop-hour.out.items _ _ xs i (pos 0) c.loop-hour-test.true refl (rw same at c.in_ok-push_hour.ensures) c.loop-hour.invariant
+    more (λ xs. of_day xs c.args.minutes.now c.args.seconds.now) (of_hour (3_600 * get_or xs i 0) c.args.minutes.now c.args.seconds.now) c.loop-hour.out.items _ _ xs i 0 c.loop-hour-test.true refl c.in_ok-push_hour.ensures c.loop-hour.invariant
 
 pub returns : goal.returns
 unfolding of_day

@@ -1,6 +1,6 @@
-use Rattle.std.proofs.Common.{◌+◌, ◌*◌, [], ◌∷◌, get_or, pos, nat_abs, refl, arith}
+use Rattle.std.proofs.Common.{◌+◌, ◌*◌, [], ◌∷◌, get_or, refl}
 use Rattle.rr_expand.specs.Spread.{of_minute, of_hour, of_day}
-use Rattle.rr_expand.proofs.SpreadLemmas.{more, all, element}
+use Rattle.rr_expand.proofs.SpreadLemmas.{more, all}
 use Rattle.rr_expand.proofs.spread.push_minute.Goals as goal
 
 pub loop-second-preserved : goal.loop-second-preserved
@@ -8,8 +8,7 @@ unfolding of_minute
 loop-second-preserved c =
     let xs = c.args.seconds.now in
     let i = c.loop-second.second-index in
-    let same = element 59 xs i (omega arith) c.requires.seconds c.loop-second-test.true in
-    more (of_minute c.args.base) ((c.args.base + nat_abs (get_or xs i (pos 0))) ∷ []) c.loop-second.out.items _ _ xs i (pos 0) c.loop-second-test.true refl (rw same at c.in_ok-push.ensures.items) c.loop-second.invariant
+    more (of_minute c.args.base) ((c.args.base + get_or xs i 0) ∷ []) c.loop-second.out.items _ _ xs i 0 c.loop-second-test.true refl c.in_ok-push.ensures.items c.loop-second.invariant
 
 pub returns : goal.returns
 unfolding of_minute
