@@ -1,5 +1,5 @@
 -- The candidates of one unit of a rule: its days, and the seconds of a day (RFC 5545, section 3.3.10).
-use Rattle.std.specs.Prelude.{◌≡◌, ℕ, ◌<◌, Bool, true, false, ◌&&◌, IsTrue, ℤ, pos}
+use Rattle.std.specs.Prelude.{◌≡◌, ℕ, ◌<◌, Bool, true, false, ◌&&◌, IsTrue, ℤ, pos, ◌+ℤ◌, ◌≤ℤ◌, ◌<ℤ◌}
 use Rattle.rr_model.specs.Moment.{moment_at}
 use Rattle.rr_model.specs.Units.{unit_number}
 use Rattle.rr_model.specs.Filled.{filled}
@@ -41,3 +41,7 @@ IsCandidateDay rule start_day unit day = (unit_number rule.freq rule.week_start 
 -- a candidate second of the day
 abbrev pub IsCandidateSecond : Rule → ℤ → ℤ → ℕ → Type 0
 IsCandidateSecond rule start day second = (second < 86_400) × IsTrue (is_candidate rule Moments start (moment_at Moments day second))
+
+-- a day of a stretch of so many days at which the date parts hold
+abbrev pub IsAllowedDay : Rule → ℤ → ℤ → ℕ → ℤ → Type 0
+IsAllowedDay rule start_day first count day = (first ≤ℤ day) × (day <ℤ (first +ℤ pos count)) × IsTrue (date_parts_hold (filled rule Days start_day) day)

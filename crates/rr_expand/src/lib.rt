@@ -10,5 +10,8 @@ mod numbers;
 mod places;
 mod spread;
 mod time_parts;
+mod unit_days;
+mod units;
 
 pub use day_times::times;
+pub use unit_days::days;
