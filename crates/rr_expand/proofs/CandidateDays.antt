@@ -17,10 +17,6 @@ both_true : (a b : Bool) → a ≡ true → IsTrue b → IsTrue (a && b)
 both_true true b e h = h
 both_true false b e h = absurd (cc)
 
-left_true : (a b : Bool) → IsTrue (a && b) → a ≡ true
-left_true true b h = refl
-left_true false b h = absurd (cc)
-
 right_true : (a b : Bool) → IsTrue (a && b) → IsTrue b
 right_true true b h = h
 right_true false b h = absurd (cc)
@@ -42,7 +38,3 @@ module _ (rule : Rule) (start unit : ℤ) where
         (λ h. (let e = within.1 (h.0, h.1) in (e, both_true _ _ (at_unit d e ∙ fit) h.2))),
         (λ h. (let l = within.0 h.0 in (l.0, l.1, right_true _ _ h.1))),
       )))
-
-  pub no_candidate_days : (days : List ℤ) → days ≡ [] → unit_fits ≡ false → IsSetOf int_lt days (IsCandidateDay rule start unit)
-  no_candidate_days days e misfit =
-      rw e (set_empty int_lt (IsCandidateDay rule start unit) (λ d h. false≢true (sym misfit ∙ sym (at_unit d h.0) ∙ left_true _ _ h.1)))

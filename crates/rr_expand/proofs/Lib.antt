@@ -6,3 +6,7 @@ pub mod DayLemmas
 pub mod UnitLemmas
 pub mod DaySets
 pub mod CandidateDays
+pub mod FitLemmas
+pub mod StepSets
+pub mod UnitSets
+pub mod FinerLemmas

@@ -59,7 +59,7 @@ of_minute-set base (x ∷ xs) r =
     let P : ℕ → Type 0 = λ s. base + x ≡ s in
     set_same nat_lt (λ s. P s ⊎ InMinute base xs s) (InMinute base (x ∷ xs)) _
     (set_append nat_lt P (InMinute base xs) ((base + x) ∷ []) (of_minute base xs) (set_one nat_lt (base + x)) (of_minute-set base xs (Rises-tail nat_lt x xs r))
-      (λ s t e h. lt_test s t (omega (arith, e, h.0, first_below x (t - base) xs r h.1))))
+    (λ s t e h. lt_test s t (omega (arith, e, h.0, first_below x (t - base) xs r h.1))))
     (λ s. (
       (λ p. elim p [
         | inl e ↦ (let same : x ≡ s - base = omega (arith, e) in (omega (arith, e), subst (Contains (x ∷ xs)) same (Contains-head x xs)))
@@ -81,7 +81,7 @@ of_hour-set base (m ∷ ms) ss rm rs few =
     let b : ℕ = base + 60 * m in
     set_same nat_lt (λ s. InMinute b ss s ⊎ InHour base ms ss s) (InHour base (m ∷ ms) ss) _
     (set_append nat_lt (InMinute b ss) (InHour base ms ss) (of_minute b ss) (of_hour base ms ss) (of_minute-set b ss rs) (of_hour-set base ms ss (Rises-tail nat_lt m ms rm) rs few)
-      (λ s t h k. lt_test s t (omega (arith, h.0, few (s - b) h.1, k.0, first_below m ((t - base) / 60) ms rm k.1))))
+    (λ s t h k. lt_test s t (omega (arith, h.0, few (s - b) h.1, k.0, first_below m ((t - base) / 60) ms rm k.1))))
     (λ s. (
       (λ p. elim p [
         | inl h ↦ (let minute : m ≡ (s - base) / 60 = omega (arith, few (s - b) h.1, h.0) in
@@ -111,7 +111,7 @@ of_day-set (x ∷ hs) ms ss rh rm rs lm ls =
     let b : ℕ = 3_600 * x in
     set_same nat_lt (λ s. InHour b ms ss s ⊎ InDay hs ms ss s) (InDay (x ∷ hs) ms ss) _
     (set_append nat_lt (InHour b ms ss) (InDay hs ms ss) (of_hour b ms ss) (of_day hs ms ss) (of_hour-set b ms ss rm rs ls) (of_day-set hs ms ss (Rises-tail nat_lt x hs rh) rm rs lm ls)
-      (λ s t h k. lt_test s t (omega (arith, InHour-below b ms ss lm s h, first_below x (t / 3_600) hs rh k.0))))
+    (λ s t h k. lt_test s t (omega (arith, InHour-below b ms ss lm s h, first_below x (t / 3_600) hs rh k.0))))
     (λ s. (
       (λ p. elim p [
         | inl h ↦ (let low = InHour-below b ms ss lm s h in

@@ -41,10 +41,10 @@ fills_times Weekly e = (refl, refl, refl)
 fills_times Monthly e = (refl, refl, refl)
 fills_times Yearly e = (refl, refl, refl)
 
-and_true : (a b c : Bool) → IsTrue a → IsTrue b → IsTrue c → IsTrue (a && b && c)
+pub and_true : (a b c : Bool) → IsTrue a → IsTrue b → IsTrue c → IsTrue (a && b && c)
 and_true a b c ha hb hc = rw (ha, hb, hc) refl
 
-and_parts : (a b c : Bool) → IsTrue (a && b && c) → IsTrue a × IsTrue b × IsTrue c
+pub and_parts : (a b c : Bool) → IsTrue (a && b && c) → IsTrue a × IsTrue b × IsTrue c
 and_parts true true true e = (refl, refl, refl)
 and_parts true true false e = absurd (cc)
 and_parts true false c e = absurd (cc)

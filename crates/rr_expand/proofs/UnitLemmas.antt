@@ -104,7 +104,6 @@ pub first_day_of_week_is : (u : ℤ) (w : ℕ) → fourth_day u w -ℤ pos 3 ≡
 unfolding fourth_day
 first_day_of_week_is u w = refl
 
-
 -- the quotient as the code has it
 pub quotient_is : (z r d : ℤ) (n : ℕ) → r ≡ int_div_euclid z (pos n) → z ≡ d → r ≡ floor_div d n
 quotient_is z r d n e same = e ∙ ap (λ y. int_div_euclid y (pos n)) same ∙ sym (floor_div-int d n)

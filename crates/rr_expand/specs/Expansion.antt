@@ -1,5 +1,5 @@
 -- The candidates of one unit of a rule: its days, and the seconds of a day (RFC 5545, section 3.3.10).
-use Rattle.std.specs.Prelude.{◌≡◌, ℕ, ◌<◌, Bool, true, false, ◌&&◌, IsTrue, ℤ, pos, ◌+ℤ◌, ◌≤ℤ◌, ◌<ℤ◌}
+use Rattle.std.specs.Prelude.{◌≡◌, ℕ, ◌<◌, Bool, true, false, ◌&&◌, IsTrue, ℤ, pos, neg_ℤ, ◌+ℤ◌, ◌≤ℤ◌, ◌<ℤ◌}
 use Rattle.rr_model.specs.Moment.{moment_at}
 use Rattle.rr_model.specs.Units.{unit_number}
 use Rattle.rr_model.specs.Filled.{filled}
@@ -45,3 +45,18 @@ IsCandidateSecond rule start day second = (second < 86_400) × IsTrue (is_candid
 -- a day of a stretch of so many days at which the date parts hold
 abbrev pub IsAllowedDay : Rule → ℤ → ℤ → ℕ → ℤ → Type 0
 IsAllowedDay rule start_day first count day = (first ≤ℤ day) × (day <ℤ (first +ℤ pos count)) × IsTrue (date_parts_hold (filled rule Days start_day) day)
+
+-- how many seconds a unit shorter than a day has
+abbrev pub unit_seconds : Freq → ℕ
+unit_seconds Hourly = 3_600
+unit_seconds Minutely = 60
+unit_seconds freq = 1
+
+-- a second of the day in a unit that fits the interval from the start's, at which the time parts hold
+abbrev pub IsFittingSecond : Rule → ℤ → ℤ → ℕ → Type 0
+IsFittingSecond rule start day second =
+    IsTrue (interval_holds rule Moments start (moment_at Moments day second)) × (second < 86_400) × IsTrue (time_holds rule Moments start second)
+
+-- no call's unit is farther from 0
+abbrev pub IsUnitNear : ℤ → Type 0
+IsUnitNear unit = (neg_ℤ (pos 1_000_000_000_000_000_000) ≤ℤ unit) × (unit ≤ℤ pos 1_000_000_000_000_000_000)

@@ -5,8 +5,8 @@ ghost use Rattle.rr_model.specs.Filled.{filled};
 ghost use Rattle.rr_model.specs.declared.kind.Kind.TheVariants.{Days};
 ghost use Rattle.rr_model.specs.RuleValidity.{is_absent};
 
-use crate::filled::{wants_day, wants_month, wants_month_day};
 use crate::day::Day;
+use crate::filled::{wants_day, wants_month, wants_month_day};
 use crate::numbers::{allows_filled, allows_place, allows_place_filled, is_absent};
 use crate::places::lists_day;
 use rr_cal::week_of;
@@ -27,12 +27,7 @@ pub(crate) fn date_parts_hold(rule: &Rule, start: &Day, day: &Day) -> bool
 fn by_month_holds(rule: &Rule, start: &Day, day: &Day) -> bool
     ensures { result ≡ by_month_holds (filled rule.now Days start.now.number) day.now.number }
 {
-    allows_filled(
-        &rule.by_month,
-        wants_month(rule),
-        start.month,
-        day.month,
-    )
+    allows_filled(&rule.by_month, wants_month(rule), start.month, day.month)
 }
 
 // Whether the day lies in a week of BYWEEKNO, by the year to which the week belongs.

@@ -5,6 +5,8 @@ mod date_parts;
 mod day;
 mod day_times;
 mod filled;
+mod finer;
+mod finer_units;
 mod lengths;
 mod numbers;
 mod places;
@@ -14,4 +16,5 @@ mod unit_days;
 mod units;
 
 pub use day_times::times;
+pub use finer::seconds_on;
 pub use unit_days::days;

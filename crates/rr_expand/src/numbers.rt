@@ -21,7 +21,7 @@ fn lists(numbers: &Numbers, n: i16) -> bool
 }
 
 // Whether the part does not stand, or lists the number.
-fn allows(numbers: &Numbers, n: i16) -> bool
+pub(crate) fn allows(numbers: &Numbers, n: i16) -> bool
     ensures { result ≡ allows numbers.now n }
 {
     is_absent(numbers) || lists(numbers, n)

@@ -18,12 +18,7 @@ use std::alloc::Global;
 /// Days are day numbers. Units are numbered over all days: a day by its own number, a week by the weeks since the one
 /// that holds 1970-01-01 where weeks begin on Thursday or before, a month by 12 times its year plus the months before it
 /// in the year, a year by itself. A unit that holds a day within `MAX_DAY` is near enough.
-pub fn days(
-    alloc: Global,
-    rule: &Rule,
-    start_day: i64,
-    unit: i64,
-) -> Result<Dates, NoMemory>
+pub fn days(alloc: Global, rule: &Rule, start_day: i64, unit: i64) -> Result<Dates, NoMemory>
     requires freq { IsTrue (is_of_days rule.now.freq) }
     requires interval { 1 ≤ rule.now.interval }
     requires start { IsDayWithin 366 start_day }

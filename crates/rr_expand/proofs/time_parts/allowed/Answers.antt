@@ -13,10 +13,10 @@ loop-n-preserved c =
     let old = c.loop-n.numbers.items in
     elim c.if-allows_filled.branch [
       | then-allows_filled+in_ok-push w ↦
-        (let made = ap (λ v. v.items) w.numbers-is ∙ w.in_ok-push.ensures.items ∙ ap (λ n. old ++ n ∷ []) w.from.ensures in
+          (let made = ap (λ v. v.items) w.numbers-is ∙ w.in_ok-push.ensures.items ∙ ap (λ n. old ++ n ∷ []) w.from.ensures in
           passed_more test old c.if-allows_filled.numbers.items c.loop-n.n c.loop-n.invariant (sym c.allows_filled.ensures ∙ w.if-allows_filled.true) made)
       | else-allows_filled w ↦
-        rw w.numbers-is (passed_same test old c.loop-n.n c.loop-n.invariant (sym c.allows_filled.ensures ∙ w.if-allows_filled.false))
+          rw w.numbers-is (passed_same test old c.loop-n.n c.loop-n.invariant (sym c.allows_filled.ensures ∙ w.if-allows_filled.false))
     ]
 
 pub returns : goal.returns

@@ -3,7 +3,7 @@ use Rattle.std.specs.Prelude.{int_lt}
 use Rattle.rr_model.specs.RisingSet.{IsSetOf}
 use Rattle.rr_expand.specs.Expansion.{IsAllowedDay, IsCandidateDay}
 use Rattle.rr_expand.proofs.SetLemmas.{ok_so}
-use Rattle.rr_expand.proofs.CandidateDays.{candidate_days, no_candidate_days}
+use Rattle.rr_expand.proofs.CandidateDays.{candidate_days}
 use Rattle.rr_expand.proofs.unit_days.days.Goals as goal
 
 pub returns : goal.returns
