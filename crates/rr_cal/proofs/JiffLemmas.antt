@@ -7,8 +7,8 @@ use Rattle.jiff_core.proofs.CalendarLemmas.{days_from_civil-day_count, day_count
 use Rattle.jiff_core.proofs.MarchLemmas.{day_count-early}
 use Rattle.jiff_core.specs.Date.{epoch_day}
 use Rattle.jiff_core.specs.declared.civil.date.Date.{Date as Plain}
-use Rattle.rr_model.specs.Whole.{divides}
-use Rattle.rr_model.specs.Calendar.{is_leap, month_length, days_of_months, first_day_of_year, day_number, IsDate, IsDayWithin, weekday_of, kind_of_year}
+use Rattle.rr_model.specs.Whole.{floor_div, floor_mod, divides}
+use Rattle.rr_model.specs.Calendar.{is_leap, month_length, year_length, days_of_months, first_day_of_year, day_number, IsDate, IsDayWithin, weekday_of, kind_of_year}
 use Rattle.rr_model.proofs.FloorLemmas.{floor_div-int, floor_mod-int}
 use Rattle.rr_model.proofs.CalendarLemmas.{first_day_of_year_bounds, IsInYear-day_number}
 use Rattle.rr_model.proofs.CycleLemmas.{IsDate-cycle, day_number-cycle, month_length-cycle}
@@ -36,6 +36,9 @@ is_leap-jiff (negsuc a) = rw (divides_4 a, divides_100 a, divides_400 a) (leap_s
 
 pub month_length-jiff : (y : ℤ) (m : ℕ) → month_length y m ≡ days_in_month y m
 month_length-jiff y m = rw (is_leap-jiff y)
+
+pub year_length-jiff : (y : ℤ) → year_length y ≡ cond (is_leap_year y) 366 365
+year_length-jiff y = rw (is_leap-jiff y) refl
 
 days_of_months-jiff : (y : ℤ) (n : ℕ) → days_of_months y n ≡ days_of_jiff_months y n
 unfolding days_of_months days_of_jiff_months

@@ -2,10 +2,12 @@
 #![tactic(auto)]
 
 mod date;
+mod length;
 mod week;
 
 pub use date::{Date, date_of, day_of, valid};
-pub use week::{Week, week_of, weekday, year_kind};
+pub use length::{day_of_year, month_length, year_length};
+pub use week::{Week, week_index, week_of, weekday, year_kind};
 
 #[cfg(test)]
 mod tests {

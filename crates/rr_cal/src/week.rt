@@ -26,6 +26,14 @@ pub fn weekday(day: i64) -> u8
     (day + 3).rem_euclid(7) as u8
 }
 
+/// The number of the week in which a day lies, over all weeks; they begin on the weekday `week_start`, from 0 for Monday.
+pub fn week_index(day: i64, week_start: u8) -> i64
+    requires near { IsDayWithin 1000 day }
+    ensures { result ≡ week_index day week_start }
+{
+    (day + 3 - i64::from(week_start)).div_euclid(7)
+}
+
 /// The week in which a day lies, where weeks begin on the weekday `week_start`, from 0 for Monday to 6 for Sunday.
 ///
 /// Numbers are those of BYWEEKNO and WKST (RFC 5545, section 3.3.10), from Monday those of ISO 8601.

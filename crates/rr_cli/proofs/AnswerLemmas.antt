@@ -4,7 +4,7 @@ use Rattle.std.specs.Prelude.{codes}
 use Rattle.std.proofs.Math.Seq.{take-append_seam, drop-append_seam}
 use Rattle.std.proofs.lemmas.List.{append_cancel_left, append_cancel_right}
 use Rattle.rr_cli.specs.Answer.{Answer, IsEqualSaid, IsEqualAnswer, AnswerIsOne, said}
-use Rattle.rr_cli.specs.Command.{equal}
+use Rattle.rr_cli.specs.Command.{equal, check}
 use Rattle.rr_model.specs.Daily.{DailySeries, IsDailyOccurrence}
 use Rattle.rr_cli.specs.DailyText.{IsDailyText, interval_part, interval_of, StatesDaily, StatesNoDate, IsDailyReading}
 use Rattle.rr_model.specs.MomentText.{basic_date}
@@ -75,3 +75,4 @@ equal_answer_is_one a b x y p q =
 pub answer_is_one : AnswerIsOne
 answer_is_one None both x y p q = p ∙ sym q
 answer_is_one (Some (equal n m)) both x y p q = equal_answer_is_one both.0 both.1 x y p q
+answer_is_one (Some (check a)) both x y p q = p ∙ sym q

@@ -1,15 +1,25 @@
 -- What a run answers: a relation between the command, the bytes of its operands, and what is said.
 -- It is no function, since a verdict speaks of all whole numbers. That there is one answer alone is a law.
-use Rattle.std.specs.Prelude.{◌≡◌, ℕ, List, [], ◌∷◌, ◌++◌, codes, Option, Some, None, Result, Ok, Err}
-use Rattle.rr_cli.specs.Command.{Command, equal}
+use Rattle.std.specs.Prelude.{◌≡◌, ℕ, Bool, not, nat_le, if◌then◌else◌, List, [], ◌∷◌, ◌++◌, codes, Option, Some, None, Result, Ok, Err}
+use Rattle.std.specs.Fmt.{decimal}
+use Rattle.std.specs.List.{list_any}
+use Rattle.rr_cli.specs.Command.{Command, equal, check}
 use Rattle.rr_model.specs.Daily.{DailySeries, IsDailyOccurrence}
 use Rattle.rr_cli.specs.DailyText.{IsDailyReading}
 use Rattle.rr_model.specs.MomentText.{extended_text}
+use Rattle.rr_model.specs.Reads.{is_plain_text, reads}
 use Rattle.rr_model.specs.RefusalText.{refusal_text}
+use Rattle.rr_model.specs.RuleValidity.{is_absent}
+use Rattle.rr_model.specs.SeriesCycle.{series_cycle}
+use Rattle.rr_model.specs.Soundness.{first_fault}
 use Rattle.rr_model.specs.Verdict.{IsEqualVerdict}
 use Rattle.rr_cli.specs.declared.conclusion.Conclusion.{Conclusion}
 use Rattle.rr_cli.specs.declared.conclusion.Conclusion.TheVariants as conclusion
+use Rattle.rr_model.specs.declared.limits.TheConstants.{MAX_CYCLE_DAYS}
 use Rattle.rr_model.specs.declared.refusal.Refusal.{Refusal}
+use Rattle.rr_model.specs.declared.refusal.Refusal.TheVariants.{CycleTooLong, NotBuilt}
+use Rattle.rr_model.specs.declared.rule.Rule.{Rule}
+use Rattle.rr_model.specs.declared.rule.Series.{Series}
 use Rattle.rr_model.specs.declared.verdict.Side.{Side}
 use Rattle.rr_model.specs.declared.verdict.Side.TheVariants.{A, B, Both}
 use Rattle.rr_model.specs.declared.verdict.Verdict.{Verdict}
@@ -58,10 +68,37 @@ pub record IsEqualAnswer (bytes_a bytes_b : List ℕ) (answer : Answer) : Type 0
   pub is_b : IsDailyReading bytes_b of_b
   pub is_said : IsEqualSaid of_a of_b answer
 
+-- ---- what `check` says
+
+-- the cycle in days, or that it is too long
+abbrev pub cycle_said : ℕ → Answer
+cycle_said days =
+    if nat_le days MAX_CYCLE_DAYS then record { conclusion = conclusion.Yes; bytes = line (codes "cycle " ++ decimal days) }
+    else refused A CycleTooLong
+
+-- the first fault of the series, else its cycle
+abbrev pub soundness_said : Option Refusal → ℕ → Answer
+soundness_said (Some refusal) days = refused A refusal
+soundness_said None days = cycle_said days
+
+-- some rule has BYSETPOS
+abbrev pub has_set_positions : Series → Bool
+has_set_positions series = list_any (λ rule. not (is_absent rule.by_set_pos)) series.rules
+
+-- the refusal of the text, else what is said of its series; set positions are not built yet
+abbrev pub series_said : Result Series Refusal → Answer
+series_said (Err refusal) = refused A refusal
+series_said (Ok series) = if has_set_positions series then refused A NotBuilt else soundness_said (first_fault series) (series_cycle series)
+
+-- what is said of the bytes of an operand; other texts than those of two lines are not built yet
+unfoldable pub check_answer : List ℕ → Answer
+check_answer bytes = if is_plain_text bytes then series_said (reads bytes) else refused A NotBuilt
+
 -- what a command answers over the bytes of its operands
 abbrev pub IsAnswer : Option Command → List ℕ × List ℕ → Answer → Type 0
 IsAnswer None both answer = answer ≡ usage
 IsAnswer (Some (equal a b)) both answer = IsEqualAnswer both.0 both.1 answer
+IsAnswer (Some (check a)) both answer = answer ≡ check_answer both.0
 
 -- A command over its operands' bytes has one answer.
 abbrev pub AnswerIsOne : Type 0

@@ -3,9 +3,9 @@ use Rattle.std.specs.Prelude.{◌≡◌, ◌⊎◌, ℕ, ◌+◌, ◌<◌, ◌�
 use Rattle.std.specs.Borrow.{Bor}
 use Rattle.rr_io.specs.Outside.{Appended, AppendedPart, Rose}
 use Rattle.rr_cli.specs.Answer.{Answer}
-use Rattle.rr_cli.specs.Command.{Command, equal, IsOperandOf}
+use Rattle.rr_cli.specs.Command.{Command, equal, check, IsOperandOf}
 use Rattle.rr_cli.specs.declared.words.Command.{Command as Parsed}
-use Rattle.rr_cli.specs.declared.words.Command.TheVariants.{Equal}
+use Rattle.rr_cli.specs.declared.words.Command.TheVariants.{Equal, Check}
 use Rattle.rr_cli.specs.declared.conclusion.Conclusion.{Conclusion}
 use Rattle.rr_cli.specs.declared.conclusion.Conclusion.TheVariants as conclusion
 use Rattle.rr_cli.specs.declared.run.Status.{Status}
@@ -14,6 +14,7 @@ use Rattle.rr_cli.specs.declared.run.Status.TheVariants.{Yes, No, Refused, Usage
 -- the command that a value of the program is
 abbrev pub command_in : Parsed → Command
 command_in (Equal a b) = equal a.now b.now
+command_in (Check a) = check a.now
 
 -- the texts that the words are
 abbrev pub words_of : List (Bor (List ℕ)) → List (List ℕ)

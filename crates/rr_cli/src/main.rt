@@ -1,6 +1,7 @@
 //! `rr` says of repeating series whether they have the same occurrences for all years to come.
 #![tactic(auto)]
 
+mod check;
 mod conclusion;
 mod daily;
 mod daily_text;
@@ -12,8 +13,8 @@ mod run;
 mod tests;
 mod words;
 
-use rr_io::{HostSink, HostSource};
 pub use laws::answer_is_one;
+use rr_io::{HostSink, HostSource};
 pub use run::{Status, run as run_words};
 use std::alloc::AllocError;
 use std::env;
@@ -33,13 +34,13 @@ fn exit_code(status: Status) -> ExitCode {
 }
 
 // Runs the words over the files and the standard streams of the system.
-fn run_on_host(rt: HostRuntime, words: &[String]) -> Result<Status, AllocError> {
+fn run_on_host(rt: &HostRuntime, words: &[String]) -> Result<Status, AllocError> {
     let alloc = rt.alloc();
     let mut texts = Vec::new(alloc);
     for word in words {
         texts.push(word.as_str())?;
     }
-    let mut source = HostSource::new(alloc, rt.clone()?);
+    let mut source = HostSource::new(alloc, rt);
     let mut sink = HostSink::new(rt);
     Ok(run_words(alloc, texts.as_slice(), &mut source, &mut sink))
 }
@@ -55,7 +56,7 @@ fn main(rt: HostRuntime) -> ExitCode {
             return ExitCode::from(6);
         }
     }
-    match run_on_host(rt, words.as_slice()) {
+    match run_on_host(&rt, words.as_slice()) {
         Ok(status) => exit_code(status),
         Err(_) => ExitCode::from(6),
     }

@@ -31,8 +31,8 @@ fn side_text(side: Side) -> &'static str
     }
 }
 
-// The refusal of an operand.
-fn refused(alloc: Global, side: Side, refusal: Refusal) -> Result<Outcome, NoMemory>
+/// The refusal of an operand.
+pub fn refused(alloc: Global, side: Side, refusal: Refusal) -> Result<Outcome, NoMemory>
     ensures answer { IfOk result (λ x. answer_of x ≡ refused side refusal) }
     ensures not_usage { IfOk result (λ x. x.conclusion ≢ Conclusion.Usage) }
 {

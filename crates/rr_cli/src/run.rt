@@ -6,6 +6,7 @@ ghost use Rattle.rr_cli.specs.Command.{command_of, contents, IsOperandOf};
 ghost use Rattle.rr_cli.specs.Outcome.{answer_of};
 ghost use Rattle.rr_cli.specs.Run.{words_of, status_of, Ends, HasCause};
 
+use crate::check::check_outcome;
 use crate::conclusion::Conclusion;
 use crate::outcome::{Outcome, equal_outcome, usage};
 use crate::words::{Command, parse};
@@ -55,6 +56,10 @@ fn work_out<S: Source>(alloc: Global, words: &[&str], source: &mut S) -> Result<
             let left = source.fetch(alloc, a)?;
             let right = source.fetch(alloc, b)?;
             Ok(equal_outcome(alloc, left.as_slice(), right.as_slice())?)
+        }
+        Some(Command::Check(a)) => {
+            let bytes = source.fetch(alloc, a)?;
+            Ok(check_outcome(alloc, bytes.as_slice())?)
         }
     }
 }

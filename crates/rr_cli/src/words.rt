@@ -9,6 +9,8 @@ ghost use Rattle.rr_cli.specs.Run.{words_of, command_in};
 pub enum Command<'a> {
     /// Whether two series have the same occurrences.
     Equal(&'a str, &'a str),
+    /// Whether a series is sound, and how long its cycle is.
+    Check(&'a str),
 }
 
 // The name of an operand in the language `rrule`.
@@ -46,6 +48,12 @@ pub fn parse<'a>(words: &[&'a str]) -> Option<Command<'a>>
             let a = operand_name(a)?;
             let b = operand_name(b)?;
             equal_of(a, b)
+        }
+        [word, a] => {
+            if *word != "check" {
+                return None;
+            }
+            Some(Command::Check(operand_name(a)?))
         }
         _ => None,
     }

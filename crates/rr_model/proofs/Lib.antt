@@ -8,6 +8,7 @@ pub mod FloorLemmas
 pub mod NearLemmas
 pub mod PeriodicLemmas
 pub mod SecondsLemmas
+mod SketchExamples
 pub mod SketchLemmas
 pub mod RisingLemmas
 pub mod VerdictLemmas
@@ -25,10 +26,17 @@ pub mod ShiftLemmas
 pub mod WeekShiftLemmas
 pub mod PartLemmas
 pub mod UnitLemmas
+mod ReadsExamples
 pub mod DivisorLemmas
 mod RuleExamples
-pub mod RuleCycleLemmas
 pub mod RepetitionLemmas
 pub mod RankLemmas
 pub mod StretchLemmas
 pub mod PrintedLemmas
+pub mod RuleCycleLemmas
+pub mod SoundnessLemmas
+pub mod SeriesCycleLemmas
+pub mod StartLemmas
+pub mod ReadingLemmas
+pub mod RulePartLemmas
+pub mod PartOrderLemmas

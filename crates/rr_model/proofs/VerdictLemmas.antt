@@ -1,8 +1,8 @@
--- Two sets of occurrences have one verdict of each kind.
+-- Two sets of occurrences have one verdict of each kind, and equal sets have the same.
 use Rattle.std.proofs.Common.{◌≡◌, ◌↔◌, inl, inr, ℤ, ◌<ℤ◌, ◌≤ℤ◌, refl, sym, arith}
 use Rattle.std.proofs.lemmas.Int.{ints, by_lt_z}
 use Rattle.rr_model.specs.Moment.{Before, Occurrences, instant_of}
-use Rattle.rr_model.specs.Verdict.{HoldsOnlyOf, IsEqualVerdict, IsWithinVerdict, IsDisjointVerdict}
+use Rattle.rr_model.specs.Verdict.{HaveEqualOccurrences, HoldsOnlyOf, IsEqualVerdict, IsWithinVerdict, IsDisjointVerdict}
 use Rattle.rr_model.specs.declared.kind.Kind.{Kind}
 use Rattle.rr_model.specs.declared.kind.Kind.TheVariants.{Days, Moments}
 use Rattle.rr_model.specs.declared.verdict.Side.{Side}
@@ -72,3 +72,31 @@ disjoint_verdict_is_one P Q (No k t s) (No l u r) (side, one, other, first) (sid
     let kind = same.0 in
     let at = same.1 in
     cc
+
+-- ---- equal sets have the same verdicts
+
+only_of_equal : (side : Side) (P P' Q Q' : Type 0) → (P ↔ P') → (Q ↔ Q') → HoldsOnlyOf side P Q → HoldsOnlyOf side P' Q'
+only_of_equal A P P' Q Q' f g h = (f.0 h.0, λ q. h.1 (g.1 q))
+only_of_equal B P P' Q Q' f g h = (g.0 h.0, λ p. h.1 (f.1 p))
+only_of_equal Both P P' Q Q' f g h = h
+
+both_ways : (P P' Q Q' : Type 0) → (P ↔ P') → (Q ↔ Q') → (P ↔ Q) → P' ↔ Q'
+both_ways P P' Q Q' f g h = ((λ p. g.0 (h.0 (f.1 p))), (λ q. f.0 (h.1 (g.1 q))))
+
+module _ (P P' Q Q' : Occurrences) (f : HaveEqualOccurrences P P') (g : HaveEqualOccurrences Q Q') where
+  pub equal_verdict_kept : (v : Verdict) → IsEqualVerdict P Q v → IsEqualVerdict P' Q' v
+  equal_verdict_kept Yes h = λ k t. both_ways (P k t) (P' k t) (Q k t) (Q' k t) (f k t) (g k t) (h k t)
+  equal_verdict_kept (No k t side) h = (
+    only_of_equal side (P k t) (P' k t) (Q k t) (Q' k t) (f k t) (g k t) h.0,
+    λ l u b. both_ways (P l u) (P' l u) (Q l u) (Q' l u) (f l u) (g l u) (h.1 l u b),
+  )
+
+  pub within_verdict_kept : (v : Verdict) → IsWithinVerdict P Q v → IsWithinVerdict P' Q' v
+  within_verdict_kept Yes h = λ k t p. (g k t).0 (h k t ((f k t).1 p))
+  within_verdict_kept (No k t side) (is, has, lacks, first) =
+      (is, (f k t).0 has, (λ q. lacks ((g k t).1 q)), λ l u b p. (g l u).0 (first l u b ((f l u).1 p)))
+
+  pub disjoint_verdict_kept : (v : Verdict) → IsDisjointVerdict P Q v → IsDisjointVerdict P' Q' v
+  disjoint_verdict_kept Yes h = λ k t p q. h k t ((f k t).1 p) ((g k t).1 q)
+  disjoint_verdict_kept (No k t side) (is, one, other, first) =
+      (is, (f k t).0 one, (g k t).0 other, λ l u b p q. first l u b ((f l u).1 p) ((g l u).1 q))

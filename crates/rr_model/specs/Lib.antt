@@ -18,7 +18,13 @@ pub mod RisingSet
 pub mod Refused
 pub mod Digits
 pub mod MomentText
+pub mod RuleText
+pub mod Reads
 pub mod Daily
 pub mod Repetition
 pub mod RuleValidity
 pub mod Cycle
+pub mod Answers
+pub mod Soundness
+pub mod SeriesCycle
+pub mod ReadingLaws

@@ -2,7 +2,7 @@
 use Rattle.std.specs.Prelude.{ℕ, List, ◌++◌, codes}
 use Rattle.std.specs.Fmt.{decimal}
 use Rattle.rr_model.specs.declared.refusal.Refusal.{Refusal}
-use Rattle.rr_model.specs.declared.refusal.Refusal.TheVariants.{BadMoment, BadRule, PartTwice, NumberRange, UntilAndCount, NotAllowed, LeapSecond, UntilKind, UntilBeforeStart, NotSynchronised, Extended, CycleTooLong, TooManyMoments, NotBuilt}
+use Rattle.rr_model.specs.declared.refusal.Refusal.TheVariants.{BadMoment, BadRule, PartTwice, NumberRange, UntilAndCount, NotAllowed, LeapSecond, UtcMoment, UntilKind, UntilBeforeStart, NotSynchronised, Extended, CycleTooLong, TooManyMoments, NotBuilt}
 
 abbrev pub refusal_name : Refusal → List ℕ
 refusal_name (BadMoment line) = codes "BadMoment"
@@ -12,6 +12,7 @@ refusal_name (NumberRange line) = codes "NumberRange"
 refusal_name UntilAndCount = codes "UntilAndCount"
 refusal_name NotAllowed = codes "NotAllowed"
 refusal_name LeapSecond = codes "LeapSecond"
+refusal_name UtcMoment = codes "UtcMoment"
 refusal_name UntilKind = codes "UntilKind"
 refusal_name UntilBeforeStart = codes "UntilBeforeStart"
 refusal_name (NotSynchronised rule) = codes "NotSynchronised"

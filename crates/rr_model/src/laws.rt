@@ -1,6 +1,7 @@
 // Laws about the definitions, each the contract of a function that does nothing.
 ghost use Rattle.rr_model.specs.Cycle.{GcdIsGreatest, LcmIsLeast};
 ghost use Rattle.rr_model.specs.Periodic.{AgreementLasts};
+ghost use Rattle.rr_model.specs.ReadingLaws.{CaseDoesNotMatter, OrderDoesNotMatter};
 
 /// Two sequences that repeat, and agree on as many places in a row as both periods together, agree for ever.
 pub fn agreement_lasts()
@@ -15,4 +16,14 @@ pub fn gcd_is_greatest()
 /// The least common multiple is a multiple of both numbers, and divides each number that is.
 pub fn lcm_is_least()
     ensures { LcmIsLeast }
+{}
+
+/// Values of a start and a rule that differ in the case of letters alone state one series, or are refused alike.
+pub fn case_does_not_matter()
+    ensures { CaseDoesNotMatter }
+{}
+
+/// Two neighbouring parts of a rule that is read may be exchanged: the series is the same.
+pub fn order_does_not_matter()
+    ensures { OrderDoesNotMatter }
 {}

@@ -8,17 +8,23 @@ mod limits;
 mod lists;
 mod refusal;
 mod rule;
+mod rule_parts;
 mod sketch;
 mod stamp;
+#[cfg(test)]
+mod tests;
 mod verdict;
 
 pub use calendar_laws::{calendar_repeats, dates_and_days_are_inverse, last_week_is_greatest};
 pub use kind::Kind;
-pub use laws::{agreement_lasts, gcd_is_greatest, lcm_is_least};
+pub use laws::{
+    agreement_lasts, case_does_not_matter, gcd_is_greatest, lcm_is_least, order_does_not_matter,
+};
 pub use limits::{MAX_CYCLE_DAYS, MAX_DAY, MAX_INPUT, MAX_SECONDS};
 pub use lists::{Dates, DayItems, DayShapes, Numbers, Rules, Seconds};
 pub use refusal::{Fault, NoMemory, Refusal};
 pub use rule::{DayItem, End, Freq, Rule, Series};
+pub use rule_parts::{NumberBounds, PartName, RuleParts};
 pub use sketch::{DayShape, Sketch};
 pub use stamp::Stamp;
 pub use verdict::{Side, Verdict};

@@ -23,6 +23,8 @@ pub enum Refusal {
     NotAllowed,
     /// BYSECOND lists 60.
     LeapSecond,
+    /// A moment has a `Z`, the start is local time, and no offset is stated.
+    UtcMoment,
     /// UNTIL has another kind than the start.
     UntilKind,
     /// UNTIL is before the start.
@@ -54,6 +56,7 @@ impl Refusal {
             Refusal::UntilAndCount => "UntilAndCount",
             Refusal::NotAllowed => "NotAllowed",
             Refusal::LeapSecond => "LeapSecond",
+            Refusal::UtcMoment => "UtcMoment",
             Refusal::UntilKind => "UntilKind",
             Refusal::UntilBeforeStart => "UntilBeforeStart",
             Refusal::NotSynchronised(_) => "NotSynchronised",

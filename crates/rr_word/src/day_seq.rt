@@ -1,5 +1,5 @@
 // A set of occurrences, read day by day.
-ghost use Rattle.std.specs.Prelude.{◌≡◌, ◌≤◌, ℕ, pos, neg_ℤ, ◌≤ℤ◌, IfSome};
+ghost use Rattle.std.specs.Prelude.{◌≡◌, ◌≤◌, pos, neg_ℤ, ◌≤ℤ◌, IfSome};
 ghost use Rattle.rr_model.specs.Sketch.{IsDaySequence, IsFirstDay, IsNearDay, times_on};
 ghost use Rattle.rr_model.specs.declared.sketch.Sketch.{Sketch};
 

@@ -1,0 +1,29 @@
+use Rattle.std.proofs.Common.{◌≡◌, true, List, [], ◌∷◌, ◌++◌, ℤ, pos, ◌≤ℤ◌, sym, ap, ◌∙◌, to_z-of_z, arith}
+use Rattle.std.proofs.lemmas.Bool.{false≢true}
+use Rattle.std.proofs.lemmas.Int.{ints}
+use Rattle.std.proofs.lemmas.List.Elements.{All-nil, All-cons}
+use Rattle.rr_model.specs.RuleValidity.{EndsInYears, IsInYears, IsValidRule, IsValidSeries}
+use Rattle.rr_model.specs.declared.kind.Kind.TheVariants.{Days}
+use Rattle.rr_model.specs.declared.rule.End.TheVariants.{Never}
+use Rattle.rr_model.specs.declared.rule.Rule.{Rule}
+use Rattle.rr_setpos.proofs.YearLemmas.{IsInYears-days}
+use Rattle.rr_check.proofs.tests.series.Goals as goal
+
+one_rule : (rule : Rule) (start : ℤ) (rules : List Rule) (plus minus : List ℤ) → IsValidRule Days rule → rule.end ≡ Never → rules ≡ rule ∷ [] → plus ≡ [] → minus ≡ [] → pos 0 ≤ℤ start → start ≤ℤ pos 2_932_896 → IsValidSeries (record { kind = Days; start = start; start_counts = true; rules = rules; plus = plus; minus = minus })
+one_rule rule start rules plus minus valid end one none nothing low high =
+    rw (one, none, nothing) (record {
+      start = IsInYears-days start (omega (arith, ints, low)) high;
+      start_counts = λ e. absurd (false≢true (sym e));
+      rules = All-cons (IsValidRule Days) rule [] valid (All-nil (IsValidRule Days));
+      few_rules = omega arith;
+      ends = All-cons (λ r. EndsInYears r.end) rule [] (rw end tt) (All-nil (λ r. EndsInYears r.end));
+      plus = All-nil (IsInYears Days);
+      minus = All-nil (IsInYears Days);
+      few_dates = omega arith;
+    })
+
+pub returns-clause-valid : goal.returns-clause-valid
+returns-clause-valid c =
+    let rule = c.in_ok-mondays.field-0 in
+    let one : c.put.new.self ≡ rule ∷ [] = c.in_ok-put.ensures.ok ∙ ap (λ l. l ++ rule ∷ []) c.new-rules.ensures in
+    rw (to_z-of_z c.ranges.start) (one_rule rule c.args.start c.put.new.self c.new.result c.new-2.result c.in_ok-mondays.ensures.valid c.in_ok-mondays.ensures.end one c.new.ensures c.new-2.ensures c.requires.low c.requires.high)

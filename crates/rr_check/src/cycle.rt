@@ -1,0 +1,67 @@
+// The cycle of a series.
+ghost use Rattle.std.specs.Prelude.{◌≡◌, ◌≤◌, ◌<◌, All, IfErr, IfOk, SomeIff};
+ghost use Rattle.rr_model.specs.Cycle.{lcm};
+ghost use Rattle.rr_model.specs.Repetition.{ChosenRepeats};
+ghost use Rattle.rr_model.specs.SeriesCycle.{endless_cycle, rules_cycle, series_cycle};
+ghost use Rattle.rr_model.specs.declared.refusal.Refusal.TheVariants.{CycleTooLong};
+
+use crate::Checked;
+use rr_model::{End, MAX_CYCLE_DAYS, Refusal, Rule};
+use rr_num::{day_cycle, lcm_within};
+
+/// The cycle of a series in days: the least common multiple of the cycles of its endless rules, 1 if there is none.
+///
+/// `CycleTooLong` exactly where it is above `MAX_CYCLE_DAYS`.
+pub fn admit(checked: &Checked) -> Result<u64, Refusal>
+    ensures admitted { IfOk result (λ days. (days ≡ series_cycle checked.now) × (days ≤ MAX_CYCLE_DAYS)) }
+    ensures refused { IfErr result (λ refusal. (refusal ≡ CycleTooLong) × (MAX_CYCLE_DAYS < series_cycle checked.now)) }
+{
+    match cycle_of(checked.series().rules.as_slice()) {
+        Some(days) => Ok(days),
+        None => Err(Refusal::CycleTooLong),
+    }
+}
+
+// The cycle of rules; `None` where it is above `MAX_CYCLE_DAYS`.
+fn cycle_of(rules: &[Rule]) -> Option<u64>
+    requires { All (λ rule. 1 ≤ rule.interval) rules.now }
+    ensures { SomeIff result (rules_cycle rules.now ≤ MAX_CYCLE_DAYS) (rules_cycle rules.now) }
+{
+    let mut cycle = 1;
+    for rule in rules {
+        let Some(joined) = joined(cycle, endless_cycle(rule)) else {
+            return None;
+        };
+        cycle = joined;
+    }
+    Some(cycle)
+}
+
+// What a rule adds to the cycle of its series: its own cycle where it is endless, and nothing where it ends.
+fn endless_cycle(rule: &Rule) -> u128
+    requires { 1 ≤ rule.now.interval }
+    ensures value { result ≡ endless_cycle rule.now.end rule.now }
+    ensures some { 1 ≤ result }
+{
+    match rule.end {
+        End::Never => day_cycle(rule),
+        _ => 1,
+    }
+}
+
+// The least common multiple of a cycle and another; `None` where it is above `MAX_CYCLE_DAYS`.
+pub(crate) fn joined(cycle: u64, days: u128) -> Option<u64>
+    requires some { 1 ≤ cycle }
+    requires some_days { 1 ≤ days }
+    ensures { SomeIff result (lcm cycle days ≤ MAX_CYCLE_DAYS) (lcm cycle days) }
+{
+    if days > MAX_CYCLE_DAYS as u128 {
+        return None;
+    }
+    lcm_within(cycle, days as u64, MAX_CYCLE_DAYS)
+}
+
+/// The chosen moments of a valid rule repeat with its cycle, which `admit` joins.
+pub fn chosen_repeats()
+    ensures { ChosenRepeats }
+{}

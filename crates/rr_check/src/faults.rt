@@ -1,0 +1,79 @@
+// Why a series is refused: the first of its faults, rule by rule.
+ghost use Rattle.std.specs.Prelude.{◌≡◌, ◌≤◌, All, length, []};
+ghost use Rattle.rr_model.specs.RuleValidity.{IsInYears, IsValidRule, IsValidSeries};
+ghost use Rattle.rr_model.specs.Soundness.{HasNoSetPositions, choice_fault, end_fault, first_fault, rule_fault, until_fault};
+
+use rr_model::{End, Kind, Refusal, Rule, Series};
+use rr_setpos::chosen;
+
+// The first fault of a series.
+pub(crate) fn first_fault(series: &Series) -> Option<Refusal>
+    requires valid { IsValidSeries series.now }
+    requires without_set_positions { HasNoSetPositions series.now }
+    ensures { result ≡ first_fault series.now }
+{
+    let mut number = 1;
+    for rule in series.rules.as_slice() {
+        let fault = rule_fault(number, series.kind, series.start, rule);
+        if fault.is_some() {
+            return fault;
+        }
+        number += 1;
+    }
+    None
+}
+
+// The fault of the rule of this number.
+fn rule_fault(number: u32, kind: Kind, start: i64, rule: &Rule) -> Option<Refusal>
+    requires valid { IsValidRule kind rule.now }
+    requires without_set_positions { rule.now.by_set_pos ≡ [] }
+    requires start { IsInYears kind start }
+    ensures { result ≡ rule_fault number kind start rule.now }
+{
+    end_fault(kind, start, rule.end).or(choice_fault(number, kind, start, rule))
+}
+
+// The fault of the end of a rule.
+pub(crate) fn end_fault(kind: Kind, start: i64, end: End) -> Option<Refusal>
+    ensures { result ≡ end_fault kind start end }
+{
+    match end {
+        End::Never | End::Count(_) => None,
+        End::Until { kind: other, at } => until_fault(kind, start, other, at),
+        End::Both {
+            kind: other,
+            at,
+            ..
+        } => until_fault(kind, start, other, at),
+    }
+}
+
+// The fault of an UNTIL beside a start.
+fn until_fault(kind: Kind, start: i64, other: Kind, at: i64) -> Option<Refusal>
+    ensures { result ≡ until_fault kind start other at }
+{
+    match (kind, other) {
+        (Kind::Days, Kind::Days) | (Kind::Moments, Kind::Moments) => {
+            if at < start {
+                Some(Refusal::UntilBeforeStart)
+            } else {
+                None
+            }
+        }
+        _ => Some(Refusal::UntilKind),
+    }
+}
+
+// The fault of a rule that does not choose its start.
+fn choice_fault(number: u32, kind: Kind, start: i64, rule: &Rule) -> Option<Refusal>
+    requires valid { IsValidRule kind rule.now }
+    requires without_set_positions { rule.now.by_set_pos ≡ [] }
+    requires start { IsInYears kind start }
+    ensures { result ≡ choice_fault number kind start rule.now }
+{
+    if chosen(rule, kind, start, start) {
+        None
+    } else {
+        Some(Refusal::NotSynchronised(number))
+    }
+}

@@ -1,0 +1,11 @@
+//! Whether the rules of a series fit its start, and how long its cycle is.
+#![tactic(auto)]
+
+mod cycle;
+mod faults;
+mod soundness;
+#[cfg(test)]
+mod tests;
+
+pub use cycle::{admit, chosen_repeats};
+pub use soundness::{Checked, check};

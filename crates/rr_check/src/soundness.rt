@@ -1,0 +1,52 @@
+// Checked series.
+ghost use Rattle.std.specs.Prelude.{◌≡◌, IfErr, IfOk, None, Some};
+ghost use Rattle.rr_model.specs.RuleValidity.{IsValidSeries};
+ghost use Rattle.rr_model.specs.Soundness.{HasNoSetPositions, IsSound, first_fault};
+
+use crate::faults::first_fault;
+use rr_model::{Refusal, Series};
+use std::marker::Model;
+
+/// A series whose rules choose its start, and end neither before it nor at a moment of the other kind.
+#[derive(Drop)]
+pub struct Checked {
+    series: Series,
+}
+
+impl Model for Checked {
+    ghost use Rattle.rr_model.specs.declared.rule.Series.{Series};
+    ghost use Rattle.rr_model.specs.Soundness.{IsSound};
+
+    ghost Value = { Series };
+
+    ghost view = { λ checked. checked.series };
+
+    ghost invariant = { λ checked. IsSound checked.series };
+}
+
+impl Checked {
+    /// The series as it was given.
+    pub fn series(&self) -> &Series
+        ensures value { result.now ≡ self.now }
+        ensures sound { IsSound result.now }
+    {
+        &self.series
+    }
+}
+
+/// Judges the rules of a series beside its start, and drops a series that it refuses.
+///
+/// For each rule in order: `UntilKind` where its UNTIL has another kind than the start, then `UntilBeforeStart`,
+/// then `NotSynchronised` with the rule's number, from 1, where the rule does not choose the start
+/// (RFC 5545, section 3.8.5.3).
+pub fn check(series: Series) -> Result<Checked, Refusal>
+    requires valid { IsValidSeries series }
+    requires without_set_positions { HasNoSetPositions series }
+    ensures accepted { IfOk result (λ checked. (checked ≡ series) × (first_fault series ≡ None)) }
+    ensures refused { IfErr result (λ refusal. first_fault series ≡ Some refusal) }
+{
+    match first_fault(&series) {
+        Some(refusal) => Err(refusal),
+        None => Ok(Checked { series }),
+    }
+}

@@ -1,0 +1,167 @@
+ghost use Rattle.std.specs.Prelude.{◌≡◌, ◌≤ℤ◌, pos, [], IfOk};
+ghost use Rattle.rr_model.specs.RuleValidity.{IsValidRule, IsValidSeries};
+ghost use Rattle.rr_model.specs.Soundness.{HasNoSetPositions};
+ghost use Rattle.rr_model.specs.declared.kind.Kind.TheVariants.{Days};
+ghost use Rattle.rr_model.specs.declared.rule.End.TheVariants.{Never};
+
+use crate::cycle::joined;
+use crate::faults::end_fault;
+use crate::{admit, check, chosen_repeats};
+use rr_model::{
+    Dates, DayItem, DayItems, End, Freq, Kind, NoMemory, Numbers, Refusal, Rule, Rules, Series,
+};
+use std::alloc::Global;
+use std::test::Fail;
+
+// The Mondays of weeks, and nothing else.
+fn mondays(alloc: Global) -> Result<Rule, NoMemory>
+    ensures valid { IfOk result (λ rule. IsValidRule Days rule) }
+    ensures end { IfOk result (λ rule. rule.end ≡ Never) }
+    ensures without_set_positions { IfOk result (λ rule. rule.by_set_pos ≡ []) }
+{
+    let mut by_day = DayItems::new(alloc);
+    by_day.put(DayItem {
+        place: 0,
+        weekday: 0,
+    })?;
+    Ok(Rule {
+        freq: Freq::Weekly,
+        interval: 1,
+        by_month: Numbers::new(alloc),
+        by_week_no: Numbers::new(alloc),
+        by_year_day: Numbers::new(alloc),
+        by_month_day: Numbers::new(alloc),
+        by_day,
+        by_hour: Numbers::new(alloc),
+        by_minute: Numbers::new(alloc),
+        by_second: Numbers::new(alloc),
+        by_set_pos: Numbers::new(alloc),
+        week_start: 0,
+        end: End::Never,
+    })
+}
+
+// The Mondays from a date on.
+fn series(alloc: Global, start: i64) -> Result<Series, NoMemory>
+    requires low { pos 0 ≤ℤ start }
+    requires high { start ≤ℤ pos 2_932_896 }
+    ensures valid { IfOk result IsValidSeries }
+    ensures without_set_positions { IfOk result HasNoSetPositions }
+{
+    let mut rules = Rules::new(alloc);
+    rules.put(mondays(alloc)?)?;
+    Ok(Series {
+        kind: Kind::Days,
+        start,
+        start_counts: true,
+        rules,
+        plus: Dates::new(alloc),
+        minus: Dates::new(alloc),
+    })
+}
+
+#[test]
+fn judged_series(rt: HostRuntime) -> Result<(), Fail> {
+    let alloc = rt.alloc();
+    // DTSTART:20240101 and DTSTART:20240102 with FREQ=WEEKLY;BYDAY=MO
+    for (start, want) in [(19_723, None), (19_724, Some(Refusal::NotSynchronised(1)))] {
+        assert!(rt; 0 <= start && start <= 2_932_896);
+        match check(series(alloc, start)?) {
+            Ok(checked) => {
+                assert_eq!(rt; want, None);
+                assert_eq!(rt; checked.series().start, start);
+                assert_eq!(rt; admit(&checked), Ok(7));
+            }
+            Err(refusal) => assert_eq!(rt; want, Some(refusal)),
+        }
+    }
+    // 2024-01-01 and the second 09:00:00 of that day, beside ends
+    let day = 19_723;
+    let second = 1_704_099_600;
+    let (days, moments) = (Kind::Days, Kind::Moments);
+    for (kind, start, end, want) in [
+        (days, day, End::Never, None),
+        (days, day, End::Count(1), None),
+        (
+            days,
+            day,
+            End::Until {
+                kind: days,
+                at: day,
+            },
+            None,
+        ),
+        (
+            days,
+            day,
+            End::Until {
+                kind: days,
+                at: day - 1,
+            },
+            Some(Refusal::UntilBeforeStart),
+        ),
+        (
+            days,
+            day,
+            End::Until {
+                kind: moments,
+                at: 0,
+            },
+            Some(Refusal::UntilKind),
+        ),
+        (
+            moments,
+            second,
+            End::Until {
+                kind: days,
+                at: day + 4,
+            },
+            Some(Refusal::UntilKind),
+        ),
+        (
+            moments,
+            second,
+            End::Both {
+                kind: moments,
+                at: second,
+                count: 2,
+            },
+            None,
+        ),
+        (
+            moments,
+            second,
+            End::Both {
+                kind: moments,
+                at: second - 1,
+                count: 2,
+            },
+            Some(Refusal::UntilBeforeStart),
+        ),
+        (
+            moments,
+            second,
+            End::Both {
+                kind: days,
+                at: day,
+                count: 2,
+            },
+            Some(Refusal::UntilKind),
+        ),
+    ] {
+        assert_eq!(rt; end_fault(kind, start, end), want, "{end:?}");
+    }
+    // cycles joined, up to 16,777,216 days: 113 and 127 times the 146,097 days of 400 years, and others
+    for (cycle, days, want) in [
+        (1, 16_508_961, Some(16_508_961)),
+        (1, 18_554_319, None),
+        (7, 146_097, Some(146_097)),
+        (16_777_216, 2, Some(16_777_216)),
+        (16_777_216, 3, None),
+    ] {
+        assert!(rt; cycle > 0 && days > 0);
+        assert_eq!(rt; joined(cycle, days), want, "{cycle} and {days}");
+    }
+    chosen_repeats();
+    Ok(())
+}

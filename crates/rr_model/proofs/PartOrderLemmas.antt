@@ -1,0 +1,249 @@
+-- The order of the parts of a rule does not matter.
+use Rattle.std.proofs.Common.{◌≡◌, ℕ, ◌+◌, ◌-◌, Bool, true, false, cond, not, List, [], ◌∷◌, ◌++◌, reverse, length, take, drop, map, Result, Ok, Err, refl, sym, ap, ◌∙◌, arith}
+use Rattle.std.specs.Prelude.{◌==◌, ◌&&◌, nat_lt, codes}
+use Rattle.std.specs.Char.{to_ascii_uppercase}
+use Rattle.std.specs.List.{list_all, join_with_byte, onto_first, prefix_len, take_while}
+use Rattle.std.specs.Str.{bytes_eq, str_to_ascii_uppercase}
+use Rattle.std.proofs.Math.Seq.{drop-append_seam}
+use Rattle.std.proofs.lemmas.Bool.{and_parts, and_from}
+use Rattle.std.proofs.lemmas.Bool.Decides.{nat_tests}
+use Rattle.std.proofs.lemmas.List.{take_all, length-append, length-map, map-append, reverse-append}
+use Rattle.std.proofs.lemmas.List.Folds.{list_all-append}
+use Rattle.rr_model.specs.ReadingLaws.{IsOneLine, is_part_byte, is_part, AreParts, OrderDoesNotMatter}
+use Rattle.rr_model.specs.Reads.{is_blank, with_part, with_parts, no_parts, without_last_semicolon, without_blanks_before, without_blanks_behind, parts_of, rule_of, series_with, line_value, start_of, rule_parts, reads_values}
+use Rattle.rr_model.specs.RuleText.{◌>>=◌, pieces}
+use Rattle.rr_model.specs.declared.refusal.Refusal.{Refusal}
+use Rattle.rr_model.specs.declared.rule.Series.{Series}
+use Rattle.rr_model.specs.declared.rule_parts.RuleParts.{RuleParts}
+use Rattle.rr_model.proofs.RulePartLemmas.{bind_ok, exchanged}
+use Rattle.rr_model.proofs.ReadingLemmas.{reads-text_of}
+
+-- ---- lists of parts
+
+with_parts-append : (line : ℕ) (parts : RuleParts) (xs ys : List (List ℕ)) → with_parts line parts (xs ++ ys) ≡ (with_parts line parts xs >>= λ more. with_parts line more ys)
+with_parts-append line parts [] ys = refl
+with_parts-append line parts (x ∷ xs) ys = by (with_part line parts x) (λ more. with_parts-append line more xs ys)
+  where
+    by : (r : Result RuleParts Refusal) → ((more : RuleParts) → with_parts line more (xs ++ ys) ≡ (with_parts line more xs >>= λ rest. with_parts line rest ys))
+        → (r >>= λ more. with_parts line more (xs ++ ys)) ≡ ((r >>= λ more. with_parts line more xs) >>= λ rest. with_parts line rest ys)
+    by (Ok more) later = later more
+    by (Err d) later = refl
+
+with_parts-two : (line : ℕ) (parts all : RuleParts) (a b : List ℕ) (texts : List (List ℕ)) → with_parts line parts (a ∷ b ∷ texts) ≡ Ok all → with_parts line parts (b ∷ a ∷ texts) ≡ Ok all
+with_parts-two line parts all a b texts e =
+    let first = bind_ok (with_part line parts a) (λ more. with_parts line more (b ∷ texts)) all e in
+    let second = bind_ok (with_part line first.0 b) (λ more. with_parts line more texts) all first.2 in
+    let other = exchanged line parts first.0 second.0 a b first.1 second.1 in
+    rw (other.1, other.2) second.2
+
+with_parts-exchange : (line : ℕ) (parts all : RuleParts) (a b : List ℕ) (before behind : List (List ℕ)) → with_parts line parts (before ++ a ∷ b ∷ behind) ≡ Ok all → with_parts line parts (before ++ b ∷ a ∷ behind) ≡ Ok all
+with_parts-exchange line parts all a b before behind e =
+    let front = bind_ok (with_parts line parts before) (λ more. with_parts line more (a ∷ b ∷ behind)) all (sym (with_parts-append line parts before (a ∷ b ∷ behind)) ∙ e) in
+    with_parts-append line parts before (b ∷ a ∷ behind) ∙ ap (λ (r : Result RuleParts Refusal). r >>= λ more. with_parts line more (b ∷ a ∷ behind)) front.1 ∙ with_parts-two line front.0 all a b behind front.2
+
+-- ---- parts in capitals
+
+is_part_byte-capital : (b : ℕ) → is_part_byte (to_ascii_uppercase b) ≡ is_part_byte b
+is_part_byte-capital b = grind (arith, nat_tests)
+
+all_part_bytes-capitals : (text : List ℕ) → list_all is_part_byte (str_to_ascii_uppercase text) ≡ list_all is_part_byte text
+all_part_bytes-capitals [] = refl
+all_part_bytes-capitals (b ∷ bs) = cc (is_part_byte-capital b, all_part_bytes-capitals bs)
+
+is_part-capitals : (text : List ℕ) → is_part (str_to_ascii_uppercase text) ≡ is_part text
+is_part-capitals text = rw (length-map text to_ascii_uppercase, all_part_bytes-capitals text) refl
+
+are_parts-capitals : (texts : List (List ℕ)) → list_all is_part (map str_to_ascii_uppercase texts) ≡ list_all is_part texts
+are_parts-capitals [] = refl
+are_parts-capitals (text ∷ texts) = cc (is_part-capitals text, are_parts-capitals texts)
+
+capitals-join : (texts : List (List ℕ)) → str_to_ascii_uppercase (join_with_byte 59 texts) ≡ join_with_byte 59 (map str_to_ascii_uppercase texts)
+capitals-join [] = refl
+capitals-join (text ∷ []) = refl
+capitals-join (text ∷ next ∷ texts) =
+    map-append to_ascii_uppercase text (59 ∷ join_with_byte 59 (next ∷ texts)) ∙ ap (λ (rest : List ℕ). str_to_ascii_uppercase text ++ 59 ∷ rest) (capitals-join (next ∷ texts))
+
+-- ---- bytes of a joined text
+
+-- no blank and no line feed
+abbrev is_inner : ℕ → Bool
+is_inner b = not (is_blank b) && not (b == 10)
+
+all_inner : (text : List ℕ) → list_all is_part_byte text ≡ true → list_all is_inner text ≡ true
+all_inner [] h = refl
+all_inner (b ∷ bs) h =
+    let parts = and_parts (is_part_byte b) (list_all is_part_byte bs) h in
+    and_from (is_inner b) (list_all is_inner bs) (and_parts (not (b == 59)) (is_inner b) parts.0).1 (all_inner bs parts.1)
+
+part_bytes : (text : List ℕ) → is_part text ≡ true → list_all is_part_byte text ≡ true
+part_bytes text h = (and_parts (nat_lt 0 (length text)) (list_all is_part_byte text) h).1
+
+all_inner-join : (texts : List (List ℕ)) → AreParts texts → list_all is_inner (join_with_byte 59 texts) ≡ true
+all_inner-join [] h = refl
+all_inner-join (text ∷ []) h = all_inner text (part_bytes text (and_parts (is_part text) true h).0)
+all_inner-join (text ∷ next ∷ texts) h =
+    let parts = and_parts (is_part text) (list_all is_part (next ∷ texts)) h in
+    list_all-append is_inner text (59 ∷ join_with_byte 59 (next ∷ texts)) ∙ and_from _ _ (all_inner text (part_bytes text parts.0)) (all_inner-join (next ∷ texts) parts.1)
+
+one_line-join : (text : List ℕ) → list_all is_inner text ≡ true → IsOneLine text
+one_line-join [] h = refl
+one_line-join (b ∷ bs) h =
+    let parts = and_parts (is_inner b) (list_all is_inner bs) h in
+    and_from (not (b == 10)) _ (and_parts (not (is_blank b)) (not (b == 10)) parts.0).1 (one_line-join bs parts.1)
+
+list_all-reverse : (p : ℕ → Bool) (text : List ℕ) → list_all p text ≡ true → list_all p (reverse text) ≡ true
+list_all-reverse p [] h = refl
+list_all-reverse p (b ∷ bs) h =
+    let parts = and_parts (p b) (list_all p bs) h in
+    ap (list_all p) (reverse-append (b ∷ []) bs) ∙ list_all-append p (reverse bs) (b ∷ []) ∙ and_from _ _ (list_all-reverse p bs parts.1) (and_from (p b) true parts.0 refl)
+
+no_blanks : (text : List ℕ) → list_all is_inner text ≡ true → length (take_while is_blank text) ≡ 0
+no_blanks [] h = refl
+no_blanks (b ∷ bs) h = by (is_blank b) (and_parts (not (is_blank b)) (not (b == 10)) (and_parts (is_inner b) (list_all is_inner bs) h).0).0
+  where
+    by : (d : Bool) → not d ≡ true → length (take (cond d (1 + prefix_len is_blank bs) 0) (b ∷ bs)) ≡ 0
+    by true e = absurd cc
+    by false e = refl
+
+without_blanks-inner : (text : List ℕ) → list_all is_inner text ≡ true → without_blanks_behind (without_blanks_before text) ≡ text
+without_blanks-inner text h =
+    let front : without_blanks_before text ≡ text = ap (λ n. drop n text) (no_blanks text h) in
+    ap without_blanks_behind front ∙ ap (λ n. take (length text - n) text) (no_blanks (reverse text) (list_all-reverse is_inner text h)) ∙ take_all (length text - 0) text (omega arith)
+
+-- ---- the parts of a joined text
+
+split_at_semicolon : (text rest : List ℕ) → list_all is_part_byte text ≡ true → pieces 59 (text ++ 59 ∷ rest) ≡ text ∷ pieces 59 rest
+split_at_semicolon [] rest h = refl
+split_at_semicolon (b ∷ bs) rest h =
+    let parts = and_parts (is_part_byte b) (list_all is_part_byte bs) h in
+    by (b == 59) (and_parts (not (b == 59)) (is_inner b) parts.0).0 ∙ ap (onto_first b) (split_at_semicolon bs rest parts.1)
+  where
+    by : (d : Bool) → not d ≡ true → cond d ([] ∷ pieces 59 (bs ++ 59 ∷ rest)) (onto_first b (pieces 59 (bs ++ 59 ∷ rest))) ≡ onto_first b (pieces 59 (bs ++ 59 ∷ rest))
+    by true e = absurd cc
+    by false e = refl
+
+split_none : (text : List ℕ) → list_all is_part_byte text ≡ true → pieces 59 text ≡ text ∷ []
+split_none [] h = refl
+split_none (b ∷ bs) h =
+    let parts = and_parts (is_part_byte b) (list_all is_part_byte bs) h in
+    by (b == 59) (and_parts (not (b == 59)) (is_inner b) parts.0).0 ∙ ap (onto_first b) (split_none bs parts.1)
+  where
+    by : (d : Bool) → not d ≡ true → cond d ([] ∷ pieces 59 bs) (onto_first b (pieces 59 bs)) ≡ onto_first b (pieces 59 bs)
+    by true e = absurd cc
+    by false e = refl
+
+pieces-join : (text : List ℕ) (texts : List (List ℕ)) → AreParts (text ∷ texts) → pieces 59 (join_with_byte 59 (text ∷ texts)) ≡ text ∷ texts
+pieces-join text [] h = split_none text (part_bytes text (and_parts (is_part text) true h).0)
+pieces-join text (next ∷ texts) h =
+    let parts = and_parts (is_part text) (list_all is_part (next ∷ texts)) h in
+    split_at_semicolon text (join_with_byte 59 (next ∷ texts)) (part_bytes text parts.0) ∙ ap (λ (rest : List (List ℕ)). text ∷ rest) (pieces-join next texts parts.1)
+
+-- ---- the last byte of a joined text
+
+record EndsInPart (text : List ℕ) : Type 0 where
+  front : List ℕ
+  last : ℕ
+  is_text : text ≡ front ++ last ∷ []
+  no_semicolon : (last == 59) ≡ false
+
+EndsInPart-cons : (b : ℕ) (text : List ℕ) → EndsInPart text → EndsInPart (b ∷ text)
+EndsInPart-cons b text e = record { front = b ∷ e.front; last = e.last; is_text = ap (λ (rest : List ℕ). b ∷ rest) e.is_text; no_semicolon = e.no_semicolon }
+
+EndsInPart-append : (more text : List ℕ) → EndsInPart text → EndsInPart (more ++ text)
+EndsInPart-append [] text e = e
+EndsInPart-append (b ∷ more) text e = EndsInPart-cons b (more ++ text) (EndsInPart-append more text e)
+
+not_true : (d : Bool) → not d ≡ true → d ≡ false
+not_true true e = absurd cc
+not_true false e = refl
+
+EndsInPart-bytes : (b : ℕ) (bs : List ℕ) → list_all is_part_byte (b ∷ bs) ≡ true → EndsInPart (b ∷ bs)
+EndsInPart-bytes b [] h =
+    record { front = []; last = b; is_text = refl; no_semicolon = not_true (b == 59) (and_parts (not (b == 59)) (is_inner b) (and_parts (is_part_byte b) true h).0).0 }
+EndsInPart-bytes b (c ∷ cs) h = EndsInPart-cons b (c ∷ cs) (EndsInPart-bytes c cs (and_parts (is_part_byte b) (list_all is_part_byte (c ∷ cs)) h).1)
+
+EndsInPart-part : (text : List ℕ) → is_part text ≡ true → EndsInPart text
+EndsInPart-part [] h = absurd cc
+EndsInPart-part (b ∷ bs) h = EndsInPart-bytes b bs (part_bytes (b ∷ bs) h)
+
+EndsInPart-join : (text : List ℕ) (texts : List (List ℕ)) → AreParts (text ∷ texts) → EndsInPart (join_with_byte 59 (text ∷ texts))
+EndsInPart-join text [] h = EndsInPart-part text (and_parts (is_part text) true h).0
+EndsInPart-join text (next ∷ texts) h =
+    EndsInPart-append text (59 ∷ join_with_byte 59 (next ∷ texts)) (EndsInPart-cons 59 _ (EndsInPart-join next texts (and_parts (is_part text) (list_all is_part (next ∷ texts)) h).1))
+
+without_last_semicolon-part : (front : List ℕ) (last : ℕ) → (last == 59) ≡ false → without_last_semicolon (front ++ last ∷ []) ≡ front ++ last ∷ []
+without_last_semicolon-part front last e =
+    let len : length (front ++ last ∷ []) - 1 ≡ length front = omega (arith, length-append front (last ∷ [])) in
+    let end : drop (length (front ++ last ∷ []) - 1) (front ++ last ∷ []) ≡ last ∷ [] = ap (λ n. drop n (front ++ last ∷ [])) len ∙ drop-append_seam front (last ∷ []) in
+    let none : bytes_eq (drop (length (front ++ last ∷ []) - 1) (front ++ last ∷ [])) (codes ";") ≡ false = ap (λ (t : List ℕ). bytes_eq t (codes ";")) end ∙ ap (λ b. b && true) e in
+    rw none refl
+
+without_last_semicolon-join : (text : List ℕ) → EndsInPart text → without_last_semicolon text ≡ text
+without_last_semicolon-join text e = ap without_last_semicolon e.is_text ∙ without_last_semicolon-part e.front e.last e.no_semicolon ∙ sym e.is_text
+
+-- ---- the rule of a joined text
+
+line_value-join : (texts : List (List ℕ)) → AreParts texts → line_value (join_with_byte 59 texts) ≡ join_with_byte 59 (map str_to_ascii_uppercase texts)
+unfolding line_value
+line_value-join texts h =
+    ap (λ (t : List ℕ). without_blanks_behind (without_blanks_before t)) (capitals-join texts)
+    ∙ without_blanks-inner (join_with_byte 59 (map str_to_ascii_uppercase texts)) (all_inner-join (map str_to_ascii_uppercase texts) (are_parts-capitals texts ∙ h))
+
+parts_of-join : (line : ℕ) (text : List ℕ) (texts : List (List ℕ)) → AreParts (text ∷ texts) → parts_of line (join_with_byte 59 (text ∷ texts)) ≡ with_parts line no_parts (text ∷ texts)
+unfolding parts_of
+parts_of-join line text texts h =
+    ap (λ (t : List ℕ). with_parts line no_parts (pieces 59 t)) (without_last_semicolon-join _ (EndsInPart-join text texts h)) ∙ ap (with_parts line no_parts) (pieces-join text texts h)
+
+rule_parts-join : (line : ℕ) (text : List ℕ) (texts : List (List ℕ)) → AreParts (text ∷ texts) → rule_parts line (join_with_byte 59 (text ∷ texts)) ≡ with_parts line no_parts (map str_to_ascii_uppercase (text ∷ texts))
+unfolding rule_parts
+rule_parts-join line text texts h =
+    ap (parts_of line) (line_value-join (text ∷ texts) h) ∙ parts_of-join line (str_to_ascii_uppercase text) (map str_to_ascii_uppercase texts) (are_parts-capitals (text ∷ texts) ∙ h)
+
+-- some part stands
+abbrev IsSome : List (List ℕ) → Type 0
+IsSome texts = (first : List ℕ) × (more : List (List ℕ)) × (texts ≡ first ∷ more)
+
+some_parts : (before : List (List ℕ)) (text : List ℕ) (behind : List (List ℕ)) → IsSome (before ++ text ∷ behind)
+some_parts [] text behind = (text, behind, refl)
+some_parts (first ∷ before) text behind = (first, before ++ text ∷ behind, refl)
+
+rule_parts-joined : (line : ℕ) (texts : List (List ℕ)) → AreParts texts → IsSome texts → rule_parts line (join_with_byte 59 texts) ≡ with_parts line no_parts (map str_to_ascii_uppercase texts)
+rule_parts-joined line [] h some = absurd cc
+rule_parts-joined line (text ∷ texts) h some = rule_parts-join line text texts h
+
+exchange_in_rule : (line : ℕ) (a b : List ℕ) (before behind : List (List ℕ)) (all : RuleParts) → AreParts (before ++ a ∷ b ∷ behind) → AreParts (before ++ b ∷ a ∷ behind)
+    → rule_parts line (join_with_byte 59 (before ++ a ∷ b ∷ behind)) ≡ Ok all → rule_parts line (join_with_byte 59 (before ++ b ∷ a ∷ behind)) ≡ Ok all
+exchange_in_rule line a b before behind all h k e =
+    let capital : List ℕ → List ℕ = str_to_ascii_uppercase in
+    let read : (x y : List ℕ) → AreParts (before ++ x ∷ y ∷ behind) → rule_parts line (join_with_byte 59 (before ++ x ∷ y ∷ behind)) ≡ with_parts line no_parts (map capital before ++ capital x ∷ capital y ∷ map capital behind) =
+    λ x y parts. rule_parts-joined line (before ++ x ∷ y ∷ behind) parts (some_parts before x (y ∷ behind)) ∙ ap (with_parts line no_parts) (map-append capital before (x ∷ y ∷ behind)) in
+    read b a k ∙ with_parts-exchange line no_parts all (capital a) (capital b) (map capital before) (map capital behind) (sym (read a b h) ∙ e)
+
+-- ---- the law
+
+parts_exchanged : (before behind : List (List ℕ)) (a b : List ℕ) → AreParts (before ++ a ∷ b ∷ behind) → AreParts (before ++ b ∷ a ∷ behind)
+parts_exchanged before behind a b h =
+    let front = and_parts (list_all is_part before) (list_all is_part (a ∷ b ∷ behind)) (sym (list_all-append is_part before (a ∷ b ∷ behind)) ∙ h) in
+    let first = and_parts (is_part a) (list_all is_part (b ∷ behind)) front.1 in
+    let second = and_parts (is_part b) (list_all is_part behind) first.1 in
+    list_all-append is_part before (b ∷ a ∷ behind) ∙ and_from _ _ front.0 (and_from _ _ second.0 (and_from _ _ first.0 second.1))
+
+reads_values-parts : (start rule : List ℕ) (series : Series) → reads_values start rule ≡ Ok series → (parts : RuleParts) × (rule_parts 2 rule ≡ Ok parts)
+reads_values-parts start rule series e =
+    let stamp = bind_ok (start_of 1 start) (λ stamp. rule_parts 2 rule >>= λ parts. rule_of 2 parts >>= λ known. series_with stamp parts.until known) series e in
+    let parts = bind_ok (rule_parts 2 rule) (λ parts. rule_of 2 parts >>= λ known. series_with stamp.0 parts.until known) series stamp.2 in
+    (parts.0, parts.1)
+
+reads_values-same_parts : (start rule other : List ℕ) (parts : RuleParts) → rule_parts 2 rule ≡ Ok parts → rule_parts 2 other ≡ Ok parts → reads_values start other ≡ reads_values start rule
+reads_values-same_parts start rule other parts e f =
+    ap (λ (r : Result RuleParts Refusal). start_of 1 start >>= λ stamp. r >>= λ parts. rule_of 2 parts >>= λ known. series_with stamp parts.until known) (f ∙ sym e)
+
+pub order_does_not_matter : OrderDoesNotMatter
+order_does_not_matter start a b before behind series line h e =
+    let k = parts_exchanged before behind a b h in
+    let rule = join_with_byte 59 (before ++ a ∷ b ∷ behind) in
+    let other = join_with_byte 59 (before ++ b ∷ a ∷ behind) in
+    let read : reads_values start rule ≡ Ok series = sym (reads-text_of start rule line (one_line-join rule (all_inner-join (before ++ a ∷ b ∷ behind) h))) ∙ e in
+    let parts = reads_values-parts start rule series read in
+    reads-text_of start other line (one_line-join other (all_inner-join (before ++ b ∷ a ∷ behind) k))
+    ∙ reads_values-same_parts start rule other parts.0 parts.1 (exchange_in_rule 2 a b before behind parts.0 h k parts.1) ∙ read

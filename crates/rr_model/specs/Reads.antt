@@ -1,0 +1,225 @@
+-- What a text of a start and a rule states, or the first refusal (RFC 5545, sections 3.3.10 and 3.8.5.3).
+use Rattle.std.specs.Prelude.{ℕ, ◌+◌, ◌-◌, ◌==◌, nat_lt, nat_le, Bool, true, false, not, ◌&&◌, ◌||◌, if◌then◌else◌, List, [], ◌∷◌, reverse, length, take, drop, codes, Option, None, Some, ok_or, unwrap_or, option_map, option_and_then, position, Result, Ok, Err, IsTrue}
+use Rattle.std.specs.List.{list_all, take_while}
+use Rattle.std.specs.Option.{is_some}
+use Rattle.std.specs.Str.{bytes_eq, str_to_ascii_uppercase}
+use Rattle.rr_model.specs.MomentText.{basic}
+use Rattle.rr_model.specs.RuleText.{◌>>=◌, pieces, in_table, freq_named, weekday_named, number_up_to, unsigned, signed, seconds, numbers_of, day_items_of}
+use Rattle.rr_model.specs.RuleValidity.{is_absent, is_allowed, takes_start}
+use Rattle.rr_model.specs.declared.kind.Kind.{Kind}
+use Rattle.rr_model.specs.declared.kind.Kind.TheVariants.{Days, Moments}
+use Rattle.rr_model.specs.declared.refusal.Refusal.{Refusal}
+use Rattle.rr_model.specs.declared.refusal.Refusal.TheVariants.{BadMoment, BadRule, PartTwice, UntilAndCount, NotAllowed, UtcMoment, Extended, NotBuilt}
+use Rattle.rr_model.specs.declared.rule.End.{End}
+use Rattle.rr_model.specs.declared.rule.End.TheVariants.{Never, Until, Count}
+use Rattle.rr_model.specs.declared.rule.Freq.{Freq}
+use Rattle.rr_model.specs.declared.rule.Rule.{Rule}
+use Rattle.rr_model.specs.declared.rule.Series.{Series}
+use Rattle.rr_model.specs.declared.rule_parts.PartName.{PartName}
+use Rattle.rr_model.specs.declared.rule_parts.PartName.TheVariants as part
+use Rattle.rr_model.specs.declared.rule_parts.RuleParts.{RuleParts}
+use Rattle.rr_model.specs.declared.stamp.Stamp.{Stamp}
+
+-- what stands before the first byte b, and what behind it
+abbrev pub cut : ℕ → List ℕ → Option (List ℕ × List ℕ)
+cut b text = option_map (λ i. (take i text, drop (i + 1) text)) (position (λ c. c == b) text)
+
+-- ---- the parts of a rule
+
+unfoldable pub part_named : List ℕ → Option PartName
+part_named name = in_table
+    ((codes "FREQ", part.Freq) ∷ (codes "UNTIL", part.Until) ∷ (codes "COUNT", part.Count) ∷ (codes "INTERVAL", part.Interval) ∷ (codes "WKST", part.WeekStart)
+    ∷ (codes "BYSECOND", part.BySecond) ∷ (codes "BYMINUTE", part.ByMinute) ∷ (codes "BYHOUR", part.ByHour) ∷ (codes "BYDAY", part.ByDay)
+    ∷ (codes "BYMONTHDAY", part.ByMonthDay) ∷ (codes "BYYEARDAY", part.ByYearDay) ∷ (codes "BYWEEKNO", part.ByWeekNo) ∷ (codes "BYMONTH", part.ByMonth)
+    ∷ (codes "BYSETPOS", part.BySetPos) ∷ []) name
+
+-- RSCALE and SKIP are parts of RFC 7529
+abbrev pub is_extension : List ℕ → Bool
+is_extension name = bytes_eq name (codes "RSCALE") || bytes_eq name (codes "SKIP")
+
+-- a name of the table; an extension is known and not read
+unfoldable pub name_of : ℕ → List ℕ → Result PartName Refusal
+name_of line name = if is_extension name then Err Extended else ok_or (part_named name) (BadRule line)
+
+-- the part stood before
+abbrev pub stands : RuleParts → PartName → Bool
+stands parts part.Freq = is_some parts.freq
+stands parts part.Until = is_some parts.until
+stands parts part.Count = is_some parts.count
+stands parts part.Interval = is_some parts.interval
+stands parts part.WeekStart = is_some parts.week_start
+stands parts part.BySecond = not (is_absent parts.by_second)
+stands parts part.ByMinute = not (is_absent parts.by_minute)
+stands parts part.ByHour = not (is_absent parts.by_hour)
+stands parts part.ByDay = not (is_absent parts.by_day)
+stands parts part.ByMonthDay = not (is_absent parts.by_month_day)
+stands parts part.ByYearDay = not (is_absent parts.by_year_day)
+stands parts part.ByWeekNo = not (is_absent parts.by_week_no)
+stands parts part.ByMonth = not (is_absent parts.by_month)
+stands parts part.BySetPos = not (is_absent parts.by_set_pos)
+
+-- the table: each part's values, and where they belong
+abbrev pub with_value_of : ℕ → RuleParts → PartName → List ℕ → Result RuleParts Refusal
+with_value_of line parts part.Freq text = ok_or (freq_named text) (BadRule line) >>= λ x. Ok (record parts { freq = Some x })
+with_value_of line parts part.Until text = ok_or (basic text) (BadMoment line) >>= λ x. Ok (record parts { until = Some x })
+with_value_of line parts part.Count text = number_up_to line 18_446_744_073_709_551_615 text >>= λ x. Ok (record parts { count = Some x })
+with_value_of line parts part.Interval text = number_up_to line 4_294_967_295 text >>= λ x. Ok (record parts { interval = Some x })
+with_value_of line parts part.WeekStart text = ok_or (weekday_named text) (BadRule line) >>= λ x. Ok (record parts { week_start = Some x })
+with_value_of line parts part.BySecond text = numbers_of line seconds text >>= λ x. Ok (record parts { by_second = x })
+with_value_of line parts part.ByMinute text = numbers_of line (unsigned 0 59) text >>= λ x. Ok (record parts { by_minute = x })
+with_value_of line parts part.ByHour text = numbers_of line (unsigned 0 23) text >>= λ x. Ok (record parts { by_hour = x })
+with_value_of line parts part.ByDay text = day_items_of line text >>= λ x. Ok (record parts { by_day = x })
+with_value_of line parts part.ByMonthDay text = numbers_of line (signed 31) text >>= λ x. Ok (record parts { by_month_day = x })
+with_value_of line parts part.ByYearDay text = numbers_of line (signed 366) text >>= λ x. Ok (record parts { by_year_day = x })
+with_value_of line parts part.ByWeekNo text = numbers_of line (signed 53) text >>= λ x. Ok (record parts { by_week_no = x })
+with_value_of line parts part.ByMonth text = numbers_of line (unsigned 1 12) text >>= λ x. Ok (record parts { by_month = x })
+with_value_of line parts part.BySetPos text = numbers_of line (signed 366) text >>= λ x. Ok (record parts { by_set_pos = x })
+
+-- a part NAME=value: its name, then whether it stood before, then its value
+unfoldable pub with_part : ℕ → RuleParts → List ℕ → Result RuleParts Refusal
+with_part line parts text = do
+  sides ← ok_or (cut 61 text) (BadRule line)
+  name ← name_of line sides.0
+  if stands parts name then Err (PartTwice line) else with_value_of line parts name sides.1
+
+-- the parts after those that are read
+abbrev pub with_parts : ℕ → RuleParts → List (List ℕ) → Result RuleParts Refusal
+with_parts line parts [] = Ok parts
+with_parts line parts (text ∷ texts) = do
+  more ← with_part line parts text
+  with_parts line more texts
+
+abbrev pub no_parts : RuleParts
+no_parts = record {
+  freq = None;
+  until = None;
+  count = None;
+  interval = None;
+  week_start = None;
+  by_second = [];
+  by_minute = [];
+  by_hour = [];
+  by_day = [];
+  by_month_day = [];
+  by_year_day = [];
+  by_week_no = [];
+  by_month = [];
+  by_set_pos = [];
+}
+
+-- the text without one semicolon at its end
+abbrev pub without_last_semicolon : List ℕ → List ℕ
+without_last_semicolon text = if bytes_eq (drop (length text - 1) text) (codes ";") then take (length text - 1) text else text
+
+unfoldable pub parts_of : ℕ → List ℕ → Result RuleParts Refusal
+parts_of line text = with_parts line no_parts (pieces 59 (without_last_semicolon text))
+
+-- ---- the rule
+
+abbrev pub end_of : Option Stamp → Option ℕ → Result End Refusal
+end_of None None = Ok Never
+end_of None (Some count) = Ok (Count count)
+end_of (Some until) None = Ok (Until until.kind until.at)
+end_of (Some until) (Some count) = Err UntilAndCount
+
+-- a rule of these parts: INTERVAL is 1 and WKST Monday where they do not stand
+abbrev pub rule_with : Freq → End → RuleParts → Rule
+rule_with freq end parts = record {
+  freq = freq;
+  interval = unwrap_or parts.interval 1;
+  by_month = parts.by_month;
+  by_week_no = parts.by_week_no;
+  by_year_day = parts.by_year_day;
+  by_month_day = parts.by_month_day;
+  by_day = parts.by_day;
+  by_hour = parts.by_hour;
+  by_minute = parts.by_minute;
+  by_second = parts.by_second;
+  by_set_pos = parts.by_set_pos;
+  week_start = unwrap_or parts.week_start 0;
+  end = end;
+}
+
+-- the rule, judged after its last part
+unfoldable pub rule_of : ℕ → RuleParts → Result Rule Refusal
+rule_of line parts = do
+  freq ← ok_or parts.freq (BadRule line)
+  end ← end_of parts.until parts.count
+  if is_allowed (rule_with freq end parts) then Ok (rule_with freq end parts) else Err NotAllowed
+
+-- ---- the series
+
+abbrev pub has_time : Kind → Bool
+has_time Days = false
+has_time Moments = true
+
+-- UNTIL is a moment of UTC beside a start of local time
+abbrev pub needs_offset : Stamp → Option Stamp → Bool
+needs_offset start None = false
+needs_offset start (Some until) = until.utc && not start.utc && has_time start.kind
+
+-- the series of a start and one rule
+abbrev pub series_of : Stamp → Rule → Series
+series_of start rule = record { kind = start.kind; start = start.at; start_counts = true; rules = rule ∷ []; plus = []; minus = [] }
+
+-- the same, judged beside each other
+unfoldable pub series_with : Stamp → Option Stamp → Rule → Result Series Refusal
+series_with start until rule =
+    if needs_offset start until then Err UtcMoment
+    else (if takes_start rule.freq start.kind then Ok (series_of start rule) else Err NotAllowed)
+
+-- the value of a line: in capitals, without the blanks and tabs around it
+abbrev pub is_blank : ℕ → Bool
+is_blank b = (b == 32) || (b == 9)
+
+abbrev pub without_blanks_before : List ℕ → List ℕ
+without_blanks_before text = drop (length (take_while is_blank text)) text
+
+abbrev pub without_blanks_behind : List ℕ → List ℕ
+without_blanks_behind text = take (length text - length (take_while is_blank (reverse text))) text
+
+unfoldable pub line_value : List ℕ → List ℕ
+line_value text = without_blanks_behind (without_blanks_before (str_to_ascii_uppercase text))
+
+-- the text behind a prefix
+abbrev pub text_behind : List ℕ → List ℕ → Option (List ℕ)
+text_behind prefix text = if bytes_eq (take (length prefix) text) prefix then Some (drop (length prefix) text) else None
+
+-- the value of the first line, which begins so and is ended by a line feed, and what stands behind that line
+unfoldable pub first_line : List ℕ → List ℕ → Option (List ℕ × List ℕ)
+first_line name text = option_and_then (cut 10) (text_behind name text)
+
+-- the values of the two lines of a text; nothing stands behind them
+unfoldable pub values_of : List ℕ → Option (List ℕ × List ℕ)
+values_of bytes =
+    option_and_then (λ start. option_and_then (λ rule. if length rule.1 == 0 then Some (start.0, rule.0) else None)
+    (first_line (codes "RRULE:") start.1)) (first_line (codes "DTSTART:") bytes)
+
+unfoldable pub start_of : ℕ → List ℕ → Result Stamp Refusal
+start_of line text = ok_or (basic (line_value text)) (BadMoment line)
+
+unfoldable pub rule_parts : ℕ → List ℕ → Result RuleParts Refusal
+rule_parts line text = parts_of line (line_value text)
+
+-- the series of the two values
+abbrev pub reads_values : List ℕ → List ℕ → Result Series Refusal
+reads_values start rule = do
+  stamp ← start_of 1 start
+  parts ← rule_parts 2 rule
+  known ← rule_of 2 parts
+  series_with stamp parts.until known
+
+-- the series that the bytes state
+unfoldable pub reads : List ℕ → Result Series Refusal
+reads bytes = do
+  values ← ok_or (values_of bytes) NotBuilt
+  reads_values values.0 values.1
+
+-- ---- the texts that are read
+
+-- ASCII without carriage returns, at most as many bytes as one operand has, and the two lines
+unfoldable pub is_plain_text : List ℕ → Bool
+is_plain_text bytes = nat_le (length bytes) 1_048_576 && list_all (λ b. nat_lt b 128 && not (b == 13)) bytes && is_some (values_of bytes)
+
+abbrev pub IsPlainText : List ℕ → Type 0
+IsPlainText bytes = IsTrue (is_plain_text bytes)

@@ -1,0 +1,67 @@
+-- Whether the rules of a series fit its start (RFC 5545, section 3.3.10 on UNTIL, and section 3.8.5.3 on DTSTART).
+use Rattle.std.specs.Prelude.{◌≡◌, ℕ, suc, if◌then◌else◌, Option, None, Some, ⊤, List, [], ◌∷◌, All, ℤ, ◌≤ℤ◌, int_lt}
+use Rattle.std.specs.Option.{option_or}
+use Rattle.rr_model.specs.RuleValidity.{IsValidSeries}
+use Rattle.rr_model.specs.Chosen.{is_chosen, IsSynchronised}
+use Rattle.rr_model.specs.declared.kind.Kind.{Kind}
+use Rattle.rr_model.specs.declared.kind.Kind.TheVariants.{Days, Moments}
+use Rattle.rr_model.specs.declared.refusal.Refusal.{Refusal}
+use Rattle.rr_model.specs.declared.refusal.Refusal.TheVariants.{UntilKind, UntilBeforeStart, NotSynchronised}
+use Rattle.rr_model.specs.declared.rule.End.{End}
+use Rattle.rr_model.specs.declared.rule.End.TheVariants.{Until, Both}
+use Rattle.rr_model.specs.declared.rule.Rule.{Rule}
+use Rattle.rr_model.specs.declared.rule.Series.{Series}
+
+-- ---- why a series is refused
+
+-- of an UNTIL beside a start: another kind, and then an earlier moment
+abbrev pub until_fault : Kind → ℤ → Kind → ℤ → Option Refusal
+until_fault Days start Days at = if int_lt at start then Some UntilBeforeStart else None
+until_fault Moments start Moments at = if int_lt at start then Some UntilBeforeStart else None
+until_fault kind start other at = Some UntilKind
+
+-- of the end of a rule
+abbrev pub end_fault : Kind → ℤ → End → Option Refusal
+end_fault kind start (Until other at) = until_fault kind start other at
+end_fault kind start (Both other at count) = until_fault kind start other at
+end_fault kind start end = None
+
+-- of a rule's choice: it does not choose its start
+abbrev pub choice_fault : ℕ → Kind → ℤ → Rule → Option Refusal
+choice_fault number kind start rule =
+    if is_chosen rule kind start start then None else Some (NotSynchronised number)
+
+-- of the rule of this number: its end's fault comes first
+abbrev pub rule_fault : ℕ → Kind → ℤ → Rule → Option Refusal
+rule_fault number kind start rule = option_or (end_fault kind start rule.end) (choice_fault number kind start rule)
+
+-- of rules that are numbered on from this number: the first rule's fault comes first
+abbrev pub rules_fault : ℕ → Kind → ℤ → List Rule → Option Refusal
+rules_fault number kind start [] = None
+rules_fault number kind start (rule ∷ rules) = option_or (rule_fault number kind start rule) (rules_fault (suc number) kind start rules)
+
+-- of a series, whose rules are numbered from 1
+abbrev pub first_fault : Series → Option Refusal
+first_fault series = rules_fault 1 series.kind series.start series.rules
+
+-- ---- what is sound
+
+-- an UNTIL is of the start's kind and not before it
+abbrev pub EndsNotBefore : Kind → ℤ → End → Type 0
+EndsNotBefore kind start (Until other at) = (other ≡ kind) × (start ≤ℤ at)
+EndsNotBefore kind start (Both other at count) = (other ≡ kind) × (start ≤ℤ at)
+EndsNotBefore kind start end = ⊤
+
+-- the rule chooses the start, and does not end before it
+pub record FitsStart (kind : Kind) (start : ℤ) (rule : Rule) : Type 0 where
+  pub synchronised : IsSynchronised rule kind start
+  pub end : EndsNotBefore kind start rule.end
+
+-- the series is valid, and each rule fits the start
+pub record IsSound (series : Series) : Type 0 where
+  pub valid : IsValidSeries series
+  pub rules : All (FitsStart series.kind series.start) series.rules
+
+-- no rule has BYSETPOS
+abbrev pub HasNoSetPositions : Series → Type 0
+HasNoSetPositions series = All (λ rule. rule.by_set_pos ≡ []) series.rules

@@ -1,0 +1,99 @@
+-- The values of the parts that are read lie in their ranges.
+use Rattle.std.proofs.Common.{◌≡◌, ℕ, ◌<◌, ◌≤◌, true, false, Some, List, [], ◌∷◌, Ok, subst}
+use Rattle.std.specs.Prelude.{All, ok_or}
+use Rattle.std.specs.Option.{IfSome}
+use Rattle.std.proofs.lemmas.List.Elements.{All-nil}
+use Rattle.rr_model.specs.MomentText.{basic}
+use Rattle.rr_model.specs.Reads.{cut, name_of, stands, with_value_of, with_part, with_parts, no_parts, without_last_semicolon, parts_of, line_value, rule_parts}
+use Rattle.rr_model.specs.RuleText.{freq_named, weekday_named, number_up_to, unsigned, signed, seconds, numbers_of, day_items_of, pieces}
+use Rattle.rr_model.specs.RuleValidity.{LieFrom, CountUpTo, IsDayItem, IsInYears}
+use Rattle.rr_model.specs.declared.refusal.Refusal.TheVariants.{BadMoment, BadRule, PartTwice}
+use Rattle.rr_model.specs.declared.rule_parts.PartName.{PartName}
+use Rattle.rr_model.specs.declared.rule_parts.PartName.TheVariants as part
+use Rattle.rr_model.specs.declared.rule_parts.RuleParts.{RuleParts}
+use Rattle.rr_rrule.proofs.StepLemmas.{and_then_ok, ok_or_ok, step_keeps, not_refused}
+use Rattle.rr_rrule.proofs.InYearsLemmas.{basic-in_years}
+use Rattle.rr_rrule.proofs.BoundsLemmas.{numbers_of-counts, numbers_of-lie, number_up_to-lies, weekday_named-below, day_items_of-means}
+
+-- the values of the parts that stand lie in their ranges
+pub record ArePartsValid (parts : RuleParts) : Type 0 where
+  pub until : IfSome parts.until (λ stamp. IsInYears stamp.kind stamp.at)
+  pub count : IfSome parts.count (λ n. 1 ≤ n)
+  pub interval : IfSome parts.interval (λ n. (1 ≤ n) × (n ≤ 4_294_967_295))
+  pub week_start : IfSome parts.week_start (λ d. d < 7)
+  pub seconds : LieFrom 0 59 parts.by_second
+  pub minutes : LieFrom 0 59 parts.by_minute
+  pub hours : LieFrom 0 23 parts.by_hour
+  pub days : All IsDayItem parts.by_day
+  pub month_days : CountUpTo 31 parts.by_month_day
+  pub year_days : CountUpTo 366 parts.by_year_day
+  pub week_numbers : CountUpTo 53 parts.by_week_no
+  pub months : LieFrom 1 12 parts.by_month
+  pub set_positions : CountUpTo 366 parts.by_set_pos
+
+no_parts-valid : ArePartsValid no_parts
+no_parts-valid = record {
+  until = tt;
+  count = tt;
+  interval = tt;
+  week_start = tt;
+  seconds = All-nil _;
+  minutes = All-nil _;
+  hours = All-nil _;
+  days = All-nil _;
+  month_days = All-nil _;
+  year_days = All-nil _;
+  week_numbers = All-nil _;
+  months = All-nil _;
+  set_positions = All-nil _;
+}
+
+-- each value is one of its part
+with_value_of-valid : (line : ℕ) (parts : RuleParts) (name : PartName) (text : List ℕ) (more : RuleParts) → ArePartsValid parts → with_value_of line parts name text ≡ Ok more → ArePartsValid more
+with_value_of-valid line parts part.Freq text more v =
+    step_keeps ArePartsValid (ok_or (freq_named text) (BadRule line)) (λ x. record parts { freq = Some x }) more (λ x e. assumption)
+with_value_of-valid line parts part.Until text more v =
+    step_keeps ArePartsValid (ok_or (basic text) (BadMoment line)) (λ x. record parts { until = Some x }) more (λ x e. assumption (basic-in_years text x (ok_or_ok (basic text) _ x e)))
+with_value_of-valid line parts part.Count text more v =
+    step_keeps ArePartsValid (number_up_to line 18_446_744_073_709_551_615 text) (λ x. record parts { count = Some x }) more (λ x e. assumption ((number_up_to-lies line _ text x e).0))
+with_value_of-valid line parts part.Interval text more v =
+    step_keeps ArePartsValid (number_up_to line 4_294_967_295 text) (λ x. record parts { interval = Some x }) more (λ x e. assumption (number_up_to-lies line _ text x e))
+with_value_of-valid line parts part.WeekStart text more v =
+    step_keeps ArePartsValid (ok_or (weekday_named text) (BadRule line)) (λ x. record parts { week_start = Some x }) more (λ x e. assumption (weekday_named-below text x (ok_or_ok (weekday_named text) _ x e)))
+with_value_of-valid line parts part.BySecond text more v =
+    step_keeps ArePartsValid (numbers_of line seconds text) (λ x. record parts { by_second = x }) more (λ x e. assumption (numbers_of-lie line 0 59 true text x e))
+with_value_of-valid line parts part.ByMinute text more v =
+    step_keeps ArePartsValid (numbers_of line (unsigned 0 59) text) (λ x. record parts { by_minute = x }) more (λ x e. assumption (numbers_of-lie line 0 59 false text x e))
+with_value_of-valid line parts part.ByHour text more v =
+    step_keeps ArePartsValid (numbers_of line (unsigned 0 23) text) (λ x. record parts { by_hour = x }) more (λ x e. assumption (numbers_of-lie line 0 23 false text x e))
+with_value_of-valid line parts part.ByDay text more v =
+    step_keeps ArePartsValid (day_items_of line text) (λ x. record parts { by_day = x }) more (λ x e. assumption (day_items_of-means line text x e))
+with_value_of-valid line parts part.ByMonthDay text more v =
+    step_keeps ArePartsValid (numbers_of line (signed 31) text) (λ x. record parts { by_month_day = x }) more (λ x e. assumption (numbers_of-counts line 31 text x e))
+with_value_of-valid line parts part.ByYearDay text more v =
+    step_keeps ArePartsValid (numbers_of line (signed 366) text) (λ x. record parts { by_year_day = x }) more (λ x e. assumption (numbers_of-counts line 366 text x e))
+with_value_of-valid line parts part.ByWeekNo text more v =
+    step_keeps ArePartsValid (numbers_of line (signed 53) text) (λ x. record parts { by_week_no = x }) more (λ x e. assumption (numbers_of-counts line 53 text x e))
+with_value_of-valid line parts part.ByMonth text more v =
+    step_keeps ArePartsValid (numbers_of line (unsigned 1 12) text) (λ x. record parts { by_month = x }) more (λ x e. assumption (numbers_of-lie line 1 12 false text x e))
+with_value_of-valid line parts part.BySetPos text more v =
+    step_keeps ArePartsValid (numbers_of line (signed 366) text) (λ x. record parts { by_set_pos = x }) more (λ x e. assumption (numbers_of-counts line 366 text x e))
+
+with_part-valid : (line : ℕ) (parts : RuleParts) (text : List ℕ) (more : RuleParts) → ArePartsValid parts → with_part line parts text ≡ Ok more → ArePartsValid more
+unfolding with_part
+with_part-valid line parts text more v h =
+    let sides = and_then_ok (ok_or (cut 61 text) (BadRule line)) _ more h in
+    let name = and_then_ok (name_of line sides.0.0) _ more sides.2 in
+    with_value_of-valid line parts name.0 sides.0.1 more v (not_refused (stands parts name.0) (PartTwice line) _ more name.2)
+
+with_parts-valid : (line : ℕ) (parts : RuleParts) (texts : List (List ℕ)) (all : RuleParts) → ArePartsValid parts → with_parts line parts texts ≡ Ok all → ArePartsValid all
+with_parts-valid line parts [] all v h =
+    let same : parts ≡ all = cc in
+    subst ArePartsValid same v
+with_parts-valid line parts (text ∷ texts) all v h =
+    let step = and_then_ok (with_part line parts text) (λ more. with_parts line more texts) all h in
+    with_parts-valid line step.0 texts all (with_part-valid line parts text step.0 v step.1) step.2
+
+pub rule_parts-valid : (line : ℕ) (text : List ℕ) (parts : RuleParts) → rule_parts line text ≡ Ok parts → ArePartsValid parts
+unfolding rule_parts parts_of
+rule_parts-valid line text parts = with_parts-valid line no_parts (pieces 59 (without_last_semicolon (line_value text))) parts no_parts-valid

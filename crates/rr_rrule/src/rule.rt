@@ -1,0 +1,179 @@
+// A rule of its parts, and the series of a start and a rule.
+ghost use Rattle.std.specs.Prelude.{◌≡◌, IfOk};
+ghost use Rattle.rr_model.specs.Answers.{Answers};
+ghost use Rattle.rr_model.specs.RuleValidity.{is_absent, has_place, has_part, takes_places, takes_week_numbers, takes_month_days, takes_year_days, is_allowed, takes_start};
+ghost use Rattle.rr_model.specs.Reads.{end_of, rule_with, rule_of, has_time, needs_offset, series_of, series_with};
+
+use rr_model::{
+    Dates, DayItems, End, Fault, Freq, Kind, NoMemory, Numbers, Refusal, Rule, RuleParts, Rules,
+    Series, Stamp,
+};
+use std::alloc::Global;
+
+fn is_absent(numbers: &Numbers) -> bool
+    ensures { result ≡ is_absent numbers.now }
+{
+    numbers.as_slice().is_empty()
+}
+
+fn has_place(items: &DayItems) -> bool
+    ensures { result ≡ has_place items.now }
+{
+    items.as_slice().iter().any(|item| item.place != 0)
+}
+
+fn takes_year_days(freq: Freq) -> bool
+    ensures { result ≡ takes_year_days freq }
+{
+    !matches!(freq, Freq::Daily | Freq::Weekly | Freq::Monthly)
+}
+
+fn takes_places(freq: Freq, no_weeks: bool) -> bool
+    ensures { result ≡ takes_places freq no_weeks }
+{
+    match freq {
+        Freq::Monthly => true,
+        Freq::Yearly => no_weeks,
+        _ => false,
+    }
+}
+
+fn has_part(rule: &Rule) -> bool
+    ensures { result ≡ has_part rule.now }
+{
+    let no_days = is_absent(&rule.by_month)
+        && is_absent(&rule.by_week_no)
+        && is_absent(&rule.by_year_day)
+        && is_absent(&rule.by_month_day)
+        && rule.by_day.as_slice().is_empty();
+    !(no_days
+        && is_absent(&rule.by_hour)
+        && is_absent(&rule.by_minute)
+        && is_absent(&rule.by_second))
+}
+
+fn takes_month_days(freq: Freq) -> bool
+    ensures { result ≡ takes_month_days freq }
+{
+    freq != Freq::Weekly
+}
+
+fn takes_week_numbers(freq: Freq) -> bool
+    ensures { result ≡ takes_week_numbers freq }
+{
+    freq == Freq::Yearly
+}
+
+// Whether no two parts stand that may not stand together.
+fn is_allowed(rule: &Rule) -> bool
+    ensures { result ≡ is_allowed rule.now }
+{
+    (takes_year_days(rule.freq) || is_absent(&rule.by_year_day))
+        && (takes_month_days(rule.freq) || is_absent(&rule.by_month_day))
+        && (takes_week_numbers(rule.freq) || is_absent(&rule.by_week_no))
+        && (takes_places(rule.freq, is_absent(&rule.by_week_no)) || !has_place(&rule.by_day))
+        && (has_part(rule) || is_absent(&rule.by_set_pos))
+}
+
+fn takes_start(freq: Freq, kind: Kind) -> bool
+    ensures { result ≡ takes_start freq kind }
+{
+    match (freq, kind) {
+        (Freq::Secondly | Freq::Minutely | Freq::Hourly, Kind::Days) => false,
+        _ => true,
+    }
+}
+
+fn end_of(until: Option<Stamp>, count: Option<u64>) -> Result<End, Refusal>
+    ensures { result ≡ end_of until count }
+{
+    match (until, count) {
+        (None, None) => Ok(End::Never),
+        (None, Some(count)) => Ok(End::Count(count)),
+        (Some(until), None) => Ok(End::Until {
+            kind: until.kind,
+            at: until.at,
+        }),
+        (Some(_), Some(_)) => Err(Refusal::UntilAndCount),
+    }
+}
+
+fn rule_with(freq: Freq, end: End, parts: RuleParts) -> Rule
+    ensures { result ≡ rule_with freq end parts }
+{
+    Rule {
+        freq,
+        interval: parts.interval.unwrap_or(1),
+        by_month: parts.by_month,
+        by_week_no: parts.by_week_no,
+        by_year_day: parts.by_year_day,
+        by_month_day: parts.by_month_day,
+        by_day: parts.by_day,
+        by_hour: parts.by_hour,
+        by_minute: parts.by_minute,
+        by_second: parts.by_second,
+        by_set_pos: parts.by_set_pos,
+        week_start: parts.week_start.unwrap_or(0),
+        end,
+    }
+}
+
+/// The rule of these parts, judged after its last part.
+#[tactic(auto, unfolding(rr_model::specs::Reads::rule_of))]
+pub(crate) fn rule_of(line: u64, parts: RuleParts) -> Result<Rule, Refusal>
+    ensures { result ≡ rule_of line parts }
+{
+    let freq = parts.freq.ok_or(Refusal::BadRule(line))?;
+    let end = end_of(parts.until, parts.count)?;
+    let rule = rule_with(freq, end, parts);
+    if is_allowed(&rule) {
+        Ok(rule)
+    } else {
+        Err(Refusal::NotAllowed)
+    }
+}
+
+// Whether UNTIL is a moment of UTC beside a start of local time.
+fn needs_offset(start: Stamp, until: Option<Stamp>) -> bool
+    ensures { result ≡ needs_offset start until }
+{
+    match until {
+        None => false,
+        Some(until) => until.utc && !start.utc && start.kind == Kind::Moments,
+    }
+}
+
+// The series of a start and its rule.
+fn series_of(alloc: Global, start: Stamp, rule: Rule) -> Result<Series, NoMemory>
+    ensures { IfOk result (λ series. series ≡ series_of start rule) }
+{
+    let mut rules = Rules::new(alloc);
+    rules.put(rule)?;
+    Ok(Series {
+        kind: start.kind,
+        start: start.at,
+        start_counts: true,
+        rules,
+        plus: Dates::new(alloc),
+        minus: Dates::new(alloc),
+    })
+}
+
+/// The series of a start and its rule, judged beside each other.
+#[tactic(auto, unfolding(rr_model::specs::Reads::series_with))]
+pub(crate) fn series_with(
+    alloc: Global,
+    start: Stamp,
+    until: Option<Stamp>,
+    rule: Rule,
+) -> Result<Series, Fault>
+    ensures { Answers (series_with start until rule) result }
+{
+    if needs_offset(start, until) {
+        return Err(Fault::Refused(Refusal::UtcMoment));
+    }
+    if !takes_start(rule.freq, start.kind) {
+        return Err(Fault::Refused(Refusal::NotAllowed));
+    }
+    Ok(series_of(alloc, start, rule)?)
+}

@@ -1,0 +1,4 @@
+mod ChoiceLemmas
+mod DayLemmas
+mod UnitLemmas
+pub mod YearLemmas

@@ -1,0 +1,41 @@
+// Chosen moments.
+ghost use Rattle.std.specs.Prelude.{◌≡◌, ◌≤◌, []};
+ghost use Rattle.rr_model.specs.Calendar.{IsDayWithin};
+ghost use Rattle.rr_model.specs.Candidate.{is_candidate};
+ghost use Rattle.rr_model.specs.Chosen.{is_chosen};
+ghost use Rattle.rr_model.specs.Moment.{day_part};
+ghost use Rattle.rr_model.specs.RuleValidity.{IsInYears, IsValidRule};
+
+use crate::dates::date_parts_hold;
+use crate::moment::Moment;
+use crate::times::time_parts_hold;
+use crate::units::interval_holds;
+use rr_model::{Kind, Rule};
+
+/// Whether the rule with this start chooses a moment (RFC 5545, section 3.3.10), which may lie before the start.
+///
+/// Both are day numbers in kind `Days`, and second numbers in kind `Moments`. UNTIL and COUNT do not enter.
+/// It takes no memory, and time that depends on the rule's lists alone.
+pub fn chosen(rule: &Rule, kind: Kind, start: i64, at: i64) -> bool
+    requires rule { IsValidRule kind rule.now }
+    requires without_set_positions { rule.now.by_set_pos ≡ [] }
+    requires start { IsInYears kind start }
+    requires near { IsDayWithin 0 (day_part kind at) }
+    ensures { result ≡ is_chosen rule.now kind start at }
+{
+    let start = Moment::new(kind, start);
+    let moment = Moment::new(kind, at);
+    is_candidate(rule, &start, &moment)
+}
+
+// Whether the moment is a candidate of the rule with this start.
+#[tactic(auto, unfolding(rr_model::specs::Candidate::is_candidate))]
+pub(crate) fn is_candidate(rule: &Rule, start: &Moment, moment: &Moment) -> bool
+    requires kind { start.now.kind ≡ moment.now.kind }
+    requires interval { 1 ≤ rule.now.interval }
+    ensures { result ≡ is_candidate rule.now start.now.kind start.now.at moment.now.at }
+{
+    interval_holds(rule, start, moment)
+        && date_parts_hold(rule, start, &moment.day)
+        && time_parts_hold(rule, start, moment)
+}

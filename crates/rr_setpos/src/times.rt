@@ -1,0 +1,65 @@
+// The time parts of a rule, as tests of one moment (RFC 5545, section 3.3.10).
+ghost use Rattle.std.specs.Prelude.{◌≡◌, pos, ◌&&◌};
+ghost use Rattle.rr_model.specs.Candidate.{allows, time_parts_hold};
+ghost use Rattle.rr_model.specs.Filled.{filled, filled_part, hour_of, minute_of, second_of, wants_hour, wants_minute, wants_second};
+ghost use Rattle.rr_model.specs.declared.kind.Kind.TheVariants.{Moments};
+
+use crate::filled::{wants_hour, wants_minute, wants_second};
+use crate::moment::Moment;
+use crate::numbers::allows_filled;
+use rr_model::{Kind, Rule};
+
+// A time of day.
+#[derive(Clone, Copy)]
+struct Time {
+    hour: u8,
+    minute: u8,
+    second: u8,
+}
+
+// Whether each time part of the rule, filled from its start, holds of the moment. A date has no time.
+pub(crate) fn time_parts_hold(rule: &Rule, start: &Moment, moment: &Moment) -> bool
+    requires kind { start.now.kind ≡ moment.now.kind }
+    ensures { result ≡ time_parts_hold (filled rule.now start.now.kind start.now.at) moment.now.kind moment.now.at }
+{
+    match moment.kind {
+        Kind::Days => true,
+        Kind::Moments => allows_time(rule, time_of(start.at), time_of(moment.at)),
+    }
+}
+
+// Whether each time part, filled from the start's time where it is absent and wanted, lists the time's number.
+fn allows_time(rule: &Rule, own: Time, time: Time) -> bool
+    ensures { result ≡
+        (allows (filled_part (wants_hour rule.now.freq) rule.now.by_hour (pos own.hour)) (pos time.hour)
+        && allows (filled_part (wants_minute rule.now.freq) rule.now.by_minute (pos own.minute)) (pos time.minute)
+        && allows (filled_part (wants_second rule.now.freq) rule.now.by_second (pos own.second)) (pos time.second)) }
+{
+    allows_filled(&rule.by_hour, wants_hour(rule.freq), own.hour, time.hour)
+        && allows_filled(
+            &rule.by_minute,
+            wants_minute(rule.freq),
+            own.minute,
+            time.minute,
+        )
+        && allows_filled(
+            &rule.by_second,
+            wants_second(rule.freq),
+            own.second,
+            time.second,
+        )
+}
+
+// The time of a moment.
+fn time_of(at: i64) -> Time
+    ensures hour { result.hour ≡ hour_of Moments at }
+    ensures minute { result.minute ≡ minute_of Moments at }
+    ensures second { result.second ≡ second_of Moments at }
+{
+    let second = at.rem_euclid(86_400) as u32;
+    Time {
+        hour: (second / 3_600) as u8,
+        minute: (second / 60 % 60) as u8,
+        second: (second % 60) as u8,
+    }
+}
