@@ -2,8 +2,7 @@
 ghost use Rattle.std.specs.Prelude.{◌≡◌};
 ghost use Rattle.rr_model.specs.Calendar.{day_of_month, day_of_year, IsDayWithin, month_length, month_of, weekday_of, year_length, year_of};
 
-use crate::lengths::{day_of_year, month_length, year_length};
-use rr_cal::{date_of, weekday};
+use rr_cal::{date_of, day_of_year, month_length, weekday, year_length};
 
 // A day, and what the date parts ask of it.
 #[derive(Clone, Copy)]
@@ -16,7 +15,7 @@ pub(crate) struct Day {
     pub(crate) year_day: u16,
     pub(crate) days_in_year: u16,
     pub(crate) weekday: u8,
-    ghost near: { IsDayWithin 600 number },
+    ghost near: { IsDayWithin 1000 number },
     ghost of_year: { year ≡ year_of number },
     ghost of_month: { month ≡ month_of number },
     ghost of_month_day: { month_day ≡ day_of_month number },
@@ -29,7 +28,7 @@ pub(crate) struct Day {
 impl Day {
     // The day of this number.
     pub(crate) fn new(number: i64) -> Self
-        requires near { IsDayWithin 600 number }
+        requires near { IsDayWithin 1000 number }
         ensures { result.number ≡ number }
     {
         let date = date_of(number);
@@ -39,7 +38,7 @@ impl Day {
             month: date.month,
             month_day: date.day,
             days_in_month: month_length(date.year, date.month),
-            year_day: day_of_year(number, date.year),
+            year_day: day_of_year(number),
             days_in_year: year_length(date.year),
             weekday: weekday(number),
         }

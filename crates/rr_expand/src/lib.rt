@@ -7,7 +7,6 @@ mod day_times;
 mod filled;
 mod finer;
 mod finer_units;
-mod lengths;
 mod numbers;
 mod places;
 mod spread;

@@ -15,9 +15,9 @@ use std::alloc::Global;
 /// The days of a unit of a rule, DAILY or coarser, at which its date parts hold, filled from the start's day, and the
 /// interval from there fits (RFC 5545, section 3.3.10).
 ///
-/// Days are day numbers. Units are numbered over all days: a day by its own number, a week by the weeks since the one
-/// that holds 1970-01-01 where weeks begin on Thursday or before, a month by 12 times its year plus the months before it
-/// in the year, a year by itself. A unit that holds a day within `MAX_DAY` is near enough.
+/// Days are day numbers. Units are numbered over all days: a day by itself, a week by `floor((d + 3 - w) / 7)` of each of
+/// its days `d` where weeks begin on the weekday `w`, a month by 12 times its year plus the months before it there, a
+/// year by itself. A unit that holds a day within `MAX_DAY` is near enough.
 pub fn days(alloc: Global, rule: &Rule, start_day: i64, unit: i64) -> Result<Dates, NoMemory>
     requires freq { IsTrue (is_of_days rule.now.freq) }
     requires interval { 1 ≤ rule.now.interval }

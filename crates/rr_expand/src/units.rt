@@ -2,14 +2,13 @@
 ghost use Rattle.std.specs.Prelude.{◌≡◌, ◌≤◌, ◌+◌, ◌-ℤ◌, ◌+ℤ◌, IsTrue, pos, ℕ};
 ghost use Rattle.rr_model.specs.Calendar.{IsDayWithin};
 ghost use Rattle.rr_model.specs.Units.{first_day_of_month, month_number, unit_number, unit_start};
-ghost use Rattle.rr_model.specs.Week.{fourth_day, week_index};
+ghost use Rattle.rr_model.specs.Week.{fourth_day};
 ghost use Rattle.rr_model.specs.Whole.{divides, floor_mod};
 ghost use Rattle.rr_model.specs.declared.kind.Kind.TheVariants.{Days};
 ghost use Rattle.rr_expand.specs.Expansion.{is_of_days};
 
 use crate::day::Day;
-use crate::lengths::{month_length, year_length};
-use rr_cal::{Date, day_of};
+use rr_cal::{Date, day_of, month_length, week_index, year_length};
 use rr_model::{Freq, Rule};
 
 // Whether the unit is a whole number of intervals from the start's.
@@ -36,14 +35,6 @@ fn unit_number(freq: Freq, week_start: u8, day: &Day) -> i64
         Freq::Yearly => day.year,
         _ => day.number,
     }
-}
-
-// The number of the week in which a day lies.
-fn week_index(day: i64, week_start: u8) -> i64
-    requires near { IsDayWithin 600 day }
-    ensures { result ≡ week_index day week_start }
-{
-    (day + 3 - i64::from(week_start)).div_euclid(7)
 }
 
 // The number of the month in which a day lies.
