@@ -10,3 +10,4 @@ pub mod FitLemmas
 pub mod StepSets
 pub mod UnitSets
 pub mod FinerLemmas
+pub mod LawLemmas

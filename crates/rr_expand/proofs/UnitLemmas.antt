@@ -96,7 +96,7 @@ in_unit freq w u first d count coarse begins ends =
     (λ e. (rw begins (s.0 e).0, rw (begins, sym ends) (s.0 e).1), λ h. s.1 (rw begins at h.0, rw (begins, sym ends) at h.1))
 
 -- a week within the calls' days
-pub week_near : (u : ℤ) (w : ℕ) → w ≤ 255 → IsDayWithin 366 (fourth_day u w -ℤ pos 3) → (neg_ℤ (pos 500_000_000_000) ≤ℤ u) × (u ≤ℤ pos 500_000_000_000)
+pub week_near : (u : ℤ) (w : ℕ) → w ≤ 255 → IsDayWithin 1000 (fourth_day u w -ℤ pos 3) → (neg_ℤ (pos 500_000_000_000) ≤ℤ u) × (u ≤ℤ pos 500_000_000_000)
 unfolding fourth_day
 week_near u w few near = (omega (arith, ints, near.0), omega (arith, ints, near.1))
 

@@ -1,6 +1,6 @@
 -- The candidates of one unit of a rule: its days, and the seconds of a day (RFC 5545, section 3.3.10).
 use Rattle.std.specs.Prelude.{◌≡◌, ℕ, ◌<◌, Bool, true, false, ◌&&◌, IsTrue, ℤ, pos, neg_ℤ, ◌+ℤ◌, ◌≤ℤ◌, ◌<ℤ◌}
-use Rattle.rr_model.specs.Moment.{moment_at}
+use Rattle.rr_model.specs.Moment.{day_part, moment_at}
 use Rattle.rr_model.specs.Units.{unit_number}
 use Rattle.rr_model.specs.Filled.{filled}
 use Rattle.rr_model.specs.Candidate.{interval_holds, date_parts_hold, time_parts_hold, is_candidate}
@@ -60,3 +60,8 @@ IsFittingSecond rule start day second =
 -- no call's unit is farther from 0
 abbrev pub IsUnitNear : ℤ → Type 0
 IsUnitNear unit = (neg_ℤ (pos 1_000_000_000_000_000_000) ≤ℤ unit) × (unit ≤ℤ pos 1_000_000_000_000_000_000)
+
+-- At each second of each day, a rule of whole days has a candidate exactly where the day and the second are candidates.
+abbrev pub CandidatesAreDaysAndTimes : Type 0
+CandidatesAreDaysAndTimes = (rule : Rule) (kind : Kind) (start day : ℤ) (second : ℕ) → is_of_days rule.freq ≡ true → second < seconds_of kind
+    → is_candidate rule kind start (moment_at kind day second) ≡ (day_holds rule (day_part kind start) day && time_holds rule kind start second)

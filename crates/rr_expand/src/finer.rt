@@ -22,8 +22,8 @@ use std::alloc::{AllocError, Global};
 pub fn seconds_on(alloc: Global, rule: &Rule, start: i64, day: i64) -> Result<TimeSet, NoMemory>
     requires freq { is_of_days rule.now.freq ≡ false }
     requires interval { 1 ≤ rule.now.interval }
-    requires start { IsDayWithin 366 (day_part Moments start) }
-    requires near { IsDayWithin 366 day }
+    requires start { IsDayWithin 1000 (day_part Moments start) }
+    requires near { IsDayWithin 1000 day }
     ensures { IfOk result (λ t. IsSetOf nat_lt t (IsCandidateSecond rule.now start day)) }
 {
     let start_day = Day::new(start.div_euclid(86_400));
@@ -38,8 +38,8 @@ pub fn seconds_on(alloc: Global, rule: &Rule, start: i64, day: i64) -> Result<Ti
 fn fitting_seconds(alloc: Global, rule: &Rule, start: i64, day: i64) -> Result<Vec<u32>, AllocError>
     requires freq { is_of_days rule.now.freq ≡ false }
     requires interval { 1 ≤ rule.now.interval }
-    requires start { IsDayWithin 366 (day_part Moments start) }
-    requires near { IsDayWithin 366 day }
+    requires start { IsDayWithin 1000 (day_part Moments start) }
+    requires near { IsDayWithin 1000 day }
     ensures { IfOk result (λ v. IsSetOf nat_lt v.items (IsFittingSecond rule.now start day)) }
 {
     let own = time_of(start);

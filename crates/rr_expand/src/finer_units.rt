@@ -27,7 +27,7 @@ pub(crate) fn units_of_day(freq: Freq) -> u64
 // The number of a moment's unit.
 pub(crate) fn unit_of(freq: Freq, at: i64) -> i64
     requires freq { is_of_days freq ≡ false }
-    requires near { IsDayWithin 366 (day_part Moments at) }
+    requires near { IsDayWithin 1000 (day_part Moments at) }
     ensures value { (w : ℕ) → result ≡ unit_number freq w Moments at }
     ensures near { IsUnitNear result }
 {
@@ -41,7 +41,7 @@ pub(crate) fn unit_of(freq: Freq, at: i64) -> i64
 // The number of a day's first unit.
 pub(crate) fn first_unit(freq: Freq, day: i64) -> i64
     requires freq { is_of_days freq ≡ false }
-    requires near { IsDayWithin 366 day }
+    requires near { IsDayWithin 1000 day }
     ensures value { (w : ℕ) → result ≡ unit_number freq w Moments (moment_at Moments day 0) }
     ensures near { IsUnitNear result }
 {

@@ -7,6 +7,7 @@ mod day_times;
 mod filled;
 mod finer;
 mod finer_units;
+mod laws;
 mod numbers;
 mod places;
 mod spread;
@@ -16,4 +17,5 @@ mod units;
 
 pub use day_times::times;
 pub use finer::seconds_on;
+pub use laws::candidates_are_days_and_times;
 pub use unit_days::days;

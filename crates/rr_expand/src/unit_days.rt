@@ -21,9 +21,9 @@ use std::alloc::Global;
 pub fn days(alloc: Global, rule: &Rule, start_day: i64, unit: i64) -> Result<Dates, NoMemory>
     requires freq { IsTrue (is_of_days rule.now.freq) }
     requires interval { 1 ≤ rule.now.interval }
-    requires start { IsDayWithin 366 start_day }
-    requires first { IsDayWithin 366 (unit_start rule.now.freq rule.now.week_start Days unit) }
-    requires next { IsDayWithin 366 (unit_start rule.now.freq rule.now.week_start Days (unit +ℤ pos 1)) }
+    requires start { IsDayWithin 1000 start_day }
+    requires first { IsDayWithin 1000 (unit_start rule.now.freq rule.now.week_start Days unit) }
+    requires next { IsDayWithin 1000 (unit_start rule.now.freq rule.now.week_start Days (unit +ℤ pos 1)) }
     ensures { IfOk result (λ days. IsSetOf int_lt days (IsCandidateDay rule.now start_day unit)) }
 {
     let start = Day::new(start_day);
@@ -42,8 +42,8 @@ fn days_from(
     first: i64,
     count: u16,
 ) -> Result<Dates, NoMemory>
-    requires first { IsDayWithin 366 first }
-    requires last { IsDayWithin 366 (first +ℤ pos count) }
+    requires first { IsDayWithin 1000 first }
+    requires last { IsDayWithin 1000 (first +ℤ pos count) }
     ensures { IfOk result (λ days. IsSetOf int_lt days (IsAllowedDay rule.now start.now.number first count)) }
 {
     let mut days = Dates::new(alloc);

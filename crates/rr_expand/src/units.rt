@@ -56,7 +56,7 @@ pub(crate) fn is_congruent(from: i64, to: i64, interval: u32) -> bool
 // The first day of a unit.
 pub(crate) fn first_day(freq: Freq, week_start: u8, unit: i64) -> i64
     requires freq { IsTrue (is_of_days freq) }
-    requires near { IsDayWithin 366 (unit_start freq week_start Days unit) }
+    requires near { IsDayWithin 1000 (unit_start freq week_start Days unit) }
     ensures { result ≡ unit_start freq week_start Days unit }
 {
     match freq {
@@ -73,7 +73,7 @@ pub(crate) fn first_day(freq: Freq, week_start: u8, unit: i64) -> i64
 
 // The first day of a week.
 fn first_day_of_week(week: i64, week_start: u8) -> i64
-    requires near { IsDayWithin 366 (fourth_day week week_start -ℤ pos 3) }
+    requires near { IsDayWithin 1000 (fourth_day week week_start -ℤ pos 3) }
     ensures { result ≡ fourth_day week week_start -ℤ pos 3 }
 {
     7 * week + i64::from(week_start) - 3
@@ -81,7 +81,7 @@ fn first_day_of_week(week: i64, week_start: u8) -> i64
 
 // The first day of a month.
 fn first_day_of_month(month: i64) -> i64
-    requires near { IsDayWithin 366 (first_day_of_month month) }
+    requires near { IsDayWithin 1000 (first_day_of_month month) }
     ensures { result ≡ first_day_of_month month }
 {
     day_of(Date {

@@ -1,14 +1,13 @@
 use Rattle.std.proofs.Common.{arith, rules, ◌≡◌, ◌∙◌, sym, w64, to_z, of_z, to_z-of_z, FitsSigned, pos}
 use Rattle.std.proofs.lemmas.Int.{ints}
 use Rattle.rr_model.specs.Calendar.{IsDayWithin, first_day_of_year}
-use Rattle.rr_model.proofs.NearLemmas.{IsDayWithin-wider}
 use Rattle.rr_model.proofs.WeekLemmas.{day_number-january_1}
 use Rattle.rr_expand.proofs.units.first_day.Goals as goal
 
 pub day_of-requires-clause-near : goal.day_of-requires-clause-near
 day_of-requires-clause-near c =
-    let near : IsDayWithin 366 (first_day_of_year c.args.unit) = rw c.in-Yearly.is at c.requires.near in
-    rw (to_z-of_z c.ranges.unit, day_number-january_1 c.args.unit) (IsDayWithin-wider 366 1000 (first_day_of_year c.args.unit) (omega arith) near)
+    let near : IsDayWithin 1000 (first_day_of_year c.args.unit) = rw c.in-Yearly.is at c.requires.near in
+    rw (to_z-of_z c.ranges.unit, day_number-january_1 c.args.unit) near
 
 pub returns-in-Yearly : goal.returns-in-Yearly
 returns-in-Yearly c =
