@@ -10,9 +10,10 @@ use Rattle.rr_model.specs.Week.{fourth_day}
 use Rattle.rr_model.specs.Units.{first_day_of_month, unit_number, unit_start}
 use Rattle.rr_model.specs.declared.kind.Kind.TheVariants.{Days}
 use Rattle.rr_model.specs.declared.rule.Freq.{Freq}
+use Rattle.rr_model.specs.declared.rule.Freq.TheVariants.{Secondly, Minutely, Hourly, Daily, Weekly, Monthly, Yearly}
 use Rattle.rr_model.proofs.WholeLemmas.{floor_only, floor_whole, floor_mod_below}
 use Rattle.rr_model.proofs.FloorLemmas.{floor_div-int, *ℤ-add, floor_mod-add}
-use Rattle.rr_model.proofs.CalendarLemmas.{IsInYear-year_of, first_day_of_year_bounds, first_day_of_year-next, days_of_months-next, days_of_months-all, days_of_months-zero, day_number_is}
+use Rattle.rr_model.proofs.CalendarLemmas.{IsInYear-year_of, first_day_of_year_bounds, first_day_of_year-next, days_of_months-next, days_of_months-all, days_of_months-zero, days_of_months_mono, year_length_bounds, day_number_is}
 use Rattle.rr_model.proofs.StretchLemmas.{units_are_stretches}
 use Rattle.rr_expand.specs.Expansion.{is_of_days}
 
@@ -107,3 +108,29 @@ first_day_of_week_is u w = refl
 -- the quotient as the code has it
 pub quotient_is : (z r d : ℤ) (n : ℕ) → r ≡ int_div_euclid z (pos n) → z ≡ d → r ≡ floor_div d n
 quotient_is z r d n e same = e ∙ ap (λ y. int_div_euclid y (pos n)) same ∙ sym (floor_div-int d n)
+
+-- a year not far from the year 0 begins within the calls' days
+year_start_near : (y : ℤ) → (neg_ℤ (pos 100_001) ≤ℤ y) × (y ≤ℤ pos 100_001) → (neg_ℤ (pos 100_000_000) ≤ℤ first_day_of_year y) × (first_day_of_year y ≤ℤ pos 100_000_000)
+year_start_near y few =
+    let b = first_day_of_year_bounds y in
+    (omega (arith, ints, b.0, few.0), omega (arith, ints, b.1, few.1))
+
+-- so does each unit with a small number
+pub unit_start_near : (freq : Freq) (w : ℕ) (u : ℤ) → is_of_days freq ≡ true → w ≤ 255 → (neg_ℤ (pos 100_000) ≤ℤ u) × (u ≤ℤ pos 100_000) → IsDayWithin 1000 (unit_start freq w Days u)
+unit_start_near Secondly w u coarse low few = absurd (cc)
+unit_start_near Minutely w u coarse low few = absurd (cc)
+unit_start_near Hourly w u coarse low few = absurd (cc)
+unit_start_near Daily w u coarse low few = (omega (arith, ints, few.0), omega (arith, ints, few.1))
+unit_start_near Weekly w u coarse low few = (omega (arith, ints, few.0, first_day_of_week_is u w), omega (arith, ints, few.1, low, first_day_of_week_is u w))
+unit_start_near Monthly w u coarse low few =
+    let y = floor_div u 12 in
+    let p = floor_mod u 12 in
+    let below = floor_mod_below u 12 (omega arith) in
+    let whole = floor_whole u 12 (omega arith) in
+    let at = month_start u y p below whole in
+    let near = year_start_near y (omega (arith, ints, whole, below, few.0), omega (arith, ints, whole, below, few.1)) in
+    let days = days_of_months_mono y p 12 (omega (arith, below)) in
+    (omega (arith, ints, at, near.0), omega (arith, ints, at, near.1, days, days_of_months-all y, year_length_bounds y))
+unit_start_near Yearly w u coarse low few =
+    let near = year_start_near u (omega (arith, ints, few.0), omega (arith, ints, few.1)) in
+    (omega (arith, ints, near.0), omega (arith, ints, near.1))

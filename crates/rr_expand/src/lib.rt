@@ -11,6 +11,8 @@ mod laws;
 mod numbers;
 mod places;
 mod spread;
+#[cfg(test)]
+mod tests;
 mod time_parts;
 mod unit_days;
 mod units;
