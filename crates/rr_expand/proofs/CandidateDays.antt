@@ -1,15 +1,12 @@
 -- The candidate days of a unit are the days of its stretch at which the date parts hold, where its interval fits.
-use Rattle.std.proofs.Common.{◌≡◌, ℕ, ◌≤◌, Bool, true, false, ◌&&◌, List, [], ℤ, pos, ◌+ℤ◌, ◌-ℤ◌, sym, ap, ◌∙◌, refl}
-use Rattle.std.specs.Prelude.{◌↔◌, IsTrue, int_lt}
-use Rattle.std.proofs.lemmas.Bool.{false≢true}
+use Rattle.std.proofs.Common.{◌≡◌, ℕ, Bool, true, false, ◌&&◌, List, ℤ, pos, ◌+ℤ◌, ◌-ℤ◌, ap, ◌∙◌}
+use Rattle.std.specs.Prelude.{IsTrue, int_lt}
 use Rattle.rr_model.specs.Whole.{divides}
 use Rattle.rr_model.specs.Units.{unit_number, unit_start}
 use Rattle.rr_model.specs.RisingSet.{IsSetOf}
-use Rattle.rr_model.specs.Filled.{filled}
-use Rattle.rr_model.specs.Candidate.{date_parts_hold}
 use Rattle.rr_model.specs.declared.kind.Kind.TheVariants.{Days}
 use Rattle.rr_model.specs.declared.rule.Rule.{Rule}
-use Rattle.rr_model.proofs.RisingSetLemmas.{set_same, set_empty}
+use Rattle.rr_model.proofs.RisingSetLemmas.{set_same}
 use Rattle.rr_expand.specs.Expansion.{is_of_days, IsAllowedDay, IsCandidateDay}
 use Rattle.rr_expand.proofs.UnitLemmas.{in_unit}
 

@@ -1,16 +1,16 @@
 -- The candidate seconds of a day, found unit by unit.
-use Rattle.std.proofs.Common.{◌≡◌, ℕ, ◌+◌, ◌-◌, ◌*◌, ◌/◌, ◌%◌, ◌<◌, ◌≤◌, Bool, true, false, ◌&&◌, List, [], ◌++◌, ℤ, pos, ◌+ℤ◌, ◌-ℤ◌, ◌*ℤ◌, ◌≤ℤ◌, inl, inr, refl, sym, ap, ◌∙◌, subst, arith}
-use Rattle.std.specs.Prelude.{◌↔◌, IsTrue, nat_lt}
+use Rattle.std.proofs.Common.{◌≡◌, ℕ, ◌+◌, ◌/◌, ◌%◌, ◌<◌, ◌≤◌, Bool, true, false, List, [], ◌++◌, ℤ, pos, ◌+ℤ◌, ◌-ℤ◌, ◌*ℤ◌, inl, inr, refl, sym, ap, ◌∙◌, arith}
+use Rattle.std.specs.Prelude.{IsTrue, nat_lt}
 use Rattle.std.proofs.lemmas.Int.{ints}
 use Rattle.std.proofs.lemmas.Nat.{le-div}
 use Rattle.std.proofs.Math.Nat.{div-mul-le_self}
 use Rattle.std.proofs.lemmas.Bool.{cases_lt, false≢true}
 use Rattle.rr_model.specs.Whole.{floor_div, floor_mod, divides}
-use Rattle.rr_model.specs.Moment.{day_part, second_part, moment_at}
+use Rattle.rr_model.specs.Moment.{day_part, moment_at}
 use Rattle.rr_model.specs.Units.{unit_number}
 use Rattle.rr_model.specs.RisingSet.{IsSetOf}
 use Rattle.rr_model.specs.Filled.{hour_of, minute_of, second_of, filled}
-use Rattle.rr_model.specs.Candidate.{interval_holds, date_parts_hold, time_parts_hold, is_candidate}
+use Rattle.rr_model.specs.Candidate.{interval_holds, date_parts_hold, is_candidate}
 use Rattle.rr_model.specs.declared.kind.Kind.TheVariants.{Days, Moments}
 use Rattle.rr_model.specs.declared.rule.Freq.{Freq}
 use Rattle.rr_model.specs.declared.rule.Freq.TheVariants.{Secondly, Minutely, Hourly, Daily, Weekly, Monthly, Yearly}
@@ -20,10 +20,10 @@ use Rattle.rr_model.proofs.RisingSetLemmas.{set_same, set_empty}
 use Rattle.rr_expand.specs.Expansion.{is_of_days, unit_seconds, time_holds, IsFittingSecond, IsCandidateSecond}
 use Rattle.rr_expand.specs.Spread.{of_unit}
 use Rattle.rr_expand.proofs.SetLemmas.{Passed}
-use Rattle.rr_expand.proofs.TimeLemmas.{holds_at, time_parts_hold-at, second_part-at, and_true, and_parts}
+use Rattle.rr_expand.proofs.TimeLemmas.{time_parts_hold-at, and_true, and_parts}
 use Rattle.rr_expand.proofs.FitLemmas.{fits_at, first_fits, none_before, next_fits, none_between}
 use Rattle.rr_expand.proofs.StepSets.{Before, At, before_first, one_more, all_before}
-use Rattle.rr_expand.proofs.UnitSets.{PassesAt, minute_allowed, second_allowed, unit_set}
+use Rattle.rr_expand.proofs.UnitSets.{minute_allowed, second_allowed, unit_set}
 
 -- ---- the unit of a second of a day
 

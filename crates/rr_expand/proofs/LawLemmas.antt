@@ -1,16 +1,15 @@
 -- A rule of whole days has a candidate where the day and the second are candidates.
-use Rattle.std.proofs.Common.{◌≡◌, ℕ, ◌<◌, Bool, true, ◌&&◌, ℤ, pos, ◌-ℤ◌, refl, sym, ap, ◌∙◌, arith}
-use Rattle.rr_model.specs.Whole.{divides}
+use Rattle.std.proofs.Common.{◌≡◌, ℕ, ◌<◌, true, ℤ, pos, refl, sym, ap, ◌∙◌}
 use Rattle.rr_model.specs.Moment.{day_part, moment_at}
 use Rattle.rr_model.specs.Units.{unit_number}
 use Rattle.rr_model.specs.Filled.{filled}
-use Rattle.rr_model.specs.Candidate.{interval_holds, date_parts_hold, time_parts_hold, is_candidate}
+use Rattle.rr_model.specs.Candidate.{date_parts_hold, time_parts_hold, is_candidate}
 use Rattle.rr_model.specs.declared.kind.Kind.{Kind}
 use Rattle.rr_model.specs.declared.kind.Kind.TheVariants.{Days, Moments}
 use Rattle.rr_model.specs.declared.rule.Freq.{Freq}
 use Rattle.rr_model.specs.declared.rule.Freq.TheVariants.{Secondly, Minutely, Hourly, Daily, Weekly, Monthly, Yearly}
 use Rattle.rr_model.specs.declared.rule.Rule.{Rule}
-use Rattle.rr_expand.specs.Expansion.{is_of_days, seconds_of, time_holds, day_holds, CandidatesAreDaysAndTimes}
+use Rattle.rr_expand.specs.Expansion.{is_of_days, seconds_of, time_holds, CandidatesAreDaysAndTimes}
 use Rattle.rr_expand.proofs.TimeLemmas.{time_parts_hold-at}
 use Rattle.rr_expand.proofs.FinerLemmas.{day_part-at}
 

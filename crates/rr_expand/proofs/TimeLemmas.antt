@@ -1,21 +1,18 @@
 -- The seconds of a day that the time parts of a filled rule allow.
-use Rattle.std.proofs.Common.{◌≡◌, ℕ, ◌+◌, ◌*◌, ◌/◌, ◌%◌, ◌<◌, Bool, true, false, ◌&&◌, List, [], ◌∷◌, length, All, Contains, ℤ, pos, ◌+ℤ◌, ◌*ℤ◌, inl, inr, refl, sym, ap, ◌∙◌, subst, arith}
-use Rattle.std.specs.Prelude.{◌↔◌, IsTrue, nat_lt}
-use Rattle.std.proofs.lemmas.Int.{ints}
+use Rattle.std.proofs.Common.{◌≡◌, ℕ, ◌/◌, ◌%◌, ◌<◌, Bool, true, false, ◌&&◌, List, ℤ, pos, refl, ap, arith}
+use Rattle.std.specs.Prelude.{IsTrue, nat_lt}
 use Rattle.std.proofs.lemmas.List.Elements.{Contains-get_or}
-use Rattle.rr_model.specs.Whole.{floor_mod}
 use Rattle.rr_model.specs.Moment.{second_part, moment_at}
 use Rattle.rr_model.specs.RisingSet.{IsSetOf, IsSecondsOfDay}
 use Rattle.rr_model.specs.Filled.{hour_of, minute_of, second_of, wants_hour, wants_minute, wants_second, filled_part, filled}
 use Rattle.rr_model.specs.Candidate.{allows, time_parts_hold}
-use Rattle.rr_model.specs.declared.kind.Kind.{Kind}
-use Rattle.rr_model.specs.declared.kind.Kind.TheVariants.{Days, Moments}
+use Rattle.rr_model.specs.declared.kind.Kind.TheVariants.{Moments}
 use Rattle.rr_model.specs.declared.rule.Freq.{Freq}
 use Rattle.rr_model.specs.declared.rule.Freq.TheVariants.{Secondly, Minutely, Hourly, Daily, Weekly, Monthly, Yearly}
 use Rattle.rr_model.specs.declared.rule.Rule.{Rule}
 use Rattle.rr_model.proofs.WholeLemmas.{floor_only}
 use Rattle.rr_model.proofs.RisingSetLemmas.{set_same}
-use Rattle.rr_expand.specs.Expansion.{is_of_days, time_holds, IsCandidateTime}
+use Rattle.rr_expand.specs.Expansion.{is_of_days, IsCandidateTime}
 use Rattle.rr_expand.specs.Spread.{of_day}
 use Rattle.rr_expand.proofs.SetLemmas.{Passed}
 use Rattle.rr_expand.proofs.SpreadSets.{InDay, of_day-set}

@@ -1,6 +1,6 @@
 -- The seconds that the time parts allow in one unit of a day.
-use Rattle.std.proofs.Common.{◌≡◌, ℕ, ◌+◌, ◌-◌, ◌*◌, ◌/◌, ◌%◌, ◌<◌, ◌≤◌, Bool, true, false, ◌&&◌, cond, List, [], ◌∷◌, Contains, ℤ, pos, inl, inr, refl, sym, ◌∙◌, subst, arith}
-use Rattle.std.specs.Prelude.{◌↔◌, IsTrue, nat_lt}
+use Rattle.std.proofs.Common.{◌≡◌, ℕ, ◌-◌, ◌*◌, ◌/◌, ◌%◌, ◌<◌, ◌≤◌, Bool, true, false, ◌&&◌, cond, List, [], ◌∷◌, Contains, pos, refl, sym, subst, arith}
+use Rattle.std.specs.Prelude.{IsTrue, nat_lt}
 use Rattle.std.proofs.lemmas.Bool.{false≢true}
 use Rattle.rr_model.specs.RisingSet.{IsSetOf}
 use Rattle.rr_model.specs.Filled.{filled_part, wants_hour, wants_minute, wants_second}

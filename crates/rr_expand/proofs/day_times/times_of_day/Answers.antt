@@ -1,12 +1,9 @@
-use Rattle.std.proofs.Common.{◌≡◌, ◌∙◌, sym, ap, subst, ℕ, ◌++◌, pos, to_z-of_z}
+use Rattle.std.proofs.Common.{◌∙◌, to_z-of_z}
 use Rattle.std.specs.Prelude.{nat_lt}
-use Rattle.rr_model.specs.RisingSet.{IsSetOf, IsSecondsOfDay}
-use Rattle.rr_model.specs.Candidate.{allows}
-use Rattle.rr_model.specs.Filled.{filled_part, hour_of, minute_of, second_of}
+use Rattle.rr_model.specs.RisingSet.{IsSetOf}
 use Rattle.rr_model.specs.declared.kind.Kind.TheVariants.{Moments}
 use Rattle.rr_expand.specs.Expansion.{IsCandidateTime}
-use Rattle.rr_expand.specs.Spread.{of_day}
-use Rattle.rr_expand.proofs.SetLemmas.{Passed, passed_below, ok_set}
+use Rattle.rr_expand.proofs.SetLemmas.{passed_below, ok_set}
 use Rattle.rr_expand.proofs.TimeLemmas.{candidate_times, seconds_of_day}
 use Rattle.rr_expand.proofs.day_times.times_of_day.Goals as goal
 

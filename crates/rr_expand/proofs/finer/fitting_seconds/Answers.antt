@@ -1,9 +1,5 @@
-use Rattle.std.proofs.Common.{◌≡◌, ◌∙◌, sym, ap, subst, arith, ℕ, ◌++◌, pos, ◌-ℤ◌, rules, FitsSigned, w64, to_z, of_z, to_z-of_z}
-use Rattle.std.specs.Prelude.{nat_lt}
-use Rattle.rr_model.specs.RisingSet.{IsSetOf}
-use Rattle.rr_expand.specs.Expansion.{unit_seconds}
-use Rattle.rr_expand.specs.Spread.{of_unit}
-use Rattle.rr_expand.proofs.SetLemmas.{Passed, passed_below}
+use Rattle.std.proofs.Common.{◌∙◌, rules, FitsSigned, w64, to_z, of_z, to_z-of_z}
+use Rattle.rr_expand.proofs.SetLemmas.{passed_below}
 use Rattle.rr_expand.proofs.FinerLemmas.{found_first, found_more, found_all}
 use Rattle.rr_expand.proofs.finer.fitting_seconds.Goals as goal
 

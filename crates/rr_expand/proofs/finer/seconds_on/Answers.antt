@@ -1,4 +1,4 @@
-use Rattle.std.proofs.Common.{◌≡◌, ◌∙◌, sym, [], rules, FitsSigned, w64, to_z-of_z}
+use Rattle.std.proofs.Common.{◌∙◌, sym, [], rules, FitsSigned, w64, to_z-of_z}
 use Rattle.std.specs.Prelude.{nat_lt}
 use Rattle.rr_model.specs.RisingSet.{IsSetOf}
 use Rattle.rr_expand.specs.Expansion.{IsCandidateSecond}

@@ -1,5 +1,5 @@
-use Rattle.std.proofs.Common.{◌+◌, ◌*◌, [], ◌∷◌, get_or, refl}
-use Rattle.rr_expand.specs.Spread.{of_minute, of_hour, of_day}
+use Rattle.std.proofs.Common.{◌*◌, get_or, refl}
+use Rattle.rr_expand.specs.Spread.{of_hour, of_day}
 use Rattle.rr_expand.proofs.SpreadLemmas.{more, all}
 use Rattle.rr_expand.proofs.spread.push_hours.Goals as goal
 

@@ -1,4 +1,4 @@
-use Rattle.std.proofs.Common.{◌≡◌, ◌∙◌, sym, ap, subst, arith, ℕ, Bool, pos, Vec, ◌∷◌, [], ◌++◌}
+use Rattle.std.proofs.Common.{◌≡◌, ◌∙◌, sym, ap, subst, arith, ℕ, Bool, pos, ◌∷◌, [], ◌++◌}
 use Rattle.std.specs.Prelude.{nat_lt}
 use Rattle.rr_model.specs.Candidate.{allows}
 use Rattle.rr_model.specs.Filled.{filled_part}

@@ -1,4 +1,4 @@
-use Rattle.std.proofs.Common.{◌≡◌, ◌∙◌, sym, ap, subst, arith, ℕ, ℤ, Bool, pos, ◌+ℤ◌, w64, to_z, of_z, to_z-of_z}
+use Rattle.std.proofs.Common.{◌≡◌, ◌∙◌, sym, ap, subst, arith, ℤ, Bool, pos, ◌+ℤ◌, w64, to_z, of_z, to_z-of_z}
 use Rattle.std.proofs.lemmas.Int.{ints}
 use Rattle.std.specs.Prelude.{int_lt}
 use Rattle.rr_model.specs.RisingSet.{IsSetOf}
@@ -6,7 +6,7 @@ use Rattle.rr_model.specs.Candidate.{date_parts_hold}
 use Rattle.rr_model.specs.Filled.{filled}
 use Rattle.rr_model.specs.declared.kind.Kind.TheVariants.{Days}
 use Rattle.rr_expand.specs.Expansion.{IsAllowedDay}
-use Rattle.rr_expand.proofs.DaySets.{PassedDay, days_none, days_more, days_same}
+use Rattle.rr_expand.proofs.DaySets.{days_more, days_same}
 use Rattle.rr_expand.proofs.unit_days.days_from.Goals as goal
 use Rattle.rr_expand.proofs.unit_days.days_from.Goals.{then-date_parts_hold+in_ok-put, else-date_parts_hold}
 

@@ -1,9 +1,7 @@
 use Rattle.std.proofs.Common.{rules, ◌≡◌, ◌∙◌, ap, refl, ◌+◌, w64, to_z, of_z, to_z-of_z, FitsSigned}
-use Rattle.std.proofs.lemmas.Int.{ints}
 use Rattle.rr_model.specs.Whole.{floor_div, floor_mod}
 use Rattle.rr_model.specs.Calendar.{month_length}
 use Rattle.rr_model.proofs.CalendarLemmas.{first_day_of_year-next}
-use Rattle.rr_model.proofs.FloorLemmas.{floor_div-int}
 use Rattle.rr_expand.proofs.UnitLemmas.{week_next, month_next, quotient_is}
 use Rattle.rr_expand.proofs.units.day_count.Goals as goal
 
