@@ -2,6 +2,7 @@
 use Rattle.std.proofs.Common.{◌≡◌, ℕ, ◌<◌, true, ℤ, pos, refl, sym, ap, ◌∙◌}
 use Rattle.rr_model.specs.Moment.{day_part, moment_at}
 use Rattle.rr_model.specs.Units.{unit_number}
+use Rattle.rr_model.specs.RuleValidity.{takes_start}
 use Rattle.rr_model.specs.Filled.{filled}
 use Rattle.rr_model.specs.Candidate.{date_parts_hold, time_parts_hold, is_candidate}
 use Rattle.rr_model.specs.declared.kind.Kind.{Kind}
@@ -41,3 +42,13 @@ candidates_are_days_and_times rule kind start d s coarse low =
     let at = day_at kind d s low in
     let unit = unit_of_day rule.freq rule.week_start kind (moment_at kind d s) coarse ∙ ap (unit_number rule.freq rule.week_start Days) at in
     rw (unit, unit_of_day rule.freq rule.week_start kind start coarse, at, dates_at rule kind start d, time_at rule kind start d s low) refl
+
+-- beside a date each valid rule is one of whole days
+pub takes_start-days : (freq : Freq) → takes_start freq Days ≡ is_of_days freq
+takes_start-days Secondly = refl
+takes_start-days Minutely = refl
+takes_start-days Hourly = refl
+takes_start-days Daily = refl
+takes_start-days Weekly = refl
+takes_start-days Monthly = refl
+takes_start-days Yearly = refl

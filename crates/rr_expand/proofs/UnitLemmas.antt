@@ -5,7 +5,7 @@ use Rattle.std.specs.Int.{int_div_euclid, int_rem_euclid}
 use Rattle.std.proofs.lemmas.Int.{ints}
 use Rattle.std.proofs.lemmas.Bool.{cases_eq, cases_lt, eq-eqb, ne_eqb}
 use Rattle.rr_model.specs.Whole.{floor_div, floor_mod, divides}
-use Rattle.rr_model.specs.Calendar.{IsDayWithin, year_of, first_day_of_year, days_of_months, month_length}
+use Rattle.rr_model.specs.Calendar.{IsDayWithin, year_of, first_day_of_year, days_of_months, month_length, year_length}
 use Rattle.rr_model.specs.Week.{fourth_day}
 use Rattle.rr_model.specs.Units.{first_day_of_month, unit_number, unit_start}
 use Rattle.rr_model.specs.declared.kind.Kind.TheVariants.{Days}
@@ -13,7 +13,7 @@ use Rattle.rr_model.specs.declared.rule.Freq.{Freq}
 use Rattle.rr_model.specs.declared.rule.Freq.TheVariants.{Secondly, Minutely, Hourly, Daily, Weekly, Monthly, Yearly}
 use Rattle.rr_model.proofs.WholeLemmas.{floor_only, floor_whole, floor_mod_below}
 use Rattle.rr_model.proofs.FloorLemmas.{floor_div-int, *ℤ-add, floor_mod-add}
-use Rattle.rr_model.proofs.CalendarLemmas.{IsInYear-year_of, first_day_of_year_bounds, first_day_of_year-next, days_of_months-next, days_of_months-all, days_of_months-zero, days_of_months_mono, year_length_bounds, day_number_is}
+use Rattle.rr_model.proofs.CalendarLemmas.{IsInYear-year_of, first_day_of_year_bounds, first_day_of_year-next, days_of_months-next, days_of_months-all, days_of_months-zero, days_of_months_mono, month_length_bounds, year_length_bounds, day_number_is}
 use Rattle.rr_model.proofs.StretchLemmas.{units_are_stretches}
 use Rattle.rr_expand.specs.Expansion.{is_of_days}
 
@@ -134,3 +134,22 @@ unit_start_near Monthly w u coarse low few =
 unit_start_near Yearly w u coarse low few =
     let near = year_start_near u (omega (arith, ints, few.0), omega (arith, ints, few.1)) in
     (omega (arith, ints, near.0), omega (arith, ints, near.1))
+
+-- ---- for callers
+
+-- a unit of days has at most 366
+unit_length : (freq : Freq) (w : ℕ) (u : ℤ) → is_of_days freq ≡ true → (n : ℕ) × (n ≤ 366) × (unit_start freq w Days (u +ℤ pos 1) ≡ unit_start freq w Days u +ℤ pos n)
+unit_length Secondly w u coarse = absurd (cc)
+unit_length Minutely w u coarse = absurd (cc)
+unit_length Hourly w u coarse = absurd (cc)
+unit_length Daily w u coarse = (1, omega arith, refl)
+unit_length Weekly w u coarse = (7, omega arith, week_next u w)
+unit_length Monthly w u coarse = (month_length (floor_div u 12) (floor_mod u 12 + 1), omega (arith, (month_length_bounds (floor_div u 12) (floor_mod u 12 + 1)).1), month_next u)
+unit_length Yearly w u coarse = (year_length u, omega (arith, (year_length_bounds u).1), first_day_of_year-next u)
+
+-- a unit that holds a day of the calls begins and ends within the calls' days
+pub unit_near : (freq : Freq) (w : ℕ) (d : ℤ) → is_of_days freq ≡ true → IsDayWithin 0 d → IsDayWithin 1000 (unit_start freq w Days (unit_number freq w Days d)) × IsDayWithin 1000 (unit_start freq w Days (unit_number freq w Days d +ℤ pos 1))
+unit_near freq w d coarse near =
+    let n = unit_length freq w (unit_number freq w Days d) coarse in
+    let s = (units_are_stretches freq w Days d (unit_number freq w Days d)).0 refl in
+    ((omega (arith, ints, near.0, s.1, n.1, n.2), omega (arith, ints, near.1, s.0)), (omega (arith, ints, near.0, s.1), omega (arith, ints, near.1, s.0, n.1, n.2)))

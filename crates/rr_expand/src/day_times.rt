@@ -14,6 +14,7 @@ use std::alloc::Global;
 /// allow together (RFC 5545, section 3.3.10). Midnight alone in kind `Days`.
 ///
 /// The start is a day number in kind `Days`, and 86,400 times the day number plus the second of the day in kind `Moments`.
+/// Only its second of the day enters.
 pub fn times(alloc: Global, rule: &Rule, kind: Kind, start: i64) -> Result<TimeSet, NoMemory>
     requires { IsTrue (is_of_days rule.now.freq) }
     ensures { IfOk result (λ t. IsSetOf nat_lt t (IsCandidateTime rule.now kind start)) }

@@ -1,19 +1,9 @@
 // Which parts a rule takes from its start (RFC 5545, section 3.3.10, on DTSTART).
 ghost use Rattle.std.specs.Prelude.{◌≡◌};
-ghost use Rattle.rr_model.specs.Filled.{wants_day, wants_hour, wants_minute, wants_month, wants_month_day, wants_second};
+ghost use Rattle.rr_model.specs.Filled.{wants_day, wants_minute, wants_month, wants_month_day, wants_second};
 
 use crate::numbers::is_absent;
 use rr_model::{Freq, Rule};
-
-// A day or a longer unit holds many hours.
-pub(crate) fn wants_hour(freq: Freq) -> bool
-    ensures { result ≡ wants_hour freq }
-{
-    match freq {
-        Freq::Secondly | Freq::Minutely | Freq::Hourly => false,
-        Freq::Daily | Freq::Weekly | Freq::Monthly | Freq::Yearly => true,
-    }
-}
 
 // An hour or a longer unit holds many minutes.
 pub(crate) fn wants_minute(freq: Freq) -> bool

@@ -15,10 +15,11 @@ use rr_model::{NoMemory, Rule};
 use rr_times::TimeSet;
 use std::alloc::{AllocError, Global};
 
-/// The candidate seconds of one day of a rule that is SECONDLY, MINUTELY or HOURLY (RFC 5545, section 3.3.10).
+/// The candidate seconds of one day of a rule that is SECONDLY, MINUTELY or HOURLY (RFC 5545, section 3.3.10), also of
+/// a day before the start.
 ///
 /// The start is 86,400 times the day number plus the second of the day. It visits the day's units that fit the interval,
-/// and no others.
+/// and no others. Days within `MAX_DAY` are near enough.
 pub fn seconds_on(alloc: Global, rule: &Rule, start: i64, day: i64) -> Result<TimeSet, NoMemory>
     requires freq { is_of_days rule.now.freq ≡ false }
     requires interval { 1 ≤ rule.now.interval }

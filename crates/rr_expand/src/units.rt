@@ -45,7 +45,7 @@ fn month_number(day: &Day) -> i64
 }
 
 // Whether two numbers differ by a multiple of the interval.
-pub(crate) fn is_congruent(from: i64, to: i64, interval: u32) -> bool
+fn is_congruent(from: i64, to: i64, interval: u32) -> bool
     requires { 1 ≤ interval }
     ensures { result ≡ divides interval (to -ℤ from) }
 {
