@@ -1,0 +1,13 @@
+pub mod SpreadLemmas
+pub mod SpreadSets
+pub mod SetLemmas
+pub mod TimeLemmas
+pub mod DayLemmas
+pub mod UnitLemmas
+pub mod DaySets
+pub mod CandidateDays
+pub mod FitLemmas
+pub mod StepSets
+pub mod UnitSets
+pub mod FinerLemmas
+pub mod LawLemmas

@@ -1,0 +1,87 @@
+-- The seconds of a day that the time parts of a filled rule allow.
+use Rattle.std.proofs.Common.{◌≡◌, ℕ, ◌/◌, ◌%◌, ◌<◌, Bool, true, false, ◌&&◌, List, ℤ, pos, refl, ap, arith}
+use Rattle.std.specs.Prelude.{IsTrue, nat_lt}
+use Rattle.std.proofs.lemmas.List.Elements.{Contains-get_or}
+use Rattle.rr_model.specs.Moment.{second_part, moment_at}
+use Rattle.rr_model.specs.RisingSet.{IsSetOf, IsSecondsOfDay}
+use Rattle.rr_model.specs.Filled.{hour_of, minute_of, second_of, wants_hour, wants_minute, wants_second, filled_part, filled}
+use Rattle.rr_model.specs.Candidate.{allows, time_parts_hold}
+use Rattle.rr_model.specs.declared.kind.Kind.TheVariants.{Moments}
+use Rattle.rr_model.specs.declared.rule.Freq.{Freq}
+use Rattle.rr_model.specs.declared.rule.Freq.TheVariants.{Secondly, Minutely, Hourly, Daily, Weekly, Monthly, Yearly}
+use Rattle.rr_model.specs.declared.rule.Rule.{Rule}
+use Rattle.rr_model.proofs.WholeLemmas.{floor_only}
+use Rattle.rr_model.proofs.RisingSetLemmas.{set_same}
+use Rattle.rr_expand.specs.Expansion.{is_of_days, IsCandidateTime}
+use Rattle.rr_expand.specs.Spread.{of_day}
+use Rattle.rr_expand.proofs.SetLemmas.{Passed}
+use Rattle.rr_expand.proofs.SpreadSets.{InDay, of_day-set}
+
+-- the second of a moment of a day
+pub second_part-at : (d : ℤ) (s : ℕ) → s < 86_400 → second_part Moments (moment_at Moments d s) ≡ s
+second_part-at d s low = (floor_only (moment_at Moments d s) d 86_400 s low refl).1
+
+-- the parts of time, tested at the second of a day
+abbrev pub holds_at : Rule → ℕ → Bool
+holds_at rule s = allows rule.by_hour (pos (s / 3_600)) && allows rule.by_minute (pos (s / 60 % 60)) && allows rule.by_second (pos (s % 60))
+
+pub time_parts_hold-at : (rule : Rule) (d : ℤ) (s : ℕ) → s < 86_400 → time_parts_hold rule Moments (moment_at Moments d s) ≡ holds_at rule s
+time_parts_hold-at rule d s low = ap (holds_at rule) (second_part-at d s low)
+
+-- a rule of days fills each time part
+pub fills_times : (freq : Freq) → is_of_days freq ≡ true → (wants_hour freq ≡ true) × (wants_minute freq ≡ true) × (wants_second freq ≡ true)
+fills_times Secondly e = absurd (cc)
+fills_times Minutely e = absurd (cc)
+fills_times Hourly e = absurd (cc)
+fills_times Daily e = (refl, refl, refl)
+fills_times Weekly e = (refl, refl, refl)
+fills_times Monthly e = (refl, refl, refl)
+fills_times Yearly e = (refl, refl, refl)
+
+pub and_true : (a b c : Bool) → IsTrue a → IsTrue b → IsTrue c → IsTrue (a && b && c)
+and_true a b c ha hb hc = rw (ha, hb, hc) refl
+
+pub and_parts : (a b c : Bool) → IsTrue (a && b && c) → IsTrue a × IsTrue b × IsTrue c
+and_parts true true true e = (refl, refl, refl)
+and_parts true true false e = absurd (cc)
+and_parts true false c e = absurd (cc)
+and_parts false b c e = absurd (cc)
+
+-- the seconds of the hours, minutes and seconds that pass
+module _ (H M S : ℕ → Bool) (hs ms ss : List ℕ) (a : IsSetOf nat_lt hs (Passed H 24)) (b : IsSetOf nat_lt ms (Passed M 60)) (c : IsSetOf nat_lt ss (Passed S 60)) where
+  pub passed_day : IsSetOf nat_lt (of_day hs ms ss) (λ s. (s < 86_400) × IsTrue (H (s / 3_600) && M (s / 60 % 60) && S (s % 60)))
+  passed_day =
+      set_same nat_lt (InDay hs ms ss) _ (of_day hs ms ss)
+      (of_day-set hs ms ss a.rises b.rises c.rises (λ x h. ((b.exact x).0 h).0) (λ x h. ((c.exact x).0 h).0))
+      (λ s. (
+        (λ h. (
+          omega (arith, ((a.exact (s / 3_600)).0 h.0).0),
+          and_true _ _ _ ((a.exact (s / 3_600)).0 h.0).1 ((b.exact (s / 60 % 60)).0 h.1).1 ((c.exact (s % 60)).0 h.2).1,
+        )),
+        (λ h. (let p = and_parts (H (s / 3_600)) (M (s / 60 % 60)) (S (s % 60)) h.1 in (
+          (a.exact (s / 3_600)).1 (omega (arith, h.0), p.0),
+          (b.exact (s / 60 % 60)).1 (omega arith, p.1),
+          (c.exact (s % 60)).1 (omega arith, p.2),
+        ))),
+      ))
+
+-- a set of seconds below a day's is one of a day
+pub seconds_of_day : (xs : List ℕ) (P : ℕ → Type 0) → IsSetOf nat_lt xs (λ s. (s < 86_400) × P s) → IsSecondsOfDay xs
+seconds_of_day xs P set = record {
+  rises = set.rises;
+  below_a_day = λ k d l. ((set.exact _).0 (Contains-get_or xs k d l)).0;
+}
+
+-- for a rule of days these are its candidate times
+pub candidate_times : (rule : Rule) (start : ℤ) (hs ms ss : List ℕ) → is_of_days rule.freq ≡ true
+    → IsSetOf nat_lt hs (Passed (λ n. allows (filled_part true rule.by_hour (pos (hour_of Moments start))) (pos n)) 24)
+    → IsSetOf nat_lt ms (Passed (λ n. allows (filled_part true rule.by_minute (pos (minute_of Moments start))) (pos n)) 60)
+    → IsSetOf nat_lt ss (Passed (λ n. allows (filled_part true rule.by_second (pos (second_of Moments start))) (pos n)) 60)
+    → IsSetOf nat_lt (of_day hs ms ss) (IsCandidateTime rule Moments start)
+candidate_times rule start hs ms ss coarse a b c =
+    let w = fills_times rule.freq coarse in
+    set_same nat_lt _ (IsCandidateTime rule Moments start) (of_day hs ms ss) (passed_day _ _ _ hs ms ss a b c)
+    (λ s. (
+      (λ h. (h.0, rw (time_parts_hold-at (filled rule Moments start) (pos 0) s h.0, w.0, w.1, w.2) h.1)),
+      (λ h. (h.0, rw (w.0, w.1, w.2) at (rw (time_parts_hold-at (filled rule Moments start) (pos 0) s h.0) at h.1))),
+    ))

@@ -1,0 +1,87 @@
+// The date parts of a rule, as tests of one day (RFC 5545, section 3.3.10).
+ghost use Rattle.std.specs.Prelude.{◌≡◌};
+ghost use Rattle.rr_model.specs.Candidate.{by_day_holds, by_month_day_holds, by_month_holds, by_week_no_holds, by_year_day_holds, counts_in_year, date_parts_hold};
+ghost use Rattle.rr_model.specs.Filled.{filled};
+ghost use Rattle.rr_model.specs.declared.kind.Kind.TheVariants.{Days};
+ghost use Rattle.rr_model.specs.RuleValidity.{is_absent};
+
+use crate::day::Day;
+use crate::filled::{wants_day, wants_month, wants_month_day};
+use crate::numbers::{allows_filled, allows_place, allows_place_filled, is_absent};
+use crate::places::lists_day;
+use rr_cal::week_of;
+use rr_model::{Freq, Rule};
+
+// Whether each date part of the rule, filled from its start, holds of the day.
+pub(crate) fn date_parts_hold(rule: &Rule, start: &Day, day: &Day) -> bool
+    ensures { result ≡ date_parts_hold (filled rule.now Days start.now.number) day.now.number }
+{
+    by_month_holds(rule, start, day)
+        && by_week_no_holds(rule, day)
+        && by_year_day_holds(rule, day)
+        && by_month_day_holds(rule, start, day)
+        && by_day_holds(rule, start, day)
+}
+
+// Whether the day lies in a month of BYMONTH.
+fn by_month_holds(rule: &Rule, start: &Day, day: &Day) -> bool
+    ensures { result ≡ by_month_holds (filled rule.now Days start.now.number) day.now.number }
+{
+    allows_filled(&rule.by_month, wants_month(rule), start.month, day.month)
+}
+
+// Whether the day lies in a week of BYWEEKNO, by the year to which the week belongs.
+fn by_week_no_holds(rule: &Rule, day: &Day) -> bool
+    ensures { result ≡ by_week_no_holds rule.now day.now.number }
+{
+    if is_absent(&rule.by_week_no) {
+        return true;
+    }
+    let week = week_of(day.number, rule.week_start);
+    allows_place(
+        &rule.by_week_no,
+        u16::from(week.number),
+        u16::from(week.last),
+    )
+}
+
+// Whether BYYEARDAY lists the day's number in its year.
+fn by_year_day_holds(rule: &Rule, day: &Day) -> bool
+    ensures { result ≡ by_year_day_holds rule.now day.now.number }
+{
+    allows_place(&rule.by_year_day, day.year_day, day.days_in_year)
+}
+
+// Whether BYMONTHDAY lists the day's number in its month.
+fn by_month_day_holds(rule: &Rule, start: &Day, day: &Day) -> bool
+    ensures { result ≡ by_month_day_holds (filled rule.now Days start.now.number) day.now.number }
+{
+    allows_place_filled(
+        &rule.by_month_day,
+        wants_month_day(rule),
+        start.month_day,
+        day.month_day,
+        day.days_in_month,
+    )
+}
+
+// Whether BYDAY lists the day's weekday, with its place where that is asked.
+fn by_day_holds(rule: &Rule, start: &Day, day: &Day) -> bool
+    ensures { result ≡ by_day_holds (filled rule.now Days start.now.number) day.now.number }
+{
+    let items = rule.by_day.as_slice();
+    if items.is_empty() {
+        return !wants_day(rule) || start.weekday == day.weekday;
+    }
+    lists_day(items, counts_in_year(rule), day)
+}
+
+// Whether places of BYDAY, where it stands, count in the year.
+fn counts_in_year(rule: &Rule) -> bool
+    ensures { result ≡ counts_in_year rule.now.freq rule.now.by_month }
+{
+    match rule.freq {
+        Freq::Yearly => is_absent(&rule.by_month),
+        _ => false,
+    }
+}

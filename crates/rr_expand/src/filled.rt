@@ -1,0 +1,71 @@
+// Which parts a rule takes from its start (RFC 5545, section 3.3.10, on DTSTART).
+ghost use Rattle.std.specs.Prelude.{◌≡◌};
+ghost use Rattle.rr_model.specs.Filled.{wants_day, wants_minute, wants_month, wants_month_day, wants_second};
+
+use crate::numbers::is_absent;
+use rr_model::{Freq, Rule};
+
+// An hour or a longer unit holds many minutes.
+pub(crate) fn wants_minute(freq: Freq) -> bool
+    ensures { result ≡ wants_minute freq }
+{
+    match freq {
+        Freq::Secondly | Freq::Minutely => false,
+        _ => true,
+    }
+}
+
+// A minute or a longer unit holds many seconds.
+pub(crate) fn wants_second(freq: Freq) -> bool
+    ensures { result ≡ wants_second freq }
+{
+    match freq {
+        Freq::Secondly => false,
+        _ => true,
+    }
+}
+
+// A week, or a week of a year by BYWEEKNO alone.
+pub(crate) fn wants_day(rule: &Rule) -> bool
+    ensures { result ≡ wants_day rule.now.freq rule.now }
+{
+    match rule.freq {
+        Freq::Weekly => true,
+        Freq::Yearly => {
+            !is_absent(&rule.by_week_no)
+                && is_absent(&rule.by_year_day)
+                && is_absent(&rule.by_month_day)
+        }
+        _ => false,
+    }
+}
+
+// A month or a year in which no part names the day.
+pub(crate) fn wants_month_day(rule: &Rule) -> bool
+    ensures { result ≡ wants_month_day rule.now.freq rule.now }
+{
+    match rule.freq {
+        Freq::Monthly => rule.by_day.as_slice().is_empty(),
+        Freq::Yearly => {
+            is_absent(&rule.by_week_no)
+                && is_absent(&rule.by_year_day)
+                && rule.by_day.as_slice().is_empty()
+        }
+        _ => false,
+    }
+}
+
+// A year in which no part names the day.
+pub(crate) fn wants_month(rule: &Rule) -> bool
+    ensures { result ≡ wants_month rule.now.freq rule.now }
+{
+    match rule.freq {
+        Freq::Yearly => {
+            is_absent(&rule.by_week_no)
+                && is_absent(&rule.by_year_day)
+                && is_absent(&rule.by_month_day)
+                && rule.by_day.as_slice().is_empty()
+        }
+        _ => false,
+    }
+}

@@ -1,0 +1,69 @@
+// The candidate seconds of a day of a rule whose units are shorter than a day.
+ghost use Rattle.std.specs.Prelude.{◌≡◌, ◌≤◌, IfOk, false, nat_lt};
+ghost use Rattle.rr_model.specs.Calendar.{IsDayWithin};
+ghost use Rattle.rr_model.specs.Moment.{day_part};
+ghost use Rattle.rr_model.specs.RisingSet.{IsSetOf};
+ghost use Rattle.rr_model.specs.declared.kind.Kind.TheVariants.{Moments};
+ghost use Rattle.rr_expand.specs.Expansion.{IsCandidateSecond, IsFittingSecond, is_of_days};
+
+use crate::date_parts::date_parts_hold;
+use crate::day::Day;
+use crate::filled::{wants_minute, wants_second};
+use crate::finer_units::{first_fit, first_unit, push_unit, unit_of, units_of_day};
+use crate::time_parts::{allowed, time_of};
+use rr_model::{NoMemory, Rule};
+use rr_times::TimeSet;
+use std::alloc::{AllocError, Global};
+
+/// The candidate seconds of one day of a rule that is SECONDLY, MINUTELY or HOURLY (RFC 5545, section 3.3.10), also of
+/// a day before the start.
+///
+/// The start is 86,400 times the day number plus the second of the day. It visits the day's units that fit the interval,
+/// and no others. Days within `MAX_DAY` are near enough.
+pub fn seconds_on(alloc: Global, rule: &Rule, start: i64, day: i64) -> Result<TimeSet, NoMemory>
+    requires freq { is_of_days rule.now.freq ≡ false }
+    requires interval { 1 ≤ rule.now.interval }
+    requires start { IsDayWithin 1000 (day_part Moments start) }
+    requires near { IsDayWithin 1000 day }
+    ensures { IfOk result (λ t. IsSetOf nat_lt t (IsCandidateSecond rule.now start day)) }
+{
+    let start_day = Day::new(start.div_euclid(86_400));
+    if !date_parts_hold(rule, &start_day, &Day::new(day)) {
+        return TimeSet::of(alloc, &[]);
+    }
+    let seconds = fitting_seconds(alloc, rule, start, day)?;
+    TimeSet::of(alloc, seconds.as_slice())
+}
+
+// The seconds of the day in units that fit the interval, at which the time parts hold.
+fn fitting_seconds(alloc: Global, rule: &Rule, start: i64, day: i64) -> Result<Vec<u32>, AllocError>
+    requires freq { is_of_days rule.now.freq ≡ false }
+    requires interval { 1 ≤ rule.now.interval }
+    requires start { IsDayWithin 1000 (day_part Moments start) }
+    requires near { IsDayWithin 1000 day }
+    ensures { IfOk result (λ v. IsSetOf nat_lt v.items (IsFittingSecond rule.now start day)) }
+{
+    let own = time_of(start);
+    let minutes = allowed(
+        alloc,
+        &rule.by_minute,
+        wants_minute(rule.freq),
+        own.minute,
+        60,
+    )?;
+    let seconds = allowed(
+        alloc,
+        &rule.by_second,
+        wants_second(rule.freq),
+        own.second,
+        60,
+    )?;
+    let mut out = Vec::new(alloc);
+    let first = first_unit(rule.freq, day);
+    let mut unit = first_fit(first, unit_of(rule.freq, start), rule.interval);
+    while unit < units_of_day(rule.freq) {
+        push_unit(&mut out, rule, unit as u32, &minutes, &seconds)?;
+        unit += u64::from(rule.interval);
+    }
+    Ok(out)
+}

@@ -1,0 +1,74 @@
+// The numbers of a BY part, and what they say of a number.
+ghost use Rattle.std.specs.Prelude.{◌≡◌, ◌≤◌, ◌-ℤ◌, pos};
+ghost use Rattle.rr_model.specs.Candidate.{allows, allows_place, lists};
+ghost use Rattle.rr_model.specs.Filled.{filled_part};
+ghost use Rattle.rr_model.specs.RuleValidity.{is_absent};
+
+use rr_model::Numbers;
+
+// Whether the part does not stand.
+pub(crate) fn is_absent(numbers: &Numbers) -> bool
+    ensures { result ≡ is_absent numbers.now }
+{
+    numbers.as_slice().is_empty()
+}
+
+// Whether the list has the number.
+fn lists(numbers: &Numbers, n: i16) -> bool
+    ensures { result ≡ lists numbers.now n }
+{
+    numbers.as_slice().contains(&n)
+}
+
+// Whether the part does not stand, or lists the number.
+pub(crate) fn allows(numbers: &Numbers, n: i16) -> bool
+    ensures { result ≡ allows numbers.now n }
+{
+    is_absent(numbers) || lists(numbers, n)
+}
+
+// Whether the part does not stand, or lists the k-th of so many, from the front or from the back.
+pub(crate) fn allows_place(numbers: &Numbers, k: u16, many: u16) -> bool
+    requires place { k ≤ 366 }
+    requires most { many ≤ 366 }
+    ensures { result ≡ allows_place numbers.now (pos k) (pos many) }
+{
+    is_absent(numbers) || lists(numbers, k as i16) || lists(numbers, place_from_back(k, many))
+}
+
+// The place of the k-th of so many, from the back as a negative number.
+fn place_from_back(k: u16, many: u16) -> i16
+    requires place { k ≤ 366 }
+    requires most { many ≤ 366 }
+    ensures { result ≡ (pos k -ℤ pos many) -ℤ pos 1 }
+{
+    k as i16 - many as i16 - 1
+}
+
+// As `allows`, where the part, absent and wanted, is filled with the start's own number.
+pub(crate) fn allows_filled(numbers: &Numbers, is_wanted: bool, own: u8, n: u8) -> bool
+    ensures { result ≡ allows (filled_part is_wanted numbers.now (pos own)) (pos n) }
+{
+    if is_wanted && is_absent(numbers) {
+        own == n
+    } else {
+        allows(numbers, i16::from(n))
+    }
+}
+
+// As `allows_place`, where the part, absent and wanted, is filled with the start's own number.
+pub(crate) fn allows_place_filled(
+    numbers: &Numbers,
+    is_wanted: bool,
+    own: u8,
+    k: u8,
+    many: u8,
+) -> bool
+    ensures { result ≡ allows_place (filled_part is_wanted numbers.now (pos own)) (pos k) (pos many) }
+{
+    if is_wanted && is_absent(numbers) {
+        own == k || i16::from(own) == place_from_back(u16::from(k), u16::from(many))
+    } else {
+        allows_place(numbers, u16::from(k), u16::from(many))
+    }
+}

@@ -1,0 +1,56 @@
+// Values of BYDAY (RFC 5545, section 3.3.10).
+ghost use Rattle.std.specs.Prelude.{◌≡◌, ◌≤◌, ◌||◌, ℤ, pos, neg_ℤ};
+ghost use Rattle.std.specs.List.{list_any};
+ghost use Rattle.std.specs.Ordering.{int_eq};
+ghost use Rattle.rr_model.specs.Candidate.{day_item_holds, is_in_place, is_weekday_place};
+
+use crate::day::Day;
+use rr_model::DayItem;
+
+// Whether one of the items holds of the day.
+pub(crate) fn lists_day(items: &[DayItem], in_year: bool, day: &Day) -> bool
+    ensures { result ≡ list_any (day_item_holds in_year day.now.number) items.now }
+{
+    items.iter().any(|item| day_item_holds(*item, in_year, day))
+}
+
+// Whether the day has the item's weekday, and the item's place where it has one.
+fn day_item_holds(item: DayItem, in_year: bool, day: &Day) -> bool
+    ensures { result ≡ day_item_holds in_year day.now.number item }
+{
+    item.weekday == day.weekday && (item.place == 0 || is_in_place(item.place, in_year, day))
+}
+
+// Whether the day has this place among the days of its weekday, in its year or in its month.
+fn is_in_place(place: i8, in_year: bool, day: &Day) -> bool
+    ensures { result ≡ is_in_place place in_year day.now.number }
+{
+    if in_year {
+        is_weekday_place(place, day.year_day, day.days_in_year)
+    } else {
+        is_weekday_place(
+            place,
+            u16::from(day.month_day),
+            u16::from(day.days_in_month),
+        )
+    }
+}
+
+// Whether the k-th day of so many has this place among the days of its weekday there.
+fn is_weekday_place(place: i8, k: u16, many: u16) -> bool
+    requires first { 1 ≤ k }
+    requires within { k ≤ many }
+    requires most { many ≤ 366 }
+    ensures { (d : ℤ) → result ≡ is_weekday_place place d k many }
+{
+    has_rank(place, (k - 1) / 7 + 1, (many - k) / 7 + 1)
+}
+
+// Whether the place is the rank from the front, or from the back as a negative number.
+fn has_rank(place: i8, from_front: u16, from_back: u16) -> bool
+    requires front { from_front ≤ 53 }
+    requires back { from_back ≤ 53 }
+    ensures { result ≡ (int_eq place (pos from_front) || int_eq place (neg_ℤ (pos from_back))) }
+{
+    place == from_front as i8 || place == -(from_back as i8)
+}
