@@ -4,12 +4,13 @@ use Rattle.rr_model.specs.Moment.{day_part, moment_at}
 use Rattle.rr_model.specs.Units.{unit_number}
 use Rattle.rr_model.specs.RuleValidity.{takes_start}
 use Rattle.rr_model.specs.Filled.{filled}
-use Rattle.rr_model.specs.Candidate.{date_parts_hold, time_parts_hold, is_candidate}
+use Rattle.rr_model.specs.Candidate.{time_parts_hold, is_candidate}
 use Rattle.rr_model.specs.declared.kind.Kind.{Kind}
 use Rattle.rr_model.specs.declared.kind.Kind.TheVariants.{Days, Moments}
 use Rattle.rr_model.specs.declared.rule.Freq.{Freq}
 use Rattle.rr_model.specs.declared.rule.Freq.TheVariants.{Secondly, Minutely, Hourly, Daily, Weekly, Monthly, Yearly}
 use Rattle.rr_model.specs.declared.rule.Rule.{Rule}
+use Rattle.rr_setpos.proofs.ChoiceLemmas.{date_parts_hold-day}
 use Rattle.rr_expand.specs.Expansion.{is_of_days, seconds_of, time_holds, CandidatesAreDaysAndTimes}
 use Rattle.rr_expand.proofs.TimeLemmas.{time_parts_hold-at}
 use Rattle.rr_expand.proofs.FinerLemmas.{day_part-at}
@@ -32,16 +33,12 @@ time_at : (rule : Rule) (kind : Kind) (start d : ℤ) (s : ℕ) → s < seconds_
 time_at rule Days start d s low = refl
 time_at rule Moments start d s low = time_parts_hold-at (filled rule Moments start) d s low ∙ sym (time_parts_hold-at (filled rule Moments start) (pos 0) s low)
 
-dates_at : (rule : Rule) (kind : Kind) (start d : ℤ) → date_parts_hold (filled rule kind start) d ≡ date_parts_hold (filled rule Days (day_part kind start)) d
-dates_at rule Days start d = refl
-dates_at rule Moments start d = refl
-
 pub candidates_are_days_and_times : CandidatesAreDaysAndTimes
 unfolding is_candidate
 candidates_are_days_and_times rule kind start d s coarse low =
     let at = day_at kind d s low in
     let unit = unit_of_day rule.freq rule.week_start kind (moment_at kind d s) coarse ∙ ap (unit_number rule.freq rule.week_start Days) at in
-    rw (unit, unit_of_day rule.freq rule.week_start kind start coarse, at, dates_at rule kind start d, time_at rule kind start d s low) refl
+    rw (unit, unit_of_day rule.freq rule.week_start kind start coarse, at, date_parts_hold-day rule kind start d, time_at rule kind start d s low) refl
 
 -- beside a date each valid rule is one of whole days
 pub takes_start-days : (freq : Freq) → takes_start freq Days ≡ is_of_days freq

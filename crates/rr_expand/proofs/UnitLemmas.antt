@@ -1,57 +1,21 @@
 -- Units by division that rounds down, how far they go, and their days.
-use Rattle.std.proofs.Common.{◌≡◌, ℕ, ◌+◌, ◌-◌, ◌≤◌, ◌<◌, ◌==◌, true, inl, inr, ℤ, pos, neg_ℤ, ◌+ℤ◌, ◌-ℤ◌, ◌*ℤ◌, ◌≤ℤ◌, ◌<ℤ◌, sym, ap, ◌∙◌, refl, negsuc, w64, of_z, arith}
+use Rattle.std.proofs.Common.{◌≡◌, ℕ, ◌+◌, ◌-◌, ◌≤◌, ◌<◌, true, inl, inr, ℤ, pos, neg_ℤ, ◌+ℤ◌, ◌-ℤ◌, ◌*ℤ◌, ◌≤ℤ◌, ◌<ℤ◌, sym, ap, ◌∙◌, refl, negsuc, w64, of_z, arith}
 use Rattle.std.specs.Prelude.{◌↔◌}
 use Rattle.std.specs.Int.{int_div_euclid, int_rem_euclid}
 use Rattle.std.proofs.lemmas.Int.{ints}
-use Rattle.std.proofs.lemmas.Bool.{cases_eq, cases_lt, eq-eqb, ne_eqb}
-use Rattle.rr_model.specs.Whole.{floor_div, floor_mod, divides}
-use Rattle.rr_model.specs.Calendar.{IsDayWithin, year_of, first_day_of_year, days_of_months, month_length, year_length}
+use Rattle.std.proofs.lemmas.Bool.{cases_lt}
+use Rattle.rr_model.specs.Whole.{floor_div, floor_mod}
+use Rattle.rr_model.specs.Calendar.{IsDayWithin, first_day_of_year, days_of_months, month_length, year_length}
 use Rattle.rr_model.specs.Week.{fourth_day}
 use Rattle.rr_model.specs.Units.{first_day_of_month, unit_number, unit_start}
 use Rattle.rr_model.specs.declared.kind.Kind.TheVariants.{Days}
 use Rattle.rr_model.specs.declared.rule.Freq.{Freq}
 use Rattle.rr_model.specs.declared.rule.Freq.TheVariants.{Secondly, Minutely, Hourly, Daily, Weekly, Monthly, Yearly}
 use Rattle.rr_model.proofs.WholeLemmas.{floor_only, floor_whole, floor_mod_below}
-use Rattle.rr_model.proofs.FloorLemmas.{floor_div-int, *ℤ-add, floor_mod-add}
-use Rattle.rr_model.proofs.CalendarLemmas.{IsInYear-year_of, first_day_of_year_bounds, first_day_of_year-next, days_of_months-next, days_of_months-all, days_of_months-zero, days_of_months_mono, month_length_bounds, year_length_bounds, day_number_is}
+use Rattle.rr_model.proofs.FloorLemmas.{floor_div-int}
+use Rattle.rr_model.proofs.CalendarLemmas.{first_day_of_year_bounds, first_day_of_year-next, days_of_months-next, days_of_months-all, days_of_months-zero, days_of_months_mono, month_length_bounds, year_length_bounds, day_number_is}
 use Rattle.rr_model.proofs.StretchLemmas.{units_are_stretches}
 use Rattle.rr_expand.specs.Expansion.{is_of_days}
-
--- two numbers with one remainder differ by whole turns
-turns_between : (a b : ℤ) (n : ℕ) → 1 ≤ n → floor_mod a n ≡ floor_mod b n → floor_mod (b -ℤ a) n ≡ 0
-turns_between a b n h same =
-    let p = floor_div a n in
-    let q = floor_div b n in
-    let back : (q -ℤ p) +ℤ p ≡ q = omega (arith, ints) in
-    let parts = *ℤ-add (q -ℤ p) p n in
-    let whole = ap (λ z. z *ℤ pos n) back in
-    (floor_only (b -ℤ a) (q -ℤ p) n 0 (omega arith) (omega (arith, ints, floor_whole a n h, floor_whole b n h, same, parts, whole))).1
-
--- and two that differ by whole turns have one remainder
-same_turn : (a b : ℤ) (n : ℕ) → 1 ≤ n → floor_mod (b -ℤ a) n ≡ 0 → floor_mod a n ≡ floor_mod b n
-same_turn a b n h none =
-    let q = floor_div (b -ℤ a) n in
-    let e : b ≡ a +ℤ (q *ℤ pos n) = omega (arith, ints, floor_whole (b -ℤ a) n h, none) in
-    sym (ap (λ z. floor_mod z n) e ∙ floor_mod-add a q n h)
-
-pub congruent : (a b : ℤ) (n : ℕ) → 1 ≤ n → (floor_mod a n == floor_mod b n) ≡ divides n (b -ℤ a)
-congruent a b n h =
-    elim (cases_eq (floor_mod a n) (floor_mod b n)) [
-      | inl same ↦ eq-eqb (floor_mod a n) (floor_mod b n) same ∙ sym (eq-eqb (floor_mod (b -ℤ a) n) 0 (turns_between a b n h same))
-      | inr other ↦ ne_eqb (floor_mod a n) (floor_mod b n) other ∙ sym (ne_eqb (floor_mod (b -ℤ a) n) 0 (λ z. other (same_turn a b n h z)))
-    ]
-
--- the year of a day within the calls' days
-pub year_bounds : (d : ℤ) → IsDayWithin 1000 d → (neg_ℤ (pos 9_000_000_000) ≤ℤ year_of d) × (year_of d ≤ℤ pos 9_000_000_000)
-year_bounds d near =
-    let y = year_of d in
-    let i = IsInYear-year_of d in
-    let this = first_day_of_year_bounds y in
-    let next = first_day_of_year_bounds (y +ℤ pos 1) in
-    (omega (arith, ints, i.not_over, near.0, next.1), omega (arith, ints, i.begun, near.1, this.0))
-
-pub year_near : (d y : ℤ) → y ≡ year_of d → IsDayWithin 1000 d → (neg_ℤ (pos 9_000_000_000) ≤ℤ y) × (y ≤ℤ pos 9_000_000_000)
-year_near d y e near = rw e (year_bounds d near)
 
 int_rem : (z : ℤ) (n : ℕ) → int_rem_euclid z (pos n) ≡ pos (floor_mod z n)
 int_rem (pos a) n = refl

@@ -5,8 +5,9 @@ ghost use Rattle.rr_model.specs.declared.kind.Kind.TheVariants.{Moments};
 ghost use Rattle.rr_expand.specs.Expansion.{IsCandidateTime, is_of_days};
 
 use crate::spread::push_hours;
-use crate::time_parts::{allowed, time_of};
+use crate::time_parts::allowed;
 use rr_model::{Kind, NoMemory, Rule};
+use rr_setpos::time_of;
 use rr_times::TimeSet;
 use std::alloc::Global;
 

@@ -6,12 +6,10 @@ ghost use Rattle.rr_model.specs.RisingSet.{IsSetOf};
 ghost use Rattle.rr_model.specs.declared.kind.Kind.TheVariants.{Moments};
 ghost use Rattle.rr_expand.specs.Expansion.{IsCandidateSecond, IsFittingSecond, is_of_days};
 
-use crate::date_parts::date_parts_hold;
-use crate::day::Day;
-use crate::filled::{wants_minute, wants_second};
 use crate::finer_units::{first_fit, first_unit, push_unit, unit_of, units_of_day};
-use crate::time_parts::{allowed, time_of};
+use crate::time_parts::allowed;
 use rr_model::{NoMemory, Rule};
+use rr_setpos::{Day, date_parts_hold, time_of, wants_minute, wants_second};
 use rr_times::TimeSet;
 use std::alloc::{AllocError, Global};
 

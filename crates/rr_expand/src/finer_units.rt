@@ -8,9 +8,9 @@ ghost use Rattle.rr_model.specs.declared.kind.Kind.TheVariants.{Moments};
 ghost use Rattle.rr_expand.specs.Expansion.{IsUnitNear, is_of_days, unit_seconds};
 ghost use Rattle.rr_expand.specs.Spread.{of_hour_number, of_minute_number, of_second_number, of_unit};
 
-use crate::numbers::allows;
 use crate::spread::{push_hour, push_minute};
 use rr_model::{Freq, Rule};
+use rr_setpos::allows;
 use std::alloc::AllocError;
 
 // How many units a day has.

@@ -1,15 +1,10 @@
 //! Exactly the candidates of one unit of a rule (RFC 5545, section 3.3.10).
 #![tactic(auto)]
 
-mod date_parts;
-mod day;
 mod day_times;
-mod filled;
 mod finer;
 mod finer_units;
 mod laws;
-mod numbers;
-mod places;
 mod spread;
 #[cfg(test)]
 mod tests;

@@ -6,10 +6,9 @@ ghost use Rattle.rr_model.specs.Units.{unit_start};
 ghost use Rattle.rr_model.specs.declared.kind.Kind.TheVariants.{Days};
 ghost use Rattle.rr_expand.specs.Expansion.{IsAllowedDay, IsCandidateDay, is_of_days};
 
-use crate::date_parts::date_parts_hold;
-use crate::day::Day;
 use crate::units::{day_count, first_day, fits};
 use rr_model::{Dates, NoMemory, Rule};
+use rr_setpos::{Day, date_parts_hold};
 use std::alloc::Global;
 
 /// The days of a unit of a rule, DAILY or coarser, at which its date parts hold, filled from the start's day, and the

@@ -1,15 +1,15 @@
 // Units of whole days and the interval between them (RFC 5545, section 3.3.10, FREQ, INTERVAL and WKST).
 ghost use Rattle.std.specs.Prelude.{◌≡◌, ◌≤◌, ◌+◌, ◌-ℤ◌, ◌+ℤ◌, IsTrue, pos, ℕ};
 ghost use Rattle.rr_model.specs.Calendar.{IsDayWithin};
-ghost use Rattle.rr_model.specs.Units.{first_day_of_month, month_number, unit_number, unit_start};
+ghost use Rattle.rr_model.specs.Units.{first_day_of_month, unit_number, unit_start};
 ghost use Rattle.rr_model.specs.Week.{fourth_day};
 ghost use Rattle.rr_model.specs.Whole.{divides, floor_mod};
 ghost use Rattle.rr_model.specs.declared.kind.Kind.TheVariants.{Days};
 ghost use Rattle.rr_expand.specs.Expansion.{is_of_days};
 
-use crate::day::Day;
 use rr_cal::{Date, day_of, month_length, week_index, year_length};
 use rr_model::{Freq, Rule};
+use rr_setpos::{Day, is_congruent, month_number};
 
 // Whether the unit is a whole number of intervals from the start's.
 pub(crate) fn fits(rule: &Rule, start: &Day, unit: i64) -> bool
@@ -35,22 +35,6 @@ fn unit_number(freq: Freq, week_start: u8, day: &Day) -> i64
         Freq::Yearly => day.year,
         _ => day.number,
     }
-}
-
-// The number of the month in which a day lies.
-fn month_number(day: &Day) -> i64
-    ensures { result ≡ month_number day.now.number }
-{
-    12 * day.year + i64::from(day.month) - 1
-}
-
-// Whether two numbers differ by a multiple of the interval.
-fn is_congruent(from: i64, to: i64, interval: u32) -> bool
-    requires { 1 ≤ interval }
-    ensures { result ≡ divides interval (to -ℤ from) }
-{
-    let interval = i64::from(interval);
-    from.rem_euclid(interval) == to.rem_euclid(interval)
 }
 
 // The first day of a unit.

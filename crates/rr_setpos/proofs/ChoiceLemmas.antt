@@ -1,9 +1,12 @@
--- Chosen moments of a rule without set positions.
+-- Candidates by the day of their start, and chosen moments of a rule without set positions.
 use Rattle.std.proofs.Common.{◌≡◌, Bool, true, false, ◌&&◌, ◌||◌, List, [], ℤ, refl}
 use Rattle.rr_model.specs.RuleValidity.{is_absent}
-use Rattle.rr_model.specs.Candidate.{is_candidate}
+use Rattle.rr_model.specs.Moment.{day_part}
+use Rattle.rr_model.specs.Filled.{filled}
+use Rattle.rr_model.specs.Candidate.{date_parts_hold, is_candidate}
 use Rattle.rr_model.specs.Chosen.{is_chosen}
 use Rattle.rr_model.specs.declared.kind.Kind.{Kind}
+use Rattle.rr_model.specs.declared.kind.Kind.TheVariants.{Days, Moments}
 use Rattle.rr_model.specs.declared.rule.Rule.{Rule}
 
 and_true : (b : Bool) → (b && true) ≡ b
@@ -17,3 +20,8 @@ if_absent b front back positions e = rw e (and_true b)
 pub is_chosen-plain : (rule : Rule) (kind : Kind) (start t : ℤ) → rule.by_set_pos ≡ [] → is_chosen rule kind start t ≡ is_candidate rule kind start t
 unfolding is_chosen
 is_chosen-plain rule kind start t e = if_absent (is_candidate rule kind start t) _ _ rule.by_set_pos e
+
+-- the date parts take from the start its day alone
+pub date_parts_hold-day : (rule : Rule) (kind : Kind) (start d : ℤ) → date_parts_hold (filled rule kind start) d ≡ date_parts_hold (filled rule Days (day_part kind start)) d
+date_parts_hold-day rule Days start d = refl
+date_parts_hold-day rule Moments start d = refl

@@ -1,4 +1,4 @@
-mod ChoiceLemmas
+pub mod ChoiceLemmas
 mod DayLemmas
 mod UnitLemmas
 pub mod YearLemmas

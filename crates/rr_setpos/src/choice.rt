@@ -1,12 +1,14 @@
 // Chosen moments.
 ghost use Rattle.std.specs.Prelude.{◌≡◌, ◌≤◌, []};
 ghost use Rattle.rr_model.specs.Calendar.{IsDayWithin};
-ghost use Rattle.rr_model.specs.Candidate.{is_candidate};
+ghost use Rattle.rr_model.specs.Candidate.{date_parts_hold, is_candidate};
 ghost use Rattle.rr_model.specs.Chosen.{is_chosen};
+ghost use Rattle.rr_model.specs.Filled.{filled};
 ghost use Rattle.rr_model.specs.Moment.{day_part};
 ghost use Rattle.rr_model.specs.RuleValidity.{IsInYears, IsValidRule};
 
 use crate::dates::date_parts_hold;
+use crate::day::Day;
 use crate::moment::Moment;
 use crate::times::time_parts_hold;
 use crate::units::interval_holds;
@@ -36,6 +38,13 @@ pub(crate) fn is_candidate(rule: &Rule, start: &Moment, moment: &Moment) -> bool
     ensures { result ≡ is_candidate rule.now start.now.kind start.now.at moment.now.at }
 {
     interval_holds(rule, start, moment)
-        && date_parts_hold(rule, start, &moment.day)
+        && dates_hold(rule, start, &moment.day)
         && time_parts_hold(rule, start, moment)
+}
+
+// Whether each date part of the rule, filled from its start, holds of the day.
+fn dates_hold(rule: &Rule, start: &Moment, day: &Day) -> bool
+    ensures { result ≡ date_parts_hold (filled rule.now start.now.kind start.now.at) day.now.number }
+{
+    date_parts_hold(rule, &start.day, day)
 }

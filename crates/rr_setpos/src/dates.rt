@@ -2,18 +2,19 @@
 ghost use Rattle.std.specs.Prelude.{◌≡◌};
 ghost use Rattle.rr_model.specs.Candidate.{by_day_holds, by_month_day_holds, by_month_holds, by_week_no_holds, by_year_day_holds, counts_in_year, date_parts_hold};
 ghost use Rattle.rr_model.specs.Filled.{filled};
+ghost use Rattle.rr_model.specs.declared.kind.Kind.TheVariants.{Days};
 ghost use Rattle.rr_model.specs.RuleValidity.{is_absent};
 
+use crate::day::Day;
 use crate::filled::{wants_day, wants_month, wants_month_day};
-use crate::moment::{Day, Moment};
 use crate::numbers::{allows_filled, allows_place, allows_place_filled, is_absent};
 use crate::places::lists_day;
 use rr_cal::week_of;
 use rr_model::{Freq, Rule};
 
-// Whether each date part of the rule, filled from its start, holds of the day.
-pub(crate) fn date_parts_hold(rule: &Rule, start: &Moment, day: &Day) -> bool
-    ensures { result ≡ date_parts_hold (filled rule.now start.now.kind start.now.at) day.now.number }
+/// Whether each date part of the rule, filled from the day of its start, holds of a day (RFC 5545, section 3.3.10).
+pub fn date_parts_hold(rule: &Rule, start: &Day, day: &Day) -> bool
+    ensures { result ≡ date_parts_hold (filled rule.now Days start.now.number) day.now.number }
 {
     by_month_holds(rule, start, day)
         && by_week_no_holds(rule, day)
@@ -23,15 +24,10 @@ pub(crate) fn date_parts_hold(rule: &Rule, start: &Moment, day: &Day) -> bool
 }
 
 // Whether the day lies in a month of BYMONTH.
-fn by_month_holds(rule: &Rule, start: &Moment, day: &Day) -> bool
-    ensures { result ≡ by_month_holds (filled rule.now start.now.kind start.now.at) day.now.number }
+fn by_month_holds(rule: &Rule, start: &Day, day: &Day) -> bool
+    ensures { result ≡ by_month_holds (filled rule.now Days start.now.number) day.now.number }
 {
-    allows_filled(
-        &rule.by_month,
-        wants_month(rule),
-        start.day.month,
-        day.month,
-    )
+    allows_filled(&rule.by_month, wants_month(rule), start.month, day.month)
 }
 
 // Whether the day lies in a week of BYWEEKNO, by the year to which the week belongs.
@@ -57,25 +53,25 @@ fn by_year_day_holds(rule: &Rule, day: &Day) -> bool
 }
 
 // Whether BYMONTHDAY lists the day's number in its month.
-fn by_month_day_holds(rule: &Rule, start: &Moment, day: &Day) -> bool
-    ensures { result ≡ by_month_day_holds (filled rule.now start.now.kind start.now.at) day.now.number }
+fn by_month_day_holds(rule: &Rule, start: &Day, day: &Day) -> bool
+    ensures { result ≡ by_month_day_holds (filled rule.now Days start.now.number) day.now.number }
 {
     allows_place_filled(
         &rule.by_month_day,
         wants_month_day(rule),
-        start.day.month_day,
+        start.month_day,
         day.month_day,
         day.days_in_month,
     )
 }
 
 // Whether BYDAY lists the day's weekday, with its place where that is asked.
-fn by_day_holds(rule: &Rule, start: &Moment, day: &Day) -> bool
-    ensures { result ≡ by_day_holds (filled rule.now start.now.kind start.now.at) day.now.number }
+fn by_day_holds(rule: &Rule, start: &Day, day: &Day) -> bool
+    ensures { result ≡ by_day_holds (filled rule.now Days start.now.number) day.now.number }
 {
     let items = rule.by_day.as_slice();
     if items.is_empty() {
-        return !wants_day(rule) || start.day.weekday == day.weekday;
+        return !wants_day(rule) || start.weekday == day.weekday;
     }
     lists_day(items, counts_in_year(rule), day)
 }

@@ -15,8 +15,8 @@ pub(crate) fn wants_hour(freq: Freq) -> bool
     }
 }
 
-// An hour or a longer unit holds many minutes.
-pub(crate) fn wants_minute(freq: Freq) -> bool
+/// Whether a rule without the part takes its minute from the start (RFC 5545, section 3.3.10): an hour or a longer unit holds many minutes.
+pub fn wants_minute(freq: Freq) -> bool
     ensures { result ≡ wants_minute freq }
 {
     match freq {
@@ -25,8 +25,8 @@ pub(crate) fn wants_minute(freq: Freq) -> bool
     }
 }
 
-// A minute or a longer unit holds many seconds.
-pub(crate) fn wants_second(freq: Freq) -> bool
+/// Whether a rule without the part takes its second from the start (RFC 5545, section 3.3.10): a minute or a longer unit holds many seconds.
+pub fn wants_second(freq: Freq) -> bool
     ensures { result ≡ wants_second freq }
 {
     match freq {

@@ -20,8 +20,8 @@ fn lists(numbers: &Numbers, n: i16) -> bool
     numbers.as_slice().contains(&n)
 }
 
-// Whether the part does not stand, or lists the number.
-fn allows(numbers: &Numbers, n: i16) -> bool
+/// Whether a BY part does not stand, or lists the number (RFC 5545, section 3.3.10).
+pub fn allows(numbers: &Numbers, n: i16) -> bool
     ensures { result ≡ allows numbers.now n }
 {
     is_absent(numbers) || lists(numbers, n)
@@ -45,8 +45,8 @@ fn place_from_back(k: u16, many: u16) -> i16
     k as i16 - many as i16 - 1
 }
 
-// As `allows`, where the part, absent and wanted, is filled with the start's own number.
-pub(crate) fn allows_filled(numbers: &Numbers, is_wanted: bool, own: u8, n: u8) -> bool
+/// As `allows`, where the part, absent and wanted, is filled with the start's own number.
+pub fn allows_filled(numbers: &Numbers, is_wanted: bool, own: u8, n: u8) -> bool
     ensures { result ≡ allows (filled_part is_wanted numbers.now (pos own)) (pos n) }
 {
     if is_wanted && is_absent(numbers) {

@@ -4,7 +4,7 @@ ghost use Rattle.std.specs.List.{list_any};
 ghost use Rattle.std.specs.Ordering.{int_eq};
 ghost use Rattle.rr_model.specs.Candidate.{day_item_holds, is_in_place, is_weekday_place};
 
-use crate::moment::Day;
+use crate::day::Day;
 use rr_model::DayItem;
 
 // Whether one of the items holds of the day.

@@ -9,12 +9,12 @@ use crate::moment::Moment;
 use crate::numbers::allows_filled;
 use rr_model::{Kind, Rule};
 
-// A time of day.
+/// A time of day.
 #[derive(Clone, Copy)]
-struct Time {
-    hour: u8,
-    minute: u8,
-    second: u8,
+pub struct Time {
+    pub hour: u8,
+    pub minute: u8,
+    pub second: u8,
 }
 
 // Whether each time part of the rule, filled from its start, holds of the moment. A date has no time.
@@ -50,8 +50,8 @@ fn allows_time(rule: &Rule, own: Time, time: Time) -> bool
         )
 }
 
-// The time of a moment.
-fn time_of(at: i64) -> Time
+/// The time of a moment, which is 86,400 times the day number plus the second of the day.
+pub fn time_of(at: i64) -> Time
     ensures hour { result.hour ≡ hour_of Moments at }
     ensures minute { result.minute ≡ minute_of Moments at }
     ensures second { result.second ≡ second_of Moments at }

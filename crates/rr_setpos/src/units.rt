@@ -4,7 +4,8 @@ ghost use Rattle.rr_model.specs.Candidate.{interval_holds};
 ghost use Rattle.rr_model.specs.Units.{month_number, unit_number};
 ghost use Rattle.rr_model.specs.Whole.{divides};
 
-use crate::moment::{Day, Moment};
+use crate::day::Day;
+use crate::moment::Moment;
 use rr_cal::week_index;
 use rr_model::{Freq, Rule};
 
@@ -34,15 +35,15 @@ fn unit_number(rule: &Rule, moment: &Moment) -> i64
     }
 }
 
-// The number of the month in which a day lies.
-fn month_number(day: &Day) -> i64
+/// The number of the month in which a day lies: 12 times its year, plus the months before it there.
+pub fn month_number(day: &Day) -> i64
     ensures { result ≡ month_number day.now.number }
 {
     12 * day.year + i64::from(day.month) - 1
 }
 
-// Whether two numbers differ by a multiple of the interval.
-fn is_congruent(from: i64, to: i64, interval: u32) -> bool
+/// Whether two numbers differ by a multiple of the interval.
+pub fn is_congruent(from: i64, to: i64, interval: u32) -> bool
     requires { 1 ≤ interval }
     ensures { result ≡ divides interval (to -ℤ from) }
 {

@@ -4,17 +4,19 @@ ghost use Rattle.rr_model.specs.Calendar.{day_of_month, day_of_year, IsDayWithin
 
 use rr_cal::{date_of, day_of_year, month_length, weekday, year_length};
 
-// A day, and what the date parts ask of it.
+/// A day, and what the date parts of a rule ask of it (RFC 5545, section 3.3.10).
+///
+/// Its number counts days since 1970-01-01, months and days count from 1, and weekdays from 0 for Monday.
 #[derive(Clone, Copy)]
-pub(crate) struct Day {
-    pub(crate) number: i64,
-    pub(crate) year: i64,
-    pub(crate) month: u8,
-    pub(crate) month_day: u8,
-    pub(crate) days_in_month: u8,
-    pub(crate) year_day: u16,
-    pub(crate) days_in_year: u16,
-    pub(crate) weekday: u8,
+pub struct Day {
+    pub number: i64,
+    pub year: i64,
+    pub month: u8,
+    pub month_day: u8,
+    pub days_in_month: u8,
+    pub year_day: u16,
+    pub days_in_year: u16,
+    pub weekday: u8,
     ghost near: { IsDayWithin 1000 number },
     ghost of_year: { year ≡ year_of number },
     ghost of_month: { month ≡ month_of number },
@@ -26,8 +28,8 @@ pub(crate) struct Day {
 }
 
 impl Day {
-    // The day of this number.
-    pub(crate) fn new(number: i64) -> Self
+    /// The day of this number.
+    pub fn new(number: i64) -> Self
         requires near { IsDayWithin 1000 number }
         ensures { result.number ≡ number }
     {
