@@ -60,6 +60,84 @@ fn series(alloc: Global, start: i64) -> Result<Series, NoMemory>
     })
 }
 
+// 2024-01-01.
+const DAY: i64 = 19_723;
+
+// 09:00:00 of that day.
+const SECOND: i64 = 1_704_099_600;
+
+// Ends beside a start, and what is wrong with them.
+const ENDS: [(Kind, i64, End, Option<Refusal>); 9] = [
+    (Kind::Days, DAY, End::Never, None),
+    (Kind::Days, DAY, End::Count(1), None),
+    (
+        Kind::Days,
+        DAY,
+        End::Until {
+            kind: Kind::Days,
+            at: DAY,
+        },
+        None,
+    ),
+    (
+        Kind::Days,
+        DAY,
+        End::Until {
+            kind: Kind::Days,
+            at: DAY - 1,
+        },
+        Some(Refusal::UntilBeforeStart),
+    ),
+    (
+        Kind::Days,
+        DAY,
+        End::Until {
+            kind: Kind::Moments,
+            at: 0,
+        },
+        Some(Refusal::UntilKind),
+    ),
+    (
+        Kind::Moments,
+        SECOND,
+        End::Until {
+            kind: Kind::Days,
+            at: DAY + 4,
+        },
+        Some(Refusal::UntilKind),
+    ),
+    (
+        Kind::Moments,
+        SECOND,
+        End::Both {
+            kind: Kind::Moments,
+            at: SECOND,
+            count: 2,
+        },
+        None,
+    ),
+    (
+        Kind::Moments,
+        SECOND,
+        End::Both {
+            kind: Kind::Moments,
+            at: SECOND - 1,
+            count: 2,
+        },
+        Some(Refusal::UntilBeforeStart),
+    ),
+    (
+        Kind::Moments,
+        SECOND,
+        End::Both {
+            kind: Kind::Days,
+            at: DAY,
+            count: 2,
+        },
+        Some(Refusal::UntilKind),
+    ),
+];
+
 #[test]
 fn judged_series(rt: HostRuntime) -> Result<(), Fail> {
     let alloc = rt.alloc();
@@ -75,80 +153,7 @@ fn judged_series(rt: HostRuntime) -> Result<(), Fail> {
             Err(refusal) => assert_eq!(rt; want, Some(refusal)),
         }
     }
-    // 2024-01-01 and the second 09:00:00 of that day, beside ends
-    let day = 19_723;
-    let second = 1_704_099_600;
-    let (days, moments) = (Kind::Days, Kind::Moments);
-    for (kind, start, end, want) in [
-        (days, day, End::Never, None),
-        (days, day, End::Count(1), None),
-        (
-            days,
-            day,
-            End::Until {
-                kind: days,
-                at: day,
-            },
-            None,
-        ),
-        (
-            days,
-            day,
-            End::Until {
-                kind: days,
-                at: day - 1,
-            },
-            Some(Refusal::UntilBeforeStart),
-        ),
-        (
-            days,
-            day,
-            End::Until {
-                kind: moments,
-                at: 0,
-            },
-            Some(Refusal::UntilKind),
-        ),
-        (
-            moments,
-            second,
-            End::Until {
-                kind: days,
-                at: day + 4,
-            },
-            Some(Refusal::UntilKind),
-        ),
-        (
-            moments,
-            second,
-            End::Both {
-                kind: moments,
-                at: second,
-                count: 2,
-            },
-            None,
-        ),
-        (
-            moments,
-            second,
-            End::Both {
-                kind: moments,
-                at: second - 1,
-                count: 2,
-            },
-            Some(Refusal::UntilBeforeStart),
-        ),
-        (
-            moments,
-            second,
-            End::Both {
-                kind: days,
-                at: day,
-                count: 2,
-            },
-            Some(Refusal::UntilKind),
-        ),
-    ] {
+    for (kind, start, end, want) in ENDS {
         assert_eq!(rt; end_fault(kind, start, end), want, "{end:?}");
     }
     // cycles joined, up to 16,777,216 days: 113 and 127 times the 146,097 days of 400 years, and others

@@ -79,133 +79,163 @@ fn rule(
     })
 }
 
+// No item of BYDAY.
+const ANY_DAY: (i8, u8) = (0, 7);
+
+// No number of the four parts of dates.
+const NO_NUMBERS: [i16; 4] = [0; 4];
+
+// A rule, its start, a unit, and how many days it has, the first and the last.
+const DAYS_OF_UNITS: [(
+    Freq,
+    u32,
+    [i16; 4],
+    (i8, u8),
+    i64,
+    i64,
+    (usize, Option<i64>, Option<i64>),
+); 14] = [
+    // INTERVAL=3 from 2024-02-26: 2024-02-29, and not the day after
+    (
+        Freq::Daily,
+        3,
+        NO_NUMBERS,
+        ANY_DAY,
+        19_779,
+        19_782,
+        (1, Some(19_782), Some(19_782)),
+    ),
+    (
+        Freq::Daily,
+        3,
+        NO_NUMBERS,
+        ANY_DAY,
+        19_779,
+        19_783,
+        (0, None, None),
+    ),
+    // Tuesday from the start: 2024-12-31, in a week that ends in 2025
+    (
+        Freq::Weekly,
+        1,
+        NO_NUMBERS,
+        ANY_DAY,
+        20_060,
+        2_870,
+        (1, Some(20_088), Some(20_088)),
+    ),
+    // BYDAY=5FR: 2024-03-29, and no day of April
+    (
+        Freq::Monthly,
+        1,
+        NO_NUMBERS,
+        (5, 4),
+        19_723,
+        24_290,
+        (1, Some(19_811), Some(19_811)),
+    ),
+    (
+        Freq::Monthly,
+        1,
+        NO_NUMBERS,
+        (5, 4),
+        19_723,
+        24_291,
+        (0, None, None),
+    ),
+    // BYMONTHDAY=-1: 2024-02-29
+    (
+        Freq::Monthly,
+        1,
+        [0, 0, 0, -1],
+        ANY_DAY,
+        19_723,
+        24_289,
+        (1, Some(19_782), Some(19_782)),
+    ),
+    // BYWEEKNO=53;BYDAY=FR: 2021-01-01, which lies in week 53 of 2020
+    (
+        Freq::Yearly,
+        1,
+        [0, 53, 0, 0],
+        (0, 4),
+        18_262,
+        2021,
+        (1, Some(18_628), Some(18_628)),
+    ),
+    (
+        Freq::Yearly,
+        1,
+        [0, 53, 0, 0],
+        (0, 4),
+        18_262,
+        2020,
+        (0, None, None),
+    ),
+    // BYWEEKNO=1;BYDAY=MO: 2024-01-01, and 2024-12-30, which lies in week 1 of 2025
+    (
+        Freq::Yearly,
+        1,
+        [0, 1, 0, 0],
+        (0, 0),
+        19_723,
+        2024,
+        (2, Some(19_723), Some(20_087)),
+    ),
+    // BYYEARDAY=-366: 2024-01-01, and no day of 2023
+    (
+        Freq::Yearly,
+        1,
+        [0, 0, -366, 0],
+        ANY_DAY,
+        19_723,
+        2024,
+        (1, Some(19_723), Some(19_723)),
+    ),
+    (
+        Freq::Yearly,
+        1,
+        [0, 0, -366, 0],
+        ANY_DAY,
+        19_723,
+        2023,
+        (0, None, None),
+    ),
+    // from the start: 29 February of 2028, and no day of 2025
+    (
+        Freq::Yearly,
+        1,
+        NO_NUMBERS,
+        ANY_DAY,
+        19_782,
+        2028,
+        (1, Some(21_243), Some(21_243)),
+    ),
+    (
+        Freq::Yearly,
+        1,
+        NO_NUMBERS,
+        ANY_DAY,
+        19_782,
+        2025,
+        (0, None, None),
+    ),
+    // INTERVAL=2;BYYEARDAY=1 from 2024: no day of 2025
+    (
+        Freq::Yearly,
+        2,
+        [0, 0, 1, 0],
+        ANY_DAY,
+        19_723,
+        2025,
+        (0, None, None),
+    ),
+];
+
 #[test]
 fn days_of_units(rt: HostRuntime) -> Result<(), Fail> {
     let alloc = rt.alloc();
-    let any = (0, 7);
-    let none = [0; 4];
-    // the start, a unit, and how many days it has, the first and the last
-    for (freq, interval, numbers, item, start, unit, expected) in [
-        // INTERVAL=3 from 2024-02-26: 2024-02-29, and not the day after
-        (
-            Freq::Daily,
-            3,
-            none,
-            any,
-            19_779,
-            19_782,
-            (1, Some(19_782), Some(19_782)),
-        ),
-        (Freq::Daily, 3, none, any, 19_779, 19_783, (0, None, None)),
-        // Tuesday from the start: 2024-12-31, in a week that ends in 2025
-        (
-            Freq::Weekly,
-            1,
-            none,
-            any,
-            20_060,
-            2_870,
-            (1, Some(20_088), Some(20_088)),
-        ),
-        // BYDAY=5FR: 2024-03-29, and no day of April
-        (
-            Freq::Monthly,
-            1,
-            none,
-            (5, 4),
-            19_723,
-            24_290,
-            (1, Some(19_811), Some(19_811)),
-        ),
-        (
-            Freq::Monthly,
-            1,
-            none,
-            (5, 4),
-            19_723,
-            24_291,
-            (0, None, None),
-        ),
-        // BYMONTHDAY=-1: 2024-02-29
-        (
-            Freq::Monthly,
-            1,
-            [0, 0, 0, -1],
-            any,
-            19_723,
-            24_289,
-            (1, Some(19_782), Some(19_782)),
-        ),
-        // BYWEEKNO=53;BYDAY=FR: 2021-01-01, which lies in week 53 of 2020
-        (
-            Freq::Yearly,
-            1,
-            [0, 53, 0, 0],
-            (0, 4),
-            18_262,
-            2021,
-            (1, Some(18_628), Some(18_628)),
-        ),
-        (
-            Freq::Yearly,
-            1,
-            [0, 53, 0, 0],
-            (0, 4),
-            18_262,
-            2020,
-            (0, None, None),
-        ),
-        // BYWEEKNO=1;BYDAY=MO: 2024-01-01, and 2024-12-30, which lies in week 1 of 2025
-        (
-            Freq::Yearly,
-            1,
-            [0, 1, 0, 0],
-            (0, 0),
-            19_723,
-            2024,
-            (2, Some(19_723), Some(20_087)),
-        ),
-        // BYYEARDAY=-366: 2024-01-01, and no day of 2023
-        (
-            Freq::Yearly,
-            1,
-            [0, 0, -366, 0],
-            any,
-            19_723,
-            2024,
-            (1, Some(19_723), Some(19_723)),
-        ),
-        (
-            Freq::Yearly,
-            1,
-            [0, 0, -366, 0],
-            any,
-            19_723,
-            2023,
-            (0, None, None),
-        ),
-        // from the start: 29 February of 2028, and no day of 2025
-        (
-            Freq::Yearly,
-            1,
-            none,
-            any,
-            19_782,
-            2028,
-            (1, Some(21_243), Some(21_243)),
-        ),
-        (Freq::Yearly, 1, none, any, 19_782, 2025, (0, None, None)),
-        // INTERVAL=2;BYYEARDAY=1 from 2024: no day of 2025
-        (
-            Freq::Yearly,
-            2,
-            [0, 0, 1, 0],
-            any,
-            19_723,
-            2025,
-            (0, None, None),
-        ),
-    ] {
+    for (freq, interval, numbers, item, start, unit, expected) in DAYS_OF_UNITS {
         assert!(rt; interval > 0 && is_day(start));
         assert!(rt; has_days(freq));
         assert!(rt; is_near(freq, unit));

@@ -84,158 +84,236 @@ fn bare(alloc: Global) -> Rule
     }
 }
 
+// No item of BYDAY.
+const ANY_DAY: (i8, u8) = (0, 7);
+
+// No number of the seven other parts.
+const NO_NUMBERS: [i16; 7] = [0; 7];
+
+// A rule, its start, a day that is chosen, and one that is not.
+const DAYS_OF_RULES: [(Freq, u32, u8, [i16; 7], (i8, u8), i64, i64, i64); 20] = [
+    // BYMONTH=1: 1998-01-31 and 1998-02-01
+    (
+        Freq::Daily,
+        1,
+        0,
+        [1, 0, 0, 0, 0, 0, 0],
+        ANY_DAY,
+        10_227,
+        10_257,
+        10_258,
+    ),
+    // BYWEEKNO=20;BYDAY=MO: 1999-05-17 and 1999-05-10
+    (
+        Freq::Yearly,
+        1,
+        0,
+        [0, 20, 0, 0, 0, 0, 0],
+        (0, 0),
+        9_993,
+        10_728,
+        10_721,
+    ),
+    // BYWEEKNO=-1;BYDAY=MO: 2008-12-22, and 2008-12-29 of the first week of 2009
+    (
+        Freq::Yearly,
+        1,
+        0,
+        [0, -1, 0, 0, 0, 0, 0],
+        (0, 0),
+        10_217,
+        14_235,
+        14_242,
+    ),
+    // BYYEARDAY=100;INTERVAL=3: 2000-04-09 and 1998-04-10
+    (
+        Freq::Yearly,
+        3,
+        0,
+        [0, 0, 100, 0, 0, 0, 0],
+        ANY_DAY,
+        9_862,
+        11_056,
+        10_326,
+    ),
+    // BYYEARDAY=-1: 2024-12-31 and 2024-12-30
+    (
+        Freq::Yearly,
+        1,
+        0,
+        [0, 0, -1, 0, 0, 0, 0],
+        ANY_DAY,
+        19_722,
+        20_088,
+        20_087,
+    ),
+    // BYYEARDAY=-366: 2028-01-01 and 2023-01-01
+    (
+        Freq::Yearly,
+        1,
+        0,
+        [0, 0, -366, 0, 0, 0, 0],
+        ANY_DAY,
+        19_723,
+        21_184,
+        19_358,
+    ),
+    // BYMONTHDAY=13;BYDAY=FR: 1998-02-13 and 1998-01-13
+    (
+        Freq::Monthly,
+        1,
+        0,
+        [0, 0, 0, 13, 0, 0, 0],
+        (0, 4),
+        10_106,
+        10_270,
+        10_239,
+    ),
+    // BYMONTHDAY=-3: 1998-02-26 and 1998-02-25
+    (
+        Freq::Monthly,
+        1,
+        0,
+        [0, 0, 0, -3, 0, 0, 0],
+        ANY_DAY,
+        10_132,
+        10_283,
+        10_282,
+    ),
+    // BYMONTHDAY=-3: 2024-02-27 and 2024-02-26
+    (
+        Freq::Monthly,
+        1,
+        0,
+        [0, 0, 0, -3, 0, 0, 0],
+        ANY_DAY,
+        10_132,
+        19_780,
+        19_779,
+    ),
+    // BYDAY=1FR: 1997-10-03 and 1997-10-10
+    (
+        Freq::Monthly,
+        1,
+        0,
+        NO_NUMBERS,
+        (1, 4),
+        10_109,
+        10_137,
+        10_144,
+    ),
+    // BYDAY=-2MO: 1997-10-20 and 1997-10-27
+    (
+        Freq::Monthly,
+        1,
+        0,
+        NO_NUMBERS,
+        (-2, 0),
+        10_126,
+        10_154,
+        10_161,
+    ),
+    // BYDAY=20MO: 1998-05-18 and 1999-05-24
+    (
+        Freq::Yearly,
+        1,
+        0,
+        NO_NUMBERS,
+        (20, 0),
+        10_000,
+        10_364,
+        10_735,
+    ),
+    // BYMONTH=4;BYDAY=1SU: 1998-04-05 and 1998-04-12
+    (
+        Freq::Yearly,
+        1,
+        0,
+        [4, 0, 0, 0, 0, 0, 0],
+        (1, 6),
+        9_957,
+        10_321,
+        10_328,
+    ),
+    // BYMONTH=10;BYDAY=-1SU: 1998-10-25 and 1998-10-18
+    (
+        Freq::Yearly,
+        1,
+        0,
+        [10, 0, 0, 0, 0, 0, 0],
+        (-1, 6),
+        10_160,
+        10_524,
+        10_517,
+    ),
+    // INTERVAL=2;BYDAY=SU, weeks from Sunday and from Monday: 1997-08-17 and 1997-08-10
+    (
+        Freq::Weekly,
+        2,
+        6,
+        NO_NUMBERS,
+        (0, 6),
+        10_078,
+        10_090,
+        10_083,
+    ),
+    (
+        Freq::Weekly,
+        2,
+        0,
+        NO_NUMBERS,
+        (0, 6),
+        10_078,
+        10_083,
+        10_090,
+    ),
+    // from the start: 29 February, the day 31, Tuesday, and the Monday of week 20
+    (
+        Freq::Yearly,
+        1,
+        0,
+        NO_NUMBERS,
+        ANY_DAY,
+        19_782,
+        21_243,
+        20_147,
+    ),
+    (
+        Freq::Monthly,
+        1,
+        0,
+        NO_NUMBERS,
+        ANY_DAY,
+        19_753,
+        19_813,
+        19_782,
+    ),
+    (
+        Freq::Weekly,
+        1,
+        0,
+        NO_NUMBERS,
+        ANY_DAY,
+        10_106,
+        10_113,
+        10_114,
+    ),
+    (
+        Freq::Yearly,
+        1,
+        0,
+        [0, 20, 0, 0, 0, 0, 0],
+        ANY_DAY,
+        9_993,
+        10_357,
+        10_358,
+    ),
+];
+
 #[test]
 fn days_of_rules(rt: HostRuntime) -> Result<(), Fail> {
     let alloc = rt.alloc();
-    let any = (0, 7);
-    let none = [0; 7];
-    // the start, a day that is chosen, and one that is not
-    for (freq, interval, week_start, numbers, item, start, yes, no) in [
-        // BYMONTH=1: 1998-01-31 and 1998-02-01
-        (
-            Freq::Daily,
-            1,
-            0,
-            [1, 0, 0, 0, 0, 0, 0],
-            any,
-            10_227,
-            10_257,
-            10_258,
-        ),
-        // BYWEEKNO=20;BYDAY=MO: 1999-05-17 and 1999-05-10
-        (
-            Freq::Yearly,
-            1,
-            0,
-            [0, 20, 0, 0, 0, 0, 0],
-            (0, 0),
-            9_993,
-            10_728,
-            10_721,
-        ),
-        // BYWEEKNO=-1;BYDAY=MO: 2008-12-22, and 2008-12-29 of the first week of 2009
-        (
-            Freq::Yearly,
-            1,
-            0,
-            [0, -1, 0, 0, 0, 0, 0],
-            (0, 0),
-            10_217,
-            14_235,
-            14_242,
-        ),
-        // BYYEARDAY=100;INTERVAL=3: 2000-04-09 and 1998-04-10
-        (
-            Freq::Yearly,
-            3,
-            0,
-            [0, 0, 100, 0, 0, 0, 0],
-            any,
-            9_862,
-            11_056,
-            10_326,
-        ),
-        // BYYEARDAY=-1: 2024-12-31 and 2024-12-30
-        (
-            Freq::Yearly,
-            1,
-            0,
-            [0, 0, -1, 0, 0, 0, 0],
-            any,
-            19_722,
-            20_088,
-            20_087,
-        ),
-        // BYYEARDAY=-366: 2028-01-01 and 2023-01-01
-        (
-            Freq::Yearly,
-            1,
-            0,
-            [0, 0, -366, 0, 0, 0, 0],
-            any,
-            19_723,
-            21_184,
-            19_358,
-        ),
-        // BYMONTHDAY=13;BYDAY=FR: 1998-02-13 and 1998-01-13
-        (
-            Freq::Monthly,
-            1,
-            0,
-            [0, 0, 0, 13, 0, 0, 0],
-            (0, 4),
-            10_106,
-            10_270,
-            10_239,
-        ),
-        // BYMONTHDAY=-3: 1998-02-26 and 1998-02-25
-        (
-            Freq::Monthly,
-            1,
-            0,
-            [0, 0, 0, -3, 0, 0, 0],
-            any,
-            10_132,
-            10_283,
-            10_282,
-        ),
-        // BYMONTHDAY=-3: 2024-02-27 and 2024-02-26
-        (
-            Freq::Monthly,
-            1,
-            0,
-            [0, 0, 0, -3, 0, 0, 0],
-            any,
-            10_132,
-            19_780,
-            19_779,
-        ),
-        // BYDAY=1FR: 1997-10-03 and 1997-10-10
-        (Freq::Monthly, 1, 0, none, (1, 4), 10_109, 10_137, 10_144),
-        // BYDAY=-2MO: 1997-10-20 and 1997-10-27
-        (Freq::Monthly, 1, 0, none, (-2, 0), 10_126, 10_154, 10_161),
-        // BYDAY=20MO: 1998-05-18 and 1999-05-24
-        (Freq::Yearly, 1, 0, none, (20, 0), 10_000, 10_364, 10_735),
-        // BYMONTH=4;BYDAY=1SU: 1998-04-05 and 1998-04-12
-        (
-            Freq::Yearly,
-            1,
-            0,
-            [4, 0, 0, 0, 0, 0, 0],
-            (1, 6),
-            9_957,
-            10_321,
-            10_328,
-        ),
-        // BYMONTH=10;BYDAY=-1SU: 1998-10-25 and 1998-10-18
-        (
-            Freq::Yearly,
-            1,
-            0,
-            [10, 0, 0, 0, 0, 0, 0],
-            (-1, 6),
-            10_160,
-            10_524,
-            10_517,
-        ),
-        // INTERVAL=2;BYDAY=SU, weeks from Sunday and from Monday: 1997-08-17 and 1997-08-10
-        (Freq::Weekly, 2, 6, none, (0, 6), 10_078, 10_090, 10_083),
-        (Freq::Weekly, 2, 0, none, (0, 6), 10_078, 10_083, 10_090),
-        // from the start: 29 February, the day 31, Tuesday, and the Monday of week 20
-        (Freq::Yearly, 1, 0, none, any, 19_782, 21_243, 20_147),
-        (Freq::Monthly, 1, 0, none, any, 19_753, 19_813, 19_782),
-        (Freq::Weekly, 1, 0, none, any, 10_106, 10_113, 10_114),
-        (
-            Freq::Yearly,
-            1,
-            0,
-            [0, 20, 0, 0, 0, 0, 0],
-            any,
-            9_993,
-            10_357,
-            10_358,
-        ),
-    ] {
+    for (freq, interval, week_start, numbers, item, start, yes, no) in DAYS_OF_RULES {
         let kind = Kind::Days;
         assert!(rt;
             interval > 0 && is_near(kind, start) && is_near(kind, yes) && is_near(kind, no)
@@ -254,45 +332,46 @@ fn days_of_rules(rt: HostRuntime) -> Result<(), Fail> {
     Ok(())
 }
 
+// A rule from 1997-09-02T09:00:00, a moment that is chosen, and one that is not.
+const TIMES_OF_RULES: [(Freq, u32, [i16; 7], i64, i64); 6] = [
+    // INTERVAL=3: 12:00 and 10:00
+    (Freq::Hourly, 3, NO_NUMBERS, 873_201_600, 873_194_400),
+    // INTERVAL=90: 10:30 and 10:00
+    (Freq::Minutely, 90, NO_NUMBERS, 873_196_200, 873_194_400),
+    // BYHOUR=10: 10:00 and 10:01
+    (
+        Freq::Daily,
+        1,
+        [0, 0, 0, 0, 10, 0, 0],
+        873_194_400,
+        873_194_460,
+    ),
+    // BYMINUTE=30: 09:30:00 and 09:30:01
+    (
+        Freq::Daily,
+        1,
+        [0, 0, 0, 0, 0, 30, 0],
+        873_192_600,
+        873_192_601,
+    ),
+    // BYSECOND=5: 10:00:05 and 10:00:04
+    (
+        Freq::Hourly,
+        1,
+        [0, 0, 0, 0, 0, 0, 5],
+        873_194_405,
+        873_194_404,
+    ),
+    // 1969-12-31T09:00:00 and 1970-01-01T00:00:00
+    (Freq::Daily, 1, NO_NUMBERS, -54_000, 0),
+];
+
 #[test]
 fn times_of_rules(rt: HostRuntime) -> Result<(), Fail> {
     let alloc = rt.alloc();
-    let none = [0; 7];
     // 1997-09-02T09:00:00
     let start = 873_190_800;
-    // a moment that is chosen, and one that is not
-    for (freq, interval, numbers, yes, no) in [
-        // INTERVAL=3: 12:00 and 10:00
-        (Freq::Hourly, 3, none, 873_201_600, 873_194_400),
-        // INTERVAL=90: 10:30 and 10:00
-        (Freq::Minutely, 90, none, 873_196_200, 873_194_400),
-        // BYHOUR=10: 10:00 and 10:01
-        (
-            Freq::Daily,
-            1,
-            [0, 0, 0, 0, 10, 0, 0],
-            873_194_400,
-            873_194_460,
-        ),
-        // BYMINUTE=30: 09:30:00 and 09:30:01
-        (
-            Freq::Daily,
-            1,
-            [0, 0, 0, 0, 0, 30, 0],
-            873_192_600,
-            873_192_601,
-        ),
-        // BYSECOND=5: 10:00:05 and 10:00:04
-        (
-            Freq::Hourly,
-            1,
-            [0, 0, 0, 0, 0, 0, 5],
-            873_194_405,
-            873_194_404,
-        ),
-        // 1969-12-31T09:00:00 and 1970-01-01T00:00:00
-        (Freq::Daily, 1, none, -54_000, 0),
-    ] {
+    for (freq, interval, numbers, yes, no) in TIMES_OF_RULES {
         let kind = Kind::Moments;
         assert!(rt;
             interval > 0 && is_near(kind, start) && is_near(kind, yes) && is_near(kind, no)
