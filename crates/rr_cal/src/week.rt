@@ -1,7 +1,7 @@
 // Weekdays, weeks and kinds of year.
 ghost use Rattle.std.specs.Prelude.{◌≡◌, ◌+◌, ◌/◌, ◌<◌, ◌≤◌};
 ghost use Rattle.rr_model.specs.Calendar.{days_into_year, IsDayWithin, kind_of_year, weekday_of};
-ghost use Rattle.rr_model.specs.Week.{fourth_day, last_week, week_index, week_number, week_year};
+ghost use Rattle.rr_model.specs.Calendar.Week.{fourth_day, last_week, week_index, week_number, week_year};
 
 use crate::date::{CYCLE_YEARS, Date, date_of_near, day_of_near};
 use jiff::civil;

@@ -2,7 +2,7 @@
 use Rattle.std.proofs.Common.{◌≡◌, ℕ, suc, ◌+◌, true, false, Option, None, Some, List, ◌∷◌, drop, ℤ, is_some, sym, ap, ◌∙◌, refl, arith}
 use Rattle.std.specs.Option.{option_or}
 use Rattle.std.proofs.lemmas.Bool.{false≢true}
-use Rattle.rr_model.specs.Soundness.{rule_fault, rules_fault}
+use Rattle.rr_model.specs.Series.Soundness.{rule_fault, rules_fault}
 use Rattle.rr_model.specs.declared.kind.Kind.{Kind}
 use Rattle.rr_model.specs.declared.rule.Rule.{Rule}
 

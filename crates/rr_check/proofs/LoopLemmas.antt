@@ -2,8 +2,8 @@
 use Rattle.std.proofs.Common.{◌≡◌, ℕ, ◌+◌, ◌≤◌, ◌<◌, List, ◌∷◌, length, All, drop, get_or, sym, ap, ◌∙◌, subst, arith}
 use Rattle.std.proofs.lemmas.List.{drop_more}
 use Rattle.std.proofs.lemmas.List.Elements.{All-drop, All-head, All-tail}
-use Rattle.rr_model.specs.Cycle.{lcm}
-use Rattle.rr_model.specs.SeriesCycle.{endless_cycle, rules_cycle}
+use Rattle.rr_model.specs.Whole.Divisors.{lcm}
+use Rattle.rr_model.specs.Series.Cycle.{endless_cycle, rules_cycle}
 use Rattle.rr_model.specs.declared.rule.Rule.{Rule}
 use Rattle.rr_model.proofs.DivisorLemmas.{lcm_some}
 use Rattle.rr_model.proofs.SeriesCycleLemmas.{HasInterval, endless_cycle_some, rules_cycle_some, joined-first, lcm_above}

@@ -1,8 +1,8 @@
 // The cycle of a series.
 ghost use Rattle.std.specs.Prelude.{◌≡◌, ◌≤◌, ◌<◌, All, IfErr, IfOk, SomeIff};
-ghost use Rattle.rr_model.specs.Cycle.{lcm};
-ghost use Rattle.rr_model.specs.Repetition.{ChosenRepeats};
-ghost use Rattle.rr_model.specs.SeriesCycle.{endless_cycle, rules_cycle, series_cycle};
+ghost use Rattle.rr_model.specs.Whole.Divisors.{lcm};
+ghost use Rattle.rr_model.specs.Rule.Repetition.{ChosenRepeats};
+ghost use Rattle.rr_model.specs.Series.Cycle.{endless_cycle, rules_cycle, series_cycle};
 ghost use Rattle.rr_model.specs.declared.refusal.Refusal.TheVariants.{CycleTooLong};
 
 use crate::Checked;

@@ -1,7 +1,9 @@
 // Why a series is refused: the first of its faults, rule by rule.
 ghost use Rattle.std.specs.Prelude.{◌≡◌, ◌≤◌, All, length, []};
-ghost use Rattle.rr_model.specs.RuleValidity.{IsInYears, IsValidRule, IsValidSeries};
-ghost use Rattle.rr_model.specs.Soundness.{HasNoSetPositions, choice_fault, end_fault, first_fault, rule_fault, until_fault};
+ghost use Rattle.rr_model.specs.Moment.Years.{IsInYears};
+ghost use Rattle.rr_model.specs.Rule.Validity.{IsValidRule};
+ghost use Rattle.rr_model.specs.Series.Validity.{IsValidSeries};
+ghost use Rattle.rr_model.specs.Series.Soundness.{HasNoSetPositions, choice_fault, end_fault, first_fault, rule_fault, until_fault};
 
 use rr_model::{End, Kind, Refusal, Rule, Series};
 use rr_setpos::chosen;

@@ -1,7 +1,7 @@
 // Checked series.
 ghost use Rattle.std.specs.Prelude.{◌≡◌, IfErr, IfOk, None, Some};
-ghost use Rattle.rr_model.specs.RuleValidity.{IsValidSeries};
-ghost use Rattle.rr_model.specs.Soundness.{HasNoSetPositions, IsSound, first_fault};
+ghost use Rattle.rr_model.specs.Series.Validity.{IsValidSeries};
+ghost use Rattle.rr_model.specs.Series.Soundness.{HasNoSetPositions, IsSound, first_fault};
 
 use crate::faults::first_fault;
 use rr_model::{Refusal, Series};
@@ -15,7 +15,7 @@ pub struct Checked {
 
 impl Model for Checked {
     ghost use Rattle.rr_model.specs.declared.rule.Series.{Series};
-    ghost use Rattle.rr_model.specs.Soundness.{IsSound};
+    ghost use Rattle.rr_model.specs.Series.Soundness.{IsSound};
 
     ghost Value = { Series };
 

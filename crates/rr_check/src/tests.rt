@@ -1,6 +1,7 @@
 ghost use Rattle.std.specs.Prelude.{◌≡◌, ◌≤ℤ◌, pos, [], IfOk};
-ghost use Rattle.rr_model.specs.RuleValidity.{IsValidRule, IsValidSeries};
-ghost use Rattle.rr_model.specs.Soundness.{HasNoSetPositions};
+ghost use Rattle.rr_model.specs.Rule.Validity.{IsValidRule};
+ghost use Rattle.rr_model.specs.Series.Validity.{IsValidSeries};
+ghost use Rattle.rr_model.specs.Series.Soundness.{HasNoSetPositions};
 ghost use Rattle.rr_model.specs.declared.kind.Kind.TheVariants.{Days};
 ghost use Rattle.rr_model.specs.declared.rule.End.TheVariants.{Never};
 

@@ -7,7 +7,7 @@ use Rattle.rr_cli.specs.Answer.{Answer, IsEqualSaid, IsEqualAnswer, AnswerIsOne,
 use Rattle.rr_cli.specs.Command.{equal, check}
 use Rattle.rr_model.specs.Daily.{DailySeries, IsDailyOccurrence}
 use Rattle.rr_cli.specs.DailyText.{IsDailyText, interval_part, interval_of, StatesDaily, StatesNoDate, IsDailyReading}
-use Rattle.rr_model.specs.MomentText.{basic_date}
+use Rattle.rr_model.specs.Text.Moments.{basic_date}
 use Rattle.rr_model.specs.declared.refusal.Refusal.{Refusal}
 use Rattle.rr_model.proofs.VerdictLemmas.{equal_verdict_is_one}
 

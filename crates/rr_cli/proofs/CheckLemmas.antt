@@ -1,7 +1,7 @@
 -- What `check` says of bytes, by what is read of them.
 use Rattle.std.proofs.Common.{◌≡◌, ◌↔◌, ℕ, Bool, true, false, List, refl}
 use Rattle.std.specs.Prelude.{IsTrue, Result}
-use Rattle.rr_model.specs.Reads.{is_plain_text, reads}
+use Rattle.rr_model.specs.Text.Rules.{is_plain_text, reads}
 use Rattle.rr_model.specs.declared.refusal.Refusal.{Refusal}
 use Rattle.rr_model.specs.declared.refusal.Refusal.TheVariants.{NotBuilt}
 use Rattle.rr_model.specs.declared.rule.Series.{Series}

@@ -4,7 +4,7 @@ use Rattle.std.specs.Prelude.{codes, IsTrue}
 use Rattle.std.specs.List.{list_all}
 use Rattle.std.proofs.Math.Seq.{take-append_seam, drop-append_seam}
 use Rattle.std.proofs.lemmas.List.{append_cancel_left}
-use Rattle.rr_model.specs.Digits.{is_digit}
+use Rattle.rr_model.specs.Text.Digits.{is_digit}
 use Rattle.rr_cli.specs.DailyText.{IsDailyText, IsIntervalText, interval_part}
 
 -- what stands behind the digits of the start

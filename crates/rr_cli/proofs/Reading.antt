@@ -5,7 +5,8 @@ use Rattle.std.specs.Prelude.{Result, Ok, Err}
 use Rattle.rr_model.specs.Daily.{DailySeries}
 use Rattle.rr_cli.specs.DailyText.{IsDailyText, StatesDaily, StatesNoDate, interval_of}
 use Rattle.rr_model.specs.Moment.{day_part}
-use Rattle.rr_model.specs.MomentText.{basic, basic_date, date_stamp, HasFourDigitYear}
+use Rattle.rr_model.specs.Text.Moments.{basic, basic_date, date_stamp}
+use Rattle.rr_model.specs.Moment.Years.{HasFourDigitYear}
 use Rattle.rr_model.specs.declared.kind.Kind.{Kind}
 use Rattle.rr_model.specs.declared.kind.Kind.TheVariants.{Days}
 use Rattle.rr_model.specs.declared.stamp.Stamp.{Stamp}

@@ -6,13 +6,13 @@ use Rattle.std.specs.List.{list_any}
 use Rattle.rr_cli.specs.Command.{Command, equal, check}
 use Rattle.rr_model.specs.Daily.{DailySeries, IsDailyOccurrence}
 use Rattle.rr_cli.specs.DailyText.{IsDailyReading}
-use Rattle.rr_model.specs.MomentText.{extended_text}
-use Rattle.rr_model.specs.Reads.{is_plain_text, reads}
-use Rattle.rr_model.specs.RefusalText.{refusal_text}
-use Rattle.rr_model.specs.RuleValidity.{is_absent}
-use Rattle.rr_model.specs.SeriesCycle.{series_cycle}
-use Rattle.rr_model.specs.Soundness.{first_fault}
-use Rattle.rr_model.specs.Verdict.{IsEqualVerdict}
+use Rattle.rr_model.specs.Text.Moments.{extended_text}
+use Rattle.rr_model.specs.Text.Rules.{is_plain_text, reads}
+use Rattle.rr_model.specs.Text.Refusals.{refusal_text}
+use Rattle.rr_model.specs.Rule.Validity.{is_absent}
+use Rattle.rr_model.specs.Series.Cycle.{series_cycle}
+use Rattle.rr_model.specs.Series.Soundness.{first_fault}
+use Rattle.rr_model.specs.Sets.Verdict.{IsEqualVerdict}
 use Rattle.rr_cli.specs.declared.conclusion.Conclusion.{Conclusion}
 use Rattle.rr_cli.specs.declared.conclusion.Conclusion.TheVariants as conclusion
 use Rattle.rr_model.specs.declared.limits.TheConstants.{MAX_CYCLE_DAYS}

@@ -2,8 +2,8 @@
 use Rattle.std.specs.Prelude.{◌≡◌, ◌⊎◌, ℕ, ◌≤◌, IsTrue, List, [], ◌∷◌, ◌++◌, length, codes, Some, None, Result, Ok, Err}
 use Rattle.std.specs.List.{list_all}
 use Rattle.rr_model.specs.Daily.{DailySeries}
-use Rattle.rr_model.specs.Digits.{is_digit, digits_value}
-use Rattle.rr_model.specs.MomentText.{basic_date}
+use Rattle.rr_model.specs.Text.Digits.{is_digit, digits_value}
+use Rattle.rr_model.specs.Text.Moments.{basic_date}
 use Rattle.rr_model.specs.declared.refusal.Refusal.{Refusal}
 use Rattle.rr_model.specs.declared.refusal.Refusal.TheVariants.{BadMoment, NotBuilt}
 

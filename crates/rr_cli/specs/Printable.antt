@@ -2,7 +2,7 @@
 use Rattle.std.specs.Prelude.{ℤ}
 use Rattle.rr_model.specs.Calendar.{IsDayWithin}
 use Rattle.rr_model.specs.Moment.{day_part}
-use Rattle.rr_model.specs.MomentText.{IsFromYearOne}
+use Rattle.rr_model.specs.Moment.Years.{IsFromYearOne}
 use Rattle.rr_model.specs.declared.kind.Kind.{Kind}
 use Rattle.rr_model.specs.declared.verdict.Verdict.{Verdict}
 use Rattle.rr_model.specs.declared.verdict.Verdict.TheVariants.{Yes, No}

@@ -1,8 +1,8 @@
 // What `check` says of an operand.
 ghost use Rattle.std.specs.Prelude.{◌≡◌, ◌≢◌, IfOk, Ok, true, false};
-ghost use Rattle.rr_model.specs.Reads.{is_plain_text, reads};
-ghost use Rattle.rr_model.specs.RuleValidity.{IsValidSeries};
-ghost use Rattle.rr_model.specs.SeriesCycle.{series_cycle};
+ghost use Rattle.rr_model.specs.Text.Rules.{is_plain_text, reads};
+ghost use Rattle.rr_model.specs.Series.Validity.{IsValidSeries};
+ghost use Rattle.rr_model.specs.Series.Cycle.{series_cycle};
 ghost use Rattle.rr_cli.specs.Answer.{check_answer, cycle_said, has_set_positions, series_said};
 ghost use Rattle.rr_cli.specs.Outcome.{answer_of};
 

@@ -1,7 +1,7 @@
 // Reads the text of a daily series.
 ghost use Rattle.std.specs.Prelude.{◌≡◌, ◌≢◌, ◌++◌, ◌∷◌, [], ◌≤◌, ℕ, List, MatchOption, length};
 ghost use Rattle.std.specs.List.{list_all};
-ghost use Rattle.rr_model.specs.Digits.{is_digit, digits_value};
+ghost use Rattle.rr_model.specs.Text.Digits.{is_digit, digits_value};
 ghost use Rattle.rr_cli.specs.DailyText.{IsDailyText, IsIntervalText, IsDailyReading, interval_part, interval_of};
 ghost use Rattle.rr_cli.specs.Series.{reading_of};
 

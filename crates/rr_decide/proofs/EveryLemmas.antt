@@ -1,7 +1,7 @@
 -- What the tests' sets meet.
 use Rattle.std.proofs.Common.{ℕ, ◌/◌, ◌≤◌, arith}
 use Rattle.std.proofs.Math.Nat.{div-le_self, le_trans, mul-le-mul}
-use Rattle.rr_model.specs.Cycle.{gcd, lcm}
+use Rattle.rr_model.specs.Whole.Divisors.{gcd, lcm}
 
 -- the least common multiple of two small periods is within the limit
 pub lcm_small : (p r : ℕ) → p ≤ 1_000 → r ≤ 1_000 → lcm p r ≤ 16_777_216

@@ -1,8 +1,8 @@
 -- What each question asks of two sketches.
 use Rattle.std.proofs.Common.{◌↔◌, ◌⊎◌, inl, inr, refl}
 use Rattle.std.proofs.lemmas.Bool.{false≢true}
-use Rattle.rr_model.specs.Sketch.{StandsIn}
-use Rattle.rr_model.specs.Verdict.{IsEqualVerdict, IsWithinVerdict, IsDisjointVerdict}
+use Rattle.rr_model.specs.Sets.Sketch.{StandsIn}
+use Rattle.rr_model.specs.Sets.Verdict.{IsEqualVerdict, IsWithinVerdict, IsDisjointVerdict}
 use Rattle.rr_model.specs.declared.sketch.Sketch.{Sketch}
 use Rattle.rr_model.specs.declared.verdict.Side.TheVariants.{A, B, Both}
 use Rattle.rr_model.specs.declared.verdict.Verdict.{Verdict}

@@ -5,8 +5,8 @@ use Rattle.std.specs.Prelude.{IsTrue, nat_lt, Some}
 use Rattle.std.proofs.lemmas.Int.{by_lt_z}
 use Rattle.rr_model.specs.Moment.{Before, day_part, second_part, moment_at}
 use Rattle.rr_model.specs.Rising.{Rises}
-use Rattle.rr_model.specs.Sketch.{IsValidSketch, IsEmptySketch, IsFirstDay, StandsIn, times_on}
-use Rattle.rr_model.specs.Verdict.{HoldsOn}
+use Rattle.rr_model.specs.Sets.Sketch.{IsValidSketch, IsEmptySketch, IsFirstDay, StandsIn, times_on}
+use Rattle.rr_model.specs.Sets.Verdict.{HoldsOn}
 use Rattle.rr_model.specs.declared.kind.Kind.{Kind}
 use Rattle.rr_model.specs.declared.kind.Kind.TheVariants.{Days, Moments}
 use Rattle.rr_model.specs.declared.sketch.Sketch.{Sketch}

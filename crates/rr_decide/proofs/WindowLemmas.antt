@@ -4,10 +4,10 @@ use Rattle.std.specs.List.{Contains}
 use Rattle.std.specs.Prelude.{nat_lt}
 use Rattle.std.proofs.lemmas.Bool.{false≢true}
 use Rattle.std.proofs.lemmas.Int.{ints, by_lt_z}
-use Rattle.rr_model.specs.Cycle.{lcm}
+use Rattle.rr_model.specs.Whole.Divisors.{lcm}
 use Rattle.rr_model.specs.Rising.{Rises}
-use Rattle.rr_model.specs.Sketch.{IsValidSketch, times_on}
-use Rattle.rr_model.specs.SketchLaws.{IsCommonMultiple}
+use Rattle.rr_model.specs.Sets.Sketch.{IsValidSketch, times_on}
+use Rattle.rr_model.specs.Sets.SketchLaws.{IsCommonMultiple}
 use Rattle.rr_model.specs.declared.sketch.Sketch.{Sketch}
 use Rattle.rr_model.specs.declared.verdict.Side.{Side}
 use Rattle.rr_model.specs.declared.verdict.Side.TheVariants.{A, B, Both}

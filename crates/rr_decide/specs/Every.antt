@@ -6,7 +6,7 @@ use Rattle.std.proofs.Common.{ap, ◌∙◌, cond, length, arith}
 use Rattle.std.proofs.lemmas.Int.{ints, by_lt_z}
 use native.Mathlib.Nat.{zero-mod}
 use Rattle.std.proofs.lemmas.List.Elements.{All-nil, All-cons}
-use Rattle.rr_model.specs.Sketch.{HasRisingDays, IsDaySequence, IsFirstDay, IsNearDay, IsTimeSet, times_on}
+use Rattle.rr_model.specs.Sets.Sketch.{HasRisingDays, IsDaySequence, IsFirstDay, IsNearDay, IsTimeSet, times_on}
 use Rattle.rr_model.specs.declared.kind.Kind.{Kind}
 use Rattle.rr_model.specs.declared.kind.Kind.TheVariants.{Days, Moments}
 use Rattle.rr_model.specs.declared.sketch.DayShape.{DayShape}

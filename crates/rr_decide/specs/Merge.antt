@@ -2,7 +2,7 @@
 use Rattle.std.specs.Prelude.{◌↔◌, Bool, true, false, ℕ, ◌+◌, ◌<◌, List, [], ◌∷◌, length, nat_lt}
 use Rattle.std.specs.List.{Contains}
 use Rattle.rr_model.specs.Rising.{Rises}
-use Rattle.rr_model.specs.Verdict.{HoldsOn}
+use Rattle.rr_model.specs.Sets.Verdict.{HoldsOn}
 use Rattle.rr_model.specs.declared.verdict.Side.{Side}
 
 -- the first second of a list lies below those of another

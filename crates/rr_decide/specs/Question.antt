@@ -2,8 +2,8 @@
 use Rattle.std.specs.Prelude.{Bool, true, false, IsTrue, ℕ, ◌<◌, ℤ, pos, ◌+ℤ◌, ◌≤ℤ◌, ◌<ℤ◌, List, [], ◌≡◌}
 use Rattle.std.specs.List.{Contains}
 use Rattle.rr_model.specs.Moment.{Before, Occurrences}
-use Rattle.rr_model.specs.Sketch.{StandsIn, times_on}
-use Rattle.rr_model.specs.Verdict.{HoldsOn}
+use Rattle.rr_model.specs.Sets.Sketch.{StandsIn, times_on}
+use Rattle.rr_model.specs.Sets.Verdict.{HoldsOn}
 use Rattle.rr_model.specs.declared.kind.Kind.{Kind}
 use Rattle.rr_model.specs.declared.sketch.Sketch.{Sketch}
 use Rattle.rr_model.specs.declared.verdict.Side.{Side}

@@ -1,6 +1,6 @@
 // A walk over the days of two sequences.
 ghost use Rattle.std.specs.Prelude.{◌≡◌, ◌≤◌, IfSome, IfNone, pos, ◌+ℤ◌, ◌≤ℤ◌};
-ghost use Rattle.rr_model.specs.Sketch.{IsNearDay, StandsIn};
+ghost use Rattle.rr_model.specs.Sets.Sketch.{IsNearDay, StandsIn};
 ghost use Rattle.rr_decide.specs.Question.{AreApart, HasNoneBefore, IsFirstDayShown, ShowsNoneWithin, shown_by};
 
 use crate::merge::first_shown;

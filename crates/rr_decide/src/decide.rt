@@ -1,8 +1,8 @@
 // The three verdicts on two sequences.
 ghost use Rattle.std.specs.Prelude.{◌≡◌, ◌≤◌};
-ghost use Rattle.rr_model.specs.Cycle.{lcm};
-ghost use Rattle.rr_model.specs.Sketch.{StandsIn};
-ghost use Rattle.rr_model.specs.Verdict.{IsDisjointVerdict, IsEqualVerdict, IsWithinVerdict};
+ghost use Rattle.rr_model.specs.Whole.Divisors.{lcm};
+ghost use Rattle.rr_model.specs.Sets.Sketch.{StandsIn};
+ghost use Rattle.rr_model.specs.Sets.Verdict.{IsDisjointVerdict, IsEqualVerdict, IsWithinVerdict};
 
 use crate::question::Question;
 use crate::verdicts::verdict;

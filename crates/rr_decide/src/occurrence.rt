@@ -1,7 +1,7 @@
 // Occurrences of both kinds in one order.
 ghost use Rattle.std.specs.Prelude.{◌≡◌, ◌↔◌, IsTrue, IfSome, MatchOption, pos, neg_ℤ, ◌≤ℤ◌};
 ghost use Rattle.rr_model.specs.Moment.{Before, moment_at};
-ghost use Rattle.rr_model.specs.Sketch.{IsEmptySketch};
+ghost use Rattle.rr_model.specs.Sets.Sketch.{IsEmptySketch};
 ghost use Rattle.rr_model.specs.declared.verdict.Verdict.TheVariants.{No};
 ghost use Rattle.rr_decide.specs.Occurrence.{IsNearOccurrence};
 ghost use Rattle.rr_decide.specs.Question.{IsFirstOccurrence};

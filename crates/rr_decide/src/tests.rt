@@ -1,6 +1,6 @@
 // The verdicts on small sets: every so many days from a start.
 ghost use Rattle.std.specs.Prelude.{◌≤◌};
-ghost use Rattle.rr_model.specs.Sketch.{IsNearDay};
+ghost use Rattle.rr_model.specs.Sets.Sketch.{IsNearDay};
 
 use crate::{disjoint, equal, within};
 use rr_model::{Kind, Side, Verdict};

@@ -1,6 +1,6 @@
 // The verdict on two sequences, for one question.
 ghost use Rattle.std.specs.Prelude.{◌≡◌, ◌≤◌, IsTrue, IfSome, MatchOption};
-ghost use Rattle.rr_model.specs.Sketch.{IsEmptySketch, IsNearDay, StandsIn};
+ghost use Rattle.rr_model.specs.Sets.Sketch.{IsEmptySketch, IsNearDay, StandsIn};
 ghost use Rattle.rr_decide.specs.Occurrence.{IsNearOccurrence};
 ghost use Rattle.rr_decide.specs.Question.{AreApart, HasNoneBefore, IsFirstOccurrence, IsVerdictBy, IsWindow, shown_by};
 

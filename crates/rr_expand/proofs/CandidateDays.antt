@@ -2,8 +2,8 @@
 use Rattle.std.proofs.Common.{◌≡◌, ℕ, Bool, true, false, ◌&&◌, List, ℤ, pos, ◌+ℤ◌, ◌-ℤ◌, ap, ◌∙◌}
 use Rattle.std.specs.Prelude.{IsTrue, int_lt}
 use Rattle.rr_model.specs.Whole.{divides}
-use Rattle.rr_model.specs.Units.{unit_number, unit_start}
-use Rattle.rr_model.specs.RisingSet.{IsSetOf}
+use Rattle.rr_model.specs.Moment.Units.{unit_number, unit_start}
+use Rattle.rr_model.specs.Rising.Sets.{IsSetOf}
 use Rattle.rr_model.specs.declared.kind.Kind.TheVariants.{Days}
 use Rattle.rr_model.specs.declared.rule.Rule.{Rule}
 use Rattle.rr_model.proofs.RisingSetLemmas.{set_same}

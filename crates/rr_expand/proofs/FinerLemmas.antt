@@ -7,10 +7,10 @@ use Rattle.std.proofs.Math.Nat.{div-mul-le_self}
 use Rattle.std.proofs.lemmas.Bool.{cases_lt, false≢true}
 use Rattle.rr_model.specs.Whole.{floor_div, floor_mod, divides}
 use Rattle.rr_model.specs.Moment.{day_part, moment_at}
-use Rattle.rr_model.specs.Units.{unit_number}
-use Rattle.rr_model.specs.RisingSet.{IsSetOf}
-use Rattle.rr_model.specs.Filled.{hour_of, minute_of, second_of, filled}
-use Rattle.rr_model.specs.Candidate.{interval_holds, date_parts_hold, is_candidate}
+use Rattle.rr_model.specs.Moment.Units.{unit_number}
+use Rattle.rr_model.specs.Rising.Sets.{IsSetOf}
+use Rattle.rr_model.specs.Rule.Filled.{hour_of, minute_of, second_of, filled}
+use Rattle.rr_model.specs.Rule.Candidate.{interval_holds, date_parts_hold, is_candidate}
 use Rattle.rr_model.specs.declared.kind.Kind.TheVariants.{Days, Moments}
 use Rattle.rr_model.specs.declared.rule.Freq.{Freq}
 use Rattle.rr_model.specs.declared.rule.Freq.TheVariants.{Secondly, Minutely, Hourly, Daily, Weekly, Monthly, Yearly}

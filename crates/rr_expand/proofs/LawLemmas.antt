@@ -1,10 +1,10 @@
 -- A rule of whole days has a candidate where the day and the second are candidates.
 use Rattle.std.proofs.Common.{◌≡◌, ℕ, ◌<◌, true, ℤ, pos, refl, sym, ap, ◌∙◌}
 use Rattle.rr_model.specs.Moment.{day_part, moment_at}
-use Rattle.rr_model.specs.Units.{unit_number}
-use Rattle.rr_model.specs.RuleValidity.{takes_start}
-use Rattle.rr_model.specs.Filled.{filled}
-use Rattle.rr_model.specs.Candidate.{time_parts_hold, is_candidate}
+use Rattle.rr_model.specs.Moment.Units.{unit_number}
+use Rattle.rr_model.specs.Rule.Validity.{takes_start}
+use Rattle.rr_model.specs.Rule.Filled.{filled}
+use Rattle.rr_model.specs.Rule.Candidate.{time_parts_hold, is_candidate}
 use Rattle.rr_model.specs.declared.kind.Kind.{Kind}
 use Rattle.rr_model.specs.declared.kind.Kind.TheVariants.{Days, Moments}
 use Rattle.rr_model.specs.declared.rule.Freq.{Freq}

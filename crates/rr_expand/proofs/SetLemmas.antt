@@ -4,7 +4,7 @@ use Rattle.std.specs.Prelude.{◌⊎◌, IsTrue, nat_lt, Result, Ok, Err, IfOk}
 use Rattle.std.proofs.lemmas.Bool.{cases_lt, false≢true}
 use Rattle.std.proofs.lemmas.Bool.Decides.{nat_tests}
 use Rattle.std.proofs.lemmas.List.Elements.{Contains-get_or}
-use Rattle.rr_model.specs.RisingSet.{IsSetOf}
+use Rattle.rr_model.specs.Rising.Sets.{IsSetOf}
 use Rattle.rr_model.proofs.RisingSetLemmas.{set_same, set_push, set_empty}
 
 module _ (test : ℕ → Bool) where

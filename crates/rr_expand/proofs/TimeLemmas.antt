@@ -3,9 +3,9 @@ use Rattle.std.proofs.Common.{◌≡◌, ℕ, ◌/◌, ◌%◌, ◌<◌, Bool, t
 use Rattle.std.specs.Prelude.{IsTrue, nat_lt}
 use Rattle.std.proofs.lemmas.List.Elements.{Contains-get_or}
 use Rattle.rr_model.specs.Moment.{second_part, moment_at}
-use Rattle.rr_model.specs.RisingSet.{IsSetOf, IsSecondsOfDay}
-use Rattle.rr_model.specs.Filled.{hour_of, minute_of, second_of, wants_hour, wants_minute, wants_second, filled_part, filled}
-use Rattle.rr_model.specs.Candidate.{allows, time_parts_hold}
+use Rattle.rr_model.specs.Rising.Sets.{IsSetOf, IsSecondsOfDay}
+use Rattle.rr_model.specs.Rule.Filled.{hour_of, minute_of, second_of, wants_hour, wants_minute, wants_second, filled_part, filled}
+use Rattle.rr_model.specs.Rule.Candidate.{allows, time_parts_hold}
 use Rattle.rr_model.specs.declared.kind.Kind.TheVariants.{Moments}
 use Rattle.rr_model.specs.declared.rule.Freq.{Freq}
 use Rattle.rr_model.specs.declared.rule.Freq.TheVariants.{Secondly, Minutely, Hourly, Daily, Weekly, Monthly, Yearly}

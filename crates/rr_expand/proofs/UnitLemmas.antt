@@ -6,8 +6,8 @@ use Rattle.std.proofs.lemmas.Int.{ints}
 use Rattle.std.proofs.lemmas.Bool.{cases_lt}
 use Rattle.rr_model.specs.Whole.{floor_div, floor_mod}
 use Rattle.rr_model.specs.Calendar.{IsDayWithin, first_day_of_year, days_of_months, month_length, year_length}
-use Rattle.rr_model.specs.Week.{fourth_day}
-use Rattle.rr_model.specs.Units.{first_day_of_month, unit_number, unit_start}
+use Rattle.rr_model.specs.Calendar.Week.{fourth_day}
+use Rattle.rr_model.specs.Moment.Units.{first_day_of_month, unit_number, unit_start}
 use Rattle.rr_model.specs.declared.kind.Kind.TheVariants.{Days}
 use Rattle.rr_model.specs.declared.rule.Freq.{Freq}
 use Rattle.rr_model.specs.declared.rule.Freq.TheVariants.{Secondly, Minutely, Hourly, Daily, Weekly, Monthly, Yearly}

@@ -1,9 +1,9 @@
 -- The candidates of one unit of a rule: its days, and the seconds of a day (RFC 5545, section 3.3.10).
 use Rattle.std.specs.Prelude.{◌≡◌, ℕ, ◌<◌, Bool, true, false, ◌&&◌, IsTrue, ℤ, pos, neg_ℤ, ◌+ℤ◌, ◌≤ℤ◌, ◌<ℤ◌}
 use Rattle.rr_model.specs.Moment.{day_part, moment_at}
-use Rattle.rr_model.specs.Units.{unit_number}
-use Rattle.rr_model.specs.Filled.{filled}
-use Rattle.rr_model.specs.Candidate.{interval_holds, date_parts_hold, time_parts_hold, is_candidate}
+use Rattle.rr_model.specs.Moment.Units.{unit_number}
+use Rattle.rr_model.specs.Rule.Filled.{filled}
+use Rattle.rr_model.specs.Rule.Candidate.{interval_holds, date_parts_hold, time_parts_hold, is_candidate}
 use Rattle.rr_model.specs.declared.kind.Kind.{Kind}
 use Rattle.rr_model.specs.declared.kind.Kind.TheVariants.{Days, Moments}
 use Rattle.rr_model.specs.declared.rule.Freq.{Freq}

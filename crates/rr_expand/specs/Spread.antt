@@ -1,6 +1,6 @@
 -- The seconds that hours, minutes and seconds name together.
 use Rattle.std.specs.Prelude.{ℕ, ◌+◌, ◌*◌, ◌/◌, ◌%◌, ◌&&◌, if◌then◌else◌, List, [], ◌∷◌, ◌++◌, pos}
-use Rattle.rr_model.specs.Candidate.{allows}
+use Rattle.rr_model.specs.Rule.Candidate.{allows}
 use Rattle.rr_model.specs.declared.rule.Freq.{Freq}
 use Rattle.rr_model.specs.declared.rule.Freq.TheVariants.{Minutely, Hourly}
 use Rattle.rr_model.specs.declared.rule.Rule.{Rule}

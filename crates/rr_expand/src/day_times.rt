@@ -1,6 +1,6 @@
 // The seconds of each candidate day of a rule whose units are whole days.
 ghost use Rattle.std.specs.Prelude.{IfOk, IsTrue, nat_lt};
-ghost use Rattle.rr_model.specs.RisingSet.{IsSetOf};
+ghost use Rattle.rr_model.specs.Rising.Sets.{IsSetOf};
 ghost use Rattle.rr_model.specs.declared.kind.Kind.TheVariants.{Moments};
 ghost use Rattle.rr_expand.specs.Expansion.{IsCandidateTime, is_of_days};
 

@@ -2,7 +2,7 @@
 ghost use Rattle.std.specs.Prelude.{◌≡◌, ◌≤◌, IfOk, false, nat_lt};
 ghost use Rattle.rr_model.specs.Calendar.{IsDayWithin};
 ghost use Rattle.rr_model.specs.Moment.{day_part};
-ghost use Rattle.rr_model.specs.RisingSet.{IsSetOf};
+ghost use Rattle.rr_model.specs.Rising.Sets.{IsSetOf};
 ghost use Rattle.rr_model.specs.declared.kind.Kind.TheVariants.{Moments};
 ghost use Rattle.rr_expand.specs.Expansion.{IsCandidateSecond, IsFittingSecond, is_of_days};
 

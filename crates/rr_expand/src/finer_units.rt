@@ -2,7 +2,7 @@
 ghost use Rattle.std.specs.Prelude.{◌≡◌, ◌≤◌, ◌<◌, ◌/◌, ◌++◌, ◌-ℤ◌, All, OnOk, false, pos, ℕ};
 ghost use Rattle.rr_model.specs.Calendar.{IsDayWithin};
 ghost use Rattle.rr_model.specs.Moment.{day_part, moment_at};
-ghost use Rattle.rr_model.specs.Units.{unit_number};
+ghost use Rattle.rr_model.specs.Moment.Units.{unit_number};
 ghost use Rattle.rr_model.specs.Whole.{floor_mod};
 ghost use Rattle.rr_model.specs.declared.kind.Kind.TheVariants.{Moments};
 ghost use Rattle.rr_expand.specs.Expansion.{IsUnitNear, is_of_days, unit_seconds};

@@ -1,7 +1,7 @@
 ghost use Rattle.std.specs.Prelude.{◌≡◌, ◌≤◌, ℕ, IfOk, IsTrue, false, pos, ◌+ℤ◌};
 ghost use Rattle.rr_model.specs.Calendar.{IsDayWithin};
 ghost use Rattle.rr_model.specs.Moment.{day_part};
-ghost use Rattle.rr_model.specs.Units.{unit_start};
+ghost use Rattle.rr_model.specs.Moment.Units.{unit_start};
 ghost use Rattle.rr_model.specs.declared.kind.Kind.TheVariants.{Days, Moments};
 ghost use Rattle.rr_expand.specs.Expansion.{is_of_days};
 

@@ -1,8 +1,8 @@
 // The time parts of a rule, filled from its start (RFC 5545, section 3.3.10).
 ghost use Rattle.std.specs.Prelude.{◌≡◌, ◌<◌, ◌≤◌, IfOk, IsTrue, nat_lt, pos};
-ghost use Rattle.rr_model.specs.Candidate.{allows};
-ghost use Rattle.rr_model.specs.Filled.{filled_part};
-ghost use Rattle.rr_model.specs.RisingSet.{IsSetOf};
+ghost use Rattle.rr_model.specs.Rule.Candidate.{allows};
+ghost use Rattle.rr_model.specs.Rule.Filled.{filled_part};
+ghost use Rattle.rr_model.specs.Rising.Sets.{IsSetOf};
 
 use rr_model::Numbers;
 use rr_setpos::allows_filled;

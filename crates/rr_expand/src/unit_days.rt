@@ -1,8 +1,8 @@
 // The candidate days of a unit of whole days.
 ghost use Rattle.std.specs.Prelude.{◌≤◌, ◌+ℤ◌, IfOk, IsTrue, int_lt, pos};
 ghost use Rattle.rr_model.specs.Calendar.{IsDayWithin};
-ghost use Rattle.rr_model.specs.RisingSet.{IsSetOf};
-ghost use Rattle.rr_model.specs.Units.{unit_start};
+ghost use Rattle.rr_model.specs.Rising.Sets.{IsSetOf};
+ghost use Rattle.rr_model.specs.Moment.Units.{unit_start};
 ghost use Rattle.rr_model.specs.declared.kind.Kind.TheVariants.{Days};
 ghost use Rattle.rr_expand.specs.Expansion.{IsAllowedDay, IsCandidateDay, is_of_days};
 

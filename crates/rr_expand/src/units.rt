@@ -1,8 +1,8 @@
 // Units of whole days and the interval between them (RFC 5545, section 3.3.10, FREQ, INTERVAL and WKST).
 ghost use Rattle.std.specs.Prelude.{◌≡◌, ◌≤◌, ◌+◌, ◌-ℤ◌, ◌+ℤ◌, IsTrue, pos, ℕ};
 ghost use Rattle.rr_model.specs.Calendar.{IsDayWithin};
-ghost use Rattle.rr_model.specs.Units.{first_day_of_month, unit_number, unit_start};
-ghost use Rattle.rr_model.specs.Week.{fourth_day};
+ghost use Rattle.rr_model.specs.Moment.Units.{first_day_of_month, unit_number, unit_start};
+ghost use Rattle.rr_model.specs.Calendar.Week.{fourth_day};
 ghost use Rattle.rr_model.specs.Whole.{divides, floor_mod};
 ghost use Rattle.rr_model.specs.declared.kind.Kind.TheVariants.{Days};
 ghost use Rattle.rr_expand.specs.Expansion.{is_of_days};

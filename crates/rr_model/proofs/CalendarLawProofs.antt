@@ -3,8 +3,8 @@ use Rattle.std.proofs.Common.{◌≡◌, ℕ, ◌+◌, ◌/◌, cond, ℤ, pos, 
 use Rattle.std.proofs.lemmas.Int.{ints}
 use Rattle.rr_model.specs.Whole.{floor_div}
 use Rattle.rr_model.specs.Calendar.{is_leap, first_day_of_year, day_number, year_of, days_into_year, weekday_of, kind_of_year}
-use Rattle.rr_model.specs.Week.{week_index, fourth_day, week_year, week_number, last_week}
-use Rattle.rr_model.specs.CalendarLaws.{DatesAndDaysAreInverse, later_day, later_year, later_week, CalendarRepeats}
+use Rattle.rr_model.specs.Calendar.Week.{week_index, fourth_day, week_year, week_number, last_week}
+use Rattle.rr_model.specs.Calendar.Laws.{DatesAndDaysAreInverse, later_day, later_year, later_week, CalendarRepeats}
 use Rattle.rr_model.proofs.FloorLemmas.{floor_div-add}
 use Rattle.rr_model.proofs.CalendarLemmas.{IsDate-year_of, day_number-year_of, year_of-day_number, month_of-day_number, day_of_month-day_number}
 use Rattle.rr_model.proofs.CycleLemmas.{is_leap-cycle, month_length-cycle, first_day_of_year-cycle, day_number-cycle, year_of-cycle, days_into_year-cycle, month_of-cycle, day_of_month-cycle, day_of_year-cycle, weekday_of-cycle}

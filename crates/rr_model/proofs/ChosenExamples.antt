@@ -1,10 +1,10 @@
 -- Worked rules against the definitions, most from RFC 5545, section 3.8.5.3.
 use Rattle.std.proofs.Common.{◌≡◌, ℕ, true, false, [], ◌∷◌, ℤ, pos, negsuc, refl, ◌+ℤ◌, ◌*ℤ◌}
 use Rattle.rr_model.specs.Calendar.{days_of_months, first_day_of_year, day_number, year_of, days_into_year, months_over, month_of, day_of_month, day_of_year, weekday_of}
-use Rattle.rr_model.specs.Week.{week_index, fourth_day, week_year, week_number, last_week}
-use Rattle.rr_model.specs.Count.{count_from}
-use Rattle.rr_model.specs.Candidate.{is_candidate}
-use Rattle.rr_model.specs.Chosen.{is_chosen, members_to}
+use Rattle.rr_model.specs.Calendar.Week.{week_index, fourth_day, week_year, week_number, last_week}
+use Rattle.rr_model.specs.Whole.Count.{count_from}
+use Rattle.rr_model.specs.Rule.Candidate.{is_candidate}
+use Rattle.rr_model.specs.Rule.Chosen.{is_chosen, members_to}
 use Rattle.rr_model.specs.declared.kind.Kind.TheVariants.{Days, Moments}
 use Rattle.rr_model.specs.declared.rule.DayItem.{DayItem}
 use Rattle.rr_model.specs.declared.rule.Freq.{Freq}

@@ -1,7 +1,7 @@
 -- Counts over stretches of whole numbers.
 use Rattle.std.proofs.Common.{◌≡◌, ℕ, zero, suc, ◌+◌, Bool, cond, ℤ, pos, ◌+ℤ◌, refl, sym, ap, ◌∙◌, arith}
 use Rattle.std.proofs.lemmas.Int.{ints}
-use Rattle.rr_model.specs.Count.{count_from}
+use Rattle.rr_model.specs.Whole.Count.{count_from}
 
 -- 1 for true
 abbrev pub one : Bool → ℕ

@@ -5,9 +5,9 @@ use Rattle.std.proofs.lemmas.Int.{ints, by_lt_z}
 use Rattle.std.proofs.lemmas.Bool.{false≢true}
 use Rattle.rr_model.specs.Whole.{floor_mod}
 use Rattle.rr_model.specs.Moment.{Before}
-use Rattle.rr_model.specs.Periodic.{RepeatsFrom, AgreeOn}
+use Rattle.rr_model.specs.Whole.Periodic.{RepeatsFrom, AgreeOn}
 use Rattle.rr_model.specs.Daily.{DailySeries, has_day, IsDailyOccurrence, side_of, IsFirstDifference}
-use Rattle.rr_model.specs.Verdict.{IsEqualVerdict, HoldsOnlyOf}
+use Rattle.rr_model.specs.Sets.Verdict.{IsEqualVerdict, HoldsOnlyOf}
 use Rattle.rr_model.specs.declared.kind.Kind.{Kind}
 use Rattle.rr_model.specs.declared.kind.Kind.TheVariants.{Days, Moments}
 use Rattle.rr_model.specs.declared.verdict.Side.{Side}

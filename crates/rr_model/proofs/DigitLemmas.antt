@@ -9,7 +9,7 @@ use Rattle.std.proofs.lemmas.List.{get_or-take}
 use Rattle.std.proofs.lemmas.List.Folds.{length-prefix_len}
 use Rattle.std.proofs.lemmas.List.Sums.{prefix_len_passes}
 use Rattle.std.proofs.lemmas.Str.Parse.{digits_value-take-le}
-use Rattle.rr_model.specs.Digits.{is_digit, digits_value, leading_digits}
+use Rattle.rr_model.specs.Text.Digits.{is_digit, digits_value, leading_digits}
 
 pub is_digit_bounds : (b : ℕ) → is_digit b ≡ true → (48 ≤ b) × (b ≤ 57)
 is_digit_bounds b h = grind (arith, nat_tests)

@@ -6,7 +6,7 @@ use Rattle.std.specs.Int.{IsGcd}
 use Rattle.std.proofs.lemmas.Nat.{mod_below, mod-mul-add, div-add-mod'}
 use Rattle.std.proofs.lemmas.Nat.Gcd.{IsGcd-from_zero, IsGcd-from_mod, same_from_IsGcd, le_of_dvd, dvd-zero}
 use Rattle.std.proofs.Math.Nat.{mul-dvd-mul_left, mul-dvd-mul_right, dvd_of_mul-dvd-mul_left, dvd-mul_left, dvd-mul_right, pos_of_dvd_of_pos, div-mul_cancel, mul_comm, mul_assoc, mul_left_comm, mul-add, mul-lt-mul_of_pos_left, mul-zero, mul-pos, one-mul}
-use Rattle.rr_model.specs.Cycle.{gcd_within, gcd, lcm, IsLcm, NoMultipleWithin}
+use Rattle.rr_model.specs.Whole.Divisors.{gcd_within, gcd, lcm, IsLcm, NoMultipleWithin}
 
 -- n times the remainder is the remainder of n times both
 scaled_mod : (n a b : ℕ) → 1 ≤ n → 1 ≤ b → (n * a) % (n * b) ≡ n * (a % b)

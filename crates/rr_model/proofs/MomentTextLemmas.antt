@@ -7,8 +7,9 @@ use Rattle.std.proofs.lemmas.Int.{ints, by_lt_z}
 use Rattle.std.proofs.lemmas.List.Elements.{All-take, All-drop}
 use Rattle.std.proofs.lemmas.List.Sums.{AllPass-from_list_all, list_all-from_AllPass}
 use Rattle.rr_model.specs.Calendar.{day_number, first_day_of_year, year_of, IsDate}
-use Rattle.rr_model.specs.Digits.{is_digit}
-use Rattle.rr_model.specs.MomentText.{IsFromYearOne, HasFourDigitYear, is_digits, number_at, basic_date, basic_time, basic_moment, is_letter_t, utc_mark, moment_of}
+use Rattle.rr_model.specs.Text.Digits.{is_digit}
+use Rattle.rr_model.specs.Moment.Years.{IsFromYearOne, HasFourDigitYear}
+use Rattle.rr_model.specs.Text.Moments.{is_digits, number_at, basic_date, basic_time, basic_moment, is_letter_t, utc_mark, moment_of}
 use Rattle.rr_model.specs.declared.stamp.Stamp.{Stamp}
 use Rattle.rr_model.proofs.DigitLemmas.{digits_value_below}
 use Rattle.rr_model.proofs.CalendarLemmas.{IsInYear-day_number, IsInYear-year_of, first_day_of_year_mono}

@@ -2,7 +2,7 @@
 use Rattle.std.proofs.Common.{ℕ, ◌+◌, ◌≤◌, ℤ, pos, ◌+ℤ◌, ◌-ℤ◌, ◌≤ℤ◌, arith}
 use Rattle.std.proofs.lemmas.Int.{ints}
 use Rattle.rr_model.specs.Calendar.{day_number, IsDate, IsDayWithin, year_of}
-use Rattle.rr_model.specs.Week.{week_index, fourth_day}
+use Rattle.rr_model.specs.Calendar.Week.{week_index, fourth_day}
 use Rattle.rr_model.proofs.CalendarLemmas.{IsInYear-year_of, IsInYear-day_number, first_day_of_year-next, year_length_bounds}
 use Rattle.rr_model.proofs.WeekLemmas.{fourth_day_near}
 

@@ -5,10 +5,10 @@ use Rattle.std.specs.Ordering.{int_eq}
 use Rattle.std.proofs.lemmas.Bool.{or_parts, not-false}
 use Rattle.std.proofs.lemmas.Int.{ints}
 use Rattle.rr_model.specs.Calendar.{year_of, month_of, day_of_month, day_of_year, month_length, year_length}
-use Rattle.rr_model.specs.CalendarLaws.{later_day, CalendarRepeats}
-use Rattle.rr_model.specs.Week.{week_index, week_year}
-use Rattle.rr_model.specs.RuleValidity.{is_absent, has_place}
-use Rattle.rr_model.specs.Candidate.{has_weekday_of, rank_from_front, rank_from_back, is_in_place, day_item_holds, counts_in_year, is_week_listed, by_month_holds, by_week_no_holds, by_year_day_holds, by_month_day_holds, by_day_holds, date_parts_hold}
+use Rattle.rr_model.specs.Calendar.Laws.{later_day, CalendarRepeats}
+use Rattle.rr_model.specs.Calendar.Week.{week_index, week_year}
+use Rattle.rr_model.specs.Rule.Validity.{is_absent, has_place}
+use Rattle.rr_model.specs.Rule.Candidate.{has_weekday_of, rank_from_front, rank_from_back, is_in_place, day_item_holds, counts_in_year, is_week_listed, by_month_holds, by_week_no_holds, by_year_day_holds, by_month_day_holds, by_day_holds, date_parts_hold}
 use Rattle.rr_model.specs.declared.rule.DayItem.{DayItem}
 use Rattle.rr_model.specs.declared.rule.Rule.{Rule}
 use Rattle.rr_model.proofs.CountLemmas.{count_from-shift}

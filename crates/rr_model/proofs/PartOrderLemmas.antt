@@ -9,9 +9,9 @@ use Rattle.std.proofs.lemmas.Bool.{and_parts, and_from}
 use Rattle.std.proofs.lemmas.Bool.Decides.{nat_tests}
 use Rattle.std.proofs.lemmas.List.{take_all, length-append, length-map, map-append, reverse-append}
 use Rattle.std.proofs.lemmas.List.Folds.{list_all-append}
-use Rattle.rr_model.specs.ReadingLaws.{IsOneLine, is_part_byte, is_part, AreParts, OrderDoesNotMatter}
-use Rattle.rr_model.specs.Reads.{is_blank, with_part, with_parts, no_parts, without_last_semicolon, without_blanks_before, without_blanks_behind, parts_of, rule_of, series_with, line_value, start_of, rule_parts, reads_values}
-use Rattle.rr_model.specs.RuleText.{◌>>=◌, pieces}
+use Rattle.rr_model.specs.Text.RuleLaws.{IsOneLine, is_part_byte, is_part, AreParts, OrderDoesNotMatter}
+use Rattle.rr_model.specs.Text.Rules.{is_blank, with_part, with_parts, no_parts, without_last_semicolon, without_blanks_before, without_blanks_behind, parts_of, rule_of, series_with, line_value, start_of, rule_parts, reads_values}
+use Rattle.rr_model.specs.Text.RuleValues.{◌>>=◌, pieces}
 use Rattle.rr_model.specs.declared.refusal.Refusal.{Refusal}
 use Rattle.rr_model.specs.declared.rule.Series.{Series}
 use Rattle.rr_model.specs.declared.rule_parts.RuleParts.{RuleParts}

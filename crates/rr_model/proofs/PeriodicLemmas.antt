@@ -2,7 +2,7 @@
 use Rattle.std.proofs.Common.{◌≡◌, ℕ, zero, suc, ◌+◌, ◌-◌, ◌<◌, ◌≤◌, ℤ, pos, nat_abs, ◌+ℤ◌, ◌-ℤ◌, ◌≤ℤ◌, inl, inr, sym, ap, ◌∙◌, arith}
 use Rattle.std.proofs.lemmas.Int.{ints}
 use Rattle.std.proofs.lemmas.Bool.{cases_lt}
-use Rattle.rr_model.specs.Periodic.{RepeatsFrom, AgreeOn, AgreeFrom}
+use Rattle.rr_model.specs.Whole.Periodic.{RepeatsFrom, AgreeOn, AgreeFrom}
 
 module _ {X : Type 0} (F G : ℕ → X) (p r : ℕ) (hp : 1 ≤ p) (hr : 1 ≤ r) (pf : (n : ℕ) → F (n + p) ≡ F n) (pg : (n : ℕ) → G (n + r) ≡ G n) (window : (n : ℕ) → n < p + r → F n ≡ G n) where
   -- a place past the window, from three places before it

@@ -6,9 +6,10 @@ use Rattle.std.proofs.lemmas.Int.{ints}
 use Rattle.std.proofs.lemmas.List.{append_cancel_left, length-replicate}
 use Rattle.std.proofs.Math.Seq.{take-append_seam}
 use Rattle.rr_model.specs.Calendar.{IsDayWithin, year_of, month_of, day_of_month}
-use Rattle.rr_model.specs.Digits.{digits_value}
+use Rattle.rr_model.specs.Text.Digits.{digits_value}
 use Rattle.rr_model.specs.Moment.{day_part, second_part}
-use Rattle.rr_model.specs.MomentText.{IsFromYearOne, padded, extended_date_text, extended_time_text, extended_text}
+use Rattle.rr_model.specs.Moment.Years.{IsFromYearOne}
+use Rattle.rr_model.specs.Text.Moments.{padded, extended_date_text, extended_time_text, extended_text}
 use Rattle.rr_model.specs.declared.kind.Kind.{Kind}
 use Rattle.rr_model.specs.declared.kind.Kind.TheVariants.{Days, Moments}
 use Rattle.rr_model.proofs.CalendarLemmas.{first_day_of_year_bounds, month_length_bounds, IsInYear-year_of, IsDate-year_of, day_number-year_of}

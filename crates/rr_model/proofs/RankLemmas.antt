@@ -3,8 +3,8 @@ use Rattle.std.proofs.Common.{◌≡◌, ℕ, zero, suc, ◌+◌, ◌-◌, ◌/�
 use Rattle.std.proofs.lemmas.Int.{ints}
 use Rattle.std.proofs.lemmas.Bool.{cases_eq, eq-eqb, ne_eqb}
 use Rattle.rr_model.specs.Calendar.{weekday_of}
-use Rattle.rr_model.specs.Count.{count_from}
-use Rattle.rr_model.specs.Candidate.{has_weekday_of, rank_from_front, rank_from_back}
+use Rattle.rr_model.specs.Whole.Count.{count_from}
+use Rattle.rr_model.specs.Rule.Candidate.{has_weekday_of, rank_from_front, rank_from_back}
 use Rattle.rr_model.proofs.WholeLemmas.{floor_whole, floor_mod_below}
 use Rattle.rr_model.proofs.CountLemmas.{one, count_from-zero, count_from-suc, count_from-first}
 

@@ -9,8 +9,8 @@ use Rattle.std.proofs.lemmas.Bool.{and_parts}
 use Rattle.std.proofs.lemmas.Bool.Decides.{nat_tests}
 use Rattle.std.proofs.lemmas.List.{take_at, length-append}
 use Rattle.std.proofs.lemmas.Bool.{lt-ltb}
-use Rattle.rr_model.specs.Reads.{cut, first_line, values_of, line_value, start_of, rule_parts, reads_values, reads}
-use Rattle.rr_model.specs.ReadingLaws.{text_of, IsOneLine, DifferInCase, CaseDoesNotMatter}
+use Rattle.rr_model.specs.Text.Rules.{cut, first_line, values_of, line_value, start_of, rule_parts, reads_values, reads}
+use Rattle.rr_model.specs.Text.RuleLaws.{text_of, IsOneLine, DifferInCase, CaseDoesNotMatter}
 
 -- ---- the values of the lines
 

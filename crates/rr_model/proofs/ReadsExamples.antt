@@ -2,9 +2,9 @@
 use Rattle.std.proofs.Common.{◌≡◌, ℕ, List, [], ◌∷◌, ◌++◌, ℤ, pos, neg_ℤ, true, false, refl}
 use Rattle.std.specs.Prelude.{codes, Ok, Err}
 use Rattle.rr_model.specs.Calendar.{day_number, first_day_of_year, days_of_months}
-use Rattle.rr_model.specs.MomentText.{is_digits, number_at, basic, basic_date, basic_time, basic_moment}
-use Rattle.rr_model.specs.RuleText.{freq_named, weekday_named, number_up_to, number_within, numbers_of, day_item_within, day_items_of}
-use Rattle.rr_model.specs.Reads.{part_named, name_of, with_part, parts_of, rule_of, series_with, start_of, rule_parts, line_value, first_line, values_of, reads, is_plain_text}
+use Rattle.rr_model.specs.Text.Moments.{is_digits, number_at, basic, basic_date, basic_time, basic_moment}
+use Rattle.rr_model.specs.Text.RuleValues.{freq_named, weekday_named, number_up_to, number_within, numbers_of, day_item_within, day_items_of}
+use Rattle.rr_model.specs.Text.Rules.{part_named, name_of, with_part, parts_of, rule_of, series_with, start_of, rule_parts, line_value, first_line, values_of, reads, is_plain_text}
 use Rattle.rr_model.specs.declared.kind.Kind.{Kind}
 use Rattle.rr_model.specs.declared.kind.Kind.TheVariants.{Days, Moments}
 use Rattle.rr_model.specs.declared.refusal.Refusal.{Refusal}

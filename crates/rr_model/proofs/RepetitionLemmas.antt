@@ -6,13 +6,14 @@ use Rattle.std.proofs.lemmas.Bool.{false≢true, and_parts, not-true, cases_Bool
 use Rattle.std.proofs.lemmas.Nat.Gcd.{dvd_refl, dvd_trans}
 use Rattle.std.proofs.Math.Nat.{dvd-mul_right}
 use Rattle.rr_model.specs.Moment.{day_part}
-use Rattle.rr_model.specs.CalendarLaws.{later_day}
-use Rattle.rr_model.specs.RuleValidity.{is_absent, has_place, has_part, takes_year_days, takes_month_days, takes_week_numbers, takes_places, is_allowed, IsValidRule}
-use Rattle.rr_model.specs.Cycle.{gcd, lcm, interval_cycle, asks_calendar, rule_cycle}
-use Rattle.rr_model.specs.Filled.{filled_part, wants_day, wants_month_day, wants_month, day_item_of, filled}
-use Rattle.rr_model.specs.Candidate.{date_parts_hold, time_parts_hold}
-use Rattle.rr_model.specs.Chosen.{is_chosen}
-use Rattle.rr_model.specs.Repetition.{days_in, ChosenRepeats}
+use Rattle.rr_model.specs.Calendar.Laws.{later_day}
+use Rattle.rr_model.specs.Rule.Validity.{is_absent, has_place, has_part, takes_year_days, takes_month_days, takes_week_numbers, takes_places, is_allowed, IsValidRule}
+use Rattle.rr_model.specs.Whole.Divisors.{gcd, lcm}
+use Rattle.rr_model.specs.Rule.Cycle.{interval_cycle, asks_calendar, rule_cycle}
+use Rattle.rr_model.specs.Rule.Filled.{filled_part, wants_day, wants_month_day, wants_month, day_item_of, filled}
+use Rattle.rr_model.specs.Rule.Candidate.{date_parts_hold, time_parts_hold}
+use Rattle.rr_model.specs.Rule.Chosen.{is_chosen}
+use Rattle.rr_model.specs.Rule.Repetition.{days_in, ChosenRepeats}
 use Rattle.rr_model.specs.declared.kind.Kind.{Kind}
 use Rattle.rr_model.specs.declared.rule.DayItem.{DayItem}
 use Rattle.rr_model.specs.declared.rule.Freq.{Freq}

@@ -5,7 +5,7 @@ use Rattle.std.proofs.lemmas.Int.{ints}
 use Rattle.std.proofs.lemmas.Bool.Decides.{nat_tests}
 use Rattle.std.proofs.lemmas.List.Elements.{Contains-append_left, Contains-push, Contains-push_cases, Contains-get_or}
 use Rattle.rr_model.specs.Rising.{Rises}
-use Rattle.rr_model.specs.RisingSet.{IsSetOf}
+use Rattle.rr_model.specs.Rising.Sets.{IsSetOf}
 
 module _ {X : Type 0} where
   -- the head, or a member of the rest

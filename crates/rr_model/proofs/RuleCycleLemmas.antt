@@ -4,8 +4,9 @@ use Prim.Native.Nat.{◌∣◌}
 use Rattle.std.proofs.lemmas.Bool.{false≢true}
 use Rattle.std.proofs.lemmas.Nat.Gcd.{dvd_trans}
 use Rattle.std.proofs.Math.Nat.{mul-dvd-mul_left, mul-dvd-mul_right, div-mul_cancel, dvd-mul_left, dvd-mul_right, pos_of_dvd_of_pos}
-use Rattle.rr_model.specs.RuleValidity.{takes_start}
-use Rattle.rr_model.specs.Cycle.{gcd, interval_cycle}
+use Rattle.rr_model.specs.Rule.Validity.{takes_start}
+use Rattle.rr_model.specs.Whole.Divisors.{gcd}
+use Rattle.rr_model.specs.Rule.Cycle.{interval_cycle}
 use Rattle.rr_model.specs.declared.kind.Kind.{Kind}
 use Rattle.rr_model.specs.declared.kind.Kind.TheVariants.{Days, Moments}
 use Rattle.rr_model.specs.declared.rule.Freq.{Freq}

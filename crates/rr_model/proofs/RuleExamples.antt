@@ -1,7 +1,8 @@
 -- Parts that may stand together, and cycles of some rules, by computing.
 use Rattle.std.proofs.Common.{◌≡◌, ℕ, List, [], ◌∷◌, pos, negsuc, true, false, refl}
-use Rattle.rr_model.specs.Cycle.{gcd_within, gcd, lcm, rule_cycle}
-use Rattle.rr_model.specs.RuleValidity.{is_allowed}
+use Rattle.rr_model.specs.Whole.Divisors.{gcd_within, gcd, lcm}
+use Rattle.rr_model.specs.Rule.Cycle.{rule_cycle}
+use Rattle.rr_model.specs.Rule.Validity.{is_allowed}
 use Rattle.rr_model.specs.declared.rule.Freq.{Freq}
 use Rattle.rr_model.specs.declared.rule.Freq.TheVariants.{Secondly, Hourly, Daily, Weekly, Monthly, Yearly}
 use Rattle.rr_model.specs.declared.rule.End.TheVariants.{Never}

@@ -3,11 +3,11 @@ use Rattle.std.proofs.Common.{◌≡◌, ℕ, Bool, true, false, cond, not, List
 use Rattle.std.specs.Prelude.{◌==◌, ok_or}
 use Rattle.std.specs.List.{list_all, onto_first}
 use Rattle.std.proofs.lemmas.Bool.{false≢true}
-use Rattle.rr_model.specs.MomentText.{basic}
-use Rattle.rr_model.specs.Reads.{cut, name_of, stands, with_value_of, with_part}
+use Rattle.rr_model.specs.Text.Moments.{basic}
+use Rattle.rr_model.specs.Text.Rules.{cut, name_of, stands, with_value_of, with_part}
 use Rattle.rr_model.specs.Rising.{with_value}
-use Rattle.rr_model.specs.RuleText.{◌>>=◌, pieces, freq_named, weekday_named, number_up_to, unsigned, signed, seconds, placed, list_of, numbers_of, day_items_of}
-use Rattle.rr_model.specs.RuleValidity.{is_absent}
+use Rattle.rr_model.specs.Text.RuleValues.{◌>>=◌, pieces, freq_named, weekday_named, number_up_to, unsigned, signed, seconds, placed, list_of, numbers_of, day_items_of}
+use Rattle.rr_model.specs.Rule.Validity.{is_absent}
 use Rattle.rr_model.specs.declared.refusal.Refusal.{Refusal}
 use Rattle.rr_model.specs.declared.refusal.Refusal.TheVariants.{BadMoment, BadRule, PartTwice}
 use Rattle.rr_model.specs.declared.rule.DayItem.{DayItem}

@@ -5,9 +5,10 @@ use Rattle.std.proofs.lemmas.Bool.{cond_both}
 use Rattle.std.proofs.lemmas.Nat.Gcd.{dvd_refl, dvd_trans, le_of_dvd}
 use Rattle.std.proofs.Math.Nat.{one-dvd}
 use Rattle.std.proofs.lemmas.List.Elements.{All-head, All-tail}
-use Rattle.rr_model.specs.Cycle.{lcm, interval_cycle, parts_cycle, asks_calendar, rule_cycle}
-use Rattle.rr_model.specs.RuleValidity.{is_absent}
-use Rattle.rr_model.specs.SeriesCycle.{endless_cycle, rules_cycle}
+use Rattle.rr_model.specs.Whole.Divisors.{lcm}
+use Rattle.rr_model.specs.Rule.Cycle.{interval_cycle, parts_cycle, asks_calendar, rule_cycle}
+use Rattle.rr_model.specs.Rule.Validity.{is_absent}
+use Rattle.rr_model.specs.Series.Cycle.{endless_cycle, rules_cycle}
 use Rattle.rr_model.specs.declared.rule.End.{End}
 use Rattle.rr_model.specs.declared.rule.End.TheVariants.{Never, Until, Count, Both}
 use Rattle.rr_model.specs.declared.rule.Rule.{Rule}

@@ -3,10 +3,10 @@ use Rattle.std.proofs.Common.{◌≡◌, ℤ, pos, nat_abs, ◌+ℤ◌, ◌-ℤ�
 use Rattle.std.proofs.lemmas.Int.{ints}
 use Rattle.rr_model.specs.Whole.{divides}
 use Rattle.rr_model.specs.Moment.{day_part}
-use Rattle.rr_model.specs.Units.{unit_number, unit_start}
-use Rattle.rr_model.specs.Filled.{filled}
-use Rattle.rr_model.specs.Candidate.{date_parts_hold, time_parts_hold, is_candidate}
-use Rattle.rr_model.specs.Chosen.{unit_begin, unit_end, position_from_front, position_from_back, is_chosen}
+use Rattle.rr_model.specs.Moment.Units.{unit_number, unit_start}
+use Rattle.rr_model.specs.Rule.Filled.{filled}
+use Rattle.rr_model.specs.Rule.Candidate.{date_parts_hold, time_parts_hold, is_candidate}
+use Rattle.rr_model.specs.Rule.Chosen.{unit_begin, unit_end, position_from_front, position_from_back, is_chosen}
 use Rattle.rr_model.specs.declared.kind.Kind.{Kind}
 use Rattle.rr_model.specs.declared.rule.Rule.{Rule}
 use Rattle.rr_model.proofs.CountLemmas.{count_from-shift}

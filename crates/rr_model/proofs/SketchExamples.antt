@@ -1,6 +1,6 @@
 -- A small sketch, day by day.
 use Rattle.std.proofs.Common.{◌≡◌, [], ◌∷◌, pos, neg_ℤ, refl}
-use Rattle.rr_model.specs.Sketch.{times_on}
+use Rattle.rr_model.specs.Sets.Sketch.{times_on}
 use Rattle.rr_model.specs.declared.kind.Kind.TheVariants.{Moments}
 use Rattle.rr_model.specs.declared.sketch.Sketch.{Sketch}
 

@@ -6,10 +6,10 @@ use Rattle.std.specs.Ordering.{int_eq}
 use Rattle.std.proofs.lemmas.Int.{ints}
 use Rattle.std.proofs.lemmas.List.Elements.{All-head, All-tail, All-contains}
 use Rattle.std.proofs.Math.Nat.{add-mod_right}
-use Rattle.rr_model.specs.Periodic.{RepeatsFrom}
+use Rattle.rr_model.specs.Whole.Periodic.{RepeatsFrom}
 use Rattle.rr_model.specs.Rising.{Rises}
-use Rattle.rr_model.specs.Sketch.{IsValidSketch, IsTimeSet, times_on, times_in, day_in_cycle}
-use Rattle.rr_model.specs.SketchLaws.{AgreementOfSketchesLasts, WindowOfSketchesLasts, HasNoneOn, IsCommonMultiple}
+use Rattle.rr_model.specs.Sets.Sketch.{IsValidSketch, IsTimeSet, times_on, times_in, day_in_cycle}
+use Rattle.rr_model.specs.Sets.SketchLaws.{AgreementOfSketchesLasts, WindowOfSketchesLasts, HasNoneOn, IsCommonMultiple}
 use Rattle.rr_model.specs.declared.kind.Kind.{Kind}
 use Rattle.rr_model.specs.declared.kind.Kind.TheVariants.{Days, Moments}
 use Rattle.rr_model.specs.declared.sketch.DayShape.{DayShape}

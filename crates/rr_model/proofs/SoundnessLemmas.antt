@@ -3,8 +3,8 @@ use Rattle.std.proofs.Common.{◌≡◌, ℕ, suc, Bool, true, false, cond, Opti
 use Rattle.std.proofs.lemmas.Int.{ints}
 use Rattle.std.specs.Option.{option_or}
 use Rattle.std.proofs.lemmas.List.Elements.{All-nil, All-cons}
-use Rattle.rr_model.specs.Chosen.{is_chosen}
-use Rattle.rr_model.specs.Soundness.{until_fault, end_fault, choice_fault, rule_fault, rules_fault, EndsNotBefore, FitsStart}
+use Rattle.rr_model.specs.Rule.Chosen.{is_chosen}
+use Rattle.rr_model.specs.Series.Soundness.{until_fault, end_fault, choice_fault, rule_fault, rules_fault, EndsNotBefore, FitsStart}
 use Rattle.rr_model.specs.declared.kind.Kind.{Kind}
 use Rattle.rr_model.specs.declared.kind.Kind.TheVariants.{Days, Moments}
 use Rattle.rr_model.specs.declared.refusal.Refusal.TheVariants.{UntilBeforeStart, NotSynchronised}

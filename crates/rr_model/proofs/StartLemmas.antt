@@ -3,7 +3,7 @@ use Rattle.std.proofs.Common.{◌≡◌, ℕ, ℤ, pos, negsuc, refl, arith}
 use Rattle.std.proofs.lemmas.Int.{ints}
 use Rattle.rr_model.specs.Calendar.{first_day_of_year, IsDayWithin}
 use Rattle.rr_model.specs.Moment.{day_part}
-use Rattle.rr_model.specs.RuleValidity.{IsInYears}
+use Rattle.rr_model.specs.Moment.Years.{IsInYears}
 use Rattle.rr_model.specs.declared.kind.Kind.{Kind}
 
 year_1 : first_day_of_year (pos 1) ≡ negsuc 719_161

@@ -4,9 +4,9 @@ use Rattle.std.proofs.lemmas.Int.{ints}
 use Rattle.std.proofs.lemmas.Bool.{cases_lt}
 use Rattle.rr_model.specs.Whole.{floor_div, floor_mod}
 use Rattle.rr_model.specs.Calendar.{year_of, month_of, day_of_month, days_of_months, first_day_of_year, IsDate}
-use Rattle.rr_model.specs.Week.{week_index, fourth_day}
+use Rattle.rr_model.specs.Calendar.Week.{week_index, fourth_day}
 use Rattle.rr_model.specs.Moment.{day_part, moment_at}
-use Rattle.rr_model.specs.Units.{month_number, first_day_of_month, UnitsAreStretches}
+use Rattle.rr_model.specs.Moment.Units.{month_number, first_day_of_month, UnitsAreStretches}
 use Rattle.rr_model.specs.declared.kind.Kind.{Kind}
 use Rattle.rr_model.specs.declared.kind.Kind.TheVariants.{Days, Moments}
 use Rattle.rr_model.specs.declared.rule.Freq.TheVariants.{Secondly, Minutely, Hourly, Daily, Weekly, Monthly, Yearly}

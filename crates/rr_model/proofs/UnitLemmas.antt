@@ -3,10 +3,10 @@ use Rattle.std.proofs.Common.{◌≡◌, ℕ, ◌+◌, ◌≤◌, ℤ, pos, ◌+
 use Rattle.std.proofs.lemmas.Int.{ints}
 use Rattle.rr_model.specs.Whole.{floor_div, floor_mod, divides}
 use Rattle.rr_model.specs.Calendar.{year_of, first_day_of_year}
-use Rattle.rr_model.specs.Week.{week_index, fourth_day}
+use Rattle.rr_model.specs.Calendar.Week.{week_index, fourth_day}
 use Rattle.rr_model.specs.Moment.{day_part, second_part, moment_at}
-use Rattle.rr_model.specs.Units.{month_number, first_day_of_month, unit_number, unit_start}
-use Rattle.rr_model.specs.Repetition.{days_in}
+use Rattle.rr_model.specs.Moment.Units.{month_number, first_day_of_month, unit_number, unit_start}
+use Rattle.rr_model.specs.Rule.Repetition.{days_in}
 use Rattle.rr_model.specs.declared.kind.Kind.{Kind}
 use Rattle.rr_model.specs.declared.kind.Kind.TheVariants.{Days, Moments}
 use Rattle.rr_model.specs.declared.rule.Freq.{Freq}

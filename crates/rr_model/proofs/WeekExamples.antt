@@ -1,7 +1,7 @@
 -- Weeks at the borders of years that are known (ISO 8601, and weeks that begin on Sunday), worked out from the definitions.
 use Rattle.std.proofs.Common.{◌≡◌, ℕ, ℤ, pos, refl}
 use Rattle.rr_model.specs.Calendar.{day_number, first_day_of_year, year_of, weekday_of, days_of_months, days_into_year, kind_of_year}
-use Rattle.rr_model.specs.Week.{week_index, fourth_day, week_year, week_number, last_week}
+use Rattle.rr_model.specs.Calendar.Week.{week_index, fourth_day, week_year, week_number, last_week}
 
 -- the day's week belongs to this year, with this number, and that year's last week has that number
 abbrev IsWeekOf : ℤ → ℕ → ℤ → ℕ → ℕ → Type 0

@@ -2,8 +2,8 @@
 use Rattle.std.proofs.Common.{◌≡◌, ℕ, ◌+◌, ◌/◌, ◌≤◌, ℤ, pos, nat_abs, unsigned_abs, ◌+ℤ◌, ◌-ℤ◌, ◌*ℤ◌, ◌≤ℤ◌, ◌<ℤ◌, refl, ap, arith}
 use Rattle.std.proofs.lemmas.Int.{ints}
 use Rattle.rr_model.specs.Calendar.{first_day_of_year, day_number, days_into_year, IsDate}
-use Rattle.rr_model.specs.Week.{week_index, fourth_day, week_year, week_number, last_week}
-use Rattle.rr_model.specs.CalendarLaws.{IsLastWeek}
+use Rattle.rr_model.specs.Calendar.Week.{week_index, fourth_day, week_year, week_number, last_week}
+use Rattle.rr_model.specs.Calendar.Laws.{IsLastWeek}
 use Rattle.rr_model.proofs.WholeLemmas.{floor_only, floor_whole, floor_mod_below}
 use Rattle.rr_model.proofs.CalendarLemmas.{IsInYear-year_of, year_of_is, days_into_year_is, first_day_of_year-next, year_length_bounds, days_of_months-all, days_of_months-next, days_of_months-zero}
 

@@ -3,7 +3,7 @@ use Rattle.std.proofs.Common.{◌≡◌, ℕ, ℤ, pos, ◌+ℤ◌, ◌-ℤ◌, 
 use Rattle.std.proofs.lemmas.Int.{ints}
 use Rattle.rr_model.specs.Whole.{floor_div, floor_mod}
 use Rattle.rr_model.specs.Calendar.{weekday_of}
-use Rattle.rr_model.specs.Week.{week_index, fourth_day}
+use Rattle.rr_model.specs.Calendar.Week.{week_index, fourth_day}
 use Rattle.rr_model.proofs.FloorLemmas.{floor_div-add, floor_mod-add}
 
 pub weekday_of-weeks : (d k : ℤ) → weekday_of (d +ℤ (k *ℤ pos 7)) ≡ weekday_of d

@@ -4,7 +4,7 @@ use Rattle.std.specs.Int.{◌∣◌}
 use Rattle.std.proofs.lemmas.Int.{ints}
 use Rattle.std.proofs.lemmas.Nat.{mod_below, div-add-mod'}
 use Rattle.std.proofs.lemmas.Nat.Gcd.{mod-eq-zero_of_dvd}
-use Rattle.rr_model.specs.Periodic.{RepeatsFrom}
+use Rattle.rr_model.specs.Whole.Periodic.{RepeatsFrom}
 
 -- so many periods later
 pub turns : {X : Type 0} (f : ℤ → X) (q : ℤ) (p : ℕ) → RepeatsFrom f q p → (k : ℕ) (d : ℤ) → q ≤ℤ d → f (d +ℤ pos (k * p)) ≡ f d

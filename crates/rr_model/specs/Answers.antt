@@ -1,4 +1,4 @@
--- What a call that takes memory answers.
+-- What a call that takes memory, or refuses its argument, answers.
 use Rattle.std.specs.Prelude.{◌≡◌, Result, Ok, Err, ⊤}
 use Rattle.rr_model.specs.declared.refusal.Refusal.{Refusal}
 use Rattle.rr_model.specs.declared.refusal.Fault.{Fault}
@@ -9,3 +9,9 @@ abbrev pub Answers : {A : Type 0} → Result A Refusal → Result A Fault → Ty
 Answers wanted (Ok x) = wanted ≡ Ok x
 Answers wanted (Err (Refused refusal)) = wanted ≡ Err refusal
 Answers wanted (Err NoMemory) = ⊤
+
+-- the answer is this refusal exactly where the condition holds, or want of memory
+abbrev pub RefusedExactlyWhere : {X : Type 0} → Type 0 → Refusal → Result X Fault → Type 0
+RefusedExactlyWhere P refusal (Ok x) = ¬ P
+RefusedExactlyWhere P refusal (Err (Refused other)) = (other ≡ refusal) × P
+RefusedExactlyWhere P refusal (Err NoMemory) = ⊤

@@ -1,4 +1,6 @@
 -- An occurrence is a kind and a whole number.
+pub mod Units
+pub mod Years
 use Rattle.std.specs.Prelude.{◌≡◌, ℕ, ◌⊎◌, ℤ, pos, ◌+ℤ◌, ◌*ℤ◌, ◌<ℤ◌}
 use Rattle.rr_model.specs.Whole.{floor_div, floor_mod}
 use Rattle.rr_model.specs.declared.kind.Kind.{Kind}

@@ -1,4 +1,5 @@
 -- Rising lists, and how a value gets its place in one.
+pub mod Sets
 use Rattle.std.specs.Prelude.{Bool, ◌&&◌, ◌||◌, List, [], ◌∷◌, int_lt, int_le, nat_lt, if◌then◌else◌, ⊤, IsTrue}
 use Rattle.std.specs.Ordering.{is_lt}
 use Rattle.std.specs.declared.cmp.Ordering.{Ordering}

@@ -1,4 +1,7 @@
 -- Whole numbers: division that rounds down, and its remainder.
+pub mod Count
+pub mod Divisors
+pub mod Periodic
 use Rattle.std.specs.Prelude.{ℕ, ◌-◌, ◌/◌, ◌%◌, ◌==◌, Bool, ℤ, pos, negsuc}
 
 -- z / n rounded towards minus infinity

@@ -1,5 +1,5 @@
 // Laws of the calendar over all whole numbers, each the contract of a function that does nothing.
-ghost use Rattle.rr_model.specs.CalendarLaws.{CalendarRepeats, DatesAndDaysAreInverse, LastWeekIsGreatest};
+ghost use Rattle.rr_model.specs.Calendar.Laws.{CalendarRepeats, DatesAndDaysAreInverse, LastWeekIsGreatest};
 
 /// Each day has exactly one date: the date of a day has its number, and the number of a date has that date.
 pub fn dates_and_days_are_inverse()

@@ -1,7 +1,7 @@
 // Laws about the definitions, each the contract of a function that does nothing.
-ghost use Rattle.rr_model.specs.Cycle.{GcdIsGreatest, LcmIsLeast};
-ghost use Rattle.rr_model.specs.Periodic.{AgreementLasts};
-ghost use Rattle.rr_model.specs.ReadingLaws.{CaseDoesNotMatter, OrderDoesNotMatter};
+ghost use Rattle.rr_model.specs.Whole.Divisors.{GcdIsGreatest, LcmIsLeast};
+ghost use Rattle.rr_model.specs.Whole.Periodic.{AgreementLasts};
+ghost use Rattle.rr_model.specs.Text.RuleLaws.{CaseDoesNotMatter, OrderDoesNotMatter};
 
 /// Two sequences that repeat, and agree on as many places in a row as both periods together, agree for ever.
 pub fn agreement_lasts()

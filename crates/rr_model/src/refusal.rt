@@ -42,7 +42,7 @@ pub enum Refusal {
 }
 
 impl Refusal {
-    ghost use Rattle.rr_model.specs.RefusalText.{refusal_name};
+    ghost use Rattle.rr_model.specs.Text.Refusals.{refusal_name};
 
     /// The name that is printed.
     pub fn name(&self) -> &'static str
@@ -70,7 +70,7 @@ impl Refusal {
 
 impl fmt::Display for Refusal {
     ghost use Rattle.std.specs.Prelude.{Some};
-    ghost use Rattle.rr_model.specs.RefusalText.{refusal_text};
+    ghost use Rattle.rr_model.specs.Text.Refusals.{refusal_text};
 
     ghost output = { λ refusal. Some (refusal_text refusal) };
 

@@ -3,7 +3,7 @@ use Rattle.std.proofs.Common.{◌≡◌, ℕ, ◌*◌, ◌/◌, ◌<◌, ◌≤�
 use Prim.Native.Nat.{◌∣◌}
 use Rattle.std.proofs.lemmas.Nat.Gcd.{le_of_dvd}
 use Rattle.std.proofs.Math.Nat.{le-div_iff_mul-le, div-lt_iff_lt-mul, one-mul}
-use Rattle.rr_model.specs.Cycle.{gcd, lcm}
+use Rattle.rr_model.specs.Whole.Divisors.{gcd, lcm}
 
 -- a divisor is in its multiple at least once
 pub some_parts : (a g : ℕ) → 1 ≤ a → 1 ≤ g → g ∣ a → 1 ≤ a / g

@@ -2,8 +2,9 @@
 use Rattle.std.proofs.Common.{◌≡◌, ℕ, ◌==◌, Bool, true, false, List, [], ◌∷◌, length, ap, ◌∙◌, refl, eqb-true, arith}
 use Rattle.std.proofs.lemmas.Bool.{eqb-false}
 use Rattle.std.specs.Prelude.{if◌then◌else◌}
-use Rattle.rr_model.specs.Cycle.{gcd_within, gcd, lcm, asks_calendar, parts_cycle}
-use Rattle.rr_model.specs.RuleValidity.{is_absent}
+use Rattle.rr_model.specs.Whole.Divisors.{gcd_within, gcd, lcm}
+use Rattle.rr_model.specs.Rule.Cycle.{asks_calendar, parts_cycle}
+use Rattle.rr_model.specs.Rule.Validity.{is_absent}
 use Rattle.rr_model.specs.declared.rule.Rule.{Rule}
 
 abbrev pub one_or_seven : Bool → ℕ

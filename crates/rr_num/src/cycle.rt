@@ -1,7 +1,8 @@
 // After how many days a rule repeats.
 ghost use Rattle.std.specs.Prelude.{◌≡◌, ◌*◌, ◌/◌, ◌≤◌, not};
-ghost use Rattle.rr_model.specs.Cycle.{gcd, interval_cycle, asks_calendar, parts_cycle, rule_cycle};
-ghost use Rattle.rr_model.specs.RuleValidity.{is_absent};
+ghost use Rattle.rr_model.specs.Whole.Divisors.{gcd};
+ghost use Rattle.rr_model.specs.Rule.Cycle.{interval_cycle, asks_calendar, parts_cycle, rule_cycle};
+ghost use Rattle.rr_model.specs.Rule.Validity.{is_absent};
 
 use crate::gcd;
 use rr_model::{Freq, Numbers, Rule};

@@ -1,7 +1,7 @@
 // Divisors and multiples.
 ghost use Rattle.std.specs.Prelude.{◌≡◌, ℕ, ◌+◌, ◌<◌, ◌≤◌, SomeIff, IfSome, IfNone};
 ghost use Rattle.std.specs.Int.{IsGcd};
-ghost use Rattle.rr_model.specs.Cycle.{gcd, lcm, IsLcm, NoMultipleWithin};
+ghost use Rattle.rr_model.specs.Whole.Divisors.{gcd, lcm, IsLcm, NoMultipleWithin};
 
 /// The greatest common divisor of two numbers that are not both 0.
 pub fn gcd(a: u64, b: u64) -> u64

@@ -6,10 +6,10 @@ use Rattle.std.specs.Str.Parse.{starts_with_minus, signed_digits_value}
 use Rattle.std.proofs.lemmas.Bool.Decides.{nat_tests}
 use Rattle.std.proofs.lemmas.Int.{ints}
 use Rattle.std.proofs.lemmas.List.Elements.{All-nil}
-use Rattle.rr_model.specs.Digits.{digits_value}
+use Rattle.rr_model.specs.Text.Digits.{digits_value}
 use Rattle.rr_model.specs.Rising.{with_value, day_item_lt}
-use Rattle.rr_model.specs.RuleText.{is_number, weekday_named, up_to, number_up_to, placed, pieces, list_of, signed, has_number_form, size_of, number_within, numbers_of, is_day_item, place_text, weekday_text, place_within, day_item_within, day_items_of}
-use Rattle.rr_model.specs.RuleValidity.{LieFrom, CountUpTo, IsDayItem}
+use Rattle.rr_model.specs.Text.RuleValues.{is_number, weekday_named, up_to, number_up_to, placed, pieces, list_of, signed, has_number_form, size_of, number_within, numbers_of, is_day_item, place_text, weekday_text, place_within, day_item_within, day_items_of}
+use Rattle.rr_model.specs.Rule.Validity.{LieFrom, CountUpTo, IsDayItem}
 use Rattle.rr_model.specs.declared.refusal.Refusal.{Refusal}
 use Rattle.rr_model.specs.declared.refusal.Refusal.TheVariants.{BadRule}
 use Rattle.rr_model.specs.declared.rule.DayItem.{DayItem}

@@ -5,8 +5,8 @@ use Rattle.std.proofs.lemmas.Bool.Decides.{nat_tests}
 use Rattle.std.proofs.lemmas.Int.{ints}
 use Rattle.rr_model.specs.Calendar.{day_number, IsDate, is_date}
 use Rattle.rr_model.specs.Moment.{day_part, moment_at}
-use Rattle.rr_model.specs.MomentText.{is_digits, is_basic_date, is_basic_time, written_year, written_month, written_day, written_hour, written_minute, written_second, basic_date, basic_time, basic_moment, basic, utc_mark, is_letter_t, date_stamp, moment_stamp, moment_of}
-use Rattle.rr_model.specs.RuleValidity.{IsInYears}
+use Rattle.rr_model.specs.Text.Moments.{is_digits, is_basic_date, is_basic_time, written_year, written_month, written_day, written_hour, written_minute, written_second, basic_date, basic_time, basic_moment, basic, utc_mark, is_letter_t, date_stamp, moment_stamp, moment_of}
+use Rattle.rr_model.specs.Moment.Years.{IsInYears}
 use Rattle.rr_model.specs.declared.kind.Kind.TheVariants.{Days, Moments}
 use Rattle.rr_model.specs.declared.stamp.Stamp.{Stamp}
 use Rattle.rr_model.proofs.CalendarLemmas.{IsInYear-day_number, first_day_of_year_mono, is_date_is}

@@ -3,10 +3,11 @@ use Rattle.std.proofs.Common.{◌≡◌, ℕ, ◌<◌, ◌≤◌, true, false, S
 use Rattle.std.specs.Prelude.{All, ok_or}
 use Rattle.std.specs.Option.{IfSome}
 use Rattle.std.proofs.lemmas.List.Elements.{All-nil}
-use Rattle.rr_model.specs.MomentText.{basic}
-use Rattle.rr_model.specs.Reads.{cut, name_of, stands, with_value_of, with_part, with_parts, no_parts, without_last_semicolon, parts_of, line_value, rule_parts}
-use Rattle.rr_model.specs.RuleText.{freq_named, weekday_named, number_up_to, unsigned, signed, seconds, numbers_of, day_items_of, pieces}
-use Rattle.rr_model.specs.RuleValidity.{LieFrom, CountUpTo, IsDayItem, IsInYears}
+use Rattle.rr_model.specs.Text.Moments.{basic}
+use Rattle.rr_model.specs.Text.Rules.{cut, name_of, stands, with_value_of, with_part, with_parts, no_parts, without_last_semicolon, parts_of, line_value, rule_parts}
+use Rattle.rr_model.specs.Text.RuleValues.{freq_named, weekday_named, number_up_to, unsigned, signed, seconds, numbers_of, day_items_of, pieces}
+use Rattle.rr_model.specs.Rule.Validity.{LieFrom, CountUpTo, IsDayItem}
+use Rattle.rr_model.specs.Moment.Years.{IsInYears}
 use Rattle.rr_model.specs.declared.refusal.Refusal.TheVariants.{BadMoment, BadRule, PartTwice}
 use Rattle.rr_model.specs.declared.rule_parts.PartName.{PartName}
 use Rattle.rr_model.specs.declared.rule_parts.PartName.TheVariants as part

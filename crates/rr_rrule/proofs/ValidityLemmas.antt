@@ -5,9 +5,11 @@ use Rattle.std.specs.Option.{IfSome}
 use Rattle.std.specs.Result.{IfOk}
 use Rattle.std.proofs.lemmas.List.Elements.{All-nil, All-cons}
 use Rattle.rr_model.specs.Answers.{Answers}
-use Rattle.rr_model.specs.MomentText.{basic}
-use Rattle.rr_model.specs.Reads.{end_of, rule_with, rule_of, needs_offset, series_of, series_with, line_value, values_of, start_of, rule_parts, reads_values, reads}
-use Rattle.rr_model.specs.RuleValidity.{CountsSome, is_allowed, takes_start, IsValidRule, IsInYears, EndsInYears, IsValidSeries}
+use Rattle.rr_model.specs.Text.Moments.{basic}
+use Rattle.rr_model.specs.Text.Rules.{end_of, rule_with, rule_of, needs_offset, series_of, series_with, line_value, values_of, start_of, rule_parts, reads_values, reads}
+use Rattle.rr_model.specs.Rule.Validity.{CountsSome, is_allowed, takes_start, IsValidRule, EndsInYears}
+use Rattle.rr_model.specs.Moment.Years.{IsInYears}
+use Rattle.rr_model.specs.Series.Validity.{IsValidSeries}
 use Rattle.rr_model.specs.declared.kind.Kind.{Kind}
 use Rattle.rr_model.specs.declared.refusal.Fault.{Fault}
 use Rattle.rr_model.specs.declared.refusal.Refusal.TheVariants.{BadMoment, BadRule, NotAllowed, UtcMoment, NotBuilt}

@@ -2,8 +2,8 @@
 ghost use Rattle.std.specs.Prelude.{◌≡◌, ◌↔◌, ◌==◌, ◌&&◌, nat_lt, not, IsTrue, IsNone, IfOk};
 ghost use Rattle.std.specs.List.{list_all};
 ghost use Rattle.rr_model.specs.Answers.{Answers};
-ghost use Rattle.rr_model.specs.Reads.{start_of, rule_parts, reads_values, reads, IsPlainText};
-ghost use Rattle.rr_model.specs.RuleValidity.{IsValidSeries};
+ghost use Rattle.rr_model.specs.Text.Rules.{start_of, rule_parts, reads_values, reads, IsPlainText};
+ghost use Rattle.rr_model.specs.Series.Validity.{IsValidSeries};
 
 use crate::parts::{moment_of, parts_of};
 use crate::rule::{rule_of, series_with};
@@ -11,7 +11,7 @@ use crate::values::{line_value, values_of};
 use rr_model::{Fault, MAX_INPUT, Refusal, RuleParts, Series, Stamp};
 use std::alloc::Global;
 
-#[tactic(auto, unfolding(rr_model::specs::Reads::start_of))]
+#[tactic(auto, unfolding(rr_model::specs::Text::Rules::start_of))]
 fn start_of(alloc: Global, line: u64, text: &[u8]) -> Result<Stamp, Fault>
     ensures { Answers (start_of line text.now) result }
 {
@@ -19,7 +19,7 @@ fn start_of(alloc: Global, line: u64, text: &[u8]) -> Result<Stamp, Fault>
     Ok(moment_of(line, &value)?)
 }
 
-#[tactic(auto, unfolding(rr_model::specs::Reads::rule_parts))]
+#[tactic(auto, unfolding(rr_model::specs::Text::Rules::rule_parts))]
 fn rule_parts(alloc: Global, line: u64, text: &[u8]) -> Result<RuleParts, Fault>
     ensures { Answers (rule_parts line text.now) result }
 {
@@ -44,7 +44,7 @@ fn read_values(alloc: Global, start: &[u8], rule: &[u8]) -> Result<Series, Fault
 /// refusal: a start that is no date or moment, then the parts of the rule one after the other, then parts that are
 /// missing or may not stand together, then what may not stand beside this start. It takes memory for the values
 /// in capitals and for the lists.
-#[tactic(auto, unfolding(rr_model::specs::Reads::reads))]
+#[tactic(auto, unfolding(rr_model::specs::Text::Rules::reads))]
 pub fn read(alloc: Global, bytes: &[u8], _offset: Option<i32>) -> Result<Series, Fault>
     requires plain { IsPlainText bytes.now }
     requires no_offset { IsNone _offset }
@@ -65,7 +65,7 @@ fn has_plain_bytes(bytes: &[u8]) -> bool
 
 /// Whether the bytes are ASCII without carriage returns, at most `MAX_INPUT` of them, in exactly two lines that
 /// begin with `DTSTART:` and `RRULE:` and end with a line feed.
-#[tactic(auto, unfolding(rr_model::specs::Reads::is_plain_text))]
+#[tactic(auto, unfolding(rr_model::specs::Text::Rules::is_plain_text))]
 pub fn is_plain_text(bytes: &[u8]) -> bool
     ensures { IsTrue result ↔ IsPlainText bytes.now }
 {

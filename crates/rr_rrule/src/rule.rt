@@ -1,8 +1,8 @@
 // A rule of its parts, and the series of a start and a rule.
 ghost use Rattle.std.specs.Prelude.{◌≡◌, IfOk};
 ghost use Rattle.rr_model.specs.Answers.{Answers};
-ghost use Rattle.rr_model.specs.RuleValidity.{is_absent, has_place, has_part, takes_places, takes_week_numbers, takes_month_days, takes_year_days, is_allowed, takes_start};
-ghost use Rattle.rr_model.specs.Reads.{end_of, rule_with, rule_of, has_time, needs_offset, series_of, series_with};
+ghost use Rattle.rr_model.specs.Rule.Validity.{is_absent, has_place, has_part, takes_places, takes_week_numbers, takes_month_days, takes_year_days, is_allowed, takes_start};
+ghost use Rattle.rr_model.specs.Text.Rules.{end_of, rule_with, rule_of, has_time, needs_offset, series_of, series_with};
 
 use rr_model::{
     Dates, DayItems, End, Fault, Freq, Kind, NoMemory, Numbers, Refusal, Rule, RuleParts, Rules,
@@ -119,7 +119,7 @@ fn rule_with(freq: Freq, end: End, parts: RuleParts) -> Rule
 }
 
 /// The rule of these parts, judged after its last part.
-#[tactic(auto, unfolding(rr_model::specs::Reads::rule_of))]
+#[tactic(auto, unfolding(rr_model::specs::Text::Rules::rule_of))]
 pub(crate) fn rule_of(line: u64, parts: RuleParts) -> Result<Rule, Refusal>
     ensures { result ≡ rule_of line parts }
 {
@@ -160,7 +160,7 @@ fn series_of(alloc: Global, start: Stamp, rule: Rule) -> Result<Series, NoMemory
 }
 
 /// The series of a start and its rule, judged beside each other.
-#[tactic(auto, unfolding(rr_model::specs::Reads::series_with))]
+#[tactic(auto, unfolding(rr_model::specs::Text::Rules::series_with))]
 pub(crate) fn series_with(
     alloc: Global,
     start: Stamp,

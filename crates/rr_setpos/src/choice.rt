@@ -1,11 +1,12 @@
 // Chosen moments.
 ghost use Rattle.std.specs.Prelude.{◌≡◌, ◌≤◌, []};
 ghost use Rattle.rr_model.specs.Calendar.{IsDayWithin};
-ghost use Rattle.rr_model.specs.Candidate.{date_parts_hold, is_candidate};
-ghost use Rattle.rr_model.specs.Chosen.{is_chosen};
-ghost use Rattle.rr_model.specs.Filled.{filled};
+ghost use Rattle.rr_model.specs.Rule.Candidate.{date_parts_hold, is_candidate};
+ghost use Rattle.rr_model.specs.Rule.Chosen.{is_chosen};
+ghost use Rattle.rr_model.specs.Rule.Filled.{filled};
 ghost use Rattle.rr_model.specs.Moment.{day_part};
-ghost use Rattle.rr_model.specs.RuleValidity.{IsInYears, IsValidRule};
+ghost use Rattle.rr_model.specs.Moment.Years.{IsInYears};
+ghost use Rattle.rr_model.specs.Rule.Validity.{IsValidRule};
 
 use crate::dates::date_parts_hold;
 use crate::day::Day;
@@ -31,7 +32,7 @@ pub fn chosen(rule: &Rule, kind: Kind, start: i64, at: i64) -> bool
 }
 
 // Whether the moment is a candidate of the rule with this start.
-#[tactic(auto, unfolding(rr_model::specs::Candidate::is_candidate))]
+#[tactic(auto, unfolding(rr_model::specs::Rule::Candidate::is_candidate))]
 pub(crate) fn is_candidate(rule: &Rule, start: &Moment, moment: &Moment) -> bool
     requires kind { start.now.kind ≡ moment.now.kind }
     requires interval { 1 ≤ rule.now.interval }

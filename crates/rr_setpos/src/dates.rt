@@ -1,9 +1,9 @@
 // The date parts of a rule, as tests of one day (RFC 5545, section 3.3.10).
 ghost use Rattle.std.specs.Prelude.{◌≡◌};
-ghost use Rattle.rr_model.specs.Candidate.{by_day_holds, by_month_day_holds, by_month_holds, by_week_no_holds, by_year_day_holds, counts_in_year, date_parts_hold};
-ghost use Rattle.rr_model.specs.Filled.{filled};
+ghost use Rattle.rr_model.specs.Rule.Candidate.{by_day_holds, by_month_day_holds, by_month_holds, by_week_no_holds, by_year_day_holds, counts_in_year, date_parts_hold};
+ghost use Rattle.rr_model.specs.Rule.Filled.{filled};
 ghost use Rattle.rr_model.specs.declared.kind.Kind.TheVariants.{Days};
-ghost use Rattle.rr_model.specs.RuleValidity.{is_absent};
+ghost use Rattle.rr_model.specs.Rule.Validity.{is_absent};
 
 use crate::day::Day;
 use crate::filled::{wants_day, wants_month, wants_month_day};

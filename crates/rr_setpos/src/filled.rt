@@ -1,6 +1,6 @@
 // Which parts a rule takes from its start (RFC 5545, section 3.3.10, on DTSTART).
 ghost use Rattle.std.specs.Prelude.{◌≡◌};
-ghost use Rattle.rr_model.specs.Filled.{wants_day, wants_hour, wants_minute, wants_month, wants_month_day, wants_second};
+ghost use Rattle.rr_model.specs.Rule.Filled.{wants_day, wants_hour, wants_minute, wants_month, wants_month_day, wants_second};
 
 use crate::numbers::is_absent;
 use rr_model::{Freq, Rule};

@@ -1,8 +1,8 @@
 // The numbers of a BY part, and what they say of a number.
 ghost use Rattle.std.specs.Prelude.{◌≡◌, ◌≤◌, ◌-ℤ◌, pos};
-ghost use Rattle.rr_model.specs.Candidate.{allows, allows_place, lists};
-ghost use Rattle.rr_model.specs.Filled.{filled_part};
-ghost use Rattle.rr_model.specs.RuleValidity.{is_absent};
+ghost use Rattle.rr_model.specs.Rule.Candidate.{allows, allows_place, lists};
+ghost use Rattle.rr_model.specs.Rule.Filled.{filled_part};
+ghost use Rattle.rr_model.specs.Rule.Validity.{is_absent};
 
 use rr_model::Numbers;
 

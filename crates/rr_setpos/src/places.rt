@@ -2,7 +2,7 @@
 ghost use Rattle.std.specs.Prelude.{◌≡◌, ◌≤◌, ◌||◌, ℤ, pos, neg_ℤ};
 ghost use Rattle.std.specs.List.{list_any};
 ghost use Rattle.std.specs.Ordering.{int_eq};
-ghost use Rattle.rr_model.specs.Candidate.{day_item_holds, is_in_place, is_weekday_place};
+ghost use Rattle.rr_model.specs.Rule.Candidate.{day_item_holds, is_in_place, is_weekday_place};
 
 use crate::day::Day;
 use rr_model::DayItem;

@@ -1,7 +1,7 @@
 ghost use Rattle.std.specs.Prelude.{◌≡◌, IsTrue, IfOk, []};
 ghost use Rattle.rr_model.specs.Calendar.{IsDayWithin};
 ghost use Rattle.rr_model.specs.Moment.{day_part};
-ghost use Rattle.rr_model.specs.RuleValidity.{IsValidRule};
+ghost use Rattle.rr_model.specs.Rule.Validity.{IsValidRule};
 ghost use Rattle.rr_model.specs.declared.kind.Kind.TheVariants.{Moments};
 
 use crate::choice::is_candidate;

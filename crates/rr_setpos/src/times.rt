@@ -1,7 +1,7 @@
 // The time parts of a rule, as tests of one moment (RFC 5545, section 3.3.10).
 ghost use Rattle.std.specs.Prelude.{◌≡◌, pos, ◌&&◌};
-ghost use Rattle.rr_model.specs.Candidate.{allows, time_parts_hold};
-ghost use Rattle.rr_model.specs.Filled.{filled, filled_part, hour_of, minute_of, second_of, wants_hour, wants_minute, wants_second};
+ghost use Rattle.rr_model.specs.Rule.Candidate.{allows, time_parts_hold};
+ghost use Rattle.rr_model.specs.Rule.Filled.{filled, filled_part, hour_of, minute_of, second_of, wants_hour, wants_minute, wants_second};
 ghost use Rattle.rr_model.specs.declared.kind.Kind.TheVariants.{Moments};
 
 use crate::filled::{wants_hour, wants_minute, wants_second};

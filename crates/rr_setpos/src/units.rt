@@ -1,7 +1,7 @@
 // Units of a frequency and the interval between them (RFC 5545, section 3.3.10, FREQ, INTERVAL and WKST).
 ghost use Rattle.std.specs.Prelude.{◌≡◌, ◌≤◌, ◌-ℤ◌};
-ghost use Rattle.rr_model.specs.Candidate.{interval_holds};
-ghost use Rattle.rr_model.specs.Units.{month_number, unit_number};
+ghost use Rattle.rr_model.specs.Rule.Candidate.{interval_holds};
+ghost use Rattle.rr_model.specs.Moment.Units.{month_number, unit_number};
 ghost use Rattle.rr_model.specs.Whole.{divides};
 
 use crate::day::Day;

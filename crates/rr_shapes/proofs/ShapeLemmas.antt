@@ -12,7 +12,7 @@ use Rattle.std.proofs.lemmas.Option.{slice_get_read, slice_get_within, get_or_fr
 use Rattle.std.specs.Cmp.Lexicographic.{pointwise, bytes_decides}
 use Rattle.std.specs.List.{list_any, AllByRecursion, IsDistinct}
 use Rattle.indexmap.specs.IndexSet.{insert_key}
-use Rattle.rr_model.specs.RisingSet.{IsSecondsOfDay}
+use Rattle.rr_model.specs.Rising.Sets.{IsSecondsOfDay}
 use Rattle.rr_shapes.specs.Numbering.{total_size, IsNumbering, IsCounted}
 use Rattle.rr_shapes.specs.Placing.{IsPlaced, IsTooMany}
 

@@ -1,6 +1,6 @@
 -- Time sets that are numbered by their places in a list.
 use Rattle.std.specs.Prelude.{◌≡◌, ◌≢◌, ℕ, ◌≤◌, List, All, AllPairs, length, sum_by}
-use Rattle.rr_model.specs.RisingSet.{IsSecondsOfDay}
+use Rattle.rr_model.specs.Rising.Sets.{IsSecondsOfDay}
 use Rattle.rr_model.specs.declared.limits.TheConstants.{MAX_SECONDS}
 
 -- the sum of the sets' sizes

@@ -1,7 +1,7 @@
 // Distinct time sets, numbered in the order of their first placing.
 ghost use Rattle.std.specs.Prelude.{◌≡◌, ◌<◌, [], Some, IfOk, OnErr, length, slice_get, nat_eq};
 ghost use Rattle.std.specs.Cmp.Lexicographic.{pointwise};
-ghost use Rattle.rr_model.specs.RisingSet.{IsSecondsOfDay};
+ghost use Rattle.rr_model.specs.Rising.Sets.{IsSecondsOfDay};
 
 use indexmap::IndexSet;
 use rr_model::{Fault, MAX_SECONDS, Refusal};
@@ -30,7 +30,7 @@ impl Model for Shapes {
 }
 
 impl Shapes {
-    ghost use Rattle.rr_model.specs.Refused.{RefusedExactlyWhere};
+    ghost use Rattle.rr_model.specs.Answers.{RefusedExactlyWhere};
     ghost use Rattle.rr_shapes.specs.Numbering.{IsNumbering};
     ghost use Rattle.rr_shapes.specs.Placing.{IsPlaced, IsTooMany};
 

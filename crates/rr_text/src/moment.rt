@@ -2,8 +2,9 @@
 ghost use Rattle.std.specs.Prelude.{◌≡◌, ◌+◌, ◌^◌, ◌<◌, ◌≤◌, ◌≤ℤ◌, pos, length, IfSome};
 ghost use Rattle.std.specs.List.{AllPass, list_all};
 ghost use Rattle.std.specs.Bool.{OnTrue};
-ghost use Rattle.rr_model.specs.Digits.{is_digit};
-ghost use Rattle.rr_model.specs.MomentText.{HasFourDigitYear, is_digits, number_at, written_year, written_month, written_day, basic_date, basic_time, basic_moment, basic, is_letter_t, utc_mark};
+ghost use Rattle.rr_model.specs.Text.Digits.{is_digit};
+ghost use Rattle.rr_model.specs.Moment.Years.{HasFourDigitYear};
+ghost use Rattle.rr_model.specs.Text.Moments.{is_digits, number_at, written_year, written_month, written_day, basic_date, basic_time, basic_moment, basic, is_letter_t, utc_mark};
 ghost use Rattle.rr_model.specs.Moment.{moment_at, day_part};
 ghost use Rattle.rr_model.specs.declared.kind.Kind.TheVariants.{Moments};
 
@@ -19,7 +20,7 @@ fn all_digits(text: &[u8]) -> bool
     text.iter().all(|b| b.is_ascii_digit())
 }
 
-#[tactic(auto, using(rr_model::proofs::MomentTextLemmas::is_digits_means), unfolding(rr_model::specs::MomentText::is_digits))]
+#[tactic(auto, using(rr_model::proofs::MomentTextLemmas::is_digits_means), unfolding(rr_model::specs::Text::Moments::is_digits))]
 fn is_digits(text: &[u8], count: usize) -> bool
     ensures test { result ≡ is_digits count text.now }
     ensures digits { OnTrue result ((length text.now ≡ count) × AllPass is_digit text.now) }
@@ -55,7 +56,7 @@ fn date_in(digits: &[u8]) -> Date
 }
 
 // The day number of a date YYYYMMDD of the years 1 to 9999.
-#[tactic(auto, unfolding(rr_model::specs::MomentText::basic_date))]
+#[tactic(auto, unfolding(rr_model::specs::Text::Moments::basic_date))]
 fn basic_date(text: &[u8]) -> Option<i64>
     ensures day { result ≡ basic_date text.now }
     ensures years { IfSome result HasFourDigitYear }
@@ -71,7 +72,7 @@ fn basic_date(text: &[u8]) -> Option<i64>
 }
 
 // The second of the day of a time HHMMSS.
-#[tactic(auto, unfolding(rr_model::specs::MomentText::basic_time))]
+#[tactic(auto, unfolding(rr_model::specs::Text::Moments::basic_time))]
 fn basic_time(text: &[u8]) -> Option<u32>
     ensures second { result ≡ basic_time text.now }
     ensures below { IfSome result (λ s. s < 86_400) }
@@ -116,7 +117,7 @@ fn moment_at(day: i64, second: u32) -> i64
 }
 
 // A moment YYYYMMDDTHHMMSS, and behind it a `Z` or nothing.
-#[tactic(auto, unfolding(rr_model::specs::MomentText::basic_moment))]
+#[tactic(auto, unfolding(rr_model::specs::Text::Moments::basic_moment))]
 fn basic_moment(text: &[u8]) -> Option<Stamp>
     ensures stamp { result ≡ basic_moment text.now }
     ensures years { IfSome result (λ s. HasFourDigitYear (day_part s.kind s.at)) }
@@ -141,7 +142,7 @@ fn basic_moment(text: &[u8]) -> Option<Stamp>
 ///
 /// The date exists and is of the years 1 to 9999, the hour is 00 to 23, minute and second are 00 to 59.
 /// `T` and `Z` stand in either case. Every other text is `None`.
-#[tactic(auto, unfolding(rr_model::specs::MomentText::basic))]
+#[tactic(auto, unfolding(rr_model::specs::Text::Moments::basic))]
 pub fn basic(text: &[u8]) -> Option<Stamp>
     ensures stamp { result ≡ basic text.now }
     ensures years { IfSome result (λ s. HasFourDigitYear (day_part s.kind s.at)) }

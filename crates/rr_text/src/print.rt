@@ -3,7 +3,8 @@ ghost use Rattle.std.specs.Prelude.{◌≡◌, ◌≤◌, ◌++◌, ◌∷◌, c
 ghost use Rattle.std.specs.Fmt.{signed_decimal};
 ghost use Rattle.rr_model.specs.Calendar.{IsDayWithin};
 ghost use Rattle.rr_model.specs.Moment.{day_part, second_part};
-ghost use Rattle.rr_model.specs.MomentText.{IsFromYearOne, padded, extended_date, extended_date_text, extended_time_text, extended_text};
+ghost use Rattle.rr_model.specs.Moment.Years.{IsFromYearOne};
+ghost use Rattle.rr_model.specs.Text.Moments.{padded, extended_date, extended_date_text, extended_time_text, extended_text};
 ghost use Rattle.rr_model.specs.declared.kind.Kind.TheVariants.{Moments};
 ghost use Rattle.rr_text.specs.Appending.{StandsInFront};
 
@@ -64,7 +65,7 @@ fn push_date(out: &mut Vec<u8>, year: u64, month: u8, day: u8) -> Result<(), NoM
     push_part(out, b'-', u64::from(day))
 }
 
-#[tactic(auto, unfolding(rr_model::specs::MomentText::extended_time_text))]
+#[tactic(auto, unfolding(rr_model::specs::Text::Moments::extended_time_text))]
 fn push_time(out: &mut Vec<u8>, second: u32) -> Result<(), NoMemory>
     ensures ok { OnOk result (out.new.items ≡ out.old.items ++ (codes "T" ++ extended_time_text second)) }
     ensures err { OnErr result (StandsInFront out.old.items out.new.items) }
@@ -99,7 +100,7 @@ fn second_part(at: i64) -> u32
     at.rem_euclid(DAY_SECONDS) as u32
 }
 
-#[tactic(auto, unfolding(rr_model::specs::MomentText::extended_text))]
+#[tactic(auto, unfolding(rr_model::specs::Text::Moments::extended_text))]
 fn push_parts(out: &mut Vec<u8>, kind: Kind, at: i64) -> Result<(), NoMemory>
     requires from { IsFromYearOne (day_part kind at) }
     requires near { IsDayWithin 0 (day_part kind at) }

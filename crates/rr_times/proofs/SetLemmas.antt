@@ -8,7 +8,7 @@ use Rattle.std.proofs.lemmas.List.{get_or_default, get_or-take, get_or-drop, len
 use Rattle.std.proofs.lemmas.List.Sums.{sum_by-cons}
 use Rattle.std.proofs.lemmas.List.Elements.{Contains-get_or, All-contains, All-from_get_or}
 use Rattle.rr_model.specs.Rising.{Rises}
-use Rattle.rr_model.specs.RisingSet.{IsSetOf, IsSecondsOfDay}
+use Rattle.rr_model.specs.Rising.Sets.{IsSetOf, IsSecondsOfDay}
 use Rattle.rr_model.proofs.RisingSetLemmas.{rising_at, Rises-from_places, length-le_bound}
 use Rattle.rr_times.specs.Split.{SplitsAt}
 

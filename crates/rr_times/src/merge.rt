@@ -1,7 +1,7 @@
 // Rising lists of seconds, merged in one pass.
 ghost use Rattle.std.specs.Prelude.{◌≡◌, ◌⊎◌, ◌<◌, ◌≤◌, ◌↔◌, Contains, IfOk, IsTrue, length, nat_lt, slice_index};
 ghost use Rattle.rr_model.specs.Rising.{Rises};
-ghost use Rattle.rr_model.specs.RisingSet.{IsSetOf};
+ghost use Rattle.rr_model.specs.Rising.Sets.{IsSetOf};
 
 use std::alloc::{AllocError, Global};
 

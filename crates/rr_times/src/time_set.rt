@@ -6,7 +6,7 @@ ghost use Rattle.std.proofs.lemmas.Cmp.{nat_list_eq_equiv};
 ghost use Rattle.std.specs.Cmp.{partial_equiv_from_equiv};
 ghost use Rattle.std.specs.Cmp.Rules.{hashing};
 ghost use Rattle.std.specs.Hash as fed;
-ghost use Rattle.rr_model.specs.RisingSet.{IsSetOf, IsSecondsOfDay};
+ghost use Rattle.rr_model.specs.Rising.Sets.{IsSetOf, IsSecondsOfDay};
 
 use crate::merge::{difference_of, union_of};
 use crate::rank::count_below;
@@ -26,7 +26,7 @@ pub struct TimeSet {
 
 impl Model for TimeSet {
     ghost use Rattle.std.specs.Prelude.{List, ℕ};
-    ghost use Rattle.rr_model.specs.RisingSet.{IsSecondsOfDay};
+    ghost use Rattle.rr_model.specs.Rising.Sets.{IsSecondsOfDay};
 
     ghost Value = { List ℕ };
 

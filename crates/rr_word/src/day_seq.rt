@@ -1,6 +1,6 @@
 // A set of occurrences, read day by day.
 ghost use Rattle.std.specs.Prelude.{◌≡◌, ◌≤◌, pos, neg_ℤ, ◌≤ℤ◌, IfSome};
-ghost use Rattle.rr_model.specs.Sketch.{IsDaySequence, IsFirstDay, IsNearDay, times_on};
+ghost use Rattle.rr_model.specs.Sets.Sketch.{IsDaySequence, IsFirstDay, IsNearDay, times_on};
 ghost use Rattle.rr_model.specs.declared.sketch.Sketch.{Sketch};
 
 use rr_model::Kind;

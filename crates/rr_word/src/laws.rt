@@ -1,5 +1,5 @@
 // For how many days two sequences are to be compared, each law the contract of a function that does nothing.
-ghost use Rattle.rr_model.specs.SketchLaws.{AgreementOfSketchesLasts, WindowOfSketchesLasts};
+ghost use Rattle.rr_model.specs.Sets.SketchLaws.{AgreementOfSketchesLasts, WindowOfSketchesLasts};
 
 use crate::DaySeq;
 

@@ -1,6 +1,6 @@
 use Rattle.std.proofs.Common.{arith, pos, ◌+ℤ◌, ◌-ℤ◌}
 use Rattle.jiff_core.proofs.SignedLemmas.{signed_arith}
-use Rattle.rr_model.specs.Week.{week_index, fourth_day}
+use Rattle.rr_model.specs.Calendar.Week.{week_index, fourth_day}
 use Rattle.rr_model.proofs.FloorLemmas.{floor_div-int}
 use Rattle.rr_cal.proofs.week.fourth_of_week.Goals as goal
 

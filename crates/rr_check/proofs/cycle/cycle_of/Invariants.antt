@@ -1,6 +1,6 @@
 use Rattle.std.proofs.Common.{◌≡◌, ◌≤◌, drop}
-use Rattle.rr_model.specs.Cycle.{lcm}
-use Rattle.rr_model.specs.SeriesCycle.{rules_cycle}
+use Rattle.rr_model.specs.Whole.Divisors.{lcm}
+use Rattle.rr_model.specs.Series.Cycle.{rules_cycle}
 use Rattle.rr_check.proofs.cycle.cycle_of.Given as goal
 
 abbrev pub invariant-loop-rule : goal.invariant-loop-rule

@@ -1,5 +1,5 @@
 use Rattle.std.proofs.Common.{arith, rules, ◌≡◌, ◌∙◌, true, false, sym, ap, is_some, FitsSigned, w64, to_z-of_z}
-use Rattle.rr_model.specs.Soundness.{rule_fault}
+use Rattle.rr_model.specs.Series.Soundness.{rule_fault}
 use Rattle.rr_check.proofs.FaultLemmas.{fault_is, fault_later}
 use Rattle.rr_check.proofs.LoopLemmas.{next_is}
 use Rattle.rr_check.proofs.faults.first_fault.Goals as goal

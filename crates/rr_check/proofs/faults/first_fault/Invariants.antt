@@ -1,5 +1,5 @@
 use Rattle.std.proofs.Common.{◌≡◌, ◌+◌, drop}
-use Rattle.rr_model.specs.Soundness.{first_fault, rules_fault}
+use Rattle.rr_model.specs.Series.Soundness.{first_fault, rules_fault}
 use Rattle.rr_check.proofs.faults.first_fault.Given as goal
 
 abbrev pub invariant-loop-rule : goal.invariant-loop-rule

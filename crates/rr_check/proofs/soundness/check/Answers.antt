@@ -1,5 +1,5 @@
 use Rattle.std.proofs.Common.{◌≡◌, None, sym, ◌∙◌}
-use Rattle.rr_model.specs.Soundness.{first_fault}
+use Rattle.rr_model.specs.Series.Soundness.{first_fault}
 use Rattle.rr_model.proofs.SoundnessLemmas.{rules_fit}
 use Rattle.rr_check.proofs.soundness.check.Goals as goal
 

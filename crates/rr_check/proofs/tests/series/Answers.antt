@@ -2,7 +2,9 @@ use Rattle.std.proofs.Common.{◌≡◌, true, List, [], ◌∷◌, ◌++◌, �
 use Rattle.std.proofs.lemmas.Bool.{false≢true}
 use Rattle.std.proofs.lemmas.Int.{ints}
 use Rattle.std.proofs.lemmas.List.Elements.{All-nil, All-cons}
-use Rattle.rr_model.specs.RuleValidity.{EndsInYears, IsInYears, IsValidRule, IsValidSeries}
+use Rattle.rr_model.specs.Rule.Validity.{EndsInYears, IsValidRule}
+use Rattle.rr_model.specs.Moment.Years.{IsInYears}
+use Rattle.rr_model.specs.Series.Validity.{IsValidSeries}
 use Rattle.rr_model.specs.declared.kind.Kind.TheVariants.{Days}
 use Rattle.rr_model.specs.declared.rule.End.TheVariants.{Never}
 use Rattle.rr_model.specs.declared.rule.Rule.{Rule}

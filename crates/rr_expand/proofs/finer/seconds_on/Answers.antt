@@ -1,6 +1,6 @@
 use Rattle.std.proofs.Common.{◌∙◌, sym, [], rules, FitsSigned, w64, to_z-of_z}
 use Rattle.std.specs.Prelude.{nat_lt}
-use Rattle.rr_model.specs.RisingSet.{IsSetOf}
+use Rattle.rr_model.specs.Rising.Sets.{IsSetOf}
 use Rattle.rr_expand.specs.Expansion.{IsCandidateSecond}
 use Rattle.rr_expand.proofs.SetLemmas.{ok_set}
 use Rattle.rr_expand.proofs.TimeLemmas.{seconds_of_day}

@@ -1,8 +1,8 @@
 use Rattle.std.proofs.Common.{◌≡◌, ◌∙◌, sym, ap, subst, arith, ℕ, Bool, pos, ◌∷◌, [], ◌++◌}
 use Rattle.std.specs.Prelude.{nat_lt}
-use Rattle.rr_model.specs.Candidate.{allows}
-use Rattle.rr_model.specs.Filled.{filled_part}
-use Rattle.rr_model.specs.RisingSet.{IsSetOf}
+use Rattle.rr_model.specs.Rule.Candidate.{allows}
+use Rattle.rr_model.specs.Rule.Filled.{filled_part}
+use Rattle.rr_model.specs.Rising.Sets.{IsSetOf}
 use Rattle.rr_expand.proofs.SetLemmas.{Passed, passed_more, passed_same}
 use Rattle.rr_expand.proofs.time_parts.allowed.Goals as goal
 use Rattle.rr_expand.proofs.time_parts.allowed.Goals.{then-allows_filled+in_ok-push, else-allows_filled}

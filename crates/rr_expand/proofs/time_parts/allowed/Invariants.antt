@@ -1,7 +1,7 @@
 use Rattle.std.specs.Prelude.{◌<◌, IsTrue, nat_lt, pos}
-use Rattle.rr_model.specs.Candidate.{allows}
-use Rattle.rr_model.specs.Filled.{filled_part}
-use Rattle.rr_model.specs.RisingSet.{IsSetOf}
+use Rattle.rr_model.specs.Rule.Candidate.{allows}
+use Rattle.rr_model.specs.Rule.Filled.{filled_part}
+use Rattle.rr_model.specs.Rising.Sets.{IsSetOf}
 use Rattle.rr_expand.proofs.time_parts.allowed.Given as goal
 
 abbrev pub invariant-loop-n : goal.invariant-loop-n

@@ -1,6 +1,6 @@
 use Rattle.std.proofs.Common.{◌∙◌, sym, to_z-of_z, rules, FitsSigned, w64}
 use Rattle.std.specs.Prelude.{int_lt}
-use Rattle.rr_model.specs.RisingSet.{IsSetOf}
+use Rattle.rr_model.specs.Rising.Sets.{IsSetOf}
 use Rattle.rr_expand.specs.Expansion.{IsAllowedDay, IsCandidateDay}
 use Rattle.rr_expand.proofs.SetLemmas.{ok_so}
 use Rattle.rr_expand.proofs.CandidateDays.{candidate_days}

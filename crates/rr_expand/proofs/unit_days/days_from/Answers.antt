@@ -1,9 +1,9 @@
 use Rattle.std.proofs.Common.{◌≡◌, ◌∙◌, sym, ap, subst, arith, ℤ, Bool, pos, ◌+ℤ◌, w64, to_z, of_z, to_z-of_z}
 use Rattle.std.proofs.lemmas.Int.{ints}
 use Rattle.std.specs.Prelude.{int_lt}
-use Rattle.rr_model.specs.RisingSet.{IsSetOf}
-use Rattle.rr_model.specs.Candidate.{date_parts_hold}
-use Rattle.rr_model.specs.Filled.{filled}
+use Rattle.rr_model.specs.Rising.Sets.{IsSetOf}
+use Rattle.rr_model.specs.Rule.Candidate.{date_parts_hold}
+use Rattle.rr_model.specs.Rule.Filled.{filled}
 use Rattle.rr_model.specs.declared.kind.Kind.TheVariants.{Days}
 use Rattle.rr_expand.specs.Expansion.{IsAllowedDay}
 use Rattle.rr_expand.proofs.DaySets.{days_more, days_same}

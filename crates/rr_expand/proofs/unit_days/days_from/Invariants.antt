@@ -1,5 +1,5 @@
 use Rattle.std.specs.Prelude.{int_lt}
-use Rattle.rr_model.specs.RisingSet.{IsSetOf}
+use Rattle.rr_model.specs.Rising.Sets.{IsSetOf}
 use Rattle.rr_expand.specs.Expansion.{IsAllowedDay}
 use Rattle.rr_expand.proofs.unit_days.days_from.Given as goal
 

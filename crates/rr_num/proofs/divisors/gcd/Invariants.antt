@@ -1,5 +1,5 @@
 use Rattle.std.proofs.Common.{◌≡◌}
-use Rattle.rr_model.specs.Cycle.{gcd}
+use Rattle.rr_model.specs.Whole.Divisors.{gcd}
 use Rattle.rr_num.proofs.divisors.gcd.Given as goal
 
 abbrev pub invariant-loop-rest : goal.invariant-loop-rest

@@ -1,6 +1,6 @@
 use Rattle.std.proofs.Common.{◌≡◌, length, drop}
-use Rattle.rr_model.specs.Reads.{no_parts, with_parts}
-use Rattle.rr_model.specs.RuleText.{pieces}
+use Rattle.rr_model.specs.Text.Rules.{no_parts, with_parts}
+use Rattle.rr_model.specs.Text.RuleValues.{pieces}
 use Rattle.rr_rrule.proofs.parts.parts_between.Given as goal
 
 abbrev pub invariant-loop-piece : goal.invariant-loop-piece

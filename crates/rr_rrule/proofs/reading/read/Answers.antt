@@ -1,5 +1,5 @@
 use Rattle.std.proofs.Common.{rules}
-use Rattle.rr_model.specs.Reads.{reads}
+use Rattle.rr_model.specs.Text.Rules.{reads}
 use Rattle.rr_rrule.proofs.ValidityLemmas.{answers_valid}
 use Rattle.rr_rrule.proofs.reading.read.Goals as goal
 

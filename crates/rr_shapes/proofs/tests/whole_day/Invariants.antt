@@ -1,5 +1,5 @@
 use Rattle.std.proofs.Common.{nat_lt, ◌<◌}
-use Rattle.rr_model.specs.RisingSet.{IsSetOf}
+use Rattle.rr_model.specs.Rising.Sets.{IsSetOf}
 use Rattle.rr_shapes.proofs.tests.whole_day.Given as goal
 
 abbrev pub invariant-loop-second : goal.invariant-loop-second

@@ -1,5 +1,5 @@
 use Rattle.std.proofs.Common.{◌≡◌, take}
-use Rattle.rr_model.specs.Digits.{digits_value}
+use Rattle.rr_model.specs.Text.Digits.{digits_value}
 use Rattle.rr_text.proofs.digits.value_of.Given as goal
 
 abbrev pub invariant-loop-digit : goal.invariant-loop-digit

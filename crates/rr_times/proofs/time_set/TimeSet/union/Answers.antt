@@ -1,5 +1,5 @@
 use Rattle.std.proofs.Common.{nat_lt, inl, inr}
-use Rattle.rr_model.specs.RisingSet.{IsSetOf}
+use Rattle.rr_model.specs.Rising.Sets.{IsSetOf}
 use Rattle.rr_times.proofs.MergeLemmas.{InEither}
 use Rattle.rr_times.proofs.SetLemmas.{some_seconds, second_of_day}
 use Rattle.rr_times.proofs.time_set.TimeSet.union.Goals as goal

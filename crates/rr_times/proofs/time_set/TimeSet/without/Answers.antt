@@ -1,5 +1,5 @@
 use Rattle.std.proofs.Common.{nat_lt}
-use Rattle.rr_model.specs.RisingSet.{IsSetOf}
+use Rattle.rr_model.specs.Rising.Sets.{IsSetOf}
 use Rattle.rr_times.proofs.MergeLemmas.{InFirstAlone}
 use Rattle.rr_times.proofs.SetLemmas.{some_seconds, second_of_day}
 use Rattle.rr_times.proofs.time_set.TimeSet.without.Goals as goal

@@ -2,7 +2,7 @@
 use Rattle.std.specs.Prelude.{◌≡◌, ℕ, ◌==◌, nat_lt, Bool, not, ◌&&◌, List, [], ◌∷◌, ◌++◌, length, codes, Ok, IsTrue}
 use Rattle.std.specs.List.{list_all, join_with_byte}
 use Rattle.std.specs.Str.{str_to_ascii_lowercase}
-use Rattle.rr_model.specs.Reads.{is_blank, reads}
+use Rattle.rr_model.specs.Text.Rules.{is_blank, reads}
 use Rattle.rr_model.specs.declared.rule.Series.{Series}
 
 -- a text of a start line and a rule line

@@ -1,9 +1,8 @@
--- Which rules and series are valid (RFC 5545, section 3.3.10).
-use Rattle.std.specs.Prelude.{◌≡◌, ℕ, ◌+◌, ◌<◌, ◌≤◌, Bool, true, false, not, ◌&&◌, ◌||◌, IsTrue, ⊤, List, [], ◌∷◌, length, All, ℤ, pos, nat_abs, ◌≤ℤ◌, ◌<ℤ◌}
+-- Which rules are valid (RFC 5545, section 3.3.10).
+use Rattle.std.specs.Prelude.{ℕ, ◌<◌, ◌≤◌, Bool, true, false, not, ◌&&◌, ◌||◌, IsTrue, ⊤, List, [], ◌∷◌, All, ℤ, pos, nat_abs, ◌≤ℤ◌}
 use Rattle.std.specs.List.{list_any}
 use Rattle.std.specs.Ordering.{int_eq}
-use Rattle.rr_model.specs.Calendar.{first_day_of_year}
-use Rattle.rr_model.specs.Moment.{day_part}
+use Rattle.rr_model.specs.Moment.Years.{IsInYears}
 use Rattle.rr_model.specs.declared.kind.Kind.{Kind}
 use Rattle.rr_model.specs.declared.kind.Kind.TheVariants.{Days}
 use Rattle.rr_model.specs.declared.rule.Freq.{Freq}
@@ -12,7 +11,6 @@ use Rattle.rr_model.specs.declared.rule.End.{End}
 use Rattle.rr_model.specs.declared.rule.End.TheVariants.{Until, Count, Both}
 use Rattle.rr_model.specs.declared.rule.DayItem.{DayItem}
 use Rattle.rr_model.specs.declared.rule.Rule.{Rule}
-use Rattle.rr_model.specs.declared.rule.Series.{Series}
 
 -- ---- numbers of the parts
 
@@ -90,7 +88,7 @@ takes_start Minutely Days = false
 takes_start Hourly Days = false
 takes_start freq kind = true
 
--- ---- rules and series
+-- ---- rules
 
 -- the rule's numbers lie in their ranges, and its parts may stand together
 pub record IsValidRule (kind : Kind) (rule : Rule) : Type 0 where
@@ -110,27 +108,8 @@ pub record IsValidRule (kind : Kind) (rule : Rule) : Type 0 where
   pub parts : IsTrue (is_allowed rule)
   pub start : IsTrue (takes_start rule.freq kind)
 
--- the moment lies in the years 1 to 9999
-abbrev pub IsInYears : Kind → ℤ → Type 0
-IsInYears kind t = (first_day_of_year (pos 1) ≤ℤ day_part kind t) × (day_part kind t <ℤ first_day_of_year (pos 10_000))
-
 -- an UNTIL lies in the years 1 to 9999
 abbrev pub EndsInYears : End → Type 0
 EndsInYears (Until kind at) = IsInYears kind at
 EndsInYears (Both kind at n) = IsInYears kind at
 EndsInYears end = ⊤
-
--- nothing occurs in it
-abbrev pub IsEmptySeries : Series → Type 0
-IsEmptySeries series = (series.kind ≡ Days) × (series.start ≡ pos 0) × (series.rules ≡ []) × (series.plus ≡ []) × (series.minus ≡ [])
-
--- the series' rules are valid beside its start, and its moments lie in the years 1 to 9999
-pub record IsValidSeries (series : Series) : Type 0 where
-  pub start : IsInYears series.kind series.start
-  pub start_counts : series.start_counts ≡ false → IsEmptySeries series
-  pub rules : All (IsValidRule series.kind) series.rules
-  pub few_rules : length series.rules ≤ 16
-  pub ends : All (λ rule. EndsInYears rule.end) series.rules
-  pub plus : All (IsInYears series.kind) series.plus
-  pub minus : All (IsInYears series.kind) series.minus
-  pub few_dates : length series.plus + length series.minus ≤ 10_000

@@ -4,7 +4,7 @@ use Rattle.std.specs.List.{list_all, slice_split}
 use Rattle.std.specs.Option.{is_some}
 use Rattle.std.specs.Str.{bytes_eq}
 use Rattle.std.specs.Str.Parse.{without_leading_sign, signed_digits_value}
-use Rattle.rr_model.specs.Digits.{is_digit, digits_value}
+use Rattle.rr_model.specs.Text.Digits.{is_digit, digits_value}
 use Rattle.rr_model.specs.Rising.{with_value, day_item_lt}
 use Rattle.rr_model.specs.declared.refusal.Refusal.{Refusal}
 use Rattle.rr_model.specs.declared.refusal.Refusal.TheVariants.{BadRule, NumberRange, LeapSecond}

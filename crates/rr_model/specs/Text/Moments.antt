@@ -1,21 +1,13 @@
 -- The texts of dates and moments: basic ones are read (RFC 5545, sections 3.3.4 and 3.3.5), extended ones printed (ISO 8601).
-use Rattle.std.specs.Prelude.{ℕ, ◌+◌, ◌-◌, ◌*◌, ◌/◌, ◌%◌, ◌==◌, nat_le, nat_lt, Bool, true, false, ◌&&◌, ◌||◌, if◌then◌else◌, ℤ, pos, neg_ℤ, nat_abs, ◌≤ℤ◌, List, [], ◌∷◌, ◌++◌, length, take, drop, replicate, slice_index, codes, Option, None, Some, option_map}
+use Rattle.std.specs.Prelude.{ℕ, ◌+◌, ◌-◌, ◌*◌, ◌/◌, ◌%◌, ◌==◌, nat_le, nat_lt, Bool, true, false, ◌&&◌, ◌||◌, if◌then◌else◌, ℤ, pos, nat_abs, List, [], ◌∷◌, ◌++◌, length, take, drop, replicate, slice_index, codes, Option, None, Some, option_map}
 use Rattle.std.specs.Fmt.{decimal}
 use Rattle.std.specs.List.{list_all}
 use Rattle.rr_model.specs.Calendar.{is_date, day_number, year_of, month_of, day_of_month}
-use Rattle.rr_model.specs.Digits.{is_digit, digits_value}
+use Rattle.rr_model.specs.Text.Digits.{is_digit, digits_value}
 use Rattle.rr_model.specs.Moment.{day_part, second_part, moment_at}
 use Rattle.rr_model.specs.declared.kind.Kind.{Kind}
 use Rattle.rr_model.specs.declared.kind.Kind.TheVariants.{Days, Moments}
 use Rattle.rr_model.specs.declared.stamp.Stamp.{Stamp}
-
--- a day from 0001-01-01 on
-abbrev pub IsFromYearOne : ℤ → Type 0
-IsFromYearOne day = neg_ℤ (pos 719_162) ≤ℤ day
-
--- a day from 0001-01-01 to 9999-12-31
-abbrev pub HasFourDigitYear : ℤ → Type 0
-HasFourDigitYear day = IsFromYearOne day × (day ≤ℤ pos 2_932_896)
 
 -- the text is so many digits
 unfoldable pub is_digits : ℕ → List ℕ → Bool

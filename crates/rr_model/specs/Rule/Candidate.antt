@@ -4,12 +4,12 @@ use Rattle.std.specs.List.{list_any}
 use Rattle.std.specs.Ordering.{int_eq}
 use Rattle.rr_model.specs.Whole.{divides}
 use Rattle.rr_model.specs.Calendar.{year_of, month_of, day_of_month, day_of_year, weekday_of, month_length, year_length}
-use Rattle.rr_model.specs.Week.{week_index, week_year, week_number, last_week}
+use Rattle.rr_model.specs.Calendar.Week.{week_index, week_year, week_number, last_week}
 use Rattle.rr_model.specs.Moment.{day_part}
-use Rattle.rr_model.specs.Count.{count_from}
-use Rattle.rr_model.specs.Units.{unit_number}
-use Rattle.rr_model.specs.RuleValidity.{is_absent}
-use Rattle.rr_model.specs.Filled.{hour_of, minute_of, second_of, filled}
+use Rattle.rr_model.specs.Whole.Count.{count_from}
+use Rattle.rr_model.specs.Moment.Units.{unit_number}
+use Rattle.rr_model.specs.Rule.Validity.{is_absent}
+use Rattle.rr_model.specs.Rule.Filled.{hour_of, minute_of, second_of, filled}
 use Rattle.rr_model.specs.declared.kind.Kind.{Kind}
 use Rattle.rr_model.specs.declared.rule.DayItem.{DayItem}
 use Rattle.rr_model.specs.declared.rule.Freq.{Freq}

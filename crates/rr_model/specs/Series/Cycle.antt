@@ -1,6 +1,7 @@
 -- After how many days a series repeats once its finite rules and its dates are over (RFC 5545, section 3.8.5).
 use Rattle.std.specs.Prelude.{ℕ, List, [], ◌∷◌}
-use Rattle.rr_model.specs.Cycle.{lcm, rule_cycle}
+use Rattle.rr_model.specs.Whole.Divisors.{lcm}
+use Rattle.rr_model.specs.Rule.Cycle.{rule_cycle}
 use Rattle.rr_model.specs.declared.rule.End.{End}
 use Rattle.rr_model.specs.declared.rule.End.TheVariants.{Never}
 use Rattle.rr_model.specs.declared.rule.Rule.{Rule}

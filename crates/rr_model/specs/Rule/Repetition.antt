@@ -1,8 +1,8 @@
 -- Chosen moments repeat.
 use Rattle.std.specs.Prelude.{◌≡◌, ℤ, pos, ◌+ℤ◌, ◌*ℤ◌}
-use Rattle.rr_model.specs.RuleValidity.{IsValidRule}
-use Rattle.rr_model.specs.Cycle.{rule_cycle}
-use Rattle.rr_model.specs.Chosen.{is_chosen}
+use Rattle.rr_model.specs.Rule.Validity.{IsValidRule}
+use Rattle.rr_model.specs.Rule.Cycle.{rule_cycle}
+use Rattle.rr_model.specs.Rule.Chosen.{is_chosen}
 use Rattle.rr_model.specs.declared.kind.Kind.{Kind}
 use Rattle.rr_model.specs.declared.kind.Kind.TheVariants.{Days, Moments}
 use Rattle.rr_model.specs.declared.rule.Rule.{Rule}

@@ -3,9 +3,9 @@ use Rattle.std.specs.Prelude.{ℕ, ◌+◌, ◌-◌, ◌==◌, nat_lt, nat_le, B
 use Rattle.std.specs.List.{list_all, take_while}
 use Rattle.std.specs.Option.{is_some}
 use Rattle.std.specs.Str.{bytes_eq, str_to_ascii_uppercase}
-use Rattle.rr_model.specs.MomentText.{basic}
-use Rattle.rr_model.specs.RuleText.{◌>>=◌, pieces, in_table, freq_named, weekday_named, number_up_to, unsigned, signed, seconds, numbers_of, day_items_of}
-use Rattle.rr_model.specs.RuleValidity.{is_absent, is_allowed, takes_start}
+use Rattle.rr_model.specs.Text.Moments.{basic}
+use Rattle.rr_model.specs.Text.RuleValues.{◌>>=◌, pieces, in_table, freq_named, weekday_named, number_up_to, unsigned, signed, seconds, numbers_of, day_items_of}
+use Rattle.rr_model.specs.Rule.Validity.{is_absent, is_allowed, takes_start}
 use Rattle.rr_model.specs.declared.kind.Kind.{Kind}
 use Rattle.rr_model.specs.declared.kind.Kind.TheVariants.{Days, Moments}
 use Rattle.rr_model.specs.declared.refusal.Refusal.{Refusal}

@@ -1,8 +1,8 @@
 -- Whether the rules of a series fit its start (RFC 5545, section 3.3.10 on UNTIL, and section 3.8.5.3 on DTSTART).
 use Rattle.std.specs.Prelude.{◌≡◌, ℕ, suc, if◌then◌else◌, Option, None, Some, ⊤, List, [], ◌∷◌, All, ℤ, ◌≤ℤ◌, int_lt}
 use Rattle.std.specs.Option.{option_or}
-use Rattle.rr_model.specs.RuleValidity.{IsValidSeries}
-use Rattle.rr_model.specs.Chosen.{is_chosen, IsSynchronised}
+use Rattle.rr_model.specs.Series.Validity.{IsValidSeries}
+use Rattle.rr_model.specs.Rule.Chosen.{is_chosen, IsSynchronised}
 use Rattle.rr_model.specs.declared.kind.Kind.{Kind}
 use Rattle.rr_model.specs.declared.kind.Kind.TheVariants.{Days, Moments}
 use Rattle.rr_model.specs.declared.refusal.Refusal.{Refusal}

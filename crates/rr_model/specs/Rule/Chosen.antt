@@ -1,9 +1,9 @@
 -- Which moments a rule chooses (RFC 5545, section 3.3.10, BYSETPOS), and which are its members (UNTIL and COUNT).
 use Rattle.std.specs.Prelude.{ℕ, ◌≤◌, Bool, ◌&&◌, ◌||◌, IsTrue, ⊤, ℤ, pos, neg_ℤ, nat_abs, ◌+ℤ◌, ◌-ℤ◌, ◌≤ℤ◌}
-use Rattle.rr_model.specs.Count.{count_from}
-use Rattle.rr_model.specs.Units.{unit_number, unit_start}
-use Rattle.rr_model.specs.RuleValidity.{is_absent}
-use Rattle.rr_model.specs.Candidate.{lists, is_candidate}
+use Rattle.rr_model.specs.Whole.Count.{count_from}
+use Rattle.rr_model.specs.Moment.Units.{unit_number, unit_start}
+use Rattle.rr_model.specs.Rule.Validity.{is_absent}
+use Rattle.rr_model.specs.Rule.Candidate.{lists, is_candidate}
 use Rattle.rr_model.specs.declared.kind.Kind.{Kind}
 use Rattle.rr_model.specs.declared.rule.End.{End}
 use Rattle.rr_model.specs.declared.rule.End.TheVariants.{Never, Until, Count, Both}

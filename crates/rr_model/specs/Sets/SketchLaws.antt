@@ -2,9 +2,9 @@
 use Rattle.std.specs.Prelude.{ℕ, ◌+◌, ◌≤◌, ℤ, pos, ◌+ℤ◌, ◌≤ℤ◌, ◌<ℤ◌, List}
 use Rattle.std.specs.Int.{◌∣◌}
 use Rattle.std.specs.List.{Contains}
-use Rattle.rr_model.specs.Periodic.{AgreeOn, AgreeFrom}
-use Rattle.rr_model.specs.Sketch.{times_on}
-use Rattle.rr_model.specs.Verdict.{HoldsOn}
+use Rattle.rr_model.specs.Whole.Periodic.{AgreeOn, AgreeFrom}
+use Rattle.rr_model.specs.Sets.Sketch.{times_on}
+use Rattle.rr_model.specs.Sets.Verdict.{HoldsOn}
 use Rattle.rr_model.specs.declared.sketch.Sketch.{Sketch}
 use Rattle.rr_model.specs.declared.verdict.Side.{Side}
 
