@@ -40,3 +40,4 @@ pub mod StartLemmas
 pub mod ReadingLemmas
 pub mod RulePartLemmas
 pub mod PartOrderLemmas
+pub mod TreeLemmas

@@ -1,4 +1,8 @@
 -- Series of rules and dates (RFC 5545, section 3.8.5).
 pub mod Cycle
+pub mod Limits
+pub mod Occurrences
+pub mod Settled
 pub mod Soundness
+pub mod Tree
 pub mod Validity

@@ -1,6 +1,7 @@
 // Laws about the definitions, each the contract of a function that does nothing.
 ghost use Rattle.rr_model.specs.Whole.Divisors.{GcdIsGreatest, LcmIsLeast};
 ghost use Rattle.rr_model.specs.Whole.Periodic.{AgreementLasts};
+ghost use Rattle.rr_model.specs.Series.Settled.{SettledDayIsOne};
 ghost use Rattle.rr_model.specs.Text.RuleLaws.{CaseDoesNotMatter, OrderDoesNotMatter};
 
 /// Two sequences that repeat, and agree on as many places in a row as both periods together, agree for ever.
@@ -26,4 +27,9 @@ pub fn case_does_not_matter()
 /// Two neighbouring parts of a rule that is read may be exchanged: the series is the same.
 pub fn order_does_not_matter()
     ensures { OrderDoesNotMatter }
+{}
+
+/// A series has one settled day at most.
+pub fn settled_day_is_one()
+    ensures { SettledDayIsOne }
 {}

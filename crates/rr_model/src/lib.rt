@@ -19,6 +19,7 @@ pub use calendar_laws::{calendar_repeats, dates_and_days_are_inverse, last_week_
 pub use kind::Kind;
 pub use laws::{
     agreement_lasts, case_does_not_matter, gcd_is_greatest, lcm_is_least, order_does_not_matter,
+    settled_day_is_one,
 };
 pub use limits::{MAX_CYCLE_DAYS, MAX_DAY, MAX_INPUT, MAX_SECONDS};
 pub use lists::{Dates, DayItems, DayShapes, Numbers, Rules, Seconds};

@@ -13,7 +13,8 @@ use Rattle.std.specs.Cmp.Lexicographic.{pointwise, bytes_decides}
 use Rattle.std.specs.List.{list_any, AllByRecursion, IsDistinct}
 use Rattle.indexmap.specs.IndexSet.{insert_key}
 use Rattle.rr_model.specs.Rising.Sets.{IsSecondsOfDay}
-use Rattle.rr_shapes.specs.Numbering.{total_size, IsNumbering, IsCounted}
+use Rattle.rr_model.specs.Sets.Sizes.{total_size}
+use Rattle.rr_shapes.specs.Numbering.{IsNumbering, IsCounted}
 use Rattle.rr_shapes.specs.Placing.{IsPlaced, IsTooMany}
 
 -- the same seconds

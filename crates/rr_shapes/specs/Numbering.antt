@@ -1,11 +1,8 @@
 -- Time sets that are numbered by their places in a list.
-use Rattle.std.specs.Prelude.{◌≡◌, ◌≢◌, ℕ, ◌≤◌, List, All, AllPairs, length, sum_by}
+use Rattle.std.specs.Prelude.{◌≡◌, ◌≢◌, ℕ, ◌≤◌, List, All, AllPairs}
 use Rattle.rr_model.specs.Rising.Sets.{IsSecondsOfDay}
+use Rattle.rr_model.specs.Sets.Sizes.{total_size}
 use Rattle.rr_model.specs.declared.limits.TheConstants.{MAX_SECONDS}
-
--- the sum of the sets' sizes
-abbrev pub total_size : List (List ℕ) → ℕ
-total_size sets = sum_by length sets
 
 -- different numbers have different sets, and each is a set of seconds of a day
 pub record IsNumbering (sets : List (List ℕ)) : Type 0 where

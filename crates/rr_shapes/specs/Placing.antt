@@ -1,6 +1,6 @@
 -- How a time set gets its number.
 use Rattle.std.specs.Prelude.{◌≡◌, ℕ, ◌+◌, ◌<◌, List, [], ◌∷◌, ◌++◌, length, slice_get, Some, Contains}
-use Rattle.rr_shapes.specs.Numbering.{total_size}
+use Rattle.rr_model.specs.Sets.Sizes.{total_size}
 use Rattle.rr_model.specs.declared.limits.TheConstants.{MAX_SECONDS}
 
 -- the set stands at its number: one that was there before changes nothing, and a new one gets the next number

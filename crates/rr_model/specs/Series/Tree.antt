@@ -1,0 +1,39 @@
+-- The tree that stands for a series (RFC 5545, section 3.8.5).
+use Rattle.std.specs.Prelude.{◌≡◌, ◌↔◌, true, List, [], ◌∷◌, if◌then◌else◌, int_lt, ℤ}
+use Rattle.rr_model.specs.Rising.{with_value}
+use Rattle.rr_model.specs.Series.Occurrences.{Occurs}
+use Rattle.rr_model.specs.Series.Soundness.{IsSound}
+use Rattle.rr_model.specs.Sets.Tree.{Tree, Forest, chosen_of, dates_of, union, many, upto, first_n, without, nothing, part, stands_in}
+use Rattle.rr_model.specs.declared.kind.Kind.{Kind}
+use Rattle.rr_model.specs.declared.rule.End.{End}
+use Rattle.rr_model.specs.declared.rule.End.TheVariants.{Never, Until, Count, Both}
+use Rattle.rr_model.specs.declared.rule.Rule.{Rule}
+use Rattle.rr_model.specs.declared.rule.Series.{Series}
+
+-- a tree up to the end of its rule
+abbrev pub ended : Kind → End → Tree → Tree
+ended kind Never a = a
+ended kind (Until other at) a = upto a kind at
+ended kind (Count count) a = first_n a count
+ended kind (Both other at count) a = first_n (upto a kind at) count
+
+-- the members of a rule
+abbrev pub members_of : Kind → ℤ → Rule → Tree
+members_of kind start rule = ended kind rule.end (chosen_of rule kind start)
+
+-- the members of each rule
+abbrev pub members_of_all : Kind → ℤ → List Rule → Forest
+members_of_all kind start [] = nothing
+members_of_all kind start (rule ∷ rules) = part (members_of kind start rule) (members_of_all kind start rules)
+
+-- the dates added, and the start where it counts
+abbrev pub dates_with_start : Series → List ℤ
+dates_with_start series = if series.start_counts then with_value int_lt series.plus series.start else series.plus
+
+-- the dates and the members of all rules, without the dates taken out
+abbrev pub tree_of : Series → Tree
+tree_of series = without (union (dates_of series.kind (dates_with_start series)) (many (members_of_all series.kind series.start series.rules))) series.kind series.minus
+
+-- Exactly what occurs in a sound series stands in its tree.
+abbrev pub TreeStandsForSeries : Type 0
+TreeStandsForSeries = (series : Series) (k : Kind) (t : ℤ) → IsSound series → ((k ≡ series.kind) × (stands_in (tree_of series) k t ≡ true)) ↔ Occurs series k t
