@@ -8,6 +8,7 @@ pub mod FloorLemmas
 pub mod NearLemmas
 pub mod PeriodicLemmas
 pub mod SecondsLemmas
+mod DescriptorExamples
 mod SketchExamples
 pub mod SketchLemmas
 pub mod RisingLemmas

@@ -1,4 +1,5 @@
 -- Series of rules and dates (RFC 5545, section 3.8.5).
+pub mod CanonLaw
 pub mod Cycle
 pub mod Limits
 pub mod Occurrences

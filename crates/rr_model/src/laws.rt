@@ -2,6 +2,8 @@
 ghost use Rattle.rr_model.specs.Whole.Divisors.{GcdIsGreatest, LcmIsLeast};
 ghost use Rattle.rr_model.specs.Whole.Periodic.{AgreementLasts};
 ghost use Rattle.rr_model.specs.Series.Settled.{SettledDayIsOne};
+ghost use Rattle.rr_model.specs.Sets.DividingOut.{LeastFactorIsOne};
+ghost use Rattle.rr_model.specs.Sets.Least.{LeastPeriodIsOne, LeastStartIsOne};
 ghost use Rattle.rr_model.specs.Text.RuleLaws.{CaseDoesNotMatter, OrderDoesNotMatter};
 
 /// Two sequences that repeat, and agree on as many places in a row as both periods together, agree for ever.
@@ -32,4 +34,19 @@ pub fn order_does_not_matter()
 /// A series has one settled day at most.
 pub fn settled_day_is_one()
     ensures { SettledDayIsOne }
+{}
+
+/// A number has one least factor at most.
+pub fn least_factor_is_one()
+    ensures { LeastFactorIsOne }
+{}
+
+/// A sequence has one least period at most.
+pub fn least_period_is_one()
+    ensures { LeastPeriodIsOne }
+{}
+
+/// A period has one least start at most.
+pub fn least_start_is_one()
+    ensures { LeastStartIsOne }
 {}

@@ -1,0 +1,15 @@
+-- The occupied days of a stretch.
+use Rattle.std.specs.Prelude.{ℕ, zero, suc, List, [], ◌∷◌, ◌++◌, ℤ, pos, ◌+ℤ◌}
+use Rattle.rr_model.specs.Sets.Sketch.{times_on}
+use Rattle.rr_model.specs.declared.sketch.DayShape.{DayShape}
+use Rattle.rr_model.specs.declared.sketch.Sketch.{Sketch}
+
+-- the day with its seconds, where it has some
+abbrev pub shape_if_some : ℤ → List ℕ → List DayShape
+shape_if_some day [] = []
+shape_if_some day (x ∷ xs) = record { day = day; times = x ∷ xs } ∷ []
+
+-- the occupied ones of the n days from q on, in order
+unfoldable pub occupied : Sketch → ℤ → ℕ → List DayShape
+occupied s q zero = []
+occupied s q (suc n) = occupied s q n ++ shape_if_some (q +ℤ pos n) (times_on s (q +ℤ pos n))
