@@ -15,7 +15,7 @@ use Rattle.rr_model.specs.declared.verdict.Side.TheVariants.{A, B, Both}
 use Rattle.rr_model.specs.declared.verdict.Verdict.{Verdict}
 use Rattle.rr_model.specs.declared.verdict.Verdict.TheVariants.{Yes, No}
 use Rattle.rr_model.proofs.SecondsLemmas.{Contains-first, Contains-none, Contains-or_not, first_least}
-use Rattle.rr_model.proofs.SketchLemmas.{rising_on, second_fits}
+use Rattle.rr_word.proofs.SketchLemmas.{rising_on, second_fits}
 use Rattle.rr_decide.specs.Question.{AreApart, HasNoneBefore, IsFirstDayShown, IsFirstOccurrence, IsShown, IsVerdictBy, ShowsNone}
 use Rattle.rr_decide.proofs.MergeLemmas.{HoldsOn-map, HoldsOn-some}
 use Rattle.rr_decide.proofs.OrderLemmas.{Before-compare, Before-trans, earlier_parts, parts_of_moment}

@@ -7,13 +7,13 @@ use Rattle.std.proofs.lemmas.Int.{ints, by_lt_z}
 use Rattle.rr_model.specs.Whole.Divisors.{lcm}
 use Rattle.rr_model.specs.Rising.{Rises}
 use Rattle.rr_model.specs.Sets.Sketch.{IsValidSketch, times_on}
-use Rattle.rr_model.specs.Sets.SketchLaws.{IsCommonMultiple}
+use Rattle.rr_word.specs.SketchLaws.{IsCommonMultiple}
 use Rattle.rr_model.specs.declared.sketch.Sketch.{Sketch}
 use Rattle.rr_model.specs.declared.verdict.Side.{Side}
 use Rattle.rr_model.specs.declared.verdict.Side.TheVariants.{A, B, Both}
 use Rattle.rr_model.proofs.DivisorLemmas.{lcm_is, lcm_some}
 use Rattle.rr_model.proofs.SecondsLemmas.{Contains-or_not, one_list}
-use Rattle.rr_model.proofs.SketchLemmas.{agreement_of_sketches_lasts, common_window, rising_on}
+use Rattle.rr_word.proofs.SketchLemmas.{agreement_of_sketches_lasts, common_window, rising_on}
 use Rattle.rr_decide.specs.Question.{HasNoneBefore, IsFirstDayShown, IsFirstShown, IsWindow, ShowsNone, ShowsNoneWithin, shown_by}
 use Rattle.rr_decide.specs.declared.question.Question.TheVariants.{Equal}
 use Rattle.rr_decide.proofs.StandsLemmas.{none_before_first}

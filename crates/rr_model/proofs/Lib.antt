@@ -9,8 +9,6 @@ pub mod NearLemmas
 pub mod PeriodicLemmas
 pub mod SecondsLemmas
 mod DescriptorExamples
-mod SketchExamples
-pub mod SketchLemmas
 pub mod RisingLemmas
 pub mod VerdictLemmas
 mod WeekExamples
@@ -18,7 +16,6 @@ pub mod WeekLemmas
 pub mod WholeLemmas
 pub mod MomentTextLemmas
 mod ChosenExamples
-pub mod WindowLemmas
 pub mod RisingSetLemmas
 pub mod DailyLemmas
 pub mod MomentLemmas

@@ -10,7 +10,6 @@ pub mod Printable
 pub mod Reading
 pub mod Sizes
 pub mod Sketch
-pub mod SketchLaws
 pub mod Stretches
 pub mod Tree
 pub mod Verdict

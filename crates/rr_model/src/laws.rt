@@ -1,15 +1,9 @@
 // Laws about the definitions, each the contract of a function that does nothing.
 ghost use Rattle.rr_model.specs.Whole.Divisors.{GcdIsGreatest, LcmIsLeast};
-ghost use Rattle.rr_model.specs.Whole.Periodic.{AgreementLasts};
 ghost use Rattle.rr_model.specs.Series.Settled.{SettledDayIsOne};
 ghost use Rattle.rr_model.specs.Sets.DividingOut.{LeastFactorIsOne};
 ghost use Rattle.rr_model.specs.Sets.Least.{LeastPeriodIsOne, LeastStartIsOne};
 ghost use Rattle.rr_model.specs.Text.RuleLaws.{CaseDoesNotMatter, OrderDoesNotMatter};
-
-/// Two sequences that repeat, and agree on as many places in a row as both periods together, agree for ever.
-pub fn agreement_lasts()
-    ensures { AgreementLasts }
-{}
 
 /// The greatest common divisor divides both numbers, and each number that does divides it.
 pub fn gcd_is_greatest()

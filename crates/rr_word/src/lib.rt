@@ -5,4 +5,4 @@ mod day_seq;
 mod laws;
 
 pub use day_seq::DaySeq;
-pub use laws::{agreement_lasts, window_lasts};
+pub use laws::{agreement_lasts, agreement_of_lists_lasts, window_lasts};

@@ -1,5 +1,5 @@
 -- Sequences over all whole numbers that repeat from some place on.
-use Rattle.std.specs.Prelude.{◌≡◌, List, ℕ, ◌+◌, ◌≤◌, ℤ, pos, ◌+ℤ◌, ◌≤ℤ◌, ◌<ℤ◌}
+use Rattle.std.specs.Prelude.{◌≡◌, ℕ, ℤ, pos, ◌+ℤ◌, ◌≤ℤ◌, ◌<ℤ◌}
 
 -- from q on, each place has what the place p later has
 abbrev pub RepeatsFrom : {X : Type 0} → (ℤ → X) → ℤ → ℕ → Type 0
@@ -12,7 +12,3 @@ AgreeOn f g q n = (d : ℤ) → q ≤ℤ d → d <ℤ (q +ℤ pos n) → f d ≡
 -- the two have the same at every place from q on
 abbrev pub AgreeFrom : {X : Type 0} → (ℤ → X) → (ℤ → X) → ℤ → Type 0
 AgreeFrom f g q = (d : ℤ) → q ≤ℤ d → f d ≡ g d
-
--- Two sequences of lists that repeat, and agree on as many places as both periods together, agree for ever.
-abbrev pub AgreementLasts : Type 0
-AgreementLasts = (f g : ℤ → List ℕ) (q : ℤ) (p r : ℕ) → 1 ≤ p → 1 ≤ r → RepeatsFrom f q p → RepeatsFrom g q r → AgreeOn f g q (p + r) → AgreeFrom f g q

@@ -1,4 +1,4 @@
-use Rattle.rr_model.proofs.SketchLemmas.{agreement_of_sketches_lasts}
+use Rattle.rr_word.proofs.SketchLemmas.{agreement_of_sketches_lasts}
 use Rattle.rr_word.proofs.laws.agreement_lasts.Goals as goal
 
 pub returns : goal.returns

@@ -1,4 +1,4 @@
-use Rattle.rr_model.proofs.SketchLemmas.{window_of_sketches_lasts}
+use Rattle.rr_word.proofs.SketchLemmas.{window_of_sketches_lasts}
 use Rattle.rr_word.proofs.laws.window_lasts.Goals as goal
 
 pub returns : goal.returns

@@ -9,14 +9,14 @@ use Rattle.std.proofs.Math.Nat.{add-mod_right}
 use Rattle.rr_model.specs.Whole.Periodic.{RepeatsFrom}
 use Rattle.rr_model.specs.Rising.{Rises}
 use Rattle.rr_model.specs.Sets.Sketch.{IsValidSketch, IsTimeSet, times_on, times_in, day_in_cycle}
-use Rattle.rr_model.specs.Sets.SketchLaws.{AgreementOfSketchesLasts, WindowOfSketchesLasts, HasNoneOn, IsCommonMultiple}
+use Rattle.rr_word.specs.SketchLaws.{AgreementOfSketchesLasts, WindowOfSketchesLasts, HasNoneOn, IsCommonMultiple}
 use Rattle.rr_model.specs.declared.kind.Kind.{Kind}
 use Rattle.rr_model.specs.declared.kind.Kind.TheVariants.{Days, Moments}
 use Rattle.rr_model.specs.declared.sketch.DayShape.{DayShape}
 use Rattle.rr_model.specs.declared.sketch.Sketch.{Sketch}
 use Rattle.rr_model.proofs.PeriodicLemmas.{agreement_lasts}
 use Rattle.rr_model.proofs.SecondsLemmas.{Contains-cases, Contains-none}
-use Rattle.rr_model.proofs.WindowLemmas.{RepeatsFrom-later, RepeatsFrom-multiple, window_lasts}
+use Rattle.rr_word.proofs.WindowLemmas.{RepeatsFrom-later, RepeatsFrom-multiple, window_lasts}
 
 set_in : (k : Kind) (ss : List DayShape) (d : ℤ) → All (λ x. IsTimeSet k x.times) ss → (times_in ss d ≡ []) ⊎ IsTimeSet k (times_in ss d)
 set_in k [] d all = inl refl

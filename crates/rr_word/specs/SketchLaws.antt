@@ -1,14 +1,19 @@
--- For how many days two sketches are to be compared, to be known for ever.
+-- For how many days two sequences are to be compared, to be known for ever.
 use Rattle.std.specs.Prelude.{ℕ, ◌+◌, ◌≤◌, ℤ, pos, ◌+ℤ◌, ◌≤ℤ◌, ◌<ℤ◌, List}
 use Rattle.std.specs.Int.{◌∣◌}
 use Rattle.std.specs.List.{Contains}
-use Rattle.rr_model.specs.Whole.Periodic.{AgreeOn, AgreeFrom}
+use Rattle.rr_model.specs.Whole.Periodic.{RepeatsFrom, AgreeOn, AgreeFrom}
 use Rattle.rr_model.specs.Sets.Sketch.{times_on}
 use Rattle.rr_model.specs.Sets.Verdict.{HoldsOn}
 use Rattle.rr_model.specs.declared.sketch.Sketch.{Sketch}
 use Rattle.rr_model.specs.declared.verdict.Side.{Side}
 
--- Two that agree, past both settled days, on as many days in a row as both periods together agree for ever.
+-- Two sequences of lists that repeat, and agree on as many places as both periods together, agree for ever.
+abbrev pub AgreementOfListsLasts : Type 0
+AgreementOfListsLasts =
+    (f g : ℤ → List ℕ) (q : ℤ) (p r : ℕ) → 1 ≤ p → 1 ≤ r → RepeatsFrom f q p → RepeatsFrom g q r → AgreeOn f g q (p + r) → AgreeFrom f g q
+
+-- Two sketches that agree, past both settled days, on as many days in a row as both periods together agree for ever.
 abbrev pub AgreementOfSketchesLasts : Sketch → Sketch → Type 0
 AgreementOfSketchesLasts s u =
     (q : ℤ) → s.settled ≤ℤ q → u.settled ≤ℤ q → AgreeOn (times_on s) (times_on u) q (s.period + u.period) → AgreeFrom (times_on s) (times_on u) q

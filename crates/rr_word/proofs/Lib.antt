@@ -1,0 +1,3 @@
+mod SketchExamples
+pub mod SketchLemmas
+pub mod WindowLemmas
