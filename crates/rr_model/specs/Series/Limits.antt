@@ -1,5 +1,5 @@
 -- Which sound series go beyond the limits (RFC 5545, section 3.8.5).
-use Rattle.std.specs.Prelude.{◌≡◌, ◌≢◌, ℕ, ◌<◌, IsTrue, List, [], All, AllPairs, length, get_or, nat_lt, ℤ, pos, ◌+ℤ◌, ◌<ℤ◌}
+use Rattle.std.specs.Prelude.{◌≡◌, ◌≢◌, ℕ, ◌<◌, IsTrue, ⊤, List, [], All, AllPairs, length, get_or, nat_lt, ℤ, pos, ◌+ℤ◌, ◌<ℤ◌}
 use Rattle.rr_model.specs.Moment.{day_part}
 use Rattle.rr_model.specs.Rising.Sets.{IsSetOf}
 use Rattle.rr_model.specs.Rule.Chosen.{IsMember}
@@ -20,8 +20,8 @@ use Rattle.rr_model.specs.declared.rule.Series.{Series}
 abbrev pub Counts : End → Type 0
 Counts Never = ⊥
 Counts (Until kind at) = ⊥
-Counts (Count count) = Unit {0}
-Counts (Both kind at count) = Unit {0}
+Counts (Count count) = ⊤
+Counts (Both kind at count) = ⊤
 
 -- a rule that counts has a member more than 16,777,216 days after its start's day
 abbrev pub CountsTooFar : Kind → ℤ → Rule → Type 0

@@ -72,7 +72,7 @@ pub record Ending : Type 0 where
   pub period : ℕ
   pub cycle : List Run
 
--- of a set that is not empty: its kind, its time sets by their numbers, its first day, and what comes before it repeats and then
+-- of a set that is not empty: its kind, its time sets by number, its first day, the runs before the settled day, and its ending if it is endless
 pub record Described : Type 0 where
   pub kind : Kind
   pub sets : List (List ℕ)

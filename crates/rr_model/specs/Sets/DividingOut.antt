@@ -13,7 +13,7 @@ pub record IsLeastFactor (n factor : ℕ) : Type 0 where
   pub divides : factor ∣ n
   pub none_below : HasNoFactorBelow n factor
 
--- A number has one at most.
+-- A number has one least divisor above 1 at most.
 abbrev pub LeastFactorIsOne : Type 0
 LeastFactorIsOne = (n a b : ℕ) → IsLeastFactor n a → IsLeastFactor n b → a ≡ b
 

@@ -12,6 +12,6 @@ pub record HasOneLeastSketch (s : Sketch) : Type 0 where
   pub same : HaveEqualOccurrences (StandsIn s) (StandsIn sketch)
   pub only : (u : Sketch) → IsLeastSketch u → HaveEqualOccurrences (StandsIn s) (StandsIn u) → u ≡ sketch
 
--- So it is for each day sequence.
+-- Each day sequence has exactly one least sketch with its occurrences.
 abbrev pub EachHasOneLeastSketch : Type 0
 EachHasOneLeastSketch = (s : Sketch) (first : Option ℤ) → IsDaySequence s → IsFirstDay s first → HasOneLeastSketch s

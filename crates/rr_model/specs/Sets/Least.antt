@@ -18,7 +18,7 @@ pub record HasPeriodFrom {X : Type 0} (f : ℤ → X) (q : ℤ) (p : ℕ) : Type
 abbrev pub IsEventualPeriod : {X : Type 0} → (ℤ → X) → ℕ → Type 0
 IsEventualPeriod f p = (q : ℤ) × HasPeriodFrom f q p
 
--- no lesser number is one
+-- the least number that is one
 pub record IsLeastPeriod {X : Type 0} (f : ℤ → X) (p : ℕ) : Type 0 where
   pub holds : IsEventualPeriod f p
   pub least : (r : ℕ) → IsEventualPeriod f r → p ≤ r

@@ -33,7 +33,7 @@ pub record IsPrintedEnding (ending : Ending) : Type 0 where
   pub period : IsPrintedNumber ending.period
   pub cycle : All IsPrintedRun ending.cycle
 
--- of dates there is one time set, that of 0 alone
+-- of dates there is one time set, that of 0 alone; those of moments are seconds of a day
 abbrev pub ArePrintedSets : Kind → List (List ℕ) → Type 0
 ArePrintedSets Days sets = sets ≡ (0 ∷ []) ∷ []
 ArePrintedSets Moments sets = All IsSecondsOfDay sets
@@ -79,7 +79,7 @@ pub record IsDescribable (s : Sketch) : Type 0 where
 
 -- ---- what a descriptor tells
 
--- Texts of two sets are equal exactly where the sets are.
+-- Texts of two sets are equal exactly where the sets have equal occurrences.
 abbrev pub TellsSetsApart : (Sketch → List ℕ) → Type 0
 TellsSetsApart text = (s u : Sketch) → IsDescribable s → IsDescribable u → (text s ≡ text u) ↔ HaveEqualOccurrences (StandsIn s) (StandsIn u)
 

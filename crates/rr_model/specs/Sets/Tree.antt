@@ -22,7 +22,7 @@ mutual
     first_n : Tree → ℕ → Tree
     without : Tree → Kind → List ℤ → Tree
 
-  -- as many trees as there are
+  -- a list of trees
   pub data Forest : Type 0 where
     nothing : Forest
     part : Tree → Forest → Forest
