@@ -10,7 +10,7 @@ use Rattle.std.proofs.lemmas.Bool.Decides.{nat_tests}
 use Rattle.std.proofs.lemmas.List.{take_all, length-append, length-map, map-append, reverse-append}
 use Rattle.std.proofs.lemmas.List.Folds.{list_all-append}
 use Rattle.rr_model.specs.Text.RuleLaws.{IsOneLine, is_part_byte, is_part, AreParts, OrderDoesNotMatter}
-use Rattle.rr_model.specs.Text.Rules.{is_blank, with_part, with_parts, no_parts, without_last_semicolon, without_blanks_before, without_blanks_behind, parts_of, rule_of, series_with, line_value, start_of, rule_parts, reads_values}
+use Rattle.rr_model.specs.Text.Rules.{is_blank, with_part, with_parts, no_parts, without_last_semicolon, trim_start, trim_end, parts_of, rule_of, series_with, line_value, start_of, rule_parts, reads_values}
 use Rattle.rr_model.specs.Text.RuleValues.{◌>>=◌, pieces}
 use Rattle.rr_model.specs.declared.refusal.Refusal.{Refusal}
 use Rattle.rr_model.specs.declared.rule.Series.{Series}
@@ -36,10 +36,10 @@ with_parts-two line parts all a b texts e =
     let other = exchanged line parts first.0 second.0 a b first.1 second.1 in
     rw (other.1, other.2) second.2
 
-with_parts-exchange : (line : ℕ) (parts all : RuleParts) (a b : List ℕ) (before behind : List (List ℕ)) → with_parts line parts (before ++ a ∷ b ∷ behind) ≡ Ok all → with_parts line parts (before ++ b ∷ a ∷ behind) ≡ Ok all
-with_parts-exchange line parts all a b before behind e =
-    let front = bind_ok (with_parts line parts before) (λ more. with_parts line more (a ∷ b ∷ behind)) all (sym (with_parts-append line parts before (a ∷ b ∷ behind)) ∙ e) in
-    with_parts-append line parts before (b ∷ a ∷ behind) ∙ ap (λ (r : Result RuleParts Refusal). r >>= λ more. with_parts line more (b ∷ a ∷ behind)) front.1 ∙ with_parts-two line front.0 all a b behind front.2
+with_parts-exchange : (line : ℕ) (parts all : RuleParts) (a b : List ℕ) (before after : List (List ℕ)) → with_parts line parts (before ++ a ∷ b ∷ after) ≡ Ok all → with_parts line parts (before ++ b ∷ a ∷ after) ≡ Ok all
+with_parts-exchange line parts all a b before after e =
+    let front = bind_ok (with_parts line parts before) (λ more. with_parts line more (a ∷ b ∷ after)) all (sym (with_parts-append line parts before (a ∷ b ∷ after)) ∙ e) in
+    with_parts-append line parts before (b ∷ a ∷ after) ∙ ap (λ (r : Result RuleParts Refusal). r >>= λ more. with_parts line more (b ∷ a ∷ after)) front.1 ∙ with_parts-two line front.0 all a b after front.2
 
 -- ---- parts in capitals
 
@@ -105,10 +105,10 @@ no_blanks (b ∷ bs) h = by (is_blank b) (and_parts (not (is_blank b)) (not (b =
     by true e = absurd cc
     by false e = refl
 
-without_blanks-inner : (text : List ℕ) → list_all is_inner text ≡ true → without_blanks_behind (without_blanks_before text) ≡ text
+without_blanks-inner : (text : List ℕ) → list_all is_inner text ≡ true → trim_end (trim_start text) ≡ text
 without_blanks-inner text h =
-    let front : without_blanks_before text ≡ text = ap (λ n. drop n text) (no_blanks text h) in
-    ap without_blanks_behind front ∙ ap (λ n. take (length text - n) text) (no_blanks (reverse text) (list_all-reverse is_inner text h)) ∙ take_all (length text - 0) text (omega arith)
+    let front : trim_start text ≡ text = ap (λ n. drop n text) (no_blanks text h) in
+    ap trim_end front ∙ ap (λ n. take (length text - n) text) (no_blanks (reverse text) (list_all-reverse is_inner text h)) ∙ take_all (length text - 0) text (omega arith)
 
 -- ---- the parts of a joined text
 
@@ -186,7 +186,7 @@ without_last_semicolon-join text e = ap without_last_semicolon e.is_text ∙ wit
 line_value-join : (texts : List (List ℕ)) → AreParts texts → line_value (join_with_byte 59 texts) ≡ join_with_byte 59 (map str_to_ascii_uppercase texts)
 unfolding line_value
 line_value-join texts h =
-    ap (λ (t : List ℕ). without_blanks_behind (without_blanks_before t)) (capitals-join texts)
+    ap (λ (t : List ℕ). trim_end (trim_start t)) (capitals-join texts)
     ∙ without_blanks-inner (join_with_byte 59 (map str_to_ascii_uppercase texts)) (all_inner-join (map str_to_ascii_uppercase texts) (are_parts-capitals texts ∙ h))
 
 parts_of-join : (line : ℕ) (text : List ℕ) (texts : List (List ℕ)) → AreParts (text ∷ texts) → parts_of line (join_with_byte 59 (text ∷ texts)) ≡ with_parts line no_parts (text ∷ texts)
@@ -203,30 +203,30 @@ rule_parts-join line text texts h =
 abbrev IsSome : List (List ℕ) → Type 0
 IsSome texts = (first : List ℕ) × (more : List (List ℕ)) × (texts ≡ first ∷ more)
 
-some_parts : (before : List (List ℕ)) (text : List ℕ) (behind : List (List ℕ)) → IsSome (before ++ text ∷ behind)
-some_parts [] text behind = (text, behind, refl)
-some_parts (first ∷ before) text behind = (first, before ++ text ∷ behind, refl)
+some_parts : (before : List (List ℕ)) (text : List ℕ) (after : List (List ℕ)) → IsSome (before ++ text ∷ after)
+some_parts [] text after = (text, after, refl)
+some_parts (first ∷ before) text after = (first, before ++ text ∷ after, refl)
 
 rule_parts-joined : (line : ℕ) (texts : List (List ℕ)) → AreParts texts → IsSome texts → rule_parts line (join_with_byte 59 texts) ≡ with_parts line no_parts (map str_to_ascii_uppercase texts)
 rule_parts-joined line [] h some = absurd cc
 rule_parts-joined line (text ∷ texts) h some = rule_parts-join line text texts h
 
-exchange_in_rule : (line : ℕ) (a b : List ℕ) (before behind : List (List ℕ)) (all : RuleParts) → AreParts (before ++ a ∷ b ∷ behind) → AreParts (before ++ b ∷ a ∷ behind)
-    → rule_parts line (join_with_byte 59 (before ++ a ∷ b ∷ behind)) ≡ Ok all → rule_parts line (join_with_byte 59 (before ++ b ∷ a ∷ behind)) ≡ Ok all
-exchange_in_rule line a b before behind all h k e =
+exchange_in_rule : (line : ℕ) (a b : List ℕ) (before after : List (List ℕ)) (all : RuleParts) → AreParts (before ++ a ∷ b ∷ after) → AreParts (before ++ b ∷ a ∷ after)
+    → rule_parts line (join_with_byte 59 (before ++ a ∷ b ∷ after)) ≡ Ok all → rule_parts line (join_with_byte 59 (before ++ b ∷ a ∷ after)) ≡ Ok all
+exchange_in_rule line a b before after all h k e =
     let capital : List ℕ → List ℕ = str_to_ascii_uppercase in
-    let read : (x y : List ℕ) → AreParts (before ++ x ∷ y ∷ behind) → rule_parts line (join_with_byte 59 (before ++ x ∷ y ∷ behind)) ≡ with_parts line no_parts (map capital before ++ capital x ∷ capital y ∷ map capital behind) =
-    λ x y parts. rule_parts-joined line (before ++ x ∷ y ∷ behind) parts (some_parts before x (y ∷ behind)) ∙ ap (with_parts line no_parts) (map-append capital before (x ∷ y ∷ behind)) in
-    read b a k ∙ with_parts-exchange line no_parts all (capital a) (capital b) (map capital before) (map capital behind) (sym (read a b h) ∙ e)
+    let read : (x y : List ℕ) → AreParts (before ++ x ∷ y ∷ after) → rule_parts line (join_with_byte 59 (before ++ x ∷ y ∷ after)) ≡ with_parts line no_parts (map capital before ++ capital x ∷ capital y ∷ map capital after) =
+    λ x y parts. rule_parts-joined line (before ++ x ∷ y ∷ after) parts (some_parts before x (y ∷ after)) ∙ ap (with_parts line no_parts) (map-append capital before (x ∷ y ∷ after)) in
+    read b a k ∙ with_parts-exchange line no_parts all (capital a) (capital b) (map capital before) (map capital after) (sym (read a b h) ∙ e)
 
 -- ---- the law
 
-parts_exchanged : (before behind : List (List ℕ)) (a b : List ℕ) → AreParts (before ++ a ∷ b ∷ behind) → AreParts (before ++ b ∷ a ∷ behind)
-parts_exchanged before behind a b h =
-    let front = and_parts (list_all is_part before) (list_all is_part (a ∷ b ∷ behind)) (sym (list_all-append is_part before (a ∷ b ∷ behind)) ∙ h) in
-    let first = and_parts (is_part a) (list_all is_part (b ∷ behind)) front.1 in
-    let second = and_parts (is_part b) (list_all is_part behind) first.1 in
-    list_all-append is_part before (b ∷ a ∷ behind) ∙ and_from _ _ front.0 (and_from _ _ second.0 (and_from _ _ first.0 second.1))
+parts_exchanged : (before after : List (List ℕ)) (a b : List ℕ) → AreParts (before ++ a ∷ b ∷ after) → AreParts (before ++ b ∷ a ∷ after)
+parts_exchanged before after a b h =
+    let front = and_parts (list_all is_part before) (list_all is_part (a ∷ b ∷ after)) (sym (list_all-append is_part before (a ∷ b ∷ after)) ∙ h) in
+    let first = and_parts (is_part a) (list_all is_part (b ∷ after)) front.1 in
+    let second = and_parts (is_part b) (list_all is_part after) first.1 in
+    list_all-append is_part before (b ∷ a ∷ after) ∙ and_from _ _ front.0 (and_from _ _ second.0 (and_from _ _ first.0 second.1))
 
 reads_values-parts : (start rule : List ℕ) (series : Series) → reads_values start rule ≡ Ok series → (parts : RuleParts) × (rule_parts 2 rule ≡ Ok parts)
 reads_values-parts start rule series e =
@@ -239,11 +239,11 @@ reads_values-same_parts start rule other parts e f =
     ap (λ (r : Result RuleParts Refusal). start_of 1 start >>= λ stamp. r >>= λ parts. rule_of 2 parts >>= λ known. series_with stamp parts.until known) (f ∙ sym e)
 
 pub order_does_not_matter : OrderDoesNotMatter
-order_does_not_matter start a b before behind series line h e =
-    let k = parts_exchanged before behind a b h in
-    let rule = join_with_byte 59 (before ++ a ∷ b ∷ behind) in
-    let other = join_with_byte 59 (before ++ b ∷ a ∷ behind) in
-    let read : reads_values start rule ≡ Ok series = sym (reads-text_of start rule line (one_line-join rule (all_inner-join (before ++ a ∷ b ∷ behind) h))) ∙ e in
+order_does_not_matter start a b before after series line h e =
+    let k = parts_exchanged before after a b h in
+    let rule = join_with_byte 59 (before ++ a ∷ b ∷ after) in
+    let other = join_with_byte 59 (before ++ b ∷ a ∷ after) in
+    let read : reads_values start rule ≡ Ok series = sym (reads-text_of start rule line (one_line-join rule (all_inner-join (before ++ a ∷ b ∷ after) h))) ∙ e in
     let parts = reads_values-parts start rule series read in
-    reads-text_of start other line (one_line-join other (all_inner-join (before ++ b ∷ a ∷ behind) k))
-    ∙ reads_values-same_parts start rule other parts.0 parts.1 (exchange_in_rule 2 a b before behind parts.0 h k parts.1) ∙ read
+    reads-text_of start other line (one_line-join other (all_inner-join (before ++ b ∷ a ∷ after) k))
+    ∙ reads_values-same_parts start rule other parts.0 parts.1 (exchange_in_rule 2 a b before after parts.0 h k parts.1) ∙ read

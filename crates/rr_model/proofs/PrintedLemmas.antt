@@ -39,7 +39,7 @@ length-padded n h =
     let digits = length-decimal-le 2 n (omega arith) (omega arith) (omega arith) in
     omega (arith, length-append (replicate (2 - length (decimal n)) 48) (decimal n), length-replicate {A = ℕ} (2 - length (decimal n)) 48, digits)
 
--- two parts of two digits behind separators
+-- two parts of two digits after separators
 unfoldable ends : ℕ → ℕ → ℕ → List ℕ
 ends b y z = (b ∷ padded 2 y) ++ (b ∷ padded 2 z)
 

@@ -9,7 +9,7 @@ use Rattle.std.proofs.lemmas.Bool.{and_parts}
 use Rattle.std.proofs.lemmas.Bool.Decides.{nat_tests}
 use Rattle.std.proofs.lemmas.List.{take_at, length-append}
 use Rattle.std.proofs.lemmas.Bool.{lt-ltb}
-use Rattle.rr_model.specs.Text.Rules.{cut, first_line, values_of, line_value, start_of, rule_parts, reads_values, reads}
+use Rattle.rr_model.specs.Text.Rules.{split_once, first_line, values_of, line_value, start_of, rule_parts, reads_values, reads}
 use Rattle.rr_model.specs.Text.RuleLaws.{text_of, IsOneLine, DifferInCase, CaseDoesNotMatter}
 
 -- ---- the values of the lines
@@ -20,15 +20,15 @@ place_of_feed (b ∷ bs) rest h =
     let parts = and_parts (not (b == 10)) (list_all (λ c. not (c == 10)) bs) h in
     rw parts.0 (omega (arith, place_of_feed bs rest parts.1))
 
-cut_at_feed : (text rest : List ℕ) → IsOneLine text → cut 10 (text ++ 10 ∷ rest) ≡ Some (text, rest)
+cut_at_feed : (text rest : List ℕ) → IsOneLine text → split_once 10 (text ++ 10 ∷ rest) ≡ Some (text, rest)
 cut_at_feed text rest h =
     let at : position (λ c. c == 10) (text ++ 10 ∷ rest) ≡ Some (length text) =
     let place = place_of_feed text rest h in
     let within : nat_lt (length text) (length (text ++ 10 ∷ rest)) ≡ true = lt-ltb _ _ (omega (arith, length-append text (10 ∷ rest))) in
     rw (place, within) refl in
     let front : take (length text) (text ++ 10 ∷ rest) ≡ text = take_at text (10 ∷ rest) (length text) refl in
-    let behind : drop (length text + 1) (text ++ 10 ∷ rest) ≡ rest = drop-append-add text (10 ∷ rest) 1 in
-    ap (option_map (λ (i : ℕ). (take i (text ++ 10 ∷ rest), drop (i + 1) (text ++ 10 ∷ rest)))) at ∙ rw (front, behind) refl
+    let after : drop (length text + 1) (text ++ 10 ∷ rest) ≡ rest = drop-append-add text (10 ∷ rest) 1 in
+    ap (option_map (λ (i : ℕ). (take i (text ++ 10 ∷ rest), drop (i + 1) (text ++ 10 ∷ rest)))) at ∙ rw (front, after) refl
 
 values_of-text_of : (start rule : List ℕ) → IsOneLine start → IsOneLine rule → values_of (text_of start rule) ≡ Some (start, rule)
 unfolding values_of first_line

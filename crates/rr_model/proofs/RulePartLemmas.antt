@@ -4,7 +4,7 @@ use Rattle.std.specs.Prelude.{◌==◌, ok_or}
 use Rattle.std.specs.List.{list_all, onto_first}
 use Rattle.std.proofs.lemmas.Bool.{false≢true}
 use Rattle.rr_model.specs.Text.Moments.{basic}
-use Rattle.rr_model.specs.Text.Rules.{cut, name_of, stands, with_value_of, with_part}
+use Rattle.rr_model.specs.Text.Rules.{split_once, name_of, is_present, with_part_value, with_part}
 use Rattle.rr_model.specs.Rising.{with_value}
 use Rattle.rr_model.specs.Text.RuleValues.{◌>>=◌, pieces, freq_named, weekday_named, number_up_to, unsigned, signed, seconds, placed, list_of, numbers_of, day_items_of}
 use Rattle.rr_model.specs.Rule.Validity.{is_absent}
@@ -72,21 +72,21 @@ put parts part.BySetPos x = record parts { by_set_pos = x }
 abbrev pub then_put : RuleParts → (n : PartName) → Result (Value n) Refusal → Result RuleParts Refusal
 then_put parts n read = read >>= λ x. Ok (put parts n x)
 
-with_value_of-put : (line : ℕ) (parts : RuleParts) (n : PartName) (text : List ℕ) → with_value_of line parts n text ≡ then_put parts n (value_of line n text)
-with_value_of-put line parts part.Freq text = refl
-with_value_of-put line parts part.Until text = refl
-with_value_of-put line parts part.Count text = refl
-with_value_of-put line parts part.Interval text = refl
-with_value_of-put line parts part.WeekStart text = refl
-with_value_of-put line parts part.BySecond text = refl
-with_value_of-put line parts part.ByMinute text = refl
-with_value_of-put line parts part.ByHour text = refl
-with_value_of-put line parts part.ByDay text = refl
-with_value_of-put line parts part.ByMonthDay text = refl
-with_value_of-put line parts part.ByYearDay text = refl
-with_value_of-put line parts part.ByWeekNo text = refl
-with_value_of-put line parts part.ByMonth text = refl
-with_value_of-put line parts part.BySetPos text = refl
+with_part_value-put : (line : ℕ) (parts : RuleParts) (n : PartName) (text : List ℕ) → with_part_value line parts n text ≡ then_put parts n (value_of line n text)
+with_part_value-put line parts part.Freq text = refl
+with_part_value-put line parts part.Until text = refl
+with_part_value-put line parts part.Count text = refl
+with_part_value-put line parts part.Interval text = refl
+with_part_value-put line parts part.WeekStart text = refl
+with_part_value-put line parts part.BySecond text = refl
+with_part_value-put line parts part.ByMinute text = refl
+with_part_value-put line parts part.ByHour text = refl
+with_part_value-put line parts part.ByDay text = refl
+with_part_value-put line parts part.ByMonthDay text = refl
+with_part_value-put line parts part.ByYearDay text = refl
+with_part_value-put line parts part.ByWeekNo text = refl
+with_part_value-put line parts part.ByMonth text = refl
+with_part_value-put line parts part.BySetPos text = refl
 
 -- ---- other parts
 
@@ -120,35 +120,35 @@ put-exchange parts part.ByMonth m x y other = refl
 put-exchange parts part.BySetPos part.BySetPos x y other = absurd (other refl)
 put-exchange parts part.BySetPos m x y other = refl
 
-pub stands-put_other : (parts : RuleParts) (n m : PartName) (x : Value n) → (n ≡ m → ⊥) → stands (put parts n x) m ≡ stands parts m
-stands-put_other parts part.Freq part.Freq x other = absurd (other refl)
-stands-put_other parts part.Freq m x other = refl
-stands-put_other parts part.Until part.Until x other = absurd (other refl)
-stands-put_other parts part.Until m x other = refl
-stands-put_other parts part.Count part.Count x other = absurd (other refl)
-stands-put_other parts part.Count m x other = refl
-stands-put_other parts part.Interval part.Interval x other = absurd (other refl)
-stands-put_other parts part.Interval m x other = refl
-stands-put_other parts part.WeekStart part.WeekStart x other = absurd (other refl)
-stands-put_other parts part.WeekStart m x other = refl
-stands-put_other parts part.BySecond part.BySecond x other = absurd (other refl)
-stands-put_other parts part.BySecond m x other = refl
-stands-put_other parts part.ByMinute part.ByMinute x other = absurd (other refl)
-stands-put_other parts part.ByMinute m x other = refl
-stands-put_other parts part.ByHour part.ByHour x other = absurd (other refl)
-stands-put_other parts part.ByHour m x other = refl
-stands-put_other parts part.ByDay part.ByDay x other = absurd (other refl)
-stands-put_other parts part.ByDay m x other = refl
-stands-put_other parts part.ByMonthDay part.ByMonthDay x other = absurd (other refl)
-stands-put_other parts part.ByMonthDay m x other = refl
-stands-put_other parts part.ByYearDay part.ByYearDay x other = absurd (other refl)
-stands-put_other parts part.ByYearDay m x other = refl
-stands-put_other parts part.ByWeekNo part.ByWeekNo x other = absurd (other refl)
-stands-put_other parts part.ByWeekNo m x other = refl
-stands-put_other parts part.ByMonth part.ByMonth x other = absurd (other refl)
-stands-put_other parts part.ByMonth m x other = refl
-stands-put_other parts part.BySetPos part.BySetPos x other = absurd (other refl)
-stands-put_other parts part.BySetPos m x other = refl
+pub is_present-put_other : (parts : RuleParts) (n m : PartName) (x : Value n) → (n ≡ m → ⊥) → is_present (put parts n x) m ≡ is_present parts m
+is_present-put_other parts part.Freq part.Freq x other = absurd (other refl)
+is_present-put_other parts part.Freq m x other = refl
+is_present-put_other parts part.Until part.Until x other = absurd (other refl)
+is_present-put_other parts part.Until m x other = refl
+is_present-put_other parts part.Count part.Count x other = absurd (other refl)
+is_present-put_other parts part.Count m x other = refl
+is_present-put_other parts part.Interval part.Interval x other = absurd (other refl)
+is_present-put_other parts part.Interval m x other = refl
+is_present-put_other parts part.WeekStart part.WeekStart x other = absurd (other refl)
+is_present-put_other parts part.WeekStart m x other = refl
+is_present-put_other parts part.BySecond part.BySecond x other = absurd (other refl)
+is_present-put_other parts part.BySecond m x other = refl
+is_present-put_other parts part.ByMinute part.ByMinute x other = absurd (other refl)
+is_present-put_other parts part.ByMinute m x other = refl
+is_present-put_other parts part.ByHour part.ByHour x other = absurd (other refl)
+is_present-put_other parts part.ByHour m x other = refl
+is_present-put_other parts part.ByDay part.ByDay x other = absurd (other refl)
+is_present-put_other parts part.ByDay m x other = refl
+is_present-put_other parts part.ByMonthDay part.ByMonthDay x other = absurd (other refl)
+is_present-put_other parts part.ByMonthDay m x other = refl
+is_present-put_other parts part.ByYearDay part.ByYearDay x other = absurd (other refl)
+is_present-put_other parts part.ByYearDay m x other = refl
+is_present-put_other parts part.ByWeekNo part.ByWeekNo x other = absurd (other refl)
+is_present-put_other parts part.ByWeekNo m x other = refl
+is_present-put_other parts part.ByMonth part.ByMonth x other = absurd (other refl)
+is_present-put_other parts part.ByMonth m x other = refl
+is_present-put_other parts part.BySetPos part.BySetPos x other = absurd (other refl)
+is_present-put_other parts part.BySetPos m x other = refl
 
 -- ---- a part that is read stands
 
@@ -189,29 +189,29 @@ list_of-some line has_form below judged text all e = by (list_all has_form (piec
     by true texts some f = first_of (judged some.0) some.1 (ap (placed below judged []) (sym some.2) ∙ f)
     by false texts some f = absurd cc
 
-pub stands-put : (line : ℕ) (parts : RuleParts) (n : PartName) (text : List ℕ) (x : Value n) → value_of line n text ≡ Ok x → stands (put parts n x) n ≡ true
+pub is_present-put : (line : ℕ) (parts : RuleParts) (n : PartName) (text : List ℕ) (x : Value n) → value_of line n text ≡ Ok x → is_present (put parts n x) n ≡ true
 unfolding numbers_of day_items_of
-stands-put line parts part.Freq text x e = refl
-stands-put line parts part.Until text x e = refl
-stands-put line parts part.Count text x e = refl
-stands-put line parts part.Interval text x e = refl
-stands-put line parts part.WeekStart text x e = refl
-stands-put line parts part.BySecond text x e = ap not (list_of-some line _ _ _ text x e)
-stands-put line parts part.ByMinute text x e = ap not (list_of-some line _ _ _ text x e)
-stands-put line parts part.ByHour text x e = ap not (list_of-some line _ _ _ text x e)
-stands-put line parts part.ByDay text x e = ap not (list_of-some line _ _ _ text x e)
-stands-put line parts part.ByMonthDay text x e = ap not (list_of-some line _ _ _ text x e)
-stands-put line parts part.ByYearDay text x e = ap not (list_of-some line _ _ _ text x e)
-stands-put line parts part.ByWeekNo text x e = ap not (list_of-some line _ _ _ text x e)
-stands-put line parts part.ByMonth text x e = ap not (list_of-some line _ _ _ text x e)
-stands-put line parts part.BySetPos text x e = ap not (list_of-some line _ _ _ text x e)
+is_present-put line parts part.Freq text x e = refl
+is_present-put line parts part.Until text x e = refl
+is_present-put line parts part.Count text x e = refl
+is_present-put line parts part.Interval text x e = refl
+is_present-put line parts part.WeekStart text x e = refl
+is_present-put line parts part.BySecond text x e = ap not (list_of-some line _ _ _ text x e)
+is_present-put line parts part.ByMinute text x e = ap not (list_of-some line _ _ _ text x e)
+is_present-put line parts part.ByHour text x e = ap not (list_of-some line _ _ _ text x e)
+is_present-put line parts part.ByDay text x e = ap not (list_of-some line _ _ _ text x e)
+is_present-put line parts part.ByMonthDay text x e = ap not (list_of-some line _ _ _ text x e)
+is_present-put line parts part.ByYearDay text x e = ap not (list_of-some line _ _ _ text x e)
+is_present-put line parts part.ByWeekNo text x e = ap not (list_of-some line _ _ _ text x e)
+is_present-put line parts part.ByMonth text x e = ap not (list_of-some line _ _ _ text x e)
+is_present-put line parts part.BySetPos text x e = ap not (list_of-some line _ _ _ text x e)
 
 -- ---- reading a part
 
 -- the text is a part of this name, with this value
 pub record States (line : ℕ) (text : List ℕ) (n : PartName) (x : Value n) : Type 0 where
   pub sides : List ℕ × List ℕ
-  pub halves : cut 61 text ≡ Some sides
+  pub halves : split_once 61 text ≡ Some sides
   pub name : name_of line sides.0 ≡ Ok n
   pub value : value_of line n sides.1 ≡ Ok x
 
@@ -220,7 +220,7 @@ pub record IsRead (line : ℕ) (parts : RuleParts) (text : List ℕ) (more : Rul
   pub part_name : PartName
   pub part_value : Value part_name
   pub states : States line text part_name part_value
-  pub is_new : stands parts part_name ≡ false
+  pub is_new : is_present parts part_name ≡ false
   pub is_put : put parts part_name part_value ≡ more
 
 pub bind_ok : {A B : Type 0} (r : Result A Refusal) (f : A → Result B Refusal) (y : B) → (r >>= f) ≡ Ok y → (x : A) × (r ≡ Ok x) × (f x ≡ Ok y)
@@ -238,31 +238,31 @@ guard_ok false d r y e = (refl, e)
 done : {A : Type 0} (x y : A) → ◌≡◌ {A = Result A Refusal} (Ok x) (Ok y) → x ≡ y
 done x y e = cc
 
-then_put-ok : (line : ℕ) (parts : RuleParts) (n : PartName) (text : List ℕ) (more : RuleParts) → with_value_of line parts n text ≡ Ok more → (x : Value n) × (value_of line n text ≡ Ok x) × (put parts n x ≡ more)
+then_put-ok : (line : ℕ) (parts : RuleParts) (n : PartName) (text : List ℕ) (more : RuleParts) → with_part_value line parts n text ≡ Ok more → (x : Value n) × (value_of line n text ≡ Ok x) × (put parts n x ≡ more)
 then_put-ok line parts n text more e =
-    let read : then_put parts n (value_of line n text) ≡ Ok more = sym (with_value_of-put line parts n text) ∙ e in
+    let read : then_put parts n (value_of line n text) ≡ Ok more = sym (with_part_value-put line parts n text) ∙ e in
     let a = bind_ok (value_of line n text) (λ x. Ok (put parts n x)) more read in
     (a.0, a.1, done (put parts n a.0) more a.2)
 
 pub IsRead-from : (line : ℕ) (parts : RuleParts) (text : List ℕ) (more : RuleParts) → with_part line parts text ≡ Ok more → IsRead line parts text more
 unfolding with_part
 IsRead-from line parts text more e =
-    let a = bind_ok (ok_or (cut 61 text) (BadRule line)) (λ sides. name_of line sides.0 >>= λ name. cond (stands parts name) (Err (PartTwice line)) (with_value_of line parts name sides.1)) more e in
-    let b = bind_ok (name_of line a.0.0) (λ name. cond (stands parts name) (Err (PartTwice line)) (with_value_of line parts name a.0.1)) more a.2 in
-    let c = guard_ok (stands parts b.0) (PartTwice line) (with_value_of line parts b.0 a.0.1) more b.2 in
+    let a = bind_ok (ok_or (split_once 61 text) (BadRule line)) (λ sides. name_of line sides.0 >>= λ name. cond (is_present parts name) (Err (PartTwice line)) (with_part_value line parts name sides.1)) more e in
+    let b = bind_ok (name_of line a.0.0) (λ name. cond (is_present parts name) (Err (PartTwice line)) (with_part_value line parts name a.0.1)) more a.2 in
+    let c = guard_ok (is_present parts b.0) (PartTwice line) (with_part_value line parts b.0 a.0.1) more b.2 in
     let d = then_put-ok line parts b.0 a.0.1 more c.1 in
     record {
       part_name = b.0;
       part_value = d.0;
-      states = record { sides = a.0; halves = some_from (cut 61 text) (BadRule line) a.0 a.1; name = b.1; value = d.1 };
+      states = record { sides = a.0; halves = some_from (split_once 61 text) (BadRule line) a.0 a.1; name = b.1; value = d.1 };
       is_new = c.0;
       is_put = d.2;
     }
 
-pub with_part-again : (line : ℕ) (parts : RuleParts) (text : List ℕ) (n : PartName) (x : Value n) → States line text n x → stands parts n ≡ false → with_part line parts text ≡ Ok (put parts n x)
+pub with_part-again : (line : ℕ) (parts : RuleParts) (text : List ℕ) (n : PartName) (x : Value n) → States line text n x → is_present parts n ≡ false → with_part line parts text ≡ Ok (put parts n x)
 unfolding with_part
 with_part-again line parts text n x states is_new =
-    rw (states.halves, states.name, is_new, with_value_of-put line parts n states.sides.1, states.value) refl
+    rw (states.halves, states.name, is_new, with_part_value-put line parts n states.sides.1, states.value) refl
 
 pub exchanged : (line : ℕ) (parts middle more : RuleParts) (a b : List ℕ) → with_part line parts a ≡ Ok middle → with_part line middle b ≡ Ok more
     → (other : RuleParts) × (with_part line parts b ≡ Ok other) × (with_part line other a ≡ Ok more)
@@ -271,10 +271,10 @@ exchanged line parts middle more a b e f =
     let q = IsRead-from line middle b more f in
     let n = p.part_name in
     let m = q.part_name in
-    let there : stands middle n ≡ true = ap (λ (r : RuleParts). stands r n) (sym p.is_put) ∙ stands-put line parts n p.states.sides.1 p.part_value p.states.value in
-    let differ : n ≡ m → ⊥ = λ same. false≢true (sym q.is_new ∙ ap (stands middle) (sym same) ∙ there) in
+    let there : is_present middle n ≡ true = ap (λ (r : RuleParts). is_present r n) (sym p.is_put) ∙ is_present-put line parts n p.states.sides.1 p.part_value p.states.value in
+    let differ : n ≡ m → ⊥ = λ same. false≢true (sym q.is_new ∙ ap (is_present middle) (sym same) ∙ there) in
     let differ_back : m ≡ n → ⊥ = λ same. differ (sym same) in
-    let new_b : stands parts m ≡ false = sym (stands-put_other parts n m p.part_value differ) ∙ ap (λ (r : RuleParts). stands r m) p.is_put ∙ q.is_new in
-    let new_a : stands (put parts m q.part_value) n ≡ false = stands-put_other parts m n q.part_value differ_back ∙ p.is_new in
+    let new_b : is_present parts m ≡ false = sym (is_present-put_other parts n m p.part_value differ) ∙ ap (λ (r : RuleParts). is_present r m) p.is_put ∙ q.is_new in
+    let new_a : is_present (put parts m q.part_value) n ≡ false = is_present-put_other parts m n q.part_value differ_back ∙ p.is_new in
     let both : put (put parts m q.part_value) n p.part_value ≡ more = put-exchange parts m n q.part_value p.part_value differ_back ∙ ap (λ (r : RuleParts). put r m q.part_value) p.is_put ∙ q.is_put in
     (put parts m q.part_value, with_part-again line parts b m q.part_value q.states new_b, with_part-again line (put parts m q.part_value) a n p.part_value p.states new_a ∙ ap Ok both)

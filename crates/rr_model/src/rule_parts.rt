@@ -47,12 +47,12 @@ pub struct NumberBounds {
     pub has_leap: bool,
 }
 
-/// The parts of a rule as far as they are read. A part that does not stand is `None`, or an empty list.
+/// The parts of a rule as far as they are read. A part that is absent is `None`, or an empty list.
 #[derive(Drop)]
 pub struct RuleParts {
     /// FREQ.
     pub freq: Option<Freq>,
-    /// UNTIL, with the `Z` behind it.
+    /// UNTIL, with the `Z` after it.
     pub until: Option<Stamp>,
     /// COUNT.
     pub count: Option<u64>,

@@ -8,7 +8,7 @@ use Rattle.std.proofs.lemmas.Int.{ints}
 use Rattle.std.proofs.lemmas.List.Elements.{All-nil}
 use Rattle.rr_model.specs.Text.Digits.{digits_value}
 use Rattle.rr_model.specs.Rising.{with_value, day_item_lt}
-use Rattle.rr_model.specs.Text.RuleValues.{is_number, weekday_named, up_to, number_up_to, placed, pieces, list_of, signed, has_number_form, size_of, number_within, numbers_of, is_day_item, place_text, weekday_text, place_within, day_item_within, day_items_of}
+use Rattle.rr_model.specs.Text.RuleValues.{is_number, weekday_named, up_to, number_up_to, placed, pieces, list_of, signed, has_number_form, magnitude, number_within, numbers_of, is_day_item, place_text, weekday_text, place_within, day_item_within, day_items_of}
 use Rattle.rr_model.specs.Rule.Validity.{LieFrom, CountUpTo, IsDayItem}
 use Rattle.rr_model.specs.declared.refusal.Refusal.{Refusal}
 use Rattle.rr_model.specs.declared.refusal.Refusal.TheVariants.{BadRule}
@@ -38,14 +38,14 @@ module _ {X : Type 0} (P : X → Type 0) (below : X → X → Bool) (judged : Li
 record IsWithin (bounds : NumberBounds) (text : List ℕ) (n : ℤ) : Type 0 where
   form : has_number_form bounds text ≡ true
   value : signed_digits_value 10 text ≡ n
-  least : bounds.least ≤ size_of text
-  most : size_of text ≤ bounds.most
+  least : bounds.least ≤ magnitude text
+  most : magnitude text ≤ bounds.most
 
 number_within-means : (line : ℕ) (bounds : NumberBounds) (text : List ℕ) (n : ℤ) → number_within line bounds text ≡ Ok n → IsWithin bounds text n
 unfolding number_within
 number_within-means line bounds text n h =
     let form = passed (has_number_form bounds text) _ _ n h in
-    let size = passed (nat_le bounds.least (size_of text) && nat_le (size_of text) bounds.most) (Ok (signed_digits_value 10 text)) _ n form.1 in
+    let size = passed (nat_le bounds.least (magnitude text) && nat_le (magnitude text) bounds.most) (Ok (signed_digits_value 10 text)) _ n form.1 in
     let value : signed_digits_value 10 text ≡ n = cc in
     record { form = form.0; value = value; least = grind (arith, nat_tests, size.0); most = grind (arith, nat_tests, size.0) }
 
@@ -57,7 +57,7 @@ size_is false size = refl
 number_within-counts : (line most : ℕ) (text : List ℕ) (n : ℤ) → number_within line (signed most) text ≡ Ok n → (1 ≤ nat_abs n) × (nat_abs n ≤ most)
 number_within-counts line most text n h =
     let w = number_within-means line (signed most) text n h in
-    let size = size_is (starts_with_minus text) (size_of text) in
+    let size = size_is (starts_with_minus text) (magnitude text) in
     subst (λ z. (1 ≤ nat_abs z) × (nat_abs z ≤ most)) w.value (omega (arith, size, w.least), omega (arith, size, w.most))
 
 pub numbers_of-counts : (line most : ℕ) (text : List ℕ) (ns : List ℤ) → numbers_of line (signed most) text ≡ Ok ns → CountUpTo most ns
@@ -74,7 +74,7 @@ number_within-lies : (line low high : ℕ) (has_leap : Bool) (text : List ℕ) (
     → number_within line (record { signed = false; least = low; most = high; has_leap = has_leap }) text ≡ Ok n → (pos low ≤ℤ n) × (n ≤ℤ pos high)
 number_within-lies line low high has_leap text n h =
     let w = number_within-means line (record { signed = false; least = low; most = high; has_leap = has_leap }) text n h in
-    let value : pos (size_of text) ≡ n = sym (rw (no_minus text w.form) refl) ∙ w.value in
+    let value : pos (magnitude text) ≡ n = sym (rw (no_minus text w.form) refl) ∙ w.value in
     subst (λ z. (pos low ≤ℤ z) × (z ≤ℤ pos high)) value (omega (arith, ints, w.least), omega (arith, ints, w.most))
 
 pub numbers_of-lie : (line low high : ℕ) (has_leap : Bool) (text : List ℕ) (ns : List ℤ)

@@ -182,7 +182,7 @@ const FAULTS: [(&str, Refusal); 6] = [
     ("BYSECOND=60", Refusal::LeapSecond),
 ];
 
-// A fault is the refusal where another kind of fault stands behind it.
+// A fault is the refusal where another kind of fault stands after it.
 fn comes_first(rt: &impl Abort, alloc: Global, fault: &str, refusal: Refusal) -> Result<(), Fail> {
     for (other, _) in FAULTS {
         if fault != other {

@@ -89,7 +89,7 @@ fn basic_time(text: &[u8]) -> Option<u32>
     Some(hour * 3_600 + minute * 60 + second)
 }
 
-// Whether what stands behind a moment marks it as UTC: nothing, or one `Z`.
+// Whether what stands after a moment marks it as UTC: nothing, or one `Z`.
 fn utc_mark(rest: &[u8]) -> Option<bool>
     ensures { result ≡ utc_mark rest.now }
 {
@@ -116,7 +116,7 @@ fn moment_at(day: i64, second: u32) -> i64
     day * DAY_SECONDS + i64::from(second)
 }
 
-// A moment YYYYMMDDTHHMMSS, and behind it a `Z` or nothing.
+// A moment YYYYMMDDTHHMMSS, and after it a `Z` or nothing.
 #[tactic(auto, unfolding(rr_model::specs::Text::Moments::basic_moment))]
 fn basic_moment(text: &[u8]) -> Option<Stamp>
     ensures stamp { result ≡ basic_moment text.now }
@@ -138,7 +138,7 @@ fn basic_moment(text: &[u8]) -> Option<Stamp>
     })
 }
 
-/// Reads a date YYYYMMDD or a moment YYYYMMDDTHHMMSS, behind which a `Z` may stand.
+/// Reads a date YYYYMMDD or a moment YYYYMMDDTHHMMSS, after which a `Z` may stand.
 ///
 /// The date exists and is of the years 1 to 9999, the hour is 00 to 23, minute and second are 00 to 59.
 /// `T` and `Z` stand in either case. Every other text is `None`.

@@ -47,7 +47,7 @@ fn push_padded(out: &mut Vec<u8>, width: usize, value: u64) -> Result<(), NoMemo
     Ok(())
 }
 
-// Two digits behind a separator.
+// Two digits after a separator.
 fn push_part(out: &mut Vec<u8>, separator: u8, value: u64) -> Result<(), NoMemory>
     ensures ok { OnOk result (out.new.items ≡ out.old.items ++ (separator ∷ padded 2 value)) }
     ensures err { OnErr result (StandsInFront out.old.items out.new.items) }

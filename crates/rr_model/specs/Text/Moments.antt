@@ -67,7 +67,7 @@ is_letter_t b = (b == 84) || (b == 116)
 abbrev pub is_letter_z : ℕ → Bool
 is_letter_z b = (b == 90) || (b == 122)
 
--- whether a moment is marked as UTC: nothing stands behind it, or one Z
+-- whether a moment is marked as UTC: nothing stands after it, or one Z
 abbrev pub utc_mark : List ℕ → Option Bool
 utc_mark [] = Some false
 utc_mark (b ∷ []) = if is_letter_z b then Some true else None
@@ -85,7 +85,7 @@ abbrev pub moment_of : Option ℤ → Option ℕ → Option Bool → Option Stam
 moment_of (Some day) (Some second) (Some utc) = Some (moment_stamp day second utc)
 moment_of day second utc = None
 
--- YYYYMMDDTHHMMSS, and behind it a Z or nothing
+-- YYYYMMDDTHHMMSS, and after it a Z or nothing
 unfoldable pub basic_moment : List ℕ → Option Stamp
 basic_moment text =
     if is_letter_t (slice_index text 8)

@@ -36,6 +36,6 @@ AreParts texts = IsTrue (list_all is_part texts)
 -- Two neighbouring parts of a rule that is read may be exchanged.
 abbrev pub OrderDoesNotMatter : Type 0
 OrderDoesNotMatter =
-    (start a b : List ℕ) (before behind : List (List ℕ)) (series : Series) → IsOneLine start → AreParts (before ++ a ∷ b ∷ behind)
-    → reads (text_of start (join_with_byte 59 (before ++ a ∷ b ∷ behind))) ≡ Ok series
-    → reads (text_of start (join_with_byte 59 (before ++ b ∷ a ∷ behind))) ≡ Ok series
+    (start a b : List ℕ) (before after : List (List ℕ)) (series : Series) → IsOneLine start → AreParts (before ++ a ∷ b ∷ after)
+    → reads (text_of start (join_with_byte 59 (before ++ a ∷ b ∷ after))) ≡ Ok series
+    → reads (text_of start (join_with_byte 59 (before ++ b ∷ a ∷ after))) ≡ Ok series

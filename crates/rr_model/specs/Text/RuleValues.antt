@@ -87,8 +87,8 @@ abbrev pub has_number_form : NumberBounds → List ℕ → Bool
 has_number_form bounds text = if bounds.signed then is_signed_number text else is_number text
 
 -- the number without its sign
-abbrev pub size_of : List ℕ → ℕ
-size_of text = digits_value (without_leading_sign text)
+abbrev pub magnitude : List ℕ → ℕ
+magnitude text = digits_value (without_leading_sign text)
 
 -- why a number outside its bounds is refused
 abbrev pub outside : ℕ → NumberBounds → ℕ → Refusal
@@ -97,7 +97,7 @@ outside line bounds size = if bounds.has_leap && (size == 60) then LeapSecond el
 -- a number of the form and within the bounds
 unfoldable pub number_within : ℕ → NumberBounds → List ℕ → Result ℤ Refusal
 number_within line bounds text =
-    if has_number_form bounds text then (if nat_le bounds.least (size_of text) && nat_le (size_of text) bounds.most then Ok (signed_digits_value 10 text) else Err (outside line bounds (size_of text)))
+    if has_number_form bounds text then (if nat_le bounds.least (magnitude text) && nat_le (magnitude text) bounds.most then Ok (signed_digits_value 10 text) else Err (outside line bounds (magnitude text)))
     else Err (BadRule line)
 
 unfoldable pub numbers_of : ℕ → NumberBounds → List ℕ → Result (List ℤ) Refusal

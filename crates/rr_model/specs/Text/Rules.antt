@@ -20,9 +20,9 @@ use Rattle.rr_model.specs.declared.rule_parts.PartName.TheVariants as part
 use Rattle.rr_model.specs.declared.rule_parts.RuleParts.{RuleParts}
 use Rattle.rr_model.specs.declared.stamp.Stamp.{Stamp}
 
--- what stands before the first byte b, and what behind it
-abbrev pub cut : ℕ → List ℕ → Option (List ℕ × List ℕ)
-cut b text = option_map (λ i. (take i text, drop (i + 1) text)) (position (λ c. c == b) text)
+-- what stands before the first byte b, and what after it
+abbrev pub split_once : ℕ → List ℕ → Option (List ℕ × List ℕ)
+split_once b text = option_map (λ i. (take i text, drop (i + 1) text)) (position (λ c. c == b) text)
 
 -- ---- the parts of a rule
 
@@ -41,46 +41,46 @@ is_extension name = bytes_eq name (codes "RSCALE") || bytes_eq name (codes "SKIP
 unfoldable pub name_of : ℕ → List ℕ → Result PartName Refusal
 name_of line name = if is_extension name then Err Extended else ok_or (part_named name) (BadRule line)
 
--- the part stood before
-abbrev pub stands : RuleParts → PartName → Bool
-stands parts part.Freq = is_some parts.freq
-stands parts part.Until = is_some parts.until
-stands parts part.Count = is_some parts.count
-stands parts part.Interval = is_some parts.interval
-stands parts part.WeekStart = is_some parts.week_start
-stands parts part.BySecond = not (is_absent parts.by_second)
-stands parts part.ByMinute = not (is_absent parts.by_minute)
-stands parts part.ByHour = not (is_absent parts.by_hour)
-stands parts part.ByDay = not (is_absent parts.by_day)
-stands parts part.ByMonthDay = not (is_absent parts.by_month_day)
-stands parts part.ByYearDay = not (is_absent parts.by_year_day)
-stands parts part.ByWeekNo = not (is_absent parts.by_week_no)
-stands parts part.ByMonth = not (is_absent parts.by_month)
-stands parts part.BySetPos = not (is_absent parts.by_set_pos)
+-- the part is present
+abbrev pub is_present : RuleParts → PartName → Bool
+is_present parts part.Freq = is_some parts.freq
+is_present parts part.Until = is_some parts.until
+is_present parts part.Count = is_some parts.count
+is_present parts part.Interval = is_some parts.interval
+is_present parts part.WeekStart = is_some parts.week_start
+is_present parts part.BySecond = not (is_absent parts.by_second)
+is_present parts part.ByMinute = not (is_absent parts.by_minute)
+is_present parts part.ByHour = not (is_absent parts.by_hour)
+is_present parts part.ByDay = not (is_absent parts.by_day)
+is_present parts part.ByMonthDay = not (is_absent parts.by_month_day)
+is_present parts part.ByYearDay = not (is_absent parts.by_year_day)
+is_present parts part.ByWeekNo = not (is_absent parts.by_week_no)
+is_present parts part.ByMonth = not (is_absent parts.by_month)
+is_present parts part.BySetPos = not (is_absent parts.by_set_pos)
 
 -- the table: each part's values, and where they belong
-abbrev pub with_value_of : ℕ → RuleParts → PartName → List ℕ → Result RuleParts Refusal
-with_value_of line parts part.Freq text = ok_or (freq_named text) (BadRule line) >>= λ x. Ok (record parts { freq = Some x })
-with_value_of line parts part.Until text = ok_or (basic text) (BadMoment line) >>= λ x. Ok (record parts { until = Some x })
-with_value_of line parts part.Count text = number_up_to line 18_446_744_073_709_551_615 text >>= λ x. Ok (record parts { count = Some x })
-with_value_of line parts part.Interval text = number_up_to line 4_294_967_295 text >>= λ x. Ok (record parts { interval = Some x })
-with_value_of line parts part.WeekStart text = ok_or (weekday_named text) (BadRule line) >>= λ x. Ok (record parts { week_start = Some x })
-with_value_of line parts part.BySecond text = numbers_of line seconds text >>= λ x. Ok (record parts { by_second = x })
-with_value_of line parts part.ByMinute text = numbers_of line (unsigned 0 59) text >>= λ x. Ok (record parts { by_minute = x })
-with_value_of line parts part.ByHour text = numbers_of line (unsigned 0 23) text >>= λ x. Ok (record parts { by_hour = x })
-with_value_of line parts part.ByDay text = day_items_of line text >>= λ x. Ok (record parts { by_day = x })
-with_value_of line parts part.ByMonthDay text = numbers_of line (signed 31) text >>= λ x. Ok (record parts { by_month_day = x })
-with_value_of line parts part.ByYearDay text = numbers_of line (signed 366) text >>= λ x. Ok (record parts { by_year_day = x })
-with_value_of line parts part.ByWeekNo text = numbers_of line (signed 53) text >>= λ x. Ok (record parts { by_week_no = x })
-with_value_of line parts part.ByMonth text = numbers_of line (unsigned 1 12) text >>= λ x. Ok (record parts { by_month = x })
-with_value_of line parts part.BySetPos text = numbers_of line (signed 366) text >>= λ x. Ok (record parts { by_set_pos = x })
+abbrev pub with_part_value : ℕ → RuleParts → PartName → List ℕ → Result RuleParts Refusal
+with_part_value line parts part.Freq text = ok_or (freq_named text) (BadRule line) >>= λ x. Ok (record parts { freq = Some x })
+with_part_value line parts part.Until text = ok_or (basic text) (BadMoment line) >>= λ x. Ok (record parts { until = Some x })
+with_part_value line parts part.Count text = number_up_to line 18_446_744_073_709_551_615 text >>= λ x. Ok (record parts { count = Some x })
+with_part_value line parts part.Interval text = number_up_to line 4_294_967_295 text >>= λ x. Ok (record parts { interval = Some x })
+with_part_value line parts part.WeekStart text = ok_or (weekday_named text) (BadRule line) >>= λ x. Ok (record parts { week_start = Some x })
+with_part_value line parts part.BySecond text = numbers_of line seconds text >>= λ x. Ok (record parts { by_second = x })
+with_part_value line parts part.ByMinute text = numbers_of line (unsigned 0 59) text >>= λ x. Ok (record parts { by_minute = x })
+with_part_value line parts part.ByHour text = numbers_of line (unsigned 0 23) text >>= λ x. Ok (record parts { by_hour = x })
+with_part_value line parts part.ByDay text = day_items_of line text >>= λ x. Ok (record parts { by_day = x })
+with_part_value line parts part.ByMonthDay text = numbers_of line (signed 31) text >>= λ x. Ok (record parts { by_month_day = x })
+with_part_value line parts part.ByYearDay text = numbers_of line (signed 366) text >>= λ x. Ok (record parts { by_year_day = x })
+with_part_value line parts part.ByWeekNo text = numbers_of line (signed 53) text >>= λ x. Ok (record parts { by_week_no = x })
+with_part_value line parts part.ByMonth text = numbers_of line (unsigned 1 12) text >>= λ x. Ok (record parts { by_month = x })
+with_part_value line parts part.BySetPos text = numbers_of line (signed 366) text >>= λ x. Ok (record parts { by_set_pos = x })
 
--- a part NAME=value: its name, then whether it stood before, then its value
+-- a part NAME=value: its name, then whether it is present already, then its value
 unfoldable pub with_part : ℕ → RuleParts → List ℕ → Result RuleParts Refusal
 with_part line parts text = do
-  sides ← ok_or (cut 61 text) (BadRule line)
+  sides ← ok_or (split_once 61 text) (BadRule line)
   name ← name_of line sides.0
-  if stands parts name then Err (PartTwice line) else with_value_of line parts name sides.1
+  if is_present parts name then Err (PartTwice line) else with_part_value line parts name sides.1
 
 -- the parts after those that are read
 abbrev pub with_parts : ℕ → RuleParts → List (List ℕ) → Result RuleParts Refusal
@@ -122,7 +122,7 @@ end_of None (Some count) = Ok (Count count)
 end_of (Some until) None = Ok (Until until.kind until.at)
 end_of (Some until) (Some count) = Err UntilAndCount
 
--- a rule of these parts: INTERVAL is 1 and WKST Monday where they do not stand
+-- a rule of these parts: INTERVAL is 1 and WKST Monday where they are absent
 abbrev pub rule_with : Freq → End → RuleParts → Rule
 rule_with freq end parts = record {
   freq = freq;
@@ -172,24 +172,24 @@ series_with start until rule =
 abbrev pub is_blank : ℕ → Bool
 is_blank b = (b == 32) || (b == 9)
 
-abbrev pub without_blanks_before : List ℕ → List ℕ
-without_blanks_before text = drop (length (take_while is_blank text)) text
+abbrev pub trim_start : List ℕ → List ℕ
+trim_start text = drop (length (take_while is_blank text)) text
 
-abbrev pub without_blanks_behind : List ℕ → List ℕ
-without_blanks_behind text = take (length text - length (take_while is_blank (reverse text))) text
+abbrev pub trim_end : List ℕ → List ℕ
+trim_end text = take (length text - length (take_while is_blank (reverse text))) text
 
 unfoldable pub line_value : List ℕ → List ℕ
-line_value text = without_blanks_behind (without_blanks_before (str_to_ascii_uppercase text))
+line_value text = trim_end (trim_start (str_to_ascii_uppercase text))
 
--- the text behind a prefix
-abbrev pub text_behind : List ℕ → List ℕ → Option (List ℕ)
-text_behind prefix text = if bytes_eq (take (length prefix) text) prefix then Some (drop (length prefix) text) else None
+-- the text after a prefix
+abbrev pub text_after : List ℕ → List ℕ → Option (List ℕ)
+text_after prefix text = if bytes_eq (take (length prefix) text) prefix then Some (drop (length prefix) text) else None
 
--- the value of the first line, which begins so and is ended by a line feed, and what stands behind that line
+-- the value of the first line, which begins so and is ended by a line feed, and what stands after that line
 unfoldable pub first_line : List ℕ → List ℕ → Option (List ℕ × List ℕ)
-first_line name text = option_and_then (cut 10) (text_behind name text)
+first_line name text = option_and_then (split_once 10) (text_after name text)
 
--- the values of the two lines of a text; nothing stands behind them
+-- the values of the two lines of a text; nothing stands after them
 unfoldable pub values_of : List ℕ → Option (List ℕ × List ℕ)
 values_of bytes =
     option_and_then (λ start. option_and_then (λ rule. if length rule.1 == 0 then Some (start.0, rule.0) else None)

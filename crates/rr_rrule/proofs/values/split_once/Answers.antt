@@ -1,6 +1,6 @@
 use Rattle.std.proofs.Common.{ℕ, ◌+◌, take, drop, option_map, ap}
 use Rattle.std.proofs.lemmas.List.{take_rest}
-use Rattle.rr_rrule.proofs.values.cut.Goals as goal
+use Rattle.rr_rrule.proofs.values.split_once.Goals as goal
 
 pub returns : goal.returns
 returns c =

@@ -2,7 +2,7 @@ use Rattle.std.proofs.Common.{◌≡◌, ℕ, List, true, min, ap, ◌∙◌}
 use Rattle.rr_model.specs.Text.Digits.{digits_value}
 use Rattle.rr_model.specs.Text.RuleValues.{is_number}
 use Rattle.rr_rrule.proofs.NumberLemmas.{told_value}
-use Rattle.rr_rrule.proofs.numbers.size_of.Goals as goal
+use Rattle.rr_rrule.proofs.numbers.magnitude.Goals as goal
 
 pub returns : goal.returns
 returns c =
