@@ -9,7 +9,7 @@ use crate::cycle::joined;
 use crate::faults::end_fault;
 use crate::{admit, check, chosen_repeats};
 use rr_model::{
-    Dates, DayItem, DayItems, End, Freq, Kind, NoMemory, Numbers, Refusal, Rule, Rules, Series,
+    Dates, DayItem, End, Freq, Kind, NoMemory, Refusal, Rule, Rules, Series,
 };
 use std::alloc::Global;
 use std::test::Fail;
@@ -20,26 +20,12 @@ fn mondays(alloc: Global) -> Result<Rule, NoMemory>
     ensures end { IfOk result (λ rule. rule.end ≡ Never) }
     ensures without_set_positions { IfOk result (λ rule. rule.by_set_pos ≡ []) }
 {
-    let mut by_day = DayItems::new(alloc);
-    by_day.put(DayItem {
+    let mut rule = Rule::new(alloc, Freq::Weekly, 1);
+    rule.by_day.put(DayItem {
         place: 0,
         weekday: 0,
     })?;
-    Ok(Rule {
-        freq: Freq::Weekly,
-        interval: 1,
-        by_month: Numbers::new(alloc),
-        by_week_no: Numbers::new(alloc),
-        by_year_day: Numbers::new(alloc),
-        by_month_day: Numbers::new(alloc),
-        by_day,
-        by_hour: Numbers::new(alloc),
-        by_minute: Numbers::new(alloc),
-        by_second: Numbers::new(alloc),
-        by_set_pos: Numbers::new(alloc),
-        week_start: 0,
-        end: End::Never,
-    })
+    Ok(rule)
 }
 
 // The Mondays from a date on.

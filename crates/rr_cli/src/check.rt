@@ -20,7 +20,7 @@ fn has_set_positions(series: &Series) -> bool
     let rules = series.rules.as_slice();
     rules
         .iter()
-        .any(|rule| !rule.by_set_pos.as_slice().is_empty())
+        .any(|rule| !rule.by_set_pos.is_empty())
 }
 
 // The cycle of a sound series, or that it is too long.

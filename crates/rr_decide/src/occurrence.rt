@@ -6,10 +6,8 @@ ghost use Rattle.rr_model.specs.declared.verdict.Verdict.TheVariants.{No};
 ghost use Rattle.rr_decide.specs.Occurrence.{IsNearOccurrence};
 ghost use Rattle.rr_decide.specs.Question.{IsFirstOccurrence};
 
-use rr_model::{Kind, Side, Verdict};
+use rr_model::{Kind, SECONDS_OF_DAY, Side, Verdict, moment_at};
 use rr_word::DaySeq;
-
-const SECONDS_OF_A_DAY: i64 = 86_400;
 
 /// A date or a moment.
 #[derive(Clone, Copy)]
@@ -28,12 +26,9 @@ impl Occurrence {
         ensures kind { result.kind ≡ kind }
         ensures at { result.at ≡ moment_at kind day second }
     {
-        match kind {
-            Kind::Days => Occurrence { kind, at: day },
-            Kind::Moments => Occurrence {
-                kind,
-                at: day * SECONDS_OF_A_DAY + i64::from(second),
-            },
+        Occurrence {
+            kind,
+            at: moment_at(kind, day, second),
         }
     }
 
@@ -44,8 +39,8 @@ impl Occurrence {
         ensures { IsTrue result ↔ Before self.kind self.at other.kind other.at }
     {
         match (self.kind, other.kind) {
-            (Kind::Days, Kind::Moments) => self.at * SECONDS_OF_A_DAY <= other.at,
-            (Kind::Moments, Kind::Days) => self.at < other.at * SECONDS_OF_A_DAY,
+            (Kind::Days, Kind::Moments) => self.at * SECONDS_OF_DAY <= other.at,
+            (Kind::Moments, Kind::Days) => self.at < other.at * SECONDS_OF_DAY,
             _ => self.at < other.at,
         }
     }

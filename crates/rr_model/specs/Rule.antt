@@ -3,5 +3,6 @@ pub mod Candidate
 pub mod Chosen
 pub mod Cycle
 pub mod Filled
+pub mod Plain
 pub mod Repetition
 pub mod Validity

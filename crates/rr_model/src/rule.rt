@@ -1,8 +1,13 @@
 // A recurrence rule and a series of rules and dates.
-use crate::{Dates, DayItems, Kind, Numbers, Rules};
+ghost use Rattle.std.specs.Prelude.{◌≡◌, IfOk};
+ghost use Rattle.rr_model.specs.Moment.Units.{is_whole_days};
+ghost use Rattle.rr_model.specs.Rule.Plain.{plain_rule};
 
-/// How often a rule repeats (RFC 5545, section 3.3.10, FREQ).
-#[derive(Clone, Copy, Debug, PartialEq, Eq)]
+use crate::{Dates, DayItems, Kind, NoMemory, Numbers, Rules};
+use std::alloc::Global;
+
+/// How often a rule repeats (RFC 5545, section 3.3.10, FREQ), in the order of the units' lengths.
+#[derive(Clone, Copy, Debug, PartialEq, Eq, PartialOrd, Ord)]
 pub enum Freq {
     /// Each second.
     Secondly,
@@ -18,6 +23,15 @@ pub enum Freq {
     Monthly,
     /// Each calendar year.
     Yearly,
+}
+
+impl Freq {
+    /// Whether its unit is a day or longer.
+    pub fn is_whole_days(self) -> bool
+        ensures { result ≡ is_whole_days self }
+    {
+        self >= Freq::Daily
+    }
 }
 
 /// Where a rule ends (RFC 5545, section 3.3.10, UNTIL and COUNT).
@@ -83,6 +97,51 @@ pub struct Rule {
     pub week_start: u8,
     /// UNTIL or COUNT.
     pub end: End,
+}
+
+impl Rule {
+    /// The rule of a frequency and an interval, from 1: without a BY part, without an end, and with weeks from Monday on.
+    /// It takes no memory.
+    pub fn new(alloc: Global, freq: Freq, interval: u32) -> Self
+        ensures { result ≡ plain_rule freq interval }
+    {
+        Rule {
+            freq,
+            interval,
+            by_month: Numbers::new(alloc),
+            by_week_no: Numbers::new(alloc),
+            by_year_day: Numbers::new(alloc),
+            by_month_day: Numbers::new(alloc),
+            by_day: DayItems::new(alloc),
+            by_hour: Numbers::new(alloc),
+            by_minute: Numbers::new(alloc),
+            by_second: Numbers::new(alloc),
+            by_set_pos: Numbers::new(alloc),
+            week_start: 0,
+            end: End::Never,
+        }
+    }
+
+    /// The same rule, in memory of its own.
+    pub fn copy(&self, alloc: Global) -> Result<Self, NoMemory>
+        ensures { IfOk result (λ made. made ≡ self.now) }
+    {
+        Ok(Rule {
+            freq: self.freq,
+            interval: self.interval,
+            by_month: self.by_month.copy(alloc)?,
+            by_week_no: self.by_week_no.copy(alloc)?,
+            by_year_day: self.by_year_day.copy(alloc)?,
+            by_month_day: self.by_month_day.copy(alloc)?,
+            by_day: self.by_day.copy(alloc)?,
+            by_hour: self.by_hour.copy(alloc)?,
+            by_minute: self.by_minute.copy(alloc)?,
+            by_second: self.by_second.copy(alloc)?,
+            by_set_pos: self.by_set_pos.copy(alloc)?,
+            week_start: self.week_start,
+            end: self.end,
+        })
+    }
 }
 
 /// A recurrence set (RFC 5545, section 3.8.5): a start, rules, and dates beside them.

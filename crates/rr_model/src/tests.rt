@@ -1,5 +1,6 @@
 use crate::{
-    Dates, DayItem, DayItems, DayShape, DayShapes, End, Freq, Numbers, Rule, Rules, Seconds,
+    Dates, DayItem, DayItems, DayShape, DayShapes, Freq, Kind, Numbers, Rule, Rules, Seconds,
+    day_part, moment_at, second_part,
 };
 use std::test::Fail;
 
@@ -54,24 +55,70 @@ fn lists_put_values_at_the_end(rt: HostRuntime) -> Result<(), Fail> {
     assert!(rt; matches!(shapes.as_slice(), [first, second] if first.day == 5 && second.day == 3));
     let mut rules = Rules::new(alloc);
     for (freq, interval) in [(Freq::Weekly, 2), (Freq::Daily, 1)] {
-        rules.put(Rule {
-            freq,
-            interval,
-            by_month: Numbers::new(alloc),
-            by_week_no: Numbers::new(alloc),
-            by_year_day: Numbers::new(alloc),
-            by_month_day: Numbers::new(alloc),
-            by_day: DayItems::new(alloc),
-            by_hour: Numbers::new(alloc),
-            by_minute: Numbers::new(alloc),
-            by_second: Numbers::new(alloc),
-            by_set_pos: Numbers::new(alloc),
-            week_start: 0,
-            end: End::Never,
-        })?;
+        rules.put(Rule::new(alloc, freq, interval))?;
     }
     assert!(rt;
         matches!(rules.as_slice(), [first, second] if first.interval == 2 && second.interval == 1)
     );
+    Ok(())
+}
+
+#[test]
+fn lists_are_copied(rt: HostRuntime) -> Result<(), Fail> {
+    let alloc = rt.alloc();
+    let mut rule = Rule::new(alloc, Freq::Yearly, 4);
+    assert!(rt; rule.by_month.is_empty() && rule.by_day.is_empty());
+    rule.by_month.put(2)?;
+    rule.by_month_day.put(29)?;
+    rule.by_day.put(DayItem {
+        place: 0,
+        weekday: 3,
+    })?;
+    let copy = rule.copy(alloc)?;
+    rule.by_month.put(3)?;
+    assert_eq!(rt; rule.by_month.len(), 2);
+    assert_eq!(rt; copy.by_month.as_slice(), [2].as_slice());
+    assert_eq!(rt; copy.by_month_day.as_slice(), [29].as_slice());
+    assert_eq!(rt; copy.by_day.as_slice(), rule.by_day.as_slice());
+    assert!(rt; copy.freq == Freq::Yearly && copy.interval == 4 && copy.by_hour.is_empty());
+    let mut rules = Rules::new(alloc);
+    rules.put(rule)?;
+    rules.put(copy)?;
+    let rules = rules.copy(alloc)?;
+    assert!(rt;
+        matches!(rules.as_slice(), [first, second] if first.by_month.len() == 2 && second.by_month.len() == 1)
+    );
+    let mut dates = Dates::new(alloc);
+    dates.put(-5)?;
+    assert_eq!(rt; dates.copy(alloc)?.as_slice(), [-5].as_slice());
+    Ok(())
+}
+
+// Occurrences with their days and seconds: 2024-01-01 and 09:00:00 on it, 1970-01-01 and the day before.
+const MOMENTS: [(Kind, i64, i64, u32); 6] = [
+    (Kind::Days, 19_723, 19_723, 0),
+    (Kind::Moments, 1_704_099_600, 19_723, 32_400),
+    (Kind::Moments, 0, 0, 0),
+    (Kind::Moments, -1, -1, 86_399),
+    (Kind::Moments, -86_400, -1, 0),
+    (Kind::Days, -1, -1, 0),
+];
+
+#[test]
+fn moments_are_days_and_seconds(rt: HostRuntime) -> Result<(), Fail> {
+    for (kind, at, day, second) in MOMENTS {
+        assert!(rt; day >= -1 && day <= 19_723);
+        assert_eq!(rt; day_part(kind, at), day);
+        assert_eq!(rt; second_part(kind, at), second);
+        assert_eq!(rt; moment_at(kind, day, second), at);
+    }
+    for (freq, is_whole_days) in [
+        (Freq::Secondly, false),
+        (Freq::Hourly, false),
+        (Freq::Daily, true),
+        (Freq::Yearly, true),
+    ] {
+        assert_eq!(rt; freq.is_whole_days(), is_whole_days);
+    }
     Ok(())
 }

@@ -1,6 +1,5 @@
 -- After how many days the parts of a rule repeat, whichever stand.
-use Rattle.std.proofs.Common.{◌≡◌, ℕ, ◌==◌, Bool, true, false, List, [], ◌∷◌, length, ap, ◌∙◌, refl, eqb-true, arith}
-use Rattle.std.proofs.lemmas.Bool.{eqb-false}
+use Rattle.std.proofs.Common.{◌≡◌, ℕ, Bool, true, false, ap, ◌∙◌, refl}
 use Rattle.std.specs.Prelude.{if◌then◌else◌}
 use Rattle.rr_model.specs.Whole.Divisors.{gcd_within, gcd, lcm}
 use Rattle.rr_model.specs.Rule.Cycle.{asks_calendar, parts_cycle}
@@ -26,11 +25,3 @@ parts_calendar r e = ap (λ b. lcm (one_or_seven (is_absent r.by_day)) (if b the
 
 pub parts_weekdays : (r : Rule) → asks_calendar r ≡ false → parts_cycle r ≡ one_or_seven (is_absent r.by_day)
 parts_weekdays r e = ap (λ b. lcm (one_or_seven (is_absent r.by_day)) (if b then 146_097 else 1)) e ∙ weekdays_alone (is_absent r.by_day)
-
-pub no_weekday : {X : Type 0} (xs ys : List X) → ys ≡ xs → (length ys == 0) ≡ true → one_or_seven (is_absent xs) ≡ 1
-no_weekday [] ys e h = refl
-no_weekday (x ∷ xs) ys e h = absurd (omega (arith, eqb-true (length ys) 0 h, ap length e))
-
-pub some_weekday : {X : Type 0} (xs ys : List X) → ys ≡ xs → (length ys == 0) ≡ false → one_or_seven (is_absent xs) ≡ 7
-some_weekday [] ys e h = absurd (omega (arith, eqb-false (length ys) 0 h, ap length e))
-some_weekday (x ∷ xs) ys e h = refl

@@ -1,11 +1,10 @@
 // After how many days a rule repeats.
-ghost use Rattle.std.specs.Prelude.{◌≡◌, ◌*◌, ◌/◌, ◌≤◌, not};
+ghost use Rattle.std.specs.Prelude.{◌≡◌, ◌*◌, ◌/◌, ◌≤◌};
 ghost use Rattle.rr_model.specs.Whole.Divisors.{gcd};
 ghost use Rattle.rr_model.specs.Rule.Cycle.{interval_cycle, asks_calendar, parts_cycle, rule_cycle};
-ghost use Rattle.rr_model.specs.Rule.Validity.{is_absent};
 
 use crate::gcd;
-use rr_model::{Freq, Numbers, Rule};
+use rr_model::{Freq, Rule};
 
 // The days of 400 years, which are whole weeks and 4,800 months.
 const DAYS_OF_400_YEARS: u64 = 146_097;
@@ -59,7 +58,7 @@ fn parts_cycle(rule: &Rule) -> u64
     if asks_calendar(rule) {
         return DAYS_OF_400_YEARS;
     }
-    if rule.by_day.as_slice().is_empty() {
+    if rule.by_day.is_empty() {
         1
     } else {
         7
@@ -70,14 +69,8 @@ fn parts_cycle(rule: &Rule) -> u64
 fn asks_calendar(rule: &Rule) -> bool
     ensures { result ≡ asks_calendar rule.now }
 {
-    stands(&rule.by_month)
-        || stands(&rule.by_month_day)
-        || stands(&rule.by_year_day)
-        || stands(&rule.by_week_no)
-}
-
-fn stands(numbers: &Numbers) -> bool
-    ensures { result ≡ not (is_absent numbers.now) }
-{
-    !numbers.as_slice().is_empty()
+    !rule.by_month.is_empty()
+        || !rule.by_month_day.is_empty()
+        || !rule.by_year_day.is_empty()
+        || !rule.by_week_no.is_empty()
 }

@@ -1,7 +1,7 @@
 ghost use Rattle.std.specs.Prelude.{◌≡◌, IfOk};
 
 use crate::{day_cycle, gcd, lcm_within};
-use rr_model::{DayItem, DayItems, End, Freq, NoMemory, Numbers, Rule};
+use rr_model::{DayItem, Freq, NoMemory, Rule};
 use std::alloc::Global;
 use std::test::Fail;
 
@@ -15,34 +15,18 @@ fn rule(
 ) -> Result<Rule, NoMemory>
     ensures { IfOk result (λ r. r.interval ≡ interval) }
 {
-    let mut by_month = Numbers::new(alloc);
-    let mut by_month_day = Numbers::new(alloc);
-    let mut by_day = DayItems::new(alloc);
+    let mut rule = Rule::new(alloc, freq, interval);
     if february {
-        by_month.put(2)?;
-        by_month_day.put(29)?;
+        rule.by_month.put(2)?;
+        rule.by_month_day.put(29)?;
     }
     if mondays {
-        by_day.put(DayItem {
+        rule.by_day.put(DayItem {
             place: 0,
             weekday: 0,
         })?;
     }
-    Ok(Rule {
-        freq,
-        interval,
-        by_month,
-        by_week_no: Numbers::new(alloc),
-        by_year_day: Numbers::new(alloc),
-        by_month_day,
-        by_day,
-        by_hour: Numbers::new(alloc),
-        by_minute: Numbers::new(alloc),
-        by_second: Numbers::new(alloc),
-        by_set_pos: Numbers::new(alloc),
-        week_start: 0,
-        end: End::Never,
-    })
+    Ok(rule)
 }
 
 #[test]

@@ -1,20 +1,14 @@
 // A rule of its parts, and the series of a start and a rule.
 ghost use Rattle.std.specs.Prelude.{◌≡◌, IfOk};
 ghost use Rattle.rr_model.specs.Answers.{Answers};
-ghost use Rattle.rr_model.specs.Rule.Validity.{is_absent, has_place, has_part, takes_places, takes_week_numbers, takes_month_days, takes_year_days, is_allowed, takes_start};
+ghost use Rattle.rr_model.specs.Rule.Validity.{has_place, has_part, takes_places, takes_week_numbers, takes_month_days, takes_year_days, is_allowed, takes_start};
 ghost use Rattle.rr_model.specs.Text.Rules.{end_of, rule_with, rule_of, has_time, needs_offset, series_of, series_with};
 
 use rr_model::{
-    Dates, DayItems, End, Fault, Freq, Kind, NoMemory, Numbers, Refusal, Rule, RuleParts, Rules,
+    Dates, DayItems, End, Fault, Freq, Kind, NoMemory, Refusal, Rule, RuleParts, Rules,
     Series, Stamp,
 };
 use std::alloc::Global;
-
-fn is_absent(numbers: &Numbers) -> bool
-    ensures { result ≡ is_absent numbers.now }
-{
-    numbers.as_slice().is_empty()
-}
 
 fn has_place(items: &DayItems) -> bool
     ensures { result ≡ has_place items.now }
@@ -41,15 +35,15 @@ fn takes_places(freq: Freq, no_weeks: bool) -> bool
 fn has_part(rule: &Rule) -> bool
     ensures { result ≡ has_part rule.now }
 {
-    let no_days = is_absent(&rule.by_month)
-        && is_absent(&rule.by_week_no)
-        && is_absent(&rule.by_year_day)
-        && is_absent(&rule.by_month_day)
-        && rule.by_day.as_slice().is_empty();
+    let no_days = rule.by_month.is_empty()
+        && rule.by_week_no.is_empty()
+        && rule.by_year_day.is_empty()
+        && rule.by_month_day.is_empty()
+        && rule.by_day.is_empty();
     !(no_days
-        && is_absent(&rule.by_hour)
-        && is_absent(&rule.by_minute)
-        && is_absent(&rule.by_second))
+        && rule.by_hour.is_empty()
+        && rule.by_minute.is_empty()
+        && rule.by_second.is_empty())
 }
 
 fn takes_month_days(freq: Freq) -> bool
@@ -68,11 +62,11 @@ fn takes_week_numbers(freq: Freq) -> bool
 fn is_allowed(rule: &Rule) -> bool
     ensures { result ≡ is_allowed rule.now }
 {
-    (takes_year_days(rule.freq) || is_absent(&rule.by_year_day))
-        && (takes_month_days(rule.freq) || is_absent(&rule.by_month_day))
-        && (takes_week_numbers(rule.freq) || is_absent(&rule.by_week_no))
-        && (takes_places(rule.freq, is_absent(&rule.by_week_no)) || !has_place(&rule.by_day))
-        && (has_part(rule) || is_absent(&rule.by_set_pos))
+    (takes_year_days(rule.freq) || rule.by_year_day.is_empty())
+        && (takes_month_days(rule.freq) || rule.by_month_day.is_empty())
+        && (takes_week_numbers(rule.freq) || rule.by_week_no.is_empty())
+        && (takes_places(rule.freq, rule.by_week_no.is_empty()) || !has_place(&rule.by_day))
+        && (has_part(rule) || rule.by_set_pos.is_empty())
 }
 
 fn takes_start(freq: Freq, kind: Kind) -> bool

@@ -5,14 +5,11 @@ ghost use Rattle.std.specs.Bool.{OnTrue};
 ghost use Rattle.rr_model.specs.Text.Digits.{is_digit};
 ghost use Rattle.rr_model.specs.Moment.Years.{HasFourDigitYear};
 ghost use Rattle.rr_model.specs.Text.Moments.{is_digits, number_at, written_year, written_month, written_day, basic_date, basic_time, basic_moment, basic, is_letter_t, utc_mark};
-ghost use Rattle.rr_model.specs.Moment.{moment_at, day_part};
-ghost use Rattle.rr_model.specs.declared.kind.Kind.TheVariants.{Moments};
+ghost use Rattle.rr_model.specs.Moment.{day_part};
 
 use crate::digits::value_of;
 use rr_cal::{Date, day_of, valid};
-use rr_model::{Kind, Stamp};
-
-const DAY_SECONDS: i64 = 86_400;
+use rr_model::{Kind, Stamp, moment_at};
 
 fn all_digits(text: &[u8]) -> bool
     ensures { result ≡ list_all is_digit text.now }
@@ -106,16 +103,6 @@ fn is_letter_t(byte: u8) -> bool
     byte == b'T' || byte == b't'
 }
 
-// The moment at a second of a day.
-fn moment_at(day: i64, second: u32) -> i64
-    requires near { HasFourDigitYear day }
-    requires second { second < 86_400 }
-    ensures value { result ≡ moment_at Moments day second }
-    ensures day { day_part Moments result ≡ day }
-{
-    day * DAY_SECONDS + i64::from(second)
-}
-
 // A moment YYYYMMDDTHHMMSS, and after it a `Z` or nothing.
 #[tactic(auto, unfolding(rr_model::specs::Text::Moments::basic_moment))]
 fn basic_moment(text: &[u8]) -> Option<Stamp>
@@ -133,7 +120,7 @@ fn basic_moment(text: &[u8]) -> Option<Stamp>
     let utc = utc_mark(&text[15..])?;
     Some(Stamp {
         kind: Kind::Moments,
-        at: moment_at(day, second),
+        at: moment_at(Kind::Moments, day, second),
         utc,
     })
 }

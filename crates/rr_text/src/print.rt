@@ -2,17 +2,14 @@
 ghost use Rattle.std.specs.Prelude.{◌≡◌, ◌≤◌, ◌++◌, ◌∷◌, codes, replicate, OnOk, OnErr};
 ghost use Rattle.std.specs.Fmt.{signed_decimal};
 ghost use Rattle.rr_model.specs.Calendar.{IsDayWithin};
-ghost use Rattle.rr_model.specs.Moment.{day_part, second_part};
+ghost use Rattle.rr_model.specs.Moment.{day_part};
 ghost use Rattle.rr_model.specs.Moment.Years.{IsFromYearOne};
 ghost use Rattle.rr_model.specs.Text.Moments.{padded, extended_date, extended_date_text, extended_time_text, extended_text};
-ghost use Rattle.rr_model.specs.declared.kind.Kind.TheVariants.{Moments};
 ghost use Rattle.rr_text.specs.Appending.{StandsInFront};
 
 use itoa::Buffer;
 use rr_cal::date_of;
-use rr_model::{Kind, NoMemory};
-
-const DAY_SECONDS: i64 = 86_400;
+use rr_model::{Kind, NoMemory, day_part, second_part};
 
 /// Appends the number in decimal digits, with `-` before them where it is below 0.
 pub fn push_number(out: &mut Vec<u8>, value: i64) -> Result<(), NoMemory>
@@ -86,20 +83,6 @@ fn push_day(out: &mut Vec<u8>, day: i64) -> Result<(), NoMemory>
     push_date(out, date.year as u64, date.month, date.day)
 }
 
-// The day of a moment.
-fn day_part(at: i64) -> i64
-    ensures { result ≡ day_part Moments at }
-{
-    at.div_euclid(DAY_SECONDS)
-}
-
-// The second of a moment on its day.
-fn second_part(at: i64) -> u32
-    ensures { result ≡ second_part Moments at }
-{
-    at.rem_euclid(DAY_SECONDS) as u32
-}
-
 #[tactic(auto, unfolding(rr_model::specs::Text::Moments::extended_text))]
 fn push_parts(out: &mut Vec<u8>, kind: Kind, at: i64) -> Result<(), NoMemory>
     requires from { IsFromYearOne (day_part kind at) }
@@ -110,8 +93,8 @@ fn push_parts(out: &mut Vec<u8>, kind: Kind, at: i64) -> Result<(), NoMemory>
     match kind {
         Kind::Days => push_day(out, at),
         Kind::Moments => {
-            push_day(out, day_part(at))?;
-            push_time(out, second_part(at))
+            push_day(out, day_part(kind, at))?;
+            push_time(out, second_part(kind, at))
         }
     }
 }

@@ -1,5 +1,5 @@
 -- The units of a frequency, numbered over all whole numbers (RFC 5545, section 3.3.10, FREQ, INTERVAL and WKST).
-use Rattle.std.specs.Prelude.{◌≡◌, ◌↔◌, ℕ, ◌+◌, ℤ, pos, ◌+ℤ◌, ◌-ℤ◌, ◌*ℤ◌, ◌≤ℤ◌, ◌<ℤ◌}
+use Rattle.std.specs.Prelude.{◌≡◌, ◌↔◌, Bool, true, false, ℕ, ◌+◌, ℤ, pos, ◌+ℤ◌, ◌-ℤ◌, ◌*ℤ◌, ◌≤ℤ◌, ◌<ℤ◌}
 use Rattle.rr_model.specs.Whole.{floor_div, floor_mod}
 use Rattle.rr_model.specs.Calendar.{year_of, month_of, first_day_of_year, day_number}
 use Rattle.rr_model.specs.Calendar.Week.{week_index, fourth_day}
@@ -7,6 +7,13 @@ use Rattle.rr_model.specs.Moment.{day_part, moment_at}
 use Rattle.rr_model.specs.declared.kind.Kind.{Kind}
 use Rattle.rr_model.specs.declared.rule.Freq.{Freq}
 use Rattle.rr_model.specs.declared.rule.Freq.TheVariants.{Secondly, Minutely, Hourly, Daily, Weekly, Monthly, Yearly}
+
+-- the unit is a day or longer
+abbrev pub is_whole_days : Freq → Bool
+is_whole_days Secondly = false
+is_whole_days Minutely = false
+is_whole_days Hourly = false
+is_whole_days freq = true
 
 -- the number of a day's month
 abbrev pub month_number : ℤ → ℤ

@@ -1,5 +1,6 @@
 // Values of BYDAY, rising without repeats by place, then by weekday.
-ghost use Rattle.std.specs.Prelude.{◌≡◌, [], OnOk, OnErr};
+ghost use Rattle.std.specs.Prelude.{◌≡◌, [], length, IfOk, OnOk, OnErr};
+ghost use Rattle.rr_model.specs.Rule.Validity.{is_absent};
 
 use crate::lists::rising::put_rising;
 use crate::{DayItem, NoMemory};
@@ -25,7 +26,7 @@ impl Model for DayItems {
 }
 
 impl DayItems {
-    ghost use Rattle.rr_model.specs.Rising.{with_value, day_item_lt};
+    ghost use Rattle.rr_model.specs.Rising.{Rises, with_value, day_item_lt};
 
     /// The empty list; it takes no memory.
     pub fn new(alloc: Global) -> Self
@@ -46,8 +47,32 @@ impl DayItems {
 
     /// The values in order.
     pub fn as_slice(&self) -> &[DayItem]
-        ensures { result.now ≡ self.now }
+        ensures value { result.now ≡ self.now }
+        ensures rises { Rises day_item_lt result.now }
     {
         self.items.as_slice()
+    }
+
+    /// Whether there is no value.
+    pub fn is_empty(&self) -> bool
+        ensures { result ≡ is_absent self.now }
+    {
+        self.items.is_empty()
+    }
+
+    /// How many values there are.
+    pub fn len(&self) -> usize
+        ensures { result ≡ length self.now }
+    {
+        self.items.len()
+    }
+
+    /// The same values, in memory of their own.
+    pub fn copy(&self, alloc: Global) -> Result<Self, NoMemory>
+        ensures { IfOk result (λ made. made ≡ self.now) }
+    {
+        Ok(DayItems {
+            items: Vec::from_slice(alloc, self.items.as_slice())?,
+        })
     }
 }

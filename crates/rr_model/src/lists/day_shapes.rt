@@ -1,5 +1,6 @@
 // Occupied days with their seconds, in the order in which they were put.
-ghost use Rattle.std.specs.Prelude.{◌≡◌, [], ◌∷◌, ◌++◌, OnOk, OnErr};
+ghost use Rattle.std.specs.Prelude.{◌≡◌, [], ◌∷◌, ◌++◌, length, OnOk, OnErr};
+ghost use Rattle.rr_model.specs.Rule.Validity.{is_absent};
 
 use crate::{DayShape, NoMemory};
 use std::alloc::Global;
@@ -44,5 +45,19 @@ impl DayShapes {
         ensures { result.now ≡ self.now }
     {
         self.items.as_slice()
+    }
+
+    /// Whether there is no value.
+    pub fn is_empty(&self) -> bool
+        ensures { result ≡ is_absent self.now }
+    {
+        self.items.is_empty()
+    }
+
+    /// How many values there are.
+    pub fn len(&self) -> usize
+        ensures { result ≡ length self.now }
+    {
+        self.items.len()
     }
 }

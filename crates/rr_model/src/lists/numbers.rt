@@ -1,6 +1,7 @@
 // Numbers, rising without repeats.
-ghost use Rattle.std.specs.Prelude.{◌≡◌, [], OnOk, OnErr, int_lt};
-ghost use Rattle.rr_model.specs.Rising.{with_value};
+ghost use Rattle.std.specs.Prelude.{◌≡◌, [], length, IfOk, OnOk, OnErr, int_lt};
+ghost use Rattle.rr_model.specs.Rising.{Rises, with_value};
+ghost use Rattle.rr_model.specs.Rule.Validity.{is_absent};
 
 use crate::NoMemory;
 use crate::lists::rising::put_rising;
@@ -44,8 +45,32 @@ impl Numbers {
 
     /// The values in order.
     pub fn as_slice(&self) -> &[i16]
-        ensures { result.now ≡ self.now }
+        ensures value { result.now ≡ self.now }
+        ensures rises { Rises int_lt result.now }
     {
         self.items.as_slice()
+    }
+
+    /// Whether there is no value.
+    pub fn is_empty(&self) -> bool
+        ensures { result ≡ is_absent self.now }
+    {
+        self.items.is_empty()
+    }
+
+    /// How many values there are.
+    pub fn len(&self) -> usize
+        ensures { result ≡ length self.now }
+    {
+        self.items.len()
+    }
+
+    /// The same values, in memory of their own.
+    pub fn copy(&self, alloc: Global) -> Result<Self, NoMemory>
+        ensures { IfOk result (λ made. made ≡ self.now) }
+    {
+        Ok(Numbers {
+            items: Vec::from_slice(alloc, self.items.as_slice())?,
+        })
     }
 }

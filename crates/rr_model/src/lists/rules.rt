@@ -1,5 +1,6 @@
 // Rules, in the order in which they were put.
-ghost use Rattle.std.specs.Prelude.{◌≡◌, [], ◌∷◌, ◌++◌, OnOk, OnErr};
+ghost use Rattle.std.specs.Prelude.{◌≡◌, [], ◌∷◌, ◌++◌, length, IfOk, OnOk, OnErr};
+ghost use Rattle.rr_model.specs.Rule.Validity.{is_absent};
 
 use crate::{NoMemory, Rule};
 use std::alloc::Global;
@@ -44,5 +45,30 @@ impl Rules {
         ensures { result.now ≡ self.now }
     {
         self.items.as_slice()
+    }
+
+    /// Whether there is no value.
+    pub fn is_empty(&self) -> bool
+        ensures { result ≡ is_absent self.now }
+    {
+        self.items.is_empty()
+    }
+
+    /// How many values there are.
+    pub fn len(&self) -> usize
+        ensures { result ≡ length self.now }
+    {
+        self.items.len()
+    }
+
+    /// The same rules, in memory of their own.
+    pub fn copy(&self, alloc: Global) -> Result<Self, NoMemory>
+        ensures { IfOk result (λ made. made ≡ self.now) }
+    {
+        let mut made = Rules::new(alloc);
+        for rule in self.as_slice() {
+            made.put(rule.copy(alloc)?)?;
+        }
+        Ok(made)
     }
 }

@@ -1,5 +1,5 @@
-use Rattle.std.proofs.Common.{sym, ◌∙◌}
-use Rattle.rr_num.proofs.PartsLemmas.{parts_calendar, parts_weekdays, no_weekday, some_weekday}
+use Rattle.std.proofs.Common.{sym, ap, ◌∙◌}
+use Rattle.rr_num.proofs.PartsLemmas.{parts_calendar, parts_weekdays, one_or_seven}
 use Rattle.rr_num.proofs.cycle.parts_cycle.Goals as goal
 
 pub returns-then-asks_calendar-clause-value : goal.returns-then-asks_calendar-clause-value
@@ -7,8 +7,8 @@ returns-then-asks_calendar-clause-value c = sym (parts_calendar c.args.rule.now 
 
 pub returns-then-is_empty-clause-value : goal.returns-then-is_empty-clause-value
 returns-then-is_empty-clause-value c =
-    sym (parts_weekdays c.args.rule.now (sym c.asks_calendar.ensures ∙ c.if-asks_calendar.false) ∙ no_weekday c.args.rule.now.by_day c.as_slice.result.now c.as_slice.ensures (sym c.is_empty.ensures ∙ c.if-is_empty.true))
+    sym (parts_weekdays c.args.rule.now (sym c.asks_calendar.ensures ∙ c.if-asks_calendar.false) ∙ ap one_or_seven (sym c.is_empty.ensures ∙ c.if-is_empty.true))
 
 pub returns-else-is_empty-clause-value : goal.returns-else-is_empty-clause-value
 returns-else-is_empty-clause-value c =
-    sym (parts_weekdays c.args.rule.now (sym c.asks_calendar.ensures ∙ c.if-asks_calendar.false) ∙ some_weekday c.args.rule.now.by_day c.as_slice.result.now c.as_slice.ensures (sym c.is_empty.ensures ∙ c.if-is_empty.false))
+    sym (parts_weekdays c.args.rule.now (sym c.asks_calendar.ensures ∙ c.if-asks_calendar.false) ∙ ap one_or_seven (sym c.is_empty.ensures ∙ c.if-is_empty.false))
