@@ -1,17 +1,17 @@
 -- The calendar's day numbers, beside those of `jiff`.
 use Rattle.std.proofs.Common.{◌≡◌, ◌↔◌, ℕ, zero, suc, ◌+◌, ◌-◌, ◌%◌, ◌≤◌, cond, not, ◌==◌, ◌&&◌, ◌||◌, refl, sym, ap, ◌∙◌, arith, ℤ, pos, negsuc, neg_ℤ, ◌+ℤ◌, ◌-ℤ◌, ◌*ℤ◌, ◌≤ℤ◌, unsigned_abs}
 use Rattle.std.proofs.lemmas.Bool.Decides.{nat_tests}
-use Rattle.jiff_core.specs.Calendar.{IsYear, IsDate as IsJiffDate, is_leap_year, days_in_month, days_of_months as days_of_jiff_months, day_count, days_from_civil, weekday_number}
+use Rattle.jiff_core.specs.Calendar.{IsYear, IsDate as IsJiffDate, is_leap_year, days_in_month as days_in_jiff_month, days_of_months as days_of_jiff_months, day_count, days_from_civil, weekday_number}
 use Rattle.jiff_core.proofs.SignedLemmas.{signed_arith}
 use Rattle.jiff_core.proofs.CalendarLemmas.{days_from_civil-day_count, day_count-day_of_year}
 use Rattle.jiff_core.proofs.MarchLemmas.{day_count-early}
-use Rattle.jiff_core.specs.Date.{epoch_day}
+use Rattle.jiff_core.specs.Date.{epoch_day, ordinal}
 use Rattle.jiff_core.specs.declared.civil.date.Date.{Date as Plain}
 use Rattle.rr_model.specs.Whole.{floor_div, floor_mod, divides}
-use Rattle.rr_model.specs.Calendar.{is_leap, month_length, year_length, days_of_months, first_day_of_year, day_number, IsDate, IsDayWithin, weekday_of, kind_of_year}
+use Rattle.rr_model.specs.Calendar.{is_leap, days_in_month, days_in_year, days_of_months, first_day_of_year, day_number, IsDate, IsDayWithin, day_of_year, weekday_of, kind_of_year}
 use Rattle.rr_model.proofs.FloorLemmas.{floor_div-int, floor_mod-int}
-use Rattle.rr_model.proofs.CalendarLemmas.{first_day_of_year_bounds, IsInYear-day_number}
-use Rattle.rr_model.proofs.CycleLemmas.{IsDate-cycle, day_number-cycle, month_length-cycle}
+use Rattle.rr_model.proofs.CalendarLemmas.{first_day_of_year_bounds, IsInYear-day_number, days_into_year-day_number}
+use Rattle.rr_model.proofs.CycleLemmas.{IsDate-cycle, day_number-cycle, days_in_month-cycle, days_of_months-cycle}
 use Rattle.rr_model.proofs.WeekLemmas.{day_number-january_1}
 use Rattle.rr_model.proofs.CalendarLawProofs.{kind_of_year-cycle}
 use borrow.Author.Differences.{up, down}
@@ -34,16 +34,16 @@ is_leap-jiff : (y : ℤ) → is_leap y ≡ is_leap_year y
 is_leap-jiff (pos a) = leap_same a
 is_leap-jiff (negsuc a) = rw (divides_4 a, divides_100 a, divides_400 a) (leap_same (suc a))
 
-pub month_length-jiff : (y : ℤ) (m : ℕ) → month_length y m ≡ days_in_month y m
-month_length-jiff y m = rw (is_leap-jiff y)
+pub days_in_month-jiff : (y : ℤ) (m : ℕ) → days_in_month y m ≡ days_in_jiff_month y m
+days_in_month-jiff y m = rw (is_leap-jiff y)
 
-pub year_length-jiff : (y : ℤ) → year_length y ≡ cond (is_leap_year y) 366 365
-year_length-jiff y = rw (is_leap-jiff y) refl
+pub days_in_year-jiff : (y : ℤ) → days_in_year y ≡ cond (is_leap_year y) 366 365
+days_in_year-jiff y = rw (is_leap-jiff y) refl
 
 days_of_months-jiff : (y : ℤ) (n : ℕ) → days_of_months y n ≡ days_of_jiff_months y n
 unfolding days_of_months days_of_jiff_months
 days_of_months-jiff y zero = refl
-days_of_months-jiff y (suc n) = rw (days_of_months-jiff y n, month_length-jiff y (suc n))
+days_of_months-jiff y (suc n) = rw (days_of_months-jiff y n, days_in_month-jiff y (suc n))
 
 -- the first day of a year that `jiff` counts days to
 day_count-first : (y : ℤ) → neg_ℤ (pos 9999) ≤ℤ y → up (first_day_of_year y) + 4_371_953 ≡ down (first_day_of_year y) + day_count y 1 1
@@ -65,7 +65,7 @@ day_number-jiff y m k low h =
 module _ (d : Plain) (c : ℤ) where
   pub IsDate-moved : IsDate (d.year +ℤ (pos 400 *ℤ c)) d.month d.day
   IsDate-moved =
-      IsDate-cycle d.year c d.month d.day (d.month_in.0, d.month_in.1, d.day_in.0, omega (arith, month_length-jiff d.year d.month, d.day_in.1))
+      IsDate-cycle d.year c d.month d.day (d.month_in.0, d.month_in.1, d.day_in.0, omega (arith, days_in_month-jiff d.year d.month, d.day_in.1))
 
   pub day_number-moved : day_number (d.year +ℤ (pos 400 *ℤ c)) d.month d.day ≡ epoch_day d +ℤ (pos 146_097 *ℤ c)
   day_number-moved =
@@ -74,7 +74,7 @@ module _ (d : Plain) (c : ℤ) where
 -- a date and the date of the same name in the cycle that holds the year 0
 pub IsDate-inner : (y q r : ℤ) (m k : ℕ) → y ≡ r +ℤ (pos 400 *ℤ q) → IsYear r → IsJiffDate r (pos m) (pos k) ↔ IsDate y m k
 IsDate-inner y q r m k e year =
-    let length : month_length y m ≡ days_in_month r m = ap (λ z. month_length z m) e ∙ month_length-cycle r q m ∙ month_length-jiff r m in (
+    let length : days_in_month y m ≡ days_in_jiff_month r m = ap (λ z. days_in_month z m) e ∙ days_in_month-cycle r q m ∙ days_in_month-jiff r m in (
       λ h. (omega (arith, signed_arith, h.1.0), omega (arith, signed_arith, h.1.1), omega (arith, signed_arith, h.2.0), omega (arith, signed_arith, h.2.1, length)),
       λ v. (year, (omega (arith, signed_arith, v.0), omega (arith, signed_arith, v.1)), (omega (arith, signed_arith, v.2), omega (arith, signed_arith, v.3, length))),
     )
@@ -101,3 +101,10 @@ kind_of_year-jiff y q d e month day =
     sym (day_number-january_1 d.year) ∙ day_number-jiff d.year 1 1 (omega (arith, signed_arith, d.year_in)) (omega arith) ∙ rw (month, day) refl in
     let same : kind_of_year y ≡ kind_of_year d.year = ap kind_of_year e ∙ kind_of_year-cycle d.year q in
     same ∙ rw (first, weekday_of-jiff (epoch_day d), is_leap-jiff d.year) refl
+
+-- a date's number in its year is the one that `jiff` has for the date of the same month and day in another cycle
+pub day_of_year-jiff : (y q : ℤ) (m k : ℕ) (d : Plain) → y ≡ d.year +ℤ (pos 400 *ℤ q) → d.month ≡ m → d.day ≡ k → IsDate y m k → ordinal d ≡ day_of_year (day_number y m k)
+unfolding day_of_year
+day_of_year-jiff y q m k d year month day h =
+    let months = ap (λ z. days_of_months z (m - 1)) year ∙ days_of_months-cycle d.year q (m - 1) ∙ days_of_months-jiff d.year (m - 1) in
+    rw (month, day) (omega (arith, months, days_into_year-day_number y m k h, h.2))

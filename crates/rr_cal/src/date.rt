@@ -1,5 +1,6 @@
 // Dates and day numbers, by `jiff` inside one cycle of 400 years.
-ghost use Rattle.std.specs.Prelude.{◌≡◌, ◌↔◌, IsTrue};
+ghost use Rattle.std.specs.Prelude.{◌≡◌, ◌↔◌, IsTrue, pos, ◌+ℤ◌, ◌*ℤ◌};
+ghost use Rattle.std.specs.Int.{int_div_euclid};
 ghost use Rattle.rr_model.specs.Calendar.{day_number, IsDate, is_date, IsDayWithin, year_of, month_of, day_of_month};
 
 use jiff::civil;
@@ -52,9 +53,19 @@ pub(crate) fn day_of_near(date: Date) -> i64
     ensures { result ≡ day_number date.year date.month date.day }
 {
     let cycle = date.year.div_euclid(CYCLE_YEARS);
-    let year = date.year.rem_euclid(CYCLE_YEARS) as i16;
-    let inner = civil::date(year, date.month as i8, date.day as i8).to_plain();
+    let inner = in_first_cycle(date).to_plain();
     inner.to_unix_epoch_day() as i64 + CYCLE_DAYS * cycle
+}
+
+// The date of the same month and day in the cycle that begins with the year 0.
+pub(crate) fn in_first_cycle(date: Date) -> civil::Date
+    requires { IsDate date.year date.month date.day }
+    ensures year { date.year ≡ result.year +ℤ (pos 400 *ℤ int_div_euclid date.year (pos 400)) }
+    ensures month { result.month ≡ date.month }
+    ensures day { result.day ≡ date.day }
+{
+    let year = date.year.rem_euclid(CYCLE_YEARS) as i16;
+    civil::date(year, date.month as i8, date.day as i8)
 }
 
 // As `date_of`, somewhat farther.

@@ -2,11 +2,13 @@
 #![tactic(auto)]
 
 mod date;
+mod day;
 mod length;
 mod week;
 
 pub use date::{Date, date_of, day_of, valid};
-pub use length::{day_of_year, month_length, year_length};
+pub use day::Day;
+pub use length::{day_of_year, days_in_month, days_in_year};
 pub use week::{Week, week_index, week_of, weekday, year_kind};
 
 #[cfg(test)]

@@ -4,6 +4,7 @@ ghost use Rattle.rr_model.specs.Calendar.{days_into_year, IsDayWithin, kind_of_y
 ghost use Rattle.rr_model.specs.Calendar.Week.{fourth_day, last_week, week_index, week_number, week_year};
 
 use crate::date::{CYCLE_YEARS, Date, date_of_near, day_of_near};
+use crate::length::day_of_year;
 use jiff::civil;
 
 /// A week: the year that it belongs to, its number there, and the number of that year's last week.
@@ -74,13 +75,7 @@ fn number_of_week(fourth: i64) -> u8
     requires near { IsDayWithin 2000 fourth }
     ensures { result ≡ days_into_year fourth / 7 + 1 }
 {
-    let date = date_of_near(fourth);
-    let first = day_of_near(Date {
-        year: date.year,
-        month: 1,
-        day: 1,
-    });
-    (fourth.abs_diff(first) / 7 + 1) as u8
+    ((day_of_year(date_of_near(fourth)) - 1) / 7 + 1) as u8
 }
 
 /// The kind of a year, of which there are 14: the weekday of 1 January, plus 7 in a leap year. Any year.

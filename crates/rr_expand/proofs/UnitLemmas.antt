@@ -5,7 +5,7 @@ use Rattle.std.specs.Int.{int_div_euclid, int_rem_euclid}
 use Rattle.std.proofs.lemmas.Int.{ints}
 use Rattle.std.proofs.lemmas.Bool.{cases_lt}
 use Rattle.rr_model.specs.Whole.{floor_div, floor_mod}
-use Rattle.rr_model.specs.Calendar.{IsDayWithin, first_day_of_year, days_of_months, month_length, year_length}
+use Rattle.rr_model.specs.Calendar.{IsDayWithin, first_day_of_year, days_of_months, days_in_month, days_in_year}
 use Rattle.rr_model.specs.Calendar.Week.{fourth_day}
 use Rattle.rr_model.specs.Moment.Units.{first_day_of_month, unit_number, unit_start}
 use Rattle.rr_model.specs.declared.kind.Kind.TheVariants.{Days}
@@ -13,7 +13,7 @@ use Rattle.rr_model.specs.declared.rule.Freq.{Freq}
 use Rattle.rr_model.specs.declared.rule.Freq.TheVariants.{Secondly, Minutely, Hourly, Daily, Weekly, Monthly, Yearly}
 use Rattle.rr_model.proofs.WholeLemmas.{floor_only, floor_whole, floor_mod_below}
 use Rattle.rr_model.proofs.FloorLemmas.{floor_div-int}
-use Rattle.rr_model.proofs.CalendarLemmas.{first_day_of_year_bounds, first_day_of_year-next, days_of_months-next, days_of_months-all, days_of_months-zero, days_of_months_mono, month_length_bounds, year_length_bounds, day_number_is}
+use Rattle.rr_model.proofs.CalendarLemmas.{first_day_of_year_bounds, first_day_of_year-next, days_of_months-next, days_of_months-all, days_of_months-zero, days_of_months_mono, days_in_month_bounds, days_in_year_bounds, day_number_is}
 use Rattle.rr_model.proofs.StretchLemmas.{units_are_stretches}
 use Rattle.rr_expand.specs.Expansion.{is_of_days}
 
@@ -35,7 +35,7 @@ month_start n y p low e =
     rw (o.0, o.1) (omega (arith, ints, day_number_is y (p + 1) 1 (omega arith), ap (days_of_months y) back))
 
 -- a month ends when its days are over
-pub month_next : (n : ℤ) → first_day_of_month (n +ℤ pos 1) ≡ first_day_of_month n +ℤ pos (month_length (floor_div n 12) (floor_mod n 12 + 1))
+pub month_next : (n : ℤ) → first_day_of_month (n +ℤ pos 1) ≡ first_day_of_month n +ℤ pos (days_in_month (floor_div n 12) (floor_mod n 12 + 1))
 month_next n =
     let y = floor_div n 12 in
     let p = floor_mod n 12 in
@@ -94,7 +94,7 @@ unit_start_near Monthly w u coarse low few =
     let at = month_start u y p below whole in
     let near = year_start_near y (omega (arith, ints, whole, below, few.0), omega (arith, ints, whole, below, few.1)) in
     let days = days_of_months_mono y p 12 (omega (arith, below)) in
-    (omega (arith, ints, at, near.0), omega (arith, ints, at, near.1, days, days_of_months-all y, year_length_bounds y))
+    (omega (arith, ints, at, near.0), omega (arith, ints, at, near.1, days, days_of_months-all y, days_in_year_bounds y))
 unit_start_near Yearly w u coarse low few =
     let near = year_start_near u (omega (arith, ints, few.0), omega (arith, ints, few.1)) in
     (omega (arith, ints, near.0), omega (arith, ints, near.1))
@@ -108,8 +108,8 @@ unit_length Minutely w u coarse = absurd (cc)
 unit_length Hourly w u coarse = absurd (cc)
 unit_length Daily w u coarse = (1, omega arith, refl)
 unit_length Weekly w u coarse = (7, omega arith, week_next u w)
-unit_length Monthly w u coarse = (month_length (floor_div u 12) (floor_mod u 12 + 1), omega (arith, (month_length_bounds (floor_div u 12) (floor_mod u 12 + 1)).1), month_next u)
-unit_length Yearly w u coarse = (year_length u, omega (arith, (year_length_bounds u).1), first_day_of_year-next u)
+unit_length Monthly w u coarse = (days_in_month (floor_div u 12) (floor_mod u 12 + 1), omega (arith, (days_in_month_bounds (floor_div u 12) (floor_mod u 12 + 1)).1), month_next u)
+unit_length Yearly w u coarse = (days_in_year u, omega (arith, (days_in_year_bounds u).1), first_day_of_year-next u)
 
 -- a unit that holds a day of the calls begins and ends within the calls' days
 pub unit_near : (freq : Freq) (w : ℕ) (d : ℤ) → is_of_days freq ≡ true → IsDayWithin 0 d → IsDayWithin 1000 (unit_start freq w Days (unit_number freq w Days d)) × IsDayWithin 1000 (unit_start freq w Days (unit_number freq w Days d +ℤ pos 1))

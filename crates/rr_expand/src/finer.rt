@@ -9,7 +9,8 @@ ghost use Rattle.rr_expand.specs.Expansion.{IsCandidateSecond, IsFittingSecond, 
 use crate::finer_units::{first_fit, first_unit, push_unit, unit_of, units_of_day};
 use crate::time_parts::allowed;
 use rr_model::{NoMemory, Rule};
-use rr_setpos::{Day, date_parts_hold, time_of, wants_minute, wants_second};
+use rr_cal::Day;
+use rr_setpos::{date_parts_hold, time_of, wants_minute, wants_second};
 use rr_times::TimeSet;
 use std::alloc::{AllocError, Global};
 

@@ -8,7 +8,8 @@ ghost use Rattle.rr_expand.specs.Expansion.{IsAllowedDay, IsCandidateDay, is_of_
 
 use crate::units::{day_count, first_day, fits};
 use rr_model::{Dates, NoMemory, Rule};
-use rr_setpos::{Day, date_parts_hold};
+use rr_cal::Day;
+use rr_setpos::date_parts_hold;
 use std::alloc::Global;
 
 /// The days of a unit of a rule, DAILY or coarser, at which its date parts hold, filled from the start's day, and the

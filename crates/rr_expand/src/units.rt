@@ -7,9 +7,10 @@ ghost use Rattle.rr_model.specs.Whole.{divides, floor_mod};
 ghost use Rattle.rr_model.specs.declared.kind.Kind.TheVariants.{Days};
 ghost use Rattle.rr_expand.specs.Expansion.{is_of_days};
 
-use rr_cal::{Date, day_of, month_length, week_index, year_length};
+use rr_cal::{Date, day_of, days_in_month, week_index, days_in_year};
 use rr_model::{Freq, Rule};
-use rr_setpos::{Day, is_congruent, month_number};
+use rr_cal::Day;
+use rr_setpos::{is_congruent, month_number};
 
 // Whether the unit is a whole number of intervals from the start's.
 pub(crate) fn fits(rule: &Rule, start: &Day, unit: i64) -> bool
@@ -90,8 +91,8 @@ pub(crate) fn day_count(freq: Freq, unit: i64) -> u16
 {
     match freq {
         Freq::Weekly => 7,
-        Freq::Monthly => u16::from(month_length(unit.div_euclid(12), month_of_year(unit))),
-        Freq::Yearly => year_length(unit),
+        Freq::Monthly => u16::from(days_in_month(unit.div_euclid(12), month_of_year(unit))),
+        Freq::Yearly => days_in_year(unit),
         _ => 1,
     }
 }

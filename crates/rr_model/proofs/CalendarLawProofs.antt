@@ -7,7 +7,7 @@ use Rattle.rr_model.specs.Calendar.Week.{week_index, fourth_day, week_year, week
 use Rattle.rr_model.specs.Calendar.Laws.{DatesAndDaysAreInverse, later_day, later_year, later_week, CalendarRepeats}
 use Rattle.rr_model.proofs.FloorLemmas.{floor_div-add}
 use Rattle.rr_model.proofs.CalendarLemmas.{IsDate-year_of, day_number-year_of, year_of-day_number, month_of-day_number, day_of_month-day_number}
-use Rattle.rr_model.proofs.CycleLemmas.{is_leap-cycle, month_length-cycle, first_day_of_year-cycle, day_number-cycle, year_of-cycle, days_into_year-cycle, month_of-cycle, day_of_month-cycle, day_of_year-cycle, weekday_of-cycle}
+use Rattle.rr_model.proofs.CycleLemmas.{is_leap-cycle, days_in_month-cycle, first_day_of_year-cycle, day_number-cycle, year_of-cycle, days_into_year-cycle, month_of-cycle, day_of_month-cycle, day_of_year-cycle, weekday_of-cycle}
 
 pub dates_and_days_are_inverse : DatesAndDaysAreInverse
 dates_and_days_are_inverse = record {
@@ -62,7 +62,7 @@ calendar_repeats = record {
     first_day = first_day_of_year-cycle y c;
     leap = is_leap-cycle y c;
     length = ap (λ b. cond b 366 365) (is_leap-cycle y c);
-    month_lengths = month_length-cycle y c;
+    days_in_months = days_in_month-cycle y c;
     day_numbers = day_number-cycle y c;
     kind = kind_of_year-cycle y c;
     last_weeks = last_week-cycle y c;

@@ -5,7 +5,7 @@ use Rattle.std.proofs.lemmas.Int.{ints, by_lt_z}
 use Rattle.std.proofs.lemmas.Bool.{cases_lt, cases_order}
 use Rattle.std.proofs.lemmas.Bool.Decides.{nat_tests}
 use Rattle.rr_model.specs.Whole.{floor_div, floor_mod}
-use Rattle.rr_model.specs.Calendar.{year_length, month_length, days_of_months, first_day_of_year, day_number, IsDate, is_date, IsInYear, year_near, year_of, days_into_year, months_over, month_of, day_of_month, weekday_of, kind_of_year}
+use Rattle.rr_model.specs.Calendar.{days_in_year, days_in_month, days_of_months, first_day_of_year, day_number, IsDate, is_date, IsInYear, year_near, year_of, days_into_year, months_over, month_of, day_of_month, weekday_of, kind_of_year}
 use Rattle.rr_model.proofs.WholeLemmas.{floor_only, floor_whole, floor_mod_below}
 use Rattle.rr_model.proofs.FloorLemmas.{floor_step}
 
@@ -25,25 +25,25 @@ length_by : (y a b c a' b' c' : ℤ) → (floor_mod y 100 ≡ 0 → floor_mod y 
     → ((floor_mod y 4 ≡ 0) × (a' ≡ a +ℤ pos 1)) ⊎ ((floor_mod y 4 ≡ 0 → ⊥) × (a' ≡ a))
     → ((floor_mod y 100 ≡ 0) × (b' ≡ b +ℤ pos 1)) ⊎ ((floor_mod y 100 ≡ 0 → ⊥) × (b' ≡ b))
     → ((floor_mod y 400 ≡ 0) × (c' ≡ c +ℤ pos 1)) ⊎ ((floor_mod y 400 ≡ 0 → ⊥) × (c' ≡ c))
-    → ((a' -ℤ b') +ℤ c') +ℤ pos 365 ≡ ((a -ℤ b) +ℤ c) +ℤ pos (year_length y)
-length_by y a b c a' b' c' four hundred (inl f) (inl g) (inl h) = let l : year_length y ≡ 366 = grind (arith, nat_tests) in omega (arith, ints, f.1, g.1, h.1, l)
-length_by y a b c a' b' c' four hundred (inl f) (inl g) (inr h) = let l : year_length y ≡ 365 = grind (arith, nat_tests) in omega (arith, ints, f.1, g.1, h.1, l)
+    → ((a' -ℤ b') +ℤ c') +ℤ pos 365 ≡ ((a -ℤ b) +ℤ c) +ℤ pos (days_in_year y)
+length_by y a b c a' b' c' four hundred (inl f) (inl g) (inl h) = let l : days_in_year y ≡ 366 = grind (arith, nat_tests) in omega (arith, ints, f.1, g.1, h.1, l)
+length_by y a b c a' b' c' four hundred (inl f) (inl g) (inr h) = let l : days_in_year y ≡ 365 = grind (arith, nat_tests) in omega (arith, ints, f.1, g.1, h.1, l)
 length_by y a b c a' b' c' four hundred (inl f) (inr g) (inl h) = absurd (g.0 (hundred h.0))
-length_by y a b c a' b' c' four hundred (inl f) (inr g) (inr h) = let l : year_length y ≡ 366 = grind (arith, nat_tests) in omega (arith, ints, f.1, g.1, h.1, l)
+length_by y a b c a' b' c' four hundred (inl f) (inr g) (inr h) = let l : days_in_year y ≡ 366 = grind (arith, nat_tests) in omega (arith, ints, f.1, g.1, h.1, l)
 length_by y a b c a' b' c' four hundred (inr f) (inl g) h = absurd (f.0 (four g.0))
 length_by y a b c a' b' c' four hundred (inr f) (inr g) (inl h) = absurd (g.0 (hundred h.0))
-length_by y a b c a' b' c' four hundred (inr f) (inr g) (inr h) = let l : year_length y ≡ 365 = grind (arith, nat_tests) in omega (arith, ints, f.1, g.1, h.1, l)
+length_by y a b c a' b' c' four hundred (inr f) (inr g) (inr h) = let l : days_in_year y ≡ 365 = grind (arith, nat_tests) in omega (arith, ints, f.1, g.1, h.1, l)
 
 -- a year begins where the year before it ends
-pub first_day_of_year-next : (y : ℤ) → first_day_of_year (y +ℤ pos 1) ≡ first_day_of_year y +ℤ pos (year_length y)
+pub first_day_of_year-next : (y : ℤ) → first_day_of_year (y +ℤ pos 1) ≡ first_day_of_year y +ℤ pos (days_in_year y)
 unfolding first_day_of_year
 first_day_of_year-next y =
     let e : (y +ℤ pos 1) -ℤ pos 1 ≡ y = omega (arith, ints) in
     let l = length_by y _ _ _ _ _ _ (four_from y) (hundred_from y) (floor_step y 4 (omega arith)) (floor_step y 100 (omega arith)) (floor_step y 400 (omega arith)) in
     rw e (omega (arith, ints, l))
 
-pub year_length_bounds : (y : ℤ) → (365 ≤ year_length y) × (year_length y ≤ 366)
-year_length_bounds y = grind arith
+pub days_in_year_bounds : (y : ℤ) → (365 ≤ days_in_year y) × (days_in_year y ≤ 366)
+days_in_year_bounds y = grind arith
 
 -- 400 years are 146,097 days, but for the leap days that are still to come or have come early
 pub first_day_of_year_bounds : (y : ℤ) → ((pos 146_097 *ℤ (y -ℤ pos 1)) ≤ℤ (((first_day_of_year y +ℤ pos 719_162) *ℤ pos 400) +ℤ pos 699)) × (((first_day_of_year y +ℤ pos 719_162) *ℤ pos 400) ≤ℤ ((pos 146_097 *ℤ (y -ℤ pos 1)) +ℤ pos 396))
@@ -114,25 +114,25 @@ pub days_into_year_is : (d : ℤ) → d ≡ first_day_of_year (year_of d) +ℤ p
 unfolding days_into_year
 days_into_year_is d = let i = IsInYear-year_of d in omega (arith, ints, i.begun)
 
-pub days_into_year_below : (d : ℤ) → days_into_year d < year_length (year_of d)
+pub days_into_year_below : (d : ℤ) → days_into_year d < days_in_year (year_of d)
 days_into_year_below d =
     let i = IsInYear-year_of d in
     omega (arith, ints, i.not_over, days_into_year_is d, first_day_of_year-next (year_of d))
 
 -- ---- months
 
-pub month_length_bounds : (y : ℤ) (m : ℕ) → (28 ≤ month_length y m) × (month_length y m ≤ 31)
-month_length_bounds y m = grind arith
+pub days_in_month_bounds : (y : ℤ) (m : ℕ) → (28 ≤ days_in_month y m) × (days_in_month y m ≤ 31)
+days_in_month_bounds y m = grind arith
 
 pub days_of_months-zero : (y : ℤ) → days_of_months y 0 ≡ 0
 unfolding days_of_months
 days_of_months-zero y = refl
 
-pub days_of_months-next : (y : ℤ) (n : ℕ) → days_of_months y (n + 1) ≡ days_of_months y n + month_length y (n + 1)
+pub days_of_months-next : (y : ℤ) (n : ℕ) → days_of_months y (n + 1) ≡ days_of_months y n + days_in_month y (n + 1)
 unfolding days_of_months
 days_of_months-next y n = let e : n + 1 ≡ suc n = omega arith in rw e refl
 
-pub days_of_months-all : (y : ℤ) → days_of_months y 12 ≡ year_length y
+pub days_of_months-all : (y : ℤ) → days_of_months y 12 ≡ days_in_year y
 unfolding days_of_months
 days_of_months-all y = grind arith
 
@@ -199,7 +199,7 @@ unfolding day_number
 day_number_is y m k h = omega (arith, ints)
 
 -- a date's place in its year lies in its month
-place_within : (y : ℤ) (m k : ℕ) → IsDate y m k → (days_of_months y (m - 1) + k ≤ days_of_months y (m - 1 + 1)) × (days_of_months y (m - 1 + 1) ≤ year_length y)
+place_within : (y : ℤ) (m k : ℕ) → IsDate y m k → (days_of_months y (m - 1) + k ≤ days_of_months y (m - 1 + 1)) × (days_of_months y (m - 1 + 1) ≤ days_in_year y)
 place_within y m k h =
     let e : m - 1 + 1 ≡ m = omega (arith, h.0) in
     let next = rw e at (days_of_months-next y (m - 1)) in
@@ -247,7 +247,7 @@ day_number_injective y z m k n j h i e = (
 )
 
 -- what is left of the days into the year once the months over are taken
-month_place : (d : ℤ) → (month_of d - 1 < 12) × (days_of_months (year_of d) (month_of d - 1) ≤ days_into_year d) × (days_into_year d < days_of_months (year_of d) (month_of d - 1) + month_length (year_of d) (month_of d))
+month_place : (d : ℤ) → (month_of d - 1 < 12) × (days_of_months (year_of d) (month_of d - 1) ≤ days_into_year d) × (days_into_year d < days_of_months (year_of d) (month_of d - 1) + days_in_month (year_of d) (month_of d))
 unfolding month_of
 month_place d =
     let y = year_of d in

@@ -2,7 +2,7 @@
 use Rattle.std.proofs.Common.{◌≡◌, ℕ, zero, suc, ◌-◌, ℤ, pos, ◌+ℤ◌, ◌-ℤ◌, ◌*ℤ◌, refl, ap, ◌∙◌, arith}
 use Rattle.std.proofs.lemmas.Int.{ints}
 use Rattle.rr_model.specs.Whole.{floor_div, floor_mod}
-use Rattle.rr_model.specs.Calendar.{is_leap, month_length, days_of_months, first_day_of_year, day_number, IsDate, year_of, days_into_year, months_over, month_of, day_of_month, day_of_year, weekday_of}
+use Rattle.rr_model.specs.Calendar.{is_leap, days_in_month, days_of_months, first_day_of_year, day_number, IsDate, year_of, days_into_year, months_over, month_of, day_of_month, day_of_year, weekday_of}
 use Rattle.rr_model.proofs.FloorLemmas.{floor_div-add, floor_mod-add}
 use Rattle.rr_model.proofs.CalendarLemmas.{IsInYear-year_of, year_of_is, days_into_year_is}
 
@@ -39,13 +39,13 @@ module _ (y c : ℤ) where
   pub is_leap-cycle : is_leap (y +ℤ (pos 400 *ℤ c)) ≡ is_leap y
   is_leap-cycle = rw (mod_4, mod_100, mod_400) refl
 
-  pub month_length-cycle : (m : ℕ) → month_length (y +ℤ (pos 400 *ℤ c)) m ≡ month_length y m
-  month_length-cycle m = rw is_leap-cycle refl
+  pub days_in_month-cycle : (m : ℕ) → days_in_month (y +ℤ (pos 400 *ℤ c)) m ≡ days_in_month y m
+  days_in_month-cycle m = rw is_leap-cycle refl
 
   pub days_of_months-cycle : (n : ℕ) → days_of_months (y +ℤ (pos 400 *ℤ c)) n ≡ days_of_months y n
   unfolding days_of_months
   days_of_months-cycle zero = refl
-  days_of_months-cycle (suc n) = rw (days_of_months-cycle n, month_length-cycle (suc n)) refl
+  days_of_months-cycle (suc n) = rw (days_of_months-cycle n, days_in_month-cycle (suc n)) refl
 
 pub first_day_of_year-cycle : (y c : ℤ) → first_day_of_year (y +ℤ (pos 400 *ℤ c)) ≡ first_day_of_year y +ℤ (pos 146_097 *ℤ c)
 unfolding first_day_of_year
@@ -56,7 +56,7 @@ first_day_of_year-cycle y c =
 -- ---- dates
 
 pub IsDate-cycle : (y c : ℤ) (m k : ℕ) → IsDate y m k → IsDate (y +ℤ (pos 400 *ℤ c)) m k
-IsDate-cycle y c m k h = (h.0, h.1, h.2, rw (month_length-cycle y c m) h.3)
+IsDate-cycle y c m k h = (h.0, h.1, h.2, rw (days_in_month-cycle y c m) h.3)
 
 pub day_number-cycle : (y c : ℤ) (m k : ℕ) → day_number (y +ℤ (pos 400 *ℤ c)) m k ≡ day_number y m k +ℤ (pos 146_097 *ℤ c)
 unfolding day_number

@@ -3,7 +3,7 @@ use Rattle.std.proofs.Common.{ℕ, ◌+◌, ◌≤◌, ℤ, pos, ◌+ℤ◌, ◌
 use Rattle.std.proofs.lemmas.Int.{ints}
 use Rattle.rr_model.specs.Calendar.{day_number, IsDate, IsDayWithin, year_of}
 use Rattle.rr_model.specs.Calendar.Week.{week_index, fourth_day}
-use Rattle.rr_model.proofs.CalendarLemmas.{IsInYear-year_of, IsInYear-day_number, first_day_of_year-next, year_length_bounds}
+use Rattle.rr_model.proofs.CalendarLemmas.{IsInYear-year_of, IsInYear-day_number, first_day_of_year-next, days_in_year_bounds}
 use Rattle.rr_model.proofs.WeekLemmas.{fourth_day_near}
 
 pub IsDayWithin-wider : (m n : ℕ) (d : ℤ) → m ≤ n → IsDayWithin m d → IsDayWithin n d
@@ -23,7 +23,7 @@ same_year_near d m k h =
     let i = IsInYear-year_of d in
     let j = IsInYear-day_number (year_of d) m k h in
     let next = first_day_of_year-next (year_of d) in
-    let long = year_length_bounds (year_of d) in
+    let long = days_in_year_bounds (year_of d) in
     (omega (arith, ints, i.not_over, j.begun, next, long.1), omega (arith, ints, i.begun, j.not_over, next, long.1))
 
 pub IsDayWithin-same_year : (n : ℕ) (d : ℤ) (m k : ℕ) → IsDate (year_of d) m k → IsDayWithin n d → IsDayWithin (n + 365) (day_number (year_of d) m k)

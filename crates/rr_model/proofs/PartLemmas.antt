@@ -4,7 +4,7 @@ use Rattle.std.specs.List.{list_any}
 use Rattle.std.specs.Ordering.{int_eq}
 use Rattle.std.proofs.lemmas.Bool.{or_parts, not-false}
 use Rattle.std.proofs.lemmas.Int.{ints}
-use Rattle.rr_model.specs.Calendar.{year_of, month_of, day_of_month, day_of_year, month_length, year_length}
+use Rattle.rr_model.specs.Calendar.{year_of, month_of, day_of_month, day_of_year, days_in_month, days_in_year}
 use Rattle.rr_model.specs.Calendar.Laws.{later_day, CalendarRepeats}
 use Rattle.rr_model.specs.Calendar.Week.{week_index, week_year}
 use Rattle.rr_model.specs.Rule.Validity.{is_absent, has_place}
@@ -34,18 +34,18 @@ module _ (repeats : CalendarRepeats) (c d : ℤ) where
   back-cycle k many =
       count_from-shift (has_weekday_of d) (has_weekday_of (later_day c d)) (pos 146_097 *ℤ c) same_weekday d ((many + 1) - k)
 
-  year_length-cycle : year_length (year_of (later_day c d)) ≡ year_length (year_of d)
-  year_length-cycle = ap year_length (repeats.days c d).year ∙ (repeats.years c (year_of d)).length
+  days_in_year-cycle : days_in_year (year_of (later_day c d)) ≡ days_in_year (year_of d)
+  days_in_year-cycle = ap days_in_year (repeats.days c d).year ∙ (repeats.years c (year_of d)).length
 
-  month_length-cycle : month_length (year_of (later_day c d)) (month_of (later_day c d)) ≡ month_length (year_of d) (month_of d)
-  month_length-cycle =
-      rw ((repeats.days c d).year, (repeats.days c d).month) ((repeats.years c (year_of d)).month_lengths (month_of d))
+  days_in_month-cycle : days_in_month (year_of (later_day c d)) (month_of (later_day c d)) ≡ days_in_month (year_of d) (month_of d)
+  days_in_month-cycle =
+      rw ((repeats.days c d).year, (repeats.days c d).month) ((repeats.years c (year_of d)).days_in_months (month_of d))
 
   in_place-cycle : (n : ℤ) (in_year : Bool) → is_in_place n in_year (later_day c d) ≡ is_in_place n in_year d
   in_place-cycle n true =
-      rw ((repeats.days c d).day_of_year, year_length-cycle, front-cycle (day_of_year d), back-cycle (day_of_year d) (year_length (year_of d))) refl
+      rw ((repeats.days c d).day_of_year, days_in_year-cycle, front-cycle (day_of_year d), back-cycle (day_of_year d) (days_in_year (year_of d))) refl
   in_place-cycle n false =
-      rw ((repeats.days c d).day_of_month, month_length-cycle, front-cycle (day_of_month d), back-cycle (day_of_month d) (month_length (year_of d) (month_of d))) refl
+      rw ((repeats.days c d).day_of_month, days_in_month-cycle, front-cycle (day_of_month d), back-cycle (day_of_month d) (days_in_month (year_of d) (month_of d))) refl
 
   day_item-cycle : (in_year : Bool) (item : DayItem) → day_item_holds in_year (later_day c d) item ≡ day_item_holds in_year d item
   day_item-cycle in_year item = rw ((repeats.days c d).weekday, in_place-cycle item.place in_year) refl
@@ -62,10 +62,10 @@ module _ (repeats : CalendarRepeats) (c d : ℤ) where
         ap (is_week_listed rule.by_week_no w) ((repeats.days c d).week w) ∙ rw (same.number, same.year, (repeats.years c (week_year i w)).last_weeks w) refl
 
     by_year_day-cycle : by_year_day_holds rule (later_day c d) ≡ by_year_day_holds rule d
-    by_year_day-cycle = rw ((repeats.days c d).day_of_year, year_length-cycle) refl
+    by_year_day-cycle = rw ((repeats.days c d).day_of_year, days_in_year-cycle) refl
 
     by_month_day-cycle : by_month_day_holds rule (later_day c d) ≡ by_month_day_holds rule d
-    by_month_day-cycle = rw ((repeats.days c d).day_of_month, month_length-cycle) refl
+    by_month_day-cycle = rw ((repeats.days c d).day_of_month, days_in_month-cycle) refl
 
     by_day-cycle : by_day_holds rule (later_day c d) ≡ by_day_holds rule d
     by_day-cycle =

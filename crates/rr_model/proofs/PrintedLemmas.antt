@@ -12,7 +12,7 @@ use Rattle.rr_model.specs.Moment.Years.{IsFromYearOne}
 use Rattle.rr_model.specs.Text.Moments.{padded, extended_date_text, extended_time_text, extended_text}
 use Rattle.rr_model.specs.declared.kind.Kind.{Kind}
 use Rattle.rr_model.specs.declared.kind.Kind.TheVariants.{Days, Moments}
-use Rattle.rr_model.proofs.CalendarLemmas.{first_day_of_year_bounds, month_length_bounds, IsInYear-year_of, IsDate-year_of, day_number-year_of}
+use Rattle.rr_model.proofs.CalendarLemmas.{first_day_of_year_bounds, days_in_month_bounds, IsInYear-year_of, IsDate-year_of, day_number-year_of}
 use Rattle.rr_model.proofs.MomentTextLemmas.{year_of-low}
 use Rattle.rr_model.proofs.WholeLemmas.{floor_whole, floor_mod_below}
 
@@ -75,7 +75,7 @@ small_year d from near =
 small_month : (d : ℤ) → (month_of d < 100) × (day_of_month d < 100)
 small_month d =
     let date = IsDate-year_of d in
-    let bounds = month_length_bounds (year_of d) (month_of d) in
+    let bounds = days_in_month_bounds (year_of d) (month_of d) in
     (omega (arith, date.1), omega (arith, date.3, bounds.1))
 
 date_text_injective : (d e : ℤ) → IsFromYearOne d → IsDayWithin 0 d → IsFromYearOne e → IsDayWithin 0 e → extended_date_text d ≡ extended_date_text e → d ≡ e

@@ -5,7 +5,7 @@ use Rattle.rr_model.specs.Calendar.{first_day_of_year, day_number, days_into_yea
 use Rattle.rr_model.specs.Calendar.Week.{week_index, fourth_day, week_year, week_number, last_week}
 use Rattle.rr_model.specs.Calendar.Laws.{IsLastWeek}
 use Rattle.rr_model.proofs.WholeLemmas.{floor_only, floor_whole, floor_mod_below}
-use Rattle.rr_model.proofs.CalendarLemmas.{IsInYear-year_of, year_of_is, days_into_year_is, first_day_of_year-next, year_length_bounds, days_of_months-all, days_of_months-next, days_of_months-zero}
+use Rattle.rr_model.proofs.CalendarLemmas.{IsInYear-year_of, year_of_is, days_into_year_is, first_day_of_year-next, days_in_year_bounds, days_of_months-all, days_of_months-next, days_of_months-zero}
 
 -- ---- the fourth day of a week
 
@@ -40,7 +40,7 @@ day_number-january_1 y = omega (arith, ints, days_of_months-zero y)
 pub day_number-december_28 : (y : ℤ) → day_number y 12 28 ≡ first_day_of_year (y +ℤ pos 1) -ℤ pos 4
 unfolding day_number
 day_number-december_28 y =
-    omega (arith, ints, first_day_of_year-next y, days_of_months-all y, days_of_months-next y 11, year_length_bounds y)
+    omega (arith, ints, first_day_of_year-next y, days_of_months-all y, days_of_months-next y 11, days_in_year_bounds y)
 
 -- 28 December's week has its fourth day in the last seven days of the year
 december_28 : (y : ℤ) (w : ℕ) → ((first_day_of_year (y +ℤ pos 1) -ℤ pos 7) ≤ℤ fourth_day (week_index (day_number y 12 28) w) w) × (fourth_day (week_index (day_number y 12 28) w) w <ℤ first_day_of_year (y +ℤ pos 1))
@@ -54,7 +54,7 @@ unfolding week_year
 week_year-december_28 y w =
     let at = december_28 y w in
     year_of_is _ y (record {
-      begun = omega (arith, ints, at.0, first_day_of_year-next y, year_length_bounds y);
+      begun = omega (arith, ints, at.0, first_day_of_year-next y, days_in_year_bounds y);
       not_over = at.1;
     })
 
@@ -101,8 +101,8 @@ last_week_bounds y w =
     let l = week_index (day_number y 12 28) w in
     let place = fourth_day_place y l w (week_year-december_28 y w) in
     let at = december_28 y w in (
-      omega (arith, ints, place, at.0, first_day_of_year-next y, year_length_bounds y),
-      omega (arith, ints, place, at.1, first_day_of_year-next y, year_length_bounds y),
+      omega (arith, ints, place, at.0, first_day_of_year-next y, days_in_year_bounds y),
+      omega (arith, ints, place, at.1, first_day_of_year-next y, days_in_year_bounds y),
     )
 
 -- a week's number is at least 1, and at most that of the year's last week

@@ -8,19 +8,19 @@ use Rattle.rr_model.specs.Whole.{floor_div, floor_mod, divides}
 abbrev pub is_leap : ℤ → Bool
 is_leap y = (divides 4 y && not (divides 100 y)) || divides 400 y
 
-abbrev pub year_length : ℤ → ℕ
-year_length y = if is_leap y then 366 else 365
+abbrev pub days_in_year : ℤ → ℕ
+days_in_year y = if is_leap y then 366 else 365
 
 -- the length of the month m
-abbrev pub month_length : ℤ → ℕ → ℕ
-month_length y m =
+abbrev pub days_in_month : ℤ → ℕ → ℕ
+days_in_month y m =
     if m == 2 then (if is_leap y then 29 else 28)
     else (if (m == 4) || (m == 6) || (m == 9) || (m == 11) then 30 else 31)
 
 -- the days of the first n months of the year
 unfoldable pub days_of_months : ℤ → ℕ → ℕ
 days_of_months y zero = 0
-days_of_months y (suc n) = days_of_months y n + month_length y (suc n)
+days_of_months y (suc n) = days_of_months y n + days_in_month y (suc n)
 
 -- the day number of 1 January
 unfoldable pub first_day_of_year : ℤ → ℤ
@@ -33,11 +33,11 @@ day_number y m k = (first_day_of_year y +ℤ pos (days_of_months y (m - 1))) +�
 
 -- the year has this month, and the month this day
 abbrev pub IsDate : ℤ → ℕ → ℕ → Type 0
-IsDate y m k = (1 ≤ m) × (m ≤ 12) × (1 ≤ k) × (k ≤ month_length y m)
+IsDate y m k = (1 ≤ m) × (m ≤ 12) × (1 ≤ k) × (k ≤ days_in_month y m)
 
 -- the same as a test
 abbrev pub is_date : ℤ → ℕ → ℕ → Bool
-is_date y m k = nat_le 1 m && nat_le m 12 && nat_le 1 k && nat_le k (month_length y m)
+is_date y m k = nat_le 1 m && nat_le m 12 && nat_le 1 k && nat_le k (days_in_month y m)
 
 -- ---- the date of a day
 

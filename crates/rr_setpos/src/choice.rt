@@ -9,7 +9,7 @@ ghost use Rattle.rr_model.specs.Moment.Years.{IsInYears};
 ghost use Rattle.rr_model.specs.Rule.Validity.{IsValidRule};
 
 use crate::dates::date_parts_hold;
-use crate::day::Day;
+use rr_cal::Day;
 use crate::moment::Moment;
 use crate::times::time_parts_hold;
 use crate::units::interval_holds;

@@ -5,7 +5,7 @@ ghost use Rattle.rr_model.specs.Rule.Filled.{filled};
 ghost use Rattle.rr_model.specs.declared.kind.Kind.TheVariants.{Days};
 ghost use Rattle.rr_model.specs.Rule.Validity.{is_absent};
 
-use crate::day::Day;
+use rr_cal::Day;
 use crate::filled::{wants_day, wants_month, wants_month_day};
 use crate::numbers::{allows_filled, allows_place, allows_place_filled, is_absent};
 use crate::places::lists_day;
@@ -49,7 +49,7 @@ fn by_week_no_holds(rule: &Rule, day: &Day) -> bool
 fn by_year_day_holds(rule: &Rule, day: &Day) -> bool
     ensures { result ≡ by_year_day_holds rule.now day.now.number }
 {
-    allows_place(&rule.by_year_day, day.year_day, day.days_in_year)
+    allows_place(&rule.by_year_day, day.day_of_year, day.days_in_year)
 }
 
 // Whether BYMONTHDAY lists the day's number in its month.
@@ -59,8 +59,8 @@ fn by_month_day_holds(rule: &Rule, start: &Day, day: &Day) -> bool
     allows_place_filled(
         &rule.by_month_day,
         wants_month_day(rule),
-        start.month_day,
-        day.month_day,
+        start.day_of_month,
+        day.day_of_month,
         day.days_in_month,
     )
 }

@@ -4,7 +4,6 @@
 
 mod choice;
 mod dates;
-mod day;
 mod filled;
 mod moment;
 mod numbers;
@@ -16,7 +15,6 @@ mod units;
 
 pub use choice::chosen;
 pub use dates::date_parts_hold;
-pub use day::Day;
 pub use filled::{wants_minute, wants_second};
 pub use numbers::{allows, allows_filled};
 pub use times::{Time, time_of};

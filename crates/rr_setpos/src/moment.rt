@@ -4,7 +4,7 @@ ghost use Rattle.rr_model.specs.Calendar.{IsDayWithin};
 ghost use Rattle.rr_model.specs.Moment.{day_part};
 ghost use Rattle.rr_model.specs.declared.kind.Kind.{Kind};
 
-use crate::day::Day;
+use rr_cal::Day;
 use rr_model::Kind;
 
 const SECONDS_OF_DAY: i64 = 86_400;

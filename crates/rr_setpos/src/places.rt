@@ -4,7 +4,7 @@ ghost use Rattle.std.specs.List.{list_any};
 ghost use Rattle.std.specs.Ordering.{int_eq};
 ghost use Rattle.rr_model.specs.Rule.Candidate.{day_item_holds, is_in_place, is_weekday_place};
 
-use crate::day::Day;
+use rr_cal::Day;
 use rr_model::DayItem;
 
 // Whether one of the items holds of the day.
@@ -26,11 +26,11 @@ fn is_in_place(place: i8, in_year: bool, day: &Day) -> bool
     ensures { result ≡ is_in_place place in_year day.now.number }
 {
     if in_year {
-        is_weekday_place(place, day.year_day, day.days_in_year)
+        is_weekday_place(place, day.day_of_year, day.days_in_year)
     } else {
         is_weekday_place(
             place,
-            u16::from(day.month_day),
+            u16::from(day.day_of_month),
             u16::from(day.days_in_month),
         )
     }

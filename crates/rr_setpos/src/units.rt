@@ -4,7 +4,7 @@ ghost use Rattle.rr_model.specs.Rule.Candidate.{interval_holds};
 ghost use Rattle.rr_model.specs.Moment.Units.{month_number, unit_number};
 ghost use Rattle.rr_model.specs.Whole.{divides};
 
-use crate::day::Day;
+use rr_cal::Day;
 use crate::moment::Moment;
 use rr_cal::week_index;
 use rr_model::{Freq, Rule};

@@ -1,6 +1,6 @@
 -- Laws of the calendar, over all whole numbers.
 use Rattle.std.specs.Prelude.{◌≡◌, ℕ, ◌≤◌, ℤ, pos, ◌+ℤ◌, ◌*ℤ◌}
-use Rattle.rr_model.specs.Calendar.{is_leap, year_length, month_length, first_day_of_year, day_number, IsDate, year_of, month_of, day_of_month, day_of_year, weekday_of, kind_of_year}
+use Rattle.rr_model.specs.Calendar.{is_leap, days_in_year, days_in_month, first_day_of_year, day_number, IsDate, year_of, month_of, day_of_month, day_of_year, weekday_of, kind_of_year}
 use Rattle.rr_model.specs.Calendar.Week.{week_index, fourth_day, week_year, week_number, last_week}
 
 -- ---- each day has exactly one date
@@ -59,8 +59,8 @@ pub record DayRepeats (cycles d : ℤ) : Type 0 where
 pub record YearRepeats (cycles y : ℤ) : Type 0 where
   pub first_day : first_day_of_year (later_year cycles y) ≡ later_day cycles (first_day_of_year y)
   pub leap : is_leap (later_year cycles y) ≡ is_leap y
-  pub length : year_length (later_year cycles y) ≡ year_length y
-  pub month_lengths : (m : ℕ) → month_length (later_year cycles y) m ≡ month_length y m
+  pub length : days_in_year (later_year cycles y) ≡ days_in_year y
+  pub days_in_months : (m : ℕ) → days_in_month (later_year cycles y) m ≡ days_in_month y m
   pub day_numbers : (m k : ℕ) → day_number (later_year cycles y) m k ≡ later_day cycles (day_number y m k)
   pub kind : kind_of_year (later_year cycles y) ≡ kind_of_year y
   pub last_weeks : (w : ℕ) → last_week (later_year cycles y) w ≡ last_week y w

@@ -3,7 +3,7 @@ use Rattle.std.specs.Prelude.{ℕ, ◌+◌, ◌-◌, ◌==◌, Bool, false, ◌&
 use Rattle.std.specs.List.{list_any}
 use Rattle.std.specs.Ordering.{int_eq}
 use Rattle.rr_model.specs.Whole.{divides}
-use Rattle.rr_model.specs.Calendar.{year_of, month_of, day_of_month, day_of_year, weekday_of, month_length, year_length}
+use Rattle.rr_model.specs.Calendar.{year_of, month_of, day_of_month, day_of_year, weekday_of, days_in_month, days_in_year}
 use Rattle.rr_model.specs.Calendar.Week.{week_index, week_year, week_number, last_week}
 use Rattle.rr_model.specs.Moment.{day_part}
 use Rattle.rr_model.specs.Whole.Count.{count_from}
@@ -54,8 +54,8 @@ counts_in_year freq months = false
 -- the day has the place n in its year, or in its month
 abbrev pub is_in_place : ℤ → Bool → ℤ → Bool
 is_in_place n in_year d =
-    if in_year then is_weekday_place n d (day_of_year d) (year_length (year_of d))
-    else is_weekday_place n d (day_of_month d) (month_length (year_of d) (month_of d))
+    if in_year then is_weekday_place n d (day_of_year d) (days_in_year (year_of d))
+    else is_weekday_place n d (day_of_month d) (days_in_month (year_of d) (month_of d))
 
 -- the day has the item's weekday, and the item's place where it has one
 abbrev pub day_item_holds : Bool → ℤ → DayItem → Bool
@@ -77,11 +77,11 @@ by_week_no_holds rule d = is_week_listed rule.by_week_no rule.week_start (week_i
 
 -- BYYEARDAY lists the day's number in its year
 abbrev pub by_year_day_holds : Rule → ℤ → Bool
-by_year_day_holds rule d = allows_place rule.by_year_day (pos (day_of_year d)) (pos (year_length (year_of d)))
+by_year_day_holds rule d = allows_place rule.by_year_day (pos (day_of_year d)) (pos (days_in_year (year_of d)))
 
 -- BYMONTHDAY lists the day's number in its month
 abbrev pub by_month_day_holds : Rule → ℤ → Bool
-by_month_day_holds rule d = allows_place rule.by_month_day (pos (day_of_month d)) (pos (month_length (year_of d) (month_of d)))
+by_month_day_holds rule d = allows_place rule.by_month_day (pos (day_of_month d)) (pos (days_in_month (year_of d) (month_of d)))
 
 -- BYDAY lists the day's weekday, with its place where that is asked
 abbrev pub by_day_holds : Rule → ℤ → Bool

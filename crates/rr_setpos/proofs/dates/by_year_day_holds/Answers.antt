@@ -5,5 +5,5 @@ use Rattle.rr_setpos.proofs.dates.by_year_day_holds.Goals as goal
 pub allows_place-requires-clause-place : goal.allows_place-requires-clause-place
 allows_place-requires-clause-place c =
     let day = c.args.day.now in
-    let h = in_year day.number _ _ day.of_year_day day.of_days_in_year in
+    let h = in_year day.number _ _ day.of_day_of_year day.of_days_in_year in
     omega (arith, h.1, h.2)

@@ -4,20 +4,20 @@ use Rattle.std.specs.Int.{int_div_euclid}
 use Rattle.jiff_core.proofs.SignedLemmas.{signed_arith}
 use Rattle.jiff_core.specs.Date.{month_length as length_of_month, IsYmd}
 use Rattle.jiff_core.specs.declared.civil.date.Date.{Date as Plain}
-use Rattle.rr_model.specs.Calendar.{month_length}
-use Rattle.rr_model.proofs.CalendarLemmas.{month_length_bounds}
-use Rattle.rr_model.proofs.CycleLemmas.{month_length-cycle}
-use Rattle.rr_cal.proofs.JiffLemmas.{month_length-jiff}
-use Rattle.rr_cal.proofs.length.month_length.Goals as goal
+use Rattle.rr_model.specs.Calendar.{days_in_month}
+use Rattle.rr_model.proofs.CalendarLemmas.{days_in_month_bounds}
+use Rattle.rr_model.proofs.CycleLemmas.{days_in_month-cycle}
+use Rattle.rr_cal.proofs.JiffLemmas.{days_in_month-jiff}
+use Rattle.rr_cal.proofs.length.days_in_month.Goals as goal
 
 -- the month of the same name in the cycle that holds the year 0 is as long
-length_is : (y q : ℤ) (m : ℕ) (d : Plain) → y ≡ d.year +ℤ (pos 400 *ℤ q) → d.month ≡ m → length_of_month d ≡ month_length y m
+length_is : (y q : ℤ) (m : ℕ) (d : Plain) → y ≡ d.year +ℤ (pos 400 *ℤ q) → d.month ≡ m → length_of_month d ≡ days_in_month y m
 length_is y q m d year month =
-    let same : month_length y m ≡ month_length d.year m = ap (λ z. month_length z m) year ∙ month_length-cycle d.year q m in
-    rw (same, month_length-jiff d.year m, month) refl
+    let same : days_in_month y m ≡ days_in_month d.year m = ap (λ z. days_in_month z m) year ∙ days_in_month-cycle d.year q m in
+    rw (same, days_in_month-jiff d.year m, month) refl
 
-cast_is : (y : ℤ) (m : ℕ) (z : ℤ) → z ≡ pos (month_length y m) → nat_abs (to_z w8 (of_z w8 z)) ≡ month_length y m
-cast_is y m z e = omega (arith, signed_arith, e, month_length_bounds y m)
+cast_is : (y : ℤ) (m : ℕ) (z : ℤ) → z ≡ pos (days_in_month y m) → nat_abs (to_z w8 (of_z w8 z)) ≡ days_in_month y m
+cast_is y m z e = omega (arith, signed_arith, e, days_in_month_bounds y m)
 
 pub returns : goal.returns
 returns c =
