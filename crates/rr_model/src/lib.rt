@@ -25,7 +25,7 @@ pub use laws::{
 pub use limits::{MAX_CYCLE_DAYS, MAX_DAY, MAX_INPUT, MAX_SECONDS};
 pub use lists::{Dates, DayItems, DayShapes, Numbers, Rules, Seconds};
 pub use moment::{SECONDS_OF_DAY, day_part, moment_at, second_part};
-pub use refusal::{Fault, NoMemory, Refusal};
+pub use refusal::{Fault, Member, NoMemory, Refusal};
 pub use rule::{DayItem, End, Freq, Rule, Series};
 pub use rule_parts::{NumberBounds, PartName, RuleParts};
 pub use sketch::{DayShape, Sketch};

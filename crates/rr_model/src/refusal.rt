@@ -4,16 +4,112 @@ ghost use Rattle.std.specs.Prelude.{◌≡◌};
 use std::alloc::{AllocError, AllocFailed};
 use std::fmt;
 
+/// A member of a Microsoft Graph event, of its recurrencePattern or of its recurrenceRange.
+#[derive(Clone, Copy, Debug, PartialEq, Eq)]
+pub enum Member {
+    /// `start` of an event.
+    Start,
+    /// `dateTime` of the start.
+    DateTime,
+    /// `timeZone` of the start.
+    TimeZone,
+    /// `isAllDay` of an event.
+    IsAllDay,
+    /// `recurrence` of an event.
+    Recurrence,
+    /// `pattern` of a recurrence.
+    Pattern,
+    /// `range` of a recurrence.
+    Range,
+    /// `type` of a pattern.
+    PatternType,
+    /// `interval` of a pattern.
+    Interval,
+    /// `daysOfWeek` of a pattern.
+    DaysOfWeek,
+    /// `firstDayOfWeek` of a pattern.
+    FirstDayOfWeek,
+    /// `index` of a pattern.
+    Index,
+    /// `dayOfMonth` of a pattern.
+    DayOfMonth,
+    /// `month` of a pattern.
+    Month,
+    /// `type` of a range.
+    RangeType,
+    /// `startDate` of a range.
+    StartDate,
+    /// `endDate` of a range.
+    EndDate,
+    /// `numberOfOccurrences` of a range.
+    NumberOfOccurrences,
+}
+
+impl Member {
+    ghost use Rattle.rr_model.specs.Text.Refusals.{member_text};
+
+    /// The text that is printed: its name in JSON, for a `type` after the object that it belongs to.
+    pub fn text(&self) -> &'static str
+        ensures { result.now ≡ member_text self.now }
+    {
+        match self {
+            Member::Start => "start",
+            Member::DateTime => "dateTime",
+            Member::TimeZone => "timeZone",
+            Member::IsAllDay => "isAllDay",
+            Member::Recurrence => "recurrence",
+            Member::Pattern => "pattern",
+            Member::Range => "range",
+            Member::PatternType => "pattern.type",
+            Member::Interval => "interval",
+            Member::DaysOfWeek => "daysOfWeek",
+            Member::FirstDayOfWeek => "firstDayOfWeek",
+            Member::Index => "index",
+            Member::DayOfMonth => "dayOfMonth",
+            Member::Month => "month",
+            Member::RangeType => "range.type",
+            Member::StartDate => "startDate",
+            Member::EndDate => "endDate",
+            Member::NumberOfOccurrences => "numberOfOccurrences",
+        }
+    }
+}
+
+impl fmt::Display for Member {
+    ghost use Rattle.std.specs.Prelude.{Some};
+    ghost use Rattle.rr_model.specs.Text.Refusals.{member_text};
+
+    ghost output = { λ member. Some (member_text member) };
+
+    fn fmt<W: fmt::Write>(&self, f: &mut fmt::Formatter<W>) -> fmt::Result {
+        write!(f, "{}", self.text())
+    }
+}
+
 /// Why an operand is refused.
 ///
 /// A line is counted from 1, and is the first physical line of an unfolded one. A rule is counted from 1.
 #[derive(Clone, Copy, Debug, PartialEq, Eq)]
 pub enum Refusal {
-    /// A date or a moment is malformed, or is no date of the years 1 to 9999.
+    /// The text is longer than `MAX_INPUT` bytes.
+    TooLong,
+    /// The bytes are no UTF-8.
+    NotText,
+    /// A used line has no value, an END does not close the innermost open component, or the text ends
+    /// within a component (then the line is the text's last).
+    BadLine(u64),
+    /// A second event begins.
+    SeveralEvents,
+    /// The event has no start.
+    NoStart,
+    /// A date or a moment is malformed, is no date of the years 1 to 9999, or leaves these years by the
+    /// stated offset.
     BadMoment(u64),
+    /// A date or a moment is of another kind than the start.
+    MixedKinds(u64),
     /// A rule is not in its grammar.
     BadRule(u64),
-    /// A part of a rule stands twice.
+    /// A part of a rule, or the start, stands twice.
     PartTwice(u64),
     /// A number of a rule is outside its range.
     NumberRange(u64),
@@ -31,12 +127,32 @@ pub enum Refusal {
     UntilBeforeStart,
     /// The start is not chosen by this rule.
     NotSynchronised(u32),
-    /// A rule has RSCALE or SKIP (RFC 7529).
+    /// A value of RDATE is a period.
+    PeriodValue,
+    /// A rule has RSCALE or SKIP (RFC 7529), or the event has an EXRULE.
     Extended,
+    /// The text is no JSON (RFC 8259), is nested more than 127 levels deep, or is no object.
+    BadJson,
+    /// A member of a Graph event is missing, or has no allowed value.
+    BadMember(Member),
+    /// The date of a Graph event's start is not the start date of its range.
+    StartDiffers,
+    /// A Graph pattern and its range have no occurrence in the years 1 to 9999.
+    NoOccurrence,
+    /// The interval of a Graph pattern is above 999 (daily and weekly) or 99 (the other types).
+    IntervalTooLarge,
     /// The cycle is longer than `MAX_CYCLE_DAYS`.
     CycleTooLong,
+    /// The last occurrence of a counted rule lies too many days after the start.
+    CountedTooFar,
     /// The distinct time sets have more than `MAX_SECONDS` seconds.
     TooManyMoments,
+    /// No rule or pattern of the kind that is looked for has these occurrences.
+    NotSayable,
+    /// A seventeenth rule, or more dates than are allowed.
+    TooManyParts,
+    /// A value of a list is not above the value before it.
+    NotRising(u64),
     /// The text is of a form that is not built yet.
     NotBuilt,
 }
@@ -49,7 +165,13 @@ impl Refusal {
         ensures { result.now ≡ refusal_name self.now }
     {
         match self {
+            Refusal::TooLong => "TooLong",
+            Refusal::NotText => "NotText",
+            Refusal::BadLine(_) => "BadLine",
+            Refusal::SeveralEvents => "SeveralEvents",
+            Refusal::NoStart => "NoStart",
             Refusal::BadMoment(_) => "BadMoment",
+            Refusal::MixedKinds(_) => "MixedKinds",
             Refusal::BadRule(_) => "BadRule",
             Refusal::PartTwice(_) => "PartTwice",
             Refusal::NumberRange(_) => "NumberRange",
@@ -60,9 +182,19 @@ impl Refusal {
             Refusal::UntilKind => "UntilKind",
             Refusal::UntilBeforeStart => "UntilBeforeStart",
             Refusal::NotSynchronised(_) => "NotSynchronised",
+            Refusal::PeriodValue => "PeriodValue",
             Refusal::Extended => "Extended",
+            Refusal::BadJson => "BadJson",
+            Refusal::BadMember(_) => "BadMember",
+            Refusal::StartDiffers => "StartDiffers",
+            Refusal::NoOccurrence => "NoOccurrence",
+            Refusal::IntervalTooLarge => "IntervalTooLarge",
             Refusal::CycleTooLong => "CycleTooLong",
+            Refusal::CountedTooFar => "CountedTooFar",
             Refusal::TooManyMoments => "TooManyMoments",
+            Refusal::NotSayable => "NotSayable",
+            Refusal::TooManyParts => "TooManyParts",
+            Refusal::NotRising(_) => "NotRising",
             Refusal::NotBuilt => "NotBuilt",
         }
     }
@@ -76,12 +208,37 @@ impl fmt::Display for Refusal {
 
     fn fmt<W: fmt::Write>(&self, f: &mut fmt::Formatter<W>) -> fmt::Result {
         match self {
+            Refusal::TooLong => write!(f, "TooLong"),
+            Refusal::NotText => write!(f, "NotText"),
+            Refusal::BadLine(line) => write!(f, "BadLine {line}"),
+            Refusal::SeveralEvents => write!(f, "SeveralEvents"),
+            Refusal::NoStart => write!(f, "NoStart"),
             Refusal::BadMoment(line) => write!(f, "BadMoment {line}"),
+            Refusal::MixedKinds(line) => write!(f, "MixedKinds {line}"),
             Refusal::BadRule(line) => write!(f, "BadRule {line}"),
             Refusal::PartTwice(line) => write!(f, "PartTwice {line}"),
             Refusal::NumberRange(line) => write!(f, "NumberRange {line}"),
+            Refusal::UntilAndCount => write!(f, "UntilAndCount"),
+            Refusal::NotAllowed => write!(f, "NotAllowed"),
+            Refusal::LeapSecond => write!(f, "LeapSecond"),
+            Refusal::UtcMoment => write!(f, "UtcMoment"),
+            Refusal::UntilKind => write!(f, "UntilKind"),
+            Refusal::UntilBeforeStart => write!(f, "UntilBeforeStart"),
             Refusal::NotSynchronised(rule) => write!(f, "NotSynchronised {rule}"),
-            _ => write!(f, "{}", self.name()),
+            Refusal::PeriodValue => write!(f, "PeriodValue"),
+            Refusal::Extended => write!(f, "Extended"),
+            Refusal::BadJson => write!(f, "BadJson"),
+            Refusal::BadMember(member) => write!(f, "BadMember {member}"),
+            Refusal::StartDiffers => write!(f, "StartDiffers"),
+            Refusal::NoOccurrence => write!(f, "NoOccurrence"),
+            Refusal::IntervalTooLarge => write!(f, "IntervalTooLarge"),
+            Refusal::CycleTooLong => write!(f, "CycleTooLong"),
+            Refusal::CountedTooFar => write!(f, "CountedTooFar"),
+            Refusal::TooManyMoments => write!(f, "TooManyMoments"),
+            Refusal::NotSayable => write!(f, "NotSayable"),
+            Refusal::TooManyParts => write!(f, "TooManyParts"),
+            Refusal::NotRising(line) => write!(f, "NotRising {line}"),
+            Refusal::NotBuilt => write!(f, "NotBuilt"),
         }
     }
 }
