@@ -1,12 +1,19 @@
 //! The data that every crate speaks of, and beside it, in specs/, the definitions that contracts cite.
 #![tactic(auto)]
 
+mod bytes;
 mod calendar_laws;
+mod graph;
+mod item;
 mod kind;
+mod lang;
 mod laws;
 mod limits;
+mod line;
+mod listed;
 mod lists;
 mod moment;
+mod pass;
 mod refusal;
 mod rule;
 mod rule_parts;
@@ -14,20 +21,31 @@ mod sketch;
 mod stamp;
 #[cfg(test)]
 mod tests;
+mod used;
+mod vcal;
 mod verdict;
 
+pub use bytes::Bytes;
 pub use calendar_laws::{calendar_repeats, dates_and_days_are_inverse, last_week_is_greatest};
+pub use graph::{Form, GraphEvent, Pattern, Range, RangeEnd, Repeat};
+pub use item::Item;
 pub use kind::Kind;
+pub use lang::Lang;
 pub use laws::{
     case_does_not_matter, gcd_is_greatest, lcm_is_least, least_factor_is_one, least_period_is_one,
     least_start_is_one, order_does_not_matter, settled_day_is_one,
 };
 pub use limits::{MAX_CYCLE_DAYS, MAX_DAY, MAX_INPUT, MAX_SECONDS};
-pub use lists::{Dates, DayItems, DayShapes, Numbers, Rules, Seconds};
+pub use line::{Line, LineList};
+pub use listed::ListedDates;
+pub use lists::{Dates, DayItems, DayShapes, Items, Numbers, Rules, Seconds, VRules};
 pub use moment::{SECONDS_OF_DAY, day_part, moment_at, second_part};
+pub use pass::FirstPass;
 pub use refusal::{Fault, Member, NoMemory, Refusal};
 pub use rule::{DayItem, End, Freq, Rule, Series};
 pub use rule_parts::{NumberBounds, PartName, RuleParts};
 pub use sketch::{DayShape, Sketch};
 pub use stamp::Stamp;
+pub use used::{LineKind, LineName, Scan, Used, UsedLine};
+pub use vcal::{FamilyKind, VRule, VRuleParts, VSeries};
 pub use verdict::{Side, Verdict};

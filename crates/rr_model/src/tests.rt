@@ -1,6 +1,7 @@
 use crate::{
-    Dates, DayItem, DayItems, DayShape, DayShapes, Freq, Kind, Member, Numbers, Refusal, Rule,
-    Rules, Seconds, day_part, moment_at, second_part,
+    Bytes, Dates, DayItem, DayItems, DayShape, DayShapes, End, FamilyKind, Freq, Item, Items, Kind,
+    Line, LineList, LineName, Member, Numbers, Refusal, Rule, Rules, Seconds, Used, UsedLine, VRule,
+    VRules, day_part, moment_at, second_part,
 };
 use std::test::Fail;
 
@@ -211,5 +212,98 @@ fn a_bad_member_is_printed_with_its_name(rt: HostRuntime) -> Result<(), Fail> {
         assert_eq!(rt; refusal.name(), "BadMember");
         assert_eq!(rt; format!(in alloc; "{refusal}")?.as_str(), text);
     }
+    Ok(())
+}
+
+const RISING_ITEMS: [Item; 16] = [
+    Item::Every,
+    Item::Weekday(0),
+    Item::Weekday(6),
+    Item::MonthDay(1),
+    Item::MonthDay(31),
+    Item::MonthDay(-1),
+    Item::MonthDay(-31),
+    Item::Place {
+        place: 1,
+        weekday: 2,
+    },
+    Item::Place {
+        place: 1,
+        weekday: 4,
+    },
+    Item::Place {
+        place: 5,
+        weekday: 0,
+    },
+    Item::Place {
+        place: -1,
+        weekday: 6,
+    },
+    Item::Place {
+        place: -5,
+        weekday: 0,
+    },
+    Item::Month(1),
+    Item::Month(12),
+    Item::YearDay(1),
+    Item::YearDay(366),
+];
+
+#[test]
+fn items_rise_by_variant_number_and_weekday(rt: HostRuntime) -> Result<(), Fail> {
+    let mut items = Items::new(rt.alloc());
+    for item in RISING_ITEMS {
+        items.put(item)?;
+    }
+    assert_eq!(rt; items.as_slice(), RISING_ITEMS.as_slice());
+    let mut backwards = Items::new(rt.alloc());
+    for item in RISING_ITEMS.into_iter().rev() {
+        backwards.put(item)?;
+        backwards.put(item)?;
+    }
+    assert_eq!(rt; backwards.as_slice(), RISING_ITEMS.as_slice());
+    Ok(())
+}
+
+#[test]
+fn lines_and_rules_are_put_at_the_end(rt: HostRuntime) -> Result<(), Fail> {
+    let alloc = rt.alloc();
+    let mut text = Bytes::of(alloc, b"RR")?;
+    text.append(b"ULE")?;
+    text.put(b':')?;
+    assert_eq!(rt; text.as_slice(), b"RRULE:".as_slice());
+    let mut lines = LineList::new(alloc);
+    for number in [3, 1] {
+        lines.put(Line {
+            number,
+            text: Bytes::new(alloc),
+        })?;
+    }
+    assert!(rt;
+        matches!(lines.as_slice(), [first, second] if first.number == 3 && second.number == 1)
+    );
+    let mut used = Used::new(alloc);
+    for name in [LineName::Rrule, LineName::Dtstart] {
+        used.put(UsedLine {
+            number: 1,
+            name,
+            value: Bytes::new(alloc),
+        })?;
+    }
+    assert!(rt;
+        matches!(used.as_slice(), [first, second] if first.name == LineName::Rrule && second.name == LineName::Dtstart)
+    );
+    let mut rules = VRules::new(alloc);
+    for interval in [2, 1] {
+        rules.put(VRule {
+            family: FamilyKind::W,
+            interval,
+            items: Items::new(alloc),
+            end: End::Never,
+        })?;
+    }
+    assert!(rt;
+        matches!(rules.as_slice(), [first, second] if first.interval == 2 && second.interval == 1)
+    );
     Ok(())
 }
