@@ -10,6 +10,7 @@ pub mod PeriodicLemmas
 pub mod SecondsLemmas
 mod DescriptorExamples
 pub mod RisingLemmas
+pub mod ItemLemmas
 pub mod VerdictLemmas
 mod WeekExamples
 pub mod WeekLemmas
@@ -39,3 +40,9 @@ pub mod ReadingLemmas
 pub mod RulePartLemmas
 pub mod PartOrderLemmas
 pub mod TreeLemmas
+mod GraphExamples
+mod LineExamples
+mod ReadingExamples
+pub mod TurnLemmas
+mod VcalExamples
+mod WrittenExamples

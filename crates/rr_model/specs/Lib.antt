@@ -1,10 +1,12 @@
 pub mod Answers
 pub mod Calendar
 pub mod Daily
+pub mod Graph
 pub mod Moment
 pub mod Rising
 pub mod Rule
 pub mod Series
 pub mod Sets
 pub mod Text
+pub mod Vcal
 pub mod Whole
