@@ -1,6 +1,6 @@
 -- Which days a Graph pattern and range have (Microsoft Graph, recurrencePattern and recurrenceRange), with no word of RRULE.
 use Rattle.std.specs.Prelude.{◌≡◌, ℕ, ◌+◌, ◌-◌, ◌/◌, ◌%◌, ◌≤◌, ◌==◌, min, Bool, true, false, ◌&&◌, if◌then◌else◌, IsTrue, ⊤, ℤ, pos, negsuc, nat_abs, ◌+ℤ◌, ◌-ℤ◌, ◌≤ℤ◌, int_le, suc, zero, Option, None, Some}
-use Rattle.rr_model.specs.Calendar.{weekday_of, day_of_month, month_of, year_of, month_length}
+use Rattle.rr_model.specs.Calendar.{weekday_of, day_of_month, month_of, year_of, days_in_month}
 use Rattle.rr_model.specs.Whole.Count.{count_from}
 use Rattle.rr_model.specs.Moment.{day_part, second_part}
 use Rattle.rr_model.specs.Moment.Units.{month_number}
@@ -35,14 +35,14 @@ is_day_in days d = (days / bit_of (weekday_of d)) % 2 == 1
 
 -- the day has this number in its month, or is the last of a shorter one
 abbrev pub is_day_number : ℕ → ℤ → Bool
-is_day_number number d = day_of_month d == min number (month_length (year_of d) (month_of d))
+is_day_number number d = day_of_month d == min number (days_in_month (year_of d) (month_of d))
 
 -- the rank of the day among the days of its month whose weekday is one of these, from the front or from the back
 abbrev pub rank_in_month : ℕ → ℤ → ℕ
 rank_in_month days d = count_from (is_day_in days) ((d -ℤ pos (day_of_month d)) +ℤ pos 1) (day_of_month d)
 
 abbrev pub rank_from_month_end : ℕ → ℤ → ℕ
-rank_from_month_end days d = count_from (is_day_in days) d ((month_length (year_of d) (month_of d) + 1) - day_of_month d)
+rank_from_month_end days d = count_from (is_day_in days) d ((days_in_month (year_of d) (month_of d) + 1) - day_of_month d)
 
 -- the rank is the index, or from the back its size where it is negative
 abbrev pub has_index : ℤ → ℕ → ℤ → Bool

@@ -1,7 +1,7 @@
 -- The lines of a text (RFC 5545, section 3.1; vCalendar 1.0, section 2.1.3).
 use Rattle.std.specs.Prelude.{ℕ, ◌+◌, ◌==◌, Bool, true, false, not, ◌&&◌, if◌then◌else◌, List, [], ◌∷◌, ◌++◌, drop, unwrap_or}
 use Rattle.std.specs.List.{onto_first}
-use Rattle.rr_model.specs.Text.Rules.{is_blank, text_behind}
+use Rattle.rr_model.specs.Text.Rules.{is_blank, text_after}
 use Rattle.rr_model.specs.Rule.Validity.{is_absent}
 use Rattle.rr_model.specs.declared.line.Line.{Line}
 
@@ -55,4 +55,4 @@ unfolded_lines keeps_blank bytes = with_physical_lines keeps_blank 1 [] (physica
 
 -- the text without one byte order mark at its front
 abbrev pub without_mark : List ℕ → List ℕ
-without_mark bytes = unwrap_or (text_behind (239 ∷ 187 ∷ 191 ∷ []) bytes) bytes
+without_mark bytes = unwrap_or (text_after (239 ∷ 187 ∷ 191 ∷ []) bytes) bytes

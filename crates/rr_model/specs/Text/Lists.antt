@@ -8,7 +8,7 @@ use Rattle.rr_model.specs.declared.rule.Series.{Series}
 use Rattle.rr_model.specs.declared.stamp.Stamp.{Stamp}
 use Rattle.rr_model.specs.Text.RuleValues.{◌>>=◌}
 use Rattle.rr_model.specs.Text.Lines.{physical_lines, without_mark}
-use Rattle.rr_model.specs.Text.UsedLines.{without_blanks}
+use Rattle.rr_model.specs.Text.UsedLines.{trim}
 use Rattle.rr_model.specs.Text.ExtendedMoments.{plain_extended}
 use Rattle.rr_model.specs.declared.listed.ListedDates.{ListedDates}
 use Rattle.rr_model.specs.declared.refusal.Refusal.{Refusal}
@@ -42,7 +42,7 @@ with_trimmed line so_far [] = Ok so_far
 with_trimmed line so_far (b ∷ bs) = with_list_value line so_far (b ∷ bs)
 
 unfoldable pub with_list_line : ℕ → ListedDates → List ℕ → Result ListedDates Refusal
-with_list_line line so_far text = with_trimmed line so_far (without_blanks text)
+with_list_line line so_far text = with_trimmed line so_far (trim text)
 
 -- the lines from this number on
 abbrev pub with_list_lines : ℕ → ListedDates → List (List ℕ) → Result ListedDates Refusal

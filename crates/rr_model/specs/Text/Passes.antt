@@ -9,7 +9,7 @@ use Rattle.rr_model.specs.Rising.{with_value}
 use Rattle.rr_model.specs.declared.stamp.Stamp.{Stamp}
 use Rattle.rr_model.specs.Text.RuleValues.{◌>>=◌}
 use Rattle.rr_model.specs.Text.Steps.{in_turn}
-use Rattle.rr_model.specs.Text.UsedLines.{without_blanks}
+use Rattle.rr_model.specs.Text.UsedLines.{trim}
 use Rattle.rr_model.specs.Text.Lists.{is_same_kind}
 use Rattle.rr_model.specs.declared.pass.FirstPass.{FirstPass}
 use Rattle.rr_model.specs.declared.refusal.Refusal.{Refusal}
@@ -45,7 +45,7 @@ has_slash text = list_any (λ b. b == 47) text
 
 -- what a date value states, with blanks around it or none
 abbrev pub date_value : ℕ → List ℕ → Result Stamp Refusal
-date_value line text = ok_or (basic (without_blanks text)) (BadMoment line)
+date_value line text = ok_or (basic (trim text)) (BadMoment line)
 
 -- one value of RDATE (true) or EXDATE
 abbrev pub judged_date : ℕ → Bool → FirstPass → List ℕ → Result FirstPass Refusal

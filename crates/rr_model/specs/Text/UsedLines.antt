@@ -3,7 +3,7 @@ use Rattle.std.specs.Prelude.{ℕ, ◌==◌, Bool, false, not, ◌&&◌, ◌||�
 use Rattle.std.specs.Char.{is_ascii_alphanumeric}
 use Rattle.std.specs.List.{list_any, take_while}
 use Rattle.std.specs.Str.{str_eq_ignore_ascii_case}
-use Rattle.rr_model.specs.Text.Rules.{without_blanks_before, without_blanks_behind}
+use Rattle.rr_model.specs.Text.Rules.{trim_start, trim_end}
 use Rattle.rr_model.specs.declared.used.LineKind.{LineKind}
 use Rattle.rr_model.specs.declared.used.LineKind.TheVariants.{Begin, End, Property, Other}
 use Rattle.rr_model.specs.declared.used.LineName.TheVariants.{Dtstart, Rrule, Rdate, Exdate, Exrule}
@@ -45,13 +45,13 @@ begins_value [] = false
 begins_value (b ∷ bs) = (b == 59) || (b == 58)
 
 -- without the blanks and tabs around it
-abbrev pub without_blanks : List ℕ → List ℕ
-without_blanks text = without_blanks_behind (without_blanks_before text)
+abbrev pub trim : List ℕ → List ℕ
+trim text = trim_end (trim_start text)
 
 -- the value of a line, if it has one: what follows its name, its parameters and the colon
 unfoldable pub value_of_line : List ℕ → Option (List ℕ)
 value_of_line text =
-    if begins_value (after_name text) then option_map without_blanks (after_colon false (after_name text)) else None
+    if begins_value (after_name text) then option_map trim (after_colon false (after_name text)) else None
 
 -- ---- names
 

@@ -2,10 +2,11 @@
 use Rattle.std.specs.Prelude.{◌≡◌, ◌↔◌, ℤ, int_lt, None, Ok, All}
 use Rattle.rr_model.specs.Rising.{Rises}
 use Rattle.rr_model.specs.Rule.Chosen.{IsMember, IsSynchronised}
+use Rattle.rr_model.specs.Series.Occurrences.{Occurs}
 use Rattle.rr_model.specs.Text.WriteLaws.{IsStatable}
-use Rattle.rr_model.specs.Vcal.Counterpart.{rule_of_vrule}
+use Rattle.rr_model.specs.Vcal.Counterpart.{rule_of_vrule, series_of_vseries}
 use Rattle.rr_model.specs.Vcal.Items.{item_lt}
-use Rattle.rr_model.specs.Vcal.Members.{IsVcalMember, IsVcalSynchronised}
+use Rattle.rr_model.specs.Vcal.Members.{IsVcalMember, IsVcalSynchronised, OccursInVseries}
 use Rattle.rr_model.specs.Vcal.Reading.{reads_vcal}
 use Rattle.rr_model.specs.Vcal.Validity.{IsValidVRule, IsValidVSeries}
 use Rattle.rr_model.specs.Vcal.Written.{vcal_written}
@@ -17,11 +18,18 @@ use Rattle.rr_model.specs.declared.vcal.VSeries.{VSeries}
 
 -- A valid rule and its counterpart have the same members.
 abbrev pub CounterpartHasMembers : Type 0
-CounterpartHasMembers = (rule : VRule) (kind : Kind) (start t : ℤ) → IsValidVRule rule → IsVcalMember rule kind start t ↔ IsMember (rule_of_vrule rule kind start) kind start t
+CounterpartHasMembers =
+    (rule : VRule) (kind : Kind) (start t : ℤ) → IsValidVRule rule → IsVcalMember rule kind start t ↔ IsMember (rule_of_vrule rule kind start) kind start t
 
 -- A valid rule is synchronised exactly where its counterpart is.
 abbrev pub CounterpartIsSynchronised : Type 0
-CounterpartIsSynchronised = (rule : VRule) (kind : Kind) (start : ℤ) → IsValidVRule rule → IsVcalSynchronised rule kind start ↔ IsSynchronised (rule_of_vrule rule kind start) kind start
+CounterpartIsSynchronised =
+    (rule : VRule) (kind : Kind) (start : ℤ) → IsValidVRule rule → IsVcalSynchronised rule kind start ↔ IsSynchronised (rule_of_vrule rule kind start) kind start
+
+-- A valid series and its counterpart have the same occurrences.
+abbrev pub VcalCounterpartHasOccurrences : Type 0
+VcalCounterpartHasOccurrences =
+    (series : VSeries) (kind : Kind) (t : ℤ) → IsValidVSeries series → OccursInVseries series kind t ↔ Occurs (series_of_vseries series) kind t
 
 -- ---- what is written
 

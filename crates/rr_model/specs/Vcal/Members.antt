@@ -2,7 +2,7 @@
 use Rattle.std.specs.Prelude.{◌≡◌, ◌⊎◌, ℕ, ◌==◌, Bool, true, false, ◌&&◌, ◌||◌, IsTrue, ℤ, pos, nat_abs, ◌+ℤ◌, ◌-ℤ◌, ◌≤ℤ◌, List, [], ◌∷◌, Contains}
 use Rattle.std.specs.List.{list_any}
 use Rattle.std.specs.Ordering.{int_eq}
-use Rattle.rr_model.specs.Calendar.{weekday_of, day_of_month, month_of, day_of_year, year_of, month_length}
+use Rattle.rr_model.specs.Calendar.{weekday_of, day_of_month, month_of, day_of_year, year_of, days_in_month}
 use Rattle.rr_model.specs.Rule.Candidate.{is_in_place}
 use Rattle.rr_model.specs.Rule.Chosen.{IsWithinEnd}
 use Rattle.rr_model.specs.Whole.Count.{count_from}
@@ -33,7 +33,7 @@ family_unit family.YD d = year_of d
 abbrev pub item_holds : ℤ → Item → ℤ → Bool
 item_holds start Every d = true
 item_holds start (Weekday k) d = k == weekday_of d
-item_holds start (MonthDay n) d = int_eq n (pos (day_of_month d)) || int_eq n ((pos (day_of_month d) -ℤ pos (month_length (year_of d) (month_of d))) -ℤ pos 1)
+item_holds start (MonthDay n) d = int_eq n (pos (day_of_month d)) || int_eq n ((pos (day_of_month d) -ℤ pos (days_in_month (year_of d) (month_of d))) -ℤ pos 1)
 item_holds start (Place n k) d = (k == weekday_of d) && is_in_place n false d
 item_holds start (Month m) d = (m == month_of d) && (day_of_month start == day_of_month d)
 item_holds start (YearDay k) d = k == day_of_year d
@@ -66,12 +66,12 @@ IsVcalSynchronised rule kind start = IsTrue (list_any (λ item. item_has_day rul
 -- ---- occurrences
 
 -- t is a member of one of the rules
-abbrev pub HasMember : Kind → ℤ → ℤ → List VRule → Type 0
-HasMember kind start t [] = ⊥
-HasMember kind start t (rule ∷ rules) = IsVcalMember rule kind start t ⊎ HasMember kind start t rules
+abbrev pub IsVcalMemberOfSome : Kind → ℤ → ℤ → List VRule → Type 0
+IsVcalMemberOfSome kind start t [] = ⊥
+IsVcalMemberOfSome kind start t (rule ∷ rules) = IsVcalMember rule kind start t ⊎ IsVcalMemberOfSome kind start t rules
 
 -- t occurs in the series: it is the start, a member of a rule or a further date, and no excluded one
 pub record OccursInVseries (series : VSeries) (kind : Kind) (t : ℤ) : Type 0 where
   pub same_kind : kind ≡ series.kind
-  pub given : (t ≡ series.start) ⊎ (HasMember series.kind series.start t series.rules ⊎ Contains series.plus t)
+  pub given : (t ≡ series.start) ⊎ (IsVcalMemberOfSome series.kind series.start t series.rules ⊎ Contains series.plus t)
   pub kept : Contains series.minus t → ⊥

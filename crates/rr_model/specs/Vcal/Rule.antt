@@ -5,7 +5,7 @@ use Rattle.std.specs.Option.{is_some, option_or}
 use Rattle.std.specs.Str.{bytes_eq}
 use Rattle.rr_model.specs.Text.Digits.{is_digit, digits_value}
 use Rattle.rr_model.specs.Text.Moments.{basic, is_letter_t}
-use Rattle.rr_model.specs.Text.Rules.{is_blank, text_behind, line_value}
+use Rattle.rr_model.specs.Text.Rules.{is_blank, text_after, line_value}
 use Rattle.rr_model.specs.Rising.{with_value}
 use Rattle.rr_model.specs.Text.RuleValues.{is_number, number_up_to, weekday_named, ◌>>=◌}
 use Rattle.rr_model.specs.Rule.Validity.{is_absent}
@@ -32,7 +32,7 @@ pub record Head : Type 0 where
   pub rest : List ℕ
 
 abbrev pub head_with : List ℕ → FamilyKind → List ℕ → Option Head
-head_with letters family text = option_map (λ rest. record { family = family; rest = rest }) (text_behind letters text)
+head_with letters family text = option_map (λ rest. record { family = family; rest = rest }) (text_after letters text)
 
 unfoldable pub head_of : List ℕ → Option Head
 head_of text =
@@ -157,7 +157,7 @@ with_marked_word line parts None text = within_list line parts text
 
 unfoldable pub with_word : ℕ → VRuleParts → List ℕ → Result VRuleParts Refusal
 with_word line parts text =
-    if is_moment_word text then after_list line parts (with_end_moment line parts text) else with_marked_word line parts (text_behind (codes "#") text) text
+    if is_moment_word text then after_list line parts (with_end_moment line parts text) else with_marked_word line parts (text_after (codes "#") text) text
 
 -- a piece between blanks and tabs: an empty one is passed over, the first other one is the head
 abbrev pub with_piece : ℕ → Option VRuleParts → List ℕ → Result (Option VRuleParts) Refusal
