@@ -58,11 +58,7 @@ fn parts_cycle(rule: &Rule) -> u64
     if asks_calendar(rule) {
         return DAYS_OF_400_YEARS;
     }
-    if rule.by_day.is_empty() {
-        1
-    } else {
-        7
-    }
+    if rule.by_day.is_empty() { 1 } else { 7 }
 }
 
 // Whether a part stands whose days follow the calendar's years.
