@@ -5,8 +5,8 @@ ghost use Rattle.rr_model.specs.Rule.Validity.{has_place, has_part, takes_places
 ghost use Rattle.rr_model.specs.Text.Rules.{end_of, rule_with, rule_of, has_time, needs_offset, series_of, series_with};
 
 use rr_model::{
-    Dates, DayItems, End, Fault, Freq, Kind, NoMemory, Refusal, Rule, RuleParts, Rules,
-    Series, Stamp,
+    Dates, DayItems, End, Fault, Freq, Kind, NoMemory, Refusal, Rule, RuleParts, Rules, Series,
+    Stamp,
 };
 use std::alloc::Global;
 
@@ -40,10 +40,7 @@ fn has_part(rule: &Rule) -> bool
         && rule.by_year_day.is_empty()
         && rule.by_month_day.is_empty()
         && rule.by_day.is_empty();
-    !(no_days
-        && rule.by_hour.is_empty()
-        && rule.by_minute.is_empty()
-        && rule.by_second.is_empty())
+    !(no_days && rule.by_hour.is_empty() && rule.by_minute.is_empty() && rule.by_second.is_empty())
 }
 
 fn takes_month_days(freq: Freq) -> bool
