@@ -4,7 +4,7 @@ use Rattle.std.specs.List.{list_all}
 use Rattle.std.proofs.lemmas.List.Sums.{take_while-cons}
 use Rattle.rr_model.specs.Text.Digits.{is_digit, digits_value, leading_digits}
 use Rattle.rr_cli.specs.DailyText.{IsIntervalText, interval_of}
-use Rattle.rr_model.proofs.DigitLemmas.{is_digit_bounds, digit_value-digit, digits_value-front, digits_value_below}
+use Rattle.rr_text.proofs.DigitLemmas.{is_digit_bounds, digit_value-digit, digits_value-front, digits_value_below}
 
 both : (a b : Bool) → (a && b) ≡ true → (a ≡ true) × (b ≡ true)
 both true b h = (refl, h)

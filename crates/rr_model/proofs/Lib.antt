@@ -1,5 +1,3 @@
-mod MomentTextExamples
-pub mod DigitLemmas
 mod CalendarExamples
 pub mod CalendarLawProofs
 pub mod CalendarLemmas
@@ -15,7 +13,6 @@ pub mod VerdictLemmas
 mod WeekExamples
 pub mod WeekLemmas
 pub mod WholeLemmas
-pub mod MomentTextLemmas
 mod ChosenExamples
 pub mod RisingSetLemmas
 pub mod DailyLemmas
@@ -25,20 +22,15 @@ pub mod ShiftLemmas
 pub mod WeekShiftLemmas
 pub mod PartLemmas
 pub mod UnitLemmas
-mod ReadsExamples
 pub mod DivisorLemmas
 mod RuleExamples
 pub mod RepetitionLemmas
 pub mod RankLemmas
 pub mod StretchLemmas
-pub mod PrintedLemmas
 pub mod RuleCycleLemmas
 pub mod SoundnessLemmas
 pub mod SeriesCycleLemmas
 pub mod StartLemmas
-pub mod ReadingLemmas
-pub mod RulePartLemmas
-pub mod PartOrderLemmas
 pub mod TreeLemmas
 mod GraphExamples
 mod LineExamples

@@ -3,7 +3,6 @@ ghost use Rattle.rr_model.specs.Whole.Divisors.{GcdIsGreatest, LcmIsLeast};
 ghost use Rattle.rr_model.specs.Series.Settled.{SettledDayIsOne};
 ghost use Rattle.rr_model.specs.Sets.DividingOut.{LeastFactorIsOne};
 ghost use Rattle.rr_model.specs.Sets.Least.{LeastPeriodIsOne, LeastStartIsOne};
-ghost use Rattle.rr_model.specs.Text.RuleLaws.{CaseDoesNotMatter, OrderDoesNotMatter};
 
 /// The greatest common divisor divides both numbers, and each number that does divides it.
 pub fn gcd_is_greatest()
@@ -13,16 +12,6 @@ pub fn gcd_is_greatest()
 /// The least common multiple is a multiple of both numbers, and divides each number that is.
 pub fn lcm_is_least()
     ensures { LcmIsLeast }
-{}
-
-/// Values of a start and a rule that differ in the case of letters alone state one series, or are refused alike.
-pub fn case_does_not_matter()
-    ensures { CaseDoesNotMatter }
-{}
-
-/// Two neighbouring parts of a rule that is read may be exchanged: the series is the same.
-pub fn order_does_not_matter()
-    ensures { OrderDoesNotMatter }
 {}
 
 /// A series has one settled day at most.

@@ -32,8 +32,8 @@ pub use item::Item;
 pub use kind::Kind;
 pub use lang::Lang;
 pub use laws::{
-    case_does_not_matter, gcd_is_greatest, lcm_is_least, least_factor_is_one, least_period_is_one,
-    least_start_is_one, order_does_not_matter, settled_day_is_one,
+    gcd_is_greatest, lcm_is_least, least_factor_is_one, least_period_is_one, least_start_is_one,
+    settled_day_is_one,
 };
 pub use limits::{MAX_CYCLE_DAYS, MAX_DAY, MAX_INPUT, MAX_SECONDS};
 pub use line::{Line, LineList};

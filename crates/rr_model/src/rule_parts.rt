@@ -1,4 +1,7 @@
 // The text of a rule, part by part, before the rule is complete.
+ghost use Rattle.std.specs.Prelude.{◌≡◌};
+ghost use Rattle.rr_model.specs.Text.RuleValues.{unsigned, signed, seconds};
+
 use crate::{DayItems, Freq, Numbers, Stamp};
 
 /// The name of a part of a rule (RFC 5545, section 3.3.10).
@@ -45,6 +48,44 @@ pub struct NumberBounds {
     pub most: u16,
     /// Whether 60 is a leap second.
     pub has_leap: bool,
+}
+
+impl NumberBounds {
+    /// Numbers without a sign, from `least` up to `most`.
+    pub fn unsigned(least: u16, most: u16) -> Self
+        ensures { result ≡ unsigned least most }
+    {
+        NumberBounds {
+            signed: false,
+            least,
+            most,
+            has_leap: false,
+        }
+    }
+
+    /// Numbers with or without a sign, from 1 up to `most` whatever their sign.
+    pub fn signed(most: u16) -> Self
+        ensures { result ≡ signed most }
+    {
+        NumberBounds {
+            signed: true,
+            least: 1,
+            most,
+            has_leap: false,
+        }
+    }
+
+    /// Seconds of a minute, 0 to 59, where 60 has a refusal of its own.
+    pub fn seconds() -> Self
+        ensures { result ≡ seconds }
+    {
+        NumberBounds {
+            signed: false,
+            least: 0,
+            most: 59,
+            has_leap: true,
+        }
+    }
 }
 
 /// The parts of a rule as far as they are read. A part that is absent is `None`, or an empty list.

@@ -11,7 +11,7 @@ use Rattle.rr_model.specs.declared.kind.Kind.TheVariants.{Days, Moments}
 use Rattle.rr_model.specs.declared.stamp.Stamp.{Stamp}
 use Rattle.rr_model.proofs.CalendarLemmas.{IsInYear-day_number, first_day_of_year_mono, is_date_is}
 use Rattle.rr_model.proofs.MomentLemmas.{day_part-moment_at}
-use Rattle.rr_model.proofs.MomentTextLemmas.{is_digits_means, number_at_below}
+use Rattle.rr_text.proofs.MomentTextLemmas.{is_digits_means, number_at_below}
 use Rattle.rr_rrule.proofs.StepLemmas.{stated}
 
 day_in_years : (y : ℤ) (m k : ℕ) → pos 1 ≤ℤ y → y ≤ℤ pos 9_999 → IsDate y m k → IsInYears Days (day_number y m k)

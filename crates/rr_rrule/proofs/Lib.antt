@@ -6,3 +6,8 @@ mod InYearsLemmas
 mod BoundsLemmas
 mod ValidPartsLemmas
 mod ValidityLemmas
+mod BlankLemmas
+mod ReadingLemmas
+mod RulePartLemmas
+mod PartOrderLemmas
+mod ReadsExamples

@@ -1,241 +1,237 @@
 use super::*;
-use rr_model::{End, Fault, Freq, Kind, Refusal, Series};
+use crate::examples::EXAMPLES;
+use rr_model::{Fault, Rule};
 use std::alloc::Global;
 use std::process::Abort;
 use std::test::*;
 
-const DATE: &str = "20240101";
+// Each part with its least and its greatest value, and each combination of parts that is allowed beside one that is not.
+const TAKEN: &str = "\
+20240101|FREQ=DAILY;COUNT=1;INTERVAL=1|taken
+20240101|interval=0004294967295;Count=18446744073709551615;freq=daily;|taken
+20240101T093000|FREQ=SECONDLY;BYSECOND=0,59;BYMINUTE=0,59;BYHOUR=0,23;WKST=SU|taken
+20240101T093000|FREQ=MINUTELY;UNTIL=99991231T235959;WKST=MO|taken
+20240101T093000|FREQ=HOURLY;BYYEARDAY=-366,-1,1,366,+366;BYMONTHDAY=1|taken
+20240101|FREQ=MONTHLY;BYMONTHDAY=-31,-1,1,31;BYDAY=-53MO,-1TU,1WE,53TH,FR|taken
+20240101|FREQ=YEARLY;BYWEEKNO=-53,-1,1,53;BYMONTH=1,12;BYDAY=SA,su|taken
+20240101|FREQ=YEARLY;BYDAY=+1MO;BYSETPOS=-366,-1,1,366;BYYEARDAY=1|taken
+20240101|FREQ=WEEKLY;BYHOUR=0;BYSETPOS=1|taken
+20240101|FREQ=DAILY;UNTIL=00010101|taken
+ 20240101T093000z\t|\tFREQ=DAILY;UNTIL=20240102t093000Z |taken
+";
 
-const MOMENT: &str = "20240101T093000";
+// Faults of form.
+const FORMS: &str = "\
+20240101||BadRule 2
+20240101|;|BadRule 2
+20240101|FREQ=DAILY;;|BadRule 2
+20240101|;FREQ=DAILY|BadRule 2
+20240101|FREQ|BadRule 2
+20240101|FREQ =DAILY|BadRule 2
+20240101|FREQ= DAILY|BadRule 2
+20240101|X=1|BadRule 2
+20240101|FREQ=FORTNIGHTLY|BadRule 2
+20240101|WKST=1MO|BadRule 2
+20240101|COUNT=|BadRule 2
+20240101|COUNT=+1|BadRule 2
+20240101|INTERVAL=-1|BadRule 2
+20240101|BYHOUR=+1|BadRule 2
+20240101|BYMONTHDAY=|BadRule 2
+20240101|BYMONTHDAY=1,,2|BadRule 2
+20240101|BYMONTHDAY=1,|BadRule 2
+20240101|BYMONTHDAY=+-1|BadRule 2
+20240101|BYDAY=M|BadRule 2
+20240101|BYDAY=1|BadRule 2
+20240101|BYDAY=-MO|BadRule 2
+20240101|UNTIL=2024|BadMoment 2
+20240101|UNTIL=20240230|BadMoment 2
+20240101|BYSETPOS=1|BadRule 2
+20230229|FREQ=X|BadMoment 1
+";
 
-// What is read of a text of this start and this rule.
-fn read_lines(alloc: Global, start: &str, rule: &str) -> Result<Result<Series, Fault>, Fail> {
+// Numbers one above or below the greatest and the least.
+const RANGES: &str = "\
+20240101|COUNT=0|NumberRange 2
+20240101|COUNT=18446744073709551616|NumberRange 2
+20240101|INTERVAL=00|NumberRange 2
+20240101|INTERVAL=4294967296|NumberRange 2
+20240101|BYSECOND=61|NumberRange 2
+20240101|BYSECOND=60|LeapSecond
+20240101|BYMINUTE=60|NumberRange 2
+20240101|BYHOUR=24|NumberRange 2
+20240101|BYDAY=0MO|NumberRange 2
+20240101|BYDAY=54MO|NumberRange 2
+20240101|BYMONTHDAY=0|NumberRange 2
+20240101|BYMONTHDAY=-32|NumberRange 2
+20240101|BYYEARDAY=0|NumberRange 2
+20240101|BYYEARDAY=367|NumberRange 2
+20240101|BYWEEKNO=-54|NumberRange 2
+20240101|BYMONTH=0|NumberRange 2
+20240101|BYMONTH=13|NumberRange 2
+20240101|BYSETPOS=0|NumberRange 2
+20240101|BYSETPOS=18446744073709551617|NumberRange 2
+";
+
+// The first of two faults is the refusal.
+const FIRST_OF_TWO: &str = "\
+20240101|COUNT=0;COUNT=1|NumberRange 2
+20240101|COUNT=1;COUNT=0|PartTwice 2
+20240101|COUNT=1;COUNT=x|PartTwice 2
+20240101|SKIP=OMIT;FREQ=X|Extended
+20240101|FREQ=X;RSCALE=GREGORIAN|BadRule 2
+20240101|SKIP=A;SKIP=B|Extended
+20240101|BYSECOND=61,60|NumberRange 2
+20240101|BYSECOND=60,61|LeapSecond
+20240101|BYSECOND=60,x|BadRule 2
+20240101|UNTIL=2024;COUNT=0|BadMoment 2
+20240101|COUNT=1;UNTIL=20240101|BadRule 2
+20240101|COUNT=1;UNTIL=20240101;FREQ=DAILY;BYYEARDAY=1|UntilAndCount
+";
+
+// What is not allowed together, and what a start does not allow.
+const COMBINATIONS: &str = "\
+20240101|FREQ=DAILY;BYYEARDAY=1|NotAllowed
+20240101|FREQ=WEEKLY;BYYEARDAY=1|NotAllowed
+20240101|FREQ=MONTHLY;BYYEARDAY=1|NotAllowed
+20240101|FREQ=WEEKLY;BYMONTHDAY=1|NotAllowed
+20240101|FREQ=MONTHLY;BYWEEKNO=1|NotAllowed
+20240101|FREQ=WEEKLY;BYDAY=1MO|NotAllowed
+20240101|FREQ=YEARLY;BYDAY=1MO;BYWEEKNO=1|NotAllowed
+20240101|FREQ=DAILY;BYSETPOS=1|NotAllowed
+20240101|FREQ=HOURLY;UNTIL=20240101T000000Z|NotAllowed
+20240101|FREQ=SECONDLY|NotAllowed
+20240101T093000|FREQ=HOURLY;UNTIL=20240101T000000Z|UtcMoment
+";
+
+// What is read of a text of a start and a rule: that it is taken, or the refusal.
+fn outcome(alloc: Global, start: &str, rule: &str) -> Result<String, Fail> {
     let text = format!(in alloc; "DTSTART:{start}\nRRULE:{rule}\n")?;
-    if is_plain_text(text.as_bytes()) {
-        Ok(read(alloc, text.as_bytes(), None))
-    } else {
-        Err("the text is no plain text".into())
+    if !is_plain_text(text.as_bytes()) {
+        return Err("the text is no plain text".into());
     }
-}
-
-// Each part with its least and its greatest value, and each combination of parts that stands beside one not allowed.
-#[test]
-fn takes(rt: HostRuntime) -> Result<(), Fail> {
-    for (start, rule) in [
-        (DATE, "FREQ=DAILY;COUNT=1;INTERVAL=1"),
-        (
-            DATE,
-            "interval=0004294967295;Count=18446744073709551615;freq=daily;",
-        ),
-        (
-            MOMENT,
-            "FREQ=SECONDLY;BYSECOND=0,59;BYMINUTE=0,59;BYHOUR=0,23;WKST=SU",
-        ),
-        (MOMENT, "FREQ=MINUTELY;UNTIL=99991231T235959;WKST=MO"),
-        (
-            MOMENT,
-            "FREQ=HOURLY;BYYEARDAY=-366,-1,1,366,+366;BYMONTHDAY=1",
-        ),
-        (
-            DATE,
-            "FREQ=MONTHLY;BYMONTHDAY=-31,-1,1,31;BYDAY=-53MO,-1TU,1WE,53TH,FR",
-        ),
-        (
-            DATE,
-            "FREQ=YEARLY;BYWEEKNO=-53,-1,1,53;BYMONTH=1,12;BYDAY=SA,su",
-        ),
-        (
-            DATE,
-            "FREQ=YEARLY;BYDAY=+1MO;BYSETPOS=-366,-1,1,366;BYYEARDAY=1",
-        ),
-        (DATE, "FREQ=WEEKLY;BYHOUR=0;BYSETPOS=1"),
-        (DATE, "FREQ=DAILY;UNTIL=00010101"),
-        (
-            " 20240101T093000z\t",
-            "\tFREQ=DAILY;UNTIL=20240102t093000Z ",
-        ),
-    ] {
-        assert!(rt; read_lines(rt.alloc(), start, rule)?.is_ok(), "{rule}");
-    }
-    Ok(())
-}
-
-#[test]
-fn values(rt: HostRuntime) -> Result<(), Fail> {
-    let text = "COUNT=2;freq=monthly;BYMONTHDAY=15,-1,+015,1;INTERVAL=3;WKST=SU";
-    let series = read_lines(rt.alloc(), MOMENT, text)?
-        .ok()
-        .ok_or("the text is read")?;
-    assert_eq!(rt; series.kind, Kind::Moments);
-    assert_eq!(rt; series.start, 1_704_101_400);
-    for rule in series.rules.as_slice() {
-        assert_eq!(rt; rule.freq, Freq::Monthly);
-        assert_eq!(rt; rule.interval, 3);
-        assert_eq!(rt; rule.end, End::Count(2));
-        assert_eq!(rt; rule.week_start, 6);
-        assert_eq!(rt; rule.by_month_day.as_slice(), [-1, 1, 15].as_slice());
-    }
-    Ok(())
-}
-
-const BAD: Refusal = Refusal::BadRule(2);
-
-const RANGE: Refusal = Refusal::NumberRange(2);
-
-const TWICE: Refusal = Refusal::PartTwice(2);
-
-const MOMENT_BAD: Refusal = Refusal::BadMoment(2);
-
-// Each is the first fault of its rule, beside a start that is a date.
-const OF_PARTS: [(&str, Refusal); 55] = [
-    // forms
-    ("", BAD),
-    (";", BAD),
-    ("FREQ=DAILY;;", BAD),
-    (";FREQ=DAILY", BAD),
-    ("FREQ", BAD),
-    ("FREQ =DAILY", BAD),
-    ("FREQ= DAILY", BAD),
-    ("X=1", BAD),
-    ("FREQ=FORTNIGHTLY", BAD),
-    ("WKST=1MO", BAD),
-    ("COUNT=", BAD),
-    ("COUNT=+1", BAD),
-    ("INTERVAL=-1", BAD),
-    ("BYHOUR=+1", BAD),
-    ("BYMONTHDAY=", BAD),
-    ("BYMONTHDAY=1,,2", BAD),
-    ("BYMONTHDAY=1,", BAD),
-    ("BYMONTHDAY=+-1", BAD),
-    ("BYDAY=M", BAD),
-    ("BYDAY=1", BAD),
-    ("BYDAY=-MO", BAD),
-    ("UNTIL=2024", MOMENT_BAD),
-    ("UNTIL=20240230", MOMENT_BAD),
-    // ranges
-    ("COUNT=0", RANGE),
-    ("COUNT=18446744073709551616", RANGE),
-    ("INTERVAL=00", RANGE),
-    ("INTERVAL=4294967296", RANGE),
-    ("BYSECOND=61", RANGE),
-    ("BYSECOND=60", Refusal::LeapSecond),
-    ("BYMINUTE=60", RANGE),
-    ("BYHOUR=24", RANGE),
-    ("BYDAY=0MO", RANGE),
-    ("BYDAY=54MO", RANGE),
-    ("BYMONTHDAY=0", RANGE),
-    ("BYMONTHDAY=-32", RANGE),
-    ("BYYEARDAY=0", RANGE),
-    ("BYYEARDAY=367", RANGE),
-    ("BYWEEKNO=-54", RANGE),
-    ("BYMONTH=0", RANGE),
-    ("BYMONTH=13", RANGE),
-    ("BYSETPOS=0", RANGE),
-    ("BYSETPOS=18446744073709551617", RANGE),
-    // the first of two faults
-    ("COUNT=0;COUNT=1", RANGE),
-    ("COUNT=1;COUNT=0", TWICE),
-    ("COUNT=1;COUNT=x", TWICE),
-    ("SKIP=OMIT;FREQ=X", Refusal::Extended),
-    ("FREQ=X;RSCALE=GREGORIAN", BAD),
-    ("SKIP=A;SKIP=B", Refusal::Extended),
-    ("BYSECOND=61,60", RANGE),
-    ("BYSECOND=60,61", Refusal::LeapSecond),
-    ("BYSECOND=60,x", BAD),
-    ("UNTIL=2024;COUNT=0", MOMENT_BAD),
-    ("COUNT=1;UNTIL=20240101", BAD),
-    ("BYSETPOS=1", BAD),
-    (
-        "COUNT=1;UNTIL=20240101;FREQ=DAILY;BYYEARDAY=1",
-        Refusal::UntilAndCount,
-    ),
-];
-
-// The refusal of a text of this start and this rule, if there is one.
-fn refusal_of(alloc: Global, start: &str, rule: &str) -> Result<Option<Refusal>, Fail> {
-    match read_lines(alloc, start, rule)? {
-        Ok(_) => Ok(None),
-        Err(Fault::Refused(refusal)) => Ok(Some(refusal)),
+    match read(alloc, text.as_bytes(), None) {
+        Ok(_) => Ok(format!(in alloc; "taken")?),
+        Err(Fault::Refused(refusal)) => Ok(format!(in alloc; "{refusal}")?),
         Err(Fault::NoMemory) => Err("memory was wanting".into()),
     }
 }
 
-#[test]
-fn refuses_parts(rt: HostRuntime) -> Result<(), Fail> {
-    for (rule, refusal) in OF_PARTS {
-        assert_eq!(rt;
-            refusal_of(rt.alloc(), DATE, rule)?,
-            Some(refusal),
-            "{rule}"
-        );
-    }
+// A row `START|RULE|OUTCOME` holds.
+fn holds(rt: &impl Abort, alloc: Global, row: &str) -> Result<(), Fail> {
+    let (given, wanted) = row.rsplit_once('|').ok_or("a row has an outcome")?;
+    let (start, rule) = given.split_once('|').ok_or("a row has a rule")?;
+    assert_eq!(rt; outcome(alloc, start, rule)?.as_str(), wanted, "{row}");
     Ok(())
 }
 
-// One fault of each kind that a part can have.
-const FAULTS: [(&str, Refusal); 6] = [
-    ("COUNT=x", BAD),
-    ("SKIP=OMIT", Refusal::Extended),
-    ("WKST=MO;WKST=MO", TWICE),
-    ("UNTIL=2024", MOMENT_BAD),
-    ("BYHOUR=24", RANGE),
-    ("BYSECOND=60", Refusal::LeapSecond),
-];
-
-// A fault is the refusal where another kind of fault stands after it.
-fn comes_first(rt: &impl Abort, alloc: Global, fault: &str, refusal: Refusal) -> Result<(), Fail> {
-    for (other, _) in FAULTS {
-        if fault != other {
-            let rule = format!(in alloc; "BYYEARDAY=1;{fault};{other};BYSETPOS=1")?;
-            let refused = refusal_of(alloc, DATE, rule.as_str())?;
-            assert_eq!(rt; refused, Some(refusal), "{rule}");
+#[test]
+fn outcomes(rt: HostRuntime) -> Result<(), Fail> {
+    for table in [EXAMPLES, TAKEN, FORMS, RANGES, FIRST_OF_TWO, COMBINATIONS] {
+        for row in table.lines() {
+            holds(&rt, rt.alloc(), row)?;
         }
     }
     Ok(())
 }
 
+// One fault of each kind that a part can have, and its refusal.
+const FAULTS: &str = "\
+COUNT=x|BadRule 2
+SKIP=OMIT|Extended
+WKST=MO;WKST=MO|PartTwice 2
+UNTIL=2024|BadMoment 2
+BYHOUR=24|NumberRange 2
+BYSECOND=60|LeapSecond
+";
+
+// The first fault is the refusal, whichever is the second.
+fn comes_first(rt: &impl Abort, alloc: Global, first: &str, second: &str) -> Result<(), Fail> {
+    let (fault, refusal) = first.split_once('|').ok_or("a row has a refusal")?;
+    let (other, _) = second.split_once('|').ok_or("a row has a refusal")?;
+    let row = format!(in alloc; "20240101|BYYEARDAY=1;{fault};{other};BYSETPOS=1|{refusal}")?;
+    holds(rt, alloc, row.as_str())
+}
+
 #[test]
-fn refuses_the_first_fault(rt: HostRuntime) -> Result<(), Fail> {
-    for (fault, refusal) in FAULTS {
-        comes_first(&rt, rt.alloc(), fault, refusal)?;
+fn first_faults(rt: HostRuntime) -> Result<(), Fail> {
+    for first in FAULTS.lines() {
+        for second in FAULTS.lines() {
+            if first != second {
+                comes_first(&rt, rt.alloc(), first, second)?;
+            }
+        }
     }
     Ok(())
 }
 
-// What is not allowed together, and what a start does not allow.
+// Parts, and what is read of them, by name.
+const PARTS: &str = "\
+FREQ=YEARLY|FREQ=Yearly 
+FREQ=YEARLY|END=Never 
+FREQ=YEARLY;COUNT=2|END=Count(2) 
+FREQ=YEARLY;UNTIL=19700103|END=Until { kind: Days, at: 2 } 
+FREQ=YEARLY|INTERVAL=1 
+FREQ=YEARLY;INTERVAL=3|INTERVAL=3 
+FREQ=YEARLY|WKST=0 
+FREQ=YEARLY;WKST=SU|WKST=6 
+FREQ=YEARLY|BYSECOND=[] 
+FREQ=YEARLY;BYSECOND=59,0|BYSECOND=[0, 59] 
+FREQ=YEARLY;BYMINUTE=58,58|BYMINUTE=[58] 
+FREQ=YEARLY;BYHOUR=023|BYHOUR=[23] 
+FREQ=YEARLY;BYDAY=-1TU|BYDAY=[DayItem { place: -1, weekday: 1 }] 
+FREQ=YEARLY;BYMONTHDAY=15,-1,+015,1|BYMONTHDAY=[-1, 1, 15] 
+FREQ=YEARLY;BYYEARDAY=-366,366|BYYEARDAY=[-366, 366] 
+FREQ=YEARLY;BYWEEKNO=53,-53|BYWEEKNO=[-53, 53] 
+FREQ=YEARLY;BYMONTH=12,1|BYMONTH=[1, 12] 
+FREQ=YEARLY;BYMONTH=1;BYSETPOS=-1,2|BYSETPOS=[-1, 2] 
+";
+
+// The numbers of a rule, by the names of its parts.
+fn numbers_text(alloc: Global, rule: &Rule) -> Result<String, Fail> {
+    let seconds = rule.by_second.as_slice();
+    let minutes = rule.by_minute.as_slice();
+    let hours = rule.by_hour.as_slice();
+    let days = rule.by_month_day.as_slice();
+    let year_days = rule.by_year_day.as_slice();
+    let weeks = rule.by_week_no.as_slice();
+    let months = rule.by_month.as_slice();
+    let positions = rule.by_set_pos.as_slice();
+    Ok(format!(in alloc;
+        "BYSECOND={seconds:?} BYMINUTE={minutes:?} BYHOUR={hours:?} BYMONTHDAY={days:?} BYYEARDAY={year_days:?} BYWEEKNO={weeks:?} BYMONTH={months:?} BYSETPOS={positions:?} "
+    )?)
+}
+
+// A rule, by the names of its parts.
+fn rule_text(alloc: Global, rule: &Rule) -> Result<String, Fail> {
+    let numbers = numbers_text(alloc, rule)?;
+    let items = rule.by_day.as_slice();
+    Ok(format!(in alloc;
+        "FREQ={:?} END={:?} INTERVAL={} WKST={} BYDAY={items:?} {numbers}",
+        rule.freq, rule.end, rule.interval, rule.week_start
+    )?)
+}
+
+// The one rule of a text, by the names of its parts.
+fn read_rule(alloc: Global, rule: &str) -> Result<String, Fail> {
+    let text = format!(in alloc; "DTSTART:19700102\nRRULE:{rule}\n")?;
+    if !is_plain_text(text.as_bytes()) {
+        return Err("the text is no plain text".into());
+    }
+    let series = read(alloc, text.as_bytes(), None)
+        .ok()
+        .ok_or("the text is read")?;
+    match series.rules.as_slice() {
+        [rule] => rule_text(alloc, rule),
+        _ => Err("the series has one rule".into()),
+    }
+}
+
 #[test]
-fn refuses_combinations(rt: HostRuntime) -> Result<(), Fail> {
-    for (start, rule, refusal) in [
-        ("20230229", "FREQ=X", Refusal::BadMoment(1)),
-        (DATE, "FREQ=DAILY;BYYEARDAY=1", Refusal::NotAllowed),
-        (DATE, "FREQ=WEEKLY;BYYEARDAY=1", Refusal::NotAllowed),
-        (DATE, "FREQ=MONTHLY;BYYEARDAY=1", Refusal::NotAllowed),
-        (DATE, "FREQ=WEEKLY;BYMONTHDAY=1", Refusal::NotAllowed),
-        (DATE, "FREQ=MONTHLY;BYWEEKNO=1", Refusal::NotAllowed),
-        (DATE, "FREQ=WEEKLY;BYDAY=1MO", Refusal::NotAllowed),
-        (
-            DATE,
-            "FREQ=YEARLY;BYDAY=1MO;BYWEEKNO=1",
-            Refusal::NotAllowed,
-        ),
-        (DATE, "FREQ=DAILY;BYSETPOS=1", Refusal::NotAllowed),
-        (
-            DATE,
-            "FREQ=HOURLY;UNTIL=20240101T000000Z",
-            Refusal::NotAllowed,
-        ),
-        (DATE, "FREQ=SECONDLY", Refusal::NotAllowed),
-        (
-            MOMENT,
-            "FREQ=HOURLY;UNTIL=20240101T000000Z",
-            Refusal::UtcMoment,
-        ),
-    ] {
-        assert_eq!(rt;
-            refusal_of(rt.alloc(), start, rule)?,
-            Some(refusal),
-            "{rule}"
-        );
+fn parts(rt: HostRuntime) -> Result<(), Fail> {
+    for row in PARTS.lines() {
+        let (rule, part) = row.split_once('|').ok_or("a row has a part")?;
+        let text = read_rule(rt.alloc(), rule)?;
+        assert!(rt; text.contains(part), "{row}: {text}");
     }
     Ok(())
 }

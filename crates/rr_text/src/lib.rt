@@ -2,10 +2,12 @@
 #![tactic(auto)]
 
 mod digits;
+mod laws;
 mod moment;
 mod print;
 
 pub use digits::{Digits, number};
+pub use laws::printed_texts_differ;
 pub use moment::basic;
 pub use print::{push_extended, push_number};
 pub use rr_model::Stamp;

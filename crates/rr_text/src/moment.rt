@@ -17,7 +17,7 @@ fn all_digits(text: &[u8]) -> bool
     text.iter().all(|b| b.is_ascii_digit())
 }
 
-#[tactic(auto, using(rr_model::proofs::MomentTextLemmas::is_digits_means), unfolding(rr_model::specs::Text::Moments::is_digits))]
+#[tactic(auto, using(crate::proofs::MomentTextLemmas::is_digits_means), unfolding(rr_model::specs::Text::Moments::is_digits))]
 fn is_digits(text: &[u8], count: usize) -> bool
     ensures test { result ≡ is_digits count text.now }
     ensures digits { OnTrue result ((length text.now ≡ count) × AllPass is_digit text.now) }

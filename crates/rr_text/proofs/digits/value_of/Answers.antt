@@ -1,5 +1,5 @@
 use Rattle.std.proofs.Common.{◌+◌, arith}
-use Rattle.rr_model.proofs.DigitLemmas.{digits_value_next, digits_value-front}
+use Rattle.rr_text.proofs.DigitLemmas.{digits_value_next, digits_value-front}
 use Rattle.rr_text.proofs.digits.value_of.Goals as goal
 
 pub returns-in_err-checked_mul : goal.returns-in_err-checked_mul

@@ -11,7 +11,7 @@ use Rattle.rr_model.specs.Text.Digits.{is_digit}
 use Rattle.rr_model.specs.Moment.Years.{IsFromYearOne, HasFourDigitYear}
 use Rattle.rr_model.specs.Text.Moments.{is_digits, number_at, basic_date, basic_time, basic_moment, is_letter_t, utc_mark, moment_of}
 use Rattle.rr_model.specs.declared.stamp.Stamp.{Stamp}
-use Rattle.rr_model.proofs.DigitLemmas.{digits_value_below}
+use Rattle.rr_text.proofs.DigitLemmas.{digits_value_below}
 use Rattle.rr_model.proofs.CalendarLemmas.{IsInYear-day_number, IsInYear-year_of, first_day_of_year_mono}
 
 first_day_of_year_ends : (first_day_of_year (pos 1) ≡ neg_ℤ (pos 719_162)) × (first_day_of_year (pos 10_000) ≡ pos 2_932_897)

@@ -15,8 +15,8 @@ use Rattle.rr_model.specs.Text.RuleValues.{◌>>=◌, pieces}
 use Rattle.rr_model.specs.declared.refusal.Refusal.{Refusal}
 use Rattle.rr_model.specs.declared.rule.Series.{Series}
 use Rattle.rr_model.specs.declared.rule_parts.RuleParts.{RuleParts}
-use Rattle.rr_model.proofs.RulePartLemmas.{bind_ok, exchanged}
-use Rattle.rr_model.proofs.ReadingLemmas.{reads-text_of}
+use Rattle.rr_rrule.proofs.RulePartLemmas.{bind_ok, exchanged}
+use Rattle.rr_rrule.proofs.ReadingLemmas.{reads-text_of}
 
 -- ---- lists of parts
 

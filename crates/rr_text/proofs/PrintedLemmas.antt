@@ -13,7 +13,7 @@ use Rattle.rr_model.specs.Text.Moments.{padded, extended_date_text, extended_tim
 use Rattle.rr_model.specs.declared.kind.Kind.{Kind}
 use Rattle.rr_model.specs.declared.kind.Kind.TheVariants.{Days, Moments}
 use Rattle.rr_model.proofs.CalendarLemmas.{first_day_of_year_bounds, days_in_month_bounds, IsInYear-year_of, IsDate-year_of, day_number-year_of}
-use Rattle.rr_model.proofs.MomentTextLemmas.{year_of-low}
+use Rattle.rr_text.proofs.MomentTextLemmas.{year_of-low}
 use Rattle.rr_model.proofs.WholeLemmas.{floor_whole, floor_mod_below}
 
 -- two texts whose ends are equally long have equal fronts and equal ends

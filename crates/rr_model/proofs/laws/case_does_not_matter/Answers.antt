@@ -1,5 +1,0 @@
-use Rattle.rr_model.proofs.ReadingLemmas.{case_does_not_matter as law}
-use Rattle.rr_model.proofs.laws.case_does_not_matter.Goals as goal
-
-pub returns : goal.returns
-returns c = law

@@ -1,5 +1,0 @@
-use Rattle.rr_model.proofs.PartOrderLemmas.{order_does_not_matter as law}
-use Rattle.rr_model.proofs.laws.order_does_not_matter.Goals as goal
-
-pub returns : goal.returns
-returns c = law
