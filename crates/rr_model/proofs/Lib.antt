@@ -39,3 +39,5 @@ pub mod ReadingLemmas
 pub mod RulePartLemmas
 pub mod PartOrderLemmas
 pub mod TreeLemmas
+pub mod DayUnitLemmas
+pub mod DaysAndTimesLemmas

@@ -5,11 +5,10 @@ ghost use Rattle.rr_model.specs.Rule.Filled.{filled};
 ghost use Rattle.rr_model.specs.declared.kind.Kind.TheVariants.{Days};
 ghost use Rattle.rr_model.specs.Rule.Validity.{is_absent};
 
-use rr_cal::Day;
 use crate::filled::{wants_day, wants_month, wants_month_day};
 use crate::numbers::{allows_filled, allows_place, allows_place_filled, is_absent};
 use crate::places::lists_day;
-use rr_cal::week_of;
+use rr_cal::{Day, week_of};
 use rr_model::{Freq, Rule};
 
 /// Whether each date part of the rule, filled from the day of its start, holds of a day (RFC 5545, section 3.3.10).
