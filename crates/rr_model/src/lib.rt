@@ -19,8 +19,9 @@ mod verdict;
 pub use calendar_laws::{calendar_repeats, dates_and_days_are_inverse, last_week_is_greatest};
 pub use kind::Kind;
 pub use laws::{
-    candidates_are_days_and_times, case_does_not_matter, gcd_is_greatest, lcm_is_least, least_factor_is_one, least_period_is_one,
-    least_start_is_one, order_does_not_matter, settled_day_is_one,
+    candidates_are_days_and_times, case_does_not_matter, gcd_is_greatest, lcm_is_least,
+    least_factor_is_one, least_period_is_one, least_start_is_one, order_does_not_matter,
+    settled_day_is_one,
 };
 pub use limits::{MAX_CYCLE_DAYS, MAX_DAY, MAX_INPUT, MAX_SECONDS};
 pub use lists::{Dates, DayItems, DayShapes, Numbers, Rules, Seconds};

@@ -47,13 +47,6 @@ unit_start Yearly w kind u = moment_at kind (first_day_of_year u) 0
 abbrev pub UnitsAreStretches : Type 0
 UnitsAreStretches = (freq : Freq) (w : ℕ) (kind : Kind) (t u : ℤ) → (unit_number freq w kind t ≡ u) ↔ ((unit_start freq w kind u ≤ℤ t) × (t <ℤ unit_start freq w kind (u +ℤ pos 1)))
 
--- the unit is a day or longer
-abbrev pub is_whole_days : Freq → Bool
-is_whole_days Secondly = false
-is_whole_days Minutely = false
-is_whole_days Hourly = false
-is_whole_days freq = true
-
 -- how many seconds a unit shorter than a day has
 abbrev pub unit_seconds : Freq → ℕ
 unit_seconds Hourly = 3_600
