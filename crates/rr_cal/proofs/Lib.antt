@@ -1,1 +1,2 @@
 pub mod JiffLemmas
+mod UnitLemmas

@@ -7,8 +7,10 @@ use Rattle.rr_model.specs.Rising.Sets.{IsSetOf}
 use Rattle.rr_model.specs.declared.kind.Kind.TheVariants.{Days}
 use Rattle.rr_model.specs.declared.rule.Rule.{Rule}
 use Rattle.rr_model.proofs.RisingSetLemmas.{set_same}
-use Rattle.rr_expand.specs.Expansion.{is_of_days, IsAllowedDay, IsCandidateDay}
-use Rattle.rr_expand.proofs.UnitLemmas.{in_unit}
+use Rattle.rr_model.specs.Rule.DaysAndTimes.{IsCandidateDay}
+use Rattle.rr_model.specs.Moment.Units.{is_whole_days}
+use Rattle.rr_expand.specs.Expansion.{IsAllowedDay}
+use Rattle.rr_model.proofs.DayUnitLemmas.{in_unit}
 
 both_true : (a b : Bool) → a ≡ true → IsTrue b → IsTrue (a && b)
 both_true true b e h = h
@@ -26,7 +28,7 @@ module _ (rule : Rule) (start unit : ℤ) where
   at_unit : (d : ℤ) → unit_number rule.freq rule.week_start Days d ≡ unit → divides rule.interval (unit_number rule.freq rule.week_start Days d -ℤ unit_number rule.freq rule.week_start Days start) ≡ unit_fits
   at_unit d e = ap (λ u. divides rule.interval (u -ℤ unit_number rule.freq rule.week_start Days start)) e
 
-  pub candidate_days : (first : ℤ) (count : ℕ) (days : List ℤ) → is_of_days rule.freq ≡ true → first ≡ unit_start rule.freq rule.week_start Days unit
+  pub candidate_days : (first : ℤ) (count : ℕ) (days : List ℤ) → is_whole_days rule.freq ≡ true → first ≡ unit_start rule.freq rule.week_start Days unit
       → unit_start rule.freq rule.week_start Days (unit +ℤ pos 1) ≡ unit_start rule.freq rule.week_start Days unit +ℤ pos count
       → unit_fits ≡ true → IsSetOf int_lt days (IsAllowedDay rule start first count) → IsSetOf int_lt days (IsCandidateDay rule start unit)
   candidate_days first count days coarse begins ends fit set =

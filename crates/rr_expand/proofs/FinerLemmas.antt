@@ -16,18 +16,21 @@ use Rattle.rr_model.specs.declared.rule.Freq.{Freq}
 use Rattle.rr_model.specs.declared.rule.Freq.TheVariants.{Secondly, Minutely, Hourly, Daily, Weekly, Monthly, Yearly}
 use Rattle.rr_model.specs.declared.rule.Rule.{Rule}
 use Rattle.rr_model.proofs.WholeLemmas.{floor_only}
+use Rattle.rr_model.proofs.MomentLemmas.{day_part-moment_at}
 use Rattle.rr_model.proofs.RisingSetLemmas.{set_same, set_empty}
-use Rattle.rr_expand.specs.Expansion.{is_of_days, unit_seconds, time_holds, IsFittingSecond, IsCandidateSecond}
+use Rattle.rr_model.specs.Rule.DaysAndTimes.{time_holds}
+use Rattle.rr_model.specs.Moment.Units.{is_whole_days, unit_seconds}
+use Rattle.rr_expand.specs.Expansion.{IsFittingSecond, IsCandidateSecond}
 use Rattle.rr_expand.specs.Spread.{of_unit}
 use Rattle.rr_expand.proofs.SetLemmas.{Passed}
-use Rattle.rr_expand.proofs.TimeLemmas.{time_parts_hold-at, and_true, and_parts}
+use Rattle.rr_model.proofs.DaysAndTimesLemmas.{time_parts_hold-at, and_true, and_parts}
 use Rattle.rr_expand.proofs.FitLemmas.{fits_at, first_fits, none_before, next_fits, none_between}
 use Rattle.rr_expand.proofs.StepSets.{Before, At, before_first, one_more, all_before}
 use Rattle.rr_expand.proofs.UnitSets.{minute_allowed, second_allowed, unit_set}
 
 -- ---- the unit of a second of a day
 
-pub unit_at : (freq : Freq) (w : ℕ) (d : ℤ) (s : ℕ) → is_of_days freq ≡ false → unit_number freq w Moments (moment_at Moments d s) ≡ unit_number freq w Moments (moment_at Moments d 0) +ℤ pos (s / unit_seconds freq)
+pub unit_at : (freq : Freq) (w : ℕ) (d : ℤ) (s : ℕ) → is_whole_days freq ≡ false → unit_number freq w Moments (moment_at Moments d s) ≡ unit_number freq w Moments (moment_at Moments d 0) +ℤ pos (s / unit_seconds freq)
 unit_at Secondly w d s fine = omega (arith, ints)
 unit_at Minutely w d s fine =
     let a = (floor_only ((d *ℤ pos 86_400) +ℤ pos s) ((d *ℤ pos 1_440) +ℤ pos (s / 60)) 60 (s % 60) (omega arith) (omega (arith, ints))).0 in
@@ -100,7 +103,7 @@ module _ (rule : Rule) (start day : ℤ) where
     set = before_first unit fits Stands out k e (λ j l. none_before rule.interval some day_unit start_unit j (rw first at l));
   }
 
-  pub found_more : (k : ℕ) (out new ms ss : List ℕ) → 1 ≤ rule.interval → is_of_days rule.freq ≡ false → k < 86_400 / unit_seconds rule.freq
+  pub found_more : (k : ℕ) (out new ms ss : List ℕ) → 1 ≤ rule.interval → is_whole_days rule.freq ≡ false → k < 86_400 / unit_seconds rule.freq
       → IsSetOf nat_lt ms (Passed (minute_allowed rule.freq rule (hour_of Moments start) (minute_of Moments start) (second_of Moments start)) 60)
       → IsSetOf nat_lt ss (Passed (second_allowed rule.freq rule (hour_of Moments start) (minute_of Moments start) (second_of Moments start)) 60)
       → new ≡ out ++ of_unit rule.freq rule k ms ss → IsFound k out → IsFound (k + rule.interval) new
@@ -117,10 +120,10 @@ module _ (rule : Rule) (start day : ℤ) where
         e;
   }
 
-  interval_at : (s : ℕ) → is_of_days rule.freq ≡ false → interval_holds rule Moments start (moment_at Moments day s) ≡ fits (unit s)
+  interval_at : (s : ℕ) → is_whole_days rule.freq ≡ false → interval_holds rule Moments start (moment_at Moments day s) ≡ fits (unit s)
   interval_at s fine = ap (λ u. divides rule.interval (u -ℤ unit_number rule.freq rule.week_start Moments start)) (unit_at rule.freq rule.week_start day s fine)
 
-  pub found_all : (k : ℕ) (out : List ℕ) → is_of_days rule.freq ≡ false → 86_400 / unit_seconds rule.freq ≤ k → IsFound k out → IsSetOf nat_lt out (IsFittingSecond rule start day)
+  pub found_all : (k : ℕ) (out : List ℕ) → is_whole_days rule.freq ≡ false → 86_400 / unit_seconds rule.freq ≤ k → IsFound k out → IsSetOf nat_lt out (IsFittingSecond rule start day)
   found_all k out fine done found =
       set_same nat_lt (λ s. IsTrue (fits (unit s)) × Stands s) (IsFittingSecond rule start day) out
       (all_before unit fits Stands out k (λ s h. omega (arith, within_day rule.freq s h.0, done)) found.set)
@@ -130,9 +133,6 @@ module _ (rule : Rule) (start day : ℤ) where
       ))
 
 -- ---- the date parts
-
-pub day_part-at : (d : ℤ) (s : ℕ) → s < 86_400 → day_part Moments (moment_at Moments d s) ≡ d
-day_part-at d s low = (floor_only (moment_at Moments d s) d 86_400 s low refl).0
 
 -- the date parts of the rule, filled from the start, hold of the day
 abbrev pub dates_hold : Rule → ℤ → ℤ → Bool
@@ -147,11 +147,11 @@ unfolding is_candidate
 candidate_seconds rule start day out dates set =
     set_same nat_lt (IsFittingSecond rule start day) (IsCandidateSecond rule start day) out set
     (λ s. (
-      (λ h. (h.1, and_true _ _ _ h.0 (rw (day_part-at day s h.1) dates) (time_parts_hold-at (filled rule Moments start) day s h.1 ∙ sym (time_parts_hold-at (filled rule Moments start) (pos 0) s h.1) ∙ h.2))),
+      (λ h. (h.1, and_true _ _ _ h.0 (rw (day_part-moment_at day s h.1) dates) (time_parts_hold-at (filled rule Moments start) day s h.1 ∙ sym (time_parts_hold-at (filled rule Moments start) (pos 0) s h.1) ∙ h.2))),
       (λ h. (let p = and_parts _ _ _ h.1 in (p.0, h.0, time_parts_hold-at (filled rule Moments start) (pos 0) s h.0 ∙ sym (time_parts_hold-at (filled rule Moments start) day s h.0) ∙ p.2))),
     ))
 
 pub no_candidate_seconds : (rule : Rule) (start day : ℤ) → dates_hold rule start day ≡ false → IsSetOf nat_lt [] (IsCandidateSecond rule start day)
 unfolding is_candidate
 no_candidate_seconds rule start day dates =
-    set_empty nat_lt (IsCandidateSecond rule start day) (λ s h. (let p = and_parts _ _ _ h.1 in false≢true (sym dates ∙ sym (ap (dates_hold rule start) (day_part-at day s h.0)) ∙ p.1)))
+    set_empty nat_lt (IsCandidateSecond rule start day) (λ s h. (let p = and_parts _ _ _ h.1 in false≢true (sym dates ∙ sym (ap (dates_hold rule start) (day_part-moment_at day s h.0)) ∙ p.1)))

@@ -9,4 +9,3 @@ pub mod FitLemmas
 pub mod StepSets
 pub mod UnitSets
 pub mod FinerLemmas
-pub mod LawLemmas

@@ -3,6 +3,7 @@ use Rattle.std.proofs.Common.{◌≡◌, ℕ, ◌+◌, ◌<◌, Bool, true, fals
 use Rattle.std.specs.Prelude.{◌⊎◌, IsTrue, nat_lt, Result, Ok, Err, IfOk}
 use Rattle.std.proofs.lemmas.Bool.{cases_lt, false≢true}
 use Rattle.std.proofs.lemmas.Bool.Decides.{nat_tests}
+use Rattle.std.proofs.lemmas.Result.{IfOk-weaker}
 use Rattle.std.proofs.lemmas.List.Elements.{Contains-get_or}
 use Rattle.rr_model.specs.Rising.Sets.{IsSetOf}
 use Rattle.rr_model.proofs.RisingSetLemmas.{set_same, set_push, set_empty}
@@ -42,11 +43,6 @@ module _ (test : ℕ → Bool) where
   pub passed_below : (xs ys : List ℕ) (n : ℕ) → ys ≡ xs → IsSetOf nat_lt xs (Passed n) → All (λ m. m < n) ys
   passed_below xs ys n e set = subst (All (λ m. m < n)) (sym e) (λ k d l. ((set.exact _).0 (Contains-get_or xs k d l)).0)
 
--- what follows from a fact about the value
-pub ok_so : {T E : Type 0} (P Q : T → Type 0) (r : Result T E) → ((t : T) → P t → Q t) → IfOk r P → IfOk r Q
-ok_so P Q (Ok t) so h = so t h
-ok_so P Q (Err e) so h = tt
-
 -- the value is the list of the set
 pub ok_set : {E : Type 0} (P : ℕ → Type 0) (xs : List ℕ) (r : Result (List ℕ) E) → IsSetOf nat_lt xs P → IfOk r (λ t. t ≡ xs) → IfOk r (λ t. IsSetOf nat_lt t P)
-ok_set P xs r set h = ok_so (λ t. t ≡ xs) (λ t. IsSetOf nat_lt t P) r (λ t e. rw e set) h
+ok_set P xs r set h = IfOk-weaker r (λ t. t ≡ xs) (λ t. IsSetOf nat_lt t P) (λ t e. rw e set) h

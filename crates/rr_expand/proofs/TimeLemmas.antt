@@ -11,41 +11,13 @@ use Rattle.rr_model.specs.declared.rule.Freq.{Freq}
 use Rattle.rr_model.specs.declared.rule.Freq.TheVariants.{Secondly, Minutely, Hourly, Daily, Weekly, Monthly, Yearly}
 use Rattle.rr_model.specs.declared.rule.Rule.{Rule}
 use Rattle.rr_model.proofs.WholeLemmas.{floor_only}
+use Rattle.rr_model.proofs.DaysAndTimesLemmas.{time_parts_hold-at, fills_times, and_true, and_parts}
 use Rattle.rr_model.proofs.RisingSetLemmas.{set_same}
-use Rattle.rr_expand.specs.Expansion.{is_of_days, IsCandidateTime}
+use Rattle.rr_model.specs.Rule.DaysAndTimes.{IsCandidateTime}
+use Rattle.rr_model.specs.Moment.Units.{is_whole_days}
 use Rattle.rr_expand.specs.Spread.{of_day}
 use Rattle.rr_expand.proofs.SetLemmas.{Passed}
 use Rattle.rr_expand.proofs.SpreadSets.{InDay, of_day-set}
-
--- the second of a moment of a day
-pub second_part-at : (d : ℤ) (s : ℕ) → s < 86_400 → second_part Moments (moment_at Moments d s) ≡ s
-second_part-at d s low = (floor_only (moment_at Moments d s) d 86_400 s low refl).1
-
--- the parts of time, tested at the second of a day
-abbrev pub holds_at : Rule → ℕ → Bool
-holds_at rule s = allows rule.by_hour (pos (s / 3_600)) && allows rule.by_minute (pos (s / 60 % 60)) && allows rule.by_second (pos (s % 60))
-
-pub time_parts_hold-at : (rule : Rule) (d : ℤ) (s : ℕ) → s < 86_400 → time_parts_hold rule Moments (moment_at Moments d s) ≡ holds_at rule s
-time_parts_hold-at rule d s low = ap (holds_at rule) (second_part-at d s low)
-
--- a rule of days fills each time part
-pub fills_times : (freq : Freq) → is_of_days freq ≡ true → (wants_hour freq ≡ true) × (wants_minute freq ≡ true) × (wants_second freq ≡ true)
-fills_times Secondly e = absurd (cc)
-fills_times Minutely e = absurd (cc)
-fills_times Hourly e = absurd (cc)
-fills_times Daily e = (refl, refl, refl)
-fills_times Weekly e = (refl, refl, refl)
-fills_times Monthly e = (refl, refl, refl)
-fills_times Yearly e = (refl, refl, refl)
-
-pub and_true : (a b c : Bool) → IsTrue a → IsTrue b → IsTrue c → IsTrue (a && b && c)
-and_true a b c ha hb hc = rw (ha, hb, hc) refl
-
-pub and_parts : (a b c : Bool) → IsTrue (a && b && c) → IsTrue a × IsTrue b × IsTrue c
-and_parts true true true e = (refl, refl, refl)
-and_parts true true false e = absurd (cc)
-and_parts true false c e = absurd (cc)
-and_parts false b c e = absurd (cc)
 
 -- the seconds of the hours, minutes and seconds that pass
 module _ (H M S : ℕ → Bool) (hs ms ss : List ℕ) (a : IsSetOf nat_lt hs (Passed H 24)) (b : IsSetOf nat_lt ms (Passed M 60)) (c : IsSetOf nat_lt ss (Passed S 60)) where
@@ -73,7 +45,7 @@ seconds_of_day xs P set = record {
 }
 
 -- for a rule of days these are its candidate times
-pub candidate_times : (rule : Rule) (start : ℤ) (hs ms ss : List ℕ) → is_of_days rule.freq ≡ true
+pub candidate_times : (rule : Rule) (start : ℤ) (hs ms ss : List ℕ) → is_whole_days rule.freq ≡ true
     → IsSetOf nat_lt hs (Passed (λ n. allows (filled_part true rule.by_hour (pos (hour_of Moments start))) (pos n)) 24)
     → IsSetOf nat_lt ms (Passed (λ n. allows (filled_part true rule.by_minute (pos (minute_of Moments start))) (pos n)) 60)
     → IsSetOf nat_lt ss (Passed (λ n. allows (filled_part true rule.by_second (pos (second_of Moments start))) (pos n)) 60)

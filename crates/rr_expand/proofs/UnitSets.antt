@@ -9,11 +9,11 @@ use Rattle.rr_model.specs.declared.rule.Freq.{Freq}
 use Rattle.rr_model.specs.declared.rule.Freq.TheVariants.{Secondly, Minutely, Hourly, Daily, Weekly, Monthly, Yearly}
 use Rattle.rr_model.specs.declared.rule.Rule.{Rule}
 use Rattle.rr_model.proofs.RisingSetLemmas.{set_same, set_empty}
-use Rattle.rr_expand.specs.Expansion.{is_of_days, unit_seconds}
+use Rattle.rr_model.specs.Moment.Units.{is_whole_days, unit_seconds}
 use Rattle.rr_expand.specs.Spread.{of_minute, of_hour, of_unit}
 use Rattle.rr_expand.proofs.SetLemmas.{Passed}
 use Rattle.rr_expand.proofs.SpreadSets.{InMinute, InHour, InHour-below, of_minute-set, of_hour-set, set_one}
-use Rattle.rr_expand.proofs.TimeLemmas.{and_true, and_parts}
+use Rattle.rr_model.proofs.DaysAndTimesLemmas.{and_true, and_parts}
 
 -- a second of a day of which the hour, the minute and the second pass
 abbrev pub PassesAt : (ℕ → Bool) → (ℕ → Bool) → (ℕ → Bool) → ℕ → Type 0
@@ -97,7 +97,7 @@ module _ (freq : Freq) (rule : Rule) (h m s : ℕ) where
   abbrev pub second_allowed : ℕ → Bool
   second_allowed n = allows (filled_part (wants_second freq) rule.by_second (pos s)) (pos n)
 
-pub unit_set : (freq : Freq) (rule : Rule) (h m s : ℕ) (ms ss : List ℕ) → is_of_days freq ≡ false
+pub unit_set : (freq : Freq) (rule : Rule) (h m s : ℕ) (ms ss : List ℕ) → is_whole_days freq ≡ false
     → IsSetOf nat_lt ms (Passed (minute_allowed freq rule h m s) 60) → IsSetOf nat_lt ss (Passed (second_allowed freq rule h m s) 60)
     → (k : ℕ) → k < 86_400 / unit_seconds freq
     → IsSetOf nat_lt (of_unit freq rule k ms ss) (λ t. (t / unit_seconds freq ≡ k) × PassesAt (hour_allowed freq rule h m s) (minute_allowed freq rule h m s) (second_allowed freq rule h m s) t)

@@ -2,7 +2,8 @@
 ghost use Rattle.std.specs.Prelude.{IfOk, IsTrue, nat_lt};
 ghost use Rattle.rr_model.specs.Rising.Sets.{IsSetOf};
 ghost use Rattle.rr_model.specs.declared.kind.Kind.TheVariants.{Moments};
-ghost use Rattle.rr_expand.specs.Expansion.{IsCandidateTime, is_of_days};
+ghost use Rattle.rr_model.specs.Rule.DaysAndTimes.{IsCandidateTime};
+ghost use Rattle.rr_model.specs.Moment.Units.{is_whole_days};
 
 use crate::spread::push_hours;
 use crate::time_parts::allowed;
@@ -17,7 +18,7 @@ use std::alloc::Global;
 /// The start is a day number in kind `Days`, and 86,400 times the day number plus the second of the day in kind `Moments`.
 /// Only its second of the day enters.
 pub fn times(alloc: Global, rule: &Rule, kind: Kind, start: i64) -> Result<TimeSet, NoMemory>
-    requires { IsTrue (is_of_days rule.now.freq) }
+    requires { IsTrue (is_whole_days rule.now.freq) }
     ensures { IfOk result (λ t. IsSetOf nat_lt t (IsCandidateTime rule.now kind start)) }
 {
     match kind {
@@ -28,7 +29,7 @@ pub fn times(alloc: Global, rule: &Rule, kind: Kind, start: i64) -> Result<TimeS
 
 // The same in kind `Moments`.
 fn times_of_day(alloc: Global, rule: &Rule, start: i64) -> Result<TimeSet, NoMemory>
-    requires { IsTrue (is_of_days rule.now.freq) }
+    requires { IsTrue (is_whole_days rule.now.freq) }
     ensures { IfOk result (λ t. IsSetOf nat_lt t (IsCandidateTime rule.now Moments start)) }
 {
     let own = time_of(start);

@@ -4,12 +4,13 @@ ghost use Rattle.rr_model.specs.Calendar.{IsDayWithin};
 ghost use Rattle.rr_model.specs.Moment.{day_part};
 ghost use Rattle.rr_model.specs.Rising.Sets.{IsSetOf};
 ghost use Rattle.rr_model.specs.declared.kind.Kind.TheVariants.{Moments};
-ghost use Rattle.rr_expand.specs.Expansion.{IsCandidateSecond, IsFittingSecond, is_of_days};
+ghost use Rattle.rr_model.specs.Moment.Units.{is_whole_days};
+ghost use Rattle.rr_expand.specs.Expansion.{IsCandidateSecond, IsFittingSecond};
 
 use crate::finer_units::{first_fit, first_unit, push_unit, unit_of, units_of_day};
 use crate::time_parts::allowed;
-use rr_model::{NoMemory, Rule};
 use rr_cal::Day;
+use rr_model::{NoMemory, Rule};
 use rr_setpos::{date_parts_hold, time_of, wants_minute, wants_second};
 use rr_times::TimeSet;
 use std::alloc::{AllocError, Global};
@@ -20,7 +21,7 @@ use std::alloc::{AllocError, Global};
 /// The start is 86,400 times the day number plus the second of the day. It visits the day's units that fit the interval,
 /// and no others. Days within `MAX_DAY` are near enough.
 pub fn seconds_on(alloc: Global, rule: &Rule, start: i64, day: i64) -> Result<TimeSet, NoMemory>
-    requires freq { is_of_days rule.now.freq ≡ false }
+    requires freq { is_whole_days rule.now.freq ≡ false }
     requires interval { 1 ≤ rule.now.interval }
     requires start { IsDayWithin 1000 (day_part Moments start) }
     requires near { IsDayWithin 1000 day }
@@ -36,7 +37,7 @@ pub fn seconds_on(alloc: Global, rule: &Rule, start: i64, day: i64) -> Result<Ti
 
 // The seconds of the day in units that fit the interval, at which the time parts hold.
 fn fitting_seconds(alloc: Global, rule: &Rule, start: i64, day: i64) -> Result<Vec<u32>, AllocError>
-    requires freq { is_of_days rule.now.freq ≡ false }
+    requires freq { is_whole_days rule.now.freq ≡ false }
     requires interval { 1 ≤ rule.now.interval }
     requires start { IsDayWithin 1000 (day_part Moments start) }
     requires near { IsDayWithin 1000 day }

@@ -5,7 +5,8 @@ ghost use Rattle.rr_model.specs.Moment.{day_part, moment_at};
 ghost use Rattle.rr_model.specs.Moment.Units.{unit_number};
 ghost use Rattle.rr_model.specs.Whole.{floor_mod};
 ghost use Rattle.rr_model.specs.declared.kind.Kind.TheVariants.{Moments};
-ghost use Rattle.rr_expand.specs.Expansion.{IsUnitNear, is_of_days, unit_seconds};
+ghost use Rattle.rr_model.specs.Moment.Units.{is_whole_days, unit_seconds};
+ghost use Rattle.rr_expand.specs.Expansion.{IsUnitNear};
 ghost use Rattle.rr_expand.specs.Spread.{of_hour_number, of_minute_number, of_second_number, of_unit};
 
 use crate::spread::{push_hour, push_minute};
@@ -26,7 +27,7 @@ pub(crate) fn units_of_day(freq: Freq) -> u64
 
 // The number of a moment's unit.
 pub(crate) fn unit_of(freq: Freq, at: i64) -> i64
-    requires freq { is_of_days freq ≡ false }
+    requires freq { is_whole_days freq ≡ false }
     requires near { IsDayWithin 1000 (day_part Moments at) }
     ensures value { (w : ℕ) → result ≡ unit_number freq w Moments at }
     ensures near { IsUnitNear result }
@@ -40,7 +41,7 @@ pub(crate) fn unit_of(freq: Freq, at: i64) -> i64
 
 // The number of a day's first unit.
 pub(crate) fn first_unit(freq: Freq, day: i64) -> i64
-    requires freq { is_of_days freq ≡ false }
+    requires freq { is_whole_days freq ≡ false }
     requires near { IsDayWithin 1000 day }
     ensures value { (w : ℕ) → result ≡ unit_number freq w Moments (moment_at Moments day 0) }
     ensures near { IsUnitNear result }

@@ -4,15 +4,12 @@
 mod day_times;
 mod finer;
 mod finer_units;
-mod laws;
 mod spread;
 #[cfg(test)]
 mod tests;
 mod time_parts;
 mod unit_days;
-mod units;
 
 pub use day_times::times;
 pub use finer::seconds_on;
-pub use laws::candidates_are_days_and_times;
 pub use unit_days::days;

@@ -3,16 +3,16 @@ ghost use Rattle.rr_model.specs.Calendar.{IsDayWithin};
 ghost use Rattle.rr_model.specs.Moment.{day_part};
 ghost use Rattle.rr_model.specs.Moment.Units.{unit_start};
 ghost use Rattle.rr_model.specs.declared.kind.Kind.TheVariants.{Days, Moments};
-ghost use Rattle.rr_expand.specs.Expansion.{is_of_days};
+ghost use Rattle.rr_model.specs.Moment.Units.{is_whole_days};
 
-use crate::{candidates_are_days_and_times, days, seconds_on, times};
+use crate::{days, seconds_on, times};
 use rr_model::{DayItem, DayItems, End, Freq, Kind, NoMemory, Numbers, Rule};
 use std::alloc::Global;
 use std::test::Fail;
 
 // Whether the frequency has units of whole days.
 fn has_days(freq: Freq) -> bool
-    ensures { result ≡ is_of_days freq }
+    ensures { result ≡ is_whole_days freq }
 {
     match freq {
         Freq::Secondly | Freq::Minutely | Freq::Hourly => false,
@@ -29,7 +29,7 @@ fn is_day(day: i64) -> bool
 
 // Whether the unit and the next one begin on days that the calls take.
 fn is_near(freq: Freq, unit: i64) -> bool
-    requires { IsTrue (is_of_days freq) }
+    requires { IsTrue (is_whole_days freq) }
     ensures first { IsTrue result → (w : ℕ) → w ≤ 255 → IsDayWithin 1000 (unit_start freq w Days unit) }
     ensures next { IsTrue result → (w : ℕ) → w ≤ 255 → IsDayWithin 1000 (unit_start freq w Days (unit +ℤ pos 1)) }
 {
@@ -247,7 +247,6 @@ fn days_of_units(rt: HostRuntime) -> Result<(), Fail> {
             expected
         );
     }
-    candidates_are_days_and_times();
     Ok(())
 }
 

@@ -4,12 +4,13 @@ ghost use Rattle.rr_model.specs.Calendar.{IsDayWithin};
 ghost use Rattle.rr_model.specs.Rising.Sets.{IsSetOf};
 ghost use Rattle.rr_model.specs.Moment.Units.{unit_start};
 ghost use Rattle.rr_model.specs.declared.kind.Kind.TheVariants.{Days};
-ghost use Rattle.rr_expand.specs.Expansion.{IsAllowedDay, IsCandidateDay, is_of_days};
+ghost use Rattle.rr_model.specs.Rule.DaysAndTimes.{IsCandidateDay};
+ghost use Rattle.rr_model.specs.Moment.Units.{is_whole_days};
+ghost use Rattle.rr_expand.specs.Expansion.{IsAllowedDay};
 
-use crate::units::{day_count, first_day, fits};
+use rr_cal::{Day, days_in_unit, first_day_of_unit};
 use rr_model::{Dates, NoMemory, Rule};
-use rr_cal::Day;
-use rr_setpos::date_parts_hold;
+use rr_setpos::{date_parts_hold, fits};
 use std::alloc::Global;
 
 /// The days of a unit of a rule, DAILY or coarser, at which its date parts hold, filled from the start's day, and the
@@ -19,7 +20,7 @@ use std::alloc::Global;
 /// its days `d` where weeks begin on the weekday `w`, a month by 12 times its year plus the months before it there, a
 /// year by itself. A unit that holds a day within `MAX_DAY` is near enough.
 pub fn days(alloc: Global, rule: &Rule, start_day: i64, unit: i64) -> Result<Dates, NoMemory>
-    requires freq { IsTrue (is_of_days rule.now.freq) }
+    requires freq { IsTrue (is_whole_days rule.now.freq) }
     requires interval { 1 ≤ rule.now.interval }
     requires start { IsDayWithin 1000 start_day }
     requires first { IsDayWithin 1000 (unit_start rule.now.freq rule.now.week_start Days unit) }
@@ -30,8 +31,8 @@ pub fn days(alloc: Global, rule: &Rule, start_day: i64, unit: i64) -> Result<Dat
     if !fits(rule, &start, unit) {
         return Ok(Dates::new(alloc));
     }
-    let first = first_day(rule.freq, rule.week_start, unit);
-    days_from(alloc, rule, &start, first, day_count(rule.freq, unit))
+    let first = first_day_of_unit(rule.freq, rule.week_start, unit);
+    days_from(alloc, rule, &start, first, days_in_unit(rule.freq, unit))
 }
 
 // The days, of so many from the first on, at which the date parts hold.

@@ -1,5 +1,5 @@
 -- Division that rounds down: beside `div_euclid` and `rem_euclid`, and where whole multiples of the divisor are added.
-use Rattle.std.proofs.Common.{◌≡◌, ℕ, ◌+◌, ◌*◌, ◌<◌, ◌⊎◌, inl, inr, ℤ, pos, negsuc, refl, ◌+ℤ◌, ◌-ℤ◌, ◌*ℤ◌, ap, arith}
+use Rattle.std.proofs.Common.{◌≡◌, ℕ, ◌+◌, ◌*◌, ◌<◌, ◌≤◌, ◌⊎◌, inl, inr, ℤ, pos, negsuc, refl, ◌+ℤ◌, ◌-ℤ◌, ◌*ℤ◌, sym, ap, ◌∙◌, w64, of_z, arith}
 use Rattle.std.specs.Int.{int_div_euclid, int_rem_euclid}
 use Rattle.std.proofs.lemmas.Int.{ints}
 use Rattle.std.proofs.lemmas.Bool.{cases_lt}
@@ -16,6 +16,14 @@ floor_div-int (negsuc a) n = refl
 pub floor_mod-int : (z : ℤ) (n : ℕ) → pos (floor_mod z n) ≡ int_rem_euclid z (pos n)
 floor_mod-int (pos a) n = refl
 floor_mod-int (negsuc a) n = refl
+
+-- the quotient as the code has it
+pub quotient_is : (z r d : ℤ) (n : ℕ) → r ≡ int_div_euclid z (pos n) → z ≡ d → r ≡ floor_div d n
+quotient_is z r d n e same = e ∙ ap (λ y. int_div_euclid y (pos n)) same ∙ sym (floor_div-int d n)
+
+-- the remainder as the code has it
+pub rest_is : (z r : ℤ) (n : ℕ) → 1 ≤ n → n < 4_294_967_296 → r ≡ int_rem_euclid z (pos n) → of_z w64 r ≡ floor_mod z n
+rest_is z r n h few e = omega (arith, ints, e ∙ sym (floor_mod-int z n), floor_mod_below z n h)
 
 -- ---- more whole turns
 

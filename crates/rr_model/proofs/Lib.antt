@@ -38,3 +38,5 @@ mod ReadingExamples
 pub mod TurnLemmas
 mod VcalExamples
 mod WrittenExamples
+pub mod DayUnitLemmas
+pub mod DaysAndTimesLemmas

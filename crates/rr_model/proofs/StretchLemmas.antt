@@ -17,14 +17,14 @@ use Rattle.rr_model.proofs.CalendarLemmas.{first_day_of_year-next, IsInYear-year
 -- ---- months
 
 -- the month after p months of a year begins when these are over
-month_start : (n y : ℤ) (p : ℕ) → p < 12 → n ≡ (y *ℤ pos 12) +ℤ pos p → first_day_of_month n ≡ first_day_of_year y +ℤ pos (days_of_months y p)
+pub month_start : (n y : ℤ) (p : ℕ) → p < 12 → n ≡ (y *ℤ pos 12) +ℤ pos p → first_day_of_month n ≡ first_day_of_year y +ℤ pos (days_of_months y p)
 month_start n y p low e =
     let o = floor_only n y 12 p low e in
     let back : p + 1 - 1 ≡ p = omega arith in
     rw (o.0, o.1) (omega (arith, ints, day_number_is y (p + 1) 1 (omega arith), ap (days_of_months y) back))
 
 -- and ends when one more is over
-month_end : (n y : ℤ) (p : ℕ) → p < 12 → n ≡ (y *ℤ pos 12) +ℤ pos p → first_day_of_month (n +ℤ pos 1) ≡ first_day_of_year y +ℤ pos (days_of_months y (p + 1))
+pub month_end : (n y : ℤ) (p : ℕ) → p < 12 → n ≡ (y *ℤ pos 12) +ℤ pos p → first_day_of_month (n +ℤ pos 1) ≡ first_day_of_year y +ℤ pos (days_of_months y (p + 1))
 month_end n y p low e =
     elim (cases_lt (p + 1) 12) [
       | inl lt ↦ month_start (n +ℤ pos 1) y (p + 1) lt (omega (arith, ints))

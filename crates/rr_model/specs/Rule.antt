@@ -2,6 +2,7 @@
 pub mod Candidate
 pub mod Chosen
 pub mod Cycle
+pub mod DaysAndTimes
 pub mod Filled
 pub mod Plain
 pub mod Repetition

@@ -3,6 +3,7 @@ ghost use Rattle.rr_model.specs.Whole.Divisors.{GcdIsGreatest, LcmIsLeast};
 ghost use Rattle.rr_model.specs.Series.Settled.{SettledDayIsOne};
 ghost use Rattle.rr_model.specs.Sets.DividingOut.{LeastFactorIsOne};
 ghost use Rattle.rr_model.specs.Sets.Least.{LeastPeriodIsOne, LeastStartIsOne};
+ghost use Rattle.rr_model.specs.Rule.DaysAndTimes.{CandidatesAreDaysAndTimes};
 
 /// The greatest common divisor divides both numbers, and each number that does divides it.
 pub fn gcd_is_greatest()
@@ -32,4 +33,10 @@ pub fn least_period_is_one()
 /// A period has one least start at most.
 pub fn least_start_is_one()
     ensures { LeastStartIsOne }
+{}
+
+/// The candidates of a rule, DAILY or coarser, are the seconds of a day that its time parts allow on the days that its
+/// interval and its date parts allow, and none else (RFC 5545, section 3.3.10).
+pub fn candidates_are_days_and_times()
+    ensures { CandidatesAreDaysAndTimes }
 {}

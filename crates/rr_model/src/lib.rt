@@ -32,8 +32,8 @@ pub use item::Item;
 pub use kind::Kind;
 pub use lang::Lang;
 pub use laws::{
-    gcd_is_greatest, lcm_is_least, least_factor_is_one, least_period_is_one, least_start_is_one,
-    settled_day_is_one,
+    candidates_are_days_and_times, gcd_is_greatest, lcm_is_least, least_factor_is_one,
+    least_period_is_one, least_start_is_one, settled_day_is_one,
 };
 pub use limits::{MAX_CYCLE_DAYS, MAX_DAY, MAX_INPUT, MAX_SECONDS};
 pub use line::{Line, LineList};

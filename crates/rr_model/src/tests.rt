@@ -1,7 +1,7 @@
 use crate::{
     Bytes, Dates, DayItem, DayItems, DayShape, DayShapes, End, FamilyKind, Freq, Item, Items, Kind,
-    Line, LineList, LineName, Member, Numbers, Refusal, Rule, Rules, Seconds, Used, UsedLine, VRule,
-    VRules, day_part, moment_at, second_part,
+    Line, LineList, LineName, Member, Numbers, Refusal, Rule, Rules, Seconds, Used, UsedLine,
+    VRule, VRules, day_part, moment_at, second_part,
 };
 use std::test::Fail;
 

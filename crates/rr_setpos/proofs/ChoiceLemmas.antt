@@ -20,8 +20,3 @@ if_absent b front back positions e = rw e (and_true b)
 pub is_chosen-plain : (rule : Rule) (kind : Kind) (start t : ℤ) → rule.by_set_pos ≡ [] → is_chosen rule kind start t ≡ is_candidate rule kind start t
 unfolding is_chosen
 is_chosen-plain rule kind start t e = if_absent (is_candidate rule kind start t) _ _ rule.by_set_pos e
-
--- the date parts take from the start its day alone
-pub date_parts_hold-day : (rule : Rule) (kind : Kind) (start d : ℤ) → date_parts_hold (filled rule kind start) d ≡ date_parts_hold (filled rule Days (day_part kind start)) d
-date_parts_hold-day rule Days start d = refl
-date_parts_hold-day rule Moments start d = refl

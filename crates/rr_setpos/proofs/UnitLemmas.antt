@@ -1,4 +1,4 @@
--- Units by division that rounds down, and how far they go.
+-- Which numbers fit an interval.
 use Rattle.std.proofs.Common.{◌≡◌, ℕ, ◌≤◌, ◌<◌, ◌==◌, inl, inr, ℤ, pos, neg_ℤ, ◌+ℤ◌, ◌-ℤ◌, ◌*ℤ◌, ◌≤ℤ◌, sym, ap, ◌∙◌, refl, negsuc, w64, of_z, arith}
 use Rattle.std.specs.Int.{int_rem_euclid}
 use Rattle.std.proofs.lemmas.Int.{ints}
@@ -32,23 +32,3 @@ congruent a b n h =
       | inl same ↦ eq-eqb (floor_mod a n) (floor_mod b n) same ∙ sym (eq-eqb (floor_mod (b -ℤ a) n) 0 (turns_between a b n h same))
       | inr other ↦ ne_eqb (floor_mod a n) (floor_mod b n) other ∙ sym (ne_eqb (floor_mod (b -ℤ a) n) 0 (λ z. other (same_turn a b n h z)))
     ]
-
--- the year of a day within the calls' days
-pub year_bounds : (d : ℤ) → IsDayWithin 1000 d → (neg_ℤ (pos 9_000_000_000) ≤ℤ year_of d) × (year_of d ≤ℤ pos 9_000_000_000)
-year_bounds d near =
-    let y = year_of d in
-    let i = IsInYear-year_of d in
-    let this = first_day_of_year_bounds y in
-    let next = first_day_of_year_bounds (y +ℤ pos 1) in
-    (omega (arith, ints, i.not_over, near.0, next.1), omega (arith, ints, i.begun, near.1, this.0))
-
-pub year_near : (d y : ℤ) → y ≡ year_of d → IsDayWithin 1000 d → (neg_ℤ (pos 9_000_000_000) ≤ℤ y) × (y ≤ℤ pos 9_000_000_000)
-year_near d y e near = rw e (year_bounds d near)
-
-int_rem : (z : ℤ) (n : ℕ) → int_rem_euclid z (pos n) ≡ pos (floor_mod z n)
-int_rem (pos a) n = refl
-int_rem (negsuc a) n = refl
-
--- the remainder as the code has it
-pub rest_is : (z r : ℤ) (n : ℕ) → 1 ≤ n → n < 4_294_967_296 → r ≡ int_rem_euclid z (pos n) → of_z w64 r ≡ floor_mod z n
-rest_is z r n h few e = omega (arith, ints, e ∙ int_rem z n, floor_mod_below z n h)

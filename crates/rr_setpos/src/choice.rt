@@ -9,10 +9,10 @@ ghost use Rattle.rr_model.specs.Moment.Years.{IsInYears};
 ghost use Rattle.rr_model.specs.Rule.Validity.{IsValidRule};
 
 use crate::dates::date_parts_hold;
-use rr_cal::Day;
 use crate::moment::Moment;
 use crate::times::time_parts_hold;
 use crate::units::interval_holds;
+use rr_cal::Day;
 use rr_model::{Kind, Rule};
 
 /// Whether the rule with this start chooses a moment (RFC 5545, section 3.3.10), which may lie before the start.

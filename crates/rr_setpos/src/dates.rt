@@ -3,13 +3,11 @@ ghost use Rattle.std.specs.Prelude.{◌≡◌};
 ghost use Rattle.rr_model.specs.Rule.Candidate.{by_day_holds, by_month_day_holds, by_month_holds, by_week_no_holds, by_year_day_holds, counts_in_year, date_parts_hold};
 ghost use Rattle.rr_model.specs.Rule.Filled.{filled};
 ghost use Rattle.rr_model.specs.declared.kind.Kind.TheVariants.{Days};
-ghost use Rattle.rr_model.specs.Rule.Validity.{is_absent};
 
-use rr_cal::Day;
 use crate::filled::{wants_day, wants_month, wants_month_day};
-use crate::numbers::{allows_filled, allows_place, allows_place_filled, is_absent};
+use crate::numbers::{allows_filled, allows_place, allows_place_filled};
 use crate::places::lists_day;
-use rr_cal::week_of;
+use rr_cal::{Day, week_of};
 use rr_model::{Freq, Rule};
 
 /// Whether each date part of the rule, filled from the day of its start, holds of a day (RFC 5545, section 3.3.10).
@@ -34,7 +32,7 @@ fn by_month_holds(rule: &Rule, start: &Day, day: &Day) -> bool
 fn by_week_no_holds(rule: &Rule, day: &Day) -> bool
     ensures { result ≡ by_week_no_holds rule.now day.now.number }
 {
-    if is_absent(&rule.by_week_no) {
+    if rule.by_week_no.is_empty() {
         return true;
     }
     let week = week_of(day.number, rule.week_start);
@@ -69,19 +67,18 @@ fn by_month_day_holds(rule: &Rule, start: &Day, day: &Day) -> bool
 fn by_day_holds(rule: &Rule, start: &Day, day: &Day) -> bool
     ensures { result ≡ by_day_holds (filled rule.now Days start.now.number) day.now.number }
 {
-    let items = rule.by_day.as_slice();
-    if items.is_empty() {
+    if rule.by_day.is_empty() {
         return !wants_day(rule) || start.weekday == day.weekday;
     }
-    lists_day(items, counts_in_year(rule), day)
+    lists_day(rule.by_day.as_slice(), counts_in_year(rule), day)
 }
 
-// Whether places of BYDAY, where it stands, count in the year.
+// Whether places of BYDAY, where it is present, count in the year.
 fn counts_in_year(rule: &Rule) -> bool
     ensures { result ≡ counts_in_year rule.now.freq rule.now.by_month }
 {
     match rule.freq {
-        Freq::Yearly => is_absent(&rule.by_month),
+        Freq::Yearly => rule.by_month.is_empty(),
         _ => false,
     }
 }

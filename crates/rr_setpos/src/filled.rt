@@ -2,7 +2,6 @@
 ghost use Rattle.std.specs.Prelude.{◌≡◌};
 ghost use Rattle.rr_model.specs.Rule.Filled.{wants_day, wants_hour, wants_minute, wants_month, wants_month_day, wants_second};
 
-use crate::numbers::is_absent;
 use rr_model::{Freq, Rule};
 
 // A day or a longer unit holds many hours.
@@ -42,9 +41,9 @@ pub(crate) fn wants_day(rule: &Rule) -> bool
     match rule.freq {
         Freq::Weekly => true,
         Freq::Yearly => {
-            !is_absent(&rule.by_week_no)
-                && is_absent(&rule.by_year_day)
-                && is_absent(&rule.by_month_day)
+            !rule.by_week_no.is_empty()
+                && rule.by_year_day.is_empty()
+                && rule.by_month_day.is_empty()
         }
         _ => false,
     }
@@ -55,11 +54,9 @@ pub(crate) fn wants_month_day(rule: &Rule) -> bool
     ensures { result ≡ wants_month_day rule.now.freq rule.now }
 {
     match rule.freq {
-        Freq::Monthly => rule.by_day.as_slice().is_empty(),
+        Freq::Monthly => rule.by_day.is_empty(),
         Freq::Yearly => {
-            is_absent(&rule.by_week_no)
-                && is_absent(&rule.by_year_day)
-                && rule.by_day.as_slice().is_empty()
+            rule.by_week_no.is_empty() && rule.by_year_day.is_empty() && rule.by_day.is_empty()
         }
         _ => false,
     }
@@ -71,10 +68,10 @@ pub(crate) fn wants_month(rule: &Rule) -> bool
 {
     match rule.freq {
         Freq::Yearly => {
-            is_absent(&rule.by_week_no)
-                && is_absent(&rule.by_year_day)
-                && is_absent(&rule.by_month_day)
-                && rule.by_day.as_slice().is_empty()
+            rule.by_week_no.is_empty()
+                && rule.by_year_day.is_empty()
+                && rule.by_month_day.is_empty()
+                && rule.by_day.is_empty()
         }
         _ => false,
     }

@@ -18,4 +18,4 @@ pub use dates::date_parts_hold;
 pub use filled::{wants_minute, wants_second};
 pub use numbers::{allows, allows_filled};
 pub use times::{Time, time_of};
-pub use units::{is_congruent, month_number};
+pub use units::{fits, is_congruent};

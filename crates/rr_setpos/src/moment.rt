@@ -5,9 +5,7 @@ ghost use Rattle.rr_model.specs.Moment.{day_part};
 ghost use Rattle.rr_model.specs.declared.kind.Kind.{Kind};
 
 use rr_cal::Day;
-use rr_model::Kind;
-
-const SECONDS_OF_DAY: i64 = 86_400;
+use rr_model::{Kind, day_part};
 
 // A moment and its day.
 #[derive(Clone, Copy)]
@@ -30,15 +28,5 @@ impl Moment {
             at,
             day: Day::new(day_part(kind, at)),
         }
-    }
-}
-
-// The day of a moment.
-pub(crate) fn day_part(kind: Kind, at: i64) -> i64
-    ensures { result ≡ day_part kind at }
-{
-    match kind {
-        Kind::Days => at,
-        Kind::Moments => at.div_euclid(SECONDS_OF_DAY),
     }
 }

@@ -2,16 +2,8 @@
 ghost use Rattle.std.specs.Prelude.{◌≡◌, ◌≤◌, ◌-ℤ◌, pos};
 ghost use Rattle.rr_model.specs.Rule.Candidate.{allows, allows_place, lists};
 ghost use Rattle.rr_model.specs.Rule.Filled.{filled_part};
-ghost use Rattle.rr_model.specs.Rule.Validity.{is_absent};
 
 use rr_model::Numbers;
-
-// Whether the part does not stand.
-pub(crate) fn is_absent(numbers: &Numbers) -> bool
-    ensures { result ≡ is_absent numbers.now }
-{
-    numbers.as_slice().is_empty()
-}
 
 // Whether the list has the number.
 fn lists(numbers: &Numbers, n: i16) -> bool
@@ -20,20 +12,20 @@ fn lists(numbers: &Numbers, n: i16) -> bool
     numbers.as_slice().contains(&n)
 }
 
-/// Whether a BY part does not stand, or lists the number (RFC 5545, section 3.3.10).
+/// Whether a BY part is absent, or lists the number (RFC 5545, section 3.3.10).
 pub fn allows(numbers: &Numbers, n: i16) -> bool
     ensures { result ≡ allows numbers.now n }
 {
-    is_absent(numbers) || lists(numbers, n)
+    numbers.is_empty() || lists(numbers, n)
 }
 
-// Whether the part does not stand, or lists the k-th of so many, from the front or from the back.
+// Whether the part is absent, or lists the k-th of so many, from the front or from the back.
 pub(crate) fn allows_place(numbers: &Numbers, k: u16, many: u16) -> bool
     requires place { k ≤ 366 }
     requires most { many ≤ 366 }
     ensures { result ≡ allows_place numbers.now (pos k) (pos many) }
 {
-    is_absent(numbers) || lists(numbers, k as i16) || lists(numbers, place_from_back(k, many))
+    numbers.is_empty() || lists(numbers, k as i16) || lists(numbers, place_from_back(k, many))
 }
 
 // The place of the k-th of so many, from the back as a negative number.
@@ -49,7 +41,7 @@ fn place_from_back(k: u16, many: u16) -> i16
 pub fn allows_filled(numbers: &Numbers, is_wanted: bool, own: u8, n: u8) -> bool
     ensures { result ≡ allows (filled_part is_wanted numbers.now (pos own)) (pos n) }
 {
-    if is_wanted && is_absent(numbers) {
+    if is_wanted && numbers.is_empty() {
         own == n
     } else {
         allows(numbers, i16::from(n))
@@ -66,7 +58,7 @@ pub(crate) fn allows_place_filled(
 ) -> bool
     ensures { result ≡ allows_place (filled_part is_wanted numbers.now (pos own)) (pos k) (pos many) }
 {
-    if is_wanted && is_absent(numbers) {
+    if is_wanted && numbers.is_empty() {
         own == k || i16::from(own) == place_from_back(u16::from(k), u16::from(many))
     } else {
         allows_place(numbers, u16::from(k), u16::from(many))

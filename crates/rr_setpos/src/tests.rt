@@ -6,8 +6,8 @@ ghost use Rattle.rr_model.specs.declared.kind.Kind.TheVariants.{Moments};
 
 use crate::choice::is_candidate;
 use crate::chosen;
-use crate::moment::{Moment, day_part};
-use rr_model::{DayItem, DayItems, End, Freq, Kind, NoMemory, Numbers, Rule};
+use crate::moment::Moment;
+use rr_model::{DayItem, DayItems, End, Freq, Kind, NoMemory, Numbers, Rule, day_part};
 use std::alloc::Global;
 use std::test::Fail;
 

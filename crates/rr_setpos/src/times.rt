@@ -7,7 +7,7 @@ ghost use Rattle.rr_model.specs.declared.kind.Kind.TheVariants.{Moments};
 use crate::filled::{wants_hour, wants_minute, wants_second};
 use crate::moment::Moment;
 use crate::numbers::allows_filled;
-use rr_model::{Kind, Rule};
+use rr_model::{Kind, Rule, second_part};
 
 /// A time of day.
 #[derive(Clone, Copy)]
@@ -56,7 +56,7 @@ pub fn time_of(at: i64) -> Time
     ensures minute { result.minute ≡ minute_of Moments at }
     ensures second { result.second ≡ second_of Moments at }
 {
-    let second = at.rem_euclid(86_400) as u32;
+    let second = second_part(Kind::Moments, at);
     Time {
         hour: (second / 3_600) as u8,
         minute: (second / 60 % 60) as u8,

@@ -1,12 +1,12 @@
 // Units of a frequency and the interval between them (RFC 5545, section 3.3.10, FREQ, INTERVAL and WKST).
-ghost use Rattle.std.specs.Prelude.{◌≡◌, ◌≤◌, ◌-ℤ◌};
+ghost use Rattle.std.specs.Prelude.{◌≡◌, ◌≤◌, ◌-ℤ◌, IsTrue};
 ghost use Rattle.rr_model.specs.Rule.Candidate.{interval_holds};
-ghost use Rattle.rr_model.specs.Moment.Units.{month_number, unit_number};
+ghost use Rattle.rr_model.specs.Moment.Units.{is_whole_days, unit_number};
 ghost use Rattle.rr_model.specs.Whole.{divides};
+ghost use Rattle.rr_model.specs.declared.kind.Kind.TheVariants.{Days};
 
-use rr_cal::Day;
 use crate::moment::Moment;
-use rr_cal::week_index;
+use rr_cal::{Day, unit_of_day};
 use rr_model::{Freq, Rule};
 
 // Whether the moment's unit is a whole number of intervals from the start's.
@@ -28,18 +28,24 @@ fn unit_number(rule: &Rule, moment: &Moment) -> i64
         Freq::Secondly => moment.at,
         Freq::Minutely => moment.at.div_euclid(60),
         Freq::Hourly => moment.at.div_euclid(3_600),
-        Freq::Daily => moment.day.number,
-        Freq::Weekly => week_index(moment.day.number, rule.week_start),
-        Freq::Monthly => month_number(&moment.day),
-        Freq::Yearly => moment.day.year,
+        Freq::Daily | Freq::Weekly | Freq::Monthly | Freq::Yearly => {
+            unit_of_day(rule.freq, rule.week_start, &moment.day)
+        }
     }
 }
 
-/// The number of the month in which a day lies: 12 times its year, plus the months before it there.
-pub fn month_number(day: &Day) -> i64
-    ensures { result ≡ month_number day.now.number }
+/// Whether a unit of a rule, DAILY or coarser, is a whole number of intervals from that of the start's day
+/// (RFC 5545, section 3.3.10, INTERVAL).
+pub fn fits(rule: &Rule, start: &Day, unit: i64) -> bool
+    requires freq { IsTrue (is_whole_days rule.now.freq) }
+    requires interval { 1 ≤ rule.now.interval }
+    ensures { result ≡ divides rule.now.interval (unit -ℤ unit_number rule.now.freq rule.now.week_start Days start.now.number) }
 {
-    12 * day.year + i64::from(day.month) - 1
+    is_congruent(
+        unit_of_day(rule.freq, rule.week_start, start),
+        unit,
+        rule.interval,
+    )
 }
 
 /// Whether two numbers differ by a multiple of the interval.

@@ -2,7 +2,7 @@ use Rattle.std.proofs.Common.{◌∙◌, to_z-of_z}
 use Rattle.std.specs.Prelude.{nat_lt}
 use Rattle.rr_model.specs.Rising.Sets.{IsSetOf}
 use Rattle.rr_model.specs.declared.kind.Kind.TheVariants.{Moments}
-use Rattle.rr_expand.specs.Expansion.{IsCandidateTime}
+use Rattle.rr_model.specs.Rule.DaysAndTimes.{IsCandidateTime}
 use Rattle.rr_expand.proofs.SetLemmas.{passed_below, ok_set}
 use Rattle.rr_expand.proofs.TimeLemmas.{candidate_times, seconds_of_day}
 use Rattle.rr_expand.proofs.day_times.times_of_day.Goals as goal

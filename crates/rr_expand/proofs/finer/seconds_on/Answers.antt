@@ -4,7 +4,7 @@ use Rattle.rr_model.specs.Rising.Sets.{IsSetOf}
 use Rattle.rr_expand.specs.Expansion.{IsCandidateSecond}
 use Rattle.rr_expand.proofs.SetLemmas.{ok_set}
 use Rattle.rr_expand.proofs.TimeLemmas.{seconds_of_day}
-use Rattle.rr_expand.proofs.UnitLemmas.{quotient_is}
+use Rattle.rr_model.proofs.FloorLemmas.{quotient_is}
 use Rattle.rr_expand.proofs.FinerLemmas.{dates_are, candidate_seconds, no_candidate_seconds}
 use Rattle.rr_expand.proofs.finer.seconds_on.Goals as goal
 

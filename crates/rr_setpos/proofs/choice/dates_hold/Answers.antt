@@ -1,5 +1,5 @@
 use Rattle.std.proofs.Common.{◌∙◌, sym}
-use Rattle.rr_setpos.proofs.ChoiceLemmas.{date_parts_hold-day}
+use Rattle.rr_model.proofs.DaysAndTimesLemmas.{date_parts_hold-day}
 use Rattle.rr_setpos.proofs.choice.dates_hold.Goals as goal
 
 pub returns : goal.returns

@@ -2,8 +2,9 @@ use Rattle.std.proofs.Common.{rules, ◌≡◌, ◌∙◌, ap, refl, ◌+◌, w6
 use Rattle.rr_model.specs.Whole.{floor_div, floor_mod}
 use Rattle.rr_model.specs.Calendar.{days_in_month}
 use Rattle.rr_model.proofs.CalendarLemmas.{first_day_of_year-next}
-use Rattle.rr_expand.proofs.UnitLemmas.{week_next, month_next, quotient_is}
-use Rattle.rr_expand.proofs.units.day_count.Goals as goal
+use Rattle.rr_model.proofs.FloorLemmas.{quotient_is}
+use Rattle.rr_model.proofs.DayUnitLemmas.{week_next, month_next}
+use Rattle.rr_cal.proofs.units.days_in_unit.Goals as goal
 
 pub returns-in-Weekly-clause-next : goal.returns-in-Weekly-clause-next
 returns-in-Weekly-clause-next c = λ w. rw c.in-Weekly.is (week_next c.args.unit w)

@@ -1,33 +1,28 @@
-// Units of whole days and the interval between them (RFC 5545, section 3.3.10, FREQ, INTERVAL and WKST).
+// Units of whole days: days, weeks, months and years by their numbers (RFC 5545, section 3.3.10, FREQ and WKST).
 ghost use Rattle.std.specs.Prelude.{◌≡◌, ◌≤◌, ◌+◌, ◌-ℤ◌, ◌+ℤ◌, IsTrue, pos, ℕ};
 ghost use Rattle.rr_model.specs.Calendar.{IsDayWithin};
-ghost use Rattle.rr_model.specs.Moment.Units.{first_day_of_month, unit_number, unit_start};
 ghost use Rattle.rr_model.specs.Calendar.Week.{fourth_day};
-ghost use Rattle.rr_model.specs.Whole.{divides, floor_mod};
+ghost use Rattle.rr_model.specs.Moment.Units.{first_day_of_month, is_whole_days, month_number, unit_number, unit_start};
+ghost use Rattle.rr_model.specs.Whole.{floor_mod};
 ghost use Rattle.rr_model.specs.declared.kind.Kind.TheVariants.{Days};
-ghost use Rattle.rr_expand.specs.Expansion.{is_of_days};
 
-use rr_cal::{Date, day_of, days_in_month, week_index, days_in_year};
-use rr_model::{Freq, Rule};
-use rr_cal::Day;
-use rr_setpos::{is_congruent, month_number};
+use crate::date::{Date, day_of};
+use crate::day::Day;
+use crate::length::{days_in_month, days_in_year};
+use crate::week::week_index;
+use rr_model::Freq;
 
-// Whether the unit is a whole number of intervals from the start's.
-pub(crate) fn fits(rule: &Rule, start: &Day, unit: i64) -> bool
-    requires freq { IsTrue (is_of_days rule.now.freq) }
-    requires interval { 1 ≤ rule.now.interval }
-    ensures { result ≡ divides rule.now.interval (unit -ℤ unit_number rule.now.freq rule.now.week_start Days start.now.number) }
+/// The number of the month in which a day lies: 12 times its year, plus the months before it there.
+pub fn month_number(day: &Day) -> i64
+    ensures { result ≡ month_number day.now.number }
 {
-    is_congruent(
-        unit_number(rule.freq, rule.week_start, start),
-        unit,
-        rule.interval,
-    )
+    12 * day.year + i64::from(day.month) - 1
 }
 
-// The number of the unit in which a day lies.
-fn unit_number(freq: Freq, week_start: u8, day: &Day) -> i64
-    requires { IsTrue (is_of_days freq) }
+/// The number of the unit of a frequency, DAILY or coarser, in which a day lies: the day's own number, or that of its
+/// week, its month or its year; weeks begin on the weekday `week_start`, from 0 for Monday.
+pub fn unit_of_day(freq: Freq, week_start: u8, day: &Day) -> i64
+    requires { IsTrue (is_whole_days freq) }
     ensures { result ≡ unit_number freq week_start Days day.now.number }
 {
     match freq {
@@ -38,9 +33,9 @@ fn unit_number(freq: Freq, week_start: u8, day: &Day) -> i64
     }
 }
 
-// The first day of a unit.
-pub(crate) fn first_day(freq: Freq, week_start: u8, unit: i64) -> i64
-    requires freq { IsTrue (is_of_days freq) }
+/// The first day of the unit of this number, in days since 1970-01-01.
+pub fn first_day_of_unit(freq: Freq, week_start: u8, unit: i64) -> i64
+    requires freq { IsTrue (is_whole_days freq) }
     requires near { IsDayWithin 1000 (unit_start freq week_start Days unit) }
     ensures { result ≡ unit_start freq week_start Days unit }
 {
@@ -83,9 +78,9 @@ fn month_of_year(month: i64) -> u8
     month.rem_euclid(12) as u8 + 1
 }
 
-// The days of a unit.
-pub(crate) fn day_count(freq: Freq, unit: i64) -> u16
-    requires { IsTrue (is_of_days freq) }
+/// How many days the unit of this number has: 1, 7, 28 to 31, or 365 or 366.
+pub fn days_in_unit(freq: Freq, unit: i64) -> u16
+    requires { IsTrue (is_whole_days freq) }
     ensures next { (w : ℕ) → unit_start freq w Days (unit +ℤ pos 1) ≡ unit_start freq w Days unit +ℤ pos result }
     ensures few { result ≤ 366 }
 {

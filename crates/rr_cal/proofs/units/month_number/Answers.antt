@@ -1,7 +1,7 @@
 use Rattle.std.proofs.Common.{arith}
 use Rattle.std.proofs.lemmas.Int.{ints}
-use Rattle.rr_setpos.proofs.UnitLemmas.{year_near}
-use Rattle.rr_setpos.proofs.units.month_number.Goals as goal
+use Rattle.rr_cal.proofs.UnitLemmas.{year_near}
+use Rattle.rr_cal.proofs.units.month_number.Goals as goal
 
 pub overflow_mul-result : goal.overflow_mul-result
 overflow_mul-result c =

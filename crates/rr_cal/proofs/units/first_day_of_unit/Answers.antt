@@ -1,7 +1,7 @@
 use Rattle.std.proofs.Common.{rules, ◌∙◌, w64, to_z-of_z, FitsSigned}
 use Rattle.rr_model.specs.Calendar.{IsDayWithin, first_day_of_year}
 use Rattle.rr_model.proofs.WeekLemmas.{day_number-january_1}
-use Rattle.rr_expand.proofs.units.first_day.Goals as goal
+use Rattle.rr_cal.proofs.units.first_day_of_unit.Goals as goal
 
 pub day_of-requires-clause-near : goal.day_of-requires-clause-near
 day_of-requires-clause-near c =

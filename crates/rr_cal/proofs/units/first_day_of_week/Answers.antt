@@ -1,7 +1,7 @@
 use Rattle.std.proofs.Common.{arith}
 use Rattle.std.proofs.lemmas.Int.{ints}
-use Rattle.rr_expand.proofs.UnitLemmas.{week_near, first_day_of_week_is}
-use Rattle.rr_expand.proofs.units.first_day_of_week.Goals as goal
+use Rattle.rr_cal.proofs.UnitLemmas.{week_near, first_day_of_week_is}
+use Rattle.rr_cal.proofs.units.first_day_of_week.Goals as goal
 
 pub overflow_mul-result : goal.overflow_mul-result
 overflow_mul-result c =
