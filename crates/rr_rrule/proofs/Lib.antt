@@ -6,7 +6,6 @@ mod InYearsLemmas
 mod BoundsLemmas
 mod ValidPartsLemmas
 mod ValidityLemmas
-mod BlankLemmas
 mod ReadingLemmas
 mod RulePartLemmas
 mod PartOrderLemmas
