@@ -243,14 +243,20 @@ const NOT_BUILT: [(&[&str], &[u8]); 17] = [
     (&["infer", "list:a"], b"refused A NotBuilt\n"),
     (&["translate", "rrule", "rrule:a"], b"refused A NotBuilt\n"),
     (&["translate", "vcal", "rrule:a"], b"refused A NotBuilt\n"),
-    (&["translate", "graph", "graph@-08:00:x"], b"refused A NotBuilt\n"),
+    (
+        &["translate", "graph", "graph@-08:00:x"],
+        b"refused A NotBuilt\n",
+    ),
     (&["list", "1", "rrule:a"], b"refused A NotBuilt\n"),
     (&["list", "100000", "vcal:-"], b"refused A NotBuilt\n"),
     (&["drill", "0", "1"], b"refused A NotBuilt\n"),
     (&["drill", "4294967295", "100"], b"refused A NotBuilt\n"),
     (&["equal", "vcal:a", "rrule:b"], b"refused A NotBuilt\n"),
     (&["equal", "rrule:a", "graph:b"], b"refused B NotBuilt\n"),
-    (&["equal", "rrule:a", "rrule@-00:00:b"], b"refused B NotBuilt\n"),
+    (
+        &["equal", "rrule:a", "rrule@-00:00:b"],
+        b"refused B NotBuilt\n",
+    ),
     (&["equal", "vcal:a", "list:b"], b"refused A NotBuilt\n"),
     (&["check", "rrule@+23:59:a:b@c"], b"refused A NotBuilt\n"),
     (&["check", "list:x"], b"refused A NotBuilt\n"),
@@ -330,7 +336,10 @@ fn names(rt: HostRuntime) -> Result<(), Fail> {
         let mut source = MemorySource::new(alloc);
         source.hold(name, DAILY).ok().ok_or("memory")?;
         let mut sink = SteadySink::new(alloc);
-        assert_eq!(rt; run(alloc, &["check", word], &mut source, &mut sink), Status::Yes);
+        assert_eq!(rt;
+            run(alloc, &["check", word], &mut source, &mut sink),
+            Status::Yes
+        );
         assert_eq!(rt; sink.bytes(), b"cycle 1\n".as_slice());
     }
     Ok(())

@@ -8,7 +8,8 @@ use crate::daily_text::are_digits;
 use rr_text::number;
 
 /// What is said of words that are no command.
-pub const USAGE: &[u8] = b"usage: rr equal A B | within A B | disjoint A B | canon A | translate LANG A | infer A | list N A | check A | drill SEED N\n";
+pub const USAGE: &[u8] =
+    b"usage: rr equal A B | within A B | disjoint A B | canon A | translate LANG A | infer A | list N A | check A | drill SEED N\n";
 
 // Decimal digits without a leading zero, but for the number 0.
 fn is_decimal(text: &[u8]) -> bool
