@@ -1,14 +1,17 @@
 -- A command over the bytes of its operands has one answer.
-use Rattle.std.proofs.Common.{◌≡◌, ℕ, ℤ, List, [], ◌∷◌, ◌++◌, length, take, drop, Some, None, Result, Ok, Err, inl, inr, refl, sym, ap, ◌∙◌}
+use Rattle.std.proofs.Common.{◌≡◌, ℕ, ℤ, List, [], ◌∷◌, ◌++◌, length, take, drop, Option, Some, None, Result, Ok, Err, inl, inr, refl, sym, ap, ◌∙◌}
 use Rattle.std.specs.Prelude.{codes}
 use Rattle.std.proofs.Math.Seq.{take-append_seam, drop-append_seam}
 use Rattle.std.proofs.lemmas.List.{append_cancel_left, append_cancel_right}
-use Rattle.rr_cli.specs.Answer.{Answer, IsEqualSaid, IsEqualAnswer, AnswerIsOne, said}
-use Rattle.rr_cli.specs.Command.{equal, check}
-use Rattle.rr_model.specs.Daily.{DailySeries, IsDailyOccurrence}
+use Rattle.rr_cli.specs.Answer.{Answer, IsAnswerOf, IsSaid, IsEqualSaid, IsEqualAnswer, AnswerIsOne, said}
+use Rattle.rr_cli.specs.Command.{Command, not_built}
+use Rattle.rr_cli.specs.Daily.{DailySeries, IsDailyOccurrence}
 use Rattle.rr_cli.specs.DailyText.{IsDailyText, interval_part, interval_of, StatesDaily, StatesNoDate, IsDailyReading}
 use Rattle.rr_model.specs.Text.Moments.{basic_date}
+use Rattle.rr_cli.specs.declared.command.Task.{Task}
+use Rattle.rr_cli.specs.declared.command.Task.TheVariants as task
 use Rattle.rr_model.specs.declared.refusal.Refusal.{Refusal}
+use Rattle.rr_model.specs.declared.verdict.Side.{Side}
 use Rattle.rr_model.proofs.VerdictLemmas.{equal_verdict_is_one}
 
 -- what stands behind the digits of the start
@@ -72,7 +75,22 @@ equal_answer_is_one a b x y p q =
     let of_b = reading_is_one b q.of_b p.of_b q.is_b p.is_b in
     said_is_one p.of_a p.of_b x y p.is_said (rw (of_a, of_b) at q.is_said)
 
+-- a task over two texts has one answer
+said_of_task_is_one : (task : Task) (both : List ℕ × List ℕ) (x y : Answer) → IsSaid task both x → IsSaid task both y → x ≡ y
+said_of_task_is_one task.Equal both x y p q = equal_answer_is_one both.0 both.1 x y p q
+said_of_task_is_one task.Check both x y p q = p ∙ sym q
+said_of_task_is_one task.Within both x y p q = p ∙ sym q
+said_of_task_is_one task.Disjoint both x y p q = p ∙ sym q
+said_of_task_is_one task.Canon both x y p q = p ∙ sym q
+said_of_task_is_one (task.Translate target) both x y p q = p ∙ sym q
+said_of_task_is_one task.Infer both x y p q = p ∙ sym q
+said_of_task_is_one (task.List count) both x y p q = p ∙ sym q
+said_of_task_is_one (task.Drill seed count) both x y p q = p ∙ sym q
+
+answer_of_is_one : (task : Task) (side : Option Side) (both : List ℕ × List ℕ) (x y : Answer) → IsAnswerOf task side both x → IsAnswerOf task side both y → x ≡ y
+answer_of_is_one task (Some side) both x y p q = p ∙ sym q
+answer_of_is_one task None both x y p q = said_of_task_is_one task both x y p q
+
 pub answer_is_one : AnswerIsOne
 answer_is_one None both x y p q = p ∙ sym q
-answer_is_one (Some (equal n m)) both x y p q = equal_answer_is_one both.0 both.1 x y p q
-answer_is_one (Some (check a)) both x y p q = p ∙ sym q
+answer_is_one (Some command) both x y p q = answer_of_is_one command.task (not_built command) both x y p q

@@ -3,3 +3,7 @@ pub mod IntervalText
 pub mod Reading
 pub mod AnswerLemmas
 pub mod CheckLemmas
+pub mod DailyLemmas
+pub mod WordLemmas
+pub mod WorkLemmas
+pub mod RunLemmas

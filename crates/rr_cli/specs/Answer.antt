@@ -3,8 +3,8 @@
 use Rattle.std.specs.Prelude.{◌≡◌, ℕ, Bool, not, nat_le, if◌then◌else◌, List, [], ◌∷◌, ◌++◌, codes, Option, Some, None, Result, Ok, Err}
 use Rattle.std.specs.Fmt.{decimal}
 use Rattle.std.specs.List.{list_any}
-use Rattle.rr_cli.specs.Command.{Command, equal, check}
-use Rattle.rr_model.specs.Daily.{DailySeries, IsDailyOccurrence}
+use Rattle.rr_cli.specs.Command.{Command, not_built, usage_text}
+use Rattle.rr_cli.specs.Daily.{DailySeries, IsDailyOccurrence}
 use Rattle.rr_cli.specs.DailyText.{IsDailyReading}
 use Rattle.rr_model.specs.Text.Moments.{extended_text}
 use Rattle.rr_model.specs.Text.Rules.{is_plain_text, reads}
@@ -13,8 +13,10 @@ use Rattle.rr_model.specs.Rule.Validity.{is_absent}
 use Rattle.rr_model.specs.Series.Cycle.{series_cycle}
 use Rattle.rr_model.specs.Series.Soundness.{first_fault}
 use Rattle.rr_model.specs.Sets.Verdict.{IsEqualVerdict}
-use Rattle.rr_cli.specs.declared.conclusion.Conclusion.{Conclusion}
-use Rattle.rr_cli.specs.declared.conclusion.Conclusion.TheVariants as conclusion
+use Rattle.rr_cli.specs.declared.command.Task.{Task}
+use Rattle.rr_cli.specs.declared.command.Task.TheVariants as task
+use Rattle.rr_cli.specs.declared.program.Status.{Status}
+use Rattle.rr_cli.specs.declared.program.Status.TheVariants as status
 use Rattle.rr_model.specs.declared.limits.TheConstants.{MAX_CYCLE_DAYS}
 use Rattle.rr_model.specs.declared.refusal.Refusal.{Refusal}
 use Rattle.rr_model.specs.declared.refusal.Refusal.TheVariants.{CycleTooLong, NotBuilt}
@@ -27,18 +29,14 @@ use Rattle.rr_model.specs.declared.verdict.Verdict.TheVariants.{Yes, No}
 
 -- how the run ends, and the bytes that it puts
 pub record Answer : Type 0 where
-  pub conclusion : Conclusion
+  pub status : Status
   pub bytes : List ℕ
 
 abbrev pub line : List ℕ → List ℕ
 line text = text ++ 10 ∷ []
 
-abbrev pub usage_text : List ℕ
-usage_text =
-    codes "usage: rr equal A B | within A B | disjoint A B | canon A | translate LANG A | infer A | list N A | check A | drill SEED N"
-
 abbrev pub usage : Answer
-usage = record { conclusion = conclusion.Usage; bytes = line usage_text }
+usage = record { status = status.Usage; bytes = line usage_text }
 
 abbrev pub side_text : Side → List ℕ
 side_text A = codes "A"
@@ -47,12 +45,12 @@ side_text Both = codes "both"
 
 -- an operand is refused
 abbrev pub refused : Side → Refusal → Answer
-refused side refusal = record { conclusion = conclusion.Refused; bytes = line (codes "refused " ++ side_text side ++ codes " " ++ refusal_text refusal) }
+refused side refusal = record { status = status.Refused; bytes = line (codes "refused " ++ side_text side ++ codes " " ++ refusal_text refusal) }
 
 -- a verdict, a no with the first counterexample and its side
 abbrev pub said : Verdict → Answer
-said Yes = record { conclusion = conclusion.Yes; bytes = line (codes "yes") }
-said (No kind at side) = record { conclusion = conclusion.No; bytes = line (codes "no " ++ extended_text kind at ++ codes " " ++ side_text side) }
+said Yes = record { status = status.Yes; bytes = line (codes "yes") }
+said (No kind at side) = record { status = status.No; bytes = line (codes "no " ++ extended_text kind at ++ codes " " ++ side_text side) }
 
 -- the refusal of A, else that of B, else the verdict
 abbrev pub IsEqualSaid : Result DailySeries Refusal → Result DailySeries Refusal → Answer → Type 0
@@ -73,7 +71,7 @@ pub record IsEqualAnswer (bytes_a bytes_b : List ℕ) (answer : Answer) : Type 0
 -- the cycle in days, or that it is too long
 abbrev pub cycle_said : ℕ → Answer
 cycle_said days =
-    if nat_le days MAX_CYCLE_DAYS then record { conclusion = conclusion.Yes; bytes = line (codes "cycle " ++ decimal days) }
+    if nat_le days MAX_CYCLE_DAYS then record { status = status.Yes; bytes = line (codes "cycle " ++ decimal days) }
     else refused A CycleTooLong
 
 -- the first fault of the series, else its cycle
@@ -94,11 +92,21 @@ series_said (Ok series) = if has_set_positions series then refused A NotBuilt el
 unfoldable pub check_answer : List ℕ → Answer
 check_answer bytes = if is_plain_text bytes then series_said (reads bytes) else refused A NotBuilt
 
+-- what is said of the bytes of the operands, by what is asked
+abbrev pub IsSaid : Task → List ℕ × List ℕ → Answer → Type 0
+IsSaid task.Equal both answer = IsEqualAnswer both.0 both.1 answer
+IsSaid task.Check both answer = answer ≡ check_answer both.0
+IsSaid _ both answer = answer ≡ refused A NotBuilt
+
+-- the refusal of the side that is not built, else what is said
+abbrev pub IsAnswerOf : Task → Option Side → List ℕ × List ℕ → Answer → Type 0
+IsAnswerOf task (Some side) both answer = answer ≡ refused side NotBuilt
+IsAnswerOf task None both answer = IsSaid task both answer
+
 -- what a command answers over the bytes of its operands
 abbrev pub IsAnswer : Option Command → List ℕ × List ℕ → Answer → Type 0
 IsAnswer None both answer = answer ≡ usage
-IsAnswer (Some (equal a b)) both answer = IsEqualAnswer both.0 both.1 answer
-IsAnswer (Some (check a)) both answer = answer ≡ check_answer both.0
+IsAnswer (Some command) both answer = IsAnswerOf command.task (not_built command) both answer
 
 -- A command over its operands' bytes has one answer.
 abbrev pub AnswerIsOne : Type 0

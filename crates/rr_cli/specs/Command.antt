@@ -1,42 +1,212 @@
--- The words of the command line.
-use Rattle.std.specs.Prelude.{◌≡◌, ◌⊎◌, ℕ, ◌+◌, ◌==◌, ◌&&◌, nat_lt, List, [], ◌∷◌, length, take, Option, Some, None, option_map, option_and_then, if◌then◌else◌, bytes_eq, codes}
-use Rattle.std.specs.List.{before_first, after_first}
+-- The words of the command line: a command's name, its arguments, then its operands.
+use Rattle.std.specs.Prelude.{◌≡◌, ◌⊎◌, ℕ, ◌+◌, ◌*◌, ◌==◌, ◌&&◌, ◌||◌, Bool, true, false, not, nat_lt, nat_le, ℤ, pos, neg_ℤ, List, [], ◌∷◌, length, take, Option, Some, None, option_map, option_and_then, if◌then◌else◌, bytes_eq, codes}
+use Rattle.std.specs.List.{list_all, before_first, after_first, position_or_len}
+use Rattle.rr_model.specs.Text.Digits.{is_digit, digits_value}
 use Rattle.rr_model.specs.declared.limits.TheConstants.{MAX_INPUT}
+use Rattle.rr_model.specs.declared.verdict.Side.{Side}
+use Rattle.rr_model.specs.declared.verdict.Side.TheVariants.{A, B}
+use Rattle.rr_cli.specs.declared.command.TheConstants.{MAX_DRILL, MAX_LIST}
+use Rattle.rr_cli.specs.declared.command.Language.{Language}
+use Rattle.rr_cli.specs.declared.command.Language.TheVariants.{Rrule, Vcal, Graph, List as list}
+use Rattle.rr_cli.specs.declared.command.Task.{Task}
+use Rattle.rr_cli.specs.declared.command.Task.TheVariants as task
 
--- what the words ask, with the names of the operands
-pub data Command : Type 0 where
-  equal : List ℕ → List ℕ → Command
-  check : List ℕ → Command
+-- a series: its language, the stated offset from UTC in seconds, and the name of its text
+pub record Operand : Type 0 where
+  pub language : Language
+  pub offset : Option ℤ
+  pub name : List ℕ
 
--- the name of an operand in the language `rrule`: what stands behind the first colon, and is not empty
-abbrev pub operand_name : List ℕ → Option (List ℕ)
-operand_name word =
-    if bytes_eq (before_first (λ b. b == 58) word) (codes "rrule") && nat_lt 0 (length (after_first (λ b. b == 58) word))
-    then Some (after_first (λ b. b == 58) word)
+-- what is asked, and of which series
+pub record Command : Type 0 where
+  pub task : Task
+  pub a : Option Operand
+  pub b : Option Operand
+
+-- ---- numbers
+
+-- decimal digits without a leading zero, but for the number 0
+abbrev pub is_decimal : List ℕ → Bool
+is_decimal [] = false
+is_decimal (digit ∷ digits) = list_all is_digit (digit ∷ digits) && (not (digit == 48) || length digits == 0)
+
+-- a decimal number from the least to the most
+unfoldable pub number_of : ℕ → ℕ → List ℕ → Option ℕ
+number_of least most text =
+    if is_decimal text && (nat_le least (digits_value text) && nat_le (digits_value text) most) then Some (digits_value text) else None
+
+-- a number of two digits, below a limit
+abbrev pub two_digits : ℕ → List ℕ → Option ℕ
+two_digits limit text =
+    if length text == 2 && (list_all is_digit text && nat_lt (digits_value text) limit) then Some (digits_value text) else None
+
+-- ---- operands: `LANGUAGE:NAME` or `LANGUAGE@OFFSET:NAME`
+
+-- the language of this name
+abbrev pub language_of : List ℕ → Option Language
+language_of text =
+    if bytes_eq text (codes "rrule") then Some Rrule
+    else if bytes_eq text (codes "vcal") then Some Vcal
+    else if bytes_eq text (codes "graph") then Some Graph
+    else if bytes_eq text (codes "list") then Some list
     else None
 
--- two operands are not both the standard input
-abbrev pub command_of_two : List ℕ → List ℕ → Option Command
-command_of_two a b = if bytes_eq a (codes "-") && bytes_eq b (codes "-") then None else Some (equal a b)
+-- what stands before and after the first such byte, where there is one
+abbrev pub split_around : ℕ → List ℕ → Option (List ℕ × List ℕ)
+split_around byte text =
+    if nat_lt (position_or_len (λ b. b == byte) text) (length text)
+    then Some (before_first (λ b. b == byte) text, after_first (λ b. b == byte) text)
+    else None
+
+-- so many seconds, after a plus or a minus
+abbrev pub signed : ℕ → ℕ → Option ℤ
+signed sign seconds = if sign == 43 then Some (pos seconds) else if sign == 45 then Some (neg_ℤ (pos seconds)) else None
+
+-- an offset from UTC: a sign with hours below 24, and minutes below 60
+abbrev pub offset_of : List ℕ → List ℕ → Option ℤ
+offset_of [] minutes = None
+offset_of (sign ∷ hours) minutes =
+    option_and_then (λ h. option_and_then (λ m. signed sign (h * 3600 + m * 60)) (two_digits 60 minutes)) (two_digits 24 hours)
+
+-- a name that is not empty
+abbrev pub named : Language → Option ℤ → List ℕ → Option Operand
+named language offset name = if nat_lt 0 (length name) then Some (record { language = language; offset = offset; name = name }) else None
+
+-- an operand with an offset: its language, the sign and hours, and what stands after the colon
+abbrev pub with_offset : List ℕ → List ℕ → List ℕ → Option Operand
+with_offset text hours rest =
+    option_and_then (λ language. option_and_then (λ minutes. option_and_then (λ offset. named language (Some offset) minutes.1)
+    (offset_of hours minutes.0)) (split_around 58 rest)) (language_of text)
+
+-- what stands before the first colon, and what after it
+abbrev pub of_parts : List ℕ → List ℕ → Option (List ℕ × List ℕ) → Option Operand
+of_parts head rest None = option_and_then (λ language. named language None rest) (language_of head)
+of_parts head rest (Some (text, hours)) = with_offset text hours rest
+
+-- the operand that a word is, where it is one
+unfoldable pub operand_of : List ℕ → Option Operand
+operand_of word = option_and_then (λ parts. of_parts parts.0 parts.1 (split_around 64 parts.0)) (split_around 58 word)
+
+-- ---- commands
+
+-- the last word is the operand
+abbrev pub with_one : Task → List (List ℕ) → Option Command
+with_one task (a ∷ []) = option_map (λ a. record { task = task; a = Some a; b = None }) (operand_of a)
+with_one task words = None
+
+-- not both are the standard input
+abbrev pub apart : Task → Operand → Operand → Option Command
+apart task a b =
+    if bytes_eq a.name (codes "-") && bytes_eq b.name (codes "-") then None
+    else Some (record { task = task; a = Some a; b = Some b })
+
+-- the last two words are the operands
+abbrev pub with_two : Task → List (List ℕ) → Option Command
+with_two task (a ∷ b ∷ []) = option_and_then (λ a. option_and_then (λ b. apart task a b) (operand_of b)) (operand_of a)
+with_two task words = None
+
+-- the language of a translation
+abbrev pub target_of : List ℕ → Option Language
+target_of text =
+    if bytes_eq text (codes "rrule") then Some Rrule
+    else if bytes_eq text (codes "vcal") then Some Vcal
+    else if bytes_eq text (codes "graph") then Some Graph
+    else None
+
+-- the command `translate`, by the words after it
+abbrev pub translation : List (List ℕ) → Option Command
+translation (target ∷ words) = option_and_then (λ target. with_one (task.Translate target) words) (target_of target)
+translation [] = None
+
+-- the command `list`, by the words after it
+abbrev pub listing : List (List ℕ) → Option Command
+listing (count ∷ words) = option_and_then (λ count. with_one (task.List count) words) (number_of 1 MAX_LIST count)
+listing [] = None
+
+-- the command `drill`, by the words after it
+abbrev pub drilling : List (List ℕ) → Option Command
+drilling (seed ∷ count ∷ []) =
+    option_and_then (λ seed. option_map (λ count. record { task = task.Drill seed count; a = None; b = None })
+    (number_of 1 MAX_DRILL count)) (number_of 0 4294967295 seed)
+drilling words = None
+
+-- the command of this name, with the words after it
+abbrev pub named_command : List ℕ → List (List ℕ) → Option Command
+named_command name words =
+    if bytes_eq name (codes "equal") then with_two task.Equal words
+    else if bytes_eq name (codes "within") then with_two task.Within words
+    else if bytes_eq name (codes "disjoint") then with_two task.Disjoint words
+    else if bytes_eq name (codes "canon") then with_one task.Canon words
+    else if bytes_eq name (codes "translate") then translation words
+    else if bytes_eq name (codes "infer") then with_one task.Infer words
+    else if bytes_eq name (codes "list") then listing words
+    else if bytes_eq name (codes "check") then with_one task.Check words
+    else if bytes_eq name (codes "drill") then drilling words
+    else None
 
 -- the command that the words are, where they are one
-abbrev pub command_of : List (List ℕ) → Option Command
-command_of (word ∷ a ∷ b ∷ []) =
-    if bytes_eq word (codes "equal")
-    then option_and_then (λ x. option_and_then (λ y. command_of_two x y) (operand_name b)) (operand_name a)
-    else None
-command_of (word ∷ a ∷ []) = if bytes_eq word (codes "check") then option_map check (operand_name a) else None
-command_of _ = None
+unfoldable pub command_of : List (List ℕ) → Option Command
+command_of [] = None
+command_of (name ∷ words) = named_command name words
 
--- it is the name of an operand
+-- the line that is said of words that are no command
+abbrev pub usage_text : List ℕ
+usage_text =
+    codes "usage: rr equal A B | within A B | disjoint A B | canon A | translate LANG A | infer A | list N A | check A | drill SEED N"
+
+-- ---- what is built
+
+-- what can be asked so far
+abbrev pub is_task_built : Task → Bool
+is_task_built task.Equal = true
+is_task_built task.Check = true
+is_task_built _ = false
+
+-- rules of RFC 5545 without a stated offset
+abbrev pub is_form_built : Language → Option ℤ → Bool
+is_form_built Rrule None = true
+is_form_built _ _ = false
+
+-- an operand that is absent is built too
+abbrev pub is_operand_built : Option Operand → Bool
+is_operand_built None = true
+is_operand_built (Some operand) = is_form_built operand.language operand.offset
+
+-- the side that is not built yet; a command that is not is refused as A
+unfoldable pub not_built : Command → Option Side
+not_built command =
+    if not (is_task_built command.task && is_operand_built command.a) then Some A
+    else if not (is_operand_built command.b) then Some B
+    else None
+
+-- ---- what is fetched
+
+-- it is the name of this operand
+abbrev pub IsNameOf : Option Operand → List ℕ → Type 0
+IsNameOf None name = ⊥
+IsNameOf (Some operand) name = name ≡ operand.name
+
+-- the first MAX_INPUT + 1 bytes under the operand's name, none where it is absent; None where the source does not tell them
+abbrev pub content : (List ℕ → Option (List ℕ)) → Option Operand → Option (List ℕ)
+content held None = Some []
+content held (Some operand) = option_map (take (MAX_INPUT + 1)) (held operand.name)
+
+-- it is the name of an operand; those of a command that is not built are not fetched
+abbrev pub IsFetched : Command → Option Side → List ℕ → Type 0
+IsFetched command None name = IsNameOf command.a name ⊎ IsNameOf command.b name
+IsFetched command (Some side) name = ⊥
+
+-- it is the name of an operand that is fetched
 abbrev pub IsOperandOf : Option Command → List ℕ → Type 0
 IsOperandOf None name = ⊥
-IsOperandOf (Some (equal a b)) name = (name ≡ a) ⊎ (name ≡ b)
-IsOperandOf (Some (check a)) name = name ≡ a
+IsOperandOf (Some command) name = IsFetched command (not_built command) name
 
--- The first MAX_INPUT + 1 bytes under the operands' names, none where there is no such operand. None where the source does not tell them.
+-- the bytes of both operands
+abbrev pub both_contents : Command → Option Side → (List ℕ → Option (List ℕ)) → Option (List ℕ × List ℕ)
+both_contents command None held = option_and_then (λ a. option_map (λ b. (a, b)) (content held command.b)) (content held command.a)
+both_contents command (Some side) held = Some ([], [])
+
+-- the bytes of the operands that are fetched; None where the source does not tell them
 abbrev pub contents : Option Command → (List ℕ → Option (List ℕ)) → Option (List ℕ × List ℕ)
 contents None held = Some ([], [])
-contents (Some (equal a b)) held =
-    option_and_then (λ x. option_map (λ y. (take (MAX_INPUT + 1) x, take (MAX_INPUT + 1) y)) (held b)) (held a)
-contents (Some (check a)) held = option_map (λ x. (take (MAX_INPUT + 1) x, [])) (held a)
+contents (Some command) held = both_contents command (not_built command) held

@@ -1,7 +1,7 @@
 -- The text of an endless daily series of dates: a DTSTART line and an RRULE line (RFC 5545, sections 3.8.2.4 and 3.8.5.3).
 use Rattle.std.specs.Prelude.{◌≡◌, ◌⊎◌, ℕ, ◌≤◌, IsTrue, List, [], ◌∷◌, ◌++◌, length, codes, Some, None, Result, Ok, Err}
 use Rattle.std.specs.List.{list_all}
-use Rattle.rr_model.specs.Daily.{DailySeries}
+use Rattle.rr_cli.specs.Daily.{DailySeries}
 use Rattle.rr_model.specs.Text.Digits.{is_digit, digits_value}
 use Rattle.rr_model.specs.Text.Moments.{basic_date}
 use Rattle.rr_model.specs.declared.refusal.Refusal.{Refusal}

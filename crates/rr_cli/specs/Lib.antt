@@ -1,7 +1,9 @@
 pub mod Command
+pub mod Daily
 pub mod DailyText
 pub mod Answer
 pub mod Series
 pub mod Outcome
+pub mod Parsed
 pub mod Printable
 pub mod Run

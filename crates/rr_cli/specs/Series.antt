@@ -1,6 +1,6 @@
 -- What the series of the program mean.
 use Rattle.std.specs.Prelude.{Result, Ok, Err}
-use Rattle.rr_model.specs.Daily.{DailySeries}
+use Rattle.rr_cli.specs.Daily.{DailySeries}
 use Rattle.rr_model.specs.declared.refusal.Refusal.{Refusal}
 use Rattle.rr_cli.specs.declared.daily.Daily.{Daily}
 

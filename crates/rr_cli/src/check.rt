@@ -1,5 +1,5 @@
 // What `check` says of an operand.
-ghost use Rattle.std.specs.Prelude.{◌≡◌, ◌≢◌, IfOk, Ok, true, false};
+ghost use Rattle.std.specs.Prelude.{◌≡◌, IfOk, Ok, true, false};
 ghost use Rattle.rr_model.specs.Text.Rules.{is_plain_text, reads};
 ghost use Rattle.rr_model.specs.Series.Validity.{IsValidSeries};
 ghost use Rattle.rr_model.specs.Series.Cycle.{series_cycle};
@@ -25,8 +25,7 @@ fn has_set_positions(series: &Series) -> bool
 
 // The cycle of a sound series, or that it is too long.
 fn cycle_outcome(alloc: Global, checked: &Checked) -> Result<Outcome, NoMemory>
-    ensures answer { IfOk result (λ x. answer_of x ≡ cycle_said (series_cycle checked.now)) }
-    ensures not_usage { IfOk result (λ x. x.conclusion ≢ Conclusion.Usage) }
+    ensures { IfOk result (λ x. answer_of x ≡ cycle_said (series_cycle checked.now)) }
 {
     match admit(checked) {
         Err(refusal) => refused(alloc, Side::A, refusal),
@@ -40,8 +39,7 @@ fn cycle_outcome(alloc: Global, checked: &Checked) -> Result<Outcome, NoMemory>
 // The first fault of a series, else its cycle.
 fn series_outcome(alloc: Global, series: Series) -> Result<Outcome, NoMemory>
     requires { IsValidSeries series }
-    ensures answer { IfOk result (λ x. answer_of x ≡ series_said (Ok series)) }
-    ensures not_usage { IfOk result (λ x. x.conclusion ≢ Conclusion.Usage) }
+    ensures { IfOk result (λ x. answer_of x ≡ series_said (Ok series)) }
 {
     if has_set_positions(&series) {
         return refused(alloc, Side::A, Refusal::NotBuilt);
@@ -56,8 +54,7 @@ fn series_outcome(alloc: Global, series: Series) -> Result<Outcome, NoMemory>
 ///
 /// Texts of another form than two lines, and set positions, are refused as NotBuilt.
 pub fn check_outcome(alloc: Global, bytes: &[u8]) -> Result<Outcome, NoMemory>
-    ensures answer { IfOk result (λ x. answer_of x ≡ check_answer bytes.now) }
-    ensures not_usage { IfOk result (λ x. x.conclusion ≢ Conclusion.Usage) }
+    ensures { IfOk result (λ x. answer_of x ≡ check_answer bytes.now) }
 {
     if !is_plain_text(bytes) {
         return refused(alloc, Side::A, Refusal::NotBuilt);

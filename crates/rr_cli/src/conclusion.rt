@@ -9,6 +9,4 @@ pub enum Conclusion {
     No,
     /// An operand is refused.
     Refused,
-    /// The words are no command.
-    Usage,
 }

@@ -16,7 +16,7 @@ pub struct Daily {
 
 impl Daily {
     ghost use Rattle.std.specs.Prelude.{◌≡◌, ◌≤ℤ◌, pos, neg_ℤ};
-    ghost use Rattle.rr_model.specs.Daily.{has_day};
+    ghost use Rattle.rr_cli.specs.Daily.{has_day};
     ghost use Rattle.rr_cli.specs.Series.{series_of};
 
     /// Whether the series has the day as an occurrence.

@@ -16,7 +16,8 @@ fn behind<'a>(bytes: &'a [u8], prefix: &[u8]) -> Option<&'a [u8]>
     bytes.strip_prefix(prefix)
 }
 
-fn are_digits(bytes: &[u8]) -> bool
+/// Whether all bytes are decimal digits.
+pub fn are_digits(bytes: &[u8]) -> bool
     ensures { result ≡ list_all is_digit bytes.now }
 {
     bytes.iter().all(|b| *b >= 48 && *b <= 57)

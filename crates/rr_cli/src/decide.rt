@@ -1,6 +1,6 @@
 // Whether two daily series have the same occurrences.
 ghost use Rattle.std.specs.Prelude.{◌≡◌, ◌≤◌, ◌+◌, pos, neg_ℤ, ◌+ℤ◌, ◌≤ℤ◌, IfSome, IfNone};
-ghost use Rattle.rr_model.specs.Daily.{has_day, IsDailyOccurrence, IsFirstDifference, side_of};
+ghost use Rattle.rr_cli.specs.Daily.{has_day, IsDailyOccurrence, IsFirstDifference, side_of};
 ghost use Rattle.rr_model.specs.Whole.Periodic.{AgreeOn};
 ghost use Rattle.rr_model.specs.Sets.Verdict.{IsEqualVerdict};
 ghost use Rattle.rr_cli.specs.Printable.{IsPrintable};

@@ -2,20 +2,22 @@
 #![tactic(auto)]
 
 mod check;
+mod command;
 mod conclusion;
 mod daily;
 mod daily_text;
 mod decide;
 mod laws;
 mod outcome;
-mod run;
+mod program;
 #[cfg(test)]
 mod tests;
 mod words;
+mod work;
 
 pub use laws::answer_is_one;
+pub use program::{Status, run};
 use rr_io::{HostSink, HostSource};
-pub use run::{Status, run as run_words};
 use std::alloc::AllocError;
 use std::env;
 use std::process::ExitCode;
@@ -42,7 +44,7 @@ fn run_on_host(rt: &HostRuntime, words: &[String]) -> Result<Status, AllocError>
     }
     let mut source = HostSource::new(alloc, rt);
     let mut sink = HostSink::new(rt);
-    Ok(run_words(alloc, texts.as_slice(), &mut source, &mut sink))
+    Ok(run(alloc, texts.as_slice(), &mut source, &mut sink))
 }
 
 // Ends with status 7 where the words are no text, and with 6 where memory for them is wanting.

@@ -1,6 +1,6 @@
 // What a run says.
-ghost use Rattle.std.specs.Prelude.{◌≡◌, ◌≢◌, IfOk};
-ghost use Rattle.rr_cli.specs.Answer.{refused, said, side_text, usage, usage_text, IsEqualAnswer};
+ghost use Rattle.std.specs.Prelude.{◌≡◌, IfOk};
+ghost use Rattle.rr_cli.specs.Answer.{refused, said, side_text, IsEqualAnswer};
 ghost use Rattle.rr_cli.specs.Outcome.{answer_of};
 ghost use Rattle.rr_cli.specs.Printable.{IsPrintable, IsPrintableAt};
 ghost use Rattle.rr_model.specs.declared.verdict.Verdict.TheVariants as verdict;
@@ -33,8 +33,7 @@ fn side_text(side: Side) -> &'static str
 
 /// The refusal of an operand.
 pub fn refused(alloc: Global, side: Side, refusal: Refusal) -> Result<Outcome, NoMemory>
-    ensures answer { IfOk result (λ x. answer_of x ≡ refused side refusal) }
-    ensures not_usage { IfOk result (λ x. x.conclusion ≢ Conclusion.Usage) }
+    ensures { IfOk result (λ x. answer_of x ≡ refused side refusal) }
 {
     let side = side_text(side);
     let text = format!(in alloc; "refused {side} {refusal}\n")?;
@@ -60,8 +59,7 @@ fn no_text(alloc: Global, kind: Kind, at: i64, side: Side) -> Result<Vec<u8>, No
 // A verdict.
 fn said(alloc: Global, verdict: Verdict) -> Result<Outcome, NoMemory>
     requires { IsPrintable verdict }
-    ensures answer { IfOk result (λ x. answer_of x ≡ said verdict) }
-    ensures not_usage { IfOk result (λ x. x.conclusion ≢ Conclusion.Usage) }
+    ensures { IfOk result (λ x. answer_of x ≡ said verdict) }
 {
     match verdict {
         Verdict::Yes => Ok(Outcome {
@@ -75,22 +73,9 @@ fn said(alloc: Global, verdict: Verdict) -> Result<Outcome, NoMemory>
     }
 }
 
-/// The usage line.
-pub fn usage(alloc: Global) -> Result<Outcome, NoMemory>
-    ensures { IfOk result (λ x. answer_of x ≡ usage) }
-{
-    let text =
-        b"usage: rr equal A B | within A B | disjoint A B | canon A | translate LANG A | infer A | list N A | check A | drill SEED N\n";
-    Ok(Outcome {
-        conclusion: Conclusion::Usage,
-        text: Vec::from_slice(alloc, text)?,
-    })
-}
-
 /// What is said of two operands' bytes: the refusal of A, else that of B, else the verdict.
 pub fn equal_outcome(alloc: Global, a: &[u8], b: &[u8]) -> Result<Outcome, NoMemory>
-    ensures answer { IfOk result (λ x. IsEqualAnswer a.now b.now (answer_of x)) }
-    ensures not_usage { IfOk result (λ x. x.conclusion ≢ Conclusion.Usage) }
+    ensures { IfOk result (λ x. IsEqualAnswer a.now b.now (answer_of x)) }
 {
     match (read(a), read(b)) {
         (Err(refusal), _) => refused(alloc, Side::A, refusal),

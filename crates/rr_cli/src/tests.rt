@@ -1,5 +1,5 @@
 // Whole runs over sources and sinks in memory.
-use crate::run::{Status, run};
+use crate::{Status, run};
 use rr_io::{MemorySink, MemorySource, SteadySink, SteadySource};
 use std::test::Fail;
 
@@ -198,6 +198,80 @@ const CHECKS: [(&[u8], Status, &[u8]); 20] = [
     ),
 ];
 
+// Words that are no command.
+const NO_COMMANDS: [&[&str]; 33] = [
+    &[],
+    &["equal", "rrule:-", "rrule:-"],
+    &["equal", "list:-", "rrule@+01:00:-"],
+    &["list", "0", "rrule:x"],
+    &["Equal", "rrule:a", "rrule:b"],
+    &["equal", "rrule:", "rrule:b"],
+    &["equal", "RRULE:a", "rrule:b"],
+    &["equal", "rrule:a"],
+    &["check"],
+    &["canon", "rrule:a", "rrule:b"],
+    &["translate", "list", "rrule:a"],
+    &["translate", "rrule:a"],
+    &["list", "100001", "rrule:x"],
+    &["list", "01", "rrule:x"],
+    &["list", "", "rrule:x"],
+    &["list", "+1", "rrule:x"],
+    &["list", "18446744073709551617", "rrule:x"],
+    &["drill", "1"],
+    &["drill", "4294967296", "1"],
+    &["drill", "1", "0"],
+    &["drill", "1", "101"],
+    &["drill", "00", "1"],
+    &["drill", "1", "1", "rrule:a"],
+    &["check", "rrule@+24:00:a"],
+    &["check", "rrule@+01:60:a"],
+    &["check", "rrule@01:00:a"],
+    &["check", "rrule@+1:00:a"],
+    &["check", "rrule@+0100:a"],
+    &["check", "rrule@+01:00"],
+    &["check", "rrule@+01:00:"],
+    &["check", "rrule@:a"],
+    &["check", "rrule"],
+    &["check", "ical:a"],
+];
+
+// Commands that are not built, and what is said of them.
+const NOT_BUILT: [(&[&str], &[u8]); 17] = [
+    (&["within", "rrule:a", "rrule:b"], b"refused A NotBuilt\n"),
+    (&["disjoint", "rrule:a", "rrule:-"], b"refused A NotBuilt\n"),
+    (&["canon", "rrule:a"], b"refused A NotBuilt\n"),
+    (&["infer", "list:a"], b"refused A NotBuilt\n"),
+    (&["translate", "rrule", "rrule:a"], b"refused A NotBuilt\n"),
+    (&["translate", "vcal", "rrule:a"], b"refused A NotBuilt\n"),
+    (
+        &["translate", "graph", "graph@-08:00:x"],
+        b"refused A NotBuilt\n",
+    ),
+    (&["list", "1", "rrule:a"], b"refused A NotBuilt\n"),
+    (&["list", "100000", "vcal:-"], b"refused A NotBuilt\n"),
+    (&["drill", "0", "1"], b"refused A NotBuilt\n"),
+    (&["drill", "4294967295", "100"], b"refused A NotBuilt\n"),
+    (&["equal", "vcal:a", "rrule:b"], b"refused A NotBuilt\n"),
+    (&["equal", "rrule:a", "graph:b"], b"refused B NotBuilt\n"),
+    (
+        &["equal", "rrule:a", "rrule@-00:00:b"],
+        b"refused B NotBuilt\n",
+    ),
+    (&["equal", "vcal:a", "list:b"], b"refused A NotBuilt\n"),
+    (&["check", "rrule@+23:59:a:b@c"], b"refused A NotBuilt\n"),
+    (&["check", "list:x"], b"refused A NotBuilt\n"),
+];
+
+// The fetch that is to fail, the put that is to fail after two bytes, and how the run of `equal` ends. None has the number 0.
+const FAULTS: [(u64, u64, Status, &[u8]); 6] = [
+    (0, 0, Status::Yes, b"yes\n"),
+    (1, 0, Status::ReadFault, b""),
+    (2, 0, Status::ReadFault, b""),
+    (2, 1, Status::ReadFault, b""),
+    (0, 1, Status::WriteFault, b"ye"),
+    (3, 2, Status::Yes, b"yes\n"),
+];
+
 #[test]
 fn verdicts_and_refusals(rt: HostRuntime) -> Result<(), Fail> {
     let alloc = rt.alloc();
@@ -229,46 +303,74 @@ fn cycles_and_refusals(rt: HostRuntime) -> Result<(), Fail> {
 }
 
 #[test]
-fn words(rt: HostRuntime) {
+fn usage(rt: HostRuntime) -> Result<(), Fail> {
     let alloc = rt.alloc();
-    let usage =
+    let line =
         b"usage: rr equal A B | within A B | disjoint A B | canon A | translate LANG A | infer A | list N A | check A | drill SEED N\n".as_slice();
-    let wrong: [&[&str]; 6] = [
-        &["equal", "rrule:-", "rrule:-"],
-        &[],
-        &["Equal", "rrule:a", "rrule:b"],
-        &["equal", "rrule:", "rrule:b"],
-        &["equal", "RRULE:a", "rrule:b"],
-        &["equal", "rrule:a"],
-    ];
-    for words in wrong {
-        let mut source = SteadySource::new(alloc);
+    for words in NO_COMMANDS {
+        let mut source = MemorySource::new(alloc);
         let mut sink = SteadySink::new(alloc);
         assert_eq!(rt; run(alloc, words, &mut source, &mut sink), Status::Usage);
-        assert_eq!(rt; sink.bytes(), usage);
+        assert_eq!(rt; sink.bytes(), line);
     }
+    Ok(())
+}
+
+// The source holds nothing, so a fetch would be a read fault.
+#[test]
+fn not_built(rt: HostRuntime) -> Result<(), Fail> {
+    let alloc = rt.alloc();
+    for (words, said) in NOT_BUILT {
+        let mut source = MemorySource::new(alloc);
+        let mut sink = SteadySink::new(alloc);
+        assert_eq!(rt; run(alloc, words, &mut source, &mut sink), Status::Refused);
+        assert_eq!(rt; sink.bytes(), said);
+    }
+    Ok(())
+}
+
+#[test]
+fn names(rt: HostRuntime) -> Result<(), Fail> {
+    let alloc = rt.alloc();
+    for (word, name) in [("rrule:a:b@c", "a:b@c"), ("rrule:@", "@"), ("rrule:-", "-")] {
+        let mut source = MemorySource::new(alloc);
+        source.hold(name, DAILY).ok().ok_or("memory")?;
+        let mut sink = SteadySink::new(alloc);
+        assert_eq!(rt;
+            run(alloc, &["check", word], &mut source, &mut sink),
+            Status::Yes
+        );
+        assert_eq!(rt; sink.bytes(), b"cycle 1\n".as_slice());
+    }
+    Ok(())
 }
 
 #[test]
 fn faults(rt: HostRuntime) -> Result<(), Fail> {
     let alloc = rt.alloc();
+    for (fetch, put, status, text) in FAULTS {
+        let mut source = MemorySource::new(alloc);
+        source.hold("a", DAILY).ok().ok_or("memory")?;
+        source.hold("b", DAILY).ok().ok_or("memory")?;
+        source.fail(fetch).ok().ok_or("memory")?;
+        let mut sink = MemorySink::new(alloc);
+        sink.fail(put, 2).ok().ok_or("memory")?;
+        assert_eq!(rt; run(alloc, &EQUAL, &mut source, &mut sink), status);
+        assert_eq!(rt; sink.bytes(), text);
+    }
+    Ok(())
+}
+
+#[test]
+fn missing_b_beside_bad_a(rt: HostRuntime) -> Result<(), Fail> {
+    let alloc = rt.alloc();
     let mut source = MemorySource::new(alloc);
-    source.hold("a", EVERY_OTHER_DAY).ok().ok_or("memory")?;
-    source.hold("b", EVERY_THIRD_DAY).ok().ok_or("memory")?;
-    source.fail(2).ok().ok_or("memory")?;
+    source.hold("a", b"no series").ok().ok_or("memory")?;
     let mut sink = MemorySink::new(alloc);
-    sink.fail(1, 2).ok().ok_or("memory")?;
     assert_eq!(rt;
         run(alloc, &EQUAL, &mut source, &mut sink),
         Status::ReadFault
     );
     assert_eq!(rt; sink.bytes(), b"".as_slice());
-    assert_eq!(rt;
-        run(alloc, &EQUAL, &mut source, &mut sink),
-        Status::WriteFault
-    );
-    assert_eq!(rt; sink.bytes(), b"no".as_slice());
-    assert_eq!(rt; run(alloc, &EQUAL, &mut source, &mut sink), Status::No);
-    assert_eq!(rt; sink.bytes(), b"nono 2024-01-03 A\n".as_slice());
     Ok(())
 }

@@ -15,13 +15,17 @@ failed_after (Ok v) name failed = failed
 failed_after (Err fetch.Failed) name failed = failed ++ name ∷ []
 failed_after (Err fetch.NoMemory) name failed = failed
 
--- the number after this one, which stays at the last value of a u64
-abbrev pub next_number : ℕ → ℕ
-next_number n = min (n + 1) 18446744073709551615
+-- the last value of a count
+abbrev pub last_count : ℕ
+last_count = 18446744073709551615
 
--- a count of faults rose, or stands at its last value
-abbrev pub Rose : ℕ → ℕ → Type 0
-Rose old new = (old < new) ⊎ (18446744073709551615 ≤ new)
+-- the number after this one, which stays at the last value of a count
+abbrev pub next_number : ℕ → ℕ
+next_number n = min (n + 1) last_count
+
+-- a count is greater at the end than at the beginning, or stands at its last value
+abbrev pub RoseOrIsLast : ℕ → ℕ → Type 0
+RoseOrIsLast old new = (old < new) ⊎ (new ≡ last_count)
 
 -- the sink has these bytes behind what it had, where it tells
 abbrev pub Appended : Option (List ℕ) → List ℕ → Option (List ℕ) → Type 0
@@ -34,7 +38,7 @@ AppendedPart old bytes new = (n : ℕ) × Appended old (take n bytes) new
 -- what a put leaves, by its answer
 abbrev pub IsPut : {T : Type 0} → Result T PutError → List ℕ → Option (List ℕ) → Option (List ℕ) → ℕ → ℕ → Type 0
 IsPut (Ok v) bytes old new faults faults' = Appended old bytes new × (faults' ≡ faults)
-IsPut (Err put.Failed) bytes old new faults faults' = AppendedPart old bytes new × Rose faults faults'
+IsPut (Err put.Failed) bytes old new faults faults' = AppendedPart old bytes new × RoseOrIsLast faults faults'
 IsPut (Err put.NoMemory) bytes old new faults faults' = (new ≡ old) × (faults' ≡ faults)
 
 -- the count of faults after one more put

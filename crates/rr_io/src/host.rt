@@ -1,5 +1,5 @@
 // Files, standard input and standard output.
-ghost use Rattle.std.specs.Prelude.{◌≡◌, ◌+◌, [], take, IfOk, IfSome};
+ghost use Rattle.std.specs.Prelude.{◌≡◌, ◌≤◌, ◌+◌, [], take, IfOk, IfSome};
 ghost use Rattle.rr_io.specs.Outside.{failed_after, faults_after};
 
 use crate::{FetchError, PutError, Sink, Source};
@@ -112,9 +112,10 @@ impl<R: Print + Drop> Sink for HostSink<R> {
     ghost faults = { λ faults. faults };
 
     fn put(&mut self, bytes: &[u8]) -> Result<(), PutError>
-        ensures { self.new ≡ faults_after result self.old }
+        ensures counts { self.new ≡ faults_after result self.old }
+        ensures never_falls { self.old ≤ self.new }
     {
-        // Goes on behind a short write. A write that takes nothing of some bytes is an error.
+        // Goes on after a short write. A write that takes nothing of some bytes is an error.
         if io::writer(&self.rt).write_all(bytes).is_ok() {
             return Ok(());
         }

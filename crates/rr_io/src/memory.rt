@@ -1,5 +1,5 @@
 // A source and a sink in memory whose failures are listed.
-ghost use Rattle.std.specs.Prelude.{◌≡◌, ◌++◌, ◌+◌, [], ◌∷◌, Some, IfOk, IfSome, OnOk, OnErr, take};
+ghost use Rattle.std.specs.Prelude.{◌≡◌, ◌≤◌, ◌++◌, ◌+◌, [], ◌∷◌, Some, IfOk, IfSome, OnOk, OnErr, take};
 ghost use Rattle.rr_io.specs.Names.{bytes_at, Sets};
 ghost use Rattle.rr_io.specs.Outside.{KeepsHeld, failed_after, faults_after, next_number, IsPut};
 ghost use Rattle.rr_io.specs.Memory.{IsToFail, FailsExactly, first_of, PutsAs};
@@ -171,6 +171,7 @@ impl Sink for MemorySink {
 
     fn put(&mut self, bytes: &[u8]) -> Result<(), PutError>
         ensures puts { PutsAs (first_of self.old.failing (next_number self.old.puts)) result bytes.now self.old.bytes self.new.bytes }
+        ensures never_falls { self.old.faults ≤ self.new.faults }
         ensures rest { self.new ≡ record self.old { bytes = self.new.bytes; puts = next_number self.old.puts; faults = faults_after result self.old.faults } }
     {
         self.puts = self.puts.saturating_add(1);

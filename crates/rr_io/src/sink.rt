@@ -1,5 +1,5 @@
 // Where the output goes.
-ghost use Rattle.std.specs.Prelude.{ℕ, List, Option};
+ghost use Rattle.std.specs.Prelude.{◌≤◌, ℕ, List, Option};
 
 use std::alloc::AllocError;
 
@@ -35,7 +35,8 @@ pub trait Sink {
 
     /// Appends the bytes.
     ///
-    /// `Failed` comes only with a rise of `faults`, and then a first part of the bytes may stand in the sink.
+    /// `Failed` comes only where `faults` rises or stands at its last value, and then a first part of the bytes may stand in the sink.
     fn put(&mut self, bytes: &[u8]) -> Result<(), PutError>
-        ensures { IsPut result bytes.now (written self.old) (written self.new) (faults self.old) (faults self.new) };
+        ensures put { IsPut result bytes.now (written self.old) (written self.new) (faults self.old) (faults self.new) }
+        ensures never_falls { faults self.old ≤ faults self.new };
 }

@@ -15,7 +15,6 @@ pub mod WeekLemmas
 pub mod WholeLemmas
 mod ChosenExamples
 pub mod RisingSetLemmas
-pub mod DailyLemmas
 pub mod MomentLemmas
 pub mod CountLemmas
 pub mod ShiftLemmas

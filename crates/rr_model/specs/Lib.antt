@@ -1,6 +1,5 @@
 pub mod Answers
 pub mod Calendar
-pub mod Daily
 pub mod Graph
 pub mod Moment
 pub mod Rising

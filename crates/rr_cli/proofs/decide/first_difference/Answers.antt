@@ -2,7 +2,7 @@ use Rattle.std.proofs.Common.{◌≡◌, Bool, true, false, not, pos, ◌+ℤ◌
 use Rattle.std.proofs.lemmas.Int.{ints, to_z-of_z}
 use Rattle.std.proofs.lemmas.Bool.{false≢true}
 use mathlib.Core.Bool.{beq}
-use Rattle.rr_model.proofs.DailyLemmas.{agree_more, IsFirstDifference-found}
+use Rattle.rr_cli.proofs.DailyLemmas.{agree_more, IsFirstDifference-found}
 use Rattle.rr_cli.specs.Series.{series_of}
 use Rattle.rr_cli.proofs.decide.first_difference.Goals as goal
 

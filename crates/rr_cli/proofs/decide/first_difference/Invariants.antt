@@ -1,4 +1,4 @@
-use Rattle.rr_model.specs.Daily.{has_day}
+use Rattle.rr_cli.specs.Daily.{has_day}
 use Rattle.rr_model.specs.Whole.Periodic.{AgreeOn}
 use Rattle.rr_cli.specs.Series.{series_of}
 use Rattle.rr_cli.proofs.decide.first_difference.Given as goal

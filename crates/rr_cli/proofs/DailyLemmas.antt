@@ -6,7 +6,7 @@ use Rattle.std.proofs.lemmas.Bool.{false≢true}
 use Rattle.rr_model.specs.Whole.{floor_mod}
 use Rattle.rr_model.specs.Moment.{Before}
 use Rattle.rr_model.specs.Whole.Periodic.{RepeatsFrom, AgreeOn}
-use Rattle.rr_model.specs.Daily.{DailySeries, has_day, IsDailyOccurrence, side_of, IsFirstDifference}
+use Rattle.rr_cli.specs.Daily.{DailySeries, has_day, IsDailyOccurrence, side_of, IsFirstDifference}
 use Rattle.rr_model.specs.Sets.Verdict.{IsEqualVerdict, HoldsOnlyOf}
 use Rattle.rr_model.specs.declared.kind.Kind.{Kind}
 use Rattle.rr_model.specs.declared.kind.Kind.TheVariants.{Days, Moments}

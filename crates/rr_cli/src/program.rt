@@ -1,15 +1,15 @@
 // The top call.
-ghost use Rattle.std.specs.Prelude.{◌≡◌, ◌≢◌, ◌++◌, ◌⊎◌, [], ◌∷◌, ℕ, List, IfSome, IfOk, IsErrOf, IsNone};
-ghost use Rattle.rr_io.specs.Outside.{Rose};
+ghost use Rattle.std.specs.Prelude.{◌≡◌, ◌⊎◌, IfSome, IsNone};
+ghost use Rattle.rr_io.specs.Outside.{RoseOrIsLast};
 ghost use Rattle.rr_cli.specs.Answer.{Answer, IsAnswer};
-ghost use Rattle.rr_cli.specs.Command.{command_of, contents, IsOperandOf};
-ghost use Rattle.rr_cli.specs.Outcome.{answer_of};
-ghost use Rattle.rr_cli.specs.Run.{words_of, status_of, Ends, HasCause};
+ghost use Rattle.rr_cli.specs.Command.{command_of, contents};
+ghost use Rattle.rr_cli.specs.Outcome.{status_of};
+ghost use Rattle.rr_cli.specs.Parsed.{words_of};
+ghost use Rattle.rr_cli.specs.Run.{Ends, HasCause};
 
-use crate::check::check_outcome;
 use crate::conclusion::Conclusion;
-use crate::outcome::{Outcome, equal_outcome, usage};
-use crate::words::{Command, parse};
+use crate::words::{USAGE, parse};
+use crate::work::work_out;
 use rr_io::{FetchError, PutError, Sink, Source};
 use std::alloc::Global;
 
@@ -39,28 +39,6 @@ fn final_status(conclusion: Conclusion) -> Status
         Conclusion::Yes => Status::Yes,
         Conclusion::No => Status::No,
         Conclusion::Refused => Status::Refused,
-        Conclusion::Usage => Status::Usage,
-    }
-}
-
-// What the words ask, over the operands that are fetched: first A, then B.
-fn work_out<S: Source>(alloc: Global, words: &[&str], source: &mut S) -> Result<Outcome, FetchError>
-    ensures answer { IfOk result (λ x. IfSome (contents (command_of (words_of words.now)) (S.held source.old)) (λ both. IsAnswer (command_of (words_of words.now)) both (answer_of x))) }
-    ensures failed { IsErrOf result FetchError.Failed → (name : List ℕ) × IsOperandOf (command_of (words_of words.now)) name × (S.failed source.new ≡ S.failed source.old ++ name ∷ []) }
-    ensures usage { IfOk result (λ x. x.conclusion ≡ Conclusion.Usage → IsNone (command_of (words_of words.now))) }
-    ensures kept { (IsErrOf result FetchError.Failed → ⊥) → S.failed source.new ≡ S.failed source.old }
-{
-    match parse(words) {
-        None => Ok(usage(alloc)?),
-        Some(Command::Equal(a, b)) => {
-            let left = source.fetch(alloc, a)?;
-            let right = source.fetch(alloc, b)?;
-            Ok(equal_outcome(alloc, left.as_slice(), right.as_slice())?)
-        }
-        Some(Command::Check(a)) => {
-            let bytes = source.fetch(alloc, a)?;
-            Ok(check_outcome(alloc, bytes.as_slice())?)
-        }
     }
 }
 
@@ -84,10 +62,17 @@ pub fn run<S: Source, K: Sink>(
     ensures quiet { (result ≡ Status.ReadFault) ⊎ (result ≡ Status.NoMemory) → K.written sink.new ≡ K.written sink.old }
 
     // Where nothing failed the answer comes, but for want of memory.
-    ensures complete { S.failed source.new ≡ S.failed source.old → (Rose (K.faults sink.old) (K.faults sink.new) → ⊥)
-        → IfSome (contents (command_of (words_of words.now)) (S.held source.old)) (λ both. (result ≡ Status.NoMemory) ⊎ ((answer : Answer) × IsAnswer (command_of (words_of words.now)) both answer × (result ≡ status_of answer.conclusion))) }
+    ensures complete { S.failed source.new ≡ S.failed source.old → (RoseOrIsLast (K.faults sink.old) (K.faults sink.new) → ⊥)
+        → IfSome (contents (command_of (words_of words.now)) (S.held source.old)) (λ both. (result ≡ Status.NoMemory) ⊎ ((answer : Answer) × IsAnswer (command_of (words_of words.now)) both answer × (result ≡ answer.status))) }
 {
-    match work_out(alloc, words, source) {
+    let Some(command) = parse(words) else {
+        return match sink.put(USAGE) {
+            Err(PutError::Failed) => Status::WriteFault,
+            Err(PutError::NoMemory) => Status::NoMemory,
+            Ok(()) => Status::Usage,
+        };
+    };
+    match work_out(alloc, command, source) {
         Err(FetchError::Failed) => Status::ReadFault,
         Err(FetchError::NoMemory) => Status::NoMemory,
         Ok(outcome) => match sink.put(outcome.text.as_slice()) {

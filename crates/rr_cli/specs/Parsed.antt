@@ -1,0 +1,16 @@
+-- What the values of the program mean: words, operands and commands.
+use Rattle.std.specs.Prelude.{ℕ, List, map, option_map}
+use Rattle.std.specs.Borrow.{Bor}
+use Rattle.rr_cli.specs.Command.{Command, Operand}
+use Rattle.rr_cli.specs.declared.command.Command.{Command as Parsed}
+use Rattle.rr_cli.specs.declared.command.Operand.{Operand as ParsedOperand}
+
+-- the texts that the words are
+abbrev pub words_of : List (Bor (List ℕ)) → List (List ℕ)
+words_of words = map (λ (w : Bor (List ℕ)). w.now) words
+
+abbrev pub operand_in : ParsedOperand → Operand
+operand_in operand = record { language = operand.language; offset = operand.offset; name = operand.name.now }
+
+abbrev pub command_in : Parsed → Command
+command_in command = record { task = command.task; a = option_map operand_in command.a; b = option_map operand_in command.b }
