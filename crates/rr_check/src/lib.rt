@@ -2,7 +2,7 @@
 #![tactic(auto)]
 
 mod cycle;
-mod faults;
+mod refusals;
 mod soundness;
 #[cfg(test)]
 mod tests;

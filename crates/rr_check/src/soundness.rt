@@ -1,9 +1,9 @@
 // Checked series.
 ghost use Rattle.std.specs.Prelude.{◌≡◌, IfErr, IfOk, None, Some};
 ghost use Rattle.rr_model.specs.Series.Validity.{IsValidSeries};
-ghost use Rattle.rr_model.specs.Series.Soundness.{HasNoSetPositions, IsSound, first_fault};
+ghost use Rattle.rr_model.specs.Series.Soundness.{HasNoSetPositions, IsSound, first_refusal};
 
-use crate::faults::first_fault;
+use crate::refusals::first_refusal;
 use rr_model::{Refusal, Series};
 use std::marker::Model;
 
@@ -42,10 +42,10 @@ impl Checked {
 pub fn check(series: Series) -> Result<Checked, Refusal>
     requires valid { IsValidSeries series }
     requires without_set_positions { HasNoSetPositions series }
-    ensures accepted { IfOk result (λ checked. (checked ≡ series) × (first_fault series ≡ None)) }
-    ensures refused { IfErr result (λ refusal. first_fault series ≡ Some refusal) }
+    ensures accepted { IfOk result (λ checked. (checked ≡ series) × (first_refusal series ≡ None)) }
+    ensures refused { IfErr result (λ refusal. first_refusal series ≡ Some refusal) }
 {
-    match first_fault(&series) {
+    match first_refusal(&series) {
         Some(refusal) => Err(refusal),
         None => Ok(Checked { series }),
     }

@@ -6,7 +6,7 @@ ghost use Rattle.rr_model.specs.declared.kind.Kind.TheVariants.{Days};
 ghost use Rattle.rr_model.specs.declared.rule.End.TheVariants.{Never};
 
 use crate::cycle::joined;
-use crate::faults::end_fault;
+use crate::refusals::end_refusal;
 use crate::{admit, check, chosen_repeats};
 use rr_model::{
     Dates, DayItem, End, Freq, Kind, NoMemory, Refusal, Rule, Rules, Series,
@@ -141,7 +141,7 @@ fn judged_series(rt: HostRuntime) -> Result<(), Fail> {
         }
     }
     for (kind, start, end, want) in ENDS {
-        assert_eq!(rt; end_fault(kind, start, end), want, "{end:?}");
+        assert_eq!(rt; end_refusal(kind, start, end), want, "{end:?}");
     }
     // cycles joined, up to 16,777,216 days: 113 and 127 times the 146,097 days of 400 years, and others
     for (cycle, days, want) in [

@@ -10,6 +10,7 @@ use Rattle.rr_model.specs.Moment.Years.{HasFourDigitYear}
 use Rattle.rr_model.specs.declared.kind.Kind.{Kind}
 use Rattle.rr_model.specs.declared.kind.Kind.TheVariants.{Days}
 use Rattle.rr_model.specs.declared.stamp.Stamp.{Stamp}
+use Rattle.rr_model.proofs.YearLemmas.{four_digit_bounds}
 
 -- eight bytes are a basic date or nothing
 pub basic-eight : (text : List ℕ) → length text ≡ 8 → basic text ≡ option_map date_stamp (basic_date text)
@@ -38,11 +39,15 @@ kind_of_stamp (Some z) s e =
     let f : date_stamp z ≡ s = cc in
     ap (λ (x : Stamp). x.kind) f
 
-as_stored : (z : ℤ) → HasFourDigitYear z → HasFourDigitYear (to_z w64 (of_z w64 z))
-as_stored z h = (omega (arith, ints, h.0, h.1), omega (arith, ints, h.0, h.1))
+-- from 0001-01-01 up to 9999-12-31
+abbrev IsInDays : ℤ → Type 0
+IsInDays d = (neg_ℤ (pos 719_162) ≤ℤ d) × (d ≤ℤ pos 2_932_896)
+
+as_stored : (z : ℤ) → HasFourDigitYear z → IsInDays (to_z w64 (of_z w64 z))
+as_stored z h = let days = four_digit_bounds z h in (omega (arith, ints, days.0, days.1), omega (arith, ints, days.0, days.1))
 
 -- what was read lies in the years 1 to 9999, as a day
-pub start_in_years : (text : List ℕ) (r : Option Stamp) (s : Stamp) → length text ≡ 8 → r ≡ basic text → r ≡ Some s → HasFourDigitYear (day_part s.kind s.at) → HasFourDigitYear (to_z w64 (of_z w64 s.at))
+pub start_in_years : (text : List ℕ) (r : Option Stamp) (s : Stamp) → length text ≡ 8 → r ≡ basic text → r ≡ Some s → HasFourDigitYear (day_part s.kind s.at) → IsInDays (to_z w64 (of_z w64 s.at))
 start_in_years text r s e f g years =
     let kind : Days ≡ s.kind = kind_of_stamp (basic_date text) s (sym (basic-eight text e) ∙ sym f ∙ g) in
     as_stored s.at (subst (λ (k : Kind). HasFourDigitYear (day_part k s.at)) (sym kind) years)

@@ -11,7 +11,7 @@ use Rattle.rr_model.specs.Text.Rules.{is_plain_text, reads}
 use Rattle.rr_model.specs.Text.Refusals.{refusal_text}
 use Rattle.rr_model.specs.Rule.Validity.{is_absent}
 use Rattle.rr_model.specs.Series.Cycle.{series_cycle}
-use Rattle.rr_model.specs.Series.Soundness.{first_fault}
+use Rattle.rr_model.specs.Series.Soundness.{first_refusal}
 use Rattle.rr_model.specs.Sets.Verdict.{IsEqualVerdict}
 use Rattle.rr_cli.specs.declared.command.Task.{Task}
 use Rattle.rr_cli.specs.declared.command.Task.TheVariants as task
@@ -74,7 +74,7 @@ cycle_said days =
     if nat_le days MAX_CYCLE_DAYS then record { status = status.Yes; bytes = line (codes "cycle " ++ decimal days) }
     else refused A CycleTooLong
 
--- the first fault of the series, else its cycle
+-- the first refusal of the series, else its cycle
 abbrev pub soundness_said : Option Refusal → ℕ → Answer
 soundness_said (Some refusal) days = refused A refusal
 soundness_said None days = cycle_said days
@@ -86,7 +86,7 @@ has_set_positions series = list_any (λ rule. not (is_absent rule.by_set_pos)) s
 -- the refusal of the text, else what is said of its series; set positions are not built yet
 abbrev pub series_said : Result Series Refusal → Answer
 series_said (Err refusal) = refused A refusal
-series_said (Ok series) = if has_set_positions series then refused A NotBuilt else soundness_said (first_fault series) (series_cycle series)
+series_said (Ok series) = if has_set_positions series then refused A NotBuilt else soundness_said (first_refusal series) (series_cycle series)
 
 -- what is said of the bytes of an operand; other texts than those of two lines are not built yet
 unfoldable pub check_answer : List ℕ → Answer

@@ -36,7 +36,7 @@ fn cycle_outcome(alloc: Global, checked: &Checked) -> Result<Outcome, NoMemory>
     }
 }
 
-// The first fault of a series, else its cycle.
+// The first refusal of a series, else its cycle.
 fn series_outcome(alloc: Global, series: Series) -> Result<Outcome, NoMemory>
     requires { IsValidSeries series }
     ensures { IfOk result (λ x. answer_of x ≡ series_said (Ok series)) }

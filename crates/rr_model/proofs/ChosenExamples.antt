@@ -4,7 +4,7 @@ use Rattle.rr_model.specs.Calendar.{days_of_months, first_day_of_year, day_numbe
 use Rattle.rr_model.specs.Calendar.Week.{week_index, fourth_day, week_year, week_number, last_week}
 use Rattle.rr_model.specs.Whole.Count.{count_from}
 use Rattle.rr_model.specs.Rule.Candidate.{is_candidate}
-use Rattle.rr_model.specs.Rule.Chosen.{is_chosen, members_to}
+use Rattle.rr_model.specs.Rule.Chosen.{is_chosen}
 use Rattle.rr_model.specs.declared.kind.Kind.TheVariants.{Days, Moments}
 use Rattle.rr_model.specs.declared.rule.DayItem.{DayItem}
 use Rattle.rr_model.specs.declared.rule.Freq.{Freq}
@@ -136,8 +136,3 @@ at_moments :
     ≡ (true ∷ false ∷ [])
 unfolding days_of_months first_day_of_year day_number year_of days_into_year months_over month_of day_of_month day_of_year weekday_of week_index fourth_day week_year week_number last_week count_from is_candidate is_chosen
 at_moments = refl
-
--- 4 September, 7 October and 6 November are the first three
-three_members : members_to third_of_three Days (day_number (pos 1997) 9 4) (day_number (pos 1997) 11 6) ≡ 3
-unfolding days_of_months first_day_of_year day_number year_of days_into_year months_over month_of day_of_month day_of_year weekday_of week_index fourth_day week_year week_number last_week count_from is_candidate is_chosen
-three_members = refl

@@ -14,6 +14,10 @@ mod WeekExamples
 pub mod WeekLemmas
 pub mod WholeLemmas
 mod ChosenExamples
+mod MemberExamples
+pub mod MemberLemmas
+pub mod ValidityProps
+pub mod YearLemmas
 pub mod RisingSetLemmas
 pub mod MomentLemmas
 pub mod CountLemmas
@@ -28,6 +32,7 @@ pub mod RankLemmas
 pub mod StretchLemmas
 pub mod RuleCycleLemmas
 pub mod SoundnessLemmas
+mod FirstRefusalLemmas
 pub mod SeriesCycleLemmas
 pub mod StartLemmas
 pub mod TreeLemmas

@@ -88,7 +88,7 @@ day_items-weeks in_year d k (item ∷ items) plain =
     let p = or_parts (not (int_eq item.place (pos 0))) (has_place items) plain in
     rw (day_item-weeks in_year d k item (not-false (int_eq item.place (pos 0)) p.0), day_items-weeks in_year d k items p.1) refl
 
--- no part stands whose days follow the calendar's years
+-- no part is present whose days follow the calendar's years
 pub record AsksNoCalendar (rule : Rule) : Type 0 where
   pub by_month : is_absent rule.by_month ≡ true
   pub by_week_no : is_absent rule.by_week_no ≡ true

@@ -1,5 +1,5 @@
 -- The chosen moments of a valid rule repeat with its cycle.
-use Rattle.std.proofs.Common.{◌≡◌, ◌⊎◌, inl, inr, ℕ, ◌/◌, ◌≤◌, Bool, true, false, cond, not, ◌&&◌, ◌||◌, List, [], ◌∷◌, ℤ, pos, ◌+ℤ◌, ◌*ℤ◌, refl, sym, ap, ◌∙◌, subst, arith}
+use Rattle.std.proofs.Common.{◌≡◌, ◌⊎◌, inl, inr, ℕ, suc, ◌*◌, ◌/◌, ◌≤◌, Bool, true, false, cond, not, ◌&&◌, ◌||◌, List, [], ◌∷◌, ℤ, pos, negsuc, neg_ℤ, ◌+ℤ◌, ◌*ℤ◌, refl, sym, ap, ◌∙◌, subst, arith}
 use Prim.Native.Nat.{◌∣◌}
 use Rattle.std.proofs.lemmas.Int.{ints}
 use Rattle.std.proofs.lemmas.Bool.{false≢true, and_parts, not-true, cases_Bool, cond-true, cond-false, cond_both}
@@ -13,8 +13,9 @@ use Rattle.rr_model.specs.Rule.Cycle.{interval_cycle, asks_calendar, rule_cycle}
 use Rattle.rr_model.specs.Rule.Filled.{filled_part, wants_day, wants_month_day, wants_month, day_item_of, filled}
 use Rattle.rr_model.specs.Rule.Candidate.{date_parts_hold, time_parts_hold}
 use Rattle.rr_model.specs.Rule.Chosen.{is_chosen}
-use Rattle.rr_model.specs.Rule.Repetition.{days_in, ChosenRepeats}
+use Rattle.rr_model.specs.Rule.Repetition.{days_in, later_moment, ChosenRepeats}
 use Rattle.rr_model.specs.declared.kind.Kind.{Kind}
+use Rattle.rr_model.specs.declared.kind.Kind.TheVariants.{Days, Moments}
 use Rattle.rr_model.specs.declared.rule.DayItem.{DayItem}
 use Rattle.rr_model.specs.declared.rule.Freq.{Freq}
 use Rattle.rr_model.specs.declared.rule.Freq.TheVariants.{Secondly, Minutely, Hourly, Daily, Weekly, Monthly, Yearly}
@@ -55,7 +56,7 @@ still_plain true [] d h = refl
 still_plain true (item ∷ items) d h = h
 still_plain false items d h = h
 
--- none of four parts stands
+-- none of four parts is present
 four_absent : (a b c d : Bool) → not (a && b && c && d) ≡ false → (a ≡ true) × (b ≡ true) × (c ≡ true) × (d ≡ true)
 four_absent true true true true h = (refl, refl, refl, refl)
 four_absent true true true false h = absurd (false≢true (sym h))
@@ -109,7 +110,7 @@ module _ (rule : Rule) (kind : Kind) (start : ℤ) (valid : IsValidRule kind rul
         | inl h ↦ by_weeks none h d
         | inr unwanted ↦ elim (cases_Bool (is_absent rule.by_day)) [
           | inl absent ↦ date_parts-any (filled rule kind start) d (d +ℤ pos c) none (unfilled (wants_day rule.freq rule) rule.by_day _ unwanted absent)
-          | inr stands ↦ by_weeks none (subst (λ z. z ∣ c) (cond-false (is_absent rule.by_day) 1 7 stands) of_weeks) d
+          | inr present ↦ by_weeks none (subst (λ z. z ∣ c) (cond-false (is_absent rule.by_day) 1 7 present) of_weeks) d
         ]
       ]
 
@@ -154,5 +155,20 @@ chosen_repeats_by rule kind start t valid c of_cycle =
     let keeps = keeps_rule rule kind start valid c (dvd_trans n whole.0 of_cycle) (dvd_trans w parts.0 of_parts) (dvd_trans y parts.1 of_parts) in
     is_chosen-shift rule kind start (days_in kind (pos c)) (pos keeps.0 *ℤ pos rule.interval) keeps.1 t
 
+-- ---- any whole number of cycles
+
+-- so many cycles, from 0
+module _ (rule : Rule) (kind : Kind) (start : ℤ) (valid : IsValidRule kind rule) where
+  cycles_later : (k : ℕ) (t : ℤ) → is_chosen rule kind start (t +ℤ days_in kind (pos (rule_cycle rule * k))) ≡ is_chosen rule kind start t
+  cycles_later k t = chosen_repeats_by rule kind start t valid (rule_cycle rule * k) (dvd-mul_right (rule_cycle rule) k)
+
+-- a number of days earlier, and as many later
+there_and_back : (kind : Kind) (c k : ℕ) (t : ℤ) → (t +ℤ days_in kind (pos c *ℤ negsuc k)) +ℤ days_in kind (pos (c * suc k)) ≡ t
+there_and_back Days c k t = omega (arith, ints)
+there_and_back Moments c k t = omega (arith, ints)
+
 pub chosen_repeats : ChosenRepeats
-chosen_repeats rule kind start t valid = chosen_repeats_by rule kind start t valid (rule_cycle rule) (dvd_refl (rule_cycle rule))
+chosen_repeats rule kind start (pos k) t valid = cycles_later rule kind start valid k t
+chosen_repeats rule kind start (negsuc k) t valid =
+    let earlier = later_moment rule kind (negsuc k) t in
+    sym (cycles_later rule kind start valid (suc k) earlier) ∙ ap (is_chosen rule kind start) (there_and_back kind (rule_cycle rule) k t)

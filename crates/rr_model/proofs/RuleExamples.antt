@@ -1,4 +1,4 @@
--- Parts that may stand together, and cycles of some rules, by computing.
+-- Parts that are allowed together, and cycles of some rules, by computing.
 use Rattle.std.proofs.Common.{◌≡◌, ℕ, List, [], ◌∷◌, pos, negsuc, true, false, refl}
 use Rattle.rr_model.specs.Whole.Divisors.{gcd_within, gcd, lcm}
 use Rattle.rr_model.specs.Rule.Cycle.{rule_cycle}

@@ -1,21 +1,13 @@
 -- There is one proof at most that a tree is of a kind.
-use Rattle.std.specs.Coded.{×_prop, Unit-prop, le_prop}
+use Rattle.std.specs.Coded.{×_prop, Unit-prop}
 use Rattle.std.proofs.Props.{props}
-use Rattle.rr_model.specs.Rule.Validity.{CountsSome}
 use Rattle.rr_model.specs.Sets.Tree.{Tree, Forest, chosen_of, dates_of, union, many, upto, first_n, without, nothing, part, IsOfKind, AreOfKind, IsOfOneKind, kind_in, or_days}
 use Rattle.rr_model.specs.declared.kind.Kind.{Kind}
-use Rattle.rr_model.specs.declared.rule.End.{End}
-use Rattle.rr_model.specs.declared.rule.End.TheVariants.{Never, Until, Count, Both}
-
-CountsSome-prop : (end : End) → IsProp (CountsSome end)
-CountsSome-prop Never = Unit-prop
-CountsSome-prop (Until kind at) = Unit-prop
-CountsSome-prop (Count n) = le_prop
-CountsSome-prop (Both kind at n) = le_prop
+use Rattle.rr_model.proofs.ValidityProps.{HasCountInRange-prop, PartsRise-prop}
 
 mutual
   pub IsOfKind-prop : (k : Kind) (tree : Tree) → IsProp (IsOfKind k tree)
-  IsOfKind-prop k (chosen_of rule kind start) = hlevel (props, CountsSome-prop)
+  IsOfKind-prop k (chosen_of rule kind start) = hlevel (props, HasCountInRange-prop, PartsRise-prop)
   IsOfKind-prop k (dates_of kind dates) = hlevel props
   IsOfKind-prop k (union a b) = ×_prop (IsOfKind-prop k a) (IsOfKind-prop k b)
   IsOfKind-prop k (many parts) = AreOfKind-prop k parts

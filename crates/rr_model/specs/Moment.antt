@@ -1,10 +1,16 @@
--- An occurrence is a kind and a whole number.
+-- An occurrence is a kind and a whole number (RFC 5545, sections 3.3.4 and 3.3.5).
 pub mod Units
 pub mod Years
-use Rattle.std.specs.Prelude.{◌≡◌, ℕ, ◌⊎◌, ℤ, pos, ◌+ℤ◌, ◌*ℤ◌, ◌<ℤ◌}
+use Rattle.std.specs.Prelude.{◌≡◌, ℕ, Bool, true, false, ◌⊎◌, ℤ, pos, ◌+ℤ◌, ◌*ℤ◌, ◌<ℤ◌}
 use Rattle.rr_model.specs.Whole.{floor_div, floor_mod}
 use Rattle.rr_model.specs.declared.kind.Kind.{Kind}
 use Rattle.rr_model.specs.declared.kind.Kind.TheVariants.{Days, Moments}
+
+-- the two kinds are one
+abbrev pub is_same_kind : Kind → Kind → Bool
+is_same_kind Days Days = true
+is_same_kind Moments Moments = true
+is_same_kind kind other = false
 
 -- the day of a moment
 abbrev pub day_part : Kind → ℤ → ℤ
@@ -21,7 +27,7 @@ abbrev pub moment_at : Kind → ℤ → ℕ → ℤ
 moment_at Days day second = day
 moment_at Moments day second = (day *ℤ pos 86_400) +ℤ pos second
 
--- where a date or a moment stands on the line of seconds: a date at its midnight
+-- where a date or a moment lies on the line of seconds: a date at its midnight
 abbrev pub instant_of : Kind → ℤ → ℤ
 instant_of Days t = t *ℤ pos 86_400
 instant_of Moments t = t

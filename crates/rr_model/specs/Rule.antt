@@ -4,6 +4,7 @@ pub mod Chosen
 pub mod Cycle
 pub mod DaysAndTimes
 pub mod Filled
+pub mod Member
 pub mod Plain
 pub mod Repetition
 pub mod Validity

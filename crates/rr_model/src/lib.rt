@@ -16,6 +16,7 @@ mod moment;
 mod pass;
 mod refusal;
 mod rule;
+mod rule_laws;
 mod rule_parts;
 mod sketch;
 mod stamp;
@@ -26,7 +27,9 @@ mod vcal;
 mod verdict;
 
 pub use bytes::Bytes;
-pub use calendar_laws::{calendar_repeats, dates_and_days_are_inverse, last_week_is_greatest};
+pub use calendar_laws::{
+    calendar_repeats, dates_and_days_are_inverse, last_week_is_greatest, years_are_tested,
+};
 pub use graph::{Form, GraphEvent, Pattern, Range, RangeEnd, Repeat};
 pub use item::Item;
 pub use kind::Kind;
@@ -35,7 +38,9 @@ pub use laws::{
     candidates_are_days_and_times, gcd_is_greatest, lcm_is_least, least_factor_is_one,
     least_period_is_one, least_start_is_one, settled_day_is_one,
 };
-pub use limits::{MAX_CYCLE_DAYS, MAX_DAY, MAX_INPUT, MAX_SECONDS};
+pub use limits::{
+    MAX_CYCLE_DAYS, MAX_DATES, MAX_DAY, MAX_INPUT, MAX_RULES, MAX_SECONDS, MAX_SPAN_DAYS,
+};
 pub use line::{Line, LineList};
 pub use listed::ListedDates;
 pub use lists::{Dates, DayItems, DayShapes, Items, Numbers, Rules, Seconds, VRules};
@@ -43,6 +48,7 @@ pub use moment::{SECONDS_OF_DAY, day_part, moment_at, second_part};
 pub use pass::FirstPass;
 pub use refusal::{Fault, Member, NoMemory, Refusal};
 pub use rule::{DayItem, End, Freq, Rule, Series};
+pub use rule_laws::{first_refusal_is_one, members_are_tested};
 pub use rule_parts::{NumberBounds, PartName, RuleParts};
 pub use sketch::{DayShape, Sketch};
 pub use stamp::Stamp;

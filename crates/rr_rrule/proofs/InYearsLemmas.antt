@@ -9,17 +9,10 @@ use Rattle.rr_model.specs.Text.Moments.{is_digits, is_basic_date, is_basic_time,
 use Rattle.rr_model.specs.Moment.Years.{IsInYears}
 use Rattle.rr_model.specs.declared.kind.Kind.TheVariants.{Days, Moments}
 use Rattle.rr_model.specs.declared.stamp.Stamp.{Stamp}
-use Rattle.rr_model.proofs.CalendarLemmas.{IsInYear-day_number, first_day_of_year_mono, is_date_is}
+use Rattle.rr_model.proofs.CalendarLemmas.{is_date_is}
 use Rattle.rr_model.proofs.MomentLemmas.{day_part-moment_at}
-use Rattle.rr_text.proofs.MomentTextLemmas.{is_digits_means, number_at_below}
+use Rattle.rr_text.proofs.MomentTextLemmas.{day_number_bounds, is_digits_means, number_at_below}
 use Rattle.rr_rrule.proofs.StepLemmas.{stated}
-
-day_in_years : (y : ℤ) (m k : ℕ) → pos 1 ≤ℤ y → y ≤ℤ pos 9_999 → IsDate y m k → IsInYears Days (day_number y m k)
-day_in_years y m k low high date =
-    let within = IsInYear-day_number y m k date in
-    let from = first_day_of_year_mono (pos 1) y low in
-    let to = first_day_of_year_mono (y +ℤ pos 1) (pos 10_000) (omega (arith, ints)) in
-    (omega (arith, ints, within.begun, from), omega (arith, ints, within.not_over, to))
 
 basic_date-in_years : (text : List ℕ) (day : ℤ) → basic_date text ≡ Some day → IsInYears Days day
 unfolding basic_date
@@ -33,7 +26,7 @@ basic_date-in_years text day h =
     let text_is = is_digits_means 8 text digits.0 in
     let low : 1 ≤ y = grind (arith, nat_tests, digits.1) in
     let high : y < 10_000 = number_at_below 0 4 text (omega (arith, text_is.0)) text_is.1 in
-    subst (IsInYears Days) means.1 (day_in_years (pos y) m k (omega (arith, ints)) (omega (arith, ints)) ((is_date_is (pos y) m k).0 date.1))
+    subst (IsInYears Days) means.1 (day_number_bounds (pos y) m k (omega (arith, ints)) (omega (arith, ints)) ((is_date_is (pos y) m k).0 date.1))
 
 basic_time-below : (text : List ℕ) (second : ℕ) → basic_time text ≡ Some second → second < 86_400
 unfolding basic_time

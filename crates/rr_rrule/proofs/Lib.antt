@@ -6,6 +6,7 @@ mod InYearsLemmas
 mod BoundsLemmas
 mod ValidPartsLemmas
 mod ValidityLemmas
+mod ValidRisingLemmas
 mod ReadingLemmas
 mod RulePartLemmas
 mod PartOrderLemmas

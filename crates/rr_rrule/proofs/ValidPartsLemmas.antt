@@ -1,12 +1,13 @@
--- The values of the parts that are read lie in their ranges.
+-- The values of the parts that are read lie in their ranges, and rise.
 use Rattle.std.proofs.Common.{◌≡◌, ℕ, ◌<◌, ◌≤◌, true, false, Some, List, [], ◌∷◌, Ok, subst}
-use Rattle.std.specs.Prelude.{All, ok_or}
+use Rattle.std.specs.Prelude.{All, int_lt, ok_or}
 use Rattle.std.specs.Option.{IfSome}
 use Rattle.std.proofs.lemmas.List.Elements.{All-nil}
 use Rattle.rr_model.specs.Text.Moments.{basic}
 use Rattle.rr_model.specs.Text.Rules.{split_once, name_of, is_present, with_part_value, with_part, with_parts, no_parts, without_last_semicolon, parts_of, line_value, rule_parts}
 use Rattle.rr_model.specs.Text.RuleValues.{freq_named, weekday_named, number_up_to, unsigned, signed, seconds, numbers_of, day_items_of, pieces}
-use Rattle.rr_model.specs.Rule.Validity.{LieFrom, CountUpTo, IsDayItem}
+use Rattle.rr_model.specs.Rule.Validity.{IsCount, LieFrom, CountUpTo, IsDayItem}
+use Rattle.rr_model.specs.Rising.{Rises, day_item_lt}
 use Rattle.rr_model.specs.Moment.Years.{IsInYears}
 use Rattle.rr_model.specs.declared.refusal.Refusal.TheVariants.{BadMoment, BadRule, PartTwice}
 use Rattle.rr_model.specs.declared.rule_parts.PartName.{PartName}
@@ -14,12 +15,13 @@ use Rattle.rr_model.specs.declared.rule_parts.PartName.TheVariants as part
 use Rattle.rr_model.specs.declared.rule_parts.RuleParts.{RuleParts}
 use Rattle.rr_rrule.proofs.StepLemmas.{and_then_ok, ok_or_ok, step_keeps, not_refused}
 use Rattle.rr_rrule.proofs.InYearsLemmas.{basic-in_years}
+use Rattle.rr_rrule.proofs.ValidRisingLemmas.{numbers_of-rise, day_items_of-rise}
 use Rattle.rr_rrule.proofs.BoundsLemmas.{numbers_of-counts, numbers_of-lie, number_up_to-lies, weekday_named-below, day_items_of-means}
 
--- the values of the parts that stand lie in their ranges
+-- the values of the parts that are present lie in their ranges, and rise without repeats
 pub record ArePartsValid (parts : RuleParts) : Type 0 where
   pub until : IfSome parts.until (λ stamp. IsInYears stamp.kind stamp.at)
-  pub count : IfSome parts.count (λ n. 1 ≤ n)
+  pub count : IfSome parts.count IsCount
   pub interval : IfSome parts.interval (λ n. (1 ≤ n) × (n ≤ 4_294_967_295))
   pub week_start : IfSome parts.week_start (λ d. d < 7)
   pub seconds : LieFrom 0 59 parts.by_second
@@ -31,6 +33,15 @@ pub record ArePartsValid (parts : RuleParts) : Type 0 where
   pub week_numbers : CountUpTo 53 parts.by_week_no
   pub months : LieFrom 1 12 parts.by_month
   pub set_positions : CountUpTo 366 parts.by_set_pos
+  pub seconds_rise : Rises int_lt parts.by_second
+  pub minutes_rise : Rises int_lt parts.by_minute
+  pub hours_rise : Rises int_lt parts.by_hour
+  pub days_rise : Rises day_item_lt parts.by_day
+  pub month_days_rise : Rises int_lt parts.by_month_day
+  pub year_days_rise : Rises int_lt parts.by_year_day
+  pub week_numbers_rise : Rises int_lt parts.by_week_no
+  pub months_rise : Rises int_lt parts.by_month
+  pub set_positions_rise : Rises int_lt parts.by_set_pos
 
 no_parts-valid : ArePartsValid no_parts
 no_parts-valid = record {
@@ -47,6 +58,15 @@ no_parts-valid = record {
   week_numbers = All-nil _;
   months = All-nil _;
   set_positions = All-nil _;
+  seconds_rise = tt;
+  minutes_rise = tt;
+  hours_rise = tt;
+  days_rise = tt;
+  month_days_rise = tt;
+  year_days_rise = tt;
+  week_numbers_rise = tt;
+  months_rise = tt;
+  set_positions_rise = tt;
 }
 
 -- each value is one of its part
@@ -56,29 +76,29 @@ with_part_value-valid line parts part.Freq text more v =
 with_part_value-valid line parts part.Until text more v =
     step_keeps ArePartsValid (ok_or (basic text) (BadMoment line)) (λ x. record parts { until = Some x }) more (λ x e. assumption (basic-in_years text x (ok_or_ok (basic text) _ x e)))
 with_part_value-valid line parts part.Count text more v =
-    step_keeps ArePartsValid (number_up_to line 18_446_744_073_709_551_615 text) (λ x. record parts { count = Some x }) more (λ x e. assumption ((number_up_to-lies line _ text x e).0))
+    step_keeps ArePartsValid (number_up_to line 18_446_744_073_709_551_615 text) (λ x. record parts { count = Some x }) more (λ x e. assumption (number_up_to-lies line _ text x e))
 with_part_value-valid line parts part.Interval text more v =
     step_keeps ArePartsValid (number_up_to line 4_294_967_295 text) (λ x. record parts { interval = Some x }) more (λ x e. assumption (number_up_to-lies line _ text x e))
 with_part_value-valid line parts part.WeekStart text more v =
     step_keeps ArePartsValid (ok_or (weekday_named text) (BadRule line)) (λ x. record parts { week_start = Some x }) more (λ x e. assumption (weekday_named-below text x (ok_or_ok (weekday_named text) _ x e)))
 with_part_value-valid line parts part.BySecond text more v =
-    step_keeps ArePartsValid (numbers_of line seconds text) (λ x. record parts { by_second = x }) more (λ x e. assumption (numbers_of-lie line 0 59 true text x e))
+    step_keeps ArePartsValid (numbers_of line seconds text) (λ x. record parts { by_second = x }) more (λ x e. assumption (numbers_of-lie line 0 59 true text x e, numbers_of-rise line _ text x e))
 with_part_value-valid line parts part.ByMinute text more v =
-    step_keeps ArePartsValid (numbers_of line (unsigned 0 59) text) (λ x. record parts { by_minute = x }) more (λ x e. assumption (numbers_of-lie line 0 59 false text x e))
+    step_keeps ArePartsValid (numbers_of line (unsigned 0 59) text) (λ x. record parts { by_minute = x }) more (λ x e. assumption (numbers_of-lie line 0 59 false text x e, numbers_of-rise line _ text x e))
 with_part_value-valid line parts part.ByHour text more v =
-    step_keeps ArePartsValid (numbers_of line (unsigned 0 23) text) (λ x. record parts { by_hour = x }) more (λ x e. assumption (numbers_of-lie line 0 23 false text x e))
+    step_keeps ArePartsValid (numbers_of line (unsigned 0 23) text) (λ x. record parts { by_hour = x }) more (λ x e. assumption (numbers_of-lie line 0 23 false text x e, numbers_of-rise line _ text x e))
 with_part_value-valid line parts part.ByDay text more v =
-    step_keeps ArePartsValid (day_items_of line text) (λ x. record parts { by_day = x }) more (λ x e. assumption (day_items_of-means line text x e))
+    step_keeps ArePartsValid (day_items_of line text) (λ x. record parts { by_day = x }) more (λ x e. assumption (day_items_of-means line text x e, day_items_of-rise line text x e))
 with_part_value-valid line parts part.ByMonthDay text more v =
-    step_keeps ArePartsValid (numbers_of line (signed 31) text) (λ x. record parts { by_month_day = x }) more (λ x e. assumption (numbers_of-counts line 31 text x e))
+    step_keeps ArePartsValid (numbers_of line (signed 31) text) (λ x. record parts { by_month_day = x }) more (λ x e. assumption (numbers_of-counts line 31 text x e, numbers_of-rise line _ text x e))
 with_part_value-valid line parts part.ByYearDay text more v =
-    step_keeps ArePartsValid (numbers_of line (signed 366) text) (λ x. record parts { by_year_day = x }) more (λ x e. assumption (numbers_of-counts line 366 text x e))
+    step_keeps ArePartsValid (numbers_of line (signed 366) text) (λ x. record parts { by_year_day = x }) more (λ x e. assumption (numbers_of-counts line 366 text x e, numbers_of-rise line _ text x e))
 with_part_value-valid line parts part.ByWeekNo text more v =
-    step_keeps ArePartsValid (numbers_of line (signed 53) text) (λ x. record parts { by_week_no = x }) more (λ x e. assumption (numbers_of-counts line 53 text x e))
+    step_keeps ArePartsValid (numbers_of line (signed 53) text) (λ x. record parts { by_week_no = x }) more (λ x e. assumption (numbers_of-counts line 53 text x e, numbers_of-rise line _ text x e))
 with_part_value-valid line parts part.ByMonth text more v =
-    step_keeps ArePartsValid (numbers_of line (unsigned 1 12) text) (λ x. record parts { by_month = x }) more (λ x e. assumption (numbers_of-lie line 1 12 false text x e))
+    step_keeps ArePartsValid (numbers_of line (unsigned 1 12) text) (λ x. record parts { by_month = x }) more (λ x e. assumption (numbers_of-lie line 1 12 false text x e, numbers_of-rise line _ text x e))
 with_part_value-valid line parts part.BySetPos text more v =
-    step_keeps ArePartsValid (numbers_of line (signed 366) text) (λ x. record parts { by_set_pos = x }) more (λ x e. assumption (numbers_of-counts line 366 text x e))
+    step_keeps ArePartsValid (numbers_of line (signed 366) text) (λ x. record parts { by_set_pos = x }) more (λ x e. assumption (numbers_of-counts line 366 text x e, numbers_of-rise line _ text x e))
 
 with_part-valid : (line : ℕ) (parts : RuleParts) (text : List ℕ) (more : RuleParts) → ArePartsValid parts → with_part line parts text ≡ Ok more → ArePartsValid more
 unfolding with_part

@@ -7,7 +7,7 @@ use Rattle.std.proofs.lemmas.List.Elements.{All-nil, All-cons}
 use Rattle.rr_model.specs.Answers.{Answers}
 use Rattle.rr_model.specs.Text.Moments.{basic}
 use Rattle.rr_model.specs.Text.Rules.{end_of, rule_with, rule_of, needs_offset, series_of, series_with, line_value, values_of, start_of, rule_parts, reads_values, reads}
-use Rattle.rr_model.specs.Rule.Validity.{CountsSome, is_allowed, takes_start, IsValidRule, EndsInYears}
+use Rattle.rr_model.specs.Rule.Validity.{IsCount, HasCountInRange, is_allowed, takes_start, IsValidRule, EndsInYears}
 use Rattle.rr_model.specs.Moment.Years.{IsInYears}
 use Rattle.rr_model.specs.Series.Validity.{IsValidSeries}
 use Rattle.rr_model.specs.declared.kind.Kind.{Kind}
@@ -26,24 +26,24 @@ use Rattle.rr_rrule.proofs.ValidPartsLemmas.{ArePartsValid, rule_parts-valid}
 
 -- ---- the rule
 
--- an end counts some, and lies in the years 1 to 9999
-end_of-valid : (until : Option Stamp) (count : Option ℕ) (end : End) → IfSome until (λ stamp. IsInYears stamp.kind stamp.at) → IfSome count (λ n. 1 ≤ n) → end_of until count ≡ Ok end → CountsSome end × EndsInYears end
+-- the COUNT of an end is in its range, and its UNTIL lies in the years 1 to 9999
+end_of-valid : (until : Option Stamp) (count : Option ℕ) (end : End) → IfSome until (λ stamp. IsInYears stamp.kind stamp.at) → IfSome count IsCount → end_of until count ≡ Ok end → HasCountInRange end × EndsInYears end
 end_of-valid None None end u c h =
     let e : Never ≡ end = cc in
-    subst (λ x. CountsSome x × EndsInYears x) e (tt, tt)
+    subst (λ x. HasCountInRange x × EndsInYears x) e (tt, tt)
 end_of-valid None (Some n) end u c h =
     let e : Count n ≡ end = cc in
-    subst (λ x. CountsSome x × EndsInYears x) e (c, tt)
+    subst (λ x. HasCountInRange x × EndsInYears x) e (c, tt)
 end_of-valid (Some stamp) None end u c h =
     let e : Until stamp.kind stamp.at ≡ end = cc in
-    subst (λ x. CountsSome x × EndsInYears x) e (tt, u)
+    subst (λ x. HasCountInRange x × EndsInYears x) e (tt, u)
 end_of-valid (Some stamp) (Some n) end u c h = absurd (cc)
 
 -- the rule is valid beside a start that it takes
 abbrev IsValidBeside : Rule → Type 0
 IsValidBeside rule = ((kind : Kind) → IsTrue (takes_start rule.freq kind) → IsValidRule kind rule) × EndsInYears rule.end
 
-rule_with-valid : (freq : Freq) (end : End) (parts : RuleParts) → ArePartsValid parts → CountsSome end × EndsInYears end → IsTrue (is_allowed (rule_with freq end parts)) → IsValidBeside (rule_with freq end parts)
+rule_with-valid : (freq : Freq) (end : End) (parts : RuleParts) → ArePartsValid parts → HasCountInRange end × EndsInYears end → IsTrue (is_allowed (rule_with freq end parts)) → IsValidBeside (rule_with freq end parts)
 rule_with-valid freq end parts v ends allowed = (
   λ kind taken. record {
     interval_low = interval.0;
@@ -59,6 +59,17 @@ rule_with-valid freq end parts v ends allowed = (
     set_positions = v.set_positions;
     week_start = unwrap_or-keeps (λ d. d < 7) parts.week_start 0 (omega arith) v.week_start;
     count = ends.0;
+    rising = record {
+      months = v.months_rise;
+      week_numbers = v.week_numbers_rise;
+      year_days = v.year_days_rise;
+      month_days = v.month_days_rise;
+      days = v.days_rise;
+      hours = v.hours_rise;
+      minutes = v.minutes_rise;
+      seconds = v.seconds_rise;
+      set_positions = v.set_positions_rise;
+    };
     parts = allowed;
     start = taken;
   },
@@ -88,6 +99,8 @@ series_of-valid start rule in_years v taken = record {
   ends = All-cons (λ r. EndsInYears r.end) rule [] v.1 (All-nil _);
   plus = All-nil _;
   minus = All-nil _;
+  plus_rises = tt;
+  minus_rises = tt;
   few_dates = omega arith;
 }
 

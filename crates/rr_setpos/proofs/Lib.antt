@@ -1,4 +1,3 @@
 pub mod ChoiceLemmas
 mod DayLemmas
 mod UnitLemmas
-pub mod YearLemmas

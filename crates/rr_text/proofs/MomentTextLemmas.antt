@@ -14,17 +14,13 @@ use Rattle.rr_model.specs.declared.stamp.Stamp.{Stamp}
 use Rattle.rr_text.proofs.DigitLemmas.{digits_value_below}
 use Rattle.rr_model.proofs.CalendarLemmas.{IsInYear-day_number, IsInYear-year_of, first_day_of_year_mono}
 
-first_day_of_year_ends : (first_day_of_year (pos 1) ≡ neg_ℤ (pos 719_162)) × (first_day_of_year (pos 10_000) ≡ pos 2_932_897)
-unfolding first_day_of_year
-first_day_of_year_ends = (refl, refl)
-
 -- the days of the years 1 to 9999
 pub day_number_bounds : (y : ℤ) (m k : ℕ) → pos 1 ≤ℤ y → y ≤ℤ pos 9_999 → IsDate y m k → HasFourDigitYear (day_number y m k)
 day_number_bounds y m k low high date =
     let within = IsInYear-day_number y m k date in
     let from = first_day_of_year_mono (pos 1) y low in
     let to = first_day_of_year_mono (y +ℤ pos 1) (pos 10_000) (omega (arith, ints)) in
-    (omega (arith, ints, within.begun, from, first_day_of_year_ends.0), omega (arith, ints, within.not_over, to, first_day_of_year_ends.1))
+    (omega (arith, ints, within.begun, from), omega (arith, ints, within.not_over, to))
 
 -- the year of a day that does not lie before the year 1
 pub year_of-low : (d : ℤ) → IsFromYearOne d → pos 1 ≤ℤ year_of d
@@ -32,7 +28,7 @@ year_of-low d h =
     let P : Type 0 = pos 1 ≤ℤ year_of d in
     let within = IsInYear-year_of d in
     by_lt_z {P = P} (year_of d) (pos 1)
-    (λ l. absurd (omega (arith, ints, within.not_over, first_day_of_year_mono (year_of d +ℤ pos 1) (pos 1) (omega (arith, ints, l)), first_day_of_year_ends.0)))
+    (λ l. absurd (omega (arith, ints, within.not_over, first_day_of_year_mono (year_of d +ℤ pos 1) (pos 1) (omega (arith, ints, l)), h)))
     (λ g. g)
 
 -- what a text of digits is

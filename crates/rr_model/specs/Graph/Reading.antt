@@ -13,7 +13,7 @@ use Rattle.rr_model.specs.declared.stamp.Stamp.{Stamp}
 use Rattle.rr_model.specs.Text.RuleValues.{◌>>=◌}
 use Rattle.rr_model.specs.Text.Lines.{without_mark}
 use Rattle.rr_model.specs.Text.ExtendedMoments.{extended, extended_date_alone}
-use Rattle.rr_model.specs.Text.Passes.{is_in_years}
+use Rattle.rr_model.specs.Moment.Years.{is_in_years}
 use Rattle.rr_model.specs.Graph.Members.{member_of, object_or, object_in, text_in, number_in, within, form_named, day_named, index_named, json_object}
 use Rattle.rr_model.specs.Graph.Uses.{bit_of, uses_days, uses_first_day, uses_index, uses_day_of_month, uses_month, most_interval}
 use Rattle.rr_model.specs.Graph.Occurrences.{first_repeat_day}
@@ -152,7 +152,7 @@ is_named_utc (Some zone) = str_eq_ignore_ascii_case zone (codes "UTC")
 -- the moment turned by a stated offset, where it is one of UTC
 abbrev pub turned_start : Bool → Option ℤ → ℤ → Option ℤ
 turned_start is_utc None at = Some at
-turned_start is_utc (Some offset) at = if is_utc then (if is_in_years (at +ℤ offset) then Some (at +ℤ offset) else None) else Some at
+turned_start is_utc (Some offset) at = if is_utc then (if is_in_years Moments (at +ℤ offset) then Some (at +ℤ offset) else None) else Some at
 
 -- a moment of Graph, and no date
 abbrev pub graph_moment : List ℕ → Option Stamp

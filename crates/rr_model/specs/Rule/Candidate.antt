@@ -20,11 +20,11 @@ use Rattle.rr_model.specs.declared.rule.Rule.{Rule}
 abbrev pub lists : List ℤ → ℤ → Bool
 lists numbers n = list_any (λ x. int_eq x n) numbers
 
--- the part does not stand, or lists the number
+-- the part is absent, or lists the number
 abbrev pub allows : List ℤ → ℤ → Bool
 allows numbers n = is_absent numbers || lists numbers n
 
--- the part does not stand, or lists the k-th of so many, from the front or from the back
+-- the part is absent, or lists the k-th of so many, from the front or from the back
 abbrev pub allows_place : List ℤ → ℤ → ℤ → Bool
 allows_place numbers k many = is_absent numbers || lists numbers k || lists numbers ((k -ℤ many) -ℤ pos 1)
 
@@ -61,7 +61,7 @@ is_in_place n in_year d =
 abbrev pub day_item_holds : Bool → ℤ → DayItem → Bool
 day_item_holds in_year d item = (item.weekday == weekday_of d) && (int_eq item.place (pos 0) || is_in_place item.place in_year d)
 
--- ---- each BY part of a filled rule, as a test of one day or moment: it does not stand, or it is met
+-- ---- each BY part of a filled rule, as a test of one day or moment: it is absent, or it is met
 
 -- the day lies in a month of BYMONTH
 abbrev pub by_month_holds : Rule → ℤ → Bool

@@ -1,12 +1,10 @@
--- Which moments a rule chooses (RFC 5545, section 3.3.10, BYSETPOS), and which are its members (UNTIL and COUNT).
-use Rattle.std.specs.Prelude.{ℕ, ◌≤◌, Bool, ◌&&◌, ◌||◌, IsTrue, ⊤, ℤ, pos, neg_ℤ, nat_abs, ◌+ℤ◌, ◌-ℤ◌, ◌≤ℤ◌}
+-- Which moments a rule chooses (RFC 5545, section 3.3.10, BYSETPOS).
+use Rattle.std.specs.Prelude.{ℕ, Bool, ◌&&◌, ◌||◌, IsTrue, ℤ, pos, neg_ℤ, nat_abs, ◌+ℤ◌, ◌-ℤ◌}
 use Rattle.rr_model.specs.Whole.Count.{count_from}
 use Rattle.rr_model.specs.Moment.Units.{unit_number, unit_start}
 use Rattle.rr_model.specs.Rule.Validity.{is_absent}
 use Rattle.rr_model.specs.Rule.Candidate.{lists, is_candidate}
 use Rattle.rr_model.specs.declared.kind.Kind.{Kind}
-use Rattle.rr_model.specs.declared.rule.End.{End}
-use Rattle.rr_model.specs.declared.rule.End.TheVariants.{Never, Until, Count, Both}
 use Rattle.rr_model.specs.declared.rule.Rule.{Rule}
 
 -- the first moment of the unit in which t lies
@@ -25,7 +23,7 @@ position_from_front rule kind start t = count_from (is_candidate rule kind start
 abbrev pub position_from_back : Rule → Kind → ℤ → ℤ → ℕ
 position_from_back rule kind start t = count_from (is_candidate rule kind start) t (nat_abs (unit_end rule kind t -ℤ t))
 
--- BYSETPOS does not stand, or lists one of the two, the second as a negative number
+-- BYSETPOS is absent, or lists one of the two, the second as a negative number
 abbrev pub by_set_pos_holds : Rule → Kind → ℤ → ℤ → Bool
 by_set_pos_holds rule kind start t =
     is_absent rule.by_set_pos || lists rule.by_set_pos (pos (position_from_front rule kind start t)) || lists rule.by_set_pos (neg_ℤ (pos (position_from_back rule kind start t)))
@@ -37,20 +35,3 @@ is_chosen rule kind start t = is_candidate rule kind start t && by_set_pos_holds
 -- the rule chooses its own start
 abbrev pub IsSynchronised : Rule → Kind → ℤ → Type 0
 IsSynchronised rule kind start = IsTrue (is_chosen rule kind start start)
-
--- how many chosen moments lie from the start to t, both included
-abbrev pub members_to : Rule → Kind → ℤ → ℤ → ℕ
-members_to rule kind start t = count_from (is_chosen rule kind start) start (nat_abs ((t -ℤ start) +ℤ pos 1))
-
--- t, of the start's kind, is not past the end, where it is the member of this number, from 1
-abbrev pub IsWithinEnd : End → ℤ → ℕ → Type 0
-IsWithinEnd Never t number = ⊤
-IsWithinEnd (Until kind at) t number = t ≤ℤ at
-IsWithinEnd (Count count) t number = number ≤ count
-IsWithinEnd (Both kind at count) t number = (t ≤ℤ at) × (number ≤ count)
-
--- t is a member of the rule with this start
-pub record IsMember (rule : Rule) (kind : Kind) (start t : ℤ) : Type 0 where
-  pub chosen : IsTrue (is_chosen rule kind start t)
-  pub not_before : start ≤ℤ t
-  pub within_end : IsWithinEnd rule.end t (members_to rule kind start t)

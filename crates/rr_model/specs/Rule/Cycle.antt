@@ -21,7 +21,7 @@ abbrev pub asks_calendar : Rule → Bool
 asks_calendar rule =
     not (is_absent rule.by_month && is_absent rule.by_month_day && is_absent rule.by_year_day && is_absent rule.by_week_no)
 
--- after how many days the parts that stand repeat: weekdays after 7, and the calendar after 400 years
+-- after how many days the parts that are present repeat: weekdays after 7, and the calendar after 400 years
 abbrev pub parts_cycle : Rule → ℕ
 parts_cycle rule = lcm (if is_absent rule.by_day then 1 else 7) (if asks_calendar rule then 146_097 else 1)
 

@@ -1,4 +1,4 @@
--- Chosen moments repeat.
+-- Chosen moments repeat with the cycle of their rule (RFC 5545, section 3.3.10).
 use Rattle.std.specs.Prelude.{◌≡◌, ℤ, pos, ◌+ℤ◌, ◌*ℤ◌}
 use Rattle.rr_model.specs.Rule.Validity.{IsValidRule}
 use Rattle.rr_model.specs.Rule.Cycle.{rule_cycle}
@@ -12,6 +12,12 @@ abbrev pub days_in : Kind → ℤ → ℤ
 days_in Days days = days
 days_in Moments days = days *ℤ pos 86_400
 
--- The chosen moments of a valid rule repeat with its cycle: that many days later a moment is chosen exactly where it was.
+-- the moment that many cycles of the rule later, of any sign
+abbrev pub later_moment : Rule → Kind → ℤ → ℤ → ℤ
+later_moment rule kind cycles t = t +ℤ days_in kind (pos (rule_cycle rule) *ℤ cycles)
+
+-- A moment any whole number of cycles later is chosen exactly where it is.
 abbrev pub ChosenRepeats : Type 0
-ChosenRepeats = (rule : Rule) (kind : Kind) (start t : ℤ) → IsValidRule kind rule → is_chosen rule kind start (t +ℤ days_in kind (pos (rule_cycle rule))) ≡ is_chosen rule kind start t
+ChosenRepeats =
+    (rule : Rule) (kind : Kind) (start cycles t : ℤ) → IsValidRule kind rule
+    → is_chosen rule kind start (later_moment rule kind cycles t) ≡ is_chosen rule kind start t

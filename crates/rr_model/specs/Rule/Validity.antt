@@ -1,8 +1,9 @@
 -- Which rules are valid (RFC 5545, section 3.3.10).
-use Rattle.std.specs.Prelude.{ℕ, ◌<◌, ◌≤◌, Bool, true, false, not, ◌&&◌, ◌||◌, IsTrue, ⊤, List, [], ◌∷◌, All, ℤ, pos, nat_abs, ◌≤ℤ◌}
+use Rattle.std.specs.Prelude.{ℕ, ◌<◌, ◌≤◌, Bool, true, false, not, ◌&&◌, ◌||◌, IsTrue, ⊤, List, [], ◌∷◌, All, ℤ, pos, nat_abs, int_lt, ◌≤ℤ◌}
 use Rattle.std.specs.List.{list_any}
 use Rattle.std.specs.Ordering.{int_eq}
 use Rattle.rr_model.specs.Moment.Years.{IsInYears}
+use Rattle.rr_model.specs.Rising.{Rises, day_item_lt}
 use Rattle.rr_model.specs.declared.kind.Kind.{Kind}
 use Rattle.rr_model.specs.declared.kind.Kind.TheVariants.{Days}
 use Rattle.rr_model.specs.declared.rule.Freq.{Freq}
@@ -26,37 +27,53 @@ CountUpTo most numbers = All (λ n. (1 ≤ nat_abs n) × (nat_abs n ≤ most)) n
 abbrev pub IsDayItem : DayItem → Type 0
 IsDayItem item = (nat_abs item.place ≤ 53) × (item.weekday < 7)
 
--- a COUNT is at least 1
-abbrev pub CountsSome : End → Type 0
-CountsSome (Count n) = 1 ≤ n
-CountsSome (Both kind at n) = 1 ≤ n
-CountsSome end = ⊤
+-- a COUNT, from 1 up to the greatest number of 64 bits
+abbrev pub IsCount : ℕ → Type 0
+IsCount n = (1 ≤ n) × (n ≤ 18_446_744_073_709_551_615)
 
--- ---- parts that may stand together
+-- the end's COUNT, where it has one
+abbrev pub HasCountInRange : End → Type 0
+HasCountInRange (Count n) = IsCount n
+HasCountInRange (Both kind at n) = IsCount n
+HasCountInRange end = ⊤
 
--- the part does not stand
+-- the values of each part rise without repeats, those of BYDAY by place, then by weekday
+pub record PartsRise (rule : Rule) : Type 0 where
+  pub months : Rises int_lt rule.by_month
+  pub week_numbers : Rises int_lt rule.by_week_no
+  pub year_days : Rises int_lt rule.by_year_day
+  pub month_days : Rises int_lt rule.by_month_day
+  pub days : Rises day_item_lt rule.by_day
+  pub hours : Rises int_lt rule.by_hour
+  pub minutes : Rises int_lt rule.by_minute
+  pub seconds : Rises int_lt rule.by_second
+  pub set_positions : Rises int_lt rule.by_set_pos
+
+-- ---- parts that may be present together
+
+-- the part is absent
 abbrev pub is_absent : {X : Type 0} → List X → Bool
 is_absent [] = true
 is_absent (x ∷ xs) = false
 
--- BYYEARDAY may not stand with DAILY, WEEKLY or MONTHLY
+-- BYYEARDAY is not allowed with DAILY, WEEKLY or MONTHLY
 abbrev pub takes_year_days : Freq → Bool
 takes_year_days Daily = false
 takes_year_days Weekly = false
 takes_year_days Monthly = false
 takes_year_days freq = true
 
--- BYMONTHDAY may not stand with WEEKLY
+-- BYMONTHDAY is not allowed with WEEKLY
 abbrev pub takes_month_days : Freq → Bool
 takes_month_days Weekly = false
 takes_month_days freq = true
 
--- BYWEEKNO may stand with YEARLY alone
+-- BYWEEKNO is allowed with YEARLY alone
 abbrev pub takes_week_numbers : Freq → Bool
 takes_week_numbers Yearly = true
 takes_week_numbers freq = false
 
--- a number in BYDAY may stand with MONTHLY, and with YEARLY where BYWEEKNO is absent
+-- a number in BYDAY is allowed with MONTHLY, and with YEARLY where BYWEEKNO is absent
 abbrev pub takes_places : Freq → Bool → Bool
 takes_places Monthly no_weeks = true
 takes_places Yearly no_weeks = no_weeks
@@ -66,13 +83,13 @@ takes_places freq no_weeks = false
 abbrev pub has_place : List DayItem → Bool
 has_place items = list_any (λ item. not (int_eq item.place (pos 0))) items
 
--- a part stands that BYSETPOS may choose from
+-- a part is present that BYSETPOS may choose from
 abbrev pub has_part : Rule → Bool
 has_part rule =
     not (is_absent rule.by_month && is_absent rule.by_week_no && is_absent rule.by_year_day && is_absent rule.by_month_day && is_absent rule.by_day
     && is_absent rule.by_hour && is_absent rule.by_minute && is_absent rule.by_second)
 
--- the rule has no two parts that may not stand together
+-- no two parts are present that are not allowed together
 abbrev pub is_allowed : Rule → Bool
 is_allowed rule =
     (takes_year_days rule.freq || is_absent rule.by_year_day)
@@ -90,7 +107,7 @@ takes_start freq kind = true
 
 -- ---- rules
 
--- the rule's numbers lie in their ranges, and its parts may stand together
+-- the rule's numbers lie in their ranges, the values of its parts rise, and its parts are allowed together
 pub record IsValidRule (kind : Kind) (rule : Rule) : Type 0 where
   pub interval_low : 1 ≤ rule.interval
   pub interval_high : rule.interval ≤ 4_294_967_295
@@ -104,7 +121,8 @@ pub record IsValidRule (kind : Kind) (rule : Rule) : Type 0 where
   pub seconds : LieFrom 0 59 rule.by_second
   pub set_positions : CountUpTo 366 rule.by_set_pos
   pub week_start : rule.week_start < 7
-  pub count : CountsSome rule.end
+  pub count : HasCountInRange rule.end
+  pub rising : PartsRise rule
   pub parts : IsTrue (is_allowed rule)
   pub start : IsTrue (takes_start rule.freq kind)
 

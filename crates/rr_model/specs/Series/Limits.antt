@@ -2,13 +2,13 @@
 use Rattle.std.specs.Prelude.{◌≡◌, ◌≢◌, ℕ, ◌<◌, IsTrue, ⊤, List, [], All, AllPairs, length, get_or, nat_lt, ℤ, pos, ◌+ℤ◌, ◌<ℤ◌}
 use Rattle.rr_model.specs.Moment.{day_part}
 use Rattle.rr_model.specs.Rising.Sets.{IsSetOf}
-use Rattle.rr_model.specs.Rule.Chosen.{IsMember}
+use Rattle.rr_model.specs.Rule.Member.{IsMember}
 use Rattle.rr_model.specs.Series.Cycle.{series_cycle}
 use Rattle.rr_model.specs.Series.Tree.{tree_of}
 use Rattle.rr_model.specs.Sets.Sizes.{total_size}
 use Rattle.rr_model.specs.Sets.Tree.{Tree, stands_at}
 use Rattle.rr_model.specs.declared.kind.Kind.{Kind}
-use Rattle.rr_model.specs.declared.limits.TheConstants.{MAX_SECONDS}
+use Rattle.rr_model.specs.declared.limits.TheConstants.{MAX_SECONDS, MAX_SPAN_DAYS}
 use Rattle.rr_model.specs.declared.rule.End.{End}
 use Rattle.rr_model.specs.declared.rule.End.TheVariants.{Never, Until, Count, Both}
 use Rattle.rr_model.specs.declared.rule.Rule.{Rule}
@@ -23,9 +23,9 @@ Counts (Until kind at) = ⊥
 Counts (Count count) = ⊤
 Counts (Both kind at count) = ⊤
 
--- a rule that counts has a member more than 16,777,216 days after its start's day
+-- a rule that counts has a member more days after its start's day than the most of a span
 abbrev pub CountsTooFar : Kind → ℤ → Rule → Type 0
-CountsTooFar kind start rule = Counts rule.end × ((t : ℤ) × ((day_part kind start +ℤ pos 16_777_216) <ℤ day_part kind t) × IsMember rule kind start t)
+CountsTooFar kind start rule = Counts rule.end × ((t : ℤ) × ((day_part kind start +ℤ pos MAX_SPAN_DAYS) <ℤ day_part kind t) × IsMember rule kind start t)
 
 -- some rule of a series does
 abbrev pub IsCountedTooFar : Series → Type 0

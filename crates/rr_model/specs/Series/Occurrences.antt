@@ -1,7 +1,7 @@
 -- What occurs in a series (RFC 5545, section 3.8.5).
 use Rattle.std.specs.Prelude.{◌≡◌, ◌⊎◌, true, List, [], ◌∷◌, ℤ}
 use Rattle.std.specs.List.{Contains}
-use Rattle.rr_model.specs.Rule.Chosen.{IsMember}
+use Rattle.rr_model.specs.Rule.Member.{IsMember}
 use Rattle.rr_model.specs.declared.kind.Kind.{Kind}
 use Rattle.rr_model.specs.declared.rule.Rule.{Rule}
 use Rattle.rr_model.specs.declared.rule.Series.{Series}

@@ -1,7 +1,7 @@
 -- From which day on a series repeats (RFC 5545, section 3.8.5).
 use Rattle.std.specs.Prelude.{◌≡◌, ⊤, List, All, ℤ, ◌≤ℤ◌, ◌<ℤ◌}
 use Rattle.rr_model.specs.Moment.{day_part}
-use Rattle.rr_model.specs.Rule.Chosen.{IsMember}
+use Rattle.rr_model.specs.Rule.Member.{IsMember}
 use Rattle.rr_model.specs.Series.Cycle.{series_cycle}
 use Rattle.rr_model.specs.Series.Soundness.{IsSound}
 use Rattle.rr_model.specs.Series.Tree.{tree_of}

@@ -15,34 +15,34 @@ use Rattle.rr_model.specs.declared.rule.Series.{Series}
 -- ---- why a series is refused
 
 -- of an UNTIL beside a start: another kind, and then an earlier moment
-abbrev pub until_fault : Kind → ℤ → Kind → ℤ → Option Refusal
-until_fault Days start Days at = if int_lt at start then Some UntilBeforeStart else None
-until_fault Moments start Moments at = if int_lt at start then Some UntilBeforeStart else None
-until_fault kind start other at = Some UntilKind
+abbrev pub until_refusal : Kind → ℤ → Kind → ℤ → Option Refusal
+until_refusal Days start Days at = if int_lt at start then Some UntilBeforeStart else None
+until_refusal Moments start Moments at = if int_lt at start then Some UntilBeforeStart else None
+until_refusal kind start other at = Some UntilKind
 
 -- of the end of a rule
-abbrev pub end_fault : Kind → ℤ → End → Option Refusal
-end_fault kind start (Until other at) = until_fault kind start other at
-end_fault kind start (Both other at count) = until_fault kind start other at
-end_fault kind start end = None
+abbrev pub end_refusal : Kind → ℤ → End → Option Refusal
+end_refusal kind start (Until other at) = until_refusal kind start other at
+end_refusal kind start (Both other at count) = until_refusal kind start other at
+end_refusal kind start end = None
 
 -- of a rule's choice: it does not choose its start
-abbrev pub choice_fault : ℕ → Kind → ℤ → Rule → Option Refusal
-choice_fault number kind start rule =
+abbrev pub choice_refusal : ℕ → Kind → ℤ → Rule → Option Refusal
+choice_refusal number kind start rule =
     if is_chosen rule kind start start then None else Some (NotSynchronised number)
 
--- of the rule of this number: its end's fault comes first
-abbrev pub rule_fault : ℕ → Kind → ℤ → Rule → Option Refusal
-rule_fault number kind start rule = option_or (end_fault kind start rule.end) (choice_fault number kind start rule)
+-- of the rule of this number: its end's refusal comes first
+abbrev pub rule_refusal : ℕ → Kind → ℤ → Rule → Option Refusal
+rule_refusal number kind start rule = option_or (end_refusal kind start rule.end) (choice_refusal number kind start rule)
 
--- of rules that are numbered on from this number: the first rule's fault comes first
-abbrev pub rules_fault : ℕ → Kind → ℤ → List Rule → Option Refusal
-rules_fault number kind start [] = None
-rules_fault number kind start (rule ∷ rules) = option_or (rule_fault number kind start rule) (rules_fault (suc number) kind start rules)
+-- of rules that are numbered on from this number: the first rule's refusal comes first
+abbrev pub rules_refusal : ℕ → Kind → ℤ → List Rule → Option Refusal
+rules_refusal number kind start [] = None
+rules_refusal number kind start (rule ∷ rules) = option_or (rule_refusal number kind start rule) (rules_refusal (suc number) kind start rules)
 
 -- of a series, whose rules are numbered from 1
-abbrev pub first_fault : Series → Option Refusal
-first_fault series = rules_fault 1 series.kind series.start series.rules
+abbrev pub first_refusal : Series → Option Refusal
+first_refusal series = rules_refusal 1 series.kind series.start series.rules
 
 -- ---- what is sound
 

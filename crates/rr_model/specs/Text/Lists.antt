@@ -1,8 +1,8 @@
 -- What a list of dates or moments states: one on each line, rising.
 use Rattle.std.specs.Prelude.{ℕ, ◌+◌, nat_le, Bool, true, false, if◌then◌else◌, ℤ, pos, int_lt, List, [], ◌∷◌, Option, None, Some, ok_or, Result, Ok, Err}
 use Rattle.std.specs.Str.{is_utf8}
+use Rattle.rr_model.specs.Moment.{is_same_kind}
 use Rattle.rr_model.specs.Rising.{with_value}
-use Rattle.rr_model.specs.declared.kind.Kind.{Kind}
 use Rattle.rr_model.specs.declared.kind.Kind.TheVariants.{Days, Moments}
 use Rattle.rr_model.specs.declared.rule.Series.{Series}
 use Rattle.rr_model.specs.declared.stamp.Stamp.{Stamp}
@@ -17,12 +17,6 @@ use Rattle.rr_model.specs.declared.refusal.Refusal.TheVariants.{NotText, BadMome
 -- no value is read yet
 abbrev pub empty_list : ListedDates
 empty_list = record { first = None; last = pos 0; count = 0; plus = [] }
-
--- the two are of one kind
-abbrev pub is_same_kind : Kind → Kind → Bool
-is_same_kind Days Days = true
-is_same_kind Moments Moments = true
-is_same_kind kind other = false
 
 -- the next value: of the first one's kind, and above the one before it
 abbrev pub with_next : ℕ → ListedDates → Option Stamp → Stamp → Result ListedDates Refusal

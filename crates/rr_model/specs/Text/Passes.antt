@@ -6,11 +6,13 @@ use Rattle.std.specs.Option.{is_some}
 use Rattle.rr_model.specs.Text.Moments.{basic}
 use Rattle.rr_model.specs.Text.Rules.{has_time}
 use Rattle.rr_model.specs.Rising.{with_value}
+use Rattle.rr_model.specs.Moment.{is_same_kind}
+use Rattle.rr_model.specs.Moment.Years.{is_in_years}
+use Rattle.rr_model.specs.declared.kind.Kind.TheVariants.{Moments}
 use Rattle.rr_model.specs.declared.stamp.Stamp.{Stamp}
 use Rattle.rr_model.specs.Text.RuleValues.{◌>>=◌}
 use Rattle.rr_model.specs.Text.Steps.{in_turn}
 use Rattle.rr_model.specs.Text.UsedLines.{trim}
-use Rattle.rr_model.specs.Text.Lists.{is_same_kind}
 use Rattle.rr_model.specs.declared.pass.FirstPass.{FirstPass}
 use Rattle.rr_model.specs.declared.refusal.Refusal.{Refusal}
 use Rattle.rr_model.specs.declared.refusal.Refusal.TheVariants.{NoStart, BadMoment, MixedKinds, PartTwice, UtcMoment, PeriodValue, Extended, TooManyParts}
@@ -75,14 +77,10 @@ first_pass language pass lines = in_turn (λ p line. judged_line language line.n
 
 -- ---- the second pass
 
--- the moment lies in the years 1 to 9999
-abbrev pub is_in_years : ℤ → Bool
-is_in_years t = int_le (neg_ℤ (pos 62_135_596_800)) t && int_lt t (pos 253_402_300_800)
-
 -- a moment of UTC as local time, which is so many seconds later
 abbrev pub turned : ℕ → Option ℤ → ℤ → Result ℤ Refusal
 turned line None at = Err UtcMoment
-turned line (Some offset) at = if is_in_years (at +ℤ offset) then Ok (at +ℤ offset) else Err (BadMoment line)
+turned line (Some offset) at = if is_in_years Moments (at +ℤ offset) then Ok (at +ℤ offset) else Err (BadMoment line)
 
 -- a moment beside the start: only beside a local time is a moment of UTC turned
 abbrev pub moment_beside : Option ℤ → Stamp → ℕ → Stamp → Result ℤ Refusal

@@ -1,7 +1,8 @@
 -- Laws of vCalendar 1.0: a rule and a series have what their counterparts have, and what is written is read back.
 use Rattle.std.specs.Prelude.{◌≡◌, ◌↔◌, ℤ, int_lt, None, Ok, All}
 use Rattle.rr_model.specs.Rising.{Rises}
-use Rattle.rr_model.specs.Rule.Chosen.{IsMember, IsSynchronised}
+use Rattle.rr_model.specs.Rule.Chosen.{IsSynchronised}
+use Rattle.rr_model.specs.Rule.Member.{IsMember}
 use Rattle.rr_model.specs.Series.Occurrences.{Occurs}
 use Rattle.rr_model.specs.Text.WriteLaws.{IsStatable}
 use Rattle.rr_model.specs.Vcal.Counterpart.{rule_of_vrule, series_of_vseries}

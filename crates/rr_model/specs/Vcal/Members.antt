@@ -4,7 +4,7 @@ use Rattle.std.specs.List.{list_any}
 use Rattle.std.specs.Ordering.{int_eq}
 use Rattle.rr_model.specs.Calendar.{weekday_of, day_of_month, month_of, day_of_year, year_of, days_in_month}
 use Rattle.rr_model.specs.Rule.Candidate.{is_in_place}
-use Rattle.rr_model.specs.Rule.Chosen.{IsWithinEnd}
+use Rattle.rr_model.specs.Rule.Member.{IsWithinEnd}
 use Rattle.rr_model.specs.Whole.Count.{count_from}
 use Rattle.rr_model.specs.Moment.{day_part, second_part}
 use Rattle.rr_model.specs.Moment.Units.{month_number}
@@ -57,7 +57,7 @@ vcal_members_to rule kind start t = count_from (is_vcal_candidate rule kind star
 pub record IsVcalMember (rule : VRule) (kind : Kind) (start t : ℤ) : Type 0 where
   pub candidate : IsTrue (is_vcal_candidate rule kind start t)
   pub not_before : start ≤ℤ t
-  pub within_end : IsWithinEnd rule.end t (vcal_members_to rule kind start t)
+  pub within_end : IsWithinEnd rule.end kind t (vcal_members_to rule kind start t)
 
 -- some item has the start's day
 abbrev pub IsVcalSynchronised : VRule → Kind → ℤ → Type 0

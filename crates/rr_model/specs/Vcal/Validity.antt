@@ -7,7 +7,8 @@ use Rattle.rr_model.specs.declared.item.Item.TheVariants.{Every, Weekday, MonthD
 use Rattle.rr_model.specs.declared.vcal.VRule.{VRule}
 use Rattle.rr_model.specs.declared.vcal.VSeries.{VSeries}
 use Rattle.rr_model.specs.Moment.Years.{IsInYears}
-use Rattle.rr_model.specs.Rule.Validity.{CountsSome, EndsInYears}
+use Rattle.rr_model.specs.Rule.Validity.{HasCountInRange, EndsInYears}
+use Rattle.rr_model.specs.declared.limits.TheConstants.{MAX_RULES, MAX_DATES}
 
 -- the item is one of a rule of this kind, and its numbers lie in their ranges
 abbrev pub IsItemOf : FamilyKind → Item → Type 0
@@ -24,14 +25,14 @@ pub record IsValidVRule (rule : VRule) : Type 0 where
   pub interval_high : rule.interval ≤ 4_294_967_295
   pub items : All (IsItemOf rule.family) rule.items
   pub some_item : 1 ≤ length rule.items
-  pub count : CountsSome rule.end
+  pub count : HasCountInRange rule.end
 
 -- the rules are valid, and the moments lie in the years 1 to 9999
 pub record IsValidVSeries (series : VSeries) : Type 0 where
   pub start : IsInYears series.kind series.start
   pub rules : All IsValidVRule series.rules
-  pub few_rules : length series.rules ≤ 16
+  pub few_rules : length series.rules ≤ MAX_RULES
   pub ends : All (λ rule. EndsInYears rule.end) series.rules
   pub plus : All (IsInYears series.kind) series.plus
   pub minus : All (IsInYears series.kind) series.minus
-  pub few_dates : length series.plus + length series.minus ≤ 10_000
+  pub few_dates : length series.plus + length series.minus ≤ MAX_DATES

@@ -8,19 +8,21 @@ use Rattle.rr_model.specs.Series.Validity.{IsValidSeries}
 use Rattle.rr_model.specs.declared.kind.Kind.TheVariants.{Days}
 use Rattle.rr_model.specs.declared.rule.End.TheVariants.{Never}
 use Rattle.rr_model.specs.declared.rule.Rule.{Rule}
-use Rattle.rr_setpos.proofs.YearLemmas.{IsInYears-days}
+use Rattle.rr_model.proofs.YearLemmas.{four_digit_year}
 use Rattle.rr_check.proofs.tests.series.Goals as goal
 
 one_rule : (rule : Rule) (start : ℤ) (rules : List Rule) (plus minus : List ℤ) → IsValidRule Days rule → rule.end ≡ Never → rules ≡ rule ∷ [] → plus ≡ [] → minus ≡ [] → pos 0 ≤ℤ start → start ≤ℤ pos 2_932_896 → IsValidSeries (record { kind = Days; start = start; start_counts = true; rules = rules; plus = plus; minus = minus })
 one_rule rule start rules plus minus valid end one none nothing low high =
     rw (one, none, nothing) (record {
-      start = IsInYears-days start (omega (arith, ints, low)) high;
+      start = (four_digit_year start).1 (omega (arith, ints, low), high);
       start_counts = λ e. absurd (false≢true (sym e));
       rules = All-cons (IsValidRule Days) rule [] valid (All-nil (IsValidRule Days));
       few_rules = omega arith;
       ends = All-cons (λ r. EndsInYears r.end) rule [] (rw end tt) (All-nil (λ r. EndsInYears r.end));
       plus = All-nil (IsInYears Days);
       minus = All-nil (IsInYears Days);
+      plus_rises = tt;
+      minus_rises = tt;
       few_dates = omega arith;
     })
 

@@ -1,6 +1,7 @@
 use Rattle.std.proofs.Common.{◌≡◌, ◌+◌, pos, ◌+ℤ◌, w64, to_z, of_z, arith}
 use Rattle.std.proofs.lemmas.Int.{ints, clamps, to_z-of_z}
 use Rattle.rr_cli.proofs.DailyLemmas.{same_days, IsEqualVerdict-yes, IsEqualVerdict-no}
+use Rattle.rr_model.proofs.YearLemmas.{year_1}
 use Rattle.rr_cli.specs.Series.{series_of}
 use Rattle.rr_cli.proofs.decide.equal.Goals as goal
 
@@ -20,4 +21,4 @@ returns-in-Some-clause-verdict c =
 pub returns-in-Some-clause-printable : goal.returns-in-Some-clause-printable
 returns-in-Some-clause-printable c =
     let first = c.in-Some.ensures.some in
-    (omega (arith, ints, clamps, first.from), (omega (arith, ints, clamps, first.from), omega (arith, ints, c.in-Some.ensures.near)))
+    (omega (arith, ints, clamps, first.from, year_1), (omega (arith, ints, clamps, first.from), omega (arith, ints, c.in-Some.ensures.near)))

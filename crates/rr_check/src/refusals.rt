@@ -1,0 +1,81 @@
+// Why a series is refused: the first reason, rule by rule.
+ghost use Rattle.std.specs.Prelude.{◌≡◌, ◌≤◌, All, length, []};
+ghost use Rattle.rr_model.specs.Moment.Years.{IsInYears};
+ghost use Rattle.rr_model.specs.Rule.Validity.{IsValidRule};
+ghost use Rattle.rr_model.specs.Series.Validity.{IsValidSeries};
+ghost use Rattle.rr_model.specs.Series.Soundness.{HasNoSetPositions, choice_refusal, end_refusal, first_refusal, rule_refusal, until_refusal};
+
+use rr_model::{End, Kind, Refusal, Rule, Series};
+use rr_setpos::chosen;
+
+// The first refusal of a series.
+pub(crate) fn first_refusal(series: &Series) -> Option<Refusal>
+    requires valid { IsValidSeries series.now }
+    requires without_set_positions { HasNoSetPositions series.now }
+    ensures { result ≡ first_refusal series.now }
+{
+    let mut number = 1;
+    for rule in series.rules.as_slice() {
+        let refusal = rule_refusal(number, series.kind, series.start, rule);
+        if refusal.is_some() {
+            return refusal;
+        }
+        number += 1;
+    }
+    None
+}
+
+// The refusal of the rule of this number.
+fn rule_refusal(number: u32, kind: Kind, start: i64, rule: &Rule) -> Option<Refusal>
+    requires valid { IsValidRule kind rule.now }
+    requires without_set_positions { rule.now.by_set_pos ≡ [] }
+    requires start { IsInYears kind start }
+    ensures { result ≡ rule_refusal number kind start rule.now }
+{
+    end_refusal(kind, start, rule.end).or(choice_refusal(number, kind, start, rule))
+}
+
+// The refusal of the end of a rule.
+pub(crate) fn end_refusal(kind: Kind, start: i64, end: End) -> Option<Refusal>
+    ensures { result ≡ end_refusal kind start end }
+{
+    match end {
+        End::Never | End::Count(_) => None,
+        End::Until { kind: other, at } => until_refusal(kind, start, other, at),
+        End::Both {
+            kind: other,
+            at,
+            ..
+        } => until_refusal(kind, start, other, at),
+    }
+}
+
+// The refusal of an UNTIL beside a start.
+fn until_refusal(kind: Kind, start: i64, other: Kind, at: i64) -> Option<Refusal>
+    ensures { result ≡ until_refusal kind start other at }
+{
+    match (kind, other) {
+        (Kind::Days, Kind::Days) | (Kind::Moments, Kind::Moments) => {
+            if at < start {
+                Some(Refusal::UntilBeforeStart)
+            } else {
+                None
+            }
+        }
+        _ => Some(Refusal::UntilKind),
+    }
+}
+
+// The refusal of a rule that does not choose its start.
+fn choice_refusal(number: u32, kind: Kind, start: i64, rule: &Rule) -> Option<Refusal>
+    requires valid { IsValidRule kind rule.now }
+    requires without_set_positions { rule.now.by_set_pos ≡ [] }
+    requires start { IsInYears kind start }
+    ensures { result ≡ choice_refusal number kind start rule.now }
+{
+    if chosen(rule, kind, start, start) {
+        None
+    } else {
+        Some(Refusal::NotSynchronised(number))
+    }
+}
