@@ -3,7 +3,7 @@ use Rattle.std.proofs.Common.{◌≡◌, ℕ, ◌^◌, ◌<◌, ◌≤◌, ◌�
 use Rattle.std.specs.List.{list_all}
 use Rattle.std.proofs.lemmas.Bool.Decides.{nat_tests}
 use Rattle.rr_model.specs.Text.Digits.{is_digit, digits_value, leading_digits}
-use Rattle.rr_model.proofs.DigitLemmas.{digits_value_below}
+use Rattle.rr_text.proofs.DigitLemmas.{digits_value_below}
 use Rattle.rr_cli.specs.Command.{is_decimal, number_of, two_digits}
 use Rattle.rr_cli.proofs.IntervalText.{leading_digits-all}
 
