@@ -1,2 +1,3 @@
 mod DivisionLemmas
 mod PartsLemmas
+pub mod FactorLemmas

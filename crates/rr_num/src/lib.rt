@@ -3,8 +3,10 @@
 
 mod cycle;
 mod divisors;
+mod factors;
 #[cfg(test)]
 mod tests;
 
 pub use cycle::day_cycle;
 pub use divisors::{gcd, lcm_within};
+pub use factors::least_factor;

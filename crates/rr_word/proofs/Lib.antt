@@ -1,3 +1,12 @@
 mod SketchExamples
 pub mod SketchLemmas
 pub mod WindowLemmas
+pub mod PeriodLemmas
+pub mod DividingLemmas
+pub mod ShapeLemmas
+pub mod OneLeastLemmas
+pub mod OccupiedLemmas
+pub mod ExactlyOneLemmas
+pub mod SetNumberLemmas
+pub mod SameLemmas
+pub mod NumberedLemmas

@@ -1,1 +1,3 @@
 pub mod SketchLaws
+pub mod Bounded
+pub mod Numbered

@@ -1,5 +1,7 @@
-// For how many days two sequences are to be compared, each law the contract of a function that does nothing.
+// Laws about sequences of days that repeat, each the contract of a function that does nothing.
 ghost use Rattle.rr_word.specs.SketchLaws.{AgreementOfListsLasts, AgreementOfSketchesLasts, WindowOfSketchesLasts};
+ghost use Rattle.rr_model.specs.Sets.ExactlyOne.{EachHasOneLeastSketch};
+ghost use Rattle.rr_model.specs.Sets.Least.{LeastPeriodDivides, LeastSketchIsOne};
 
 use crate::DaySeq;
 
@@ -17,4 +19,19 @@ pub fn agreement_lasts<A: DaySeq, B: DaySeq>(a: &A, b: &B)
 /// is so within as many days as a common multiple of the periods.
 pub fn window_lasts<A: DaySeq, B: DaySeq>(a: &A, b: &B)
     ensures { WindowOfSketchesLasts (A.sketch a.now) (B.sketch b.now) }
+{}
+
+/// The least eventual period of a sequence divides every eventual period.
+pub fn least_period_divides()
+    ensures { LeastPeriodDivides }
+{}
+
+/// A set of occurrences has one least sketch at most.
+pub fn least_sketch_is_one()
+    ensures { LeastSketchIsOne }
+{}
+
+/// Each set of occurrences of a day sequence has exactly one least sketch.
+pub fn each_has_one_least_sketch()
+    ensures { EachHasOneLeastSketch }
 {}

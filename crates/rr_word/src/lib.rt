@@ -1,8 +1,17 @@
-//! Sequences of days that repeat from some day on, and for how many days two are to be compared to be known for ever.
+//! Sequences of days that repeat from some day on: for how many days two are to be compared to be known for ever, and the
+//! least period and the least start of one.
 #![tactic(auto)]
 
 mod day_seq;
 mod laws;
+mod least;
+mod numbered;
+mod same;
 
 pub use day_seq::DaySeq;
-pub use laws::{agreement_lasts, agreement_of_lists_lasts, window_lasts};
+pub use laws::{
+    agreement_lasts, agreement_of_lists_lasts, each_has_one_least_sketch, least_period_divides, least_sketch_is_one,
+    window_lasts,
+};
+pub use least::{least_period, least_start};
+pub use numbered::{NumberedDay, NumberedDays};

@@ -1,0 +1,7 @@
+use Rattle.std.specs.Prelude.{◌≡◌, ◌++◌, map, take}
+use Rattle.rr_model.specs.Sets.DescriptorText.{seconds_line, text_of_lines}
+use Rattle.rr_canon.proofs.text.push_all_sets.Given as goal
+
+-- the sets so far were added
+abbrev pub invariant-loop-place : goal.invariant-loop-place
+invariant-loop-place l = l.out.items ≡ l.fn.out.items ++ text_of_lines (map seconds_line (take l.place l.sets))

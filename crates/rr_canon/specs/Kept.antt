@@ -1,0 +1,40 @@
+-- The parts of a least sketch as they are kept: days with numbers, and the sets of these numbers.
+use Rattle.std.specs.Prelude.{◌≡◌, ℕ, List, [], ◌++◌, ℤ, pos, ◌+ℤ◌, ◌-ℤ◌, int_lt, Option, if◌then◌else◌}
+use Rattle.rr_model.specs.Whole.{floor_mod}
+use Rattle.rr_model.specs.declared.kind.Kind.{Kind}
+use Rattle.rr_model.specs.declared.sketch.Sketch.{Sketch}
+use Rattle.rr_model.specs.Sets.Descriptor.{with_sets_of}
+use Rattle.rr_model.specs.Sets.Occupied.{occupied, shape_if_some}
+use Rattle.rr_word.specs.Numbered.{shapes_of, numbered, number_in}
+use Rattle.rr_word.specs.declared.numbered.NumberedDay.{NumberedDay}
+
+-- the sketch of its parts
+abbrev pub sketch_of : Kind → List (List ℕ) → List NumberedDay → ℤ → ℕ → List NumberedDay → Sketch
+sketch_of kind sets before settled period cycle = record {
+  kind = kind;
+  before = shapes_of sets before;
+  settled = settled;
+  period = period;
+  cycle = shapes_of sets cycle;
+}
+
+-- the number on a day, before the settled day or repeated from the first period
+abbrev pub number_kept : List NumberedDay → ℤ → ℕ → List NumberedDay → ℤ → Option ℕ
+number_kept before settled period cycle day =
+    if int_lt day settled then number_in before day else number_in cycle (settled +ℤ pos (floor_mod (day -ℤ settled) period))
+
+-- the sets are those of the days in the order of their first use, and each day has the number of its set
+pub record IsKept (sets : List (List ℕ)) (before cycle : List NumberedDay) : Type 0 where
+  pub sets_in_order : sets ≡ with_sets_of [] (shapes_of sets before ++ shapes_of sets cycle)
+  pub before_numbers : before ≡ numbered sets (shapes_of sets before)
+  pub cycle_numbers : cycle ≡ numbered sets (shapes_of sets cycle)
+
+-- the occupied ones of n days were added, and their sets
+pub record AreStretchOf (s : Sketch) (from : ℤ) (n : ℕ) (old new : List (List ℕ)) (days : List NumberedDay) : Type 0 where
+  pub sets : new ≡ with_sets_of old (occupied s from n)
+  pub numbers : days ≡ numbered new (occupied s from n)
+
+-- one day was added, where it has seconds
+pub record IsPutDay (day : ℤ) (times : List ℕ) (old_sets new_sets : List (List ℕ)) (old new : List NumberedDay) : Type 0 where
+  pub sets : new_sets ≡ with_sets_of old_sets (shape_if_some day times)
+  pub numbers : new ≡ old ++ numbered new_sets (shape_if_some day times)

@@ -1,0 +1,25 @@
+// Laws about canonical texts, each the contract of a function that does nothing.
+ghost use Rattle.rr_model.specs.Sets.DescriptorText.{descriptor_text};
+ghost use Rattle.rr_model.specs.Sets.Printable.{DescriptorsReadBack, TellsSetsApart};
+ghost use Rattle.rr_model.specs.Sets.Stretches.{second_descriptor_text};
+ghost use Rattle.rr_model.specs.Series.CanonLaw.{CanonIsEqualExactly};
+
+/// Texts of the first version are equal exactly where the sets have equal occurrences.
+pub fn descriptor_tells_sets_apart()
+    ensures { TellsSetsApart descriptor_text }
+{}
+
+/// Texts of the second version are equal exactly where the sets have equal occurrences.
+pub fn second_version_tells_sets_apart()
+    ensures { TellsSetsApart second_descriptor_text }
+{}
+
+/// What is said of a least sketch describes that sketch again.
+pub fn descriptors_read_back()
+    ensures { DescriptorsReadBack }
+{}
+
+/// Canonical texts of two series are equal exactly where the series have equal occurrences.
+pub fn canon_is_equal_exactly()
+    ensures { CanonIsEqualExactly }
+{}

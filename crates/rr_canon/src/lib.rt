@@ -1,0 +1,16 @@
+//! Canonical texts of sets of occurrences.
+#![tactic(auto)]
+
+mod laws;
+mod least_seq;
+mod lines;
+mod sets;
+mod stretch;
+mod text;
+
+pub use laws::{
+    canon_is_equal_exactly, descriptor_tells_sets_apart, descriptors_read_back,
+    second_version_tells_sets_apart,
+};
+pub use least_seq::{LeastSeq, least};
+pub use text::describe;

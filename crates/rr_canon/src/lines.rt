@@ -1,0 +1,108 @@
+// The lines of a descriptor.
+ghost use Rattle.std.specs.Prelude.{◌≡◌, ◌+◌, ◌≤◌, ◌∷◌, [], ◌++◌, OnOk, OnErr, codes, map, neg_ℤ, pos, ◌≤ℤ◌};
+ghost use Rattle.std.specs.Fmt.{decimal};
+ghost use Rattle.rr_model.specs.Text.Moments.{extended_date_text};
+ghost use Rattle.rr_model.specs.Sets.DescriptorText.{text_of_lines, fields, kind_line, seconds_line, first_line, run_line};
+ghost use Rattle.rr_model.specs.Sets.Printable.{IsPrintedDay};
+
+use itoa::Buffer;
+use rr_model::{Kind, NoMemory};
+use rr_text::push_extended;
+
+/// As many equal steps in a row.
+#[derive(Clone, Copy)]
+pub struct OpenRun {
+    /// How many days each day lies after the one before it.
+    pub gap: u64,
+    /// The number of its time set.
+    pub set: u32,
+    /// How many days.
+    pub count: u64,
+}
+
+/// A line, and a line feed.
+#[tactic(auto, unfolding(rr_model::specs::Sets::DescriptorText::text_of_lines))]
+pub fn push_line(out: &mut Vec<u8>, line: &[u8]) -> Result<(), NoMemory>
+    ensures { OnOk result (out.new.items ≡ out.old.items ++ text_of_lines (line.now ∷ [])) }
+{
+    out.extend_from_slice(line)?;
+    out.push(b'\n')?;
+    Ok(())
+}
+
+// A number after a blank.
+fn push_field(out: &mut Vec<u8>, number: u64) -> Result<(), NoMemory>
+    ensures { OnOk result (out.new.items ≡ out.old.items ++ (32 ∷ decimal number)) }
+{
+    let mut buffer = Buffer::new();
+    out.push(b' ')?;
+    out.extend_from_slice(buffer.format(number).as_bytes())?;
+    Ok(())
+}
+
+/// A letter, the gap, the number of the set and the count.
+pub fn push_run(out: &mut Vec<u8>, letter: u8, run: OpenRun) -> Result<(), NoMemory>
+    ensures { OnOk result (out.new.items ≡ out.old.items ++ text_of_lines (run_line letter (record { gap = run.gap; set = run.set; count = run.count }) ∷ [])) }
+{
+    out.push(letter)?;
+    push_field(out, run.gap)?;
+    push_field(out, u64::from(run.set))?;
+    push_field(out, run.count)?;
+    out.push(b'\n')?;
+    Ok(())
+}
+
+/// `t` and the seconds of a time set.
+pub fn push_seconds(out: &mut Vec<u8>, times: &[u32]) -> Result<(), NoMemory>
+    ensures { OnOk result (out.new.items ≡ out.old.items ++ text_of_lines (seconds_line times.now ∷ [])) }
+{
+    out.push(b't')?;
+    for second in times {
+        push_field(out, u64::from(*second))?;
+    }
+    out.push(b'\n')?;
+    Ok(())
+}
+
+/// The kind.
+pub fn push_kind(out: &mut Vec<u8>, kind: Kind) -> Result<(), NoMemory>
+    ensures { OnOk result (out.new.items ≡ out.old.items ++ text_of_lines (kind_line kind ∷ [])) }
+{
+    match kind {
+        Kind::Days => push_line(out, b"days"),
+        Kind::Moments => push_line(out, b"moments"),
+    }
+}
+
+// A day after a letter and a blank.
+#[tactic(auto, unfolding(rr_model::specs::Text::Moments::extended_text))]
+fn push_day(out: &mut Vec<u8>, letter: u8, day: i64) -> Result<(), NoMemory>
+    requires { IsPrintedDay day }
+    ensures { OnOk result (out.new.items ≡ out.old.items ++ (letter ∷ 32 ∷ extended_date_text day)) }
+{
+    out.push(letter)?;
+    out.push(b' ')?;
+    push_extended(out, Kind::Days, day)
+}
+
+/// `f` and the first occupied day.
+#[tactic(auto, unfolding(rr_model::specs::Sets::DescriptorText::text_of_lines))]
+pub fn push_first(out: &mut Vec<u8>, day: i64) -> Result<(), NoMemory>
+    requires { IsPrintedDay day }
+    ensures { OnOk result (out.new.items ≡ out.old.items ++ text_of_lines (first_line day ∷ [])) }
+{
+    push_day(out, b'f', day)?;
+    out.push(b'\n')?;
+    Ok(())
+}
+
+/// `q`, the settled day and the period.
+pub fn push_settled(out: &mut Vec<u8>, day: i64, period: u64) -> Result<(), NoMemory>
+    requires { IsPrintedDay day }
+    ensures { OnOk result (out.new.items ≡ out.old.items ++ text_of_lines ((113 ∷ 32 ∷ extended_date_text day ++ fields (period ∷ [])) ∷ [])) }
+{
+    push_day(out, b'q', day)?;
+    push_field(out, period)?;
+    out.push(b'\n')?;
+    Ok(())
+}

@@ -1,0 +1,170 @@
+// The descriptor of a least sketch.
+ghost use Rattle.std.specs.Prelude.{◌≡◌, ◌↔◌, ◌<◌, ◌≤◌, ◌++◌, [], IfOk, IsTrue, OnOk, Some, map};
+ghost use Rattle.rr_model.specs.declared.kind.Kind.{Kind};
+ghost use Rattle.rr_model.specs.Sets.Descriptor.{descriptor, runs_of};
+ghost use Rattle.rr_model.specs.Sets.DescriptorText.{descriptor_text, ending_lines, lines_of, run_line, seconds_line, set_lines, text_of_lines};
+ghost use Rattle.rr_model.specs.Sets.Printable.{HasNoneBeforeYearOne, IsPrintedDay};
+ghost use Rattle.rr_canon.specs.Least.{least_sketch};
+ghost use Rattle.rr_canon.specs.Said.{IsNextRun, ending_said, first_in, said_of, steps_by_number, text_of_runs, with_run};
+
+use crate::least_seq::LeastSeq;
+use crate::lines::{
+    OpenRun, push_first, push_kind, push_line, push_run, push_seconds, push_settled,
+};
+use crate::sets::TimeSets;
+use rr_word::NumberedDay;
+use rr_model::{Kind, NoMemory};
+use std::alloc::Global;
+
+// Whether the step goes on with the run.
+fn goes_on(run: OpenRun, gap: u64, set: u32) -> bool
+    ensures { IsTrue result ↔ ((gap ≡ run.gap) × (set ≡ run.set)) }
+{
+    gap == run.gap && set == run.set
+}
+
+// The run with one more step; a run that ends is added.
+fn next_run(
+    out: &mut Vec<u8>,
+    letter: u8,
+    run: OpenRun,
+    gap: u64,
+    set: u32,
+) -> Result<OpenRun, NoMemory>
+    requires { run.count < 18_446_744_073_709_551_615 }
+    ensures { IfOk result (λ r. IsNextRun letter (record { gap = run.gap; set = run.set; count = run.count }) (record { gap = gap; set = set }) out.old.items out.new.items (record { gap = r.gap; set = r.set; count = r.count })) }
+{
+    let same = goes_on(run, gap, set);
+    if same {
+        return Ok(OpenRun {
+            gap: run.gap,
+            set: run.set,
+            count: run.count + 1,
+        });
+    }
+    push_run(out, letter, run)?;
+    Ok(OpenRun { gap, set, count: 1 })
+}
+
+// An open run and the runs over the days that follow, in one pass.
+fn push_more_runs(
+    out: &mut Vec<u8>,
+    letter: u8,
+    run: OpenRun,
+    from: i64,
+    days: &[NumberedDay],
+) -> Result<(), NoMemory>
+    requires { run.count ≤ 1 }
+    ensures { OnOk result (out.new.items ≡ out.old.items ++ text_of_runs letter (with_run (record { gap = run.gap; set = run.set; count = run.count }) (runs_of (steps_by_number from days.now)))) }
+{
+    let mut current = run;
+    let mut last = from;
+    for day in days {
+        current = next_run(out, letter, current, day.day.abs_diff(last), day.number)?;
+        last = day.day;
+    }
+    push_run(out, letter, current)
+}
+
+// The runs over these days.
+fn push_runs(out: &mut Vec<u8>, letter: u8, from: i64, days: &[NumberedDay]) -> Result<(), NoMemory>
+    ensures { OnOk result (out.new.items ≡ out.old.items ++ text_of_runs letter (runs_of (steps_by_number from days.now))) }
+{
+    if days.is_empty() {
+        return Ok(());
+    }
+    let first = days[0];
+    let run = OpenRun {
+        gap: first.day.abs_diff(from),
+        set: first.number,
+        count: 1,
+    };
+    push_more_runs(out, letter, run, first.day, &days[1..])
+}
+
+// The lines of all time sets.
+fn push_all_sets(out: &mut Vec<u8>, sets: &TimeSets) -> Result<(), NoMemory>
+    ensures { OnOk result (out.new.items ≡ out.old.items ++ text_of_lines (map seconds_line sets.now)) }
+{
+    for place in 0..sets.count() {
+        push_seconds(out, sets.at(place))?;
+    }
+    Ok(())
+}
+
+// The lines of the time sets of moments.
+fn push_sets(out: &mut Vec<u8>, kind: Kind, sets: &TimeSets) -> Result<(), NoMemory>
+    ensures { OnOk result (out.new.items ≡ out.old.items ++ text_of_lines (set_lines seconds_line kind sets.now)) }
+{
+    match kind {
+        Kind::Days => Ok(()),
+        Kind::Moments => push_all_sets(out, sets),
+    }
+}
+
+// The settled day, the period and the runs of the first period, where some day repeats.
+fn push_ending(
+    out: &mut Vec<u8>,
+    settled: i64,
+    period: u64,
+    cycle: &[NumberedDay],
+) -> Result<(), NoMemory>
+    requires { (cycle.now ≡ [] → ⊥) → IsPrintedDay settled }
+    ensures { OnOk result (out.new.items ≡ out.old.items ++ text_of_lines (ending_lines (ending_said settled period cycle.now))) }
+{
+    if cycle.is_empty() {
+        return Ok(());
+    }
+    push_settled(out, settled, period)?;
+    push_runs(out, b'c', settled, cycle)
+}
+
+// The first day of two lists.
+fn first_day(before: &[NumberedDay], cycle: &[NumberedDay]) -> Option<i64>
+    ensures { result ≡ first_in (before.now ++ cycle.now) }
+{
+    if let [day, ..] = before {
+        return Some(day.day);
+    }
+    if let [day, ..] = cycle {
+        return Some(day.day);
+    }
+    None
+}
+
+// All lines but the first, of a set with occupied days.
+fn push_days(out: &mut Vec<u8>, least: &LeastSeq, first: i64) -> Result<(), NoMemory>
+    requires first { IsPrintedDay first }
+    requires settled { (least.now.cycle ≡ [] → ⊥) → IsPrintedDay least.now.settled }
+    ensures { OnOk result (out.new.items ≡ out.old.items ++ text_of_lines (lines_of seconds_line (said_of least.now.kind least.now.sets least.now.before least.now.settled least.now.period least.now.cycle (Some first)))) }
+{
+    push_kind(out, least.kind)?;
+    push_sets(out, least.kind, &least.sets)?;
+    push_first(out, first)?;
+    push_runs(out, b'b', first, least.before.as_slice())?;
+    push_ending(out, least.settled, least.period, least.cycle.as_slice())
+}
+
+// All lines but the first.
+fn push_said(out: &mut Vec<u8>, least: &LeastSeq) -> Result<(), NoMemory>
+    requires { HasNoneBeforeYearOne (least_sketch least.now) }
+    ensures { OnOk result (out.new.items ≡ out.old.items ++ text_of_lines (lines_of seconds_line (descriptor (least_sketch least.now)))) }
+{
+    match first_day(least.before.as_slice(), least.cycle.as_slice()) {
+        None => push_line(out, b"none"),
+        Some(first) => push_days(out, least, first),
+    }
+}
+
+/// The canonical text of a set: version 1.
+///
+/// No occurrence may lie before 0001-01-01. Two sets have equal texts exactly where they have equal occurrences.
+pub fn describe(alloc: Global, least: &LeastSeq) -> Result<Vec<u8>, NoMemory>
+    requires { HasNoneBeforeYearOne (least_sketch least.now) }
+    ensures { IfOk result (λ out. out.items ≡ descriptor_text (least_sketch least.now)) }
+{
+    let mut out = Vec::new(alloc);
+    push_line(&mut out, b"rrcanon 1")?;
+    push_said(&mut out, least)?;
+    Ok(out)
+}
