@@ -16,6 +16,7 @@ use Rattle.rr_model.specs.Sets.Descriptor.{Step, Run, is_same_set, with_set, wit
 use Rattle.rr_model.specs.Sets.DescriptorText.{seconds_line, text_of, descriptor_text}
 use Rattle.rr_model.specs.Sets.Least.{IsLeastOfFinite, IsLeastOfEndless}
 use Rattle.rr_model.specs.Sets.Printable.{IsPrintedDay, IsPrintedRun, ArePrintedSets, IsPrintedIfSome, IsPrintedSet, IsPrinted, IsInLine, IsSetLine, IsDescribable, TellsSetsApart, IsTextOf}
+use Rattle.rr_model.proofs.YearLemmas.{from_year_one}
 use Rattle.rr_word.proofs.OneLeastLemmas.{before_part, first_period, one_least}
 use Rattle.rr_word.proofs.SetNumberLemmas.{IsKnown, number_within, All-front, All-back, All-with_sets_of}
 use Rattle.rr_word.proofs.ShapeLemmas.{some_set, times_in-first}
@@ -227,7 +228,7 @@ module _ (s : Sketch) (d : IsDescribable s) where
       All-head F x xs (subst (All F) e (All-append F s.before s.cycle fair_before fair_cycle))
 
   printed_day : (q : ℤ) → IsFromYearOne q → q ≤ℤ pos 2_000_000_000 → IsPrintedDay q
-  printed_day q from high = (from, (omega (arith, ints), omega (arith, ints)))
+  printed_day q from high = let low = (from_year_one q).0 from in (from, (omega (arith, ints), omega (arith, ints)))
 
   pub first_printed : (x : DayShape) (xs : List DayShape) → s.before ++ s.cycle ≡ x ∷ xs → IsPrintedDay x.day
   first_printed x xs e = printed_day x.day (d.from_year_one x.day (first_occupied x xs e)) (fair_first x xs e).1

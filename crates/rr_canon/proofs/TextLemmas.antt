@@ -11,8 +11,8 @@ use Rattle.rr_model.specs.Rising.Sets.{IsSecondsOfDay}
 use Rattle.rr_model.specs.declared.kind.Kind.{Kind}
 use Rattle.rr_model.specs.declared.kind.Kind.TheVariants.{Days, Moments}
 use Rattle.rr_model.proofs.CalendarLemmas.{first_day_of_year_bounds, days_in_month_bounds, IsInYear-year_of, IsDate-year_of}
-use Rattle.rr_model.proofs.MomentTextLemmas.{year_of-low}
-use Rattle.rr_model.proofs.PrintedLemmas.{extended_text_injective}
+use Rattle.rr_text.proofs.MomentTextLemmas.{year_of-low}
+use Rattle.rr_text.proofs.PrintedLemmas.{extended_text_injective}
 use Rattle.rr_model.specs.Sets.Descriptor.{Run, Ending, Described}
 use Rattle.rr_model.specs.Sets.DescriptorText.{fields, kind_line, seconds_line, set_lines, first_line, run_line, settled_line, ending_lines, lines_of, text_of}
 use Rattle.rr_model.specs.Sets.Printable.{IsPrintedDay, IsPrintedNumber, IsPrintedRun, IsPrintedEnding, ArePrintedSets, IsPrintedIfSome, IsPrintedSet, IsPrinted, IsInLine, IsSetLine}

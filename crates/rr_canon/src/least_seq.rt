@@ -9,9 +9,8 @@ ghost use Rattle.rr_canon.specs.Kept.{IsKept, sketch_of};
 
 use crate::sets::TimeSets;
 use crate::stretch::{days_between, number_days};
-use rr_word::{NumberedDays, least_period, least_start};
 use rr_model::{Kind, NoMemory};
-use rr_word::DaySeq;
+use rr_word::{DaySeq, NumberedDays, least_period, least_start};
 use std::alloc::Global;
 
 /// The least sketch of a set: its least period, from its least start on.

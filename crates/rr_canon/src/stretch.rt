@@ -5,9 +5,8 @@ ghost use Rattle.rr_model.specs.Sets.Sketch.{IsNearDay};
 ghost use Rattle.rr_canon.specs.Kept.{AreStretchOf, IsPutDay};
 
 use crate::sets::TimeSets;
-use rr_word::{NumberedDay, NumberedDays};
 use rr_model::NoMemory;
-use rr_word::DaySeq;
+use rr_word::{DaySeq, NumberedDay, NumberedDays};
 use std::alloc::Global;
 
 // Adds a day, where it has seconds.

@@ -12,8 +12,8 @@ use crate::lines::{
     OpenRun, push_first, push_kind, push_line, push_run, push_seconds, push_settled,
 };
 use crate::sets::TimeSets;
-use rr_word::NumberedDay;
 use rr_model::{Kind, NoMemory};
+use rr_word::NumberedDay;
 use std::alloc::Global;
 
 // Whether the step goes on with the run.

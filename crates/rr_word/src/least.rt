@@ -4,9 +4,9 @@ ghost use Rattle.rr_model.specs.Sets.Sketch.{IsFirstDay, times_on};
 ghost use Rattle.rr_model.specs.Sets.Least.{HasPeriodFrom, IsEventualPeriod, IsLeastPeriod, IsLeastStart};
 ghost use Rattle.rr_model.specs.Sets.DividingOut.{IsDividedOnce};
 
+use crate::DaySeq;
 use crate::same::{repeats_after, same_on};
 use rr_num::least_factor;
-use crate::DaySeq;
 
 // The period over the factor where the sequence repeats after that many days too, and else the period.
 fn divided_once<A: DaySeq>(seq: &A, period: u64, factor: u64) -> u64

@@ -10,8 +10,8 @@ mod same;
 
 pub use day_seq::DaySeq;
 pub use laws::{
-    agreement_lasts, agreement_of_lists_lasts, each_has_one_least_sketch, least_period_divides, least_sketch_is_one,
-    window_lasts,
+    agreement_lasts, agreement_of_lists_lasts, each_has_one_least_sketch, least_period_divides,
+    least_sketch_is_one, window_lasts,
 };
 pub use least::{least_period, least_start};
 pub use numbered::{NumberedDay, NumberedDays};
