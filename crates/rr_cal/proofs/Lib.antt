@@ -1,2 +1,5 @@
+pub mod DayUnitLemmas
 pub mod JiffLemmas
+mod NearLemmas
+pub mod StretchLemmas
 mod UnitLemmas

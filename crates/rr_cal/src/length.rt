@@ -1,4 +1,4 @@
-// How long months and years are, and where a day stands in its year.
+// How long months and years are, and what number a day has in its year.
 ghost use Rattle.std.specs.Prelude.{◌≡◌, ◌≤◌};
 ghost use Rattle.rr_model.specs.Calendar.{day_number, day_of_year, days_in_month, days_in_year, IsDate};
 

@@ -1,2 +1,10 @@
-mod RefusalLemmas
 mod LoopLemmas
+mod PartLemmas
+mod RefusalLemmas
+mod RepetitionLemmas
+mod RuleCycleLemmas
+mod SeriesCycleLemmas
+mod ShiftLemmas
+mod SoundnessLemmas
+mod UnitLemmas
+mod WeekShiftLemmas

@@ -25,14 +25,17 @@ pub(crate) fn first_refusal(series: &Series) -> Option<Refusal>
     None
 }
 
-// The refusal of the rule of this number.
+// The refusal of the rule of this number; whether it chooses its start is asked where its end is sound.
 fn rule_refusal(number: u32, kind: Kind, start: i64, rule: &Rule) -> Option<Refusal>
     requires valid { IsValidRule kind rule.now }
     requires without_set_positions { rule.now.by_set_pos ≡ [] }
     requires start { IsInYears kind start }
     ensures { result ≡ rule_refusal number kind start rule.now }
 {
-    end_refusal(kind, start, rule.end).or(choice_refusal(number, kind, start, rule))
+    match end_refusal(kind, start, rule.end) {
+        None => choice_refusal(number, kind, start, rule),
+        refusal => refusal,
+    }
 }
 
 // The refusal of the end of a rule.

@@ -11,7 +11,7 @@ use Rattle.rr_word.specs.SketchLaws.{IsCommonMultiple}
 use Rattle.rr_model.specs.declared.sketch.Sketch.{Sketch}
 use Rattle.rr_model.specs.declared.verdict.Side.{Side}
 use Rattle.rr_model.specs.declared.verdict.Side.TheVariants.{A, B, Both}
-use Rattle.rr_model.proofs.DivisorLemmas.{lcm_is, lcm_some}
+use Rattle.rr_num.proofs.DivisorLemmas.{lcm_is, lcm_some}
 use Rattle.rr_model.proofs.SecondsLemmas.{Contains-or_not, one_list}
 use Rattle.rr_word.proofs.SketchLemmas.{agreement_of_sketches_lasts, common_window, rising_on}
 use Rattle.rr_decide.specs.Question.{HasNoneBefore, IsFirstDayShown, IsFirstShown, IsWindow, ShowsNone, ShowsNoneWithin, shown_by}

@@ -10,7 +10,7 @@ use Rattle.rr_model.proofs.RisingSetLemmas.{set_same}
 use Rattle.rr_model.specs.Rule.DaysAndTimes.{IsCandidateDay}
 use Rattle.rr_model.specs.Moment.Units.{is_whole_days}
 use Rattle.rr_expand.specs.Expansion.{IsAllowedDay}
-use Rattle.rr_model.proofs.DayUnitLemmas.{in_unit}
+use Rattle.rr_cal.proofs.DayUnitLemmas.{in_unit}
 
 both_true : (a b : Bool) → a ≡ true → IsTrue b → IsTrue (a && b)
 both_true true b e h = h

@@ -43,9 +43,6 @@ lt_test m n h = grind (arith, nat_tests)
 abbrev pub AreBelow : ℕ → List ℕ → Type 0
 AreBelow bound xs = (x : ℕ) → Contains xs x → x < bound
 
-behind : (bound x : ℕ) (xs : List ℕ) → AreBelow bound (x ∷ xs) → AreBelow bound xs
-behind bound x xs b y c = b y (Contains-tail x xs y c)
-
 -- ---- a minute
 
 -- the second lies in the minute, and stands in the list

@@ -10,7 +10,7 @@ use Rattle.rr_model.specs.declared.rule.Freq.{Freq}
 use Rattle.rr_model.specs.declared.rule.Freq.TheVariants.{Secondly, Minutely, Hourly, Daily, Weekly, Monthly, Yearly}
 use Rattle.rr_model.proofs.WholeLemmas.{floor_whole, floor_mod_below}
 use Rattle.rr_model.proofs.CalendarLemmas.{first_day_of_year_bounds, days_of_months-all, days_of_months_mono, days_in_year_bounds}
-use Rattle.rr_model.proofs.StretchLemmas.{month_start}
+use Rattle.rr_cal.proofs.StretchLemmas.{month_start}
 
 -- a year not far from the year 0 begins within the calls' days
 year_start_near : (y : ℤ) → (neg_ℤ (pos 100_001) ≤ℤ y) × (y ≤ℤ pos 100_001) → (neg_ℤ (pos 100_000_000) ≤ℤ first_day_of_year y) × (first_day_of_year y ≤ℤ pos 100_000_000)

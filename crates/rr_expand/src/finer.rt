@@ -10,7 +10,7 @@ ghost use Rattle.rr_expand.specs.Expansion.{IsCandidateSecond, IsFittingSecond};
 use crate::finer_units::{first_fit, first_unit, push_unit, unit_of, units_of_day};
 use crate::time_parts::allowed;
 use rr_cal::Day;
-use rr_model::{NoMemory, Rule};
+use rr_model::{Kind, NoMemory, Rule, day_part};
 use rr_setpos::{date_parts_hold, time_of, wants_minute, wants_second};
 use rr_times::TimeSet;
 use std::alloc::{AllocError, Global};
@@ -27,7 +27,7 @@ pub fn seconds_on(alloc: Global, rule: &Rule, start: i64, day: i64) -> Result<Ti
     requires near { IsDayWithin 1000 day }
     ensures { IfOk result (λ t. IsSetOf nat_lt t (IsCandidateSecond rule.now start day)) }
 {
-    let start_day = Day::new(start.div_euclid(86_400));
+    let start_day = Day::new(day_part(Kind::Moments, start));
     if !date_parts_hold(rule, &start_day, &Day::new(day)) {
         return TimeSet::of(alloc, &[]);
     }

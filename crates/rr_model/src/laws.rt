@@ -1,19 +1,8 @@
 // Laws about the definitions, each the contract of a function that does nothing.
-ghost use Rattle.rr_model.specs.Whole.Divisors.{GcdIsGreatest, LcmIsLeast};
 ghost use Rattle.rr_model.specs.Series.Settled.{SettledDayIsOne};
 ghost use Rattle.rr_model.specs.Sets.DividingOut.{LeastFactorIsOne};
 ghost use Rattle.rr_model.specs.Sets.Least.{LeastPeriodIsOne, LeastStartIsOne};
 ghost use Rattle.rr_model.specs.Rule.DaysAndTimes.{CandidatesAreDaysAndTimes};
-
-/// The greatest common divisor divides both numbers, and each number that does divides it.
-pub fn gcd_is_greatest()
-    ensures { GcdIsGreatest }
-{}
-
-/// The least common multiple is a multiple of both numbers, and divides each number that is.
-pub fn lcm_is_least()
-    ensures { LcmIsLeast }
-{}
 
 /// A series has one settled day at most.
 pub fn settled_day_is_one()

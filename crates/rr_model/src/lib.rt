@@ -35,8 +35,8 @@ pub use item::Item;
 pub use kind::Kind;
 pub use lang::Lang;
 pub use laws::{
-    candidates_are_days_and_times, gcd_is_greatest, lcm_is_least, least_factor_is_one,
-    least_period_is_one, least_start_is_one, settled_day_is_one,
+    candidates_are_days_and_times, least_factor_is_one, least_period_is_one, least_start_is_one,
+    settled_day_is_one,
 };
 pub use limits::{
     MAX_CYCLE_DAYS, MAX_DATES, MAX_DAY, MAX_INPUT, MAX_RULES, MAX_SECONDS, MAX_SPAN_DAYS,
@@ -44,7 +44,7 @@ pub use limits::{
 pub use line::{Line, LineList};
 pub use listed::ListedDates;
 pub use lists::{Dates, DayItems, DayShapes, Items, Numbers, Rules, Seconds, VRules};
-pub use moment::{SECONDS_OF_DAY, day_part, moment_at, second_part};
+pub use moment::{SECONDS_OF_DAY, day_part, is_within_max_day, moment_at, second_part};
 pub use pass::FirstPass;
 pub use refusal::{Fault, Member, NoMemory, Refusal};
 pub use rule::{DayItem, End, Freq, Rule, Series};

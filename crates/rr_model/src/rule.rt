@@ -68,7 +68,7 @@ pub struct DayItem {
     pub weekday: u8,
 }
 
-/// A recurrence rule (RFC 5545, section 3.3.10). An empty list is a part that does not stand.
+/// A recurrence rule (RFC 5545, section 3.3.10). An empty list is a part that is absent.
 #[derive(Drop)]
 pub struct Rule {
     /// How often it repeats.

@@ -1,3 +1,4 @@
 mod DivisionLemmas
+pub mod DivisorLemmas
 mod PartsLemmas
 pub mod FactorLemmas

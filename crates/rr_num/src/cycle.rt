@@ -9,7 +9,7 @@ use rr_model::{Freq, Rule};
 // The days of 400 years, which are whole weeks and 4,800 months.
 const DAYS_OF_400_YEARS: u64 = 146_097;
 
-/// The cycle of a rule in days, by its frequency, its interval and which of its parts stand
+/// The cycle of a rule in days, by its frequency, its interval and which of its parts are present
 /// (RFC 5545, section 3.3.10). UNTIL and COUNT do not enter. Every valid rule has an interval of at least 1.
 pub fn day_cycle(rule: &Rule) -> u128
     requires { 1 ≤ rule.now.interval }

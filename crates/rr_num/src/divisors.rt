@@ -1,7 +1,7 @@
 // Divisors and multiples.
 ghost use Rattle.std.specs.Prelude.{◌≡◌, ℕ, ◌+◌, ◌<◌, ◌≤◌, SomeIff, IfSome, IfNone};
 ghost use Rattle.std.specs.Int.{IsGcd};
-ghost use Rattle.rr_model.specs.Whole.Divisors.{gcd, lcm, IsLcm, NoMultipleWithin};
+ghost use Rattle.rr_model.specs.Whole.Divisors.{gcd, lcm, GcdIsGreatest, IsLcm, LcmIsLeast, NoMultipleWithin};
 
 /// The greatest common divisor of two numbers that are not both 0.
 pub fn gcd(a: u64, b: u64) -> u64
@@ -35,3 +35,13 @@ pub fn lcm_within(a: u64, b: u64, most: u64) -> Option<u64>
         None
     }
 }
+
+/// The greatest common divisor divides both numbers, and each number that does divides it.
+pub fn gcd_is_greatest()
+    ensures { GcdIsGreatest }
+{}
+
+/// The least common multiple is a multiple of both numbers, and divides each number that is.
+pub fn lcm_is_least()
+    ensures { LcmIsLeast }
+{}

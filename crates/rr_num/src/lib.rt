@@ -8,5 +8,5 @@ mod factors;
 mod tests;
 
 pub use cycle::day_cycle;
-pub use divisors::{gcd, lcm_within};
+pub use divisors::{gcd, gcd_is_greatest, lcm_is_least, lcm_within};
 pub use factors::least_factor;

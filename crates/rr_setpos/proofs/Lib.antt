@@ -1,3 +1,4 @@
 pub mod ChoiceLemmas
 mod DayLemmas
+mod RankLemmas
 mod UnitLemmas

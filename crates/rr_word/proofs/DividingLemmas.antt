@@ -6,7 +6,7 @@ use Rattle.std.proofs.lemmas.Nat.Gcd.{le_of_dvd, dvd_refl, dvd_trans, dvd_of_mod
 use Rattle.std.proofs.Math.Nat.{dvd-mul_left, dvd-mul_right, mul-dvd-mul_left, dvd_of_mul-dvd-mul_left, dvd_of_mul-dvd-mul_right, div-mul_cancel, pos_of_dvd_of_pos, mul_comm, mul_assoc, mul-one, one-mul, div-one, mul-le-mul, mul-le-mul_left, div-le_self}
 use Rattle.rr_model.specs.Whole.Divisors.{gcd, lcm}
 use Rattle.rr_model.specs.Whole.Periodic.{RepeatsFrom}
-use Rattle.rr_model.proofs.DivisorLemmas.{gcd_is, gcd_some, lcm_is}
+use Rattle.rr_num.proofs.DivisorLemmas.{gcd_is, gcd_some, lcm_is}
 use Rattle.rr_word.proofs.WindowLemmas.{RepeatsFrom-multiple}
 use Rattle.rr_model.specs.Sets.Least.{IsLeastPeriod}
 use Rattle.rr_model.specs.Sets.DividingOut.{HasNoFactorBelow, IsLeastFactor, IsPeriodSoFar, IsDividedOnce}

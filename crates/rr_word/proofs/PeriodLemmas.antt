@@ -8,7 +8,7 @@ use Rattle.std.specs.Prelude.{min}
 use Rattle.std.proofs.lemmas.Nat.Gcd.{le_of_dvd}
 use Rattle.rr_model.specs.Whole.Divisors.{gcd_within, gcd}
 use Rattle.rr_model.specs.Whole.Periodic.{RepeatsFrom}
-use Rattle.rr_model.proofs.DivisorLemmas.{gcd_is, gcd_some}
+use Rattle.rr_num.proofs.DivisorLemmas.{gcd_is, gcd_some}
 use Rattle.rr_word.proofs.WindowLemmas.{turns, RepeatsFrom-later}
 use Rattle.rr_model.specs.Sets.Least.{IsEventualPeriod, IsLeastPeriod, IsLeastStart}
 

@@ -3,7 +3,7 @@ use Rattle.rr_model.specs.Whole.{floor_div, floor_mod}
 use Rattle.rr_model.specs.Calendar.{days_in_month}
 use Rattle.rr_model.proofs.CalendarLemmas.{first_day_of_year-next}
 use Rattle.rr_model.proofs.FloorLemmas.{quotient_is}
-use Rattle.rr_model.proofs.DayUnitLemmas.{week_next, month_next}
+use Rattle.rr_cal.proofs.DayUnitLemmas.{week_next, month_next}
 use Rattle.rr_cal.proofs.units.days_in_unit.Goals as goal
 
 pub returns-in-Weekly-clause-next : goal.returns-in-Weekly-clause-next

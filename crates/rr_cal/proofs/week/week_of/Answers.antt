@@ -2,7 +2,7 @@ use Rattle.std.proofs.Common.{arith, rules, ◌≡◌, ◌∙◌, ap, ℕ, ◌+�
 use Rattle.rr_model.specs.Calendar.{day_number, year_of, days_into_year, IsDayWithin}
 use Rattle.rr_model.specs.Calendar.Week.{week_index, fourth_day, week_year, week_number, last_week}
 use Rattle.rr_model.proofs.WeekLemmas.{IsDate-december_28, week_number_bounds, last_week_bounds}
-use Rattle.rr_model.proofs.NearLemmas.{IsDayWithin-wider, IsDayWithin-fourth_day, IsDayWithin-same_year}
+use Rattle.rr_cal.proofs.NearLemmas.{IsDayWithin-wider, IsDayWithin-fourth_day, IsDayWithin-same_year}
 use Rattle.rr_cal.proofs.week.week_of.Goals as goal
 
 -- The values on the way, as the definitions have them: the fourth day f of the week of d, its year y, 28 December e of that year, and the fourth day l of its week.

@@ -2,7 +2,7 @@ use Rattle.std.proofs.Common.{arith, ◌≡◌, ◌∙◌, ◌+◌, [], drop, sy
 use Rattle.std.proofs.lemmas.List.{drop_all}
 use Rattle.rr_model.specs.Whole.Divisors.{lcm}
 use Rattle.rr_model.specs.Series.Cycle.{endless_cycle, rules_cycle}
-use Rattle.rr_model.proofs.SeriesCycleLemmas.{rules_cycle_some, lcm-one_left, joined-none}
+use Rattle.rr_check.proofs.SeriesCycleLemmas.{rules_cycle_some, lcm-one_left, joined-none}
 use Rattle.rr_check.proofs.LoopLemmas.{next_is, joined_on, still_some, not_below}
 use Rattle.rr_check.proofs.cycle.cycle_of.Goals as goal
 

@@ -1,6 +1,6 @@
 use Rattle.std.proofs.Common.{◌≡◌, None, sym, ◌∙◌}
 use Rattle.rr_model.specs.Series.Soundness.{first_refusal}
-use Rattle.rr_model.proofs.SoundnessLemmas.{rules_fit}
+use Rattle.rr_check.proofs.SoundnessLemmas.{rules_fit}
 use Rattle.rr_check.proofs.soundness.check.Goals as goal
 
 pub invariant_of-result : goal.invariant_of-result

@@ -1,5 +1,5 @@
 use Rattle.std.proofs.Common.{◌≤◌, refl, sym, subst}
-use Rattle.rr_model.proofs.DivisorLemmas.{lcm_some}
+use Rattle.rr_num.proofs.DivisorLemmas.{lcm_some}
 use Rattle.rr_num.proofs.DivisionLemmas.{is_lcm}
 use Rattle.rr_num.proofs.cycle.day_cycle.Goals as goal
 

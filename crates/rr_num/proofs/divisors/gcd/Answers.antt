@@ -1,7 +1,7 @@
 use Rattle.std.proofs.Common.{◌≡◌, ◌≤◌, sym, ap, ◌∙◌, subst, arith}
 use Rattle.std.specs.Int.{IsGcd}
 use Rattle.rr_model.specs.Whole.Divisors.{gcd}
-use Rattle.rr_model.proofs.DivisorLemmas.{gcd_is, gcd_some, gcd-mod, gcd-zero}
+use Rattle.rr_num.proofs.DivisorLemmas.{gcd_is, gcd_some, gcd-mod, gcd-zero}
 use Rattle.rr_num.proofs.divisors.gcd.Goals as goal
 
 pub loop-rest-preserved : goal.loop-rest-preserved

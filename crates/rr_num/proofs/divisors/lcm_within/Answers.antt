@@ -1,6 +1,6 @@
 use Rattle.std.proofs.Common.{◌<◌, sym, subst, refl, arith}
 use Rattle.rr_model.specs.Whole.Divisors.{lcm, IsLcm}
-use Rattle.rr_model.proofs.DivisorLemmas.{lcm_is, none_below_lcm}
+use Rattle.rr_num.proofs.DivisorLemmas.{lcm_is, none_below_lcm}
 use Rattle.rr_num.proofs.DivisionLemmas.{is_lcm, within, above}
 use Rattle.rr_num.proofs.divisors.lcm_within.Goals as goal
 

@@ -12,8 +12,8 @@ use Rattle.rr_model.specs.Series.Cycle.{endless_cycle, rules_cycle}
 use Rattle.rr_model.specs.declared.rule.End.{End}
 use Rattle.rr_model.specs.declared.rule.End.TheVariants.{Never, Until, Count, Both}
 use Rattle.rr_model.specs.declared.rule.Rule.{Rule}
-use Rattle.rr_model.proofs.DivisorLemmas.{lcm_is, lcm_some}
-use Rattle.rr_model.proofs.RuleCycleLemmas.{interval_cycle_some}
+use Rattle.rr_num.proofs.DivisorLemmas.{lcm_is, lcm_some}
+use Rattle.rr_check.proofs.RuleCycleLemmas.{interval_cycle_some}
 
 -- two numbers that divide each other
 dvd_same : (a b : ℕ) → 1 ≤ a → 1 ≤ b → a ∣ b → b ∣ a → a ≡ b

@@ -11,8 +11,8 @@ use Rattle.rr_model.specs.declared.kind.Kind.{Kind}
 use Rattle.rr_model.specs.declared.kind.Kind.TheVariants.{Days, Moments}
 use Rattle.rr_model.specs.declared.rule.Freq.{Freq}
 use Rattle.rr_model.specs.declared.rule.Freq.TheVariants.{Secondly, Minutely, Hourly, Daily, Weekly, Monthly, Yearly}
-use Rattle.rr_model.proofs.DivisorLemmas.{gcd_is}
-use Rattle.rr_model.proofs.UnitLemmas.{AreUnits}
+use Rattle.rr_num.proofs.DivisorLemmas.{gcd_is}
+use Rattle.rr_check.proofs.UnitLemmas.{AreUnits}
 
 -- how often the divisor goes
 pub whole_times : (n m : ℕ) → n ∣ m → (k : ℕ) × (m ≡ k * n)

@@ -13,7 +13,7 @@ use Rattle.rr_model.specs.declared.rule.Freq.{Freq}
 use Rattle.rr_model.specs.declared.rule.Freq.TheVariants.{Secondly, Minutely, Hourly, Daily, Weekly, Monthly, Yearly}
 use Rattle.rr_model.proofs.FloorLemmas.{floor_div-add, floor_mod-add}
 use Rattle.rr_model.proofs.CycleLemmas.{first_day_of_year-cycle, day_number-cycle, year_of-cycle, month_of-cycle}
-use Rattle.rr_model.proofs.WeekShiftLemmas.{week_index-weeks, fourth_day-weeks}
+use Rattle.rr_check.proofs.WeekShiftLemmas.{week_index-weeks, fourth_day-weeks}
 
 -- whole multiples more leave what is divisible
 pub divides-add : (n : ℕ) (x k : ℤ) → 1 ≤ n → divides n (x +ℤ (k *ℤ pos n)) ≡ divides n x

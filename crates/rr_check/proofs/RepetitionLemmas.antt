@@ -21,11 +21,11 @@ use Rattle.rr_model.specs.declared.rule.Freq.{Freq}
 use Rattle.rr_model.specs.declared.rule.Freq.TheVariants.{Secondly, Minutely, Hourly, Daily, Weekly, Monthly, Yearly}
 use Rattle.rr_model.specs.declared.rule.Rule.{Rule}
 use Rattle.rr_model.proofs.CalendarLawProofs.{calendar_repeats}
-use Rattle.rr_model.proofs.DivisorLemmas.{lcm_is, lcm_some}
-use Rattle.rr_model.proofs.ShiftLemmas.{KeepsRule, is_chosen-shift}
-use Rattle.rr_model.proofs.PartLemmas.{AsksNoCalendar, date_parts-cycle, date_parts-weeks, date_parts-any}
-use Rattle.rr_model.proofs.UnitLemmas.{divides-add, day_part-shift, second_part-shift, unit_number-shift, unit_start-shift}
-use Rattle.rr_model.proofs.RuleCycleLemmas.{whole_times, whole_intervals, interval_cycle_some}
+use Rattle.rr_num.proofs.DivisorLemmas.{lcm_is, lcm_some}
+use Rattle.rr_check.proofs.ShiftLemmas.{KeepsRule, is_chosen-shift}
+use Rattle.rr_check.proofs.PartLemmas.{AsksNoCalendar, date_parts-cycle, date_parts-weeks, date_parts-any}
+use Rattle.rr_check.proofs.UnitLemmas.{divides-add, day_part-shift, second_part-shift, unit_number-shift, unit_start-shift}
+use Rattle.rr_check.proofs.RuleCycleLemmas.{whole_times, whole_intervals, interval_cycle_some}
 
 -- ---- what a frequency has
 

@@ -10,7 +10,7 @@ use Rattle.rr_model.specs.declared.rule.Freq.{Freq}
 use Rattle.rr_model.specs.declared.rule.Freq.TheVariants.{Secondly, Minutely, Hourly, Daily, Weekly, Monthly, Yearly}
 use Rattle.rr_model.proofs.WholeLemmas.{floor_whole, floor_mod_below}
 use Rattle.rr_model.proofs.CalendarLemmas.{first_day_of_year-next, days_of_months-next, days_in_month_bounds, days_in_year_bounds}
-use Rattle.rr_model.proofs.StretchLemmas.{month_start, month_end, units_are_stretches}
+use Rattle.rr_cal.proofs.StretchLemmas.{month_start, month_end, units_are_stretches}
 
 -- a month ends when its days are over
 pub month_next : (n : ℤ) → first_day_of_month (n +ℤ pos 1) ≡ first_day_of_month n +ℤ pos (days_in_month (floor_div n 12) (floor_mod n 12 + 1))

@@ -12,7 +12,7 @@ use Rattle.rr_model.specs.Rule.Candidate.{has_weekday_of, rank_from_front, rank_
 use Rattle.rr_model.specs.declared.rule.DayItem.{DayItem}
 use Rattle.rr_model.specs.declared.rule.Rule.{Rule}
 use Rattle.rr_model.proofs.CountLemmas.{count_from-shift}
-use Rattle.rr_model.proofs.WeekShiftLemmas.{weekday_of-weeks}
+use Rattle.rr_check.proofs.WeekShiftLemmas.{weekday_of-weeks}
 
 -- two tests that agree find the same
 list_any-same : {X : Type 0} (p q : X → Bool) → ((x : X) → p x ≡ q x) → (xs : List X) → list_any p xs ≡ list_any q xs
