@@ -1,21 +1,30 @@
 //! Numbers, dates and moments as text: what a text states, and what is printed.
 #![tactic(auto)]
 
+mod blanks;
 mod digits;
+mod extended_text;
 mod laws;
 mod moment;
+mod physical;
 mod print;
+mod unfold;
 
+pub use blanks::trim;
 pub use digits::{Digits, number};
+pub use extended_text::extended;
 pub use laws::printed_texts_differ;
 pub use moment::basic;
+pub use physical::take_line;
 pub use print::{push_extended, push_number};
 pub use rr_model::Stamp;
+pub use unfold::lines;
 
 #[cfg(test)]
 mod tests {
     use super::*;
     use rr_model::Kind;
+    use std::alloc::Global;
     use std::test::Fail;
 
     #[test]
@@ -77,6 +86,18 @@ mod tests {
                 ..moment
             })
         );
+        assert_eq!(rt; extended(b"2024-01-01"), Some(date));
+        assert_eq!(rt; extended(b"1970-01-01T00:00:01.000"), Some(moment));
+        assert_eq!(rt;
+            extended(b"1970-01-01t00:00:01z"),
+            Some(Stamp {
+                utc: true,
+                ..moment
+            })
+        );
+        assert_eq!(rt; extended(b"1970-01-01T00:00:01."), None);
+        assert_eq!(rt; extended(b"1970-01-01T00:00:01.5"), None);
+        assert_eq!(rt; extended(b"2024-01-01Z"), None);
         assert_eq!(rt; basic(b"20230229"), None);
         assert_eq!(rt; basic(b"20240101T240000"), None);
         Ok(())
@@ -95,6 +116,43 @@ mod tests {
             out.as_slice(),
             b"-1210000-01-012024-02-29T09:30:00".as_slice()
         );
+        Ok(())
+    }
+
+    // The lines of a text, each with its number.
+    fn lines_text(alloc: Global, text: &str, keep_blank: bool) -> Result<String, Fail> {
+        let lines = lines(alloc, text.as_bytes(), keep_blank)
+            .ok()
+            .ok_or("there is memory")?;
+        let mut out = String::new(alloc);
+        for line in lines.as_slice() {
+            let text = std::str::from_utf8(line.text.as_slice())
+                .ok()
+                .ok_or("a line is text")?;
+            out = format!(in alloc; "{out}{} {text}|", line.number)?;
+        }
+        Ok(out)
+    }
+
+    // Texts, their lines, and their lines where the blank after a break is kept.
+    const TEXTS: [(&str, &str, &str); 9] = [
+        ("", "", ""),
+        ("\n", "1 |", "1 |"),
+        ("a\r\nb\n\nc", "1 a|2 b|3 |4 c|", "1 a|2 b|3 |4 c|"),
+        ("a\r", "1 a\r|", "1 a\r|"),
+        ("a\r\r\n\r", "1 a\r|2 \r|", "1 a\r|2 \r|"),
+        ("a\r\n b\n\tc\nd", "1 abc|4 d|", "1 a b\tc|4 d|"),
+        ("D\n T\n S", "1 DTS|", "1 D T S|"),
+        (" a\n b", "1  ab|", "1  a b|"),
+        ("a\n \nb", "1 a|3 b|", "1 a |3 b|"),
+    ];
+
+    #[test]
+    fn unfolded(rt: HostRuntime) -> Result<(), Fail> {
+        for (text, plain, kept) in TEXTS {
+            assert_eq!(rt; lines_text(rt.alloc(), text, false)?.as_str(), plain);
+            assert_eq!(rt; lines_text(rt.alloc(), text, true)?.as_str(), kept);
+        }
         Ok(())
     }
 }

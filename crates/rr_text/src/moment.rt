@@ -54,7 +54,7 @@ fn date_in(digits: &[u8]) -> Date
 
 // The day number of a date YYYYMMDD of the years 1 to 9999.
 #[tactic(auto, unfolding(rr_model::specs::Text::Moments::basic_date))]
-fn basic_date(text: &[u8]) -> Option<i64>
+pub(crate) fn basic_date(text: &[u8]) -> Option<i64>
     ensures day { result ≡ basic_date text.now }
     ensures years { IfSome result HasFourDigitYear }
 {
@@ -70,7 +70,7 @@ fn basic_date(text: &[u8]) -> Option<i64>
 
 // The second of the day of a time HHMMSS.
 #[tactic(auto, unfolding(rr_model::specs::Text::Moments::basic_time))]
-fn basic_time(text: &[u8]) -> Option<u32>
+pub(crate) fn basic_time(text: &[u8]) -> Option<u32>
     ensures second { result ≡ basic_time text.now }
     ensures below { IfSome result (λ s. s < 86_400) }
 {
@@ -87,7 +87,7 @@ fn basic_time(text: &[u8]) -> Option<u32>
 }
 
 // Whether what stands after a moment marks it as UTC: nothing, or one `Z`.
-fn utc_mark(rest: &[u8]) -> Option<bool>
+pub(crate) fn utc_mark(rest: &[u8]) -> Option<bool>
     ensures { result ≡ utc_mark rest.now }
 {
     match rest {
@@ -97,7 +97,7 @@ fn utc_mark(rest: &[u8]) -> Option<bool>
     }
 }
 
-fn is_letter_t(byte: u8) -> bool
+pub(crate) fn is_letter_t(byte: u8) -> bool
     ensures { result ≡ is_letter_t byte }
 {
     byte == b'T' || byte == b't'

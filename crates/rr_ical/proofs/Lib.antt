@@ -1,0 +1,3 @@
+mod ListedLemmas
+mod ScanLemmas
+mod TextLemmas

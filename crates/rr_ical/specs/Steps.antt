@@ -1,0 +1,19 @@
+-- What a step leaves that changes the open components (RFC 5545, section 3.6).
+use Rattle.std.specs.Prelude.{◌≡◌, ⊤, Result, Ok, Err, Option}
+use Rattle.rr_model.specs.Text.Event.{Components, Left, left}
+use Rattle.rr_model.specs.declared.refusal.Fault.{Fault}
+use Rattle.rr_model.specs.declared.refusal.Fault.TheVariants.{Refused, NoMemory}
+use Rattle.rr_model.specs.declared.refusal.Refusal.{Refusal}
+use Rattle.rr_model.specs.declared.used.UsedLine.{UsedLine}
+
+-- The value becomes what is wanted, or the refusal is answered, or memory is wanting.
+abbrev pub Becomes : {A : Type 0} → Result A Refusal → A → Result (Unit {0}) Fault → Type 0
+Becomes wanted new (Ok done) = wanted ≡ Ok new
+Becomes wanted new (Err (Refused refusal)) = wanted ≡ Err refusal
+Becomes wanted new (Err NoMemory) = ⊤
+
+-- The components become, and the used line is, what the line leaves.
+abbrev pub IsLeft : Result Left Refusal → Components → Result (Option UsedLine) Fault → Type 0
+IsLeft wanted new (Ok used) = wanted ≡ Ok (left new used)
+IsLeft wanted new (Err (Refused refusal)) = wanted ≡ Err refusal
+IsLeft wanted new (Err NoMemory) = ⊤

@@ -1,0 +1,161 @@
+// The used lines of the one event (RFC 5545, section 3.6.1).
+ghost use Rattle.std.specs.Prelude.{◌≡◌, ◌++◌, ◌+◌, [], not, length, IfOk, OnOk, Ok, MatchOption, codes};
+ghost use Rattle.std.specs.List.{cons_option, list_any};
+ghost use Rattle.rr_model.specs.Text.Lines.{physical_lines};
+ghost use Rattle.rr_model.specs.Text.Event.{no_components, used_line, left_by, left_at, scanned, is_bare_text, event_scan};
+ghost use Rattle.rr_model.specs.Text.UsedLines.{is_named};
+ghost use Rattle.rr_ical.specs.Steps.{IsLeft};
+ghost use Rattle.rr_model.specs.Answers.{Answers};
+ghost use Rattle.rr_model.specs.declared.refusal.Refusal.TheVariants.{BadLine};
+
+use crate::components::Nesting;
+use crate::names::{is_named, line_kind};
+use crate::value::value_of_line;
+use rr_model::{Bytes, Fault, Line, LineKind, LineName, NoMemory, Refusal, Scan, Used, UsedLine};
+use rr_text::{lines, take_line};
+use std::alloc::Global;
+
+// What a line leaves, by its kind.
+fn step(
+    alloc: Global,
+    is_bare: bool,
+    nesting: &mut Nesting,
+    number: u64,
+    kind: LineKind,
+    text: &[u8],
+) -> Result<Option<UsedLine>, Fault>
+    ensures { IsLeft (left_at is_bare nesting.old number kind text.now) nesting.new result }
+{
+    match kind {
+        LineKind::Begin => {
+            let Some(name) = value_of_line(text) else {
+                return Err(Fault::Refused(Refusal::BadLine(number)));
+            };
+            nesting.begin(alloc, name)?;
+            Ok(None)
+        }
+        LineKind::End => {
+            let Some(name) = value_of_line(text) else {
+                return Err(Fault::Refused(Refusal::BadLine(number)));
+            };
+            nesting.end(number, name)?;
+            Ok(None)
+        }
+        LineKind::Property(name) => {
+            if !(is_bare || nesting.is_in_event()) {
+                return Ok(None);
+            }
+            let Some(value) = value_of_line(text) else {
+                return Err(Fault::Refused(Refusal::BadLine(number)));
+            };
+            Ok(Some(used_line(alloc, number, name, value)?))
+        }
+        LineKind::Other => Ok(None),
+    }
+}
+
+fn used_line(alloc: Global, number: u64, name: LineName, value: &[u8]) -> Result<UsedLine, NoMemory>
+    ensures { IfOk result (λ line. line ≡ used_line number name value.now) }
+{
+    Ok(UsedLine {
+        number,
+        name,
+        value: Bytes::of(alloc, value)?,
+    })
+}
+
+// What a line leaves.
+#[tactic(auto, unfolding(rr_model::specs::Text::Event::left_by))]
+fn take_in(
+    alloc: Global,
+    is_bare: bool,
+    nesting: &mut Nesting,
+    line: &Line,
+) -> Result<Option<UsedLine>, Fault>
+    ensures { IsLeft (left_by is_bare nesting.old line.now) nesting.new result }
+{
+    let text = line.text.as_slice();
+    step(alloc, is_bare, nesting, line.number, line_kind(text), text)
+}
+
+// Puts a used line, if there is one.
+fn keep(used: &mut Used, line: Option<UsedLine>) -> Result<(), NoMemory>
+    ensures { OnOk result (used.new ≡ used.old ++ cons_option line []) }
+{
+    match line {
+        Some(line) => used.put(line),
+        None => Ok(()),
+    }
+}
+
+// The used lines up to the first fault of the components.
+fn scan_lines(alloc: Global, is_bare: bool, last: u64, lines: &[Line]) -> Result<Scan, NoMemory>
+    ensures { IfOk result (λ scan. scan ≡ scanned is_bare last no_components lines.now) }
+{
+    let mut used = Used::new(alloc);
+    let mut nesting = Nesting::new(alloc);
+    for line in lines {
+        match take_in(alloc, is_bare, &mut nesting, line) {
+            Ok(kept) => keep(&mut used, kept)?,
+            Err(Fault::Refused(refusal)) => {
+                return Ok(Scan {
+                    used,
+                    stop: Some(refusal),
+                });
+            }
+            Err(Fault::NoMemory) => return Err(NoMemory),
+        }
+    }
+    Ok(Scan {
+        used,
+        stop: nesting.stop_at_end(last),
+    })
+}
+
+// Whether the line has the name BEGIN.
+fn begins(line: &Line) -> bool
+    ensures { result ≡ is_named line.now.text (codes "BEGIN") }
+{
+    is_named(line.text.as_slice(), b"BEGIN")
+}
+
+// Whether some line has the name BEGIN.
+fn has_begin(lines: &[Line]) -> bool
+    ensures { result ≡ list_any (λ line. is_named line.text (codes "BEGIN")) lines.now }
+{
+    for line in lines {
+        if begins(line) {
+            return true;
+        }
+    }
+    false
+}
+
+// How many physical lines the bytes have.
+fn count_lines(bytes: &[u8]) -> u64
+    ensures { result ≡ length (physical_lines bytes.now) }
+{
+    let mut rest = bytes;
+    let mut count = 0u64;
+    while let Some((_, after)) = take_line(rest) {
+        count += 1;
+        rest = after;
+    }
+    count
+}
+
+/// The used lines of the one event of a text, or of a text without components, up to the first fault of these.
+///
+/// A used line is DTSTART, RRULE, RDATE, EXDATE or EXRULE directly within VEVENT; where no line has the name BEGIN,
+/// each such line is one. The scan stops with `BadLine` at a used, BEGIN or END line without a value, at an END that
+/// does not close the innermost open component, and, with the last line's number, where the text ends within a
+/// component; with `SeveralEvents` at a second VEVENT (RFC 5545, sections 3.4 and 3.6). Lines are unfolded as
+/// `rr_text::lines` does it, and `keep_blank` is handed to it. A byte order mark is no part of the bytes.
+#[tactic(auto, unfolding(rr_model::specs::Text::Event::event_scan))]
+pub fn event_lines(alloc: Global, bytes: &[u8], keep_blank: bool) -> Result<Scan, NoMemory>
+    ensures { IfOk result (λ scan. scan ≡ event_scan keep_blank bytes.now) }
+{
+    let lines = lines(alloc, bytes, keep_blank)?;
+    let lines = lines.as_slice();
+    scan_lines(alloc, !has_begin(lines), count_lines(bytes), lines)
+}

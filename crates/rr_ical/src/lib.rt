@@ -1,0 +1,16 @@
+//! The used lines of a calendar text's event, and lists of dates or moments.
+#![tactic(auto)]
+
+mod components;
+mod event;
+mod list;
+mod names;
+mod text;
+mod value;
+
+pub use event::event_lines;
+pub use list::read_list;
+pub use text::{is_text, without_mark};
+
+#[cfg(test)]
+mod tests;

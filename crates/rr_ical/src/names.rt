@@ -1,0 +1,45 @@
+// Which line a line is by its name.
+ghost use Rattle.std.specs.Prelude.{◌≡◌};
+ghost use Rattle.std.specs.Str.{str_eq_ignore_ascii_case};
+ghost use Rattle.rr_model.specs.Text.UsedLines.{is_named, line_kind};
+
+use crate::value::name_and_rest;
+use rr_model::{LineKind, LineName};
+
+// Whether two names are the same in either case.
+pub(crate) fn is_same_name(name: &[u8], other: &[u8]) -> bool
+    ensures { result ≡ str_eq_ignore_ascii_case name.now other.now }
+{
+    name.eq_ignore_ascii_case(other)
+}
+
+// Whether the line has this name.
+pub(crate) fn is_named(text: &[u8], word: &[u8]) -> bool
+    ensures { result ≡ is_named text.now word.now }
+{
+    let (name, _) = name_and_rest(text);
+    is_same_name(name, word)
+}
+
+#[tactic(auto, unfolding(rr_model::specs::Text::UsedLines::line_kind))]
+pub(crate) fn line_kind(text: &[u8]) -> LineKind
+    ensures { result ≡ line_kind text.now }
+{
+    if is_named(text, b"BEGIN") {
+        LineKind::Begin
+    } else if is_named(text, b"END") {
+        LineKind::End
+    } else if is_named(text, b"DTSTART") {
+        LineKind::Property(LineName::Dtstart)
+    } else if is_named(text, b"RRULE") {
+        LineKind::Property(LineName::Rrule)
+    } else if is_named(text, b"RDATE") {
+        LineKind::Property(LineName::Rdate)
+    } else if is_named(text, b"EXDATE") {
+        LineKind::Property(LineName::Exdate)
+    } else if is_named(text, b"EXRULE") {
+        LineKind::Property(LineName::Exrule)
+    } else {
+        LineKind::Other
+    }
+}

@@ -1,0 +1,81 @@
+// The name and the value of a line (RFC 5545, section 3.1).
+ghost use Rattle.std.specs.Prelude.{◌≡◌, ◌==◌, length, take_while, false, option_map};
+ghost use Rattle.rr_model.specs.Text.UsedLines.{is_name_byte, name_of_line, after_name, has_quote, after_colon, is_quoted_after, begins_value, value_of_line};
+
+use rr_text::trim;
+
+fn is_name_byte(byte: u8) -> bool
+    ensures { result ≡ is_name_byte byte }
+{
+    byte.is_ascii_alphanumeric() || byte == b'-'
+}
+
+fn count_name_bytes(text: &[u8]) -> usize
+    ensures { result ≡ length (take_while is_name_byte text.now) }
+{
+    text.iter().take_while(|b| is_name_byte(**b)).count()
+}
+
+// The name of a line, and what stands after it.
+pub(crate) fn name_and_rest(text: &[u8]) -> (&[u8], &[u8])
+    ensures name { result.0.now ≡ name_of_line text.now }
+    ensures rest { result.1.now ≡ after_name text.now }
+{
+    text.split_at(count_name_bytes(text))
+}
+
+fn has_quote(text: &[u8]) -> bool
+    ensures { result ≡ has_quote text.now }
+{
+    text.iter().any(|b| *b == b'"')
+}
+
+// Whether a place after a byte lies between two quotes.
+fn is_quoted_after(is_quoted: bool, byte: u8, rest: &[u8]) -> bool
+    ensures { result ≡ is_quoted_after is_quoted byte rest.now }
+{
+    if byte == b'"' {
+        !is_quoted && has_quote(rest)
+    } else {
+        is_quoted
+    }
+}
+
+// What stands after the first colon that is not between two quotes.
+fn after_colon(text: &[u8]) -> Option<&[u8]>
+    ensures { option_map (λ rest. rest.now) result ≡ after_colon false text.now }
+{
+    let mut is_quoted = false;
+    for (i, b) in text.iter().enumerate() {
+        let rest = &text[i + 1..];
+        if *b == b':' && !is_quoted {
+            return Some(rest);
+        }
+        is_quoted = is_quoted_after(is_quoted, *b, rest);
+    }
+    None
+}
+
+fn begins_value(text: &[u8]) -> bool
+    ensures { result ≡ begins_value text.now }
+{
+    match text {
+        [b';' | b':', ..] => true,
+        _ => false,
+    }
+}
+
+// The value of a line, if it has one.
+#[tactic(auto, unfolding(rr_model::specs::Text::UsedLines::value_of_line))]
+pub(crate) fn value_of_line(text: &[u8]) -> Option<&[u8]>
+    ensures { option_map (λ value. value.now) result ≡ value_of_line text.now }
+{
+    let (_, rest) = name_and_rest(text);
+    if !begins_value(rest) {
+        return None;
+    }
+    match after_colon(rest) {
+        None => None,
+        Some(value) => Some(trim(value)),
+    }
+}
