@@ -8,9 +8,7 @@ ghost use Rattle.rr_model.specs.declared.rule.End.TheVariants.{Never};
 use crate::cycle::joined;
 use crate::refusals::end_refusal;
 use crate::{admit, check, chosen_repeats};
-use rr_model::{
-    Dates, DayItem, End, Freq, Kind, NoMemory, Refusal, Rule, Rules, Series,
-};
+use rr_model::{Dates, DayItem, End, Freq, Kind, NoMemory, Refusal, Rule, Rules, Series};
 use std::alloc::Global;
 use std::test::Fail;
 

@@ -18,9 +18,7 @@ fn has_set_positions(series: &Series) -> bool
     ensures { result ≡ has_set_positions series.now }
 {
     let rules = series.rules.as_slice();
-    rules
-        .iter()
-        .any(|rule| !rule.by_set_pos.is_empty())
+    rules.iter().any(|rule| !rule.by_set_pos.is_empty())
 }
 
 // The cycle of a sound series, or that it is too long.
