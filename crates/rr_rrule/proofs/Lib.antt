@@ -1,4 +1,5 @@
 mod NumberLemmas
+mod BlankLemmas
 mod PlacedLemmas
 mod PartsLemmas
 mod StepLemmas
