@@ -1,6 +1,6 @@
 use super::*;
 use crate::examples::EXAMPLES;
-use rr_model::{Fault, Rule};
+use rr_model::{Fault, Rule, Series};
 use std::alloc::Global;
 use std::process::Abort;
 use std::test::*;
@@ -211,15 +211,19 @@ fn rule_text(alloc: Global, rule: &Rule) -> Result<String, Fail> {
     )?)
 }
 
-// The one rule of a text, by the names of its parts.
-fn read_rule(alloc: Global, rule: &str) -> Result<String, Fail> {
-    let text = format!(in alloc; "DTSTART:19700102\nRRULE:{rule}\n")?;
+// The series of a start and a rule.
+fn read_series(alloc: Global, start: &str, rule: &str) -> Result<Series, Fail> {
+    let text = format!(in alloc; "DTSTART:{start}\nRRULE:{rule}\n")?;
     if !is_plain_text(text.as_bytes()) {
         return Err("the text is no plain text".into());
     }
-    let series = read(alloc, text.as_bytes(), None)
-        .ok()
-        .ok_or("the text is read")?;
+    let series = read(alloc, text.as_bytes(), None);
+    Ok(series.ok().ok_or("the text is read")?)
+}
+
+// The one rule of a text, by the names of its parts.
+fn read_rule(alloc: Global, rule: &str) -> Result<String, Fail> {
+    let series = read_series(alloc, "19700102", rule)?;
     match series.rules.as_slice() {
         [rule] => rule_text(alloc, rule),
         _ => Err("the series has one rule".into()),
@@ -232,6 +236,28 @@ fn parts(rt: HostRuntime) -> Result<(), Fail> {
         let (rule, part) = row.split_once('|').ok_or("a row has a part")?;
         let text = read_rule(rt.alloc(), rule)?;
         assert!(rt; text.contains(part), "{row}: {text}");
+    }
+    Ok(())
+}
+
+// Starts, and the kind and the start of the series: days or seconds since 1970-01-01.
+const STARTS: &str = "\
+19700102|Days 1
+20240101|Days 19723
+20240101T093000|Moments 1704101400
+20240101T093000Z|Moments 1704101400
+00010101|Days -719162
+99991231T235959|Moments 253402300799
+";
+
+#[test]
+fn starts(rt: HostRuntime) -> Result<(), Fail> {
+    for row in STARTS.lines() {
+        let (start, wanted) = row.split_once('|').ok_or("a row has a start")?;
+        let series = read_series(rt.alloc(), start, "FREQ=DAILY")?;
+        let text = format!(in rt.alloc(); "{:?} {}", series.kind, series.start)?;
+        assert_eq!(rt; text.as_str(), wanted, "{row}");
+        assert!(rt; series.start_counts, "{row}");
     }
     Ok(())
 }
