@@ -1,5 +1,5 @@
 -- Blanks around a text are dropped alike before and after its letters are put in capitals.
-use Rattle.std.proofs.Common.{◌≡◌, ℕ, ◌-◌, List, [], ◌∷◌, ◌++◌, reverse, length, take, drop, map, refl, sym, ap, ◌∙◌, cond, arith}
+use Rattle.std.proofs.Common.{◌≡◌, ℕ, ◌-◌, List, [], ◌∷◌, ◌++◌, reverse, length, drop, map, refl, sym, ap, ◌∙◌, arith}
 use Rattle.std.specs.Char.{to_ascii_uppercase}
 use Rattle.std.specs.List.{prefix_len, take_while}
 use Rattle.std.specs.Str.{str_to_ascii_uppercase}

@@ -1,5 +1,5 @@
-use Rattle.std.proofs.Common.{◌≡◌, ◌↔◌, ◌<◌, ℕ, IsTrue, List, min, ap, ◌∙◌, sym, subst}
-use Rattle.rr_model.specs.Text.Digits.{digits_value, leading_digits}
+use Rattle.std.proofs.Common.{◌↔◌, ◌<◌, ℕ, IsTrue, List, min, ap, ◌∙◌, sym, subst}
+use Rattle.rr_model.specs.Text.Digits.{digits_value}
 use Rattle.rr_rrule.proofs.NumberLemmas.{leading_digits-number}
 use Rattle.rr_rrule.proofs.numbers.whole_number.Goals as goal
 
