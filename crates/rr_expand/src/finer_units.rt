@@ -14,8 +14,8 @@ use rr_model::{Freq, Rule};
 use rr_setpos::allows;
 use std::alloc::AllocError;
 
-// How many units a day has.
-pub(crate) fn units_of_day(freq: Freq) -> u64
+/// How many units a day has.
+pub fn units_of_day(freq: Freq) -> u64
     ensures { result ≡ 86_400 / unit_seconds freq }
 {
     match freq {
@@ -25,8 +25,8 @@ pub(crate) fn units_of_day(freq: Freq) -> u64
     }
 }
 
-// The number of a moment's unit.
-pub(crate) fn unit_of(freq: Freq, at: i64) -> i64
+/// The number of a moment's unit.
+pub fn unit_of(freq: Freq, at: i64) -> i64
     requires freq { is_whole_days freq ≡ false }
     requires near { IsDayWithin 1000 (day_part Moments at) }
     ensures value { (w : ℕ) → result ≡ unit_number freq w Moments at }
@@ -39,8 +39,8 @@ pub(crate) fn unit_of(freq: Freq, at: i64) -> i64
     }
 }
 
-// The number of a day's first unit.
-pub(crate) fn first_unit(freq: Freq, day: i64) -> i64
+/// The number of the first unit of a day.
+pub fn first_unit(freq: Freq, day: i64) -> i64
     requires freq { is_whole_days freq ≡ false }
     requires near { IsDayWithin 1000 day }
     ensures value { (w : ℕ) → result ≡ unit_number freq w Moments (moment_at Moments day 0) }
@@ -53,8 +53,8 @@ pub(crate) fn first_unit(freq: Freq, day: i64) -> i64
     }
 }
 
-// How many units after `first` the first one comes that is a whole number of intervals from `start`.
-pub(crate) fn first_fit(first: i64, start: i64, interval: u32) -> u64
+/// How many units after `first` the first one comes that is a whole number of intervals from `start`.
+pub fn first_fit(first: i64, start: i64, interval: u32) -> u64
     requires first { IsUnitNear first }
     requires start { IsUnitNear start }
     requires interval { 1 ≤ interval }

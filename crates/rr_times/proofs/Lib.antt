@@ -1,3 +1,5 @@
 pub mod MergeLemmas
 pub mod SetLemmas
 pub mod SplitLemmas
+pub mod TakeLemmas
+mod RemoveLemmas

@@ -1,0 +1,5 @@
+pub mod WalkLemmas
+pub mod DayListLemmas
+pub mod StepLemmas
+pub mod FineLemmas
+pub mod RulesLemmas

@@ -1,0 +1,91 @@
+-- The parts of a series: its dates, and the members of its rules.
+use Rattle.std.proofs.Common.{◌≡◌, ℕ, zero, suc, ◌+◌, ◌<◌, List, [], ◌∷◌, ◌++◌, length, get_or, take, All, ℤ, true, false, refl, sym, ap, subst, ◌∙◌, arith}
+use Rattle.std.specs.Prelude.{if◌then◌else◌, int_lt}
+use Rattle.std.proofs.lemmas.List.{take_all, take_more}
+use Rattle.rr_model.specs.Moment.Years.{IsInYears}
+use Rattle.rr_model.specs.Rule.Validity.{EndsInYears}
+use Rattle.rr_model.specs.Series.Soundness.{EndsNotBefore, IsSound}
+use Rattle.rr_model.specs.Series.Tree.{dates_with_start, ended, members_of, members_of_all}
+use Rattle.rr_model.specs.Sets.Tree.{Tree, Forest, chosen_of, dates_of, union, many, without, nothing, part, IsOfKind, AreOfKind, IsOfOneKind}
+use Rattle.rr_model.specs.declared.kind.Kind.{Kind}
+use Rattle.rr_model.specs.declared.rule.End.{End}
+use Rattle.rr_model.specs.declared.rule.End.TheVariants.{Never, Until, Count, Both}
+use Rattle.rr_model.specs.declared.rule.Rule.{Rule}
+use Rattle.rr_model.specs.declared.rule.Series.{Series}
+use Rattle.rr_model.specs.Rising.{with_value}
+use Rattle.rr_model.proofs.RisingLemmas.{All-with_value}
+use Rattle.rr_lazy.specs.Many.{with_part, joined}
+use Rattle.rr_lazy.proofs.KindLemmas.{of_one_kind}
+
+-- a tree up to an end that is of its kind
+ended_of_kind : (kind : Kind) (start : ℤ) (tree : Tree) (end : End) → IsOfKind kind tree → EndsInYears end → EndsNotBefore kind start end
+    → IsOfKind kind (ended kind end tree)
+ended_of_kind kind start tree Never h y n = h
+ended_of_kind kind start tree (Until other at) h y n = ((λ i. kind), subst (λ k. IsInYears k at) n.0 y, h)
+ended_of_kind kind start tree (Count count) h y n = h
+ended_of_kind kind start tree (Both other at count) h y n = ((λ i. kind), subst (λ k. IsInYears k at) n.0 y, h)
+
+-- the members of each rule of a sound series are of its kind
+pub members_of_kind : (series : Series) → IsSound series → All (λ rule. IsOfKind series.kind (members_of series.kind series.start rule)) series.rules
+members_of_kind series s k d l =
+    let rule = get_or series.rules k d in
+    let tree = chosen_of rule series.kind series.start in
+    ended_of_kind series.kind series.start tree rule.end ((λ i. series.kind), s.valid.rules k d l, s.valid.start) (s.valid.ends k d l) (s.rules k d l).end
+
+module _ (kind : Kind) (start : ℤ) where
+  -- the members of each of these rules
+  abbrev all_members : List Rule → Tree
+  all_members rules = many (members_of_all kind start rules)
+
+  -- of the first rules of a list they are of the kind, where those of each are
+  first_of_kind : (n : ℕ) (rules : List Rule) → All (λ rule. IsOfKind kind (members_of kind start rule)) rules
+      → AreOfKind kind (members_of_all kind start (take n rules))
+  first_of_kind zero rules a = tt
+  first_of_kind (suc n) [] a = tt
+  first_of_kind (suc n) (rule ∷ rules) a = (a 0 rule (omega arith), first_of_kind n rules (λ k d l. a (suc k) d (omega (arith, l))))
+
+  last_part : (rule : Rule) (rules : List Rule)
+      → members_of_all kind start (rules ++ rule ∷ []) ≡ with_part (members_of_all kind start rules) (members_of kind start rule)
+  last_part rule [] = refl
+  last_part rule (x ∷ rules) = ap (part (members_of kind start x)) (last_part rule rules)
+
+  -- the members of the first rules, and those of one more
+  module _ (rules : List Rule) (i : ℕ) (rule : Rule) (old t : Tree) (l : i < length rules) (e : rule ≡ get_or rules i rule) (f : old ≡ all_members (take i rules)) (g : t ≡ members_of kind start rule) where
+    pub joined_next : joined old t ≡ all_members (take (i + 1) rules)
+    joined_next =
+        let more = take_more rules i rule l ∙ ap (λ r. take i rules ++ r ∷ []) (sym e) in
+        let parts = ap (members_of_all kind start) more ∙ last_part rule (take i rules) in
+        ap (λ x. joined x t) f ∙ ap (joined (all_members (take i rules))) g ∙ sym (ap many parts)
+
+    pub joined_kind : All (λ r. IsOfKind kind (members_of kind start r)) rules → IsOfOneKind (joined old t)
+    joined_kind a = subst IsOfOneKind (sym joined_next) (of_one_kind kind (all_members (take (i + 1) rules)) (first_of_kind (i + 1) rules a))
+
+-- ---- the whole series
+
+-- the dates added, and the start where it counts
+pub dates_in_years : (series : Series) → IsSound series → All (IsInYears series.kind) (dates_with_start series)
+dates_in_years series s =
+    elim series.start_counts as (λ b. All (IsInYears series.kind) (if b then with_value int_lt series.plus series.start else series.plus)) [
+      | true ↦ All-with_value (IsInYears series.kind) int_lt series.plus series.start s.valid.plus s.valid.start
+      | false ↦ s.valid.plus
+    ]
+
+-- the dates and the members together
+abbrev all_of : Series → Tree
+all_of series = union (dates_of series.kind (dates_with_start series)) (all_members series.kind series.start series.rules)
+
+all_of_kind : (series : Series) → IsSound series → IsOfKind series.kind (all_of series)
+all_of_kind series s =
+    let rules = series.rules in
+    let first = first_of_kind series.kind series.start (length rules) rules (members_of_kind series s) in
+    let whole = take_all (length rules) rules (omega arith) in
+    (((λ i. series.kind), dates_in_years series s), subst (λ r. AreOfKind series.kind (members_of_all series.kind series.start r)) whole first)
+
+pub all_one_kind : (series : Series) (a b : Tree) → IsSound series → a ≡ dates_of series.kind (dates_with_start series)
+    → b ≡ all_members series.kind series.start series.rules → IsOfOneKind (union a b)
+all_one_kind series a b s e f = rw (e, f) (of_one_kind series.kind (all_of series) (all_of_kind series s))
+
+pub whole_one_kind : (series : Series) (a : Tree) (dates : List ℤ) → IsSound series → a ≡ all_of series → dates ≡ series.minus
+    → IsOfOneKind (without a series.kind dates)
+whole_one_kind series a dates s e f =
+    ((λ i. series.kind), subst (All (IsInYears series.kind)) (sym f) s.valid.minus, subst (IsOfKind series.kind) (sym e) (all_of_kind series s))

@@ -1,0 +1,17 @@
+use Rattle.std.proofs.Common.{sym, ap, ◌∙◌, subst}
+use Rattle.std.specs.Prelude.{All}
+use Rattle.rr_model.specs.Moment.Years.{IsInYears}
+use Rattle.rr_model.specs.Sets.Tree.{dates_of}
+use Rattle.rr_iter.proofs.RulesLemmas.{dates_in_years, all_one_kind}
+use Rattle.rr_iter.proofs.all_lazy.AllLazy.new.Goals as goal
+
+pub new-dates-requires : goal.new-dates-requires
+new-dates-requires c =
+    let series = c.args.series.now in
+    record { in_years = subst (All (IsInYears series.kind)) (sym c.in_ok-dates_with_start.ensures) (dates_in_years series c.requires.sound) }
+
+pub new-requires-2-clause-one_kind : goal.new-requires-2-clause-one_kind
+new-requires-2-clause-one_kind c =
+    let series = c.args.series.now in
+    let dates = c.new-dates.ensures.tree ∙ ap (dates_of series.kind) c.in_ok-dates_with_start.ensures in
+    all_one_kind series _ _ c.requires.sound dates c.in_ok-rules.ensures.tree

@@ -1,0 +1,35 @@
+-- What the iterators over the members of a rule stand for.
+use Rattle.std.specs.Prelude.{ℤ}
+use Rattle.rr_model.specs.Sets.Tree.{Tree, upto, first_n}
+use Rattle.rr_lazy.specs.Next.{IsSoundLazy}
+use Rattle.rr_lazy.specs.Upto.{sound_upto}
+use Rattle.rr_lazy.specs.FirstN.{sound_first}
+use Rattle.rr_iter.specs.Lazies.{tree_of_rule, position_of_rule, sound_rule}
+use Rattle.rr_iter.specs.declared.upto_rule.UptoRule.{UptoRule}
+use Rattle.rr_iter.specs.declared.ended_lazy.EndedLazy.{EndedLazy}
+use Rattle.rr_iter.specs.declared.ended_lazy.EndedLazy.TheVariants.{Never, Until, Count, Both}
+
+abbrev pub tree_of_upto : UptoRule → Tree
+tree_of_upto s = upto (tree_of_rule s.lazy.lazy) s.lazy.kind s.lazy.at
+
+pub sound_upto_rule : (s : UptoRule) → IsSoundLazy (tree_of_upto s) s.lazy.position
+sound_upto_rule s = sound_upto (tree_of_rule s.lazy.lazy) s.lazy.kind s.lazy.at s.lazy.position s.lazy.one_kind s.lazy.begun
+
+-- the members of the rule
+abbrev pub tree_of_ended : EndedLazy → Tree
+tree_of_ended (Never a) = tree_of_rule a
+tree_of_ended (Until a) = tree_of_upto a
+tree_of_ended (Count a) = first_n (tree_of_rule a.lazy) a.count
+tree_of_ended (Both a) = first_n (tree_of_upto a.lazy) a.count
+
+abbrev pub position_of_ended : EndedLazy → ℤ
+position_of_ended (Never a) = position_of_rule a
+position_of_ended (Until a) = a.lazy.position
+position_of_ended (Count a) = a.position
+position_of_ended (Both a) = a.position
+
+pub sound_ended : (s : EndedLazy) → IsSoundLazy (tree_of_ended s) (position_of_ended s)
+sound_ended (Never a) = sound_rule a
+sound_ended (Until a) = sound_upto_rule a
+sound_ended (Count a) = sound_first (tree_of_rule a.lazy) (position_of_rule a.lazy) a.position a.count a.left (sound_rule a.lazy) a.counting
+sound_ended (Both a) = sound_first (tree_of_upto a.lazy) a.lazy.lazy.position a.position a.count a.left (sound_upto_rule a.lazy) a.counting

@@ -1,0 +1,37 @@
+-- What the iterators over rules stand for.
+use Rattle.std.specs.Prelude.{ℤ}
+use Rattle.rr_model.specs.declared.kind.Kind.TheVariants.{Moments}
+use Rattle.rr_model.specs.Sets.Tree.{Tree, chosen_of}
+use Rattle.rr_lazy.specs.Next.{IsSoundLazy}
+use Rattle.rr_iter.specs.Ruling.{at_moments}
+use Rattle.rr_iter.specs.Steps.{sound_ruling}
+use Rattle.rr_iter.specs.declared.rule_lazy.RuleLazy.{RuleLazy}
+use Rattle.rr_iter.specs.declared.rule_lazy.RuleLazy.TheVariants.{Second, Minute, Hour, Day, Week, Month, Year}
+
+-- the chosen moments of the rule
+abbrev pub tree_of_rule : RuleLazy → Tree
+tree_of_rule (Second a) = chosen_of a.rule.rule Moments a.rule.start
+tree_of_rule (Minute a) = chosen_of a.rule.rule Moments a.rule.start
+tree_of_rule (Hour a) = chosen_of a.rule.rule Moments a.rule.start
+tree_of_rule (Day a) = chosen_of a.rule.rule a.rule.kind a.rule.start
+tree_of_rule (Week a) = chosen_of a.rule.rule a.rule.kind a.rule.start
+tree_of_rule (Month a) = chosen_of a.rule.rule a.rule.kind a.rule.start
+tree_of_rule (Year a) = chosen_of a.rule.rule a.rule.kind a.rule.start
+
+abbrev pub position_of_rule : RuleLazy → ℤ
+position_of_rule (Second a) = a.position
+position_of_rule (Minute a) = a.position
+position_of_rule (Hour a) = a.position
+position_of_rule (Day a) = a.position
+position_of_rule (Week a) = a.position
+position_of_rule (Month a) = a.position
+position_of_rule (Year a) = a.position
+
+pub sound_rule : (s : RuleLazy) → IsSoundLazy (tree_of_rule s) (position_of_rule s)
+sound_rule (Second a) = sound_ruling (at_moments a.rule) a.position a.valid a.begun
+sound_rule (Minute a) = sound_ruling (at_moments a.rule) a.position a.valid a.begun
+sound_rule (Hour a) = sound_ruling (at_moments a.rule) a.position a.valid a.begun
+sound_rule (Day a) = sound_ruling a.rule a.position a.valid a.begun
+sound_rule (Week a) = sound_ruling a.rule a.position a.valid a.begun
+sound_rule (Month a) = sound_ruling a.rule a.position a.valid a.begun
+sound_rule (Year a) = sound_ruling a.rule a.position a.valid a.begun

@@ -1,0 +1,59 @@
+// The dates that are added to a series, and the members of its rules.
+ghost use Rattle.std.specs.Prelude.{◌≡◌, IfOk};
+ghost use Rattle.rr_model.specs.Series.Soundness.{HasNoSetPositions, IsSound};
+ghost use Rattle.rr_model.specs.Series.Tree.{dates_with_start, members_of_all};
+ghost use Rattle.rr_lazy.specs.Next.{IsUnasked};
+
+use crate::RulesLazy;
+use rr_lazy::{DatesLazy, DayTimes, Lazy, Union};
+use rr_model::{Dates, NoMemory, Series};
+use std::alloc::Global;
+
+/// The dates that are added to a series, and the members of its rules.
+#[derive(Drop)]
+pub struct AllLazy {
+    pub(crate) lazy: Union<DatesLazy, RulesLazy>,
+}
+
+impl AllLazy {
+    ghost use Rattle.rr_model.specs.Sets.Tree.{dates_of, many, union};
+
+    /// The dates of a series, its start among them where it counts, and the members of its rules.
+    pub(crate) fn new(alloc: Global, series: &Series) -> Result<AllLazy, NoMemory>
+        requires sound { IsSound series.now }
+        requires plain { HasNoSetPositions series.now }
+        ensures tree { IfOk result (λ l. ⟦<AllLazy as Lazy>⟧.tree l ≡ union (dates_of series.now.kind (dates_with_start series.now)) (many (members_of_all series.now.kind series.now.start series.now.rules))) }
+        ensures unasked { IfOk result (λ l. IsUnasked (⟦<AllLazy as Lazy>⟧.position l)) }
+    {
+        let dates = DatesLazy::new(series.kind, dates_with_start(alloc, series)?);
+        let rules = RulesLazy::new(alloc, series)?;
+        Ok(AllLazy {
+            lazy: Union::new(dates, rules),
+        })
+    }
+}
+
+// The dates that are added to a series, and its start where it counts.
+fn dates_with_start(alloc: Global, series: &Series) -> Result<Dates, NoMemory>
+    ensures { IfOk result (λ dates. dates ≡ dates_with_start series.now) }
+{
+    let mut dates = series.plus.copy(alloc)?;
+    if series.start_counts {
+        dates.put(series.start)?;
+    }
+    Ok(dates)
+}
+
+impl Lazy for AllLazy {
+    ghost use Rattle.rr_lazy.specs.Ahead.{sound_union};
+
+    ghost tree = { λ s. ⟦<Union<DatesLazy, RulesLazy> as Lazy>⟧.tree s.lazy };
+
+    ghost position = { λ s. ⟦<Union<DatesLazy, RulesLazy> as Lazy>⟧.position s.lazy };
+
+    ghost sound = { λ s. sound_union (⟦<DatesLazy as Lazy>⟧.tree s.lazy.a) (⟦<RulesLazy as Lazy>⟧.tree s.lazy.b) s.lazy.position s.lazy.one_kind s.lazy.begun };
+
+    fn next(&mut self, alloc: Global, to: i64) -> Result<Option<DayTimes>, NoMemory> {
+        self.lazy.next(alloc, to)
+    }
+}

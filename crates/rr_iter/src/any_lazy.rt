@@ -1,0 +1,46 @@
+// The occurrences of a series.
+ghost use Rattle.std.specs.Prelude.{◌≡◌, IfOk};
+ghost use Rattle.rr_model.specs.Series.Soundness.{HasNoSetPositions};
+ghost use Rattle.rr_model.specs.Series.Tree.{tree_of};
+ghost use Rattle.rr_lazy.specs.Next.{IsUnasked};
+
+use crate::AllLazy;
+use rr_check::Checked;
+use rr_lazy::{DayTimes, Lazy, Without};
+use rr_model::NoMemory;
+use std::alloc::Global;
+
+/// The occurrences of a series.
+#[derive(Drop)]
+pub struct AnyLazy {
+    pub(crate) lazy: Without<AllLazy>,
+}
+
+/// The occurrences of a series whose rules have no BYSETPOS (RFC 5545, section 3.8.5): its start where it counts, the
+/// members of its rules and the dates added, without the dates taken out.
+pub fn occurrences(alloc: Global, series: &Checked) -> Result<AnyLazy, NoMemory>
+    requires without_set_positions { HasNoSetPositions series.now }
+    ensures tree { IfOk result (λ l. ⟦<AnyLazy as Lazy>⟧.tree l ≡ tree_of series.now) }
+    ensures unasked { IfOk result (λ l. IsUnasked (⟦<AnyLazy as Lazy>⟧.position l)) }
+{
+    let given = series.series();
+    let all = AllLazy::new(alloc, given)?;
+    let minus = given.minus.copy(alloc)?;
+    Ok(AnyLazy {
+        lazy: Without::new(all, given.kind, minus),
+    })
+}
+
+impl Lazy for AnyLazy {
+    ghost use Rattle.rr_lazy.specs.Stretch.{sound_without};
+
+    ghost tree = { λ s. ⟦<Without<AllLazy> as Lazy>⟧.tree s.lazy };
+
+    ghost position = { λ s. ⟦<Without<AllLazy> as Lazy>⟧.position s.lazy };
+
+    ghost sound = { λ s. sound_without (⟦<AllLazy as Lazy>⟧.tree s.lazy.lazy) s.lazy.kind s.lazy.dates s.lazy.position s.lazy.one_kind s.lazy.begun };
+
+    fn next(&mut self, alloc: Global, to: i64) -> Result<Option<DayTimes>, NoMemory> {
+        self.lazy.next(alloc, to)
+    }
+}

@@ -1,0 +1,68 @@
+// The members of a rule.
+ghost use Rattle.std.specs.Prelude.{◌≡◌, [], IfOk};
+ghost use Rattle.rr_model.specs.Moment.Years.{IsInYears};
+ghost use Rattle.rr_model.specs.Rule.Validity.{EndsInYears, IsValidRule};
+ghost use Rattle.rr_model.specs.Series.Soundness.{EndsNotBefore};
+ghost use Rattle.rr_model.specs.Series.Tree.{members_of};
+ghost use Rattle.rr_lazy.specs.Next.{IsUnasked};
+
+use crate::{RuleLazy, UptoRule};
+use rr_lazy::{DayTimes, FirstN, Lazy};
+use rr_model::{End, Kind, NoMemory, Rule};
+use std::alloc::Global;
+
+/// The members of a rule: its chosen moments from its start on, up to its end.
+#[derive(Drop)]
+pub enum EndedLazy {
+    /// Of a rule without end.
+    Never(RuleLazy),
+    /// Of a rule with UNTIL.
+    Until(UptoRule),
+    /// Of a rule with COUNT.
+    Count(FirstN<RuleLazy>),
+    /// Of a rule with both.
+    Both(FirstN<UptoRule>),
+}
+
+impl EndedLazy {
+    /// The members of a rule from its start on, in years 1 to 9999. Where the rule has an UNTIL, it lies in these years,
+    /// is of the start's kind and not before it.
+    pub fn new(alloc: Global, rule: &Rule, kind: Kind, start: i64) -> Result<EndedLazy, NoMemory>
+        requires valid { IsValidRule kind rule.now }
+        requires plain { rule.now.by_set_pos ≡ [] }
+        requires in_years { IsInYears kind start }
+        requires ends_in_years { EndsInYears rule.now.end }
+        requires ends_not_before { EndsNotBefore kind start rule.now.end }
+        ensures tree { IfOk result (λ l. ⟦<EndedLazy as Lazy>⟧.tree l ≡ members_of kind start rule.now) }
+        ensures unasked { IfOk result (λ l. IsUnasked (⟦<EndedLazy as Lazy>⟧.position l)) }
+    {
+        let chosen = RuleLazy::new(alloc, rule, kind, start)?;
+        Ok(match rule.end {
+            End::Never => EndedLazy::Never(chosen),
+            End::Until { at, .. } => EndedLazy::Until(UptoRule::new(chosen, kind, at)),
+            End::Count(count) => EndedLazy::Count(FirstN::new(chosen, count)),
+            End::Both { at, count, .. } => {
+                EndedLazy::Both(FirstN::new(UptoRule::new(chosen, kind, at), count))
+            }
+        })
+    }
+}
+
+impl Lazy for EndedLazy {
+    ghost use Rattle.rr_iter.specs.Ended.{tree_of_ended, position_of_ended, sound_ended};
+
+    ghost tree = { tree_of_ended };
+
+    ghost position = { position_of_ended };
+
+    ghost sound = { sound_ended };
+
+    fn next(&mut self, alloc: Global, to: i64) -> Result<Option<DayTimes>, NoMemory> {
+        match self {
+            EndedLazy::Never(lazy) => lazy.next(alloc, to),
+            EndedLazy::Until(lazy) => lazy.next(alloc, to),
+            EndedLazy::Count(lazy) => lazy.next(alloc, to),
+            EndedLazy::Both(lazy) => lazy.next(alloc, to),
+        }
+    }
+}

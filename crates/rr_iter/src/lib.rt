@@ -1,0 +1,35 @@
+//! Lazy iterators over the chosen moments of a rule, and over the occurrences of a series.
+#![tactic(auto)]
+
+mod all_lazy;
+mod any_lazy;
+mod day_lazy;
+mod day_rule;
+mod ended_lazy;
+mod fine_rule;
+mod hour_lazy;
+mod minute_lazy;
+mod month_lazy;
+mod rule_lazy;
+mod rules_lazy;
+mod second_lazy;
+#[cfg(test)]
+mod tests;
+mod upto_rule;
+mod week_lazy;
+mod year_lazy;
+
+pub use all_lazy::AllLazy;
+pub use any_lazy::{AnyLazy, occurrences};
+pub use day_lazy::DayLazy;
+pub use ended_lazy::EndedLazy;
+pub use hour_lazy::HourLazy;
+pub use minute_lazy::MinuteLazy;
+pub use month_lazy::MonthLazy;
+pub use rr_lazy::{DatesLazy, DayTimes, FirstN, Lazy, Many, Union, Upto, Without};
+pub use rule_lazy::RuleLazy;
+pub use rules_lazy::RulesLazy;
+pub use second_lazy::SecondLazy;
+pub use upto_rule::UptoRule;
+pub use week_lazy::WeekLazy;
+pub use year_lazy::YearLazy;

@@ -1,0 +1,57 @@
+// The chosen moments of a rule in months.
+ghost use Rattle.std.specs.Prelude.{◌≡◌, [], IfOk};
+ghost use Rattle.rr_model.specs.Moment.Years.{IsInYears};
+ghost use Rattle.rr_model.specs.Rule.Validity.{IsValidRule};
+ghost use Rattle.rr_model.specs.declared.rule.Freq.TheVariants.{Monthly};
+ghost use Rattle.rr_lazy.specs.Next.{IsUnasked};
+ghost use Rattle.rr_iter.specs.Ruling.{IsValidRuling, IsValidRuling-prop};
+ghost use Rattle.rr_iter.specs.Steps.{HasBegun};
+
+use crate::day_rule::DayRule;
+use rr_lazy::{DayTimes, Lazy};
+use rr_model::{Kind, NoMemory, Rule};
+use std::alloc::Global;
+
+/// The chosen moments of a rule with FREQ=MONTHLY from its start on.
+#[derive(Drop)]
+pub struct MonthLazy {
+    rule: DayRule,
+    position: i64,
+    ghost valid: { IsValidRuling rule } by { IsValidRuling-prop rule },
+    ghost begun: { HasBegun position },
+}
+
+impl MonthLazy {
+    ghost use Rattle.rr_model.specs.Sets.Tree.{chosen_of};
+
+    /// The chosen moments of a rule from its start on, in years 1 to 9999. The rule's end is not asked.
+    pub fn new(alloc: Global, rule: &Rule, kind: Kind, start: i64) -> Result<MonthLazy, NoMemory>
+        requires valid { IsValidRule kind rule.now }
+        requires freq { rule.now.freq ≡ Monthly }
+        requires plain { rule.now.by_set_pos ≡ [] }
+        requires in_years { IsInYears kind start }
+        ensures tree { IfOk result (λ l. ⟦<MonthLazy as Lazy>⟧.tree l ≡ chosen_of rule.now kind start) }
+        ensures unasked { IfOk result (λ l. IsUnasked (⟦<MonthLazy as Lazy>⟧.position l)) }
+    {
+        let rule = DayRule::new(alloc, rule, kind, start)?;
+        Ok(MonthLazy {
+            rule,
+            position: -719_162,
+        })
+    }
+}
+
+impl Lazy for MonthLazy {
+    ghost use Rattle.rr_model.specs.Sets.Tree.{chosen_of};
+    ghost use Rattle.rr_iter.specs.Steps.{sound_ruling};
+
+    ghost tree = { λ s. chosen_of s.rule.rule s.rule.kind s.rule.start };
+
+    ghost position = { λ s. s.position };
+
+    ghost sound = { λ s. sound_ruling s.rule s.position s.valid s.begun };
+
+    fn next(&mut self, alloc: Global, to: i64) -> Result<Option<DayTimes>, NoMemory> {
+        self.rule.step(alloc, &mut self.position, to)
+    }
+}

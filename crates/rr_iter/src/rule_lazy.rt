@@ -1,0 +1,73 @@
+// The chosen moments of a rule.
+ghost use Rattle.std.specs.Prelude.{◌≡◌, [], IfOk};
+ghost use Rattle.rr_model.specs.Moment.Years.{IsInYears};
+ghost use Rattle.rr_model.specs.Rule.Validity.{IsValidRule};
+ghost use Rattle.rr_lazy.specs.Next.{IsUnasked};
+ghost use Rattle.rr_model.specs.Sets.Tree.{chosen_of};
+
+use crate::{DayLazy, HourLazy, MinuteLazy, MonthLazy, SecondLazy, WeekLazy, YearLazy};
+use rr_lazy::{DayTimes, Lazy};
+use rr_model::{Freq, Kind, NoMemory, Rule};
+use std::alloc::Global;
+
+/// The chosen moments of a rule from its start on.
+#[derive(Drop)]
+pub enum RuleLazy {
+    /// Of a rule in seconds.
+    Second(SecondLazy),
+    /// Of a rule in minutes.
+    Minute(MinuteLazy),
+    /// Of a rule in hours.
+    Hour(HourLazy),
+    /// Of a rule in days.
+    Day(DayLazy),
+    /// Of a rule in weeks.
+    Week(WeekLazy),
+    /// Of a rule in months.
+    Month(MonthLazy),
+    /// Of a rule in years.
+    Year(YearLazy),
+}
+
+impl RuleLazy {
+    /// The chosen moments of a rule from its start on, in years 1 to 9999. The rule's end is not asked.
+    pub fn new(alloc: Global, rule: &Rule, kind: Kind, start: i64) -> Result<RuleLazy, NoMemory>
+        requires valid { IsValidRule kind rule.now }
+        requires plain { rule.now.by_set_pos ≡ [] }
+        requires in_years { IsInYears kind start }
+        ensures tree { IfOk result (λ l. ⟦<RuleLazy as Lazy>⟧.tree l ≡ chosen_of rule.now kind start) }
+        ensures unasked { IfOk result (λ l. IsUnasked (⟦<RuleLazy as Lazy>⟧.position l)) }
+    {
+        Ok(match rule.freq {
+            Freq::Secondly => RuleLazy::Second(SecondLazy::new(alloc, rule, kind, start)?),
+            Freq::Minutely => RuleLazy::Minute(MinuteLazy::new(alloc, rule, kind, start)?),
+            Freq::Hourly => RuleLazy::Hour(HourLazy::new(alloc, rule, kind, start)?),
+            Freq::Daily => RuleLazy::Day(DayLazy::new(alloc, rule, kind, start)?),
+            Freq::Weekly => RuleLazy::Week(WeekLazy::new(alloc, rule, kind, start)?),
+            Freq::Monthly => RuleLazy::Month(MonthLazy::new(alloc, rule, kind, start)?),
+            Freq::Yearly => RuleLazy::Year(YearLazy::new(alloc, rule, kind, start)?),
+        })
+    }
+}
+
+impl Lazy for RuleLazy {
+    ghost use Rattle.rr_iter.specs.Lazies.{tree_of_rule, position_of_rule, sound_rule};
+
+    ghost tree = { tree_of_rule };
+
+    ghost position = { position_of_rule };
+
+    ghost sound = { sound_rule };
+
+    fn next(&mut self, alloc: Global, to: i64) -> Result<Option<DayTimes>, NoMemory> {
+        match self {
+            RuleLazy::Second(lazy) => lazy.next(alloc, to),
+            RuleLazy::Minute(lazy) => lazy.next(alloc, to),
+            RuleLazy::Hour(lazy) => lazy.next(alloc, to),
+            RuleLazy::Day(lazy) => lazy.next(alloc, to),
+            RuleLazy::Week(lazy) => lazy.next(alloc, to),
+            RuleLazy::Month(lazy) => lazy.next(alloc, to),
+            RuleLazy::Year(lazy) => lazy.next(alloc, to),
+        }
+    }
+}

@@ -1,0 +1,49 @@
+// The members of the rules of a series.
+ghost use Rattle.std.specs.Prelude.{◌≡◌, IfOk};
+ghost use Rattle.rr_model.specs.Series.Soundness.{HasNoSetPositions, IsSound};
+ghost use Rattle.rr_model.specs.Series.Tree.{members_of_all};
+ghost use Rattle.rr_lazy.specs.Next.{IsUnasked};
+
+use crate::EndedLazy;
+use rr_lazy::{DayTimes, Lazy, Many};
+use rr_model::{NoMemory, Series};
+use std::alloc::Global;
+
+/// The members of the rules of a series.
+#[derive(Drop)]
+pub struct RulesLazy {
+    pub(crate) lazy: Many<EndedLazy>,
+}
+
+impl RulesLazy {
+    ghost use Rattle.rr_model.specs.Sets.Tree.{many};
+
+    /// The members of the rules of a series.
+    pub(crate) fn new(alloc: Global, series: &Series) -> Result<RulesLazy, NoMemory>
+        requires sound { IsSound series.now }
+        requires plain { HasNoSetPositions series.now }
+        ensures tree { IfOk result (λ l. ⟦<RulesLazy as Lazy>⟧.tree l ≡ many (members_of_all series.now.kind series.now.start series.now.rules)) }
+        ensures unasked { IfOk result (λ l. IsUnasked (⟦<RulesLazy as Lazy>⟧.position l)) }
+    {
+        let mut lazy = Many::new(alloc);
+        for rule in series.rules.as_slice() {
+            let members = EndedLazy::new(alloc, rule, series.kind, series.start)?;
+            lazy.put(members)?;
+        }
+        Ok(RulesLazy { lazy })
+    }
+}
+
+impl Lazy for RulesLazy {
+    ghost use Rattle.rr_lazy.specs.Many.{forest_of, sound_many};
+
+    ghost tree = { λ s. ⟦<Many<EndedLazy> as Lazy>⟧.tree s.lazy };
+
+    ghost position = { λ s. ⟦<Many<EndedLazy> as Lazy>⟧.position s.lazy };
+
+    ghost sound = { λ s. sound_many (forest_of (λ p. ⟦<EndedLazy as Lazy>⟧.tree p.lazy) s.lazy.parts.items) s.lazy.position s.lazy.one_kind s.lazy.begun };
+
+    fn next(&mut self, alloc: Global, to: i64) -> Result<Option<DayTimes>, NoMemory> {
+        self.lazy.next(alloc, to)
+    }
+}

@@ -1,0 +1,59 @@
+// The chosen moments of a rule in seconds.
+ghost use Rattle.std.specs.Prelude.{◌≡◌, [], IfOk};
+ghost use Rattle.rr_model.specs.Moment.Years.{IsInYears};
+ghost use Rattle.rr_model.specs.Rule.Validity.{IsValidRule};
+ghost use Rattle.rr_model.specs.declared.rule.Freq.TheVariants.{Secondly};
+ghost use Rattle.rr_lazy.specs.Next.{IsUnasked};
+ghost use Rattle.rr_iter.specs.Ruling.{IsValidRuling, IsValidRuling-prop, at_moments};
+ghost use Rattle.rr_iter.specs.Steps.{HasBegun};
+
+use crate::fine_rule::FineRule;
+use rr_lazy::{DayTimes, Lazy};
+use rr_model::{Kind, NoMemory, Rule};
+use std::alloc::Global;
+
+/// The chosen moments of a rule with FREQ=SECONDLY from its start on.
+#[derive(Drop)]
+pub struct SecondLazy {
+    rule: FineRule,
+    position: i64,
+    ghost valid: { IsValidRuling (at_moments rule) } by { IsValidRuling-prop (at_moments rule) },
+    ghost begun: { HasBegun position },
+}
+
+impl SecondLazy {
+    ghost use Rattle.rr_model.specs.Sets.Tree.{chosen_of};
+
+    /// The chosen moments of a rule from its start on, in years 1 to 9999. The rule's end is not asked.
+    pub fn new(alloc: Global, rule: &Rule, kind: Kind, start: i64) -> Result<SecondLazy, NoMemory>
+        requires valid { IsValidRule kind rule.now }
+        requires freq { rule.now.freq ≡ Secondly }
+        requires plain { rule.now.by_set_pos ≡ [] }
+        requires in_years { IsInYears kind start }
+        ensures tree { IfOk result (λ l. ⟦<SecondLazy as Lazy>⟧.tree l ≡ chosen_of rule.now kind start) }
+        ensures unasked { IfOk result (λ l. IsUnasked (⟦<SecondLazy as Lazy>⟧.position l)) }
+    {
+        let rule = FineRule::new(alloc, rule, kind, start)?;
+        Ok(SecondLazy {
+            rule,
+            position: -719_162,
+        })
+    }
+}
+
+impl Lazy for SecondLazy {
+    ghost use Rattle.rr_model.specs.Sets.Tree.{chosen_of};
+    ghost use Rattle.rr_iter.specs.Steps.{sound_ruling};
+    ghost use Rattle.rr_iter.specs.Ruling.{at_moments};
+    ghost use Rattle.rr_model.specs.declared.kind.Kind.TheVariants.{Moments};
+
+    ghost tree = { λ s. chosen_of s.rule.rule Moments s.rule.start };
+
+    ghost position = { λ s. s.position };
+
+    ghost sound = { λ s. sound_ruling (at_moments s.rule) s.position s.valid s.begun };
+
+    fn next(&mut self, alloc: Global, to: i64) -> Result<Option<DayTimes>, NoMemory> {
+        self.rule.step(alloc, &mut self.position, to)
+    }
+}

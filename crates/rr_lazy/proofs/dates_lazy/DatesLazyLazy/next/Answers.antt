@@ -1,0 +1,42 @@
+use Rattle.std.proofs.Common.{rules, ◌≡◌, ◌+ℤ◌, pos, arith, w64, to_z, of_z, to_z-of_z, FitsSigned}
+use Rattle.std.specs.Prelude.{Some, None}
+use Rattle.std.proofs.lemmas.Int.{ints}
+use Rattle.rr_lazy.specs.Stretch.{IsFirstDate}
+use Rattle.rr_lazy.proofs.FirstLemmas.{first_day_is}
+use Rattle.rr_lazy.proofs.AheadLemmas.{day_fits}
+use Rattle.rr_lazy.proofs.StretchLemmas.{dates_none, dates_some}
+use Rattle.rr_lazy.proofs.dates_lazy.DatesLazyLazy.next.Goals as goal
+
+pub returns-in-None-clause-next : goal.returns-in-None-clause-next
+returns-in-None-clause-next c =
+    let s = c.args.self.now in
+    let r = c.past-self.result in
+    let fits : FitsSigned w64 s.position = search rules in
+    let f = to_z-of_z fits in
+    let t = to_z-of_z c.ranges.to in
+    let q : to_z w64 (of_z w64 r) ≡ r = (let fr : FitsSigned w64 r = record { sfits = c.past-self.type_inv } in to_z-of_z fr) in
+    let one = rw (f, t) at c.past-self.ensures.one in
+    let none : IsFirstDate s.kind s.dates s.position c.args.to None = rw (c.in-None.is, f, t, c.as_slice.ensures.value) at c.first_date.ensures in
+    rw q (dates_none s.kind s.dates s.position c.args.to r none one, rw f at c.past-self.ensures.kept, rw t at c.past-self.ensures.past, one)
+
+pub invariant_of-self-in-Some : goal.invariant_of-self-in-Some
+invariant_of-self-in-Some c =
+    let s = c.args.self.now in
+    let fits : FitsSigned w64 s.position = search rules in
+    let f = to_z-of_z fits in
+    let t = to_z-of_z c.ranges.to in
+    let d : IsFirstDate s.kind s.dates s.position c.args.to (Some c.in-Some.day) = rw (f, t, c.as_slice.ensures.value) at c.in-Some.ensures in
+    let n = day_fits s.position c.in-Some.day c.args.to (rw first_day_is at s.begun) d.0 d.1 c.requires.high in
+    let q : to_z w64 (of_z w64 (to_z w64 (of_z w64 c.in-Some.day) +ℤ pos 1)) ≡ c.in-Some.day +ℤ pos 1 = rw n.0 n.1 in
+    record { begun = omega (arith, ints, q, d.0, s.begun); in_years = s.in_years }
+
+pub returns-in_ok-times-in-Some-clause-next : goal.returns-in_ok-times-in-Some-clause-next
+returns-in_ok-times-in-Some-clause-next c =
+    let s = c.args.self.now in
+    let fits : FitsSigned w64 s.position = search rules in
+    let f = to_z-of_z fits in
+    let t = to_z-of_z c.ranges.to in
+    let d : IsFirstDate s.kind s.dates s.position c.args.to (Some c.in-Some.day) = rw (f, t, c.as_slice.ensures.value) at c.in-Some.ensures in
+    let n = day_fits s.position c.in-Some.day c.args.to (rw first_day_is at s.begun) d.0 d.1 c.requires.high in
+    let q : to_z w64 (of_z w64 (to_z w64 (of_z w64 c.in-Some.day) +ℤ pos 1)) ≡ c.in-Some.day +ℤ pos 1 = rw n.0 n.1 in
+    rw n.0 (dates_some s.kind s.dates s.position c.args.to c.in-Some.day _ d (rw (n.0, c.as_slice-in-Some.ensures.value) at c.in_ok-times-in-Some.ensures), d.1, n.1)

@@ -1,0 +1,40 @@
+-- Several parts of a combinator, and what each gave.
+use Rattle.std.specs.Prelude.{◌≡◌, ℕ, ◌<◌, ◌≤◌, List, [], ◌∷◌, length, get_or, Option, ℤ, pos, ◌≤ℤ◌}
+use Rattle.rr_model.specs.Calendar.{first_day_of_year}
+use Rattle.rr_lazy.specs.declared.day_times.DayTimes.{DayTimes}
+use Rattle.rr_model.specs.Sets.Tree.{Tree, Forest, nothing, part, many, IsOfOneKind}
+use Rattle.rr_lazy.specs.Next.{IsSoundLazy}
+use Rattle.rr_lazy.specs.Ahead.{HasOn, GaveDay, IsLeft}
+
+-- the trees of the parts of a list
+abbrev pub forest_of : {X : Type 0} → (X → Tree) → List X → Forest
+forest_of tree [] = nothing
+forest_of tree (x ∷ xs) = part (tree x) (forest_of tree xs)
+
+-- a forest with one more tree at its end
+abbrev pub with_part : Forest → Tree → Forest
+with_part nothing t = part t nothing
+with_part (part a parts) t = part a (with_part parts t)
+
+-- several trees with one more at their end
+abbrev pub joined : Tree → Tree → Tree
+joined (many parts) t = many (with_part parts t)
+joined other t = other
+
+-- one of the parts gave this day
+abbrev pub GaveDaySome : {X : Type 0} → (X → Option DayTimes) → List X → ℤ → Type 0
+GaveDaySome {X} ahead parts day = (k : ℕ) × (k < length parts) × ((d : X) → GaveDay (ahead (get_or parts k d)) day)
+
+-- one of the first parts, so many, gave this day with this second
+abbrev pub HasOnSome : {X : Type 0} → (X → Option DayTimes) → List X → ℕ → ℤ → ℕ → Type 0
+HasOnSome {X} ahead parts place day s = (k : ℕ) × (k < place) × (k < length parts) × ((d : X) → HasOn (ahead (get_or parts k d)) day s)
+
+-- the first parts, so many, have forgotten the day; nothing else has changed
+pub record IsLeftBy {X L : Type 0} (ahead : X → Option DayTimes) (lazy : X → L) (old : List X) (day : ℤ) (place : ℕ) (new : List X) : Type 0 where
+  pub many : length new ≡ length old
+  pub lazies : (k : ℕ) (d : X) → k < length old → lazy (get_or new k d) ≡ lazy (get_or old k d)
+  pub left : (k : ℕ) (d : X) → k < place → k < length old → IsLeft (ahead (get_or old k d)) day (ahead (get_or new k d))
+  pub rest : (k : ℕ) (d : X) → place ≤ k → k < length old → ahead (get_or new k d) ≡ ahead (get_or old k d)
+
+pub sound_many : (parts : Forest) (position : ℤ) → IsOfOneKind (many parts) → first_day_of_year (pos 1) ≤ℤ position → IsSoundLazy (many parts) position
+sound_many parts position k b = record { of_kind = k; in_years = b }

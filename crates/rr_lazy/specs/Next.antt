@@ -1,0 +1,33 @@
+-- What a lazy iterator answers: its occupied days one after another.
+use Rattle.std.specs.Prelude.{◌≡◌, ◌≢◌, ◌⊎◌, ℕ, false, IsTrue, List, [], Option, Some, None, Result, Ok, Err, nat_lt, ℤ, pos, ◌+ℤ◌, ◌≤ℤ◌, ◌<ℤ◌}
+use Rattle.rr_model.specs.Rising.Sets.{IsSetOf}
+use Rattle.rr_model.specs.Calendar.{first_day_of_year}
+use Rattle.rr_model.specs.declared.refusal.NoMemory.{NoMemory}
+use Rattle.rr_lazy.specs.declared.day_times.DayTimes.{DayTimes}
+use Rattle.rr_model.specs.Sets.Tree.{Tree, IsOfOneKind, stands_at}
+
+-- no day from one on and below another is occupied
+abbrev pub HasNone : Tree → ℤ → ℤ → Type 0
+HasNone tree from to = (day : ℤ) (second : ℕ) → from ≤ℤ day → day <ℤ to → stands_at tree day second ≡ false
+
+-- the first occupied day from one on, with all its seconds
+pub record IsFirstOccupied (tree : Tree) (from day : ℤ) (times : List ℕ) : Type 0 where
+  pub late : from ≤ℤ day
+  pub before : HasNone tree from day
+  pub some : times ≢ []
+  pub all : IsSetOf nat_lt times (λ second. IsTrue (stands_at tree day second))
+
+-- What a call of `next` up to a day does, from a position to another, by its answer.
+abbrev pub IsNext : Tree → ℤ → ℤ → Result (Option DayTimes) NoMemory → ℤ → Type 0
+IsNext tree old to (Ok (Some found)) new = IsFirstOccupied tree old found.day found.times × (found.day ≤ℤ to) × (new ≡ found.day +ℤ pos 1)
+IsNext tree old to (Ok None) new = HasNone tree old new × (old ≤ℤ new) × (to <ℤ new) × ((new ≡ to +ℤ pos 1) ⊎ (new ≡ old))
+IsNext tree old to (Err e) new = new ≡ old
+
+-- what is known of every lazy iterator: its tree is of one kind, and its position is not before 0001-01-01
+pub record IsSoundLazy (tree : Tree) (position : ℤ) : Type 0 where
+  pub of_kind : IsOfOneKind tree
+  pub in_years : first_day_of_year (pos 1) ≤ℤ position
+
+-- it has not been asked: its position is 0001-01-01
+abbrev pub IsUnasked : ℤ → Type 0
+IsUnasked position = position ≡ first_day_of_year (pos 1)

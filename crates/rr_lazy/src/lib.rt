@@ -1,0 +1,22 @@
+//! Lazy iterators over the occupied days of a set of occurrences.
+#![tactic(auto)]
+
+mod ahead;
+mod dates_lazy;
+mod day_times;
+mod first_n;
+mod lazy;
+mod many;
+mod position;
+mod stretch;
+mod upto;
+mod without;
+
+pub use ahead::Union;
+pub use dates_lazy::DatesLazy;
+pub use day_times::DayTimes;
+pub use first_n::FirstN;
+pub use lazy::Lazy;
+pub use many::Many;
+pub use upto::Upto;
+pub use without::Without;

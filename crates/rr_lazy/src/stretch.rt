@@ -1,0 +1,71 @@
+// The dates of one day in a rising list.
+ghost use Rattle.std.specs.Prelude.{◌≡◌, ◌↔◌, ◌≤ℤ◌, ℕ, Contains, IfOk, IsTrue, false, int_lt, nat_lt, pos};
+ghost use Rattle.rr_model.specs.Rising.{Rises};
+ghost use Rattle.rr_model.specs.Rising.Sets.{IsSetOf};
+ghost use Rattle.rr_lazy.specs.Stretch.{IsFirstDate, IsFirstFrom};
+ghost use Rattle.rr_model.specs.Sets.Tree.{is_among};
+
+use rr_model::{Kind, NoMemory, day_part, second_part};
+use rr_times::TimeSet;
+use std::alloc::Global;
+
+// The place of the first date that is not before a day.
+pub(crate) fn first_from(kind: Kind, dates: &[i64], day: i64) -> usize
+    requires { Rises int_lt dates.now }
+    ensures { IsFirstFrom kind dates.now day result }
+{
+    dates.partition_point(|date| day_part(kind, *date) < day)
+}
+
+// Of the days from one on up to another the first with a date.
+pub(crate) fn first_date(kind: Kind, dates: &[i64], from: i64, to: i64) -> Option<i64>
+    requires { Rises int_lt dates.now }
+    ensures { IsFirstDate kind dates.now from to result }
+{
+    let place = first_from(kind, dates, from);
+    if place >= dates.len() {
+        return None;
+    }
+    let day = day_part(kind, dates[place]);
+    if day > to {
+        return None;
+    }
+    Some(day)
+}
+
+// The seconds of the dates on a day.
+pub(crate) fn seconds_on(
+    alloc: Global,
+    kind: Kind,
+    dates: &[i64],
+    day: i64,
+) -> Result<TimeSet, NoMemory>
+    requires rises { Rises int_lt dates.now }
+    requires high { day ≤ℤ pos 2_999_999_999_000 }
+    ensures { IfOk result (λ t. IsSetOf nat_lt t (λ s. IsTrue (is_among kind dates.now day s))) }
+{
+    let first = first_from(kind, dates, day);
+    let last = first_from(kind, dates, day + 1);
+    let mut seconds = Vec::new(alloc);
+    let mut place = first;
+    while place < last {
+        seconds.push(second_part(kind, dates[place]))?;
+        place += 1;
+    }
+    TimeSet::of(alloc, &seconds)
+}
+
+// Takes the dates of a day out of its seconds; it takes no memory.
+pub(crate) fn take_out(times: &mut TimeSet, kind: Kind, dates: &[i64], day: i64)
+    requires rises { Rises int_lt dates.now }
+    requires high { day ≤ℤ pos 2_999_999_999_000 }
+    ensures { (s : ℕ) → Contains times.new s ↔ (Contains times.old s × (is_among kind dates.now day s ≡ false)) }
+{
+    let first = first_from(kind, dates, day);
+    let last = first_from(kind, dates, day + 1);
+    let mut place = first;
+    while place < last {
+        times.remove(second_part(kind, dates[place]));
+        place += 1;
+    }
+}

@@ -1,0 +1,98 @@
+// The occurrences up to a moment.
+ghost use Rattle.std.specs.Prelude.{◌≡◌, ◌≤ℤ◌, pos};
+ghost use Rattle.rr_model.specs.Calendar.{first_day_of_year};
+ghost use Rattle.rr_model.specs.Moment.{day_part};
+ghost use Rattle.rr_model.proofs.TreeLemmas.{IsOfOneKind-prop};
+ghost use Rattle.rr_model.specs.Sets.Tree.{IsOfOneKind, upto};
+ghost use Rattle.rr_lazy.specs.Next.{IsUnasked};
+ghost use Rattle.rr_lazy.specs.Upto.{IsSecondsTo};
+
+use crate::position::past;
+use crate::{DayTimes, Lazy};
+use rr_model::{Kind, NoMemory, day_part, second_part};
+use std::alloc::Global;
+
+/// The occurrences of a part that are not after a moment.
+#[derive(Drop)]
+pub struct Upto<A: Lazy + Drop> {
+    lazy: A,
+    kind: Kind,
+    at: i64,
+    last_day: i64,
+    position: i64,
+    ghost begun: { first_day_of_year (pos 1) ≤ℤ position },
+    ghost one_kind: { IsOfOneKind (upto (A.tree lazy) kind at) } by { IsOfOneKind-prop (upto (A.tree lazy) kind at) },
+    ghost of_day: { last_day ≡ day_part kind at },
+    ghost together: { position ≤ℤ last_day → A.position lazy ≡ position },
+}
+
+impl<A: Lazy + Drop> Upto<A> {
+    /// The occurrences, up to a moment of their kind, of a part that has not been asked.
+    pub fn new(lazy: A, kind: Kind, at: i64) -> Upto<A>
+        requires one_kind { IsOfOneKind (upto (A.tree lazy) kind at) }
+        requires unasked { IsUnasked (A.position lazy) }
+        ensures tree { ⟦<Upto<A> as Lazy>⟧.tree result ≡ upto (A.tree lazy) kind at }
+        ensures unasked { IsUnasked (⟦<Upto<A> as Lazy>⟧.position result) }
+    {
+        let last_day = day_part(kind, at);
+        Upto {
+            lazy,
+            kind,
+            at,
+            last_day,
+            position: -719_162,
+        }
+    }
+}
+
+impl<A: Lazy + Drop> Lazy for Upto<A> {
+    ghost use Rattle.rr_model.specs.Sets.Tree.{upto};
+    ghost use Rattle.rr_lazy.specs.Upto.{sound_upto};
+
+    ghost tree = { λ s. upto (A.tree s.lazy) s.kind s.at };
+
+    ghost position = { λ s. s.position };
+
+    ghost sound = { λ s. sound_upto (A.tree s.lazy) s.kind s.at s.position s.one_kind s.begun };
+
+    fn next(&mut self, alloc: Global, to: i64) -> Result<Option<DayTimes>, NoMemory> {
+        if self.position > self.last_day {
+            self.position = past(self.position, to);
+            return Ok(None);
+        }
+        match self.lazy.next(alloc, to.min(self.last_day))? {
+            None => {
+                self.position = past(self.position, to);
+                Ok(None)
+            }
+            Some(mut found) => {
+                found
+                    .times
+                    .keep_below(seconds_to(self.kind, self.at, found.day));
+                if found.times.as_slice().is_empty() {
+                    self.position = past(self.position, to);
+                    return Ok(None);
+                }
+                self.position = found.day + 1;
+                Ok(Some(found))
+            }
+        }
+    }
+}
+
+// The seconds of a day that are not after a moment lie below this one.
+fn seconds_to(kind: Kind, at: i64, day: i64) -> u32
+    ensures { IsSecondsTo kind at day result }
+{
+    let last = day_part(kind, at);
+    if day < last {
+        86_400
+    } else if day > last {
+        0
+    } else {
+        match kind {
+            Kind::Days => 86_400,
+            Kind::Moments => second_part(kind, at) + 1,
+        }
+    }
+}
