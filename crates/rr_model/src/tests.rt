@@ -124,53 +124,20 @@ fn moments_are_days_and_seconds(rt: HostRuntime) -> Result<(), Fail> {
     Ok(())
 }
 
-const REFUSALS: [(Refusal, &str, &str); 30] = [
-    (Refusal::TooLong, "TooLong", "TooLong"),
-    (Refusal::NotText, "NotText", "NotText"),
-    (Refusal::BadLine(3), "BadLine", "BadLine 3"),
-    (Refusal::SeveralEvents, "SeveralEvents", "SeveralEvents"),
-    (Refusal::NoStart, "NoStart", "NoStart"),
-    (
-        Refusal::BadMoment(18_446_744_073_709_551_615),
-        "BadMoment",
-        "BadMoment 18446744073709551615",
-    ),
-    (Refusal::MixedKinds(7), "MixedKinds", "MixedKinds 7"),
-    (Refusal::BadRule(1), "BadRule", "BadRule 1"),
-    (Refusal::PartTwice(2), "PartTwice", "PartTwice 2"),
-    (Refusal::NumberRange(10), "NumberRange", "NumberRange 10"),
-    (Refusal::UntilAndCount, "UntilAndCount", "UntilAndCount"),
-    (Refusal::NotAllowed, "NotAllowed", "NotAllowed"),
-    (Refusal::LeapSecond, "LeapSecond", "LeapSecond"),
-    (Refusal::UtcMoment, "UtcMoment", "UtcMoment"),
-    (Refusal::UntilKind, "UntilKind", "UntilKind"),
-    (
-        Refusal::UntilBeforeStart,
-        "UntilBeforeStart",
-        "UntilBeforeStart",
-    ),
+// A refusal of each form, with its name and what is printed.
+const REFUSALS: [(Refusal, &str, &str); 4] = [
+    (Refusal::NotSayable, "NotSayable", "NotSayable"),
+    (Refusal::BadRule(2), "BadRule", "BadRule 2"),
     (
         Refusal::NotSynchronised(16),
         "NotSynchronised",
         "NotSynchronised 16",
     ),
-    (Refusal::PeriodValue, "PeriodValue", "PeriodValue"),
-    (Refusal::Extended, "Extended", "Extended"),
-    (Refusal::BadJson, "BadJson", "BadJson"),
-    (Refusal::StartDiffers, "StartDiffers", "StartDiffers"),
-    (Refusal::NoOccurrence, "NoOccurrence", "NoOccurrence"),
     (
-        Refusal::IntervalTooLarge,
-        "IntervalTooLarge",
-        "IntervalTooLarge",
+        Refusal::BadMember(Member::PatternType),
+        "BadMember",
+        "BadMember pattern.type",
     ),
-    (Refusal::CycleTooLong, "CycleTooLong", "CycleTooLong"),
-    (Refusal::CountedTooFar, "CountedTooFar", "CountedTooFar"),
-    (Refusal::TooManyMoments, "TooManyMoments", "TooManyMoments"),
-    (Refusal::NotSayable, "NotSayable", "NotSayable"),
-    (Refusal::TooManyParts, "TooManyParts", "TooManyParts"),
-    (Refusal::NotRising(10_001), "NotRising", "NotRising 10001"),
-    (Refusal::NotBuilt, "NotBuilt", "NotBuilt"),
 ];
 
 #[test]
@@ -178,38 +145,6 @@ fn refusals_are_printed_with_their_line_or_rule(rt: HostRuntime) -> Result<(), F
     let alloc = rt.alloc();
     for (refusal, name, text) in REFUSALS {
         assert_eq!(rt; refusal.name(), name);
-        assert_eq!(rt; format!(in alloc; "{refusal}")?.as_str(), text);
-    }
-    Ok(())
-}
-
-const MEMBERS: [(Member, &str); 18] = [
-    (Member::Start, "BadMember start"),
-    (Member::DateTime, "BadMember dateTime"),
-    (Member::TimeZone, "BadMember timeZone"),
-    (Member::IsAllDay, "BadMember isAllDay"),
-    (Member::Recurrence, "BadMember recurrence"),
-    (Member::Pattern, "BadMember pattern"),
-    (Member::Range, "BadMember range"),
-    (Member::PatternType, "BadMember pattern.type"),
-    (Member::Interval, "BadMember interval"),
-    (Member::DaysOfWeek, "BadMember daysOfWeek"),
-    (Member::FirstDayOfWeek, "BadMember firstDayOfWeek"),
-    (Member::Index, "BadMember index"),
-    (Member::DayOfMonth, "BadMember dayOfMonth"),
-    (Member::Month, "BadMember month"),
-    (Member::RangeType, "BadMember range.type"),
-    (Member::StartDate, "BadMember startDate"),
-    (Member::EndDate, "BadMember endDate"),
-    (Member::NumberOfOccurrences, "BadMember numberOfOccurrences"),
-];
-
-#[test]
-fn a_bad_member_is_printed_with_its_name(rt: HostRuntime) -> Result<(), Fail> {
-    let alloc = rt.alloc();
-    for (member, text) in MEMBERS {
-        let refusal = Refusal::BadMember(member);
-        assert_eq!(rt; refusal.name(), "BadMember");
         assert_eq!(rt; format!(in alloc; "{refusal}")?.as_str(), text);
     }
     Ok(())
