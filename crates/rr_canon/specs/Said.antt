@@ -10,6 +10,7 @@ abbrev pub steps_by_number : ℤ → List NumberedDay → List Step
 steps_by_number from [] = []
 steps_by_number from (x ∷ xs) = record { gap = nat_abs (x.day -ℤ from); set = x.number } ∷ steps_by_number x.day xs
 
+-- where days repeat: the settled day, the period and the runs of the first period
 abbrev pub ending_said : ℤ → ℕ → List NumberedDay → Option Ending
 ending_said settled period [] = None
 ending_said settled period (x ∷ xs) = Some (record { settled = settled; period = period; cycle = runs_of (steps_by_number settled (x ∷ xs)) })
@@ -19,6 +20,7 @@ abbrev pub first_in : List NumberedDay → Option ℤ
 first_in [] = None
 first_in (x ∷ xs) = Some x.day
 
+-- what a descriptor says of the days kept, none where no day is occupied
 abbrev pub said_of : Kind → List (List ℕ) → List NumberedDay → ℤ → ℕ → List NumberedDay → Option ℤ → Option Described
 said_of kind sets before settled period cycle None = None
 said_of kind sets before settled period cycle (Some first) =

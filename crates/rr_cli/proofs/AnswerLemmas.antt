@@ -14,7 +14,7 @@ use Rattle.rr_model.specs.declared.refusal.Refusal.{Refusal}
 use Rattle.rr_model.specs.declared.verdict.Side.{Side}
 use Rattle.rr_model.proofs.VerdictLemmas.{equal_verdict_is_one}
 
--- what stands behind the digits of the start
+-- what stands after the digits of the start
 abbrev behind : List ℕ → List ℕ
 behind interval = codes "\nRRULE:FREQ=DAILY" ++ (interval_part interval ++ 10 ∷ [])
 

@@ -7,7 +7,7 @@ use Rattle.std.proofs.lemmas.List.{append_cancel_left}
 use Rattle.rr_model.specs.Text.Digits.{is_digit}
 use Rattle.rr_cli.specs.DailyText.{IsDailyText, IsIntervalText, interval_part}
 
--- what stands behind the digits of the start
+-- what stands after the digits of the start
 abbrev pub after_start : List ℕ → List ℕ
 after_start i = codes "\nRRULE:FREQ=DAILY" ++ (interval_part i ++ 10 ∷ [])
 

@@ -32,12 +32,15 @@ pub record Answer : Type 0 where
   pub status : Status
   pub bytes : List ℕ
 
+-- a text with the line feed that ends it
 abbrev pub line : List ℕ → List ℕ
 line text = text ++ 10 ∷ []
 
+-- the answer to words that are no command
 abbrev pub usage : Answer
 usage = record { status = status.Usage; bytes = line usage_text }
 
+-- a side as it is printed
 abbrev pub side_text : Side → List ℕ
 side_text A = codes "A"
 side_text B = codes "B"

@@ -6,6 +6,7 @@ use Rattle.rr_model.specs.declared.kind.Kind.TheVariants.{Days, Moments}
 use Rattle.rr_model.specs.declared.verdict.Side.{Side}
 use Rattle.rr_model.specs.declared.verdict.Side.TheVariants.{A, B}
 
+-- an endless daily series of dates
 pub record DailySeries : Type 0 where
   pub start : ℤ
   pub interval : ℕ

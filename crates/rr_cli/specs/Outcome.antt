@@ -12,5 +12,6 @@ status_of conclusion.Yes = Yes
 status_of conclusion.No = No
 status_of conclusion.Refused = Refused
 
+-- the answer that an outcome of the program is
 abbrev pub answer_of : Outcome → Answer
 answer_of outcome = record { status = status_of outcome.conclusion; bytes = outcome.text.items }

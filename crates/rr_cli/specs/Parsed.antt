@@ -9,8 +9,10 @@ use Rattle.rr_cli.specs.declared.command.Operand.{Operand as ParsedOperand}
 abbrev pub words_of : List (Bor (List ℕ)) → List (List ℕ)
 words_of words = map (λ (w : Bor (List ℕ)). w.now) words
 
+-- the operand that a value of the program is
 abbrev pub operand_in : ParsedOperand → Operand
 operand_in operand = record { language = operand.language; offset = operand.offset; name = operand.name.now }
 
+-- the command that a value of the program is
 abbrev pub command_in : Parsed → Command
 command_in command = record { task = command.task; a = option_map operand_in command.a; b = option_map operand_in command.b }

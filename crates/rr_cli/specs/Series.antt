@@ -4,6 +4,7 @@ use Rattle.rr_cli.specs.Daily.{DailySeries}
 use Rattle.rr_model.specs.declared.refusal.Refusal.{Refusal}
 use Rattle.rr_cli.specs.declared.daily.Daily.{Daily}
 
+-- the series that a value of the program is
 abbrev pub series_of : Daily → DailySeries
 series_of daily = record { start = daily.start; interval = daily.interval }
 

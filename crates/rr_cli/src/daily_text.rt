@@ -9,7 +9,7 @@ use crate::daily::Daily;
 use rr_model::Refusal;
 use rr_text::{basic, number};
 
-// What stands behind a prefix.
+// What stands after a prefix.
 fn behind<'a>(bytes: &'a [u8], prefix: &[u8]) -> Option<&'a [u8]>
     ensures { MatchOption result ((rest : List ℕ) → bytes.now ≢ prefix.now ++ rest) (λ r. bytes.now ≡ prefix.now ++ r.now) }
 {
@@ -40,7 +40,7 @@ fn interval_digits(bytes: &[u8]) -> Option<&[u8]>
     }
 }
 
-// The digits of the interval in what stands behind FREQ=DAILY, none where it states none.
+// The digits of the interval in what stands after FREQ=DAILY, none where it states none.
 fn rule_end(rest: &[u8]) -> Option<&[u8]>
     ensures { MatchOption result ((i : List ℕ) → IsIntervalText i → rest.now ≢ interval_part i ++ 10 ∷ []) (λ r. (rest.now ≡ interval_part r.now ++ 10 ∷ []) × IsIntervalText r.now) }
 {

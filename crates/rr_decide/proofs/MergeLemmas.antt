@@ -1,4 +1,4 @@
--- The next second of two rising lists, and what the seconds behind it tell of the whole lists.
+-- The next second of two rising lists, and what the seconds after it tell of the whole lists.
 use Rattle.std.proofs.Common.{◌≡◌, ◌↔◌, ◌⊎◌, inl, inr, ℕ, ◌<◌, Bool, true, false, List, [], ◌∷◌, length, get_or, take, drop, ◌-◌, refl, sym, subst, arith}
 use Rattle.std.specs.Prelude.{IsTrue, nat_lt}
 use Rattle.std.specs.List.{Contains}
@@ -90,7 +90,7 @@ next_on_both x xs ys r q = record {
   fewer = omega arith;
 }
 
--- ---- from what stands behind it to the whole lists
+-- ---- from what stands after it to the whole lists
 
 module _ (shows : Side → Bool) (xs ys : List ℕ) (second : ℕ) (side : Side) (xs' ys' : List ℕ) (next : IsNextSecond xs ys second side xs' ys') where
   not_below : (w : ℕ) → w < second → IsShown shows (Contains xs w) (Contains ys w) → ⊥
@@ -99,7 +99,7 @@ module _ (shows : Side → Bool) (xs ys : List ℕ) (second : ℕ) (side : Side)
   pub shown_here : IsTrue (shows side) → IsFirstShown shows xs ys second side
   shown_here t = record { shown = t; holds = next.holds; none_below = not_below }
 
-  -- behind the second the lists are as they were
+  -- after the second the lists are as they were
   above : (w : ℕ) → second < w → (Contains xs w ↔ Contains xs' w) × (Contains ys w ↔ Contains ys' w)
   above w l = (
     ((λ c. (next.behind_first w).1 (c, l)), (λ c. ((next.behind_first w).0 c).0)),
@@ -141,7 +141,7 @@ empty_shows_none shows xs ys e f w (r, t, h) =
       | inr c ↦ Contains-none w (subst (λ (l : List ℕ). Contains l w) f c)
     ]
 
--- ---- as the code has the lists behind a second
+-- ---- as the code has the lists after a second
 
 behind_is : (x : ℕ) (xs : List ℕ) → take (length (x ∷ xs) - 1) (drop 1 (x ∷ xs)) ≡ xs
 behind_is x xs = take_all (length (x ∷ xs) - 1) xs (omega arith)

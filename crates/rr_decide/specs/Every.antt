@@ -17,6 +17,7 @@ abbrev pub start_or_none : Bool → ℤ → List DayShape
 start_or_none true start = record { day = start; times = 0 ∷ [] } ∷ []
 start_or_none false start = []
 
+-- each so many days from a start, or nothing
 abbrev pub every : Kind → ℤ → ℕ → Bool → Sketch
 every kind start step some = record { kind = kind; before = []; settled = start; period = step; cycle = start_or_none some start }
 

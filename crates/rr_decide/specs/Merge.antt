@@ -11,7 +11,7 @@ is_ahead [] ys = false
 is_ahead (x ∷ xs) [] = true
 is_ahead (x ∷ xs) (y ∷ ys) = nat_lt x y
 
--- The least second of two lists, the side that has it, and the seconds behind it.
+-- The least second of two lists, the side that has it, and the seconds after it.
 pub record IsNextSecond (xs ys : List ℕ) (second : ℕ) (side : Side) (xs_behind ys_behind : List ℕ) : Type 0 where
   pub holds : HoldsOn side (Contains xs second) (Contains ys second)
   pub least_of_first : (w : ℕ) → w < second → Contains xs w → ⊥

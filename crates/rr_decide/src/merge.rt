@@ -7,7 +7,7 @@ ghost use Rattle.rr_decide.specs.Question.{IsFirstShown, ShowsNone, shown_by};
 use crate::question::Question;
 use rr_model::Side;
 
-// The least second of two lists, the side that has it, and the seconds behind it.
+// The least second of two lists, the side that has it, and the seconds after it.
 #[derive(Drop)]
 struct NextSecond<'a> {
     second: u32,

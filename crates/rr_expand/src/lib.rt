@@ -11,6 +11,6 @@ mod time_parts;
 mod unit_days;
 
 pub use day_times::times;
-pub use finer_units::{first_fit, first_unit, unit_of, units_of_day};
 pub use finer::seconds_on;
+pub use finer_units::{first_fit, first_unit, unit_of, units_of_day};
 pub use unit_days::days;

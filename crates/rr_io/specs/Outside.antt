@@ -27,7 +27,7 @@ next_number n = min (n + 1) last_count
 abbrev pub RoseOrIsLast : ℕ → ℕ → Type 0
 RoseOrIsLast old new = (old < new) ⊎ (new ≡ last_count)
 
--- the sink has these bytes behind what it had, where it tells
+-- the sink has these bytes after what it had, where it tells
 abbrev pub Appended : Option (List ℕ) → List ℕ → Option (List ℕ) → Type 0
 Appended old bytes new = new ≡ option_map (λ w. w ++ bytes) old
 

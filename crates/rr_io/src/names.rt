@@ -57,7 +57,7 @@ impl Names {
     }
 }
 
-/// A copy of the bytes, cut behind `MAX_INPUT + 1`.
+/// A copy of the bytes, cut after `MAX_INPUT + 1`.
 pub fn front(alloc: Global, bytes: &[u8]) -> Result<Vec<u8>, AllocError>
     ensures { IfOk result (λ v. v.items ≡ take (MAX_INPUT + 1) bytes.now) }
 {

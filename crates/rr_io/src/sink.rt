@@ -23,7 +23,7 @@ impl From<AllocError> for PutError {
     }
 }
 
-/// Takes bytes, one behind the other.
+/// Takes bytes, one after the other.
 pub trait Sink {
     ghost use Rattle.rr_io.specs.Outside.{IsPut};
 

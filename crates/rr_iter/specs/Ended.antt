@@ -9,6 +9,7 @@ use Rattle.rr_iter.specs.declared.upto_rule.UptoRule.{UptoRule}
 use Rattle.rr_iter.specs.declared.ended_lazy.EndedLazy.{EndedLazy}
 use Rattle.rr_iter.specs.declared.ended_lazy.EndedLazy.TheVariants.{Never, Until, Count, Both}
 
+-- what stands in the tree of a rule up to a moment
 abbrev pub tree_of_upto : UptoRule → Tree
 tree_of_upto s = upto (tree_of_rule s.lazy.lazy) s.lazy.kind s.lazy.at
 
@@ -22,6 +23,7 @@ tree_of_ended (Until a) = tree_of_upto a
 tree_of_ended (Count a) = first_n (tree_of_rule a.lazy) a.count
 tree_of_ended (Both a) = first_n (tree_of_upto a.lazy) a.count
 
+-- how far an iterator over a rule with its end has come
 abbrev pub position_of_ended : EndedLazy → ℤ
 position_of_ended (Never a) = position_of_rule a
 position_of_ended (Until a) = a.lazy.position

@@ -18,6 +18,7 @@ tree_of_rule (Week a) = chosen_of a.rule.rule a.rule.kind a.rule.start
 tree_of_rule (Month a) = chosen_of a.rule.rule a.rule.kind a.rule.start
 tree_of_rule (Year a) = chosen_of a.rule.rule a.rule.kind a.rule.start
 
+-- how far an iterator over a rule has come
 abbrev pub position_of_rule : RuleLazy → ℤ
 position_of_rule (Second a) = a.position
 position_of_rule (Minute a) = a.position

@@ -51,7 +51,7 @@ first_below x w (y ∷ ys) r c =
 pub first_least : (x w : ℕ) (xs : List ℕ) → Rises nat_lt (x ∷ xs) → Contains (x ∷ xs) w → x ≤ w
 first_least x w xs r c = elim (Contains-cases x w xs c) [ inl e ↦ omega arith | inr more ↦ (let l = first_below x w xs r more in omega arith) ]
 
--- behind the first of a rising list stand the greater ones
+-- after the first of a rising list stand the greater ones
 pub behind_first : (x : ℕ) (xs : List ℕ) → Rises nat_lt (x ∷ xs) → (w : ℕ) → Contains xs w ↔ (Contains (x ∷ xs) w × (x < w))
 behind_first x xs r w = (
   (λ c. (Contains-more x w xs c, first_below x w xs r c)),

@@ -8,6 +8,7 @@ use Rattle.rr_model.specs.Whole.{floor_div, floor_mod, divides}
 abbrev pub is_leap : ℤ → Bool
 is_leap y = (divides 4 y && not (divides 100 y)) || divides 400 y
 
+-- the length of the year
 abbrev pub days_in_year : ℤ → ℕ
 days_in_year y = if is_leap y then 366 else 365
 

@@ -8,6 +8,6 @@ pub struct Stamp {
     pub kind: Kind,
     /// Its day number, or 86,400 times the day number plus the second of the day.
     pub at: i64,
-    /// Whether a `Z` stands behind the moment, which marks it as UTC.
+    /// Whether a `Z` stands after the moment, which marks it as UTC.
     pub utc: bool,
 }

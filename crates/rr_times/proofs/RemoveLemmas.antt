@@ -31,11 +31,11 @@ module _ (xs : List ℕ) (r : Rises nat_lt xs) (i : ℕ) (h : i < length xs) whe
           let at : get_or (remove xs i) c.0 0 ≡ s = get_or_default (remove xs i) c.0 0 s c.1 ∙ c.2 in
           elim (cases_lt c.0 i) [
             | inl m ↦ (let b : get_or xs c.0 0 ≡ s = sym (get_or-remove_below xs i 0 c.0 m h) ∙ at in
-              let l : c.0 < length xs = omega (arith, h, m) in
-              ((c.0, l, get_or_default xs c.0 s 0 l ∙ b), λ f. omega (arith, rising_at xs r c.0 i m h, b, e, f)))
+                let l : c.0 < length xs = omega (arith, h, m) in
+                ((c.0, l, get_or_default xs c.0 s 0 l ∙ b), λ f. omega (arith, rising_at xs r c.0 i m h, b, e, f)))
             | inr m ↦ (let b : get_or xs (c.0 + 1) 0 ≡ s = sym (get_or-remove_above xs i 0 c.0 m h) ∙ at in
-              let l : c.0 + 1 < length xs = omega (arith, shorter, c.1) in
-              ((c.0 + 1, l, get_or_default xs (c.0 + 1) s 0 l ∙ b), λ f. omega (arith, rising_at xs r i (c.0 + 1) (omega arith) l, b, e, f)))
+                let l : c.0 + 1 < length xs = omega (arith, shorter, c.1) in
+                ((c.0 + 1, l, get_or_default xs (c.0 + 1) s 0 l ∙ b), λ f. omega (arith, rising_at xs r i (c.0 + 1) (omega arith) l, b, e, f)))
           ]
 
       from : (s : ℕ) → Contains xs s × (s ≢ x) → Contains (remove xs i) s
@@ -44,7 +44,7 @@ module _ (xs : List ℕ) (r : Rises nat_lt xs) (i : ℕ) (h : i < length xs) whe
           let at : get_or xs c.0 0 ≡ s = get_or_default xs c.0 0 s c.1 ∙ c.2 in
           elim (cases_lt c.0 i) [
             | inl m ↦ (let l : c.0 < length (remove xs i) = omega (arith, shorter, m, h) in
-              (c.0, l, get_or_default (remove xs i) c.0 s 0 l ∙ get_or-remove_below xs i 0 c.0 m h ∙ at))
+                (c.0, l, get_or_default (remove xs i) c.0 s 0 l ∙ get_or-remove_below xs i 0 c.0 m h ∙ at))
             | inr m ↦ elim (cases_lt i c.0) [
               | inr n ↦ absurd (let same : c.0 ≡ i = omega arith in p.1 (sym at ∙ ap (λ k. get_or xs k 0) same ∙ e))
               | inl n ↦ above s c.0 n c.1 at

@@ -29,14 +29,15 @@ first_below xs n bound r split = record {
   rises = Rises-take n xs r;
   exact = λ s. (
     (λ c. (let l = length-take_le n xs in
-      let k : c.0 < n = omega (arith, c.1, l.0) in
-      let m : c.0 < length xs = omega (arith, c.1, l.1) in
-      let e : get_or xs c.0 s ≡ s = sym (get_or-take n xs c.0 s k) ∙ c.2 in
-      let z : get_or xs c.0 0 ≡ s = get_or_default xs c.0 0 s m ∙ e in
-      ((c.0, m, e), omega (arith, split.below c.0 k, z)))),
+        let k : c.0 < n = omega (arith, c.1, l.0) in
+        let m : c.0 < length xs = omega (arith, c.1, l.1) in
+        let e : get_or xs c.0 s ≡ s = sym (get_or-take n xs c.0 s k) ∙ c.2 in
+        let z : get_or xs c.0 0 ≡ s = get_or_default xs c.0 0 s m ∙ e in
+        ((c.0, m, e), omega (arith, split.below c.0 k, z)))),
     (λ h. (let c = h.0 in
-      let z : get_or xs c.0 0 ≡ s = get_or_default xs c.0 0 s c.1 ∙ c.2 in
-      let k : c.0 < n = elim (cases_lt c.0 n) [ inl l ↦ l | inr g ↦ absurd (omega (arith, split.from c.0 g c.1, z, h.1)) ] in
-      let whole : length (take n xs) ≡ n = length-take-le n xs split.within in
-      (c.0, omega (arith, k, whole), get_or-take n xs c.0 s k ∙ c.2))));
+        let z : get_or xs c.0 0 ≡ s = get_or_default xs c.0 0 s c.1 ∙ c.2 in
+        let k : c.0 < n = elim (cases_lt c.0 n) [ inl l ↦ l | inr g ↦ absurd (omega (arith, split.from c.0 g c.1, z, h.1)) ] in
+        let whole : length (take n xs) ≡ n = length-take-le n xs split.within in
+        (c.0, omega (arith, k, whole), get_or-take n xs c.0 s k ∙ c.2))),
+  );
 }

@@ -9,6 +9,7 @@ use Rattle.rr_model.specs.declared.kind.Kind.TheVariants.{Days, Moments}
 use Rattle.rr_model.specs.declared.sketch.DayShape.{DayShape}
 use Rattle.rr_model.specs.declared.sketch.Sketch.{Sketch}
 
+-- what the sketch of a day sequence meets
 pub record IsBounded (s : Sketch) : Type 0 where
   pub some : 1 ≤ s.period
   pub few : s.period ≤ 1_000_000_000

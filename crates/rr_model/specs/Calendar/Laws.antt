@@ -40,9 +40,11 @@ LastWeekIsGreatest = (y : ℤ) (w : ℕ) → IsLastWeek y w (last_week y w)
 abbrev pub later_day : ℤ → ℤ → ℤ
 later_day cycles d = d +ℤ (pos 146_097 *ℤ cycles)
 
+-- the year that many cycles later
 abbrev pub later_year : ℤ → ℤ → ℤ
 later_year cycles y = y +ℤ (pos 400 *ℤ cycles)
 
+-- the week that many cycles later
 abbrev pub later_week : ℤ → ℤ → ℤ
 later_week cycles i = i +ℤ (pos 20_871 *ℤ cycles)
 

@@ -22,6 +22,7 @@ use Rattle.rr_model.specs.declared.graph.RangeEnd.TheVariants.{NoEnd, EndDate, N
 use Rattle.rr_model.specs.declared.graph.Repeat.{Repeat}
 use Rattle.rr_model.specs.declared.graph.Repeat.TheVariants as repeat
 
+-- the frequency of the counterpart
 abbrev pub form_freq : Form → Freq
 form_freq Daily = freq.Daily
 form_freq Weekly = freq.Weekly
@@ -34,6 +35,7 @@ form_freq RelativeYearly = freq.Yearly
 abbrev pub has_weekday : ℕ → ℕ → Bool
 has_weekday days weekday = (days / bit_of weekday) % 2 == 1
 
+-- the weekdays of a sum of days, as values of BYDAY
 abbrev pub days_of_sum : ℕ → List DayItem
 days_of_sum days = map (λ weekday. day_item (pos 0) weekday) (filter (has_weekday days) (0 ∷ 1 ∷ 2 ∷ 3 ∷ 4 ∷ 5 ∷ 6 ∷ []))
 
@@ -54,6 +56,7 @@ set_positions_of pattern =
     if uses_index pattern.form then pattern.index ∷ []
     else (if uses_day_of_month pattern.form then (if nat_le pattern.day_of_month 28 then [] else neg_ℤ (pos 1) ∷ []) else [])
 
+-- the end of the counterpart, on the last day at the start's second
 abbrev pub end_of_range : Kind → ℕ → RangeEnd → End
 end_of_range kind second NoEnd = Never
 end_of_range kind second (EndDate day) = Until kind (moment_at kind day second)
@@ -64,6 +67,7 @@ abbrev pub week_start_of : Form → ℕ → ℕ
 week_start_of Weekly first_day = first_day
 week_start_of form first_day = 0
 
+-- the rule that chooses the pattern's days
 unfoldable pub rule_of_pattern : Pattern → End → Rule
 rule_of_pattern pattern end = record {
   freq = form_freq pattern.form;
@@ -85,11 +89,13 @@ rule_of_pattern pattern end = record {
 abbrev pub series_from : Kind → ℤ → List Rule → Series
 series_from kind start rules = record { kind = kind; start = start; start_counts = true; rules = rules; plus = []; minus = [] }
 
+-- the series of an event that repeats, or of its start alone
 abbrev pub series_of_repeat : Repeat → Kind → ℤ → Series
 series_of_repeat repeat.Once kind start = series_from kind start []
 series_of_repeat (repeat.Pattern pattern range) kind start =
     series_from kind (moment_at kind (unwrap_or (first_repeat_day pattern range) range.start_day) (second_part kind start))
     (rule_of_pattern pattern (end_of_range kind (second_part kind start) range.end) ∷ [])
 
+-- the counterpart of an event
 unfoldable pub series_of_graph : GraphEvent → Series
 series_of_graph event = series_of_repeat event.repeat event.kind event.start

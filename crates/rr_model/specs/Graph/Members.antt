@@ -54,10 +54,12 @@ within member least most (Some n) = if nat_le least n && nat_le n most then Ok n
 
 -- ---- words, in either case
 
+-- what a name means by a table, in any letter case
 abbrev pub named : {X : Type 0} → List (List ℕ × X) → List ℕ → Option X
 named [] text = None
 named (row ∷ rows) text = if str_eq_ignore_ascii_case text row.0 then Some row.1 else named rows text
 
+-- the type of a pattern by its name
 unfoldable pub form_named : List ℕ → Option Form
 form_named text = named
     ((codes "daily", Daily) ∷ (codes "weekly", Weekly) ∷ (codes "absoluteMonthly", AbsoluteMonthly) ∷ (codes "relativeMonthly", RelativeMonthly)

@@ -41,6 +41,7 @@ is_day_number number d = day_of_month d == min number (days_in_month (year_of d)
 abbrev pub rank_in_month : ℕ → ℤ → ℕ
 rank_in_month days d = count_from (is_day_in days) ((d -ℤ pos (day_of_month d)) +ℤ pos 1) (day_of_month d)
 
+-- the rank from the back of a day among the allowed weekdays of its month
 abbrev pub rank_from_month_end : ℕ → ℤ → ℕ
 rank_from_month_end days d = count_from (is_day_in days) d ((days_in_month (year_of d) (month_of d) + 1) - day_of_month d)
 
@@ -90,6 +91,7 @@ abbrev pub OccursAt : Repeat → Kind → ℤ → ℤ → Type 0
 OccursAt repeat.Once kind start t = t ≡ start
 OccursAt (repeat.Pattern pattern range) kind start t = (second_part kind t ≡ second_part kind start) × IsRepeatDay pattern range (day_part kind t)
 
+-- t is an occurrence of the event
 pub record IsGraphOccurrence (event : GraphEvent) (kind : Kind) (t : ℤ) : Type 0 where
   pub same_kind : kind ≡ event.kind
   pub occurs : OccursAt event.repeat event.kind event.start t

@@ -37,13 +37,16 @@ abbrev pub if_used : {X : Type 0} → Bool → X → Result X Refusal → Result
 if_used true value read = read
 if_used false value read = Ok value
 
+-- the type of a pattern
 unfoldable pub form_in : Data → Result Form Refusal
 form_in pattern = ok_or (option_and_then form_named (text_in (codes "type") pattern)) (BadMember of.PatternType)
 
+-- an interval from 1 on, within what the type takes
 abbrev pub interval_within : Form → Option ℕ → Result ℕ Refusal
 interval_within form None = Err (BadMember of.Interval)
 interval_within form (Some n) = if nat_le n 0 then Err (BadMember of.Interval) else (if nat_le n (most_interval form) then Ok n else Err IntervalTooLarge)
 
+-- the interval of a pattern
 unfoldable pub interval_in : Form → Data → Result ℕ Refusal
 interval_in form pattern = interval_within form (number_in (codes "interval") pattern)
 
@@ -57,6 +60,7 @@ abbrev pub days_of_names : Items → Option ℕ
 days_of_names no_items = None
 days_of_names (item name names) = days_after 0 (item name names)
 
+-- the sum of the days of daysOfWeek
 unfoldable pub days_in : Data → Result ℕ Refusal
 days_in pattern = ok_or (option_and_then days_of_names (option_and_then as_array (member_of (codes "daysOfWeek") pattern))) (BadMember of.DaysOfWeek)
 
@@ -65,12 +69,15 @@ abbrev pub named_or : {X : Type 0} → Member → (List ℕ → Option X) → X 
 named_or member names missing None = Ok missing
 named_or member names missing (Some value) = ok_or (option_and_then names (as_str value)) (BadMember member)
 
+-- firstDayOfWeek, Sunday where it is missing
 unfoldable pub first_day_in : Data → Result ℕ Refusal
 first_day_in pattern = named_or of.FirstDayOfWeek day_named 6 (member_of (codes "firstDayOfWeek") pattern)
 
+-- index, the first where it is missing
 unfoldable pub index_in : Data → Result ℤ Refusal
 index_in pattern = named_or of.Index index_named (pos 1) (member_of (codes "index") pattern)
 
+-- what a pattern states, its members in the order of judgement
 unfoldable pub pattern_of : Data → Result Pattern Refusal
 pattern_of pattern = do
   form ← form_in pattern
@@ -84,11 +91,13 @@ pattern_of pattern = do
 
 -- ---- the range
 
+-- how a range ends
 pub data EndType : Type 0 where
   no_end : EndType
   end_date : EndType
   numbered : EndType
 
+-- how a range ends by its name
 unfoldable pub end_type_named : List ℕ → Option EndType
 end_type_named text =
     if str_eq_ignore_ascii_case text (codes "noEnd") then Some no_end
@@ -99,11 +108,13 @@ end_type_named text =
 abbrev pub date_in : Member → List ℕ → Data → Result ℤ Refusal
 date_in member name range = ok_or (option_and_then extended_date_alone (text_in name range)) (BadMember member)
 
+-- the end of a range by its type
 abbrev pub end_in : EndType → Data → Result RangeEnd Refusal
 end_in no_end range = Ok NoEnd
 end_in end_date range = date_in of.EndDate (codes "endDate") range >>= λ day. Ok (EndDate day)
 end_in numbered range = within of.NumberOfOccurrences 1 18_446_744_073_709_551_615 (number_in (codes "numberOfOccurrences") range) >>= λ n. Ok (Numbered n)
 
+-- what a range states
 unfoldable pub range_of : Data → Result Range Refusal
 range_of range = do
   type ← ok_or (option_and_then end_type_named (text_in (codes "type") range)) (BadMember of.RangeType)
@@ -113,10 +124,12 @@ range_of range = do
 
 -- ---- a pattern and a range
 
+-- a pattern within a range
 pub record Recurrence : Type 0 where
   pub pattern : Pattern
   pub range : Range
 
+-- what a recurrence states
 unfoldable pub recurrence_of : Data → Result Recurrence Refusal
 recurrence_of value = do
   pattern_object ← object_in of.Pattern (codes "pattern") value
@@ -130,6 +143,7 @@ abbrev pub with_occurrence : Recurrence → Option ℤ → Result Repeat Refusal
 with_occurrence recurrence None = Err NoOccurrence
 with_occurrence recurrence (Some day) = Ok (repeat.Pattern recurrence.pattern recurrence.range)
 
+-- a recurrence with an occurrence in the years 1 to 9999
 abbrev pub repeating : Recurrence → Result Repeat Refusal
 repeating recurrence = with_occurrence recurrence (first_repeat_day recurrence.pattern recurrence.range)
 
@@ -141,6 +155,7 @@ is_true None = false
 is_true (Some (boolean b)) = b
 is_true (Some other) = false
 
+-- the event is all day
 abbrev pub is_all_day : Data → Bool
 is_all_day event = is_true (member_of (codes "isAllDay") event)
 
@@ -170,11 +185,13 @@ is_text_or_missing None = true
 is_text_or_missing (Some (string s)) = true
 is_text_or_missing (Some other) = false
 
+-- the member is true, false or missing
 abbrev pub is_flag_or_missing : Option Data → Bool
 is_flag_or_missing None = true
 is_flag_or_missing (Some (boolean b)) = true
 is_flag_or_missing (Some other) = false
 
+-- a condition that has to hold, or the refusal
 abbrev pub must : Bool → Refusal → Result (Unit {0}) Refusal
 must true refusal = Ok tt
 must false refusal = Err refusal
@@ -195,6 +212,7 @@ abbrev pub repeat_of : ℤ → Option Data → Result Repeat Refusal
 repeat_of day None = Ok repeat.Once
 repeat_of day (Some value) = object_or (BadMember of.Recurrence) value >>= λ found. recurrence_of found >>= repeating_from day
 
+-- what an event states, its members in the order of judgement
 unfoldable pub event_of : Option ℤ → Data → Result GraphEvent Refusal
 event_of offset event = do
   start_member ← ok_or (member_of (codes "start") event) NoStart
@@ -217,6 +235,7 @@ abbrev pub by_pattern : Option ℤ → Option Data → Data → Result GraphEven
 by_pattern offset None value = event_of offset value
 by_pattern offset (Some pattern) value = bare_of value
 
+-- what a JSON text states: a bare recurrence where it has a pattern, and else an event
 unfoldable pub graph_text : Option ℤ → List ℕ → Result GraphEvent Refusal
 graph_text offset text = json_object (without_mark text) >>= λ value. by_pattern offset (member_of (codes "pattern") value) value
 

@@ -17,6 +17,7 @@ use Rattle.rr_model.specs.declared.graph.Range.{Range}
 use Rattle.rr_model.specs.declared.graph.RangeEnd.TheVariants.{NoEnd, EndDate, Numbered}
 use Rattle.rr_model.specs.declared.graph.RangeEnd.{RangeEnd}
 
+-- the type of a pattern as it is written
 unfoldable pub form_text : Form → List ℕ
 form_text Daily = codes "daily"
 form_text Weekly = codes "weekly"
@@ -31,6 +32,7 @@ day_text d =
     if d == 0 then codes "monday" else (if d == 1 then codes "tuesday" else (if d == 2 then codes "wednesday"
     else (if d == 3 then codes "thursday" else (if d == 4 then codes "friday" else (if d == 5 then codes "saturday" else codes "sunday")))))
 
+-- an index as it is written
 unfoldable pub index_text : ℤ → List ℕ
 index_text (pos n) = if n == 1 then codes "first" else (if n == 2 then codes "second" else (if n == 3 then codes "third" else codes "fourth"))
 index_text (negsuc n) = codes "last"
@@ -44,6 +46,7 @@ abbrev pub member_if : Bool → List ℕ → Data → Members → Members
 member_if true name value members = member name value members
 member_if false name value members = members
 
+-- a pattern with the members that its type uses, by name
 abbrev pub pattern_data : Pattern → Data
 pattern_data p = object
     (member_if (uses_day_of_month p.form) (codes "dayOfMonth") (number (unsigned p.day_of_month))
@@ -54,14 +57,17 @@ pattern_data p = object
     (member_if (uses_month p.form) (codes "month") (number (unsigned p.month))
     (member (codes "type") (string (form_text p.form)) no_members)))))))
 
+-- the members of every range
 abbrev pub start_and_type : ℤ → List ℕ → Members
 start_and_type day type = member (codes "startDate") (string (extended_date_text day)) (member (codes "type") (string type) no_members)
 
+-- a range with the members that its type uses, by name
 abbrev pub range_data : RangeEnd → ℤ → Data
 range_data NoEnd day = object (start_and_type day (codes "noEnd"))
 range_data (EndDate last) day = object (member (codes "endDate") (string (extended_date_text last)) (start_and_type day (codes "endDate")))
 range_data (Numbered n) day = object (member (codes "numberOfOccurrences") (number (unsigned n)) (start_and_type day (codes "numbered")))
 
+-- a pattern and its range
 abbrev pub recurrence_data : Pattern → Range → Data
 recurrence_data pattern range = object (member (codes "pattern") (pattern_data pattern) (member (codes "range") (range_data range.end range.start_day) no_members))
 
@@ -72,5 +78,6 @@ event_data Moments start pattern range = object
     (member (codes "isAllDay") (boolean false) (member (codes "recurrence") (recurrence_data pattern range)
     (member (codes "start") (object (member (codes "dateTime") (string (extended_text Moments start)) no_members)) no_members)))
 
+-- the text that is written, in one line
 unfoldable pub graph_written : Kind → ℤ → Pattern → Range → List ℕ
 graph_written kind start pattern range = compact_text (event_data kind start pattern range) ++ 10 ∷ []

@@ -7,26 +7,31 @@ use Rattle.rr_model.specs.declared.graph.Form.TheVariants.{Daily, Weekly, Absolu
 abbrev pub bit_of : ℕ → ℕ
 bit_of weekday = 2 ^ ((weekday + 1) % 7)
 
+-- daysOfWeek is used
 abbrev pub uses_days : Form → Bool
 uses_days Weekly = true
 uses_days RelativeMonthly = true
 uses_days RelativeYearly = true
 uses_days form = false
 
+-- firstDayOfWeek is used
 abbrev pub uses_first_day : Form → Bool
 uses_first_day Weekly = true
 uses_first_day form = false
 
+-- index is used
 abbrev pub uses_index : Form → Bool
 uses_index RelativeMonthly = true
 uses_index RelativeYearly = true
 uses_index form = false
 
+-- dayOfMonth is used
 abbrev pub uses_day_of_month : Form → Bool
 uses_day_of_month AbsoluteMonthly = true
 uses_day_of_month AbsoluteYearly = true
 uses_day_of_month form = false
 
+-- month is used
 abbrev pub uses_month : Form → Bool
 uses_month AbsoluteYearly = true
 uses_month RelativeYearly = true

@@ -22,6 +22,7 @@ abbrev pub IsIndex : Bool → ℤ → Type 0
 IsIndex true index = ((pos 1 ≤ℤ index) × (index ≤ℤ pos 4)) ⊎ (index ≡ neg_ℤ (pos 1))
 IsIndex false index = index ≡ pos 1
 
+-- members that are used lie in their ranges, and the others have their one value
 pub record IsValidPattern (pattern : Pattern) : Type 0 where
   pub interval_low : 1 ≤ pattern.interval
   pub interval_high : pattern.interval ≤ most_interval pattern.form
@@ -31,6 +32,7 @@ pub record IsValidPattern (pattern : Pattern) : Type 0 where
   pub day_of_month : LiesIfUsed (uses_day_of_month pattern.form) 1 31 0 pattern.day_of_month
   pub month : LiesIfUsed (uses_month pattern.form) 1 12 0 pattern.month
 
+-- an endDate lies in the years 1 to 9999, and a count is at least 1
 abbrev pub IsRangeEnd : RangeEnd → Type 0
 IsRangeEnd NoEnd = ⊤
 IsRangeEnd (EndDate day) = IsInYears Days day
@@ -41,6 +43,7 @@ abbrev pub IsRepeatFrom : ℤ → Repeat → Type 0
 IsRepeatFrom day repeat.Once = ⊤
 IsRepeatFrom day (repeat.Pattern pattern range) = IsValidPattern pattern × IsRangeEnd range.end × (range.start_day ≡ day) × ((first : ℤ) × (first_repeat_day pattern range ≡ Some first))
 
+-- the event's pattern and range are valid, and it has an occurrence
 pub record IsValidGraphEvent (event : GraphEvent) : Type 0 where
   pub start : IsInYears event.kind event.start
   pub repeats : IsRepeatFrom (day_part event.kind event.start) event.repeat

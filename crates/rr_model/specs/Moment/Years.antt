@@ -18,9 +18,11 @@ IsInYears kind t = HasFourDigitYear (day_part kind t)
 
 -- ---- the same as tests
 
+-- the day lies in the years 1 to 9999
 abbrev pub has_four_digit_year : ℤ → Bool
 has_four_digit_year day = int_le (first_day_of_year (pos 1)) day && int_lt day (first_day_of_year (pos 10_000))
 
+-- the moment does
 abbrev pub is_in_years : Kind → ℤ → Bool
 is_in_years kind t = has_four_digit_year (day_part kind t)
 

@@ -40,9 +40,11 @@ rule_beside offset start line stated = do
   end ← end_beside offset start line stated.until stated.rule.end
   if takes_start stated.rule.freq start.kind then Ok (record stated.rule { end = end }) else Err NotAllowed
 
+-- dates of RDATE and EXDATE stand between commas
 abbrev pub is_comma : ℕ → Bool
 is_comma b = b == 44
 
+-- how rules and dates of RFC 5545 are read
 abbrev pub rrule_language : Language Rule
 rrule_language = record { stated = stated_rule; is_separator = is_comma }
 

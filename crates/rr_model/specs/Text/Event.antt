@@ -20,6 +20,7 @@ pub record Components : Type 0 where
   pub open_names : List (List ℕ)
   pub had_event : Bool
 
+-- no component is open
 abbrev pub no_components : Components
 no_components = record { open_names = []; had_event = false }
 
@@ -53,6 +54,7 @@ pub record Left : Type 0 where
   pub components : Components
   pub used : Option UsedLine
 
+-- what a line leaves, by its parts
 abbrev pub left : Components → Option UsedLine → Left
 left components used = record { components = components; used = used }
 
@@ -75,6 +77,7 @@ left_at is_bare components number (Property name) text =
     else Ok (left components None)
 left_at is_bare components number Other text = Ok (left components None)
 
+-- what a line leaves
 unfoldable pub left_by : Bool → Components → Line → Result Left Refusal
 left_by is_bare components line = left_at is_bare components line.number (line_kind line.text) line.text
 

@@ -11,6 +11,7 @@ use Rattle.rr_model.specs.Text.Lines.{physical_lines, without_mark}
 use Rattle.rr_model.specs.Text.UsedLines.{trim}
 use Rattle.rr_model.specs.Text.ExtendedMoments.{plain_extended}
 use Rattle.rr_model.specs.declared.listed.ListedDates.{ListedDates}
+use Rattle.rr_model.specs.declared.limits.TheConstants.{MAX_DATES}
 use Rattle.rr_model.specs.declared.refusal.Refusal.{Refusal}
 use Rattle.rr_model.specs.declared.refusal.Refusal.TheVariants.{NotText, BadMoment, MixedKinds, TooManyParts, NotRising}
 
@@ -26,15 +27,17 @@ with_next line so_far (Some first) stamp =
     then Ok (record so_far { last = stamp.at; count = so_far.count + 1; plus = with_value int_lt so_far.plus stamp.at }) else Err (NotRising line))
     else Err (MixedKinds line)
 
+-- one value more, where there is room
 abbrev pub with_list_value : ℕ → ListedDates → List ℕ → Result ListedDates Refusal
 with_list_value line so_far text =
-    if nat_le 10_000 so_far.count then Err TooManyParts else (ok_or (plain_extended text) (BadMoment line) >>= with_next line so_far so_far.first)
+    if nat_le MAX_DATES so_far.count then Err TooManyParts else (ok_or (plain_extended text) (BadMoment line) >>= with_next line so_far so_far.first)
 
 -- one line, without the blanks and tabs around it; an empty one is passed over
 abbrev pub with_trimmed : ℕ → ListedDates → List ℕ → Result ListedDates Refusal
 with_trimmed line so_far [] = Ok so_far
 with_trimmed line so_far (b ∷ bs) = with_list_value line so_far (b ∷ bs)
 
+-- one line more, without the blanks and tabs around it
 unfoldable pub with_list_line : ℕ → ListedDates → List ℕ → Result ListedDates Refusal
 with_list_line line so_far text = with_trimmed line so_far (trim text)
 

@@ -23,9 +23,11 @@ number_at start count text = digits_value (take count (drop start text))
 abbrev pub written_year : List ℕ → ℕ
 written_year text = number_at 0 4 text
 
+-- its month
 abbrev pub written_month : List ℕ → ℕ
 written_month text = number_at 4 2 text
 
+-- its day
 abbrev pub written_day : List ℕ → ℕ
 written_day text = number_at 6 2 text
 
@@ -43,9 +45,11 @@ basic_date text =
 abbrev pub written_hour : List ℕ → ℕ
 written_hour text = number_at 0 2 text
 
+-- its minute
 abbrev pub written_minute : List ℕ → ℕ
 written_minute text = number_at 2 2 text
 
+-- its second
 abbrev pub written_second : List ℕ → ℕ
 written_second text = number_at 4 2 text
 
@@ -77,6 +81,7 @@ utc_mark (b ∷ c ∷ rest) = None
 abbrev pub date_stamp : ℤ → Stamp
 date_stamp day = record { kind = Days; at = day; utc = false }
 
+-- a moment as a stamp
 abbrev pub moment_stamp : ℤ → ℕ → Bool → Stamp
 moment_stamp day second utc = record { kind = Moments; at = moment_at Moments day second; utc = utc }
 

@@ -14,6 +14,7 @@ use Rattle.rr_model.specs.Text.RuleValues.{◌>>=◌}
 use Rattle.rr_model.specs.Text.Steps.{in_turn}
 use Rattle.rr_model.specs.Text.UsedLines.{trim}
 use Rattle.rr_model.specs.declared.pass.FirstPass.{FirstPass}
+use Rattle.rr_model.specs.declared.limits.TheConstants.{MAX_DATES, MAX_RULES}
 use Rattle.rr_model.specs.declared.refusal.Refusal.{Refusal}
 use Rattle.rr_model.specs.declared.refusal.Refusal.TheVariants.{NoStart, BadMoment, MixedKinds, PartTwice, UtcMoment, PeriodValue, Extended, TooManyParts}
 use Rattle.rr_model.specs.declared.used.LineName.{LineName}
@@ -42,6 +43,7 @@ abbrev pub judged_start : ℕ → FirstPass → List ℕ → Result FirstPass Re
 judged_start line pass text =
     if is_some pass.start then Err (PartTwice line) else (ok_or (basic text) (BadMoment line) >>= λ stamp. Ok (record pass { start = Some stamp }))
 
+-- the text holds a slash, as periods do
 abbrev pub has_slash : List ℕ → Bool
 has_slash text = list_any (λ b. b == 47) text
 
@@ -52,7 +54,7 @@ date_value line text = ok_or (basic (trim text)) (BadMoment line)
 -- one value of RDATE (true) or EXDATE
 abbrev pub judged_date : ℕ → Bool → FirstPass → List ℕ → Result FirstPass Refusal
 judged_date line is_plus pass text =
-    if nat_le 10_000 pass.date_count then Err TooManyParts
+    if nat_le MAX_DATES pass.date_count then Err TooManyParts
     else (if is_plus && has_slash text then Err PeriodValue else (date_value line text >>= λ stamp. Ok (record pass { date_count = pass.date_count + 1 })))
 
 -- its values from left to right
@@ -62,7 +64,7 @@ judged_dates line is_plus pass texts = in_turn (judged_date line is_plus) pass t
 -- a rule is read only where there is room for it
 abbrev pub judged_rule : {R : Type 0} → Language R → ℕ → FirstPass → List ℕ → Result FirstPass Refusal
 judged_rule language line pass text =
-    if nat_le 16 pass.rule_count then Err TooManyParts else (language.stated line text >>= λ rule. Ok (record pass { rule_count = pass.rule_count + 1 }))
+    if nat_le MAX_RULES pass.rule_count then Err TooManyParts else (language.stated line text >>= λ rule. Ok (record pass { rule_count = pass.rule_count + 1 }))
 
 -- one used line
 abbrev pub judged_line : {R : Type 0} → Language R → ℕ → LineName → FirstPass → List ℕ → Result FirstPass Refusal
@@ -72,6 +74,7 @@ judged_line language line Rdate pass text = judged_dates line true pass (slice_s
 judged_line language line Exdate pass text = judged_dates line false pass (slice_split language.is_separator text)
 judged_line language line Exrule pass text = Err Extended
 
+-- the first pass over the lines
 abbrev pub first_pass : {R : Type 0} → Language R → FirstPass → List UsedLine → Result FirstPass Refusal
 first_pass language pass lines = in_turn (λ p line. judged_line language line.number line.name p line.value) pass lines
 
@@ -96,6 +99,7 @@ pub record Beside (R : Type 0) : Type 0 where
   pub plus : List ℤ
   pub minus : List ℤ
 
+-- nothing is read beside the start yet
 abbrev pub nothing_beside : {R : Type 0} → Beside R
 nothing_beside = record { rules = []; plus = []; minus = [] }
 
@@ -111,6 +115,7 @@ with_date offset start line is_plus beside text = do
   at ← date_beside offset start line stamp
   Ok (put_date is_plus beside at)
 
+-- the dates of one line, from left to right
 abbrev pub with_dates : {R : Type 0} → Option ℤ → Stamp → ℕ → Bool → Beside R → List (List ℕ) → Result (Beside R) Refusal
 with_dates offset start line is_plus beside texts = in_turn (with_date offset start line is_plus) beside texts
 
@@ -129,6 +134,7 @@ with_line language rule_beside offset start line Rdate beside text = with_dates 
 with_line language rule_beside offset start line Exdate beside text = with_dates offset start line false beside (slice_split language.is_separator text)
 with_line language rule_beside offset start line Exrule beside text = Ok beside
 
+-- the second pass over the lines
 abbrev pub second_pass : {R : Type 0} → Language R → (ℕ → Stated R → Result R Refusal) → Option ℤ → Stamp → Beside R → List UsedLine → Result (Beside R) Refusal
 second_pass language rule_beside offset start beside lines = in_turn (λ b line. with_line language rule_beside offset start line.number line.name b line.value) beside lines
 

@@ -27,9 +27,11 @@ CaseDoesNotMatter =
 abbrev pub is_part_byte : ℕ → Bool
 is_part_byte b = not (b == 59) && (not (is_blank b) && not (b == 10))
 
+-- a part is not empty and holds no byte that separates
 abbrev pub is_part : List ℕ → Bool
 is_part text = nat_lt 0 (length text) && list_all is_part_byte text
 
+-- each text is a part
 abbrev pub AreParts : List (List ℕ) → Type 0
 AreParts texts = IsTrue (list_all is_part texts)
 

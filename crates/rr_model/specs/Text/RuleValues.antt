@@ -30,6 +30,7 @@ in_table (row ∷ rows) text = if bytes_eq text row.0 then Some row.1 else in_ta
 
 -- ---- words
 
+-- a frequency by its name
 unfoldable pub freq_named : List ℕ → Option Freq
 freq_named text = in_table
     ((codes "SECONDLY", Secondly) ∷ (codes "MINUTELY", Minutely) ∷ (codes "HOURLY", Hourly) ∷ (codes "DAILY", Daily)
@@ -54,6 +55,7 @@ is_signed_number text = is_number (without_leading_sign text)
 abbrev pub up_to : ℕ → ℕ → ℕ → Result ℕ Refusal
 up_to line most n = if nat_le 1 n && nat_le n most then Ok n else Err (NumberRange line)
 
+-- the number that the text writes, from 1 up to the most
 unfoldable pub number_up_to : ℕ → ℕ → List ℕ → Result ℕ Refusal
 number_up_to line most text = if is_number text then up_to line most (digits_value text) else Err (BadRule line)
 
@@ -73,9 +75,11 @@ list_of line has_form below judged text =
 
 -- ---- lists of numbers
 
+-- numbers without a sign
 abbrev pub unsigned : ℕ → ℕ → NumberBounds
 unsigned least most = record { signed = false; least = least; most = most; has_leap = false }
 
+-- numbers from the front or, negative, from the back
 abbrev pub signed : ℕ → NumberBounds
 signed most = record { signed = true; least = 1; most = most; has_leap = false }
 
@@ -83,6 +87,7 @@ signed most = record { signed = true; least = 1; most = most; has_leap = false }
 abbrev pub seconds : NumberBounds
 seconds = record { signed = false; least = 0; most = 59; has_leap = true }
 
+-- the text is a number of this form
 abbrev pub has_number_form : NumberBounds → List ℕ → Bool
 has_number_form bounds text = if bounds.signed then is_signed_number text else is_number text
 
@@ -100,6 +105,7 @@ number_within line bounds text =
     if has_number_form bounds text then (if nat_le bounds.least (magnitude text) && nat_le (magnitude text) bounds.most then Ok (signed_digits_value 10 text) else Err (outside line bounds (magnitude text)))
     else Err (BadRule line)
 
+-- a list of numbers within their bounds
 unfoldable pub numbers_of : ℕ → NumberBounds → List ℕ → Result (List ℤ) Refusal
 numbers_of line bounds text = list_of line (has_number_form bounds) int_lt (number_within line bounds) text
 
@@ -109,6 +115,7 @@ numbers_of line bounds text = list_of line (has_number_form bounds) int_lt (numb
 abbrev pub place_text : List ℕ → List ℕ
 place_text text = take (length text - 2) text
 
+-- the two letters of the weekday
 abbrev pub weekday_text : List ℕ → List ℕ
 weekday_text text = drop (length text - 2) text
 
@@ -121,11 +128,13 @@ abbrev pub place_within : ℕ → List ℕ → Result ℤ Refusal
 place_within line [] = Ok (pos 0)
 place_within line (b ∷ bs) = number_within line (signed 53) (b ∷ bs)
 
+-- a weekday with its place
 unfoldable pub day_item_within : ℕ → List ℕ → Result DayItem Refusal
 day_item_within line text = do
   weekday ← ok_or (weekday_named (weekday_text text)) (BadRule line)
   place ← place_within line (place_text text)
   Ok (record { place = place; weekday = weekday })
 
+-- the values of BYDAY
 unfoldable pub day_items_of : ℕ → List ℕ → Result (List DayItem) Refusal
 day_items_of line text = list_of line is_day_item day_item_lt (day_item_within line) text

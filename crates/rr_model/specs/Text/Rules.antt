@@ -26,6 +26,7 @@ split_once b text = option_map (λ i. (take i text, drop (i + 1) text)) (positio
 
 -- ---- the parts of a rule
 
+-- a part of a rule by its name
 unfoldable pub part_named : List ℕ → Option PartName
 part_named name = in_table
     ((codes "FREQ", part.Freq) ∷ (codes "UNTIL", part.Until) ∷ (codes "COUNT", part.Count) ∷ (codes "INTERVAL", part.Interval) ∷ (codes "WKST", part.WeekStart)
@@ -89,6 +90,7 @@ with_parts line parts (text ∷ texts) = do
   more ← with_part line parts text
   with_parts line more texts
 
+-- no part is read yet
 abbrev pub no_parts : RuleParts
 no_parts = record {
   freq = None;
@@ -111,11 +113,13 @@ no_parts = record {
 abbrev pub without_last_semicolon : List ℕ → List ℕ
 without_last_semicolon text = if bytes_eq (drop (length text - 1) text) (codes ";") then take (length text - 1) text else text
 
+-- the parts of a rule, from left to right
 unfoldable pub parts_of : ℕ → List ℕ → Result RuleParts Refusal
 parts_of line text = with_parts line no_parts (pieces 59 (without_last_semicolon text))
 
 -- ---- the rule
 
+-- the end that UNTIL and COUNT make
 abbrev pub end_of : Option Stamp → Option ℕ → Result End Refusal
 end_of None None = Ok Never
 end_of None (Some count) = Ok (Count count)
@@ -149,6 +153,7 @@ rule_of line parts = do
 
 -- ---- the series
 
+-- the kind has a time of day
 abbrev pub has_time : Kind → Bool
 has_time Days = false
 has_time Moments = true
@@ -172,12 +177,15 @@ series_with start until rule =
 abbrev pub is_blank : ℕ → Bool
 is_blank b = (b == 32) || (b == 9)
 
+-- the text without blanks before it
 abbrev pub trim_start : List ℕ → List ℕ
 trim_start text = drop (length (take_while is_blank text)) text
 
+-- the text without blanks after it
 abbrev pub trim_end : List ℕ → List ℕ
 trim_end text = take (length text - length (take_while is_blank (reverse text))) text
 
+-- a value in capitals, without the blanks around it
 unfoldable pub line_value : List ℕ → List ℕ
 line_value text = trim_end (trim_start (str_to_ascii_uppercase text))
 
@@ -195,9 +203,11 @@ values_of bytes =
     option_and_then (λ start. option_and_then (λ rule. if length rule.1 == 0 then Some (start.0, rule.0) else None)
     (first_line (codes "RRULE:") start.1)) (first_line (codes "DTSTART:") bytes)
 
+-- the start that a value states
 unfoldable pub start_of : ℕ → List ℕ → Result Stamp Refusal
 start_of line text = ok_or (basic (line_value text)) (BadMoment line)
 
+-- the parts that a rule's value states
 unfoldable pub rule_parts : ℕ → List ℕ → Result RuleParts Refusal
 rule_parts line text = parts_of line (line_value text)
 
@@ -221,5 +231,6 @@ reads bytes = do
 unfoldable pub is_plain_text : List ℕ → Bool
 is_plain_text bytes = nat_le (length bytes) 1_048_576 && list_all (λ b. nat_lt b 128 && not (b == 13)) bytes && is_some (values_of bytes)
 
+-- the bytes are two such lines
 abbrev pub IsPlainText : List ℕ → Type 0
 IsPlainText bytes = IsTrue (is_plain_text bytes)

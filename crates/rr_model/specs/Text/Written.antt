@@ -35,6 +35,7 @@ basic_text Moments t = basic_date_text (day_part Moments t) ++ codes "T" ++ basi
 
 -- ---- lines
 
+-- the end of a written line
 abbrev pub line_break : List ℕ
 line_break = codes "\r\n"
 
@@ -47,15 +48,18 @@ folded_rest (suc n) text = if is_absent text then [] else line_break ++ 32 ∷ (
 unfoldable pub folded : List ℕ → List ℕ
 folded text = take 75 text ++ folded_rest (length text / 74) (drop 75 text)
 
+-- a line, folded and ended
 abbrev pub folded_line : List ℕ → List ℕ
 folded_line text = folded text ++ line_break
 
+-- a line for each value
 abbrev pub lines_of : {X : Type 0} → (X → List ℕ) → List X → List ℕ
 lines_of line [] = []
 lines_of line (x ∷ xs) = line x ++ lines_of line xs
 
 -- ---- a rule of RFC 5545
 
+-- a frequency as it is written
 unfoldable pub freq_text : Freq → List ℕ
 freq_text Secondly = codes "SECONDLY"
 freq_text Minutely = codes "MINUTELY"
@@ -71,6 +75,7 @@ weekday_text d =
     if d == 0 then codes "MO" else (if d == 1 then codes "TU" else (if d == 2 then codes "WE"
     else (if d == 3 then codes "TH" else (if d == 4 then codes "FR" else (if d == 5 then codes "SA" else codes "SU")))))
 
+-- a value of BYDAY as it is written
 abbrev pub day_item_text : DayItem → List ℕ
 day_item_text item = (if int_eq item.place (pos 0) then [] else signed_decimal item.place) ++ weekday_text item.weekday
 
@@ -83,6 +88,7 @@ abbrev pub part_unless : Bool → List ℕ → List ℕ → List ℕ
 part_unless true name value = []
 part_unless false name value = part_text name value
 
+-- a part that lists values, unless it is absent
 abbrev pub list_part : {X : Type 0} → List ℕ → (X → List ℕ) → List X → List ℕ
 list_part name text values = part_unless (is_absent values) name (join_with_byte 44 (map text values))
 
@@ -93,6 +99,7 @@ end_text (Until kind at) = part_text (codes "UNTIL") (basic_text kind at)
 end_text (Count n) = part_text (codes "COUNT") (decimal n)
 end_text (Both kind at n) = part_text (codes "UNTIL") (basic_text kind at)
 
+-- a rule as it is written, part by part
 unfoldable pub rule_text : Rule → List ℕ
 rule_text rule =
     codes "FREQ=" ++ freq_text rule.freq ++ end_text rule.end
@@ -115,9 +122,11 @@ abbrev pub value_type : Kind → List ℕ
 value_type Days = codes ";VALUE=DATE"
 value_type Moments = []
 
+-- a line with one date
 abbrev pub date_line : List ℕ → Kind → ℤ → List ℕ
 date_line name kind at = folded_line (name ++ value_type kind ++ codes ":" ++ basic_text kind at)
 
+-- a line with a rule
 abbrev pub rule_line : Rule → List ℕ
 rule_line rule = folded_line (codes "RRULE:" ++ rule_text rule)
 

@@ -16,6 +16,7 @@ use Rattle.rr_model.specs.declared.item.Item.TheVariants.{Weekday, MonthDay, Pla
 use Rattle.rr_model.specs.declared.vcal.VRule.{VRule}
 use Rattle.rr_model.specs.declared.vcal.VSeries.{VSeries}
 
+-- the frequency of the counterpart
 abbrev pub family_freq : FamilyKind → Freq
 family_freq family.D = Daily
 family_freq family.W = Weekly
@@ -24,6 +25,7 @@ family_freq family.MP = Monthly
 family_freq family.YM = Yearly
 family_freq family.YD = Yearly
 
+-- a value of BYDAY
 abbrev pub day_item : ℤ → ℕ → DayItem
 day_item place weekday = record { place = place; weekday = weekday }
 
@@ -33,14 +35,17 @@ day_of_item (Weekday k) = Some (day_item (pos 0) k)
 day_of_item (Place n k) = Some (day_item n k)
 day_of_item item = None
 
+-- the day of the month that an item lists
 abbrev pub month_day_of_item : Item → Option ℤ
 month_day_of_item (MonthDay n) = Some n
 month_day_of_item item = None
 
+-- the month that an item lists
 abbrev pub month_of_item : Item → Option ℤ
 month_of_item (Month m) = Some (pos m)
 month_of_item item = None
 
+-- the day of the year that an item lists
 abbrev pub year_day_of_item : Item → Option ℤ
 year_day_of_item (YearDay k) = Some (pos k)
 year_day_of_item item = None
@@ -60,6 +65,7 @@ abbrev pub month_days_of : FamilyKind → ℤ → List Item → List ℤ
 month_days_of family.YM start items = pos (day_of_month start) ∷ []
 month_days_of family start items = values_of int_lt month_day_of_item [] items
 
+-- the rule of RFC 5545 with the same members
 unfoldable pub rule_of_vrule : VRule → Kind → ℤ → Rule
 rule_of_vrule rule kind start = record {
   freq = family_freq rule.family;
@@ -77,6 +83,7 @@ rule_of_vrule rule kind start = record {
   end = rule.end;
 }
 
+-- the counterparts of the rules
 abbrev pub rules_of_vrules : Kind → ℤ → List VRule → List Rule
 rules_of_vrules kind start [] = []
 rules_of_vrules kind start (rule ∷ rules) = rule_of_vrule rule kind start ∷ rules_of_vrules kind start rules

@@ -54,6 +54,7 @@ item_key (Place n d) = record { group = group_of 4 n; number = nat_abs n; weekda
 item_key (Month m) = record { group = 6; number = m; weekday = 0 }
 item_key (YearDay k) = record { group = 7; number = k; weekday = 0 }
 
+-- items in their order
 abbrev pub item_cmp : Item → Item → Ordering
 item_cmp = on item_key (then_cmp (on (λ k. k.group) nat_cmp) (then_cmp (on (λ k. k.number) nat_cmp) (on (λ k. k.weekday) nat_cmp)))
 

@@ -41,9 +41,11 @@ vrule_beside offset start line stated =
 abbrev pub is_comma_or_semicolon : ℕ → Bool
 is_comma_or_semicolon b = (b == 44) || (b == 59)
 
+-- how rules and dates of vCalendar 1.0 are read
 abbrev pub vcal_language : Language VRule
 vcal_language = record { stated = stated_vrule; is_separator = is_comma_or_semicolon }
 
+-- the series that an event states
 abbrev pub vseries_of_event : Event VRule → VSeries
 vseries_of_event event = record { kind = event.start.kind; start = event.start.at; rules = event.beside.rules; plus = event.beside.plus; minus = event.beside.minus }
 

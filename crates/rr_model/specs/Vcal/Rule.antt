@@ -31,9 +31,11 @@ pub record Head : Type 0 where
   pub family : FamilyKind
   pub rest : List ℕ
 
+-- a rule that begins with these letters
 abbrev pub head_with : List ℕ → FamilyKind → List ℕ → Option Head
 head_with letters family text = option_map (λ rest. record { family = family; rest = rest }) (text_after letters text)
 
+-- the kind of a rule by its first letters
 unfoldable pub head_of : List ℕ → Option Head
 head_of text =
     option_or (head_with (codes "MD") family.MD text) (option_or (head_with (codes "MP") family.MP text) (option_or (head_with (codes "YM") family.YM text)
@@ -73,6 +75,7 @@ number_of line most text =
 abbrev pub front : List ℕ → List ℕ
 front text = take (length text - 1) text
 
+-- the text ends with the byte
 abbrev pub ends_with : ℕ → List ℕ → Bool
 ends_with b text = bytes_eq (drop (length text - 1) text) (b ∷ [])
 
@@ -106,6 +109,7 @@ with_group_weekday line parts weekday =
 abbrev pub with_group_place : VRuleParts → ℤ → VRuleParts
 with_group_place parts place = record parts { places = with_value int_lt (if parts.has_weekday then [] else parts.places) place; has_weekday = false }
 
+-- one word more in a group of places
 abbrev pub with_group_word : ℕ → VRuleParts → Option ℕ → List ℕ → Result VRuleParts Refusal
 with_group_word line parts (Some weekday) text = with_group_weekday line parts weekday
 with_group_word line parts None text = marked_place line 5 text >>= λ place. Ok (with_group_place parts place)
@@ -151,10 +155,12 @@ after_list line parts more = if is_list_whole parts.family parts then more else 
 abbrev pub within_list : ℕ → VRuleParts → List ℕ → Result VRuleParts Refusal
 within_list line parts text = if is_some parts.count || is_some parts.until then Err (BadRule line) else with_list_word line parts parts.family text
 
+-- one word more that may be a number of events
 abbrev pub with_marked_word : ℕ → VRuleParts → Option (List ℕ) → List ℕ → Result VRuleParts Refusal
 with_marked_word line parts (Some number) text = after_list line parts (with_count line parts number)
 with_marked_word line parts None text = within_list line parts text
 
+-- one word more
 unfoldable pub with_word : ℕ → VRuleParts → List ℕ → Result VRuleParts Refusal
 with_word line parts text =
     if is_moment_word text then after_list line parts (with_end_moment line parts text) else with_marked_word line parts (text_after (codes "#") text) text
@@ -179,6 +185,7 @@ end_of_words (Some m) None = if m == 0 then Never else Count m
 end_of_words None (Some until) = Until until.kind until.at
 end_of_words (Some m) (Some until) = if m == 0 then Until until.kind until.at else Both until.kind until.at m
 
+-- the rule that its parts state
 abbrev pub stated_parts : VRuleParts → Stated VRule
 stated_parts parts = record {
   rule = record { family = parts.family; interval = parts.interval; items = parts.items; end = end_of_words parts.count parts.until };

@@ -20,6 +20,7 @@ IsItemOf family.YM (Month m) = (1 ≤ m) × (m ≤ 12)
 IsItemOf family.YD (YearDay k) = (1 ≤ k) × (k ≤ 366)
 IsItemOf family item = ⊥
 
+-- the interval and the items lie in their ranges, and there is an item
 pub record IsValidVRule (rule : VRule) : Type 0 where
   pub interval_low : 1 ≤ rule.interval
   pub interval_high : rule.interval ≤ 4_294_967_295

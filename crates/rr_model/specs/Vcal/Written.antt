@@ -12,6 +12,7 @@ use Rattle.rr_model.specs.declared.vcal.VRule.{VRule}
 use Rattle.rr_model.specs.declared.vcal.VSeries.{VSeries}
 use Rattle.rr_model.specs.Text.Written.{basic_text, line_break, lines_of, weekday_text}
 
+-- a kind as it is written
 unfoldable pub family_text : FamilyKind → List ℕ
 family_text family.D = codes "D"
 family_text family.W = codes "W"
@@ -52,9 +53,11 @@ vcal_end_text (Count m) = codes " #" ++ decimal m
 vcal_end_text (Until kind at) = codes " " ++ basic_text kind at
 vcal_end_text (Both kind at m) = codes " #" ++ decimal m ++ codes " " ++ basic_text kind at
 
+-- a rule as it is written
 unfoldable pub vrule_text : VRule → List ℕ
 vrule_text rule = family_text rule.family ++ decimal rule.interval ++ items_text None rule.items ++ vcal_end_text rule.end
 
+-- a line of a name and a value
 abbrev pub vcal_line : List ℕ → List ℕ → List ℕ
 vcal_line name value = name ++ codes ":" ++ value ++ line_break
 

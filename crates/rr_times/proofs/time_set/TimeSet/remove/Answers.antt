@@ -24,7 +24,7 @@ returns-else-place-len c =
     let xs = c.self.inside.seconds.items in
     let split : SplitsAt xs c.count_below-place.result c.args.second = rw c.as_slice.ensures.value at c.count_below-place.ensures in
     rw (← c.self.view_is) (without_none xs c.count_below-place.result c.args.second c.self.invariant.rises split (λ l.
-      elim c.else-place-len.branch [
-        | else-place-len-via-then-place-len+else-index-second w ↦ (λ e. (let i : w.index.result.now ≡ c.args.second = w.index.ensures ∙ get_or_default xs c.count_below-place.result w.index.result.now 0 l ∙ e in search rules))
-        | else-place-len-via-else-place-len w ↦ absurd (search rules)
-      ]))
+    elim c.else-place-len.branch [
+      | else-place-len-via-then-place-len+else-index-second w ↦ (λ e. (let i : w.index.result.now ≡ c.args.second = w.index.ensures ∙ get_or_default xs c.count_below-place.result w.index.result.now 0 l ∙ e in search rules))
+      | else-place-len-via-else-place-len w ↦ absurd (search rules)
+    ]))
