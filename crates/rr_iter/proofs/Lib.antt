@@ -3,3 +3,4 @@ pub mod DayListLemmas
 pub mod StepLemmas
 pub mod FineLemmas
 pub mod RulesLemmas
+mod TreeExamples

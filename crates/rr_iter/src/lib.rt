@@ -13,8 +13,6 @@ mod month_lazy;
 mod rule_lazy;
 mod rules_lazy;
 mod second_lazy;
-#[cfg(test)]
-mod tests;
 mod upto_rule;
 mod week_lazy;
 mod year_lazy;
