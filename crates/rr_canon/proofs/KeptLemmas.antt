@@ -12,7 +12,7 @@ use Rattle.rr_model.specs.declared.kind.Kind.{Kind}
 use Rattle.rr_model.specs.declared.kind.Kind.TheVariants.{Days}
 use Rattle.rr_model.specs.declared.sketch.DayShape.{DayShape}
 use Rattle.rr_model.specs.declared.sketch.Sketch.{Sketch}
-use Rattle.rr_model.proofs.SecondsLemmas.{Contains-none}
+use Rattle.rr_model.proofs.RisingSetLemmas.{Contains-none}
 use Rattle.rr_model.specs.Sets.Descriptor.{with_sets_of}
 use Rattle.rr_model.specs.Sets.Least.{IsLeastPeriod, IsLeastStart, IsLeastOfNone, IsLeastSketch}
 use Rattle.rr_model.specs.Sets.Occupied.{occupied}

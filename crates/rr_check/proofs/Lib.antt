@@ -1,10 +1,10 @@
 mod LoopLemmas
 mod PartLemmas
 mod RefusalLemmas
-mod RepetitionLemmas
-mod RuleCycleLemmas
-mod SeriesCycleLemmas
-mod ShiftLemmas
+pub mod RepetitionLemmas
+pub mod RuleCycleLemmas
+pub mod SeriesCycleLemmas
+pub mod ShiftLemmas
 mod SoundnessLemmas
-mod UnitLemmas
-mod WeekShiftLemmas
+pub mod UnitLemmas
+pub mod WeekShiftLemmas

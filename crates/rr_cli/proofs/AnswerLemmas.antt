@@ -12,7 +12,7 @@ use Rattle.rr_cli.specs.declared.command.Task.{Task}
 use Rattle.rr_cli.specs.declared.command.Task.TheVariants as task
 use Rattle.rr_model.specs.declared.refusal.Refusal.{Refusal}
 use Rattle.rr_model.specs.declared.verdict.Side.{Side}
-use Rattle.rr_model.proofs.VerdictLemmas.{equal_verdict_is_one}
+use Rattle.rr_cli.proofs.VerdictLemmas.{equal_verdict_is_one}
 
 -- what stands after the digits of the start
 abbrev behind : List ℕ → List ℕ

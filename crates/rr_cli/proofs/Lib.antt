@@ -7,3 +7,4 @@ pub mod DailyLemmas
 pub mod WordLemmas
 pub mod WorkLemmas
 pub mod RunLemmas
+pub mod VerdictLemmas

@@ -9,7 +9,8 @@ use Rattle.rr_model.specs.Rising.{Rises}
 use Rattle.rr_model.specs.Sets.Verdict.{HoldsOn}
 use Rattle.rr_model.specs.declared.verdict.Side.{Side}
 use Rattle.rr_model.specs.declared.verdict.Side.TheVariants.{A, B, Both}
-use Rattle.rr_model.proofs.SecondsLemmas.{Contains-first, Contains-none, Rises-behind, first_least, behind_first, below_from_test}
+use Rattle.rr_model.proofs.RisingSetLemmas.{Contains-head, Contains-none, Rises-tail}
+use Rattle.rr_model.proofs.SecondsLemmas.{first_least, after_first, below_from_test}
 use Rattle.rr_decide.specs.Merge.{IsNextSecond, is_ahead}
 use Rattle.rr_decide.specs.Question.{IsShown, ShowsNone, IsFirstShown}
 
@@ -54,12 +55,12 @@ pub next_on_first : (x : ℕ) (xs ys : List ℕ) → IsTrue (is_ahead (x ∷ xs)
 next_on_first x xs ys ahead r q =
     let above = all_above x xs ys ahead q in
     record {
-      holds = (Contains-first x xs, λ c. (let l = above x c in omega arith));
+      holds = (Contains-head x xs, λ c. (let l = above x c in omega arith));
       least_of_first = λ w l c. (let m = first_least x w xs r c in omega arith);
       least_of_second = λ w l c. (let m = above w c in omega arith);
-      behind_first = behind_first x xs r;
-      behind_second = stays x ys above;
-      first_rises = Rises-behind x xs r;
+      after_first = after_first x xs r;
+      after_second = stays x ys above;
+      first_rises = Rises-tail nat_lt x xs r;
       second_rises = q;
       fewer = omega arith;
     }
@@ -68,25 +69,25 @@ pub next_on_second : (xs : List ℕ) (y : ℕ) (ys : List ℕ) → IsTrue (is_ah
 next_on_second xs y ys ahead r q =
     let above = all_above y ys xs ahead r in
     record {
-      holds = (Contains-first y ys, λ c. (let l = above y c in omega arith));
+      holds = (Contains-head y ys, λ c. (let l = above y c in omega arith));
       least_of_first = λ w l c. (let m = above w c in omega arith);
       least_of_second = λ w l c. (let m = first_least y w ys q c in omega arith);
-      behind_first = stays y xs above;
-      behind_second = behind_first y ys q;
+      after_first = stays y xs above;
+      after_second = after_first y ys q;
       first_rises = r;
-      second_rises = Rises-behind y ys q;
+      second_rises = Rises-tail nat_lt y ys q;
       fewer = omega arith;
     }
 
 pub next_on_both : (x : ℕ) (xs ys : List ℕ) → Rises nat_lt (x ∷ xs) → Rises nat_lt (x ∷ ys) → IsNextSecond (x ∷ xs) (x ∷ ys) x Both xs ys
 next_on_both x xs ys r q = record {
-  holds = (Contains-first x xs, Contains-first x ys);
+  holds = (Contains-head x xs, Contains-head x ys);
   least_of_first = λ w l c. (let m = first_least x w xs r c in omega arith);
   least_of_second = λ w l c. (let m = first_least x w ys q c in omega arith);
-  behind_first = behind_first x xs r;
-  behind_second = behind_first x ys q;
-  first_rises = Rises-behind x xs r;
-  second_rises = Rises-behind x ys q;
+  after_first = after_first x xs r;
+  after_second = after_first x ys q;
+  first_rises = Rises-tail nat_lt x xs r;
+  second_rises = Rises-tail nat_lt x ys q;
   fewer = omega arith;
 }
 
@@ -102,13 +103,13 @@ module _ (shows : Side → Bool) (xs ys : List ℕ) (second : ℕ) (side : Side)
   -- after the second the lists are as they were
   above : (w : ℕ) → second < w → (Contains xs w ↔ Contains xs' w) × (Contains ys w ↔ Contains ys' w)
   above w l = (
-    ((λ c. (next.behind_first w).1 (c, l)), (λ c. ((next.behind_first w).0 c).0)),
-    ((λ c. (next.behind_second w).1 (c, l)), (λ c. ((next.behind_second w).0 c).0)),
+    ((λ c. (next.after_first w).1 (c, l)), (λ c. ((next.after_first w).0 c).0)),
+    ((λ c. (next.after_second w).1 (c, l)), (λ c. ((next.after_second w).0 c).0)),
   )
 
   module _ (hidden : IsTrue (shows side) → ⊥) where
-    shown_behind : (w : ℕ) → IsShown shows (Contains xs w) (Contains ys w) → IsShown shows (Contains xs' w) (Contains ys' w)
-    shown_behind w (r, t, h) =
+    shown_after : (w : ℕ) → IsShown shows (Contains xs w) (Contains ys w) → IsShown shows (Contains xs' w) (Contains ys' w)
+    shown_after w (r, t, h) =
         elim (cases_order w second) [
           | inl e ↦
               let here : HoldsOn r (Contains xs second) (Contains ys second) = rw e at h in
@@ -121,16 +122,16 @@ module _ (shows : Side → Bool) (xs ys : List ℕ) (second : ℕ) (side : Side)
         ]
 
     pub none_shown : ShowsNone shows xs' ys' → ShowsNone shows xs ys
-    none_shown none w h = none w (shown_behind w h)
+    none_shown none w h = none w (shown_after w h)
 
-    pub first_shown_behind : (w : ℕ) (r : Side) → IsFirstShown shows xs' ys' w r → IsFirstShown shows xs ys w r
-    first_shown_behind w r first =
-        let l : second < w = elim (HoldsOn-some r (Contains xs' w) (Contains ys' w) first.holds) [ inl c ↦ ((next.behind_first w).0 c).1 | inr c ↦ ((next.behind_second w).0 c).1 ] in
+    pub first_shown_after : (w : ℕ) (r : Side) → IsFirstShown shows xs' ys' w r → IsFirstShown shows xs ys w r
+    first_shown_after w r first =
+        let l : second < w = elim (HoldsOn-some r (Contains xs' w) (Contains ys' w) first.holds) [ inl c ↦ ((next.after_first w).0 c).1 | inr c ↦ ((next.after_second w).0 c).1 ] in
         let both = above w l in
         record {
           shown = first.shown;
           holds = HoldsOn-map r (Contains xs' w) (Contains ys' w) (Contains xs w) (Contains ys w) (both.0.1, both.0.0) (both.1.1, both.1.0) first.holds;
-          none_below = λ v lv h. first.none_below v lv (shown_behind v h);
+          none_below = λ v lv h. first.none_below v lv (shown_after v h);
         }
 
 -- empty lists show nothing
@@ -143,23 +144,23 @@ empty_shows_none shows xs ys e f w (r, t, h) =
 
 -- ---- as the code has the lists after a second
 
-behind_is : (x : ℕ) (xs : List ℕ) → take (length (x ∷ xs) - 1) (drop 1 (x ∷ xs)) ≡ xs
-behind_is x xs = take_all (length (x ∷ xs) - 1) xs (omega arith)
+after_is : (x : ℕ) (xs : List ℕ) → take (length (x ∷ xs) - 1) (drop 1 (x ∷ xs)) ≡ xs
+after_is x xs = take_all (length (x ∷ xs) - 1) xs (omega arith)
 
 pub next_if_ahead : (xs ys : List ℕ) → is_ahead xs ys ≡ true → Rises nat_lt xs → Rises nat_lt ys → IsNextSecond xs ys (get_or xs 0 0) A (take (length xs - 1) (drop 1 xs)) ys
 next_if_ahead [] ys ahead r q = absurd (false≢true ahead)
-next_if_ahead (x ∷ xs) ys ahead r q = rw (behind_is x xs) (next_on_first x xs ys ahead r q)
+next_if_ahead (x ∷ xs) ys ahead r q = rw (after_is x xs) (next_on_first x xs ys ahead r q)
 
-pub next_if_behind : (xs ys : List ℕ) → is_ahead ys xs ≡ true → Rises nat_lt xs → Rises nat_lt ys → IsNextSecond xs ys (get_or ys 0 0) B xs (take (length ys - 1) (drop 1 ys))
-next_if_behind xs [] ahead r q = absurd (false≢true ahead)
-next_if_behind xs (y ∷ ys) ahead r q = rw (behind_is y ys) (next_on_second xs y ys ahead r q)
+pub next_if_after : (xs ys : List ℕ) → is_ahead ys xs ≡ true → Rises nat_lt xs → Rises nat_lt ys → IsNextSecond xs ys (get_or ys 0 0) B xs (take (length ys - 1) (drop 1 ys))
+next_if_after xs [] ahead r q = absurd (false≢true ahead)
+next_if_after xs (y ∷ ys) ahead r q = rw (after_is y ys) (next_on_second xs y ys ahead r q)
 
 pub next_if_level : (xs ys : List ℕ) → is_ahead xs ys ≡ false → is_ahead ys xs ≡ false → 0 < length xs → Rises nat_lt xs → Rises nat_lt ys → IsNextSecond xs ys (get_or xs 0 0) Both (take (length xs - 1) (drop 1 xs)) (take (length ys - 1) (drop 1 ys))
 next_if_level [] ys a b some r q = absurd (omega arith)
 next_if_level (x ∷ xs) [] a b some r q = absurd (false≢true (sym a))
 next_if_level (x ∷ xs) (y ∷ ys) a b some r q =
     let same : y ≡ x = grind (arith, nat_tests) in
-    rw (behind_is x xs, behind_is y ys, same) (next_on_both x xs ys r (subst (λ (z : ℕ). Rises nat_lt (z ∷ ys)) same q))
+    rw (after_is x xs, after_is y ys, same) (next_on_both x xs ys r (subst (λ (z : ℕ). Rises nat_lt (z ∷ ys)) same q))
 
 -- where neither list is ahead and the first is empty, the second is too
 pub none_left : (xs ys : List ℕ) → is_ahead ys xs ≡ false → length xs ≡ 0 → (xs ≡ []) × (ys ≡ [])

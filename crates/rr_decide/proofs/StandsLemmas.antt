@@ -14,7 +14,8 @@ use Rattle.rr_model.specs.declared.verdict.Side.{Side}
 use Rattle.rr_model.specs.declared.verdict.Side.TheVariants.{A, B, Both}
 use Rattle.rr_model.specs.declared.verdict.Verdict.{Verdict}
 use Rattle.rr_model.specs.declared.verdict.Verdict.TheVariants.{Yes, No}
-use Rattle.rr_model.proofs.SecondsLemmas.{Contains-first, Contains-none, Contains-or_not, first_least}
+use Rattle.rr_model.proofs.RisingSetLemmas.{Contains-none}
+use Rattle.rr_model.proofs.SecondsLemmas.{Contains-or_not, first_least, first_of_some}
 use Rattle.rr_word.proofs.SketchLemmas.{rising_on, second_fits}
 use Rattle.rr_decide.specs.Question.{AreApart, HasNoneBefore, IsFirstDayShown, IsFirstOccurrence, IsShown, IsVerdictBy, ShowsNone}
 use Rattle.rr_decide.proofs.MergeLemmas.{HoldsOn-map, HoldsOn-some}
@@ -45,10 +46,6 @@ stands_or_not s k t =
 
 pub nothing_stands : (s : Sketch) (k : Kind) (t : ℤ) → times_on s (day_part k t) ≡ [] → StandsIn s k t → ⊥
 nothing_stands s k t e h = Contains-none (second_part k t) (subst (λ (l : List ℕ). Contains l (second_part k t)) e h.second)
-
-first_of_some : (xs : List ℕ) → (xs ≡ [] → ⊥) → Contains xs (get_or xs 0 0)
-first_of_some [] some = absurd (some refl)
-first_of_some (x ∷ xs) some = Contains-first x xs
 
 least_first : (xs : List ℕ) (w : ℕ) → Rises nat_lt xs → Contains xs w → get_or xs 0 0 ≤ w
 least_first [] w r c = absurd (Contains-none w c)

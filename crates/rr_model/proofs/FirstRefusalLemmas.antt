@@ -1,5 +1,5 @@
 -- A series has one first refusal.
-use Rattle.std.proofs.Common.{◌≡◌, ◌⊎◌, inl, inr, Option, None, Some, sym, ◌∙◌}
+use Rattle.std.proofs.Common.{◌≡◌, inl, inr, Option, None, Some, sym, ◌∙◌}
 use Rattle.rr_model.specs.Series.Soundness.{first_refusal}
 use Rattle.rr_model.specs.Series.FirstRefusal.{IsRefusalOr, IsRefusalWhere, IsCycleOver, IsCountOver, AreMomentsOver, IsLimitRefusal, FirstRefusalIsOne}
 use Rattle.rr_model.specs.declared.refusal.Refusal.{Refusal}

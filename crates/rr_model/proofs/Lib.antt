@@ -8,7 +8,6 @@ pub mod SecondsLemmas
 mod DescriptorExamples
 pub mod RisingLemmas
 pub mod ItemLemmas
-pub mod VerdictLemmas
 mod WeekExamples
 pub mod WeekLemmas
 pub mod WholeLemmas

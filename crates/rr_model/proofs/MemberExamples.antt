@@ -1,5 +1,5 @@
 -- Worked members of rules that end (RFC 5545, section 3.3.10, UNTIL and COUNT).
-use Rattle.std.proofs.Common.{◌≡◌, ℕ, true, false, [], ◌∷◌, ℤ, pos, refl, ◌+ℤ◌, ◌*ℤ◌}
+use Rattle.std.proofs.Common.{◌≡◌, ℕ, true, false, [], ◌∷◌, ℤ, pos, refl, ◌*ℤ◌}
 use Rattle.rr_model.specs.Calendar.{days_of_months, first_day_of_year, day_number, year_of, days_into_year, months_over, month_of, day_of_month, day_of_year, weekday_of}
 use Rattle.rr_model.specs.Calendar.Week.{week_index, fourth_day, week_year, week_number, last_week}
 use Rattle.rr_model.specs.Whole.Count.{count_from}
@@ -7,7 +7,6 @@ use Rattle.rr_model.specs.Rule.Candidate.{is_candidate}
 use Rattle.rr_model.specs.Rule.Chosen.{is_chosen}
 use Rattle.rr_model.specs.Rule.Member.{members_to, is_member}
 use Rattle.rr_model.specs.declared.kind.Kind.TheVariants.{Days, Moments}
-use Rattle.rr_model.specs.declared.rule.DayItem.{DayItem}
 use Rattle.rr_model.specs.declared.rule.End.{End}
 use Rattle.rr_model.specs.declared.rule.End.TheVariants.{Never, Until, Count, Both}
 use Rattle.rr_model.specs.declared.rule.Freq.{Freq}

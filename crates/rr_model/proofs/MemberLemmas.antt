@@ -6,12 +6,11 @@ use Rattle.std.proofs.lemmas.Bool.Decides.{nat_tests}
 use Rattle.std.proofs.lemmas.Int.{ints}
 use Rattle.rr_model.specs.Moment.{is_same_kind}
 use Rattle.rr_model.specs.Rule.Chosen.{is_chosen}
-use Rattle.rr_model.specs.Rule.Member.{members_to, is_until, is_within_end, is_member, IsWithinEnd, IsMember, MembersAreTested}
+use Rattle.rr_model.specs.Rule.Member.{members_to, is_until, is_within_end, is_member, IsWithinEnd, MembersAreTested}
 use Rattle.rr_model.specs.declared.kind.Kind.{Kind}
 use Rattle.rr_model.specs.declared.kind.Kind.TheVariants.{Days, Moments}
 use Rattle.rr_model.specs.declared.rule.End.{End}
 use Rattle.rr_model.specs.declared.rule.End.TheVariants.{Never, Until, Count, Both}
-use Rattle.rr_model.specs.declared.rule.Rule.{Rule}
 
 pub same_kind_is : (k l : Kind) → IsTrue (is_same_kind k l) ↔ (k ≡ l)
 same_kind_is Days Days = (λ h. refl, λ e. refl)

@@ -14,14 +14,15 @@ use Rattle.std.proofs.lemmas.List.Sorted.{searchable_from_sorted}
 use Rattle.std.proofs.lemmas.Int.{ints}
 use Rattle.std.proofs.lemmas.Bool.Decides.{nat_tests}
 use Rattle.rr_model.specs.Rising.{Rises, with_value, below_by, day_item_lt}
+use Rattle.rr_model.proofs.RisingSetLemmas.{Rises-tail}
 
 -- a value put into a rising list leaves it rising
 module _ {X : Type 0} (below : X → X → Bool) where
-  rises_behind : (y : X) (ys : List X) (v : X) → below y v ≡ true → Rises below (y ∷ ys) → Rises below (y ∷ with_value below ys v)
-  rises_behind y [] v l r = (l, tt)
-  rises_behind y (z ∷ zs) v l r =
+  rises_after : (y : X) (ys : List X) (v : X) → below y v ≡ true → Rises below (y ∷ ys) → Rises below (y ∷ with_value below ys v)
+  rises_after y [] v l r = (l, tt)
+  rises_after y (z ∷ zs) v l r =
       elim (below z v) as (λ b. below z v ≡ b → Rises below (y ∷ cond b (z ∷ with_value below zs v) (cond (below v z) (v ∷ z ∷ zs) (z ∷ zs)))) [
-        | true ↦ λ e. (r.0, rises_behind z zs v e r.1)
+        | true ↦ λ e. (r.0, rises_after z zs v e r.1)
         | false ↦ λ e.
             elim (below v z) as (λ b. below v z ≡ b → Rises below (y ∷ cond b (v ∷ z ∷ zs) (z ∷ zs))) [
               | true ↦ λ f. (l, (f, r.1))
@@ -33,7 +34,7 @@ module _ {X : Type 0} (below : X → X → Bool) where
   Rises-with_value [] v r = tt
   Rises-with_value (y ∷ ys) v r =
       elim (below y v) as (λ b. below y v ≡ b → Rises below (cond b (y ∷ with_value below ys v) (cond (below v y) (v ∷ y ∷ ys) (y ∷ ys)))) [
-        | true ↦ λ e. rises_behind y ys v e r
+        | true ↦ λ e. rises_after y ys v e r
         | false ↦ λ e.
             elim (below v y) as (λ b. below v y ≡ b → Rises below (cond b (v ∷ y ∷ ys) (y ∷ ys))) [
               | true ↦ λ f. (f, r)
@@ -67,10 +68,6 @@ module _ {X : Type 0} {cmp : X → X → Ordering} (o : IsTotalOrder cmp) where
   first_below y (z ∷ zs) r (suc k) d l = o.trans y z (get_or zs k d) (is_less (cmp y z) r.0) (first_below z zs r.1 k d (omega arith))
 
   -- a rising list is sorted
-  rises_behind_first : (y : X) (ys : List X) → Rises (below_by cmp) (y ∷ ys) → Rises (below_by cmp) ys
-  rises_behind_first y [] r = tt
-  rises_behind_first y (z ∷ zs) r = r.1
-
   not_back : (x y : X) → cmp x y ≡ Less → is_lt (cmp y x) ≡ false
   not_back x y l = ap is_lt (o.antisymm y x ∙ ap ordering_reverse l)
 
@@ -79,7 +76,7 @@ module _ {X : Type 0} {cmp : X → X → Ordering} (o : IsTotalOrder cmp) where
   sorted (y ∷ ys) r zero d z l = not_back y (get_or ys 0 d) (first_below y ys r 0 d (omega arith))
   sorted (y ∷ ys) r (suc k) d z l =
       let e : suc k + 1 ≡ suc (k + 1) = omega arith in
-      rw e (sorted ys (rises_behind_first y ys r) k d (omega arith) (omega arith))
+      rw e (sorted ys (Rises-tail (below_by cmp) y ys r) k d (omega arith) (omega arith))
 
   searchable : (xs : List X) (v : X) → Rises (below_by cmp) xs → IsNonDecreasingBy (λ y. ordering_index (cmp y v)) xs
   searchable xs v r = searchable_from_sorted o (λ y. y) xs v (sorted xs r)
@@ -93,7 +90,7 @@ module _ {X : Type 0} {cmp : X → X → Ordering} (o : IsTotalOrder cmp) where
       rw (a, b) refl
   there (y ∷ ys) (suc i) v r l e =
       let a : is_lt (cmp y v) ≡ true = ap is_lt (sym (alike_right o (get_or ys i v) v y (e v)) ∙ first_below y ys r i v (omega arith)) in
-      rw a (ap (λ l. y ∷ l) (there ys i v (rises_behind_first y ys r) (omega arith) e))
+      rw a (ap (λ l. y ∷ l) (there ys i v (Rises-tail (below_by cmp) y ys r) (omega arith) e))
 
   -- a new value stands between the smaller and the greater
   new : (xs : List X) (i : ℕ) (v : X) → i ≤ length xs → ((k : ℕ) (d : X) → 0 ≤ k → k < i → cmp (get_or xs k d) v ≡ Less) → ((k : ℕ) (d : X) → i ≤ k → k < length xs → cmp (get_or xs k d) v ≡ Greater) → with_value (below_by cmp) xs v ≡ insert xs i v

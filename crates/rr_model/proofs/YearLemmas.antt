@@ -1,10 +1,10 @@
 -- The first and the last day of the years 1 to 9999.
-use Rattle.std.proofs.Common.{◌≡◌, ◌↔◌, ℕ, Bool, ◌&&◌, ℤ, pos, neg_ℤ, negsuc, ◌≤ℤ◌, ◌<ℤ◌, refl, arith}
+use Rattle.std.proofs.Common.{◌≡◌, ◌↔◌, ◌&&◌, ℤ, pos, neg_ℤ, ◌≤ℤ◌, ◌<ℤ◌, refl, arith}
 use Rattle.std.specs.Prelude.{IsTrue, int_le, int_lt}
 use Rattle.std.proofs.lemmas.Int.{ints}
 use Rattle.rr_model.specs.Calendar.{first_day_of_year}
 use Rattle.rr_model.specs.Moment.{day_part}
-use Rattle.rr_model.specs.Moment.Years.{IsFromYearOne, HasFourDigitYear, has_four_digit_year, is_in_years, YearsAreTested}
+use Rattle.rr_model.specs.Moment.Years.{IsFromYearOne, HasFourDigitYear, is_in_years, YearsAreTested}
 use Rattle.rr_model.specs.declared.kind.Kind.TheVariants.{Moments}
 use Rattle.rr_model.proofs.WholeLemmas.{floor_whole, floor_mod_below}
 

@@ -1,4 +1,4 @@
 pub mod ChoiceLemmas
-mod DayLemmas
-mod RankLemmas
-mod UnitLemmas
+pub mod DayLemmas
+pub mod RankLemmas
+pub mod UnitLemmas

@@ -13,7 +13,7 @@ use Rattle.rr_model.specs.Sets.Verdict.{HaveEqualOccurrences}
 use Rattle.rr_model.specs.declared.kind.Kind.TheVariants.{Days}
 use Rattle.rr_model.specs.declared.sketch.DayShape.{DayShape}
 use Rattle.rr_model.specs.declared.sketch.Sketch.{Sketch}
-use Rattle.rr_model.proofs.SecondsLemmas.{Contains-none}
+use Rattle.rr_model.proofs.RisingSetLemmas.{Contains-none}
 use Rattle.rr_word.proofs.SketchLemmas.{repeats}
 use Rattle.rr_word.proofs.WindowLemmas.{window_lasts}
 use Rattle.rr_model.specs.Sets.ExactlyOne.{HasOneLeastSketch, EachHasOneLeastSketch}

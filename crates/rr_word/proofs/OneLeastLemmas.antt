@@ -10,7 +10,7 @@ use Rattle.rr_model.specs.Sets.Verdict.{HaveEqualOccurrences}
 use Rattle.rr_model.specs.declared.kind.Kind.{Kind}
 use Rattle.rr_model.specs.declared.kind.Kind.TheVariants.{Days, Moments}
 use Rattle.rr_model.specs.declared.sketch.Sketch.{Sketch}
-use Rattle.rr_model.proofs.SecondsLemmas.{Contains-first, one_list}
+use Rattle.rr_model.proofs.SecondsLemmas.{first_of_some, one_list}
 use Rattle.rr_word.proofs.SketchLemmas.{rising_on, second_fits}
 use Rattle.rr_model.proofs.WholeLemmas.{floor_only}
 use Rattle.rr_model.specs.Sets.Least.{IsLeastPeriod, IsLeastStart, IsEndless, IsLeastOfEndless, IsLeastOfFinite, IsLeastOfNone, LeastSketchIsOne}
@@ -54,10 +54,6 @@ module _ (s u : Sketch) (vs : IsValidSketch s) (vu : IsValidSketch u) (equal : H
       let here : StandsIn s s.kind t = record { kind = refl; second = rw (parts.0, parts.1) c } in
       let there = (equal s.kind t).0 here in
       (there.kind, rw (parts.0, parts.1) at there.second)
-
-pub first_of_some : (xs : List ℕ) → (xs ≡ [] → ⊥) → Contains xs (get_or xs 0 0)
-first_of_some [] some = absurd (some refl)
-first_of_some (x ∷ xs) some = Contains-first x xs
 
 swapped : (s u : Sketch) → HaveEqualOccurrences (StandsIn s) (StandsIn u) → HaveEqualOccurrences (StandsIn u) (StandsIn s)
 swapped s u equal k t = ((equal k t).1, (equal k t).0)

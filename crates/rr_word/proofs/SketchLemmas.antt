@@ -15,7 +15,7 @@ use Rattle.rr_model.specs.declared.kind.Kind.TheVariants.{Days, Moments}
 use Rattle.rr_model.specs.declared.sketch.DayShape.{DayShape}
 use Rattle.rr_model.specs.declared.sketch.Sketch.{Sketch}
 use Rattle.rr_model.proofs.PeriodicLemmas.{agreement_lasts}
-use Rattle.rr_model.proofs.SecondsLemmas.{Contains-cases, Contains-none}
+use Rattle.rr_model.proofs.RisingSetLemmas.{Contains-cons_cases, Contains-none}
 use Rattle.rr_word.proofs.WindowLemmas.{RepeatsFrom-later, RepeatsFrom-multiple, window_lasts}
 
 set_in : (k : Kind) (ss : List DayShape) (d : ℤ) → All (λ x. IsTimeSet k x.times) ss → (times_in ss d ≡ []) ⊎ IsTimeSet k (times_in ss d)
@@ -48,7 +48,7 @@ rising_on s d v =
 
 fits_in_set : (k : Kind) (xs : List ℕ) (x : ℕ) → IsTimeSet k xs → Contains xs x → (x < 86_400) × (k ≡ Days → x ≡ 0)
 fits_in_set Days xs x e c =
-    elim (Contains-cases 0 x [] (subst (λ (l : List ℕ). Contains l x) e c)) [
+    elim (Contains-cons_cases 0 [] x (subst (λ (l : List ℕ). Contains l x) e c)) [
       | inl z ↦ (omega arith, λ _. sym z)
       | inr more ↦ absurd (Contains-none x more)
     ]

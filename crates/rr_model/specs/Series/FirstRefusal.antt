@@ -1,5 +1,5 @@
 -- Which refusal a command gives for a series that was read: the first in one order for all commands (RFC 5545, section 3.8.5).
-use Rattle.std.specs.Prelude.{◌≡◌, ◌⊎◌, ℕ, ◌<◌, Bool, IsTrue, Option, None, Some, ℤ}
+use Rattle.std.specs.Prelude.{◌≡◌, ◌⊎◌, ◌<◌, Bool, IsTrue, Option, None, Some, ℤ}
 use Rattle.rr_model.specs.Series.Cycle.{series_cycle}
 use Rattle.rr_model.specs.Series.Limits.{IsCountedTooFar, IsTooManyMoments}
 use Rattle.rr_model.specs.Series.Settled.{IsSettledDay}

@@ -1,9 +1,9 @@
 -- What a list of dates or moments states: one on each line, rising.
-use Rattle.std.specs.Prelude.{ℕ, ◌+◌, nat_le, Bool, true, false, if◌then◌else◌, ℤ, pos, int_lt, List, [], ◌∷◌, Option, None, Some, ok_or, Result, Ok, Err}
+use Rattle.std.specs.Prelude.{ℕ, ◌+◌, nat_le, true, false, if◌then◌else◌, ℤ, pos, int_lt, List, [], ◌∷◌, Option, None, Some, ok_or, Result, Ok, Err}
 use Rattle.std.specs.Str.{is_utf8}
 use Rattle.rr_model.specs.Moment.{is_same_kind}
 use Rattle.rr_model.specs.Rising.{with_value}
-use Rattle.rr_model.specs.declared.kind.Kind.TheVariants.{Days, Moments}
+use Rattle.rr_model.specs.declared.kind.Kind.TheVariants.{Days}
 use Rattle.rr_model.specs.declared.rule.Series.{Series}
 use Rattle.rr_model.specs.declared.stamp.Stamp.{Stamp}
 use Rattle.rr_model.specs.Text.RuleValues.{◌>>=◌}

@@ -1,6 +1,6 @@
 -- How the used lines of an event are read: a first pass judges each line alone, a second one judges moments beside the start
 -- (RFC 5545, sections 3.3.5, 3.8.2.4, 3.8.5.1, 3.8.5.2; vCalendar 1.0, the same properties).
-use Rattle.std.specs.Prelude.{ℕ, ◌+◌, ◌==◌, nat_le, Bool, true, false, not, ◌&&◌, if◌then◌else◌, ℤ, pos, neg_ℤ, ◌+ℤ◌, int_le, int_lt, List, [], ◌∷◌, ◌++◌, Option, None, Some, ok_or, Result, Ok, Err}
+use Rattle.std.specs.Prelude.{ℕ, ◌+◌, ◌==◌, nat_le, Bool, true, false, not, ◌&&◌, if◌then◌else◌, ℤ, ◌+ℤ◌, int_lt, List, [], ◌∷◌, ◌++◌, Option, None, Some, ok_or, Result, Ok, Err}
 use Rattle.std.specs.List.{list_any, slice_split}
 use Rattle.std.specs.Option.{is_some}
 use Rattle.rr_model.specs.Text.Moments.{basic}

@@ -1,7 +1,7 @@
 use Rattle.std.proofs.Common.{◌≡◌, false, sym, ◌∙◌}
 use Rattle.std.proofs.lemmas.Bool.{false≢true}
 use Rattle.rr_decide.specs.Question.{shown_by}
-use Rattle.rr_decide.proofs.MergeLemmas.{empty_shows_none, first_shown_behind, none_shown, shown_here}
+use Rattle.rr_decide.proofs.MergeLemmas.{empty_shows_none, first_shown_after, none_shown, shown_here}
 use Rattle.rr_decide.proofs.merge.first_shown.Goals as goal
 
 pub returns-then-is_shown_by : goal.returns-then-is_shown_by
@@ -17,7 +17,7 @@ loop-next-preserved c =
       c.in-Some.ensures.first_rises,
       c.in-Some.ensures.second_rises,
       (λ none. c.loop-next.invariant.2 (none_shown (shown_by c.args.question) c.loop-next.rest_a.now c.loop-next.rest_b.now n.second n.side n.xs.now n.ys.now c.in-Some.ensures (λ t. false≢true (sym hidden ∙ t)) none)),
-      (λ w r first. c.loop-next.invariant.3 w r (first_shown_behind (shown_by c.args.question) c.loop-next.rest_a.now c.loop-next.rest_b.now n.second n.side n.xs.now n.ys.now c.in-Some.ensures (λ t. false≢true (sym hidden ∙ t)) w r first)),
+      (λ w r first. c.loop-next.invariant.3 w r (first_shown_after (shown_by c.args.question) c.loop-next.rest_a.now c.loop-next.rest_b.now n.second n.side n.xs.now n.ys.now c.in-Some.ensures (λ t. false≢true (sym hidden ∙ t)) w r first)),
     )
 
 pub returns : goal.returns
