@@ -1,3 +1,4 @@
+mod SketchExamples
 pub mod SplittingLemmas
 pub mod TextLemmas
 pub mod DescriptorLemmas

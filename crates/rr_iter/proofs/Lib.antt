@@ -3,4 +3,5 @@ pub mod DayListLemmas
 pub mod StepLemmas
 pub mod FineLemmas
 pub mod RulesLemmas
+mod SeriesExamples
 mod TreeExamples

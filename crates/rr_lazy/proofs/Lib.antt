@@ -1,3 +1,4 @@
+mod CountingExamples
 pub mod CountingLemmas
 pub mod TreeLemmas
 pub mod FirstLemmas
