@@ -1,3 +1,4 @@
+mod SoundnessExamples
 mod LoopLemmas
 mod PartLemmas
 mod RefusalLemmas

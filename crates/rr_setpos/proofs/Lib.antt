@@ -1,3 +1,4 @@
+mod PartsExamples
 pub mod ChoiceLemmas
 pub mod DayLemmas
 pub mod RankLemmas
