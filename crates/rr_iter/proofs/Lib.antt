@@ -5,3 +5,5 @@ pub mod FineLemmas
 pub mod RulesLemmas
 mod SeriesExamples
 mod TreeExamples
+pub mod RepeatLemmas
+pub mod CountedFarLemmas

@@ -10,3 +10,5 @@ mod ManyLemmas
 pub mod KindLemmas
 pub mod CycleCountLemmas
 pub mod PastLemmas
+pub mod MemberCountLemmas
+pub mod AgreeLemmas
