@@ -7,3 +7,5 @@ mod SeriesExamples
 mod TreeExamples
 pub mod RepeatLemmas
 pub mod CountedFarLemmas
+pub mod SeriesTreeLemmas
+pub mod SeriesRepeatLemmas

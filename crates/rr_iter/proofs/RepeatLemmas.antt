@@ -69,7 +69,7 @@ module _ (rule : Rule) (kind : Kind) (start : ℤ) where
         ((members_agree rule kind start (moment_at kind d s) in_years fits).0 i, day)
 
     -- nothing stands in the tree of a rule that has ended
-    none_ended : (settled d : ℤ) (s : ℕ) → ((t : ℤ) → IsMember rule kind start t → day_part kind t <ℤ settled) → settled ≤ℤ d
+    pub none_ended : (settled d : ℤ) (s : ℕ) → ((t : ℤ) → IsMember rule kind start t → day_part kind t <ℤ settled) → settled ≤ℤ d
         → stands_at (members_of kind start rule) d s ≡ false
     none_ended settled d s before l = false_from_ne_true (stands_at (members_of kind start rule) d s) (λ e.
       (let m = member_at d s e in
