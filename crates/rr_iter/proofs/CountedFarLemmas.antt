@@ -40,7 +40,9 @@ HasMemberFrom rule kind start from = (t : ℤ) × (from ≤ℤ day_part kind t) 
 abbrev pub HasSecondFrom : Tree → ℤ → Type 0
 HasSecondFrom tree from = (d : ℤ) × (s : ℕ) × (from ≤ℤ d) × (stands_at tree d s ≡ true)
 
-module _ (rule : Rule) (kind : Kind) (start : ℤ) (count : ℕ) (in_years : IsInYears kind start) (counts : rule.end ≡ Count count) (from : ℤ) (begun : IsFromYearOne from) where
+module _
+    (rule : Rule) (kind : Kind) (start : ℤ) (count : ℕ) (in_years : IsInYears kind start) (counts : rule.end ≡ Count count)
+    (from : ℤ) (begun : IsFromYearOne from) where
   abbrev chosen : Tree
   chosen = chosen_of rule kind start
 
@@ -50,7 +52,7 @@ module _ (rule : Rule) (kind : Kind) (start : ℤ) (count : ℕ) (in_years : IsI
   fits : EndsNotBefore kind start rule.end
   fits = subst (EndsNotBefore kind start) (sym counts) tt
 
-  -- it has a member from the day on exactly where it has fewer chosen moments before the day than it counts, and one from the day on
+  -- it has a member from the day on exactly where fewer chosen moments lie before the day than it counts, and one from the day on
   pub counted_from_on : HasMemberFrom rule kind start from ↔ ((count_before (λ x y. stands_at chosen x y) from < count) × HasSecondFrom chosen from)
   counted_from_on = (
     λ m. (
@@ -80,7 +82,9 @@ many_cycles : (m c : ℕ) → 1 ≤ c → m ≤ m * c
 many_cycles m (suc c) l = omega arith
 many_cycles m zero l = absurd (omega arith)
 
-module _ (rule : Rule) (kind : Kind) (start : ℤ) (in_years : IsInYears kind start) (valid : IsValidRule kind rule) (synchronised : IsSynchronised rule kind start) where
+module _
+    (rule : Rule) (kind : Kind) (start : ℤ) (in_years : IsInYears kind start) (valid : IsValidRule kind rule)
+    (synchronised : IsSynchronised rule kind start) where
   -- a rule that chooses its start chooses a moment from any day on
   pub chosen_from : (from : ℤ) → HasSecondFrom (chosen_of rule kind start) from
   chosen_from from =
@@ -94,7 +98,8 @@ module _ (rule : Rule) (kind : Kind) (start : ℤ) (in_years : IsInYears kind st
 
   -- so a rule with COUNT counts too far exactly where fewer of its chosen moments lie within the span than it counts
   pub counts_too_far : (count : ℕ) → rule.end ≡ Count count
-      → CountsTooFar kind start rule ↔ (count_before (λ x y. stands_at (chosen_of rule kind start) x y) (day_part kind start +ℤ pos (MAX_SPAN_DAYS + 1)) < count)
+      → CountsTooFar kind start rule
+      ↔ (count_before (λ x y. stands_at (chosen_of rule kind start) x y) (day_part kind start +ℤ pos (MAX_SPAN_DAYS + 1)) < count)
   counts_too_far count e =
       let from : ℤ = day_part kind start +ℤ pos (MAX_SPAN_DAYS + 1) in
       let c = counted_from_on rule kind start count in_years e from (omega (arith, ints, in_years.0)) in

@@ -87,7 +87,8 @@ module _ (kind : Kind) (start settled : ℤ) where
         let m = lcm_is (endless_cycle rule.end rule) (rules_cycle rules) some rest_some in
         let fits = (All-head (FitsStart kind start) rule rules fit).end in
         let first = rule_repeats rule rule.end refl v fits (All-head HasEnded rule rules before) (dvd_trans _ m.0 div) in
-        let rest = rules_repeat rules rest_valid (All-tail (FitsStart kind start) rule rules fit) (All-tail HasEnded rule rules before) (dvd_trans _ m.1 div) in
+        let rest_fit = All-tail (FitsStart kind start) rule rules fit in
+        let rest = rules_repeat rules rest_valid rest_fit (All-tail HasEnded rule rules before) (dvd_trans _ m.1 div) in
         rw (first, rest) refl
 
 -- ---- dates

@@ -63,7 +63,8 @@ module _ (v : ℤ) where
       subst (λ y. Contains xs y ⊎ (v ≡ y)) e all
 
 -- the start, where it counts, or a date that is added
-dates_are : (b : Bool) (plus : List ℤ) (start t : ℤ) → Contains (if b then with_value int_lt plus start else plus) t ↔ (((b ≡ true) × (t ≡ start)) ⊎ Contains plus t)
+dates_are : (b : Bool) (plus : List ℤ) (start t : ℤ)
+    → Contains (if b then with_value int_lt plus start else plus) t ↔ (((b ≡ true) × (t ≡ start)) ⊎ Contains plus t)
 dates_are true plus start t = (
     λ c. elim (only start plus t c) [ inl d ↦ inr d | inr e ↦ inl (refl, sym e) ],
     λ m. elim m [ inl h ↦ subst (Contains (with_value int_lt plus start)) (sym h.1) (has_own start plus) | inr d ↦ keeps start plus t d ])

@@ -95,7 +95,8 @@ module _ (rule : Rule) (kind : Kind) (start t : ℤ) (in_years : IsInYears kind 
 
   -- exactly the members stand in the tree of a rule with this end
   pub agree : (end : End) → EndsNotBefore kind start end
-      → (stands_in (ended kind end chosen) kind t ≡ true) ↔ (IsTrue (is_chosen rule kind start t) × (start ≤ℤ t) × IsWithinEnd end kind t (members_to rule kind start t))
+      → (stands_in (ended kind end chosen) kind t ≡ true)
+      ↔ (IsTrue (is_chosen rule kind start t) × (start ≤ℤ t) × IsWithinEnd end kind t (members_to rule kind start t))
   agree Never f = (λ h. (let p = parts h in (p.0, p.1, tt)), λ m. whole m.0 m.1)
   agree (Until other at) f = (
       λ h. (let g = (agree_upto at).0 h in (g.0, g.1, (f.0, g.2))),
