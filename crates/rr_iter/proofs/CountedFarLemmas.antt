@@ -65,7 +65,8 @@ module _
         let x = first_from_on chosen count from begun h.0 h.1.0 h.1.1 h.1.2 h.1.3 in
         let j : stands_at (members_of kind start rule) x.0 x.1 ≡ true = subst (λ t. stands_at t x.0 x.1 ≡ true) (sym same) x.3 in
         let m = member_at rule kind start in_years fits x.0 x.1 j in
-        (_, omega (arith, ints, m.1, x.2), m.0)))
+        (_, omega (arith, ints, m.1, x.2), m.0)),
+  )
 
 -- ---- chosen moments far on
 
@@ -102,9 +103,10 @@ module _
       ↔ (count_before (λ x y. stands_at (chosen_of rule kind start) x y) (day_part kind start +ℤ pos (MAX_SPAN_DAYS + 1)) < count)
   counts_too_far count e =
       let from : ℤ = day_part kind start +ℤ pos (MAX_SPAN_DAYS + 1) in
-      let c = counted_from_on rule kind start count in_years e from (omega (arith, ints, in_years.0)) in
-      (λ f. (c.0 (f.1.0, omega (arith, ints, f.1.1), f.1.2)).0,
-       λ few. (let m = c.1 (few, chosen_from from) in (subst Counts (sym e) tt, (m.0, omega (arith, ints, m.1), m.2))))
+      let c = counted_from_on rule kind start count in_years e from (omega (arith, ints, in_years.0)) in (
+        λ f. (c.0 (f.1.0, omega (arith, ints, f.1.1), f.1.2)).0,
+        λ few. (let m = c.1 (few, chosen_from from) in (subst Counts (sym e) tt, (m.0, omega (arith, ints, m.1), m.2))),
+      )
 
 -- ---- a rule with COUNT and UNTIL
 

@@ -29,13 +29,13 @@ moment_later : (kind : Kind) (d : ℤ) (n s : ℕ) → moment_at kind (d +ℤ po
 moment_later Days d n s = refl
 moment_later Moments d n s = omega (arith, ints)
 
+-- a moment comes before each second of a later day
+pub before_later_day : (kind : Kind) (t d : ℤ) (s : ℕ) → day_part kind t <ℤ d → t <ℤ moment_at kind d s
+before_later_day Days t d s l = l
+before_later_day Moments t d s l = omega (arith, ints, l, floor_whole t 86_400 (omega arith), floor_mod_below t 86_400 (omega arith))
+
 after_start : (kind : Kind) (start d : ℤ) (s : ℕ) → day_part kind start <ℤ d → int_le start (moment_at kind d s) ≡ true
-after_start Days start d s l = grind (arith, ints)
-after_start Moments start d s l =
-    let w = floor_whole start 86_400 (omega arith) in
-    let low = floor_mod_below start 86_400 (omega arith) in
-    let m : start ≤ℤ moment_at Moments d s = omega (arith, ints, w, low, l) in
-    grind (arith, ints)
+after_start kind start d s l = let m = before_later_day kind start d s l in grind (arith, ints)
 
 module _ (rule : Rule) (kind : Kind) (start : ℤ) where
   -- after its start's day a rule chooses the same seconds as a multiple of its cycle later
@@ -72,6 +72,6 @@ module _ (rule : Rule) (kind : Kind) (start : ℤ) where
     pub none_ended : (settled d : ℤ) (s : ℕ) → ((t : ℤ) → IsMember rule kind start t → day_part kind t <ℤ settled) → settled ≤ℤ d
         → stands_at (members_of kind start rule) d s ≡ false
     none_ended settled d s before l = false_from_ne_true (stands_at (members_of kind start rule) d s) (λ e.
-      (let m = member_at d s e in
-       let early = before (moment_at kind d s) m.0 in
-       absurd (omega (arith, ints, early, m.1, l))))
+        (let m = member_at d s e in
+        let early = before (moment_at kind d s) m.0 in
+        absurd (omega (arith, ints, early, m.1, l))))

@@ -20,17 +20,15 @@ use Rattle.rr_model.specs.Series.Soundness.{EndsNotBefore, FitsStart}
 use Rattle.rr_model.specs.Series.Tree.{ended, members_of, members_of_all, dates_with_start}
 use Rattle.rr_model.specs.Sets.Tree.{chosen_of, has_second, is_among, stands_at, some_stands_at}
 use Rattle.rr_model.specs.declared.kind.Kind.{Kind}
-use Rattle.rr_model.specs.declared.kind.Kind.TheVariants.{Days, Moments}
 use Rattle.rr_model.specs.declared.rule.End.{End}
 use Rattle.rr_model.specs.declared.rule.End.TheVariants.{Never, Until, Count, Both}
 use Rattle.rr_model.specs.declared.rule.Rule.{Rule}
 use Rattle.rr_model.specs.declared.rule.Series.{Series}
 use Rattle.rr_model.proofs.RisingLemmas.{All-with_value}
-use Rattle.rr_model.proofs.WholeLemmas.{floor_whole, floor_mod_below}
 use Rattle.rr_num.proofs.DivisorLemmas.{lcm_is}
 use Rattle.rr_check.proofs.SeriesCycleLemmas.{endless_cycle_some, rules_cycle_some}
 use Rattle.rr_lazy.proofs.StretchLemmas.{day_mono}
-use Rattle.rr_iter.proofs.RepeatLemmas.{chosen_later, none_ended}
+use Rattle.rr_iter.proofs.RepeatLemmas.{before_later_day, chosen_later, none_ended}
 
 -- ---- rules
 
@@ -93,17 +91,13 @@ module _ (kind : Kind) (start settled : ℤ) where
 
 -- ---- dates
 
-early_moment : (kind : Kind) (x d : ℤ) (s : ℕ) → day_part kind x <ℤ d → x <ℤ moment_at kind d s
-early_moment Days x d s l = l
-early_moment Moments x d s l = omega (arith, ints, l, floor_whole x 86_400 (omega arith), floor_mod_below x 86_400 (omega arith))
-
 -- no date stands from the day on
 none_dates : (kind : Kind) (settled : ℤ) (dates : List ℤ) (d : ℤ) (s : ℕ) → LieBefore kind settled dates → settled ≤ℤ d → is_among kind dates d s ≡ false
 none_dates kind settled dates d s before l =
     let none : list_any (λ x. int_eq x (moment_at kind d s)) dates ≡ false = list_any_none (λ x. int_eq x (moment_at kind d s)) dates (λ k x h. (
-      let m = early_moment kind (get_or dates k x) d s (omega (arith, ints, before k x h, l)) in
-      let e : int_lt (get_or dates k x) (moment_at kind d s) ≡ true = grind (arith, ints) in
-      rw e refl)) in
+    let m = before_later_day kind (get_or dates k x) d s (omega (arith, ints, before k x h, l)) in
+    let e : int_lt (get_or dates k x) (moment_at kind d s) ≡ true = grind (arith, ints) in
+    rw e refl)) in
     and_right (has_second kind s) _ none
 
 -- nor one of the dates with the start

@@ -32,7 +32,8 @@ members_of_some (rule ∷ rules) kind start t y fit =
     let one = stands_in (members_of kind start rule) kind t in
     let others = some_stands_at (members_of_all kind start rules) (day_part kind t) (second_part kind t) in (
       λ h. elim (or_cases one others h) [ inl x ↦ inl (a.0 x) | inr x ↦ inr (b.0 x) ],
-      λ m. elim m [ inl x ↦ or_left one others (a.1 x) | inr x ↦ or_right one others (b.1 x) ])
+      λ m. elim m [ inl x ↦ or_left one others (a.1 x) | inr x ↦ or_right one others (b.1 x) ],
+    )
 
 -- ---- dates
 
@@ -66,8 +67,9 @@ module _ (v : ℤ) where
 dates_are : (b : Bool) (plus : List ℤ) (start t : ℤ)
     → Contains (if b then with_value int_lt plus start else plus) t ↔ (((b ≡ true) × (t ≡ start)) ⊎ Contains plus t)
 dates_are true plus start t = (
-    λ c. elim (only start plus t c) [ inl d ↦ inr d | inr e ↦ inl (refl, sym e) ],
-    λ m. elim m [ inl h ↦ subst (Contains (with_value int_lt plus start)) (sym h.1) (has_own start plus) | inr d ↦ keeps start plus t d ])
+  λ c. elim (only start plus t c) [ inl d ↦ inr d | inr e ↦ inl (refl, sym e) ],
+  λ m. elim m [ inl h ↦ subst (Contains (with_value int_lt plus start)) (sym h.1) (has_own start plus) | inr d ↦ keeps start plus t d ],
+)
 dates_are false plus start t = (λ c. inr c, λ m. elim m [ inl h ↦ absurd (false≢true h.0) | inr d ↦ d ])
 
 -- a date stands exactly where it is listed
@@ -126,5 +128,6 @@ module _ (series : Series) (t : ℤ) (sound : IsSound series) where
 
 pub tree_stands_for_series : TreeStandsForSeries
 tree_stands_for_series series k t sound = (
-    λ h. subst (λ x. Occurs series x t) (sym h.0) (stands series t sound (subst (λ x. stands_in (tree_of series) x t ≡ true) h.0 h.1)),
-    λ o. (o.kind, subst (λ x. stands_in (tree_of series) x t ≡ true) (sym o.kind) (occurring series t sound k o)))
+  λ h. subst (λ x. Occurs series x t) (sym h.0) (stands series t sound (subst (λ x. stands_in (tree_of series) x t ≡ true) h.0 h.1)),
+  λ o. (o.kind, subst (λ x. stands_in (tree_of series) x t ≡ true) (sym o.kind) (occurring series t sound k o)),
+)

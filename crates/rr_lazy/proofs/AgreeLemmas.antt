@@ -76,11 +76,13 @@ module _ (rule : Rule) (kind : Kind) (start t : ℤ) (in_years : IsInYears kind 
   -- those up to its end stand in a tree that ends
   agree_upto : (at : ℤ) → (stands_in (upto chosen kind at) kind t ≡ true) ↔ (IsTrue (is_chosen rule kind start t) × (start ≤ℤ t) × (t ≤ℤ at))
   agree_upto at = (
-      λ h. (let p = and_parts _ _ h in let q = parts p.0 in let u : int_le t at ≡ true = early p.1 in (q.0, q.1, omega (arith, ints, u))),
-      λ m. (let m2 : t ≤ℤ at = m.2 in late (whole m.0 m.1) (grind (arith, ints))))
+    λ h. (let p = and_parts _ _ h in let q = parts p.0 in let u : int_le t at ≡ true = early p.1 in (q.0, q.1, omega (arith, ints, u))),
+    λ m. (let m2 : t ≤ℤ at = m.2 in late (whole m.0 m.1) (grind (arith, ints))),
+  )
     where
       early : int_le (moment_at kind (day_part kind t) (second_part kind t)) at ≡ true → int_le t at ≡ true
       early h = let e = (moment_is kind t).1 in rw e at h
+
       late : stands_in chosen kind t ≡ true → int_le t at ≡ true → stands_in (upto chosen kind at) kind t ≡ true
       late c l = and_from (stands_in chosen kind t) _ c (rw (moment_is kind t).1 l)
 
@@ -99,22 +101,26 @@ module _ (rule : Rule) (kind : Kind) (start t : ℤ) (in_years : IsInYears kind 
       ↔ (IsTrue (is_chosen rule kind start t) × (start ≤ℤ t) × IsWithinEnd end kind t (members_to rule kind start t))
   agree Never f = (λ h. (let p = parts h in (p.0, p.1, tt)), λ m. whole m.0 m.1)
   agree (Until other at) f = (
-      λ h. (let g = (agree_upto at).0 h in (g.0, g.1, (f.0, g.2))),
-      λ m. (agree_upto at).1 (m.0, m.1, m.2.1))
+    λ h. (let g = (agree_upto at).0 h in (g.0, g.1, (f.0, g.2))),
+    λ m. (agree_upto at).1 (m.0, m.1, m.2.1),
+  )
   agree (Count count) f = (
-      λ h. (let p = and_parts _ _ h in let q = parts p.0 in
+    λ h. (let p = and_parts _ _ h in let q = parts p.0 in
         (q.0, q.1, within_count chosen count (count_is rule kind start t in_years q.1) p.1)),
-      λ m. and_from (stands_in chosen kind t) _ (whole m.0 m.1) (counted_within chosen count (count_is rule kind start t in_years m.1) m.2))
+    λ m. and_from (stands_in chosen kind t) _ (whole m.0 m.1) (counted_within chosen count (count_is rule kind start t in_years m.1) m.2),
+  )
   agree (Both other at count) f = (
-      λ h. (let p = and_parts _ _ h in let g = (agree_upto at).0 p.0 in
+    λ h. (let p = and_parts _ _ h in let g = (agree_upto at).0 p.0 in
         let c = upto_counts at g.1 g.2 ∙ count_is rule kind start t in_years g.1 in
         (g.0, g.1, (f.0, g.2, within_count (upto chosen kind at) count c p.1))),
-      λ m. (let c = upto_counts at m.1 m.2.1 ∙ count_is rule kind start t in_years m.1 in
-        and_from (stands_in (upto chosen kind at) kind t) _ ((agree_upto at).1 (m.0, m.1, m.2.1)) (counted_within (upto chosen kind at) count c m.2.2)))
+    λ m. (let c = upto_counts at m.1 m.2.1 ∙ count_is rule kind start t in_years m.1 in
+        and_from (stands_in (upto chosen kind at) kind t) _ ((agree_upto at).1 (m.0, m.1, m.2.1)) (counted_within (upto chosen kind at) count c m.2.2)),
+  )
 
 -- what stands in the tree of a rule are its members
 pub members_agree : (rule : Rule) (kind : Kind) (start t : ℤ) → IsInYears kind start → EndsNotBefore kind start rule.end
     → (stands_in (members_of kind start rule) kind t ≡ true) ↔ IsMember rule kind start t
 members_agree rule kind start t y f = let a = agree rule kind start t y rule.end f in (
   λ h. (let p = a.0 h in record { chosen = p.0; not_before = p.1; within_end = p.2 }),
-  λ m. a.1 (m.chosen, m.not_before, m.within_end))
+  λ m. a.1 (m.chosen, m.not_before, m.within_end),
+)

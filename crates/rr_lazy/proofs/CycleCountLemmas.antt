@@ -25,7 +25,7 @@ module _ (test : ℤ → ℕ → Bool) (q : ℤ) (c : ℕ) (repeats : (d : ℤ) 
       let at : (p +ℤ pos c) +ℤ pos n ≡ (p +ℤ pos n) +ℤ pos c = omega (arith, ints) in
       let same = seconds_alike (test ((p +ℤ pos n) +ℤ pos c)) (test (p +ℤ pos n)) 86_400 (λ s. repeats (p +ℤ pos n) s (omega (arith, ints, l))) in
       let day : count_seconds (test ((p +ℤ pos c) +ℤ pos n)) 86_400 ≡ count_seconds (test (p +ℤ pos n)) 86_400 =
-          ap (λ z. count_seconds (test z) 86_400) at ∙ same in
+      ap (λ z. count_seconds (test z) 86_400) at ∙ same in
       omega (arith, count_days-suc test (p +ℤ pos c) n, count_days-suc test p n, day, days_later p n l)
 
   -- k cycles have k times as many as one

@@ -152,7 +152,7 @@ module _ (rule : Rule) (kind : Kind) (start : ℤ) where
       let g : n ≡ m + k = omega (arith, ints, l, h, e) in
       let early : count_from stands b m ≡ 0 = count_none stands b m (λ u p q. before_start u (omega (arith, ints, f, q))) in
       let rest : count_from stands start k ≡ members_to rule kind start t =
-          count_same stands (is_chosen rule kind start) start k (λ u p q. from_start u p) in
+      count_same stands (is_chosen rule kind start) start k (λ u p q. from_start u p) in
       rw g (omega (arith, count_split stands b m k, early, rest, ap (λ z. count_from stands z k) f))
 
 -- 0001-01-01

@@ -53,7 +53,7 @@ first_standing tree q (suc n) = elim (first_standing tree q n) [
     | inr x ↦ inr (q +ℤ pos n, x.0, record { late = omega (arith, ints); stands = x.2; before = none; earlier = x.3 })
     | inl nothing ↦ inl (λ d s l h. by_lt_z {P = stands_at tree d s ≡ false} d (q +ℤ pos n) (λ m. none d s l m) (λ g.
         (let e : q +ℤ pos n ≡ d = omega (arith, ints, g, h) in
-         subst (λ x. stands_at tree x s ≡ false) e (none_at tree (q +ℤ pos n) nothing s))))
+        subst (λ x. stands_at tree x s ≡ false) e (none_at tree (q +ℤ pos n) nothing s))))
   ]
 ]
 
@@ -78,7 +78,7 @@ module _ (tree : Tree) (count : ℕ) (from : ℤ) (begun : first_day_of_year (po
   first_number d s f =
       let skip = before_skip stands from d begun f.late f.before in
       let none : count_seconds (stands_at tree d) s ≡ 0 =
-          seconds_skip (stands_at tree d) 0 s (omega arith) (λ r a b. f.earlier r b) ∙ count_seconds-zero (stands_at tree d) in
+      seconds_skip (stands_at tree d) 0 s (omega arith) (λ r a b. f.earlier r b) ∙ count_seconds-zero (stands_at tree d) in
       omega (arith, to_is stands d s, skip, none, one_more d s f.stands)
 
   -- fewer occurrences than the count before the day, and something from it on: so one of the first stands from it on
