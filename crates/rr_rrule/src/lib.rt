@@ -1,17 +1,20 @@
-//! Reads the text of a recurrence rule (RFC 5545, section 3.3.10).
+//! Reads calendar texts with their recurrence rules (RFC 5545, sections 3.3.10 and 3.8.5).
 #![tactic(auto)]
 
+mod calendar;
+mod first;
 mod laws;
 mod lists;
 mod numbers;
 mod parts;
-mod reading;
 mod rule;
+mod second;
+mod stated;
 mod values;
 mod words;
 
+pub use calendar::read;
 pub use laws::{case_does_not_matter, order_does_not_matter};
-pub use reading::{is_plain_text, read};
 
 #[cfg(test)]
 mod examples;

@@ -1,14 +1,9 @@
-// A rule of its parts, and the series of a start and a rule.
-ghost use Rattle.std.specs.Prelude.{◌≡◌, IfOk};
-ghost use Rattle.rr_model.specs.Answers.{Answers};
+// A rule of its parts.
+ghost use Rattle.std.specs.Prelude.{◌≡◌};
 ghost use Rattle.rr_model.specs.Rule.Validity.{has_place, has_part, takes_places, takes_week_numbers, takes_month_days, takes_year_days, is_allowed, takes_start};
-ghost use Rattle.rr_model.specs.Text.Rules.{end_of, rule_with, rule_of, has_time, needs_offset, series_of, series_with};
+ghost use Rattle.rr_model.specs.Text.Rules.{end_of, rule_with, rule_of};
 
-use rr_model::{
-    Dates, DayItems, End, Fault, Freq, Kind, NoMemory, Refusal, Rule, RuleParts, Rules, Series,
-    Stamp,
-};
-use std::alloc::Global;
+use rr_model::{DayItems, End, Freq, Kind, Refusal, Rule, RuleParts, Stamp};
 
 fn has_place(items: &DayItems) -> bool
     ensures { result ≡ has_place items.now }
@@ -66,7 +61,8 @@ fn is_allowed(rule: &Rule) -> bool
         && (has_part(rule) || rule.by_set_pos.is_empty())
 }
 
-fn takes_start(freq: Freq, kind: Kind) -> bool
+/// Whether a start of this kind takes a rule of the frequency.
+pub(crate) fn takes_start(freq: Freq, kind: Kind) -> bool
     ensures { result ≡ takes_start freq kind }
 {
     match (freq, kind) {
@@ -122,49 +118,4 @@ pub(crate) fn rule_of(line: u64, parts: RuleParts) -> Result<Rule, Refusal>
     } else {
         Err(Refusal::NotAllowed)
     }
-}
-
-// Whether UNTIL is a moment of UTC beside a start of local time.
-fn needs_offset(start: Stamp, until: Option<Stamp>) -> bool
-    ensures { result ≡ needs_offset start until }
-{
-    match until {
-        None => false,
-        Some(until) => until.utc && !start.utc && start.kind == Kind::Moments,
-    }
-}
-
-// The series of a start and its rule.
-fn series_of(alloc: Global, start: Stamp, rule: Rule) -> Result<Series, NoMemory>
-    ensures { IfOk result (λ series. series ≡ series_of start rule) }
-{
-    let mut rules = Rules::new(alloc);
-    rules.put(rule)?;
-    Ok(Series {
-        kind: start.kind,
-        start: start.at,
-        start_counts: true,
-        rules,
-        plus: Dates::new(alloc),
-        minus: Dates::new(alloc),
-    })
-}
-
-/// The series of a start and its rule, judged beside each other.
-#[tactic(auto, unfolding(rr_model::specs::Text::Rules::series_with))]
-pub(crate) fn series_with(
-    alloc: Global,
-    start: Stamp,
-    until: Option<Stamp>,
-    rule: Rule,
-) -> Result<Series, Fault>
-    ensures { Answers (series_with start until rule) result }
-{
-    if needs_offset(start, until) {
-        return Err(Fault::Refused(Refusal::UtcMoment));
-    }
-    if !takes_start(rule.freq, start.kind) {
-        return Err(Fault::Refused(Refusal::NotAllowed));
-    }
-    Ok(series_of(alloc, start, rule)?)
 }

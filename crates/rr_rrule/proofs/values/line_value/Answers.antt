@@ -5,4 +5,4 @@ use Rattle.rr_rrule.proofs.values.line_value.Goals as goal
 
 pub returns : goal.returns
 returns c =
-    c.in_ok-to_ascii_uppercase.ensures.ok ∙ ap str_to_ascii_uppercase c.trimmed.ensures ∙ trimmed_capitals c.args.text.now
+    c.in_ok-to_ascii_uppercase.ensures.ok ∙ ap str_to_ascii_uppercase c.trim.ensures ∙ trimmed_capitals c.args.text.now

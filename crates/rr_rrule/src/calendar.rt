@@ -1,0 +1,74 @@
+// Reads an iCalendar text (RFC 5545, sections 3.4 and 3.8.5).
+ghost use Rattle.std.specs.Prelude.{◌≡◌, IfOk};
+ghost use Rattle.rr_model.specs.Answers.{Answers};
+ghost use Rattle.rr_model.specs.Series.Validity.{IsValidSeries};
+ghost use Rattle.rr_model.specs.Text.Calendars.{series_of_event, calendar_scan, calendar_text, reads_calendar};
+
+use crate::first::first_pass;
+use crate::second::{Nearby, Setting, second_pass};
+use rr_ical::{event_lines, is_text, without_mark};
+use rr_model::{Fault, Refusal, Scan, Series, Stamp};
+use std::alloc::Global;
+
+// The series of a start, which counts, and what stands beside it.
+fn series_of(start: Stamp, beside: Nearby) -> Series
+    ensures { result ≡ series_of_event (record { start = start; beside = beside }) }
+{
+    Series {
+        kind: start.kind,
+        start: start.at,
+        start_counts: true,
+        rules: beside.rules,
+        plus: beside.plus,
+        minus: beside.minus,
+    }
+}
+
+// Both passes over the used lines of an event.
+fn read_scan(alloc: Global, offset: Option<i32>, scan: &Scan) -> Result<Series, Fault>
+    ensures { Answers (calendar_scan offset scan.now) result }
+{
+    let lines = scan.used.as_slice();
+    let pass = first_pass(alloc, lines)?;
+    if let Some(refusal) = scan.stop {
+        return Err(Fault::Refused(refusal));
+    }
+    let Some(start) = pass.start else {
+        return Err(Fault::Refused(Refusal::NoStart));
+    };
+    let beside = second_pass(alloc, Setting { offset, start }, lines)?;
+    Ok(series_of(start, beside))
+}
+
+#[tactic(auto, unfolding(rr_model::specs::Text::Calendars::calendar_text))]
+fn read_text(alloc: Global, offset: Option<i32>, text: &[u8]) -> Result<Series, Fault>
+    ensures { Answers (calendar_text offset text.now) result }
+{
+    let scan = event_lines(alloc, without_mark(text), false)?;
+    read_scan(alloc, offset, &scan)
+}
+
+/// Reads the series of the one event of an iCalendar text, or of a text without components (RFC 5545, section 3.8.5).
+///
+/// The offset is local time less UTC in seconds. It turns a moment of UTC that stands beside a start of local time;
+/// without it such a moment is refused. Used are DTSTART, the start, which counts, RRULE, RDATE and EXDATE; their
+/// parameters and all other lines are passed over, and so is one byte order mark. A text of more than `MAX_INPUT` bytes
+/// is read like any other.
+///
+/// The first fault is the refusal. `NotText` comes for bytes that are no UTF-8. Then line by line, from left to right,
+/// what `rr_ical::event_lines` refuses; of DTSTART `PartTwice`, `BadMoment`; of each value of RDATE or EXDATE
+/// `TooManyParts`, `PeriodValue` in RDATE, `BadMoment`; of RRULE `TooManyParts`, then the faults of its parts, then
+/// those of its parts together; of EXRULE `Extended`. At the end of the text `BadLine` for an open component, `NoStart`.
+/// Then line by line beside the start, of each date `MixedKinds`, of each date and UNTIL `UtcMoment` without an offset,
+/// `BadMoment` where the offset leaves the years 1 to 9999, and of a rule finer than DAILY beside a date `NotAllowed`.
+/// A refusal names the first physical line of the line at fault.
+#[tactic(auto, unfolding(rr_model::specs::Text::Calendars::reads_calendar))]
+pub fn read(alloc: Global, bytes: &[u8], offset: Option<i32>) -> Result<Series, Fault>
+    ensures answers { Answers (reads_calendar offset bytes.now) result }
+    ensures valid { IfOk result IsValidSeries }
+{
+    if !is_text(bytes) {
+        return Err(Fault::Refused(Refusal::NotText));
+    }
+    read_text(alloc, offset, bytes)
+}
