@@ -76,21 +76,21 @@ equal_answer_is_one a b x y p q =
     said_is_one p.of_a p.of_b x y p.is_said (rw (of_a, of_b) at q.is_said)
 
 -- a task over two texts has one answer
-said_of_task_is_one : (task : Task) (both : List ℕ × List ℕ) (x y : Answer) → IsSaid task both x → IsSaid task both y → x ≡ y
-said_of_task_is_one task.Equal both x y p q = equal_answer_is_one both.0 both.1 x y p q
-said_of_task_is_one task.Check both x y p q = p ∙ sym q
-said_of_task_is_one task.Within both x y p q = p ∙ sym q
-said_of_task_is_one task.Disjoint both x y p q = p ∙ sym q
-said_of_task_is_one task.Canon both x y p q = p ∙ sym q
-said_of_task_is_one (task.Translate target) both x y p q = p ∙ sym q
-said_of_task_is_one task.Infer both x y p q = p ∙ sym q
-said_of_task_is_one (task.List count) both x y p q = p ∙ sym q
-said_of_task_is_one (task.Drill seed count) both x y p q = p ∙ sym q
+said_of_task_is_one : (task : Task) (command : Command) (both : List ℕ × List ℕ) (x y : Answer) → IsSaid task command both x → IsSaid task command both y → x ≡ y
+said_of_task_is_one task.Equal command both x y p q = equal_answer_is_one both.0 both.1 x y p q
+said_of_task_is_one task.Check command both x y p q = p ∙ sym q
+said_of_task_is_one task.Within command both x y p q = p ∙ sym q
+said_of_task_is_one task.Disjoint command both x y p q = p ∙ sym q
+said_of_task_is_one task.Canon command both x y p q = p ∙ sym q
+said_of_task_is_one (task.Translate target) command both x y p q = p ∙ sym q
+said_of_task_is_one task.Infer command both x y p q = p ∙ sym q
+said_of_task_is_one (task.List count) command both x y p q = p ∙ sym q
+said_of_task_is_one (task.Drill seed count) command both x y p q = p ∙ sym q
 
-answer_of_is_one : (task : Task) (side : Option Side) (both : List ℕ × List ℕ) (x y : Answer) → IsAnswerOf task side both x → IsAnswerOf task side both y → x ≡ y
-answer_of_is_one task (Some side) both x y p q = p ∙ sym q
-answer_of_is_one task None both x y p q = said_of_task_is_one task both x y p q
+answer_of_is_one : (command : Command) (side : Option Side) (both : List ℕ × List ℕ) (x y : Answer) → IsAnswerOf command side both x → IsAnswerOf command side both y → x ≡ y
+answer_of_is_one command (Some side) both x y p q = p ∙ sym q
+answer_of_is_one command None both x y p q = said_of_task_is_one command.task command both x y p q
 
 pub answer_is_one : AnswerIsOne
 answer_is_one None both x y p q = p ∙ sym q
-answer_is_one (Some command) both x y p q = answer_of_is_one command.task (not_built command) both x y p q
+answer_is_one (Some command) both x y p q = answer_of_is_one command (not_built command) both x y p q

@@ -2,7 +2,6 @@ pub mod DailyTextParts
 pub mod IntervalText
 pub mod Reading
 pub mod AnswerLemmas
-pub mod CheckLemmas
 pub mod DailyLemmas
 pub mod WordLemmas
 pub mod WorkLemmas

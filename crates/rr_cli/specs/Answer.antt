@@ -3,11 +3,11 @@
 use Rattle.std.specs.Prelude.{◌≡◌, ℕ, Bool, not, nat_le, if◌then◌else◌, List, [], ◌∷◌, ◌++◌, codes, Option, Some, None, Result, Ok, Err}
 use Rattle.std.specs.Fmt.{decimal}
 use Rattle.std.specs.List.{list_any}
-use Rattle.rr_cli.specs.Command.{Command, not_built, usage_text}
+use Rattle.rr_cli.specs.Command.{Command, Operand, not_built, usage_text}
 use Rattle.rr_cli.specs.Daily.{DailySeries, IsDailyOccurrence}
 use Rattle.rr_cli.specs.DailyText.{IsDailyReading}
+use Rattle.rr_cli.specs.OperandReading.{operand_read}
 use Rattle.rr_model.specs.Text.Moments.{extended_text}
-use Rattle.rr_model.specs.Text.Rules.{is_plain_text, reads}
 use Rattle.rr_model.specs.Text.Refusals.{refusal_text}
 use Rattle.rr_model.specs.Rule.Validity.{is_absent}
 use Rattle.rr_model.specs.Series.Cycle.{series_cycle}
@@ -91,25 +91,25 @@ abbrev pub series_said : Result Series Refusal → Answer
 series_said (Err refusal) = refused A refusal
 series_said (Ok series) = if has_set_positions series then refused A NotBuilt else soundness_said (first_refusal series) (series_cycle series)
 
--- what is said of the bytes of an operand; other texts than those of two lines are not built yet
-unfoldable pub check_answer : List ℕ → Answer
-check_answer bytes = if is_plain_text bytes then series_said (reads bytes) else refused A NotBuilt
+-- what is said of an operand's bytes
+abbrev pub check_answer : Option Operand → List ℕ → Answer
+check_answer operand bytes = series_said (operand_read operand bytes)
 
--- what is said of the bytes of the operands, by what is asked
-abbrev pub IsSaid : Task → List ℕ × List ℕ → Answer → Type 0
-IsSaid task.Equal both answer = IsEqualAnswer both.0 both.1 answer
-IsSaid task.Check both answer = answer ≡ check_answer both.0
-IsSaid _ both answer = answer ≡ refused A NotBuilt
+-- what is said of the bytes of a command's operands, by what it asks
+abbrev pub IsSaid : Task → Command → List ℕ × List ℕ → Answer → Type 0
+IsSaid task.Equal command both answer = IsEqualAnswer both.0 both.1 answer
+IsSaid task.Check command both answer = answer ≡ check_answer command.a both.0
+IsSaid _ command both answer = answer ≡ refused A NotBuilt
 
 -- the refusal of the side that is not built, else what is said
-abbrev pub IsAnswerOf : Task → Option Side → List ℕ × List ℕ → Answer → Type 0
-IsAnswerOf task (Some side) both answer = answer ≡ refused side NotBuilt
-IsAnswerOf task None both answer = IsSaid task both answer
+abbrev pub IsAnswerOf : Command → Option Side → List ℕ × List ℕ → Answer → Type 0
+IsAnswerOf command (Some side) both answer = answer ≡ refused side NotBuilt
+IsAnswerOf command None both answer = IsSaid command.task command both answer
 
 -- what a command answers over the bytes of its operands
 abbrev pub IsAnswer : Option Command → List ℕ × List ℕ → Answer → Type 0
 IsAnswer None both answer = answer ≡ usage
-IsAnswer (Some command) both answer = IsAnswerOf command.task (not_built command) both answer
+IsAnswer (Some command) both answer = IsAnswerOf command (not_built command) both answer
 
 -- A command over its operands' bytes has one answer.
 abbrev pub AnswerIsOne : Type 0

@@ -3,6 +3,7 @@ pub mod Daily
 pub mod DailyText
 pub mod Answer
 pub mod Series
+pub mod OperandReading
 pub mod Outcome
 pub mod Parsed
 pub mod Printable

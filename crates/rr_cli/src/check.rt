@@ -1,16 +1,17 @@
 // What `check` says of an operand.
-ghost use Rattle.std.specs.Prelude.{◌≡◌, IfOk, Ok, true, false};
-ghost use Rattle.rr_model.specs.Text.Rules.{is_plain_text, reads};
+ghost use Rattle.std.specs.Prelude.{◌≡◌, IfOk, Ok, option_map, true, false};
 ghost use Rattle.rr_model.specs.Series.Validity.{IsValidSeries};
 ghost use Rattle.rr_model.specs.Series.Cycle.{series_cycle};
 ghost use Rattle.rr_cli.specs.Answer.{check_answer, cycle_said, has_set_positions, series_said};
 ghost use Rattle.rr_cli.specs.Outcome.{answer_of};
+ghost use Rattle.rr_cli.specs.Parsed.{operand_in};
 
+use crate::command::Operand;
 use crate::conclusion::Conclusion;
+use crate::operand::read_operand;
 use crate::outcome::{Outcome, refused};
 use rr_check::{Checked, admit, check};
 use rr_model::{Fault, NoMemory, Refusal, Series, Side};
-use rr_rrule::{is_plain_text, read};
 use std::alloc::Global;
 
 // Whether some rule has BYSETPOS.
@@ -50,14 +51,15 @@ fn series_outcome(alloc: Global, series: Series) -> Result<Outcome, NoMemory>
 
 /// What is said of an operand's bytes: why its text or its series is refused, or its cycle in days.
 ///
-/// Texts of another form than two lines, and set positions, are refused as NotBuilt.
-pub fn check_outcome(alloc: Global, bytes: &[u8]) -> Result<Outcome, NoMemory>
-    ensures { IfOk result (λ x. answer_of x ≡ check_answer bytes.now) }
+/// Set positions are refused as NotBuilt.
+pub fn check_outcome(
+    alloc: Global,
+    operand: Option<Operand>,
+    bytes: &[u8],
+) -> Result<Outcome, NoMemory>
+    ensures { IfOk result (λ x. answer_of x ≡ check_answer (option_map operand_in operand.entry) bytes.now) }
 {
-    if !is_plain_text(bytes) {
-        return refused(alloc, Side::A, Refusal::NotBuilt);
-    }
-    match read(alloc, bytes, None) {
+    match read_operand(alloc, operand, bytes) {
         Err(Fault::NoMemory) => Err(NoMemory),
         Err(Fault::Refused(refusal)) => refused(alloc, Side::A, refusal),
         Ok(series) => series_outcome(alloc, series),

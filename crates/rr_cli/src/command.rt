@@ -1,6 +1,6 @@
 // The commands of the program and their operands.
 ghost use Rattle.std.specs.Prelude.{◌≡◌, option_map};
-ghost use Rattle.rr_cli.specs.Command.{is_operand_built, is_task_built, not_built};
+ghost use Rattle.rr_cli.specs.Command.{is_form_built, is_language_built, is_operand_built, is_task_built, not_built};
 ghost use Rattle.rr_cli.specs.Parsed.{command_in, operand_in};
 
 use rr_model::Side;
@@ -75,13 +75,29 @@ fn is_task_built(task: Task) -> bool
     matches!(task, Task::Equal | Task::Check)
 }
 
-// Whether the texts of the operand can be read.
-fn is_operand_built(operand: Option<Operand>) -> bool
-    ensures { result ≡ is_operand_built (option_map operand_in operand.entry) }
+fn is_language_built(language: Language) -> bool
+    ensures { result ≡ is_language_built language }
+{
+    matches!(language, Language::Rrule | Language::List)
+}
+
+// Whether the task takes texts of the language beside this offset.
+fn is_form_built(task: Task, language: Language, offset: Option<i32>) -> bool
+    ensures { result ≡ is_form_built task language offset }
+{
+    match task {
+        Task::Equal => language == Language::Rrule && offset.is_none(),
+        _ => is_language_built(language),
+    }
+}
+
+// Whether the task takes the texts of the operand.
+fn is_operand_built(task: Task, operand: Option<Operand>) -> bool
+    ensures { result ≡ is_operand_built task (option_map operand_in operand.entry) }
 {
     match operand {
         None => true,
-        Some(operand) => operand.language == Language::Rrule && operand.offset.is_none(),
+        Some(operand) => is_form_built(task, operand.language, operand.offset),
     }
 }
 
@@ -90,9 +106,9 @@ fn is_operand_built(operand: Option<Operand>) -> bool
 pub fn not_built(command: Command) -> Option<Side>
     ensures { result ≡ not_built (command_in command.entry) }
 {
-    if !is_task_built(command.task) || !is_operand_built(command.a) {
+    if !is_task_built(command.task) || !is_operand_built(command.task, command.a) {
         Some(Side::A)
-    } else if !is_operand_built(command.b) {
+    } else if !is_operand_built(command.task, command.b) {
         Some(Side::B)
     } else {
         None

@@ -30,13 +30,13 @@ fn fetch<S: Source>(
     }
 }
 
-// What is said of the bytes of the operands.
-fn said(alloc: Global, task: Task, a: &[u8], b: &[u8]) -> Result<Outcome, NoMemory>
-    ensures { IfOk result (λ x. IsSaid task (a.now, b.now) (answer_of x)) }
+// What is said of the bytes of the command's operands.
+fn said(alloc: Global, command: Command, a: &[u8], b: &[u8]) -> Result<Outcome, NoMemory>
+    ensures { IfOk result (λ x. IsSaid command.entry.task (command_in command.entry) (a.now, b.now) (answer_of x)) }
 {
-    match task {
+    match command.task {
         Task::Equal => equal_outcome(alloc, a, b),
-        Task::Check => check_outcome(alloc, a),
+        Task::Check => check_outcome(alloc, command.a, a),
         _ => refused(alloc, Side::A, Refusal::NotBuilt),
     }
 }
@@ -58,5 +58,5 @@ pub fn work_out<S: Source>(
     }
     let a = fetch(alloc, command.a, source)?;
     let b = fetch(alloc, command.b, source)?;
-    Ok(said(alloc, command.task, a.as_slice(), b.as_slice())?)
+    Ok(said(alloc, command, a.as_slice(), b.as_slice())?)
 }

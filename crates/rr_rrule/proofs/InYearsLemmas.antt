@@ -1,5 +1,5 @@
--- A basic text states a moment of the years 1 to 9999.
-use Rattle.std.proofs.Common.{◌≡◌, ℕ, ◌+◌, ◌*◌, ◌<◌, ◌≤◌, ◌==◌, ◌&&◌, nat_le, Bool, true, false, if◌then◌else◌, refl, sym, Option, None, Some, List, length, take, drop, slice_index, option_map, ℤ, pos, ◌+ℤ◌, ◌≤ℤ◌, subst, arith}
+-- A basic text states a date or a moment of the years 1 to 9999, and only a moment is marked as UTC.
+use Rattle.std.proofs.Common.{◌≡◌, ℕ, ◌+◌, ◌*◌, ◌<◌, ◌≤◌, ◌==◌, ◌&&◌, nat_le, Bool, true, false, if◌then◌else◌, refl, sym, ap, ◌∙◌, Option, None, Some, List, length, take, drop, slice_index, option_map, ℤ, pos, ◌+ℤ◌, ◌≤ℤ◌, subst, arith}
 use Rattle.std.proofs.lemmas.Bool.{and_parts}
 use Rattle.std.proofs.lemmas.Bool.Decides.{nat_tests}
 use Rattle.std.proofs.lemmas.Int.{ints}
@@ -50,20 +50,57 @@ moment_of-in_years (Some day) (Some second) (Some utc) stamp day_in below h =
     let back : day_part Moments (moment_at Moments day second) ≡ day = day_part-moment_at day second (below second refl) in
     subst (λ (s : Stamp). IsInYears s.kind s.at) e (subst (IsInYears Days) (sym back) (day_in day refl))
 
+lettered : (b : Bool) (m : Option Stamp) (stamp : Stamp) → (if b then m else None) ≡ Some stamp → m ≡ Some stamp
+lettered true m stamp h = h
+lettered false m stamp h = absurd (cc)
+
 basic_moment-in_years : (text : List ℕ) (stamp : Stamp) → basic_moment text ≡ Some stamp → IsInYears stamp.kind stamp.at
 unfolding basic_moment
 basic_moment-in_years text stamp h =
     let e = lettered (is_letter_t (slice_index text 8)) _ stamp h in
     moment_of-in_years (basic_date (take 8 text)) (basic_time (take 6 (drop 9 text))) (utc_mark (drop 15 text)) stamp (basic_date-in_years (take 8 text)) (basic_time-below (take 6 (drop 9 text))) e
-  where
-    lettered : (b : Bool) (m : Option Stamp) (stamp : Stamp) → (if b then m else None) ≡ Some stamp → m ≡ Some stamp
-    lettered true m stamp h = h
-    lettered false m stamp h = absurd (cc)
 
-pub basic-in_years : (text : List ℕ) (stamp : Stamp) → basic text ≡ Some stamp → IsInYears stamp.kind stamp.at
+basic-in_years : (text : List ℕ) (stamp : Stamp) → basic text ≡ Some stamp → IsInYears stamp.kind stamp.at
 unfolding basic
 basic-in_years text stamp h =
     elim (length text == 8) as (λ b. (if b then option_map date_stamp (basic_date text) else basic_moment text) ≡ Some stamp → IsInYears stamp.kind stamp.at) [
       | true ↦ date_stamp-in_years (basic_date text) stamp (basic_date-in_years text)
       | false ↦ basic_moment-in_years text stamp
     ] h
+
+-- ---- the mark
+
+date_stamp-unmarked : (date : Option ℤ) (stamp : Stamp) → option_map date_stamp date ≡ Some stamp → stamp.utc ≡ true → stamp.kind ≡ Moments
+date_stamp-unmarked None stamp h utc = absurd (cc)
+date_stamp-unmarked (Some day) stamp h utc =
+    let e : date_stamp day ≡ stamp = cc in
+    let unmarked : false ≡ true = ap (λ (s : Stamp). s.utc) e ∙ utc in
+    absurd (cc)
+
+moment_of-kind : (date : Option ℤ) (time : Option ℕ) (mark : Option Bool) (stamp : Stamp) → moment_of date time mark ≡ Some stamp → stamp.kind ≡ Moments
+moment_of-kind None time mark stamp h = absurd (cc)
+moment_of-kind (Some day) None mark stamp h = absurd (cc)
+moment_of-kind (Some day) (Some second) None stamp h = absurd (cc)
+moment_of-kind (Some day) (Some second) (Some utc) stamp h =
+    let e : moment_stamp day second utc ≡ stamp = cc in
+    sym (ap (λ (s : Stamp). s.kind) e)
+
+basic_moment-kind : (text : List ℕ) (stamp : Stamp) → basic_moment text ≡ Some stamp → stamp.kind ≡ Moments
+unfolding basic_moment
+basic_moment-kind text stamp h =
+    moment_of-kind (basic_date (take 8 text)) (basic_time (take 6 (drop 9 text))) (utc_mark (drop 15 text)) stamp (lettered (is_letter_t (slice_index text 8)) _ stamp h)
+
+basic-marked : (text : List ℕ) (stamp : Stamp) → basic text ≡ Some stamp → stamp.utc ≡ true → stamp.kind ≡ Moments
+unfolding basic
+basic-marked text stamp h =
+    elim (length text == 8) as (λ b. (if b then option_map date_stamp (basic_date text) else basic_moment text) ≡ Some stamp → stamp.utc ≡ true → stamp.kind ≡ Moments) [
+      | true ↦ date_stamp-unmarked (basic_date text) stamp
+      | false ↦ λ e utc. basic_moment-kind text stamp e
+    ] h
+
+-- a date or a moment of the years 1 to 9999; only a moment is marked as UTC
+abbrev pub IsStamp : Stamp → Type 0
+IsStamp stamp = IsInYears stamp.kind stamp.at × (stamp.utc ≡ true → stamp.kind ≡ Moments)
+
+pub basic-stamp : (text : List ℕ) (stamp : Stamp) → basic text ≡ Some stamp → IsStamp stamp
+basic-stamp text stamp h = (basic-in_years text stamp h, basic-marked text stamp h)

@@ -12,3 +12,5 @@ mod ReadingLemmas
 mod RulePartLemmas
 mod PartOrderLemmas
 mod ReadsExamples
+mod PassLemmas
+mod BesideLemmas

@@ -8,19 +8,18 @@ use Rattle.rr_model.specs.Text.Rules.{split_once, name_of, is_present, with_part
 use Rattle.rr_model.specs.Text.RuleValues.{freq_named, weekday_named, number_up_to, unsigned, signed, seconds, numbers_of, day_items_of, pieces}
 use Rattle.rr_model.specs.Rule.Validity.{IsCount, LieFrom, CountUpTo, IsDayItem}
 use Rattle.rr_model.specs.Rising.{Rises, day_item_lt}
-use Rattle.rr_model.specs.Moment.Years.{IsInYears}
 use Rattle.rr_model.specs.declared.refusal.Refusal.TheVariants.{BadMoment, BadRule, PartTwice}
 use Rattle.rr_model.specs.declared.rule_parts.PartName.{PartName}
 use Rattle.rr_model.specs.declared.rule_parts.PartName.TheVariants as part
 use Rattle.rr_model.specs.declared.rule_parts.RuleParts.{RuleParts}
 use Rattle.rr_rrule.proofs.StepLemmas.{and_then_ok, ok_or_ok, step_keeps, not_refused}
-use Rattle.rr_rrule.proofs.InYearsLemmas.{basic-in_years}
+use Rattle.rr_rrule.proofs.InYearsLemmas.{IsStamp, basic-stamp}
 use Rattle.rr_rrule.proofs.ValidRisingLemmas.{numbers_of-rise, day_items_of-rise}
 use Rattle.rr_rrule.proofs.BoundsLemmas.{numbers_of-counts, numbers_of-lie, number_up_to-lies, weekday_named-below, day_items_of-means}
 
 -- the values of the parts that are present lie in their ranges, and rise without repeats
 pub record ArePartsValid (parts : RuleParts) : Type 0 where
-  pub until : IfSome parts.until (λ stamp. IsInYears stamp.kind stamp.at)
+  pub until : IfSome parts.until IsStamp
   pub count : IfSome parts.count IsCount
   pub interval : IfSome parts.interval (λ n. (1 ≤ n) × (n ≤ 4_294_967_295))
   pub week_start : IfSome parts.week_start (λ d. d < 7)
@@ -74,7 +73,7 @@ with_part_value-valid : (line : ℕ) (parts : RuleParts) (name : PartName) (text
 with_part_value-valid line parts part.Freq text more v =
     step_keeps ArePartsValid (ok_or (freq_named text) (BadRule line)) (λ x. record parts { freq = Some x }) more (λ x e. assumption)
 with_part_value-valid line parts part.Until text more v =
-    step_keeps ArePartsValid (ok_or (basic text) (BadMoment line)) (λ x. record parts { until = Some x }) more (λ x e. assumption (basic-in_years text x (ok_or_ok (basic text) _ x e)))
+    step_keeps ArePartsValid (ok_or (basic text) (BadMoment line)) (λ x. record parts { until = Some x }) more (λ x e. assumption (basic-stamp text x (ok_or_ok (basic text) _ x e)))
 with_part_value-valid line parts part.Count text more v =
     step_keeps ArePartsValid (number_up_to line 18_446_744_073_709_551_615 text) (λ x. record parts { count = Some x }) more (λ x e. assumption (number_up_to-lies line _ text x e))
 with_part_value-valid line parts part.Interval text more v =
@@ -105,7 +104,7 @@ unfolding with_part
 with_part-valid line parts text more v h =
     let sides = and_then_ok (ok_or (split_once 61 text) (BadRule line)) _ more h in
     let name = and_then_ok (name_of line sides.0.0) _ more sides.2 in
-    with_part_value-valid line parts name.0 sides.0.1 more v (not_refused (is_present parts name.0) (PartTwice line) _ more name.2)
+    with_part_value-valid line parts name.0 sides.0.1 more v (not_refused (is_present parts name.0) (PartTwice line) _ more name.2).1
 
 with_parts-valid : (line : ℕ) (parts : RuleParts) (texts : List (List ℕ)) (all : RuleParts) → ArePartsValid parts → with_parts line parts texts ≡ Ok all → ArePartsValid all
 with_parts-valid line parts [] all v h =

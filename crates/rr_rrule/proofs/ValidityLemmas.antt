@@ -1,33 +1,27 @@
--- What is read is valid.
-use Rattle.std.proofs.Common.{◌≡◌, ℕ, ◌<◌, ◌≤◌, Option, None, Some, List, [], Result, Ok, Err, subst, arith}
+-- A rule that is read is valid beside a start that it takes.
+use Rattle.std.proofs.Common.{◌≡◌, ℕ, ◌<◌, ◌≤◌, Option, None, Some, List, Ok, subst, sym, ap, ◌∙◌, arith}
 use Rattle.std.specs.Prelude.{IsTrue, unwrap_or, ok_or}
 use Rattle.std.specs.Option.{IfSome}
-use Rattle.std.specs.Result.{IfOk}
-use Rattle.std.proofs.lemmas.List.Elements.{All-nil, All-cons}
-use Rattle.rr_model.specs.Answers.{Answers}
-use Rattle.rr_model.specs.Text.Moments.{basic}
-use Rattle.rr_model.specs.Text.Rules.{end_of, rule_with, rule_of, needs_offset, series_of, series_with, line_value, values_of, start_of, rule_parts, reads_values, reads}
+use Rattle.rr_model.specs.Text.Passes.{Stated}
+use Rattle.rr_model.specs.Text.Calendars.{stated_rule}
+use Rattle.rr_model.specs.Text.Rules.{end_of, rule_with, rule_of, rule_parts}
 use Rattle.rr_model.specs.Rule.Validity.{IsCount, HasCountInRange, is_allowed, takes_start, IsValidRule, EndsInYears}
-use Rattle.rr_model.specs.Moment.Years.{IsInYears}
-use Rattle.rr_model.specs.Series.Validity.{IsValidSeries}
 use Rattle.rr_model.specs.declared.kind.Kind.{Kind}
-use Rattle.rr_model.specs.declared.refusal.Fault.{Fault}
-use Rattle.rr_model.specs.declared.refusal.Refusal.TheVariants.{BadMoment, BadRule, NotAllowed, UtcMoment, NotBuilt}
+use Rattle.rr_model.specs.declared.refusal.Refusal.TheVariants.{BadRule, NotAllowed}
 use Rattle.rr_model.specs.declared.rule.End.{End}
 use Rattle.rr_model.specs.declared.rule.End.TheVariants.{Never, Until, Count}
 use Rattle.rr_model.specs.declared.rule.Freq.{Freq}
 use Rattle.rr_model.specs.declared.rule.Rule.{Rule}
-use Rattle.rr_model.specs.declared.rule.Series.{Series}
 use Rattle.rr_model.specs.declared.rule_parts.RuleParts.{RuleParts}
 use Rattle.rr_model.specs.declared.stamp.Stamp.{Stamp}
-use Rattle.rr_rrule.proofs.StepLemmas.{and_then_ok, ok_or_ok, passed, not_refused, unwrap_or-keeps}
-use Rattle.rr_rrule.proofs.InYearsLemmas.{basic-in_years}
+use Rattle.rr_rrule.proofs.StepLemmas.{and_then_ok, passed, unwrap_or-keeps}
+use Rattle.rr_rrule.proofs.InYearsLemmas.{IsStamp}
 use Rattle.rr_rrule.proofs.ValidPartsLemmas.{ArePartsValid, rule_parts-valid}
 
 -- ---- the rule
 
 -- the COUNT of an end is in its range, and its UNTIL lies in the years 1 to 9999
-end_of-valid : (until : Option Stamp) (count : Option ℕ) (end : End) → IfSome until (λ stamp. IsInYears stamp.kind stamp.at) → IfSome count IsCount → end_of until count ≡ Ok end → HasCountInRange end × EndsInYears end
+end_of-valid : (until : Option Stamp) (count : Option ℕ) (end : End) → IfSome until IsStamp → IfSome count IsCount → end_of until count ≡ Ok end → HasCountInRange end × EndsInYears end
 end_of-valid None None end u c h =
     let e : Never ≡ end = cc in
     subst (λ x. HasCountInRange x × EndsInYears x) e (tt, tt)
@@ -36,11 +30,11 @@ end_of-valid None (Some n) end u c h =
     subst (λ x. HasCountInRange x × EndsInYears x) e (c, tt)
 end_of-valid (Some stamp) None end u c h =
     let e : Until stamp.kind stamp.at ≡ end = cc in
-    subst (λ x. HasCountInRange x × EndsInYears x) e (tt, u)
+    subst (λ x. HasCountInRange x × EndsInYears x) e (tt, u.0)
 end_of-valid (Some stamp) (Some n) end u c h = absurd (cc)
 
 -- the rule is valid beside a start that it takes
-abbrev IsValidBeside : Rule → Type 0
+abbrev pub IsValidBeside : Rule → Type 0
 IsValidBeside rule = ((kind : Kind) → IsTrue (takes_start rule.freq kind) → IsValidRule kind rule) × EndsInYears rule.end
 
 rule_with-valid : (freq : Freq) (end : End) (parts : RuleParts) → ArePartsValid parts → HasCountInRange end × EndsInYears end → IsTrue (is_allowed (rule_with freq end parts)) → IsValidBeside (rule_with freq end parts)
@@ -88,49 +82,34 @@ rule_of-valid line parts rule v h =
     let same : rule_with freq.0 end.0 parts ≡ rule = cc in
     subst IsValidBeside same (rule_with-valid freq.0 end.0 parts v (end_of-valid parts.until parts.count end.0 v.until v.count end.1) allowed.0)
 
--- ---- the series
+-- ---- the rule as its line states it
 
-series_of-valid : (start : Stamp) (rule : Rule) → IsInYears start.kind start.at → IsValidBeside rule → IsTrue (takes_start rule.freq start.kind) → IsValidSeries (series_of start rule)
-series_of-valid start rule in_years v taken = record {
-  start = in_years;
-  start_counts = λ e. absurd (cc);
-  rules = All-cons (IsValidRule start.kind) rule [] (v.0 start.kind taken) (All-nil _);
-  few_rules = omega arith;
-  ends = All-cons (λ r. EndsInYears r.end) rule [] v.1 (All-nil _);
-  plus = All-nil _;
-  minus = All-nil _;
-  plus_rises = tt;
-  minus_rises = tt;
-  few_dates = omega arith;
-}
+-- a moment of UNTIL is the rule's end
+abbrev pub FitsUntil : Option Stamp → End → Type 0
+FitsUntil None end = Unit {0}
+FitsUntil (Some stamp) end = IsStamp stamp × (end ≡ Until stamp.kind stamp.at)
 
-series_with-valid : (start : Stamp) (until : Option Stamp) (rule : Rule) (series : Series) → IsInYears start.kind start.at → IsValidBeside rule → series_with start until rule ≡ Ok series → IsValidSeries series
-unfolding series_with
-series_with-valid start until rule series in_years v h =
-    let local = not_refused (needs_offset start until) UtcMoment _ series h in
-    let taken = passed (takes_start rule.freq start.kind) (Ok (series_of start rule)) NotAllowed series local in
-    let same : series_of start rule ≡ series = cc in
-    subst IsValidSeries same (series_of-valid start rule in_years v taken.0)
+end_of-fits : (until : Option Stamp) (count : Option ℕ) (end : End) → IfSome until IsStamp → end_of until count ≡ Ok end → FitsUntil until end
+end_of-fits None count end u h = tt
+end_of-fits (Some stamp) None end u h =
+    let e : Until stamp.kind stamp.at ≡ end = cc in
+    (u, sym e)
+end_of-fits (Some stamp) (Some n) end u h = absurd (cc)
 
-start_of-valid : (line : ℕ) (text : List ℕ) (stamp : Stamp) → start_of line text ≡ Ok stamp → IsInYears stamp.kind stamp.at
-unfolding start_of
-start_of-valid line text stamp h = basic-in_years (line_value text) stamp (ok_or_ok (basic (line_value text)) (BadMoment line) stamp h)
+rule_of-fits : (line : ℕ) (parts : RuleParts) (rule : Rule) → IfSome parts.until IsStamp → rule_of line parts ≡ Ok rule → FitsUntil parts.until rule.end
+unfolding rule_of
+rule_of-fits line parts rule u h =
+    let freq = and_then_ok (ok_or parts.freq (BadRule line)) _ rule h in
+    let end = and_then_ok (end_of parts.until parts.count) _ rule freq.2 in
+    let allowed = passed (is_allowed (rule_with freq.0 end.0 parts)) (Ok (rule_with freq.0 end.0 parts)) NotAllowed rule end.2 in
+    let same : rule_with freq.0 end.0 parts ≡ rule = cc in
+    subst (λ (r : Rule). FitsUntil parts.until r.end) same (end_of-fits parts.until parts.count end.0 u end.1)
 
-reads_values-valid : (start rule : List ℕ) (series : Series) → reads_values start rule ≡ Ok series → IsValidSeries series
-reads_values-valid start rule series h =
-    let stamp = and_then_ok (start_of 1 start) _ series h in
-    let parts = and_then_ok (rule_parts 2 rule) _ series stamp.2 in
-    let known = and_then_ok (rule_of 2 parts.0) _ series parts.2 in
-    let valid = rule_of-valid 2 parts.0 known.0 (rule_parts-valid 2 rule parts.0 parts.1) known.1 in
-    series_with-valid stamp.0 parts.0.until known.0 series (start_of-valid 1 start stamp.0 stamp.1) valid known.2
-
-pub reads_valid : (bytes : List ℕ) (series : Series) → reads bytes ≡ Ok series → IsValidSeries series
-unfolding reads
-reads_valid bytes series h =
-    let values = and_then_ok (ok_or (values_of bytes) NotBuilt) _ series h in
-    reads_values-valid values.0.0 values.0.1 series values.2
-
--- so is what a call answers that takes memory
-pub answers_valid : (bytes : List ℕ) (r : Result Series Fault) → Answers (reads bytes) r → IfOk r IsValidSeries
-answers_valid bytes (Ok series) h = reads_valid bytes series h
-answers_valid bytes (Err fault) h = tt
+pub stated_rule-valid : (line : ℕ) (text : List ℕ) (stated : Stated Rule) → stated_rule line text ≡ Ok stated → IsValidBeside stated.rule × FitsUntil stated.until stated.rule.end
+unfolding stated_rule
+stated_rule-valid line text stated h =
+    let parts = and_then_ok (rule_parts line text) _ stated h in
+    let rule = and_then_ok (rule_of line parts.0) _ stated parts.2 in
+    let valid = rule_parts-valid line text parts.0 parts.1 in
+    let same : record { rule = rule.0; until = parts.0.until } ≡ stated = cc in
+    subst (λ (s : Stated Rule). IsValidBeside s.rule × FitsUntil s.until s.rule.end) same (rule_of-valid line parts.0 rule.0 valid rule.1, rule_of-fits line parts.0 rule.0 valid.until rule.1)

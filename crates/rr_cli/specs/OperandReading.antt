@@ -1,0 +1,26 @@
+-- What is read of the bytes of an operand: its series, or the refusal.
+use Rattle.std.specs.Prelude.{ℕ, nat_lt, if◌then◌else◌, ℤ, List, length, Option, Some, None, Result, Err}
+use Rattle.rr_cli.specs.Command.{Operand}
+use Rattle.rr_cli.specs.declared.command.Language.{Language}
+use Rattle.rr_cli.specs.declared.command.Language.TheVariants.{Rrule, List as list}
+use Rattle.rr_model.specs.Text.Calendars.{reads_calendar}
+use Rattle.rr_model.specs.Text.Lists.{reads_list}
+use Rattle.rr_model.specs.declared.limits.TheConstants.{MAX_INPUT}
+use Rattle.rr_model.specs.declared.refusal.Refusal.{Refusal}
+use Rattle.rr_model.specs.declared.refusal.Refusal.TheVariants.{TooLong, NotBuilt}
+use Rattle.rr_model.specs.declared.rule.Series.{Series}
+
+-- what the bytes state in this language, beside the stated offset from UTC in seconds, which a list does not use
+abbrev pub reads : Language → Option ℤ → List ℕ → Result Series Refusal
+reads Rrule offset bytes = reads_calendar offset bytes
+reads list offset bytes = reads_list bytes
+reads _ offset bytes = Err NotBuilt
+
+-- the same, where there are not too many bytes
+unfoldable pub reads_within : Language → Option ℤ → List ℕ → Result Series Refusal
+reads_within language offset bytes = if nat_lt MAX_INPUT (length bytes) then Err TooLong else reads language offset bytes
+
+-- the series of an operand; one that is absent states none
+abbrev pub operand_read : Option Operand → List ℕ → Result Series Refusal
+operand_read None bytes = Err NotBuilt
+operand_read (Some operand) bytes = reads_within operand.language operand.offset bytes

@@ -1,0 +1,61 @@
+// What is read of an operand.
+ghost use Rattle.std.specs.Prelude.{IfOk, option_map};
+ghost use Rattle.rr_model.specs.Answers.{Answers};
+ghost use Rattle.rr_model.specs.Series.Validity.{IsValidSeries};
+ghost use Rattle.rr_cli.specs.OperandReading.{operand_read, reads, reads_within};
+ghost use Rattle.rr_cli.specs.Parsed.{operand_in};
+
+use crate::command::{Language, Operand};
+use rr_ical::read_list;
+use rr_model::{Fault, MAX_INPUT, Refusal, Series};
+use std::alloc::Global;
+
+// The series of the bytes in this language; a list does not use the offset.
+fn read(
+    alloc: Global,
+    language: Language,
+    offset: Option<i32>,
+    bytes: &[u8],
+) -> Result<Series, Fault>
+    ensures answers { Answers (reads language offset bytes.now) result }
+    ensures valid { IfOk result IsValidSeries }
+{
+    match language {
+        Language::Rrule => rr_rrule::read(alloc, bytes, offset),
+        Language::List => read_list(alloc, bytes),
+        Language::Vcal | Language::Graph => Err(Fault::Refused(Refusal::NotBuilt)),
+    }
+}
+
+// The same, where there are not too many bytes.
+#[tactic(auto, unfolding(crate::specs::OperandReading::reads_within))]
+fn read_within(
+    alloc: Global,
+    language: Language,
+    offset: Option<i32>,
+    bytes: &[u8],
+) -> Result<Series, Fault>
+    ensures answers { Answers (reads_within language offset bytes.now) result }
+    ensures valid { IfOk result IsValidSeries }
+{
+    if bytes.len() > MAX_INPUT {
+        return Err(Fault::Refused(Refusal::TooLong));
+    }
+    read(alloc, language, offset, bytes)
+}
+
+/// The series of an operand, or why its text is refused: `TooLong` above `MAX_INPUT` bytes, then what the reader of its
+/// language refuses. A language that is not built, and no operand at all, are refused as NotBuilt.
+pub fn read_operand(
+    alloc: Global,
+    operand: Option<Operand>,
+    bytes: &[u8],
+) -> Result<Series, Fault>
+    ensures answers { Answers (operand_read (option_map operand_in operand.entry) bytes.now) result }
+    ensures valid { IfOk result IsValidSeries }
+{
+    match operand {
+        None => Err(Fault::Refused(Refusal::NotBuilt)),
+        Some(operand) => read_within(alloc, operand.language, operand.offset, bytes),
+    }
+}
