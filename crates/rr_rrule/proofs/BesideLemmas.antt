@@ -197,15 +197,15 @@ module _ (offset : Option ℤ) (start : Stamp) where
 
   -- ---- the series
 
-  pub event-valid : (lines : List UsedLine) (pass : FirstPass) (beside : Beside Rule) → first_pass rrule_language nothing_read lines ≡ Ok pass → pass.start ≡ Some start
-      → second_pass rrule_language (rule_beside offset start) offset start nothing_beside lines ≡ Ok beside → IsValidSeries (series_of_event (record { start = start; beside = beside }))
-  event-valid lines pass beside first is second =
+  event-valid : (lines : List UsedLine) (pass : FirstPass) (beside : Beside Rule) (series : Series) → first_pass rrule_language nothing_read lines ≡ Ok pass → pass.start ≡ Some start
+      → second_pass rrule_language (rule_beside offset start) offset start nothing_beside lines ≡ Ok beside → series_of_event (record { start = start; beside = beside }) ≡ series → IsValidSeries series
+  event-valid lines pass beside series first is second same =
       let sound = first_pass-sound rrule_language nothing_read lines pass (record { start = tt; few_rules = omega arith; few_dates = omega arith }) first in
       let in_years : IsStamp start = subst (λ (s : Option Stamp). IfSome s IsStamp) is sound.start in
       let counts = first_pass-counts rrule_language nothing_read lines pass first in
       let bounded = second_pass-bounded rrule_language (rule_beside offset start) offset start nothing_beside lines beside second in
       let v = second_pass-valid lines beside second in
-      record {
+      subst IsValidSeries same (record {
         start = in_years.0;
         start_counts = λ e. absurd (cc);
         rules = v.rules;
@@ -216,7 +216,7 @@ module _ (offset : Option ℤ) (start : Stamp) where
         plus_rises = v.plus_rises;
         minus_rises = v.minus_rises;
         few_dates = omega (arith, bounded.1, counts.1, sound.few_dates);
-      }
+      })
 
 not_stopped : {A : Type 0} (stop : Option Refusal) (x y : A) → unless_stopped stop x ≡ Ok y → x ≡ y
 not_stopped None x y h = cc
@@ -231,7 +231,7 @@ scan-valid offset scan series h =
     let beside = and_then_ok (second_pass rrule_language (rule_beside offset start.0) offset start.0 nothing_beside scan.used) _ event.0 start.2 in
     let same : series_of_event (record { start = start.0; beside = beside.0 }) ≡ series = cc in
     let first : first_pass rrule_language nothing_read scan.used ≡ Ok pass.0 = read.1 ∙ ap Ok (not_stopped scan.stop read.0 pass.0 pass.1) in
-    subst IsValidSeries same (event-valid offset start.0 scan.used pass.0 beside.0 first (ok_or_ok pass.0.start NoStart start.0 start.1) beside.1)
+    event-valid offset start.0 scan.used pass.0 beside.0 series first (ok_or_ok pass.0.start NoStart start.0 start.1) beside.1 same
 
 pub calendar-valid : (offset : Option ℤ) (bytes : List ℕ) (series : Series) → calendar_text offset bytes ≡ Ok series → IsValidSeries series
 unfolding calendar_text

@@ -1,5 +1,5 @@
 -- A basic text states a date or a moment of the years 1 to 9999, and only a moment is marked as UTC.
-use Rattle.std.proofs.Common.{◌≡◌, ℕ, ◌+◌, ◌*◌, ◌<◌, ◌≤◌, ◌==◌, ◌&&◌, nat_le, Bool, true, false, if◌then◌else◌, refl, sym, ap, ◌∙◌, Option, None, Some, List, length, take, drop, slice_index, option_map, ℤ, pos, ◌+ℤ◌, ◌≤ℤ◌, subst, arith}
+use Rattle.std.proofs.Common.{◌≡◌, ℕ, ◌+◌, ◌*◌, ◌<◌, ◌≤◌, ◌==◌, ◌&&◌, nat_le, Bool, true, false, if◌then◌else◌, refl, sym, ap, ◌∙◌, Option, None, Some, List, length, take, drop, slice_index, option_map, ℤ, pos, neg_ℤ, ◌+ℤ◌, ◌≤ℤ◌, ◌<ℤ◌, subst, arith}
 use Rattle.std.proofs.lemmas.Bool.{and_parts}
 use Rattle.std.proofs.lemmas.Bool.Decides.{nat_tests}
 use Rattle.std.proofs.lemmas.Int.{ints}
@@ -7,10 +7,13 @@ use Rattle.rr_model.specs.Calendar.{day_number, IsDate, is_date}
 use Rattle.rr_model.specs.Moment.{day_part, moment_at}
 use Rattle.rr_model.specs.Text.Moments.{is_digits, is_basic_date, is_basic_time, written_year, written_month, written_day, written_hour, written_minute, written_second, basic_date, basic_time, basic_moment, basic, utc_mark, is_letter_t, date_stamp, moment_stamp, moment_of}
 use Rattle.rr_model.specs.Moment.Years.{IsInYears}
+use Rattle.rr_model.specs.declared.kind.Kind.{Kind}
 use Rattle.rr_model.specs.declared.kind.Kind.TheVariants.{Days, Moments}
 use Rattle.rr_model.specs.declared.stamp.Stamp.{Stamp}
 use Rattle.rr_model.proofs.CalendarLemmas.{is_date_is}
 use Rattle.rr_model.proofs.MomentLemmas.{day_part-moment_at}
+use Rattle.rr_model.proofs.WholeLemmas.{floor_whole, floor_mod_below}
+use Rattle.rr_model.proofs.YearLemmas.{year_1, year_10000}
 use Rattle.rr_text.proofs.MomentTextLemmas.{day_number_bounds, is_digits_means, number_at_below}
 use Rattle.rr_rrule.proofs.StepLemmas.{stated}
 
@@ -104,3 +107,12 @@ IsStamp stamp = IsInYears stamp.kind stamp.at × (stamp.utc ≡ true → stamp.k
 
 pub basic-stamp : (text : List ℕ) (stamp : Stamp) → basic text ≡ Some stamp → IsStamp stamp
 basic-stamp text stamp h = (basic-in_years text stamp h, basic-marked text stamp h)
+
+-- ---- the seconds of these years
+
+pub in_years-near : (kind : Kind) (at : ℤ) → IsInYears kind at → (neg_ℤ (pos 62_135_596_800) ≤ℤ at) × (at <ℤ pos 253_402_300_800)
+in_years-near Days at h = (omega (arith, ints, h.0, year_1), omega (arith, ints, h.1, year_10000))
+in_years-near Moments at h =
+    let whole = floor_whole at 86_400 (omega arith) in
+    let below = floor_mod_below at 86_400 (omega arith) in
+    (omega (arith, ints, h.0, year_1, whole, below), omega (arith, ints, h.1, year_10000, whole, below))

@@ -209,7 +209,7 @@ put_date-keeps_rules false beside at = refl
 
 with_date-keeps_rules : {R : Type 0} (offset : Option ℤ) (start : Stamp) (line : ℕ) (is_plus : Bool) (n : ℕ) (beside : Beside R) (text : List ℕ) (next : Beside R) → length beside.rules ≡ n
     → with_date offset start line is_plus beside text ≡ Ok next → length next.rules ≡ n
-with_date-keeps_rules offset start line is_plus n beside text next same h =
+with_date-keeps_rules {R = R} offset start line is_plus n beside text next same h =
     let put = date-put offset start line is_plus beside text next h in
     subst (λ (b : Beside R). length b.rules ≡ n) put.4 (put_date-keeps_rules is_plus beside put.2 ∙ same)
 

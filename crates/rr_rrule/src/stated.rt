@@ -1,5 +1,5 @@
 // The rule that a line states, and what it becomes beside the start (RFC 5545, section 3.3.10).
-ghost use Rattle.std.specs.Prelude.{◌≡◌, ◌+ℤ◌, IfSome, IfOk};
+ghost use Rattle.std.specs.Prelude.{◌≡◌, ◌+ℤ◌, ◌≤ℤ◌, ◌<ℤ◌, neg_ℤ, pos, IfSome, IfOk};
 ghost use Rattle.rr_model.specs.Answers.{Answers};
 ghost use Rattle.rr_model.specs.Moment.Years.{IsInYears, is_in_years};
 ghost use Rattle.rr_model.specs.Text.Passes.{turned, moment_beside};
@@ -60,11 +60,12 @@ fn is_in_years(at: i64) -> bool
 }
 
 // A moment later by an offset.
-fn later(stamp: Stamp, offset: i32) -> i64
-    requires { IsInYears stamp.kind stamp.at }
-    ensures { result ≡ stamp.at +ℤ offset }
+fn later(at: i64, offset: i32) -> i64
+    requires low { neg_ℤ (pos 62_135_596_800) ≤ℤ at }
+    requires high { at <ℤ pos 253_402_300_800 }
+    ensures { result ≡ at +ℤ offset }
 {
-    stamp.at + i64::from(offset)
+    at + i64::from(offset)
 }
 
 // A moment of UTC as local time.
@@ -75,7 +76,7 @@ fn turned(line: u64, offset: Option<i32>, stamp: Stamp) -> Result<i64, Refusal>
     let Some(offset) = offset else {
         return Err(Refusal::UtcMoment);
     };
-    let local = later(stamp, offset);
+    let local = later(stamp.at, offset);
     if is_in_years(local) {
         Ok(local)
     } else {
