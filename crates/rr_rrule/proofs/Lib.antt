@@ -8,9 +8,11 @@ mod BoundsLemmas
 mod ValidPartsLemmas
 mod ValidityLemmas
 mod ValidRisingLemmas
-mod ReadingLemmas
 mod RulePartLemmas
 mod PartOrderLemmas
-mod ReadsExamples
+mod TextExamples
 mod PassLemmas
 mod BesideLemmas
+mod LineEndLemmas
+mod ScanLemmas
+mod CaseLemmas

@@ -1,6 +1,6 @@
 -- The order of the parts of a rule does not matter.
-use Rattle.std.proofs.Common.{◌≡◌, ℕ, ◌+◌, ◌-◌, Bool, true, false, cond, not, List, [], ◌∷◌, ◌++◌, reverse, length, take, drop, map, Result, Ok, Err, refl, sym, ap, ◌∙◌, arith}
-use Rattle.std.specs.Prelude.{◌==◌, ◌&&◌, nat_lt, codes}
+use Rattle.std.proofs.Common.{◌≡◌, ℕ, ◌+◌, ◌-◌, Bool, true, false, cond, not, List, [], ◌∷◌, ◌++◌, reverse, length, take, drop, map, Option, Result, Ok, Err, refl, sym, ap, ◌∙◌, ℤ, arith}
+use Rattle.std.specs.Prelude.{◌==◌, ◌&&◌, if◌then◌else◌, nat_lt, nat_le, codes, ok_or}
 use Rattle.std.specs.Char.{to_ascii_uppercase}
 use Rattle.std.specs.List.{list_all, join_with_byte, onto_first, prefix_len, take_while}
 use Rattle.std.specs.Str.{bytes_eq, str_to_ascii_uppercase}
@@ -9,14 +9,26 @@ use Rattle.std.proofs.lemmas.Bool.{and_parts, and_from}
 use Rattle.std.proofs.lemmas.Bool.Decides.{nat_tests}
 use Rattle.std.proofs.lemmas.List.{take_all, length-append, length-map, map-append, reverse-append}
 use Rattle.std.proofs.lemmas.List.Folds.{list_all-append}
-use Rattle.rr_model.specs.Text.RuleLaws.{IsOneLine, is_part_byte, is_part, AreParts, OrderDoesNotMatter}
-use Rattle.rr_model.specs.Text.Rules.{is_blank, with_part, with_parts, no_parts, without_last_semicolon, trim_start, trim_end, parts_of, rule_of, series_with, line_value, start_of, rule_parts, reads_values}
+use Rattle.rr_model.specs.Text.Calendars.{stated_rule, rule_beside, rrule_language, series_of_event, calendar_scan, calendar_text}
+use Rattle.rr_model.specs.Text.Event.{used_line}
+use Rattle.rr_model.specs.Text.Passes.{Stated, Beside, Event, nothing_read, nothing_beside, judged_line, first_pass, with_line, second_pass, unless_stopped, passes}
+use Rattle.rr_model.specs.Text.Rules.{is_blank, with_part, with_parts, no_parts, without_last_semicolon, trim_start, trim_end, parts_of, rule_of, line_value, rule_parts}
 use Rattle.rr_model.specs.Text.RuleValues.{◌>>=◌, pieces}
+use Rattle.rr_model.specs.Text.Steps.{in_turn}
+use Rattle.rr_model.specs.declared.limits.TheConstants.{MAX_RULES}
+use Rattle.rr_model.specs.declared.pass.FirstPass.{FirstPass}
 use Rattle.rr_model.specs.declared.refusal.Refusal.{Refusal}
+use Rattle.rr_model.specs.declared.refusal.Refusal.TheVariants.{NoStart, TooManyParts}
+use Rattle.rr_model.specs.declared.rule.Rule.{Rule}
 use Rattle.rr_model.specs.declared.rule.Series.{Series}
 use Rattle.rr_model.specs.declared.rule_parts.RuleParts.{RuleParts}
+use Rattle.rr_model.specs.declared.stamp.Stamp.{Stamp}
+use Rattle.rr_model.specs.declared.used.LineName.TheVariants.{Rrule}
+use Rattle.rr_model.specs.declared.used.UsedLine.{UsedLine}
+use Rattle.rr_rrule.specs.TextLaws.{is_part_byte, is_part, AreParts, OrderDoesNotMatter}
 use Rattle.rr_rrule.proofs.RulePartLemmas.{bind_ok, exchanged}
-use Rattle.rr_rrule.proofs.ReadingLemmas.{reads-text_of}
+use Rattle.rr_rrule.proofs.ScanLemmas.{after_same, scan_by_passes}
+use Rattle.rr_rrule.proofs.StepLemmas.{and_then_ok, not_refused}
 
 -- ---- lists of parts
 
@@ -84,12 +96,6 @@ all_inner-join (text ∷ []) h = all_inner text (part_bytes text (and_parts (is_
 all_inner-join (text ∷ next ∷ texts) h =
     let parts = and_parts (is_part text) (list_all is_part (next ∷ texts)) h in
     list_all-append is_inner text (59 ∷ join_with_byte 59 (next ∷ texts)) ∙ and_from _ _ (all_inner text (part_bytes text parts.0)) (all_inner-join (next ∷ texts) parts.1)
-
-one_line-join : (text : List ℕ) → list_all is_inner text ≡ true → IsOneLine text
-one_line-join [] h = refl
-one_line-join (b ∷ bs) h =
-    let parts = and_parts (is_inner b) (list_all is_inner bs) h in
-    and_from (not (b == 10)) _ (and_parts (not (is_blank b)) (not (b == 10)) parts.0).1 (one_line-join bs parts.1)
 
 list_all-reverse : (p : ℕ → Bool) (text : List ℕ) → list_all p text ≡ true → list_all p (reverse text) ≡ true
 list_all-reverse p [] h = refl
@@ -228,22 +234,73 @@ parts_exchanged before after a b h =
     let second = and_parts (is_part b) (list_all is_part after) first.1 in
     list_all-append is_part before (b ∷ a ∷ after) ∙ and_from _ _ front.0 (and_from _ _ second.0 (and_from _ _ first.0 second.1))
 
-reads_values-parts : (start rule : List ℕ) (series : Series) → reads_values start rule ≡ Ok series → (parts : RuleParts) × (rule_parts 2 rule ≡ Ok parts)
-reads_values-parts start rule series e =
-    let stamp = bind_ok (start_of 1 start) (λ stamp. rule_parts 2 rule >>= λ parts. rule_of 2 parts >>= λ known. series_with stamp parts.until known) series e in
-    let parts = bind_ok (rule_parts 2 rule) (λ parts. rule_of 2 parts >>= λ known. series_with stamp.0 parts.until known) series stamp.2 in
+-- ---- the rule of a line
+
+rule_stated : (line : ℕ) (text : List ℕ) (stated : Stated Rule) → stated_rule line text ≡ Ok stated → (parts : RuleParts) × (rule_parts line text ≡ Ok parts)
+unfolding stated_rule
+rule_stated line text stated h =
+    let parts = and_then_ok (rule_parts line text) _ stated h in
     (parts.0, parts.1)
 
-reads_values-same_parts : (start rule other : List ℕ) (parts : RuleParts) → rule_parts 2 rule ≡ Ok parts → rule_parts 2 other ≡ Ok parts → reads_values start other ≡ reads_values start rule
-reads_values-same_parts start rule other parts e f =
-    ap (λ (r : Result RuleParts Refusal). start_of 1 start >>= λ stamp. r >>= λ parts. rule_of 2 parts >>= λ known. series_with stamp parts.until known) (f ∙ sym e)
+stated_rule-same : (line : ℕ) (text other : List ℕ) (parts : RuleParts) → rule_parts line text ≡ Ok parts → rule_parts line other ≡ Ok parts → stated_rule line text ≡ stated_rule line other
+unfolding stated_rule
+stated_rule-same line text other parts e f =
+    ap (λ (r : Result RuleParts Refusal). r >>= λ p. rule_of line p >>= λ rule. Ok (record { rule = rule; until = p.until })) (e ∙ sym f)
+
+-- ---- steps in turn, of which one is exchanged
+
+module _ {X Y : Type 0} (step : X → Y → Result X Refusal) (y z : Y) (after : List Y) where
+  in_turn-same : ((x : X) → step x y ≡ step x z) → (before : List Y) (x : X) → in_turn step x (before ++ y ∷ after) ≡ in_turn step x (before ++ z ∷ after)
+  in_turn-same same [] x = ap (λ r. r >>= λ next. in_turn step next after) (same x)
+  in_turn-same same (w ∷ before) x = after_same (step x w) _ _ (in_turn-same same before)
+
+  in_turn-reaches : (before : List Y) (x last : X) → in_turn step x (before ++ y ∷ after) ≡ Ok last → (u : X) × (v : X) × (step u y ≡ Ok v)
+  in_turn-reaches [] x last h =
+      let one = and_then_ok (step x y) (λ next. in_turn step next after) last h in
+      (x, one.0, one.1)
+  in_turn-reaches (w ∷ before) x last h =
+      let one = and_then_ok (step x w) (λ next. in_turn step next (before ++ y ∷ after)) last h in
+      in_turn-reaches before one.0 last one.2
+
+-- ---- the passes
+
+module _ (offset : Option ℤ) (before after : List UsedLine) (number : ℕ) (stop : Option Refusal) where
+  -- the used lines with this value of the rule's line
+  abbrev lines : List ℕ → List UsedLine
+  lines value = before ++ used_line number Rrule value ∷ after
+
+  abbrev first_step : FirstPass → UsedLine → Result FirstPass Refusal
+  first_step pass line = judged_line rrule_language line.number line.name pass line.value
+
+  abbrev second_step : Stamp → Beside Rule → UsedLine → Result (Beside Rule) Refusal
+  second_step start beside line = with_line rrule_language (rule_beside offset start) offset start line.number line.name beside line.value
+
+  scan-same : (value other : List ℕ) → stated_rule number value ≡ stated_rule number other
+      → calendar_scan offset (record { used = lines value; stop = stop }) ≡ calendar_scan offset (record { used = lines other; stop = stop })
+  scan-same value other same =
+      let one : (p : FirstPass) → first_step p (used_line number Rrule value) ≡ first_step p (used_line number Rrule other) =
+      λ p. ap (λ (r : Result (Stated Rule) Refusal). if nat_le MAX_RULES p.rule_count then Err TooManyParts else (r >>= λ rule. Ok (record p { rule_count = p.rule_count + 1 }))) same in
+      let two : (start : Stamp) (b : Beside Rule) → second_step start b (used_line number Rrule value) ≡ second_step start b (used_line number Rrule other) =
+      λ start b. ap (λ (r : Result (Stated Rule) Refusal). r >>= λ stated. rule_beside offset start number stated >>= λ rule. Ok (record b { rules = b.rules ++ rule ∷ [] })) same in
+      scan_by_passes offset (lines value) (lines other) stop (in_turn-same first_step (used_line number Rrule value) (used_line number Rrule other) after one before nothing_read)
+      (λ start. in_turn-same (second_step start) (used_line number Rrule value) (used_line number Rrule other) after (two start) before nothing_beside)
+
+  scan-stated : (value : List ℕ) (series : Series) → calendar_scan offset (record { used = lines value; stop = stop }) ≡ Ok series → (stated : Stated Rule) × (stated_rule number value ≡ Ok stated)
+  scan-stated value series h =
+      let event = and_then_ok (passes rrule_language (rule_beside offset) offset (record { used = lines value; stop = stop })) (λ (e : Event Rule). Ok (series_of_event e)) series h in
+      let read = and_then_ok (first_pass rrule_language nothing_read (lines value)) _ event.0 event.1 in
+      let step = in_turn-reaches first_step (used_line number Rrule value) (used_line number Rrule value) after before nothing_read read.0 read.1 in
+      let room = not_refused (nat_le MAX_RULES step.0.rule_count) TooManyParts _ step.1 step.2 in
+      let stated = and_then_ok (stated_rule number value) (λ (s : Stated Rule). Ok (record step.0 { rule_count = step.0.rule_count + 1 })) step.1 room.1 in
+      (stated.0, stated.1)
 
 pub order_does_not_matter : OrderDoesNotMatter
-order_does_not_matter start a b before after series line h e =
-    let k = parts_exchanged before after a b h in
-    let rule = join_with_byte 59 (before ++ a ∷ b ∷ after) in
-    let other = join_with_byte 59 (before ++ b ∷ a ∷ after) in
-    let read : reads_values start rule ≡ Ok series = sym (reads-text_of start rule line (one_line-join rule (all_inner-join (before ++ a ∷ b ∷ after) h))) ∙ e in
-    let parts = reads_values-parts start rule series read in
-    reads-text_of start other line (one_line-join other (all_inner-join (before ++ b ∷ a ∷ after) k))
-    ∙ reads_values-same_parts start rule other parts.0 parts.1 (exchange_in_rule 2 a b before after parts.0 h k parts.1) ∙ read
+unfolding calendar_text
+order_does_not_matter offset text other before after number stop first last a b series h has has_other read =
+    let rule = join_with_byte 59 (first ++ a ∷ b ∷ last) in
+    let exchanged_rule = join_with_byte 59 (first ++ b ∷ a ∷ last) in
+    let scanned : calendar_scan offset (record { used = before ++ used_line number Rrule rule ∷ after; stop = stop }) ≡ Ok series = sym (ap (calendar_scan offset) has) ∙ read in
+    let stated = scan-stated offset before after number stop rule series scanned in
+    let parts = rule_stated number rule stated.0 stated.1 in
+    let again = exchange_in_rule number a b first last parts.0 h (parts_exchanged first last a b h) parts.1 in
+    ap (calendar_scan offset) has_other ∙ sym (scan-same offset before after number stop rule exchanged_rule (stated_rule-same number rule exchanged_rule parts.0 parts.1 again)) ∙ scanned

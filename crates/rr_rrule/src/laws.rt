@@ -1,12 +1,18 @@
-// Laws of what a text of a start and a rule states, each the contract of a function that does nothing.
-ghost use Rattle.rr_model.specs.Text.RuleLaws.{CaseDoesNotMatter, OrderDoesNotMatter};
+// Laws of what a calendar text states, each the contract of a function that does nothing.
+ghost use Rattle.rr_rrule.specs.TextLaws.{CaseDoesNotMatter, LineEndsDoNotMatter, OrderDoesNotMatter};
 
-/// Values of a start and a rule that differ in the case of letters alone state one series, or are refused alike.
+/// Texts that differ in the case of letters alone, be it of names, of values or of parts of a rule, state one series, or
+/// are refused alike.
 pub fn case_does_not_matter()
     ensures { CaseDoesNotMatter }
 {}
 
-/// Two neighbouring parts of a rule that is read may be exchanged: the series is the same.
+/// A text states the same whether its lines end with CR LF or with LF (RFC 5545, section 3.1).
+pub fn line_ends_do_not_matter()
+    ensures { LineEndsDoNotMatter }
+{}
+
+/// Two neighbouring parts of a rule of a text that is read may be exchanged: the series is the same.
 pub fn order_does_not_matter()
     ensures { OrderDoesNotMatter }
 {}

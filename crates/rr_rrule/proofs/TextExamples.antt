@@ -1,10 +1,14 @@
 -- Worked texts of a start and a rule.
-use Rattle.std.proofs.Common.{◌≡◌, ℕ, List, [], ◌∷◌, ◌++◌, ℤ, pos, neg_ℤ, true, false, refl}
-use Rattle.std.specs.Prelude.{codes, Ok, Err}
+use Rattle.std.proofs.Common.{◌≡◌, ℕ, List, [], ◌∷◌, ◌++◌, ℤ, pos, neg_ℤ, true, refl}
+use Rattle.std.specs.Prelude.{codes, None, Ok, Err}
 use Rattle.rr_model.specs.Calendar.{day_number, first_day_of_year, days_of_months}
 use Rattle.rr_model.specs.Text.Moments.{is_digits, number_at, basic, basic_date, basic_time, basic_moment}
 use Rattle.rr_model.specs.Text.RuleValues.{freq_named, weekday_named, number_up_to, number_within, numbers_of, day_item_within, day_items_of}
-use Rattle.rr_model.specs.Text.Rules.{part_named, name_of, with_part, parts_of, rule_of, series_with, start_of, rule_parts, line_value, first_line, values_of, reads, is_plain_text}
+use Rattle.rr_model.specs.Text.Rules.{part_named, name_of, with_part, parts_of, rule_of, rule_parts, line_value}
+use Rattle.rr_model.specs.Text.Calendars.{stated_rule, rule_beside, calendar_text}
+use Rattle.rr_model.specs.Text.Event.{left_by, event_scan}
+use Rattle.rr_model.specs.Text.Lines.{physical_lines, unfolded_lines}
+use Rattle.rr_model.specs.Text.UsedLines.{value_of_line, line_kind}
 use Rattle.rr_model.specs.declared.kind.Kind.{Kind}
 use Rattle.rr_model.specs.declared.kind.Kind.TheVariants.{Days, Moments}
 use Rattle.rr_model.specs.declared.refusal.Refusal.{Refusal}
@@ -41,19 +45,19 @@ abbrev series_of : Kind → ℤ → Rule → Series
 series_of kind start rule = record { kind = kind; start = start; start_counts = true; rules = rule ∷ []; plus = []; minus = [] }
 
 read_values :
-    (reads (text (codes "20240101") (codes "FREQ=DAILY")) ≡ Ok (series_of Days (pos 19_723) (rule_alone Daily 1 [] [] Never)))
-    × (reads (text (codes "\t20240101 ") (codes " freq=Monthly;bymonthday=15,-1,+015,1;INTERVAL=4294967295;")) ≡ Ok (series_of Days (pos 19_723) (rule_alone Monthly 4_294_967_295 (neg_ℤ (pos 1) ∷ pos 1 ∷ pos 15 ∷ []) [] Never)))
-    × (reads (text (codes "19700101T000001") (codes "COUNT=18446744073709551615;BYDAY=+1mo,FR,-53SU;FREQ=MONTHLY")) ≡ Ok (series_of Moments (pos 1) (rule_alone Monthly 1 [] (record { place = neg_ℤ (pos 53); weekday = 6 } ∷ record { place = pos 0; weekday = 4 } ∷ record { place = pos 1; weekday = 0 } ∷ []) (Count 18_446_744_073_709_551_615))))
-    × (reads (text (codes "19700101") (codes "FREQ=DAILY;UNTIL=19700102T000000Z")) ≡ Ok (series_of Days (pos 0) (rule_alone Daily 1 [] [] (Until Moments (pos 86_400)))))
-    × (reads (text (codes "19700101T000000Z") (codes "FREQ=DAILY;UNTIL=19700102T000000")) ≡ Ok (series_of Moments (pos 0) (rule_alone Daily 1 [] [] (Until Moments (pos 86_400)))))
-unfolding day_number first_day_of_year days_of_months is_digits number_at basic basic_date basic_time basic_moment freq_named weekday_named number_up_to number_within numbers_of day_item_within day_items_of part_named name_of with_part parts_of rule_of series_with start_of rule_parts line_value first_line values_of reads
+    (calendar_text None (text (codes "20240101") (codes "FREQ=DAILY")) ≡ Ok (series_of Days (pos 19_723) (rule_alone Daily 1 [] [] Never)))
+    × (calendar_text None (text (codes "\t20240101 ") (codes " freq=Monthly;bymonthday=15,-1,+015,1;INTERVAL=4294967295;")) ≡ Ok (series_of Days (pos 19_723) (rule_alone Monthly 4_294_967_295 (neg_ℤ (pos 1) ∷ pos 1 ∷ pos 15 ∷ []) [] Never)))
+    × (calendar_text None (text (codes "19700101T000001") (codes "COUNT=18446744073709551615;BYDAY=+1mo,FR,-53SU;FREQ=MONTHLY")) ≡ Ok (series_of Moments (pos 1) (rule_alone Monthly 1 [] (record { place = neg_ℤ (pos 53); weekday = 6 } ∷ record { place = pos 0; weekday = 4 } ∷ record { place = pos 1; weekday = 0 } ∷ []) (Count 18_446_744_073_709_551_615))))
+    × (calendar_text None (text (codes "19700101") (codes "FREQ=DAILY;UNTIL=19700102T000000Z")) ≡ Ok (series_of Days (pos 0) (rule_alone Daily 1 [] [] (Until Moments (pos 86_400)))))
+    × (calendar_text None (text (codes "19700101T000000Z") (codes "FREQ=DAILY;UNTIL=19700102T000000")) ≡ Ok (series_of Moments (pos 0) (rule_alone Daily 1 [] [] (Until Moments (pos 86_400)))))
+unfolding day_number first_day_of_year days_of_months is_digits number_at basic basic_date basic_time basic_moment freq_named weekday_named number_up_to number_within numbers_of day_item_within day_items_of part_named name_of with_part parts_of rule_of rule_parts line_value physical_lines unfolded_lines value_of_line line_kind left_by event_scan stated_rule rule_beside calendar_text
 read_values = (refl, refl, refl, refl, refl)
 
 abbrev refused : List ℕ → Refusal → Type 0
-refused rule refusal = reads (text (codes "20240101") rule) ≡ Err refusal
+refused rule refusal = calendar_text None (text (codes "20240101") rule) ≡ Err refusal
 
 refusals :
-    (reads (text (codes "20230229") (codes "FREQ=X")) ≡ Err (BadMoment 1))
+    (calendar_text None (text (codes "20230229") (codes "FREQ=X")) ≡ Err (BadMoment 1))
     × refused (codes "FREQ=FORTNIGHTLY") (BadRule 2)
     × refused (codes "") (BadRule 2)
     × refused (codes ";") (BadRule 2)
@@ -80,14 +84,6 @@ refusals :
     × refused (codes "COUNT=1;UNTIL=20240101;FREQ=DAILY;BYYEARDAY=1") UntilAndCount
     × refused (codes "FREQ=DAILY;BYYEARDAY=1") NotAllowed
     × refused (codes "FREQ=HOURLY;UNTIL=20240101T000000Z") NotAllowed
-    × (reads (text (codes "20240101T000000") (codes "FREQ=HOURLY;UNTIL=20240101T000000Z")) ≡ Err UtcMoment)
-unfolding day_number first_day_of_year days_of_months is_digits number_at basic basic_date basic_time basic_moment freq_named weekday_named number_up_to number_within numbers_of day_item_within day_items_of part_named name_of with_part parts_of rule_of series_with start_of rule_parts line_value first_line values_of reads
+    × (calendar_text None (text (codes "20240101T000000") (codes "FREQ=HOURLY;UNTIL=20240101T000000Z")) ≡ Err UtcMoment)
+unfolding day_number first_day_of_year days_of_months is_digits number_at basic basic_date basic_time basic_moment freq_named weekday_named number_up_to number_within numbers_of day_item_within day_items_of part_named name_of with_part parts_of rule_of rule_parts line_value physical_lines unfolded_lines value_of_line line_kind left_by event_scan stated_rule rule_beside calendar_text
 refusals = (refl, refl, refl, refl, refl, refl, refl, refl, refl, refl, refl, refl, refl, refl, refl, refl, refl, refl, refl, refl, refl, refl, refl, refl, refl, refl, refl, refl)
-
-plain :
-    (is_plain_text (text (codes "x") (codes "")) ≡ true)
-    × (is_plain_text (codes "DTSTART:x\nRRULE:y") ≡ false)
-    × (is_plain_text (codes "DTSTART:x\nRRULE:y\n\n") ≡ false)
-    × (is_plain_text (codes "DTSTART:x\r\nRRULE:y\n") ≡ false)
-unfolding first_line values_of is_plain_text
-plain = (refl, refl, refl, refl)
