@@ -13,6 +13,8 @@ mod outcome;
 mod program;
 #[cfg(test)]
 mod tests;
+#[cfg(test)]
+mod text_tests;
 mod words;
 mod work;
 

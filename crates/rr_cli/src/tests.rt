@@ -95,7 +95,7 @@ const VERDICTS: [(&[u8], &[u8], Status, &[u8]); 14] = [
 ];
 
 // A, and how the run of `check` ends.
-const CHECKS: [(&[u8], Status, &[u8]); 20] = [
+const CHECKS: [(&[u8], Status, &[u8]); 19] = [
     (
         b"DTSTART:20240229\nRRULE:FREQ=YEARLY;INTERVAL=4;BYMONTH=2;BYMONTHDAY=29\n",
         Status::Yes,
@@ -191,11 +191,6 @@ const CHECKS: [(&[u8], Status, &[u8]); 20] = [
         Status::Yes,
         b"cycle 1\n",
     ),
-    (
-        b"DTSTART:20240101\nRRULE:FREQ=DAILY",
-        Status::Refused,
-        b"refused A NotBuilt\n",
-    ),
 ];
 
 // Words that are no command.
@@ -258,8 +253,11 @@ const NOT_BUILT: [(&[&str], &[u8]); 17] = [
         b"refused B NotBuilt\n",
     ),
     (&["equal", "vcal:a", "list:b"], b"refused A NotBuilt\n"),
-    (&["check", "rrule@+23:59:a:b@c"], b"refused A NotBuilt\n"),
-    (&["check", "list:x"], b"refused A NotBuilt\n"),
+    (
+        &["equal", "rrule@+01:00:a", "rrule:b"],
+        b"refused A NotBuilt\n",
+    ),
+    (&["check", "vcal@+23:59:a:b@c"], b"refused A NotBuilt\n"),
 ];
 
 // The fetch that is to fail, the put that is to fail after two bytes, and how the run of `equal` ends. None has the number 0.

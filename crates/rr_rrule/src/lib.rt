@@ -15,8 +15,3 @@ mod words;
 
 pub use calendar::read;
 pub use laws::{case_does_not_matter, line_ends_do_not_matter, order_does_not_matter};
-
-#[cfg(test)]
-mod examples;
-#[cfg(test)]
-mod tests;
