@@ -46,11 +46,7 @@ fn read_within(
 
 /// The series of an operand, or why its text is refused: `TooLong` above `MAX_INPUT` bytes, then what the reader of its
 /// language refuses. A language that is not built, and no operand at all, are refused as NotBuilt.
-pub fn read_operand(
-    alloc: Global,
-    operand: Option<Operand>,
-    bytes: &[u8],
-) -> Result<Series, Fault>
+pub fn read_operand(alloc: Global, operand: Option<Operand>, bytes: &[u8]) -> Result<Series, Fault>
     ensures answers { Answers (operand_read (option_map operand_in operand.entry) bytes.now) result }
     ensures valid { IfOk result IsValidSeries }
 {

@@ -215,7 +215,9 @@ fn said(alloc: Global, word: &str, bytes: &[u8]) -> Result<String, Fail> {
     source.hold("a", bytes).ok().ok_or("memory")?;
     let mut sink = SteadySink::new(alloc);
     run(alloc, &["check", word], &mut source, &mut sink);
-    let text = std::str::from_utf8(sink.bytes()).ok().ok_or("the output is text")?;
+    let text = std::str::from_utf8(sink.bytes())
+        .ok()
+        .ok_or("the output is text")?;
     Ok(format!(in alloc; "{}", text.trim_end())?)
 }
 
@@ -235,7 +237,11 @@ fn rule_holds(rt: &impl Abort, alloc: Global, word: &str, row: &str) -> Result<(
     let (given, wanted) = row.rsplit_once('|').ok_or("a row has an outcome")?;
     let (start, rule) = given.split_once('|').ok_or("a row has a rule")?;
     let text = format!(in alloc; "DTSTART:{start}\nRRULE:{rule}\n")?;
-    assert_eq!(rt; said(alloc, word, text.as_bytes())?.as_str(), wanted, "{row}");
+    assert_eq!(rt;
+        said(alloc, word, text.as_bytes())?.as_str(),
+        wanted,
+        "{row}"
+    );
     Ok(())
 }
 
@@ -243,7 +249,11 @@ fn rule_holds(rt: &impl Abort, alloc: Global, word: &str, row: &str) -> Result<(
 fn text_holds(rt: &impl Abort, alloc: Global, word: &str, row: &str) -> Result<(), Fail> {
     let (text, wanted) = row.rsplit_once('|').ok_or("a row has an outcome")?;
     let text = text.replace(alloc, "~", "\n")?;
-    assert_eq!(rt; said(alloc, word, text.as_bytes())?.as_str(), wanted, "{row}");
+    assert_eq!(rt;
+        said(alloc, word, text.as_bytes())?.as_str(),
+        wanted,
+        "{row}"
+    );
     Ok(())
 }
 
@@ -276,7 +286,11 @@ fn cut_texts(rt: HostRuntime) -> Result<(), Fail> {
     let alloc = rt.alloc();
     let text = b"DTSTART:20240101\nRRULE:FREQ=DAILY".as_slice();
     for length in 0..=text.len() {
-        assert_eq!(rt; said(alloc, "rrule:a", &text[..length])?.as_str(), cut_outcome(length), "{length}");
+        assert_eq!(rt;
+            said(alloc, "rrule:a", &text[..length])?.as_str(),
+            cut_outcome(length),
+            "{length}"
+        );
     }
     Ok(())
 }
@@ -286,10 +300,22 @@ fn bytes(rt: HostRuntime) -> Result<(), Fail> {
     let alloc = rt.alloc();
     let marked = b"\xEF\xBB\xBFDTSTART:20240101".as_slice();
     assert_eq!(rt; said(alloc, "rrule:a", marked)?.as_str(), "cycle 1");
-    assert_eq!(rt; said(alloc, "rrule:a", b"\xFF")?.as_str(), "refused A NotText");
-    assert_eq!(rt; said(alloc, "list:a", b"\xFF")?.as_str(), "refused A NotText");
+    assert_eq!(rt;
+        said(alloc, "rrule:a", b"\xFF")?.as_str(),
+        "refused A NotText"
+    );
+    assert_eq!(rt;
+        said(alloc, "list:a", b"\xFF")?.as_str(),
+        "refused A NotText"
+    );
     let long = vec![in alloc; b'\n'; MAX_INPUT + 1]?;
-    assert_eq!(rt; said(alloc, "list:a", long.as_slice())?.as_str(), "refused A TooLong");
-    assert_eq!(rt; said(alloc, "rrule:a", &long[..MAX_INPUT])?.as_str(), "refused A NoStart");
+    assert_eq!(rt;
+        said(alloc, "list:a", long.as_slice())?.as_str(),
+        "refused A TooLong"
+    );
+    assert_eq!(rt;
+        said(alloc, "rrule:a", &long[..MAX_INPUT])?.as_str(),
+        "refused A NoStart"
+    );
     Ok(())
 }

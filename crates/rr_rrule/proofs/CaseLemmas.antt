@@ -218,8 +218,15 @@ value_of_line-lowered text =
 line_kind-lowered : (text : List ℕ) → line_kind (lowered text) ≡ line_kind text
 unfolding line_kind
 line_kind-lowered text =
-    rw (is_named-lowered text (codes "BEGIN"), is_named-lowered text (codes "END"), is_named-lowered text (codes "DTSTART"), is_named-lowered text (codes "RRULE"),
-    is_named-lowered text (codes "RDATE"), is_named-lowered text (codes "EXDATE"), is_named-lowered text (codes "EXRULE")) refl
+    rw (
+      is_named-lowered text (codes "BEGIN"),
+      is_named-lowered text (codes "END"),
+      is_named-lowered text (codes "DTSTART"),
+      is_named-lowered text (codes "RRULE"),
+      is_named-lowered text (codes "RDATE"),
+      is_named-lowered text (codes "EXDATE"),
+      is_named-lowered text (codes "EXRULE"),
+    ) refl
 
 -- ---- components
 

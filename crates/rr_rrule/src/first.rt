@@ -7,9 +7,7 @@ ghost use Rattle.rr_model.specs.Text.Passes.{nothing_read, judged_start, has_sla
 ghost use Rattle.rr_model.specs.Text.Calendars.{is_comma, rrule_language};
 
 use crate::stated::stated_rule;
-use rr_model::{
-    Fault, FirstPass, LineName, MAX_DATES, MAX_RULES, Refusal, Stamp, UsedLine,
-};
+use rr_model::{Fault, FirstPass, LineName, MAX_DATES, MAX_RULES, Refusal, Stamp, UsedLine};
 use rr_text::{basic, trim};
 use std::alloc::Global;
 
