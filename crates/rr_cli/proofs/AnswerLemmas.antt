@@ -29,9 +29,14 @@ pub text_is_one : (bytes d i e j : List ℕ) → IsDailyText bytes d i → IsDai
 text_is_one bytes d i e j t u =
     let same : d ++ behind i ≡ e ++ behind j = append_cancel_left (codes "DTSTART:") (d ++ behind i) (e ++ behind j) (sym t.text ∙ u.text) in
     let long : length d ≡ length e = t.eight ∙ sym u.eight in
-    let front : d ≡ e = sym (take-append_seam d (behind i)) ∙ ap (λ n. take n (d ++ behind i)) long ∙ ap (take (length e)) same ∙ take-append_seam e (behind j) in
-    let back : behind i ≡ behind j = sym (drop-append_seam d (behind i)) ∙ ap (λ n. drop n (d ++ behind i)) long ∙ ap (drop (length e)) same ∙ drop-append_seam e (behind j) in
-    (front, interval_part_injective i j (append_cancel_right (interval_part i) (interval_part j) (10 ∷ []) (append_cancel_left (codes "\nRRULE:FREQ=DAILY") (interval_part i ++ 10 ∷ []) (interval_part j ++ 10 ∷ []) back)))
+    let front : d ≡ e = sym (take-append_seam d (behind i)) ∙ ap (λ n. take n (d ++ behind i)) long ∙ ap (take (length e)) same
+    ∙ take-append_seam e (behind j) in
+    let back : behind i ≡ behind j = sym (drop-append_seam d (behind i)) ∙ ap (λ n. drop n (d ++ behind i)) long ∙ ap (drop (length e)) same
+    ∙ drop-append_seam e (behind j) in (
+      front,
+      interval_part_injective i j (append_cancel_right (interval_part i) (interval_part j) (10 ∷ [])
+          (append_cancel_left (codes "\nRRULE:FREQ=DAILY") (interval_part i ++ 10 ∷ []) (interval_part j ++ 10 ∷ []) back)),
+    )
 
 abbrev series : ℤ → ℕ → DailySeries
 series start interval = record { start = start; interval = interval }
@@ -76,7 +81,8 @@ equal_answer_is_one a b x y p q =
     said_is_one p.of_a p.of_b x y p.is_said (rw (of_a, of_b) at q.is_said)
 
 -- a task over two texts has one answer
-said_of_task_is_one : (task : Task) (command : Command) (both : List ℕ × List ℕ) (x y : Answer) → IsSaid task command both x → IsSaid task command both y → x ≡ y
+said_of_task_is_one : (task : Task) (command : Command) (both : List ℕ × List ℕ) (x y : Answer) → IsSaid task command both x → IsSaid task command both y
+    → x ≡ y
 said_of_task_is_one task.Equal command both x y p q = equal_answer_is_one both.0 both.1 x y p q
 said_of_task_is_one task.Check command both x y p q = p ∙ sym q
 said_of_task_is_one task.Within command both x y p q = p ∙ sym q
@@ -87,7 +93,8 @@ said_of_task_is_one task.Infer command both x y p q = p ∙ sym q
 said_of_task_is_one (task.List count) command both x y p q = p ∙ sym q
 said_of_task_is_one (task.Drill seed count) command both x y p q = p ∙ sym q
 
-answer_of_is_one : (command : Command) (side : Option Side) (both : List ℕ × List ℕ) (x y : Answer) → IsAnswerOf command side both x → IsAnswerOf command side both y → x ≡ y
+answer_of_is_one : (command : Command) (side : Option Side) (both : List ℕ × List ℕ) (x y : Answer) → IsAnswerOf command side both x
+    → IsAnswerOf command side both y → x ≡ y
 answer_of_is_one command (Some side) both x y p q = p ∙ sym q
 answer_of_is_one command None both x y p q = said_of_task_is_one command.task command both x y p q
 

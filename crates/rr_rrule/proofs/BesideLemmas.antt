@@ -1,6 +1,6 @@
 -- What is read beside the start is valid.
-use Rattle.std.proofs.Common.{◌≡◌, ℕ, ◌+◌, ◌≤◌, ◌&&◌, not, Bool, true, false, if◌then◌else◌, List, [], ◌∷◌, ◌++◌, Result, Ok, Err, Option, None, Some, refl, sym, ap, ◌∙◌, arith, subst, ℤ, ◌+ℤ◌}
-use Rattle.std.specs.Prelude.{All, IsTrue, int_lt, ok_or}
+use Rattle.std.proofs.Common.{◌≡◌, ℕ, ◌&&◌, not, Bool, true, false, if◌then◌else◌, List, [], ◌∷◌, Result, Ok, Err, Option, None, Some, refl, sym, ap, ◌∙◌, arith, subst, ℤ, ◌+ℤ◌}
+use Rattle.std.specs.Prelude.{All, int_lt, ok_or}
 use Rattle.std.specs.List.{slice_split}
 use Rattle.std.specs.Option.{IfSome}
 use Rattle.std.specs.Result.{IfOk}
@@ -9,15 +9,14 @@ use Rattle.std.proofs.lemmas.List.Elements.{All-nil, All-cons, All-append}
 use Rattle.rr_model.specs.Answers.{Answers}
 use Rattle.rr_model.specs.Moment.{is_same_kind}
 use Rattle.rr_model.specs.Moment.Years.{IsInYears, is_in_years}
-use Rattle.rr_model.specs.Rising.{Rises, with_value}
+use Rattle.rr_model.specs.Rising.{Rises}
 use Rattle.rr_model.specs.Rule.Validity.{HasCountInRange, takes_start, IsValidRule, EndsInYears}
 use Rattle.rr_model.specs.Series.Validity.{IsValidSeries}
-use Rattle.rr_model.specs.Text.Calendars.{stated_rule, end_at, end_beside, rule_beside, rrule_language, series_of_event, calendar_scan, calendar_text, reads_calendar}
+use Rattle.rr_model.specs.Text.Calendars.{end_at, end_beside, rule_beside, rrule_language, series_of_event, calendar_scan, calendar_text}
 use Rattle.rr_model.specs.Text.Event.{event_scan}
 use Rattle.rr_model.specs.Text.Lines.{without_mark}
 use Rattle.rr_model.specs.Text.Moments.{basic}
 use Rattle.rr_model.specs.Text.Passes.{Stated, Beside, Event, nothing_read, nothing_beside, turned, moment_beside, date_value, date_beside, put_date, with_date, with_line, first_pass, second_pass, unless_stopped, passes}
-use Rattle.rr_model.specs.Text.RuleValues.{◌>>=◌}
 use Rattle.rr_model.specs.Text.Rules.{has_time}
 use Rattle.rr_model.specs.Text.UsedLines.{trim}
 use Rattle.rr_model.specs.declared.kind.Kind.{Kind}
@@ -25,7 +24,7 @@ use Rattle.rr_model.specs.declared.kind.Kind.TheVariants.{Days, Moments}
 use Rattle.rr_model.specs.declared.pass.FirstPass.{FirstPass}
 use Rattle.rr_model.specs.declared.refusal.Fault.{Fault}
 use Rattle.rr_model.specs.declared.refusal.Refusal.{Refusal}
-use Rattle.rr_model.specs.declared.refusal.Refusal.TheVariants.{NotText, NoStart, BadMoment, MixedKinds, NotAllowed}
+use Rattle.rr_model.specs.declared.refusal.Refusal.TheVariants.{NoStart, BadMoment, MixedKinds, NotAllowed}
 use Rattle.rr_model.specs.declared.rule.End.{End}
 use Rattle.rr_model.specs.declared.rule.End.TheVariants.{Until}
 use Rattle.rr_model.specs.declared.rule.Rule.{Rule}
@@ -38,7 +37,7 @@ use Rattle.rr_model.specs.declared.used.UsedLine.{UsedLine}
 use Rattle.rr_model.proofs.RisingLemmas.{All-with_value, Rises-with_value}
 use Rattle.rr_model.proofs.YearLemmas.{years_are_tested}
 use Rattle.rr_rrule.proofs.InYearsLemmas.{IsStamp, basic-stamp}
-use Rattle.rr_rrule.proofs.PassLemmas.{in_turn-keeps, IsSoundPass, first_pass-sound, first_pass-counts, second_pass-bounded, date-put, rule-put}
+use Rattle.rr_rrule.proofs.PassLemmas.{in_turn-keeps, first_pass-sound, first_pass-counts, second_pass-bounded, date-put, rule-put}
 use Rattle.rr_rrule.proofs.StepLemmas.{and_then_ok, ok_or_ok, passed}
 use Rattle.rr_rrule.proofs.ValidityLemmas.{IsValidBeside, FitsUntil, stated_rule-valid}
 
@@ -62,7 +61,8 @@ date_value-stamp line text stamp h = basic-stamp (trim text) stamp (ok_or_ok (ba
 
 module _ (offset : Option ℤ) (start : Stamp) where
   moment_beside-in_years : (line : ℕ) (stamp : Stamp) (at : ℤ) → IsStamp stamp → moment_beside offset start line stamp ≡ Ok at → IsInYears stamp.kind at
-  moment_beside-in_years line stamp at s h = by (stamp.utc && not start.utc && has_time start.kind) (λ e. (and_parts stamp.utc (not start.utc) (and_parts (stamp.utc && not start.utc) (has_time start.kind) e).0).0) h
+  moment_beside-in_years line stamp at s h = by (stamp.utc && not start.utc && has_time start.kind)
+      (λ e. (and_parts stamp.utc (not start.utc) (and_parts (stamp.utc && not start.utc) (has_time start.kind) e).0).0) h
     where
       by : (b : Bool) → (b ≡ true → stamp.utc ≡ true) → (if b then turned line offset stamp.at else Ok stamp.at) ≡ Ok at → IsInYears stamp.kind at
       by true utc h = subst (λ (k : Kind). IsInYears k at) (sym (s.1 (utc refl))) (turned-in_years line offset stamp.at at h)
@@ -77,7 +77,8 @@ module _ (offset : Option ℤ) (start : Stamp) where
 
   -- ---- rules
 
-  end_beside-valid : (line : ℕ) (until : Option Stamp) (end next : End) → FitsUntil until end → HasCountInRange end × EndsInYears end → end_beside offset start line until end ≡ Ok next
+  end_beside-valid : (line : ℕ) (until : Option Stamp) (end next : End) → FitsUntil until end → HasCountInRange end × EndsInYears end
+      → end_beside offset start line until end ≡ Ok next
       → HasCountInRange next × EndsInYears next
   end_beside-valid line None end next fits v h =
       let same : end ≡ next = cc in
@@ -118,7 +119,8 @@ module _ (offset : Option ℤ) (start : Stamp) where
     start = v.start;
   }
 
-  rule_beside-valid : (line : ℕ) (stated : Stated Rule) (rule : Rule) → IsValidBeside stated.rule × FitsUntil stated.until stated.rule.end → rule_beside offset start line stated ≡ Ok rule
+  rule_beside-valid : (line : ℕ) (stated : Stated Rule) (rule : Rule) → IsValidBeside stated.rule × FitsUntil stated.until stated.rule.end
+      → rule_beside offset start line stated ≡ Ok rule
       → IsValidRule start.kind rule × EndsInYears rule.end
   unfolding rule_beside
   rule_beside-valid line stated rule v h =
@@ -161,7 +163,8 @@ module _ (offset : Option ℤ) (start : Stamp) where
     minus_rises = Rises-with_value int_lt beside.minus at v.minus_rises;
   }
 
-  with_date-valid : (line : ℕ) (is_plus : Bool) (beside : Beside Rule) (text : List ℕ) (next : Beside Rule) → AreValid beside → with_date offset start line is_plus beside text ≡ Ok next → AreValid next
+  with_date-valid : (line : ℕ) (is_plus : Bool) (beside : Beside Rule) (text : List ℕ) (next : Beside Rule) → AreValid beside
+      → with_date offset start line is_plus beside text ≡ Ok next → AreValid next
   with_date-valid line is_plus beside text next v h =
       let put = date-put offset start line is_plus beside text next h in
       let in_years = date_beside-in_years line put.0 put.2 (date_value-stamp line text put.0 put.1) put.3 in
@@ -173,7 +176,8 @@ module _ (offset : Option ℤ) (start : Stamp) where
       let put = rule-put rrule_language (rule_beside offset start) offset start line beside text next h in
       let valid = rule_beside-valid line put.0 put.2 (stated_rule-valid line text put.0 put.1) put.3 in
       let rules = All-append (IsValidRule start.kind) beside.rules (put.2 ∷ []) v.rules (All-cons (IsValidRule start.kind) put.2 [] valid.0 (All-nil _)) in
-      let ends = All-append (λ (r : Rule). EndsInYears r.end) beside.rules (put.2 ∷ []) v.ends (All-cons (λ (r : Rule). EndsInYears r.end) put.2 [] valid.1 (All-nil _)) in
+      let ends = All-append (λ (r : Rule). EndsInYears r.end) beside.rules (put.2 ∷ []) v.ends
+      (All-cons (λ (r : Rule). EndsInYears r.end) put.2 [] valid.1 (All-nil _)) in
       subst AreValid put.4 (record { rules = rules; ends = ends; plus = v.plus; minus = v.minus; plus_rises = v.plus_rises; minus_rises = v.minus_rises })
 
   with_line-valid : (line : ℕ) (name : LineName) (beside : Beside Rule) (text : List ℕ) (next : Beside Rule) → AreValid beside
@@ -190,15 +194,18 @@ module _ (offset : Option ℤ) (start : Stamp) where
       let same : beside ≡ next = cc in
       subst AreValid same v
 
-  second_pass-valid : (lines : List UsedLine) (beside : Beside Rule) → second_pass rrule_language (rule_beside offset start) offset start nothing_beside lines ≡ Ok beside → AreValid beside
+  second_pass-valid : (lines : List UsedLine) (beside : Beside Rule)
+      → second_pass rrule_language (rule_beside offset start) offset start nothing_beside lines ≡ Ok beside → AreValid beside
   second_pass-valid lines beside =
       in_turn-keeps (λ b (line : UsedLine). with_line rrule_language (rule_beside offset start) offset start line.number line.name b line.value) AreValid
       (λ b line z v h. with_line-valid line.number line.name b line.value z v h) nothing_beside lines beside nothing-valid
 
   -- ---- the series
 
-  event-valid : (lines : List UsedLine) (pass : FirstPass) (beside : Beside Rule) (series : Series) → first_pass rrule_language nothing_read lines ≡ Ok pass → pass.start ≡ Some start
-      → second_pass rrule_language (rule_beside offset start) offset start nothing_beside lines ≡ Ok beside → series_of_event (record { start = start; beside = beside }) ≡ series → IsValidSeries series
+  event-valid : (lines : List UsedLine) (pass : FirstPass) (beside : Beside Rule) (series : Series) → first_pass rrule_language nothing_read lines ≡ Ok pass
+      → pass.start ≡ Some start
+      → second_pass rrule_language (rule_beside offset start) offset start nothing_beside lines ≡ Ok beside
+      → series_of_event (record { start = start; beside = beside }) ≡ series → IsValidSeries series
   event-valid lines pass beside series first is second same =
       let sound = first_pass-sound rrule_language nothing_read lines pass (record { start = tt; few_rules = omega arith; few_dates = omega arith }) first in
       let in_years : IsStamp start = subst (λ (s : Option Stamp). IfSome s IsStamp) is sound.start in

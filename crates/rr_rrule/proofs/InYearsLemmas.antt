@@ -1,9 +1,9 @@
 -- A basic text states a date or a moment of the years 1 to 9999, and only a moment is marked as UTC.
-use Rattle.std.proofs.Common.{◌≡◌, ℕ, ◌+◌, ◌*◌, ◌<◌, ◌≤◌, ◌==◌, ◌&&◌, nat_le, Bool, true, false, if◌then◌else◌, refl, sym, ap, ◌∙◌, Option, None, Some, List, length, take, drop, slice_index, option_map, ℤ, pos, neg_ℤ, ◌+ℤ◌, ◌≤ℤ◌, ◌<ℤ◌, subst, arith}
+use Rattle.std.proofs.Common.{◌≡◌, ℕ, ◌+◌, ◌*◌, ◌<◌, ◌≤◌, ◌==◌, ◌&&◌, nat_le, Bool, true, false, if◌then◌else◌, refl, sym, ap, ◌∙◌, Option, None, Some, List, length, take, drop, slice_index, option_map, ℤ, pos, neg_ℤ, ◌≤ℤ◌, ◌<ℤ◌, subst, arith}
 use Rattle.std.proofs.lemmas.Bool.{and_parts}
 use Rattle.std.proofs.lemmas.Bool.Decides.{nat_tests}
 use Rattle.std.proofs.lemmas.Int.{ints}
-use Rattle.rr_model.specs.Calendar.{day_number, IsDate, is_date}
+use Rattle.rr_model.specs.Calendar.{day_number, is_date}
 use Rattle.rr_model.specs.Moment.{day_part, moment_at}
 use Rattle.rr_model.specs.Text.Moments.{is_digits, is_basic_date, is_basic_time, written_year, written_month, written_day, written_hour, written_minute, written_second, basic_date, basic_time, basic_moment, basic, utc_mark, is_letter_t, date_stamp, moment_stamp, moment_of}
 use Rattle.rr_model.specs.Moment.Years.{IsInYears}
@@ -37,13 +37,15 @@ basic_time-below text second h =
     let means = stated (is_basic_time text) (written_hour text * 3_600 + written_minute text * 60 + written_second text) second h in
     grind (arith, nat_tests, means.0, means.1)
 
-date_stamp-in_years : (date : Option ℤ) (stamp : Stamp) → ((day : ℤ) → date ≡ Some day → IsInYears Days day) → option_map date_stamp date ≡ Some stamp → IsInYears stamp.kind stamp.at
+date_stamp-in_years : (date : Option ℤ) (stamp : Stamp) → ((day : ℤ) → date ≡ Some day → IsInYears Days day) → option_map date_stamp date ≡ Some stamp
+    → IsInYears stamp.kind stamp.at
 date_stamp-in_years None stamp day_in h = absurd (cc)
 date_stamp-in_years (Some day) stamp day_in h =
     let e : date_stamp day ≡ stamp = cc in
     subst (λ (s : Stamp). IsInYears s.kind s.at) e (day_in day refl)
 
-moment_of-in_years : (date : Option ℤ) (time : Option ℕ) (mark : Option Bool) (stamp : Stamp) → ((day : ℤ) → date ≡ Some day → IsInYears Days day) → ((second : ℕ) → time ≡ Some second → second < 86_400)
+moment_of-in_years : (date : Option ℤ) (time : Option ℕ) (mark : Option Bool) (stamp : Stamp) → ((day : ℤ) → date ≡ Some day → IsInYears Days day)
+    → ((second : ℕ) → time ≡ Some second → second < 86_400)
     → moment_of date time mark ≡ Some stamp → IsInYears stamp.kind stamp.at
 moment_of-in_years None time mark stamp day_in below h = absurd (cc)
 moment_of-in_years (Some day) None mark stamp day_in below h = absurd (cc)
@@ -61,7 +63,8 @@ basic_moment-in_years : (text : List ℕ) (stamp : Stamp) → basic_moment text 
 unfolding basic_moment
 basic_moment-in_years text stamp h =
     let e = lettered (is_letter_t (slice_index text 8)) _ stamp h in
-    moment_of-in_years (basic_date (take 8 text)) (basic_time (take 6 (drop 9 text))) (utc_mark (drop 15 text)) stamp (basic_date-in_years (take 8 text)) (basic_time-below (take 6 (drop 9 text))) e
+    moment_of-in_years (basic_date (take 8 text)) (basic_time (take 6 (drop 9 text))) (utc_mark (drop 15 text)) stamp (basic_date-in_years (take 8 text))
+    (basic_time-below (take 6 (drop 9 text))) e
 
 basic-in_years : (text : List ℕ) (stamp : Stamp) → basic text ≡ Some stamp → IsInYears stamp.kind stamp.at
 unfolding basic
@@ -91,12 +94,14 @@ moment_of-kind (Some day) (Some second) (Some utc) stamp h =
 basic_moment-kind : (text : List ℕ) (stamp : Stamp) → basic_moment text ≡ Some stamp → stamp.kind ≡ Moments
 unfolding basic_moment
 basic_moment-kind text stamp h =
-    moment_of-kind (basic_date (take 8 text)) (basic_time (take 6 (drop 9 text))) (utc_mark (drop 15 text)) stamp (lettered (is_letter_t (slice_index text 8)) _ stamp h)
+    moment_of-kind (basic_date (take 8 text)) (basic_time (take 6 (drop 9 text))) (utc_mark (drop 15 text)) stamp
+    (lettered (is_letter_t (slice_index text 8)) _ stamp h)
 
 basic-marked : (text : List ℕ) (stamp : Stamp) → basic text ≡ Some stamp → stamp.utc ≡ true → stamp.kind ≡ Moments
 unfolding basic
 basic-marked text stamp h =
-    elim (length text == 8) as (λ b. (if b then option_map date_stamp (basic_date text) else basic_moment text) ≡ Some stamp → stamp.utc ≡ true → stamp.kind ≡ Moments) [
+    elim (length text == 8) as (λ b. (if b then option_map date_stamp (basic_date text) else basic_moment text) ≡ Some stamp → stamp.utc ≡ true → stamp.kind
+    ≡ Moments) [
       | true ↦ date_stamp-unmarked (basic_date text) stamp
       | false ↦ λ e utc. basic_moment-kind text stamp e
     ] h

@@ -1,6 +1,6 @@
 -- A carriage return before a line feed changes no line.
-use Rattle.std.proofs.Common.{◌≡◌, ℕ, zero, suc, ◌==◌, ◌&&◌, not, Bool, true, false, if◌then◌else◌, List, [], ◌∷◌, length, take, drop, Option, Some, None, option_map, refl, sym, ap, ◌∙◌, ℤ, arith}
-use Rattle.std.specs.Prelude.{IsTrue, unwrap_or}
+use Rattle.std.proofs.Common.{◌≡◌, ℕ, zero, suc, ◌==◌, ◌&&◌, not, Bool, true, false, List, [], ◌∷◌, length, take, drop, refl, ap, ◌∙◌, arith}
+use Rattle.std.specs.Prelude.{IsTrue}
 use Rattle.std.specs.List.{list_all, onto_first}
 use Rattle.std.specs.Str.{bytes_eq}
 use Rattle.std.proofs.lemmas.Bool.{and_parts}
@@ -8,8 +8,6 @@ use Rattle.std.proofs.lemmas.Bool.Decides.{nat_tests}
 use Rattle.rr_model.specs.Text.Calendars.{calendar_scan, calendar_text}
 use Rattle.rr_model.specs.Text.Event.{event_scan, scanned, is_bare_text, no_components}
 use Rattle.rr_model.specs.Text.Lines.{physical_lines, with_physical_lines, unfolded_lines, without_mark}
-use Rattle.rr_model.specs.Text.Rules.{text_after}
-use Rattle.rr_model.specs.declared.used.Scan.{Scan}
 use Rattle.rr_rrule.specs.TextLaws.{HasNoReturn, with_returns, LineEndsDoNotMatter}
 
 -- ---- lines
@@ -42,12 +40,14 @@ mark_tested (m ∷ ms) (b ∷ bs) h =
     let parts = and_parts (not (m == 10) && not (m == 13)) (list_all (λ c. not (c == 10) && not (c == 13)) ms) h in
     by (b == 10) refl parts.0 (mark_tested ms bs parts.1)
   where
-    by : (feed : Bool) → (b == 10) ≡ feed → (not (m == 10) && not (m == 13)) ≡ true → bytes_eq (take (length ms) (with_returns bs)) ms ≡ bytes_eq (take (length ms) bs) ms
+    by : (feed : Bool) → (b == 10) ≡ feed → (not (m == 10) && not (m == 13)) ≡ true
+        → bytes_eq (take (length ms) (with_returns bs)) ms ≡ bytes_eq (take (length ms) bs) ms
         → bytes_eq (take (length (m ∷ ms)) (with_returns (b ∷ bs))) (m ∷ ms) ≡ bytes_eq (take (length (m ∷ ms)) (b ∷ bs)) (m ∷ ms)
     by true e n same = rw e (grind (arith, nat_tests, e, n))
     by false e n same = rw (e, same) refl
 
-mark_dropped : (mark text : List ℕ) → IsMark mark → bytes_eq (take (length mark) text) mark ≡ true → drop (length mark) (with_returns text) ≡ with_returns (drop (length mark) text)
+mark_dropped : (mark text : List ℕ) → IsMark mark → bytes_eq (take (length mark) text) mark ≡ true
+    → drop (length mark) (with_returns text) ≡ with_returns (drop (length mark) text)
 mark_dropped [] text h e = refl
 mark_dropped (m ∷ ms) [] h e = refl
 mark_dropped (m ∷ ms) (b ∷ bs) h e =
@@ -55,7 +55,8 @@ mark_dropped (m ∷ ms) (b ∷ bs) h e =
     let front = and_parts (b == m) (bytes_eq (take (length ms) bs) ms) e in
     by (b == 10) refl front.0 parts.0 (mark_dropped ms bs parts.1 front.1)
   where
-    by : (feed : Bool) → (b == 10) ≡ feed → (b == m) ≡ true → (not (m == 10) && not (m == 13)) ≡ true → drop (length ms) (with_returns bs) ≡ with_returns (drop (length ms) bs)
+    by : (feed : Bool) → (b == 10) ≡ feed → (b == m) ≡ true → (not (m == 10) && not (m == 13)) ≡ true
+        → drop (length ms) (with_returns bs) ≡ with_returns (drop (length ms) bs)
         → drop (length (m ∷ ms)) (with_returns (b ∷ bs)) ≡ with_returns (drop (length (m ∷ ms)) (b ∷ bs))
     by true e same n more = absurd (grind (arith, nat_tests, e, same, n))
     by false e same n more = rw e more

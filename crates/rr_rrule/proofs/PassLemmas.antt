@@ -1,5 +1,5 @@
 -- What the first pass keeps: a start of the years 1 to 9999, few rules and few dates. The second pass adds no more.
-use Rattle.std.proofs.Common.{◌≡◌, ℕ, ◌+◌, ◌<◌, ◌≤◌, ◌&&◌, nat_le, Bool, true, false, if◌then◌else◌, List, [], ◌∷◌, ◌++◌, length, Result, Ok, Option, None, Some, refl, sym, ap, ◌∙◌, arith, subst, ℤ}
+use Rattle.std.proofs.Common.{◌≡◌, ℕ, ◌+◌, ◌<◌, ◌≤◌, ◌&&◌, nat_le, Bool, true, false, if◌then◌else◌, List, [], ◌∷◌, ◌++◌, length, Result, Ok, Option, Some, refl, sym, ap, ◌∙◌, arith, subst, ℤ}
 use Rattle.std.specs.Prelude.{int_lt, ok_or}
 use Rattle.std.specs.List.{slice_split}
 use Rattle.std.specs.Option.{is_some, IfSome}
@@ -7,7 +7,7 @@ use Rattle.std.proofs.lemmas.Bool.Decides.{nat_tests}
 use Rattle.std.proofs.lemmas.List.{length-append}
 use Rattle.rr_model.specs.Rising.{with_value}
 use Rattle.rr_model.specs.Text.Moments.{basic}
-use Rattle.rr_model.specs.Text.Passes.{Stated, Language, judged_start, has_slash, date_value, judged_date, judged_dates, judged_line, first_pass, Beside, put_date, date_beside, with_date, with_line, second_pass}
+use Rattle.rr_model.specs.Text.Passes.{Stated, Language, has_slash, date_value, judged_date, judged_dates, judged_line, first_pass, Beside, put_date, date_beside, with_date, with_line, second_pass}
 use Rattle.rr_model.specs.Text.RuleValues.{◌>>=◌}
 use Rattle.rr_model.specs.Text.Steps.{in_turn}
 use Rattle.rr_model.specs.declared.pass.FirstPass.{FirstPass}
@@ -27,7 +27,8 @@ total more (y ∷ ys) = more y + total more ys
 
 module _ {X Y : Type 0} (step : X → Y → Result X Refusal) where
   -- what each step keeps is kept
-  pub in_turn-keeps : (P : X → Type 0) → ((x : X) (y : Y) (z : X) → P x → step x y ≡ Ok z → P z) → (x : X) (ys : List Y) (z : X) → P x → in_turn step x ys ≡ Ok z → P z
+  pub in_turn-keeps : (P : X → Type 0) → ((x : X) (y : Y) (z : X) → P x → step x y ≡ Ok z → P z) → (x : X) (ys : List Y) (z : X) → P x
+      → in_turn step x ys ≡ Ok z → P z
   in_turn-keeps P keeps x [] z p h =
       let same : x ≡ z = cc in
       subst P same p
@@ -75,7 +76,8 @@ pub record IsSoundPass (pass : FirstPass) : Type 0 where
   pub few_rules : pass.rule_count ≤ 16
   pub few_dates : pass.date_count ≤ 10_000
 
-date-sound : (line : ℕ) (is_plus : Bool) (pass : FirstPass) (text : List ℕ) (next : FirstPass) → IsSoundPass pass → judged_date line is_plus pass text ≡ Ok next → IsSoundPass next
+date-sound : (line : ℕ) (is_plus : Bool) (pass : FirstPass) (text : List ℕ) (next : FirstPass) → IsSoundPass pass
+    → judged_date line is_plus pass text ≡ Ok next → IsSoundPass next
 date-sound line is_plus pass text next sound h =
     let counts = date-counts line is_plus pass text next h in
     subst IsSoundPass (sym counts.0) (record { start = sound.start; few_rules = sound.few_rules; few_dates = omega (arith, counts.1) })
@@ -86,7 +88,12 @@ line-sound language line Dtstart pass text next sound h =
     let once = not_refused (is_some pass.start) (PartTwice line) _ next h in
     let value = and_then_ok (ok_or (basic text) (BadMoment line)) (λ (stamp : Stamp). Ok (record pass { start = Some stamp })) next once.1 in
     let same : record pass { start = Some value.0 } ≡ next = cc in
-    subst IsSoundPass same (record { start = basic-stamp text value.0 (ok_or_ok (basic text) _ value.0 value.1); few_rules = sound.few_rules; few_dates = sound.few_dates })
+    subst IsSoundPass same (record {
+      start =
+          basic-stamp text value.0 (ok_or_ok (basic text) _ value.0 value.1);
+      few_rules = sound.few_rules;
+      few_dates = sound.few_dates;
+    })
 line-sound language line Rrule pass text next sound h =
     let room = not_refused (nat_le 16 pass.rule_count) TooManyParts _ next h in
     let rule = and_then_ok (language.stated line text) (λ stated. Ok (record pass { rule_count = pass.rule_count + 1 })) next room.1 in
@@ -136,7 +143,8 @@ dates-keep_rules line is_plus n =
     (λ p text z same h. subst (λ (q : FirstPass). q.rule_count ≡ n) (sym (date-counts line is_plus p text z h).0) same)
 
 line-counts : {R : Type 0} (language : Language R) (line : ℕ) (name : LineName) (pass : FirstPass) (text : List ℕ) (next : FirstPass)
-    → judged_line language line name pass text ≡ Ok next → (next.rule_count ≡ pass.rule_count + rules_on name) × (next.date_count ≡ pass.date_count + dates_on language name text)
+    → judged_line language line name pass text ≡ Ok next
+    → (next.rule_count ≡ pass.rule_count + rules_on name) × (next.date_count ≡ pass.date_count + dates_on language name text)
 unfolding rules_on dates_on
 line-counts language line Dtstart pass text next h =
     let once = not_refused (is_some pass.start) (PartTwice line) _ next h in
@@ -157,11 +165,14 @@ line-counts language line Exdate pass text next h =
 line-counts language line Exrule pass text next h = absurd (cc)
 
 -- what is counted is what all lines have
-pub first_pass-counts : {R : Type 0} (language : Language R) (pass : FirstPass) (lines : List UsedLine) (next : FirstPass) → first_pass language pass lines ≡ Ok next
+pub first_pass-counts : {R : Type 0} (language : Language R) (pass : FirstPass) (lines : List UsedLine) (next : FirstPass)
+    → first_pass language pass lines ≡ Ok next
     → (next.rule_count ≡ pass.rule_count + all_rules lines) × (next.date_count ≡ pass.date_count + all_dates language lines)
 first_pass-counts language pass lines next h = (
-  in_turn-counts judged (λ (p : FirstPass). p.rule_count) (λ (line : UsedLine). rules_on line.name) (λ p line z e. (line-counts language line.number line.name p line.value z e).0) pass lines next h,
-  in_turn-counts judged (λ (p : FirstPass). p.date_count) (λ (line : UsedLine). dates_on language line.name line.value) (λ p line z e. (line-counts language line.number line.name p line.value z e).1) pass lines next h,
+  in_turn-counts judged (λ (p : FirstPass). p.rule_count) (λ (line : UsedLine). rules_on line.name)
+      (λ p line z e. (line-counts language line.number line.name p line.value z e).0) pass lines next h,
+  in_turn-counts judged (λ (p : FirstPass). p.date_count) (λ (line : UsedLine). dates_on language line.name line.value)
+      (λ p line z e. (line-counts language line.number line.name p line.value z e).1) pass lines next h,
 )
   where
     judged : FirstPass → UsedLine → Result FirstPass Refusal
@@ -207,18 +218,22 @@ put_date-keeps_rules : {R : Type 0} (is_plus : Bool) (beside : Beside R) (at : �
 put_date-keeps_rules true beside at = refl
 put_date-keeps_rules false beside at = refl
 
-with_date-keeps_rules : {R : Type 0} (offset : Option ℤ) (start : Stamp) (line : ℕ) (is_plus : Bool) (n : ℕ) (beside : Beside R) (text : List ℕ) (next : Beside R) → length beside.rules ≡ n
+with_date-keeps_rules : {R : Type 0} (offset : Option ℤ) (start : Stamp) (line : ℕ) (is_plus : Bool) (n : ℕ) (beside : Beside R) (text : List ℕ)
+    (next : Beside R) → length beside.rules ≡ n
     → with_date offset start line is_plus beside text ≡ Ok next → length next.rules ≡ n
 with_date-keeps_rules {R = R} offset start line is_plus n beside text next same h =
     let put = date-put offset start line is_plus beside text next h in
     subst (λ (b : Beside R). length b.rules ≡ n) put.4 (put_date-keeps_rules is_plus beside put.2 ∙ same)
 
 -- the rule of a line is put at the end, and nothing else changes
-pub rule-put : {R : Type 0} (language : Language R) (rule_beside : ℕ → Stated R → Result R Refusal) (offset : Option ℤ) (start : Stamp) (line : ℕ) (beside : Beside R) (text : List ℕ) (next : Beside R)
+pub rule-put : {R : Type 0} (language : Language R) (rule_beside : ℕ → Stated R → Result R Refusal) (offset : Option ℤ) (start : Stamp) (line : ℕ)
+    (beside : Beside R) (text : List ℕ) (next : Beside R)
     → with_line language rule_beside offset start line Rrule beside text ≡ Ok next
-    → (stated : Stated R) × (language.stated line text ≡ Ok stated) × (rule : R) × (rule_beside line stated ≡ Ok rule) × (record beside { rules = beside.rules ++ rule ∷ [] } ≡ next)
+    → (stated : Stated R) × (language.stated line text ≡ Ok stated) × (rule : R) × (rule_beside line stated ≡ Ok rule)
+    × (record beside { rules = beside.rules ++ rule ∷ [] } ≡ next)
 rule-put language rule_beside offset start line beside text next h =
-    let stated = and_then_ok (language.stated line text) (λ s. rule_beside line s >>= λ rule. Ok (record beside { rules = beside.rules ++ rule ∷ [] })) next h in
+    let stated = and_then_ok (language.stated line text) (λ s. rule_beside line s
+    >>= λ rule. Ok (record beside { rules = beside.rules ++ rule ∷ [] })) next h in
     let rule = and_then_ok (rule_beside line stated.0) (λ r. Ok (record beside { rules = beside.rules ++ r ∷ [] })) next stated.2 in
     let same : record beside { rules = beside.rules ++ rule.0 ∷ [] } ≡ next = cc in
     (stated.0, stated.1, rule.0, rule.1, same)
@@ -227,14 +242,21 @@ module _ {R : Type 0} (language : Language R) (rule_beside : ℕ → Stated R �
   abbrev IsBounded : Beside R → ℕ → ℕ → Beside R → Type 0
   IsBounded beside rules dates next = (length next.rules ≤ length beside.rules + rules) × (date_count next ≤ date_count beside + dates)
 
-  dates-bounded : (line : ℕ) (is_plus : Bool) (beside : Beside R) (texts : List (List ℕ)) (next : Beside R) → in_turn (with_date offset start line is_plus) beside texts ≡ Ok next
+  dates-bounded : (line : ℕ) (is_plus : Bool) (beside : Beside R) (texts : List (List ℕ)) (next : Beside R)
+      → in_turn (with_date offset start line is_plus) beside texts ≡ Ok next
       → IsBounded beside 0 (total (λ (piece : List ℕ). 1) texts) next
   dates-bounded line is_plus beside texts next h = (
-    omega (arith, in_turn-keeps (with_date offset start line is_plus) (λ (b : Beside R). length b.rules ≡ length beside.rules) (λ b t z same e. with_date-keeps_rules offset start line is_plus (length beside.rules) b t z same e) beside texts next refl h),
-    in_turn-bounded (with_date offset start line is_plus) (λ b. date_count b) (λ (piece : List ℕ). 1) (λ b t z e. with_date-bounded offset start line is_plus b t z e) beside texts next h,
+    omega (
+      arith,
+      in_turn-keeps (with_date offset start line is_plus) (λ (b : Beside R). length b.rules ≡ length beside.rules)
+          (λ b t z same e. with_date-keeps_rules offset start line is_plus (length beside.rules) b t z same e) beside texts next refl h,
+    ),
+    in_turn-bounded (with_date offset start line is_plus) (λ b. date_count b) (λ (piece : List ℕ). 1)
+        (λ b t z e. with_date-bounded offset start line is_plus b t z e) beside texts next h,
   )
 
-  line-bounded : (line : ℕ) (name : LineName) (beside : Beside R) (text : List ℕ) (next : Beside R) → with_line language rule_beside offset start line name beside text ≡ Ok next
+  line-bounded : (line : ℕ) (name : LineName) (beside : Beside R) (text : List ℕ) (next : Beside R)
+      → with_line language rule_beside offset start line name beside text ≡ Ok next
       → IsBounded beside (rules_on name) (dates_on language name text) next
   unfolding rules_on dates_on
   line-bounded line Dtstart beside text next h =
@@ -253,8 +275,10 @@ module _ {R : Type 0} (language : Language R) (rule_beside : ℕ → Stated R �
   pub second_pass-bounded : (beside : Beside R) (lines : List UsedLine) (next : Beside R) → second_pass language rule_beside offset start beside lines ≡ Ok next
       → IsBounded beside (all_rules lines) (all_dates language lines) next
   second_pass-bounded beside lines next h = (
-    in_turn-bounded with_used (λ (b : Beside R). length b.rules) (λ (line : UsedLine). rules_on line.name) (λ b line z e. (line-bounded line.number line.name b line.value z e).0) beside lines next h,
-    in_turn-bounded with_used (λ b. date_count b) (λ (line : UsedLine). dates_on language line.name line.value) (λ b line z e. (line-bounded line.number line.name b line.value z e).1) beside lines next h,
+    in_turn-bounded with_used (λ (b : Beside R). length b.rules) (λ (line : UsedLine). rules_on line.name)
+        (λ b line z e. (line-bounded line.number line.name b line.value z e).0) beside lines next h,
+    in_turn-bounded with_used (λ b. date_count b) (λ (line : UsedLine). dates_on language line.name line.value)
+        (λ b line z e. (line-bounded line.number line.name b line.value z e).1) beside lines next h,
   )
     where
       with_used : Beside R → UsedLine → Result (Beside R) Refusal

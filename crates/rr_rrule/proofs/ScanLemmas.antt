@@ -16,12 +16,15 @@ after_same (Ok x) f g same = same x
 after_same (Err refusal) f g same = refl
 
 -- lines of which both passes make the same
-pub scan_by_passes : (offset : Option ℤ) (lines others : List UsedLine) (stop : Option Refusal) → first_pass rrule_language nothing_read lines ≡ first_pass rrule_language nothing_read others
-    → ((start : Stamp) → second_pass rrule_language (rule_beside offset start) offset start nothing_beside lines ≡ second_pass rrule_language (rule_beside offset start) offset start nothing_beside others)
+pub scan_by_passes : (offset : Option ℤ) (lines others : List UsedLine) (stop : Option Refusal)
+    → first_pass rrule_language nothing_read lines ≡ first_pass rrule_language nothing_read others
+    → ((start : Stamp) → second_pass rrule_language (rule_beside offset start) offset start nothing_beside lines
+    ≡ second_pass rrule_language (rule_beside offset start) offset start nothing_beside others)
     → calendar_scan offset (record { used = lines; stop = stop }) ≡ calendar_scan offset (record { used = others; stop = stop })
 scan_by_passes offset lines others stop first second =
     ap (λ (r : Result (Event Rule) Refusal). r >>= λ event. Ok (series_of_event event))
     (ap (λ (r : Result FirstPass Refusal). r >>= λ read. unless_stopped stop read >>= λ pass. ok_or pass.start NoStart >>= λ start.
     second_pass rrule_language (rule_beside offset start) offset start nothing_beside lines >>= λ beside. Ok (record { start = start; beside = beside })) first
-    ∙ after_same (first_pass rrule_language nothing_read others) _ _ (λ read. after_same (unless_stopped stop read) _ _ (λ pass. after_same (ok_or pass.start NoStart) _ _ (λ start.
+    ∙ after_same (first_pass rrule_language nothing_read others) _ _
+    (λ read. after_same (unless_stopped stop read) _ _ (λ pass. after_same (ok_or pass.start NoStart) _ _ (λ start.
     ap (λ (r : Result (Beside Rule) Refusal). r >>= λ beside. Ok (record { start = start; beside = beside })) (second start)))))

@@ -1,5 +1,5 @@
 -- A rule that is read is valid beside a start that it takes.
-use Rattle.std.proofs.Common.{◌≡◌, ℕ, ◌<◌, ◌≤◌, Option, None, Some, List, Ok, subst, sym, ap, ◌∙◌, arith}
+use Rattle.std.proofs.Common.{◌≡◌, ℕ, ◌<◌, ◌≤◌, Option, None, Some, List, Ok, subst, sym, arith}
 use Rattle.std.specs.Prelude.{IsTrue, unwrap_or, ok_or}
 use Rattle.std.specs.Option.{IfSome}
 use Rattle.rr_model.specs.Moment.Years.{IsInYears}
@@ -22,7 +22,8 @@ use Rattle.rr_rrule.proofs.ValidPartsLemmas.{ArePartsValid, rule_parts-valid}
 -- ---- the rule
 
 -- the COUNT of an end is in its range, and its UNTIL lies in the years 1 to 9999
-end_of-valid : (until : Option Stamp) (count : Option ℕ) (end : End) → IfSome until IsStamp → IfSome count IsCount → end_of until count ≡ Ok end → HasCountInRange end × EndsInYears end
+end_of-valid : (until : Option Stamp) (count : Option ℕ) (end : End) → IfSome until IsStamp → IfSome count IsCount → end_of until count ≡ Ok end
+    → HasCountInRange end × EndsInYears end
 end_of-valid None None end u c h =
     let e : Never ≡ end = cc in
     subst (λ x. HasCountInRange x × EndsInYears x) e (tt, tt)
@@ -38,7 +39,8 @@ end_of-valid (Some stamp) (Some n) end u c h = absurd (cc)
 abbrev pub IsValidBeside : Rule → Type 0
 IsValidBeside rule = ((kind : Kind) → IsTrue (takes_start rule.freq kind) → IsValidRule kind rule) × EndsInYears rule.end
 
-rule_with-valid : (freq : Freq) (end : End) (parts : RuleParts) → ArePartsValid parts → HasCountInRange end × EndsInYears end → IsTrue (is_allowed (rule_with freq end parts)) → IsValidBeside (rule_with freq end parts)
+rule_with-valid : (freq : Freq) (end : End) (parts : RuleParts) → ArePartsValid parts → HasCountInRange end × EndsInYears end
+    → IsTrue (is_allowed (rule_with freq end parts)) → IsValidBeside (rule_with freq end parts)
 rule_with-valid freq end parts v ends allowed = (
   λ kind taken. record {
     interval_low = interval.0;
@@ -89,7 +91,8 @@ until-in_years : (until : Option Stamp) → IfSome until IsStamp → IfSome unti
 until-in_years None h = tt
 until-in_years (Some stamp) h = h.0
 
-pub parts-in_years : (line : ℕ) (text : List ℕ) (parts : RuleParts) → rule_parts line text ≡ Ok parts → IfSome parts.until (λ stamp. IsInYears stamp.kind stamp.at)
+pub parts-in_years : (line : ℕ) (text : List ℕ) (parts : RuleParts) → rule_parts line text ≡ Ok parts
+    → IfSome parts.until (λ stamp. IsInYears stamp.kind stamp.at)
 parts-in_years line text parts h = until-in_years parts.until (rule_parts-valid line text parts h).until
 
 -- a moment of UNTIL is the rule's end
@@ -113,11 +116,13 @@ rule_of-fits line parts rule u h =
     let same : rule_with freq.0 end.0 parts ≡ rule = cc in
     subst (λ (r : Rule). FitsUntil parts.until r.end) same (end_of-fits parts.until parts.count end.0 u end.1)
 
-pub stated_rule-valid : (line : ℕ) (text : List ℕ) (stated : Stated Rule) → stated_rule line text ≡ Ok stated → IsValidBeside stated.rule × FitsUntil stated.until stated.rule.end
+pub stated_rule-valid : (line : ℕ) (text : List ℕ) (stated : Stated Rule) → stated_rule line text ≡ Ok stated
+    → IsValidBeside stated.rule × FitsUntil stated.until stated.rule.end
 unfolding stated_rule
 stated_rule-valid line text stated h =
     let parts = and_then_ok (rule_parts line text) _ stated h in
     let rule = and_then_ok (rule_of line parts.0) _ stated parts.2 in
     let valid = rule_parts-valid line text parts.0 parts.1 in
     let same : record { rule = rule.0; until = parts.0.until } ≡ stated = cc in
-    subst (λ (s : Stated Rule). IsValidBeside s.rule × FitsUntil s.until s.rule.end) same (rule_of-valid line parts.0 rule.0 valid rule.1, rule_of-fits line parts.0 rule.0 valid.until rule.1)
+    subst (λ (s : Stated Rule). IsValidBeside s.rule × FitsUntil s.until s.rule.end) same
+    (rule_of-valid line parts.0 rule.0 valid rule.1, rule_of-fits line parts.0 rule.0 valid.until rule.1)

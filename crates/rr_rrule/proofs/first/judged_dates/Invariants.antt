@@ -7,4 +7,5 @@ use Rattle.rr_rrule.proofs.first.judged_dates.Given as goal
 
 abbrev pub invariant-loop-piece : goal.invariant-loop-piece
 invariant-loop-piece l =
-    in_turn (judged_date l.line l.is_plus) l.pass (drop (length l.yielded) (slice_split is_comma l.text)) ≡ in_turn (judged_date l.line l.is_plus) l.fn.pass (slice_split is_comma l.text)
+    in_turn (judged_date l.line l.is_plus) l.pass (drop (length l.yielded) (slice_split is_comma l.text))
+    ≡ in_turn (judged_date l.line l.is_plus) l.fn.pass (slice_split is_comma l.text)

@@ -7,4 +7,5 @@ use Rattle.rr_rrule.proofs.second.with_dates.Given as goal
 
 abbrev pub invariant-loop-piece : goal.invariant-loop-piece
 invariant-loop-piece l =
-    in_turn (with_date l.setting.offset l.setting.start l.line l.is_plus) l.beside (drop (length l.yielded) (slice_split is_comma l.text)) ≡ in_turn (with_date l.setting.offset l.setting.start l.line l.is_plus) l.fn.beside (slice_split is_comma l.text)
+    in_turn (with_date l.setting.offset l.setting.start l.line l.is_plus) l.beside (drop (length l.yielded) (slice_split is_comma l.text))
+    ≡ in_turn (with_date l.setting.offset l.setting.start l.line l.is_plus) l.fn.beside (slice_split is_comma l.text)
