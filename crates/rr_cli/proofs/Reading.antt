@@ -1,8 +1,6 @@
 -- What the parts of a daily text make of it.
-use Rattle.std.proofs.Common.{◌≡◌, ℕ, Option, Some, None, List, length, ℤ, pos, neg_ℤ, ◌≤ℤ◌, option_map, inl, inr, refl, sym, ap, subst, ◌∙◌, w64, to_z, of_z, arith}
+use Rattle.std.proofs.Common.{◌≡◌, ℕ, Option, Some, None, List, length, ℤ, pos, neg_ℤ, ◌≤ℤ◌, option_map, refl, sym, ap, subst, ◌∙◌, w64, to_z, of_z, arith}
 use Rattle.std.proofs.lemmas.Int.{ints}
-use Rattle.std.specs.Prelude.{Result, Ok, Err}
-use Rattle.rr_cli.specs.Daily.{DailySeries}
 use Rattle.rr_cli.specs.DailyText.{IsDailyText, StatesDaily, StatesNoDate, interval_of}
 use Rattle.rr_model.specs.Moment.{day_part}
 use Rattle.rr_model.specs.Text.Moments.{basic, basic_date, date_stamp}

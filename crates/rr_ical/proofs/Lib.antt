@@ -1,3 +1,4 @@
 mod ListedLemmas
 mod ScanLemmas
 mod TextLemmas
+mod FoldingLemmas

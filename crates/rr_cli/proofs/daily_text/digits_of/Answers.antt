@@ -1,8 +1,8 @@
-use Rattle.std.proofs.Common.{◌≡◌, [], ◌∷◌, ◌++◌, true, not, sym, ap, ◌∙◌, take, drop, refl}
+use Rattle.std.proofs.Common.{◌≡◌, [], ◌∷◌, ◌++◌, true, sym, ap, ◌∙◌}
 use Rattle.std.proofs.lemmas.List.{append_cancel_left, take-append-drop}
 use Rattle.std.specs.Prelude.{codes}
 use Rattle.rr_cli.specs.DailyText.{interval_part}
-use Rattle.rr_cli.proofs.DailyTextParts.{front_digits, back_is, text_of, after_start}
+use Rattle.rr_cli.proofs.DailyTextParts.{front_digits, back_is, text_of}
 use Rattle.rr_cli.proofs.daily_text.digits_of.Goals as goal
 
 pub returns-then-not-are_digits : goal.returns-then-not-are_digits

@@ -1,4 +1,4 @@
-use Rattle.std.proofs.Common.{◌≡◌, inr, refl, sym, ap, ◌∙◌, w64, to_z, of_z, arith}
+use Rattle.std.proofs.Common.{inr, refl, arith}
 use Rattle.std.proofs.lemmas.Int.{ints}
 use Rattle.rr_cli.proofs.Reading.{states_daily, states_no_date, start_in_years}
 use Rattle.rr_cli.proofs.daily_text.read.Goals as goal

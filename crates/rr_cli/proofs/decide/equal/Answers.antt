@@ -1,5 +1,5 @@
-use Rattle.std.proofs.Common.{◌≡◌, ◌+◌, pos, ◌+ℤ◌, w64, to_z, of_z, arith}
-use Rattle.std.proofs.lemmas.Int.{ints, clamps, to_z-of_z}
+use Rattle.std.proofs.Common.{◌+◌, w64, to_z, of_z, arith}
+use Rattle.std.proofs.lemmas.Int.{ints, clamps}
 use Rattle.rr_cli.proofs.DailyLemmas.{same_days, IsEqualVerdict-yes, IsEqualVerdict-no}
 use Rattle.rr_model.proofs.YearLemmas.{year_1}
 use Rattle.rr_cli.specs.Series.{series_of}
