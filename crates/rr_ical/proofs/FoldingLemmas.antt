@@ -5,7 +5,7 @@ use Rattle.std.proofs.lemmas.List.{map-append}
 use Rattle.rr_model.specs.Rule.Validity.{is_absent}
 use Rattle.rr_model.specs.Text.Lines.{feeds_next, physical_lines, begins_blank, continuation, onto_last, with_physical_line, with_physical_lines, unfolded_lines}
 use Rattle.rr_model.specs.declared.line.Line.{Line}
-use Rattle.rr_ical.specs.FoldingLaws.{line_texts, FoldingDoesNotMatter}
+use Rattle.rr_ical.specs.LineLaws.{line_texts, FoldingDoesNotMatter}
 
 -- ---- the texts of lines
 

@@ -2,3 +2,4 @@ mod ListedLemmas
 mod ScanLemmas
 mod TextLemmas
 mod FoldingLemmas
+pub mod LineEndLemmas

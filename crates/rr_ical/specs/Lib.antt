@@ -1,3 +1,3 @@
 pub mod Listed
 pub mod Steps
-pub mod FoldingLaws
+pub mod LineLaws

@@ -10,7 +10,7 @@ mod text;
 mod value;
 
 pub use event::event_lines;
-pub use laws::folding_does_not_matter;
+pub use laws::{folding_does_not_matter, line_ends_do_not_matter};
 pub use list::read_list;
 pub use text::{is_text, without_mark};
 

@@ -13,6 +13,6 @@ mod PartOrderLemmas
 mod TextExamples
 mod PassLemmas
 mod BesideLemmas
-mod LineEndLemmas
+mod LineEndProofs
 mod ScanLemmas
 mod CaseLemmas

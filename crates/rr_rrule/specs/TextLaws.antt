@@ -1,7 +1,8 @@
 -- Laws of what a calendar text states (RFC 5545, sections 3.1 and 3.3.10).
-use Rattle.std.specs.Prelude.{◌≡◌, ℕ, ◌==◌, nat_lt, Bool, false, not, ◌&&◌, if◌then◌else◌, ℤ, List, [], ◌∷◌, ◌++◌, length, Option, Ok, IsTrue}
+use Rattle.std.specs.Prelude.{◌≡◌, ℕ, ◌==◌, nat_lt, Bool, false, not, ◌&&◌, ℤ, List, ◌∷◌, ◌++◌, length, Option, Ok, IsTrue}
 use Rattle.std.specs.List.{list_all, join_with_byte}
 use Rattle.std.specs.Str.{str_to_ascii_lowercase}
+use Rattle.rr_ical.specs.LineLaws.{HasNoReturn, with_returns}
 use Rattle.rr_model.specs.Text.Calendars.{calendar_text}
 use Rattle.rr_model.specs.Text.Event.{event_scan, used_line}
 use Rattle.rr_model.specs.Text.Lines.{without_mark}
@@ -22,15 +23,6 @@ abbrev pub CaseDoesNotMatter : Type 0
 CaseDoesNotMatter = (offset : Option ℤ) (text other : List ℕ) → DifferInCase text other → calendar_text offset text ≡ calendar_text offset other
 
 -- ---- line ends
-
--- no carriage return stands in it
-abbrev pub HasNoReturn : List ℕ → Type 0
-HasNoReturn text = IsTrue (list_all (λ b. not (b == 13)) text)
-
--- the text with a carriage return before each line feed
-abbrev pub with_returns : List ℕ → List ℕ
-with_returns [] = []
-with_returns (b ∷ bs) = if b == 10 then 13 ∷ 10 ∷ with_returns bs else b ∷ with_returns bs
 
 -- A text whose lines end with CR LF states what the text does whose lines end with LF.
 abbrev pub LineEndsDoNotMatter : Type 0

@@ -5,10 +5,9 @@ use Rattle.std.specs.List.{list_all, onto_first}
 use Rattle.std.specs.Str.{bytes_eq}
 use Rattle.std.proofs.lemmas.Bool.{and_parts}
 use Rattle.std.proofs.lemmas.Bool.Decides.{nat_tests}
-use Rattle.rr_model.specs.Text.Calendars.{calendar_scan, calendar_text}
-use Rattle.rr_model.specs.Text.Event.{event_scan, scanned, is_bare_text, no_components}
-use Rattle.rr_model.specs.Text.Lines.{physical_lines, with_physical_lines, unfolded_lines, without_mark}
-use Rattle.rr_rrule.specs.TextLaws.{HasNoReturn, with_returns, LineEndsDoNotMatter}
+use Rattle.rr_model.specs.Text.Lines.{physical_lines, without_mark}
+use Rattle.rr_model.specs.Text.Lists.{list_text}
+use Rattle.rr_ical.specs.LineLaws.{HasNoReturn, with_returns, LineEndsDoNotMatter}
 
 -- ---- lines
 
@@ -64,7 +63,7 @@ mark_dropped (m ∷ ms) (b ∷ bs) h e =
 abbrev mark : List ℕ
 mark = 239 ∷ 187 ∷ 191 ∷ []
 
-without_mark-returns : (text : List ℕ) → without_mark (with_returns text) ≡ with_returns (without_mark text)
+pub without_mark-returns : (text : List ℕ) → without_mark (with_returns text) ≡ with_returns (without_mark text)
 without_mark-returns text = by (bytes_eq (take 3 text) mark) refl
   where
     by : (b : Bool) → bytes_eq (take 3 text) mark ≡ b → without_mark (with_returns text) ≡ with_returns (without_mark text)
@@ -76,7 +75,7 @@ no_return-drop zero text h = h
 no_return-drop (suc n) [] h = h
 no_return-drop (suc n) (b ∷ bs) h = no_return-drop n bs (and_parts (not (b == 13)) (list_all (λ c. not (c == 13)) bs) h).1
 
-no_return-mark : (text : List ℕ) → HasNoReturn text → HasNoReturn (without_mark text)
+pub no_return-mark : (text : List ℕ) → HasNoReturn text → HasNoReturn (without_mark text)
 no_return-mark text h = by (bytes_eq (take 3 text) mark) refl
   where
     by : (b : Bool) → bytes_eq (take 3 text) mark ≡ b → HasNoReturn (without_mark text)
@@ -85,14 +84,10 @@ no_return-mark text h = by (bytes_eq (take 3 text) mark) refl
 
 -- ---- the law
 
-scan_by_lines : (text other : List ℕ) → physical_lines text ≡ physical_lines other → event_scan false text ≡ event_scan false other
-unfolding event_scan unfolded_lines
-scan_by_lines text other same =
-    ap (λ (ls : List (List ℕ)). scanned (is_bare_text (with_physical_lines false 1 [] ls)) (length ls) no_components (with_physical_lines false 1 [] ls)) same
-
 pub line_ends_do_not_matter : LineEndsDoNotMatter
-unfolding calendar_text
-line_ends_do_not_matter offset text h =
+unfolding list_text
+line_ends_do_not_matter text h =
     let plain = without_mark text in
-    ap (λ (t : List ℕ). calendar_scan offset (event_scan false t)) (without_mark-returns text)
-    ∙ ap (calendar_scan offset) (scan_by_lines (with_returns plain) plain (same_lines plain (no_return-mark text h)))
+    let lines : physical_lines (without_mark (with_returns text)) ≡ physical_lines plain =
+    ap physical_lines (without_mark-returns text) ∙ same_lines plain (no_return-mark text h) in
+    rw lines refl
