@@ -1,0 +1,102 @@
+// The last member of a rule with COUNT.
+ghost use Rattle.std.specs.Prelude.{◌≡◌, ◌+◌, ◌<◌, ◌≤◌, ◌+ℤ◌, ◌≤ℤ◌, IfOk, min, pos};
+ghost use Rattle.rr_model.specs.Answers.{RefusedExactlyWhere};
+ghost use Rattle.rr_model.specs.Moment.{day_part};
+ghost use Rattle.rr_model.specs.Rule.Cycle.{rule_cycle};
+ghost use Rattle.rr_model.specs.Sets.Tree.{chosen_of};
+ghost use Rattle.rr_model.specs.declared.refusal.Refusal.TheVariants.{CountedTooFar};
+ghost use Rattle.rr_iter.specs.Ends.{HasNumberOn, IsSoundRule, before_day};
+
+use crate::place::{Place, find};
+use rr_model::{Fault, Kind, MAX_SPAN_DAYS, Refusal, Rule, day_part};
+use rr_num::day_cycle;
+use std::alloc::Global;
+
+// The day of the chosen moment of a number; refused where it lies more than `MAX_SPAN_DAYS` days after the start's.
+pub(crate) fn last_counted(
+    alloc: Global,
+    rule: &Rule,
+    kind: Kind,
+    start: i64,
+    count: u64,
+) -> Result<i64, Fault>
+    requires sound { IsSoundRule kind start rule.now }
+    requires some { 1 ≤ count }
+    ensures day { IfOk result (HasNumberOn (chosen_of rule.now kind start) count) }
+    ensures near { IfOk result (λ day. day ≤ℤ (day_part kind start +ℤ pos 16_777_216)) }
+    ensures refused { RefusedExactlyWhere (before_day (chosen_of rule.now kind start) (day_part kind start +ℤ pos 16_777_217) < count) CountedTooFar result }
+{
+    match find(alloc, rule, kind, start, count, day_part(kind, start))? {
+        Place::On(day) => Ok(day),
+        Place::Beyond(left) => after_start(alloc, rule, kind, start, count, left),
+    }
+}
+
+// The same of a number that is so many more than the moments of the start's day.
+fn after_start(
+    alloc: Global,
+    rule: &Rule,
+    kind: Kind,
+    start: i64,
+    count: u64,
+    left: u64,
+) -> Result<i64, Fault>
+    requires sound { IsSoundRule kind start rule.now }
+    requires some { 1 ≤ left }
+    requires left { before_day (chosen_of rule.now kind start) (day_part kind start +ℤ pos 1) + left ≡ count }
+    ensures day { IfOk result (HasNumberOn (chosen_of rule.now kind start) count) }
+    ensures near { IfOk result (λ day. day ≤ℤ (day_part kind start +ℤ pos 16_777_216)) }
+    ensures refused { RefusedExactlyWhere (before_day (chosen_of rule.now kind start) (day_part kind start +ℤ pos 16_777_217) < count) CountedTooFar result }
+{
+    let cycle = cycle_within_span(rule);
+    let to = day_part(kind, start) + cycle as i64;
+    match find(alloc, rule, kind, start, count, to)? {
+        Place::On(day) => Ok(day),
+        Place::Beyond(after) => {
+            if cycle == MAX_SPAN_DAYS {
+                return Err(Fault::Refused(Refusal::CountedTooFar));
+            }
+            after_cycles(alloc, rule, kind, start, count, left, left - after)
+        }
+    }
+}
+
+// The same where the cycle is shorter than a span, and each cycle after the start's day has so many moments.
+fn after_cycles(
+    alloc: Global,
+    rule: &Rule,
+    kind: Kind,
+    start: i64,
+    count: u64,
+    left: u64,
+    each: u64,
+) -> Result<i64, Fault>
+    requires sound { IsSoundRule kind start rule.now }
+    requires some { 1 ≤ left }
+    requires left { before_day (chosen_of rule.now kind start) (day_part kind start +ℤ pos 1) + left ≡ count }
+    requires cycle { rule_cycle rule.now < 16_777_216 }
+    requires each { before_day (chosen_of rule.now kind start) ((day_part kind start +ℤ pos (rule_cycle rule.now)) +ℤ pos 1) ≡ before_day (chosen_of rule.now kind start) (day_part kind start +ℤ pos 1) + each }
+    ensures day { IfOk result (HasNumberOn (chosen_of rule.now kind start) count) }
+    ensures near { IfOk result (λ day. day ≤ℤ (day_part kind start +ℤ pos 16_777_216)) }
+    ensures refused { RefusedExactlyWhere (before_day (chosen_of rule.now kind start) (day_part kind start +ℤ pos 16_777_217) < count) CountedTooFar result }
+{
+    let cycle = day_cycle(rule) as u64;
+    let cycles = (left - 1) / each;
+    if cycles > MAX_SPAN_DAYS / cycle {
+        return Err(Fault::Refused(Refusal::CountedTooFar));
+    }
+    let days = (cycles * cycle) as i64;
+    let to = day_part(kind, start) + (MAX_SPAN_DAYS as i64 - days);
+    match find(alloc, rule, kind, start, count - cycles * each, to)? {
+        Place::On(day) => Ok(day + days),
+        Place::Beyond(_) => Err(Fault::Refused(Refusal::CountedTooFar)),
+    }
+}
+
+// The cycle of a rule in days, or the most days of a span where it is longer.
+fn cycle_within_span(rule: &Rule) -> u64
+    requires { 1 ≤ rule.now.interval }
+    ensures { result ≡ min (rule_cycle rule.now) 16_777_216 }
+{
+    day_cycle(rule).min(MAX_SPAN_DAYS as u128) as u64
+}
