@@ -2,8 +2,11 @@ pub mod WalkLemmas
 pub mod DayListLemmas
 pub mod StepLemmas
 pub mod FineLemmas
+pub mod OffsetLemmas
+pub mod PlaceLemmas
 pub mod RulesLemmas
 mod SeriesExamples
+pub mod SetPositionLemmas
 mod TreeExamples
 pub mod RepeatLemmas
 pub mod CountedFarLemmas
