@@ -3,7 +3,7 @@ ghost use Rattle.std.specs.Prelude.{◌≡◌, IfOk, Ok, true, false};
 ghost use Rattle.rr_model.specs.Text.Rules.{is_plain_text, reads};
 ghost use Rattle.rr_model.specs.Series.Validity.{IsValidSeries};
 ghost use Rattle.rr_model.specs.Series.Cycle.{series_cycle};
-ghost use Rattle.rr_cli.specs.Answer.{check_answer, cycle_said, has_set_positions, series_said};
+ghost use Rattle.rr_cli.specs.Answer.{check_answer, cycle_said, series_said};
 ghost use Rattle.rr_cli.specs.Outcome.{answer_of};
 
 use crate::conclusion::Conclusion;
@@ -12,14 +12,6 @@ use rr_check::{Checked, admit, check};
 use rr_model::{Fault, NoMemory, Refusal, Series, Side};
 use rr_rrule::{is_plain_text, read};
 use std::alloc::Global;
-
-// Whether some rule has BYSETPOS.
-fn has_set_positions(series: &Series) -> bool
-    ensures { result ≡ has_set_positions series.now }
-{
-    let rules = series.rules.as_slice();
-    rules.iter().any(|rule| !rule.by_set_pos.is_empty())
-}
 
 // The cycle of a sound series, or that it is too long.
 fn cycle_outcome(alloc: Global, checked: &Checked) -> Result<Outcome, NoMemory>
@@ -39,9 +31,6 @@ fn series_outcome(alloc: Global, series: Series) -> Result<Outcome, NoMemory>
     requires { IsValidSeries series }
     ensures { IfOk result (λ x. answer_of x ≡ series_said (Ok series)) }
 {
-    if has_set_positions(&series) {
-        return refused(alloc, Side::A, Refusal::NotBuilt);
-    }
     match check(series) {
         Err(refusal) => refused(alloc, Side::A, refusal),
         Ok(checked) => cycle_outcome(alloc, &checked),
@@ -50,7 +39,7 @@ fn series_outcome(alloc: Global, series: Series) -> Result<Outcome, NoMemory>
 
 /// What is said of an operand's bytes: why its text or its series is refused, or its cycle in days.
 ///
-/// Texts of another form than two lines, and set positions, are refused as NotBuilt.
+/// Texts of another form than two lines are refused as NotBuilt.
 pub fn check_outcome(alloc: Global, bytes: &[u8]) -> Result<Outcome, NoMemory>
     ensures { IfOk result (λ x. answer_of x ≡ check_answer bytes.now) }
 {

@@ -31,12 +31,9 @@ use Rattle.rr_setpos.proofs.ProductLemmas.{count_seconds-same, count_seconds-zer
 use Rattle.rr_setpos.proofs.TimeCountLemmas.{times_of_day, and_assoc, below_more}
 use Rattle.rr_setpos.proofs.PositionLemmas.{candidate_parts, chosen_candidate, chosen_no_candidate, second_part-below}
 use Rattle.rr_expand.specs.Expansion.{IsCandidateSecond}
+use Rattle.rr_lazy.proofs.TreeLemmas.{and_left}
 use Rattle.rr_iter.specs.SetPositions.{IsAtOffset, IsAtSome, IsChosenOffset, offset_allowed, offset_holds}
 use Rattle.rr_iter.proofs.SetPositionLemmas.{at_some_is, count_is_length}
-
-first_holds : (a b : Bool) → (a && b) ≡ true → a ≡ true
-first_holds true b e = refl
-first_holds false b e = absurd (false≢true e)
 
 last_two : (a b c : Bool) → (a && b && c) ≡ true → (b && c) ≡ true
 last_two true true true e = refl
@@ -87,10 +84,10 @@ module _ (rule : Rule) (start t : ℤ) (passes : is_candidate rule Moments start
 
   -- its hour, and its minute of the day
   hour_allowed : hours (second_part Moments t / 3_600) ≡ true
-  hour_allowed = first_holds _ (minutes (own / 60 % 60)) (first_holds _ (seconds (own % 60)) allowed)
+  hour_allowed = and_left _ (minutes (own / 60 % 60)) (and_left _ (seconds (own % 60)) allowed)
 
   minute_allowed : (hours (second_part Moments t / 3_600) && minutes (second_part Moments t / 60 % 60)) ≡ true
-  minute_allowed = first_holds _ (seconds (own % 60)) allowed
+  minute_allowed = and_left _ (seconds (own % 60)) allowed
 
   -- the day in hours, and in minutes
   in_its_hour : (s : ℕ) → s ≤ 3_600 → count_seconds in_day (own / 3_600 * 3_600 + s) ≡ count_seconds hours (own / 3_600) * count_seconds in_hour 3_600 + count_seconds in_hour s

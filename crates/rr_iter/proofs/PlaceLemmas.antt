@@ -11,12 +11,13 @@ use Rattle.rr_model.specs.Rule.Filled.{filled}
 use Rattle.rr_model.specs.Rule.Candidate.{interval_holds, date_parts_hold}
 use Rattle.rr_model.specs.Rising.Sets.{IsSetOf}
 use Rattle.rr_model.specs.declared.kind.Kind.TheVariants.{Days}
+use Rattle.rr_model.specs.declared.rule.Rule.{Rule}
 use Rattle.rr_model.proofs.CountLemmas.{one, count_from-zero, count_from-suc, count_from-first}
 use Rattle.rr_cal.proofs.StretchLemmas.{units_are_stretches}
 use Rattle.rr_model.proofs.RisingSetLemmas.{Contains-head, Contains-tail, Contains-none, Contains-cons_cases, Rises-tail, below_rest, set_same}
 use Rattle.rr_model.specs.Rule.DaysAndTimes.{IsCandidateDay}
-use Rattle.rr_setpos.specs.Ranks.{first_of_unit, next_of_unit}
-use Rattle.rr_iter.specs.SetPositions.{PlacesAreCounts}
+use Rattle.rr_setpos.specs.Ranks.{days_before, days_of_unit, first_of_unit, next_of_unit}
+use Rattle.rr_lazy.proofs.TreeLemmas.{and_left, and_right}
 use Rattle.rr_setpos.proofs.ProductLemmas.{count_from-split}
 
 count_none : (g : ℤ → Bool) (q : ℤ) (n : ℕ) → ((t : ℤ) → q ≤ℤ t → t <ℤ (q +ℤ pos n) → g t ≡ false) → count_from g q n ≡ 0
@@ -97,15 +98,9 @@ module _ (test : ℤ → Bool) where
 both : (a b : Bool) → a ≡ true → b ≡ true → (a && b) ≡ true
 both a b e f = rw (e, f) refl
 
-first_true : (a b : Bool) → (a && b) ≡ true → a ≡ true
-first_true true b e = refl
-first_true false b e = absurd (false≢true e)
-
-second_true : (a b : Bool) → (a && b) ≡ true → b ≡ true
-second_true true b e = e
-second_true false b e = absurd (false≢true e)
-
-pub places_are_counts : PlacesAreCounts
+-- the place of a candidate day in the list of its unit's is the count of those before it, and the list's length the count of all
+pub places_are_counts : (rule : Rule) (start_day unit : ℤ) (days : List ℤ) (i : ℕ) → IsSetOf int_lt days (IsCandidateDay rule start_day unit) → i < length days
+    → (days_before rule start_day (get_or days i (pos 0)) ≡ i) × (days_of_unit rule start_day (get_or days i (pos 0)) ≡ length days)
 places_are_counts rule start_day unit days i set low =
     let d = get_or days i (pos 0) in
     let own = (set.exact d).0 (Contains-get_or days i (pos 0) low) in
@@ -114,11 +109,11 @@ places_are_counts rule start_day unit days i set low =
     let next = next_of_unit rule d in
     let n : ℕ = nat_abs (next -ℤ first) in
     let within = (units_are_stretches rule.freq rule.week_start Days d (unit_number rule.freq rule.week_start Days d)).0 refl in
-    let fits : interval_holds rule Days start_day d ≡ true = first_true (interval_holds rule Days start_day d) (test d) own.1 in
+    let fits : interval_holds rule Days start_day d ≡ true = and_left (interval_holds rule Days start_day d) (test d) own.1 in
     let passed : IsSetOf int_lt days (PassedFrom test first n) =
     set_same int_lt (IsCandidateDay rule start_day unit) (PassedFrom test first n) days set
     (λ e. (let stretch = units_are_stretches rule.freq rule.week_start Days e (unit_number rule.freq rule.week_start Days d) in (
-      (λ h. (let s = stretch.0 (h.0 ∙ sym own.0) in (s.0, omega (arith, ints, s.1, within.0, within.1), second_true (interval_holds rule Days start_day e) (test e) h.1))),
+      (λ h. (let s = stretch.0 (h.0 ∙ sym own.0) in (s.0, omega (arith, ints, s.1, within.0, within.1), and_right (interval_holds rule Days start_day e) (test e) h.1))),
       (λ h. (let same = stretch.1 (h.0, omega (arith, ints, h.1, within.0, within.1)) in
           (same ∙ own.0, both (interval_holds rule Days start_day e) (test e) (ap (λ u. divides rule.interval (u -ℤ unit_number rule.freq rule.week_start Days start_day)) same ∙ fits) h.2))),
     ))) in

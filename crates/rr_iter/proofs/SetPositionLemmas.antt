@@ -30,12 +30,11 @@ use Rattle.rr_model.proofs.RisingLemmas.{Rises-with_value, All-with_value}
 use Rattle.rr_model.proofs.RisingSetLemmas.{Contains-head, Contains-tail, Contains-none, Contains-cons_cases, length-le_bound, set_same, set_empty}
 use Rattle.std.proofs.Math.Nat.{mul-le-mul_right}
 use Rattle.rr_model.proofs.DaysAndTimesLemmas.{candidates_are_days_and_times}
-use Rattle.rr_model.proofs.MomentLemmas.{day_part-moment_at, second_part-moment_at}
 use Rattle.rr_cal.proofs.DayUnitLemmas.{unit_length}
 use Rattle.rr_setpos.specs.Ranks.{times_before, days_before, days_of_unit, first_of_unit, next_of_unit, rank_by_parts, size_by_parts, is_rank_listed}
 use Rattle.rr_setpos.specs.Nth.{IsPlaceOf, IsRankOf}
 use Rattle.rr_setpos.proofs.ChoiceLemmas.{is_chosen-plain}
-use Rattle.rr_setpos.proofs.PositionLemmas.{chosen_candidate, chosen_no_candidate}
+use Rattle.rr_setpos.proofs.PositionLemmas.{chosen_candidate, chosen_no_candidate, day_at, second_at}
 use Rattle.rr_setpos.proofs.ProductLemmas.{count_from-le, count_from-split, count_seconds-same}
 use Rattle.rr_setpos.proofs.TimeCountLemmas.{below_more}
 use Rattle.rr_setpos.proofs.UnitDayLemmas.{in_unit}
@@ -250,14 +249,6 @@ coarse_taken Weekly kind e = refl
 coarse_taken Monthly kind e = refl
 coarse_taken Yearly kind e = refl
 
-day_of : (kind : Kind) (d : ℤ) (s : ℕ) → s < seconds_of kind → day_part kind (moment_at kind d s) ≡ d
-day_of Days d s low = refl
-day_of Moments d s low = day_part-moment_at d s low
-
-second_of_it : (kind : Kind) (d : ℤ) (s : ℕ) → s < seconds_of kind → second_part kind (moment_at kind d s) ≡ s
-second_of_it Days d s low = omega (arith, low)
-second_of_it Moments d s low = second_part-moment_at d s low
-
 -- a part that is absent has no values
 pub absent_is : (xs : List ℤ) → is_absent xs ≡ true → xs ≡ []
 absent_is [] e = refl
@@ -273,7 +264,7 @@ module _ (rule : Rule) (kind : Kind) (start d : ℤ) (coarse : is_whole_days rul
   parts_at : (s : ℕ) → s < seconds_of kind
       → (rank_by_parts rule kind start (moment_at kind d s) ≡ days_before rule (day_part kind start) d * times_before rule kind start (seconds_of kind) + times_before rule kind start s)
       × (size_by_parts rule kind start (moment_at kind d s) ≡ days_of_unit rule (day_part kind start) d * times_before rule kind start (seconds_of kind))
-  parts_at s low = (rw (coarse, day_of kind d s low, second_of_it kind d s low) refl, rw (coarse, day_of kind d s low) refl)
+  parts_at s low = (rw (coarse, day_at kind d s low, second_at kind d s low) refl, rw (coarse, day_at kind d s low) refl)
 
   -- the day itself comes after those before it
   pub more_on_day : days_before rule (day_part kind start) d + 1 ≤ days_of_unit rule (day_part kind start) d

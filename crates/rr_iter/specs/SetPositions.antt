@@ -1,8 +1,6 @@
 -- The seconds that set positions choose, in the order in which a unit is walked (RFC 5545, section 3.3.10, BYSETPOS).
-use Rattle.std.specs.Prelude.{◌≡◌, ℕ, ◌+◌, ◌%◌, ◌<◌, Bool, true, IsTrue, Option, Some, None, List, Contains, get_or, length, int_lt, ℤ, pos}
+use Rattle.std.specs.Prelude.{◌≡◌, ℕ, ◌+◌, ◌%◌, ◌<◌, Bool, true, IsTrue, Option, Some, None, List, Contains, get_or, length, ℤ, pos}
 use Rattle.rr_model.specs.Moment.Units.{unit_seconds}
-use Rattle.rr_model.specs.Rising.Sets.{IsSetOf}
-use Rattle.rr_model.specs.Rule.DaysAndTimes.{IsCandidateDay}
 use Rattle.rr_model.specs.Rule.Filled.{minute_of, second_of, wants_second}
 use Rattle.rr_model.specs.Sets.Counting.{count_seconds}
 use Rattle.rr_model.specs.declared.kind.Kind.TheVariants.{Moments}
@@ -10,7 +8,7 @@ use Rattle.rr_model.specs.declared.rule.Freq.{Freq}
 use Rattle.rr_model.specs.declared.rule.Freq.TheVariants.{Minutely, Hourly}
 use Rattle.rr_model.specs.declared.rule.Rule.{Rule}
 use Rattle.rr_setpos.specs.Nth.{IsPlaceOf}
-use Rattle.rr_setpos.specs.Ranks.{days_before, days_of_unit, hour_second_allowed, is_rank_listed, number_allowed}
+use Rattle.rr_setpos.specs.Ranks.{hour_second_allowed, is_rank_listed, number_allowed}
 
 -- ---- the times of one day of a unit
 
@@ -26,11 +24,6 @@ IsTimeAt times before size place (Some s) = IsAtPlace times before size place s
 -- the time has one of the first k places
 abbrev pub IsAtSome : List ℕ → ℕ → ℕ → List ℤ → ℕ → ℕ → Type 0
 IsAtSome times before size places k s = (i : ℕ) × ((i < k) × IsAtPlace times before size (get_or places i (pos 0)) s)
-
--- The place of a candidate day in the list of its unit's is the count of those before it, and the list's length the count of all.
-abbrev pub PlacesAreCounts : Type 0
-PlacesAreCounts = (rule : Rule) (start_day unit : ℤ) (days : List ℤ) (i : ℕ) → IsSetOf int_lt days (IsCandidateDay rule start_day unit) → i < length days
-    → (days_before rule start_day (get_or days i (pos 0)) ≡ i) × (days_of_unit rule start_day (get_or days i (pos 0)) ≡ length days)
 
 -- ---- units shorter than a day
 

@@ -23,7 +23,7 @@ use Rattle.rr_setpos.specs.Ranks.{times_before, days_among, first_of_unit, next_
 use Rattle.rr_setpos.specs.Nth.{IsPlaceOf, IsRankOf, IsNthOfUnit}
 use Rattle.rr_setpos.proofs.ProductLemmas.{count_seconds-mono}
 use Rattle.rr_setpos.proofs.TimeCountLemmas.{below_more}
-use Rattle.rr_setpos.proofs.PositionLemmas.{positions_are_ranks, within_unit, unit_of_day, second_part-below, moment_is, coarse_rank, coarse_size, candidate_parts, of_moments, fine_begin, fine_next, begin_bounds}
+use Rattle.rr_setpos.proofs.PositionLemmas.{day_at, second_at, positions_are_ranks, within_unit, unit_of_day, second_part-below, moment_is, coarse_rank, coarse_size, candidate_parts, of_moments, fine_begin, fine_next, begin_bounds}
 
 -- ---- places and positions
 
@@ -67,14 +67,6 @@ module _ (rule : Rule) (kind : Kind) (start : ℤ) where
         false≢true (sym unfit ∙ ap (λ u. divides rule.interval (u -ℤ unit_number rule.freq rule.week_start kind start)) (sym in_it) ∙ (candidate_parts rule kind start t passes).0)
 
 -- ---- units of whole days
-
-day_at : (kind : Kind) (d : ℤ) (s : ℕ) → s < seconds_of kind → day_part kind (moment_at kind d s) ≡ d
-day_at Days d s low = refl
-day_at Moments d s low = day_part-moment_at d s low
-
-second_at : (kind : Kind) (d : ℤ) (s : ℕ) → s < seconds_of kind → second_part kind (moment_at kind d s) ≡ s
-second_at Days d s low = omega (arith, low)
-second_at Moments d s low = second_part-moment_at d s low
 
 module _ (rule : Rule) (kind : Kind) (start unit : ℤ) (coarse : is_whole_days rule.freq ≡ true) where
   -- the first day of the unit

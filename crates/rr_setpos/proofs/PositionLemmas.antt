@@ -20,7 +20,7 @@ use Rattle.rr_cal.proofs.StretchLemmas.{units_are_stretches}
 use Rattle.rr_model.proofs.CountLemmas.{count_from-zero, count_from-suc}
 use Rattle.rr_model.specs.Rule.DaysAndTimes.{seconds_of, time_holds, day_holds}
 use Rattle.rr_model.proofs.DaysAndTimesLemmas.{time_parts_hold-at, and_parts, candidates_are_days_and_times}
-use Rattle.rr_model.proofs.MomentLemmas.{day_part-moment_at}
+use Rattle.rr_model.proofs.MomentLemmas.{day_part-moment_at, second_part-moment_at}
 use Rattle.rr_model.specs.Sets.Counting.{count_seconds}
 use Rattle.rr_setpos.specs.Ranks.{times_before, days_among, first_of_unit, next_of_unit, days_before, days_of_unit, rank_in_unit, size_of_unit, begin_in_day, rank_by_parts, size_by_parts, is_rank_listed, PositionsAreByParts, SetPositionsAreByParts}
 use Rattle.rr_setpos.proofs.ProductLemmas.{IsProduct, count_product, count_from-split, count_from-same, count_seconds-zero, count_seconds-suc, count_seconds-split}
@@ -93,6 +93,15 @@ at_second : (kind : Kind) (d : ℤ) (s : ℕ) → s < seconds_of kind → moment
 at_second Days d s low = omega (arith, ints, low)
 at_second Moments d s low = refl
 
+-- the day and the second of a moment at a second of a day
+pub day_at : (kind : Kind) (d : ℤ) (s : ℕ) → s < seconds_of kind → day_part kind (moment_at kind d s) ≡ d
+day_at Days d s low = refl
+day_at Moments d s low = day_part-moment_at d s low
+
+pub second_at : (kind : Kind) (d : ℤ) (s : ℕ) → s < seconds_of kind → second_part kind (moment_at kind d s) ≡ s
+second_at Days d s low = omega (arith, low)
+second_at Moments d s low = second_part-moment_at d s low
+
 -- how far a moment lies from the midnight of a day
 place_in_days : (kind : Kind) (t first : ℤ) → first ≤ℤ day_part kind t → nat_abs (t -ℤ (first *ℤ pos (seconds_of kind))) ≡ nat_abs (day_part kind t -ℤ first) * seconds_of kind + second_part kind t
 place_in_days Days t first low = omega (arith, ints, low)
@@ -106,7 +115,8 @@ pub and_left : (a b : Bool) → (a && b) ≡ true → a ≡ true
 and_left true b e = refl
 and_left false b e = absurd (cc)
 
-some_zero : (b : Bool) (n : ℕ) → n ≡ 0 → cond b n 0 ≡ 0
+-- of nothing
+pub some_zero : (b : Bool) (n : ℕ) → n ≡ 0 → cond b n 0 ≡ 0
 some_zero true n e = e
 some_zero false n e = refl
 

@@ -9,11 +9,8 @@ use Rattle.rr_model.proofs.DaysAndTimesLemmas.{time_parts_hold-at}
 use Rattle.rr_model.specs.Sets.Counting.{count_seconds}
 use Rattle.rr_setpos.specs.Ranks.{number_allowed, hour_second_allowed, day_second_allowed}
 use Rattle.rr_setpos.proofs.ProductLemmas.{count_seconds-zero}
+use Rattle.rr_setpos.proofs.PositionLemmas.{some_zero}
 use Rattle.rr_setpos.proofs.TimeCountLemmas.{hour_turns, day_turns}
-
-part_of_nothing : (b : Bool) (n : ℕ) → n ≡ 0 → cond b n 0 ≡ 0
-part_of_nothing true n e = e
-part_of_nothing false n e = refl
 
 if_holds : (b : Bool) (n : ℕ) → b ≡ true → cond b n 0 ≡ n
 if_holds b n e = rw e refl
@@ -44,10 +41,10 @@ module _ (rule : Rule) (hour minute second : ℕ) where
   in_day s = day_second_allowed rule hour minute second s
 
   whole_hour : count_seconds in_hour 3_600 ≡ count_seconds minutes 60 * count_seconds seconds 60
-  whole_hour = hour_turns rule minute second 3_600 ∙ omega (arith, part_of_nothing (minutes 60) (count_seconds seconds 0) (count_seconds-zero seconds))
+  whole_hour = hour_turns rule minute second 3_600 ∙ omega (arith, some_zero (minutes 60) (count_seconds seconds 0) (count_seconds-zero seconds))
 
   whole_day : count_seconds in_day 86_400 ≡ count_seconds hours 24 * count_seconds in_hour 3_600
-  whole_day = day_turns rule hour minute second 86_400 ∙ omega (arith, part_of_nothing (hours 24) (count_seconds in_hour 0) (count_seconds-zero in_hour))
+  whole_day = day_turns rule hour minute second 86_400 ∙ omega (arith, some_zero (hours 24) (count_seconds in_hour 0) (count_seconds-zero in_hour))
 
   pub rank_in_hour : (n : ℕ) → n < count_seconds in_hour 3_600 → (0 < count_seconds seconds 60) × (n / count_seconds seconds 60 < count_seconds minutes 60) × (n % count_seconds seconds 60 < count_seconds seconds 60)
   rank_in_hour n low = parts_of_rank n (count_seconds minutes 60) (count_seconds seconds 60) (omega (arith, low, whole_hour))
