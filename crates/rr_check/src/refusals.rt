@@ -1,9 +1,9 @@
 // Why a series is refused: the first reason, rule by rule.
-ghost use Rattle.std.specs.Prelude.{◌≡◌, ◌≤◌, All, length, []};
+ghost use Rattle.std.specs.Prelude.{◌≡◌, ◌≤◌, All, length};
 ghost use Rattle.rr_model.specs.Moment.Years.{IsInYears};
 ghost use Rattle.rr_model.specs.Rule.Validity.{IsValidRule};
 ghost use Rattle.rr_model.specs.Series.Validity.{IsValidSeries};
-ghost use Rattle.rr_model.specs.Series.Soundness.{HasNoSetPositions, choice_refusal, end_refusal, first_refusal, rule_refusal, until_refusal};
+ghost use Rattle.rr_model.specs.Series.Soundness.{choice_refusal, end_refusal, first_refusal, rule_refusal, until_refusal};
 
 use rr_model::{End, Kind, Refusal, Rule, Series};
 use rr_setpos::chosen;
@@ -11,7 +11,6 @@ use rr_setpos::chosen;
 // The first refusal of a series.
 pub(crate) fn first_refusal(series: &Series) -> Option<Refusal>
     requires valid { IsValidSeries series.now }
-    requires without_set_positions { HasNoSetPositions series.now }
     ensures { result ≡ first_refusal series.now }
 {
     let mut number = 1;
@@ -28,7 +27,6 @@ pub(crate) fn first_refusal(series: &Series) -> Option<Refusal>
 // The refusal of the rule of this number; whether it chooses its start is asked where its end is sound.
 fn rule_refusal(number: u32, kind: Kind, start: i64, rule: &Rule) -> Option<Refusal>
     requires valid { IsValidRule kind rule.now }
-    requires without_set_positions { rule.now.by_set_pos ≡ [] }
     requires start { IsInYears kind start }
     ensures { result ≡ rule_refusal number kind start rule.now }
 {
@@ -72,7 +70,6 @@ fn until_refusal(kind: Kind, start: i64, other: Kind, at: i64) -> Option<Refusal
 // The refusal of a rule that does not choose its start.
 fn choice_refusal(number: u32, kind: Kind, start: i64, rule: &Rule) -> Option<Refusal>
     requires valid { IsValidRule kind rule.now }
-    requires without_set_positions { rule.now.by_set_pos ≡ [] }
     requires start { IsInYears kind start }
     ensures { result ≡ choice_refusal number kind start rule.now }
 {

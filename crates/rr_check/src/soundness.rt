@@ -1,7 +1,7 @@
 // Checked series.
 ghost use Rattle.std.specs.Prelude.{◌≡◌, IfErr, IfOk, None, Some};
 ghost use Rattle.rr_model.specs.Series.Validity.{IsValidSeries};
-ghost use Rattle.rr_model.specs.Series.Soundness.{HasNoSetPositions, IsSound, first_refusal};
+ghost use Rattle.rr_model.specs.Series.Soundness.{IsSound, first_refusal};
 
 use crate::refusals::first_refusal;
 use rr_model::{Refusal, Series};
@@ -41,7 +41,6 @@ impl Checked {
 /// (RFC 5545, section 3.8.5.3).
 pub fn check(series: Series) -> Result<Checked, Refusal>
     requires valid { IsValidSeries series }
-    requires without_set_positions { HasNoSetPositions series }
     ensures accepted { IfOk result (λ checked. (checked ≡ series) × (first_refusal series ≡ None)) }
     ensures refused { IfErr result (λ refusal. first_refusal series ≡ Some refusal) }
 {

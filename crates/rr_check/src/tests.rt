@@ -1,7 +1,6 @@
-ghost use Rattle.std.specs.Prelude.{◌≡◌, ◌≤ℤ◌, pos, [], IfOk};
+ghost use Rattle.std.specs.Prelude.{◌≡◌, ◌≤ℤ◌, pos, IfOk};
 ghost use Rattle.rr_model.specs.Rule.Validity.{IsValidRule};
 ghost use Rattle.rr_model.specs.Series.Validity.{IsValidSeries};
-ghost use Rattle.rr_model.specs.Series.Soundness.{HasNoSetPositions};
 ghost use Rattle.rr_model.specs.declared.kind.Kind.TheVariants.{Days};
 ghost use Rattle.rr_model.specs.declared.rule.End.TheVariants.{Never};
 
@@ -16,7 +15,6 @@ use std::test::Fail;
 fn mondays(alloc: Global) -> Result<Rule, NoMemory>
     ensures valid { IfOk result (λ rule. IsValidRule Days rule) }
     ensures end { IfOk result (λ rule. rule.end ≡ Never) }
-    ensures without_set_positions { IfOk result (λ rule. rule.by_set_pos ≡ []) }
 {
     let mut rule = Rule::new(alloc, Freq::Weekly, 1);
     rule.by_day.put(DayItem {
@@ -31,7 +29,6 @@ fn series(alloc: Global, start: i64) -> Result<Series, NoMemory>
     requires low { pos 0 ≤ℤ start }
     requires high { start ≤ℤ pos 2_932_896 }
     ensures valid { IfOk result IsValidSeries }
-    ensures without_set_positions { IfOk result HasNoSetPositions }
 {
     let mut rules = Rules::new(alloc);
     rules.put(mondays(alloc)?)?;

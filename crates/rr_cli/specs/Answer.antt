@@ -1,15 +1,13 @@
 -- What a run answers: a relation between the command, the bytes of its operands, and what is said.
 -- It is no function, since a verdict speaks of all whole numbers. That there is one answer alone is a law.
-use Rattle.std.specs.Prelude.{◌≡◌, ℕ, Bool, not, nat_le, if◌then◌else◌, List, [], ◌∷◌, ◌++◌, codes, Option, Some, None, Result, Ok, Err}
+use Rattle.std.specs.Prelude.{◌≡◌, ℕ, nat_le, if◌then◌else◌, List, [], ◌∷◌, ◌++◌, codes, Option, Some, None, Result, Ok, Err}
 use Rattle.std.specs.Fmt.{decimal}
-use Rattle.std.specs.List.{list_any}
 use Rattle.rr_cli.specs.Command.{Command, Operand, not_built, usage_text}
 use Rattle.rr_cli.specs.Daily.{DailySeries, IsDailyOccurrence}
 use Rattle.rr_cli.specs.DailyText.{IsDailyReading}
 use Rattle.rr_cli.specs.OperandReading.{operand_read}
 use Rattle.rr_model.specs.Text.Moments.{extended_text}
 use Rattle.rr_model.specs.Text.Refusals.{refusal_text}
-use Rattle.rr_model.specs.Rule.Validity.{is_absent}
 use Rattle.rr_model.specs.Series.Cycle.{series_cycle}
 use Rattle.rr_model.specs.Series.Soundness.{first_refusal}
 use Rattle.rr_model.specs.Sets.Verdict.{IsEqualVerdict}
@@ -81,14 +79,10 @@ abbrev pub soundness_said : Option Refusal → ℕ → Answer
 soundness_said (Some refusal) days = refused A refusal
 soundness_said None days = cycle_said days
 
--- some rule has BYSETPOS
-abbrev pub has_set_positions : Series → Bool
-has_set_positions series = list_any (λ rule. not (is_absent rule.by_set_pos)) series.rules
-
--- the refusal of the text, else what is said of its series; set positions are not built yet
+-- the refusal of the text, else what is said of its series
 abbrev pub series_said : Result Series Refusal → Answer
 series_said (Err refusal) = refused A refusal
-series_said (Ok series) = if has_set_positions series then refused A NotBuilt else soundness_said (first_refusal series) (series_cycle series)
+series_said (Ok series) = soundness_said (first_refusal series) (series_cycle series)
 
 -- what is said of an operand's bytes
 abbrev pub check_answer : Option Operand → List ℕ → Answer

@@ -2,7 +2,7 @@
 ghost use Rattle.std.specs.Prelude.{◌≡◌, IfOk, Ok, option_map, true, false};
 ghost use Rattle.rr_model.specs.Series.Validity.{IsValidSeries};
 ghost use Rattle.rr_model.specs.Series.Cycle.{series_cycle};
-ghost use Rattle.rr_cli.specs.Answer.{check_answer, cycle_said, has_set_positions, series_said};
+ghost use Rattle.rr_cli.specs.Answer.{check_answer, cycle_said, series_said};
 ghost use Rattle.rr_cli.specs.Outcome.{answer_of};
 ghost use Rattle.rr_cli.specs.Parsed.{operand_in};
 
@@ -13,14 +13,6 @@ use crate::outcome::{Outcome, refused};
 use rr_check::{Checked, admit, check};
 use rr_model::{Fault, NoMemory, Refusal, Series, Side};
 use std::alloc::Global;
-
-// Whether some rule has BYSETPOS.
-fn has_set_positions(series: &Series) -> bool
-    ensures { result ≡ has_set_positions series.now }
-{
-    let rules = series.rules.as_slice();
-    rules.iter().any(|rule| !rule.by_set_pos.is_empty())
-}
 
 // The cycle of a sound series, or that it is too long.
 fn cycle_outcome(alloc: Global, checked: &Checked) -> Result<Outcome, NoMemory>
@@ -40,9 +32,6 @@ fn series_outcome(alloc: Global, series: Series) -> Result<Outcome, NoMemory>
     requires { IsValidSeries series }
     ensures { IfOk result (λ x. answer_of x ≡ series_said (Ok series)) }
 {
-    if has_set_positions(&series) {
-        return refused(alloc, Side::A, Refusal::NotBuilt);
-    }
     match check(series) {
         Err(refusal) => refused(alloc, Side::A, refusal),
         Ok(checked) => cycle_outcome(alloc, &checked),
@@ -51,7 +40,6 @@ fn series_outcome(alloc: Global, series: Series) -> Result<Outcome, NoMemory>
 
 /// What is said of an operand's bytes: why its text or its series is refused, or its cycle in days.
 ///
-/// Set positions are refused as NotBuilt.
 pub fn check_outcome(
     alloc: Global,
     operand: Option<Operand>,

@@ -113,8 +113,8 @@ const CHECKS: [(&[u8], Status, &[u8]); 19] = [
     ),
     (
         b"DTSTART:20240102\nRRULE:FREQ=MONTHLY;BYDAY=TU;BYSETPOS=1\n",
-        Status::Refused,
-        b"refused A NotBuilt\n",
+        Status::Yes,
+        b"cycle 146097\n",
     ),
     (
         b"DTSTART:20240101\nRRULE:FREQ=MONTHLY;INTERVAL=113\n",

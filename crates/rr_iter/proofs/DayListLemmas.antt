@@ -2,7 +2,7 @@
 use Rattle.std.proofs.Common.{◌≡◌, ℕ, zero, suc, ◌+◌, ◌<◌, ◌≤◌, Bool, ◌==◌, true, false, List, [], ◌∷◌, length, get_or, Contains, ℤ, pos, ◌≤ℤ◌, ◌<ℤ◌, refl, sym, ap, ◌∙◌, subst, inl, inr, arith}
 use Rattle.std.specs.Prelude.{IsTrue, nat_lt, int_lt, Some, None}
 use Rattle.std.proofs.lemmas.Int.{ints}
-use Rattle.std.proofs.lemmas.Bool.{cases_lt}
+use Rattle.std.proofs.lemmas.Bool.{cases_lt, false≢true}
 use Rattle.std.proofs.lemmas.Bool.Decides.{nat_tests}
 use Rattle.std.proofs.lemmas.List.{get_or_default}
 use Rattle.std.proofs.lemmas.List.Elements.{Contains-get_or}
@@ -32,6 +32,9 @@ nothing_in test times set e s = elim (test s) as (λ b. test s ≡ b → test s 
 empty_by_length : (xs : List ℕ) → (length xs == 0) ≡ true → xs ≡ []
 empty_by_length [] e = refl
 empty_by_length (x ∷ xs) e = absurd (let z : length (x ∷ xs) ≡ 0 = grind (arith, nat_tests) in omega (arith, z))
+
+pub not_empty : (xs shown : List ℕ) → shown ≡ xs → (length shown == 0) ≡ false → xs ≡ [] → ⊥
+not_empty xs shown e some none = false≢true (sym some ∙ ap (λ l. length l == 0) (e ∙ none))
 
 -- a day without seconds is not occupied
 pub unoccupied : (tree : Tree) (day day' : ℤ) (times shown : List ℕ) → day' ≡ day → IsSetOf nat_lt times (λ s. IsTrue (stands_at tree day' s)) → shown ≡ times → (length shown == 0) ≡ true → IsOnDay tree day None

@@ -7,7 +7,7 @@ use Rattle.std.proofs.lemmas.Bool.Decides.{nat_tests}
 use Rattle.rr_model.specs.Whole.{floor_mod}
 use Rattle.rr_model.specs.Moment.{moment_at}
 use Rattle.rr_model.specs.Moment.Units.{unit_number}
-use Rattle.rr_model.specs.Rule.Validity.{is_absent, takes_start}
+use Rattle.rr_model.specs.Rule.Validity.{takes_start}
 use Rattle.rr_model.specs.Rising.Sets.{IsSetOf}
 use Rattle.rr_model.specs.Rule.Chosen.{is_chosen}
 use Rattle.rr_model.specs.Rule.Candidate.{is_candidate, interval_holds}
@@ -19,7 +19,7 @@ use Rattle.rr_model.specs.declared.rule.Rule.{Rule}
 use Rattle.rr_model.proofs.WholeLemmas.{floor_only}
 use Rattle.rr_model.proofs.RisingSetLemmas.{set_same}
 use Rattle.rr_model.specs.Moment.Units.{is_whole_days, unit_seconds}
-use Rattle.rr_expand.specs.Expansion.{IsCandidateSecond}
+use Rattle.rr_setpos.proofs.PositionLemmas.{chosen_no_candidate}
 use Rattle.rr_model.proofs.DaysAndTimesLemmas.{takes_start-days}
 use Rattle.rr_expand.proofs.FinerLemmas.{unit_at}
 use Rattle.rr_expand.proofs.FitLemmas.{none_before}
@@ -68,27 +68,26 @@ before_whole Weekly k j r e l m = absurd (false≢true (sym e))
 before_whole Monthly k j r e l m = absurd (false≢true (sym e))
 before_whole Yearly k j r e l m = absurd (false≢true (sym e))
 
-module _ (rule : Rule) (start : ℤ) (plain : rule.by_set_pos ≡ []) where
+no_candidate : (rule : Rule) (start t : ℤ) → interval_holds rule Moments start t ≡ false → is_candidate rule Moments start t ≡ false
+unfolding is_candidate
+no_candidate rule start t e = rw e refl
+
+module _ (rule : Rule) (start : ℤ) where
   abbrev tree : Tree
   tree = chosen_of rule Moments start
 
-  chosen_is : (t : ℤ) → is_chosen rule Moments start t ≡ is_candidate rule Moments start t
-  unfolding is_chosen
-  chosen_is t = let e : is_absent rule.by_set_pos ≡ true = ap is_absent plain in rw e (elim (is_candidate rule Moments start t) as (λ b. (b && true) ≡ b) [ true ↦ refl | false ↦ refl ])
+  stands_is : (d : ℤ) (s : ℕ) → s < 86_400 → stands_at tree d s ≡ (is_chosen rule Moments start (moment_at Moments d s) && int_le start (moment_at Moments d s))
+  stands_is d s l = let h : nat_lt s 86_400 ≡ true = grind (arith, nat_tests) in rw h refl
 
-  stands_is : (d : ℤ) (s : ℕ) → s < 86_400 → stands_at tree d s ≡ (is_candidate rule Moments start (moment_at Moments d s) && int_le start (moment_at Moments d s))
-  stands_is d s l = let h : nat_lt s 86_400 ≡ true = grind (arith, nat_tests) in rw (h, chosen_is (moment_at Moments d s)) refl
+  unfit : (t : ℤ) → interval_holds rule Moments start t ≡ false → is_chosen rule Moments start t ≡ false
+  unfit t e = chosen_no_candidate rule Moments start t (no_candidate rule start t e)
 
-  unfit : (t : ℤ) → interval_holds rule Moments start t ≡ false → is_candidate rule Moments start t ≡ false
-  unfolding is_candidate
-  unfit t e = rw e refl
-
-  pub seconds_of_day : (d : ℤ) (from : ℕ) (all times : List ℕ) → IsFirstSecond Moments start d from → IsSetOf nat_lt all (IsCandidateSecond rule start d)
+  pub seconds_of_day : (d : ℤ) (from : ℕ) (all times : List ℕ) → IsFirstSecond Moments start d from → IsSetOf nat_lt all (λ s. (s < 86_400) × IsTrue (is_chosen rule Moments start (moment_at Moments d s)))
       → IsSetOf nat_lt times (λ s. Contains all s × (from ≤ s) × (s < 86_400)) → IsSetOf nat_lt times (λ s. IsTrue (stands_at tree d s))
   seconds_of_day d from all times first set cut =
       set_same nat_lt (λ s. Contains all s × (from ≤ s) × (s < 86_400)) (λ s. IsTrue (stands_at tree d s)) times cut (λ s. (to s, back s))
     where
-      at : (s : ℕ) → s < 86_400 → stands_at tree d s ≡ (is_candidate rule Moments start (moment_at Moments d s) && nat_le from s)
+      at : (s : ℕ) → s < 86_400 → stands_at tree d s ≡ (is_chosen rule Moments start (moment_at Moments d s) && nat_le from s)
       at s l = stands_is d s l ∙ (rw (first s l) refl)
 
       to : (s : ℕ) → Contains all s × (from ≤ s) × (s < 86_400) → IsTrue (stands_at tree d s)
@@ -98,7 +97,7 @@ module _ (rule : Rule) (start : ℤ) (plain : rule.by_set_pos ≡ []) where
       back s h =
           let l = stands_below tree d s h in
           let e = sym (at s l) ∙ h in
-          let late : nat_le from s ≡ true = and_right (is_candidate rule Moments start (moment_at Moments d s)) (nat_le from s) e in
+          let late : nat_le from s ≡ true = and_right (is_chosen rule Moments start (moment_at Moments d s)) (nat_le from s) e in
           ((set.exact s).1 (l, and_left _ _ e), grind (arith, nat_tests), l)
 
   -- no day before the one in which the first unit that fits lies

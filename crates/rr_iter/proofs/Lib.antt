@@ -2,14 +2,17 @@ pub mod WalkLemmas
 pub mod DayListLemmas
 pub mod StepLemmas
 pub mod FineLemmas
+pub mod OffsetLemmas
+pub mod PlaceLemmas
 pub mod RulesLemmas
 mod SeriesExamples
+pub mod SetPositionLemmas
 mod TreeExamples
 pub mod RepeatLemmas
 pub mod CountedFarLemmas
 pub mod SeriesTreeLemmas
 pub mod SeriesRepeatLemmas
-pub mod PlaceLemmas
+pub mod NumberLemmas
 pub mod CountedLemmas
 pub mod LastDayLemmas
 pub mod SettledLemmas

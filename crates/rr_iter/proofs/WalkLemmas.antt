@@ -11,10 +11,8 @@ use Rattle.rr_model.specs.Calendar.{IsDayWithin, first_day_of_year}
 use Rattle.rr_model.specs.Moment.{day_part, moment_at}
 use Rattle.rr_model.specs.Moment.Units.{unit_number, unit_start}
 use Rattle.rr_model.specs.Rising.Sets.{IsSetOf}
-use Rattle.rr_model.specs.Rule.Validity.{is_absent}
 use Rattle.rr_model.specs.Moment.Years.{IsInYears}
 use Rattle.rr_model.specs.Rule.Chosen.{is_chosen}
-use Rattle.rr_model.specs.Rule.Candidate.{is_candidate}
 use Rattle.rr_model.specs.declared.kind.Kind.{Kind}
 use Rattle.rr_model.specs.declared.kind.Kind.TheVariants.{Days, Moments}
 use Rattle.rr_model.specs.declared.rule.Freq.{Freq}
@@ -24,9 +22,10 @@ use Rattle.rr_model.proofs.CalendarLemmas.{days_in_year_bounds, days_in_month_bo
 use Rattle.rr_cal.proofs.StretchLemmas.{units_are_stretches}
 use Rattle.rr_model.proofs.RisingSetLemmas.{set_same}
 use Rattle.rr_model.specs.Moment.Units.{is_whole_days}
-use Rattle.rr_model.specs.Rule.DaysAndTimes.{seconds_of, day_holds, time_holds, IsCandidateDay, IsCandidateTime}
+use Rattle.rr_model.specs.Rule.DaysAndTimes.{seconds_of, day_holds, IsCandidateDay}
 use Rattle.rr_expand.specs.Expansion.{IsUnitNear}
 use Rattle.rr_model.proofs.DaysAndTimesLemmas.{candidates_are_days_and_times}
+use Rattle.rr_setpos.proofs.PositionLemmas.{chosen_no_candidate}
 use Rattle.rr_cal.proofs.DayUnitLemmas.{week_next, month_next, unit_near}
 use Rattle.rr_expand.proofs.UnitLemmas.{unit_start_near}
 use Rattle.rr_expand.proofs.FitLemmas.{fits_at, first_fits, none_before, next_fits, none_between}
@@ -118,13 +117,9 @@ unit_near_is freq w d u d' coarse low near e f = let b = unit_bounds freq w coar
 
 -- ---- what stands on a day
 
-module _ (rule : Rule) (kind : Kind) (start : ℤ) (coarse : is_whole_days rule.freq ≡ true) (plain : rule.by_set_pos ≡ []) where
+module _ (rule : Rule) (kind : Kind) (start : ℤ) (coarse : is_whole_days rule.freq ≡ true) where
   abbrev tree : Tree
   tree = chosen_of rule kind start
-
-  chosen_is : (t : ℤ) → is_chosen rule kind start t ≡ is_candidate rule kind start t
-  unfolding is_chosen
-  chosen_is t = let e : is_absent rule.by_set_pos ≡ true = ap is_absent plain in rw e (elim (is_candidate rule kind start t) as (λ b. (b && true) ≡ b) [ true ↦ refl | false ↦ refl ])
 
   has_second_is : (kind : Kind) (s : ℕ) → s < seconds_of kind → has_second kind s ≡ true
   has_second_is Days s l = grind (arith, nat_tests)
@@ -134,21 +129,24 @@ module _ (rule : Rule) (kind : Kind) (start : ℤ) (coarse : is_whole_days rule.
   has_second_not Days s l = grind (arith, nat_tests)
   has_second_not Moments s l = grind (arith, nat_tests)
 
-  stands_is : (d : ℤ) (s : ℕ) → s < seconds_of kind → stands_at tree d s ≡ ((day_holds rule (day_part kind start) d && time_holds rule kind start s) && int_le start (moment_at kind d s))
-  stands_is d s l = rw (has_second_is kind s l, chosen_is (moment_at kind d s), candidates_are_days_and_times rule kind start d s coarse l) refl
+  stands_is : (d : ℤ) (s : ℕ) → s < seconds_of kind → stands_at tree d s ≡ (is_chosen rule kind start (moment_at kind d s) && int_le start (moment_at kind d s))
+  stands_is d s l = rw (has_second_is kind s l) refl
+
+  not_chosen : (d : ℤ) (s : ℕ) → s < seconds_of kind → day_holds rule (day_part kind start) d ≡ false → is_chosen rule kind start (moment_at kind d s) ≡ false
+  not_chosen d s l e = chosen_no_candidate rule kind start (moment_at kind d s) (candidates_are_days_and_times rule kind start d s coarse l ∙ rw e refl)
 
   -- a day that is no candidate is not occupied
   pub no_candidate : (d : ℤ) (s : ℕ) → day_holds rule (day_part kind start) d ≡ false → stands_at tree d s ≡ false
-  no_candidate d s e = elim (cases_lt s (seconds_of kind)) [ inl l ↦ stands_is d s l ∙ (rw e refl) | inr g ↦ (rw (has_second_not kind s g) refl) ]
+  no_candidate d s e = elim (cases_lt s (seconds_of kind)) [ inl l ↦ stands_is d s l ∙ (rw (not_chosen d s l e) refl) | inr g ↦ (rw (has_second_not kind s g) refl) ]
 
-  -- the seconds of a candidate day
-  pub seconds_of_day : (d : ℤ) (from : ℕ) (all times : List ℕ) → IsTrue (day_holds rule (day_part kind start) d) → IsFirstSecond kind start d from → IsSetOf nat_lt all (IsCandidateTime rule kind start)
+  -- the chosen seconds of a day from the start on
+  pub seconds_of_day : (d : ℤ) (from : ℕ) (all times : List ℕ) → IsFirstSecond kind start d from → IsSetOf nat_lt all (λ s. (s < seconds_of kind) × IsTrue (is_chosen rule kind start (moment_at kind d s)))
       → IsSetOf nat_lt times (λ s. Contains all s × (from ≤ s) × (s < 86_400)) → IsSetOf nat_lt times (λ s. IsTrue (stands_at tree d s))
-  seconds_of_day d from all times holds first set cut =
+  seconds_of_day d from all times first set cut =
       set_same nat_lt (λ s. Contains all s × (from ≤ s) × (s < 86_400)) (λ s. IsTrue (stands_at tree d s)) times cut (λ s. (to s, back s))
     where
-      at : (s : ℕ) → s < seconds_of kind → stands_at tree d s ≡ (time_holds rule kind start s && nat_le from s)
-      at s l = stands_is d s l ∙ (rw (holds, first s l) refl)
+      at : (s : ℕ) → s < seconds_of kind → stands_at tree d s ≡ (is_chosen rule kind start (moment_at kind d s) && nat_le from s)
+      at s l = stands_is d s l ∙ (rw (first s l) refl)
 
       to : (s : ℕ) → Contains all s × (from ≤ s) × (s < 86_400) → IsTrue (stands_at tree d s)
       to s h = let c = (set.exact s).0 h.0 in at s c.0 ∙ (rw c.1 (let l : from ≤ s = h.1 in grind (arith, nat_tests)))
@@ -156,9 +154,9 @@ module _ (rule : Rule) (kind : Kind) (start : ℤ) (coarse : is_whole_days rule.
       back : (s : ℕ) → IsTrue (stands_at tree d s) → Contains all s × (from ≤ s) × (s < 86_400)
       back s h = elim (cases_lt s (seconds_of kind)) [
         | inl l ↦ (let e = sym (at s l) ∙ h in
-            let timely : time_holds rule kind start s ≡ true = and_left _ _ e in
-            let late : nat_le from s ≡ true = and_right (time_holds rule kind start s) (nat_le from s) e in
-            ((set.exact s).1 (l, timely), grind (arith, nat_tests), stands_below tree d s h))
+            let chosen : is_chosen rule kind start (moment_at kind d s) ≡ true = and_left _ _ e in
+            let late : nat_le from s ≡ true = and_right (is_chosen rule kind start (moment_at kind d s)) (nat_le from s) e in
+            ((set.exact s).1 (l, chosen), grind (arith, nat_tests), stands_below tree d s h))
         | inr g ↦ absurd (false≢true (sym (rw (has_second_not kind s g) refl) ∙ h))
       ]
 
@@ -237,9 +235,6 @@ module _ (rule : Rule) (kind : Kind) (start : ℤ) (coarse : is_whole_days rule.
     walked_all u to w l d s g h = w.none d s g (omega (arith, ints, l, unit_mono rule.freq rule.week_start coarse d to (omega (arith, ints, h))))
 
   -- ---- the days of a unit
-
-  pub candidates_of : (days : List ℤ) (unit : ℤ) → IsSetOf int_lt days (IsCandidateDay rule (day_part kind start) unit) → All (λ day. IsTrue (day_holds rule (day_part kind start) day)) days
-  candidates_of days unit set k d l = ((set.exact (get_or days k d)).0 (Contains-get_or days k d l)).1
 
   pub first_of_unit : (days : List ℤ) (unit from : ℤ) (r : Option DayTimes) → IsSetOf int_lt days (IsCandidateDay rule (day_part kind start) unit) → IsFirstOf tree days from r → IsFirstIn tree rule unit from r
   first_of_unit days unit from None set none = λ d s e l. none_in days unit from set none d s l e

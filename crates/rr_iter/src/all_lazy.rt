@@ -1,6 +1,6 @@
 // The dates that are added to a series, and the members of its rules.
 ghost use Rattle.std.specs.Prelude.{◌≡◌, IfOk};
-ghost use Rattle.rr_model.specs.Series.Soundness.{HasNoSetPositions, IsSound};
+ghost use Rattle.rr_model.specs.Series.Soundness.{IsSound};
 ghost use Rattle.rr_model.specs.Series.Tree.{dates_with_start, members_of_all};
 ghost use Rattle.rr_lazy.specs.Next.{IsUnasked};
 
@@ -21,7 +21,6 @@ impl AllLazy {
     /// The dates of a series, its start among them where it counts, and the members of its rules.
     pub(crate) fn new(alloc: Global, series: &Series) -> Result<AllLazy, NoMemory>
         requires sound { IsSound series.now }
-        requires plain { HasNoSetPositions series.now }
         ensures tree { IfOk result (λ l. ⟦<AllLazy as Lazy>⟧.tree l ≡ union (dates_of series.now.kind (dates_with_start series.now)) (many (members_of_all series.now.kind series.now.start series.now.rules))) }
         ensures unasked { IfOk result (λ l. IsUnasked (⟦<AllLazy as Lazy>⟧.position l)) }
     {

@@ -1,6 +1,5 @@
 // The occurrences of a series.
 ghost use Rattle.std.specs.Prelude.{◌≡◌, IfOk};
-ghost use Rattle.rr_model.specs.Series.Soundness.{HasNoSetPositions};
 ghost use Rattle.rr_model.specs.Series.Tree.{tree_of};
 ghost use Rattle.rr_lazy.specs.Next.{IsUnasked};
 
@@ -16,10 +15,9 @@ pub struct AnyLazy {
     pub(crate) lazy: Without<AllLazy>,
 }
 
-/// The occurrences of a series whose rules have no BYSETPOS (RFC 5545, section 3.8.5): its start where it counts, the
-/// members of its rules and the dates added, without the dates taken out.
+/// The occurrences of a series (RFC 5545, section 3.8.5): its start where it counts, the members of its rules and the
+/// dates added, without the dates taken out.
 pub fn occurrences(alloc: Global, series: &Checked) -> Result<AnyLazy, NoMemory>
-    requires without_set_positions { HasNoSetPositions series.now }
     ensures tree { IfOk result (λ l. ⟦<AnyLazy as Lazy>⟧.tree l ≡ tree_of series.now) }
     ensures unasked { IfOk result (λ l. IsUnasked (⟦<AnyLazy as Lazy>⟧.position l)) }
 {

@@ -1,5 +1,5 @@
 // The chosen moments of a rule in days.
-ghost use Rattle.std.specs.Prelude.{◌≡◌, [], IfOk};
+ghost use Rattle.std.specs.Prelude.{◌≡◌, IfOk};
 ghost use Rattle.rr_model.specs.Moment.Years.{IsInYears};
 ghost use Rattle.rr_model.specs.Rule.Validity.{IsValidRule};
 ghost use Rattle.rr_model.specs.declared.rule.Freq.TheVariants.{Daily};
@@ -28,7 +28,6 @@ impl DayLazy {
     pub fn new(alloc: Global, rule: &Rule, kind: Kind, start: i64) -> Result<DayLazy, NoMemory>
         requires valid { IsValidRule kind rule.now }
         requires freq { rule.now.freq ≡ Daily }
-        requires plain { rule.now.by_set_pos ≡ [] }
         requires in_years { IsInYears kind start }
         ensures tree { IfOk result (λ l. ⟦<DayLazy as Lazy>⟧.tree l ≡ chosen_of rule.now kind start) }
         ensures unasked { IfOk result (λ l. IsUnasked (⟦<DayLazy as Lazy>⟧.position l)) }

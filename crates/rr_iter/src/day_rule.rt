@@ -1,21 +1,20 @@
 // A rule of whole days, walked unit by unit.
-ghost use Rattle.std.specs.Prelude.{◌≡◌, ◌⊎◌, ◌<ℤ◌, Some, None, ◌≤◌, [], IfOk, OnOk, All, IsTrue, true, nat_lt, int_lt, pos, neg_ℤ, ◌≤ℤ◌, ◌+ℤ◌};
+ghost use Rattle.std.specs.Prelude.{◌≡◌, ◌⊎◌, ◌<ℤ◌, Some, None, ◌≤◌, IfOk, OnOk, IsTrue, true, nat_lt, pos, neg_ℤ, ◌≤ℤ◌, ◌+ℤ◌};
 ghost use Rattle.rr_model.specs.Calendar.{IsDayWithin, first_day_of_year};
 ghost use Rattle.rr_model.specs.Moment.{day_part};
-ghost use Rattle.rr_model.specs.Rising.{Rises};
 ghost use Rattle.rr_model.specs.Rising.Sets.{IsSetOf};
 ghost use Rattle.rr_model.specs.Moment.Years.{IsInYears};
 ghost use Rattle.rr_model.specs.Rule.Validity.{IsValidRule};
 ghost use Rattle.rr_model.specs.Moment.Units.{unit_number, unit_start};
 ghost use Rattle.rr_model.specs.declared.kind.Kind.TheVariants.{Days};
-ghost use Rattle.rr_model.specs.Rule.DaysAndTimes.{day_holds};
 ghost use Rattle.rr_model.specs.Moment.Units.{is_whole_days};
 ghost use Rattle.rr_model.specs.Sets.Tree.{chosen_of, stands_at};
 ghost use Rattle.rr_lazy.specs.Next.{IsNext};
 ghost use Rattle.rr_iter.specs.Steps.{HasBegun};
-ghost use Rattle.rr_iter.specs.Ruling.{IsValidRuling};
+ghost use Rattle.rr_iter.specs.Ruling.{AreUnitDays, IsCandidateAt, IsValidRuling};
 ghost use Rattle.rr_iter.specs.Walk.{IsFirstIn, IsFirstOf, IsFirstSecond, IsFirstUpTo, IsOnDay, IsWalked};
 
+use crate::set_positions::times_at_positions;
 use rr_cal::{Day, unit_of_day};
 use rr_expand::{days, first_fit, times};
 use rr_lazy::DayTimes;
@@ -55,7 +54,6 @@ impl DayRule {
     pub(crate) fn new(alloc: Global, rule: &Rule, kind: Kind, start: i64) -> Result<Self, NoMemory>
         requires valid { IsValidRule kind rule.now }
         requires freq { is_whole_days rule.now.freq ≡ true }
-        requires plain { rule.now.by_set_pos ≡ [] }
         requires in_years { IsInYears kind start }
         ensures { IfOk result (λ r. r ≡ record { rule = rule.now; kind = kind; start = start }) }
     {
@@ -86,37 +84,58 @@ impl DayRule {
         }
     }
 
-    // The seconds of a candidate day that the rule chooses from its start on.
-    fn seconds_of(&self, alloc: Global, day: i64) -> Result<TimeSet, NoMemory>
-        requires { IsTrue (day_holds self.now.rule (day_part self.now.kind self.now.start) day) }
+    // The seconds of a candidate day that the rule chooses from its start on. So many of its unit's candidate days come
+    // before it, of so many.
+    fn seconds_of(
+        &self,
+        alloc: Global,
+        day: i64,
+        place: usize,
+        count: usize,
+    ) -> Result<TimeSet, NoMemory>
+        requires { IsCandidateAt self.now day place count }
         ensures { IfOk result (λ t. IsSetOf nat_lt t (λ s. IsTrue (stands_at (chosen_of self.now.rule self.now.kind self.now.start) day s))) }
     {
-        TimeSet::cut(alloc, &self.times, self.first_second(day), SECONDS_OF_DAY)
+        let from = self.first_second(day);
+        let positions = &self.rule.by_set_pos;
+        if positions.is_empty() {
+            return TimeSet::cut(alloc, &self.times, from, SECONDS_OF_DAY);
+        }
+        let chosen = times_at_positions(alloc, &self.times, place, count, positions)?;
+        TimeSet::cut(alloc, &chosen, from, SECONDS_OF_DAY)
     }
 
-    // Of these candidate days the first occupied one from a day on.
+    // Of the candidate days of a unit the first occupied one from a day on.
     fn first_of(&self, alloc: Global, days: &[i64], from: i64) -> Result<Option<DayTimes>, NoMemory>
-        requires rises { Rises int_lt days.now }
-        requires candidates { All (λ day. IsTrue (day_holds self.now.rule (day_part self.now.kind self.now.start) day)) days.now }
+        requires { AreUnitDays self.now days.now }
         ensures { IfOk result (IsFirstOf (chosen_of self.now.rule self.now.kind self.now.start) days.now from) }
     {
+        let count = days.len();
+        let mut place = 0;
         for day in days {
             if *day >= from {
-                match self.on_day(alloc, *day)? {
+                match self.on_day(alloc, *day, place, count)? {
                     None => {}
                     Some(found) => return Ok(Some(found)),
                 }
             }
+            place += 1;
         }
         Ok(None)
     }
 
-    // A candidate day, if it is occupied.
-    fn on_day(&self, alloc: Global, day: i64) -> Result<Option<DayTimes>, NoMemory>
-        requires { IsTrue (day_holds self.now.rule (day_part self.now.kind self.now.start) day) }
+    // A candidate day, if it is occupied. So many of its unit's candidate days come before it, of so many.
+    fn on_day(
+        &self,
+        alloc: Global,
+        day: i64,
+        place: usize,
+        count: usize,
+    ) -> Result<Option<DayTimes>, NoMemory>
+        requires { IsCandidateAt self.now day place count }
         ensures { IfOk result (IsOnDay (chosen_of self.now.rule self.now.kind self.now.start) day) }
     {
-        let times = self.seconds_of(alloc, day)?;
+        let times = self.seconds_of(alloc, day, place, count)?;
         if times.as_slice().is_empty() {
             return Ok(None);
         }

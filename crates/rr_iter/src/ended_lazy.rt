@@ -1,5 +1,5 @@
 // The members of a rule.
-ghost use Rattle.std.specs.Prelude.{◌≡◌, [], IfOk};
+ghost use Rattle.std.specs.Prelude.{◌≡◌, IfOk};
 ghost use Rattle.rr_model.specs.Moment.Years.{IsInYears};
 ghost use Rattle.rr_model.specs.Rule.Validity.{EndsInYears, IsValidRule};
 ghost use Rattle.rr_model.specs.Series.Soundness.{EndsNotBefore};
@@ -29,7 +29,6 @@ impl EndedLazy {
     /// is of the start's kind and not before it.
     pub fn new(alloc: Global, rule: &Rule, kind: Kind, start: i64) -> Result<EndedLazy, NoMemory>
         requires valid { IsValidRule kind rule.now }
-        requires plain { rule.now.by_set_pos ≡ [] }
         requires in_years { IsInYears kind start }
         requires ends_in_years { EndsInYears rule.now.end }
         requires ends_not_before { EndsNotBefore kind start rule.now.end }

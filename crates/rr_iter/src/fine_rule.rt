@@ -1,9 +1,11 @@
 // A rule whose units are shorter than a day, walked day by day.
-ghost use Rattle.std.specs.Prelude.{◌≡◌, ◌≤◌, [], IfOk, IsTrue, false, nat_lt, pos, neg_ℤ, ◌≤ℤ◌, ◌+ℤ◌};
+ghost use Rattle.std.specs.Prelude.{◌≡◌, ◌≤◌, ◌<◌, IfOk, IsTrue, false, nat_lt, pos, neg_ℤ, ◌≤ℤ◌, ◌+ℤ◌};
 ghost use Rattle.rr_model.specs.Calendar.{IsDayWithin};
 ghost use Rattle.rr_model.specs.Rising.Sets.{IsSetOf};
 ghost use Rattle.rr_model.specs.declared.kind.Kind.TheVariants.{Moments};
+ghost use Rattle.rr_model.specs.Moment.{moment_at};
 ghost use Rattle.rr_model.specs.Moment.Units.{is_whole_days};
+ghost use Rattle.rr_model.specs.Rule.Chosen.{is_chosen};
 ghost use Rattle.rr_model.specs.Moment.Years.{IsInYears};
 ghost use Rattle.rr_model.specs.Rule.Validity.{IsValidRule};
 ghost use Rattle.rr_lazy.specs.Next.{HasNone, IsNext};
@@ -11,22 +13,25 @@ ghost use Rattle.rr_iter.specs.Steps.{HasBegun};
 ghost use Rattle.rr_model.specs.Sets.Tree.{chosen_of, stands_at};
 ghost use Rattle.rr_iter.specs.Walk.{IsFirstSecond, IsFirstUpTo, IsOnDay};
 
+use crate::offsets::{at_offsets, chosen_offsets};
 use rr_expand::{first_fit, first_unit, seconds_on, unit_of, units_of_day};
 use rr_lazy::DayTimes;
 use rr_model::{Kind, NoMemory, Rule, day_part, second_part};
+use rr_setpos::seconds_of_unit;
 use rr_times::TimeSet;
 use std::alloc::Global;
 use std::marker::Model;
 
 const SECONDS_OF_DAY: u32 = 86_400;
 
-// A rule of hours, minutes or seconds beside its start.
+// A rule of hours, minutes or seconds beside its start, with the seconds of each unit that BYSETPOS chooses.
 #[derive(Drop)]
 pub(crate) struct FineRule {
     rule: Rule,
     start: i64,
     start_day: i64,
     start_second: u32,
+    offsets: TimeSet,
 }
 
 impl Model for FineRule {
@@ -37,7 +42,7 @@ impl Model for FineRule {
 
     ghost view = { λ s. record { rule = s.rule; kind = Moments; start = s.start } };
 
-    ghost invariant = { λ s. IsFine (record { rule = s.rule; kind = Moments; start = s.start }) s.start_day s.start_second };
+    ghost invariant = { λ s. IsFine (record { rule = s.rule; kind = Moments; start = s.start }) s.start_day s.start_second s.offsets };
 }
 
 impl FineRule {
@@ -54,13 +59,26 @@ impl FineRule {
         }
     }
 
+    // The seconds of a day that the rule chooses, also before its start.
+    fn chosen_on(&self, alloc: Global, day: i64) -> Result<TimeSet, NoMemory>
+        requires { IsDayWithin 1000 day }
+        ensures { IfOk result (λ t. IsSetOf nat_lt t (λ s. (s < 86_400) × IsTrue (is_chosen self.now.rule Moments self.now.start (moment_at Moments day s)))) }
+    {
+        let seconds = seconds_on(alloc, &self.rule, self.start, day)?;
+        if self.rule.by_set_pos.is_empty() {
+            return Ok(seconds);
+        }
+        let unit = seconds_of_unit(self.rule.freq);
+        at_offsets(alloc, &seconds, unit, &self.offsets)
+    }
+
     // The seconds of a day that the rule chooses from its start on.
     fn seconds_of(&self, alloc: Global, day: i64) -> Result<TimeSet, NoMemory>
         requires { IsDayWithin 1000 day }
         ensures { IfOk result (λ t. IsSetOf nat_lt t (λ s. IsTrue (stands_at (chosen_of self.now.rule Moments self.now.start) day s))) }
     {
-        let seconds = seconds_on(alloc, &self.rule, self.start, day)?;
-        TimeSet::cut(alloc, &seconds, self.first_second(day), SECONDS_OF_DAY)
+        let chosen = self.chosen_on(alloc, day)?;
+        TimeSet::cut(alloc, &chosen, self.first_second(day), SECONDS_OF_DAY)
     }
 
     // A day, if it is occupied.
@@ -120,7 +138,6 @@ impl FineRule {
     pub(crate) fn new(alloc: Global, rule: &Rule, kind: Kind, start: i64) -> Result<Self, NoMemory>
         requires valid { IsValidRule kind rule.now }
         requires freq { is_whole_days rule.now.freq ≡ false }
-        requires plain { rule.now.by_set_pos ≡ [] }
         requires in_years { IsInYears kind start }
         ensures kind { kind ≡ Moments }
         ensures made { IfOk result (λ r. r ≡ record { rule = rule.now; kind = Moments; start = start }) }
@@ -130,6 +147,7 @@ impl FineRule {
             start,
             start_day: day_part(kind, start),
             start_second: second_part(kind, start),
+            offsets: chosen_offsets(alloc, rule, start)?,
         })
     }
 

@@ -1,5 +1,5 @@
 // The chosen moments of a rule.
-ghost use Rattle.std.specs.Prelude.{◌≡◌, [], IfOk};
+ghost use Rattle.std.specs.Prelude.{◌≡◌, IfOk};
 ghost use Rattle.rr_model.specs.Moment.Years.{IsInYears};
 ghost use Rattle.rr_model.specs.Rule.Validity.{IsValidRule};
 ghost use Rattle.rr_lazy.specs.Next.{IsUnasked};
@@ -33,7 +33,6 @@ impl RuleLazy {
     /// The chosen moments of a rule from its start on, in years 1 to 9999. The rule's end is not asked.
     pub fn new(alloc: Global, rule: &Rule, kind: Kind, start: i64) -> Result<RuleLazy, NoMemory>
         requires valid { IsValidRule kind rule.now }
-        requires plain { rule.now.by_set_pos ≡ [] }
         requires in_years { IsInYears kind start }
         ensures tree { IfOk result (λ l. ⟦<RuleLazy as Lazy>⟧.tree l ≡ chosen_of rule.now kind start) }
         ensures unasked { IfOk result (λ l. IsUnasked (⟦<RuleLazy as Lazy>⟧.position l)) }

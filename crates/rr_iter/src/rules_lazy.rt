@@ -1,6 +1,6 @@
 // The members of the rules of a series.
 ghost use Rattle.std.specs.Prelude.{◌≡◌, IfOk};
-ghost use Rattle.rr_model.specs.Series.Soundness.{HasNoSetPositions, IsSound};
+ghost use Rattle.rr_model.specs.Series.Soundness.{IsSound};
 ghost use Rattle.rr_model.specs.Series.Tree.{members_of_all};
 ghost use Rattle.rr_lazy.specs.Next.{IsUnasked};
 
@@ -21,7 +21,6 @@ impl RulesLazy {
     /// The members of the rules of a series.
     pub(crate) fn new(alloc: Global, series: &Series) -> Result<RulesLazy, NoMemory>
         requires sound { IsSound series.now }
-        requires plain { HasNoSetPositions series.now }
         ensures tree { IfOk result (λ l. ⟦<RulesLazy as Lazy>⟧.tree l ≡ many (members_of_all series.now.kind series.now.start series.now.rules)) }
         ensures unasked { IfOk result (λ l. IsUnasked (⟦<RulesLazy as Lazy>⟧.position l)) }
     {

@@ -1,5 +1,5 @@
 // Chosen moments.
-ghost use Rattle.std.specs.Prelude.{◌≡◌, ◌≤◌, []};
+ghost use Rattle.std.specs.Prelude.{◌≡◌, ◌≤◌};
 ghost use Rattle.rr_model.specs.Calendar.{IsDayWithin};
 ghost use Rattle.rr_model.specs.Rule.Candidate.{date_parts_hold, is_candidate};
 ghost use Rattle.rr_model.specs.Rule.Chosen.{is_chosen};
@@ -10,6 +10,7 @@ ghost use Rattle.rr_model.specs.Rule.Validity.{IsValidRule};
 
 use crate::dates::date_parts_hold;
 use crate::moment::Moment;
+use crate::set_positions::set_positions_hold;
 use crate::times::time_parts_hold;
 use crate::units::interval_holds;
 use rr_cal::Day;
@@ -18,17 +19,17 @@ use rr_model::{Kind, Rule};
 /// Whether the rule with this start chooses a moment (RFC 5545, section 3.3.10), which may lie before the start.
 ///
 /// Both are day numbers in kind `Days`, and second numbers in kind `Moments`. UNTIL and COUNT do not enter.
-/// It takes no memory, and time that depends on the rule's lists alone.
+/// It takes no memory, and visits the numbers of the lists and, for BYSETPOS, the days of the moment's unit, but no
+/// seconds.
 pub fn chosen(rule: &Rule, kind: Kind, start: i64, at: i64) -> bool
     requires rule { IsValidRule kind rule.now }
-    requires without_set_positions { rule.now.by_set_pos ≡ [] }
     requires start { IsInYears kind start }
     requires near { IsDayWithin 0 (day_part kind at) }
     ensures { result ≡ is_chosen rule.now kind start at }
 {
     let start = Moment::new(kind, start);
     let moment = Moment::new(kind, at);
-    is_candidate(rule, &start, &moment)
+    is_candidate(rule, &start, &moment) && set_positions_hold(rule, &start, &moment)
 }
 
 // Whether the moment is a candidate of the rule with this start.

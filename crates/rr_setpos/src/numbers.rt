@@ -12,6 +12,13 @@ fn lists(numbers: &Numbers, n: i16) -> bool
     numbers.as_slice().contains(&n)
 }
 
+// Whether the list has the number, which may be none of a part.
+pub(crate) fn lists_number(numbers: &Numbers, n: i64) -> bool
+    ensures { result ≡ lists numbers.now n }
+{
+    numbers.as_slice().iter().any(|x| i64::from(*x) == n)
+}
+
 /// Whether a BY part is absent, or lists the number (RFC 5545, section 3.3.10).
 pub fn allows(numbers: &Numbers, n: i16) -> bool
     ensures { result ≡ allows numbers.now n }

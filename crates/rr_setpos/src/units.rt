@@ -21,7 +21,7 @@ pub(crate) fn interval_holds(rule: &Rule, start: &Moment, moment: &Moment) -> bo
 }
 
 // The number of the unit in which the moment lies.
-fn unit_number(rule: &Rule, moment: &Moment) -> i64
+pub(crate) fn unit_number(rule: &Rule, moment: &Moment) -> i64
     ensures { result ≡ unit_number rule.now.freq rule.now.week_start moment.now.kind moment.now.at }
 {
     match rule.freq {

@@ -61,4 +61,4 @@ returns-clause-walked c =
     let from : c.unit_of-unit.result ≡ unit_number i.rule.freq i.rule.week_start Days c.args.from = rw (to_z-of_z c.ranges.from) at c.unit_of-unit.ensures in
     let value : c.first_fit.result ≡ floor_mod (unit_number i.rule.freq i.rule.week_start Days (day_part i.kind i.start) -ℤ unit_number i.rule.freq i.rule.week_start Days c.args.from) i.rule.interval = rw (sym own, sym from) (rw (a, b) at c.first_fit.ensures.value) in
     let q : to_z w64 (of_z w64 (to_z w64 (of_z w64 c.unit_of-unit.result) +ℤ to_z w64 c.first_fit.result)) ≡ unit_number i.rule.freq i.rule.week_start Days c.args.from +ℤ pos c.first_fit.result = omega (arith, ints, f.0, f.1, u.0.0, u.0.1, from) in
-    rw (← c.self.view_is) (rw q (walked_first i.rule i.kind i.start c.self.invariant.freq c.self.invariant.plain c.self.invariant.valid.valid.interval_low c.args.from c.first_fit.result value))
+    rw (← c.self.view_is) (rw q (walked_first i.rule i.kind i.start c.self.invariant.freq c.self.invariant.valid.valid.interval_low c.args.from c.first_fit.result value))

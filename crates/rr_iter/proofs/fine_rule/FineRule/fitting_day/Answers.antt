@@ -23,4 +23,4 @@ returns-clause-none c =
     let n : ℕ = c.first_fit-units.result / c.units_of_day.result in
     let small : n ≤ 4_294_967_295 = omega (arith, few_days i.rule.freq c.first_fit-units.result c.units_of_day.result c.self.invariant.freq c.units_of_day.ensures, c.first_fit-units.ensures.below, c.self.invariant.valid.valid.interval_high) in
     let q : to_z w64 (of_z w64 (to_z w64 (of_z w64 c.args.day) +ℤ to_z w64 n)) ≡ c.args.day +ℤ pos n = omega (arith, ints, to_z-of_z c.ranges.day, to_z_pos w64 n (omega (arith, small)), small, c.requires.0, c.requires.1) in
-    rw (← c.self.view_is) (none_unfit i.rule i.start c.self.invariant.plain c.args.day c.first_fit-units.result _ c.self.invariant.freq c.self.invariant.valid.valid.interval_low value (q ∙ ap (λ m. c.args.day +ℤ pos (c.first_fit-units.result / m)) c.units_of_day.ensures))
+    rw (← c.self.view_is) (none_unfit i.rule i.start c.args.day c.first_fit-units.result _ c.self.invariant.freq c.self.invariant.valid.valid.interval_low value (q ∙ ap (λ m. c.args.day +ℤ pos (c.first_fit-units.result / m)) c.units_of_day.ensures))

@@ -19,8 +19,8 @@ invariant_of-result c =
     let n = start_near Moments c.args.start c.day_part.result d y in
     rw (c.in_ok-copy.ensures, to_z-of_z c.ranges.start) (record {
       freq = c.requires.freq;
-      plain = c.requires.plain;
       valid = record { valid = subst (λ k. IsValidRule k c.args.rule.now) m c.requires.valid; in_years = y };
       of_day = omega (arith, ints, d, n.0, n.1);
       of_second = subst (λ k. c.second_part.result ≡ second_part k c.args.start) m (rw (to_z-of_z c.ranges.start) at c.second_part.ensures.value);
+      of_offsets = rw (to_z-of_z c.ranges.start) at c.in_ok-chosen_offsets.ensures;
     })

@@ -1,0 +1,48 @@
+-- The seconds that set positions choose, in the order in which a unit is walked (RFC 5545, section 3.3.10, BYSETPOS).
+use Rattle.std.specs.Prelude.{◌≡◌, ℕ, ◌+◌, ◌%◌, ◌<◌, Bool, true, IsTrue, Option, Some, None, List, Contains, get_or, length, ℤ, pos}
+use Rattle.rr_model.specs.Moment.Units.{unit_seconds}
+use Rattle.rr_model.specs.Rule.Filled.{minute_of, second_of, wants_second}
+use Rattle.rr_model.specs.Sets.Counting.{count_seconds}
+use Rattle.rr_model.specs.declared.kind.Kind.TheVariants.{Moments}
+use Rattle.rr_model.specs.declared.rule.Freq.{Freq}
+use Rattle.rr_model.specs.declared.rule.Freq.TheVariants.{Minutely, Hourly}
+use Rattle.rr_model.specs.declared.rule.Rule.{Rule}
+use Rattle.rr_setpos.specs.Nth.{IsPlaceOf}
+use Rattle.rr_setpos.specs.Ranks.{hour_second_allowed, is_rank_listed, number_allowed}
+
+-- ---- the times of one day of a unit
+
+-- One of the times has the place in its unit, where so many of the unit's candidates come before these times, of so many in all.
+abbrev pub IsAtPlace : List ℕ → ℕ → ℕ → ℤ → ℕ → Type 0
+IsAtPlace times before size place s = (r : ℕ) × ((r < length times) × (get_or times r 0 ≡ s) × IsPlaceOf place size (before + r))
+
+-- the time at a place, None where the place is no one's of these
+abbrev pub IsTimeAt : List ℕ → ℕ → ℕ → ℤ → Option ℕ → Type 0
+IsTimeAt times before size place None = (s : ℕ) → IsAtPlace times before size place s → ⊥
+IsTimeAt times before size place (Some s) = IsAtPlace times before size place s
+
+-- the time has one of the first k places
+abbrev pub IsAtSome : List ℕ → ℕ → ℕ → List ℤ → ℕ → ℕ → Type 0
+IsAtSome times before size places k s = (i : ℕ) × ((i < k) × IsAtPlace times before size (get_or places i (pos 0)) s)
+
+-- ---- units shorter than a day
+
+-- the time parts of the rule, filled from a minute and a second, allow the second of each unit that they allow at all
+abbrev pub offset_allowed : Freq → Rule → ℕ → ℕ → ℕ → Bool
+offset_allowed Hourly rule minute second s = hour_second_allowed rule minute second s
+offset_allowed Minutely rule minute second s = number_allowed (wants_second rule.freq) rule.by_second second s
+offset_allowed freq rule minute second s = true
+
+-- the same for the rule and its start
+abbrev pub offset_holds : Rule → ℤ → ℕ → Bool
+offset_holds rule start s = offset_allowed rule.freq rule (minute_of Moments start) (second_of Moments start) s
+
+-- a second of such a unit that set positions choose
+abbrev pub IsChosenOffset : Rule → ℤ → ℕ → Type 0
+IsChosenOffset rule start s =
+    (s < unit_seconds rule.freq) × IsTrue (offset_holds rule start s)
+    × IsTrue (is_rank_listed rule (count_seconds (offset_holds rule start) s) (count_seconds (offset_holds rule start) (unit_seconds rule.freq)))
+
+-- a second of a day that lies at one of these seconds of its unit
+abbrev pub IsAtOffset : ℕ → List ℕ → List ℕ → ℕ → Type 0
+IsAtOffset unit offsets seconds s = Contains seconds s × Contains offsets (s % unit)

@@ -1,0 +1,90 @@
+-- The place of a moment among the candidates of its unit, counted over days and times (RFC 5545, section 3.3.10, BYSETPOS).
+use Rattle.std.specs.Prelude.{◌≡◌, ℕ, ◌+◌, ◌-◌, ◌*◌, ◌/◌, ◌%◌, Bool, true, ◌&&◌, ◌||◌, IsTrue, List, if◌then◌else◌, ℤ, pos, neg_ℤ, nat_abs, ◌+ℤ◌, ◌-ℤ◌}
+use Rattle.rr_model.specs.Whole.Count.{count_from}
+use Rattle.rr_model.specs.Moment.{day_part, second_part}
+use Rattle.rr_model.specs.Moment.Units.{unit_number, unit_start, is_whole_days, unit_seconds}
+use Rattle.rr_model.specs.Rule.Filled.{filled, filled_part, wants_hour, wants_minute, wants_second}
+use Rattle.rr_model.specs.Rule.Validity.{is_absent, takes_start}
+use Rattle.rr_model.specs.Rule.Candidate.{lists, allows, date_parts_hold, is_candidate}
+use Rattle.rr_model.specs.Rule.Chosen.{unit_begin, unit_end, position_from_front, position_from_back, by_set_pos_holds}
+use Rattle.rr_model.specs.declared.kind.Kind.{Kind}
+use Rattle.rr_model.specs.declared.kind.Kind.TheVariants.{Days}
+use Rattle.rr_model.specs.declared.rule.Rule.{Rule}
+use Rattle.rr_model.specs.Rule.DaysAndTimes.{seconds_of, time_holds}
+use Rattle.rr_model.specs.Sets.Counting.{count_seconds}
+
+-- how many seconds of a day below n the time parts allow
+abbrev pub times_before : Rule → Kind → ℤ → ℕ → ℕ
+times_before rule kind start n = count_seconds (λ s. time_holds rule kind start s) n
+
+-- how many of n days from the first on the date parts allow
+abbrev pub days_among : Rule → ℤ → ℤ → ℕ → ℕ
+days_among rule start_day first n = count_from (λ d. date_parts_hold (filled rule Days start_day) d) first n
+
+-- the first day of the unit of a day, and the first day of the next one
+abbrev pub first_of_unit : Rule → ℤ → ℤ
+first_of_unit rule day = unit_start rule.freq rule.week_start Days (unit_number rule.freq rule.week_start Days day)
+
+abbrev pub next_of_unit : Rule → ℤ → ℤ
+next_of_unit rule day = unit_start rule.freq rule.week_start Days (unit_number rule.freq rule.week_start Days day +ℤ pos 1)
+
+-- how many days that the date parts allow lie in the day's unit before it
+abbrev pub days_before : Rule → ℤ → ℤ → ℕ
+days_before rule start_day day = days_among rule start_day (first_of_unit rule day) (nat_abs (day -ℤ first_of_unit rule day))
+
+-- and how many in the whole unit
+abbrev pub days_of_unit : Rule → ℤ → ℤ → ℕ
+days_of_unit rule start_day day = days_among rule start_day (first_of_unit rule day) (nat_abs (next_of_unit rule day -ℤ first_of_unit rule day))
+
+-- how many candidates of its unit come before a candidate, and how many the unit has
+abbrev pub rank_in_unit : Rule → Kind → ℤ → ℤ → ℕ
+rank_in_unit rule kind start t = count_from (is_candidate rule kind start) (unit_begin rule kind t) (nat_abs (t -ℤ unit_begin rule kind t))
+
+abbrev pub size_of_unit : Rule → Kind → ℤ → ℤ → ℕ
+size_of_unit rule kind start t = count_from (is_candidate rule kind start) (unit_begin rule kind t) (nat_abs (unit_end rule kind t -ℤ unit_begin rule kind t))
+
+-- the second of a day at which the unit of a second begins, where units are shorter than a day
+abbrev pub begin_in_day : Rule → ℕ → ℕ
+begin_in_day rule second = second / unit_seconds rule.freq * unit_seconds rule.freq
+
+-- of a unit of whole days a product: so many days before, each with all its times, and the times before on its own day
+abbrev pub rank_by_parts : Rule → Kind → ℤ → ℤ → ℕ
+rank_by_parts rule kind start t =
+    if is_whole_days rule.freq
+    then days_before rule (day_part kind start) (day_part kind t) * times_before rule kind start (seconds_of kind) + times_before rule kind start (second_part kind t)
+    else times_before rule kind start (second_part kind t) - times_before rule kind start (begin_in_day rule (second_part kind t))
+
+abbrev pub size_by_parts : Rule → Kind → ℤ → ℤ → ℕ
+size_by_parts rule kind start t =
+    if is_whole_days rule.freq
+    then days_of_unit rule (day_part kind start) (day_part kind t) * times_before rule kind start (seconds_of kind)
+    else times_before rule kind start (begin_in_day rule (second_part kind t) + unit_seconds rule.freq) - times_before rule kind start (begin_in_day rule (second_part kind t))
+
+-- the second place of so many, the rank among them, is listed from the front or from the back
+abbrev pub is_rank_listed : Rule → ℕ → ℕ → Bool
+is_rank_listed rule rank size = is_absent rule.by_set_pos || lists rule.by_set_pos (pos (rank + 1)) || lists rule.by_set_pos (neg_ℤ (pos (size - rank)))
+
+-- The positions of a candidate, counted over all numbers of its unit, are those by days and times.
+abbrev pub PositionsAreByParts : Type 0
+PositionsAreByParts = (rule : Rule) (kind : Kind) (start t : ℤ) → IsTrue (takes_start rule.freq kind) → is_candidate rule kind start t ≡ true
+    → (position_from_front rule kind start t ≡ rank_by_parts rule kind start t + 1)
+    × (position_from_back rule kind start t ≡ size_by_parts rule kind start t - rank_by_parts rule kind start t)
+
+-- So set positions hold of a candidate exactly where one of the two is listed.
+abbrev pub SetPositionsAreByParts : Type 0
+SetPositionsAreByParts = (rule : Rule) (kind : Kind) (start t : ℤ) → IsTrue (takes_start rule.freq kind) → is_candidate rule kind start t ≡ true
+    → by_set_pos_holds rule kind start t ≡ is_rank_listed rule (rank_by_parts rule kind start t) (size_by_parts rule kind start t)
+
+-- a time part, where it is filled with the start's own number if absent and wanted, allows the number
+abbrev pub number_allowed : Bool → List ℤ → ℕ → ℕ → Bool
+number_allowed is_wanted numbers own n = allows (filled_part is_wanted numbers (pos own)) (pos n)
+
+-- the minute and the second of a second of an hour are allowed
+abbrev pub hour_second_allowed : Rule → ℕ → ℕ → ℕ → Bool
+hour_second_allowed rule minute second s = number_allowed (wants_minute rule.freq) rule.by_minute minute (s / 60) && number_allowed (wants_second rule.freq) rule.by_second second (s % 60)
+
+-- the hour, the minute and the second of a second of a day are allowed
+abbrev pub day_second_allowed : Rule → ℕ → ℕ → ℕ → ℕ → Bool
+day_second_allowed rule hour minute second s =
+    number_allowed (wants_hour rule.freq) rule.by_hour hour (s / 3_600) && number_allowed (wants_minute rule.freq) rule.by_minute minute (s / 60 % 60)
+    && number_allowed (wants_second rule.freq) rule.by_second second (s % 60)
