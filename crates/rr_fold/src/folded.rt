@@ -1,15 +1,21 @@
 // A series, folded into numbered days.
-ghost use Rattle.std.specs.Prelude.{◌≡◌, ◌<◌, ◌≤◌, ◌+◌, ◌%◌, All, IfOk, length, nat_abs, ◌-ℤ◌, ◌≤ℤ◌};
+ghost use Rattle.std.specs.Prelude.{◌≡◌, ◌<◌, ◌≤◌, ◌+◌, ◌%◌, All, IfOk, length, nat_abs, pos, neg_ℤ, ◌-ℤ◌, ◌≤ℤ◌, ◌<ℤ◌};
+ghost use Rattle.rr_model.specs.Answers.{RefusedExactlyWhere};
 ghost use Rattle.rr_model.specs.Series.Cycle.{series_cycle};
+ghost use Rattle.rr_model.specs.Series.Limits.{IsTooManyMoments};
 ghost use Rattle.rr_model.specs.Series.Occurrences.{Occurs};
 ghost use Rattle.rr_model.specs.Series.Settled.{IsSettledDay};
 ghost use Rattle.rr_model.specs.Series.Soundness.{HasNoSetPositions};
 ghost use Rattle.rr_model.specs.Sets.Sketch.{IsFirstDay, StandsFor};
+ghost use Rattle.rr_model.specs.declared.refusal.Refusal.TheVariants.{TooManyMoments};
 ghost use Rattle.rr_word.specs.Bounded.{IsBounded, IsBounded-prop, IsFirstDay-prop};
 ghost use Rattle.rr_fold.specs.Judged.{IsJudged};
-ghost use Rattle.rr_fold.specs.Sketched.{sketch_of};
+ghost use Rattle.rr_fold.specs.Sketched.{IsFirstFilled, IsWholeFold, sketch_of};
 
-use rr_check::Checked;
+use crate::ends::ends;
+use crate::fill::{FoldedDays, folded_days};
+use crate::first_day::first_day;
+use rr_check::{Checked, admit};
 use rr_model::{Fault, Kind};
 use rr_shapes::Shapes;
 use rr_word::DaySeq;
@@ -28,6 +34,7 @@ pub struct Folded {
     ghost bounded: { IsBounded (sketch_of kind shapes numbers.items first settled period) } by { IsBounded-prop (sketch_of kind shapes numbers.items first settled period) },
     ghost first_is: { IsFirstDay (sketch_of kind shapes numbers.items first settled period) occupied } by { IsFirstDay-prop (sketch_of kind shapes numbers.items first settled period) occupied },
     ghost order: { first ≤ℤ settled },
+    ghost low: { neg_ℤ (pos 1_000_000_000) ≤ℤ first },
     ghost whole: { length numbers.items ≡ nat_abs (settled -ℤ first) + period },
     ghost within: { All (λ n. n < length shapes) numbers.items },
 }
@@ -46,7 +53,64 @@ pub fn fold(alloc: Global, series: &Checked) -> Result<Folded, Fault>
     ensures period { IfOk result (λ f. (⟦<Folded as DaySeq>⟧.sketch f).period ≡ series_cycle series.now) }
     ensures judged { IsJudged series.now result }
 {
-    Err(Fault::NoMemory)
+    match ends(alloc, series) {
+        Ok(settled) => folded_to(alloc, series, settled),
+        Err(fault) => Err(fault),
+    }
+}
+
+// The series folded up to a cycle past its settled day.
+fn folded_to(alloc: Global, series: &Checked, settled: i64) -> Result<Folded, Fault>
+    requires without_set_positions { HasNoSetPositions series.now }
+    requires few { series_cycle series.now ≤ 16_777_216 }
+    requires settled { IsSettledDay series.now settled }
+    requires high { settled ≤ℤ pos 20_000_000 }
+    ensures stands { IfOk result (λ f. StandsFor (sketch_of f.kind f.shapes f.numbers.items f.first f.settled f.period) (Occurs series.now)) }
+    ensures kind { IfOk result (λ f. f.kind ≡ series.now.kind) }
+    ensures settled { IfOk result (λ f. f.settled ≡ settled) }
+    ensures period { IfOk result (λ f. f.period ≡ series_cycle series.now) }
+    ensures refused { RefusedExactlyWhere (IsTooManyMoments series.now settled) TooManyMoments result }
+{
+    let given = series.series();
+    let period = admit(series).unwrap();
+    let first = first_day(given);
+    match folded_days(alloc, series, first, settled + period as i64) {
+        Ok(days) => Ok(sequence(given.kind, first, settled, period, days)),
+        Err(fault) => Err(fault),
+    }
+}
+
+// The sequence of numbered days.
+fn sequence(kind: Kind, first: i64, settled: i64, period: u64, days: FoldedDays) -> Folded
+    requires { IsWholeFold kind days.shapes days.numbers.items first settled period }
+    ensures { sketch_of result.kind result.shapes result.numbers.items result.first result.settled result.period ≡ sketch_of kind days.shapes days.numbers.items first settled period }
+{
+    let occupied = first_occupied(days.numbers.as_slice(), &days.shapes, first);
+    Folded {
+        kind,
+        occupied,
+        first,
+        settled,
+        period,
+        numbers: days.numbers,
+        shapes: days.shapes,
+    }
+}
+
+// The first of the days whose set is not empty.
+fn first_occupied(numbers: &[u32], shapes: &Shapes, first: i64) -> Option<i64>
+    requires low { neg_ℤ (pos 1_000_000_000) ≤ℤ first }
+    requires high { first ≤ℤ pos 1_000_000_000 }
+    requires few { length numbers.now ≤ 2_000_000_000 }
+    requires within { All (λ n. n < length shapes.now) numbers.now }
+    ensures { IsFirstFilled shapes.now numbers.now first result }
+{
+    for place in 0..numbers.len() {
+        if !shapes.times(numbers[place]).is_empty() {
+            return Some(first + place as i64);
+        }
+    }
+    None
 }
 
 impl DaySeq for Folded {
@@ -82,7 +146,6 @@ impl DaySeq for Folded {
 }
 
 impl Folded {
-    ghost use Rattle.std.specs.Prelude.{pos, neg_ℤ};
     ghost use Rattle.rr_fold.specs.Sequence.{IsPlaceOf};
 
     // The place of the number of a day; none before the first day.

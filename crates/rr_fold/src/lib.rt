@@ -1,6 +1,9 @@
 //! A series as a sequence of days that repeats.
 #![tactic(auto)]
 
+mod ends;
+mod fill;
+mod first_day;
 mod folded;
 
 pub use folded::{Folded, fold};
