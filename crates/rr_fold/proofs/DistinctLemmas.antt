@@ -1,17 +1,14 @@
 -- Distinct sets that are among others sum to no more.
-use Rattle.std.proofs.Common.{◌≡◌, ◌≢◌, ◌⊎◌, ℕ, zero, suc, ◌+◌, ◌<◌, ◌≤◌, Bool, true, false, List, [], ◌∷◌, length, get_or, All, Contains, ℤ, pos, ◌+ℤ◌, ◌≤ℤ◌, ◌<ℤ◌, refl, sym, ap, subst, ◌∙◌, inl, inr, arith}
-use Rattle.std.specs.Prelude.{AllPairs, sum_by, IsTrue, nat_lt, nat_abs, ◌-ℤ◌}
+use Rattle.std.proofs.Common.{◌≡◌, ◌≢◌, ℕ, zero, suc, ◌+◌, ◌<◌, ◌≤◌, List, [], ◌∷◌, length, get_or, Contains, ℤ, pos, ◌+ℤ◌, sym, ap, subst, ◌∙◌, inl, inr, arith}
+use Rattle.std.specs.Prelude.{AllPairs, sum_by, IsTrue, nat_abs, ◌-ℤ◌}
 use Rattle.std.proofs.lemmas.Int.{ints, by_lt_z}
-use Rattle.std.proofs.lemmas.Bool.{cases_lt, false≢true}
-use Rattle.rr_model.specs.Rising.Sets.{IsSetOf}
-use Rattle.rr_model.specs.declared.limits.TheConstants.{MAX_SECONDS}
+use Rattle.std.proofs.lemmas.Bool.{cases_lt}
 use Rattle.rr_model.proofs.RisingSetLemmas.{one_list_of_seconds}
 use Rattle.rr_model.specs.Sets.Tree.{Tree, stands_at}
 use Rattle.rr_model.specs.Series.Limits.{IsTimeSetBefore, HasTooManyMoments}
 use Rattle.rr_fold.specs.Folding.{IsFoldedTo}
 use Rattle.rr_fold.proofs.FoldLemmas.{no_second}
 use Rattle.std.proofs.lemmas.List.Sums.{sum_by-cons}
-use Rattle.std.proofs.lemmas.List.{get_or_default}
 use Rattle.std.proofs.lemmas.List.Elements.{Contains-get_or}
 use Rattle.rr_model.proofs.RisingSetLemmas.{Contains-head, Contains-tail, Contains-none, Contains-cons_cases}
 
@@ -59,14 +56,14 @@ module _ (tree : Tree) (first end : ℤ) (sets : List (List ℕ)) (numbers : Lis
   set_of_day x some t = by_lt_z {P = Contains sets x} t.day first
       (λ l. absurd (some (no_second (stands_at tree t.day) x t.all (λ s. folded.early t.day s l))))
       (λ g. (
-        let k : ℕ = nat_abs (t.day -ℤ first) in
-        let at : t.day ≡ first +ℤ pos k = omega (arith, ints, g) in
-        elim (cases_lt k (length numbers)) [
-          | inl l ↦ (let n = folded.numbered k l in
+      let k : ℕ = nat_abs (t.day -ℤ first) in
+      let at : t.day ≡ first +ℤ pos k = omega (arith, ints, g) in
+      elim (cases_lt k (length numbers)) [
+        | inl l ↦ (let n = folded.numbered k l in
             let same : x ≡ get_or sets (get_or numbers k 0) [] = one_list_of_seconds (λ s. IsTrue (stands_at tree (first +ℤ pos k) s)) x (get_or sets (get_or numbers k 0) []) (rw at at t.all) n.all in
             subst (Contains sets) (sym same) (Contains-get_or sets (get_or numbers k 0) [] n.within))
-          | inr h ↦ absurd (some (no_second (stands_at tree t.day) x t.all (λ s. folded.rest t.day s (omega (arith, ints, at, h)) t.early)))
-        ]))
+        | inr h ↦ absurd (some (no_second (stands_at tree t.day) x t.all (λ s. folded.rest t.day s (omega (arith, ints, at, h)) t.early)))
+      ]))
 
   pub not_too_many : HasTooManyMoments tree end → ⊥
   not_too_many many =

@@ -1,5 +1,5 @@
 -- One more day is folded.
-use Rattle.std.proofs.Common.{◌≡◌, ◌≢◌, ◌⊎◌, ℕ, zero, suc, lit≤, ◌+◌, ◌<◌, ◌≤◌, Bool, true, false, List, [], ◌∷◌, ◌++◌, length, get_or, All, Contains, ℤ, pos, ◌+ℤ◌, ◌≤ℤ◌, ◌<ℤ◌, refl, sym, subst, ◌∙◌, inl, inr, arith}
+use Rattle.std.proofs.Common.{◌≡◌, ◌≢◌, ◌⊎◌, ℕ, zero, suc, lit≤, ◌+◌, ◌<◌, ◌≤◌, Bool, true, false, List, [], ◌∷◌, ◌++◌, length, get_or, All, Contains, ℤ, pos, ◌+ℤ◌, ◌≤ℤ◌, refl, sym, subst, ◌∙◌, inl, inr, arith}
 use Rattle.std.specs.Prelude.{IsTrue, nat_lt, nat_eq, None, Some, Ok, Err}
 use Rattle.std.specs.Cmp.Lexicographic.{pointwise, bytes_decides}
 use Rattle.std.proofs.lemmas.Int.{ints, by_lt_z}
@@ -120,6 +120,7 @@ module _ (tree : Tree) (first position : ℤ) (sets : List (List ℕ)) (numbers 
       where
         old_before : All (λ x. x ≢ [] → IsTimeSetBefore tree (day +ℤ pos 1) x) sets
         old_before k d h n = let t = folded.sets_of_days k d h n in record { day = t.day; early = omega (arith, ints, t.early, found.late); all = t.all }
+
         own : times ≢ [] → IsTimeSetBefore tree (day +ℤ pos 1) times
         own n = record { day = day; early = omega (arith, ints); all = found.all }
 
@@ -151,6 +152,13 @@ nothing_folded tree first position early l = record {
     only : (k : ℕ) (d : List ℕ) → k < 1 → get_or ([] ∷ []) k d ≡ []
     only zero d m = refl
     only (suc k) d m = absurd (omega arith)
+
+-- the list does not go past the position
+pub list_within : (tree : Tree) (first end : ℤ) (sets : List (List ℕ)) (numbers : List ℕ) (days : ℕ) → IsFoldedTo tree first end sets numbers → end ≡ first +ℤ pos days → length numbers ≤ days
+list_within tree first end sets numbers days folded at = elim (cases_lt 0 (length numbers)) [
+  | inl l ↦ omega (arith, ints, folded.reached l, at)
+  | inr g ↦ omega (arith, g)
+]
 
 -- the list goes on with the number of the empty set up to the position
 pub filled_up : (tree : Tree) (first end : ℤ) (sets : List (List ℕ)) (numbers numbers' : List ℕ) (days : ℕ) → IsFoldedTo tree first end sets numbers → end ≡ first +ℤ pos days
@@ -220,5 +228,5 @@ copied tree first from days k sets number repeats l i = record {
   all =
       let e : first +ℤ pos (k + days) ≡ (first +ℤ pos k) +ℤ pos days = omega (arith, ints) in
       rw e (set_same nat_lt (λ s. IsTrue (stands_at tree (first +ℤ pos k) s)) (λ s. IsTrue (stands_at tree ((first +ℤ pos k) +ℤ pos days) s)) (get_or sets number []) i.all
-          (λ s. (let r = repeats (first +ℤ pos k) s l in ((λ t. r ∙ t), (λ t. sym r ∙ t)))));
+      (λ s. (let r = repeats (first +ℤ pos k) s l in ((λ t. r ∙ t), (λ t. sym r ∙ t)))));
 }

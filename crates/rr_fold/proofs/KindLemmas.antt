@@ -1,7 +1,7 @@
 -- The occupied days of a series are those of its kind, and none lies before its first day.
-use Rattle.std.proofs.Common.{◌≡◌, ◌≢◌, ◌⊎◌, ℕ, zero, suc, ◌<◌, ◌≤◌, Bool, true, false, ◌&&◌, ◌||◌, List, [], ◌∷◌, length, get_or, All, Contains, ℤ, pos, ◌≤ℤ◌, ◌<ℤ◌, refl, sym, ap, subst, ◌∙◌, inl, inr, arith}
-use Rattle.std.specs.Prelude.{IsTrue, nat_lt, int_lt, Option, None, Some}
-use Rattle.std.proofs.lemmas.Int.{ints, by_lt_z}
+use Rattle.std.proofs.Common.{◌≡◌, ◌≢◌, ℕ, ◌<◌, Bool, true, false, ◌||◌, List, [], ◌∷◌, get_or, All, Contains, ℤ, ◌≤ℤ◌, refl, sym, ap, subst, inl, inr, arith}
+use Rattle.std.specs.Prelude.{IsTrue, nat_lt, int_lt, slice_get, None, Some}
+use Rattle.std.proofs.lemmas.Int.{ints}
 use Rattle.std.proofs.lemmas.Bool.{false≢true}
 use Rattle.std.proofs.lemmas.Bool.Decides.{nat_tests}
 use Rattle.std.proofs.lemmas.List.Elements.{Contains-get_or}
@@ -10,10 +10,10 @@ use Rattle.rr_lazy.proofs.TreeLemmas.{and_left, has_second_below}
 use Rattle.rr_iter.proofs.RulesLemmas.{whole_one_kind}
 use Rattle.rr_model.proofs.RisingSetLemmas.{Contains-head, Contains-tail, Contains-none, Contains-cons_cases, below_rest}
 use Rattle.rr_model.specs.Moment.{day_part, second_part, moment_at}
+use Rattle.rr_model.specs.Moment.Years.{IsInYears}
 use Rattle.rr_model.specs.Rising.{Rises}
 use Rattle.rr_model.specs.Rising.Sets.{IsSetOf}
-use Rattle.rr_model.specs.Rule.Member.{IsMember}
-use Rattle.rr_model.specs.Series.Occurrences.{Occurs, IsMemberOfSome}
+use Rattle.rr_model.specs.Series.Occurrences.{IsMemberOfSome}
 use Rattle.rr_model.specs.Series.Soundness.{IsSound}
 use Rattle.rr_model.specs.Series.Tree.{tree_of, TreeStandsForSeries}
 use Rattle.rr_model.specs.Sets.Sketch.{IsTimeSet}
@@ -81,6 +81,7 @@ none_early law series first sound order plus d s l =
   where
     kind : Kind
     kind = series.kind
+
     impossible : stands_at (tree_of series) d s ≡ true → ⊥
     impossible e =
         let h : has_second series.kind s ≡ true = stands_second series.kind (tree_of series) d s (tree_of_kind series sound) e in
@@ -98,11 +99,22 @@ none_early law series first sound order plus d s l =
         ]
 
 -- the first of rising dates is not after any
-pub first_date : (kind : Kind) (dates : List ℤ) (date t : ℤ) (rest : List ℤ) → dates ≡ date ∷ rest → Rises int_lt dates → Contains dates t → day_part kind date ≤ℤ day_part kind t
-first_date kind dates date t rest e rises c = elim (Contains-cons_cases date rest t (subst (λ x. Contains x t) e c)) [
-  | inl same ↦ omega (arith, ints, ap (day_part kind) same)
-  | inr m ↦ (
-      let below : IsTrue (int_lt date t) = below_rest int_lt (λ x l. grind (arith, ints)) (λ x y z l m. grind (arith, ints)) date rest (subst (Rises int_lt) e rises) t m in
-      let l : date ≤ℤ t = grind (arith, ints) in
-      day_mono kind date t l)
-]
+pub no_dates : (dates : List ℤ) (t : ℤ) → slice_get dates 0 ≡ None → Contains dates t → ⊥
+no_dates [] t e c = Contains-none t c
+no_dates (x ∷ xs) t e c = (cc)
+
+pub first_date : (kind : Kind) (dates : List ℤ) (date t : ℤ) → slice_get dates 0 ≡ Some date → Rises int_lt dates → Contains dates t → day_part kind date ≤ℤ day_part kind t
+first_date kind [] date t e rises c = absurd (Contains-none t c)
+first_date kind (x ∷ rest) date t e rises c =
+    let head : x ≡ date = (cc) in
+    rw (sym head) (elim (Contains-cons_cases x rest t c) [
+      | inl same ↦ omega (arith, ints, ap (day_part kind) same)
+      | inr m ↦ (
+          let below : IsTrue (int_lt x t) = below_rest int_lt (λ x l. grind (arith, ints)) (λ x y z l m. grind (arith, ints)) x rest rises t m in
+          let l : x ≤ℤ t = grind (arith, ints) in
+          day_mono kind x t l)
+    ])
+
+pub first_in_years : (kind : Kind) (dates : List ℤ) (date : ℤ) → slice_get dates 0 ≡ Some date → All (IsInYears kind) dates → IsInYears kind date
+first_in_years kind [] date e all = (cc)
+first_in_years kind (x ∷ rest) date e all = let head : x ≡ date = (cc) in subst (IsInYears kind) head (all 0 x (omega arith))

@@ -1,11 +1,10 @@
 -- The sketch of folded days is a day sequence.
-use Rattle.std.proofs.Common.{◌≡◌, ◌≢◌, ℕ, zero, suc, ◌+◌, ◌-◌, ◌%◌, ◌<◌, ◌≤◌, Bool, true, false, List, [], ◌∷◌, length, get_or, take, drop, All, ℤ, pos, nat_abs, neg_ℤ, ◌+ℤ◌, ◌-ℤ◌, ◌≤ℤ◌, ◌<ℤ◌, refl, sym, ap, subst, ◌∙◌, inl, inr, arith}
+use Rattle.std.proofs.Common.{◌≡◌, ◌≢◌, ℕ, zero, suc, ◌+◌, ◌-◌, ◌%◌, ◌<◌, ◌≤◌, List, [], ◌∷◌, length, get_or, take, drop, All, ℤ, pos, nat_abs, neg_ℤ, ◌+ℤ◌, ◌-ℤ◌, ◌≤ℤ◌, ◌<ℤ◌, refl, sym, ap, subst, ◌∙◌, inl, inr, arith}
 use Rattle.std.specs.Prelude.{Option, Some, None}
 use Rattle.std.proofs.lemmas.Int.{ints, by_lt_z}
 use Rattle.std.proofs.lemmas.Bool.{cases_lt}
 use Rattle.std.proofs.lemmas.List.{length-take-le}
-use Rattle.rr_model.specs.Sets.Sketch.{HasRisingDays, IsTimeSet, IsNearDay, IsEmptySketch, IsFirstDay, times_on}
-use Rattle.rr_model.specs.Whole.{floor_mod}
+use Rattle.rr_model.specs.Sets.Sketch.{HasRisingDays, IsTimeSet, IsNearDay, IsFirstDay, times_on}
 use Rattle.rr_model.specs.declared.kind.Kind.{Kind}
 use Rattle.rr_model.specs.declared.sketch.DayShape.{DayShape}
 use Rattle.rr_model.specs.declared.sketch.Sketch.{Sketch}
@@ -44,9 +43,9 @@ module _ (P : DayShape → Type 0) where
   shapes_all sets [] d p = λ k e l. absurd (omega arith)
   shapes_all sets (n ∷ ns) d p =
       with_all d (get_or sets n []) (shapes_from sets (d +ℤ pos 1) ns)
-        (λ e. subst (λ x. P (record { day = x; times = get_or sets n [] })) (let z : d +ℤ pos 0 ≡ d = omega (arith, ints) in z) (p 0 (omega arith) e))
-        (shapes_all sets ns (d +ℤ pos 1) (λ k l e. subst (λ x. P (record { day = x; times = get_or sets (get_or ns k 0) [] }))
-          (let z : d +ℤ pos (suc k) ≡ (d +ℤ pos 1) +ℤ pos k = omega (arith, ints) in z) (p (suc k) (omega arith) e)))
+      (λ e. subst (λ x. P (record { day = x; times = get_or sets n [] })) (let z : d +ℤ pos 0 ≡ d = omega (arith, ints) in z) (p 0 (omega arith) e))
+      (shapes_all sets ns (d +ℤ pos 1) (λ k l e. subst (λ x. P (record { day = x; times = get_or sets (get_or ns k 0) [] }))
+      (let z : d +ℤ pos (suc k) ≡ (d +ℤ pos 1) +ℤ pos k = omega (arith, ints) in z) (p (suc k) (omega arith) e)))
 
 -- ---- the sketch
 
@@ -67,6 +66,22 @@ length_drop zero xs l = omega arith
 length_drop (suc n) [] l = absurd (omega arith)
 length_drop (suc n) (x ∷ xs) l = omega (arith, length_drop n xs (omega arith))
 
+-- the seconds of a day that has a place
+pub times_at_days : (kind : Kind) (sets : List (List ℕ)) (numbers : List ℕ) (first settled : ℤ) (period : ℕ) → first ≤ℤ settled → 1 ≤ period → length numbers ≡ nat_abs (settled -ℤ first) + period
+    → (d : ℤ) (k : ℕ) → d ≡ first +ℤ pos k → k < length numbers → times_on (sketch_of kind sets numbers first settled period) d ≡ get_or sets (get_or numbers k 0) []
+times_at_days kind sets numbers first settled period order some whole d k e l =
+    let days : ℕ = nat_abs (settled -ℤ first) in
+    let from_first : settled ≡ first +ℤ pos days = omega (arith, ints, order) in
+    elim (cases_lt k days) [
+      | inl m ↦ times_before kind sets numbers first settled period days some from_first whole d k e m
+      | inr g ↦ (
+          let j : ℕ = k - days in
+          let f : d ≡ settled +ℤ pos j = omega (arith, ints, e, from_first, g) in
+          let r : j % period ≡ j = (floor_only (pos j) (pos 0) period j (omega (arith, l, g, whole)) (omega (arith, ints))).1 in
+          let z : days + j % period ≡ k = omega (arith, r, g) in
+          times_after kind sets numbers first settled period days some from_first whole d j f ∙ ap (λ x. get_or sets (get_or numbers x 0) []) z)
+    ]
+
 module _ (kind : Kind) (sets : List (List ℕ)) (numbers : List ℕ) (first settled : ℤ) (period : ℕ) (w : IsWholeFold kind sets numbers first settled period) where
   abbrev sketch : Sketch
   sketch = sketch_of kind sets numbers first settled period
@@ -82,32 +97,23 @@ module _ (kind : Kind) (sets : List (List ℕ)) (numbers : List ℕ) (first sett
   nothing_within d none = by_lt_z {P = times_on sketch d ≡ []} d first
       (λ l. times_early kind sets numbers first settled period days w.some from_first w.whole d l)
       (λ g. by_lt_z {P = times_on sketch d ≡ []} d settled
-        (λ l. (let k : ℕ = nat_abs (d -ℤ first) in let e : d ≡ first +ℤ pos k = omega (arith, ints, g) in
-          times_before kind sets numbers first settled period days w.some from_first w.whole d k e (omega (arith, ints, l, from_first)) ∙ none k (omega (arith, ints, l, e, from_first, w.whole))))
-        (λ h. (let k : ℕ = nat_abs (d -ℤ settled) in let e : d ≡ settled +ℤ pos k = omega (arith, ints, h) in
-          let b : k % period < period = floor_mod_below (pos k) period w.some in
-          times_after kind sets numbers first settled period days w.some from_first w.whole d k e ∙ none (days + k % period) (omega (arith, b, w.whole)))))
+      (λ l. (let k : ℕ = nat_abs (d -ℤ first) in let e : d ≡ first +ℤ pos k = omega (arith, ints, g) in
+      times_before kind sets numbers first settled period days w.some from_first w.whole d k e (omega (arith, ints, l, from_first)) ∙ none k (omega (arith, ints, l, e, from_first, w.whole))))
+      (λ h. (let k : ℕ = nat_abs (d -ℤ settled) in let e : d ≡ settled +ℤ pos k = omega (arith, ints, h) in
+      let b : k % period < period = floor_mod_below (pos k) period w.some in
+      times_after kind sets numbers first settled period days w.some from_first w.whole d k e ∙ none (days + k % period) (omega (arith, b, w.whole)))))
 
-  -- the seconds of a day that has a place
-  pub times_at : (d : ℤ) (k : ℕ) → d ≡ first +ℤ pos k → k < length numbers → times_on sketch d ≡ get_or sets (get_or numbers k 0) []
-  times_at d k e l = elim (cases_lt k days) [
-    | inl m ↦ times_before kind sets numbers first settled period days w.some from_first w.whole d k e m
-    | inr g ↦ (
-        let j : ℕ = k - days in
-        let f : d ≡ settled +ℤ pos j = omega (arith, ints, e, from_first, g) in
-        let r : j % period ≡ j = (floor_only (pos j) (pos 0) period j (omega (arith, l, g, w.whole)) (omega (arith, ints))).1 in
-        let z : days + j % period ≡ k = omega (arith, r, g) in
-        times_after kind sets numbers first settled period days w.some from_first w.whole d j f ∙ ap (λ x. get_or sets (get_or numbers x 0) []) z)
-  ]
+  times_at : (d : ℤ) (k : ℕ) → d ≡ first +ℤ pos k → k < length numbers → times_on sketch d ≡ get_or sets (get_or numbers k 0) []
+  times_at d k e l = times_at_days kind sets numbers first settled period w.order w.some w.whole d k e l
 
   pub first_day_is : (day : Option ℤ) → IsFirstFilled sets numbers first day → IsFirstDay sketch day
   first_day_is None none = λ d. nothing_within d none
   first_day_is (Some day) (k, l, e, some, before) = (
     (λ n. some (sym (times_at day k e l) ∙ n)),
     (λ d m. by_lt_z {P = times_on sketch d ≡ []} d first
-      (λ h. times_early kind sets numbers first settled period days w.some from_first w.whole d h)
-      (λ g. (let j : ℕ = nat_abs (d -ℤ first) in let f : d ≡ first +ℤ pos j = omega (arith, ints, g) in
-        times_at d j f (omega (arith, ints, f, e, l, m)) ∙ before j (omega (arith, ints, f, e, m)))))
+        (λ h. times_early kind sets numbers first settled period days w.some from_first w.whole d h)
+        (λ g. (let j : ℕ = nat_abs (d -ℤ first) in let f : d ≡ first +ℤ pos j = omega (arith, ints, g) in
+        times_at d j f (omega (arith, ints, f, e, l, m)) ∙ before j (omega (arith, ints, f, e, m))))),
   )
 
   -- the first occupied day lies before the end of the first cycle
@@ -115,15 +121,15 @@ module _ (kind : Kind) (sets : List (List ℕ)) (numbers : List ℕ) (first sett
   first_near d f = by_lt_z {P = IsNearDay d} d first
       (λ l. absurd (f.0 (times_early kind sets numbers first settled period days w.some from_first w.whole d l)))
       (λ g. by_lt_z {P = IsNearDay d} d (settled +ℤ pos period)
-        (λ m. (omega (arith, ints, w.low, g), omega (arith, ints, m, w.high, w.few)))
-        (λ h. (
-          let k : ℕ = nat_abs (d -ℤ settled) in
-          let e : d ≡ settled +ℤ pos k = omega (arith, ints, h) in
-          let j : ℕ = k % period in
-          let b : j < period = floor_mod_below (pos k) period w.some in
-          let here = times_after kind sets numbers first settled period days w.some from_first w.whole d k e in
-          let there = times_at (first +ℤ pos (days + j)) (days + j) refl (omega (arith, b, w.whole)) in
-          absurd (f.0 (here ∙ sym there ∙ f.1 (first +ℤ pos (days + j)) (omega (arith, ints, b, h, from_first)))))))
+      (λ m. (omega (arith, ints, w.low, g), omega (arith, ints, m, w.high, w.few)))
+      (λ h. (
+      let k : ℕ = nat_abs (d -ℤ settled) in
+      let e : d ≡ settled +ℤ pos k = omega (arith, ints, h) in
+      let j : ℕ = k % period in
+      let b : j < period = floor_mod_below (pos k) period w.some in
+      let here = times_after kind sets numbers first settled period days w.some from_first w.whole d k e in
+      let there = times_at (first +ℤ pos (days + j)) (days + j) refl (omega (arith, b, w.whole)) in
+      absurd (f.0 (here ∙ sym there ∙ f.1 (first +ℤ pos (days + j)) (omega (arith, ints, b, h, from_first)))))))
 
   pub whole_bounded : IsBounded sketch
   whole_bounded =

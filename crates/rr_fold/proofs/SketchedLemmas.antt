@@ -1,16 +1,16 @@
 -- The sketch of folded days has each day's seconds.
-use Rattle.std.proofs.Common.{◌≡◌, ℕ, zero, suc, ◌+◌, ◌*◌, ◌/◌, ◌%◌, ◌<◌, ◌≤◌, Bool, true, false, List, [], ◌∷◌, length, get_or, take, drop, ℤ, pos, nat_abs, ◌+ℤ◌, ◌-ℤ◌, ◌*ℤ◌, ◌≤ℤ◌, ◌<ℤ◌, refl, sym, ap, subst, ◌∙◌, inl, inr, arith}
+use Rattle.std.proofs.Common.{◌≡◌, ℕ, zero, suc, ◌+◌, ◌*◌, ◌/◌, ◌%◌, ◌<◌, ◌≤◌, true, false, List, [], ◌∷◌, length, get_or, take, drop, ℤ, pos, nat_abs, ◌+ℤ◌, ◌-ℤ◌, ◌≤ℤ◌, ◌<ℤ◌, refl, sym, ap, subst, ◌∙◌, arith}
 use Rattle.std.specs.Prelude.{IsTrue, nat_lt, int_lt}
 use Rattle.std.specs.Ordering.{int_eq}
 use Rattle.std.proofs.lemmas.Int.{ints, by_lt_z}
 use Rattle.std.proofs.lemmas.Nat.{div-add-mod'}
-use Rattle.std.proofs.lemmas.Bool.{cases_lt, false≢true}
+use Rattle.std.proofs.lemmas.Bool.{false≢true}
 use Rattle.std.proofs.lemmas.Bool.Decides.{Decides-int_eq}
 use Rattle.std.proofs.lemmas.Grind.{common_steps}
 use Rattle.std.proofs.lemmas.List.{get_or-take, get_or-drop, length-take-le}
-use Rattle.rr_model.specs.Whole.{floor_div, floor_mod}
+use Rattle.rr_model.specs.Whole.{floor_mod}
 use Rattle.rr_model.specs.Rising.Sets.{IsSetOf}
-use Rattle.rr_model.specs.Sets.Sketch.{times_in, times_on, day_in_cycle, StandsIn, StandsFor}
+use Rattle.rr_model.specs.Sets.Sketch.{times_in, times_on, StandsFor}
 use Rattle.rr_model.specs.Moment.{day_part, second_part}
 use Rattle.rr_model.specs.Series.Cycle.{series_cycle}
 use Rattle.rr_model.specs.Series.Occurrences.{Occurs}
@@ -21,8 +21,7 @@ use Rattle.rr_model.specs.Sets.Tree.{Tree, stands_at, RepeatsAfter}
 use Rattle.rr_model.specs.declared.kind.Kind.{Kind}
 use Rattle.rr_model.specs.declared.rule.Series.{Series}
 use Rattle.rr_model.specs.declared.sketch.DayShape.{DayShape}
-use Rattle.rr_model.specs.declared.sketch.Sketch.{Sketch}
-use Rattle.rr_model.proofs.WholeLemmas.{floor_only, floor_whole, floor_mod_below}
+use Rattle.rr_model.proofs.WholeLemmas.{floor_mod_below}
 use Rattle.rr_model.proofs.RisingSetLemmas.{set_empty, set_same}
 use Rattle.rr_fold.specs.Folding.{AreNumbered, HasNoneBefore}
 use Rattle.rr_fold.specs.Sketched.{with_day, shapes_from, sketch_of}
@@ -105,14 +104,14 @@ module _ (kind : Kind) (tree : Tree) (sets : List (List ℕ)) (numbers : List �
   early_times : (d : ℤ) → d <ℤ settled → IsSetOf nat_lt (times_on (sketch_of kind sets numbers first settled period) d) (λ s. IsTrue (stands_at tree d s))
   early_times d l = by_lt_z {P = IsSetOf nat_lt (times_on (sketch_of kind sets numbers first settled period) d) (λ s. IsTrue (stands_at tree d s))} d first
       (λ m. (let e = times_early kind sets numbers first settled period n some at full d m in
-        subst (λ x. IsSetOf nat_lt x (λ s. IsTrue (stands_at tree d s))) (sym e) (set_empty nat_lt (λ s. IsTrue (stands_at tree d s)) (λ s t. false≢true (sym (before d s m) ∙ t)))))
+      subst (λ x. IsSetOf nat_lt x (λ s. IsTrue (stands_at tree d s))) (sym e) (set_empty nat_lt (λ s. IsTrue (stands_at tree d s)) (λ s t. false≢true (sym (before d s m) ∙ t)))))
       (λ g. (
-        let k : ℕ = nat_abs (d -ℤ first) in
-        let f : d ≡ first +ℤ pos k = omega (arith, ints, g) in
-        let within : k < n = omega (arith, ints, f, l, at) in
-        let e = times_before kind sets numbers first settled period n some at full d k f within in
-        let i = numbered k (omega (arith, within, full)) in
-        subst (λ x. IsSetOf nat_lt x (λ s. IsTrue (stands_at tree d s))) (sym e) (rw (sym f) at i.all)))
+      let k : ℕ = nat_abs (d -ℤ first) in
+      let f : d ≡ first +ℤ pos k = omega (arith, ints, g) in
+      let within : k < n = omega (arith, ints, f, l, at) in
+      let e = times_before kind sets numbers first settled period n some at full d k f within in
+      let i = numbered k (omega (arith, within, full)) in
+      subst (λ x. IsSetOf nat_lt x (λ s. IsTrue (stands_at tree d s))) (sym e) (rw (sym f) at i.all)))
 
   -- from the settled day on
   late_times : (d : ℤ) → settled ≤ℤ d → IsSetOf nat_lt (times_on (sketch_of kind sets numbers first settled period) d) (λ s. IsTrue (stands_at tree d s))
@@ -128,7 +127,7 @@ module _ (kind : Kind) (tree : Tree) (sets : List (List ℕ)) (numbers : List �
       let g : d ≡ (settled +ℤ pos j) +ℤ pos (k / period * period) = omega (arith, ints, f, p) in
       subst (λ x. IsSetOf nat_lt x (λ s. IsTrue (stands_at tree d s))) (sym e)
       (set_same nat_lt (λ s. IsTrue (stands_at tree (settled +ℤ pos j) s)) (λ s. IsTrue (stands_at tree d s)) (get_or sets (get_or numbers (n + j) 0) []) (rw h at i.all)
-          (λ s. (let r : stands_at tree d s ≡ stands_at tree (settled +ℤ pos j) s = ap (λ x. stands_at tree x s) g ∙ repeats_times (k / period) (settled +ℤ pos j) s (omega (arith, ints)) in ((λ t. r ∙ t), (λ t. sym r ∙ t)))))
+      (λ s. (let r : stands_at tree d s ≡ stands_at tree (settled +ℤ pos j) s = ap (λ x. stands_at tree x s) g ∙ repeats_times (k / period) (settled +ℤ pos j) s (omega (arith, ints)) in ((λ t. r ∙ t), (λ t. sym r ∙ t)))))
 
   -- the seconds of each day
   pub times_are : (d : ℤ) → IsSetOf nat_lt (times_on (sketch_of kind sets numbers first settled period) d) (λ s. IsTrue (stands_at tree d s))
@@ -144,5 +143,6 @@ sketch_stands_for stands repeats series sets numbers first settled n sound past 
     let tree = tree_of series in
     let times = times_are series.kind tree sets numbers first settled (series_cycle series) n some at full numbered (λ d s l. repeats series settled sound past d s l) before in
     let law = stands series k t sound in (
-    λ h. law.0 (h.kind, ((times (day_part k t)).exact (second_part k t)).0 h.second),
-    λ o. (let h = law.1 o in record { kind = h.0; second = ((times (day_part k t)).exact (second_part k t)).1 h.1 }))
+      λ h. law.0 (h.kind, ((times (day_part k t)).exact (second_part k t)).0 h.second),
+      λ o. (let h = law.1 o in record { kind = h.0; second = ((times (day_part k t)).exact (second_part k t)).1 h.1 }),
+    )

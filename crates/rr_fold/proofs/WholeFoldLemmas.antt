@@ -1,23 +1,21 @@
 -- What the folded days of a series meet, and how the series is judged by them.
-use Rattle.std.proofs.Common.{◌≡◌, ◌≢◌, ℕ, ◌+◌, ◌<◌, ◌≤◌, List, [], length, get_or, All, ℤ, pos, nat_abs, neg_ℤ, ◌+ℤ◌, ◌-ℤ◌, ◌≤ℤ◌, ◌<ℤ◌, refl, sym, ap, subst, inl, inr, arith}
-use Rattle.std.specs.Prelude.{Option, None, Some, Result, Ok, Err}
+use Rattle.std.proofs.Common.{◌≡◌, ℕ, ◌<◌, ◌≤◌, List, length, get_or, ℤ, pos, neg_ℤ, ◌+ℤ◌, ◌≤ℤ◌, refl, ap, subst, inl, inr, arith}
+use Rattle.std.specs.Prelude.{Some, Result, Ok, Err}
 use Rattle.std.proofs.lemmas.Int.{ints}
 use Rattle.std.proofs.lemmas.List.{get_or_default}
 use Rattle.rr_model.specs.Answers.{RefusedExactlyWhere}
 use Rattle.rr_model.specs.Moment.{day_part}
 use Rattle.rr_model.specs.Series.Cycle.{series_cycle}
-use Rattle.rr_model.specs.Series.FirstRefusal.{IsCycleOver, IsCountOver, AreMomentsOver, IsLimitRefusal}
+use Rattle.rr_model.specs.Series.FirstRefusal.{IsCycleOver}
 use Rattle.rr_model.specs.Series.Limits.{IsCountedTooFar, IsTooManyMoments}
 use Rattle.rr_model.specs.Series.Settled.{IsSettledDay}
 use Rattle.rr_model.specs.Series.Soundness.{IsSound}
 use Rattle.rr_model.specs.Series.Tree.{tree_of}
-use Rattle.rr_model.specs.Sets.Sketch.{IsTimeSet}
-use Rattle.rr_model.specs.declared.limits.TheConstants.{MAX_CYCLE_DAYS}
 use Rattle.rr_model.specs.declared.refusal.Fault.{Fault}
 use Rattle.rr_model.specs.declared.refusal.Fault.TheVariants.{Refused, NoMemory}
-use Rattle.rr_model.specs.declared.refusal.Refusal.{Refusal}
 use Rattle.rr_model.specs.declared.refusal.Refusal.TheVariants.{CountedTooFar, TooManyMoments}
 use Rattle.rr_model.specs.declared.rule.Series.{Series}
+use Rattle.rr_model.proofs.YearLemmas.{four_digit_bounds}
 use Rattle.rr_check.proofs.SeriesCycleLemmas.{rules_cycle_some}
 use Rattle.rr_fold.specs.Folding.{IsFoldedTo}
 use Rattle.rr_fold.specs.Judged.{all_limits, IsJudged}
@@ -48,6 +46,12 @@ whole_fold series sets numbers first settled end period sound settled_is folded 
 pub cycle_some : (series : Series) → IsSound series → 1 ≤ series_cycle series
 cycle_some series sound = rules_cycle_some series.rules (λ k d l. (sound.valid.rules k d l).interval_low)
 
+-- the settled day lies after 0001-01-01, and the first day before it
+pub settled_low : (series : Series) (settled : ℤ) → IsSound series → IsSettledDay series settled → neg_ℤ (pos 719_162) ≤ℤ settled
+settled_low series settled sound is =
+    let b = four_digit_bounds (day_part series.kind series.start) sound.valid.start in
+    omega (arith, ints, b.0, is.past.start)
+
 -- ---- how the series is judged
 
 module _ (series : Series) (few : series_cycle series ≤ 16_777_216) where
@@ -66,6 +70,6 @@ module _ (series : Series) (few : series_cycle series ≤ 16_777_216) where
 
     -- moments are judged last
     pub judged_moments : (X : Type 0) (result : Result X Fault) → RefusedExactlyWhere (IsTooManyMoments series settled) TooManyMoments result → IsJudged series result
-    judged_moments X (Ok x) r = inr (within_cycle, inr ((λ c. near c.1), inr ((λ m. r (subst (IsTooManyMoments series) (one_settled m.1.0 m.1.1.0) m.1.1.1)), refl)))
+    judged_moments X (Ok x) r = inr (within_cycle, inr ((λ c. near c.1), inr ((λ m. r (subst (IsTooManyMoments series) (one_settled m.1.0 m.1.1) m.1.2)), refl)))
     judged_moments X (Err (Refused refusal)) r = inr (within_cycle, inr ((λ c. near c.1), inl ((refl, (settled, settled_is, r.1)), ap Some r.0)))
     judged_moments X (Err NoMemory) r = tt

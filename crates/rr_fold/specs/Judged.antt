@@ -1,5 +1,5 @@
 -- How a series is judged where it is folded (RFC 5545, section 3.8.5).
-use Rattle.std.specs.Prelude.{true, Option, None, Some, Result, Ok, Err, ⊤}
+use Rattle.std.specs.Prelude.{true, None, Some, Result, Ok, Err, ⊤}
 use Rattle.rr_model.specs.Series.FirstRefusal.{Limits, IsLimitRefusal}
 use Rattle.rr_model.specs.declared.refusal.Fault.{Fault}
 use Rattle.rr_model.specs.declared.refusal.Fault.TheVariants.{Refused, NoMemory}

@@ -45,7 +45,12 @@ pub fn folded_days(
 }
 
 // The days of an iterator that was not asked yet, from one on and below another.
-fn collected<L: Lazy + Drop>(alloc: Global, lazy: L, first: i64, end: i64) -> Result<FoldedDays, Fault>
+fn collected<L: Lazy + Drop>(
+    alloc: Global,
+    lazy: L,
+    first: i64,
+    end: i64,
+) -> Result<FoldedDays, Fault>
     requires low { neg_ℤ (pos 719_162) ≤ℤ first }
     requires order { first <ℤ end }
     requires high { end ≤ℤ pos 40_000_000 }

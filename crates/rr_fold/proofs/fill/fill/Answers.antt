@@ -4,7 +4,7 @@ use Rattle.rr_model.specs.Series.Limits.{HasTooManyMoments}
 use Rattle.rr_shapes.specs.Placing.{IsTooMany}
 use Rattle.rr_fold.specs.Folding.{IsFoldedTo}
 use Rattle.rr_fold.proofs.DistinctLemmas.{not_too_many}
-use Rattle.rr_fold.proofs.FoldLemmas.{found_on, none_on, not_early, not_listed, refused_so, too_many}
+use Rattle.rr_fold.proofs.FoldLemmas.{found_on, none_on, not_early, refused_so, too_many}
 use Rattle.rr_fold.proofs.fill.fill.Goals as goal
 
 -- a day near enough keeps its number
@@ -18,7 +18,7 @@ returns-in-None-clause-folded g c =
     let n = rw c.in-None.is at c.in_ok-next.ensures.next in
     let before : IsFoldedTo (g.L.Lazy.tree c.args.lazy.now) c.args.first (g.L.Lazy.position c.days.lazy) c.days.shapes c.days.numbers.items = rw f at c.days.invariant.2 in
     none_on (g.L.Lazy.tree c.args.lazy.now) (g.L.Lazy.tree c.days.lazy) c.args.first (g.L.Lazy.position c.days.lazy) c.args.to (to_z w64 (of_z w64 c.args.to)) (g.L.Lazy.position c.next.new.self) c.days.shapes c.days.numbers.items
-        before n c.days.invariant.0 t (omega (arith, ints, c.days.invariant.1, t))
+    before n c.days.invariant.0 t (omega (arith, ints, c.days.invariant.1, t))
 
 pub returns-in-None-clause-refused : goal.returns-in-None-clause-refused
 returns-in-None-clause-refused g c =
@@ -45,7 +45,7 @@ days-preserved g c =
     let day = day_back first c.in-Some.found.day c.args.to (omega (arith, ints, f, c.requires.begun)) order (omega (arith, ints, n.1, t)) c.requires.high in
     let at : c.in-Some.found.day ≡ to_z w64 (of_z w64 c.args.first) +ℤ pos c.days_between-place.result = sym day ∙ c.days_between-place.ensures in
     let r = found_on (g.L.Lazy.tree c.args.lazy.now) (g.L.Lazy.tree c.days.lazy) (to_z w64 (of_z w64 c.args.first)) (g.L.Lazy.position c.days.lazy) (to_z w64 (of_z w64 c.args.to)) (to_z w64 (of_z w64 c.args.to)) (g.L.Lazy.position c.next.new.self) c.in-Ok.number c.days_between-place.result c.days.shapes c.place.new.self c.days.numbers.items c.put.new.numbers.items c.in-Some.found
-        c.days.invariant.2 n c.days.invariant.0 refl c.in-Ok.ensures.placed c.in-Ok.ensures.room at c.in_ok-put-in-Ok.ensures in
+    c.days.invariant.2 n c.days.invariant.0 refl c.in-Ok.ensures.placed c.in-Ok.ensures.room at c.in_ok-put-in-Ok.ensures in
     (c.in_ok-next.ensures.tree ∙ c.days.invariant.0, r.1, r.0)
 
 pub returns-in-Err-clause-refused : goal.returns-in-Err-clause-refused
@@ -54,5 +54,5 @@ returns-in-Err-clause-refused g c =
     let e = c.in-Err.ensures in
     let t = to_z-of_z c.ranges.to in
     refused_so ℕ (Unit {0}) c.in-Err.fault (IsTooMany c.in-Some.found.times c.days.shapes) (HasTooManyMoments (g.L.Lazy.tree c.args.lazy.now) (c.args.to +ℤ pos 1)) e.refused
-        (λ many. too_many (g.L.Lazy.tree c.args.lazy.now) (g.L.Lazy.tree c.days.lazy) (to_z w64 (of_z w64 c.args.first)) (g.L.Lazy.position c.days.lazy) c.args.to (to_z w64 (of_z w64 c.args.to)) (g.L.Lazy.position c.next.new.self) c.days.shapes c.days.numbers.items c.in-Some.found
-            c.days.invariant.2 n c.days.invariant.0 t (rw e.unchanged at e.numbering) many)
+    (λ many. too_many (g.L.Lazy.tree c.args.lazy.now) (g.L.Lazy.tree c.days.lazy) (to_z w64 (of_z w64 c.args.first)) (g.L.Lazy.position c.days.lazy) c.args.to (to_z w64 (of_z w64 c.args.to)) (g.L.Lazy.position c.next.new.self) c.days.shapes c.days.numbers.items c.in-Some.found
+    c.days.invariant.2 n c.days.invariant.0 t (rw e.unchanged at e.numbering) many)
