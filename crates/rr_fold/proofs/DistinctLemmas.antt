@@ -1,5 +1,6 @@
 -- Distinct sets that are among others sum to no more.
-use Rattle.std.proofs.Common.{◌≡◌, ◌≢◌, ℕ, zero, suc, ◌+◌, ◌<◌, ◌≤◌, List, [], ◌∷◌, length, get_or, Contains, ℤ, pos, ◌+ℤ◌, sym, ap, subst, ◌∙◌, inl, inr, arith}
+use Rattle.std.proofs.Common.{◌≡◌, ◌≢◌, ℕ, zero, suc, ◌+◌, ◌<◌, ◌≤◌, List, [], ◌∷◌, length, get_or, Contains, ℤ, pos, ◌+ℤ◌, sym, ap, subst, ◌∙◌, inl, inr}
+use Rattle.std.proofs.Common.{arith}
 use Rattle.std.specs.Prelude.{AllPairs, sum_by, IsTrue, nat_abs, ◌-ℤ◌}
 use Rattle.std.proofs.lemmas.Int.{ints, by_lt_z}
 use Rattle.std.proofs.lemmas.Bool.{cases_lt}
@@ -38,14 +39,16 @@ head_apart : (x : List ℕ) (xs : List (List ℕ)) (z : List ℕ) → AllPairs (
 head_apart x xs z h (k, l, e) same = h 0 (suc k) z (omega arith) (omega arith) (sym (e ∙ same))
 
 -- distinct sets, of which each that is not empty is among others
-pub within_others : (xs ys : List (List ℕ)) → AllPairs (λ a b. a ≢ b) xs → ((x : List ℕ) → Contains xs x → x ≢ [] → Contains ys x) → sum_by length xs ≤ sum_by length ys
+pub within_others : (xs ys : List (List ℕ)) → AllPairs (λ a b. a ≢ b) xs → ((x : List ℕ) → Contains xs x → x ≢ [] → Contains ys x)
+    → sum_by length xs ≤ sum_by length ys
 within_others [] ys distinct among = omega arith
 within_others ([] ∷ xs) ys distinct among =
     omega (arith, sum_by-cons length [] xs, within_others xs ys (rest_distinct [] xs distinct) (λ z c n. among z (Contains-tail [] xs z c) n))
 within_others ((s ∷ ss) ∷ xs) ys distinct among =
     let x : List ℕ = s ∷ ss in
     let c = among x (Contains-head x xs) (λ e. omega (arith, ap length e)) in
-    let rest = within_others xs (without_one ys c.0) (rest_distinct x xs distinct) (λ z m n. others_stay ys c.0 x z c.1 (among z (Contains-tail x xs z m) n) (λ e. head_apart x xs z distinct m (e ∙ c.2))) in
+    let rest = within_others xs (without_one ys c.0) (rest_distinct x xs distinct)
+    (λ z m n. others_stay ys c.0 x z c.1 (among z (Contains-tail x xs z m) n) (λ e. head_apart x xs z distinct m (e ∙ c.2))) in
     omega (arith, sum_by-cons length x xs, sum_without ys c.0 x c.1, ap length c.2, rest)
 
 -- ---- a folded tree has not too many moments
@@ -60,11 +63,18 @@ module _ (tree : Tree) (first end : ℤ) (sets : List (List ℕ)) (numbers : Lis
       let at : t.day ≡ first +ℤ pos k = omega (arith, ints, g) in
       elim (cases_lt k (length numbers)) [
         | inl l ↦ (let n = folded.numbered k l in
-            let same : x ≡ get_or sets (get_or numbers k 0) [] = one_list_of_seconds (λ s. IsTrue (stands_at tree (first +ℤ pos k) s)) x (get_or sets (get_or numbers k 0) []) (rw at at t.all) n.all in
+            let same : x ≡ get_or sets (get_or numbers k 0) [] =
+            one_list_of_seconds (λ s. IsTrue (stands_at tree (first +ℤ pos k) s)) x (get_or sets (get_or numbers k 0) []) (rw at at t.all) n.all in
             subst (Contains sets) (sym same) (Contains-get_or sets (get_or numbers k 0) [] n.within))
         | inr h ↦ absurd (some (no_second (stands_at tree t.day) x t.all (λ s. folded.rest t.day s (omega (arith, ints, at, h)) t.early)))
       ]))
 
   pub not_too_many : HasTooManyMoments tree end → ⊥
   not_too_many many =
-      omega (arith, many.above, folded.few, within_others many.sets sets many.distinct (λ x c some. set_of_day x some (subst (IsTimeSetBefore tree end) c.2 (many.occupied c.0 x c.1 (λ e. some (sym c.2 ∙ e))))))
+      omega (
+        arith,
+        many.above,
+        folded.few,
+        within_others many.sets sets many.distinct
+            (λ x c some. set_of_day x some (subst (IsTimeSetBefore tree end) c.2 (many.occupied c.0 x c.1 (λ e. some (sym c.2 ∙ e))))),
+      )

@@ -17,7 +17,8 @@ use Rattle.rr_model.specs.Series.Occurrences.{IsMemberOfSome}
 use Rattle.rr_model.specs.Series.Soundness.{IsSound}
 use Rattle.rr_model.specs.Series.Tree.{tree_of, TreeStandsForSeries}
 use Rattle.rr_model.specs.Sets.Sketch.{IsTimeSet}
-use Rattle.rr_model.specs.Sets.Tree.{Tree, Forest, chosen_of, dates_of, union, many, upto, first_n, without, nothing, part, has_second, stands_at, some_stands_at, IsOfKind, AreOfKind}
+use Rattle.rr_model.specs.Sets.Tree.{Tree, Forest, chosen_of, dates_of, union, many, upto, first_n, without, nothing, part, has_second, stands_at}
+use Rattle.rr_model.specs.Sets.Tree.{some_stands_at, IsOfKind, AreOfKind}
 use Rattle.rr_model.specs.declared.kind.Kind.{Kind}
 use Rattle.rr_model.specs.declared.kind.Kind.TheVariants.{Days, Moments}
 use Rattle.rr_model.specs.declared.rule.Rule.{Rule}
@@ -56,10 +57,15 @@ zeros (x ∷ y ∷ ys) some rises only =
     let l : x < y = grind (arith, nat_tests, rises.0) in
     absurd (omega (arith, l, only x (Contains-head x (y ∷ ys)), only y (Contains-tail x (y ∷ ys) y (Contains-head y ys))))
 
-pub is_time_set : (kind : Kind) (times : List ℕ) (test : ℕ → Bool) → times ≢ [] → IsSetOf nat_lt times (λ s. IsTrue (test s)) → ((s : ℕ) → test s ≡ true → has_second kind s ≡ true) → IsTimeSet kind times
+pub is_time_set : (kind : Kind) (times : List ℕ) (test : ℕ → Bool) → times ≢ [] → IsSetOf nat_lt times (λ s. IsTrue (test s))
+    → ((s : ℕ) → test s ≡ true → has_second kind s ≡ true) → IsTimeSet kind times
 is_time_set Days times test some set of = zeros times some set.rises (λ s c. (let e = of s ((set.exact s).0 c) in grind (arith, nat_tests)))
-is_time_set Moments times test some set of =
-    (some, set.rises, (λ k d l. has_second_below Moments (get_or times k d) (of (get_or times k d) ((set.exact (get_or times k d)).0 (Contains-get_or times k d l)))))
+is_time_set Moments times test some set of = (
+  some,
+  set.rises,
+  (λ k d l. has_second_below Moments (get_or times k d)
+      (of (get_or times k d) ((set.exact (get_or times k d)).0 (Contains-get_or times k d l)))),
+)
 
 -- ---- a sound series
 
@@ -103,7 +109,8 @@ pub no_dates : (dates : List ℤ) (t : ℤ) → slice_get dates 0 ≡ None → C
 no_dates [] t e c = Contains-none t c
 no_dates (x ∷ xs) t e c = (cc)
 
-pub first_date : (kind : Kind) (dates : List ℤ) (date t : ℤ) → slice_get dates 0 ≡ Some date → Rises int_lt dates → Contains dates t → day_part kind date ≤ℤ day_part kind t
+pub first_date : (kind : Kind) (dates : List ℤ) (date t : ℤ) → slice_get dates 0 ≡ Some date → Rises int_lt dates → Contains dates t
+    → day_part kind date ≤ℤ day_part kind t
 first_date kind [] date t e rises c = absurd (Contains-none t c)
 first_date kind (x ∷ rest) date t e rises c =
     let head : x ≡ date = (cc) in

@@ -1,5 +1,6 @@
 -- The sketch of folded days is a day sequence.
-use Rattle.std.proofs.Common.{◌≡◌, ◌≢◌, ℕ, zero, suc, ◌+◌, ◌-◌, ◌%◌, ◌<◌, ◌≤◌, List, [], ◌∷◌, length, get_or, take, drop, All, ℤ, pos, nat_abs, neg_ℤ, ◌+ℤ◌, ◌-ℤ◌, ◌≤ℤ◌, ◌<ℤ◌, refl, sym, ap, subst, ◌∙◌, inl, inr, arith}
+use Rattle.std.proofs.Common.{◌≡◌, ◌≢◌, ℕ, zero, suc, ◌+◌, ◌-◌, ◌%◌, ◌<◌, ◌≤◌, List, [], ◌∷◌, length, get_or, take, drop, All, ℤ, pos, nat_abs, neg_ℤ, ◌+ℤ◌}
+use Rattle.std.proofs.Common.{◌-ℤ◌, ◌≤ℤ◌, ◌<ℤ◌, refl, sym, ap, subst, ◌∙◌, inl, inr, arith}
 use Rattle.std.specs.Prelude.{Option, Some, None}
 use Rattle.std.proofs.lemmas.Int.{ints, by_lt_z}
 use Rattle.std.proofs.lemmas.Bool.{cases_lt}
@@ -19,13 +20,16 @@ rising_from : (a b high : ℤ) (xs : List DayShape) → a ≤ℤ b → HasRising
 rising_from a b high [] l r = tt
 rising_from a b high (x ∷ xs) l r = (omega (arith, ints, l, r.0), r.1, r.2)
 
-with_rising : (d high : ℤ) (times : List ℕ) (rest : List DayShape) → d <ℤ high → HasRisingDays (d +ℤ pos 1) high rest → HasRisingDays d high (with_day d times rest)
+with_rising : (d high : ℤ) (times : List ℕ) (rest : List DayShape) → d <ℤ high → HasRisingDays (d +ℤ pos 1) high rest
+    → HasRisingDays d high (with_day d times rest)
 with_rising d high [] rest l r = rising_from d (d +ℤ pos 1) high rest (omega (arith, ints)) r
 with_rising d high (s ∷ ss) rest l r = (omega (arith, ints), l, r)
 
 shapes_rise : (sets : List (List ℕ)) (ns : List ℕ) (d high : ℤ) → (d +ℤ pos (length ns)) ≤ℤ high → HasRisingDays d high (shapes_from sets d ns)
 shapes_rise sets [] d high l = tt
-shapes_rise sets (n ∷ ns) d high l = with_rising d high (get_or sets n []) (shapes_from sets (d +ℤ pos 1) ns) (omega (arith, ints, l)) (shapes_rise sets ns (d +ℤ pos 1) high (omega (arith, ints, l)))
+shapes_rise sets (n ∷ ns) d high l =
+    with_rising d high (get_or sets n []) (shapes_from sets (d +ℤ pos 1) ns) (omega (arith, ints, l))
+    (shapes_rise sets ns (d +ℤ pos 1) high (omega (arith, ints, l)))
 
 -- ---- each occupied day has a set of the list, and lies among the days
 
@@ -39,7 +43,8 @@ module _ (P : DayShape → Type 0) where
   with_all d (s ∷ ss) rest p all = all_cons (record { day = d; times = s ∷ ss }) rest (p (λ e. absurd (omega (arith, ap length e)))) all
 
   shapes_all : (sets : List (List ℕ)) (ns : List ℕ) (d : ℤ)
-      → ((k : ℕ) → k < length ns → get_or sets (get_or ns k 0) [] ≢ [] → P (record { day = d +ℤ pos k; times = get_or sets (get_or ns k 0) [] })) → All P (shapes_from sets d ns)
+      → ((k : ℕ) → k < length ns → get_or sets (get_or ns k 0) [] ≢ [] → P (record { day = d +ℤ pos k; times = get_or sets (get_or ns k 0) [] }))
+      → All P (shapes_from sets d ns)
   shapes_all sets [] d p = λ k e l. absurd (omega arith)
   shapes_all sets (n ∷ ns) d p =
       with_all d (get_or sets n []) (shapes_from sets (d +ℤ pos 1) ns)
@@ -50,7 +55,8 @@ module _ (P : DayShape → Type 0) where
 -- ---- the sketch
 
 -- a set of the list, or nothing where the list has no such number
-set_of_place : (kind : Kind) (sets : List (List ℕ)) → All (λ t. t ≢ [] → IsTimeSet kind t) sets → (n : ℕ) → get_or sets n [] ≢ [] → IsTimeSet kind (get_or sets n [])
+set_of_place : (kind : Kind) (sets : List (List ℕ)) → All (λ t. t ≢ [] → IsTimeSet kind t) sets → (n : ℕ) → get_or sets n [] ≢ []
+    → IsTimeSet kind (get_or sets n [])
 set_of_place kind sets all n e = elim (cases_lt n (length sets)) [
   | inl l ↦ all n [] l e
   | inr g ↦ absurd (e (past sets n g))
@@ -67,8 +73,10 @@ length_drop (suc n) [] l = absurd (omega arith)
 length_drop (suc n) (x ∷ xs) l = omega (arith, length_drop n xs (omega arith))
 
 -- the seconds of a day that has a place
-pub times_at_days : (kind : Kind) (sets : List (List ℕ)) (numbers : List ℕ) (first settled : ℤ) (period : ℕ) → first ≤ℤ settled → 1 ≤ period → length numbers ≡ nat_abs (settled -ℤ first) + period
-    → (d : ℤ) (k : ℕ) → d ≡ first +ℤ pos k → k < length numbers → times_on (sketch_of kind sets numbers first settled period) d ≡ get_or sets (get_or numbers k 0) []
+pub times_at_days : (kind : Kind) (sets : List (List ℕ)) (numbers : List ℕ) (first settled : ℤ) (period : ℕ) → first ≤ℤ settled → 1 ≤ period
+    → length numbers ≡ nat_abs (settled -ℤ first) + period
+    → (d : ℤ) (k : ℕ) → d ≡ first +ℤ pos k → k < length numbers
+    → times_on (sketch_of kind sets numbers first settled period) d ≡ get_or sets (get_or numbers k 0) []
 times_at_days kind sets numbers first settled period order some whole d k e l =
     let days : ℕ = nat_abs (settled -ℤ first) in
     let from_first : settled ≡ first +ℤ pos days = omega (arith, ints, order) in
@@ -98,7 +106,8 @@ module _ (kind : Kind) (sets : List (List ℕ)) (numbers : List ℕ) (first sett
       (λ l. times_early kind sets numbers first settled period days w.some from_first w.whole d l)
       (λ g. by_lt_z {P = times_on sketch d ≡ []} d settled
       (λ l. (let k : ℕ = nat_abs (d -ℤ first) in let e : d ≡ first +ℤ pos k = omega (arith, ints, g) in
-      times_before kind sets numbers first settled period days w.some from_first w.whole d k e (omega (arith, ints, l, from_first)) ∙ none k (omega (arith, ints, l, e, from_first, w.whole))))
+      times_before kind sets numbers first settled period days w.some from_first w.whole d k e (omega (arith, ints, l, from_first))
+      ∙ none k (omega (arith, ints, l, e, from_first, w.whole))))
       (λ h. (let k : ℕ = nat_abs (d -ℤ settled) in let e : d ≡ settled +ℤ pos k = omega (arith, ints, h) in
       let b : k % period < period = floor_mod_below (pos k) period w.some in
       times_after kind sets numbers first settled period days w.some from_first w.whole d k e ∙ none (days + k % period) (omega (arith, b, w.whole)))))
@@ -139,10 +148,14 @@ module _ (kind : Kind) (sets : List (List ℕ)) (numbers : List ℕ) (first sett
         some = w.some;
         few = omega (arith, w.few);
         settled = (omega (arith, ints, w.low, w.order), omega (arith, ints, w.high));
-        before = rising_from (neg_ℤ (pos 1_000_000_000)) first settled (shapes_from sets first (take days numbers)) (omega (arith, ints, w.low)) (shapes_rise sets (take days numbers) first settled (omega (arith, ints, t, from_first)));
+        before = rising_from (neg_ℤ (pos 1_000_000_000)) first settled (shapes_from sets first (take days numbers)) (omega (arith, ints, w.low))
+            (shapes_rise sets (take days numbers) first settled (omega (arith, ints, t, from_first)));
         cycle = shapes_rise sets (drop days numbers) settled (settled +ℤ pos period) (omega (arith, ints, u, w.whole));
-        before_times = shapes_all (λ x. IsTimeSet kind x.times) sets (take days numbers) first (λ k l e. set_of_place kind sets w.time_sets (get_or (take days numbers) k 0) e);
-        cycle_times = shapes_all (λ x. IsTimeSet kind x.times) sets (drop days numbers) settled (λ k l e. set_of_place kind sets w.time_sets (get_or (drop days numbers) k 0) e);
-        near = shapes_all (λ x. IsNearDay x.day) sets (take days numbers) first (λ k l e. (omega (arith, ints, w.low), omega (arith, ints, l, t, from_first, w.high)));
+        before_times = shapes_all (λ x. IsTimeSet kind x.times) sets (take days numbers) first
+            (λ k l e. set_of_place kind sets w.time_sets (get_or (take days numbers) k 0) e);
+        cycle_times = shapes_all (λ x. IsTimeSet kind x.times) sets (drop days numbers) settled
+            (λ k l e. set_of_place kind sets w.time_sets (get_or (drop days numbers) k 0) e);
+        near = shapes_all (λ x. IsNearDay x.day) sets (take days numbers) first
+            (λ k l e. (omega (arith, ints, w.low), omega (arith, ints, l, t, from_first, w.high)));
         first = first_near;
       }

@@ -1,5 +1,6 @@
 -- The sketch of folded days has each day's seconds.
-use Rattle.std.proofs.Common.{◌≡◌, ℕ, zero, suc, ◌+◌, ◌*◌, ◌/◌, ◌%◌, ◌<◌, ◌≤◌, true, false, List, [], ◌∷◌, length, get_or, take, drop, ℤ, pos, nat_abs, ◌+ℤ◌, ◌-ℤ◌, ◌≤ℤ◌, ◌<ℤ◌, refl, sym, ap, subst, ◌∙◌, arith}
+use Rattle.std.proofs.Common.{◌≡◌, ℕ, zero, suc, ◌+◌, ◌*◌, ◌/◌, ◌%◌, ◌<◌, ◌≤◌, true, false, List, [], ◌∷◌, length, get_or, take, drop, ℤ, pos, nat_abs}
+use Rattle.std.proofs.Common.{◌+ℤ◌, ◌-ℤ◌, ◌≤ℤ◌, ◌<ℤ◌, refl, sym, ap, subst, ◌∙◌, arith}
 use Rattle.std.specs.Prelude.{IsTrue, nat_lt, int_lt}
 use Rattle.std.specs.Ordering.{int_eq}
 use Rattle.std.proofs.lemmas.Int.{ints, by_lt_z}
@@ -44,7 +45,8 @@ with_other d x (s ∷ ss) rest n = rw (other_day d x n) refl
 module _ (sets : List (List ℕ)) where
   pub none_before : (ns : List ℕ) (d x : ℤ) → x <ℤ d → times_in (shapes_from sets d ns) x ≡ []
   none_before [] d x l = refl
-  none_before (n ∷ ns) d x l = with_other d x (get_or sets n []) (shapes_from sets (d +ℤ pos 1) ns) (λ e. omega (arith, ints, e, l)) ∙ none_before ns (d +ℤ pos 1) x (omega (arith, ints, l))
+  none_before (n ∷ ns) d x l = with_other d x (get_or sets n []) (shapes_from sets (d +ℤ pos 1) ns) (λ e. omega (arith, ints, e, l))
+      ∙ none_before ns (d +ℤ pos 1) x (omega (arith, ints, l))
 
   at_place : (ns : List ℕ) (d x : ℤ) (k : ℕ) → x ≡ d +ℤ pos k → k < length ns → times_in (shapes_from sets d ns) x ≡ get_or sets (get_or ns k 0) []
   at_place [] d x k e l = absurd (omega arith)
@@ -52,11 +54,13 @@ module _ (sets : List (List ℕ)) where
       let same : x ≡ d = omega (arith, ints, e) in
       rw same (with_own d (get_or sets n []) (shapes_from sets (d +ℤ pos 1) ns) (none_before ns (d +ℤ pos 1) d (omega (arith, ints))))
   at_place (n ∷ ns) d x (suc k) e l =
-      with_other d x (get_or sets n []) (shapes_from sets (d +ℤ pos 1) ns) (λ f. omega (arith, ints, e, f)) ∙ at_place ns (d +ℤ pos 1) x k (omega (arith, ints, e)) (omega arith)
+      with_other d x (get_or sets n []) (shapes_from sets (d +ℤ pos 1) ns) (λ f. omega (arith, ints, e, f))
+      ∙ at_place ns (d +ℤ pos 1) x k (omega (arith, ints, e)) (omega arith)
 
 -- ---- the whole sketch
 
-module _ (kind : Kind) (sets : List (List ℕ)) (numbers : List ℕ) (first settled : ℤ) (period n : ℕ) (some : 1 ≤ period) (at : settled ≡ first +ℤ pos n) (full : length numbers ≡ n + period) where
+module _ (kind : Kind) (sets : List (List ℕ)) (numbers : List ℕ) (first settled : ℤ) (period n : ℕ) (some : 1 ≤ period) (at : settled ≡ first +ℤ pos n)
+    (full : length numbers ≡ n + period) where
   whole_days : nat_abs (settled -ℤ first) ≡ n
   whole_days = omega (arith, ints, at)
 
@@ -65,7 +69,8 @@ module _ (kind : Kind) (sets : List (List ℕ)) (numbers : List ℕ) (first sett
   times_early d l = (let e : int_lt d settled ≡ true = grind (arith, ints) in rw (e, whole_days) (none_before sets (take n numbers) first d l))
 
   -- before the settled day
-  pub times_before : (d : ℤ) (k : ℕ) → d ≡ first +ℤ pos k → k < n → times_on (sketch_of kind sets numbers first settled period) d ≡ get_or sets (get_or numbers k 0) []
+  pub times_before : (d : ℤ) (k : ℕ) → d ≡ first +ℤ pos k → k < n
+      → times_on (sketch_of kind sets numbers first settled period) d ≡ get_or sets (get_or numbers k 0) []
   times_before d k e l =
       let early : int_lt d settled ≡ true = grind (arith, ints) in
       let whole : length (take n numbers) ≡ n = length-take-le n numbers (omega (arith, full)) in
@@ -73,7 +78,8 @@ module _ (kind : Kind) (sets : List (List ℕ)) (numbers : List ℕ) (first sett
       rw (early, whole_days) (at_place sets (take n numbers) first d k e (omega (arith, l, whole)) ∙ ap (λ x. get_or sets x []) h)
 
   -- from the settled day on
-  pub times_after : (d : ℤ) (k : ℕ) → d ≡ settled +ℤ pos k → times_on (sketch_of kind sets numbers first settled period) d ≡ get_or sets (get_or numbers (n + k % period) 0) []
+  pub times_after : (d : ℤ) (k : ℕ) → d ≡ settled +ℤ pos k
+      → times_on (sketch_of kind sets numbers first settled period) d ≡ get_or sets (get_or numbers (n + k % period) 0) []
   times_after d k e =
       let late : int_lt d settled ≡ false = grind (arith, ints) in
       let m : d -ℤ settled ≡ pos k = omega (arith, ints, e) in
@@ -91,8 +97,10 @@ module _ (kind : Kind) (sets : List (List ℕ)) (numbers : List ℕ) (first sett
 parts_of : (a p : ℕ) → a ≡ a % p + a / p * p
 parts_of a p = omega (arith, div-add-mod' a p)
 
-module _ (kind : Kind) (tree : Tree) (sets : List (List ℕ)) (numbers : List ℕ) (first settled : ℤ) (period n : ℕ) (some : 1 ≤ period) (at : settled ≡ first +ℤ pos n)
-    (full : length numbers ≡ n + period) (numbered : AreNumbered tree first sets numbers) (repeats : RepeatsAfter tree settled period) (before : HasNoneBefore tree first) where
+module _ (kind : Kind) (tree : Tree) (sets : List (List ℕ)) (numbers : List ℕ) (first settled : ℤ) (period n : ℕ) (some : 1 ≤ period)
+    (at : settled ≡ first +ℤ pos n)
+    (full : length numbers ≡ n + period) (numbered : AreNumbered tree first sets numbers) (repeats : RepeatsAfter tree settled period)
+    (before : HasNoneBefore tree first) where
   -- a day of the settled time repeats the first period's
   repeats_times : (k : ℕ) (d : ℤ) (s : ℕ) → settled ≤ℤ d → stands_at tree (d +ℤ pos (k * period)) s ≡ stands_at tree d s
   repeats_times zero d s l = let e : d +ℤ pos (0 * period) ≡ d = omega (arith, ints) in rw e refl
@@ -104,7 +112,8 @@ module _ (kind : Kind) (tree : Tree) (sets : List (List ℕ)) (numbers : List �
   early_times : (d : ℤ) → d <ℤ settled → IsSetOf nat_lt (times_on (sketch_of kind sets numbers first settled period) d) (λ s. IsTrue (stands_at tree d s))
   early_times d l = by_lt_z {P = IsSetOf nat_lt (times_on (sketch_of kind sets numbers first settled period) d) (λ s. IsTrue (stands_at tree d s))} d first
       (λ m. (let e = times_early kind sets numbers first settled period n some at full d m in
-      subst (λ x. IsSetOf nat_lt x (λ s. IsTrue (stands_at tree d s))) (sym e) (set_empty nat_lt (λ s. IsTrue (stands_at tree d s)) (λ s t. false≢true (sym (before d s m) ∙ t)))))
+      subst (λ x. IsSetOf nat_lt x (λ s. IsTrue (stands_at tree d s))) (sym e)
+      (set_empty nat_lt (λ s. IsTrue (stands_at tree d s)) (λ s t. false≢true (sym (before d s m) ∙ t)))))
       (λ g. (
       let k : ℕ = nat_abs (d -ℤ first) in
       let f : d ≡ first +ℤ pos k = omega (arith, ints, g) in
@@ -126,22 +135,27 @@ module _ (kind : Kind) (tree : Tree) (sets : List (List ℕ)) (numbers : List �
       let p : k ≡ j + k / period * period = parts_of k period in
       let g : d ≡ (settled +ℤ pos j) +ℤ pos (k / period * period) = omega (arith, ints, f, p) in
       subst (λ x. IsSetOf nat_lt x (λ s. IsTrue (stands_at tree d s))) (sym e)
-      (set_same nat_lt (λ s. IsTrue (stands_at tree (settled +ℤ pos j) s)) (λ s. IsTrue (stands_at tree d s)) (get_or sets (get_or numbers (n + j) 0) []) (rw h at i.all)
-      (λ s. (let r : stands_at tree d s ≡ stands_at tree (settled +ℤ pos j) s = ap (λ x. stands_at tree x s) g ∙ repeats_times (k / period) (settled +ℤ pos j) s (omega (arith, ints)) in ((λ t. r ∙ t), (λ t. sym r ∙ t)))))
+      (set_same nat_lt (λ s. IsTrue (stands_at tree (settled +ℤ pos j) s)) (λ s. IsTrue (stands_at tree d s)) (get_or sets (get_or numbers (n + j) 0) [])
+      (rw h at i.all)
+      (λ s. (let r : stands_at tree d s ≡ stands_at tree (settled +ℤ pos j) s =
+      ap (λ x. stands_at tree x s) g ∙ repeats_times (k / period) (settled +ℤ pos j) s (omega (arith, ints)) in ((λ t. r ∙ t), (λ t. sym r ∙ t)))))
 
   -- the seconds of each day
   pub times_are : (d : ℤ) → IsSetOf nat_lt (times_on (sketch_of kind sets numbers first settled period) d) (λ s. IsTrue (stands_at tree d s))
-  times_are d = by_lt_z {P = IsSetOf nat_lt (times_on (sketch_of kind sets numbers first settled period) d) (λ s. IsTrue (stands_at tree d s))} d settled (early_times d) (late_times d)
+  times_are d = by_lt_z {P = IsSetOf nat_lt (times_on (sketch_of kind sets numbers first settled period) d) (λ s. IsTrue (stands_at tree d s))} d settled
+      (early_times d) (late_times d)
 
 -- ---- the series
 
 -- The sketch of the folded days of a series stands for the series.
-pub sketch_stands_for : TreeStandsForSeries → SeriesRepeats → (series : Series) (sets : List (List ℕ)) (numbers : List ℕ) (first settled : ℤ) (n : ℕ) → IsSound series → IsPast series settled → 1 ≤ series_cycle series → settled ≡ first +ℤ pos n
+pub sketch_stands_for : TreeStandsForSeries → SeriesRepeats → (series : Series) (sets : List (List ℕ)) (numbers : List ℕ) (first settled : ℤ) (n : ℕ)
+    → IsSound series → IsPast series settled → 1 ≤ series_cycle series → settled ≡ first +ℤ pos n
     → length numbers ≡ n + series_cycle series → AreNumbered (tree_of series) first sets numbers → HasNoneBefore (tree_of series) first
     → StandsFor (sketch_of series.kind sets numbers first settled (series_cycle series)) (Occurs series)
 sketch_stands_for stands repeats series sets numbers first settled n sound past some at full numbered before k t =
     let tree = tree_of series in
-    let times = times_are series.kind tree sets numbers first settled (series_cycle series) n some at full numbered (λ d s l. repeats series settled sound past d s l) before in
+    let times = times_are series.kind tree sets numbers first settled (series_cycle series) n some at full numbered
+    (λ d s l. repeats series settled sound past d s l) before in
     let law = stands series k t sound in (
       λ h. law.0 (h.kind, ((times (day_part k t)).exact (second_part k t)).0 h.second),
       λ o. (let h = law.1 o in record { kind = h.0; second = ((times (day_part k t)).exact (second_part k t)).1 h.1 }),

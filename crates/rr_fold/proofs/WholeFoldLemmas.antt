@@ -59,7 +59,8 @@ module _ (series : Series) (few : series_cycle series ≤ 16_777_216) where
   within_cycle over = omega (arith, few, over.1)
 
   -- a rule counts too far
-  pub judged_counts : (X : Type 0) (fault : Fault) → RefusedExactlyWhere {X = ℤ} (IsCountedTooFar series) CountedTooFar (Err fault) → IsJudged {X = X} series (Err fault)
+  pub judged_counts : (X : Type 0) (fault : Fault) → RefusedExactlyWhere {X = ℤ} (IsCountedTooFar series) CountedTooFar (Err fault)
+      → IsJudged {X = X} series (Err fault)
   judged_counts X (Refused refusal) r = inr (within_cycle, inl ((refl, r.1), ap Some r.0))
   judged_counts X NoMemory r = tt
 
@@ -69,7 +70,9 @@ module _ (series : Series) (few : series_cycle series ≤ 16_777_216) where
     one_settled day is = omega (arith, ints, is.least settled settled_is.past, settled_is.least day is.past)
 
     -- moments are judged last
-    pub judged_moments : (X : Type 0) (result : Result X Fault) → RefusedExactlyWhere (IsTooManyMoments series settled) TooManyMoments result → IsJudged series result
-    judged_moments X (Ok x) r = inr (within_cycle, inr ((λ c. near c.1), inr ((λ m. r (subst (IsTooManyMoments series) (one_settled m.1.0 m.1.1) m.1.2)), refl)))
+    pub judged_moments : (X : Type 0) (result : Result X Fault) → RefusedExactlyWhere (IsTooManyMoments series settled) TooManyMoments result
+        → IsJudged series result
+    judged_moments X (Ok x) r =
+        inr (within_cycle, inr ((λ c. near c.1), inr ((λ m. r (subst (IsTooManyMoments series) (one_settled m.1.0 m.1.1) m.1.2)), refl)))
     judged_moments X (Err (Refused refusal)) r = inr (within_cycle, inr ((λ c. near c.1), inl ((refl, (settled, settled_is, r.1)), ap Some r.0)))
     judged_moments X (Err NoMemory) r = tt

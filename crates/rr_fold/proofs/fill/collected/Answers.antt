@@ -1,4 +1,5 @@
-use Rattle.std.proofs.Common.{◌≡◌, ℤ, pos, neg_ℤ, ◌<ℤ◌, rules, refl, ◌≤◌, length, subst, FitsSigned, ◌-ℤ◌, ◌+ℤ◌, ◌≤ℤ◌, sym, ◌∙◌, arith, w64, to_z, of_z, to_z-of_z}
+use Rattle.std.proofs.Common.{◌≡◌, ℤ, pos, neg_ℤ, ◌<ℤ◌, rules, refl, ◌≤◌, length, subst, FitsSigned, ◌-ℤ◌, ◌+ℤ◌, ◌≤ℤ◌, sym, ◌∙◌, arith, w64, to_z, of_z}
+use Rattle.std.proofs.Common.{to_z-of_z}
 use Rattle.std.proofs.lemmas.Int.{ints}
 use Rattle.rr_model.proofs.YearLemmas.{year_1}
 use Rattle.rr_model.specs.Series.Limits.{HasTooManyMoments}
@@ -8,7 +9,8 @@ use Rattle.rr_fold.proofs.FoldLemmas.{filled_up, list_within, nothing_folded, re
 use Rattle.rr_fold.proofs.fill.collected.Goals as goal
 
 -- the day before the end keeps its number, and so does the end
-end_back : (first end : ℤ) → first <ℤ end → neg_ℤ (pos 719_162) ≤ℤ first → end ≤ℤ pos 40_000_000 → to_z w64 (of_z w64 (to_z w64 (of_z w64 end) -ℤ pos 1)) +ℤ pos 1 ≡ end
+end_back : (first end : ℤ) → first <ℤ end → neg_ℤ (pos 719_162) ≤ℤ first → end ≤ℤ pos 40_000_000
+    → to_z w64 (of_z w64 (to_z w64 (of_z w64 end) -ℤ pos 1)) +ℤ pos 1 ≡ end
 end_back first end order low high =
     let fits : FitsSigned w64 end = search rules in
     let e = to_z-of_z fits in
@@ -25,13 +27,15 @@ pub fill-requires-clause-folded : goal.fill-requires-clause-folded
 fill-requires-clause-folded g c =
     let f = to_z-of_z c.ranges.first in
     rw (c.in_ok-shapes.ensures, c.in_ok-numbers.ensures.items, f)
-    (nothing_folded (g.L.Lazy.tree c.args.lazy) c.args.first (g.L.Lazy.position c.args.lazy) c.requires.early (omega (arith, ints, c.requires.unasked, year_1, c.requires.low)))
+    (nothing_folded (g.L.Lazy.tree c.args.lazy) c.args.first (g.L.Lazy.position c.args.lazy) c.requires.early
+    (omega (arith, ints, c.requires.unasked, year_1, c.requires.low)))
 
 pub returns-in-Err-clause-refused : goal.returns-in-Err-clause-refused
 returns-in-Err-clause-refused g c =
     let e = end_back c.args.first c.args.end c.requires.order c.requires.low c.requires.high in
     let to : ℤ = to_z w64 (of_z w64 (to_z w64 (of_z w64 c.args.end) -ℤ pos 1)) in
-    refused_so (Unit {0}) FoldedDays c.in-Err.fault (HasTooManyMoments (g.L.Lazy.tree c.args.lazy) (to +ℤ pos 1)) (HasTooManyMoments (g.L.Lazy.tree c.args.lazy) c.args.end) c.in-Err.ensures.refused
+    refused_so (Unit {0}) FoldedDays c.in-Err.fault (HasTooManyMoments (g.L.Lazy.tree c.args.lazy) (to +ℤ pos 1))
+    (HasTooManyMoments (g.L.Lazy.tree c.args.lazy) c.args.end) c.in-Err.ensures.refused
     (subst (HasTooManyMoments (g.L.Lazy.tree c.args.lazy)) e)
 
 pub returns-clause-folded : goal.returns-clause-folded
@@ -40,10 +44,13 @@ returns-clause-folded g c =
     let f = to_z-of_z c.ranges.first in
     let folded = rw (e, f) at c.in-Ok.ensures.folded in
     let back = to_z-of_z c.ranges.end in
-    let at : c.args.end ≡ c.args.first +ℤ pos c.days_between-days.result = sym back ∙ c.days_between-days.ensures ∙ (λ i. f i +ℤ pos c.days_between-days.result) in
+    let at : c.args.end ≡ c.args.first +ℤ pos c.days_between-days.result =
+    sym back ∙ c.days_between-days.ensures ∙ (λ i. f i +ℤ pos c.days_between-days.result) in
     let stored = c.fill.new.numbers.ok.0 in
-    let listed : length c.fill.new.numbers.items ≤ c.days_between-days.result = list_within (g.L.Lazy.tree c.args.lazy) c.args.first c.args.end c.fill.new.shapes c.fill.new.numbers.items c.days_between-days.result folded at in
-    filled_up (g.L.Lazy.tree c.args.lazy) c.args.first c.args.end c.fill.new.shapes c.fill.new.numbers.items c.resize.new.self.items c.days_between-days.result folded at
+    let listed : length c.fill.new.numbers.items ≤ c.days_between-days.result =
+    list_within (g.L.Lazy.tree c.args.lazy) c.args.first c.args.end c.fill.new.shapes c.fill.new.numbers.items c.days_between-days.result folded at in
+    filled_up (g.L.Lazy.tree c.args.lazy) c.args.first c.args.end c.fill.new.shapes c.fill.new.numbers.items c.resize.new.self.items
+    c.days_between-days.result folded at
     (search rules)
     (λ k l. c.in_ok-resize.ensures.by_index.0 k 0 (omega (arith, l, listed)) (omega (arith, l, stored)))
     (λ k l m. c.in_ok-resize.ensures.by_index.1 k 0 refl (omega (arith, l, stored)) m)

@@ -8,4 +8,5 @@ pub returns-in-Ok-clause-judged : goal.returns-in-Ok-clause-judged
 returns-in-Ok-clause-judged c =
     let n = c.in-Ok.ensures.near in
     let s = back c.in-Ok.settled (omega (arith, ints, n.0)) (omega (arith, ints, n.1)) in
-    judged_moments c.args.series.now c.requires.few c.in-Ok.settled c.in-Ok.ensures.settled c.in-Ok.ensures.refused _ c.folded_to.result (rw s at c.folded_to.ensures.refused)
+    judged_moments c.args.series.now c.requires.few c.in-Ok.settled c.in-Ok.ensures.settled c.in-Ok.ensures.refused _ c.folded_to.result
+    (rw s at c.folded_to.ensures.refused)

@@ -27,7 +27,8 @@ overflow_add-settled c =
     let p = rw c.unwrap-period.ensures at c.admit.ensures.admitted in
     let low = settled_low s c.args.settled sound c.requires.settled in
     let settled_back = back c.args.settled (omega (arith, ints, low)) (omega (arith, ints, c.requires.high)) in
-    let end_back = sum_back c.args.settled (to_z w64 (of_z w64 c.args.settled)) c.unwrap-period.result settled_back (omega (arith, ints, low)) (omega (arith, ints, c.requires.high)) p.1 in
+    let end_back = sum_back c.args.settled (to_z w64 (of_z w64 c.args.settled)) c.unwrap-period.result settled_back (omega (arith, ints, low))
+    (omega (arith, ints, c.requires.high)) p.1 in
     let n = days_back c.unwrap-period.result p.1 in
     rw (settled_back, n) (let low' : neg_ℤ (pos 4_000_000_000) ≤ℤ (c.args.settled +ℤ pos c.unwrap-period.result) = omega (arith, ints, low) in
     let high' : (c.args.settled +ℤ pos c.unwrap-period.result) ≤ℤ pos 4_000_000_000 = omega (arith, ints, c.requires.high, p.1) in
@@ -40,9 +41,11 @@ folded_days-requires-clause-order c =
     let p = rw c.unwrap-period.ensures at c.admit.ensures.admitted in
     let low = settled_low s c.args.settled sound c.requires.settled in
     let settled_back = back c.args.settled (omega (arith, ints, low)) (omega (arith, ints, c.requires.high)) in
-    let end_back = sum_back c.args.settled (to_z w64 (of_z w64 c.args.settled)) c.unwrap-period.result settled_back (omega (arith, ints, low)) (omega (arith, ints, c.requires.high)) p.1 in
+    let end_back = sum_back c.args.settled (to_z w64 (of_z w64 c.args.settled)) c.unwrap-period.result settled_back (omega (arith, ints, low))
+    (omega (arith, ints, c.requires.high)) p.1 in
     let order = rw c.series-given.ensures.value at c.first_day-first.ensures.order in
-    let first_back = back c.first_day-first.result (omega (arith, ints, c.first_day-first.ensures.low)) (omega (arith, ints, order, c.requires.settled.past.start, c.requires.high)) in
+    let first_back = back c.first_day-first.result (omega (arith, ints, c.first_day-first.ensures.low))
+    (omega (arith, ints, order, c.requires.settled.past.start, c.requires.high)) in
     rw (first_back, end_back) (omega (arith, ints, order, c.requires.settled.past.start))
 
 pub folded_days-requires-clause-high : goal.folded_days-requires-clause-high
@@ -52,7 +55,8 @@ folded_days-requires-clause-high c =
     let p = rw c.unwrap-period.ensures at c.admit.ensures.admitted in
     let low = settled_low s c.args.settled sound c.requires.settled in
     let settled_back = back c.args.settled (omega (arith, ints, low)) (omega (arith, ints, c.requires.high)) in
-    let end_back = sum_back c.args.settled (to_z w64 (of_z w64 c.args.settled)) c.unwrap-period.result settled_back (omega (arith, ints, low)) (omega (arith, ints, c.requires.high)) p.1 in
+    let end_back = sum_back c.args.settled (to_z w64 (of_z w64 c.args.settled)) c.unwrap-period.result settled_back (omega (arith, ints, low))
+    (omega (arith, ints, c.requires.high)) p.1 in
     rw end_back (omega (arith, ints, c.requires.high, p.1))
 
 pub sequence-requires : goal.sequence-requires
@@ -62,15 +66,21 @@ sequence-requires c =
     let p = rw c.unwrap-period.ensures at c.admit.ensures.admitted in
     let low = settled_low s c.args.settled sound c.requires.settled in
     let settled_back = back c.args.settled (omega (arith, ints, low)) (omega (arith, ints, c.requires.high)) in
-    let end_back = sum_back c.args.settled (to_z w64 (of_z w64 c.args.settled)) c.unwrap-period.result settled_back (omega (arith, ints, low)) (omega (arith, ints, c.requires.high)) p.1 in
+    let end_back = sum_back c.args.settled (to_z w64 (of_z w64 c.args.settled)) c.unwrap-period.result settled_back (omega (arith, ints, low))
+    (omega (arith, ints, c.requires.high)) p.1 in
     let order = rw c.series-given.ensures.value at c.first_day-first.ensures.order in
-    let first_back = back c.first_day-first.result (omega (arith, ints, c.first_day-first.ensures.low)) (omega (arith, ints, order, c.requires.settled.past.start, c.requires.high)) in
+    let first_back = back c.first_day-first.result (omega (arith, ints, c.first_day-first.ensures.low))
+    (omega (arith, ints, order, c.requires.settled.past.start, c.requires.high)) in
     let end : ℤ = c.args.settled +ℤ pos c.unwrap-period.result in
-    let folded : IsFoldedTo (tree_of s) c.first_day-first.result end c.in-Ok.days.shapes c.in-Ok.days.numbers.items = rw (first_back, end_back) at c.in-Ok.ensures.folded in
+    let folded : IsFoldedTo (tree_of s) c.first_day-first.result end c.in-Ok.days.shapes c.in-Ok.days.numbers.items =
+    rw (first_back, end_back) at c.in-Ok.ensures.folded in
     let whole : end ≡ c.first_day-first.result +ℤ pos (length c.in-Ok.days.numbers.items) = rw (first_back, end_back) at c.in-Ok.ensures.whole in
     let some : 1 ≤ c.unwrap-period.result = rw p.0 (cycle_some s sound) in
-    let w = whole_fold s c.in-Ok.days.shapes c.in-Ok.days.numbers.items c.first_day-first.result c.args.settled end c.unwrap-period.result sound c.requires.settled folded whole refl some p.1 c.first_day-first.ensures.low order c.requires.high in
-    rw (first_back, settled_back) (subst (λ (given : Series). IsWholeFold given.kind c.in-Ok.days.shapes c.in-Ok.days.numbers.items c.first_day-first.result c.args.settled c.unwrap-period.result) (sym c.series-given.ensures.value) w)
+    let w = whole_fold s c.in-Ok.days.shapes c.in-Ok.days.numbers.items c.first_day-first.result c.args.settled end c.unwrap-period.result sound
+    c.requires.settled folded whole refl some p.1 c.first_day-first.ensures.low order c.requires.high in
+    rw (first_back, settled_back)
+    (subst (λ (given : Series). IsWholeFold given.kind c.in-Ok.days.shapes c.in-Ok.days.numbers.items c.first_day-first.result c.args.settled
+    c.unwrap-period.result) (sym c.series-given.ensures.value) w)
 
 pub returns-in-Ok-clause-stands : goal.returns-in-Ok-clause-stands
 returns-in-Ok-clause-stands c =
@@ -79,18 +89,23 @@ returns-in-Ok-clause-stands c =
     let p = rw c.unwrap-period.ensures at c.admit.ensures.admitted in
     let low = settled_low s c.args.settled sound c.requires.settled in
     let settled_back = back c.args.settled (omega (arith, ints, low)) (omega (arith, ints, c.requires.high)) in
-    let end_back = sum_back c.args.settled (to_z w64 (of_z w64 c.args.settled)) c.unwrap-period.result settled_back (omega (arith, ints, low)) (omega (arith, ints, c.requires.high)) p.1 in
+    let end_back = sum_back c.args.settled (to_z w64 (of_z w64 c.args.settled)) c.unwrap-period.result settled_back (omega (arith, ints, low))
+    (omega (arith, ints, c.requires.high)) p.1 in
     let order = rw c.series-given.ensures.value at c.first_day-first.ensures.order in
-    let first_back = back c.first_day-first.result (omega (arith, ints, c.first_day-first.ensures.low)) (omega (arith, ints, order, c.requires.settled.past.start, c.requires.high)) in
+    let first_back = back c.first_day-first.result (omega (arith, ints, c.first_day-first.ensures.low))
+    (omega (arith, ints, order, c.requires.settled.past.start, c.requires.high)) in
     let end : ℤ = c.args.settled +ℤ pos c.unwrap-period.result in
-    let folded : IsFoldedTo (tree_of s) c.first_day-first.result end c.in-Ok.days.shapes c.in-Ok.days.numbers.items = rw (first_back, end_back) at c.in-Ok.ensures.folded in
+    let folded : IsFoldedTo (tree_of s) c.first_day-first.result end c.in-Ok.days.shapes c.in-Ok.days.numbers.items =
+    rw (first_back, end_back) at c.in-Ok.ensures.folded in
     let whole : end ≡ c.first_day-first.result +ℤ pos (length c.in-Ok.days.numbers.items) = rw (first_back, end_back) at c.in-Ok.ensures.whole in
     let some : 1 ≤ c.unwrap-period.result = rw p.0 (cycle_some s sound) in
     let days : ℕ = nat_abs (c.args.settled -ℤ c.first_day-first.result) in
     let at : c.args.settled ≡ c.first_day-first.result +ℤ pos days = omega (arith, ints, order, c.requires.settled.past.start) in
     let full : length c.in-Ok.days.numbers.items ≡ days + series_cycle s = omega (arith, ints, whole, at, p.0) in
-    let fact = sketch_stands_for tree_stands_for_series series_repeats s c.in-Ok.days.shapes c.in-Ok.days.numbers.items c.first_day-first.result c.args.settled days sound c.requires.settled.past (cycle_some s sound) at full folded.numbered folded.early in
-    let same = c.sequence.ensures ∙ (λ i. sketch_of (c.series-given.ensures.value i).kind c.in-Ok.days.shapes c.in-Ok.days.numbers.items (first_back i) (settled_back i) (p.0 i)) in
+    let fact = sketch_stands_for tree_stands_for_series series_repeats s c.in-Ok.days.shapes c.in-Ok.days.numbers.items c.first_day-first.result
+    c.args.settled days sound c.requires.settled.past (cycle_some s sound) at full folded.numbered folded.early in
+    let same = c.sequence.ensures
+    ∙ (λ i. sketch_of (c.series-given.ensures.value i).kind c.in-Ok.days.shapes c.in-Ok.days.numbers.items (first_back i) (settled_back i) (p.0 i)) in
     subst (λ x. StandsFor x (Occurs s)) (sym same) fact
 
 pub returns-in-Ok-clause-refused : goal.returns-in-Ok-clause-refused
@@ -100,11 +115,14 @@ returns-in-Ok-clause-refused c =
     let p = rw c.unwrap-period.ensures at c.admit.ensures.admitted in
     let low = settled_low s c.args.settled sound c.requires.settled in
     let settled_back = back c.args.settled (omega (arith, ints, low)) (omega (arith, ints, c.requires.high)) in
-    let end_back = sum_back c.args.settled (to_z w64 (of_z w64 c.args.settled)) c.unwrap-period.result settled_back (omega (arith, ints, low)) (omega (arith, ints, c.requires.high)) p.1 in
+    let end_back = sum_back c.args.settled (to_z w64 (of_z w64 c.args.settled)) c.unwrap-period.result settled_back (omega (arith, ints, low))
+    (omega (arith, ints, c.requires.high)) p.1 in
     let order = rw c.series-given.ensures.value at c.first_day-first.ensures.order in
-    let first_back = back c.first_day-first.result (omega (arith, ints, c.first_day-first.ensures.low)) (omega (arith, ints, order, c.requires.settled.past.start, c.requires.high)) in
+    let first_back = back c.first_day-first.result (omega (arith, ints, c.first_day-first.ensures.low))
+    (omega (arith, ints, order, c.requires.settled.past.start, c.requires.high)) in
     let end : ℤ = c.args.settled +ℤ pos c.unwrap-period.result in
-    let folded : IsFoldedTo (tree_of s) c.first_day-first.result end c.in-Ok.days.shapes c.in-Ok.days.numbers.items = rw (first_back, end_back) at c.in-Ok.ensures.folded in
+    let folded : IsFoldedTo (tree_of s) c.first_day-first.result end c.in-Ok.days.shapes c.in-Ok.days.numbers.items =
+    rw (first_back, end_back) at c.in-Ok.ensures.folded in
     let whole : end ≡ c.first_day-first.result +ℤ pos (length c.in-Ok.days.numbers.items) = rw (first_back, end_back) at c.in-Ok.ensures.whole in
     let some : 1 ≤ c.unwrap-period.result = rw p.0 (cycle_some s sound) in
     λ many. not_too_many (tree_of s) c.first_day-first.result end c.in-Ok.days.shapes c.in-Ok.days.numbers.items folded
@@ -117,7 +135,8 @@ returns-in-Err-clause-refused c =
     let p = rw c.unwrap-period.ensures at c.admit.ensures.admitted in
     let low = settled_low s c.args.settled sound c.requires.settled in
     let settled_back = back c.args.settled (omega (arith, ints, low)) (omega (arith, ints, c.requires.high)) in
-    let end_back = sum_back c.args.settled (to_z w64 (of_z w64 c.args.settled)) c.unwrap-period.result settled_back (omega (arith, ints, low)) (omega (arith, ints, c.requires.high)) p.1 in
+    let end_back = sum_back c.args.settled (to_z w64 (of_z w64 c.args.settled)) c.unwrap-period.result settled_back (omega (arith, ints, low))
+    (omega (arith, ints, c.requires.high)) p.1 in
     let end : ℤ = to_z w64 (of_z w64 (to_z w64 (of_z w64 c.args.settled) +ℤ to_z w64 c.unwrap-period.result)) in
     refused_so FoldedDays Folded c.in-Err.fault (HasTooManyMoments (tree_of s) end) (IsTooManyMoments s c.args.settled) c.in-Err.ensures.refused
     (λ many. subst (λ n. HasTooManyMoments (tree_of s) (c.args.settled +ℤ pos n)) p.0 (subst (HasTooManyMoments (tree_of s)) end_back many))

@@ -11,7 +11,8 @@ invariant_of-result c =
     let first : ℤ = to_z w64 (of_z w64 c.args.first) in
     let settled : ℤ = to_z w64 (of_z w64 c.args.settled) in
     let w : IsWholeFold c.args.kind c.args.days.shapes c.args.days.numbers.items first settled c.args.period = rw (f, s) c.requires in
-    let filled : IsFirstFilled c.args.days.shapes c.args.days.numbers.items first c.first_occupied-occupied.result = rw c.as_slice.ensures.value at c.first_occupied-occupied.ensures in
+    let filled : IsFirstFilled c.args.days.shapes c.args.days.numbers.items first c.first_occupied-occupied.result =
+    rw c.as_slice.ensures.value at c.first_occupied-occupied.ensures in
     record {
       bounded = whole_bounded c.args.kind c.args.days.shapes c.args.days.numbers.items first settled c.args.period w;
       first_is = first_day_is c.args.kind c.args.days.shapes c.args.days.numbers.items first settled c.args.period w c.first_occupied-occupied.result filled;

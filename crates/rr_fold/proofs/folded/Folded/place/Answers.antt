@@ -19,7 +19,8 @@ returns-then-place-end c =
     let b = back f.first (omega (arith, ints, f.low)) (omega (arith, ints, f.order, f.bounded.settled.1)) in
     let l = rw (d, b) at c.if-day-self.false in
     let order : f.first ≤ℤ c.args.day = grind (arith, ints) in
-    within_place f c.args.day _ (between_back c.args.day f.first _ _ d b order c.requires.high f.low) (omega (arith, c.if-place-end.true, c.len-end.ensures, f.numbers.ok.0))
+    within_place f c.args.day _ (between_back c.args.day f.first _ _ d b order c.requires.high f.low)
+    (omega (arith, c.if-place-end.true, c.len-end.ensures, f.numbers.ok.0))
 
 pub returns : goal.returns
 returns c =
@@ -29,4 +30,5 @@ returns c =
     let l = rw (d, b) at c.if-day-self.false in
     let order : f.first ≤ℤ c.args.day = grind (arith, ints) in
     let place : ℕ = nat_abs (to_z w64 (of_z w64 (to_z w64 (of_z w64 c.args.day) -ℤ to_z w64 (of_z w64 f.first)))) in
-    beyond_place f c.args.day place c.len-end.result c.place_in_cycle.result (between_back c.args.day f.first _ _ d b order c.requires.high f.low) (c.len-end.ensures ∙ f.numbers.ok.0) (omega (arith, c.if-place-end.false)) c.place_in_cycle.ensures
+    beyond_place f c.args.day place c.len-end.result c.place_in_cycle.result (between_back c.args.day f.first _ _ d b order c.requires.high f.low)
+    (c.len-end.ensures ∙ f.numbers.ok.0) (omega (arith, c.if-place-end.false)) c.place_in_cycle.ensures
