@@ -12,10 +12,10 @@ ghost use Rattle.rr_word.specs.Bounded.{IsBounded, IsBounded-prop, IsFirstDay-pr
 ghost use Rattle.rr_fold.specs.Judged.{IsJudged};
 ghost use Rattle.rr_fold.specs.Sketched.{IsFirstFilled, IsWholeFold, sketch_of};
 
-use crate::ends::ends;
 use crate::fill::{FoldedDays, folded_days};
 use crate::first_day::first_day;
 use rr_check::{Checked, admit};
+use rr_iter::ends;
 use rr_model::{Fault, Kind};
 use rr_shapes::Shapes;
 use rr_word::DaySeq;

@@ -1,7 +1,6 @@
 //! A series as a sequence of days that repeats.
 #![tactic(auto)]
 
-mod ends;
 mod fill;
 mod first_day;
 mod folded;
