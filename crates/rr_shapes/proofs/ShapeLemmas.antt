@@ -34,12 +34,18 @@ module _ (sets : List (List ℕ)) (times : List ℕ) where
       (number, at.0, sym ((bytes_decides times _).0 at.1))
 
   -- and changes nothing
-  pub found_placed : (number : ℕ) → position (same times) sets ≡ Some number → IsPlaced times sets sets number
-  found_placed number e = record {
-    stands = found_at number e;
+  pub known_in : (number : ℕ) → slice_get sets number ≡ Some times → Contains sets times
+  known_in number e = (number, slice_get_within sets number times e, get_or_from_slice_get sets number times times e)
+
+  pub known_placed : (number : ℕ) → slice_get sets number ≡ Some times → IsPlaced times sets sets number
+  known_placed number e = record {
+    stands = e;
     known = λ _. refl;
-    added = λ n. absurd (n (found_in number e));
+    added = λ n. absurd (n (known_in number e));
   }
+
+  pub found_placed : (number : ℕ) → position (same times) sets ≡ Some number → IsPlaced times sets sets number
+  found_placed number e = known_placed number (found_at number e)
 
   -- a set that no test finds is not there
   pub absent : list_any (same times) sets ≡ false → Contains sets times → ⊥
@@ -63,6 +69,9 @@ pub few : (sets : List (List ℕ)) (size : ℕ) → IsCounted sets size → leng
 few sets size counts =
     let bound = distinct_bound sets (IsDistinct-from_AllPairs bytes_decides sets counts.numbering.distinct) in
     omega (arith, counts.sum, counts.within, bound)
+
+pub number_few : (sets : List (List ℕ)) (size number : ℕ) (times : List ℕ) → IsCounted sets size → slice_get sets number ≡ Some times → number ≤ 16_777_216
+number_few sets size number times counts e = omega (arith, few sets size counts, slice_get_within sets number times e)
 
 module _ (sets : List (List ℕ)) (size : ℕ) (times : List ℕ) (counts : IsCounted sets size) (fresh : list_any (same times) sets ≡ false) where
   -- a new set that does not fit

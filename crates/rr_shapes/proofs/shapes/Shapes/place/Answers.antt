@@ -1,9 +1,20 @@
-use Rattle.std.proofs.Common.{◌+◌, ◌≤◌, ◌<◌, length, refl, sym, ap, arith}
-use Rattle.rr_shapes.proofs.ShapeLemmas.{few, found_placed, found_in, too_many, new_placed, new_counted}
+use Rattle.std.proofs.Common.{◌+◌, ◌≤◌, ◌<◌, length, Some, refl, sym, ap, ◌∙◌, arith}
+use Rattle.rr_shapes.proofs.ShapeLemmas.{few, number_few, known_placed, known_in, found_placed, found_in, too_many, new_placed, new_counted}
 use Rattle.rr_shapes.proofs.shapes.Shapes.place.Goals as goal
 
 pub overflow_cast-result : goal.overflow_cast-result
-overflow_cast-result c = omega (arith, few c.self.inside.sets.keys c.self.inside.size c.self.invariant, c.in-Some.ensures.within)
+overflow_cast-result c = omega (arith, number_few c.self.inside.sets.keys c.self.inside.size c.self.inside.last c.as_slice.result.now c.self.invariant (c.is_at.ensures c.if-is_at.true))
+
+pub returns-then-is_at-clause-placed : goal.returns-then-is_at-clause-placed
+returns-then-is_at-clause-placed c =
+    rw (← c.self.view_is) (known_placed c.self.inside.sets.keys c.args.times c.self.inside.last (c.is_at.ensures c.if-is_at.true ∙ ap Some c.as_slice.ensures.same))
+
+pub returns-then-is_at-clause-refused : goal.returns-then-is_at-clause-refused
+returns-then-is_at-clause-refused c =
+    rw (← c.self.view_is) (λ t. t.fresh (known_in c.self.inside.sets.keys c.args.times c.self.inside.last (c.is_at.ensures c.if-is_at.true ∙ ap Some c.as_slice.ensures.same)))
+
+pub overflow_cast-result-in-Some : goal.overflow_cast-result-in-Some
+overflow_cast-result-in-Some c = omega (arith, few c.self.inside.sets.keys c.self.inside.size c.self.invariant, c.in-Some.ensures.within)
 
 pub returns-in-Some-clause-placed : goal.returns-in-Some-clause-placed
 returns-in-Some-clause-placed c = rw (← c.self.view_is) (found_placed c.self.inside.sets.keys c.args.times c.in-Some.number (sym c.in-Some.ensures.index))

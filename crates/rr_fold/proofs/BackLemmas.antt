@@ -1,0 +1,54 @@
+-- Numbers that fit come back from 64 bits as they are.
+use Rattle.std.proofs.Common.{◌≡◌, ℕ, ◌≤◌, ℤ, pos, neg_ℤ, nat_abs, ◌+ℤ◌, ◌-ℤ◌, ◌≤ℤ◌, arith, rules, w64, to_z, of_z, to_z-of_z, FitsSigned}
+use Rattle.std.proofs.lemmas.Int.{ints, clamps}
+use Rattle.std.specs.Int.{int_min}
+use Rattle.rr_model.proofs.WholeLemmas.{floor_whole, floor_mod_below}
+use Rattle.rr_model.proofs.YearLemmas.{four_digit_bounds}
+use Rattle.rr_model.specs.Moment.Years.{IsInYears}
+use Rattle.rr_model.specs.Whole.{floor_div}
+use Rattle.rr_model.specs.declared.kind.Kind.{Kind}
+use Rattle.rr_model.specs.declared.kind.Kind.TheVariants.{Days, Moments}
+
+pub back : (x : ℤ) → neg_ℤ (pos 4_000_000_000_000) ≤ℤ x → x ≤ℤ pos 4_000_000_000_000 → to_z w64 (of_z w64 x) ≡ x
+back x low high = let fits : FitsSigned w64 x = search rules in to_z-of_z fits
+
+-- a moment of the years 1 to 9999
+pub moment_back : (kind : Kind) (t : ℤ) → IsInYears kind t → to_z w64 (of_z w64 t) ≡ t
+moment_back Days t y = let b = four_digit_bounds t y in back t (omega (arith, ints, b.0)) (omega (arith, ints, b.1))
+moment_back Moments t y =
+    let b = four_digit_bounds (floor_div t 86_400) y in
+    let w = floor_whole t 86_400 (omega arith) in
+    let r = floor_mod_below t 86_400 (omega arith) in
+    back t (omega (arith, ints, b.0, w)) (omega (arith, ints, b.1, w, r))
+
+-- how many days lie between two days
+pub between_back : (day first day' first' : ℤ) → day' ≡ day → first' ≡ first → first ≤ℤ day → day ≤ℤ pos 3_000_000_000_000 → neg_ℤ (pos 1_000_000_000) ≤ℤ first
+    → day ≡ first +ℤ pos (nat_abs (to_z w64 (of_z w64 (day' -ℤ first'))))
+between_back day first day' first' e f order high low =
+    let s = back (day -ℤ first) (omega (arith, ints, order)) (omega (arith, ints, high, low)) in
+    rw (e, f, s) (omega (arith, ints, order))
+
+-- a number of days that fits
+pub days_back : (n : ℕ) → n ≤ 16_777_216 → to_z w64 n ≡ pos n
+days_back n l = omega (arith, ints, l)
+
+-- so many days on
+pub sum_back : (day day' : ℤ) (n : ℕ) → day' ≡ day → neg_ℤ (pos 1_000_000_000) ≤ℤ day → day ≤ℤ pos 1_000_000_000 → n ≤ 16_777_216
+    → to_z w64 (of_z w64 (day' +ℤ to_z w64 n)) ≡ day +ℤ pos n
+sum_back day day' n e low high l =
+    let m = days_back n l in
+    rw (e, m) (back (day +ℤ pos n) (omega (arith, ints, low)) (omega (arith, ints, high, l)))
+
+-- the lesser of two days
+pub least_back : (day date least : ℤ) → least ≡ int_min (to_z w64 (of_z w64 day)) (to_z w64 (of_z w64 date))
+    → (neg_ℤ (pos 719_162) ≤ℤ day) × (day ≤ℤ pos 2_932_896) → (neg_ℤ (pos 719_162) ≤ℤ date) × (date ≤ℤ pos 2_932_896)
+    → (neg_ℤ (pos 719_162) ≤ℤ to_z w64 (of_z w64 least)) × (to_z w64 (of_z w64 least) ≤ℤ day) × (to_z w64 (of_z w64 least) ≤ℤ date)
+least_back day date least e d t =
+    let f = back day (omega (arith, ints, d.0)) (omega (arith, ints, d.1)) in
+    let g = back date (omega (arith, ints, t.0)) (omega (arith, ints, t.1)) in
+    let m : least ≡ int_min day date = rw (f, g) at e in
+    let low : neg_ℤ (pos 719_162) ≤ℤ least = omega (arith, ints, clamps, m, d.0, t.0) in
+    let first : least ≤ℤ day = omega (arith, ints, clamps, m) in
+    let second : least ≤ℤ date = omega (arith, ints, clamps, m) in
+    let h = back least (omega (arith, ints, low)) (omega (arith, ints, first, d.1)) in
+    rw h (low, first, second)

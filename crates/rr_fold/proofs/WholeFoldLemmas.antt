@@ -1,0 +1,78 @@
+-- What the folded days of a series meet, and how the series is judged by them.
+use Rattle.std.proofs.Common.{◌≡◌, ℕ, ◌<◌, ◌≤◌, List, length, get_or, ℤ, pos, neg_ℤ, ◌+ℤ◌, ◌≤ℤ◌, refl, ap, subst, inl, inr, arith}
+use Rattle.std.specs.Prelude.{Some, Result, Ok, Err}
+use Rattle.std.proofs.lemmas.Int.{ints}
+use Rattle.std.proofs.lemmas.List.{get_or_default}
+use Rattle.rr_model.specs.Answers.{RefusedExactlyWhere}
+use Rattle.rr_model.specs.Moment.{day_part}
+use Rattle.rr_model.specs.Series.Cycle.{series_cycle}
+use Rattle.rr_model.specs.Series.FirstRefusal.{IsCycleOver}
+use Rattle.rr_model.specs.Series.Limits.{IsCountedTooFar, IsTooManyMoments}
+use Rattle.rr_model.specs.Series.Settled.{IsSettledDay}
+use Rattle.rr_model.specs.Series.Soundness.{IsSound}
+use Rattle.rr_model.specs.Series.Tree.{tree_of}
+use Rattle.rr_model.specs.declared.refusal.Fault.{Fault}
+use Rattle.rr_model.specs.declared.refusal.Fault.TheVariants.{Refused, NoMemory}
+use Rattle.rr_model.specs.declared.refusal.Refusal.TheVariants.{CountedTooFar, TooManyMoments}
+use Rattle.rr_model.specs.declared.rule.Series.{Series}
+use Rattle.rr_model.proofs.YearLemmas.{four_digit_bounds}
+use Rattle.rr_check.proofs.SeriesCycleLemmas.{rules_cycle_some}
+use Rattle.rr_fold.specs.Folding.{IsFoldedTo}
+use Rattle.rr_fold.specs.Judged.{all_limits, IsJudged}
+use Rattle.rr_fold.specs.Sketched.{IsWholeFold}
+use Rattle.rr_fold.proofs.KindLemmas.{is_time_set, stands_second, tree_of_kind}
+
+-- ---- the folded days
+
+pub whole_fold : (series : Series) (sets : List (List ℕ)) (numbers : List ℕ) (first settled end : ℤ) (period : ℕ) → IsSound series → IsSettledDay series settled
+    → IsFoldedTo (tree_of series) first end sets numbers → end ≡ first +ℤ pos (length numbers) → end ≡ settled +ℤ pos period
+    → 1 ≤ period → period ≤ 16_777_216 → neg_ℤ (pos 719_162) ≤ℤ first → first ≤ℤ day_part series.kind series.start → settled ≤ℤ pos 20_000_000
+    → IsWholeFold series.kind sets numbers first settled period
+whole_fold series sets numbers first settled end period sound settled_is folded whole end_is some few low order high =
+    let late = settled_is.past.start in
+    record {
+      order = omega (arith, ints, late, order);
+      whole = omega (arith, ints, late, order, whole, end_is);
+      some = some;
+      few = few;
+      low = low;
+      high = high;
+      within = λ k d l. subst (λ n. n < length sets) (get_or_default numbers k 0 d l) (folded.numbered k l).within;
+      time_sets = λ k d l n. (
+          let t = folded.sets_of_days k d l n in
+          is_time_set series.kind (get_or sets k d) _ n t.all (λ s e. stands_second series.kind (tree_of series) t.day s (tree_of_kind series sound) e));
+    }
+
+pub cycle_some : (series : Series) → IsSound series → 1 ≤ series_cycle series
+cycle_some series sound = rules_cycle_some series.rules (λ k d l. (sound.valid.rules k d l).interval_low)
+
+-- the settled day lies after 0001-01-01, and the first day before it
+pub settled_low : (series : Series) (settled : ℤ) → IsSound series → IsSettledDay series settled → neg_ℤ (pos 719_162) ≤ℤ settled
+settled_low series settled sound is =
+    let b = four_digit_bounds (day_part series.kind series.start) sound.valid.start in
+    omega (arith, ints, b.0, is.past.start)
+
+-- ---- how the series is judged
+
+module _ (series : Series) (few : series_cycle series ≤ 16_777_216) where
+  within_cycle : IsCycleOver all_limits series → ⊥
+  within_cycle over = omega (arith, few, over.1)
+
+  -- a rule counts too far
+  pub judged_counts : (X : Type 0) (fault : Fault) → RefusedExactlyWhere {X = ℤ} (IsCountedTooFar series) CountedTooFar (Err fault)
+      → IsJudged {X = X} series (Err fault)
+  judged_counts X (Refused refusal) r = inr (within_cycle, inl ((refl, r.1), ap Some r.0))
+  judged_counts X NoMemory r = tt
+
+  module _ (settled : ℤ) (settled_is : IsSettledDay series settled) (near : IsCountedTooFar series → ⊥) where
+    -- a settled day is this one
+    one_settled : (day : ℤ) → IsSettledDay series day → day ≡ settled
+    one_settled day is = omega (arith, ints, is.least settled settled_is.past, settled_is.least day is.past)
+
+    -- moments are judged last
+    pub judged_moments : (X : Type 0) (result : Result X Fault) → RefusedExactlyWhere (IsTooManyMoments series settled) TooManyMoments result
+        → IsJudged series result
+    judged_moments X (Ok x) r =
+        inr (within_cycle, inr ((λ c. near c.1), inr ((λ m. r (subst (IsTooManyMoments series) (one_settled m.1.0 m.1.1) m.1.2)), refl)))
+    judged_moments X (Err (Refused refusal)) r = inr (within_cycle, inr ((λ c. near c.1), inl ((refl, (settled, settled_is, r.1)), ap Some r.0)))
+    judged_moments X (Err NoMemory) r = tt

@@ -1,0 +1,4 @@
+pub mod Folding
+pub mod Judged
+pub mod Sequence
+pub mod Sketched

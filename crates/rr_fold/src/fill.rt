@@ -1,0 +1,125 @@
+// The days of a series, folded into numbers of time sets.
+ghost use Rattle.std.specs.Prelude.{◌≡◌, ◌+◌, ◌≤◌, IfOk, OnOk, length, pos, neg_ℤ, ◌≤ℤ◌, ◌<ℤ◌, ◌+ℤ◌};
+ghost use Rattle.rr_model.specs.Answers.{RefusedExactlyWhere};
+ghost use Rattle.rr_model.specs.Series.Limits.{HasTooManyMoments};
+ghost use Rattle.rr_model.specs.Series.Soundness.{HasNoSetPositions};
+ghost use Rattle.rr_model.specs.Series.Tree.{tree_of};
+ghost use Rattle.rr_model.specs.declared.refusal.Refusal.TheVariants.{TooManyMoments};
+ghost use Rattle.rr_lazy.specs.Next.{IsUnasked};
+ghost use Rattle.rr_fold.specs.Folding.{HasNoneBefore, IsFoldedTo, IsPut};
+
+use rr_check::Checked;
+use rr_iter::occurrences;
+use rr_lazy::Lazy;
+use rr_model::{Fault, NoMemory};
+use rr_shapes::Shapes;
+use std::alloc::Global;
+
+/// Days in a row from a first one on, each as the number of its time set; the empty set has number 0.
+#[derive(Drop)]
+pub struct FoldedDays {
+    /// The number of each day.
+    pub numbers: Vec<u32>,
+    /// The sets of these numbers.
+    pub shapes: Shapes,
+}
+
+/// The days of a series from one on and below another, where no day before the first is occupied.
+pub fn folded_days(
+    alloc: Global,
+    series: &Checked,
+    first: i64,
+    end: i64,
+) -> Result<FoldedDays, Fault>
+    requires without_set_positions { HasNoSetPositions series.now }
+    requires low { neg_ℤ (pos 719_162) ≤ℤ first }
+    requires order { first <ℤ end }
+    requires high { end ≤ℤ pos 40_000_000 }
+    requires early { HasNoneBefore (tree_of series.now) first }
+    ensures folded { IfOk result (λ days. IsFoldedTo (tree_of series.now) first end days.shapes days.numbers.items) }
+    ensures whole { IfOk result (λ days. end ≡ first +ℤ pos (length days.numbers.items)) }
+    ensures refused { RefusedExactlyWhere (HasTooManyMoments (tree_of series.now) end) TooManyMoments result }
+{
+    let lazy = occurrences(alloc, series)?;
+    collected(alloc, lazy, first, end)
+}
+
+// The days of an iterator that was not asked yet, from one on and below another.
+fn collected<L: Lazy + Drop>(
+    alloc: Global,
+    lazy: L,
+    first: i64,
+    end: i64,
+) -> Result<FoldedDays, Fault>
+    requires low { neg_ℤ (pos 719_162) ≤ℤ first }
+    requires order { first <ℤ end }
+    requires high { end ≤ℤ pos 40_000_000 }
+    requires unasked { IsUnasked (L.position lazy) }
+    requires early { HasNoneBefore (L.tree lazy) first }
+    ensures folded { IfOk result (λ days. IsFoldedTo (L.tree lazy) first end days.shapes days.numbers.items) }
+    ensures whole { IfOk result (λ days. end ≡ first +ℤ pos (length days.numbers.items)) }
+    ensures refused { RefusedExactlyWhere (HasTooManyMoments (L.tree lazy) end) TooManyMoments result }
+{
+    let mut lazy = lazy;
+    let days = days_between(first, end);
+    let mut shapes = Shapes::with_empty_set(alloc)?;
+    let mut numbers = Vec::with_capacity(alloc, days)?;
+    match fill(alloc, &mut lazy, first, end - 1, &mut shapes, &mut numbers) {
+        Ok(()) => {}
+        Err(fault) => return Err(fault),
+    }
+    numbers.resize(days, 0)?;
+    Ok(FoldedDays { numbers, shapes })
+}
+
+// Folds the occupied days of an iterator up to a day, from where it stands on.
+fn fill<L: Lazy>(
+    alloc: Global,
+    lazy: &mut L,
+    first: i64,
+    to: i64,
+    shapes: &mut Shapes,
+    numbers: &mut Vec<u32>,
+) -> Result<(), Fault>
+    requires low { neg_ℤ (pos 2_999_999_999_000) ≤ℤ to }
+    requires high { to ≤ℤ pos 2_999_999_999_000 }
+    requires first { first ≤ℤ to }
+    requires begun { neg_ℤ (pos 2_999_999_999_000) ≤ℤ first }
+    requires position { L.position lazy.old ≤ℤ (to +ℤ pos 1) }
+    requires folded { IsFoldedTo (L.tree lazy.old) first (L.position lazy.old) shapes.old numbers.old.items }
+    ensures folded { OnOk result (IsFoldedTo (L.tree lazy.old) first (to +ℤ pos 1) shapes.new numbers.new.items) }
+    ensures refused { RefusedExactlyWhere (HasTooManyMoments (L.tree lazy.old) (to +ℤ pos 1)) TooManyMoments result }
+{
+    'days: loop {
+        match lazy.next(alloc, to)? {
+            None => return Ok(()),
+            Some(found) => {
+                let place = days_between(first, found.day);
+                match shapes.place(found.times) {
+                    Ok(number) => put(numbers, place, number)?,
+                    Err(fault) => return Err(fault),
+                }
+            }
+        }
+    }
+}
+
+// How many days lie from one day to another.
+fn days_between(first: i64, day: i64) -> usize
+    requires order { first ≤ℤ day }
+    requires first { neg_ℤ (pos 3_000_000_000_000) ≤ℤ first }
+    requires day { day ≤ℤ pos 3_000_000_000_000 }
+    ensures { day ≡ first +ℤ pos result }
+{
+    (day - first) as usize
+}
+
+// Puts a number at its place, and 0, the number of the empty set, at each place before it that has none yet.
+fn put(numbers: &mut Vec<u32>, place: usize, number: u32) -> Result<(), NoMemory>
+    requires { length numbers.old.items ≤ place }
+    ensures { OnOk result (IsPut numbers.old.items place number numbers.new.items) }
+{
+    numbers.resize(place, 0)?;
+    numbers.push(number)?;
+    Ok(())
+}

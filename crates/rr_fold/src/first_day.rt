@@ -1,0 +1,22 @@
+// The first day of a series.
+ghost use Rattle.std.specs.Prelude.{◌≤ℤ◌, neg_ℤ, pos};
+ghost use Rattle.rr_model.specs.Moment.{day_part};
+ghost use Rattle.rr_model.specs.Series.Soundness.{IsSound};
+ghost use Rattle.rr_model.specs.Series.Tree.{tree_of};
+ghost use Rattle.rr_fold.specs.Folding.{HasNoneBefore};
+
+use rr_model::{Series, day_part};
+
+/// The earlier of the day of the start and the day of the first date added: no day before it is occupied.
+pub fn first_day(series: &Series) -> i64
+    requires { IsSound series.now }
+    ensures early { HasNoneBefore (tree_of series.now) result }
+    ensures low { neg_ℤ (pos 719_162) ≤ℤ result }
+    ensures order { result ≤ℤ day_part series.now.kind series.now.start }
+{
+    let day = day_part(series.kind, series.start);
+    match series.plus.as_slice().first() {
+        None => day,
+        Some(date) => day.min(day_part(series.kind, *date)),
+    }
+}

@@ -1,0 +1,8 @@
+//! A series as a sequence of days that repeats.
+#![tactic(auto)]
+
+mod fill;
+mod first_day;
+mod folded;
+
+pub use folded::{Folded, fold};
