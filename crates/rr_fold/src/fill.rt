@@ -2,7 +2,6 @@
 ghost use Rattle.std.specs.Prelude.{◌≡◌, ◌+◌, ◌≤◌, IfOk, OnOk, length, pos, neg_ℤ, ◌≤ℤ◌, ◌<ℤ◌, ◌+ℤ◌};
 ghost use Rattle.rr_model.specs.Answers.{RefusedExactlyWhere};
 ghost use Rattle.rr_model.specs.Series.Limits.{HasTooManyMoments};
-ghost use Rattle.rr_model.specs.Series.Soundness.{HasNoSetPositions};
 ghost use Rattle.rr_model.specs.Series.Tree.{tree_of};
 ghost use Rattle.rr_model.specs.declared.refusal.Refusal.TheVariants.{TooManyMoments};
 ghost use Rattle.rr_lazy.specs.Next.{IsUnasked};
@@ -31,7 +30,6 @@ pub fn folded_days(
     first: i64,
     end: i64,
 ) -> Result<FoldedDays, Fault>
-    requires without_set_positions { HasNoSetPositions series.now }
     requires low { neg_ℤ (pos 719_162) ≤ℤ first }
     requires order { first <ℤ end }
     requires high { end ≤ℤ pos 40_000_000 }

@@ -5,7 +5,6 @@ ghost use Rattle.rr_model.specs.Series.Cycle.{series_cycle};
 ghost use Rattle.rr_model.specs.Series.Limits.{IsTooManyMoments};
 ghost use Rattle.rr_model.specs.Series.Occurrences.{Occurs};
 ghost use Rattle.rr_model.specs.Series.Settled.{IsSettledDay};
-ghost use Rattle.rr_model.specs.Series.Soundness.{HasNoSetPositions};
 ghost use Rattle.rr_model.specs.Sets.Sketch.{IsFirstDay, StandsFor};
 ghost use Rattle.rr_model.specs.declared.refusal.Refusal.TheVariants.{TooManyMoments};
 ghost use Rattle.rr_word.specs.Bounded.{IsBounded, IsBounded-prop, IsFirstDay-prop};
@@ -45,7 +44,6 @@ pub struct Folded {
 /// `TooManyMoments` where the distinct time sets up to a cycle past the settled day have together more than
 /// `MAX_SECONDS` seconds. It reads each of these days once, and keeps four bytes for each.
 pub fn fold(alloc: Global, series: &Checked) -> Result<Folded, Fault>
-    requires without_set_positions { HasNoSetPositions series.now }
     requires few { series_cycle series.now ≤ 16_777_216 }
     ensures stands { IfOk result (λ f. StandsFor (⟦<Folded as DaySeq>⟧.sketch f) (Occurs series.now)) }
     ensures kind { IfOk result (λ f. (⟦<Folded as DaySeq>⟧.sketch f).kind ≡ series.now.kind) }
@@ -61,7 +59,6 @@ pub fn fold(alloc: Global, series: &Checked) -> Result<Folded, Fault>
 
 // The series folded up to a cycle past its settled day.
 fn folded_to(alloc: Global, series: &Checked, settled: i64) -> Result<Folded, Fault>
-    requires without_set_positions { HasNoSetPositions series.now }
     requires few { series_cycle series.now ≤ 16_777_216 }
     requires settled { IsSettledDay series.now settled }
     requires high { settled ≤ℤ pos 20_000_000 }

@@ -1,5 +1,5 @@
 -- Where rules end (RFC 5545, section 3.3.10, UNTIL and COUNT).
-use Rattle.std.specs.Prelude.{◌≡◌, ◌⊎◌, ℕ, ◌+◌, ◌<◌, ◌≤◌, true, [], ℤ, pos, ◌+ℤ◌, ◌≤ℤ◌, ◌<ℤ◌}
+use Rattle.std.specs.Prelude.{◌≡◌, ◌⊎◌, ℕ, ◌+◌, ◌<◌, ◌≤◌, true, ℤ, pos, ◌+ℤ◌, ◌≤ℤ◌, ◌<ℤ◌}
 use Rattle.rr_model.specs.Moment.{day_part}
 use Rattle.rr_model.specs.Moment.Years.{IsFromYearOne, IsInYears}
 use Rattle.rr_model.specs.Rule.Validity.{EndsInYears, IsValidRule}
@@ -13,10 +13,9 @@ use Rattle.rr_lazy.specs.Next.{HasNone}
 use Rattle.rr_iter.specs.declared.place.Place.{Place}
 use Rattle.rr_iter.specs.declared.place.Place.TheVariants.{On, Beyond}
 
--- a rule of a sound series, beside its start, without BYSETPOS
+-- a rule of a sound series, beside its start
 pub record IsSoundRule (kind : Kind) (start : ℤ) (rule : Rule) : Type 0 where
   pub valid : IsValidRule kind rule
-  pub plain : rule.by_set_pos ≡ []
   pub in_years : IsInYears kind start
   pub ends_in_years : EndsInYears rule.end
   pub fits : FitsStart kind start rule

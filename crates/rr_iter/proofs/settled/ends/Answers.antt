@@ -33,7 +33,7 @@ last_day-requires c =
     let listed = c.as_slice-rule-items.ensures ∙ ap (λ s. s.rules) value in
     let within : c.loop-rule.rule-index < length series.rules = rw listed at c.loop-rule-test.true in
     let item : get_or series.rules c.loop-rule.rule-index c.rule-item.result ≡ c.rule-item.result = rw listed at (sym c.rule-item.is) in
-    record { sound = rw (to_z-of_z start, value) (rule_is_sound series sound c.requires.without_set_positions c.loop-rule.rule-index c.rule-item.result within item) }
+    record { sound = rw (to_z-of_z start, value) (rule_is_sound series sound c.loop-rule.rule-index c.rule-item.result within item) }
 
 pub returns-in-Err-clause-refused : goal.returns-in-Err-clause-refused
 returns-in-Err-clause-refused c =
@@ -60,7 +60,7 @@ loop-rule-preserved c =
     let refused = rw (to_z-of_z start, value) at c.in-Ok.ensures.refused in
     let near = c.in-Ok.ensures.near in
     let gathered = c.loop-rule.invariant in
-    let years = rule_is_sound series (rw value at c.series-given.ensures.sound) c.requires.without_set_positions c.loop-rule.rule-index c.rule-item.result within item in
+    let years = rule_is_sound series (rw value at c.series-given.ensures.sound) c.loop-rule.rule-index c.rule-item.result within item in
     let low = (start_bounds series.kind series.start c.rule-item.result years).0 in
     let same : to_z w64 (of_z w64 c.in-Ok.day) ≡ c.in-Ok.day = omega (arith, ints, near, day.late, low) in
     let both = rw same at c.max-last.ensures.value in
