@@ -38,7 +38,7 @@ pub struct Folded {
     ghost within: { All (λ n. n < length shapes) numbers.items },
 }
 
-/// Folds a series whose rules have no BYSETPOS and whose cycle is at most `MAX_CYCLE_DAYS`, as `admit` gives it.
+/// Folds a series whose cycle is at most `MAX_CYCLE_DAYS`, as `admit` gives it.
 ///
 /// `CountedTooFar` where a rule counts a member more than `MAX_SPAN_DAYS` days after its start, and else
 /// `TooManyMoments` where the distinct time sets up to a cycle past the settled day have together more than

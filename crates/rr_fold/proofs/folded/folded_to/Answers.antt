@@ -59,6 +59,14 @@ folded_days-requires-clause-high c =
     (omega (arith, ints, c.requires.high)) p.1 in
     rw end_back (omega (arith, ints, c.requires.high, p.1))
 
+pub folded_days-requires-clause-early : goal.folded_days-requires-clause-early
+folded_days-requires-clause-early c =
+    let value = c.series-given.ensures.value in
+    let order = rw value at c.first_day-first.ensures.order in
+    let first_back = back c.first_day-first.result (omega (arith, ints, c.first_day-first.ensures.low))
+    (omega (arith, ints, order, c.requires.settled.past.start, c.requires.high)) in
+    rw first_back (rw value at c.first_day-first.ensures.early)
+
 pub sequence-requires : goal.sequence-requires
 sequence-requires c =
     let s = c.args.series.now in
