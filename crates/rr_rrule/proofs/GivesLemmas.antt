@@ -1,18 +1,17 @@
 -- Numbers of lines stand in refusals alone: what is read well is read alike under another number.
-use Rattle.std.proofs.Common.{◌≡◌, ℕ, ◌==◌, ◌&&◌, nat_le, Bool, true, false, if◌then◌else◌, List, [], ◌∷◌, ◌++◌, length, Result, Ok, Err, Option, None, Some, ap, ◌∙◌, not, ℤ, ◌+ℤ◌}
+use Rattle.std.proofs.Common.{◌≡◌, ℕ, ◌&&◌, nat_le, Bool, true, false, if◌then◌else◌, List, [], ◌∷◌, Result, Ok, Err, Option, None, Some, ap, ◌∙◌, not, ℤ, ◌+ℤ◌}
 use Rattle.std.specs.Prelude.{int_lt, ok_or}
 use Rattle.std.specs.List.{list_all, slice_split}
 use Rattle.std.specs.Option.{is_some}
 use Rattle.rr_model.specs.Moment.{is_same_kind}
 use Rattle.rr_model.specs.Moment.Years.{is_in_years}
 use Rattle.rr_model.specs.Rising.{with_value, day_item_lt}
-use Rattle.rr_model.specs.Rule.Validity.{takes_start}
-use Rattle.rr_model.specs.Text.Calendars.{stated_rule, end_at, end_beside, rule_beside, rrule_language, is_comma}
+use Rattle.rr_model.specs.Text.Calendars.{stated_rule, end_beside, rule_beside, rrule_language, is_comma}
 use Rattle.rr_model.specs.Text.Digits.{digits_value}
 use Rattle.rr_model.specs.Text.Moments.{basic}
-use Rattle.rr_model.specs.Text.Passes.{Stated, Beside, judged_start, has_slash, date_value, judged_date, judged_line, turned, moment_beside, date_beside, put_date, with_date, with_line}
-use Rattle.rr_model.specs.Text.RuleValues.{◌>>=◌, pieces, freq_named, weekday_named, is_number, up_to, number_up_to, placed, unsigned, signed, seconds, has_number_form, magnitude, number_within, numbers_of, place_text, weekday_text, is_day_item, place_within, day_item_within, day_items_of}
-use Rattle.rr_model.specs.Text.Rules.{split_once, part_named, is_extension, name_of, is_present, with_part_value, with_part, with_parts, no_parts, without_last_semicolon, parts_of, end_of, rule_of, rule_parts, has_time, line_value}
+use Rattle.rr_model.specs.Text.Passes.{Stated, Beside, has_slash, date_value, judged_date, judged_line, turned, moment_beside, date_beside, with_date, with_line}
+use Rattle.rr_model.specs.Text.RuleValues.{◌>>=◌, pieces, freq_named, weekday_named, is_number, number_up_to, placed, unsigned, signed, seconds, has_number_form, magnitude, number_within, numbers_of, place_text, weekday_text, is_day_item, place_within, day_item_within, day_items_of}
+use Rattle.rr_model.specs.Text.Rules.{split_once, part_named, is_extension, name_of, is_present, with_part_value, with_part, with_parts, no_parts, without_last_semicolon, parts_of, rule_of, rule_parts, has_time, line_value}
 use Rattle.rr_model.specs.Text.Steps.{in_turn}
 use Rattle.rr_model.specs.Text.UsedLines.{trim}
 use Rattle.rr_model.specs.declared.limits.TheConstants.{MAX_DATES, MAX_RULES}
