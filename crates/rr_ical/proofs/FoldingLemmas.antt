@@ -44,10 +44,12 @@ with_text-of number lines text = rw (absent-of lines) (by (begins_blank text && 
     by true = longer-of lines (continuation false text)
     by false = map-append (λ (line : Line). line.text) lines (record { number = number; text = text } ∷ [])
 
-with_texts-of : (number : ℕ) (lines : List Line) (texts : List (List ℕ)) → texts_of (with_physical_lines false number lines texts) ≡ with_texts (texts_of lines) texts
+with_texts-of : (number : ℕ) (lines : List Line) (texts : List (List ℕ))
+    → texts_of (with_physical_lines false number lines texts) ≡ with_texts (texts_of lines) texts
 with_texts-of number lines [] = refl
 with_texts-of number lines (text ∷ texts) =
-    with_texts-of (number + 1) (with_physical_line false number lines text) texts ∙ ap (λ (ts : List (List ℕ)). with_texts ts texts) (with_text-of number lines text)
+    with_texts-of (number + 1) (with_physical_line false number lines text) texts ∙ ap (λ (ts : List (List ℕ)). with_texts ts texts)
+    (with_text-of number lines text)
 
 texts-of : (bytes : List ℕ) → line_texts bytes ≡ with_texts [] (physical_lines bytes)
 unfolding unfolded_lines

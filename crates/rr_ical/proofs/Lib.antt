@@ -1,5 +1,5 @@
 mod ListedLemmas
 mod ScanLemmas
 mod TextLemmas
-mod FoldingLemmas
+pub mod FoldingLemmas
 pub mod LineEndLemmas

@@ -16,3 +16,5 @@ mod BesideLemmas
 mod LineEndProofs
 mod ScanLemmas
 mod CaseLemmas
+mod GivesLemmas
+mod FoldedLemmas

@@ -1,12 +1,12 @@
 -- Laws of what a calendar text states (RFC 5545, sections 3.1 and 3.3.10).
-use Rattle.std.specs.Prelude.{◌≡◌, ℕ, ◌==◌, nat_lt, Bool, false, not, ◌&&◌, ℤ, List, ◌∷◌, ◌++◌, length, Option, Ok, IsTrue}
+use Rattle.std.specs.Prelude.{◌≡◌, ℕ, ◌==◌, nat_lt, Bool, false, not, ◌&&◌, ℤ, List, [], ◌∷◌, ◌++◌, length, Option, None, Ok, IsTrue}
 use Rattle.std.specs.List.{list_all, join_with_byte}
 use Rattle.std.specs.Str.{str_to_ascii_lowercase}
 use Rattle.rr_ical.specs.LineLaws.{HasNoReturn, with_returns}
 use Rattle.rr_model.specs.Text.Calendars.{calendar_text}
 use Rattle.rr_model.specs.Text.Event.{event_scan, used_line}
 use Rattle.rr_model.specs.Text.Lines.{without_mark}
-use Rattle.rr_model.specs.Text.Rules.{is_blank}
+use Rattle.rr_model.specs.Text.Rules.{is_blank, text_after}
 use Rattle.rr_model.specs.declared.refusal.Refusal.{Refusal}
 use Rattle.rr_model.specs.declared.rule.Series.{Series}
 use Rattle.rr_model.specs.declared.used.LineName.TheVariants.{Rrule}
@@ -27,6 +27,19 @@ CaseDoesNotMatter = (offset : Option ℤ) (text other : List ℕ) → DifferInCa
 -- A text whose lines end with CR LF states what the text does whose lines end with LF.
 abbrev pub LineEndsDoNotMatter : Type 0
 LineEndsDoNotMatter = (offset : Option ℤ) (text : List ℕ) → HasNoReturn text → calendar_text offset (with_returns text) ≡ calendar_text offset text
+
+-- ---- folded lines
+
+-- the text begins with no byte order mark
+abbrev pub HasNoMark : List ℕ → Type 0
+HasNoMark text = text_after (239 ∷ 187 ∷ 191 ∷ []) text ≡ None
+
+-- A line of a text that is read may be folded after any of its bytes, by CR LF and a blank.
+abbrev pub FoldingDoesNotMatter : Type 0
+FoldingDoesNotMatter =
+    (offset : Option ℤ) (front after : List ℕ) (b : ℕ) (series : Series) → (b == 10) ≡ false → (b == 13) ≡ false
+    → HasNoMark (front ++ b ∷ after) → calendar_text offset (front ++ b ∷ after) ≡ Ok series
+    → calendar_text offset (front ++ b ∷ 13 ∷ 10 ∷ 32 ∷ after) ≡ Ok series
 
 -- ---- the order of a rule's parts
 

@@ -1,5 +1,5 @@
 // Laws of what a calendar text states, each the contract of a function that does nothing.
-ghost use Rattle.rr_rrule.specs.TextLaws.{CaseDoesNotMatter, LineEndsDoNotMatter, OrderDoesNotMatter};
+ghost use Rattle.rr_rrule.specs.TextLaws.{CaseDoesNotMatter, FoldingDoesNotMatter, LineEndsDoNotMatter, OrderDoesNotMatter};
 
 /// Texts that differ in the case of letters alone, be it of names, of values or of parts of a rule, state one series, or
 /// are refused alike.
@@ -10,6 +10,11 @@ pub fn case_does_not_matter()
 /// A text states the same whether its lines end with CR LF or with LF (RFC 5545, section 3.1).
 pub fn line_ends_do_not_matter()
     ensures { LineEndsDoNotMatter }
+{}
+
+/// A line of a text that is read may be folded after any of its bytes: the series is the same (RFC 5545, section 3.1).
+pub fn folding_does_not_matter()
+    ensures { FoldingDoesNotMatter }
 {}
 
 /// Two neighbouring parts of a rule of a text that is read may be exchanged: the series is the same.

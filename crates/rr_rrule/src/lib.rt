@@ -14,4 +14,6 @@ mod values;
 mod words;
 
 pub use calendar::read;
-pub use laws::{case_does_not_matter, line_ends_do_not_matter, order_does_not_matter};
+pub use laws::{
+    case_does_not_matter, folding_does_not_matter, line_ends_do_not_matter, order_does_not_matter,
+};
