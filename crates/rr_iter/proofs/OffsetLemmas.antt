@@ -165,8 +165,7 @@ module _ (rule : Rule) (start t : ℤ) (passes : is_candidate rule Moments start
   place_in_unit Hourly e fine =
       let p = place_in_hour e in
       let same : (o : ℕ) → offset_holds rule start o ≡ in_hour o = λ o. ap (λ f. offset_allowed f rule (minute_of Moments start) (second_of Moments start) o) e in
-      let u : unit_seconds rule.freq ≡ 3_600 = ap unit_seconds e in
-      (
+      let u : unit_seconds rule.freq ≡ 3_600 = ap unit_seconds e in (
         p.0 ∙ rw u (sym (count_seconds-same (offset_holds rule start) in_hour (own % 3_600) (λ o l. same o))),
         p.1 ∙ rw u (sym (count_seconds-same (offset_holds rule start) in_hour 3_600 (λ o l. same o))),
         same (own % unit_seconds rule.freq) ∙ ap (λ n. in_hour (own % n)) u ∙ offset_in_hour e,
@@ -174,8 +173,7 @@ module _ (rule : Rule) (start t : ℤ) (passes : is_candidate rule Moments start
   place_in_unit Minutely e fine =
       let p = place_in_minute e in
       let same : (o : ℕ) → offset_holds rule start o ≡ seconds o = λ o. ap (λ f. offset_allowed f rule (minute_of Moments start) (second_of Moments start) o) e in
-      let u : unit_seconds rule.freq ≡ 60 = ap unit_seconds e in
-      (
+      let u : unit_seconds rule.freq ≡ 60 = ap unit_seconds e in (
         p.0 ∙ rw u (sym (count_seconds-same (offset_holds rule start) seconds (own % 60) (λ o l. same o))),
         p.1 ∙ rw u (sym (count_seconds-same (offset_holds rule start) seconds 60 (λ o l. same o))),
         same (own % unit_seconds rule.freq) ∙ ap (λ n. seconds (own % n)) u ∙ offset_in_minute,
@@ -185,8 +183,7 @@ module _ (rule : Rule) (start t : ℤ) (passes : is_candidate rule Moments start
       let same : (o : ℕ) → offset_holds rule start o ≡ true = λ o. ap (λ f. offset_allowed f rule (minute_of Moments start) (second_of Moments start) o) e in
       let u : unit_seconds rule.freq ≡ 1 = ap unit_seconds e in
       let none : own % 1 ≡ 0 = omega arith in
-      let all : count_seconds (offset_holds rule start) 1 ≡ 1 = below_more (offset_holds rule start) 0 (same 0) ∙ omega (arith, count_seconds-zero (offset_holds rule start)) in
-      (
+      let all : count_seconds (offset_holds rule start) 1 ≡ 1 = below_more (offset_holds rule start) 0 (same 0) ∙ omega (arith, count_seconds-zero (offset_holds rule start)) in (
         p.0 ∙ rw (u, none) (sym (count_seconds-zero (offset_holds rule start))),
         p.1 ∙ rw u (sym all),
         same (own % unit_seconds rule.freq),
@@ -217,8 +214,7 @@ module _ (rule : Rule) (start d : ℤ) (fine : is_whole_days rule.freq ≡ false
       let p = place_in_unit rule start (moment_at Moments d s) passes rule.freq refl fine in
       let chosen = chosen_candidate rule Moments start (moment_at Moments d s) (fine_taken rule.freq) passes in
       let rank = p.0 ∙ ap (λ n. count_seconds (offset_holds rule start) (n % unit_seconds rule.freq)) at in
-      let holds = ap (λ n. offset_holds rule start (n % unit_seconds rule.freq)) (sym at) ∙ p.2 in
-      (
+      let holds = ap (λ n. offset_holds rule start (n % unit_seconds rule.freq)) (sym at) ∙ p.2 in (
         λ h. chosen ∙ rw (rank, p.1) h.2,
         λ h. (mod_below s (unit_seconds rule.freq) (unit_some rule.freq), holds, rw (rank, p.1) at (sym chosen ∙ h)),
       )
@@ -256,7 +252,7 @@ chosen_offsets rule start times chosen stands set at =
     let all : 1 * length times ≡ count_seconds (offset_holds rule start) (unit_seconds rule.freq) = omega (arith, count_is_length times (offset_holds rule start) (unit_seconds rule.freq) set) in
     set_same nat_lt _ (IsChosenOffset rule start) chosen (rw (none, all) at at)
     (λ s. (let first : 0 + count_seconds (offset_holds rule start) s ≡ count_seconds (offset_holds rule start) s = omega arith in
-        rw first at (at_some_is times (offset_holds rule start) (unit_seconds rule.freq) set rule 0 (count_seconds (offset_holds rule start) (unit_seconds rule.freq)) stands s)))
+    rw first at (at_some_is times (offset_holds rule start) (unit_seconds rule.freq) set rule 0 (count_seconds (offset_holds rule start) (unit_seconds rule.freq)) stands s)))
 
 -- all seconds of a unit are asked
 pub allowed_all : (rule : Rule) (start : ℤ) (xs shown : List ℕ) (m s n : ℕ) → m ≡ minute_of Moments start → s ≡ second_of Moments start → n ≡ unit_seconds rule.freq → shown ≡ xs
