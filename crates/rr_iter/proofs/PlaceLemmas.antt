@@ -2,7 +2,6 @@
 use Rattle.std.proofs.Common.{◌≡◌, ℕ, zero, suc, ◌+◌, ◌<◌, Bool, true, false, ◌&&◌, List, [], ◌∷◌, length, get_or, Contains, inl, inr, ℤ, pos, nat_abs, ◌+ℤ◌, ◌-ℤ◌, ◌≤ℤ◌, ◌<ℤ◌, refl, sym, ap, ◌∙◌, arith}
 use Rattle.std.specs.Prelude.{int_lt}
 use Rattle.std.proofs.lemmas.Int.{ints}
-use Rattle.std.proofs.lemmas.Bool.{false≢true}
 use Rattle.std.proofs.lemmas.List.Elements.{Contains-get_or}
 use Rattle.rr_model.specs.Whole.{divides}
 use Rattle.rr_model.specs.Whole.Count.{count_from}
@@ -37,7 +36,8 @@ module _ (test : ℤ → Bool) where
     head_is = (set.exact x).0 (Contains-head x xs)
 
     above_head : (d : ℤ) → Contains xs d → x <ℤ d
-    above_head d c = let t : int_lt x d ≡ true = below_rest int_lt (λ y m. grind (arith, ints)) (λ y z w a b. grind (arith, ints)) x xs set.rises d c in grind (arith, ints)
+    above_head d c = let t : int_lt x d ≡ true = below_rest int_lt (λ y m. grind (arith, ints))
+        (λ y z w a b. grind (arith, ints)) x xs set.rises d c in grind (arith, ints)
 
     -- how many come after the head
     abbrev pub after_head : ℕ
@@ -51,14 +51,23 @@ module _ (test : ℤ → Bool) where
       rises = Rises-tail int_lt x xs set.rises;
       exact = λ d. (
         (λ c. (let h = (set.exact d).0 (Contains-tail x xs d c) in (omega (arith, ints, above_head d c), omega (arith, ints, h.1, end_is), h.2))),
-        (λ h. elim (Contains-cons_cases x xs d ((set.exact d).1 (omega (arith, ints, h.0, head_is.0), omega (arith, ints, h.1, end_is), h.2))) [ inl e ↦ absurd (omega (arith, ints, e, h.0)) | inr c ↦ c ]),
+        (λ h. elim (Contains-cons_cases x xs d
+            ((set.exact d).1 (omega (arith, ints, h.0, head_is.0), omega (arith, ints, h.1, end_is), h.2))) [
+              | inl e ↦ absurd
+                  (omega (arith, ints, e, h.0))
+              | inr c ↦ c
+            ]),
       );
     }
 
     none_before : count_from test q (nat_abs (x -ℤ q)) ≡ 0
     none_before = count_none test q (nat_abs (x -ℤ q)) (λ d l h. elim (test d) as (λ b. test d ≡ b → test d ≡ false) [
       | false ↦ λ e. e
-      | true ↦ λ e. absurd (elim (Contains-cons_cases x xs d ((set.exact d).1 (l, omega (arith, ints, h, head_is.0, head_is.1), e))) [ inl f ↦ omega (arith, ints, f, h, head_is.0) | inr c ↦ omega (arith, ints, above_head d c, h, head_is.0) ])
+      | true ↦ λ e. absurd (elim (Contains-cons_cases x xs d ((set.exact d).1 (l, omega (arith, ints, h, head_is.0, head_is.1), e))) [
+        | inl f ↦ omega
+            (arith, ints, f, h, head_is.0)
+        | inr c ↦ omega (arith, ints, above_head d c, h, head_is.0)
+      ])
     ] refl)
 
     -- the count up to one after the head: the head, and those after it
@@ -68,15 +77,18 @@ module _ (test : ℤ → Bool) where
         let k : ℕ = nat_abs (d -ℤ (x +ℤ pos 1)) in
         let e : nat_abs (d -ℤ q) ≡ m + suc k = omega (arith, ints, l, head_is.0) in
         let at : q +ℤ pos m ≡ x = omega (arith, ints, head_is.0) in
-        ap (count_from test q) e ∙ count_from-split test q m (suc k) ∙ omega (arith, none_before, ap (λ z. count_from test z (suc k)) at, count_from-first test x k, ap one head_is.2)
+        ap (count_from test q) e ∙ count_from-split test q m (suc k) ∙ omega
+        (arith, none_before, ap (λ z. count_from test z (suc k)) at, count_from-first test x k, ap one head_is.2)
 
   -- the place of each, and the length
-  pub place_is : (xs : List ℤ) (q : ℤ) (n : ℕ) → IsSetOf int_lt xs (PassedFrom q n) → (i : ℕ) → i < length xs → count_from test q (nat_abs (get_or xs i (pos 0) -ℤ q)) ≡ i
+  pub place_is : (xs : List ℤ) (q : ℤ) (n : ℕ) → IsSetOf int_lt xs (PassedFrom q n) → (i : ℕ) → i < length xs
+      → count_from test q (nat_abs (get_or xs i (pos 0) -ℤ q)) ≡ i
   place_is [] q n set i low = absurd (omega (arith, low))
   place_is (x ∷ xs) q n set zero low = none_before x xs q n set
   place_is (x ∷ xs) q n set (suc i) low =
       let d = get_or xs i (pos 0) in
-      up_to x xs q n set d (above_head x xs q n set d (Contains-get_or xs i (pos 0) (omega (arith, low)))) ∙ omega (arith, place_is xs (x +ℤ pos 1) (after_head x xs q n set) (rest_set x xs q n set) i (omega (arith, low)))
+      up_to x xs q n set d (above_head x xs q n set d (Contains-get_or xs i (pos 0) (omega (arith, low))))
+      ∙ omega (arith, place_is xs (x +ℤ pos 1) (after_head x xs q n set) (rest_set x xs q n set) i (omega (arith, low)))
 
   pub length_is : (xs : List ℤ) (q : ℤ) (n : ℕ) → IsSetOf int_lt xs (PassedFrom q n) → count_from test q n ≡ length xs
   length_is [] q n set = count_none test q n (λ d l h. elim (test d) as (λ b. test d ≡ b → test d ≡ false) [
@@ -91,7 +103,8 @@ module _ (test : ℤ → Bool) where
       let e : n ≡ m + suc k = omega (arith, ints, h.0, h.1) in
       let at : q +ℤ pos m ≡ x = omega (arith, ints, h.0) in
       let rest : count_from test (x +ℤ pos 1) k ≡ length xs = length_is xs (x +ℤ pos 1) k (rest_set x xs q n set) in
-      ap (count_from test q) e ∙ count_from-split test q m (suc k) ∙ omega (arith, none_before x xs q n set, ap (λ z. count_from test z (suc k)) at, count_from-first test x k, ap one h.2, rest)
+      ap (count_from test q) e ∙ count_from-split test q m (suc k) ∙ omega
+      (arith, none_before x xs q n set, ap (λ z. count_from test z (suc k)) at, count_from-first test x k, ap one h.2, rest)
 
 -- ---- candidate days
 
@@ -113,8 +126,12 @@ places_are_counts rule start_day unit days i set low =
     let passed : IsSetOf int_lt days (PassedFrom test first n) =
     set_same int_lt (IsCandidateDay rule start_day unit) (PassedFrom test first n) days set
     (λ e. (let stretch = units_are_stretches rule.freq rule.week_start Days e (unit_number rule.freq rule.week_start Days d) in (
-      (λ h. (let s = stretch.0 (h.0 ∙ sym own.0) in (s.0, omega (arith, ints, s.1, within.0, within.1), and_right (interval_holds rule Days start_day e) (test e) h.1))),
-      (λ h. (let same = stretch.1 (h.0, omega (arith, ints, h.1, within.0, within.1)) in
-          (same ∙ own.0, both (interval_holds rule Days start_day e) (test e) (ap (λ u. divides rule.interval (u -ℤ unit_number rule.freq rule.week_start Days start_day)) same ∙ fits) h.2))),
+      (λ h. (let s = stretch.0 (h.0 ∙ sym own.0) in
+          (s.0, omega (arith, ints, s.1, within.0, within.1), and_right (interval_holds rule Days start_day e) (test e) h.1))),
+      (λ h. (let same = stretch.1 (h.0, omega (arith, ints, h.1, within.0, within.1)) in (
+        same ∙ own.0,
+        both (interval_holds rule Days start_day e) (test e)
+            (ap (λ u. divides rule.interval (u -ℤ unit_number rule.freq rule.week_start Days start_day)) same ∙ fits) h.2,
+      ))),
     ))) in
     (place_is test days first n passed i low, length_is test days first n passed)

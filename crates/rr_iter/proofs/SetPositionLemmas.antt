@@ -1,6 +1,6 @@
 -- The seconds that set positions choose.
-use Rattle.std.proofs.Common.{◌≡◌, ℕ, zero, suc, ◌+◌, ◌-◌, ◌*◌, ◌<◌, ◌≤◌, Bool, true, false, cond, ◌&&◌, List, [], ◌∷◌, length, get_or, Contains, All, Some, None, inl, inr, ℤ, pos, neg_ℤ, nat_abs, ◌+ℤ◌, ◌-ℤ◌, refl, sym, ap, ◌∙◌, subst, arith}
-use Rattle.std.specs.Prelude.{◌⊎◌, ◌↔◌, ◌||◌, IsTrue, nat_lt, int_lt}
+use Rattle.std.proofs.Common.{◌≡◌, ℕ, suc, ◌+◌, ◌-◌, ◌*◌, ◌<◌, ◌≤◌, Bool, true, false, cond, ◌&&◌, List, [], ◌∷◌, length, get_or, Contains, Some, None, inl, inr, ℤ, pos, neg_ℤ, nat_abs, ◌+ℤ◌, ◌-ℤ◌, refl, sym, ap, ◌∙◌, subst, arith}
+use Rattle.std.specs.Prelude.{◌⊎◌, ◌↔◌, ◌||◌, IsTrue, nat_lt}
 use Rattle.std.specs.List.{list_any}
 use Rattle.std.specs.Ordering.{int_eq}
 use Rattle.std.proofs.lemmas.Int.{ints}
@@ -10,7 +10,7 @@ use Rattle.std.proofs.lemmas.List.{get_or_default}
 use Rattle.std.proofs.lemmas.List.Elements.{Contains-get_or}
 use Rattle.std.proofs.lemmas.List.Folds.{list_any_at}
 use Rattle.rr_model.specs.Whole.Count.{count_from}
-use Rattle.rr_model.specs.Moment.{day_part, second_part, moment_at}
+use Rattle.rr_model.specs.Moment.{day_part, moment_at}
 use Rattle.rr_model.specs.Moment.Units.{is_whole_days, unit_number}
 use Rattle.rr_model.specs.Rule.Filled.{filled}
 use Rattle.rr_model.specs.Rule.Validity.{is_absent, takes_start}
@@ -21,7 +21,7 @@ use Rattle.rr_model.specs.Rising.{with_value}
 use Rattle.rr_model.specs.Rising.Sets.{IsSetOf, IsSecondsOfDay}
 use Rattle.rr_model.specs.Sets.Counting.{count_seconds}
 use Rattle.rr_model.specs.declared.kind.Kind.{Kind}
-use Rattle.rr_model.specs.declared.kind.Kind.TheVariants.{Days, Moments}
+use Rattle.rr_model.specs.declared.kind.Kind.TheVariants.{Days}
 use Rattle.rr_model.specs.declared.rule.Freq.{Freq}
 use Rattle.rr_model.specs.declared.rule.Freq.TheVariants.{Secondly, Minutely, Hourly, Daily, Weekly, Monthly, Yearly}
 use Rattle.rr_model.specs.declared.rule.Rule.{Rule}
@@ -50,7 +50,11 @@ module _ (v : ℕ) where
   keeps : (xs : List ℕ) (x : ℕ) → Contains xs x → Contains (with_value nat_lt xs v) x
   keeps [] x c = absurd (Contains-none x c)
   keeps (y ∷ ys) x c = elim (nat_lt y v) as (λ b. Contains (cond b (y ∷ with_value nat_lt ys v) (cond (nat_lt v y) (v ∷ y ∷ ys) (y ∷ ys))) x) [
-    | true ↦ elim (Contains-cons_cases y ys x c) [ inl e ↦ subst (Contains (y ∷ with_value nat_lt ys v)) e (Contains-head y (with_value nat_lt ys v)) | inr d ↦ Contains-tail y (with_value nat_lt ys v) x (keeps ys x d) ]
+    | true ↦ elim (Contains-cons_cases y ys x c) [
+      | inl e ↦ subst (Contains (y ∷ with_value nat_lt ys v)) e
+          (Contains-head y (with_value nat_lt ys v))
+      | inr d ↦ Contains-tail y (with_value nat_lt ys v) x (keeps ys x d)
+    ]
     | false ↦ elim (nat_lt v y) as (λ b. Contains (cond b (v ∷ y ∷ ys) (y ∷ ys)) x) [ true ↦ Contains-tail v (y ∷ ys) x c | false ↦ c ]
   ]
 
@@ -127,8 +131,10 @@ listed_is rule rank size stands =
         | inr f ↦ (let r = any_at (λ x. int_eq x (neg_ℤ (pos (size - rank)))) places (pos 0) f in (r.0, (r.1.0, inr (number_same _ _ r.1.1))))
       ],
       λ h. elim h.1.1 [
-        | inl e ↦ or_left (is_absent places) (lists places (pos (rank + 1))) (lists places (neg_ℤ (pos (size - rank)))) (list_any_at (λ x. int_eq x (pos (rank + 1))) places h.0 (pos 0) h.1.0 (same_number _ _ e))
-        | inr e ↦ or_right (is_absent places) (lists places (pos (rank + 1))) (lists places (neg_ℤ (pos (size - rank)))) (list_any_at (λ x. int_eq x (neg_ℤ (pos (size - rank)))) places h.0 (pos 0) h.1.0 (same_number _ _ e))
+        | inl e ↦ or_left (is_absent places) (lists places (pos (rank + 1))) (lists places (neg_ℤ (pos (size - rank))))
+            (list_any_at (λ x. int_eq x (pos (rank + 1))) places h.0 (pos 0) h.1.0 (same_number _ _ e))
+        | inr e ↦ or_right (is_absent places) (lists places (pos (rank + 1))) (lists places (neg_ℤ (pos (size - rank))))
+            (list_any_at (λ x. int_eq x (neg_ℤ (pos (size - rank)))) places h.0 (pos 0) h.1.0 (same_number _ _ e))
       ],
     )
 
@@ -138,13 +144,15 @@ module _ (times : List ℕ) (before size : ℕ) (room : before + length times �
   time_at_none place none = λ s h. none (before + h.0) (omega (arith, h.1.0, room)) h.1.2
 
   -- it is one of another day
-  pub time_at_other : (place : ℤ) (rank : ℕ) → rank < size → IsPlaceOf place size rank → (before ≤ rank → rank - before < length times → ⊥) → IsTimeAt times before size place None
+  pub time_at_other : (place : ℤ) (rank : ℕ) → rank < size → IsPlaceOf place size rank → (before ≤ rank → rank - before < length times → ⊥)
+      → IsTimeAt times before size place None
   time_at_other place rank few is other = λ s h.
       let e : rank ≡ before + h.0 = one_rank place size rank (before + h.0) few (omega (arith, h.1.0, room)) is h.1.2 in
       other (omega (arith, e)) (omega (arith, e, h.1.0))
 
   -- it is this day's
-  pub time_at_some : (place : ℤ) (rank s : ℕ) → before ≤ rank → rank - before < length times → IsPlaceOf place size rank → s ≡ get_or times (rank - before) 0 → IsTimeAt times before size place (Some s)
+  pub time_at_some : (place : ℤ) (rank s : ℕ) → before ≤ rank → rank - before < length times → IsPlaceOf place size rank
+      → s ≡ get_or times (rank - before) 0 → IsTimeAt times before size place (Some s)
   time_at_some place rank s late low is at =
       let e : rank ≡ before + (rank - before) = omega (arith, late) in
       (rank - before, (low, sym at, subst (IsPlaceOf place size) e is))
@@ -152,9 +160,11 @@ module _ (times : List ℕ) (before size : ℕ) (room : before + length times �
   -- ---- the list's places, one after another
 
   pub none_yet : (places : List ℤ) (xs : List ℕ) → xs ≡ [] → IsSetOf nat_lt xs (IsAtSome times before size places 0)
-  none_yet places xs e = subst (λ ys. IsSetOf nat_lt ys (IsAtSome times before size places 0)) (sym e) (set_empty nat_lt (IsAtSome times before size places 0) (λ s h. omega (arith, h.1.0)))
+  none_yet places xs e = subst (λ ys. IsSetOf nat_lt ys (IsAtSome times before size places 0)) (sym e)
+      (set_empty nat_lt (IsAtSome times before size places 0) (λ s h. omega (arith, h.1.0)))
 
-  more : (places : List ℤ) (k s : ℕ) → IsAtSome times before size places (k + 1) s → IsAtSome times before size places k s ⊎ IsAtPlace times before size (get_or places k (pos 0)) s
+  more : (places : List ℤ) (k s : ℕ) → IsAtSome times before size places (k + 1) s
+      → IsAtSome times before size places k s ⊎ IsAtPlace times before size (get_or places k (pos 0)) s
   more places k s h = elim (cases_lt h.0 k) [
     | inl l ↦ inl (h.0, (l, h.1.1))
     | inr g ↦ (let e : h.0 ≡ k = omega (arith, g, h.1.0) in inr (subst (λ i. IsAtPlace times before size (get_or places i (pos 0)) s) e h.1.1))
@@ -176,22 +186,30 @@ module _ (times : List ℕ) (before size : ℕ) (room : before + length times �
       let f : a.0 ≡ b.0 = omega (arith, e) in
       sym a.1.1 ∙ ap (λ r. get_or times r 0) f ∙ b.1.1
 
-  pub one_more_some : (places : List ℤ) (k : ℕ) (place : ℤ) (xs ys : List ℕ) (v : ℕ) → place ≡ get_or places k (pos 0) → IsTimeAt times before size place (Some v) → ys ≡ with_value nat_lt xs v
+  pub one_more_some : (places : List ℤ) (k : ℕ) (place : ℤ) (xs ys : List ℕ) (v : ℕ) → place ≡ get_or places k (pos 0)
+      → IsTimeAt times before size place (Some v) → ys ≡ with_value nat_lt xs v
       → IsSetOf nat_lt xs (IsAtSome times before size places k) → IsSetOf nat_lt ys (IsAtSome times before size places (k + 1))
   one_more_some places k place xs ys v is at made set =
       let own = subst (λ p. IsAtPlace times before size p v) is at in
       subst (λ zs. IsSetOf nat_lt zs (IsAtSome times before size places (k + 1))) (sym made)
-      (set_same nat_lt (λ s. IsAtSome times before size places k s ⊎ (v ≡ s)) (IsAtSome times before size places (k + 1)) (with_value nat_lt xs v) (set_with_value v (IsAtSome times before size places k) xs set)
+      (set_same nat_lt (λ s. IsAtSome times before size places k s ⊎ (v ≡ s)) (IsAtSome times before size places (k + 1)) (with_value nat_lt xs v)
+      (set_with_value v (IsAtSome times before size places k) xs set)
       (λ s. (
-        (λ p. elim p [ inl h ↦ (h.0, (omega (arith, h.1.0), h.1.1)) | inr e ↦ (k, (omega arith, subst (IsAtPlace times before size (get_or places k (pos 0))) e own)) ]),
+        (λ p. elim p [
+          | inl h ↦ (h.0, (omega (arith, h.1.0), h.1.1))
+          | inr e ↦
+              (k, (omega arith, subst (IsAtPlace times before size (get_or places k (pos 0))) e own))
+        ]),
         (λ h. elim (more places k s h) [ inl m ↦ inl m | inr m ↦ inr (one_time (get_or places k (pos 0)) v s own m) ]),
       )))
 
 -- what stands at places of seconds of a day are seconds of a day
-pub places_of_day : (times xs : List ℕ) (before size : ℕ) (places : List ℤ) (k : ℕ) → IsSecondsOfDay times → IsSetOf nat_lt xs (IsAtSome times before size places k) → IsSecondsOfDay xs
+pub places_of_day : (times xs : List ℕ) (before size : ℕ) (places : List ℤ) (k : ℕ) → IsSecondsOfDay times
+    → IsSetOf nat_lt xs (IsAtSome times before size places k) → IsSecondsOfDay xs
 places_of_day times xs before size places k day set = record {
   rises = set.rises;
-  below_a_day = λ i d l. (let h = (set.exact (get_or xs i d)).0 (Contains-get_or xs i d l) in subst (λ s. s < 86_400) h.1.1.1.1 (day.below_a_day h.1.1.0 0 h.1.1.1.0));
+  below_a_day = λ i d l. (let h = (set.exact (get_or xs i d)).0 (Contains-get_or xs i d l) in
+      subst (λ s. s < 86_400) h.1.1.1.1 (day.below_a_day h.1.1.0 0 h.1.1.1.0));
 }
 
 -- ---- the rank of a time among those of its day
@@ -209,7 +227,8 @@ module _ (times : List ℕ) (test : ℕ → Bool) (bound : ℕ) (set : IsSetOf n
       ))
 
   counts_same : (n : ℕ) → n ≤ bound → count_seconds (λ s. nat_lt s bound && test s) n ≡ count_seconds test n
-  counts_same n few = count_seconds-same (λ s. nat_lt s bound && test s) test n (λ s l. (let m : s < bound = omega (arith, l, few) in let e : nat_lt s bound ≡ true = grind (arith, nat_tests) in rw e refl))
+  counts_same n few = count_seconds-same (λ s. nat_lt s bound && test s) test n
+      (λ s l. (let m : s < bound = omega (arith, l, few) in let e : nat_lt s bound ≡ true = grind (arith, nat_tests) in rw e refl))
 
   -- the place of a time is its rank
   pub rank_at : (r : ℕ) → r < length times → (get_or times r 0 < bound) × IsTrue (test (get_or times r 0)) × (count_seconds test (get_or times r 0) ≡ r)
@@ -220,17 +239,23 @@ module _ (times : List ℕ) (test : ℕ → Bool) (bound : ℕ) (set : IsSetOf n
       (own.0, own.1, omega (arith, to, counts_same (x + 1) (omega (arith, own.0)), below_more test x own.1))
 
   pub count_is_length : count_seconds test bound ≡ length times
-  count_is_length = sym (counts_same bound (omega arith)) ∙ seconds_whole (λ s. nat_lt s bound && test s) times bounded_set bound (λ k d l. ((set.exact (get_or times k d)).0 (Contains-get_or times k d l)).0)
+  count_is_length = sym (counts_same bound (omega arith)) ∙ seconds_whole (λ s. nat_lt s bound && test s) times bounded_set bound
+      (λ k d l. ((set.exact (get_or times k d)).0 (Contains-get_or times k d l)).0)
 
   -- the times at the listed places are those whose rank is listed
   pub at_some_is : (rule : Rule) (before size : ℕ) → is_absent rule.by_set_pos ≡ false → (s : ℕ)
-      → IsAtSome times before size rule.by_set_pos (length rule.by_set_pos) s ↔ ((s < bound) × IsTrue (test s) × IsTrue (is_rank_listed rule (before + count_seconds test s) size))
+      → IsAtSome times before size rule.by_set_pos (length rule.by_set_pos) s
+      ↔ ((s < bound) × IsTrue (test s) × IsTrue (is_rank_listed rule (before + count_seconds test s) size))
   at_some_is rule before size stands s = (
     λ h. (let at = h.1.1 in
         let own = rank_at at.0 at.1.0 in
         let e : get_or times at.0 0 ≡ s = at.1.1 in
-        let rank : count_seconds test s ≡ at.0 = ap (count_seconds test) (sym e) ∙ own.2 in
-        (subst (λ x. x < bound) e own.0, subst (λ x. IsTrue (test x)) e own.1, rw rank ((listed_is rule (before + at.0) size stands).1 (h.0, (h.1.0, at.1.2))))),
+        let rank : count_seconds test s ≡ at.0 = ap (count_seconds test) (sym e) ∙ own.2 in (
+          subst (λ x. x < bound) e own.0,
+          subst (λ x. IsTrue (test x)) e own.1,
+          rw rank
+              ((listed_is rule (before + at.0) size stands).1 (h.0, (h.1.0, at.1.2))),
+        )),
     λ h. (let c = (set.exact s).1 (h.0, h.1) in
         let e : get_or times c.0 0 ≡ s = get_or_default times c.0 0 s c.1 ∙ c.2 in
         let rank : count_seconds test s ≡ c.0 = ap (count_seconds test) (sym e) ∙ (rank_at c.0 c.1).2 in
@@ -262,7 +287,8 @@ module _ (rule : Rule) (kind : Kind) (start d : ℤ) (coarse : is_whole_days rul
   candidate_is s low = candidates_are_days_and_times rule kind start d s coarse low ∙ time_decides _ _ candidate
 
   parts_at : (s : ℕ) → s < seconds_of kind
-      → (rank_by_parts rule kind start (moment_at kind d s) ≡ days_before rule (day_part kind start) d * times_before rule kind start (seconds_of kind) + times_before rule kind start s)
+      → (rank_by_parts rule kind start (moment_at kind d s) ≡ days_before rule (day_part kind start) d * times_before rule kind start
+      (seconds_of kind) + times_before rule kind start s)
       × (size_by_parts rule kind start (moment_at kind d s) ≡ days_of_unit rule (day_part kind start) d * times_before rule kind start (seconds_of kind))
   parts_at s low = (rw (coarse, day_at kind d s low, second_at kind d s low) refl, rw (coarse, day_at kind d s low) refl)
 
@@ -273,23 +299,41 @@ module _ (rule : Rule) (kind : Kind) (start d : ℤ) (coarse : is_whole_days rul
       let next = next_of_unit rule d in
       let within = in_unit rule d coarse in
       let test : ℤ → Bool = λ z. date_parts_hold (filled rule Days (day_part kind start)) z in
-      let holds : test d ≡ true = and_right (interval_holds rule Days (day_part kind start) d) (date_parts_hold (filled rule Days (day_part kind start)) d) candidate in
+      let holds : test d ≡ true = and_right (interval_holds rule Days (day_part kind start) d)
+      (date_parts_hold (filled rule Days (day_part kind start)) d) candidate in
       let n : ℕ = nat_abs (d -ℤ first) in
       let m : ℕ = nat_abs (next -ℤ d) - 1 in
       let e : nat_abs (next -ℤ first) ≡ n + suc m = omega (arith, ints, within.0, within.1) in
       let at : first +ℤ pos n ≡ d = omega (arith, ints, within.0) in
-      omega (arith, ap (count_from test first) e, count_from-split test first n (suc m), ap (λ z. count_from test z (suc m)) at, count_from-first test d m, ap one holds)
+      omega (
+        arith,
+        ap (count_from test first) e,
+        count_from-split test first n (suc m),
+        ap (λ z. count_from test z (suc m)) at,
+        count_from-first test d m,
+        ap one holds,
+      )
 
   -- a second of the day is chosen exactly where the time parts allow it and its rank is listed
   pub chosen_is_listed : (s : ℕ) → s < seconds_of kind
       → IsTrue (is_chosen rule kind start (moment_at kind d s))
-      ↔ (IsTrue (time_holds rule kind start s) × IsTrue (is_rank_listed rule (days_before rule (day_part kind start) d * times_before rule kind start (seconds_of kind) + times_before rule kind start s) (days_of_unit rule (day_part kind start) d * times_before rule kind start (seconds_of kind))))
+      ↔ (IsTrue (time_holds rule kind start s) × IsTrue
+      (is_rank_listed rule (days_before rule (day_part kind start) d * times_before rule kind start (seconds_of kind)
+      + times_before rule kind start s) (days_of_unit rule (day_part kind start) d * times_before rule kind start (seconds_of kind))))
   chosen_is_listed s low =
       let parts = parts_at s low in (
-        λ h. elim (is_candidate rule kind start (moment_at kind d s)) as (λ b. is_candidate rule kind start (moment_at kind d s) ≡ b → IsTrue (time_holds rule kind start s) × IsTrue (is_rank_listed rule (days_before rule (day_part kind start) d * times_before rule kind start (seconds_of kind) + times_before rule kind start s) (days_of_unit rule (day_part kind start) d * times_before rule kind start (seconds_of kind)))) [
-          | true ↦ λ e. (sym (candidate_is s low) ∙ e, rw (parts.0, parts.1) at (sym (chosen_candidate rule kind start (moment_at kind d s) (coarse_taken rule.freq kind coarse) e) ∙ h))
-          | false ↦ λ e. absurd (false≢true (sym (chosen_no_candidate rule kind start (moment_at kind d s) e) ∙ h))
-        ] refl,
+        λ h. elim (is_candidate rule kind start (moment_at kind d s)) as
+            (λ b. is_candidate rule kind start (moment_at kind d s) ≡ b → IsTrue (time_holds rule kind start s)
+            × IsTrue (is_rank_listed rule
+            (days_before rule (day_part kind start) d * times_before rule kind start (seconds_of kind) + times_before rule kind start s)
+            (days_of_unit rule (day_part kind start) d * times_before rule kind start (seconds_of kind)))) [
+              | true ↦ λ e. (
+                sym (candidate_is s low) ∙ e,
+                rw (parts.0, parts.1) at
+                    (sym (chosen_candidate rule kind start (moment_at kind d s) (coarse_taken rule.freq kind coarse) e) ∙ h),
+              )
+              | false ↦ λ e. absurd (false≢true (sym (chosen_no_candidate rule kind start (moment_at kind d s) e) ∙ h))
+            ] refl,
         λ h. chosen_candidate rule kind start (moment_at kind d s) (coarse_taken rule.freq kind coarse) (candidate_is s low ∙ h.0) ∙ rw (parts.0, parts.1) h.1,
       )
 
@@ -318,7 +362,8 @@ module _ (rule : Rule) (kind : Kind) (start d : ℤ) (coarse : is_whole_days rul
 
 -- ---- the days of a unit by their places
 
-pub candidate_at : (r : Ruling) (days : List ℤ) (day : ℤ) (i place count : ℕ) → AreUnitDays r days → i < length days → day ≡ get_or days i (pos 0) → place ≡ i → count ≡ length days → IsCandidateAt r day place count
+pub candidate_at : (r : Ruling) (days : List ℤ) (day : ℤ) (i place count : ℕ) → AreUnitDays r days → i < length days → day ≡ get_or days i (pos 0)
+    → place ≡ i → count ≡ length days → IsCandidateAt r day place count
 candidate_at r days day i place count u low at same all =
     let p = places_are_counts r.rule (day_part r.kind r.start) u.0 days i u.1 low in
     rw at (record {
@@ -332,12 +377,22 @@ few_of_unit : (rule : Rule) (start_day d : ℤ) → is_whole_days rule.freq ≡ 
 few_of_unit rule start_day d coarse =
     let u = unit_number rule.freq rule.week_start Days d in
     let n = unit_length rule.freq rule.week_start u coarse in
-    omega (arith, ints, n.1, n.2, count_from-le (date_parts_hold (filled rule Days start_day)) (first_of_unit rule d) (nat_abs (next_of_unit rule d -ℤ first_of_unit rule d)))
+    omega (
+      arith,
+      ints,
+      n.1,
+      n.2,
+      count_from-le (date_parts_hold (filled rule Days start_day)) (first_of_unit rule d)
+          (nat_abs (next_of_unit rule d -ℤ first_of_unit rule d)),
+    )
 
 -- a day comes among those of its unit
 pub place_low : (r : Ruling) (day : ℤ) (place count : ℕ) → is_whole_days r.rule.freq ≡ true → IsCandidateAt r day place count → (place < count) × (count ≤ 366)
-place_low r day place count coarse at =
-    (omega (arith, at.before, at.all, more_on_day r.rule r.kind r.start day coarse at.candidate), omega (arith, at.all, few_of_unit r.rule (day_part r.kind r.start) day coarse))
+place_low r day place count coarse at = (
+  omega (arith, at.before, at.all, more_on_day r.rule r.kind r.start day coarse at.candidate),
+  omega
+      (arith, at.all, few_of_unit r.rule (day_part r.kind r.start) day coarse),
+)
 
 -- the candidates of some days of a unit are not many
 pub few_candidates : (days : ℕ) (times shown : List ℕ) → days ≤ 366 → shown ≡ times → IsSecondsOfDay times → days * length shown ≤ 31_622_400

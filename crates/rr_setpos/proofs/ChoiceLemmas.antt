@@ -1,12 +1,9 @@
 -- Candidates by the day of their start, and chosen moments of a rule without set positions.
 use Rattle.std.proofs.Common.{◌≡◌, Bool, true, false, ◌&&◌, ◌||◌, List, [], ℤ, refl}
 use Rattle.rr_model.specs.Rule.Validity.{is_absent}
-use Rattle.rr_model.specs.Moment.{day_part}
-use Rattle.rr_model.specs.Rule.Filled.{filled}
-use Rattle.rr_model.specs.Rule.Candidate.{date_parts_hold, is_candidate}
+use Rattle.rr_model.specs.Rule.Candidate.{is_candidate}
 use Rattle.rr_model.specs.Rule.Chosen.{is_chosen}
 use Rattle.rr_model.specs.declared.kind.Kind.{Kind}
-use Rattle.rr_model.specs.declared.kind.Kind.TheVariants.{Days, Moments}
 use Rattle.rr_model.specs.declared.rule.Rule.{Rule}
 
 and_true : (b : Bool) → (b && true) ≡ b

@@ -36,11 +36,17 @@ some_from p t end low passes =
 module _ (rule : Rule) (kind : Kind) (start : ℤ) where
   -- the rank of a candidate is below the size of its unit
   pub rank_below : (t : ℤ) → is_candidate rule kind start t ≡ true → rank_in_unit rule kind start t < size_of_unit rule kind start t
-  rank_below t passes = omega (arith, (positions_are_ranks rule kind start t passes).1, some_from (is_candidate rule kind start) t (unit_end rule kind t) (within_unit rule kind t).1 passes)
+  rank_below t passes = omega (
+    arith,
+    (positions_are_ranks rule kind start t passes).1,
+    some_from (is_candidate rule kind start) t
+        (unit_end rule kind t) (within_unit rule kind t).1 passes,
+  )
 
   module _ (unit place : ℤ) where
     pub nth_some : (t : ℤ) (rank size : ℕ) → unit_number rule.freq rule.week_start kind t ≡ unit → is_candidate rule kind start t ≡ true
-        → rank_in_unit rule kind start t ≡ rank → size_of_unit rule kind start t ≡ size → IsPlaceOf place size rank → IsNthOfUnit rule kind start unit place (Some t)
+        → rank_in_unit rule kind start t ≡ rank → size_of_unit rule kind start t ≡ size → IsPlaceOf place size rank
+        → IsNthOfUnit rule kind start unit place (Some t)
     nth_some t rank size in_it passes same_rank same_size is_place =
         let p = positions_are_ranks rule kind start t passes in (
           in_it,
@@ -51,7 +57,8 @@ module _ (rule : Rule) (kind : Kind) (start : ℤ) where
           ],
         )
 
-    pub nth_none : (size : ℕ) → ((t : ℤ) → unit_number rule.freq rule.week_start kind t ≡ unit → is_candidate rule kind start t ≡ true → size_of_unit rule kind start t ≡ size)
+    pub nth_none : (size : ℕ) → ((t : ℤ) → unit_number rule.freq rule.week_start kind t ≡ unit → is_candidate rule kind start t ≡ true
+        → size_of_unit rule kind start t ≡ size)
         → IsRankOf place size None → IsNthOfUnit rule kind start unit place None
     nth_none size sizes none = λ t in_it passes has.
         let p = positions_are_ranks rule kind start t passes in
@@ -64,7 +71,8 @@ module _ (rule : Rule) (kind : Kind) (start : ℤ) where
     -- a unit that does not fit the interval has no candidate
     pub none_unfit : divides rule.interval (unit -ℤ unit_number rule.freq rule.week_start kind start) ≡ false → IsNthOfUnit rule kind start unit place None
     none_unfit unfit = λ t in_it passes has.
-        false≢true (sym unfit ∙ ap (λ u. divides rule.interval (u -ℤ unit_number rule.freq rule.week_start kind start)) (sym in_it) ∙ (candidate_parts rule kind start t passes).0)
+        false≢true (sym unfit ∙ ap (λ u. divides rule.interval (u -ℤ unit_number rule.freq rule.week_start kind start)) (sym in_it)
+        ∙ (candidate_parts rule kind start t passes).0)
 
 -- ---- units of whole days
 
@@ -86,8 +94,10 @@ module _ (rule : Rule) (kind : Kind) (start unit : ℤ) (coarse : is_whole_days 
         let many : nat_abs (next_of_unit rule own -ℤ first_of_unit rule own) ≡ count = omega (arith, ints, begins, ends) in
         coarse_size rule kind start coarse t passes ∙ rw (many, begins) refl
 
-    module _ (k s : ℕ) (within : k < count) (low : s < seconds_of kind) (fits : divides rule.interval (unit -ℤ unit_number rule.freq rule.week_start kind start) ≡ true)
-        (dates : date_parts_hold (filled rule Days (day_part kind start)) (unit_start rule.freq rule.week_start Days unit +ℤ pos k) ≡ true) (times : time_holds rule kind start s ≡ true) where
+    module _ (k s : ℕ) (within : k < count) (low : s < seconds_of kind)
+        (fits : divides rule.interval (unit -ℤ unit_number rule.freq rule.week_start kind start) ≡ true)
+        (dates : date_parts_hold (filled rule Days (day_part kind start)) (unit_start rule.freq rule.week_start Days unit +ℤ pos k) ≡ true)
+        (times : time_holds rule kind start s ≡ true) where
       abbrev pub there : ℤ
       there = moment_at kind (first +ℤ pos k) s
 
@@ -102,12 +112,15 @@ module _ (rule : Rule) (kind : Kind) (start unit : ℤ) (coarse : is_whole_days 
 
       pub candidate_there : is_candidate rule kind start (moment_at kind (first +ℤ pos k) s) ≡ true
       candidate_there =
-          let own : unit_number rule.freq rule.week_start kind start ≡ unit_number rule.freq rule.week_start Days (day_part kind start) = unit_of_day rule.freq rule.week_start kind start coarse in
+          let own : unit_number rule.freq rule.week_start kind start ≡ unit_number rule.freq rule.week_start Days (day_part kind start) =
+          unit_of_day rule.freq rule.week_start kind start coarse in
           let fit : interval_holds rule Days (day_part kind start) (first +ℤ pos k) ≡ true =
-          ap (λ u. divides rule.interval (u -ℤ unit_number rule.freq rule.week_start Days (day_part kind start))) unit_of_it ∙ ap (λ u. divides rule.interval (unit -ℤ u)) (sym own) ∙ fits in
+          ap (λ u. divides rule.interval (u -ℤ unit_number rule.freq rule.week_start Days (day_part kind start))) unit_of_it
+          ∙ ap (λ u. divides rule.interval (unit -ℤ u)) (sym own) ∙ fits in
           candidates_are_days_and_times rule kind start (first +ℤ pos k) s coarse low ∙ rw (fit, dates, times) refl
 
-      pub rank_there : rank_in_unit rule kind start (moment_at kind (first +ℤ pos k) s) ≡ days_among rule (day_part kind start) first k * times_before rule kind start (seconds_of kind) + times_before rule kind start s
+      pub rank_there : rank_in_unit rule kind start (moment_at kind (first +ℤ pos k) s)
+          ≡ days_among rule (day_part kind start) first k * times_before rule kind start (seconds_of kind) + times_before rule kind start s
       rank_there =
           let begins : first_of_unit rule (first +ℤ pos k) ≡ first = ap (unit_start rule.freq rule.week_start Days) unit_of_it in
           let far : nat_abs ((first +ℤ pos k) -ℤ first_of_unit rule (first +ℤ pos k)) ≡ k = omega (arith, ints, begins) in
@@ -121,29 +134,38 @@ module _ (rule : Rule) (start unit : ℤ) (fine : is_whole_days rule.freq ≡ fa
 
   -- a moment of the unit lies on the unit's day, and the unit begins there
   pub unit_place : (t : ℤ) → unit_number rule.freq rule.week_start Moments t ≡ unit
-      → (day_part Moments (unit_start rule.freq rule.week_start Moments unit) ≡ day_part Moments t) × (second_part Moments (unit_start rule.freq rule.week_start Moments unit) ≡ begin_in_day rule (second_part Moments t))
+      → (day_part Moments (unit_start rule.freq rule.week_start Moments unit) ≡ day_part Moments t)
+      × (second_part Moments (unit_start rule.freq rule.week_start Moments unit) ≡ begin_in_day rule (second_part Moments t))
   unit_place t in_it =
       let d = day_part Moments t in
       let s = second_part Moments t in
       let bounds = begin_bounds rule.freq s (second_part-below Moments t) in
       let low : begin_in_day rule s < 86_400 = omega (arith, bounds.0, second_part-below Moments t) in
       let at : unit_start rule.freq rule.week_start Moments unit ≡ moment_at Moments d (begin_in_day rule s) =
-      ap (unit_start rule.freq rule.week_start Moments) (sym in_it ∙ ap (unit_number rule.freq rule.week_start Moments) (moment_is Moments t)) ∙ fine_begin rule.freq rule.week_start d s fine in
-      (ap (day_part Moments) at ∙ day_part-moment_at d (begin_in_day rule s) low, ap (second_part Moments) at ∙ second_part-moment_at d (begin_in_day rule s) low)
+      ap (unit_start rule.freq rule.week_start Moments) (sym in_it ∙ ap (unit_number rule.freq rule.week_start Moments) (moment_is Moments t))
+      ∙ fine_begin rule.freq rule.week_start d s fine in (
+        ap (day_part Moments) at ∙ day_part-moment_at d (begin_in_day rule s) low,
+        ap (second_part Moments) at
+            ∙ second_part-moment_at d (begin_in_day rule s) low,
+      )
 
   begin_in_unit : unit_number rule.freq rule.week_start Moments (unit_start rule.freq rule.week_start Moments unit) ≡ unit
-  begin_in_unit = (units_are_stretches rule.freq rule.week_start Moments begin unit).1 (omega (arith, ints), omega (arith, ints, fine_next rule.freq rule.week_start unit fine, begin_bounds rule.freq 0 (omega arith)))
+  begin_in_unit = (units_are_stretches rule.freq rule.week_start Moments begin unit).1
+      (omega (arith, ints), omega (arith, ints, fine_next rule.freq rule.week_start unit fine, begin_bounds rule.freq 0 (omega arith)))
 
   -- the unit ends on its day
   pub unit_within : second_part Moments (unit_start rule.freq rule.week_start Moments unit) + unit_seconds rule.freq ≤ 86_400
   unit_within = omega (arith, (unit_place begin begin_in_unit).1, (begin_bounds rule.freq (second_part Moments begin) (second_part-below Moments begin)).2)
 
-  pub none_on_day : (place : ℤ) → date_parts_hold (filled rule Days (day_part Moments start)) (day_part Moments (unit_start rule.freq rule.week_start Moments unit)) ≡ false → IsNthOfUnit rule Moments start unit place None
+  pub none_on_day : (place : ℤ) → date_parts_hold (filled rule Days (day_part Moments start))
+      (day_part Moments (unit_start rule.freq rule.week_start Moments unit)) ≡ false → IsNthOfUnit rule Moments start unit place None
   none_on_day place fails = λ t in_it passes has.
       false≢true (sym fails ∙ ap (date_parts_hold (filled rule Moments start)) (unit_place t in_it).0 ∙ (candidate_parts rule Moments start t passes).1)
 
   pub size_in_day : (t : ℤ) → unit_number rule.freq rule.week_start Moments t ≡ unit → is_candidate rule Moments start t ≡ true
-      → size_of_unit rule Moments start t ≡ times_before rule Moments start (second_part Moments (unit_start rule.freq rule.week_start Moments unit) + unit_seconds rule.freq) - times_before rule Moments start (second_part Moments (unit_start rule.freq rule.week_start Moments unit))
+      → size_of_unit rule Moments start t ≡ times_before rule Moments start
+      (second_part Moments (unit_start rule.freq rule.week_start Moments unit) + unit_seconds rule.freq) - times_before rule Moments start
+      (second_part Moments (unit_start rule.freq rule.week_start Moments unit))
   size_in_day t in_it passes = (of_moments rule start t fine passes).1 ∙ rw (unit_place t in_it).1 refl
 
   before_all : (m n : ℕ) → m ≤ n → times_before rule Moments start m ≤ times_before rule Moments start n
@@ -152,20 +174,33 @@ module _ (rule : Rule) (start unit : ℤ) (fine : is_whole_days rule.freq ≡ fa
       omega (arith, count_seconds-mono (λ s. time_holds rule Moments start s) m (n - m), ap (times_before rule Moments start) e)
 
   -- a rank below the unit's end is one of the day
-  pub rank_in_day : (rank : ℕ) → rank < times_before rule Moments start (second_part Moments (unit_start rule.freq rule.week_start Moments unit) + unit_seconds rule.freq) - times_before rule Moments start (second_part Moments (unit_start rule.freq rule.week_start Moments unit))
-      → times_before rule Moments start (second_part Moments (unit_start rule.freq rule.week_start Moments unit)) + rank < times_before rule Moments start 86_400
+  pub rank_in_day : (rank : ℕ) → rank < times_before rule Moments start
+      (second_part Moments (unit_start rule.freq rule.week_start Moments unit) + unit_seconds rule.freq) - times_before rule Moments start
+      (second_part Moments (unit_start rule.freq rule.week_start Moments unit))
+      → times_before rule Moments start (second_part Moments (unit_start rule.freq rule.week_start Moments unit))
+      + rank < times_before rule Moments start 86_400
   rank_in_day rank low = omega (arith, low, before_all (second_part Moments begin + unit_seconds rule.freq) 86_400 unit_within)
 
   module _ (s rank : ℕ) (low : s < 86_400) (fits : divides rule.interval (unit -ℤ unit_number rule.freq rule.week_start Moments start) ≡ true)
-      (dates : date_parts_hold (filled rule Days (day_part Moments start)) (day_part Moments (unit_start rule.freq rule.week_start Moments unit)) ≡ true) (times : time_holds rule Moments start s ≡ true)
-      (few : rank < times_before rule Moments start (second_part Moments (unit_start rule.freq rule.week_start Moments unit) + unit_seconds rule.freq) - times_before rule Moments start (second_part Moments (unit_start rule.freq rule.week_start Moments unit)))
-      (at_rank : times_before rule Moments start s ≡ times_before rule Moments start (second_part Moments (unit_start rule.freq rule.week_start Moments unit)) + rank) where
+      (dates : date_parts_hold (filled rule Days (day_part Moments start)) (day_part Moments (unit_start rule.freq rule.week_start Moments unit))
+      ≡ true) (times : time_holds rule Moments start s ≡ true)
+      (few : rank < times_before rule Moments start
+      (second_part Moments (unit_start rule.freq rule.week_start Moments unit) + unit_seconds rule.freq) - times_before rule Moments start
+      (second_part Moments (unit_start rule.freq rule.week_start Moments unit)))
+      (at_rank : times_before rule Moments start s ≡ times_before rule Moments start
+      (second_part Moments (unit_start rule.freq rule.week_start Moments unit)) + rank) where
     abbrev d : ℤ
     d = day_part Moments (unit_start rule.freq rule.week_start Moments unit)
 
     after : second_part Moments (unit_start rule.freq rule.week_start Moments unit) ≤ s
     after = elim (cases_lt s (second_part Moments begin)) [
-      | inl l ↦ absurd (omega (arith, before_all (s + 1) (second_part Moments begin) (omega (arith, l)), below_more (λ k. time_holds rule Moments start k) s times, at_rank))
+      | inl l ↦ absurd (omega (
+        arith,
+        before_all (s + 1) (second_part Moments begin) (omega (arith, l)),
+        below_more
+            (λ k. time_holds rule Moments start k) s times,
+        at_rank,
+      ))
       | inr g ↦ g
     ]
 
@@ -175,10 +210,12 @@ module _ (rule : Rule) (start unit : ℤ) (fine : is_whole_days rule.freq ≡ fa
       | inr g ↦ absurd (omega (arith, before_all (second_part Moments begin + unit_seconds rule.freq) s g, at_rank, few))
     ]
 
-    pub in_fine_unit : unit_number rule.freq rule.week_start Moments (moment_at Moments (day_part Moments (unit_start rule.freq rule.week_start Moments unit)) s) ≡ unit
+    pub in_fine_unit : unit_number rule.freq rule.week_start Moments
+        (moment_at Moments (day_part Moments (unit_start rule.freq rule.week_start Moments unit)) s) ≡ unit
     in_fine_unit =
         let at = moment_is Moments begin in
-        (units_are_stretches rule.freq rule.week_start Moments (moment_at Moments (day_part Moments begin) s) unit).1 (omega (arith, ints, at, after), omega (arith, ints, at, before, fine_next rule.freq rule.week_start unit fine))
+        (units_are_stretches rule.freq rule.week_start Moments (moment_at Moments (day_part Moments begin) s) unit).1
+        (omega (arith, ints, at, after), omega (arith, ints, at, before, fine_next rule.freq rule.week_start unit fine))
 
     pub candidate_in_fine : is_candidate rule Moments start (moment_at Moments (day_part Moments (unit_start rule.freq rule.week_start Moments unit)) s) ≡ true
     unfolding is_candidate
@@ -186,7 +223,8 @@ module _ (rule : Rule) (start unit : ℤ) (fine : is_whole_days rule.freq ≡ fa
         and_true _ _ _
         (ap (λ u. divides rule.interval (u -ℤ unit_number rule.freq rule.week_start Moments start)) in_fine_unit ∙ fits)
         (ap (date_parts_hold (filled rule Moments start)) (day_part-moment_at (day_part Moments begin) s low) ∙ dates)
-        (time_parts_hold-at (filled rule Moments start) (day_part Moments begin) s low ∙ sym (time_parts_hold-at (filled rule Moments start) (pos 0) s low) ∙ times)
+        (time_parts_hold-at (filled rule Moments start) (day_part Moments begin) s low
+        ∙ sym (time_parts_hold-at (filled rule Moments start) (pos 0) s low) ∙ times)
 
     pub rank_in_fine : rank_in_unit rule Moments start (moment_at Moments (day_part Moments (unit_start rule.freq rule.week_start Moments unit)) s) ≡ rank
     rank_in_fine =
@@ -219,14 +257,16 @@ begin_day Monthly w kind u coarse = day_at kind _ 0 (some_seconds kind)
 begin_day Yearly w kind u coarse = day_at kind _ 0 (some_seconds kind)
 
 -- where a unit shorter than a day begins, and on which day
-pub unit_begins : (rule : Rule) (kind : Kind) (unit made at day : ℤ) → is_whole_days rule.freq ≡ false → made ≡ unit_start rule.freq 0 Moments unit → at ≡ made → kind ≡ Moments → day ≡ day_part kind at
+pub unit_begins : (rule : Rule) (kind : Kind) (unit made at day : ℤ) → is_whole_days rule.freq ≡ false → made ≡ unit_start rule.freq 0 Moments unit
+    → at ≡ made → kind ≡ Moments → day ≡ day_part kind at
     → (at ≡ unit_start rule.freq rule.week_start Moments unit) × (day ≡ day_part Moments (unit_start rule.freq rule.week_start Moments unit))
 unit_begins rule kind unit made at day fine is same moments of_day =
     let there = same ∙ is ∙ fine_start rule.freq rule.week_start unit fine in
     (there, of_day ∙ ap (λ k. day_part k at) moments ∙ ap (day_part Moments) there)
 
 -- the second of its day at which it begins, and how many times of the day come before it and before the next unit
-pub unit_counts : (rule : Rule) (kind : Kind) (start unit at : ℤ) (second seconds before end : ℕ) → kind ≡ Moments → at ≡ unit_start rule.freq rule.week_start Moments unit → second ≡ second_part Moments at → seconds ≡ unit_seconds rule.freq
+pub unit_counts : (rule : Rule) (kind : Kind) (start unit at : ℤ) (second seconds before end : ℕ) → kind ≡ Moments
+    → at ≡ unit_start rule.freq rule.week_start Moments unit → second ≡ second_part Moments at → seconds ≡ unit_seconds rule.freq
     → before ≡ times_before rule kind start second → end ≡ times_before rule kind start (second + seconds)
     → (second ≡ second_part Moments (unit_start rule.freq rule.week_start Moments unit))
     × (before ≡ times_before rule Moments start (second_part Moments (unit_start rule.freq rule.week_start Moments unit)))

@@ -47,7 +47,8 @@ count_from-same g h q (suc n) same =
 
 pub count_seconds-same : (f g : ℕ → Bool) (n : ℕ) → ((s : ℕ) → s < n → f s ≡ g s) → count_seconds f n ≡ count_seconds g n
 count_seconds-same f g zero same = count_seconds-zero f ∙ sym (count_seconds-zero g)
-count_seconds-same f g (suc n) same = count_seconds-suc f n ∙ (rw (same n (omega arith), count_seconds-same f g n (λ s l. same s (omega arith))) (sym (count_seconds-suc g n)))
+count_seconds-same f g (suc n) same = count_seconds-suc f n ∙
+    (rw (same n (omega arith), count_seconds-same f g n (λ s l. same s (omega arith))) (sym (count_seconds-suc g n)))
 
 pub count_seconds-mono : (f : ℕ → Bool) (n k : ℕ) → count_seconds f n ≤ count_seconds f (n + k)
 count_seconds-mono f n zero = let e : n + 0 ≡ n = omega arith in rw e (omega arith)
@@ -81,16 +82,27 @@ module _ (m : ℕ) (p day : ℤ → Bool) (second : ℕ → Bool) (product : IsP
   one_day d (suc s) h =
       let r = one_day d s (omega arith) in
       let e = product d s (omega arith) in
-      count_from-suc p (d *ℤ pos m) s ∙ omega (arith, r, ap one e, part-more (day d) (second s) (count_seconds second s), ap (part (day d)) (count_seconds-suc second s))
+      count_from-suc p (d *ℤ pos m) s ∙ omega
+      (arith, r, ap one e, part-more (day d) (second s) (count_seconds second s), ap (part (day d)) (count_seconds-suc second s))
 
   whole_days : (a : ℤ) (n : ℕ) → count_from p (a *ℤ pos m) (n * m) ≡ count_from day a n * count_seconds second m
   whole_days a zero = let e : 0 * m ≡ 0 = omega arith in rw (e, count_from-zero, count_from-zero) (omega arith)
   whole_days a (suc n) =
       let e : suc n * m ≡ n * m + m = omega arith in
       let f : (a *ℤ pos m) +ℤ pos (n * m) ≡ (a +ℤ pos n) *ℤ pos m = sym (*ℤ-add a (pos n) m) in
-      ap (count_from p (a *ℤ pos m)) e ∙ count_from-split p (a *ℤ pos m) (n * m) m ∙ omega (arith, whole_days a n, ap (λ z. count_from p z m) f, one_day (a +ℤ pos n) m (omega arith), part-times (day (a +ℤ pos n)) (count_from day a n) (count_seconds second m), ap (λ x. x * count_seconds second m) (count_from-suc day a n))
+      ap (count_from p (a *ℤ pos m)) e ∙ count_from-split p (a *ℤ pos m) (n * m) m
+      ∙ omega (
+        arith,
+        whole_days a n,
+        ap (λ z. count_from p z m) f,
+        one_day (a +ℤ pos n) m (omega arith),
+        part-times (day (a +ℤ pos n))
+            (count_from day a n) (count_seconds second m),
+        ap (λ x. x * count_seconds second m) (count_from-suc day a n),
+      )
 
-  pub count_product : (a : ℤ) (n s : ℕ) → s ≤ m → count_from p (a *ℤ pos m) (n * m + s) ≡ count_from day a n * count_seconds second m + cond (day (a +ℤ pos n)) (count_seconds second s) 0
+  pub count_product : (a : ℤ) (n s : ℕ) → s ≤ m → count_from p (a *ℤ pos m) (n * m + s) ≡ count_from day a n * count_seconds second m
+      + cond (day (a +ℤ pos n)) (count_seconds second s) 0
   count_product a n s h =
       let f : (a *ℤ pos m) +ℤ pos (n * m) ≡ (a +ℤ pos n) *ℤ pos m = sym (*ℤ-add a (pos n) m) in
       count_from-split p (a *ℤ pos m) (n * m) s ∙ omega (arith, whole_days a n, ap (λ z. count_from p z s) f, one_day (a +ℤ pos n) s h)
@@ -113,13 +125,21 @@ module _ (m : ℕ) (p outer inner : ℕ → Bool) (split : IsSplit m p outer inn
   one_turn x (suc s) h =
       let r = one_turn x s (omega arith) in
       let e = split x s (omega arith) in
-      count_seconds-suc (λ k. p (x * m + k)) s ∙ omega (arith, r, ap one e, part-more (outer x) (inner s) (count_seconds inner s), ap (part (outer x)) (count_seconds-suc inner s))
+      count_seconds-suc (λ k. p (x * m + k)) s ∙ omega
+      (arith, r, ap one e, part-more (outer x) (inner s) (count_seconds inner s), ap (part (outer x)) (count_seconds-suc inner s))
 
   whole_turns : (n : ℕ) → count_seconds p (n * m) ≡ count_seconds outer n * count_seconds inner m
   whole_turns zero = let e : 0 * m ≡ 0 = omega arith in rw (e, count_seconds-zero p, count_seconds-zero outer) (omega arith)
   whole_turns (suc n) =
       let e : suc n * m ≡ n * m + m = omega arith in
-      ap (count_seconds p) e ∙ count_seconds-split p (n * m) m ∙ omega (arith, whole_turns n, one_turn n m (omega arith), part-times (outer n) (count_seconds outer n) (count_seconds inner m), ap (λ x. x * count_seconds inner m) (count_seconds-suc outer n))
+      ap (count_seconds p) e ∙ count_seconds-split p (n * m) m ∙ omega (
+        arith,
+        whole_turns n,
+        one_turn n m (omega arith),
+        part-times (outer n) (count_seconds outer n) (count_seconds inner m),
+        ap
+            (λ x. x * count_seconds inner m) (count_seconds-suc outer n),
+      )
 
   pub count_turns : (n s : ℕ) → s ≤ m → count_seconds p (n * m + s) ≡ count_seconds outer n * count_seconds inner m + cond (outer n) (count_seconds inner s) 0
   count_turns n s h = count_seconds-split p (n * m) s ∙ omega (arith, whole_turns n, one_turn n s h)

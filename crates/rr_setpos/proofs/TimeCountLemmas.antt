@@ -38,8 +38,10 @@ and_assoc false b c = refl
 
 module _ (rule : Rule) where
   pub hour_turns : (minute second n : ℕ) → count_seconds (λ s. hour_second_allowed rule minute second s) n
-      ≡ count_seconds (λ k. number_allowed (wants_minute rule.freq) rule.by_minute minute k) (n / 60) * count_seconds (λ k. number_allowed (wants_second rule.freq) rule.by_second second k) 60
-      + cond (number_allowed (wants_minute rule.freq) rule.by_minute minute (n / 60)) (count_seconds (λ k. number_allowed (wants_second rule.freq) rule.by_second second k) (n % 60)) 0
+      ≡ count_seconds (λ k. number_allowed (wants_minute rule.freq) rule.by_minute minute k) (n / 60) * count_seconds
+      (λ k. number_allowed (wants_second rule.freq) rule.by_second second k) 60
+      + cond (number_allowed (wants_minute rule.freq) rule.by_minute minute (n / 60))
+      (count_seconds (λ k. number_allowed (wants_second rule.freq) rule.by_second second k) (n % 60)) 0
   hour_turns minute second n =
       let M : ℕ → Bool = λ k. number_allowed (wants_minute rule.freq) rule.by_minute minute k in
       let S : ℕ → Bool = λ k. number_allowed (wants_second rule.freq) rule.by_second second k in
@@ -50,16 +52,22 @@ module _ (rule : Rule) where
       (n / 60) (n % 60) (omega arith)
 
   pub day_turns : (hour minute second n : ℕ) → count_seconds (λ s. day_second_allowed rule hour minute second s) n
-      ≡ count_seconds (λ k. number_allowed (wants_hour rule.freq) rule.by_hour hour k) (n / 3_600) * count_seconds (λ s. hour_second_allowed rule minute second s) 3_600
+      ≡ count_seconds (λ k. number_allowed (wants_hour rule.freq) rule.by_hour hour k) (n / 3_600) * count_seconds
+      (λ s. hour_second_allowed rule minute second s) 3_600
       + cond (number_allowed (wants_hour rule.freq) rule.by_hour hour (n / 3_600)) (count_seconds (λ s. hour_second_allowed rule minute second s) (n % 3_600)) 0
   day_turns hour minute second n =
       let H : ℕ → Bool = λ k. number_allowed (wants_hour rule.freq) rule.by_hour hour k in
       let e : n ≡ n / 3_600 * 3_600 + n % 3_600 = omega arith in
       ap (count_seconds (λ s. day_second_allowed rule hour minute second s)) e
       ∙ count_turns 3_600 (λ s. day_second_allowed rule hour minute second s) H (λ s. hour_second_allowed rule minute second s)
-      (λ x s low. (let a : (x * 3_600 + s) / 3_600 ≡ x = omega (arith, low) in let b : (x * 3_600 + s) / 60 % 60 ≡ s / 60 = omega (arith, low) in let d : (x * 3_600 + s) % 60 ≡ s % 60 = omega (arith, low) in rw (a, b, d) (and_assoc (H x) (number_allowed (wants_minute rule.freq) rule.by_minute minute (s / 60)) (number_allowed (wants_second rule.freq) rule.by_second second (s % 60)))))
+      (λ x s low. (let a : (x * 3_600 + s) / 3_600 ≡ x = omega (arith, low) in let b : (x * 3_600 + s) / 60 % 60 ≡ s / 60 = omega (arith, low) in
+      let d : (x * 3_600 + s) % 60 ≡ s % 60 = omega (arith, low) in
+      rw (a, b, d) (and_assoc (H x) (number_allowed (wants_minute rule.freq) rule.by_minute minute (s / 60))
+      (number_allowed (wants_second rule.freq) rule.by_second second (s % 60)))))
       (n / 3_600) (n % 3_600) (omega arith)
 
-  pub times_of_day : (start : ℤ) (n : ℕ) → n ≤ 86_400 → times_before rule Moments start n ≡ count_seconds (λ s. day_second_allowed rule (hour_of Moments start) (minute_of Moments start) (second_of Moments start) s) n
-  times_of_day start n few = count_seconds-same (λ s. time_holds rule Moments start s) (λ s. day_second_allowed rule (hour_of Moments start) (minute_of Moments start) (second_of Moments start) s) n
+  pub times_of_day : (start : ℤ) (n : ℕ) → n ≤ 86_400 → times_before rule Moments start n
+      ≡ count_seconds (λ s. day_second_allowed rule (hour_of Moments start) (minute_of Moments start) (second_of Moments start) s) n
+  times_of_day start n few = count_seconds-same (λ s. time_holds rule Moments start s)
+      (λ s. day_second_allowed rule (hour_of Moments start) (minute_of Moments start) (second_of Moments start) s) n
       (λ s low. time_parts_hold-at (filled rule Moments start) (pos 0) s (omega (arith, low, few)))

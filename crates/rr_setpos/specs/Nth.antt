@@ -21,5 +21,7 @@ HasPosition rule kind start t place = (place ≡ pos (position_from_front rule k
 
 -- the candidate of the unit at the place, None exactly where there is none
 abbrev pub IsNthOfUnit : Rule → Kind → ℤ → ℤ → ℤ → Option ℤ → Type 0
-IsNthOfUnit rule kind start unit place None = (t : ℤ) → unit_number rule.freq rule.week_start kind t ≡ unit → is_candidate rule kind start t ≡ true → HasPosition rule kind start t place → ⊥
-IsNthOfUnit rule kind start unit place (Some t) = (unit_number rule.freq rule.week_start kind t ≡ unit) × (is_candidate rule kind start t ≡ true) × HasPosition rule kind start t place
+IsNthOfUnit rule kind start unit place None = (t : ℤ) → unit_number rule.freq rule.week_start kind t ≡ unit → is_candidate rule kind start t ≡ true
+    → HasPosition rule kind start t place → ⊥
+IsNthOfUnit rule kind start unit place (Some t) = (unit_number rule.freq rule.week_start kind t ≡ unit) × (is_candidate rule kind start t ≡ true)
+    × HasPosition rule kind start t place

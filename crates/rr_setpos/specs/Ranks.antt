@@ -51,14 +51,16 @@ begin_in_day rule second = second / unit_seconds rule.freq * unit_seconds rule.f
 abbrev pub rank_by_parts : Rule → Kind → ℤ → ℤ → ℕ
 rank_by_parts rule kind start t =
     if is_whole_days rule.freq
-    then days_before rule (day_part kind start) (day_part kind t) * times_before rule kind start (seconds_of kind) + times_before rule kind start (second_part kind t)
+    then days_before rule (day_part kind start) (day_part kind t) * times_before rule kind start (seconds_of kind)
+    + times_before rule kind start (second_part kind t)
     else times_before rule kind start (second_part kind t) - times_before rule kind start (begin_in_day rule (second_part kind t))
 
 abbrev pub size_by_parts : Rule → Kind → ℤ → ℤ → ℕ
 size_by_parts rule kind start t =
     if is_whole_days rule.freq
     then days_of_unit rule (day_part kind start) (day_part kind t) * times_before rule kind start (seconds_of kind)
-    else times_before rule kind start (begin_in_day rule (second_part kind t) + unit_seconds rule.freq) - times_before rule kind start (begin_in_day rule (second_part kind t))
+    else times_before rule kind start (begin_in_day rule (second_part kind t) + unit_seconds rule.freq) - times_before rule kind start
+    (begin_in_day rule (second_part kind t))
 
 -- the second place of so many, the rank among them, is listed from the front or from the back
 abbrev pub is_rank_listed : Rule → ℕ → ℕ → Bool
@@ -81,7 +83,8 @@ number_allowed is_wanted numbers own n = allows (filled_part is_wanted numbers (
 
 -- the minute and the second of a second of an hour are allowed
 abbrev pub hour_second_allowed : Rule → ℕ → ℕ → ℕ → Bool
-hour_second_allowed rule minute second s = number_allowed (wants_minute rule.freq) rule.by_minute minute (s / 60) && number_allowed (wants_second rule.freq) rule.by_second second (s % 60)
+hour_second_allowed rule minute second s = number_allowed (wants_minute rule.freq) rule.by_minute minute (s / 60) && number_allowed
+    (wants_second rule.freq) rule.by_second second (s % 60)
 
 -- the hour, the minute and the second of a second of a day are allowed
 abbrev pub day_second_allowed : Rule → ℕ → ℕ → ℕ → ℕ → Bool

@@ -1,6 +1,7 @@
-ghost use Rattle.std.specs.Prelude.{IfOk};
+ghost use Rattle.std.specs.Prelude.{◌≡◌, IfOk};
 ghost use Rattle.rr_model.specs.Rule.Validity.{IsValidRule};
 ghost use Rattle.rr_model.specs.declared.kind.Kind.TheVariants.{Days, Moments};
+ghost use Rattle.rr_model.specs.declared.rule.Freq.TheVariants.{Daily};
 
 use crate::{chosen, nth_of_unit, positions_are_by_parts, set_positions_are_by_parts};
 use rr_model::{DayItem, Freq, Kind, NoMemory, Rule};
@@ -22,7 +23,8 @@ fn last_tuesdays(alloc: Global) -> Result<Rule, NoMemory>
 
 // Nine o'clock of each day.
 fn nine_o_clocks(alloc: Global) -> Result<Rule, NoMemory>
-    ensures { IfOk result (λ rule. IsValidRule Moments rule) }
+    ensures valid { IfOk result (λ rule. IsValidRule Moments rule) }
+    ensures freq { IfOk result (λ rule. rule.freq ≡ Daily) }
 {
     let mut rule = Rule::new(alloc, Freq::Daily, 1);
     rule.by_hour.put(9)?;
@@ -33,20 +35,26 @@ fn nine_o_clocks(alloc: Global) -> Result<Rule, NoMemory>
 fn chosen_days(rt: HostRuntime) -> Result<(), Fail> {
     let rule = last_tuesdays(rt.alloc())?;
     // from 2024-01-30 on: this day, 2024-02-20, and 2023-12-26 before the start
-    assert!(rt; chosen(&rule, Kind::Days, 19_752, 19_752));
-    assert!(rt; !chosen(&rule, Kind::Days, 19_752, 19_773));
-    assert!(rt; chosen(&rule, Kind::Days, 19_752, 19_717));
+    for (day, want) in [(19_752, true), (19_773, false), (19_717, true)] {
+        assert!(rt; 0 <= day && day <= 100_000);
+        assert_eq!(rt; chosen(&rule, Kind::Days, 19_752, day), want, "{day}");
+    }
     Ok(())
 }
 
 #[test]
 fn candidates_of_a_day(rt: HostRuntime) -> Result<(), Fail> {
     let rule = nine_o_clocks(rt.alloc())?;
-    // 1997-09-02T09:00:00, the only candidate of its day, and of the day before
+    // 1997-09-02T09:00:00, the only candidate of its day
     let start = 873_190_800;
-    assert_eq!(rt; nth_of_unit(&rule, Kind::Moments, start, 10_105, 1), Some(873_104_400));
-    assert_eq!(rt; nth_of_unit(&rule, Kind::Moments, start, 10_106, -1), Some(start));
-    assert_eq!(rt; nth_of_unit(&rule, Kind::Moments, start, 10_106, 2), None);
+    for (place, want) in [(1, Some(start)), (-1, Some(start)), (2, None), (-2, None)] {
+        assert!(rt; place != 0);
+        assert_eq!(rt;
+            nth_of_unit(&rule, Kind::Moments, start, 10_106, place),
+            want,
+            "{place}"
+        );
+    }
     positions_are_by_parts();
     set_positions_are_by_parts();
     Ok(())

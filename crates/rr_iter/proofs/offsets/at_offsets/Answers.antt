@@ -1,4 +1,4 @@
-use Rattle.std.proofs.Common.{◌≡◌, ◌∙◌, ◌%◌, sym, ap, ℕ, get_or, length, Contains, refl, arith}
+use Rattle.std.proofs.Common.{◌≡◌, ◌∙◌, ◌%◌, sym, ap, ℕ, get_or, length, refl, arith}
 use Rattle.rr_expand.proofs.SetLemmas.{ok_set}
 use Rattle.rr_iter.specs.SetPositions.{IsAtOffset}
 use Rattle.rr_iter.proofs.OffsetLemmas.{kept_none, kept_more, kept_same, kept_all, kept_of_day, searched_in}
@@ -21,7 +21,8 @@ loop-second-preserved c =
     elim c.if-is_ok.branch [
       | then-is_ok+in_ok-push w ↦
           (let made = ap (λ v. v.items) w.chosen-is ∙ w.in_ok-push.ensures.items in
-          kept_more seconds listed c.args.unit old c.if-is_ok.chosen.items i x rises c.loop-second-test.true refl (found.0 w.if-is_ok.true) made c.loop-second.invariant)
+          kept_more seconds listed c.args.unit old c.if-is_ok.chosen.items i x rises c.loop-second-test.true refl
+          (found.0 w.if-is_ok.true) made c.loop-second.invariant)
       | else-is_ok w ↦ rw w.chosen-is (kept_same seconds listed c.args.unit old i x refl (found.1 w.if-is_ok.false) c.loop-second.invariant)
     ]
 
@@ -30,7 +31,8 @@ of-requires c =
     let seconds = c.as_slice-second-items.result.now in
     let listed = c.as_slice-listed.result.now in
     let last : c.loop-second.second-index ≡ length seconds = omega (arith, c.loop-second.auto.second-index-end, c.loop-second-test.false) in
-    kept_of_day seconds listed c.loop-second.chosen.items c.as_slice.result.now c.args.unit (rw (sym c.as_slice-second-items.ensures.same) at c.as_slice-second-items.ensures.of_day) c.as_slice.ensures.value
+    kept_of_day seconds listed c.loop-second.chosen.items c.as_slice.result.now c.args.unit
+    (rw (sym c.as_slice-second-items.ensures.same) at c.as_slice-second-items.ensures.of_day) c.as_slice.ensures.value
     (kept_all seconds listed c.args.unit c.loop-second.chosen.items c.loop-second.second-index last c.loop-second.invariant)
 
 pub returns : goal.returns
@@ -39,4 +41,5 @@ returns c =
     let listed = c.as_slice-listed.result.now in
     let last : c.loop-second.second-index ≡ length seconds = omega (arith, c.loop-second.auto.second-index-end, c.loop-second-test.false) in
     let set = kept_all seconds listed c.args.unit c.loop-second.chosen.items c.loop-second.second-index last c.loop-second.invariant in
-    ok_set (IsAtOffset c.args.unit c.args.offsets.now c.args.seconds.now) c.as_slice.result.now c.of.result (rw (c.as_slice.ensures.value, sym c.as_slice-listed.ensures.same, sym c.as_slice-second-items.ensures.same) set) c.of.ensures
+    ok_set (IsAtOffset c.args.unit c.args.offsets.now c.args.seconds.now) c.as_slice.result.now c.of.result
+    (rw (c.as_slice.ensures.value, sym c.as_slice-listed.ensures.same, sym c.as_slice-second-items.ensures.same) set) c.of.ensures

@@ -1,10 +1,11 @@
 use Rattle.std.proofs.Common.{to_z-of_z, arith}
-use Rattle.rr_iter.proofs.SetPositionLemmas.{time_at_none, time_at_other, time_at_some}
+use Rattle.rr_iter.proofs.SetPositionLemmas.{time_at_none, time_at_other}
 use Rattle.rr_iter.proofs.set_positions.time_at.Goals as goal
 use Rattle.rr_iter.proofs.set_positions.time_at.Goals.{else-before-rank-via-then-before-rank+else-rank-before, else-before-rank-via-else-before-rank}
 
 pub returns-in-None : goal.returns-in-None
-returns-in-None c = time_at_none c.args.times.now c.args.before c.args.size c.requires.room c.args.place (rw (c.in-None.is, to_z-of_z c.ranges.place) at c.rank_of.ensures)
+returns-in-None c = time_at_none c.args.times.now c.args.before c.args.size c.requires.room c.args.place
+    (rw (c.in-None.is, to_z-of_z c.ranges.place) at c.rank_of.ensures)
 
 pub returns-else-before-rank : goal.returns-else-before-rank
 returns-else-before-rank c =

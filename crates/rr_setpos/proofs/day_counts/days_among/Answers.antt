@@ -13,7 +13,13 @@ pub loop-k-init : goal.loop-k-init
 loop-k-init c = sym (count_from-zero (date_parts_hold (filled c.args.rule.now Days c.args.start.now.number)) (to_z w64 (of_z w64 c.args.first)))
 
 pub overflow_add-days : goal.overflow_add-days
-overflow_add-days c = omega (arith, c.loop-k.invariant, count_from-le (date_parts_hold (filled c.args.rule.now Days c.args.start.now.number)) (to_z w64 (of_z w64 c.args.first)) c.loop-k.k, c.loop-k.auto.k-end)
+overflow_add-days c = omega (
+  arith,
+  c.loop-k.invariant,
+  count_from-le (date_parts_hold (filled c.args.rule.now Days c.args.start.now.number))
+      (to_z w64 (of_z w64 c.args.first)) c.loop-k.k,
+  c.loop-k.auto.k-end,
+)
 
 pub loop-k-preserved : goal.loop-k-preserved
 loop-k-preserved c =
@@ -23,9 +29,23 @@ loop-k-preserved c =
     let x = c.new.result.number in
     let at : x ≡ first +ℤ pos n = omega (arith, ints, c.new.ensures, c.from.ensures, c.requires.first) in
     elim c.if-date_parts_hold.branch [
-      | then-date_parts_hold w ↦ omega (arith, w.days-is, c.loop-k.invariant, from_more test first n x at (sym c.date_parts_hold.ensures ∙ w.if-date_parts_hold.true), count_from-le test first n, c.loop-k.auto.k-end)
-      | else-date_parts_hold w ↦ omega (arith, w.days-is, c.loop-k.invariant, from_same test first n x at (sym c.date_parts_hold.ensures ∙ w.if-date_parts_hold.false))
+      | then-date_parts_hold w ↦ omega (
+        arith,
+        w.days-is,
+        c.loop-k.invariant,
+        from_more test first n x at (sym c.date_parts_hold.ensures ∙ w.if-date_parts_hold.true),
+        count_from-le test first n,
+        c.loop-k.auto.k-end,
+      )
+      | else-date_parts_hold w ↦ omega
+          (arith, w.days-is, c.loop-k.invariant, from_same test first n x at (sym c.date_parts_hold.ensures ∙ w.if-date_parts_hold.false))
     ]
 
 pub returns-clause-few : goal.returns-clause-few
-returns-clause-few c = omega (arith, c.loop-k.invariant, count_from-le (date_parts_hold (filled c.args.rule.now Days c.args.start.now.number)) (to_z w64 (of_z w64 c.args.first)) c.loop-k.k, c.loop-k.auto.k-end)
+returns-clause-few c = omega (
+  arith,
+  c.loop-k.invariant,
+  count_from-le (date_parts_hold (filled c.args.rule.now Days c.args.start.now.number))
+      (to_z w64 (of_z w64 c.args.first)) c.loop-k.k,
+  c.loop-k.auto.k-end,
+)

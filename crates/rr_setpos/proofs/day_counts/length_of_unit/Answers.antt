@@ -8,5 +8,6 @@ returns-clause-near c =
     let fits : FitsSigned w64 c.unit_of_day.result = search rules in
     let rule = c.args.rule.now in
     let day = c.args.day.now.number in
-    let next : next_of_unit rule day ≡ first_of_unit rule day +ℤ pos c.days_in_unit.result = rw (to_z-of_z fits, c.unit_of_day.ensures) at (c.days_in_unit.ensures.next rule.week_start) in
+    let next : next_of_unit rule day ≡ first_of_unit rule day +ℤ pos c.days_in_unit.result =
+    rw (to_z-of_z fits, c.unit_of_day.ensures) at (c.days_in_unit.ensures.next rule.week_start) in
     rw (sym next) (near_day rule day c.requires.freq c.requires.near).1

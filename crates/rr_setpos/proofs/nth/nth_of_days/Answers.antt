@@ -17,14 +17,18 @@ returns-then-not-fits c =
     let rule = c.args.rule.now in
     let start = c.args.start.now in
     let own = ap (unit_number rule.freq rule.week_start Days) start.of_day ∙ sym (unit_of_day rule.freq rule.week_start start.kind start.at c.requires.freq) in
-    none_unfit rule start.kind start.at c.args.unit c.args.place (ap (λ u. divides rule.interval (c.args.unit -ℤ u)) (sym own) ∙ rw (to_z-of_z c.ranges.unit) at (sym c.fits.ensures ∙ c.if-not-fits.true))
+    none_unfit rule start.kind start.at c.args.unit c.args.place
+    (ap (λ u. divides rule.interval (c.args.unit -ℤ u)) (sym own) ∙ rw (to_z-of_z c.ranges.unit) at (sym c.fits.ensures ∙ c.if-not-fits.true))
 
 pub moment_at-requires : goal.moment_at-requires
 moment_at-requires c =
     let rule = c.args.rule.now in
     let begins = rw (to_z-of_z c.ranges.unit) at c.first_day_of_unit-first.ensures in
-    let ends = rw (to_z-of_z c.ranges.unit) at (c.days_in_unit-count.ensures.next rule.week_start) in
-    (omega (arith, ints, begins, ends, c.requires.first, c.requires.next, c.from.ensures, c.nth_day.ensures.within), omega (arith, ints, begins, ends, c.requires.first, c.requires.next, c.from.ensures, c.nth_day.ensures.within))
+    let ends = rw (to_z-of_z c.ranges.unit) at (c.days_in_unit-count.ensures.next rule.week_start) in (
+      omega (arith, ints, begins, ends, c.requires.first, c.requires.next, c.from.ensures, c.nth_day.ensures.within),
+      omega
+          (arith, ints, begins, ends, c.requires.first, c.requires.next, c.from.ensures, c.nth_day.ensures.within),
+    )
 
 pub returns-in-None : goal.returns-in-None
 returns-in-None c =
@@ -32,10 +36,13 @@ returns-in-None c =
     let start = c.args.start.now in
     let unit = to_z-of_z c.ranges.unit in
     let fits : FitsSigned w64 c.first_day_of_unit-first.result = search rules in
-    let begins : to_z w64 (of_z w64 c.first_day_of_unit-first.result) ≡ unit_start rule.freq rule.week_start Days c.args.unit = to_z-of_z fits ∙ rw unit at c.first_day_of_unit-first.ensures in
+    let begins : to_z w64 (of_z w64 c.first_day_of_unit-first.result) ≡ unit_start rule.freq rule.week_start Days c.args.unit = to_z-of_z fits
+    ∙ rw unit at c.first_day_of_unit-first.ensures in
     let ends = rw unit at (c.days_in_unit-count.ensures.next rule.week_start) in
-    let each : times_before rule start.kind start.at (seconds_of start.kind) ≡ c.times_before-times.result = sym (rw c.seconds_of.ensures at c.times_before-times.ensures.value) in
-    let many : days_among rule (day_part start.kind start.at) (unit_start rule.freq rule.week_start Days c.args.unit) c.days_in_unit-count.result ≡ c.days_among-days.result = sym (rw (begins, start.of_day) at c.days_among-days.ensures.value) in
+    let each : times_before rule start.kind start.at (seconds_of start.kind) ≡ c.times_before-times.result =
+    sym (rw c.seconds_of.ensures at c.times_before-times.ensures.value) in
+    let many : days_among rule (day_part start.kind start.at) (unit_start rule.freq rule.week_start Days c.args.unit) c.days_in_unit-count.result
+    ≡ c.days_among-days.result = sym (rw (begins, start.of_day) at c.days_among-days.ensures.value) in
     nth_none rule start.kind start.at c.args.unit c.args.place (c.days_among-days.result * c.times_before-times.result)
     (λ t in_it passes. size_by_days rule start.kind start.at c.args.unit c.requires.freq c.days_in_unit-count.result ends t in_it passes ∙ rw (each, many) refl)
     (rw (c.in-None.is, to_z-of_z c.ranges.place) at c.rank_of.ensures)
@@ -47,22 +54,30 @@ returns-in-Some c =
     let unit = to_z-of_z c.ranges.unit in
     let fits : FitsSigned w64 c.first_day_of_unit-first.result = search rules in
     let there : FitsSigned w64 c.moment_at.result = search rules in
-    let begins : to_z w64 (of_z w64 c.first_day_of_unit-first.result) ≡ unit_start rule.freq rule.week_start Days c.args.unit = to_z-of_z fits ∙ rw unit at c.first_day_of_unit-first.ensures in
+    let begins : to_z w64 (of_z w64 c.first_day_of_unit-first.result) ≡ unit_start rule.freq rule.week_start Days c.args.unit = to_z-of_z fits
+    ∙ rw unit at c.first_day_of_unit-first.ensures in
     let ends = rw unit at (c.days_in_unit-count.ensures.next rule.week_start) in
-    let each : times_before rule start.kind start.at (seconds_of start.kind) ≡ c.times_before-times.result = sym (rw c.seconds_of.ensures at c.times_before-times.ensures.value) in
-    let many : days_among rule (day_part start.kind start.at) (unit_start rule.freq rule.week_start Days c.args.unit) c.days_in_unit-count.result ≡ c.days_among-days.result = sym (rw (begins, start.of_day) at c.days_among-days.ensures.value) in
+    let each : times_before rule start.kind start.at (seconds_of start.kind) ≡ c.times_before-times.result =
+    sym (rw c.seconds_of.ensures at c.times_before-times.ensures.value) in
+    let many : days_among rule (day_part start.kind start.at) (unit_start rule.freq rule.week_start Days c.args.unit) c.days_in_unit-count.result
+    ≡ c.days_among-days.result = sym (rw (begins, start.of_day) at c.days_among-days.ensures.value) in
     let k = c.nth_day.result in
     let s = c.nth_time.result in
     let holds = rw (begins, start.of_day) at c.nth_day.ensures.holds in
-    let before : days_among rule (day_part start.kind start.at) (unit_start rule.freq rule.week_start Days c.args.unit) k ≡ c.in-Some.rank / c.times_before-times.result = rw (begins, start.of_day) at c.nth_day.ensures.rank in
+    let before : days_among rule (day_part start.kind start.at) (unit_start rule.freq rule.week_start Days c.args.unit) k
+    ≡ c.in-Some.rank / c.times_before-times.result = rw (begins, start.of_day) at c.nth_day.ensures.rank in
     let own = ap (unit_number rule.freq rule.week_start Days) start.of_day ∙ sym (unit_of_day rule.freq rule.week_start start.kind start.at c.requires.freq) in
     let fit = ap (λ u. divides rule.interval (c.args.unit -ℤ u)) (sym own) ∙ rw unit at (sym c.fits.ensures ∙ c.if-not-fits.false) in
     let ranked = rw (c.in-Some.is, to_z-of_z c.ranges.place) at c.rank_of.ensures in
-    let day : to_z w64 (of_z w64 (to_z w64 (of_z w64 c.first_day_of_unit-first.result) +ℤ to_z w64 (of_z w64 c.from.result))) ≡ unit_start rule.freq rule.week_start Days c.args.unit +ℤ pos k =
+    let day : to_z w64 (of_z w64 (to_z w64 (of_z w64 c.first_day_of_unit-first.result) +ℤ to_z w64 (of_z w64 c.from.result)))
+    ≡ unit_start rule.freq rule.week_start Days c.args.unit +ℤ pos k =
     omega (arith, ints, begins, ends, c.requires.first, c.requires.next, c.from.ensures, c.nth_day.ensures.within) in
-    let at : to_z w64 (of_z w64 c.moment_at.result) ≡ moment_at start.kind (unit_start rule.freq rule.week_start Days c.args.unit +ℤ pos k) s = to_z-of_z there ∙ c.moment_at.ensures.value ∙ ap (λ d. moment_at start.kind d s) day in
+    let at : to_z w64 (of_z w64 c.moment_at.result) ≡ moment_at start.kind (unit_start rule.freq rule.week_start Days c.args.unit +ℤ pos k) s =
+    to_z-of_z there ∙ c.moment_at.ensures.value ∙ ap (λ d. moment_at start.kind d s) day in
     subst (λ z. IsNthOfUnit rule start.kind start.at c.args.unit c.args.place (Some z)) (sym at)
-    (nth_some rule start.kind start.at c.args.unit c.args.place (moment_at start.kind (unit_start rule.freq rule.week_start Days c.args.unit +ℤ pos k) s) c.in-Some.rank (c.days_among-days.result * c.times_before-times.result)
+    (nth_some rule start.kind start.at c.args.unit c.args.place
+    (moment_at start.kind (unit_start rule.freq rule.week_start Days c.args.unit +ℤ pos k) s) c.in-Some.rank
+    (c.days_among-days.result * c.times_before-times.result)
     (in_unit_there rule start.kind start.at c.args.unit c.requires.freq c.days_in_unit-count.result ends k s c.nth_day.ensures.within c.nth_time.ensures.within fit holds c.nth_time.ensures.holds)
     (candidate_there rule start.kind start.at c.args.unit c.requires.freq c.days_in_unit-count.result ends k s c.nth_day.ensures.within c.nth_time.ensures.within fit holds c.nth_time.ensures.holds)
     (rank_there rule start.kind start.at c.args.unit c.requires.freq c.days_in_unit-count.result ends k s c.nth_day.ensures.within c.nth_time.ensures.within fit holds c.nth_time.ensures.holds

@@ -23,9 +23,11 @@ returns-then-not-is_congruent c =
     let start_unit = to_z-of_z fits_unit ∙ c.unit_number.ensures ∙ ap (λ k. unit_number rule.freq rule.week_start k start.at) c.requires.kind in
     elim c.then-not-is_congruent.branch [
       | then-not-is_congruent-via-then-not-is_congruent w ↦
-          none_unfit rule Moments start.at c.args.unit c.args.place (rw (to_z-of_z c.ranges.unit, start_unit) at (sym c.is_congruent.ensures ∙ w.if-not-is_congruent.true))
+          none_unfit rule Moments start.at c.args.unit c.args.place
+          (rw (to_z-of_z c.ranges.unit, start_unit) at (sym c.is_congruent.ensures ∙ w.if-not-is_congruent.true))
       | then-not-is_congruent-via-else-not-is_congruent+then-not-date_parts_hold w ↦
-          none_on_day rule start.at c.args.unit c.requires.freq c.args.place (rw (own, begin.1) at (sym w.date_parts_hold.ensures ∙ w.if-not-date_parts_hold.true))
+          none_on_day rule start.at c.args.unit c.requires.freq c.args.place
+          (rw (own, begin.1) at (sym w.date_parts_hold.ensures ∙ w.if-not-date_parts_hold.true))
     ]
 
 pub times_before-end-requires : goal.times_before-end-requires

@@ -15,16 +15,19 @@ pub nth_of_days-requires-clause-first : goal.nth_of_days-requires-clause-first
 nth_of_days-requires-clause-first c =
     let rule = c.args.rule.now in
     let coarse = sym c.is_whole_days.ensures ∙ c.if-is_whole_days.true in
-    subst (IsDayWithin 1000) (begin_day rule.freq rule.week_start c.args.kind c.args.unit coarse ∙ ap (unit_start rule.freq rule.week_start Days) (sym (to_z-of_z c.ranges.unit))) c.requires.first
+    subst (IsDayWithin 1000) (begin_day rule.freq rule.week_start c.args.kind c.args.unit coarse
+    ∙ ap (unit_start rule.freq rule.week_start Days) (sym (to_z-of_z c.ranges.unit))) c.requires.first
 
 pub nth_of_days-requires-clause-next : goal.nth_of_days-requires-clause-next
 nth_of_days-requires-clause-next c =
     let rule = c.args.rule.now in
     let coarse = sym c.is_whole_days.ensures ∙ c.if-is_whole_days.true in
-    subst (IsDayWithin 1000) (begin_day rule.freq rule.week_start c.args.kind (c.args.unit +ℤ pos 1) coarse ∙ ap (λ u. unit_start rule.freq rule.week_start Days (u +ℤ pos 1)) (sym (to_z-of_z c.ranges.unit))) c.requires.next
+    subst (IsDayWithin 1000) (begin_day rule.freq rule.week_start c.args.kind (c.args.unit +ℤ pos 1) coarse
+    ∙ ap (λ u. unit_start rule.freq rule.week_start Days (u +ℤ pos 1)) (sym (to_z-of_z c.ranges.unit))) c.requires.next
 
 pub returns-then-is_whole_days : goal.returns-then-is_whole_days
-returns-then-is_whole_days c = rw (c.new-start.ensures.kind, c.new-start.ensures.at, to_z-of_z c.ranges.start, to_z-of_z c.ranges.unit, to_z-of_z c.ranges.place) at c.nth_of_days.ensures
+returns-then-is_whole_days c = rw
+    (c.new-start.ensures.kind, c.new-start.ensures.at, to_z-of_z c.ranges.start, to_z-of_z c.ranges.unit, to_z-of_z c.ranges.place) at c.nth_of_days.ensures
 
 pub returns-else-is_whole_days : goal.returns-else-is_whole_days
 returns-else-is_whole_days c =

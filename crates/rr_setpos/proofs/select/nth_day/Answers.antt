@@ -24,6 +24,8 @@ loop-k-preserved c =
     let x = c.new.result.number in
     let at : x ≡ first +ℤ pos n = omega (arith, ints, c.new.ensures, c.from.ensures, c.requires.first) in
     elim c.if-date_parts_hold.branch [
-      | then-date_parts_hold+else-left-eq0 w ↦ omega (arith, w.left-is, w.if-left-eq0.false, c.loop-k.invariant, from_more test first n x at (sym c.date_parts_hold.ensures ∙ w.if-date_parts_hold.true))
-      | else-date_parts_hold w ↦ omega (arith, w.left-is, c.loop-k.invariant, from_same test first n x at (sym c.date_parts_hold.ensures ∙ w.if-date_parts_hold.false))
+      | then-date_parts_hold+else-left-eq0 w ↦ omega
+          (arith, w.left-is, w.if-left-eq0.false, c.loop-k.invariant, from_more test first n x at (sym c.date_parts_hold.ensures ∙ w.if-date_parts_hold.true))
+      | else-date_parts_hold w ↦ omega
+          (arith, w.left-is, c.loop-k.invariant, from_same test first n x at (sym c.date_parts_hold.ensures ∙ w.if-date_parts_hold.false))
     ]

@@ -1,4 +1,4 @@
-use Rattle.std.proofs.Common.{◌≡◌, ◌∙◌, sym, to_z-of_z}
+use Rattle.std.proofs.Common.{◌∙◌, sym, to_z-of_z}
 use Rattle.std.specs.Prelude.{IsTrue, nat_lt}
 use Rattle.std.proofs.lemmas.Result.{IfOk-weaker}
 use Rattle.rr_model.specs.Rising.Sets.{IsSetOf}

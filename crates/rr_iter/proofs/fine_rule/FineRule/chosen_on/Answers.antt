@@ -1,4 +1,4 @@
-use Rattle.std.proofs.Common.{◌≡◌, ◌<◌, ◌∙◌, sym, arith, rules, w64, to_z-of_z, FitsSigned}
+use Rattle.std.proofs.Common.{◌<◌, ◌∙◌, sym, arith, rules, w64, to_z-of_z, FitsSigned}
 use Rattle.std.specs.Prelude.{IsTrue, nat_lt}
 use Rattle.std.proofs.lemmas.Int.{ints}
 use Rattle.std.proofs.lemmas.Result.{IfOk-weaker}
@@ -31,5 +31,7 @@ returns c =
     let fits : FitsSigned w64 i.start = search rules in
     let set = rw (to_z-of_z fits, to_z-of_z c.ranges.day) at c.in_ok-seconds.ensures in
     let offsets = c.self.invariant.of_offsets (sym c.is_empty.ensures ∙ c.if-is_empty.false) in
-    rw (← c.self.view_is) (IfOk-weaker c.at_offsets.result _ (λ t. IsSetOf nat_lt t (λ s. (s < 86_400) × IsTrue (is_chosen i.rule Moments i.start (moment_at Moments c.args.day s))))
-    (λ t h. chosen_at_offsets i.rule i.start c.args.day c.self.invariant.freq c.in_ok-seconds.seconds i.offsets t set offsets h) (rw c.seconds_of_unit-unit.ensures.value at c.at_offsets.ensures))
+    rw (← c.self.view_is) (IfOk-weaker c.at_offsets.result _
+    (λ t. IsSetOf nat_lt t (λ s. (s < 86_400) × IsTrue (is_chosen i.rule Moments i.start (moment_at Moments c.args.day s))))
+    (λ t h. chosen_at_offsets i.rule i.start c.args.day c.self.invariant.freq c.in_ok-seconds.seconds i.offsets t set offsets h)
+    (rw c.seconds_of_unit-unit.ensures.value at c.at_offsets.ensures))
