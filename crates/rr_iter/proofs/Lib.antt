@@ -9,3 +9,7 @@ pub mod RepeatLemmas
 pub mod CountedFarLemmas
 pub mod SeriesTreeLemmas
 pub mod SeriesRepeatLemmas
+pub mod PlaceLemmas
+pub mod CountedLemmas
+pub mod LastDayLemmas
+pub mod SettledLemmas

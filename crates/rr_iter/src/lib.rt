@@ -3,17 +3,21 @@
 
 mod all_lazy;
 mod any_lazy;
+mod counted;
 mod day_lazy;
 mod day_rule;
 mod ended_lazy;
 mod fine_rule;
 mod hour_lazy;
+mod last_day;
 mod laws;
 mod minute_lazy;
 mod month_lazy;
+mod place;
 mod rule_lazy;
 mod rules_lazy;
 mod second_lazy;
+mod settled;
 mod upto_rule;
 mod week_lazy;
 mod year_lazy;
@@ -30,6 +34,7 @@ pub use rr_lazy::{DatesLazy, DayTimes, FirstN, Lazy, Many, Union, Upto, Without}
 pub use rule_lazy::RuleLazy;
 pub use rules_lazy::RulesLazy;
 pub use second_lazy::SecondLazy;
+pub use settled::ends;
 pub use upto_rule::UptoRule;
 pub use week_lazy::WeekLazy;
 pub use year_lazy::YearLazy;

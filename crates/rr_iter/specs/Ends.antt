@@ -1,0 +1,60 @@
+-- Where rules end (RFC 5545, section 3.3.10, UNTIL and COUNT).
+use Rattle.std.specs.Prelude.{◌≡◌, ◌⊎◌, ℕ, ◌+◌, ◌<◌, ◌≤◌, true, ⊤, [], Result, Ok, Err, ℤ, pos, ◌+ℤ◌, ◌≤ℤ◌, ◌<ℤ◌}
+use Rattle.rr_model.specs.Moment.{day_part}
+use Rattle.rr_model.specs.Moment.Years.{IsFromYearOne, IsInYears}
+use Rattle.rr_model.specs.Rule.Validity.{EndsInYears, IsValidRule}
+use Rattle.rr_model.specs.Series.Settled.{EndsBefore}
+use Rattle.rr_model.specs.Series.Soundness.{FitsStart}
+use Rattle.rr_model.specs.Sets.Counting.{count_before}
+use Rattle.rr_model.specs.Sets.Tree.{Tree, stands_at}
+use Rattle.rr_model.specs.declared.kind.Kind.{Kind}
+use Rattle.rr_model.specs.declared.limits.TheConstants.{MAX_SPAN_DAYS}
+use Rattle.rr_model.specs.declared.refusal.Fault.{Fault}
+use Rattle.rr_model.specs.declared.refusal.Fault.TheVariants.{Refused, NoMemory}
+use Rattle.rr_model.specs.declared.refusal.Refusal.TheVariants.{CountedTooFar}
+use Rattle.rr_model.specs.declared.rule.Rule.{Rule}
+use Rattle.rr_lazy.specs.Next.{HasNone}
+use Rattle.rr_iter.specs.declared.place.Place.{Place}
+use Rattle.rr_iter.specs.declared.place.Place.TheVariants.{On, Beyond}
+
+-- a rule of a sound series, beside its start, without BYSETPOS
+pub record IsSoundRule (kind : Kind) (start : ℤ) (rule : Rule) : Type 0 where
+  pub valid : IsValidRule kind rule
+  pub plain : rule.by_set_pos ≡ []
+  pub in_years : IsInYears kind start
+  pub ends_in_years : EndsInYears rule.end
+  pub fits : FitsStart kind start rule
+
+-- the last day of the start and of the rule's UNTIL or members; an endless rule adds none
+pub record IsLastDay (kind : Kind) (start : ℤ) (rule : Rule) (day : ℤ) : Type 0 where
+  pub late : day_part kind start ≤ℤ day
+  pub ends : EndsBefore kind start (day +ℤ pos 1) rule rule.end
+  pub least : (settled : ℤ) → day_part kind start <ℤ settled → EndsBefore kind start settled rule rule.end → day <ℤ settled
+
+-- the last occupied day up to a day, or the one that is given where nothing after it is
+pub record IsLastUpTo (tree : Tree) (given to day : ℤ) : Type 0 where
+  pub after : HasNone tree (day +ℤ pos 1) (to +ℤ pos 1)
+  pub occupied : (day ≡ given) ⊎ ((s : ℕ) × (stands_at tree day s ≡ true))
+
+-- ---- occurrences by their numbers, from 1
+
+-- how many occurrences lie before a day
+abbrev pub before_day : Tree → ℤ → ℕ
+before_day tree day = count_before (λ d s. stands_at tree d s) day
+
+-- the occurrence of this number lies on the day
+pub record HasNumberOn (tree : Tree) (number : ℕ) (day : ℤ) : Type 0 where
+  pub begun : IsFromYearOne day
+  pub above : before_day tree day < number
+  pub within : number ≤ before_day tree (day +ℤ pos 1)
+
+-- where it lies up to a day, or how many occurrences after that day lead to it
+abbrev pub IsPlaceOf : Tree → ℕ → ℤ → Place → Type 0
+IsPlaceOf tree number to (On day) = (day ≤ℤ to) × HasNumberOn tree number day
+IsPlaceOf tree number to (Beyond left) = (1 ≤ left) × (before_day tree (to +ℤ pos 1) + left ≡ number)
+
+-- the day of the occurrence of this number, refused where it lies more days after a day than the most of a span
+abbrev pub AnswersDayOf : Tree → ℤ → ℕ → Result ℤ Fault → Type 0
+AnswersDayOf tree first number (Ok day) = (day ≤ℤ (first +ℤ pos MAX_SPAN_DAYS)) × HasNumberOn tree number day
+AnswersDayOf tree first number (Err (Refused refusal)) = (refusal ≡ CountedTooFar) × (before_day tree (first +ℤ pos (MAX_SPAN_DAYS + 1)) < number)
+AnswersDayOf tree first number (Err NoMemory) = ⊤

@@ -1,0 +1,100 @@
+// The last member of a rule with COUNT.
+ghost use Rattle.std.specs.Prelude.{◌≡◌, ◌+◌, ◌<◌, ◌≤◌, ◌+ℤ◌, min, pos};
+ghost use Rattle.rr_model.specs.Moment.{day_part};
+ghost use Rattle.rr_model.specs.Rule.Cycle.{rule_cycle};
+ghost use Rattle.rr_model.specs.Sets.Tree.{chosen_of};
+ghost use Rattle.rr_iter.specs.Ends.{AnswersDayOf, IsSoundRule, before_day};
+
+use crate::place::{Place, find};
+use rr_model::{Fault, Kind, MAX_SPAN_DAYS, Refusal, Rule, day_part};
+use rr_num::day_cycle;
+use std::alloc::Global;
+
+// The seconds of a span, of which a rule chooses at most all.
+const MOST_MOMENTS: u64 = 86_400 * (MAX_SPAN_DAYS + 1);
+
+// The day of the chosen moment of a number; refused where it lies more than `MAX_SPAN_DAYS` days after the start's.
+pub(crate) fn last_counted(
+    alloc: Global,
+    rule: &Rule,
+    kind: Kind,
+    start: i64,
+    count: u64,
+) -> Result<i64, Fault>
+    requires sound { IsSoundRule kind start rule.now }
+    requires some { 1 ≤ count }
+    ensures { AnswersDayOf (chosen_of rule.now kind start) (day_part kind start) count result }
+{
+    if count > MOST_MOMENTS {
+        return Err(Fault::Refused(Refusal::CountedTooFar));
+    }
+    match find(alloc, rule, kind, start, count, day_part(kind, start))? {
+        Place::On(day) => Ok(day),
+        Place::Beyond(left) => after_start(alloc, rule, kind, start, count, left),
+    }
+}
+
+// The same of a number that is so many more than the moments of the start's day.
+fn after_start(
+    alloc: Global,
+    rule: &Rule,
+    kind: Kind,
+    start: i64,
+    count: u64,
+    left: u64,
+) -> Result<i64, Fault>
+    requires sound { IsSoundRule kind start rule.now }
+    requires some { 1 ≤ left }
+    requires left { before_day (chosen_of rule.now kind start) (day_part kind start +ℤ pos 1) + left ≡ count }
+    ensures { AnswersDayOf (chosen_of rule.now kind start) (day_part kind start) count result }
+{
+    let cycle = cycle_within_span(rule);
+    let to = day_part(kind, start) + cycle as i64;
+    match find(alloc, rule, kind, start, count, to)? {
+        Place::On(day) => Ok(day),
+        Place::Beyond(after) => {
+            if cycle == MAX_SPAN_DAYS {
+                return Err(Fault::Refused(Refusal::CountedTooFar));
+            }
+            after_cycles(alloc, rule, kind, start, count, left, left - after)
+        }
+    }
+}
+
+// The same where the cycle is shorter than a span, and each cycle after the start's day has so many moments.
+fn after_cycles(
+    alloc: Global,
+    rule: &Rule,
+    kind: Kind,
+    start: i64,
+    count: u64,
+    left: u64,
+    each: u64,
+) -> Result<i64, Fault>
+    requires sound { IsSoundRule kind start rule.now }
+    requires some { 1 ≤ left }
+    requires left { before_day (chosen_of rule.now kind start) (day_part kind start +ℤ pos 1) + left ≡ count }
+    requires cycle { rule_cycle rule.now < MAX_SPAN_DAYS }
+    requires each { before_day (chosen_of rule.now kind start) ((day_part kind start +ℤ pos (rule_cycle rule.now)) +ℤ pos 1) ≡ before_day (chosen_of rule.now kind start) (day_part kind start +ℤ pos 1) + each }
+    ensures { AnswersDayOf (chosen_of rule.now kind start) (day_part kind start) count result }
+{
+    let cycle = day_cycle(rule) as u64;
+    let cycles = (left - 1) / each;
+    if cycles > MAX_SPAN_DAYS / cycle {
+        return Err(Fault::Refused(Refusal::CountedTooFar));
+    }
+    let days = (cycles * cycle) as i64;
+    let to = day_part(kind, start) + (MAX_SPAN_DAYS as i64 - days);
+    match find(alloc, rule, kind, start, count - cycles * each, to)? {
+        Place::On(day) => Ok(day + days),
+        Place::Beyond(_) => Err(Fault::Refused(Refusal::CountedTooFar)),
+    }
+}
+
+// The cycle of a rule in days, or the most days of a span where it is longer.
+fn cycle_within_span(rule: &Rule) -> u64
+    requires { 1 ≤ rule.now.interval }
+    ensures { result ≡ min (rule_cycle rule.now) MAX_SPAN_DAYS }
+{
+    day_cycle(rule).min(MAX_SPAN_DAYS as u128) as u64
+}

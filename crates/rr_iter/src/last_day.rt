@@ -1,0 +1,64 @@
+// The last day of a rule that ends.
+ghost use Rattle.std.specs.Prelude.{◌≡◌, ◌≤◌, ◌≤ℤ◌, IfOk, pos};
+ghost use Rattle.rr_model.specs.Answers.{RefusedExactlyWhere};
+ghost use Rattle.rr_model.specs.Moment.{day_part};
+ghost use Rattle.rr_model.specs.Moment.Years.{IsFromYearOne};
+ghost use Rattle.rr_model.specs.Series.Limits.{CountsTooFar};
+ghost use Rattle.rr_model.specs.Series.Tree.{members_of};
+ghost use Rattle.rr_model.specs.declared.refusal.Refusal.TheVariants.{CountedTooFar};
+ghost use Rattle.rr_lazy.specs.Next.{IsUnasked};
+ghost use Rattle.rr_iter.specs.Ends.{IsLastDay, IsLastUpTo, IsSoundRule};
+
+use crate::EndedLazy;
+use crate::counted::last_counted;
+use rr_lazy::Lazy;
+use rr_model::{End, Fault, Kind, NoMemory, Rule, day_part};
+use std::alloc::Global;
+
+// The last day of a rule's UNTIL or members; the start's day for an endless rule.
+pub(crate) fn last_day(alloc: Global, rule: &Rule, kind: Kind, start: i64) -> Result<i64, Fault>
+    requires sound { IsSoundRule kind start rule.now }
+    ensures day { IfOk result (IsLastDay kind start rule.now) }
+    ensures near { IfOk result (λ day. day ≤ℤ pos 19_710_112) }
+    ensures refused { RefusedExactlyWhere (CountsTooFar kind start rule.now) CountedTooFar result }
+{
+    match rule.end {
+        End::Never => Ok(day_part(kind, start)),
+        End::Until { at, .. } => Ok(day_part(kind, at)),
+        End::Count(count) => last_counted(alloc, rule, kind, start, count),
+        End::Both { at, .. } => Ok(last_member(alloc, rule, kind, start, day_part(kind, at))?),
+    }
+}
+
+// The last day up to a day on which a rule has a member; the start's day where there is none.
+fn last_member(alloc: Global, rule: &Rule, kind: Kind, start: i64, to: i64) -> Result<i64, NoMemory>
+    requires sound { IsSoundRule kind start rule.now }
+    requires low { IsFromYearOne to }
+    requires high { to ≤ℤ pos 2_999_999_999_000 }
+    ensures { IfOk result (IsLastUpTo (members_of kind start rule.now) (day_part kind start) to) }
+{
+    let members = EndedLazy::new(alloc, rule, kind, start)?;
+    last_occupied(alloc, members, day_part(kind, start), to)
+}
+
+// The last occupied day up to a day; the one that is given where there is none.
+fn last_occupied<A: Lazy + Drop>(
+    alloc: Global,
+    mut lazy: A,
+    given: i64,
+    to: i64,
+) -> Result<i64, NoMemory>
+    requires unasked { IsUnasked (A.position lazy) }
+    requires given { IsFromYearOne given }
+    requires low { IsFromYearOne to }
+    requires high { to ≤ℤ pos 2_999_999_999_000 }
+    ensures { IfOk result (IsLastUpTo (A.tree lazy) given to) }
+{
+    let mut last = given;
+    'days: loop {
+        match lazy.next(alloc, to)? {
+            None => return Ok(last),
+            Some(found) => last = found.day,
+        }
+    }
+}

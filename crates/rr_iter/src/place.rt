@@ -1,0 +1,66 @@
+// Where the chosen moment of a number lies.
+ghost use Rattle.std.specs.Prelude.{◌≡◌, ◌≤◌, ◌≤ℤ◌, IfOk, pos};
+ghost use Rattle.rr_model.specs.Moment.Years.{IsFromYearOne};
+ghost use Rattle.rr_model.specs.Sets.Tree.{chosen_of};
+ghost use Rattle.rr_lazy.specs.Next.{IsUnasked};
+ghost use Rattle.rr_iter.specs.Ends.{IsPlaceOf, IsSoundRule};
+
+use crate::RuleLazy;
+use rr_lazy::Lazy;
+use rr_model::{Kind, NoMemory, Rule};
+use std::alloc::Global;
+
+// Where an occurrence lies, looked for up to a day.
+pub(crate) enum Place {
+    // On this day.
+    On(i64),
+    // After the days that were looked at, as the one of this number there, from 1.
+    Beyond(u64),
+}
+
+// Where the chosen moment of a number, from 1, lies up to a day. Each day's moments are counted at once.
+pub(crate) fn find(
+    alloc: Global,
+    rule: &Rule,
+    kind: Kind,
+    start: i64,
+    number: u64,
+    to: i64,
+) -> Result<Place, NoMemory>
+    requires sound { IsSoundRule kind start rule.now }
+    requires some { 1 ≤ number }
+    requires low { IsFromYearOne to }
+    requires high { to ≤ℤ pos 2_999_999_999_000 }
+    ensures { IfOk result (IsPlaceOf (chosen_of rule.now kind start) number to) }
+{
+    let chosen = RuleLazy::new(alloc, rule, kind, start)?;
+    place_of(alloc, chosen, number, to)
+}
+
+// Where the occurrence of a number, from 1, lies up to a day.
+fn place_of<A: Lazy + Drop>(
+    alloc: Global,
+    mut lazy: A,
+    number: u64,
+    to: i64,
+) -> Result<Place, NoMemory>
+    requires unasked { IsUnasked (A.position lazy) }
+    requires some { 1 ≤ number }
+    requires low { IsFromYearOne to }
+    requires high { to ≤ℤ pos 2_999_999_999_000 }
+    ensures { IfOk result (IsPlaceOf (A.tree lazy) number to) }
+{
+    let mut left = number;
+    'days: loop {
+        match lazy.next(alloc, to)? {
+            None => return Ok(Place::Beyond(left)),
+            Some(found) => {
+                let count = found.times.as_slice().len() as u64;
+                if left <= count {
+                    return Ok(Place::On(found.day));
+                }
+                left -= count;
+            }
+        }
+    }
+}
