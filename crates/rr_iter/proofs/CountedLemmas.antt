@@ -1,5 +1,5 @@
 -- Numbers of occurrences in a tree that repeats after a day.
-use Rattle.std.proofs.Common.{◌≡◌, ℕ, zero, suc, ◌+◌, ◌*◌, ◌-◌, ◌/◌, ◌<◌, ◌≤◌, Bool, true, ℤ, pos, nat_abs, ◌+ℤ◌, ◌-ℤ◌, neg_ℤ, ◌≤ℤ◌, ◌<ℤ◌, ap, inl, inr, arith}
+use Rattle.std.proofs.Common.{◌≡◌, ℕ, zero, suc, ◌+◌, ◌*◌, ◌-◌, ◌/◌, ◌<◌, ◌≤◌, Bool, true, false, ℤ, pos, nat_abs, ◌+ℤ◌, ◌-ℤ◌, neg_ℤ, ◌≤ℤ◌, ◌<ℤ◌, refl, ap, inl, inr, arith}
 use Rattle.std.proofs.lemmas.Int.{ints, by_lt_z}
 use Rattle.std.proofs.lemmas.Bool.{cases_lt}
 use Rattle.std.proofs.Math.Nat.{div-mul-le_self, le-div_iff_mul-le, div-lt_iff_lt-mul}
@@ -14,11 +14,12 @@ use Rattle.rr_model.specs.declared.kind.Kind.{Kind}
 use Rattle.rr_model.specs.declared.rule.Rule.{Rule}
 use Rattle.rr_model.proofs.YearLemmas.{four_digit_bounds}
 use Rattle.rr_check.proofs.SeriesCycleLemmas.{rule_cycle_some}
-use Rattle.rr_lazy.proofs.CountingLemmas.{before_as, before_grows, before_next, count_seconds-suc, count_seconds_yes}
+use Rattle.rr_lazy.proofs.CountingLemmas.{before_as, before_grows, before_next, before_none, before_skip, count_days-suc, count_days-zero, count_seconds-suc, count_seconds-zero, count_seconds_no, count_seconds_yes}
 use Rattle.rr_lazy.proofs.CycleCountLemmas.{cycles_and_days, days_split}
 use Rattle.rr_lazy.proofs.TreeLemmas.{stands_below}
 use Rattle.rr_iter.specs.Ends.{HasNumberOn, IsSoundRule, before_day}
 use Rattle.rr_iter.proofs.CountedFarLemmas.{HasSecondFrom, chosen_from}
+use Rattle.rr_iter.proofs.StepLemmas.{before_start}
 use Rattle.rr_iter.proofs.RepeatLemmas.{chosen_later}
 
 -- a second that passes is counted
@@ -43,9 +44,37 @@ many_cycles : (k c : ℕ) → 1 ≤ c → k ≤ k * c
 many_cycles k zero l = absurd (omega (arith, l))
 many_cycles k (suc c) l = omega arith
 
+-- ---- so many days
+
+seconds_most : (test : ℕ → Bool) (n : ℕ) → count_seconds test n ≤ n
+seconds_most test zero = omega (arith, count_seconds-zero test)
+seconds_most test (suc n) = elim (test n) as (λ b. test n ≡ b → count_seconds test (suc n) ≤ suc n) [
+  | true ↦ λ e. omega (arith, count_seconds_yes test n e, seconds_most test n)
+  | false ↦ λ e. omega (arith, count_seconds_no test n e, seconds_most test n)
+] refl
+
+days_most : (test : ℤ → ℕ → Bool) (q : ℤ) (n : ℕ) → count_days test q n ≤ n * 86_400
+days_most test q zero = omega (arith, count_days-zero test q)
+days_most test q (suc n) = omega (arith, count_days-suc test q n, days_most test q n, seconds_most (test (q +ℤ pos n)) 86_400)
+
+-- the occurrences before a day, and those of the days that follow
+after_days : (tree : Tree) (from : ℤ) → IsFromYearOne from → (n : ℕ)
+    → before_day tree (from +ℤ pos n) ≡ before_day tree from + count_days (λ d s. stands_at tree d s) from n
+after_days tree from begun n =
+    let year : ℤ = first_day_of_year (pos 1) in
+    let m : ℕ = nat_abs (from -ℤ year) in
+    let e : from ≡ year +ℤ pos m = omega (arith, ints, begun) in
+    let f : from +ℤ pos n ≡ year +ℤ pos (m + n) = omega (arith, ints, begun) in
+    let a = before_as (λ d s. stands_at tree d s) from m e in
+    let b = before_as (λ d s. stands_at tree d s) (from +ℤ pos n) (m + n) f in
+    let c = days_split (λ d s. stands_at tree d s) year m n in
+    let d = ap (λ z. count_days (λ x y. stands_at tree x y) z n) e in
+    omega (arith, a, b, c, d)
+
 -- ---- the days after a day from which on the tree repeats
 
-module _ (tree : Tree) (first : ℤ) (cycle each : ℕ) (begun : IsFromYearOne first) (repeats : (d : ℤ) (s : ℕ) → (first +ℤ pos 1) ≤ℤ d → stands_at tree (d +ℤ pos cycle) s ≡ stands_at tree d s)
+module _ (tree : Tree) (first : ℤ) (cycle each : ℕ) (begun : IsFromYearOne first)
+    (repeats : (d : ℤ) (s : ℕ) → (first +ℤ pos 1) ≤ℤ d → stands_at tree (d +ℤ pos cycle) s ≡ stands_at tree d s)
     (one : before_day tree ((first +ℤ pos cycle) +ℤ pos 1) ≡ before_day tree (first +ℤ pos 1) + each) where
   -- the day after it
   abbrev next : ℤ
@@ -56,16 +85,7 @@ module _ (tree : Tree) (first : ℤ) (cycle each : ℕ) (begun : IsFromYearOne f
   on_days n = count_days (λ d s. stands_at tree d s) next n
 
   after_next : (n : ℕ) → before_day tree (next +ℤ pos n) ≡ before_day tree next + on_days n
-  after_next n =
-      let year : ℤ = first_day_of_year (pos 1) in
-      let m : ℕ = nat_abs (next -ℤ year) in
-      let e : next ≡ year +ℤ pos m = omega (arith, ints, begun) in
-      let f : next +ℤ pos n ≡ year +ℤ pos (m + n) = omega (arith, ints, begun) in
-      let a = before_as (λ d s. stands_at tree d s) next m e in
-      let b = before_as (λ d s. stands_at tree d s) (next +ℤ pos n) (m + n) f in
-      let c = days_split (λ d s. stands_at tree d s) year m n in
-      let d = ap (λ z. count_days (λ x y. stands_at tree x y) z n) e in
-      omega (arith, a, b, c, d)
+  after_next n = after_days tree next (omega (arith, ints, begun)) n
 
   each_is : on_days cycle ≡ each
   each_is =
@@ -95,7 +115,8 @@ module _ (tree : Tree) (first : ℤ) (cycle each : ℕ) (begun : IsFromYearOne f
       some_factor k each (omega (arith, early, adds, late, cycles_later k next (omega (arith, ints))))
 
   -- the number is more than these cycles have, after the occurrences of the first days
-  module _ (k days passed count left : ℕ) (d : days ≡ k * cycle) (p : passed ≡ k * each) (counted : before_day tree next + left ≡ count) (some : passed < left) where
+  module _ (k days passed count left : ℕ) (d : days ≡ k * cycle) (p : passed ≡ k * each)
+      (counted : before_day tree next + left ≡ count) (some : passed < left) where
     moved : (x : ℤ) → next ≤ℤ x → before_day tree (x +ℤ pos days) ≡ before_day tree x + passed
     moved x l = rw (d, p) (cycles_later k x l)
 
@@ -103,8 +124,8 @@ module _ (tree : Tree) (first : ℤ) (cycle each : ℕ) (begun : IsFromYearOne f
     pub number_moved : (day : ℤ) → HasNumberOn tree (count - passed) day → HasNumberOn tree count (day +ℤ pos days)
     number_moved day h =
         let late : next ≤ℤ day = by_lt_z {P = next ≤ℤ day} day next (λ l.
-          (let early = before_grows (λ x y. stands_at tree x y) (day +ℤ pos 1) next (omega (arith, ints, h.begun)) (omega (arith, ints, l)) in
-           absurd (omega (arith, early, h.within, counted, some)))) (λ g. g) in
+        (let early = before_grows (λ x y. stands_at tree x y) (day +ℤ pos 1) next (omega (arith, ints, h.begun)) (omega (arith, ints, l)) in
+        absurd (omega (arith, early, h.within, counted, some)))) (λ g. g) in
         let e : (day +ℤ pos days) +ℤ pos 1 ≡ (day +ℤ pos 1) +ℤ pos days = omega (arith, ints) in
         record {
           begun = omega (arith, ints, h.begun);
@@ -113,8 +134,8 @@ module _ (tree : Tree) (first : ℤ) (cycle each : ℕ) (begun : IsFromYearOne f
         }
 
     -- where it lies beyond a day, the number lies so many days after that day
-    pub number_beyond : (to end : ℤ) (rest : ℕ) → first ≤ℤ to → end ≡ (to +ℤ pos 1) +ℤ pos days → 1 ≤ rest → before_day tree (to +ℤ pos 1) + rest ≡ count - passed
-        → before_day tree end < count
+    pub number_beyond : (to end : ℤ) (rest : ℕ) → first ≤ℤ to → end ≡ (to +ℤ pos 1) +ℤ pos days → 1 ≤ rest
+        → before_day tree (to +ℤ pos 1) + rest ≡ count - passed → before_day tree end < count
     number_beyond to end rest l e r c = omega (arith, ap (before_day tree) e, moved (to +ℤ pos 1) (omega (arith, ints, l)), c, r, some, counted)
 
     -- it lies after these cycles
@@ -129,24 +150,6 @@ not_after tree number day end h l few =
     let grown = before_grows (λ x y. stands_at tree x y) (day +ℤ pos 1) end (omega (arith, ints, h.begun)) (omega (arith, ints, l)) in
     absurd (omega (arith, grown, h.within, few))
 
--- ---- a rule, which repeats after its start's day
-
-module _ (kind : Kind) (start : ℤ) (rule : Rule) (sound : IsSoundRule kind start rule) where
-  pub start_begun : IsFromYearOne (day_part kind start)
-  start_begun = sound.in_years.0
-
-  pub start_bounds : (neg_ℤ (pos 719_162) ≤ℤ day_part kind start) × (day_part kind start ≤ℤ pos 2_932_896)
-  start_bounds = four_digit_bounds (day_part kind start) sound.in_years
-
-  pub repeats : (d : ℤ) (s : ℕ) → (day_part kind start +ℤ pos 1) ≤ℤ d → stands_at (chosen_of rule kind start) (d +ℤ pos (rule_cycle rule)) s ≡ stands_at (chosen_of rule kind start) d s
-  repeats d s l = chosen_later rule kind start sound.valid (rule_cycle rule) d s (dvd_refl (rule_cycle rule)) (omega (arith, ints, l))
-
-  pub has_later : HasSecondFrom (chosen_of rule kind start) (day_part kind start +ℤ pos 1)
-  has_later = chosen_from rule kind start sound.in_years sound.valid sound.fits.synchronised (day_part kind start +ℤ pos 1)
-
-  pub cycle_some : 1 ≤ rule_cycle rule
-  cycle_some = rule_cycle_some rule sound.valid.interval_low
-
 -- ---- divisions
 
 pub passed_less : (left each : ℕ) → 1 ≤ left → (left - 1) / each * each < left
@@ -157,3 +160,67 @@ days_within k cycle l h = (le-div_iff_mul-le l).0 h
 
 pub days_beyond : (k cycle : ℕ) → 1 ≤ cycle → 16_777_216 / cycle < k → 16_777_216 < k * cycle
 days_beyond k cycle l h = (div-lt_iff_lt-mul l).0 h
+
+-- ---- a rule, which repeats after its start's day
+
+module _ (kind : Kind) (start : ℤ) (rule : Rule) (sound : IsSoundRule kind start rule) where
+  pub start_begun : IsFromYearOne (day_part kind start)
+  start_begun = sound.in_years.0
+
+  pub start_bounds : (neg_ℤ (pos 719_162) ≤ℤ day_part kind start) × (day_part kind start ≤ℤ pos 2_932_896)
+  start_bounds = four_digit_bounds (day_part kind start) sound.in_years
+
+  pub repeats : (d : ℤ) (s : ℕ) → (day_part kind start +ℤ pos 1) ≤ℤ d
+      → stands_at (chosen_of rule kind start) (d +ℤ pos (rule_cycle rule)) s ≡ stands_at (chosen_of rule kind start) d s
+  repeats d s l = chosen_later rule kind start sound.valid (rule_cycle rule) d s (dvd_refl (rule_cycle rule)) (omega (arith, ints, l))
+
+  pub has_later : HasSecondFrom (chosen_of rule kind start) (day_part kind start +ℤ pos 1)
+  has_later = chosen_from rule kind start sound.in_years sound.valid sound.fits.synchronised (day_part kind start +ℤ pos 1)
+
+  pub cycle_some : 1 ≤ rule_cycle rule
+  cycle_some = rule_cycle_some rule sound.valid.interval_low
+
+  -- a span has no more moments than seconds
+  pub span_most : before_day (chosen_of rule kind start) (day_part kind start +ℤ pos 16_777_217) ≤ 1_449_551_548_800
+  span_most =
+      let tree : Tree = chosen_of rule kind start in
+      let first : ℤ = day_part kind start in
+      let year : ℤ = first_day_of_year (pos 1) in
+      let none = before_skip (λ d s. stands_at tree d s) year first (omega (arith, ints)) start_begun (λ d s a b. before_start rule kind start d s b) in
+      let zero_before = before_none (λ d s. stands_at tree d s) in
+      omega (arith, none, zero_before, after_days tree first start_begun 16_777_217, days_most (λ d s. stands_at tree d s) first 16_777_217)
+
+  -- the moments of its first cycle, the number that is looked for, and how many of them come after the start's day
+  module _ (each : ℕ) (one : before_day (chosen_of rule kind start) ((day_part kind start +ℤ pos (rule_cycle rule)) +ℤ pos 1)
+      ≡ before_day (chosen_of rule kind start) (day_part kind start +ℤ pos 1) + each) where
+    pub rule_each_some : 1 ≤ each
+    rule_each_some = each_some (chosen_of rule kind start) (day_part kind start) (rule_cycle rule) each start_begun repeats one cycle_some has_later
+
+    module _ (count left : ℕ) (counted : before_day (chosen_of rule kind start) (day_part kind start +ℤ pos 1) + left ≡ count) (some : 1 ≤ left) where
+      -- so many whole cycles are passed over
+      abbrev cycles : ℕ
+      cycles = (left - 1) / each
+
+      abbrev days : ℕ
+      days = cycles * rule_cycle rule
+
+      pub rule_number_moved : (day : ℤ) → HasNumberOn (chosen_of rule kind start) (count - cycles * each) day
+          → HasNumberOn (chosen_of rule kind start) count (day +ℤ pos days)
+      rule_number_moved =
+          number_moved (chosen_of rule kind start) (day_part kind start) (rule_cycle rule) each start_begun repeats one
+          cycles days (cycles * each) count left refl refl counted (passed_less left each some)
+
+      pub rule_number_beyond : (rest : ℕ) → days ≤ 16_777_216 → 1 ≤ rest
+          → before_day (chosen_of rule kind start) ((day_part kind start +ℤ (pos 16_777_216 -ℤ pos days)) +ℤ pos 1) + rest ≡ count - cycles * each
+          → before_day (chosen_of rule kind start) (day_part kind start +ℤ pos 16_777_217) < count
+      rule_number_beyond rest within =
+          number_beyond (chosen_of rule kind start) (day_part kind start) (rule_cycle rule) each start_begun repeats one
+          cycles days (cycles * each) count left refl refl counted (passed_less left each some)
+          (day_part kind start +ℤ (pos 16_777_216 -ℤ pos days)) (day_part kind start +ℤ pos 16_777_217)
+          rest (omega (arith, ints, within)) (omega (arith, ints))
+
+      pub rule_number_after : 16_777_216 < days → before_day (chosen_of rule kind start) (day_part kind start +ℤ pos 16_777_217) < count
+      rule_number_after far =
+          number_after (chosen_of rule kind start) (day_part kind start) (rule_cycle rule) each start_begun repeats one
+          cycles days (cycles * each) count left refl refl counted (passed_less left each some)
+          (day_part kind start +ℤ pos 16_777_217) (omega (arith, ints, start_begun)) (omega (arith, ints, far))

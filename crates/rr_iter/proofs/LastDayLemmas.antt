@@ -1,6 +1,6 @@
 -- The last day of a rule that ends.
-use Rattle.std.proofs.Common.{◌≡◌, ◌⊎◌, ◌↔◌, ℕ, ◌+◌, ◌<◌, ◌≤◌, true, false, List, [], get_or, ℤ, pos, ◌+ℤ◌, ◌≤ℤ◌, ◌<ℤ◌, sym, subst, ◌∙◌, inl, inr, arith}
-use Rattle.std.specs.Prelude.{Result, Ok, Err}
+use Rattle.std.proofs.Common.{◌≡◌, ◌↔◌, ◌⊎◌, ℕ, ◌<◌, true, List, get_or, ℤ, pos, ◌+ℤ◌, ◌≤ℤ◌, ◌<ℤ◌, sym, subst, ◌∙◌, inl, inr, arith}
+use Rattle.std.specs.Prelude.{Result, Ok, Err, IfOk}
 use Rattle.std.proofs.lemmas.Int.{ints, by_lt_z}
 use Rattle.std.proofs.lemmas.Bool.{false≢true}
 use Rattle.rr_model.specs.Answers.{RefusedExactlyWhere}
@@ -17,7 +17,7 @@ use Rattle.rr_model.specs.Sets.Tree.{Tree, chosen_of, stands_at}
 use Rattle.rr_model.specs.declared.kind.Kind.{Kind}
 use Rattle.rr_model.specs.declared.refusal.Fault.{Fault}
 use Rattle.rr_model.specs.declared.refusal.Fault.TheVariants.{Refused, NoMemory}
-use Rattle.rr_model.specs.declared.refusal.Refusal.{Refusal}
+use Rattle.rr_model.specs.declared.refusal.Refusal.TheVariants.{CountedTooFar}
 use Rattle.rr_model.specs.declared.rule.End.TheVariants.{Never, Until, Count, Both}
 use Rattle.rr_model.specs.declared.rule.Rule.{Rule}
 use Rattle.rr_model.proofs.SecondsLemmas.{first_of_some}
@@ -25,8 +25,9 @@ use Rattle.rr_model.proofs.YearLemmas.{year_10000}
 use Rattle.rr_lazy.specs.Next.{HasNone, IsFirstOccupied}
 use Rattle.rr_lazy.proofs.AgreeLemmas.{members_agree}
 use Rattle.rr_lazy.proofs.StretchLemmas.{day_mono}
-use Rattle.rr_iter.specs.Ends.{HasNumberOn, IsLastDay, IsLastUpTo}
-use Rattle.rr_iter.proofs.CountedFarLemmas.{chosen_from, counted_from_on}
+use Rattle.rr_iter.specs.Ends.{AnswersDayOf, HasNumberOn, IsLastDay, IsLastUpTo, IsSoundRule, before_day}
+use Rattle.rr_iter.proofs.CountedFarLemmas.{chosen_from, counted_from_on, counts_too_far}
+use Rattle.rr_iter.proofs.CountedLemmas.{not_after}
 use Rattle.rr_iter.proofs.RepeatLemmas.{member_at}
 
 -- ---- a walk over occupied days
@@ -41,13 +42,11 @@ second_found tree from day times f =
     let s : ℕ = get_or times 0 0 in
     (s, (f.all.exact s).0 (first_of_some times f.some))
 
--- ---- refusals
-
--- the same refusal, where its condition is said otherwise
-pub refused_alike : {X : Type 0} (P Q : Type 0) (refusal : Refusal) (result : Result X Fault) → (Q ↔ P) → RefusedExactlyWhere P refusal result → RefusedExactlyWhere Q refusal result
-refused_alike P Q refusal (Ok x) same r = λ q. r (same.0 q)
-refused_alike P Q refusal (Err (Refused other)) same r = (r.0, same.1 r.1)
-refused_alike P Q refusal (Err NoMemory) same r = tt
+-- a day within the span of a day in the years 1 to 9999
+pub day_near : (tree : Tree) (first : ℤ) (number : ℕ) (result : Result ℤ Fault) → first ≤ℤ pos 2_932_896 → AnswersDayOf tree first number result
+    → IfOk result (λ day. day ≤ℤ pos 19_710_112)
+day_near tree first number (Ok day) l a = omega (arith, ints, a.0, l)
+day_near tree first number (Err fault) l a = tt
 
 -- ---- a rule beside its start
 
@@ -69,7 +68,9 @@ module _ (kind : Kind) (start : ℤ) (rule : Rule) where
       let fits = subst (EndsNotBefore kind start) e f in
       record {
         late = day_mono kind start at fits.1;
-        ends = (let l : day_part kind at <ℤ (day_part kind at +ℤ pos 1) = omega (arith, ints) in subst (EndsBefore kind start (day_part kind at +ℤ pos 1) rule) (sym e) l);
+        ends = (
+            let l : day_part kind at <ℤ (day_part kind at +ℤ pos 1) = omega (arith, ints) in
+            subst (EndsBefore kind start (day_part kind at +ℤ pos 1) rule) (sym e) l);
         least = λ settled l b. subst (EndsBefore kind start settled rule) e b;
       }
 
@@ -85,8 +86,8 @@ module _ (kind : Kind) (start : ℤ) (rule : Rule) where
   count_last count day e y v s h =
       let begun : IsFromYearOne (day +ℤ pos 1) = omega (arith, ints, h.begun) in
       let last : (t : ℤ) → IsMember rule kind start t → day_part kind t <ℤ (day +ℤ pos 1) = λ t m.
-          by_lt_z {P = day_part kind t <ℤ (day +ℤ pos 1)} (day_part kind t) (day +ℤ pos 1) (λ l. l) (λ g.
-            (let few = ((counted_from_on rule kind start count y e (day +ℤ pos 1) begun).0 (t, g, m)).0 in absurd (omega (arith, few, h.within)))) in
+      by_lt_z {P = day_part kind t <ℤ (day +ℤ pos 1)} (day_part kind t) (day +ℤ pos 1) (λ l. l) (λ g.
+      (let few = ((counted_from_on rule kind start count y e (day +ℤ pos 1) begun).0 (t, g, m)).0 in absurd (omega (arith, few, h.within)))) in
       let member = (counted_from_on rule kind start count y e day h.begun).1 (h.above, chosen_from rule kind start y v s day) in
       record {
         late = (let a = day_mono kind start member.0 member.2.not_before in let b = last member.0 member.2 in omega (arith, ints, a, b));
@@ -96,6 +97,22 @@ module _ (kind : Kind) (start : ℤ) (rule : Rule) where
             let early = before member.0 member.2 in
             omega (arith, ints, early, member.1));
       }
+
+  module _ (count : ℕ) (e : rule.end ≡ Count count) (sound : IsSoundRule kind start rule) where
+    pub count_answered : (result : Result ℤ Fault) → AnswersDayOf (chosen_of rule kind start) (day_part kind start) count result
+        → IfOk result (IsLastDay kind start rule)
+    count_answered (Ok day) a = count_last count day e sound.in_years sound.valid sound.fits.synchronised a.1
+    count_answered (Err fault) a = tt
+
+    few : CountsTooFar kind start rule ↔ (before_day (chosen_of rule kind start) (day_part kind start +ℤ pos 16_777_217) < count)
+    few = counts_too_far rule kind start sound.in_years sound.valid sound.fits.synchronised count e
+
+    pub count_refused : (result : Result ℤ Fault) → AnswersDayOf (chosen_of rule kind start) (day_part kind start) count result
+        → RefusedExactlyWhere (CountsTooFar kind start rule) CountedTooFar result
+    count_refused (Ok day) a = λ far.
+        not_after (chosen_of rule kind start) count day _ a.1 (omega (arith, ints, a.0)) (few.0 far)
+    count_refused (Err (Refused refusal)) a = (a.0, few.1 a.1)
+    count_refused (Err NoMemory) a = tt
 
   -- with both
   module _ (other : Kind) (at : ℤ) (count : ℕ) (e : rule.end ≡ Both other at count) (y : IsInYears kind start) (f : EndsNotBefore kind start rule.end) where
@@ -115,10 +132,10 @@ module _ (kind : Kind) (start : ℤ) (rule : Rule) where
 
       both_after : (t : ℤ) → IsMember rule kind start t → day_part kind t <ℤ (day +ℤ pos 1)
       both_after t m = by_lt_z {P = day_part kind t <ℤ (day +ℤ pos 1)} (day_part kind t) (day +ℤ pos 1) (λ l. l) (λ g.
-        (let stands = (members_agree rule kind start t y f).1 m in
-         let until = until_day t m in
-         let none = h.after (day_part kind t) (second_part kind t) g (omega (arith, ints, until)) in
-         absurd (false≢true (sym none ∙ stands))))
+          (let stands = (members_agree rule kind start t y f).1 m in
+          let until = until_day t m in
+          let none = h.after (day_part kind t) (second_part kind t) g (omega (arith, ints, until)) in
+          absurd (false≢true (sym none ∙ stands))))
 
       pub both_last : IsLastDay kind start rule day
       both_last = record {

@@ -1,6 +1,6 @@
 -- The settled day, gathered from the start, the dates and the rules.
-use Rattle.std.proofs.Common.{◌≡◌, ◌⊎◌, ℕ, ◌+◌, ◌-◌, ◌<◌, ◌≤◌, List, [], length, get_or, All, ℤ, pos, neg_ℤ, ◌+ℤ◌, ◌≤ℤ◌, ◌<ℤ◌, refl, sym, ap, subst, ◌∙◌, inl, inr, arith}
-use Rattle.std.specs.Prelude.{Ok, Err, Some, int_lt}
+use Rattle.std.proofs.Common.{◌≡◌, ℕ, ◌+◌, ◌-◌, ◌<◌, ◌≤◌, List, [], length, get_or, ℤ, pos, neg_ℤ, ◌+ℤ◌, ◌≤ℤ◌, ◌<ℤ◌, sym, ap, subst, ◌∙◌, inl, inr, arith}
+use Rattle.std.specs.Prelude.{Err, Some, int_lt}
 use Rattle.std.specs.Int.{int_max}
 use Rattle.std.proofs.lemmas.Int.{ints, clamps}
 use Rattle.std.proofs.lemmas.Bool.{cases_lt}
@@ -15,7 +15,7 @@ use Rattle.rr_model.specs.Moment.{day_part}
 use Rattle.rr_model.specs.Rule.Validity.{EndsInYears, IsValidRule}
 use Rattle.rr_model.specs.Series.Limits.{CountsTooFar, IsCountedTooFar}
 use Rattle.rr_model.specs.Series.Settled.{EndsBefore, LieBefore, IsPast, IsSettledDay}
-use Rattle.rr_model.specs.Series.Soundness.{FitsStart, IsSound}
+use Rattle.rr_model.specs.Series.Soundness.{FitsStart, HasNoSetPositions, IsSound}
 use Rattle.rr_model.specs.declared.kind.Kind.{Kind}
 use Rattle.rr_model.specs.declared.refusal.Fault.{Fault}
 use Rattle.rr_model.specs.declared.refusal.Fault.TheVariants.{Refused, NoMemory}
@@ -38,8 +38,8 @@ pub lie_later : (kind : Kind) (dates : List ℤ) (a b : ℤ) → a ≤ℤ b → 
 lie_later kind dates a b l before k d h = omega (arith, ints, l, before k d h)
 
 -- the last of rising dates lies last
-pub last_past : (kind : Kind) (dates : List ℤ) (date bound : ℤ) → Rises int_lt dates → slice_get dates (length dates - 1) ≡ Some date → day_part kind date <ℤ bound
-    → LieBefore kind bound dates
+pub last_past : (kind : Kind) (dates : List ℤ) (date bound : ℤ) → Rises int_lt dates → slice_get dates (length dates - 1) ≡ Some date
+    → day_part kind date <ℤ bound → LieBefore kind bound dates
 last_past kind dates date bound r e l k d h =
     let n : ℕ = length dates - 1 in
     let last : get_or dates n (pos 0) ≡ date = get_or_from_slice_get dates n date (pos 0) e in
@@ -66,8 +66,10 @@ pub record IsGathered (series : Series) (asked : ℕ) (last : ℤ) : Type 0 wher
 -- the start and the dates alone
 module _ (series : Series) (sound : IsSound series) where
   pub gathered_none : (day plus last : ℤ) → day ≡ day_part series.kind series.start
-      → day ≤ℤ plus → LieBefore series.kind (plus +ℤ pos 1) series.plus → ((settled : ℤ) → day <ℤ settled → LieBefore series.kind settled series.plus → plus <ℤ settled)
-      → plus ≤ℤ last → LieBefore series.kind (last +ℤ pos 1) series.minus → ((settled : ℤ) → plus <ℤ settled → LieBefore series.kind settled series.minus → last <ℤ settled)
+      → day ≤ℤ plus → LieBefore series.kind (plus +ℤ pos 1) series.plus
+      → ((settled : ℤ) → day <ℤ settled → LieBefore series.kind settled series.plus → plus <ℤ settled)
+      → plus ≤ℤ last → LieBefore series.kind (last +ℤ pos 1) series.minus
+      → ((settled : ℤ) → plus <ℤ settled → LieBefore series.kind settled series.minus → last <ℤ settled)
       → IsGathered series 0 last
   gathered_none day plus last e late1 past1 least1 late2 past2 least2 =
       let start = sound.valid.start in
@@ -86,9 +88,11 @@ module _ (series : Series) (sound : IsSound series) where
       }
 
   -- each rule beside the start
-  pub rule_is_sound : (k : ℕ) (rule : Rule) → k < length series.rules → get_or series.rules k rule ≡ rule → IsSoundRule series.kind series.start rule
-  rule_is_sound k rule l e = record {
+  pub rule_is_sound : HasNoSetPositions series → (k : ℕ) (rule : Rule) → k < length series.rules → get_or series.rules k rule ≡ rule
+      → IsSoundRule series.kind series.start rule
+  rule_is_sound plain k rule l e = record {
     valid = subst (IsValidRule series.kind) e (sound.valid.rules k rule l);
+    plain = subst (λ r. r.by_set_pos ≡ []) e (plain k rule l);
     in_years = sound.valid.start;
     ends_in_years = subst (λ r. EndsInYears r.end) e (sound.valid.ends k rule l);
     fits = subst (FitsStart series.kind series.start) e (sound.rules k rule l);
@@ -110,7 +114,9 @@ module _ (series : Series) (asked : ℕ) (last : ℤ) (g : IsGathered series ask
         plus = lie_later series.kind series.plus (last +ℤ pos 1) (both +ℤ pos 1) (omega (arith, ints, left)) g.plus;
         minus = lie_later series.kind series.minus (last +ℤ pos 1) (both +ℤ pos 1) (omega (arith, ints, left)) g.minus;
         rules = λ k d b w. elim (cases_lt k asked) [
-          | inl c ↦ ends_later series.kind series.start (get_or series.rules k d) (get_or series.rules k d).end (last +ℤ pos 1) (both +ℤ pos 1) (omega (arith, ints, left)) (g.rules k d c w)
+          | inl c ↦ (
+              let other = get_or series.rules k d in
+              ends_later series.kind series.start other other.end (last +ℤ pos 1) (both +ℤ pos 1) (omega (arith, ints, left)) (g.rules k d c w))
           | inr c ↦ (
               let same : k ≡ asked = omega arith in
               let now = ends_later series.kind series.start rule rule.end (day +ℤ pos 1) (both +ℤ pos 1) (omega (arith, ints, right)) i.ends in

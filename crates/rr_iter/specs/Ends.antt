@@ -1,5 +1,5 @@
 -- Where rules end (RFC 5545, section 3.3.10, UNTIL and COUNT).
-use Rattle.std.specs.Prelude.{◌≡◌, ◌⊎◌, ℕ, ◌+◌, ◌<◌, ◌≤◌, true, ℤ, pos, ◌+ℤ◌, ◌≤ℤ◌, ◌<ℤ◌}
+use Rattle.std.specs.Prelude.{◌≡◌, ◌⊎◌, ℕ, ◌+◌, ◌<◌, ◌≤◌, true, ⊤, [], Result, Ok, Err, ℤ, pos, ◌+ℤ◌, ◌≤ℤ◌, ◌<ℤ◌}
 use Rattle.rr_model.specs.Moment.{day_part}
 use Rattle.rr_model.specs.Moment.Years.{IsFromYearOne, IsInYears}
 use Rattle.rr_model.specs.Rule.Validity.{EndsInYears, IsValidRule}
@@ -8,14 +8,19 @@ use Rattle.rr_model.specs.Series.Soundness.{FitsStart}
 use Rattle.rr_model.specs.Sets.Counting.{count_before}
 use Rattle.rr_model.specs.Sets.Tree.{Tree, stands_at}
 use Rattle.rr_model.specs.declared.kind.Kind.{Kind}
+use Rattle.rr_model.specs.declared.limits.TheConstants.{MAX_SPAN_DAYS}
+use Rattle.rr_model.specs.declared.refusal.Fault.{Fault}
+use Rattle.rr_model.specs.declared.refusal.Fault.TheVariants.{Refused, NoMemory}
+use Rattle.rr_model.specs.declared.refusal.Refusal.TheVariants.{CountedTooFar}
 use Rattle.rr_model.specs.declared.rule.Rule.{Rule}
 use Rattle.rr_lazy.specs.Next.{HasNone}
 use Rattle.rr_iter.specs.declared.place.Place.{Place}
 use Rattle.rr_iter.specs.declared.place.Place.TheVariants.{On, Beyond}
 
--- a rule of a sound series, beside its start
+-- a rule of a sound series, beside its start, without BYSETPOS
 pub record IsSoundRule (kind : Kind) (start : ℤ) (rule : Rule) : Type 0 where
   pub valid : IsValidRule kind rule
+  pub plain : rule.by_set_pos ≡ []
   pub in_years : IsInYears kind start
   pub ends_in_years : EndsInYears rule.end
   pub fits : FitsStart kind start rule
@@ -47,3 +52,9 @@ pub record HasNumberOn (tree : Tree) (number : ℕ) (day : ℤ) : Type 0 where
 abbrev pub IsPlaceOf : Tree → ℕ → ℤ → Place → Type 0
 IsPlaceOf tree number to (On day) = (day ≤ℤ to) × HasNumberOn tree number day
 IsPlaceOf tree number to (Beyond left) = (1 ≤ left) × (before_day tree (to +ℤ pos 1) + left ≡ number)
+
+-- the day of the occurrence of this number, refused where it lies more days after a day than the most of a span
+abbrev pub AnswersDayOf : Tree → ℤ → ℕ → Result ℤ Fault → Type 0
+AnswersDayOf tree first number (Ok day) = (day ≤ℤ (first +ℤ pos MAX_SPAN_DAYS)) × HasNumberOn tree number day
+AnswersDayOf tree first number (Err (Refused refusal)) = (refusal ≡ CountedTooFar) × (before_day tree (first +ℤ pos (MAX_SPAN_DAYS + 1)) < number)
+AnswersDayOf tree first number (Err NoMemory) = ⊤

@@ -1,16 +1,17 @@
 // The last member of a rule with COUNT.
-ghost use Rattle.std.specs.Prelude.{◌≡◌, ◌+◌, ◌<◌, ◌≤◌, ◌+ℤ◌, ◌≤ℤ◌, IfOk, min, pos};
-ghost use Rattle.rr_model.specs.Answers.{RefusedExactlyWhere};
+ghost use Rattle.std.specs.Prelude.{◌≡◌, ◌+◌, ◌<◌, ◌≤◌, ◌+ℤ◌, min, pos};
 ghost use Rattle.rr_model.specs.Moment.{day_part};
 ghost use Rattle.rr_model.specs.Rule.Cycle.{rule_cycle};
 ghost use Rattle.rr_model.specs.Sets.Tree.{chosen_of};
-ghost use Rattle.rr_model.specs.declared.refusal.Refusal.TheVariants.{CountedTooFar};
-ghost use Rattle.rr_iter.specs.Ends.{HasNumberOn, IsSoundRule, before_day};
+ghost use Rattle.rr_iter.specs.Ends.{AnswersDayOf, IsSoundRule, before_day};
 
 use crate::place::{Place, find};
 use rr_model::{Fault, Kind, MAX_SPAN_DAYS, Refusal, Rule, day_part};
 use rr_num::day_cycle;
 use std::alloc::Global;
+
+// The seconds of a span, of which a rule chooses at most all.
+const MOST_MOMENTS: u64 = 86_400 * (MAX_SPAN_DAYS + 1);
 
 // The day of the chosen moment of a number; refused where it lies more than `MAX_SPAN_DAYS` days after the start's.
 pub(crate) fn last_counted(
@@ -22,10 +23,11 @@ pub(crate) fn last_counted(
 ) -> Result<i64, Fault>
     requires sound { IsSoundRule kind start rule.now }
     requires some { 1 ≤ count }
-    ensures day { IfOk result (HasNumberOn (chosen_of rule.now kind start) count) }
-    ensures near { IfOk result (λ day. day ≤ℤ (day_part kind start +ℤ pos 16_777_216)) }
-    ensures refused { RefusedExactlyWhere (before_day (chosen_of rule.now kind start) (day_part kind start +ℤ pos 16_777_217) < count) CountedTooFar result }
+    ensures { AnswersDayOf (chosen_of rule.now kind start) (day_part kind start) count result }
 {
+    if count > MOST_MOMENTS {
+        return Err(Fault::Refused(Refusal::CountedTooFar));
+    }
     match find(alloc, rule, kind, start, count, day_part(kind, start))? {
         Place::On(day) => Ok(day),
         Place::Beyond(left) => after_start(alloc, rule, kind, start, count, left),
@@ -44,9 +46,7 @@ fn after_start(
     requires sound { IsSoundRule kind start rule.now }
     requires some { 1 ≤ left }
     requires left { before_day (chosen_of rule.now kind start) (day_part kind start +ℤ pos 1) + left ≡ count }
-    ensures day { IfOk result (HasNumberOn (chosen_of rule.now kind start) count) }
-    ensures near { IfOk result (λ day. day ≤ℤ (day_part kind start +ℤ pos 16_777_216)) }
-    ensures refused { RefusedExactlyWhere (before_day (chosen_of rule.now kind start) (day_part kind start +ℤ pos 16_777_217) < count) CountedTooFar result }
+    ensures { AnswersDayOf (chosen_of rule.now kind start) (day_part kind start) count result }
 {
     let cycle = cycle_within_span(rule);
     let to = day_part(kind, start) + cycle as i64;
@@ -74,11 +74,9 @@ fn after_cycles(
     requires sound { IsSoundRule kind start rule.now }
     requires some { 1 ≤ left }
     requires left { before_day (chosen_of rule.now kind start) (day_part kind start +ℤ pos 1) + left ≡ count }
-    requires cycle { rule_cycle rule.now < 16_777_216 }
+    requires cycle { rule_cycle rule.now < MAX_SPAN_DAYS }
     requires each { before_day (chosen_of rule.now kind start) ((day_part kind start +ℤ pos (rule_cycle rule.now)) +ℤ pos 1) ≡ before_day (chosen_of rule.now kind start) (day_part kind start +ℤ pos 1) + each }
-    ensures day { IfOk result (HasNumberOn (chosen_of rule.now kind start) count) }
-    ensures near { IfOk result (λ day. day ≤ℤ (day_part kind start +ℤ pos 16_777_216)) }
-    ensures refused { RefusedExactlyWhere (before_day (chosen_of rule.now kind start) (day_part kind start +ℤ pos 16_777_217) < count) CountedTooFar result }
+    ensures { AnswersDayOf (chosen_of rule.now kind start) (day_part kind start) count result }
 {
     let cycle = day_cycle(rule) as u64;
     let cycles = (left - 1) / each;
@@ -96,7 +94,7 @@ fn after_cycles(
 // The cycle of a rule in days, or the most days of a span where it is longer.
 fn cycle_within_span(rule: &Rule) -> u64
     requires { 1 ≤ rule.now.interval }
-    ensures { result ≡ min (rule_cycle rule.now) 16_777_216 }
+    ensures { result ≡ min (rule_cycle rule.now) MAX_SPAN_DAYS }
 {
     day_cycle(rule).min(MAX_SPAN_DAYS as u128) as u64
 }

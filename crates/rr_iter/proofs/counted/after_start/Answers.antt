@@ -1,4 +1,4 @@
-use Rattle.std.proofs.Common.{◌≡◌, ℕ, ◌+◌, ◌<◌, ◌≤◌, ℤ, pos, neg_ℤ, ◌+ℤ◌, ◌≤ℤ◌, w64, to_z, of_z, FitsSigned, to_z-of_z, refl, ap, arith}
+use Rattle.std.proofs.Common.{◌≡◌, ℕ, ◌+◌, ◌≤◌, ℤ, pos, neg_ℤ, ◌+ℤ◌, ◌≤ℤ◌, w64, to_z, of_z, FitsSigned, to_z-of_z, refl, ap, arith}
 use Rattle.std.proofs.lemmas.Int.{ints}
 use Rattle.rr_model.specs.Moment.{day_part}
 use Rattle.rr_model.specs.Moment.Years.{IsFromYearOne}
@@ -7,7 +7,7 @@ use Rattle.rr_model.specs.Sets.Tree.{Tree, chosen_of, stands_at}
 use Rattle.rr_model.proofs.YearLemmas.{year_1}
 use Rattle.rr_lazy.proofs.CountingLemmas.{before_grows}
 use Rattle.rr_iter.specs.Ends.{before_day}
-use Rattle.rr_iter.proofs.CountedLemmas.{not_after, start_begun, start_bounds}
+use Rattle.rr_iter.proofs.CountedLemmas.{start_begun, start_bounds}
 use Rattle.rr_iter.proofs.counted.after_start.Goals as goal
 
 to_fits : (r first : ℤ) (days : ℕ) → r ≡ first → neg_ℤ (pos 719_162) ≤ℤ first → first ≤ℤ pos 2_932_896 → days ≤ 16_777_216
@@ -68,8 +68,8 @@ find-requires-clause-high c =
     let t = to_is c.day_part.result first cycle day bounds.0 bounds.1 within in
     rw t (omega (arith, ints, bounds.1, within))
 
-pub returns-then-cycle-eq-MAX_SPAN_DAYS-clause-refused : goal.returns-then-cycle-eq-MAX_SPAN_DAYS-clause-refused
-returns-then-cycle-eq-MAX_SPAN_DAYS-clause-refused c =
+pub returns-then-cycle-eq-MAX_SPAN_DAYS : goal.returns-then-cycle-eq-MAX_SPAN_DAYS
+returns-then-cycle-eq-MAX_SPAN_DAYS c =
     let kind = c.args.kind in
     let start = c.args.start in
     let first : ℤ = day_part kind start in
@@ -110,12 +110,13 @@ after_cycles-requires-clause-each c =
     let t = to_is c.day_part.result first cycle day bounds.0 bounds.1 within in
     let place = rw (c.in-Beyond.is, to_z-of_z c.ranges.start, t) at c.in_ok-day.ensures in
     let tree : Tree = chosen_of c.args.rule.now kind start in
-    let falls = left_falls tree first cycle c.args.count c.args.left c.in-Beyond.after (start_begun kind start c.args.rule.now c.requires.sound) c.requires.left place.1 in
+    let begun = start_begun kind start c.args.rule.now c.requires.sound in
+    let falls = left_falls tree first cycle c.args.count c.args.left c.in-Beyond.after begun c.requires.left place.1 in
     let whole : cycle ≡ rule_cycle c.args.rule.now = omega (arith, c.cycle_within_span-cycle.ensures, c.if-cycle-eq-MAX_SPAN_DAYS.false) in
     rw (to_z-of_z c.ranges.start) (omega (arith, ap (λ n. before_day tree ((first +ℤ pos n) +ℤ pos 1)) whole, falls, c.requires.left, place.1))
 
-pub returns-in-On-clause-near : goal.returns-in-On-clause-near
-returns-in-On-clause-near c =
+pub returns-in-On : goal.returns-in-On
+returns-in-On c =
     let kind = c.args.kind in
     let start = c.args.start in
     let first : ℤ = day_part kind start in
@@ -127,19 +128,4 @@ returns-in-On-clause-near c =
     let place = rw (c.in-On.is, to_z-of_z c.ranges.start, t) at c.in_ok-day.ensures in
     let low : neg_ℤ (pos 719_162) ≤ℤ c.in-On.day = omega (arith, ints, place.1.begun, year_1) in
     let same : to_z w64 (of_z w64 c.in-On.day) ≡ c.in-On.day = omega (arith, ints, low, place.0, bounds.1, within) in
-    rw same (omega (arith, ints, place.0, within))
-
-pub returns-in-On-clause-refused : goal.returns-in-On-clause-refused
-returns-in-On-clause-refused c =
-    let kind = c.args.kind in
-    let start = c.args.start in
-    let first : ℤ = day_part kind start in
-    let cycle : ℕ = c.cycle_within_span-cycle.result in
-    let within : cycle ≤ 16_777_216 = omega (arith, c.cycle_within_span-cycle.ensures) in
-    let bounds = start_bounds kind start c.args.rule.now c.requires.sound in
-    let day = rw (to_z-of_z c.ranges.start) at c.day_part.ensures in
-    let t = to_is c.day_part.result first cycle day bounds.0 bounds.1 within in
-    let place = rw (c.in-On.is, to_z-of_z c.ranges.start, t) at c.in_ok-day.ensures in
-    let low : neg_ℤ (pos 719_162) ≤ℤ c.in-On.day = omega (arith, ints, place.1.begun, year_1) in
-    let same : to_z w64 (of_z w64 c.in-On.day) ≡ c.in-On.day = omega (arith, ints, low, place.0, bounds.1, within) in
-    not_after (chosen_of c.args.rule.now kind start) c.args.count c.in-On.day (first +ℤ pos 16_777_217) place.1 (omega (arith, ints, place.0, within))
+    rw same (omega (arith, ints, place.0, within), place.1)

@@ -1,9 +1,13 @@
-use Rattle.std.proofs.Common.{◌≡◌, ℤ, pos, ◌+ℤ◌, ◌≤ℤ◌, w64, to_z, of_z, to_z-of_z, arith}
+use Rattle.std.proofs.Common.{◌≡◌, ℤ, pos, neg_ℤ, ◌≤ℤ◌, w64, to_z, of_z, to_z-of_z, refl, arith}
 use Rattle.std.proofs.lemmas.Int.{ints}
 use Rattle.rr_model.specs.Moment.{day_part}
-use Rattle.rr_model.specs.Sets.Tree.{chosen_of}
-use Rattle.rr_iter.proofs.CountedLemmas.{not_after, start_bounds}
+use Rattle.rr_model.proofs.YearLemmas.{year_1}
+use Rattle.rr_iter.proofs.CountedLemmas.{span_most, start_bounds}
 use Rattle.rr_iter.proofs.counted.last_counted.Goals as goal
+
+pub returns-then-count-gt-MOST_MOMENTS : goal.returns-then-count-gt-MOST_MOMENTS
+returns-then-count-gt-MOST_MOMENTS c =
+    (refl, omega (arith, span_most c.args.kind c.args.start c.args.rule.now c.requires.sound, c.if-count-gt-MOST_MOMENTS.true))
 
 pub find-requires-clause-high : goal.find-requires-clause-high
 find-requires-clause-high c =
@@ -11,11 +15,13 @@ find-requires-clause-high c =
     let day = rw (to_z-of_z c.ranges.start) at c.day_part.ensures in
     omega (arith, ints, day, bounds.0, bounds.1)
 
-pub returns-in-On-clause-refused : goal.returns-in-On-clause-refused
-returns-in-On-clause-refused c =
+pub returns-in-On : goal.returns-in-On
+returns-in-On c =
     let first : ℤ = day_part c.args.kind c.args.start in
     let bounds = start_bounds c.args.kind c.args.start c.args.rule.now c.requires.sound in
     let day = rw (to_z-of_z c.ranges.start) at c.day_part.ensures in
     let t : to_z w64 (of_z w64 c.day_part.result) ≡ first = omega (arith, ints, day, bounds.0, bounds.1) in
     let place = rw (c.in-On.is, to_z-of_z c.ranges.start, t) at c.in_ok-day.ensures in
-    not_after (chosen_of c.args.rule.now c.args.kind c.args.start) c.args.count c.in-On.day (first +ℤ pos 16_777_217) place.1 (omega (arith, ints, place.0))
+    let low : neg_ℤ (pos 719_162) ≤ℤ c.in-On.day = omega (arith, ints, place.1.begun, year_1) in
+    let same : to_z w64 (of_z w64 c.in-On.day) ≡ c.in-On.day = omega (arith, ints, low, place.0, bounds.1) in
+    rw same (omega (arith, ints, place.0), place.1)

@@ -16,4 +16,8 @@ days-preserved g c =
     let day = c.in-Some.found.day in
     let fits = (day_fits (g.A.Lazy.position c.days.lazy) day c.args.to (rw first_day_is at begun) n.0.late n.1 c.requires.high).0 in
     let tree = g.A.Lazy.tree c.args.lazy in
-    rw fits (c.in_ok-next.ensures.tree ∙ c.days.invariant.0, none_since tree day (g.A.Lazy.position c.next.new.self) n.2, inr (second_found tree (g.A.Lazy.position c.days.lazy) day c.in-Some.found.times n.0))
+    rw fits (
+      c.in_ok-next.ensures.tree ∙ c.days.invariant.0,
+      none_since tree day (g.A.Lazy.position c.next.new.self) n.2,
+      inr (second_found tree (g.A.Lazy.position c.days.lazy) day c.in-Some.found.times n.0),
+    )

@@ -1,16 +1,17 @@
-use Rattle.std.proofs.Common.{◌≡◌, ◌≤ℤ◌, ◌+ℤ◌, pos, w64, to_z, of_z, to_z-of_z, sym, refl, ap, subst, ◌∙◌, arith}
-use Rattle.std.specs.Prelude.{Ok, Some, None}
+use Rattle.std.proofs.Common.{to_z-of_z, ◌∙◌, arith}
 use Rattle.std.proofs.lemmas.Int.{ints}
 use Rattle.rr_model.proofs.YearLemmas.{year_1}
 use Rattle.rr_lazy.proofs.FirstLemmas.{first_day_is}
 use Rattle.rr_lazy.proofs.AheadLemmas.{day_fits}
-use Rattle.rr_iter.proofs.NumberLemmas.{unasked_counted, place_none, place_some, place_next}
+use Rattle.rr_iter.proofs.PlaceLemmas.{unasked_counted, place_none, place_some, place_next}
 use Rattle.rr_iter.proofs.place.place_of.Goals as goal
 
 pub days-init : goal.days-init
 days-init g c =
     let t = to_z-of_z c.ranges.to in
-    rw t (unasked_counted (g.A.Lazy.tree c.args.lazy) (g.A.Lazy.position c.args.lazy) c.args.to c.args.number c.requires.unasked c.requires.low c.requires.some)
+    let tree = g.A.Lazy.tree c.args.lazy in
+    let position = g.A.Lazy.position c.args.lazy in
+    rw t (unasked_counted tree position c.args.to c.args.number c.requires.unasked c.requires.low c.requires.some)
 
 pub next-requires-clause-low : goal.next-requires-clause-low
 next-requires-clause-low g c = let t = to_z-of_z c.ranges.to in omega (arith, ints, t, c.requires.low, year_1)
@@ -20,20 +21,31 @@ returns-in-None g c =
     let n = rw (c.in-None.is, to_z-of_z c.ranges.to, c.days.invariant.0) at c.in_ok-next.ensures.next in
     let within = rw (to_z-of_z c.ranges.to) at c.days.invariant.1 in
     let begun = (g.met.A.Lazy.sound c.days.lazy).in_years in
-    (c.days.invariant.2, place_none (g.A.Lazy.tree c.args.lazy) (g.A.Lazy.position c.days.lazy) (g.A.Lazy.position c.next.new.self) c.args.to c.args.number c.days.left begun within c.days.invariant.3 n)
+    let tree = g.A.Lazy.tree c.args.lazy in
+    let old = g.A.Lazy.position c.days.lazy in
+    let new = g.A.Lazy.position c.next.new.self in
+    (c.days.invariant.2, place_none tree old new c.args.to c.args.number c.days.left begun within c.days.invariant.3 n)
 
 pub returns-then-left-count : goal.returns-then-left-count
 returns-then-left-count g c =
     let n = rw (c.in-Some.is, to_z-of_z c.ranges.to, c.days.invariant.0) at c.in_ok-next.ensures.next in
     let begun = (g.met.A.Lazy.sound c.days.lazy).in_years in
-    let fits = (day_fits (g.A.Lazy.position c.days.lazy) c.in-Some.found.day c.args.to (rw first_day_is at begun) n.0.late n.1 c.requires.high).0 in
+    let tree = g.A.Lazy.tree c.args.lazy in
+    let old = g.A.Lazy.position c.days.lazy in
+    let found = c.in-Some.found in
+    let fits = (day_fits old found.day c.args.to (rw first_day_is at begun) n.0.late n.1 c.requires.high).0 in
     let many = rw c.as_slice.ensures.same at c.if-left-count.true in
-    rw fits (n.1, place_some (g.A.Lazy.tree c.args.lazy) (g.A.Lazy.position c.days.lazy) c.in-Some.found.day c.in-Some.found.times c.args.number c.days.left begun c.days.invariant.3 n.0 c.days.invariant.2 many)
+    rw fits (n.1, place_some tree old found.day found.times c.args.number c.days.left begun c.days.invariant.3 n.0 c.days.invariant.2 many)
 
 pub days-preserved : goal.days-preserved
 days-preserved g c =
     let t = to_z-of_z c.ranges.to in
     let n = rw (c.in-Some.is, t, c.days.invariant.0) at c.in_ok-next.ensures.next in
     let begun = (g.met.A.Lazy.sound c.days.lazy).in_years in
-    let p = place_next (g.A.Lazy.tree c.args.lazy) (g.A.Lazy.position c.days.lazy) (g.A.Lazy.position c.next.new.self) c.args.to c.in-Some.found c.as_slice.result.now c.args.number c.days.left begun c.days.invariant.3 n c.as_slice.ensures.same c.if-left-count.false in
+    let tree = g.A.Lazy.tree c.args.lazy in
+    let old = g.A.Lazy.position c.days.lazy in
+    let new = g.A.Lazy.position c.next.new.self in
+    let p =
+    place_next tree old new c.args.to c.in-Some.found c.as_slice.result.now c.args.number c.days.left begun
+    c.days.invariant.3 n c.as_slice.ensures.same c.if-left-count.false in
     (c.in_ok-next.ensures.tree ∙ c.days.invariant.0, rw t p.1, p.2, p.3)

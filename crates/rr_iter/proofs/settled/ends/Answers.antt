@@ -1,11 +1,12 @@
-use Rattle.std.proofs.Common.{rules, ◌≡◌, ◌<◌, ℕ, length, get_or, ℤ, pos, ◌+ℤ◌, w64, to_z, of_z, FitsSigned, to_z-of_z, sym, ap, subst, ◌∙◌, arith}
+use Rattle.std.proofs.Common.{rules, ◌≡◌, ◌<◌, length, get_or, ℤ, pos, ◌+ℤ◌, w64, to_z, of_z, FitsSigned, to_z-of_z, sym, ap, subst, ◌∙◌, arith}
 use Rattle.std.specs.Prelude.{Err}
 use Rattle.std.proofs.lemmas.Int.{ints}
 use Rattle.rr_model.specs.Answers.{RefusedExactlyWhere}
+use Rattle.rr_model.specs.Moment.{day_part}
 use Rattle.rr_model.specs.Series.Limits.{CountsTooFar}
 use Rattle.rr_model.specs.Series.Soundness.{IsSound}
 use Rattle.rr_model.specs.declared.refusal.Refusal.TheVariants.{CountedTooFar}
-use Rattle.rr_iter.proofs.CountedLemmas.{start_bounds}
+use Rattle.rr_model.proofs.YearLemmas.{four_digit_bounds}
 use Rattle.rr_iter.proofs.SettledLemmas.{gathered_none, rule_is_sound, gathered_more, gathered_all, none_too_far, one_too_far}
 use Rattle.rr_iter.proofs.settled.ends.Goals as goal
 
@@ -21,8 +22,8 @@ loop-rule-init c =
     let plus = c.last_of-with_plus.ensures in
     let minus = c.last_of-last.ensures in
     rw (to_z-of_z last_fits) (gathered_none c.args.series.now sound c.day_part.result c.last_of-with_plus.result c.last_of-last.result day
-      (rw (to_z-of_z day_fits) at plus.late) (rw value at plus.past) (rw (to_z-of_z day_fits, value) at plus.least)
-      (rw (to_z-of_z plus_fits) at minus.late) (rw value at minus.past) (rw (to_z-of_z plus_fits, value) at minus.least))
+    (rw (to_z-of_z day_fits) at plus.late) (rw value at plus.past) (rw (to_z-of_z day_fits, value) at plus.least)
+    (rw (to_z-of_z plus_fits) at minus.late) (rw value at minus.past) (rw (to_z-of_z plus_fits, value) at minus.least))
 
 pub last_day-requires : goal.last_day-requires
 last_day-requires c =
@@ -33,7 +34,9 @@ last_day-requires c =
     let listed = c.as_slice-rule-items.ensures ∙ ap (λ s. s.rules) value in
     let within : c.loop-rule.rule-index < length series.rules = rw listed at c.loop-rule-test.true in
     let item : get_or series.rules c.loop-rule.rule-index c.rule-item.result ≡ c.rule-item.result = rw listed at (sym c.rule-item.is) in
-    record { sound = rw (to_z-of_z start, value) (rule_is_sound series sound c.loop-rule.rule-index c.rule-item.result within item) }
+    let index = c.loop-rule.rule-index in
+    let fits = rule_is_sound series sound c.requires.without_set_positions index c.rule-item.result within item in
+    record { sound = rw (to_z-of_z start, value) fits }
 
 pub returns-in-Err-clause-refused : goal.returns-in-Err-clause-refused
 returns-in-Err-clause-refused c =
@@ -43,8 +46,12 @@ returns-in-Err-clause-refused c =
     let listed = c.as_slice-rule-items.ensures ∙ ap (λ s. s.rules) value in
     let within : c.loop-rule.rule-index < length series.rules = rw listed at c.loop-rule-test.true in
     let item : get_or series.rules c.loop-rule.rule-index c.rule-item.result ≡ c.rule-item.result = rw listed at (sym c.rule-item.is) in
-    let given = subst (λ t. RefusedExactlyWhere {X = ℤ} (CountsTooFar c.series-given.result.now.kind t c.rule-item.result) CountedTooFar (Err c.in-Err.fault)) (to_z-of_z start) c.in-Err.ensures.refused in
-    let refused = subst (λ s. RefusedExactlyWhere {X = ℤ} (CountsTooFar s.kind s.start c.rule-item.result) CountedTooFar (Err c.in-Err.fault)) value given in
+    let rule = c.rule-item.result in
+    let fault = c.in-Err.fault in
+    let kind = c.series-given.result.now.kind in
+    let given =
+    subst (λ t. RefusedExactlyWhere {X = ℤ} (CountsTooFar kind t rule) CountedTooFar (Err fault)) (to_z-of_z start) c.in-Err.ensures.refused in
+    let refused = subst (λ s. RefusedExactlyWhere {X = ℤ} (CountsTooFar s.kind s.start rule) CountedTooFar (Err fault)) value given in
     one_too_far series c.loop-rule.rule-index c.rule-item.result c.in-Err.fault within item refused
 
 pub loop-rule-preserved : goal.loop-rule-preserved
@@ -60,11 +67,13 @@ loop-rule-preserved c =
     let refused = rw (to_z-of_z start, value) at c.in-Ok.ensures.refused in
     let near = c.in-Ok.ensures.near in
     let gathered = c.loop-rule.invariant in
-    let years = rule_is_sound series (rw value at c.series-given.ensures.sound) c.loop-rule.rule-index c.rule-item.result within item in
-    let low = (start_bounds series.kind series.start c.rule-item.result years).0 in
+    let sound = rw value at c.series-given.ensures.sound in
+    let low = (four_digit_bounds (day_part series.kind series.start) sound.valid.start).0 in
     let same : to_z w64 (of_z w64 c.in-Ok.day) ≡ c.in-Ok.day = omega (arith, ints, near, day.late, low) in
     let both = rw same at c.max-last.ensures.value in
-    rw (to_z-of_z max_fits) (gathered_more series c.loop-rule.rule-index _ gathered c.rule-item.result c.in-Ok.day c.max-last.result within item day near refused both)
+    let more =
+    gathered_more series c.loop-rule.rule-index _ gathered c.rule-item.result c.in-Ok.day c.max-last.result within item day near refused both in
+    rw (to_z-of_z max_fits) more
 
 pub returns-clause-settled : goal.returns-clause-settled
 returns-clause-settled c =

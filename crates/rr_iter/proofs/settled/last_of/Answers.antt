@@ -11,7 +11,8 @@ returns-in-Some-clause-past c =
     let fits : FitsSigned w64 c.max.result = record { sfits = c.max.type_inv } in
     let m = to_z-of_z fits in
     let rises = rw c.as_slice.ensures.value at c.as_slice.ensures.rises in
-    let at : slice_get c.args.dates.now (length c.args.dates.now - 1) ≡ Some c.in-Some.date.now = sym (rw c.as_slice.ensures.value at c.in-Some.ensures.value) in
+    let at : slice_get c.args.dates.now (length c.args.dates.now - 1) ≡ Some c.in-Some.date.now =
+    sym (rw c.as_slice.ensures.value at c.in-Some.ensures.value) in
     let date : FitsSigned w64 c.in-Some.date.now = search rules in
     let e = rw (to_z-of_z date) at c.day_part.ensures in
     let day : FitsSigned w64 c.day_part.result = record { sfits = c.day_part.type_inv } in
