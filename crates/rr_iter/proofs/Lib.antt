@@ -12,7 +12,7 @@ pub mod RepeatLemmas
 pub mod CountedFarLemmas
 pub mod SeriesTreeLemmas
 pub mod SeriesRepeatLemmas
-pub mod PlaceLemmas
+pub mod NumberLemmas
 pub mod CountedLemmas
 pub mod LastDayLemmas
 pub mod SettledLemmas

@@ -1,10 +1,10 @@
 -- Occurrences by their numbers, day by day.
-use Rattle.std.proofs.Common.{◌≡◌, ◌⊎◌, ℕ, ◌+◌, ◌-◌, ◌<◌, ◌≤◌, List, length, ℤ, pos, ◌+ℤ◌, ◌≤ℤ◌, ◌<ℤ◌, ap, subst, sym, inl, inr, arith}
+use Rattle.std.proofs.Common.{◌≡◌, ℕ, ◌+◌, ◌-◌, ◌<◌, ◌≤◌, List, length, ℤ, pos, ◌+ℤ◌, ◌≤ℤ◌, ap, inl, inr, arith}
 use Rattle.std.specs.Prelude.{Ok, Some, None}
 use Rattle.std.proofs.lemmas.Int.{ints}
 use Rattle.rr_model.specs.Moment.Years.{IsFromYearOne}
 use Rattle.rr_model.specs.Sets.Tree.{Tree, stands_at}
-use Rattle.rr_lazy.specs.Next.{HasNone, IsFirstOccupied, IsNext, IsUnasked}
+use Rattle.rr_lazy.specs.Next.{IsFirstOccupied, IsNext, IsUnasked}
 use Rattle.rr_lazy.specs.declared.day_times.DayTimes.{DayTimes}
 use Rattle.rr_lazy.proofs.TreeLemmas.{seconds_of_occupied}
 use Rattle.rr_lazy.proofs.CountingLemmas.{before_skip, before_next, before_none, seconds_whole}
@@ -43,8 +43,8 @@ place_some tree from day times number left begun counted f some within =
     record { begun = omega (arith, ints, begun, f.late); above = omega (arith, c.0, counted, some); within = omega (arith, c.1, counted, within) }
 
 -- it lies after the day found
-pub place_next : (tree : Tree) (from new to : ℤ) (found : DayTimes) (times : List ℕ) (number left : ℕ) → IsFromYearOne from → before_day tree from + left ≡ number
-    → IsNext tree from to (Ok (Some found)) new → times ≡ found.times → length times < left
+pub place_next : (tree : Tree) (from new to : ℤ) (found : DayTimes) (times : List ℕ) (number left : ℕ)
+    → IsFromYearOne from → before_day tree from + left ≡ number → IsNext tree from to (Ok (Some found)) new → times ≡ found.times → length times < left
     → (new ≡ new) × (new ≤ℤ (to +ℤ pos 1)) × (1 ≤ left - length times) × (before_day tree new + (left - length times) ≡ number)
 place_next tree from new to found times number left begun counted n same above =
     let c = day_counted tree from begun found.day found.times n.0 in

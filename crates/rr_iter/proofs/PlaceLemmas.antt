@@ -1,52 +1,137 @@
--- Occurrences by their numbers, day by day.
-use Rattle.std.proofs.Common.{◌≡◌, ℕ, ◌+◌, ◌-◌, ◌<◌, ◌≤◌, List, length, ℤ, pos, ◌+ℤ◌, ◌≤ℤ◌, ap, inl, inr, arith}
-use Rattle.std.specs.Prelude.{Ok, Some, None}
+-- The place of a day in the list of its unit's candidate days is a count.
+use Rattle.std.proofs.Common.{◌≡◌, ℕ, zero, suc, ◌+◌, ◌<◌, Bool, true, false, ◌&&◌, List, [], ◌∷◌, length, get_or, Contains, inl, inr, ℤ, pos, nat_abs, ◌+ℤ◌, ◌-ℤ◌, ◌≤ℤ◌, ◌<ℤ◌, refl, sym, ap, ◌∙◌, arith}
+use Rattle.std.specs.Prelude.{int_lt}
 use Rattle.std.proofs.lemmas.Int.{ints}
-use Rattle.rr_model.specs.Moment.Years.{IsFromYearOne}
-use Rattle.rr_model.specs.Sets.Tree.{Tree, stands_at}
-use Rattle.rr_lazy.specs.Next.{IsFirstOccupied, IsNext, IsUnasked}
-use Rattle.rr_lazy.specs.declared.day_times.DayTimes.{DayTimes}
-use Rattle.rr_lazy.proofs.TreeLemmas.{seconds_of_occupied}
-use Rattle.rr_lazy.proofs.CountingLemmas.{before_skip, before_next, before_none, seconds_whole}
-use Rattle.rr_iter.specs.Ends.{before_day, HasNumberOn}
+use Rattle.std.proofs.lemmas.List.Elements.{Contains-get_or}
+use Rattle.rr_model.specs.Whole.{divides}
+use Rattle.rr_model.specs.Whole.Count.{count_from}
+use Rattle.rr_model.specs.Moment.Units.{unit_number}
+use Rattle.rr_model.specs.Rule.Filled.{filled}
+use Rattle.rr_model.specs.Rule.Candidate.{interval_holds, date_parts_hold}
+use Rattle.rr_model.specs.Rising.Sets.{IsSetOf}
+use Rattle.rr_model.specs.declared.kind.Kind.TheVariants.{Days}
+use Rattle.rr_model.specs.declared.rule.Rule.{Rule}
+use Rattle.rr_model.proofs.CountLemmas.{one, count_from-zero, count_from-suc, count_from-first}
+use Rattle.rr_cal.proofs.StretchLemmas.{units_are_stretches}
+use Rattle.rr_model.proofs.RisingSetLemmas.{Contains-head, Contains-tail, Contains-none, Contains-cons_cases, Rises-tail, below_rest, set_same}
+use Rattle.rr_model.specs.Rule.DaysAndTimes.{IsCandidateDay}
+use Rattle.rr_setpos.specs.Ranks.{days_before, days_of_unit, first_of_unit, next_of_unit}
+use Rattle.rr_lazy.proofs.TreeLemmas.{and_left, and_right}
+use Rattle.rr_setpos.proofs.ProductLemmas.{count_from-split}
 
--- nothing is counted at first
-pub unasked_counted : (tree : Tree) (position to : ℤ) (number : ℕ) → IsUnasked position → IsFromYearOne to → 1 ≤ number
-    → (tree ≡ tree) × (position ≤ℤ (to +ℤ pos 1)) × (1 ≤ number) × (before_day tree position + number ≡ number)
-unasked_counted tree position to number u low some =
-    let none = before_none (λ d s. stands_at tree d s) in
-    ((λ i. tree), omega (arith, ints, u, low), some, rw u (omega (arith, none)))
+count_none : (g : ℤ → Bool) (q : ℤ) (n : ℕ) → ((t : ℤ) → q ≤ℤ t → t <ℤ (q +ℤ pos n) → g t ≡ false) → count_from g q n ≡ 0
+count_none g q zero none = count_from-zero g q
+count_none g q (suc n) none =
+    let here : g (q +ℤ pos n) ≡ false = none (q +ℤ pos n) (omega (arith, ints)) (omega (arith, ints)) in
+    let last : count_from g q (suc n) ≡ count_from g q n = count_from-suc g q n ∙ (rw here (omega arith)) in
+    last ∙ count_none g q n (λ t l h. none t l (omega (arith, ints, h)))
 
-module _ (tree : Tree) (from : ℤ) (begun : IsFromYearOne from) where
-  -- up to an occupied day, and with it
-  day_counted : (day : ℤ) (times : List ℕ) → IsFirstOccupied tree from day times
-      → (before_day tree day ≡ before_day tree from) × (before_day tree (day +ℤ pos 1) ≡ before_day tree from + length times)
-  day_counted day times f =
-      let skipped = before_skip (λ d s. stands_at tree d s) from day begun f.late f.before in
-      let seconds = seconds_of_occupied tree from day times f in
-      let whole = seconds_whole (stands_at tree day) times f.all 86_400 seconds.below_a_day in
-      (skipped, omega (arith, before_next (λ d s. stands_at tree d s) day (omega (arith, ints, begun, f.late)), skipped, whole))
+module _ (test : ℤ → Bool) where
+  -- of so many whole numbers from one on, those that pass
+  abbrev pub PassedFrom : ℤ → ℕ → ℤ → Type 0
+  PassedFrom q n d = (q ≤ℤ d) × (d <ℤ (q +ℤ pos n)) × (test d ≡ true)
 
--- no day up to `to` is occupied
-pub place_none : (tree : Tree) (from new to : ℤ) (number left : ℕ) → IsFromYearOne from → from ≤ℤ (to +ℤ pos 1) → before_day tree from + left ≡ number
-    → IsNext tree from to (Ok None) new → before_day tree (to +ℤ pos 1) + left ≡ number
-place_none tree from new to number left begun within counted n =
-    let same : new ≡ to +ℤ pos 1 = elim n.3 [ inl e ↦ e | inr e ↦ omega (arith, ints, e, within, n.2) ] in
-    let skipped = before_skip (λ d s. stands_at tree d s) from new begun n.1 n.0 in
-    omega (arith, ap (before_day tree) same, skipped, counted)
+  module _ (x : ℤ) (xs : List ℤ) (q : ℤ) (n : ℕ) (set : IsSetOf int_lt (x ∷ xs) (PassedFrom q n)) where
+    head_is : (q ≤ℤ x) × (x <ℤ (q +ℤ pos n)) × (test x ≡ true)
+    head_is = (set.exact x).0 (Contains-head x xs)
 
--- the day found has the occurrence of the number
-pub place_some : (tree : Tree) (from day : ℤ) (times : List ℕ) (number left : ℕ) → IsFromYearOne from → before_day tree from + left ≡ number
-    → IsFirstOccupied tree from day times → 1 ≤ left → left ≤ length times → HasNumberOn tree number day
-place_some tree from day times number left begun counted f some within =
-    let c = day_counted tree from begun day times f in
-    record { begun = omega (arith, ints, begun, f.late); above = omega (arith, c.0, counted, some); within = omega (arith, c.1, counted, within) }
+    above_head : (d : ℤ) → Contains xs d → x <ℤ d
+    above_head d c = let t : int_lt x d ≡ true = below_rest int_lt (λ y m. grind (arith, ints))
+        (λ y z w a b. grind (arith, ints)) x xs set.rises d c in grind (arith, ints)
 
--- it lies after the day found
-pub place_next : (tree : Tree) (from new to : ℤ) (found : DayTimes) (times : List ℕ) (number left : ℕ)
-    → IsFromYearOne from → before_day tree from + left ≡ number → IsNext tree from to (Ok (Some found)) new → times ≡ found.times → length times < left
-    → (new ≡ new) × (new ≤ℤ (to +ℤ pos 1)) × (1 ≤ left - length times) × (before_day tree new + (left - length times) ≡ number)
-place_next tree from new to found times number left begun counted n same above =
-    let c = day_counted tree from begun found.day found.times n.0 in
-    let many = ap length same in
-    ((λ i. new), omega (arith, ints, n.1, n.2), omega (arith, above), omega (arith, ap (before_day tree) n.2, c.1, counted, above, many))
+    -- how many come after the head
+    abbrev pub after_head : ℕ
+    after_head = nat_abs ((q +ℤ pos n) -ℤ (x +ℤ pos 1))
+
+    end_is : (x +ℤ pos 1) +ℤ pos (nat_abs ((q +ℤ pos n) -ℤ (x +ℤ pos 1))) ≡ q +ℤ pos n
+    end_is = omega (arith, ints, head_is.1)
+
+    rest_set : IsSetOf int_lt xs (PassedFrom (x +ℤ pos 1) after_head)
+    rest_set = record {
+      rises = Rises-tail int_lt x xs set.rises;
+      exact = λ d. (
+        (λ c. (let h = (set.exact d).0 (Contains-tail x xs d c) in (omega (arith, ints, above_head d c), omega (arith, ints, h.1, end_is), h.2))),
+        (λ h. elim (Contains-cons_cases x xs d
+            ((set.exact d).1 (omega (arith, ints, h.0, head_is.0), omega (arith, ints, h.1, end_is), h.2))) [
+              | inl e ↦ absurd
+                  (omega (arith, ints, e, h.0))
+              | inr c ↦ c
+            ]),
+      );
+    }
+
+    none_before : count_from test q (nat_abs (x -ℤ q)) ≡ 0
+    none_before = count_none test q (nat_abs (x -ℤ q)) (λ d l h. elim (test d) as (λ b. test d ≡ b → test d ≡ false) [
+      | false ↦ λ e. e
+      | true ↦ λ e. absurd (elim (Contains-cons_cases x xs d ((set.exact d).1 (l, omega (arith, ints, h, head_is.0, head_is.1), e))) [
+        | inl f ↦ omega
+            (arith, ints, f, h, head_is.0)
+        | inr c ↦ omega (arith, ints, above_head d c, h, head_is.0)
+      ])
+    ] refl)
+
+    -- the count up to one after the head: the head, and those after it
+    up_to : (d : ℤ) → x <ℤ d → count_from test q (nat_abs (d -ℤ q)) ≡ 1 + count_from test (x +ℤ pos 1) (nat_abs (d -ℤ (x +ℤ pos 1)))
+    up_to d l =
+        let m : ℕ = nat_abs (x -ℤ q) in
+        let k : ℕ = nat_abs (d -ℤ (x +ℤ pos 1)) in
+        let e : nat_abs (d -ℤ q) ≡ m + suc k = omega (arith, ints, l, head_is.0) in
+        let at : q +ℤ pos m ≡ x = omega (arith, ints, head_is.0) in
+        ap (count_from test q) e ∙ count_from-split test q m (suc k) ∙ omega
+        (arith, none_before, ap (λ z. count_from test z (suc k)) at, count_from-first test x k, ap one head_is.2)
+
+  -- the place of each, and the length
+  pub place_is : (xs : List ℤ) (q : ℤ) (n : ℕ) → IsSetOf int_lt xs (PassedFrom q n) → (i : ℕ) → i < length xs
+      → count_from test q (nat_abs (get_or xs i (pos 0) -ℤ q)) ≡ i
+  place_is [] q n set i low = absurd (omega (arith, low))
+  place_is (x ∷ xs) q n set zero low = none_before x xs q n set
+  place_is (x ∷ xs) q n set (suc i) low =
+      let d = get_or xs i (pos 0) in
+      up_to x xs q n set d (above_head x xs q n set d (Contains-get_or xs i (pos 0) (omega (arith, low))))
+      ∙ omega (arith, place_is xs (x +ℤ pos 1) (after_head x xs q n set) (rest_set x xs q n set) i (omega (arith, low)))
+
+  pub length_is : (xs : List ℤ) (q : ℤ) (n : ℕ) → IsSetOf int_lt xs (PassedFrom q n) → count_from test q n ≡ length xs
+  length_is [] q n set = count_none test q n (λ d l h. elim (test d) as (λ b. test d ≡ b → test d ≡ false) [
+    | false ↦ λ e. e
+    | true ↦ λ e. absurd (Contains-none d ((set.exact d).1 (l, h, e)))
+  ] refl)
+  length_is (x ∷ xs) q n set =
+      let h = head_is x xs q n set in
+      let last : ℤ = q +ℤ pos n in
+      let m : ℕ = nat_abs (x -ℤ q) in
+      let k : ℕ = after_head x xs q n set in
+      let e : n ≡ m + suc k = omega (arith, ints, h.0, h.1) in
+      let at : q +ℤ pos m ≡ x = omega (arith, ints, h.0) in
+      let rest : count_from test (x +ℤ pos 1) k ≡ length xs = length_is xs (x +ℤ pos 1) k (rest_set x xs q n set) in
+      ap (count_from test q) e ∙ count_from-split test q m (suc k) ∙ omega
+      (arith, none_before x xs q n set, ap (λ z. count_from test z (suc k)) at, count_from-first test x k, ap one h.2, rest)
+
+-- ---- candidate days
+
+both : (a b : Bool) → a ≡ true → b ≡ true → (a && b) ≡ true
+both a b e f = rw (e, f) refl
+
+-- the place of a candidate day in the list of its unit's is the count of those before it, and the list's length the count of all
+pub places_are_counts : (rule : Rule) (start_day unit : ℤ) (days : List ℤ) (i : ℕ) → IsSetOf int_lt days (IsCandidateDay rule start_day unit) → i < length days
+    → (days_before rule start_day (get_or days i (pos 0)) ≡ i) × (days_of_unit rule start_day (get_or days i (pos 0)) ≡ length days)
+places_are_counts rule start_day unit days i set low =
+    let d = get_or days i (pos 0) in
+    let own = (set.exact d).0 (Contains-get_or days i (pos 0) low) in
+    let test : ℤ → Bool = λ z. date_parts_hold (filled rule Days start_day) z in
+    let first = first_of_unit rule d in
+    let next = next_of_unit rule d in
+    let n : ℕ = nat_abs (next -ℤ first) in
+    let within = (units_are_stretches rule.freq rule.week_start Days d (unit_number rule.freq rule.week_start Days d)).0 refl in
+    let fits : interval_holds rule Days start_day d ≡ true = and_left (interval_holds rule Days start_day d) (test d) own.1 in
+    let passed : IsSetOf int_lt days (PassedFrom test first n) =
+    set_same int_lt (IsCandidateDay rule start_day unit) (PassedFrom test first n) days set
+    (λ e. (let stretch = units_are_stretches rule.freq rule.week_start Days e (unit_number rule.freq rule.week_start Days d) in (
+      (λ h. (let s = stretch.0 (h.0 ∙ sym own.0) in
+          (s.0, omega (arith, ints, s.1, within.0, within.1), and_right (interval_holds rule Days start_day e) (test e) h.1))),
+      (λ h. (let same = stretch.1 (h.0, omega (arith, ints, h.1, within.0, within.1)) in (
+        same ∙ own.0,
+        both (interval_holds rule Days start_day e) (test e)
+            (ap (λ u. divides rule.interval (u -ℤ unit_number rule.freq rule.week_start Days start_day)) same ∙ fits) h.2,
+      ))),
+    ))) in
+    (place_is test days first n passed i low, length_is test days first n passed)

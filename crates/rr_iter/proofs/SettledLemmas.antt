@@ -15,7 +15,7 @@ use Rattle.rr_model.specs.Moment.{day_part}
 use Rattle.rr_model.specs.Rule.Validity.{EndsInYears, IsValidRule}
 use Rattle.rr_model.specs.Series.Limits.{CountsTooFar, IsCountedTooFar}
 use Rattle.rr_model.specs.Series.Settled.{EndsBefore, LieBefore, IsPast, IsSettledDay}
-use Rattle.rr_model.specs.Series.Soundness.{FitsStart, HasNoSetPositions, IsSound}
+use Rattle.rr_model.specs.Series.Soundness.{FitsStart, IsSound}
 use Rattle.rr_model.specs.declared.kind.Kind.{Kind}
 use Rattle.rr_model.specs.declared.refusal.Fault.{Fault}
 use Rattle.rr_model.specs.declared.refusal.Fault.TheVariants.{Refused, NoMemory}
@@ -88,11 +88,10 @@ module _ (series : Series) (sound : IsSound series) where
       }
 
   -- each rule beside the start
-  pub rule_is_sound : HasNoSetPositions series → (k : ℕ) (rule : Rule) → k < length series.rules → get_or series.rules k rule ≡ rule
+  pub rule_is_sound : (k : ℕ) (rule : Rule) → k < length series.rules → get_or series.rules k rule ≡ rule
       → IsSoundRule series.kind series.start rule
-  rule_is_sound plain k rule l e = record {
+  rule_is_sound k rule l e = record {
     valid = subst (IsValidRule series.kind) e (sound.valid.rules k rule l);
-    plain = subst (λ r. r.by_set_pos ≡ []) e (plain k rule l);
     in_years = sound.valid.start;
     ends_in_years = subst (λ r. EndsInYears r.end) e (sound.valid.ends k rule l);
     fits = subst (FitsStart series.kind series.start) e (sound.rules k rule l);

@@ -17,10 +17,9 @@ use Rattle.rr_lazy.specs.Next.{HasNone}
 use Rattle.rr_iter.specs.declared.place.Place.{Place}
 use Rattle.rr_iter.specs.declared.place.Place.TheVariants.{On, Beyond}
 
--- a rule of a sound series, beside its start, without BYSETPOS
+-- a rule of a sound series, beside its start
 pub record IsSoundRule (kind : Kind) (start : ℤ) (rule : Rule) : Type 0 where
   pub valid : IsValidRule kind rule
-  pub plain : rule.by_set_pos ≡ []
   pub in_years : IsInYears kind start
   pub ends_in_years : EndsInYears rule.end
   pub fits : FitsStart kind start rule

@@ -3,7 +3,6 @@ ghost use Rattle.std.specs.Prelude.{◌≡◌, ◌+ℤ◌, ◌≤ℤ◌, ◌<ℤ
 ghost use Rattle.rr_model.specs.Answers.{RefusedExactlyWhere};
 ghost use Rattle.rr_model.specs.Series.Limits.{IsCountedTooFar};
 ghost use Rattle.rr_model.specs.Series.Settled.{IsSettledDay, LieBefore};
-ghost use Rattle.rr_model.specs.Series.Soundness.{HasNoSetPositions};
 ghost use Rattle.rr_model.specs.declared.refusal.Refusal.TheVariants.{CountedTooFar};
 
 use crate::last_day::last_day;
@@ -11,13 +10,12 @@ use rr_check::Checked;
 use rr_model::{Dates, Fault, Kind, day_part};
 use std::alloc::Global;
 
-/// The settled day of a series whose rules have no BYSETPOS, in days since 1970-01-01: the day after the last of its
+/// The settled day of a series, in days since 1970-01-01: the day after the last of its
 /// start, its dates, added or taken out, and the UNTIL or else the last member of each rule that ends (RFC 5545,
 /// section 3.8.5). From it on the series repeats with its cycle.
 ///
 /// `CountedTooFar` exactly where a rule with a COUNT has a member more than `MAX_SPAN_DAYS` days after the start's day.
 pub fn ends(alloc: Global, series: &Checked) -> Result<i64, Fault>
-    requires without_set_positions { HasNoSetPositions series.now }
     ensures settled { IfOk result (IsSettledDay series.now) }
     ensures near { IfOk result (λ day. (neg_ℤ (pos 719_162) <ℤ day) × (day ≤ℤ pos 19_710_113)) }
     ensures refused { RefusedExactlyWhere (IsCountedTooFar series.now) CountedTooFar result }

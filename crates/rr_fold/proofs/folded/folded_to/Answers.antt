@@ -14,7 +14,7 @@ use Rattle.rr_fold.proofs.DistinctLemmas.{not_too_many}
 use Rattle.rr_fold.proofs.FoldLemmas.{refused_so}
 use Rattle.rr_fold.proofs.SketchedLemmas.{sketch_stands_for}
 use Rattle.rr_fold.proofs.WholeFoldLemmas.{cycle_some, settled_low, whole_fold}
-use Rattle.rr_fold.specs.Folding.{IsFoldedTo}
+use Rattle.rr_fold.specs.Folding.{HasNoneBefore, IsFoldedTo}
 use Rattle.rr_fold.specs.Sketched.{sketch_of, IsWholeFold}
 use Rattle.rr_fold.specs.declared.fill.FoldedDays.{FoldedDays}
 use Rattle.rr_fold.specs.declared.folded.Folded.{Folded}
@@ -65,7 +65,7 @@ folded_days-requires-clause-early c =
     let order = rw value at c.first_day-first.ensures.order in
     let first_back = back c.first_day-first.result (omega (arith, ints, c.first_day-first.ensures.low))
     (omega (arith, ints, order, c.requires.settled.past.start, c.requires.high)) in
-    rw first_back (rw value at c.first_day-first.ensures.early)
+    rw first_back (subst (λ z. HasNoneBefore (tree_of z) c.first_day-first.result) value c.first_day-first.ensures.early)
 
 pub sequence-requires : goal.sequence-requires
 sequence-requires c =

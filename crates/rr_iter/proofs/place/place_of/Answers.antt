@@ -3,7 +3,7 @@ use Rattle.std.proofs.lemmas.Int.{ints}
 use Rattle.rr_model.proofs.YearLemmas.{year_1}
 use Rattle.rr_lazy.proofs.FirstLemmas.{first_day_is}
 use Rattle.rr_lazy.proofs.AheadLemmas.{day_fits}
-use Rattle.rr_iter.proofs.PlaceLemmas.{unasked_counted, place_none, place_some, place_next}
+use Rattle.rr_iter.proofs.NumberLemmas.{unasked_counted, place_none, place_some, place_next}
 use Rattle.rr_iter.proofs.place.place_of.Goals as goal
 
 pub days-init : goal.days-init

@@ -35,7 +35,7 @@ last_day-requires c =
     let within : c.loop-rule.rule-index < length series.rules = rw listed at c.loop-rule-test.true in
     let item : get_or series.rules c.loop-rule.rule-index c.rule-item.result ≡ c.rule-item.result = rw listed at (sym c.rule-item.is) in
     let index = c.loop-rule.rule-index in
-    let fits = rule_is_sound series sound c.requires.without_set_positions index c.rule-item.result within item in
+    let fits = rule_is_sound series sound index c.rule-item.result within item in
     record { sound = rw (to_z-of_z start, value) fits }
 
 pub returns-in-Err-clause-refused : goal.returns-in-Err-clause-refused
