@@ -3,7 +3,8 @@ use Rattle.std.proofs.Common.{◌≡◌, ℕ, ◌+◌, List, take, Option, Some,
 use Rattle.std.specs.Prelude.{Result, Ok, Err, IfOk, option_and_then}
 use Rattle.rr_io.specs.Outside.{KeepsHeld}
 use Rattle.rr_model.specs.declared.limits.TheConstants.{MAX_INPUT}
-use Rattle.rr_cli.specs.Answer.{Answer, IsAnswer, IsSaid}
+use Rattle.rr_cli.specs.Answer.{IsAnswer, IsSaid}
+use Rattle.rr_cli.specs.Said.{Answer}
 use Rattle.rr_cli.specs.Command.{Command, Operand, content, contents, not_built}
 use Rattle.rr_cli.specs.declared.command.Task.{Task}
 

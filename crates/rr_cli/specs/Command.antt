@@ -159,6 +159,9 @@ usage_text =
 -- what can be asked so far
 abbrev pub is_task_built : Task → Bool
 is_task_built task.Equal = true
+is_task_built task.Within = true
+is_task_built task.Disjoint = true
+is_task_built task.Canon = true
 is_task_built task.Check = true
 is_task_built _ = false
 

@@ -72,7 +72,10 @@ pub struct Command<'a> {
 fn is_task_built(task: Task) -> bool
     ensures { result ≡ is_task_built task }
 {
-    matches!(task, Task::Equal | Task::Check)
+    matches!(
+        task,
+        Task::Equal | Task::Within | Task::Disjoint | Task::Canon | Task::Check
+    )
 }
 
 // Whether the texts of the operand can be read.

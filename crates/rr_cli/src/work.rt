@@ -6,9 +6,11 @@ ghost use Rattle.rr_cli.specs.Command.{content, contents, IsNameOf, IsOperandOf}
 ghost use Rattle.rr_cli.specs.Outcome.{answer_of};
 ghost use Rattle.rr_cli.specs.Parsed.{command_in, operand_in};
 
+use crate::canon::canon_outcome;
 use crate::check::check_outcome;
 use crate::command::{Command, Operand, Task, not_built};
-use crate::outcome::{Outcome, equal_outcome, refused};
+use crate::outcome::{Outcome, refused};
+use crate::verdicts::{Question, verdict_outcome};
 use rr_io::{FetchError, Source};
 use rr_model::{NoMemory, Refusal, Side};
 use std::alloc::Global;
@@ -35,7 +37,10 @@ fn said(alloc: Global, task: Task, a: &[u8], b: &[u8]) -> Result<Outcome, NoMemo
     ensures { IfOk result (λ x. IsSaid task (a.now, b.now) (answer_of x)) }
 {
     match task {
-        Task::Equal => equal_outcome(alloc, a, b),
+        Task::Equal => verdict_outcome(alloc, Question::Equal, a, b),
+        Task::Within => verdict_outcome(alloc, Question::Within, a, b),
+        Task::Disjoint => verdict_outcome(alloc, Question::Disjoint, a, b),
+        Task::Canon => canon_outcome(alloc, a),
         Task::Check => check_outcome(alloc, a),
         _ => refused(alloc, Side::A, Refusal::NotBuilt),
     }
