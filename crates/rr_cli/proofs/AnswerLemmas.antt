@@ -2,6 +2,7 @@
 use Rattle.std.proofs.Common.{◌≡◌, ℕ, List, Option, Some, None, sym, ◌∙◌}
 use Rattle.std.specs.Prelude.{Result}
 use Rattle.rr_fold.specs.Judged.{all_limits}
+use Rattle.rr_model.specs.Series.Cycle.{series_cycle}
 use Rattle.rr_model.specs.Series.FirstRefusal.{FirstRefusalIsOne}
 use Rattle.rr_model.specs.declared.refusal.Refusal.{Refusal}
 use Rattle.rr_model.specs.declared.rule.Series.{Series}
@@ -32,7 +33,7 @@ module _ (one : FirstRefusalIsOne) where
   said_of_task_is_one task.Within both x y p q = verdict_answer_is_one Within (series_read both.0) (series_read both.1) x y p q
   said_of_task_is_one task.Disjoint both x y p q = verdict_answer_is_one Disjoint (series_read both.0) (series_read both.1) x y p q
   said_of_task_is_one task.Canon both x y p q = said_within_is_one one A all_limits (series_read both.0) IsCanonSaid canon_said_is_one x y p q
-  said_of_task_is_one task.Check both x y p q = said_within_is_one one A cycle_limit (series_read both.0) (λ s z. z ≡ cycle_said s) (λ s z w h l. h ∙ sym l) x y p q
+  said_of_task_is_one task.Check both x y p q = said_within_is_one one A cycle_limit (series_read both.0) (λ s z. z ≡ cycle_said (series_cycle s)) (λ s z w h l. h ∙ sym l) x y p q
   said_of_task_is_one (task.Translate target) both x y p q = p ∙ sym q
   said_of_task_is_one task.Infer both x y p q = p ∙ sym q
   said_of_task_is_one (task.List count) both x y p q = p ∙ sym q

@@ -1,24 +1,37 @@
 -- What the texts tell that `canon` puts.
-use Rattle.std.proofs.Common.{◌≡◌, ◌↔◌, ℕ, List, ℤ, None, Option, Some, refl, sym, ap, subst, ◌∙◌}
+use Rattle.std.proofs.Common.{◌≡◌, ℕ, List, None, Option, Some, sym, ap, subst, ◌∙◌}
 use Rattle.std.specs.Prelude.{Result, Ok, Err}
+use Rattle.rr_canon.proofs.AnswerLemmas.{text_of_least}
 use Rattle.rr_canon.proofs.PrintableLemmas.{descriptor_text_tells, texts_are_equal_exactly}
+use Rattle.rr_canon.proofs.YearOneLemmas.{occurs_from_year_one}
 use Rattle.rr_fold.specs.Judged.{all_limits}
 use Rattle.rr_model.specs.Series.Occurrences.{Occurs}
 use Rattle.rr_model.specs.Sets.DescriptorText.{descriptor_text}
+use Rattle.rr_model.specs.Sets.Least.{IsLeastSketch}
 use Rattle.rr_model.specs.Sets.Printable.{IsTextOf}
+use Rattle.rr_model.specs.Sets.Sketch.{IsDaySequence, StandsIn}
+use Rattle.rr_model.specs.Sets.Verdict.{HaveEqualOccurrences}
 use Rattle.rr_model.specs.declared.refusal.Refusal.{Refusal}
 use Rattle.rr_model.specs.declared.rule.Series.{Series}
+use Rattle.rr_model.specs.declared.sketch.Sketch.{Sketch}
 use Rattle.rr_model.specs.declared.verdict.Side.{Side}
 use Rattle.rr_model.specs.declared.verdict.Side.TheVariants.{A}
-use Rattle.rr_cli.specs.Answer.{CanonTellsApart, IsAnswerOf, IsCanonSaid, PutsCanon}
+use Rattle.rr_cli.specs.Answer.{CanonTellsApart, IsAnswerOf, IsCanonSaid}
 use Rattle.rr_cli.specs.Command.{not_built}
+use Rattle.rr_cli.specs.Folding.{IsFoldOf}
 use Rattle.rr_cli.specs.Judgement.{IsJudged}
 use Rattle.rr_cli.specs.Reading.{series_read}
-use Rattle.rr_cli.specs.Said.{Answer, IsRefusedOr, IsSaidWithin}
+use Rattle.rr_cli.specs.Said.{Answer, IsRefusedOr}
 use Rattle.rr_cli.specs.declared.command.Task.{Task}
 use Rattle.rr_cli.specs.declared.command.Task.TheVariants.{Canon}
-use Rattle.rr_cli.specs.declared.program.Status.{Status}
 use Rattle.rr_cli.specs.declared.program.Status.TheVariants.{Yes}
+
+-- the text of the least sketch is that of a series for whose occurrences the folded sketch stands
+pub text_of_fold :
+    (s u : Sketch) (series : Series) (bytes : List ℕ) → HaveEqualOccurrences (StandsIn s) (StandsIn u) → IsLeastSketch u → IsDaySequence u
+    → bytes ≡ descriptor_text u → IsFoldOf series s → IsTextOf descriptor_text (Occurs series) bytes
+text_of_fold s u series bytes same least bounded e fold =
+    text_of_least descriptor_text s u (Occurs series) bytes fold.stands same least bounded (λ k t p. occurs_from_year_one series k t fold.valid p) e
 
 pub canon_said_is_one : (series : Series) (x y : Answer) → IsCanonSaid series x → IsCanonSaid series y → x ≡ y
 canon_said_is_one series x y p q =

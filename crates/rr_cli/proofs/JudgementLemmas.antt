@@ -1,21 +1,28 @@
 -- What is judged of a series, from what calls answer.
-use Rattle.std.proofs.Common.{◌≡◌, ◌≢◌, ◌⊎◌, inl, inr, ◌<◌, ◌≤◌, ℕ, Bool, true, false, Option, None, Some, refl, sym, ap, ◌∙◌, arith}
+use Rattle.std.proofs.Common.{◌≡◌, inl, inr, ◌<◌, ◌≤◌, ℕ, Bool, true, false, not, ◌||◌, List, [], ◌∷◌, ℤ, Option, None, Some, refl, sym, ap, subst, ◌∙◌, arith}
 use Rattle.std.specs.Prelude.{IsTrue, Result, Ok, Err, IfOk, IfErr}
+use Rattle.std.specs.List.{All, list_any}
 use Rattle.std.proofs.lemmas.Bool.{false≢true}
+use Rattle.std.proofs.lemmas.List.Elements.{All-cons, All-nil}
 use Rattle.rr_fold.specs.Judged.{all_limits, IsJudged as IsFolded}
+use Rattle.rr_model.specs.Rule.Validity.{is_absent}
 use Rattle.rr_model.specs.Series.Cycle.{series_cycle}
 use Rattle.rr_model.specs.Series.FirstRefusal.{FirstRefusalIsOne, IsFirstRefusal, IsLimitRefusal, IsRefusalOr, Limits}
 use Rattle.rr_model.specs.Series.Occurrences.{Occurs}
-use Rattle.rr_model.specs.Series.Soundness.{first_refusal}
+use Rattle.rr_model.specs.Series.Soundness.{HasNoSetPositions, first_refusal}
+use Rattle.rr_model.specs.Series.Validity.{IsValidSeries}
 use Rattle.rr_model.specs.Sets.Sketch.{StandsFor}
 use Rattle.rr_model.specs.declared.limits.TheConstants.{MAX_CYCLE_DAYS}
 use Rattle.rr_model.specs.declared.refusal.Fault.{Fault}
 use Rattle.rr_model.specs.declared.refusal.Fault.TheVariants.{NoMemory, Refused}
 use Rattle.rr_model.specs.declared.refusal.Refusal.{Refusal}
 use Rattle.rr_model.specs.declared.refusal.Refusal.TheVariants.{CycleTooLong, NotBuilt}
+use Rattle.rr_model.specs.declared.rule.Rule.{Rule}
 use Rattle.rr_model.specs.declared.rule.Series.{Series}
 use Rattle.rr_model.specs.declared.sketch.Sketch.{Sketch}
 use Rattle.rr_model.specs.declared.verdict.Side.{Side}
+use Rattle.rr_model.specs.declared.verdict.Side.TheVariants.{A}
+use Rattle.rr_cli.specs.Answer.{cycle_said}
 use Rattle.rr_cli.specs.Folding.{IsFoldedFrom}
 use Rattle.rr_cli.specs.Judgement.{IsAdmitted, IsFault, IsJudged, IsRefusal, cycle_limit, has_set_positions, set_position_refusal}
 use Rattle.rr_cli.specs.Outcome.{IsFaultSaid}
@@ -73,11 +80,56 @@ module _ (limits : Limits) (read : Result Series Refusal) where
 pub within_cycle_limit : (series : Series) → series_cycle series ≤ MAX_CYCLE_DAYS → IsLimitRefusal cycle_limit series None
 within_cycle_limit series few = inr ((λ h. absurd (omega (arith, h.1, few))), inr ((λ h. false≢true h.0), inr ((λ h. false≢true h.0), refl)))
 
+absent : (part : List ℤ) → not (is_absent part) ≡ false → part ≡ []
+absent [] e = refl
+absent (x ∷ xs) e = absurd (false≢true (sym e))
+
+neither : (a b : Bool) → (a || b) ≡ false → (a ≡ false) × (b ≡ false)
+neither true b e = absurd (false≢true (sym e))
+neither false b e = (refl, e)
+
+all_absent : (rules : List Rule) → list_any (λ rule. not (is_absent rule.by_set_pos)) rules ≡ false → All (λ rule. rule.by_set_pos ≡ []) rules
+all_absent [] e = All-nil (λ (rule : Rule). rule.by_set_pos ≡ [])
+all_absent (rule ∷ rules) e =
+    let both = neither (not (is_absent rule.by_set_pos)) (list_any (λ (r : Rule). not (is_absent r.by_set_pos)) rules) e in
+    All-cons (λ (r : Rule). r.by_set_pos ≡ []) rule rules (absent rule.by_set_pos both.0) (all_absent rules both.1)
+
+-- where no set position stands, no rule has any
+pub without_set_positions : (series : Series) → has_set_positions series ≡ false → HasNoSetPositions series
+without_set_positions series e = all_absent series.rules e
+
+-- the parts of an admitted series, as the code has them
+pub admitted_as :
+    (read : Result Series Refusal) (series checked : Series) (cycle : ℕ) (test : Bool) → read ≡ Ok series → IsValidSeries series
+    → test ≡ has_set_positions series → test ≡ false → checked ≡ series → first_refusal series ≡ None → cycle ≡ series_cycle checked → cycle ≤ MAX_CYCLE_DAYS
+    → IsAdmitted read checked cycle
+admitted_as read series checked cycle test is_read valid is_test plain same unrefused cycle_is few =
+    subst (λ (x : Series). cycle ≡ series_cycle x → IsAdmitted read x cycle) (sym same)
+    (λ e. record {
+      is_read = is_read;
+      valid = valid;
+      without_set_positions = without_set_positions series (sym is_test ∙ plain);
+      plain = sym is_test ∙ plain;
+      unrefused = unrefused;
+      cycle_is = e;
+      few = few;
+    }) cycle_is
+
 -- ---- what is said of a fault
 
 pub fault_said : (side : Side) (limits : Limits) (read : Result Series Refusal) (says : Series → Answer → Type 0) (fault : Fault) (answer : Answer) → IsFault limits read fault → IsFaultSaid side fault answer → IsSaidWithin side limits read says answer
 fault_said side limits read says (Refused refusal) answer h said = record { judged = Err refusal; is_judged = h; is_said = said }
 fault_said side limits read says NoMemory answer h said = absurd said
+
+-- the cycle is said of an admitted series
+pub cycle_is_said : (read : Result Series Refusal) (series : Series) (cycle : ℕ) (answer : Answer) → IsAdmitted read series cycle → answer ≡ cycle_said cycle → IsSaidWithin A cycle_limit read (λ s x. x ≡ cycle_said (series_cycle s)) answer
+cycle_is_said read series cycle answer a e =
+    let few : series_cycle series ≤ MAX_CYCLE_DAYS = omega (arith, a.cycle_is, a.few) in
+    record {
+      judged = Ok series;
+      is_judged = passed cycle_limit read series cycle a (within_cycle_limit series few);
+      is_said = e ∙ ap cycle_said a.cycle_is;
+    }
 
 -- ---- what a fold answers
 

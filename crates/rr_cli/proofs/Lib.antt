@@ -5,4 +5,5 @@ pub mod SaidOfBothLemmas
 pub mod VerdictLemmas
 pub mod WordLemmas
 pub mod WorkLemmas
+pub mod ReadingLemmas
 pub mod RunLemmas

@@ -1,7 +1,6 @@
 -- From a verdict on sketches to what is said of their series.
-use Rattle.std.proofs.Common.{◌≡◌, ◌↔◌, inl, inr, ℕ, ◌<◌, ◌≤◌, false, true, ℤ, pos, ◌≤ℤ◌, refl, sym, ap, ◌∙◌, arith}
+use Rattle.std.proofs.Common.{◌≡◌, inl, inr, ◌≤◌, ℤ, pos, ◌≤ℤ◌, refl, sym, ap, ◌∙◌, arith}
 use Rattle.std.proofs.lemmas.Int.{ints}
-use Rattle.std.specs.Prelude.{IsTrue}
 use Rattle.rr_canon.proofs.YearOneLemmas.{occurs_from_year_one}
 use Rattle.rr_decide.specs.Occurrence.{NamesUpToMaxDay}
 use Rattle.rr_model.specs.Moment.{Occurrences, day_part}

@@ -35,8 +35,8 @@ abbrev pub IsCanonSaid : Series → Answer → Type 0
 IsCanonSaid series answer = (answer.status ≡ status.Yes) × IsTextOf descriptor_text (Occurs series) answer.bytes
 
 -- `check`: the cycle in days
-abbrev pub cycle_said : Series → Answer
-cycle_said series = record { status = status.Yes; bytes = line (codes "cycle " ++ decimal (series_cycle series)) }
+abbrev pub cycle_said : ℕ → Answer
+cycle_said days = record { status = status.Yes; bytes = line (codes "cycle " ++ decimal days) }
 
 -- what is said of the bytes of the operands, by what is asked
 abbrev pub IsSaid : Task → List ℕ × List ℕ → Answer → Type 0
@@ -44,7 +44,7 @@ IsSaid task.Equal both answer = IsVerdictAnswer question.Equal (series_read both
 IsSaid task.Within both answer = IsVerdictAnswer question.Within (series_read both.0) (series_read both.1) answer
 IsSaid task.Disjoint both answer = IsVerdictAnswer question.Disjoint (series_read both.0) (series_read both.1) answer
 IsSaid task.Canon both answer = IsSaidWithin A all_limits (series_read both.0) IsCanonSaid answer
-IsSaid task.Check both answer = IsSaidWithin A cycle_limit (series_read both.0) (λ s x. x ≡ cycle_said s) answer
+IsSaid task.Check both answer = IsSaidWithin A cycle_limit (series_read both.0) (λ s x. x ≡ cycle_said (series_cycle s)) answer
 IsSaid _ both answer = answer ≡ refused A NotBuilt
 
 -- the refusal of the side that is not built, else what is said

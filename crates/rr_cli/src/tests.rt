@@ -344,10 +344,7 @@ const NO_COMMANDS: [&[&str]; 33] = [
 // Commands that are not built, and what is said of them.
 const NOT_BUILT: [(&[&str], &[u8]); 16] = [
     (&["within", "vcal:a", "rrule:b"], b"refused A NotBuilt\n"),
-    (
-        &["disjoint", "rrule:a", "graph:-"],
-        b"refused B NotBuilt\n",
-    ),
+    (&["disjoint", "rrule:a", "graph:-"], b"refused B NotBuilt\n"),
     (&["canon", "list:a"], b"refused A NotBuilt\n"),
     (&["infer", "list:a"], b"refused A NotBuilt\n"),
     (&["translate", "rrule", "rrule:a"], b"refused A NotBuilt\n"),
@@ -389,7 +386,12 @@ fn verdicts_and_refusals(rt: HostRuntime) -> Result<(), Fail> {
         source.hold("b", b).ok().ok_or("memory")?;
         let mut sink = SteadySink::new(alloc);
         assert_eq!(rt;
-            run(alloc, &[asked, "rrule:a", "rrule:b"], &mut source, &mut sink),
+            run(
+                alloc,
+                &[asked, "rrule:a", "rrule:b"],
+                &mut source,
+                &mut sink
+            ),
             status
         );
         assert_eq!(rt; sink.bytes(), text);
