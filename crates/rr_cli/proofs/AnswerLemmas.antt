@@ -23,9 +23,11 @@ use Rattle.rr_cli.proofs.JudgementLemmas.{said_within_is_one}
 use Rattle.rr_cli.proofs.SaidOfBothLemmas.{said_of_both_is_one}
 
 module _ (one : FirstRefusalIsOne) where
-  verdict_answer_is_one : (question : Question) (a b : Result Series Refusal) (x y : Answer) → IsVerdictAnswer question a b x → IsVerdictAnswer question a b y → x ≡ y
+  verdict_answer_is_one :
+      (question : Question) (a b : Result Series Refusal) (x y : Answer) → IsVerdictAnswer question a b x → IsVerdictAnswer question a b y → x ≡ y
   verdict_answer_is_one question a b =
-      said_within_is_one one A all_limits a (λ s. IsSaidWithin B all_limits b (IsSaidOfBoth question s)) (λ s. said_within_is_one one B all_limits b (IsSaidOfBoth question s) (said_of_both_is_one question s))
+      said_within_is_one one A all_limits a (λ s. IsSaidWithin B all_limits b (IsSaidOfBoth question s))
+      (λ s. said_within_is_one one B all_limits b (IsSaidOfBoth question s) (said_of_both_is_one question s))
 
   -- a task over two texts has one answer
   said_of_task_is_one : (task : Task) (both : List ℕ × List ℕ) (x y : Answer) → IsSaid task both x → IsSaid task both y → x ≡ y
@@ -33,13 +35,15 @@ module _ (one : FirstRefusalIsOne) where
   said_of_task_is_one task.Within both x y p q = verdict_answer_is_one Within (series_read both.0) (series_read both.1) x y p q
   said_of_task_is_one task.Disjoint both x y p q = verdict_answer_is_one Disjoint (series_read both.0) (series_read both.1) x y p q
   said_of_task_is_one task.Canon both x y p q = said_within_is_one one A all_limits (series_read both.0) IsCanonSaid canon_said_is_one x y p q
-  said_of_task_is_one task.Check both x y p q = said_within_is_one one A cycle_limit (series_read both.0) (λ s z. z ≡ cycle_said (series_cycle s)) (λ s z w h l. h ∙ sym l) x y p q
+  said_of_task_is_one task.Check both x y p q =
+      said_within_is_one one A cycle_limit (series_read both.0) (λ s z. z ≡ cycle_said (series_cycle s)) (λ s z w h l. h ∙ sym l) x y p q
   said_of_task_is_one (task.Translate target) both x y p q = p ∙ sym q
   said_of_task_is_one task.Infer both x y p q = p ∙ sym q
   said_of_task_is_one (task.List count) both x y p q = p ∙ sym q
   said_of_task_is_one (task.Drill seed count) both x y p q = p ∙ sym q
 
-  answer_of_is_one : (task : Task) (side : Option Side) (both : List ℕ × List ℕ) (x y : Answer) → IsAnswerOf task side both x → IsAnswerOf task side both y → x ≡ y
+  answer_of_is_one :
+      (task : Task) (side : Option Side) (both : List ℕ × List ℕ) (x y : Answer) → IsAnswerOf task side both x → IsAnswerOf task side both y → x ≡ y
   answer_of_is_one task (Some side) both x y p q = p ∙ sym q
   answer_of_is_one task None both x y p q = said_of_task_is_one task both x y p q
 

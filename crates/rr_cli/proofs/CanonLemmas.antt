@@ -50,12 +50,16 @@ pub record IsOfRead (read : Result Series Refusal) (bytes : List ℕ) : Type 0 w
 abbrev done : List ℕ → Answer
 done bytes = record { status = Yes; bytes = bytes }
 
-of_judged : (read judged : Result Series Refusal) (bytes : List ℕ) → IsJudged all_limits read judged → IsRefusedOr A judged IsCanonSaid (done bytes) → IsOfRead read bytes
+of_judged :
+    (read judged : Result Series Refusal) (bytes : List ℕ) → IsJudged all_limits read judged → IsRefusedOr A judged IsCanonSaid (done bytes)
+    → IsOfRead read bytes
 of_judged read (Err refusal) bytes h said = let status = ap (λ (x : Answer). x.status) said in absurd (cc)
 of_judged (Err refusal) (Ok series) bytes h said = absurd (cc)
 of_judged (Ok series) (Ok judged) bytes h said = record { series = judged; is_read = ap Ok (sym h.0); text = said.1 }
 
-of_answer : (task : Task) (side : Option Side) (both : List ℕ × List ℕ) (bytes : List ℕ) → task ≡ Canon → IsAnswerOf task side both (done bytes) → IsOfRead (series_read both.0) bytes
+of_answer :
+    (task : Task) (side : Option Side) (both : List ℕ × List ℕ) (bytes : List ℕ) → task ≡ Canon → IsAnswerOf task side both (done bytes)
+    → IsOfRead (series_read both.0) bytes
 of_answer task (Some side) both bytes e h = let status = ap (λ (x : Answer). x.status) h in absurd (cc)
 of_answer task None both bytes e h =
     let said : IsAnswerOf Canon None both (done bytes) = subst (λ (t : Task). IsAnswerOf t None both (done bytes)) e h in

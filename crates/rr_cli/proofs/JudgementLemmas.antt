@@ -1,36 +1,32 @@
--- What is judged of a series, from what calls answer.
-use Rattle.std.proofs.Common.{◌≡◌, inl, inr, ◌<◌, ◌≤◌, ℕ, Bool, true, false, not, ◌||◌, List, [], ◌∷◌, ℤ, Option, None, Some, refl, sym, ap, subst, ◌∙◌, arith}
-use Rattle.std.specs.Prelude.{IsTrue, Result, Ok, Err, IfOk, IfErr}
+-- What is judged of a series that was read, and what is said then.
+use Rattle.std.proofs.Common.{◌≡◌, inr, ◌≤◌, ℕ, Bool, true, false, not, ◌||◌, List, [], ◌∷◌, ℤ, Option, None, Some, refl, sym, ap, subst, ◌∙◌, arith}
+use Rattle.std.specs.Prelude.{Result, Ok, Err}
 use Rattle.std.specs.List.{All, list_any}
 use Rattle.std.proofs.lemmas.Bool.{false≢true}
 use Rattle.std.proofs.lemmas.List.Elements.{All-cons, All-nil}
-use Rattle.rr_fold.specs.Judged.{all_limits, IsJudged as IsFolded}
 use Rattle.rr_model.specs.Rule.Validity.{is_absent}
 use Rattle.rr_model.specs.Series.Cycle.{series_cycle}
 use Rattle.rr_model.specs.Series.FirstRefusal.{FirstRefusalIsOne, IsFirstRefusal, IsLimitRefusal, IsRefusalOr, Limits}
-use Rattle.rr_model.specs.Series.Occurrences.{Occurs}
 use Rattle.rr_model.specs.Series.Soundness.{HasNoSetPositions, first_refusal}
 use Rattle.rr_model.specs.Series.Validity.{IsValidSeries}
-use Rattle.rr_model.specs.Sets.Sketch.{StandsFor}
 use Rattle.rr_model.specs.declared.limits.TheConstants.{MAX_CYCLE_DAYS}
 use Rattle.rr_model.specs.declared.refusal.Fault.{Fault}
 use Rattle.rr_model.specs.declared.refusal.Fault.TheVariants.{NoMemory, Refused}
 use Rattle.rr_model.specs.declared.refusal.Refusal.{Refusal}
-use Rattle.rr_model.specs.declared.refusal.Refusal.TheVariants.{CycleTooLong, NotBuilt}
 use Rattle.rr_model.specs.declared.rule.Rule.{Rule}
 use Rattle.rr_model.specs.declared.rule.Series.{Series}
-use Rattle.rr_model.specs.declared.sketch.Sketch.{Sketch}
 use Rattle.rr_model.specs.declared.verdict.Side.{Side}
 use Rattle.rr_model.specs.declared.verdict.Side.TheVariants.{A}
 use Rattle.rr_cli.specs.Answer.{cycle_said}
-use Rattle.rr_cli.specs.Folding.{IsFoldedFrom}
 use Rattle.rr_cli.specs.Judgement.{IsAdmitted, IsFault, IsJudged, IsRefusal, cycle_limit, has_set_positions, set_position_refusal}
 use Rattle.rr_cli.specs.Outcome.{IsFaultSaid}
 use Rattle.rr_cli.specs.Said.{Answer, IsRefusedOr, IsSaidWithin}
 
 -- ---- there is one judgement
 
-or_is_one : (next : Option Refusal → Type 0) → ((x y : Option Refusal) → next x → next y → x ≡ y) → (known x y : Option Refusal) → IsRefusalOr known next x → IsRefusalOr known next y → x ≡ y
+or_is_one :
+    (next : Option Refusal → Type 0) → ((x y : Option Refusal) → next x → next y → x ≡ y) → (known x y : Option Refusal)
+    → IsRefusalOr known next x → IsRefusalOr known next y → x ≡ y
 or_is_one next one None x y h l = one x y h l
 or_is_one next one (Some refusal) x y h l = h ∙ sym l
 
@@ -45,7 +41,10 @@ module _ (one : FirstRefusalIsOne) where
   judged_is_one limits (Ok series) (Ok s) (Err q) h l = let e = refusal_is_one limits series None (Some q) h.1 l in absurd (cc)
   judged_is_one limits (Ok series) (Ok s) (Ok u) h l = ap Ok (h.0 ∙ sym l.0)
 
-  pub said_within_is_one : (side : Side) (limits : Limits) (read : Result Series Refusal) (says : Series → Answer → Type 0) → ((series : Series) (x y : Answer) → says series x → says series y → x ≡ y) → (x y : Answer) → IsSaidWithin side limits read says x → IsSaidWithin side limits read says y → x ≡ y
+  pub said_within_is_one :
+      (side : Side) (limits : Limits) (read : Result Series Refusal) (says : Series → Answer → Type 0)
+      → ((series : Series) (x y : Answer) → says series x → says series y → x ≡ y)
+      → (x y : Answer) → IsSaidWithin side limits read says x → IsSaidWithin side limits read says y → x ≡ y
   said_within_is_one side limits read says one x y p q =
       let same = judged_is_one limits read q.judged p.judged q.is_judged p.is_judged in
       said p.judged p.is_said (rw same at q.is_said)
@@ -54,30 +53,15 @@ module _ (one : FirstRefusalIsOne) where
       said (Err refusal) h l = h ∙ sym l
       said (Ok series) h l = one series x y h l
 
--- ---- refusals
+-- ---- series that are admitted
 
-module _ (limits : Limits) (read : Result Series Refusal) where
-  pub text_refused : (refusal : Refusal) → read ≡ Err refusal → IsJudged limits read (Err refusal)
-  text_refused refusal e = rw e refl
-
-  pub positions_refused : (series : Series) → read ≡ Ok series → has_set_positions series ≡ true → IsJudged limits read (Err NotBuilt)
-  positions_refused series e some = rw (e, some) refl
-
-  pub rules_refused : (series : Series) (refusal : Refusal) → read ≡ Ok series → has_set_positions series ≡ false → first_refusal series ≡ Some refusal → IsJudged limits read (Err refusal)
-  rules_refused series refusal e plain refused = rw (e, plain, refused) refl
-
-  pub cycle_refused : (series : Series) → read ≡ Ok series → has_set_positions series ≡ false → first_refusal series ≡ None → IsTrue limits.cycle → MAX_CYCLE_DAYS < series_cycle series → IsJudged limits read (Err CycleTooLong)
-  cycle_refused series e plain sound judged over = rw (e, plain, sound) (inl ((judged, over), refl))
-
-  -- of an admitted series the limits alone are left
-  pub limit_refused : (series : Series) (cycle : ℕ) (refusal : Refusal) → IsAdmitted read series cycle → IsLimitRefusal limits series (Some refusal) → IsJudged limits read (Err refusal)
-  limit_refused series cycle refusal a h = rw (a.is_read, a.plain, a.unrefused) h
-
-  pub passed : (series : Series) (cycle : ℕ) → IsAdmitted read series cycle → IsLimitRefusal limits series None → IsJudged limits read (Ok series)
-  passed series cycle a h = rw (a.is_read, a.plain, a.unrefused) (refl, h)
+-- the limits alone are left
+passed : (limits : Limits) (read : Result Series Refusal) (series : Series) (cycle : ℕ) → IsAdmitted read series cycle → IsLimitRefusal limits series None
+    → IsJudged limits read (Ok series)
+passed limits read series cycle a h = rw (a.is_read, a.plain, a.unrefused) (refl, h)
 
 -- where the cycle alone is judged, an admitted series passes
-pub within_cycle_limit : (series : Series) → series_cycle series ≤ MAX_CYCLE_DAYS → IsLimitRefusal cycle_limit series None
+within_cycle_limit : (series : Series) → series_cycle series ≤ MAX_CYCLE_DAYS → IsLimitRefusal cycle_limit series None
 within_cycle_limit series few = inr ((λ h. absurd (omega (arith, h.1, few))), inr ((λ h. false≢true h.0), inr ((λ h. false≢true h.0), refl)))
 
 absent : (part : List ℤ) → not (is_absent part) ≡ false → part ≡ []
@@ -117,12 +101,16 @@ admitted_as read series checked cycle test is_read valid is_test plain same unre
 
 -- ---- what is said of a fault
 
-pub fault_said : (side : Side) (limits : Limits) (read : Result Series Refusal) (says : Series → Answer → Type 0) (fault : Fault) (answer : Answer) → IsFault limits read fault → IsFaultSaid side fault answer → IsSaidWithin side limits read says answer
+pub fault_said :
+    (side : Side) (limits : Limits) (read : Result Series Refusal) (says : Series → Answer → Type 0) (fault : Fault) (answer : Answer)
+    → IsFault limits read fault → IsFaultSaid side fault answer → IsSaidWithin side limits read says answer
 fault_said side limits read says (Refused refusal) answer h said = record { judged = Err refusal; is_judged = h; is_said = said }
 fault_said side limits read says NoMemory answer h said = absurd said
 
 -- the cycle is said of an admitted series
-pub cycle_is_said : (read : Result Series Refusal) (series : Series) (cycle : ℕ) (answer : Answer) → IsAdmitted read series cycle → answer ≡ cycle_said cycle → IsSaidWithin A cycle_limit read (λ s x. x ≡ cycle_said (series_cycle s)) answer
+pub cycle_is_said :
+    (read : Result Series Refusal) (series : Series) (cycle : ℕ) (answer : Answer) → IsAdmitted read series cycle → answer ≡ cycle_said cycle
+    → IsSaidWithin A cycle_limit read (λ s x. x ≡ cycle_said (series_cycle s)) answer
 cycle_is_said read series cycle answer a e =
     let few : series_cycle series ≤ MAX_CYCLE_DAYS = omega (arith, a.cycle_is, a.few) in
     record {
@@ -130,19 +118,3 @@ cycle_is_said read series cycle answer a e =
       is_judged = passed cycle_limit read series cycle a (within_cycle_limit series few);
       is_said = e ∙ ap cycle_said a.cycle_is;
     }
-
--- ---- what a fold answers
-
-module _ {F : Type 0} (sketch : F → Sketch) (read : Result Series Refusal) (series : Series) (cycle : ℕ) (a : IsAdmitted read series cycle) where
-  pub folded_from : (r : Result F Fault) → IfOk r (λ f. StandsFor (sketch f) (Occurs series)) → IfOk r (λ f. (sketch f).period ≡ series_cycle series) → IsFolded series r → IfOk r (λ f. IsFoldedFrom read (sketch f))
-  folded_from (Err fault) stands period judged = tt
-  folded_from (Ok f) stands period judged = record {
-    series = series;
-    judged = passed all_limits read series cycle a judged;
-    fold = record { valid = a.valid; stands = stands; period = period };
-  }
-
-  pub fold_refused : (r : Result F Fault) → IsFolded series r → IfErr r (IsFault all_limits read)
-  fold_refused (Ok f) judged = tt
-  fold_refused (Err (Refused refusal)) judged = limit_refused all_limits read series cycle refusal a judged
-  fold_refused (Err NoMemory) judged = tt

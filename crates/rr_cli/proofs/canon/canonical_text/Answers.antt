@@ -11,5 +11,6 @@ describe-requires c =
 pub returns : goal.returns
 returns c =
     IfOk-weaker c.describe.result _ _
-    (λ text e series fold. text_of_fold _ _ series text.items c.in_ok-least.ensures.same c.in_ok-least.ensures.least (IsDaySequence-bounded _ c.in_ok-least.least.bounded) e fold)
+    (λ text e series fold. text_of_fold _ _ series text.items c.in_ok-least.ensures.same c.in_ok-least.ensures.least
+    (IsDaySequence-bounded _ c.in_ok-least.least.bounded) e fold)
     c.describe.ensures

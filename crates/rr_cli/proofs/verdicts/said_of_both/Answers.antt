@@ -6,4 +6,5 @@ use Rattle.rr_cli.proofs.verdicts.said_of_both.Goals as goal
 pub returns : goal.returns
 returns c =
     let few = c.repeat_together-together.ensures.0 c.if-not-together.false in
-    IfOk-weaker c.said.result _ _ (λ x e s u fold fold'. verdict_said c.args.question s u _ _ fold fold' c.verdict.result (answer_of x) few c.verdict.ensures.verdict e) c.said.ensures
+    IfOk-weaker c.said.result _ _ (λ x e s u fold fold'. verdict_said c.args.question s u _ _ fold fold' c.verdict.result (answer_of x) few c.verdict.ensures.verdict e)
+    c.said.ensures
