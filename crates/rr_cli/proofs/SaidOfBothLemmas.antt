@@ -1,15 +1,24 @@
 -- From a verdict on sketches to what is said of their series.
-use Rattle.std.proofs.Common.{◌≡◌, inl, inr, ◌≤◌, refl, sym, ap, ◌∙◌, arith}
+use Rattle.std.proofs.Common.{◌≡◌, inl, inr, ◌≤◌, ℤ, pos, ◌≤ℤ◌, refl, sym, ap, ◌∙◌, arith}
+use Rattle.std.proofs.lemmas.Int.{ints}
 use Rattle.rr_canon.proofs.YearOneLemmas.{occurs_from_year_one}
-use Rattle.rr_model.specs.Moment.{Occurrences}
+use Rattle.rr_decide.specs.Occurrence.{NamesUpToMaxDay}
+use Rattle.rr_model.specs.Moment.{Occurrences, day_part}
+use Rattle.rr_model.specs.Moment.Years.{IsFromYearOne}
 use Rattle.rr_model.specs.Series.Occurrences.{Occurs}
 use Rattle.rr_model.specs.Sets.Sketch.{StandsIn}
-use Rattle.rr_model.specs.Sets.Verdict.{HaveEqualOccurrences}
+use Rattle.rr_model.specs.Sets.Verdict.{HaveEqualOccurrences, HoldsOnlyOf}
 use Rattle.rr_model.specs.Whole.Divisors.{lcm}
+use Rattle.rr_model.specs.declared.kind.Kind.{Kind}
 use Rattle.rr_model.specs.declared.rule.Series.{Series}
 use Rattle.rr_model.specs.declared.sketch.Sketch.{Sketch}
+use Rattle.rr_model.specs.declared.verdict.Side.{Side}
+use Rattle.rr_model.specs.declared.verdict.Side.TheVariants.{A, B, Both}
 use Rattle.rr_model.specs.declared.verdict.Verdict.{Verdict}
+use Rattle.rr_model.specs.declared.verdict.Verdict.TheVariants.{Yes, No}
+use Rattle.rr_model.proofs.YearLemmas.{from_year_one}
 use Rattle.rr_cli.specs.Folding.{IsFoldOf, IsFromYearOneOn}
+use Rattle.rr_cli.specs.Printable.{IsPrintable, IsPrintableAt}
 use Rattle.rr_cli.specs.Said.{Answer, said}
 use Rattle.rr_cli.specs.Verdicts.{IsSaidOfBoth, IsVerdictTo, common_cycle}
 use Rattle.rr_cli.specs.declared.verdicts.Question.{Question}
@@ -37,10 +46,30 @@ said_of_both_is_one question s u x y (inr p) (inl q) = absurd (omega (arith, p.0
 said_of_both_is_one question s u x y (inr (p, (v, is, e))) (inr (q, (w, is', f))) =
     e ∙ ap said (verdict_is_one question (Occurs s) (Occurs u) v w is is') ∙ sym f
 
--- ---- from when on
+-- ---- it can be printed
 
 pub fold_from_year_one : (series : Series) (sketch : Sketch) → IsFoldOf series sketch → IsFromYearOneOn sketch
 fold_from_year_one series sketch fold k t h = occurs_from_year_one series k t fold.valid ((fold.stands k t).0 h)
+
+module _ (s u : Sketch) (from : IsFromYearOneOn s) (from' : IsFromYearOneOn u) where
+  on_one_side : (side : Side) (k : Kind) (t : ℤ) → HoldsOnlyOf side (StandsIn s k t) (StandsIn u k t) → IsFromYearOne (day_part k t)
+  on_one_side A k t h = from k t h.0
+  on_one_side B k t h = from' k t h.0
+  on_one_side Both k t h = absurd h
+
+  named :
+      (question : Question) (k : Kind) (t : ℤ) (side : Side) → IsVerdictTo question (StandsIn s) (StandsIn u) (No k t side)
+      → IsFromYearOne (day_part k t)
+  named Equal k t side h = on_one_side side k t h.0
+  named Within k t side (is, has, lacks, first) = from k t has
+  named Disjoint k t side (is, one, other, first) = from k t one
+
+  printable_at : (k : Kind) (t : ℤ) → IsFromYearOne (day_part k t) → day_part k t ≤ℤ pos 3_000_000_000_000 → IsPrintableAt k t
+  printable_at k t year high = let low = (from_year_one (day_part k t)).0 year in (year, (omega (arith, ints, low), omega (arith, ints, high)))
+
+  pub printable : (question : Question) (v : Verdict) → IsVerdictTo question (StandsIn s) (StandsIn u) v → NamesUpToMaxDay v → IsPrintable v
+  printable question Yes h high = tt
+  printable question (No k t side) h high = printable_at k t (named question k t side h) high
 
 -- ---- what is said
 

@@ -1,7 +1,10 @@
 use Rattle.std.proofs.lemmas.Result.{IfOk-weaker}
 use Rattle.rr_cli.specs.Outcome.{answer_of}
-use Rattle.rr_cli.proofs.SaidOfBothLemmas.{verdict_said}
+use Rattle.rr_cli.proofs.SaidOfBothLemmas.{printable, verdict_said}
 use Rattle.rr_cli.proofs.verdicts.said_of_both.Goals as goal
+
+pub said-requires : goal.said-requires
+said-requires c = printable _ _ c.requires.a c.requires.b c.args.question c.verdict.result c.verdict.ensures.verdict c.verdict.ensures.day
 
 pub returns : goal.returns
 returns c =
