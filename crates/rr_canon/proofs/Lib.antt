@@ -13,3 +13,4 @@ pub mod LineLemmas
 pub mod DescribeLemmas
 pub mod SaidLemmas
 pub mod NumberedStretchLemmas
+pub mod YearOneLemmas

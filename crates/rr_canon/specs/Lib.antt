@@ -2,3 +2,4 @@ pub mod Kept
 pub mod Least
 pub mod Placed
 pub mod Said
+pub mod Years

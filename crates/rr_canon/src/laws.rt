@@ -3,6 +3,7 @@ ghost use Rattle.rr_model.specs.Sets.DescriptorText.{descriptor_text};
 ghost use Rattle.rr_model.specs.Sets.Printable.{DescriptorsReadBack, TellsSetsApart};
 ghost use Rattle.rr_model.specs.Sets.Stretches.{second_descriptor_text};
 ghost use Rattle.rr_model.specs.Series.CanonLaw.{CanonIsEqualExactly};
+ghost use Rattle.rr_canon.specs.Years.{OccursFromYearOne};
 
 /// Texts of the first version are equal exactly where the sets have equal occurrences.
 pub fn descriptor_tells_sets_apart()
@@ -22,4 +23,9 @@ pub fn descriptors_read_back()
 /// Canonical texts of two series are equal exactly where the series have equal occurrences.
 pub fn canon_is_equal_exactly()
     ensures { CanonIsEqualExactly }
+{}
+
+/// Each occurrence of a valid series lies in the year 1 or later, as `describe` asks.
+pub fn occurs_from_year_one()
+    ensures { OccursFromYearOne }
 {}

@@ -10,7 +10,7 @@ mod text;
 
 pub use laws::{
     canon_is_equal_exactly, descriptor_tells_sets_apart, descriptors_read_back,
-    second_version_tells_sets_apart,
+    occurs_from_year_one, second_version_tells_sets_apart,
 };
 pub use least_seq::{LeastSeq, least};
 pub use text::describe;

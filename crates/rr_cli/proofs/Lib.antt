@@ -1,9 +1,8 @@
-pub mod DailyTextParts
-pub mod IntervalText
-pub mod Reading
 pub mod AnswerLemmas
-pub mod DailyLemmas
+pub mod CanonLemmas
+pub mod JudgementLemmas
+pub mod SaidOfBothLemmas
+pub mod VerdictLemmas
 pub mod WordLemmas
 pub mod WorkLemmas
 pub mod RunLemmas
-pub mod VerdictLemmas

@@ -1,7 +1,8 @@
 -- What a run leaves, by what was worked out and what the put answers.
 use Rattle.std.proofs.Common.{◌≡◌, ℕ, List, Option, Some, None, IfSome, sym, subst}
 use Rattle.rr_io.specs.Outside.{Appended, AppendedPart}
-use Rattle.rr_cli.specs.Answer.{Answer, IsAnswer}
+use Rattle.rr_cli.specs.Answer.{IsAnswer}
+use Rattle.rr_cli.specs.Said.{Answer}
 use Rattle.rr_cli.specs.Command.{Command, contents}
 use Rattle.rr_cli.specs.Outcome.{status_of}
 use Rattle.rr_cli.specs.Run.{Ends}

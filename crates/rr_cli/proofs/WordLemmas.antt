@@ -1,11 +1,11 @@
 -- What the number call answers for the digits of a word.
-use Rattle.std.proofs.Common.{◌≡◌, ℕ, ◌^◌, ◌<◌, ◌≤◌, ◌⊎◌, inl, inr, Bool, true, false, ◌&&◌, nat_lt, nat_le, List, [], ◌∷◌, length, drop, min, Some, None, refl, ap, subst, ◌∙◌, arith}
+use Rattle.std.proofs.Common.{◌≡◌, ℕ, ◌^◌, ◌<◌, ◌≤◌, ◌⊎◌, inl, inr, Bool, true, false, ◌&&◌, nat_lt, nat_le, List, [], ◌∷◌, length, drop, min, Some, None, refl, cond, ap, subst, ◌∙◌, arith}
 use Rattle.std.specs.List.{list_all}
 use Rattle.std.proofs.lemmas.Bool.Decides.{nat_tests}
+use Rattle.std.proofs.lemmas.List.Sums.{take_while-cons}
 use Rattle.rr_model.specs.Text.Digits.{is_digit, digits_value, leading_digits}
 use Rattle.rr_text.proofs.DigitLemmas.{digits_value_below}
 use Rattle.rr_cli.specs.Command.{is_decimal, number_of, two_digits}
-use Rattle.rr_cli.proofs.IntervalText.{leading_digits-all}
 
 first_of : (a b : Bool) → (a && b) ≡ true → a ≡ true
 first_of true b h = refl
@@ -14,6 +14,18 @@ first_of false b h = absurd (cc)
 decimal_digits : (text : List ℕ) → is_decimal text ≡ true → list_all is_digit text ≡ true
 decimal_digits [] h = absurd (cc)
 decimal_digits (digit ∷ digits) h = first_of _ _ h
+
+rest_of : (a b : Bool) → (a && b) ≡ true → b ≡ true
+rest_of true b h = h
+rest_of false b h = absurd (cc)
+
+-- a text that is all digits is its own leading digits
+leading_digits-all : (text : List ℕ) → list_all is_digit text ≡ true → leading_digits text ≡ text
+leading_digits-all [] h = refl
+leading_digits-all (b ∷ bs) h =
+    let digit = first_of (is_digit b) (list_all is_digit bs) h in
+    let more = rest_of (is_digit b) (list_all is_digit bs) h in
+    take_while-cons is_digit b bs ∙ ap (λ t. cond t (b ∷ leading_digits bs) []) digit ∙ ap (λ l. b ∷ l) (leading_digits-all bs more)
 
 -- the number of a text that is all digits
 read_number : (text : List ℕ) (v : ℕ) → list_all is_digit text ≡ true → v ≡ min (digits_value (leading_digits (drop 0 text))) 18446744073709551615 → v ≡ min (digits_value text) 18446744073709551615

@@ -159,6 +159,9 @@ usage_text =
 -- what can be asked so far
 abbrev pub is_task_built : Task → Bool
 is_task_built task.Equal = true
+is_task_built task.Within = true
+is_task_built task.Disjoint = true
+is_task_built task.Canon = true
 is_task_built task.Check = true
 is_task_built _ = false
 
@@ -168,22 +171,16 @@ is_language_built Rrule = true
 is_language_built list = true
 is_language_built _ = false
 
--- `equal` takes rules of RFC 5545 without a stated offset alone so far
-abbrev pub is_form_built : Task → Language → Option ℤ → Bool
-is_form_built task.Equal Rrule None = true
-is_form_built task.Equal _ _ = false
-is_form_built _ language offset = is_language_built language
-
 -- an operand that is absent is built too
-abbrev pub is_operand_built : Task → Option Operand → Bool
-is_operand_built task None = true
-is_operand_built task (Some operand) = is_form_built task operand.language operand.offset
+abbrev pub is_operand_built : Option Operand → Bool
+is_operand_built None = true
+is_operand_built (Some operand) = is_language_built operand.language
 
 -- the side that is not built yet; a command that is not is refused as A
 unfoldable pub not_built : Command → Option Side
 not_built command =
-    if not (is_task_built command.task && is_operand_built command.task command.a) then Some A
-    else if not (is_operand_built command.task command.b) then Some B
+    if not (is_task_built command.task && is_operand_built command.a) then Some A
+    else if not (is_operand_built command.b) then Some B
     else None
 
 -- ---- what is fetched

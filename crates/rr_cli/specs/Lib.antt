@@ -1,9 +1,10 @@
 pub mod Command
-pub mod Daily
-pub mod DailyText
-pub mod Answer
-pub mod Series
+pub mod Judgement
 pub mod OperandReading
+pub mod Said
+pub mod Folding
+pub mod Verdicts
+pub mod Answer
 pub mod Outcome
 pub mod Parsed
 pub mod Printable

@@ -1,5 +1,9 @@
 -- What an outcome of the program is.
-use Rattle.rr_cli.specs.Answer.{Answer}
+use Rattle.std.specs.Prelude.{◌≡◌}
+use Rattle.rr_model.specs.declared.refusal.Fault.{Fault}
+use Rattle.rr_model.specs.declared.refusal.Fault.TheVariants as fault
+use Rattle.rr_model.specs.declared.verdict.Side.{Side}
+use Rattle.rr_cli.specs.Said.{Answer, refused}
 use Rattle.rr_cli.specs.declared.conclusion.Conclusion.{Conclusion}
 use Rattle.rr_cli.specs.declared.conclusion.Conclusion.TheVariants as conclusion
 use Rattle.rr_cli.specs.declared.outcome.Outcome.{Outcome}
@@ -15,3 +19,8 @@ status_of conclusion.Refused = Refused
 -- the answer that an outcome of the program is
 abbrev pub answer_of : Outcome → Answer
 answer_of outcome = record { status = status_of outcome.conclusion; bytes = outcome.text.items }
+
+-- the refusal of a fault on this side; of want of memory nothing is said
+abbrev pub IsFaultSaid : Side → Fault → Answer → Type 0
+IsFaultSaid side (fault.Refused refusal) answer = answer ≡ refused side refusal
+IsFaultSaid side fault.NoMemory answer = ⊥

@@ -1,7 +1,7 @@
 -- What a run leaves, by its status.
 use Rattle.std.specs.Prelude.{◌≡◌, ℕ, List, [], ◌∷◌, ◌++◌, Option}
 use Rattle.rr_io.specs.Outside.{Appended, AppendedPart, RoseOrIsLast}
-use Rattle.rr_cli.specs.Answer.{Answer}
+use Rattle.rr_cli.specs.Said.{Answer}
 use Rattle.rr_cli.specs.Command.{Command, IsOperandOf}
 use Rattle.rr_cli.specs.declared.program.Status.{Status}
 use Rattle.rr_cli.specs.declared.program.Status.TheVariants.{ReadFault, WriteFault, NoMemory}

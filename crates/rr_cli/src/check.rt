@@ -1,55 +1,41 @@
 // What `check` says of an operand.
-ghost use Rattle.std.specs.Prelude.{◌≡◌, IfOk, Ok, option_map, true, false};
-ghost use Rattle.rr_model.specs.Series.Validity.{IsValidSeries};
+ghost use Rattle.std.specs.Prelude.{◌≡◌, IfOk, option_map};
 ghost use Rattle.rr_model.specs.Series.Cycle.{series_cycle};
-ghost use Rattle.rr_cli.specs.Answer.{check_answer, cycle_said, series_said};
+ghost use Rattle.rr_model.specs.declared.verdict.Side.TheVariants.{A};
+ghost use Rattle.rr_cli.specs.Answer.{cycle_said};
+ghost use Rattle.rr_cli.specs.Judgement.{cycle_limit};
+ghost use Rattle.rr_cli.specs.OperandReading.{operand_read};
 ghost use Rattle.rr_cli.specs.Outcome.{answer_of};
 ghost use Rattle.rr_cli.specs.Parsed.{operand_in};
+ghost use Rattle.rr_cli.specs.Said.{IsSaidWithin};
 
+use crate::admitted::read_admitted;
 use crate::command::Operand;
 use crate::conclusion::Conclusion;
-use crate::operand::read_operand;
-use crate::outcome::{Outcome, refused};
-use rr_check::{Checked, admit, check};
-use rr_model::{Fault, NoMemory, Refusal, Series, Side};
+use crate::outcome::{Outcome, refused_for};
+use rr_model::{NoMemory, Side};
 use std::alloc::Global;
 
-// The cycle of a sound series, or that it is too long.
-fn cycle_outcome(alloc: Global, checked: &Checked) -> Result<Outcome, NoMemory>
-    ensures { IfOk result (λ x. answer_of x ≡ cycle_said (series_cycle checked.now)) }
+// A cycle in days.
+fn cycle_outcome(alloc: Global, days: u64) -> Result<Outcome, NoMemory>
+    ensures { IfOk result (λ x. answer_of x ≡ cycle_said days) }
 {
-    match admit(checked) {
-        Err(refusal) => refused(alloc, Side::A, refusal),
-        Ok(days) => Ok(Outcome {
-            conclusion: Conclusion::Yes,
-            text: format!(in alloc; "cycle {days}\n")?.into_bytes(),
-        }),
-    }
-}
-
-// The first refusal of a series, else its cycle.
-fn series_outcome(alloc: Global, series: Series) -> Result<Outcome, NoMemory>
-    requires { IsValidSeries series }
-    ensures { IfOk result (λ x. answer_of x ≡ series_said (Ok series)) }
-{
-    match check(series) {
-        Err(refusal) => refused(alloc, Side::A, refusal),
-        Ok(checked) => cycle_outcome(alloc, &checked),
-    }
+    Ok(Outcome {
+        conclusion: Conclusion::Yes,
+        text: format!(in alloc; "cycle {days}\n")?.into_bytes(),
+    })
 }
 
 /// What is said of an operand's bytes: why its text or its series is refused, or its cycle in days.
-///
 pub fn check_outcome(
     alloc: Global,
     operand: Option<Operand>,
     bytes: &[u8],
 ) -> Result<Outcome, NoMemory>
-    ensures { IfOk result (λ x. answer_of x ≡ check_answer (option_map operand_in operand.entry) bytes.now) }
+    ensures { IfOk result (λ x. IsSaidWithin A cycle_limit (operand_read (option_map operand_in operand.entry) bytes.now) (λ s y. y ≡ cycle_said (series_cycle s)) (answer_of x)) }
 {
-    match read_operand(alloc, operand, bytes) {
-        Err(Fault::NoMemory) => Err(NoMemory),
-        Err(Fault::Refused(refusal)) => refused(alloc, Side::A, refusal),
-        Ok(series) => series_outcome(alloc, series),
+    match read_admitted(alloc, operand, bytes) {
+        Err(fault) => refused_for(alloc, Side::A, fault),
+        Ok(admitted) => cycle_outcome(alloc, admitted.cycle),
     }
 }

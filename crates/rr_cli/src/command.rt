@@ -1,6 +1,6 @@
 // The commands of the program and their operands.
 ghost use Rattle.std.specs.Prelude.{◌≡◌, option_map};
-ghost use Rattle.rr_cli.specs.Command.{is_form_built, is_language_built, is_operand_built, is_task_built, not_built};
+ghost use Rattle.rr_cli.specs.Command.{is_language_built, is_operand_built, is_task_built, not_built};
 ghost use Rattle.rr_cli.specs.Parsed.{command_in, operand_in};
 
 use rr_model::Side;
@@ -72,7 +72,10 @@ pub struct Command<'a> {
 fn is_task_built(task: Task) -> bool
     ensures { result ≡ is_task_built task }
 {
-    matches!(task, Task::Equal | Task::Check)
+    matches!(
+        task,
+        Task::Equal | Task::Within | Task::Disjoint | Task::Canon | Task::Check
+    )
 }
 
 fn is_language_built(language: Language) -> bool
@@ -81,23 +84,13 @@ fn is_language_built(language: Language) -> bool
     matches!(language, Language::Rrule | Language::List)
 }
 
-// Whether the task takes texts of the language beside this offset.
-fn is_form_built(task: Task, language: Language, offset: Option<i32>) -> bool
-    ensures { result ≡ is_form_built task language offset }
-{
-    match task {
-        Task::Equal => language == Language::Rrule && offset.is_none(),
-        _ => is_language_built(language),
-    }
-}
-
-// Whether the task takes the texts of the operand.
-fn is_operand_built(task: Task, operand: Option<Operand>) -> bool
-    ensures { result ≡ is_operand_built task (option_map operand_in operand.entry) }
+// Whether the texts of the operand can be read.
+fn is_operand_built(operand: Option<Operand>) -> bool
+    ensures { result ≡ is_operand_built (option_map operand_in operand.entry) }
 {
     match operand {
         None => true,
-        Some(operand) => is_form_built(task, operand.language, operand.offset),
+        Some(operand) => is_language_built(operand.language),
     }
 }
 
@@ -106,9 +99,9 @@ fn is_operand_built(task: Task, operand: Option<Operand>) -> bool
 pub fn not_built(command: Command) -> Option<Side>
     ensures { result ≡ not_built (command_in command.entry) }
 {
-    if !is_task_built(command.task) || !is_operand_built(command.task, command.a) {
+    if !is_task_built(command.task) || !is_operand_built(command.a) {
         Some(Side::A)
-    } else if !is_operand_built(command.task, command.b) {
+    } else if !is_operand_built(command.b) {
         Some(Side::B)
     } else {
         None

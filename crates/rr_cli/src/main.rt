@@ -1,12 +1,12 @@
 //! `rr` says of repeating series whether they have the same occurrences for all years to come.
 #![tactic(auto)]
 
+mod admitted;
+mod canon;
 mod check;
 mod command;
 mod conclusion;
-mod daily;
-mod daily_text;
-mod decide;
+mod folding;
 mod laws;
 mod operand;
 mod outcome;
@@ -15,10 +15,11 @@ mod program;
 mod tests;
 #[cfg(test)]
 mod text_tests;
+mod verdicts;
 mod words;
 mod work;
 
-pub use laws::answer_is_one;
+pub use laws::{answer_is_one, canon_tells_apart};
 pub use program::{Status, run};
 use rr_io::{HostSink, HostSource};
 use std::alloc::AllocError;

@@ -1,14 +1,12 @@
 // What a run says.
 ghost use Rattle.std.specs.Prelude.{◌≡◌, IfOk};
-ghost use Rattle.rr_cli.specs.Answer.{refused, said, side_text, IsEqualAnswer};
-ghost use Rattle.rr_cli.specs.Outcome.{answer_of};
+ghost use Rattle.rr_cli.specs.Outcome.{IsFaultSaid, answer_of};
 ghost use Rattle.rr_cli.specs.Printable.{IsPrintable, IsPrintableAt};
+ghost use Rattle.rr_cli.specs.Said.{refused, said, side_text};
 ghost use Rattle.rr_model.specs.declared.verdict.Verdict.TheVariants as verdict;
 
 use crate::conclusion::Conclusion;
-use crate::daily_text::read;
-use crate::decide::equal;
-use rr_model::{Kind, NoMemory, Refusal, Side, Verdict};
+use rr_model::{Fault, Kind, NoMemory, Refusal, Side, Verdict};
 use rr_text::push_extended;
 use std::alloc::Global;
 
@@ -43,6 +41,16 @@ pub fn refused(alloc: Global, side: Side, refusal: Refusal) -> Result<Outcome, N
     })
 }
 
+/// The refusal of a fault; want of memory stays what it is.
+pub fn refused_for(alloc: Global, side: Side, fault: Fault) -> Result<Outcome, NoMemory>
+    ensures { IfOk result (λ x. IsFaultSaid side fault (answer_of x)) }
+{
+    match fault {
+        Fault::NoMemory => Err(NoMemory),
+        Fault::Refused(refusal) => refused(alloc, side, refusal),
+    }
+}
+
 // A no with the first counterexample and its side.
 fn no_text(alloc: Global, kind: Kind, at: i64, side: Side) -> Result<Vec<u8>, NoMemory>
     requires { IsPrintableAt kind at }
@@ -56,8 +64,8 @@ fn no_text(alloc: Global, kind: Kind, at: i64, side: Side) -> Result<Vec<u8>, No
     Ok(text)
 }
 
-// A verdict.
-fn said(alloc: Global, verdict: Verdict) -> Result<Outcome, NoMemory>
+/// A verdict, whose counterexample can be printed.
+pub fn said(alloc: Global, verdict: Verdict) -> Result<Outcome, NoMemory>
     requires { IsPrintable verdict }
     ensures { IfOk result (λ x. answer_of x ≡ said verdict) }
 {
@@ -70,16 +78,5 @@ fn said(alloc: Global, verdict: Verdict) -> Result<Outcome, NoMemory>
             conclusion: Conclusion::No,
             text: no_text(alloc, kind, at, side)?,
         }),
-    }
-}
-
-/// What is said of two operands' bytes: the refusal of A, else that of B, else the verdict.
-pub fn equal_outcome(alloc: Global, a: &[u8], b: &[u8]) -> Result<Outcome, NoMemory>
-    ensures { IfOk result (λ x. IsEqualAnswer a.now b.now (answer_of x)) }
-{
-    match (read(a), read(b)) {
-        (Err(refusal), _) => refused(alloc, Side::A, refusal),
-        (Ok(_), Err(refusal)) => refused(alloc, Side::B, refusal),
-        (Ok(x), Ok(y)) => said(alloc, equal(&x, &y)),
     }
 }

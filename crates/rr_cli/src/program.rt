@@ -1,11 +1,12 @@
 // The top call.
 ghost use Rattle.std.specs.Prelude.{◌≡◌, ◌⊎◌, IfSome, IsNone};
 ghost use Rattle.rr_io.specs.Outside.{RoseOrIsLast};
-ghost use Rattle.rr_cli.specs.Answer.{Answer, IsAnswer};
+ghost use Rattle.rr_cli.specs.Answer.{IsAnswer};
 ghost use Rattle.rr_cli.specs.Command.{command_of, contents};
 ghost use Rattle.rr_cli.specs.Outcome.{status_of};
 ghost use Rattle.rr_cli.specs.Parsed.{words_of};
 ghost use Rattle.rr_cli.specs.Run.{Ends, HasCause};
+ghost use Rattle.rr_cli.specs.Said.{Answer};
 
 use crate::conclusion::Conclusion;
 use crate::words::{USAGE, parse};

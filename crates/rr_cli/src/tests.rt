@@ -11,91 +11,197 @@ const DAILY: &[u8] = b"DTSTART:20240101\nRRULE:FREQ=DAILY\n";
 
 const EQUAL: [&str; 3] = ["equal", "rrule:a", "rrule:b"];
 
-// A, B, and how the run of `equal` ends.
-const VERDICTS: [(&[u8], &[u8], Status, &[u8]); 14] = [
+// What is asked of A and B, and how the run ends.
+const VERDICTS: [(&str, &[u8], &[u8], Status, &[u8]); 23] = [
     (
+        "equal",
         EVERY_OTHER_DAY,
         EVERY_THIRD_DAY,
         Status::No,
         b"no 2024-01-03 A\n",
     ),
     (
+        "equal",
         EVERY_THIRD_DAY,
         EVERY_OTHER_DAY,
         Status::No,
         b"no 2024-01-03 B\n",
     ),
     (
+        "equal",
         DAILY,
         b"DTSTART:20240101\nRRULE:FREQ=DAILY;INTERVAL=1\n",
         Status::Yes,
         b"yes\n",
     ),
     (
-        b"DTSTART:20240102\nRRULE:FREQ=DAILY\n",
-        DAILY,
-        Status::No,
-        b"no 2024-01-01 B\n",
-    ),
-    (
+        "equal",
         b"DTSTART:99991231\nRRULE:FREQ=DAILY\n",
         b"DTSTART:99991231\nRRULE:FREQ=DAILY;INTERVAL=2\n",
         Status::No,
         b"no 10000-01-01 A\n",
     ),
     (
+        "equal",
+        b"DTSTART:20240101\nRRULE:FREQ=WEEKLY;BYDAY=MO\n",
+        b"DTSTART:20240101\nRRULE:FREQ=DAILY;INTERVAL=7\n",
+        Status::Yes,
+        b"yes\n",
+    ),
+    (
+        "equal",
+        b"DTSTART:20240131\nRRULE:FREQ=MONTHLY;BYMONTHDAY=31\n",
+        b"DTSTART:20240131\nRRULE:FREQ=MONTHLY;BYMONTHDAY=-1\n",
+        Status::No,
+        b"no 2024-02-29 B\n",
+    ),
+    (
+        "equal",
+        b"DTSTART:20241231\nRRULE:FREQ=YEARLY;BYYEARDAY=366\n",
+        b"DTSTART:20241231\nRRULE:FREQ=YEARLY;BYMONTH=12;BYMONTHDAY=31\n",
+        Status::No,
+        b"no 2025-12-31 B\n",
+    ),
+    (
+        "equal",
+        b"DTSTART:20960229\nRRULE:FREQ=YEARLY;BYMONTH=2;BYMONTHDAY=29\n",
+        b"DTSTART:20960229\nRRULE:FREQ=YEARLY;INTERVAL=4;BYMONTH=2;BYMONTHDAY=29\n",
+        Status::Yes,
+        b"yes\n",
+    ),
+    (
+        "equal",
+        b"DTSTART:19970805\nRRULE:FREQ=WEEKLY;INTERVAL=2;BYDAY=TU,SU;WKST=MO\n",
+        b"DTSTART:19970805\nRRULE:FREQ=WEEKLY;INTERVAL=2;BYDAY=TU,SU;WKST=SU\n",
+        Status::No,
+        b"no 1997-08-10 A\n",
+    ),
+    (
+        "equal",
+        b"DTSTART:20240229\nRRULE:FREQ=YEARLY;INTERVAL=4;BYMONTH=2;BYMONTHDAY=-1\n",
+        b"DTSTART:20240229\nRRULE:FREQ=YEARLY;INTERVAL=4;BYMONTH=2;BYMONTHDAY=29\n",
+        Status::No,
+        b"no 2100-02-28 A\n",
+    ),
+    (
+        "equal",
+        DAILY,
+        b"DTSTART:20240101T000000\nRRULE:FREQ=DAILY\n",
+        Status::No,
+        b"no 2024-01-01 A\n",
+    ),
+    (
+        "equal",
+        b"DTSTART:20240101T093000\nRRULE:FREQ=HOURLY;INTERVAL=24\n",
+        b"DTSTART:20240101T093000\nRRULE:FREQ=DAILY\n",
+        Status::Yes,
+        b"yes\n",
+    ),
+    (
+        "equal",
+        b"DTSTART:20240101T093000\nRRULE:FREQ=HOURLY;INTERVAL=12\n",
+        b"DTSTART:20240101T093000\nRRULE:FREQ=DAILY\n",
+        Status::No,
+        b"no 2024-01-01T21:30:00 A\n",
+    ),
+    (
+        "within",
+        b"DTSTART:20240101\nRRULE:FREQ=WEEKLY\n",
+        DAILY,
+        Status::Yes,
+        b"yes\n",
+    ),
+    (
+        "within",
+        DAILY,
+        b"DTSTART:20240101\nRRULE:FREQ=WEEKLY\n",
+        Status::No,
+        b"no 2024-01-02 A\n",
+    ),
+    (
+        "disjoint",
+        b"DTSTART:20240101\nRRULE:FREQ=MONTHLY;BYMONTHDAY=1\n",
+        b"DTSTART:20240107\nRRULE:FREQ=WEEKLY;BYDAY=SU\n",
+        Status::No,
+        b"no 2024-09-01 both\n",
+    ),
+    (
+        "disjoint",
+        EVERY_OTHER_DAY,
+        b"DTSTART:20240102\nRRULE:FREQ=DAILY;INTERVAL=2\n",
+        Status::Yes,
+        b"yes\n",
+    ),
+    (
+        "within",
+        b"DTSTART:20240101\nRRULE:FREQ=DAILY;INTERVAL=4099\n",
+        b"DTSTART:20240101\nRRULE:FREQ=DAILY;INTERVAL=4111\n",
+        Status::Refused,
+        b"refused both CycleTooLong\n",
+    ),
+    (
+        "disjoint",
+        b"DTSTART:20240101\nRRULE:FREQ=DAILY;INTERVAL=4099\n",
+        b"DTSTART:20240101\nRRULE:FREQ=MONTHLY;INTERVAL=127\n",
+        Status::Refused,
+        b"refused B CycleTooLong\n",
+    ),
+    (
+        "equal",
+        b"DTSTART:20240101\nRRULE:FREQ=MONTHLY;INTERVAL=127\n",
+        b"",
+        Status::Refused,
+        b"refused A CycleTooLong\n",
+    ),
+    (
+        "equal",
         DAILY,
         b"DTSTART:20230229\nRRULE:FREQ=DAILY\n",
         Status::Refused,
         b"refused B BadMoment 1\n",
     ),
-    (b"", DAILY, Status::Refused, b"refused A NotBuilt\n"),
     (
-        b"DTSTART:00000101\nRRULE:FREQ=DAILY\n",
-        b"",
+        "within",
+        b"DTSTART:20240102\nRRULE:FREQ=WEEKLY;BYDAY=MO\n",
+        b"DTSTART:20230229\nRRULE:FREQ=DAILY\n",
         Status::Refused,
-        b"refused A BadMoment 1\n",
+        b"refused A NotSynchronised 1\n",
     ),
     (
-        b"DTSTART:20241301\nRRULE:FREQ=DAILY\n",
+        "disjoint",
         DAILY,
-        Status::Refused,
-        b"refused A BadMoment 1\n",
-    ),
-    (
-        b"DTSTART:20240101\r\nRRULE:FREQ=DAILY\r\n",
-        DAILY,
-        Status::Refused,
-        b"refused A NotBuilt\n",
-    ),
-    (
-        b"DTSTART:20240101\nRRULE:FREQ=daily\n",
-        DAILY,
-        Status::Refused,
-        b"refused A NotBuilt\n",
-    ),
-    (
-        b"DTSTART:20240101\nRRULE:FREQ=DAILY",
-        DAILY,
-        Status::Refused,
-        b"refused A NotBuilt\n",
-    ),
-    (
-        DAILY,
-        b"DTSTART:20240101\nRRULE:FREQ=DAILY;INTERVAL=1000\n",
-        Status::Refused,
-        b"refused B NotBuilt\n",
-    ),
-    (
-        DAILY,
-        b"DTSTART:20240101\nRRULE:FREQ=DAILY;INTERVAL=0\n",
+        b"DTSTART:20240102\nRRULE:FREQ=MONTHLY;BYDAY=TU;BYSETPOS=1\n",
         Status::Refused,
         b"refused B NotBuilt\n",
     ),
 ];
 
+// A, and how the run of `canon` ends.
+const TEXTS: [(&[u8], Status, &[u8]); 4] = [
+    (
+        b"DTSTART:20240101\nRRULE:FREQ=WEEKLY\n",
+        Status::Yes,
+        b"rrcanon 1\ndays\nf 2024-01-01\nq 2024-01-01 7\nc 0 0 1\n",
+    ),
+    (
+        b"DTSTART:20240101\nRRULE:FREQ=DAILY;INTERVAL=2;COUNT=3\n",
+        Status::Yes,
+        b"rrcanon 1\ndays\nf 2024-01-01\nb 0 0 1\nb 2 0 2\n",
+    ),
+    (
+        b"DTSTART:20240101T090000\nRRULE:FREQ=HOURLY;INTERVAL=7\n",
+        Status::Yes,
+        b"rrcanon 1\nmoments\nt 32400 57600 82800\nt 21600 46800 72000\nt 10800 36000 61200\nt 0 25200 50400 75600\nt 14400 39600 64800\nt 3600 28800 54000 79200\nt 18000 43200 68400\nt 7200 32400 57600 82800\nf 2024-01-01\nb 0 0 1\nq 2024-01-02 7\nc 0 1 1\nc 1 2 1\nc 1 3 1\nc 1 4 1\nc 1 5 1\nc 1 6 1\nc 1 7 1\n",
+    ),
+    (
+        b"DTSTART:20240101\nRRULE:FREQ=MONTHLY;INTERVAL=127\n",
+        Status::Refused,
+        b"refused A CycleTooLong\n",
+    ),
+];
+
 // A, and how the run of `check` ends.
-const CHECKS: [(&[u8], Status, &[u8]); 19] = [
+const CHECKS: [(&[u8], Status, &[u8]); 20] = [
     (
         b"DTSTART:20240229\nRRULE:FREQ=YEARLY;INTERVAL=4;BYMONTH=2;BYMONTHDAY=29\n",
         Status::Yes,
@@ -113,8 +219,8 @@ const CHECKS: [(&[u8], Status, &[u8]); 19] = [
     ),
     (
         b"DTSTART:20240102\nRRULE:FREQ=MONTHLY;BYDAY=TU;BYSETPOS=1\n",
-        Status::Yes,
-        b"cycle 146097\n",
+        Status::Refused,
+        b"refused A NotBuilt\n",
     ),
     (
         b"DTSTART:20240101\nRRULE:FREQ=MONTHLY;INTERVAL=113\n",
@@ -191,6 +297,11 @@ const CHECKS: [(&[u8], Status, &[u8]); 19] = [
         Status::Yes,
         b"cycle 1\n",
     ),
+    (
+        b"DTSTART:20240101\nRRULE:FREQ=DAILY",
+        Status::Refused,
+        b"refused A NotBuilt\n",
+    ),
 ];
 
 // Words that are no command.
@@ -231,10 +342,10 @@ const NO_COMMANDS: [&[&str]; 33] = [
 ];
 
 // Commands that are not built, and what is said of them.
-const NOT_BUILT: [(&[&str], &[u8]); 17] = [
-    (&["within", "rrule:a", "rrule:b"], b"refused A NotBuilt\n"),
-    (&["disjoint", "rrule:a", "rrule:-"], b"refused A NotBuilt\n"),
-    (&["canon", "rrule:a"], b"refused A NotBuilt\n"),
+const NOT_BUILT: [(&[&str], &[u8]); 16] = [
+    (&["within", "vcal:a", "rrule:b"], b"refused A NotBuilt\n"),
+    (&["disjoint", "rrule:a", "graph:-"], b"refused B NotBuilt\n"),
+    (&["canon", "list:a"], b"refused A NotBuilt\n"),
     (&["infer", "list:a"], b"refused A NotBuilt\n"),
     (&["translate", "rrule", "rrule:a"], b"refused A NotBuilt\n"),
     (&["translate", "vcal", "rrule:a"], b"refused A NotBuilt\n"),
@@ -247,17 +358,13 @@ const NOT_BUILT: [(&[&str], &[u8]); 17] = [
     (&["drill", "0", "1"], b"refused A NotBuilt\n"),
     (&["drill", "4294967295", "100"], b"refused A NotBuilt\n"),
     (&["equal", "vcal:a", "rrule:b"], b"refused A NotBuilt\n"),
-    (&["equal", "rrule:a", "graph:b"], b"refused B NotBuilt\n"),
     (
         &["equal", "rrule:a", "rrule@-00:00:b"],
         b"refused B NotBuilt\n",
     ),
     (&["equal", "vcal:a", "list:b"], b"refused A NotBuilt\n"),
-    (
-        &["equal", "rrule@+01:00:a", "rrule:b"],
-        b"refused A NotBuilt\n",
-    ),
-    (&["check", "vcal@+23:59:a:b@c"], b"refused A NotBuilt\n"),
+    (&["check", "rrule@+23:59:a:b@c"], b"refused A NotBuilt\n"),
+    (&["check", "list:x"], b"refused A NotBuilt\n"),
 ];
 
 // The fetch that is to fail, the put that is to fail after two bytes, and how the run of `equal` ends. None has the number 0.
@@ -273,12 +380,20 @@ const FAULTS: [(u64, u64, Status, &[u8]); 6] = [
 #[test]
 fn verdicts_and_refusals(rt: HostRuntime) -> Result<(), Fail> {
     let alloc = rt.alloc();
-    for (a, b, status, text) in VERDICTS {
+    for (asked, a, b, status, text) in VERDICTS {
         let mut source = SteadySource::new(alloc);
         source.hold("a", a).ok().ok_or("memory")?;
         source.hold("b", b).ok().ok_or("memory")?;
         let mut sink = SteadySink::new(alloc);
-        assert_eq!(rt; run(alloc, &EQUAL, &mut source, &mut sink), status);
+        assert_eq!(rt;
+            run(
+                alloc,
+                &[asked, "rrule:a", "rrule:b"],
+                &mut source,
+                &mut sink
+            ),
+            status
+        );
         assert_eq!(rt; sink.bytes(), text);
     }
     Ok(())
@@ -293,6 +408,22 @@ fn cycles_and_refusals(rt: HostRuntime) -> Result<(), Fail> {
         let mut sink = SteadySink::new(alloc);
         assert_eq!(rt;
             run(alloc, &["check", "rrule:a"], &mut source, &mut sink),
+            status
+        );
+        assert_eq!(rt; sink.bytes(), said);
+    }
+    Ok(())
+}
+
+#[test]
+fn canonical_texts(rt: HostRuntime) -> Result<(), Fail> {
+    let alloc = rt.alloc();
+    for (text, status, said) in TEXTS {
+        let mut source = SteadySource::new(alloc);
+        source.hold("a", text).ok().ok_or("memory")?;
+        let mut sink = SteadySink::new(alloc);
+        assert_eq!(rt;
+            run(alloc, &["canon", "rrule:a"], &mut source, &mut sink),
             status
         );
         assert_eq!(rt; sink.bytes(), said);

@@ -1,15 +1,22 @@
 // The words of the command line.
 ghost use Rattle.std.specs.Prelude.{◌≡◌, ◌<◌, ◌≤◌, IfSome, option_map};
+ghost use Rattle.std.specs.List.{list_all};
+ghost use Rattle.rr_model.specs.Text.Digits.{is_digit};
 ghost use Rattle.rr_cli.specs.Command.{apart, command_of, drilling, is_decimal, language_of, listing, named, named_command, number_of, of_parts, offset_of, operand_of, signed, split_around, target_of, translation, two_digits, with_offset, with_one, with_two};
 ghost use Rattle.rr_cli.specs.Parsed.{words_of, command_in, operand_in};
 
 use crate::command::{Command, Language, MAX_DRILL, MAX_LIST, Operand, Task};
-use crate::daily_text::are_digits;
 use rr_text::number;
 
 /// What is said of words that are no command.
 pub const USAGE: &[u8] =
     b"usage: rr equal A B | within A B | disjoint A B | canon A | translate LANG A | infer A | list N A | check A | drill SEED N\n";
+
+fn are_digits(text: &[u8]) -> bool
+    ensures { result ≡ list_all is_digit text.now }
+{
+    text.iter().all(|b| *b >= b'0' && *b <= b'9')
+}
 
 // Decimal digits without a leading zero, but for the number 0.
 fn is_decimal(text: &[u8]) -> bool

@@ -1,14 +1,16 @@
 // What a command asks, worked out over its operands.
 ghost use Rattle.std.specs.Prelude.{◌≡◌, ◌++◌, [], ◌∷◌, ℕ, List, Some, IfSome, IfOk, IsErrOf, option_map};
 ghost use Rattle.rr_io.specs.Outside.{KeepsHeld};
-ghost use Rattle.rr_cli.specs.Answer.{IsAnswer, IsSaid};
+ghost use Rattle.rr_cli.specs.Answer.{IsAnswer, IsSaidOf};
 ghost use Rattle.rr_cli.specs.Command.{content, contents, IsNameOf, IsOperandOf};
 ghost use Rattle.rr_cli.specs.Outcome.{answer_of};
 ghost use Rattle.rr_cli.specs.Parsed.{command_in, operand_in};
 
+use crate::canon::canon_outcome;
 use crate::check::check_outcome;
 use crate::command::{Command, Operand, Task, not_built};
-use crate::outcome::{Outcome, equal_outcome, refused};
+use crate::outcome::{Outcome, refused};
+use crate::verdicts::{Question, verdict_outcome};
 use rr_io::{FetchError, Source};
 use rr_model::{NoMemory, Refusal, Side};
 use std::alloc::Global;
@@ -32,10 +34,13 @@ fn fetch<S: Source>(
 
 // What is said of the bytes of the command's operands.
 fn said(alloc: Global, command: Command, a: &[u8], b: &[u8]) -> Result<Outcome, NoMemory>
-    ensures { IfOk result (λ x. IsSaid command.entry.task (command_in command.entry) (a.now, b.now) (answer_of x)) }
+    ensures { IfOk result (λ x. IsSaidOf (command_in command.entry) (a.now, b.now) (answer_of x)) }
 {
     match command.task {
-        Task::Equal => equal_outcome(alloc, a, b),
+        Task::Equal => verdict_outcome(alloc, Question::Equal, command, a, b),
+        Task::Within => verdict_outcome(alloc, Question::Within, command, a, b),
+        Task::Disjoint => verdict_outcome(alloc, Question::Disjoint, command, a, b),
+        Task::Canon => canon_outcome(alloc, command.a, a),
         Task::Check => check_outcome(alloc, command.a, a),
         _ => refused(alloc, Side::A, Refusal::NotBuilt),
     }

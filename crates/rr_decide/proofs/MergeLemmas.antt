@@ -1,5 +1,5 @@
 -- The next second of two rising lists, and what the seconds after it tell of the whole lists.
-use Rattle.std.proofs.Common.{◌≡◌, ◌↔◌, ◌⊎◌, inl, inr, ℕ, ◌<◌, Bool, true, false, List, [], ◌∷◌, length, get_or, take, drop, ◌-◌, refl, sym, subst, arith}
+use Rattle.std.proofs.Common.{◌≡◌, ◌↔◌, ◌⊎◌, inl, inr, ℕ, ◌<◌, Bool, true, false, List, [], ◌∷◌, length, get_or, take, drop, ◌-◌, refl, sym, subst, ◌∙◌, arith}
 use Rattle.std.specs.Prelude.{IsTrue, nat_lt}
 use Rattle.std.specs.List.{Contains}
 use Rattle.std.proofs.lemmas.Bool.{cases_order, false≢true}
@@ -37,6 +37,12 @@ HoldsOn-one B Both P Q h g = absurd (h.1 g.0)
 HoldsOn-one Both A P Q h g = absurd (g.1 h.1)
 HoldsOn-one Both B P Q h g = absurd (g.1 h.0)
 HoldsOn-one Both Both P Q h g = refl
+
+-- equal lists show nothing where what both have does not
+pub equal_show_none : (shows : Side → Bool) (xs ys : List ℕ) → xs ≡ ys → shows Both ≡ false → ShowsNone shows xs ys
+equal_show_none shows xs ys e hidden w (A, shown, h) = h.1 (subst (λ (l : List ℕ). Contains l w) e h.0)
+equal_show_none shows xs ys e hidden w (B, shown, h) = h.1 (subst (λ (l : List ℕ). Contains l w) (sym e) h.0)
+equal_show_none shows xs ys e hidden w (Both, shown, h) = false≢true (sym hidden ∙ shown)
 
 -- ---- the next second
 

@@ -1,11 +1,11 @@
 -- From the seconds of days to the occurrences that stand in two sketches.
-use Rattle.std.proofs.Common.{◌≡◌, ◌↔◌, ◌⊎◌, inl, inr, ℕ, ◌<◌, ◌≤◌, Bool, List, [], ◌∷◌, get_or, ℤ, ◌<ℤ◌, refl, sym, ap, subst, ◌∙◌, arith}
+use Rattle.std.proofs.Common.{◌≡◌, ◌↔◌, ◌⊎◌, inl, inr, ℕ, ◌<◌, ◌≤◌, Bool, List, [], ◌∷◌, get_or, ℤ, pos, ◌≤ℤ◌, ◌<ℤ◌, refl, sym, ap, subst, ◌∙◌, arith}
 use Rattle.std.specs.List.{Contains}
 use Rattle.std.specs.Prelude.{IsTrue, nat_lt, Some}
-use Rattle.std.proofs.lemmas.Int.{by_lt_z}
+use Rattle.std.proofs.lemmas.Int.{by_lt_z, ints}
 use Rattle.rr_model.specs.Moment.{Before, day_part, second_part, moment_at}
 use Rattle.rr_model.specs.Rising.{Rises}
-use Rattle.rr_model.specs.Sets.Sketch.{IsValidSketch, IsEmptySketch, IsFirstDay, StandsIn, times_on}
+use Rattle.rr_model.specs.Sets.Sketch.{IsValidSketch, IsEmptySketch, IsFirstDay, IsNearDay, StandsIn, times_on}
 use Rattle.rr_model.specs.Sets.Verdict.{HoldsOn}
 use Rattle.rr_model.specs.declared.kind.Kind.{Kind}
 use Rattle.rr_model.specs.declared.kind.Kind.TheVariants.{Days, Moments}
@@ -17,6 +17,7 @@ use Rattle.rr_model.specs.declared.verdict.Verdict.TheVariants.{Yes, No}
 use Rattle.rr_model.proofs.RisingSetLemmas.{Contains-none}
 use Rattle.rr_model.proofs.SecondsLemmas.{Contains-or_not, first_least, first_of_some}
 use Rattle.rr_word.proofs.SketchLemmas.{rising_on, second_fits}
+use Rattle.rr_decide.specs.Occurrence.{IsUpToMaxDay, NamesUpToMaxDay}
 use Rattle.rr_decide.specs.Question.{AreApart, HasNoneBefore, IsFirstDayShown, IsFirstOccurrence, IsShown, IsVerdictBy, ShowsNone}
 use Rattle.rr_decide.proofs.MergeLemmas.{HoldsOn-map, HoldsOn-some}
 use Rattle.rr_decide.proofs.OrderLemmas.{Before-compare, Before-trans, earlier_parts, parts_of_moment}
@@ -95,7 +96,7 @@ module _ (shows : Side → Bool) (s u : Sketch) (e : s.kind ≡ u.kind) where
         | inr c ↦ Contains-none w (subst (λ (l : List ℕ). Contains l w) (nu d l) c)
       ]
 
-  module _ (vs : IsValidSketch s) (vu : IsValidSketch u) (from day : ℤ) (x : ℕ) (side : Side) (ns : HasNoneBefore s from) (nu : HasNoneBefore u from) (first : IsFirstDayShown shows s u from day x side) where
+  module _ (vs : IsValidSketch s) (vu : IsValidSketch u) (from day : ℤ) (x : ℕ) (side : Side) (first : IsFirstDayShown shows s u from day x side) where
     fits : (x < 86_400) × (s.kind ≡ Days → x ≡ 0)
     fits =
         elim (HoldsOn-some side (Contains (times_on s day) x) (Contains (times_on u day) x) first.on_day.holds) [
@@ -103,35 +104,36 @@ module _ (shows : Side → Bool) (s u : Sketch) (e : s.kind ≡ u.kind) where
           | inr c ↦ (let h = second_fits u day x vu c in (h.0, λ d. h.1 (sym e ∙ d)))
         ]
 
-    none_earlier : (d : ℤ) → d <ℤ day → ShowsNone shows (times_on s d) (times_on u d)
-    none_earlier d l =
-        let P : Type 0 = ShowsNone shows (times_on s d) (times_on u d) in
-        by_lt_z {P = P} d from (λ before. none_before_first from ns nu d before) (λ after. first.none_earlier d after l)
+    module _ (ns : HasNoneBefore s from) (nu : HasNoneBefore u from) where
+      none_earlier : (d : ℤ) → d <ℤ day → ShowsNone shows (times_on s d) (times_on u d)
+      none_earlier d l =
+          let P : Type 0 = ShowsNone shows (times_on s d) (times_on u d) in
+          by_lt_z {P = P} d from (λ before. none_before_first from ns nu d before) (λ after. first.none_earlier d after l)
 
-    -- the first second of the first day is the first occurrence that shows it
-    pub no_by_days : IsVerdictBy shows (StandsIn s) (StandsIn u) (No s.kind (moment_at s.kind day x) side)
-    no_by_days =
-        let k = s.kind in
-        let t = moment_at k day x in
-        let parts = parts_of_moment k day x fits.0 fits.1 in
-        let here : HoldsOn side (Contains (times_on s (day_part k t)) (second_part k t)) (Contains (times_on u (day_part k t)) (second_part k t)) = rw (parts.0, parts.1) first.on_day.holds in
-        let on_s = stands_where s k t refl in
-        let on_u = stands_where u k t e in (
-          first.on_day.shown,
-          HoldsOn-map side (Contains (times_on s (day_part k t)) (second_part k t)) (Contains (times_on u (day_part k t)) (second_part k t)) (StandsIn s k t) (StandsIn u k t) (on_s.1, on_s.0) (on_u.1, on_u.0) here,
-          (λ l v before h.
-              let kind : l ≡ k = elim (HoldsOn-some h.0 (StandsIn s l v) (StandsIn u l v) h.2) [ inl g ↦ g.kind | inr g ↦ g.kind ∙ sym e ] in
-              let at_k : Before k v k t → IsShown shows (StandsIn s k v) (StandsIn u k v) → ⊥ = λ c g.
-              let shown = shown_on_day k v g in
-              elim (earlier_parts k v t c) [
-                | inl earlier ↦ none_earlier (day_part k v) (rw parts.0 at earlier) (second_part k v) shown
-                | inr same ↦
-                    let d : day_part k v ≡ day = same.0 ∙ parts.0 in
-                    let less : second_part k v < x = omega (arith, same.1, parts.1) in
-                    first.on_day.none_below (second_part k v) less (rw d at shown)
-              ] in
-              (subst (λ (j : Kind). Before j v k t → IsShown shows (StandsIn s j v) (StandsIn u j v) → ⊥) (sym kind) at_k) before h),
-        )
+      -- the first second of the first day is the first occurrence that shows it
+      pub no_by_days : IsVerdictBy shows (StandsIn s) (StandsIn u) (No s.kind (moment_at s.kind day x) side)
+      no_by_days =
+          let k = s.kind in
+          let t = moment_at k day x in
+          let parts = parts_of_moment k day x fits.0 fits.1 in
+          let here : HoldsOn side (Contains (times_on s (day_part k t)) (second_part k t)) (Contains (times_on u (day_part k t)) (second_part k t)) = rw (parts.0, parts.1) first.on_day.holds in
+          let on_s = stands_where s k t refl in
+          let on_u = stands_where u k t e in (
+            first.on_day.shown,
+            HoldsOn-map side (Contains (times_on s (day_part k t)) (second_part k t)) (Contains (times_on u (day_part k t)) (second_part k t)) (StandsIn s k t) (StandsIn u k t) (on_s.1, on_s.0) (on_u.1, on_u.0) here,
+            (λ l v before h.
+                let kind : l ≡ k = elim (HoldsOn-some h.0 (StandsIn s l v) (StandsIn u l v) h.2) [ inl g ↦ g.kind | inr g ↦ g.kind ∙ sym e ] in
+                let at_k : Before k v k t → IsShown shows (StandsIn s k v) (StandsIn u k v) → ⊥ = λ c g.
+                let shown = shown_on_day k v g in
+                elim (earlier_parts k v t c) [
+                  | inl earlier ↦ none_earlier (day_part k v) (rw parts.0 at earlier) (second_part k v) shown
+                  | inr same ↦
+                      let d : day_part k v ≡ day = same.0 ∙ parts.0 in
+                      let less : second_part k v < x = omega (arith, same.1, parts.1) in
+                      first.on_day.none_below (second_part k v) less (rw d at shown)
+                ] in
+                (subst (λ (j : Kind). Before j v k t → IsShown shows (StandsIn s j v) (StandsIn u j v) → ⊥) (sym kind) at_k) before h),
+          )
 
 -- ---- two sketches with nothing in common
 
@@ -173,4 +175,23 @@ pub no_at : (shows : Side → Bool) (s u : Sketch) (from day day' : ℤ) (x : �
 no_at shows s u from day day' x side k l t v e vs vu ns nu first ek el ed et ev =
     let kind : l ≡ s.kind = el ∙ ek in
     let at : t ≡ moment_at s.kind day x = et ∙ cc (ek, ed) in
-    rw (ev, kind, at) (no_by_days shows s u e vs vu from day x side ns nu first)
+    rw (ev, kind, at) (no_by_days shows s u e vs vu from day x side first ns nu)
+
+-- ---- the day of what a verdict names
+
+-- the day of the first second of a day
+pub first_occurrence_day : (s : Sketch) (k l : Kind) (day day' t : ℤ) (xs : List ℕ) → IsValidSketch s → IsFirstDay s (Some day) → l ≡ k → k ≡ s.kind → xs ≡ times_on s day' → day' ≡ day → t ≡ moment_at k day' (get_or xs 0 0) → IsNearDay day → IsUpToMaxDay l t
+first_occurrence_day s k l day day' t xs v first el ek ex ed et near =
+    let kind : l ≡ s.kind = el ∙ ek in
+    let x = get_or (times_on s day) 0 0 in
+    let at : t ≡ moment_at s.kind day x = et ∙ cc (ek, ed, ex ∙ ap (times_on s) ed) in
+    let fits = second_fits s day x v (first_of_some (times_on s day) first.0) in
+    rw (kind, at, (parts_of_moment s.kind day x fits.0 fits.1).0) (omega (arith, ints, near.1))
+
+-- the day at the end of a walk
+pub no_at_day : (shows : Side → Bool) (s u : Sketch) (from day day' : ℤ) (x : ℕ) (side : Side) (k l : Kind) (t : ℤ) (v : Verdict) → s.kind ≡ u.kind → IsValidSketch s → IsValidSketch u → IsFirstDayShown shows s u from day x side → k ≡ s.kind → l ≡ k → day' ≡ day → t ≡ moment_at k day' x → v ≡ No l t side → day ≤ℤ pos 3_000_000_000_000 → NamesUpToMaxDay v
+no_at_day shows s u from day day' x side k l t v e vs vu first ek el ed et ev high =
+    let kind : l ≡ s.kind = el ∙ ek in
+    let at : t ≡ moment_at s.kind day x = et ∙ cc (ek, ed) in
+    let second = fits shows s u e vs vu from day x side first in
+    rw (ev, kind, at, (parts_of_moment s.kind day x second.0 second.1).0) high

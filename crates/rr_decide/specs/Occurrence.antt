@@ -1,7 +1,20 @@
--- Occurrences whose instants can be compared.
-use Rattle.std.specs.Prelude.{pos, neg_ℤ, ◌≤ℤ◌}
+-- Occurrences that are not far from day 0.
+use Rattle.std.specs.Prelude.{⊤, ℤ, pos, neg_ℤ, ◌≤ℤ◌}
+use Rattle.rr_model.specs.Moment.{day_part}
+use Rattle.rr_model.specs.declared.kind.Kind.{Kind}
+use Rattle.rr_model.specs.declared.verdict.Verdict.{Verdict}
+use Rattle.rr_model.specs.declared.verdict.Verdict.TheVariants.{Yes, No}
 use Rattle.rr_decide.specs.declared.occurrence.Occurrence.{Occurrence}
 
--- the number lies within 100,000,000,000,000 of 0
+-- its instant can be compared: the number lies within 100,000,000,000,000 of 0
 abbrev pub IsNearOccurrence : Occurrence → Type 0
 IsNearOccurrence o = (neg_ℤ (pos 100_000_000_000_000) ≤ℤ o.at) × (o.at ≤ℤ pos 100_000_000_000_000)
+
+-- its day is at most the greatest one that a call takes
+abbrev pub IsUpToMaxDay : Kind → ℤ → Type 0
+IsUpToMaxDay kind at = day_part kind at ≤ℤ pos 3_000_000_000_000
+
+-- a no names such an occurrence
+abbrev pub NamesUpToMaxDay : Verdict → Type 0
+NamesUpToMaxDay Yes = ⊤
+NamesUpToMaxDay (No kind at side) = IsUpToMaxDay kind at

@@ -3,6 +3,7 @@ ghost use Rattle.std.specs.Prelude.{◌≡◌, ◌≤◌};
 ghost use Rattle.rr_model.specs.Whole.Divisors.{lcm};
 ghost use Rattle.rr_model.specs.Sets.Sketch.{StandsIn};
 ghost use Rattle.rr_model.specs.Sets.Verdict.{IsDisjointVerdict, IsEqualVerdict, IsWithinVerdict};
+ghost use Rattle.rr_decide.specs.Occurrence.{NamesUpToMaxDay};
 
 use crate::question::Question;
 use crate::verdicts::verdict;
@@ -12,10 +13,12 @@ use rr_word::DaySeq;
 
 /// Whether two sets have equal occurrences for all years to come; else the first that exactly one of them has.
 ///
+/// A no names an occurrence up to the greatest day, 3,000,000,000,000.
 /// It reads no more days of each than there are from the first occupied day of both to the later settled day,
 /// and both periods together. It takes no memory.
 pub fn equal<A: DaySeq, B: DaySeq>(a: &A, b: &B) -> Verdict
-    ensures { IsEqualVerdict (StandsIn (A.sketch a.now)) (StandsIn (B.sketch b.now)) result }
+    ensures verdict { IsEqualVerdict (StandsIn (A.sketch a.now)) (StandsIn (B.sketch b.now)) result }
+    ensures day { NamesUpToMaxDay result }
 {
     verdict(Question::Equal, a, b, a.period() + b.period())
 }
@@ -23,11 +26,13 @@ pub fn equal<A: DaySeq, B: DaySeq>(a: &A, b: &B) -> Verdict
 /// Whether each occurrence of the first set is one of the second; else the first that the second lacks, on side A.
 ///
 /// The least common multiple of the periods must be at most `MAX_CYCLE_DAYS`.
+/// A no names an occurrence up to the greatest day, 3,000,000,000,000.
 /// It reads the days from the first occupied day of both to that many days past the later settled day.
 /// It takes no memory.
 pub fn within<A: DaySeq, B: DaySeq>(a: &A, b: &B) -> Verdict
     requires { lcm (A.sketch a.now).period (B.sketch b.now).period ≤ 16_777_216 }
-    ensures { IsWithinVerdict (StandsIn (A.sketch a.now)) (StandsIn (B.sketch b.now)) result }
+    ensures verdict { IsWithinVerdict (StandsIn (A.sketch a.now)) (StandsIn (B.sketch b.now)) result }
+    ensures day { NamesUpToMaxDay result }
 {
     verdict(Question::Within, a, b, common_cycle(a.period(), b.period()))
 }
@@ -35,11 +40,13 @@ pub fn within<A: DaySeq, B: DaySeq>(a: &A, b: &B) -> Verdict
 /// Whether two sets have no occurrence in common; else the first, on side Both.
 ///
 /// The least common multiple of the periods must be at most `MAX_CYCLE_DAYS`.
+/// A no names an occurrence up to the greatest day, 3,000,000,000,000.
 /// It reads the days from the first occupied day of both to that many days past the later settled day.
 /// It takes no memory.
 pub fn disjoint<A: DaySeq, B: DaySeq>(a: &A, b: &B) -> Verdict
     requires { lcm (A.sketch a.now).period (B.sketch b.now).period ≤ 16_777_216 }
-    ensures { IsDisjointVerdict (StandsIn (A.sketch a.now)) (StandsIn (B.sketch b.now)) result }
+    ensures verdict { IsDisjointVerdict (StandsIn (A.sketch a.now)) (StandsIn (B.sketch b.now)) result }
+    ensures day { NamesUpToMaxDay result }
 {
     verdict(
         Question::Disjoint,

@@ -1,5 +1,5 @@
 // The seconds of one day of two sets, in order.
-ghost use Rattle.std.specs.Prelude.{◌≡◌, [], MatchOption, nat_lt};
+ghost use Rattle.std.specs.Prelude.{◌≡◌, ◌↔◌, [], IsTrue, MatchOption, nat_lt};
 ghost use Rattle.rr_model.specs.Rising.{Rises};
 ghost use Rattle.rr_decide.specs.Merge.{IsNextSecond, is_ahead};
 ghost use Rattle.rr_decide.specs.Question.{IsFirstShown, ShowsNone, shown_by};
@@ -60,12 +60,31 @@ fn next_second<'a>(xs: &'a [u32], ys: &'a [u32]) -> Option<NextSecond<'a>>
     })
 }
 
+fn are_equal(xs: &[u32], ys: &[u32]) -> bool
+    ensures { IsTrue result ↔ (xs.now ≡ ys.now) }
+{
+    xs == ys
+}
+
+// Whether two lists are equal, where a second of both shows nothing.
+fn are_alike(question: Question, xs: &[u32], ys: &[u32]) -> bool
+    ensures { IsTrue result → ShowsNone (shown_by question) xs.now ys.now }
+{
+    !question.is_shown_by(Side::Both) && are_equal(xs, ys)
+}
+
 /// The first second of two rising lists that shows that the answer is no, and its side.
+///
+/// Equal lists are compared whole, where what both have shows nothing.
 pub fn first_shown(question: Question, xs: &[u32], ys: &[u32]) -> Option<(u32, Side)>
     requires xs { Rises nat_lt xs.now }
     requires ys { Rises nat_lt ys.now }
     ensures { MatchOption result (ShowsNone (shown_by question) xs.now ys.now) (λ r. IsFirstShown (shown_by question) xs.now ys.now r.0 r.1) }
 {
+    let alike = are_alike(question, xs, ys);
+    if alike {
+        return None;
+    }
     let mut rest_a = xs;
     let mut rest_b = ys;
     while let Some(next) = next_second(rest_a, rest_b) {

@@ -3,7 +3,7 @@ ghost use Rattle.std.specs.Prelude.{◌≡◌, ◌↔◌, IsTrue, IfSome, MatchO
 ghost use Rattle.rr_model.specs.Moment.{Before, moment_at};
 ghost use Rattle.rr_model.specs.Sets.Sketch.{IsEmptySketch};
 ghost use Rattle.rr_model.specs.declared.verdict.Verdict.TheVariants.{No};
-ghost use Rattle.rr_decide.specs.Occurrence.{IsNearOccurrence};
+ghost use Rattle.rr_decide.specs.Occurrence.{IsNearOccurrence, IsUpToMaxDay};
 ghost use Rattle.rr_decide.specs.Question.{IsFirstOccurrence};
 
 use rr_model::{Kind, SECONDS_OF_DAY, Side, Verdict, moment_at};
@@ -61,6 +61,7 @@ impl Occurrence {
 pub fn first_occurrence<S: DaySeq>(seq: &S) -> Option<Occurrence>
     ensures first { MatchOption result (IsEmptySketch (S.sketch seq.now)) (λ o. IsFirstOccurrence (S.sketch seq.now) o.kind o.at) }
     ensures near { IfSome result IsNearOccurrence }
+    ensures day { IfSome result (λ o. IsUpToMaxDay o.kind o.at) }
 {
     match seq.first() {
         None => None,

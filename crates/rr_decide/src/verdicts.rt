@@ -1,7 +1,7 @@
 // The verdict on two sequences, for one question.
 ghost use Rattle.std.specs.Prelude.{◌≡◌, ◌≤◌, IsTrue, IfSome, MatchOption};
 ghost use Rattle.rr_model.specs.Sets.Sketch.{IsEmptySketch, IsNearDay, StandsIn};
-ghost use Rattle.rr_decide.specs.Occurrence.{IsNearOccurrence};
+ghost use Rattle.rr_decide.specs.Occurrence.{IsNearOccurrence, IsUpToMaxDay, NamesUpToMaxDay};
 ghost use Rattle.rr_decide.specs.Question.{AreApart, HasNoneBefore, IsFirstOccurrence, IsVerdictBy, IsWindow, shown_by};
 
 use crate::days::{days_between, first_day, first_day_shown};
@@ -14,7 +14,8 @@ use rr_word::DaySeq;
 pub fn verdict<A: DaySeq, B: DaySeq>(question: Question, a: &A, b: &B, window: u64) -> Verdict
     requires window { IsWindow (shown_by question) (A.sketch a.now) (B.sketch b.now) window }
     requires few { window ≤ 2_000_000_000 }
-    ensures { IsVerdictBy (shown_by question) (StandsIn (A.sketch a.now)) (StandsIn (B.sketch b.now)) result }
+    ensures verdict { IsVerdictBy (shown_by question) (StandsIn (A.sketch a.now)) (StandsIn (B.sketch b.now)) result }
+    ensures day { NamesUpToMaxDay result }
 {
     match first_day(a, b) {
         None => apart(question, a, b),
@@ -36,7 +37,8 @@ fn of_one_kind<A: DaySeq, B: DaySeq>(
     requires near { IsNearDay from }
     requires window { IsWindow (shown_by question) (A.sketch a.now) (B.sketch b.now) window }
     requires few { window ≤ 2_000_000_000 }
-    ensures { IsVerdictBy (shown_by question) (StandsIn (A.sketch a.now)) (StandsIn (B.sketch b.now)) result }
+    ensures verdict { IsVerdictBy (shown_by question) (StandsIn (A.sketch a.now)) (StandsIn (B.sketch b.now)) result }
+    ensures day { NamesUpToMaxDay result }
 {
     let last = from.max(a.settled()).max(b.settled());
     let days = days_between(from, last) + window;
@@ -50,6 +52,7 @@ fn of_one_kind<A: DaySeq, B: DaySeq>(
 fn first_if<S: DaySeq>(asked: bool, seq: &S) -> Option<Occurrence>
     ensures first { MatchOption result (IsTrue asked → IsEmptySketch (S.sketch seq.now)) (λ o. IsTrue asked × IsFirstOccurrence (S.sketch seq.now) o.kind o.at) }
     ensures near { IfSome result IsNearOccurrence }
+    ensures day { IfSome result (λ o. IsUpToMaxDay o.kind o.at) }
 {
     if asked { first_occurrence(seq) } else { None }
 }
@@ -57,7 +60,8 @@ fn first_if<S: DaySeq>(asked: bool, seq: &S) -> Option<Occurrence>
 // The verdict on two sequences with nothing in common: the lesser of the first occurrences that show no.
 fn apart<A: DaySeq, B: DaySeq>(question: Question, a: &A, b: &B) -> Verdict
     requires { AreApart (StandsIn (A.sketch a.now)) (StandsIn (B.sketch b.now)) }
-    ensures { IsVerdictBy (shown_by question) (StandsIn (A.sketch a.now)) (StandsIn (B.sketch b.now)) result }
+    ensures verdict { IsVerdictBy (shown_by question) (StandsIn (A.sketch a.now)) (StandsIn (B.sketch b.now)) result }
+    ensures day { NamesUpToMaxDay result }
 {
     let shows_a = question.is_shown_by(Side::A);
     let shows_b = question.is_shown_by(Side::B);

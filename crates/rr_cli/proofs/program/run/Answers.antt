@@ -1,5 +1,5 @@
 use Rattle.std.proofs.Common.{inl, inr, refl, sym}
-use Rattle.rr_cli.specs.Answer.{usage}
+use Rattle.rr_cli.specs.Said.{usage}
 use Rattle.rr_cli.specs.Command.{command_of, contents}
 use Rattle.rr_cli.specs.Outcome.{answer_of}
 use Rattle.rr_cli.specs.Parsed.{command_in, words_of}

@@ -1,0 +1,67 @@
+#!/bin/sh
+# Times verdicts and canonical texts of long and short series, and prints of each the seconds, the ratio to a run that
+# only prints the usage line, the most memory in megabytes and the output's first line.
+# Usage: bench/verdicts.sh [PROGRAM], after the program was built; it stands on GNU time.
+set -u
+
+here=$(CDPATH= cd -- "$(dirname -- "$0")/.." && pwd) || exit 1
+program=${1:-$here/crates/rr_cli/out/rr_cli}
+[ -x "$program" ] || { echo "verdicts.sh: $program is not built" >&2; exit 1; }
+
+scratch=$(mktemp -d) || exit 1
+trap 'rm -rf "$scratch"' EXIT
+
+# series NAME START RULE: a series of one rule under that name.
+series() {
+    printf 'DTSTART:%s\nRRULE:%s\n' "$2" "$3" >"$scratch/$1"
+}
+
+# best RUNS WORDS..: of so many runs the least time in nanoseconds; of the last one the memory in kilobytes and the first line.
+best() {
+    runs=$1
+    shift
+    least=
+    for _ in $(seq "$runs"); do
+        begun=$(date +%s%N)
+        /usr/bin/time -o "$scratch/memory" -f '%M' "$program" "$@" >"$scratch/out" 2>/dev/null
+        taken=$(($(date +%s%N) - begun))
+        [ -n "$least" ] && [ "$least" -le "$taken" ] || least=$taken
+    done
+    memory=$(tail -n 1 "$scratch/memory")
+    first=$(head -n 1 "$scratch/out")
+}
+
+# measure LIMIT RUNS NAME WORDS..: one line of the table. The limit is in seconds.
+measure() {
+    limit=$1
+    runs=$2
+    name=$3
+    shift 3
+    best "$runs" "$@"
+    awk -v name="$name" -v taken="$least" -v empty="$empty" -v memory="$memory" -v limit="$limit" -v first="$first" 'BEGIN {
+        said = (taken <= limit * 1e9) ? "ok" : "SLOW"
+        printf "%-40s %8.3f s %8.0f x %6.0f MB  %-5s %s\n", name, taken / 1e9, taken / empty, memory / 1024, said, first
+    }'
+}
+
+series long 20240101 'FREQ=MONTHLY;INTERVAL=113'
+series weekly 20240101 'FREQ=WEEKLY;BYDAY=MO,WE,FR'
+series monthly 20240109 'FREQ=MONTHLY;BYDAY=2TU'
+series yearly 20240229 'FREQ=YEARLY;BYMONTH=2;BYMONTHDAY=-1'
+series counted 20240101 'FREQ=DAILY;COUNT=16777217'
+series seconds 20240101T000000 'FREQ=SECONDLY;INTERVAL=86399'
+series january 20240101T000000 'FREQ=SECONDLY;BYMONTH=1'
+series dense 20240101T000000 'FREQ=MINUTELY;INTERVAL=113;BYMONTH=1,2,3,4,5,6,7,8,9,10,11,12'
+
+best 20 none
+empty=$least
+awk -v empty="$empty" 'BEGIN { printf "an empty run: %.4f s\n", empty / 1e9 }'
+measure 0.3 3 'equal, a cycle of 16,508,961 days' equal "rrule:$scratch/long" "rrule:$scratch/long"
+measure 0.02 5 'equal, weekly and monthly' equal "rrule:$scratch/weekly" "rrule:$scratch/monthly"
+measure 0.02 5 'within, monthly and yearly' within "rrule:$scratch/monthly" "rrule:$scratch/yearly"
+measure 0.02 5 'disjoint, yearly and weekly' disjoint "rrule:$scratch/yearly" "rrule:$scratch/weekly"
+measure 1 3 'equal, 16,777,217 counted days' equal "rrule:$scratch/counted" "rrule:$scratch/counted"
+measure 0.5 3 'equal, each 86,399 seconds' equal "rrule:$scratch/seconds" "rrule:$scratch/seconds"
+measure 10 1 'equal, each second of January' equal "rrule:$scratch/january" "rrule:$scratch/january"
+measure 0.02 5 'canon, monthly' canon "rrule:$scratch/monthly"
+measure 2 3 'canon, a dense cycle of 16,508,961 days' canon "rrule:$scratch/dense"
