@@ -3,15 +3,21 @@ use Rattle.std.proofs.Common.{◌≡◌, ℕ, ℤ, List, [], ◌∷◌, ◌++◌
 use Rattle.std.specs.Prelude.{codes}
 use Rattle.std.proofs.Math.Seq.{take-append_seam, drop-append_seam}
 use Rattle.std.proofs.lemmas.List.{append_cancel_left, append_cancel_right}
-use Rattle.rr_cli.specs.Answer.{Answer, IsAnswerOf, IsSaid, IsEqualSaid, IsEqualAnswer, AnswerIsOne, said}
+use Rattle.rr_cli.specs.Answer.{Answer, IsAnswerOf, IsSaid, IsEqualSaid, IsEqualAnswer, IsSeriesListing, IsListing, IsListSaid, AnswerIsOne, list_limits, listing_said, said}
 use Rattle.rr_cli.specs.Command.{Command, not_built}
 use Rattle.rr_cli.specs.Daily.{DailySeries, IsDailyOccurrence}
 use Rattle.rr_cli.specs.DailyText.{IsDailyText, interval_part, interval_of, StatesDaily, StatesNoDate, IsDailyReading}
+use Rattle.rr_cli.specs.Listing.{listed_text}
+use Rattle.rr_cli.specs.OperandReading.{operand_read}
+use Rattle.rr_model.specs.Series.FirstRefusal.{FirstRefusalIsOne}
+use Rattle.rr_model.specs.Series.Occurrences.{Occurs}
 use Rattle.rr_model.specs.Text.Moments.{basic_date}
 use Rattle.rr_cli.specs.declared.command.Task.{Task}
 use Rattle.rr_cli.specs.declared.command.Task.TheVariants as task
 use Rattle.rr_model.specs.declared.refusal.Refusal.{Refusal}
+use Rattle.rr_model.specs.declared.rule.Series.{Series}
 use Rattle.rr_model.specs.declared.verdict.Side.{Side}
+use Rattle.rr_cli.proofs.FirstLemmas.{first_is_one}
 use Rattle.rr_cli.proofs.VerdictLemmas.{equal_verdict_is_one}
 
 -- what stands after the digits of the start
@@ -80,24 +86,40 @@ equal_answer_is_one a b x y p q =
     let of_b = reading_is_one b q.of_b p.of_b q.is_b p.is_b in
     said_is_one p.of_a p.of_b x y p.is_said (rw (of_a, of_b) at q.is_said)
 
--- a task over two texts has one answer
-said_of_task_is_one : (task : Task) (command : Command) (both : List ℕ × List ℕ) (x y : Answer) → IsSaid task command both x → IsSaid task command both y
-    → x ≡ y
-said_of_task_is_one task.Equal command both x y p q = equal_answer_is_one both.0 both.1 x y p q
-said_of_task_is_one task.Check command both x y p q = p ∙ sym q
-said_of_task_is_one task.Within command both x y p q = p ∙ sym q
-said_of_task_is_one task.Disjoint command both x y p q = p ∙ sym q
-said_of_task_is_one task.Canon command both x y p q = p ∙ sym q
-said_of_task_is_one (task.Translate target) command both x y p q = p ∙ sym q
-said_of_task_is_one task.Infer command both x y p q = p ∙ sym q
-said_of_task_is_one (task.List count) command both x y p q = p ∙ sym q
-said_of_task_is_one (task.Drill seed count) command both x y p q = p ∙ sym q
+module _ (one : FirstRefusalIsOne) where
+  series_listing_is_one : (n : ℕ) (series : Series) (x y : Result (List ℕ) Refusal) → IsSeriesListing n series x → IsSeriesListing n series y → x ≡ y
+  series_listing_is_one n series (Err r) (Err s) p q = let e : Some r ≡ Some s = one list_limits series (Some r) (Some s) p q in cc
+  series_listing_is_one n series (Err r) (Ok t) p q = absurd (let e : Some r ≡ None = one list_limits series (Some r) None p q.0 in cc)
+  series_listing_is_one n series (Ok t) (Err r) p q = absurd (let e : None ≡ Some r = one list_limits series None (Some r) p.0 q in cc)
+  series_listing_is_one n series (Ok t) (Ok u) p q =
+      let same = first_is_one (Occurs series series.kind) n p.1.times q.1.times p.1.are_first q.1.are_first in
+      ap Ok (p.1.lines ∙ ap (listed_text series.kind) same ∙ sym q.1.lines)
 
-answer_of_is_one : (command : Command) (side : Option Side) (both : List ℕ × List ℕ) (x y : Answer) → IsAnswerOf command side both x
-    → IsAnswerOf command side both y → x ≡ y
-answer_of_is_one command (Some side) both x y p q = p ∙ sym q
-answer_of_is_one command None both x y p q = said_of_task_is_one command.task command both x y p q
+  listing_is_one : (n : ℕ) (series : Result Series Refusal) (x y : Result (List ℕ) Refusal) → IsListing n series x → IsListing n series y → x ≡ y
+  listing_is_one n (Err r) x y p q = p ∙ sym q
+  listing_is_one n (Ok series) x y p q = series_listing_is_one n series x y p q
 
-pub answer_is_one : AnswerIsOne
-answer_is_one None both x y p q = p ∙ sym q
-answer_is_one (Some command) both x y p q = answer_of_is_one command (not_built command) both x y p q
+  list_answer_is_one : (n : ℕ) (series : Result Series Refusal) (x y : Answer) → IsListSaid n series x → IsListSaid n series y → x ≡ y
+  list_answer_is_one n series x y (l, p, e) (m, q, f) = e ∙ ap listing_said (listing_is_one n series l m p q) ∙ sym f
+
+  -- a task over two texts has one answer
+  said_of_task_is_one : (task : Task) (command : Command) (both : List ℕ × List ℕ) (x y : Answer) → IsSaid task command both x → IsSaid task command both y
+      → x ≡ y
+  said_of_task_is_one task.Equal command both x y p q = equal_answer_is_one both.0 both.1 x y p q
+  said_of_task_is_one task.Check command both x y p q = p ∙ sym q
+  said_of_task_is_one task.Within command both x y p q = p ∙ sym q
+  said_of_task_is_one task.Disjoint command both x y p q = p ∙ sym q
+  said_of_task_is_one task.Canon command both x y p q = p ∙ sym q
+  said_of_task_is_one (task.Translate target) command both x y p q = p ∙ sym q
+  said_of_task_is_one task.Infer command both x y p q = p ∙ sym q
+  said_of_task_is_one (task.List count) command both x y p q = list_answer_is_one count (operand_read command.a both.0) x y p q
+  said_of_task_is_one (task.Drill seed count) command both x y p q = p ∙ sym q
+
+  answer_of_is_one : (command : Command) (side : Option Side) (both : List ℕ × List ℕ) (x y : Answer) → IsAnswerOf command side both x
+      → IsAnswerOf command side both y → x ≡ y
+  answer_of_is_one command (Some side) both x y p q = p ∙ sym q
+  answer_of_is_one command None both x y p q = said_of_task_is_one command.task command both x y p q
+
+  pub answer_is_one : AnswerIsOne
+  answer_is_one None both x y p q = p ∙ sym q
+  answer_is_one (Some command) both x y p q = answer_of_is_one command (not_built command) both x y p q

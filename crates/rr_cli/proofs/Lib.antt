@@ -3,6 +3,11 @@ pub mod IntervalText
 pub mod Reading
 pub mod AnswerLemmas
 pub mod DailyLemmas
+pub mod LineLemmas
+pub mod FirstLemmas
+pub mod ListedLemmas
+pub mod SeriesLemmas
+pub mod CommandLemmas
 pub mod WordLemmas
 pub mod WorkLemmas
 pub mod RunLemmas

@@ -1,14 +1,17 @@
 -- What a run answers: a relation between the command, the bytes of its operands, and what is said.
 -- It is no function, since a verdict speaks of all whole numbers. That there is one answer alone is a law.
-use Rattle.std.specs.Prelude.{◌≡◌, ℕ, nat_le, if◌then◌else◌, List, [], ◌∷◌, ◌++◌, codes, Option, Some, None, Result, Ok, Err}
+use Rattle.std.specs.Prelude.{◌≡◌, ℕ, true, false, nat_le, if◌then◌else◌, List, [], ◌∷◌, ◌++◌, codes, Option, Some, None, Result, Ok, Err}
 use Rattle.std.specs.Fmt.{decimal}
 use Rattle.rr_cli.specs.Command.{Command, Operand, not_built, usage_text}
 use Rattle.rr_cli.specs.Daily.{DailySeries, IsDailyOccurrence}
 use Rattle.rr_cli.specs.DailyText.{IsDailyReading}
+use Rattle.rr_cli.specs.Listing.{ListsFirst}
 use Rattle.rr_cli.specs.OperandReading.{operand_read}
 use Rattle.rr_model.specs.Text.Moments.{extended_text}
 use Rattle.rr_model.specs.Text.Refusals.{refusal_text}
 use Rattle.rr_model.specs.Series.Cycle.{series_cycle}
+use Rattle.rr_model.specs.Series.FirstRefusal.{Limits, IsFirstRefusal}
+use Rattle.rr_model.specs.Series.Occurrences.{Occurs}
 use Rattle.rr_model.specs.Series.Soundness.{first_refusal}
 use Rattle.rr_model.specs.Sets.Verdict.{IsEqualVerdict}
 use Rattle.rr_cli.specs.declared.command.Task.{Task}
@@ -88,9 +91,37 @@ series_said (Ok series) = soundness_said (first_refusal series) (series_cycle se
 abbrev pub check_answer : Option Operand → List ℕ → Answer
 check_answer operand bytes = series_said (operand_read operand bytes)
 
+-- ---- what `list` says
+
+-- it judges the cycle and the counts, and not the moments of a day
+abbrev pub list_limits : Limits
+list_limits = record { cycle = true; counts = true; moments = false }
+
+-- the first n occurrences of a series, one a line, or its first refusal
+abbrev pub IsSeriesListing : ℕ → Series → Result (List ℕ) Refusal → Type 0
+IsSeriesListing n series (Err refusal) = IsFirstRefusal list_limits series (Some refusal)
+IsSeriesListing n series (Ok text) = IsFirstRefusal list_limits series None × ListsFirst (Occurs series series.kind) series.kind n text
+
+-- the refusal of the text, else what is listed of its series
+abbrev pub IsListing : ℕ → Result Series Refusal → Result (List ℕ) Refusal → Type 0
+IsListing n (Err refusal) listing = listing ≡ Err refusal
+IsListing n (Ok series) listing = IsSeriesListing n series listing
+
+-- the lines, or the refusal
+abbrev pub listing_said : Result (List ℕ) Refusal → Answer
+listing_said (Err refusal) = refused A refusal
+listing_said (Ok text) = record { status = status.Yes; bytes = text }
+
+-- what is said of an operand that was read
+abbrev pub IsListSaid : ℕ → Result Series Refusal → Answer → Type 0
+IsListSaid n series answer = (listing : Result (List ℕ) Refusal) × IsListing n series listing × (answer ≡ listing_said listing)
+
+-- ---- what a command says
+
 -- what is said of the bytes of a command's operands, by what it asks
 abbrev pub IsSaid : Task → Command → List ℕ × List ℕ → Answer → Type 0
 IsSaid task.Equal command both answer = IsEqualAnswer both.0 both.1 answer
+IsSaid (task.List n) command both answer = IsListSaid n (operand_read command.a both.0) answer
 IsSaid task.Check command both answer = answer ≡ check_answer command.a both.0
 IsSaid _ command both answer = answer ≡ refused A NotBuilt
 

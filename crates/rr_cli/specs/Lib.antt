@@ -1,6 +1,7 @@
 pub mod Command
 pub mod Daily
 pub mod DailyText
+pub mod Listing
 pub mod Answer
 pub mod Series
 pub mod OperandReading

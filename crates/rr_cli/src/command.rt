@@ -72,7 +72,7 @@ pub struct Command<'a> {
 fn is_task_built(task: Task) -> bool
     ensures { result ≡ is_task_built task }
 {
-    matches!(task, Task::Equal | Task::Check)
+    matches!(task, Task::Equal | Task::List(_) | Task::Check)
 }
 
 fn is_language_built(language: Language) -> bool

@@ -8,6 +8,7 @@ mod daily;
 mod daily_text;
 mod decide;
 mod laws;
+mod listing;
 mod operand;
 mod outcome;
 mod program;

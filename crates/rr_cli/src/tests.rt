@@ -193,6 +193,58 @@ const CHECKS: [(&[u8], Status, &[u8]); 19] = [
     ),
 ];
 
+// How many are asked, A, and how the run of `list` ends.
+const LISTS: [(&str, &[u8], Status, &[u8]); 8] = [
+    (
+        "2",
+        b"DTSTART:20960229\nRRULE:FREQ=YEARLY;BYMONTH=2;BYMONTHDAY=29\n",
+        Status::Yes,
+        b"2096-02-29\n2104-02-29\n",
+    ),
+    (
+        "4",
+        b"DTSTART:20240101T090000\nRRULE:FREQ=HOURLY;INTERVAL=7\n",
+        Status::Yes,
+        b"2024-01-01T09:00:00\n2024-01-01T16:00:00\n2024-01-01T23:00:00\n2024-01-02T06:00:00\n",
+    ),
+    (
+        "2",
+        b"DTSTART:20240101T000000\nRRULE:FREQ=SECONDLY;BYMONTH=1;BYMONTHDAY=1;BYHOUR=0;BYMINUTE=0;BYSECOND=0\n",
+        Status::Yes,
+        b"2024-01-01T00:00:00\n2025-01-01T00:00:00\n",
+    ),
+    (
+        "4",
+        b"DTSTART:19970805\nRRULE:FREQ=WEEKLY;INTERVAL=2;BYDAY=TU,SU;WKST=SU\n",
+        Status::Yes,
+        b"1997-08-05\n1997-08-17\n1997-08-19\n1997-08-31\n",
+    ),
+    (
+        "3",
+        b"DTSTART:19970512\nRRULE:FREQ=YEARLY;BYWEEKNO=20;BYDAY=MO\n",
+        Status::Yes,
+        b"1997-05-12\n1998-05-11\n1999-05-17\n",
+    ),
+    (
+        "9",
+        b"DTSTART:20240131\nRRULE:FREQ=MONTHLY;COUNT=3\n",
+        Status::Yes,
+        b"2024-01-31\n2024-03-31\n2024-05-31\n",
+    ),
+    (
+        "9",
+        b"DTSTART:20240101\nRRULE:FREQ=DAILY;UNTIL=20240103\n",
+        Status::Yes,
+        b"2024-01-01\n2024-01-02\n2024-01-03\n",
+    ),
+    (
+        "1",
+        b"DTSTART:20240101\nRRULE:FREQ=DAILY;COUNT=16777218\n",
+        Status::Refused,
+        b"refused A CountedTooFar\n",
+    ),
+];
+
 // Words that are no command.
 const NO_COMMANDS: [&[&str]; 33] = [
     &[],
@@ -231,7 +283,7 @@ const NO_COMMANDS: [&[&str]; 33] = [
 ];
 
 // Commands that are not built, and what is said of them.
-const NOT_BUILT: [(&[&str], &[u8]); 17] = [
+const NOT_BUILT: [(&[&str], &[u8]); 16] = [
     (&["within", "rrule:a", "rrule:b"], b"refused A NotBuilt\n"),
     (&["disjoint", "rrule:a", "rrule:-"], b"refused A NotBuilt\n"),
     (&["canon", "rrule:a"], b"refused A NotBuilt\n"),
@@ -242,7 +294,6 @@ const NOT_BUILT: [(&[&str], &[u8]); 17] = [
         &["translate", "graph", "graph@-08:00:x"],
         b"refused A NotBuilt\n",
     ),
-    (&["list", "1", "rrule:a"], b"refused A NotBuilt\n"),
     (&["list", "100000", "vcal:-"], b"refused A NotBuilt\n"),
     (&["drill", "0", "1"], b"refused A NotBuilt\n"),
     (&["drill", "4294967295", "100"], b"refused A NotBuilt\n"),
@@ -293,6 +344,22 @@ fn cycles_and_refusals(rt: HostRuntime) -> Result<(), Fail> {
         let mut sink = SteadySink::new(alloc);
         assert_eq!(rt;
             run(alloc, &["check", "rrule:a"], &mut source, &mut sink),
+            status
+        );
+        assert_eq!(rt; sink.bytes(), said);
+    }
+    Ok(())
+}
+
+#[test]
+fn occurrences(rt: HostRuntime) -> Result<(), Fail> {
+    let alloc = rt.alloc();
+    for (count, text, status, said) in LISTS {
+        let mut source = SteadySource::new(alloc);
+        source.hold("a", text).ok().ok_or("memory")?;
+        let mut sink = SteadySink::new(alloc);
+        assert_eq!(rt;
+            run(alloc, &["list", count, "rrule:a"], &mut source, &mut sink),
             status
         );
         assert_eq!(rt; sink.bytes(), said);
