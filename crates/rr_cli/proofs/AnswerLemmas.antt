@@ -1,16 +1,18 @@
 -- A command over the bytes of its operands has one answer.
-use Rattle.std.proofs.Common.{◌≡◌, ℕ, List, Option, Some, None, sym, ◌∙◌}
+use Rattle.std.proofs.Common.{◌≡◌, ℕ, List, Option, Some, None, sym, ap, ◌∙◌}
 use Rattle.std.specs.Prelude.{Result}
 use Rattle.rr_fold.specs.Judged.{all_limits}
 use Rattle.rr_model.specs.Series.Cycle.{series_cycle}
 use Rattle.rr_model.specs.Series.FirstRefusal.{FirstRefusalIsOne}
+use Rattle.rr_model.specs.Series.Occurrences.{Occurs}
 use Rattle.rr_model.specs.declared.refusal.Refusal.{Refusal}
 use Rattle.rr_model.specs.declared.rule.Series.{Series}
 use Rattle.rr_model.specs.declared.verdict.Side.{Side}
 use Rattle.rr_model.specs.declared.verdict.Side.TheVariants.{A, B}
-use Rattle.rr_cli.specs.Answer.{AnswerIsOne, IsAnswerOf, IsCanonSaid, IsSaid, IsVerdictAnswer, cycle_said}
+use Rattle.rr_cli.specs.Answer.{AnswerIsOne, IsAnswerOf, IsCanonSaid, IsListSaid, IsSaid, IsVerdictAnswer, cycle_said}
 use Rattle.rr_cli.specs.Command.{Command, not_built}
-use Rattle.rr_cli.specs.Judgement.{cycle_limit}
+use Rattle.rr_cli.specs.Judgement.{cycle_limit, list_limits}
+use Rattle.rr_cli.specs.Listing.{listed_text}
 use Rattle.rr_cli.specs.OperandReading.{operand_read}
 use Rattle.rr_cli.specs.Said.{Answer, IsSaidWithin}
 use Rattle.rr_cli.specs.Verdicts.{IsSaidOfBoth}
@@ -19,8 +21,16 @@ use Rattle.rr_cli.specs.declared.command.Task.TheVariants as task
 use Rattle.rr_cli.specs.declared.verdicts.Question.{Question}
 use Rattle.rr_cli.specs.declared.verdicts.Question.TheVariants.{Equal, Within, Disjoint}
 use Rattle.rr_cli.proofs.CanonLemmas.{canon_said_is_one}
+use Rattle.rr_cli.proofs.FirstLemmas.{first_is_one}
 use Rattle.rr_cli.proofs.JudgementLemmas.{said_within_is_one}
 use Rattle.rr_cli.proofs.SaidOfBothLemmas.{said_of_both_is_one}
+
+list_said_is_one : (count : ℕ) (series : Series) (x y : Answer) → IsListSaid count series x → IsListSaid count series y → x ≡ y
+list_said_is_one count series x y p q =
+    let same = first_is_one (Occurs series series.kind) count p.1.times q.1.times p.1.are_first q.1.are_first in
+    let bytes = p.1.lines ∙ ap (listed_text series.kind) same ∙ sym q.1.lines in
+    let status = p.0 ∙ sym q.0 in
+    λ i. record { status = status i; bytes = bytes i }
 
 module _ (one : FirstRefusalIsOne) where
   verdict_answer_is_one :
@@ -39,7 +49,8 @@ module _ (one : FirstRefusalIsOne) where
       said_within_is_one one A cycle_limit a (λ s z. z ≡ cycle_said (series_cycle s)) (λ s z w h l. h ∙ sym l) x y p q
   said_of_task_is_one (task.Translate target) a b x y p q = p ∙ sym q
   said_of_task_is_one task.Infer a b x y p q = p ∙ sym q
-  said_of_task_is_one (task.List count) a b x y p q = p ∙ sym q
+  said_of_task_is_one (task.List count) a b x y p q =
+      said_within_is_one one A list_limits a (IsListSaid count) (list_said_is_one count) x y p q
   said_of_task_is_one (task.Drill seed count) a b x y p q = p ∙ sym q
 
   answer_of_is_one :

@@ -3,6 +3,11 @@ pub mod CanonLemmas
 pub mod JudgementLemmas
 pub mod SaidOfBothLemmas
 pub mod VerdictLemmas
+pub mod LineLemmas
+pub mod FirstLemmas
+pub mod ListedLemmas
+pub mod SeriesLemmas
+pub mod CommandLemmas
 pub mod WordLemmas
 pub mod WorkLemmas
 pub mod RunLemmas

@@ -3,7 +3,8 @@
 use Rattle.std.specs.Prelude.{◌≡◌, ◌↔◌, ℕ, List, ◌++◌, codes, Option, Some, None, Result, Ok}
 use Rattle.std.specs.Fmt.{decimal}
 use Rattle.rr_cli.specs.Command.{Command, not_built}
-use Rattle.rr_cli.specs.Judgement.{cycle_limit}
+use Rattle.rr_cli.specs.Judgement.{cycle_limit, list_limits}
+use Rattle.rr_cli.specs.Listing.{ListsFirst}
 use Rattle.rr_cli.specs.OperandReading.{operand_read}
 use Rattle.rr_cli.specs.Said.{Answer, IsSaidWithin, line, refused, usage}
 use Rattle.rr_cli.specs.Verdicts.{IsSaidOfBoth}
@@ -38,12 +39,17 @@ IsCanonSaid series answer = (answer.status ≡ status.Yes) × IsTextOf descripto
 abbrev pub cycle_said : ℕ → Answer
 cycle_said days = record { status = status.Yes; bytes = line (codes "cycle " ++ decimal days) }
 
+-- `list`: the first occurrences, so many, one a line
+abbrev pub IsListSaid : ℕ → Series → Answer → Type 0
+IsListSaid count series answer = (answer.status ≡ status.Yes) × ListsFirst (Occurs series series.kind) series.kind count answer.bytes
+
 -- what is said of what was read of the operands, by what is asked
 abbrev pub IsSaid : Task → Result Series Refusal → Result Series Refusal → Answer → Type 0
 IsSaid task.Equal a b answer = IsVerdictAnswer question.Equal a b answer
 IsSaid task.Within a b answer = IsVerdictAnswer question.Within a b answer
 IsSaid task.Disjoint a b answer = IsVerdictAnswer question.Disjoint a b answer
 IsSaid task.Canon a b answer = IsSaidWithin A all_limits a IsCanonSaid answer
+IsSaid (task.List count) a b answer = IsSaidWithin A list_limits a (IsListSaid count) answer
 IsSaid task.Check a b answer = IsSaidWithin A cycle_limit a (λ s x. x ≡ cycle_said (series_cycle s)) answer
 IsSaid _ a b answer = answer ≡ refused A NotBuilt
 

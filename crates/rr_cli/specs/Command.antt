@@ -1,5 +1,5 @@
 -- The words of the command line: a command's name, its arguments, then its operands.
-use Rattle.std.specs.Prelude.{◌≡◌, ◌⊎◌, ℕ, ◌+◌, ◌*◌, ◌==◌, ◌&&◌, ◌||◌, Bool, true, false, not, nat_lt, nat_le, ℤ, pos, neg_ℤ, List, [], ◌∷◌, length, take, Option, Some, None, option_map, option_and_then, if◌then◌else◌, bytes_eq, codes}
+use Rattle.std.specs.Prelude.{◌≡◌, ◌⊎◌, ℕ, ◌≤◌, ◌+◌, ◌*◌, ◌==◌, ◌&&◌, ◌||◌, Bool, true, false, not, nat_lt, nat_le, ℤ, pos, neg_ℤ, List, [], ◌∷◌, length, take, Option, Some, None, option_map, option_and_then, if◌then◌else◌, bytes_eq, codes, ⊤}
 use Rattle.std.specs.List.{list_all, before_first, after_first, position_or_len}
 use Rattle.rr_model.specs.Text.Digits.{is_digit, digits_value}
 use Rattle.rr_model.specs.declared.limits.TheConstants.{MAX_INPUT}
@@ -123,6 +123,11 @@ abbrev pub listing : List (List ℕ) → Option Command
 listing (count ∷ words) = option_and_then (λ count. with_one (task.List count) words) (number_of 1 MAX_LIST count)
 listing [] = None
 
+-- occurrences to list are 1 to MAX_LIST
+abbrev pub HasListCount : Task → Type 0
+HasListCount (task.List count) = (1 ≤ count) × (count ≤ MAX_LIST)
+HasListCount _ = ⊤
+
 -- the command `drill`, by the words after it
 abbrev pub drilling : List (List ℕ) → Option Command
 drilling (seed ∷ count ∷ []) =
@@ -162,6 +167,7 @@ is_task_built task.Equal = true
 is_task_built task.Within = true
 is_task_built task.Disjoint = true
 is_task_built task.Canon = true
+is_task_built (task.List n) = true
 is_task_built task.Check = true
 is_task_built _ = false
 

@@ -1,5 +1,6 @@
 pub mod Command
 pub mod Judgement
+pub mod Listing
 pub mod OperandReading
 pub mod Said
 pub mod Folding

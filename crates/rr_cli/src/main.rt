@@ -8,6 +8,7 @@ mod command;
 mod conclusion;
 mod folding;
 mod laws;
+mod listing;
 mod operand;
 mod outcome;
 mod program;

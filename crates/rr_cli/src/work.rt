@@ -2,13 +2,14 @@
 ghost use Rattle.std.specs.Prelude.{◌≡◌, ◌++◌, [], ◌∷◌, ℕ, List, Some, IfSome, IfOk, IsErrOf, option_map};
 ghost use Rattle.rr_io.specs.Outside.{KeepsHeld};
 ghost use Rattle.rr_cli.specs.Answer.{IsAnswer, IsSaidOf};
-ghost use Rattle.rr_cli.specs.Command.{content, contents, IsNameOf, IsOperandOf};
+ghost use Rattle.rr_cli.specs.Command.{HasListCount, IsNameOf, IsOperandOf, content, contents};
 ghost use Rattle.rr_cli.specs.Outcome.{answer_of};
 ghost use Rattle.rr_cli.specs.Parsed.{command_in, operand_in};
 
 use crate::canon::canon_outcome;
 use crate::check::check_outcome;
 use crate::command::{Command, Operand, Task, not_built};
+use crate::listing::list_outcome;
 use crate::outcome::{Outcome, refused};
 use crate::verdicts::{Question, verdict_outcome};
 use rr_io::{FetchError, Source};
@@ -34,6 +35,7 @@ fn fetch<S: Source>(
 
 // What is said of the bytes of the command's operands.
 fn said(alloc: Global, command: Command, a: &[u8], b: &[u8]) -> Result<Outcome, NoMemory>
+    requires { HasListCount command.task }
     ensures { IfOk result (λ x. IsSaidOf (command_in command.entry) (a.now, b.now) (answer_of x)) }
 {
     match command.task {
@@ -41,6 +43,7 @@ fn said(alloc: Global, command: Command, a: &[u8], b: &[u8]) -> Result<Outcome, 
         Task::Within => verdict_outcome(alloc, Question::Within, command, a, b),
         Task::Disjoint => verdict_outcome(alloc, Question::Disjoint, command, a, b),
         Task::Canon => canon_outcome(alloc, command.a, a),
+        Task::List(count) => list_outcome(alloc, command.a, a, count),
         Task::Check => check_outcome(alloc, command.a, a),
         _ => refused(alloc, Side::A, Refusal::NotBuilt),
     }
@@ -54,6 +57,7 @@ pub fn work_out<S: Source>(
     command: Command,
     source: &mut S,
 ) -> Result<Outcome, FetchError>
+    requires { HasListCount command.task }
     ensures answer { IfOk result (λ x. IfSome (contents (Some (command_in command.entry)) (S.held source.old)) (λ both. IsAnswer (Some (command_in command.entry)) both (answer_of x))) }
     ensures failed { IsErrOf result FetchError.Failed → (name : List ℕ) × IsOperandOf (Some (command_in command.entry)) name × (S.failed source.new ≡ S.failed source.old ++ name ∷ []) }
     ensures kept { (IsErrOf result FetchError.Failed → ⊥) → S.failed source.new ≡ S.failed source.old }

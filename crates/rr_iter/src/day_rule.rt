@@ -15,7 +15,7 @@ ghost use Rattle.rr_iter.specs.Ruling.{AreUnitDays, IsCandidateAt, IsValidRuling
 ghost use Rattle.rr_iter.specs.Walk.{IsFirstIn, IsFirstOf, IsFirstSecond, IsFirstUpTo, IsOnDay, IsWalked};
 
 use crate::set_positions::times_at_positions;
-use rr_cal::{Day, unit_of_day};
+use rr_cal::{Day, unit_of_day, week_index};
 use rr_expand::{days, first_fit, times};
 use rr_lazy::DayTimes;
 use rr_model::{Dates, Freq, Kind, NoMemory, Rule, day_part, second_part};
@@ -245,5 +245,9 @@ fn unit_of(freq: Freq, week_start: u8, day: i64) -> i64
     requires near { IsDayWithin 1000 day }
     ensures { result ≡ unit_number freq week_start Days day }
 {
-    unit_of_day(freq, week_start, &Day::new(day))
+    match freq {
+        Freq::Daily => day,
+        Freq::Weekly => week_index(day, week_start),
+        _ => unit_of_day(freq, week_start, &Day::new(day)),
+    }
 }

@@ -3,6 +3,7 @@ use Rattle.rr_cli.specs.Said.{usage}
 use Rattle.rr_cli.specs.Command.{command_of, contents}
 use Rattle.rr_cli.specs.Outcome.{answer_of}
 use Rattle.rr_cli.specs.Parsed.{command_in, words_of}
+use Rattle.rr_cli.proofs.CommandLemmas.{has_list_count}
 use Rattle.rr_cli.proofs.RunLemmas.{answer_to, ends_done, ends_failed, of_all, of_some}
 use Rattle.rr_cli.proofs.program.run.Goals as goal
 
@@ -63,3 +64,6 @@ returns-clause-complete g c = λ same rose.
     let x = answer_of c.in-Ok-work_out.outcome in
     let said = answer_to (command_in c.in-Some.command) command held x c.in-Some.ensures c.in-Ok-work_out.ensures.answer in
     of_some (contents command held) said (λ both is. inr (x, is, c.final_status.ensures))
+
+pub work_out-requires : goal.work_out-requires
+work_out-requires g c = has_list_count (words_of c.args.words.now) (command_in c.in-Some.command) c.in-Some.ensures

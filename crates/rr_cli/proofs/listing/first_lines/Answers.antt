@@ -1,0 +1,124 @@
+use Rattle.std.proofs.Common.{◌∙◌, ◌-◌, ◌++◌, length, map, ℤ, pos, ◌+ℤ◌, ap, refl, w64, to_z-of_z, arith}
+use Rattle.std.specs.Prelude.{FitsSigned}
+use Rattle.std.proofs.lemmas.Int.{ints}
+use Rattle.rr_model.specs.Moment.{moment_at}
+use Rattle.rr_model.specs.Sets.Tree.{IsOfKind}
+use Rattle.rr_cli.specs.Listing.{listed_text}
+use Rattle.rr_cli.proofs.ListedLemmas.{asking, gave, listed_begins, listed_day, listed_last, listed_none, asked_is, asked_low, asked_more, some_taken}
+use Rattle.rr_cli.proofs.listing.first_lines.Goals as goal
+
+pub days-init : goal.days-init
+days-init g c =
+    let back = to_z-of_z c.ranges.settled in
+    let of_kind : IsOfKind c.args.kind (g.A.Lazy.tree c.args.lazy.now) = rw c.requires.kind (g.met.A.Lazy.sound c.args.lazy.now).of_kind in
+    record {
+      tree = refl;
+      listed = rw c.new-out.ensures.items (listed_begins (g.A.Lazy.tree c.args.lazy.now) c.args.kind of_kind (g.A.Lazy.position c.args.lazy.now)
+          c.args.count c.requires.unasked);
+      some = c.requires.some;
+      settled = omega (arith, ints);
+      position = omega (arith, ints, back, c.requires.unasked, c.requires.from);
+      near = omega (arith, ints);
+    }
+
+pub next-requires-clause-low : goal.next-requires-clause-low
+next-requires-clause-low g c =
+    let i = c.days.invariant in
+    let back = to_z-of_z c.ranges.settled in
+    let a = asking c.args.settled c.days.from c.days.from-bits c.args.cycle c.args.count c.days.left back c.days.from-is
+    c.requires.from c.requires.near c.requires.few c.requires.short i.settled i.near in
+    rw (asked_is c.args.settled c.days.from c.args.cycle c.args.count c.days.left a c.days.from-bits c.days.from-is)
+    (asked_low c.args.settled c.days.from c.args.cycle c.args.count c.days.left a)
+
+pub returns-in-None : goal.returns-in-None
+returns-in-None g c =
+    let i = c.days.invariant in
+    let back = to_z-of_z c.ranges.settled in
+    let a = asking c.args.settled c.days.from c.days.from-bits c.args.cycle c.args.count c.days.left back c.days.from-is
+    c.requires.from c.requires.near c.requires.few c.requires.short i.settled i.near in
+    let n = rw (c.in-None.is, asked_is c.args.settled c.days.from c.args.cycle c.args.count c.days.left a c.days.from-bits c.days.from-is, i.tree) at
+    c.in_ok-next.ensures.next in
+    listed_none (g.A.Lazy.tree c.args.lazy.now) c.args.kind (g.A.Lazy.position c.days.lazy) (g.A.Lazy.position c.next.new.self) c.args.settled c.days.from
+    (c.days.from +ℤ pos c.args.cycle) c.args.cycle c.args.count c.days.left c.days.out.items
+    i.listed c.requires.repeats c.requires.some_days a.late (rw c.days.from-is at i.position) refl n.0 n.2
+
+pub push_day-requires-clause-from : goal.push_day-requires-clause-from
+push_day-requires-clause-from g c =
+    let i = c.days.invariant in
+    let back = to_z-of_z c.ranges.settled in
+    let a = asking c.args.settled c.days.from c.days.from-bits c.args.cycle c.args.count c.days.left back c.days.from-is
+    c.requires.from c.requires.near c.requires.few c.requires.short i.settled i.near in
+    let d = gave c.args.settled c.days.from c.args.cycle c.args.count c.days.left a (g.A.Lazy.tree c.args.lazy.now) (g.A.Lazy.position c.days.lazy)
+    (g.A.Lazy.position c.next.new.self)
+    c.days.from-bits c.in-Some.found (g.met.A.Lazy.sound c.days.lazy).in_years c.days.from-is (rw (c.in-Some.is, i.tree) at c.in_ok-next.ensures.next) in
+    rw d.fits d.in_years
+
+pub push_day-requires-clause-near : goal.push_day-requires-clause-near
+push_day-requires-clause-near g c =
+    let i = c.days.invariant in
+    let back = to_z-of_z c.ranges.settled in
+    let a = asking c.args.settled c.days.from c.days.from-bits c.args.cycle c.args.count c.days.left back c.days.from-is
+    c.requires.from c.requires.near c.requires.few c.requires.short i.settled i.near in
+    let d = gave c.args.settled c.days.from c.args.cycle c.args.count c.days.left a (g.A.Lazy.tree c.args.lazy.now) (g.A.Lazy.position c.days.lazy)
+    (g.A.Lazy.position c.next.new.self)
+    c.days.from-bits c.in-Some.found (g.met.A.Lazy.sound c.days.lazy).in_years c.days.from-is (rw (c.in-Some.is, i.tree) at c.in_ok-next.ensures.next) in
+    rw d.fits d.near
+
+pub next_from-from-requires : goal.next_from-from-requires
+next_from-from-requires g c =
+    let i = c.days.invariant in
+    let back = to_z-of_z c.ranges.settled in
+    let a = asking c.args.settled c.days.from c.days.from-bits c.args.cycle c.args.count c.days.left back c.days.from-is
+    c.requires.from c.requires.near c.requires.few c.requires.short i.settled i.near in
+    let d = gave c.args.settled c.days.from c.args.cycle c.args.count c.days.left a (g.A.Lazy.tree c.args.lazy.now) (g.A.Lazy.position c.days.lazy)
+    (g.A.Lazy.position c.next.new.self)
+    c.days.from-bits c.in-Some.found (g.met.A.Lazy.sound c.days.lazy).in_years c.days.from-is (rw (c.in-Some.is, i.tree) at c.in_ok-next.ensures.next) in
+    rw d.fits d.near
+
+pub returns-then-left-eq0 : goal.returns-then-left-eq0
+returns-then-left-eq0 g c =
+    let i = c.days.invariant in
+    let back = to_z-of_z c.ranges.settled in
+    let a = asking c.args.settled c.days.from c.days.from-bits c.args.cycle c.args.count c.days.left back c.days.from-is
+    c.requires.from c.requires.near c.requires.few c.requires.short i.settled i.near in
+    let d = gave c.args.settled c.days.from c.args.cycle c.args.count c.days.left a (g.A.Lazy.tree c.args.lazy.now) (g.A.Lazy.position c.days.lazy)
+    (g.A.Lazy.position c.next.new.self)
+    c.days.from-bits c.in-Some.found (g.met.A.Lazy.sound c.days.lazy).in_years c.days.from-is (rw (c.in-Some.is, i.tree) at c.in_ok-next.ensures.next) in
+    let of_kind : IsOfKind c.args.kind (g.A.Lazy.tree c.args.lazy.now) = rw c.requires.kind (g.met.A.Lazy.sound c.args.lazy.now).of_kind in
+    let seconds = c.as_slice-seconds.result.now in
+    let cut = c.as_slice-seconds.ensures.same ∙ c.keep_first.ensures in
+    let taken = some_taken c.in-Some.found.times seconds c.days.left d.occupied.some i.some cut in
+    let more = c.in_ok-push_day-in-Some.ensures ∙ ap (λ x. c.days.out.items ++ listed_text c.args.kind (map (moment_at c.args.kind x) seconds)) d.fits in
+    listed_last (g.A.Lazy.tree c.args.lazy.now) c.args.kind of_kind (g.A.Lazy.position c.days.lazy) c.in-Some.found.day c.args.count c.days.left
+    c.days.out.items c.push_day.new.out.items c.in-Some.found.times seconds i.listed d.occupied cut more
+    (omega (arith, taken.1, c.if-left-eq0.true))
+
+pub days-preserved : goal.days-preserved
+days-preserved g c =
+    let i = c.days.invariant in
+    let back = to_z-of_z c.ranges.settled in
+    let a = asking c.args.settled c.days.from c.days.from-bits c.args.cycle c.args.count c.days.left back c.days.from-is
+    c.requires.from c.requires.near c.requires.few c.requires.short i.settled i.near in
+    let d = gave c.args.settled c.days.from c.args.cycle c.args.count c.days.left a (g.A.Lazy.tree c.args.lazy.now) (g.A.Lazy.position c.days.lazy)
+    (g.A.Lazy.position c.next.new.self)
+    c.days.from-bits c.in-Some.found (g.met.A.Lazy.sound c.days.lazy).in_years c.days.from-is (rw (c.in-Some.is, i.tree) at c.in_ok-next.ensures.next) in
+    let of_kind : IsOfKind c.args.kind (g.A.Lazy.tree c.args.lazy.now) = rw c.requires.kind (g.met.A.Lazy.sound c.args.lazy.now).of_kind in
+    let seconds = c.as_slice-seconds.result.now in
+    let cut = c.as_slice-seconds.ensures.same ∙ c.keep_first.ensures in
+    let taken = some_taken c.in-Some.found.times seconds c.days.left d.occupied.some i.some cut in
+    let more = c.in_ok-push_day-in-Some.ensures ∙ ap (λ x. c.days.out.items ++ listed_text c.args.kind (map (moment_at c.args.kind x) seconds)) d.fits in
+    let listed = listed_day (g.A.Lazy.tree c.args.lazy.now) c.args.kind of_kind (g.A.Lazy.position c.days.lazy) c.in-Some.found.day c.args.count c.days.left
+    c.days.out.items c.push_day.new.out.items c.in-Some.found.times seconds i.listed d.occupied cut more
+    (c.days.left - length seconds) refl c.if-left-eq0.false in
+    let fits : FitsSigned w64 c.next_from-from.result = record { sfits = c.next_from-from.type_inv } in
+    let next = to_z-of_z fits in
+    let e = rw (back, d.fits) at c.next_from-from.ensures in
+    record {
+      tree = c.in_ok-next.ensures.tree ∙ i.tree;
+      listed = rw d.moved listed;
+      some = omega (arith, c.if-left-eq0.false);
+      settled = rw (back, next) e.settled;
+      position = rw (d.moved, next) e.after;
+      near = rw (back, next) (asked_more c.args.settled c.days.from c.args.cycle c.args.count c.days.left a c.in-Some.found.day c.next_from-from.result
+          (length seconds) taken.0 taken.1 (omega (arith, i.listed.still)) d.early e.one);
+    }
