@@ -26,8 +26,8 @@ one_rule rule start rules plus minus valid end one none nothing low high =
       few_dates = omega arith;
     })
 
-pub returns-clause-valid : goal.returns-clause-valid
-returns-clause-valid c =
+pub returns : goal.returns
+returns c =
     let rule = c.in_ok-mondays.field-0 in
     let one : c.put.new.self ≡ rule ∷ [] = c.in_ok-put.ensures.ok ∙ ap (λ l. l ++ rule ∷ []) c.new-rules.ensures in
-    rw (to_z-of_z c.ranges.start) (one_rule rule c.args.start c.put.new.self c.new.result c.new-2.result c.in_ok-mondays.ensures.valid c.in_ok-mondays.ensures.end one c.new.ensures c.new-2.ensures c.requires.low c.requires.high)
+    rw (to_z-of_z c.ranges.start) (record { valid = one_rule rule c.args.start c.put.new.self c.new.result c.new-2.result c.in_ok-mondays.ensures.valid c.in_ok-mondays.ensures.end one c.new.ensures c.new-2.ensures c.requires.low c.requires.high })

@@ -24,7 +24,9 @@ loop-place-preserved c =
           (one_more_none times c.args.before c.args.size c.requires.room places i place c.loop-place.seconds is
           (rw w.in-None.is at c.time_at.ensures) c.loop-place.invariant)
       | in-Some+in_ok-put-in-Some w ↦
-          rw w.seconds-is (one_more_some times c.args.before c.args.size c.requires.room places i place c.loop-place.seconds w.put.new.self w.in-Some.second is (rw w.in-Some.is at c.time_at.ensures) w.in_ok-put-in-Some.ensures.ok c.loop-place.invariant)
+          rw w.seconds-is
+          (one_more_some times c.args.before c.args.size c.requires.room places i place c.loop-place.seconds w.put.new.self w.in-Some.second is
+          (rw w.in-Some.is at c.time_at.ensures) w.in_ok-put-in-Some.ensures.ok c.loop-place.invariant)
     ]
 
 pub returns : goal.returns

@@ -74,16 +74,17 @@ returns-in-Some c =
     omega (arith, ints, begins, ends, c.requires.first, c.requires.next, c.from.ensures, c.nth_day.ensures.within) in
     let at : to_z w64 (of_z w64 c.moment_at.result) ≡ moment_at start.kind (unit_start rule.freq rule.week_start Days c.args.unit +ℤ pos k) s =
     to_z-of_z there ∙ c.moment_at.ensures.value ∙ ap (λ d. moment_at start.kind d s) day in
+    let count = c.days_in_unit-count.result in
+    let near = c.nth_day.ensures.within in
+    let low = c.nth_time.ensures.within in
+    let held = c.nth_time.ensures.holds in
+    let in_it = in_unit_there rule start.kind start.at c.args.unit c.requires.freq count ends k s near low fit holds held in
+    let passes = candidate_there rule start.kind start.at c.args.unit c.requires.freq count ends k s near low fit holds held in
+    let ranked_there = rank_there rule start.kind start.at c.args.unit c.requires.freq count ends k s near low fit holds held in
     subst (λ z. IsNthOfUnit rule start.kind start.at c.args.unit c.args.place (Some z)) (sym at)
     (nth_some rule start.kind start.at c.args.unit c.args.place
     (moment_at start.kind (unit_start rule.freq rule.week_start Days c.args.unit +ℤ pos k) s) c.in-Some.rank
-    (c.days_among-days.result * c.times_before-times.result)
-    (in_unit_there rule start.kind start.at c.args.unit c.requires.freq c.days_in_unit-count.result ends k s c.nth_day.ensures.within c.nth_time.ensures.within fit holds c.nth_time.ensures.holds)
-    (candidate_there rule start.kind start.at c.args.unit c.requires.freq c.days_in_unit-count.result ends k s c.nth_day.ensures.within c.nth_time.ensures.within fit holds c.nth_time.ensures.holds)
-    (rank_there rule start.kind start.at c.args.unit c.requires.freq c.days_in_unit-count.result ends k s c.nth_day.ensures.within c.nth_time.ensures.within fit holds c.nth_time.ensures.holds
-    ∙ rw (before, each, c.nth_time.ensures.rank) (div-add-mod' c.in-Some.rank c.times_before-times.result))
-    (size_by_days rule start.kind start.at c.args.unit c.requires.freq c.days_in_unit-count.result ends _
-    (in_unit_there rule start.kind start.at c.args.unit c.requires.freq c.days_in_unit-count.result ends k s c.nth_day.ensures.within c.nth_time.ensures.within fit holds c.nth_time.ensures.holds)
-    (candidate_there rule start.kind start.at c.args.unit c.requires.freq c.days_in_unit-count.result ends k s c.nth_day.ensures.within c.nth_time.ensures.within fit holds c.nth_time.ensures.holds)
-    ∙ rw (each, many) refl)
+    (c.days_among-days.result * c.times_before-times.result) in_it passes
+    (ranked_there ∙ rw (before, each, c.nth_time.ensures.rank) (div-add-mod' c.in-Some.rank c.times_before-times.result))
+    (size_by_days rule start.kind start.at c.args.unit c.requires.freq count ends _ in_it passes ∙ rw (each, many) refl)
     ranked.1)

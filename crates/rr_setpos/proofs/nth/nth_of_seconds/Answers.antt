@@ -52,8 +52,11 @@ nth_time-requires c =
     (rw (to_z-of_z c.ranges.unit) at c.begin_of_unit.ensures) (made.ensures.at ∙ to_z-of_z fits_begin) made.ensures.kind made.result.of_day in
     let fits_at : FitsSigned w64 made.result.at = search rules in
     let second = c.second_part-second.ensures.value ∙ ap (second_part Moments) (to_z-of_z fits_at) in
-    let counts = unit_counts rule start.kind start.at c.args.unit made.result.at c.second_part-second.result c.seconds_of_unit.result c.times_before-before.result c.times_before-end.result
-    c.requires.kind begin.0 second c.seconds_of_unit.ensures.value c.times_before-before.ensures.value c.times_before-end.ensures.value in
+    let of_unit = c.seconds_of_unit in
+    let before = c.times_before-before in
+    let end = c.times_before-end in
+    let counts = unit_counts rule start.kind start.at c.args.unit made.result.at c.second_part-second.result of_unit.result before.result end.result
+    c.requires.kind begin.0 second of_unit.ensures.value before.ensures.value end.ensures.value in
     let ranked = rw (c.in-Some.is, c.saturating_sub.ensures, counts.2, counts.1) at c.rank_of.ensures in
     rw (c.requires.kind, counts.1) (rank_in_day rule start.at c.args.unit c.requires.freq c.in-Some.rank ranked.0)
 
@@ -67,8 +70,11 @@ returns-in-None c =
     (rw (to_z-of_z c.ranges.unit) at c.begin_of_unit.ensures) (made.ensures.at ∙ to_z-of_z fits_begin) made.ensures.kind made.result.of_day in
     let fits_at : FitsSigned w64 made.result.at = search rules in
     let second = c.second_part-second.ensures.value ∙ ap (second_part Moments) (to_z-of_z fits_at) in
-    let counts = unit_counts rule start.kind start.at c.args.unit made.result.at c.second_part-second.result c.seconds_of_unit.result c.times_before-before.result c.times_before-end.result
-    c.requires.kind begin.0 second c.seconds_of_unit.ensures.value c.times_before-before.ensures.value c.times_before-end.ensures.value in
+    let of_unit = c.seconds_of_unit in
+    let before = c.times_before-before in
+    let end = c.times_before-end in
+    let counts = unit_counts rule start.kind start.at c.args.unit made.result.at c.second_part-second.result of_unit.result before.result end.result
+    c.requires.kind begin.0 second of_unit.ensures.value before.ensures.value end.ensures.value in
     nth_none rule Moments start.at c.args.unit c.args.place _ (λ t in_it passes. size_in_day rule start.at c.args.unit c.requires.freq t in_it passes)
     (rw (c.in-None.is, c.saturating_sub.ensures, counts.2, counts.1, to_z-of_z c.ranges.place) at c.rank_of.ensures)
 
@@ -82,8 +88,11 @@ returns-in-Some c =
     (rw (to_z-of_z c.ranges.unit) at c.begin_of_unit.ensures) (made.ensures.at ∙ to_z-of_z fits_begin) made.ensures.kind made.result.of_day in
     let fits_at : FitsSigned w64 made.result.at = search rules in
     let second = c.second_part-second.ensures.value ∙ ap (second_part Moments) (to_z-of_z fits_at) in
-    let counts = unit_counts rule start.kind start.at c.args.unit made.result.at c.second_part-second.result c.seconds_of_unit.result c.times_before-before.result c.times_before-end.result
-    c.requires.kind begin.0 second c.seconds_of_unit.ensures.value c.times_before-before.ensures.value c.times_before-end.ensures.value in
+    let of_unit = c.seconds_of_unit in
+    let before = c.times_before-before in
+    let end = c.times_before-end in
+    let counts = unit_counts rule start.kind start.at c.args.unit made.result.at c.second_part-second.result of_unit.result before.result end.result
+    c.requires.kind begin.0 second of_unit.ensures.value before.ensures.value end.ensures.value in
     let own : start.day.number ≡ day_part Moments start.at = start.of_day ∙ ap (λ k. day_part k start.at) c.requires.kind in
     let fits_unit : FitsSigned w64 c.unit_number.result = search rules in
     let start_unit = to_z-of_z fits_unit ∙ c.unit_number.ensures ∙ ap (λ k. unit_number rule.freq rule.week_start k start.at) c.requires.kind in

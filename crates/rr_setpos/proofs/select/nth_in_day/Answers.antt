@@ -19,14 +19,17 @@ nth_in_hour-requires c = rw c.before_in_hour-each.ensures.value
 
 pub returns-clause-holds : goal.returns-clause-holds
 returns-clause-holds c =
+    let own = c.args.own in
     rw c.from.ensures
-    (allowed_in_day c.args.rule.now c.args.own.hour c.args.own.minute c.args.own.second c.nth_allowed-hour.result c.nth_in_hour.result c.nth_in_hour.ensures.within
+    (allowed_in_day c.args.rule.now own.hour own.minute own.second c.nth_allowed-hour.result c.nth_in_hour.result c.nth_in_hour.ensures.within
     (rw c.wants_hour.ensures at c.nth_allowed-hour.ensures.allowed) c.nth_in_hour.ensures.holds)
 
 pub returns-clause-rank : goal.returns-clause-rank
 returns-clause-rank c =
+    let own = c.args.own in
+    let rest = c.nth_in_hour in
     rw c.from.ensures
-    (at_rank_in_day c.args.rule.now c.args.own.hour c.args.own.minute c.args.own.second c.args.rank c.nth_allowed-hour.result c.nth_in_hour.result c.nth_in_hour.ensures.within
+    (at_rank_in_day c.args.rule.now own.hour own.minute own.second c.args.rank c.nth_allowed-hour.result rest.result rest.ensures.within
     (rw c.wants_hour.ensures at c.nth_allowed-hour.ensures.allowed)
     (rw (c.before_in_hour-each.ensures.value, c.wants_hour.ensures) at c.nth_allowed-hour.ensures.rank)
     (rw c.before_in_hour-each.ensures.value at c.nth_in_hour.ensures.rank))

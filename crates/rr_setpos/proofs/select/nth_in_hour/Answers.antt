@@ -19,8 +19,10 @@ nth_allowed-second-requires c = rw (c.before_in_minute-each.ensures.value, c.wan
 
 pub returns-clause-rank : goal.returns-clause-rank
 returns-clause-rank c =
+    let own = c.args.own in
+    let last = c.nth_allowed-second in
     rw (c.from.ensures, c.from-2.ensures)
-    (at_rank_in_hour c.args.rule.now c.args.own.hour c.args.own.minute c.args.own.second c.args.rank c.nth_allowed-minute.result c.nth_allowed-second.result c.nth_allowed-second.ensures.within
+    (at_rank_in_hour c.args.rule.now own.hour own.minute own.second c.args.rank c.nth_allowed-minute.result last.result last.ensures.within
     (rw c.wants_minute.ensures at c.nth_allowed-minute.ensures.allowed)
     (rw (c.before_in_minute-each.ensures.value, c.wants_minute.ensures) at c.nth_allowed-minute.ensures.rank)
     (rw (c.before_in_minute-each.ensures.value, c.wants_second.ensures) at c.nth_allowed-second.ensures.rank))

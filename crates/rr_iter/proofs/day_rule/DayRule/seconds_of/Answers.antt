@@ -34,6 +34,8 @@ returns c =
     let first = rw (to_z-of_z c.ranges.day) at (rw (sym c.self.view_is) at c.first_second-from.ensures) in
     let stands = sym c.is_empty.ensures ∙ c.if-is_empty.false in
     let all = c.in_ok-chosen.chosen in
-    let set = chosen_at_places i.rule i.kind i.start c.args.day c.self.invariant.freq at.candidate i.times all c.args.place c.args.count stands c.self.invariant.of_times at.before at.all c.in_ok-chosen.ensures in
+    let known = c.self.invariant in
+    let set = chosen_at_places i.rule i.kind i.start c.args.day known.freq at.candidate i.times all c.args.place c.args.count stands known.of_times
+    at.before at.all c.in_ok-chosen.ensures in
     rw (← c.self.view_is) (IfOk-weaker c.cut-2.result _ (λ t. IsSetOf nat_lt t (λ s. IsTrue (stands_at (chosen_of i.rule i.kind i.start) c.args.day s)))
     (λ t h. seconds_of_day i.rule i.kind i.start c.self.invariant.freq c.args.day c.first_second-from.result all t first set h) c.cut-2.ensures)
