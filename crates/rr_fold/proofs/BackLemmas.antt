@@ -1,5 +1,5 @@
 -- Numbers that fit come back from 64 bits as they are.
-use Rattle.std.proofs.Common.{◌≡◌, ℕ, ◌≤◌, ℤ, pos, neg_ℤ, nat_abs, ◌+ℤ◌, ◌-ℤ◌, ◌≤ℤ◌, arith, rules, w64, to_z, of_z, to_z-of_z, FitsSigned}
+use Rattle.std.proofs.Common.{◌≡◌, ℕ, ◌≤◌, ℤ, pos, neg_ℤ, nat_abs, ◌+ℤ◌, ◌-ℤ◌, ◌≤ℤ◌, arith, rules, w64, to_z, of_z, to_z-of_z, FitsSigned, ◌∙◌}
 use Rattle.std.proofs.lemmas.Int.{ints, clamps}
 use Rattle.std.specs.Int.{int_min}
 use Rattle.rr_model.proofs.WholeLemmas.{floor_whole, floor_mod_below}
@@ -29,11 +29,11 @@ between_back day first day' first' e f order high low =
     rw (e, f, s) (omega (arith, ints, order))
 
 -- a number of days that fits
-pub days_back : (n : ℕ) → n ≤ 16_777_216 → to_z w64 n ≡ pos n
+pub days_back : (n : ℕ) → n ≤ 100_000_000 → to_z w64 n ≡ pos n
 days_back n l = omega (arith, ints, l)
 
 -- so many days on
-pub sum_back : (day day' : ℤ) (n : ℕ) → day' ≡ day → neg_ℤ (pos 1_000_000_000) ≤ℤ day → day ≤ℤ pos 1_000_000_000 → n ≤ 16_777_216
+pub sum_back : (day day' : ℤ) (n : ℕ) → day' ≡ day → neg_ℤ (pos 1_000_000_000) ≤ℤ day → day ≤ℤ pos 1_000_000_000 → n ≤ 100_000_000
     → to_z w64 (of_z w64 (day' +ℤ to_z w64 n)) ≡ day +ℤ pos n
 sum_back day day' n e low high l =
     let m = days_back n l in
@@ -52,3 +52,11 @@ least_back day date least e d t =
     let second : least ≤ℤ date = omega (arith, ints, clamps, m) in
     let h = back least (omega (arith, ints, low)) (omega (arith, ints, first, d.1)) in
     rw h (low, first, second)
+
+-- so many days earlier
+pub less_back : (end end' left : ℤ) (n : ℕ) → end' ≡ end → left ≡ pos n → neg_ℤ (pos 1_000_000_000) ≤ℤ end → end ≤ℤ pos 1_000_000_000 → n ≤ 100_000_000
+    → to_z w64 (of_z w64 (end' -ℤ to_z w64 (of_z w64 left))) +ℤ pos n ≡ end
+less_back end end' left n e f low high few =
+    let l : to_z w64 (of_z w64 left) ≡ pos n = back left (omega (arith, ints, f)) (omega (arith, ints, f, few)) ∙ f in
+    let m = back (end -ℤ pos n) (omega (arith, ints, low, few)) (omega (arith, ints, high)) in
+    rw (e, l) (omega (arith, ints, m))

@@ -1,8 +1,13 @@
 pub mod BackLemmas
+pub mod CountedJumpLemmas
 pub mod DistinctLemmas
 pub mod FoldLemmas
+pub mod JumpLemmas
+pub mod JumpOfLemmas
 pub mod KindLemmas
 pub mod PlaceLemmas
 pub mod SequenceLemmas
+pub mod SingleLemmas
 pub mod SketchedLemmas
+pub mod SplicedLemmas
 pub mod WholeFoldLemmas

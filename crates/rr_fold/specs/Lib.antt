@@ -1,4 +1,5 @@
 pub mod Folding
 pub mod Judged
+pub mod Jump
 pub mod Sequence
 pub mod Sketched

@@ -6,10 +6,12 @@ ghost use Rattle.rr_model.specs.Series.Tree.{tree_of};
 ghost use Rattle.rr_model.specs.declared.refusal.Refusal.TheVariants.{TooManyMoments};
 ghost use Rattle.rr_lazy.specs.Next.{IsUnasked};
 ghost use Rattle.rr_fold.specs.Folding.{HasNoneBefore, IsFoldedTo, IsPut};
+ghost use Rattle.rr_fold.specs.Jump.{IsJump};
 
+use crate::jump::{Jump, days_left_out, jump_of, spliced};
 use rr_check::Checked;
-use rr_iter::occurrences;
-use rr_lazy::Lazy;
+use rr_iter::{RuleLazy, occurrences};
+use rr_lazy::{FirstN, Lazy};
 use rr_model::{Fault, NoMemory};
 use rr_shapes::Shapes;
 use std::alloc::Global;
@@ -38,8 +40,61 @@ pub fn folded_days(
     ensures whole { IfOk result (λ days. end ≡ first +ℤ pos (length days.numbers.items)) }
     ensures refused { RefusedExactlyWhere (HasTooManyMoments (tree_of series.now) end) TooManyMoments result }
 {
+    match jump_of(alloc, series, first, end)? {
+        Some(jump) => jumped(alloc, series, first, end, jump),
+        None => walked(alloc, series, first, end),
+    }
+}
+
+// The days, each walked.
+fn walked(alloc: Global, series: &Checked, first: i64, end: i64) -> Result<FoldedDays, Fault>
+    requires low { neg_ℤ (pos 719_162) ≤ℤ first }
+    requires order { first <ℤ end }
+    requires high { end ≤ℤ pos 40_000_000 }
+    requires early { HasNoneBefore (tree_of series.now) first }
+    ensures folded { IfOk result (λ days. IsFoldedTo (tree_of series.now) first end days.shapes days.numbers.items) }
+    ensures whole { IfOk result (λ days. end ≡ first +ℤ pos (length days.numbers.items)) }
+    ensures refused { RefusedExactlyWhere (HasTooManyMoments (tree_of series.now) end) TooManyMoments result }
+{
     let lazy = occurrences(alloc, series)?;
     collected(alloc, lazy, first, end)
+}
+
+// The days, of which whole cycles are copied.
+fn jumped(
+    alloc: Global,
+    series: &Checked,
+    first: i64,
+    end: i64,
+    jump: Jump,
+) -> Result<FoldedDays, Fault>
+    requires low { neg_ℤ (pos 719_162) ≤ℤ first }
+    requires order { first <ℤ end }
+    requires high { end ≤ℤ pos 40_000_000 }
+    requires early { HasNoneBefore (tree_of series.now) first }
+    requires jump { IsJump series.now first end jump }
+    ensures folded { IfOk result (λ days. IsFoldedTo (tree_of series.now) first end days.shapes days.numbers.items) }
+    ensures whole { IfOk result (λ days. end ≡ first +ℤ pos (length days.numbers.items)) }
+    ensures refused { RefusedExactlyWhere (HasTooManyMoments (tree_of series.now) end) TooManyMoments result }
+{
+    let given = series.series();
+    let chosen = RuleLazy::new(alloc, &given.rules.as_slice()[0], given.kind, given.start)?;
+    let lazy = FirstN::new(chosen, jump.count);
+    match collected(alloc, lazy, first, end - days_left_out(jump)) {
+        Ok(days) => {
+            let numbers = spliced(
+                alloc,
+                days.numbers.as_slice(),
+                jump.cycle as usize,
+                jump.cycles as usize,
+            )?;
+            Ok(FoldedDays {
+                numbers,
+                shapes: days.shapes,
+            })
+        }
+        Err(fault) => Err(fault),
+    }
 }
 
 // The days of an iterator that was not asked yet, from one on and below another.
@@ -103,7 +158,7 @@ fn fill<L: Lazy>(
 }
 
 // How many days lie from one day to another.
-fn days_between(first: i64, day: i64) -> usize
+pub(crate) fn days_between(first: i64, day: i64) -> usize
     requires order { first ≤ℤ day }
     requires first { neg_ℤ (pos 3_000_000_000_000) ≤ℤ first }
     requires day { day ≤ℤ pos 3_000_000_000_000 }

@@ -42,7 +42,8 @@ pub struct Folded {
 ///
 /// `CountedTooFar` where a rule counts a member more than `MAX_SPAN_DAYS` days after its start, and else
 /// `TooManyMoments` where the distinct time sets up to a cycle past the settled day have together more than
-/// `MAX_SECONDS` seconds. It reads each of these days once, and keeps four bytes for each.
+/// `MAX_SECONDS` seconds. It walks each of these days once, of a single rule with COUNT those of a few cycles alone,
+/// and keeps four bytes for each.
 pub fn fold(alloc: Global, series: &Checked) -> Result<Folded, Fault>
     requires few { series_cycle series.now ≤ 16_777_216 }
     ensures stands { IfOk result (λ f. StandsFor (⟦<Folded as DaySeq>⟧.sketch f) (Occurs series.now)) }

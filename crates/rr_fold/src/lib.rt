@@ -4,5 +4,6 @@
 mod fill;
 mod first_day;
 mod folded;
+mod jump;
 
 pub use folded::{Folded, fold};

@@ -93,7 +93,7 @@ module _ (tree : Tree) (first : ℤ) (cycle each : ℕ) (begun : IsFromYearOne f
       omega (arith, ap (before_day tree) e, after_next cycle, one)
 
   -- so many cycles later as many more
-  cycles_later : (k : ℕ) (x : ℤ) → next ≤ℤ x → before_day tree (x +ℤ pos (k * cycle)) ≡ before_day tree x + k * each
+  pub cycles_later : (k : ℕ) (x : ℤ) → next ≤ℤ x → before_day tree (x +ℤ pos (k * cycle)) ≡ before_day tree x + k * each
   cycles_later k x l =
       let n : ℕ = nat_abs (x -ℤ next) in
       let e : x ≡ next +ℤ pos n = omega (arith, ints, l) in

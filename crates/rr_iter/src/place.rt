@@ -10,16 +10,18 @@ use rr_lazy::Lazy;
 use rr_model::{Kind, NoMemory, Rule};
 use std::alloc::Global;
 
-// Where an occurrence lies, looked for up to a day.
-pub(crate) enum Place {
-    // On this day.
+/// Where an occurrence lies, looked for up to a day.
+#[derive(Clone, Copy)]
+pub enum Place {
+    /// On this day, in days since 1970-01-01.
     On(i64),
-    // After the days that were looked at, as the one of this number there, from 1.
+    /// After the days that were looked at, as the one of this number there, from 1.
     Beyond(u64),
 }
 
-// Where the chosen moment of a number, from 1, lies up to a day. Each day's moments are counted at once.
-pub(crate) fn find(
+/// Where the chosen moment of a number, from 1, lies from the rule's start up to a day, in days since 1970-01-01.
+/// The rule has no BYSETPOS, and its end is not asked. Each day's moments are counted at once.
+pub fn find(
     alloc: Global,
     rule: &Rule,
     kind: Kind,

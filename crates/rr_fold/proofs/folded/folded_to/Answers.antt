@@ -28,8 +28,8 @@ overflow_add-settled c =
     let low = settled_low s c.args.settled sound c.requires.settled in
     let settled_back = back c.args.settled (omega (arith, ints, low)) (omega (arith, ints, c.requires.high)) in
     let end_back = sum_back c.args.settled (to_z w64 (of_z w64 c.args.settled)) c.unwrap-period.result settled_back (omega (arith, ints, low))
-    (omega (arith, ints, c.requires.high)) p.1 in
-    let n = days_back c.unwrap-period.result p.1 in
+    (omega (arith, ints, c.requires.high)) (omega (arith, p.1)) in
+    let n = days_back c.unwrap-period.result (omega (arith, p.1)) in
     rw (settled_back, n) (let low' : neg_ℤ (pos 4_000_000_000) ≤ℤ (c.args.settled +ℤ pos c.unwrap-period.result) = omega (arith, ints, low) in
     let high' : (c.args.settled +ℤ pos c.unwrap-period.result) ≤ℤ pos 4_000_000_000 = omega (arith, ints, c.requires.high, p.1) in
     search rules)
@@ -42,7 +42,7 @@ folded_days-requires-clause-order c =
     let low = settled_low s c.args.settled sound c.requires.settled in
     let settled_back = back c.args.settled (omega (arith, ints, low)) (omega (arith, ints, c.requires.high)) in
     let end_back = sum_back c.args.settled (to_z w64 (of_z w64 c.args.settled)) c.unwrap-period.result settled_back (omega (arith, ints, low))
-    (omega (arith, ints, c.requires.high)) p.1 in
+    (omega (arith, ints, c.requires.high)) (omega (arith, p.1)) in
     let order = rw c.series-given.ensures.value at c.first_day-first.ensures.order in
     let first_back = back c.first_day-first.result (omega (arith, ints, c.first_day-first.ensures.low))
     (omega (arith, ints, order, c.requires.settled.past.start, c.requires.high)) in
@@ -56,7 +56,7 @@ folded_days-requires-clause-high c =
     let low = settled_low s c.args.settled sound c.requires.settled in
     let settled_back = back c.args.settled (omega (arith, ints, low)) (omega (arith, ints, c.requires.high)) in
     let end_back = sum_back c.args.settled (to_z w64 (of_z w64 c.args.settled)) c.unwrap-period.result settled_back (omega (arith, ints, low))
-    (omega (arith, ints, c.requires.high)) p.1 in
+    (omega (arith, ints, c.requires.high)) (omega (arith, p.1)) in
     rw end_back (omega (arith, ints, c.requires.high, p.1))
 
 pub folded_days-requires-clause-early : goal.folded_days-requires-clause-early
@@ -75,7 +75,7 @@ sequence-requires c =
     let low = settled_low s c.args.settled sound c.requires.settled in
     let settled_back = back c.args.settled (omega (arith, ints, low)) (omega (arith, ints, c.requires.high)) in
     let end_back = sum_back c.args.settled (to_z w64 (of_z w64 c.args.settled)) c.unwrap-period.result settled_back (omega (arith, ints, low))
-    (omega (arith, ints, c.requires.high)) p.1 in
+    (omega (arith, ints, c.requires.high)) (omega (arith, p.1)) in
     let order = rw c.series-given.ensures.value at c.first_day-first.ensures.order in
     let first_back = back c.first_day-first.result (omega (arith, ints, c.first_day-first.ensures.low))
     (omega (arith, ints, order, c.requires.settled.past.start, c.requires.high)) in
@@ -98,7 +98,7 @@ returns-in-Ok-clause-stands c =
     let low = settled_low s c.args.settled sound c.requires.settled in
     let settled_back = back c.args.settled (omega (arith, ints, low)) (omega (arith, ints, c.requires.high)) in
     let end_back = sum_back c.args.settled (to_z w64 (of_z w64 c.args.settled)) c.unwrap-period.result settled_back (omega (arith, ints, low))
-    (omega (arith, ints, c.requires.high)) p.1 in
+    (omega (arith, ints, c.requires.high)) (omega (arith, p.1)) in
     let order = rw c.series-given.ensures.value at c.first_day-first.ensures.order in
     let first_back = back c.first_day-first.result (omega (arith, ints, c.first_day-first.ensures.low))
     (omega (arith, ints, order, c.requires.settled.past.start, c.requires.high)) in
@@ -124,7 +124,7 @@ returns-in-Ok-clause-refused c =
     let low = settled_low s c.args.settled sound c.requires.settled in
     let settled_back = back c.args.settled (omega (arith, ints, low)) (omega (arith, ints, c.requires.high)) in
     let end_back = sum_back c.args.settled (to_z w64 (of_z w64 c.args.settled)) c.unwrap-period.result settled_back (omega (arith, ints, low))
-    (omega (arith, ints, c.requires.high)) p.1 in
+    (omega (arith, ints, c.requires.high)) (omega (arith, p.1)) in
     let order = rw c.series-given.ensures.value at c.first_day-first.ensures.order in
     let first_back = back c.first_day-first.result (omega (arith, ints, c.first_day-first.ensures.low))
     (omega (arith, ints, order, c.requires.settled.past.start, c.requires.high)) in
@@ -144,7 +144,7 @@ returns-in-Err-clause-refused c =
     let low = settled_low s c.args.settled sound c.requires.settled in
     let settled_back = back c.args.settled (omega (arith, ints, low)) (omega (arith, ints, c.requires.high)) in
     let end_back = sum_back c.args.settled (to_z w64 (of_z w64 c.args.settled)) c.unwrap-period.result settled_back (omega (arith, ints, low))
-    (omega (arith, ints, c.requires.high)) p.1 in
+    (omega (arith, ints, c.requires.high)) (omega (arith, p.1)) in
     let end : ℤ = to_z w64 (of_z w64 (to_z w64 (of_z w64 c.args.settled) +ℤ to_z w64 c.unwrap-period.result)) in
     refused_so FoldedDays Folded c.in-Err.fault (HasTooManyMoments (tree_of s) end) (IsTooManyMoments s c.args.settled) c.in-Err.ensures.refused
     (λ many. subst (λ n. HasTooManyMoments (tree_of s) (c.args.settled +ℤ pos n)) p.0 (subst (HasTooManyMoments (tree_of s)) end_back many))

@@ -1,5 +1,5 @@
 use Rattle.std.proofs.Common.{to_z-of_z}
-use Rattle.rr_fold.proofs.fill.folded_days.Goals as goal
+use Rattle.rr_fold.proofs.fill.walked.Goals as goal
 
 pub returns-clause-folded : goal.returns-clause-folded
 returns-clause-folded c =

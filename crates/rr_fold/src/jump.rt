@@ -1,0 +1,115 @@
+// Whole cycles of a rule with COUNT that are not walked.
+ghost use Rattle.std.specs.Prelude.{◌≡◌, ◌+◌, ◌*◌, ◌<◌, ◌≤◌, ◌≤ℤ◌, ◌<ℤ◌, IfOk, IfSome, length, neg_ℤ, pos};
+ghost use Rattle.rr_model.specs.Rule.Cycle.{rule_cycle};
+ghost use Rattle.rr_iter.specs.Ends.{IsSoundRule};
+ghost use Rattle.rr_fold.specs.Jump.{IsCountedJump, IsJump, IsSpliced};
+
+use crate::fill::days_between;
+use rr_check::Checked;
+use rr_iter::{Place, find};
+use rr_model::{End, Kind, NoMemory, Rule, day_part};
+use rr_num::day_cycle;
+use std::alloc::Global;
+
+/// So many whole cycles after the first one, which hold the same days again, and the count that a rule has without
+/// their members.
+#[derive(Clone, Copy)]
+pub struct Jump {
+    /// The days of a cycle.
+    pub cycle: u64,
+    /// How many cycles are left out.
+    pub cycles: u64,
+    /// The count without them.
+    pub count: u64,
+}
+
+/// The cycles that can be left out of the days of a series; none where it is more than one rule with COUNT, or the
+/// count ends within the first cycle.
+pub fn jump_of(
+    alloc: Global,
+    series: &Checked,
+    first: i64,
+    end: i64,
+) -> Result<Option<Jump>, NoMemory>
+    requires low { neg_ℤ (pos 719_162) ≤ℤ first }
+    requires order { first <ℤ end }
+    requires high { end ≤ℤ pos 40_000_000 }
+    ensures { IfOk result (λ r. IfSome r (IsJump series.now first end)) }
+{
+    let given = series.series();
+    let dates = given.plus.as_slice().len() + given.minus.as_slice().len();
+    let [rule] = given.rules.as_slice() else {
+        return Ok(None);
+    };
+    let End::Count(count) = rule.end else {
+        return Ok(None);
+    };
+    let days = days_between(first, end) as u64;
+    let cycle = day_cycle(rule).min(100_000_000) as u64;
+    if dates > 0 || cycle >= days || first != day_part(given.kind, given.start) {
+        return Ok(None);
+    }
+    counted_jump(alloc, rule, given.kind, given.start, count, cycle, days)
+}
+
+// The cycles of a rule with COUNT that can be left out of so many days from its start's on; none where the count
+// ends within the first cycle.
+fn counted_jump(
+    alloc: Global,
+    rule: &Rule,
+    kind: Kind,
+    start: i64,
+    count: u64,
+    cycle: u64,
+    days: u64,
+) -> Result<Option<Jump>, NoMemory>
+    requires sound { IsSoundRule kind start rule.now }
+    requires some { 1 ≤ count }
+    requires cycle { cycle ≡ rule_cycle rule.now }
+    requires longer { cycle < days }
+    requires few { days ≤ 100_000_000 }
+    ensures { IfOk result (λ r. IfSome r (IsCountedJump rule.now kind start count days)) }
+{
+    let day = day_part(kind, start);
+    let Place::Beyond(left) = find(alloc, rule, kind, start, count, day)? else {
+        return Ok(None);
+    };
+    let Place::Beyond(after) = find(alloc, rule, kind, start, count, day + cycle as i64)? else {
+        return Ok(None);
+    };
+    let each = left - after;
+    let cycles = (after / each.max(1)).min((days - cycle - 1) / cycle);
+    Ok(Some(Jump {
+        cycle,
+        cycles,
+        count: count - cycles * each,
+    }))
+}
+
+/// How many days are left out.
+pub fn days_left_out(jump: Jump) -> i64
+    requires { jump.cycles * jump.cycle ≤ 100_000_000 }
+    ensures { result ≡ pos (jump.cycles * jump.cycle) }
+{
+    (jump.cycles * jump.cycle) as i64
+}
+
+/// The numbers with so many whole cycles, as the one that follows the first day, put in after that day.
+pub fn spliced(
+    alloc: Global,
+    numbers: &[u32],
+    cycle: usize,
+    cycles: usize,
+) -> Result<Vec<u32>, NoMemory>
+    requires long { cycle + 1 ≤ length numbers.now }
+    requires few { length numbers.now + cycles * cycle ≤ 100_000_000 }
+    ensures { IfOk result (λ new. IsSpliced numbers.now cycle cycles new.items) }
+{
+    let mut new = Vec::with_capacity(alloc, numbers.len() + cycles * cycle)?;
+    new.push(numbers[0])?;
+    for i in 0..cycles {
+        new.extend_from_slice(&numbers[1..cycle + 1])?;
+    }
+    new.extend_from_slice(&numbers[1..])?;
+    Ok(new)
+}
