@@ -6,3 +6,5 @@ mod CounterpartProofs
 mod OccurrenceLemmas
 mod ValidRuleLemmas
 mod ValidSeriesLemmas
+mod ValidPartsLemmas
+mod ValidReadLemmas
