@@ -51,7 +51,12 @@ pub fn date_value(line: u64, text: &[u8]) -> Result<Stamp, Refusal>
 ///
 /// `TooManyParts` comes where there are `MAX_DATES` already, `PeriodValue` for a period in RDATE, and `BadMoment` where it is no
 /// date or moment.
-pub fn judged_date(line: u64, is_plus: bool, pass: FirstPass, text: &[u8]) -> Result<FirstPass, Fault>
+pub fn judged_date(
+    line: u64,
+    is_plus: bool,
+    pass: FirstPass,
+    text: &[u8],
+) -> Result<FirstPass, Fault>
     ensures { Answers (judged_date line is_plus pass text.now) result }
 {
     if pass.date_count >= MAX_DATES {

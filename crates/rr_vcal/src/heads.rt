@@ -2,11 +2,10 @@
 ghost use Rattle.std.specs.Prelude.{◌≡◌, IfOk, option_map};
 ghost use Rattle.rr_model.specs.Answers.{Answers};
 ghost use Rattle.rr_model.specs.Text.Rules.{text_after};
-ghost use Rattle.rr_model.specs.Text.RuleValues.{number_up_to};
 ghost use Rattle.rr_model.specs.Vcal.Rule.{Head, head_of, first_items, parts_of_head};
 
 use rr_model::{FamilyKind, Fault, Item, Items, NoMemory, Numbers, Refusal, VRuleParts};
-use rr_rrule::number_up_to;
+use rr_rrule::interval_of;
 use std::alloc::Global;
 
 /// What follows letters at the front of a text.
@@ -40,14 +39,6 @@ fn head_of(text: &[u8]) -> Option<(FamilyKind, &[u8])>
         Some(rest) => Some((FamilyKind::W, rest)),
         None => None,
     }
-}
-
-// The interval.
-fn interval_of(line: u64, text: &[u8]) -> Result<u32, Refusal>
-    ensures { result ≡ number_up_to line 4294967295 text.now }
-{
-    let interval = number_up_to(line, u64::from(u32::MAX), text)?;
-    Ok(interval as u32)
 }
 
 // A daily rule has its one item.

@@ -1,15 +1,14 @@
 // The words of a rule's list.
-ghost use Rattle.std.specs.Prelude.{◌≡◌, All, IfOk, ok_or};
+ghost use Rattle.std.specs.Prelude.{◌≡◌, All, IfOk};
 ghost use Rattle.rr_model.specs.Answers.{Answers};
 ghost use Rattle.rr_model.specs.Text.RuleValues.{weekday_named};
 ghost use Rattle.rr_model.specs.Vcal.Rule.{number_of, put_item, put_places, with_group_weekday, with_group_place, with_group_word, with_list_word};
 ghost use Rattle.rr_model.specs.declared.item.Item.TheVariants.{Place};
-ghost use Rattle.rr_model.specs.declared.refusal.Refusal.TheVariants.{BadRule};
 ghost use Rattle.rr_vcal.specs.Parts.{IsPlace, IsValidParts};
 
 use crate::numbers::{marked_place, month_day_of, number_of};
 use rr_model::{FamilyKind, Fault, Item, Items, NoMemory, Numbers, Refusal, VRuleParts};
-use rr_rrule::weekday_named;
+use rr_rrule::{weekday_named, weekday_of};
 use std::alloc::Global;
 
 // A place of a weekday as an item holds it.
@@ -88,13 +87,6 @@ fn put_item(parts: VRuleParts, item: Item) -> Result<VRuleParts, NoMemory>
     let mut parts = parts;
     parts.items.put(item)?;
     Ok(parts)
-}
-
-// The weekday of a word.
-fn weekday_of(line: u64, text: &[u8]) -> Result<u8, Refusal>
-    ensures { result ≡ ok_or (weekday_named text.now) (BadRule line) }
-{
-    weekday_named(text).ok_or(Refusal::BadRule(line))
 }
 
 // The month of a word.

@@ -1,18 +1,16 @@
 // The words of a rule after its head.
-ghost use Rattle.std.specs.Prelude.{◌≡◌, IfOk, ok_or};
+ghost use Rattle.std.specs.Prelude.{◌≡◌};
 ghost use Rattle.rr_model.specs.Answers.{Answers};
 ghost use Rattle.std.specs.List.{list_all};
 ghost use Rattle.rr_model.specs.Text.Digits.{is_digit};
-ghost use Rattle.rr_model.specs.Text.Moments.{basic, is_letter_t};
+ghost use Rattle.rr_model.specs.Text.Moments.{is_letter_t};
 ghost use Rattle.rr_model.specs.Vcal.Rule.{is_list_whole, is_moment_word, with_end_moment, with_count, within_list, with_word};
-ghost use Rattle.rr_model.specs.declared.refusal.Refusal.TheVariants.{BadMoment};
 ghost use Rattle.rr_vcal.specs.Parts.{IsValidParts};
 
 use crate::heads::text_after;
 use crate::items::with_list_word;
-use rr_model::{FamilyKind, Fault, Refusal, Stamp, VRuleParts};
-use rr_rrule::whole_number;
-use rr_text::basic;
+use rr_model::{FamilyKind, Fault, Refusal, VRuleParts};
+use rr_rrule::{moment_of, whole_number};
 use std::alloc::Global;
 
 /// Whether the list can end here: in a rule by places there is a group, whose last place has a weekday after it.
@@ -42,12 +40,6 @@ fn is_moment_word(text: &[u8]) -> bool
     ensures { result ≡ is_moment_word text.now }
 {
     text.len() >= 8 && are_digits(&text[..8]) && (text.len() == 8 || is_letter_t(text[8]))
-}
-
-fn moment_of(line: u64, text: &[u8]) -> Result<Stamp, Refusal>
-    ensures { result ≡ ok_or (basic text.now) (BadMoment line) }
-{
-    basic(text).ok_or(Refusal::BadMoment(line))
 }
 
 // An end moment: first its form, then whether one stood before.
