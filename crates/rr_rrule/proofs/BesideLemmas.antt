@@ -56,11 +56,11 @@ same_kind Moments Moments h = refl
 same_kind Days Moments h = absurd (cc)
 same_kind Moments Days h = absurd (cc)
 
-date_value-stamp : (line : ℕ) (text : List ℕ) (stamp : Stamp) → date_value line text ≡ Ok stamp → IsStamp stamp
+pub date_value-stamp : (line : ℕ) (text : List ℕ) (stamp : Stamp) → date_value line text ≡ Ok stamp → IsStamp stamp
 date_value-stamp line text stamp h = basic-stamp (trim text) stamp (ok_or_ok (basic (trim text)) (BadMoment line) stamp h)
 
 module _ (offset : Option ℤ) (start : Stamp) where
-  moment_beside-in_years : (line : ℕ) (stamp : Stamp) (at : ℤ) → IsStamp stamp → moment_beside offset start line stamp ≡ Ok at → IsInYears stamp.kind at
+  pub moment_beside-in_years : (line : ℕ) (stamp : Stamp) (at : ℤ) → IsStamp stamp → moment_beside offset start line stamp ≡ Ok at → IsInYears stamp.kind at
   moment_beside-in_years line stamp at s h = by (stamp.utc && not start.utc && has_time start.kind)
       (λ e. (and_parts stamp.utc (not start.utc) (and_parts (stamp.utc && not start.utc) (has_time start.kind) e).0).0) h
     where
@@ -70,7 +70,7 @@ module _ (offset : Option ℤ) (start : Stamp) where
           let same : stamp.at ≡ at = cc in
           subst (IsInYears stamp.kind) same s.0
 
-  date_beside-in_years : (line : ℕ) (stamp : Stamp) (at : ℤ) → IsStamp stamp → date_beside offset start line stamp ≡ Ok at → IsInYears start.kind at
+  pub date_beside-in_years : (line : ℕ) (stamp : Stamp) (at : ℤ) → IsStamp stamp → date_beside offset start line stamp ≡ Ok at → IsInYears start.kind at
   date_beside-in_years line stamp at s h =
       let tested = passed (is_same_kind start.kind stamp.kind) (moment_beside offset start line stamp) (MixedKinds line) at h in
       subst (λ (k : Kind). IsInYears k at) (sym (same_kind start.kind stamp.kind tested.0)) (moment_beside-in_years line stamp at s tested.1)
@@ -225,7 +225,7 @@ module _ (offset : Option ℤ) (start : Stamp) where
         few_dates = omega (arith, bounded.1, counts.1, sound.few_dates);
       })
 
-not_stopped : {A : Type 0} (stop : Option Refusal) (x y : A) → unless_stopped stop x ≡ Ok y → x ≡ y
+pub not_stopped : {A : Type 0} (stop : Option Refusal) (x y : A) → unless_stopped stop x ≡ Ok y → x ≡ y
 not_stopped None x y h = cc
 not_stopped (Some refusal) x y h = absurd (cc)
 

@@ -2,17 +2,17 @@ mod NumberLemmas
 mod BlankLemmas
 mod PlacedLemmas
 mod PartsLemmas
-mod StepLemmas
-mod InYearsLemmas
-mod BoundsLemmas
+pub mod StepLemmas
+pub mod InYearsLemmas
+pub mod BoundsLemmas
 mod ValidPartsLemmas
 mod ValidityLemmas
 mod ValidRisingLemmas
 mod RulePartLemmas
 mod PartOrderLemmas
 mod TextExamples
-mod PassLemmas
-mod BesideLemmas
+pub mod PassLemmas
+pub mod BesideLemmas
 mod LineEndProofs
 mod ScanLemmas
 mod CaseLemmas

@@ -11,8 +11,10 @@ use rr_model::{Fault, FirstPass, LineName, MAX_DATES, MAX_RULES, Refusal, Stamp,
 use rr_text::{basic, trim};
 use std::alloc::Global;
 
-// A second start is refused before its value is read.
-fn judged_start(line: u64, pass: FirstPass, text: &[u8]) -> Result<FirstPass, Fault>
+/// DTSTART as its line states it.
+///
+/// `PartTwice` comes for a second start, before its value is read, and `BadMoment` for a value that is no date or moment.
+pub fn judged_start(line: u64, pass: FirstPass, text: &[u8]) -> Result<FirstPass, Fault>
     ensures { Answers (judged_start line pass text.now) result }
 {
     if pass.start.is_some() {
@@ -34,8 +36,8 @@ fn has_slash(text: &[u8]) -> bool
     text.iter().any(|b| *b == b'/')
 }
 
-/// What a date value states, with blanks around it or none.
-pub(crate) fn date_value(line: u64, text: &[u8]) -> Result<Stamp, Refusal>
+/// What a date value states, with blanks around it or none. `BadMoment` comes where it is no date or moment.
+pub fn date_value(line: u64, text: &[u8]) -> Result<Stamp, Refusal>
     ensures value { result ≡ date_value line text.now }
     ensures years { IfOk result (λ stamp. IsInYears stamp.kind stamp.at) }
 {
@@ -45,8 +47,16 @@ pub(crate) fn date_value(line: u64, text: &[u8]) -> Result<Stamp, Refusal>
     }
 }
 
-// One value of RDATE or EXDATE.
-fn judged_date(line: u64, is_plus: bool, pass: FirstPass, text: &[u8]) -> Result<FirstPass, Fault>
+/// One value of RDATE or EXDATE.
+///
+/// `TooManyParts` comes where there are `MAX_DATES` already, `PeriodValue` for a period in RDATE, and `BadMoment` where it is no
+/// date or moment.
+pub fn judged_date(
+    line: u64,
+    is_plus: bool,
+    pass: FirstPass,
+    text: &[u8],
+) -> Result<FirstPass, Fault>
     ensures { Answers (judged_date line is_plus pass text.now) result }
 {
     if pass.date_count >= MAX_DATES {

@@ -14,6 +14,13 @@ mod values;
 mod words;
 
 pub use calendar::read;
+pub use first::{date_value, judged_date, judged_start};
 pub use laws::{
     case_does_not_matter, folding_does_not_matter, line_ends_do_not_matter, order_does_not_matter,
 };
+pub use numbers::whole_number;
+pub use parts::{interval_of, moment_of, weekday_of};
+pub use second::{Setting, date_beside};
+pub use stated::end_beside;
+pub use values::line_value;
+pub use words::weekday_named;

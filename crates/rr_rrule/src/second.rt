@@ -32,11 +32,11 @@ impl Model for Nearby {
 
 /// What the values of an event stand beside.
 #[derive(Clone, Copy, Debug, PartialEq, Eq)]
-pub(crate) struct Setting {
+pub struct Setting {
     /// The stated offset, local time less UTC, in seconds.
-    pub(crate) offset: Option<i32>,
+    pub offset: Option<i32>,
     /// The start.
-    pub(crate) start: Stamp,
+    pub start: Stamp,
 }
 
 fn is_same_kind(kind: Kind, other: Kind) -> bool
@@ -48,8 +48,10 @@ fn is_same_kind(kind: Kind, other: Kind) -> bool
     }
 }
 
-// A date value beside the start.
-fn date_beside(setting: Setting, line: u64, stamp: Stamp) -> Result<i64, Refusal>
+/// A date value beside the start.
+///
+/// `MixedKinds` comes for another kind than the start's; then what `end_beside` refuses.
+pub fn date_beside(setting: Setting, line: u64, stamp: Stamp) -> Result<i64, Refusal>
     requires { IsInYears stamp.kind stamp.at }
     ensures { result ≡ date_beside setting.offset setting.start line stamp }
 {

@@ -121,8 +121,10 @@ fn end_at(end: End, at: i64) -> End
     }
 }
 
-// The end beside the start.
-fn end_beside(
+/// The end beside the start, where a moment of UTC is turned into local time if the start is local.
+///
+/// `UtcMoment` comes for a moment to be turned without an offset, and `BadMoment` where it leaves the years 1 to 9999.
+pub fn end_beside(
     offset: Option<i32>,
     start: Stamp,
     line: u64,

@@ -1,0 +1,10 @@
+mod CounterpartLemmas
+mod MemberLemmas
+mod MonthlyLemmas
+mod YearlyLemmas
+mod CounterpartProofs
+mod OccurrenceLemmas
+mod ValidRuleLemmas
+mod ValidSeriesLemmas
+mod ValidPartsLemmas
+mod ValidReadLemmas

@@ -1,0 +1,75 @@
+-- The counterpart of a valid series of vCalendar 1.0 is a valid series.
+use Rattle.std.proofs.Common.{◌≡◌, ℕ, suc, ◌+◌, ◌≤◌, true, List, [], ◌∷◌, length, refl, ap, ◌∙◌, sym, subst, ℤ, to_z, of_z, w64, arith}
+use Rattle.std.specs.Prelude.{int_lt, All}
+use Rattle.std.specs.List.{AllByRecursion}
+use Rattle.std.proofs.lemmas.List.Elements.{recursion_from_All, All-from_recursion}
+use Rattle.rr_model.specs.Moment.Years.{IsInYears}
+use Rattle.rr_model.specs.Rising.{Rises}
+use Rattle.rr_model.specs.Rule.Validity.{IsValidRule, EndsInYears}
+use Rattle.rr_model.specs.Series.Validity.{IsValidSeries}
+use Rattle.rr_model.specs.Vcal.Counterpart.{rule_of_vrule, rules_of_vrules}
+use Rattle.rr_model.specs.Vcal.Validity.{IsValidVRule, IsValidVSeries}
+use Rattle.rr_model.specs.declared.kind.Kind.{Kind}
+use Rattle.rr_model.specs.declared.limits.TheConstants.{MAX_RULES, MAX_DATES}
+use Rattle.rr_model.specs.declared.rule.Rule.{Rule}
+use Rattle.rr_model.specs.declared.vcal.VRule.{VRule}
+use Rattle.rr_model.specs.declared.vcal.VSeries.{VSeries}
+use Rattle.std.proofs.lemmas.Int.{ints, to_z-of_z}
+use Rattle.rr_model.specs.declared.kind.Kind.TheVariants.{Days, Moments}
+use Rattle.rr_model.proofs.WholeLemmas.{floor_whole, floor_mod_below}
+use Rattle.rr_model.proofs.YearLemmas.{year_1, year_10000}
+use Rattle.rr_vcal.proofs.ValidRuleLemmas.{counterpart_is_valid}
+
+abbrev EndIsInYears : Rule → Type 0
+EndIsInYears rule = EndsInYears rule.end
+
+abbrev HasEndInYears : VRule → Type 0
+HasEndInYears rule = EndsInYears rule.end
+
+module _ (kind : Kind) (start : ℤ) where
+  all_valid : (rules : List VRule) → AllByRecursion IsValidVRule rules → AllByRecursion (IsValidRule kind) (rules_of_vrules kind start rules)
+  all_valid [] h = tt
+  all_valid (rule ∷ rules) h = (counterpart_is_valid rule kind start h.0, all_valid rules h.1)
+
+  same_end : (rule : VRule) → (rule_of_vrule rule kind start).end ≡ rule.end
+  unfolding rule_of_vrule
+  same_end rule = refl
+
+  all_end : (rules : List VRule) → AllByRecursion HasEndInYears rules → AllByRecursion EndIsInYears (rules_of_vrules kind start rules)
+  all_end [] h = tt
+  all_end (rule ∷ rules) h = (subst EndsInYears (sym (same_end rule)) h.0, all_end rules h.1)
+
+  same_length : (rules : List VRule) → length (rules_of_vrules kind start rules) ≡ length rules
+  same_length [] = refl
+  same_length (rule ∷ rules) = ap (λ (n : ℕ). suc n) (same_length rules)
+
+-- the series with the parts of the counterpart
+pub series_is_valid : (series : VSeries) (start : ℤ) (rules : List Rule) (plus minus : List ℤ) → start ≡ series.start
+    → rules ≡ rules_of_vrules series.kind series.start series.rules → plus ≡ series.plus → minus ≡ series.minus → Rises int_lt plus → Rises int_lt minus
+    → IsValidVSeries series → IsValidSeries (record { kind = series.kind; start = start; start_counts = true; rules = rules; plus = plus; minus = minus })
+series_is_valid series start rules plus minus same made added taken plus_rises minus_rises valid = record {
+  start = subst (IsInYears series.kind) (sym same) valid.start;
+  start_counts = λ e. absurd (cc);
+  rules =
+      subst (All (IsValidRule series.kind)) (sym made) (All-from_recursion _ _
+      (all_valid series.kind series.start series.rules (recursion_from_All _ series.rules valid.rules)));
+  few_rules = subst (λ (n : ℕ). n ≤ MAX_RULES) (sym (ap length made ∙ same_length series.kind series.start series.rules)) valid.few_rules;
+  ends =
+      subst (All EndIsInYears) (sym made) (All-from_recursion _ _ (all_end series.kind series.start series.rules
+      (recursion_from_All HasEndInYears series.rules valid.ends)));
+  plus = subst (All (IsInYears series.kind)) (sym added) valid.plus;
+  minus = subst (All (IsInYears series.kind)) (sym taken) valid.minus;
+  plus_rises = plus_rises;
+  minus_rises = minus_rises;
+  few_dates =
+      subst (λ (l : List ℤ). length l + length minus ≤ MAX_DATES) (sym added)
+      (subst (λ (l : List ℤ). length series.plus + length l ≤ MAX_DATES) (sym taken) valid.few_dates);
+}
+
+-- a start of these years is a number of 64 bits
+pub start_fits : (kind : Kind) (start : ℤ) → IsInYears kind start → to_z w64 (of_z w64 start) ≡ start
+start_fits Days start h = to_z-of_z w64 start (omega (arith, ints, h.0, h.1, year_1, year_10000))
+start_fits Moments start h =
+    let whole = floor_whole start 86_400 (omega arith) in
+    let below = floor_mod_below start 86_400 (omega arith) in
+    to_z-of_z w64 start (omega (arith, ints, h.0, h.1, year_1, year_10000, whole, below))

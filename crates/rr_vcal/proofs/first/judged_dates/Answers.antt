@@ -1,0 +1,33 @@
+use Rattle.std.proofs.Common.{rules, tests, length, arith}
+use Rattle.std.specs.List.{slice_split}
+use Rattle.std.proofs.lemmas.Iterator.Consumers.{YieldsList-turn, YieldsList-end}
+use Rattle.std.proofs.lemmas.Iterator.Splits.{YieldsList-from_slice_split}
+use Rattle.std.proofs.lemmas.List.{length_push}
+use Rattle.std.proofs.lemmas.Result.{err_from_is_err_and}
+use Rattle.rr_model.specs.Text.Passes.{judged_date}
+use Rattle.rr_model.specs.Vcal.Reading.{is_comma_or_semicolon}
+use Rattle.rr_model.proofs.TurnLemmas.{goes_on, ends, done}
+use Rattle.rr_vcal.proofs.first.judged_dates.Goals as goal
+
+pub returns-in_err-pass : goal.returns-in_err-pass
+returns-in_err-pass c =
+    let turn = YieldsList-turn (YieldsList-from_slice_split _ is_comma_or_semicolon c.args.text.now (cc) (cc) (cc)
+    (λ x b q k. search (rules, tests))) c.loop-piece.yielded _ c.loop-piece.yielded_by _ _ c.in-Some.piece c.in-Some.is c.next.ensures.steps in
+    let p = err_from_is_err_and c.from_residual.result c.from_residual.ensures.1 in
+    rw (p.1, p.2) (ends (judged_date c.args.line c.args.is_plus) (slice_split is_comma_or_semicolon c.args.text.now) c.loop-piece.pass
+    (length c.loop-piece.yielded) c.in-Some.piece.now c.in_err-pass.field-0.0 _ turn c.in_err-pass.ensures c.loop-piece.invariant)
+
+pub loop-piece-preserved : goal.loop-piece-preserved
+loop-piece-preserved c =
+    let turn = YieldsList-turn (YieldsList-from_slice_split _ is_comma_or_semicolon c.args.text.now (cc) (cc) (cc)
+    (λ x b q k. search (rules, tests))) c.loop-piece.yielded _ c.loop-piece.yielded_by _ _ c.in-Some.piece c.in-Some.is c.next.ensures.steps in
+    goes_on (judged_date c.args.line c.args.is_plus) (slice_split is_comma_or_semicolon c.args.text.now) c.loop-piece.pass _
+    (length c.loop-piece.yielded) _ c.in-Some.piece.now _ turn
+    (length_push c.loop-piece.yielded c.in-Some.piece) c.in_ok-pass.ensures c.loop-piece.invariant
+
+pub returns : goal.returns
+returns c =
+    let end = YieldsList-end (YieldsList-from_slice_split _ is_comma_or_semicolon c.args.text.now (cc) (cc) (cc)
+    (λ x b q k. search (rules, tests))) c.loop-piece.yielded _ c.loop-piece.yielded_by _ _ c.in-None.is c.next.ensures.steps in
+    done (judged_date c.args.line c.args.is_plus) (slice_split is_comma_or_semicolon c.args.text.now) c.loop-piece.pass (length c.loop-piece.yielded) _
+    (omega (arith, end.1)) c.loop-piece.invariant

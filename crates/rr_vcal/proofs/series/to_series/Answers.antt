@@ -1,0 +1,21 @@
+use Rattle.std.proofs.Common.{ap, ◌∙◌, subst}
+use Rattle.std.specs.Prelude.{int_lt}
+use Rattle.rr_model.specs.Rising.{Rises}
+use Rattle.rr_model.specs.Vcal.Counterpart.{rules_of_vrules}
+use Rattle.rr_model.proofs.StartLemmas.{IsDayWithin-start}
+use Rattle.rr_vcal.proofs.ValidSeriesLemmas.{series_is_valid, start_fits}
+use Rattle.rr_vcal.proofs.series.to_series.Goals as goal
+
+pub rules_of-requires-clause-start : goal.rules_of-requires-clause-start
+rules_of-requires-clause-start c =
+    let series = c.args.series.now in
+    rw (start_fits series.kind series.start c.requires.start) (IsDayWithin-start 1000 series.kind series.start c.requires.start)
+
+pub returns-clause-valid : goal.returns-clause-valid
+returns-clause-valid c =
+    let series = c.args.series.now in
+    let same = start_fits series.kind series.start c.requires.start in
+    let made = c.in_ok-rules.ensures ∙ ap (λ s. rules_of_vrules series.kind s c.as_slice.result.now) same
+    ∙ ap (rules_of_vrules series.kind series.start) c.as_slice.ensures in
+    series_is_valid series _ _ _ _ same made c.in_ok-plus.ensures c.in_ok-minus.ensures (subst (Rises int_lt) c.plus.view_is c.plus.invariant)
+    (subst (Rises int_lt) c.minus.view_is c.minus.invariant) c.requires

@@ -1,0 +1,9 @@
+-- Numbers of items that a smaller type holds (vCalendar 1.0, basic recurrence rule grammar).
+use Rattle.std.specs.Prelude.{◌≤◌}
+use Rattle.rr_model.specs.declared.item.Item.{Item}
+use Rattle.rr_model.specs.declared.item.Item.TheVariants.{YearDay}
+
+-- a day of the year is none past 366
+abbrev pub HasDayOfYear : Item → Type 0
+HasDayOfYear (YearDay k) = k ≤ 366
+HasDayOfYear item = Unit {0}

@@ -1,0 +1,22 @@
+//! Rules and series of vCalendar 1.0 (basic recurrence rule grammar): their text, and what they are in RFC 5545.
+#![tactic(auto)]
+
+mod beside;
+mod calendar;
+mod counterpart;
+mod first;
+mod heads;
+mod items;
+mod laws;
+mod numbers;
+mod rule;
+mod second;
+mod series;
+#[cfg(test)]
+mod tests;
+mod words;
+
+pub use calendar::read;
+pub use counterpart::to_rule;
+pub use laws::{counterpart_has_members, counterpart_has_occurrences, counterpart_is_synchronised};
+pub use series::to_series;
