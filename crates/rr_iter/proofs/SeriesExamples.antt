@@ -45,9 +45,9 @@ changed = with_rules (weekly ∷ []) (pos 19_725 ∷ []) (pos 19_730 ∷ [])
 whole :
     tree_of changed
     ≡ without
-        (union (dates_of Days (pos 19_723 ∷ pos 19_725 ∷ [])) (many (part (chosen_of weekly Days (pos 19_723)) nothing)))
-        Days
-        (pos 19_730 ∷ [])
+    (union (dates_of Days (pos 19_723 ∷ pos 19_725 ∷ [])) (many (part (chosen_of weekly Days (pos 19_723)) nothing)))
+    Days
+    (pos 19_730 ∷ [])
 whole = refl
 
 -- 2024-01-03 and 2024-01-15 stand in it; 2024-01-08 and 2024-01-16 do not

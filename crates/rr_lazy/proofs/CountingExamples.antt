@@ -30,15 +30,24 @@ one_day day = seconds_skip (midnight day) 1 86_400 (omega arith) (λ s l h. late
 -- two days have two
 two_days : count_days midnight (pos 19_723) 2 ≡ 2
 two_days =
-    omega (arith,
-      count_days-suc midnight (pos 19_723) 1, count_days-suc midnight (pos 19_723) 0, count_days-zero midnight (pos 19_723),
-      one_day (pos 19_723 +ℤ pos 0), one_day (pos 19_723 +ℤ pos 1))
+    omega (
+      arith,
+      count_days-suc midnight (pos 19_723) 1,
+      count_days-suc midnight (pos 19_723) 0,
+      count_days-zero midnight (pos 19_723),
+      one_day (pos 19_723 +ℤ pos 0),
+      one_day (pos 19_723 +ℤ pos 1),
+    )
 
 -- before 0001-01-02 there is one
 before_second_day : count_before midnight (first_day_of_year (pos 1) +ℤ pos 1) ≡ 1
 before_second_day =
-    omega (arith,
-      before_next midnight (first_day_of_year (pos 1)) (omega (arith, ints)), before_none midnight, one_day (first_day_of_year (pos 1)))
+    omega (
+      arith,
+      before_next midnight (first_day_of_year (pos 1)) (omega (arith, ints)),
+      before_none midnight,
+      one_day (first_day_of_year (pos 1)),
+    )
 
 -- and up to its first second there are two
 to_second_day : count_to midnight (first_day_of_year (pos 1) +ℤ pos 1) 0 ≡ 2

@@ -5,6 +5,10 @@ pub mod FirstLemmas
 pub mod SecondsTestLemmas
 pub mod AheadLemmas
 mod UptoLemmas
-mod StretchLemmas
+pub mod StretchLemmas
 mod ManyLemmas
 pub mod KindLemmas
+pub mod CycleCountLemmas
+pub mod PastLemmas
+pub mod MemberCountLemmas
+pub mod AgreeLemmas
