@@ -1,5 +1,5 @@
 // Prints numbers, dates and moments.
-ghost use Rattle.std.specs.Prelude.{◌≡◌, ◌≤◌, ◌++◌, ◌∷◌, codes, replicate, OnOk, OnErr};
+ghost use Rattle.std.specs.Prelude.{◌≡◌, ◌≤◌, ◌<◌, ◌++◌, ◌∷◌, codes, replicate, OnOk, OnErr};
 ghost use Rattle.std.specs.Fmt.{signed_decimal};
 ghost use Rattle.rr_model.specs.Calendar.{IsDayWithin};
 ghost use Rattle.rr_model.specs.Moment.{day_part};
@@ -45,31 +45,37 @@ fn push_padded(out: &mut Vec<u8>, width: usize, value: u64) -> Result<(), NoMemo
 }
 
 // Two digits after a separator.
-fn push_part(out: &mut Vec<u8>, separator: u8, value: u64) -> Result<(), NoMemory>
+#[tactic(auto, using(crate::proofs::PrintLemmas::padded_two))]
+fn push_part(out: &mut Vec<u8>, separator: u8, value: u8) -> Result<(), NoMemory>
+    requires { value < 100 }
     ensures ok { OnOk result (out.new.items ≡ out.old.items ++ (separator ∷ padded 2 value)) }
     ensures err { OnErr result (StandsInFront out.old.items out.new.items) }
 {
-    out.push(separator)?;
-    push_padded(out, 2, value)
+    let text = [separator, b'0' + value / 10, b'0' + value % 10];
+    out.extend_from_slice(&text)?;
+    Ok(())
 }
 
 fn push_date(out: &mut Vec<u8>, year: u64, month: u8, day: u8) -> Result<(), NoMemory>
+    requires month { month < 100 }
+    requires day { day < 100 }
     ensures ok { OnOk result (out.new.items ≡ out.old.items ++ extended_date year month day) }
     ensures err { OnErr result (StandsInFront out.old.items out.new.items) }
 {
     push_padded(out, 4, year)?;
-    push_part(out, b'-', u64::from(month))?;
-    push_part(out, b'-', u64::from(day))
+    push_part(out, b'-', month)?;
+    push_part(out, b'-', day)
 }
 
 #[tactic(auto, unfolding(rr_model::specs::Text::Moments::extended_time_text))]
 fn push_time(out: &mut Vec<u8>, second: u32) -> Result<(), NoMemory>
+    requires { second < 86_400 }
     ensures ok { OnOk result (out.new.items ≡ out.old.items ++ (codes "T" ++ extended_time_text second)) }
     ensures err { OnErr result (StandsInFront out.old.items out.new.items) }
 {
-    push_part(out, b'T', u64::from(second / 3_600))?;
-    push_part(out, b':', u64::from(second / 60 % 60))?;
-    push_part(out, b':', u64::from(second % 60))
+    push_part(out, b'T', (second / 3_600) as u8)?;
+    push_part(out, b':', (second / 60 % 60) as u8)?;
+    push_part(out, b':', (second % 60) as u8)
 }
 
 // A day that does not lie before 0001-01-01.
