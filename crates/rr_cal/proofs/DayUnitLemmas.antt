@@ -26,25 +26,31 @@ unfolding fourth_day
 week_next u w = omega (arith, ints)
 
 -- the stretch of days that is a unit
-pub in_unit : (freq : Freq) (w : ℕ) (u first d : ℤ) (count : ℕ) → is_whole_days freq ≡ true → first ≡ unit_start freq w Days u → unit_start freq w Days (u +ℤ pos 1) ≡ unit_start freq w Days u +ℤ pos count
+pub in_unit : (freq : Freq) (w : ℕ) (u first d : ℤ) (count : ℕ) → is_whole_days freq ≡ true → first ≡ unit_start freq w Days u
+    → unit_start freq w Days (u +ℤ pos 1) ≡ unit_start freq w Days u +ℤ pos count
     → (unit_number freq w Days d ≡ u) ↔ ((first ≤ℤ d) × (d <ℤ (first +ℤ pos count)))
 in_unit freq w u first d count coarse begins ends =
     let s = units_are_stretches freq w Days d u in
     (λ e. (rw begins (s.0 e).0, rw (begins, sym ends) (s.0 e).1), λ h. s.1 (rw begins at h.0, rw (begins, sym ends) at h.1))
 
 -- a unit of days has at most 366
-pub unit_length : (freq : Freq) (w : ℕ) (u : ℤ) → is_whole_days freq ≡ true → (n : ℕ) × (n ≤ 366) × (unit_start freq w Days (u +ℤ pos 1) ≡ unit_start freq w Days u +ℤ pos n)
+pub unit_length : (freq : Freq) (w : ℕ) (u : ℤ) → is_whole_days freq ≡ true
+    → (n : ℕ) × (n ≤ 366) × (unit_start freq w Days (u +ℤ pos 1) ≡ unit_start freq w Days u +ℤ pos n)
 unit_length Secondly w u coarse = absurd (cc)
 unit_length Minutely w u coarse = absurd (cc)
 unit_length Hourly w u coarse = absurd (cc)
 unit_length Daily w u coarse = (1, omega arith, refl)
 unit_length Weekly w u coarse = (7, omega arith, week_next u w)
-unit_length Monthly w u coarse = (days_in_month (floor_div u 12) (floor_mod u 12 + 1), omega (arith, (days_in_month_bounds (floor_div u 12) (floor_mod u 12 + 1)).1), month_next u)
+unit_length Monthly w u coarse =
+    (days_in_month (floor_div u 12) (floor_mod u 12 + 1), omega (arith, (days_in_month_bounds (floor_div u 12) (floor_mod u 12 + 1)).1), month_next u)
 unit_length Yearly w u coarse = (days_in_year u, omega (arith, (days_in_year_bounds u).1), first_day_of_year-next u)
 
 -- a unit that holds a day of the calls begins and ends within the calls' days
-pub unit_near : (freq : Freq) (w : ℕ) (d : ℤ) → is_whole_days freq ≡ true → IsDayWithin 0 d → IsDayWithin 1000 (unit_start freq w Days (unit_number freq w Days d)) × IsDayWithin 1000 (unit_start freq w Days (unit_number freq w Days d +ℤ pos 1))
+pub unit_near : (freq : Freq) (w : ℕ) (d : ℤ) → is_whole_days freq ≡ true → IsDayWithin 0 d
+    → IsDayWithin 1000 (unit_start freq w Days (unit_number freq w Days d)) × IsDayWithin 1000 (unit_start freq w Days (unit_number freq w Days d +ℤ pos 1))
 unit_near freq w d coarse near =
     let n = unit_length freq w (unit_number freq w Days d) coarse in
-    let s = (units_are_stretches freq w Days d (unit_number freq w Days d)).0 refl in
-    ((omega (arith, ints, near.0, s.1, n.1, n.2), omega (arith, ints, near.1, s.0)), (omega (arith, ints, near.0, s.1), omega (arith, ints, near.1, s.0, n.1, n.2)))
+    let s = (units_are_stretches freq w Days d (unit_number freq w Days d)).0 refl in (
+      (omega (arith, ints, near.0, s.1, n.1, n.2), omega (arith, ints, near.1, s.0)),
+      (omega (arith, ints, near.0, s.1), omega (arith, ints, near.1, s.0, n.1, n.2)),
+    )

@@ -1,14 +1,17 @@
 -- The calendar's day numbers, beside those of `jiff`.
-use Rattle.std.proofs.Common.{◌≡◌, ◌↔◌, ℕ, zero, suc, ◌+◌, ◌-◌, ◌%◌, ◌≤◌, cond, not, ◌==◌, ◌&&◌, ◌||◌, refl, sym, ap, ◌∙◌, arith, ℤ, pos, negsuc, neg_ℤ, ◌+ℤ◌, ◌-ℤ◌, ◌*ℤ◌, ◌≤ℤ◌, unsigned_abs}
+use Rattle.std.proofs.Common.{◌≡◌, ◌↔◌, ℕ, zero, suc, ◌+◌, ◌-◌, ◌%◌, ◌≤◌, cond, not, ◌==◌, ◌&&◌, ◌||◌, refl, sym, ap, ◌∙◌, arith, ℤ, pos, negsuc, neg_ℤ}
+use Rattle.std.proofs.Common.{◌+ℤ◌, ◌-ℤ◌, ◌*ℤ◌, ◌≤ℤ◌, unsigned_abs}
 use Rattle.std.proofs.lemmas.Bool.Decides.{nat_tests}
-use Rattle.jiff_core.specs.Calendar.{IsYear, IsDate as IsJiffDate, is_leap_year, days_in_month as days_in_jiff_month, days_of_months as days_of_jiff_months, day_count, days_from_civil, weekday_number}
+use Rattle.jiff_core.specs.Calendar.{IsYear, IsDate as IsJiffDate, is_leap_year, days_in_month as days_in_jiff_month, days_of_months as days_of_jiff_months}
+use Rattle.jiff_core.specs.Calendar.{day_count, days_from_civil, weekday_number}
 use Rattle.jiff_core.proofs.SignedLemmas.{signed_arith}
 use Rattle.jiff_core.proofs.CalendarLemmas.{days_from_civil-day_count, day_count-day_of_year}
 use Rattle.jiff_core.proofs.MarchLemmas.{day_count-early}
 use Rattle.jiff_core.specs.Date.{epoch_day, ordinal}
 use Rattle.jiff_core.specs.declared.civil.date.Date.{Date as Plain}
 use Rattle.rr_model.specs.Whole.{floor_div, floor_mod, divides}
-use Rattle.rr_model.specs.Calendar.{is_leap, days_in_month, days_in_year, days_of_months, first_day_of_year, day_number, IsDate, IsDayWithin, day_of_year, weekday_of, kind_of_year}
+use Rattle.rr_model.specs.Calendar.{is_leap, days_in_month, days_in_year, days_of_months, first_day_of_year, day_number, IsDate, IsDayWithin, day_of_year}
+use Rattle.rr_model.specs.Calendar.{weekday_of, kind_of_year}
 use Rattle.rr_model.proofs.FloorLemmas.{floor_div-int, floor_mod-int}
 use Rattle.rr_model.proofs.CalendarLemmas.{first_day_of_year_bounds, IsInYear-day_number, days_into_year-day_number}
 use Rattle.rr_model.proofs.CycleLemmas.{IsDate-cycle, day_number-cycle, days_in_month-cycle, days_of_months-cycle}
@@ -69,14 +72,24 @@ module _ (d : Plain) (c : ℤ) where
 
   pub day_number-moved : day_number (d.year +ℤ (pos 400 *ℤ c)) d.month d.day ≡ epoch_day d +ℤ (pos 146_097 *ℤ c)
   day_number-moved =
-      day_number-cycle d.year c d.month d.day ∙ ap (λ z. z +ℤ (pos 146_097 *ℤ c)) (day_number-jiff d.year d.month d.day (omega (arith, signed_arith, d.year_in)) d.day_in.0)
+      day_number-cycle d.year c d.month d.day
+      ∙ ap (λ z. z +ℤ (pos 146_097 *ℤ c)) (day_number-jiff d.year d.month d.day (omega (arith, signed_arith, d.year_in)) d.day_in.0)
 
 -- a date and the date of the same name in the cycle that holds the year 0
 pub IsDate-inner : (y q r : ℤ) (m k : ℕ) → y ≡ r +ℤ (pos 400 *ℤ q) → IsYear r → IsJiffDate r (pos m) (pos k) ↔ IsDate y m k
 IsDate-inner y q r m k e year =
     let length : days_in_month y m ≡ days_in_jiff_month r m = ap (λ z. days_in_month z m) e ∙ days_in_month-cycle r q m ∙ days_in_month-jiff r m in (
-      λ h. (omega (arith, signed_arith, h.1.0), omega (arith, signed_arith, h.1.1), omega (arith, signed_arith, h.2.0), omega (arith, signed_arith, h.2.1, length)),
-      λ v. (year, (omega (arith, signed_arith, v.0), omega (arith, signed_arith, v.1)), (omega (arith, signed_arith, v.2), omega (arith, signed_arith, v.3, length))),
+      λ h. (
+        omega (arith, signed_arith, h.1.0),
+        omega (arith, signed_arith, h.1.1),
+        omega (arith, signed_arith, h.2.0),
+        omega (arith, signed_arith, h.2.1, length),
+      ),
+      λ v. (
+        year,
+        (omega (arith, signed_arith, v.0), omega (arith, signed_arith, v.1)),
+        (omega (arith, signed_arith, v.2), omega (arith, signed_arith, v.3, length)),
+      ),
     )
 
 -- a year with days near 1970 is near
@@ -94,7 +107,8 @@ unfolding weekday_of weekday_number
 weekday_of-jiff d = ap unsigned_abs (floor_mod-int (d +ℤ pos 3) 7)
 
 -- a year's kind, by 1 January of the year of the same place in the cycle that holds the year 0
-pub kind_of_year-jiff : (y q : ℤ) (d : Plain) → y ≡ d.year +ℤ (pos 400 *ℤ q) → d.month ≡ 1 → d.day ≡ 1 → kind_of_year y ≡ weekday_number (epoch_day d) + cond (is_leap_year d.year) 7 0
+pub kind_of_year-jiff : (y q : ℤ) (d : Plain) → y ≡ d.year +ℤ (pos 400 *ℤ q) → d.month ≡ 1 → d.day ≡ 1
+    → kind_of_year y ≡ weekday_number (epoch_day d) + cond (is_leap_year d.year) 7 0
 unfolding kind_of_year
 kind_of_year-jiff y q d e month day =
     let first : first_day_of_year d.year ≡ epoch_day d =
@@ -103,7 +117,8 @@ kind_of_year-jiff y q d e month day =
     same ∙ rw (first, weekday_of-jiff (epoch_day d), is_leap-jiff d.year) refl
 
 -- a date's number in its year is the one that `jiff` has for the date of the same month and day in another cycle
-pub day_of_year-jiff : (y q : ℤ) (m k : ℕ) (d : Plain) → y ≡ d.year +ℤ (pos 400 *ℤ q) → d.month ≡ m → d.day ≡ k → IsDate y m k → ordinal d ≡ day_of_year (day_number y m k)
+pub day_of_year-jiff : (y q : ℤ) (m k : ℕ) (d : Plain) → y ≡ d.year +ℤ (pos 400 *ℤ q) → d.month ≡ m → d.day ≡ k → IsDate y m k
+    → ordinal d ≡ day_of_year (day_number y m k)
 unfolding day_of_year
 day_of_year-jiff y q m k d year month day h =
     let months = ap (λ z. days_of_months z (m - 1)) year ∙ days_of_months-cycle d.year q (m - 1) ∙ days_of_months-jiff d.year (m - 1) in

@@ -18,7 +18,8 @@ IsDayWithin-fourth_day n d w near =
     IsDayWithin-moved n 3 d (fourth_day (week_index d w) w) at.1 at.0 near
 
 -- a date of the same year is at most 365 days away
-pub same_year_near : (d : ℤ) (m k : ℕ) → IsDate (year_of d) m k → ((d -ℤ pos 365) ≤ℤ day_number (year_of d) m k) × (day_number (year_of d) m k ≤ℤ (d +ℤ pos 365))
+pub same_year_near : (d : ℤ) (m k : ℕ) → IsDate (year_of d) m k
+    → ((d -ℤ pos 365) ≤ℤ day_number (year_of d) m k) × (day_number (year_of d) m k ≤ℤ (d +ℤ pos 365))
 same_year_near d m k h =
     let i = IsInYear-year_of d in
     let j = IsInYear-day_number (year_of d) m k h in

@@ -12,7 +12,8 @@ use Rattle.rr_model.specs.declared.kind.Kind.TheVariants.{Days, Moments}
 use Rattle.rr_model.specs.declared.rule.Freq.TheVariants.{Secondly, Minutely, Hourly, Daily, Weekly, Monthly, Yearly}
 use Rattle.rr_model.proofs.WholeLemmas.{floor_only, floor_whole, floor_mod_below}
 use Rattle.rr_model.proofs.FloorLemmas.{*ℤ-add}
-use Rattle.rr_model.proofs.CalendarLemmas.{first_day_of_year-next, IsInYear-year_of, year_of_is, days_of_months-next, days_of_months-all, days_of_months-zero, day_number_is, IsDate-year_of, day_number-year_of, date_only}
+use Rattle.rr_model.proofs.CalendarLemmas.{first_day_of_year-next, IsInYear-year_of, year_of_is, days_of_months-next, days_of_months-all}
+use Rattle.rr_model.proofs.CalendarLemmas.{days_of_months-zero, day_number_is, IsDate-year_of, day_number-year_of, date_only}
 
 -- ---- months
 
@@ -24,12 +25,14 @@ month_start n y p low e =
     rw (o.0, o.1) (omega (arith, ints, day_number_is y (p + 1) 1 (omega arith), ap (days_of_months y) back))
 
 -- and ends when one more is over
-pub month_end : (n y : ℤ) (p : ℕ) → p < 12 → n ≡ (y *ℤ pos 12) +ℤ pos p → first_day_of_month (n +ℤ pos 1) ≡ first_day_of_year y +ℤ pos (days_of_months y (p + 1))
+pub month_end : (n y : ℤ) (p : ℕ) → p < 12 → n ≡ (y *ℤ pos 12) +ℤ pos p
+    → first_day_of_month (n +ℤ pos 1) ≡ first_day_of_year y +ℤ pos (days_of_months y (p + 1))
 month_end n y p low e =
     elim (cases_lt (p + 1) 12) [
       | inl lt ↦ month_start (n +ℤ pos 1) y (p + 1) lt (omega (arith, ints))
       | inr ge ↦ (let last : p + 1 ≡ 12 = omega arith in
-          month_start (n +ℤ pos 1) (y +ℤ pos 1) 0 (omega arith) (omega (arith, ints)) ∙ omega (arith, ints, first_day_of_year-next y, days_of_months-zero (y +ℤ pos 1), days_of_months-all y, ap (days_of_months y) last))
+          month_start (n +ℤ pos 1) (y +ℤ pos 1) 0 (omega arith) (omega (arith, ints))
+          ∙ omega (arith, ints, first_day_of_year-next y, days_of_months-zero (y +ℤ pos 1), days_of_months-all y, ap (days_of_months y) last))
     ]
 
 module _ (d n : ℤ) where
@@ -72,7 +75,8 @@ on_days Moments t a b =
     (λ h. (omega (arith, ints, w, r, h.0), omega (arith, ints, w, r, h.1)), λ h. (omega (arith, ints, w, r, h.0), omega (arith, ints, w, r, h.1)))
 
 -- a unit of whole days
-by_days : (kind : Kind) (t a b : ℤ) (P : Type 0) → P ↔ ((a ≤ℤ day_part kind t) × (day_part kind t <ℤ b)) → P ↔ ((moment_at kind a 0 ≤ℤ t) × (t <ℤ moment_at kind b 0))
+by_days : (kind : Kind) (t a b : ℤ) (P : Type 0) → P ↔ ((a ≤ℤ day_part kind t) × (day_part kind t <ℤ b))
+    → P ↔ ((moment_at kind a 0 ≤ℤ t) × (t <ℤ moment_at kind b 0))
 by_days kind t a b P h = (λ p. (on_days kind t a b).0 (h.0 p), λ q. h.1 ((on_days kind t a b).1 q))
 
 -- a unit of so many seconds
@@ -95,14 +99,23 @@ week_stretch d u w =
 
 year_stretch : (d u : ℤ) → (year_of d ≡ u) ↔ ((first_day_of_year u ≤ℤ d) × (d <ℤ first_day_of_year (u +ℤ pos 1)))
 year_stretch d u =
-    let i = IsInYear-year_of d in
-    (λ e. (omega (arith, ints, i.begun, ap first_day_of_year e), omega (arith, ints, i.not_over, ap (λ y. first_day_of_year (y +ℤ pos 1)) e)), λ h. year_of_is d u (record { begun = h.0; not_over = h.1 }))
+    let i = IsInYear-year_of d in (
+      λ e. (omega (arith, ints, i.begun, ap first_day_of_year e), omega (arith, ints, i.not_over, ap (λ y. first_day_of_year (y +ℤ pos 1)) e)),
+      λ h. year_of_is d u (record { begun = h.0; not_over = h.1 }),
+    )
 
 pub units_are_stretches : UnitsAreStretches
 units_are_stretches Secondly w kind t u = (λ e. (omega (arith, ints, e), omega (arith, ints, e)), λ h. omega (arith, ints, h.0, h.1))
 units_are_stretches Minutely w kind t u = by_seconds t u 60 (omega arith)
 units_are_stretches Hourly w kind t u = by_seconds t u 3_600 (omega arith)
-units_are_stretches Daily w kind t u = by_days kind t u (u +ℤ pos 1) (day_part kind t ≡ u) (λ e. (omega (arith, ints, e), omega (arith, ints, e)), λ h. omega (arith, ints, h.0, h.1))
-units_are_stretches Weekly w kind t u = by_days kind t (fourth_day u w -ℤ pos 3) (fourth_day (u +ℤ pos 1) w -ℤ pos 3) (week_index (day_part kind t) w ≡ u) (week_stretch (day_part kind t) u w)
-units_are_stretches Monthly w kind t u = by_days kind t (first_day_of_month u) (first_day_of_month (u +ℤ pos 1)) (month_number (day_part kind t) ≡ u) (month_holds (day_part kind t) u, month_lies (day_part kind t) u)
-units_are_stretches Yearly w kind t u = by_days kind t (first_day_of_year u) (first_day_of_year (u +ℤ pos 1)) (year_of (day_part kind t) ≡ u) (year_stretch (day_part kind t) u)
+units_are_stretches Daily w kind t u =
+    by_days kind t u (u +ℤ pos 1) (day_part kind t ≡ u) (λ e. (omega (arith, ints, e), omega (arith, ints, e)), λ h. omega (arith, ints, h.0, h.1))
+units_are_stretches Weekly w kind t u =
+    by_days kind t (fourth_day u w -ℤ pos 3) (fourth_day (u +ℤ pos 1) w -ℤ pos 3) (week_index (day_part kind t) w ≡ u) (week_stretch (day_part kind t) u w)
+units_are_stretches Monthly w kind t u =
+    by_days kind t (first_day_of_month u) (first_day_of_month (u +ℤ pos 1)) (month_number (day_part kind t) ≡ u) (
+      month_holds (day_part kind t) u,
+      month_lies (day_part kind t) u,
+    )
+units_are_stretches Yearly w kind t u =
+    by_days kind t (first_day_of_year u) (first_day_of_year (u +ℤ pos 1)) (year_of (day_part kind t) ≡ u) (year_stretch (day_part kind t) u)

@@ -24,7 +24,9 @@ none_before_year_one u v from d some =
     subst IsFromYearOne parts.0 (from u.kind (moment_at u.kind d w) stands)
 
 -- the bytes are the text of the occurrences for which the sequence stands
-pub text_of_least : (text : Sketch → List ℕ) (s u : Sketch) (P : Kind → ℤ → Type 0) (bytes : List ℕ) → StandsFor s P → HaveEqualOccurrences (StandsIn s) (StandsIn u) → IsLeastSketch u → IsDaySequence u → ((k : Kind) (t : ℤ) → P k t → IsFromYearOne (day_part k t)) → bytes ≡ text u → IsTextOf text P bytes
+pub text_of_least : (text : Sketch → List ℕ) (s u : Sketch) (P : Kind → ℤ → Type 0) (bytes : List ℕ) → StandsFor s P
+    → HaveEqualOccurrences (StandsIn s) (StandsIn u) → IsLeastSketch u → IsDaySequence u → ((k : Kind) (t : ℤ) → P k t → IsFromYearOne (day_part k t))
+    → bytes ≡ text u → IsTextOf text P bytes
 text_of_least text s u P bytes stands same least bounded from e = record {
   sketch = u;
   describable = record {

@@ -1,5 +1,6 @@
 -- The text of a descriptor as it is put together.
-use Rattle.std.proofs.Common.{◌≡◌, ℕ, suc, ◌+◌, ◌-◌, ◌<◌, Bool, true, false, ◌==◌, eqb-true, List, [], ◌∷◌, ◌++◌, length, get_or, take, drop, map, append_assoc, ℤ, ◌-ℤ◌, nat_abs, refl, sym, ap, ◌∙◌, arith}
+use Rattle.std.proofs.Common.{◌≡◌, ℕ, suc, ◌+◌, ◌-◌, ◌<◌, Bool, true, false, ◌==◌, eqb-true, List, [], ◌∷◌, ◌++◌, length, get_or, take, drop, map}
+use Rattle.std.proofs.Common.{append_assoc, ℤ, ◌-ℤ◌, nat_abs, refl, sym, ap, ◌∙◌, arith}
 use Rattle.std.proofs.lemmas.List.{append-nil, map-append, take_all}
 use Rattle.std.proofs.Math.Seq.{take-suc, drop-cons}
 use Rattle.rr_model.specs.Sets.Descriptor.{Run, with_step, runs_of}
@@ -12,13 +13,16 @@ use Rattle.rr_canon.proofs.RunLemmas.{run_goes_on, run_ends, with_run-with_step}
 
 -- ---- runs
 
-pub next_longer : (letter g n k g' n' : ℕ) (out : List ℕ) → g' ≡ g → n' ≡ n → IsNextRun letter (record { gap = g; set = n; count = k }) (record { gap = g'; set = n' }) out out (record { gap = g; set = n; count = k + 1 })
+pub next_longer : (letter g n k g' n' : ℕ) (out : List ℕ) → g' ≡ g → n' ≡ n
+    → IsNextRun letter (record { gap = g; set = n; count = k }) (record { gap = g'; set = n' }) out out (record { gap = g; set = n; count = k + 1 })
 next_longer letter g n k g' n' out eg en = record {
   same = λ rs. ap (λ r. out ++ text_of_runs letter r) (sym (run_goes_on g n k g' n' rs eg en));
   longer = omega arith;
 }
 
-pub next_new : (letter g n k g' n' : ℕ) (old new : List ℕ) → ((g' ≡ g) × (n' ≡ n) → ⊥) → new ≡ old ++ text_of_lines (run_line letter (record { gap = g; set = n; count = k }) ∷ []) → IsNextRun letter (record { gap = g; set = n; count = k }) (record { gap = g'; set = n' }) old new (record { gap = g'; set = n'; count = 1 })
+pub next_new : (letter g n k g' n' : ℕ) (old new : List ℕ) → ((g' ≡ g) × (n' ≡ n) → ⊥)
+    → new ≡ old ++ text_of_lines (run_line letter (record { gap = g; set = n; count = k }) ∷ [])
+    → IsNextRun letter (record { gap = g; set = n; count = k }) (record { gap = g'; set = n' }) old new (record { gap = g'; set = n'; count = 1 })
 next_new letter g n k g' n' old new differ e = record {
   same = λ rs.
       let rest = with_run (record { gap = g'; set = n'; count = 1 }) rs in
@@ -30,7 +34,11 @@ next_new letter g n k g' n' old new differ e = record {
 }
 
 -- the step of the next day
-pub one_more_run : (letter : ℕ) (run next : Run) (last last' : ℤ) (gap number k : ℕ) (day : NumberedDay) (days : List NumberedDay) (whole out out' : List ℕ) → drop k days ≡ day ∷ drop (k + 1) days → gap ≡ nat_abs (day.day -ℤ last) → number ≡ day.number → last' ≡ day.day → IsNextRun letter run (record { gap = gap; set = number }) out out' next → out ++ text_of_runs letter (with_run run (runs_of (steps_by_number last (drop k days)))) ≡ whole → out' ++ text_of_runs letter (with_run next (runs_of (steps_by_number last' (drop (k + 1) days)))) ≡ whole
+pub one_more_run : (letter : ℕ) (run next : Run) (last last' : ℤ) (gap number k : ℕ) (day : NumberedDay) (days : List NumberedDay)
+    (whole out out' : List ℕ) → drop k days ≡ day ∷ drop (k + 1) days → gap ≡ nat_abs (day.day -ℤ last) → number ≡ day.number → last' ≡ day.day
+    → IsNextRun letter run (record { gap = gap; set = number }) out out' next
+    → out ++ text_of_runs letter (with_run run (runs_of (steps_by_number last (drop k days)))) ≡ whole
+    → out' ++ text_of_runs letter (with_run next (runs_of (steps_by_number last' (drop (k + 1) days)))) ≡ whole
 unfolding runs_of
 one_more_run letter run next last last' gap number k day days whole out out' ed eg en el step before =
     let rest = steps_by_number day.day (drop (k + 1) days) in
@@ -41,12 +49,17 @@ one_more_run letter run next last last' gap number k day days whole out out' ed 
     ∙ ap (λ l. out ++ text_of_runs letter (with_run run (runs_of l))) (sym here)
     ∙ before
 
-pub runs_ended : (letter : ℕ) (run : Run) (last : ℤ) (days : List NumberedDay) (whole out out' : List ℕ) → days ≡ [] → out ++ text_of_runs letter (with_run run (runs_of (steps_by_number last days))) ≡ whole → out' ≡ out ++ text_of_lines (run_line letter run ∷ []) → out' ≡ whole
+pub runs_ended : (letter : ℕ) (run : Run) (last : ℤ) (days : List NumberedDay) (whole out out' : List ℕ) → days ≡ []
+    → out ++ text_of_runs letter (with_run run (runs_of (steps_by_number last days))) ≡ whole → out' ≡ out ++ text_of_lines (run_line letter run ∷ [])
+    → out' ≡ whole
 unfolding runs_of
 runs_ended letter run last days whole out out' none before e =
     e ∙ ap (λ l. out ++ text_of_runs letter (with_run run (runs_of (steps_by_number last l)))) (sym none) ∙ before
 
-pub runs_of_first : (letter : ℕ) (from last : ℤ) (gap number : ℕ) (day : NumberedDay) (days rest : List NumberedDay) → days ≡ day ∷ rest → gap ≡ nat_abs (day.day -ℤ from) → number ≡ day.number → last ≡ day.day → text_of_runs letter (with_run (record { gap = gap; set = number; count = 1 }) (runs_of (steps_by_number last rest))) ≡ text_of_runs letter (runs_of (steps_by_number from days))
+pub runs_of_first : (letter : ℕ) (from last : ℤ) (gap number : ℕ) (day : NumberedDay) (days rest : List NumberedDay) → days ≡ day ∷ rest
+    → gap ≡ nat_abs (day.day -ℤ from) → number ≡ day.number → last ≡ day.day
+    → text_of_runs letter (with_run (record { gap = gap; set = number; count = 1 }) (runs_of (steps_by_number last rest)))
+    ≡ text_of_runs letter (runs_of (steps_by_number from days))
 unfolding runs_of
 runs_of_first letter from last gap number day days rest ed eg en el =
     ap (λ d. text_of_runs letter (with_run (record { gap = gap; set = number; count = 1 }) (runs_of (steps_by_number d rest)))) el
@@ -55,7 +68,8 @@ runs_of_first letter from last gap number day days rest ed eg en el =
     ∙ ap (λ n. text_of_runs letter (with_step (record { gap = nat_abs (day.day -ℤ from); set = n }) (runs_of (steps_by_number day.day rest)))) en
     ∙ ap (λ l. text_of_runs letter (runs_of (steps_by_number from l))) (sym ed)
 
-pub no_runs : (letter : ℕ) (from : ℤ) (days : List NumberedDay) (out : List ℕ) → days ≡ [] → out ≡ out ++ text_of_runs letter (runs_of (steps_by_number from days))
+pub no_runs : (letter : ℕ) (from : ℤ) (days : List NumberedDay) (out : List ℕ) → days ≡ []
+    → out ≡ out ++ text_of_runs letter (runs_of (steps_by_number from days))
 unfolding runs_of text_of_lines
 no_runs letter from days out none = sym (append-nil out) ∙ ap (λ l. out ++ text_of_runs letter (runs_of (steps_by_number from l))) (sym none)
 
@@ -65,15 +79,20 @@ pub no_sets : (out : List ℕ) (sets : List (List ℕ)) → out ≡ out ++ text_
 unfolding text_of_lines
 no_sets out sets = sym (append-nil out)
 
-pub one_more_set : (old out out' times : List ℕ) (sets : List (List ℕ)) (k : ℕ) → k < length sets → times ≡ get_or sets k [] → out ≡ old ++ text_of_lines (map seconds_line (take k sets)) → out' ≡ out ++ text_of_lines (seconds_line times ∷ []) → out' ≡ old ++ text_of_lines (map seconds_line (take (k + 1) sets))
+pub one_more_set : (old out out' times : List ℕ) (sets : List (List ℕ)) (k : ℕ) → k < length sets → times ≡ get_or sets k []
+    → out ≡ old ++ text_of_lines (map seconds_line (take k sets)) → out' ≡ out ++ text_of_lines (seconds_line times ∷ [])
+    → out' ≡ old ++ text_of_lines (map seconds_line (take (k + 1) sets))
 one_more_set old out out' times sets k l et e f =
-    let next : take (k + 1) sets ≡ take k sets ++ get_or sets k [] ∷ [] = (let g : k + 1 ≡ suc k = omega arith in ap (λ n. take n sets) g ∙ take-suc sets k [] l) in
-    f ∙ ap (λ o. o ++ text_of_lines (seconds_line times ∷ [])) e ∙ append_assoc old (text_of_lines (map seconds_line (take k sets))) (text_of_lines (seconds_line times ∷ []))
+    let next : take (k + 1) sets ≡ take k sets ++ get_or sets k [] ∷ [] =
+    (let g : k + 1 ≡ suc k = omega arith in ap (λ n. take n sets) g ∙ take-suc sets k [] l) in
+    f ∙ ap (λ o. o ++ text_of_lines (seconds_line times ∷ [])) e
+    ∙ append_assoc old (text_of_lines (map seconds_line (take k sets))) (text_of_lines (seconds_line times ∷ []))
     ∙ ap (λ t. old ++ t) (sym (text_of_lines-append (map seconds_line (take k sets)) (seconds_line times ∷ []))
     ∙ ap (λ t. text_of_lines (map seconds_line (take k sets) ++ seconds_line t ∷ [])) et
     ∙ ap text_of_lines (sym (map-append seconds_line (take k sets) (get_or sets k [] ∷ [])) ∙ ap (map seconds_line) (sym next)))
 
-pub all_sets : (old out : List ℕ) (sets front : List (List ℕ)) → front ≡ sets → out ≡ old ++ text_of_lines (map seconds_line front) → out ≡ old ++ text_of_lines (map seconds_line sets)
+pub all_sets : (old out : List ℕ) (sets front : List (List ℕ)) → front ≡ sets → out ≡ old ++ text_of_lines (map seconds_line front)
+    → out ≡ old ++ text_of_lines (map seconds_line sets)
 all_sets old out sets front e f = f ∙ ap (λ s. old ++ text_of_lines (map seconds_line s)) e
 
 pub no_lines : (out : List ℕ) → out ≡ out ++ text_of_lines []
@@ -82,7 +101,8 @@ no_lines out = sym (append-nil out)
 
 -- ---- the ending
 
-pub no_ending : (settled : ℤ) (period : ℕ) (cycle : List NumberedDay) (out : List ℕ) → cycle ≡ [] → out ≡ out ++ text_of_lines (ending_lines (ending_said settled period cycle))
+pub no_ending : (settled : ℤ) (period : ℕ) (cycle : List NumberedDay) (out : List ℕ) → cycle ≡ []
+    → out ≡ out ++ text_of_lines (ending_lines (ending_said settled period cycle))
 no_ending settled period cycle out none = no_lines out ∙ ap (λ l. out ++ text_of_lines (ending_lines (ending_said settled period l))) (sym none)
 
 pub nil_from_test : {X : Type 0} (xs : List X) (b : Bool) → b ≡ true → b ≡ (length xs == 0) → xs ≡ []
@@ -101,17 +121,21 @@ pub next_of_drop : {X : Type 0} (xs : List X) (k : ℕ) (d : X) → k < length x
 next_of_drop xs k d l = let e : k + 1 ≡ suc k = omega arith in drop-cons xs k d l ∙ ap (λ n. get_or xs k d ∷ drop n xs) (sym e)
 
 -- the ending of a cycle that is not empty
-pub some_ending : (settled : ℤ) (period : ℕ) (cycle : List NumberedDay) (day : List ℕ) (old mid new : List ℕ) → 0 < length cycle → mid ≡ old ++ text_of_lines ((113 ∷ 32 ∷ extended_date_text settled ++ fields (period ∷ [])) ∷ []) → new ≡ mid ++ text_of_runs 99 (runs_of (steps_by_number settled cycle)) → new ≡ old ++ text_of_lines (ending_lines (ending_said settled period cycle))
+pub some_ending : (settled : ℤ) (period : ℕ) (cycle : List NumberedDay) (day : List ℕ) (old mid new : List ℕ) → 0 < length cycle
+    → mid ≡ old ++ text_of_lines ((113 ∷ 32 ∷ extended_date_text settled ++ fields (period ∷ [])) ∷ [])
+    → new ≡ mid ++ text_of_runs 99 (runs_of (steps_by_number settled cycle)) → new ≡ old ++ text_of_lines (ending_lines (ending_said settled period cycle))
 some_ending settled period [] day old mid new h e f = absurd (omega arith)
 some_ending settled period (c ∷ cs) day old mid new h e f =
     let line = 113 ∷ 32 ∷ extended_date_text settled ++ fields (period ∷ []) in
     let runs = map (run_line 99) (runs_of (steps_by_number settled (c ∷ cs))) in
-    f ∙ ap (λ o. o ++ text_of_lines runs) e ∙ append_assoc old (text_of_lines (line ∷ [])) (text_of_lines runs) ∙ ap (λ t. old ++ t) (sym (text_of_lines-append (line ∷ []) runs))
+    f ∙ ap (λ o. o ++ text_of_lines runs) e ∙ append_assoc old (text_of_lines (line ∷ [])) (text_of_lines runs)
+    ∙ ap (λ t. old ++ t) (sym (text_of_lines-append (line ∷ []) runs))
 
 -- ---- the whole
 
 -- five parts, one after the other
-pub five_parts : (a b c d e : List (List ℕ)) (x0 x1 x2 x3 x4 x5 : List ℕ) → x1 ≡ x0 ++ text_of_lines a → x2 ≡ x1 ++ text_of_lines b → x3 ≡ x2 ++ text_of_lines c → x4 ≡ x3 ++ text_of_lines d → x5 ≡ x4 ++ text_of_lines e → x5 ≡ x0 ++ text_of_lines (a ++ (b ++ (c ++ (d ++ e))))
+pub five_parts : (a b c d e : List (List ℕ)) (x0 x1 x2 x3 x4 x5 : List ℕ) → x1 ≡ x0 ++ text_of_lines a → x2 ≡ x1 ++ text_of_lines b
+    → x3 ≡ x2 ++ text_of_lines c → x4 ≡ x3 ++ text_of_lines d → x5 ≡ x4 ++ text_of_lines e → x5 ≡ x0 ++ text_of_lines (a ++ (b ++ (c ++ (d ++ e))))
 five_parts a b c d e x0 x1 x2 x3 x4 x5 e1 e2 e3 e4 e5 =
     e5 ∙ ap (λ t. t ++ text_of_lines e) (e4 ∙ ap (λ t. t ++ text_of_lines d) (e3 ∙ ap (λ t. t ++ text_of_lines c) (e2 ∙ ap (λ t. t ++ text_of_lines b) e1)))
     ∙ append_assoc (x0 ++ text_of_lines a ++ text_of_lines b ++ text_of_lines c) (text_of_lines d) (text_of_lines e)

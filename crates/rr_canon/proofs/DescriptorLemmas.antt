@@ -1,5 +1,6 @@
 -- What a descriptor says, step by step.
-use Rattle.std.proofs.Common.{◌≡◌, ◌⊎◌, suc, ◌+◌, Bool, true, false, cond, ◌==◌, ◌&&◌, List, [], ◌∷◌, ◌++◌, replicate, eqb-true, ℤ, pos, ◌-ℤ◌, inl, inr, refl, sym, ap, ◌∙◌, arith}
+use Rattle.std.proofs.Common.{◌≡◌, ◌⊎◌, suc, ◌+◌, Bool, true, false, cond, ◌==◌, ◌&&◌, List, [], ◌∷◌, ◌++◌, replicate, eqb-true, ℤ, pos, ◌-ℤ◌, inl, inr}
+use Rattle.std.proofs.Common.{refl, sym, ap, ◌∙◌, arith}
 use Rattle.std.specs.Prelude.{Some, None}
 use Rattle.std.specs.List.{All}
 use Rattle.std.proofs.lemmas.Int.{ints}
@@ -38,7 +39,9 @@ steps_of_runs-with_step : (step : Step) (runs : List Run) → steps_of_runs (wit
 unfolding step_of
 steps_of_runs-with_step step [] = refl
 steps_of_runs-with_step step (run ∷ rest) =
-    elim (is_run_of step run) as (λ b. is_run_of step run ≡ b → steps_of_runs (cond b (record { gap = run.gap; set = run.set; count = run.count + 1 } ∷ rest) (record { gap = step.gap; set = step.set; count = 1 } ∷ run ∷ rest)) ≡ step ∷ steps_of_runs (run ∷ rest)) [
+    elim (is_run_of step run) as (λ b. is_run_of step run ≡ b
+    → steps_of_runs (cond b (record { gap = run.gap; set = run.set; count = run.count + 1 } ∷ rest)
+    (record { gap = step.gap; set = step.set; count = 1 } ∷ run ∷ rest)) ≡ step ∷ steps_of_runs (run ∷ rest)) [
       | true ↦ λ e.
           let more : run.count + 1 ≡ suc run.count = omega arith in
           ap (λ n. replicate n (step_of run) ++ steps_of_runs rest) more ∙ ap (λ s. s ∷ steps_of_runs (run ∷ rest)) (sym (same_step step run e))
@@ -57,7 +60,8 @@ pub first_and_rest : {X : Type 0} (xs : List X) → (xs ≡ [] → ⊥) → (x :
 first_and_rest [] some = absurd (some refl)
 first_and_rest (x ∷ xs) some = (x, xs, refl)
 
-pub rises_from_first : (low high : ℤ) (before cycle : List DayShape) (x : DayShape) (xs : List DayShape) → before ++ cycle ≡ x ∷ xs → HasRisingDays low high before → HasRisingDays x.day high before
+pub rises_from_first : (low high : ℤ) (before cycle : List DayShape) (x : DayShape) (xs : List DayShape) → before ++ cycle ≡ x ∷ xs
+    → HasRisingDays low high before → HasRisingDays x.day high before
 rises_from_first low high [] cycle x xs e r = tt
 rises_from_first low high (s ∷ ss) cycle x xs e r =
     let first = first_same s x (ss ++ cycle) xs e in
@@ -72,7 +76,8 @@ cycle_some s endless none = let far = endless s.settled in far.2 (finite_end s f
 
 finite_some : (s : Sketch) → IsLeastOfFinite s → s.before ++ s.cycle ≡ [] → ⊥
 finite_some s a e =
-    let none : times_on s (s.settled -ℤ pos 1) ≡ [] = before_part s (s.settled -ℤ pos 1) (omega (arith, ints)) ∙ ap (λ l. times_in l (s.settled -ℤ pos 1)) (front_nil s.before s.cycle e) in
+    let none : times_on s (s.settled -ℤ pos 1) ≡ [] =
+    before_part s (s.settled -ℤ pos 1) (omega (arith, ints)) ∙ ap (λ l. times_in l (s.settled -ℤ pos 1)) (front_nil s.before s.cycle e) in
     a.last none
   where
     front_nil : {X : Type 0} (xs ys : List X) → xs ++ ys ≡ [] → xs ≡ []

@@ -1,5 +1,6 @@
 -- The parts that are kept make the least sketch.
-use Rattle.std.proofs.Common.{◌≡◌, ℕ, ◌<◌, true, false, cond, List, [], ◌∷◌, ◌++◌, length, ℤ, pos, neg_ℤ, ◌+ℤ◌, ◌-ℤ◌, ◌≤ℤ◌, inl, refl, sym, ap, subst, ◌∙◌, arith}
+use Rattle.std.proofs.Common.{◌≡◌, ℕ, ◌<◌, true, false, cond, List, [], ◌∷◌, ◌++◌, length, ℤ, pos, neg_ℤ, ◌+ℤ◌, ◌-ℤ◌, ◌≤ℤ◌, inl, refl, sym, ap, subst, ◌∙◌}
+use Rattle.std.proofs.Common.{arith}
 use Rattle.std.specs.Prelude.{Option, Some, None, IfSome, int_lt}
 use Rattle.std.specs.List.{All}
 use Rattle.std.proofs.lemmas.Int.{ints}
@@ -16,7 +17,8 @@ use Rattle.rr_model.proofs.RisingSetLemmas.{Contains-none}
 use Rattle.rr_model.specs.Sets.Descriptor.{with_sets_of}
 use Rattle.rr_model.specs.Sets.Least.{IsLeastPeriod, IsLeastStart, IsLeastOfNone, IsLeastSketch}
 use Rattle.rr_model.specs.Sets.Occupied.{occupied}
-use Rattle.rr_word.proofs.OccupiedLemmas.{sketch_from, sketch_from_bounded, sketch_from_first, sketch_from_least, sketch_from_times, occupied_rises, equal_by_times}
+use Rattle.rr_word.proofs.OccupiedLemmas.{sketch_from, sketch_from_bounded, sketch_from_first, sketch_from_least, sketch_from_times, occupied_rises}
+use Rattle.rr_word.proofs.OccupiedLemmas.{equal_by_times}
 use Rattle.rr_word.proofs.OneLeastLemmas.{none_on}
 use Rattle.rr_word.proofs.SetNumberLemmas.{IsKnown, all_known, All-front, All-back}
 use Rattle.rr_word.specs.Numbered.{number_in, numbered, shapes_of}
@@ -28,10 +30,12 @@ use Rattle.rr_canon.specs.Kept.{sketch_of, number_kept, IsKept, AreStretchOf}
 -- ---- what is read
 
 -- the seconds of a day are those of its number
-pub times_kept : (kind : Kind) (sets : List (List ℕ)) (before : List NumberedDay) (settled : ℤ) (period : ℕ) (cycle : List NumberedDay) (day : ℤ) → times_of sets (number_kept before settled period cycle day) ≡ times_on (sketch_of kind sets before settled period cycle) day
+pub times_kept : (kind : Kind) (sets : List (List ℕ)) (before : List NumberedDay) (settled : ℤ) (period : ℕ) (cycle : List NumberedDay) (day : ℤ)
+    → times_of sets (number_kept before settled period cycle day) ≡ times_on (sketch_of kind sets before settled period cycle) day
 times_kept kind sets before settled period cycle day =
     let place = settled +ℤ pos (floor_mod (day -ℤ settled) period) in
-    elim (int_lt day settled) as (λ b. times_of sets (cond b (number_in before day) (number_in cycle place)) ≡ cond b (times_in (shapes_of sets before) day) (times_in (shapes_of sets cycle) place)) [
+    elim (int_lt day settled) as (λ b. times_of sets (cond b (number_in before day) (number_in cycle place))
+    ≡ cond b (times_in (shapes_of sets before) day) (times_in (shapes_of sets cycle) place)) [
       | true ↦ sym (times_by_number sets before day)
       | false ↦ sym (times_by_number sets cycle place)
     ]
@@ -40,17 +44,21 @@ if_some : (r : Option ℕ) (P : ℕ → Type 0) → ((n : ℕ) → r ≡ Some n 
 if_some None P h = tt
 if_some (Some n) P h = h n refl
 
-known_before : (sets : List (List ℕ)) (before cycle : List NumberedDay) → IsKept sets before cycle → AllKnown sets (shapes_of sets before ++ shapes_of sets cycle)
+known_before : (sets : List (List ℕ)) (before cycle : List NumberedDay) → IsKept sets before cycle
+    → AllKnown sets (shapes_of sets before ++ shapes_of sets cycle)
 known_before sets before cycle kept =
-    subst (λ (l : List (List ℕ)). All (λ s. IsKnown l s.times) (shapes_of sets before ++ shapes_of sets cycle)) (sym kept.sets_in_order) (all_known [] (shapes_of sets before ++ shapes_of sets cycle))
+    subst (λ (l : List (List ℕ)). All (λ s. IsKnown l s.times) (shapes_of sets before ++ shapes_of sets cycle)) (sym kept.sets_in_order)
+    (all_known [] (shapes_of sets before ++ shapes_of sets cycle))
 
-pub before_within : (sets : List (List ℕ)) (before cycle : List NumberedDay) (day : ℤ) (r : Option ℕ) → IsKept sets before cycle → r ≡ number_in before day → IfSome r (λ n. n < length sets)
+pub before_within : (sets : List (List ℕ)) (before cycle : List NumberedDay) (day : ℤ) (r : Option ℕ) → IsKept sets before cycle → r ≡ number_in before day
+    → IfSome r (λ n. n < length sets)
 before_within sets before cycle day r kept e =
     if_some r (λ n. n < length sets) (λ n is. numbers_within sets (shapes_of sets before)
     (All-front (λ (s : DayShape). IsKnown sets s.times) (shapes_of sets before) (shapes_of sets cycle) (known_before sets before cycle kept)) day n
     (ap (λ l. number_in l day) (sym kept.before_numbers) ∙ sym e ∙ is))
 
-pub cycle_within : (sets : List (List ℕ)) (before cycle : List NumberedDay) (day : ℤ) (r : Option ℕ) → IsKept sets before cycle → r ≡ number_in cycle day → IfSome r (λ n. n < length sets)
+pub cycle_within : (sets : List (List ℕ)) (before cycle : List NumberedDay) (day : ℤ) (r : Option ℕ) → IsKept sets before cycle → r ≡ number_in cycle day
+    → IfSome r (λ n. n < length sets)
 cycle_within sets before cycle day r kept e =
     if_some r (λ n. n < length sets) (λ n is. numbers_within sets (shapes_of sets cycle)
     (All-back (λ (s : DayShape). IsKnown sets s.times) (shapes_of sets before) (shapes_of sets cycle) (known_before sets before cycle kept)) day n
@@ -76,19 +84,23 @@ bounded_of u b rises = record {
 }
 
 -- what a kept sequence meets
-pub record IsKeptLeast (s : Sketch) (kind : Kind) (sets : List (List ℕ)) (before : List NumberedDay) (settled : ℤ) (period : ℕ) (cycle : List NumberedDay) (first : Option ℤ) : Type 0 where
+pub record IsKeptLeast (s : Sketch) (kind : Kind) (sets : List (List ℕ)) (before : List NumberedDay) (settled : ℤ) (period : ℕ) (cycle : List NumberedDay)
+    (first : Option ℤ) : Type 0 where
   pub bounded : IsBounded (sketch_of kind sets before settled period cycle)
   pub first_is : IsFirstDay (sketch_of kind sets before settled period cycle) first
   pub in_order : IsKept sets before cycle
   pub least : IsLeastSketch (sketch_of kind sets before settled period cycle)
   pub same : HaveEqualOccurrences (StandsIn s) (StandsIn (sketch_of kind sets before settled period cycle))
 
-module _ (s : Sketch) (first : ℤ) (n : ℕ) (p : ℕ) (sets sets' : List (List ℕ)) (before cycle : List NumberedDay) (first_stretch : AreStretchOf s first n [] sets before) (second_stretch : AreStretchOf s (first +ℤ pos n) p sets sets' cycle) where
+module _ (s : Sketch) (first : ℤ) (n : ℕ) (p : ℕ) (sets sets' : List (List ℕ)) (before cycle : List NumberedDay)
+    (first_stretch : AreStretchOf s first n [] sets before) (second_stretch : AreStretchOf s (first +ℤ pos n) p sets sets' cycle) where
   all_sets : sets' ≡ with_sets_of [] (occupied s first n ++ occupied s (first +ℤ pos n) p)
-  all_sets = second_stretch.sets ∙ ap (λ l. with_sets_of l (occupied s (first +ℤ pos n) p)) first_stretch.sets ∙ sym (with_sets_of-append [] (occupied s first n) (occupied s (first +ℤ pos n) p))
+  all_sets = second_stretch.sets ∙ ap (λ l. with_sets_of l (occupied s (first +ℤ pos n) p)) first_stretch.sets
+      ∙ sym (with_sets_of-append [] (occupied s first n) (occupied s (first +ℤ pos n) p))
 
   known : AllKnown sets' (occupied s first n ++ occupied s (first +ℤ pos n) p)
-  known = subst (λ (l : List (List ℕ)). All (λ z. IsKnown l z.times) (occupied s first n ++ occupied s (first +ℤ pos n) p)) (sym all_sets) (all_known [] (occupied s first n ++ occupied s (first +ℤ pos n) p))
+  known = subst (λ (l : List (List ℕ)). All (λ z. IsKnown l z.times) (occupied s first n ++ occupied s (first +ℤ pos n) p)) (sym all_sets)
+      (all_known [] (occupied s first n ++ occupied s (first +ℤ pos n) p))
 
   known_b : AllKnown sets' (occupied s first n)
   known_b = All-front (λ (z : DayShape). IsKnown sets' z.times) (occupied s first n) (occupied s (first +ℤ pos n) p) known
@@ -100,7 +112,9 @@ module _ (s : Sketch) (first : ℤ) (n : ℕ) (p : ℕ) (sets sets' : List (List
   first_known = subst (λ (l : List (List ℕ)). All (λ z. IsKnown l z.times) (occupied s first n)) (sym first_stretch.sets) (all_known [] (occupied s first n))
 
   before_is : before ≡ numbered sets' (occupied s first n)
-  before_is = first_stretch.numbers ∙ sym (ap (λ l. numbered l (occupied s first n)) second_stretch.sets ∙ numbered_stays_of sets (occupied s (first +ℤ pos n) p) (occupied s first n) first_known)
+  before_is = first_stretch.numbers
+      ∙ sym (ap (λ l. numbered l (occupied s first n)) second_stretch.sets
+      ∙ numbered_stays_of sets (occupied s (first +ℤ pos n) p) (occupied s first n) first_known)
 
   shapes_b : shapes_of sets' before ≡ occupied s first n
   shapes_b = ap (shapes_of sets') before_is ∙ shapes_of-numbered sets' (occupied s first n) known_b
@@ -110,7 +124,8 @@ module _ (s : Sketch) (first : ℤ) (n : ℕ) (p : ℕ) (sets sets' : List (List
 
   kept : IsKept sets' before cycle
   kept = record {
-    sets_in_order = all_sets ∙ ap (λ l. with_sets_of [] (l ++ occupied s (first +ℤ pos n) p)) (sym shapes_b) ∙ ap (λ l. with_sets_of [] (shapes_of sets' before ++ l)) (sym shapes_c);
+    sets_in_order = all_sets ∙ ap (λ l. with_sets_of [] (l ++ occupied s (first +ℤ pos n) p)) (sym shapes_b)
+        ∙ ap (λ l. with_sets_of [] (shapes_of sets' before ++ l)) (sym shapes_c);
     before_numbers = before_is ∙ ap (numbered sets') (sym shapes_b);
     cycle_numbers = second_stretch.numbers ∙ ap (numbered sets') (sym shapes_c);
   }
@@ -118,21 +133,27 @@ module _ (s : Sketch) (first : ℤ) (n : ℕ) (p : ℕ) (sets sets' : List (List
   sketch_is_from : sketch_from s first n p ≡ sketch_of s.kind sets' before (first +ℤ pos n) p cycle
   sketch_is_from = sym (λ i. record { kind = s.kind; before = shapes_b i; settled = first +ℤ pos n; period = p; cycle = shapes_c i })
 
-  pub kept_least : IsDaySequence s → IsFirstDay s (Some first) → IsLeastPeriod (times_on s) p → IsLeastStart (times_on s) first p (first +ℤ pos n) → IsKeptLeast s s.kind sets' before (first +ℤ pos n) p cycle (Some first)
+  pub kept_least : IsDaySequence s → IsFirstDay s (Some first) → IsLeastPeriod (times_on s) p → IsLeastStart (times_on s) first p (first +ℤ pos n)
+      → IsKeptLeast s s.kind sets' before (first +ℤ pos n) p cycle (Some first)
   kept_least bounded is_first least start =
       let near = bounded.first first is_first in
       let u = sketch_from s first n p in
-      let of_u = bounded_of u (sketch_from_bounded s bounded first n p is_first least start) (rises_lower (neg_ℤ (pos 1_000_000_000)) first (first +ℤ pos n) (occupied s first n) near.0 (occupied_rises s bounded.valid first n)) in
+      let of_u = bounded_of u (sketch_from_bounded s bounded first n p is_first least start)
+      (rises_lower (neg_ℤ (pos 1_000_000_000)) first (first +ℤ pos n) (occupied s first n) near.0 (occupied_rises s bounded.valid first n)) in
       record {
         bounded = subst IsBounded sketch_is_from of_u;
         first_is = subst (λ z. IsFirstDay z (Some first)) sketch_is_from (sketch_from_first s bounded first n p is_first least start);
         in_order = kept;
         least = subst IsLeastSketch sketch_is_from (sketch_from_least s bounded first n p is_first least start);
-        same = subst (λ z. HaveEqualOccurrences (StandsIn s) (StandsIn z)) sketch_is_from (equal_by_times s u refl (sketch_from_times s bounded first n p is_first least start));
+        same = subst (λ z. HaveEqualOccurrences (StandsIn s) (StandsIn z)) sketch_is_from
+            (equal_by_times s u refl (sketch_from_times s bounded first n p is_first least start));
       }
 
 -- the same under the names that the code has
-pub kept_least_as : (s : Sketch) (kind : Kind) (first f g settled t : ℤ) (n p : ℕ) (sets sets' : List (List ℕ)) (before cycle : List NumberedDay) → kind ≡ s.kind → f ≡ first → g ≡ first → settled ≡ first +ℤ pos n → t ≡ settled → AreStretchOf s f n [] sets before → AreStretchOf s t p sets sets' cycle → IsDaySequence s → IsFirstDay s (Some first) → IsLeastPeriod (times_on s) p → IsLeastStart (times_on s) first p settled → IsKeptLeast s kind sets' before t p cycle (Some g)
+pub kept_least_as : (s : Sketch) (kind : Kind) (first f g settled t : ℤ) (n p : ℕ) (sets sets' : List (List ℕ)) (before cycle : List NumberedDay)
+    → kind ≡ s.kind → f ≡ first → g ≡ first → settled ≡ first +ℤ pos n → t ≡ settled → AreStretchOf s f n [] sets before
+    → AreStretchOf s t p sets sets' cycle → IsDaySequence s → IsFirstDay s (Some first) → IsLeastPeriod (times_on s) p
+    → IsLeastStart (times_on s) first p settled → IsKeptLeast s kind sets' before t p cycle (Some g)
 kept_least_as s kind first f g settled t n p sets sets' before cycle ek ef eg es et a b bounded is_first least start =
     let a' = subst (λ x. AreStretchOf s x n [] sets before) ef a in
     let place : t ≡ first +ℤ pos n = et ∙ es in
@@ -155,11 +176,19 @@ both_empty s u empty none k t = (
 )
 
 -- with nothing in it
-pub nothing_least : (before cycle : List NumberedDay) (sets : List (List ℕ)) → before ≡ [] → cycle ≡ [] → IsLeastSketch (sketch_of Days sets before (pos 0) 1 cycle)
+pub nothing_least : (before cycle : List NumberedDay) (sets : List (List ℕ)) → before ≡ [] → cycle ≡ []
+    → IsLeastSketch (sketch_of Days sets before (pos 0) 1 cycle)
 nothing_least before cycle sets eb ec =
     subst (λ (l : List NumberedDay). IsLeastSketch (sketch_of Days sets l (pos 0) 1 cycle)) (sym eb)
     (subst (λ (l : List NumberedDay). IsLeastSketch (sketch_of Days sets [] (pos 0) 1 l)) (sym ec)
     (record {
-      valid = record { period = omega arith; before = (pos 0, tt); cycle = tt; before_times = All-nil (λ (x : DayShape). IsTimeSet Days x.times); cycle_times = All-nil (λ (x : DayShape). IsTimeSet Days x.times) };
+      valid = record {
+        period = omega arith;
+        before = (pos 0, tt);
+        cycle = tt;
+        before_times =
+            All-nil (λ (x : DayShape). IsTimeSet Days x.times);
+        cycle_times = All-nil (λ (x : DayShape). IsTimeSet Days x.times);
+      };
       form = inl (record { kind = refl; before = refl; settled = refl; period = refl; cycle = refl });
     }))

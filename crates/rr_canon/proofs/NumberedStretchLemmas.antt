@@ -23,27 +23,32 @@ pub no_days : (s : Sketch) (from : ℤ) (sets : List (List ℕ)) → AreStretchO
 unfolding occupied
 no_days s from sets = record { sets = refl; numbers = refl }
 
-pub one_more_day : (s : Sketch) (from from' day : ℤ) (k : ℕ) (times : List ℕ) (old sets sets' : List (List ℕ)) (days days' : List NumberedDay) → from' ≡ from → day ≡ from +ℤ pos k → times ≡ times_on s day → AreStretchOf s from' k old sets days → IsPutDay day times sets sets' days days' → AreStretchOf s from (k + 1) old sets' days'
+pub one_more_day : (s : Sketch) (from from' day : ℤ) (k : ℕ) (times : List ℕ) (old sets sets' : List (List ℕ)) (days days' : List NumberedDay)
+    → from' ≡ from → day ≡ from +ℤ pos k → times ≡ times_on s day → AreStretchOf s from' k old sets days → IsPutDay day times sets sets' days days'
+    → AreStretchOf s from (k + 1) old sets' days'
 unfolding occupied
 one_more_day s from from' day k times old sets sets' days days' ef ed et stretch put =
     let e : k + 1 ≡ suc k = omega arith in
     let more = shape_if_some day times in
     let here : occupied s from k ++ more ≡ occupied s from (k + 1) =
-    ap (λ (t : List ℕ). occupied s from k ++ shape_if_some day t) et ∙ ap (λ d. occupied s from k ++ shape_if_some d (times_on s d)) ed ∙ ap (λ n. occupied s from n) (sym e) in
+    ap (λ (t : List ℕ). occupied s from k ++ shape_if_some day t) et ∙ ap (λ d. occupied s from k ++ shape_if_some d (times_on s d)) ed
+    ∙ ap (λ n. occupied s from n) (sym e) in
     let done = occupied s from k in
     let sets_are : sets ≡ with_sets_of old done = stretch.sets ∙ ap (λ f. with_sets_of old (occupied s f k)) ef in
     let days_are : days ≡ numbered sets done = stretch.numbers ∙ ap (λ f. numbered sets (occupied s f k)) ef in
     let new_sets : sets' ≡ with_sets_of old (done ++ more) = put.sets ∙ ap (λ l. with_sets_of l more) sets_are ∙ sym (with_sets_of-append old done more) in
     let known = subst (λ (l : List (List ℕ)). All (λ z. IsKnownIn l z.times) done) (sym sets_are) (all_known old done) in
     let kept : numbered sets' done ≡ numbered sets done = ap (λ l. numbered l done) put.sets ∙ numbered_stays_of sets more done known in
-    let new_days : days' ≡ numbered sets' (done ++ more) = put.numbers ∙ ap (λ l. l ++ numbered sets' more) (days_are ∙ sym kept) ∙ sym (numbered-append sets' done more) in
+    let new_days : days' ≡ numbered sets' (done ++ more) =
+    put.numbers ∙ ap (λ l. l ++ numbered sets' more) (days_are ∙ sym kept) ∙ sym (numbered-append sets' done more) in
     record {
       sets = new_sets ∙ ap (with_sets_of old) here;
       numbers = new_days ∙ ap (numbered sets') here;
     }
 
 -- the numbers stay within their type
-pub sets_within : (s : Sketch) (from : ℤ) (k : ℕ) (old sets : List (List ℕ)) (days : List NumberedDay) → AreStretchOf s from k old sets days → length sets ≤ length old + k
+pub sets_within : (s : Sketch) (from : ℤ) (k : ℕ) (old sets : List (List ℕ)) (days : List NumberedDay) → AreStretchOf s from k old sets days
+    → length sets ≤ length old + k
 sets_within s from k old sets days stretch =
     omega (arith, ap length stretch.sets, sets_few old (occupied s from k), occupied_few s from k)
 
@@ -54,5 +59,10 @@ of_set Moments xs set = set.2
 -- the seconds of a day are a set
 pub seconds_of_day : (s : Sketch) (day : ℤ) (times : List ℕ) → IsValidSketch s → times ≡ times_on s day → IsSecondsOfDay times
 seconds_of_day s day times v e =
-    let below : All (λ x. x < 86_400) (times_on s day) = elim (set_on s day v) [ inl none ↦ subst (All (λ x. x < 86_400)) (sym none) (All-nil (λ x. x < 86_400)) | inr set ↦ of_set s.kind (times_on s day) set ] in
+    let below : All (λ x. x < 86_400) (times_on s day) =
+    elim (set_on s day v) [
+      | inl none ↦ subst (All (λ x. x < 86_400)) (sym none) (All-nil (λ x. x < 86_400))
+      | inr set ↦
+          of_set s.kind (times_on s day) set
+    ] in
     rw e (record { rises = rising_on s day v; below_a_day = below })

@@ -1,5 +1,6 @@
 -- A least sketch within the bounds can be printed, so its text tells it apart.
-use Rattle.std.proofs.Common.{◌≡◌, ◌⊎◌, ◌↔◌, ℕ, zero, suc, ◌+◌, ◌^◌, ◌<◌, ◌≤◌, Bool, true, false, cond, List, [], ◌∷◌, ◌++◌, length, length-append, ℤ, pos, neg_ℤ, nat_abs, ◌+ℤ◌, ◌-ℤ◌, ◌≤ℤ◌, inl, inr, refl, sym, ap, subst, ◌∙◌, arith}
+use Rattle.std.proofs.Common.{◌≡◌, ◌⊎◌, ◌↔◌, ℕ, zero, suc, ◌+◌, ◌^◌, ◌<◌, ◌≤◌, Bool, true, false, cond, List, [], ◌∷◌, ◌++◌, length, length-append, ℤ, pos}
+use Rattle.std.proofs.Common.{neg_ℤ, nat_abs, ◌+ℤ◌, ◌-ℤ◌, ◌≤ℤ◌, inl, inr, refl, sym, ap, subst, ◌∙◌, arith}
 use Rattle.std.specs.Prelude.{codes}
 use Rattle.std.specs.List.{All, list_any}
 use Rattle.std.proofs.lemmas.Int.{ints}
@@ -12,10 +13,12 @@ use Rattle.rr_model.specs.declared.kind.Kind.{Kind}
 use Rattle.rr_model.specs.declared.kind.Kind.TheVariants.{Days, Moments}
 use Rattle.rr_model.specs.declared.sketch.DayShape.{DayShape}
 use Rattle.rr_model.specs.declared.sketch.Sketch.{Sketch}
-use Rattle.rr_model.specs.Sets.Descriptor.{Step, Run, is_same_set, with_set, with_sets_of, steps_from, is_run_of, with_step, runs_of, sets_of, number_of, ending_of, descriptor}
+use Rattle.rr_model.specs.Sets.Descriptor.{Step, Run, is_same_set, with_set, with_sets_of, steps_from, is_run_of, with_step, runs_of, sets_of, number_of}
+use Rattle.rr_model.specs.Sets.Descriptor.{ending_of, descriptor}
 use Rattle.rr_model.specs.Sets.DescriptorText.{seconds_line, text_of, descriptor_text}
 use Rattle.rr_model.specs.Sets.Least.{IsLeastOfFinite, IsLeastOfEndless}
-use Rattle.rr_model.specs.Sets.Printable.{IsPrintedDay, IsPrintedRun, ArePrintedSets, IsPrintedIfSome, IsPrintedSet, IsPrinted, IsInLine, IsSetLine, IsDescribable, TellsSetsApart, IsTextOf}
+use Rattle.rr_model.specs.Sets.Printable.{IsPrintedDay, IsPrintedRun, ArePrintedSets, IsPrintedIfSome, IsPrintedSet, IsPrinted, IsInLine, IsSetLine}
+use Rattle.rr_model.specs.Sets.Printable.{IsDescribable, TellsSetsApart, IsTextOf}
 use Rattle.rr_model.proofs.YearLemmas.{from_year_one}
 use Rattle.rr_word.proofs.OneLeastLemmas.{before_part, first_period, one_least}
 use Rattle.rr_word.proofs.SetNumberLemmas.{IsKnown, number_within, All-front, All-back, All-with_sets_of}
@@ -66,21 +69,29 @@ larger m n l (r ∷ rs) h =
     All-cons (IsSmallRun n) r rs (record { gap = first.gap; set = first.set; count = omega arith }) (larger m n l rs (All-tail (IsSmallRun m) r rs h))
 
 small_with_step : (step : Step) (n : ℕ) (runs : List Run) → IsSmallStep step → All (IsSmallRun n) runs → All (IsSmallRun (n + 1)) (with_step step runs)
-small_with_step step n [] hs h = All-cons (IsSmallRun (n + 1)) (record { gap = step.gap; set = step.set; count = 1 }) [] (record { gap = hs.gap; set = hs.set; count = omega arith }) (All-nil (IsSmallRun (n + 1)))
+small_with_step step n [] hs h =
+    All-cons (IsSmallRun (n + 1)) (record { gap = step.gap; set = step.set; count = 1 }) [] (record { gap = hs.gap; set = hs.set; count = omega arith })
+    (All-nil (IsSmallRun (n + 1)))
 small_with_step step n (r ∷ rs) hs h = either (is_run_of step r)
   where
     first : IsSmallRun n r
     first = All-head (IsSmallRun n) r rs h
 
-    either : (b : Bool) → All (IsSmallRun (n + 1)) (cond b (record { gap = r.gap; set = r.set; count = r.count + 1 } ∷ rs) (record { gap = step.gap; set = step.set; count = 1 } ∷ r ∷ rs))
-    either true = All-cons (IsSmallRun (n + 1)) (record { gap = r.gap; set = r.set; count = r.count + 1 }) rs (record { gap = first.gap; set = first.set; count = (let c = first.count in omega arith) }) (larger n (n + 1) (omega arith) rs (All-tail (IsSmallRun n) r rs h))
-    either false = All-cons (IsSmallRun (n + 1)) (record { gap = step.gap; set = step.set; count = 1 }) (r ∷ rs) (record { gap = hs.gap; set = hs.set; count = omega arith }) (larger n (n + 1) (omega arith) (r ∷ rs) h)
+    either : (b : Bool)
+        → All (IsSmallRun (n + 1))
+        (cond b (record { gap = r.gap; set = r.set; count = r.count + 1 } ∷ rs) (record { gap = step.gap; set = step.set; count = 1 } ∷ r ∷ rs))
+    either true = All-cons (IsSmallRun (n + 1)) (record { gap = r.gap; set = r.set; count = r.count + 1 }) rs
+        (record { gap = first.gap; set = first.set; count = (let c = first.count in omega arith) })
+        (larger n (n + 1) (omega arith) rs (All-tail (IsSmallRun n) r rs h))
+    either false = All-cons (IsSmallRun (n + 1)) (record { gap = step.gap; set = step.set; count = 1 }) (r ∷ rs)
+        (record { gap = hs.gap; set = hs.set; count = omega arith }) (larger n (n + 1) (omega arith) (r ∷ rs) h)
 
 small_runs : (steps : List Step) → All IsSmallStep steps → All (IsSmallRun (length steps)) (runs_of steps)
 unfolding runs_of
 small_runs [] h = All-nil (IsSmallRun 0)
 small_runs (step ∷ steps) h =
-    larger (length steps + 1) (length (step ∷ steps)) (omega arith) (with_step step (runs_of steps)) (small_with_step step (length steps) (runs_of steps) (All-head IsSmallStep step steps h) (small_runs steps (All-tail IsSmallStep step steps h)))
+    larger (length steps + 1) (length (step ∷ steps)) (omega arith) (with_step step (runs_of steps))
+    (small_with_step step (length steps) (runs_of steps) (All-head IsSmallStep step steps h) (small_runs steps (All-tail IsSmallStep step steps h)))
 
 printed_runs : (n : ℕ) → n < 2 ^ 64 → (runs : List Run) → All (IsSmallRun n) runs → All IsPrintedRun runs
 printed_runs n l [] h = All-nil IsPrintedRun
@@ -97,7 +108,8 @@ length-steps_from sets from (s ∷ ss) = ap suc (length-steps_from sets s.day ss
 abbrev IsFairDay : ℤ → Type 0
 IsFairDay d = (neg_ℤ (pos 2_000_000_000) ≤ℤ d) × (d ≤ℤ pos 2_000_000_000)
 
-small_steps : (sets : List (List ℕ)) (from : ℤ) (ss : List DayShape) → length sets < 2 ^ 64 → IsFairDay from → All (λ s. IsFairDay s.day) ss → All (λ s. IsKnown sets s.times) ss → All IsSmallStep (steps_from sets from ss)
+small_steps : (sets : List (List ℕ)) (from : ℤ) (ss : List DayShape) → length sets < 2 ^ 64 → IsFairDay from → All (λ s. IsFairDay s.day) ss
+    → All (λ s. IsKnown sets s.times) ss → All IsSmallStep (steps_from sets from ss)
 small_steps sets from [] few fair days known = All-nil IsSmallStep
 small_steps sets from (s ∷ ss) few fair days known =
     let F : DayShape → Type 0 = λ x. IsFairDay x.day in
@@ -146,12 +158,14 @@ near_to_fair (s ∷ ss) h =
     let b = near.1 in
     All-cons (λ (x : DayShape). IsFairDay x.day) s ss (omega (arith, ints), omega (arith, ints)) (near_to_fair ss (All-tail N s ss h))
 
-rising_fair : (low high : ℤ) (ss : List DayShape) → neg_ℤ (pos 2_000_000_000) ≤ℤ low → high ≤ℤ pos 2_000_000_000 → HasRisingDays low high ss → All (λ s. IsFairDay s.day) ss
+rising_fair : (low high : ℤ) (ss : List DayShape) → neg_ℤ (pos 2_000_000_000) ≤ℤ low → high ≤ℤ pos 2_000_000_000 → HasRisingDays low high ss
+    → All (λ s. IsFairDay s.day) ss
 rising_fair low high [] l h r = All-nil (λ (s : DayShape). IsFairDay s.day)
 rising_fair low high (s ∷ ss) l h r =
     let a = r.0 in
     let b = r.1 in
-    All-cons (λ (x : DayShape). IsFairDay x.day) s ss (omega (arith, ints), omega (arith, ints)) (rising_fair (s.day +ℤ pos 1) high ss (omega (arith, ints)) h r.2)
+    All-cons (λ (x : DayShape). IsFairDay x.day) s ss (omega (arith, ints), omega (arith, ints))
+    (rising_fair (s.day +ℤ pos 1) high ss (omega (arith, ints)) h r.2)
 
 module _ (s : Sketch) (d : IsDescribable s) where
   valid : IsValidSketch s
@@ -189,10 +203,12 @@ module _ (s : Sketch) (d : IsDescribable s) where
   unfolding sets_of
   few_sets = let few = sets_few [] (s.before ++ s.cycle) in omega (arith, few, length-append s.before s.cycle, few_before, few_cycle)
 
-  runs_printed : (from : ℤ) (ss : List DayShape) → length ss ≤ 2_000_000_000 → IsFairDay from → All (λ x. IsFairDay x.day) ss → All (λ x. IsKnown (sets_of s) x.times) ss → All IsPrintedRun (runs_of (steps_from (sets_of s) from ss))
+  runs_printed : (from : ℤ) (ss : List DayShape) → length ss ≤ 2_000_000_000 → IsFairDay from → All (λ x. IsFairDay x.day) ss
+      → All (λ x. IsKnown (sets_of s) x.times) ss → All IsPrintedRun (runs_of (steps_from (sets_of s) from ss))
   runs_printed from ss few fair days known =
       let steps = steps_from (sets_of s) from ss in
-      printed_runs (length steps) (omega (arith, length-steps_from (sets_of s) from ss, few)) (runs_of steps) (small_runs steps (small_steps (sets_of s) from ss (omega (arith, few_sets)) fair days known))
+      printed_runs (length steps) (omega (arith, length-steps_from (sets_of s) from ss, few)) (runs_of steps)
+      (small_runs steps (small_steps (sets_of s) from ss (omega (arith, few_sets)) fair days known))
 
   all_times : All (λ x. IsTimeSet s.kind x.times) (s.before ++ s.cycle)
   all_times = All-append (λ (x : DayShape). IsTimeSet s.kind x.times) s.before s.cycle valid.before_times valid.cycle_times
@@ -206,16 +222,19 @@ module _ (s : Sketch) (d : IsDescribable s) where
 
       of_lists : (b c : List DayShape) → b ≡ s.before → c ≡ s.cycle → b ++ c ≡ x ∷ xs → ⊥
       of_lists [] c eb ec f =
-          let rises : HasRisingDays s.settled (s.settled +ℤ pos s.period) (x ∷ xs) = subst (λ (l : List DayShape). HasRisingDays s.settled (s.settled +ℤ pos s.period) l) (sym ec ∙ f) valid.cycle in
+          let rises : HasRisingDays s.settled (s.settled +ℤ pos s.period) (x ∷ xs) =
+          subst (λ (l : List DayShape). HasRisingDays s.settled (s.settled +ℤ pos s.period) l) (sym ec ∙ f) valid.cycle in
           let here : times_on s x.day ≡ x.times = first_period s x.day rises.0 rises.1 ∙ ap (λ l. times_in l x.day) (sym ec ∙ f) ∙ times_in-first x xs in
           some_set s.kind x.times set (sym here ∙ none)
       of_lists (y ∷ ys) c eb ec f =
           let same : y ≡ x = ap (λ l. or_that x l) f in
-          let rises : HasRisingDays valid.before.0 s.settled (y ∷ ys) = subst (λ (l : List DayShape). HasRisingDays valid.before.0 s.settled l) (sym eb) valid.before.1 in
+          let rises : HasRisingDays valid.before.0 s.settled (y ∷ ys) =
+          subst (λ (l : List DayShape). HasRisingDays valid.before.0 s.settled l) (sym eb) valid.before.1 in
           let day : y.day ≡ x.day = ap (λ (z : DayShape). z.day) same in
           let low = rises.1 in
           let here : times_on s x.day ≡ x.times =
-          before_part s x.day (omega (arith, ints)) ∙ ap (λ l. times_in l x.day) (sym eb) ∙ ap (times_in (y ∷ ys)) (sym day) ∙ times_in-first y ys ∙ ap (λ (z : DayShape). z.times) same in
+          before_part s x.day (omega (arith, ints)) ∙ ap (λ l. times_in l x.day) (sym eb) ∙ ap (times_in (y ∷ ys)) (sym day) ∙ times_in-first y ys
+          ∙ ap (λ (z : DayShape). z.times) same in
           some_set s.kind x.times set (sym here ∙ none)
         where
           or_that : DayShape → List DayShape → DayShape
@@ -236,7 +255,8 @@ module _ (s : Sketch) (d : IsDescribable s) where
   fair_settled : IsFairDay s.settled
   fair_settled = let a = d.bounded.settled.0 in let b = d.bounded.settled.1 in (omega (arith, ints), omega (arith, ints))
 
-  ending_printed : (cs : List DayShape) → IsFromYearOne s.settled → length cs ≤ 1_000_000_000 → All (λ x. IsFairDay x.day) cs → All (λ x. IsKnown (sets_of s) x.times) cs → IsPrintedIfSome (ending_of s cs)
+  ending_printed : (cs : List DayShape) → IsFromYearOne s.settled → length cs ≤ 1_000_000_000 → All (λ x. IsFairDay x.day) cs
+      → All (λ x. IsKnown (sets_of s) x.times) cs → IsPrintedIfSome (ending_of s cs)
   ending_printed [] from few fair known = tt
   ending_printed (c ∷ cs) from few fair known = record {
     settled = printed_day s.settled from fair_settled.1;
@@ -271,7 +291,8 @@ module _ (s : Sketch) (d : IsDescribable s) where
   said_printed x xs e form = record {
     sets = printed_sets s.kind (s.before ++ s.cycle) (some_form s form) all_times;
     first = first_printed x xs e;
-    before = runs_printed x.day s.before few_before (fair_first x xs e) fair_before (All-front (λ (y : DayShape). IsKnown (sets_of s) y.times) s.before s.cycle (known_of s));
+    before = runs_printed x.day s.before few_before (fair_first x xs e) fair_before
+        (All-front (λ (y : DayShape). IsKnown (sets_of s) y.times) s.before s.cycle (known_of s));
     ending = ending_of_form form;
   }
 
@@ -290,14 +311,20 @@ equal_occurrences_of_one : (s u : Sketch) → s ≡ u → HaveEqualOccurrences (
 equal_occurrences_of_one s u e k t = subst (λ (z : Sketch). StandsIn s k t ↔ StandsIn z k t) e ((λ h. h), (λ h. h))
 
 -- whatever the first line is, and however time sets are written, as long as that tells them apart
-pub tells_sets_apart : (title : List ℕ) (set_line : List ℕ → List ℕ) → All IsInLine title → IsSetLine set_line → TellsSetsApart (λ s. text_of title set_line (descriptor s))
+pub tells_sets_apart : (title : List ℕ) (set_line : List ℕ → List ℕ) → All IsInLine title → IsSetLine set_line
+    → TellsSetsApart (λ s. text_of title set_line (descriptor s))
 tells_sets_apart title set_line ht way s u ds du = (
-  (λ e. equal_occurrences_of_one s u (descriptor_only s u ds.least du.least (text_only set_line way title (descriptor s) (descriptor u) ht (IsPrinted-descriptor s ds) (IsPrinted-descriptor u du) e))),
+  (λ e. equal_occurrences_of_one s u
+      (descriptor_only s u ds.least du.least
+      (text_only set_line way title (descriptor s) (descriptor u) ht (IsPrinted-descriptor s ds) (IsPrinted-descriptor u du) e))),
   (λ equal. ap (λ z. text_of title set_line (descriptor z)) (one_least s u ds.least du.least equal)),
 )
 
 title_in_line : All IsInLine (codes "rrcanon 1")
-title_in_line = All-from_recursion IsInLine (codes "rrcanon 1") (omega arith, (omega arith, (omega arith, (omega arith, (omega arith, (omega arith, (omega arith, (omega arith, (omega arith, tt)))))))))
+title_in_line = All-from_recursion IsInLine (codes "rrcanon 1") (
+  omega arith,
+  (omega arith, (omega arith, (omega arith, (omega arith, (omega arith, (omega arith, (omega arith, (omega arith, tt)))))))),
+)
 
 pub descriptor_text_tells : TellsSetsApart descriptor_text
 descriptor_text_tells = tells_sets_apart (codes "rrcanon 1") seconds_line title_in_line IsSetLine-seconds
@@ -305,7 +332,8 @@ descriptor_text_tells = tells_sets_apart (codes "rrcanon 1") seconds_line title_
 -- ---- answers to `canon`
 
 -- Texts of two sets of occurrences, whatever these are: the headline of canonical texts.
-pub texts_are_equal_exactly : (text : Sketch → List ℕ) → TellsSetsApart text → (P Q : Kind → ℤ → Type 0) (a b : List ℕ) → IsTextOf text P a → IsTextOf text Q b → (a ≡ b) ↔ HaveEqualOccurrences P Q
+pub texts_are_equal_exactly : (text : Sketch → List ℕ) → TellsSetsApart text → (P Q : Kind → ℤ → Type 0) (a b : List ℕ) → IsTextOf text P a
+    → IsTextOf text Q b → (a ≡ b) ↔ HaveEqualOccurrences P Q
 texts_are_equal_exactly text tells P Q a b ta tb =
     let law = tells ta.sketch tb.sketch ta.describable tb.describable in (
       (λ e k t.

@@ -13,10 +13,12 @@ use Rattle.rr_model.specs.Sets.Reading.{steps_of_runs, days_from, day_after, ske
 use Rattle.rr_word.proofs.OneLeastLemmas.{before_part, sketch_is}
 use Rattle.rr_word.proofs.SetNumberLemmas.{IsKnown, read_number, All-front, All-back}
 use Rattle.rr_word.proofs.ShapeLemmas.{int_eq-differ}
-use Rattle.rr_canon.proofs.DescriptorLemmas.{steps_of_runs-runs_of, said, descriptor_of_some, descriptor_of_none, known_of, first_and_rest, rises_from_first, some_form, cycle_some}
+use Rattle.rr_canon.proofs.DescriptorLemmas.{steps_of_runs-runs_of, said, descriptor_of_some, descriptor_of_none, known_of, first_and_rest}
+use Rattle.rr_canon.proofs.DescriptorLemmas.{rises_from_first, some_form, cycle_some}
 
 -- the days after the steps of days are these days
-days_back : (sets : List (List ℕ)) (from low high : ℤ) (ss : List DayShape) → from ≤ℤ low → HasRisingDays low high ss → All (λ s. IsKnown sets s.times) ss → days_from sets from (steps_from sets from ss) ≡ ss
+days_back : (sets : List (List ℕ)) (from low high : ℤ) (ss : List DayShape) → from ≤ℤ low → HasRisingDays low high ss → All (λ s. IsKnown sets s.times) ss
+    → days_from sets from (steps_from sets from ss) ≡ ss
 days_back sets from low high [] l r known = refl
 days_back sets from low high (s ∷ ss) l r known =
     let K : DayShape → Type 0 = λ x. IsKnown sets x.times in
@@ -35,7 +37,8 @@ day_after_is low high from (s ∷ ss) r some =
     let a = r.1 in
     let P : Type 0 = day_after (s.day +ℤ pos 1) ss ≡ high in
     by_lt_z {P = P} s.day (high -ℤ pos 1)
-    (λ l. day_after_is (s.day +ℤ pos 1) high (s.day +ℤ pos 1) ss r.2 (λ none. some (ap (λ b. cond b s.times (times_in ss (high -ℤ pos 1))) (int_eq-differ s.day (high -ℤ pos 1) (λ e. omega (arith, ints))) ∙ none)))
+    (λ l. day_after_is (s.day +ℤ pos 1) high (s.day +ℤ pos 1) ss r.2
+    (λ none. some (ap (λ b. cond b s.times (times_in ss (high -ℤ pos 1))) (int_eq-differ s.day (high -ℤ pos 1) (λ e. omega (arith, ints))) ∙ none)))
     (λ g. let last : s.day +ℤ pos 1 ≡ high = omega (arith, ints) in ends (s.day +ℤ pos 1) ss r.2 (omega (arith, ints)) ∙ last)
   where
     -- no further day fits
@@ -50,12 +53,15 @@ module _ (s : Sketch) (valid : IsValidSketch s) (x : DayShape) (xs : List DaySha
   before_back : days_from (sets_of s) x.day (steps_of_runs (runs_of (steps_from (sets_of s) x.day s.before))) ≡ s.before
   before_back =
       ap (days_from (sets_of s) x.day) (steps_of_runs-runs_of (steps_from (sets_of s) x.day s.before))
-      ∙ days_back (sets_of s) x.day x.day s.settled s.before (omega (arith, ints)) (rises_from_first valid.before.0 s.settled s.before s.cycle x xs e valid.before.1) (All-front (λ (z : DayShape). IsKnown (sets_of s) z.times) s.before s.cycle (known_of s))
+      ∙ days_back (sets_of s) x.day x.day s.settled s.before (omega (arith, ints))
+      (rises_from_first valid.before.0 s.settled s.before s.cycle x xs e valid.before.1)
+      (All-front (λ (z : DayShape). IsKnown (sets_of s) z.times) s.before s.cycle (known_of s))
 
   cycle_back : days_from (sets_of s) s.settled (steps_of_runs (runs_of (steps_from (sets_of s) s.settled s.cycle))) ≡ s.cycle
   cycle_back =
       ap (days_from (sets_of s) s.settled) (steps_of_runs-runs_of (steps_from (sets_of s) s.settled s.cycle))
-      ∙ days_back (sets_of s) s.settled s.settled (s.settled +ℤ pos s.period) s.cycle (omega (arith, ints)) valid.cycle (All-back (λ (z : DayShape). IsKnown (sets_of s) z.times) s.before s.cycle (known_of s))
+      ∙ days_back (sets_of s) s.settled s.settled (s.settled +ℤ pos s.period) s.cycle (omega (arith, ints)) valid.cycle
+      (All-back (λ (z : DayShape). IsKnown (sets_of s) z.times) s.before s.cycle (known_of s))
 
   finite_back : IsLeastOfFinite s → sketch_described (Some (said s x)) ≡ s
   unfolding said
@@ -63,7 +69,8 @@ module _ (s : Sketch) (valid : IsValidSketch s) (x : DayShape) (xs : List DaySha
       let ending : ending_of s s.cycle ≡ None = ap (ending_of s) a.cycle in
       let last : times_in s.before (s.settled -ℤ pos 1) ≡ [] → ⊥ = λ none. a.last (before_part s (s.settled -ℤ pos 1) (omega (arith, ints)) ∙ none) in
       ap (sketch_with (said s x)) ending
-      ∙ sketch_is (sketch_with (said s x) None) s refl before_back (ap (day_after x.day) before_back ∙ day_after_is valid.before.0 s.settled x.day s.before valid.before.1 last) (sym a.period) (sym a.cycle)
+      ∙ sketch_is (sketch_with (said s x) None) s refl before_back (ap (day_after x.day) before_back
+      ∙ day_after_is valid.before.0 s.settled x.day s.before valid.before.1 last) (sym a.period) (sym a.cycle)
 
   endless_back : (s.cycle ≡ [] → ⊥) → sketch_described (Some (said s x)) ≡ s
   unfolding said
@@ -72,7 +79,8 @@ module _ (s : Sketch) (valid : IsValidSketch s) (x : DayShape) (xs : List DaySha
       ap (sketch_with (said s x)) (ending_is s.cycle refl some)
       ∙ sketch_is (sketch_with (said s x) (Some end)) s refl before_back refl refl cycle_back
     where
-      ending_is : (cs : List DayShape) → s.cycle ≡ cs → (s.cycle ≡ [] → ⊥) → ending_of s s.cycle ≡ Some (record { settled = s.settled; period = s.period; cycle = runs_of (steps_from (sets_of s) s.settled s.cycle) })
+      ending_is : (cs : List DayShape) → s.cycle ≡ cs → (s.cycle ≡ [] → ⊥)
+          → ending_of s s.cycle ≡ Some (record { settled = s.settled; period = s.period; cycle = runs_of (steps_from (sets_of s) s.settled s.cycle) })
       ending_is [] f some = absurd (some f)
       ending_is (c ∷ cs) f some =
           ap (ending_of s) f ∙ ap (λ l. Some (record { settled = s.settled; period = s.period; cycle = runs_of (steps_from (sets_of s) s.settled l) })) (sym f)
@@ -81,7 +89,8 @@ module _ (s : Sketch) (valid : IsValidSketch s) (x : DayShape) (xs : List DaySha
 pub descriptor_reads_back : (s : Sketch) → IsLeastSketch s → sketch_described (descriptor s) ≡ s
 descriptor_reads_back s least =
     elim least.form [
-      | inl a ↦ ap sketch_described (descriptor_of_none s a.before a.cycle) ∙ sketch_is (sketch_described None) s (sym a.kind) (sym a.before) (sym a.settled) (sym a.period) (sym a.cycle)
+      | inl a ↦ ap sketch_described (descriptor_of_none s a.before a.cycle)
+          ∙ sketch_is (sketch_described None) s (sym a.kind) (sym a.before) (sym a.settled) (sym a.period) (sym a.cycle)
       | inr form ↦
           let (x, xs, e) = first_and_rest (s.before ++ s.cycle) (some_form s form) in
           ap sketch_described (descriptor_of_some s x xs e) ∙ (elim form [

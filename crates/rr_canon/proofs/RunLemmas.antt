@@ -25,25 +25,43 @@ same_test : (a c : ℕ) → ((a == a) && (c == c)) ≡ true
 same_test a c = ap (λ x. x && (c == c)) (eqb-same a) ∙ eqb-same c
 
 -- a step of the same kind makes the open run longer
-pub run_goes_on : (g n k g' n' : ℕ) (rs : List Run) → g' ≡ g → n' ≡ n → with_run (record { gap = g; set = n; count = k }) (with_step (record { gap = g'; set = n' }) rs) ≡ with_run (record { gap = g; set = n; count = k + 1 }) rs
-run_goes_on g n k g' n' rs eg en = subst (λ x. with_run (record { gap = g; set = n; count = k }) (with_step (record { gap = x; set = n' }) rs) ≡ with_run (record { gap = g; set = n; count = k + 1 }) rs) (sym eg) (subst (λ y. with_run (record { gap = g; set = n; count = k }) (with_step (record { gap = g; set = y }) rs) ≡ with_run (record { gap = g; set = n; count = k + 1 }) rs) (sym en) (here rs))
+pub run_goes_on : (g n k g' n' : ℕ) (rs : List Run) → g' ≡ g → n' ≡ n
+    → with_run (record { gap = g; set = n; count = k }) (with_step (record { gap = g'; set = n' }) rs)
+    ≡ with_run (record { gap = g; set = n; count = k + 1 }) rs
+run_goes_on g n k g' n' rs eg en =
+    subst (λ x. with_run (record { gap = g; set = n; count = k }) (with_step (record { gap = x; set = n' }) rs)
+    ≡ with_run (record { gap = g; set = n; count = k + 1 }) rs) (sym eg)
+    (subst (λ y. with_run (record { gap = g; set = n; count = k }) (with_step (record { gap = g; set = y }) rs)
+    ≡ with_run (record { gap = g; set = n; count = k + 1 }) rs) (sym en) (here rs))
   where
-    here : (rs : List Run) → with_run (record { gap = g; set = n; count = k }) (with_step (record { gap = g; set = n }) rs) ≡ with_run (record { gap = g; set = n; count = k + 1 }) rs
+    here : (rs : List Run) → with_run (record { gap = g; set = n; count = k }) (with_step (record { gap = g; set = n }) rs)
+        ≡ with_run (record { gap = g; set = n; count = k + 1 }) rs
     here [] =
         let one : 1 + k ≡ k + 1 = omega arith in
-        ap (λ (b : Bool). cond b (record { gap = g; set = n; count = 1 + k } ∷ []) (record { gap = g; set = n; count = k } ∷ record { gap = g; set = n; count = 1 } ∷ [])) (same_test g n) ∙ ap (λ c. record { gap = g; set = n; count = c } ∷ []) one
+        ap (λ (b : Bool). cond b (record { gap = g; set = n; count = 1 + k } ∷ [])
+        (record { gap = g; set = n; count = k } ∷ record { gap = g; set = n; count = 1 } ∷ [])) (same_test g n)
+        ∙ ap (λ c. record { gap = g; set = n; count = c } ∷ []) one
     here (r ∷ rs) =
-        elim ((g == r.gap) && (n == r.set)) as (λ b. ((g == r.gap) && (n == r.set)) ≡ b → with_run (record { gap = g; set = n; count = k }) (cond b (record { gap = r.gap; set = r.set; count = r.count + 1 } ∷ rs) (record { gap = g; set = n; count = 1 } ∷ r ∷ rs)) ≡ cond b (record { gap = r.gap; set = r.set; count = r.count + (k + 1) } ∷ rs) (record { gap = g; set = n; count = k + 1 } ∷ r ∷ rs)) [
+        elim ((g == r.gap) && (n == r.set)) as (λ b. ((g == r.gap) && (n == r.set)) ≡ b
+        → with_run (record { gap = g; set = n; count = k })
+        (cond b (record { gap = r.gap; set = r.set; count = r.count + 1 } ∷ rs) (record { gap = g; set = n; count = 1 } ∷ r ∷ rs))
+        ≡ cond b (record { gap = r.gap; set = r.set; count = r.count + (k + 1) } ∷ rs) (record { gap = g; set = n; count = k + 1 } ∷ r ∷ rs)) [
           | true ↦ λ e.
               let more : r.count + 1 + k ≡ r.count + (k + 1) = omega arith in
-              ap (λ (b : Bool). cond b (record { gap = r.gap; set = r.set; count = r.count + 1 + k } ∷ rs) (record { gap = g; set = n; count = k } ∷ record { gap = r.gap; set = r.set; count = r.count + 1 } ∷ rs)) e ∙ ap (λ c. record { gap = r.gap; set = r.set; count = c } ∷ rs) more
+              ap (λ (b : Bool). cond b (record { gap = r.gap; set = r.set; count = r.count + 1 + k } ∷ rs)
+              (record { gap = g; set = n; count = k } ∷ record { gap = r.gap; set = r.set; count = r.count + 1 } ∷ rs)) e
+              ∙ ap (λ c. record { gap = r.gap; set = r.set; count = c } ∷ rs) more
           | false ↦ λ e.
               let one : 1 + k ≡ k + 1 = omega arith in
-              ap (λ (b : Bool). cond b (record { gap = g; set = n; count = 1 + k } ∷ r ∷ rs) (record { gap = g; set = n; count = k } ∷ record { gap = g; set = n; count = 1 } ∷ r ∷ rs)) (same_test g n) ∙ ap (λ c. record { gap = g; set = n; count = c } ∷ r ∷ rs) one
+              ap (λ (b : Bool). cond b (record { gap = g; set = n; count = 1 + k } ∷ r ∷ rs)
+              (record { gap = g; set = n; count = k } ∷ record { gap = g; set = n; count = 1 } ∷ r ∷ rs)) (same_test g n)
+              ∙ ap (λ c. record { gap = g; set = n; count = c } ∷ r ∷ rs) one
         ] refl
 
 -- another step ends it
-pub run_ends : (g n k g' n' : ℕ) (rs : List Run) → ((g' ≡ g) × (n' ≡ n) → ⊥) → with_run (record { gap = g; set = n; count = k }) (with_step (record { gap = g'; set = n' }) rs) ≡ record { gap = g; set = n; count = k } ∷ with_run (record { gap = g'; set = n'; count = 1 }) rs
+pub run_ends : (g n k g' n' : ℕ) (rs : List Run) → ((g' ≡ g) × (n' ≡ n) → ⊥)
+    → with_run (record { gap = g; set = n; count = k }) (with_step (record { gap = g'; set = n' }) rs)
+    ≡ record { gap = g; set = n; count = k } ∷ with_run (record { gap = g'; set = n'; count = 1 }) rs
 run_ends g n k g' n' rs differ = here rs
   where
     apart : (a b : ℕ) → a ≡ g' → b ≡ n' → ((g == a) && (n == b)) ≡ false
@@ -53,14 +71,23 @@ run_ends g n k g' n' rs differ = here rs
           | false ↦ λ e. refl
         ] refl
 
-    here : (rs : List Run) → with_run (record { gap = g; set = n; count = k }) (with_step (record { gap = g'; set = n' }) rs) ≡ record { gap = g; set = n; count = k } ∷ with_run (record { gap = g'; set = n'; count = 1 }) rs
+    here : (rs : List Run) → with_run (record { gap = g; set = n; count = k }) (with_step (record { gap = g'; set = n' }) rs)
+        ≡ record { gap = g; set = n; count = k } ∷ with_run (record { gap = g'; set = n'; count = 1 }) rs
     here [] =
-        ap (λ (b : Bool). cond b (record { gap = g'; set = n'; count = 1 + k } ∷ []) (record { gap = g; set = n; count = k } ∷ record { gap = g'; set = n'; count = 1 } ∷ [])) (apart g' n' refl refl)
+        ap (λ (b : Bool). cond b (record { gap = g'; set = n'; count = 1 + k } ∷ [])
+        (record { gap = g; set = n; count = k } ∷ record { gap = g'; set = n'; count = 1 } ∷ [])) (apart g' n' refl refl)
     here (r ∷ rs) =
-        elim ((g' == r.gap) && (n' == r.set)) as (λ b. ((g' == r.gap) && (n' == r.set)) ≡ b → with_run (record { gap = g; set = n; count = k }) (cond b (record { gap = r.gap; set = r.set; count = r.count + 1 } ∷ rs) (record { gap = g'; set = n'; count = 1 } ∷ r ∷ rs)) ≡ record { gap = g; set = n; count = k } ∷ cond b (record { gap = r.gap; set = r.set; count = r.count + 1 } ∷ rs) (record { gap = g'; set = n'; count = 1 } ∷ r ∷ rs)) [
+        elim ((g' == r.gap) && (n' == r.set)) as (λ b. ((g' == r.gap) && (n' == r.set)) ≡ b
+        → with_run (record { gap = g; set = n; count = k })
+        (cond b (record { gap = r.gap; set = r.set; count = r.count + 1 } ∷ rs) (record { gap = g'; set = n'; count = 1 } ∷ r ∷ rs))
+        ≡ record { gap = g; set = n; count = k } ∷ cond b (record { gap = r.gap; set = r.set; count = r.count + 1 } ∷ rs)
+        (record { gap = g'; set = n'; count = 1 } ∷ r ∷ rs)) [
           | true ↦ λ e.
               let s = same_fields g' r.gap n' r.set e in
-              ap (λ (b : Bool). cond b (record { gap = r.gap; set = r.set; count = r.count + 1 + k } ∷ rs) (record { gap = g; set = n; count = k } ∷ record { gap = r.gap; set = r.set; count = r.count + 1 } ∷ rs)) (apart r.gap r.set (sym s.0) (sym s.1))
+              ap (λ (b : Bool). cond b (record { gap = r.gap; set = r.set; count = r.count + 1 + k } ∷ rs)
+              (record { gap = g; set = n; count = k } ∷ record { gap = r.gap; set = r.set; count = r.count + 1 } ∷ rs))
+              (apart r.gap r.set (sym s.0) (sym s.1))
           | false ↦ λ e.
-              ap (λ (b : Bool). cond b (record { gap = g'; set = n'; count = 1 + k } ∷ r ∷ rs) (record { gap = g; set = n; count = k } ∷ record { gap = g'; set = n'; count = 1 } ∷ r ∷ rs)) (apart g' n' refl refl)
+              ap (λ (b : Bool). cond b (record { gap = g'; set = n'; count = 1 + k } ∷ r ∷ rs)
+              (record { gap = g; set = n; count = k } ∷ record { gap = g'; set = n'; count = 1 } ∷ r ∷ rs)) (apart g' n' refl refl)
         ] refl

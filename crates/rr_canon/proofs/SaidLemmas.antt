@@ -26,26 +26,32 @@ shapes_of-append : (sets : List (List ℕ)) (xs ys : List NumberedDay) → shape
 shapes_of-append sets [] ys = refl
 shapes_of-append sets (x ∷ xs) ys = ap (λ l. record { day = x.day; times = get_or sets x.number [] } ∷ l) (shapes_of-append sets xs ys)
 
-module _ (kind : Kind) (sets : List (List ℕ)) (before : List NumberedDay) (settled : ℤ) (period : ℕ) (cycle : List NumberedDay) (kept : IsKept sets before cycle) where
+module _ (kind : Kind) (sets : List (List ℕ)) (before : List NumberedDay) (settled : ℤ) (period : ℕ) (cycle : List NumberedDay)
+    (kept : IsKept sets before cycle) where
   same_sets : sets_of (sketch_of kind sets before settled period cycle) ≡ sets
   unfolding sets_of
   same_sets = sym kept.sets_in_order
 
-  steps_kept : (days : List NumberedDay) (from : ℤ) → days ≡ numbered sets (shapes_of sets days) → steps_from (sets_of (sketch_of kind sets before settled period cycle)) from (shapes_of sets days) ≡ steps_by_number from days
-  steps_kept days from e = ap (λ l. steps_from l from (shapes_of sets days)) same_sets ∙ steps_of_numbered sets from (shapes_of sets days) ∙ ap (steps_by_number from) (sym e)
+  steps_kept : (days : List NumberedDay) (from : ℤ) → days ≡ numbered sets (shapes_of sets days)
+      → steps_from (sets_of (sketch_of kind sets before settled period cycle)) from (shapes_of sets days) ≡ steps_by_number from days
+  steps_kept days from e = ap (λ l. steps_from l from (shapes_of sets days)) same_sets ∙ steps_of_numbered sets from (shapes_of sets days)
+      ∙ ap (steps_by_number from) (sym e)
 
-  ending_kept : (days : List NumberedDay) → days ≡ numbered sets (shapes_of sets days) → ending_of (sketch_of kind sets before settled period cycle) (shapes_of sets days) ≡ ending_said settled period days
+  ending_kept : (days : List NumberedDay) → days ≡ numbered sets (shapes_of sets days)
+      → ending_of (sketch_of kind sets before settled period cycle) (shapes_of sets days) ≡ ending_said settled period days
   ending_kept [] e = refl
   ending_kept (x ∷ xs) e = ap (λ l. Some (record { settled = settled; period = period; cycle = runs_of l })) (steps_kept (x ∷ xs) settled e)
 
-  described_kept : (l : List NumberedDay) → described (sketch_of kind sets before settled period cycle) (shapes_of sets l) ≡ said_of kind sets before settled period cycle (first_in l)
+  described_kept : (l : List NumberedDay)
+      → described (sketch_of kind sets before settled period cycle) (shapes_of sets l) ≡ said_of kind sets before settled period cycle (first_in l)
   described_kept [] = refl
   described_kept (x ∷ xs) =
       let runs = steps_kept before x.day kept.before_numbers in
       let end = ending_kept cycle kept.cycle_numbers in
       λ i. Some (record { kind = kind; sets = same_sets i; first = x.day; before = runs_of (runs i); ending = end i })
 
-  pub descriptor_kept : descriptor (sketch_of kind sets before settled period cycle) ≡ said_of kind sets before settled period cycle (first_in (before ++ cycle))
+  pub descriptor_kept : descriptor (sketch_of kind sets before settled period cycle)
+      ≡ said_of kind sets before settled period cycle (first_in (before ++ cycle))
   unfolding descriptor
   descriptor_kept = ap (described (sketch_of kind sets before settled period cycle)) (shapes_of-append sets before cycle) ∙ described_kept (before ++ cycle)
 
@@ -54,7 +60,9 @@ module _ (kind : Kind) (sets : List (List ℕ)) (before : List NumberedDay) (set
 IsPrintedDay-prop : (d : ℤ) → IsProp (IsPrintedDay d)
 IsPrintedDay-prop d = hlevel props
 
-module _ (kind : Kind) (sets : List (List ℕ)) (before : List NumberedDay) (settled : ℤ) (period : ℕ) (cycle : List NumberedDay) (bounded : IsBounded (sketch_of kind sets before settled period cycle)) (least : ∥ IsLeastSketch (sketch_of kind sets before settled period cycle) ∥₁) (from : HasNoneBeforeYearOne (sketch_of kind sets before settled period cycle)) where
+module _ (kind : Kind) (sets : List (List ℕ)) (before : List NumberedDay) (settled : ℤ) (period : ℕ) (cycle : List NumberedDay)
+    (bounded : IsBounded (sketch_of kind sets before settled period cycle)) (least : ∥ IsLeastSketch (sketch_of kind sets before settled period cycle) ∥₁)
+    (from : HasNoneBeforeYearOne (sketch_of kind sets before settled period cycle)) where
   describable : IsLeastSketch (sketch_of kind sets before settled period cycle) → IsDescribable (sketch_of kind sets before settled period cycle)
   describable l = record { least = l; bounded = IsDaySequence-bounded (sketch_of kind sets before settled period cycle) bounded; from_year_one = from }
 
@@ -63,7 +71,9 @@ module _ (kind : Kind) (sets : List (List ℕ)) (before : List NumberedDay) (set
   first_of (x ∷ xs) d e f =
       let shapes = shapes_of-append sets before cycle ∙ ap (shapes_of sets) e in
       let day : d ≡ x.day = ap (or_that d) f in
-      rw day (∥∥₁_elim least (IsPrintedDay-prop x.day) (λ l. first_printed (sketch_of kind sets before settled period cycle) (describable l) (record { day = x.day; times = get_or sets x.number [] }) (shapes_of sets xs) shapes))
+      rw day (∥∥₁_elim least (IsPrintedDay-prop x.day)
+      (λ l. first_printed (sketch_of kind sets before settled period cycle) (describable l) (record { day = x.day; times = get_or sets x.number [] })
+      (shapes_of sets xs) shapes))
     where
       or_that : ℤ → Option ℤ → ℤ
       or_that z None = z
@@ -74,7 +84,8 @@ module _ (kind : Kind) (sets : List (List ℕ)) (before : List NumberedDay) (set
 
   pub settled_can_be_printed : (cycle ≡ [] → ⊥) → IsPrintedDay settled
   settled_can_be_printed some =
-      ∥∥₁_elim least (IsPrintedDay-prop settled) (λ l. settled_printed (sketch_of kind sets before settled period cycle) (describable l) (some_shapes cycle some))
+      ∥∥₁_elim least (IsPrintedDay-prop settled)
+      (λ l. settled_printed (sketch_of kind sets before settled period cycle) (describable l) (some_shapes cycle some))
     where
       some_shapes : (days : List NumberedDay) → (days ≡ [] → ⊥) → shapes_of sets days ≡ [] → ⊥
       some_shapes [] h e = h refl
@@ -82,16 +93,19 @@ module _ (kind : Kind) (sets : List (List ℕ)) (before : List NumberedDay) (set
 
 -- ---- the text
 
-pub whole_text : (s : Sketch) (title : List ℕ) (x0 x1 x2 : List ℕ) → x0 ≡ [] → title ≡ codes "rrcanon 1" → x1 ≡ x0 ++ text_of_lines (title ∷ []) → x2 ≡ x1 ++ text_of_lines (lines_of seconds_line (descriptor s)) → x2 ≡ descriptor_text s
+pub whole_text : (s : Sketch) (title : List ℕ) (x0 x1 x2 : List ℕ) → x0 ≡ [] → title ≡ codes "rrcanon 1" → x1 ≡ x0 ++ text_of_lines (title ∷ [])
+    → x2 ≡ x1 ++ text_of_lines (lines_of seconds_line (descriptor s)) → x2 ≡ descriptor_text s
 unfolding text_of
 whole_text s title x0 x1 x2 e0 et e1 e2 =
     e2 ∙ ap (λ t. t ++ text_of_lines (lines_of seconds_line (descriptor s))) (e1 ∙ ap (λ t. t ++ text_of_lines (title ∷ [])) e0)
     ∙ sym (text_of_lines-append (title ∷ []) (lines_of seconds_line (descriptor s)))
     ∙ ap (λ t. text_of_lines (t ∷ lines_of seconds_line (descriptor s))) et
 
-pub none_text : (s : Sketch) (said : Option Described) (word old new : List ℕ) → descriptor s ≡ said → said ≡ None → word ≡ codes "none" → new ≡ old ++ text_of_lines (word ∷ []) → new ≡ old ++ text_of_lines (lines_of seconds_line (descriptor s))
+pub none_text : (s : Sketch) (said : Option Described) (word old new : List ℕ) → descriptor s ≡ said → said ≡ None → word ≡ codes "none"
+    → new ≡ old ++ text_of_lines (word ∷ []) → new ≡ old ++ text_of_lines (lines_of seconds_line (descriptor s))
 none_text s said word old new ed es ew e =
     e ∙ ap (λ w. old ++ text_of_lines (w ∷ [])) ew ∙ ap (λ d. old ++ text_of_lines (lines_of seconds_line d)) (sym (ed ∙ es))
 
-pub some_text : (s : Sketch) (said : Option Described) (old new : List ℕ) → descriptor s ≡ said → new ≡ old ++ text_of_lines (lines_of seconds_line said) → new ≡ old ++ text_of_lines (lines_of seconds_line (descriptor s))
+pub some_text : (s : Sketch) (said : Option Described) (old new : List ℕ) → descriptor s ≡ said → new ≡ old ++ text_of_lines (lines_of seconds_line said)
+    → new ≡ old ++ text_of_lines (lines_of seconds_line (descriptor s))
 some_text s said old new ed e = e ∙ ap (λ d. old ++ text_of_lines (lines_of seconds_line d)) (sym ed)

@@ -1,5 +1,6 @@
 -- Version 2 tells time sets apart: the items of a list give it back, and items are told apart by their texts.
-use Rattle.std.proofs.Common.{◌≡◌, ℕ, zero, suc, ◌+◌, ◌-◌, ◌≤◌, ◌==◌, true, false, cond, eqb-true, List, [], ◌∷◌, ◌++◌, length, drop, take, refl, sym, ap, ◌∙◌, arith}
+use Rattle.std.proofs.Common.{◌≡◌, ℕ, zero, suc, ◌+◌, ◌-◌, ◌≤◌, ◌==◌, true, false, cond, eqb-true, List, [], ◌∷◌, ◌++◌, length, drop, take, refl, sym, ap}
+use Rattle.std.proofs.Common.{◌∙◌, arith}
 use Rattle.std.specs.Prelude.{codes, nat_le}
 use Rattle.std.specs.Fmt.{digits}
 use Rattle.std.proofs.lemmas.List.{take-append-drop}
@@ -24,7 +25,8 @@ every_seventh_hour = refl
 row_is : (before step : ℕ) (xs : List ℕ) → seconds_from (before + step) step (row_after before step xs) ≡ take (row_after before step xs) xs
 row_is before step [] = refl
 row_is before step (x ∷ xs) =
-    elim (x == before + step) as (λ b. (x == before + step) ≡ b → seconds_from (before + step) step (cond b (row_after x step xs + 1) 0) ≡ take (cond b (row_after x step xs + 1) 0) (x ∷ xs)) [
+    elim (x == before + step) as (λ b. (x == before + step) ≡ b
+    → seconds_from (before + step) step (cond b (row_after x step xs + 1) 0) ≡ take (cond b (row_after x step xs + 1) 0) (x ∷ xs)) [
       | true ↦ λ e.
           let is : x ≡ before + step = eqb-true x (before + step) e in
           let more : row_after x step xs + 1 ≡ suc (row_after x step xs) = omega arith in
@@ -40,13 +42,18 @@ single_given : (s : ℕ) (xs : List ℕ) → seconds_from s 0 1 ++ drop (1 - 1) 
 single_given s xs = refl
 
 -- the first item gives as many seconds as it takes
-first_given : (s : ℕ) (xs : List ℕ) → seconds_from (first_stretch s xs).start (first_stretch s xs).step (first_stretch s xs).count ++ drop ((first_stretch s xs).count - 1) xs ≡ s ∷ xs
+first_given : (s : ℕ) (xs : List ℕ)
+    → seconds_from (first_stretch s xs).start (first_stretch s xs).step (first_stretch s xs).count ++ drop ((first_stretch s xs).count - 1) xs ≡ s ∷ xs
 first_given s [] = refl
 first_given s (x ∷ []) = refl
 first_given s (x ∷ y ∷ ys) =
     let step = x - s in
     let n = row_after s step (x ∷ y ∷ ys) in
-    elim (nat_le 3 (n + 1)) as (λ b. seconds_from (cond b (record { start = s; step = step; count = n + 1 }) (single s)).start (cond b (record { start = s; step = step; count = n + 1 }) (single s)).step (cond b (record { start = s; step = step; count = n + 1 }) (single s)).count ++ drop ((cond b (record { start = s; step = step; count = n + 1 }) (single s)).count - 1) (x ∷ y ∷ ys) ≡ s ∷ x ∷ y ∷ ys) [
+    elim (nat_le 3 (n + 1)) as
+    (λ b. seconds_from (cond b (record { start = s; step = step; count = n + 1 }) (single s)).start
+    (cond b (record { start = s; step = step; count = n + 1 }) (single s)).step
+    (cond b (record { start = s; step = step; count = n + 1 }) (single s)).count
+    ++ drop ((cond b (record { start = s; step = step; count = n + 1 }) (single s)).count - 1) (x ∷ y ∷ ys) ≡ s ∷ x ∷ y ∷ ys) [
       | true ↦
           let more : n + 1 ≡ suc n = omega arith in
           let back : n + 1 - 1 ≡ n = omega arith in

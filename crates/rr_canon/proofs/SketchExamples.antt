@@ -63,7 +63,8 @@ none = refl
 
 -- version 2 writes time sets by stretches
 second_version : second_descriptor_text hours ≡ codes "rrcanon 2\nmoments\nt 32400\nt 0\nf 1970-01-02\nb 0 0 1\nq 1970-01-03 2\nc 0 1 1\n"
-unfolding descriptor runs_of sets_of text_of text_of_lines fields items_text stretches_within extended_date_text digits first_day_of_year days_of_months year_of days_into_year months_over month_of day_of_month
+unfolding descriptor runs_of sets_of text_of text_of_lines fields items_text stretches_within extended_date_text digits first_day_of_year days_of_months
+    year_of days_into_year months_over month_of day_of_month
 second_version = refl
 
 -- and stretches say the seconds that they were made of

@@ -45,7 +45,8 @@ lines_only [] (m ∷ ms) hl hm e = absurd (omega (arith, ap length e, length-app
 lines_only (l ∷ ls) [] hl hm e = absurd (omega (arith, ap length e, length-append l (10 ∷ text_of_lines ls)))
 lines_only (l ∷ ls) (m ∷ ms) hl hm e =
     let Q : List ℕ → Type 0 = λ x. All IsInLine x in
-    let parts = split_only IsInLine l m (10 ∷ text_of_lines ls) (10 ∷ text_of_lines ms) (All-head Q l ls hl) (All-head Q m ms hm) (λ h. omega arith) (λ h. omega arith) e in
+    let parts = split_only IsInLine l m (10 ∷ text_of_lines ls) (10 ∷ text_of_lines ms) (All-head Q l ls hl) (All-head Q m ms hm) (λ h. omega arith)
+    (λ h. omega arith) e in
     let first = parts.0 in
     let rest : ls ≡ ms = lines_only ls ms (All-tail Q l ls hl) (All-tail Q m ms hm) (rest_same 10 10 (text_of_lines ls) (text_of_lines ms) parts.1) in
     cc
@@ -58,7 +59,8 @@ IsInField b = 33 ≤ b
 
 pub decimal_in_field : (n : ℕ) → n < 2 ^ 64 → All IsInField (decimal n)
 decimal_in_field =
-    decimal_by_steps (λ n ds. All IsInField ds) (λ n h. All-cons IsInField (48 + n) [] (omega arith) (All-nil IsInField)) (λ n ds h before. All-append IsInField ds _ before (All-cons IsInField _ [] (omega arith) (All-nil IsInField)))
+    decimal_by_steps (λ n ds. All IsInField ds) (λ n h. All-cons IsInField (48 + n) [] (omega arith) (All-nil IsInField))
+    (λ n ds h before. All-append IsInField ds _ before (All-cons IsInField _ [] (omega arith) (All-nil IsInField)))
 
 pub fields_stop : (ns : List ℕ) → Stops IsInField (fields ns)
 unfolding fields
@@ -73,7 +75,8 @@ fields_only (n ∷ ns) [] hn hm e = absurd (omega (arith, ap length e))
 fields_only (n ∷ ns) (m ∷ ms) hn hm e =
     let of_n = All-head IsPrintedNumber n ns hn in
     let of_m = All-head IsPrintedNumber m ms hm in
-    let parts = split_only IsInField (decimal n) (decimal m) (fields ns) (fields ms) (decimal_in_field n of_n) (decimal_in_field m of_m) (fields_stop ns) (fields_stop ms) (rest_same 32 32 (decimal n ++ fields ns) (decimal m ++ fields ms) e) in
+    let parts = split_only IsInField (decimal n) (decimal m) (fields ns) (fields ms) (decimal_in_field n of_n) (decimal_in_field m of_m) (fields_stop ns)
+    (fields_stop ms) (rest_same 32 32 (decimal n ++ fields ns) (decimal m ++ fields ms) e) in
     let first : n ≡ m = decimal_injective n m of_n of_m parts.0 in
     let rest : ns ≡ ms = fields_only ns ms (All-tail IsPrintedNumber n ns hn) (All-tail IsPrintedNumber m ms hm) parts.1 in
     cc
@@ -89,4 +92,6 @@ pub fields_in_line : (ns : List ℕ) → All IsPrintedNumber ns → All IsInLine
 unfolding fields
 fields_in_line [] h = All-nil IsInLine
 fields_in_line (n ∷ ns) h =
-    All-cons IsInLine 32 (decimal n ++ fields ns) (omega arith) (All-append IsInLine (decimal n) (fields ns) (in_line (decimal n) (decimal_in_field n (All-head IsPrintedNumber n ns h))) (fields_in_line ns (All-tail IsPrintedNumber n ns h)))
+    All-cons IsInLine 32 (decimal n ++ fields ns) (omega arith)
+    (All-append IsInLine (decimal n) (fields ns) (in_line (decimal n) (decimal_in_field n (All-head IsPrintedNumber n ns h)))
+    (fields_in_line ns (All-tail IsPrintedNumber n ns h)))

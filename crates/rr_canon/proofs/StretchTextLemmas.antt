@@ -1,5 +1,6 @@
 -- Lines of version 2 tell time sets apart.
-use Rattle.std.proofs.Common.{◌≡◌, ◌⊎◌, ℕ, zero, suc, ◌+◌, ◌-◌, ◌<◌, ◌≤◌, ◌^◌, ◌==◌, true, false, cond, eqb-true, List, [], ◌∷◌, ◌++◌, length, drop, append_assoc, inl, inr, refl, sym, ap, ◌∙◌, arith}
+use Rattle.std.proofs.Common.{◌≡◌, ◌⊎◌, ℕ, zero, suc, ◌+◌, ◌-◌, ◌<◌, ◌≤◌, ◌^◌, ◌==◌, true, false, cond, eqb-true, List, [], ◌∷◌, ◌++◌, length, drop}
+use Rattle.std.proofs.Common.{append_assoc, inl, inr, refl, sym, ap, ◌∙◌, arith}
 use Rattle.std.specs.Prelude.{codes, nat_lt, nat_le}
 use Rattle.std.specs.Fmt.{decimal}
 use Rattle.std.specs.List.{All}
@@ -32,7 +33,8 @@ IsDigitByte b = 48 ≤ b
 
 decimal_digits : (n : ℕ) → n < 2 ^ 64 → All IsDigitByte (decimal n)
 decimal_digits =
-    decimal_by_steps (λ n ds. All IsDigitByte ds) (λ n h. All-cons IsDigitByte (48 + n) [] (omega arith) (All-nil IsDigitByte)) (λ n ds h before. All-append IsDigitByte ds _ before (All-cons IsDigitByte _ [] (omega arith) (All-nil IsDigitByte)))
+    decimal_by_steps (λ n ds. All IsDigitByte ds) (λ n h. All-cons IsDigitByte (48 + n) [] (omega arith) (All-nil IsDigitByte))
+    (λ n ds h before. All-append IsDigitByte ds _ before (All-cons IsDigitByte _ [] (omega arith) (All-nil IsDigitByte)))
 
 -- what stands after the start
 after : Stretch → List ℕ
@@ -41,7 +43,8 @@ after x = cond (x.count == 1) [] ((47 ∷ decimal x.step) ++ (47 ∷ decimal x.c
 item_parts : (x : Stretch) → item_text x ≡ decimal x.start ++ after x
 unfolding after
 item_parts x =
-    elim (x.count == 1) as (λ b. cond b (decimal x.start) (decimal x.start ++ (47 ∷ decimal x.step) ++ (47 ∷ decimal x.count)) ≡ decimal x.start ++ cond b [] ((47 ∷ decimal x.step) ++ (47 ∷ decimal x.count))) [
+    elim (x.count == 1) as (λ b. cond b (decimal x.start) (decimal x.start ++ (47 ∷ decimal x.step) ++ (47 ∷ decimal x.count))
+    ≡ decimal x.start ++ cond b [] ((47 ∷ decimal x.step) ++ (47 ∷ decimal x.count))) [
       | true ↦ sym (append-nil (decimal x.start))
       | false ↦ append_assoc (decimal x.start) (47 ∷ decimal x.step) (47 ∷ decimal x.count)
     ]
@@ -64,9 +67,12 @@ step_of_single x h one = elim h.form [ inl f ↦ f.1 | inr f ↦ absurd (omega a
 after_only : (x y : Stretch) → IsItem x → IsItem y → after x ≡ after y → (x.step ≡ y.step) × (x.count ≡ y.count)
 unfolding after
 after_only x y hx hy e =
-    (elim (x.count == 1) as (λ b. (x.count == 1) ≡ b → cond b [] ((47 ∷ decimal x.step) ++ (47 ∷ decimal x.count)) ≡ cond (y.count == 1) [] ((47 ∷ decimal y.step) ++ (47 ∷ decimal y.count)) → (x.step ≡ y.step) × (x.count ≡ y.count)) [
+    (elim (x.count == 1) as (λ b. (x.count == 1) ≡ b
+    → cond b [] ((47 ∷ decimal x.step) ++ (47 ∷ decimal x.count)) ≡ cond (y.count == 1) [] ((47 ∷ decimal y.step) ++ (47 ∷ decimal y.count))
+    → (x.step ≡ y.step) × (x.count ≡ y.count)) [
       | true ↦ λ f.
-          (elim (y.count == 1) as (λ b. (y.count == 1) ≡ b → [] ≡ cond b [] ((47 ∷ decimal y.step) ++ (47 ∷ decimal y.count)) → (x.step ≡ y.step) × (x.count ≡ y.count)) [
+          (elim (y.count == 1) as (λ b. (y.count == 1) ≡ b → [] ≡ cond b [] ((47 ∷ decimal y.step) ++ (47 ∷ decimal y.count))
+          → (x.step ≡ y.step) × (x.count ≡ y.count)) [
             | true ↦ λ g h.
                 let one = eqb-true x.count 1 f in
                 let other = eqb-true y.count 1 g in
@@ -74,17 +80,21 @@ after_only x y hx hy e =
             | false ↦ λ g h. absurd (omega (arith, ap length h))
           ] refl)
       | false ↦ λ f.
-          (elim (y.count == 1) as (λ b. (y.count == 1) ≡ b → (47 ∷ decimal x.step) ++ (47 ∷ decimal x.count) ≡ cond b [] ((47 ∷ decimal y.step) ++ (47 ∷ decimal y.count)) → (x.step ≡ y.step) × (x.count ≡ y.count)) [
+          (elim (y.count == 1) as (λ b. (y.count == 1) ≡ b
+          → (47 ∷ decimal x.step) ++ (47 ∷ decimal x.count) ≡ cond b [] ((47 ∷ decimal y.step) ++ (47 ∷ decimal y.count))
+          → (x.step ≡ y.step) × (x.count ≡ y.count)) [
             | true ↦ λ g h. absurd (omega (arith, ap length h))
             | false ↦ λ g h.
-                let parts = split_only IsDigitByte (decimal x.step) (decimal y.step) (47 ∷ decimal x.count) (47 ∷ decimal y.count) (decimal_digits x.step hx.step) (decimal_digits y.step hy.step) (λ b. omega arith) (λ b. omega arith) (ap (drop 1) h) in
+                let parts = split_only IsDigitByte (decimal x.step) (decimal y.step) (47 ∷ decimal x.count) (47 ∷ decimal y.count)
+                (decimal_digits x.step hx.step) (decimal_digits y.step hy.step) (λ b. omega arith) (λ b. omega arith) (ap (drop 1) h) in
                 (decimal_injective x.step y.step hx.step hy.step parts.0, decimal_injective x.count y.count hx.count hy.count (ap (drop 1) parts.1))
           ] refl)
     ] refl) e
 
 item_only : (x y : Stretch) → IsItem x → IsItem y → item_text x ≡ item_text y → x ≡ y
 item_only x y hx hy e =
-    let parts = split_only IsDigitByte (decimal x.start) (decimal y.start) (after x) (after y) (decimal_digits x.start hx.start) (decimal_digits y.start hy.start) (after_stops x) (after_stops y) (sym (item_parts x) ∙ e ∙ item_parts y) in
+    let parts = split_only IsDigitByte (decimal x.start) (decimal y.start) (after x) (after y) (decimal_digits x.start hx.start)
+    (decimal_digits y.start hy.start) (after_stops x) (after_stops y) (sym (item_parts x) ∙ e ∙ item_parts y) in
     let more = after_only x y hx hy parts.1 in
     item_is x y (decimal_injective x.start y.start hx.start hy.start parts.0) more.0 more.1
 
@@ -93,7 +103,9 @@ item_in_field x h =
     elim (x.count == 1) as (λ b. All IsInField (cond b (decimal x.start) (decimal x.start ++ (47 ∷ decimal x.step) ++ (47 ∷ decimal x.count)))) [
       | true ↦ decimal_in_field x.start h.start
       | false ↦
-          All-append IsInField (decimal x.start ++ (47 ∷ decimal x.step)) (47 ∷ decimal x.count) (All-append IsInField (decimal x.start) (47 ∷ decimal x.step) (decimal_in_field x.start h.start) (All-cons IsInField 47 (decimal x.step) (omega arith) (decimal_in_field x.step h.step)))
+          All-append IsInField (decimal x.start ++ (47 ∷ decimal x.step)) (47 ∷ decimal x.count)
+          (All-append IsInField (decimal x.start) (47 ∷ decimal x.step) (decimal_in_field x.start h.start)
+          (All-cons IsInField 47 (decimal x.step) (omega arith) (decimal_in_field x.step h.step)))
           (All-cons IsInField 47 (decimal x.count) (omega arith) (decimal_in_field x.count h.count))
     ]
 
@@ -112,7 +124,8 @@ items_only (x ∷ xs) [] hx hy e = absurd (omega (arith, ap length e))
 items_only (x ∷ xs) (y ∷ ys) hx hy e =
     let of_x = All-head IsItem x xs hx in
     let of_y = All-head IsItem y ys hy in
-    let parts = split_only IsInField (item_text x) (item_text y) (items_text xs) (items_text ys) (item_in_field x of_x) (item_in_field y of_y) (items_stop xs) (items_stop ys) (rest_same 32 32 (item_text x ++ items_text xs) (item_text y ++ items_text ys) e) in
+    let parts = split_only IsInField (item_text x) (item_text y) (items_text xs) (items_text ys) (item_in_field x of_x) (item_in_field y of_y)
+    (items_stop xs) (items_stop ys) (rest_same 32 32 (item_text x ++ items_text xs) (item_text y ++ items_text ys) e) in
     let first : x ≡ y = item_only x y of_x of_y parts.0 in
     let rest : xs ≡ ys = items_only xs ys (All-tail IsItem x xs hx) (All-tail IsItem y ys hy) parts.1 in
     cc
@@ -121,7 +134,9 @@ items_in_line : (xs : List Stretch) → All IsItem xs → All IsInLine (items_te
 unfolding items_text
 items_in_line [] h = All-nil IsInLine
 items_in_line (x ∷ xs) h =
-    All-cons IsInLine 32 (item_text x ++ items_text xs) (omega arith) (All-append IsInLine (item_text x) (items_text xs) (field_in_line (item_text x) (item_in_field x (All-head IsItem x xs h))) (items_in_line xs (All-tail IsItem x xs h)))
+    All-cons IsInLine 32 (item_text x ++ items_text xs) (omega arith)
+    (All-append IsInLine (item_text x) (items_text xs) (field_in_line (item_text x) (item_in_field x (All-head IsItem x xs h)))
+    (items_in_line xs (All-tail IsItem x xs h)))
 
 -- ---- the items of a time set
 
@@ -175,7 +190,9 @@ all_items (suc steps) [] h l = All-nil IsItem
 all_items (suc steps) (s ∷ xs) h l =
     let item = first_stretch s xs in
     let rest = drop (item.count - 1) xs in
-    All-cons IsItem item (stretches_within steps rest) (first_item s xs h (omega (arith, l))) (all_items steps rest (All-drop (λ x. x < 86_400) (item.count - 1) xs (All-tail (λ x. x < 86_400) s xs h)) (omega (arith, l, length_drop_le (item.count - 1) xs)))
+    All-cons IsItem item (stretches_within steps rest) (first_item s xs h (omega (arith, l)))
+    (all_items steps rest (All-drop (λ x. x < 86_400) (item.count - 1) xs (All-tail (λ x. x < 86_400) s xs h))
+    (omega (arith, l, length_drop_le (item.count - 1) xs)))
 
 items_of_set : (times : List ℕ) → IsSecondsOfDay times → All IsItem (stretches times)
 items_of_set times h = all_items (length times) times h.below_a_day (few_seconds times h)
@@ -184,11 +201,16 @@ pub IsSetLine-stretches : IsSetLine stretches_line
 IsSetLine-stretches = record {
   begins = λ times. (items_text (stretches times), refl);
   in_line = λ times h. All-cons IsInLine 116 (items_text (stretches times)) (omega arith) (items_in_line (stretches times) (items_of_set times h));
-  only = λ xs ys hx hy e. stretches_only xs ys (items_only (stretches xs) (stretches ys) (items_of_set xs hx) (items_of_set ys hy) (rest_same 116 116 (items_text (stretches xs)) (items_text (stretches ys)) e));
+  only = λ xs ys hx hy e. stretches_only xs ys
+      (items_only (stretches xs) (stretches ys) (items_of_set xs hx) (items_of_set ys hy)
+      (rest_same 116 116 (items_text (stretches xs)) (items_text (stretches ys)) e));
 }
 
 title_in_line : All IsInLine (codes "rrcanon 2")
-title_in_line = All-from_recursion IsInLine (codes "rrcanon 2") (omega arith, (omega arith, (omega arith, (omega arith, (omega arith, (omega arith, (omega arith, (omega arith, (omega arith, tt)))))))))
+title_in_line = All-from_recursion IsInLine (codes "rrcanon 2") (
+  omega arith,
+  (omega arith, (omega arith, (omega arith, (omega arith, (omega arith, (omega arith, (omega arith, (omega arith, tt)))))))),
+)
 
 -- version 2 tells sets apart too
 pub second_version_tells : TellsSetsApart (λ s. text_of (codes "rrcanon 2") stretches_line (descriptor s))

@@ -1,5 +1,6 @@
 -- A text is the text of one descriptor alone.
-use Rattle.std.proofs.Common.{◌≡◌, ℕ, ◌-◌, ◌<◌, ◌≤◌, ◌^◌, List, [], ◌∷◌, ◌++◌, length, get_or, drop, map, replicate, refl, sym, ap, subst, ◌∙◌, arith, zero, suc, ℤ, nat_abs}
+use Rattle.std.proofs.Common.{◌≡◌, ℕ, ◌-◌, ◌<◌, ◌≤◌, ◌^◌, List, [], ◌∷◌, ◌++◌, length, get_or, drop, map, replicate, refl, sym, ap, subst, ◌∙◌, arith, zero}
+use Rattle.std.proofs.Common.{suc, ℤ, nat_abs}
 use Rattle.std.specs.Prelude.{Option, Some, None, codes}
 use Rattle.std.specs.Fmt.{decimal}
 use Rattle.std.specs.List.{All}
@@ -15,12 +16,15 @@ use Rattle.rr_text.proofs.MomentTextLemmas.{year_of-low}
 use Rattle.rr_text.proofs.PrintedLemmas.{extended_text_injective}
 use Rattle.rr_model.specs.Sets.Descriptor.{Run, Ending, Described}
 use Rattle.rr_model.specs.Sets.DescriptorText.{fields, kind_line, seconds_line, set_lines, first_line, run_line, settled_line, ending_lines, lines_of, text_of}
-use Rattle.rr_model.specs.Sets.Printable.{IsPrintedDay, IsPrintedNumber, IsPrintedRun, IsPrintedEnding, ArePrintedSets, IsPrintedIfSome, IsPrintedSet, IsPrinted, IsInLine, IsSetLine}
-use Rattle.rr_canon.proofs.SplittingLemmas.{Stops, first_same, rest_same, split_only, lines_only, IsInField, decimal_in_field, fields_stop, fields_only, field_in_line, fields_in_line}
+use Rattle.rr_model.specs.Sets.Printable.{IsPrintedDay, IsPrintedNumber, IsPrintedRun, IsPrintedEnding, ArePrintedSets, IsPrintedIfSome, IsPrintedSet}
+use Rattle.rr_model.specs.Sets.Printable.{IsPrinted, IsInLine, IsSetLine}
+use Rattle.rr_canon.proofs.SplittingLemmas.{Stops, first_same, rest_same, split_only, lines_only, IsInField, decimal_in_field, fields_stop, fields_only}
+use Rattle.rr_canon.proofs.SplittingLemmas.{field_in_line, fields_in_line}
 
 -- ---- lists
 
-map_only : {X Y : Type 0} (f : X → Y) (P : X → Type 0) → ((x y : X) → P x → P y → f x ≡ f y → x ≡ y) → (xs ys : List X) → All P xs → All P ys → map f xs ≡ map f ys → xs ≡ ys
+map_only : {X Y : Type 0} (f : X → Y) (P : X → Type 0) → ((x y : X) → P x → P y → f x ≡ f y → x ≡ y) → (xs ys : List X) → All P xs → All P ys
+    → map f xs ≡ map f ys → xs ≡ ys
 map_only f P only [] [] hx hy e = refl
 map_only f P only [] (y ∷ ys) hx hy e = absurd (omega (arith, ap length e))
 map_only f P only (x ∷ xs) [] hx hy e = absurd (omega (arith, ap length e))
@@ -56,7 +60,8 @@ zeros_in_field zero = All-nil IsInField
 zeros_in_field (suc n) = All-cons IsInField 48 (replicate n 48) (omega arith) (zeros_in_field n)
 
 padded_in_field : (width n : ℕ) → n < 2 ^ 64 → All IsInField (padded width n)
-padded_in_field width n h = All-append IsInField (replicate (width - length (decimal n)) 48) (decimal n) (zeros_in_field (width - length (decimal n))) (decimal_in_field n h)
+padded_in_field width n h =
+    All-append IsInField (replicate (width - length (decimal n)) 48) (decimal n) (zeros_in_field (width - length (decimal n))) (decimal_in_field n h)
 
 dash_in_field : All IsInField (codes "-")
 dash_in_field = All-cons IsInField 45 [] (omega arith) (All-nil IsInField)
@@ -72,7 +77,9 @@ date_in_field d printed =
     let m = padded 2 (month_of d) in
     let k = padded 2 (day_of_month d) in
     let dash = codes "-" in
-    All-append IsInField (y ++ dash ++ m ++ dash) k (All-append IsInField (y ++ dash ++ m) dash (All-append IsInField (y ++ dash) m (All-append IsInField y dash year dash_in_field) month) dash_in_field) day
+    All-append IsInField (y ++ dash ++ m ++ dash) k
+    (All-append IsInField (y ++ dash ++ m) dash
+    (All-append IsInField (y ++ dash) m (All-append IsInField y dash year dash_in_field) month) dash_in_field) day
 
 date_only : (d e : ℤ) → IsPrintedDay d → IsPrintedDay e → extended_date_text d ≡ extended_date_text e → d ≡ e
 unfolding extended_text
@@ -89,7 +96,8 @@ run_is r s g n c = λ i. record { gap = g i; set = n i; count = c i }
 
 run_only : (letter : ℕ) (r s : Run) → IsPrintedRun r → IsPrintedRun s → run_line letter r ≡ run_line letter s → r ≡ s
 run_only letter r s hr hs e =
-    let numbers = fields_only (r.gap ∷ r.set ∷ r.count ∷ []) (s.gap ∷ s.set ∷ s.count ∷ []) (numbers_of r hr) (numbers_of s hs) (rest_same letter letter (fields (r.gap ∷ r.set ∷ r.count ∷ [])) (fields (s.gap ∷ s.set ∷ s.count ∷ [])) e) in
+    let numbers = fields_only (r.gap ∷ r.set ∷ r.count ∷ []) (s.gap ∷ s.set ∷ s.count ∷ []) (numbers_of r hr) (numbers_of s hs)
+    (rest_same letter letter (fields (r.gap ∷ r.set ∷ r.count ∷ [])) (fields (s.gap ∷ s.set ∷ s.count ∷ [])) e) in
     run_is r s (ap (λ l. get_or l 0 0) numbers) (ap (λ l. get_or l 1 0) numbers) (ap (λ l. get_or l 2 0) numbers)
 
 run_in_line : (letter : ℕ) → 32 ≤ letter → (r : Run) → IsPrintedRun r → All IsInLine (run_line letter r)
@@ -99,7 +107,9 @@ first_line_only : (d e : ℤ) → IsPrintedDay d → IsPrintedDay e → first_li
 first_line_only d e hd he same = date_only d e hd he (ap (drop 2) same)
 
 first_in_line : (d : ℤ) → IsPrintedDay d → All IsInLine (first_line d)
-first_in_line d h = All-cons IsInLine 102 (32 ∷ extended_date_text d) (omega arith) (All-cons IsInLine 32 (extended_date_text d) (omega arith) (field_in_line (extended_date_text d) (date_in_field d h)))
+first_in_line d h =
+    All-cons IsInLine 102 (32 ∷ extended_date_text d) (omega arith)
+    (All-cons IsInLine 32 (extended_date_text d) (omega arith) (field_in_line (extended_date_text d) (date_in_field d h)))
 
 ending_is : (x y : Ending) → x.settled ≡ y.settled → x.period ≡ y.period → x.cycle ≡ y.cycle → x ≡ y
 ending_is x y q p c = λ i. record { settled = q i; period = p i; cycle = c i }
@@ -109,13 +119,17 @@ period_number x h = All-cons IsPrintedNumber x.period [] h.period (All-nil IsPri
 
 settled_line_only : (x y : Ending) → IsPrintedEnding x → IsPrintedEnding y → settled_line x ≡ settled_line y → (x.settled ≡ y.settled) × (x.period ≡ y.period)
 settled_line_only x y hx hy e =
-    let parts = split_only IsInField (extended_date_text x.settled) (extended_date_text y.settled) (fields (x.period ∷ [])) (fields (y.period ∷ [])) (date_in_field x.settled hx.settled) (date_in_field y.settled hy.settled) (fields_stop (x.period ∷ [])) (fields_stop (y.period ∷ [])) (ap (drop 2) e) in
+    let parts = split_only IsInField (extended_date_text x.settled) (extended_date_text y.settled) (fields (x.period ∷ [])) (fields (y.period ∷ []))
+    (date_in_field x.settled hx.settled) (date_in_field y.settled hy.settled) (fields_stop (x.period ∷ [])) (fields_stop (y.period ∷ [])) (ap (drop 2) e) in
     let numbers = fields_only (x.period ∷ []) (y.period ∷ []) (period_number x hx) (period_number y hy) parts.1 in
     (date_only x.settled y.settled hx.settled hy.settled parts.0, ap (λ l. get_or l 0 0) numbers)
 
 settled_in_line : (x : Ending) → IsPrintedEnding x → All IsInLine (settled_line x)
 settled_in_line x h =
-    All-cons IsInLine 113 (32 ∷ extended_date_text x.settled ++ fields (x.period ∷ [])) (omega arith) (All-cons IsInLine 32 (extended_date_text x.settled ++ fields (x.period ∷ [])) (omega arith) (All-append IsInLine (extended_date_text x.settled) (fields (x.period ∷ [])) (field_in_line (extended_date_text x.settled) (date_in_field x.settled h.settled)) (fields_in_line (x.period ∷ []) (period_number x h))))
+    All-cons IsInLine 113 (32 ∷ extended_date_text x.settled ++ fields (x.period ∷ [])) (omega arith)
+    (All-cons IsInLine 32 (extended_date_text x.settled ++ fields (x.period ∷ [])) (omega arith)
+    (All-append IsInLine (extended_date_text x.settled) (fields (x.period ∷ []))
+    (field_in_line (extended_date_text x.settled) (date_in_field x.settled h.settled)) (fields_in_line (x.period ∷ []) (period_number x h))))
 
 -- the line begins with this letter
 abbrev pub Begins : ℕ → List ℕ → Type 0
@@ -133,7 +147,8 @@ endings_only None (Some y) hx hy e = absurd (omega (arith, ap length e))
 endings_only (Some x) None hx hy e = absurd (omega (arith, ap length e))
 endings_only (Some x) (Some y) hx hy e =
     let head = settled_line_only x y hx hy (first_same (settled_line x) (settled_line y) (map (run_line 99) x.cycle) (map (run_line 99) y.cycle) e) in
-    let cycle = map_only (run_line 99) IsPrintedRun (run_only 99) x.cycle y.cycle hx.cycle hy.cycle (rest_same (settled_line x) (settled_line y) (map (run_line 99) x.cycle) (map (run_line 99) y.cycle) e) in
+    let cycle = map_only (run_line 99) IsPrintedRun (run_only 99) x.cycle y.cycle hx.cycle hy.cycle
+    (rest_same (settled_line x) (settled_line y) (map (run_line 99) x.cycle) (map (run_line 99) y.cycle) e) in
     ap Some (ending_is x y head.0 head.1 cycle)
 
 ending_stops : (x : Option Ending) → Stops (Begins 98) (ending_lines x)
@@ -143,7 +158,8 @@ ending_stops (Some x) = λ e. omega (arith, e)
 ending_in_line : (x : Option Ending) → IsPrintedIfSome x → All (λ l. All IsInLine l) (ending_lines x)
 ending_in_line None h = All-nil (λ (l : List ℕ). All IsInLine l)
 ending_in_line (Some x) h =
-    All-cons (λ (l : List ℕ). All IsInLine l) (settled_line x) (map (run_line 99) x.cycle) (settled_in_line x h) (All-map (run_line 99) IsPrintedRun (λ l. All IsInLine l) (run_in_line 99 (omega arith)) x.cycle h.cycle)
+    All-cons (λ (l : List ℕ). All IsInLine l) (settled_line x) (map (run_line 99) x.cycle) (settled_in_line x h)
+    (All-map (run_line 99) IsPrintedRun (λ l. All IsInLine l) (run_in_line 99 (omega arith)) x.cycle h.cycle)
 
 -- ---- the lines of time sets, however they are written
 
@@ -179,12 +195,20 @@ module _ (set_line : List ℕ → List ℕ) (way : IsSetLine set_line) where
   kind_only Days Moments xs ys e = absurd (omega (arith, ap (λ l. get_or (get_or l 0 []) 0 0) e))
   kind_only Moments Days xs ys e = absurd (omega (arith, ap (λ l. get_or (get_or l 0 []) 0 0) e))
 
-  days_only : (d e : Described) → IsPrintedSet d → IsPrintedSet e → days_lines d ≡ days_lines e → (d.first ≡ e.first) × (d.before ≡ e.before) × (d.ending ≡ e.ending)
+  days_only : (d e : Described) → IsPrintedSet d → IsPrintedSet e → days_lines d ≡ days_lines e
+      → (d.first ≡ e.first) × (d.before ≡ e.before) × (d.ending ≡ e.ending)
   days_only d e hd he same =
-      let first = first_line_only d.first e.first hd.first he.first (first_same (first_line d.first) (first_line e.first) (map (run_line 98) d.before ++ ending_lines d.ending) (map (run_line 98) e.before ++ ending_lines e.ending) same) in
-      let rest = rest_same (first_line d.first) (first_line e.first) (map (run_line 98) d.before ++ ending_lines d.ending) (map (run_line 98) e.before ++ ending_lines e.ending) same in
-      let parts = split_only (Begins 98) (map (run_line 98) d.before) (map (run_line 98) e.before) (ending_lines d.ending) (ending_lines e.ending) (runs_begin 98 d.before) (runs_begin 98 e.before) (ending_stops d.ending) (ending_stops e.ending) rest in
-      (first, map_only (run_line 98) IsPrintedRun (run_only 98) d.before e.before hd.before he.before parts.0, endings_only d.ending e.ending hd.ending he.ending parts.1)
+      let first = first_line_only d.first e.first hd.first he.first
+      (first_same (first_line d.first) (first_line e.first) (map (run_line 98) d.before ++ ending_lines d.ending)
+      (map (run_line 98) e.before ++ ending_lines e.ending) same) in
+      let rest = rest_same (first_line d.first) (first_line e.first) (map (run_line 98) d.before ++ ending_lines d.ending)
+      (map (run_line 98) e.before ++ ending_lines e.ending) same in
+      let parts = split_only (Begins 98) (map (run_line 98) d.before) (map (run_line 98) e.before) (ending_lines d.ending) (ending_lines e.ending)
+      (runs_begin 98 d.before) (runs_begin 98 e.before) (ending_stops d.ending) (ending_stops e.ending) rest in (
+        first,
+        map_only (run_line 98) IsPrintedRun (run_only 98) d.before e.before hd.before he.before parts.0,
+        endings_only d.ending e.ending hd.ending he.ending parts.1,
+      )
 
   some_only : (d e : Described) → IsPrintedSet d → IsPrintedSet e → lines_of set_line (Some d) ≡ lines_of set_line (Some e) → d ≡ e
   some_only d e hd he same =
@@ -192,7 +216,8 @@ module _ (set_line : List ℕ → List ℕ) (way : IsSetLine set_line) where
       let lines_e = set_lines set_line e.kind e.sets in
       let kind = kind_only d.kind e.kind (lines_d ++ days_lines d) (lines_e ++ days_lines e) same in
       let rest = rest_same (kind_line d.kind) (kind_line e.kind) (lines_d ++ days_lines d) (lines_e ++ days_lines e) same in
-      let parts = split_only (Begins 116) lines_d lines_e (days_lines d) (days_lines e) (sets_begin d.kind d.sets) (sets_begin e.kind e.sets) (λ b. omega (arith, b)) (λ b. omega (arith, b)) rest in
+      let parts = split_only (Begins 116) lines_d lines_e (days_lines d) (days_lines e) (sets_begin d.kind d.sets) (sets_begin e.kind e.sets)
+      (λ b. omega (arith, b)) (λ b. omega (arith, b)) rest in
       let moved : set_lines set_line d.kind d.sets ≡ set_lines set_line d.kind e.sets = parts.0 ∙ ap (λ k. set_lines set_line k e.sets) (sym kind) in
       let sets = sets_only d.kind d.sets e.sets hd.sets (subst (λ k. ArePrintedSets k e.sets) (sym kind) he.sets) moved in
       let days = days_only d e hd he parts.1 in
@@ -217,28 +242,35 @@ module _ (set_line : List ℕ → List ℕ) (way : IsSetLine set_line) where
 
   kind_in_line : (k : Kind) → All IsInLine (kind_line k)
   kind_in_line Days = All-from_recursion IsInLine (codes "days") (omega arith, (omega arith, (omega arith, (omega arith, tt))))
-  kind_in_line Moments = All-from_recursion IsInLine (codes "moments") (omega arith, (omega arith, (omega arith, (omega arith, (omega arith, (omega arith, (omega arith, tt)))))))
+  kind_in_line Moments =
+      All-from_recursion IsInLine (codes "moments") (omega arith, (omega arith, (omega arith, (omega arith, (omega arith, (omega arith, (omega arith, tt)))))))
 
   lines_in_line : (x : Option Described) → IsPrinted x → All (λ l. All IsInLine l) (lines_of set_line x)
   lines_in_line None h = All-cons (λ (l : List ℕ). All IsInLine l) (codes "none") [] word_in_line (All-nil (λ (l : List ℕ). All IsInLine l))
   lines_in_line (Some d) h =
       let Q : List ℕ → Type 0 = λ l. All IsInLine l in
-      All-cons Q (kind_line d.kind) (set_lines set_line d.kind d.sets ++ days_lines d) (kind_in_line d.kind) (All-append Q (set_lines set_line d.kind d.sets) (days_lines d) (sets_in_line d.kind d.sets h.sets) (All-cons Q (first_line d.first) (map (run_line 98) d.before ++ ending_lines d.ending) (first_in_line d.first h.first)
-      (All-append Q (map (run_line 98) d.before) (ending_lines d.ending) (All-map (run_line 98) IsPrintedRun Q (run_in_line 98 (omega arith)) d.before h.before) (ending_in_line d.ending h.ending))))
+      All-cons Q (kind_line d.kind) (set_lines set_line d.kind d.sets ++ days_lines d) (kind_in_line d.kind)
+      (All-append Q (set_lines set_line d.kind d.sets) (days_lines d) (sets_in_line d.kind d.sets h.sets)
+      (All-cons Q (first_line d.first) (map (run_line 98) d.before ++ ending_lines d.ending) (first_in_line d.first h.first)
+      (All-append Q (map (run_line 98) d.before) (ending_lines d.ending)
+      (All-map (run_line 98) IsPrintedRun Q (run_in_line 98 (omega arith)) d.before h.before) (ending_in_line d.ending h.ending))))
 
   -- equal texts of one version say the same
-  pub text_only : (title : List ℕ) (x y : Option Described) → All IsInLine title → IsPrinted x → IsPrinted y → text_of title set_line x ≡ text_of title set_line y → x ≡ y
+  pub text_only : (title : List ℕ) (x y : Option Described) → All IsInLine title → IsPrinted x → IsPrinted y
+      → text_of title set_line x ≡ text_of title set_line y → x ≡ y
   unfolding text_of
   text_only title x y ht hx hy e =
       let Q : List ℕ → Type 0 = λ l. All IsInLine l in
-      let lines = lines_only (title ∷ lines_of set_line x) (title ∷ lines_of set_line y) (All-cons Q title (lines_of set_line x) ht (lines_in_line x hx)) (All-cons Q title (lines_of set_line y) ht (lines_in_line y hy)) e in
+      let lines = lines_only (title ∷ lines_of set_line x) (title ∷ lines_of set_line y) (All-cons Q title (lines_of set_line x) ht (lines_in_line x hx))
+      (All-cons Q title (lines_of set_line y) ht (lines_in_line y hy)) e in
       said_only x y hx hy (rest_same title title (lines_of set_line x) (lines_of set_line y) lines)
 
 -- ---- version 1
 
 below_in_line : (xs : List ℕ) → All (λ s. s < 86_400) xs → All IsPrintedNumber xs
 below_in_line [] h = All-nil IsPrintedNumber
-below_in_line (x ∷ xs) h = All-cons IsPrintedNumber x xs (let l = All-head (λ s. s < 86_400) x xs h in omega arith) (below_in_line xs (All-tail (λ s. s < 86_400) x xs h))
+below_in_line (x ∷ xs) h =
+    All-cons IsPrintedNumber x xs (let l = All-head (λ s. s < 86_400) x xs h in omega arith) (below_in_line xs (All-tail (λ s. s < 86_400) x xs h))
 
 pub IsSetLine-seconds : IsSetLine seconds_line
 IsSetLine-seconds = record {

@@ -1,5 +1,6 @@
 -- What is read of a list is valid.
-use Rattle.std.proofs.Common.{◌≡◌, ℕ, ◌+◌, ◌<◌, ◌≤◌, Bool, true, false, if◌then◌else◌, List, [], ◌∷◌, length, Option, None, Some, Result, Ok, Err, ℤ, pos, refl, sym, subst, arith}
+use Rattle.std.proofs.Common.{◌≡◌, ℕ, ◌+◌, ◌<◌, ◌≤◌, Bool, true, false, if◌then◌else◌, List, [], ◌∷◌, length, Option, None, Some, Result, Ok, Err, ℤ, pos}
+use Rattle.std.proofs.Common.{refl, sym, subst, arith}
 use Rattle.std.specs.Prelude.{All, int_lt}
 use Rattle.std.specs.Result.{IfOk}
 use Rattle.std.proofs.lemmas.Int.{ints}
@@ -40,7 +41,8 @@ same_kind Days Moments h = absurd (cc)
 same_kind Moments Days h = absurd (cc)
 
 -- the values with one more
-with_next-valid : (line : ℕ) (so_far : ListedDates) (first : Option Stamp) (stamp : Stamp) (next : ListedDates) → so_far.first ≡ first → IsValidListed so_far → so_far.count < 10_000
+with_next-valid : (line : ℕ) (so_far : ListedDates) (first : Option Stamp) (stamp : Stamp) (next : ListedDates) → so_far.first ≡ first
+    → IsValidListed so_far → so_far.count < 10_000
     → IsInYears stamp.kind stamp.at → with_next line so_far first stamp ≡ Ok next → IsValidListed next
 with_next-valid line so_far None stamp next none v few in_years h =
     let e : record so_far { first = Some stamp; last = stamp.at; count = so_far.count + 1 } ≡ next = cc in
@@ -61,14 +63,18 @@ with_next-valid line so_far (Some first) stamp next some v few in_years h = by (
 
     valid : first.kind ≡ stamp.kind → IsValidListed more
     valid same = record {
-      in_years = subst (λ (f : Option Stamp). AreInYears f (with_value int_lt so_far.plus stamp.at)) (sym some)
-          (before.0, All-with_value (IsInYears first.kind) int_lt so_far.plus stamp.at before.1 (subst (λ (k : Kind). IsInYears k stamp.at) (sym same) in_years));
+      in_years = subst (λ (f : Option Stamp). AreInYears f (with_value int_lt so_far.plus stamp.at)) (sym some) (
+        before.0,
+        All-with_value (IsInYears first.kind) int_lt so_far.plus stamp.at before.1
+            (subst (λ (k : Kind). IsInYears k stamp.at) (sym same) in_years),
+      );
       rises = Rises-with_value int_lt so_far.plus stamp.at v.rises;
       counted = omega (arith, v.counted, length-with_value int_lt so_far.plus stamp.at);
       few = omega (arith, few);
     }
 
-    by : (b c : Bool) → is_same_kind first.kind stamp.kind ≡ b → (if b then (if c then Ok more else Err (NotRising line)) else Err (MixedKinds line)) ≡ Ok next → IsValidListed next
+    by : (b c : Bool) → is_same_kind first.kind stamp.kind ≡ b
+        → (if b then (if c then Ok more else Err (NotRising line)) else Err (MixedKinds line)) ≡ Ok next → IsValidListed next
     by true true same h =
         let e : more ≡ next = cc in
         subst IsValidListed e (valid (same_kind first.kind stamp.kind same))
@@ -76,13 +82,15 @@ with_next-valid line so_far (Some first) stamp next some v few in_years h = by (
     by false c same h = absurd (cc)
 
 -- so is what a call answers that takes memory
-pub next_valid : (line : ℕ) (so_far : ListedDates) (stamp : Stamp) (r : Result ListedDates Fault) → IsValidListed so_far → so_far.count < 10_000 → IsInYears stamp.kind stamp.at
+pub next_valid : (line : ℕ) (so_far : ListedDates) (stamp : Stamp) (r : Result ListedDates Fault) → IsValidListed so_far → so_far.count < 10_000
+    → IsInYears stamp.kind stamp.at
     → Answers (with_next line so_far so_far.first stamp) r → IfOk r IsValidListed
 next_valid line so_far stamp (Ok next) v few in_years h = with_next-valid line so_far so_far.first stamp next refl v few in_years h
 next_valid line so_far stamp (Err fault) v few in_years h = tt
 
 -- the series of a list
-pub series_valid : (first : Option Stamp) (plus : List ℤ) → AreInYears first plus → Rises int_lt plus → length plus ≤ 10_000 → IsValidSeries (series_of_list first plus)
+pub series_valid : (first : Option Stamp) (plus : List ℤ) → AreInYears first plus → Rises int_lt plus → length plus ≤ 10_000
+    → IsValidSeries (series_of_list first plus)
 series_valid None plus years rises few = record {
   start = (four_digit_year (pos 0)).1 (omega (arith, ints), omega (arith, ints));
   start_counts = λ e. (refl, refl, refl, refl, refl);

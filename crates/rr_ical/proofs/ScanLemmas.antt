@@ -1,5 +1,6 @@
 -- The used lines as far as they are scanned.
-use Rattle.std.proofs.Common.{append-nil, ◌≡◌, ℕ, ◌+◌, ◌<◌, ◌≤◌, Bool, List, [], ◌∷◌, ◌++◌, length, get_or, drop, sym, ap, ◌∙◌, Ok, Err, Some, None, Option, append_assoc}
+use Rattle.std.proofs.Common.{append-nil, ◌≡◌, ℕ, ◌+◌, ◌<◌, ◌≤◌, Bool, List, [], ◌∷◌, ◌++◌, length, get_or, drop, sym, ap, ◌∙◌, Ok, Err, Some, None, Option}
+use Rattle.std.proofs.Common.{append_assoc}
 use Rattle.std.specs.List.{cons_option}
 use Rattle.std.proofs.lemmas.List.{at_drop_more, at_drop_all}
 use Rattle.rr_model.specs.Text.Event.{Components, left, left_by, after_used, scan_from, scanned, stop_at_end}
@@ -16,7 +17,8 @@ joined : (used : List UsedLine) (kept : Option UsedLine) (more : List UsedLine) 
 joined used None more = sym (append_assoc used [] more)
 joined used (Some line) more = sym (append_assoc used (line ∷ []) more)
 
-pub after_lines-one : (used : List UsedLine) (kept : Option UsedLine) (scan : Scan) → after_lines used (after_used kept scan) ≡ after_lines (used ++ cons_option kept []) scan
+pub after_lines-one : (used : List UsedLine) (kept : Option UsedLine) (scan : Scan)
+    → after_lines used (after_used kept scan) ≡ after_lines (used ++ cons_option kept []) scan
 after_lines-one used kept scan = ap (λ (ls : List UsedLine). record { used = ls; stop = scan.stop }) (joined used kept scan.used)
 
 module _ (is_bare : Bool) (last : ℕ) (lines : List Line) where
@@ -27,7 +29,8 @@ module _ (is_bare : Bool) (last : ℕ) (lines : List Line) where
       ∙ ap (λ (l : Line). scan_from (left_by is_bare components l) (λ after. scanned is_bare last after (drop (n + 1) lines))) (sym at)
 
   -- a line leaves these components and this used line
-  pub goes_on : (components next : Components) (used more : List UsedLine) (kept : Option UsedLine) (n m : ℕ) (line : Line) (all : Scan) → n < length lines → line ≡ get_or lines n line → m ≡ n + 1
+  pub goes_on : (components next : Components) (used more : List UsedLine) (kept : Option UsedLine) (n m : ℕ) (line : Line) (all : Scan) → n < length lines
+      → line ≡ get_or lines n line → m ≡ n + 1
       → left_by is_bare components line ≡ Ok (left next kept) → more ≡ used ++ cons_option kept []
       → after_lines used (scanned is_bare last components (drop n lines)) ≡ all → after_lines more (scanned is_bare last next (drop m lines)) ≡ all
   goes_on components next used more kept n m line all lt at step leaves put so_far =
@@ -37,7 +40,8 @@ module _ (is_bare : Bool) (last : ℕ) (lines : List Line) where
       ∙ ap (after_lines used) (sym (turn components n line lt at)) ∙ so_far)
 
   -- a line is refused
-  pub ends : (components : Components) (used : List UsedLine) (n : ℕ) (line : Line) (refusal : Refusal) (all : Scan) → n < length lines → line ≡ get_or lines n line
+  pub ends : (components : Components) (used : List UsedLine) (n : ℕ) (line : Line) (refusal : Refusal) (all : Scan) → n < length lines
+      → line ≡ get_or lines n line
       → left_by is_bare components line ≡ Err refusal
       → after_lines used (scanned is_bare last components (drop n lines)) ≡ all → record { used = used; stop = Some refusal } ≡ all
   ends components used n line refusal all lt at refused so_far =

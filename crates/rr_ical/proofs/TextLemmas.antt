@@ -15,6 +15,7 @@ no_text bytes none = by (is_utf8 bytes) refl
     by false e = e
 
 -- no line is left
-pub nothing_left : (number : ℕ) (so_far : ListedDates) (text : List ℕ) (all : Result ListedDates Refusal) → text ≡ [] → with_list_lines number so_far (physical_lines text) ≡ all → all ≡ Ok so_far
+pub nothing_left : (number : ℕ) (so_far : ListedDates) (text : List ℕ) (all : Result ListedDates Refusal) → text ≡ []
+    → with_list_lines number so_far (physical_lines text) ≡ all → all ≡ Ok so_far
 unfolding physical_lines
 nothing_left number so_far text all e so_far_is = sym so_far_is ∙ ap (λ (t : List ℕ). with_list_lines number so_far (physical_lines t)) e

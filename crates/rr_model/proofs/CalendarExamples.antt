@@ -1,6 +1,7 @@
 -- Days and dates that are known, worked out from the definitions.
 use Rattle.std.proofs.Common.{◌≡◌, pos, neg_ℤ, true, false, refl}
-use Rattle.rr_model.specs.Calendar.{day_number, first_day_of_year, year_of, month_of, day_of_month, day_of_year, weekday_of, days_of_months, months_over, days_into_year, is_date}
+use Rattle.rr_model.specs.Calendar.{day_number, first_day_of_year, year_of, month_of, day_of_month, day_of_year, weekday_of, days_of_months, months_over}
+use Rattle.rr_model.specs.Calendar.{days_into_year, is_date}
 
 first_of_year_1 : day_number (pos 1) 1 1 ≡ neg_ℤ (pos 719_162)
 unfolding day_number first_day_of_year days_of_months
@@ -28,11 +29,13 @@ leap_day_minus_400 = refl
 no_leap_day_1900 : is_date (pos 1900) 2 29 ≡ false
 no_leap_day_1900 = refl
 
-date_of_leap_day : (year_of (pos 11_016) ≡ pos 2000) × (month_of (pos 11_016) ≡ 2) × (day_of_month (pos 11_016) ≡ 29) × (day_of_year (pos 11_016) ≡ 60) × (weekday_of (pos 11_016) ≡ 1)
+date_of_leap_day : (year_of (pos 11_016) ≡ pos 2000) × (month_of (pos 11_016) ≡ 2) × (day_of_month (pos 11_016) ≡ 29) × (day_of_year (pos 11_016) ≡ 60)
+    × (weekday_of (pos 11_016) ≡ 1)
 unfolding year_of month_of day_of_month day_of_year weekday_of days_into_year months_over first_day_of_year days_of_months
 date_of_leap_day = (refl, refl, refl, refl, refl)
 
-date_of_last_day : (year_of (neg_ℤ (pos 719_163)) ≡ pos 0) × (month_of (neg_ℤ (pos 719_163)) ≡ 12) × (day_of_month (neg_ℤ (pos 719_163)) ≡ 31) × (day_of_year (neg_ℤ (pos 719_163)) ≡ 366) × (weekday_of (neg_ℤ (pos 719_163)) ≡ 6)
+date_of_last_day : (year_of (neg_ℤ (pos 719_163)) ≡ pos 0) × (month_of (neg_ℤ (pos 719_163)) ≡ 12) × (day_of_month (neg_ℤ (pos 719_163)) ≡ 31)
+    × (day_of_year (neg_ℤ (pos 719_163)) ≡ 366) × (weekday_of (neg_ℤ (pos 719_163)) ≡ 6)
 unfolding year_of month_of day_of_month day_of_year weekday_of days_into_year months_over first_day_of_year days_of_months
 date_of_last_day = (refl, refl, refl, refl, refl)
 

@@ -7,7 +7,8 @@ use Rattle.rr_model.specs.Calendar.Week.{week_index, fourth_day, week_year, week
 use Rattle.rr_model.specs.Calendar.Laws.{DatesAndDaysAreInverse, later_day, later_year, later_week, CalendarRepeats}
 use Rattle.rr_model.proofs.FloorLemmas.{floor_div-add}
 use Rattle.rr_model.proofs.CalendarLemmas.{IsDate-year_of, day_number-year_of, year_of-day_number, month_of-day_number, day_of_month-day_number}
-use Rattle.rr_model.proofs.CycleLemmas.{is_leap-cycle, days_in_month-cycle, first_day_of_year-cycle, day_number-cycle, year_of-cycle, days_into_year-cycle, month_of-cycle, day_of_month-cycle, day_of_year-cycle, weekday_of-cycle}
+use Rattle.rr_model.proofs.CycleLemmas.{is_leap-cycle, days_in_month-cycle, first_day_of_year-cycle, day_number-cycle, year_of-cycle, days_into_year-cycle}
+use Rattle.rr_model.proofs.CycleLemmas.{month_of-cycle, day_of_month-cycle, day_of_year-cycle, weekday_of-cycle}
 
 pub dates_and_days_are_inverse : DatesAndDaysAreInverse
 dates_and_days_are_inverse = record {
@@ -46,7 +47,8 @@ last_week-cycle y c w =
 pub kind_of_year-cycle : (y c : ℤ) → kind_of_year (later_year c y) ≡ kind_of_year y
 unfolding kind_of_year
 kind_of_year-cycle y c =
-    rw (is_leap-cycle y c) (ap (λ d. weekday_of d + cond (is_leap y) 7 0) (first_day_of_year-cycle y c) ∙ ap (λ n. n + cond (is_leap y) 7 0) (weekday_of-cycle (first_day_of_year y) c))
+    rw (is_leap-cycle y c) (ap (λ d. weekday_of d + cond (is_leap y) 7 0) (first_day_of_year-cycle y c)
+    ∙ ap (λ n. n + cond (is_leap y) 7 0) (weekday_of-cycle (first_day_of_year y) c))
 
 pub calendar_repeats : CalendarRepeats
 calendar_repeats = record {

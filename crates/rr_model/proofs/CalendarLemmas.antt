@@ -1,11 +1,13 @@
 -- Years, months and days follow one another; each day has exactly one date.
-use Rattle.std.proofs.Common.{◌≡◌, ◌↔◌, ◌⊎◌, inl, inr, ℕ, zero, suc, ◌+◌, ◌-◌, ◌<◌, ◌≤◌, true, false, cond, nat_le, ℤ, pos, nat_abs, ◌+ℤ◌, ◌-ℤ◌, ◌*ℤ◌, ◌≤ℤ◌, ◌<ℤ◌, IsTrue, refl, sym, ap, ◌∙◌, arith}
+use Rattle.std.proofs.Common.{◌≡◌, ◌↔◌, ◌⊎◌, inl, inr, ℕ, zero, suc, ◌+◌, ◌-◌, ◌<◌, ◌≤◌, true, false, cond, nat_le, ℤ, pos, nat_abs, ◌+ℤ◌, ◌-ℤ◌, ◌*ℤ◌, ◌≤ℤ◌}
+use Rattle.std.proofs.Common.{◌<ℤ◌, IsTrue, refl, sym, ap, ◌∙◌, arith}
 use Rattle.std.specs.Prelude.{int_lt, int_le}
 use Rattle.std.proofs.lemmas.Int.{ints, by_lt_z}
 use Rattle.std.proofs.lemmas.Bool.{cases_lt, cases_order}
 use Rattle.std.proofs.lemmas.Bool.Decides.{nat_tests}
 use Rattle.rr_model.specs.Whole.{floor_div, floor_mod}
-use Rattle.rr_model.specs.Calendar.{days_in_year, days_in_month, days_of_months, first_day_of_year, day_number, IsDate, is_date, IsInYear, year_near, year_of, days_into_year, months_over, month_of, day_of_month, weekday_of, kind_of_year}
+use Rattle.rr_model.specs.Calendar.{days_in_year, days_in_month, days_of_months, first_day_of_year, day_number, IsDate, is_date, IsInYear, year_near}
+use Rattle.rr_model.specs.Calendar.{year_of, days_into_year, months_over, month_of, day_of_month, weekday_of, kind_of_year}
 use Rattle.rr_model.proofs.WholeLemmas.{floor_only, floor_whole, floor_mod_below}
 use Rattle.rr_model.proofs.FloorLemmas.{floor_step}
 
@@ -26,27 +28,33 @@ length_by : (y a b c a' b' c' : ℤ) → (floor_mod y 100 ≡ 0 → floor_mod y 
     → ((floor_mod y 100 ≡ 0) × (b' ≡ b +ℤ pos 1)) ⊎ ((floor_mod y 100 ≡ 0 → ⊥) × (b' ≡ b))
     → ((floor_mod y 400 ≡ 0) × (c' ≡ c +ℤ pos 1)) ⊎ ((floor_mod y 400 ≡ 0 → ⊥) × (c' ≡ c))
     → ((a' -ℤ b') +ℤ c') +ℤ pos 365 ≡ ((a -ℤ b) +ℤ c) +ℤ pos (days_in_year y)
-length_by y a b c a' b' c' four hundred (inl f) (inl g) (inl h) = let l : days_in_year y ≡ 366 = grind (arith, nat_tests) in omega (arith, ints, f.1, g.1, h.1, l)
-length_by y a b c a' b' c' four hundred (inl f) (inl g) (inr h) = let l : days_in_year y ≡ 365 = grind (arith, nat_tests) in omega (arith, ints, f.1, g.1, h.1, l)
+length_by y a b c a' b' c' four hundred (inl f) (inl g) (inl h) = let l : days_in_year y ≡ 366 = grind (arith, nat_tests) in
+    omega (arith, ints, f.1, g.1, h.1, l)
+length_by y a b c a' b' c' four hundred (inl f) (inl g) (inr h) = let l : days_in_year y ≡ 365 = grind (arith, nat_tests) in
+    omega (arith, ints, f.1, g.1, h.1, l)
 length_by y a b c a' b' c' four hundred (inl f) (inr g) (inl h) = absurd (g.0 (hundred h.0))
-length_by y a b c a' b' c' four hundred (inl f) (inr g) (inr h) = let l : days_in_year y ≡ 366 = grind (arith, nat_tests) in omega (arith, ints, f.1, g.1, h.1, l)
+length_by y a b c a' b' c' four hundred (inl f) (inr g) (inr h) = let l : days_in_year y ≡ 366 = grind (arith, nat_tests) in
+    omega (arith, ints, f.1, g.1, h.1, l)
 length_by y a b c a' b' c' four hundred (inr f) (inl g) h = absurd (f.0 (four g.0))
 length_by y a b c a' b' c' four hundred (inr f) (inr g) (inl h) = absurd (g.0 (hundred h.0))
-length_by y a b c a' b' c' four hundred (inr f) (inr g) (inr h) = let l : days_in_year y ≡ 365 = grind (arith, nat_tests) in omega (arith, ints, f.1, g.1, h.1, l)
+length_by y a b c a' b' c' four hundred (inr f) (inr g) (inr h) = let l : days_in_year y ≡ 365 = grind (arith, nat_tests) in
+    omega (arith, ints, f.1, g.1, h.1, l)
 
 -- a year begins where the year before it ends
 pub first_day_of_year-next : (y : ℤ) → first_day_of_year (y +ℤ pos 1) ≡ first_day_of_year y +ℤ pos (days_in_year y)
 unfolding first_day_of_year
 first_day_of_year-next y =
     let e : (y +ℤ pos 1) -ℤ pos 1 ≡ y = omega (arith, ints) in
-    let l = length_by y _ _ _ _ _ _ (four_from y) (hundred_from y) (floor_step y 4 (omega arith)) (floor_step y 100 (omega arith)) (floor_step y 400 (omega arith)) in
+    let l = length_by y _ _ _ _ _ _ (four_from y) (hundred_from y) (floor_step y 4 (omega arith)) (floor_step y 100 (omega arith))
+    (floor_step y 400 (omega arith)) in
     rw e (omega (arith, ints, l))
 
 pub days_in_year_bounds : (y : ℤ) → (365 ≤ days_in_year y) × (days_in_year y ≤ 366)
 days_in_year_bounds y = grind arith
 
 -- 400 years are 146,097 days, but for the leap days that are still to come or have come early
-pub first_day_of_year_bounds : (y : ℤ) → ((pos 146_097 *ℤ (y -ℤ pos 1)) ≤ℤ (((first_day_of_year y +ℤ pos 719_162) *ℤ pos 400) +ℤ pos 699)) × (((first_day_of_year y +ℤ pos 719_162) *ℤ pos 400) ≤ℤ ((pos 146_097 *ℤ (y -ℤ pos 1)) +ℤ pos 396))
+pub first_day_of_year_bounds : (y : ℤ) → ((pos 146_097 *ℤ (y -ℤ pos 1)) ≤ℤ (((first_day_of_year y +ℤ pos 719_162) *ℤ pos 400) +ℤ pos 699))
+    × (((first_day_of_year y +ℤ pos 719_162) *ℤ pos 400) ≤ℤ ((pos 146_097 *ℤ (y -ℤ pos 1)) +ℤ pos 396))
 unfolding first_day_of_year
 first_day_of_year_bounds y =
     let a = floor_whole (y -ℤ pos 1) 4 (omega arith) in
@@ -81,10 +89,12 @@ year_near_is d =
     let m = first_day_of_year_bounds ((year_near d +ℤ pos 1) +ℤ pos 1) in
     (omega (arith, ints, w, b, n.1), omega (arith, ints, w, b, m.0))
 
-by_year_near : (d g : ℤ) → (first_day_of_year (g -ℤ pos 1) ≤ℤ d) × (d <ℤ first_day_of_year ((g +ℤ pos 1) +ℤ pos 1)) → IsInYear d (cond (int_lt d (first_day_of_year g)) (g -ℤ pos 1) (cond (int_le (first_day_of_year (g +ℤ pos 1)) d) (g +ℤ pos 1) g))
+by_year_near : (d g : ℤ) → (first_day_of_year (g -ℤ pos 1) ≤ℤ d) × (d <ℤ first_day_of_year ((g +ℤ pos 1) +ℤ pos 1))
+    → IsInYear d (cond (int_lt d (first_day_of_year g)) (g -ℤ pos 1) (cond (int_le (first_day_of_year (g +ℤ pos 1)) d) (g +ℤ pos 1) g))
 by_year_near d g near =
     let back : (g -ℤ pos 1) +ℤ pos 1 ≡ g = omega (arith, ints) in
-    elim (int_lt d (first_day_of_year g)) as (λ b. int_lt d (first_day_of_year g) ≡ b → IsInYear d (cond b (g -ℤ pos 1) (cond (int_le (first_day_of_year (g +ℤ pos 1)) d) (g +ℤ pos 1) g))) [
+    elim (int_lt d (first_day_of_year g)) as (λ b. int_lt d (first_day_of_year g) ≡ b
+    → IsInYear d (cond b (g -ℤ pos 1) (cond (int_le (first_day_of_year (g +ℤ pos 1)) d) (g +ℤ pos 1) g))) [
       | true ↦ λ e. (let l : d <ℤ first_day_of_year g = omega (arith, ints, e) in
           record { begun = near.0; not_over = rw back l })
       | false ↦ λ e. (let l : first_day_of_year g ≤ℤ d = omega (arith, ints, e) in
@@ -104,7 +114,8 @@ pub year_only : (d x y : ℤ) → IsInYear d x → IsInYear d y → x ≡ y
 year_only d x y i j =
     let P : Type 0 = x ≡ y in
     by_lt_z {P = P} x y (λ l. absurd (omega (arith, ints, first_day_of_year_mono (x +ℤ pos 1) y (omega (arith, ints)), i.not_over, j.begun)))
-    (λ g. by_lt_z {P = P} y x (λ l. absurd (omega (arith, ints, first_day_of_year_mono (y +ℤ pos 1) x (omega (arith, ints)), j.not_over, i.begun))) (λ h. omega (arith, ints)))
+    (λ g. by_lt_z {P = P} y x (λ l. absurd (omega (arith, ints, first_day_of_year_mono (y +ℤ pos 1) x (omega (arith, ints)), j.not_over, i.begun)))
+    (λ h. omega (arith, ints)))
 
 pub year_of_is : (d y : ℤ) → IsInYear d y → year_of d ≡ y
 year_of_is d y h = year_only d (year_of d) y (IsInYear-year_of d) h
@@ -199,7 +210,8 @@ unfolding day_number
 day_number_is y m k h = omega (arith, ints)
 
 -- a date's place in its year lies in its month
-place_within : (y : ℤ) (m k : ℕ) → IsDate y m k → (days_of_months y (m - 1) + k ≤ days_of_months y (m - 1 + 1)) × (days_of_months y (m - 1 + 1) ≤ days_in_year y)
+place_within : (y : ℤ) (m k : ℕ) → IsDate y m k
+    → (days_of_months y (m - 1) + k ≤ days_of_months y (m - 1 + 1)) × (days_of_months y (m - 1 + 1) ≤ days_in_year y)
 place_within y m k h =
     let e : m - 1 + 1 ≡ m = omega (arith, h.0) in
     let next = rw e at (days_of_months-next y (m - 1)) in
@@ -227,7 +239,8 @@ module _ (y : ℤ) (m k : ℕ) (h : IsDate y m k) where
   months_over-day_number : months_over y (days_into_year (day_number y m k)) 11 ≡ m - 1
   months_over-day_number =
       let p = place_within y m k h in
-      month_is y (days_into_year (day_number y m k)) (m - 1) (omega (arith, h.1)) (omega (arith, days_into_year-day_number, h.2)) (omega (arith, days_into_year-day_number, h.2, p.0))
+      month_is y (days_into_year (day_number y m k)) (m - 1) (omega (arith, h.1)) (omega (arith, days_into_year-day_number, h.2))
+      (omega (arith, days_into_year-day_number, h.2, p.0))
 
   pub month_of-day_number : month_of (day_number y m k) ≡ m
   unfolding month_of
@@ -247,7 +260,8 @@ day_number_injective y z m k n j h i e = (
 )
 
 -- what is left of the days into the year once the months over are taken
-month_place : (d : ℤ) → (month_of d - 1 < 12) × (days_of_months (year_of d) (month_of d - 1) ≤ days_into_year d) × (days_into_year d < days_of_months (year_of d) (month_of d - 1) + days_in_month (year_of d) (month_of d))
+month_place : (d : ℤ) → (month_of d - 1 < 12) × (days_of_months (year_of d) (month_of d - 1) ≤ days_into_year d)
+    × (days_into_year d < days_of_months (year_of d) (month_of d - 1) + days_in_month (year_of d) (month_of d))
 unfolding month_of
 month_place d =
     let y = year_of d in

@@ -1,6 +1,7 @@
 -- Worked rules against the definitions, most from RFC 5545, section 3.8.5.3.
 use Rattle.std.proofs.Common.{◌≡◌, ℕ, true, false, [], ◌∷◌, ℤ, pos, negsuc, refl, ◌+ℤ◌, ◌*ℤ◌}
-use Rattle.rr_model.specs.Calendar.{days_of_months, first_day_of_year, day_number, year_of, days_into_year, months_over, month_of, day_of_month, day_of_year, weekday_of}
+use Rattle.rr_model.specs.Calendar.{days_of_months, first_day_of_year, day_number, year_of, days_into_year, months_over, month_of, day_of_month}
+use Rattle.rr_model.specs.Calendar.{day_of_year, weekday_of}
 use Rattle.rr_model.specs.Calendar.Week.{week_index, fourth_day, week_year, week_number, last_week}
 use Rattle.rr_model.specs.Whole.Count.{count_from}
 use Rattle.rr_model.specs.Rule.Candidate.{is_candidate}
@@ -91,7 +92,8 @@ on_days :
     ∷ is_chosen second_sunday_week Days (day_number (pos 1997) 8 5) (day_number (pos 1997) 8 10)
     ∷ [])
     ≡ (true ∷ false ∷ true ∷ false ∷ true ∷ false ∷ true ∷ true ∷ false ∷ [])
-unfolding days_of_months first_day_of_year day_number year_of days_into_year months_over month_of day_of_month day_of_year weekday_of week_index fourth_day week_year week_number last_week count_from is_candidate is_chosen
+unfolding days_of_months first_day_of_year day_number year_of days_into_year months_over month_of day_of_month day_of_year weekday_of week_index fourth_day
+    week_year week_number last_week count_from is_candidate is_chosen
 on_days = refl
 
 -- from the back of a month or a year
@@ -103,7 +105,8 @@ from_the_back :
     ∷ is_chosen last_day Days (day_number (pos 2023) 12 31) (day_number (pos 2024) 12 30)
     ∷ [])
     ≡ (true ∷ false ∷ true ∷ true ∷ false ∷ [])
-unfolding days_of_months first_day_of_year day_number year_of days_into_year months_over month_of day_of_month day_of_year weekday_of week_index fourth_day week_year week_number last_week count_from is_candidate is_chosen
+unfolding days_of_months first_day_of_year day_number year_of days_into_year months_over month_of day_of_month day_of_year weekday_of week_index fourth_day
+    week_year week_number last_week count_from is_candidate is_chosen
 from_the_back = refl
 
 -- in a month of the year
@@ -114,7 +117,8 @@ in_a_month_of_the_year :
     ∷ is_chosen first_sunday Days (day_number (pos 2007) 11 4) (day_number (pos 2008) 11 9)
     ∷ [])
     ≡ (true ∷ false ∷ true ∷ false ∷ [])
-unfolding days_of_months first_day_of_year day_number year_of days_into_year months_over month_of day_of_month day_of_year weekday_of week_index fourth_day week_year week_number last_week count_from is_candidate is_chosen
+unfolding days_of_months first_day_of_year day_number year_of days_into_year months_over month_of day_of_month day_of_year weekday_of week_index fourth_day
+    week_year week_number last_week count_from is_candidate is_chosen
 in_a_month_of_the_year = refl
 
 -- what the start supplies: day 31 in short months and 29 February in common years are no dates
@@ -125,7 +129,8 @@ from_the_start :
     ∷ is_chosen (bare Yearly 1) Days (day_number (pos 2024) 2 29) (day_number (pos 2025) 3 1)
     ∷ [])
     ≡ (true ∷ false ∷ true ∷ false ∷ [])
-unfolding days_of_months first_day_of_year day_number year_of days_into_year months_over month_of day_of_month day_of_year weekday_of week_index fourth_day week_year week_number last_week count_from is_candidate is_chosen
+unfolding days_of_months first_day_of_year day_number year_of days_into_year months_over month_of day_of_month day_of_year weekday_of week_index fourth_day
+    week_year week_number last_week count_from is_candidate is_chosen
 from_the_start = refl
 
 -- each seven hours from 09:00:00 on: at 16:00:00, not at 16:01:00
@@ -134,5 +139,6 @@ at_moments :
     ∷ is_chosen (bare Hourly 7) Moments ((day_number (pos 2024) 1 1 *ℤ pos 86_400) +ℤ pos 32_400) ((day_number (pos 2024) 1 1 *ℤ pos 86_400) +ℤ pos 57_660)
     ∷ [])
     ≡ (true ∷ false ∷ [])
-unfolding days_of_months first_day_of_year day_number year_of days_into_year months_over month_of day_of_month day_of_year weekday_of week_index fourth_day week_year week_number last_week count_from is_candidate is_chosen
+unfolding days_of_months first_day_of_year day_number year_of days_into_year months_over month_of day_of_month day_of_year weekday_of week_index fourth_day
+    week_year week_number last_week count_from is_candidate is_chosen
 at_moments = refl

@@ -2,7 +2,8 @@
 use Rattle.std.proofs.Common.{◌≡◌, ℕ, zero, suc, ◌-◌, ℤ, pos, ◌+ℤ◌, ◌-ℤ◌, ◌*ℤ◌, refl, ap, ◌∙◌, arith}
 use Rattle.std.proofs.lemmas.Int.{ints}
 use Rattle.rr_model.specs.Whole.{floor_div, floor_mod}
-use Rattle.rr_model.specs.Calendar.{is_leap, days_in_month, days_of_months, first_day_of_year, day_number, IsDate, year_of, days_into_year, months_over, month_of, day_of_month, day_of_year, weekday_of}
+use Rattle.rr_model.specs.Calendar.{is_leap, days_in_month, days_of_months, first_day_of_year, day_number, IsDate, year_of, days_into_year, months_over}
+use Rattle.rr_model.specs.Calendar.{month_of, day_of_month, day_of_year, weekday_of}
 use Rattle.rr_model.proofs.FloorLemmas.{floor_div-add, floor_mod-add}
 use Rattle.rr_model.proofs.CalendarLemmas.{IsInYear-year_of, year_of_is, days_into_year_is}
 

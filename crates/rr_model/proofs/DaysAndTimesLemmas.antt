@@ -42,7 +42,8 @@ fills_times Monthly e = (refl, refl, refl)
 fills_times Yearly e = (refl, refl, refl)
 
 -- the date parts take from the start its day alone
-pub date_parts_hold-day : (rule : Rule) (kind : Kind) (start d : ℤ) → date_parts_hold (filled rule kind start) d ≡ date_parts_hold (filled rule Days (day_part kind start)) d
+pub date_parts_hold-day : (rule : Rule) (kind : Kind) (start d : ℤ)
+    → date_parts_hold (filled rule kind start) d ≡ date_parts_hold (filled rule Days (day_part kind start)) d
 date_parts_hold-day rule Days start d = refl
 date_parts_hold-day rule Moments start d = refl
 
@@ -60,7 +61,8 @@ day_at : (kind : Kind) (d : ℤ) (s : ℕ) → s < seconds_of kind → day_part 
 day_at Days d s low = refl
 day_at Moments d s low = day_part-moment_at d s low
 
-time_at : (rule : Rule) (kind : Kind) (start d : ℤ) (s : ℕ) → s < seconds_of kind → time_parts_hold (filled rule kind start) kind (moment_at kind d s) ≡ time_holds rule kind start s
+time_at : (rule : Rule) (kind : Kind) (start d : ℤ) (s : ℕ) → s < seconds_of kind
+    → time_parts_hold (filled rule kind start) kind (moment_at kind d s) ≡ time_holds rule kind start s
 time_at rule Days start d s low = refl
 time_at rule Moments start d s low = time_parts_hold-at (filled rule Moments start) d s low ∙ sym (time_parts_hold-at (filled rule Moments start) (pos 0) s low)
 

@@ -38,11 +38,13 @@ unfolding nothing text_of text_of_lines descriptor
 of_nothing = refl
 
 of_three : descriptor_text three ≡ codes "rrcanon 1\ndays\nf 2024-01-01\nb 0 0 1\nb 2 0 2\n"
-unfolding three text_of text_of_lines fields descriptor runs_of sets_of extended_date_text digits first_day_of_year days_of_months year_of days_into_year months_over month_of day_of_month
+unfolding three text_of text_of_lines fields descriptor runs_of sets_of extended_date_text digits first_day_of_year days_of_months year_of days_into_year
+    months_over month_of day_of_month
 of_three = refl
 
 of_hours : descriptor_text hours ≡ codes "rrcanon 1\nmoments\nt 32400\nt 0 32400\nf 1970-01-02\nb 0 0 1\nq 1970-01-03 2\nc 0 1 1\nc 1 0 1\n"
-unfolding hours text_of text_of_lines fields descriptor runs_of sets_of extended_date_text digits first_day_of_year days_of_months year_of days_into_year months_over month_of day_of_month
+unfolding hours text_of text_of_lines fields descriptor runs_of sets_of extended_date_text digits first_day_of_year days_of_months year_of days_into_year
+    months_over month_of day_of_month
 of_hours = refl
 
 -- ---- stretches

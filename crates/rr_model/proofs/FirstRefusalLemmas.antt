@@ -23,7 +23,8 @@ none_is_one x y h l = h ∙ sym l
 pub first_refusal_is_one : FirstRefusalIsOne
 first_refusal_is_one limits series = one_or (IsLimitRefusal limits series) of_cycle (first_refusal series)
   where
-    of_moments : (x y : Option Refusal) → IsRefusalWhere (AreMomentsOver limits series) TooManyMoments (λ z. z ≡ None) x → IsRefusalWhere (AreMomentsOver limits series) TooManyMoments (λ z. z ≡ None) y → x ≡ y
+    of_moments : (x y : Option Refusal) → IsRefusalWhere (AreMomentsOver limits series) TooManyMoments (λ z. z ≡ None) x
+        → IsRefusalWhere (AreMomentsOver limits series) TooManyMoments (λ z. z ≡ None) y → x ≡ y
     of_moments = one_where (λ z. z ≡ None) none_is_one (AreMomentsOver limits series) TooManyMoments
 
     of_counts :
@@ -33,4 +34,6 @@ first_refusal_is_one limits series = one_or (IsLimitRefusal limits series) of_cy
     of_counts = one_where (IsRefusalWhere (AreMomentsOver limits series) TooManyMoments (λ z. z ≡ None)) of_moments (IsCountOver limits series) CountedTooFar
 
     of_cycle : (x y : Option Refusal) → IsLimitRefusal limits series x → IsLimitRefusal limits series y → x ≡ y
-    of_cycle = one_where (IsRefusalWhere (IsCountOver limits series) CountedTooFar (IsRefusalWhere (AreMomentsOver limits series) TooManyMoments (λ z. z ≡ None))) of_counts (IsCycleOver limits series) CycleTooLong
+    of_cycle = one_where
+        (IsRefusalWhere (IsCountOver limits series) CountedTooFar (IsRefusalWhere (AreMomentsOver limits series) TooManyMoments (λ z. z ≡ None))) of_counts
+        (IsCycleOver limits series) CycleTooLong

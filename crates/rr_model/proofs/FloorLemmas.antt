@@ -33,7 +33,8 @@ pub *ℤ-add : (a b : ℤ) (n : ℕ) → (a +ℤ b) *ℤ pos n ≡ (a *ℤ pos n
 
 floor-add : (z k : ℤ) (n : ℕ) → 0 < n → (floor_div (z +ℤ (k *ℤ pos n)) n ≡ floor_div z n +ℤ k) × (floor_mod (z +ℤ (k *ℤ pos n)) n ≡ floor_mod z n)
 floor-add z k n h =
-    floor_only (z +ℤ (k *ℤ pos n)) (floor_div z n +ℤ k) n (floor_mod z n) (floor_mod_below z n h) (omega (arith, ints, floor_whole z n h, *ℤ-add (floor_div z n) k n))
+    floor_only (z +ℤ (k *ℤ pos n)) (floor_div z n +ℤ k) n (floor_mod z n) (floor_mod_below z n h)
+    (omega (arith, ints, floor_whole z n h, *ℤ-add (floor_div z n) k n))
 
 -- k more whole turns add k to the quotient
 pub floor_div-add : (z k : ℤ) (n : ℕ) → 0 < n → floor_div (z +ℤ (k *ℤ pos n)) n ≡ floor_div z n +ℤ k
@@ -44,7 +45,8 @@ pub floor_mod-add : (z k : ℤ) (n : ℕ) → 0 < n → floor_mod (z +ℤ (k *�
 floor_mod-add z k n h = (floor-add z k n h).1
 
 -- one more: the quotient grows exactly where the remainder comes to 0
-pub floor_step : (y : ℤ) (n : ℕ) → 0 < n → ((floor_mod y n ≡ 0) × (floor_div y n ≡ floor_div (y -ℤ pos 1) n +ℤ pos 1)) ⊎ ((floor_mod y n ≡ 0 → ⊥) × (floor_div y n ≡ floor_div (y -ℤ pos 1) n))
+pub floor_step : (y : ℤ) (n : ℕ) → 0 < n
+    → ((floor_mod y n ≡ 0) × (floor_div y n ≡ floor_div (y -ℤ pos 1) n +ℤ pos 1)) ⊎ ((floor_mod y n ≡ 0 → ⊥) × (floor_div y n ≡ floor_div (y -ℤ pos 1) n))
 floor_step y n h =
     let q = floor_div (y -ℤ pos 1) n in
     let r = floor_mod (y -ℤ pos 1) n in

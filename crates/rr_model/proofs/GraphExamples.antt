@@ -10,7 +10,8 @@ use Rattle.rr_model.specs.declared.kind.Kind.TheVariants.{Days, Moments}
 use Rattle.rr_model.specs.Text.ExtendedMoments.{extended_date_of, extended_time_of, extended_moment_of, extended}
 use Rattle.rr_model.specs.Graph.Members.{form_named, day_named, index_named, json_object}
 use Rattle.rr_model.specs.Graph.Occurrences.{is_pattern_day, first_from, first_repeat_day}
-use Rattle.rr_model.specs.Graph.Reading.{form_in, interval_in, days_in, first_day_in, index_in, pattern_of, end_type_named, range_of, recurrence_of, start_moment, event_of, bare_of, graph_text}
+use Rattle.rr_model.specs.Graph.Reading.{form_in, interval_in, days_in, first_day_in, index_in, pattern_of, end_type_named, range_of, recurrence_of}
+use Rattle.rr_model.specs.Graph.Reading.{start_moment, event_of, bare_of, graph_text}
 use Rattle.rr_model.specs.declared.kind.Kind.{Kind}
 use Rattle.rr_model.specs.declared.graph.Form.{Form}
 use Rattle.rr_model.specs.declared.graph.Range.{Range}
@@ -25,7 +26,8 @@ use Rattle.rr_model.specs.declared.refusal.Member.TheVariants as of
 use Rattle.rr_model.specs.declared.refusal.Refusal.TheVariants.{NoStart, BadJson, BadMember, StartDiffers, NoOccurrence, IntervalTooLarge}
 
 abbrev pattern : Form → ℕ → ℕ → ℕ → ℕ → Pattern
-pattern form interval day_of_month days first_day = record { form = form; interval = interval; day_of_month = day_of_month; month = 0; days = days; first_day = first_day; index = pos 1 }
+pattern form interval day_of_month days first_day =
+    record { form = form; interval = interval; day_of_month = day_of_month; month = 0; days = days; first_day = first_day; index = pos 1 }
 
 abbrev range : ℤ → RangeEnd → Range
 range start_day end = record { start_day = start_day; end = end }
@@ -35,11 +37,17 @@ event kind start pattern range = record { kind = kind; start = start; repeat = r
 
 readings :
     (graph_text None (codes "{\"subject\":\"Review\",\"isAllDay\":false,\"start\":{\"dateTime\":\"2024-01-02T09:30:00.0000000\",\"timeZone\":\"Pacific Standard Time\"},\"recurrence\":{\"pattern\":{\"type\":\"weekly\",\"interval\":2,\"month\":0,\"dayOfMonth\":0,\"daysOfWeek\":[\"tuesday\",\"thursday\"],\"firstDayOfWeek\":\"sunday\",\"index\":\"first\"},\"range\":{\"type\":\"endDate\",\"startDate\":\"2024-01-02\",\"endDate\":\"2024-06-30\",\"recurrenceTimeZone\":\"Pacific Standard Time\",\"numberOfOccurrences\":0}}}") ≡ Ok (event Moments (pos 1_704_187_800) (pattern Weekly 2 0 20 6) (range (pos 19_724) (EndDate (pos 19_904)))))
-    × (graph_text None (codes "{\"pattern\":{\"type\":\"absoluteMonthly\",\"interval\":1,\"dayOfMonth\":31},\"range\":{\"type\":\"noEnd\",\"startDate\":\"2024-01-31\"}}") ≡ Ok (event Days (pos 19_753) (pattern AbsoluteMonthly 1 31 0 6) (range (pos 19_753) NoEnd)))
+    × (graph_text None (codes
+    "{\"pattern\":{\"type\":\"absoluteMonthly\",\"interval\":1,\"dayOfMonth\":31},\"range\":{\"type\":\"noEnd\",\"startDate\":\"2024-01-31\"}}")
+    ≡ Ok (event Days (pos 19_753) (pattern AbsoluteMonthly 1 31 0 6) (range (pos 19_753) NoEnd)))
     × (graph_text None (codes "{\"pattern\":{\"type\":\"weekly\",\"interval\":2,\"daysOfWeek\":[\"monday\"],\"firstDayOfWeek\":\"monday\"},\"range\":{\"type\":\"numbered\",\"startDate\":\"2024-01-03\",\"numberOfOccurrences\":2}}") ≡ Ok (event Days (pos 19_725) (pattern Weekly 2 0 2 0) (range (pos 19_725) (Numbered 2))))
     × (graph_text (Some (neg_ℤ (pos 28_800))) (codes "{\"start\":{\"dateTime\":\"2024-01-02T04:00:00.0000000\",\"timeZone\":\"UTC\"},\"recurrence\":{\"pattern\":{\"type\":\"weekly\",\"interval\":1,\"daysOfWeek\":[\"monday\"]},\"range\":{\"type\":\"noEnd\",\"startDate\":\"2024-01-01\"}}}") ≡ Ok (event Moments (pos 1_704_139_200) (pattern Weekly 1 0 2 6) (range (pos 19_723) NoEnd)))
-    × (graph_text None (codes "{\"isAllDay\":true,\"start\":{\"dateTime\":\"2024-01-01T23:00:00Z\"},\"recurrence\":null}") ≡ Ok (record { kind = Days; start = pos 19_723; repeat = repeat.Once }))
-unfolding serde_json_on_literals day_number first_day_of_year days_of_months year_of days_into_year months_over month_of day_of_month weekday_of count_from week_index is_digits number_at basic_date basic_time extended_date_of extended_time_of extended_moment_of extended form_named day_named index_named json_object is_pattern_day first_from first_repeat_day form_in interval_in days_in first_day_in index_in pattern_of end_type_named range_of recurrence_of start_moment event_of bare_of graph_text
+    × (graph_text None (codes "{\"isAllDay\":true,\"start\":{\"dateTime\":\"2024-01-01T23:00:00Z\"},\"recurrence\":null}")
+    ≡ Ok (record { kind = Days; start = pos 19_723; repeat = repeat.Once }))
+unfolding serde_json_on_literals day_number first_day_of_year days_of_months year_of days_into_year months_over month_of day_of_month weekday_of count_from
+    week_index is_digits number_at basic_date basic_time extended_date_of extended_time_of extended_moment_of extended form_named day_named index_named
+    json_object is_pattern_day first_from first_repeat_day form_in interval_in days_in first_day_in index_in pattern_of end_type_named range_of
+    recurrence_of start_moment event_of bare_of graph_text
 readings = (refl, refl, refl, refl, refl)
 
 abbrev refused : List ℕ → Refusal → Type 0
@@ -69,5 +77,8 @@ refusals :
     × refused (codes "{\"pattern\":{\"type\":\"absoluteMonthly\",\"interval\":1,\"dayOfMonth\":31},\"range\":{\"type\":\"end\",\"startDate\":\"2024-01-31\"}}") (BadMember of.RangeType)
     × refused (codes "{\"pattern\":{\"type\":\"absoluteMonthly\",\"interval\":1,\"dayOfMonth\":31},\"range\":{\"type\":\"noEnd\",\"startDate\":\"2024-01-31T00:00:00\"}}") (BadMember of.StartDate)
     × refused (codes "{\"pattern\":{\"type\":\"weekly\",\"interval\":2,\"daysOfWeek\":[\"monday\"],\"firstDayOfWeek\":\"monday\"},\"range\":{\"type\":\"numbered\",\"startDate\":\"2024-01-03\",\"numberOfOccurrences\":0}}") (BadMember of.NumberOfOccurrences)
-unfolding serde_json_on_literals day_number first_day_of_year days_of_months year_of days_into_year months_over month_of day_of_month weekday_of count_from week_index is_digits number_at basic_date basic_time extended_date_of extended_time_of extended_moment_of extended form_named day_named index_named json_object is_pattern_day first_from first_repeat_day form_in interval_in days_in first_day_in index_in pattern_of end_type_named range_of recurrence_of start_moment event_of bare_of graph_text
+unfolding serde_json_on_literals day_number first_day_of_year days_of_months year_of days_into_year months_over month_of day_of_month weekday_of count_from
+    week_index is_digits number_at basic_date basic_time extended_date_of extended_time_of extended_moment_of extended form_named day_named index_named
+    json_object is_pattern_day first_from first_repeat_day form_in interval_in days_in first_day_in index_in pattern_of end_type_named range_of
+    recurrence_of start_moment event_of bare_of graph_text
 refusals = (refl, refl, refl, refl, refl, refl, refl, refl, refl, refl, refl, refl, refl, refl, refl, refl, refl, refl, refl, refl, refl, refl, refl)

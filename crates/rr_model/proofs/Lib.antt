@@ -28,5 +28,7 @@ mod LineExamples
 mod ReadingExamples
 pub mod TurnLemmas
 mod VcalExamples
+mod CounterpartExamples
+mod MomentExamples
 mod WrittenExamples
 pub mod DaysAndTimesLemmas

@@ -54,12 +54,15 @@ used lines = record { used = lines; stop = None }
 
 scans :
     (event_scan false calendar_file
-    ≡ used (used_line 11 Dtstart (codes "20240103T100000") ∷ used_line 12 Rrule (codes "FREQ=WEEKLY;WKST=MO;COUNT=4;BYDAY=WE") ∷ used_line 14 Exdate (codes "20240110T100000") ∷ []))
+    ≡ used (used_line 11 Dtstart (codes "20240103T100000") ∷ used_line 12 Rrule (codes "FREQ=WEEKLY;WKST=MO;COUNT=4;BYDAY=WE") ∷ used_line 14 Exdate
+    (codes "20240110T100000") ∷ []))
     × (event_scan false (codes "END:VEVENT") ≡ record { used = []; stop = Some (BadLine 1) })
-    × (event_scan false (codes "BEGIN:VEVENT\nDTSTART:x\nEND:VEVENT\nbegin:vevent\nEND:VEVENT\n") ≡ record { used = used_line 2 Dtstart (codes "x") ∷ []; stop = Some SeveralEvents })
+    × (event_scan false (codes "BEGIN:VEVENT\nDTSTART:x\nEND:VEVENT\nbegin:vevent\nEND:VEVENT\n")
+    ≡ record { used = used_line 2 Dtstart (codes "x") ∷ []; stop = Some SeveralEvents })
     × (event_scan false (codes "BEGIN:VEVENT\nDTSTART:x\n\n\n") ≡ record { used = used_line 2 Dtstart (codes "x") ∷ []; stop = Some (BadLine 4) })
     × (event_scan false (codes "BEGIN:VEVENT\nEND:VALARM\n") ≡ record { used = []; stop = Some (BadLine 2) })
-    × (event_scan false (codes "dtstart:x\nrrule:y\nrrules:z\n\nEXRULE;a:b\r\n") ≡ used (used_line 1 Dtstart (codes "x") ∷ used_line 2 Rrule (codes "y") ∷ used_line 5 Exrule (codes "b") ∷ []))
+    × (event_scan false (codes "dtstart:x\nrrule:y\nrrules:z\n\nEXRULE;a:b\r\n")
+    ≡ used (used_line 1 Dtstart (codes "x") ∷ used_line 2 Rrule (codes "y") ∷ used_line 5 Exrule (codes "b") ∷ []))
     × (event_scan false (codes "DTSTART:x\nRDATE\n") ≡ record { used = used_line 1 Dtstart (codes "x") ∷ []; stop = Some (BadLine 2) })
     × (event_scan false (codes "DTSTART:x\nBEGIN:VEVENT\nEND:VEVENT\n") ≡ used [])
 unfolding calendar_file physical_lines unfolded_lines value_of_line line_kind left_by event_scan

@@ -1,6 +1,7 @@
 -- Worked members of rules that end (RFC 5545, section 3.3.10, UNTIL and COUNT).
 use Rattle.std.proofs.Common.{◌≡◌, ℕ, true, false, [], ◌∷◌, ℤ, pos, refl, ◌*ℤ◌}
-use Rattle.rr_model.specs.Calendar.{days_of_months, first_day_of_year, day_number, year_of, days_into_year, months_over, month_of, day_of_month, day_of_year, weekday_of}
+use Rattle.rr_model.specs.Calendar.{days_of_months, first_day_of_year, day_number, year_of, days_into_year, months_over, month_of, day_of_month}
+use Rattle.rr_model.specs.Calendar.{day_of_year, weekday_of}
 use Rattle.rr_model.specs.Calendar.Week.{week_index, fourth_day, week_year, week_number, last_week}
 use Rattle.rr_model.specs.Whole.Count.{count_from}
 use Rattle.rr_model.specs.Rule.Candidate.{is_candidate}
@@ -45,7 +46,8 @@ counted :
     ∷ is_member (ending Monthly (Count 3)) Days (january 31) (day_number (pos 2024) 7 31)
     ∷ [])
     ≡ (true ∷ false ∷ true ∷ false ∷ [])
-unfolding days_of_months first_day_of_year day_number year_of days_into_year months_over month_of day_of_month day_of_year weekday_of week_index fourth_day week_year week_number last_week count_from is_candidate is_chosen is_member
+unfolding days_of_months first_day_of_year day_number year_of days_into_year months_over month_of day_of_month day_of_year weekday_of week_index fourth_day
+    week_year week_number last_week count_from is_candidate is_chosen is_member
 counted = refl
 
 -- up to 2024-01-03 itself, and not before the start
@@ -57,7 +59,8 @@ until_a_day :
     ∷ is_member (ending Daily Never) Days (january 2) (january 1)
     ∷ [])
     ≡ (true ∷ false ∷ false ∷ true ∷ false ∷ [])
-unfolding days_of_months first_day_of_year day_number year_of days_into_year months_over month_of day_of_month day_of_year weekday_of week_index fourth_day week_year week_number last_week count_from is_candidate is_chosen is_member
+unfolding days_of_months first_day_of_year day_number year_of days_into_year months_over month_of day_of_month day_of_year weekday_of week_index fourth_day
+    week_year week_number last_week count_from is_candidate is_chosen is_member
 until_a_day = refl
 
 -- an UNTIL of another kind than the start lets nothing be a member
@@ -68,7 +71,8 @@ until_of_another_kind :
     ∷ is_member (ending Daily (Until Moments (midnight 3))) Moments (midnight 1) (midnight 4)
     ∷ [])
     ≡ (false ∷ false ∷ true ∷ false ∷ [])
-unfolding days_of_months first_day_of_year day_number year_of days_into_year months_over month_of day_of_month day_of_year weekday_of week_index fourth_day week_year week_number last_week count_from is_candidate is_chosen is_member
+unfolding days_of_months first_day_of_year day_number year_of days_into_year months_over month_of day_of_month day_of_year weekday_of week_index fourth_day
+    week_year week_number last_week count_from is_candidate is_chosen is_member
 until_of_another_kind = refl
 
 -- the first of both ends holds
@@ -80,7 +84,8 @@ both_ends :
     ∷ is_member (ending Daily (Both Moments (midnight 3) 9)) Days (january 1) (january 1)
     ∷ [])
     ≡ (true ∷ false ∷ true ∷ false ∷ false ∷ [])
-unfolding days_of_months first_day_of_year day_number year_of days_into_year months_over month_of day_of_month day_of_year weekday_of week_index fourth_day week_year week_number last_week count_from is_candidate is_chosen is_member
+unfolding days_of_months first_day_of_year day_number year_of days_into_year months_over month_of day_of_month day_of_year weekday_of week_index fourth_day
+    week_year week_number last_week count_from is_candidate is_chosen is_member
 both_ends = refl
 
 -- the third of the Tuesdays, Wednesdays and Thursdays of a month: 4 September, 7 October and 6 November are the first three
@@ -91,5 +96,6 @@ third_of_three = record (ending Monthly Never) {
 }
 
 three_members : members_to third_of_three Days (day_number (pos 1997) 9 4) (day_number (pos 1997) 11 6) ≡ 3
-unfolding days_of_months first_day_of_year day_number year_of days_into_year months_over month_of day_of_month day_of_year weekday_of week_index fourth_day week_year week_number last_week count_from is_candidate is_chosen
+unfolding days_of_months first_day_of_year day_number year_of days_into_year months_over month_of day_of_month day_of_year weekday_of week_index fourth_day
+    week_year week_number last_week count_from is_candidate is_chosen
 three_members = refl

@@ -4,7 +4,8 @@ use Rattle.std.proofs.lemmas.Int.{ints}
 use Rattle.std.proofs.lemmas.Bool.{cases_lt}
 use Rattle.rr_model.specs.Whole.Periodic.{RepeatsFrom, AgreeOn, AgreeFrom}
 
-module _ {X : Type 0} (F G : ℕ → X) (p r : ℕ) (hp : 1 ≤ p) (hr : 1 ≤ r) (pf : (n : ℕ) → F (n + p) ≡ F n) (pg : (n : ℕ) → G (n + r) ≡ G n) (window : (n : ℕ) → n < p + r → F n ≡ G n) where
+module _ {X : Type 0} (F G : ℕ → X) (p r : ℕ) (hp : 1 ≤ p) (hr : 1 ≤ r) (pf : (n : ℕ) → F (n + p) ≡ F n) (pg : (n : ℕ) → G (n + r) ≡ G n) (window : (n : ℕ)
+    → n < p + r → F n ≡ G n) where
   -- a place past the window, from three places before it
   past : (m : ℕ) → F m ≡ G m → F (m + r) ≡ G (m + r) → F (m + p) ≡ G (m + p) → F (m + r + p) ≡ G (m + r + p)
   past m here later_r later_p =
@@ -29,7 +30,8 @@ module _ {X : Type 0} (F G : ℕ → X) (p r : ℕ) (hp : 1 ≤ p) (hr : 1 ≤ r
 pub offset : (q d : ℤ) → q ≤ℤ d → d ≡ q +ℤ pos (nat_abs (d -ℤ q))
 offset q d h = omega (arith, ints)
 
-pub agreement_lasts : {X : Type 0} (f g : ℤ → X) (q : ℤ) (p r : ℕ) → 1 ≤ p → 1 ≤ r → RepeatsFrom f q p → RepeatsFrom g q r → AgreeOn f g q (p + r) → AgreeFrom f g q
+pub agreement_lasts : {X : Type 0} (f g : ℤ → X) (q : ℤ) (p r : ℕ) → 1 ≤ p → 1 ≤ r → RepeatsFrom f q p → RepeatsFrom g q r → AgreeOn f g q (p + r)
+    → AgreeFrom f g q
 agreement_lasts f g q p r hp hr rf rg window d h =
     let n = nat_abs (d -ℤ q) in
     let on : (m k : ℕ) → (q +ℤ pos m) +ℤ pos k ≡ q +ℤ pos (m + k) = λ m k. omega (arith, ints) in

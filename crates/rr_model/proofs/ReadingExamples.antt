@@ -21,7 +21,8 @@ use Rattle.rr_model.specs.Text.ExtendedMoments.{extended_date_of, extended_time_
 use Rattle.rr_model.specs.Text.Lists.{with_list_line, list_text}
 use Rattle.rr_model.specs.Text.Calendars.{stated_rule, rule_beside, calendar_text}
 use Rattle.rr_model.specs.declared.refusal.Refusal.{Refusal}
-use Rattle.rr_model.specs.declared.refusal.Refusal.TheVariants.{BadLine, SeveralEvents, NoStart, BadMoment, MixedKinds, BadRule, PartTwice, NumberRange, NotAllowed, UtcMoment, PeriodValue, Extended, NotRising}
+use Rattle.rr_model.specs.declared.refusal.Refusal.TheVariants.{BadLine, SeveralEvents, NoStart, BadMoment, MixedKinds, BadRule, PartTwice, NumberRange}
+use Rattle.rr_model.specs.declared.refusal.Refusal.TheVariants.{NotAllowed, UtcMoment, PeriodValue, Extended, NotRising}
 use Rattle.rr_model.proofs.LineExamples.{calendar_file}
 
 abbrev rule : Freq → List DayItem → End → Rule
@@ -69,19 +70,24 @@ lists :
     × (list_text (codes "2024-01-02T00:00:00.0\n") ≡ Err (BadMoment 1))
     × (list_text (codes "2024-01-02\r") ≡ Err (BadMoment 1))
     × (list_text (239 ∷ 187 ∷ 191 ∷ codes "2024-01-01\n") ≡ Ok (dates []))
-unfolding physical_lines day_number first_day_of_year days_of_months is_digits number_at basic_date basic_time extended_date_of extended_time_of extended_moment_of extended with_list_line list_text
+unfolding physical_lines day_number first_day_of_year days_of_months is_digits number_at basic_date basic_time extended_date_of extended_time_of
+    extended_moment_of extended with_list_line list_text
 lists = (refl, refl, refl, refl, refl, refl, refl, refl)
 
 abbrev text : List ℕ → List ℕ → List ℕ
 text start rule = codes "DTSTART:" ++ start ++ 10 ∷ (codes "RRULE:" ++ rule ++ 10 ∷ [])
 
 calendars :
-    (calendar_text None calendar_file ≡ Ok (series Moments (pos 1_704_276_000) (rule Weekly (record { place = pos 0; weekday = 2 } ∷ []) (Count 4) ∷ []) [] (pos 1_704_880_800 ∷ [])))
+    (calendar_text None calendar_file
+    ≡ Ok (series Moments (pos 1_704_276_000) (rule Weekly (record { place = pos 0; weekday = 2 } ∷ []) (Count 4) ∷ []) [] (pos 1_704_880_800 ∷ [])))
     × (calendar_text None (codes "DTSTART;TZID=Europe/Berlin:20240101T093000\nRRULE:FREQ=DAILY;UNTIL=20240103T083000Z\n") ≡ Err UtcMoment)
     × (calendar_text (Some (pos 3_600)) (codes "DTSTART;TZID=Europe/Berlin:20240101T093000\nRRULE:FREQ=DAILY;UNTIL=20240103T083000Z\n")
     ≡ Ok (series Moments (pos 1_704_101_400) (rule Daily [] (Until Moments (pos 1_704_274_200)) ∷ []) [] []))
-    × (calendar_text None (codes "DTSTART:20240101\nRDATE:20240103, 20240102\nEXDATE:20240101\n") ≡ Ok (series Days (pos 19_723) [] (pos 19_724 ∷ pos 19_725 ∷ []) (pos 19_723 ∷ [])))
-unfolding calendar_file physical_lines unfolded_lines value_of_line line_kind left_by event_scan stated_rule rule_beside calendar_text day_number first_day_of_year days_of_months is_digits number_at basic basic_date basic_time basic_moment freq_named weekday_named number_up_to number_within numbers_of day_item_within day_items_of part_named name_of with_part parts_of rule_of rule_parts line_value
+    × (calendar_text None (codes "DTSTART:20240101\nRDATE:20240103, 20240102\nEXDATE:20240101\n")
+    ≡ Ok (series Days (pos 19_723) [] (pos 19_724 ∷ pos 19_725 ∷ []) (pos 19_723 ∷ [])))
+unfolding calendar_file physical_lines unfolded_lines value_of_line line_kind left_by event_scan stated_rule rule_beside calendar_text day_number
+    first_day_of_year days_of_months is_digits number_at basic basic_date basic_time basic_moment freq_named weekday_named number_up_to number_within
+    numbers_of day_item_within day_items_of part_named name_of with_part parts_of rule_of rule_parts line_value
 calendars = (refl, refl, refl, refl)
 
 abbrev refused : List ℕ → Refusal → Type 0
@@ -106,5 +112,7 @@ refusals :
     × refused (codes "BEGIN:VEVENT\nRDATE:x\n") (BadMoment 2)
     × refused (codes "BEGIN:VEVENT\nRRULE:FREQ=DAILY\n") (BadLine 2)
     × (calendar_text (Some (pos 3_600)) (codes "DTSTART:20240101T000000\nEXDATE:99991231T235959Z\n") ≡ Err (BadMoment 2))
-unfolding physical_lines unfolded_lines value_of_line line_kind left_by event_scan stated_rule rule_beside calendar_text day_number first_day_of_year days_of_months is_digits number_at basic basic_date basic_time basic_moment freq_named weekday_named number_up_to number_within numbers_of day_item_within day_items_of part_named name_of with_part parts_of rule_of rule_parts line_value
+unfolding physical_lines unfolded_lines value_of_line line_kind left_by event_scan stated_rule rule_beside calendar_text day_number first_day_of_year
+    days_of_months is_digits number_at basic basic_date basic_time basic_moment freq_named weekday_named number_up_to number_within numbers_of
+    day_item_within day_items_of part_named name_of with_part parts_of rule_of rule_parts line_value
 refusals = (refl, refl, refl, refl, refl, refl, refl, refl, refl, refl, refl, refl, refl, refl, refl, refl, refl, refl)

@@ -82,7 +82,8 @@ module _ {X : Type 0} {cmp : X → X → Ordering} (o : IsTotalOrder cmp) where
   searchable xs v r = searchable_from_sorted o (λ y. y) xs v (sorted xs r)
 
   -- a value that is there stays as it is
-  there : (xs : List X) (i : ℕ) (v : X) → Rises (below_by cmp) xs → i < length xs → ((d : X) → cmp (get_or xs i d) v ≡ Equal) → with_value (below_by cmp) xs v ≡ xs
+  there : (xs : List X) (i : ℕ) (v : X) → Rises (below_by cmp) xs → i < length xs → ((d : X) → cmp (get_or xs i d) v ≡ Equal)
+      → with_value (below_by cmp) xs v ≡ xs
   there [] i v r l e = absurd (omega arith)
   there (y ∷ ys) zero v r l e =
       let a : is_lt (cmp y v) ≡ false = ap is_lt (e v) in
@@ -93,7 +94,8 @@ module _ {X : Type 0} {cmp : X → X → Ordering} (o : IsTotalOrder cmp) where
       rw a (ap (λ l. y ∷ l) (there ys i v (Rises-tail (below_by cmp) y ys r) (omega arith) e))
 
   -- a new value stands between the smaller and the greater
-  new : (xs : List X) (i : ℕ) (v : X) → i ≤ length xs → ((k : ℕ) (d : X) → 0 ≤ k → k < i → cmp (get_or xs k d) v ≡ Less) → ((k : ℕ) (d : X) → i ≤ k → k < length xs → cmp (get_or xs k d) v ≡ Greater) → with_value (below_by cmp) xs v ≡ insert xs i v
+  new : (xs : List X) (i : ℕ) (v : X) → i ≤ length xs → ((k : ℕ) (d : X) → 0 ≤ k → k < i → cmp (get_or xs k d) v ≡ Less)
+      → ((k : ℕ) (d : X) → i ≤ k → k < length xs → cmp (get_or xs k d) v ≡ Greater) → with_value (below_by cmp) xs v ≡ insert xs i v
   new [] zero v within before from = refl
   new [] (suc i) v within before from = absurd (omega arith)
   new (y ∷ ys) zero v within before from =
@@ -103,13 +105,16 @@ module _ {X : Type 0} {cmp : X → X → Ordering} (o : IsTotalOrder cmp) where
       rw (a, b) refl
   new (y ∷ ys) (suc i) v within before from =
       let a : is_lt (cmp y v) ≡ true = ap is_lt (before 0 v (omega arith) (omega arith)) in
-      rw a (ap (λ l. y ∷ l) (new ys i v (omega arith) (λ k d z l. before (suc k) d (omega arith) (omega arith)) (λ k d z l. from (suc k) d (omega arith) (omega arith))))
+      rw a (ap (λ l. y ∷ l)
+      (new ys i v (omega arith) (λ k d z l. before (suc k) d (omega arith) (omega arith)) (λ k d z l. from (suc k) d (omega arith) (omega arith))))
 
   -- what a binary search found, or found wanting, in the slice of the list
-  pub put_there : (xs ys : List X) (i : ℕ) (v : X) → ys ≡ xs → Rises (below_by cmp) xs → i < length ys → IsBinarySearchResult (λ y. cmp y v) ys (Ok i) → xs ≡ with_value (below_by cmp) xs v
+  pub put_there : (xs ys : List X) (i : ℕ) (v : X) → ys ≡ xs → Rises (below_by cmp) xs → i < length ys → IsBinarySearchResult (λ y. cmp y v) ys (Ok i)
+      → xs ≡ with_value (below_by cmp) xs v
   put_there xs ys i v e r l h = sym (there xs i v r (rw e at l) (rw e at h))
 
-  pub put_new : (xs ys : List X) (i : ℕ) (v : X) → ys ≡ xs → Rises (below_by cmp) xs → i ≤ length ys → IsBinarySearchResult (λ y. cmp y v) ys (Err i) → insert xs i v ≡ with_value (below_by cmp) xs v
+  pub put_new : (xs ys : List X) (i : ℕ) (v : X) → ys ≡ xs → Rises (below_by cmp) xs → i ≤ length ys → IsBinarySearchResult (λ y. cmp y v) ys (Err i)
+      → insert xs i v ≡ with_value (below_by cmp) xs v
   put_new xs ys i v e r l h =
       let parts = (rw e at h) (searchable xs v r) in
       sym (new xs i v (rw e at l) parts.0 parts.1)

@@ -1,5 +1,6 @@
 -- Sets as rising lists: how one grows, and that its members determine it.
-use Rattle.std.proofs.Common.{◌≡◌, ℕ, zero, suc, ◌<◌, ◌≤◌, ℤ, Bool, true, List, [], ◌∷◌, ◌++◌, length, get_or, All, Contains, inl, inr, refl, sym, ◌∙◌, subst, arith}
+use Rattle.std.proofs.Common.{◌≡◌, ℕ, zero, suc, ◌<◌, ◌≤◌, ℤ, Bool, true, List, [], ◌∷◌, ◌++◌, length, get_or, All, Contains, inl, inr, refl, sym, ◌∙◌}
+use Rattle.std.proofs.Common.{subst, arith}
 use Rattle.std.specs.Prelude.{◌⊎◌, ◌↔◌, IsTrue, nat_lt, int_lt}
 use Rattle.std.proofs.lemmas.Int.{ints}
 use Rattle.std.proofs.lemmas.Bool.Decides.{nat_tests}
@@ -48,7 +49,11 @@ module _ {X : Type 0} (below : X → X → Bool) where
       rises = Rises-push xs x set.rises (λ y c. above y ((set.exact y).0 c));
       exact = λ y. (
         (λ c. elim (Contains-push_cases xs x y c) [ inl d ↦ inl ((set.exact y).0 d) | inr e ↦ inr e ]),
-        (λ p. elim p [ inl q ↦ Contains-append_left xs (x ∷ []) y ((set.exact y).1 q) | inr e ↦ subst (λ z. Contains (xs ++ x ∷ []) z) e (Contains-push xs x) ]),
+        (λ p. elim p [
+          | inl q ↦ Contains-append_left xs (x ∷ []) y ((set.exact y).1 q)
+          | inr e ↦
+              subst (λ z. Contains (xs ++ x ∷ []) z) e (Contains-push xs x)
+        ]),
       );
     }
 
@@ -56,7 +61,8 @@ module _ {X : Type 0} (below : X → X → Bool) where
 pub set_itself : {X : Type 0} (below : X → X → Bool) (xs : List X) → Rises below xs → IsSetOf below xs (Contains xs)
 set_itself below xs r = record { rises = r; exact = λ x. ((λ c. c), (λ c. c)) }
 
-module _ {X : Type 0} (below : X → X → Bool) (strict : (x : X) → IsTrue (below x x) → ⊥) (follows : (x y z : X) → IsTrue (below x y) → IsTrue (below y z) → IsTrue (below x z)) where
+module _ {X : Type 0} (below : X → X → Bool) (strict : (x : X) → IsTrue (below x x) → ⊥) (follows : (x y z : X) → IsTrue (below x y) → IsTrue (below y z)
+    → IsTrue (below x z)) where
   -- the head is below each other member
   pub below_rest : (x : X) (xs : List X) → Rises below (x ∷ xs) → (y : X) → Contains xs y → IsTrue (below x y)
   below_rest x [] r y c = absurd (Contains-none y c)
@@ -78,7 +84,8 @@ module _ {X : Type 0} (below : X → X → Bool) (strict : (x : X) → IsTrue (b
       ]
 
   -- a member of the rest stands in the rest of the other
-  same_rest : (x y : X) (xs ys : List X) → Rises below (x ∷ xs) → x ≡ y → ((z : X) → Contains (x ∷ xs) z → Contains (y ∷ ys) z) → (z : X) → Contains xs z → Contains ys z
+  same_rest : (x y : X) (xs ys : List X) → Rises below (x ∷ xs) → x ≡ y → ((z : X) → Contains (x ∷ xs) z → Contains (y ∷ ys) z) → (z : X) → Contains xs z
+      → Contains ys z
   same_rest x y xs ys r e within z c =
       elim (Contains-cons_cases y ys z (within z (Contains-tail x xs z c))) [
         | inl f ↦ absurd (strict x (subst (λ w. IsTrue (below x w)) (sym (e ∙ f)) (below_rest x xs r z c)))
@@ -86,13 +93,15 @@ module _ {X : Type 0} (below : X → X → Bool) (strict : (x : X) → IsTrue (b
       ]
 
   -- two rising lists with the same members are one
-  pub same_members : (xs ys : List X) → Rises below xs → Rises below ys → ((x : X) → Contains xs x → Contains ys x) → ((x : X) → Contains ys x → Contains xs x) → xs ≡ ys
+  pub same_members : (xs ys : List X) → Rises below xs → Rises below ys → ((x : X) → Contains xs x → Contains ys x)
+      → ((x : X) → Contains ys x → Contains xs x) → xs ≡ ys
   same_members [] [] rx ry to from = refl
   same_members [] (y ∷ ys) rx ry to from = absurd (Contains-none y (from y (Contains-head y ys)))
   same_members (x ∷ xs) [] rx ry to from = absurd (Contains-none x (to x (Contains-head x xs)))
   same_members (x ∷ xs) (y ∷ ys) rx ry to from =
       let e : x ≡ y = same_head x y xs ys rx ry (to x (Contains-head x xs)) (from y (Contains-head y ys)) in
-      let rest : xs ≡ ys = same_members xs ys (Rises-tail below x xs rx) (Rises-tail below y ys ry) (same_rest x y xs ys rx e to) (same_rest y x ys xs ry (sym e) from) in
+      let rest : xs ≡ ys =
+      same_members xs ys (Rises-tail below x xs rx) (Rises-tail below y ys ry) (same_rest x y xs ys rx e to) (same_rest y x ys xs ry (sym e) from) in
       cc
 
 -- a set of seconds is one list
@@ -112,7 +121,8 @@ pub rising_at : (xs : List ℕ) → Rises nat_lt xs → (i j : ℕ) → i < j �
 rising_at [] r i j l h = absurd (omega arith)
 rising_at (x ∷ xs) r zero zero l h = absurd (omega arith)
 rising_at (x ∷ xs) r zero (suc j) l h =
-    let t : nat_lt x (get_or xs j 0) ≡ true = below_rest nat_lt (λ y m. grind arith) (λ y z w m n. grind arith) x xs r (get_or xs j 0) (Contains-get_or xs j 0 (omega arith)) in
+    let t : nat_lt x (get_or xs j 0) ≡ true =
+    below_rest nat_lt (λ y m. grind arith) (λ y z w m n. grind arith) x xs r (get_or xs j 0) (Contains-get_or xs j 0 (omega arith)) in
     grind (arith, nat_tests)
 rising_at (x ∷ xs) r (suc i) zero l h = absurd (omega arith)
 rising_at (x ∷ xs) r (suc i) (suc j) l h = rising_at xs (Rises-tail nat_lt x xs r) i j (omega arith) (omega arith)

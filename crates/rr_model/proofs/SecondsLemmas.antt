@@ -14,7 +14,8 @@ Contains-or_not (x ∷ xs) w =
     elim (Contains-or_not xs w) [
       | inl there ↦ inl (Contains-tail x xs w there)
       | inr absent ↦
-          let not_first : (x ≡ w → ⊥) → Contains (x ∷ xs) w → ⊥ = λ differ c. elim (Contains-cons_cases x xs w c) [ inl e ↦ differ e | inr more ↦ absent more ] in
+          let not_first : (x ≡ w → ⊥) → Contains (x ∷ xs) w → ⊥ =
+          λ differ c. elim (Contains-cons_cases x xs w c) [ inl e ↦ differ e | inr more ↦ absent more ] in
           elim (cases_order x w) [
             | inl e ↦ inl (0, omega arith, e)
             | inr order ↦ elim order [ inl l ↦ inr (not_first (λ e. omega arith)) | inr g ↦ inr (not_first (λ e. omega arith)) ]

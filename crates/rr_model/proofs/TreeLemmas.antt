@@ -1,7 +1,8 @@
 -- There is one proof at most that a tree is of a kind.
 use Rattle.std.specs.Coded.{×_prop, Unit-prop}
 use Rattle.std.proofs.Props.{props}
-use Rattle.rr_model.specs.Sets.Tree.{Tree, Forest, chosen_of, dates_of, union, many, upto, first_n, without, nothing, part, IsOfKind, AreOfKind, IsOfOneKind, kind_in, or_days}
+use Rattle.rr_model.specs.Sets.Tree.{Tree, Forest, chosen_of, dates_of, union, many, upto, first_n, without, nothing, part, IsOfKind, AreOfKind}
+use Rattle.rr_model.specs.Sets.Tree.{IsOfOneKind, kind_in, or_days}
 use Rattle.rr_model.specs.declared.kind.Kind.{Kind}
 use Rattle.rr_model.proofs.ValidityProps.{HasCountInRange-prop, PartsRise-prop}
 

@@ -9,7 +9,8 @@ use Rattle.rr_model.specs.declared.refusal.Fault.TheVariants.{Refused, NoMemory}
 use Rattle.rr_model.specs.declared.refusal.Refusal.{Refusal}
 
 module _ {X Y : Type 0} (step : X → Y → Result X Refusal) (ys : List Y) where
-  turn : (x : X) (n : ℕ) (y : Y) → (n < length ys) × (y ≡ get_or ys n y) → in_turn step x (drop n ys) ≡ (step x y >>= λ next. in_turn step next (drop (n + 1) ys))
+  turn : (x : X) (n : ℕ) (y : Y) → (n < length ys) × (y ≡ get_or ys n y)
+      → in_turn step x (drop n ys) ≡ (step x y >>= λ next. in_turn step next (drop (n + 1) ys))
   turn x n y at = at_drop_more (in_turn step x) ys n y at.0 ∙ ap (λ (z : Y). in_turn step x (z ∷ drop (n + 1) ys)) (sym at.1)
 
   pub goes_on : (x next : X) (n m : ℕ) (y : Y) (all : Result X Refusal) → (n < length ys) × (y ≡ get_or ys n y) → m ≡ n + 1 → step x y ≡ Ok next

@@ -1,7 +1,8 @@
 -- Worked texts of vCalendar 1.0.
 use Rattle.std.proofs.Common.{◌≡◌, ℕ, List, [], ◌∷◌, ◌++◌, pos, neg_ℤ, true, false, refl}
 use Rattle.std.specs.Prelude.{codes, None, Ok, Err}
-use Rattle.rr_model.specs.Calendar.{day_number, first_day_of_year, days_of_months, year_of, days_into_year, months_over, month_of, day_of_month, day_of_year, weekday_of}
+use Rattle.rr_model.specs.Calendar.{day_number, first_day_of_year, days_of_months, year_of, days_into_year, months_over, month_of, day_of_month}
+use Rattle.rr_model.specs.Calendar.{day_of_year, weekday_of}
 use Rattle.rr_model.specs.Whole.Count.{count_from}
 use Rattle.rr_model.specs.Text.Moments.{is_digits, number_at, basic, basic_date, basic_time, basic_moment}
 use Rattle.rr_model.specs.Text.RuleValues.{weekday_named, number_up_to}
@@ -52,7 +53,9 @@ readings :
     × read (codes "YM1") (vrule YM 1 (Month 1 ∷ []) (Count 2))
     × read (codes "YD1 001 200") (vrule YD 1 (YearDay 1 ∷ YearDay 200 ∷ []) (Count 2))
     × read (codes "YD1") (vrule YD 1 (YearDay 31 ∷ []) (Count 2))
-unfolding physical_lines unfolded_lines value_of_line line_kind left_by event_scan head_of parts_of_head with_word stated_vrule vrule_beside reads_vcal day_number first_day_of_year days_of_months year_of days_into_year months_over month_of day_of_month day_of_year weekday_of is_digits number_at basic basic_date basic_time basic_moment weekday_named number_up_to line_value
+unfolding physical_lines unfolded_lines value_of_line line_kind left_by event_scan head_of parts_of_head with_word stated_vrule vrule_beside reads_vcal
+    day_number first_day_of_year days_of_months year_of days_into_year months_over month_of day_of_month day_of_year weekday_of is_digits number_at basic
+    basic_date basic_time basic_moment weekday_named number_up_to line_value
 readings = (refl, refl, refl, refl, refl, refl, refl, refl, refl, refl, refl, refl, refl)
 
 abbrev refused : List ℕ → Refusal → Type 0
@@ -83,7 +86,9 @@ refusals :
     × refused (codes "MD1 0-") (NumberRange 2)
     × refused (codes "YM1 13") (NumberRange 2)
     × refused (codes "YD1 5+") (BadRule 2)
-unfolding physical_lines unfolded_lines value_of_line line_kind left_by event_scan head_of parts_of_head with_word stated_vrule vrule_beside reads_vcal day_number first_day_of_year days_of_months year_of days_into_year months_over month_of day_of_month day_of_year weekday_of is_digits number_at basic basic_date basic_time basic_moment weekday_named number_up_to line_value
+unfolding physical_lines unfolded_lines value_of_line line_kind left_by event_scan head_of parts_of_head with_word stated_vrule vrule_beside reads_vcal
+    day_number first_day_of_year days_of_months year_of days_into_year months_over month_of day_of_month day_of_year weekday_of is_digits number_at basic
+    basic_date basic_time basic_moment weekday_named number_up_to line_value
 refusals = (refl, refl, refl, refl, refl, refl, refl, refl, refl, refl, refl, refl, refl, refl, refl, refl, refl, refl, refl, refl, refl, refl, refl, refl)
 
 -- the fifth Fridays from 2024-03-29: 2024-05-31 is one, 2024-04-26 is none

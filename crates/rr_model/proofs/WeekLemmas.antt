@@ -5,7 +5,8 @@ use Rattle.rr_model.specs.Calendar.{first_day_of_year, day_number, days_into_yea
 use Rattle.rr_model.specs.Calendar.Week.{week_index, fourth_day, week_year, week_number, last_week}
 use Rattle.rr_model.specs.Calendar.Laws.{IsLastWeek}
 use Rattle.rr_model.proofs.WholeLemmas.{floor_only, floor_whole, floor_mod_below}
-use Rattle.rr_model.proofs.CalendarLemmas.{IsInYear-year_of, year_of_is, days_into_year_is, first_day_of_year-next, days_in_year_bounds, days_of_months-all, days_of_months-next, days_of_months-zero}
+use Rattle.rr_model.proofs.CalendarLemmas.{IsInYear-year_of, year_of_is, days_into_year_is, first_day_of_year-next, days_in_year_bounds, days_of_months-all}
+use Rattle.rr_model.proofs.CalendarLemmas.{days_of_months-next, days_of_months-zero}
 
 -- ---- the fourth day of a week
 
@@ -43,7 +44,8 @@ day_number-december_28 y =
     omega (arith, ints, first_day_of_year-next y, days_of_months-all y, days_of_months-next y 11, days_in_year_bounds y)
 
 -- 28 December's week has its fourth day in the last seven days of the year
-december_28 : (y : ℤ) (w : ℕ) → ((first_day_of_year (y +ℤ pos 1) -ℤ pos 7) ≤ℤ fourth_day (week_index (day_number y 12 28) w) w) × (fourth_day (week_index (day_number y 12 28) w) w <ℤ first_day_of_year (y +ℤ pos 1))
+december_28 : (y : ℤ) (w : ℕ) → ((first_day_of_year (y +ℤ pos 1) -ℤ pos 7) ≤ℤ fourth_day (week_index (day_number y 12 28) w) w)
+    × (fourth_day (week_index (day_number y 12 28) w) w <ℤ first_day_of_year (y +ℤ pos 1))
 december_28 y w =
     let near = fourth_day_near (day_number y 12 28) w in
     (omega (arith, ints, near.1, day_number-december_28 y), omega (arith, ints, near.0, day_number-december_28 y))

@@ -5,7 +5,8 @@ use Prim.Native.Nat.{◌∣◌}
 use Rattle.std.specs.Int.{IsGcd}
 use Rattle.std.proofs.lemmas.Nat.{mod_below, mod-mul-add, div-add-mod'}
 use Rattle.std.proofs.lemmas.Nat.Gcd.{IsGcd-from_zero, IsGcd-from_mod, same_from_IsGcd, le_of_dvd, dvd-zero}
-use Rattle.std.proofs.Math.Nat.{mul-dvd-mul_left, mul-dvd-mul_right, dvd_of_mul-dvd-mul_left, dvd-mul_left, dvd-mul_right, pos_of_dvd_of_pos, div-mul_cancel, mul_comm, mul_assoc, mul_left_comm, mul-add, mul-lt-mul_of_pos_left, mul-zero, mul-pos, one-mul}
+use Rattle.std.proofs.Math.Nat.{mul-dvd-mul_left, mul-dvd-mul_right, dvd_of_mul-dvd-mul_left, dvd-mul_left, dvd-mul_right, pos_of_dvd_of_pos}
+use Rattle.std.proofs.Math.Nat.{div-mul_cancel, mul_comm, mul_assoc, mul_left_comm, mul-add, mul-lt-mul_of_pos_left, mul-zero, mul-pos, one-mul}
 use Rattle.rr_model.specs.Whole.Divisors.{gcd_within, gcd, lcm, IsLcm, NoMultipleWithin}
 
 -- n times the remainder is the remainder of n times both
@@ -28,7 +29,8 @@ scaled_within n (suc steps) a b hn l =
           let hb : 1 ≤ b = omega (arith, eqb-false b 0 e) in
           let small = mod_below a b hb in
           let rest = scaled_within n steps b (a % b) hn (omega arith) in
-          IsGcd-from_mod (n * a) (n * b) (n * gcd_within steps b (a % b)) (subst (λ r. IsGcd (n * b) r (n * gcd_within steps b (a % b))) (sym (scaled_mod n a b hn hb)) rest)
+          IsGcd-from_mod (n * a) (n * b) (n * gcd_within steps b (a % b))
+          (subst (λ r. IsGcd (n * b) r (n * gcd_within steps b (a % b))) (sym (scaled_mod n a b hn hb)) rest)
     ] refl
 
 scaled_is : (n a b : ℕ) → 1 ≤ n → IsGcd (n * a) (n * b) (n * gcd a b)
@@ -36,7 +38,8 @@ unfolding gcd
 scaled_is n a b hn = scaled_within n b a b hn (omega arith)
 
 pub gcd_is : (a b : ℕ) → IsGcd a b (gcd a b)
-gcd_is a b = subst (λ g. IsGcd a b g) (one-mul (gcd a b)) (subst (λ z. IsGcd z b (1 * gcd a b)) (one-mul a) (subst (λ z. IsGcd (1 * a) z (1 * gcd a b)) (one-mul b) (scaled_is 1 a b (omega arith))))
+gcd_is a b = subst (λ g. IsGcd a b g) (one-mul (gcd a b))
+    (subst (λ z. IsGcd z b (1 * gcd a b)) (one-mul a) (subst (λ z. IsGcd (1 * a) z (1 * gcd a b)) (one-mul b) (scaled_is 1 a b (omega arith))))
 
 pub gcd-zero : (a : ℕ) → gcd a 0 ≡ a
 unfolding gcd gcd_within

@@ -18,7 +18,8 @@ pub digit_value-digit : (b : ℕ) → is_digit b ≡ true → digit_value b ≡ 
 digit_value-digit b h = let range = is_digit_bounds b h in grind (arith, nat_tests)
 
 -- one digit more
-pub digits_value_next : (bs : List ℕ) (i : ℕ) → i < length bs → is_digit (get_or bs i 0) ≡ true → digits_value (take (i + 1) bs) ≡ digits_value (take i bs) * 10 + (get_or bs i 0 - 48)
+pub digits_value_next : (bs : List ℕ) (i : ℕ) → i < length bs → is_digit (get_or bs i 0) ≡ true
+    → digits_value (take (i + 1) bs) ≡ digits_value (take i bs) * 10 + (get_or bs i 0 - 48)
 digits_value_next bs i h digit =
     digits_value_more 10 bs i h ∙ ap (λ n. digits_value (take i bs) * 10 + n) (digit_value-digit (get_or bs i 0) digit)
 

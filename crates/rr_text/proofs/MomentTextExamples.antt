@@ -3,7 +3,8 @@ use Rattle.std.proofs.Common.{◌≡◌, pos, neg_ℤ, true, false, refl}
 use Rattle.std.specs.Prelude.{codes, None, Some}
 use Rattle.std.specs.Fmt.{digits}
 use Rattle.rr_model.specs.Calendar.{day_number, first_day_of_year, days_of_months, year_of, days_into_year, months_over, month_of, day_of_month}
-use Rattle.rr_model.specs.Text.Moments.{is_digits, number_at, basic_date, basic_time, basic_moment, basic, extended_date_text, extended_time_text, extended_text, date_stamp, moment_stamp}
+use Rattle.rr_model.specs.Text.Moments.{is_digits, number_at, basic_date, basic_time, basic_moment, basic, extended_date_text, extended_time_text}
+use Rattle.rr_model.specs.Text.Moments.{extended_text, date_stamp, moment_stamp}
 use Rattle.rr_model.specs.declared.kind.Kind.TheVariants.{Days, Moments}
 
 basic_dates :

@@ -1,5 +1,6 @@
 -- The texts of dates and moments: bounds of what they state.
-use Rattle.std.proofs.Common.{◌≡◌, ℕ, ◌+◌, ◌^◌, ◌<◌, ◌≤◌, Bool, true, false, if◌then◌else◌, Option, None, Some, List, length, take, drop, slice_index, ℤ, pos, neg_ℤ, ◌+ℤ◌, ◌≤ℤ◌, refl, arith}
+use Rattle.std.proofs.Common.{◌≡◌, ℕ, ◌+◌, ◌^◌, ◌<◌, ◌≤◌, Bool, true, false, if◌then◌else◌, Option, None, Some, List, length, take, drop, slice_index, ℤ}
+use Rattle.std.proofs.Common.{pos, neg_ℤ, ◌+ℤ◌, ◌≤ℤ◌, refl, arith}
 use Rattle.std.specs.List.{AllPass, list_all}
 use Rattle.std.proofs.lemmas.Bool.Decides.{nat_tests}
 use Rattle.std.proofs.lemmas.Grind.{common_steps}
@@ -71,6 +72,7 @@ unfolding basic_moment
 basic_moment-no_letter text h = rw h refl
 
 -- with it the parts decide
-pub basic_moment-parts : (text : List ℕ) (date : Option ℤ) (time : Option ℕ) (mark : Option Bool) → is_letter_t (slice_index text 8) ≡ true → date ≡ basic_date (take 8 text) → time ≡ basic_time (take 6 (drop 9 text)) → mark ≡ utc_mark (drop 15 text) → basic_moment text ≡ moment_of date time mark
+pub basic_moment-parts : (text : List ℕ) (date : Option ℤ) (time : Option ℕ) (mark : Option Bool) → is_letter_t (slice_index text 8) ≡ true
+    → date ≡ basic_date (take 8 text) → time ≡ basic_time (take 6 (drop 9 text)) → mark ≡ utc_mark (drop 15 text) → basic_moment text ≡ moment_of date time mark
 unfolding basic_moment
 basic_moment-parts text date time mark h d t m = rw (h, d, t, m) refl

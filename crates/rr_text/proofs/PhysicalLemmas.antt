@@ -1,5 +1,6 @@
 -- A text is cut after its first physical line.
-use Rattle.std.proofs.Common.{◌≡◌, ℕ, ◌+◌, ◌-◌, ◌<◌, ◌≤◌, ◌==◌, ◌&&◌, not, Bool, true, false, if◌then◌else◌, List, [], ◌∷◌, length, take, drop, refl, sym, ap, ◌∙◌, arith, suc, zero, Option, Some, None, rules}
+use Rattle.std.proofs.Common.{◌≡◌, ℕ, ◌+◌, ◌-◌, ◌<◌, ◌≤◌, ◌==◌, ◌&&◌, not, Bool, true, false, if◌then◌else◌, List, [], ◌∷◌, length, take, drop, refl, sym}
+use Rattle.std.proofs.Common.{ap, ◌∙◌, arith, suc, zero, Option, Some, None, rules}
 use Rattle.std.specs.Prelude.{codes, nat_lt, nat_le}
 use Rattle.std.specs.List.{position, position_or_len, onto_first}
 use Rattle.std.specs.Str.{bytes_eq}
@@ -86,7 +87,8 @@ one_line-step b bs more h = by (b == 10) refl
     shorter : (b == 10) ≡ false → length bs ≤ position_or_len is_feed bs
     shorter e = omega (arith, h, place-more b bs e)
 
-    last : (bs : List ℕ) → length bs ≤ position_or_len is_feed bs → (b == 10) ≡ false → physical_lines bs ≡ (if is_absent bs then [] else bs ∷ []) → physical_lines (b ∷ bs) ≡ (b ∷ bs) ∷ []
+    last : (bs : List ℕ) → length bs ≤ position_or_len is_feed bs → (b == 10) ≡ false → physical_lines bs ≡ (if is_absent bs then [] else bs ∷ [])
+        → physical_lines (b ∷ bs) ≡ (b ∷ bs) ∷ []
     last [] h e more = physical_lines-cons b [] ∙ step-last b (physical_lines []) e ∙ ap (onto_first b) physical_lines-nil
     last (c ∷ cs) h e more = next (c == 10) refl
       where
@@ -185,7 +187,8 @@ no_place text at = by (nat_lt (position_or_len is_feed text) (length text)) refl
         absurd (cc)
     by false e = grind (arith, nat_tests, e)
 
-pub cut_at : (text : List ℕ) (k : ℕ) → Some k ≡ position is_feed text → IsCutAt text (without_return (take k text)) (take (length text - (k + 1)) (drop (k + 1) text))
+pub cut_at : (text : List ℕ) (k : ℕ) → Some k ≡ position is_feed text
+    → IsCutAt text (without_return (take k text)) (take (length text - (k + 1)) (drop (k + 1) text))
 cut_at text k at =
     let place = place_is text k at in
     let next : k + 1 ≡ suc k = omega arith in
@@ -199,7 +202,8 @@ some_line : (text : List ℕ) → (text ≡ [] → ⊥) → length text ≤ posi
 some_line [] some h = absurd (some refl)
 some_line (b ∷ bs) some h = record { lines = one_line (b ∷ bs) h ∙ ap (λ (ls : List (List ℕ)). (b ∷ bs) ∷ ls) (sym physical_lines-nil); shorter = omega arith }
 
-pub cut_at_end : (text : List ℕ) → None ≡ position is_feed text → (text ≡ [] → ⊥) → IsCutAt text text (take (length text - length text) (drop (length text) text))
+pub cut_at_end : (text : List ℕ) → None ≡ position is_feed text → (text ≡ [] → ⊥)
+    → IsCutAt text text (take (length text - length text) (drop (length text) text))
 cut_at_end text none some =
     let over : take (length text - length text) (drop (length text) text) ≡ [] = take_rest text (length text) ∙ drop-length text in
     rw over (some_line text some (no_place text none))

@@ -1,5 +1,6 @@
 -- Printed texts tell dates and moments apart.
-use Rattle.std.proofs.Common.{◌≡◌, ℕ, zero, suc, ◌-◌, ◌^◌, ◌<◌, ◌/◌, ◌%◌, ℤ, nat_abs, List, [], ◌∷◌, ◌++◌, length, take, drop, replicate, length-append, append_assoc, refl, sym, ap, ◌∙◌, arith}
+use Rattle.std.proofs.Common.{◌≡◌, ℕ, zero, suc, ◌-◌, ◌^◌, ◌<◌, ◌/◌, ◌%◌, ℤ, nat_abs, List, [], ◌∷◌, ◌++◌, length, take, drop, replicate, length-append}
+use Rattle.std.proofs.Common.{append_assoc, refl, sym, ap, ◌∙◌, arith}
 use Rattle.std.specs.Fmt.{decimal}
 use Rattle.std.proofs.lemmas.Fmt.{decimal_is_IsNumeral, length-decimal-le}
 use Rattle.std.proofs.lemmas.Int.{ints}
@@ -58,7 +59,9 @@ ends_injective b y z m k hy hz hm hk e =
     let p = parted (b ∷ padded 2 y) (b ∷ padded 2 m) (b ∷ padded 2 z) (b ∷ padded 2 k) (omega (arith, length-padded z hz, length-padded k hk)) e in
     (padded_injective 2 y m (omega arith) (omega arith) (ap (drop 1) p.0), padded_injective 2 z k (omega arith) (omega arith) (ap (drop 1) p.1))
 
-three_injective : (w b x y z l m k : ℕ) → x < 2 ^ 64 → l < 2 ^ 64 → y < 100 → z < 100 → m < 100 → k < 100 → padded w x ++ (b ∷ []) ++ padded 2 y ++ (b ∷ []) ++ padded 2 z ≡ padded w l ++ (b ∷ []) ++ padded 2 m ++ (b ∷ []) ++ padded 2 k → (x ≡ l) × (y ≡ m) × (z ≡ k)
+three_injective : (w b x y z l m k : ℕ) → x < 2 ^ 64 → l < 2 ^ 64 → y < 100 → z < 100 → m < 100 → k < 100
+    → padded w x ++ (b ∷ []) ++ padded 2 y ++ (b ∷ []) ++ padded 2 z ≡ padded w l ++ (b ∷ []) ++ padded 2 m ++ (b ∷ []) ++ padded 2 k
+    → (x ≡ l) × (y ≡ m) × (z ≡ k)
 three_injective w b x y z l m k hx hl hy hz hm hk e =
     let same = sym (front_and_ends b y z (padded w x)) ∙ e ∙ front_and_ends b m k (padded w l) in
     let p = parted (padded w x) (padded w l) (ends b y z) (ends b m k) (length-ends b y z hy hz ∙ sym (length-ends b m k hm hk)) same in
@@ -83,7 +86,8 @@ unfolding extended_date_text
 date_text_injective d e fd nd fe ne same =
     let sd = small_month d in
     let se = small_month e in
-    let parts = three_injective 4 45 (nat_abs (year_of d)) (month_of d) (day_of_month d) (nat_abs (year_of e)) (month_of e) (day_of_month e) (small_year d fd nd) (small_year e fe ne) sd.0 sd.1 se.0 se.1 same in
+    let parts = three_injective 4 45 (nat_abs (year_of d)) (month_of d) (day_of_month d) (nat_abs (year_of e)) (month_of e) (day_of_month e)
+    (small_year d fd nd) (small_year e fe ne) sd.0 sd.1 se.0 se.1 same in
     let year : year_of d ≡ year_of e = omega (arith, ints, parts.0, year_of-low d fd, year_of-low e fe) in
     sym (day_number-year_of d) ∙ rw (year, parts.1, parts.2) (day_number-year_of e)
 
@@ -92,23 +96,27 @@ unfolding extended_time_text
 length-time_text s h =
     let hour = length-padded (s / 3_600) (omega arith) in
     let rest = length-ends 58 (s / 60 % 60) (s % 60) (omega arith) (omega arith) in
-    ap length (front_and_ends 58 (s / 60 % 60) (s % 60) (padded 2 (s / 3_600))) ∙ omega (arith, length-append (padded 2 (s / 3_600)) (ends 58 (s / 60 % 60) (s % 60)), hour, rest)
+    ap length (front_and_ends 58 (s / 60 % 60) (s % 60) (padded 2 (s / 3_600)))
+    ∙ omega (arith, length-append (padded 2 (s / 3_600)) (ends 58 (s / 60 % 60) (s % 60)), hour, rest)
 
 time_text_injective : (s r : ℕ) → s < 86_400 → r < 86_400 → extended_time_text s ≡ extended_time_text r → s ≡ r
 unfolding extended_time_text
 time_text_injective s r hs hr same =
-    let parts = three_injective 2 58 (s / 3_600) (s / 60 % 60) (s % 60) (r / 3_600) (r / 60 % 60) (r % 60) (omega arith) (omega arith) (omega arith) (omega arith) (omega arith) (omega arith) same in
+    let parts = three_injective 2 58 (s / 3_600) (s / 60 % 60) (s % 60) (r / 3_600) (r / 60 % 60) (r % 60) (omega arith) (omega arith) (omega arith)
+    (omega arith) (omega arith) (omega arith) same in
     omega (arith, parts.0, parts.1, parts.2)
 
 -- A printed text is the text of one date or moment alone.
-pub extended_text_injective : (k : Kind) (t u : ℤ) → IsFromYearOne (day_part k t) → IsDayWithin 0 (day_part k t) → IsFromYearOne (day_part k u) → IsDayWithin 0 (day_part k u) → extended_text k t ≡ extended_text k u → t ≡ u
+pub extended_text_injective : (k : Kind) (t u : ℤ) → IsFromYearOne (day_part k t) → IsDayWithin 0 (day_part k t) → IsFromYearOne (day_part k u)
+    → IsDayWithin 0 (day_part k u) → extended_text k t ≡ extended_text k u → t ≡ u
 unfolding extended_text
 extended_text_injective Days t u ft nt fu nu same = date_text_injective t u ft nt fu nu same
 extended_text_injective Moments t u ft nt fu nu same =
     let ht = floor_mod_below t 86_400 (omega arith) in
     let hu = floor_mod_below u 86_400 (omega arith) in
     let long = length-time_text (second_part Moments t) ht ∙ sym (length-time_text (second_part Moments u) hu) in
-    let p = parted (extended_date_text (day_part Moments t) ++ (84 ∷ [])) (extended_date_text (day_part Moments u) ++ (84 ∷ [])) (extended_time_text (second_part Moments t)) (extended_time_text (second_part Moments u)) long same in
+    let p = parted (extended_date_text (day_part Moments t) ++ (84 ∷ [])) (extended_date_text (day_part Moments u) ++ (84 ∷ []))
+    (extended_time_text (second_part Moments t)) (extended_time_text (second_part Moments u)) long same in
     let q = parted (extended_date_text (day_part Moments t)) (extended_date_text (day_part Moments u)) (84 ∷ []) (84 ∷ []) refl p.0 in
     let day = date_text_injective (day_part Moments t) (day_part Moments u) ft nt fu nu q.0 in
     let second = time_text_injective (second_part Moments t) (second_part Moments u) ht hu p.1 in

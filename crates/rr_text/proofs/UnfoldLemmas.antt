@@ -34,6 +34,7 @@ unfolding unfolded_lines physical_lines
 no_lines keeps text e = rw e refl
 
 -- nothing is left
-pub all_taken : (keeps : Bool) (number : ℕ) (lines : List Line) (text : List ℕ) (all : List Line) → text ≡ [] → with_physical_lines keeps number lines (physical_lines text) ≡ all → lines ≡ all
+pub all_taken : (keeps : Bool) (number : ℕ) (lines : List Line) (text : List ℕ) (all : List Line) → text ≡ []
+    → with_physical_lines keeps number lines (physical_lines text) ≡ all → lines ≡ all
 unfolding physical_lines
 all_taken keeps number lines text all e so_far = sym (ap (λ (t : List ℕ). with_physical_lines keeps number lines (physical_lines t)) e) ∙ so_far

@@ -38,7 +38,8 @@ either_swaps a b out i j m = record {
 
 module _ (a b : List ℕ) (ra : Rises nat_lt a) (rb : Rises nat_lt b) (out : List ℕ) (i j : ℕ) where
   -- the next of a stands before all that is left of b
-  pub either_first : IsMerged (InEither a b) a b out i j → i < length a → (j < length b → get_or a i 0 < get_or b j 0) → IsMerged (InEither a b) a b (out ++ get_or a i 0 ∷ []) (i + 1) j
+  pub either_first : IsMerged (InEither a b) a b out i j → i < length a → (j < length b → get_or a i 0 < get_or b j 0)
+      → IsMerged (InEither a b) a b (out ++ get_or a i 0 ∷ []) (i + 1) j
   either_first m l first =
       let ahead : m.bound ≤ get_or a i 0 = m.of_a.from i (omega arith) l in
       record {
@@ -52,7 +53,8 @@ module _ (a b : List ℕ) (ra : Rises nat_lt a) (rb : Rises nat_lt b) (out : Lis
       }
 
   -- both are the same
-  pub either_both : IsMerged (InEither a b) a b out i j → i < length a → j < length b → get_or a i 0 ≡ get_or b j 0 → IsMerged (InEither a b) a b (out ++ get_or a i 0 ∷ []) (i + 1) (j + 1)
+  pub either_both : IsMerged (InEither a b) a b out i j → i < length a → j < length b → get_or a i 0 ≡ get_or b j 0
+      → IsMerged (InEither a b) a b (out ++ get_or a i 0 ∷ []) (i + 1) (j + 1)
   either_both m l h e =
       let ahead : m.bound ≤ get_or a i 0 = m.of_a.from i (omega arith) l in
       record {
@@ -74,7 +76,8 @@ module _ (a b : List ℕ) (ra : Rises nat_lt a) (rb : Rises nat_lt b) (out : Lis
       ))
 
   -- the next of a stands before all that is left of b
-  pub alone_first : IsMerged (InFirstAlone a b) a b out i j → i < length a → (j < length b → get_or a i 0 < get_or b j 0) → IsMerged (InFirstAlone a b) a b (out ++ get_or a i 0 ∷ []) (i + 1) j
+  pub alone_first : IsMerged (InFirstAlone a b) a b out i j → i < length a → (j < length b → get_or a i 0 < get_or b j 0)
+      → IsMerged (InFirstAlone a b) a b (out ++ get_or a i 0 ∷ []) (i + 1) j
   alone_first m l first =
       let ahead : m.bound ≤ get_or a i 0 = m.of_a.from i (omega arith) l in
       record {
@@ -86,7 +89,8 @@ module _ (a b : List ℕ) (ra : Rises nat_lt a) (rb : Rises nat_lt b) (out : Lis
       }
 
   -- the next of b stands before all that is left of a
-  pub alone_second : IsMerged (InFirstAlone a b) a b out i j → j < length b → (i < length a → get_or b j 0 < get_or a i 0) → IsMerged (InFirstAlone a b) a b out i (j + 1)
+  pub alone_second : IsMerged (InFirstAlone a b) a b out i j → j < length b → (i < length a → get_or b j 0 < get_or a i 0)
+      → IsMerged (InFirstAlone a b) a b out i (j + 1)
   alone_second m l second =
       let ahead : m.bound ≤ get_or b j 0 = m.of_b.from j (omega arith) l in
       record {
@@ -99,7 +103,8 @@ module _ (a b : List ℕ) (ra : Rises nat_lt a) (rb : Rises nat_lt b) (out : Lis
       }
 
   -- both are the same
-  pub alone_both : IsMerged (InFirstAlone a b) a b out i j → i < length a → j < length b → get_or a i 0 ≡ get_or b j 0 → IsMerged (InFirstAlone a b) a b out (i + 1) (j + 1)
+  pub alone_both : IsMerged (InFirstAlone a b) a b out i j → i < length a → j < length b → get_or a i 0 ≡ get_or b j 0
+      → IsMerged (InFirstAlone a b) a b out (i + 1) (j + 1)
   alone_both m l h e =
       let ahead : m.bound ≤ get_or a i 0 = m.of_a.from i (omega arith) l in
       record {
@@ -126,7 +131,8 @@ pub neither_first : (a b : List ℕ) (i j : ℕ)
     → (i < length a) ⊎ (j < length b)
     → (i < length a) × (j < length b) × (get_or a i 0 ≡ get_or b j 0)
 neither_first a b i j not_a not_b some =
-    let in_a : i < length a = elim (cases_lt i (length a)) [ inl l ↦ l | inr l ↦ elim some [ inl m ↦ m | inr m ↦ absurd (not_b (m, λ n. absurd (omega arith))) ] ] in
+    let in_a : i < length a =
+    elim (cases_lt i (length a)) [ inl l ↦ l | inr l ↦ elim some [ inl m ↦ m | inr m ↦ absurd (not_b (m, λ n. absurd (omega arith))) ] ] in
     let in_b : j < length b = elim (cases_lt j (length b)) [ inl l ↦ l | inr l ↦ absurd (not_a (in_a, λ n. absurd (omega arith))) ] in
     let not_below : get_or b j 0 ≤ get_or a i 0 = elim (cases_lt (get_or a i 0) (get_or b j 0)) [ inl l ↦ absurd (not_a (in_a, λ _. l)) | inr l ↦ l ] in
     let not_above : get_or a i 0 ≤ get_or b j 0 = elim (cases_lt (get_or b j 0) (get_or a i 0)) [ inl l ↦ absurd (not_b (in_b, λ _. l)) | inr l ↦ l ] in

@@ -16,10 +16,25 @@ module _ (xs : List ℕ) (r : Rises nat_lt xs) (i : ℕ) (h : i < length xs) whe
 
   rises_still : Rises nat_lt (remove xs i)
   rises_still = Rises-from_places (remove xs i) (λ k l. elim (cases_lt (suc k) i) [
-    | inl m ↦ omega (arith, get_or-remove_below xs i 0 k (omega arith) h, get_or-remove_below xs i 0 (suc k) m h, rising_at xs r k (suc k) (omega arith) (omega arith))
+    | inl m ↦ omega (
+      arith,
+      get_or-remove_below xs i 0 k (omega arith) h,
+      get_or-remove_below xs i 0 (suc k) m h,
+      rising_at xs r k (suc k) (omega arith) (omega arith),
+    )
     | inr m ↦ elim (cases_lt k i) [
-      | inl n ↦ omega (arith, get_or-remove_below xs i 0 k n h, get_or-remove_above xs i 0 (suc k) m h, rising_at xs r k (suc k + 1) (omega arith) (omega (arith, shorter)))
-      | inr n ↦ omega (arith, get_or-remove_above xs i 0 k n h, get_or-remove_above xs i 0 (suc k) m h, rising_at xs r (k + 1) (suc k + 1) (omega arith) (omega (arith, shorter)))
+      | inl n ↦ omega (
+        arith,
+        get_or-remove_below xs i 0 k n h,
+        get_or-remove_above xs i 0 (suc k) m h,
+        rising_at xs r k (suc k + 1) (omega arith) (omega (arith, shorter)),
+      )
+      | inr n ↦ omega (
+        arith,
+        get_or-remove_above xs i 0 k n h,
+        get_or-remove_above xs i 0 (suc k) m h,
+        rising_at xs r (k + 1) (suc k + 1) (omega arith) (omega (arith, shorter)),
+      )
     ]
   ])
 
@@ -60,8 +75,10 @@ module _ (xs : List ℕ) (r : Rises nat_lt xs) (i : ℕ) (h : i < length xs) whe
               (j, k, get_or_default (remove xs i) j s 0 k ∙ get_or-remove_above xs i 0 j g h ∙ sym (ap (λ n. get_or xs n 0) q) ∙ at)
 
 -- a second that does not stand at its place is none of them
-pub without_none : (xs : List ℕ) (i x : ℕ) → Rises nat_lt xs → SplitsAt xs i x → (i < length xs → get_or xs i 0 ≢ x) → IsSetOf nat_lt xs (λ s. Contains xs s × (s ≢ x))
-without_none xs i x r split other = set_same nat_lt (Contains xs) (λ s. Contains xs s × (s ≢ x)) xs (set_itself nat_lt xs r) (λ s. ((λ c. (c, λ e. missing s c e)), (λ p. p.0)))
+pub without_none : (xs : List ℕ) (i x : ℕ) → Rises nat_lt xs → SplitsAt xs i x → (i < length xs → get_or xs i 0 ≢ x)
+    → IsSetOf nat_lt xs (λ s. Contains xs s × (s ≢ x))
+without_none xs i x r split other =
+    set_same nat_lt (Contains xs) (λ s. Contains xs s × (s ≢ x)) xs (set_itself nat_lt xs r) (λ s. ((λ c. (c, λ e. missing s c e)), (λ p. p.0)))
   where
     missing : (s : ℕ) → Contains xs s → s ≡ x → ⊥
     missing s c e =
@@ -69,7 +86,8 @@ without_none xs i x r split other = set_same nat_lt (Contains xs) (λ s. Contain
         elim (cases_lt c.0 i) [
           | inl m ↦ omega (arith, split.below c.0 m, at, e)
           | inr m ↦ elim (cases_lt i c.0) [
-            | inl n ↦ (let l : i < length xs = omega (arith, c.1) in omega (arith, rising_at xs r i c.0 n c.1, split.from i (omega arith) l, at, e, strictly i l))
+            | inl n ↦ (let l : i < length xs = omega (arith, c.1) in
+                omega (arith, rising_at xs r i c.0 n c.1, split.from i (omega arith) l, at, e, strictly i l))
             | inr n ↦ (let same : c.0 ≡ i = omega arith in let l : i < length xs = omega (arith, c.1) in other l (sym (ap (λ k. get_or xs k 0) same) ∙ at ∙ e))
           ]
         ]
@@ -80,7 +98,8 @@ without_none xs i x r split other = set_same nat_lt (Contains xs) (λ s. Contain
 pub fewer_seconds : (xs : List ℕ) (i : ℕ) → IsSecondsOfDay xs → i < length xs → IsSecondsOfDay (remove xs i)
 fewer_seconds xs i s h = record {
   rises = (without_one xs s.rises i h (get_or xs i 0) refl).rises;
-  below_a_day = λ k d l. (let c = ((without_one xs s.rises i h (get_or xs i 0) refl).exact (get_or (remove xs i) k d)).0 (Contains-get_or (remove xs i) k d l) in
+  below_a_day = λ k d l. (let c =
+      ((without_one xs s.rises i h (get_or xs i 0) refl).exact (get_or (remove xs i) k d)).0 (Contains-get_or (remove xs i) k d l) in
       let e : get_or xs c.0.0 (get_or (remove xs i) k d) ≡ get_or (remove xs i) k d = c.0.2 in
       omega (arith, s.below_a_day c.0.0 (get_or (remove xs i) k d) c.0.1, e));
 }

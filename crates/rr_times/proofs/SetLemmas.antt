@@ -1,5 +1,6 @@
 -- What stands below a second, and between two.
-use Rattle.std.proofs.Common.{◌≡◌, ℕ, zero, suc, ◌+◌, ◌-◌, ◌<◌, ◌≤◌, Bool, true, false, cond, List, [], ◌∷◌, length, get_or, drop, count_by, Contains, nat_lt, inl, inr, sym, ap, ◌∙◌, subst, arith, max}
+use Rattle.std.proofs.Common.{◌≡◌, ℕ, zero, suc, ◌+◌, ◌-◌, ◌<◌, ◌≤◌, Bool, true, false, cond, List, [], ◌∷◌, length, get_or, drop, count_by, Contains}
+use Rattle.std.proofs.Common.{nat_lt, inl, inr, sym, ap, ◌∙◌, subst, arith, max}
 use Rattle.std.specs.Prelude.{◌⊎◌}
 use Rattle.std.specs.List.{slice_range}
 use Rattle.std.proofs.lemmas.Bool.{cases_lt}
@@ -22,13 +23,23 @@ split_counts [] place bound s = let h = s.within in omega arith
 split_counts (x ∷ xs) zero bound s =
     let above : bound ≤ x = s.from 0 (omega arith) (omega arith) in
     let test : nat_lt x bound ≡ false = grind (arith, nat_tests) in
-    let rest = split_counts xs 0 bound (record { within = omega arith; below = λ k h. absurd (omega arith); from = λ k h l. s.from (suc k) (omega arith) (omega arith) }) in
+    let rest = split_counts xs 0 bound (record {
+      within = omega arith;
+      below = λ k h. absurd (omega arith);
+      from =
+          λ k h l. s.from (suc k) (omega arith) (omega arith);
+    }) in
     let head : counted (nat_lt x bound) ≡ counted false = ap counted test in
     omega (arith, sum_by-cons (λ s. counted (nat_lt s bound)) x xs, rest, head)
 split_counts (x ∷ xs) (suc place) bound s =
     let below : x < bound = s.below 0 (omega arith) in
     let test : nat_lt x bound ≡ true = grind (arith, nat_tests) in
-    let rest = split_counts xs place bound (record { within = omega (arith, s.within); below = λ k h. s.below (suc k) (omega arith); from = λ k h l. s.from (suc k) (omega arith) (omega arith) }) in
+    let rest = split_counts xs place bound (record {
+      within = omega (arith, s.within);
+      below = λ k h. s.below (suc k) (omega arith);
+      from =
+          λ k h l. s.from (suc k) (omega arith) (omega arith);
+    }) in
     let head : counted (nat_lt x bound) ≡ counted true = ap counted test in
     omega (arith, sum_by-cons (λ s. counted (nat_lt s bound)) x xs, rest, head)
 
@@ -58,7 +69,8 @@ pub reach : (last start end : ℕ) → end ≡ max last start → (last ≤ end)
 reach last start end e = (omega arith, omega arith, elim (cases_lt last start) [ inl l ↦ inr (omega arith) | inr l ↦ inl (omega arith) ])
 
 -- the part between the two places
-module _ (xs : List ℕ) (r : Rises nat_lt xs) (from to start last end : ℕ) (at_start : SplitsAt xs start from) (at_last : SplitsAt xs last to) (reached : (last ≤ end) × (start ≤ end) × ((end ≡ last) ⊎ (end ≡ start))) where
+module _ (xs : List ℕ) (r : Rises nat_lt xs) (from to start last end : ℕ) (at_start : SplitsAt xs start from) (at_last : SplitsAt xs last to)
+    (reached : (last ≤ end) × (start ≤ end) × ((end ≡ last) ⊎ (end ≡ start))) where
   within : end ≤ length xs
   within = elim reached.2 [ inl e ↦ omega (arith, at_last.within) | inr e ↦ omega (arith, at_start.within) ]
 
@@ -71,13 +83,20 @@ module _ (xs : List ℕ) (r : Rises nat_lt xs) (from to start last end : ℕ) (a
       let place : k - start < end - start = omega arith in
       let same : start + (k - start) ≡ k = omega arith in
       let here : get_or (slice_range xs start end) (k - start) 0 ≡ s = at_range xs start end (k - start) place ∙ ap (λ n. get_or xs n 0) same ∙ at in
-      subst (λ z. Contains (slice_range xs start end) z) here (Contains-get_or (slice_range xs start end) (k - start) 0 (omega (arith, length_range xs start end within)))
+      subst (λ z. Contains (slice_range xs start end) z) here
+      (Contains-get_or (slice_range xs start end) (k - start) 0 (omega (arith, length_range xs start end within)))
 
   pub cut_between : IsSetOf nat_lt (slice_range xs start end) (λ s. Contains xs s × (from ≤ s) × (s < to))
   cut_between =
       let size = length_range xs start end within in
       record {
-        rises = Rises-from_places (slice_range xs start end) (λ k l. omega (arith, at_range xs start end k (omega arith), at_range xs start end (suc k) (omega arith), rising_at xs r (start + k) (start + suc k) (omega arith) (omega (arith, within))));
+        rises = Rises-from_places (slice_range xs start end)
+            (λ k l. omega (
+              arith,
+              at_range xs start end k (omega arith),
+              at_range xs start end (suc k) (omega arith),
+              rising_at xs r (start + k) (start + suc k) (omega arith) (omega (arith, within)),
+            ));
         exact = λ s. (
           (λ (k, l, e).
               let place : k < end - start = omega arith in

@@ -11,13 +11,18 @@ use Rattle.rr_times.specs.Split.{SplitsAt}
 
 module _ (xs : List ℕ) (r : Rises nat_lt xs) where
   pub rising_le : (i j : ℕ) → i ≤ j → j < length xs → get_or xs i 0 ≤ get_or xs j 0
-  rising_le i j h l = elim (cases_lt i j) [ inl m ↦ omega (arith, rising_at xs r i j m l) | inr m ↦ (let e : i ≡ j = omega arith in omega (arith, ap (λ n. get_or xs n 0) e)) ]
+  rising_le i j h l =
+      elim (cases_lt i j) [ inl m ↦ omega (arith, rising_at xs r i j m l) | inr m ↦ (let e : i ≡ j = omega arith in omega (arith, ap (λ n. get_or xs n 0) e)) ]
 
   -- past an element
   pub split_past : (i t : ℕ) → SplitsAt xs i t → i < length xs → SplitsAt xs (i + 1) (get_or xs i 0 + 1)
   split_past i t s l = record {
     within = omega arith;
-    below = λ k h. elim (cases_lt k i) [ inl m ↦ omega (arith, rising_at xs r k i m l) | inr m ↦ (let e : k ≡ i = omega arith in omega (arith, ap (λ n. get_or xs n 0) e)) ];
+    below = λ k h. elim (cases_lt k i) [
+      | inl m ↦ omega (arith, rising_at xs r k i m l)
+      | inr m ↦
+          (let e : k ≡ i = omega arith in omega (arith, ap (λ n. get_or xs n 0) e))
+    ];
     from = λ k h m. omega (arith, rising_at xs r i k (omega arith) m);
   }
 

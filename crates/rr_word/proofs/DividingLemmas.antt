@@ -3,7 +3,8 @@ use Rattle.std.proofs.Common.{◌≡◌, ℕ, ◌+◌, ◌*◌, ◌/◌, ◌%◌
 use Rattle.std.specs.Int.{◌∣◌}
 use Rattle.std.proofs.lemmas.Bool.{cases_lt}
 use Rattle.std.proofs.lemmas.Nat.Gcd.{le_of_dvd, dvd_refl, dvd_trans, dvd_of_mod-eq-zero, mod-eq-zero_of_dvd}
-use Rattle.std.proofs.Math.Nat.{dvd-mul_left, dvd-mul_right, mul-dvd-mul_left, dvd_of_mul-dvd-mul_left, dvd_of_mul-dvd-mul_right, div-mul_cancel, pos_of_dvd_of_pos, mul_comm, mul_assoc, mul-one, one-mul, div-one, mul-le-mul, mul-le-mul_left, div-le_self}
+use Rattle.std.proofs.Math.Nat.{dvd-mul_left, dvd-mul_right, mul-dvd-mul_left, dvd_of_mul-dvd-mul_left, dvd_of_mul-dvd-mul_right, div-mul_cancel}
+use Rattle.std.proofs.Math.Nat.{pos_of_dvd_of_pos, mul_comm, mul_assoc, mul-one, one-mul, div-one, mul-le-mul, mul-le-mul_left, div-le_self}
 use Rattle.rr_model.specs.Whole.Divisors.{gcd, lcm}
 use Rattle.rr_model.specs.Whole.Periodic.{RepeatsFrom}
 use Rattle.rr_num.proofs.DivisorLemmas.{gcd_is, gcd_some, lcm_is}
@@ -70,7 +71,8 @@ module _ {X : Type 0} (f : ℤ → X) (q : ℤ) (period rest k : ℕ) (so_far : 
   divided h = record {
     some = pos_of_dvd_of_pos period_divides so_far.some;
     repeats = h;
-    divides = dvd_of_mul-dvd-mul_right (rest / k) k_some (subst (λ z. rest / k * k ∣ z) (sym whole_period) (subst (λ z. z ∣ period) (sym whole_rest) so_far.divides));
+    divides = dvd_of_mul-dvd-mul_right (rest / k) k_some
+        (subst (λ z. rest / k * k ∣ z) (sym whole_period) (subst (λ z. z ∣ period) (sym whole_rest) so_far.divides));
     reaches = λ r hr dv.
         let all = so_far.reaches r hr (dvd_trans r dv period_divides) in
         let e : r * rest ≡ r * (rest / k) * k = ap (λ z. r * z) (sym whole_rest) ∙ sym (mul_assoc r (rest / k) k) in
@@ -88,7 +90,8 @@ module _ {X : Type 0} (f : ℤ → X) (q : ℤ) (period rest k : ℕ) (so_far : 
         let g = period / r in
         let whole : r * g ≡ period = mul_comm r g ∙ div-mul_cancel r dv in
         let g_some : 1 ≤ g = pos_of_dvd_of_pos (subst (λ z. g ∣ z) whole (dvd-mul_left g r)) so_far.some in
-        let all : r * g ∣ r * (rest / k * k) = subst (λ z. z ∣ r * (rest / k * k)) (sym whole) (subst (λ z. period ∣ r * z) (sym whole_rest) (so_far.reaches r hr dv)) in
+        let all : r * g ∣ r * (rest / k * k) =
+        subst (λ z. z ∣ r * (rest / k * k)) (sym whole) (subst (λ z. period ∣ r * z) (sym whole_rest) (so_far.reaches r hr dv)) in
         let over : g ∣ rest / k * k = dvd_of_mul-dvd-mul_left g r_some all in
         let not_of_g : k ∣ g → ⊥ = λ h.
         let scaled : r * k ∣ period = subst (λ z. r * k ∣ z) whole (mul-dvd-mul_left k r h) in

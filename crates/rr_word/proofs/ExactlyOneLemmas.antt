@@ -1,5 +1,6 @@
 -- Each set has a least sketch: its least period and its least start can be searched for.
-use Rattle.std.proofs.Common.{◌≡◌, ◌⊎◌, ◌↔◌, ℕ, zero, suc, ◌+◌, ◌<◌, ◌≤◌, Bool, true, false, nat_eq, List, [], ℤ, pos, nat_abs, ◌+ℤ◌, ◌-ℤ◌, ◌≤ℤ◌, ◌<ℤ◌, inl, inr, true≢false, refl, sym, ap, subst, ◌∙◌, arith}
+use Rattle.std.proofs.Common.{◌≡◌, ◌⊎◌, ◌↔◌, ℕ, zero, suc, ◌+◌, ◌<◌, ◌≤◌, Bool, true, false, nat_eq, List, [], ℤ, pos, nat_abs, ◌+ℤ◌, ◌-ℤ◌, ◌≤ℤ◌, ◌<ℤ◌, inl}
+use Rattle.std.proofs.Common.{inr, true≢false, refl, sym, ap, subst, ◌∙◌, arith}
 use Rattle.std.specs.Prelude.{Option, Some, None}
 use Rattle.std.specs.Cmp.Lexicographic.{pointwise, bytes_decides}
 use Rattle.std.specs.Int.{int_max}
@@ -43,7 +44,8 @@ module _ (f : ℤ → List ℕ) (q : ℤ) where
           | inr differ ↦ inr (λ h. differ (h (q +ℤ pos n) (omega (arith, ints))))
           | inl here ↦ inl (λ d low high.
               let P : Type 0 = f (d +ℤ pos r) ≡ f d in
-              by_lt_z {P = P} d (q +ℤ pos n) (λ l. so_far d low l) (λ g. let e : d ≡ q +ℤ pos n = omega (arith, ints) in ap (λ x. f (x +ℤ pos r)) e ∙ here ∙ ap f (sym e)))
+              by_lt_z {P = P} d (q +ℤ pos n) (λ l. so_far d low l) (λ g. let e : d ≡ q +ℤ pos n = omega (arith, ints) in
+              ap (λ x. f (x +ℤ pos r)) e ∙ here ∙ ap f (sym e)))
         ]
       ]
 
@@ -57,7 +59,8 @@ module _ (f : ℤ → List ℕ) (q : ℤ) where
       ]
 
   -- of the first n numbers from 1 on none is a period, or there is a least one
-  first_period : (p : ℕ) → 1 ≤ p → RepeatsFrom f q p → (n : ℕ) → ((k : ℕ) → 1 ≤ k → k < n → RepeatsFrom f q k → ⊥) ⊎ ((l : ℕ) × (1 ≤ l) × RepeatsFrom f q l × ((k : ℕ) → 1 ≤ k → k < l → RepeatsFrom f q k → ⊥))
+  first_period : (p : ℕ) → 1 ≤ p → RepeatsFrom f q p → (n : ℕ)
+      → ((k : ℕ) → 1 ≤ k → k < n → RepeatsFrom f q k → ⊥) ⊎ ((l : ℕ) × (1 ≤ l) × RepeatsFrom f q l × ((k : ℕ) → 1 ≤ k → k < l → RepeatsFrom f q k → ⊥))
   first_period p some h zero = inl (λ k low high r. absurd (omega arith))
   first_period p some h (suc n) =
       elim (first_period p some h n) [
@@ -66,7 +69,8 @@ module _ (f : ℤ → List ℕ) (q : ℤ) where
           | inr at_zero ↦ inl (λ k low high r. absurd (omega arith))
           | inl low_n ↦ elim (repeats_or_not p n some h) [
             | inl here ↦ inr (n, low_n, here, none)
-            | inr never ↦ inl (λ k low high r. elim (cases_lt k n) [ inl l ↦ none k low l r | inr g ↦ (let e : k ≡ n = omega arith in never (subst (λ z. RepeatsFrom f q z) e r)) ])
+            | inr never ↦ inl (λ k low high r. elim
+                (cases_lt k n) [ inl l ↦ none k low l r | inr g ↦ (let e : k ≡ n = omega arith in never (subst (λ z. RepeatsFrom f q z) e r)) ])
           ]
         ]
       ]
@@ -92,7 +96,8 @@ least_start_exists f first p (suc n) h =
     elim (same_or_not (f ((first +ℤ pos n) +ℤ pos p)) (f (first +ℤ pos n))) [
       | inl here ↦ least_start_exists f first p n (λ d l.
           let P : Type 0 = f (d +ℤ pos p) ≡ f d in
-          by_lt_z {P = P} d (first +ℤ pos (suc n)) (λ m. let e : d ≡ first +ℤ pos n = omega (arith, ints) in ap (λ x. f (x +ℤ pos p)) e ∙ here ∙ ap f (sym e)) (λ g. h d g))
+          by_lt_z {P = P} d (first +ℤ pos (suc n)) (λ m. let e : d ≡ first +ℤ pos n = omega (arith, ints) in
+          ap (λ x. f (x +ℤ pos p)) e ∙ here ∙ ap f (sym e)) (λ g. h d g))
       | inr differ ↦ (
         suc n,
         record {
@@ -108,7 +113,8 @@ least_start_exists f first p (suc n) h =
 back : (s u : Sketch) → HaveEqualOccurrences (StandsIn s) (StandsIn u) → HaveEqualOccurrences (StandsIn u) (StandsIn s)
 back s u h k t = ((h k t).1, (h k t).0)
 
-chain : (s u w : Sketch) → HaveEqualOccurrences (StandsIn s) (StandsIn u) → HaveEqualOccurrences (StandsIn s) (StandsIn w) → HaveEqualOccurrences (StandsIn u) (StandsIn w)
+chain : (s u w : Sketch) → HaveEqualOccurrences (StandsIn s) (StandsIn u) → HaveEqualOccurrences (StandsIn s) (StandsIn w)
+    → HaveEqualOccurrences (StandsIn u) (StandsIn w)
 chain s u w a b k t = ((λ h. (b k t).0 ((a k t).1 h)), λ h. (a k t).0 ((b k t).1 h))
 
 one_of : (s u : Sketch) → IsLeastSketch u → HaveEqualOccurrences (StandsIn s) (StandsIn u) → HasOneLeastSketch s
@@ -123,7 +129,14 @@ nothing_none = record { kind = refl; before = refl; settled = refl; period = ref
 
 nothing_valid : IsValidSketch nothing
 unfolding nothing
-nothing_valid = record { period = omega arith; before = (pos 0, tt); cycle = tt; before_times = All-nil (λ (x : DayShape). IsTimeSet Days x.times); cycle_times = All-nil (λ (x : DayShape). IsTimeSet Days x.times) }
+nothing_valid = record {
+  period = omega arith;
+  before = (pos 0, tt);
+  cycle = tt;
+  before_times =
+      All-nil (λ (x : DayShape). IsTimeSet Days x.times);
+  cycle_times = All-nil (λ (x : DayShape). IsTimeSet Days x.times);
+}
 
 pub each_has_one : EachHasOneLeastSketch
 each_has_one s None bounded empty =
@@ -135,6 +148,8 @@ each_has_one s (Some first) bounded is_first =
     let v = bounded.valid in
     let (p, least) = least_period_exists (times_on s) s.settled s.period v.period (repeats s v) in
     let n = nat_abs (int_max s.settled first -ℤ first) in
-    let later : RepeatsFrom (times_on s) (first +ℤ pos n) p = (λ d l. repeats_from_start (times_on s) s.settled s.period p v.period (repeats s v) least.holds d (omega (arith, ints, clamps))) in
+    let later : RepeatsFrom (times_on s) (first +ℤ pos n) p =
+    (λ d l. repeats_from_start (times_on s) s.settled s.period p v.period (repeats s v) least.holds d (omega (arith, ints, clamps))) in
     let (m, start) = least_start_exists (times_on s) first p n later in
-    one_of s (sketch_from s first m p) (sketch_from_least s bounded first m p is_first least start) (equal_by_times s (sketch_from s first m p) refl (sketch_from_times s bounded first m p is_first least start))
+    one_of s (sketch_from s first m p) (sketch_from_least s bounded first m p is_first least start)
+    (equal_by_times s (sketch_from s first m p) refl (sketch_from_times s bounded first m p is_first least start))

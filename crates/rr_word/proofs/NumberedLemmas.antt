@@ -19,7 +19,8 @@ times_of sets (Some n) = get_or sets n []
 pub times_by_number : (sets : List (List ℕ)) (days : List NumberedDay) (d : ℤ) → times_in (shapes_of sets days) d ≡ times_of sets (number_in days d)
 times_by_number sets [] d = refl
 times_by_number sets (x ∷ xs) d =
-    elim (int_eq x.day d) as (λ b. cond b (get_or sets x.number []) (times_in (shapes_of sets xs) d) ≡ times_of sets (cond b (Some x.number) (number_in xs d))) [
+    elim (int_eq x.day d) as (λ b. cond b (get_or sets x.number []) (times_in (shapes_of sets xs) d)
+    ≡ times_of sets (cond b (Some x.number) (number_in xs d))) [
       | true ↦ refl
       | false ↦ times_by_number sets xs d
     ]
@@ -49,7 +50,8 @@ pub all_known_stays : (sets : List (List ℕ)) (times : List ℕ) (ss : List Day
 all_known_stays sets times [] h = All-nil (λ (x : DayShape). IsKnown (with_set sets times) x.times)
 all_known_stays sets times (s ∷ ss) h =
     let K : DayShape → Type 0 = λ x. IsKnown sets x.times in
-    All-cons (λ (x : DayShape). IsKnown (with_set sets times) x.times) s ss (known_stays sets times s.times (All-head K s ss h)) (all_known_stays sets times ss (All-tail K s ss h))
+    All-cons (λ (x : DayShape). IsKnown (with_set sets times) x.times) s ss (known_stays sets times s.times (All-head K s ss h))
+    (all_known_stays sets times ss (All-tail K s ss h))
 
 pub numbered_stays_of : (sets : List (List ℕ)) (more ss : List DayShape) → AllKnown sets ss → numbered (with_sets_of sets more) ss ≡ numbered sets ss
 numbered_stays_of sets [] ss h = refl
@@ -65,7 +67,8 @@ with_sets_of-append sets [] ys = refl
 with_sets_of-append sets (x ∷ xs) ys = with_sets_of-append (with_set sets x.times) xs ys
 
 -- each number has a set
-pub numbers_within : (sets : List (List ℕ)) (ss : List DayShape) → AllKnown sets ss → (d : ℤ) (n : ℕ) → number_in (numbered sets ss) d ≡ Some n → n < length sets
+pub numbers_within : (sets : List (List ℕ)) (ss : List DayShape) → AllKnown sets ss → (d : ℤ) (n : ℕ) → number_in (numbered sets ss) d ≡ Some n
+    → n < length sets
 numbers_within sets [] h d n e = absurd (cc)
 numbers_within sets (s ∷ ss) h d n e = either (numbers_within sets ss (All-tail (λ (x : DayShape). IsKnown sets x.times) s ss h) d n) (int_eq s.day d) e
   where
@@ -73,6 +76,7 @@ numbers_within sets (s ∷ ss) h d n e = either (numbers_within sets ss (All-tai
     or_that d None = d
     or_that d (Some x) = x
 
-    either : (number_in (numbered sets ss) d ≡ Some n → n < length sets) → (b : Bool) → cond b (Some (number_of sets s.times)) (number_in (numbered sets ss) d) ≡ Some n → n < length sets
+    either : (number_in (numbered sets ss) d ≡ Some n → n < length sets) → (b : Bool)
+        → cond b (Some (number_of sets s.times)) (number_in (numbered sets ss) d) ≡ Some n → n < length sets
     either later true e = let w = number_within sets s.times (All-head (λ (x : DayShape). IsKnown sets x.times) s ss h) in omega (arith, w, ap (or_that 0) e)
     either later false e = later e

@@ -1,5 +1,6 @@
 -- The occupied days of a set up to its least start, and of its least period from there on, are its least sketch.
-use Rattle.std.proofs.Common.{◌≡◌, ◌⊎◌, ℕ, zero, suc, ◌/◌, ◌*◌, ◌%◌, ◌≤◌, false, cond, List, [], ◌∷◌, ◌++◌, length, length-append, ℤ, pos, neg_ℤ, nat_abs, ◌+ℤ◌, ◌-ℤ◌, ◌≤ℤ◌, ◌<ℤ◌, inl, inr, refl, sym, ap, subst, ◌∙◌, arith}
+use Rattle.std.proofs.Common.{◌≡◌, ◌⊎◌, ℕ, zero, suc, ◌/◌, ◌*◌, ◌%◌, ◌≤◌, false, cond, List, [], ◌∷◌, ◌++◌, length, length-append, ℤ, pos, neg_ℤ, nat_abs}
+use Rattle.std.proofs.Common.{◌+ℤ◌, ◌-ℤ◌, ◌≤ℤ◌, ◌<ℤ◌, inl, inr, refl, sym, ap, subst, ◌∙◌, arith}
 use Rattle.std.specs.Prelude.{Some}
 use Rattle.std.specs.Int.{int_max}
 use Rattle.std.specs.List.{All}
@@ -10,7 +11,8 @@ use Rattle.std.proofs.lemmas.List.{append-nil}
 use Rattle.std.proofs.lemmas.List.Elements.{All-nil, All-cons, All-head, All-append}
 use Rattle.rr_model.specs.Moment.{day_part}
 use Rattle.rr_model.specs.Whole.Periodic.{RepeatsFrom}
-use Rattle.rr_model.specs.Sets.Sketch.{HasRisingDays, IsValidSketch, IsDaySequence, IsFirstDay, IsNearDay, IsTimeSet, StandsIn, day_in_cycle, times_in, times_on}
+use Rattle.rr_model.specs.Sets.Sketch.{HasRisingDays, IsValidSketch, IsDaySequence, IsFirstDay, IsNearDay, IsTimeSet, StandsIn, day_in_cycle, times_in}
+use Rattle.rr_model.specs.Sets.Sketch.{times_on}
 use Rattle.rr_model.specs.Sets.Verdict.{HaveEqualOccurrences}
 use Rattle.rr_model.specs.declared.sketch.DayShape.{DayShape}
 use Rattle.rr_model.specs.declared.sketch.Sketch.{Sketch}
@@ -38,7 +40,8 @@ rises_higher : (low high high' : ℤ) (ss : List DayShape) → high ≤ℤ high'
 rises_higher low high high' [] l r = tt
 rises_higher low high high' (s ∷ ss) l r = let a = r.1 in (r.0, omega (arith, ints), rises_higher (s.day +ℤ pos 1) high high' ss l r.2)
 
-rises_push : (low high : ℤ) (ss : List DayShape) (x : DayShape) → low ≤ℤ x.day → x.day <ℤ high → HasRisingDays low x.day ss → HasRisingDays low high (ss ++ x ∷ [])
+rises_push : (low high : ℤ) (ss : List DayShape) (x : DayShape) → low ≤ℤ x.day → x.day <ℤ high → HasRisingDays low x.day ss
+    → HasRisingDays low high (ss ++ x ∷ [])
 rises_push low high [] x l h r = (l, h, tt)
 rises_push low high (s ∷ ss) x l h r = let a = r.1 in (r.0, omega (arith, ints), rises_push (s.day +ℤ pos 1) high ss x (omega (arith, ints)) h r.2)
 
@@ -50,9 +53,12 @@ module _ (s : Sketch) (v : IsValidSketch s) (q : ℤ) where
   occupied_rises zero = tt
   occupied_rises (suc n) = one (occupied_rises n) (times_on s (q +ℤ pos n))
     where
-      one : HasRisingDays q (q +ℤ pos n) (occupied s q n) → (times : List ℕ) → HasRisingDays q (q +ℤ pos (suc n)) (occupied s q n ++ shape_if_some (q +ℤ pos n) times)
-      one r [] = rises_higher q (q +ℤ pos n) (q +ℤ pos (suc n)) (occupied s q n ++ []) (omega (arith, ints)) (subst (λ (l : List DayShape). HasRisingDays q (q +ℤ pos n) l) (sym (append-nil (occupied s q n))) r)
-      one r (x ∷ xs) = rises_push q (q +ℤ pos (suc n)) (occupied s q n) (record { day = q +ℤ pos n; times = x ∷ xs }) (omega (arith, ints)) (omega (arith, ints)) r
+      one : HasRisingDays q (q +ℤ pos n) (occupied s q n) → (times : List ℕ)
+          → HasRisingDays q (q +ℤ pos (suc n)) (occupied s q n ++ shape_if_some (q +ℤ pos n) times)
+      one r [] = rises_higher q (q +ℤ pos n) (q +ℤ pos (suc n)) (occupied s q n ++ []) (omega (arith, ints))
+          (subst (λ (l : List DayShape). HasRisingDays q (q +ℤ pos n) l) (sym (append-nil (occupied s q n))) r)
+      one r (x ∷ xs) = rises_push q (q +ℤ pos (suc n)) (occupied s q n) (record { day = q +ℤ pos n; times = x ∷ xs }) (omega (arith, ints))
+          (omega (arith, ints)) r
 
   -- each day of the stretch has its seconds
   pub occupied_has : (n : ℕ) (d : ℤ) → q ≤ℤ d → d <ℤ (q +ℤ pos n) → times_in (occupied s q n) d ≡ times_on s d
@@ -69,26 +75,32 @@ module _ (s : Sketch) (v : IsValidSketch s) (q : ℤ) where
       earlier (x ∷ xs) ne = times_in-push_other (occupied s q n) (record { day = q +ℤ pos n; times = x ∷ xs }) d ne
 
       here : (times : List ℕ) → times_in (occupied s q n ++ shape_if_some (q +ℤ pos n) times) (q +ℤ pos n) ≡ times
-      here [] = ap (λ l. times_in l (q +ℤ pos n)) (append-nil (occupied s q n)) ∙ times_in-late q (q +ℤ pos n) (occupied s q n) (q +ℤ pos n) (occupied_rises n) (omega (arith, ints))
+      here [] = ap (λ l. times_in l (q +ℤ pos n)) (append-nil (occupied s q n))
+          ∙ times_in-late q (q +ℤ pos n) (occupied s q n) (q +ℤ pos n) (occupied_rises n) (omega (arith, ints))
       here (x ∷ xs) = times_in-push_same q (occupied s q n) (record { day = q +ℤ pos n; times = x ∷ xs }) (occupied_rises n)
 
   pub occupied_sets : (n : ℕ) → All (λ x. IsTimeSet s.kind x.times) (occupied s q n)
   unfolding occupied
   occupied_sets zero = All-nil (λ (x : DayShape). IsTimeSet s.kind x.times)
   occupied_sets (suc n) =
-      All-append (λ (x : DayShape). IsTimeSet s.kind x.times) (occupied s q n) (shape_if_some (q +ℤ pos n) (times_on s (q +ℤ pos n))) (occupied_sets n) (one (times_on s (q +ℤ pos n)) (set_on s (q +ℤ pos n) v))
+      All-append (λ (x : DayShape). IsTimeSet s.kind x.times) (occupied s q n) (shape_if_some (q +ℤ pos n) (times_on s (q +ℤ pos n))) (occupied_sets n)
+      (one (times_on s (q +ℤ pos n)) (set_on s (q +ℤ pos n) v))
     where
       one : (times : List ℕ) → (times ≡ []) ⊎ IsTimeSet s.kind times → All (λ x. IsTimeSet s.kind x.times) (shape_if_some (q +ℤ pos n) times)
       one [] h = All-nil (λ (x : DayShape). IsTimeSet s.kind x.times)
       one (x ∷ xs) (inl e) = absurd (not_nil x xs e)
-      one (x ∷ xs) (inr set) = All-cons (λ (x : DayShape). IsTimeSet s.kind x.times) (record { day = q +ℤ pos n; times = x ∷ xs }) [] set (All-nil (λ (x : DayShape). IsTimeSet s.kind x.times))
+      one (x ∷ xs) (inr set) =
+          All-cons (λ (x : DayShape). IsTimeSet s.kind x.times) (record { day = q +ℤ pos n; times = x ∷ xs }) [] set
+          (All-nil (λ (x : DayShape). IsTimeSet s.kind x.times))
 
-rising_near : (low high : ℤ) (ss : List DayShape) → neg_ℤ (pos 1_000_000_000) ≤ℤ low → high ≤ℤ pos 1_000_000_000 → HasRisingDays low high ss → All (λ s. IsNearDay s.day) ss
+rising_near : (low high : ℤ) (ss : List DayShape) → neg_ℤ (pos 1_000_000_000) ≤ℤ low → high ≤ℤ pos 1_000_000_000 → HasRisingDays low high ss
+    → All (λ s. IsNearDay s.day) ss
 rising_near low high [] l h r = All-nil (λ (s : DayShape). IsNearDay s.day)
 rising_near low high (s ∷ ss) l h r =
     let a = r.0 in
     let b = r.1 in
-    All-cons (λ (x : DayShape). IsNearDay x.day) s ss (omega (arith, ints), omega (arith, ints)) (rising_near (s.day +ℤ pos 1) high ss (omega (arith, ints)) h r.2)
+    All-cons (λ (x : DayShape). IsNearDay x.day) s ss (omega (arith, ints), omega (arith, ints))
+    (rising_near (s.day +ℤ pos 1) high ss (omega (arith, ints)) h r.2)
 
 -- ---- the sketch of a period from a start
 
@@ -102,7 +114,8 @@ sketch_from s first n p = record {
   cycle = occupied s (first +ℤ pos n) p;
 }
 
-module _ (s : Sketch) (bounded : IsDaySequence s) (first : ℤ) (n p : ℕ) (is_first : IsFirstDay s (Some first)) (least : IsLeastPeriod (times_on s) p) (start : IsLeastStart (times_on s) first p (first +ℤ pos n)) where
+module _ (s : Sketch) (bounded : IsDaySequence s) (first : ℤ) (n p : ℕ) (is_first : IsFirstDay s (Some first)) (least : IsLeastPeriod (times_on s) p)
+    (start : IsLeastStart (times_on s) first p (first +ℤ pos n)) where
   q : ℤ
   q = first +ℤ pos n
 
@@ -149,7 +162,8 @@ module _ (s : Sketch) (bounded : IsDaySequence s) (first : ℤ) (n p : ℕ) (is_
 
   -- the start is not after the later of the settled day and the first one
   start_within : (first +ℤ pos n) ≤ℤ int_max s.settled first
-  start_within = start.least (int_max s.settled first) (omega (arith, ints, clamps)) (λ d l. repeats_from_start (times_on s) s.settled s.period p v.period (repeats s v) least.holds d (omega (arith, ints, clamps)))
+  start_within = start.least (int_max s.settled first) (omega (arith, ints, clamps))
+      (λ d l. repeats_from_start (times_on s) s.settled s.period p v.period (repeats s v) least.holds d (omega (arith, ints, clamps)))
 
   pub sketch_from_bounded : IsDaySequence (sketch_from s first n p)
   sketch_from_bounded =
@@ -182,7 +196,8 @@ module _ (s : Sketch) (bounded : IsDaySequence s) (first : ℤ) (n p : ℕ) (is_
 
   finite_form : occupied s (first +ℤ pos n) p ≡ [] → IsLeastOfFinite (sketch_from s first n p)
   finite_form e =
-      let one : IsEventualPeriod (times_on s) 1 = (first +ℤ pos n, record { some = omega arith; repeats = λ d l. none_after e (d +ℤ pos 1) (omega (arith, ints)) ∙ sym (none_after e d l) }) in
+      let one : IsEventualPeriod (times_on s) 1 =
+      (first +ℤ pos n, record { some = omega arith; repeats = λ d l. none_after e (d +ℤ pos 1) (omega (arith, ints)) ∙ sym (none_after e d l) }) in
       let low = least.least 1 one in
       let some = least.holds.1.some in
       let is_one : p ≡ 1 = omega arith in
@@ -196,20 +211,26 @@ module _ (s : Sketch) (bounded : IsDaySequence s) (first : ℤ) (n p : ℕ) (is_
             omega (arith, ints, too_low));
       }
     where
-      nothing_from : occupied s (first +ℤ pos n) p ≡ [] → times_on s ((first +ℤ pos n) -ℤ pos 1) ≡ [] → (d : ℤ) → ((first +ℤ pos n) -ℤ pos 1) ≤ℤ d → times_on s d ≡ []
+      nothing_from : occupied s (first +ℤ pos n) p ≡ [] → times_on s ((first +ℤ pos n) -ℤ pos 1) ≡ [] → (d : ℤ) → ((first +ℤ pos n) -ℤ pos 1) ≤ℤ d
+          → times_on s d ≡ []
       nothing_from e on_last d l =
           let P : Type 0 = times_on s d ≡ [] in
-          by_lt_z {P = P} d (first +ℤ pos n) (λ m. let i : d ≡ (first +ℤ pos n) -ℤ pos 1 = omega (arith, ints) in ap (times_on s) i ∙ on_last) (λ g. none_after e d g)
+          by_lt_z {P = P} d (first +ℤ pos n) (λ m. let i : d ≡ (first +ℤ pos n) -ℤ pos 1 = omega (arith, ints) in
+          ap (times_on s) i ∙ on_last) (λ g. none_after e d g)
 
       from_last : occupied s (first +ℤ pos n) p ≡ [] → times_on s ((first +ℤ pos n) -ℤ pos 1) ≡ [] → RepeatsFrom (times_on s) ((first +ℤ pos n) -ℤ pos 1) p
       from_last e on_last d l = nothing_from e on_last (d +ℤ pos p) (omega (arith, ints)) ∙ sym (nothing_from e on_last d l)
 
   endless_form : (c : DayShape) (cs : List DayShape) → occupied s (first +ℤ pos n) p ≡ c ∷ cs → IsLeastOfEndless (sketch_from s first n p)
   endless_form c cs e =
-      let rises : HasRisingDays (first +ℤ pos n) ((first +ℤ pos n) +ℤ pos p) (c ∷ cs) = subst (λ (l : List DayShape). HasRisingDays (first +ℤ pos n) ((first +ℤ pos n) +ℤ pos p) l) e (occupied_rises s v (first +ℤ pos n) p) in
+      let rises : HasRisingDays (first +ℤ pos n) ((first +ℤ pos n) +ℤ pos p) (c ∷ cs) =
+      subst (λ (l : List DayShape). HasRisingDays (first +ℤ pos n) ((first +ℤ pos n) +ℤ pos p) l) e (occupied_rises s v (first +ℤ pos n) p) in
       let low = rises.0 in
-      let here : times_on s c.day ≡ c.times = sym (occupied_has s v (first +ℤ pos n) p c.day rises.0 rises.1) ∙ ap (λ l. times_in l c.day) e ∙ times_in-first c cs in
-      let set : IsTimeSet s.kind c.times = All-head (λ (x : DayShape). IsTimeSet s.kind x.times) c cs (subst (λ (l : List DayShape). All (λ x. IsTimeSet s.kind x.times) l) e (occupied_sets s v (first +ℤ pos n) p)) in
+      let here : times_on s c.day ≡ c.times =
+      sym (occupied_has s v (first +ℤ pos n) p c.day rises.0 rises.1) ∙ ap (λ l. times_in l c.day) e ∙ times_in-first c cs in
+      let set : IsTimeSet s.kind c.times =
+      All-head (λ (x : DayShape). IsTimeSet s.kind x.times) c cs
+      (subst (λ (l : List DayShape). All (λ x. IsTimeSet s.kind x.times) l) e (occupied_sets s v (first +ℤ pos n) p)) in
       record {
         endless = λ x.
             let k = nat_abs (x -ℤ c.day) in
@@ -217,7 +238,8 @@ module _ (s : Sketch) (bounded : IsDaySequence s) (first : ℤ) (n p : ℕ) (is_
               c.day +ℤ pos (k * p),
               omega (arith, ints, more),
               λ none.
-                  some_set s.kind c.times set (sym here ∙ sym (turns (times_on s) (first +ℤ pos n) p start.repeats k c.day low) ∙ sym (sketch_from_times (c.day +ℤ pos (k * p))) ∙ none),
+                  some_set s.kind c.times set (sym here ∙ sym (turns (times_on s) (first +ℤ pos n) p start.repeats k c.day low)
+                  ∙ sym (sketch_from_times (c.day +ℤ pos (k * p))) ∙ none),
             );
         first = first;
         is_first = sketch_from_first;
@@ -233,12 +255,14 @@ module _ (s : Sketch) (bounded : IsDaySequence s) (first : ℤ) (n p : ℕ) (is_
   pub sketch_from_least : IsLeastSketch (sketch_from s first n p)
   sketch_from_least = record { valid = sketch_from_valid; form = inr (by_cycle (occupied s (first +ℤ pos n) p) refl) }
     where
-      by_cycle : (l : List DayShape) → occupied s (first +ℤ pos n) p ≡ l → IsLeastOfFinite (sketch_from s first n p) ⊎ IsLeastOfEndless (sketch_from s first n p)
+      by_cycle : (l : List DayShape) → occupied s (first +ℤ pos n) p ≡ l
+          → IsLeastOfFinite (sketch_from s first n p) ⊎ IsLeastOfEndless (sketch_from s first n p)
       by_cycle [] e = inl (finite_form e)
       by_cycle (c ∷ cs) e = inr (endless_form c cs e)
 
 -- the least start of a bounded set is near
-pub start_near : (s : Sketch) (first q : ℤ) (p : ℕ) → IsDaySequence s → IsFirstDay s (Some first) → IsEventualPeriod (times_on s) p → IsLeastStart (times_on s) first p q → IsNearDay q
+pub start_near : (s : Sketch) (first q : ℤ) (p : ℕ) → IsDaySequence s → IsFirstDay s (Some first) → IsEventualPeriod (times_on s) p
+    → IsLeastStart (times_on s) first p q → IsNearDay q
 start_near s first q p bounded is_first holds start =
     let near = bounded.first first is_first in
     let a = near.0 in
@@ -246,7 +270,8 @@ start_near s first q p bounded is_first holds start =
     let c = bounded.settled.1 in
     let low = start.not_before in
     let v = bounded.valid in
-    let high = start.least (int_max s.settled first) (omega (arith, ints, clamps)) (λ d l. repeats_from_start (times_on s) s.settled s.period p v.period (repeats s v) holds d (omega (arith, ints, clamps))) in
+    let high = start.least (int_max s.settled first) (omega (arith, ints, clamps))
+    (λ d l. repeats_from_start (times_on s) s.settled s.period p v.period (repeats s v) holds d (omega (arith, ints, clamps))) in
     (omega (arith, ints), omega (arith, ints, clamps, high))
 
 pub occupied_few : (s : Sketch) (q : ℤ) (n : ℕ) → length (occupied s q n) ≤ n

@@ -1,5 +1,6 @@
 -- A set has one least sketch at most.
-use Rattle.std.proofs.Common.{◌≡◌, ℕ, ◌<◌, true, false, List, [], ◌∷◌, get_or, ℤ, pos, nat_abs, ◌+ℤ◌, ◌-ℤ◌, ◌≤ℤ◌, ◌<ℤ◌, inl, inr, refl, sym, ap, subst, ◌∙◌, arith}
+use Rattle.std.proofs.Common.{◌≡◌, ℕ, ◌<◌, true, false, List, [], ◌∷◌, get_or, ℤ, pos, nat_abs, ◌+ℤ◌, ◌-ℤ◌, ◌≤ℤ◌, ◌<ℤ◌, inl, inr, refl, sym, ap, subst, ◌∙◌}
+use Rattle.std.proofs.Common.{arith}
 use Rattle.std.specs.Prelude.{int_lt, Some}
 use Rattle.std.specs.List.{Contains}
 use Rattle.std.proofs.lemmas.Int.{ints, by_lt_z}
@@ -16,7 +17,8 @@ use Rattle.rr_model.proofs.WholeLemmas.{floor_only}
 use Rattle.rr_model.specs.Sets.Least.{IsLeastPeriod, IsLeastStart, IsEndless, IsLeastOfEndless, IsLeastOfFinite, IsLeastOfNone, LeastSketchIsOne}
 use Rattle.rr_word.proofs.ShapeLemmas.{shapes_only, times_in-late, times_in-early}
 
-pub parts_of_moment : (k : Kind) (day : ℤ) (x : ℕ) → x < 86_400 → (k ≡ Days → x ≡ 0) → (day_part k (moment_at k day x) ≡ day) × (second_part k (moment_at k day x) ≡ x)
+pub parts_of_moment : (k : Kind) (day : ℤ) (x : ℕ) → x < 86_400 → (k ≡ Days → x ≡ 0)
+    → (day_part k (moment_at k day x) ≡ day) × (second_part k (moment_at k day x) ≡ x)
 parts_of_moment Days day x lt z = (refl, sym (z refl))
 parts_of_moment Moments day x lt z = floor_only (moment_at Moments day x) day 86_400 x lt refl
 
@@ -58,12 +60,14 @@ module _ (s u : Sketch) (vs : IsValidSketch s) (vu : IsValidSketch u) (equal : H
 swapped : (s u : Sketch) → HaveEqualOccurrences (StandsIn s) (StandsIn u) → HaveEqualOccurrences (StandsIn u) (StandsIn s)
 swapped s u equal k t = ((equal k t).1, (equal k t).0)
 
-pub same_kind : (s u : Sketch) → IsValidSketch s → IsValidSketch u → HaveEqualOccurrences (StandsIn s) (StandsIn u) → (d : ℤ) → (times_on s d ≡ [] → ⊥) → s.kind ≡ u.kind
+pub same_kind : (s u : Sketch) → IsValidSketch s → IsValidSketch u → HaveEqualOccurrences (StandsIn s) (StandsIn u) → (d : ℤ) → (times_on s d ≡ [] → ⊥)
+    → s.kind ≡ u.kind
 same_kind s u vs vu equal d some = (over s u vs vu equal d (get_or (times_on s d) 0 0) (first_of_some (times_on s d) some)).0
 
 pub same_times : (s u : Sketch) → IsValidSketch s → IsValidSketch u → HaveEqualOccurrences (StandsIn s) (StandsIn u) → (d : ℤ) → times_on s d ≡ times_on u d
 same_times s u vs vu equal d =
-    one_list (times_on s d) (times_on u d) (rising_on s d vs) (rising_on u d vu) (λ w. ((λ c. (over s u vs vu equal d w c).1), (λ c. (over u s vu vs (swapped s u equal) d w c).1)))
+    one_list (times_on s d) (times_on u d) (rising_on s d vs) (rising_on u d vu)
+    (λ w. ((λ c. (over s u vs vu equal d w c).1), (λ c. (over u s vu vs (swapped s u equal) d w c).1)))
 
 -- ---- two least sketches with the same days
 
@@ -80,11 +84,15 @@ module _ (s u : Sketch) (vs : IsValidSketch s) (vu : IsValidSketch u) (same : (d
 
   cycle_only : s.period ≡ u.period → s.cycle ≡ u.cycle
   cycle_only period =
-      shapes_only s.kind u.kind s.settled (s.settled +ℤ pos s.period) u.settled (u.settled +ℤ pos u.period) s.cycle u.cycle vs.cycle vu.cycle vs.cycle_times vu.cycle_times
+      shapes_only s.kind u.kind s.settled (s.settled +ℤ pos s.period) u.settled
+      (u.settled +ℤ pos u.period) s.cycle u.cycle vs.cycle vu.cycle vs.cycle_times vu.cycle_times
       (λ d. let P : Type 0 = times_in s.cycle d ≡ times_in u.cycle d in
-      by_lt_z {P = P} d s.settled (λ l. times_in-early s.settled (s.settled +ℤ pos s.period) s.cycle d vs.cycle l ∙ sym (times_in-early u.settled (u.settled +ℤ pos u.period) u.cycle d vu.cycle (omega (arith, ints)))) (λ g.
-      by_lt_z {P = P} d (s.settled +ℤ pos s.period) (λ l. sym (first_period s d g l) ∙ same d ∙ first_period u d (omega (arith, ints)) (omega (arith, ints))) (λ h.
-      times_in-late s.settled (s.settled +ℤ pos s.period) s.cycle d vs.cycle h ∙ sym (times_in-late u.settled (u.settled +ℤ pos u.period) u.cycle d vu.cycle (omega (arith, ints))))))
+      by_lt_z {P = P} d s.settled (λ l. times_in-early s.settled (s.settled +ℤ pos s.period) s.cycle d vs.cycle l
+      ∙ sym (times_in-early u.settled (u.settled +ℤ pos u.period) u.cycle d vu.cycle (omega (arith, ints)))) (λ g.
+      by_lt_z {P = P} d (s.settled +ℤ pos s.period) (λ l. sym (first_period s d g l) ∙ same d
+      ∙ first_period u d (omega (arith, ints)) (omega (arith, ints))) (λ h.
+      times_in-late s.settled (s.settled +ℤ pos s.period) s.cycle d vs.cycle h
+      ∙ sym (times_in-late u.settled (u.settled +ℤ pos u.period) u.cycle d vu.cycle (omega (arith, ints))))))
 
   pub sketch_only : s.kind ≡ u.kind → s.period ≡ u.period → s ≡ u
   sketch_only kind period = sketch_is s u kind before_only settled period (cycle_only period)
@@ -103,7 +111,8 @@ both_none s u a b = sketch_is s u (a.kind ∙ sym b.kind) (a.before ∙ sym b.be
 last_within : (s u : Sketch) → ((d : ℤ) → times_on s d ≡ times_on u d) → IsLeastOfFinite s → IsLeastOfFinite u → s.settled ≤ℤ u.settled
 last_within s u same a b =
     let P : Type 0 = s.settled ≤ℤ u.settled in
-    by_lt_z {P = P} (s.settled -ℤ pos 1) u.settled (λ l. omega (arith, ints)) (λ g. absurd (a.last (same (s.settled -ℤ pos 1) ∙ finite_end u (s.settled -ℤ pos 1) b.cycle g)))
+    by_lt_z {P = P} (s.settled -ℤ pos 1) u.settled (λ l. omega (arith, ints))
+    (λ g. absurd (a.last (same (s.settled -ℤ pos 1) ∙ finite_end u (s.settled -ℤ pos 1) b.cycle g)))
 
 pub one_first : (s : Sketch) (d e : ℤ) → IsFirstDay s (Some d) → IsFirstDay s (Some e) → d ≡ e
 one_first s d e a b =
@@ -144,8 +153,10 @@ module _ (s u : Sketch) (vs : IsValidSketch s) (vu : IsValidSketch u) (equal : H
       let period_u : IsLeastPeriod (times_on s) u.period = subst (λ (f : ℤ → List ℕ). IsLeastPeriod f u.period) alike b.period in
       let period = one_period (times_on s) s.period u.period a.period period_u in
       let first : b.first ≡ a.first = one_first s b.first a.first (endless_first s u same b.first b.is_first) a.is_first in
-      let start_u : IsLeastStart (times_on s) b.first u.period u.settled = subst (λ (f : ℤ → List ℕ). IsLeastStart f b.first u.period u.settled) alike b.start in
-      let start : IsLeastStart (times_on s) a.first s.period u.settled = subst (λ p. IsLeastStart (times_on s) a.first p u.settled) (sym period) (subst (λ d. IsLeastStart (times_on s) d u.period u.settled) first start_u) in
+      let start_u : IsLeastStart (times_on s) b.first u.period u.settled =
+      subst (λ (f : ℤ → List ℕ). IsLeastStart f b.first u.period u.settled) alike b.start in
+      let start : IsLeastStart (times_on s) a.first s.period u.settled =
+      subst (λ p. IsLeastStart (times_on s) a.first p u.settled) (sym period) (subst (λ d. IsLeastStart (times_on s) d u.period u.settled) first start_u) in
       let settled = one_start (times_on s) a.first s.period s.settled u.settled a.start start in
       sketch_only s u vs vu same settled (same_kind s u vs vu equal a.first a.is_first.0) period
 

@@ -1,5 +1,6 @@
 -- Periods of a sequence: the greatest common divisor of two is one, so the least divides each.
-use Rattle.std.proofs.Common.{◌≡◌, ℕ, zero, suc, ◌*◌, ◌/◌, ◌%◌, ◌==◌, ◌≤◌, true, false, cond, ℤ, pos, nat_abs, ◌+ℤ◌, ◌-ℤ◌, ◌≤ℤ◌, inl, inr, sym, ap, subst, ◌∙◌, arith}
+use Rattle.std.proofs.Common.{◌≡◌, ℕ, zero, suc, ◌*◌, ◌/◌, ◌%◌, ◌==◌, ◌≤◌, true, false, cond, ℤ, pos, nat_abs, ◌+ℤ◌, ◌-ℤ◌, ◌≤ℤ◌, inl, inr, sym, ap, subst}
+use Rattle.std.proofs.Common.{◌∙◌, arith}
 use Rattle.std.specs.Int.{◌∣◌, int_max}
 use Rattle.std.proofs.lemmas.Int.{ints, clamps}
 use Rattle.std.proofs.lemmas.Nat.{div-add-mod'}
@@ -59,7 +60,8 @@ least_divides f p r least h =
     subst (λ n. n ∣ r) e is.1
 
 -- the least start is one and the same for all eventual periods
-pub same_start : {X : Type 0} (f : ℤ → X) (first q : ℤ) (p r : ℕ) → IsEventualPeriod f p → IsEventualPeriod f r → IsLeastStart f first p q → IsLeastStart f first r q
+pub same_start : {X : Type 0} (f : ℤ → X) (first q : ℤ) (p r : ℕ) → IsEventualPeriod f p → IsEventualPeriod f r → IsLeastStart f first p q
+    → IsLeastStart f first r q
 same_start f first q p r hp hr start = record {
   not_before = start.not_before;
   repeats = repeats_from_start f q p r hp.1.some start.repeats hr;

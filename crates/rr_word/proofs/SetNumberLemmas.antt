@@ -52,16 +52,19 @@ known_stays sets times other h =
 
 pub number_stays : (sets : List (List ℕ)) (times other : List ℕ) → IsKnown sets other → number_of (with_set sets times) other ≡ number_of sets other
 number_stays sets times other h =
-    elim (list_any (is_same_set times) sets) as (λ b. position_or_len (is_same_set other) (cond b sets (sets ++ times ∷ [])) ≡ position_or_len (is_same_set other) sets) [
+    elim (list_any (is_same_set times) sets) as
+    (λ b. position_or_len (is_same_set other) (cond b sets (sets ++ times ∷ [])) ≡ position_or_len (is_same_set other) sets) [
       | true ↦ refl
       | false ↦ place_kept (is_same_set other) sets (times ∷ []) h
     ]
 
 pub known_new : (sets : List (List ℕ)) (times : List ℕ) → IsKnown (with_set sets times) times
 known_new sets times =
-    elim (list_any (is_same_set times) sets) as (λ b. list_any (is_same_set times) sets ≡ b → list_any (is_same_set times) (cond b sets (sets ++ times ∷ [])) ≡ true) [
+    elim (list_any (is_same_set times) sets) as (λ b. list_any (is_same_set times) sets ≡ b
+    → list_any (is_same_set times) (cond b sets (sets ++ times ∷ [])) ≡ true) [
       | true ↦ λ e. e
-      | false ↦ λ e. list_any-append (is_same_set times) sets (times ∷ []) ∙ ap (λ b. b || list_any (is_same_set times) (times ∷ [])) e ∙ ap (λ b. b || false) (same_set_itself times)
+      | false ↦ λ e. list_any-append (is_same_set times) sets (times ∷ []) ∙ ap (λ b. b || list_any (is_same_set times) (times ∷ [])) e
+          ∙ ap (λ b. b || false) (same_set_itself times)
     ] refl
 
 -- ---- the sets of days
@@ -73,7 +76,8 @@ known_stays_of sets (s ∷ ss) other h = known_stays_of (with_set sets s.times) 
 pub all_known : (sets : List (List ℕ)) (ss : List DayShape) → All (λ s. IsKnown (with_sets_of sets ss) s.times) ss
 all_known sets [] = All-nil (λ (s : DayShape). IsKnown sets s.times)
 all_known sets (s ∷ ss) =
-    All-cons (λ (x : DayShape). IsKnown (with_sets_of (with_set sets s.times) ss) x.times) s ss (known_stays_of (with_set sets s.times) ss s.times (known_new sets s.times)) (all_known (with_set sets s.times) ss)
+    All-cons (λ (x : DayShape). IsKnown (with_sets_of (with_set sets s.times) ss) x.times) s ss
+    (known_stays_of (with_set sets s.times) ss s.times (known_new sets s.times)) (all_known (with_set sets s.times) ss)
 
 pub All-front : {X : Type 0} (P : X → Type 0) (xs ys : List X) → All P (xs ++ ys) → All P xs
 All-front P [] ys h = All-nil P

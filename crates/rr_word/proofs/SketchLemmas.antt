@@ -1,5 +1,6 @@
 -- What a valid sketch has on its days.
-use Rattle.std.proofs.Common.{◌≡◌, ◌⊎◌, inl, inr, ℕ, ◌+◌, ◌<◌, true, false, cond, List, [], ◌∷◌, ℤ, pos, nat_abs, ◌+ℤ◌, ◌-ℤ◌, ◌≤ℤ◌, ◌<ℤ◌, refl, sym, ap, subst, arith}
+use Rattle.std.proofs.Common.{◌≡◌, ◌⊎◌, inl, inr, ℕ, ◌+◌, ◌<◌, true, false, cond, List, [], ◌∷◌, ℤ, pos, nat_abs, ◌+ℤ◌, ◌-ℤ◌, ◌≤ℤ◌, ◌<ℤ◌, refl, sym, ap}
+use Rattle.std.proofs.Common.{subst, arith}
 use Rattle.std.specs.Prelude.{int_lt, nat_lt}
 use Rattle.std.specs.List.{All, Contains}
 use Rattle.std.specs.Ordering.{int_eq}
@@ -29,7 +30,8 @@ set_in k (s ∷ ss) d all =
 -- a day has no seconds, or those of an occupied day
 pub set_on : (s : Sketch) (d : ℤ) → IsValidSketch s → (times_on s d ≡ []) ⊎ IsTimeSet s.kind (times_on s d)
 set_on s d v =
-    elim (int_lt d s.settled) as (λ b. (cond b (times_in s.before d) (times_in s.cycle (day_in_cycle s d)) ≡ []) ⊎ IsTimeSet s.kind (cond b (times_in s.before d) (times_in s.cycle (day_in_cycle s d)))) [
+    elim (int_lt d s.settled) as (λ b. (cond b (times_in s.before d) (times_in s.cycle (day_in_cycle s d)) ≡ [])
+    ⊎ IsTimeSet s.kind (cond b (times_in s.before d) (times_in s.cycle (day_in_cycle s d)))) [
       | true ↦ set_in s.kind s.before d v.before_times
       | false ↦ set_in s.kind s.cycle (day_in_cycle s d) v.cycle_times
     ]
@@ -80,7 +82,9 @@ agreement_of_sketches_lasts s u vs vu q ls lu agree =
     agreement_lasts (times_on s) (times_on u) q s.period u.period vs.period vu.period (repeats_from s q vs ls) (repeats_from u q vu lu) agree
 
 -- what relation holds of the seconds on each day of a common multiple holds for ever
-pub common_window : (R : List ℕ → List ℕ → Type 0) (s u : Sketch) (q : ℤ) (c : ℕ) → IsValidSketch s → IsValidSketch u → s.settled ≤ℤ q → u.settled ≤ℤ q → IsCommonMultiple s.period u.period c → ((d : ℤ) → q ≤ℤ d → d <ℤ (q +ℤ pos c) → R (times_on s d) (times_on u d)) → (d : ℤ) → q ≤ℤ d → R (times_on s d) (times_on u d)
+pub common_window : (R : List ℕ → List ℕ → Type 0) (s u : Sketch) (q : ℤ) (c : ℕ) → IsValidSketch s → IsValidSketch u → s.settled ≤ℤ q → u.settled ≤ℤ q
+    → IsCommonMultiple s.period u.period c → ((d : ℤ) → q ≤ℤ d → d <ℤ (q +ℤ pos c) → R (times_on s d) (times_on u d)) → (d : ℤ) → q ≤ℤ d
+    → R (times_on s d) (times_on u d)
 common_window R s u q c vs vu ls lu common window =
     window_lasts R (times_on s) (times_on u) q c common.some
     (RepeatsFrom-multiple (times_on s) q s.period c common.of_first (repeats_from s q vs ls))

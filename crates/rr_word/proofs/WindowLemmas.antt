@@ -25,7 +25,8 @@ RepeatsFrom-multiple f q p c divides h d l =
 pub RepeatsFrom-later : {X : Type 0} (f : ℤ → X) (q r : ℤ) (p : ℕ) → q ≤ℤ r → RepeatsFrom f q p → RepeatsFrom f r p
 RepeatsFrom-later f q r p l h d m = h d (omega (arith, ints))
 
-pub window_lasts : {X Y : Type 0} (R : X → Y → Type 0) (f : ℤ → X) (g : ℤ → Y) (q : ℤ) (c : ℕ) → 1 ≤ c → RepeatsFrom f q c → RepeatsFrom g q c → ((d : ℤ) → q ≤ℤ d → d <ℤ (q +ℤ pos c) → R (f d) (g d)) → (d : ℤ) → q ≤ℤ d → R (f d) (g d)
+pub window_lasts : {X Y : Type 0} (R : X → Y → Type 0) (f : ℤ → X) (g : ℤ → Y) (q : ℤ) (c : ℕ) → 1 ≤ c → RepeatsFrom f q c → RepeatsFrom g q c
+    → ((d : ℤ) → q ≤ℤ d → d <ℤ (q +ℤ pos c) → R (f d) (g d)) → (d : ℤ) → q ≤ℤ d → R (f d) (g d)
 window_lasts {X} {Y} R f g q c hc hf hg window d l =
     let n = nat_abs (d -ℤ q) in
     let r = n % c in

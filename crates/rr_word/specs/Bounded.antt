@@ -46,7 +46,14 @@ IsFirstDay-prop s (Some d) = hlevel props
 -- it is what every day sequence meets
 pub IsDaySequence-bounded : (s : Sketch) → IsBounded s → IsDaySequence s
 IsDaySequence-bounded s b = record {
-  valid = record { period = b.some; before = (neg_ℤ (pos 1_000_000_000), b.before); cycle = b.cycle; before_times = b.before_times; cycle_times = b.cycle_times };
+  valid = record {
+    period = b.some;
+    before = (neg_ℤ (pos 1_000_000_000), b.before);
+    cycle = b.cycle;
+    before_times = b.before_times;
+    cycle_times =
+        b.cycle_times;
+  };
   settled = b.settled;
   before = b.near;
   first = b.first;

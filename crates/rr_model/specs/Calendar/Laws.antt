@@ -1,6 +1,7 @@
 -- Laws of the calendar, over all whole numbers.
 use Rattle.std.specs.Prelude.{◌≡◌, ℕ, ◌≤◌, ℤ, pos, ◌+ℤ◌, ◌*ℤ◌}
-use Rattle.rr_model.specs.Calendar.{is_leap, days_in_year, days_in_month, first_day_of_year, day_number, IsDate, year_of, month_of, day_of_month, day_of_year, weekday_of, kind_of_year}
+use Rattle.rr_model.specs.Calendar.{is_leap, days_in_year, days_in_month, first_day_of_year, day_number, IsDate, year_of, month_of, day_of_month}
+use Rattle.rr_model.specs.Calendar.{day_of_year, weekday_of, kind_of_year}
 use Rattle.rr_model.specs.Calendar.Week.{week_index, fourth_day, week_year, week_number, last_week}
 
 -- ---- each day has exactly one date

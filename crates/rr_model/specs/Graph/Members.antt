@@ -68,7 +68,8 @@ form_named text = named
 -- a weekday, from 0 for Monday
 unfoldable pub day_named : List ℕ → Option ℕ
 day_named text = named
-    ((codes "monday", 0) ∷ (codes "tuesday", 1) ∷ (codes "wednesday", 2) ∷ (codes "thursday", 3) ∷ (codes "friday", 4) ∷ (codes "saturday", 5) ∷ (codes "sunday", 6) ∷ []) text
+    ((codes "monday", 0) ∷ (codes "tuesday", 1) ∷ (codes "wednesday", 2) ∷ (codes "thursday", 3) ∷ (codes "friday", 4) ∷ (codes "saturday", 5) ∷
+    (codes "sunday", 6) ∷ []) text
 
 -- which of the days of a month
 unfoldable pub index_named : List ℕ → Option ℤ

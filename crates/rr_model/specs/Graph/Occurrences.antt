@@ -1,5 +1,6 @@
 -- Which days a Graph pattern and range have (Microsoft Graph, recurrencePattern and recurrenceRange), with no word of RRULE.
-use Rattle.std.specs.Prelude.{◌≡◌, ℕ, ◌+◌, ◌-◌, ◌/◌, ◌%◌, ◌≤◌, ◌==◌, min, Bool, true, false, ◌&&◌, if◌then◌else◌, IsTrue, ⊤, ℤ, pos, negsuc, nat_abs, ◌+ℤ◌, ◌-ℤ◌, ◌≤ℤ◌, int_le, suc, zero, Option, None, Some}
+use Rattle.std.specs.Prelude.{◌≡◌, ℕ, ◌+◌, ◌-◌, ◌/◌, ◌%◌, ◌≤◌, ◌==◌, min, Bool, true, false, ◌&&◌, if◌then◌else◌, IsTrue, ⊤, ℤ, pos, negsuc, nat_abs, ◌+ℤ◌}
+use Rattle.std.specs.Prelude.{◌-ℤ◌, ◌≤ℤ◌, int_le, suc, zero, Option, None, Some}
 use Rattle.rr_model.specs.Calendar.{weekday_of, day_of_month, month_of, year_of, days_in_month}
 use Rattle.rr_model.specs.Whole.Count.{count_from}
 use Rattle.rr_model.specs.Moment.{day_part, second_part}

@@ -1,6 +1,7 @@
 -- What the JSON of a Graph event or of a bare recurrence states, or the first refusal
 -- (Microsoft Graph, event, recurrencePattern, recurrenceRange, dateTimeTimeZone).
-use Rattle.std.specs.Prelude.{ℕ, nat_le, Bool, true, false, not, ◌&&◌, ◌||◌, if◌then◌else◌, bit_or, ℤ, pos, ◌+ℤ◌, List, codes, Option, None, Some, option_and_then, ok_or, Result, Ok, Err}
+use Rattle.std.specs.Prelude.{ℕ, nat_le, Bool, true, false, not, ◌&&◌, ◌||◌, if◌then◌else◌, bit_or, ℤ, pos, ◌+ℤ◌, List, codes, Option, None, Some}
+use Rattle.std.specs.Prelude.{option_and_then, ok_or, Result, Ok, Err}
 use Rattle.std.specs.Ordering.{int_eq}
 use Rattle.std.specs.Str.{is_utf8, str_eq_ignore_ascii_case}
 use Rattle.serde_json.specs.Data.{Data, boolean, string, Items, no_items, item}

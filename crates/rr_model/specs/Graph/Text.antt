@@ -69,7 +69,8 @@ range_data (Numbered n) day = object (member (codes "numberOfOccurrences") (numb
 
 -- a pattern and its range
 abbrev pub recurrence_data : Pattern → Range → Data
-recurrence_data pattern range = object (member (codes "pattern") (pattern_data pattern) (member (codes "range") (range_data range.end range.start_day) no_members))
+recurrence_data pattern range =
+    object (member (codes "pattern") (pattern_data pattern) (member (codes "range") (range_data range.end range.start_day) no_members))
 
 -- a series of dates is the bare recurrence, and one of moments an event
 abbrev pub event_data : Kind → ℤ → Pattern → Range → Data

@@ -41,7 +41,8 @@ IsRangeEnd (Numbered n) = (1 ≤ n) × (n ≤ 18_446_744_073_709_551_615)
 -- an event that does not repeat, or repeats from its start's day on and has an occurrence in the years 1 to 9999
 abbrev pub IsRepeatFrom : ℤ → Repeat → Type 0
 IsRepeatFrom day repeat.Once = ⊤
-IsRepeatFrom day (repeat.Pattern pattern range) = IsValidPattern pattern × IsRangeEnd range.end × (range.start_day ≡ day) × ((first : ℤ) × (first_repeat_day pattern range ≡ Some first))
+IsRepeatFrom day (repeat.Pattern pattern range) =
+    IsValidPattern pattern × IsRangeEnd range.end × (range.start_day ≡ day) × ((first : ℤ) × (first_repeat_day pattern range ≡ Some first))
 
 -- the event's pattern and range are valid, and it has an occurrence
 pub record IsValidGraphEvent (event : GraphEvent) : Type 0 where

@@ -45,7 +45,8 @@ unit_start Yearly w kind u = moment_at kind (first_day_of_year u) 0
 
 -- The moments of a unit are those from its first one on, up to the first one of the next unit.
 abbrev pub UnitsAreStretches : Type 0
-UnitsAreStretches = (freq : Freq) (w : ℕ) (kind : Kind) (t u : ℤ) → (unit_number freq w kind t ≡ u) ↔ ((unit_start freq w kind u ≤ℤ t) × (t <ℤ unit_start freq w kind (u +ℤ pos 1)))
+UnitsAreStretches = (freq : Freq) (w : ℕ) (kind : Kind) (t u : ℤ)
+    → (unit_number freq w kind t ≡ u) ↔ ((unit_start freq w kind u ≤ℤ t) × (t <ℤ unit_start freq w kind (u +ℤ pos 1)))
 
 -- how many seconds a unit shorter than a day has
 abbrev pub unit_seconds : Freq → ℕ

@@ -26,7 +26,8 @@ position_from_back rule kind start t = count_from (is_candidate rule kind start)
 -- BYSETPOS is absent, or lists one of the two, the second as a negative number
 abbrev pub by_set_pos_holds : Rule → Kind → ℤ → ℤ → Bool
 by_set_pos_holds rule kind start t =
-    is_absent rule.by_set_pos || lists rule.by_set_pos (pos (position_from_front rule kind start t)) || lists rule.by_set_pos (neg_ℤ (pos (position_from_back rule kind start t)))
+    is_absent rule.by_set_pos || lists rule.by_set_pos (pos (position_from_front rule kind start t))
+    || lists rule.by_set_pos (neg_ℤ (pos (position_from_back rule kind start t)))
 
 -- the rule with this start chooses t
 unfoldable pub is_chosen : Rule → Kind → ℤ → ℤ → Bool

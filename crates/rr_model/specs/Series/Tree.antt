@@ -32,7 +32,8 @@ dates_with_start series = if series.start_counts then with_value int_lt series.p
 
 -- the dates and the members of all rules, without the dates taken out
 abbrev pub tree_of : Series → Tree
-tree_of series = without (union (dates_of series.kind (dates_with_start series)) (many (members_of_all series.kind series.start series.rules))) series.kind series.minus
+tree_of series = without
+    (union (dates_of series.kind (dates_with_start series)) (many (members_of_all series.kind series.start series.rules))) series.kind series.minus
 
 -- Exactly what occurs in a sound series stands in its tree.
 abbrev pub TreeStandsForSeries : Type 0

@@ -1,5 +1,6 @@
 -- Extended dates and moments (ISO 8601), with what Microsoft Graph writes after a moment (dateTimeTimeZone, dateTime).
-use Rattle.std.specs.Prelude.{ℕ, ◌==◌, nat_le, nat_lt, ◌&&◌, if◌then◌else◌, ℤ, List, [], ◌∷◌, ◌++◌, length, take, drop, slice_index, Option, None, Some, option_map, option_and_then}
+use Rattle.std.specs.Prelude.{ℕ, ◌==◌, nat_le, nat_lt, ◌&&◌, if◌then◌else◌, ℤ, List, [], ◌∷◌, ◌++◌, length, take, drop, slice_index, Option, None, Some}
+use Rattle.std.specs.Prelude.{option_map, option_and_then}
 use Rattle.std.specs.List.{prefix_len}
 use Rattle.rr_model.specs.Text.Moments.{basic_date, basic_time, is_letter_t, utc_mark, date_stamp, moment_of}
 use Rattle.rr_model.specs.declared.stamp.Stamp.{Stamp}

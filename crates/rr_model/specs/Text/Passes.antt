@@ -1,6 +1,7 @@
 -- How the used lines of an event are read: a first pass judges each line alone, a second one judges moments beside the start
 -- (RFC 5545, sections 3.3.5, 3.8.2.4, 3.8.5.1, 3.8.5.2; vCalendar 1.0, the same properties).
-use Rattle.std.specs.Prelude.{ℕ, ◌+◌, ◌==◌, nat_le, Bool, true, false, not, ◌&&◌, if◌then◌else◌, ℤ, ◌+ℤ◌, int_lt, List, [], ◌∷◌, ◌++◌, Option, None, Some, ok_or, Result, Ok, Err}
+use Rattle.std.specs.Prelude.{ℕ, ◌+◌, ◌==◌, nat_le, Bool, true, false, not, ◌&&◌, if◌then◌else◌, ℤ, ◌+ℤ◌, int_lt, List, [], ◌∷◌, ◌++◌, Option, None, Some}
+use Rattle.std.specs.Prelude.{ok_or, Result, Ok, Err}
 use Rattle.std.specs.List.{list_any, slice_split}
 use Rattle.std.specs.Option.{is_some}
 use Rattle.rr_model.specs.Text.Moments.{basic}
@@ -127,7 +128,8 @@ with_rule language rule_beside line beside text = do
   Ok (record beside { rules = beside.rules ++ rule ∷ [] })
 
 -- one used line; what it states was judged in the first pass
-abbrev pub with_line : {R : Type 0} → Language R → (ℕ → Stated R → Result R Refusal) → Option ℤ → Stamp → ℕ → LineName → Beside R → List ℕ → Result (Beside R) Refusal
+abbrev pub with_line : {R : Type 0} → Language R → (ℕ → Stated R → Result R Refusal) → Option ℤ → Stamp → ℕ → LineName → Beside R → List ℕ
+    → Result (Beside R) Refusal
 with_line language rule_beside offset start line Dtstart beside text = Ok beside
 with_line language rule_beside offset start line Rrule beside text = with_rule language rule_beside line beside text
 with_line language rule_beside offset start line Rdate beside text = with_dates offset start line true beside (slice_split language.is_separator text)
@@ -136,7 +138,8 @@ with_line language rule_beside offset start line Exrule beside text = Ok beside
 
 -- the second pass over the lines
 abbrev pub second_pass : {R : Type 0} → Language R → (ℕ → Stated R → Result R Refusal) → Option ℤ → Stamp → Beside R → List UsedLine → Result (Beside R) Refusal
-second_pass language rule_beside offset start beside lines = in_turn (λ b line. with_line language rule_beside offset start line.number line.name b line.value) beside lines
+second_pass language rule_beside offset start beside lines =
+    in_turn (λ b line. with_line language rule_beside offset start line.number line.name b line.value) beside lines
 
 -- ---- both passes
 

@@ -4,7 +4,11 @@ use Rattle.std.specs.Fmt.{decimal}
 use Rattle.rr_model.specs.declared.refusal.Member.{Member}
 use Rattle.rr_model.specs.declared.refusal.Member.TheVariants as member
 use Rattle.rr_model.specs.declared.refusal.Refusal.{Refusal}
-use Rattle.rr_model.specs.declared.refusal.Refusal.TheVariants.{TooLong, NotText, BadLine, SeveralEvents, NoStart, BadMoment, MixedKinds, BadRule, PartTwice, NumberRange, UntilAndCount, NotAllowed, LeapSecond, UtcMoment, UntilKind, UntilBeforeStart, NotSynchronised, PeriodValue, Extended, BadJson, BadMember, StartDiffers, NoOccurrence, IntervalTooLarge, CycleTooLong, CountedTooFar, TooManyMoments, NotSayable, TooManyParts, NotRising, NotBuilt}
+use Rattle.rr_model.specs.declared.refusal.Refusal.TheVariants.{TooLong, NotText, BadLine, SeveralEvents, NoStart, BadMoment, MixedKinds, BadRule}
+use Rattle.rr_model.specs.declared.refusal.Refusal.TheVariants.{PartTwice, NumberRange, UntilAndCount, NotAllowed, LeapSecond, UtcMoment, UntilKind}
+use Rattle.rr_model.specs.declared.refusal.Refusal.TheVariants.{UntilBeforeStart, NotSynchronised, PeriodValue, Extended, BadJson, BadMember, StartDiffers}
+use Rattle.rr_model.specs.declared.refusal.Refusal.TheVariants.{NoOccurrence, IntervalTooLarge, CycleTooLong, CountedTooFar, TooManyMoments, NotSayable}
+use Rattle.rr_model.specs.declared.refusal.Refusal.TheVariants.{TooManyParts, NotRising, NotBuilt}
 
 -- a member by its name in JSON (Microsoft Graph, event, recurrencePattern, recurrenceRange)
 abbrev pub member_text : Member → List ℕ

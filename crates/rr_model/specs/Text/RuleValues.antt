@@ -1,5 +1,6 @@
 -- Numbers, weekdays and lists of a rule's text (RFC 5545, section 3.3.10). Letters are capitals.
-use Rattle.std.specs.Prelude.{ℕ, ◌-◌, ◌==◌, nat_le, nat_lt, Bool, true, false, ◌&&◌, ◌||◌, if◌then◌else◌, ℤ, pos, List, [], ◌∷◌, length, take, drop, codes, Option, None, Some, ok_or, Result, Ok, Err, int_lt}
+use Rattle.std.specs.Prelude.{ℕ, ◌-◌, ◌==◌, nat_le, nat_lt, Bool, true, false, ◌&&◌, ◌||◌, if◌then◌else◌, ℤ, pos, List, [], ◌∷◌, length, take, drop, codes}
+use Rattle.std.specs.Prelude.{Option, None, Some, ok_or, Result, Ok, Err, int_lt}
 use Rattle.std.specs.List.{list_all, slice_split}
 use Rattle.std.specs.Option.{is_some}
 use Rattle.std.specs.Str.{bytes_eq}
@@ -102,7 +103,8 @@ outside line bounds size = if bounds.has_leap && (size == 60) then LeapSecond el
 -- a number of the form and within the bounds
 unfoldable pub number_within : ℕ → NumberBounds → List ℕ → Result ℤ Refusal
 number_within line bounds text =
-    if has_number_form bounds text then (if nat_le bounds.least (magnitude text) && nat_le (magnitude text) bounds.most then Ok (signed_digits_value 10 text) else Err (outside line bounds (magnitude text)))
+    if has_number_form bounds text then (if nat_le bounds.least (magnitude text)
+    && nat_le (magnitude text) bounds.most then Ok (signed_digits_value 10 text) else Err (outside line bounds (magnitude text)))
     else Err (BadRule line)
 
 -- a list of numbers within their bounds

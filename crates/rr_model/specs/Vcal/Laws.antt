@@ -25,7 +25,8 @@ CounterpartHasMembers =
 -- A valid rule is synchronised exactly where its counterpart is.
 abbrev pub CounterpartIsSynchronised : Type 0
 CounterpartIsSynchronised =
-    (rule : VRule) (kind : Kind) (start : ℤ) → IsValidVRule rule → IsVcalSynchronised rule kind start ↔ IsSynchronised (rule_of_vrule rule kind start) kind start
+    (rule : VRule) (kind : Kind) (start : ℤ) → IsValidVRule rule
+    → IsVcalSynchronised rule kind start ↔ IsSynchronised (rule_of_vrule rule kind start) kind start
 
 -- A valid series and its counterpart have the same occurrences.
 abbrev pub VcalCounterpartHasOccurrences : Type 0

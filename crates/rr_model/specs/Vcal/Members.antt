@@ -47,7 +47,8 @@ item_has_day family interval start item d = divides interval (family_unit family
 -- some item has the moment's day, and its second is the start's
 unfoldable pub is_vcal_candidate : VRule → Kind → ℤ → ℤ → Bool
 is_vcal_candidate rule kind start t =
-    (second_part kind t == second_part kind start) && list_any (λ item. item_has_day rule.family rule.interval (day_part kind start) item (day_part kind t)) rule.items
+    (second_part kind t == second_part kind start)
+    && list_any (λ item. item_has_day rule.family rule.interval (day_part kind start) item (day_part kind t)) rule.items
 
 -- how many of these lie from the start to t, both included
 abbrev pub vcal_members_to : VRule → Kind → ℤ → ℤ → ℕ
@@ -61,7 +62,8 @@ pub record IsVcalMember (rule : VRule) (kind : Kind) (start t : ℤ) : Type 0 wh
 
 -- some item has the start's day
 abbrev pub IsVcalSynchronised : VRule → Kind → ℤ → Type 0
-IsVcalSynchronised rule kind start = IsTrue (list_any (λ item. item_has_day rule.family rule.interval (day_part kind start) item (day_part kind start)) rule.items)
+IsVcalSynchronised rule kind start =
+    IsTrue (list_any (λ item. item_has_day rule.family rule.interval (day_part kind start) item (day_part kind start)) rule.items)
 
 -- ---- occurrences
 

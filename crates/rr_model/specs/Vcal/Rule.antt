@@ -1,5 +1,6 @@
 -- The text of a rule (vCalendar 1.0, basic recurrence rule grammar). Letters are capitals.
-use Rattle.std.specs.Prelude.{ℕ, ◌-◌, ◌==◌, nat_le, Bool, true, false, not, ◌&&◌, ◌||◌, if◌then◌else◌, ℤ, pos, neg_ℤ, int_lt, List, [], ◌∷◌, length, take, drop, slice_index, codes, Option, None, Some, option_map, ok_or, Result, Ok, Err}
+use Rattle.std.specs.Prelude.{ℕ, ◌-◌, ◌==◌, nat_le, Bool, true, false, not, ◌&&◌, ◌||◌, if◌then◌else◌, ℤ, pos, neg_ℤ, int_lt, List, [], ◌∷◌, length, take}
+use Rattle.std.specs.Prelude.{drop, slice_index, codes, Option, None, Some, option_map, ok_or, Result, Ok, Err}
 use Rattle.std.specs.List.{list_all, slice_split}
 use Rattle.std.specs.Option.{is_some, option_or}
 use Rattle.std.specs.Str.{bytes_eq}
@@ -63,13 +64,15 @@ is_short_number text = is_number text && nat_le (length text) 3
 abbrev pub place_of : ℕ → ℕ → Bool → List ℕ → Result ℤ Refusal
 place_of line most from_back text =
     if is_short_number text
-    then (if nat_le 1 (digits_value text) && nat_le (digits_value text) most then Ok (if from_back then neg_ℤ (pos (digits_value text)) else pos (digits_value text)) else Err (NumberRange line))
+    then (if nat_le 1 (digits_value text) && nat_le (digits_value text) most then Ok
+    (if from_back then neg_ℤ (pos (digits_value text)) else pos (digits_value text)) else Err (NumberRange line))
     else Err (BadRule line)
 
 -- the same without a direction
 abbrev pub number_of : ℕ → ℕ → List ℕ → Result ℕ Refusal
 number_of line most text =
-    if is_short_number text then (if nat_le 1 (digits_value text) && nat_le (digits_value text) most then Ok (digits_value text) else Err (NumberRange line)) else Err (BadRule line)
+    if is_short_number text then (if nat_le 1 (digits_value text)
+    && nat_le (digits_value text) most then Ok (digits_value text) else Err (NumberRange line)) else Err (BadRule line)
 
 -- the text but for its last byte, and that byte
 abbrev pub front : List ℕ → List ℕ
@@ -82,7 +85,8 @@ ends_with b text = bytes_eq (drop (length text - 1) text) (b ∷ [])
 -- a place with `+` or `-` after it
 abbrev pub marked_place : ℕ → ℕ → List ℕ → Result ℤ Refusal
 marked_place line most text =
-    if ends_with 43 text then place_of line most false (front text) else (if ends_with 45 text then place_of line most true (front text) else Err (BadRule line))
+    if ends_with 43 text then place_of line most false (front text) else
+    (if ends_with 45 text then place_of line most true (front text) else Err (BadRule line))
 
 -- a day of the month; LD is the last, and a day without a mark counts from the front
 abbrev pub month_day_of : ℕ → List ℕ → Result ℤ Refusal

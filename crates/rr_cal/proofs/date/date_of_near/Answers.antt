@@ -17,7 +17,8 @@ pub returns-clause-date : goal.returns-clause-date
 returns-clause-date c =
     let a = c.unwrap-inner.result.year in
     let q = c.div_euclid-cycle.result in
-    let year : to_z w64 (of_z w64 (to_z w64 (of_z w64 (to_z w16 (of_z w16 a))) +ℤ to_z w64 (of_z w64 (pos 400 *ℤ to_z w64 (of_z w64 q))))) ≡ a +ℤ (pos 400 *ℤ q) =
+    let year : to_z w64 (of_z w64 (to_z w64 (of_z w64 (to_z w16 (of_z w16 a))) +ℤ to_z w64 (of_z w64 (pos 400 *ℤ to_z w64 (of_z w64 q)))))
+    ≡ a +ℤ (pos 400 *ℤ q) =
     omega (arith, signed_arith, c.div_euclid-cycle.ensures, c.requires.near, c.unwrap-inner.result.year_in) in
     rw year (IsDate-moved c.unwrap-inner.result q)
 
@@ -25,7 +26,8 @@ pub returns-clause-number : goal.returns-clause-number
 returns-clause-number c =
     let a = c.unwrap-inner.result.year in
     let q = c.div_euclid-cycle.result in
-    let year : to_z w64 (of_z w64 (to_z w64 (of_z w64 (to_z w16 (of_z w16 a))) +ℤ to_z w64 (of_z w64 (pos 400 *ℤ to_z w64 (of_z w64 q))))) ≡ a +ℤ (pos 400 *ℤ q) =
+    let year : to_z w64 (of_z w64 (to_z w64 (of_z w64 (to_z w16 (of_z w16 a))) +ℤ to_z w64 (of_z w64 (pos 400 *ℤ to_z w64 (of_z w64 q)))))
+    ≡ a +ℤ (pos 400 *ℤ q) =
     omega (arith, signed_arith, c.div_euclid-cycle.ensures, c.requires.near, c.unwrap-inner.result.year_in) in
     let made = IfOk-at_ok _ c.unwrap-inner.ensures c.from_unix_epoch_day.ensures.value in
     let back : epoch_day c.unwrap-inner.result +ℤ (pos 146_097 *ℤ q) ≡ c.args.day =

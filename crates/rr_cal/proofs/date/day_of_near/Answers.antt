@@ -28,7 +28,8 @@ returns c =
     let near = year_near_day d.year d.month d.day c.requires.date c.requires.near in
     let fits : FitsSigned w64 d.year = search rules in
     let turns : int_div_euclid d.year (pos 400) ≡ q = ap (λ y. int_div_euclid y (pos 400)) (sym (to_z-of_z fits)) ∙ sym c.div_euclid-cycle.ensures in
-    let sum : to_z w64 (of_z w64 (to_z w64 (of_z w64 (to_z w32 (of_z w32 e))) +ℤ to_z w64 (of_z w64 (pos 146_097 *ℤ to_z w64 (of_z w64 q))))) ≡ e +ℤ (pos 146_097 *ℤ q) =
+    let sum : to_z w64 (of_z w64 (to_z w64 (of_z w64 (to_z w32 (of_z w32 e))) +ℤ to_z w64 (of_z w64 (pos 146_097 *ℤ to_z w64 (of_z w64 q)))))
+    ≡ e +ℤ (pos 146_097 *ℤ q) =
     omega (arith, signed_arith, c.div_euclid-cycle.ensures, near, c.to_unix_epoch_day.ensures.bound) in
     let inner = c.in_first_cycle.result in
     let same : day_number (inner.year +ℤ (pos 400 *ℤ q)) inner.month inner.day ≡ day_number d.year d.month d.day =

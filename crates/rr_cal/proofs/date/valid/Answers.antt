@@ -16,7 +16,10 @@ returns-clause-date c =
     let year : to_z w16 (of_z w16 (to_z w64 (of_z w64 r))) ≡ r = omega (arith, signed_arith, c.rem_euclid.ensures.value) in
     let month : to_z w8 c.args.month ≡ pos c.args.month = to_z_pos w8 c.args.month (omega (arith, c.if-month-gt12.false)) in
     let day : to_z w8 c.args.day ≡ pos c.args.day = to_z_pos w8 c.args.day (omega (arith, c.if-day-gt31.false)) in
-    let both = IsDate-inner y q r c.args.month c.args.day parts (omega (arith, signed_arith, c.rem_euclid.ensures.value), omega (arith, signed_arith, c.rem_euclid.ensures.value)) in
+    let both = IsDate-inner y q r c.args.month c.args.day parts (
+      omega (arith, signed_arith, c.rem_euclid.ensures.value),
+      omega (arith, signed_arith, c.rem_euclid.ensures.value),
+    ) in
     let made = rw (year, month, day) at c.new-inner.ensures.succeeds in
     rw c.is_ok.ensures.value (λ ok. both.0 (made.0 ok), λ v. made.1 (both.1 v))
 

@@ -15,5 +15,6 @@ pub returns : goal.returns
 returns c =
     let d = c.args.date in
     let inner = c.in_first_cycle in
-    let same = day_of_year-jiff d.year (int_div_euclid d.year (pos 400)) d.month d.day inner.result inner.ensures.year inner.ensures.month inner.ensures.day c.requires in
+    let same = day_of_year-jiff d.year
+    (int_div_euclid d.year (pos 400)) d.month d.day inner.result inner.ensures.year inner.ensures.month inner.ensures.day c.requires in
     cast_is c.day_of_year.result (day_number d.year d.month d.day) (c.day_of_year.ensures ∙ ap pos same)

@@ -26,7 +26,8 @@ returns c =
     let q = int_div_euclid y (pos 400) in
     let d = c.date-first.result in
     let made = c.date-first.ensures in
-    let year_is : to_z w16 (of_z w16 (to_z w64 (of_z w64 c.rem_euclid.result))) ≡ c.rem_euclid.result = omega (arith, signed_arith, c.rem_euclid.ensures.value) in
+    let year_is : to_z w16 (of_z w16 (to_z w64 (of_z w64 c.rem_euclid.result))) ≡ c.rem_euclid.result =
+    omega (arith, signed_arith, c.rem_euclid.ensures.value) in
     let year : d.year ≡ c.rem_euclid.result = made.0 ∙ year_is in
     let parts : y ≡ d.year +ℤ (pos 400 *ℤ q) = omega (arith, signed_arith, year, c.rem_euclid.ensures.value) in
     let month_is : pos d.month ≡ pos m = made.1 ∙ to_z_pos w8 m (omega (arith, c.requires.high)) in

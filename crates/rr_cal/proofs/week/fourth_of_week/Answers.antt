@@ -7,4 +7,11 @@ use Rattle.rr_cal.proofs.week.fourth_of_week.Goals as goal
 pub returns : goal.returns
 unfolding week_index fourth_day
 returns c =
-    omega (arith, signed_arith, c.rem_euclid.ensures.value, c.from-start.ensures, floor_div-int ((c.args.day +ℤ pos 3) -ℤ pos c.args.week_start) 7, c.requires.near)
+    omega (
+      arith,
+      signed_arith,
+      c.rem_euclid.ensures.value,
+      c.from-start.ensures,
+      floor_div-int ((c.args.day +ℤ pos 3) -ℤ pos c.args.week_start) 7,
+      c.requires.near,
+    )

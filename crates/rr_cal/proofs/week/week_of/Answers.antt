@@ -54,7 +54,8 @@ day_of_near-december_28-requires-clause-near c =
     let y = c.date_of_near-year.result.year in
     let hf : FitsSigned w64 f = search rules in
     let hy : FitsSigned w64 y = search rules in
-    let near = december_near c.args.week_start c.args.day f c.ranges.day hf c.fourth_of_week-fourth.ensures y hy c.date_of_near-year.ensures.year c.requires.near in
+    let near = december_near c.args.week_start c.args.day f c.ranges.day hf c.fourth_of_week-fourth.ensures y hy c.date_of_near-year.ensures.year
+    c.requires.near in
     IsDayWithin-wider 1368 3000 _ (omega arith) near
 
 pub fourth_of_week-last-requires : goal.fourth_of_week-last-requires
@@ -65,7 +66,8 @@ fourth_of_week-last-requires c =
     let hf : FitsSigned w64 f = search rules in
     let hy : FitsSigned w64 y = search rules in
     let he : FitsSigned w64 e = search rules in
-    let near = december_near c.args.week_start c.args.day f c.ranges.day hf c.fourth_of_week-fourth.ensures y hy c.date_of_near-year.ensures.year c.requires.near in
+    let near = december_near c.args.week_start c.args.day f c.ranges.day hf c.fourth_of_week-fourth.ensures y hy c.date_of_near-year.ensures.year
+    c.requires.near in
     let december : to_z w64 (of_z w64 e) ≡ day_number (to_z w64 (of_z w64 y)) 12 28 = to_z-of_z he ∙ c.day_of_near-december_28.ensures in
     record { near = rw december (IsDayWithin-wider 1368 3000 _ (omega arith) near) }
 
@@ -79,7 +81,8 @@ number_of_week-requires-2 c =
     let hy : FitsSigned w64 y = search rules in
     let he : FitsSigned w64 e = search rules in
     let hl : FitsSigned w64 l = search rules in
-    let near = last_near c.args.week_start c.args.day f c.ranges.day hf c.fourth_of_week-fourth.ensures y hy c.date_of_near-year.ensures.year e he c.day_of_near-december_28.ensures l hl c.fourth_of_week-last.ensures c.requires.near in
+    let near = last_near c.args.week_start c.args.day f c.ranges.day hf c.fourth_of_week-fourth.ensures y hy c.date_of_near-year.ensures.year e he
+    c.day_of_near-december_28.ensures l hl c.fourth_of_week-last.ensures c.requires.near in
     record { near = IsDayWithin-wider 1371 2000 _ (omega arith) near }
 
 pub returns-clause-year : goal.returns-clause-year

@@ -47,7 +47,8 @@ number_days-requires-2-clause-near g c =
 
 pub number_days-requires-2-clause-room : goal.number_days-requires-2-clause-room
 number_days-requires-2-clause-room g c =
-    let within = sets_within (g.A.DaySeq.sketch c.args.seq.now) _ c.days_between.result c.new-sets.result c.number_days.new.sets c.in_ok-before.before c.in_ok-before.ensures in
+    let within = sets_within
+    (g.A.DaySeq.sketch c.args.seq.now) _ c.days_between.result c.new-sets.result c.number_days.new.sets c.in_ok-before.before c.in_ok-before.ensures in
     omega (arith, within, ap length c.new-sets.ensures, c.days_between.ensures.few)
 
 pub invariant_of-result : goal.invariant_of-result
@@ -63,9 +64,12 @@ invariant_of-result g c =
     let near_first = c.in-Some.ensures.near in
     let back : to_z w64 (of_z w64 settled) ≡ settled = omega (arith, ints, near.0, near.1) in
     let back_first : to_z w64 (of_z w64 first) ≡ first = omega (arith, ints, near_first.0, near_first.1) in
-    let a = subst (λ (l : List (List ℕ)). AreStretchOf s (to_z w64 (of_z w64 first)) c.days_between.result l c.number_days.new.sets c.in_ok-before.before) c.new-sets.ensures c.in_ok-before.ensures in
+    let a = subst (λ (l : List (List ℕ)). AreStretchOf s
+    (to_z w64 (of_z w64 first)) c.days_between.result l c.number_days.new.sets c.in_ok-before.before) c.new-sets.ensures c.in_ok-before.ensures in
     let place : settled ≡ first +ℤ pos c.days_between.result = omega (arith, ints, back, back_first, c.days_between.ensures.value) in
-    let facts = kept_least_as s c.kind.result first (to_z w64 (of_z w64 first)) (to_z w64 (of_z w64 first)) settled (to_z w64 (of_z w64 settled)) c.days_between.result c.least_period-period.result c.number_days.new.sets c.number_days-2.new.sets c.in_ok-before.before c.in_ok-cycle.cycle c.kind.ensures back_first back_first place back a c.in_ok-cycle.ensures bounded is_first least start in
+    let facts = kept_least_as s c.kind.result first (to_z w64 (of_z w64 first)) (to_z w64 (of_z w64 first)) settled
+    (to_z w64 (of_z w64 settled)) c.days_between.result c.least_period-period.result c.number_days.new.sets c.number_days-2.new.sets
+    c.in_ok-before.before c.in_ok-cycle.cycle c.kind.ensures back_first back_first place back a c.in_ok-cycle.ensures bounded is_first least start in
     record { bounded = facts.bounded; first_is = facts.first_is; in_order = facts.in_order; least = ∣ facts.least ∣₁ }
 
 pub returns-clause-least : goal.returns-clause-least
@@ -81,9 +85,12 @@ returns-clause-least g c =
     let near_first = c.in-Some.ensures.near in
     let back : to_z w64 (of_z w64 settled) ≡ settled = omega (arith, ints, near.0, near.1) in
     let back_first : to_z w64 (of_z w64 first) ≡ first = omega (arith, ints, near_first.0, near_first.1) in
-    let a = subst (λ (l : List (List ℕ)). AreStretchOf s (to_z w64 (of_z w64 first)) c.days_between.result l c.number_days.new.sets c.in_ok-before.before) c.new-sets.ensures c.in_ok-before.ensures in
+    let a = subst (λ (l : List (List ℕ)). AreStretchOf s
+    (to_z w64 (of_z w64 first)) c.days_between.result l c.number_days.new.sets c.in_ok-before.before) c.new-sets.ensures c.in_ok-before.ensures in
     let place : settled ≡ first +ℤ pos c.days_between.result = omega (arith, ints, back, back_first, c.days_between.ensures.value) in
-    let facts = kept_least_as s c.kind.result first (to_z w64 (of_z w64 first)) (to_z w64 (of_z w64 first)) settled (to_z w64 (of_z w64 settled)) c.days_between.result c.least_period-period.result c.number_days.new.sets c.number_days-2.new.sets c.in_ok-before.before c.in_ok-cycle.cycle c.kind.ensures back_first back_first place back a c.in_ok-cycle.ensures bounded is_first least start in
+    let facts = kept_least_as s c.kind.result first (to_z w64 (of_z w64 first)) (to_z w64 (of_z w64 first)) settled
+    (to_z w64 (of_z w64 settled)) c.days_between.result c.least_period-period.result c.number_days.new.sets c.number_days-2.new.sets
+    c.in_ok-before.before c.in_ok-cycle.cycle c.kind.ensures back_first back_first place back a c.in_ok-cycle.ensures bounded is_first least start in
     facts.least
 
 pub returns-clause-same : goal.returns-clause-same
@@ -99,7 +106,10 @@ returns-clause-same g c =
     let near_first = c.in-Some.ensures.near in
     let back : to_z w64 (of_z w64 settled) ≡ settled = omega (arith, ints, near.0, near.1) in
     let back_first : to_z w64 (of_z w64 first) ≡ first = omega (arith, ints, near_first.0, near_first.1) in
-    let a = subst (λ (l : List (List ℕ)). AreStretchOf s (to_z w64 (of_z w64 first)) c.days_between.result l c.number_days.new.sets c.in_ok-before.before) c.new-sets.ensures c.in_ok-before.ensures in
+    let a = subst (λ (l : List (List ℕ)). AreStretchOf s
+    (to_z w64 (of_z w64 first)) c.days_between.result l c.number_days.new.sets c.in_ok-before.before) c.new-sets.ensures c.in_ok-before.ensures in
     let place : settled ≡ first +ℤ pos c.days_between.result = omega (arith, ints, back, back_first, c.days_between.ensures.value) in
-    let facts = kept_least_as s c.kind.result first (to_z w64 (of_z w64 first)) (to_z w64 (of_z w64 first)) settled (to_z w64 (of_z w64 settled)) c.days_between.result c.least_period-period.result c.number_days.new.sets c.number_days-2.new.sets c.in_ok-before.before c.in_ok-cycle.cycle c.kind.ensures back_first back_first place back a c.in_ok-cycle.ensures bounded is_first least start in
+    let facts = kept_least_as s c.kind.result first (to_z w64 (of_z w64 first)) (to_z w64 (of_z w64 first)) settled
+    (to_z w64 (of_z w64 settled)) c.days_between.result c.least_period-period.result c.number_days.new.sets c.number_days-2.new.sets
+    c.in_ok-before.before c.in_ok-cycle.cycle c.kind.ensures back_first back_first place back a c.in_ok-cycle.ensures bounded is_first least start in
     facts.same

@@ -12,9 +12,12 @@ put_day-requires-clause-of_day g c =
 
 pub put_day-requires-clause-few : goal.put_day-requires-clause-few
 put_day-requires-clause-few g c =
-    let within = sets_within (g.A.DaySeq.sketch c.args.seq.now) (to_z w64 (of_z w64 c.args.from)) c.loop-k.k c.args.sets.now c.loop-k.sets c.loop-k.days c.loop-k.invariant in
+    let within = sets_within (g.A.DaySeq.sketch c.args.seq.now)
+    (to_z w64 (of_z w64 c.args.from)) c.loop-k.k c.args.sets.now c.loop-k.sets c.loop-k.days c.loop-k.invariant in
     omega (arith, within, c.requires.room, c.requires.few, c.loop-k-test.true)
 
 pub loop-k-preserved : goal.loop-k-preserved
 loop-k-preserved g c =
-    one_more_day (g.A.DaySeq.sketch c.args.seq.now) (to_z w64 (of_z w64 c.args.from)) (to_z w64 (of_z w64 c.args.from)) _ c.loop-k.k c.at.result.now c.args.sets.now c.loop-k.sets c.put_day.new.sets c.loop-k.days c.put_day.new.days (omega (arith, ints)) (omega (arith, ints)) c.at.ensures c.loop-k.invariant c.in_ok-put_day.ensures
+    one_more_day (g.A.DaySeq.sketch c.args.seq.now) (to_z w64 (of_z w64 c.args.from))
+    (to_z w64 (of_z w64 c.args.from)) _ c.loop-k.k c.at.result.now c.args.sets.now c.loop-k.sets c.put_day.new.sets c.loop-k.days c.put_day.new.days
+    (omega (arith, ints)) (omega (arith, ints)) c.at.ensures c.loop-k.invariant c.in_ok-put_day.ensures

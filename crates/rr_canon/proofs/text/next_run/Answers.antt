@@ -12,4 +12,5 @@ returns-then-same c =
 pub returns : goal.returns
 returns c =
     let run = c.args.run in
-    next_new c.args.letter run.gap run.set run.count c.args.gap c.args.set c.args.out.now.items c.push_run.new.out.items (λ e. false≢true (sym c.if-same.false ∙ c.goes_on-same.ensures.1 e)) c.in_ok-push_run.ensures
+    next_new c.args.letter run.gap run.set run.count c.args.gap c.args.set c.args.out.now.items c.push_run.new.out.items
+    (λ e. false≢true (sym c.if-same.false ∙ c.goes_on-same.ensures.1 e)) c.in_ok-push_run.ensures

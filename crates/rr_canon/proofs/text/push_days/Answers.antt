@@ -14,10 +14,16 @@ returns c =
     let runs = map (run_line 98) (runs_of (steps_by_number first l.before)) in
     let back = to_z-of_z w64 first c.ranges.first in
     let of_first = c.in_ok-push_first.ensures ∙ ap (λ d. c.push_sets.new.out.items ++ text_of_lines (first_line d ∷ [])) back in
-    let of_before = c.in_ok-push_runs.ensures ∙ ap (λ d. c.push_first.new.out.items ++ text_of_runs 98 (runs_of (steps_by_number d c.as_slice.result.now))) back ∙ ap (λ days. c.push_first.new.out.items ++ text_of_runs 98 (runs_of (steps_by_number first days))) c.as_slice.ensures in
+    let of_before = c.in_ok-push_runs.ensures
+    ∙ ap (λ d. c.push_first.new.out.items ++ text_of_runs 98 (runs_of (steps_by_number d c.as_slice.result.now))) back
+    ∙ ap (λ days. c.push_first.new.out.items ++ text_of_runs 98 (runs_of (steps_by_number first days))) c.as_slice.ensures in
     let near = l.bounded.settled in
     let back_settled : to_z w64 (of_z w64 l.settled) ≡ l.settled = omega (arith, ints, near.0, near.1) in
     let of_ending = ap (λ q. c.push_runs.new.out.items ++ text_of_lines (ending_lines (ending_said q l.period c.as_slice-2.result.now))) back_settled in
     on_ok_weaker c.push_ending.result (λ e.
-    five_parts (kind_line l.kind ∷ []) (set_lines seconds_line l.kind l.sets) (first_line first ∷ []) runs (ending_lines (ending_said l.settled l.period l.cycle)) c.args.out.now.items c.push_kind.new.out.items c.push_sets.new.out.items c.push_first.new.out.items c.push_runs.new.out.items c.push_ending.new.out.items
-    c.in_ok-push_kind.ensures c.in_ok-push_sets.ensures of_first of_before (e ∙ of_ending ∙ ap (λ days. c.push_runs.new.out.items ++ text_of_lines (ending_lines (ending_said l.settled l.period days))) c.as_slice-2.ensures)) c.push_ending.ensures
+    five_parts (kind_line l.kind ∷ []) (set_lines seconds_line l.kind l.sets) (first_line first ∷ []) runs
+    (ending_lines (ending_said l.settled l.period l.cycle)) c.args.out.now.items c.push_kind.new.out.items c.push_sets.new.out.items
+    c.push_first.new.out.items c.push_runs.new.out.items c.push_ending.new.out.items
+    c.in_ok-push_kind.ensures c.in_ok-push_sets.ensures of_first of_before (e ∙ of_ending
+    ∙ ap (λ days. c.push_runs.new.out.items ++ text_of_lines (ending_lines (ending_said l.settled l.period days))) c.as_slice-2.ensures))
+    c.push_ending.ensures

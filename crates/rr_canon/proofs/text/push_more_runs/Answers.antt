@@ -20,7 +20,9 @@ loop-day-preserved c =
     let next : Run = record { gap = c.in_ok-current.current.gap; set = c.in_ok-current.current.set; count = c.in_ok-current.current.count } in
     let gap = c.abs_diff.ensures ∙ ap (λ d. nat_abs (d -ℤ to_z w64 c.loop-day.last-bits)) back in
     let longer = c.in_ok-current.ensures.longer in (
-      one_more_run c.args.letter run next (to_z w64 c.loop-day.last-bits) (to_z w64 (of_z w64 day.day)) c.abs_diff.result day.number k day c.args.days.now _ c.loop-day.out.items c.next_run.new.out.items (next_of_drop c.args.days.now k none (omega (arith, c.loop-day-test.true))) gap refl back c.in_ok-current.ensures c.loop-day.invariant.0,
+      one_more_run c.args.letter run next (to_z w64 c.loop-day.last-bits)
+          (to_z w64 (of_z w64 day.day)) c.abs_diff.result day.number k day c.args.days.now _ c.loop-day.out.items c.next_run.new.out.items
+          (next_of_drop c.args.days.now k none (omega (arith, c.loop-day-test.true))) gap refl back c.in_ok-current.ensures c.loop-day.invariant.0,
       omega (arith, longer, c.loop-day.invariant.1),
     )
 
@@ -30,5 +32,8 @@ returns c =
     let begun : Run = record { gap = c.args.run.gap; set = c.args.run.set; count = c.args.run.count } in
     let k = c.loop-day.day-index in
     let ended : drop k c.args.days.now ≡ [] = drop_all k c.args.days.now (omega (arith, c.loop-day-test.false)) in
-    let from = ap (λ f. c.args.out.now.items ++ text_of_runs c.args.letter (with_run begun (runs_of (steps_by_number f c.args.days.now)))) (to_z-of_z w64 c.args.from c.ranges.from) in
-    on_ok_weaker c.push_run.result (λ e. runs_ended c.args.letter run (to_z w64 c.loop-day.last-bits) (drop k c.args.days.now) _ c.loop-day.out.items c.push_run.new.out.items ended c.loop-day.invariant.0 e ∙ from) c.push_run.ensures
+    let from = ap (λ f. c.args.out.now.items ++ text_of_runs c.args.letter (with_run begun (runs_of (steps_by_number f c.args.days.now))))
+    (to_z-of_z w64 c.args.from c.ranges.from) in
+    on_ok_weaker c.push_run.result
+    (λ e. runs_ended c.args.letter run (to_z w64 c.loop-day.last-bits)
+    (drop k c.args.days.now) _ c.loop-day.out.items c.push_run.new.out.items ended c.loop-day.invariant.0 e ∙ from) c.push_run.ensures

@@ -7,7 +7,9 @@ use Rattle.rr_canon.proofs.DescribeLemmas.{no_runs, nil_from_test, some_from_tes
 use Rattle.rr_canon.proofs.text.push_runs.Goals as goal
 
 pub returns-then-is_empty : goal.returns-then-is_empty
-returns-then-is_empty c = no_runs c.args.letter c.args.from c.args.days.now c.args.out.now.items (nil_from_test c.args.days.now c.is_empty.result c.if-is_empty.true c.is_empty.ensures)
+returns-then-is_empty c =
+    no_runs c.args.letter c.args.from c.args.days.now c.args.out.now.items
+    (nil_from_test c.args.days.now c.is_empty.result c.if-is_empty.true c.is_empty.ensures)
 
 pub returns : goal.returns
 returns c =
@@ -18,4 +20,7 @@ returns c =
     let back = to_z-of_z w64 day.day fits in
     let from = to_z-of_z w64 c.args.from c.ranges.from in
     let gap = c.abs_diff.ensures ∙ ap (λ d. nat_abs (d -ℤ to_z w64 (of_z w64 c.args.from))) back ∙ ap (λ f. nat_abs (day.day -ℤ f)) from in
-    on_ok_weaker c.push_more_runs.result (λ e. e ∙ ap (λ t. c.args.out.now.items ++ t) (runs_of_first c.args.letter c.args.from _ c.abs_diff.result _ day c.args.days.now _ (whole_of_first c.args.days.now none some) gap refl back)) c.push_more_runs.ensures
+    on_ok_weaker c.push_more_runs.result (λ e. e
+    ∙ ap (λ t. c.args.out.now.items ++ t)
+    (runs_of_first c.args.letter c.args.from _ c.abs_diff.result _ day c.args.days.now _ (whole_of_first c.args.days.now none some) gap refl back))
+    c.push_more_runs.ensures

@@ -7,4 +7,5 @@ use Rattle.rr_ical.proofs.event.has_begin.Given as goal
 
 abbrev pub invariant-loop-line : goal.invariant-loop-line
 invariant-loop-line l =
-    list_any (λ (line : Line). is_named line.text (codes "BEGIN")) (drop l.line-index l.lines) ≡ list_any (λ (line : Line). is_named line.text (codes "BEGIN")) l.lines
+    list_any (λ (line : Line). is_named line.text (codes "BEGIN")) (drop l.line-index l.lines)
+    ≡ list_any (λ (line : Line). is_named line.text (codes "BEGIN")) l.lines

@@ -4,7 +4,9 @@ use Rattle.rr_num.proofs.DivisionLemmas.{is_lcm}
 use Rattle.rr_num.proofs.cycle.day_cycle.Goals as goal
 
 pub returns-clause-value : goal.returns-clause-value
-returns-clause-value c = is_lcm c.interval_cycle-units.result c.parts_cycle-parts.result c.gcd.result _ _ c.interval_cycle-units.ensures.value c.parts_cycle-parts.ensures.value c.gcd.ensures.value
+returns-clause-value c =
+    is_lcm c.interval_cycle-units.result c.parts_cycle-parts.result c.gcd.result _ _ c.interval_cycle-units.ensures.value c.parts_cycle-parts.ensures.value
+    c.gcd.ensures.value
 
 pub returns-clause-some : goal.returns-clause-some
 returns-clause-some c =

@@ -7,8 +7,10 @@ returns-then-asks_calendar-clause-value c = sym (parts_calendar c.args.rule.now 
 
 pub returns-then-is_empty-clause-value : goal.returns-then-is_empty-clause-value
 returns-then-is_empty-clause-value c =
-    sym (parts_weekdays c.args.rule.now (sym c.asks_calendar.ensures ∙ c.if-asks_calendar.false) ∙ ap one_or_seven (sym c.is_empty.ensures ∙ c.if-is_empty.true))
+    sym (parts_weekdays c.args.rule.now (sym c.asks_calendar.ensures ∙ c.if-asks_calendar.false)
+    ∙ ap one_or_seven (sym c.is_empty.ensures ∙ c.if-is_empty.true))
 
 pub returns-else-is_empty-clause-value : goal.returns-else-is_empty-clause-value
 returns-else-is_empty-clause-value c =
-    sym (parts_weekdays c.args.rule.now (sym c.asks_calendar.ensures ∙ c.if-asks_calendar.false) ∙ ap one_or_seven (sym c.is_empty.ensures ∙ c.if-is_empty.false))
+    sym (parts_weekdays c.args.rule.now (sym c.asks_calendar.ensures ∙ c.if-asks_calendar.false)
+    ∙ ap one_or_seven (sym c.is_empty.ensures ∙ c.if-is_empty.false))

@@ -16,7 +16,8 @@ returns-in_err-value c =
     let digits = c.args.digits.now in
     let next = digits_value_next digits i c.loop-digit-test.true (c.requires i 0 c.loop-digit-test.true) in
     let front = digits_value-front digits (i + 1) in
-    rw c.from_residual-in_err-value.ensures (omega (arith, next, front, c.loop-digit.invariant, c.in_ok-checked_mul.ensures, c.from.ensures, c.in_err-value.ensures))
+    rw c.from_residual-in_err-value.ensures
+    (omega (arith, next, front, c.loop-digit.invariant, c.in_ok-checked_mul.ensures, c.from.ensures, c.in_err-value.ensures))
 
 pub loop-digit-preserved : goal.loop-digit-preserved
 loop-digit-preserved c =

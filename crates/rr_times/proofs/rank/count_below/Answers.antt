@@ -6,7 +6,8 @@ use Rattle.rr_times.proofs.rank.count_below.Goals as goal
 
 pub returns : goal.returns
 returns c =
-    let parted = IsPartitionedBy-ltb (λ s. s) c.args.seconds.now c.args.second (IsNonDecreasingBy-from_default (λ s. s) c.args.seconds.now 0 (rising_le c.args.seconds.now c.requires)) in
+    let parted = IsPartitionedBy-ltb (λ s. s) c.args.seconds.now c.args.second
+    (IsNonDecreasingBy-from_default (λ s. s) c.args.seconds.now 0 (rising_le c.args.seconds.now c.requires)) in
     let point = IsPartitionPoint-from_clause (λ s. ltb s c.args.second) _ _ c.partition_point.ensures.partitioned parted (λ a r q k. search rules) in
     record {
       within = c.partition_point.ensures.bound;

@@ -8,9 +8,12 @@ use Rattle.rr_canon.proofs.least_seq.LeastSeqDaySeq.at.Goals as goal
 pub returns-in-None : goal.returns-in-None
 returns-in-None c =
     let l = c.args.self.now in
-    ap (times_of l.sets) (c.in-None.ensures.number ∙ ap (number_kept l.before l.settled l.period l.cycle) (to_z-of_z w64 c.args.day c.ranges.day)) ∙ times_kept l.kind l.sets l.before l.settled l.period l.cycle c.args.day
+    ap (times_of l.sets) (c.in-None.ensures.number ∙ ap (number_kept l.before l.settled l.period l.cycle) (to_z-of_z w64 c.args.day c.ranges.day))
+    ∙ times_kept l.kind l.sets l.before l.settled l.period l.cycle c.args.day
 
 pub returns-in-Some : goal.returns-in-Some
 returns-in-Some c =
     let l = c.args.self.now in
-    c.times.ensures ∙ ap (times_of l.sets) (c.in-Some.ensures.number ∙ ap (number_kept l.before l.settled l.period l.cycle) (to_z-of_z w64 c.args.day c.ranges.day)) ∙ times_kept l.kind l.sets l.before l.settled l.period l.cycle c.args.day
+    c.times.ensures ∙ ap (times_of l.sets) (c.in-Some.ensures.number
+    ∙ ap (number_kept l.before l.settled l.period l.cycle) (to_z-of_z w64 c.args.day c.ranges.day))
+    ∙ times_kept l.kind l.sets l.before l.settled l.period l.cycle c.args.day

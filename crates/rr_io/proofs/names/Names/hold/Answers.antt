@@ -10,7 +10,9 @@ use Rattle.rr_io.proofs.names.Names.hold.Goals as goal
 pub returns-clause-ok : goal.returns-clause-ok
 returns-clause-ok c = λ other.
     let items : Vec ℕ Global → List ℕ = λ v. v.items in
-    let set : option_map items (get_by_text c.insert.new.self other) ≡ cond (bytes_eq c.args.name.now other) (Some c.args.bytes.now) (option_map items (get_by_text c.self.inside.map other)) = grind (arith, text_keys) in
+    let set : option_map items (get_by_text c.insert.new.self other)
+    ≡ cond (bytes_eq c.args.name.now other) (Some c.args.bytes.now) (option_map items (get_by_text c.self.inside.map other)) = grind (arith, text_keys) in
     bytes_at-entries c.insert.new.self other
     ∙ set
-    ∙ ap (cond (bytes_eq c.args.name.now other) (Some c.args.bytes.now)) (sym (bytes_at-entries c.self.inside.map other) ∙ ap (λ held. bytes_at held other) c.self.view_is)
+    ∙ ap (cond (bytes_eq c.args.name.now other) (Some c.args.bytes.now)) (sym (bytes_at-entries c.self.inside.map other)
+    ∙ ap (λ held. bytes_at held other) c.self.view_is)

@@ -16,7 +16,8 @@ returns-then-index-second c =
     let xs = c.self.inside.seconds.items in
     let l : c.count_below-place.result < length xs = search rules in
     let i : c.index.result.now ≡ c.args.second = search rules in
-    let e : get_or xs c.count_below-place.result 0 ≡ c.args.second = get_or_default xs c.count_below-place.result 0 c.index.result.now l ∙ sym c.index.ensures ∙ i in
+    let e : get_or xs c.count_below-place.result 0 ≡ c.args.second =
+    get_or_default xs c.count_below-place.result 0 c.index.result.now l ∙ sym c.index.ensures ∙ i in
     rw c.remove.ensures.items (rw (← c.self.view_is) (without_one xs c.self.invariant.rises c.count_below-place.result l c.args.second e))
 
 pub returns-else-place-len : goal.returns-else-place-len
@@ -25,6 +26,8 @@ returns-else-place-len c =
     let split : SplitsAt xs c.count_below-place.result c.args.second = rw c.as_slice.ensures.value at c.count_below-place.ensures in
     rw (← c.self.view_is) (without_none xs c.count_below-place.result c.args.second c.self.invariant.rises split (λ l.
     elim c.else-place-len.branch [
-      | else-place-len-via-then-place-len+else-index-second w ↦ (λ e. (let i : w.index.result.now ≡ c.args.second = w.index.ensures ∙ get_or_default xs c.count_below-place.result w.index.result.now 0 l ∙ e in search rules))
+      | else-place-len-via-then-place-len+else-index-second w ↦
+          (λ e. (let i : w.index.result.now ≡ c.args.second = w.index.ensures ∙ get_or_default xs c.count_below-place.result w.index.result.now 0 l ∙ e in
+          search rules))
       | else-place-len-via-else-place-len w ↦ absurd (search rules)
     ]))

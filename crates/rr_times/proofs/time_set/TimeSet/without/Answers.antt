@@ -8,7 +8,9 @@ set_is : (c : goal.In_ok-difference_of) → IsSetOf nat_lt c.in_ok-difference_of
 set_is c = rw (c.as_slice.ensures.same, c.as_slice-2.ensures.same) at c.in_ok-difference_of.ensures
 
 pub invariant_of-result : goal.invariant_of-result
-invariant_of-result c = some_seconds (InFirstAlone c.args.a.now c.args.b.now) c.in_ok-difference_of.field-0.items (set_is c) (λ s p. second_of_day c.args.a.now s c.as_slice.ensures.of_day p.0)
+invariant_of-result c =
+    some_seconds (InFirstAlone c.args.a.now c.args.b.now) c.in_ok-difference_of.field-0.items (set_is c)
+    (λ s p. second_of_day c.args.a.now s c.as_slice.ensures.of_day p.0)
 
 pub returns : goal.returns
 returns c = set_is c
