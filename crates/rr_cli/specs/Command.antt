@@ -175,6 +175,7 @@ is_task_built _ = false
 abbrev pub is_language_built : Language → Bool
 is_language_built Rrule = true
 is_language_built list = true
+is_language_built Vcal = true
 is_language_built _ = false
 
 -- an operand that is absent is built too

@@ -86,7 +86,7 @@ fn is_task_built(task: Task) -> bool
 fn is_language_built(language: Language) -> bool
     ensures { result ≡ is_language_built language }
 {
-    matches!(language, Language::Rrule | Language::List)
+    matches!(language, Language::Rrule | Language::Vcal | Language::List)
 }
 
 // Whether the texts of the operand can be read.

@@ -4,11 +4,21 @@ ghost use Rattle.rr_model.specs.Answers.{Answers};
 ghost use Rattle.rr_model.specs.Series.Validity.{IsValidSeries};
 ghost use Rattle.rr_cli.specs.OperandReading.{operand_read, reads, reads_within};
 ghost use Rattle.rr_cli.specs.Parsed.{operand_in};
+ghost use Rattle.rr_cli.specs.declared.command.Language.TheVariants.{Vcal};
 
 use crate::command::{Language, Operand};
 use rr_ical::read_list;
 use rr_model::{Fault, MAX_INPUT, Refusal, Series};
 use std::alloc::Global;
+
+// The series of RFC 5545 that has the occurrences of a vCalendar 1.0 text.
+fn read_vcal(alloc: Global, offset: Option<i32>, bytes: &[u8]) -> Result<Series, Fault>
+    ensures answers { Answers (reads Vcal offset bytes.now) result }
+    ensures valid { IfOk result IsValidSeries }
+{
+    let series = rr_vcal::read(alloc, bytes, offset)?;
+    Ok(rr_vcal::to_series(alloc, &series)?)
+}
 
 // The series of the bytes in this language; a list does not use the offset.
 fn read(
@@ -23,7 +33,8 @@ fn read(
     match language {
         Language::Rrule => rr_rrule::read(alloc, bytes, offset),
         Language::List => read_list(alloc, bytes),
-        Language::Vcal | Language::Graph => Err(Fault::Refused(Refusal::NotBuilt)),
+        Language::Vcal => read_vcal(alloc, offset, bytes),
+        Language::Graph => Err(Fault::Refused(Refusal::NotBuilt)),
     }
 }
 

@@ -8,7 +8,6 @@ pub mod Lists
 pub mod Moments
 pub mod Passes
 pub mod Refusals
-pub mod RuleLaws
 pub mod RuleValues
 pub mod Rules
 pub mod Steps

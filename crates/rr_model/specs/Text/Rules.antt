@@ -1,22 +1,19 @@
--- What a text of a start and a rule states, or the first refusal (RFC 5545, sections 3.3.10 and 3.8.5.3).
-use Rattle.std.specs.Prelude.{ℕ, ◌+◌, ◌-◌, ◌==◌, nat_lt, nat_le, Bool, true, false, not, ◌&&◌, ◌||◌, if◌then◌else◌, List, [], ◌∷◌, reverse, length, take}
-use Rattle.std.specs.Prelude.{drop, codes, Option, None, Some, ok_or, unwrap_or, option_map, option_and_then, position, Result, Ok, Err, IsTrue}
-use Rattle.std.specs.List.{list_all, take_while}
+-- What the value of a rule states, or the first refusal (RFC 5545, section 3.3.10).
+use Rattle.std.specs.Prelude.{ℕ, ◌+◌, ◌-◌, ◌==◌, Bool, true, false, not, ◌||◌, if◌then◌else◌, List, [], ◌∷◌, reverse, length, take, drop, codes, Option, None, Some, ok_or, unwrap_or, option_map, position, Result, Ok, Err}
+use Rattle.std.specs.List.{take_while}
 use Rattle.std.specs.Option.{is_some}
 use Rattle.std.specs.Str.{bytes_eq, str_to_ascii_uppercase}
 use Rattle.rr_model.specs.Text.Moments.{basic}
-use Rattle.rr_model.specs.Text.RuleValues.{◌>>=◌, pieces, in_table, freq_named, weekday_named, number_up_to, unsigned, signed, seconds, numbers_of}
-use Rattle.rr_model.specs.Text.RuleValues.{day_items_of}
-use Rattle.rr_model.specs.Rule.Validity.{is_absent, is_allowed, takes_start}
+use Rattle.rr_model.specs.Text.RuleValues.{◌>>=◌, pieces, in_table, freq_named, weekday_named, number_up_to, unsigned, signed, seconds, numbers_of, day_items_of}
+use Rattle.rr_model.specs.Rule.Validity.{is_absent, is_allowed}
 use Rattle.rr_model.specs.declared.kind.Kind.{Kind}
 use Rattle.rr_model.specs.declared.kind.Kind.TheVariants.{Days, Moments}
 use Rattle.rr_model.specs.declared.refusal.Refusal.{Refusal}
-use Rattle.rr_model.specs.declared.refusal.Refusal.TheVariants.{BadMoment, BadRule, PartTwice, UntilAndCount, NotAllowed, UtcMoment, Extended, NotBuilt}
+use Rattle.rr_model.specs.declared.refusal.Refusal.TheVariants.{BadMoment, BadRule, PartTwice, UntilAndCount, NotAllowed, Extended}
 use Rattle.rr_model.specs.declared.rule.End.{End}
 use Rattle.rr_model.specs.declared.rule.End.TheVariants.{Never, Until, Count}
 use Rattle.rr_model.specs.declared.rule.Freq.{Freq}
 use Rattle.rr_model.specs.declared.rule.Rule.{Rule}
-use Rattle.rr_model.specs.declared.rule.Series.{Series}
 use Rattle.rr_model.specs.declared.rule_parts.PartName.{PartName}
 use Rattle.rr_model.specs.declared.rule_parts.PartName.TheVariants as part
 use Rattle.rr_model.specs.declared.rule_parts.RuleParts.{RuleParts}
@@ -153,27 +150,12 @@ rule_of line parts = do
   end ← end_of parts.until parts.count
   if is_allowed (rule_with freq end parts) then Ok (rule_with freq end parts) else Err NotAllowed
 
--- ---- the series
+-- ---- lines
 
 -- the kind has a time of day
 abbrev pub has_time : Kind → Bool
 has_time Days = false
 has_time Moments = true
-
--- UNTIL is a moment of UTC beside a start of local time
-abbrev pub needs_offset : Stamp → Option Stamp → Bool
-needs_offset start None = false
-needs_offset start (Some until) = until.utc && not start.utc && has_time start.kind
-
--- the series of a start and one rule
-abbrev pub series_of : Stamp → Rule → Series
-series_of start rule = record { kind = start.kind; start = start.at; start_counts = true; rules = rule ∷ []; plus = []; minus = [] }
-
--- the same, judged beside each other
-unfoldable pub series_with : Stamp → Option Stamp → Rule → Result Series Refusal
-series_with start until rule =
-    if needs_offset start until then Err UtcMoment
-    else (if takes_start rule.freq start.kind then Ok (series_of start rule) else Err NotAllowed)
 
 -- the value of a line: in capitals, without the blanks and tabs around it
 abbrev pub is_blank : ℕ → Bool
@@ -195,44 +177,6 @@ line_value text = trim_end (trim_start (str_to_ascii_uppercase text))
 abbrev pub text_after : List ℕ → List ℕ → Option (List ℕ)
 text_after prefix text = if bytes_eq (take (length prefix) text) prefix then Some (drop (length prefix) text) else None
 
--- the value of the first line, which begins so and is ended by a line feed, and what stands after that line
-unfoldable pub first_line : List ℕ → List ℕ → Option (List ℕ × List ℕ)
-first_line name text = option_and_then (split_once 10) (text_after name text)
-
--- the values of the two lines of a text; nothing stands after them
-unfoldable pub values_of : List ℕ → Option (List ℕ × List ℕ)
-values_of bytes =
-    option_and_then (λ start. option_and_then (λ rule. if length rule.1 == 0 then Some (start.0, rule.0) else None)
-    (first_line (codes "RRULE:") start.1)) (first_line (codes "DTSTART:") bytes)
-
--- the start that a value states
-unfoldable pub start_of : ℕ → List ℕ → Result Stamp Refusal
-start_of line text = ok_or (basic (line_value text)) (BadMoment line)
-
 -- the parts that a rule's value states
 unfoldable pub rule_parts : ℕ → List ℕ → Result RuleParts Refusal
 rule_parts line text = parts_of line (line_value text)
-
--- the series of the two values
-abbrev pub reads_values : List ℕ → List ℕ → Result Series Refusal
-reads_values start rule = do
-  stamp ← start_of 1 start
-  parts ← rule_parts 2 rule
-  known ← rule_of 2 parts
-  series_with stamp parts.until known
-
--- the series that the bytes state
-unfoldable pub reads : List ℕ → Result Series Refusal
-reads bytes = do
-  values ← ok_or (values_of bytes) NotBuilt
-  reads_values values.0 values.1
-
--- ---- the texts that are read
-
--- ASCII without carriage returns, at most as many bytes as one operand has, and the two lines
-unfoldable pub is_plain_text : List ℕ → Bool
-is_plain_text bytes = nat_le (length bytes) 1_048_576 && list_all (λ b. nat_lt b 128 && not (b == 13)) bytes && is_some (values_of bytes)
-
--- the bytes are two such lines
-abbrev pub IsPlainText : List ℕ → Type 0
-IsPlainText bytes = IsTrue (is_plain_text bytes)
