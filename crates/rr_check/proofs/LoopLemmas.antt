@@ -12,7 +12,8 @@ use Rattle.rr_check.proofs.SeriesCycleLemmas.{HasInterval, endless_cycle_some, r
 pub next_is : (rules : List Rule) (i : ℕ) (rule : Rule) → i < length rules → rule ≡ get_or rules i rule → drop i rules ≡ rule ∷ drop (i + 1) rules
 next_is rules i rule l e = drop_more rules i rule l ∙ ap (λ r. r ∷ drop (i + 1) rules) (sym e)
 
-module _ (rules : List Rule) (i n : ℕ) (rule : Rule) (all : All HasInterval rules) (some : 1 ≤ n) (next : drop i rules ≡ rule ∷ drop (i + 1) rules) (joined : lcm n (rules_cycle (drop i rules)) ≡ rules_cycle rules) where
+module _ (rules : List Rule) (i n : ℕ) (rule : Rule) (all : All HasInterval rules) (some : 1 ≤ n) (next : drop i rules ≡ rule ∷ drop (i + 1) rules)
+    (joined : lcm n (rules_cycle (drop i rules)) ≡ rules_cycle rules) where
   left : All HasInterval (rule ∷ drop (i + 1) rules)
   left = subst (All HasInterval) next (All-drop HasInterval i rules all)
 

@@ -8,7 +8,8 @@ use Rattle.rr_model.specs.Calendar.{year_of, month_of, day_of_month, day_of_year
 use Rattle.rr_model.specs.Calendar.Laws.{later_day, CalendarRepeats}
 use Rattle.rr_model.specs.Calendar.Week.{week_index, week_year}
 use Rattle.rr_model.specs.Rule.Validity.{is_absent, has_place}
-use Rattle.rr_model.specs.Rule.Candidate.{has_weekday_of, rank_from_front, rank_from_back, is_in_place, day_item_holds, counts_in_year, is_week_listed, by_month_holds, by_week_no_holds, by_year_day_holds, by_month_day_holds, by_day_holds, date_parts_hold}
+use Rattle.rr_model.specs.Rule.Candidate.{has_weekday_of, rank_from_front, rank_from_back, is_in_place, day_item_holds, counts_in_year, is_week_listed}
+use Rattle.rr_model.specs.Rule.Candidate.{by_month_holds, by_week_no_holds, by_year_day_holds, by_month_day_holds, by_day_holds, date_parts_hold}
 use Rattle.rr_model.specs.declared.rule.DayItem.{DayItem}
 use Rattle.rr_model.specs.declared.rule.Rule.{Rule}
 use Rattle.rr_model.proofs.CountLemmas.{count_from-shift}
@@ -45,7 +46,12 @@ module _ (repeats : CalendarRepeats) (c d : ℤ) where
   in_place-cycle n true =
       rw ((repeats.days c d).day_of_year, days_in_year-cycle, front-cycle (day_of_year d), back-cycle (day_of_year d) (days_in_year (year_of d))) refl
   in_place-cycle n false =
-      rw ((repeats.days c d).day_of_month, days_in_month-cycle, front-cycle (day_of_month d), back-cycle (day_of_month d) (days_in_month (year_of d) (month_of d))) refl
+      rw (
+        (repeats.days c d).day_of_month,
+        days_in_month-cycle,
+        front-cycle (day_of_month d),
+        back-cycle (day_of_month d) (days_in_month (year_of d) (month_of d)),
+      ) refl
 
   day_item-cycle : (in_year : Bool) (item : DayItem) → day_item_holds in_year (later_day c d) item ≡ day_item_holds in_year d item
   day_item-cycle in_year item = rw ((repeats.days c d).weekday, in_place-cycle item.place in_year) refl
@@ -70,7 +76,8 @@ module _ (repeats : CalendarRepeats) (c d : ℤ) where
     by_day-cycle : by_day_holds rule (later_day c d) ≡ by_day_holds rule d
     by_day-cycle =
         let in_year = counts_in_year rule.freq rule.by_month in
-        ap (λ b. is_absent rule.by_day || b) (list_any-same (day_item_holds in_year (later_day c d)) (day_item_holds in_year d) (day_item-cycle in_year) rule.by_day)
+        ap (λ b. is_absent rule.by_day || b)
+        (list_any-same (day_item_holds in_year (later_day c d)) (day_item_holds in_year d) (day_item-cycle in_year) rule.by_day)
 
     -- every date part holds as it did
     pub date_parts-cycle : date_parts_hold rule (later_day c d) ≡ date_parts_hold rule d
@@ -79,10 +86,12 @@ module _ (repeats : CalendarRepeats) (c d : ℤ) where
 -- ---- whole weeks
 
 -- a day of the week without a number holds again after whole weeks
-day_item-weeks : (in_year : Bool) (d k : ℤ) (item : DayItem) → int_eq item.place (pos 0) ≡ true → day_item_holds in_year (d +ℤ (k *ℤ pos 7)) item ≡ day_item_holds in_year d item
+day_item-weeks : (in_year : Bool) (d k : ℤ) (item : DayItem) → int_eq item.place (pos 0) ≡ true
+    → day_item_holds in_year (d +ℤ (k *ℤ pos 7)) item ≡ day_item_holds in_year d item
 day_item-weeks in_year d k item plain = rw (plain, weekday_of-weeks d k) refl
 
-day_items-weeks : (in_year : Bool) (d k : ℤ) (items : List DayItem) → has_place items ≡ false → list_any (day_item_holds in_year (d +ℤ (k *ℤ pos 7))) items ≡ list_any (day_item_holds in_year d) items
+day_items-weeks : (in_year : Bool) (d k : ℤ) (items : List DayItem) → has_place items ≡ false
+    → list_any (day_item_holds in_year (d +ℤ (k *ℤ pos 7))) items ≡ list_any (day_item_holds in_year d) items
 day_items-weeks in_year d k [] plain = refl
 day_items-weeks in_year d k (item ∷ items) plain =
     let p = or_parts (not (int_eq item.place (pos 0))) (has_place items) plain in
@@ -99,7 +108,13 @@ pub record AsksNoCalendar (rule : Rule) : Type 0 where
 -- then every date part holds as it did after whole weeks
 pub date_parts-weeks : (rule : Rule) (d k : ℤ) → AsksNoCalendar rule → date_parts_hold rule (d +ℤ (k *ℤ pos 7)) ≡ date_parts_hold rule d
 date_parts-weeks rule d k none =
-    rw (none.by_month, none.by_week_no, none.by_year_day, none.by_month_day, day_items-weeks (counts_in_year rule.freq rule.by_month) d k rule.by_day none.by_day) refl
+    rw (
+      none.by_month,
+      none.by_week_no,
+      none.by_year_day,
+      none.by_month_day,
+      day_items-weeks (counts_in_year rule.freq rule.by_month) d k rule.by_day none.by_day,
+    ) refl
 
 -- and, without BYDAY, of every day
 pub date_parts-any : (rule : Rule) (d e : ℤ) → AsksNoCalendar rule → is_absent rule.by_day ≡ true → date_parts_hold rule e ≡ date_parts_hold rule d

@@ -15,7 +15,8 @@ or_other None y e = refl
 or_other (Some x) y e = absurd (false≢true (sym e))
 
 module _ (number i : ℕ) (kind : Kind) (start : ℤ) (rules : List Rule) (rule : Rule) (next : drop i rules ≡ rule ∷ drop (i + 1) rules) where
-  this : rules_refusal number kind start (drop i rules) ≡ option_or (rule_refusal number kind start rule) (rules_refusal (suc number) kind start (drop (i + 1) rules))
+  this : rules_refusal number kind start (drop i rules)
+      ≡ option_or (rule_refusal number kind start rule) (rules_refusal (suc number) kind start (drop (i + 1) rules))
   this = ap (rules_refusal number kind start) next
 
   -- the rule's own refusal
@@ -23,7 +24,8 @@ module _ (number i : ℕ) (kind : Kind) (start : ℤ) (rules : List Rule) (rule 
   refusal_is e = this ∙ or_some (rule_refusal number kind start rule) _ e
 
   -- or that of the rules after it
-  pub refusal_later : is_some (rule_refusal number kind start rule) ≡ false → rules_refusal (number + 1) kind start (drop (i + 1) rules) ≡ rules_refusal number kind start (drop i rules)
+  pub refusal_later : is_some (rule_refusal number kind start rule) ≡ false
+      → rules_refusal (number + 1) kind start (drop (i + 1) rules) ≡ rules_refusal number kind start (drop i rules)
   refusal_later e =
       let more : number + 1 ≡ suc number = omega arith in
       ap (λ n. rules_refusal n kind start (drop (i + 1) rules)) more ∙ sym (this ∙ or_other (rule_refusal number kind start rule) _ e)

@@ -1,5 +1,6 @@
 -- The chosen moments of a valid rule repeat with its cycle.
-use Rattle.std.proofs.Common.{◌≡◌, ◌⊎◌, inl, inr, ℕ, suc, ◌*◌, ◌/◌, ◌≤◌, Bool, true, false, cond, not, ◌&&◌, ◌||◌, List, [], ◌∷◌, ℤ, pos, negsuc, neg_ℤ, ◌+ℤ◌, ◌*ℤ◌, refl, sym, ap, ◌∙◌, subst, arith}
+use Rattle.std.proofs.Common.{◌≡◌, ◌⊎◌, inl, inr, ℕ, suc, ◌*◌, ◌/◌, ◌≤◌, Bool, true, false, cond, not, ◌&&◌, ◌||◌, List, [], ◌∷◌, ℤ, pos, negsuc, neg_ℤ}
+use Rattle.std.proofs.Common.{◌+ℤ◌, ◌*ℤ◌, refl, sym, ap, ◌∙◌, subst, arith}
 use Prim.Native.Nat.{◌∣◌}
 use Rattle.std.proofs.lemmas.Int.{ints}
 use Rattle.std.proofs.lemmas.Bool.{false≢true, and_parts, not-true, cases_Bool, cond-true, cond-false, cond_both}
@@ -7,7 +8,8 @@ use Rattle.std.proofs.lemmas.Nat.Gcd.{dvd_refl, dvd_trans}
 use Rattle.std.proofs.Math.Nat.{dvd-mul_right}
 use Rattle.rr_model.specs.Moment.{day_part}
 use Rattle.rr_model.specs.Calendar.Laws.{later_day}
-use Rattle.rr_model.specs.Rule.Validity.{is_absent, has_place, has_part, takes_year_days, takes_month_days, takes_week_numbers, takes_places, is_allowed, IsValidRule}
+use Rattle.rr_model.specs.Rule.Validity.{is_absent, has_place, has_part, takes_year_days, takes_month_days, takes_week_numbers, takes_places, is_allowed}
+use Rattle.rr_model.specs.Rule.Validity.{IsValidRule}
 use Rattle.rr_model.specs.Whole.Divisors.{gcd, lcm}
 use Rattle.rr_model.specs.Rule.Cycle.{interval_cycle, asks_calendar, rule_cycle}
 use Rattle.rr_model.specs.Rule.Filled.{filled_part, wants_day, wants_month_day, wants_month, day_item_of, filled}
@@ -79,14 +81,16 @@ no_place rule allowed none =
 
 -- ---- the shift
 
-module _ (rule : Rule) (kind : Kind) (start : ℤ) (valid : IsValidRule kind rule) (c : ℕ) (of_interval : interval_cycle rule.freq rule.interval ∣ c) (of_weeks : cond (is_absent rule.by_day) 1 7 ∣ c) (of_calendar : cond (asks_calendar rule) 146_097 1 ∣ c) where
+module _ (rule : Rule) (kind : Kind) (start : ℤ) (valid : IsValidRule kind rule) (c : ℕ) (of_interval : interval_cycle rule.freq rule.interval ∣ c)
+    (of_weeks : cond (is_absent rule.by_day) 1 7 ∣ c) (of_calendar : cond (asks_calendar rule) 146_097 1 ∣ c) where
   by_calendar : 146_097 ∣ c → (d : ℤ) → date_parts_hold (filled rule kind start) (d +ℤ pos c) ≡ date_parts_hold (filled rule kind start) d
   by_calendar h d =
       let w = whole_times 146_097 c h in
       let e : d +ℤ pos c ≡ later_day (pos w.0) d = omega (arith, ints, w.1) in
       ap (date_parts_hold (filled rule kind start)) e ∙ date_parts-cycle calendar_repeats (pos w.0) d (filled rule kind start)
 
-  by_weeks : AsksNoCalendar (filled rule kind start) → 7 ∣ c → (d : ℤ) → date_parts_hold (filled rule kind start) (d +ℤ pos c) ≡ date_parts_hold (filled rule kind start) d
+  by_weeks : AsksNoCalendar (filled rule kind start) → 7 ∣ c → (d : ℤ)
+      → date_parts_hold (filled rule kind start) (d +ℤ pos c) ≡ date_parts_hold (filled rule kind start) d
   by_weeks none h d =
       let w = whole_times 7 c h in
       let e : d +ℤ pos c ≡ d +ℤ (pos w.0 *ℤ pos 7) = omega (arith, ints, w.1) in
@@ -100,10 +104,12 @@ module _ (rule : Rule) (kind : Kind) (start : ℤ) (valid : IsValidRule kind rul
         by_week_no = four.3;
         by_year_day = four.2;
         by_month_day = unfilled (wants_month_day rule.freq rule) rule.by_month_day _ plain.no_month_day four.1;
-        by_day = still_plain (wants_day rule.freq rule) rule.by_day (day_part kind start) (no_place rule valid.parts (plain.no_places (is_absent rule.by_week_no)));
+        by_day = still_plain (wants_day rule.freq rule) rule.by_day (day_part kind start)
+            (no_place rule valid.parts (plain.no_places (is_absent rule.by_week_no)));
       }
 
-  plain_days : IsPlain rule.freq rule rule.interval c → asks_calendar rule ≡ false → (d : ℤ) → date_parts_hold (filled rule kind start) (d +ℤ pos c) ≡ date_parts_hold (filled rule kind start) d
+  plain_days : IsPlain rule.freq rule rule.interval c → asks_calendar rule ≡ false → (d : ℤ)
+      → date_parts_hold (filled rule kind start) (d +ℤ pos c) ≡ date_parts_hold (filled rule kind start) d
   plain_days plain asks d =
       let none = none_asked plain asks in
       elim (plain.weeks) [
@@ -141,7 +147,8 @@ module _ (rule : Rule) (kind : Kind) (start : ℤ) (valid : IsValidRule kind rul
       )
 
 -- with its cycle, and with each multiple of it
-pub chosen_repeats_by : (rule : Rule) (kind : Kind) (start t : ℤ) → IsValidRule kind rule → (c : ℕ) → rule_cycle rule ∣ c → is_chosen rule kind start (t +ℤ days_in kind (pos c)) ≡ is_chosen rule kind start t
+pub chosen_repeats_by : (rule : Rule) (kind : Kind) (start t : ℤ) → IsValidRule kind rule → (c : ℕ) → rule_cycle rule ∣ c
+    → is_chosen rule kind start (t +ℤ days_in kind (pos c)) ≡ is_chosen rule kind start t
 chosen_repeats_by rule kind start t valid c of_cycle =
     let n = interval_cycle rule.freq rule.interval in
     let w : ℕ = cond (is_absent rule.by_day) 1 7 in

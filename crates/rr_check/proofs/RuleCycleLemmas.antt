@@ -39,7 +39,8 @@ module _ (n c : ℕ) where
       let f : w.0 * n ≡ m * (q.0 * a) = sym w.1 ∙ omega arith in
       (w.0, (pos (q.0 * a), (ap pos e, ap pos f)))
 
-pub whole_intervals : (freq : Freq) (kind : Kind) (n c : ℕ) → IsTrue (takes_start freq kind) → interval_cycle freq n ∣ c → (k : ℕ) × AreUnits freq kind (pos c) (pos k *ℤ pos n)
+pub whole_intervals : (freq : Freq) (kind : Kind) (n c : ℕ) → IsTrue (takes_start freq kind) → interval_cycle freq n ∣ c
+    → (k : ℕ) × AreUnits freq kind (pos c) (pos k *ℤ pos n)
 whole_intervals Secondly Days n c timed h = absurd (false≢true timed)
 whole_intervals Secondly Moments n c timed h = let w = of_time n c 86_400 h in (w.0, (refl, w.1))
 whole_intervals Minutely Days n c timed h = absurd (false≢true timed)

@@ -81,8 +81,10 @@ unfolding rules_cycle
 joined-none n h = lcm-one_right n h
 
 -- a number joined with the cycle of a rule and others: first with the rule's, and then with the others'
-pub joined-first : (n : ℕ) (rule : Rule) (rules : List Rule) → 1 ≤ n → All HasInterval (rule ∷ rules) → lcm (lcm n (endless_cycle rule.end rule)) (rules_cycle rules) ≡ lcm n (rules_cycle (rule ∷ rules))
+pub joined-first : (n : ℕ) (rule : Rule) (rules : List Rule) → 1 ≤ n → All HasInterval (rule ∷ rules)
+    → lcm (lcm n (endless_cycle rule.end rule)) (rules_cycle rules) ≡ lcm n (rules_cycle (rule ∷ rules))
 unfolding rules_cycle
 joined-first n rule rules h valid =
     let first = All-head HasInterval rule rules valid in
-    lcm_assoc n (endless_cycle rule.end rule) (rules_cycle rules) h (endless_cycle_some rule.end rule first) (rules_cycle_some rules (All-tail HasInterval rule rules valid))
+    lcm_assoc n (endless_cycle rule.end rule) (rules_cycle rules) h (endless_cycle_some rule.end rule first)
+    (rules_cycle_some rules (All-tail HasInterval rule rules valid))

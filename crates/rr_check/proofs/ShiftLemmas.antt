@@ -20,7 +20,8 @@ pub record KeepsRule (rule : Rule) (kind : Kind) (start s units : ℤ) : Type 0 
   pub time_parts : (t : ℤ) → time_parts_hold (filled rule kind start) kind (t +ℤ s) ≡ time_parts_hold (filled rule kind start) kind t
 
 module _ (rule : Rule) (kind : Kind) (start s units : ℤ) (keeps : KeepsRule rule kind start s units) where
-  same_interval : (t : ℤ) → divides rule.interval (unit_number rule.freq rule.week_start kind (t +ℤ s) -ℤ unit_number rule.freq rule.week_start kind start) ≡ divides rule.interval (unit_number rule.freq rule.week_start kind t -ℤ unit_number rule.freq rule.week_start kind start)
+  same_interval : (t : ℤ) → divides rule.interval (unit_number rule.freq rule.week_start kind (t +ℤ s) -ℤ unit_number rule.freq rule.week_start kind start)
+      ≡ divides rule.interval (unit_number rule.freq rule.week_start kind t -ℤ unit_number rule.freq rule.week_start kind start)
   same_interval t =
       let u = unit_number rule.freq rule.week_start kind t in
       let v = unit_number rule.freq rule.week_start kind start in
@@ -45,7 +46,8 @@ module _ (rule : Rule) (kind : Kind) (start s units : ℤ) (keeps : KeepsRule ru
   front-shift t =
       let b = begin-shift t in
       let e : nat_abs (((t +ℤ s) -ℤ unit_begin rule kind (t +ℤ s)) +ℤ pos 1) ≡ nat_abs ((t -ℤ unit_begin rule kind t) +ℤ pos 1) = omega (arith, ints, b) in
-      rw (e, b) (count_from-shift (is_candidate rule kind start) (is_candidate rule kind start) s is_candidate-shift (unit_begin rule kind t) (nat_abs ((t -ℤ unit_begin rule kind t) +ℤ pos 1)))
+      rw (e, b) (count_from-shift (is_candidate rule kind start) (is_candidate rule kind start) s is_candidate-shift (unit_begin rule kind t)
+      (nat_abs ((t -ℤ unit_begin rule kind t) +ℤ pos 1)))
 
   back-shift : (t : ℤ) → position_from_back rule kind start (t +ℤ s) ≡ position_from_back rule kind start t
   back-shift t =

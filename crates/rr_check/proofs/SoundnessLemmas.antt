@@ -42,5 +42,6 @@ rules_fit number kind start [] e = All-nil (FitsStart kind start)
 rules_fit number kind start (rule ∷ rules) e =
     let both = or_none (rule_refusal number kind start rule) (rules_refusal (suc number) kind start rules) e in
     let two = or_none (end_refusal kind start rule.end) (choice_refusal number kind start rule) both.0 in
-    let first : FitsStart kind start rule = record { synchronised = chooses number (is_chosen rule kind start start) two.1; end = end_fits kind start rule.end two.0 } in
+    let first : FitsStart kind start rule =
+    record { synchronised = chooses number (is_chosen rule kind start start) two.1; end = end_fits kind start rule.end two.0 } in
     All-cons (FitsStart kind start) rule rules first (rules_fit (suc number) kind start rules both.1)

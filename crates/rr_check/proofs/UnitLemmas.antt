@@ -41,7 +41,8 @@ month_number-cycle d c = omega (arith, ints, year_of-cycle d c, month_of-cycle d
 first_day_of_month-cycle : (n c : ℤ) → first_day_of_month (n +ℤ (pos 4_800 *ℤ c)) ≡ first_day_of_month n +ℤ (pos 146_097 *ℤ c)
 first_day_of_month-cycle n c =
     let e : n +ℤ (pos 4_800 *ℤ c) ≡ n +ℤ ((pos 400 *ℤ c) *ℤ pos 12) = omega (arith, ints) in
-    let y : floor_div (n +ℤ (pos 4_800 *ℤ c)) 12 ≡ floor_div n 12 +ℤ (pos 400 *ℤ c) = ap (λ z. floor_div z 12) e ∙ floor_div-add n (pos 400 *ℤ c) 12 (omega arith) in
+    let y : floor_div (n +ℤ (pos 4_800 *ℤ c)) 12 ≡ floor_div n 12 +ℤ (pos 400 *ℤ c) =
+    ap (λ z. floor_div z 12) e ∙ floor_div-add n (pos 400 *ℤ c) 12 (omega arith) in
     let m : floor_mod (n +ℤ (pos 4_800 *ℤ c)) 12 ≡ floor_mod n 12 = ap (λ z. floor_mod z 12) e ∙ floor_mod-add n (pos 400 *ℤ c) 12 (omega arith) in
     rw (y, m) (day_number-cycle (floor_div n 12) c (floor_mod n 12 + 1) 1)
 
@@ -57,7 +58,8 @@ AreUnits Weekly kind days units = days ≡ units *ℤ pos 7
 AreUnits Monthly kind days units = (c : ℤ) × ((days ≡ pos 146_097 *ℤ c) × (units ≡ pos 4_800 *ℤ c))
 AreUnits Yearly kind days units = (c : ℤ) × ((days ≡ pos 146_097 *ℤ c) × (units ≡ pos 400 *ℤ c))
 
-pub unit_number-shift : (freq : Freq) (w : ℕ) (kind : Kind) (days units : ℤ) → AreUnits freq kind days units → (t : ℤ) → unit_number freq w kind (t +ℤ days_in kind days) ≡ unit_number freq w kind t +ℤ units
+pub unit_number-shift : (freq : Freq) (w : ℕ) (kind : Kind) (days units : ℤ) → AreUnits freq kind days units → (t : ℤ)
+    → unit_number freq w kind (t +ℤ days_in kind days) ≡ unit_number freq w kind t +ℤ units
 unit_number-shift Secondly w Days days units are t = absurd (cc (are.0))
 unit_number-shift Secondly w Moments days units are t = omega (arith, ints, are.1)
 unit_number-shift Minutely w Days days units are t = absurd (cc (are.0))
@@ -79,7 +81,8 @@ unit_number-shift Yearly w kind days units are t =
     let e : day_part kind (t +ℤ days_in kind days) ≡ day_part kind t +ℤ (pos 146_097 *ℤ are.0) = omega (arith, ints, are.1.0, day_part-shift kind t days) in
     ap year_of e ∙ year_of-cycle (day_part kind t) are.0 ∙ omega (arith, ints, are.1.1)
 
-pub unit_start-shift : (freq : Freq) (w : ℕ) (kind : Kind) (days units : ℤ) → AreUnits freq kind days units → (u : ℤ) → unit_start freq w kind (u +ℤ units) ≡ unit_start freq w kind u +ℤ days_in kind days
+pub unit_start-shift : (freq : Freq) (w : ℕ) (kind : Kind) (days units : ℤ) → AreUnits freq kind days units → (u : ℤ)
+    → unit_start freq w kind (u +ℤ units) ≡ unit_start freq w kind u +ℤ days_in kind days
 unit_start-shift Secondly w Days days units are u = absurd (cc (are.0))
 unit_start-shift Secondly w Moments days units are u = omega (arith, ints, are.1)
 unit_start-shift Minutely w Days days units are u = absurd (cc (are.0))
@@ -91,7 +94,9 @@ unit_start-shift Weekly w kind days units are u =
     moment_at-shift kind (fourth_day u w -ℤ pos 3) (fourth_day (u +ℤ units) w -ℤ pos 3) days (omega (arith, ints, fourth_day-weeks u w units))
 unit_start-shift Monthly w kind days units are u =
     let e : u +ℤ units ≡ u +ℤ (pos 4_800 *ℤ are.0) = omega (arith, ints, are.1.1) in
-    moment_at-shift kind (first_day_of_month u) (first_day_of_month (u +ℤ units)) days (ap first_day_of_month e ∙ first_day_of_month-cycle u are.0 ∙ omega (arith, ints, are.1.0))
+    moment_at-shift kind (first_day_of_month u) (first_day_of_month (u +ℤ units)) days (ap first_day_of_month e ∙ first_day_of_month-cycle u are.0
+    ∙ omega (arith, ints, are.1.0))
 unit_start-shift Yearly w kind days units are u =
     let e : u +ℤ units ≡ u +ℤ (pos 400 *ℤ are.0) = omega (arith, ints, are.1.1) in
-    moment_at-shift kind (first_day_of_year u) (first_day_of_year (u +ℤ units)) days (ap first_day_of_year e ∙ first_day_of_year-cycle u are.0 ∙ omega (arith, ints, are.1.0))
+    moment_at-shift kind (first_day_of_year u) (first_day_of_year (u +ℤ units)) days (ap first_day_of_year e ∙ first_day_of_year-cycle u are.0
+    ∙ omega (arith, ints, are.1.0))

@@ -4,7 +4,8 @@ use Rattle.std.specs.Prelude.{nat_le, option_map, option_and_then}
 use Rattle.std.proofs.lemmas.Bool.Decides.{nat_tests}
 use Rattle.std.specs.Prelude.{bytes_eq, codes}
 use Rattle.rr_model.specs.Text.Digits.{digits_value}
-use Rattle.rr_cli.specs.Command.{Command, Operand, HasListCount, apart, command_of, drilling, is_decimal, listing, named_command, number_of, operand_of, target_of, translation, with_one, with_two}
+use Rattle.rr_cli.specs.Command.{Command, Operand, HasListCount, apart, command_of, drilling, is_decimal, listing, named_command, number_of, operand_of}
+use Rattle.rr_cli.specs.Command.{target_of, translation, with_one, with_two}
 use Rattle.rr_cli.specs.declared.command.TheConstants.{MAX_DRILL, MAX_LIST}
 use Rattle.rr_cli.specs.declared.command.Task.{Task}
 use Rattle.rr_cli.specs.declared.command.Task.TheVariants as task

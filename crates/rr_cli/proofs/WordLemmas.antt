@@ -1,5 +1,6 @@
 -- What the number call answers for the digits of a word.
-use Rattle.std.proofs.Common.{◌≡◌, ℕ, ◌^◌, ◌<◌, ◌≤◌, ◌⊎◌, inl, inr, Bool, true, false, ◌&&◌, nat_lt, nat_le, List, [], ◌∷◌, length, drop, min, Some, None, refl, cond, ap, subst, ◌∙◌, arith}
+use Rattle.std.proofs.Common.{◌≡◌, ℕ, ◌^◌, ◌<◌, ◌≤◌, ◌⊎◌, inl, inr, Bool, true, false, ◌&&◌, nat_lt, nat_le, List, [], ◌∷◌, length, drop, min, Some, None}
+use Rattle.std.proofs.Common.{refl, cond, ap, subst, ◌∙◌, arith}
 use Rattle.std.specs.List.{list_all}
 use Rattle.std.proofs.lemmas.Bool.Decides.{nat_tests}
 use Rattle.std.proofs.lemmas.List.Sums.{take_while-cons}
@@ -28,10 +29,12 @@ leading_digits-all (b ∷ bs) h =
     take_while-cons is_digit b bs ∙ ap (λ t. cond t (b ∷ leading_digits bs) []) digit ∙ ap (λ l. b ∷ l) (leading_digits-all bs more)
 
 -- the number of a text that is all digits
-read_number : (text : List ℕ) (v : ℕ) → list_all is_digit text ≡ true → v ≡ min (digits_value (leading_digits (drop 0 text))) 18446744073709551615 → v ≡ min (digits_value text) 18446744073709551615
+read_number : (text : List ℕ) (v : ℕ) → list_all is_digit text ≡ true → v ≡ min (digits_value (leading_digits (drop 0 text))) 18446744073709551615
+    → v ≡ min (digits_value text) 18446744073709551615
 read_number text v all e = e ∙ ap (λ l. min (digits_value l) 18446744073709551615) (leading_digits-all text all)
 
-module _ (least most v : ℕ) (text : List ℕ) (few : most ≤ 4294967295) (decimal : is_decimal text ≡ true) (e : v ≡ min (digits_value (leading_digits (drop 0 text))) 18446744073709551615) where
+module _ (least most v : ℕ) (text : List ℕ) (few : most ≤ 4294967295) (decimal : is_decimal text ≡ true)
+    (e : v ≡ min (digits_value (leading_digits (drop 0 text))) 18446744073709551615) where
   value : v ≡ min (digits_value text) 18446744073709551615
   value = read_number text v (decimal_digits text decimal) e
 
@@ -54,7 +57,8 @@ module _ (least most v : ℕ) (text : List ℕ) (few : most ≤ 4294967295) (dec
       let a : nat_le least (digits_value text) && nat_le (digits_value text) most ≡ false = grind (arith, nat_tests, outside) in
       rw (decimal, a) refl
 
-module _ (limit v : ℕ) (text : List ℕ) (long : length text ≡ 2) (all : list_all is_digit text ≡ true) (e : v ≡ min (digits_value (leading_digits (drop 0 text))) 18446744073709551615) where
+module _ (limit v : ℕ) (text : List ℕ) (long : length text ≡ 2) (all : list_all is_digit text ≡ true)
+    (e : v ≡ min (digits_value (leading_digits (drop 0 text))) 18446744073709551615) where
   small : digits_value text ≡ v
   small =
       let value = read_number text v all e in

@@ -8,7 +8,8 @@ use Rattle.rr_cli.specs.Said.{Answer}
 use Rattle.rr_cli.specs.Command.{Command, Operand, content, contents, not_built}
 
 -- a front of what is held was fetched
-pub fetched : {T E : Type 0} (items : T → List ℕ) (n : ℕ) (held : Option (List ℕ)) (r : Result T E) → IfOk r (λ v. IfSome held (λ bytes. items v ≡ take n bytes)) → IfOk r (λ v. IfSome (option_map (take n) held) (λ bytes. items v ≡ bytes))
+pub fetched : {T E : Type 0} (items : T → List ℕ) (n : ℕ) (held : Option (List ℕ)) (r : Result T E)
+    → IfOk r (λ v. IfSome held (λ bytes. items v ≡ take n bytes)) → IfOk r (λ v. IfSome (option_map (take n) held) (λ bytes. items v ≡ bytes))
 fetched items n held (Err e) h = tt
 fetched items n None (Ok v) h = tt
 fetched items n (Some bytes) (Ok v) h = h

@@ -74,12 +74,7 @@ fn is_task_built(task: Task) -> bool
 {
     matches!(
         task,
-        Task::Equal
-            | Task::Within
-            | Task::Disjoint
-            | Task::Canon
-            | Task::List(_)
-            | Task::Check
+        Task::Equal | Task::Within | Task::Disjoint | Task::Canon | Task::List(_) | Task::Check
     )
 }
 

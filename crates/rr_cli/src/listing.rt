@@ -139,13 +139,7 @@ fn operand_lines(
         Ok(settled) => settled,
         Err(fault) => return Err(fault),
     };
-    Ok(series_lines(
-        alloc,
-        &admitted.series,
-        settled,
-        admitted.cycle,
-        count,
-    )?)
+    Ok(series_lines(alloc, &admitted.series, settled, admitted.cycle, count)?)
 }
 
 /// What is said of an operand's bytes: why its text or its series is refused, or its first occurrences, one a line.

@@ -71,7 +71,8 @@ next_on_first x xs ys ahead r q =
       fewer = omega arith;
     }
 
-pub next_on_second : (xs : List ℕ) (y : ℕ) (ys : List ℕ) → IsTrue (is_ahead (y ∷ ys) xs) → Rises nat_lt xs → Rises nat_lt (y ∷ ys) → IsNextSecond xs (y ∷ ys) y B xs ys
+pub next_on_second : (xs : List ℕ) (y : ℕ) (ys : List ℕ) → IsTrue (is_ahead (y ∷ ys) xs) → Rises nat_lt xs → Rises nat_lt (y ∷ ys)
+    → IsNextSecond xs (y ∷ ys) y B xs ys
 next_on_second xs y ys ahead r q =
     let above = all_above y ys xs ahead r in
     record {
@@ -132,7 +133,12 @@ module _ (shows : Side → Bool) (xs ys : List ℕ) (second : ℕ) (side : Side)
 
     pub first_shown_after : (w : ℕ) (r : Side) → IsFirstShown shows xs' ys' w r → IsFirstShown shows xs ys w r
     first_shown_after w r first =
-        let l : second < w = elim (HoldsOn-some r (Contains xs' w) (Contains ys' w) first.holds) [ inl c ↦ ((next.after_first w).0 c).1 | inr c ↦ ((next.after_second w).0 c).1 ] in
+        let l : second < w =
+        elim (HoldsOn-some r (Contains xs' w) (Contains ys' w) first.holds) [
+          | inl c ↦ ((next.after_first w).0 c).1
+          | inr c ↦
+              ((next.after_second w).0 c).1
+        ] in
         let both = above w l in
         record {
           shown = first.shown;
@@ -153,15 +159,18 @@ empty_shows_none shows xs ys e f w (r, t, h) =
 after_is : (x : ℕ) (xs : List ℕ) → take (length (x ∷ xs) - 1) (drop 1 (x ∷ xs)) ≡ xs
 after_is x xs = take_all (length (x ∷ xs) - 1) xs (omega arith)
 
-pub next_if_ahead : (xs ys : List ℕ) → is_ahead xs ys ≡ true → Rises nat_lt xs → Rises nat_lt ys → IsNextSecond xs ys (get_or xs 0 0) A (take (length xs - 1) (drop 1 xs)) ys
+pub next_if_ahead : (xs ys : List ℕ) → is_ahead xs ys ≡ true → Rises nat_lt xs → Rises nat_lt ys
+    → IsNextSecond xs ys (get_or xs 0 0) A (take (length xs - 1) (drop 1 xs)) ys
 next_if_ahead [] ys ahead r q = absurd (false≢true ahead)
 next_if_ahead (x ∷ xs) ys ahead r q = rw (after_is x xs) (next_on_first x xs ys ahead r q)
 
-pub next_if_after : (xs ys : List ℕ) → is_ahead ys xs ≡ true → Rises nat_lt xs → Rises nat_lt ys → IsNextSecond xs ys (get_or ys 0 0) B xs (take (length ys - 1) (drop 1 ys))
+pub next_if_after : (xs ys : List ℕ) → is_ahead ys xs ≡ true → Rises nat_lt xs → Rises nat_lt ys
+    → IsNextSecond xs ys (get_or ys 0 0) B xs (take (length ys - 1) (drop 1 ys))
 next_if_after xs [] ahead r q = absurd (false≢true ahead)
 next_if_after xs (y ∷ ys) ahead r q = rw (after_is y ys) (next_on_second xs y ys ahead r q)
 
-pub next_if_level : (xs ys : List ℕ) → is_ahead xs ys ≡ false → is_ahead ys xs ≡ false → 0 < length xs → Rises nat_lt xs → Rises nat_lt ys → IsNextSecond xs ys (get_or xs 0 0) Both (take (length xs - 1) (drop 1 xs)) (take (length ys - 1) (drop 1 ys))
+pub next_if_level : (xs ys : List ℕ) → is_ahead xs ys ≡ false → is_ahead ys xs ≡ false → 0 < length xs → Rises nat_lt xs → Rises nat_lt ys
+    → IsNextSecond xs ys (get_or xs 0 0) Both (take (length xs - 1) (drop 1 xs)) (take (length ys - 1) (drop 1 ys))
 next_if_level [] ys a b some r q = absurd (omega arith)
 next_if_level (x ∷ xs) [] a b some r q = absurd (false≢true (sym a))
 next_if_level (x ∷ xs) (y ∷ ys) a b some r q =

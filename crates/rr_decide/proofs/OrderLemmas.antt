@@ -45,12 +45,14 @@ Before-compare a t b u c v h n =
 
 -- ---- days and seconds
 
-pub parts_of_moment : (k : Kind) (day : ℤ) (x : ℕ) → x < 86_400 → (k ≡ Days → x ≡ 0) → (day_part k (moment_at k day x) ≡ day) × (second_part k (moment_at k day x) ≡ x)
+pub parts_of_moment : (k : Kind) (day : ℤ) (x : ℕ) → x < 86_400 → (k ≡ Days → x ≡ 0)
+    → (day_part k (moment_at k day x) ≡ day) × (second_part k (moment_at k day x) ≡ x)
 parts_of_moment Days day x lt z = (refl, sym (z refl))
 parts_of_moment Moments day x lt z = floor_only (moment_at Moments day x) day 86_400 x lt refl
 
 -- an earlier one of the same kind is of an earlier day, or of an earlier second of the day
-pub earlier_parts : (k : Kind) (u t : ℤ) → Before k u k t → (day_part k u <ℤ day_part k t) ⊎ ((day_part k u ≡ day_part k t) × (second_part k u < second_part k t))
+pub earlier_parts : (k : Kind) (u t : ℤ) → Before k u k t
+    → (day_part k u <ℤ day_part k t) ⊎ ((day_part k u ≡ day_part k t) × (second_part k u < second_part k t))
 earlier_parts Days u t (inl h) = inl (omega (arith, ints))
 earlier_parts Days u t (inr h) = absurd (cc)
 earlier_parts Moments u t (inr h) = absurd (cc)

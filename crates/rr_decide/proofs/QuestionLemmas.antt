@@ -23,13 +23,16 @@ second_from_first P Q dq none p = elim dq [ inl q ↦ q | inr n ↦ absurd (none
 module _ (s u : Sketch) where
   pub equal_verdict : (v : Verdict) → IsVerdictBy (shown_by Equal) (StandsIn s) (StandsIn u) v → IsEqualVerdict (StandsIn s) (StandsIn u) v
   equal_verdict Yes none = λ k t. both_or_neither (StandsIn s k t) (StandsIn u k t) (stands_or_not s k t) (stands_or_not u k t) (none k t)
-  equal_verdict (No k t A) (shown, h, first) = (h, λ l v b. both_or_neither (StandsIn s l v) (StandsIn u l v) (stands_or_not s l v) (stands_or_not u l v) (first l v b))
-  equal_verdict (No k t B) (shown, h, first) = (h, λ l v b. both_or_neither (StandsIn s l v) (StandsIn u l v) (stands_or_not s l v) (stands_or_not u l v) (first l v b))
+  equal_verdict (No k t A) (shown, h, first) =
+      (h, λ l v b. both_or_neither (StandsIn s l v) (StandsIn u l v) (stands_or_not s l v) (stands_or_not u l v) (first l v b))
+  equal_verdict (No k t B) (shown, h, first) =
+      (h, λ l v b. both_or_neither (StandsIn s l v) (StandsIn u l v) (stands_or_not s l v) (stands_or_not u l v) (first l v b))
   equal_verdict (No k t Both) (shown, h, first) = absurd (false≢true shown)
 
   pub within_verdict : (v : Verdict) → IsVerdictBy (shown_by Within) (StandsIn s) (StandsIn u) v → IsWithinVerdict (StandsIn s) (StandsIn u) v
   within_verdict Yes none = λ k t. second_from_first (StandsIn s k t) (StandsIn u k t) (stands_or_not u k t) (none k t)
-  within_verdict (No k t A) (shown, h, first) = (refl, h.0, h.1, λ l v b. second_from_first (StandsIn s l v) (StandsIn u l v) (stands_or_not u l v) (first l v b))
+  within_verdict (No k t A) (shown, h, first) =
+      (refl, h.0, h.1, λ l v b. second_from_first (StandsIn s l v) (StandsIn u l v) (stands_or_not u l v) (first l v b))
   within_verdict (No k t B) (shown, h, first) = absurd (false≢true shown)
   within_verdict (No k t Both) (shown, h, first) = absurd (false≢true shown)
 

@@ -53,7 +53,8 @@ least_first [] w r c = absurd (Contains-none w c)
 least_first (x ∷ xs) w r c = first_least x w xs r c
 
 -- the first second of the first occupied day is the first occurrence
-pub first_occurrence : (s : Sketch) (day : ℤ) → IsValidSketch s → IsFirstDay s (Some day) → IsFirstOccurrence s s.kind (moment_at s.kind day (get_or (times_on s day) 0 0))
+pub first_occurrence : (s : Sketch) (day : ℤ) → IsValidSketch s → IsFirstDay s (Some day)
+    → IsFirstOccurrence s s.kind (moment_at s.kind day (get_or (times_on s day) 0 0))
 first_occurrence s day v first =
     let k = s.kind in
     let xs = times_on s day in
@@ -80,10 +81,15 @@ first_occurrence s day v first =
 
 module _ (shows : Side → Bool) (s u : Sketch) (e : s.kind ≡ u.kind) where
   -- what an occurrence shows, its second shows on its day
-  shown_on_day : (k : Kind) (t : ℤ) → IsShown shows (StandsIn s k t) (StandsIn u k t) → IsShown shows (Contains (times_on s (day_part k t)) (second_part k t)) (Contains (times_on u (day_part k t)) (second_part k t))
+  shown_on_day : (k : Kind) (t : ℤ) → IsShown shows (StandsIn s k t) (StandsIn u k t)
+      → IsShown shows (Contains (times_on s (day_part k t)) (second_part k t)) (Contains (times_on u (day_part k t)) (second_part k t))
   shown_on_day k t (side, shown, h) =
-      let kind : k ≡ s.kind = elim (HoldsOn-some side (StandsIn s k t) (StandsIn u k t) h) [ inl g ↦ g.kind | inr g ↦ g.kind ∙ sym e ] in
-      (side, shown, HoldsOn-map side (StandsIn s k t) (StandsIn u k t) (Contains (times_on s (day_part k t)) (second_part k t)) (Contains (times_on u (day_part k t)) (second_part k t)) (stands_where s k t kind) (stands_where u k t (kind ∙ e)) h)
+      let kind : k ≡ s.kind = elim (HoldsOn-some side (StandsIn s k t) (StandsIn u k t) h) [ inl g ↦ g.kind | inr g ↦ g.kind ∙ sym e ] in (
+        side,
+        shown,
+        HoldsOn-map side (StandsIn s k t) (StandsIn u k t) (Contains (times_on s (day_part k t)) (second_part k t))
+            (Contains (times_on u (day_part k t)) (second_part k t)) (stands_where s k t kind) (stands_where u k t (kind ∙ e)) h,
+      )
 
   pub yes_by_days : ((d : ℤ) → ShowsNone shows (times_on s d) (times_on u d)) → IsVerdictBy shows (StandsIn s) (StandsIn u) Yes
   yes_by_days none k t h = none (day_part k t) (second_part k t) (shown_on_day k t h)
@@ -116,11 +122,13 @@ module _ (shows : Side → Bool) (s u : Sketch) (e : s.kind ≡ u.kind) where
           let k = s.kind in
           let t = moment_at k day x in
           let parts = parts_of_moment k day x fits.0 fits.1 in
-          let here : HoldsOn side (Contains (times_on s (day_part k t)) (second_part k t)) (Contains (times_on u (day_part k t)) (second_part k t)) = rw (parts.0, parts.1) first.on_day.holds in
+          let here : HoldsOn side (Contains (times_on s (day_part k t)) (second_part k t)) (Contains (times_on u (day_part k t)) (second_part k t)) =
+          rw (parts.0, parts.1) first.on_day.holds in
           let on_s = stands_where s k t refl in
           let on_u = stands_where u k t e in (
             first.on_day.shown,
-            HoldsOn-map side (Contains (times_on s (day_part k t)) (second_part k t)) (Contains (times_on u (day_part k t)) (second_part k t)) (StandsIn s k t) (StandsIn u k t) (on_s.1, on_s.0) (on_u.1, on_u.0) here,
+            HoldsOn-map side (Contains (times_on s (day_part k t)) (second_part k t)) (Contains (times_on u (day_part k t)) (second_part k t))
+                (StandsIn s k t) (StandsIn u k t) (on_s.1, on_s.0) (on_u.1, on_u.0) here,
             (λ l v before h.
                 let kind : l ≡ k = elim (HoldsOn-some h.0 (StandsIn s l v) (StandsIn u l v) h.2) [ inl g ↦ g.kind | inr g ↦ g.kind ∙ sym e ] in
                 let at_k : Before k v k t → IsShown shows (StandsIn s k v) (StandsIn u k v) → ⊥ = λ c g.
@@ -144,34 +152,43 @@ module _ (shows : Side → Bool) (s u : Sketch) (apart : AreApart (StandsIn s) (
   yes_apart es eu k t (B, shown, h) = nothing_stands u k t (eu shown (day_part k t)) h.0
   yes_apart es eu k t (Both, shown, h) = apart k t h.0 h.1
 
-  none_shown_before : (k : Kind) (t : ℤ) → (IsTrue (shows A) → (l : Kind) (v : ℤ) → Before l v k t → StandsIn s l v → ⊥) → (IsTrue (shows B) → (l : Kind) (v : ℤ) → Before l v k t → StandsIn u l v → ⊥) → (l : Kind) (v : ℤ) → Before l v k t → IsShown shows (StandsIn s l v) (StandsIn u l v) → ⊥
+  none_shown_before : (k : Kind) (t : ℤ) → (IsTrue (shows A) → (l : Kind) (v : ℤ) → Before l v k t → StandsIn s l v → ⊥)
+      → (IsTrue (shows B) → (l : Kind) (v : ℤ) → Before l v k t → StandsIn u l v → ⊥) → (l : Kind) (v : ℤ) → Before l v k t
+      → IsShown shows (StandsIn s l v) (StandsIn u l v) → ⊥
   none_shown_before k t ns nu l v before (A, shown, h) = ns shown l v before h.0
   none_shown_before k t ns nu l v before (B, shown, h) = nu shown l v before h.0
   none_shown_before k t ns nu l v before (Both, shown, h) = apart l v h.0 h.1
 
-  pub no_on_first : (k : Kind) (t : ℤ) → IsTrue (shows A) → IsFirstOccurrence s k t → (IsTrue (shows B) → (l : Kind) (v : ℤ) → Before l v k t → StandsIn u l v → ⊥) → IsVerdictBy shows (StandsIn s) (StandsIn u) (No k t A)
+  pub no_on_first : (k : Kind) (t : ℤ) → IsTrue (shows A) → IsFirstOccurrence s k t
+      → (IsTrue (shows B) → (l : Kind) (v : ℤ) → Before l v k t → StandsIn u l v → ⊥) → IsVerdictBy shows (StandsIn s) (StandsIn u) (No k t A)
   no_on_first k t shown first nu = (shown, (first.stands, λ h. apart k t first.stands h), none_shown_before k t (λ _. first.none_before) nu)
 
-  pub no_on_second : (k : Kind) (t : ℤ) → IsTrue (shows B) → IsFirstOccurrence u k t → (IsTrue (shows A) → (l : Kind) (v : ℤ) → Before l v k t → StandsIn s l v → ⊥) → IsVerdictBy shows (StandsIn s) (StandsIn u) (No k t B)
+  pub no_on_second : (k : Kind) (t : ℤ) → IsTrue (shows B) → IsFirstOccurrence u k t
+      → (IsTrue (shows A) → (l : Kind) (v : ℤ) → Before l v k t → StandsIn s l v → ⊥) → IsVerdictBy shows (StandsIn s) (StandsIn u) (No k t B)
   no_on_second k t shown first ns = (shown, (first.stands, λ h. apart k t h first.stands), none_shown_before k t ns (λ _. first.none_before))
 
-  pub no_on_lesser_first : (k : Kind) (t : ℤ) (l : Kind) (v : ℤ) → IsTrue (shows A) → IsFirstOccurrence s k t → IsFirstOccurrence u l v → Before k t l v → IsVerdictBy shows (StandsIn s) (StandsIn u) (No k t A)
+  pub no_on_lesser_first : (k : Kind) (t : ℤ) (l : Kind) (v : ℤ) → IsTrue (shows A) → IsFirstOccurrence s k t → IsFirstOccurrence u l v → Before k t l v
+      → IsVerdictBy shows (StandsIn s) (StandsIn u) (No k t A)
   no_on_lesser_first k t l v shown fs fu before = no_on_first k t shown fs (λ _ m w c h. fu.none_before m w (Before-trans m w k t l v c before) h)
 
-  pub no_on_lesser_second : (k : Kind) (t : ℤ) (l : Kind) (v : ℤ) → IsTrue (shows B) → IsFirstOccurrence s k t → IsFirstOccurrence u l v → (Before k t l v → ⊥) → IsVerdictBy shows (StandsIn s) (StandsIn u) (No l v B)
+  pub no_on_lesser_second : (k : Kind) (t : ℤ) (l : Kind) (v : ℤ) → IsTrue (shows B) → IsFirstOccurrence s k t → IsFirstOccurrence u l v
+      → (Before k t l v → ⊥) → IsVerdictBy shows (StandsIn s) (StandsIn u) (No l v B)
   no_on_lesser_second k t l v shown fs fu not_before = no_on_second l v shown fu (λ _ m w c h. fs.none_before m w (Before-compare m w k t l v c not_before) h)
 
 -- ---- as the code has them
 
 -- the first occurrence, under other terms for its kind and its parts
-pub first_occurrence_at : (s : Sketch) (k l : Kind) (day day' t : ℤ) (xs : List ℕ) → IsValidSketch s → IsFirstDay s (Some day) → l ≡ k → k ≡ s.kind → xs ≡ times_on s day' → day' ≡ day → t ≡ moment_at k day' (get_or xs 0 0) → IsFirstOccurrence s l t
+pub first_occurrence_at : (s : Sketch) (k l : Kind) (day day' t : ℤ) (xs : List ℕ) → IsValidSketch s → IsFirstDay s (Some day) → l ≡ k → k ≡ s.kind
+    → xs ≡ times_on s day' → day' ≡ day → t ≡ moment_at k day' (get_or xs 0 0) → IsFirstOccurrence s l t
 first_occurrence_at s k l day day' t xs v first el ek ex ed et =
     let kind : l ≡ s.kind = el ∙ ek in
     let at : t ≡ moment_at s.kind day (get_or (times_on s day) 0 0) = et ∙ cc (ek, ed, ex ∙ ap (times_on s) ed) in
     rw (kind, at) (first_occurrence s day v first)
 
 -- the verdict at the end of a walk
-pub no_at : (shows : Side → Bool) (s u : Sketch) (from day day' : ℤ) (x : ℕ) (side : Side) (k l : Kind) (t : ℤ) (v : Verdict) → s.kind ≡ u.kind → IsValidSketch s → IsValidSketch u → HasNoneBefore s from → HasNoneBefore u from → IsFirstDayShown shows s u from day x side → k ≡ s.kind → l ≡ k → day' ≡ day → t ≡ moment_at k day' x → v ≡ No l t side → IsVerdictBy shows (StandsIn s) (StandsIn u) v
+pub no_at : (shows : Side → Bool) (s u : Sketch) (from day day' : ℤ) (x : ℕ) (side : Side) (k l : Kind) (t : ℤ) (v : Verdict) → s.kind ≡ u.kind
+    → IsValidSketch s → IsValidSketch u → HasNoneBefore s from → HasNoneBefore u from → IsFirstDayShown shows s u from day x side → k ≡ s.kind → l ≡ k
+    → day' ≡ day → t ≡ moment_at k day' x → v ≡ No l t side → IsVerdictBy shows (StandsIn s) (StandsIn u) v
 no_at shows s u from day day' x side k l t v e vs vu ns nu first ek el ed et ev =
     let kind : l ≡ s.kind = el ∙ ek in
     let at : t ≡ moment_at s.kind day x = et ∙ cc (ek, ed) in
@@ -180,7 +197,8 @@ no_at shows s u from day day' x side k l t v e vs vu ns nu first ek el ed et ev 
 -- ---- the day of what a verdict names
 
 -- the day of the first second of a day
-pub first_occurrence_day : (s : Sketch) (k l : Kind) (day day' t : ℤ) (xs : List ℕ) → IsValidSketch s → IsFirstDay s (Some day) → l ≡ k → k ≡ s.kind → xs ≡ times_on s day' → day' ≡ day → t ≡ moment_at k day' (get_or xs 0 0) → IsNearDay day → IsUpToMaxDay l t
+pub first_occurrence_day : (s : Sketch) (k l : Kind) (day day' t : ℤ) (xs : List ℕ) → IsValidSketch s → IsFirstDay s (Some day) → l ≡ k → k ≡ s.kind
+    → xs ≡ times_on s day' → day' ≡ day → t ≡ moment_at k day' (get_or xs 0 0) → IsNearDay day → IsUpToMaxDay l t
 first_occurrence_day s k l day day' t xs v first el ek ex ed et near =
     let kind : l ≡ s.kind = el ∙ ek in
     let x = get_or (times_on s day) 0 0 in
@@ -189,7 +207,9 @@ first_occurrence_day s k l day day' t xs v first el ek ex ed et near =
     rw (kind, at, (parts_of_moment s.kind day x fits.0 fits.1).0) (omega (arith, ints, near.1))
 
 -- the day at the end of a walk
-pub no_at_day : (shows : Side → Bool) (s u : Sketch) (from day day' : ℤ) (x : ℕ) (side : Side) (k l : Kind) (t : ℤ) (v : Verdict) → s.kind ≡ u.kind → IsValidSketch s → IsValidSketch u → IsFirstDayShown shows s u from day x side → k ≡ s.kind → l ≡ k → day' ≡ day → t ≡ moment_at k day' x → v ≡ No l t side → day ≤ℤ pos 3_000_000_000_000 → NamesUpToMaxDay v
+pub no_at_day : (shows : Side → Bool) (s u : Sketch) (from day day' : ℤ) (x : ℕ) (side : Side) (k l : Kind) (t : ℤ) (v : Verdict) → s.kind ≡ u.kind
+    → IsValidSketch s → IsValidSketch u → IsFirstDayShown shows s u from day x side → k ≡ s.kind → l ≡ k → day' ≡ day → t ≡ moment_at k day' x
+    → v ≡ No l t side → day ≤ℤ pos 3_000_000_000_000 → NamesUpToMaxDay v
 no_at_day shows s u from day day' x side k l t v e vs vu first ek el ed et ev high =
     let kind : l ≡ s.kind = el ∙ ek in
     let at : t ≡ moment_at s.kind day x = et ∙ cc (ek, ed) in

@@ -32,7 +32,8 @@ pub nothing : (kind : Kind) (start : ℤ) (step : ℕ) (d : ℤ) → times_on (e
 nothing kind start step d = elim (int_lt d start) as (λ b. cond {A = List ℕ} b [] [] ≡ []) [ true ↦ refl | false ↦ refl ]
 
 -- a later day by its distance from the start
-pub later : (kind : Kind) (start : ℤ) (step k : ℕ) (d : ℤ) → d ≡ start +ℤ pos k → times_on (every kind start step true) d ≡ cond (int_eq start (start +ℤ pos (k % step))) (0 ∷ []) []
+pub later : (kind : Kind) (start : ℤ) (step k : ℕ) (d : ℤ) → d ≡ start +ℤ pos k
+    → times_on (every kind start step true) d ≡ cond (int_eq start (start +ℤ pos (k % step))) (0 ∷ []) []
 later kind start step k d e =
     let l : int_lt d start ≡ false = grind (arith, ints) in
     let m : d -ℤ start ≡ pos k = omega (arith, ints) in
@@ -59,7 +60,9 @@ midnight Days = refl
 midnight Moments = ((λ e. omega (arith, ap (λ (l : List ℕ). length l) e)), tt, All-cons (λ x. x < 86_400) 0 [] (omega arith) (All-nil (λ x. x < 86_400)))
 
 sets : (kind : Kind) (start : ℤ) (some : Bool) → All (λ x. IsTimeSet kind x.times) (start_or_none some start)
-sets kind start true = All-cons (λ (x : DayShape). IsTimeSet kind x.times) (record { day = start; times = 0 ∷ [] }) [] (midnight kind) (All-nil (λ (x : DayShape). IsTimeSet kind x.times))
+sets kind start true =
+    All-cons (λ (x : DayShape). IsTimeSet kind x.times) (record { day = start; times = 0 ∷ [] }) [] (midnight kind)
+    (All-nil (λ (x : DayShape). IsTimeSet kind x.times))
 sets kind start false = All-nil (λ (x : DayShape). IsTimeSet kind x.times)
 
 -- the start is occupied
@@ -70,14 +73,16 @@ occupied kind start step steps e =
     omega (arith, ap (λ (l : List ℕ). length l) here, ap (λ (l : List ℕ). length l) e)
 
 -- no other day is the first occupied one
-first_near : (kind : Kind) (start : ℤ) (step : ℕ) (some : Bool) (d : ℤ) → IsNearDay start → 1 ≤ step → IsFirstDay (every kind start step some) (Some d) → IsNearDay d
+first_near : (kind : Kind) (start : ℤ) (step : ℕ) (some : Bool) (d : ℤ) → IsNearDay start → 1 ≤ step → IsFirstDay (every kind start step some) (Some d)
+    → IsNearDay d
 first_near kind start step false d near steps first = absurd (first.0 (nothing kind start step d))
 first_near kind start step true d near steps first =
     let P : Type 0 = IsNearDay d in
     by_lt_z {P = P} d start (λ l. absurd (first.0 (early kind start step true d l))) (λ g.
     by_lt_z {P = P} start d (λ l. absurd (occupied kind start step steps (first.1 start l))) (λ h. let e : d ≡ start = omega (arith, ints) in rw e near))
 
-pub IsDaySequence-every : (kind : Kind) (start : ℤ) (step : ℕ) (some : Bool) → IsNearDay start → 1 ≤ step → step ≤ 1_000 → IsDaySequence (every kind start step some)
+pub IsDaySequence-every : (kind : Kind) (start : ℤ) (step : ℕ) (some : Bool) → IsNearDay start → 1 ≤ step → step ≤ 1_000
+    → IsDaySequence (every kind start step some)
 IsDaySequence-every kind start step some near steps few = record {
   valid = record {
     period = steps;

@@ -25,7 +25,8 @@ module _ (rule : Rule) (start unit : ℤ) where
   abbrev pub unit_fits : Bool
   unit_fits = divides rule.interval (unit -ℤ unit_number rule.freq rule.week_start Days start)
 
-  at_unit : (d : ℤ) → unit_number rule.freq rule.week_start Days d ≡ unit → divides rule.interval (unit_number rule.freq rule.week_start Days d -ℤ unit_number rule.freq rule.week_start Days start) ≡ unit_fits
+  at_unit : (d : ℤ) → unit_number rule.freq rule.week_start Days d ≡ unit
+      → divides rule.interval (unit_number rule.freq rule.week_start Days d -ℤ unit_number rule.freq rule.week_start Days start) ≡ unit_fits
   at_unit d e = ap (λ u. divides rule.interval (u -ℤ unit_number rule.freq rule.week_start Days start)) e
 
   pub candidate_days : (first : ℤ) (count : ℕ) (days : List ℤ) → is_whole_days rule.freq ≡ true → first ≡ unit_start rule.freq rule.week_start Days unit

@@ -1,5 +1,6 @@
 -- A set of days, found by testing each day of a stretch in turn.
-use Rattle.std.proofs.Common.{◌≡◌, ℕ, ◌+◌, Bool, true, false, List, [], ◌∷◌, ◌++◌, Contains, ℤ, pos, ◌+ℤ◌, ◌≤ℤ◌, ◌<ℤ◌, inl, inr, sym, ap, ◌∙◌, subst, arith, refl}
+use Rattle.std.proofs.Common.{◌≡◌, ℕ, ◌+◌, Bool, true, false, List, [], ◌∷◌, ◌++◌, Contains, ℤ, pos, ◌+ℤ◌, ◌≤ℤ◌, ◌<ℤ◌, inl, inr, sym, ap, ◌∙◌, subst, arith}
+use Rattle.std.proofs.Common.{refl}
 use Rattle.std.specs.Prelude.{◌⊎◌, IsTrue, int_lt}
 use Rattle.std.proofs.lemmas.Int.{ints, by_lt_z}
 use Rattle.std.proofs.lemmas.Bool.{false≢true}
@@ -23,16 +24,22 @@ module _ (first : ℤ) (test : ℤ → Bool) where
   days_none xs e = subst (λ ys. IsSetOf int_lt ys (PassedDay 0)) (sym e) (set_empty int_lt (PassedDay 0) (λ d h. omega (arith, ints, h.0, h.1)))
 
   split : (n : ℕ) (d : ℤ) → d <ℤ (first +ℤ pos (n + 1)) → (d <ℤ (first +ℤ pos n)) ⊎ ((first +ℤ pos n) ≡ d)
-  split n d h = let P : Type 0 = (d <ℤ (first +ℤ pos n)) ⊎ ((first +ℤ pos n) ≡ d) in by_lt_z {P = P} d (first +ℤ pos n) (λ l. inl l) (λ g. inr (omega (arith, ints, g, h)))
+  split n d h = let P : Type 0 = (d <ℤ (first +ℤ pos n)) ⊎ ((first +ℤ pos n) ≡ d) in
+      by_lt_z {P = P} d (first +ℤ pos n) (λ l. inl l) (λ g. inr (omega (arith, ints, g, h)))
 
-  pub days_more : (xs ys : List ℤ) (n : ℕ) (x : ℤ) → x ≡ first +ℤ pos n → IsSetOf int_lt xs (PassedDay n) → test x ≡ true → ys ≡ with_value int_lt xs x → IsSetOf int_lt ys (PassedDay (n + 1))
+  pub days_more : (xs ys : List ℤ) (n : ℕ) (x : ℤ) → x ≡ first +ℤ pos n → IsSetOf int_lt xs (PassedDay n) → test x ≡ true → ys ≡ with_value int_lt xs x
+      → IsSetOf int_lt ys (PassedDay (n + 1))
   days_more xs ys n x at set passes e =
       let last : ys ≡ xs ++ x ∷ [] = e ∙ with_value-last xs x (λ y c. rw at ((set.exact y).0 c).1) in
       subst (λ zs. IsSetOf int_lt zs (PassedDay (n + 1))) (sym last)
       (set_same int_lt (λ d. PassedDay n d ⊎ (x ≡ d)) (PassedDay (n + 1)) (xs ++ x ∷ [])
       (set_push int_lt (PassedDay n) xs x set (λ d h. (let l = h.1 in grind (arith, ints))))
       (λ d. (
-        (λ p. elim p [ inl h ↦ (h.0, omega (arith, ints, h.1), h.2) | inr s ↦ (omega (arith, ints, s, at), omega (arith, ints, s, at), subst (λ z. IsTrue (test z)) s passes) ]),
+        (λ p. elim p [
+          | inl h ↦ (h.0, omega (arith, ints, h.1), h.2)
+          | inr s ↦
+              (omega (arith, ints, s, at), omega (arith, ints, s, at), subst (λ z. IsTrue (test z)) s passes)
+        ]),
         (λ h. elim (split n d h.1) [ inl l ↦ inl (h.0, l, h.2) | inr s ↦ inr (at ∙ s) ]),
       )))
 

@@ -30,7 +30,8 @@ use Rattle.rr_expand.proofs.UnitSets.{minute_allowed, second_allowed, unit_set}
 
 -- ---- the unit of a second of a day
 
-pub unit_at : (freq : Freq) (w : ℕ) (d : ℤ) (s : ℕ) → is_whole_days freq ≡ false → unit_number freq w Moments (moment_at Moments d s) ≡ unit_number freq w Moments (moment_at Moments d 0) +ℤ pos (s / unit_seconds freq)
+pub unit_at : (freq : Freq) (w : ℕ) (d : ℤ) (s : ℕ) → is_whole_days freq ≡ false
+    → unit_number freq w Moments (moment_at Moments d s) ≡ unit_number freq w Moments (moment_at Moments d 0) +ℤ pos (s / unit_seconds freq)
 unit_at Secondly w d s fine = omega (arith, ints)
 unit_at Minutely w d s fine =
     let a = (floor_only ((d *ℤ pos 86_400) +ℤ pos s) ((d *ℤ pos 1_440) +ℤ pos (s / 60)) 60 (s % 60) (omega arith) (omega (arith, ints))).0 in
@@ -78,7 +79,8 @@ module _ (rule : Rule) (start day : ℤ) where
 
   -- the day's unit k fits the interval
   abbrev pub fits : ℕ → Bool
-  fits k = fits_at rule.interval (unit_number rule.freq rule.week_start Moments (moment_at Moments day 0)) (unit_number rule.freq rule.week_start Moments start) k
+  fits k = fits_at rule.interval (unit_number rule.freq rule.week_start Moments (moment_at Moments day 0))
+      (unit_number rule.freq rule.week_start Moments start) k
 
   -- the time parts hold at a second of the day
   abbrev pub Stands : ℕ → Type 0
@@ -96,7 +98,8 @@ module _ (rule : Rule) (start day : ℤ) where
     pub set : IsSetOf nat_lt out (Before unit fits Stands k)
 
   pub found_first : (k : ℕ) (out : List ℕ) → 1 ≤ rule.interval → out ≡ []
-      → k ≡ floor_mod (unit_number rule.freq rule.week_start Moments start -ℤ unit_number rule.freq rule.week_start Moments (moment_at Moments day 0)) rule.interval
+      → k ≡ floor_mod (unit_number rule.freq rule.week_start Moments start -ℤ unit_number rule.freq rule.week_start Moments
+      (moment_at Moments day 0)) rule.interval
       → IsFound k out
   found_first k out some e first = record {
     fit = rw first (first_fits rule.interval some day_unit start_unit);
@@ -109,7 +112,8 @@ module _ (rule : Rule) (start day : ℤ) where
       → new ≡ out ++ of_unit rule.freq rule k ms ss → IsFound k out → IsFound (k + rule.interval) new
   found_more k out new ms ss some fine low m s e found = record {
     fit = next_fits rule.interval some day_unit start_unit k found.fit;
-    set = one_more unit fits Stands (later (unit_seconds rule.freq) (unit_some rule.freq)) out (of_unit rule.freq rule k ms ss) new k rule.interval some found.fit
+    set = one_more unit fits Stands (later (unit_seconds rule.freq) (unit_some rule.freq)) out
+        (of_unit rule.freq rule k ms ss) new k rule.interval some found.fit
         (λ j a b. none_between rule.interval some day_unit start_unit k j found.fit a b) found.set
         (set_same nat_lt _ (At unit Stands k) (of_unit rule.freq rule k ms ss)
         (unit_set rule.freq rule (hour_of Moments start) (minute_of Moments start) (second_of Moments start) ms ss fine m s k low)
@@ -123,7 +127,8 @@ module _ (rule : Rule) (start day : ℤ) where
   interval_at : (s : ℕ) → is_whole_days rule.freq ≡ false → interval_holds rule Moments start (moment_at Moments day s) ≡ fits (unit s)
   interval_at s fine = ap (λ u. divides rule.interval (u -ℤ unit_number rule.freq rule.week_start Moments start)) (unit_at rule.freq rule.week_start day s fine)
 
-  pub found_all : (k : ℕ) (out : List ℕ) → is_whole_days rule.freq ≡ false → 86_400 / unit_seconds rule.freq ≤ k → IsFound k out → IsSetOf nat_lt out (IsFittingSecond rule start day)
+  pub found_all : (k : ℕ) (out : List ℕ) → is_whole_days rule.freq ≡ false → 86_400 / unit_seconds rule.freq ≤ k → IsFound k out
+      → IsSetOf nat_lt out (IsFittingSecond rule start day)
   found_all k out fine done found =
       set_same nat_lt (λ s. IsTrue (fits (unit s)) × Stands s) (IsFittingSecond rule start day) out
       (all_before unit fits Stands out k (λ s h. omega (arith, within_day rule.freq s h.0, done)) found.set)
@@ -139,19 +144,27 @@ abbrev pub dates_hold : Rule → ℤ → ℤ → Bool
 dates_hold rule start day = date_parts_hold (filled rule Moments start) day
 
 -- only the start's day enters
-pub dates_are : (rule : Rule) (start day s d : ℤ) (b : Bool) → s ≡ floor_div start 86_400 → d ≡ day → b ≡ date_parts_hold (filled rule Days s) d → b ≡ dates_hold rule start day
+pub dates_are : (rule : Rule) (start day s d : ℤ) (b : Bool) → s ≡ floor_div start 86_400 → d ≡ day → b ≡ date_parts_hold (filled rule Days s) d
+    → b ≡ dates_hold rule start day
 dates_are rule start day s d b same_start same_day e = rw (same_start, same_day) at e
 
-pub candidate_seconds : (rule : Rule) (start day : ℤ) (out : List ℕ) → dates_hold rule start day ≡ true → IsSetOf nat_lt out (IsFittingSecond rule start day) → IsSetOf nat_lt out (IsCandidateSecond rule start day)
+pub candidate_seconds : (rule : Rule) (start day : ℤ) (out : List ℕ) → dates_hold rule start day ≡ true
+    → IsSetOf nat_lt out (IsFittingSecond rule start day) → IsSetOf nat_lt out (IsCandidateSecond rule start day)
 unfolding is_candidate
 candidate_seconds rule start day out dates set =
     set_same nat_lt (IsFittingSecond rule start day) (IsCandidateSecond rule start day) out set
     (λ s. (
-      (λ h. (h.1, and_true _ _ _ h.0 (rw (day_part-moment_at day s h.1) dates) (time_parts_hold-at (filled rule Moments start) day s h.1 ∙ sym (time_parts_hold-at (filled rule Moments start) (pos 0) s h.1) ∙ h.2))),
-      (λ h. (let p = and_parts _ _ _ h.1 in (p.0, h.0, time_parts_hold-at (filled rule Moments start) (pos 0) s h.0 ∙ sym (time_parts_hold-at (filled rule Moments start) day s h.0) ∙ p.2))),
+      (λ h. (
+        h.1,
+        and_true _ _ _ h.0 (rw (day_part-moment_at day s h.1) dates) (time_parts_hold-at (filled rule Moments start) day s h.1
+            ∙ sym (time_parts_hold-at (filled rule Moments start) (pos 0) s h.1) ∙ h.2),
+      )),
+      (λ h. (let p = and_parts _ _ _ h.1 in
+          (p.0, h.0, time_parts_hold-at (filled rule Moments start) (pos 0) s h.0 ∙ sym (time_parts_hold-at (filled rule Moments start) day s h.0) ∙ p.2))),
     ))
 
 pub no_candidate_seconds : (rule : Rule) (start day : ℤ) → dates_hold rule start day ≡ false → IsSetOf nat_lt [] (IsCandidateSecond rule start day)
 unfolding is_candidate
 no_candidate_seconds rule start day dates =
-    set_empty nat_lt (IsCandidateSecond rule start day) (λ s h. (let p = and_parts _ _ _ h.1 in false≢true (sym dates ∙ sym (ap (dates_hold rule start) (day_part-moment_at day s h.0)) ∙ p.1)))
+    set_empty nat_lt (IsCandidateSecond rule start day)
+    (λ s h. (let p = and_parts _ _ _ h.1 in false≢true (sym dates ∙ sym (ap (dates_hold rule start) (day_part-moment_at day s h.0)) ∙ p.1)))

@@ -21,7 +21,8 @@ module _ {X : Type 0} (below : X → X → Bool) where
   Rises-append (x ∷ []) ys r s under = Rises-cons x ys (λ y c. under x y (Contains-head x []) c) s
   Rises-append (x ∷ z ∷ zs) ys r s under = (r.0, Rises-append (z ∷ zs) ys r.1 s (λ w y c d. under w y (Contains-tail x (z ∷ zs) w c) d))
 
-  pub set_append : (P Q : X → Type 0) (xs ys : List X) → IsSetOf below xs P → IsSetOf below ys Q → ((x y : X) → P x → Q y → IsTrue (below x y)) → IsSetOf below (xs ++ ys) (λ x. P x ⊎ Q x)
+  pub set_append : (P Q : X → Type 0) (xs ys : List X) → IsSetOf below xs P → IsSetOf below ys Q → ((x y : X) → P x → Q y → IsTrue (below x y))
+      → IsSetOf below (xs ++ ys) (λ x. P x ⊎ Q x)
   set_append P Q xs ys a b under = record {
     rises = Rises-append xs ys a.rises b.rises (λ x y c d. under x y ((a.exact x).0 c) ((b.exact y).0 d));
     exact = λ x. (
@@ -33,7 +34,10 @@ module _ {X : Type 0} (below : X → X → Bool) where
   pub set_one : (x : X) → IsSetOf below (x ∷ []) (λ y. x ≡ y)
   set_one x = record {
     rises = tt;
-    exact = λ y. ((λ c. elim (Contains-cons_cases x [] y c) [ inl e ↦ e | inr d ↦ absurd (Contains-none y d) ]), (λ e. subst (λ z. Contains (x ∷ []) z) e (Contains-head x [])));
+    exact = λ y. (
+      (λ c. elim (Contains-cons_cases x [] y c) [ inl e ↦ e | inr d ↦ absurd (Contains-none y d) ]),
+      (λ e. subst (λ z. Contains (x ∷ []) z) e (Contains-head x [])),
+    );
   }
 
 lt_test : (m n : ℕ) → m < n → IsTrue (nat_lt m n)
@@ -77,7 +81,8 @@ of_hour-set base [] ss rm rs few = set_empty nat_lt (InHour base [] ss) (λ s h.
 of_hour-set base (m ∷ ms) ss rm rs few =
     let b : ℕ = base + 60 * m in
     set_same nat_lt (λ s. InMinute b ss s ⊎ InHour base ms ss s) (InHour base (m ∷ ms) ss) _
-    (set_append nat_lt (InMinute b ss) (InHour base ms ss) (of_minute b ss) (of_hour base ms ss) (of_minute-set b ss rs) (of_hour-set base ms ss (Rises-tail nat_lt m ms rm) rs few)
+    (set_append nat_lt (InMinute b ss) (InHour base ms ss) (of_minute b ss) (of_hour base ms ss) (of_minute-set b ss rs)
+    (of_hour-set base ms ss (Rises-tail nat_lt m ms rm) rs few)
     (λ s t h k. lt_test s t (omega (arith, h.0, few (s - b) h.1, k.0, first_below m ((t - base) / 60) ms rm k.1))))
     (λ s. (
       (λ p. elim p [
@@ -101,13 +106,15 @@ InHour-below base ms ss few s h = omega (arith, h.0, few ((s - base) / 60) h.1)
 abbrev pub InDay : List ℕ → List ℕ → List ℕ → ℕ → Type 0
 InDay hs ms ss s = Contains hs (s / 3_600) × Contains ms (s / 60 % 60) × Contains ss (s % 60)
 
-pub of_day-set : (hs ms ss : List ℕ) → Rises nat_lt hs → Rises nat_lt ms → Rises nat_lt ss → AreBelow 60 ms → AreBelow 60 ss → IsSetOf nat_lt (of_day hs ms ss) (InDay hs ms ss)
+pub of_day-set : (hs ms ss : List ℕ) → Rises nat_lt hs → Rises nat_lt ms → Rises nat_lt ss → AreBelow 60 ms → AreBelow 60 ss
+    → IsSetOf nat_lt (of_day hs ms ss) (InDay hs ms ss)
 unfolding of_day
 of_day-set [] ms ss rh rm rs lm ls = set_empty nat_lt (InDay [] ms ss) (λ s h. Contains-none (s / 3_600) h.0)
 of_day-set (x ∷ hs) ms ss rh rm rs lm ls =
     let b : ℕ = 3_600 * x in
     set_same nat_lt (λ s. InHour b ms ss s ⊎ InDay hs ms ss s) (InDay (x ∷ hs) ms ss) _
-    (set_append nat_lt (InHour b ms ss) (InDay hs ms ss) (of_hour b ms ss) (of_day hs ms ss) (of_hour-set b ms ss rm rs ls) (of_day-set hs ms ss (Rises-tail nat_lt x hs rh) rm rs lm ls)
+    (set_append nat_lt (InHour b ms ss) (InDay hs ms ss) (of_hour b ms ss) (of_day hs ms ss) (of_hour-set b ms ss rm rs ls)
+    (of_day-set hs ms ss (Rises-tail nat_lt x hs rh) rm rs lm ls)
     (λ s t h k. lt_test s t (omega (arith, InHour-below b ms ss lm s h, first_below x (t / 3_600) hs rh k.0))))
     (λ s. (
       (λ p. elim p [

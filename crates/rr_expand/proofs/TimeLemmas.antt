@@ -20,7 +20,8 @@ use Rattle.rr_expand.proofs.SetLemmas.{Passed}
 use Rattle.rr_expand.proofs.SpreadSets.{InDay, of_day-set}
 
 -- the seconds of the hours, minutes and seconds that pass
-module _ (H M S : ℕ → Bool) (hs ms ss : List ℕ) (a : IsSetOf nat_lt hs (Passed H 24)) (b : IsSetOf nat_lt ms (Passed M 60)) (c : IsSetOf nat_lt ss (Passed S 60)) where
+module _ (H M S : ℕ → Bool) (hs ms ss : List ℕ) (a : IsSetOf nat_lt hs (Passed H 24)) (b : IsSetOf nat_lt ms (Passed M 60))
+    (c : IsSetOf nat_lt ss (Passed S 60)) where
   pub passed_day : IsSetOf nat_lt (of_day hs ms ss) (λ s. (s < 86_400) × IsTrue (H (s / 3_600) && M (s / 60 % 60) && S (s % 60)))
   passed_day =
       set_same nat_lt (InDay hs ms ss) _ (of_day hs ms ss)

@@ -13,7 +13,8 @@ use Rattle.rr_model.proofs.CalendarLemmas.{first_day_of_year_bounds, days_of_mon
 use Rattle.rr_cal.proofs.StretchLemmas.{month_start}
 
 -- a year not far from the year 0 begins within the calls' days
-year_start_near : (y : ℤ) → (neg_ℤ (pos 100_001) ≤ℤ y) × (y ≤ℤ pos 100_001) → (neg_ℤ (pos 100_000_000) ≤ℤ first_day_of_year y) × (first_day_of_year y ≤ℤ pos 100_000_000)
+year_start_near : (y : ℤ) → (neg_ℤ (pos 100_001) ≤ℤ y) × (y ≤ℤ pos 100_001)
+    → (neg_ℤ (pos 100_000_000) ≤ℤ first_day_of_year y) × (first_day_of_year y ≤ℤ pos 100_000_000)
 year_start_near y few =
     let b = first_day_of_year_bounds y in
     (omega (arith, ints, b.0, few.0), omega (arith, ints, b.1, few.1))
@@ -23,7 +24,8 @@ unfolding fourth_day
 first_day_of_week_is u w = refl
 
 -- so does each unit with a small number
-pub unit_start_near : (freq : Freq) (w : ℕ) (u : ℤ) → is_whole_days freq ≡ true → w ≤ 255 → (neg_ℤ (pos 100_000) ≤ℤ u) × (u ≤ℤ pos 100_000) → IsDayWithin 1000 (unit_start freq w Days u)
+pub unit_start_near : (freq : Freq) (w : ℕ) (u : ℤ) → is_whole_days freq ≡ true → w ≤ 255 → (neg_ℤ (pos 100_000) ≤ℤ u) × (u ≤ℤ pos 100_000)
+    → IsDayWithin 1000 (unit_start freq w Days u)
 unit_start_near Secondly w u coarse low few = absurd (cc)
 unit_start_near Minutely w u coarse low few = absurd (cc)
 unit_start_near Hourly w u coarse low few = absurd (cc)

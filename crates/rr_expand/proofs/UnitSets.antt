@@ -43,13 +43,22 @@ module _ (H M S : ℕ → Bool) where
         (λ h. (let high = InHour-below (3_600 * k) ms ss (λ x c. ((m.exact x).0 c).0) t h in
             let hour : k ≡ t / 3_600 = omega (arith, high, h.0) in
             let minute : (t - 3_600 * k) / 60 ≡ t / 60 % 60 = omega (arith, high, h.0) in
-            let second : (t - 3_600 * k) % 60 ≡ t % 60 = omega (arith, high, h.0) in
-            (sym hour, (omega (arith, high, low), and_true _ _ _ (subst (λ n. IsTrue (H n)) hour passes) ((m.exact _).0 (subst (Contains ms) minute h.1)).1 ((s.exact _).0 (subst (Contains ss) second h.2)).1)))),
+            let second : (t - 3_600 * k) % 60 ≡ t % 60 = omega (arith, high, h.0) in (
+              sym hour,
+              (
+                omega (arith, high, low),
+                and_true _ _ _ (subst (λ n. IsTrue (H n)) hour passes) ((m.exact _).0 (subst (Contains ms) minute h.1)).1
+                    ((s.exact _).0 (subst (Contains ss) second h.2)).1,
+              ),
+            ))),
         (λ h. (let p = and_parts (H (t / 3_600)) (M (t / 60 % 60)) (S (t % 60)) h.1.1 in
             let low : 3_600 * k ≤ t = omega (arith, h.0) in
             let minute : t / 60 % 60 ≡ (t - 3_600 * k) / 60 = omega (arith, h.0) in
-            let second : t % 60 ≡ (t - 3_600 * k) % 60 = omega (arith, h.0) in
-            (low, subst (Contains ms) minute ((m.exact (t / 60 % 60)).1 (omega arith, p.1)), subst (Contains ss) second ((s.exact (t % 60)).1 (omega arith, p.2))))),
+            let second : t % 60 ≡ (t - 3_600 * k) % 60 = omega (arith, h.0) in (
+              low,
+              subst (Contains ms) minute ((m.exact (t / 60 % 60)).1 (omega arith, p.1)),
+              subst (Contains ss) second ((s.exact (t % 60)).1 (omega arith, p.2)),
+            ))),
       )))
       (λ t h. subst (λ n. IsTrue (H n)) h.0 (and_parts (H (t / 3_600)) (M (t / 60 % 60)) (S (t % 60)) h.1.1).0)
 
@@ -64,8 +73,14 @@ module _ (H M S : ℕ → Bool) where
         (λ h. (let few = ((s.exact (t - 60 * k)).0 h.1).0 in
             let hour : k / 60 ≡ t / 3_600 = omega (arith, few, h.0) in
             let minute : k % 60 ≡ t / 60 % 60 = omega (arith, few, h.0) in
-            let second : t - 60 * k ≡ t % 60 = omega (arith, few, h.0) in
-            (omega (arith, few, h.0), (omega (arith, few, low), and_true _ _ _ (subst (λ n. IsTrue (H n)) hour q.0) (subst (λ n. IsTrue (M n)) minute q.1) ((s.exact _).0 (subst (Contains ss) second h.1)).1)))),
+            let second : t - 60 * k ≡ t % 60 = omega (arith, few, h.0) in (
+              omega (arith, few, h.0),
+              (
+                omega (arith, few, low),
+                and_true _ _ _ (subst (λ n. IsTrue (H n)) hour q.0) (subst (λ n. IsTrue (M n)) minute q.1)
+                    ((s.exact _).0 (subst (Contains ss) second h.1)).1,
+              ),
+            ))),
         (λ h. (let p = and_parts (H (t / 3_600)) (M (t / 60 % 60)) (S (t % 60)) h.1.1 in
             let second : t % 60 ≡ t - 60 * k = omega (arith, h.0) in
             (omega (arith, h.0), subst (Contains ss) second ((s.exact (t % 60)).1 (omega arith, p.2))))),
@@ -100,10 +115,14 @@ module _ (freq : Freq) (rule : Rule) (h m s : ℕ) where
 pub unit_set : (freq : Freq) (rule : Rule) (h m s : ℕ) (ms ss : List ℕ) → is_whole_days freq ≡ false
     → IsSetOf nat_lt ms (Passed (minute_allowed freq rule h m s) 60) → IsSetOf nat_lt ss (Passed (second_allowed freq rule h m s) 60)
     → (k : ℕ) → k < 86_400 / unit_seconds freq
-    → IsSetOf nat_lt (of_unit freq rule k ms ss) (λ t. (t / unit_seconds freq ≡ k) × PassesAt (hour_allowed freq rule h m s) (minute_allowed freq rule h m s) (second_allowed freq rule h m s) t)
-unit_set Secondly rule h m s ms ss fine a b k low = second_set (hour_allowed Secondly rule h m s) (minute_allowed Secondly rule h m s) (second_allowed Secondly rule h m s) k low
-unit_set Minutely rule h m s ms ss fine a b k low = minute_set (hour_allowed Minutely rule h m s) (minute_allowed Minutely rule h m s) (second_allowed Minutely rule h m s) ss b k low
-unit_set Hourly rule h m s ms ss fine a b k low = hour_set (hour_allowed Hourly rule h m s) (minute_allowed Hourly rule h m s) (second_allowed Hourly rule h m s) ms ss a b k low
+    → IsSetOf nat_lt (of_unit freq rule k ms ss) (λ t. (t / unit_seconds freq ≡ k)
+    × PassesAt (hour_allowed freq rule h m s) (minute_allowed freq rule h m s) (second_allowed freq rule h m s) t)
+unit_set Secondly rule h m s ms ss fine a b k low =
+    second_set (hour_allowed Secondly rule h m s) (minute_allowed Secondly rule h m s) (second_allowed Secondly rule h m s) k low
+unit_set Minutely rule h m s ms ss fine a b k low =
+    minute_set (hour_allowed Minutely rule h m s) (minute_allowed Minutely rule h m s) (second_allowed Minutely rule h m s) ss b k low
+unit_set Hourly rule h m s ms ss fine a b k low =
+    hour_set (hour_allowed Hourly rule h m s) (minute_allowed Hourly rule h m s) (second_allowed Hourly rule h m s) ms ss a b k low
 unit_set Daily rule h m s ms ss fine a b k low = absurd (cc)
 unit_set Weekly rule h m s ms ss fine a b k low = absurd (cc)
 unit_set Monthly rule h m s ms ss fine a b k low = absurd (cc)

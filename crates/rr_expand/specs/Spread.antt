@@ -32,7 +32,8 @@ of_minute_number rule minute ss =
 -- a second of the day that BYHOUR, BYMINUTE and BYSECOND allow
 abbrev pub of_second_number : Rule → ℕ → List ℕ
 of_second_number rule second =
-    if allows rule.by_hour (pos (second / 3_600)) && allows rule.by_minute (pos (second / 60 % 60)) && allows rule.by_second (pos (second % 60)) then second ∷ [] else []
+    if allows rule.by_hour (pos (second / 3_600)) && allows rule.by_minute (pos (second / 60 % 60))
+    && allows rule.by_second (pos (second % 60)) then second ∷ [] else []
 
 -- the same in the unit of this number in its day
 abbrev pub of_unit : Freq → Rule → ℕ → List ℕ → List ℕ → List ℕ

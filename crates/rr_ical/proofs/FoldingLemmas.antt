@@ -3,7 +3,8 @@ use Rattle.std.proofs.Common.{◌≡◌, ℕ, ◌+◌, ◌==◌, ◌&&◌, not, 
 use Rattle.std.specs.List.{onto_first}
 use Rattle.std.proofs.lemmas.List.{map-append}
 use Rattle.rr_model.specs.Rule.Validity.{is_absent}
-use Rattle.rr_model.specs.Text.Lines.{feeds_next, physical_lines, begins_blank, continuation, onto_last, with_physical_line, with_physical_lines, unfolded_lines}
+use Rattle.rr_model.specs.Text.Lines.{feeds_next, physical_lines, begins_blank, continuation, onto_last, with_physical_line, with_physical_lines}
+use Rattle.rr_model.specs.Text.Lines.{unfolded_lines}
 use Rattle.rr_model.specs.declared.line.Line.{Line}
 use Rattle.rr_ical.specs.LineLaws.{line_texts, FoldingDoesNotMatter}
 

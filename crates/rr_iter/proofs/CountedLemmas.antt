@@ -1,5 +1,6 @@
 -- Numbers of occurrences in a tree that repeats after a day.
-use Rattle.std.proofs.Common.{◌≡◌, ℕ, zero, suc, ◌+◌, ◌*◌, ◌-◌, ◌/◌, ◌<◌, ◌≤◌, Bool, true, false, ℤ, pos, nat_abs, ◌+ℤ◌, ◌-ℤ◌, neg_ℤ, ◌≤ℤ◌, ◌<ℤ◌, refl, ap, inl, inr, arith}
+use Rattle.std.proofs.Common.{◌≡◌, ℕ, zero, suc, ◌+◌, ◌*◌, ◌-◌, ◌/◌, ◌<◌, ◌≤◌, Bool, true, false, ℤ, pos, nat_abs, ◌+ℤ◌, ◌-ℤ◌, neg_ℤ, ◌≤ℤ◌, ◌<ℤ◌, refl, ap}
+use Rattle.std.proofs.Common.{inl, inr, arith}
 use Rattle.std.proofs.lemmas.Int.{ints, by_lt_z}
 use Rattle.std.proofs.lemmas.Bool.{cases_lt}
 use Rattle.std.proofs.Math.Nat.{div-mul-le_self, le-div_iff_mul-le, div-lt_iff_lt-mul}
@@ -14,7 +15,8 @@ use Rattle.rr_model.specs.declared.kind.Kind.{Kind}
 use Rattle.rr_model.specs.declared.rule.Rule.{Rule}
 use Rattle.rr_model.proofs.YearLemmas.{four_digit_bounds}
 use Rattle.rr_check.proofs.SeriesCycleLemmas.{rule_cycle_some}
-use Rattle.rr_lazy.proofs.CountingLemmas.{before_as, before_grows, before_next, before_none, before_skip, count_days-suc, count_days-zero, count_seconds-suc, count_seconds-zero, count_seconds_no, count_seconds_yes}
+use Rattle.rr_lazy.proofs.CountingLemmas.{before_as, before_grows, before_next, before_none, before_skip, count_days-suc, count_days-zero}
+use Rattle.rr_lazy.proofs.CountingLemmas.{count_seconds-suc, count_seconds-zero, count_seconds_no, count_seconds_yes}
 use Rattle.rr_lazy.proofs.CycleCountLemmas.{cycles_and_days, days_split}
 use Rattle.rr_lazy.proofs.TreeLemmas.{stands_below}
 use Rattle.rr_iter.specs.Ends.{HasNumberOn, IsSoundRule, before_day}

@@ -1,5 +1,6 @@
 -- Rising days by place.
-use Rattle.std.proofs.Common.{◌≡◌, ℕ, zero, suc, ◌+◌, ◌<◌, ◌≤◌, Bool, ◌==◌, true, false, List, [], ◌∷◌, length, get_or, Contains, ℤ, pos, ◌≤ℤ◌, ◌<ℤ◌, refl, sym, ap, ◌∙◌, subst, inl, inr, arith}
+use Rattle.std.proofs.Common.{◌≡◌, ℕ, zero, suc, ◌+◌, ◌<◌, ◌≤◌, Bool, ◌==◌, true, false, List, [], ◌∷◌, length, get_or, Contains, ℤ, pos, ◌≤ℤ◌, ◌<ℤ◌, refl}
+use Rattle.std.proofs.Common.{sym, ap, ◌∙◌, subst, inl, inr, arith}
 use Rattle.std.specs.Prelude.{IsTrue, nat_lt, int_lt, Some, None}
 use Rattle.std.proofs.lemmas.Int.{ints}
 use Rattle.std.proofs.lemmas.Bool.{cases_lt, false≢true}
@@ -17,7 +18,9 @@ pub rising_days : (xs : List ℤ) → Rises int_lt xs → (i j : ℕ) → i < j 
 rising_days [] r i j l h = absurd (omega arith)
 rising_days (x ∷ xs) r zero zero l h = absurd (omega arith)
 rising_days (x ∷ xs) r zero (suc j) l h =
-    let t : int_lt x (get_or xs j (pos 0)) ≡ true = below_rest int_lt (λ y m. grind (arith, ints)) (λ y z w m n. grind (arith, ints)) x xs r (get_or xs j (pos 0)) (Contains-get_or xs j (pos 0) (omega arith)) in
+    let t : int_lt x (get_or xs j (pos 0)) ≡ true =
+    below_rest int_lt (λ y m. grind (arith, ints)) (λ y z w m n. grind (arith, ints)) x xs r (get_or xs j (pos 0))
+    (Contains-get_or xs j (pos 0) (omega arith)) in
     grind (arith, ints)
 rising_days (x ∷ xs) r (suc i) zero l h = absurd (omega arith)
 rising_days (x ∷ xs) r (suc i) (suc j) l h = rising_days xs (Rises-tail int_lt x xs r) i j (omega arith) (omega arith)
@@ -37,7 +40,8 @@ pub not_empty : (xs shown : List ℕ) → shown ≡ xs → (length shown == 0) �
 not_empty xs shown e some none = false≢true (sym some ∙ ap (λ l. length l == 0) (e ∙ none))
 
 -- a day without seconds is not occupied
-pub unoccupied : (tree : Tree) (day day' : ℤ) (times shown : List ℕ) → day' ≡ day → IsSetOf nat_lt times (λ s. IsTrue (stands_at tree day' s)) → shown ≡ times → (length shown == 0) ≡ true → IsOnDay tree day None
+pub unoccupied : (tree : Tree) (day day' : ℤ) (times shown : List ℕ) → day' ≡ day → IsSetOf nat_lt times (λ s. IsTrue (stands_at tree day' s))
+    → shown ≡ times → (length shown == 0) ≡ true → IsOnDay tree day None
 unoccupied tree day day' times shown e set f g s = rw (sym e) (nothing_in (stands_at tree day') times set (sym f ∙ empty_by_length shown g) s)
 
 module _ (tree : Tree) (days : List ℤ) (from : ℤ) where
@@ -60,7 +64,8 @@ module _ (tree : Tree) (days : List ℤ) (from : ℤ) where
   passed_empty i day e none passed = one_more i passed (λ s h. rw (sym e) (none s))
 
   -- the first day that is
-  pub passed_found : (i : ℕ) (day : ℤ) (found : DayTimes) → Rises int_lt days → i < length days → day ≡ get_or days i (pos 0) → from ≤ℤ day → IsOnDay tree day (Some found) → PassedDays i → IsFirstOf tree days from (Some found)
+  pub passed_found : (i : ℕ) (day : ℤ) (found : DayTimes) → Rises int_lt days → i < length days → day ≡ get_or days i (pos 0) → from ≤ℤ day
+      → IsOnDay tree day (Some found) → PassedDays i → IsFirstOf tree days from (Some found)
   passed_found i day found rises l e late on passed =
       let same : found.day ≡ get_or days i (pos 0) = on.0 ∙ e in (
         subst (Contains days) (sym same) (Contains-get_or days i (pos 0) l),
@@ -70,7 +75,11 @@ module _ (tree : Tree) (days : List ℤ) (from : ℤ) where
         λ d s c h m. (let p = at_place d c in
             elim (cases_lt c.0 i) [
               | inl n ↦ subst (λ x. stands_at tree x s ≡ false) p (passed c.0 s n (omega (arith, ints, p)))
-              | inr n ↦ absurd (elim (cases_lt i c.0) [ inl o ↦ omega (arith, ints, p, same, rising_days days rises i c.0 o c.1) | inr o ↦ (let q : c.0 ≡ i = omega arith in omega (arith, ints, p, same, ap (λ n. get_or days n (pos 0)) q)) ])
+              | inr n ↦ absurd (elim (cases_lt i c.0) [
+                | inl o ↦ omega (arith, ints, p, same, rising_days days rises i c.0 o c.1)
+                | inr o ↦
+                    (let q : c.0 ≡ i = omega arith in omega (arith, ints, p, same, ap (λ n. get_or days n (pos 0)) q))
+              ])
             ]),
       )
 

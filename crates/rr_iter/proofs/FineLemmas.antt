@@ -1,5 +1,6 @@
 -- Rules whose units are shorter than a day, walked day by day.
-use Rattle.std.proofs.Common.{◌≡◌, ℕ, ◌+◌, ◌*◌, ◌/◌, ◌<◌, ◌≤◌, true, false, ◌&&◌, List, ℤ, pos, nat_abs, ◌+ℤ◌, ◌-ℤ◌, ◌*ℤ◌, Contains, refl, sym, ◌∙◌, inl, inr, arith}
+use Rattle.std.proofs.Common.{◌≡◌, ℕ, ◌+◌, ◌*◌, ◌/◌, ◌<◌, ◌≤◌, true, false, ◌&&◌, List, ℤ, pos, nat_abs, ◌+ℤ◌, ◌-ℤ◌, ◌*ℤ◌, Contains, refl, sym, ◌∙◌, inl}
+use Rattle.std.proofs.Common.{inr, arith}
 use Rattle.std.specs.Prelude.{IsTrue, nat_lt, nat_le, int_le, None}
 use Rattle.std.proofs.lemmas.Int.{ints, by_lt_z}
 use Rattle.std.proofs.lemmas.Bool.{cases_lt, false≢true}
@@ -49,10 +50,14 @@ first_unit_is Yearly w d e = absurd (false≢true (sym e))
 
 -- a second of a later day lies so many units after the first of a day, fewer than the days in between have with the day
 unit_after : (freq : Freq) (w : ℕ) (day d : ℤ) (j s : ℕ) → is_whole_days freq ≡ false → d ≡ day +ℤ pos j → s < 86_400
-    → (unit_number freq w Moments (moment_at Moments d s) ≡ unit_number freq w Moments (moment_at Moments day 0) +ℤ pos (j * per_day freq + s / unit_seconds freq)) × (s / unit_seconds freq < per_day freq)
-unit_after Secondly w day d j s e f l = (omega (arith, ints, unit_at Secondly w d s e, first_unit_is Secondly w d e, first_unit_is Secondly w day e, f), omega (arith, l))
-unit_after Minutely w day d j s e f l = (omega (arith, ints, unit_at Minutely w d s e, first_unit_is Minutely w d e, first_unit_is Minutely w day e, f), omega (arith, l))
-unit_after Hourly w day d j s e f l = (omega (arith, ints, unit_at Hourly w d s e, first_unit_is Hourly w d e, first_unit_is Hourly w day e, f), omega (arith, l))
+    → (unit_number freq w Moments (moment_at Moments d s)
+    ≡ unit_number freq w Moments (moment_at Moments day 0) +ℤ pos (j * per_day freq + s / unit_seconds freq)) × (s / unit_seconds freq < per_day freq)
+unit_after Secondly w day d j s e f l =
+    (omega (arith, ints, unit_at Secondly w d s e, first_unit_is Secondly w d e, first_unit_is Secondly w day e, f), omega (arith, l))
+unit_after Minutely w day d j s e f l =
+    (omega (arith, ints, unit_at Minutely w d s e, first_unit_is Minutely w d e, first_unit_is Minutely w day e, f), omega (arith, l))
+unit_after Hourly w day d j s e f l =
+    (omega (arith, ints, unit_at Hourly w d s e, first_unit_is Hourly w d e, first_unit_is Hourly w day e, f), omega (arith, l))
 unit_after Daily w day d j s e f l = absurd (false≢true (sym e))
 unit_after Weekly w day d j s e f l = absurd (false≢true (sym e))
 unit_after Monthly w day d j s e f l = absurd (false≢true (sym e))
@@ -82,7 +87,8 @@ module _ (rule : Rule) (start : ℤ) where
   unfit : (t : ℤ) → interval_holds rule Moments start t ≡ false → is_chosen rule Moments start t ≡ false
   unfit t e = chosen_no_candidate rule Moments start t (no_candidate rule start t e)
 
-  pub seconds_of_day : (d : ℤ) (from : ℕ) (all times : List ℕ) → IsFirstSecond Moments start d from → IsSetOf nat_lt all (λ s. (s < 86_400) × IsTrue (is_chosen rule Moments start (moment_at Moments d s)))
+  pub seconds_of_day : (d : ℤ) (from : ℕ) (all times : List ℕ) → IsFirstSecond Moments start d from
+      → IsSetOf nat_lt all (λ s. (s < 86_400) × IsTrue (is_chosen rule Moments start (moment_at Moments d s)))
       → IsSetOf nat_lt times (λ s. Contains all s × (from ≤ s) × (s < 86_400)) → IsSetOf nat_lt times (λ s. IsTrue (stands_at tree d s))
   seconds_of_day d from all times first set cut =
       set_same nat_lt (λ s. Contains all s × (from ≤ s) × (s < 86_400)) (λ s. IsTrue (stands_at tree d s)) times cut (λ s. (to s, back s))
@@ -102,7 +108,8 @@ module _ (rule : Rule) (start : ℤ) where
 
   -- no day before the one in which the first unit that fits lies
   pub none_unfit : (day : ℤ) (k : ℕ) (q : ℤ) → is_whole_days rule.freq ≡ false → 1 ≤ rule.interval
-      → k ≡ floor_mod (unit_number rule.freq rule.week_start Moments start -ℤ unit_number rule.freq rule.week_start Moments (moment_at Moments day 0)) rule.interval
+      → k ≡ floor_mod (unit_number rule.freq rule.week_start Moments start -ℤ unit_number rule.freq rule.week_start Moments
+      (moment_at Moments day 0)) rule.interval
       → q ≡ day +ℤ pos (k / per_day rule.freq) → HasNone tree day q
   none_unfit day k q fine some e f d s l h =
       elim (cases_lt s 86_400) [
@@ -110,8 +117,11 @@ module _ (rule : Rule) (start : ℤ) where
             let j : ℕ = nat_abs (d -ℤ day) in
             let at : d ≡ day +ℤ pos j = omega (arith, ints, l) in
             let u = unit_after rule.freq rule.week_start day d j s fine at m in
-            let few : j * per_day rule.freq + s / unit_seconds rule.freq < k = before_whole rule.freq k j (s / unit_seconds rule.freq) fine (omega (arith, ints, at, h, f)) u.1 in
-            let none : interval_holds rule Moments start (moment_at Moments d s) ≡ false = rw u.0 (none_before rule.interval some (unit_number rule.freq rule.week_start Moments (moment_at Moments day 0)) (unit_number rule.freq rule.week_start Moments start) _ (omega (arith, few, e))) in
+            let few : j * per_day rule.freq + s / unit_seconds rule.freq < k =
+            before_whole rule.freq k j (s / unit_seconds rule.freq) fine (omega (arith, ints, at, h, f)) u.1 in
+            let none : interval_holds rule Moments start (moment_at Moments d s) ≡ false =
+            rw u.0 (none_before rule.interval some (unit_number rule.freq rule.week_start Moments (moment_at Moments day 0))
+            (unit_number rule.freq rule.week_start Moments start) _ (omega (arith, few, e))) in
             stands_is d s m ∙ (rw (unfit (moment_at Moments d s) none) refl))
         | inr g ↦ (let n : nat_lt s 86_400 ≡ false = grind (arith, nat_tests) in rw n refl)
       ]
@@ -119,7 +129,9 @@ module _ (rule : Rule) (start : ℤ) where
 -- a walk that has come to a day without an occupied one
 pub walked_on : (tree : Tree) (from day next : ℤ) → HasNone tree from day → IsOnDay tree day None → HasNone tree (day +ℤ pos 1) next → HasNone tree from next
 walked_on tree from day next before none after d s l h =
-    by_lt_z {P = stands_at tree d s ≡ false} d day (λ m. before d s l m) (λ g. by_lt_z {P = stands_at tree d s ≡ false} day d (λ m. after d s (omega (arith, ints, m)) h) (λ n. (let e : d ≡ day = omega (arith, ints, g, n) in rw e (none s))))
+    by_lt_z {P = stands_at tree d s ≡ false} d day (λ m. before d s l m)
+    (λ g. by_lt_z {P = stands_at tree d s ≡ false} day d (λ m. after d s (omega (arith, ints, m)) h)
+    (λ n. (let e : d ≡ day = omega (arith, ints, g, n) in rw e (none s))))
 
 -- as many units are at least as many days
 pub few_days : (freq : Freq) (k m : ℕ) → is_whole_days freq ≡ false → m ≡ 86_400 / unit_seconds freq → k / m ≤ k

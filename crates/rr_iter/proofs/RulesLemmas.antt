@@ -50,7 +50,8 @@ module _ (kind : Kind) (start : ℤ) where
   last_part rule (x ∷ rules) = ap (part (members_of kind start x)) (last_part rule rules)
 
   -- the members of the first rules, and those of one more
-  module _ (rules : List Rule) (i : ℕ) (rule : Rule) (old t : Tree) (l : i < length rules) (e : rule ≡ get_or rules i rule) (f : old ≡ all_members (take i rules)) (g : t ≡ members_of kind start rule) where
+  module _ (rules : List Rule) (i : ℕ) (rule : Rule) (old t : Tree) (l : i < length rules) (e : rule ≡ get_or rules i rule)
+      (f : old ≡ all_members (take i rules)) (g : t ≡ members_of kind start rule) where
     pub joined_next : joined old t ≡ all_members (take (i + 1) rules)
     joined_next =
         let more = take_more rules i rule l ∙ ap (λ r. take i rules ++ r ∷ []) (sym e) in

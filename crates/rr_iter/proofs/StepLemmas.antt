@@ -24,10 +24,13 @@ early Moments start d s l h =
 
 -- nothing stands before the start's day
 pub before_start : (rule : Rule) (kind : Kind) (start d : ℤ) (s : ℕ) → d <ℤ day_part kind start → stands_at (chosen_of rule kind start) d s ≡ false
-before_start rule kind start d s h = elim (has_second kind s) as (λ b. has_second kind s ≡ b → (b && (is_chosen rule kind start (moment_at kind d s) && int_le start (moment_at kind d s))) ≡ false) [
-  | false ↦ λ e. refl
-  | true ↦ λ e. rw (early kind start d s (has_second_below kind s e) h) (elim (is_chosen rule kind start (moment_at kind d s)) as (λ b. (b && false) ≡ false) [ true ↦ refl | false ↦ refl ])
-] refl
+before_start rule kind start d s h =
+    elim (has_second kind s) as (λ b. has_second kind s ≡ b
+    → (b && (is_chosen rule kind start (moment_at kind d s) && int_le start (moment_at kind d s))) ≡ false) [
+      | false ↦ λ e. refl
+      | true ↦ λ e. rw (early kind start d s (has_second_below kind s e) h)
+          (elim (is_chosen rule kind start (moment_at kind d s)) as (λ b. (b && false) ≡ false) [ true ↦ refl | false ↦ refl ])
+    ] refl
 
 module _ (rule : Rule) (kind : Kind) (start position from to : ℤ) (within : (from ≡ position) ⊎ (from ≡ day_part kind start)) (late : position ≤ℤ from) where
   abbrev tree : Tree
@@ -49,4 +52,5 @@ module _ (rule : Rule) (kind : Kind) (start position from to : ℤ) (within : (f
 
 -- the later of two days is one of them
 pub later_is : (a b m : ℤ) → m ≡ int_max a b → (m ≡ a) ⊎ (m ≡ b)
-later_is a b m e = let P : Type 0 = (m ≡ a) ⊎ (m ≡ b) in by_lt_z {P = P} a b (λ l. inr (omega (arith, ints, clamps, l, e))) (λ g. inl (omega (arith, ints, clamps, g, e)))
+later_is a b m e = let P : Type 0 = (m ≡ a) ⊎ (m ≡ b) in
+    by_lt_z {P = P} a b (λ l. inr (omega (arith, ints, clamps, l, e))) (λ g. inl (omega (arith, ints, clamps, g, e)))

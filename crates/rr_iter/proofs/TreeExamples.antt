@@ -38,10 +38,12 @@ unfolding is_chosen is_candidate week_index weekday_of
 end = (refl, refl)
 
 -- dates are taken out
-left_out : (stands_in (without mondays Days (pos 19_730 ∷ [])) Days (pos 19_730) ≡ false) × (stands_in (without mondays Days (pos 19_730 ∷ [])) Days (pos 19_737) ≡ true)
+left_out : (stands_in (without mondays Days (pos 19_730 ∷ [])) Days (pos 19_730) ≡ false)
+    × (stands_in (without mondays Days (pos 19_730 ∷ [])) Days (pos 19_737) ≡ true)
 unfolding is_chosen is_candidate week_index weekday_of
 left_out = (refl, refl)
 
 -- 2024-01-01T09:00:00 stands at its second alone
-moment : (stands_at (dates_of Moments (pos 1_704_099_600 ∷ [])) (pos 19_723) 32_400 ≡ true) × (stands_at (dates_of Moments (pos 1_704_099_600 ∷ [])) (pos 19_723) 32_401 ≡ false)
+moment : (stands_at (dates_of Moments (pos 1_704_099_600 ∷ [])) (pos 19_723) 32_400 ≡ true)
+    × (stands_at (dates_of Moments (pos 1_704_099_600 ∷ [])) (pos 19_723) 32_401 ≡ false)
 moment = (refl, refl)

@@ -1,5 +1,6 @@
 -- Rules of whole days, walked unit by unit.
-use Rattle.std.proofs.Common.{◌≡◌, ℕ, zero, suc, ◌+◌, ◌<◌, ◌≤◌, true, false, ◌&&◌, List, ℤ, pos, negsuc, nat_abs, ◌+ℤ◌, ◌-ℤ◌, ◌≤ℤ◌, ◌<ℤ◌, Contains, refl, sym, ap, subst, ◌∙◌, inl, inr, arith}
+use Rattle.std.proofs.Common.{◌≡◌, ℕ, zero, suc, ◌+◌, ◌<◌, ◌≤◌, true, false, ◌&&◌, List, ℤ, pos, negsuc, nat_abs, ◌+ℤ◌, ◌-ℤ◌, ◌≤ℤ◌, ◌<ℤ◌, Contains, refl}
+use Rattle.std.proofs.Common.{sym, ap, subst, ◌∙◌, inl, inr, arith}
 use Rattle.std.specs.Prelude.{Option, Some, None, IsTrue, nat_lt, nat_le, int_le, int_lt}
 use Rattle.std.proofs.lemmas.Int.{ints, by_lt_z}
 use Rattle.std.proofs.lemmas.Bool.{cases_lt, false≢true}
@@ -76,7 +77,8 @@ module _ (freq : Freq) (w : ℕ) (coarse : is_whole_days freq ≡ true) where
 
   -- later days lie in later units, or in the same
   pub unit_mono : (d e : ℤ) → d ≤ℤ e → unit d ≤ℤ unit e
-  unit_mono d e l = let P : Type 0 = unit d ≤ℤ unit e in by_lt_z {P = P} (unit e) (unit d) (λ m. absurd (omega (arith, ints, later (unit d) e m, begun (unit d) d (omega (arith, ints))))) (λ g. g)
+  unit_mono d e l = let P : Type 0 = unit d ≤ℤ unit e in
+      by_lt_z {P = P} (unit e) (unit d) (λ m. absurd (omega (arith, ints, later (unit d) e m, begun (unit d) d (omega (arith, ints))))) (λ g. g)
 
   -- a day's unit is near, as the day is
   pub unit_bounds : (d : ℤ) → w ≤ 255 → IsDayWithin 1000 d → (negsuc 7_000_000_000_000 ≤ℤ unit d) × (unit d ≤ℤ pos 7_000_000_000_000)
@@ -91,17 +93,22 @@ module _ (freq : Freq) (w : ℕ) (coarse : is_whole_days freq ≡ true) where
       above : unit d ≤ℤ pos 7_000_000_000_000
       above = let P : Type 0 = unit d ≤ℤ pos 7_000_000_000_000 in by_lt_z {P = P} (pos 0) (unit d)
           (λ l. (let e : pos 0 +ℤ pos (nat_abs (unit d)) ≡ unit d = omega (arith, ints) in
-          let r : (begin (pos 0) +ℤ pos (nat_abs (unit d))) ≤ℤ begin (unit d) = subst (λ x. (begin (pos 0) +ℤ pos (nat_abs (unit d))) ≤ℤ begin x) e (begin_rises (pos 0) (nat_abs (unit d))) in omega (arith, ints, r, zero_near.0, near.1, s.0)))
+          let r : (begin (pos 0) +ℤ pos (nat_abs (unit d))) ≤ℤ begin (unit d) =
+          subst (λ x. (begin (pos 0) +ℤ pos (nat_abs (unit d))) ≤ℤ begin x) e (begin_rises (pos 0) (nat_abs (unit d))) in
+          omega (arith, ints, r, zero_near.0, near.1, s.0)))
           (λ g. omega (arith, ints))
 
       below : negsuc 7_000_000_000_000 ≤ℤ unit d
       below = let P : Type 0 = negsuc 7_000_000_000_000 ≤ℤ unit d in by_lt_z {P = P} (unit d) (pos 0)
           (λ l. (let n : ℕ = nat_abs (unit d +ℤ pos 1) in let e : (unit d +ℤ pos 1) +ℤ pos n ≡ pos 0 = omega (arith, ints) in
-          let r : (begin (unit d +ℤ pos 1) +ℤ pos n) ≤ℤ begin (pos 0) = subst (λ x. (begin (unit d +ℤ pos 1) +ℤ pos n) ≤ℤ begin x) e (begin_rises (unit d +ℤ pos 1) n) in omega (arith, ints, r, zero_near.1, near.0, s.1)))
+          let r : (begin (unit d +ℤ pos 1) +ℤ pos n) ≤ℤ begin (pos 0) =
+          subst (λ x. (begin (unit d +ℤ pos 1) +ℤ pos n) ≤ℤ begin x) e (begin_rises (unit d +ℤ pos 1) n) in
+          omega (arith, ints, r, zero_near.1, near.0, s.1)))
           (λ g. omega (arith, ints))
 
   -- a unit between those of two days begins and ends near
-  pub between_near : (u d e : ℤ) → unit d ≤ℤ u → u ≤ℤ unit e → IsDayWithin 0 d → IsDayWithin 0 e → IsDayWithin 1000 (begin u) × IsDayWithin 1000 (begin (u +ℤ pos 1))
+  pub between_near : (u d e : ℤ) → unit d ≤ℤ u → u ≤ℤ unit e → IsDayWithin 0 d → IsDayWithin 0 e
+      → IsDayWithin 1000 (begin u) × IsDayWithin 1000 (begin (u +ℤ pos 1))
   between_near u d e l h near_d near_e =
       let a = (unit_near freq w d coarse near_d).0 in
       let b = (unit_near freq w e coarse near_e).1 in
@@ -111,8 +118,10 @@ module _ (freq : Freq) (w : ℕ) (coarse : is_whole_days freq ≡ true) where
       ((omega (arith, ints, a.0, m), omega (arith, ints, b.1, n, o)), (omega (arith, ints, a.0, m, o), omega (arith, ints, b.1, n)))
 
 -- a unit of a day is near
-pub unit_near_is : (freq : Freq) (w : ℕ) (d u d' : ℤ) → is_whole_days freq ≡ true → w ≤ 255 → IsDayWithin 1000 d → d' ≡ d → u ≡ unit_number freq w Days d' → IsUnitNear u
-unit_near_is freq w d u d' coarse low near e f = let b = unit_bounds freq w coarse d low near in let g : u ≡ unit_number freq w Days d = f ∙ ap (unit_number freq w Days) e in (omega (arith, ints, g, b.0), omega (arith, ints, g, b.1))
+pub unit_near_is : (freq : Freq) (w : ℕ) (d u d' : ℤ) → is_whole_days freq ≡ true → w ≤ 255 → IsDayWithin 1000 d → d' ≡ d → u ≡ unit_number freq w Days d'
+    → IsUnitNear u
+unit_near_is freq w d u d' coarse low near e f = let b = unit_bounds freq w coarse d low near in let g : u ≡ unit_number freq w Days d =
+    f ∙ ap (unit_number freq w Days) e in (omega (arith, ints, g, b.0), omega (arith, ints, g, b.1))
 
 -- ---- what stands on a day
 
@@ -136,10 +145,12 @@ module _ (rule : Rule) (kind : Kind) (start : ℤ) (coarse : is_whole_days rule.
 
   -- a day that is no candidate is not occupied
   pub no_candidate : (d : ℤ) (s : ℕ) → day_holds rule (day_part kind start) d ≡ false → stands_at tree d s ≡ false
-  no_candidate d s e = elim (cases_lt s (seconds_of kind)) [ inl l ↦ stands_is d s l ∙ (rw (not_chosen d s l e) refl) | inr g ↦ (rw (has_second_not kind s g) refl) ]
+  no_candidate d s e =
+      elim (cases_lt s (seconds_of kind)) [ inl l ↦ stands_is d s l ∙ (rw (not_chosen d s l e) refl) | inr g ↦ (rw (has_second_not kind s g) refl) ]
 
   -- the chosen seconds of a day from the start on
-  pub seconds_of_day : (d : ℤ) (from : ℕ) (all times : List ℕ) → IsFirstSecond kind start d from → IsSetOf nat_lt all (λ s. (s < seconds_of kind) × IsTrue (is_chosen rule kind start (moment_at kind d s)))
+  pub seconds_of_day : (d : ℤ) (from : ℕ) (all times : List ℕ) → IsFirstSecond kind start d from
+      → IsSetOf nat_lt all (λ s. (s < seconds_of kind) × IsTrue (is_chosen rule kind start (moment_at kind d s)))
       → IsSetOf nat_lt times (λ s. Contains all s × (from ≤ s) × (s < 86_400)) → IsSetOf nat_lt times (λ s. IsTrue (stands_at tree d s))
   seconds_of_day d from all times first set cut =
       set_same nat_lt (λ s. Contains all s × (from ≤ s) × (s < 86_400)) (λ s. IsTrue (stands_at tree d s)) times cut (λ s. (to s, back s))
@@ -164,13 +175,16 @@ module _ (rule : Rule) (kind : Kind) (start : ℤ) (coarse : is_whole_days rule.
   -- the seconds and the days of an iterator's answer
   pub none_in : (days : List ℤ) (unit from : ℤ) → IsSetOf int_lt days (IsCandidateDay rule (day_part kind start) unit) → HasNoneOf tree days from
       → (d : ℤ) (s : ℕ) → from ≤ℤ d → unit_number rule.freq rule.week_start Days d ≡ unit → stands_at tree d s ≡ false
-  none_in days unit from set none d s l e = elim (day_holds rule (day_part kind start) d) as (λ b. day_holds rule (day_part kind start) d ≡ b → stands_at tree d s ≡ false) [
-    | true ↦ λ h. none d s ((set.exact d).1 (e, h)) l
-    | false ↦ λ h. no_candidate d s h
-  ] refl
+  none_in days unit from set none d s l e =
+      elim (day_holds rule (day_part kind start) d) as (λ b. day_holds rule (day_part kind start) d ≡ b → stands_at tree d s ≡ false) [
+        | true ↦ λ h. none d s ((set.exact d).1 (e, h)) l
+        | false ↦ λ h. no_candidate d s h
+      ] refl
 
   -- units that do not fit the interval hold nothing
-  pub none_unfit : (d : ℤ) (s : ℕ) → divides rule.interval (unit_number rule.freq rule.week_start Days d -ℤ unit_number rule.freq rule.week_start Days (day_part kind start)) ≡ false → stands_at tree d s ≡ false
+  pub none_unfit : (d : ℤ) (s : ℕ)
+      → divides rule.interval (unit_number rule.freq rule.week_start Days d -ℤ unit_number rule.freq rule.week_start Days (day_part kind start)) ≡ false
+      → stands_at tree d s ≡ false
   none_unfit d s e = no_candidate d s (rw e refl)
 
   -- ---- the walk
@@ -195,11 +209,13 @@ module _ (rule : Rule) (kind : Kind) (start : ℤ) (coarse : is_whole_days rule.
     })
 
     -- to the next
-    pub walked_more : (u v : ℤ) → v ≡ u +ℤ pos rule.interval → IsWalked rule tree (day_part kind start) from u → IsFirstIn tree rule u from None → IsWalked rule tree (day_part kind start) from v
+    pub walked_more : (u v : ℤ) → v ≡ u +ℤ pos rule.interval → IsWalked rule tree (day_part kind start) from u → IsFirstIn tree rule u from None
+        → IsWalked rule tree (day_part kind start) from v
     walked_more u v e w none = rw e (record {
       begun = omega (arith, ints, w.begun);
       fits = subst (λ x. divides rule.interval (x -ℤ own) ≡ true) next (next_fits rule.interval some u own 0 here);
-      none = λ d s l h. by_lt_z {P = stands_at tree d s ≡ false} (unit_of d) u (λ m. w.none d s l m) (λ g. by_lt_z {P = stands_at tree d s ≡ false} u (unit_of d)
+      none = λ d s l h. by_lt_z {P = stands_at tree d s ≡ false} (unit_of d) u (λ m. w.none d s l m)
+          (λ g. by_lt_z {P = stands_at tree d s ≡ false} u (unit_of d)
           (λ m. none_unfit d s (
           let j : ℕ = nat_abs (unit_of d -ℤ u) in
           let f : unit_of d ≡ u +ℤ pos j = omega (arith, ints, m) in
@@ -217,16 +233,19 @@ module _ (rule : Rule) (kind : Kind) (start : ℤ) (coarse : is_whole_days rule.
         here = subst (λ x. divides rule.interval (x -ℤ own) ≡ true) (sym same) w.fits
 
     -- at the first occupied day of a unit
-    pub walked_found : (u : ℤ) (found : DayTimes) → IsWalked rule tree (day_part kind start) from u → IsFirstIn tree rule u from (Some found) → IsFirstOccupied tree from found.day found.times
+    pub walked_found : (u : ℤ) (found : DayTimes) → IsWalked rule tree (day_part kind start) from u → IsFirstIn tree rule u from (Some found)
+        → IsFirstOccupied tree from found.day found.times
     walked_found u found w f = record {
       late = f.1;
-      before = λ d s l h. by_lt_z {P = stands_at tree d s ≡ false} (unit_of d) u (λ m. w.none d s l m) (λ g. f.4 d s (omega (arith, ints, g, unit_mono rule.freq rule.week_start coarse d found.day (omega (arith, ints, h)), f.0)) l h);
+      before = λ d s l h. by_lt_z {P = stands_at tree d s ≡ false} (unit_of d) u (λ m. w.none d s l m)
+          (λ g. f.4 d s (omega (arith, ints, g, unit_mono rule.freq rule.week_start coarse d found.day (omega (arith, ints, h)), f.0)) l h);
       some = f.2;
       all = f.3;
     }
 
     -- where it comes too late
-    pub walked_past : (u to : ℤ) (found : DayTimes) → IsWalked rule tree (day_part kind start) from u → IsFirstIn tree rule u from (Some found) → to <ℤ found.day → IsFirstUpTo tree from to None
+    pub walked_past : (u to : ℤ) (found : DayTimes) → IsWalked rule tree (day_part kind start) from u → IsFirstIn tree rule u from (Some found)
+        → to <ℤ found.day → IsFirstUpTo tree from to None
     walked_past u to found w f l d s g h = (walked_found u found w f).before d s g (omega (arith, ints, h, l))
 
     -- at the end
@@ -235,7 +254,8 @@ module _ (rule : Rule) (kind : Kind) (start : ℤ) (coarse : is_whole_days rule.
 
   -- ---- the days of a unit
 
-  pub first_of_unit : (days : List ℤ) (unit from : ℤ) (r : Option DayTimes) → IsSetOf int_lt days (IsCandidateDay rule (day_part kind start) unit) → IsFirstOf tree days from r → IsFirstIn tree rule unit from r
+  pub first_of_unit : (days : List ℤ) (unit from : ℤ) (r : Option DayTimes) → IsSetOf int_lt days (IsCandidateDay rule (day_part kind start) unit)
+      → IsFirstOf tree days from r → IsFirstIn tree rule unit from r
   first_of_unit days unit from None set none = λ d s e l. none_in days unit from set none d s l e
   first_of_unit days unit from (Some found) set f = (
     ((set.exact found.day).0 f.0).0,

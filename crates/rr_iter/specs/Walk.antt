@@ -40,9 +40,11 @@ IsFirstOf tree days from (Some found) =
 
 -- the first occupied day of a unit from a day on, None where there is none
 abbrev pub IsFirstIn : Tree → Rule → ℤ → ℤ → Option DayTimes → Type 0
-IsFirstIn tree rule unit from None = (day : ℤ) (second : ℕ) → unit_number rule.freq rule.week_start Days day ≡ unit → from ≤ℤ day → stands_at tree day second ≡ false
+IsFirstIn tree rule unit from None = (day : ℤ) (second : ℕ) → unit_number rule.freq rule.week_start Days day ≡ unit → from ≤ℤ day
+    → stands_at tree day second ≡ false
 IsFirstIn tree rule unit from (Some found) =
-    (unit_number rule.freq rule.week_start Days found.day ≡ unit) × (from ≤ℤ found.day) × (found.times ≡ [] → ⊥) × IsSetOf nat_lt found.times (λ s. IsTrue (stands_at tree found.day s))
+    (unit_number rule.freq rule.week_start Days found.day ≡ unit) × (from ≤ℤ found.day) × (found.times ≡ [] → ⊥)
+    × IsSetOf nat_lt found.times (λ s. IsTrue (stands_at tree found.day s))
     × ((day : ℤ) (second : ℕ) → unit_number rule.freq rule.week_start Days day ≡ unit → from ≤ℤ day → day <ℤ found.day → stands_at tree day second ≡ false)
 
 -- the units before this one, which fits the interval, hold no occupied day from the given one on

@@ -1,5 +1,6 @@
 -- Counts of seconds of days.
-use Rattle.std.proofs.Common.{◌≡◌, ℕ, zero, suc, ◌+◌, ◌-◌, ◌<◌, ◌≤◌, Bool, true, false, cond, List, length, get_or, Contains, All, ℤ, pos, nat_abs, ◌+ℤ◌, ◌-ℤ◌, ◌≤ℤ◌, ◌<ℤ◌, refl, sym, ap, ◌∙◌, inl, inr, arith}
+use Rattle.std.proofs.Common.{◌≡◌, ℕ, zero, suc, ◌+◌, ◌-◌, ◌<◌, ◌≤◌, Bool, true, false, cond, List, length, get_or, Contains, All, ℤ, pos, nat_abs, ◌+ℤ◌}
+use Rattle.std.proofs.Common.{◌-ℤ◌, ◌≤ℤ◌, ◌<ℤ◌, refl, sym, ap, ◌∙◌, inl, inr, arith}
 use Rattle.std.specs.Prelude.{IsTrue, nat_lt}
 use Rattle.std.proofs.lemmas.Int.{ints}
 use Rattle.std.proofs.lemmas.Bool.{cases_lt}
@@ -53,11 +54,13 @@ seconds_skip test n p l none =
 pub seconds_all_none : (test : ℕ → Bool) (p : ℕ) → ((s : ℕ) → test s ≡ false) → count_seconds test p ≡ 0
 seconds_all_none test p none = seconds_skip test 0 p (omega arith) (λ s a b. none s) ∙ count_seconds-zero test
 
-pub days_none : (test : ℤ → ℕ → Bool) (q : ℤ) (n m : ℕ) → ((d : ℤ) (s : ℕ) → (q +ℤ pos n) ≤ℤ d → d <ℤ (q +ℤ pos (n + m)) → test d s ≡ false) → count_days test q (n + m) ≡ count_days test q n
+pub days_none : (test : ℤ → ℕ → Bool) (q : ℤ) (n m : ℕ) → ((d : ℤ) (s : ℕ) → (q +ℤ pos n) ≤ℤ d → d <ℤ (q +ℤ pos (n + m)) → test d s ≡ false)
+    → count_days test q (n + m) ≡ count_days test q n
 days_none test q n zero none = ap (count_days test q) (let e : n + 0 ≡ n = omega arith in e)
 days_none test q n (suc m) none =
     let e : n + suc m ≡ suc (n + m) = omega arith in
-    let here : count_seconds (test (q +ℤ pos (n + m))) 86_400 ≡ 0 = seconds_all_none (test (q +ℤ pos (n + m))) 86_400 (λ s. none (q +ℤ pos (n + m)) s (omega (arith, ints)) (omega (arith, ints))) in
+    let here : count_seconds (test (q +ℤ pos (n + m))) 86_400 ≡ 0 =
+    seconds_all_none (test (q +ℤ pos (n + m))) 86_400 (λ s. none (q +ℤ pos (n + m)) s (omega (arith, ints)) (omega (arith, ints))) in
     let rest : count_days test q (n + m) ≡ count_days test q n = days_none test q n m (λ d s a b. none d s a (omega (arith, ints))) in
     rw e (omega (arith, count_days-suc test q (n + m), here, rest))
 
@@ -73,7 +76,8 @@ module _ (test : ℤ → ℕ → Bool) where
   before_none = before_as (first_day_of_year (pos 1)) 0 (omega (arith, ints)) ∙ count_days-zero test (first_day_of_year (pos 1))
 
   -- a stretch of days that passes nothing counts nothing
-  pub before_skip : (d e : ℤ) → first_day_of_year (pos 1) ≤ℤ d → d ≤ℤ e → ((x : ℤ) (s : ℕ) → d ≤ℤ x → x <ℤ e → test x s ≡ false) → count_before test e ≡ count_before test d
+  pub before_skip : (d e : ℤ) → first_day_of_year (pos 1) ≤ℤ d → d ≤ℤ e → ((x : ℤ) (s : ℕ) → d ≤ℤ x → x <ℤ e → test x s ≡ false)
+      → count_before test e ≡ count_before test d
   before_skip d e f l none =
       let q : ℤ = first_day_of_year (pos 1) in
       let n : ℕ = nat_abs (d -ℤ q) in
@@ -142,7 +146,9 @@ module _ (test : ℕ → Bool) (xs : List ℕ) (set : IsSetOf nat_lt xs (λ s. I
           let y : ℕ = get_or xs (suc k) 0 in
           let up : x < y = rising_at xs set.rises k (suc k) (omega arith) l in
           let here : test x ≡ true = (set.exact x).0 (Contains-get_or xs k 0 (omega arith)) in
-          let skip : count_seconds test y ≡ count_seconds test (suc x) = seconds_skip test (suc x) y (omega arith) (λ s a b. gap (suc k) s (λ j h m. omega (arith, a, rising_le xs set.rises j k (omega arith) (omega arith))) (λ h. b)) in
+          let skip : count_seconds test y ≡ count_seconds test (suc x) =
+          seconds_skip test (suc x) y (omega arith)
+          (λ s a b. gap (suc k) s (λ j h m. omega (arith, a, rising_le xs set.rises j k (omega arith) (omega arith))) (λ h. b)) in
           omega (arith, skip, count_seconds_yes test x here, below k (omega arith))
 
   -- all seconds are as many as the list has
@@ -154,5 +160,7 @@ module _ (test : ℕ → Bool) (xs : List ℕ) (set : IsSetOf nat_lt xs (λ s. I
       whole (suc k) e =
           let x : ℕ = get_or xs k 0 in
           let l : x < n = small k 0 (omega arith) in
-          let skip : count_seconds test n ≡ count_seconds test (x + 1) = seconds_skip test (x + 1) n (omega arith) (λ s a b. gap (suc k) s (λ j h m. omega (arith, a, rising_le xs set.rises j k (omega arith) (omega arith))) (λ h. absurd (omega arith))) in
+          let skip : count_seconds test n ≡ count_seconds test (x + 1) =
+          seconds_skip test (x + 1) n (omega arith)
+          (λ s a b. gap (suc k) s (λ j h m. omega (arith, a, rising_le xs set.rises j k (omega arith) (omega arith))) (λ h. absurd (omega arith))) in
           omega (arith, skip, seconds_to k (omega arith))

@@ -1,5 +1,6 @@
 -- An iterator over the first n occurrences.
-use Rattle.std.proofs.Common.{◌≡◌, ◌⊎◌, ℕ, suc, ◌+◌, ◌-◌, ◌<◌, ◌≤◌, true, false, ◌&&◌, List, [], length, get_or, take, Contains, ℤ, pos, negsuc, ◌+ℤ◌, ◌≤ℤ◌, ◌<ℤ◌, refl, sym, ap, ◌∙◌, inl, inr, arith}
+use Rattle.std.proofs.Common.{◌≡◌, ◌⊎◌, ℕ, suc, ◌+◌, ◌-◌, ◌<◌, ◌≤◌, true, false, ◌&&◌, List, [], length, get_or, take, Contains, ℤ, pos, negsuc, ◌+ℤ◌, ◌≤ℤ◌}
+use Rattle.std.proofs.Common.{◌<ℤ◌, refl, sym, ap, ◌∙◌, inl, inr, arith}
 use Rattle.std.specs.Prelude.{IsTrue, nat_le}
 use Rattle.std.proofs.lemmas.Int.{ints}
 use Rattle.std.proofs.lemmas.Bool.{cases_lt, false≢true}
@@ -36,14 +37,17 @@ counting_begins tree own count u = record {
 module _ (tree : Tree) (own position : ℤ) (count left : ℕ) (k : IsCounting tree own position count left) where
   -- once all were given none is left
   pub none_spent : (q : ℤ) → left ≡ 0 → HasNone (first_n tree count) position q
-  none_spent q e day second from to = elim (stands_at tree day second) as (λ b. stands_at tree day second ≡ b → (b && nat_le (count_to (λ d s. stands_at tree d s) day second) count) ≡ false) [
-    | false ↦ λ n. refl
-    | true ↦ λ y. (
-        let grown = before_grows (λ d s. stands_at tree d s) position day k.begun from in
-        let one : count_seconds (stands_at tree day) (second + 1) ≡ count_seconds (stands_at tree day) second + 1 = (let f : second + 1 ≡ suc second = omega arith in rw f (count_seconds_yes (stands_at tree day) second y)) in
-        let over : count < count_to (λ d s. stands_at tree d s) day second = omega (arith, k.spent e, grown, one, to_is (λ d s. stands_at tree d s) day second) in
-        grind (arith, nat_tests))
-  ] refl
+  none_spent q e day second from to =
+      elim (stands_at tree day second) as (λ b. stands_at tree day second ≡ b → (b && nat_le (count_to (λ d s. stands_at tree d s) day second) count) ≡ false) [
+        | false ↦ λ n. refl
+        | true ↦ λ y. (
+            let grown = before_grows (λ d s. stands_at tree d s) position day k.begun from in
+            let one : count_seconds (stands_at tree day) (second + 1) ≡ count_seconds (stands_at tree day) second + 1 =
+            (let f : second + 1 ≡ suc second = omega arith in rw f (count_seconds_yes (stands_at tree day) second y)) in
+            let over : count < count_to (λ d s. stands_at tree d s) day second =
+            omega (arith, k.spent e, grown, one, to_is (λ d s. stands_at tree d s) day second) in
+            grind (arith, nat_tests))
+      ] refl
 
   pub spent_moves : (q : ℤ) → left ≡ 0 → position ≤ℤ q → IsCounting tree own q count left
   spent_moves q e l = record {
@@ -74,7 +78,13 @@ module _ (tree : Tree) (own position : ℤ) (count left : ℕ) (k : IsCounting t
 
     -- the second at a place of the day is the next but so many
     number_at : (i : ℕ) → i < length times → count_to (λ d s. stands_at tree d s) day (get_or times i 0) + left ≡ count + (i + 1)
-    number_at i l = omega (arith, to_is (λ d s. stands_at tree d s) day (get_or times i 0), seconds_to (stands_at tree day) times f.all i l, skipped, k.counted h)
+    number_at i l = omega (
+      arith,
+      to_is (λ d s. stands_at tree d s) day (get_or times i 0),
+      seconds_to (stands_at tree day) times f.all i l,
+      skipped,
+      k.counted h,
+    )
 
     -- as many seconds are given as are left, or all
     kept : (left < length times → length (take left times) ≡ left) × (length times ≤ left → length (take left times) ≡ length times)
@@ -82,7 +92,12 @@ module _ (tree : Tree) (own position : ℤ) (count left : ℕ) (k : IsCounting t
 
     -- the day counts as many as it has
     whole : count_before (λ d s. stands_at tree d s) (day +ℤ pos 1) ≡ count_before (λ d s. stands_at tree d s) position + length times
-    whole = omega (arith, before_next (λ d s. stands_at tree d s) day (omega (arith, ints, k.begun, late)), skipped, seconds_whole (stands_at tree day) times f.all 86_400 seconds.below_a_day)
+    whole = omega (
+      arith,
+      before_next (λ d s. stands_at tree d s) day (omega (arith, ints, k.begun, late)),
+      skipped,
+      seconds_whole (stands_at tree day) times f.all 86_400 seconds.below_a_day,
+    )
 
     -- a day without seconds is not given
     kept_some : take left times ≡ [] → times ≡ []
@@ -95,7 +110,11 @@ module _ (tree : Tree) (own position : ℤ) (count left : ℕ) (k : IsCounting t
     -- a second that is kept
     given : (i s : ℕ) → i < length (take left times) → get_or (take left times) i s ≡ s → IsTrue (stands_at (first_n tree count) day s)
     given i s l e =
-        elim (cases_lt left (length times)) [ inl m ↦ there (omega (arith, kept.0 m)) (omega (arith, kept.0 m)) | inr g ↦ there (omega (arith, kept.1 g)) (omega (arith, kept.1 g)) ]
+        elim (cases_lt left (length times)) [
+          | inl m ↦ there (omega (arith, kept.0 m)) (omega (arith, kept.0 m))
+          | inr g ↦
+              there (omega (arith, kept.1 g)) (omega (arith, kept.1 g))
+        ]
       where
         there : i < left → i < length times → IsTrue (stands_at (first_n tree count) day s)
         there m n =
@@ -106,16 +125,18 @@ module _ (tree : Tree) (own position : ℤ) (count left : ℕ) (k : IsCounting t
 
     -- a second that stands among the first is kept
     taken : (s : ℕ) → IsTrue (stands_at (first_n tree count) day s) → Contains (take left times) s
-    taken s t = elim (stands_at tree day s) as (λ b. stands_at tree day s ≡ b → (b && nat_le (count_to (λ d s. stands_at tree d s) day s) count) ≡ true → Contains (take left times) s) [
-      | false ↦ λ e u. absurd (false≢true u)
-      | true ↦ λ e u. (
-          let c = (f.all.exact s).1 e in
-          let at : get_or times c.0 0 ≡ s = get_or_default times c.0 0 s c.1 ∙ c.2 in
-          let within : count_to (λ d s. stands_at tree d s) day s ≤ count = grind (arith, nat_tests) in
-          let m : c.0 < left = omega (arith, number_at c.0 c.1, ap (count_to (λ d s. stands_at tree d s) day) at) in
-          let n : c.0 < length (take left times) = elim (cases_lt left (length times)) [ inl l ↦ omega (arith, kept.0 l) | inr g ↦ omega (arith, kept.1 g, c.1) ] in
-          (c.0, n, get_or-take left times c.0 s m ∙ c.2))
-    ] refl t
+    taken s t = elim (stands_at tree day s) as (λ b. stands_at tree day s ≡ b → (b && nat_le (count_to (λ d s. stands_at tree d s) day s) count) ≡ true
+        → Contains (take left times) s) [
+          | false ↦ λ e u. absurd (false≢true u)
+          | true ↦ λ e u. (
+              let c = (f.all.exact s).1 e in
+              let at : get_or times c.0 0 ≡ s = get_or_default times c.0 0 s c.1 ∙ c.2 in
+              let within : count_to (λ d s. stands_at tree d s) day s ≤ count = grind (arith, nat_tests) in
+              let m : c.0 < left = omega (arith, number_at c.0 c.1, ap (count_to (λ d s. stands_at tree d s) day) at) in
+              let n : c.0 < length (take left times) =
+              elim (cases_lt left (length times)) [ inl l ↦ omega (arith, kept.0 l) | inr g ↦ omega (arith, kept.1 g, c.1) ] in
+              (c.0, n, get_or-take left times c.0 s m ∙ c.2))
+        ] refl t
 
     -- the day's first seconds, as many as are left
     pub first_given : IsFirstOccupied (first_n tree count) position day (take left times)
@@ -131,7 +152,11 @@ module _ (tree : Tree) (own position : ℤ) (count left : ℕ) (k : IsCounting t
       begun = omega (arith, ints, k.begun, late);
       together = λ x. refl;
       counted = λ x. elim (cases_lt left (length times)) [ inl l ↦ absurd (omega (arith, kept.0 l)) | inr g ↦ omega (arith, kept.1 g, whole, k.counted h, x) ];
-      spent = λ x. elim (cases_lt left (length times)) [ inl l ↦ omega (arith, kept.0 l, whole, k.counted h) | inr g ↦ omega (arith, kept.1 g, whole, k.counted h, x) ];
+      spent = λ x. elim (cases_lt left (length times)) [
+        | inl l ↦ omega (arith, kept.0 l, whole, k.counted h)
+        | inr g ↦
+            omega (arith, kept.1 g, whole, k.counted h, x)
+      ];
     }
 
 -- a call where the part gave nothing
@@ -140,12 +165,18 @@ pub first_none : (tree tree' : Tree) (own own' position to to' q : ℤ) (count l
     → IsCounting tree' own' q count left × HasNone (first_n tree count) position q
 first_none tree tree' own own' position to to' q count left k h n e f kept past one =
     let t : own ≡ position = k.together h in
-    let same : own' ≡ q = elim one [ inl a ↦ elim n.3 [ inl b ↦ omega (arith, ints, a, b, f) | inr b ↦ omega (arith, ints, a, b, f, t, n.2, past) ] | inr a ↦ elim n.3 [ inl b ↦ omega (arith, ints, a, b, f, t, n.1, past) | inr b ↦ omega (arith, ints, a, b, t) ] ] in
+    let same : own' ≡ q =
+    elim one [
+      | inl a ↦ elim n.3 [ inl b ↦ omega (arith, ints, a, b, f) | inr b ↦ omega (arith, ints, a, b, f, t, n.2, past) ]
+      | inr a ↦
+          elim n.3 [ inl b ↦ omega (arith, ints, a, b, f, t, n.1, past) | inr b ↦ omega (arith, ints, a, b, t) ]
+    ] in
     let none : HasNone tree position q = rw (t, same) at n.0 in
     (rw (e, same) (nothing_moves tree own position count left k q h none kept), none_of_first tree own position count left k q none)
 
 -- a call where the part gave a day
-pub first_some : (tree tree' : Tree) (own own' position to to' q : ℤ) (found : DayTimes) (kept : List ℕ) (count left left' : ℕ) → IsCounting tree own position count left → 1 ≤ left
+pub first_some : (tree tree' : Tree) (own own' position to to' q : ℤ) (found : DayTimes) (kept : List ℕ) (count left left' : ℕ)
+    → IsCounting tree own position count left → 1 ≤ left
     → IsNext tree own to' (Ok (Some found)) own' → tree' ≡ tree → to' ≡ to → kept ≡ take left found.times → q ≡ found.day +ℤ pos 1 → left' ≡ left - length kept
     → IsCounting tree' own' q count left' × IsFirstOccupied (first_n tree count) position found.day kept × (found.day ≤ℤ to)
 first_some tree tree' own own' position to to' q found kept count left left' k h n e f g i j =

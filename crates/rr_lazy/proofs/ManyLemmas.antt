@@ -1,5 +1,6 @@
 -- Several parts, and what each gave.
-use Rattle.std.proofs.Common.{◌≡◌, ◌≢◌, ◌⊎◌, ◌↔◌, ◌||◌, ℕ, zero, suc, ◌+◌, ◌<◌, Bool, true, false, List, [], ◌∷◌, ◌++◌, length, get_or, All, Contains, Option, Some, None, ℤ, pos, ◌+ℤ◌, ◌≤ℤ◌, ◌<ℤ◌, refl, sym, ap, subst, ◌∙◌, inl, inr, arith}
+use Rattle.std.proofs.Common.{◌≡◌, ◌≢◌, ◌⊎◌, ◌↔◌, ◌||◌, ℕ, zero, suc, ◌+◌, ◌<◌, Bool, true, false, List, [], ◌∷◌, ◌++◌, length, get_or, All, Contains}
+use Rattle.std.proofs.Common.{Option, Some, None, ℤ, pos, ◌+ℤ◌, ◌≤ℤ◌, ◌<ℤ◌, refl, sym, ap, subst, ◌∙◌, inl, inr, arith}
 use Rattle.std.specs.Prelude.{IsTrue, nat_lt, slice_set, if◌then◌else◌}
 use Rattle.std.specs.Option.{ForSome, ForNone}
 use Rattle.std.proofs.lemmas.Int.{ints}
@@ -16,7 +17,8 @@ use Rattle.rr_lazy.proofs.AheadLemmas.{none_below, on_day, has_some, side_none, 
 
 -- ---- one part is written
 
-pub forest_set : {X : Type 0} (tree : X → Tree) (xs : List X) (i : ℕ) (y : X) → i < length xs → ((d : X) → tree y ≡ tree (get_or xs i d)) → forest_of tree (slice_set xs i y) ≡ forest_of tree xs
+pub forest_set : {X : Type 0} (tree : X → Tree) (xs : List X) (i : ℕ) (y : X) → i < length xs → ((d : X) → tree y ≡ tree (get_or xs i d))
+    → forest_of tree (slice_set xs i y) ≡ forest_of tree xs
 forest_set tree [] i y l e = absurd (omega arith)
 forest_set tree (x ∷ xs) zero y l e = ap (λ t. part t (forest_of tree xs)) (e x)
 forest_set tree (x ∷ xs) (suc i) y l e = ap (part (tree x)) (forest_set tree xs i y (omega arith) e)
@@ -28,7 +30,8 @@ all_set P (x ∷ xs) zero y all p (suc k) d l = all (suc k) d l
 all_set P (x ∷ xs) (suc i) y all p zero d l = all 0 d (omega arith)
 all_set P (x ∷ xs) (suc i) y all p (suc k) d l = all_set P xs i y (λ k d l. all (suc k) d (omega arith)) p k d (omega arith)
 
-pub first_set : {X : Type 0} (P : X → Type 0) (xs : List X) (i : ℕ) (y : X) → ((k : ℕ) (d : X) → k < i → k < length xs → P (get_or xs k d)) → P y → (k : ℕ) (d : X) → k < i + 1 → k < length (slice_set xs i y) → P (get_or (slice_set xs i y) k d)
+pub first_set : {X : Type 0} (P : X → Type 0) (xs : List X) (i : ℕ) (y : X) → ((k : ℕ) (d : X) → k < i → k < length xs → P (get_or xs k d)) → P y
+    → (k : ℕ) (d : X) → k < i + 1 → k < length (slice_set xs i y) → P (get_or (slice_set xs i y) k d)
 first_set P [] i y all p k d m l = absurd (omega arith)
 first_set P (x ∷ xs) zero y all p zero d m l = p
 first_set P (x ∷ xs) zero y all p (suc k) d m l = absurd (omega arith)
@@ -54,29 +57,40 @@ length_set (x ∷ xs) (suc i) y = ap suc (length_set xs i y)
 
 -- ---- what stands in one of several trees
 
-pub some_false : {X : Type 0} (tree : X → Tree) (xs : List X) (d : ℤ) (s : ℕ) → All (λ x. stands_at (tree x) d s ≡ false) xs → some_stands_at (forest_of tree xs) d s ≡ false
+pub some_false : {X : Type 0} (tree : X → Tree) (xs : List X) (d : ℤ) (s : ℕ) → All (λ x. stands_at (tree x) d s ≡ false) xs
+    → some_stands_at (forest_of tree xs) d s ≡ false
 some_false tree [] d s all = refl
 some_false tree (x ∷ xs) d s all = rw (all 0 x (omega arith), some_false tree xs d s (λ k e l. all (suc k) e (omega arith))) refl
 
-pub some_true : {X : Type 0} (tree : X → Tree) (xs : List X) (d : ℤ) (s k : ℕ) → k < length xs → ((e : X) → stands_at (tree (get_or xs k e)) d s ≡ true) → some_stands_at (forest_of tree xs) d s ≡ true
+pub some_true : {X : Type 0} (tree : X → Tree) (xs : List X) (d : ℤ) (s k : ℕ) → k < length xs → ((e : X) → stands_at (tree (get_or xs k e)) d s ≡ true)
+    → some_stands_at (forest_of tree xs) d s ≡ true
 some_true tree [] d s k l t = absurd (omega arith)
 some_true tree (x ∷ xs) d s zero l t = rw (t x) refl
-some_true tree (x ∷ xs) d s (suc k) l t = rw (some_true tree xs d s k (omega arith) t) (elim (stands_at (tree x) d s) as (λ b. (b || true) ≡ true) [ true ↦ refl | false ↦ refl ])
+some_true tree (x ∷ xs) d s (suc k) l t =
+    rw (some_true tree xs d s k (omega arith) t) (elim (stands_at (tree x) d s) as (λ b. (b || true) ≡ true) [ true ↦ refl | false ↦ refl ])
 
-pub some_which : {X : Type 0} (tree : X → Tree) (xs : List X) (d : ℤ) (s : ℕ) → some_stands_at (forest_of tree xs) d s ≡ true → (k : ℕ) × (k < length xs) × ((e : X) → stands_at (tree (get_or xs k e)) d s ≡ true)
+pub some_which : {X : Type 0} (tree : X → Tree) (xs : List X) (d : ℤ) (s : ℕ) → some_stands_at (forest_of tree xs) d s ≡ true
+    → (k : ℕ) × (k < length xs) × ((e : X) → stands_at (tree (get_or xs k e)) d s ≡ true)
 some_which tree [] d s h = absurd (false≢true h)
-some_which tree (x ∷ xs) d s h = elim (stands_at (tree x) d s) as (λ b. stands_at (tree x) d s ≡ b → (b || some_stands_at (forest_of tree xs) d s) ≡ true → (k : ℕ) × (k < length (x ∷ xs)) × ((e : _) → stands_at (tree (get_or (x ∷ xs) k e)) d s ≡ true)) [
-  | true ↦ λ e u. (0, omega arith, λ f. e)
-  | false ↦ λ e u. (let r = some_which tree xs d s u in (suc r.0, omega (arith, r.1), r.2))
-] refl h
+some_which tree (x ∷ xs) d s h =
+    elim (stands_at (tree x) d s) as (λ b. stands_at (tree x) d s ≡ b → (b || some_stands_at (forest_of tree xs) d s) ≡ true
+    → (k : ℕ) × (k < length (x ∷ xs)) × ((e : _) → stands_at (tree (get_or (x ∷ xs) k e)) d s ≡ true)) [
+      | true ↦ λ e u. (0, omega arith, λ f. e)
+      | false ↦ λ e u. (let r = some_which tree xs d s u in (suc r.0, omega (arith, r.1), r.2))
+    ] refl h
 
 -- ---- a call
 
-module _ {X : Type 0} (tree : X → Tree) (own : X → ℤ) (ahead : X → Option DayTimes) (xs : List X) (from : ℤ) (known : All (λ x. IsAhead (tree x) (own x) from (ahead x)) xs) where
-  pub many_none : (q : ℤ) → All (λ x. ForSome (ahead x) (λ f. q ≤ℤ f.day)) xs → All (λ x. ForNone (ahead x) (q ≤ℤ own x)) xs → HasNone (many (forest_of tree xs)) from q
-  many_none q some none d s l h = some_false tree xs d s (λ k e m. none_below (tree (get_or xs k e)) (own (get_or xs k e)) from q (ahead (get_or xs k e)) (known k e m) (some k e m) (none k e m) d s l h)
+module _ {X : Type 0} (tree : X → Tree) (own : X → ℤ) (ahead : X
+    → Option DayTimes) (xs : List X) (from : ℤ) (known : All (λ x. IsAhead (tree x) (own x) from (ahead x)) xs) where
+  pub many_none : (q : ℤ) → All (λ x. ForSome (ahead x) (λ f. q ≤ℤ f.day)) xs → All (λ x. ForNone (ahead x) (q ≤ℤ own x)) xs
+      → HasNone (many (forest_of tree xs)) from q
+  many_none q some none d s l h =
+      some_false tree xs d s
+      (λ k e m. none_below (tree (get_or xs k e)) (own (get_or xs k e)) from q (ahead (get_or xs k e)) (known k e m) (some k e m) (none k e m) d s l h)
 
-  module _ (d : ℤ) (gave : GaveDaySome ahead xs d) (some : All (λ x. ForSome (ahead x) (λ f. d ≤ℤ f.day)) xs) (none : All (λ x. ForNone (ahead x) (d <ℤ own x)) xs) (e : X) where
+  module _ (d : ℤ) (gave : GaveDaySome ahead xs d) (some : All (λ x. ForSome (ahead x) (λ f. d ≤ℤ f.day)) xs)
+      (none : All (λ x. ForNone (ahead x) (d <ℤ own x)) xs) (e : X) where
     pub many_late : from ≤ℤ d
     many_late = late_of (ahead (get_or xs gave.0 e)) (known gave.0 e gave.1) (gave.2 e)
       where
@@ -91,8 +105,10 @@ module _ {X : Type 0} (tree : X → Tree) (own : X → ℤ) (ahead : X → Optio
     many_given times set = record {
       late = many_late;
       before = many_none d some (λ k x l h. omega (arith, ints, none k x l h));
-      some = λ z. (let m = has_some (tree (get_or xs gave.0 e)) (own (get_or xs gave.0 e)) from d (ahead (get_or xs gave.0 e)) (known gave.0 e gave.1) (gave.2 e) in
-          let t : some_stands_at (forest_of tree xs) d m.0 ≡ true = some_true tree xs d m.0 gave.0 gave.1 (λ x. same_place gave.0 gave.1 x m.0 ((on gave.0 e gave.1 m.0).1 m.1)) in
+      some = λ z. (let m =
+          has_some (tree (get_or xs gave.0 e)) (own (get_or xs gave.0 e)) from d (ahead (get_or xs gave.0 e)) (known gave.0 e gave.1) (gave.2 e) in
+          let t : some_stands_at (forest_of tree xs) d m.0 ≡ true =
+          some_true tree xs d m.0 gave.0 gave.1 (λ x. same_place gave.0 gave.1 x m.0 ((on gave.0 e gave.1 m.0).1 m.1)) in
           Contains-none m.0 (subst (λ x. Contains x m.0) z ((set.exact m.0).1 (has m.0 t))));
       all = set_same nat_lt (HasOnSome ahead xs (length xs) d) (λ s. IsTrue (stands_at (many (forest_of tree xs)) d s)) times set (λ s. (
         λ h. some_true tree xs d s h.0 h.2 (λ x. (on h.0 x h.2 s).1 (h.3 x)),
@@ -112,7 +128,8 @@ module _ {X : Type 0} (ahead : X → Option DayTimes) (xs : List X) (d : ℤ) wh
   pub none_yet_on : (s : ℕ) → HasOnSome ahead xs 0 d s → ⊥
   none_yet_on s h = absurd (omega (arith, h.1))
 
-  pub one_more_on : (place s : ℕ) (x : X) → place < length xs → x ≡ get_or xs place x → (HasOnSome ahead xs place d s ⊎ HasOn (ahead x) d s) ↔ HasOnSome ahead xs (place + 1) d s
+  pub one_more_on : (place s : ℕ) (x : X) → place < length xs → x ≡ get_or xs place x
+      → (HasOnSome ahead xs place d s ⊎ HasOn (ahead x) d s) ↔ HasOnSome ahead xs (place + 1) d s
   one_more_on place s x l e = (
     λ h. elim h [
       | inl y ↦ (y.0, omega (arith, y.1), y.2, y.3)
@@ -124,53 +141,68 @@ module _ {X : Type 0} (ahead : X → Option DayTimes) (xs : List X) (d : ℤ) wh
       which : (k : ℕ) → k < place + 1 → k < length xs → ((z : X) → HasOn (ahead (get_or xs k z)) d s) → HasOnSome ahead xs place d s ⊎ HasOn (ahead x) d s
       which k m n h = elim (cases_lt k place) [
         | inl p ↦ inl (k, p, n, h)
-        | inr p ↦ (let q : place ≡ k = omega arith in inr (subst (λ w. HasOn (ahead w) d s) (sym e) (subst (λ j. HasOn (ahead (get_or xs j x)) d s) (sym q) (h x))))
+        | inr p ↦ (let q : place ≡ k = omega arith in
+            inr (subst (λ w. HasOn (ahead w) d s) (sym e) (subst (λ j. HasOn (ahead (get_or xs j x)) d s) (sym q) (h x))))
       ]
 
 -- ---- the least day
 
 module _ {X : Type 0} (ahead : X → Option DayTimes) (xs : List X) (place : ℕ) (first next : ℤ) where
-  pub least_more : (x : X) → place < length xs → x ≡ get_or xs place x → ((k : ℕ) (d : X) → k < place → k < length xs → ForSome (ahead (get_or xs k d)) (λ f. first ≤ℤ f.day)) → next ≤ℤ first → ForSome (ahead x) (λ f. next ≤ℤ f.day)
+  pub least_more : (x : X) → place < length xs → x ≡ get_or xs place x
+      → ((k : ℕ) (d : X) → k < place → k < length xs → ForSome (ahead (get_or xs k d)) (λ f. first ≤ℤ f.day)) → next ≤ℤ first
+      → ForSome (ahead x) (λ f. next ≤ℤ f.day)
       → (k : ℕ) (d : X) → k < place + 1 → k < length xs → ForSome (ahead (get_or xs k d)) (λ f. next ≤ℤ f.day)
   least_more x l e all bound here k d m n = elim (cases_lt k place) [
     | inl p ↦ (λ f h. omega (arith, ints, all k d p n f h, bound))
-    | inr p ↦ (let q : place ≡ k = omega arith in subst (λ j. ForSome (ahead (get_or xs j d)) (λ f. next ≤ℤ f.day)) q (subst (λ y. ForSome (ahead y) (λ f. next ≤ℤ f.day)) (e ∙ get_or_default xs place x d l) here))
+    | inr p ↦ (let q : place ≡ k = omega arith in
+        subst (λ j. ForSome (ahead (get_or xs j d)) (λ f. next ≤ℤ f.day)) q
+        (subst (λ y. ForSome (ahead y) (λ f. next ≤ℤ f.day)) (e ∙ get_or_default xs place x d l) here))
   ]
 
-  pub gave_more : (from : ℤ) (x : X) → place < length xs → x ≡ get_or xs place x → (first ≡ from) ⊎ GaveDaySome ahead xs first → (next ≡ first) ⊎ GaveDay (ahead x) next → (next ≡ from) ⊎ GaveDaySome ahead xs next
+  pub gave_more : (from : ℤ) (x : X) → place < length xs → x ≡ get_or xs place x → (first ≡ from) ⊎ GaveDaySome ahead xs first
+      → (next ≡ first) ⊎ GaveDay (ahead x) next → (next ≡ from) ⊎ GaveDaySome ahead xs next
   gave_more from x l e (inl a) (inl b) = inl (b ∙ a)
   gave_more from x l e (inr a) (inl b) = inr (subst (λ y. GaveDaySome ahead xs y) (sym b) a)
   gave_more from x l e a (inr b) = inr (place, l, λ d. subst (λ y. GaveDay (ahead y) next) (e ∙ get_or_default xs place x d l) b)
 
 -- ---- the parts after a call
 
-pub forest_same : {X : Type 0} (tree : X → Tree) (xs ys : List X) → length ys ≡ length xs → ((k : ℕ) (d : X) → k < length xs → tree (get_or ys k d) ≡ tree (get_or xs k d)) → forest_of tree ys ≡ forest_of tree xs
+pub forest_same : {X : Type 0} (tree : X → Tree) (xs ys : List X) → length ys ≡ length xs
+    → ((k : ℕ) (d : X) → k < length xs → tree (get_or ys k d) ≡ tree (get_or xs k d)) → forest_of tree ys ≡ forest_of tree xs
 forest_same tree [] [] e h = refl
 forest_same tree [] (y ∷ ys) e h = absurd (omega (arith, e))
 forest_same tree (x ∷ xs) [] e h = absurd (omega (arith, e))
 forest_same tree (x ∷ xs) (y ∷ ys) e h =
-    ap (λ t. part t (forest_of tree ys)) (h 0 x (omega arith)) ∙ ap (part (tree x)) (forest_same tree xs ys (omega (arith, e)) (λ k d l. h (suc k) d (omega arith)))
+    ap (λ t. part t (forest_of tree ys)) (h 0 x (omega arith))
+    ∙ ap (part (tree x)) (forest_same tree xs ys (omega (arith, e)) (λ k d l. h (suc k) d (omega arith)))
 
-pub all_none : {X : Type 0} (tree : X → Tree) (own : X → ℤ) (ahead : X → Option DayTimes) (xs : List X) (from to q : ℤ) → All (λ x. IsAhead (tree x) (own x) from (ahead x)) xs → from ≤ℤ q → (q ≡ to +ℤ pos 1) ⊎ (q ≡ from)
-    → All (λ x. ForSome (ahead x) (λ f. to <ℤ f.day)) xs → All (λ x. ForNone (ahead x) (to <ℤ own x)) xs → All (λ x. IsAhead (tree x) (own x) q (ahead x)) xs × HasNone (many (forest_of tree xs)) from q
+pub all_none : {X : Type 0} (tree : X → Tree) (own : X → ℤ) (ahead : X → Option DayTimes) (xs : List X) (from to q : ℤ)
+    → All (λ x. IsAhead (tree x) (own x) from (ahead x)) xs → from ≤ℤ q → (q ≡ to +ℤ pos 1) ⊎ (q ≡ from)
+    → All (λ x. ForSome (ahead x) (λ f. to <ℤ f.day)) xs → All (λ x. ForNone (ahead x) (to <ℤ own x)) xs
+    → All (λ x. IsAhead (tree x) (own x) q (ahead x)) xs × HasNone (many (forest_of tree xs)) from q
 all_none tree own ahead xs from to q known l one some none = (
   (λ k d m. (side_none (tree (get_or xs k d)) (own (get_or xs k d)) from to q (ahead (get_or xs k d)) (known k d m) l one (some k d m) (none k d m)).0),
-  (λ d s a b. some_false tree xs d s (λ k e m. (side_none (tree (get_or xs k e)) (own (get_or xs k e)) from to q (ahead (get_or xs k e)) (known k e m) l one (some k e m) (none k e m)).1 d s a b)),
+  (λ d s a b. some_false tree xs d s
+      (λ k e m. (side_none (tree (get_or xs k e)) (own (get_or xs k e)) from to q (ahead (get_or xs k e)) (known k e m) l one (some k e m)
+      (none k e m)).1 d s a b)),
 )
 
 module _ {X L : Type 0} (tree : L → Tree) (own : L → ℤ) (lazy : X → L) (ahead : X → Option DayTimes) (old new : List X) (from d q : ℤ) where
-  pub all_left : All (λ x. IsAhead (tree (lazy x)) (own (lazy x)) from (ahead x)) old → from ≤ℤ d → All (λ x. ForSome (ahead x) (λ f. d ≤ℤ f.day)) old → All (λ x. ForNone (ahead x) (d <ℤ own (lazy x))) old
+  pub all_left : All (λ x. IsAhead (tree (lazy x)) (own (lazy x)) from (ahead x)) old → from ≤ℤ d → All (λ x. ForSome (ahead x) (λ f. d ≤ℤ f.day)) old
+      → All (λ x. ForNone (ahead x) (d <ℤ own (lazy x))) old
       → IsLeftBy ahead lazy old d (length old) new → q ≡ d +ℤ pos 1 → All (λ x. IsAhead (tree (lazy x)) (own (lazy x)) q (ahead x)) new
   all_left known l some none left e k z m =
       let n : k < length old = omega (arith, left.many, m) in
       subst (λ y. IsAhead (tree y) (own y) q (ahead (get_or new k z))) (sym (left.lazies k z n))
-      (side_given (tree (lazy (get_or old k z))) (own (lazy (get_or old k z))) from d q (ahead (get_or old k z)) (ahead (get_or new k z)) (known k z n) l (some k z n) (none k z n) (left.left k z n n) e)
+      (side_given (tree (lazy (get_or old k z))) (own (lazy (get_or old k z))) from d q (ahead (get_or old k z)) (ahead (get_or new k z)) (known k z n) l
+      (some k z n) (none k z n) (left.left k z n n) e)
 
   pub forest_left : IsLeftBy ahead lazy old d (length old) new → forest_of (λ x. tree (lazy x)) new ≡ forest_of (λ x. tree (lazy x)) old
   forest_left left = forest_same (λ x. tree (lazy x)) old new left.many (λ k z m. ap tree (left.lazies k z m))
 
 -- the day that was given is not the bound
-pub gave_it : {X : Type 0} (ahead : X → Option DayTimes) (xs : List X) (day to : ℤ) → day ≤ℤ to → (day ≡ to +ℤ pos 1) ⊎ GaveDaySome ahead xs day → GaveDaySome ahead xs day
+pub gave_it : {X : Type 0} (ahead : X → Option DayTimes) (xs : List X) (day to : ℤ) → day ≤ℤ to → (day ≡ to +ℤ pos 1) ⊎ GaveDaySome ahead xs day
+    → GaveDaySome ahead xs day
 gave_it ahead xs day to l (inl e) = absurd (omega (arith, ints, l, e))
 gave_it ahead xs day to l (inr g) = g
 

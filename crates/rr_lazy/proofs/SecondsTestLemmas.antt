@@ -29,7 +29,8 @@ same_bool false true f g = g refl
 same_bool false false f g = refl
 
 pub seconds_test : (times : List ℕ) (test : ℕ → Bool) → IsSetOf nat_lt times (λ s. IsTrue (test s)) → HasSeconds times test
-seconds_test times test set s = same_bool (list_any (λ x. nat_eq x s) times) (test s) (λ h. (set.exact s).0 ((tested times s).0 h)) (λ h. (tested times s).1 ((set.exact s).1 h))
+seconds_test times test set s =
+    same_bool (list_any (λ x. nat_eq x s) times) (test s) (λ h. (set.exact s).0 ((tested times s).0 h)) (λ h. (tested times s).1 ((set.exact s).1 h))
 
 pub test_seconds : (times : List ℕ) (test : ℕ → Bool) → Rises nat_lt times → HasSeconds times test → IsSetOf nat_lt times (λ s. IsTrue (test s))
 test_seconds times test rises has = record { rises = rises; exact = λ s. ((λ c. sym (has s) ∙ (tested times s).1 c), (λ t. (tested times s).0 (has s ∙ t))) }

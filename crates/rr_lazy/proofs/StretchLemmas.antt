@@ -1,5 +1,6 @@
 -- The dates of one day in a rising list.
-use Rattle.std.proofs.Common.{◌≡◌, ◌≢◌, ◌⊎◌, ◌↔◌, ℕ, zero, suc, ◌+◌, ◌<◌, ◌≤◌, Bool, true, false, ◌||◌, List, [], ◌∷◌, ◌++◌, length, get_or, Contains, ℤ, pos, ◌+ℤ◌, ◌≤ℤ◌, ◌<ℤ◌, w64, to_z, of_z, refl, sym, ap, subst, ◌∙◌, inl, inr, arith}
+use Rattle.std.proofs.Common.{◌≡◌, ◌≢◌, ◌⊎◌, ◌↔◌, ℕ, zero, suc, ◌+◌, ◌<◌, ◌≤◌, Bool, true, false, ◌||◌, List, [], ◌∷◌, ◌++◌, length, get_or, Contains, ℤ}
+use Rattle.std.proofs.Common.{pos, ◌+ℤ◌, ◌≤ℤ◌, ◌<ℤ◌, w64, to_z, of_z, refl, sym, ap, subst, ◌∙◌, inl, inr, arith}
 use Rattle.std.specs.Prelude.{IsTrue, not, int_lt, nat_lt}
 use Rattle.std.specs.List.{list_any}
 use Rattle.std.specs.List.Sorted.{IsPartitionedBy, IsPartitionPoint}
@@ -19,7 +20,8 @@ use Rattle.rr_model.specs.declared.refusal.NoMemory.{NoMemory}
 use Rattle.rr_model.specs.declared.kind.Kind.TheVariants.{Days, Moments}
 use Rattle.rr_model.proofs.WholeLemmas.{floor_whole, floor_mod_below}
 use Rattle.rr_model.proofs.MomentLemmas.{day_part-moment_at, second_part-moment_at}
-use Rattle.rr_model.proofs.RisingSetLemmas.{set_same, set_push, set_empty, below_rest, Rises-tail, Contains-head, Contains-tail, Contains-none, Contains-cons_cases}
+use Rattle.rr_model.proofs.RisingSetLemmas.{set_same, set_push, set_empty, below_rest, Rises-tail, Contains-head, Contains-tail, Contains-none}
+use Rattle.rr_model.proofs.RisingSetLemmas.{Contains-cons_cases}
 use Rattle.rr_model.specs.Sets.Tree.{has_second, is_among}
 use Rattle.std.specs.Prelude.{Some, None, Ok, Err}
 use Rattle.rr_model.specs.Sets.Tree.{Tree, dates_of, without, stands_at}
@@ -34,7 +36,9 @@ pub rising_dates : (xs : List ℤ) → Rises int_lt xs → (i j : ℕ) → i < j
 rising_dates [] r i j l h = absurd (omega arith)
 rising_dates (x ∷ xs) r zero zero l h = absurd (omega arith)
 rising_dates (x ∷ xs) r zero (suc j) l h =
-    let t : int_lt x (get_or xs j (pos 0)) ≡ true = below_rest int_lt (λ y m. grind (arith, ints)) (λ y z w m n. grind (arith, ints)) x xs r (get_or xs j (pos 0)) (Contains-get_or xs j (pos 0) (omega arith)) in
+    let t : int_lt x (get_or xs j (pos 0)) ≡ true =
+    below_rest int_lt (λ y m. grind (arith, ints)) (λ y z w m n. grind (arith, ints)) x xs r (get_or xs j (pos 0))
+    (Contains-get_or xs j (pos 0) (omega arith)) in
     grind (arith, ints)
 rising_dates (x ∷ xs) r (suc i) zero l h = absurd (omega arith)
 rising_dates (x ∷ xs) r (suc i) (suc j) l h = rising_dates xs (Rises-tail int_lt x xs r) i j (omega arith) (omega arith)
@@ -48,7 +52,12 @@ day_mono Moments t u l =
     omega (arith, ints, w, v, l, floor_mod_below u 86_400 (omega arith))
 
 rising_to : (xs : List ℤ) → Rises int_lt xs → (i j : ℕ) → i ≤ j → j < length xs → get_or xs i (pos 0) ≤ℤ get_or xs j (pos 0)
-rising_to xs r i j l h = elim (cases_lt i j) [ inl m ↦ omega (arith, ints, rising_dates xs r i j m h) | inr m ↦ (let e : i ≡ j = omega arith in omega (arith, ints, ap (λ n. get_or xs n (pos 0)) e)) ]
+rising_to xs r i j l h =
+    elim (cases_lt i j) [
+      | inl m ↦ omega (arith, ints, rising_dates xs r i j m h)
+      | inr m ↦
+          (let e : i ≡ j = omega arith in omega (arith, ints, ap (λ n. get_or xs n (pos 0)) e))
+    ]
 
 -- ---- the place of the first date from a day on
 
@@ -56,10 +65,12 @@ pub parted : (kind : Kind) (dates : List ℤ) (day : ℤ) → Rises int_lt dates
 parted kind dates day r i j d le lt e =
     let a : get_or dates i (pos 0) ≡ get_or dates i d = get_or_default dates i (pos 0) d (omega arith) in
     let b : get_or dates j (pos 0) ≡ get_or dates j d = get_or_default dates j (pos 0) d lt in
-    let m : day_part kind (get_or dates i d) ≤ℤ day_part kind (get_or dates j d) = day_mono kind (get_or dates i d) (get_or dates j d) (omega (arith, ints, a, b, rising_to dates r i j le lt)) in
+    let m : day_part kind (get_or dates i d) ≤ℤ day_part kind (get_or dates j d) =
+    day_mono kind (get_or dates i d) (get_or dates j d) (omega (arith, ints, a, b, rising_to dates r i j le lt)) in
     grind (arith, ints)
 
-pub first_place : (kind : Kind) (dates : List ℤ) (day : ℤ) (place : ℕ) → place ≤ length dates → IsPartitionPoint (λ t. int_lt (day_part kind t) day ≡ true) (λ t. int_lt (day_part kind t) day ≡ false) dates place → IsFirstFrom kind dates day place
+pub first_place : (kind : Kind) (dates : List ℤ) (day : ℤ) (place : ℕ) → place ≤ length dates
+    → IsPartitionPoint (λ t. int_lt (day_part kind t) day ≡ true) (λ t. int_lt (day_part kind t) day ≡ false) dates place → IsFirstFrom kind dates day place
 first_place kind dates day place l p = record {
   within = l;
   below = λ k h. (let t : int_lt (day_part kind (get_or dates k (pos 0))) day ≡ true = p.0 k (pos 0) (omega arith) h in grind (arith, ints));
@@ -116,7 +127,8 @@ module _ (kind : Kind) (dates : List ℤ) (day : ℤ) where
       let d : day_part kind (get_or dates k (pos 0)) ≡ day = ap (day_part kind) e ∙ moment_day kind day s h in
       omega (arith, ints, f.below k l, d)
 
-  module _ (rises : Rises int_lt dates) (first last place : ℕ) (f : IsFirstFrom kind dates day first) (g : IsFirstFrom kind dates (day +ℤ pos 1) last) (from : first ≤ place) where
+  module _ (rises : Rises int_lt dates) (first last place : ℕ) (f : IsFirstFrom kind dates day first) (g : IsFirstFrom kind dates (day +ℤ pos 1) last)
+      (from : first ≤ place) where
     pub on_the_day : place < last → day_part kind (get_or dates place (pos 0)) ≡ day
     on_the_day l =
         let a = g.below place l in
@@ -129,14 +141,22 @@ module _ (kind : Kind) (dates : List ℤ) (day : ℤ) where
           λ x. one x.0 x.1 x.2 x.3 x.4,
           λ x. elim x [
             | inl y ↦ (y.0, omega (arith, y.1), y.2, y.3, y.4)
-            | inr e ↦ (place, omega arith, omega (arith, g.within), subst (λ z. get_or dates place (pos 0) ≡ moment_at kind day z) e o.0, subst (λ z. has_second kind z ≡ true) e o.1)
+            | inr e ↦ (
+              place,
+              omega arith,
+              omega (arith, g.within),
+              subst (λ z. get_or dates place (pos 0) ≡ moment_at kind day z) e o.0,
+              subst (λ z. has_second kind z ≡ true) e o.1,
+            )
           ],
         )
       where
-        one : (k : ℕ) → k < place + 1 → k < length dates → get_or dates k (pos 0) ≡ moment_at kind day s → has_second kind s ≡ true → StandsFirst place s ⊎ (second_part kind (get_or dates place (pos 0)) ≡ s)
+        one : (k : ℕ) → k < place + 1 → k < length dates → get_or dates k (pos 0) ≡ moment_at kind day s → has_second kind s ≡ true
+            → StandsFirst place s ⊎ (second_part kind (get_or dates place (pos 0)) ≡ s)
         one k m n e h = elim (cases_lt k place) [
           | inl p ↦ inl (k, p, n, e, h)
-          | inr p ↦ (let q : place ≡ k = omega arith in inr (ap (λ z. second_part kind (get_or dates z (pos 0))) q ∙ ap (second_part kind) e ∙ moment_second kind day s h))
+          | inr p ↦ (let q : place ≡ k = omega arith in
+              inr (ap (λ z. second_part kind (get_or dates z (pos 0))) q ∙ ap (second_part kind) e ∙ moment_second kind day s h))
         ]
 
     pub above_first : place < last → (s : ℕ) → StandsFirst place s → IsTrue (nat_lt s (second_part kind (get_or dates place (pos 0))))
@@ -158,39 +178,51 @@ module _ (kind : Kind) (dates : List ℤ) (day : ℤ) where
     )
 
     -- one more second is pushed
-    pub seconds_more : place < last → (seconds pushed : List ℕ) (x : ℕ) → IsSetOf nat_lt seconds (StandsFirst place) → x ≡ second_part kind (get_or dates place (pos 0)) → pushed ≡ seconds ++ x ∷ [] → IsSetOf nat_lt pushed (StandsFirst (place + 1))
+    pub seconds_more : place < last → (seconds pushed : List ℕ) (x : ℕ) → IsSetOf nat_lt seconds (StandsFirst place)
+        → x ≡ second_part kind (get_or dates place (pos 0)) → pushed ≡ seconds ++ x ∷ [] → IsSetOf nat_lt pushed (StandsFirst (place + 1))
     seconds_more l seconds pushed x set e p =
         let y : ℕ = second_part kind (get_or dates place (pos 0)) in
-        rw (p, e) (set_same nat_lt (λ s. StandsFirst place s ⊎ (y ≡ s)) (StandsFirst (place + 1)) (seconds ++ y ∷ []) (set_push nat_lt (StandsFirst place) seconds y set (above_first l)) (λ s. ((next_stands l s).1, (next_stands l s).0)))
+        rw (p, e) (set_same nat_lt (λ s. StandsFirst place s ⊎ (y ≡ s)) (StandsFirst (place + 1)) (seconds ++ y ∷ [])
+        (set_push nat_lt (StandsFirst place) seconds y set (above_first l)) (λ s. ((next_stands l s).1, (next_stands l s).0)))
 
-    pub seconds_all : last ≤ place → (seconds : List ℕ) → IsSetOf nat_lt seconds (StandsFirst place) → IsSetOf nat_lt seconds (λ s. IsTrue (is_among kind dates day s))
+    pub seconds_all : last ≤ place → (seconds : List ℕ) → IsSetOf nat_lt seconds (StandsFirst place)
+        → IsSetOf nat_lt seconds (λ s. IsTrue (is_among kind dates day s))
     seconds_all l seconds set = set_same nat_lt (StandsFirst place) (λ s. IsTrue (is_among kind dates day s)) seconds set (all_stand l)
 
     -- one more second is taken out
-    pub left_more : place < last → (old times left : List ℕ) (x : ℕ) → ((s : ℕ) → Contains times s ↔ (Contains old s × (StandsFirst place s → ⊥))) → x ≡ second_part kind (get_or dates place (pos 0)) → IsSetOf nat_lt left (λ s. Contains times s × (s ≢ x))
+    pub left_more : place < last → (old times left : List ℕ) (x : ℕ) → ((s : ℕ) → Contains times s ↔ (Contains old s × (StandsFirst place s → ⊥)))
+        → x ≡ second_part kind (get_or dates place (pos 0)) → IsSetOf nat_lt left (λ s. Contains times s × (s ≢ x))
         → (s : ℕ) → Contains left s ↔ (Contains old s × (StandsFirst (place + 1) s → ⊥))
     left_more l old times left x set e out s = (
       λ c. (let p = (out.exact s).0 c in let o = (set s).0 p.0 in (o.0, λ q. elim ((next_stands l s).0 q) [ inl y ↦ o.1 y | inr f ↦ p.1 (sym f ∙ sym e) ])),
       λ p. (out.exact s).1 ((set s).1 (p.0, λ q. p.1 ((next_stands l s).1 (inl q))), λ f. p.1 ((next_stands l s).1 (inr (sym e ∙ sym f)))),
     )
 
-    pub left_all : last ≤ place → (old times : List ℕ) → ((s : ℕ) → Contains times s ↔ (Contains old s × (StandsFirst place s → ⊥))) → (s : ℕ) → Contains times s ↔ (Contains old s × (is_among kind dates day s ≡ false))
+    pub left_all : last ≤ place → (old times : List ℕ) → ((s : ℕ) → Contains times s ↔ (Contains old s × (StandsFirst place s → ⊥))) → (s : ℕ)
+        → Contains times s ↔ (Contains old s × (is_among kind dates day s ≡ false))
     left_all l old times set s = (
-      λ c. (let p = (set s).0 c in (p.0, elim (is_among kind dates day s) as (λ b. is_among kind dates day s ≡ b → b ≡ false) [ false ↦ λ e. refl | true ↦ λ e. absurd (p.1 ((all_stand l s).1 e)) ] refl)),
+      λ c. (let p = (set s).0 c in (
+        p.0,
+        elim (is_among kind dates day s) as (λ b. is_among kind dates day s ≡ b
+            → b ≡ false) [ false ↦ λ e. refl | true ↦ λ e. absurd (p.1 ((all_stand l s).1 e)) ] refl,
+      )),
       λ p. (set s).1 (p.0, λ q. false≢true (sym p.1 ∙ (all_stand l s).0 q)),
     )
 
   -- nothing is taken out yet
-  pub left_begins : (first : ℕ) → IsFirstFrom kind dates day first → (times : List ℕ) → (s : ℕ) → Contains times s ↔ (Contains times s × (StandsFirst first s → ⊥))
+  pub left_begins : (first : ℕ) → IsFirstFrom kind dates day first → (times : List ℕ) → (s : ℕ)
+      → Contains times s ↔ (Contains times s × (StandsFirst first s → ⊥))
   left_begins first f times s = ((λ c. (c, none_yet first f s)), (λ p. p.0))
 
-pub seconds_begin : (kind : Kind) (dates : List ℤ) (day : ℤ) (first : ℕ) → IsFirstFrom kind dates day first → IsSetOf nat_lt [] (StandsFirst kind dates day first)
+pub seconds_begin : (kind : Kind) (dates : List ℤ) (day : ℤ) (first : ℕ) → IsFirstFrom kind dates day first
+    → IsSetOf nat_lt [] (StandsFirst kind dates day first)
 seconds_begin kind dates day first f = set_empty nat_lt (StandsFirst kind dates day first) (none_yet kind dates day first f)
 
 pub below_a_day : (kind : Kind) (dates : List ℤ) (day : ℤ) (s : ℕ) → IsTrue (is_among kind dates day s) → s < 86_400
 below_a_day kind dates day s p = has_second_below kind s (and_left _ _ p)
 
-pub day_after_is : (day : ℤ) → to_z w64 (of_z w64 day) ≡ day → day ≤ℤ pos 2_999_999_999_000 → to_z w64 (of_z w64 (to_z w64 (of_z w64 day) +ℤ pos 1)) ≡ day +ℤ pos 1
+pub day_after_is : (day : ℤ) → to_z w64 (of_z w64 day) ≡ day → day ≤ℤ pos 2_999_999_999_000
+    → to_z w64 (of_z w64 (to_z w64 (of_z w64 day) +ℤ pos 1)) ≡ day +ℤ pos 1
 day_after_is day e h = omega (arith, ints, e, h)
 
 -- ---- an iterator over dates
@@ -203,8 +235,10 @@ module _ (kind : Kind) (dates : List ℤ) (rises : Rises int_lt dates) (from to 
       let c = (listed dates (moment_at kind d s)).0 (and_right (has_second kind s) _ t) in
       let e : get_or dates c.0 (pos 0) ≡ moment_at kind d s = get_or_default dates c.0 (pos 0) (moment_at kind d s) c.1 ∙ c.2 in
       let day : day_part kind (get_or dates c.0 (pos 0)) ≡ d = ap (day_part kind) e ∙ moment_day kind d s h in
-      let k : place ≤ c.0 = elim (cases_lt c.0 place) [ inl m ↦ absurd (omega (arith, ints, f.below c.0 m, day, l)) | inr m ↦ m ] in
-      (omega (arith, k, c.1), omega (arith, ints, day, day_mono kind (get_or dates place (pos 0)) (get_or dates c.0 (pos 0)) (rising_to dates rises place c.0 k c.1)))
+      let k : place ≤ c.0 = elim (cases_lt c.0 place) [ inl m ↦ absurd (omega (arith, ints, f.below c.0 m, day, l)) | inr m ↦ m ] in (
+        omega (arith, k, c.1),
+        omega (arith, ints, day, day_mono kind (get_or dates place (pos 0)) (get_or dates c.0 (pos 0)) (rising_to dates rises place c.0 k c.1)),
+      )
 
   none_of : (d : ℤ) (s : ℕ) → (is_among kind dates d s ≡ true → ⊥) → is_among kind dates d s ≡ false
   none_of d s n = elim (is_among kind dates d s) as (λ b. is_among kind dates d s ≡ b → b ≡ false) [ false ↦ λ e. refl | true ↦ λ e. absurd (n e) ] refl
@@ -219,13 +253,23 @@ module _ (kind : Kind) (dates : List ℤ) (rises : Rises int_lt dates) (from to 
         omega (arith, ints, f.from place (omega arith) l, e),
         h,
         λ d s a b. none_of d s (λ t. (let n = not_early d s a t in omega (arith, ints, n.1, b, e))),
-        (second_part kind u, rw o.1 ((listed dates (moment_at kind day (second_part kind u))).1 (place, l, get_or_default dates place (moment_at kind day (second_part kind u)) (pos 0) l ∙ o.0))),
+        (
+          second_part kind u,
+          rw o.1 ((listed dates (moment_at kind day (second_part kind u))).1 (
+            place,
+            l,
+            get_or_default dates place (moment_at kind day (second_part kind u)) (pos 0) l ∙ o.0,
+          )),
+        ),
       )
 
-pub dates_none : (kind : Kind) (dates : List ℤ) (position to q : ℤ) → IsFirstDate kind dates position to None → (q ≡ to +ℤ pos 1) ⊎ (q ≡ position) → HasNone (dates_of kind dates) position q
-dates_none kind dates position to q none one d s l h = elim one [ inl e ↦ none d s l (omega (arith, ints, h, e)) | inr e ↦ absurd (omega (arith, ints, l, h, e)) ]
+pub dates_none : (kind : Kind) (dates : List ℤ) (position to q : ℤ) → IsFirstDate kind dates position to None → (q ≡ to +ℤ pos 1) ⊎ (q ≡ position)
+    → HasNone (dates_of kind dates) position q
+dates_none kind dates position to q none one d s l h =
+    elim one [ inl e ↦ none d s l (omega (arith, ints, h, e)) | inr e ↦ absurd (omega (arith, ints, l, h, e)) ]
 
-pub dates_some : (kind : Kind) (dates : List ℤ) (position to day : ℤ) (times : List ℕ) → IsFirstDate kind dates position to (Some day) → IsSetOf nat_lt times (λ s. IsTrue (is_among kind dates day s)) → IsFirstOccupied (dates_of kind dates) position day times
+pub dates_some : (kind : Kind) (dates : List ℤ) (position to day : ℤ) (times : List ℕ) → IsFirstDate kind dates position to (Some day)
+    → IsSetOf nat_lt times (λ s. IsTrue (is_among kind dates day s)) → IsFirstOccupied (dates_of kind dates) position day times
 dates_some kind dates position to day times f set = record {
   late = f.0;
   before = f.2;
@@ -240,7 +284,9 @@ module _ (tree : Tree) (kind : Kind) (dates : List ℤ) where
   without_none d s e = rw e refl
 
   -- what is left of a day
-  left_stands : (d : ℤ) (times left : List ℕ) → IsSetOf nat_lt times (λ s. IsTrue (stands_at tree d s)) → ((s : ℕ) → Contains left s ↔ (Contains times s × (is_among kind dates d s ≡ false))) → (s : ℕ) → Contains left s ↔ IsTrue (stands_at (without tree kind dates) d s)
+  left_stands : (d : ℤ) (times left : List ℕ) → IsSetOf nat_lt times (λ s. IsTrue (stands_at tree d s))
+      → ((s : ℕ) → Contains left s ↔ (Contains times s × (is_among kind dates d s ≡ false))) → (s : ℕ)
+      → Contains left s ↔ IsTrue (stands_at (without tree kind dates) d s)
   left_stands d times left set out s = (
     λ c. (let p = (out s).0 c in rw ((set.exact s).0 p.0, p.1) refl),
     λ h. (out s).1 ((set.exact s).1 (and_left _ _ h), not_so (is_among kind dates d s) (and_right (stands_at tree d s) _ h)),
@@ -259,7 +305,9 @@ module _ (tree : Tree) (kind : Kind) (dates : List ℤ) where
     )
 
     -- a day of which nothing is left is passed over
-    pub left_passed : (found : DayTimes) (left : List ℕ) → IsNext tree own to (Ok (Some found)) own' → ((s : ℕ) → Contains left s ↔ (Contains found.times s × (is_among kind dates found.day s ≡ false))) → left ≡ [] → (old ≤ℤ own') × HasNone (without tree kind dates) old own'
+    pub left_passed : (found : DayTimes) (left : List ℕ) → IsNext tree own to (Ok (Some found)) own'
+        → ((s : ℕ) → Contains left s ↔ (Contains found.times s × (is_among kind dates found.day s ≡ false))) → left ≡ []
+        → (old ≤ℤ own') × HasNone (without tree kind dates) old own'
     left_passed found left n out e = (
       omega (arith, ints, order, n.0.late, n.2),
       λ d s l h. by_lt_z {P = stands_at (without tree kind dates) d s ≡ false} d own (λ m. none d s l m) (λ g.
@@ -267,16 +315,20 @@ module _ (tree : Tree) (kind : Kind) (dates : List ℤ) where
           (let i : found.day ≡ d = omega (arith, ints, k, h, n.2) in
           elim (stands_at (without tree kind dates) d s) as (λ b. stands_at (without tree kind dates) d s ≡ b → b ≡ false) [
             | false ↦ λ x. refl
-            | true ↦ λ x. absurd (Contains-none s (subst (λ y. Contains y s) e ((left_stands found.day found.times left n.0.all out s).1 (subst (λ y. stands_at (without tree kind dates) y s ≡ true) (sym i) x))))
+            | true ↦ λ x. absurd
+                (Contains-none s (subst (λ y. Contains y s) e
+                ((left_stands found.day found.times left n.0.all out s).1 (subst (λ y. stands_at (without tree kind dates) y s ≡ true) (sym i) x))))
           ] refl))),
     )
 
-    pub left_found : (found : DayTimes) (left : List ℕ) → IsNext tree own to (Ok (Some found)) own' → ((s : ℕ) → Contains left s ↔ (Contains found.times s × (is_among kind dates found.day s ≡ false))) → Rises nat_lt left → left ≢ []
+    pub left_found : (found : DayTimes) (left : List ℕ) → IsNext tree own to (Ok (Some found)) own'
+        → ((s : ℕ) → Contains left s ↔ (Contains found.times s × (is_among kind dates found.day s ≡ false))) → Rises nat_lt left → left ≢ []
         → IsFirstOccupied (without tree kind dates) old found.day left × (found.day ≤ℤ to) × (own' ≡ found.day +ℤ pos 1)
     left_found found left n out r e = (
       record {
         late = omega (arith, ints, order, n.0.late);
-        before = λ d s l h. by_lt_z {P = stands_at (without tree kind dates) d s ≡ false} d own (λ m. none d s l m) (λ g. without_none d s (n.0.before d s g h));
+        before = λ d s l h. by_lt_z {P = stands_at (without tree kind dates) d s ≡ false} d own (λ m. none d s l m)
+            (λ g. without_none d s (n.0.before d s g h));
         some = e;
         all = record { rises = r; exact = left_stands found.day found.times left n.0.all out };
       },
@@ -286,17 +338,24 @@ module _ (tree : Tree) (kind : Kind) (dates : List ℤ) where
 
 -- ---- the combinator's own position, before which its part has nothing left
 
-module _ (tree : Tree) (kind : Kind) (dates : List ℤ) (position own own' to : ℤ) (order : position ≤ℤ own) (passed : HasNone (without tree kind dates) position own) where
-  pub own_none : (q : ℤ) → IsNextLeft tree kind dates own to (Ok None) own' → position ≤ℤ q → (q ≡ to +ℤ pos 1) ⊎ (q ≡ position) → (q ≤ℤ own') × HasNone (without tree kind dates) position q × HasNone (without tree kind dates) q own'
+module _ (tree : Tree) (kind : Kind) (dates : List ℤ) (position own own' to : ℤ) (order : position ≤ℤ own)
+    (passed : HasNone (without tree kind dates) position own) where
+  pub own_none : (q : ℤ) → IsNextLeft tree kind dates own to (Ok None) own' → position ≤ℤ q → (q ≡ to +ℤ pos 1) ⊎ (q ≡ position)
+      → (q ≤ℤ own') × HasNone (without tree kind dates) position q × HasNone (without tree kind dates) q own'
   own_none q n late one =
       let l : q ≤ℤ own' = elim one [ inl e ↦ omega (arith, ints, e, n.2) | inr e ↦ omega (arith, ints, e, order, n.1) ] in
-      let all : HasNone (without tree kind dates) position own' = λ d s a b. by_lt_z {P = stands_at (without tree kind dates) d s ≡ false} d own (λ m. passed d s a m) (λ g. n.0 d s g b) in
+      let all : HasNone (without tree kind dates) position own' =
+      λ d s a b. by_lt_z {P = stands_at (without tree kind dates) d s ≡ false} d own (λ m. passed d s a m) (λ g. n.0 d s g b) in
       (l, (λ d s a b. all d s a (omega (arith, ints, b, l))), (λ d s a b. all d s (omega (arith, ints, a, late)) b))
 
   pub own_kept : (e : NoMemory) → IsNextLeft tree kind dates own to (Err e) own' → (position ≤ℤ own') × HasNone (without tree kind dates) position own'
-  own_kept e n = (omega (arith, ints, order, n.1), λ d s a b. by_lt_z {P = stands_at (without tree kind dates) d s ≡ false} d own (λ m. passed d s a m) (λ g. n.0 d s g b))
+  own_kept e n = (
+    omega (arith, ints, order, n.1),
+    λ d s a b. by_lt_z {P = stands_at (without tree kind dates) d s ≡ false} d own (λ m. passed d s a m) (λ g. n.0 d s g b),
+  )
 
-  pub own_some : (found : DayTimes) → IsNextLeft tree kind dates own to (Ok (Some found)) own' → IsFirstOccupied (without tree kind dates) position found.day found.times
+  pub own_some : (found : DayTimes) → IsNextLeft tree kind dates own to (Ok (Some found)) own'
+      → IsFirstOccupied (without tree kind dates) position found.day found.times
   own_some found n = record {
     late = omega (arith, ints, order, n.0.late);
     before = λ d s a b. by_lt_z {P = stands_at (without tree kind dates) d s ≡ false} d own (λ m. passed d s a m) (λ g. n.0.before d s g b);

@@ -6,7 +6,8 @@ use Rattle.std.proofs.lemmas.List.Elements.{Contains-get_or}
 use Rattle.rr_model.specs.Rising.Sets.{IsSecondsOfDay}
 use Rattle.rr_model.specs.declared.kind.Kind.{Kind}
 use Rattle.rr_model.specs.declared.kind.Kind.TheVariants.{Days, Moments}
-use Rattle.rr_model.specs.Sets.Tree.{Tree, Forest, chosen_of, dates_of, union, many, upto, first_n, without, nothing, part, has_second, stands_at, some_stands_at}
+use Rattle.rr_model.specs.Sets.Tree.{Tree, Forest, chosen_of, dates_of, union, many, upto, first_n, without, nothing, part, has_second, stands_at}
+use Rattle.rr_model.specs.Sets.Tree.{some_stands_at}
 use Rattle.rr_lazy.specs.Next.{IsFirstOccupied}
 
 pub and_left : (a b : Bool) → (a && b) ≡ true → a ≡ true

@@ -1,5 +1,6 @@
 -- An iterator that ends at a moment.
-use Rattle.std.proofs.Common.{◌≡◌, ◌≢◌, ◌⊎◌, ℕ, suc, ◌+◌, ◌<◌, true, false, ◌&&◌, List, [], ◌∷◌, Contains, ℤ, pos, ◌+ℤ◌, ◌≤ℤ◌, ◌<ℤ◌, refl, sym, ap, subst, ◌∙◌, inl, inr, arith}
+use Rattle.std.proofs.Common.{◌≡◌, ◌≢◌, ◌⊎◌, ℕ, suc, ◌+◌, ◌<◌, true, false, ◌&&◌, List, [], ◌∷◌, Contains, ℤ, pos, ◌+ℤ◌, ◌≤ℤ◌, ◌<ℤ◌, refl, sym, ap, subst}
+use Rattle.std.proofs.Common.{◌∙◌, inl, inr, arith}
 use Rattle.std.specs.Prelude.{Some, None, Ok, IsTrue, int_le, nat_lt, nat_eq, length}
 use Rattle.std.proofs.lemmas.Int.{ints, clamps, by_lt_z}
 use Rattle.std.specs.Int.{int_min}
@@ -42,8 +43,10 @@ pub to_moment : (at day : ℤ) → day ≡ floor_div at 86_400 → IsSecondsTo M
 to_moment at day e s l =
     let w = floor_whole at 86_400 (omega arith) in
     elim (nat_lt s (floor_mod at 86_400 + 1)) as (λ b. nat_lt s (floor_mod at 86_400 + 1) ≡ b → int_le (moment_at Moments day s) at ≡ b) [
-      | true ↦ λ t. (let n : s < floor_mod at 86_400 + 1 = grind (arith, nat_tests) in let m : moment_at Moments day s ≤ℤ at = omega (arith, ints, w, n, e) in grind (arith, ints))
-      | false ↦ λ t. (let n : floor_mod at 86_400 < s = grind (arith, nat_tests) in let m : at <ℤ moment_at Moments day s = omega (arith, ints, w, n, e) in grind (arith, ints))
+      | true ↦ λ t. (let n : s < floor_mod at 86_400 + 1 = grind (arith, nat_tests) in let m : moment_at Moments day s ≤ℤ at =
+          omega (arith, ints, w, n, e) in grind (arith, ints))
+      | false ↦ λ t. (let n : floor_mod at 86_400 < s = grind (arith, nat_tests) in let m : at <ℤ moment_at Moments day s = omega (arith, ints, w, n, e) in
+          grind (arith, ints))
     ] refl
 
 -- ---- what stands up to it
@@ -62,14 +65,15 @@ module _ (tree : Tree) (kind : Kind) (at : ℤ) where
   -- what is kept of a day
   pub day_kept : (d : ℤ) (times kept : List ℕ) (bound : ℕ) → IsSetOf nat_lt times (λ s. IsTrue (stands_at tree d s)) → IsSecondsTo kind at d bound
       → IsSetOf nat_lt kept (λ s. Contains times s × (s < bound)) → IsSetOf nat_lt kept (λ s. IsTrue (stands_at (upto tree kind at) d s))
-  day_kept d times kept bound set to cut = set_same nat_lt (λ s. Contains times s × (s < bound)) (λ s. IsTrue (stands_at (upto tree kind at) d s)) kept cut (λ s. (
-    (λ h. (let e : stands_at tree d s ≡ true = (set.exact s).0 h.0 in
-        let l : nat_lt s bound ≡ true = grind (arith, nat_tests) in
-        rw e (to s (stands_below tree d s e) ∙ l))),
-    (λ h. (let e : stands_at tree d s ≡ true = and_left _ _ h in
-        let l : nat_lt s bound ≡ true = sym (to s (stands_below tree d s e)) ∙ and_right (stands_at tree d s) _ h in
-        ((set.exact s).1 e, (let m : s < bound = grind (arith, nat_tests) in m)))),
-  ))
+  day_kept d times kept bound set to cut =
+      set_same nat_lt (λ s. Contains times s × (s < bound)) (λ s. IsTrue (stands_at (upto tree kind at) d s)) kept cut (λ s. (
+        (λ h. (let e : stands_at tree d s ≡ true = (set.exact s).0 h.0 in
+            let l : nat_lt s bound ≡ true = grind (arith, nat_tests) in
+            rw e (to s (stands_below tree d s e) ∙ l))),
+        (λ h. (let e : stands_at tree d s ≡ true = and_left _ _ h in
+            let l : nat_lt s bound ≡ true = sym (to s (stands_below tree d s e)) ∙ and_right (stands_at tree d s) _ h in
+            ((set.exact s).1 e, (let m : s < bound = grind (arith, nat_tests) in m)))),
+      ))
 
   none_of_empty : (P : ℕ → Type 0) (xs : List ℕ) → xs ≡ [] → IsSetOf nat_lt xs P → (s : ℕ) → P s → ⊥
   none_of_empty P xs e set s p = Contains-none s (subst (λ x. Contains x s) e ((set.exact s).1 p))
@@ -81,7 +85,8 @@ module _ (tree tree' : Tree) (kind : Kind) (at own own' position to to' q : ℤ)
   upto_none n = (
     λ d s l h. by_lt_z {P = stands_at (upto tree kind at) d s ≡ false} d own'
         (λ m. none_upto tree kind at d s (n.0 d s (omega (arith, ints, l, same)) m))
-        (λ g. none_after tree kind at d s (elim one [ inl a ↦ omega (arith, ints, clamps, a, g, h, n.2, bound) | inr a ↦ absurd (omega (arith, ints, a, l, h)) ])),
+        (λ g. none_after tree kind at d s
+        (elim one [ inl a ↦ omega (arith, ints, clamps, a, g, h, n.2, bound) | inr a ↦ absurd (omega (arith, ints, a, l, h)) ])),
     λ h. elim one [
       | inl a ↦ elim n.3 [ inl b ↦ omega (arith, ints, clamps, a, b, bound, h) | inr b ↦ omega (arith, ints, clamps, a, b, bound, h, same, late, n.2) ]
       | inr a ↦ elim n.3 [ inl b ↦ omega (arith, ints, clamps, a, b, bound, h, n.1, same, past) | inr b ↦ omega (arith, ints, a, b, same) ]
@@ -92,7 +97,8 @@ module _ (tree tree' : Tree) (kind : Kind) (at own own' position to to' q : ℤ)
   pub upto_emptied : (found : DayTimes) (kept : List ℕ) (cut : ℕ) → IsNext tree own to' (Ok (Some found)) own' → IsSecondsTo kind at found.day cut
       → IsSetOf nat_lt kept (λ s. Contains found.times s × (s < cut)) → kept ≡ [] → HasNone (upto tree kind at) position q × (q ≤ℤ day_part kind at → own' ≡ q)
   upto_emptied found kept cut n until set e =
-      let last : day_part kind at ≤ℤ found.day = by_lt_z {P = day_part kind at ≤ℤ found.day} found.day (day_part kind at) (λ m. absurd (not_before m found.times refl)) (λ g. g) in (
+      let last : day_part kind at ≤ℤ found.day =
+      by_lt_z {P = day_part kind at ≤ℤ found.day} found.day (day_part kind at) (λ m. absurd (not_before m found.times refl)) (λ g. g) in (
         λ d s l h. by_lt_z {P = stands_at (upto tree kind at) d s ≡ false} d found.day
             (λ m. none_upto tree kind at d s (n.0.before d s (omega (arith, ints, l, same)) m))
             (λ g. by_lt_z {P = stands_at (upto tree kind at) d s ≡ false} (day_part kind at) d
@@ -100,9 +106,15 @@ module _ (tree tree' : Tree) (kind : Kind) (at own own' position to to' q : ℤ)
             (λ k. (let i : found.day ≡ d = omega (arith, ints, g, k, last) in
             elim (stands_at (upto tree kind at) d s) as (λ b. stands_at (upto tree kind at) d s ≡ b → b ≡ false) [
               | false ↦ λ x. refl
-              | true ↦ λ x. absurd (none_of_empty tree kind at (λ s. IsTrue (stands_at (upto tree kind at) found.day s)) kept e (day_kept tree kind at found.day found.times kept cut n.0.all until set) s (subst (λ y. stands_at (upto tree kind at) y s ≡ true) (sym i) x))
+              | true ↦ λ x. absurd
+                  (none_of_empty tree kind at (λ s. IsTrue (stands_at (upto tree kind at) found.day s)) kept e
+                  (day_kept tree kind at found.day found.times kept cut n.0.all until set) s (subst (λ y. stands_at (upto tree kind at) y s ≡ true) (sym i) x))
             ] refl))),
-        λ h. absurd (elim one [ inl a ↦ omega (arith, ints, clamps, a, h, last, n.1, bound) | inr a ↦ omega (arith, ints, clamps, a, h, last, n.1, n.0.late, same, past, bound) ]),
+        λ h. absurd (elim one [
+          | inl a ↦ omega (arith, ints, clamps, a, h, last, n.1, bound)
+          | inr a ↦
+              omega (arith, ints, clamps, a, h, last, n.1, n.0.late, same, past, bound)
+        ]),
       )
     where
       not_before : found.day <ℤ day_part kind at → (times : List ℕ) → found.times ≡ times → ⊥
@@ -116,7 +128,8 @@ module _ (tree tree' : Tree) (kind : Kind) (at own own' position to to' q : ℤ)
           none_of_empty tree kind at (λ s. Contains found.times s × (s < cut)) kept e set s (c, z)
 
 -- the part gave a day of which something is kept
-pub upto_some : (tree : Tree) (kind : Kind) (at own own' position to to' q : ℤ) → own ≡ position → to' ≡ int_min to (day_part kind at) → (found : DayTimes) (kept : List ℕ) (cut : ℕ) → IsNext tree own to' (Ok (Some found)) own' → IsSecondsTo kind at found.day cut
+pub upto_some : (tree : Tree) (kind : Kind) (at own own' position to to' q : ℤ) → own ≡ position → to' ≡ int_min to (day_part kind at)
+    → (found : DayTimes) (kept : List ℕ) (cut : ℕ) → IsNext tree own to' (Ok (Some found)) own' → IsSecondsTo kind at found.day cut
     → IsSetOf nat_lt kept (λ s. Contains found.times s × (s < cut)) → kept ≢ [] → q ≡ found.day +ℤ pos 1
     → IsFirstOccupied (upto tree kind at) position found.day kept × (found.day ≤ℤ to) × (own' ≡ q)
 upto_some tree kind at own own' position to to' q same bound found kept cut n until set some e = (

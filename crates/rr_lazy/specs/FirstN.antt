@@ -13,5 +13,6 @@ pub record IsCounting (tree : Tree) (own position : ℤ) (count left : ℕ) : Ty
   pub spent : left ≡ 0 → count ≤ count_before (λ d s. stands_at tree d s) position
 
 -- so it is a sound iterator
-pub sound_first : (tree : Tree) (own position : ℤ) (count left : ℕ) → IsSoundLazy tree own → IsCounting tree own position count left → IsSoundLazy (first_n tree count) position
+pub sound_first : (tree : Tree) (own position : ℤ) (count left : ℕ) → IsSoundLazy tree own → IsCounting tree own position count left
+    → IsSoundLazy (first_n tree count) position
 sound_first tree own position count left s c = record { of_kind = s.of_kind; in_years = c.begun }

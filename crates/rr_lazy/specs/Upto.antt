@@ -10,5 +10,6 @@ use Rattle.rr_lazy.specs.Next.{IsSoundLazy}
 abbrev pub IsSecondsTo : Kind → ℤ → ℤ → ℕ → Type 0
 IsSecondsTo kind at day bound = (s : ℕ) → s < 86_400 → int_le (moment_at kind day s) at ≡ nat_lt s bound
 
-pub sound_upto : (tree : Tree) (kind : Kind) (at position : ℤ) → IsOfOneKind (upto tree kind at) → first_day_of_year (pos 1) ≤ℤ position → IsSoundLazy (upto tree kind at) position
+pub sound_upto : (tree : Tree) (kind : Kind) (at position : ℤ) → IsOfOneKind (upto tree kind at) → first_day_of_year (pos 1) ≤ℤ position
+    → IsSoundLazy (upto tree kind at) position
 sound_upto tree kind at position k b = record { of_kind = k; in_years = b }

@@ -1,5 +1,6 @@
 -- What is read beside the start is valid.
-use Rattle.std.proofs.Common.{◌≡◌, ℕ, ◌&&◌, not, Bool, true, false, if◌then◌else◌, List, [], ◌∷◌, Result, Ok, Err, Option, None, Some, refl, sym, ap, ◌∙◌, arith, subst, ℤ, ◌+ℤ◌}
+use Rattle.std.proofs.Common.{◌≡◌, ℕ, ◌&&◌, not, Bool, true, false, if◌then◌else◌, List, [], ◌∷◌, Result, Ok, Err, Option, None, Some, refl, sym, ap, ◌∙◌}
+use Rattle.std.proofs.Common.{arith, subst, ℤ, ◌+ℤ◌}
 use Rattle.std.specs.Prelude.{All, int_lt, ok_or}
 use Rattle.std.specs.List.{slice_split}
 use Rattle.std.specs.Option.{IfSome}
@@ -16,7 +17,8 @@ use Rattle.rr_model.specs.Text.Calendars.{end_at, end_beside, rule_beside, rrule
 use Rattle.rr_model.specs.Text.Event.{event_scan}
 use Rattle.rr_model.specs.Text.Lines.{without_mark}
 use Rattle.rr_model.specs.Text.Moments.{basic}
-use Rattle.rr_model.specs.Text.Passes.{Stated, Beside, Event, nothing_read, nothing_beside, turned, moment_beside, date_value, date_beside, put_date, with_date, with_line, first_pass, second_pass, unless_stopped, passes}
+use Rattle.rr_model.specs.Text.Passes.{Stated, Beside, Event, nothing_read, nothing_beside, turned, moment_beside, date_value, date_beside, put_date}
+use Rattle.rr_model.specs.Text.Passes.{with_date, with_line, first_pass, second_pass, unless_stopped, passes}
 use Rattle.rr_model.specs.Text.Rules.{has_time}
 use Rattle.rr_model.specs.Text.UsedLines.{trim}
 use Rattle.rr_model.specs.declared.kind.Kind.{Kind}

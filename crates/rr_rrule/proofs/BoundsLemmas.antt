@@ -1,5 +1,6 @@
 -- The values of a part lie within its bounds.
-use Rattle.std.proofs.Common.{◌≡◌, ℕ, ◌<◌, ◌≤◌, ◌&&◌, Bool, true, false, cond, Some, List, [], ◌∷◌, Result, Ok, ℤ, pos, nat_abs, neg_ℤ, ◌≤ℤ◌, refl, sym, subst, ◌∙◌, arith}
+use Rattle.std.proofs.Common.{◌≡◌, ℕ, ◌<◌, ◌≤◌, ◌&&◌, Bool, true, false, cond, Some, List, [], ◌∷◌, Result, Ok, ℤ, pos, nat_abs, neg_ℤ, ◌≤ℤ◌, refl, sym}
+use Rattle.std.proofs.Common.{subst, ◌∙◌, arith}
 use Rattle.std.specs.Prelude.{All, nat_le, int_lt, ok_or}
 use Rattle.std.specs.List.{list_all}
 use Rattle.std.specs.Str.Parse.{starts_with_minus, signed_digits_value}
@@ -8,7 +9,8 @@ use Rattle.std.proofs.lemmas.Int.{ints}
 use Rattle.std.proofs.lemmas.List.Elements.{All-nil}
 use Rattle.rr_model.specs.Text.Digits.{digits_value}
 use Rattle.rr_model.specs.Rising.{with_value, day_item_lt}
-use Rattle.rr_model.specs.Text.RuleValues.{is_number, weekday_named, up_to, number_up_to, placed, pieces, list_of, signed, has_number_form, magnitude, number_within, numbers_of, is_day_item, place_text, weekday_text, place_within, day_item_within, day_items_of}
+use Rattle.rr_model.specs.Text.RuleValues.{is_number, weekday_named, up_to, number_up_to, placed, pieces, list_of, signed, has_number_form, magnitude}
+use Rattle.rr_model.specs.Text.RuleValues.{number_within, numbers_of, is_day_item, place_text, weekday_text, place_within, day_item_within, day_items_of}
 use Rattle.rr_model.specs.Rule.Validity.{LieFrom, CountUpTo, IsDayItem}
 use Rattle.rr_model.specs.declared.refusal.Refusal.{Refusal}
 use Rattle.rr_model.specs.declared.refusal.Refusal.TheVariants.{BadRule}
@@ -19,7 +21,8 @@ use Rattle.rr_rrule.proofs.StepLemmas.{and_then_ok, ok_or_ok, step_keeps, passed
 
 -- ---- lists
 
-module _ {X : Type 0} (P : X → Type 0) (below : X → X → Bool) (judged : List ℕ → Result X Refusal) (each : (text : List ℕ) (x : X) → judged text ≡ Ok x → P x) where
+module _ {X : Type 0} (P : X → Type 0) (below : X → X → Bool) (judged : List ℕ → Result X Refusal) (each : (text : List ℕ) (x : X) → judged text ≡ Ok x
+    → P x) where
   All-placed : (list : List X) (texts : List (List ℕ)) (all : List X) → All P list → placed below judged list texts ≡ Ok all → All P all
   All-placed list [] all h e =
       let same : list ≡ all = cc in
@@ -63,7 +66,8 @@ number_within-counts line most text n h =
 pub numbers_of-counts : (line most : ℕ) (text : List ℕ) (ns : List ℤ) → numbers_of line (signed most) text ≡ Ok ns → CountUpTo most ns
 unfolding numbers_of
 numbers_of-counts line most text =
-    All-list_of (λ n. (1 ≤ nat_abs n) × (nat_abs n ≤ most)) int_lt (number_within line (signed most)) (number_within-counts line most) line (has_number_form (signed most)) text
+    All-list_of (λ n. (1 ≤ nat_abs n) × (nat_abs n ≤ most)) int_lt (number_within line (signed most)) (number_within-counts line most) line
+    (has_number_form (signed most)) text
 
 -- a number of digits alone has no sign
 no_minus : (text : List ℕ) → is_number text ≡ true → starts_with_minus text ≡ false
@@ -82,7 +86,8 @@ pub numbers_of-lie : (line low high : ℕ) (has_leap : Bool) (text : List ℕ) (
 unfolding numbers_of
 numbers_of-lie line low high has_leap text =
     let bounds : NumberBounds = record { signed = false; least = low; most = high; has_leap = has_leap } in
-    All-list_of (λ n. (pos low ≤ℤ n) × (n ≤ℤ pos high)) int_lt (number_within line bounds) (number_within-lies line low high has_leap) line (has_number_form bounds) text
+    All-list_of (λ n. (pos low ≤ℤ n) × (n ≤ℤ pos high)) int_lt (number_within line bounds) (number_within-lies line low high has_leap) line
+    (has_number_form bounds) text
 
 pub number_up_to-lies : (line most : ℕ) (text : List ℕ) (n : ℕ) → number_up_to line most text ≡ Ok n → (1 ≤ n) × (n ≤ most)
 unfolding number_up_to
@@ -109,7 +114,8 @@ unfolding day_item_within
 day_item_within-means line text item h =
     let day = and_then_ok (ok_or (weekday_named (weekday_text text)) (BadRule line)) _ item h in
     let weekday = weekday_named-below (weekday_text text) day.0 (ok_or_ok _ _ day.0 day.1) in
-    step_keeps IsDayItem (place_within line (place_text text)) (λ place. record { place = place; weekday = day.0 }) item (λ place e. (place_within-counts line (place_text text) place e, weekday)) day.2
+    step_keeps IsDayItem (place_within line (place_text text)) (λ place. record { place = place; weekday = day.0 }) item
+    (λ place e. (place_within-counts line (place_text text) place e, weekday)) day.2
 
 pub day_items_of-means : (line : ℕ) (text : List ℕ) (items : List DayItem) → day_items_of line text ≡ Ok items → All IsDayItem items
 unfolding day_items_of

@@ -1,5 +1,6 @@
 -- The case of letters changes nothing that a text states.
-use Rattle.std.proofs.Common.{◌≡◌, ℕ, ◌+◌, ◌<◌, ◌==◌, ◌&&◌, ◌||◌, not, Bool, true, false, cond, if◌then◌else◌, List, [], ◌∷◌, length, take, drop, map, slice_index, Option, Some, None, option_map, Result, Ok, Err, refl, sym, ap, ◌∙◌, ℤ, arith}
+use Rattle.std.proofs.Common.{◌≡◌, ℕ, ◌+◌, ◌<◌, ◌==◌, ◌&&◌, ◌||◌, not, Bool, true, false, cond, if◌then◌else◌, List, [], ◌∷◌, length, take, drop, map}
+use Rattle.std.proofs.Common.{slice_index, Option, Some, None, option_map, Result, Ok, Err, refl, sym, ap, ◌∙◌, ℤ, arith}
 use Rattle.std.specs.Prelude.{codes, ok_or, nat_lt, unwrap_or}
 use Rattle.std.specs.Char.{to_ascii_lowercase, to_ascii_uppercase}
 use Rattle.std.specs.List.{list_all, list_any, onto_first, prefix_len, slice_split}
@@ -11,14 +12,17 @@ use Rattle.std.proofs.lemmas.List.{take-map, drop-map, length-map, map-append}
 use Rattle.rr_model.specs.Rule.Validity.{is_absent}
 use Rattle.rr_model.specs.Text.Calendars.{stated_rule, rule_beside, is_comma, rrule_language, calendar_scan, calendar_text}
 use Rattle.rr_model.specs.Text.Digits.{is_digit}
-use Rattle.rr_model.specs.Text.Event.{Components, Left, no_components, is_event, is_in_event, begun, ended, used_line, left, left_at, left_by, after_used, scan_from, scanned, is_bare_text, event_scan}
-use Rattle.rr_model.specs.Text.Lines.{feeds_next, physical_lines, begins_blank, continuation, onto_last, with_physical_line, with_physical_lines, unfolded_lines, without_mark}
+use Rattle.rr_model.specs.Text.Event.{Components, Left, no_components, is_event, is_in_event, begun, ended, used_line, left, left_at, left_by, after_used}
+use Rattle.rr_model.specs.Text.Event.{scan_from, scanned, is_bare_text, event_scan}
+use Rattle.rr_model.specs.Text.Lines.{feeds_next, physical_lines, begins_blank, continuation, onto_last, with_physical_line, with_physical_lines}
+use Rattle.rr_model.specs.Text.Lines.{unfolded_lines, without_mark}
 use Rattle.rr_model.specs.Text.Moments.{is_digits, basic_date, basic_time, is_letter_t, is_letter_z, utc_mark, basic_moment, basic}
 use Rattle.rr_model.specs.Text.Passes.{Beside, nothing_read, nothing_beside, has_slash, date_value, judged_date, judged_line, with_date, with_line}
 use Rattle.rr_model.specs.Text.RuleValues.{◌>>=◌}
 use Rattle.rr_model.specs.Text.Rules.{is_blank, line_value, rule_parts}
 use Rattle.rr_model.specs.Text.Steps.{in_turn}
-use Rattle.rr_model.specs.Text.UsedLines.{is_name_byte, name_of_line, after_name, is_named, has_quote, after_colon, is_quoted_after, begins_value, trim, value_of_line, line_kind}
+use Rattle.rr_model.specs.Text.UsedLines.{is_name_byte, name_of_line, after_name, is_named, has_quote, after_colon, is_quoted_after, begins_value, trim}
+use Rattle.rr_model.specs.Text.UsedLines.{value_of_line, line_kind}
 use Rattle.rr_model.specs.declared.line.Line.{Line}
 use Rattle.rr_model.specs.declared.pass.FirstPass.{FirstPass}
 use Rattle.rr_model.specs.declared.refusal.Refusal.{Refusal}

@@ -1,11 +1,13 @@
 -- A text with a folded line states what the text does.
-use Rattle.std.proofs.Common.{◌≡◌, ℕ, ◌==◌, ◌&&◌, ◌||◌, not, Bool, true, false, if◌then◌else◌, List, [], ◌∷◌, ◌++◌, length, take, drop, map, option_map, Result, Ok, Err, Option, None, Some, refl, sym, ap, ◌∙◌, subst, ℤ}
+use Rattle.std.proofs.Common.{◌≡◌, ℕ, ◌==◌, ◌&&◌, ◌||◌, not, Bool, true, false, if◌then◌else◌, List, [], ◌∷◌, ◌++◌, length, take, drop, map, option_map}
+use Rattle.std.proofs.Common.{Result, Ok, Err, Option, None, Some, refl, sym, ap, ◌∙◌, subst, ℤ}
 use Rattle.std.specs.Prelude.{codes, ok_or}
 use Rattle.std.specs.List.{list_any}
 use Rattle.std.specs.Str.{bytes_eq, str_eq_ignore_ascii_case}
 use Rattle.rr_model.specs.Rule.Validity.{is_absent}
 use Rattle.rr_model.specs.Text.Calendars.{rule_beside, rrule_language, series_of_event, calendar_scan, calendar_text}
-use Rattle.rr_model.specs.Text.Event.{Components, Left, no_components, is_in_event, begun, ended, used_line, left, value_on, left_at, left_by, stop_at_end, after_used, scan_from, scanned, is_bare_text, event_scan}
+use Rattle.rr_model.specs.Text.Event.{Components, Left, no_components, is_in_event, begun, ended, used_line, left, value_on, left_at, left_by, stop_at_end}
+use Rattle.rr_model.specs.Text.Event.{after_used, scan_from, scanned, is_bare_text, event_scan}
 use Rattle.rr_model.specs.Text.Lines.{physical_lines, unfolded_lines, without_mark}
 use Rattle.rr_model.specs.Text.Passes.{Beside, Event, nothing_read, nothing_beside, judged_line, first_pass, with_line, unless_stopped, passes}
 use Rattle.rr_model.specs.Text.RuleValues.{◌>>=◌}

@@ -9,9 +9,13 @@ use Rattle.rr_model.specs.Rising.{with_value, day_item_lt}
 use Rattle.rr_model.specs.Text.Calendars.{stated_rule, end_beside, rule_beside, rrule_language, is_comma}
 use Rattle.rr_model.specs.Text.Digits.{digits_value}
 use Rattle.rr_model.specs.Text.Moments.{basic}
-use Rattle.rr_model.specs.Text.Passes.{Stated, Beside, has_slash, date_value, judged_date, judged_line, turned, moment_beside, date_beside, with_date, with_line}
-use Rattle.rr_model.specs.Text.RuleValues.{◌>>=◌, pieces, freq_named, weekday_named, is_number, number_up_to, placed, unsigned, signed, seconds, has_number_form, magnitude, number_within, numbers_of, place_text, weekday_text, is_day_item, place_within, day_item_within, day_items_of}
-use Rattle.rr_model.specs.Text.Rules.{split_once, part_named, is_extension, name_of, is_present, with_part_value, with_part, with_parts, no_parts, without_last_semicolon, parts_of, rule_of, rule_parts, has_time, line_value}
+use Rattle.rr_model.specs.Text.Passes.{Stated, Beside, has_slash, date_value, judged_date, judged_line, turned, moment_beside, date_beside, with_date}
+use Rattle.rr_model.specs.Text.Passes.{with_line}
+use Rattle.rr_model.specs.Text.RuleValues.{◌>>=◌, pieces, freq_named, weekday_named, is_number, number_up_to, placed, unsigned, signed, seconds}
+use Rattle.rr_model.specs.Text.RuleValues.{has_number_form, magnitude, number_within, numbers_of, place_text, weekday_text, is_day_item, place_within}
+use Rattle.rr_model.specs.Text.RuleValues.{day_item_within, day_items_of}
+use Rattle.rr_model.specs.Text.Rules.{split_once, part_named, is_extension, name_of, is_present, with_part_value, with_part, with_parts, no_parts}
+use Rattle.rr_model.specs.Text.Rules.{without_last_semicolon, parts_of, rule_of, rule_parts, has_time, line_value}
 use Rattle.rr_model.specs.Text.Steps.{in_turn}
 use Rattle.rr_model.specs.Text.UsedLines.{trim}
 use Rattle.rr_model.specs.declared.limits.TheConstants.{MAX_DATES, MAX_RULES}

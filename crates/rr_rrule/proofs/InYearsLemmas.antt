@@ -1,11 +1,14 @@
 -- A basic text states a date or a moment of the years 1 to 9999, and only a moment is marked as UTC.
-use Rattle.std.proofs.Common.{◌≡◌, ℕ, ◌+◌, ◌*◌, ◌<◌, ◌≤◌, ◌==◌, ◌&&◌, nat_le, Bool, true, false, if◌then◌else◌, refl, sym, ap, ◌∙◌, Option, None, Some, List, length, take, drop, slice_index, option_map, ℤ, pos, neg_ℤ, ◌≤ℤ◌, ◌<ℤ◌, subst, arith}
+use Rattle.std.proofs.Common.{◌≡◌, ℕ, ◌+◌, ◌*◌, ◌<◌, ◌≤◌, ◌==◌, ◌&&◌, nat_le, Bool, true, false, if◌then◌else◌, refl, sym, ap, ◌∙◌, Option, None, Some}
+use Rattle.std.proofs.Common.{List, length, take, drop, slice_index, option_map, ℤ, pos, neg_ℤ, ◌≤ℤ◌, ◌<ℤ◌, subst, arith}
 use Rattle.std.proofs.lemmas.Bool.{and_parts}
 use Rattle.std.proofs.lemmas.Bool.Decides.{nat_tests}
 use Rattle.std.proofs.lemmas.Int.{ints}
 use Rattle.rr_model.specs.Calendar.{day_number, is_date}
 use Rattle.rr_model.specs.Moment.{day_part, moment_at}
-use Rattle.rr_model.specs.Text.Moments.{is_digits, is_basic_date, is_basic_time, written_year, written_month, written_day, written_hour, written_minute, written_second, basic_date, basic_time, basic_moment, basic, utc_mark, is_letter_t, date_stamp, moment_stamp, moment_of}
+use Rattle.rr_model.specs.Text.Moments.{is_digits, is_basic_date, is_basic_time, written_year, written_month, written_day, written_hour, written_minute}
+use Rattle.rr_model.specs.Text.Moments.{written_second, basic_date, basic_time, basic_moment, basic, utc_mark, is_letter_t, date_stamp, moment_stamp}
+use Rattle.rr_model.specs.Text.Moments.{moment_of}
 use Rattle.rr_model.specs.Moment.Years.{IsInYears}
 use Rattle.rr_model.specs.declared.kind.Kind.{Kind}
 use Rattle.rr_model.specs.declared.kind.Kind.TheVariants.{Days, Moments}

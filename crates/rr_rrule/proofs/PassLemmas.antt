@@ -1,5 +1,6 @@
 -- What the first pass keeps: a start of the years 1 to 9999, few rules and few dates. The second pass adds no more.
-use Rattle.std.proofs.Common.{◌≡◌, ℕ, ◌+◌, ◌<◌, ◌≤◌, ◌&&◌, nat_le, Bool, true, false, if◌then◌else◌, List, [], ◌∷◌, ◌++◌, length, Result, Ok, Option, Some, refl, sym, ap, ◌∙◌, arith, subst, ℤ}
+use Rattle.std.proofs.Common.{◌≡◌, ℕ, ◌+◌, ◌<◌, ◌≤◌, ◌&&◌, nat_le, Bool, true, false, if◌then◌else◌, List, [], ◌∷◌, ◌++◌, length, Result, Ok, Option, Some}
+use Rattle.std.proofs.Common.{refl, sym, ap, ◌∙◌, arith, subst, ℤ}
 use Rattle.std.specs.Prelude.{int_lt, ok_or}
 use Rattle.std.specs.List.{slice_split}
 use Rattle.std.specs.Option.{is_some, IfSome}
@@ -7,7 +8,8 @@ use Rattle.std.proofs.lemmas.Bool.Decides.{nat_tests}
 use Rattle.std.proofs.lemmas.List.{length-append}
 use Rattle.rr_model.specs.Rising.{with_value}
 use Rattle.rr_model.specs.Text.Moments.{basic}
-use Rattle.rr_model.specs.Text.Passes.{Stated, Language, has_slash, date_value, judged_date, judged_dates, judged_line, first_pass, Beside, put_date, date_beside, with_date, with_line, second_pass}
+use Rattle.rr_model.specs.Text.Passes.{Stated, Language, has_slash, date_value, judged_date, judged_dates, judged_line, first_pass, Beside, put_date}
+use Rattle.rr_model.specs.Text.Passes.{date_beside, with_date, with_line, second_pass}
 use Rattle.rr_model.specs.Text.RuleValues.{◌>>=◌}
 use Rattle.rr_model.specs.Text.Steps.{in_turn}
 use Rattle.rr_model.specs.declared.pass.FirstPass.{FirstPass}

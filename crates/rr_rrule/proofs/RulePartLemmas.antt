@@ -6,7 +6,8 @@ use Rattle.std.proofs.lemmas.Bool.{false≢true}
 use Rattle.rr_model.specs.Text.Moments.{basic}
 use Rattle.rr_model.specs.Text.Rules.{split_once, name_of, is_present, with_part_value, with_part}
 use Rattle.rr_model.specs.Rising.{with_value}
-use Rattle.rr_model.specs.Text.RuleValues.{◌>>=◌, pieces, freq_named, weekday_named, number_up_to, unsigned, signed, seconds, placed, list_of, numbers_of, day_items_of}
+use Rattle.rr_model.specs.Text.RuleValues.{◌>>=◌, pieces, freq_named, weekday_named, number_up_to, unsigned, signed, seconds, placed, list_of, numbers_of}
+use Rattle.rr_model.specs.Text.RuleValues.{day_items_of}
 use Rattle.rr_model.specs.Rule.Validity.{is_absent}
 use Rattle.rr_model.specs.declared.refusal.Refusal.{Refusal}
 use Rattle.rr_model.specs.declared.refusal.Refusal.TheVariants.{BadMoment, BadRule, PartTwice}
@@ -72,7 +73,8 @@ put parts part.BySetPos x = record parts { by_set_pos = x }
 abbrev pub then_put : RuleParts → (n : PartName) → Result (Value n) Refusal → Result RuleParts Refusal
 then_put parts n read = read >>= λ x. Ok (put parts n x)
 
-with_part_value-put : (line : ℕ) (parts : RuleParts) (n : PartName) (text : List ℕ) → with_part_value line parts n text ≡ then_put parts n (value_of line n text)
+with_part_value-put : (line : ℕ) (parts : RuleParts) (n : PartName) (text : List ℕ)
+    → with_part_value line parts n text ≡ then_put parts n (value_of line n text)
 with_part_value-put line parts part.Freq text = refl
 with_part_value-put line parts part.Until text = refl
 with_part_value-put line parts part.Count text = refl
@@ -161,11 +163,14 @@ with_value-some below (y ∷ ys) x = by (below y x) (below x y)
     by false true = refl
     by false false = refl
 
-placed-some : {X : Type 0} (below : X → X → Bool) (judged : List ℕ → Result X Refusal) (list : List X) (texts : List (List ℕ)) (all : List X) → is_absent list ≡ false → placed below judged list texts ≡ Ok all → is_absent all ≡ false
+placed-some : {X : Type 0} (below : X → X → Bool) (judged : List ℕ → Result X Refusal) (list : List X) (texts : List (List ℕ)) (all : List X)
+    → is_absent list ≡ false → placed below judged list texts ≡ Ok all → is_absent all ≡ false
 placed-some below judged list [] all some e = let same : list ≡ all = cc in ap is_absent (sym same) ∙ some
-placed-some below judged list (text ∷ texts) all some e = by (judged text) (λ x f. placed-some below judged (with_value below list x) texts all (with_value-some below list x) f) e
+placed-some below judged list (text ∷ texts) all some e =
+    by (judged text) (λ x f. placed-some below judged (with_value below list x) texts all (with_value-some below list x) f) e
   where
-    by : (r : Result _ Refusal) → ((x : _) → placed below judged (with_value below list x) texts ≡ Ok all → is_absent all ≡ false) → (r >>= λ x. placed below judged (with_value below list x) texts) ≡ Ok all → is_absent all ≡ false
+    by : (r : Result _ Refusal) → ((x : _) → placed below judged (with_value below list x) texts ≡ Ok all → is_absent all ≡ false)
+        → (r >>= λ x. placed below judged (with_value below list x) texts) ≡ Ok all → is_absent all ≡ false
     by (Ok x) later f = later x f
     by (Err d) later f = absurd cc
 
@@ -178,18 +183,21 @@ pieces-some b (c ∷ cs) = by (c == b) (pieces b cs)
     by false [] = (c ∷ [], [], refl)
     by false (piece ∷ rest) = (c ∷ piece, rest, refl)
 
-list_of-some : {X : Type 0} (line : ℕ) (has_form : List ℕ → Bool) (below : X → X → Bool) (judged : List ℕ → Result X Refusal) (text : List ℕ) (all : List X) → list_of line has_form below judged text ≡ Ok all → is_absent all ≡ false
+list_of-some : {X : Type 0} (line : ℕ) (has_form : List ℕ → Bool) (below : X → X → Bool) (judged : List ℕ
+    → Result X Refusal) (text : List ℕ) (all : List X) → list_of line has_form below judged text ≡ Ok all → is_absent all ≡ false
 list_of-some line has_form below judged text all e = by (list_all has_form (pieces 44 text)) (pieces 44 text) (pieces-some 44 text) e
   where
     first_of : (r : Result _ Refusal) (texts : List (List ℕ)) → (r >>= λ x. placed below judged (x ∷ []) texts) ≡ Ok all → is_absent all ≡ false
     first_of (Ok x) texts f = placed-some below judged (x ∷ []) texts all refl f
     first_of (Err d) texts f = absurd cc
 
-    by : (b : Bool) (texts : List (List ℕ)) → ((first : List ℕ) × (more : List (List ℕ)) × (texts ≡ first ∷ more)) → cond b (placed below judged [] texts) (Err (BadRule line)) ≡ Ok all → is_absent all ≡ false
+    by : (b : Bool) (texts : List (List ℕ)) → ((first : List ℕ) × (more : List (List ℕ)) × (texts ≡ first ∷ more))
+        → cond b (placed below judged [] texts) (Err (BadRule line)) ≡ Ok all → is_absent all ≡ false
     by true texts some f = first_of (judged some.0) some.1 (ap (placed below judged []) (sym some.2) ∙ f)
     by false texts some f = absurd cc
 
-pub is_present-put : (line : ℕ) (parts : RuleParts) (n : PartName) (text : List ℕ) (x : Value n) → value_of line n text ≡ Ok x → is_present (put parts n x) n ≡ true
+pub is_present-put : (line : ℕ) (parts : RuleParts) (n : PartName) (text : List ℕ) (x : Value n) → value_of line n text ≡ Ok x
+    → is_present (put parts n x) n ≡ true
 unfolding numbers_of day_items_of
 is_present-put line parts part.Freq text x e = refl
 is_present-put line parts part.Until text x e = refl
@@ -238,7 +246,8 @@ guard_ok false d r y e = (refl, e)
 done : {A : Type 0} (x y : A) → ◌≡◌ {A = Result A Refusal} (Ok x) (Ok y) → x ≡ y
 done x y e = cc
 
-then_put-ok : (line : ℕ) (parts : RuleParts) (n : PartName) (text : List ℕ) (more : RuleParts) → with_part_value line parts n text ≡ Ok more → (x : Value n) × (value_of line n text ≡ Ok x) × (put parts n x ≡ more)
+then_put-ok : (line : ℕ) (parts : RuleParts) (n : PartName) (text : List ℕ) (more : RuleParts) → with_part_value line parts n text ≡ Ok more
+    → (x : Value n) × (value_of line n text ≡ Ok x) × (put parts n x ≡ more)
 then_put-ok line parts n text more e =
     let read : then_put parts n (value_of line n text) ≡ Ok more = sym (with_part_value-put line parts n text) ∙ e in
     let a = bind_ok (value_of line n text) (λ x. Ok (put parts n x)) more read in
@@ -247,7 +256,8 @@ then_put-ok line parts n text more e =
 pub IsRead-from : (line : ℕ) (parts : RuleParts) (text : List ℕ) (more : RuleParts) → with_part line parts text ≡ Ok more → IsRead line parts text more
 unfolding with_part
 IsRead-from line parts text more e =
-    let a = bind_ok (ok_or (split_once 61 text) (BadRule line)) (λ sides. name_of line sides.0 >>= λ name. cond (is_present parts name) (Err (PartTwice line)) (with_part_value line parts name sides.1)) more e in
+    let a = bind_ok (ok_or (split_once 61 text) (BadRule line))
+    (λ sides. name_of line sides.0 >>= λ name. cond (is_present parts name) (Err (PartTwice line)) (with_part_value line parts name sides.1)) more e in
     let b = bind_ok (name_of line a.0.0) (λ name. cond (is_present parts name) (Err (PartTwice line)) (with_part_value line parts name a.0.1)) more a.2 in
     let c = guard_ok (is_present parts b.0) (PartTwice line) (with_part_value line parts b.0 a.0.1) more b.2 in
     let d = then_put-ok line parts b.0 a.0.1 more c.1 in
@@ -259,7 +269,8 @@ IsRead-from line parts text more e =
       is_put = d.2;
     }
 
-pub with_part-again : (line : ℕ) (parts : RuleParts) (text : List ℕ) (n : PartName) (x : Value n) → States line text n x → is_present parts n ≡ false → with_part line parts text ≡ Ok (put parts n x)
+pub with_part-again : (line : ℕ) (parts : RuleParts) (text : List ℕ) (n : PartName) (x : Value n) → States line text n x → is_present parts n ≡ false
+    → with_part line parts text ≡ Ok (put parts n x)
 unfolding with_part
 with_part-again line parts text n x states is_new =
     rw (states.halves, states.name, is_new, with_part_value-put line parts n states.sides.1, states.value) refl
@@ -271,10 +282,16 @@ exchanged line parts middle more a b e f =
     let q = IsRead-from line middle b more f in
     let n = p.part_name in
     let m = q.part_name in
-    let there : is_present middle n ≡ true = ap (λ (r : RuleParts). is_present r n) (sym p.is_put) ∙ is_present-put line parts n p.states.sides.1 p.part_value p.states.value in
+    let there : is_present middle n ≡ true =
+    ap (λ (r : RuleParts). is_present r n) (sym p.is_put) ∙ is_present-put line parts n p.states.sides.1 p.part_value p.states.value in
     let differ : n ≡ m → ⊥ = λ same. false≢true (sym q.is_new ∙ ap (is_present middle) (sym same) ∙ there) in
     let differ_back : m ≡ n → ⊥ = λ same. differ (sym same) in
-    let new_b : is_present parts m ≡ false = sym (is_present-put_other parts n m p.part_value differ) ∙ ap (λ (r : RuleParts). is_present r m) p.is_put ∙ q.is_new in
+    let new_b : is_present parts m ≡ false =
+    sym (is_present-put_other parts n m p.part_value differ) ∙ ap (λ (r : RuleParts). is_present r m) p.is_put ∙ q.is_new in
     let new_a : is_present (put parts m q.part_value) n ≡ false = is_present-put_other parts m n q.part_value differ_back ∙ p.is_new in
-    let both : put (put parts m q.part_value) n p.part_value ≡ more = put-exchange parts m n q.part_value p.part_value differ_back ∙ ap (λ (r : RuleParts). put r m q.part_value) p.is_put ∙ q.is_put in
-    (put parts m q.part_value, with_part-again line parts b m q.part_value q.states new_b, with_part-again line (put parts m q.part_value) a n p.part_value p.states new_a ∙ ap Ok both)
+    let both : put (put parts m q.part_value) n p.part_value ≡ more =
+    put-exchange parts m n q.part_value p.part_value differ_back ∙ ap (λ (r : RuleParts). put r m q.part_value) p.is_put ∙ q.is_put in (
+      put parts m q.part_value,
+      with_part-again line parts b m q.part_value q.states new_b,
+      with_part-again line (put parts m q.part_value) a n p.part_value p.states new_a ∙ ap Ok both,
+    )

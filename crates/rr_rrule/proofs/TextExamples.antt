@@ -12,7 +12,8 @@ use Rattle.rr_model.specs.Text.UsedLines.{value_of_line, line_kind}
 use Rattle.rr_model.specs.declared.kind.Kind.{Kind}
 use Rattle.rr_model.specs.declared.kind.Kind.TheVariants.{Days, Moments}
 use Rattle.rr_model.specs.declared.refusal.Refusal.{Refusal}
-use Rattle.rr_model.specs.declared.refusal.Refusal.TheVariants.{BadMoment, BadRule, PartTwice, NumberRange, UntilAndCount, NotAllowed, LeapSecond, UtcMoment, Extended}
+use Rattle.rr_model.specs.declared.refusal.Refusal.TheVariants.{BadMoment, BadRule, PartTwice, NumberRange, UntilAndCount, NotAllowed, LeapSecond}
+use Rattle.rr_model.specs.declared.refusal.Refusal.TheVariants.{UtcMoment, Extended}
 use Rattle.rr_model.specs.declared.rule.DayItem.{DayItem}
 use Rattle.rr_model.specs.declared.rule.End.{End}
 use Rattle.rr_model.specs.declared.rule.End.TheVariants.{Never, Until, Count}
@@ -46,11 +47,22 @@ series_of kind start rule = record { kind = kind; start = start; start_counts = 
 
 read_values :
     (calendar_text None (text (codes "20240101") (codes "FREQ=DAILY")) ≡ Ok (series_of Days (pos 19_723) (rule_alone Daily 1 [] [] Never)))
-    × (calendar_text None (text (codes "\t20240101 ") (codes " freq=Monthly;bymonthday=15,-1,+015,1;INTERVAL=4294967295;")) ≡ Ok (series_of Days (pos 19_723) (rule_alone Monthly 4_294_967_295 (neg_ℤ (pos 1) ∷ pos 1 ∷ pos 15 ∷ []) [] Never)))
-    × (calendar_text None (text (codes "19700101T000001") (codes "COUNT=18446744073709551615;BYDAY=+1mo,FR,-53SU;FREQ=MONTHLY")) ≡ Ok (series_of Moments (pos 1) (rule_alone Monthly 1 [] (record { place = neg_ℤ (pos 53); weekday = 6 } ∷ record { place = pos 0; weekday = 4 } ∷ record { place = pos 1; weekday = 0 } ∷ []) (Count 18_446_744_073_709_551_615))))
-    × (calendar_text None (text (codes "19700101") (codes "FREQ=DAILY;UNTIL=19700102T000000Z")) ≡ Ok (series_of Days (pos 0) (rule_alone Daily 1 [] [] (Until Moments (pos 86_400)))))
-    × (calendar_text None (text (codes "19700101T000000Z") (codes "FREQ=DAILY;UNTIL=19700102T000000")) ≡ Ok (series_of Moments (pos 0) (rule_alone Daily 1 [] [] (Until Moments (pos 86_400)))))
-unfolding day_number first_day_of_year days_of_months is_digits number_at basic basic_date basic_time basic_moment freq_named weekday_named number_up_to number_within numbers_of day_item_within day_items_of part_named name_of with_part parts_of rule_of rule_parts line_value physical_lines unfolded_lines value_of_line line_kind left_by event_scan stated_rule rule_beside calendar_text
+    × (calendar_text None (text (codes "\t20240101 ") (codes " freq=Monthly;bymonthday=15,-1,+015,1;INTERVAL=4294967295;"))
+    ≡ Ok (series_of Days (pos 19_723) (rule_alone Monthly 4_294_967_295 (neg_ℤ (pos 1) ∷ pos 1 ∷ pos 15 ∷ []) [] Never)))
+    × (calendar_text None (text (codes "19700101T000001") (codes "COUNT=18446744073709551615;BYDAY=+1mo,FR,-53SU;FREQ=MONTHLY"))
+    ≡ Ok (series_of Moments (pos 1)
+    (rule_alone Monthly 1 [] (record { place = neg_ℤ (pos 53); weekday = 6 } ∷ record { place = pos 0; weekday = 4 } ∷ record {
+      place =
+          pos 1;
+      weekday = 0;
+    } ∷ []) (Count 18_446_744_073_709_551_615))))
+    × (calendar_text None (text (codes "19700101") (codes "FREQ=DAILY;UNTIL=19700102T000000Z"))
+    ≡ Ok (series_of Days (pos 0) (rule_alone Daily 1 [] [] (Until Moments (pos 86_400)))))
+    × (calendar_text None (text (codes "19700101T000000Z") (codes "FREQ=DAILY;UNTIL=19700102T000000"))
+    ≡ Ok (series_of Moments (pos 0) (rule_alone Daily 1 [] [] (Until Moments (pos 86_400)))))
+unfolding day_number first_day_of_year days_of_months is_digits number_at basic basic_date basic_time basic_moment freq_named weekday_named number_up_to
+    number_within numbers_of day_item_within day_items_of part_named name_of with_part parts_of rule_of rule_parts line_value physical_lines unfolded_lines
+    value_of_line line_kind left_by event_scan stated_rule rule_beside calendar_text
 read_values = (refl, refl, refl, refl, refl)
 
 abbrev refused : List ℕ → Refusal → Type 0
@@ -85,5 +97,36 @@ refusals :
     × refused (codes "FREQ=DAILY;BYYEARDAY=1") NotAllowed
     × refused (codes "FREQ=HOURLY;UNTIL=20240101T000000Z") NotAllowed
     × (calendar_text None (text (codes "20240101T000000") (codes "FREQ=HOURLY;UNTIL=20240101T000000Z")) ≡ Err UtcMoment)
-unfolding day_number first_day_of_year days_of_months is_digits number_at basic basic_date basic_time basic_moment freq_named weekday_named number_up_to number_within numbers_of day_item_within day_items_of part_named name_of with_part parts_of rule_of rule_parts line_value physical_lines unfolded_lines value_of_line line_kind left_by event_scan stated_rule rule_beside calendar_text
-refusals = (refl, refl, refl, refl, refl, refl, refl, refl, refl, refl, refl, refl, refl, refl, refl, refl, refl, refl, refl, refl, refl, refl, refl, refl, refl, refl, refl, refl)
+unfolding day_number first_day_of_year days_of_months is_digits number_at basic basic_date basic_time basic_moment freq_named weekday_named number_up_to
+    number_within numbers_of day_item_within day_items_of part_named name_of with_part parts_of rule_of rule_parts line_value physical_lines unfolded_lines
+    value_of_line line_kind left_by event_scan stated_rule rule_beside calendar_text
+refusals = (
+  refl,
+  refl,
+  refl,
+  refl,
+  refl,
+  refl,
+  refl,
+  refl,
+  refl,
+  refl,
+  refl,
+  refl,
+  refl,
+  refl,
+  refl,
+  refl,
+  refl,
+  refl,
+  refl,
+  refl,
+  refl,
+  refl,
+  refl,
+  refl,
+  refl,
+  refl,
+  refl,
+  refl,
+)

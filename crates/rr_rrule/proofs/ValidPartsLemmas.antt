@@ -4,7 +4,8 @@ use Rattle.std.specs.Prelude.{All, int_lt, ok_or}
 use Rattle.std.specs.Option.{IfSome}
 use Rattle.std.proofs.lemmas.List.Elements.{All-nil}
 use Rattle.rr_model.specs.Text.Moments.{basic}
-use Rattle.rr_model.specs.Text.Rules.{split_once, name_of, is_present, with_part_value, with_part, with_parts, no_parts, without_last_semicolon, parts_of, line_value, rule_parts}
+use Rattle.rr_model.specs.Text.Rules.{split_once, name_of, is_present, with_part_value, with_part, with_parts, no_parts, without_last_semicolon, parts_of}
+use Rattle.rr_model.specs.Text.Rules.{line_value, rule_parts}
 use Rattle.rr_model.specs.Text.RuleValues.{freq_named, weekday_named, number_up_to, unsigned, signed, seconds, numbers_of, day_items_of, pieces}
 use Rattle.rr_model.specs.Rule.Validity.{IsCount, LieFrom, CountUpTo, IsDayItem}
 use Rattle.rr_model.specs.Rising.{Rises, day_item_lt}
@@ -69,44 +70,60 @@ no_parts-valid = record {
 }
 
 -- each value is one of its part
-with_part_value-valid : (line : ℕ) (parts : RuleParts) (name : PartName) (text : List ℕ) (more : RuleParts) → ArePartsValid parts → with_part_value line parts name text ≡ Ok more → ArePartsValid more
+with_part_value-valid : (line : ℕ) (parts : RuleParts) (name : PartName) (text : List ℕ) (more : RuleParts) → ArePartsValid parts
+    → with_part_value line parts name text ≡ Ok more → ArePartsValid more
 with_part_value-valid line parts part.Freq text more v =
     step_keeps ArePartsValid (ok_or (freq_named text) (BadRule line)) (λ x. record parts { freq = Some x }) more (λ x e. assumption)
 with_part_value-valid line parts part.Until text more v =
-    step_keeps ArePartsValid (ok_or (basic text) (BadMoment line)) (λ x. record parts { until = Some x }) more (λ x e. assumption (basic-stamp text x (ok_or_ok (basic text) _ x e)))
+    step_keeps ArePartsValid (ok_or (basic text) (BadMoment line)) (λ x. record parts { until = Some x }) more
+    (λ x e. assumption (basic-stamp text x (ok_or_ok (basic text) _ x e)))
 with_part_value-valid line parts part.Count text more v =
-    step_keeps ArePartsValid (number_up_to line 18_446_744_073_709_551_615 text) (λ x. record parts { count = Some x }) more (λ x e. assumption (number_up_to-lies line _ text x e))
+    step_keeps ArePartsValid (number_up_to line 18_446_744_073_709_551_615 text) (λ x. record parts { count = Some x }) more
+    (λ x e. assumption (number_up_to-lies line _ text x e))
 with_part_value-valid line parts part.Interval text more v =
-    step_keeps ArePartsValid (number_up_to line 4_294_967_295 text) (λ x. record parts { interval = Some x }) more (λ x e. assumption (number_up_to-lies line _ text x e))
+    step_keeps ArePartsValid (number_up_to line 4_294_967_295 text) (λ x. record parts { interval = Some x }) more
+    (λ x e. assumption (number_up_to-lies line _ text x e))
 with_part_value-valid line parts part.WeekStart text more v =
-    step_keeps ArePartsValid (ok_or (weekday_named text) (BadRule line)) (λ x. record parts { week_start = Some x }) more (λ x e. assumption (weekday_named-below text x (ok_or_ok (weekday_named text) _ x e)))
+    step_keeps ArePartsValid (ok_or (weekday_named text) (BadRule line)) (λ x. record parts { week_start = Some x }) more
+    (λ x e. assumption (weekday_named-below text x (ok_or_ok (weekday_named text) _ x e)))
 with_part_value-valid line parts part.BySecond text more v =
-    step_keeps ArePartsValid (numbers_of line seconds text) (λ x. record parts { by_second = x }) more (λ x e. assumption (numbers_of-lie line 0 59 true text x e, numbers_of-rise line _ text x e))
+    step_keeps ArePartsValid (numbers_of line seconds text) (λ x. record parts { by_second = x }) more
+    (λ x e. assumption (numbers_of-lie line 0 59 true text x e, numbers_of-rise line _ text x e))
 with_part_value-valid line parts part.ByMinute text more v =
-    step_keeps ArePartsValid (numbers_of line (unsigned 0 59) text) (λ x. record parts { by_minute = x }) more (λ x e. assumption (numbers_of-lie line 0 59 false text x e, numbers_of-rise line _ text x e))
+    step_keeps ArePartsValid (numbers_of line (unsigned 0 59) text) (λ x. record parts { by_minute = x }) more
+    (λ x e. assumption (numbers_of-lie line 0 59 false text x e, numbers_of-rise line _ text x e))
 with_part_value-valid line parts part.ByHour text more v =
-    step_keeps ArePartsValid (numbers_of line (unsigned 0 23) text) (λ x. record parts { by_hour = x }) more (λ x e. assumption (numbers_of-lie line 0 23 false text x e, numbers_of-rise line _ text x e))
+    step_keeps ArePartsValid (numbers_of line (unsigned 0 23) text) (λ x. record parts { by_hour = x }) more
+    (λ x e. assumption (numbers_of-lie line 0 23 false text x e, numbers_of-rise line _ text x e))
 with_part_value-valid line parts part.ByDay text more v =
-    step_keeps ArePartsValid (day_items_of line text) (λ x. record parts { by_day = x }) more (λ x e. assumption (day_items_of-means line text x e, day_items_of-rise line text x e))
+    step_keeps ArePartsValid (day_items_of line text) (λ x. record parts { by_day = x }) more
+    (λ x e. assumption (day_items_of-means line text x e, day_items_of-rise line text x e))
 with_part_value-valid line parts part.ByMonthDay text more v =
-    step_keeps ArePartsValid (numbers_of line (signed 31) text) (λ x. record parts { by_month_day = x }) more (λ x e. assumption (numbers_of-counts line 31 text x e, numbers_of-rise line _ text x e))
+    step_keeps ArePartsValid (numbers_of line (signed 31) text) (λ x. record parts { by_month_day = x }) more
+    (λ x e. assumption (numbers_of-counts line 31 text x e, numbers_of-rise line _ text x e))
 with_part_value-valid line parts part.ByYearDay text more v =
-    step_keeps ArePartsValid (numbers_of line (signed 366) text) (λ x. record parts { by_year_day = x }) more (λ x e. assumption (numbers_of-counts line 366 text x e, numbers_of-rise line _ text x e))
+    step_keeps ArePartsValid (numbers_of line (signed 366) text) (λ x. record parts { by_year_day = x }) more
+    (λ x e. assumption (numbers_of-counts line 366 text x e, numbers_of-rise line _ text x e))
 with_part_value-valid line parts part.ByWeekNo text more v =
-    step_keeps ArePartsValid (numbers_of line (signed 53) text) (λ x. record parts { by_week_no = x }) more (λ x e. assumption (numbers_of-counts line 53 text x e, numbers_of-rise line _ text x e))
+    step_keeps ArePartsValid (numbers_of line (signed 53) text) (λ x. record parts { by_week_no = x }) more
+    (λ x e. assumption (numbers_of-counts line 53 text x e, numbers_of-rise line _ text x e))
 with_part_value-valid line parts part.ByMonth text more v =
-    step_keeps ArePartsValid (numbers_of line (unsigned 1 12) text) (λ x. record parts { by_month = x }) more (λ x e. assumption (numbers_of-lie line 1 12 false text x e, numbers_of-rise line _ text x e))
+    step_keeps ArePartsValid (numbers_of line (unsigned 1 12) text) (λ x. record parts { by_month = x }) more
+    (λ x e. assumption (numbers_of-lie line 1 12 false text x e, numbers_of-rise line _ text x e))
 with_part_value-valid line parts part.BySetPos text more v =
-    step_keeps ArePartsValid (numbers_of line (signed 366) text) (λ x. record parts { by_set_pos = x }) more (λ x e. assumption (numbers_of-counts line 366 text x e, numbers_of-rise line _ text x e))
+    step_keeps ArePartsValid (numbers_of line (signed 366) text) (λ x. record parts { by_set_pos = x }) more
+    (λ x e. assumption (numbers_of-counts line 366 text x e, numbers_of-rise line _ text x e))
 
-with_part-valid : (line : ℕ) (parts : RuleParts) (text : List ℕ) (more : RuleParts) → ArePartsValid parts → with_part line parts text ≡ Ok more → ArePartsValid more
+with_part-valid : (line : ℕ) (parts : RuleParts) (text : List ℕ) (more : RuleParts) → ArePartsValid parts → with_part line parts text ≡ Ok more
+    → ArePartsValid more
 unfolding with_part
 with_part-valid line parts text more v h =
     let sides = and_then_ok (ok_or (split_once 61 text) (BadRule line)) _ more h in
     let name = and_then_ok (name_of line sides.0.0) _ more sides.2 in
     with_part_value-valid line parts name.0 sides.0.1 more v (not_refused (is_present parts name.0) (PartTwice line) _ more name.2).1
 
-with_parts-valid : (line : ℕ) (parts : RuleParts) (texts : List (List ℕ)) (all : RuleParts) → ArePartsValid parts → with_parts line parts texts ≡ Ok all → ArePartsValid all
+with_parts-valid : (line : ℕ) (parts : RuleParts) (texts : List (List ℕ)) (all : RuleParts) → ArePartsValid parts → with_parts line parts texts ≡ Ok all
+    → ArePartsValid all
 with_parts-valid line parts [] all v h =
     let same : parts ≡ all = cc in
     subst ArePartsValid same v

@@ -1,5 +1,6 @@
 -- The candidate at a place of its unit.
-use Rattle.std.proofs.Common.{◌≡◌, ℕ, suc, ◌+◌, ◌-◌, ◌*◌, ◌<◌, ◌≤◌, Bool, true, false, Some, None, inl, inr, ℤ, pos, neg_ℤ, nat_abs, ◌+ℤ◌, ◌-ℤ◌, ◌<ℤ◌, refl, sym, ap, ◌∙◌, arith}
+use Rattle.std.proofs.Common.{◌≡◌, ℕ, suc, ◌+◌, ◌-◌, ◌*◌, ◌<◌, ◌≤◌, Bool, true, false, Some, None, inl, inr, ℤ, pos, neg_ℤ, nat_abs, ◌+ℤ◌, ◌-ℤ◌, ◌<ℤ◌, refl}
+use Rattle.std.proofs.Common.{sym, ap, ◌∙◌, arith}
 use Rattle.std.proofs.lemmas.Int.{ints}
 use Rattle.std.proofs.lemmas.Bool.{cases_lt, false≢true}
 use Rattle.rr_model.specs.Whole.{divides}
@@ -23,7 +24,8 @@ use Rattle.rr_setpos.specs.Ranks.{times_before, days_among, first_of_unit, next_
 use Rattle.rr_setpos.specs.Nth.{IsPlaceOf, IsRankOf, IsNthOfUnit}
 use Rattle.rr_setpos.proofs.ProductLemmas.{count_seconds-mono}
 use Rattle.rr_setpos.proofs.TimeCountLemmas.{below_more}
-use Rattle.rr_setpos.proofs.PositionLemmas.{day_at, second_at, positions_are_ranks, within_unit, unit_of_day, second_part-below, moment_is, coarse_rank, coarse_size, candidate_parts, of_moments, fine_begin, fine_next, begin_bounds}
+use Rattle.rr_setpos.proofs.PositionLemmas.{day_at, second_at, positions_are_ranks, within_unit, unit_of_day, second_part-below, moment_is, coarse_rank}
+use Rattle.rr_setpos.proofs.PositionLemmas.{coarse_size, candidate_parts, of_moments, fine_begin, fine_next, begin_bounds}
 
 -- ---- places and positions
 

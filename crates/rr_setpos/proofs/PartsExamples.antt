@@ -26,7 +26,8 @@ office = record {
 
 -- from 2024-01-01T09:30:00 on: 09:30:00 and 17:30:00, and not 09:00:00
 of_times :
-    (time_holds office Moments (pos 1_704_101_400) 34_200 ∷ time_holds office Moments (pos 1_704_101_400) 63_000 ∷ time_holds office Moments (pos 1_704_101_400) 32_400 ∷ [])
+    (time_holds office Moments (pos 1_704_101_400) 34_200 ∷ time_holds office Moments (pos 1_704_101_400) 63_000 ∷ time_holds office Moments
+    (pos 1_704_101_400) 32_400 ∷ [])
     ≡ (true ∷ true ∷ false ∷ [])
 of_times = refl
 

@@ -1,5 +1,6 @@
 -- The positions of a candidate among those of its unit, counted over days and times.
-use Rattle.std.proofs.Common.{◌≡◌, ℕ, zero, suc, ◌+◌, ◌-◌, ◌*◌, ◌/◌, ◌%◌, ◌<◌, ◌≤◌, Bool, true, false, cond, ◌&&◌, ℤ, pos, nat_abs, ◌+ℤ◌, ◌-ℤ◌, ◌*ℤ◌, ◌≤ℤ◌, ◌<ℤ◌, refl, sym, ap, ◌∙◌, arith}
+use Rattle.std.proofs.Common.{◌≡◌, ℕ, zero, suc, ◌+◌, ◌-◌, ◌*◌, ◌/◌, ◌%◌, ◌<◌, ◌≤◌, Bool, true, false, cond, ◌&&◌, ℤ, pos, nat_abs, ◌+ℤ◌, ◌-ℤ◌, ◌*ℤ◌, ◌≤ℤ◌}
+use Rattle.std.proofs.Common.{◌<ℤ◌, refl, sym, ap, ◌∙◌, arith}
 use Rattle.std.specs.Prelude.{IsTrue}
 use Rattle.std.proofs.lemmas.Int.{ints}
 use Rattle.rr_model.specs.Whole.{divides}
@@ -22,8 +23,10 @@ use Rattle.rr_model.specs.Rule.DaysAndTimes.{seconds_of, time_holds, day_holds}
 use Rattle.rr_model.proofs.DaysAndTimesLemmas.{time_parts_hold-at, and_parts, candidates_are_days_and_times}
 use Rattle.rr_model.proofs.MomentLemmas.{day_part-moment_at, second_part-moment_at}
 use Rattle.rr_model.specs.Sets.Counting.{count_seconds}
-use Rattle.rr_setpos.specs.Ranks.{times_before, days_among, first_of_unit, next_of_unit, days_before, days_of_unit, rank_in_unit, size_of_unit, begin_in_day, rank_by_parts, size_by_parts, is_rank_listed, PositionsAreByParts, SetPositionsAreByParts}
-use Rattle.rr_setpos.proofs.ProductLemmas.{IsProduct, count_product, count_from-split, count_from-same, count_seconds-zero, count_seconds-suc, count_seconds-split}
+use Rattle.rr_setpos.specs.Ranks.{times_before, days_among, first_of_unit, next_of_unit, days_before, days_of_unit, rank_in_unit, size_of_unit}
+use Rattle.rr_setpos.specs.Ranks.{begin_in_day, rank_by_parts, size_by_parts, is_rank_listed, PositionsAreByParts, SetPositionsAreByParts}
+use Rattle.rr_setpos.proofs.ProductLemmas.{IsProduct, count_product, count_from-split, count_from-same, count_seconds-zero, count_seconds-suc}
+use Rattle.rr_setpos.proofs.ProductLemmas.{count_seconds-split}
 
 -- ---- positions are ranks: from the front one more, from the back what is left
 

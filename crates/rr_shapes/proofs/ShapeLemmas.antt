@@ -1,5 +1,6 @@
 -- Lists of distinct time sets.
-use Rattle.std.proofs.Common.{inl, inr, get_or, length-append, ◌≡◌, ℕ, ◌+◌, ◌<◌, ◌≤◌, List, [], ◌∷◌, ◌++◌, length, Bool, true, false, cond, nat_eq, Some, slice_get, position, Contains, true≢false, refl, sym, ap, ◌∙◌, arith}
+use Rattle.std.proofs.Common.{inl, inr, get_or, length-append, ◌≡◌, ℕ, ◌+◌, ◌<◌, ◌≤◌, List, [], ◌∷◌, ◌++◌, length, Bool, true, false, cond, nat_eq, Some}
+use Rattle.std.proofs.Common.{slice_get, position, Contains, true≢false, refl, sym, ap, ◌∙◌, arith}
 use Rattle.std.proofs.lemmas.Cmp.{nat_list_eq_equiv}
 use Rattle.std.proofs.lemmas.Bool.{cases_lt}
 use Rattle.std.proofs.lemmas.List.{get_or_append_left}
@@ -87,11 +88,17 @@ module _ (sets : List (List ℕ)) (size : ℕ) (times : List ℕ) (counts : IsCo
   next_number new number last at =
       let within : number < length sets + 1 = omega (arith, slice_get_within new number times at, ap length last, length-append sets (times ∷ [])) in
       elim (cases_lt number (length sets)) [
-        | inl l ↦ absurd (absent sets times fresh (number, l, sym (get_or_append_left sets (times ∷ []) times number l) ∙ ap (λ ks. get_or ks number times) (sym last) ∙ get_or_from_slice_get new number times times at))
+        | inl l ↦ absurd (absent sets times fresh (
+          number,
+          l,
+          sym (get_or_append_left sets (times ∷ []) times number l)
+              ∙ ap (λ ks. get_or ks number times) (sym last) ∙ get_or_from_slice_get new number times times at,
+        ))
         | inr l ↦ omega arith
       ]
 
-  pub new_placed : (new : List (List ℕ)) (number : ℕ) (stored : List ℕ) → new ≡ insert_key same sets times → slice_get new number ≡ Some stored → same times stored ≡ true → IsPlaced times sets new number
+  pub new_placed : (new : List (List ℕ)) (number : ℕ) (stored : List ℕ) → new ≡ insert_key same sets times → slice_get new number ≡ Some stored
+      → same times stored ≡ true → IsPlaced times sets new number
   new_placed new number stored e at is =
       let stands : slice_get new number ≡ Some times = at ∙ ap Some (sym ((bytes_decides times stored).0 is)) in
       record {
@@ -101,7 +108,8 @@ module _ (sets : List (List ℕ)) (size : ℕ) (times : List ℕ) (counts : IsCo
       }
 
   -- and is counted
-  pub new_counted : (new : List (List ℕ)) (more : ℕ) → new ≡ insert_key same sets times → IsDistinct same new → IsSecondsOfDay times → more ≡ length times → size + more ≤ 16_777_216 → IsCounted new (size + more)
+  pub new_counted : (new : List (List ℕ)) (more : ℕ) → new ≡ insert_key same sets times → IsDistinct same new → IsSecondsOfDay times → more ≡ length times
+      → size + more ≤ 16_777_216 → IsCounted new (size + more)
   new_counted new more e distinct day sized room =
       let last = inserted new e in
       let total : total_size new ≡ total_size sets + length times = ap total_size last ∙ sum_by_push length sets times in

@@ -1,5 +1,6 @@
 -- A vCalendar rule and its counterpart choose the same moments, family by family.
-use Rattle.std.proofs.Common.{◌≡◌, ℕ, ◌≤◌, ◌==◌, ◌&&◌, ◌||◌, Bool, true, false, if◌then◌else◌, List, [], ◌∷◌, Option, None, Some, length, refl, sym, ap, ◌∙◌, arith, ℤ, pos, ◌-ℤ◌}
+use Rattle.std.proofs.Common.{◌≡◌, ℕ, ◌≤◌, ◌==◌, ◌&&◌, ◌||◌, Bool, true, false, if◌then◌else◌, List, [], ◌∷◌, Option, None, Some, length, refl, sym, ap}
+use Rattle.std.proofs.Common.{◌∙◌, arith, ℤ, pos, ◌-ℤ◌}
 use Rattle.std.specs.Prelude.{int_lt, All}
 use Rattle.std.specs.List.{list_any, AllByRecursion}
 use Rattle.std.proofs.lemmas.List.Elements.{recursion_from_All}
@@ -17,7 +18,8 @@ use Rattle.rr_model.specs.Calendar.{weekday_of}
 use Rattle.rr_model.specs.declared.kind.Kind.{Kind}
 use Rattle.rr_model.specs.declared.rule.DayItem.{DayItem}
 use Rattle.rr_model.specs.declared.rule.End.{End}
-use Rattle.rr_model.specs.Vcal.Counterpart.{family_freq, rule_of_vrule, values_of, with_option, day_item, day_of_item, month_of_item, month_day_of_item, year_day_of_item}
+use Rattle.rr_model.specs.Vcal.Counterpart.{family_freq, rule_of_vrule, values_of, with_option, day_item, day_of_item, month_of_item, month_day_of_item}
+use Rattle.rr_model.specs.Vcal.Counterpart.{year_day_of_item}
 use Rattle.rr_model.specs.Vcal.Members.{family_unit, item_holds, is_vcal_candidate}
 use Rattle.rr_model.specs.Vcal.Validity.{IsItemOf}
 use Rattle.rr_model.specs.declared.vcal.FamilyKind.{FamilyKind}

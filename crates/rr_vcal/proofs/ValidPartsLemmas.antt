@@ -1,5 +1,6 @@
 -- The words of a rule that are read leave valid parts.
-use Rattle.std.proofs.Common.{◌≡◌, ℕ, ◌<◌, ◌≤◌, ◌&&◌, ◌||◌, Bool, true, false, if◌then◌else◌, List, [], ◌∷◌, length, Option, None, Some, Result, Ok, ℤ, pos, neg_ℤ, nat_abs, refl, sym, subst, arith}
+use Rattle.std.proofs.Common.{◌≡◌, ℕ, ◌<◌, ◌≤◌, ◌&&◌, ◌||◌, Bool, true, false, if◌then◌else◌, List, [], ◌∷◌, length, Option, None, Some, Result, Ok, ℤ, pos}
+use Rattle.std.proofs.Common.{neg_ℤ, nat_abs, refl, sym, subst, arith}
 use Rattle.std.specs.Prelude.{All, nat_le, int_lt, ok_or, codes}
 use Rattle.std.specs.List.{AllByRecursion}
 use Rattle.std.specs.Option.{IfSome, is_some}
@@ -14,7 +15,9 @@ use Rattle.rr_model.specs.Text.Moments.{basic}
 use Rattle.rr_model.specs.Text.Rules.{text_after}
 use Rattle.rr_model.specs.Text.RuleValues.{is_number, number_up_to, weekday_named}
 use Rattle.rr_model.specs.Vcal.Items.{item_lt}
-use Rattle.rr_model.specs.Vcal.Rule.{head_of, first_items, parts_of_head, is_short_number, place_of, number_of, front, ends_with, marked_place, month_day_of, put_item, put_places, with_group_weekday, with_group_place, with_group_word, with_list_word, is_list_whole, is_moment_word, with_end_moment, with_count, with_marked_word, with_word, with_piece, finished}
+use Rattle.rr_model.specs.Vcal.Rule.{head_of, first_items, parts_of_head, is_short_number, place_of, number_of, front, ends_with, marked_place}
+use Rattle.rr_model.specs.Vcal.Rule.{month_day_of, put_item, put_places, with_group_weekday, with_group_place, with_group_word, with_list_word}
+use Rattle.rr_model.specs.Vcal.Rule.{is_list_whole, is_moment_word, with_end_moment, with_count, with_marked_word, with_word, with_piece, finished}
 use Rattle.rr_model.specs.Vcal.Validity.{IsItemOf}
 use Rattle.rr_model.specs.declared.item.Item.{Item}
 use Rattle.rr_model.specs.declared.item.Item.TheVariants.{Every, Weekday, MonthDay, Place, Month, YearDay}

@@ -10,7 +10,8 @@ use Rattle.rr_model.specs.Calendar.{day_of_month, year_of, month_of}
 use Rattle.rr_model.specs.Moment.{day_part}
 use Rattle.rr_model.specs.Rising.{Rises, day_item_lt}
 use Rattle.rr_model.specs.Rule.Validity.{has_place, is_allowed, IsDayItem, IsValidRule, takes_start}
-use Rattle.rr_model.specs.Vcal.Counterpart.{family_freq, with_option, values_of, day_of_item, month_of_item, month_day_of_item, year_day_of_item, month_days_of, rule_of_vrule}
+use Rattle.rr_model.specs.Vcal.Counterpart.{family_freq, with_option, values_of, day_of_item, month_of_item, month_day_of_item, year_day_of_item}
+use Rattle.rr_model.specs.Vcal.Counterpart.{month_days_of, rule_of_vrule}
 use Rattle.rr_model.specs.Vcal.Validity.{IsItemOf, IsValidVRule}
 use Rattle.rr_model.specs.declared.kind.Kind.{Kind}
 use Rattle.rr_model.specs.declared.rule.DayItem.{DayItem}

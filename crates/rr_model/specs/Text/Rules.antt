@@ -1,10 +1,12 @@
 -- What the value of a rule states, or the first refusal (RFC 5545, section 3.3.10).
-use Rattle.std.specs.Prelude.{ℕ, ◌+◌, ◌-◌, ◌==◌, Bool, true, false, not, ◌||◌, if◌then◌else◌, List, [], ◌∷◌, reverse, length, take, drop, codes, Option, None, Some, ok_or, unwrap_or, option_map, position, Result, Ok, Err}
+use Rattle.std.specs.Prelude.{ℕ, ◌+◌, ◌-◌, ◌==◌, Bool, true, false, not, ◌||◌, if◌then◌else◌, List, [], ◌∷◌, reverse, length, take, drop, codes, Option}
+use Rattle.std.specs.Prelude.{None, Some, ok_or, unwrap_or, option_map, position, Result, Ok, Err}
 use Rattle.std.specs.List.{take_while}
 use Rattle.std.specs.Option.{is_some}
 use Rattle.std.specs.Str.{bytes_eq, str_to_ascii_uppercase}
 use Rattle.rr_model.specs.Text.Moments.{basic}
-use Rattle.rr_model.specs.Text.RuleValues.{◌>>=◌, pieces, in_table, freq_named, weekday_named, number_up_to, unsigned, signed, seconds, numbers_of, day_items_of}
+use Rattle.rr_model.specs.Text.RuleValues.{◌>>=◌, pieces, in_table, freq_named, weekday_named, number_up_to, unsigned, signed, seconds, numbers_of}
+use Rattle.rr_model.specs.Text.RuleValues.{day_items_of}
 use Rattle.rr_model.specs.Rule.Validity.{is_absent, is_allowed}
 use Rattle.rr_model.specs.declared.kind.Kind.{Kind}
 use Rattle.rr_model.specs.declared.kind.Kind.TheVariants.{Days, Moments}

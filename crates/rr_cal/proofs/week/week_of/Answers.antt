@@ -5,7 +5,8 @@ use Rattle.rr_model.proofs.WeekLemmas.{IsDate-december_28, week_number_bounds, l
 use Rattle.rr_cal.proofs.NearLemmas.{IsDayWithin-wider, IsDayWithin-fourth_day, IsDayWithin-same_year}
 use Rattle.rr_cal.proofs.week.week_of.Goals as goal
 
--- The values on the way, as the definitions have them: the fourth day f of the week of d, its year y, 28 December e of that year, and the fourth day l of its week.
+-- The values on the way, as the definitions have them: the fourth day f of the week of d, its year y, 28 December e of that year,
+-- and the fourth day l of its week.
 module _ (w : ℕ) (d f : ℤ) (hd : FitsSigned w64 d) (hf : FitsSigned w64 f) (is_f : f ≡ fourth_day (week_index (to_z w64 (of_z w64 d)) w) w) where
   fourth : to_z w64 (of_z w64 f) ≡ fourth_day (week_index d w) w
   fourth = to_z-of_z hf ∙ is_f ∙ ap (λ z. fourth_day (week_index z w) w) (to_z-of_z hd)

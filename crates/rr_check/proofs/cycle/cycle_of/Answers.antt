@@ -26,11 +26,15 @@ loop-rule-preserved c =
     let next = next_is rules c.loop-rule.rule-index rule c.loop-rule-test.true c.rule-item.is in
     let joined : c.in-Some.joined ≡ lcm n (endless_cycle rule.end rule) = c.in-Some.ensures.1 ∙ ap (lcm n) c.endless_cycle.ensures.value in
     let some = still_some rules c.loop-rule.rule-index n rule c.requires c.loop-rule.invariant.0 next c.loop-rule.invariant.2 in
-    let on = joined_on rules c.loop-rule.rule-index n rule c.requires c.loop-rule.invariant.0 next c.loop-rule.invariant.2 in
-    (omega (arith, some, joined), omega (arith, c.in-Some.ensures.0, c.in-Some.ensures.1), ap (λ m. lcm m (rules_cycle (drop (c.loop-rule.rule-index + 1) rules))) joined ∙ on)
+    let on = joined_on rules c.loop-rule.rule-index n rule c.requires c.loop-rule.invariant.0 next c.loop-rule.invariant.2 in (
+      omega (arith, some, joined),
+      omega (arith, c.in-Some.ensures.0, c.in-Some.ensures.1),
+      ap (λ m. lcm m (rules_cycle (drop (c.loop-rule.rule-index + 1) rules))) joined ∙ on,
+    )
 
 pub returns : goal.returns
 returns c =
     let over : drop c.loop-rule.rule-index c.args.rules.now ≡ [] = drop_all c.loop-rule.rule-index c.args.rules.now (omega (arith, c.loop-rule-test.false)) in
-    let all = sym (joined-none c.loop-rule.cycle c.loop-rule.invariant.0) ∙ ap (λ z. lcm c.loop-rule.cycle (rules_cycle z)) (sym over) ∙ c.loop-rule.invariant.2 in
+    let all = sym (joined-none c.loop-rule.cycle c.loop-rule.invariant.0) ∙ ap (λ z. lcm c.loop-rule.cycle (rules_cycle z)) (sym over)
+    ∙ c.loop-rule.invariant.2 in
     (omega (arith, all, c.loop-rule.invariant.1), all)

@@ -11,8 +11,10 @@ returns-then-is_some c =
     let rule = c.rule-item.result in
     let i = c.loop-rule.rule-index in
     let next = next_is c.as_slice-rule-items.result.now i rule c.loop-rule-test.true c.rule-item.is in
-    let refusal : c.rule_refusal-refusal.result ≡ rule_refusal c.loop-rule.number series.kind series.start rule = rw (to_z-of_z fits) at c.rule_refusal-refusal.ensures in
-    let some : is_some (rule_refusal c.loop-rule.number series.kind series.start rule) ≡ true = ap is_some (sym refusal) ∙ sym c.is_some.ensures ∙ c.if-is_some.true in
+    let refusal : c.rule_refusal-refusal.result ≡ rule_refusal c.loop-rule.number series.kind series.start rule =
+    rw (to_z-of_z fits) at c.rule_refusal-refusal.ensures in
+    let some : is_some (rule_refusal c.loop-rule.number series.kind series.start rule) ≡ true =
+    ap is_some (sym refusal) ∙ sym c.is_some.ensures ∙ c.if-is_some.true in
     refusal ∙ sym (refusal_is c.loop-rule.number i series.kind series.start c.as_slice-rule-items.result.now rule next some) ∙ c.loop-rule.invariant.1
 
 pub loop-rule-preserved : goal.loop-rule-preserved
@@ -22,6 +24,11 @@ loop-rule-preserved c =
     let rule = c.rule-item.result in
     let i = c.loop-rule.rule-index in
     let next = next_is c.as_slice-rule-items.result.now i rule c.loop-rule-test.true c.rule-item.is in
-    let refusal : c.rule_refusal-refusal.result ≡ rule_refusal c.loop-rule.number series.kind series.start rule = rw (to_z-of_z fits) at c.rule_refusal-refusal.ensures in
-    let none : is_some (rule_refusal c.loop-rule.number series.kind series.start rule) ≡ false = ap is_some (sym refusal) ∙ sym c.is_some.ensures ∙ c.if-is_some.false in
-    (omega (arith, c.loop-rule.invariant.0), refusal_later c.loop-rule.number i series.kind series.start c.as_slice-rule-items.result.now rule next none ∙ c.loop-rule.invariant.1)
+    let refusal : c.rule_refusal-refusal.result ≡ rule_refusal c.loop-rule.number series.kind series.start rule =
+    rw (to_z-of_z fits) at c.rule_refusal-refusal.ensures in
+    let none : is_some (rule_refusal c.loop-rule.number series.kind series.start rule) ≡ false =
+    ap is_some (sym refusal) ∙ sym c.is_some.ensures ∙ c.if-is_some.false in (
+      omega (arith, c.loop-rule.invariant.0),
+      refusal_later c.loop-rule.number i series.kind series.start c.as_slice-rule-items.result.now rule next none
+          ∙ c.loop-rule.invariant.1,
+    )

@@ -11,7 +11,9 @@ use Rattle.rr_model.specs.declared.rule.Rule.{Rule}
 use Rattle.rr_model.proofs.YearLemmas.{four_digit_year}
 use Rattle.rr_check.proofs.tests.series.Goals as goal
 
-one_rule : (rule : Rule) (start : ℤ) (rules : List Rule) (plus minus : List ℤ) → IsValidRule Days rule → rule.end ≡ Never → rules ≡ rule ∷ [] → plus ≡ [] → minus ≡ [] → pos 0 ≤ℤ start → start ≤ℤ pos 2_932_896 → IsValidSeries (record { kind = Days; start = start; start_counts = true; rules = rules; plus = plus; minus = minus })
+one_rule : (rule : Rule) (start : ℤ) (rules : List Rule) (plus minus : List ℤ) → IsValidRule Days rule → rule.end ≡ Never → rules ≡ rule ∷ [] → plus ≡ []
+    → minus ≡ [] → pos 0 ≤ℤ start → start ≤ℤ pos 2_932_896
+    → IsValidSeries (record { kind = Days; start = start; start_counts = true; rules = rules; plus = plus; minus = minus })
 one_rule rule start rules plus minus valid end one none nothing low high =
     rw (one, none, nothing) (record {
       start = (four_digit_year start).1 (omega (arith, ints, low), high);
@@ -30,4 +32,8 @@ pub returns : goal.returns
 returns c =
     let rule = c.in_ok-mondays.field-0 in
     let one : c.put.new.self ≡ rule ∷ [] = c.in_ok-put.ensures.ok ∙ ap (λ l. l ++ rule ∷ []) c.new-rules.ensures in
-    rw (to_z-of_z c.ranges.start) (record { valid = one_rule rule c.args.start c.put.new.self c.new.result c.new-2.result c.in_ok-mondays.ensures.valid c.in_ok-mondays.ensures.end one c.new.ensures c.new-2.ensures c.requires.low c.requires.high })
+    rw (to_z-of_z c.ranges.start) (record {
+      valid =
+          one_rule rule c.args.start c.put.new.self c.new.result c.new-2.result c.in_ok-mondays.ensures.valid c.in_ok-mondays.ensures.end one c.new.ensures
+          c.new-2.ensures c.requires.low c.requires.high;
+    })

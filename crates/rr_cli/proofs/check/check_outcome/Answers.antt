@@ -11,11 +11,13 @@ use Rattle.rr_cli.proofs.check.check_outcome.Goals as goal
 pub returns-in-Err : goal.returns-in-Err
 returns-in-Err c =
     IfOk-weaker c.refused_for.result _ _
-    (λ x said. fault_said A cycle_limit (operand_read (option_map operand_in c.args.operand) c.args.bytes.now) _ c.in-Err.fault (answer_of x) (c.in-Err.ensures.refused cycle_limit refl) said)
+    (λ x said. fault_said A cycle_limit (operand_read (option_map operand_in c.args.operand) c.args.bytes.now) _ c.in-Err.fault (answer_of x)
+    (c.in-Err.ensures.refused cycle_limit refl) said)
     c.refused_for.ensures
 
 pub returns-in-Ok : goal.returns-in-Ok
 returns-in-Ok c =
     IfOk-weaker c.cycle_outcome.result _ _
-    (λ x said. cycle_is_said (operand_read (option_map operand_in c.args.operand) c.args.bytes.now) c.in-Ok.admitted.series c.in-Ok.admitted.cycle (answer_of x) c.in-Ok.ensures.accepted said)
+    (λ x said. cycle_is_said (operand_read (option_map operand_in c.args.operand) c.args.bytes.now) c.in-Ok.admitted.series c.in-Ok.admitted.cycle
+    (answer_of x) c.in-Ok.ensures.accepted said)
     c.cycle_outcome.ensures

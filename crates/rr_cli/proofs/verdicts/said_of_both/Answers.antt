@@ -9,5 +9,6 @@ said-requires c = printable _ _ c.requires.a c.requires.b c.args.question c.verd
 pub returns : goal.returns
 returns c =
     let few = c.repeat_together-together.ensures.0 c.if-not-together.false in
-    IfOk-weaker c.said.result _ _ (λ x e s u fold fold'. verdict_said c.args.question s u _ _ fold fold' c.verdict.result (answer_of x) few c.verdict.ensures.verdict e)
+    IfOk-weaker c.said.result _ _
+    (λ x e s u fold fold'. verdict_said c.args.question s u _ _ fold fold' c.verdict.result (answer_of x) few c.verdict.ensures.verdict e)
     c.said.ensures

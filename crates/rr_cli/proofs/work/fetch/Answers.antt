@@ -5,4 +5,5 @@ use Rattle.rr_cli.proofs.work.fetch.Goals as goal
 
 pub returns-in-Some-clause-bytes : goal.returns-in-Some-clause-bytes
 returns-in-Some-clause-bytes g c =
-    rw c.in-Some.is (fetched (λ (v : Vec ℕ Global). v.items) (MAX_INPUT + 1) (g.S.Source.held c.args.source.now c.in-Some.operand.name.now) c.fetch.result c.fetch.ensures.bytes)
+    rw c.in-Some.is (fetched (λ (v : Vec ℕ Global). v.items) (MAX_INPUT + 1)
+    (g.S.Source.held c.args.source.now c.in-Some.operand.name.now) c.fetch.result c.fetch.ensures.bytes)

@@ -14,12 +14,17 @@ first_shown-requires-clause-ys g c =
 
 pub returns-in-Some-clause-some : goal.returns-in-Some-clause-some
 returns-in-Some-clause-some g c =
-    first_one (shown_by c.args.question) (g.A.DaySeq.sketch c.args.a.now) (g.B.DaySeq.sketch c.args.b.now) c.args.from (to_z w64 (of_z w64 c.args.from)) _ c.loop-k.k c.in-Some.second c.in-Some.side c.at.result.now c.at-in-loop-k.result.now (to_z-of_z w64 c.args.from c.ranges.from) (omega (arith, ints)) c.at.ensures c.at-in-loop-k.ensures c.loop-k.invariant c.in-Some.ensures
+    first_one (shown_by c.args.question) (g.A.DaySeq.sketch c.args.a.now) (g.B.DaySeq.sketch c.args.b.now) c.args.from
+    (to_z w64 (of_z w64 c.args.from)) _ c.loop-k.k c.in-Some.second c.in-Some.side c.at.result.now c.at-in-loop-k.result.now
+    (to_z-of_z w64 c.args.from c.ranges.from) (omega (arith, ints)) c.at.ensures c.at-in-loop-k.ensures c.loop-k.invariant c.in-Some.ensures
 
 pub loop-k-preserved : goal.loop-k-preserved
 loop-k-preserved g c =
-    none_one_more (shown_by c.args.question) (g.A.DaySeq.sketch c.args.a.now) (g.B.DaySeq.sketch c.args.b.now) (to_z w64 (of_z w64 c.args.from)) _ c.loop-k.k c.at.result.now c.at-in-loop-k.result.now (omega (arith, ints)) c.at.ensures c.at-in-loop-k.ensures c.loop-k.invariant c.in_default.ensures
+    none_one_more (shown_by c.args.question) (g.A.DaySeq.sketch c.args.a.now) (g.B.DaySeq.sketch c.args.b.now)
+    (to_z w64 (of_z w64 c.args.from)) _ c.loop-k.k c.at.result.now c.at-in-loop-k.result.now
+    (omega (arith, ints)) c.at.ensures c.at-in-loop-k.ensures c.loop-k.invariant c.in_default.ensures
 
 pub returns-clause-none : goal.returns-clause-none
 returns-clause-none g c =
-    none_to_end (shown_by c.args.question) (g.A.DaySeq.sketch c.args.a.now) (g.B.DaySeq.sketch c.args.b.now) c.args.from (to_z w64 (of_z w64 c.args.from)) c.loop-k.k c.args.days (to_z-of_z w64 c.args.from c.ranges.from) (omega arith) c.loop-k.invariant
+    none_to_end (shown_by c.args.question) (g.A.DaySeq.sketch c.args.a.now) (g.B.DaySeq.sketch c.args.b.now) c.args.from
+    (to_z w64 (of_z w64 c.args.from)) c.loop-k.k c.args.days (to_z-of_z w64 c.args.from c.ranges.from) (omega arith) c.loop-k.invariant

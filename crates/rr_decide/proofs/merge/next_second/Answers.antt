@@ -10,4 +10,5 @@ pub returns-then-is_ahead-2 : goal.returns-then-is_ahead-2
 returns-then-is_ahead-2 c = next_if_after c.args.xs.now c.args.ys.now (sym c.if-is_ahead-2.ensures) c.requires.xs c.requires.ys
 
 pub returns : goal.returns
-returns c = next_if_level c.args.xs.now c.args.ys.now (sym c.if-is_ahead.ensures) (sym c.if-is_ahead-2.ensures) (grind (arith, nat_tests)) c.requires.xs c.requires.ys
+returns c = next_if_level c.args.xs.now c.args.ys.now (sym c.if-is_ahead.ensures) (sym c.if-is_ahead-2.ensures)
+    (grind (arith, nat_tests)) c.requires.xs c.requires.ys

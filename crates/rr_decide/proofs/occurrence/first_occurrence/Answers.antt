@@ -5,8 +5,12 @@ use Rattle.rr_decide.proofs.occurrence.first_occurrence.Goals as goal
 
 pub returns-in-Some-clause-first : goal.returns-in-Some-clause-first
 returns-in-Some-clause-first g c =
-    first_occurrence_at (g.S.DaySeq.sketch c.args.seq.now) c.kind.result c.on_day.result.kind c.in-Some.day _ c.on_day.result.at c.at.result.now (g.met.S.DaySeq.bounded c.args.seq.now).valid c.in-Some.ensures.first c.on_day.ensures.kind c.kind.ensures c.at.ensures (omega (arith, ints)) c.on_day.ensures.at
+    first_occurrence_at (g.S.DaySeq.sketch c.args.seq.now) c.kind.result c.on_day.result.kind c.in-Some.day _ c.on_day.result.at c.at.result.now
+    (g.met.S.DaySeq.bounded c.args.seq.now).valid c.in-Some.ensures.first c.on_day.ensures.kind c.kind.ensures c.at.ensures
+    (omega (arith, ints)) c.on_day.ensures.at
 
 pub returns-in-Some-clause-day : goal.returns-in-Some-clause-day
 returns-in-Some-clause-day g c =
-    first_occurrence_day (g.S.DaySeq.sketch c.args.seq.now) c.kind.result c.on_day.result.kind c.in-Some.day _ c.on_day.result.at c.at.result.now (g.met.S.DaySeq.bounded c.args.seq.now).valid c.in-Some.ensures.first c.on_day.ensures.kind c.kind.ensures c.at.ensures (omega (arith, ints)) c.on_day.ensures.at c.in-Some.ensures.near
+    first_occurrence_day (g.S.DaySeq.sketch c.args.seq.now) c.kind.result c.on_day.result.kind c.in-Some.day _ c.on_day.result.at c.at.result.now
+    (g.met.S.DaySeq.bounded c.args.seq.now).valid c.in-Some.ensures.first c.on_day.ensures.kind c.kind.ensures c.at.ensures
+    (omega (arith, ints)) c.on_day.ensures.at c.in-Some.ensures.near

@@ -26,13 +26,17 @@ returns-then-comes_before-clause-verdict g c =
     let one = c.in-Some-Some.one in
     let other = c.in-Some-Some.other in
     rw c.against-then-comes_before.ensures
-    (no_on_lesser_first (shown_by c.args.question) (g.A.DaySeq.sketch c.args.a.now) (g.B.DaySeq.sketch c.args.b.now) c.requires one.kind one.at other.kind other.at
-    (rw (← c.is_shown_by-shows_a.ensures) c.in-Some-Some.ensures.first.0) c.in-Some-Some.ensures.first.1 c.in-Some-Some.ensures'.first.1 (c.if-comes_before.ensures.0 refl))
+    (no_on_lesser_first (shown_by c.args.question) (g.A.DaySeq.sketch c.args.a.now)
+    (g.B.DaySeq.sketch c.args.b.now) c.requires one.kind one.at other.kind other.at
+    (rw (← c.is_shown_by-shows_a.ensures) c.in-Some-Some.ensures.first.0) c.in-Some-Some.ensures.first.1 c.in-Some-Some.ensures'.first.1
+    (c.if-comes_before.ensures.0 refl))
 
 pub returns-else-comes_before-clause-verdict : goal.returns-else-comes_before-clause-verdict
 returns-else-comes_before-clause-verdict g c =
     let one = c.in-Some-Some.one in
     let other = c.in-Some-Some.other in
     rw c.against-else-comes_before.ensures
-    (no_on_lesser_second (shown_by c.args.question) (g.A.DaySeq.sketch c.args.a.now) (g.B.DaySeq.sketch c.args.b.now) c.requires one.kind one.at other.kind other.at
-    (rw (← c.is_shown_by-shows_b.ensures) c.in-Some-Some.ensures'.first.0) c.in-Some-Some.ensures.first.1 c.in-Some-Some.ensures'.first.1 (λ b. false≢true (c.if-comes_before.ensures.1 b)))
+    (no_on_lesser_second (shown_by c.args.question) (g.A.DaySeq.sketch c.args.a.now)
+    (g.B.DaySeq.sketch c.args.b.now) c.requires one.kind one.at other.kind other.at
+    (rw (← c.is_shown_by-shows_b.ensures) c.in-Some-Some.ensures'.first.0) c.in-Some-Some.ensures.first.1 c.in-Some-Some.ensures'.first.1
+    (λ b. false≢true (c.if-comes_before.ensures.1 b)))

@@ -17,15 +17,19 @@ returns-in-None-clause-verdict g c =
     let u = g.B.DaySeq.sketch c.args.b.now in
     let days = c.days_between.result + c.args.window in
     yes_by_days (shown_by c.args.question) s u c.requires.kind
-    (every_day (shown_by c.args.question) s u c.args.from c.max-last.result (c.args.from +ℤ pos days) c.args.window c.requires.kind c.requires.window c.requires.first_of_a c.requires.first_of_b
+    (every_day (shown_by c.args.question) s u c.args.from c.max-last.result
+    (c.args.from +ℤ pos days) c.args.window c.requires.kind c.requires.window c.requires.first_of_a c.requires.first_of_b
     (omega (arith, ints, clamps)) (omega (arith, ints, clamps)) (omega (arith, ints, clamps)) (omega (arith, ints))
-    (none_to_end (shown_by c.args.question) s u c.args.from (to_z w64 (of_z w64 c.args.from)) days days (to_z-of_z w64 c.args.from c.ranges.from) (omega arith) c.in-None.ensures.none))
+    (none_to_end (shown_by c.args.question) s u c.args.from (to_z w64 (of_z w64 c.args.from)) days days (to_z-of_z w64 c.args.from c.ranges.from)
+    (omega arith) c.in-None.ensures.none))
 
 pub returns-in-Some-clause-verdict : goal.returns-in-Some-clause-verdict
 returns-in-Some-clause-verdict g c =
     let s = g.A.DaySeq.sketch c.args.a.now in
     let u = g.B.DaySeq.sketch c.args.b.now in
-    no_at (shown_by c.args.question) s u (to_z w64 (of_z w64 c.args.from)) c.in-Some.shown.day _ c.in-Some.shown.second c.in-Some.shown.side c.kind.result c.on_day.result.kind _ c.against.result
+    no_at (shown_by c.args.question) s u
+    (to_z w64 (of_z w64 c.args.from)) c.in-Some.shown.day _ c.in-Some.shown.second c.in-Some.shown.side c.kind.result c.on_day.result.kind _
+    c.against.result
     c.requires.kind (g.met.A.DaySeq.bounded c.args.a.now).valid (g.met.B.DaySeq.bounded c.args.b.now).valid
     (λ d l. c.requires.first_of_a d (omega (arith, ints))) (λ d l. c.requires.first_of_b d (omega (arith, ints))) c.in-Some.ensures.some
     c.kind.ensures c.on_day.ensures.kind (omega (arith, ints)) c.on_day.ensures.at c.against.ensures
@@ -34,6 +38,8 @@ pub returns-in-Some-clause-day : goal.returns-in-Some-clause-day
 returns-in-Some-clause-day g c =
     let s = g.A.DaySeq.sketch c.args.a.now in
     let u = g.B.DaySeq.sketch c.args.b.now in
-    no_at_day (shown_by c.args.question) s u (to_z w64 (of_z w64 c.args.from)) c.in-Some.shown.day _ c.in-Some.shown.second c.in-Some.shown.side c.kind.result c.on_day.result.kind _ c.against.result
+    no_at_day (shown_by c.args.question) s u
+    (to_z w64 (of_z w64 c.args.from)) c.in-Some.shown.day _ c.in-Some.shown.second c.in-Some.shown.side c.kind.result c.on_day.result.kind _
+    c.against.result
     c.requires.kind (g.met.A.DaySeq.bounded c.args.a.now).valid (g.met.B.DaySeq.bounded c.args.b.now).valid c.in-Some.ensures.some
     c.kind.ensures c.on_day.ensures.kind (omega (arith, ints)) c.on_day.ensures.at c.against.ensures c.in-Some.ensures.high

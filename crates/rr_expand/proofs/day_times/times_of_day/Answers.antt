@@ -23,10 +23,12 @@ times_set c =
     let ms = rw (c.time_of-own.ensures.minute, start) at c.in_ok-minutes.ensures in
     let ss = rw (c.time_of-own.ensures.second, start) at c.in_ok-seconds.ensures in
     let made = rw (c.new-times.ensures.items, c.deref.ensures.value, c.deref-2.ensures.value, c.deref-3.ensures.value) at c.in_ok-push_hours.ensures in
-    rw (c.as_slice.ensures.value ∙ made) (candidate_times c.args.rule.now c.args.start c.in_ok-hours.hours.items c.in_ok-minutes.minutes.items c.in_ok-seconds.seconds.items c.requires hs ms ss)
+    rw (c.as_slice.ensures.value ∙ made)
+    (candidate_times c.args.rule.now c.args.start c.in_ok-hours.hours.items c.in_ok-minutes.minutes.items c.in_ok-seconds.seconds.items c.requires hs ms ss)
 
 pub of-requires : goal.of-requires
 of-requires c = seconds_of_day _ _ (times_set c)
 
 pub returns : goal.returns
-returns c = ok_set (IsCandidateTime c.args.rule.now Moments c.args.start) c.as_slice.result.now c.of.result (times_set c.before.before.before.before.before) c.of.ensures
+returns c = ok_set (IsCandidateTime c.args.rule.now Moments c.args.start) c.as_slice.result.now c.of.result
+    (times_set c.before.before.before.before.before) c.of.ensures

@@ -15,7 +15,8 @@ returns-then-not-date_parts_hold c =
     let start_day = c.new-start_day.ensures ∙ to_z-of_z fits ∙ c.day_part.ensures ∙ ap (day_part Moments) (to_z-of_z c.ranges.start) in
     let day = c.new.ensures ∙ to_z-of_z c.ranges.day in
     let dates = dates_are c.args.rule.now c.args.start c.args.day _ _ _ start_day day c.date_parts_hold.ensures in
-    ok_set (IsCandidateSecond c.args.rule.now c.args.start c.args.day) [] c.of.result (no_candidate_seconds c.args.rule.now c.args.start c.args.day (sym dates ∙ c.if-not-date_parts_hold.true)) c.of.ensures
+    ok_set (IsCandidateSecond c.args.rule.now c.args.start c.args.day) [] c.of.result
+    (no_candidate_seconds c.args.rule.now c.args.start c.args.day (sym dates ∙ c.if-not-date_parts_hold.true)) c.of.ensures
 
 day_set : (c : goal.After-as_slice) → IsSetOf nat_lt c.as_slice.result.now (IsCandidateSecond c.args.rule.now c.args.start c.args.day)
 day_set c =
@@ -24,7 +25,8 @@ day_set c =
     let day = c.new.ensures ∙ to_z-of_z c.ranges.day in
     let dates = dates_are c.args.rule.now c.args.start c.args.day _ _ _ start_day day c.date_parts_hold.ensures in
     let found = rw (to_z-of_z c.ranges.start, to_z-of_z c.ranges.day) at c.in_ok-seconds.ensures in
-    rw c.as_slice.ensures.value (candidate_seconds c.args.rule.now c.args.start c.args.day c.in_ok-seconds.seconds.items (sym dates ∙ c.if-not-date_parts_hold.false) found)
+    rw c.as_slice.ensures.value
+    (candidate_seconds c.args.rule.now c.args.start c.args.day c.in_ok-seconds.seconds.items (sym dates ∙ c.if-not-date_parts_hold.false) found)
 
 pub of-requires-2 : goal.of-requires-2
 of-requires-2 c = seconds_of_day _ _ (day_set c)

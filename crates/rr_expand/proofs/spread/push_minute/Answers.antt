@@ -8,8 +8,10 @@ unfolding of_minute
 loop-second-preserved c =
     let xs = c.args.seconds.now in
     let i = c.loop-second.second-index in
-    more (of_minute c.args.base) ((c.args.base + get_or xs i 0) ∷ []) c.loop-second.out.items _ _ xs i 0 c.loop-second-test.true refl c.in_ok-push.ensures.items c.loop-second.invariant
+    more (of_minute c.args.base)
+    ((c.args.base + get_or xs i 0) ∷ []) c.loop-second.out.items _ _ xs i 0 c.loop-second-test.true refl c.in_ok-push.ensures.items c.loop-second.invariant
 
 pub returns : goal.returns
 unfolding of_minute
-returns c = all (of_minute c.args.base) c.loop-second.out.items _ c.args.seconds.now c.loop-second.second-index c.loop-second-test.false refl c.loop-second.invariant
+returns c = all (of_minute c.args.base) c.loop-second.out.items _ c.args.seconds.now c.loop-second.second-index c.loop-second-test.false refl
+    c.loop-second.invariant

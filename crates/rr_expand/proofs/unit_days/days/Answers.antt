@@ -16,6 +16,9 @@ returns c =
     let begins = rw unit at c.first_day_of_unit-first.ensures in
     let ends = rw unit at (c.days_in_unit.ensures.next rule.week_start) in
     let fit = rw (start, unit) at (sym c.fits.ensures ∙ c.if-not-fits.false) in
-    IfOk-weaker c.days_from.result (λ days. IsSetOf int_lt days (IsAllowedDay rule c.args.start_day c.first_day_of_unit-first.result c.days_in_unit.result)) (λ days. IsSetOf int_lt days (IsCandidateDay rule c.args.start_day c.args.unit))
-    (λ days set. candidate_days rule c.args.start_day c.args.unit c.first_day_of_unit-first.result c.days_in_unit.result days c.requires.freq begins ends fit set)
+    IfOk-weaker c.days_from.result
+    (λ days. IsSetOf int_lt days (IsAllowedDay rule c.args.start_day c.first_day_of_unit-first.result c.days_in_unit.result))
+    (λ days. IsSetOf int_lt days (IsCandidateDay rule c.args.start_day c.args.unit))
+    (λ days set. candidate_days rule c.args.start_day c.args.unit c.first_day_of_unit-first.result c.days_in_unit.result days c.requires.freq begins ends
+    fit set)
     (rw (start, to_z-of_z fits) at c.days_from.ensures)

@@ -31,4 +31,5 @@ loop-k-preserved c =
 pub returns : goal.returns
 returns c =
     let last : c.loop-k.k ≡ c.args.count = omega (arith, c.loop-k.auto.k-end, c.loop-k-test.false) in
-    subst (λ n. IsSetOf int_lt c.loop-k.days (IsAllowedDay c.args.rule.now c.args.start.now.number c.args.first n)) last (rw (to_z-of_z c.ranges.first) at c.loop-k.invariant)
+    subst (λ n. IsSetOf int_lt c.loop-k.days (IsAllowedDay c.args.rule.now c.args.start.now.number c.args.first n)) last
+    (rw (to_z-of_z c.ranges.first) at c.loop-k.invariant)

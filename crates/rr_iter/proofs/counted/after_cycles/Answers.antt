@@ -7,7 +7,8 @@ use Rattle.rr_model.specs.declared.kind.Kind.{Kind}
 use Rattle.rr_model.specs.declared.rule.Rule.{Rule}
 use Rattle.rr_model.proofs.YearLemmas.{year_1}
 use Rattle.rr_iter.specs.Ends.{IsSoundRule}
-use Rattle.rr_iter.proofs.CountedLemmas.{rule_each_some, rule_number_moved, rule_number_beyond, rule_number_after, start_bounds, cycle_some, days_within, days_beyond}
+use Rattle.rr_iter.proofs.CountedLemmas.{rule_each_some, rule_number_moved, rule_number_beyond, rule_number_after, start_bounds, cycle_some, days_within}
+use Rattle.rr_iter.proofs.CountedLemmas.{days_beyond}
 use Rattle.rr_iter.proofs.counted.after_cycles.Goals as goal
 
 -- so many cycles that a span has them; the start's day is `r`

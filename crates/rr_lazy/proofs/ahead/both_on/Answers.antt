@@ -11,5 +11,7 @@ returns c =
     let a = rw (to_z-of_z c.ranges.day) at c.seconds_on.ensures in
     let b = rw (to_z-of_z c.ranges.day) at c.seconds_on-2.ensures in
     IfOk-weaker c.union.result _ (λ t. IsSetOf nat_lt t (λ s. HasOn c.args.a.now c.args.day s ⊎ HasOn c.args.b.now c.args.day s))
-    (λ t set. set_same nat_lt (λ s. Contains c.seconds_on.result.now s ⊎ Contains c.seconds_on-2.result.now s) (λ s. HasOn c.args.a.now c.args.day s ⊎ HasOn c.args.b.now c.args.day s) t set
-    (λ s. ((λ m. elim m [ inl x ↦ inl ((a s).0 x) | inr y ↦ inr ((b s).0 y) ]), (λ m. elim m [ inl x ↦ inl ((a s).1 x) | inr y ↦ inr ((b s).1 y) ])))) c.union.ensures
+    (λ t set. set_same nat_lt (λ s. Contains c.seconds_on.result.now s ⊎ Contains c.seconds_on-2.result.now s) (λ s. HasOn c.args.a.now c.args.day s
+    ⊎ HasOn c.args.b.now c.args.day s) t set
+    (λ s. ((λ m. elim m [ inl x ↦ inl ((a s).0 x) | inr y ↦ inr ((b s).0 y) ]), (λ m. elim m [ inl x ↦ inl ((a s).1 x) | inr y ↦ inr ((b s).1 y) ]))))
+    c.union.ensures

@@ -9,12 +9,15 @@ pub returns-in_err-ask-clause-tree : goal.returns-in_err-ask-clause-tree
 returns-in_err-ask-clause-tree g c =
     let l : c.loop-place.place < length c.loop-place.parts.items = search rules in
     forest_set (λ p. g.A.Lazy.tree p.lazy) c.loop-place.parts.items c.loop-place.place c.ask.new.part l
-    (λ d. c.in_err-ask.ensures.tree ∙ ap (λ p. g.A.Lazy.tree p.lazy) (c.index_mut.ensures.value ∙ get_or_default c.loop-place.parts.items c.loop-place.place _ d l)) ∙ c.loop-place.invariant.0
+    (λ d. c.in_err-ask.ensures.tree
+    ∙ ap (λ p. g.A.Lazy.tree p.lazy) (c.index_mut.ensures.value ∙ get_or_default c.loop-place.parts.items c.loop-place.place _ d l))
+    ∙ c.loop-place.invariant.0
 
 pub returns-in_err-ask-clause-known : goal.returns-in_err-ask-clause-known
 returns-in_err-ask-clause-known g c =
     let f = to_z-of_z c.ranges.from in
-    all_set (λ p. IsAhead (g.A.Lazy.tree p.lazy) (g.A.Lazy.position p.lazy) c.args.from p.ahead) c.loop-place.parts.items c.loop-place.place c.ask.new.part (rw f at c.loop-place.invariant.1) (rw f at c.in_err-ask.ensures.known)
+    all_set (λ p. IsAhead (g.A.Lazy.tree p.lazy) (g.A.Lazy.position p.lazy) c.args.from p.ahead) c.loop-place.parts.items c.loop-place.place c.ask.new.part
+    (rw f at c.loop-place.invariant.1) (rw f at c.in_err-ask.ensures.known)
 
 pub loop-place-preserved : goal.loop-place-preserved
 loop-place-preserved g c =
@@ -23,7 +26,10 @@ loop-place-preserved g c =
     let xs = c.loop-place.parts.items in
     let l : c.loop-place.place < length xs = search rules in (
       forest_set (λ p. g.A.Lazy.tree p.lazy) xs c.loop-place.place c.ask.new.part l
-          (λ d. c.in_ok-ask.ensures.tree ∙ ap (λ p. g.A.Lazy.tree p.lazy) (c.index_mut.ensures.value ∙ get_or_default xs c.loop-place.place _ d l)) ∙ c.loop-place.invariant.0,
-      all_set (λ p. IsAhead (g.A.Lazy.tree p.lazy) (g.A.Lazy.position p.lazy) (to_z w64 (of_z w64 c.args.from)) p.ahead) xs c.loop-place.place c.ask.new.part c.loop-place.invariant.1 c.in_ok-ask.ensures.known,
-      first_set (λ p. ForNone p.ahead (to_z w64 (of_z w64 c.args.to) <ℤ g.A.Lazy.position p.lazy)) xs c.loop-place.place c.ask.new.part c.loop-place.invariant.2 c.in_ok-ask.ensures.none,
+          (λ d. c.in_ok-ask.ensures.tree ∙ ap (λ p. g.A.Lazy.tree p.lazy) (c.index_mut.ensures.value ∙ get_or_default xs c.loop-place.place _ d l))
+          ∙ c.loop-place.invariant.0,
+      all_set (λ p. IsAhead (g.A.Lazy.tree p.lazy) (g.A.Lazy.position p.lazy)
+          (to_z w64 (of_z w64 c.args.from)) p.ahead) xs c.loop-place.place c.ask.new.part c.loop-place.invariant.1 c.in_ok-ask.ensures.known,
+      first_set (λ p. ForNone p.ahead (to_z w64 (of_z w64 c.args.to)
+          <ℤ g.A.Lazy.position p.lazy)) xs c.loop-place.place c.ask.new.part c.loop-place.invariant.2 c.in_ok-ask.ensures.none,
     )

@@ -14,6 +14,8 @@ loop-place-preserved g c =
     let at = get_or_default xs c.loop-place.place c.index-parts-place.result (get_or xs c.loop-place.place c.index-parts-place.result) c.loop-place-test.true in
     rw f (
       omega (arith, ints, e.bound, i.0),
-      least_more (λ p. p.ahead) xs c.loop-place.place (to_z w64 c.loop-place.first-bits) c.lesser-first.result (get_or xs c.loop-place.place c.index-parts-place.result) c.loop-place-test.true at i.1 e.bound e.least,
-      gave_more (λ p. p.ahead) xs c.loop-place.place (to_z w64 c.loop-place.first-bits) c.lesser-first.result (to_z w64 (of_z w64 c.args.from)) (get_or xs c.loop-place.place c.index-parts-place.result) c.loop-place-test.true at i.2 e.one,
+      least_more (λ p. p.ahead) xs c.loop-place.place (to_z w64 c.loop-place.first-bits) c.lesser-first.result
+          (get_or xs c.loop-place.place c.index-parts-place.result) c.loop-place-test.true at i.1 e.bound e.least,
+      gave_more (λ p. p.ahead) xs c.loop-place.place (to_z w64 c.loop-place.first-bits) c.lesser-first.result (to_z w64 (of_z w64 c.args.from))
+          (get_or xs c.loop-place.place c.index-parts-place.result) c.loop-place-test.true at i.2 e.one,
     )

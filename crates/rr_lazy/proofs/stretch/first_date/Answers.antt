@@ -27,4 +27,5 @@ returns c =
     let t = to_z-of_z c.ranges.to in
     let f : IsFirstFrom c.args.kind c.args.dates.now c.args.from c.first_from-place.result = rw (to_z-of_z c.ranges.from) at c.first_from-place.ensures in
     let h : to_z w64 (of_z w64 c.day_part-day.result) ≤ℤ c.args.to = grind (arith, ints, t, c.if-day-to.false) in
-    date_some c.args.kind c.args.dates.now c.requires c.args.from c.args.to c.first_from-place.result f (to_z w64 (of_z w64 c.day_part-day.result)) c.if-place-dates.false d h
+    date_some c.args.kind c.args.dates.now c.requires c.args.from c.args.to c.first_from-place.result f
+    (to_z w64 (of_z w64 c.day_part-day.result)) c.if-place-dates.false d h

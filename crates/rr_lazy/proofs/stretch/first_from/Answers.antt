@@ -8,4 +8,6 @@ use Rattle.rr_lazy.proofs.stretch.first_from.Goals as goal
 pub returns : goal.returns
 returns c =
     first_place c.args.kind c.args.dates.now c.args.day c.partition_point.result c.partition_point.ensures.bound
-    (IsPartitionPoint-from_clause (λ t. int_lt (day_part c.args.kind t) c.args.day) c.args.dates.now c.partition_point.result c.partition_point.ensures.partitioned (parted c.args.kind c.args.dates.now c.args.day c.requires) (λ a r q k. search rules))
+    (IsPartitionPoint-from_clause
+    (λ t. int_lt (day_part c.args.kind t) c.args.day) c.args.dates.now c.partition_point.result c.partition_point.ensures.partitioned
+    (parted c.args.kind c.args.dates.now c.args.day c.requires) (λ a r q k. search rules))

@@ -16,7 +16,11 @@ loop-place-preserved c =
     let l : IsFirstFrom c.args.kind c.args.dates.now (c.args.day +ℤ pos 1) c.first_from-last.result = rw e at c.first_from-last.ensures in
     let i = rw t at c.loop-place.invariant in
     let x : c.second_part.result ≡ second_part c.args.kind (get_or c.args.dates.now c.loop-place.place (pos 0)) = search rules in
-    rw t (omega (arith, i.0), seconds_more c.args.kind c.args.dates.now c.args.day c.requires.rises c.first_from-first.result c.first_from-last.result c.loop-place.place f l i.0 c.loop-place-test.true c.loop-place.seconds.items c.push.new.self.items c.second_part.result i.1 x c.in_ok-push.ensures.items)
+    rw t (
+      omega (arith, i.0),
+      seconds_more c.args.kind c.args.dates.now c.args.day c.requires.rises c.first_from-first.result c.first_from-last.result c.loop-place.place f l i.0
+          c.loop-place-test.true c.loop-place.seconds.items c.push.new.self.items c.second_part.result i.1 x c.in_ok-push.ensures.items,
+    )
 
 set_is : (c : goal.After-deref) → IsSetOf nat_lt c.deref.result.now (λ s. IsTrue (is_among c.args.kind c.args.dates.now c.args.day s))
 set_is c =
@@ -26,10 +30,14 @@ set_is c =
     let l : IsFirstFrom c.args.kind c.args.dates.now (c.args.day +ℤ pos 1) c.first_from-last.result = rw e at c.first_from-last.ensures in
     let i = rw t at c.loop-place.invariant in
     let m : c.first_from-last.result ≤ c.loop-place.place = omega (arith, c.loop-place-test.false) in
-    rw c.deref.ensures.value (seconds_all c.args.kind c.args.dates.now c.args.day c.requires.rises c.first_from-first.result c.first_from-last.result c.loop-place.place f l i.0 m c.loop-place.seconds.items i.1)
+    rw c.deref.ensures.value
+    (seconds_all c.args.kind c.args.dates.now c.args.day c.requires.rises c.first_from-first.result c.first_from-last.result c.loop-place.place f l i.0
+    m c.loop-place.seconds.items i.1)
 
 pub of-requires : goal.of-requires
-of-requires c = some_seconds (λ s. IsTrue (is_among c.args.kind c.args.dates.now c.args.day s)) c.deref.result.now (set_is c) (λ s p. below_a_day c.args.kind c.args.dates.now c.args.day s p)
+of-requires c = some_seconds (λ s. IsTrue (is_among c.args.kind c.args.dates.now c.args.day s)) c.deref.result.now (set_is c)
+    (λ s p. below_a_day c.args.kind c.args.dates.now c.args.day s p)
 
 pub returns : goal.returns
-returns c = IfOk-weaker c.of.result (λ t. t ≡ c.deref.result.now) (λ t. IsSetOf nat_lt t (λ s. IsTrue (is_among c.args.kind c.args.dates.now c.args.day s))) (λ t e. rw e (set_is c.before.before)) c.of.ensures
+returns c = IfOk-weaker c.of.result (λ t. t ≡ c.deref.result.now)
+    (λ t. IsSetOf nat_lt t (λ s. IsTrue (is_among c.args.kind c.args.dates.now c.args.day s))) (λ t e. rw e (set_is c.before.before)) c.of.ensures

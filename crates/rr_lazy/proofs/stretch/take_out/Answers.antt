@@ -18,7 +18,11 @@ loop-place-preserved c =
     let l : IsFirstFrom c.args.kind c.args.dates.now (c.args.day +ℤ pos 1) c.first_from-last.result = rw e at c.first_from-last.ensures in
     let i = rw t at c.loop-place.invariant in
     let x : c.second_part.result ≡ second_part c.args.kind (get_or c.args.dates.now c.loop-place.place (pos 0)) = search rules in
-    rw t (omega (arith, i.0), left_more c.args.kind c.args.dates.now c.args.day c.requires.rises c.first_from-first.result c.first_from-last.result c.loop-place.place f l i.0 c.loop-place-test.true c.args.times.now c.loop-place.times c.remove.new.self c.second_part.result i.1 x c.remove.ensures)
+    rw t (
+      omega (arith, i.0),
+      left_more c.args.kind c.args.dates.now c.args.day c.requires.rises c.first_from-first.result c.first_from-last.result c.loop-place.place f l i.0
+          c.loop-place-test.true c.args.times.now c.loop-place.times c.remove.new.self c.second_part.result i.1 x c.remove.ensures,
+    )
 
 pub returns : goal.returns
 returns c =
@@ -28,4 +32,5 @@ returns c =
     let l : IsFirstFrom c.args.kind c.args.dates.now (c.args.day +ℤ pos 1) c.first_from-last.result = rw e at c.first_from-last.ensures in
     let i = rw t at c.loop-place.invariant in
     let m : c.first_from-last.result ≤ c.loop-place.place = omega (arith, c.loop-place-test.false) in
-    left_all c.args.kind c.args.dates.now c.args.day c.requires.rises c.first_from-first.result c.first_from-last.result c.loop-place.place f l i.0 m c.args.times.now c.loop-place.times i.1
+    left_all c.args.kind c.args.dates.now c.args.day c.requires.rises c.first_from-first.result c.first_from-last.result c.loop-place.place f l i.0 m
+    c.args.times.now c.loop-place.times i.1

@@ -5,4 +5,5 @@ use Rattle.rr_rrule.proofs.lists.day_items_placed.Given as goal
 
 abbrev pub invariant-loop-piece : goal.invariant-loop-piece
 invariant-loop-piece l =
-    placed day_item_lt (day_item_within l.line) l.items (drop (length l.yielded) (pieces 44 l.text)) ≡ placed day_item_lt (day_item_within l.line) [] (pieces 44 l.text)
+    placed day_item_lt (day_item_within l.line) l.items (drop (length l.yielded) (pieces 44 l.text))
+    ≡ placed day_item_lt (day_item_within l.line) [] (pieces 44 l.text)

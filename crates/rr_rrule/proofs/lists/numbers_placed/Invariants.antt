@@ -5,4 +5,5 @@ use Rattle.rr_rrule.proofs.lists.numbers_placed.Given as goal
 
 abbrev pub invariant-loop-piece : goal.invariant-loop-piece
 invariant-loop-piece l =
-    placed int_lt (number_within l.line l.bounds) l.numbers (drop (length l.yielded) (pieces 44 l.text)) ≡ placed int_lt (number_within l.line l.bounds) [] (pieces 44 l.text)
+    placed int_lt (number_within l.line l.bounds) l.numbers (drop (length l.yielded) (pieces 44 l.text))
+    ≡ placed int_lt (number_within l.line l.bounds) [] (pieces 44 l.text)

@@ -9,16 +9,24 @@ use Rattle.rr_rrule.proofs.parts.parts_between.Goals as goal
 
 pub returns-in_err-parts : goal.returns-in_err-parts
 returns-in_err-parts c =
-    let turn = YieldsList-turn (YieldsList-from_slice_split _ (λ b. b == 59) c.args.text.now (cc) (cc) (cc) (λ x b q k. search (rules, tests))) c.loop-piece.yielded _ c.loop-piece.yielded_by _ _ c.in-Some.piece c.in-Some.is c.next.ensures.steps in
+    let turn = YieldsList-turn
+    (YieldsList-from_slice_split _ (λ b. b == 59) c.args.text.now (cc) (cc) (cc)
+    (λ x b q k. search (rules, tests))) c.loop-piece.yielded _ c.loop-piece.yielded_by _ _ c.in-Some.piece c.in-Some.is c.next.ensures.steps in
     let p = err_from_is_err_and c.from_residual.result c.from_residual.ensures.1 in
-    rw (p.1, p.2) (with_parts-ends c.args.line (pieces 59 c.args.text.now) c.loop-piece.parts (length c.loop-piece.yielded) c.in-Some.piece.now c.in_err-parts.field-0.0 _ turn c.in_err-parts.ensures c.loop-piece.invariant)
+    rw (p.1, p.2) (with_parts-ends c.args.line (pieces 59 c.args.text.now) c.loop-piece.parts
+    (length c.loop-piece.yielded) c.in-Some.piece.now c.in_err-parts.field-0.0 _ turn c.in_err-parts.ensures c.loop-piece.invariant)
 
 pub loop-piece-preserved : goal.loop-piece-preserved
 loop-piece-preserved c =
-    let turn = YieldsList-turn (YieldsList-from_slice_split _ (λ b. b == 59) c.args.text.now (cc) (cc) (cc) (λ x b q k. search (rules, tests))) c.loop-piece.yielded _ c.loop-piece.yielded_by _ _ c.in-Some.piece c.in-Some.is c.next.ensures.steps in
-    with_parts-goes_on c.args.line (pieces 59 c.args.text.now) c.loop-piece.parts _ (length c.loop-piece.yielded) _ c.in-Some.piece.now _ turn (length_push c.loop-piece.yielded c.in-Some.piece) c.in_ok-parts.ensures c.loop-piece.invariant
+    let turn = YieldsList-turn
+    (YieldsList-from_slice_split _ (λ b. b == 59) c.args.text.now (cc) (cc) (cc)
+    (λ x b q k. search (rules, tests))) c.loop-piece.yielded _ c.loop-piece.yielded_by _ _ c.in-Some.piece c.in-Some.is c.next.ensures.steps in
+    with_parts-goes_on c.args.line (pieces 59 c.args.text.now) c.loop-piece.parts _ (length c.loop-piece.yielded) _ c.in-Some.piece.now _ turn
+    (length_push c.loop-piece.yielded c.in-Some.piece) c.in_ok-parts.ensures c.loop-piece.invariant
 
 pub returns : goal.returns
 returns c =
-    let end = YieldsList-end (YieldsList-from_slice_split _ (λ b. b == 59) c.args.text.now (cc) (cc) (cc) (λ x b q k. search (rules, tests))) c.loop-piece.yielded _ c.loop-piece.yielded_by _ _ c.in-None.is c.next.ensures.steps in
+    let end = YieldsList-end
+    (YieldsList-from_slice_split _ (λ b. b == 59) c.args.text.now (cc) (cc) (cc)
+    (λ x b q k. search (rules, tests))) c.loop-piece.yielded _ c.loop-piece.yielded_by _ _ c.in-None.is c.next.ensures.steps in
     with_parts-done c.args.line (pieces 59 c.args.text.now) c.loop-piece.parts (length c.loop-piece.yielded) _ (omega (arith, end.1)) c.loop-piece.invariant

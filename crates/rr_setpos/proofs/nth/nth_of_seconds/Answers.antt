@@ -3,9 +3,11 @@ use Rattle.rr_model.specs.Moment.{day_part, second_part, moment_at}
 use Rattle.rr_model.specs.Moment.Units.{unit_number, unit_start}
 use Rattle.rr_model.specs.declared.kind.Kind.TheVariants.{Moments}
 use Rattle.rr_setpos.specs.Nth.{IsNthOfUnit}
-use Rattle.rr_setpos.proofs.NthLemmas.{nth_some, nth_none, none_unfit, none_on_day, unit_within, rank_in_day, size_in_day, in_fine_unit, candidate_in_fine, rank_in_fine, unit_begins, unit_counts}
+use Rattle.rr_setpos.proofs.NthLemmas.{nth_some, nth_none, none_unfit, none_on_day, unit_within, rank_in_day, size_in_day, in_fine_unit, candidate_in_fine}
+use Rattle.rr_setpos.proofs.NthLemmas.{rank_in_fine, unit_begins, unit_counts}
 use Rattle.rr_setpos.proofs.nth.nth_of_seconds.Goals as goal
-use Rattle.rr_setpos.proofs.nth.nth_of_seconds.Goals.{then-not-is_congruent-via-then-not-is_congruent, then-not-is_congruent-via-else-not-is_congruent+then-not-date_parts_hold}
+use Rattle.rr_setpos.proofs.nth.nth_of_seconds.Goals.{then-not-is_congruent-via-then-not-is_congruent}
+use Rattle.rr_setpos.proofs.nth.nth_of_seconds.Goals.{then-not-is_congruent-via-else-not-is_congruent+then-not-date_parts_hold}
 
 pub overflow_add-second : goal.overflow_add-second
 overflow_add-second c = omega (arith, c.second_part-second.ensures.below, c.seconds_of_unit.ensures.few)

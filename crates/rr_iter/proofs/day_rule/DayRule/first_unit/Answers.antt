@@ -14,14 +14,19 @@ unit_of-own-requires-clause-near c =
     let n = start_near c.self.inside.kind c.self.inside.start d c.self.invariant.of_day c.self.invariant.valid.in_years in
     (omega (arith, ints, n.0, n.1), omega (arith, ints, n.0, n.1))
 
-units_near : (c : goal.After-unit_of-own) → IsUnitNear c.unit_of-unit.result × IsUnitNear c.unit_of-own.result × (c.unit_of-own.result ≡ unit_number c.self.inside.rule.freq c.self.inside.rule.week_start Days (day_part c.self.inside.kind c.self.inside.start))
+units_near : (c : goal.After-unit_of-own)
+    → IsUnitNear c.unit_of-unit.result × IsUnitNear c.unit_of-own.result
+    × (c.unit_of-own.result ≡ unit_number c.self.inside.rule.freq c.self.inside.rule.week_start Days (day_part c.self.inside.kind c.self.inside.start))
 units_near c =
     let d = c.self.inside.start_day in
     let n = start_near c.self.inside.kind c.self.inside.start d c.self.invariant.of_day c.self.invariant.valid.in_years in
     let low : c.self.inside.rule.week_start ≤ 255 = omega (arith, c.self.invariant.valid.valid.week_start) in
     let e : to_z w64 (of_z w64 d) ≡ day_part c.self.inside.kind c.self.inside.start = omega (arith, ints, n.0, n.1, c.self.invariant.of_day) in (
-      unit_near_is c.self.inside.rule.freq c.self.inside.rule.week_start c.args.from c.unit_of-unit.result _ c.self.invariant.freq low (omega (arith, ints, c.requires.0), omega (arith, ints, c.requires.1)) (to_z-of_z c.ranges.from) c.unit_of-unit.ensures,
-      unit_near_is c.self.inside.rule.freq c.self.inside.rule.week_start (day_part c.self.inside.kind c.self.inside.start) c.unit_of-own.result _ c.self.invariant.freq low (omega (arith, ints, n.0, c.self.invariant.of_day), omega (arith, ints, n.1, c.self.invariant.of_day)) e c.unit_of-own.ensures,
+      unit_near_is c.self.inside.rule.freq c.self.inside.rule.week_start c.args.from c.unit_of-unit.result _ c.self.invariant.freq low
+          (omega (arith, ints, c.requires.0), omega (arith, ints, c.requires.1)) (to_z-of_z c.ranges.from) c.unit_of-unit.ensures,
+      unit_near_is c.self.inside.rule.freq c.self.inside.rule.week_start
+          (day_part c.self.inside.kind c.self.inside.start) c.unit_of-own.result _ c.self.invariant.freq low
+          (omega (arith, ints, n.0, c.self.invariant.of_day), omega (arith, ints, n.1, c.self.invariant.of_day)) e c.unit_of-own.ensures,
       (rw e at c.unit_of-own.ensures),
     )
 
@@ -46,7 +51,10 @@ returns-clause-near c =
     let i = c.self.inside in
     let u = units_near c.before in
     let low : i.rule.week_start ≤ 255 = omega (arith, c.self.invariant.valid.valid.week_start) in
-    let b = unit_bounds i.rule.freq i.rule.week_start c.self.invariant.freq c.args.from low (omega (arith, ints, c.requires.0), omega (arith, ints, c.requires.1)) in
+    let b = unit_bounds i.rule.freq i.rule.week_start c.self.invariant.freq c.args.from low (
+      omega (arith, ints, c.requires.0),
+      omega (arith, ints, c.requires.1),
+    ) in
     let from : c.unit_of-unit.result ≡ unit_number i.rule.freq i.rule.week_start Days c.args.from = rw (to_z-of_z c.ranges.from) at c.unit_of-unit.ensures in
     omega (arith, ints, f.0, f.1, u.0.0, u.0.1, from, b.0, b.1)
 
@@ -59,6 +67,11 @@ returns-clause-walked c =
     let b : to_z w64 (of_z w64 c.unit_of-own.result) ≡ c.unit_of-own.result = omega (arith, ints, u.1.0, u.1.1) in
     let own = u.2 in
     let from : c.unit_of-unit.result ≡ unit_number i.rule.freq i.rule.week_start Days c.args.from = rw (to_z-of_z c.ranges.from) at c.unit_of-unit.ensures in
-    let value : c.first_fit.result ≡ floor_mod (unit_number i.rule.freq i.rule.week_start Days (day_part i.kind i.start) -ℤ unit_number i.rule.freq i.rule.week_start Days c.args.from) i.rule.interval = rw (sym own, sym from) (rw (a, b) at c.first_fit.ensures.value) in
-    let q : to_z w64 (of_z w64 (to_z w64 (of_z w64 c.unit_of-unit.result) +ℤ to_z w64 c.first_fit.result)) ≡ unit_number i.rule.freq i.rule.week_start Days c.args.from +ℤ pos c.first_fit.result = omega (arith, ints, f.0, f.1, u.0.0, u.0.1, from) in
-    rw (← c.self.view_is) (rw q (walked_first i.rule i.kind i.start c.self.invariant.freq c.self.invariant.valid.valid.interval_low c.args.from c.first_fit.result value))
+    let value : c.first_fit.result ≡ floor_mod
+    (unit_number i.rule.freq i.rule.week_start Days
+    (day_part i.kind i.start) -ℤ unit_number i.rule.freq i.rule.week_start Days c.args.from) i.rule.interval =
+    rw (sym own, sym from) (rw (a, b) at c.first_fit.ensures.value) in
+    let q : to_z w64 (of_z w64 (to_z w64 (of_z w64 c.unit_of-unit.result) +ℤ to_z w64 c.first_fit.result))
+    ≡ unit_number i.rule.freq i.rule.week_start Days c.args.from +ℤ pos c.first_fit.result = omega (arith, ints, f.0, f.1, u.0.0, u.0.1, from) in
+    rw (← c.self.view_is)
+    (rw q (walked_first i.rule i.kind i.start c.self.invariant.freq c.self.invariant.valid.valid.interval_low c.args.from c.first_fit.result value))

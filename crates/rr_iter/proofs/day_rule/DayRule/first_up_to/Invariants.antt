@@ -5,7 +5,9 @@ use Rattle.rr_iter.specs.Walk.{IsWalked}
 use Rattle.rr_iter.proofs.day_rule.DayRule.first_up_to.Given as goal
 
 abbrev pub invariant-loop-unit : goal.invariant-loop-unit
-invariant-loop-unit l = (l.self ≡ l.fn.self) × IsWalked l.fn.self.rule (chosen_of l.fn.self.rule l.fn.self.kind l.fn.self.start) (day_part l.fn.self.kind l.fn.self.start) l.from l.unit × (l.unit ≤ℤ pos 8_000_000_000_000)
+invariant-loop-unit l = (l.self ≡ l.fn.self)
+    × IsWalked l.fn.self.rule (chosen_of l.fn.self.rule l.fn.self.kind l.fn.self.start) (day_part l.fn.self.kind l.fn.self.start) l.from l.unit
+    × (l.unit ≤ℤ pos 8_000_000_000_000)
 
 abbrev pub decreases-loop-unit : goal.decreases-loop-unit
 decreases-loop-unit l = nat_abs (pos 20_000_000_000_000 -ℤ l.unit)

@@ -11,7 +11,8 @@ module _ (c : goal.After-first_up_to-arg-1) where
   abbrev from : ℤ
   from = c.max-from.result
 
-  pub start_is : (to_z w64 (of_z w64 c.self.inside.start_day) ≡ day_part c.args.self.now.kind c.args.self.now.start) × (day_part c.args.self.now.kind c.args.self.now.start ≤ℤ pos 2_932_896)
+  pub start_is : (to_z w64 (of_z w64 c.self.inside.start_day) ≡ day_part c.args.self.now.kind c.args.self.now.start)
+      × (day_part c.args.self.now.kind c.args.self.now.start ≤ℤ pos 2_932_896)
   start_is =
       let i = c.self.inside in
       let n = start_near i.kind i.start i.start_day c.self.invariant.of_day c.self.invariant.valid.in_years in
@@ -27,7 +28,10 @@ module _ (c : goal.After-first_up_to-arg-1) where
   late = omega (arith, ints, position_is, c.max-from.ensures.self_bound)
 
   pub near : IsDayWithin 0 from
-  near = (omega (arith, ints, late, c.requires.begun), elim within [ inl e ↦ omega (arith, ints, e, c.if-position-to.false, c.requires.high) | inr e ↦ omega (arith, ints, e, start_is.1) ])
+  near = (
+    omega (arith, ints, late, c.requires.begun),
+    elim within [ inl e ↦ omega (arith, ints, e, c.if-position-to.false, c.requires.high) | inr e ↦ omega (arith, ints, e, start_is.1) ],
+  )
 
 pub first_up_to-requires-clause-from : goal.first_up_to-requires-clause-from
 first_up_to-requires-clause-from c = let n = near c in (omega (arith, ints, n.0, n.1), omega (arith, ints, n.0, n.1))
@@ -39,7 +43,12 @@ returns-in-None-clause-next c =
     let fits : to_z w64 (of_z w64 c.max-from.result) ≡ c.max-from.result = omega (arith, ints, (near b).0, (near b).1) in
     let none = rw (fits, to_z-of_z c.ranges.to) at (rw c.in-None.is at c.in_ok-first_up_to.ensures.found) in
     let q : to_z w64 (of_z w64 (to_z w64 (of_z w64 c.args.to) +ℤ pos 1)) ≡ c.args.to +ℤ pos 1 = omega (arith, ints, c.requires.low, c.requires.high) in
-    rw q (step_none r.rule r.kind r.start c.args.position.now c.max-from.result c.args.to (within b) (late b) none, omega (arith, ints, c.if-position-to.false, position_is b), omega (arith, ints), inl refl)
+    rw q (
+      step_none r.rule r.kind r.start c.args.position.now c.max-from.result c.args.to (within b) (late b) none,
+      omega (arith, ints, c.if-position-to.false, position_is b),
+      omega (arith, ints),
+      inl refl,
+    )
 
 pub returns-in-Some-clause-next : goal.returns-in-Some-clause-next
 returns-in-Some-clause-next c =

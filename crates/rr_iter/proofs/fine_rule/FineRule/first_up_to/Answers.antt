@@ -17,4 +17,8 @@ loop-day-preserved c =
     let after : to_z w64 (of_z w64 (d +ℤ pos 1)) ≡ d +ℤ pos 1 = omega (arith, ints, high, low, to_z-of_z c.ranges.from, c.requires.from.0) in
     let none = rw after at e.none in
     let here = rw c.in-None.is at c.in_ok-on_day.ensures in
-    rw (to_z-of_z fits) (omega (arith, ints, low, e.late, after), omega (arith, ints, high, e.near, after), walked_on (chosen_of r.rule Moments r.start) (to_z w64 (of_z w64 c.args.from)) d c.fitting_day-day-in-loop-day.result c.loop-day.invariant.2 here none)
+    rw (to_z-of_z fits) (
+      omega (arith, ints, low, e.late, after),
+      omega (arith, ints, high, e.near, after),
+      walked_on (chosen_of r.rule Moments r.start) (to_z w64 (of_z w64 c.args.from)) d c.fitting_day-day-in-loop-day.result c.loop-day.invariant.2 here none,
+    )

@@ -21,6 +21,15 @@ returns-clause-none c =
     let b : to_z w64 (of_z w64 c.first_unit.result) ≡ c.first_unit.result = omega (arith, ints, c.first_unit.ensures.near.0, c.first_unit.ensures.near.1) in
     let value = rw (own, first) at (rw (a, b) at c.first_fit-units.ensures.value) in
     let n : ℕ = c.first_fit-units.result / c.units_of_day.result in
-    let small : n ≤ 4_294_967_295 = omega (arith, few_days i.rule.freq c.first_fit-units.result c.units_of_day.result c.self.invariant.freq c.units_of_day.ensures, c.first_fit-units.ensures.below, c.self.invariant.valid.valid.interval_high) in
-    let q : to_z w64 (of_z w64 (to_z w64 (of_z w64 c.args.day) +ℤ to_z w64 n)) ≡ c.args.day +ℤ pos n = omega (arith, ints, to_z-of_z c.ranges.day, to_z_pos w64 n (omega (arith, small)), small, c.requires.0, c.requires.1) in
-    rw (← c.self.view_is) (none_unfit i.rule i.start c.args.day c.first_fit-units.result _ c.self.invariant.freq c.self.invariant.valid.valid.interval_low value (q ∙ ap (λ m. c.args.day +ℤ pos (c.first_fit-units.result / m)) c.units_of_day.ensures))
+    let small : n ≤ 4_294_967_295 =
+    omega (
+      arith,
+      few_days i.rule.freq c.first_fit-units.result c.units_of_day.result c.self.invariant.freq c.units_of_day.ensures,
+      c.first_fit-units.ensures.below,
+      c.self.invariant.valid.valid.interval_high,
+    ) in
+    let q : to_z w64 (of_z w64 (to_z w64 (of_z w64 c.args.day) +ℤ to_z w64 n)) ≡ c.args.day +ℤ pos n =
+    omega (arith, ints, to_z-of_z c.ranges.day, to_z_pos w64 n (omega (arith, small)), small, c.requires.0, c.requires.1) in
+    rw (← c.self.view_is)
+    (none_unfit i.rule i.start c.args.day c.first_fit-units.result _ c.self.invariant.freq c.self.invariant.valid.valid.interval_low value (q
+    ∙ ap (λ m. c.args.day +ℤ pos (c.first_fit-units.result / m)) c.units_of_day.ensures))

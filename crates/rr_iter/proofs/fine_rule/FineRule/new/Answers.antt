@@ -15,7 +15,8 @@ pub invariant_of-result : goal.invariant_of-result
 invariant_of-result c =
     let m = only_moments c.args.rule.now.freq c.args.kind c.requires.valid.start c.requires.freq in
     let y : IsInYears Moments c.args.start = subst (λ k. IsInYears k c.args.start) m c.requires.in_years in
-    let d : c.day_part.result ≡ day_part Moments c.args.start = subst (λ k. c.day_part.result ≡ day_part k c.args.start) m (rw (to_z-of_z c.ranges.start) at c.day_part.ensures) in
+    let d : c.day_part.result ≡ day_part Moments c.args.start =
+    subst (λ k. c.day_part.result ≡ day_part k c.args.start) m (rw (to_z-of_z c.ranges.start) at c.day_part.ensures) in
     let n = start_near Moments c.args.start c.day_part.result d y in
     rw (c.in_ok-copy.ensures, to_z-of_z c.ranges.start) (record {
       freq = c.requires.freq;

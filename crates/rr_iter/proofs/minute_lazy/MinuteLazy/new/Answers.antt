@@ -9,7 +9,12 @@ pub invariant_of-result : goal.invariant_of-result
 invariant_of-result c =
     let m = c.new.ensures.kind in
     record {
-      valid = rw (c.in_ok-rule.ensures.made, to_z-of_z c.ranges.start) (record { valid = subst (λ k. IsValidRule k c.args.rule.now) m c.requires.valid; in_years = subst (λ k. IsInYears k c.args.start) m c.requires.in_years });
+      valid = rw (c.in_ok-rule.ensures.made, to_z-of_z c.ranges.start)
+          (record {
+            valid = subst (λ k. IsValidRule k c.args.rule.now) m c.requires.valid;
+            in_years =
+                subst (λ k. IsInYears k c.args.start) m c.requires.in_years;
+          });
       begun = omega (arith, ints);
     }
 

@@ -12,8 +12,10 @@ put-requires-clause-one_kind c =
     let rule_list = c.as_slice-rule-items.result.now in
     let fits : FitsSigned w64 series.start = search rules in
     let members = rw (to_z-of_z fits) at c.in_ok-members.ensures.tree in
-    let all : All (λ rule. IsOfKind series.kind (members_of series.kind series.start rule)) rule_list = rw c.as_slice-rule-items.ensures (members_of_kind series c.requires.sound) in
-    joined_kind series.kind series.start rule_list c.loop-rule.rule-index c.rule-item.result _ _ c.loop-rule-test.true c.rule-item.is c.loop-rule.invariant.0 members all
+    let all : All (λ rule. IsOfKind series.kind (members_of series.kind series.start rule)) rule_list =
+    rw c.as_slice-rule-items.ensures (members_of_kind series c.requires.sound) in
+    joined_kind series.kind series.start rule_list c.loop-rule.rule-index c.rule-item.result _ _ c.loop-rule-test.true c.rule-item.is
+    c.loop-rule.invariant.0 members all
 
 pub put-requires-clause-unasked : goal.put-requires-clause-unasked
 put-requires-clause-unasked c = c.loop-rule.invariant.1
@@ -24,7 +26,8 @@ loop-rule-preserved c =
     let rule_list = c.as_slice-rule-items.result.now in
     let fits : FitsSigned w64 series.start = search rules in
     let members = rw (to_z-of_z fits) at c.in_ok-members.ensures.tree in
-    let next = joined_next series.kind series.start rule_list c.loop-rule.rule-index c.rule-item.result _ _ c.loop-rule-test.true c.rule-item.is c.loop-rule.invariant.0 members in
+    let next = joined_next series.kind series.start rule_list c.loop-rule.rule-index c.rule-item.result _ _ c.loop-rule-test.true c.rule-item.is
+    c.loop-rule.invariant.0 members in
     (c.in_ok-put.ensures.tree ∙ next, c.in_ok-put.ensures.unasked)
 
 pub returns-clause-tree : goal.returns-clause-tree

@@ -39,4 +39,8 @@ returns-in_ok-times-in-Some-clause-next c =
     let d : IsFirstDate s.kind s.dates s.position c.args.to (Some c.in-Some.day) = rw (f, t, c.as_slice.ensures.value) at c.in-Some.ensures in
     let n = day_fits s.position c.in-Some.day c.args.to (rw first_day_is at s.begun) d.0 d.1 c.requires.high in
     let q : to_z w64 (of_z w64 (to_z w64 (of_z w64 c.in-Some.day) +ℤ pos 1)) ≡ c.in-Some.day +ℤ pos 1 = rw n.0 n.1 in
-    rw n.0 (dates_some s.kind s.dates s.position c.args.to c.in-Some.day _ d (rw (n.0, c.as_slice-in-Some.ensures.value) at c.in_ok-times-in-Some.ensures), d.1, n.1)
+    rw n.0 (
+      dates_some s.kind s.dates s.position c.args.to c.in-Some.day _ d (rw (n.0, c.as_slice-in-Some.ensures.value) at c.in_ok-times-in-Some.ensures),
+      d.1,
+      n.1,
+    )

@@ -7,7 +7,11 @@ pub invariant_of-self : goal.invariant_of-self
 invariant_of-self g c =
     let s = c.args.self.now in
     let q : to_z w64 (of_z w64 c.past-self.result) ≡ c.past-self.result = to_z-of_z w64 c.past-self.result (record { sfits = c.past-self.type_inv }) in
-    rw q (record { counting = spent_moves (g.A.Lazy.tree s.lazy) (g.A.Lazy.position s.lazy) s.position s.count s.left s.counting c.past-self.result c.if-self-eq0.true (omega (arith, ints, c.past-self.ensures.kept)) })
+    rw q (record {
+      counting =
+          spent_moves (g.A.Lazy.tree s.lazy) (g.A.Lazy.position s.lazy) s.position s.count s.left s.counting c.past-self.result c.if-self-eq0.true
+          (omega (arith, ints, c.past-self.ensures.kept));
+    })
 
 pub returns-then-self-eq0-clause-next : goal.returns-then-self-eq0-clause-next
 returns-then-self-eq0-clause-next g c =
@@ -27,8 +31,10 @@ invariant_of-self-in-None g c =
     let q : to_z w64 (of_z w64 r) ≡ r = to_z-of_z w64 r (record { sfits = c.past-self-in-None.type_inv }) in
     let n = rw c.in-None.is at c.in_ok-next.ensures.next in
     rw q (record {
-      counting = (first_none (g.A.Lazy.tree s.lazy) (g.A.Lazy.tree c.next.new.self) (g.A.Lazy.position s.lazy) (g.A.Lazy.position c.next.new.self) s.position c.args.to (to_z w64 (of_z w64 c.args.to)) r s.count s.left
-          s.counting (omega (arith, c.if-self-eq0.false)) n c.in_ok-next.ensures.tree (to_z-of_z w64 c.args.to c.ranges.to) (omega (arith, ints, c.past-self-in-None.ensures.kept)) (omega (arith, ints, c.past-self-in-None.ensures.past))
+      counting = (first_none (g.A.Lazy.tree s.lazy) (g.A.Lazy.tree c.next.new.self) (g.A.Lazy.position s.lazy)
+          (g.A.Lazy.position c.next.new.self) s.position c.args.to (to_z w64 (of_z w64 c.args.to)) r s.count s.left
+          s.counting (omega (arith, c.if-self-eq0.false)) n c.in_ok-next.ensures.tree (to_z-of_z w64 c.args.to c.ranges.to)
+          (omega (arith, ints, c.past-self-in-None.ensures.kept)) (omega (arith, ints, c.past-self-in-None.ensures.past))
           (elim c.past-self-in-None.ensures.one [ inl e ↦ inl (omega (arith, ints)) | inr e ↦ inr (omega (arith, ints)) ])).0;
     })
 
@@ -38,11 +44,13 @@ returns-in-None-clause-next g c =
     let r = c.past-self-in-None.result in
     let q : to_z w64 (of_z w64 r) ≡ r = to_z-of_z w64 r (record { sfits = c.past-self-in-None.type_inv }) in
     let n = rw c.in-None.is at c.in_ok-next.ensures.next in
-    let one : (r ≡ c.args.to +ℤ pos 1) ⊎ (r ≡ s.position) = elim c.past-self-in-None.ensures.one [ inl e ↦ inl (omega (arith, ints)) | inr e ↦ inr (omega (arith, ints)) ] in
+    let one : (r ≡ c.args.to +ℤ pos 1) ⊎ (r ≡ s.position) =
+    elim c.past-self-in-None.ensures.one [ inl e ↦ inl (omega (arith, ints)) | inr e ↦ inr (omega (arith, ints)) ] in
     let kept : s.position ≤ℤ r = omega (arith, ints, c.past-self-in-None.ensures.kept) in
     let past : c.args.to <ℤ r = omega (arith, ints, c.past-self-in-None.ensures.past) in
     rw q (
-      (first_none (g.A.Lazy.tree s.lazy) (g.A.Lazy.tree c.next.new.self) (g.A.Lazy.position s.lazy) (g.A.Lazy.position c.next.new.self) s.position c.args.to (to_z w64 (of_z w64 c.args.to)) r s.count s.left
+      (first_none (g.A.Lazy.tree s.lazy) (g.A.Lazy.tree c.next.new.self) (g.A.Lazy.position s.lazy)
+          (g.A.Lazy.position c.next.new.self) s.position c.args.to (to_z w64 (of_z w64 c.args.to)) r s.count s.left
           s.counting (omega (arith, c.if-self-eq0.false)) n c.in_ok-next.ensures.tree (to_z-of_z w64 c.args.to c.ranges.to) kept past one).1,
       kept,
       past,
@@ -57,9 +65,11 @@ invariant_of-self-in-Some g c =
     let t = to_z-of_z w64 c.args.to c.ranges.to in
     let same = s.counting.together (omega (arith, c.if-self-eq0.false)) in
     let d : to_z w64 (of_z w64 found.day) ≡ found.day = omega (arith, ints, n.0.late, n.1, s.counting.begun, first_day_is, same, t) in
-    let q : to_z w64 (of_z w64 (to_z w64 (of_z w64 found.day) +ℤ pos 1)) ≡ found.day +ℤ pos 1 = omega (arith, ints, d, n.0.late, n.1, s.counting.begun, first_day_is, same, t) in
+    let q : to_z w64 (of_z w64 (to_z w64 (of_z w64 found.day) +ℤ pos 1)) ≡ found.day +ℤ pos 1 =
+    omega (arith, ints, d, n.0.late, n.1, s.counting.begun, first_day_is, same, t) in
     record {
-      counting = (first_some (g.A.Lazy.tree s.lazy) (g.A.Lazy.tree c.next.new.self) (g.A.Lazy.position s.lazy) (g.A.Lazy.position c.next.new.self) s.position c.args.to (to_z w64 (of_z w64 c.args.to)) _ found _ s.count s.left _
+      counting = (first_some (g.A.Lazy.tree s.lazy) (g.A.Lazy.tree c.next.new.self) (g.A.Lazy.position s.lazy)
+          (g.A.Lazy.position c.next.new.self) s.position c.args.to (to_z w64 (of_z w64 c.args.to)) _ found _ s.count s.left _
           s.counting (omega (arith, c.if-self-eq0.false)) n c.in_ok-next.ensures.tree t (c.as_slice.ensures.same ∙ c.keep_first.ensures) q refl).0;
     }
 
@@ -71,7 +81,9 @@ returns-in-Some-clause-next g c =
     let t = to_z-of_z w64 c.args.to c.ranges.to in
     let same = s.counting.together (omega (arith, c.if-self-eq0.false)) in
     let d : to_z w64 (of_z w64 found.day) ≡ found.day = omega (arith, ints, n.0.late, n.1, s.counting.begun, first_day_is, same, t) in
-    let q : to_z w64 (of_z w64 (to_z w64 (of_z w64 found.day) +ℤ pos 1)) ≡ found.day +ℤ pos 1 = omega (arith, ints, d, n.0.late, n.1, s.counting.begun, first_day_is, same, t) in
-    let all = (first_some (g.A.Lazy.tree s.lazy) (g.A.Lazy.tree c.next.new.self) (g.A.Lazy.position s.lazy) (g.A.Lazy.position c.next.new.self) s.position c.args.to (to_z w64 (of_z w64 c.args.to)) _ found _ s.count s.left _
+    let q : to_z w64 (of_z w64 (to_z w64 (of_z w64 found.day) +ℤ pos 1)) ≡ found.day +ℤ pos 1 =
+    omega (arith, ints, d, n.0.late, n.1, s.counting.begun, first_day_is, same, t) in
+    let all = (first_some (g.A.Lazy.tree s.lazy) (g.A.Lazy.tree c.next.new.self) (g.A.Lazy.position s.lazy)
+    (g.A.Lazy.position c.next.new.self) s.position c.args.to (to_z w64 (of_z w64 c.args.to)) _ found _ s.count s.left _
     s.counting (omega (arith, c.if-self-eq0.false)) n c.in_ok-next.ensures.tree t c.keep_first.ensures q refl) in
     (all.1, all.2, q)

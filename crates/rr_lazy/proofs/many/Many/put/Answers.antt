@@ -9,7 +9,8 @@ use Rattle.rr_lazy.proofs.ManyLemmas.{forest_push, all_push, of_either}
 use Rattle.rr_lazy.proofs.many.Many.put.Goals as goal
 
 pub returns-clause-tree : goal.returns-clause-tree
-returns-clause-tree g c = rw c.in_ok-push.ensures.items (ap many (forest_push (λ p. g.A.Lazy.tree p.lazy) c.args.self.now.parts.items (record { lazy = c.args.lazy; ahead = None })))
+returns-clause-tree g c =
+    rw c.in_ok-push.ensures.items (ap many (forest_push (λ p. g.A.Lazy.tree p.lazy) c.args.self.now.parts.items (record { lazy = c.args.lazy; ahead = None })))
 
 pub invariant_of-self : goal.invariant_of-self
 invariant_of-self g c =
@@ -19,7 +20,11 @@ invariant_of-self g c =
     record {
       begun = s.begun;
       one_kind = of_either (λ xs. IsOfOneKind (many (forest_of (λ p. g.A.Lazy.tree p.lazy) xs))) _ _ _ c.push.new.self.items c.push.ensures.items
-          (subst (λ f. IsOfOneKind (many f)) (sym (forest_push (λ p. g.A.Lazy.tree p.lazy) s.parts.items (record { lazy = c.args.lazy; ahead = None }))) c.requires.one_kind) s.one_kind;
-      known = of_either (λ xs. All (λ p. IsAhead (g.A.Lazy.tree p.lazy) (g.A.Lazy.position p.lazy) s.position p.ahead) xs) _ _ _ c.push.new.self.items c.push.ensures.items
-          (all_push (λ p. IsAhead (g.A.Lazy.tree p.lazy) (g.A.Lazy.position p.lazy) s.position p.ahead) s.parts.items (record { lazy = c.args.lazy; ahead = None }) s.known (subst (λ z. IsAhead (g.A.Lazy.tree c.args.lazy) (g.A.Lazy.position c.args.lazy) z None) (sym at) new)) s.known;
+          (subst (λ f. IsOfOneKind (many f))
+          (sym (forest_push (λ p. g.A.Lazy.tree p.lazy) s.parts.items (record { lazy = c.args.lazy; ahead = None }))) c.requires.one_kind) s.one_kind;
+      known = of_either (λ xs. All (λ p. IsAhead (g.A.Lazy.tree p.lazy) (g.A.Lazy.position p.lazy) s.position p.ahead) xs) _ _ _ c.push.new.self.items
+          c.push.ensures.items
+          (all_push (λ p. IsAhead (g.A.Lazy.tree p.lazy) (g.A.Lazy.position p.lazy) s.position p.ahead) s.parts.items
+          (record { lazy = c.args.lazy; ahead = None }) s.known
+          (subst (λ z. IsAhead (g.A.Lazy.tree c.args.lazy) (g.A.Lazy.position c.args.lazy) z None) (sym at) new)) s.known;
     }

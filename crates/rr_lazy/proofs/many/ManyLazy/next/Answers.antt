@@ -37,7 +37,8 @@ invariant_of-self-then-day-to g c =
     let kept = rw f at c.past-self.ensures.kept in
     let one = rw (f, t) at c.past-self.ensures.one in
     let over : c.args.to <ℤ day = omega (arith, ints, c.if-day-to.true, d, t) in
-    let a = all_none (λ p. g.A.Lazy.tree p.lazy) (λ p. g.A.Lazy.position p.lazy) (λ p. p.ahead) xs s.position c.args.to r known kept one (λ k z l f h. omega (arith, ints, least k z l f h, over)) none in
+    let a = all_none (λ p. g.A.Lazy.tree p.lazy) (λ p. g.A.Lazy.position p.lazy) (λ p. p.ahead) xs s.position c.args.to r known kept one
+    (λ k z l f h. omega (arith, ints, least k z l f h, over)) none in
     record { begun = omega (arith, ints, s.begun, kept, q); one_kind = rw c.in_ok-ask_all.ensures.tree s.one_kind; known = rw q a.0 }
 
 pub returns-then-day-to-clause-next : goal.returns-then-day-to-clause-next
@@ -60,7 +61,8 @@ returns-then-day-to-clause-next g c =
     let kept = rw f at c.past-self.ensures.kept in
     let one = rw (f, t) at c.past-self.ensures.one in
     let over : c.args.to <ℤ day = omega (arith, ints, c.if-day-to.true, d, t) in
-    let a = all_none (λ p. g.A.Lazy.tree p.lazy) (λ p. g.A.Lazy.position p.lazy) (λ p. p.ahead) xs s.position c.args.to r known kept one (λ k z l f h. omega (arith, ints, least k z l f h, over)) none in
+    let a = all_none (λ p. g.A.Lazy.tree p.lazy) (λ p. g.A.Lazy.position p.lazy) (λ p. p.ahead) xs s.position c.args.to r known kept one
+    (λ k z l f h. omega (arith, ints, least k z l f h, over)) none in
     rw (q, sym c.in_ok-ask_all.ensures.tree) (a.1, kept, rw t at c.past-self.ensures.past, one)
 
 pub overflow_add-self : goal.overflow_add-self
@@ -82,7 +84,8 @@ overflow_add-self g c =
     let one : (day ≡ c.args.to +ℤ pos 1) ⊎ GaveDaySome (λ p. p.ahead) xs day = rw (n, c.deref.ensures.value) at c.first_of_all-day.ensures.one in
     let gave = gave_it (λ p. p.ahead) xs day c.args.to within one in
     let nd : All (λ p. ForNone p.ahead (day <ℤ g.A.Lazy.position p.lazy)) xs = λ k z l h. omega (arith, ints, none k z l h, within) in
-    let late = many_late (λ p. g.A.Lazy.tree p.lazy) (λ p. g.A.Lazy.position p.lazy) (λ p. p.ahead) xs s.position known day gave least nd (part_exists xs gave.0 gave.1) in
+    let late = many_late (λ p. g.A.Lazy.tree p.lazy) (λ p. g.A.Lazy.position p.lazy) (λ p. p.ahead) xs s.position known day gave least nd
+    (part_exists xs gave.0 gave.1) in
     omega (arith, ints, d, within, late, s.begun, first_day_is, c.requires.high)
 
 pub invariant_of-self-2 : goal.invariant_of-self-2
@@ -104,20 +107,25 @@ invariant_of-self-2 g c =
     let one : (day ≡ c.args.to +ℤ pos 1) ⊎ GaveDaySome (λ p. p.ahead) xs day = rw (n, c.deref.ensures.value) at c.first_of_all-day.ensures.one in
     let gave = gave_it (λ p. p.ahead) xs day c.args.to within one in
     let nd : All (λ p. ForNone p.ahead (day <ℤ g.A.Lazy.position p.lazy)) xs = λ k z l h. omega (arith, ints, none k z l h, within) in
-    let late = many_late (λ p. g.A.Lazy.tree p.lazy) (λ p. g.A.Lazy.position p.lazy) (λ p. p.ahead) xs s.position known day gave least nd (part_exists xs gave.0 gave.1) in
+    let late = many_late (λ p. g.A.Lazy.tree p.lazy) (λ p. g.A.Lazy.position p.lazy) (λ p. p.ahead) xs s.position known day gave least nd
+    (part_exists xs gave.0 gave.1) in
     let fit = day_fits s.position day c.args.to (rw first_day_is at s.begun) late within c.requires.high in
     let q : to_z w64 (of_z w64 (to_z w64 (of_z w64 day) +ℤ pos 1)) ≡ day +ℤ pos 1 = rw d fit.1 in
     let left : IsLeftBy (λ p. p.ahead) (λ p. p.lazy) xs day (length xs) c.forget_all.new.parts.items = rw d at c.forget_all.ensures in
     record {
       begun = begun_next (first_day_of_year (pos 1)) s.position s.position day _ s.begun refl late q;
-      one_kind = rw (forest_left g.A.Lazy.tree g.A.Lazy.position (λ p. p.lazy) (λ p. p.ahead) xs c.forget_all.new.parts.items s.position day (pos 0) left, c.in_ok-ask_all.ensures.tree) s.one_kind;
+      one_kind = rw (
+        forest_left g.A.Lazy.tree g.A.Lazy.position (λ p. p.lazy) (λ p. p.ahead) xs c.forget_all.new.parts.items s.position day (pos 0) left,
+        c.in_ok-ask_all.ensures.tree,
+      ) s.one_kind;
       known = all_left g.A.Lazy.tree g.A.Lazy.position (λ p. p.lazy) (λ p. p.ahead) xs c.forget_all.new.parts.items s.position day _ known late least nd left q;
     }
 
 pub returns-clause-tree : goal.returns-clause-tree
 returns-clause-tree g c =
     let xs = c.ask_all.new.parts.items in
-    ap many (forest_left g.A.Lazy.tree g.A.Lazy.position (λ p. p.lazy) (λ p. p.ahead) xs c.forget_all.new.parts.items (pos 0) (to_z w64 (of_z w64 c.first_of_all-day.result)) (pos 0) c.forget_all.ensures ∙ c.in_ok-ask_all.ensures.tree)
+    ap many (forest_left g.A.Lazy.tree g.A.Lazy.position (λ p. p.lazy) (λ p. p.ahead) xs c.forget_all.new.parts.items (pos 0)
+    (to_z w64 (of_z w64 c.first_of_all-day.result)) (pos 0) c.forget_all.ensures ∙ c.in_ok-ask_all.ensures.tree)
 
 pub returns-clause-next : goal.returns-clause-next
 returns-clause-next g c =
@@ -138,9 +146,16 @@ returns-clause-next g c =
     let one : (day ≡ c.args.to +ℤ pos 1) ⊎ GaveDaySome (λ p. p.ahead) xs day = rw (n, c.deref.ensures.value) at c.first_of_all-day.ensures.one in
     let gave = gave_it (λ p. p.ahead) xs day c.args.to within one in
     let nd : All (λ p. ForNone p.ahead (day <ℤ g.A.Lazy.position p.lazy)) xs = λ k z l h. omega (arith, ints, none k z l h, within) in
-    let late = many_late (λ p. g.A.Lazy.tree p.lazy) (λ p. g.A.Lazy.position p.lazy) (λ p. p.ahead) xs s.position known day gave least nd (part_exists xs gave.0 gave.1) in
+    let late = many_late (λ p. g.A.Lazy.tree p.lazy) (λ p. g.A.Lazy.position p.lazy) (λ p. p.ahead) xs s.position known day gave least nd
+    (part_exists xs gave.0 gave.1) in
     let fit = day_fits s.position day c.args.to (rw first_day_is at s.begun) late within c.requires.high in
     let q : to_z w64 (of_z w64 (to_z w64 (of_z w64 day) +ℤ pos 1)) ≡ day +ℤ pos 1 = rw d fit.1 in
     let left : IsLeftBy (λ p. p.ahead) (λ p. p.lazy) xs day (length xs) c.forget_all.new.parts.items = rw d at c.forget_all.ensures in
     let set = rw (d, c.deref-2.ensures.value) at c.in_ok-times.ensures in
-    rw d (rw (sym c.in_ok-ask_all.ensures.tree) (many_given (λ p. g.A.Lazy.tree p.lazy) (λ p. g.A.Lazy.position p.lazy) (λ p. p.ahead) xs s.position known day gave least nd (part_exists xs gave.0 gave.1) c.in_ok-times.times set), within, fit.1)
+    rw d (
+      rw (sym c.in_ok-ask_all.ensures.tree)
+          (many_given (λ p. g.A.Lazy.tree p.lazy) (λ p. g.A.Lazy.position p.lazy) (λ p. p.ahead) xs s.position known day gave least nd
+          (part_exists xs gave.0 gave.1) c.in_ok-times.times set),
+      within,
+      fit.1,
+    )

@@ -17,7 +17,12 @@ returns-then-self-clause-next g c =
     let t = to_z-of_z c.ranges.to in
     let q : to_z w64 (of_z w64 r) ≡ r = (let fr : FitsSigned w64 r = record { sfits = c.past-self.type_inv } in to_z-of_z fr) in
     let after : day_part s.kind s.at <ℤ s.position = omega (arith, ints, c.if-self.true, s.of_day) in
-    rw q ((λ d x l h. none_after (g.A.Lazy.tree s.lazy) s.kind s.at d x (omega (arith, ints, l, after))), rw f at c.past-self.ensures.kept, rw t at c.past-self.ensures.past, rw (f, t) at c.past-self.ensures.one)
+    rw q (
+      (λ d x l h. none_after (g.A.Lazy.tree s.lazy) s.kind s.at d x (omega (arith, ints, l, after))),
+      rw f at c.past-self.ensures.kept,
+      rw t at c.past-self.ensures.past,
+      rw (f, t) at c.past-self.ensures.one,
+    )
 
 pub next-requires-clause-low : goal.next-requires-clause-low
 next-requires-clause-low g c =
@@ -41,7 +46,8 @@ invariant_of-self-in-None g c =
     let kept = rw f at c.past-self-in-None.ensures.kept in
     let past = rw t at c.past-self-in-None.ensures.past in
     let one = rw (f, t) at c.past-self-in-None.ensures.one in
-    let u = upto_none (g.A.Lazy.tree s.lazy) (g.A.Lazy.tree c.next.new.self) s.kind s.at (g.A.Lazy.position s.lazy) (g.A.Lazy.position c.next.new.self) s.position c.args.to c.min.result r same m kept past one n in
+    let u = upto_none (g.A.Lazy.tree s.lazy) (g.A.Lazy.tree c.next.new.self) s.kind s.at (g.A.Lazy.position s.lazy)
+    (g.A.Lazy.position c.next.new.self) s.position c.args.to c.min.result r same m kept past one n in
     record {
       begun = omega (arith, ints, s.begun, kept, q);
       one_kind = rw c.in_ok-next.ensures.tree s.one_kind;
@@ -65,7 +71,8 @@ returns-in-None-clause-next g c =
     let kept = rw f at c.past-self-in-None.ensures.kept in
     let past = rw t at c.past-self-in-None.ensures.past in
     let one = rw (f, t) at c.past-self-in-None.ensures.one in
-    let u = upto_none (g.A.Lazy.tree s.lazy) (g.A.Lazy.tree c.next.new.self) s.kind s.at (g.A.Lazy.position s.lazy) (g.A.Lazy.position c.next.new.self) s.position c.args.to c.min.result r same m kept past one n in
+    let u = upto_none (g.A.Lazy.tree s.lazy) (g.A.Lazy.tree c.next.new.self) s.kind s.at (g.A.Lazy.position s.lazy)
+    (g.A.Lazy.position c.next.new.self) s.position c.args.to c.min.result r same m kept past one n in
     rw q (u.0, kept, past, one)
 
 pub invariant_of-self-then-is_empty : goal.invariant_of-self-then-is_empty
@@ -85,11 +92,14 @@ invariant_of-self-then-is_empty g c =
     let past = rw t at c.past-self-then-is_empty.ensures.past in
     let one = rw (f, t) at c.past-self-then-is_empty.ensures.one in
     let af : FitsSigned w64 s.at = search rules in
-    let df : to_z w64 (of_z w64 c.in-Some.found.day) ≡ c.in-Some.found.day = omega (arith, ints, n.0.late, n.1, s.begun, first_day_is, same, c.min.ensures.self_bound, c.requires.high, t) in
+    let df : to_z w64 (of_z w64 c.in-Some.found.day) ≡ c.in-Some.found.day =
+    omega (arith, ints, n.0.late, n.1, s.begun, first_day_is, same, c.min.ensures.self_bound, c.requires.high, t) in
     let until : IsSecondsTo s.kind s.at c.in-Some.found.day c.seconds_to.result = rw (to_z-of_z af, df) at c.seconds_to.ensures in
     let set : IsSetOf nat_lt c.keep_below.new.self (λ x. Contains c.in-Some.found.times x × (x < c.seconds_to.result)) = c.keep_below.ensures in
     let e : c.keep_below.new.self ≡ [] = sym c.as_slice.ensures.same ∙ empty_is c.as_slice.result.now (sym c.is_empty.ensures ∙ c.if-is_empty.true) in
-    let u = upto_emptied (g.A.Lazy.tree s.lazy) (g.A.Lazy.tree c.next.new.self) s.kind s.at (g.A.Lazy.position s.lazy) (g.A.Lazy.position c.next.new.self) s.position c.args.to c.min.result r same m kept past one c.in-Some.found c.keep_below.new.self c.seconds_to.result n until set e in
+    let u = upto_emptied (g.A.Lazy.tree s.lazy) (g.A.Lazy.tree c.next.new.self) s.kind s.at (g.A.Lazy.position s.lazy)
+    (g.A.Lazy.position c.next.new.self) s.position c.args.to c.min.result r same m kept past one c.in-Some.found c.keep_below.new.self
+    c.seconds_to.result n until set e in
     record {
       begun = omega (arith, ints, s.begun, kept, q);
       one_kind = rw c.in_ok-next.ensures.tree s.one_kind;
@@ -114,11 +124,14 @@ returns-then-is_empty-clause-next g c =
     let past = rw t at c.past-self-then-is_empty.ensures.past in
     let one = rw (f, t) at c.past-self-then-is_empty.ensures.one in
     let af : FitsSigned w64 s.at = search rules in
-    let df : to_z w64 (of_z w64 c.in-Some.found.day) ≡ c.in-Some.found.day = omega (arith, ints, n.0.late, n.1, s.begun, first_day_is, same, c.min.ensures.self_bound, c.requires.high, t) in
+    let df : to_z w64 (of_z w64 c.in-Some.found.day) ≡ c.in-Some.found.day =
+    omega (arith, ints, n.0.late, n.1, s.begun, first_day_is, same, c.min.ensures.self_bound, c.requires.high, t) in
     let until : IsSecondsTo s.kind s.at c.in-Some.found.day c.seconds_to.result = rw (to_z-of_z af, df) at c.seconds_to.ensures in
     let set : IsSetOf nat_lt c.keep_below.new.self (λ x. Contains c.in-Some.found.times x × (x < c.seconds_to.result)) = c.keep_below.ensures in
     let e : c.keep_below.new.self ≡ [] = sym c.as_slice.ensures.same ∙ empty_is c.as_slice.result.now (sym c.is_empty.ensures ∙ c.if-is_empty.true) in
-    let u = upto_emptied (g.A.Lazy.tree s.lazy) (g.A.Lazy.tree c.next.new.self) s.kind s.at (g.A.Lazy.position s.lazy) (g.A.Lazy.position c.next.new.self) s.position c.args.to c.min.result r same m kept past one c.in-Some.found c.keep_below.new.self c.seconds_to.result n until set e in
+    let u = upto_emptied (g.A.Lazy.tree s.lazy) (g.A.Lazy.tree c.next.new.self) s.kind s.at (g.A.Lazy.position s.lazy)
+    (g.A.Lazy.position c.next.new.self) s.position c.args.to c.min.result r same m kept past one c.in-Some.found c.keep_below.new.self
+    c.seconds_to.result n until set e in
     rw q (u.0, kept, past, one)
 
 pub overflow_add-self : goal.overflow_add-self
@@ -143,12 +156,16 @@ invariant_of-self-in-Some g c =
     let mf : FitsSigned w64 c.min.result = record { sfits = c.min.type_inv } in
     let n = rw (c.in-Some.is, to_z-of_z mf) at c.in_ok-next.ensures.next in
     let af : FitsSigned w64 s.at = search rules in
-    let df : to_z w64 (of_z w64 c.in-Some.found.day) ≡ c.in-Some.found.day = omega (arith, ints, n.0.late, n.1, s.begun, first_day_is, same, c.min.ensures.self_bound, c.requires.high, t) in
+    let df : to_z w64 (of_z w64 c.in-Some.found.day) ≡ c.in-Some.found.day =
+    omega (arith, ints, n.0.late, n.1, s.begun, first_day_is, same, c.min.ensures.self_bound, c.requires.high, t) in
     let until : IsSecondsTo s.kind s.at c.in-Some.found.day c.seconds_to.result = rw (to_z-of_z af, df) at c.seconds_to.ensures in
     let set : IsSetOf nat_lt c.keep_below.new.self (λ x. Contains c.in-Some.found.times x × (x < c.seconds_to.result)) = c.keep_below.ensures in
-    let q : to_z w64 (of_z w64 (to_z w64 (of_z w64 c.in-Some.found.day) +ℤ pos 1)) ≡ c.in-Some.found.day +ℤ pos 1 = omega (arith, ints, df, n.0.late, n.1, s.begun, first_day_is, same, c.min.ensures.self_bound, c.requires.high, t) in
+    let q : to_z w64 (of_z w64 (to_z w64 (of_z w64 c.in-Some.found.day) +ℤ pos 1)) ≡ c.in-Some.found.day +ℤ pos 1 =
+    omega (arith, ints, df, n.0.late, n.1, s.begun, first_day_is, same, c.min.ensures.self_bound, c.requires.high, t) in
     let e : c.keep_below.new.self ≢ [] = λ x. not_empty c.as_slice.result.now (sym c.is_empty.ensures ∙ c.if-is_empty.false) (c.as_slice.ensures.same ∙ x) in
-    let u = upto_some (g.A.Lazy.tree s.lazy) s.kind s.at (g.A.Lazy.position s.lazy) (g.A.Lazy.position c.next.new.self) s.position c.args.to c.min.result _ same m c.in-Some.found c.keep_below.new.self c.seconds_to.result n until set e q in
+    let u = upto_some (g.A.Lazy.tree s.lazy) s.kind s.at (g.A.Lazy.position s.lazy)
+    (g.A.Lazy.position c.next.new.self) s.position c.args.to c.min.result _ same m c.in-Some.found c.keep_below.new.self c.seconds_to.result n until
+    set e q in
     record {
       begun = begun_next _ (g.A.Lazy.position s.lazy) s.position c.in-Some.found.day _ s.begun same n.0.late q;
       one_kind = rw c.in_ok-next.ensures.tree s.one_kind;
@@ -166,10 +183,14 @@ returns-else-is_empty-clause-next g c =
     let mf : FitsSigned w64 c.min.result = record { sfits = c.min.type_inv } in
     let n = rw (c.in-Some.is, to_z-of_z mf) at c.in_ok-next.ensures.next in
     let af : FitsSigned w64 s.at = search rules in
-    let df : to_z w64 (of_z w64 c.in-Some.found.day) ≡ c.in-Some.found.day = omega (arith, ints, n.0.late, n.1, s.begun, first_day_is, same, c.min.ensures.self_bound, c.requires.high, t) in
+    let df : to_z w64 (of_z w64 c.in-Some.found.day) ≡ c.in-Some.found.day =
+    omega (arith, ints, n.0.late, n.1, s.begun, first_day_is, same, c.min.ensures.self_bound, c.requires.high, t) in
     let until : IsSecondsTo s.kind s.at c.in-Some.found.day c.seconds_to.result = rw (to_z-of_z af, df) at c.seconds_to.ensures in
     let set : IsSetOf nat_lt c.keep_below.new.self (λ x. Contains c.in-Some.found.times x × (x < c.seconds_to.result)) = c.keep_below.ensures in
-    let q : to_z w64 (of_z w64 (to_z w64 (of_z w64 c.in-Some.found.day) +ℤ pos 1)) ≡ c.in-Some.found.day +ℤ pos 1 = omega (arith, ints, df, n.0.late, n.1, s.begun, first_day_is, same, c.min.ensures.self_bound, c.requires.high, t) in
+    let q : to_z w64 (of_z w64 (to_z w64 (of_z w64 c.in-Some.found.day) +ℤ pos 1)) ≡ c.in-Some.found.day +ℤ pos 1 =
+    omega (arith, ints, df, n.0.late, n.1, s.begun, first_day_is, same, c.min.ensures.self_bound, c.requires.high, t) in
     let e : c.keep_below.new.self ≢ [] = λ x. not_empty c.as_slice.result.now (sym c.is_empty.ensures ∙ c.if-is_empty.false) (c.as_slice.ensures.same ∙ x) in
-    let u = upto_some (g.A.Lazy.tree s.lazy) s.kind s.at (g.A.Lazy.position s.lazy) (g.A.Lazy.position c.next.new.self) s.position c.args.to c.min.result _ same m c.in-Some.found c.keep_below.new.self c.seconds_to.result n until set e q in
+    let u = upto_some (g.A.Lazy.tree s.lazy) s.kind s.at (g.A.Lazy.position s.lazy)
+    (g.A.Lazy.position c.next.new.self) s.position c.args.to c.min.result _ same m c.in-Some.found c.keep_below.new.self c.seconds_to.result n until
+    set e q in
     (u.0, u.1, q)

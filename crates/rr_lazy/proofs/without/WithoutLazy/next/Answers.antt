@@ -19,7 +19,8 @@ invariant_of-self-in-None g c =
     let kept = rw f at c.past-self.ensures.kept in
     let one = rw (f, t) at c.past-self.ensures.one in
     let n = rw (c.in-None.is, t, c.as_slice.ensures.value) at c.in_ok-next_left.ensures.next in
-    let o = own_none (g.A.Lazy.tree s.lazy) s.kind s.dates s.position (g.A.Lazy.position s.lazy) (g.A.Lazy.position c.next_left.new.lazy) c.args.to s.order s.passed r n kept one in
+    let o = own_none (g.A.Lazy.tree s.lazy) s.kind s.dates s.position (g.A.Lazy.position s.lazy)
+    (g.A.Lazy.position c.next_left.new.lazy) c.args.to s.order s.passed r n kept one in
     record {
       begun = omega (arith, ints, s.begun, kept, q);
       one_kind = rw c.in_ok-next_left.ensures.tree s.one_kind;
@@ -38,7 +39,8 @@ returns-in-None-clause-next g c =
     let kept = rw f at c.past-self.ensures.kept in
     let one = rw (f, t) at c.past-self.ensures.one in
     let n = rw (c.in-None.is, t, c.as_slice.ensures.value) at c.in_ok-next_left.ensures.next in
-    let o = own_none (g.A.Lazy.tree s.lazy) s.kind s.dates s.position (g.A.Lazy.position s.lazy) (g.A.Lazy.position c.next_left.new.lazy) c.args.to s.order s.passed r n kept one in
+    let o = own_none (g.A.Lazy.tree s.lazy) s.kind s.dates s.position (g.A.Lazy.position s.lazy)
+    (g.A.Lazy.position c.next_left.new.lazy) c.args.to s.order s.passed r n kept one in
     rw q (o.1, kept, rw t at c.past-self.ensures.past, one)
 
 pub invariant_of-self-in-Some : goal.invariant_of-self-in-Some
@@ -47,7 +49,8 @@ invariant_of-self-in-Some g c =
     let day = c.in-Some.found.day in
     let t = to_z-of_z c.ranges.to in
     let n = rw (c.in-Some.is, t, c.as_slice.ensures.value) at c.in_ok-next_left.ensures.next in
-    let o = own_some (g.A.Lazy.tree s.lazy) s.kind s.dates s.position (g.A.Lazy.position s.lazy) (g.A.Lazy.position c.next_left.new.lazy) c.args.to s.order s.passed c.in-Some.found n in
+    let o = own_some (g.A.Lazy.tree s.lazy) s.kind s.dates s.position (g.A.Lazy.position s.lazy)
+    (g.A.Lazy.position c.next_left.new.lazy) c.args.to s.order s.passed c.in-Some.found n in
     let d = day_fits s.position day c.args.to (rw first_day_is at s.begun) o.late n.1 c.requires.high in
     let q : to_z w64 (of_z w64 (to_z w64 (of_z w64 day) +ℤ pos 1)) ≡ day +ℤ pos 1 = rw d.0 d.1 in
     let same : to_z w64 (of_z w64 (to_z w64 (of_z w64 day) +ℤ pos 1)) ≡ g.A.Lazy.position c.next_left.new.lazy = q ∙ sym n.2 in
@@ -64,6 +67,7 @@ returns-in-Some-clause-next g c =
     let day = c.in-Some.found.day in
     let t = to_z-of_z c.ranges.to in
     let n = rw (c.in-Some.is, t, c.as_slice.ensures.value) at c.in_ok-next_left.ensures.next in
-    let o = own_some (g.A.Lazy.tree s.lazy) s.kind s.dates s.position (g.A.Lazy.position s.lazy) (g.A.Lazy.position c.next_left.new.lazy) c.args.to s.order s.passed c.in-Some.found n in
+    let o = own_some (g.A.Lazy.tree s.lazy) s.kind s.dates s.position (g.A.Lazy.position s.lazy)
+    (g.A.Lazy.position c.next_left.new.lazy) c.args.to s.order s.passed c.in-Some.found n in
     let d = day_fits s.position day c.args.to (rw first_day_is at s.begun) o.late n.1 c.requires.high in
     (o, n.1, (rw d.0 d.1))

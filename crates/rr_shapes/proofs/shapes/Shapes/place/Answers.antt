@@ -3,15 +3,22 @@ use Rattle.rr_shapes.proofs.ShapeLemmas.{few, number_few, known_placed, known_in
 use Rattle.rr_shapes.proofs.shapes.Shapes.place.Goals as goal
 
 pub overflow_cast-result : goal.overflow_cast-result
-overflow_cast-result c = omega (arith, number_few c.self.inside.sets.keys c.self.inside.size c.self.inside.last c.as_slice.result.now c.self.invariant (c.is_at.ensures c.if-is_at.true))
+overflow_cast-result c =
+    omega (
+      arith,
+      number_few c.self.inside.sets.keys c.self.inside.size c.self.inside.last c.as_slice.result.now c.self.invariant
+          (c.is_at.ensures c.if-is_at.true),
+    )
 
 pub returns-then-is_at-clause-placed : goal.returns-then-is_at-clause-placed
 returns-then-is_at-clause-placed c =
-    rw (← c.self.view_is) (known_placed c.self.inside.sets.keys c.args.times c.self.inside.last (c.is_at.ensures c.if-is_at.true ∙ ap Some c.as_slice.ensures.same))
+    rw (← c.self.view_is)
+    (known_placed c.self.inside.sets.keys c.args.times c.self.inside.last (c.is_at.ensures c.if-is_at.true ∙ ap Some c.as_slice.ensures.same))
 
 pub returns-then-is_at-clause-refused : goal.returns-then-is_at-clause-refused
 returns-then-is_at-clause-refused c =
-    rw (← c.self.view_is) (λ t. t.fresh (known_in c.self.inside.sets.keys c.args.times c.self.inside.last (c.is_at.ensures c.if-is_at.true ∙ ap Some c.as_slice.ensures.same)))
+    rw (← c.self.view_is)
+    (λ t. t.fresh (known_in c.self.inside.sets.keys c.args.times c.self.inside.last (c.is_at.ensures c.if-is_at.true ∙ ap Some c.as_slice.ensures.same)))
 
 pub overflow_cast-result-in-Some : goal.overflow_cast-result-in-Some
 overflow_cast-result-in-Some c = omega (arith, few c.self.inside.sets.keys c.self.inside.size c.self.invariant, c.in-Some.ensures.within)
@@ -20,26 +27,35 @@ pub returns-in-Some-clause-placed : goal.returns-in-Some-clause-placed
 returns-in-Some-clause-placed c = rw (← c.self.view_is) (found_placed c.self.inside.sets.keys c.args.times c.in-Some.number (sym c.in-Some.ensures.index))
 
 pub returns-in-Some-clause-refused : goal.returns-in-Some-clause-refused
-returns-in-Some-clause-refused c = rw (← c.self.view_is) (λ t. t.fresh (found_in c.self.inside.sets.keys c.args.times c.in-Some.number (sym c.in-Some.ensures.index)))
+returns-in-Some-clause-refused c =
+    rw (← c.self.view_is) (λ t. t.fresh (found_in c.self.inside.sets.keys c.args.times c.in-Some.number (sym c.in-Some.ensures.index)))
 
 pub returns-then-more-self-clause-refused : goal.returns-then-more-self-clause-refused
 returns-then-more-self-clause-refused c =
     let above : 16_777_216 < c.self.inside.size + length c.as_slice-more.result.now = omega (arith, c.self.invariant.within, c.if-more-self.true) in
-    rw (← c.self.view_is) (refl, too_many c.self.inside.sets.keys c.self.inside.size c.args.times c.self.invariant (sym c.in_default.ensures.found) (length c.as_slice-more.result.now) (ap length c.as_slice-more.ensures.same) above)
+    rw (← c.self.view_is) (
+      refl,
+      too_many c.self.inside.sets.keys c.self.inside.size c.args.times c.self.invariant (sym c.in_default.ensures.found)
+          (length c.as_slice-more.result.now) (ap length c.as_slice-more.ensures.same) above,
+    )
 
 pub invariant_of-self-2 : goal.invariant_of-self-2
 invariant_of-self-2 c =
     let room : c.self.inside.size + length c.as_slice-more.result.now ≤ 16_777_216 = omega (arith, c.self.invariant.within, c.if-more-self.false) in
-    new_counted c.self.inside.sets.keys c.self.inside.size c.args.times c.self.invariant (sym c.in_default.ensures.found) c.insert_full.new.self.keys (length c.as_slice-more.result.now)
+    new_counted c.self.inside.sets.keys c.self.inside.size c.args.times c.self.invariant (sym c.in_default.ensures.found) c.insert_full.new.self.keys
+    (length c.as_slice-more.result.now)
     c.in-Ok.ensures.keys c.insert_full.ensures.unique c.as_slice-more.ensures.of_day (ap length c.as_slice-more.ensures.same) room
 
 pub overflow_cast-result-2 : goal.overflow_cast-result-2
-overflow_cast-result-2 c = omega (arith, few c.insert_full.new.self.keys (c.self.inside.size + length c.as_slice-more.result.now) (invariant_of-self-2 c), c.in-Ok.ensures.within)
+overflow_cast-result-2 c =
+    omega (arith, few c.insert_full.new.self.keys (c.self.inside.size + length c.as_slice-more.result.now) (invariant_of-self-2 c), c.in-Ok.ensures.within)
 
 pub returns-clause-placed : goal.returns-clause-placed
 returns-clause-placed c =
     let stored = c.in-Ok.ensures.stored in
-    rw (← c.self.view_is) (new_placed c.self.inside.sets.keys c.self.inside.size c.args.times c.self.invariant (sym c.in_default.ensures.found) c.insert_full.new.self.keys c.in-Ok.number stored.0 c.in-Ok.ensures.keys stored.1 stored.2)
+    rw (← c.self.view_is)
+    (new_placed c.self.inside.sets.keys c.self.inside.size c.args.times c.self.invariant
+    (sym c.in_default.ensures.found) c.insert_full.new.self.keys c.in-Ok.number stored.0 c.in-Ok.ensures.keys stored.1 stored.2)
 
 pub returns-clause-numbering : goal.returns-clause-numbering
 returns-clause-numbering c = (invariant_of-self-2 c).numbering
