@@ -8,6 +8,8 @@ mod command;
 mod conclusion;
 mod folding;
 mod laws;
+#[cfg(test)]
+mod list_tests;
 mod listing;
 mod operand;
 mod outcome;
