@@ -1,10 +1,7 @@
 -- What is judged of a series that was read, and what is said then.
-use Rattle.std.proofs.Common.{◌≡◌, inr, ◌≤◌, ℕ, Bool, true, false, not, ◌||◌, List, [], ◌∷◌, ℤ, Option, None, Some, refl, sym, ap, subst, ◌∙◌, arith}
+use Rattle.std.proofs.Common.{◌≡◌, inr, ◌≤◌, ℕ, None, Some, refl, sym, ap, subst, ◌∙◌, arith}
 use Rattle.std.specs.Prelude.{Result, Ok, Err}
-use Rattle.std.specs.List.{All, list_any}
 use Rattle.std.proofs.lemmas.Bool.{false≢true}
-use Rattle.std.proofs.lemmas.List.Elements.{All-cons, All-nil}
-use Rattle.rr_model.specs.Rule.Validity.{is_absent}
 use Rattle.rr_model.specs.Series.Cycle.{series_cycle}
 use Rattle.rr_model.specs.Series.FirstRefusal.{FirstRefusalIsOne, IsLimitRefusal, Limits}
 use Rattle.rr_model.specs.Series.Soundness.{first_refusal}
@@ -13,7 +10,6 @@ use Rattle.rr_model.specs.declared.limits.TheConstants.{MAX_CYCLE_DAYS}
 use Rattle.rr_model.specs.declared.refusal.Fault.{Fault}
 use Rattle.rr_model.specs.declared.refusal.Fault.TheVariants.{NoMemory, Refused}
 use Rattle.rr_model.specs.declared.refusal.Refusal.{Refusal}
-use Rattle.rr_model.specs.declared.rule.Rule.{Rule}
 use Rattle.rr_model.specs.declared.rule.Series.{Series}
 use Rattle.rr_model.specs.declared.verdict.Side.{Side}
 use Rattle.rr_model.specs.declared.verdict.Side.TheVariants.{A}
