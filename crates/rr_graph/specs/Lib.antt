@@ -1,0 +1,5 @@
+pub mod Answers
+pub mod EndTypes
+pub mod FirstOccurrence
+pub mod Ranges
+pub mod Moved

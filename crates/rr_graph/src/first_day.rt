@@ -1,0 +1,163 @@
+// The days of a pattern, and the first of them in a range (Microsoft Graph, recurrencePattern and recurrenceRange).
+ghost use Rattle.std.specs.Prelude.{◌≡◌, ◌≤◌, ◌<◌};
+ghost use Rattle.rr_model.specs.Calendar.{IsDayWithin};
+ghost use Rattle.rr_model.specs.Whole.Count.{count_from};
+ghost use Rattle.rr_model.specs.Moment.Years.{IsInYears};
+ghost use Rattle.rr_model.specs.declared.kind.Kind.TheVariants.{Days};
+ghost use Rattle.rr_model.specs.Graph.Counterpart.{has_weekday};
+ghost use Rattle.rr_model.specs.Graph.Occurrences.{first_repeat_day, form_holds, is_day_in, is_day_number, is_indexed_day, is_pattern_day, last_day_of, period_of, rank_from_month_end, rank_in_month};
+
+use rr_cal::{Day, month_number, week_index, weekday};
+use rr_model::{Form, Pattern, Range, RangeEnd};
+use rr_setpos::is_congruent;
+
+// 9999-12-31.
+const LAST_DAY: i64 = 2_932_896;
+
+/// The first day of a pattern and a range in the years 1 to 9999, in days since 1970-01-01, if there is one.
+///
+/// Each period has a day of the pattern, so no more days are looked at than one interval of periods has.
+#[tactic(auto, unfolding(rr_model::specs::Graph::Occurrences::first_repeat_day))]
+pub(crate) fn first_repeat_day(pattern: &Pattern, range: &Range) -> Option<i64>
+    requires interval { 1 ≤ pattern.now.interval }
+    requires start { IsInYears Days range.now.start_day }
+    ensures { result ≡ first_repeat_day pattern.now range.now }
+{
+    let start = Day::new(range.start_day);
+    let last = last_day_of(range.end);
+    let mut next = range.start_day;
+    while next <= last {
+        let day = Day::new(next);
+        if is_pattern_day(pattern, &start, &day) {
+            return Some(next);
+        }
+        next += 1;
+    }
+    None
+}
+
+// The last day that a range allows in the years 1 to 9999.
+fn last_day_of(end: RangeEnd) -> i64
+    ensures { result ≡ last_day_of end }
+{
+    match end {
+        RangeEnd::EndDate(last) if last <= LAST_DAY => last,
+        _ => LAST_DAY,
+    }
+}
+
+// Whether the pattern that begins on the day `start` has the day.
+#[tactic(auto, unfolding(rr_model::specs::Graph::Occurrences::is_pattern_day))]
+fn is_pattern_day(pattern: &Pattern, start: &Day, day: &Day) -> bool
+    requires interval { 1 ≤ pattern.now.interval }
+    requires near { IsDayWithin 0 day.now.number }
+    ensures { result ≡ is_pattern_day pattern.now start.now.number day.now.number }
+{
+    let from = period_of(pattern, start);
+    let to = period_of(pattern, day);
+    is_congruent(from, to, pattern.interval) && form_holds(pattern, day)
+}
+
+// The number of the period in which a day lies.
+fn period_of(pattern: &Pattern, day: &Day) -> i64
+    ensures { result ≡ period_of pattern.now.form pattern.now.first_day day.now.number }
+{
+    match pattern.form {
+        Form::Daily => day.number,
+        Form::Weekly => week_index(day.number, pattern.first_day),
+        Form::AbsoluteMonthly | Form::RelativeMonthly => month_number(day),
+        Form::AbsoluteYearly | Form::RelativeYearly => day.year,
+    }
+}
+
+// What the type asks of a day.
+fn form_holds(pattern: &Pattern, day: &Day) -> bool
+    requires near { IsDayWithin 0 day.now.number }
+    ensures { result ≡ form_holds pattern.now.form pattern.now day.now.number }
+{
+    match pattern.form {
+        Form::Daily => true,
+        Form::Weekly => is_day_in(pattern.days, day.weekday),
+        Form::AbsoluteMonthly => is_day_number(pattern.day_of_month, day),
+        Form::RelativeMonthly => is_indexed_day(pattern.index, pattern.days, day),
+        Form::AbsoluteYearly => {
+            day.month == pattern.month && is_day_number(pattern.day_of_month, day)
+        }
+        Form::RelativeYearly => {
+            day.month == pattern.month && is_indexed_day(pattern.index, pattern.days, day)
+        }
+    }
+}
+
+// Whether a sum of days has the weekday, from 0 for Monday.
+pub(crate) fn is_day_in(days: u8, weekday: u8) -> bool
+    requires { weekday < 7 }
+    ensures { result ≡ has_weekday days weekday }
+{
+    match weekday {
+        0 => days / 2 % 2 == 1,
+        1 => days / 4 % 2 == 1,
+        2 => days / 8 % 2 == 1,
+        3 => days / 16 % 2 == 1,
+        4 => days / 32 % 2 == 1,
+        5 => days / 64 % 2 == 1,
+        _ => days % 2 == 1,
+    }
+}
+
+// Whether the day has this number in its month, or is the last of a shorter one.
+fn is_day_number(number: u8, day: &Day) -> bool
+    ensures { result ≡ is_day_number number day.now.number }
+{
+    day.day_of_month == number.min(day.days_in_month)
+}
+
+// Whether the day is the one of this index among those of its month.
+fn is_indexed_day(index: i8, days: u8, day: &Day) -> bool
+    requires near { IsDayWithin 0 day.now.number }
+    ensures { result ≡ is_indexed_day index days day.now.number }
+{
+    if !is_day_in(days, day.weekday) {
+        return false;
+    }
+    if index >= 0 {
+        rank_in_month(days, day) == index as u8
+    } else {
+        i16::from(rank_from_month_end(days, day)) == -i16::from(index)
+    }
+}
+
+// How many such days the month has up to the day.
+fn rank_in_month(days: u8, day: &Day) -> u8
+    requires near { IsDayWithin 0 day.now.number }
+    ensures few { result ≤ 31 }
+    ensures rank { result ≡ rank_in_month days day.now.number }
+{
+    let first = day.number - i64::from(day.day_of_month) + 1;
+    count_days(days, first, day.day_of_month)
+}
+
+// How many it has from the day on.
+fn rank_from_month_end(days: u8, day: &Day) -> u8
+    requires near { IsDayWithin 0 day.now.number }
+    ensures few { result ≤ 31 }
+    ensures rank { result ≡ rank_from_month_end days day.now.number }
+{
+    count_days(days, day.number, day.days_in_month + 1 - day.day_of_month)
+}
+
+// How many of so many days from one on have such a weekday.
+fn count_days(days: u8, first: i64, many: u8) -> u8
+    requires near { IsDayWithin 100 first }
+    requires few { many ≤ 31 }
+    ensures few { result ≤ 31 }
+    ensures count { result ≡ count_from (is_day_in days) first many }
+{
+    let mut count = 0;
+    for k in 0..many {
+        if is_day_in(days, weekday(first + i64::from(k))) {
+            count += 1;
+        }
+    }
+    count
+}

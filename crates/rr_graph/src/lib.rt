@@ -1,0 +1,24 @@
+//! Events and recurrences of Microsoft Graph: their JSON, and what they are in RFC 5545.
+#![tactic(auto)]
+
+mod event;
+mod first_day;
+mod laws;
+mod members;
+mod pattern;
+mod range;
+mod reading;
+mod recurrence;
+mod rule;
+mod series;
+mod start;
+
+pub use laws::{
+    counterpart_has_occurrences, counterpart_is_sound, counterpart_starts_first,
+    moving_the_start_keeps_occurrences, refused_where_none_occurs,
+};
+pub use reading::read;
+pub use series::to_series;
+
+#[cfg(test)]
+mod tests;
