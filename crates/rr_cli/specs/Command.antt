@@ -172,24 +172,9 @@ is_task_built (task.List n) = true
 is_task_built task.Check = true
 is_task_built _ = false
 
--- the languages that can be read so far
-abbrev pub is_language_built : Language → Bool
-is_language_built Rrule = true
-is_language_built list = true
-is_language_built Vcal = true
-is_language_built _ = false
-
--- an operand that is absent is built too
-abbrev pub is_operand_built : Option Operand → Bool
-is_operand_built None = true
-is_operand_built (Some operand) = is_language_built operand.language
-
--- the side that is not built yet; a command that is not is refused as A
+-- a command that is not built yet is refused as A
 unfoldable pub not_built : Command → Option Side
-not_built command =
-    if not (is_task_built command.task && is_operand_built command.a) then Some A
-    else if not (is_operand_built command.b) then Some B
-    else None
+not_built command = if is_task_built command.task then None else Some A
 
 -- ---- what is fetched
 

@@ -2,8 +2,10 @@
 use Rattle.std.specs.Prelude.{ℕ, nat_lt, if◌then◌else◌, ℤ, List, length, Option, Some, None, Result, Ok, Err}
 use Rattle.rr_cli.specs.Command.{Operand}
 use Rattle.rr_cli.specs.declared.command.Language.{Language}
-use Rattle.rr_cli.specs.declared.command.Language.TheVariants.{Rrule, Vcal, List as list}
+use Rattle.rr_cli.specs.declared.command.Language.TheVariants.{Rrule, Vcal, Graph, List as list}
 use Rattle.rr_model.specs.Text.Calendars.{reads_calendar}
+use Rattle.rr_model.specs.Graph.Counterpart.{series_of_graph}
+use Rattle.rr_model.specs.Graph.Reading.{reads_graph}
 use Rattle.rr_model.specs.Text.Lists.{reads_list}
 use Rattle.rr_model.specs.Text.RuleValues.{◌>>=◌}
 use Rattle.rr_model.specs.Vcal.Counterpart.{series_of_vseries}
@@ -18,7 +20,7 @@ abbrev pub reads : Language → Option ℤ → List ℕ → Result Series Refusa
 reads Rrule offset bytes = reads_calendar offset bytes
 reads list offset bytes = reads_list bytes
 reads Vcal offset bytes = reads_vcal offset bytes >>= λ series. Ok (series_of_vseries series)
-reads _ offset bytes = Err NotBuilt
+reads Graph offset bytes = reads_graph offset bytes >>= λ event. Ok (series_of_graph event)
 
 -- the same, where there are not too many bytes
 unfoldable pub reads_within : Language → Option ℤ → List ℕ → Result Series Refusal

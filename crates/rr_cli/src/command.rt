@@ -1,6 +1,6 @@
 // The commands of the program and their operands.
 ghost use Rattle.std.specs.Prelude.{◌≡◌, option_map};
-ghost use Rattle.rr_cli.specs.Command.{is_language_built, is_operand_built, is_task_built, not_built};
+ghost use Rattle.rr_cli.specs.Command.{is_task_built, not_built};
 ghost use Rattle.rr_cli.specs.Parsed.{command_in, operand_in};
 
 use rr_model::Side;
@@ -78,32 +78,14 @@ fn is_task_built(task: Task) -> bool
     )
 }
 
-fn is_language_built(language: Language) -> bool
-    ensures { result ≡ is_language_built language }
-{
-    matches!(language, Language::Rrule | Language::Vcal | Language::List)
-}
-
-// Whether the texts of the operand can be read.
-fn is_operand_built(operand: Option<Operand>) -> bool
-    ensures { result ≡ is_operand_built (option_map operand_in operand.entry) }
-{
-    match operand {
-        None => true,
-        Some(operand) => is_language_built(operand.language),
-    }
-}
-
-/// The side that is not built yet, where the command or one of its operands is not.
+/// The side on which a command is refused that is not built yet.
 #[tactic(auto, unfolding(crate::specs::Command::not_built))]
 pub fn not_built(command: Command) -> Option<Side>
     ensures { result ≡ not_built (command_in command.entry) }
 {
-    if !is_task_built(command.task) || !is_operand_built(command.a) {
-        Some(Side::A)
-    } else if !is_operand_built(command.b) {
-        Some(Side::B)
-    } else {
+    if is_task_built(command.task) {
         None
+    } else {
+        Some(Side::A)
     }
 }

@@ -4,7 +4,7 @@ ghost use Rattle.rr_model.specs.Answers.{Answers};
 ghost use Rattle.rr_model.specs.Series.Validity.{IsValidSeries};
 ghost use Rattle.rr_cli.specs.OperandReading.{operand_read, reads, reads_within};
 ghost use Rattle.rr_cli.specs.Parsed.{operand_in};
-ghost use Rattle.rr_cli.specs.declared.command.Language.TheVariants.{Vcal};
+ghost use Rattle.rr_cli.specs.declared.command.Language.TheVariants.{Graph, Vcal};
 
 use crate::command::{Language, Operand};
 use rr_ical::read_list;
@@ -18,6 +18,15 @@ fn read_vcal(alloc: Global, offset: Option<i32>, bytes: &[u8]) -> Result<Series,
 {
     let series = rr_vcal::read(alloc, bytes, offset)?;
     Ok(rr_vcal::to_series(alloc, &series)?)
+}
+
+// The series of RFC 5545 that has the occurrences of an event of Microsoft Graph.
+fn read_graph(alloc: Global, offset: Option<i32>, bytes: &[u8]) -> Result<Series, Fault>
+    ensures answers { Answers (reads Graph offset bytes.now) result }
+    ensures valid { IfOk result IsValidSeries }
+{
+    let event = rr_graph::read(alloc, bytes, offset)?;
+    Ok(rr_graph::to_series(alloc, &event)?)
 }
 
 // The series of the bytes in this language; a list does not use the offset.
@@ -34,7 +43,7 @@ fn read(
         Language::Rrule => rr_rrule::read(alloc, bytes, offset),
         Language::List => read_list(alloc, bytes),
         Language::Vcal => read_vcal(alloc, offset, bytes),
-        Language::Graph => Err(Fault::Refused(Refusal::NotBuilt)),
+        Language::Graph => read_graph(alloc, offset, bytes),
     }
 }
 
@@ -56,7 +65,7 @@ fn read_within(
 }
 
 /// The series of an operand, or why its text is refused: `TooLong` above `MAX_INPUT` bytes, then what the reader of its
-/// language refuses. A language that is not built, and no operand at all, are refused as NotBuilt.
+/// language refuses. No operand at all is refused as NotBuilt.
 pub fn read_operand(alloc: Global, operand: Option<Operand>, bytes: &[u8]) -> Result<Series, Fault>
     ensures answers { Answers (operand_read (option_map operand_in operand.entry) bytes.now) result }
     ensures valid { IfOk result IsValidSeries }

@@ -361,25 +361,20 @@ const NO_COMMANDS: [&[&str]; 33] = [
 ];
 
 // Commands that are not built, and what is said of them.
-const NOT_BUILT: [(&[&str], &[u8]); 12] = [
-    (&["within", "graph:a", "rrule:b"], b"refused A NotBuilt\n"),
-    (&["disjoint", "list:a", "graph:-"], b"refused B NotBuilt\n"),
-    (&["canon", "graph:a"], b"refused A NotBuilt\n"),
+const NOT_BUILT: [(&[&str], &[u8]); 7] = [
     (&["infer", "list:a"], b"refused A NotBuilt\n"),
     (&["translate", "rrule", "rrule:a"], b"refused A NotBuilt\n"),
+    (
+        &["translate", "rrule", "rrule@-00:00:a"],
+        b"refused A NotBuilt\n",
+    ),
     (&["translate", "vcal", "rrule:a"], b"refused A NotBuilt\n"),
     (
         &["translate", "graph", "graph@-08:00:x"],
         b"refused A NotBuilt\n",
     ),
-    (&["list", "100000", "graph:-"], b"refused A NotBuilt\n"),
     (&["drill", "0", "1"], b"refused A NotBuilt\n"),
     (&["drill", "4294967295", "100"], b"refused A NotBuilt\n"),
-    (
-        &["equal", "rrule@-00:00:a", "graph@+01:00:b"],
-        b"refused B NotBuilt\n",
-    ),
-    (&["check", "graph@+23:59:a:b@c"], b"refused A NotBuilt\n"),
 ];
 
 // The fetch that is to fail, the put that is to fail after two bytes, and how the run of `equal` ends. None has the number 0.

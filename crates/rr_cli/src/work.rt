@@ -51,7 +51,7 @@ fn said(alloc: Global, command: Command, a: &[u8], b: &[u8]) -> Result<Outcome, 
 
 /// What a command asks, over its operands that are fetched: first A, then B.
 ///
-/// A command that is not built yet, or whose operand is not, is refused with nothing fetched.
+/// A command that is not built yet is refused with nothing fetched.
 pub fn work_out<S: Source>(
     alloc: Global,
     command: Command,
