@@ -1,10 +1,11 @@
 -- Worked cases of what is refused beside a start, and of the cycle of a series.
-use Rattle.std.proofs.Common.{◌≡◌, ℕ, true, List, [], ◌∷◌, ℤ, pos, refl}
+use Rattle.std.proofs.Common.{◌≡◌, ℕ, true, List, [], ◌∷◌, ℤ, pos, neg_ℤ, refl}
 use Rattle.std.specs.Prelude.{Option, None, Some}
 use Rattle.rr_model.specs.Calendar.{weekday_of}
 use Rattle.rr_model.specs.Calendar.Week.{week_index}
 use Rattle.rr_model.specs.Rule.Candidate.{is_candidate}
 use Rattle.rr_model.specs.Rule.Chosen.{is_chosen}
+use Rattle.rr_model.specs.Rule.Repetition.{later_moment}
 use Rattle.rr_model.specs.Series.Cycle.{rules_cycle, series_cycle}
 use Rattle.rr_model.specs.Series.Soundness.{first_refusal}
 use Rattle.rr_model.specs.Whole.Divisors.{gcd_within, gcd, lcm}
@@ -64,3 +65,11 @@ of_cycles :
     ≡ (6 ∷ 7 ∷ 1 ∷ [])
 unfolding rules_cycle gcd_within gcd lcm
 of_cycles = refl
+
+-- two cycles of a weekly rule later, a date by 14 days and a moment by as many days' seconds; and one cycle earlier
+of_later_moments :
+    (later_moment (rule_of Weekly 1 [] Never) Days (pos 2) (pos 19_723) ≡ pos 19_737)
+    × (later_moment (rule_of Weekly 1 [] Never) Moments (pos 2) (pos 0) ≡ pos 1_209_600)
+    × (later_moment (rule_of Weekly 1 [] Never) Days (neg_ℤ (pos 1)) (pos 7) ≡ pos 0)
+unfolding gcd_within gcd lcm
+of_later_moments = (refl, refl, refl)

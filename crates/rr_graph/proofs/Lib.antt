@@ -1,3 +1,4 @@
+mod PatternExamples
 pub mod PatternParts
 pub mod WholeDayLemmas
 pub mod FilledLemmas

@@ -1,4 +1,5 @@
 mod CountingExamples
+mod KindExamples
 pub mod CountingLemmas
 pub mod TreeLemmas
 pub mod FirstLemmas

@@ -6,8 +6,10 @@ use Rattle.rr_model.specs.Text.Moments.{is_digits, number_at, basic, basic_date,
 use Rattle.rr_model.specs.Text.RuleValues.{freq_named, weekday_named, number_up_to, number_within, numbers_of, day_item_within, day_items_of}
 use Rattle.rr_model.specs.Text.Rules.{part_named, name_of, with_part, parts_of, rule_of, rule_parts, line_value}
 use Rattle.rr_model.specs.Text.Calendars.{stated_rule, rule_beside, calendar_text}
+use Rattle.rr_model.specs.Text.Digits.{leading_digits}
 use Rattle.rr_model.specs.Text.Event.{left_by, event_scan}
 use Rattle.rr_model.specs.Text.Lines.{physical_lines, unfolded_lines}
+use Rattle.rr_model.specs.Text.Refusals.{refusal_name}
 use Rattle.rr_model.specs.Text.UsedLines.{value_of_line, line_kind}
 use Rattle.rr_model.specs.declared.kind.Kind.{Kind}
 use Rattle.rr_model.specs.declared.kind.Kind.TheVariants.{Days, Moments}
@@ -130,3 +132,11 @@ refusals = (
   refl,
   refl,
 )
+
+-- the digits in front
+of_digits : (leading_digits (codes "12;3") ≡ codes "12") × (leading_digits (codes "x") ≡ [])
+of_digits = (refl, refl)
+
+-- a refusal's name has no line
+of_names : (refusal_name (BadMoment 7) ≡ codes "BadMoment") × (refusal_name Extended ≡ codes "Extended")
+of_names = (refl, refl)

@@ -1,3 +1,4 @@
+mod ItemExamples
 mod CounterpartLemmas
 mod MemberLemmas
 mod MonthlyLemmas
