@@ -21,10 +21,11 @@ times_before rule kind start n = count_seconds (λ s. time_holds rule kind start
 abbrev pub days_among : Rule → ℤ → ℤ → ℕ → ℕ
 days_among rule start_day first n = count_from (λ d. date_parts_hold (filled rule Days start_day) d) first n
 
--- the first day of the unit of a day, and the first day of the next one
+-- the first day of the unit of a day
 abbrev pub first_of_unit : Rule → ℤ → ℤ
 first_of_unit rule day = unit_start rule.freq rule.week_start Days (unit_number rule.freq rule.week_start Days day)
 
+-- the first day of the next one
 abbrev pub next_of_unit : Rule → ℤ → ℤ
 next_of_unit rule day = unit_start rule.freq rule.week_start Days (unit_number rule.freq rule.week_start Days day +ℤ pos 1)
 
@@ -36,10 +37,11 @@ days_before rule start_day day = days_among rule start_day (first_of_unit rule d
 abbrev pub days_of_unit : Rule → ℤ → ℤ → ℕ
 days_of_unit rule start_day day = days_among rule start_day (first_of_unit rule day) (nat_abs (next_of_unit rule day -ℤ first_of_unit rule day))
 
--- how many candidates of its unit come before a candidate, and how many the unit has
+-- how many candidates of its unit come before a candidate
 abbrev pub rank_in_unit : Rule → Kind → ℤ → ℤ → ℕ
 rank_in_unit rule kind start t = count_from (is_candidate rule kind start) (unit_begin rule kind t) (nat_abs (t -ℤ unit_begin rule kind t))
 
+-- how many candidates the unit has
 abbrev pub size_of_unit : Rule → Kind → ℤ → ℤ → ℕ
 size_of_unit rule kind start t = count_from (is_candidate rule kind start) (unit_begin rule kind t) (nat_abs (unit_end rule kind t -ℤ unit_begin rule kind t))
 
@@ -55,6 +57,7 @@ rank_by_parts rule kind start t =
     + times_before rule kind start (second_part kind t)
     else times_before rule kind start (second_part kind t) - times_before rule kind start (begin_in_day rule (second_part kind t))
 
+-- how many candidates the unit has, by days and by times
 abbrev pub size_by_parts : Rule → Kind → ℤ → ℤ → ℕ
 size_by_parts rule kind start t =
     if is_whole_days rule.freq
