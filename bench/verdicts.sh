@@ -16,6 +16,19 @@ series() {
     printf 'DTSTART:%s\nRRULE:%s\n' "$2" "$3" >"$scratch/$1"
 }
 
+# several NAME START RULE..: a series of several rules under that name.
+several() {
+    name=$1
+    printf 'DTSTART:%s\n' "$2" >"$scratch/$name"
+    shift 2
+    printf 'RRULE:%s\n' "$@" >>"$scratch/$name"
+}
+
+# dates NAME: ten thousand dates more in that series, every third day from 2030-01-01 on.
+dates() {
+    seq 0 9999 | awk '{ print strftime("RDATE:%Y%m%d", 1893456000 + $1 * 259200, 1) }' >>"$scratch/$1"
+}
+
 # best RUNS WORDS..: of so many runs the least time in nanoseconds; of the last one the memory in kilobytes and the first line.
 best() {
     runs=$1
@@ -53,6 +66,16 @@ series seconds 20240101T000000 'FREQ=SECONDLY;INTERVAL=86399'
 series january 20240101T000000 'FREQ=SECONDLY;BYMONTH=1'
 series dense 20240101T000000 'FREQ=MINUTELY;INTERVAL=113;BYMONTH=1,2,3,4,5,6,7,8,9,10,11,12'
 
+several beside 20240101 'FREQ=MONTHLY;INTERVAL=113' 'FREQ=DAILY'
+several pair 20240101 'FREQ=WEEKLY' 'FREQ=MONTHLY'
+several sixteen 20240101 'FREQ=DAILY;COUNT=1001' 'FREQ=DAILY;COUNT=1002' 'FREQ=DAILY;COUNT=1003' 'FREQ=DAILY;COUNT=1004' \
+    'FREQ=DAILY;COUNT=1005' 'FREQ=DAILY;COUNT=1006' 'FREQ=DAILY;COUNT=1007' 'FREQ=DAILY;COUNT=1008' \
+    'FREQ=WEEKLY;COUNT=1001' 'FREQ=WEEKLY;COUNT=1002' 'FREQ=WEEKLY;COUNT=1003' 'FREQ=WEEKLY;COUNT=1004' \
+    'FREQ=WEEKLY;COUNT=1005' 'FREQ=WEEKLY;COUNT=1006' 'FREQ=WEEKLY;COUNT=1007' 'FREQ=WEEKLY;COUNT=1008'
+dates sixteen
+day=$(seq -s , 0 59)
+series second 20240101T000000 "FREQ=YEARLY;BYHOUR=$(seq -s , 0 23);BYMINUTE=$day;BYSECOND=$day;BYMONTH=1;BYSETPOS=1,-1"
+
 best 20 none
 empty=$least
 awk -v empty="$empty" 'BEGIN { printf "an empty run: %.4f s\n", empty / 1e9 }'
@@ -65,3 +88,7 @@ measure 0.5 3 'equal, each 86,399 seconds' equal "rrule:$scratch/seconds" "rrule
 measure 10 1 'equal, each second of January' equal "rrule:$scratch/january" "rrule:$scratch/january"
 measure 0.02 5 'canon, monthly' canon "rrule:$scratch/monthly"
 measure 2 3 'canon, a dense cycle of 16,508,961 days' canon "rrule:$scratch/dense"
+measure 1 1 'equal, a long and a daily rule' equal "rrule:$scratch/beside" "rrule:$scratch/beside"
+measure 2 3 'equal, 16 counted rules and 10,000 dates' equal "rrule:$scratch/sixteen" "rrule:$scratch/sixteen"
+measure 0.5 3 'list 100000 of two rules' list 100000 "rrule:$scratch/pair"
+measure 0.1 3 'check, set positions of whole years' check "rrule:$scratch/second"
