@@ -153,8 +153,6 @@ pub enum Refusal {
     TooManyParts,
     /// A value of a list is not above the value before it.
     NotRising(u64),
-    /// The text is of a form that is not built yet.
-    NotBuilt,
 }
 
 impl Refusal {
@@ -195,7 +193,6 @@ impl Refusal {
             Refusal::NotSayable => "NotSayable",
             Refusal::TooManyParts => "TooManyParts",
             Refusal::NotRising(_) => "NotRising",
-            Refusal::NotBuilt => "NotBuilt",
         }
     }
 }
@@ -238,7 +235,6 @@ impl fmt::Display for Refusal {
             Refusal::NotSayable => write!(f, "NotSayable"),
             Refusal::TooManyParts => write!(f, "TooManyParts"),
             Refusal::NotRising(line) => write!(f, "NotRising {line}"),
-            Refusal::NotBuilt => write!(f, "NotBuilt"),
         }
     }
 }

@@ -61,7 +61,3 @@ pub record FitsStart (kind : Kind) (start : ℤ) (rule : Rule) : Type 0 where
 pub record IsSound (series : Series) : Type 0 where
   pub valid : IsValidSeries series
   pub rules : All (FitsStart series.kind series.start) series.rules
-
--- no rule has BYSETPOS
-abbrev pub HasNoSetPositions : Series → Type 0
-HasNoSetPositions series = All (λ rule. rule.by_set_pos ≡ []) series.rules

@@ -4,7 +4,6 @@ use Rattle.rr_model.specs.Rising.{Rises}
 use Rattle.rr_model.specs.Rule.Chosen.{IsSynchronised}
 use Rattle.rr_model.specs.Rule.Member.{IsMember}
 use Rattle.rr_model.specs.Series.Occurrences.{Occurs}
-use Rattle.rr_model.specs.Text.WriteLaws.{IsStatable}
 use Rattle.rr_model.specs.Vcal.Counterpart.{rule_of_vrule, series_of_vseries}
 use Rattle.rr_model.specs.Vcal.Items.{item_lt}
 use Rattle.rr_model.specs.Vcal.Members.{IsVcalMember, IsVcalSynchronised, OccursInVseries}
@@ -12,8 +11,6 @@ use Rattle.rr_model.specs.Vcal.Reading.{reads_vcal}
 use Rattle.rr_model.specs.Vcal.Validity.{IsValidVRule, IsValidVSeries}
 use Rattle.rr_model.specs.Vcal.Written.{vcal_written}
 use Rattle.rr_model.specs.declared.kind.Kind.{Kind}
-use Rattle.rr_model.specs.declared.rule.End.{End}
-use Rattle.rr_model.specs.declared.rule.End.TheVariants.{Count, Both}
 use Rattle.rr_model.specs.declared.vcal.VRule.{VRule}
 use Rattle.rr_model.specs.declared.vcal.VSeries.{VSeries}
 
@@ -35,16 +32,9 @@ VcalCounterpartHasOccurrences =
 
 -- ---- what is written
 
--- an end that vCalendar 1.0 has words for
-abbrev pub IsVcalEnd : End → Type 0
-IsVcalEnd (Both kind at count) = IsStatable count
-IsVcalEnd (Count count) = IsStatable count
-IsVcalEnd end = Unit {0}
-
--- each list of the series rises (as the list types of the model always do), and its counts fit into a text
+-- each list of the series rises (as the list types of the model always do)
 pub record IsWritable (series : VSeries) : Type 0 where
   pub items : All (λ rule. Rises item_lt rule.items) series.rules
-  pub counts : All (λ rule. IsVcalEnd rule.end) series.rules
   pub plus : Rises int_lt series.plus
   pub minus : Rises int_lt series.minus
 

@@ -1,4 +1,4 @@
--- The text of a rule (vCalendar 1.0, basic recurrence rule grammar). Letters are capitals.
+-- The text of a rule (vCalendar 1.0, basic recurrence rule grammar). Letters are read in either case.
 use Rattle.std.specs.Prelude.{ℕ, ◌-◌, ◌==◌, nat_le, Bool, true, false, not, ◌&&◌, ◌||◌, if◌then◌else◌, ℤ, pos, neg_ℤ, int_lt, List, [], ◌∷◌, length, take}
 use Rattle.std.specs.Prelude.{drop, slice_index, codes, Option, None, Some, option_map, ok_or, Result, Ok, Err}
 use Rattle.std.specs.List.{list_all, slice_split}
