@@ -1,0 +1,10 @@
+pub mod Taking
+pub mod Shift
+pub mod Lasting
+pub mod Places
+pub mod DaySets
+pub mod Profile
+pub mod GraphProfile
+pub mod Tally
+pub mod Sorts
+pub mod Windows
