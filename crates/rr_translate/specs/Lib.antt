@@ -1,0 +1,3 @@
+pub mod OneEnd
+pub mod Target
+pub mod Translated

@@ -1,0 +1,2 @@
+//! A series in another language of recurrences, or its first single rule.
+#![tactic(auto)]
