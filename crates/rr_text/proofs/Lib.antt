@@ -1,9 +1,9 @@
-mod BasicLemmas
-mod ExtendedLemmas
+pub mod BasicLemmas
+pub mod ExtendedLemmas
 pub mod DigitLemmas
-mod MomentTextExamples
+pub mod MomentTextExamples
 pub mod MomentTextLemmas
 pub mod PhysicalLemmas
-mod PrintLemmas
+pub mod PrintLemmas
 pub mod PrintedLemmas
-mod UnfoldLemmas
+pub mod UnfoldLemmas

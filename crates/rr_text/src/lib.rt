@@ -16,7 +16,7 @@ pub use extended_text::extended;
 pub use laws::printed_texts_differ;
 pub use moment::basic;
 pub use physical::take_line;
-pub use print::{push_extended, push_number};
+pub use print::{push_basic, push_extended, push_number};
 pub use rr_model::Stamp;
 pub use unfold::lines;
 
@@ -116,6 +116,15 @@ mod tests {
             out.as_slice(),
             b"-1210000-01-012024-02-29T09:30:00".as_slice()
         );
+        Ok(())
+    }
+
+    #[test]
+    fn basic_printed(rt: HostRuntime) -> Result<(), Fail> {
+        let mut out = Vec::new(rt.alloc());
+        assert_eq!(rt; push_basic(&mut out, Kind::Days, 19_782), Ok(()));
+        assert_eq!(rt; push_basic(&mut out, Kind::Moments, 1_709_199_000), Ok(()));
+        assert_eq!(rt; out.as_slice(), b"2024022920240229T093000".as_slice());
         Ok(())
     }
 

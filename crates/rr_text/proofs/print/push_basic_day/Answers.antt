@@ -1,0 +1,10 @@
+use Rattle.std.proofs.Common.{arith}
+use Rattle.std.proofs.lemmas.Grind.{common_steps}
+use Rattle.rr_text.proofs.PrintLemmas.{basic_parts}
+use Rattle.rr_text.proofs.print.push_basic_day.Goals as goal
+
+pub returns-clause-ok : goal.returns-clause-ok
+returns-clause-ok c =
+    let date = c.date_parts-date.result in
+    let is = c.date_parts-date.ensures in
+    rw (basic_parts c.args.day date.year date.month date.day c.ranges.day is.year is.month is.day) (grind (arith, common_steps))
