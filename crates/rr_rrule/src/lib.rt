@@ -8,6 +8,7 @@ mod lists;
 mod numbers;
 mod parts;
 mod rule;
+mod rule_text;
 mod second;
 mod stated;
 mod values;
@@ -20,6 +21,7 @@ pub use laws::{
 };
 pub use numbers::whole_number;
 pub use parts::{interval_of, moment_of, weekday_of};
+pub use rule_text::weekday_text;
 pub use second::{Setting, date_beside};
 pub use stated::end_beside;
 pub use values::line_value;

@@ -16,7 +16,7 @@ pub use extended_text::extended;
 pub use laws::printed_texts_differ;
 pub use moment::basic;
 pub use physical::take_line;
-pub use print::{push_basic, push_extended, push_number};
+pub use print::{push_basic, push_extended, push_number, push_unsigned};
 pub use rr_model::Stamp;
 pub use unfold::lines;
 
