@@ -32,7 +32,7 @@ pub use hour_lazy::HourLazy;
 pub use laws::{series_repeats, tree_stands_for_series};
 pub use minute_lazy::MinuteLazy;
 pub use month_lazy::MonthLazy;
-pub use place::{Place, find};
+pub use place::{Place, find, place_of};
 pub use rr_lazy::{DatesLazy, DayTimes, FirstN, Lazy, Many, Union, Upto, Without};
 pub use rule_lazy::RuleLazy;
 pub use rules_lazy::RulesLazy;

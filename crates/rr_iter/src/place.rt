@@ -39,8 +39,9 @@ pub fn find(
     place_of(alloc, chosen, number, to)
 }
 
-// Where the occurrence of a number, from 1, lies up to a day.
-fn place_of<A: Lazy + Drop>(
+/// Where the occurrence of a number, from 1, in a set that has not been asked lies up to a day, in days since 1970-01-01. Each
+/// day's moments are counted at once.
+pub fn place_of<A: Lazy + Drop>(
     alloc: Global,
     mut lazy: A,
     number: u64,

@@ -1,11 +1,5 @@
 mod ItemExamples
-mod CounterpartLemmas
-mod MemberLemmas
-mod MonthlyLemmas
-mod YearlyLemmas
-mod CounterpartProofs
 mod OccurrenceLemmas
-mod ValidRuleLemmas
 mod ValidSeriesLemmas
 mod ValidPartsLemmas
 mod ValidReadLemmas
