@@ -25,5 +25,6 @@ pub use filled::{wants_minute, wants_second};
 pub use laws::{positions_are_by_parts, set_positions_are_by_parts};
 pub use nth::{nth_of_unit, rank_of, seconds_of_unit};
 pub use numbers::{allows, allows_filled};
+pub use places::is_in_place;
 pub use times::{Time, time_of};
 pub use units::{fits, is_congruent};

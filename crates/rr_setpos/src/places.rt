@@ -21,8 +21,9 @@ fn day_item_holds(item: DayItem, in_year: bool, day: &Day) -> bool
     item.weekday == day.weekday && (item.place == 0 || is_in_place(item.place, in_year, day))
 }
 
-// Whether the day has this place among the days of its weekday, in its year or in its month.
-fn is_in_place(place: i8, in_year: bool, day: &Day) -> bool
+/// Whether the day has this place among the days of its weekday, in its year or in its month: 1 for the first, -1 for
+/// the last, and 0 for none (RFC 5545, section 3.3.10, BYDAY).
+pub fn is_in_place(place: i8, in_year: bool, day: &Day) -> bool
     ensures { result ≡ is_in_place place in_year day.now.number }
 {
     if in_year {
