@@ -21,8 +21,9 @@ pub fn day_cycle(rule: &Rule) -> u128
     (units / gcd(units, parts)) as u128 * parts as u128
 }
 
-// After how many days the units of a frequency begin at the same place.
-fn interval_cycle(freq: Freq, interval: u32) -> u64
+/// After how many days the units of a frequency, each so many of them, begin at the same place of a day, of a week or of
+/// 400 years. Every valid rule has an interval of at least 1.
+pub fn interval_cycle(freq: Freq, interval: u32) -> u64
     requires { 1 ≤ interval }
     ensures value { result ≡ interval_cycle freq interval }
     ensures some { 1 ≤ result }

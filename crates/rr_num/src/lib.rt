@@ -7,6 +7,6 @@ mod factors;
 #[cfg(test)]
 mod tests;
 
-pub use cycle::day_cycle;
+pub use cycle::{day_cycle, interval_cycle};
 pub use divisors::{gcd, gcd_is_greatest, lcm_is_least, lcm_within};
 pub use factors::least_factor;
