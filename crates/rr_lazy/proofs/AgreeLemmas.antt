@@ -64,7 +64,7 @@ module _ (rule : Rule) (kind : Kind) (start t : ℤ) (in_years : IsInYears kind 
   day_from_first l = omega (arith, ints, in_years.0, day_mono kind start t l)
 
   -- up to a moment as many stand in a tree that ends there or later
-  upto_counts : (at : ℤ) → start ≤ℤ t → t ≤ℤ at → number_in (upto chosen kind at) ≡ number_in chosen
+  pub upto_counts : (at : ℤ) → start ≤ℤ t → t ≤ℤ at → number_in (upto chosen kind at) ≡ number_in chosen
   upto_counts at l h =
       to_same (λ d s. stands_at (upto chosen kind at) d s) (λ d s. stands_at chosen d s) (day_part kind t) (second_part kind t) (day_from_first l)
       (λ e r m n. same e r (not_after kind t e r n (inl m)))
