@@ -1,0 +1,5 @@
+pub mod TakingLemmas
+pub mod TallyLemmas
+pub mod SortLemmas
+pub mod ShiftLemmas
+pub mod LastingLemmas

@@ -1,5 +1,5 @@
 -- Which pattern and range of Microsoft Graph are the first that have the occurrences of a set (recurrencePattern, recurrenceRange).
-use Rattle.std.specs.Prelude.{◌≡◌, ℕ, ◌+◌, ◌%◌, ◌==◌, nat_lt, Bool, false, ◌&&◌, ◌||◌, List, [], ◌∷◌, ℤ, pos, negsuc, IsTrue}
+use Rattle.std.specs.Prelude.{◌≡◌, ℕ, ◌+◌, ◌%◌, ◌==◌, nat_lt, Bool, false, ◌&&◌, ◌||◌, List, [], ◌∷◌, ℤ, pos, negsuc}
 use Rattle.rr_family.specs.DaySets.{IsNumbered, IsOneSecond, IsLastDay, window_days}
 use Rattle.rr_family.specs.Lasting.{is_occupied, FitsCycle, HasCycle}
 use Rattle.rr_family.specs.Profile.{IsWindow}

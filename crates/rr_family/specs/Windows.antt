@@ -1,5 +1,5 @@
 -- What the searches for a rule or a pattern know of a set: its one second, its first two days, and where it ends or how it repeats.
-use Rattle.std.specs.Prelude.{◌≡◌, ℕ, true, false, Option, Some, None, ℤ, ◌≤ℤ◌, ◌<ℤ◌}
+use Rattle.std.specs.Prelude.{◌≡◌, true, false, Option, Some, None, ℤ, ◌<ℤ◌}
 use Rattle.rr_family.specs.DaySets.{IsOneSecond, IsLastDay, window_days}
 use Rattle.rr_family.specs.Lasting.{is_occupied}
 use Rattle.rr_family.specs.declared.window.Window.{Window}

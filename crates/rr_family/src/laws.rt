@@ -1,0 +1,81 @@
+// Laws on which the searches for a rule and for a pattern stand, each the contract of a function that does nothing.
+ghost use Rattle.rr_family.specs.Lasting.{AgreementOnCycleLasts, EndlessHasCycle, SoundLasts, TakingLosesNoEndless};
+ghost use Rattle.rr_family.specs.Shift.{CycleIsCounterparts, CycleIsPatterns, ItemsRepeat, PatternRepeats};
+ghost use Rattle.rr_family.specs.Sorts.{KindsHaveSorts};
+ghost use Rattle.rr_family.specs.Taking.{TakingIsSound, TakingLosesNone};
+ghost use Rattle.rr_family.specs.Tally.{FurtherBySorts, MixedHasNoList, SoundBySorts, UnsortedHasNoList};
+
+/// Taking sound items, the one with most further days first, loses no list.
+pub fn taking_loses_none()
+    ensures { TakingLosesNone }
+{}
+
+/// What is taken gives occupied days of the window alone.
+pub fn taking_is_sound()
+    ensures { TakingIsSound }
+{}
+
+/// A place is sound exactly where no sort that it has has a day that is not occupied.
+pub fn sound_by_sorts()
+    ensures { SoundBySorts }
+{}
+
+/// The further days of a place are those of its sorts that no taken place has.
+pub fn further_by_sorts()
+    ensures { FurtherBySorts }
+{}
+
+/// An occupied day without a sort is in no list.
+pub fn unsorted_has_no_list()
+    ensures { UnsortedHasNoList }
+{}
+
+/// A sort with an occupied day and one that is not occupied has no list.
+pub fn mixed_has_no_list()
+    ensures { MixedHasNoList }
+{}
+
+/// Two days of one sort are in the same items of a kind.
+pub fn kinds_have_sorts()
+    ensures { KindsHaveSorts }
+{}
+
+/// The days of a list of items repeat after the cycle of their kind and interval.
+pub fn items_repeat()
+    ensures { ItemsRepeat }
+{}
+
+/// The days of a pattern repeat after the cycle of its type and interval.
+pub fn pattern_repeats()
+    ensures { PatternRepeats }
+{}
+
+/// The cycle of a kind with its interval is that of its counterpart.
+pub fn cycle_is_counterparts()
+    ensures { CycleIsCounterparts }
+{}
+
+/// The cycle of a type with its interval is that of its counterpart.
+pub fn cycle_is_patterns()
+    ensures { CycleIsPatterns }
+{}
+
+/// A set that has the days of a test that repeats has its cycle, from its first day on.
+pub fn endless_has_cycle()
+    ensures { EndlessHasCycle }
+{}
+
+/// What is sound on one cycle is sound for ever.
+pub fn sound_lasts()
+    ensures { SoundLasts }
+{}
+
+/// What agrees on one cycle agrees for ever.
+pub fn agreement_on_cycle_lasts()
+    ensures { AgreementOnCycleLasts }
+{}
+
+/// Taking on one cycle loses no list of an endless set.
+pub fn taking_loses_no_endless()
+    ensures { TakingLosesNoEndless }
+{}
