@@ -3,3 +3,5 @@ pub mod TallyLemmas
 pub mod SortLemmas
 pub mod ShiftLemmas
 pub mod LastingLemmas
+pub mod DaySetLemmas
+pub mod ProfileLemmas

@@ -168,11 +168,11 @@ EndlessListIsRule = (s : Sketch) (f : FamilyKind) (interval : ℕ) (kind : Kind)
     → AgreeWithin (some_gives (place_has_day f interval first) (list_places s f interval first days)) (is_occupied s) first days
     → IsRuleOf (StandsIn s) (vrule f interval (list_items s f interval first days) Never) kind start
 
--- One that has those of a finite set is a rule of it, with as many members as days are occupied.
+-- One that has those of a finite set is a rule of it, with as many members as days are occupied, where a COUNT can be so many.
 abbrev pub FiniteListIsRule : Type 0
 FiniteListIsRule = (s : Sketch) (f : FamilyKind) (interval : ℕ) (kind : Kind) (start last : ℤ) → IsValidSketch s → 1 ≤ interval → interval ≤ most_family_interval f → IsInYears kind start
     → let first = day_part kind start in
     let days = window_days first last in
-    IsOneSecond s kind (second_part kind start) first → IsLastDay s last
+    IsOneSecond s kind (second_part kind start) first → IsLastDay s last → count_from (is_occupied s) first days ≤ 18_446_744_073_709_551_615
     → AgreeWithin (some_gives (place_has_day f interval first) (list_places s f interval first days)) (is_occupied s) first days
     → IsRuleOf (StandsIn s) (vrule f interval (list_items s f interval first days) (Count (count_from (is_occupied s) first days))) kind start

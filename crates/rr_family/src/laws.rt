@@ -1,5 +1,7 @@
 // Laws on which the searches for a rule and for a pattern stand, each the contract of a function that does nothing.
+ghost use Rattle.rr_family.specs.DaySets.{SetOfTest, TestOfEndless, TestOfFinite};
 ghost use Rattle.rr_family.specs.Lasting.{AgreementOnCycleLasts, EndlessHasCycle, SoundLasts, TakingLosesNoEndless};
+ghost use Rattle.rr_family.specs.Profile.{EndlessListIsRule, EndlessRuleHasCycle, FiniteListIsRule, MembersOnDays, NoListIsLost};
 ghost use Rattle.rr_family.specs.Shift.{CycleIsCounterparts, CycleIsPatterns, ItemsRepeat, PatternRepeats};
 ghost use Rattle.rr_family.specs.Sorts.{KindsHaveSorts};
 ghost use Rattle.rr_family.specs.Taking.{TakingIsSound, TakingLosesNone};
@@ -78,4 +80,44 @@ pub fn agreement_on_cycle_lasts()
 /// Taking on one cycle loses no list of an endless set.
 pub fn taking_loses_no_endless()
     ensures { TakingLosesNoEndless }
+{}
+
+/// A set that has the days of a test has one second, and is the test up to each of its days.
+pub fn set_of_test()
+    ensures { SetOfTest }
+{}
+
+/// An endless set whose days are those of a test is the test's.
+pub fn test_of_endless()
+    ensures { TestOfEndless }
+{}
+
+/// A finite set whose days are those of a test up to the last is the test's with their number.
+pub fn test_of_finite()
+    ensures { TestOfFinite }
+{}
+
+/// A rule of those that are looked for has the occurrences of its items' days.
+pub fn members_on_days()
+    ensures { MembersOnDays }
+{}
+
+/// Where some rule of a kind and interval has the set, the taken list has its days in the window.
+pub fn no_list_is_lost()
+    ensures { NoListIsLost }
+{}
+
+/// Where some rule of a kind and interval has an endless set, the set's least period divides their cycle.
+pub fn endless_rule_has_cycle()
+    ensures { EndlessRuleHasCycle }
+{}
+
+/// A taken list that has the days of an endless set's window is a rule of the set.
+pub fn endless_list_is_rule()
+    ensures { EndlessListIsRule }
+{}
+
+/// A taken list that has the days of a finite set is a rule of the set.
+pub fn finite_list_is_rule()
+    ensures { FiniteListIsRule }
 {}
