@@ -5,3 +5,4 @@ pub mod ShiftLemmas
 pub mod LastingLemmas
 pub mod DaySetLemmas
 pub mod ProfileLemmas
+pub mod GraphProfileLemmas

@@ -8,7 +8,8 @@ use Rattle.rr_family.specs.Taking.{AgreeWithin}
 use Rattle.rr_model.specs.Graph.Laws.{StartsOnPattern}
 use Rattle.rr_model.specs.Graph.Occurrences.{is_pattern_day, IsGraphOccurrence}
 use Rattle.rr_model.specs.Graph.Validity.{IsValidGraphEvent, IsValidPattern}
-use Rattle.rr_model.specs.Moment.{Occurrences, day_part, second_part}
+use Rattle.rr_model.specs.Moment.{Occurrences, day_part, second_part, moment_at}
+use Rattle.rr_model.specs.Moment.Years.{IsInYears}
 use Rattle.rr_model.specs.Sets.Least.{IsEndless}
 use Rattle.rr_model.specs.Sets.Sketch.{IsValidSketch, StandsFor, StandsIn}
 use Rattle.rr_model.specs.Sets.Verdict.{HaveEqualOccurrences}
@@ -103,7 +104,7 @@ NoPatternIsLost =
 abbrev pub PatternHasOneSecond : Type 0
 PatternHasOneSecond =
     (s : Sketch) (pattern : Pattern) (range : Range) (kind : Kind) (start : ℤ) → IsValidSketch s → IsPatternOf (StandsIn s) pattern range kind start
-    → (first : ℤ) × IsOneSecond s kind (second_part kind start) first
+    → (first : ℤ) × IsOneSecond s kind (second_part kind start) first × IsInYears kind (moment_at kind first (second_part kind start))
 
 -- If it has an endless set, the least period divides its cycle and the least start is the first day.
 abbrev pub EndlessPatternHasCycle : Type 0

@@ -1,5 +1,6 @@
 // Laws on which the searches for a rule and for a pattern stand, each the contract of a function that does nothing.
 ghost use Rattle.rr_family.specs.DaySets.{SetOfTest, TestOfEndless, TestOfFinite};
+ghost use Rattle.rr_family.specs.GraphProfile.{EndlessAgreementIsPattern, EndlessPatternHasCycle, FiniteAgreementIsPattern, NoPatternIsLost, PatternHasOneSecond};
 ghost use Rattle.rr_family.specs.Lasting.{AgreementOnCycleLasts, EndlessHasCycle, SoundLasts, TakingLosesNoEndless};
 ghost use Rattle.rr_family.specs.Profile.{EndlessListIsRule, EndlessRuleHasCycle, FiniteListIsRule, MembersOnDays, NoListIsLost};
 ghost use Rattle.rr_family.specs.Shift.{CycleIsCounterparts, CycleIsPatterns, ItemsRepeat, PatternRepeats};
@@ -120,4 +121,29 @@ pub fn endless_list_is_rule()
 /// A taken list that has the days of a finite set is a rule of the set.
 pub fn finite_list_is_rule()
     ensures { FiniteListIsRule }
+{}
+
+/// A pattern that has the set agrees with it in the window.
+pub fn no_pattern_is_lost()
+    ensures { NoPatternIsLost }
+{}
+
+/// A set that a pattern has, has one second on each of its days.
+pub fn pattern_has_one_second()
+    ensures { PatternHasOneSecond }
+{}
+
+/// Where a pattern has an endless set, the set's least period divides the pattern's cycle.
+pub fn endless_pattern_has_cycle()
+    ensures { EndlessPatternHasCycle }
+{}
+
+/// A pattern that agrees with an endless set in the window has its occurrences.
+pub fn endless_agreement_is_pattern()
+    ensures { EndlessAgreementIsPattern }
+{}
+
+/// A pattern that agrees with a finite set has its occurrences.
+pub fn finite_agreement_is_pattern()
+    ensures { FiniteAgreementIsPattern }
 {}

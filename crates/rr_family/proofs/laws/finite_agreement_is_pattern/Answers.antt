@@ -1,0 +1,5 @@
+use Rattle.rr_family.proofs.GraphProfileLemmas.{finite_agreement_is_pattern as law}
+use Rattle.rr_family.proofs.laws.finite_agreement_is_pattern.Goals as goal
+
+pub returns : goal.returns
+returns c = law
