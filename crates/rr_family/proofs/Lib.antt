@@ -5,4 +5,6 @@ pub mod ShiftLemmas
 pub mod LastingLemmas
 pub mod DaySetLemmas
 pub mod ProfileLemmas
+pub mod OrderLemmas
+pub mod FirstLemmas
 pub mod GraphProfileLemmas

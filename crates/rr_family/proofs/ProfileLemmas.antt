@@ -60,7 +60,7 @@ right true b e = e
 right false b e = absurd (cc)
 
 -- at one second of the day moments lie as their days do
-later_day : (kind : Kind) (start t : ℤ) → second_part kind t ≡ second_part kind start → (day_part kind start ≤ℤ day_part kind t) ↔ (start ≤ℤ t)
+pub later_day : (kind : Kind) (start t : ℤ) → second_part kind t ≡ second_part kind start → (day_part kind start ≤ℤ day_part kind t) ↔ (start ≤ℤ t)
 later_day Days start t e = (λ h. h, λ h. h)
 later_day Moments start t e =
     let w = floor_whole t 86_400 (omega arith) in
@@ -128,7 +128,7 @@ front_end most n low high =
     let e : n - 1 + 1 ≡ n = omega (arith, low) in
     rw (t, e) refl
 
-back_end : (most n : ℕ) → from_both_ends most (most + n) ≡ negsuc n
+pub back_end : (most n : ℕ) → from_both_ends most (most + n) ≡ negsuc n
 back_end most n =
     let t : nat_lt (most + n) most ≡ false = grind (arith, nat_tests) in
     let e : most + n - most + 1 ≡ suc n = omega arith in

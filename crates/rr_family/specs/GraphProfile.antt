@@ -88,10 +88,11 @@ pub record IsFirstPattern (P : Occurrences) (pattern : Pattern) (range : Range) 
 -- ---- laws
 
 -- A set has one first pattern, range, kind and start at most.
-abbrev pub FirstPatternIsOne : Type 1
+abbrev pub FirstPatternIsOne : Type 0
 FirstPatternIsOne =
-    (P : Occurrences) (pattern pattern' : Pattern) (range range' : Range) (kind kind' : Kind) (start start' : ℤ) → IsFirstPattern P pattern range kind start
-    → IsFirstPattern P pattern' range' kind' start' → event_of pattern range kind start ≡ event_of pattern' range' kind' start'
+    (s : Sketch) (pattern pattern' : Pattern) (range range' : Range) (kind kind' : Kind) (start start' : ℤ)
+    → IsFirstPattern (StandsIn s) pattern range kind start → IsFirstPattern (StandsIn s) pattern' range' kind' start'
+    → event_of pattern range kind start ≡ event_of pattern' range' kind' start'
 
 -- A pattern that has the set agrees with it on the window, counted from the first day.
 abbrev pub NoPatternIsLost : Type 0

@@ -131,10 +131,10 @@ abbrev pub vrule : FamilyKind → ℕ → List Item → End → VRule
 vrule family interval items end = record { family = family; interval = interval; items = items; end = end }
 
 -- A set has one first rule, kind and start at most.
-abbrev pub FirstRuleIsOne : Type 1
+abbrev pub FirstRuleIsOne : Type 0
 FirstRuleIsOne =
-    (P : Occurrences) (rule rule' : VRule) (kind kind' : Kind) (start start' : ℤ) → IsFirstRule P rule kind start → IsFirstRule P rule' kind' start'
-    → (rule ≡ rule') × (kind ≡ kind') × (start ≡ start')
+    (s : Sketch) (rule rule' : VRule) (kind kind' : Kind) (start start' : ℤ) → IsFirstRule (StandsIn s) rule kind start
+    → IsFirstRule (StandsIn s) rule' kind' start' → (rule ≡ rule') × (kind ≡ kind') × (start ≡ start')
 
 -- The items of the list that is taken rise.
 abbrev pub ListItemsRise : Type 0

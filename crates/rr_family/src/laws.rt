@@ -1,8 +1,8 @@
 // Laws on which the searches for a rule and for a pattern stand, each the contract of a function that does nothing.
 ghost use Rattle.rr_family.specs.DaySets.{SetOfTest, TestOfEndless, TestOfFinite};
-ghost use Rattle.rr_family.specs.GraphProfile.{EndlessAgreementIsPattern, EndlessPatternHasCycle, FiniteAgreementIsPattern, NoPatternIsLost, PatternHasOneSecond};
+ghost use Rattle.rr_family.specs.GraphProfile.{EndlessAgreementIsPattern, EndlessPatternHasCycle, FiniteAgreementIsPattern, FirstPatternIsOne, NoPatternIsLost, PatternHasOneSecond};
 ghost use Rattle.rr_family.specs.Lasting.{AgreementOnCycleLasts, EndlessHasCycle, SoundLasts, TakingLosesNoEndless};
-ghost use Rattle.rr_family.specs.Profile.{EndlessListIsRule, EndlessRuleHasCycle, FiniteListIsRule, MembersOnDays, NoListIsLost};
+ghost use Rattle.rr_family.specs.Profile.{EndlessListIsRule, EndlessRuleHasCycle, FiniteListIsRule, FirstRuleIsOne, ListItemsRise, MembersOnDays, NoListIsLost};
 ghost use Rattle.rr_family.specs.Shift.{CycleIsCounterparts, CycleIsPatterns, ItemsRepeat, PatternRepeats};
 ghost use Rattle.rr_family.specs.Sorts.{KindsHaveSorts};
 ghost use Rattle.rr_family.specs.Taking.{TakingIsSound, TakingLosesNone};
@@ -123,6 +123,16 @@ pub fn finite_list_is_rule()
     ensures { FiniteListIsRule }
 {}
 
+/// The items of a taken list rise in the order of items.
+pub fn list_items_rise()
+    ensures { ListItemsRise }
+{}
+
+/// A set has one first rule at most.
+pub fn first_rule_is_one()
+    ensures { FirstRuleIsOne }
+{}
+
 /// A pattern that has the set agrees with it in the window.
 pub fn no_pattern_is_lost()
     ensures { NoPatternIsLost }
@@ -146,4 +156,9 @@ pub fn endless_agreement_is_pattern()
 /// A pattern that agrees with a finite set has its occurrences.
 pub fn finite_agreement_is_pattern()
     ensures { FiniteAgreementIsPattern }
+{}
+
+/// A set has one first pattern and range at most.
+pub fn first_pattern_is_one()
+    ensures { FirstPatternIsOne }
 {}
