@@ -18,3 +18,4 @@ mod ScanLemmas
 mod CaseLemmas
 mod GivesLemmas
 mod FoldedLemmas
+pub mod PushLemmas

@@ -1,4 +1,4 @@
-//! Reads calendar texts with their recurrence rules (RFC 5545, sections 3.3.10 and 3.8.5).
+//! Reads and writes calendar texts with their recurrence rules (RFC 5545, sections 3.3.10 and 3.8.5).
 #![tactic(auto)]
 
 mod calendar;
@@ -6,6 +6,7 @@ mod first;
 mod laws;
 mod lists;
 mod numbers;
+mod part_text;
 mod parts;
 mod rule;
 mod rule_text;
@@ -13,6 +14,8 @@ mod second;
 mod stated;
 mod values;
 mod words;
+mod write_line;
+mod write_series;
 
 pub use calendar::read;
 pub use first::{date_value, judged_date, judged_start};
@@ -20,9 +23,10 @@ pub use laws::{
     case_does_not_matter, folding_does_not_matter, line_ends_do_not_matter, order_does_not_matter,
 };
 pub use numbers::whole_number;
+pub use part_text::weekday_text;
 pub use parts::{interval_of, moment_of, weekday_of};
-pub use rule_text::weekday_text;
 pub use second::{Setting, date_beside};
 pub use stated::end_beside;
 pub use values::line_value;
 pub use words::weekday_named;
+pub use write_series::write;

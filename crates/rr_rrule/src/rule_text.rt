@@ -1,36 +1,56 @@
-// The words of a recurrence rule as they are written (RFC 5545, section 3.3.10).
-ghost use Rattle.std.specs.Prelude.{◌≡◌};
-ghost use Rattle.rr_model.specs.Text.Written.{freq_text, weekday_text};
+// A recurrence rule as it is written (RFC 5545, section 3.3.10).
+ghost use Rattle.std.specs.Prelude.{◌≡◌, ◌++◌, OnOk};
+ghost use Rattle.rr_model.specs.Rule.Validity.{EndsInYears};
+ghost use Rattle.rr_model.specs.Text.WriteLaws.{IsOneEnd};
+ghost use Rattle.rr_model.specs.Text.Written.{rule_text};
+ghost use Rattle.rr_rrule.specs.RuleTexts.{repetition_text, date_parts_text, time_parts_text};
 
-use rr_model::Freq;
+use crate::part_text::{
+    freq_text, push_day_part, push_end, push_interval, push_number_part, push_week_start,
+};
+use rr_model::{NoMemory, Rule};
 
-#[tactic(auto, unfolding(rr_model::specs::Text::Written::freq_text))]
-pub(crate) fn freq_text(freq: Freq) -> &'static [u8]
-    ensures { result.now ≡ freq_text freq }
+// FREQ, UNTIL or COUNT, INTERVAL and WKST.
+fn push_repetition(line: &mut Vec<u8>, rule: &Rule) -> Result<(), NoMemory>
+    requires years { EndsInYears rule.now.end }
+    requires one { IsOneEnd rule.now.end }
+    ensures { OnOk result (line.new.items ≡ line.old.items ++ repetition_text rule.now) }
 {
-    match freq {
-        Freq::Secondly => b"SECONDLY",
-        Freq::Minutely => b"MINUTELY",
-        Freq::Hourly => b"HOURLY",
-        Freq::Daily => b"DAILY",
-        Freq::Weekly => b"WEEKLY",
-        Freq::Monthly => b"MONTHLY",
-        Freq::Yearly => b"YEARLY",
-    }
+    line.extend_from_slice(b"FREQ=")?;
+    line.extend_from_slice(freq_text(rule.freq))?;
+    push_end(line, rule.end)?;
+    push_interval(line, rule.interval)?;
+    push_week_start(line, rule.week_start)
 }
 
-/// The two letters of a weekday, from 0 for Monday.
-#[tactic(auto, unfolding(rr_model::specs::Text::Written::weekday_text))]
-pub fn weekday_text(weekday: u8) -> &'static [u8]
-    ensures { result.now ≡ weekday_text weekday }
+// BYMONTH, BYWEEKNO, BYYEARDAY, BYMONTHDAY and BYDAY.
+fn push_date_parts(line: &mut Vec<u8>, rule: &Rule) -> Result<(), NoMemory>
+    ensures { OnOk result (line.new.items ≡ line.old.items ++ date_parts_text rule.now) }
 {
-    match weekday {
-        0 => b"MO",
-        1 => b"TU",
-        2 => b"WE",
-        3 => b"TH",
-        4 => b"FR",
-        5 => b"SA",
-        _ => b"SU",
-    }
+    push_number_part(line, b"BYMONTH", rule.by_month.as_slice())?;
+    push_number_part(line, b"BYWEEKNO", rule.by_week_no.as_slice())?;
+    push_number_part(line, b"BYYEARDAY", rule.by_year_day.as_slice())?;
+    push_number_part(line, b"BYMONTHDAY", rule.by_month_day.as_slice())?;
+    push_day_part(line, rule.by_day.as_slice())
+}
+
+// BYHOUR, BYMINUTE, BYSECOND and BYSETPOS.
+fn push_time_parts(line: &mut Vec<u8>, rule: &Rule) -> Result<(), NoMemory>
+    ensures { OnOk result (line.new.items ≡ line.old.items ++ time_parts_text rule.now) }
+{
+    push_number_part(line, b"BYHOUR", rule.by_hour.as_slice())?;
+    push_number_part(line, b"BYMINUTE", rule.by_minute.as_slice())?;
+    push_number_part(line, b"BYSECOND", rule.by_second.as_slice())?;
+    push_number_part(line, b"BYSETPOS", rule.by_set_pos.as_slice())
+}
+
+// All parts, in the order in which they are written.
+pub(crate) fn push_rule(line: &mut Vec<u8>, rule: &Rule) -> Result<(), NoMemory>
+    requires years { EndsInYears rule.now.end }
+    requires one { IsOneEnd rule.now.end }
+    ensures { OnOk result (line.new.items ≡ line.old.items ++ rule_text rule.now) }
+{
+    push_repetition(line, rule)?;
+    push_date_parts(line, rule)?;
+    push_time_parts(line, rule)
 }

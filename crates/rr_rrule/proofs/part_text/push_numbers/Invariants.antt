@@ -1,0 +1,9 @@
+use Rattle.std.specs.Prelude.{◌≡◌, ◌∷◌, ◌++◌, drop}
+use Rattle.std.specs.Fmt.{signed_decimal}
+use Rattle.rr_model.specs.Text.Written.{lines_of}
+use Rattle.rr_rrule.proofs.part_text.push_numbers.Given as goal
+
+-- the others from here on are left
+abbrev pub invariant-loop-other : goal.invariant-loop-other
+invariant-loop-other l =
+    l.line.items ++ lines_of (λ x. 44 ∷ signed_decimal x) (drop l.other-index l.others) ≡ l.initial.line.items ++ lines_of (λ x. 44 ∷ signed_decimal x) l.others

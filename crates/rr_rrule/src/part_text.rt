@@ -1,0 +1,168 @@
+// The parts of a recurrence rule as they are written, each after a semicolon (RFC 5545, section 3.3.10).
+ghost use Rattle.std.specs.Prelude.{◌≡◌, ◌==◌, ◌∷◌, ◌++◌, codes, map, OnOk};
+ghost use Rattle.std.specs.Fmt.{decimal, signed_decimal};
+ghost use Rattle.std.specs.List.{join_with_byte};
+ghost use Rattle.rr_model.specs.Rule.Validity.{EndsInYears};
+ghost use Rattle.rr_model.specs.Text.WriteLaws.{IsOneEnd};
+ghost use Rattle.rr_model.specs.Text.Written.{day_item_text, end_text, freq_text, list_part, part_unless, weekday_text};
+ghost use Rattle.rr_model.specs.declared.rule.End.TheVariants.{Count, Until};
+
+use rr_model::{DayItem, End, Freq, Kind, NoMemory};
+use rr_text::{push_basic, push_number, push_unsigned};
+
+#[tactic(auto, unfolding(rr_model::specs::Text::Written::freq_text))]
+pub(crate) fn freq_text(freq: Freq) -> &'static [u8]
+    ensures { result.now ≡ freq_text freq }
+{
+    match freq {
+        Freq::Secondly => b"SECONDLY",
+        Freq::Minutely => b"MINUTELY",
+        Freq::Hourly => b"HOURLY",
+        Freq::Daily => b"DAILY",
+        Freq::Weekly => b"WEEKLY",
+        Freq::Monthly => b"MONTHLY",
+        Freq::Yearly => b"YEARLY",
+    }
+}
+
+/// The two letters of a weekday, from 0 for Monday.
+#[tactic(auto, unfolding(rr_model::specs::Text::Written::weekday_text))]
+pub fn weekday_text(weekday: u8) -> &'static [u8]
+    ensures { result.now ≡ weekday_text weekday }
+{
+    match weekday {
+        0 => b"MO",
+        1 => b"TU",
+        2 => b"WE",
+        3 => b"TH",
+        4 => b"FR",
+        5 => b"SA",
+        _ => b"SU",
+    }
+}
+
+// A semicolon, the name and an equals sign.
+fn push_name(line: &mut Vec<u8>, name: &[u8]) -> Result<(), NoMemory>
+    ensures { OnOk result (line.new.items ≡ line.old.items ++ (codes ";" ++ name.now ++ codes "=")) }
+{
+    line.push(b';')?;
+    line.extend_from_slice(name)?;
+    line.push(b'=')?;
+    Ok(())
+}
+
+// UNTIL.
+fn push_until(line: &mut Vec<u8>, kind: Kind, at: i64) -> Result<(), NoMemory>
+    requires { EndsInYears (Until kind at) }
+    ensures { OnOk result (line.new.items ≡ line.old.items ++ end_text (Until kind at)) }
+{
+    push_name(line, b"UNTIL")?;
+    push_basic(line, kind, at)
+}
+
+// COUNT.
+fn push_count(line: &mut Vec<u8>, count: u64) -> Result<(), NoMemory>
+    ensures { OnOk result (line.new.items ≡ line.old.items ++ end_text (Count count)) }
+{
+    push_name(line, b"COUNT")?;
+    push_unsigned(line, count)
+}
+
+pub(crate) fn push_end(line: &mut Vec<u8>, end: End) -> Result<(), NoMemory>
+    requires years { EndsInYears end }
+    requires one { IsOneEnd end }
+    ensures { OnOk result (line.new.items ≡ line.old.items ++ end_text end) }
+{
+    match end {
+        End::Never => Ok(()),
+        End::Until { kind, at } => push_until(line, kind, at),
+        End::Count(count) => push_count(line, count),
+        End::Both { .. } => unreachable!(),
+    }
+}
+
+// INTERVAL, unless it is 1.
+pub(crate) fn push_interval(line: &mut Vec<u8>, interval: u32) -> Result<(), NoMemory>
+    ensures { OnOk result (line.new.items ≡ line.old.items ++ part_unless (interval == 1) (codes "INTERVAL") (decimal interval)) }
+{
+    if interval == 1 {
+        return Ok(());
+    }
+    push_name(line, b"INTERVAL")?;
+    push_unsigned(line, u64::from(interval))
+}
+
+// WKST, unless it is Monday.
+pub(crate) fn push_week_start(line: &mut Vec<u8>, week_start: u8) -> Result<(), NoMemory>
+    ensures { OnOk result (line.new.items ≡ line.old.items ++ part_unless (week_start == 0) (codes "WKST") (weekday_text week_start)) }
+{
+    if week_start == 0 {
+        return Ok(());
+    }
+    push_name(line, b"WKST")?;
+    line.extend_from_slice(weekday_text(week_start))?;
+    Ok(())
+}
+
+// ---- parts that list values
+
+// Numbers, with commas between them.
+fn push_numbers(line: &mut Vec<u8>, first: i16, others: &[i16]) -> Result<(), NoMemory>
+    ensures { OnOk result (line.new.items ≡ line.old.items ++ join_with_byte 44 (map signed_decimal (first ∷ others.now))) }
+{
+    push_number(line, i64::from(first))?;
+    for other in others {
+        line.push(b',')?;
+        push_number(line, i64::from(*other))?;
+    }
+    Ok(())
+}
+
+// A part that lists numbers, unless it is absent.
+pub(crate) fn push_number_part(
+    line: &mut Vec<u8>,
+    name: &[u8],
+    values: &[i16],
+) -> Result<(), NoMemory>
+    ensures { OnOk result (line.new.items ≡ line.old.items ++ list_part name.now signed_decimal values.now) }
+{
+    let Some((first, others)) = values.split_first() else {
+        return Ok(());
+    };
+    push_name(line, name)?;
+    push_numbers(line, *first, others)
+}
+
+// A value of BYDAY.
+fn push_day_item(line: &mut Vec<u8>, item: DayItem) -> Result<(), NoMemory>
+    ensures { OnOk result (line.new.items ≡ line.old.items ++ day_item_text item) }
+{
+    if item.place != 0 {
+        push_number(line, i64::from(item.place))?;
+    }
+    line.extend_from_slice(weekday_text(item.weekday))?;
+    Ok(())
+}
+
+// Values of BYDAY, with commas between them.
+fn push_day_items(line: &mut Vec<u8>, first: DayItem, others: &[DayItem]) -> Result<(), NoMemory>
+    ensures { OnOk result (line.new.items ≡ line.old.items ++ join_with_byte 44 (map day_item_text (first ∷ others.now))) }
+{
+    push_day_item(line, first)?;
+    for other in others {
+        line.push(b',')?;
+        push_day_item(line, *other)?;
+    }
+    Ok(())
+}
+
+// BYDAY, unless it is absent.
+pub(crate) fn push_day_part(line: &mut Vec<u8>, values: &[DayItem]) -> Result<(), NoMemory>
+    ensures { OnOk result (line.new.items ≡ line.old.items ++ list_part (codes "BYDAY") day_item_text values.now) }
+{
+    let Some((first, others)) = values.split_first() else {
+        return Ok(());
+    };
+    push_name(line, b"BYDAY")?;
+    push_day_items(line, *first, others)
+}

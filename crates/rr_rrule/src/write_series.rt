@@ -1,0 +1,84 @@
+// Writes a calendar text (RFC 5545, section 3.8.5).
+ghost use Rattle.std.specs.Prelude.{◌≡◌, ◌++◌, All, IfOk, OnOk};
+ghost use Rattle.rr_model.specs.Moment.Years.{IsInYears};
+ghost use Rattle.rr_model.specs.Rule.Validity.{EndsInYears};
+ghost use Rattle.rr_model.specs.Series.Validity.{IsValidSeries};
+ghost use Rattle.rr_model.specs.Text.WriteLaws.{IsOneEnd};
+ghost use Rattle.rr_model.specs.Text.Written.{calendar_written, date_line, excluded, lines_of, rule_line};
+
+use crate::write_line::{push_date_line, push_rule_line};
+use rr_model::{Dates, Kind, NoMemory, Rule, Series};
+use std::alloc::Global;
+
+// A line for each rule.
+fn push_rules(out: &mut Vec<u8>, line: &mut Vec<u8>, rules: &[Rule]) -> Result<(), NoMemory>
+    requires years { All (λ rule. EndsInYears rule.end) rules.now }
+    requires one { All (λ rule. IsOneEnd rule.end) rules.now }
+    ensures { OnOk result (out.new.items ≡ out.old.items ++ lines_of rule_line rules.now) }
+{
+    for rule in rules {
+        push_rule_line(out, line, rule)?;
+    }
+    Ok(())
+}
+
+// A line for each date.
+fn push_dates(
+    out: &mut Vec<u8>,
+    line: &mut Vec<u8>,
+    name: &[u8],
+    kind: Kind,
+    dates: &[i64],
+) -> Result<(), NoMemory>
+    requires { All (IsInYears kind) dates.now }
+    ensures { OnOk result (out.new.items ≡ out.old.items ++ lines_of (date_line name.now kind) dates.now) }
+{
+    for at in dates {
+        push_date_line(out, line, name, kind, *at)?;
+    }
+    Ok(())
+}
+
+// The dates that are excluded, a start that does not count among them.
+fn excluded(alloc: Global, series: &Series) -> Result<Dates, NoMemory>
+    ensures { IfOk result (λ dates. dates ≡ excluded series.now) }
+{
+    let mut dates = series.minus.copy(alloc)?;
+    if !series.start_counts {
+        dates.put(series.start)?;
+    }
+    Ok(dates)
+}
+
+/// The text of a series: DTSTART, then RRULE in the order of the rules, RDATE and EXDATE rising, with one date on a line.
+///
+/// In a series of dates these say `VALUE=DATE`. Lines are folded after 75 bytes and end with CR LF (section 3.1).
+/// A rule's parts stand in one order: FREQ, UNTIL or COUNT, INTERVAL unless it is 1, WKST unless it is MO, BYMONTH,
+/// BYWEEKNO, BYYEARDAY, BYMONTHDAY, BYDAY, BYHOUR, BYMINUTE, BYSECOND, BYSETPOS. A start that does not count is excluded
+/// by an EXDATE.
+pub fn write(alloc: Global, series: &Series) -> Result<Vec<u8>, NoMemory>
+    requires valid { IsValidSeries series.now }
+    requires one { All (λ rule. IsOneEnd rule.end) series.now.rules }
+    ensures { IfOk result (λ text. text.items ≡ calendar_written series.now) }
+{
+    let mut out = Vec::new(alloc);
+    let mut line = Vec::new(alloc);
+    let minus = excluded(alloc, series)?;
+    push_date_line(&mut out, &mut line, b"DTSTART", series.kind, series.start)?;
+    push_rules(&mut out, &mut line, series.rules.as_slice())?;
+    push_dates(
+        &mut out,
+        &mut line,
+        b"RDATE",
+        series.kind,
+        series.plus.as_slice(),
+    )?;
+    push_dates(
+        &mut out,
+        &mut line,
+        b"EXDATE",
+        series.kind,
+        minus.as_slice(),
+    )?;
+    Ok(out)
+}
