@@ -59,7 +59,8 @@ folded_rest-enough (suc m) (suc n) (b ∷ bs) hm hn =
     ap (λ t. line_break ++ 32 ∷ (take 74 (b ∷ bs) ++ t)) (folded_rest-enough m n (drop 74 (b ∷ bs)) (omega (arith, hm, short)) (omega (arith, hn, short)))
 
 -- one piece more
-pub piece_written : (out next piece others rest all : List ℕ) (n : ℕ) → 0 < length rest → n ≡ min 74 (length rest) → piece ≡ take n rest → others ≡ drop n rest
+pub piece_written : (out next piece others rest all : List ℕ) (n : ℕ) → 0 < length rest → n ≡ min 74 (length rest) → piece ≡ take n rest
+    → others ≡ drop n rest
     → out ++ folded_rest (length rest) rest ≡ all → next ≡ out ++ codes "\r\n " ++ piece → next ++ folded_rest (length others) others ≡ all
 piece_written out next piece others [] all n some en ep eo so_far e = absurd (omega (arith, some))
 piece_written out next piece others (b ∷ bs) all n some en ep eo so_far e =
@@ -102,7 +103,8 @@ unfolding rule_text
 rule_by_stretches rule = in_stretches (repetition_text rule) _ _ _ _ _ _ _ _ _
 
 -- the lines of a series, one after the other
-pub series_written : (series : Series) (a b c d : List ℕ) (rules : List Rule) (plus minus : List ℤ) → rules ≡ series.rules → plus ≡ series.plus → minus ≡ excluded series
+pub series_written : (series : Series) (a b c d : List ℕ) (rules : List Rule) (plus minus : List ℤ) → rules ≡ series.rules → plus ≡ series.plus
+    → minus ≡ excluded series
     → a ≡ date_line (codes "DTSTART") series.kind series.start → b ≡ a ++ lines_of rule_line rules
     → c ≡ b ++ lines_of (date_line (codes "RDATE") series.kind) plus → d ≡ c ++ lines_of (date_line (codes "EXDATE") series.kind) minus
     → d ≡ calendar_written series

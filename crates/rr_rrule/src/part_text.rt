@@ -5,9 +5,8 @@ ghost use Rattle.std.specs.List.{join_with_byte};
 ghost use Rattle.rr_model.specs.Rule.Validity.{EndsInYears};
 ghost use Rattle.rr_model.specs.Text.WriteLaws.{IsOneEnd};
 ghost use Rattle.rr_model.specs.Text.Written.{day_item_text, end_text, freq_text, list_part, part_unless, weekday_text};
-ghost use Rattle.rr_model.specs.declared.rule.End.TheVariants.{Count, Until};
 
-use rr_model::{DayItem, End, Freq, Kind, NoMemory};
+use rr_model::{DayItem, End, Freq, NoMemory};
 use rr_text::{push_basic, push_number, push_unsigned};
 
 #[tactic(auto, unfolding(rr_model::specs::Text::Written::freq_text))]
@@ -51,23 +50,7 @@ fn push_name(line: &mut Vec<u8>, name: &[u8]) -> Result<(), NoMemory>
     Ok(())
 }
 
-// UNTIL.
-fn push_until(line: &mut Vec<u8>, kind: Kind, at: i64) -> Result<(), NoMemory>
-    requires { EndsInYears (Until kind at) }
-    ensures { OnOk result (line.new.items ≡ line.old.items ++ end_text (Until kind at)) }
-{
-    push_name(line, b"UNTIL")?;
-    push_basic(line, kind, at)
-}
-
-// COUNT.
-fn push_count(line: &mut Vec<u8>, count: u64) -> Result<(), NoMemory>
-    ensures { OnOk result (line.new.items ≡ line.old.items ++ end_text (Count count)) }
-{
-    push_name(line, b"COUNT")?;
-    push_unsigned(line, count)
-}
-
+// UNTIL or COUNT.
 pub(crate) fn push_end(line: &mut Vec<u8>, end: End) -> Result<(), NoMemory>
     requires years { EndsInYears end }
     requires one { IsOneEnd end }
@@ -75,8 +58,14 @@ pub(crate) fn push_end(line: &mut Vec<u8>, end: End) -> Result<(), NoMemory>
 {
     match end {
         End::Never => Ok(()),
-        End::Until { kind, at } => push_until(line, kind, at),
-        End::Count(count) => push_count(line, count),
+        End::Until { kind, at } => {
+            push_name(line, b"UNTIL")?;
+            push_basic(line, kind, at)
+        }
+        End::Count(count) => {
+            push_name(line, b"COUNT")?;
+            push_unsigned(line, count)
+        }
         End::Both { .. } => unreachable!(),
     }
 }

@@ -9,13 +9,13 @@ use crate::rule_text::push_rule;
 use rr_model::{Kind, NoMemory, Rule};
 use rr_text::push_basic;
 
-// The most bytes of a line without its end.
+// The most bytes of a line, apart from its end.
 const FIRST_BYTES: usize = 75;
 
-// The same of a further line, after its blank.
+// The most bytes after the blank with which a further line begins.
 const FURTHER_BYTES: usize = 74;
 
-// What does not fit into the first line, on further ones.
+// The bytes after the first line, on further lines.
 fn push_further(out: &mut Vec<u8>, text: &[u8]) -> Result<(), NoMemory>
     ensures { OnOk result (out.new.items ≡ out.old.items ++ folded_rest (length text.now) text.now) }
 {
@@ -40,7 +40,17 @@ fn push_folded(out: &mut Vec<u8>, line: &[u8]) -> Result<(), NoMemory>
     Ok(())
 }
 
-// A line with one date; `line` is room for it.
+// The parameter that says that a date is one.
+fn value_type(kind: Kind) -> &'static [u8]
+    ensures { result.now ≡ value_type kind }
+{
+    match kind {
+        Kind::Days => b";VALUE=DATE",
+        Kind::Moments => b"",
+    }
+}
+
+// A line with one date; `line` is a buffer.
 pub(crate) fn push_date_line(
     out: &mut Vec<u8>,
     line: &mut Vec<u8>,
@@ -59,7 +69,7 @@ pub(crate) fn push_date_line(
     push_folded(out, line)
 }
 
-// A line with a rule; `line` is room for it.
+// A line with a rule; `line` is a buffer.
 pub(crate) fn push_rule_line(
     out: &mut Vec<u8>,
     line: &mut Vec<u8>,
@@ -73,14 +83,4 @@ pub(crate) fn push_rule_line(
     line.extend_from_slice(b"RRULE:")?;
     push_rule(line, rule)?;
     push_folded(out, line)
-}
-
-// The parameter that says that a date is one.
-fn value_type(kind: Kind) -> &'static [u8]
-    ensures { result.now ≡ value_type kind }
-{
-    match kind {
-        Kind::Days => b";VALUE=DATE",
-        Kind::Moments => b"",
-    }
 }

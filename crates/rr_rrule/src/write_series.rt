@@ -10,7 +10,7 @@ use crate::write_line::{push_date_line, push_rule_line};
 use rr_model::{Dates, Kind, NoMemory, Rule, Series};
 use std::alloc::Global;
 
-// A line for each rule.
+// A line for each rule; `line` is a buffer.
 fn push_rules(out: &mut Vec<u8>, line: &mut Vec<u8>, rules: &[Rule]) -> Result<(), NoMemory>
     requires years { All (λ rule. EndsInYears rule.end) rules.now }
     requires one { All (λ rule. IsOneEnd rule.end) rules.now }
@@ -22,7 +22,7 @@ fn push_rules(out: &mut Vec<u8>, line: &mut Vec<u8>, rules: &[Rule]) -> Result<(
     Ok(())
 }
 
-// A line for each date.
+// A line for each date; `line` is a buffer.
 fn push_dates(
     out: &mut Vec<u8>,
     line: &mut Vec<u8>,
@@ -50,12 +50,12 @@ fn excluded(alloc: Global, series: &Series) -> Result<Dates, NoMemory>
     Ok(dates)
 }
 
-/// The text of a series: DTSTART, then RRULE in the order of the rules, RDATE and EXDATE rising, with one date on a line.
+/// The text of a series (RFC 5545, section 3.8.5): DTSTART, RRULE for each rule in order, then RDATE and EXDATE rising.
 ///
-/// In a series of dates these say `VALUE=DATE`. Lines are folded after 75 bytes and end with CR LF (section 3.1).
-/// A rule's parts stand in one order: FREQ, UNTIL or COUNT, INTERVAL unless it is 1, WKST unless it is MO, BYMONTH,
-/// BYWEEKNO, BYYEARDAY, BYMONTHDAY, BYDAY, BYHOUR, BYMINUTE, BYSECOND, BYSETPOS. A start that does not count is excluded
-/// by an EXDATE.
+/// The series is valid, and no rule has both UNTIL and COUNT. Each of the dates has a line of its own, with `VALUE=DATE`
+/// where the series is one of dates; a start that does not count is among the EXDATE. A rule has its parts in this order:
+/// FREQ, UNTIL or COUNT, INTERVAL unless it is 1, WKST unless it is MO, BYMONTH, BYWEEKNO, BYYEARDAY, BYMONTHDAY, BYDAY,
+/// BYHOUR, BYMINUTE, BYSECOND, BYSETPOS. Lines end with CR LF; one of more than 75 bytes is folded (section 3.1).
 pub fn write(alloc: Global, series: &Series) -> Result<Vec<u8>, NoMemory>
     requires valid { IsValidSeries series.now }
     requires one { All (λ rule. IsOneEnd rule.end) series.now.rules }

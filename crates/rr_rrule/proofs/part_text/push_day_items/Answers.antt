@@ -11,5 +11,6 @@ loop-other-preserved c =
 
 pub returns : goal.returns
 returns c =
-    all_written (λ item. 44 ∷ day_item_text item) c.loop-other.line.items _ c.args.others.now c.loop-other.other-index c.loop-other-test.false c.loop-other.invariant
+    all_written (λ item. 44 ∷ day_item_text item) c.loop-other.line.items _ c.args.others.now c.loop-other.other-index c.loop-other-test.false
+    c.loop-other.invariant
     ∙ first_written day_item_text c.args.line.now.items c.push_day_item.new.line.items c.args.first c.args.others.now c.in_ok-push_day_item.ensures

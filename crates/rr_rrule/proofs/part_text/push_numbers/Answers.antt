@@ -12,5 +12,6 @@ loop-other-preserved c =
 pub returns : goal.returns
 returns c =
     let first : c.push_number.new.out.items ≡ c.args.line.now.items ++ signed_decimal c.args.first = search rules in
-    all_written (λ n. 44 ∷ signed_decimal n) c.loop-other.line.items _ c.args.others.now c.loop-other.other-index c.loop-other-test.false c.loop-other.invariant
+    all_written (λ n. 44 ∷ signed_decimal n) c.loop-other.line.items _ c.args.others.now c.loop-other.other-index c.loop-other-test.false
+    c.loop-other.invariant
     ∙ first_written signed_decimal c.args.line.now.items c.push_number.new.out.items c.args.first c.args.others.now first

@@ -6,4 +6,5 @@ use Rattle.rr_rrule.proofs.part_text.push_numbers.Given as goal
 -- the others from here on are left
 abbrev pub invariant-loop-other : goal.invariant-loop-other
 invariant-loop-other l =
-    l.line.items ++ lines_of (λ x. 44 ∷ signed_decimal x) (drop l.other-index l.others) ≡ l.initial.line.items ++ lines_of (λ x. 44 ∷ signed_decimal x) l.others
+    l.line.items ++ lines_of (λ x. 44 ∷ signed_decimal x) (drop l.other-index l.others) ≡ l.initial.line.items ++ lines_of (λ x. 44 ∷ signed_decimal
+    x) l.others
