@@ -7,3 +7,4 @@ pub mod PhysicalLemmas
 pub mod PrintLemmas
 pub mod PrintedLemmas
 pub mod UnfoldLemmas
+pub mod WrittenLemmas
