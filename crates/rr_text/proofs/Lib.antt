@@ -8,3 +8,4 @@ pub mod PrintLemmas
 pub mod PrintedLemmas
 pub mod UnfoldLemmas
 pub mod WrittenLemmas
+pub mod FoldedLineLemmas
