@@ -9,3 +9,5 @@ pub mod PrintedLemmas
 pub mod UnfoldLemmas
 pub mod WrittenLemmas
 pub mod FoldedLineLemmas
+pub mod WrittenByteLemmas
+pub mod WrittenListLemmas

@@ -91,12 +91,15 @@ module _ (a b c : List ℕ) (p q r : ℕ) (la : length a ≡ p) (lb : length b �
       ap (λ (t : List ℕ). digits_value (take r t)) (drop_at (a ++ b) c (p + q) both)
       ∙ ap digits_value (take_all r c (omega arith))
 
+  all_three : list_all is_digit a ≡ true → list_all is_digit b ≡ true → list_all is_digit c ≡ true → list_all is_digit text ≡ true
+  all_three da db dc =
+      list_all-append is_digit (a ++ b) c ∙ and_from (list_all is_digit (a ++ b)) (list_all is_digit c)
+      (list_all-append is_digit a b ∙ and_from (list_all is_digit a) (list_all is_digit b) da db) dc
+
   three_digits : list_all is_digit a ≡ true → list_all is_digit b ≡ true → list_all is_digit c ≡ true → is_digits (p + q + r) text ≡ true
   unfolding is_digits
   three_digits da db dc =
-      and_from (length text == p + q + r) (list_all is_digit text) (grind (arith, nat_tests, length-three))
-      (list_all-append is_digit (a ++ b) c ∙ and_from (list_all is_digit (a ++ b)) (list_all is_digit c)
-      (list_all-append is_digit a b ∙ and_from (list_all is_digit a) (list_all is_digit b) da db) dc)
+      and_from (length text == p + q + r) (list_all is_digit text) (grind (arith, nat_tests, length-three)) (all_three da db dc)
 
 -- ---- dates
 
@@ -159,6 +162,17 @@ basic_date-written day h =
     rw (digits, year, month, day_is, from, date)
     (ap Some (ap (λ (z : ℤ). day_number z (month_of day) (day_of_month day)) w.year ∙ day_number-year_of day))
 
+-- it is digits
+pub basic_date_text-digits : (day : ℤ) → HasFourDigitYear day → list_all is_digit (basic_date_text day) ≡ true
+unfolding basic_date_text
+basic_date_text-digits day h =
+    let w = written_date day h in
+    let y = padded 4 (nat_abs (year_of day)) in
+    let m = padded 2 (month_of day) in
+    let d = padded 2 (day_of_month day) in
+    all_three y m d (length y) (length m) (length d) refl refl refl (padded-digits 4 _ (omega (arith, w.four_digits)))
+    (padded-digits 2 _ (omega (arith, w.two_month))) (padded-digits 2 _ (omega (arith, w.two_day)))
+
 -- ---- times
 
 second_bounds : (s : ℕ) → s < 86_400 → (s / 3_600 < 24) × (s / 60 % 60 < 60) × (s % 60 < 60) × (s / 3_600 * 3_600 + s / 60 % 60 * 60 + s % 60 ≡ s)
@@ -172,6 +186,16 @@ length-basic_time_text s h =
     (length-padded_to 2 _ (omega arith) (omega (arith, w.0)) (omega (arith, w.0)))
     (length-padded_to 2 _ (omega arith) (omega (arith, w.1)) (omega (arith, w.1)))
     (length-padded_to 2 _ (omega arith) (omega (arith, w.2)) (omega (arith, w.2)))
+
+pub basic_time_text-digits : (s : ℕ) → s < 86_400 → list_all is_digit (basic_time_text s) ≡ true
+unfolding basic_time_text
+basic_time_text-digits s h =
+    let w = second_bounds s h in
+    let a = padded 2 (s / 3_600) in
+    let b = padded 2 (s / 60 % 60) in
+    let c = padded 2 (s % 60) in
+    all_three a b c (length a) (length b) (length c) refl refl refl (padded-digits 2 _ (omega (arith, w.0))) (padded-digits 2 _ (omega (arith, w.1)))
+    (padded-digits 2 _ (omega (arith, w.2)))
 
 -- a written time is read back
 pub basic_time-written : (s : ℕ) → s < 86_400 → basic_time (basic_time_text s) ≡ Some s
