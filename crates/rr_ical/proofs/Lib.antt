@@ -3,3 +3,4 @@ mod ScanLemmas
 mod TextLemmas
 pub mod FoldingLemmas
 pub mod LineEndLemmas
+pub mod WrittenLineLemmas

@@ -34,7 +34,7 @@ use Rattle.rr_rrule.proofs.StepLemmas.{and_then_ok, not_refused}
 
 -- ---- lists of parts
 
-with_parts-append : (line : ℕ) (parts : RuleParts) (xs ys : List (List ℕ))
+pub with_parts-append : (line : ℕ) (parts : RuleParts) (xs ys : List (List ℕ))
     → with_parts line parts (xs ++ ys) ≡ (with_parts line parts xs >>= λ more. with_parts line more ys)
 with_parts-append line parts [] ys = refl
 with_parts-append line parts (x ∷ xs) ys = by (with_part line parts x) (λ more. with_parts-append line more xs ys)
@@ -225,7 +225,7 @@ parts_of-join line text texts h =
     ap (λ (t : List ℕ). with_parts line no_parts (pieces 59 t)) (without_last_semicolon-join _ (EndsInPart-join text texts h))
     ∙ ap (with_parts line no_parts) (pieces-join text texts h)
 
-rule_parts-join : (line : ℕ) (text : List ℕ) (texts : List (List ℕ)) → AreParts (text ∷ texts)
+pub rule_parts-join : (line : ℕ) (text : List ℕ) (texts : List (List ℕ)) → AreParts (text ∷ texts)
     → rule_parts line (join_with_byte 59 (text ∷ texts)) ≡ with_parts line no_parts (map str_to_ascii_uppercase (text ∷ texts))
 unfolding rule_parts
 rule_parts-join line text texts h =

@@ -11,3 +11,5 @@ pub mod WrittenLemmas
 pub mod FoldedLineLemmas
 pub mod WrittenByteLemmas
 pub mod WrittenListLemmas
+pub mod WrittenValueLemmas
+pub mod PlainTextLemmas
