@@ -19,3 +19,5 @@ mod CaseLemmas
 mod GivesLemmas
 mod FoldedLemmas
 pub mod PushLemmas
+mod WrittenPartLemmas
+mod WrittenRuleLemmas
