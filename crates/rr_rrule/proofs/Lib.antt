@@ -21,3 +21,4 @@ mod FoldedLemmas
 pub mod PushLemmas
 mod WrittenPartLemmas
 mod WrittenRuleLemmas
+mod WrittenPassLemmas
