@@ -1,48 +1,24 @@
 -- The parts of a written rule are read back, one after the other (RFC 5545, section 3.3.10).
-use Rattle.std.proofs.Common.{◌≡◌, ℕ, ◌+◌, ◌^◌, ◌<◌, ◌≤◌, Bool, true, false, cond, not, ℤ, pos, nat_abs, ◌≤ℤ◌, List, [], ◌∷◌, ◌++◌, length, take, drop, map}
-use Rattle.std.proofs.Common.{length-append, append_assoc, append-nil, Option, None, Some, Result, Ok, Err, All, inl, inr, refl, sym, ap, ◌∙◌, subst, arith}
-use Rattle.std.specs.Prelude.{◌==◌, ◌&&◌, IsTrue, if◌then◌else◌, nat_lt, codes, int_lt, ok_or, unwrap_or, position}
-use Rattle.std.specs.Fmt.{decimal, signed_decimal}
-use Rattle.std.specs.List.{list_all, AllByRecursion, join_with_byte, prefix_len, position_or_len}
+use Rattle.std.proofs.Common.{◌≡◌, ℕ, ◌+◌, Bool, true, false, not, List, [], ◌∷◌, ◌++◌, length, take, drop, map}
+use Rattle.std.proofs.Common.{length-append, append_assoc, append-nil, Some, Result, Ok, refl, sym, ap, ◌∙◌, subst, arith}
+use Rattle.std.specs.Prelude.{◌==◌, nat_lt, codes}
+use Rattle.std.specs.List.{list_all, join_with_byte, prefix_len}
 use Rattle.std.specs.Str.{str_to_ascii_uppercase}
-use Rattle.std.proofs.lemmas.Bool.{and_parts, and_from, not-true}
+use Rattle.std.proofs.lemmas.Bool.{and_parts, and_from}
 use Rattle.std.proofs.lemmas.Bool.Decides.{nat_tests}
-use Rattle.std.proofs.lemmas.Int.{ints}
 use Rattle.std.proofs.lemmas.List.{map-append, take_at, drop_at}
-use Rattle.std.proofs.lemmas.List.Elements.{recursion_from_All}
-use Rattle.rr_model.specs.Moment.Years.{IsInYears}
-use Rattle.rr_model.specs.Rising.{Rises, day_item_lt}
-use Rattle.rr_model.specs.Rule.Validity.{IsDayItem, IsCount, HasCountInRange, EndsInYears, IsValidRule, LieFrom, CountUpTo, is_absent, is_allowed}
-use Rattle.rr_model.specs.Text.Calendars.{stated_rule}
-use Rattle.rr_model.specs.Text.Moments.{basic}
-use Rattle.rr_model.specs.Text.Passes.{Stated}
-use Rattle.rr_model.specs.Text.Rules.{split_once, part_named, name_of, is_present, with_part, with_parts, no_parts, end_of, rule_with, rule_of, rule_parts}
-use Rattle.rr_model.specs.Text.RuleValues.{◌>>=◌, numbers_of, day_items_of, number_within, has_number_form, is_day_item, day_item_within, unsigned, signed, seconds}
-use Rattle.rr_model.specs.Text.WriteLaws.{IsOneEnd}
-use Rattle.rr_model.specs.Text.Written.{basic_text, freq_text, weekday_text, day_item_text, part_text, part_unless, list_part, end_text, rule_text}
-use Rattle.rr_model.specs.declared.kind.Kind.{Kind}
+use Rattle.rr_model.specs.Rule.Validity.{is_absent}
+use Rattle.rr_model.specs.Text.Rules.{split_once, name_of, is_present, with_parts, no_parts}
+use Rattle.rr_model.specs.Text.RuleValues.{◌>>=◌}
+use Rattle.rr_model.specs.Text.Written.{part_text, part_unless, list_part}
 use Rattle.rr_model.specs.declared.refusal.Refusal.{Refusal}
-use Rattle.rr_model.specs.declared.refusal.Refusal.TheVariants.{BadMoment, NotAllowed, BadRule}
-use Rattle.rr_model.specs.declared.rule.DayItem.{DayItem}
-use Rattle.rr_model.specs.declared.rule.End.{End}
-use Rattle.rr_model.specs.declared.rule.End.TheVariants.{Never, Until, Count, Both}
-use Rattle.rr_model.specs.declared.rule.Freq.{Freq}
-use Rattle.rr_model.specs.declared.rule.Rule.{Rule}
-use Rattle.rr_model.specs.declared.rule_parts.NumberBounds.{NumberBounds}
 use Rattle.rr_model.specs.declared.rule_parts.PartName.{PartName}
-use Rattle.rr_model.specs.declared.rule_parts.PartName.TheVariants as part
 use Rattle.rr_model.specs.declared.rule_parts.RuleParts.{RuleParts}
-use Rattle.rr_model.specs.declared.stamp.Stamp.{Stamp}
 use Rattle.rr_text.proofs.PlainTextLemmas.{capitals-plain}
-use Rattle.rr_text.proofs.WrittenByteLemmas.{is_word_byte, is_value_byte, is_line_byte, has_no, list_all-weaker, list_all-both, words-from_digits}
-use Rattle.rr_text.proofs.WrittenByteLemmas.{values-from_words, line-from_values, no_comma-from_words, decimal-words, signed_decimal-words, basic_text-words}
-use Rattle.rr_text.proofs.WrittenByteLemmas.{joined-values}
-use Rattle.rr_text.proofs.WrittenLemmas.{basic-written}
-use Rattle.rr_text.proofs.WrittenListLemmas.{IsReadBack, list_of-written}
-use Rattle.rr_text.proofs.WrittenValueLemmas.{freq-written, freq_text-words, weekday-written, number_up_to-written, IsWithin, number_form-written}
-use Rattle.rr_text.proofs.WrittenValueLemmas.{number_within-written, signed_decimal-no_comma, int_lt-transitive, day_item_lt-transitive, day_item-written}
+use Rattle.rr_text.proofs.WrittenByteLemmas.{is_word_byte, is_value_byte, is_line_byte, has_no, list_all-weaker, list_all-both}
+use Rattle.rr_text.proofs.WrittenByteLemmas.{values-from_words, line-from_values}
 use Rattle.rr_rrule.specs.TextLaws.{is_part_byte, is_part, AreParts}
-use Rattle.rr_rrule.proofs.PartOrderLemmas.{with_parts-append, rule_parts-join}
+use Rattle.rr_rrule.proofs.PartOrderLemmas.{with_parts-append}
 use Rattle.rr_rrule.proofs.RulePartLemmas.{Value, value_of, put, States, with_part-again}
 
 -- ---- a part NAME=value

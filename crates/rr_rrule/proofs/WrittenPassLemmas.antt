@@ -1,36 +1,34 @@
 -- Both passes over written lines (RFC 5545, sections 3.8.2.4, 3.8.5.1, 3.8.5.2 and 3.8.5.3).
-use Rattle.std.proofs.Common.{◌≡◌, ℕ, ◌+◌, ◌<◌, ◌≤◌, Bool, true, false, ℤ, List, [], ◌∷◌, ◌++◌, length, map, Option, None, Some, Result, Ok, Err}
-use Rattle.std.proofs.Common.{append_assoc, append-nil, length-append, refl, sym, ap, ◌∙◌, subst, arith}
-use Rattle.std.specs.Prelude.{◌==◌, ◌&&◌, not, nat_le, codes, int_lt, if◌then◌else◌, ok_or}
+use Rattle.std.proofs.Common.{◌≡◌, ℕ, ◌+◌, ◌<◌, ◌≤◌, Bool, true, false, ℤ, List, [], ◌∷◌, ◌++◌, length, map, None, Some, Result, Ok, Err}
+use Rattle.std.proofs.Common.{append_assoc, append-nil, length-append, refl, sym, ap, ◌∙◌, arith}
+use Rattle.std.specs.Prelude.{◌==◌, ◌&&◌, not, nat_le, codes, int_lt, ok_or}
 use Rattle.std.specs.List.{list_all, list_any, AllByRecursion, slice_split}
 use Rattle.std.proofs.lemmas.Bool.{and_parts, not-true}
 use Rattle.std.proofs.lemmas.Bool.Decides.{nat_tests}
 use Rattle.rr_model.specs.Moment.{is_same_kind}
 use Rattle.rr_model.specs.Moment.Years.{IsInYears}
-use Rattle.rr_model.specs.Rising.{Rises, with_value}
-use Rattle.rr_model.specs.Rule.Validity.{IsValidRule, EndsInYears, takes_start}
-use Rattle.rr_model.specs.Text.Calendars.{stated_rule, end_beside, rule_beside, rrule_language}
+use Rattle.rr_model.specs.Rising.{Rises}
+use Rattle.rr_model.specs.Rule.Validity.{IsValidRule, EndsInYears}
+use Rattle.rr_model.specs.Text.Calendars.{end_beside, rule_beside, rrule_language}
 use Rattle.rr_model.specs.Text.Event.{used_line}
 use Rattle.rr_model.specs.Text.Moments.{basic}
-use Rattle.rr_model.specs.Text.Passes.{Stated, Beside, has_slash, date_value, judged_date, judged_dates, judged_line, date_beside, put_date, with_date, with_dates}
+use Rattle.rr_model.specs.Text.Passes.{Beside, has_slash, date_value, judged_date, judged_dates, judged_line, put_date, with_date, with_dates}
 use Rattle.rr_model.specs.Text.Passes.{with_line}
 use Rattle.rr_model.specs.Text.RuleValues.{◌>>=◌}
 use Rattle.rr_model.specs.Text.Steps.{in_turn}
-use Rattle.rr_model.specs.Text.UsedLines.{trim}
 use Rattle.rr_model.specs.Text.WriteLaws.{IsOneEnd}
 use Rattle.rr_model.specs.Text.Written.{basic_text, rule_text}
 use Rattle.rr_model.specs.declared.kind.Kind.{Kind}
 use Rattle.rr_model.specs.declared.kind.Kind.TheVariants.{Days, Moments}
-use Rattle.rr_model.specs.declared.limits.TheConstants.{MAX_DATES, MAX_RULES}
 use Rattle.rr_model.specs.declared.pass.FirstPass.{FirstPass}
 use Rattle.rr_model.specs.declared.refusal.Refusal.{Refusal}
-use Rattle.rr_model.specs.declared.refusal.Refusal.TheVariants.{BadMoment, TooManyParts, PeriodValue, MixedKinds, NotAllowed}
+use Rattle.rr_model.specs.declared.refusal.Refusal.TheVariants.{BadMoment}
 use Rattle.rr_model.specs.declared.rule.End.{End}
 use Rattle.rr_model.specs.declared.rule.End.TheVariants.{Never, Until, Count, Both}
 use Rattle.rr_model.specs.declared.rule.Rule.{Rule}
 use Rattle.rr_model.specs.declared.stamp.Stamp.{Stamp}
 use Rattle.rr_model.specs.declared.used.LineName.{LineName}
-use Rattle.rr_model.specs.declared.used.LineName.TheVariants.{Dtstart, Rrule, Rdate, Exdate}
+use Rattle.rr_model.specs.declared.used.LineName.TheVariants.{Rrule, Rdate, Exdate}
 use Rattle.rr_model.specs.declared.used.UsedLine.{UsedLine}
 use Rattle.rr_model.proofs.RisingSetLemmas.{Rises-tail}
 use Rattle.rr_text.proofs.FoldedLineLemmas.{number_after}

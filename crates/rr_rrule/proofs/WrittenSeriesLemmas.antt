@@ -1,9 +1,8 @@
 -- A written series is read back (RFC 5545, section 3.8.5).
-use Rattle.std.proofs.Common.{◌≡◌, ℕ, ◌+◌, ◌≤◌, Bool, true, false, ℤ, List, [], ◌∷◌, ◌++◌, length, map, Option, None, Some, Result, Ok, Err, All}
+use Rattle.std.proofs.Common.{◌≡◌, ℕ, ◌+◌, ◌≤◌, true, false, ℤ, List, [], ◌∷◌, ◌++◌, length, map, None, Result, Ok, Err, All}
 use Rattle.std.proofs.Common.{append_assoc, refl, sym, ap, ◌∙◌, arith}
 use Rattle.std.specs.Prelude.{codes, if◌then◌else◌, ok_or, int_lt}
 use Rattle.std.specs.List.{AllByRecursion}
-use Rattle.std.proofs.lemmas.List.{map-append}
 use Rattle.std.proofs.lemmas.List.Elements.{recursion_from_All}
 use Rattle.rr_model.specs.Moment.Years.{IsInYears}
 use Rattle.rr_model.specs.Rising.{Rises}
@@ -31,7 +30,7 @@ use Rattle.rr_text.proofs.WrittenLemmas.{basic-written}
 use Rattle.rr_text.proofs.WrittenListLemmas.{IsAbove}
 use Rattle.rr_text.proofs.WrittenValueLemmas.{int_lt-transitive}
 use Rattle.rr_ical.proofs.WrittenLineLemmas.{WrittenLine, IsPropertyLine, texts_of, used_from, number_behind, event_scan-written, written_lines-utf8}
-use Rattle.rr_ical.proofs.WrittenLineLemmas.{IsPropertyLine-from, IsFront, date_front, start_front, plus_front, minus_front, rule_front}
+use Rattle.rr_ical.proofs.WrittenLineLemmas.{IsPropertyLine-from, date_front, start_front, plus_front, minus_front, rule_front}
 use Rattle.rr_rrule.proofs.WrittenPassLemmas.{lines_first, lines_each, stamp_of, dated, date_bytes, passed, first_step, HasRoom, dates_so_far, plus_judged}
 use Rattle.rr_rrule.proofs.WrittenPassLemmas.{minus_judged, IsWritable, ruled, AreFew, rules_so_far, rule_judged, second_step, rules_beside, rule_put, GoOn}
 use Rattle.rr_rrule.proofs.WrittenPassLemmas.{plus_beside, plus_put, minus_beside, minus_put}
@@ -91,6 +90,11 @@ written_lines series counts =
     (four first (lines_of rule_line series.rules) (lines_of (date_line (codes "RDATE") kind) series.plus)
     (lines_of (date_line (codes "EXDATE") kind) series.minus)
     ∙ ap (λ (t : List ℕ). first ++ t) (sym (later ∙ parts) ∙ sym (lines_of-map (λ (l : WrittenLine). l.text) folded_line (r ++ p ++ m))))
+
+-- it begins with no byte order mark
+begins : (kind : Kind) (at : ℤ) (rest : List ℕ) → without_mark (date_line (codes "DTSTART") kind at ++ rest) ≡ date_line (codes "DTSTART") kind at ++ rest
+unfolding folded
+begins kind at rest = refl
 
 -- ---- each line states its value
 
@@ -247,11 +251,6 @@ module _ (series : Series) (w : IsWritten series) where
       ∙ ap (λ b. Ok (record series { start_counts = b })) (sym counts)
 
 -- ---- the law
-
--- the text begins with no byte order mark
-begins : (kind : Kind) (at : ℤ) (rest : List ℕ) → without_mark (date_line (codes "DTSTART") kind at ++ rest) ≡ date_line (codes "DTSTART") kind at ++ rest
-unfolding folded
-begins kind at rest = refl
 
 -- What is written for a series is read back.
 pub calendar_is_read_back : CalendarIsReadBack

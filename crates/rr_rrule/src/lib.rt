@@ -22,7 +22,8 @@ mod write_series;
 pub use calendar::read;
 pub use first::{date_value, judged_date, judged_start};
 pub use laws::{
-    case_does_not_matter, folding_does_not_matter, line_ends_do_not_matter, order_does_not_matter,
+    calendar_is_read_back, case_does_not_matter, folding_does_not_matter, line_ends_do_not_matter,
+    order_does_not_matter,
 };
 pub use numbers::whole_number;
 pub use part_text::weekday_text;
