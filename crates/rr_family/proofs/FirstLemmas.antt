@@ -1,18 +1,16 @@
 -- A set has one first rule and one first pattern at most.
-use Rattle.std.proofs.Common.{◌≡◌, ℕ, zero, suc, ◌+◌, ◌%◌, ◌≤◌, ◌==◌, Bool, true, false, not, List, [], ◌∷◌, ℤ, pos, negsuc, nat_abs, ◌+ℤ◌, ◌-ℤ◌, ◌≤ℤ◌, ◌<ℤ◌}
+use Rattle.std.proofs.Common.{◌≡◌, ℕ, zero, suc, ◌+◌, ◌%◌, ◌≤◌, ◌==◌, Bool, true, false, not, List, [], ◌∷◌, ℤ, pos, negsuc, nat_abs, ◌+ℤ◌, ◌-ℤ◌, ◌≤ℤ◌}
 use Rattle.std.proofs.Common.{inl, inr, refl, sym, ap, subst, ◌∙◌, arith}
 use Rattle.std.specs.Prelude.{◌||◌, ◌&&◌, nat_lt, map, length, get_or}
 use Rattle.std.proofs.lemmas.Int.{ints, by_lt_z}
-use Rattle.std.proofs.lemmas.Bool.{cases_lt, cases_eq, eq-eqb, false≢true}
 use Rattle.std.proofs.lemmas.Bool.Decides.{nat_tests}
-use Rattle.rr_model.specs.Graph.Occurrences.{is_pattern_day, IsRepeatDay, IsWithinRange, IsGraphOccurrence, pattern_days_to}
+use Rattle.rr_model.specs.Graph.Occurrences.{is_pattern_day, IsRepeatDay, IsWithinRange}
 use Rattle.rr_model.specs.Graph.Uses.{uses_first_day, uses_index}
 use Rattle.rr_model.specs.Graph.Validity.{LiesIfUsed, IsIndex, IsRangeEnd, IsValidPattern}
-use Rattle.rr_model.specs.Moment.{Occurrences, day_part, second_part}
+use Rattle.rr_model.specs.Moment.{Occurrences, day_part}
 use Rattle.rr_model.specs.Rule.Validity.{is_absent}
 use Rattle.rr_model.specs.Sets.Least.{IsEndless}
 use Rattle.rr_model.specs.Sets.Sketch.{IsValidSketch, StandsFor, StandsIn, times_on}
-use Rattle.rr_model.specs.Sets.Verdict.{HaveEqualOccurrences}
 use Rattle.rr_model.specs.Whole.Count.{count_from}
 use Rattle.rr_model.specs.declared.graph.Form.{Form}
 use Rattle.rr_model.specs.declared.graph.Form.TheVariants as form
@@ -34,7 +32,7 @@ use Rattle.rr_family.specs.DaySets.{IsNumbered, IsLastDay, window_days}
 use Rattle.rr_family.specs.GraphProfile.{event_of, form_place, index_place, pattern_key, key_lt, EndsAs, IsFirstPattern, FirstPatternIsOne}
 use Rattle.rr_family.specs.Lasting.{is_occupied}
 use Rattle.rr_family.specs.Places.{item_at, place_has_day}
-use Rattle.rr_family.specs.Profile.{kind_place, comes_before, all_places, in_order, IsWindow, EndsWith, IsFirstRule, FirstRuleIsOne}
+use Rattle.rr_family.specs.Profile.{kind_place, all_places, in_order, IsWindow, EndsWith, IsFirstRule, FirstRuleIsOne}
 use Rattle.rr_family.specs.Shift.{family_cycle}
 use Rattle.rr_family.specs.Taking.{taken_places}
 use Rattle.rr_family.proofs.DaySetLemmas.{not_empty}

@@ -1,3 +1,4 @@
+mod Examples
 pub mod TakingLemmas
 pub mod TallyLemmas
 pub mod SortLemmas

@@ -1,9 +1,8 @@
 -- The items of a list that is taken rise: places rise, and items rise with their places.
-use Rattle.std.proofs.Common.{◌≡◌, ℕ, zero, suc, ◌+◌, ◌-◌, ◌/◌, ◌%◌, ◌<◌, ◌≤◌, Bool, true, false, cond, List, [], ◌∷◌, pos, negsuc, inl, inr, refl}
+use Rattle.std.proofs.Common.{◌≡◌, ℕ, zero, suc, ◌+◌, ◌-◌, ◌/◌, ◌%◌, ◌<◌, ◌≤◌, Bool, true, false, cond, ◌∷◌, pos, negsuc, inl, inr, refl}
 use Rattle.std.proofs.Common.{sym, ap, ◌∙◌, arith}
 use Rattle.std.specs.Prelude.{◌==◌, ◌||◌, nat_lt, map}
 use Rattle.std.specs.List.{list_any, filter}
-use Rattle.std.specs.Ordering.{int_eq}
 use Rattle.std.proofs.lemmas.Bool.{cases_lt, cases_eq}
 use Rattle.std.proofs.lemmas.Bool.Decides.{nat_tests}
 use Rattle.rr_model.specs.Rising.{Rises}
@@ -47,8 +46,8 @@ both_ends_rise most j k l =
 
 -- ---- items
 
-or_true : (a b : Bool) → a ≡ true → (a || b) ≡ true
-or_true a b e = rw e refl
+or_first : (a b : Bool) → a ≡ true → (a || b) ≡ true
+or_first a b e = rw e refl
 
 places_rise : (j k : ℕ) → j < k → item_lt (item_at family.MP j) (item_at family.MP k) ≡ true
 places_rise j k l =
@@ -58,7 +57,7 @@ places_rise j k l =
           let t : nat_lt (j % 7) (k % 7) ≡ true = (let m : j % 7 < k % 7 = omega (arith, same, l) in grind (arith, nat_tests)) in
           let e : from_both_ends 5 (k / 7) ≡ n = ap (from_both_ends 5) (sym same) in
           rw (e, int_eq-same n, t) (or_last (is_place_before n n)))
-      | inr other ↦ or_true (is_place_before (from_both_ends 5 (j / 7)) (from_both_ends 5 (k / 7))) _
+      | inr other ↦ or_first (is_place_before (from_both_ends 5 (j / 7)) (from_both_ends 5 (k / 7))) _
           (both_ends_rise 5 (j / 7) (k / 7) (omega (arith, l, other)))
     ]
   where

@@ -1,10 +1,10 @@
 -- Rules of the profile, the lists that are taken, and the sets that they have.
-use Rattle.std.proofs.Common.{◌≡◌, ◌↔◌, ℕ, zero, suc, ◌+◌, ◌-◌, ◌*◌, ◌/◌, ◌%◌, ◌<◌, ◌≤◌, ◌==◌, Bool, true, false, not, ◌&&◌, List, [], ◌∷◌, length, ℤ}
+use Rattle.std.proofs.Common.{◌≡◌, ◌↔◌, ℕ, zero, suc, ◌+◌, ◌-◌, ◌*◌, ◌/◌, ◌%◌, ◌<◌, ◌≤◌, ◌==◌, Bool, true, false, not, List, [], ◌∷◌, length, ℤ}
 use Rattle.std.proofs.Common.{pos, negsuc, nat_abs, ◌+ℤ◌, ◌-ℤ◌, ◌≤ℤ◌, ◌<ℤ◌, inl, inr, refl, sym, ap, subst, ◌∙◌, arith}
 use Rattle.std.specs.Prelude.{Some, nat_lt, map, All}
 use Rattle.std.specs.List.{Contains, list_any, AllByRecursion}
 use Rattle.std.proofs.lemmas.Int.{ints, by_lt_z}
-use Rattle.std.proofs.lemmas.Bool.{cases_Bool, cases_lt, cases_eq, eq-eqb, eqb-true, false≢true}
+use Rattle.std.proofs.lemmas.Bool.{and_parts, cases_Bool, cases_lt, cases_eq, eq-eqb, eqb-true, false≢true}
 use Rattle.std.proofs.lemmas.Bool.Decides.{nat_tests}
 use Rattle.std.proofs.lemmas.List.Elements.{recursion_from_All, All-cons}
 use Rattle.std.proofs.lemmas.Map.Views.{any-filter_same}
@@ -51,14 +51,6 @@ use Rattle.rr_family.proofs.TakingLemmas.{in_filter, giver, taker, kept_by_filte
 
 -- ---- members and days
 
-left : (a b : Bool) → (a && b) ≡ true → a ≡ true
-left true b e = refl
-left false b e = absurd (cc)
-
-right : (a b : Bool) → (a && b) ≡ true → b ≡ true
-right true b e = e
-right false b e = absurd (cc)
-
 -- at one second of the day moments lie as their days do
 pub later_day : (kind : Kind) (start t : ℤ) → second_part kind t ≡ second_part kind start → (day_part kind start ≤ℤ day_part kind t) ↔ (start ≤ℤ t)
 later_day Days start t e = (λ h. h, λ h. h)
@@ -92,11 +84,12 @@ pub members_on_days : MembersOnDays
 members_on_days rule kind start t l profile = (
   (λ o. (
       let cand = sym (candidate_is rule kind start t) ∙ o.1.candidate in
-      let e = eqb-true (second_part kind t) (second_part kind start) (left _ _ cand) in record {
+      let parts = and_parts (second_part kind t == second_part kind start) (test rule kind start t (day_part kind t)) cand in
+      let e = eqb-true (second_part kind t) (second_part kind start) parts.0 in record {
         same_kind = o.0;
         same_second = e;
         not_before = (later_day kind start t e).1 o.1.not_before;
-        on_day = right _ _ cand;
+        on_day = parts.1;
         within = (ends rule kind start t rule.end profile _ (number_is rule kind start t e o.1.not_before)).0 o.1.within_end;
       })),
   (λ o. (

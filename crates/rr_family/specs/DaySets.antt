@@ -39,7 +39,8 @@ pub record IsOneSecond (s : Sketch) (kind : Kind) (second : ℕ) (first : ℤ) :
 abbrev pub SetOfTest : Type 0
 SetOfTest = (s : Sketch) (test : ℤ → Bool) (end : RangeEnd) (kind : Kind) (start : ℤ) → IsValidSketch s → OccursOnDays test end kind start kind start
     → HaveEqualOccurrences (OccursOnDays test end kind start) (StandsIn s)
-    → IsOneSecond s kind (second_part kind start) (day_part kind start) × ((d later : ℤ) → day_part kind start ≤ℤ d → d ≤ℤ later → is_occupied s later ≡ true → test d ≡ is_occupied s d)
+    → IsOneSecond s kind (second_part kind start) (day_part kind start)
+    × ((d later : ℤ) → day_part kind start ≤ℤ d → d ≤ℤ later → is_occupied s later ≡ true → test d ≡ is_occupied s d)
 
 -- A set of one second whose days are those of a test for ever is what the test has without an end.
 abbrev pub TestOfEndless : Type 0
@@ -58,6 +59,8 @@ IsNumbered s first n = (last : ℤ) × IsLastDay s last × (n ≡ count_from (is
 
 -- A finite one whose days are those of a test up to the last is what the test has with as many days as are occupied.
 abbrev pub TestOfFinite : Type 0
-TestOfFinite = (s : Sketch) (test : ℤ → Bool) (kind : Kind) (start last : ℤ) → IsValidSketch s → IsOneSecond s kind (second_part kind start) (day_part kind start) → IsLastDay s last
-    → AgreeWithin test (is_occupied s) (day_part kind start) (window_days (day_part kind start) last)
-    → HaveEqualOccurrences (OccursOnDays test (Numbered (count_from (is_occupied s) (day_part kind start) (window_days (day_part kind start) last))) kind start) (StandsIn s)
+TestOfFinite =
+    (s : Sketch) (test : ℤ → Bool) (kind : Kind) (start last : ℤ) → IsValidSketch s
+    → let first = day_part kind start in
+    IsOneSecond s kind (second_part kind start) first → IsLastDay s last → AgreeWithin test (is_occupied s) first (window_days first last)
+    → HaveEqualOccurrences (OccursOnDays test (Numbered (count_from (is_occupied s) first (window_days first last))) kind start) (StandsIn s)

@@ -37,7 +37,8 @@ pub record HasCycle (s : Sketch) (first : ℤ) (c : ℕ) : Type 0 where
 
 -- If a set has the days of a test that repeats after c days, its least period divides c and its least start is its first day.
 abbrev pub EndlessHasCycle : Type 0
-EndlessHasCycle = (s : Sketch) (second : ℕ) (test : ℤ → Bool) (first : ℤ) (c : ℕ) → 1 ≤ c → RepeatsEverywhere test c → HasDaysOf s second test first → HasCycle s first c
+EndlessHasCycle = (s : Sketch) (second : ℕ) (test : ℤ → Bool) (first : ℤ) (c : ℕ) → 1 ≤ c → RepeatsEverywhere test c → HasDaysOf s second test first
+    → HasCycle s first c
 
 -- the least period divides c, and the least start is the first occupied day
 pub record FitsCycle (s : Sketch) (first : ℤ) (c : ℕ) : Type 0 where
@@ -59,6 +60,7 @@ AgreementOnCycleLasts = (s : Sketch) (first : ℤ) (c : ℕ) (test : ℤ → Boo
 
 -- If some list of places has the days for ever, the list that is taken on one cycle has them for ever.
 abbrev pub TakingLosesNoEndless : Type 0
-TakingLosesNoEndless = (s : Sketch) (first : ℤ) (c : ℕ) (gives : ℕ → ℤ → Bool) (places all : List ℕ) → FitsCycle s first c → ((place : ℕ) → RepeatsEverywhere (gives place) c) → AreAmong places all
+TakingLosesNoEndless = (s : Sketch) (first : ℤ) (c : ℕ) (gives : ℕ → ℤ → Bool) (places all : List ℕ) → FitsCycle s first c
+    → ((place : ℕ) → RepeatsEverywhere (gives place) c) → AreAmong places all
     → AgreeForEver (some_gives gives places) (is_occupied s) first
     → AgreeForEver (some_gives gives (taken_places gives (is_occupied s) first c all)) (is_occupied s) first

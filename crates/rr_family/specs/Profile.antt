@@ -143,7 +143,8 @@ ListItemsRise = (s : Sketch) (f : FamilyKind) (interval : ℕ) (first : ℤ) (da
 -- A rule that is looked for has the occurrences of its days.
 abbrev pub MembersOnDays : Type 0
 MembersOnDays = (rule : VRule) (kind : Kind) (start t : ℤ) (l : Kind) → IsProfileEnd rule.end
-    → VcalOccurrences rule kind start l t ↔ OccursOnDays (items_have_day rule.family rule.interval (day_part kind start) rule.items) (range_of rule.end) kind start l t
+    → VcalOccurrences rule kind start l t ↔ OccursOnDays (items_have_day rule.family rule.interval (day_part kind start) rule.items)
+    (range_of rule.end) kind start l t
 
 -- Where some rule of a kind and interval has the set, the set has one second and begins with the rule's start, and the
 -- taken list has the occupied days of the window.
@@ -161,7 +162,8 @@ EndlessRuleHasCycle = (s : Sketch) (rule : VRule) (kind : Kind) (start : ℤ) �
 
 -- A taken list that has the occupied days of an endless set's window is a rule of the set, without an end.
 abbrev pub EndlessListIsRule : Type 0
-EndlessListIsRule = (s : Sketch) (f : FamilyKind) (interval : ℕ) (kind : Kind) (start : ℤ) → IsValidSketch s → 1 ≤ interval → interval ≤ most_family_interval f → IsInYears kind start
+EndlessListIsRule = (s : Sketch) (f : FamilyKind) (interval : ℕ) (kind : Kind) (start : ℤ) → IsValidSketch s → 1 ≤ interval
+    → interval ≤ most_family_interval f → IsInYears kind start
     → let first = day_part kind start in
     let days = family_cycle f interval in
     IsOneSecond s kind (second_part kind start) first → FitsCycle s first days
@@ -170,7 +172,8 @@ EndlessListIsRule = (s : Sketch) (f : FamilyKind) (interval : ℕ) (kind : Kind)
 
 -- One that has those of a finite set is a rule of it, with as many members as days are occupied, where a COUNT can be so many.
 abbrev pub FiniteListIsRule : Type 0
-FiniteListIsRule = (s : Sketch) (f : FamilyKind) (interval : ℕ) (kind : Kind) (start last : ℤ) → IsValidSketch s → 1 ≤ interval → interval ≤ most_family_interval f → IsInYears kind start
+FiniteListIsRule = (s : Sketch) (f : FamilyKind) (interval : ℕ) (kind : Kind) (start last : ℤ) → IsValidSketch s → 1 ≤ interval
+    → interval ≤ most_family_interval f → IsInYears kind start
     → let first = day_part kind start in
     let days = window_days first last in
     IsOneSecond s kind (second_part kind start) first → IsLastDay s last → count_from (is_occupied s) first days ≤ 18_446_744_073_709_551_615

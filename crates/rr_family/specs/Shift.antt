@@ -49,7 +49,10 @@ PatternRepeats = (pattern : Pattern) (start : ℤ) → IsValidPattern pattern �
 
 -- The cycle of a kind is that of its counterpart's text, whatever the items are.
 abbrev pub CycleIsCounterparts : Type 0
-CycleIsCounterparts = (rule : VRule) (kind : Kind) (start : ℤ) → IsValidVRule rule → rule_cycle (rule_of_vrule rule kind start) ≡ family_cycle rule.family rule.interval
+CycleIsCounterparts = (rule : VRule) (kind : Kind) (start : ℤ) → IsValidVRule rule
+    → rule_cycle (rule_of_vrule rule kind start) ≡ family_cycle rule.family rule.interval
 
+-- The cycle of a type is that of its counterpart's text, whatever the members are.
 abbrev pub CycleIsPatterns : Type 0
-CycleIsPatterns = (pattern : Pattern) (end : End) → IsValidPattern pattern → rule_cycle (rule_of_pattern pattern end) ≡ form_cycle pattern.form pattern.interval
+CycleIsPatterns = (pattern : Pattern) (end : End) → IsValidPattern pattern
+    → rule_cycle (rule_of_pattern pattern end) ≡ form_cycle pattern.form pattern.interval

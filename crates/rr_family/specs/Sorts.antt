@@ -49,4 +49,5 @@ has_sort family.YD sort place = place == sort
 
 -- These are the sorts of the kind.
 abbrev pub KindsHaveSorts : Type 0
-KindsHaveSorts = (f : FamilyKind) (interval : ℕ) (start : ℤ) → AreSorts (place_has_day f interval start) (many_sorts f) (sort_of_day f interval start) (has_sort f)
+KindsHaveSorts = (f : FamilyKind) (interval : ℕ) (start : ℤ)
+    → AreSorts (place_has_day f interval start) (many_sorts f) (sort_of_day f interval start) (has_sort f)

@@ -38,6 +38,7 @@ taken_within (suc steps) gives occupied first days (x ∷ xs) taken =
     then taken
     else taken_within steps gives occupied first days (x ∷ xs) (first_greatest (further_days gives occupied first days taken) x xs ∷ taken)
 
+-- the places that are taken on a window, of all the sound ones
 abbrev pub taken_places : (ℕ → ℤ → Bool) → (ℤ → Bool) → ℤ → ℕ → List ℕ → List ℕ
 taken_places gives occupied first days places = taken_within days gives occupied first days (sound_places gives occupied first days places) []
 

@@ -1,5 +1,6 @@
 -- Days of one kind told apart by which items have them, and how many of each sort a window has.
-use Rattle.std.specs.Prelude.{◌≡◌, ℕ, zero, suc, ◌+◌, ◌<◌, ◌≤◌, ◌==◌, Bool, true, false, not, ◌&&◌, if◌then◌else◌, Option, None, Some, List, ℤ, pos, ◌+ℤ◌, ◌≤ℤ◌, ◌<ℤ◌}
+use Rattle.std.specs.Prelude.{◌≡◌, ℕ, zero, suc, ◌+◌, ◌<◌, ◌≤◌, ◌==◌, Bool, true, false, not, ◌&&◌, if◌then◌else◌, Option, None, Some, List, ℤ, pos}
+use Rattle.std.specs.Prelude.{◌+ℤ◌, ◌≤ℤ◌, ◌<ℤ◌}
 use Rattle.std.specs.List.{list_any}
 use Rattle.rr_model.specs.Whole.Count.{count_from}
 use Rattle.rr_family.specs.Taking.{AgreeWithin, some_gives, is_sound, further_days}
@@ -25,22 +26,30 @@ pub record AreSorts (gives : ℕ → ℤ → Bool) (sorts : ℕ) (sort_of : ℤ 
 
 -- A place is sound exactly where no sort that it has has a day that is not occupied.
 abbrev pub SoundBySorts : Type 0
-SoundBySorts = (gives : ℕ → ℤ → Bool) (sorts : ℕ) (sort_of : ℤ → Option ℕ) (has : ℕ → ℕ → Bool) (occupied : ℤ → Bool) (first : ℤ) (days place : ℕ) → AreSorts gives sorts sort_of has
-    → is_sound gives occupied first days place ≡ (sum_below sorts (λ sort. if has sort place then days_of_sort sort_of (λ d. not (occupied d)) first days sort else 0) == 0)
+SoundBySorts = (gives : ℕ → ℤ → Bool) (sorts : ℕ) (sort_of : ℤ → Option ℕ) (has : ℕ → ℕ → Bool) (occupied : ℤ → Bool) (first : ℤ) (days place : ℕ)
+    → AreSorts gives sorts sort_of has
+    → is_sound gives occupied first days place
+    ≡ (sum_below sorts (λ sort. if has sort place then days_of_sort sort_of (λ d. not (occupied d)) first days sort else 0) == 0)
 
 -- The further days of a place are those of the sorts that it has and no taken place has.
 abbrev pub FurtherBySorts : Type 0
-FurtherBySorts = (gives : ℕ → ℤ → Bool) (sorts : ℕ) (sort_of : ℤ → Option ℕ) (has : ℕ → ℕ → Bool) (occupied : ℤ → Bool) (first : ℤ) (days : ℕ) (taken : List ℕ) (place : ℕ) → AreSorts gives sorts sort_of has
-    → further_days gives occupied first days taken place ≡ sum_below sorts (λ sort. if has sort place && not (list_any (λ other. has sort other) taken) then days_of_sort sort_of occupied first days sort else 0)
+FurtherBySorts =
+    (gives : ℕ → ℤ → Bool) (sorts : ℕ) (sort_of : ℤ → Option ℕ) (has : ℕ → ℕ → Bool) (occupied : ℤ → Bool) (first : ℤ) (days : ℕ) (taken : List ℕ) (place : ℕ)
+    → AreSorts gives sorts sort_of has
+    → let further = λ (sort : ℕ). has sort place && not (list_any (λ other. has sort other) taken) in
+    further_days gives occupied first days taken place
+    ≡ sum_below sorts (λ sort. if further sort then days_of_sort sort_of occupied first days sort else 0)
 
 -- An occupied day of the window that has no sort is in no list.
 abbrev pub UnsortedHasNoList : Type 0
-UnsortedHasNoList = (gives : ℕ → ℤ → Bool) (sorts : ℕ) (sort_of : ℤ → Option ℕ) (has : ℕ → ℕ → Bool) (occupied : ℤ → Bool) (first : ℤ) (days : ℕ) (places : List ℕ) (d : ℤ) → AreSorts gives sorts sort_of has
+UnsortedHasNoList = (gives : ℕ → ℤ → Bool) (sorts : ℕ) (sort_of : ℤ → Option ℕ) (has : ℕ → ℕ → Bool) (occupied : ℤ → Bool) (first : ℤ) (days : ℕ)
+    (places : List ℕ) (d : ℤ) → AreSorts gives sorts sort_of has
     → first ≤ℤ d → d <ℤ (first +ℤ pos days) → occupied d ≡ true → sort_of d ≡ None
     → AgreeWithin (some_gives gives places) occupied first days → ⊥
 
 -- Where a sort has an occupied day of the window and one that is not, no list has the window's days.
 abbrev pub MixedHasNoList : Type 0
-MixedHasNoList = (gives : ℕ → ℤ → Bool) (sorts : ℕ) (sort_of : ℤ → Option ℕ) (has : ℕ → ℕ → Bool) (occupied : ℤ → Bool) (first : ℤ) (days : ℕ) (places : List ℕ) (sort : ℕ) → AreSorts gives sorts sort_of has
+MixedHasNoList = (gives : ℕ → ℤ → Bool) (sorts : ℕ) (sort_of : ℤ → Option ℕ) (has : ℕ → ℕ → Bool) (occupied : ℤ → Bool) (first : ℤ) (days : ℕ)
+    (places : List ℕ) (sort : ℕ) → AreSorts gives sorts sort_of has
     → 1 ≤ days_of_sort sort_of occupied first days sort → 1 ≤ days_of_sort sort_of (λ d. not (occupied d)) first days sort
     → AgreeWithin (some_gives gives places) occupied first days → ⊥
