@@ -22,4 +22,4 @@ pub mod PushLemmas
 mod WrittenPartLemmas
 mod WrittenRuleLemmas
 mod WrittenPassLemmas
-mod WrittenSeriesLemmas
+pub mod WrittenSeriesLemmas
