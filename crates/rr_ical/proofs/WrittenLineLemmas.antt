@@ -1,9 +1,9 @@
 -- Lines that are written are the used lines of the event that is read (RFC 5545, sections 3.1 and 3.6).
-use Rattle.std.proofs.Common.{◌≡◌, ℕ, true, false, List, [], ◌∷◌, ◌++◌, length, take, map, Option, None, Some, Result, Ok, refl, ap, ◌∙◌}
+use Rattle.std.proofs.Common.{◌≡◌, ℕ, true, false, List, [], ◌∷◌, ◌++◌, length, take, map, None, Some, Result, Ok, refl, ap, ◌∙◌}
 use Rattle.std.specs.Prelude.{not, codes}
 use Rattle.std.specs.List.{list_all, list_any, AllByRecursion}
 use Rattle.std.specs.Str.{is_utf8}
-use Rattle.rr_model.specs.Text.Event.{Components, Left, left, left_by, no_components, used_line, after_used, scan_from, scanned, is_bare_text, event_scan}
+use Rattle.rr_model.specs.Text.Event.{Left, left, left_by, no_components, used_line, after_used, scan_from, scanned, is_bare_text, event_scan}
 use Rattle.rr_model.specs.Text.Lines.{physical_lines, begins_blank}
 use Rattle.rr_model.specs.Text.UsedLines.{is_named, value_of_line, line_kind, trim}
 use Rattle.rr_model.specs.Text.Written.{folded_line, lines_of, value_type}
@@ -61,7 +61,8 @@ scanned-written : (k last : ℕ) (lines : List WrittenLine) → AllByRecursion I
     → scanned true last no_components (numbered k (texts_of lines)) ≡ record { used = used_from k lines; stop = None }
 scanned-written k last [] h = refl
 scanned-written k last (l ∷ ls) h =
-    ap (λ (m : Result Left Refusal). scan_from m (λ after. scanned true last after (numbered (number_after k l.text) (texts_of ls)))) (left_by-property k l h.0)
+    ap (λ (m : Result Left Refusal). scan_from m (λ after. scanned true last after (numbered (number_after k l.text) (texts_of ls))))
+    (left_by-property k l h.0)
     ∙ ap (after_used (Some (used_line k l.name l.value))) (scanned-written (number_after k l.text) last ls h.1)
 
 no_begins : (k : ℕ) (lines : List WrittenLine) → AllByRecursion IsPropertyLine lines
@@ -79,11 +80,13 @@ pub event_scan-written : (lines : List WrittenLine) → AllByRecursion IsPropert
 unfolding event_scan
 event_scan-written lines h =
     let bytes = lines_of folded_line (texts_of lines) in
-    ap (λ (ls : List Line). scanned (is_bare_text ls) (length (physical_lines bytes)) no_components ls) (folded_lines_unfold (texts_of lines) (are_lines lines h))
+    ap (λ (ls : List Line). scanned (is_bare_text ls) (length (physical_lines bytes)) no_components ls) (folded_lines_unfold (texts_of lines)
+    (are_lines lines h))
     ∙ ap (λ b. scanned (not b) (length (physical_lines bytes)) no_components (numbered 1 (texts_of lines))) (no_begins 1 lines h)
     ∙ scanned-written 1 (length (physical_lines bytes)) lines h
 
-all_bytes : (lines : List WrittenLine) → AllByRecursion IsPropertyLine lines → AllByRecursion (λ (t : List ℕ). list_all is_line_byte t ≡ true) (texts_of lines)
+all_bytes : (lines : List WrittenLine) → AllByRecursion IsPropertyLine lines
+    → AllByRecursion (λ (t : List ℕ). list_all is_line_byte t ≡ true) (texts_of lines)
 all_bytes [] h = tt
 all_bytes (l ∷ ls) h = (h.0.bytes, all_bytes ls h.1)
 

@@ -3,8 +3,9 @@ use Rattle.std.proofs.Common.{◌≡◌, ℕ, ◌+◌, ◌<◌, ◌≤◌, Bool,
 use Rattle.std.proofs.Common.{append_assoc, append-nil, length-append, refl, sym, ap, ◌∙◌, arith}
 use Rattle.std.specs.Prelude.{◌==◌, ◌&&◌, not, nat_le, codes, int_lt, ok_or}
 use Rattle.std.specs.List.{list_all, list_any, AllByRecursion, slice_split}
-use Rattle.std.proofs.lemmas.Bool.{and_parts, not-true}
+use Rattle.std.proofs.lemmas.Bool.{and_parts, and_right, not-true}
 use Rattle.std.proofs.lemmas.Bool.Decides.{nat_tests}
+use Rattle.std.proofs.lemmas.List.{length_push}
 use Rattle.rr_model.specs.Moment.{is_same_kind}
 use Rattle.rr_model.specs.Moment.Years.{IsInYears}
 use Rattle.rr_model.specs.Rising.{Rises}
@@ -69,7 +70,8 @@ module _ {X : Type 0} (step : X → UsedLine → Result X Refusal) where
     GoesOn = (k : ℕ) (done : List Y) (y : Y) (ys : List Y) → Fits done (y ∷ ys)
         → (step (state done) (used_line k (line_of y).name (line_of y).value) ≡ Ok (state (done ++ y ∷ []))) × Fits (done ++ y ∷ []) ys
 
-    pub lines_each : GoesOn → (k : ℕ) (done ys : List Y) → Fits done ys → in_turn step (state done) (used_from k (map line_of ys)) ≡ Ok (state (done ++ ys))
+    pub lines_each : GoesOn → (k : ℕ) (done ys : List Y) → Fits done ys
+    → in_turn step (state done) (used_from k (map line_of ys)) ≡ Ok (state (done ++ ys))
     lines_each more k done [] h = ap (λ (l : List Y). Ok (state l)) (sym (append-nil done))
     lines_each more k done (y ∷ ys) h =
         let one = more k done y ys h in
@@ -126,19 +128,12 @@ first_step pass line = judged_line rrule_language line.number line.name pass lin
 abbrev pub HasRoom : Kind → ℕ → List ℤ → List ℤ → Type 0
 HasRoom kind before done ats = (before + (length done + length ats) ≤ 10_000) × AllByRecursion (IsInYears kind) ats
 
-length-next : {X : Type 0} (done : List X) (x : X) → length (done ++ x ∷ []) ≡ length done + 1
-length-next done x = omega (arith, length-append done (x ∷ []))
-
-and_false : (b : Bool) → (b && false) ≡ false
-and_false true = refl
-and_false false = refl
-
 date_judged : (line : ℕ) (is_plus : Bool) (pass : FirstPass) (kind : Kind) (at : ℤ) → IsInYears kind at → pass.date_count < 10_000
     → judged_dates line is_plus pass (slice_split rrule_language.is_separator (basic_text kind at)) ≡ Ok (record pass { date_count = pass.date_count + 1 })
 date_judged line is_plus pass kind at years room =
     let few : nat_le 10_000 pass.date_count ≡ false = grind (arith, nat_tests, room) in
     let text = basic_text kind at in
-    let slash : (is_plus && has_slash text) ≡ false = ap (λ b. is_plus && b) (no_slash kind at years) ∙ and_false is_plus in
+    let slash : (is_plus && has_slash text) ≡ false = and_right is_plus (has_slash text) (no_slash kind at years) in
     ap (in_turn (judged_date line is_plus) pass) (one_date kind at years)
     ∙ rw (few, slash, date_value-written kind at years line) refl
 
@@ -150,10 +145,10 @@ module _ (start : Stamp) (kind : Kind) (rules before : ℕ) where
   date_room done at ats h = omega (arith, h.0)
 
   room_next : (done : List ℤ) (at : ℤ) (ats : List ℤ) → HasRoom kind before done (at ∷ ats) → HasRoom kind before (done ++ at ∷ []) ats
-  room_next done at ats h = (omega (arith, h.0, length-next done at), h.1.1)
+  room_next done at ats h = (omega (arith, h.0, length_push done at), h.1.1)
 
   count_next : (done : List ℤ) (at : ℤ) → passed start rules (before + length done + 1) ≡ dates_so_far (done ++ at ∷ [])
-  count_next done at = ap (passed start rules) (omega (arith, length-next done at))
+  count_next done at = ap (passed start rules) (omega (arith, length_push done at))
 
   pub plus_judged : (word : List ℕ) → GoesOn first_step (dated word Rdate kind) dates_so_far (HasRoom kind before)
   plus_judged word k done at ats h = (
@@ -182,7 +177,7 @@ abbrev pub AreFew : Kind → List Rule → List Rule → Type 0
 AreFew kind done rules = (length done + length rules ≤ 16) × AllByRecursion (IsWritable kind) rules
 
 few_next : (kind : Kind) (done : List Rule) (rule : Rule) (rules : List Rule) → AreFew kind done (rule ∷ rules) → AreFew kind (done ++ rule ∷ []) rules
-few_next kind done rule rules h = (omega (arith, h.0, length-next done rule), h.1.1)
+few_next kind done rule rules h = (omega (arith, h.0, length_push done rule), h.1.1)
 
 abbrev pub rules_so_far : Stamp → List Rule → FirstPass
 rules_so_far start done = passed start (length done) 0
@@ -191,7 +186,7 @@ pub rule_judged : (start : Stamp) (kind : Kind) → GoesOn first_step ruled (rul
 rule_judged start kind k done rule rules h =
     let w = h.1.0 in
     let few : nat_le 16 (length done) ≡ false = grind (arith, nat_tests, h.0) in
-    let counted : length done + 1 ≡ length (done ++ rule ∷ []) = omega (arith, length-next done rule) in
+    let counted : length done + 1 ≡ length (done ++ rule ∷ []) = omega (arith, length_push done rule) in
     (
       rw (few, stated_rule-written k kind rule w.valid w.one_end w.years) refl ∙ ap (λ n. Ok (passed start n 0)) counted,
       few_next kind done rule rules h,
@@ -208,7 +203,8 @@ same_kind Moments = refl
 
 -- a written date beside a start of its kind
 date_put : (line : ℕ) (is_plus : Bool) (beside : Beside Rule) (kind : Kind) (start at : ℤ) → IsInYears kind at
-    → with_dates None (stamp_of kind start) line is_plus beside (slice_split rrule_language.is_separator (basic_text kind at)) ≡ Ok (put_date is_plus beside at)
+    → with_dates None (stamp_of kind start) line is_plus beside (slice_split rrule_language.is_separator (basic_text kind at)) ≡ Ok (put_date is_plus
+    beside at)
 date_put line is_plus beside kind start at years =
     ap (in_turn (with_date None (stamp_of kind start) line is_plus) beside) (one_date kind at years)
     ∙ rw (date_value-written kind at years line, same_kind kind) refl

@@ -89,7 +89,8 @@ items-written line items h r = record {
 }
 
 -- numbers of a valid rule lie within the bounds
-all_within : (bounds : NumberBounds) (P : ℤ → Type 0) → ((z : ℤ) → P z → IsWithin bounds z) → (zs : List ℤ) → All P zs → AllByRecursion (IsWithin bounds) zs
+all_within : (bounds : NumberBounds) (P : ℤ → Type 0) → ((z : ℤ) → P z → IsWithin bounds z) → (zs : List ℤ) → All P zs
+    → AllByRecursion (IsWithin bounds) zs
 all_within bounds P within zs h = each zs (recursion_from_All P zs h)
   where
     each : (ys : List ℤ) → AllByRecursion P ys → AllByRecursion (IsWithin bounds) ys

@@ -80,7 +80,8 @@ written_lines series counts =
     let m = map (minus_line kind) series.minus in
     let rules : lines_of line_written r ≡ lines_of rule_line series.rules = lines_of-map ruled line_written series.rules in
     let plus : lines_of line_written p ≡ lines_of (date_line (codes "RDATE") kind) series.plus = lines_of-map (plus_line kind) line_written series.plus in
-    let minus : lines_of line_written m ≡ lines_of (date_line (codes "EXDATE") kind) series.minus = lines_of-map (minus_line kind) line_written series.minus in
+    let minus : lines_of line_written m ≡ lines_of (date_line (codes "EXDATE") kind) series.minus =
+    lines_of-map (minus_line kind) line_written series.minus in
     let later : lines_of line_written (r ++ p ++ m) ≡ lines_of line_written r ++ lines_of line_written p ++ lines_of line_written m =
     lines_of-append line_written (r ++ p) m ∙ ap (λ (t : List ℕ). t ++ lines_of line_written m) (lines_of-append line_written r p) in
     let parts : lines_of line_written r ++ lines_of line_written p ++ lines_of line_written m
@@ -155,12 +156,11 @@ lines_are_written series w =
     let kind = series.kind in
     let r = map ruled series.rules in
     let p = map (plus_line kind) series.plus in
-    let m = map (minus_line kind) series.minus in
-    (
+    let m = map (minus_line kind) series.minus in (
       start_is kind series.start w.start,
       all-append (r ++ p) m (all-append r p (lines_are ruled (IsWritable kind) (rule_is kind) series.rules w.rules)
-      (lines_are (plus_line kind) (IsInYears kind) (plus_is kind) series.plus w.plus))
-      (lines_are (minus_line kind) (IsInYears kind) (minus_is kind) series.minus w.minus),
+          (lines_are (plus_line kind) (IsInYears kind) (plus_is kind) series.plus w.plus))
+          (lines_are (minus_line kind) (IsInYears kind) (minus_is kind) series.minus w.minus),
     )
 
 -- ---- both passes

@@ -1,7 +1,7 @@
 -- Texts of bytes from `,` to `Z`: neither capitals nor trimming change them, and they have no line breaks.
-use Rattle.std.proofs.Common.{◌≡◌, ℕ, zero, suc, ◌-◌, ◌<◌, ◌/◌, Bool, true, false, cond, not, List, [], ◌∷◌, ◌++◌, reverse, length, take, drop, map, refl, sym}
+use Rattle.std.proofs.Common.{◌≡◌, ℕ, zero, suc, ◌-◌, ◌/◌, Bool, true, false, List, [], ◌∷◌, ◌++◌, reverse, length, take, drop, refl}
 use Rattle.std.proofs.Common.{ap, ◌∙◌, arith}
-use Rattle.std.specs.Prelude.{◌==◌, ◌&&◌, nat_lt, slice_index}
+use Rattle.std.specs.Prelude.{◌==◌, ◌&&◌, nat_lt}
 use Rattle.std.specs.Char.{to_ascii_uppercase}
 use Rattle.std.specs.List.{list_all, take_while, AllByRecursion}
 use Rattle.std.specs.Str.{IsAscii, is_utf8, str_to_ascii_uppercase}
@@ -9,8 +9,7 @@ use Rattle.std.proofs.lemmas.Bool.{and_parts, and_from}
 use Rattle.std.proofs.lemmas.Bool.Decides.{nat_tests}
 use Rattle.std.proofs.lemmas.List.{take_all, reverse-append}
 use Rattle.std.proofs.lemmas.Str.{IsUtf8-from_ascii, is_utf8-from_IsUtf8}
-use Rattle.rr_model.specs.Rule.Validity.{is_absent}
-use Rattle.rr_model.specs.Text.Rules.{is_blank, trim_start, trim_end, line_value}
+use Rattle.rr_model.specs.Text.Rules.{is_blank, trim_end, line_value}
 use Rattle.rr_model.specs.Text.UsedLines.{trim}
 use Rattle.rr_model.specs.Text.Written.{folded_rest, folded, folded_line, lines_of}
 use Rattle.rr_text.proofs.FoldedLineLemmas.{IsUnbroken}
@@ -97,7 +96,8 @@ module _ (p : ℕ → Bool) (return : p 13 ≡ true) (feed : p 10 ≡ true) (bla
   all-line : (text : List ℕ) → list_all p text ≡ true → list_all p (folded_line text) ≡ true
   unfolding folded
   all-line text h =
-      list_all-both p (folded text) (13 ∷ 10 ∷ []) (list_all-both p (take 75 text) (folded_rest (length text / 74) (drop 75 text)) (list_all-take p 75 text h)
+      list_all-both p (folded text) (13 ∷ 10 ∷ []) (list_all-both p (take 75 text) (folded_rest (length text / 74) (drop 75 text)) (list_all-take p
+      75 text h)
       (all-rest (length text / 74) (drop 75 text) (list_all-drop p 75 text h))) (all-break [] refl)
 
   all-lines : (texts : List (List ℕ)) → AllByRecursion (λ (t : List ℕ). list_all p t ≡ true) texts → list_all p (lines_of folded_line texts) ≡ true

@@ -1,5 +1,5 @@
 -- The bytes that written values are made of.
-use Rattle.std.proofs.Common.{◌≡◌, ℕ, suc, ◌^◌, ◌<◌, true, ℤ, pos, negsuc, nat_abs, List, [], ◌∷◌, ◌++◌, length, refl, ◌∙◌, arith}
+use Rattle.std.proofs.Common.{◌≡◌, ℕ, suc, ◌^◌, ◌<◌, true, ℤ, pos, negsuc, nat_abs, List, [], ◌∷◌, ◌++◌, refl, ◌∙◌, arith}
 use Rattle.std.specs.Prelude.{Bool, ◌==◌, ◌&&◌, ◌||◌, not, nat_le, codes}
 use Rattle.std.specs.Fmt.{decimal, signed_decimal}
 use Rattle.std.specs.List.{list_all, AllByRecursion, join_with_byte}
@@ -81,7 +81,8 @@ unfolding basic_text
 basic_text-words Days t h = words-from_digits (basic_date_text t) (basic_date_text-digits t h)
 basic_text-words Moments t h =
     let date = words-from_digits (basic_date_text (day_part Moments t)) (basic_date_text-digits (day_part Moments t) h) in
-    let time = words-from_digits (basic_time_text (second_part Moments t)) (basic_time_text-digits (second_part Moments t) (floor_mod_below t 86_400 (omega arith))) in
+    let time = words-from_digits (basic_time_text (second_part Moments t)) (basic_time_text-digits (second_part Moments t) (floor_mod_below t 86_400
+    (omega arith))) in
     list_all-both is_word_byte (basic_date_text (day_part Moments t) ++ codes "T") (basic_time_text (second_part Moments t))
     (list_all-both is_word_byte (basic_date_text (day_part Moments t)) (codes "T") date refl) time
 

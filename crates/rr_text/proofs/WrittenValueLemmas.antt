@@ -1,13 +1,13 @@
 -- Written numbers, weekdays and frequencies of a rule are read back (RFC 5545, section 3.3.10).
-use Rattle.std.proofs.Common.{◌≡◌, ℕ, zero, suc, ◌+◌, ◌-◌, ◌^◌, ◌<◌, ◌≤◌, Bool, true, false, ℤ, pos, negsuc, nat_abs, List, [], ◌∷◌, ◌++◌, length, take, drop}
-use Rattle.std.proofs.Common.{map, length-append, get_or, inl, inr, Option, Some, Result, Ok, Err, refl, sym, ap, ◌∙◌, arith}
-use Rattle.std.specs.Prelude.{◌==◌, ◌&&◌, ◌||◌, ◌⊎◌, nat_le, nat_lt, not, codes, if◌then◌else◌, ok_or, int_lt, int_le, slice_index}
+use Rattle.std.proofs.Common.{◌≡◌, ℕ, zero, suc, ◌-◌, ◌^◌, ◌<◌, ◌≤◌, Bool, true, false, ℤ, pos, negsuc, nat_abs, List, [], ◌∷◌, ◌++◌, length, take, drop}
+use Rattle.std.proofs.Common.{length-append, inl, inr, Some, Ok, Err, refl, sym, ap, ◌∙◌, arith}
+use Rattle.std.specs.Prelude.{◌==◌, ◌&&◌, ◌||◌, ◌⊎◌, nat_le, if◌then◌else◌, int_lt, slice_index}
 use Rattle.std.specs.Fmt.{decimal, signed_decimal}
-use Rattle.std.specs.List.{list_all, AllByRecursion}
+use Rattle.std.specs.List.{list_all}
 use Rattle.std.specs.Option.{is_some}
 use Rattle.std.specs.Ordering.{int_eq}
 use Rattle.std.specs.Str.Parse.{without_leading_sign, signed_digits_value}
-use Rattle.std.proofs.lemmas.Bool.{and_from, cond_both}
+use Rattle.std.proofs.lemmas.Bool.{and_from, or_right}
 use Rattle.std.proofs.lemmas.Bool.Decides.{nat_tests, Decides-int_eq}
 use Rattle.std.proofs.lemmas.Fmt.{decimal_is_IsNumeral}
 use Rattle.std.proofs.lemmas.Int.{ints}
@@ -16,11 +16,10 @@ use Rattle.std.proofs.lemmas.Str.Parse.{digit_at}
 use Rattle.rr_model.specs.Rising.{day_item_lt}
 use Rattle.rr_model.specs.Rule.Validity.{IsDayItem}
 use Rattle.rr_model.specs.Text.Digits.{digits_value}
-use Rattle.rr_model.specs.Text.RuleValues.{freq_named, weekday_named, is_number, is_signed_number, number_up_to, up_to, has_number_form, magnitude, number_within}
+use Rattle.rr_model.specs.Text.RuleValues.{freq_named, weekday_named, is_number, is_signed_number, number_up_to, has_number_form, magnitude, number_within}
 use Rattle.rr_model.specs.Text.RuleValues.{signed, place_text, is_day_item, place_within, day_item_within, outside, weekday_text as read_weekday_text}
 use Rattle.rr_model.specs.Text.Written.{freq_text, weekday_text, day_item_text}
-use Rattle.rr_model.specs.declared.refusal.Refusal.{Refusal}
-use Rattle.rr_model.specs.declared.refusal.Refusal.TheVariants.{BadRule, NumberRange}
+use Rattle.rr_model.specs.declared.refusal.Refusal.TheVariants.{BadRule}
 use Rattle.rr_model.specs.declared.rule.DayItem.{DayItem}
 use Rattle.rr_model.specs.declared.rule.Freq.{Freq}
 use Rattle.rr_model.specs.declared.rule.Freq.TheVariants.{Secondly, Minutely, Hourly, Daily, Weekly, Monthly, Yearly}
@@ -145,7 +144,8 @@ number_within-written line bounds z h =
   where
     read : (b : Bool) (size : ℕ) (value : ℤ) → b ≡ true → size ≡ nat_abs z → value ≡ z → nat_le bounds.least (nat_abs z) ≡ true
         → nat_le (nat_abs z) bounds.most ≡ true
-        → (if b then (if nat_le bounds.least size && nat_le size bounds.most then Ok value else Err (outside line bounds size)) else Err (BadRule line)) ≡ Ok z
+        → (if b then (if nat_le bounds.least size && nat_le size bounds.most then Ok value else Err (outside line bounds size)) else Err (BadRule
+    line)) ≡ Ok z
     read b size value e f g from to = rw (e, f, g, from, to) refl
 
 pub signed_decimal-no_comma : (z : ℤ) → nat_abs z < 2 ^ 64 → has_no 44 (signed_decimal z) ≡ true
@@ -173,10 +173,6 @@ some_place : (line : ℕ) (text : List ℕ) → is_signed_number text ≡ true �
 some_place line [] h = absurd (cc)
 some_place line (b ∷ bs) h = refl
 
-or_true : (b : Bool) → (b || true) ≡ true
-or_true true = refl
-or_true false = refl
-
 place-written : (place : ℤ) → nat_abs place ≤ 53 → IsPlaceText place (place_written place)
 place-written place h = by (int_eq place (pos 0)) refl
   where
@@ -189,7 +185,7 @@ place-written place h = by (int_eq place (pos 0)) refl
         let t = number_text place small in
         let some : 1 ≤ nat_abs place = grind (arith, ints, e) in
         record {
-          form = rw t.signed_form (or_true (length (signed_decimal place) == 0));
+          form = or_right (length (signed_decimal place) == 0) (is_signed_number (signed_decimal place)) t.signed_form;
           value = λ line. some_place line (signed_decimal place) t.signed_form
               ∙ number_within-written line (signed 53) place (record { small = small; from = some; to = h; sign = inl refl });
           words = signed_decimal-words place small;
