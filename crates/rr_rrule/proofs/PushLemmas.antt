@@ -1,5 +1,5 @@
 -- Texts that are written value by value, and lines that are folded piece by piece.
-use Rattle.std.proofs.Common.{◌≡◌, ℕ, zero, suc, ◌+◌, ◌-◌, ◌*◌, ◌/◌, ◌<◌, ◌≤◌, min, List, [], ◌∷◌, ◌++◌, length, take, drop, get_or, map, ℤ, refl, sym, ap, ◌∙◌, arith}
+use Rattle.std.proofs.Common.{◌≡◌, ℕ, zero, suc, ◌+◌, ◌*◌, ◌/◌, ◌<◌, ◌≤◌, min, List, [], ◌∷◌, ◌++◌, length, take, drop, get_or, map, ℤ, refl, sym, ap, ◌∙◌, arith}
 use Rattle.std.proofs.Common.{append_assoc, append-nil, length-drop}
 use Rattle.std.specs.Prelude.{codes}
 use Rattle.std.specs.List.{join_with_byte}
@@ -11,16 +11,18 @@ use Rattle.rr_rrule.specs.RuleTexts.{repetition_text, date_parts_text, time_part
 
 -- ---- values
 
--- values with commas between them: the first, and each other after a comma
+-- the first of some values, and each other after a comma
 join-first : {X : Type 0} (f : X → List ℕ) (x : X) (xs : List X) → join_with_byte 44 (map f (x ∷ xs)) ≡ f x ++ lines_of (λ y. 44 ∷ f y) xs
 join-first f x [] = sym (append-nil (f x))
 join-first f x (y ∷ ys) = ap (λ t. f x ++ 44 ∷ t) (join-first f y ys)
 
+-- the first value is written: the others are left
 pub first_written : {X : Type 0} (f : X → List ℕ) (old out : List ℕ) (x : X) (xs : List X) → out ≡ old ++ f x
     → out ++ lines_of (λ y. 44 ∷ f y) xs ≡ old ++ join_with_byte 44 (map f (x ∷ xs))
 first_written f old out x xs e =
     ap (λ o. o ++ lines_of (λ y. 44 ∷ f y) xs) e ∙ append_assoc old (f x) (lines_of (λ y. 44 ∷ f y) xs) ∙ ap (λ t. old ++ t) (sym (join-first f x xs))
 
+-- one value more
 pub one_written : {X : Type 0} (f : X → List ℕ) (out next all : List ℕ) (xs : List X) (i : ℕ) (x d : X) → i < length xs → x ≡ get_or xs i d
     → out ++ lines_of f (drop i xs) ≡ all → next ≡ out ++ f x → next ++ lines_of f (drop (i + 1) xs) ≡ all
 one_written f out next all xs i x d l is so_far e =
@@ -28,17 +30,20 @@ one_written f out next all xs i x d l is so_far e =
     ap (λ o. o ++ lines_of f (drop (i + 1) xs)) e ∙ append_assoc out (f x) (lines_of f (drop (i + 1) xs))
     ∙ ap (λ ys. out ++ lines_of f ys) (sym left) ∙ so_far
 
+-- one value more, after a comma
 pub after_comma : {X : Type 0} (f : X → List ℕ) (out mid next all : List ℕ) (xs : List X) (i : ℕ) (x d : X) → i < length xs → x ≡ get_or xs i d
     → out ++ lines_of (λ y. 44 ∷ f y) (drop i xs) ≡ all → mid ≡ out ++ 44 ∷ [] → next ≡ mid ++ f x
     → next ++ lines_of (λ y. 44 ∷ f y) (drop (i + 1) xs) ≡ all
 after_comma f out mid next all xs i x d l is so_far comma e =
     one_written (λ y. 44 ∷ f y) out next all xs i x d l is so_far (e ∙ ap (λ m. m ++ f x) comma ∙ append_assoc out (44 ∷ []) (f x))
 
+-- no value is left
 pub all_written : {X : Type 0} (f : X → List ℕ) (out all : List ℕ) (xs : List X) (i : ℕ) → length xs ≤ i → out ++ lines_of f (drop i xs) ≡ all → out ≡ all
 all_written f out all xs i l so_far = sym (append-nil out) ∙ ap (λ ys. out ++ lines_of f ys) (sym (drop_all i xs l)) ∙ so_far
 
 -- ---- folded lines
 
+-- what is left behind at most so many values
 drop_min : {X : Type 0} (n : ℕ) (xs : List X) → drop (min n (length xs)) xs ≡ drop n xs
 drop_min zero xs = let on : min zero (length xs) ≡ zero = omega arith in ap (λ k. drop k xs) on
 drop_min (suc n) [] = let on : min (suc n) 0 ≡ zero = omega arith in ap (λ k. drop k []) on
@@ -60,8 +65,8 @@ folded_rest-enough (suc m) (suc n) (b ∷ bs) hm hn =
 
 -- one piece more
 pub piece_written : (out next piece others rest all : List ℕ) (n : ℕ) → 0 < length rest → n ≡ min 74 (length rest) → piece ≡ take n rest
-    → others ≡ drop n rest
-    → out ++ folded_rest (length rest) rest ≡ all → next ≡ out ++ codes "\r\n " ++ piece → next ++ folded_rest (length others) others ≡ all
+    → others ≡ drop n rest → out ++ folded_rest (length rest) rest ≡ all → next ≡ out ++ codes "\r\n " ++ piece
+    → next ++ folded_rest (length others) others ≡ all
 piece_written out next piece others [] all n some en ep eo so_far e = absurd (omega (arith, some))
 piece_written out next piece others (b ∷ bs) all n some en ep eo so_far e =
     let rest : List ℕ = b ∷ bs in
@@ -76,14 +81,9 @@ piece_written out next piece others (b ∷ bs) all n some en ep eo so_far e =
     ∙ append_assoc (out ++ codes "\r\n ") (take 74 rest) after ∙ append_assoc out (codes "\r\n ") (take 74 rest ++ after) in
     moved ∙ so_far
 
--- nothing is left
-pub rest_written : (out rest all : List ℕ) → length rest ≡ 0 → out ++ folded_rest (length rest) rest ≡ all → out ≡ all
-rest_written out [] all h so_far = sym (append-nil out) ∙ so_far
-rest_written out (b ∷ bs) all h so_far = absurd (omega (arith, h))
-
 -- the first bytes, and the others on further lines
 pub line_written : (old out first others line : List ℕ) (n : ℕ) → n ≡ min 75 (length line) → first ≡ take n line → others ≡ drop n line
-    → out ≡ ((old ++ first) ++ folded_rest (length others) others) ++ line_break → out ≡ old ++ folded_line line
+    → out ≡ old ++ first ++ folded_rest (length others) others ++ line_break → out ≡ old ++ folded_line line
 unfolding folded
 line_written old out first others line n en ef eo e =
     let cut : first ≡ take 75 line = ef ∙ ap (λ k. take k line) en ∙ take_min 75 line in
@@ -95,17 +95,18 @@ line_written old out first others line n en ef eo e =
 
 -- ---- a rule and a series
 
+-- ten texts in a row, the first alone, the others in two stretches
 in_stretches : (a m w y k d h i s p : List ℕ) → a ++ m ++ w ++ y ++ k ++ d ++ h ++ i ++ s ++ p ≡ a ++ (m ++ w ++ y ++ k ++ d) ++ (h ++ i ++ s ++ p)
 in_stretches a m w y k d h i s p = simp append_assoc refl
 
+-- a rule's text, stretch by stretch
 pub rule_by_stretches : (rule : Rule) → rule_text rule ≡ repetition_text rule ++ date_parts_text rule ++ time_parts_text rule
 unfolding rule_text
 rule_by_stretches rule = in_stretches (repetition_text rule) _ _ _ _ _ _ _ _ _
 
 -- the lines of a series, one after the other
 pub series_written : (series : Series) (a b c d : List ℕ) (rules : List Rule) (plus minus : List ℤ) → rules ≡ series.rules → plus ≡ series.plus
-    → minus ≡ excluded series
-    → a ≡ date_line (codes "DTSTART") series.kind series.start → b ≡ a ++ lines_of rule_line rules
+    → minus ≡ excluded series → a ≡ date_line (codes "DTSTART") series.kind series.start → b ≡ a ++ lines_of rule_line rules
     → c ≡ b ++ lines_of (date_line (codes "RDATE") series.kind) plus → d ≡ c ++ lines_of (date_line (codes "EXDATE") series.kind) minus
     → d ≡ calendar_written series
 unfolding calendar_written

@@ -24,7 +24,7 @@ pub(crate) fn freq_text(freq: Freq) -> &'static [u8]
     }
 }
 
-/// The two letters of a weekday, from 0 for Monday.
+/// The two letters of a weekday, from 0 for Monday to 6 for Sunday.
 #[tactic(auto, unfolding(rr_model::specs::Text::Written::weekday_text))]
 pub fn weekday_text(weekday: u8) -> &'static [u8]
     ensures { result.now ≡ weekday_text weekday }

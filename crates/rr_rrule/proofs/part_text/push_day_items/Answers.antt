@@ -1,4 +1,4 @@
-use Rattle.std.proofs.Common.{◌≡◌, ◌∷◌, ◌∙◌, get_or, refl}
+use Rattle.std.proofs.Common.{◌∷◌, ◌∙◌, get_or, refl}
 use Rattle.rr_model.specs.Text.Written.{day_item_text}
 use Rattle.rr_rrule.proofs.PushLemmas.{after_comma, all_written, first_written}
 use Rattle.rr_rrule.proofs.part_text.push_day_items.Goals as goal

@@ -1,4 +1,4 @@
-use Rattle.std.proofs.Common.{◌≡◌, ◌∷◌, ◌++◌, ◌∙◌, arith, pos, rules, w64, to_z, of_z}
+use Rattle.std.proofs.Common.{◌≡◌, ◌∷◌, ◌++◌, ◌∙◌, pos, rules, w64, to_z, of_z}
 use Rattle.std.specs.Fmt.{signed_decimal}
 use Rattle.rr_rrule.proofs.PushLemmas.{after_comma, all_written, first_written}
 use Rattle.rr_rrule.proofs.part_text.push_numbers.Goals as goal

@@ -1,4 +1,4 @@
-use Rattle.std.proofs.Common.{◌≡◌, ◌∙◌, arith, rules}
+use Rattle.std.proofs.Common.{rules}
 use Rattle.rr_rrule.proofs.PushLemmas.{line_written}
 use Rattle.rr_rrule.proofs.write_line.push_folded.Goals as goal
 
