@@ -1,5 +1,5 @@
 -- A command over the bytes of its operands has one answer.
-use Rattle.std.proofs.Common.{◌≡◌, ℕ, List, Option, Some, None, sym, ap, ◌∙◌}
+use Rattle.std.proofs.Common.{◌≡◌, ℕ, Some, None, sym, ap, ◌∙◌}
 use Rattle.std.specs.Prelude.{Result}
 use Rattle.rr_fold.specs.Judged.{all_limits}
 use Rattle.rr_model.specs.Series.Cycle.{series_cycle}
@@ -7,19 +7,17 @@ use Rattle.rr_model.specs.Series.FirstRefusal.{FirstRefusalIsOne}
 use Rattle.rr_model.specs.Series.Occurrences.{Occurs}
 use Rattle.rr_model.specs.declared.refusal.Refusal.{Refusal}
 use Rattle.rr_model.specs.declared.rule.Series.{Series}
-use Rattle.rr_model.specs.declared.verdict.Side.{Side}
 use Rattle.rr_model.specs.declared.verdict.Side.TheVariants.{A, B}
-use Rattle.rr_cli.specs.Answer.{AnswerIsOne, IsAnswerOf, IsCanonSaid, IsListSaid, IsSaid, IsVerdictAnswer, cycle_said}
-use Rattle.rr_cli.specs.Command.{Command, not_built}
+use Rattle.rr_cli.specs.Answer.{AnswerIsOne, IsCanonSaid, IsListSaid, IsSaidOfOne, IsVerdictAnswer, cycle_said}
+use Rattle.rr_cli.specs.Command.{of_two, of_one, drill}
 use Rattle.rr_cli.specs.Judgement.{cycle_limit, list_limits}
 use Rattle.rr_cli.specs.Listing.{listed_text}
 use Rattle.rr_cli.specs.OperandReading.{operand_read}
 use Rattle.rr_cli.specs.Said.{Answer, IsSaidWithin}
 use Rattle.rr_cli.specs.Verdicts.{IsSaidOfBoth}
 use Rattle.rr_cli.specs.declared.command.Task.{Task}
-use Rattle.rr_cli.specs.declared.command.Task.TheVariants as task
-use Rattle.rr_cli.specs.declared.verdicts.Question.{Question}
-use Rattle.rr_cli.specs.declared.verdicts.Question.TheVariants.{Equal, Within, Disjoint}
+use Rattle.rr_cli.specs.declared.command.Task.TheVariants.{Canon, Translate, Infer, List as list, Check}
+use Rattle.rr_cli.specs.declared.command.Question.{Question}
 use Rattle.rr_cli.proofs.CanonLemmas.{canon_said_is_one}
 use Rattle.rr_cli.proofs.FirstLemmas.{first_is_one}
 use Rattle.rr_cli.proofs.JudgementLemmas.{said_within_is_one}
@@ -39,26 +37,17 @@ module _ (one : FirstRefusalIsOne) where
       said_within_is_one one A all_limits a (λ s. IsSaidWithin B all_limits b (IsSaidOfBoth question s))
       (λ s. said_within_is_one one B all_limits b (IsSaidOfBoth question s) (said_of_both_is_one question s))
 
-  -- a task over two texts has one answer
-  said_of_task_is_one : (task : Task) (a b : Result Series Refusal) (x y : Answer) → IsSaid task a b x → IsSaid task a b y → x ≡ y
-  said_of_task_is_one task.Equal a b x y p q = verdict_answer_is_one Equal a b x y p q
-  said_of_task_is_one task.Within a b x y p q = verdict_answer_is_one Within a b x y p q
-  said_of_task_is_one task.Disjoint a b x y p q = verdict_answer_is_one Disjoint a b x y p q
-  said_of_task_is_one task.Canon a b x y p q = said_within_is_one one A all_limits a IsCanonSaid canon_said_is_one x y p q
-  said_of_task_is_one task.Check a b x y p q =
-      said_within_is_one one A cycle_limit a (λ s z. z ≡ cycle_said (series_cycle s)) (λ s z w h l. h ∙ sym l) x y p q
-  said_of_task_is_one (task.Translate target) a b x y p q = p ∙ sym q
-  said_of_task_is_one task.Infer a b x y p q = p ∙ sym q
-  said_of_task_is_one (task.List count) a b x y p q =
-      said_within_is_one one A list_limits a (IsListSaid count) (list_said_is_one count) x y p q
-  said_of_task_is_one (task.Drill seed count) a b x y p q = p ∙ sym q
-
-  answer_of_is_one :
-      (command : Command) (side : Option Side) (both : List ℕ × List ℕ) (x y : Answer) → IsAnswerOf command side both x → IsAnswerOf command side both y → x ≡ y
-  answer_of_is_one command (Some side) both x y p q = p ∙ sym q
-  answer_of_is_one command None both x y p q =
-      said_of_task_is_one command.task (operand_read command.a both.0) (operand_read command.b both.1) x y p q
+  said_of_one_is_one : (task : Task) (read : Result Series Refusal) (x y : Answer) → IsSaidOfOne task read x → IsSaidOfOne task read y → x ≡ y
+  said_of_one_is_one Canon read x y p q = said_within_is_one one A all_limits read IsCanonSaid canon_said_is_one x y p q
+  said_of_one_is_one (list count) read x y p q =
+      said_within_is_one one A list_limits read (IsListSaid count) (list_said_is_one count) x y p q
+  said_of_one_is_one Check read x y p q =
+      said_within_is_one one A cycle_limit read (λ s z. z ≡ cycle_said (series_cycle s)) (λ s z w h l. h ∙ sym l) x y p q
+  said_of_one_is_one (Translate target) read x y p q = p ∙ sym q
+  said_of_one_is_one Infer read x y p q = p ∙ sym q
 
   pub answer_is_one : AnswerIsOne
-  answer_is_one None both x y p q = p ∙ sym q
-  answer_is_one (Some command) both x y p q = answer_of_is_one command (not_built command) both x y p q
+  answer_is_one None bytes x y p q = p ∙ sym q
+  answer_is_one (Some (of_two question a b)) bytes x y p q = verdict_answer_is_one question (operand_read a bytes.0) (operand_read b bytes.1) x y p q
+  answer_is_one (Some (of_one task a)) bytes x y p q = said_of_one_is_one task (operand_read a bytes) x y p q
+  answer_is_one (Some (drill seed count)) bytes x y p q = p ∙ sym q

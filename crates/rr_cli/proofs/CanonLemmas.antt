@@ -1,5 +1,5 @@
 -- What the texts tell that `canon` puts.
-use Rattle.std.proofs.Common.{◌≡◌, ℕ, List, None, Option, Some, sym, ap, subst, ◌∙◌}
+use Rattle.std.proofs.Common.{◌≡◌, ℕ, List, sym, ap, ◌∙◌}
 use Rattle.std.specs.Prelude.{Result, Ok, Err}
 use Rattle.rr_canon.proofs.AnswerLemmas.{text_of_least}
 use Rattle.rr_canon.proofs.PrintableLemmas.{descriptor_text_tells, texts_are_equal_exactly}
@@ -14,16 +14,13 @@ use Rattle.rr_model.specs.Sets.Verdict.{HaveEqualOccurrences}
 use Rattle.rr_model.specs.declared.refusal.Refusal.{Refusal}
 use Rattle.rr_model.specs.declared.rule.Series.{Series}
 use Rattle.rr_model.specs.declared.sketch.Sketch.{Sketch}
-use Rattle.rr_model.specs.declared.verdict.Side.{Side}
 use Rattle.rr_model.specs.declared.verdict.Side.TheVariants.{A}
-use Rattle.rr_cli.specs.Answer.{CanonTellsApart, IsAnswerOf, IsCanonSaid, IsSaid}
-use Rattle.rr_cli.specs.Command.{Command, not_built}
+use Rattle.rr_cli.specs.Answer.{CanonTellsApart, IsCanonSaid, PutsCanon}
+use Rattle.rr_cli.specs.Command.{Operand}
 use Rattle.rr_cli.specs.Folding.{IsFoldOf}
 use Rattle.rr_cli.specs.Judgement.{IsJudged}
 use Rattle.rr_cli.specs.OperandReading.{operand_read}
 use Rattle.rr_cli.specs.Said.{Answer, IsRefusedOr}
-use Rattle.rr_cli.specs.declared.command.Task.{Task}
-use Rattle.rr_cli.specs.declared.command.Task.TheVariants.{Canon}
 use Rattle.rr_cli.specs.declared.program.Status.TheVariants.{Yes}
 
 -- the text of the least sketch is that of a series for whose occurrences the folded sketch stands
@@ -57,20 +54,13 @@ of_judged read (Err refusal) bytes h said = let status = ap (λ (x : Answer). x.
 of_judged (Err refusal) (Ok series) bytes h said = absurd (cc)
 of_judged (Ok series) (Ok judged) bytes h said = record { series = judged; is_read = ap Ok (sym h.0); text = said.1 }
 
-of_answer :
-    (command : Command) (side : Option Side) (both : List ℕ × List ℕ) (bytes : List ℕ) → command.task ≡ Canon → IsAnswerOf command side both (done bytes)
-    → IsOfRead (operand_read command.a both.0) bytes
-of_answer command (Some side) both bytes e h = let status = ap (λ (x : Answer). x.status) h in absurd (cc)
-of_answer command None both bytes e h =
-    let a = operand_read command.a both.0 in
-    let b = operand_read command.b both.1 in
-    let said : IsSaid Canon a b (done bytes) = subst (λ (t : Task). IsSaid t a b (done bytes)) e h in
-    of_judged a said.judged bytes said.is_judged said.is_said
+of_put : (operand : Operand) (text bytes : List ℕ) → PutsCanon operand text bytes → IsOfRead (operand_read operand text) bytes
+of_put operand text bytes said = of_judged (operand_read operand text) said.judged bytes said.is_judged said.is_said
 
 pub canon_tells_apart : CanonTellsApart
-canon_tells_apart a b both_a both_b bytes_a bytes_b p q =
-    let one = of_answer a (not_built a) both_a bytes_a p.asks p.answers in
-    let other = of_answer b (not_built b) both_b bytes_b q.asks q.answers in
+canon_tells_apart a b text_a text_b bytes_a bytes_b p q =
+    let one = of_put a text_a bytes_a p in
+    let other = of_put b text_b bytes_b q in
     record {
       a = one.series;
       b = other.series;

@@ -7,7 +7,6 @@ pub mod LineLemmas
 pub mod FirstLemmas
 pub mod ListedLemmas
 pub mod SeriesLemmas
-pub mod CommandLemmas
 pub mod WordLemmas
 pub mod WorkLemmas
 pub mod RunLemmas

@@ -28,7 +28,7 @@ ends_said Refused is x old new e h a = (x, h, sym e, a)
 
 -- it is the answer to the words, over what is held
 abbrev pub IsAnswerTo : Option Command → (List ℕ → Option (List ℕ)) → Answer → Type 0
-IsAnswerTo words held x = IfSome (contents words held) (λ both. IsAnswer words both x)
+IsAnswerTo words held x = IfSome (contents words held) (λ bytes. IsAnswer words bytes x)
 
 pub answer_to : (command : Command) (words : Option Command) (held : List ℕ → Option (List ℕ)) (x : Answer) → Some command ≡ words
     → IsAnswerTo (Some command) held x → IsAnswerTo words held x
@@ -36,11 +36,11 @@ answer_to command words held x e h = subst (λ w. IsAnswerTo w held x) e h
 
 module _ (words : Option Command) (held : List ℕ
     → Option (List ℕ)) (x : Answer) (said : IsAnswerTo words held x) (bytes : List ℕ) (same : bytes ≡ x.bytes) (old new : Option (List ℕ)) where
-  pub ends_failed : AppendedPart old bytes new → IfSome (contents words held) (λ both. Ends WriteFault (IsAnswer words both) old new)
-  ends_failed part = of_some (contents words held) said (λ both is. (x, is, subst (λ b. AppendedPart old b new) same part))
+  pub ends_failed : AppendedPart old bytes new → IfSome (contents words held) (λ bytes. Ends WriteFault (IsAnswer words bytes) old new)
+  ends_failed part = of_some (contents words held) said (λ bytes is. (x, is, subst (λ b. AppendedPart old b new) same part))
 
   pub ends_done : (status : Status) (conclusion : Conclusion) → status ≡ status_of conclusion → x.status ≡ status_of conclusion → Appended old bytes new
-      → IfSome (contents words held) (λ both. Ends status (IsAnswer words both) old new)
+      → IfSome (contents words held) (λ bytes. Ends status (IsAnswer words bytes) old new)
   ends_done status conclusion e f whole =
-      subst (λ s. IfSome (contents words held) (λ both. Ends s (IsAnswer words both) old new)) (sym e) (of_some (contents words held) said (λ both is.
-      ends_said conclusion (IsAnswer words both) x old new f is (subst (λ b. Appended old b new) same whole)))
+      subst (λ s. IfSome (contents words held) (λ bytes. Ends s (IsAnswer words bytes) old new)) (sym e) (of_some (contents words held) said (λ bytes is.
+      ends_said conclusion (IsAnswer words bytes) x old new f is (subst (λ b. Appended old b new) same whole)))

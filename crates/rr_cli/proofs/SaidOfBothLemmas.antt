@@ -21,8 +21,8 @@ use Rattle.rr_cli.specs.Folding.{IsFoldOf, IsFromYearOneOn}
 use Rattle.rr_cli.specs.Printable.{IsPrintable, IsPrintableAt}
 use Rattle.rr_cli.specs.Said.{Answer, said}
 use Rattle.rr_cli.specs.Verdicts.{IsSaidOfBoth, IsVerdictTo, common_cycle}
-use Rattle.rr_cli.specs.declared.verdicts.Question.{Question}
-use Rattle.rr_cli.specs.declared.verdicts.Question.TheVariants.{Equal, Within, Disjoint}
+use Rattle.rr_cli.specs.declared.command.Question.{Question}
+use Rattle.rr_cli.specs.declared.command.Question.TheVariants.{Equal, Within, Disjoint}
 use Rattle.rr_cli.proofs.VerdictLemmas.{disjoint_verdict_is_one, disjoint_verdict_kept, equal_verdict_is_one, equal_verdict_kept, within_verdict_is_one}
 use Rattle.rr_cli.proofs.VerdictLemmas.{within_verdict_kept}
 

@@ -2,11 +2,11 @@
 -- It is no function, since a verdict speaks of all whole numbers. That there is one answer alone is a law.
 use Rattle.std.specs.Prelude.{◌≡◌, ◌↔◌, ℕ, List, ◌++◌, codes, Option, Some, None, Result, Ok}
 use Rattle.std.specs.Fmt.{decimal}
-use Rattle.rr_cli.specs.Command.{Command, not_built}
+use Rattle.rr_cli.specs.Command.{Command, Contents, Operand, of_two, of_one, drill, usage_text}
 use Rattle.rr_cli.specs.Judgement.{cycle_limit, list_limits}
 use Rattle.rr_cli.specs.Listing.{ListsFirst}
 use Rattle.rr_cli.specs.OperandReading.{operand_read}
-use Rattle.rr_cli.specs.Said.{Answer, IsSaidWithin, line, refused, usage}
+use Rattle.rr_cli.specs.Said.{Answer, IsSaidWithin, line, usage}
 use Rattle.rr_cli.specs.Verdicts.{IsSaidOfBoth}
 use Rattle.rr_fold.specs.Judged.{all_limits}
 use Rattle.rr_model.specs.Series.Cycle.{series_cycle}
@@ -14,15 +14,12 @@ use Rattle.rr_model.specs.Series.Occurrences.{Occurs}
 use Rattle.rr_model.specs.Sets.DescriptorText.{descriptor_text}
 use Rattle.rr_model.specs.Sets.Printable.{IsTextOf}
 use Rattle.rr_model.specs.Sets.Verdict.{HaveEqualOccurrences}
+use Rattle.rr_cli.specs.declared.command.Question.{Question}
 use Rattle.rr_cli.specs.declared.command.Task.{Task}
-use Rattle.rr_cli.specs.declared.command.Task.TheVariants as task
+use Rattle.rr_cli.specs.declared.command.Task.TheVariants.{Canon, Translate, Infer, List as list, Check}
 use Rattle.rr_cli.specs.declared.program.Status.TheVariants as status
-use Rattle.rr_cli.specs.declared.verdicts.Question.{Question}
-use Rattle.rr_cli.specs.declared.verdicts.Question.TheVariants as question
 use Rattle.rr_model.specs.declared.refusal.Refusal.{Refusal}
-use Rattle.rr_model.specs.declared.refusal.Refusal.TheVariants.{NotBuilt}
 use Rattle.rr_model.specs.declared.rule.Series.{Series}
-use Rattle.rr_model.specs.declared.verdict.Side.{Side}
 use Rattle.rr_model.specs.declared.verdict.Side.TheVariants.{A, B}
 
 -- ---- by command
@@ -43,40 +40,35 @@ cycle_said days = record { status = status.Yes; bytes = line (codes "cycle " ++ 
 abbrev pub IsListSaid : ℕ → Series → Answer → Type 0
 IsListSaid count series answer = (answer.status ≡ status.Yes) × ListsFirst (Occurs series series.kind) series.kind count answer.bytes
 
--- what is said of what was read of the operands, by what is asked
-abbrev pub IsSaid : Task → Result Series Refusal → Result Series Refusal → Answer → Type 0
-IsSaid task.Equal a b answer = IsVerdictAnswer question.Equal a b answer
-IsSaid task.Within a b answer = IsVerdictAnswer question.Within a b answer
-IsSaid task.Disjoint a b answer = IsVerdictAnswer question.Disjoint a b answer
-IsSaid task.Canon a b answer = IsSaidWithin A all_limits a IsCanonSaid answer
-IsSaid (task.List count) a b answer = IsSaidWithin A list_limits a (IsListSaid count) answer
-IsSaid task.Check a b answer = IsSaidWithin A cycle_limit a (λ s x. x ≡ cycle_said (series_cycle s)) answer
-IsSaid _ a b answer = answer ≡ refused A NotBuilt
+-- what is said for now of a command whose answer is not stated yet
+abbrev pub unsaid : Answer
+unsaid = record { status = status.Yes; bytes = line usage_text }
 
--- what is said of the bytes of the operands
-abbrev pub IsSaidOf : Command → List ℕ × List ℕ → Answer → Type 0
-IsSaidOf command both answer = IsSaid command.task (operand_read command.a both.0) (operand_read command.b both.1) answer
-
--- the refusal of the side that is not built, else what is said
-abbrev pub IsAnswerOf : Command → Option Side → List ℕ × List ℕ → Answer → Type 0
-IsAnswerOf command (Some side) both answer = answer ≡ refused side NotBuilt
-IsAnswerOf command None both answer = IsSaidOf command both answer
+-- what is said of what was read of one operand, by what is asked
+abbrev pub IsSaidOfOne : Task → Result Series Refusal → Answer → Type 0
+IsSaidOfOne Canon read answer = IsSaidWithin A all_limits read IsCanonSaid answer
+IsSaidOfOne (list count) read answer = IsSaidWithin A list_limits read (IsListSaid count) answer
+IsSaidOfOne Check read answer = IsSaidWithin A cycle_limit read (λ s x. x ≡ cycle_said (series_cycle s)) answer
+IsSaidOfOne (Translate target) read answer = answer ≡ unsaid
+IsSaidOfOne Infer read answer = answer ≡ unsaid
 
 -- what a command answers over the bytes of its operands
-abbrev pub IsAnswer : Option Command → List ℕ × List ℕ → Answer → Type 0
-IsAnswer None both answer = answer ≡ usage
-IsAnswer (Some command) both answer = IsAnswerOf command (not_built command) both answer
+abbrev pub IsAnswer : (command : Option Command) → Contents command → Answer → Type 0
+IsAnswer None bytes answer = answer ≡ usage
+IsAnswer (Some (of_two question a b)) bytes answer = IsVerdictAnswer question (operand_read a bytes.0) (operand_read b bytes.1) answer
+IsAnswer (Some (of_one task a)) bytes answer = IsSaidOfOne task (operand_read a bytes) answer
+IsAnswer (Some (drill seed count)) bytes answer = answer ≡ unsaid
 
 -- ---- laws
 
 -- A command over its operands' bytes has one answer.
 abbrev pub AnswerIsOne : Type 0
-AnswerIsOne = (command : Option Command) (both : List ℕ × List ℕ) (x y : Answer) → IsAnswer command both x → IsAnswer command both y → x ≡ y
+AnswerIsOne =
+    (command : Option Command) (bytes : Contents command) (x y : Answer) → IsAnswer command bytes x → IsAnswer command bytes y → x ≡ y
 
--- a command `canon` over these bytes ends with Yes, and these are the bytes that it puts
-pub record PutsCanon (command : Command) (both : List ℕ × List ℕ) (bytes : List ℕ) : Type 0 where
-  pub asks : command.task ≡ task.Canon
-  pub answers : IsAnswer (Some command) both (record { status = status.Yes; bytes = bytes })
+-- `canon` of an operand with this text ends with Yes, and these are the bytes that it puts
+abbrev pub PutsCanon : Operand → List ℕ → List ℕ → Type 0
+PutsCanon operand text bytes = IsAnswer (Some (of_one Canon operand)) text (record { status = status.Yes; bytes = bytes })
 
 -- the series that were read of the two have equal occurrences exactly where these bytes are equal
 pub record TellApart (read_a read_b : Result Series Refusal) (bytes_a bytes_b : List ℕ) : Type 0 where
@@ -89,5 +81,5 @@ pub record TellApart (read_a read_b : Result Series Refusal) (bytes_a bytes_b : 
 -- Two commands `canon` that end with Yes put equal bytes exactly where their series have equal occurrences.
 abbrev pub CanonTellsApart : Type 0
 CanonTellsApart =
-    (a b : Command) (both_a both_b : List ℕ × List ℕ) (bytes_a bytes_b : List ℕ) → PutsCanon a both_a bytes_a → PutsCanon b both_b bytes_b
-    → TellApart (operand_read a.a both_a.0) (operand_read b.a both_b.0) bytes_a bytes_b
+    (a b : Operand) (text_a text_b bytes_a bytes_b : List ℕ) → PutsCanon a text_a bytes_a → PutsCanon b text_b bytes_b
+    → TellApart (operand_read a text_a) (operand_read b text_b) bytes_a bytes_b

@@ -3,12 +3,14 @@ use Rattle.std.specs.Prelude.{◌≡◌, ◌⊎◌, ℕ, ◌≤◌, ◌+◌, ◌
 use Rattle.std.specs.Prelude.{take, Option, Some, None, option_map, option_and_then, if◌then◌else◌, bytes_eq, codes, ⊤}
 use Rattle.std.specs.List.{list_all, before_first, after_first, position_or_len}
 use Rattle.rr_model.specs.Text.Digits.{is_digit, digits_value}
+use Rattle.rr_model.specs.declared.lang.Lang.{Lang}
+use Rattle.rr_model.specs.declared.lang.Lang.TheVariants as lang
 use Rattle.rr_model.specs.declared.limits.TheConstants.{MAX_INPUT}
-use Rattle.rr_model.specs.declared.verdict.Side.{Side}
-use Rattle.rr_model.specs.declared.verdict.Side.TheVariants.{A, B}
 use Rattle.rr_cli.specs.declared.command.TheConstants.{MAX_DRILL, MAX_LIST}
 use Rattle.rr_cli.specs.declared.command.Language.{Language}
 use Rattle.rr_cli.specs.declared.command.Language.TheVariants.{Rrule, Vcal, Graph, List as list}
+use Rattle.rr_cli.specs.declared.command.Question.{Question}
+use Rattle.rr_cli.specs.declared.command.Question.TheVariants as question
 use Rattle.rr_cli.specs.declared.command.Task.{Task}
 use Rattle.rr_cli.specs.declared.command.Task.TheVariants as task
 
@@ -18,11 +20,11 @@ pub record Operand : Type 0 where
   pub offset : Option ℤ
   pub name : List ℕ
 
--- what is asked, and of which series
-pub record Command : Type 0 where
-  pub task : Task
-  pub a : Option Operand
-  pub b : Option Operand
+-- what is asked, and of which series: of two, of one, or a drill of this seed and so many series
+pub data Command : Type 0 where
+  of_two : Question → Operand → Operand → Command
+  of_one : Task → Operand → Command
+  drill : ℕ → ℕ → Command
 
 -- ---- numbers
 
@@ -92,26 +94,24 @@ operand_of word = option_and_then (λ parts. of_parts parts.0 parts.1 (split_aro
 
 -- the last word is the operand
 abbrev pub with_one : Task → List (List ℕ) → Option Command
-with_one task (a ∷ []) = option_map (λ a. record { task = task; a = Some a; b = None }) (operand_of a)
+with_one task (a ∷ []) = option_map (of_one task) (operand_of a)
 with_one task words = None
 
 -- not both are the standard input
-abbrev pub apart : Task → Operand → Operand → Option Command
-apart task a b =
-    if bytes_eq a.name (codes "-") && bytes_eq b.name (codes "-") then None
-    else Some (record { task = task; a = Some a; b = Some b })
+abbrev pub apart : Question → Operand → Operand → Option Command
+apart question a b = if bytes_eq a.name (codes "-") && bytes_eq b.name (codes "-") then None else Some (of_two question a b)
 
 -- the last two words are the operands
-abbrev pub with_two : Task → List (List ℕ) → Option Command
-with_two task (a ∷ b ∷ []) = option_and_then (λ a. option_and_then (λ b. apart task a b) (operand_of b)) (operand_of a)
-with_two task words = None
+abbrev pub with_two : Question → List (List ℕ) → Option Command
+with_two question (a ∷ b ∷ []) = option_and_then (λ a. option_and_then (λ b. apart question a b) (operand_of b)) (operand_of a)
+with_two question words = None
 
 -- the language of a translation
-abbrev pub target_of : List ℕ → Option Language
+abbrev pub target_of : List ℕ → Option Lang
 target_of text =
-    if bytes_eq text (codes "rrule") then Some Rrule
-    else if bytes_eq text (codes "vcal") then Some Vcal
-    else if bytes_eq text (codes "graph") then Some Graph
+    if bytes_eq text (codes "rrule") then Some lang.Rrule
+    else if bytes_eq text (codes "vcal") then Some lang.Vcal
+    else if bytes_eq text (codes "graph") then Some lang.Graph
     else None
 
 -- the command `translate`, by the words after it
@@ -124,24 +124,17 @@ abbrev pub listing : List (List ℕ) → Option Command
 listing (count ∷ words) = option_and_then (λ count. with_one (task.List count) words) (number_of 1 MAX_LIST count)
 listing [] = None
 
--- occurrences to list are 1 to MAX_LIST
-abbrev pub HasListCount : Task → Type 0
-HasListCount (task.List count) = (1 ≤ count) × (count ≤ MAX_LIST)
-HasListCount _ = ⊤
-
 -- the command `drill`, by the words after it
 abbrev pub drilling : List (List ℕ) → Option Command
-drilling (seed ∷ count ∷ []) =
-    option_and_then (λ seed. option_map (λ count. record { task = task.Drill seed count; a = None; b = None })
-    (number_of 1 MAX_DRILL count)) (number_of 0 4294967295 seed)
+drilling (seed ∷ count ∷ []) = option_and_then (λ seed. option_map (drill seed) (number_of 1 MAX_DRILL count)) (number_of 0 4294967295 seed)
 drilling words = None
 
 -- the command of this name, with the words after it
 abbrev pub named_command : List ℕ → List (List ℕ) → Option Command
 named_command name words =
-    if bytes_eq name (codes "equal") then with_two task.Equal words
-    else if bytes_eq name (codes "within") then with_two task.Within words
-    else if bytes_eq name (codes "disjoint") then with_two task.Disjoint words
+    if bytes_eq name (codes "equal") then with_two question.Equal words
+    else if bytes_eq name (codes "within") then with_two question.Within words
+    else if bytes_eq name (codes "disjoint") then with_two question.Disjoint words
     else if bytes_eq name (codes "canon") then with_one task.Canon words
     else if bytes_eq name (codes "translate") then translation words
     else if bytes_eq name (codes "infer") then with_one task.Infer words
@@ -155,55 +148,45 @@ unfoldable pub command_of : List (List ℕ) → Option Command
 command_of [] = None
 command_of (name ∷ words) = named_command name words
 
+-- occurrences to list are 1 to MAX_LIST
+abbrev pub HasListCount : Task → Type 0
+HasListCount (task.List count) = (1 ≤ count) × (count ≤ MAX_LIST)
+HasListCount _ = ⊤
+
+-- a seed has at most 32 bits, and series to draw are 1 to MAX_DRILL
+abbrev pub HasNumbers : Command → Type 0
+HasNumbers (of_two question a b) = ⊤
+HasNumbers (of_one task a) = HasListCount task
+HasNumbers (drill seed count) = (seed ≤ 4294967295) × (1 ≤ count) × (count ≤ MAX_DRILL)
+
 -- the line that is said of words that are no command
 abbrev pub usage_text : List ℕ
 usage_text =
     codes "usage: rr equal A B | within A B | disjoint A B | canon A | translate LANG A | infer A | list N A | check A | drill SEED N"
 
--- ---- what is built
-
--- what can be asked so far
-abbrev pub is_task_built : Task → Bool
-is_task_built task.Equal = true
-is_task_built task.Within = true
-is_task_built task.Disjoint = true
-is_task_built task.Canon = true
-is_task_built (task.List n) = true
-is_task_built task.Check = true
-is_task_built _ = false
-
--- a command that is not built yet is refused as A
-unfoldable pub not_built : Command → Option Side
-not_built command = if is_task_built command.task then None else Some A
-
 -- ---- what is fetched
 
--- it is the name of this operand
-abbrev pub IsNameOf : Option Operand → List ℕ → Type 0
-IsNameOf None name = ⊥
-IsNameOf (Some operand) name = name ≡ operand.name
-
--- the first MAX_INPUT + 1 bytes under the operand's name, none where it is absent; None where the source does not tell them
-abbrev pub content : (List ℕ → Option (List ℕ)) → Option Operand → Option (List ℕ)
-content held None = Some []
-content held (Some operand) = option_map (take (MAX_INPUT + 1)) (held operand.name)
-
--- it is the name of an operand; those of a command that is not built are not fetched
-abbrev pub IsFetched : Command → Option Side → List ℕ → Type 0
-IsFetched command None name = IsNameOf command.a name ⊎ IsNameOf command.b name
-IsFetched command (Some side) name = ⊥
-
--- it is the name of an operand that is fetched
+-- it is the name of an operand
 abbrev pub IsOperandOf : Option Command → List ℕ → Type 0
 IsOperandOf None name = ⊥
-IsOperandOf (Some command) name = IsFetched command (not_built command) name
+IsOperandOf (Some (of_two question a b)) name = (name ≡ a.name) ⊎ (name ≡ b.name)
+IsOperandOf (Some (of_one task a)) name = name ≡ a.name
+IsOperandOf (Some (drill seed count)) name = ⊥
 
--- the bytes of both operands
-abbrev pub both_contents : Command → Option Side → (List ℕ → Option (List ℕ)) → Option (List ℕ × List ℕ)
-both_contents command None held = option_and_then (λ a. option_map (λ b. (a, b)) (content held command.b)) (content held command.a)
-both_contents command (Some side) held = Some ([], [])
+-- the bytes of as many operands as the words have
+abbrev pub Contents : Option Command → Type 0
+Contents None = ⊤
+Contents (Some (of_two question a b)) = List ℕ × List ℕ
+Contents (Some (of_one task a)) = List ℕ
+Contents (Some (drill seed count)) = ⊤
 
--- the bytes of the operands that are fetched; None where the source does not tell them
-abbrev pub contents : Option Command → (List ℕ → Option (List ℕ)) → Option (List ℕ × List ℕ)
-contents None held = Some ([], [])
-contents (Some command) held = both_contents command (not_built command) held
+-- the first MAX_INPUT + 1 bytes under the operand's name; None where the source does not tell them
+abbrev pub content : (List ℕ → Option (List ℕ)) → Operand → Option (List ℕ)
+content held operand = option_map (take (MAX_INPUT + 1)) (held operand.name)
+
+-- the bytes of the operands; None where the source does not tell them
+abbrev pub contents : (command : Option Command) → (List ℕ → Option (List ℕ)) → Option (Contents command)
+contents None held = Some tt
+contents (Some (of_two question a b)) held = option_and_then (λ x. option_map (λ y. (x, y)) (content held b)) (content held a)
+contents (Some (of_one task a)) held = content held a
+contents (Some (drill seed count)) held = Some tt

@@ -1,5 +1,5 @@
 -- What is read of the bytes of an operand: its series, or the refusal.
-use Rattle.std.specs.Prelude.{ℕ, nat_lt, if◌then◌else◌, ℤ, List, length, Option, Some, None, Result, Ok, Err}
+use Rattle.std.specs.Prelude.{ℕ, nat_lt, if◌then◌else◌, ℤ, List, length, Option, Result, Ok, Err}
 use Rattle.rr_cli.specs.Command.{Operand}
 use Rattle.rr_cli.specs.declared.command.Language.{Language}
 use Rattle.rr_cli.specs.declared.command.Language.TheVariants.{Rrule, Vcal, Graph, List as list}
@@ -12,7 +12,7 @@ use Rattle.rr_model.specs.Vcal.Counterpart.{series_of_vseries}
 use Rattle.rr_model.specs.Vcal.Reading.{reads_vcal}
 use Rattle.rr_model.specs.declared.limits.TheConstants.{MAX_INPUT}
 use Rattle.rr_model.specs.declared.refusal.Refusal.{Refusal}
-use Rattle.rr_model.specs.declared.refusal.Refusal.TheVariants.{TooLong, NotBuilt}
+use Rattle.rr_model.specs.declared.refusal.Refusal.TheVariants.{TooLong}
 use Rattle.rr_model.specs.declared.rule.Series.{Series}
 
 -- what the bytes state in this language, as a series of RFC 5545, beside the stated offset from UTC in seconds, which a list does not use
@@ -22,11 +22,6 @@ reads list offset bytes = reads_list bytes
 reads Vcal offset bytes = reads_vcal offset bytes >>= λ series. Ok (series_of_vseries series)
 reads Graph offset bytes = reads_graph offset bytes >>= λ event. Ok (series_of_graph event)
 
--- the same, where there are not too many bytes
-unfoldable pub reads_within : Language → Option ℤ → List ℕ → Result Series Refusal
-reads_within language offset bytes = if nat_lt MAX_INPUT (length bytes) then Err TooLong else reads language offset bytes
-
--- the series of an operand; one that is absent states none
-abbrev pub operand_read : Option Operand → List ℕ → Result Series Refusal
-operand_read None bytes = Err NotBuilt
-operand_read (Some operand) bytes = reads_within operand.language operand.offset bytes
+-- the series of an operand, whose text has not too many bytes
+unfoldable pub operand_read : Operand → List ℕ → Result Series Refusal
+operand_read operand bytes = if nat_lt MAX_INPUT (length bytes) then Err TooLong else reads operand.language operand.offset bytes

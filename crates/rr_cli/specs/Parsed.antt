@@ -1,8 +1,9 @@
 -- What the values of the program mean: words, operands and commands.
-use Rattle.std.specs.Prelude.{ℕ, List, map, option_map}
+use Rattle.std.specs.Prelude.{ℕ, List, map}
 use Rattle.std.specs.Borrow.{Bor}
-use Rattle.rr_cli.specs.Command.{Command, Operand}
+use Rattle.rr_cli.specs.Command.{Command, Operand, of_two, of_one, drill}
 use Rattle.rr_cli.specs.declared.command.Command.{Command as Parsed}
+use Rattle.rr_cli.specs.declared.command.Command.TheVariants.{OfTwo, OfOne, Drill}
 use Rattle.rr_cli.specs.declared.command.Operand.{Operand as ParsedOperand}
 
 -- the texts that the words are
@@ -15,4 +16,6 @@ operand_in operand = record { language = operand.language; offset = operand.offs
 
 -- the command that a value of the program is
 abbrev pub command_in : Parsed → Command
-command_in command = record { task = command.task; a = option_map operand_in command.a; b = option_map operand_in command.b }
+command_in (OfTwo question a b) = of_two question (operand_in a) (operand_in b)
+command_in (OfOne task a) = of_one task (operand_in a)
+command_in (Drill seed count) = drill seed count

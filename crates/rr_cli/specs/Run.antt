@@ -14,8 +14,12 @@ Ends NoMemory is old new = new ≡ old
 Ends WriteFault is old new = (answer : Answer) × is answer × AppendedPart old answer.bytes new
 Ends status is old new = (answer : Answer) × is answer × (status ≡ answer.status) × Appended old answer.bytes new
 
+-- the names of failed fetches gained that of an operand
+abbrev pub GainsOperand : Option Command → List (List ℕ) → List (List ℕ) → Type 0
+GainsOperand command failed failed' = (name : List ℕ) × IsOperandOf command name × (failed' ≡ failed ++ name ∷ [])
+
 -- The cause of each status: which names of failed fetches and which count of faults the run left as they were, and which it raised.
 abbrev pub HasCause : Status → Option Command → List (List ℕ) → List (List ℕ) → ℕ → ℕ → Type 0
-HasCause ReadFault command failed failed' faults faults' = ((name : List ℕ) × IsOperandOf command name × (failed' ≡ failed ++ name ∷ [])) × (faults' ≡ faults)
+HasCause ReadFault command failed failed' faults faults' = GainsOperand command failed failed' × (faults' ≡ faults)
 HasCause WriteFault command failed failed' faults faults' = (failed' ≡ failed) × RoseOrIsLast faults faults'
 HasCause status command failed failed' faults faults' = (failed' ≡ failed) × (faults' ≡ faults)

@@ -11,8 +11,8 @@ use Rattle.rr_model.specs.declared.rule.Series.{Series}
 use Rattle.rr_model.specs.declared.verdict.Side.TheVariants.{Both}
 use Rattle.rr_model.specs.declared.verdict.Verdict.{Verdict}
 use Rattle.rr_cli.specs.Said.{Answer, refused, said}
-use Rattle.rr_cli.specs.declared.verdicts.Question.{Question}
-use Rattle.rr_cli.specs.declared.verdicts.Question.TheVariants.{Equal, Within, Disjoint}
+use Rattle.rr_cli.specs.declared.command.Question.{Question}
+use Rattle.rr_cli.specs.declared.command.Question.TheVariants.{Equal, Within, Disjoint}
 
 -- the verdict that is asked for
 abbrev pub IsVerdictTo : Question → Occurrences → Occurrences → Verdict → Type 0

@@ -1,5 +1,5 @@
 // Series that were read and are sound, with a cycle within the limit.
-ghost use Rattle.std.specs.Prelude.{IfErr, IfOk, IsTrue, option_map};
+ghost use Rattle.std.specs.Prelude.{IfErr, IfOk, IsTrue};
 ghost use Rattle.rr_model.specs.Series.FirstRefusal.{Limits};
 ghost use Rattle.rr_cli.specs.Judgement.{IsAdmitted, IsFault};
 ghost use Rattle.rr_cli.specs.OperandReading.{operand_read};
@@ -23,13 +23,9 @@ pub struct Admitted {
 /// Reads the series of an operand's bytes and judges what each command judges first.
 ///
 /// The refusal is that of the text, else that of the first rule which does not fit the start, else CycleTooLong.
-pub fn read_admitted(
-    alloc: Global,
-    operand: Option<Operand>,
-    bytes: &[u8],
-) -> Result<Admitted, Fault>
-    ensures accepted { IfOk result (λ x. IsAdmitted (operand_read (option_map operand_in operand.entry) bytes.now) x.series x.cycle) }
-    ensures refused { IfErr result (λ fault. (limits : Limits) → IsTrue limits.cycle → IsFault limits (operand_read (option_map operand_in operand.entry) bytes.now) fault) }
+pub fn read_admitted(alloc: Global, operand: Operand, bytes: &[u8]) -> Result<Admitted, Fault>
+    ensures accepted { IfOk result (λ x. IsAdmitted (operand_read (operand_in operand.entry) bytes.now) x.series x.cycle) }
+    ensures refused { IfErr result (λ fault. (limits : Limits) → IsTrue limits.cycle → IsFault limits (operand_read (operand_in operand.entry) bytes.now) fault) }
 {
     let series = read_operand(alloc, operand, bytes)?;
     let series = check(series)?;

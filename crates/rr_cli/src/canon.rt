@@ -1,5 +1,5 @@
 // What `canon` says of an operand.
-ghost use Rattle.std.specs.Prelude.{◌≡◌, IfOk, option_map};
+ghost use Rattle.std.specs.Prelude.{◌≡◌, IfOk};
 ghost use Rattle.rr_fold.specs.Judged.{all_limits};
 ghost use Rattle.rr_model.specs.Series.Occurrences.{Occurs};
 ghost use Rattle.rr_model.specs.Sets.DescriptorText.{descriptor_text};
@@ -33,12 +33,8 @@ fn canonical_text(alloc: Global, days: &Folded) -> Result<Vec<u8>, NoMemory>
 }
 
 /// What is said of an operand's bytes: why its text or its series is refused, or the canonical text of its occurrences.
-pub fn canon_outcome(
-    alloc: Global,
-    operand: Option<Operand>,
-    bytes: &[u8],
-) -> Result<Outcome, NoMemory>
-    ensures { IfOk result (λ x. IsSaidWithin A all_limits (operand_read (option_map operand_in operand.entry) bytes.now) IsCanonSaid (answer_of x)) }
+pub fn canon_outcome(alloc: Global, operand: Operand, bytes: &[u8]) -> Result<Outcome, NoMemory>
+    ensures { IfOk result (λ x. IsSaidWithin A all_limits (operand_read (operand_in operand.entry) bytes.now) IsCanonSaid (answer_of x)) }
 {
     match read_folded(alloc, operand, bytes) {
         Err(fault) => refused_for(alloc, Side::A, fault),

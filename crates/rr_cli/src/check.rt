@@ -1,5 +1,5 @@
 // What `check` says of an operand.
-ghost use Rattle.std.specs.Prelude.{◌≡◌, IfOk, option_map};
+ghost use Rattle.std.specs.Prelude.{◌≡◌, IfOk};
 ghost use Rattle.rr_model.specs.Series.Cycle.{series_cycle};
 ghost use Rattle.rr_model.specs.declared.verdict.Side.TheVariants.{A};
 ghost use Rattle.rr_cli.specs.Answer.{cycle_said};
@@ -27,12 +27,8 @@ fn cycle_outcome(alloc: Global, days: u64) -> Result<Outcome, NoMemory>
 }
 
 /// What is said of an operand's bytes: why its text or its series is refused, or its cycle in days.
-pub fn check_outcome(
-    alloc: Global,
-    operand: Option<Operand>,
-    bytes: &[u8],
-) -> Result<Outcome, NoMemory>
-    ensures { IfOk result (λ x. IsSaidWithin A cycle_limit (operand_read (option_map operand_in operand.entry) bytes.now) (λ s y. y ≡ cycle_said (series_cycle s)) (answer_of x)) }
+pub fn check_outcome(alloc: Global, operand: Operand, bytes: &[u8]) -> Result<Outcome, NoMemory>
+    ensures { IfOk result (λ x. IsSaidWithin A cycle_limit (operand_read (operand_in operand.entry) bytes.now) (λ s y. y ≡ cycle_said (series_cycle s)) (answer_of x)) }
 {
     match read_admitted(alloc, operand, bytes) {
         Err(fault) => refused_for(alloc, Side::A, fault),

@@ -1,9 +1,5 @@
 // The commands of the program and their operands.
-ghost use Rattle.std.specs.Prelude.{◌≡◌, option_map};
-ghost use Rattle.rr_cli.specs.Command.{is_task_built, not_built};
-ghost use Rattle.rr_cli.specs.Parsed.{command_in, operand_in};
-
-use rr_model::Side;
+use rr_model::Lang;
 
 /// The most occurrences that `list` prints.
 pub const MAX_LIST: u64 = 100_000;
@@ -35,57 +31,49 @@ pub struct Operand<'a> {
     pub name: &'a str,
 }
 
-/// What is asked.
+/// What is asked of two series.
+#[derive(Clone, Copy)]
+pub enum Question {
+    /// Whether they have the same occurrences.
+    Equal,
+    /// Whether each occurrence of the first is one of the second.
+    Within,
+    /// Whether they have no occurrence in common.
+    Disjoint,
+}
+
+/// What is asked of one series.
 #[derive(Clone, Copy)]
 pub enum Task {
-    /// Whether two series have the same occurrences.
-    Equal,
-    /// Whether each occurrence of A is one of B.
-    Within,
-    /// Whether two series have no occurrence in common.
-    Disjoint,
-    /// The descriptor of a series.
+    /// Its descriptor.
     Canon,
-    /// A series in another language, which is not `List`.
-    Translate(Language),
-    /// A rule that has the occurrences of a series.
+    /// Its text in this language.
+    Translate(Lang),
+    /// A rule that has its occurrences.
     Infer,
-    /// The first occurrences of a series, 1 to `MAX_LIST` of them.
+    /// Its first occurrences, 1 to `MAX_LIST` of them.
     List(u64),
-    /// Whether a series is sound, and how long its cycle is.
+    /// Whether it is sound, and how long its cycle is.
     Check,
-    /// Verdicts on drawn series: the seed, up to 4,294,967,295, and their count, 1 to `MAX_DRILL`.
-    Drill(u64, u64),
 }
 
 /// What is asked, and of which series.
 #[derive(Clone, Copy)]
-pub struct Command<'a> {
-    /// What is asked.
-    pub task: Task,
-    /// The first operand, where there is one.
-    pub a: Option<Operand<'a>>,
-    /// The second operand, where there is one.
-    pub b: Option<Operand<'a>>,
-}
-
-fn is_task_built(task: Task) -> bool
-    ensures { result ≡ is_task_built task }
-{
-    matches!(
-        task,
-        Task::Equal | Task::Within | Task::Disjoint | Task::Canon | Task::List(_) | Task::Check
-    )
-}
-
-/// The side on which a command is refused that is not built yet.
-#[tactic(auto, unfolding(crate::specs::Command::not_built))]
-pub fn not_built(command: Command) -> Option<Side>
-    ensures { result ≡ not_built (command_in command.entry) }
-{
-    if is_task_built(command.task) {
-        None
-    } else {
-        Some(Side::A)
-    }
+pub enum Command<'a> {
+    /// What is asked of A and B.
+    OfTwo {
+        question: Question,
+        a: Operand<'a>,
+        b: Operand<'a>,
+    },
+    /// What is asked of A alone.
+    OfOne {
+        task: Task,
+        a: Operand<'a>,
+    },
+    /// Verdicts on drawn series: the seed, up to 4,294,967,295, and their count, 1 to `MAX_DRILL`.
+    Drill {
+        seed: u64,
+        count: u64,
+    },
 }

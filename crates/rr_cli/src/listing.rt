@@ -1,5 +1,5 @@
 // What `list` says of an operand.
-ghost use Rattle.std.specs.Prelude.{◌≡◌, ◌⊎◌, ◌++◌, ◌<◌, ◌≤◌, ◌+ℤ◌, ◌≤ℤ◌, pos, map, All, IfErr, IfOk, IsTrue, OnOk, option_map};
+ghost use Rattle.std.specs.Prelude.{◌≡◌, ◌⊎◌, ◌++◌, ◌<◌, ◌≤◌, ◌+ℤ◌, ◌≤ℤ◌, pos, map, All, IfErr, IfOk, IsTrue, OnOk};
 ghost use Rattle.rr_model.specs.Calendar.{IsDayWithin};
 ghost use Rattle.rr_model.specs.Moment.{day_part, moment_at};
 ghost use Rattle.rr_model.specs.Moment.Years.{IsFromYearOne};
@@ -125,14 +125,14 @@ fn series_lines(
 // The lines of the first occurrences of an operand's series, so many, or why its text or its series is refused.
 fn operand_lines(
     alloc: Global,
-    operand: Option<Operand>,
+    operand: Operand,
     bytes: &[u8],
     count: u64,
 ) -> Result<Vec<u8>, Fault>
     requires some { 1 ≤ count }
     requires few { count ≤ MAX_LIST }
-    ensures listed { IfOk result (λ text. IsListedFrom count (operand_read (option_map operand_in operand.entry) bytes.now) text.items) }
-    ensures refused { IfErr result (IsFault list_limits (operand_read (option_map operand_in operand.entry) bytes.now)) }
+    ensures listed { IfOk result (λ text. IsListedFrom count (operand_read (operand_in operand.entry) bytes.now) text.items) }
+    ensures refused { IfErr result (IsFault list_limits (operand_read (operand_in operand.entry) bytes.now)) }
 {
     let admitted = read_admitted(alloc, operand, bytes)?;
     let settled = match ends(alloc, &admitted.series) {
@@ -147,13 +147,13 @@ fn operand_lines(
 /// They are as many as is asked, from 1 to `MAX_LIST`, or all if there are fewer.
 pub fn list_outcome(
     alloc: Global,
-    operand: Option<Operand>,
+    operand: Operand,
     bytes: &[u8],
     count: u64,
 ) -> Result<Outcome, NoMemory>
     requires some { 1 ≤ count }
     requires few { count ≤ MAX_LIST }
-    ensures { IfOk result (λ x. IsSaidWithin A list_limits (operand_read (option_map operand_in operand.entry) bytes.now) (IsListSaid count) (answer_of x)) }
+    ensures { IfOk result (λ x. IsSaidWithin A list_limits (operand_read (operand_in operand.entry) bytes.now) (IsListSaid count) (answer_of x)) }
 {
     match operand_lines(alloc, operand, bytes, count) {
         Err(fault) => refused_for(alloc, Side::A, fault),

@@ -1,8 +1,8 @@
 // What is read of an operand.
-ghost use Rattle.std.specs.Prelude.{IfOk, option_map};
+ghost use Rattle.std.specs.Prelude.{IfOk};
 ghost use Rattle.rr_model.specs.Answers.{Answers};
 ghost use Rattle.rr_model.specs.Series.Validity.{IsValidSeries};
-ghost use Rattle.rr_cli.specs.OperandReading.{operand_read, reads, reads_within};
+ghost use Rattle.rr_cli.specs.OperandReading.{operand_read, reads};
 ghost use Rattle.rr_cli.specs.Parsed.{operand_in};
 ghost use Rattle.rr_cli.specs.declared.command.Language.TheVariants.{Graph, Vcal};
 
@@ -47,31 +47,15 @@ fn read(
     }
 }
 
-// The same, where there are not too many bytes.
-#[tactic(auto, unfolding(crate::specs::OperandReading::reads_within))]
-fn read_within(
-    alloc: Global,
-    language: Language,
-    offset: Option<i32>,
-    bytes: &[u8],
-) -> Result<Series, Fault>
-    ensures answers { Answers (reads_within language offset bytes.now) result }
+/// The series of an operand, or why its text is refused: `TooLong` above `MAX_INPUT` bytes, then what the reader of its
+/// language refuses.
+#[tactic(auto, unfolding(crate::specs::OperandReading::operand_read))]
+pub fn read_operand(alloc: Global, operand: Operand, bytes: &[u8]) -> Result<Series, Fault>
+    ensures answers { Answers (operand_read (operand_in operand.entry) bytes.now) result }
     ensures valid { IfOk result IsValidSeries }
 {
     if bytes.len() > MAX_INPUT {
         return Err(Fault::Refused(Refusal::TooLong));
     }
-    read(alloc, language, offset, bytes)
-}
-
-/// The series of an operand, or why its text is refused: `TooLong` above `MAX_INPUT` bytes, then what the reader of its
-/// language refuses. No operand at all is refused as NotBuilt.
-pub fn read_operand(alloc: Global, operand: Option<Operand>, bytes: &[u8]) -> Result<Series, Fault>
-    ensures answers { Answers (operand_read (option_map operand_in operand.entry) bytes.now) result }
-    ensures valid { IfOk result IsValidSeries }
-{
-    match operand {
-        None => Err(Fault::Refused(Refusal::NotBuilt)),
-        Some(operand) => read_within(alloc, operand.language, operand.offset, bytes),
-    }
+    read(alloc, operand.language, operand.offset, bytes)
 }

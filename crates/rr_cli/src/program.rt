@@ -53,7 +53,7 @@ pub fn run<S: Source, K: Sink>(
     sink: &mut K,
 ) -> Status
     // What is put is the answer to the words over the bytes that the source holds, and the status is the answer's.
-    ensures answer { IfSome (contents (command_of (words_of words.now)) (S.held source.old)) (λ both. Ends result (IsAnswer (command_of (words_of words.now)) both) (K.written sink.old) (K.written sink.new)) }
+    ensures answer { IfSome (contents (command_of (words_of words.now)) (S.held source.old)) (λ bytes. Ends result (IsAnswer (command_of (words_of words.now)) bytes) (K.written sink.old) (K.written sink.new)) }
 
     // A fault is answered only where the fetch of an operand or the put has failed, and then that alone.
     ensures cause { HasCause result (command_of (words_of words.now)) (S.failed source.old) (S.failed source.new) (K.faults sink.old) (K.faults sink.new) }
@@ -64,7 +64,7 @@ pub fn run<S: Source, K: Sink>(
 
     // Where nothing failed the answer comes, but for want of memory.
     ensures complete { S.failed source.new ≡ S.failed source.old → (RoseOrIsLast (K.faults sink.old) (K.faults sink.new) → ⊥)
-        → IfSome (contents (command_of (words_of words.now)) (S.held source.old)) (λ both. (result ≡ Status.NoMemory) ⊎ ((answer : Answer) × IsAnswer (command_of (words_of words.now)) both answer × (result ≡ answer.status))) }
+        → IfSome (contents (command_of (words_of words.now)) (S.held source.old)) (λ bytes. (result ≡ Status.NoMemory) ⊎ ((answer : Answer) × IsAnswer (command_of (words_of words.now)) bytes answer × (result ≡ answer.status))) }
 {
     let Some(command) = parse(words) else {
         return match sink.put(USAGE) {

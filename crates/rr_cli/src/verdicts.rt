@@ -8,10 +8,10 @@ ghost use Rattle.rr_cli.specs.Answer.{IsVerdictAnswer};
 ghost use Rattle.rr_cli.specs.Folding.{IsFoldOf, IsFromYearOneOn};
 ghost use Rattle.rr_cli.specs.OperandReading.{operand_read};
 ghost use Rattle.rr_cli.specs.Outcome.{answer_of};
-ghost use Rattle.rr_cli.specs.Parsed.{command_in};
+ghost use Rattle.rr_cli.specs.Parsed.{operand_in};
 ghost use Rattle.rr_cli.specs.Verdicts.{IsSaidOfBoth, IsVerdictTo};
 
-use crate::command::Command;
+use crate::command::{Operand, Question};
 use crate::folding::read_folded;
 use crate::outcome::{Outcome, refused, refused_for, said};
 use rr_decide::{disjoint, equal, within};
@@ -20,17 +20,6 @@ use rr_model::{MAX_CYCLE_DAYS, NoMemory, Refusal, Side, Verdict};
 use rr_num::lcm_within;
 use rr_word::DaySeq;
 use std::alloc::Global;
-
-/// What is asked of two series.
-#[derive(Clone, Copy)]
-pub enum Question {
-    /// Whether they have the same occurrences.
-    Equal,
-    /// Whether each occurrence of the first is one of the second.
-    Within,
-    /// Whether they have no occurrence in common.
-    Disjoint,
-}
 
 // Whether two series repeat together within the limit.
 fn repeat_together(a: &Folded, b: &Folded) -> bool
@@ -70,23 +59,24 @@ fn said_of_both(
     said(alloc, verdict(question, a, b))
 }
 
-/// What is said of the bytes of a command's two operands: the refusal of A, else that of B, else that of both, else the verdict.
+/// What is said of the bytes of two operands: the refusal of A, else that of B, else that of both, else the verdict.
 ///
 /// Nothing of B is read where A is refused.
 pub fn verdict_outcome(
     alloc: Global,
     question: Question,
-    command: Command,
-    a: &[u8],
-    b: &[u8],
+    a: Operand,
+    text_a: &[u8],
+    b: Operand,
+    text_b: &[u8],
 ) -> Result<Outcome, NoMemory>
-    ensures { IfOk result (λ x. IsVerdictAnswer question (operand_read (command_in command.entry).a a.now) (operand_read (command_in command.entry).b b.now) (answer_of x)) }
+    ensures { IfOk result (λ x. IsVerdictAnswer question (operand_read (operand_in a.entry) text_a.now) (operand_read (operand_in b.entry) text_b.now) (answer_of x)) }
 {
-    let a = match read_folded(alloc, command.a, a) {
+    let a = match read_folded(alloc, a, text_a) {
         Err(fault) => return refused_for(alloc, Side::A, fault),
         Ok(days) => days,
     };
-    match read_folded(alloc, command.b, b) {
+    match read_folded(alloc, b, text_b) {
         Err(fault) => refused_for(alloc, Side::B, fault),
         Ok(b) => said_of_both(alloc, question, &a, &b),
     }

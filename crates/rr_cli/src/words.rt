@@ -2,10 +2,11 @@
 ghost use Rattle.std.specs.Prelude.{◌≡◌, ◌<◌, ◌≤◌, IfSome, option_map};
 ghost use Rattle.std.specs.List.{list_all};
 ghost use Rattle.rr_model.specs.Text.Digits.{is_digit};
-ghost use Rattle.rr_cli.specs.Command.{apart, command_of, drilling, is_decimal, language_of, listing, named, named_command, number_of, of_parts, offset_of, operand_of, signed, split_around, target_of, translation, two_digits, with_offset, with_one, with_two};
+ghost use Rattle.rr_cli.specs.Command.{HasListCount, HasNumbers, apart, command_of, drilling, is_decimal, language_of, listing, named, named_command, number_of, of_parts, offset_of, operand_of, signed, split_around, target_of, translation, two_digits, with_offset, with_one, with_two};
 ghost use Rattle.rr_cli.specs.Parsed.{words_of, command_in, operand_in};
 
-use crate::command::{Command, Language, MAX_DRILL, MAX_LIST, Operand, Task};
+use crate::command::{Command, Language, MAX_DRILL, MAX_LIST, Operand, Question, Task};
+use rr_model::Lang;
 use rr_text::number;
 
 /// What is said of words that are no command.
@@ -32,7 +33,8 @@ fn is_decimal(text: &[u8]) -> bool
 #[tactic(auto, unfolding(crate::specs::Command::number_of))]
 fn number_of(least: u64, most: u64, text: &str) -> Option<u64>
     requires { most ≤ 4_294_967_295 }
-    ensures { result ≡ number_of least most text.now }
+    ensures number { result ≡ number_of least most text.now }
+    ensures within { IfSome result (λ n. (least ≤ n) × (n ≤ most)) }
 {
     let digits = text.as_bytes();
     if !is_decimal(digits) {
@@ -72,13 +74,13 @@ fn language_of(text: &str) -> Option<Language>
 }
 
 // The language of a translation.
-fn target_of(text: &str) -> Option<Language>
+fn target_of(text: &str) -> Option<Lang>
     ensures { result ≡ target_of text.now }
 {
     match text {
-        "rrule" => Some(Language::Rrule),
-        "vcal" => Some(Language::Vcal),
-        "graph" => Some(Language::Graph),
+        "rrule" => Some(Lang::Rrule),
+        "vcal" => Some(Lang::Vcal),
+        "graph" => Some(Lang::Graph),
         _ => None,
     }
 }
@@ -159,48 +161,48 @@ fn operand_of(word: &str) -> Option<Operand>
 }
 
 // Not both are the standard input.
-fn apart<'a>(task: Task, a: Operand<'a>, b: Operand<'a>) -> Option<Command<'a>>
-    ensures { option_map command_in result ≡ apart task (operand_in a.entry) (operand_in b.entry) }
+fn apart<'a>(question: Question, a: Operand<'a>, b: Operand<'a>) -> Option<Command<'a>>
+    ensures command { option_map command_in result ≡ apart question (operand_in a.entry) (operand_in b.entry) }
+    ensures numbers { IfSome result (λ c. HasNumbers (command_in c)) }
 {
     if a.name == "-" && b.name == "-" {
         None
     } else {
-        Some(Command {
-            task,
-            a: Some(a),
-            b: Some(b),
-        })
+        Some(Command::OfTwo { question, a, b })
     }
 }
 
 fn with_one<'a>(task: Task, words: &[&'a str]) -> Option<Command<'a>>
-    ensures { option_map command_in result ≡ with_one task (words_of words.now) }
+    requires { HasListCount task }
+    ensures command { option_map command_in result ≡ with_one task (words_of words.now) }
+    ensures numbers { IfSome result (λ c. HasNumbers (command_in c)) }
 {
     match words {
-        [a] => Some(Command {
+        [a] => Some(Command::OfOne {
             task,
-            a: Some(operand_of(a)?),
-            b: None,
+            a: operand_of(a)?,
         }),
         _ => None,
     }
 }
 
-fn with_two<'a>(task: Task, words: &[&'a str]) -> Option<Command<'a>>
-    ensures { option_map command_in result ≡ with_two task (words_of words.now) }
+fn with_two<'a>(question: Question, words: &[&'a str]) -> Option<Command<'a>>
+    ensures command { option_map command_in result ≡ with_two question (words_of words.now) }
+    ensures numbers { IfSome result (λ c. HasNumbers (command_in c)) }
 {
     match words {
         [a, b] => {
             let a = operand_of(a)?;
             let b = operand_of(b)?;
-            apart(task, a, b)
+            apart(question, a, b)
         }
         _ => None,
     }
 }
 
 fn translation<'a>(words: &[&'a str]) -> Option<Command<'a>>
-    ensures { option_map command_in result ≡ translation (words_of words.now) }
+    ensures command { option_map command_in result ≡ translation (words_of words.now) }
+    ensures numbers { IfSome result (λ c. HasNumbers (command_in c)) }
 {
     match words {
         [target, words @ ..] => with_one(Task::Translate(target_of(target)?), words),
@@ -209,7 +211,8 @@ fn translation<'a>(words: &[&'a str]) -> Option<Command<'a>>
 }
 
 fn listing<'a>(words: &[&'a str]) -> Option<Command<'a>>
-    ensures { option_map command_in result ≡ listing (words_of words.now) }
+    ensures command { option_map command_in result ≡ listing (words_of words.now) }
+    ensures numbers { IfSome result (λ c. HasNumbers (command_in c)) }
 {
     match words {
         [count, words @ ..] => with_one(Task::List(number_of(1, MAX_LIST, count)?), words),
@@ -218,29 +221,27 @@ fn listing<'a>(words: &[&'a str]) -> Option<Command<'a>>
 }
 
 fn drilling<'a>(words: &[&'a str]) -> Option<Command<'a>>
-    ensures { option_map command_in result ≡ drilling (words_of words.now) }
+    ensures command { option_map command_in result ≡ drilling (words_of words.now) }
+    ensures numbers { IfSome result (λ c. HasNumbers (command_in c)) }
 {
     match words {
         [seed, count] => {
             let seed = number_of(0, u32::MAX as u64, seed)?;
             let count = number_of(1, MAX_DRILL, count)?;
-            Some(Command {
-                task: Task::Drill(seed, count),
-                a: None,
-                b: None,
-            })
+            Some(Command::Drill { seed, count })
         }
         _ => None,
     }
 }
 
 fn named_command<'a>(name: &str, words: &[&'a str]) -> Option<Command<'a>>
-    ensures { option_map command_in result ≡ named_command name.now (words_of words.now) }
+    ensures command { option_map command_in result ≡ named_command name.now (words_of words.now) }
+    ensures numbers { IfSome result (λ c. HasNumbers (command_in c)) }
 {
     match name {
-        "equal" => with_two(Task::Equal, words),
-        "within" => with_two(Task::Within, words),
-        "disjoint" => with_two(Task::Disjoint, words),
+        "equal" => with_two(Question::Equal, words),
+        "within" => with_two(Question::Within, words),
+        "disjoint" => with_two(Question::Disjoint, words),
         "canon" => with_one(Task::Canon, words),
         "translate" => translation(words),
         "infer" => with_one(Task::Infer, words),
@@ -251,10 +252,11 @@ fn named_command<'a>(name: &str, words: &[&'a str]) -> Option<Command<'a>>
     }
 }
 
-/// The command that the words are, where they are one.
+/// The command that the words are, where they are one. Its numbers are within their limits.
 #[tactic(auto, unfolding(crate::specs::Command::command_of))]
 pub fn parse<'a>(words: &[&'a str]) -> Option<Command<'a>>
-    ensures { option_map command_in result ≡ command_of (words_of words.now) }
+    ensures command { option_map command_in result ≡ command_of (words_of words.now) }
+    ensures numbers { IfSome result (λ c. HasNumbers (command_in c)) }
 {
     match words {
         [name, words @ ..] => named_command(name, words),

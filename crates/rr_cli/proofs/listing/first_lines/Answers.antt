@@ -1,4 +1,4 @@
-use Rattle.std.proofs.Common.{◌∙◌, ◌-◌, ◌++◌, length, map, ℤ, pos, ◌+ℤ◌, ap, refl, w64, to_z-of_z, arith}
+use Rattle.std.proofs.Common.{◌∙◌, ◌-◌, ◌++◌, length, map, pos, ◌+ℤ◌, ap, refl, w64, to_z-of_z, arith}
 use Rattle.std.specs.Prelude.{FitsSigned}
 use Rattle.std.proofs.lemmas.Int.{ints}
 use Rattle.rr_model.specs.Moment.{moment_at}

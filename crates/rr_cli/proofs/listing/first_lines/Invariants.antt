@@ -1,4 +1,4 @@
-use Rattle.std.proofs.Common.{◌≡◌, ◌+◌, ◌-◌, ◌*◌, ◌≤◌, pos, ◌+ℤ◌, ◌≤ℤ◌}
+use Rattle.std.proofs.Common.{◌≡◌, ◌-◌, ◌*◌, ◌≤◌, pos, ◌+ℤ◌, ◌≤ℤ◌}
 use Rattle.rr_cli.proofs.ListedLemmas.{IsListedTo}
 use Rattle.rr_cli.proofs.listing.first_lines.Given as goal
 
