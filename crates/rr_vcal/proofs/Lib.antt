@@ -3,3 +3,5 @@ mod OccurrenceLemmas
 mod ValidSeriesLemmas
 mod ValidPartsLemmas
 mod ValidReadLemmas
+mod WrittenBytes
+mod ReadBackProofs

@@ -18,5 +18,8 @@ mod words;
 
 pub use calendar::read;
 pub use counterpart::to_rule;
-pub use laws::{counterpart_has_members, counterpart_has_occurrences, counterpart_is_synchronised};
+pub use laws::{
+    counterpart_has_members, counterpart_has_occurrences, counterpart_is_synchronised,
+    vcal_is_read_back,
+};
 pub use series::to_series;

@@ -1,0 +1,21 @@
+-- What one item of a rule adds to its text (vCalendar 1.0, basic recurrence rule grammar).
+use Rattle.std.specs.Prelude.{ℕ, ℤ, List, [], ◌++◌, codes, Option, None, Some}
+use Rattle.std.specs.Fmt.{decimal}
+use Rattle.rr_model.specs.Text.Written.{weekday_text}
+use Rattle.rr_model.specs.Vcal.Written.{month_day_text, place_text}
+use Rattle.rr_model.specs.declared.item.Item.{Item}
+use Rattle.rr_model.specs.declared.item.Item.TheVariants.{Every, Weekday, MonthDay, Place, Month, YearDay}
+
+-- the place of an item, which the next one need not repeat
+abbrev pub place_of_item : Item → Option ℤ
+place_of_item (Place n k) = Some n
+place_of_item item = None
+
+-- an item after the place of the one before it
+abbrev pub item_text : Option ℤ → Item → List ℕ
+item_text place Every = []
+item_text place (Weekday k) = codes " " ++ weekday_text k
+item_text place (MonthDay n) = codes " " ++ month_day_text n
+item_text place (Place n k) = place_text place n ++ codes " " ++ weekday_text k
+item_text place (Month m) = codes " " ++ decimal m
+item_text place (YearDay k) = codes " " ++ decimal k
