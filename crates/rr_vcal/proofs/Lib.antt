@@ -3,5 +3,6 @@ mod OccurrenceLemmas
 mod ValidSeriesLemmas
 mod ValidPartsLemmas
 mod ValidReadLemmas
+mod AppendLemmas
 mod WrittenBytes
 mod ReadBackProofs

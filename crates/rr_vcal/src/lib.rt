@@ -10,11 +10,13 @@ mod items;
 mod laws;
 mod numbers;
 mod rule;
+mod rule_text;
 mod second;
 mod series;
 #[cfg(test)]
 mod tests;
 mod words;
+mod written;
 
 pub use calendar::read;
 pub use counterpart::to_rule;
@@ -23,3 +25,4 @@ pub use laws::{
     vcal_is_read_back,
 };
 pub use series::to_series;
+pub use written::write;
