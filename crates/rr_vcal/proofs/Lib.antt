@@ -3,6 +3,6 @@ mod OccurrenceLemmas
 mod ValidSeriesLemmas
 mod ValidPartsLemmas
 mod ValidReadLemmas
-mod AppendLemmas
 mod WrittenBytes
+mod WordLemmas
 mod ReadBackProofs

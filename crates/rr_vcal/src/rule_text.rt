@@ -120,7 +120,7 @@ fn push_items(out: &mut Vec<u8>, items: &[Item]) -> Result<(), NoMemory>
     Ok(())
 }
 
-// A number of events after a blank; 0 is no end.
+// A number of events after a blank.
 fn push_count(out: &mut Vec<u8>, count: u64) -> Result<(), NoMemory>
     ensures { OnOk result (out.new.items ≡ out.old.items ++ codes " #" ++ decimal count) }
 {
@@ -143,7 +143,10 @@ fn push_end(out: &mut Vec<u8>, end: End) -> Result<(), NoMemory>
     ensures { OnOk result (out.new.items ≡ out.old.items ++ vcal_end_text end) }
 {
     match end {
-        End::Never => push_count(out, 0),
+        End::Never => {
+            out.extend_from_slice(b" #0")?;
+            Ok(())
+        }
         End::Count(count) => push_count(out, count),
         End::Until { kind, at } => push_until(out, kind, at),
         End::Both { kind, at, count } => {
