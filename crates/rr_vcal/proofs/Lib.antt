@@ -4,5 +4,9 @@ mod ValidSeriesLemmas
 mod ValidPartsLemmas
 mod ValidReadLemmas
 mod WrittenBytes
+mod TrimLemmas
 mod WordLemmas
+mod RuleTextLemmas
+mod WrittenLines
+mod WrittenPasses
 mod ReadBackProofs

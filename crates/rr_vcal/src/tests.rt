@@ -28,3 +28,15 @@ fn fifth_fridays(rt: HostRuntime) -> Result<(), Fail> {
     }
     Ok(())
 }
+
+#[test]
+fn written(rt: HostRuntime) -> Result<(), Fail> {
+    let text =
+        "DTSTART:20240131\r\nRRULE:MD1 1 LD 2- #0\r\nRRULE:MP2 1+ MO WE 1- FR #5 20240203\r\nEXDATE:20240203\r\n";
+    let series = read(rt.alloc(), text.as_bytes(), None)
+        .ok()
+        .ok_or("it is read")?;
+    let out = write(rt.alloc(), &series).ok().ok_or("there is memory")?;
+    assert_eq!(rt; out.as_slice(), text.as_bytes());
+    Ok(())
+}

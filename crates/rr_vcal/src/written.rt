@@ -2,7 +2,7 @@
 ghost use Rattle.std.specs.Prelude.{◌≡◌, ◌++◌, All, IfOk, OnOk, codes};
 ghost use Rattle.rr_model.specs.Moment.Years.{IsInYears};
 ghost use Rattle.rr_model.specs.Rule.Validity.{EndsInYears};
-ghost use Rattle.rr_model.specs.Text.Written.{basic_text, lines_of};
+ghost use Rattle.rr_model.specs.Text.Written.{basic_text, line_break, lines_of};
 ghost use Rattle.rr_model.specs.Vcal.Validity.{IsValidVSeries};
 ghost use Rattle.rr_model.specs.Vcal.Written.{vcal_line, vrule_text, vcal_written};
 
@@ -10,6 +10,14 @@ use crate::rule_text::push_rule;
 use rr_model::{Kind, NoMemory, VRule, VSeries};
 use rr_text::push_basic;
 use std::alloc::Global;
+
+// The end of a line.
+fn end_line(out: &mut Vec<u8>) -> Result<(), NoMemory>
+    ensures { OnOk result (out.new.items ≡ out.old.items ++ line_break) }
+{
+    out.extend_from_slice(b"\r\n")?;
+    Ok(())
+}
 
 // A line of a name and a date or a moment.
 fn push_date(out: &mut Vec<u8>, name: &[u8], kind: Kind, at: i64) -> Result<(), NoMemory>
@@ -19,8 +27,7 @@ fn push_date(out: &mut Vec<u8>, name: &[u8], kind: Kind, at: i64) -> Result<(), 
     out.extend_from_slice(name)?;
     out.push(b':')?;
     push_basic(out, kind, at)?;
-    out.extend_from_slice(b"\r\n")?;
-    Ok(())
+    end_line(out)
 }
 
 // A line for each date.
@@ -41,8 +48,7 @@ fn push_rule_line(out: &mut Vec<u8>, rule: &VRule) -> Result<(), NoMemory>
 {
     out.extend_from_slice(b"RRULE:")?;
     push_rule(out, rule)?;
-    out.extend_from_slice(b"\r\n")?;
-    Ok(())
+    end_line(out)
 }
 
 // A line for each rule.
