@@ -123,10 +123,14 @@ module _ (kind : Kind) (start : ℤ) (rules : List VRule) (plus minus : List ℤ
 
   reads-all : Reads (Some (stamp_of kind start)) nothing_read (lines_with kind start rules plus minus)
   reads-all =
-      reads-next (Some (stamp_of kind start)) nothing_read _ (date_line Dtstart kind start) _ start-judged
-      (reads-rules (Some (stamp_of kind start)) _ rules _ h.each_rule (omega (arith, h.few_rules)) (λ q qs qd.
-      reads-dates (Some (stamp_of kind start)) Rdate true kind (λ k p t. refl) q plus _ h.each_plus (omega (arith, h.few_dates, qd)) (λ p ps pd.
-      reads-dates (Some (stamp_of kind start)) Exdate false kind (λ k p t. refl) p minus [] h.each_minus (omega (arith, h.few_dates, qd, pd)) (λ o os od.
+      let s : Option Stamp = Some (stamp_of kind start) in
+      let begun : FirstPass = record { start = s; rule_count = 0; date_count = 0 } in
+      let minus_lines = map (date_line Exdate kind) minus ++ [] in
+      let plus_lines = map (date_line Rdate kind) plus ++ minus_lines in
+      reads-next s nothing_read begun (date_line Dtstart kind start) (map rule_line rules ++ plus_lines) start-judged
+      (reads-rules s begun rules plus_lines h.each_rule (omega (arith, h.few_rules)) (λ q qs qd.
+      reads-dates s Rdate true kind (λ k p t. refl) q plus minus_lines h.each_plus (omega (arith, h.few_dates, qd)) (λ p ps pd.
+      reads-dates s Exdate false kind (λ k p t. refl) p minus [] h.each_minus (omega (arith, h.few_dates, qd, pd)) (λ o os od.
       λ k. (o, refl, os ∙ ps ∙ qs)))))
 
   abbrev whole_event : Event VRule

@@ -237,7 +237,9 @@ module _ (kind : Kind) (first : ℤ) (r : Result (Beside VRule) Refusal) where
       → Gives (beside_of [] [] []) (date_line Dtstart kind first ∷ (map rule_line rules ++ (map (date_line Rdate kind) plus
       ++ (map (date_line Exdate kind) minus ++ []))))
   gives-all rules plus minus h hp rp hm rm is =
-      gives-next (beside_of [] [] []) (beside_of [] [] []) (date_line Dtstart kind first) _ (λ k. refl)
-      (gives-rules [] [] [] rules _ h
-      (gives-dates Rdate true (λ l. beside_of rules l []) (λ k b t. refl) (λ l at. refl) [] plus _ hp rp (above_none plus)
+      let minus_lines = map (date_line Exdate kind) minus ++ [] in
+      let plus_lines = map (date_line Rdate kind) plus ++ minus_lines in
+      gives-next (beside_of [] [] []) (beside_of [] [] []) (date_line Dtstart kind first) (map rule_line rules ++ plus_lines) (λ k. refl)
+      (gives-rules [] [] [] rules plus_lines h
+      (gives-dates Rdate true (λ l. beside_of rules l []) (λ k b t. refl) (λ l at. refl) [] plus minus_lines hp rp (above_none plus)
       (gives-dates Exdate false (λ l. beside_of rules plus l) (λ k b t. refl) (λ l at. refl) [] minus [] hm rm (above_none minus) (λ k. sym is))))
