@@ -3,10 +3,11 @@ mod OccurrenceLemmas
 mod ValidSeriesLemmas
 mod ValidPartsLemmas
 mod ValidReadLemmas
-mod WrittenBytes
+mod ByteLemmas
 mod TrimLemmas
 mod WordLemmas
 mod RuleTextLemmas
-mod WrittenLines
-mod WrittenPasses
+mod RuleReadLemmas
+mod WrittenLineLemmas
+mod WrittenPassLemmas
 mod ReadBackProofs

@@ -27,8 +27,8 @@ use Rattle.rr_model.specs.declared.used.Scan.{Scan}
 use Rattle.rr_model.specs.declared.vcal.VRule.{VRule}
 use Rattle.rr_model.specs.declared.vcal.VSeries.{VSeries}
 use Rattle.rr_text.proofs.WrittenLemmas.{basic-written}
-use Rattle.rr_vcal.proofs.WrittenLines.{WrittenLine, IsValue, HaveValues, name_text, written_line, used_from, event_scan-written}
-use Rattle.rr_vcal.proofs.WrittenPasses.{IsWritableRule, stamp_of, rule_line, date_line, rule-value, date-value, Reads, reads-next, reads-rules, reads-dates, gives-all}
+use Rattle.rr_vcal.proofs.WrittenLineLemmas.{WrittenLine, IsValue, HaveValues, name_text, written_line, used_from, event_scan-written}
+use Rattle.rr_vcal.proofs.WrittenPassLemmas.{IsWritableRule, stamp_of, rule_line, date_line, rule-value, date-value, Reads, reads-next, reads-rules, reads-dates, gives-all}
 
 -- ---- the lines of a series
 

@@ -7,7 +7,7 @@ use Rattle.rr_model.specs.Rule.Validity.{is_absent}
 use Rattle.rr_model.specs.Text.Lines.{begins_blank}
 use Rattle.rr_model.specs.Text.Rules.{is_blank, trim_start, trim_end}
 use Rattle.rr_text.proofs.WrittenByteLemmas.{list_all-both}
-use Rattle.rr_vcal.proofs.WrittenBytes.{is_solid, no_blank}
+use Rattle.rr_vcal.proofs.ByteLemmas.{is_solid, no_blank}
 
 -- a word without blanks, which is not empty
 abbrev pub IsSolid : List ℕ → Type 0

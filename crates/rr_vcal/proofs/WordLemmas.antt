@@ -22,10 +22,11 @@ use Rattle.rr_model.specs.Vcal.Written.{marked_text, month_day_text}
 use Rattle.rr_model.specs.declared.kind.Kind.{Kind}
 use Rattle.rr_model.specs.declared.kind.Kind.TheVariants.{Days, Moments}
 use Rattle.rr_model.proofs.WholeLemmas.{floor_mod_below}
-use Rattle.rr_text.proofs.WrittenByteLemmas.{list_all-weaker, list_all-both}
+use Rattle.rr_text.proofs.WrittenByteLemmas.{is_word_byte, list_all-weaker, list_all-both}
 use Rattle.rr_text.proofs.WrittenLemmas.{decimal-digits, digits_value-decimal, is_number-decimal, basic_date_text-digits, length-basic_date_text}
 use Rattle.rr_text.proofs.WrittenLemmas.{length-basic_time_text}
-use Rattle.rr_vcal.proofs.WrittenBytes.{is_solid, is_marked_byte, solid-digit, solid-marked, marked-digit, all-take, all-drop, other_text}
+use Rattle.rr_text.proofs.WrittenValueLemmas.{weekday-written}
+use Rattle.rr_vcal.proofs.ByteLemmas.{is_solid, is_marked_byte, solid-digit, solid-word, solid-marked, marked-digit, all-take, all-drop, other_text}
 
 -- ---- words of the list
 
@@ -45,37 +46,20 @@ short text h =
     let few : nat_le 8 (length text) ≡ false = grind (arith, nat_tests) in
     rw few refl
 
-no_mark : (text : List ℕ) → list_all is_marked_byte text ≡ true → text_after (codes "#") text ≡ None
-no_mark text h = rw (other_text is_marked_byte (take 1 text) 35 [] (all-take is_marked_byte 1 text h) refl) refl
-
--- a short text of digits and marks
-marked_word : (text : List ℕ) → list_all is_marked_byte text ≡ true → 0 < length text → length text < 8 → IsListWord text
-marked_word text h some few = record {
+-- a short text of bytes that no number of events begins with
+short_word : (p : ℕ → Bool) (text : List ℕ) → ((b : ℕ) → p b ≡ true → is_solid b ≡ true) → p 35 ≡ false → list_all p text ≡ true → 0 < length text
+    → length text < 8 → IsListWord text
+short_word p text solid other h some few = record {
   some = not_absent text some;
-  solid = list_all-weaker is_marked_byte is_solid solid-marked text h;
+  solid = list_all-weaker p is_solid solid text h;
   no_moment = short text few;
-  no_count = no_mark text h;
+  no_count = rw (other_text p (take 1 text) 35 [] (all-take p 1 text h) other) refl;
 }
 
--- two letters
-pair_word : (a b : ℕ) → is_solid a ≡ true → is_solid b ≡ true → (a == 35) ≡ false → IsListWord (a ∷ b ∷ [])
-pair_word a b ha hb other = record { some = refl; solid = rw (ha, hb) refl; no_moment = refl; no_count = rw other refl }
-
-by_weekday : (P : ℕ → Type 0) → P 0 → P 1 → P 2 → P 3 → P 4 → P 5 → P 6 → (k : ℕ) → k ≤ 6 → P k
-by_weekday P a b c d e f g zero h = a
-by_weekday P a b c d e f g (suc zero) h = b
-by_weekday P a b c d e f g (suc (suc zero)) h = c
-by_weekday P a b c d e f g (suc (suc (suc zero))) h = d
-by_weekday P a b c d e f g (suc (suc (suc (suc zero)))) h = e
-by_weekday P a b c d e f g (suc (suc (suc (suc (suc zero))))) h = f
-by_weekday P a b c d e f g (suc (suc (suc (suc (suc (suc zero)))))) h = g
-by_weekday P a b c d e f g (suc (suc (suc (suc (suc (suc (suc n))))))) h = absurd (omega arith)
-
 pub weekday_word : (k : ℕ) → k ≤ 6 → IsListWord (weekday_text k)
-unfolding weekday_text
 weekday_word k h =
-    by_weekday (λ d. IsListWord (weekday_text d)) (pair_word 77 79 refl refl refl) (pair_word 84 85 refl refl refl) (pair_word 87 69 refl refl refl)
-    (pair_word 84 72 refl refl refl) (pair_word 70 82 refl refl refl) (pair_word 83 65 refl refl refl) (pair_word 83 85 refl refl refl) k h
+    let written = weekday-written k (omega arith) in
+    short_word is_word_byte (weekday_text k) solid-word refl written.words (omega (arith, written.two)) (omega (arith, written.two))
 
 -- a number of at most three digits
 record IsShortDecimal (n : ℕ) : Type 0 where
@@ -97,7 +81,7 @@ short_decimal n h =
 pub decimal_word : (n : ℕ) → n < 1_000 → IsListWord (decimal n)
 decimal_word n h =
     let d = short_decimal n h in
-    marked_word (decimal n) (list_all-weaker is_digit is_marked_byte marked-digit (decimal n) d.digits) d.some (omega (arith, d.few))
+    short_word is_digit (decimal n) solid-digit refl d.digits d.some (omega (arith, d.few))
 
 -- the same with a mark
 marked-bytes : (n c : ℕ) → n < 1_000 → is_marked_byte c ≡ true → list_all is_marked_byte (decimal n ++ c ∷ []) ≡ true
@@ -110,7 +94,7 @@ with_mark : (n c : ℕ) → n < 1_000 → is_marked_byte c ≡ true → IsListWo
 with_mark n c h mark =
     let d = short_decimal n h in
     let long = length-append (decimal n) (c ∷ []) in
-    marked_word (decimal n ++ c ∷ []) (marked-bytes n c h mark) (omega (arith, long)) (omega (arith, long, d.few))
+    short_word is_marked_byte (decimal n ++ c ∷ []) solid-marked refl (marked-bytes n c h mark) (omega (arith, long)) (omega (arith, long, d.few))
 
 marked_text-bytes : (n : ℤ) → nat_abs n < 1_000 → list_all is_marked_byte (marked_text n) ≡ true
 marked_text-bytes (pos n) h = marked-bytes n 43 h refl
@@ -125,14 +109,10 @@ month_day-word (pos n) h = decimal_word n h
 month_day-word (negsuc n) h = by (n == 0)
   where
     by : (t : Bool) → IsListWord (if t then codes "LD" else decimal (suc n) ++ codes "-")
-    by true = pair_word 76 68 refl refl refl
+    by true = short_word is_word_byte (codes "LD") solid-word refl refl (omega arith) (omega arith)
     by false = with_mark (suc n) 45 h refl
 
 -- ---- what they are read as
-
-pub weekday-read : (k : ℕ) → k ≤ 6 → weekday_named (weekday_text k) ≡ Some k
-unfolding weekday_named weekday_text
-weekday-read k h = by_weekday (λ d. weekday_named (weekday_text d) ≡ Some d) refl refl refl refl refl refl refl k h
 
 no_weekday : (text : List ℕ) → list_all is_marked_byte text ≡ true → weekday_named text ≡ None
 unfolding weekday_named

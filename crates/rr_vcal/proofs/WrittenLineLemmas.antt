@@ -19,7 +19,7 @@ use Rattle.rr_model.specs.declared.used.UsedLine.{UsedLine}
 use Rattle.rr_text.proofs.FoldedLineLemmas.{IsUnbroken}
 use Rattle.rr_text.proofs.WrittenByteLemmas.{list_all-weaker, list_all-both}
 use Rattle.rr_vcal.proofs.TrimLemmas.{IsSolid, trimmed_start, trimmed_end, begins-solid, ends-solid, present}
-use Rattle.rr_vcal.proofs.WrittenBytes.{is_written, is_solid, written-solid, unbroken-written}
+use Rattle.rr_vcal.proofs.ByteLemmas.{is_written, is_solid, written-solid, unbroken-written}
 
 -- a written line: its name and its value
 pub record WrittenLine : Type 0 where

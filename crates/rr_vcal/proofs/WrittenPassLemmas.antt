@@ -41,9 +41,11 @@ use Rattle.rr_model.proofs.RisingSetLemmas.{Rises-tail}
 use Rattle.rr_text.proofs.WrittenByteLemmas.{is_word_byte, basic_text-words}
 use Rattle.rr_text.proofs.WrittenLemmas.{basic-written}
 use Rattle.rr_text.proofs.WrittenListLemmas.{IsTransitive, with_value-last, IsAbove, IsAbove-next}
-use Rattle.rr_vcal.proofs.RuleTextLemmas.{until_of, stated-written, vrule_text-written, vrule_text-begins, vrule_text-ends, moment-solid}
-use Rattle.rr_vcal.proofs.WrittenBytes.{none-of, no_separator, no_slash}
-use Rattle.rr_vcal.proofs.WrittenLines.{WrittenLine, IsValue, HaveValues, value-trimmed, value-solid, used_from}
+use Rattle.rr_text.proofs.WrittenValueLemmas.{int_lt-transitive}
+use Rattle.rr_vcal.proofs.RuleReadLemmas.{until_of, stated-written}
+use Rattle.rr_vcal.proofs.RuleTextLemmas.{vrule_text-written, vrule_text-begins, vrule_text-ends, moment-solid}
+use Rattle.rr_vcal.proofs.ByteLemmas.{none-of, no_separator, no_slash}
+use Rattle.rr_vcal.proofs.WrittenLineLemmas.{WrittenLine, IsValue, HaveValues, value-trimmed, value-solid, used_from}
 
 -- a date or a moment as it is written
 abbrev pub stamp_of : Kind → ℤ → Stamp
@@ -163,9 +165,6 @@ rule-kept start k rule h = rw (end-kept start k rule.end, filled-some rule.famil
 same_kind : (kind : Kind) → is_same_kind kind kind ≡ true
 same_kind Days = refl
 same_kind Moments = refl
-
-pub int_lt-transitive : IsTransitive int_lt
-int_lt-transitive a b c h k = grind (arith, ints, nat_tests)
 
 above_none : (dates : List ℤ) → IsAbove int_lt int_lt-transitive [] dates
 above_none [] = tt
