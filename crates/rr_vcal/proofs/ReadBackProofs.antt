@@ -1,6 +1,7 @@
 -- A series of vCalendar 1.0 is read back from its text.
-use Rattle.std.proofs.Common.{◌≡◌, ℕ, ◌+◌, ◌≤◌, true, false, List, [], ◌∷◌, ◌++◌, length, map, Option, Some, None, Result, Ok, ℤ, refl, sym, ap, ◌∙◌, append_assoc, append-nil, arith}
-use Rattle.std.specs.Prelude.{codes, ok_or, int_lt}
+use Rattle.std.proofs.Common.{◌≡◌, ℕ, ◌+◌, ◌≤◌, true, false, List, [], ◌∷◌, ◌++◌, length, map, Option, Some, None, Result, Ok, ℤ, refl, sym, ap, ◌∙◌}
+use Rattle.std.proofs.Common.{append_assoc, append-nil, arith}
+use Rattle.std.specs.Prelude.{ok_or, int_lt}
 use Rattle.std.specs.List.{AllByRecursion}
 use Rattle.std.proofs.lemmas.List.Elements.{recursion_from_All}
 use Rattle.rr_model.specs.Moment.Years.{IsInYears}
@@ -8,14 +9,14 @@ use Rattle.rr_model.specs.Rising.{Rises}
 use Rattle.rr_model.specs.Rule.Validity.{EndsInYears}
 use Rattle.rr_model.specs.Text.Event.{event_scan}
 use Rattle.rr_model.specs.Text.Lines.{without_mark}
-use Rattle.rr_model.specs.Text.Passes.{Beside, Event, nothing_read, judged_line, first_pass, second_pass, unless_stopped, passes}
+use Rattle.rr_model.specs.Text.Passes.{Beside, Event, nothing_read, judged_line, second_pass, passes}
 use Rattle.rr_model.specs.Text.RuleValues.{◌>>=◌}
 use Rattle.rr_model.specs.Text.Written.{basic_text, lines_of}
 use Rattle.rr_model.specs.Vcal.Items.{item_lt}
 use Rattle.rr_model.specs.Vcal.Laws.{IsWritable, VcalIsReadBack}
 use Rattle.rr_model.specs.Vcal.Reading.{vrule_beside, vcal_language, vseries_of_event, reads_vcal}
 use Rattle.rr_model.specs.Vcal.Validity.{IsValidVRule, IsValidVSeries}
-use Rattle.rr_model.specs.Vcal.Written.{vcal_line, vrule_text, vcal_written}
+use Rattle.rr_model.specs.Vcal.Written.{vcal_written}
 use Rattle.rr_model.specs.declared.kind.Kind.{Kind}
 use Rattle.rr_model.specs.declared.limits.TheConstants.{MAX_DATES, MAX_RULES}
 use Rattle.rr_model.specs.declared.pass.FirstPass.{FirstPass}
@@ -28,7 +29,8 @@ use Rattle.rr_model.specs.declared.vcal.VRule.{VRule}
 use Rattle.rr_model.specs.declared.vcal.VSeries.{VSeries}
 use Rattle.rr_text.proofs.WrittenLemmas.{basic-written}
 use Rattle.rr_vcal.proofs.WrittenLineLemmas.{WrittenLine, IsValue, HaveValues, name_text, written_line, used_from, event_scan-written}
-use Rattle.rr_vcal.proofs.WrittenPassLemmas.{IsWritableRule, stamp_of, rule_line, date_line, rule-value, date-value, Reads, reads-next, reads-rules, reads-dates, gives-all}
+use Rattle.rr_vcal.proofs.WrittenPassLemmas.{IsWritableRule, stamp_of, rule_line, date_line, rule-value, date-value, Reads, reads-next, reads-rules}
+use Rattle.rr_vcal.proofs.WrittenPassLemmas.{reads-dates, gives-all}
 
 -- ---- the lines of a series
 
@@ -111,11 +113,12 @@ are_writable series valid writable = record {
 
 module _ (kind : Kind) (start : ℤ) (rules : List VRule) (plus minus : List ℤ) (h : AreWritable kind start rules plus minus) where
   have-values : HaveValues (lines_with kind start rules plus minus)
-  have-values =
-      (date-value kind start h.start_years,
-      have-map rule_line rules _ (rule-values rules h.each_rule)
-      (have-map (date_line Rdate kind) plus _ (date-values kind plus h.each_plus)
-      (have-map (date_line Exdate kind) minus [] (date-values kind minus h.each_minus) tt)))
+  have-values = (
+    date-value kind start h.start_years,
+    have-map rule_line rules _ (rule-values rules h.each_rule)
+        (have-map (date_line Rdate kind) plus _ (date-values kind plus h.each_plus)
+        (have-map (date_line Exdate kind) minus [] (date-values kind minus h.each_minus) tt)),
+  )
 
   start-judged : (k : ℕ) → judged_line vcal_language k Dtstart nothing_read (basic_text kind start)
       ≡ Ok (record { start = Some (stamp_of kind start); rule_count = 0; date_count = 0 })

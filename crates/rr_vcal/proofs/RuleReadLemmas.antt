@@ -1,35 +1,26 @@
 -- A written rule is read back (vCalendar 1.0, basic recurrence rule grammar).
-use Rattle.std.proofs.Common.{◌≡◌, ℕ, zero, suc, ◌+◌, ◌-◌, ◌^◌, ◌<◌, ◌≤◌, ◌==◌, ◌&&◌, Bool, true, false, if◌then◌else◌, List, [], ◌∷◌, ◌++◌, length, reverse}
-use Rattle.std.proofs.Common.{take, drop, Option, Some, None, Result, Ok, ℤ, pos, negsuc, nat_abs, All, refl, sym, ap, ◌∙◌, subst, append_assoc, append-nil, arith}
-use Rattle.std.specs.Prelude.{codes, nat_le, IsTrue, int_lt}
+use Rattle.std.proofs.Common.{◌≡◌, ℕ, ◌^◌, ◌<◌, ◌≤◌, ◌==◌, Bool, true, false, if◌then◌else◌, List, [], ◌∷◌, ◌++◌, length}
+use Rattle.std.proofs.Common.{Option, Some, None, Result, Ok, ℤ, nat_abs, refl, sym, ap, ◌∙◌, append_assoc, append-nil, arith}
+use Rattle.std.specs.Prelude.{nat_le}
 use Rattle.std.specs.Fmt.{decimal}
-use Rattle.std.specs.List.{list_all, AllByRecursion, slice_split, take_while}
+use Rattle.std.specs.List.{AllByRecursion}
 use Rattle.std.specs.Option.{is_some}
 use Rattle.std.specs.Ordering.{int_eq, is_lt}
 use Rattle.std.specs.declared.cmp.Ordering.{Ordering}
 use Rattle.std.specs.declared.cmp.Ordering.TheVariants.{Less, Equal, Greater}
-use Rattle.std.proofs.lemmas.Bool.{and_parts, and_from}
 use Rattle.std.proofs.lemmas.Bool.Decides.{nat_tests, Decides-int_eq}
-use Rattle.std.proofs.lemmas.List.{take_all, reverse-append, length-reverse}
-use Rattle.std.proofs.lemmas.Fmt.{decimal_digit}
 use Rattle.std.proofs.lemmas.List.Elements.{recursion_from_All}
-use Rattle.std.proofs.lemmas.List.Splits.{slice_split_none, slice_split_at}
 use Rattle.rr_model.specs.Moment.Years.{IsInYears}
 use Rattle.rr_model.specs.Rising.{Rises, with_value}
 use Rattle.rr_model.specs.Rule.Validity.{HasCountInRange, EndsInYears, is_absent}
-use Rattle.rr_model.specs.Text.Digits.{is_digit, digits_value}
-use Rattle.rr_model.specs.Text.Lines.{begins_blank}
-use Rattle.rr_model.specs.Text.Moments.{basic}
-use Rattle.rr_model.specs.Text.Passes.{Stated}
-use Rattle.rr_model.specs.Text.RuleValues.{◌>>=◌, is_number, number_up_to}
-use Rattle.rr_model.specs.Text.Rules.{is_blank, trim_start, trim_end, line_value}
+use Rattle.rr_model.specs.Text.RuleValues.{◌>>=◌}
 use Rattle.rr_model.specs.Text.Steps.{in_turn}
 use Rattle.rr_model.specs.Text.Written.{weekday_text, basic_text}
 use Rattle.rr_model.specs.Vcal.Items.{item_cmp, item_lt, item_total}
-use Rattle.rr_model.specs.Vcal.Rule.{head_of, first_items, parts_of_head, with_list_word, is_list_whole, with_word, with_piece, finished, end_of_words, stated_parts}
+use Rattle.rr_model.specs.Vcal.Rule.{first_items, parts_of_head, with_list_word, is_list_whole, with_word, with_piece, finished, end_of_words, stated_parts}
 use Rattle.rr_model.specs.Vcal.Rule.{stated_vrule}
 use Rattle.rr_model.specs.Vcal.Validity.{IsItemOf, IsValidVRule}
-use Rattle.rr_model.specs.Vcal.Written.{family_text, marked_text, month_day_text, place_text, items_text, vcal_end_text, vrule_text}
+use Rattle.rr_model.specs.Vcal.Written.{marked_text, month_day_text, vrule_text}
 use Rattle.rr_model.specs.declared.item.Item.{Item}
 use Rattle.rr_model.specs.declared.kind.Kind.{Kind}
 use Rattle.rr_model.specs.declared.item.Item.TheVariants.{Every, Weekday, MonthDay, Place, Month, YearDay}
@@ -43,15 +34,13 @@ use Rattle.rr_model.specs.declared.vcal.VRule.{VRule}
 use Rattle.rr_model.specs.declared.vcal.VRuleParts.{VRuleParts}
 use Rattle.rr_model.proofs.ItemLemmas.{item_same}
 use Rattle.rr_model.proofs.RisingSetLemmas.{Rises-tail}
-use Rattle.rr_text.proofs.WrittenByteLemmas.{is_word_byte, list_all-weaker, list_all-both, basic_text-words}
-use Rattle.rr_text.proofs.WrittenLemmas.{decimal-digits, digits_value-decimal, is_number-decimal, basic-written}
+use Rattle.rr_text.proofs.WrittenLemmas.{digits_value-decimal, is_number-decimal, basic-written}
 use Rattle.rr_text.proofs.WrittenListLemmas.{IsTransitive, with_value-last, IsAbove, IsAbove-next}
-use Rattle.rr_vcal.specs.Writing.{place_of_item, item_text}
+use Rattle.rr_vcal.specs.Writing.{place_of_item}
 use Rattle.rr_text.proofs.WrittenValueLemmas.{weekday-written, number_up_to-written}
 use Rattle.rr_vcal.proofs.RuleTextLemmas.{place_words, item_words, list_words, end_words, words_of, head_text, head_text-some, head_text-is, rule-pieces}
-use Rattle.rr_vcal.proofs.ByteLemmas.{is_written, is_solid, written-solid, solid-digit, solid-word, no_blank, none-of, capitals-written}
 use Rattle.rr_vcal.proofs.WordLemmas.{IsListWord, weekday_word, decimal_word, marked_text-word, month_day-word, marked_text-no_weekday, number-read}
-use Rattle.rr_vcal.proofs.WordLemmas.{marked-read, month_day-read, basic_text-moment, basic_text-some, count-no_moment, not_absent}
+use Rattle.rr_vcal.proofs.WordLemmas.{marked-read, month_day-read, basic_text-moment, basic_text-some, count-no_moment}
 
 -- ---- what is read of a rule
 
@@ -227,7 +216,8 @@ module _ (line : ℕ) where
         → with_piece line (Some (within_group family.MP interval done (n ∷ []) has_weekday)) (weekday_text k)
         ≡ Ok (Some (so_far family.MP interval (done ++ Place n k ∷ []) (Some n)))
     weekday_in_group n k has_weekday h put =
-        list_word family.MP interval done (n ∷ []) has_weekday _ (weekday_text k) (weekday_word k h) (rw ((weekday-written k (omega (arith, h))).named, put) refl)
+        list_word family.MP interval done (n ∷ []) has_weekday _ (weekday_text k) (weekday_word k h)
+        (rw ((weekday-written k (omega (arith, h))).named, put) refl)
 
     -- a place, which begins a group
     place_begins : (place : Option ℤ) (n : ℤ) → 1 ≤ nat_abs n → nat_abs n ≤ 5
@@ -273,7 +263,8 @@ module _ (line : ℕ) where
   unfolding item_words
   item-read family.D interval done place item ws fits h put = absurd fits
   item-read family.W interval done None (Weekday k) ws fits h put =
-      steps-next _ _ (weekday_text k) ws (list_word family.W interval done [] false _ (weekday_text k) (weekday_word k h) (rw ((weekday-written k (omega (arith, h))).named, put) refl))
+      steps-next _ _ (weekday_text k) ws
+      (list_word family.W interval done [] false _ (weekday_text k) (weekday_word k h) (rw ((weekday-written k (omega (arith, h))).named, put) refl))
   item-read family.W interval done (Some n) item ws fits h put = absurd fits
   item-read family.W interval done None item ws fits h put = absurd h
   item-read family.MD interval done None (MonthDay n) ws fits h put =
@@ -415,5 +406,7 @@ module _ (line : ℕ) where
       ap (λ (ws : List (List ℕ)). steps None ws >>= λ pieces. finished line pieces >>= λ parts. Ok (stated_parts parts)) (rule-pieces rule valid years)
       ∙ ap (λ (r : Result (Option VRuleParts) Refusal). r >>= λ pieces. finished line pieces >>= λ parts. Ok (stated_parts parts))
       (pieces-read rule valid rises years)
-      ∙ rw (whole rule.family rule.interval rule.items (last_place None rule.items) (count_of rule.end) (until_of rule.end) is_whole,
-      end-back rule.end valid.count) refl
+      ∙ rw (
+        whole rule.family rule.interval rule.items (last_place None rule.items) (count_of rule.end) (until_of rule.end) is_whole,
+        end-back rule.end valid.count,
+      ) refl

@@ -1,51 +1,32 @@
 -- The text of a written rule, and its words (vCalendar 1.0, basic recurrence rule grammar).
-use Rattle.std.proofs.Common.{◌≡◌, ℕ, zero, suc, ◌+◌, ◌-◌, ◌^◌, ◌<◌, ◌≤◌, ◌==◌, ◌&&◌, Bool, true, false, if◌then◌else◌, List, [], ◌∷◌, ◌++◌, length, reverse}
-use Rattle.std.proofs.Common.{take, drop, Option, Some, None, Result, Ok, ℤ, pos, negsuc, nat_abs, All, refl, sym, ap, ◌∙◌, subst, append_assoc, append-nil, arith}
-use Rattle.std.specs.Prelude.{codes, nat_le, IsTrue, int_lt}
+use Rattle.std.proofs.Common.{◌≡◌, ℕ, ◌^◌, ◌<◌, Bool, true, false, if◌then◌else◌, List, [], ◌∷◌, ◌++◌, reverse}
+use Rattle.std.proofs.Common.{Option, Some, None, ℤ, nat_abs, refl, sym, ap, ◌∙◌, append_assoc, append-nil, arith}
+use Rattle.std.specs.Prelude.{codes}
 use Rattle.std.specs.Fmt.{decimal}
-use Rattle.std.specs.List.{list_all, AllByRecursion, slice_split, take_while}
-use Rattle.std.specs.Option.{is_some}
-use Rattle.std.specs.Ordering.{int_eq, is_lt}
-use Rattle.std.specs.declared.cmp.Ordering.{Ordering}
-use Rattle.std.specs.declared.cmp.Ordering.TheVariants.{Less, Equal, Greater}
-use Rattle.std.proofs.lemmas.Bool.{and_parts, and_from}
-use Rattle.std.proofs.lemmas.Bool.Decides.{nat_tests, Decides-int_eq}
-use Rattle.std.proofs.lemmas.List.{take_all, reverse-append, length-reverse}
+use Rattle.std.specs.List.{list_all, AllByRecursion, slice_split}
+use Rattle.std.specs.Ordering.{int_eq}
 use Rattle.std.proofs.lemmas.Fmt.{decimal_digit}
 use Rattle.std.proofs.lemmas.List.Elements.{recursion_from_All}
 use Rattle.std.proofs.lemmas.List.Splits.{slice_split_none, slice_split_at}
 use Rattle.rr_model.specs.Moment.Years.{IsInYears}
-use Rattle.rr_model.specs.Rising.{Rises, with_value}
 use Rattle.rr_model.specs.Rule.Validity.{HasCountInRange, EndsInYears, is_absent}
-use Rattle.rr_model.specs.Text.Digits.{is_digit, digits_value}
+use Rattle.rr_model.specs.Text.Digits.{is_digit}
 use Rattle.rr_model.specs.Text.Lines.{begins_blank}
-use Rattle.rr_model.specs.Text.Moments.{basic}
-use Rattle.rr_model.specs.Text.Passes.{Stated}
-use Rattle.rr_model.specs.Text.RuleValues.{◌>>=◌, is_number, number_up_to}
 use Rattle.rr_model.specs.Text.Rules.{is_blank, trim_start, trim_end, line_value}
-use Rattle.rr_model.specs.Text.Steps.{in_turn}
 use Rattle.rr_model.specs.Text.Written.{weekday_text, basic_text}
-use Rattle.rr_model.specs.Vcal.Items.{item_cmp, item_lt, item_total}
-use Rattle.rr_model.specs.Vcal.Rule.{head_of, first_items, parts_of_head, with_list_word, is_list_whole, with_word, with_piece, finished, end_of_words, stated_parts}
-use Rattle.rr_model.specs.Vcal.Rule.{stated_vrule}
+use Rattle.rr_model.specs.Vcal.Rule.{head_of}
 use Rattle.rr_model.specs.Vcal.Validity.{IsItemOf, IsValidVRule}
 use Rattle.rr_model.specs.Vcal.Written.{family_text, marked_text, month_day_text, place_text, items_text, vcal_end_text, vrule_text}
 use Rattle.rr_model.specs.declared.item.Item.{Item}
 use Rattle.rr_model.specs.declared.kind.Kind.{Kind}
 use Rattle.rr_model.specs.declared.item.Item.TheVariants.{Every, Weekday, MonthDay, Place, Month, YearDay}
-use Rattle.rr_model.specs.declared.refusal.Refusal.{Refusal}
 use Rattle.rr_model.specs.declared.rule.End.{End}
 use Rattle.rr_model.specs.declared.rule.End.TheVariants.{Never, Until, Count, Both}
-use Rattle.rr_model.specs.declared.stamp.Stamp.{Stamp}
 use Rattle.rr_model.specs.declared.vcal.FamilyKind.{FamilyKind}
 use Rattle.rr_model.specs.declared.vcal.FamilyKind.TheVariants as family
 use Rattle.rr_model.specs.declared.vcal.VRule.{VRule}
-use Rattle.rr_model.specs.declared.vcal.VRuleParts.{VRuleParts}
-use Rattle.rr_model.proofs.ItemLemmas.{item_same}
-use Rattle.rr_model.proofs.RisingSetLemmas.{Rises-tail}
 use Rattle.rr_text.proofs.WrittenByteLemmas.{is_word_byte, list_all-weaker, list_all-both, basic_text-words}
-use Rattle.rr_text.proofs.WrittenLemmas.{decimal-digits, digits_value-decimal, is_number-decimal, basic-written}
-use Rattle.rr_text.proofs.WrittenListLemmas.{IsTransitive, with_value-last, IsAbove, IsAbove-next}
+use Rattle.rr_text.proofs.WrittenLemmas.{decimal-digits}
 use Rattle.rr_vcal.specs.Writing.{place_of_item, item_text}
 use Rattle.rr_vcal.proofs.TrimLemmas.{IsSolid, trimmed_start, trimmed_end, ends-solid}
 use Rattle.rr_vcal.proofs.ByteLemmas.{is_written, is_solid, written-solid, solid-digit, solid-word, no_blank, none-of, capitals-written}
@@ -302,7 +283,8 @@ vrule_text-written rule valid years =
 pub vrule_text-begins : (rule : VRule) → begins_blank (vrule_text rule) ≡ false
 vrule_text-begins rule = ap begins_blank (rule-spaced rule) ∙ head_text-begins rule.family rule.interval (spaced (words_of rule.items rule.end))
 
-ends-words : (head : List ℕ) (items : List Item) (end : End) → AreSolid (words_of items end) → begins_blank (reverse (head ++ spaced (words_of items end))) ≡ false
+ends-words : (head : List ℕ) (items : List Item) (end : End) → AreSolid (words_of items end)
+    → begins_blank (reverse (head ++ spaced (words_of items end))) ≡ false
 unfolding words_of end_words
 ends-words head items end h = by (list_words None items) end h
   where
@@ -331,4 +313,3 @@ rule-pieces rule valid years =
     ∙ ap (slice_split is_blank) (rule-spaced rule)
     ∙ split-spaced (head_text rule.family rule.interval) (words_of rule.items rule.end) (head-solid rule.family rule.interval small)
     (words-solid rule valid years)
-

@@ -1,18 +1,17 @@
 -- The words of a written rule, and what each is read as (vCalendar 1.0, basic recurrence rule grammar).
-use Rattle.std.proofs.Common.{◌≡◌, ℕ, zero, suc, ◌+◌, ◌-◌, ◌^◌, ◌<◌, ◌≤◌, ◌==◌, ◌&&◌, ◌||◌, Bool, true, false, if◌then◌else◌, List, [], ◌∷◌, ◌++◌, length, take}
-use Rattle.std.proofs.Common.{drop, slice_index, Option, Some, None, Result, Ok, ℤ, pos, negsuc, neg_ℤ, nat_abs, refl, sym, ap, ◌∙◌, length-append, append_assoc, arith}
-use Rattle.std.specs.Prelude.{codes, nat_le, nat_lt}
+use Rattle.std.proofs.Common.{◌≡◌, ℕ, suc, ◌-◌, ◌^◌, ◌<◌, ◌≤◌, ◌==◌, ◌&&◌, ◌||◌, Bool, true, false, if◌then◌else◌, List, [], ◌∷◌, ◌++◌, length, take}
+use Rattle.std.proofs.Common.{drop, slice_index, None, Ok, ℤ, pos, negsuc, neg_ℤ, nat_abs, refl, ap, ◌∙◌, length-append, append_assoc, arith}
+use Rattle.std.specs.Prelude.{codes, nat_le}
 use Rattle.std.specs.Fmt.{decimal}
 use Rattle.std.specs.List.{list_all}
-use Rattle.std.specs.Str.{bytes_eq}
-use Rattle.std.proofs.lemmas.Bool.{and_parts, and_from}
+use Rattle.std.proofs.lemmas.Bool.{and_from}
 use Rattle.std.proofs.lemmas.Bool.Decides.{nat_tests}
 use Rattle.std.proofs.lemmas.Fmt.{length-decimal-le, decimal_nonempty}
 use Rattle.std.proofs.lemmas.List.{take_at, drop_at, get_or_at}
 use Rattle.rr_model.specs.Moment.{day_part, second_part}
 use Rattle.rr_model.specs.Moment.Years.{IsInYears}
 use Rattle.rr_model.specs.Rule.Validity.{is_absent}
-use Rattle.rr_model.specs.Text.Digits.{is_digit, digits_value}
+use Rattle.rr_model.specs.Text.Digits.{is_digit}
 use Rattle.rr_model.specs.Text.Moments.{is_letter_t}
 use Rattle.rr_model.specs.Text.Rules.{text_after}
 use Rattle.rr_model.specs.Text.RuleValues.{weekday_named}
@@ -21,10 +20,8 @@ use Rattle.rr_model.specs.Vcal.Rule.{is_short_number, place_of, number_of, front
 use Rattle.rr_model.specs.Vcal.Written.{marked_text, month_day_text}
 use Rattle.rr_model.specs.declared.kind.Kind.{Kind}
 use Rattle.rr_model.specs.declared.kind.Kind.TheVariants.{Days, Moments}
-use Rattle.rr_model.proofs.WholeLemmas.{floor_mod_below}
 use Rattle.rr_text.proofs.WrittenByteLemmas.{is_word_byte, list_all-weaker, list_all-both}
 use Rattle.rr_text.proofs.WrittenLemmas.{decimal-digits, digits_value-decimal, is_number-decimal, basic_date_text-digits, length-basic_date_text}
-use Rattle.rr_text.proofs.WrittenLemmas.{length-basic_time_text}
 use Rattle.rr_text.proofs.WrittenValueLemmas.{weekday-written}
 use Rattle.rr_vcal.proofs.ByteLemmas.{is_solid, is_marked_byte, solid-digit, solid-word, solid-marked, marked-digit, all-take, all-drop, other_text}
 
@@ -117,10 +114,15 @@ month_day-word (negsuc n) h = by (n == 0)
 no_weekday : (text : List ℕ) → list_all is_marked_byte text ≡ true → weekday_named text ≡ None
 unfolding weekday_named
 no_weekday text h =
-    rw (other_text is_marked_byte text 77 (79 ∷ []) h refl, other_text is_marked_byte text 84 (85 ∷ []) h refl,
-    other_text is_marked_byte text 87 (69 ∷ []) h refl, other_text is_marked_byte text 84 (72 ∷ []) h refl,
-    other_text is_marked_byte text 70 (82 ∷ []) h refl, other_text is_marked_byte text 83 (65 ∷ []) h refl,
-    other_text is_marked_byte text 83 (85 ∷ []) h refl) refl
+    rw (
+      other_text is_marked_byte text 77 (79 ∷ []) h refl,
+      other_text is_marked_byte text 84 (85 ∷ []) h refl,
+      other_text is_marked_byte text 87 (69 ∷ []) h refl,
+      other_text is_marked_byte text 84 (72 ∷ []) h refl,
+      other_text is_marked_byte text 70 (82 ∷ []) h refl,
+      other_text is_marked_byte text 83 (65 ∷ []) h refl,
+      other_text is_marked_byte text 83 (85 ∷ []) h refl,
+    ) refl
 
 pub marked_text-no_weekday : (n : ℤ) → nat_abs n < 1_000 → weekday_named (marked_text n) ≡ None
 marked_text-no_weekday n h = no_weekday (marked_text n) (marked_text-bytes n h)
@@ -179,8 +181,12 @@ module _ (line : ℕ) where
       by : (t : Bool) → (n == 0) ≡ t → month_day_of line (if t then codes "LD" else decimal (suc n) ++ codes "-") ≡ Ok (negsuc n)
       by true e = let last : n ≡ 0 = grind (arith, nat_tests, e) in rw last refl
       by false e =
-          rw (other_text is_marked_byte (decimal (suc n) ++ 45 ∷ []) 76 (68 ∷ []) (marked-bytes (suc n) 45 (omega arith) refl) refl,
-          ends-no_plus (decimal (suc n)), ends-minus (decimal (suc n)), front_of (decimal (suc n)) 45)
+          rw (
+            other_text is_marked_byte (decimal (suc n) ++ 45 ∷ []) 76 (68 ∷ []) (marked-bytes (suc n) 45 (omega arith) refl) refl,
+            ends-no_plus (decimal (suc n)),
+            ends-minus (decimal (suc n)),
+            front_of (decimal (suc n)) 45,
+          )
           (place-read 31 (suc n) true low high (omega arith))
 
 -- ---- end moments

@@ -1,10 +1,9 @@
 -- Both passes over the lines of a written series.
-use Rattle.std.proofs.Common.{◌≡◌, ℕ, ◌+◌, ◌<◌, ◌≤◌, Bool, true, false, List, [], ◌∷◌, ◌++◌, length, map, Option, Some, None, Result, Ok, ℤ, refl, sym, ap, ◌∙◌}
+use Rattle.std.proofs.Common.{◌≡◌, ℕ, ◌+◌, ◌<◌, ◌≤◌, Bool, true, false, List, [], ◌∷◌, ◌++◌, length, map, Option, None, Result, Ok, ℤ, refl, sym, ap, ◌∙◌}
 use Rattle.std.proofs.Common.{append_assoc, append-nil, arith}
 use Rattle.std.specs.Prelude.{nat_le, int_lt}
-use Rattle.std.specs.List.{list_all, list_any, AllByRecursion, slice_split}
+use Rattle.std.specs.List.{list_all, AllByRecursion, slice_split}
 use Rattle.std.proofs.lemmas.Bool.Decides.{nat_tests}
-use Rattle.std.proofs.lemmas.Int.{ints}
 use Rattle.std.proofs.lemmas.List.Splits.{slice_split_none}
 use Rattle.std.proofs.lemmas.Bool.{and_parts}
 use Rattle.rr_model.specs.Moment.{day_part, is_same_kind}
@@ -12,15 +11,12 @@ use Rattle.rr_model.specs.Moment.Years.{IsInYears}
 use Rattle.rr_model.specs.Rising.{Rises, with_value}
 use Rattle.rr_model.specs.Rule.Validity.{EndsInYears}
 use Rattle.rr_model.specs.Text.Calendars.{end_beside}
-use Rattle.rr_model.specs.Text.Moments.{basic}
-use Rattle.rr_model.specs.Text.Passes.{Stated, Beside, has_slash, date_value, judged_date, judged_dates, judged_line, first_pass, put_date, with_date, with_line}
+use Rattle.rr_model.specs.Text.Passes.{Beside, has_slash, date_value, judged_date, judged_dates, judged_line, first_pass, put_date, with_date, with_line}
 use Rattle.rr_model.specs.Text.Passes.{with_dates, second_pass}
 use Rattle.rr_model.specs.Text.RuleValues.{◌>>=◌}
-use Rattle.rr_model.specs.Text.Steps.{in_turn}
 use Rattle.rr_model.specs.Text.Written.{basic_text}
 use Rattle.rr_model.specs.Vcal.Items.{item_lt}
 use Rattle.rr_model.specs.Vcal.Reading.{filled_items, vrule_beside, is_comma_or_semicolon, vcal_language}
-use Rattle.rr_model.specs.Vcal.Rule.{stated_vrule}
 use Rattle.rr_model.specs.Vcal.Validity.{IsValidVRule}
 use Rattle.rr_model.specs.Vcal.Written.{vrule_text}
 use Rattle.rr_model.specs.declared.item.Item.{Item}
@@ -33,19 +29,18 @@ use Rattle.rr_model.specs.declared.rule.End.{End}
 use Rattle.rr_model.specs.declared.rule.End.TheVariants.{Never, Until, Count, Both}
 use Rattle.rr_model.specs.declared.stamp.Stamp.{Stamp}
 use Rattle.rr_model.specs.declared.used.LineName.{LineName}
-use Rattle.rr_model.specs.declared.used.LineName.TheVariants.{Dtstart, Rrule, Rdate, Exdate, Exrule}
-use Rattle.rr_model.specs.declared.used.UsedLine.{UsedLine}
+use Rattle.rr_model.specs.declared.used.LineName.TheVariants.{Dtstart, Rrule, Rdate, Exdate}
 use Rattle.rr_model.specs.declared.vcal.FamilyKind.{FamilyKind}
 use Rattle.rr_model.specs.declared.vcal.VRule.{VRule}
 use Rattle.rr_model.proofs.RisingSetLemmas.{Rises-tail}
 use Rattle.rr_text.proofs.WrittenByteLemmas.{is_word_byte, basic_text-words}
 use Rattle.rr_text.proofs.WrittenLemmas.{basic-written}
-use Rattle.rr_text.proofs.WrittenListLemmas.{IsTransitive, with_value-last, IsAbove, IsAbove-next}
+use Rattle.rr_text.proofs.WrittenListLemmas.{with_value-last, IsAbove, IsAbove-next}
 use Rattle.rr_text.proofs.WrittenValueLemmas.{int_lt-transitive}
 use Rattle.rr_vcal.proofs.RuleReadLemmas.{until_of, stated-written}
 use Rattle.rr_vcal.proofs.RuleTextLemmas.{vrule_text-written, vrule_text-begins, vrule_text-ends, moment-solid}
 use Rattle.rr_vcal.proofs.ByteLemmas.{none-of, no_separator, no_slash}
-use Rattle.rr_vcal.proofs.WrittenLineLemmas.{WrittenLine, IsValue, HaveValues, value-trimmed, value-solid, used_from}
+use Rattle.rr_vcal.proofs.WrittenLineLemmas.{WrittenLine, IsValue, value-trimmed, value-solid, used_from}
 
 -- a date or a moment as it is written
 abbrev pub stamp_of : Kind → ℤ → Stamp
@@ -134,7 +129,8 @@ module _ (start : Option Stamp) where
       (reads-rules next rules ls h.1 (omega (arith, room)) more)
 
   pub reads-dates : (name : LineName) (is_plus : Bool) (kind : Kind)
-      → ((k : ℕ) (pass : FirstPass) (text : List ℕ) → judged_line vcal_language k name pass text ≡ judged_dates k is_plus pass (slice_split is_comma_or_semicolon text))
+      → ((k : ℕ) (pass : FirstPass) (text : List ℕ) → judged_line vcal_language k name pass text
+      ≡ judged_dates k is_plus pass (slice_split is_comma_or_semicolon text))
       → (pass : FirstPass) (dates : List ℤ) (ls : List WrittenLine) → AllByRecursion (IsInYears kind) dates → pass.date_count + length dates ≤ MAX_DATES
       → ((q : FirstPass) → q.start ≡ pass.start → q.date_count ≡ pass.date_count + length dates → Reads q ls)
       → Reads pass (map (date_line name kind) dates ++ ls)
