@@ -44,6 +44,7 @@ use Rattle.rr_vcal.proofs.WordLemmas.{marked-read, month_day-read, basic_text-mo
 
 -- ---- what is read of a rule
 
+-- the places of a group that has this one, or none
 abbrev place_list : Option ℤ → List ℤ
 place_list None = []
 place_list (Some n) = n ∷ []
@@ -131,6 +132,7 @@ whole-items f place item (next ∷ items) h = whole-items f (place_of_item item)
 
 -- ---- the end
 
+-- the number of events and the end moment that the words of an end state
 abbrev pub count_of : End → Option ℕ
 count_of Never = Some 0
 count_of (Count m) = Some m
@@ -165,9 +167,10 @@ item_lt-transitive a b c h k =
     let second = is_less (item_cmp b c) (item_same b c ∙ k) in
     sym (item_same a c) ∙ ap is_lt (item_total.trans a b c first second)
 
-above_none : (items : List Item) → IsAbove item_lt item_lt-transitive [] items
-above_none [] = tt
-above_none (item ∷ items) = refl
+-- any values rise from none
+pub above_none : {X : Type 0} (below : X → X → Bool) (transitive : IsTransitive below) (xs : List X) → IsAbove below transitive [] xs
+above_none below transitive [] = tt
+above_none below transitive (x ∷ xs) = refl
 
 -- a daily rule has its one item
 daily_items : (item : Item) (items : List Item) → AllByRecursion (IsItemOf family.D) (item ∷ items) → Rises item_lt (item ∷ items) → item ∷ items ≡ Every ∷ []
@@ -356,7 +359,7 @@ module _ (line : ℕ) where
   unfolding words_of
   listed-read f n items end first fits is_whole h rises count years =
       ap (λ (l : List Item). steps (Some (so_far f n l None)) (list_words None items ++ end_words end)) first
-      ∙ items-read f n [] None items (end_words end) fits h rises (above_none items)
+      ∙ items-read f n [] None items (end_words end) fits h rises (above_none item_lt item_lt-transitive items)
       ∙ end-read f n items (last_place None items) is_whole end count years
 
   daily-read : (n : ℕ) (items : List Item) (end : End) → items ≡ Every ∷ [] → HasCountInRange end → EndsInYears end

@@ -37,7 +37,7 @@ use Rattle.rr_text.proofs.WrittenByteLemmas.{is_word_byte, basic_text-words}
 use Rattle.rr_text.proofs.WrittenLemmas.{basic-written}
 use Rattle.rr_text.proofs.WrittenListLemmas.{with_value-last, IsAbove, IsAbove-next}
 use Rattle.rr_text.proofs.WrittenValueLemmas.{int_lt-transitive}
-use Rattle.rr_vcal.proofs.RuleReadLemmas.{until_of, stated-written}
+use Rattle.rr_vcal.proofs.RuleReadLemmas.{above_none, until_of, stated-written}
 use Rattle.rr_vcal.proofs.RuleTextLemmas.{vrule_text-written, vrule_text-begins, vrule_text-ends, moment-solid}
 use Rattle.rr_vcal.proofs.ByteLemmas.{none-of, no_separator, no_slash}
 use Rattle.rr_vcal.proofs.WrittenLineLemmas.{WrittenLine, IsValue, value-trimmed, value-solid, used_from}
@@ -162,10 +162,6 @@ same_kind : (kind : Kind) → is_same_kind kind kind ≡ true
 same_kind Days = refl
 same_kind Moments = refl
 
-above_none : (dates : List ℤ) → IsAbove int_lt int_lt-transitive [] dates
-above_none [] = tt
-above_none (at ∷ dates) = refl
-
 module _ (kind : Kind) (first : ℤ) (r : Result (Beside VRule) Refusal) where
   abbrev pub start : Stamp
   start = stamp_of kind first
@@ -236,5 +232,5 @@ module _ (kind : Kind) (first : ℤ) (r : Result (Beside VRule) Refusal) where
       let plus_lines = map (date_line Rdate kind) plus ++ minus_lines in
       gives-next (beside_of [] [] []) (beside_of [] [] []) (date_line Dtstart kind first) (map rule_line rules ++ plus_lines) (λ k. refl)
       (gives-rules [] [] [] rules plus_lines h
-      (gives-dates Rdate true (λ l. beside_of rules l []) (λ k b t. refl) (λ l at. refl) [] plus minus_lines hp rp (above_none plus)
-      (gives-dates Exdate false (λ l. beside_of rules plus l) (λ k b t. refl) (λ l at. refl) [] minus [] hm rm (above_none minus) (λ k. sym is))))
+      (gives-dates Rdate true (λ l. beside_of rules l []) (λ k b t. refl) (λ l at. refl) [] plus minus_lines hp rp (above_none int_lt int_lt-transitive plus)
+      (gives-dates Exdate false (λ l. beside_of rules plus l) (λ k b t. refl) (λ l at. refl) [] minus [] hm rm (above_none int_lt int_lt-transitive minus) (λ k. sym is))))
