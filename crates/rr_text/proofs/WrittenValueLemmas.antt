@@ -144,8 +144,8 @@ number_within-written line bounds z h =
   where
     read : (b : Bool) (size : ℕ) (value : ℤ) → b ≡ true → size ≡ nat_abs z → value ≡ z → nat_le bounds.least (nat_abs z) ≡ true
         → nat_le (nat_abs z) bounds.most ≡ true
-        → (if b then (if nat_le bounds.least size && nat_le size bounds.most then Ok value else Err (outside line bounds size)) else Err (BadRule
-    line)) ≡ Ok z
+        → (if b then (if nat_le bounds.least size && nat_le size bounds.most then Ok value else Err (outside line bounds size))
+        else Err (BadRule line)) ≡ Ok z
     read b size value e f g from to = rw (e, f, g, from, to) refl
 
 pub signed_decimal-no_comma : (z : ℤ) → nat_abs z < 2 ^ 64 → has_no 44 (signed_decimal z) ≡ true
