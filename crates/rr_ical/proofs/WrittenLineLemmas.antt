@@ -80,8 +80,8 @@ pub event_scan-written : (lines : List WrittenLine) → AllByRecursion IsPropert
 unfolding event_scan
 event_scan-written lines h =
     let bytes = lines_of folded_line (texts_of lines) in
-    ap (λ (ls : List Line). scanned (is_bare_text ls) (length (physical_lines bytes)) no_components ls) (folded_lines_unfold (texts_of lines)
-    (are_lines lines h))
+    ap (λ (ls : List Line). scanned (is_bare_text ls) (length (physical_lines bytes)) no_components ls)
+    (folded_lines_unfold (texts_of lines) (are_lines lines h))
     ∙ ap (λ b. scanned (not b) (length (physical_lines bytes)) no_components (numbered 1 (texts_of lines))) (no_begins 1 lines h)
     ∙ scanned-written 1 (length (physical_lines bytes)) lines h
 

@@ -71,7 +71,7 @@ module _ {X : Type 0} (step : X → UsedLine → Result X Refusal) where
         → (step (state done) (used_line k (line_of y).name (line_of y).value) ≡ Ok (state (done ++ y ∷ []))) × Fits (done ++ y ∷ []) ys
 
     pub lines_each : GoesOn → (k : ℕ) (done ys : List Y) → Fits done ys
-    → in_turn step (state done) (used_from k (map line_of ys)) ≡ Ok (state (done ++ ys))
+        → in_turn step (state done) (used_from k (map line_of ys)) ≡ Ok (state (done ++ ys))
     lines_each more k done [] h = ap (λ (l : List Y). Ok (state l)) (sym (append-nil done))
     lines_each more k done (y ∷ ys) h =
         let one = more k done y ys h in
@@ -186,8 +186,7 @@ pub rule_judged : (start : Stamp) (kind : Kind) → GoesOn first_step ruled (rul
 rule_judged start kind k done rule rules h =
     let w = h.1.0 in
     let few : nat_le 16 (length done) ≡ false = grind (arith, nat_tests, h.0) in
-    let counted : length done + 1 ≡ length (done ++ rule ∷ []) = omega (arith, length_push done rule) in
-    (
+    let counted : length done + 1 ≡ length (done ++ rule ∷ []) = omega (arith, length_push done rule) in (
       rw (few, stated_rule-written k kind rule w.valid w.one_end w.years) refl ∙ ap (λ n. Ok (passed start n 0)) counted,
       few_next kind done rule rules h,
     )
@@ -227,8 +226,7 @@ module _ (kind : Kind) (start : ℤ) where
 
   pub rule_put : GoesOn (second_step (stamp_of kind start)) ruled rules_beside (AreFew kind)
   rule_put k done rule rules h =
-      let w = h.1.0 in
-      (
+      let w = h.1.0 in (
         rw (stated_rule-written k kind rule w.valid w.one_end w.years, rule_beside-written k kind start rule w) refl,
         few_next kind done rule rules h,
       )

@@ -12,7 +12,8 @@ use Rattle.rr_model.specs.Rising.{Rises, day_item_lt}
 use Rattle.rr_model.specs.Rule.Validity.{IsDayItem, HasCountInRange, EndsInYears, IsValidRule, is_absent, is_allowed}
 use Rattle.rr_model.specs.Text.Calendars.{stated_rule}
 use Rattle.rr_model.specs.Text.Rules.{part_named, name_of, with_parts, no_parts, end_of, rule_with, rule_of, rule_parts}
-use Rattle.rr_model.specs.Text.RuleValues.{◌>>=◌, numbers_of, day_items_of, number_within, has_number_form, is_day_item, day_item_within, unsigned, signed, seconds}
+use Rattle.rr_model.specs.Text.RuleValues.{◌>>=◌, numbers_of, day_items_of, number_within, has_number_form, is_day_item, day_item_within, unsigned}
+use Rattle.rr_model.specs.Text.RuleValues.{signed, seconds}
 use Rattle.rr_model.specs.Text.WriteLaws.{IsOneEnd}
 use Rattle.rr_model.specs.Text.Written.{basic_text, freq_text, weekday_text, day_item_text, part_unless, list_part, end_text, rule_text}
 use Rattle.rr_model.specs.declared.kind.Kind.{Kind}

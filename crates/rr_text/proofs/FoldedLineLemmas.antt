@@ -74,8 +74,8 @@ pieces-unfold (suc n) k done number front (b ∷ bs) rest h =
     let whole : (front ++ piece) ++ left ≡ front ++ (b ∷ bs) =
     append_assoc front piece left ∙ ap (λ (t : List ℕ). front ++ t) (take-append-drop 74 (b ∷ bs)) in
     let count : (k + 1) + length (pieces_of n left) ≡ k + suc (length (pieces_of n left)) = omega arith in
-    ap (λ (ls : List Line). with_physical_lines false (k + 1) ls (pieces_of n left ++ rest)) (sym (continued false k done (line number front) (32 ∷
-    piece) refl))
+    ap (λ (ls : List Line). with_physical_lines false (k + 1) ls (pieces_of n left ++ rest))
+    (sym (continued false k done (line number front) (32 ∷ piece) refl))
     ∙ pieces-unfold n (k + 1) done number (front ++ piece) left rest fewer
     ∙ ap (λ (t : List ℕ). with_physical_lines false ((k + 1) + length (pieces_of n left)) (done ++ line number t ∷ []) rest) whole
     ∙ ap (λ (m : ℕ). with_physical_lines false m (done ++ line number (front ++ (b ∷ bs)) ∷ []) rest) count

@@ -96,9 +96,10 @@ module _ (p : ℕ → Bool) (return : p 13 ≡ true) (feed : p 10 ≡ true) (bla
   all-line : (text : List ℕ) → list_all p text ≡ true → list_all p (folded_line text) ≡ true
   unfolding folded
   all-line text h =
-      list_all-both p (folded text) (13 ∷ 10 ∷ []) (list_all-both p (take 75 text) (folded_rest (length text / 74) (drop 75 text)) (list_all-take p
-      75 text h)
-      (all-rest (length text / 74) (drop 75 text) (list_all-drop p 75 text h))) (all-break [] refl)
+      let rest = folded_rest (length text / 74) (drop 75 text) in
+      list_all-both p (folded text) (13 ∷ 10 ∷ [])
+      (list_all-both p (take 75 text) rest (list_all-take p 75 text h) (all-rest (length text / 74) (drop 75 text) (list_all-drop p 75 text h)))
+      (all-break [] refl)
 
   all-lines : (texts : List (List ℕ)) → AllByRecursion (λ (t : List ℕ). list_all p t ≡ true) texts → list_all p (lines_of folded_line texts) ≡ true
   all-lines [] h = refl

@@ -80,9 +80,9 @@ pub basic_text-words : (kind : Kind) (t : ℤ) → IsInYears kind t → list_all
 unfolding basic_text
 basic_text-words Days t h = words-from_digits (basic_date_text t) (basic_date_text-digits t h)
 basic_text-words Moments t h =
+    let below = floor_mod_below t 86_400 (omega arith) in
     let date = words-from_digits (basic_date_text (day_part Moments t)) (basic_date_text-digits (day_part Moments t) h) in
-    let time = words-from_digits (basic_time_text (second_part Moments t)) (basic_time_text-digits (second_part Moments t) (floor_mod_below t 86_400
-    (omega arith))) in
+    let time = words-from_digits (basic_time_text (second_part Moments t)) (basic_time_text-digits (second_part Moments t) below) in
     list_all-both is_word_byte (basic_date_text (day_part Moments t) ++ codes "T") (basic_time_text (second_part Moments t))
     (list_all-both is_word_byte (basic_date_text (day_part Moments t)) (codes "T") date refl) time
 
