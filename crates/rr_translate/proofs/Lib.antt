@@ -1,0 +1,3 @@
+mod UptoCountLemmas
+mod OneEndLemmas
+mod SoundLemmas

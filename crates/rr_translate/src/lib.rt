@@ -1,2 +1,4 @@
 //! A series in another language of recurrences, or its first single rule.
 #![tactic(auto)]
+
+mod one_end;
