@@ -1,3 +1,4 @@
-mod UptoCountLemmas
-mod OneEndLemmas
-mod SoundLemmas
+pub mod UptoCountLemmas
+pub mod OneEndLemmas
+pub mod SoundLemmas
+pub mod CalendarLemmas

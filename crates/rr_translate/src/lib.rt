@@ -1,4 +1,5 @@
 //! A series in another language of recurrences, or its first single rule.
 #![tactic(auto)]
 
+mod calendar;
 mod one_end;

@@ -3,9 +3,9 @@ ghost use Rattle.std.specs.Prelude.{◌≡◌, ◌≤◌, ◌≤ℤ◌, All, IfO
 ghost use Rattle.rr_iter.specs.Ends.{IsSoundRule};
 ghost use Rattle.rr_model.specs.Moment.Years.{IsInYears};
 ghost use Rattle.rr_model.specs.Rule.Member.{members_to};
+ghost use Rattle.rr_model.specs.Series.Soundness.{IsSound};
 ghost use Rattle.rr_translate.specs.OneEnd.{one_end, with_one_end, with_one_ends};
 
-use rr_check::Checked;
 use rr_iter::{Place, RuleLazy, Upto, place_of};
 use rr_model::{End, Kind, NoMemory, Rule, Rules, Series, day_part};
 use std::alloc::Global;
@@ -81,10 +81,10 @@ fn rules_with_one_end(
 /// The series with the same occurrences of whose rules none has both ends (RFC 5545, section 3.3.10).
 ///
 /// Where a rule has both, its members up to the UNTIL are counted, one occupied day after another.
-pub(crate) fn with_one_ends(alloc: Global, checked: &Checked) -> Result<Series, NoMemory>
-    ensures { IfOk result (λ made. made ≡ with_one_ends checked.now) }
+pub(crate) fn with_one_ends(alloc: Global, series: &Series) -> Result<Series, NoMemory>
+    requires sound { IsSound series.now }
+    ensures { IfOk result (λ made. made ≡ with_one_ends series.now) }
 {
-    let series = checked.series();
     Ok(Series {
         kind: series.kind,
         start: series.start,

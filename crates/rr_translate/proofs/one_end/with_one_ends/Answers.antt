@@ -6,7 +6,8 @@ use Rattle.rr_translate.proofs.one_end.with_one_ends.Goals as goal
 pub returns : goal.returns
 unfolding with_one_ends
 returns c =
-    let s = c.series-series.result.now in
-    let start = moment_back s.kind s.start c.series-series.ensures.sound.valid.start in
-    let rules = c.in_ok-rules_with_one_end.ensures ∙ ap (λ z. map (with_one_end s.kind z) c.as_slice.result.now) start ∙ ap (map (with_one_end s.kind s.start)) c.as_slice.ensures in
-    (rw (start, rules, c.in_ok-copy.ensures, c.in_ok-copy-2.ensures) refl) ∙ ap with_one_ends c.series-series.ensures.value
+    let s = c.args.series.now in
+    let start = moment_back s.kind s.start c.requires.sound.valid.start in
+    let rules = c.in_ok-rules_with_one_end.ensures ∙ ap (λ z. map (with_one_end s.kind z) c.as_slice.result.now) start
+        ∙ ap (map (with_one_end s.kind s.start)) c.as_slice.ensures in
+    rw (start, rules, c.in_ok-copy.ensures, c.in_ok-copy-2.ensures) refl
