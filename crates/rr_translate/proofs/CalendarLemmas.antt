@@ -13,13 +13,14 @@ use Rattle.rr_model.specs.Series.Soundness.{IsSound}
 use Rattle.rr_model.specs.Series.Validity.{IsEmptySeries, IsValidSeries}
 use Rattle.rr_model.specs.Sets.Verdict.{HaveEqualOccurrences}
 use Rattle.rr_model.specs.Text.Calendars.{reads_calendar}
-use Rattle.rr_model.specs.Text.WriteLaws.{CalendarIsReadBack, IsOneEnd}
+use Rattle.rr_model.specs.Text.WriteLaws.{IsOneEnd}
 use Rattle.rr_model.specs.Text.Written.{calendar_written}
 use Rattle.rr_model.specs.declared.kind.Kind.{Kind}
 use Rattle.rr_model.specs.declared.kind.Kind.TheVariants.{Days}
 use Rattle.rr_model.specs.declared.lang.Lang.TheVariants.{Rrule}
 use Rattle.rr_model.specs.declared.rule.Series.{Series}
 use Rattle.rr_model.proofs.RisingSetLemmas.{Contains-head, Contains-none}
+use Rattle.rr_rrule.proofs.WrittenSeriesLemmas.{calendar_is_read_back}
 use Rattle.rr_translate.specs.OneEnd.{with_one_ends}
 use Rattle.rr_translate.specs.Target.{States}
 use Rattle.rr_translate.specs.Translated.{IsCalendarText}
@@ -63,11 +64,11 @@ unfolding with_one_ends
 same_start series = refl
 
 -- read again, its text states the series with one end for each rule
-written_states : CalendarIsReadBack → (series : Series) → IsSound series → series.start_counts ≡ true
+written_states : (series : Series) → IsSound series → series.start_counts ≡ true
     → States Rrule (Occurs series) (calendar_written (with_one_ends series))
-written_states law series s counts = record {
+written_states series s counts = record {
   series = with_one_ends series;
-  is_read = law (with_one_ends series) (series_valid series s.valid) (same_start series ∙ counts) (ends_are_one series);
+  is_read = calendar_is_read_back (with_one_ends series) (series_valid series s.valid) (same_start series ∙ counts) (ends_are_one series);
   sound = sound_is_not_refused (with_one_ends series) (series_sound series s);
   equal = same_occurrences series s;
 }
@@ -85,8 +86,8 @@ left_valid = record {
   ends = All-nil (λ rule. EndsInYears rule.end);
   plus = All-nil (IsInYears Days);
   minus = All-cons (IsInYears Days) (pos 0) [] zero_in_years (All-nil (IsInYears Days));
-  plus_rises = ?plus;
-  minus_rises = ?minus;
+  plus_rises = tt;
+  minus_rises = tt;
   few_dates = omega arith;
 }
 
@@ -94,20 +95,21 @@ same_given : with_one_ends none_given ≡ none_given
 unfolding with_one_ends
 same_given = refl
 
-empty_states : CalendarIsReadBack → States Rrule (Occurs none_given) (calendar_written (with_one_ends none_given))
-empty_states law = record {
+empty_states : States Rrule (Occurs none_given) (calendar_written (with_one_ends none_given))
+empty_states = record {
   series = none_left;
-  is_read = (ap (reads_calendar None) (ap calendar_written same_given ∙ same_text)) ∙ law none_left left_valid refl (All-nil (λ rule. IsOneEnd rule.end));
+  is_read = (ap (reads_calendar None) (ap calendar_written same_given ∙ same_text)) ∙ calendar_is_read_back none_left left_valid refl (All-nil (λ rule. IsOneEnd rule.end));
   sound = refl;
   equal = λ k t. (λ o. absurd (left_is_empty k t o), λ o. absurd (given_is_empty k t o));
 }
-pub is_calendar_text : CalendarIsReadBack → (series : Series) → IsSound series → series_cycle series ≤ 16_777_216
+-- the text that is written for a sound series whose cycle is within the limit
+pub is_calendar_text : (series : Series) → IsSound series → series_cycle series ≤ 16_777_216
     → IsCalendarText series (calendar_written (with_one_ends series))
-is_calendar_text law series s few = record {
+is_calendar_text series s few = record {
   written = refl;
   few = subst (λ n. n ≤ 16_777_216) (sym (same_series_cycle series)) few;
   states = elim series.start_counts as (λ b. series.start_counts ≡ b → States Rrule (Occurs series) (calendar_written (with_one_ends series))) [
-    | true ↦ λ e. written_states law series s e
-    | false ↦ λ e. subst (λ x. States Rrule (Occurs x) (calendar_written (with_one_ends x))) (sym (is_none series e (s.valid.start_counts e))) (empty_states law)
+    | true ↦ λ e. written_states series s e
+    | false ↦ λ e. subst (λ x. States Rrule (Occurs x) (calendar_written (with_one_ends x))) (sym (is_none series e (s.valid.start_counts e))) empty_states
   ] refl;
 }
