@@ -102,6 +102,7 @@ empty_states = record {
   sound = refl;
   equal = λ k t. (λ o. absurd (left_is_empty k t o), λ o. absurd (given_is_empty k t o));
 }
+
 -- the text that is written for a sound series whose cycle is within the limit
 pub is_calendar_text : (series : Series) → IsSound series → series_cycle series ≤ 16_777_216
     → IsCalendarText series (calendar_written (with_one_ends series))

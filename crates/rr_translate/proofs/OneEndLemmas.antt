@@ -74,7 +74,7 @@ module _ (rule : Rule) (kind : Kind) (start : ℤ) where
       let e : nat_abs ((u -ℤ start) +ℤ pos 1) ≡ suc n = omega (arith, ints, l, h) in
       let at : start +ℤ pos n ≡ u = omega (arith, ints, l, h) in
       let before : members_to rule kind start (u -ℤ pos 1) ≡ count_from (is_chosen rule kind start) start n =
-          (let f : nat_abs (((u -ℤ pos 1) -ℤ start) +ℤ pos 1) ≡ n = omega (arith, ints, l, h) in rw f refl) in
+      (let f : nat_abs (((u -ℤ pos 1) -ℤ start) +ℤ pos 1) ≡ n = omega (arith, ints, l, h) in rw f refl) in
       let grown = counts_grow t (u -ℤ pos 1) l (omega (arith, ints, h)) in
       let last : one (is_chosen rule kind start (start +ℤ pos n)) ≡ 1 = rw at (rw c refl) in
       rw e (omega (arith, count_from-suc (is_chosen rule kind start) start n, before, grown, last))
@@ -89,15 +89,15 @@ module _ (rule : Rule) (kind : Kind) (start : ℤ) where
       (λ b. nat_le count (members_to rule kind start at) ≡ b
       → IsWithinEnd (cond b (Count count) (Until other at)) kind t (members_to rule kind start t)
       ↔ ((other ≡ kind) × (t ≤ℤ at) × (members_to rule kind start t ≤ count))) [
-    | true ↦ λ e. (let m : count ≤ members_to rule kind start at = grind (arith, nat_tests) in (
-        λ x. (f.0, by_lt_z {P = t ≤ℤ at} at t (λ h. absurd (omega (arith, counts_more at t f.1 h c, m, x))) (λ h. omega (arith, ints, h)), x),
-        λ x. x.2,
-      ))
-    | false ↦ λ e. (let m : members_to rule kind start at < count = grind (arith, nat_tests) in (
-        λ x. (f.0, x.1, omega (arith, counts_grow t at l x.1, m)),
-        λ x. (x.0, x.1),
-      ))
-  ] refl
+        | true ↦ λ e. (let m : count ≤ members_to rule kind start at = grind (arith, nat_tests) in (
+          λ x. (f.0, by_lt_z {P = t ≤ℤ at} at t (λ h. absurd (omega (arith, counts_more at t f.1 h c, m, x))) (λ h. omega (arith, ints, h)), x),
+          λ x. x.2,
+        ))
+        | false ↦ λ e. (let m : members_to rule kind start at < count = grind (arith, nat_tests) in (
+          λ x. (f.0, x.1, omega (arith, counts_grow t at l x.1, m)),
+          λ x. (x.0, x.1),
+        ))
+      ] refl
 
   -- so many are members up to a moment, whatever the end
   same_count : (end : End) (t : ℤ) → members_to (record rule { end = end }) kind start t ≡ members_to rule kind start t

@@ -3,3 +3,6 @@
 
 mod calendar;
 mod one_end;
+mod targets;
+
+pub use targets::{infer, translate};
