@@ -233,4 +233,5 @@ module _ (kind : Kind) (first : ℤ) (r : Result (Beside VRule) Refusal) where
       gives-next (beside_of [] [] []) (beside_of [] [] []) (date_line Dtstart kind first) (map rule_line rules ++ plus_lines) (λ k. refl)
       (gives-rules [] [] [] rules plus_lines h
       (gives-dates Rdate true (λ l. beside_of rules l []) (λ k b t. refl) (λ l at. refl) [] plus minus_lines hp rp (above_none int_lt int_lt-transitive plus)
-      (gives-dates Exdate false (λ l. beside_of rules plus l) (λ k b t. refl) (λ l at. refl) [] minus [] hm rm (above_none int_lt int_lt-transitive minus) (λ k. sym is))))
+      (gives-dates Exdate false (λ l. beside_of rules plus l) (λ k b t. refl) (λ l at. refl) [] minus [] hm rm (above_none int_lt int_lt-transitive minus)
+      (λ k. sym is))))
