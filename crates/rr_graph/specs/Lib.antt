@@ -3,3 +3,4 @@ pub mod EndTypes
 pub mod FirstOccurrence
 pub mod Ranges
 pub mod Moved
+pub mod Written

@@ -5,6 +5,7 @@ mod event;
 mod first_day;
 mod laws;
 mod members;
+mod names;
 mod pattern;
 mod range;
 mod reading;
@@ -12,6 +13,8 @@ mod recurrence;
 mod rule;
 mod series;
 mod start;
+mod writing;
+mod written;
 
 pub use laws::{
     counterpart_has_occurrences, counterpart_is_sound, counterpart_starts_first,
@@ -19,6 +22,7 @@ pub use laws::{
 };
 pub use reading::read;
 pub use series::to_series;
+pub use writing::write;
 
 #[cfg(test)]
 mod tests;
