@@ -21,3 +21,8 @@ pub mod JsonLemmas
 pub mod ReadingLemmas
 pub mod YearLemmas
 pub mod ReadPatternLemmas
+pub mod WrittenDayLemmas
+pub mod JsonTextLemmas
+pub mod ReadBackLemmas
+pub mod WrittenDataLemmas
+pub mod GraphReadBackLemmas

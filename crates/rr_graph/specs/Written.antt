@@ -1,5 +1,5 @@
 -- What is written for an event that repeats (Microsoft Graph, event, patternedRecurrence).
-use Rattle.std.specs.Prelude.{◌≡◌, ℤ, ℕ, List, ⊤, ⊥}
+use Rattle.std.specs.Prelude.{◌≡◌, ℤ, ℕ, List, ⊤}
 use Rattle.rr_model.specs.Graph.Text.{graph_written}
 use Rattle.rr_model.specs.declared.graph.Repeat.{Repeat}
 use Rattle.rr_model.specs.declared.graph.Repeat.TheVariants as repeat

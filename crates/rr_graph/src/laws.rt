@@ -1,5 +1,5 @@
 // Laws of events, each the contract of a function that does nothing.
-ghost use Rattle.rr_model.specs.Graph.Laws.{GraphCounterpartHasOccurrences};
+ghost use Rattle.rr_model.specs.Graph.Laws.{GraphCounterpartHasOccurrences, GraphIsReadBack};
 ghost use Rattle.rr_graph.specs.FirstOccurrence.{GraphCounterpartStartsFirst, RefusedWhereNoneOccurs};
 ghost use Rattle.rr_graph.specs.Moved.{GraphCounterpartIsSound, MovingStartKeepsOccurrences};
 
@@ -26,4 +26,9 @@ pub fn counterpart_starts_first()
 /// A recurrence is refused as `NoOccurrence` exactly where no day of the years 1 to 9999 is one of its pattern and range.
 pub fn refused_where_none_occurs()
     ensures { RefusedWhereNoneOccurs }
+{}
+
+/// What is written for a valid event that repeats is read back as the event, where its startDate is a day of its pattern.
+pub fn graph_is_read_back()
+    ensures { GraphIsReadBack }
 {}

@@ -18,7 +18,7 @@ mod written;
 
 pub use laws::{
     counterpart_has_occurrences, counterpart_is_sound, counterpart_starts_first,
-    moving_the_start_keeps_occurrences, refused_where_none_occurs,
+    graph_is_read_back, moving_the_start_keeps_occurrences, refused_where_none_occurs,
 };
 pub use reading::read;
 pub use series::to_series;

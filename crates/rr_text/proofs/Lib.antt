@@ -13,3 +13,4 @@ pub mod WrittenByteLemmas
 pub mod WrittenListLemmas
 pub mod WrittenValueLemmas
 pub mod PlainTextLemmas
+pub mod WrittenExtendedLemmas
