@@ -1,7 +1,6 @@
 -- What is written for a valid event that repeats is read back (Microsoft Graph, event, patternedRecurrence).
 use Rattle.std.proofs.Common.{◌≡◌, ℕ, ◌≤◌, Bool, false, not, ◌&&◌, ◌||◌, if◌then◌else◌, List, [], ◌∷◌, ◌++◌, Option, None, Some, Result, Ok, Err}
-use Rattle.std.proofs.Common.{option_and_then, refl, sym, ap, ◌∙◌, ℤ}
-use Rattle.std.specs.Ordering.{int_eq}
+use Rattle.std.proofs.Common.{option_and_then, refl, ap, ◌∙◌, ℤ}
 use Rattle.std.specs.Prelude.{codes, ok_or}
 use Rattle.std.proofs.lemmas.Bool.Decides.{Decides-int_eq}
 use Rattle.std.proofs.lemmas.Str.{is_utf8-from_IsUtf8}
@@ -17,7 +16,8 @@ use Rattle.rr_model.specs.Text.Rules.{has_time}
 use Rattle.rr_model.specs.Graph.Laws.{GraphIsReadBack}
 use Rattle.rr_model.specs.Graph.Members.{member_of, object_or, text_in, json_object}
 use Rattle.rr_model.specs.Graph.Occurrences.{first_repeat_day}
-use Rattle.rr_model.specs.Graph.Reading.{Recurrence, recurrence_of, with_occurrence, repeating, is_all_day, is_named_utc, turned_start, start_moment, event_start}
+use Rattle.rr_model.specs.Graph.Reading.{Recurrence, recurrence_of, with_occurrence, repeating, is_all_day, is_named_utc, turned_start, start_moment}
+use Rattle.rr_model.specs.Graph.Reading.{event_start}
 use Rattle.rr_model.specs.Graph.Reading.{is_text_or_missing, is_flag_or_missing, must, repeating_from, repeat_of, event_of, bare_of, by_pattern}
 use Rattle.rr_model.specs.Graph.Reading.{graph_text, reads_graph}
 use Rattle.rr_model.specs.Graph.Text.{pattern_data, range_data, recurrence_data, graph_written}
@@ -43,7 +43,8 @@ use Rattle.rr_graph.proofs.WrittenDataLemmas.{event_writable, depth-event_data}
 unmarked-brace : (rest : List ℕ) → without_mark (123 ∷ rest) ≡ 123 ∷ rest
 unmarked-brace rest = refl
 
-json-read : (ms : Members) → IsWritable (object ms) → depth (object ms) ≤ 127 → json_object (without_mark (compact_text (object ms) ++ 10 ∷ [])) ≡ Ok (object ms)
+json-read : (ms : Members) → IsWritable (object ms) → depth (object ms) ≤ 127
+    → json_object (without_mark (compact_text (object ms) ++ 10 ∷ [])) ≡ Ok (object ms)
 unfolding json_object
 json-read ms h s =
     ap (λ (t : List ℕ). ok_or (read t) BadJson >>= object_or BadJson) (unmarked-brace (members_text false ms ++ 10 ∷ []))

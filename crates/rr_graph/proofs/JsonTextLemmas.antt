@@ -1,5 +1,5 @@
 -- The text of JSON data, with a line feed behind it, is UTF-8 and is read back as the data (RFC 8259).
-use Rattle.std.proofs.Common.{◌≡◌, ℕ, zero, suc, ◌^◌, ◌<◌, ◌≤◌, max, Bool, true, false, cond, ◌&&◌, List, [], ◌∷◌, ◌++◌, Some, decimal, refl, sym, ap, ap₂, ◌∙◌}
+use Rattle.std.proofs.Common.{◌≡◌, ℕ, suc, ◌^◌, ◌<◌, ◌≤◌, max, Bool, true, false, cond, ◌&&◌, List, [], ◌∷◌, ◌++◌, Some, decimal, refl, sym, ap, ap₂, ◌∙◌}
 use Rattle.std.proofs.Common.{Option, option_and_then, option_map, append_assoc, append-nil, Greater, arith}
 use Rattle.std.specs.Cmp.Lexicographic.{slice_cmp}
 use Rattle.std.specs.Ordering.{nat_cmp, match_ordering}
@@ -8,7 +8,7 @@ use Rattle.std.specs.Str.{IsUtf8}
 use Rattle.std.proofs.lemmas.Fmt.{IsAscii-decimal}
 use Rattle.std.proofs.lemmas.Str.{IsUtf8-append, IsUtf8-from_ascii}
 use Rattle.json.specs.Json as json
-use Rattle.json.specs.Lex.{Lexeme, token, comma, colon, string_token, lex, between, Place, fresh, punctuate, tokens}
+use Rattle.json.specs.Lex.{Lexeme, token, comma, colon, string_token, lex, between, fresh, punctuate, tokens}
 use Rattle.json.specs.Print.{escape, quoted, token_text, begins, ends, print_from, print, IsPrintable, ArePrintable}
 use Rattle.json.specs.Token.{Token, begin_object, end_object, begin_array, end_array, key, bad}
 use Rattle.json.specs.Tree as tree
@@ -21,7 +21,7 @@ use Rattle.json.proofs.Printed.Trees.{value-json_tokens, ArePrintable-json_token
 use Rattle.json.proofs.Printed.Utf8.{IsUtf8-are_ascii, IsUtf8-quoted, IsUtf8-boolean}
 use Rattle.serde_json.specs.Data.{Num, unsigned, negative, float, Data, null, boolean, number, string, array, object, Items, no_items, item, Members}
 use Rattle.serde_json.specs.Data.{no_members, member, put, depth, items_depth, members_depth}
-use Rattle.serde_json.specs.Read.{number_of, of_json, of_items, of_members, max_depth, read}
+use Rattle.serde_json.specs.Read.{of_json, of_items, of_members, max_depth, read}
 use Rattle.serde_json.specs.Written.{outline, items_outline, members_outline, comma_if, compact_text, items_text, members_text}
 use Rattle.serde_json.proofs.Numbers.{number_of-decimal}
 use Rattle.serde_json.proofs.Texts.{print-outline}
@@ -104,7 +104,8 @@ lex-behind c (t ∷ ts) behind h e =
     ∙ ap (λ (l : List Lexeme). comma_lexeme ++ l) (append_assoc (token_lexemes t) (lexemes (ends t) ts) (lex between behind)))
 
 -- blanks behind a text change nothing
-tokens-behind : (ts : List Token) (behind : List ℕ) → ArePrintable ts → ends_word behind ≡ true → lex between behind ≡ [] → tokens (print ts ++ behind) ≡ ts
+tokens-behind : (ts : List Token) (behind : List ℕ) → ArePrintable ts → ends_word behind ≡ true → lex between behind ≡ []
+    → tokens (print ts ++ behind) ≡ ts
 unfolding lex
 tokens-behind ts behind h e none =
     ap (punctuate fresh)
@@ -255,7 +256,6 @@ mutual
       ∙ ap Some (joined-joined before (member k d no_members) ms)
 
 -- ---- the text and a line feed
-
 
 tokens-compact_text : (d : Data) → IsWritable d → tokens (compact_text d ++ 10 ∷ []) ≡ tree.json_tokens (outline d)
 unfolding lex

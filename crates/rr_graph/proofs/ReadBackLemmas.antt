@@ -1,6 +1,6 @@
 -- What is written for a pattern and a range is read back (Microsoft Graph, recurrencePattern, recurrenceRange).
-use Rattle.std.proofs.Common.{◌≡◌, ◌⊎◌, ℕ, zero, suc, ◌+◌, ◌<◌, ◌≤◌, ◌==◌, ◌&&◌, nat_le, bit_or, cond, Bool, true, false, if◌then◌else◌, List, [], ◌∷◌, map}
-use Rattle.std.proofs.Common.{Option, None, Some, Result, Ok, Err, option_and_then, refl, sym, ap, ◌∙◌, inl, inr, ℤ, pos, negsuc, arith}
+use Rattle.std.proofs.Common.{◌≡◌, ℕ, zero, suc, ◌<◌, ◌≤◌, ◌==◌, ◌&&◌, nat_le, bit_or, cond, Bool, true, false, List, [], ◌∷◌, map}
+use Rattle.std.proofs.Common.{Option, Some, Result, Ok, option_and_then, refl, sym, ap, ◌∙◌, inl, inr, ℤ, pos, negsuc, arith}
 use Rattle.std.specs.Prelude.{codes, ok_or}
 use Rattle.std.specs.List.{AllByRecursion, filter}
 use Rattle.std.proofs.lemmas.Bool.{le-leb, and_parts}
@@ -10,7 +10,6 @@ use Rattle.serde_json.specs.Data.{Data, Items, no_items, item, string}
 use Rattle.serde_json.specs.View.{items_of}
 use Rattle.rr_model.specs.Moment.Years.{HasFourDigitYear}
 use Rattle.rr_model.specs.Text.RuleValues.{◌>>=◌}
-use Rattle.rr_model.specs.Text.Moments.{extended_date_text}
 use Rattle.rr_model.specs.Graph.Counterpart.{has_weekday}
 use Rattle.rr_model.specs.Graph.Members.{object_in, text_in, number_in, within, form_named, day_named, index_named}
 use Rattle.rr_model.specs.Graph.Reading.{if_used, form_in, interval_within, interval_in, days_after, days_of_names, days_in, first_day_in, index_in, pattern_of}
@@ -266,7 +265,8 @@ abbrev ending : RangeEnd → ℤ → Range
 ending end day = record { start_day = day; end = end }
 
 -- A valid range is read back.
-pub range-written : (end : RangeEnd) (day : ℤ) → HasFourDigitYear day → IsRangeEnd end → range_of (range_data end day) ≡ Ok (record { start_day = day; end = end })
+pub range-written : (end : RangeEnd) (day : ℤ) → HasFourDigitYear day → IsRangeEnd end
+    → range_of (range_data end day) ≡ Ok (record { start_day = day; end = end })
 unfolding end_type_named
 range-written NoEnd day h e =
     range-members (range_data NoEnd day) no_end (ending NoEnd day) refl (ap (some_or of.StartDate) (extended_date-written day h)) refl

@@ -2,7 +2,7 @@
 ghost use Rattle.std.specs.Prelude.{◌≡◌, codes, false, map, IfOk};
 ghost use Rattle.serde_json.specs.Data.{array, boolean, member, no_members, number, object, string, unsigned};
 ghost use Rattle.serde_json.specs.View.{items_of, view};
-ghost use Rattle.rr_model.specs.Graph.Text.{day_names, day_text, event_data, index_text, pattern_data, range_data, recurrence_data, start_and_type};
+ghost use Rattle.rr_model.specs.Graph.Text.{day_names, day_text, event_data, index_text, pattern_data, range_data, recurrence_data};
 ghost use Rattle.rr_model.specs.Graph.Validity.{IsRangeEnd};
 ghost use Rattle.rr_model.specs.Moment.Years.{HasFourDigitYear, IsInYears};
 ghost use Rattle.rr_model.specs.Text.Moments.{extended_date_text, extended_text};
@@ -37,12 +37,7 @@ fn absolute_monthly(alloc: Global, interval: u32, day: u8) -> Result<Value, Allo
     json!(in alloc; {"dayOfMonth": day, "interval": interval, "type": "absoluteMonthly"})
 }
 
-fn relative_monthly(
-    alloc: Global,
-    interval: u32,
-    days: u8,
-    index: i8,
-) -> Result<Value, AllocError>
+fn relative_monthly(alloc: Global, interval: u32, days: u8, index: i8) -> Result<Value, AllocError>
     ensures { IfOk result (λ value. view value ≡ object (member (codes "daysOfWeek") (array (items_of (map string (day_names days))))
         (member (codes "index") (string (index_text index)) (member (codes "interval") (number (unsigned interval))
         (member (codes "type") (string (codes "relativeMonthly")) no_members))))) }
@@ -51,12 +46,7 @@ fn relative_monthly(
     json!(in alloc; {"daysOfWeek": names, "index": index_name(index), "interval": interval, "type": "relativeMonthly"})
 }
 
-fn absolute_yearly(
-    alloc: Global,
-    interval: u32,
-    day: u8,
-    month: u8,
-) -> Result<Value, AllocError>
+fn absolute_yearly(alloc: Global, interval: u32, day: u8, month: u8) -> Result<Value, AllocError>
     ensures { IfOk result (λ value. view value ≡ object (member (codes "dayOfMonth") (number (unsigned day))
         (member (codes "interval") (number (unsigned interval)) (member (codes "month") (number (unsigned month))
         (member (codes "type") (string (codes "absoluteYearly")) no_members))))) }
