@@ -8,3 +8,4 @@ pub mod GraphProfile
 pub mod Tally
 pub mod Sorts
 pub mod Windows
+pub mod Walks

@@ -14,4 +14,4 @@ pub use laws::{
     sound_lasts, taking_is_sound, taking_loses_no_endless, taking_loses_none, test_of_endless,
     test_of_finite, unsorted_has_no_list,
 };
-pub use window::{Window, WindowEnd};
+pub use window::{Window, WindowEnd, is_occupied, window_of};
