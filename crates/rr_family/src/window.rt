@@ -102,7 +102,7 @@ fn one_second<A: DaySeq>(seq: &A, first: i64) -> Option<u32>
 
 // The one second of a day that has no other.
 fn only_second(times: &[u32]) -> Option<u32>
-    ensures { IfSome result (λ second. times.now ≡ at_second second true) }
+    ensures some { IfSome result (λ second. times.now ≡ at_second second true) }
     ensures none { result ≡ None → (second : ℕ) → times.now ≡ at_second second true → ⊥ }
 {
     match times {
