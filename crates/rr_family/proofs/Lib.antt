@@ -9,3 +9,4 @@ pub mod ProfileLemmas
 pub mod OrderLemmas
 pub mod FirstLemmas
 pub mod GraphProfileLemmas
+pub mod WalkLemmas

@@ -5,7 +5,7 @@ ghost use Rattle.rr_family.specs.Lasting.{at_second, is_occupied};
 ghost use Rattle.rr_family.specs.Walks.{IsAtSecond, IsNearEnd, IsNearWindow, IsNextWithin, IsSecondOf};
 ghost use Rattle.rr_family.specs.Windows.{HasWindow, IsSecondDay, IsWindowEnd, IsWindowOf};
 ghost use Rattle.rr_model.specs.Calendar.{IsDayWithin};
-ghost use Rattle.rr_model.specs.Moment.Years.{HasFourDigitYear};
+ghost use Rattle.rr_model.specs.Moment.Years.{has_four_digit_year};
 ghost use Rattle.rr_model.specs.Sets.Least.{IsEndless};
 ghost use Rattle.rr_model.specs.Sets.Sketch.{IsFirstDay, IsNearDay, times_on};
 ghost use Rattle.rr_model.specs.Whole.Count.{count_from};
@@ -81,9 +81,9 @@ pub fn is_occupied<A: DaySeq>(seq: &A, day: i64) -> bool
 
 // Whether a day lies in the years 1 to 9999.
 fn is_in_years(day: i64) -> bool
-    ensures { IsTrue result ↔ HasFourDigitYear day }
+    ensures { result ≡ has_four_digit_year day }
 {
-    day >= -719_162 && day <= 2_932_896
+    day >= -719_162 && day < 2_932_897
 }
 
 // The second that each occupied day has alone, if there is one.
@@ -115,7 +115,7 @@ fn only_second(times: &[u32]) -> Option<u32>
 fn days_known<A: DaySeq>(seq: &A, first: i64) -> u64
     requires near { IsNearDay first }
     ensures few { result ≤ 3_000_000_000 }
-    ensures settled { (A.sketch seq.now).settled +ℤ pos (A.sketch seq.now).period ≤ℤ first +ℤ pos result }
+    ensures settled { ((A.sketch seq.now).settled +ℤ pos (A.sketch seq.now).period) ≤ℤ (first +ℤ pos result) }
     ensures some { (A.sketch seq.now).period ≤ result }
 {
     let settled = seq.settled().max(first);

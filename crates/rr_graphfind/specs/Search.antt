@@ -1,0 +1,69 @@
+-- Which patterns agree with a set of occurrences on its window.
+use Rattle.std.specs.Prelude.{◌≡◌, ◌↔◌, ℕ, ◌<◌, ◌≤◌, Bool, ⊤, Option, None, Some, ℤ, ◌≤ℤ◌}
+use Rattle.std.specs.Int.{◌∣◌}
+use Rattle.rr_family.specs.DaySets.{window_days}
+use Rattle.rr_family.specs.Lasting.{is_occupied}
+use Rattle.rr_family.specs.GraphProfile.{event_of, range_from}
+use Rattle.rr_family.specs.Shift.{form_cycle}
+use Rattle.rr_family.specs.Taking.{AgreeWithin}
+use Rattle.rr_family.specs.declared.window.Window.{Window}
+use Rattle.rr_family.specs.declared.window.WindowEnd.{WindowEnd}
+use Rattle.rr_family.specs.declared.window.WindowEnd.TheVariants.{Last, Cycle}
+use Rattle.rr_graphfind.specs.declared.agreement.Stretch.{Stretch}
+use Rattle.rr_graphfind.specs.declared.members.Places.{Places}
+use Rattle.rr_model.specs.Graph.Occurrences.{is_pattern_day}
+use Rattle.rr_model.specs.Graph.Validity.{IsValidPattern, LiesIfUsed}
+use Rattle.rr_model.specs.Moment.{moment_at}
+use Rattle.rr_model.specs.declared.graph.GraphEvent.{GraphEvent}
+use Rattle.rr_model.specs.declared.graph.Pattern.{Pattern}
+use Rattle.rr_model.specs.declared.graph.RangeEnd.{RangeEnd}
+use Rattle.rr_model.specs.declared.graph.RangeEnd.TheVariants.{NoEnd, Numbered}
+use Rattle.rr_model.specs.declared.sketch.Sketch.{Sketch}
+
+-- The pattern is valid, and its days, counted from the first day, are the occupied ones of so many days.
+pub record Agrees (s : Sketch) (first : ℤ) (days : ℕ) (pattern : Pattern) : Type 0 where
+  pub valid : IsValidPattern pattern
+  pub agree : AgreeWithin (is_pattern_day pattern first) (is_occupied s) first days
+
+-- of an endless set, the least period divides the cycle and the least start is the first day
+abbrev pub FitsEnd : WindowEnd → ℤ → ℕ → Type 0
+FitsEnd (Last day many) first cycle = ⊤
+FitsEnd (Cycle period start) first cycle = (period ∣ cycle) × (start ≡ first)
+
+-- how many days are compared: up to the last day of a finite set, and one cycle of an endless one
+abbrev pub days_compared : WindowEnd → ℤ → ℕ → ℕ
+days_compared (Last day many) first cycle = window_days first day
+days_compared (Cycle period start) first cycle = cycle
+
+-- The pattern's cycle fits, and it agrees with the set on its window.
+pub record Matches (s : Sketch) (w : Window) (pattern : Pattern) : Type 0 where
+  pub fits : FitsEnd w.end w.first (form_cycle pattern.form pattern.interval)
+  pub agrees : Agrees s w.first (days_compared w.end w.first (form_cycle pattern.form pattern.interval)) pattern
+
+-- a finite set does not end before it begins
+abbrev pub EndsAfter : ℤ → WindowEnd → Type 0
+EndsAfter first (Last day many) = first ≤ℤ day
+EndsAfter first (Cycle period start) = ⊤
+
+-- how many days are compared where the cycle fits
+abbrev pub IsDaysCompared : Window → ℕ → Option ℕ → Type 0
+IsDaysCompared w cycle None = FitsEnd w.end w.first cycle → ⊥
+IsDaysCompared w cycle (Some days) = FitsEnd w.end w.first cycle × (days ≡ days_compared w.end w.first cycle)
+
+-- the days that are compared where the cycle fits
+abbrev pub IsStretchOf : Window → ℕ → Option Stretch → Type 0
+IsStretchOf w cycle None = FitsEnd w.end w.first cycle → ⊥
+IsStretchOf w cycle (Some stretch) =
+    FitsEnd w.end w.first cycle × (stretch.start.number ≡ w.first) × (stretch.days ≡ days_compared w.end w.first cycle)
+
+-- the event of a pattern from the first occurrence on: with the number of occurrences of a finite set, and else without an end
+abbrev pub end_of_window : WindowEnd → RangeEnd
+end_of_window (Last day many) = Numbered many
+end_of_window (Cycle period start) = NoEnd
+
+abbrev pub event_of_window : Window → Pattern → GraphEvent
+event_of_window w pattern = event_of pattern (range_from w.first (end_of_window w.end)) w.kind (moment_at w.kind w.first w.second)
+
+-- exactly the numbers that a member may have
+abbrev pub ArePlaces : Bool → ℕ → ℕ → ℕ → Places → Type 0
+ArePlaces used low high otherwise places = (n : ℕ) → LiesIfUsed used low high otherwise n ↔ ((places.from ≤ n) × (n < places.to))
