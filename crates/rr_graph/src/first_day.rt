@@ -46,9 +46,11 @@ fn last_day_of(end: RangeEnd) -> i64
     }
 }
 
-// Whether the pattern that begins on the day `start` has the day.
+/// Whether the pattern that begins on the day `start` has the day, which may lie before it.
+///
+/// A day that is near is within 3,000,000,000,000 days of 1970-01-01.
 #[tactic(auto, unfolding(rr_model::specs::Graph::Occurrences::is_pattern_day))]
-fn is_pattern_day(pattern: &Pattern, start: &Day, day: &Day) -> bool
+pub fn is_pattern_day(pattern: &Pattern, start: &Day, day: &Day) -> bool
     requires interval { 1 ≤ pattern.now.interval }
     requires near { IsDayWithin 0 day.now.number }
     ensures { result ≡ is_pattern_day pattern.now start.now.number day.now.number }

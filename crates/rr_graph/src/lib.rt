@@ -16,6 +16,7 @@ mod start;
 mod writing;
 mod written;
 
+pub use first_day::is_pattern_day;
 pub use laws::{
     counterpart_has_occurrences, counterpart_is_sound, counterpart_starts_first,
     graph_is_read_back, moving_the_start_keeps_occurrences, refused_where_none_occurs,
