@@ -19,6 +19,9 @@ loop-k-preserved g c =
           let next = counted_next p q _ c.loop-k.k c.loop-k.many true (sym w.if-is_occupied.true ∙ c.is_occupied.ensures) (omega (arith, ints)) known.0 in
           (omega (arith, next, w.many-is), omega (arith, w.many-is, known.1)))
       | else-is_occupied w ↦ (
-          let next = counted_next p q _ c.loop-k.k c.loop-k.many false (sym w.if-is_occupied.false ∙ c.is_occupied.ensures) (omega (arith, ints)) known.0 in
+          let next = counted_next p q _ c.loop-k.k c.loop-k.many false (sym w.if-is_occupied.false ∙ c.is_occupied.ensures) (omega (
+            arith,
+            ints,
+          )) known.0 in
           (omega (arith, next, w.many-is), omega (arith, w.many-is, known.1)))
     ]

@@ -10,6 +10,9 @@ loop-k-preserved g c =
     (sym c.is_occupied.ensures ∙ c.if-is_occupied.false) (omega (arith, ints)) c.loop-k.invariant
 
 pub returns-then-is_occupied : goal.returns-then-is_occupied
-returns-then-is_occupied g c =
-    (omega (arith, ints), omega (arith, ints, c.loop-k-test.true), sym c.is_occupied.ensures ∙ c.if-is_occupied.true,
-    λ d l h. c.loop-k.invariant d (omega (arith, ints, l)) (omega (arith, ints, h)))
+returns-then-is_occupied g c = (
+  omega (arith, ints),
+  omega (arith, ints, c.loop-k-test.true),
+  sym c.is_occupied.ensures ∙ c.if-is_occupied.true,
+  λ d l h. c.loop-k.invariant d (omega (arith, ints, l)) (omega (arith, ints, h)),
+)
