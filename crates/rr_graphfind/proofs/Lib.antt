@@ -1,0 +1,4 @@
+pub mod OrderLemmas
+pub mod MemberLemmas
+pub mod SearchLemmas
+pub mod FoundLemmas

@@ -113,11 +113,11 @@ module _ (i : ℕ) (few : i < 7) (draft : Pattern) (Passes : Pattern → Type 0)
           elim (cases_eq (member_at i pattern) n) [
             | inl e ↦ first.1 pattern (one_more n with pattern same at has e, passes)
             | inr differ ↦ elim (cases_lt (member_at i pattern) n) [
-                | inl less ↦ absurd (below pattern has passes less)
-                | inr more ↦ later i (pattern_key pattern) (pattern_key found) (key_long pattern) (key_long found)
-                    (same_chain i (pattern_key pattern) (pattern_key draft) (pattern_key found) has (same_back i (pattern_key found) (pattern_key draft) here))
-                    (omega (arith, at_found, differ, more))
-              ]
+              | inl less ↦ absurd (below pattern has passes less)
+              | inr more ↦ later i (pattern_key pattern) (pattern_key found) (key_long pattern) (key_long found)
+                  (same_chain i (pattern_key pattern) (pattern_key draft) (pattern_key found) has (same_back i (pattern_key found) (pattern_key draft) here))
+                  (omega (arith, at_found, differ, more))
+            ]
           ]
 
   pub none_at_all : (to : ℕ) → ((pattern : Pattern) → SameMembers i pattern draft → Passes pattern → member_at i pattern < to) → NoneBelow i draft Passes to

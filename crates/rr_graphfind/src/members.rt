@@ -1,5 +1,5 @@
 // The members of a pattern, one after the other in the order in which patterns are tried.
-ghost use Rattle.std.specs.Prelude.{◌≡◌, ◌≤◌, ◌<◌, ◌+◌, ◌%◌};
+ghost use Rattle.std.specs.Prelude.{◌≡◌, ◌≤◌, ◌<◌, ◌+◌, ◌%◌, pos, ◌≤ℤ◌};
 ghost use Rattle.rr_family.specs.GraphProfile.{index_place};
 ghost use Rattle.rr_graphfind.specs.Order.{IsFirstWith, least_pattern};
 ghost use Rattle.rr_graphfind.specs.Search.{Agrees, ArePlaces};
@@ -21,7 +21,7 @@ pub(crate) fn try_first_days<A: DaySeq>(
     requires { IsValidPattern draft.now }
     ensures { IsFirstWith 2 draft.now (Agrees (A.sketch seq.now) stretch.now.start.number stretch.now.days) result }
 {
-    let places = places(uses_first_day(draft.form), 0, 6, 0);
+    let places = places_of(uses_first_day(draft.form), 0, 6, 0);
     for place in places.from..places.to {
         let with = Pattern {
             first_day: weekday_from_sunday(place),
@@ -39,7 +39,7 @@ fn try_days_of_month<A: DaySeq>(seq: &A, stretch: &Stretch, draft: &Pattern) -> 
     requires { IsValidPattern draft.now }
     ensures { IsFirstWith 3 draft.now (Agrees (A.sketch seq.now) stretch.now.start.number stretch.now.days) result }
 {
-    let places = places(uses_day_of_month(draft.form), 1, 31, 0);
+    let places = places_of(uses_day_of_month(draft.form), 1, 31, 0);
     for day_of_month in places.from..places.to {
         let with = Pattern {
             day_of_month,
@@ -57,7 +57,7 @@ fn try_months<A: DaySeq>(seq: &A, stretch: &Stretch, draft: &Pattern) -> Option<
     requires { IsValidPattern draft.now }
     ensures { IsFirstWith 4 draft.now (Agrees (A.sketch seq.now) stretch.now.start.number stretch.now.days) result }
 {
-    let places = places(uses_month(draft.form), 1, 12, 0);
+    let places = places_of(uses_month(draft.form), 1, 12, 0);
     for month in places.from..places.to {
         let with = Pattern { month, ..*draft };
         if let Some(found) = try_indexes(seq, stretch, &with) {
@@ -72,7 +72,7 @@ fn try_indexes<A: DaySeq>(seq: &A, stretch: &Stretch, draft: &Pattern) -> Option
     requires { IsValidPattern draft.now }
     ensures { IsFirstWith 5 draft.now (Agrees (A.sketch seq.now) stretch.now.start.number stretch.now.days) result }
 {
-    let places = places(uses_index(draft.form), 1, 5, 1);
+    let places = places_of(uses_index(draft.form), 1, 5, 1);
     for place in places.from..places.to {
         let with = Pattern {
             index: index_at(place),
@@ -90,7 +90,7 @@ fn try_days<A: DaySeq>(seq: &A, stretch: &Stretch, draft: &Pattern) -> Option<Pa
     requires { IsValidPattern draft.now }
     ensures { IsFirstWith 6 draft.now (Agrees (A.sketch seq.now) stretch.now.start.number stretch.now.days) result }
 {
-    let places = places(uses_days(draft.form), 1, 127, 0);
+    let places = places_of(uses_days(draft.form), 1, 127, 0);
     for days in places.from..places.to {
         let with = Pattern { days, ..*draft };
         if agrees(seq, &with, stretch) {
@@ -110,7 +110,7 @@ pub(crate) struct Places {
 }
 
 // The numbers of a member: its range where it is used, and else its one value.
-fn places(used: bool, low: u8, high: u8, otherwise: u8) -> Places
+fn places_of(used: bool, low: u8, high: u8, otherwise: u8) -> Places
     requires high { high < 255 }
     requires otherwise { otherwise < 255 }
     ensures { ArePlaces used low high otherwise result }
@@ -140,7 +140,8 @@ fn weekday_from_sunday(place: u8) -> u8
 // The index at a place of the order: 1 to 4, and -1 for the last.
 fn index_at(place: u8) -> i8
     requires { place ≤ 5 }
-    ensures { index_place result ≡ place }
+    ensures few { result ≤ℤ pos 4 }
+    ensures place { index_place result ≡ place }
 {
     if place < 5 { place as i8 } else { -1 }
 }

@@ -1,9 +1,10 @@
 // The first pattern, over all intervals and types, and the event that has it.
-ghost use Rattle.std.specs.Prelude.{◌≡◌, ◌≤◌, ◌<◌, IfSome, None, pos, ◌+ℤ◌, ◌≤ℤ◌, ◌<ℤ◌};
+ghost use Rattle.std.specs.Prelude.{◌≡◌, ◌↔◌, ◌≤◌, ◌<◌, IfSome, IsTrue, None, pos, ◌+ℤ◌, ◌≤ℤ◌, ◌<ℤ◌};
 ghost use Rattle.rr_family.specs.GraphProfile.{form_place};
 ghost use Rattle.rr_family.specs.Shift.{form_cycle};
 ghost use Rattle.rr_family.specs.Walks.{IsNearWindow};
 ghost use Rattle.rr_family.specs.Windows.{HasWindow};
+ghost use Rattle.rr_family.specs.declared.window.WindowEnd.TheVariants as end;
 ghost use Rattle.rr_graphfind.specs.Found.{IsGraphFound};
 ghost use Rattle.rr_graphfind.specs.Order.{IsFirstThat, IsFirstWith, least_pattern};
 ghost use Rattle.rr_graphfind.specs.Search.{EndsAfter, FitsEnd, IsDaysCompared, IsStretchOf, Matches, event_of_window};
@@ -173,9 +174,17 @@ fn days_compared(window: &Window, cycle: u64) -> Option<u64>
     match window.end {
         WindowEnd::Last { day, .. } => Some((day - window.first) as u64 + 1),
         WindowEnd::Cycle { period, start } => {
-            (start == window.first && cycle % period == 0).then_some(cycle)
+            fits_cycle(window.first, period, start, cycle).then_some(cycle)
         }
     }
+}
+
+// Whether a whole number of periods makes the cycle, and the first period begins on the first day.
+fn fits_cycle(first: i64, period: u64, start: i64, cycle: u64) -> bool
+    requires { 1 ≤ period }
+    ensures { IsTrue result ↔ FitsEnd (end.Cycle period start) first cycle }
+{
+    start == first && cycle % period == 0
 }
 
 // The second occupied day where it is compared, and else the first.
