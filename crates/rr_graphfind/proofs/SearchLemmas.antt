@@ -1,7 +1,11 @@
 -- From the patterns of one type and interval to those of all.
 use Rattle.std.proofs.Common.{◌≡◌, ◌⊎◌, inl, inr, ℕ, ◌<◌, ◌≤◌, Bool, true, false, ℤ, pos, refl, sym, ap, subst, ◌∙◌, arith}
-use Rattle.std.specs.Prelude.{Option, Some, None}
+use Rattle.std.specs.Prelude.{◌↔◌, ◌%◌, ◌==◌, IsTrue, Option, Some, None}
+use Rattle.std.specs.Int.{◌∣◌}
+use Rattle.std.proofs.lemmas.Bool.{eqb-true}
+use Rattle.std.proofs.lemmas.Bool.Decides.{nat_tests}
 use Rattle.std.proofs.lemmas.Int.{ints}
+use Rattle.std.proofs.lemmas.Nat.Gcd.{dvd_of_mod-eq-zero, mod-eq-zero_of_dvd}
 use Rattle.rr_model.specs.Graph.Uses.{most_interval, uses_day_of_month, uses_days, uses_first_day, uses_index, uses_month}
 use Rattle.rr_model.specs.Graph.Validity.{IsIndex, IsValidPattern, LiesIfUsed}
 use Rattle.rr_model.specs.declared.graph.Form.{Form}
@@ -87,6 +91,14 @@ module _ (s : Sketch) (w : Window) (f : Form) (interval : ℕ) where
     first_matches None none = λ p h. none p (h.0, agrees_if p h.0 h.1)
     first_matches (Some found) is =
         ((is.0.0, matches_if_agrees found is.0.0 is.0.1), λ p h. is.1 p (h.0, agrees_if p h.0 h.1))
+
+-- the test of a whole number of periods
+pub divides_if : (period cycle : ℕ) → IsTrue (cycle % period == 0) ↔ (period ∣ cycle)
+divides_if period cycle =
+    (λ h. dvd_of_mod-eq-zero period (eqb-true (cycle % period) 0 h), λ h. is_zero (mod-eq-zero_of_dvd period h))
+  where
+    is_zero : cycle % period ≡ 0 → IsTrue (cycle % period == 0)
+    is_zero e = grind (arith, nat_tests)
 
 -- with no member in common, all patterns are meant
 pub of_all : (draft : Pattern) (Passes : Pattern → Type 0) (found : Option Pattern) → IsFirstWith 0 draft Passes found → IsFirstThat Passes found

@@ -10,9 +10,11 @@ pub returns-then-not-is_alike : goal.returns-then-not-is_alike
 returns-then-not-is_alike g c =
     let near = c.requires.near in
     let at = c.new-day.ensures in
-    let k = c.loop-k-test.true in
-    (λ t. absurd (false≢true t), λ agree. absurd (false≢true (sym c.if-not-is_alike.true ∙ c.is_alike.ensures.1
-    (agree c.new-day.result.number (omega (arith, ints, at, near.0, near.1)) (omega (arith, ints, at, k, near.0, near.1))))))
+    let k = c.loop-k-test.true in (
+      λ t. absurd (false≢true t),
+      λ agree. absurd (false≢true (sym c.if-not-is_alike.true ∙ c.is_alike.ensures.1
+          (agree c.new-day.result.number (omega (arith, ints, at, near.0, near.1)) (omega (arith, ints, at, k, near.0, near.1))))),
+    )
 
 pub loop-k-preserved : goal.loop-k-preserved
 loop-k-preserved g c =
