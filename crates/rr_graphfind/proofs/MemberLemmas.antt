@@ -1,5 +1,5 @@
 -- The members of valid patterns, and what is known of a pattern that has all members of another.
-use Rattle.std.proofs.Common.{◌≡◌, ◌⊎◌, inl, inr, ℕ, zero, suc, ◌+◌, ◌/◌, ◌%◌, ◌<◌, ◌≤◌, ◌==◌, Bool, true, false, ℤ, pos, negsuc, neg_ℤ, ◌≤ℤ◌, refl, sym, ap, subst, ◌∙◌, arith, if◌then◌else◌}
+use Rattle.std.proofs.Common.{◌≡◌, ◌⊎◌, inl, inr, ℕ, zero, suc, ◌+◌, ◌/◌, ◌%◌, ◌<◌, ◌≤◌, ◌==◌, Bool, true, false, ℤ, pos, negsuc, neg_ℤ, ◌≤ℤ◌, refl, sym, ap, subst, ◌∙◌, arith, if◌then◌else◌, w8, to_z, of_z}
 use Rattle.std.specs.Prelude.{Option, Some, None}
 use Rattle.std.proofs.lemmas.Int.{ints}
 use Rattle.std.proofs.lemmas.Nat.{mod_below, div-add-mod'}
@@ -117,12 +117,12 @@ pub index_low : (index : ℤ) (place : ℕ) → place ≤ 5 → index_place inde
 index_low (pos n) place l e = omega (arith, ints)
 index_low (negsuc n) place l e = (let z : n ≡ 0 = omega (arith, e, l) in omega (arith, ints, z))
 
-pub index_least : (used : Bool) (index : ℤ) → IsIndex used index → neg_ℤ (pos 1) ≤ℤ index
+index_least : (used : Bool) (index : ℤ) → IsIndex used index → neg_ℤ (pos 1) ≤ℤ index
 index_least true index (inl h) = (let a = h.0 in omega (arith, ints, a))
 index_least true index (inr e) = omega (arith, ints, e)
 index_least false index e = omega (arith, ints, e)
 
-pub index_most : (used : Bool) (index : ℤ) → IsIndex used index → index ≤ℤ pos 4
+index_most : (used : Bool) (index : ℤ) → IsIndex used index → index ≤ℤ pos 4
 index_most true index (inl h) = h.1
 index_most true index (inr e) = omega (arith, ints, e)
 index_most false index e = omega (arith, ints, e)
@@ -196,6 +196,13 @@ valid_with p v first_day day_of_month month days index a b c d e = record {
   day_of_month = b;
   month = c;
 }
+
+-- the index of a valid pattern is a small number
+pub index_as_read : (p : Pattern) → IsValidPattern p → to_z w8 (of_z w8 p.index) ≡ p.index
+index_as_read p v =
+    let low = index_least (uses_index p.form) p.index v.index in
+    let high = index_most (uses_index p.form) p.index v.index in
+    omega (arith, ints, low, high)
 
 pub index_kept : (used : Bool) (i j : ℤ) → j ≡ i → IsIndex used i → IsIndex used j
 index_kept used i j e h = subst (λ z. IsIndex used z) (sym e) h

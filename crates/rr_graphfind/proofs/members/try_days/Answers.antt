@@ -5,42 +5,16 @@ use Rattle.rr_model.specs.Graph.Uses.{uses_index, uses_days}
 use Rattle.rr_family.specs.GraphProfile.{index_place}
 use Rattle.rr_graphfind.specs.Search.{Agrees}
 use Rattle.rr_graphfind.proofs.OrderLemmas.{none_yet, none_next, found_first, none_at_all}
-use Rattle.rr_graphfind.proofs.MemberLemmas.{in_places, lies_in, pattern_with, valid_with, index_kept, index_least, index_most, index_low, most_place, place_of_day, day_of_place, place_of_index, index_of_place, it_agrees, it_differs}
+use Rattle.rr_graphfind.proofs.MemberLemmas.{in_places, lies_in, pattern_with, valid_with, index_as_read, index_kept, index_low, most_place, place_of_day, day_of_place, place_of_index, index_of_place, it_agrees, it_differs}
 use Rattle.rr_graphfind.proofs.members.try_days.Goals as goal
-
-pub loop-days-init : goal.loop-days-init
-loop-days-init g c =
-    let p = c.args.draft.now in
-    none_yet 6 (omega arith) p (Agrees (g.A.DaySeq.sketch c.args.seq.now) c.args.stretch.now.start.number c.args.stretch.now.days) c.places_of-places.result.from (λ q same h. (in_places uses_days 1 127 0 q.days c.uses_days.result q.form p.form c.places_of-places.result same.1.0 c.uses_days.ensures c.places_of-places.ensures h.valid.days).0)
 
 pub loop-days-preserved : goal.loop-days-preserved
 loop-days-preserved g c =
     let p = c.args.draft.now in
     let v = c.requires in
-    let low_index = index_least (uses_index p.form) p.index v.index in
-    let high_index = index_most (uses_index p.form) p.index v.index in
-    let back : to_z w8 (of_z w8 p.index) ≡ p.index = omega (arith, ints, low_index, high_index) in
+    let back = index_as_read p v in
     let w = pattern_with p p.first_day p.day_of_month p.month c.loop-days.days (to_z w8 (of_z w8 p.index)) in
     let valid = valid_with p v p.first_day p.day_of_month p.month c.loop-days.days (to_z w8 (of_z w8 p.index)) v.first_day v.day_of_month v.month (lies_in uses_days 1 127 0 c.loop-days.days c.uses_days.result p.form c.places_of-places.result c.uses_days.ensures c.places_of-places.ensures c.loop-days.auto.days c.loop-days-test.true) (index_kept (uses_index p.form) p.index (to_z w8 (of_z w8 p.index)) back v.index) in
     let differs = it_differs (g.A.DaySeq.sketch c.args.seq.now) c.args.stretch.now.start.number c.args.stretch.now.days w valid
     (λ a. false≢true (sym c.if-agrees.false ∙ c.agrees.ensures.1 a)) in
     none_next 6 (omega arith) p (Agrees (g.A.DaySeq.sketch c.args.seq.now) c.args.stretch.now.start.number c.args.stretch.now.days) c.loop-days.days w (refl, (refl, (refl, (refl, (refl, (ap index_place back, tt)))))) refl differs c.loop-days.invariant
-
-pub returns-then-agrees : goal.returns-then-agrees
-returns-then-agrees g c =
-    let p = c.args.draft.now in
-    let v = c.requires in
-    let low_index = index_least (uses_index p.form) p.index v.index in
-    let high_index = index_most (uses_index p.form) p.index v.index in
-    let back : to_z w8 (of_z w8 p.index) ≡ p.index = omega (arith, ints, low_index, high_index) in
-    let w = pattern_with p p.first_day p.day_of_month p.month c.loop-days.days (to_z w8 (of_z w8 p.index)) in
-    let valid = valid_with p v p.first_day p.day_of_month p.month c.loop-days.days (to_z w8 (of_z w8 p.index)) v.first_day v.day_of_month v.month (lies_in uses_days 1 127 0 c.loop-days.days c.uses_days.result p.form c.places_of-places.result c.uses_days.ensures c.places_of-places.ensures c.loop-days.auto.days c.loop-days-test.true) (index_kept (uses_index p.form) p.index (to_z w8 (of_z w8 p.index)) back v.index) in
-    let agrees = it_agrees (g.A.DaySeq.sketch c.args.seq.now) c.args.stretch.now.start.number c.args.stretch.now.days w
-    record { valid = valid; agree = c.agrees.ensures.0 c.if-agrees.true } in
-    found_first 6 (omega arith) p (Agrees (g.A.DaySeq.sketch c.args.seq.now) c.args.stretch.now.start.number c.args.stretch.now.days) c.loop-days.days w w (refl, (refl, (refl, (refl, (refl, (ap index_place back, tt)))))) refl agrees c.loop-days.invariant
-
-pub returns : goal.returns
-returns g c =
-    let p = c.args.draft.now in
-    none_at_all 6 (omega arith) p (Agrees (g.A.DaySeq.sketch c.args.seq.now) c.args.stretch.now.start.number c.args.stretch.now.days) c.loop-days.days
-    (λ q same h. (let m = (in_places uses_days 1 127 0 q.days c.uses_days.result q.form p.form c.places_of-places.result same.1.0 c.uses_days.ensures c.places_of-places.ensures h.valid.days).1 in omega (arith, m, c.loop-days-test.false))) c.loop-days.invariant

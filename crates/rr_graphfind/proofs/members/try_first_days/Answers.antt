@@ -5,7 +5,7 @@ use Rattle.rr_model.specs.Graph.Uses.{uses_index, uses_first_day}
 use Rattle.rr_family.specs.GraphProfile.{index_place}
 use Rattle.rr_graphfind.specs.Search.{Agrees}
 use Rattle.rr_graphfind.proofs.OrderLemmas.{none_yet, none_next, found_first, none_at_all}
-use Rattle.rr_graphfind.proofs.MemberLemmas.{in_places, lies_in, pattern_with, valid_with, index_kept, index_least, index_most, index_low, most_place, place_of_day, day_of_place, place_of_index, index_of_place, it_agrees, it_differs}
+use Rattle.rr_graphfind.proofs.MemberLemmas.{in_places, lies_in, pattern_with, valid_with, index_as_read, index_kept, index_low, most_place, place_of_day, day_of_place, place_of_index, index_of_place, it_agrees, it_differs}
 use Rattle.rr_graphfind.proofs.members.try_first_days.Goals as goal
 
 pub loop-place-init : goal.loop-place-init
@@ -22,30 +22,8 @@ pub try_days_of_month-requires : goal.try_days_of_month-requires
 try_days_of_month-requires g c =
     let p = c.args.draft.now in
     let v = c.requires in
-    let low_index = index_least (uses_index p.form) p.index v.index in
-    let high_index = index_most (uses_index p.form) p.index v.index in
-    let back : to_z w8 (of_z w8 p.index) ≡ p.index = omega (arith, ints, low_index, high_index) in
+    let back = index_as_read p v in
     valid_with p v c.weekday_from_sunday.result p.day_of_month p.month p.days (to_z w8 (of_z w8 p.index)) (day_of_place (uses_first_day p.form) c.weekday_from_sunday.result c.loop-place.place c.weekday_from_sunday.ensures.low c.weekday_from_sunday.ensures.place (lies_in uses_first_day 0 6 0 c.loop-place.place c.uses_first_day.result p.form c.places_of-places.result c.uses_first_day.ensures c.places_of-places.ensures c.loop-place.auto.place c.loop-place-test.true)) v.day_of_month v.month v.days (index_kept (uses_index p.form) p.index (to_z w8 (of_z w8 p.index)) back v.index)
-
-pub loop-place-preserved : goal.loop-place-preserved
-loop-place-preserved g c =
-    let p = c.args.draft.now in
-    let v = c.requires in
-    let low_index = index_least (uses_index p.form) p.index v.index in
-    let high_index = index_most (uses_index p.form) p.index v.index in
-    let back : to_z w8 (of_z w8 p.index) ≡ p.index = omega (arith, ints, low_index, high_index) in
-    let w = pattern_with p c.weekday_from_sunday.result p.day_of_month p.month p.days (to_z w8 (of_z w8 p.index)) in
-    none_next 2 (omega arith) p (Agrees (g.A.DaySeq.sketch c.args.seq.now) c.args.stretch.now.start.number c.args.stretch.now.days) c.loop-place.place w (refl, (refl, tt)) c.weekday_from_sunday.ensures.place c.in_default.ensures c.loop-place.invariant
-
-pub returns-in-Some : goal.returns-in-Some
-returns-in-Some g c =
-    let p = c.args.draft.now in
-    let v = c.requires in
-    let low_index = index_least (uses_index p.form) p.index v.index in
-    let high_index = index_most (uses_index p.form) p.index v.index in
-    let back : to_z w8 (of_z w8 p.index) ≡ p.index = omega (arith, ints, low_index, high_index) in
-    let w = pattern_with p c.weekday_from_sunday.result p.day_of_month p.month p.days (to_z w8 (of_z w8 p.index)) in
-    found_first 2 (omega arith) p (Agrees (g.A.DaySeq.sketch c.args.seq.now) c.args.stretch.now.start.number c.args.stretch.now.days) c.loop-place.place w c.in-Some.found (refl, (refl, tt)) c.weekday_from_sunday.ensures.place c.in-Some.ensures c.loop-place.invariant
 
 pub returns : goal.returns
 returns g c =
