@@ -1,9 +1,17 @@
 //! Kinds of rules of vCalendar 1.0, item by item, and what a window of a set of occurrences tells of them for ever.
 #![tactic(auto)]
 
+mod family;
+mod items;
 mod laws;
+mod months;
+mod sorts;
+mod weeks;
 mod window;
+mod years;
 
+pub use family::{DayFamily, Family};
+pub use items::{item_at, many_items};
 pub use laws::{
     agreement_on_cycle_lasts, cycle_is_counterparts, cycle_is_patterns,
     endless_agreement_is_pattern, endless_has_cycle, endless_list_is_rule,
@@ -14,4 +22,8 @@ pub use laws::{
     sound_lasts, taking_is_sound, taking_loses_no_endless, taking_loses_none, test_of_endless,
     test_of_finite, unsorted_has_no_list,
 };
+pub use months::{MonthDayFamily, MonthPlaceFamily};
+pub use sorts::{has_sort, many_sorts, sort_of_day, unit_of};
+pub use weeks::WeekFamily;
 pub use window::{Window, WindowEnd, is_occupied, window_of};
+pub use years::{YearDayFamily, YearMonthFamily};

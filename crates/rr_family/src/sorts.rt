@@ -1,0 +1,149 @@
+// The sorts of days that each kind of rule tells apart.
+ghost use Rattle.std.specs.Prelude.{◌≡◌, ◌≤◌, ◌<◌, ◌+◌, ◌-◌, ◌/◌, ◌%◌};
+ghost use Rattle.rr_family.specs.Sorts.{has_sort, many_sorts, month_day_sort, place_sort, sort_in_unit, sort_of_day};
+ghost use Rattle.rr_model.specs.Calendar.{day_of_month, day_of_year, days_in_month, month_of, weekday_of, year_of};
+ghost use Rattle.rr_model.specs.Vcal.Members.{family_unit};
+ghost use Rattle.rr_model.specs.declared.vcal.FamilyKind.TheVariants.{YM};
+
+use rr_cal::{Day, month_number, week_index};
+use rr_model::FamilyKind;
+use rr_setpos::is_congruent;
+
+/// How many sorts of days a kind of rule tells apart.
+///
+/// Two days of one sort are in the same items: by the weekday for W, by the number from both ends of the month for MD,
+/// by the weekday and its places from both ends for MP, by the month for YM, by the day of the year for YD.
+pub fn many_sorts(kind: FamilyKind) -> u16
+    ensures value { result ≡ many_sorts kind }
+    ensures few { result ≤ 366 }
+{
+    match kind {
+        FamilyKind::D => 1,
+        FamilyKind::W => 7,
+        FamilyKind::MD => 124,
+        FamilyKind::MP => 175,
+        FamilyKind::YM => 12,
+        FamilyKind::YD => 366,
+    }
+}
+
+/// The sort of a day where a series of this kind and interval starts on the day `start`, numbered from 0.
+///
+/// None where no item has the day: its week, month or year does not count, or for YM its day of the month is not the
+/// start's.
+pub fn sort_of_day(kind: FamilyKind, interval: u32, start: &Day, day: &Day) -> Option<u16>
+    requires some { 1 ≤ interval }
+    ensures { result ≡ sort_of_day kind interval start.now.number day.now.number }
+{
+    if is_congruent(unit_of(kind, start), unit_of(kind, day), interval) {
+        sort_in_unit(kind, start, day)
+    } else {
+        None
+    }
+}
+
+/// The number of the day, week, month or year in which a day lies, by the kind; weeks begin on Monday.
+pub fn unit_of(kind: FamilyKind, day: &Day) -> i64
+    ensures { result ≡ family_unit kind day.now.number }
+{
+    match kind {
+        FamilyKind::D => day.number,
+        FamilyKind::W => week_index(day.number, 0),
+        FamilyKind::MD | FamilyKind::MP => month_number(day),
+        FamilyKind::YM | FamilyKind::YD => day.year,
+    }
+}
+
+// The sort of a day whose unit counts.
+fn sort_in_unit(kind: FamilyKind, start: &Day, day: &Day) -> Option<u16>
+    ensures { result ≡ sort_in_unit kind start.now.number day.now.number }
+{
+    match kind {
+        FamilyKind::D => Some(0),
+        FamilyKind::W => Some(u16::from(day.weekday)),
+        FamilyKind::MD => Some(month_day_sort(day)),
+        FamilyKind::MP => Some(place_sort(day)),
+        FamilyKind::YM => month_sort(start, day),
+        FamilyKind::YD => Some(year_day_sort(day)),
+    }
+}
+
+// The day's number in its month and the month's length.
+fn month_day_sort(day: &Day) -> u16
+    ensures { result ≡ month_day_sort (day_of_month day.now.number) (days_in_month (year_of day.now.number) (month_of day.now.number)) }
+{
+    month_day_sort_of(u16::from(day.day_of_month), u16::from(day.days_in_month))
+}
+
+fn month_day_sort_of(k: u16, many: u16) -> u16
+    requires low { 1 ≤ k }
+    requires high { k ≤ many }
+    requires most { many ≤ 31 }
+    requires least { 28 ≤ many }
+    ensures { result ≡ month_day_sort k many }
+{
+    (k - 1) * 4 + (many - 28)
+}
+
+// Its weekday's rank in the month from the front and from the back, and the weekday.
+fn place_sort(day: &Day) -> u16
+    ensures { result ≡ place_sort (day_of_month day.now.number) (days_in_month (year_of day.now.number) (month_of day.now.number)) (weekday_of day.now.number) }
+{
+    place_sort_of(
+        u16::from(day.day_of_month),
+        u16::from(day.days_in_month),
+        u16::from(day.weekday),
+    )
+}
+
+fn place_sort_of(k: u16, many: u16, weekday: u16) -> u16
+    requires low { 1 ≤ k }
+    requires high { k ≤ many }
+    requires most { many ≤ 31 }
+    requires weekday { weekday < 7 }
+    ensures { result ≡ place_sort k many weekday }
+{
+    ((k - 1) / 7 * 5 + (many - k) / 7) * 7 + weekday
+}
+
+// The month, where the day has the start's number in it.
+fn month_sort(start: &Day, day: &Day) -> Option<u16>
+    ensures { result ≡ sort_in_unit YM start.now.number day.now.number }
+{
+    if day.day_of_month == start.day_of_month {
+        Some(u16::from(day.month) - 1)
+    } else {
+        None
+    }
+}
+
+// The day's place in its year, from 0.
+fn year_day_sort(day: &Day) -> u16
+    ensures { result ≡ day_of_year day.now.number - 1 }
+{
+    day.day_of_year - 1
+}
+
+/// Whether the item of a place has the days of a sort.
+pub fn has_sort(kind: FamilyKind, sort: u16, place: u16) -> bool
+    requires sort { sort < many_sorts kind }
+    requires place { place < 366 }
+    ensures { result ≡ has_sort kind sort place }
+{
+    match kind {
+        FamilyKind::D => true,
+        FamilyKind::W | FamilyKind::YM | FamilyKind::YD => place == sort,
+        FamilyKind::MD => place == sort / 4 || place == 31 + month_rest(sort),
+        FamilyKind::MP => {
+            place % 7 == sort % 7 && (place / 7 == sort / 35 || place / 7 == 5 + sort / 7 % 5)
+        }
+    }
+}
+
+// How many days of the month follow those of a sort.
+fn month_rest(sort: u16) -> u16
+    requires { sort < 124 }
+    ensures { result ≡ sort % 4 + 27 - sort / 4 }
+{
+    (sort % 4 + 27).saturating_sub(sort / 4)
+}
