@@ -1,0 +1,4 @@
+pub mod TallyDayLemmas
+pub mod BestLemmas
+pub mod TakenLemmas
+pub mod ItemOrderLemmas

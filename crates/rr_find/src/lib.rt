@@ -1,0 +1,13 @@
+//! The first rule of vCalendar 1.0 that has the occurrences of a set, or none where no rule has them.
+#![tactic(auto)]
+
+mod choice;
+mod found;
+mod lists;
+mod search;
+mod tallies;
+
+pub use found::Found;
+pub use lists::list_of;
+pub use search::find;
+pub use tallies::{Counts, tally};
