@@ -1,5 +1,5 @@
 -- Of the first so many places the one with the greatest number.
-use Rattle.std.proofs.Common.{◌≡◌, ℕ, zero, suc, ◌+◌, ◌<◌, ◌≤◌, ◌==◌, Bool, true, false, cond, List, [], ◌∷◌, ◌++◌, Option, None, Some, refl, sym, ap, subst, ◌∙◌, arith}
+use Rattle.std.proofs.Common.{◌≡◌, ℕ, zero, suc, ◌+◌, ◌<◌, ◌≤◌, ◌==◌, Bool, true, false, cond, List, [], ◌∷◌, ◌++◌, Option, None, Some, inl, inr, refl, sym, ap, subst, ◌∙◌, arith}
 use Rattle.std.specs.Prelude.{nat_lt}
 use Rattle.std.specs.List.{filter}
 use Rattle.std.proofs.lemmas.Bool.{cases_Bool}
@@ -82,10 +82,11 @@ chosen_snoc number (x ∷ xs) y =
     ] refl)
     ∙ ap (λ z. cond (nat_lt z (number y)) (Some y) (chosen number (x ∷ xs))) (sym n)
 
-places_snoc : (k n : ℕ) → places_from k (suc n) ≡ places_from k n ++ (k + n ∷ [])
-places_snoc k zero = ap (λ z. z ∷ []) (omega arith)
+places_snoc : (k n : ℕ) → places_from k (suc n) ≡ places_from k n ++ ((k + n) ∷ [])
+places_snoc k zero = (let e : k ≡ k + 0 = omega arith in ap (λ z. z ∷ []) e)
 places_snoc k (suc n) =
-    ap (λ zs. k ∷ zs) (places_snoc (suc k) n ∙ ap (λ z. places_from (suc k) n ++ (z ∷ [])) (omega arith))
+    let e : suc k + n ≡ k + suc n = omega arith in
+    ap (λ zs. k ∷ zs) (places_snoc (suc k) n ∙ ap (λ z. places_from (suc k) n ++ (z ∷ [])) e)
 
 filter_snoc : (p : ℕ → Bool) (xs : List ℕ) (y : ℕ) → filter p (xs ++ (y ∷ [])) ≡ cond (p y) (filter p xs ++ (y ∷ [])) (filter p xs)
 filter_snoc p [] y = refl
@@ -101,23 +102,25 @@ filter_snoc p (x ∷ xs) y =
 pub best_is_chosen : (number : ℕ → ℕ) (passes : ℕ → Bool) (n : ℕ) → best_below (λ place. cond (passes place) (number place) 0) n ≡ chosen number (filter passes (places_from 0 n))
 best_is_chosen number passes zero = best_zero (λ place. cond (passes place) (number place) 0)
 best_is_chosen number passes (suc n) =
-    let tested = λ place. cond (passes place) (number place) 0 in
     let before = filter passes (places_from 0 n) in
-    best_suc tested n
+    best_suc tested_of n
     ∙ (elim (passes n) as
-    (λ b. passes n ≡ b → cond (nat_lt (number_at tested (best_below tested n)) (cond b (number n) 0)) (Some n) (best_below tested n)
+    (λ b. passes n ≡ b → cond (nat_lt (number_at tested_of (best_below tested_of n)) (cond b (number n) 0)) (Some n) (best_below tested_of n)
     ≡ chosen number (cond b (before ++ (n ∷ [])) before)) [
       | true ↦ λ e. (
-          ap (λ z. cond (nat_lt z (number n)) (Some n) (best_below tested n)) (same_number n)
+          ap (λ z. cond (nat_lt z (number n)) (Some n) (best_below tested_of n)) (same_number n)
           ∙ ap (λ z. cond (nat_lt (number_at number z) (number n)) (Some n) z) (best_is_chosen number passes n)
           ∙ sym (chosen_snoc number before n))
       | false ↦ λ e. (
-          let t : nat_lt (number_at tested (best_below tested n)) 0 ≡ false = grind (arith, nat_tests) in
-          ap (λ z. cond z (Some n) (best_below tested n)) t ∙ best_is_chosen number passes n)
+          let t : nat_lt (number_at tested_of (best_below tested_of n)) 0 ≡ false = grind (arith, nat_tests) in
+          ap (λ z. cond z (Some n) (best_below tested_of n)) t ∙ best_is_chosen number passes n)
     ] refl)
     ∙ ap (chosen number) (sym (filter_snoc passes (places_from 0 n) n))
-    ∙ ap (λ zs. chosen number (filter passes zs)) (sym (places_snoc 0 n))
+    ∙ ap (λ zs. chosen number (filter passes zs)) (sym (places_snoc 0 n ∙ ap (λ z. places_from 0 n ++ (z ∷ [])) zero_more))
   where
+    zero_more : 0 + n ≡ n
+    zero_more = omega arith
+
     tested_of : ℕ → ℕ
     tested_of place = cond (passes place) (number place) 0
 

@@ -141,7 +141,7 @@ module _ (f : FamilyKind) where
   items_are [] h = sym (ap (map (item_at f)) (none_kept 0 (many_items f)))
   items_are (p ∷ taken) h =
       ap (λ zs. with_value item_lt zs (item_at f p)) (items_are taken (λ place e. h place (either (place == p) (list_any (λ other. place == other) taken) e)))
-      ∙ put_in (λ place. list_any (λ other. place == other) taken) p 0 (many_items f) (omega arith) (h p (here p)) (omega arith)
+      ∙ put_in (λ place. list_any (λ other. place == other) taken) p 0 (many_items f) (omega arith) (omega (arith, h p (here p))) (omega arith)
     where
       either : (a b : Bool) → b ≡ true → (a || b) ≡ true
       either true b e = refl

@@ -10,7 +10,7 @@ use Rattle.std.proofs.lemmas.Bool.Decides.{nat_tests}
 use Rattle.std.proofs.lemmas.Nat.Gcd.{dvd_of_mod-eq-zero, mod-eq-zero_of_dvd}
 use Rattle.rr_model.specs.Moment.{day_part, second_part, moment_at}
 use Rattle.rr_model.specs.Moment.Years.{IsInYears}
-use Rattle.rr_model.specs.Sets.Least.{IsEndless}
+use Rattle.rr_model.specs.Sets.Least.{IsEndless, IsLeastStart}
 use Rattle.rr_model.specs.Sets.Sketch.{IsValidSketch, IsFirstDay, StandsIn, times_on}
 use Rattle.rr_model.specs.Sets.Verdict.{HaveEqualOccurrences}
 use Rattle.rr_model.specs.Vcal.Members.{family_unit, item_holds}
@@ -20,10 +20,12 @@ use Rattle.rr_model.specs.declared.item.Item.{Item}
 use Rattle.rr_model.specs.declared.kind.Kind.{Kind}
 use Rattle.rr_model.specs.declared.kind.Kind.TheVariants.{Days, Moments}
 use Rattle.rr_model.specs.declared.rule.End.{End}
+use Rattle.rr_model.specs.declared.rule.End.TheVariants.{Never, Count}
 use Rattle.rr_model.specs.declared.sketch.Sketch.{Sketch}
 use Rattle.rr_model.specs.declared.vcal.FamilyKind.{FamilyKind}
 use Rattle.rr_model.specs.declared.vcal.VRule.{VRule}
 use Rattle.rr_model.proofs.MomentLemmas.{day_part-moment_at, second_part-moment_at}
+use Rattle.rr_setpos.proofs.ProductLemmas.{count_from-le}
 use Rattle.rr_word.proofs.OneLeastLemmas.{one_first}
 use Rattle.rr_word.proofs.ShapeLemmas.{int_eq-same}
 use Rattle.rr_word.proofs.SketchLemmas.{second_fits}
@@ -38,11 +40,12 @@ use Rattle.rr_family.specs.Windows.{HasWindow, IsSecondDay, IsWindowEnd}
 use Rattle.rr_family.specs.declared.window.Window.{Window}
 use Rattle.rr_family.specs.declared.window.WindowEnd.{WindowEnd}
 use Rattle.rr_family.specs.declared.window.WindowEnd.TheVariants.{Last, Cycle}
+use Rattle.rr_family.proofs.DaySetLemmas.{set_of_test, in_one}
+use Rattle.rr_family.proofs.ProfileLemmas.{members_on_days, is_there, no_list_is_lost, endless_rule_has_cycle, endless_list_is_rule, finite_list_is_rule}
 use Rattle.rr_family.proofs.SortLemmas.{kinds_have_sorts}
 use Rattle.rr_family.proofs.TallyLemmas.{unsorted_has_no_list, mixed_has_no_list}
 use Rattle.rr_find.specs.Counted.{HasUnsorted, HasMixed, has_some_sort}
 use Rattle.rr_find.specs.Found.{HasNoRule, HasListedRule, days_up_to, end_of, found_of, is_in_unit}
-use Rattle.rr_find.proofs.FamilyLaws.{set_of_test, members_on_days, no_list_is_lost, endless_rule_has_cycle, endless_list_is_rule, finite_list_is_rule}
 
 -- the list that is taken has the occupied days of the window
 abbrev pub IsListed : Sketch → FamilyKind → ℕ → ℤ → ℕ → Type 0
@@ -51,7 +54,7 @@ IsListed s f interval first days = AgreeWithin (some_gives (place_has_day f inte
 -- ---- the days of a rule that has the set
 
 -- the set has one second, and each occupied day is one of the rule's items
-rule_days : (s : Sketch) (rule : VRule) (kind : Kind) (start : ℤ) → IsValidSketch s → IsRuleOf (StandsIn s) rule kind start
+pub rule_days : (s : Sketch) (rule : VRule) (kind : Kind) (start : ℤ) → IsValidSketch s → IsRuleOf (StandsIn s) rule kind start
     → IsOneSecond s kind (second_part kind start) (day_part kind start)
     × ((d later : ℤ) → day_part kind start ≤ℤ d → d ≤ℤ later → is_occupied s later ≡ true
     → items_have_day rule.family rule.interval (day_part kind start) rule.items d ≡ is_occupied s d)
@@ -118,6 +121,12 @@ no_rule_if_out s w f interval valid has out rule kind start r same_family same_i
 
 -- ---- the days that are read
 
+some_is : (x y : ℕ) → Some x ≡ Some y → x ≡ y
+some_is x y h = cc
+
+some_none : {p : ℕ} → Some p ≡ None → ⊥
+some_none h = cc
+
 module _ (s : Sketch) (first : ℤ) (c : ℕ) (some : 1 ≤ c) where
   and_true : (a b : Bool) → a ≡ true → b ≡ true → (a && b) ≡ true
   and_true a b e g = rw (e, g) refl
@@ -133,49 +142,41 @@ module _ (s : Sketch) (first : ℤ) (c : ℕ) (some : 1 ≤ c) where
   equal_ints : (a b : ℤ) → int_eq a b ≡ true → a ≡ b
   equal_ints a b h = grind (arith, ints)
 
-  pub window_of_days : (end : WindowEnd) (days : ℕ) → IsWindowEnd s first end → days_up_to first c end ≡ Some days → IsWindow s first c days
-  window_of_days (Last day many) days ends e = subst (λ n. IsWindow s first c n) (some_is (window_days first day) days e) (finite day ends.0)
-    where
-      some_is : (x y : ℕ) → Some x ≡ Some y → x ≡ y
-      some_is x y h = cc
-  window_of_days (Cycle period start) days ends e =
+  pub cycle_of_days : (period : ℕ) (start : ℤ) (days : ℕ) → IsWindowEnd s first (Cycle period start) → days_up_to first c (Cycle period start) ≡ Some days
+      → FitsCycle s first c × (c ≡ days)
+  cycle_of_days period start days ends e =
       elim (int_eq start first && (c % period == 0)) as
-      (λ b. (int_eq start first && (c % period == 0)) ≡ b → cond b (Some c) None ≡ Some days → IsWindow s first c days) [
+      (λ b. (int_eq start first && (c % period == 0)) ≡ b → cond b (Some c) None ≡ Some days → FitsCycle s first c × (c ≡ days)) [
         | true ↦ λ fits h. (
             let same_start : start ≡ first = equal_ints start first (and_left _ _ fits) in
             let rest : c % period ≡ 0 = (let z = and_right (int_eq start first) (c % period == 0) fits in grind (arith, nat_tests)) in
-            subst (λ n. IsWindow s first c n) (some_is c days h)
-            (endless ends.0 record {
+            (record {
               some = some;
               period = period;
               is_period = ends.1;
               divides = dvd_of_mod-eq-zero period rest;
               start = subst (λ q. IsLeastStart (times_on s) first period q) same_start ends.2;
-            }))
+            }, some_is c days h))
         | false ↦ λ fits h. absurd (none_some h)
       ] refl e
     where
-      some_is : (x y : ℕ) → Some x ≡ Some y → x ≡ y
-      some_is x y h = cc
-
       none_some : {p : ℕ} → None ≡ Some p → ⊥
       none_some h = cc
+
+  pub window_of_days : (end : WindowEnd) (days : ℕ) → IsWindowEnd s first end → days_up_to first c end ≡ Some days → IsWindow s first c days
+  window_of_days (Last day many) days ends e = subst (λ n. IsWindow s first c n) (some_is (window_days first day) days e) (finite day ends.0)
+  window_of_days (Cycle period start) days ends e =
+      let fits = cycle_of_days period start days ends e in subst (λ n. IsWindow s first c n) fits.1 (endless ends.0 fits.0)
 
   -- a set that repeats after the cycle from its first day on fits it
   pub fits_if_cycle : (end : WindowEnd) → IsWindowEnd s first end → (IsEndless s → HasCycle s first c) → days_up_to first c end ≡ None → ⊥
   fits_if_cycle (Last day many) ends has e = some_none e
-    where
-      some_none : {p : ℕ} → Some p ≡ None → ⊥
-      some_none h = cc
   fits_if_cycle (Cycle period start) ends has e =
       let cycle = has ends.0 in
       let same_start : start ≡ first = cycle.start period start ends.1 ends.2 in
       let rest : c % period ≡ 0 = mod-eq-zero_of_dvd period (cycle.period period ends.1) in
       let fits = and_true (int_eq start first) (c % period == 0) (ap (λ z. int_eq z first) same_start ∙ int_eq-same first) (eq-eqb (c % period) 0 rest) in
       some_none (sym (ap (λ b. cond b (Some c) None) fits) ∙ e)
-    where
-      some_none : {p : ℕ} → Some p ≡ None → ⊥
-      some_none h = cc
 
 pub no_rule_if_no_days : (s : Sketch) (w : Window) (f : FamilyKind) (interval : ℕ) → IsValidSketch s → HasWindow s w → 1 ≤ family_cycle f interval
     → days_up_to w.first (family_cycle f interval) w.end ≡ None → HasNoRule s f interval
@@ -193,14 +194,14 @@ start_parts : (s : Sketch) (w : Window) → IsValidSketch s → HasWindow s w
     → (day_part w.kind (moment_at w.kind w.first w.second) ≡ w.first) × (second_part w.kind (moment_at w.kind w.first w.second) ≡ w.second)
 start_parts s w valid has = of_kind w.kind (λ days. fits.1 (has.one_second.same_kind ∙ days))
   where
-    here : Contains (times_on s w.first) w.second
-    here = subst (λ xs. Contains xs w.second) (sym times) (in_one w.second (is_occupied s w.first) occupied)
+    occupied : is_occupied s w.first ≡ true
+    occupied = is_there s w.first has.one_second.first_day
 
     times : times_on s w.first ≡ at_second w.second (is_occupied s w.first)
     times = has.one_second.times w.first
 
-    occupied : is_occupied s w.first ≡ true
-    occupied = not_empty (times_on s w.first) has.one_second.first_day.0
+    here : Contains (times_on s w.first) w.second
+    here = subst (λ xs. Contains xs w.second) (sym times) (in_one w.second (is_occupied s w.first) occupied)
 
     fits : (w.second < 86_400) × (s.kind ≡ Days → w.second ≡ 0)
     fits = second_fits s w.first w.second valid here
@@ -211,9 +212,9 @@ start_parts s w valid has = of_kind w.kind (λ days. fits.1 (has.one_second.same
     of_kind Moments zero = (day_part-moment_at w.first w.second fits.0, second_part-moment_at w.first w.second fits.0)
 
 pub listed_rule : (s : Sketch) (w : Window) (f : FamilyKind) (interval days : ℕ) → IsValidSketch s → HasWindow s w → 1 ≤ interval → interval ≤ most_family_interval f
-    → 1 ≤ family_cycle f interval → days_up_to w.first (family_cycle f interval) w.end ≡ Some days → IsListed s f interval w.first days
-    → HasListedRule s (found_of w f interval (list_items s f interval w.first days))
-listed_rule s w f interval days valid has low high some e listed =
+    → 1 ≤ family_cycle f interval → days_up_to w.first (family_cycle f interval) w.end ≡ Some days → days ≤ 4_000_000_000
+    → IsListed s f interval w.first days → HasListedRule s (found_of w f interval (list_items s f interval w.first days))
+listed_rule s w f interval days valid has low high some e few_days listed =
     record {
       is_rule = of_end w.end has.end e;
       days = days;
@@ -247,14 +248,16 @@ listed_rule s w f interval days valid has low high some e listed =
         let same : n ≡ days = ap (λ d. window_days d day) parts.0 ∙ some_is (window_days w.first day) days h in
         let number : many ≡ count_from (is_occupied s) (day_part w.kind start) n =
         ends.1 ∙ ap (λ d. count_from (is_occupied s) d (window_days d day)) (sym parts.0) in
+        let few : count_from (is_occupied s) (day_part w.kind start) n ≤ 18_446_744_073_709_551_615 =
+        omega (arith, count_from-le (is_occupied s) (day_part w.kind start) n, same, few_days) in
         subst (λ m. IsRuleOf (StandsIn s) (vrule f interval (list_items s f interval w.first days) (Count m)) w.kind start) (sym number)
         (moved (Count (count_from (is_occupied s) (day_part w.kind start) n)) n same
-        (finite_list_is_rule s f interval w.kind start day valid low high has.years one_second ends.0 (listed_from n (sym same))))
+        (finite_list_is_rule s f interval w.kind start day valid low high has.years one_second ends.0 few (listed_from n (sym same))))
     of_end (Cycle period from) ends h =
-        let days_are : family_cycle f interval ≡ days = cycle_is (int_eq from w.first && (family_cycle f interval % period == 0)) h in
-        moved Never (family_cycle f interval) days_are
-        (endless_list_is_rule s f interval w.kind start valid low high has.years one_second (fits_at (window_of_days s w.first (family_cycle f interval) some (Cycle period from) days ends h))
-        (listed_from (family_cycle f interval) (sym days_are)))
+        let fits = cycle_of_days s w.first (family_cycle f interval) some period from days ends h in
+        moved Never (family_cycle f interval) fits.1
+        (endless_list_is_rule s f interval w.kind start valid low high has.years one_second
+        (subst (λ d. FitsCycle s d (family_cycle f interval)) (sym parts.0) fits.0) (listed_from (family_cycle f interval) (sym fits.1)))
 
     ends_with : (end : WindowEnd) → IsWindowEnd s w.first end → EndsWith s w.first (end_of end)
     ends_with (Last day many) ends = (day, ends.0, ends.1)

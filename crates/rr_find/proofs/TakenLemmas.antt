@@ -17,17 +17,17 @@ use Rattle.rr_family.specs.Tally.{AreSorts, sum_below, sort_passes, days_of_sort
 use Rattle.rr_family.proofs.SortLemmas.{kinds_have_sorts}
 use Rattle.rr_family.proofs.TakingLemmas.{giver, taker, same_truth, in_window, count_from-none_at, taking_is_sound}
 use Rattle.rr_family.proofs.TallyLemmas.{sound_by_sorts, further_by_sorts, count_by_sorts}
-use Rattle.rr_find.specs.ByCounts.{days_of_place, gain_of_place, best_below, best_place, days_left, IsTakenInTurn, none, more, IsClear}
+use Rattle.rr_find.specs.ByCounts.{days_of_place, gain_of_place, best_below, best_place, days_left, IsTakenInTurn, IsClear}
 use Rattle.rr_find.specs.Counted.{has_some_sort, AreSorted}
 use Rattle.rr_find.proofs.BestLemmas.{best_some, best_is_chosen, chosen}
 
 -- ---- sums
 
-sum_zero : (number : ℕ → ℕ) → sum_below 0 number ≡ 0
+pub sum_zero : (number : ℕ → ℕ) → sum_below 0 number ≡ 0
 unfolding sum_below
 sum_zero number = refl
 
-sum_suc : (n : ℕ) (number : ℕ → ℕ) → sum_below (suc n) number ≡ sum_below n number + number n
+pub sum_suc : (n : ℕ) (number : ℕ → ℕ) → sum_below (suc n) number ≡ sum_below n number + number n
 unfolding sum_below
 sum_suc n number = refl
 
@@ -49,7 +49,7 @@ sum_parts (suc n) number passes =
 
 -- ---- one place more
 
-left_after : (f : FamilyKind) (occupied : ℕ → ℕ) (taken : List ℕ) (place k : ℕ)
+pub left_after : (f : FamilyKind) (occupied : ℕ → ℕ) (taken : List ℕ) (place k : ℕ)
     → days_left f occupied (place ∷ taken) k ≡ cond (has_sort f k place) 0 (days_left f occupied taken k)
 left_after f occupied taken place k =
     elim (has_sort f k place) as
@@ -78,11 +78,11 @@ some_days f left free place e =
 -- the places that are taken are places of the kind
 pub in_range : (f : FamilyKind) (occupied free : ℕ → ℕ) (taken : List ℕ) → IsTakenInTurn f occupied free taken
     → (place : ℕ) → list_any (λ other. place == other) taken ≡ true → place < many_items f
-in_range f occupied free [] none place h = absurd (false≢true h)
-in_range f occupied free (x ∷ taken) (more x taken turn best) place h =
+in_range f occupied free [] turn place h = absurd (false≢true h)
+in_range f occupied free (x ∷ taken) turn place h =
     elim (cases_eq place x) [
-      | inl same ↦ omega (arith, same, (some_days f (days_left f occupied taken) free x best).0)
-      | inr other ↦ in_range f occupied free taken turn place (later (place == x) (list_any (λ z. place == z) taken) h (grind (arith, nat_tests)))
+      | inl same ↦ omega (arith, same, (some_days f (days_left f occupied taken) free x turn.1).0)
+      | inr other ↦ in_range f occupied free taken turn.0 place (later (place == x) (list_any (λ z. place == z) taken) h (grind (arith, nat_tests)))
     ]
   where
     later : (a b : Bool) → (a || b) ≡ true → a ≡ false → b ≡ true
@@ -179,17 +179,17 @@ module _ (f : FamilyKind) (interval : ℕ) (first : ℤ) (occupied : ℤ → Boo
     pub few : sum_below (many_sorts f) (days_left f oc taken) ≤ steps
 
   takes_on : (taken : List ℕ) → IsTakenInTurn f oc fc taken → TakesOn taken
-  takes_on [] none = record { steps = days; same = refl; few = few_left }
-  takes_on (place ∷ taken) (more place taken turn best) =
-      let on = takes_on taken turn in go on.steps on.same on.few
+  takes_on [] turn = record { steps = days; same = refl; few = few_left }
+  takes_on (place ∷ taken) turn =
+      let on = takes_on taken turn.0 in go on.steps on.same on.few
     where
       go : (steps : ℕ) → taken_places gives occupied first days (all_places f) ≡ taken_within steps gives occupied first days sound taken
           → sum_below (many_sorts f) (days_left f oc taken) ≤ steps → TakesOn (place ∷ taken)
-      go zero same few = absurd (omega (arith, fewer_left f oc taken place, (some_days f (days_left f oc taken) fc place best).1, few))
+      go zero same few = absurd (omega (arith, fewer_left f oc taken place, (some_days f (days_left f oc taken) fc place turn.1).1, few))
       go (suc steps) same few = record {
         steps = steps;
-        same = same ∙ within_more steps sound taken place (sym (best_is taken) ∙ best);
-        few = omega (arith, fewer_left f oc taken place, (some_days f (days_left f oc taken) fc place best).1, few);
+        same = same ∙ within_more steps sound taken place (sym (best_is taken) ∙ turn.1);
+        few = omega (arith, fewer_left f oc taken place, (some_days f (days_left f oc taken) fc place turn.1).1, few);
       }
 
   pub taken_is : (taken : List ℕ) → IsTakenInTurn f oc fc taken → best_place f (days_left f oc taken) fc ≡ None
@@ -201,8 +201,8 @@ module _ (f : FamilyKind) (interval : ℕ) (first : ℤ) (occupied : ℤ → Boo
   counted : (d : ℤ) → first ≤ℤ d → d <ℤ (first +ℤ pos days) → (k : ℕ) → sort_of d ≡ Some k → occupied d ≡ true → oc k ≡ 0 → ⊥
   counted d l h k is o zero_days =
       let w = in_window first d days l h in
-      let passes = λ x. sort_passes (λ j. k == j) (sort_of x) && occupied x in
-      let off = subst (λ z. passes z ≡ false) w.2 (count_from-none_at passes first days (sym (of_oc k) ∙ zero_days) w.0 w.1) in
+      let off = subst (λ z. (sort_passes (λ j. k == j) (sort_of z) && occupied z) ≡ false) w.2
+      (count_from-none_at (λ z. sort_passes (λ j. k == j) (sort_of z) && occupied z) first days (sym (of_oc k) ∙ zero_days) w.0 w.1) in
       false≢true (sym off ∙ here)
     where
       here : (sort_passes (λ j. k == j) (sort_of d) && occupied d) ≡ true
@@ -226,15 +226,15 @@ module _ (f : FamilyKind) (interval : ℕ) (first : ℤ) (occupied : ℤ → Boo
           elim (cases_Bool (list_any (λ place. has_sort f s.0 place) taken)) [
             | inl has ↦ (let g = giver (λ place. has_sort f s.0 place) taken has in
                 taker (λ place. gives place d) taken g.0 g.2 (gives_by_sort d s.0 g.0 s.1 ∙ g.1))
-            | inr no ↦ absurd (counted d l h s.0 s.1 o (
-                ap (λ b. cond b 0 (oc s.0)) (sym no) ∙ clear s.0 ((kinds_have_sorts f interval first).below d s.0 s.1)))
+            | inr absent ↦ absurd (counted d l h s.0 s.1 o (
+                ap (λ b. cond b 0 (oc s.0)) (sym absent) ∙ clear s.0 ((kinds_have_sorts f interval first).below d s.0 s.1)))
           ]))
 
   pub clear_if_covers : (taken : List ℕ) → AgreeWithin (some_gives gives taken) occupied first days → IsClear f (days_left f oc taken)
   clear_if_covers taken agree k l =
       elim (cases_Bool (list_any (λ place. has_sort f k place) taken)) [
         | inl has ↦ ap (λ b. cond b 0 (oc k)) has
-        | inr no ↦ ap (λ b. cond b 0 (oc k)) no ∙ of_oc k ∙ count_from-none (λ d. sort_passes (λ j. k == j) (sort_of d) && occupied d) first days (λ i m. not_here i m no)
+        | inr absent ↦ ap (λ b. cond b 0 (oc k)) absent ∙ of_oc k ∙ count_from-none (λ d. sort_passes (λ j. k == j) (sort_of d) && occupied d) first days (λ i m. not_here i m absent)
       ]
     where
       of_sort : (s : Option ℕ) (t : Bool) → (sort_passes (λ j. k == j) s && t) ≡ true → (s ≡ Some k) × (t ≡ true)
@@ -252,12 +252,12 @@ module _ (f : FamilyKind) (interval : ℕ) (first : ℤ) (occupied : ℤ → Boo
 
       not_here : (i : ℕ) → i < days → list_any (λ place. has_sort f k place) taken ≡ false
           → (sort_passes (λ j. k == j) (sort_of (first +ℤ pos i)) && occupied (first +ℤ pos i)) ≡ false
-      not_here i m no =
+      not_here i m absent =
           let d = first +ℤ pos i in
           elim (cases_Bool (sort_passes (λ j. k == j) (sort_of d) && occupied d)) [
             | inl holds ↦ (
                 let s = of_sort (sort_of d) (occupied d) holds in
                 let g = giver (λ place. gives place d) taken (agree d (omega (arith, ints)) (omega (arith, ints, m)) ∙ s.1) in
-                absurd (false≢true (sym no ∙ taker (λ place. has_sort f k place) taken g.0 g.2 (sym (gives_by_sort d k g.0 s.0) ∙ g.1))))
+                absurd (false≢true (sym absent ∙ taker (λ place. has_sort f k place) taken g.0 g.2 (sym (gives_by_sort d k g.0 s.0) ∙ g.1))))
             | inr none_here ↦ none_here
           ]

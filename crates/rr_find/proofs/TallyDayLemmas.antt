@@ -3,20 +3,28 @@ use Rattle.std.proofs.Common.{◌≡◌, ℕ, suc, ◌+◌, ◌<◌, ◌≤◌, 
 use Rattle.std.specs.Prelude.{nat_lt, ◌⊎◌}
 use Rattle.std.proofs.lemmas.Bool.Decides.{nat_tests}
 use Rattle.std.proofs.lemmas.Int.{ints}
-use Rattle.std.proofs.lemmas.Bool.{cases_eq, false≢true}
-use Rattle.rr_model.specs.Whole.Count.{count_from}
+use Rattle.std.proofs.lemmas.Bool.{cases_eq, cases_lt, false≢true}
+use Rattle.std.proofs.Math.ListN.{replicate}
+use Rattle.std.proofs.lemmas.List.{get_or-replicate, get_or_past, length-replicate}
 use Rattle.rr_model.proofs.CountLemmas.{count_from-zero, count_from-suc}
 use Rattle.rr_model.specs.declared.vcal.FamilyKind.{FamilyKind}
 use Rattle.rr_family.specs.Sorts.{many_sorts, sort_of_day}
 use Rattle.rr_family.specs.Tally.{sort_passes, days_of_sort}
 use Rattle.rr_family.proofs.SortLemmas.{kinds_have_sorts}
 use Rattle.rr_family.proofs.TakingLemmas.{in_window}
+use Rattle.rr_family.proofs.DaySetLemmas.{more_days}
 use Rattle.rr_setpos.proofs.ProductLemmas.{count_from-le}
-use Rattle.rr_find.specs.Counted.{IsCountedOn, IsDayResult, AreCounts, HasUnsorted, HasMixed, IsTallied, IsNothingCounted, has_some_sort}
+use Rattle.rr_find.specs.Counted.{IsCountedOn, IsDayResult, AreCounts, HasUnsorted, HasMixed, IsTallied, IsNothingCounted, HasFewDays, has_some_sort}
 
--- more days count no fewer
-more_days : (test : ℤ → Bool) (first : ℤ) (m n : ℕ) → m ≤ n → count_from test first m ≤ count_from test first n
-more_days test first m n l = ?
+abbrev pub zeros : ℕ → List ℕ
+zeros n = replicate n 0
+
+pub none_in_zeros : (n k : ℕ) → get_or (zeros n) k 0 ≡ 0
+none_in_zeros n k =
+    elim (cases_lt k n) [
+      | inl within ↦ get_or-replicate n k 0 0 within
+      | inr past ↦ get_or_past (zeros n) k 0 (omega (arith, length-replicate {A = ℕ} n 0, past))
+    ]
 
 pub sort_fits : (f : FamilyKind) (interval : ℕ) (start d : ℤ) (r : Option ℕ) (sort : ℕ) → r ≡ sort_of_day f interval start d → r ≡ Some sort
     → sort < many_sorts f
@@ -26,6 +34,9 @@ sort_fits f interval start d r sort e is = (kinds_have_sorts f interval start).b
 pub room : (counts : List ℕ) (sort_of : ℤ → Option ℕ) (test : ℤ → Bool) (first : ℤ) (n : ℕ) → AreCounts counts sort_of test first n
     → n ≤ 4_000_000_000 → (k : ℕ) → get_or counts k 0 < 18_446_744_073_709_551_615
 room counts sort_of test first n are few k = omega (arith, are k, count_from-le (λ d. sort_passes (λ j. k == j) (sort_of d) && test d) first n, few)
+
+pub few_days : (counts : List ℕ) (sort_of : ℤ → Option ℕ) (test : ℤ → Bool) (first : ℤ) (n : ℕ) → AreCounts counts sort_of test first n → n ≤ 4_000_000_000 → HasFewDays counts
+few_days counts sort_of test first n are few k = omega (arith, are k, count_from-le (λ d. sort_passes (λ j. k == j) (sort_of d) && test d) first n, few)
 
 none_counted : (counts : List ℕ) (sort_of : ℤ → Option ℕ) (test : ℤ → Bool) (first : ℤ) → IsNothingCounted counts → AreCounts counts sort_of test first 0
 none_counted counts sort_of test first none k = none k ∙ sym (count_from-zero (λ d. sort_passes (λ j. k == j) (sort_of d) && test d) first)

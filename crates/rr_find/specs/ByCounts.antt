@@ -1,5 +1,5 @@
 -- Which places are taken, by how many days of each sort a window has.
-use Rattle.std.specs.Prelude.{◌≡◌, ℕ, zero, suc, ◌<◌, ◌==◌, nat_lt, Bool, if◌then◌else◌, Option, None, Some, List, [], ◌∷◌}
+use Rattle.std.specs.Prelude.{◌≡◌, ℕ, zero, suc, ◌<◌, ◌==◌, nat_lt, if◌then◌else◌, ⊤, Option, None, Some, List, [], ◌∷◌}
 use Rattle.std.specs.List.{list_any}
 use Rattle.rr_family.specs.Places.{many_items, item_at}
 use Rattle.rr_family.specs.Sorts.{many_sorts, has_sort}
@@ -36,15 +36,25 @@ abbrev pub days_left : FamilyKind → (ℕ → ℕ) → List ℕ → ℕ → ℕ
 days_left f occupied taken sort = if list_any (λ place. has_sort f sort place) taken then 0 else occupied sort
 
 -- the places are taken one after the other, the last one first in the list, and each is the one that adds most
-pub data IsTakenInTurn (f : FamilyKind) (occupied free : ℕ → ℕ) : List ℕ → Type 0 where
-  none : IsTakenInTurn f occupied free []
-  more : (place : ℕ) (taken : List ℕ) → IsTakenInTurn f occupied free taken → best_place f (days_left f occupied taken) free ≡ Some place
-      → IsTakenInTurn f occupied free (place ∷ taken)
+abbrev pub IsTakenInTurn : FamilyKind → (ℕ → ℕ) → (ℕ → ℕ) → List ℕ → Type 0
+IsTakenInTurn f occupied free [] = ⊤
+IsTakenInTurn f occupied free (place ∷ taken) = IsTakenInTurn f occupied free taken × (best_place f (days_left f occupied taken) free ≡ Some place)
 
 -- the items of the places in their order
 abbrev pub items_of : FamilyKind → List ℕ → List Item
 items_of f [] = []
 items_of f (place ∷ taken) = with_value item_lt (items_of f taken) (item_at f place)
+
+-- these items are taken so far, and so many days of each sort are left
+pub record AreTakenSoFar (f : FamilyKind) (occupied free left : ℕ → ℕ) (items : List Item) : Type 0 where
+  pub taken : List ℕ
+  pub in_turn : IsTakenInTurn f occupied free taken
+  pub left_are : (sort : ℕ) → sort < many_sorts f → left sort ≡ days_left f occupied taken sort
+  pub items_are : items ≡ items_of f taken
+
+-- a place is taken: none are left of its sorts
+abbrev pub IsTakenFrom : FamilyKind → ℕ → (ℕ → ℕ) → (ℕ → ℕ) → Type 0
+IsTakenFrom f place old new = (sort : ℕ) → sort < many_sorts f → new sort ≡ if has_sort f sort place then 0 else old sort
 
 -- no sort has a day left
 abbrev pub IsClear : FamilyKind → (ℕ → ℕ) → Type 0

@@ -86,3 +86,9 @@ HasNoRuleBefore s interval place = (rule : VRule) (kind : Kind) (start : ℤ) �
 abbrev pub IsFoundAt : Sketch → ℕ → Option Found → Type 0
 IsFoundAt s interval None = HasNoRuleBefore s interval 6
 IsFoundAt s interval (Some found) = HasListedRule s found × (found.rule.interval ≡ interval) × HasNoRuleBefore s interval (kind_place found.rule.family)
+
+-- ---- of all intervals
+
+-- no rule of a lesser interval has the set
+abbrev pub HasNoRuleBelow : Sketch → ℕ → Type 0
+HasNoRuleBelow s interval = (rule : VRule) (kind : Kind) (start : ℤ) → IsRuleOf (StandsIn s) rule kind start → rule.interval < interval → ⊥

@@ -2,7 +2,7 @@
 ghost use Rattle.std.specs.Prelude.{◌≡◌, ◌↔◌, ◌≤◌, ◌<◌, IsTrue, IfOk, if◌then◌else◌, length, get_or, ℕ};
 ghost use Rattle.rr_family.specs.Places.{many_items};
 ghost use Rattle.rr_family.specs.Sorts.{has_sort, many_sorts};
-ghost use Rattle.rr_find.specs.ByCounts.{AreTaken, IsClear, best_place, days_of_place, gain_of_place};
+ghost use Rattle.rr_find.specs.ByCounts.{AreTaken, IsClear, IsTakenFrom, best_place, days_of_place, gain_of_place};
 ghost use Rattle.rr_find.specs.Counted.{HasFewDays};
 
 use crate::tallies::Counts;
@@ -104,9 +104,10 @@ fn days_of_sort(kind: FamilyKind, counts: &[u64], place: u16, sort: u16) -> u64
 fn take_place(kind: FamilyKind, place: u16, left: &mut [u64])
     requires place { place < 366 }
     requires sorts { many_sorts kind ≤ length left.old }
+    requires few { HasFewDays left.old }
     ensures length { length left.new ≡ length left.old }
-    ensures taken { (sort : ℕ) → sort < many_sorts kind → get_or left.new sort 0 ≡ if has_sort kind sort place then 0 else get_or left.old sort 0 }
-    ensures rest { (sort : ℕ) → many_sorts kind ≤ sort → get_or left.new sort 0 ≡ get_or left.old sort 0 }
+    ensures taken { IsTakenFrom kind place (λ sort. get_or left.old sort 0) (λ sort. get_or left.new sort 0) }
+    ensures few { HasFewDays left.new }
 {
     for sort in 0..many_sorts(kind) {
         if has_sort(kind, sort, place) {

@@ -81,8 +81,10 @@ fn find_of<A: DaySeq>(
     if interval > most_interval(kind) {
         return Ok(None);
     }
-    let items = list_of(alloc, seq, window, kind, interval)?;
-    Ok(items.map(|items| found_of(window, kind, interval, items)))
+    match list_of(alloc, seq, window, kind, interval)? {
+        Some(items) => Ok(Some(found_of(window, kind, interval, items))),
+        None => Ok(None),
+    }
 }
 
 // The greatest interval of a kind.

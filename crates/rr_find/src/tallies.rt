@@ -36,13 +36,20 @@ pub fn tally<A: DaySeq>(
     requires few { days ≤ 4_000_000_000 }
     ensures { IsTally (sort_of_day kind interval first) (is_occupied (A.sketch seq.now)) first days result }
 {
-    let mut occupied = [0; 366];
-    let mut free = [0; 366];
+    let mut occupied = no_days();
+    let mut free = no_days();
     if count_days(seq, kind, interval, first, days, &mut occupied, &mut free) {
         Some(Counts { occupied, free })
     } else {
         None
     }
+}
+
+// No day of any sort.
+fn no_days() -> [u64; 366]
+    ensures { IsNothingCounted result }
+{
+    [0; 366]
 }
 
 // Counts the days of a window; false at the first day after which no list has its days.

@@ -1,8 +1,8 @@
-use Rattle.std.proofs.Common.{◌≡◌, arith, w64, to_z, of_z, subst, ◌∙◌}
+use Rattle.std.proofs.Common.{◌≡◌, ◌≤◌, arith, sym, w64, to_z, of_z, subst, ◌∙◌}
 use Rattle.std.specs.Prelude.{◌⊎◌}
 use Rattle.std.proofs.lemmas.Int.{ints, to_z-of_z}
 use Rattle.rr_family.specs.Lasting.{is_occupied}
-use Rattle.rr_family.specs.Sorts.{sort_of_day}
+use Rattle.rr_family.specs.Sorts.{many_sorts, sort_of_day}
 use Rattle.rr_find.specs.Counted.{HasUnsorted, HasMixed, IsTallied}
 use Rattle.rr_find.proofs.TallyDayLemmas.{room, nothing_tallied, tallied_more, lost_there}
 use Rattle.rr_find.proofs.tallies.count_days.Goals as goal

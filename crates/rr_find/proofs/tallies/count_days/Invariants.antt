@@ -1,4 +1,4 @@
-use Rattle.std.proofs.Common.{◌≡◌, length}
+use Rattle.std.proofs.Common.{◌≤◌, length}
 use Rattle.rr_family.specs.Lasting.{is_occupied}
 use Rattle.rr_family.specs.Sorts.{many_sorts, sort_of_day}
 use Rattle.rr_find.specs.Counted.{IsTallied}

@@ -1,0 +1,103 @@
+-- What each step of the choice keeps.
+use Rattle.std.proofs.Common.{◌≡◌, ◌↔◌, ℕ, suc, ◌+◌, ◌<◌, ◌≤◌, ◌==◌, Bool, true, false, cond, List, [], ◌∷◌, Option, None, Some, inl, inr, refl, sym, ap, ◌∙◌, arith}
+use Rattle.std.specs.Prelude.{◌⊎◌, nat_lt}
+use Rattle.std.proofs.lemmas.Bool.Decides.{nat_tests}
+use Rattle.rr_family.specs.Places.{item_at, many_items}
+use Rattle.rr_family.specs.Sorts.{many_sorts, has_sort}
+use Rattle.rr_family.specs.Tally.{sum_below}
+use Rattle.rr_find.specs.ByCounts.{days_of_place, gain_of_place, best_below, best_place, days_left, number_at, AreTakenSoFar, IsTakenFrom, IsClear, AreTaken}
+use Rattle.rr_find.proofs.BestLemmas.{best_suc}
+use Rattle.rr_find.proofs.TakenLemmas.{sum_same, sum_suc, sum_parts, some_days, left_after}
+use Rattle.rr_model.specs.Rising.{with_value}
+use Rattle.rr_model.specs.Vcal.Items.{item_lt}
+use Rattle.rr_model.specs.declared.item.Item.{Item}
+use Rattle.rr_model.specs.declared.vcal.FamilyKind.{FamilyKind}
+use Rattle.rr_model.specs.declared.vcal.FamilyKind.TheVariants as family
+
+-- the same days are left, so the same place is the best
+best_same : (f : FamilyKind) (left left' free : ℕ → ℕ) → ((sort : ℕ) → sort < many_sorts f → left sort ≡ left' sort) → best_place f left free ≡ best_place f left' free
+best_same f left left' free same = ap (λ number. best_below number (many_items f)) (λ i place. gain_same place i)
+  where
+    gain_same : (place : ℕ) → gain_of_place f left free place ≡ gain_of_place f left' free place
+    gain_same place = ap (λ days. cond (days_of_place f free place == 0) days 0)
+        (sum_same (many_sorts f) _ _ (λ k l. ap (λ x. cond (has_sort f k place) x 0) (same k l)))
+
+pub taken_none : (f : FamilyKind) (occupied free : ℕ → ℕ) (items : List Item) → items ≡ [] → AreTakenSoFar f occupied free occupied items
+taken_none f occupied free items is = record { taken = []; in_turn = tt; left_are = λ sort l. refl; items_are = is }
+
+pub taken_next : (f : FamilyKind) (occupied free left left' : ℕ → ℕ) (items items' : List Item) (place : ℕ) → AreTakenSoFar f occupied free left items
+    → best_place f left free ≡ Some place → IsTakenFrom f place left left' → items' ≡ with_value item_lt items (item_at f place)
+    → AreTakenSoFar f occupied free left' items'
+taken_next f occupied free left left' items items' place so_far best from is = record {
+  taken = place ∷ so_far.taken;
+  in_turn = (so_far.in_turn, sym (best_same f left (days_left f occupied so_far.taken) free so_far.left_are) ∙ best);
+  left_are = λ sort l. from sort l ∙ ap (λ x. cond (has_sort f sort place) 0 x) (so_far.left_are sort l) ∙ sym (left_after f occupied so_far.taken place sort);
+  items_are = is ∙ ap (λ zs. with_value item_lt zs (item_at f place)) so_far.items_are;
+}
+
+pub fewer_next : (f : FamilyKind) (left left' free : ℕ → ℕ) (place : ℕ) → best_place f left free ≡ Some place → IsTakenFrom f place left left'
+    → sum_below (many_sorts f) left' < sum_below (many_sorts f) left
+fewer_next f left left' free place best from =
+    let same = sum_same (many_sorts f) left' (λ k. cond (has_sort f k place) 0 (left k)) from in
+    let parts = sum_parts (many_sorts f) left (λ k. has_sort f k place) in
+    let some = (some_days f left free place best).1 in
+    omega (arith, same, parts, some)
+
+pub place_fits : (f : FamilyKind) (left free : ℕ → ℕ) (place : ℕ) → Some place ≡ best_place f left free → place < many_items f
+place_fits f left free place best = (some_days f left free place (sym best)).0
+
+pub few_places : (f : FamilyKind) (place : ℕ) → place < many_items f → place < 366
+few_places family.D place l = omega (arith, l)
+few_places family.W place l = omega (arith, l)
+few_places family.MD place l = omega (arith, l)
+few_places family.MP place l = omega (arith, l)
+few_places family.YM place l = omega (arith, l)
+few_places family.YD place l = omega (arith, l)
+
+module _ (f : FamilyKind) (occupied free left : ℕ → ℕ) (items : List Item) (so_far : AreTakenSoFar f occupied free left items)
+    (best : best_place f left free ≡ None) where
+  none_left : best_place f (days_left f occupied so_far.taken) free ≡ None
+  none_left = sym (best_same f left (days_left f occupied so_far.taken) free so_far.left_are) ∙ best
+
+  pub all_taken : IsClear f left → AreTaken f occupied free (Some items)
+  all_taken clear = record {
+    taken = so_far.taken;
+    in_turn = so_far.in_turn;
+    none_left = none_left;
+    answer = (λ sort l. sym (so_far.left_are sort l) ∙ clear sort l, so_far.items_are);
+  }
+
+  pub not_all_taken : (IsClear f left → ⊥) → AreTaken f occupied free None
+  not_all_taken unclear = record {
+    taken = so_far.taken;
+    in_turn = so_far.in_turn;
+    none_left = none_left;
+    answer = λ clear. unclear (λ sort l. so_far.left_are sort l ∙ clear sort l);
+  }
+
+-- ---- sums and the best place, by one more
+
+pub few_if : (b : Bool) (x most : ℕ) → x ≤ most → cond b x 0 ≤ most
+few_if true x most l = l
+few_if false x most l = omega arith
+
+pub sum_next : (n : ℕ) (number : ℕ → ℕ) (total x : ℕ) → total ≡ sum_below n number → x ≡ number n → total + x ≡ sum_below (n + 1) number
+sum_next n number total x e f =
+    let s : n + 1 ≡ suc n = omega arith in
+    omega (arith, e, f, sum_suc n number) ∙ ap (λ k. sum_below k number) (sym s)
+
+pub best_next : (number : ℕ → ℕ) (n : ℕ) (best best' : Option ℕ) (most most' days : ℕ) → best ≡ best_below number n → most ≡ number_at number best → days ≡ number n
+    → ((most < days) × (best' ≡ Some n) × (most' ≡ days)) ⊎ ((days ≤ most) × (best' ≡ best) × (most' ≡ most))
+    → (best' ≡ best_below number (n + 1)) × (most' ≡ number_at number best')
+best_next number n best best' most most' days is of_best of_n (inl w) =
+    let s : n + 1 ≡ suc n = omega arith in
+    let m : most ≡ number_at number (best_below number n) = of_best ∙ ap (number_at number) is in
+    let more : nat_lt (number_at number (best_below number n)) (number n) ≡ true = (let l = w.0 in grind (arith, nat_tests)) in
+    (w.1 ∙ sym (ap (best_below number) s ∙ best_suc number n ∙ ap (λ b. cond b (Some n) (best_below number n)) more),
+     w.2 ∙ of_n ∙ sym (ap (number_at number) w.1))
+best_next number n best best' most most' days is of_best of_n (inr w) =
+    let s : n + 1 ≡ suc n = omega arith in
+    let m : most ≡ number_at number (best_below number n) = of_best ∙ ap (number_at number) is in
+    let not_more : nat_lt (number_at number (best_below number n)) (number n) ≡ false = (let l = w.0 in grind (arith, nat_tests)) in
+    (w.1 ∙ is ∙ sym (ap (best_below number) s ∙ best_suc number n ∙ ap (λ b. cond b (Some n) (best_below number n)) not_more),
+     w.2 ∙ of_best ∙ sym (ap (number_at number) w.1))
