@@ -12,7 +12,8 @@ pub best_zero : (number : ℕ → ℕ) → best_below number 0 ≡ None
 unfolding best_below
 best_zero number = refl
 
-pub best_suc : (number : ℕ → ℕ) (n : ℕ) → best_below number (suc n) ≡ cond (nat_lt (number_at number (best_below number n)) (number n)) (Some n) (best_below number n)
+pub best_suc : (number : ℕ → ℕ) (n : ℕ) → best_below number (suc n) ≡ cond (nat_lt (number_at number (best_below number n)) (number n)) (Some n)
+    (best_below number n)
 unfolding best_below
 best_suc number n = refl
 
@@ -58,7 +59,8 @@ greatest_snoc number x [] y = refl
 greatest_snoc number x (z ∷ zs) y =
     elim (nat_lt (number x) (number z)) as
     (λ b. cond b (first_greatest number z (zs ++ (y ∷ []))) (first_greatest number x (zs ++ (y ∷ [])))
-    ≡ cond (nat_lt (number (cond b (first_greatest number z zs) (first_greatest number x zs))) (number y)) y (cond b (first_greatest number z zs) (first_greatest number x zs))) [
+    ≡ cond (nat_lt (number (cond b (first_greatest number z zs) (first_greatest number x zs))) (number y)) y (cond b (first_greatest number z zs)
+    (first_greatest number x zs))) [
       | true ↦ greatest_snoc number z zs y
       | false ↦ greatest_snoc number x zs y
     ]
@@ -94,12 +96,13 @@ filter_snoc p (x ∷ xs) y =
     elim (p x) as (λ b. cond b (x ∷ filter p (xs ++ (y ∷ []))) (filter p (xs ++ (y ∷ [])))
     ≡ cond (p y) (cond b (x ∷ filter p xs) (filter p xs) ++ (y ∷ [])) (cond b (x ∷ filter p xs) (filter p xs))) [
       | true ↦ (ap (λ zs. x ∷ zs) (filter_snoc p xs y) ∙ (elim (p y) as (λ b. x ∷ cond b (filter p xs ++ (y ∷ [])) (filter p xs)
-        ≡ cond b ((x ∷ filter p xs) ++ (y ∷ [])) (x ∷ filter p xs)) [ true ↦ refl | false ↦ refl ]))
+          ≡ cond b ((x ∷ filter p xs) ++ (y ∷ [])) (x ∷ filter p xs)) [ true ↦ refl | false ↦ refl ]))
       | false ↦ filter_snoc p xs y
     ]
 
 -- the best of the places whose number is 0 where they do not pass is the one that is chosen of those that pass
-pub best_is_chosen : (number : ℕ → ℕ) (passes : ℕ → Bool) (n : ℕ) → best_below (λ place. cond (passes place) (number place) 0) n ≡ chosen number (filter passes (places_from 0 n))
+pub best_is_chosen : (number : ℕ → ℕ) (passes : ℕ → Bool) (n : ℕ)
+    → best_below (λ place. cond (passes place) (number place) 0) n ≡ chosen number (filter passes (places_from 0 n))
 best_is_chosen number passes zero = best_zero (λ place. cond (passes place) (number place) 0)
 best_is_chosen number passes (suc n) =
     let before = filter passes (places_from 0 n) in

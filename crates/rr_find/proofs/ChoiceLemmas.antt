@@ -15,7 +15,8 @@ use Rattle.rr_model.specs.declared.vcal.FamilyKind.{FamilyKind}
 use Rattle.rr_model.specs.declared.vcal.FamilyKind.TheVariants as family
 
 -- the same days are left, so the same place is the best
-best_same : (f : FamilyKind) (left left' free : ℕ → ℕ) → ((sort : ℕ) → sort < many_sorts f → left sort ≡ left' sort) → best_place f left free ≡ best_place f left' free
+best_same : (f : FamilyKind) (left left' free : ℕ → ℕ) → ((sort : ℕ) → sort < many_sorts f → left sort ≡ left' sort)
+    → best_place f left free ≡ best_place f left' free
 best_same f left left' free same = ap (λ number. best_below number (many_items f)) (λ i place. gain_same place i)
   where
     gain_same : (place : ℕ) → gain_of_place f left free place ≡ gain_of_place f left' free place
@@ -31,7 +32,8 @@ pub taken_next : (f : FamilyKind) (occupied free left left' : ℕ → ℕ) (item
 taken_next f occupied free left left' items items' place so_far best from is = record {
   taken = place ∷ so_far.taken;
   in_turn = (so_far.in_turn, sym (best_same f left (days_left f occupied so_far.taken) free so_far.left_are) ∙ best);
-  left_are = λ sort l. from sort l ∙ ap (λ x. cond (has_sort f sort place) 0 x) (so_far.left_are sort l) ∙ sym (left_after f occupied so_far.taken place sort);
+  left_are = λ sort l. from sort l ∙ ap (λ x. cond (has_sort f sort place) 0 x) (so_far.left_are sort l) ∙ sym (left_after f occupied so_far.taken
+      place sort);
   items_are = is ∙ ap (λ zs. with_value item_lt zs (item_at f place)) so_far.items_are;
 }
 
@@ -86,18 +88,21 @@ sum_next n number total x e f =
     let s : n + 1 ≡ suc n = omega arith in
     omega (arith, e, f, sum_suc n number) ∙ ap (λ k. sum_below k number) (sym s)
 
-pub best_next : (number : ℕ → ℕ) (n : ℕ) (best best' : Option ℕ) (most most' days : ℕ) → best ≡ best_below number n → most ≡ number_at number best → days ≡ number n
+pub best_next : (number : ℕ → ℕ) (n : ℕ) (best best' : Option ℕ) (most most' days : ℕ) → best ≡ best_below number n → most ≡ number_at number best
+    → days ≡ number n
     → ((most < days) × (best' ≡ Some n) × (most' ≡ days)) ⊎ ((days ≤ most) × (best' ≡ best) × (most' ≡ most))
     → (best' ≡ best_below number (n + 1)) × (most' ≡ number_at number best')
 best_next number n best best' most most' days is of_best of_n (inl w) =
     let s : n + 1 ≡ suc n = omega arith in
     let m : most ≡ number_at number (best_below number n) = of_best ∙ ap (number_at number) is in
-    let more : nat_lt (number_at number (best_below number n)) (number n) ≡ true = (let l = w.0 in grind (arith, nat_tests)) in
-    (w.1 ∙ sym (ap (best_below number) s ∙ best_suc number n ∙ ap (λ b. cond b (Some n) (best_below number n)) more),
-     w.2 ∙ of_n ∙ sym (ap (number_at number) w.1))
+    let more : nat_lt (number_at number (best_below number n)) (number n) ≡ true = (let l = w.0 in grind (arith, nat_tests)) in (
+      w.1 ∙ sym (ap (best_below number) s ∙ best_suc number n ∙ ap (λ b. cond b (Some n) (best_below number n)) more),
+      w.2 ∙ of_n ∙ sym (ap (number_at number) w.1),
+    )
 best_next number n best best' most most' days is of_best of_n (inr w) =
     let s : n + 1 ≡ suc n = omega arith in
     let m : most ≡ number_at number (best_below number n) = of_best ∙ ap (number_at number) is in
-    let not_more : nat_lt (number_at number (best_below number n)) (number n) ≡ false = (let l = w.0 in grind (arith, nat_tests)) in
-    (w.1 ∙ is ∙ sym (ap (best_below number) s ∙ best_suc number n ∙ ap (λ b. cond b (Some n) (best_below number n)) not_more),
-     w.2 ∙ of_best ∙ sym (ap (number_at number) w.1))
+    let not_more : nat_lt (number_at number (best_below number n)) (number n) ≡ false = (let l = w.0 in grind (arith, nat_tests)) in (
+      w.1 ∙ is ∙ sym (ap (best_below number) s ∙ best_suc number n ∙ ap (λ b. cond b (Some n) (best_below number n)) not_more),
+      w.2 ∙ of_best ∙ sym (ap (number_at number) w.1),
+    )

@@ -80,11 +80,13 @@ module _ (f : FamilyKind) where
   items test k n = map (item_at f) (filter test (places_from k n))
 
   -- the item of an earlier place comes first
-  put_first : (test : ℕ → Bool) (p k n : ℕ) → p < k → k + n ≤ many_items f → with_value item_lt (items test k n) (item_at f p) ≡ item_at f p ∷ items test k n
+  put_first : (test : ℕ → Bool) (p k n : ℕ) → p < k → k + n ≤ many_items f
+      → with_value item_lt (items test k n) (item_at f p) ≡ item_at f p ∷ items test k n
   unfolding items
   put_first test p k zero l m = refl
   put_first test p k (suc n) l m =
-      elim (test k) as (λ b. with_value item_lt (map (item_at f) (cond b (k ∷ filter test (places_from (suc k) n)) (filter test (places_from (suc k) n)))) (item_at f p)
+      elim (test k) as (λ b. with_value item_lt (map (item_at f) (cond b (k ∷ filter test (places_from (suc k) n)) (filter test (places_from (suc k)
+      n)))) (item_at f p)
       ≡ item_at f p ∷ map (item_at f) (cond b (k ∷ filter test (places_from (suc k) n)) (filter test (places_from (suc k) n)))) [
         | true ↦ (
             let a : item_lt (item_at f k) (item_at f p) ≡ false = item_order f k p (omega (arith, m)) (omega (arith, l, m)) ∙ grind (arith, nat_tests) in
@@ -125,7 +127,8 @@ module _ (f : FamilyKind) where
             let more = put_in test p (suc k) n (omega (arith, l, other)) (omega (arith, h)) (omega (arith, m)) in
             rw not_here
             (elim (test k) as (λ b. with_value item_lt (map item (cond b (k ∷ rest) rest)) (item p)
-            ≡ map item (cond b (k ∷ filter (λ place. (place == p) || test place) (places_from (suc k) n)) (filter (λ place. (place == p) || test place) (places_from (suc k) n)))) [
+            ≡ map item (cond b (k ∷ filter (λ place. (place == p) || test place) (places_from (suc k) n)) (filter (λ place. (place == p) || test
+            place) (places_from (suc k) n)))) [
               | true ↦ rw less (ap (λ zs. item k ∷ zs) more)
               | false ↦ more
             ]))
@@ -140,7 +143,8 @@ module _ (f : FamilyKind) where
   unfolding items
   items_are [] h = sym (ap (map (item_at f)) (none_kept 0 (many_items f)))
   items_are (p ∷ taken) h =
-      ap (λ zs. with_value item_lt zs (item_at f p)) (items_are taken (λ place e. h place (either (place == p) (list_any (λ other. place == other) taken) e)))
+      ap (λ zs. with_value item_lt zs (item_at f p)) (items_are taken (λ place e. h place (either (place == p) (list_any (λ other. place == other)
+      taken) e)))
       ∙ put_in (λ place. list_any (λ other. place == other) taken) p 0 (many_items f) (omega arith) (omega (arith, h p (here p))) (omega arith)
     where
       either : (a b : Bool) → b ≡ true → (a || b) ≡ true

@@ -1,6 +1,7 @@
 -- What a tally and the items that are taken by it tell of the rules of a kind and interval.
 use Rattle.std.proofs.Common.{◌≡◌, ℕ, ◌≤◌, ℤ, Option, None, Some, List, get_or, sym, ap, subst, ◌∙◌}
-use Rattle.std.proofs.Common.{arith, to_z, of_z, to_z-of_z, w64}
+use Rattle.std.proofs.Common.{arith, to_z, of_z, to_z-of_z, w64, FitsSigned}
+use borrow.Author.Differences.{fits_in}
 use Rattle.std.proofs.lemmas.Int.{ints}
 use Rattle.std.specs.Prelude.{◌⊎◌, map, IfOk, Result, Ok, Err}
 use Rattle.rr_check.proofs.RuleCycleLemmas.{interval_cycle_some}
@@ -33,10 +34,12 @@ module _ (s : Sketch) (w : Window) (f : FamilyKind) (interval days : ℕ) (valid
   list_of_taken oc fc items tally t = of_answer items t.answer
     where
       all_taken : taken_places (place_has_day f interval w.first) (is_occupied s) w.first days (all_places f) ≡ t.taken
-      all_taken = taken_is f interval w.first (is_occupied s) days (λ sort. get_or oc sort 0) (λ sort. get_or fc sort 0) tally.of_occupied tally.of_free t.taken t.in_turn t.none_left
+      all_taken = taken_is f interval w.first (is_occupied s) days (λ sort. get_or oc sort 0) (λ sort. get_or fc sort 0) tally.of_occupied
+          tally.of_free t.taken t.in_turn t.none_left
 
       -- the written list has the days of the taken places
-      same_days : (d : ℤ) → some_gives (place_has_day f interval w.first) (list_places s f interval w.first days) d ≡ some_gives (place_has_day f interval w.first) t.taken d
+      same_days : (d : ℤ) → some_gives (place_has_day f interval w.first) (list_places s f interval w.first days) d
+          ≡ some_gives (place_has_day f interval w.first) t.taken d
       same_days d = list_is_taken s f interval w.first days d ∙ ap (λ places. some_gives (place_has_day f interval w.first) places d) all_taken
 
       same_items : list_items s f interval w.first days ≡ items_of f t.taken
@@ -46,15 +49,18 @@ module _ (s : Sketch) (w : Window) (f : FamilyKind) (interval days : ℕ) (valid
       of_answer : (answer : Option (List Item)) → IsAnswerOf f (λ sort. get_or oc sort 0) t.taken answer → IsListOf s w f interval answer
       of_answer None unclear =
           no_rule_if_unlisted s w f interval days valid has (window_of_days s w.first (family_cycle f interval) some w.end days has.end read)
-          (λ listed. unclear (clear_if_covers f interval w.first (is_occupied s) days (λ sort. get_or oc sort 0) (λ sort. get_or fc sort 0) tally.of_occupied tally.of_free
+          (λ listed. unclear (clear_if_covers f interval w.first (is_occupied s) days (λ sort. get_or oc sort 0) (λ sort. get_or fc sort 0)
+          tally.of_occupied tally.of_free
           t.taken (λ d l h. sym (same_days d) ∙ listed d l h)))
       of_answer (Some list) clear =
           subst (λ zs. HasListedRule s (found_of w f interval zs)) (same_items ∙ sym clear.1)
           (listed_rule s w f interval days valid has low high some read few
-          (λ d l h. same_days d ∙ covers_if_clear f interval w.first (is_occupied s) days (λ sort. get_or oc sort 0) (λ sort. get_or fc sort 0) tally.of_occupied tally.of_free
+          (λ d l h. same_days d ∙ covers_if_clear f interval w.first (is_occupied s) days (λ sort. get_or oc sort 0) (λ sort. get_or fc sort 0)
+          tally.of_occupied tally.of_free
           t.taken t.in_turn t.none_left tally.sorted clear.0 d l h))
 
-  pub no_rule_if_given_up : HasUnsorted (sort_of_day f interval w.first) (is_occupied s) w.first days ⊎ HasMixed (sort_of_day f interval w.first) (is_occupied s) w.first days
+  pub no_rule_if_given_up : HasUnsorted (sort_of_day f interval w.first) (is_occupied s) w.first days
+      ⊎ HasMixed (sort_of_day f interval w.first) (is_occupied s) w.first days
       → HasNoRule s f interval
   no_rule_if_given_up lost =
       no_rule_if_unlisted s w f interval days valid has (window_of_days s w.first (family_cycle f interval) some w.end days has.end read)
@@ -71,4 +77,6 @@ answer_is P Q (Err e) follows holds = tt
 
 -- a near day is read as it is
 pub near_read : (d : ℤ) → IsNearDay d → to_z w64 (of_z w64 d) ≡ d
-near_read d near = to_z-of_z (let l = near.0 in let h = near.1 in (omega (arith, ints, l), omega (arith, ints, h)))
+near_read d near =
+    let fits : FitsSigned w64 d = (let l = near.0 in let h = near.1 in omega (arith, ints, fits_in, l, h)) in
+    to_z-of_z fits

@@ -49,7 +49,8 @@ use Rattle.rr_find.specs.Found.{HasNoRule, HasListedRule, days_up_to, end_of, fo
 
 -- the list that is taken has the occupied days of the window
 abbrev pub IsListed : Sketch → FamilyKind → ℕ → ℤ → ℕ → Type 0
-IsListed s f interval first days = AgreeWithin (some_gives (place_has_day f interval first) (list_places s f interval first days)) (is_occupied s) first days
+IsListed s f interval first days = AgreeWithin (some_gives (place_has_day f interval first) (list_places s f interval first days)) (is_occupied s)
+    first days
 
 -- ---- the days of a rule that has the set
 
@@ -61,11 +62,15 @@ pub rule_days : (s : Sketch) (rule : VRule) (kind : Kind) (start : ℤ) → IsVa
 rule_days s rule kind start valid r =
     set_of_test s (items_have_day rule.family rule.interval (day_part kind start) rule.items) (range_of rule.end) kind start valid
     ((members_on_days rule kind start start kind r.end).0 (refl, r.begins))
-    (λ k t. (λ o. (r.equal k t).0 ((members_on_days rule kind start t k r.end).1 o), λ h. (members_on_days rule kind start t k r.end).0 ((r.equal k t).1 h)))
+    (λ k t. (
+      λ o. (r.equal k t).0 ((members_on_days rule kind start t k r.end).1 o),
+      λ h. (members_on_days rule kind start t k r.end).0 ((r.equal k t).1 h),
+    ))
 
 first_is : (s : Sketch) (w : Window) (rule : VRule) (kind : Kind) (start : ℤ) → IsValidSketch s → HasWindow s w → IsRuleOf (StandsIn s) rule kind start
     → day_part kind start ≡ w.first
-first_is s w rule kind start valid has r = one_first s (day_part kind start) w.first (rule_days s rule kind start valid r).0.first_day has.one_second.first_day
+first_is s w rule kind start valid has r =
+    one_first s (day_part kind start) w.first (rule_days s rule kind start valid r).0.first_day has.one_second.first_day
 
 -- ---- no rule
 
@@ -88,7 +93,8 @@ pub unlisted_if_given_up : (s : Sketch) (f : FamilyKind) (interval : ℕ) (first
     → IsListed s f interval first days → ⊥
 unlisted_if_given_up s f interval first days (inl u) listed =
     unsorted_has_no_list (place_has_day f interval first) (many_sorts f) (sort_of_day f interval first) (has_sort f) (is_occupied s) first days
-    (list_places s f interval first days) u.day (kinds_have_sorts f interval first) u.not_before u.within u.occupied_day (no_sort (sort_of_day f interval first u.day) u.no_sort) listed
+    (list_places s f interval first days) u.day (kinds_have_sorts f interval first) u.not_before u.within u.occupied_day (no_sort (sort_of_day f
+    interval first u.day) u.no_sort) listed
   where
     no_sort : (sort : Option ℕ) → has_some_sort sort ≡ false → sort ≡ None
     no_sort None h = refl
@@ -149,14 +155,16 @@ module _ (s : Sketch) (first : ℤ) (c : ℕ) (some : 1 ≤ c) where
       (λ b. (int_eq start first && (c % period == 0)) ≡ b → cond b (Some c) None ≡ Some days → FitsCycle s first c × (c ≡ days)) [
         | true ↦ λ fits h. (
             let same_start : start ≡ first = equal_ints start first (and_left _ _ fits) in
-            let rest : c % period ≡ 0 = (let z = and_right (int_eq start first) (c % period == 0) fits in grind (arith, nat_tests)) in
-            (record {
-              some = some;
-              period = period;
-              is_period = ends.1;
-              divides = dvd_of_mod-eq-zero period rest;
-              start = subst (λ q. IsLeastStart (times_on s) first period q) same_start ends.2;
-            }, some_is c days h))
+            let rest : c % period ≡ 0 = (let z = and_right (int_eq start first) (c % period == 0) fits in grind (arith, nat_tests)) in (
+              record {
+                some = some;
+                period = period;
+                is_period = ends.1;
+                divides = dvd_of_mod-eq-zero period rest;
+                start = subst (λ q. IsLeastStart (times_on s) first period q) same_start ends.2;
+              },
+              some_is c days h,
+            ))
         | false ↦ λ fits h. absurd (none_some h)
       ] refl e
     where
@@ -211,14 +219,16 @@ start_parts s w valid has = of_kind w.kind (λ days. fits.1 (has.one_second.same
     of_kind Days zero = (refl, sym (zero refl))
     of_kind Moments zero = (day_part-moment_at w.first w.second fits.0, second_part-moment_at w.first w.second fits.0)
 
-pub listed_rule : (s : Sketch) (w : Window) (f : FamilyKind) (interval days : ℕ) → IsValidSketch s → HasWindow s w → 1 ≤ interval → interval ≤ most_family_interval f
+pub listed_rule : (s : Sketch) (w : Window) (f : FamilyKind) (interval days : ℕ) → IsValidSketch s → HasWindow s w → 1 ≤ interval
+    → interval ≤ most_family_interval f
     → 1 ≤ family_cycle f interval → days_up_to w.first (family_cycle f interval) w.end ≡ Some days → days ≤ 4_000_000_000
     → IsListed s f interval w.first days → HasListedRule s (found_of w f interval (list_items s f interval w.first days))
 listed_rule s w f interval days valid has low high some e few_days listed =
     record {
       is_rule = of_end w.end has.end e;
       days = days;
-      window = subst (λ d. IsWindow s d (family_cycle f interval) days) (sym parts.0) (window_of_days s w.first (family_cycle f interval) some w.end days has.end e);
+      window = subst (λ d. IsWindow s d (family_cycle f interval) days) (sym parts.0) (window_of_days s w.first (family_cycle f interval) some w.end
+          days has.end e);
       items = ap (λ d. list_items s f interval d days) (sym parts.0);
       ends = subst (λ d. EndsWith s d (end_of w.end)) (sym parts.0) (ends_with w.end has.end);
     }
@@ -230,7 +240,8 @@ listed_rule s w f interval days valid has low high some e few_days listed =
     parts = start_parts s w valid has
 
     one_second : IsOneSecond s w.kind (second_part w.kind start) (day_part w.kind start)
-    one_second = subst (λ x. IsOneSecond s w.kind x (day_part w.kind start)) (sym parts.1) (subst (λ d. IsOneSecond s w.kind w.second d) (sym parts.0) has.one_second)
+    one_second = subst (λ x. IsOneSecond s w.kind x (day_part w.kind start)) (sym parts.1) (subst (λ d. IsOneSecond s w.kind w.second d)
+        (sym parts.0) has.one_second)
 
     -- the items counted from the start's day are those counted from the first day
     moved : (end : End) (n : ℕ) → n ≡ days → IsRuleOf (StandsIn s) (vrule f interval (list_items s f interval (day_part w.kind start) n) end) w.kind start

@@ -1,6 +1,6 @@
 -- What the search over intervals and kinds has found so far.
 use Rattle.std.proofs.Common.{◌≡◌, ℕ, zero, suc, ◌+◌, ◌<◌, ◌≤◌, ◌==◌, Bool, true, false, ◌&&◌, ◌||◌, Option, None, Some, ℤ, inl, inr, refl, sym, ap, ◌∙◌, arith}
-use Rattle.std.specs.Prelude.{nat_lt}
+use Rattle.std.specs.Prelude.{is_some, nat_lt}
 use Rattle.std.proofs.lemmas.Bool.{cases_Bool, cases_eq, false≢true}
 use Rattle.std.proofs.lemmas.Bool.Decides.{nat_tests}
 use Rattle.rr_family.specs.Profile.{IsRuleOf, IsFirstRule, comes_before, kind_place, most_family_interval}
@@ -63,7 +63,8 @@ no_rule_above s f interval above rule kind start r same_family same_interval =
 pub none_before_first : (s : Sketch) (interval : ℕ) → HasNoRuleBefore s interval 0
 none_before_first s interval rule kind start r same before = omega (arith, before)
 
-pub none_before_next : (s : Sketch) (f : FamilyKind) (interval place : ℕ) → kind_place f ≡ place → HasNoRuleBefore s interval place → HasNoRule s f interval
+pub none_before_next : (s : Sketch) (f : FamilyKind) (interval place : ℕ) → kind_place f ≡ place → HasNoRuleBefore s interval place
+    → HasNoRule s f interval
     → HasNoRuleBefore s interval (place + 1)
 none_before_next s f interval place at so_far none rule kind start r same before =
     elim (cases_eq (kind_place rule.family) place) [
@@ -120,7 +121,8 @@ first_of_all s interval found valid so_far is = record {
           | inl before ↦ absurd (elim (cases_Bool (nat_lt rule.interval found.rule.interval)) [
             | inl less ↦ so_far rule kind start r (let l : rule.interval < found.rule.interval = grind (arith, nat_tests) in omega (arith, l, is.1))
             | inr not_less ↦ (
-                let parts = earlier (nat_lt rule.interval found.rule.interval) (rule.interval == found.rule.interval) (nat_lt (kind_place rule.family) (kind_place found.rule.family)) before not_less in
+                let parts = earlier (nat_lt rule.interval found.rule.interval) (rule.interval == found.rule.interval)
+                (nat_lt (kind_place rule.family) (kind_place found.rule.family)) before not_less in
                 let same : rule.interval ≡ found.rule.interval = (let a = parts.0 in grind (arith, nat_tests)) in
                 let less : kind_place rule.family < kind_place found.rule.family = (let a = parts.1 in grind (arith, nat_tests)) in
                 is.2 rule kind start r (same ∙ is.1) less)
@@ -129,3 +131,8 @@ first_of_all s interval found valid so_far is = record {
 
 pub none_without_window : (s : Sketch) → IsValidSketch s → IsWindowOf s None → IsFound (StandsIn s) None
 none_without_window s valid none rule kind start r = none kind start r.years (rule_days s rule kind start valid r).0
+
+pub first_if_some : (s : Sketch) (interval : ℕ) (answer : Option Found) → IsValidSketch s → HasNoRuleBelow s interval → is_some answer ≡ true
+    → IsFoundAt s interval answer → IsFound (StandsIn s) answer
+first_if_some s interval None valid so_far some is = absurd (false≢true some)
+first_if_some s interval (Some found) valid so_far some is = first_of_all s interval found valid so_far is

@@ -41,7 +41,14 @@ pub sum_parts : (n : ℕ) (number : ℕ → ℕ) (passes : ℕ → Bool)
 sum_parts zero number passes =
     omega (arith, sum_zero number, sum_zero (λ k. cond (passes k) 0 (number k)), sum_zero (λ k. cond (passes k) (number k) 0))
 sum_parts (suc n) number passes =
-    omega (arith, sum_suc n number, sum_suc n (λ k. cond (passes k) 0 (number k)), sum_suc n (λ k. cond (passes k) (number k) 0), sum_parts n number passes, one_of (passes n) (number n))
+    omega (
+      arith,
+      sum_suc n number,
+      sum_suc n (λ k. cond (passes k) 0 (number k)),
+      sum_suc n (λ k. cond (passes k) (number k) 0),
+      sum_parts n number passes,
+      one_of (passes n) (number n),
+    )
   where
     one_of : (b : Bool) (x : ℕ) → cond b 0 x + cond b x 0 ≡ x
     one_of true x = omega arith
@@ -136,7 +143,8 @@ module _ (f : FamilyKind) (interval : ℕ) (first : ℤ) (occupied : ℤ → Boo
       let number = further_days gives occupied first days taken in
       let b = first_greatest number x xs in
       elim (number b == 0) as (λ z. cond z None (Some b) ≡ Some place
-      → cond z taken (taken_within steps gives occupied first days (x ∷ xs) (b ∷ taken)) ≡ taken_within steps gives occupied first days (x ∷ xs) (place ∷ taken)) [
+      → cond z taken (taken_within steps gives occupied first days (x ∷ xs) (b ∷ taken)) ≡ taken_within steps gives occupied first days (x ∷ xs)
+      (place ∷ taken)) [
         | true ↦ λ h. absurd (none_some h)
         | false ↦ λ h. ap (λ p. taken_within steps gives occupied first days (x ∷ xs) (p ∷ taken)) (some_is b place h)
       ] e
@@ -216,25 +224,27 @@ module _ (f : FamilyKind) (interval : ℕ) (first : ℤ) (occupied : ℤ → Boo
   gives_by_sort : (d : ℤ) (k place : ℕ) → sort_of d ≡ Some k → gives place d ≡ has_sort f k place
   gives_by_sort d k place is = (kinds_have_sorts f interval first).gives_sort place d ∙ ap (sort_passes (λ sort. has_sort f sort place)) is
 
-  pub covers_if_clear : (taken : List ℕ) → IsTakenInTurn f oc fc taken → best_place f (days_left f oc taken) fc ≡ None → AreSorted sort_of occupied first days
+  pub covers_if_clear : (taken : List ℕ) → IsTakenInTurn f oc fc taken → best_place f (days_left f oc taken) fc ≡ None
+      → AreSorted sort_of occupied first days
       → IsClear f (days_left f oc taken) → AgreeWithin (some_gives gives taken) occupied first days
   covers_if_clear taken turn done sorted clear d l h =
       same_truth (some_gives gives taken d) (occupied d)
       (λ g. taking_is_sound gives occupied first days (all_places f) d l h (subst (λ ps. some_gives gives ps d ≡ true) (sym (taken_is taken turn done)) g))
       (λ o. (
-          let s = sort_known (sort_of d) (sorted d l h o) in
-          elim (cases_Bool (list_any (λ place. has_sort f s.0 place) taken)) [
-            | inl has ↦ (let g = giver (λ place. has_sort f s.0 place) taken has in
-                taker (λ place. gives place d) taken g.0 g.2 (gives_by_sort d s.0 g.0 s.1 ∙ g.1))
-            | inr absent ↦ absurd (counted d l h s.0 s.1 o (
-                ap (λ b. cond b 0 (oc s.0)) (sym absent) ∙ clear s.0 ((kinds_have_sorts f interval first).below d s.0 s.1)))
-          ]))
+      let s = sort_known (sort_of d) (sorted d l h o) in
+      elim (cases_Bool (list_any (λ place. has_sort f s.0 place) taken)) [
+        | inl has ↦ (let g = giver (λ place. has_sort f s.0 place) taken has in
+            taker (λ place. gives place d) taken g.0 g.2 (gives_by_sort d s.0 g.0 s.1 ∙ g.1))
+        | inr absent ↦ absurd (counted d l h s.0 s.1 o (
+            ap (λ b. cond b 0 (oc s.0)) (sym absent) ∙ clear s.0 ((kinds_have_sorts f interval first).below d s.0 s.1)))
+      ]))
 
   pub clear_if_covers : (taken : List ℕ) → AgreeWithin (some_gives gives taken) occupied first days → IsClear f (days_left f oc taken)
   clear_if_covers taken agree k l =
       elim (cases_Bool (list_any (λ place. has_sort f k place) taken)) [
         | inl has ↦ ap (λ b. cond b 0 (oc k)) has
-        | inr absent ↦ ap (λ b. cond b 0 (oc k)) absent ∙ of_oc k ∙ count_from-none (λ d. sort_passes (λ j. k == j) (sort_of d) && occupied d) first days (λ i m. not_here i m absent)
+        | inr absent ↦ ap (λ b. cond b 0 (oc k)) absent ∙ of_oc k ∙ count_from-none (λ d. sort_passes (λ j. k == j) (sort_of d) && occupied d) first
+            days (λ i m. not_here i m absent)
       ]
     where
       of_sort : (s : Option ℕ) (t : Bool) → (sort_passes (λ j. k == j) s && t) ≡ true → (s ≡ Some k) × (t ≡ true)

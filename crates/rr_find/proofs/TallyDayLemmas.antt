@@ -35,7 +35,8 @@ pub room : (counts : List ℕ) (sort_of : ℤ → Option ℕ) (test : ℤ → Bo
     → n ≤ 4_000_000_000 → (k : ℕ) → get_or counts k 0 < 18_446_744_073_709_551_615
 room counts sort_of test first n are few k = omega (arith, are k, count_from-le (λ d. sort_passes (λ j. k == j) (sort_of d) && test d) first n, few)
 
-pub few_days : (counts : List ℕ) (sort_of : ℤ → Option ℕ) (test : ℤ → Bool) (first : ℤ) (n : ℕ) → AreCounts counts sort_of test first n → n ≤ 4_000_000_000 → HasFewDays counts
+pub few_days : (counts : List ℕ) (sort_of : ℤ → Option ℕ) (test : ℤ → Bool) (first : ℤ) (n : ℕ) → AreCounts counts sort_of test first n
+    → n ≤ 4_000_000_000 → HasFewDays counts
 few_days counts sort_of test first n are few k = omega (arith, are k, count_from-le (λ d. sort_passes (λ j. k == j) (sort_of d) && test d) first n, few)
 
 none_counted : (counts : List ℕ) (sort_of : ℤ → Option ℕ) (test : ℤ → Bool) (first : ℤ) → IsNothingCounted counts → AreCounts counts sort_of test first 0

@@ -9,7 +9,8 @@ one_if b = if b then 1 else 0
 
 -- each count is one more where its sort passes
 abbrev pub IsCountedOn : List ℕ → List ℕ → Option ℕ → Bool → Type 0
-IsCountedOn old new sort counts = (length new ≡ length old) × ((k : ℕ) → get_or new k 0 ≡ get_or old k 0 + one_if (sort_passes (λ j. k == j) sort && counts))
+IsCountedOn old new sort counts = (length new ≡ length old) × ((k : ℕ)
+    → get_or new k 0 ≡ get_or old k 0 + one_if (sort_passes (λ j. k == j) sort && counts))
 
 -- the counts are those of the first so many days of the window
 abbrev pub AreCounts : List ℕ → (ℤ → Option ℕ) → (ℤ → Bool) → ℤ → ℕ → Type 0
@@ -41,7 +42,8 @@ pub record HasMixed (sort_of : ℤ → Option ℕ) (occupied : ℤ → Bool) (fi
 -- what a day does to the counts: an occupied day has a sort, or there is none, or a sort has days of both
 abbrev pub IsDayResult : Bool → List ℕ → List ℕ → Option ℕ → Bool → Type 0
 IsDayResult true occupied_counts free_counts sort occupied = occupied ≡ true → has_some_sort sort ≡ true
-IsDayResult false occupied_counts free_counts sort occupied = ((occupied ≡ true) × (has_some_sort sort ≡ false)) ⊎ ((k : ℕ) × (1 ≤ get_or occupied_counts k 0) × (1 ≤ get_or free_counts k 0))
+IsDayResult false occupied_counts free_counts sort occupied =
+    ((occupied ≡ true) × (has_some_sort sort ≡ false)) ⊎ ((k : ℕ) × (1 ≤ get_or occupied_counts k 0) × (1 ≤ get_or free_counts k 0))
 
 -- what a walk over so many days has counted
 pub record IsTallied (occupied_counts free_counts : List ℕ) (sort_of : ℤ → Option ℕ) (occupied : ℤ → Bool) (first : ℤ) (days : ℕ) : Type 0 where

@@ -80,7 +80,8 @@ is_in_unit f interval first (Some day) = divides interval (family_unit f day -�
 
 -- no rule of this interval whose kind comes before the place has the set
 abbrev pub HasNoRuleBefore : Sketch → ℕ → ℕ → Type 0
-HasNoRuleBefore s interval place = (rule : VRule) (kind : Kind) (start : ℤ) → IsRuleOf (StandsIn s) rule kind start → rule.interval ≡ interval → kind_place rule.family < place → ⊥
+HasNoRuleBefore s interval place = (rule : VRule) (kind : Kind) (start : ℤ) → IsRuleOf (StandsIn s) rule kind start → rule.interval ≡ interval
+    → kind_place rule.family < place → ⊥
 
 -- the first rule of this interval
 abbrev pub IsFoundAt : Sketch → ℕ → Option Found → Type 0

@@ -8,6 +8,4 @@ mod search;
 mod tallies;
 
 pub use found::Found;
-pub use lists::list_of;
 pub use search::find;
-pub use tallies::{Counts, tally};

@@ -20,7 +20,7 @@ use std::alloc::Global;
 ///
 /// The window is that of the set. Its days are read once, and not at all where its period, its start or its second day
 /// tells that no such rule has the set.
-pub fn list_of<A: DaySeq>(
+pub(crate) fn list_of<A: DaySeq>(
     alloc: Global,
     seq: &A,
     window: &Window,

@@ -13,7 +13,7 @@ use rr_word::DaySeq;
 
 /// How many days of each sort a window has; a kind that tells fewer sorts apart uses the first so many.
 #[derive(Drop)]
-pub struct Counts {
+pub(crate) struct Counts {
     /// Of each sort how many days are occupied.
     pub occupied: [u64; 366],
     /// Of each sort how many days are not.
@@ -24,7 +24,7 @@ pub struct Counts {
 ///
 /// None where no list of items has the days of the window, as two days tell: an occupied day that no item has, or an
 /// occupied and a free day of one sort. The days after these are not read. It takes no memory.
-pub fn tally<A: DaySeq>(
+pub(crate) fn tally<A: DaySeq>(
     seq: &A,
     kind: FamilyKind,
     interval: u32,

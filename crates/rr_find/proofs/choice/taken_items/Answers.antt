@@ -19,13 +19,16 @@ pub loop-place-smaller : goal.loop-place-smaller
 loop-place-smaller c = fewer_next c.args.kind _ _ _ c.in-Some.place (sym c.best_place.ensures ∙ c.in-Some.is) c.take_place.ensures.taken
 
 pub loop-place-preserved : goal.loop-place-preserved
-loop-place-preserved c =
-    (taken_next c.args.kind _ _ _ _ c.loop-place.items c.put.new.self c.in-Some.place c.loop-place.invariant.0 (sym c.best_place.ensures ∙ c.in-Some.is)
-    c.take_place.ensures.taken (c.in_ok-put.ensures.ok ∙ ap (with_value item_lt c.loop-place.items) c.item_at.ensures), c.take_place.ensures.few)
+loop-place-preserved c = (
+  taken_next c.args.kind _ _ _ _ c.loop-place.items c.put.new.self c.in-Some.place c.loop-place.invariant.0 (sym c.best_place.ensures ∙ c.in-Some.is)
+      c.take_place.ensures.taken (c.in_ok-put.ensures.ok ∙ ap (with_value item_lt c.loop-place.items) c.item_at.ensures),
+  c.take_place.ensures.few,
+)
 
 pub returns-then-is_clear : goal.returns-then-is_clear
 returns-then-is_clear c =
-    all_taken c.args.kind _ _ _ c.loop-place.items c.loop-place.invariant.0 (sym c.best_place.ensures ∙ c.in_default.is) (c.is_clear.ensures.0 c.if-is_clear.true)
+    all_taken c.args.kind _ _ _ c.loop-place.items c.loop-place.invariant.0 (sym c.best_place.ensures ∙ c.in_default.is) (c.is_clear.ensures.0
+    c.if-is_clear.true)
 
 pub returns-else-is_clear : goal.returns-else-is_clear
 returns-else-is_clear c =

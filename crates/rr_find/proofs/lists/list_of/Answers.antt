@@ -28,10 +28,12 @@ pub returns-in-Some-tally : goal.returns-in-Some-tally
 returns-in-Some-tally g c =
     let s = g.A.DaySeq.sketch c.args.seq.now in
     let w = c.args.window.now in
-    let tallied = subst (λ d. IsTallied c.in-Some-tally.counts.occupied c.in-Some-tally.counts.free (sort_of_day c.args.kind c.args.interval d) (is_occupied s) d c.in-Some.days)
+    let tallied = subst (λ d. IsTallied c.in-Some-tally.counts.occupied c.in-Some-tally.counts.free (sort_of_day c.args.kind c.args.interval d)
+    (is_occupied s) d c.in-Some.days)
     (near_read w.first c.requires.near.first) c.in-Some-tally.ensures in
     answer_is _ _ c.taken_items.result
-    (λ items t. list_of_taken s w c.args.kind c.args.interval c.in-Some.days (g.met.A.DaySeq.bounded c.args.seq.now).valid c.requires.window c.requires.low c.requires.high
+    (λ items t. list_of_taken s w c.args.kind c.args.interval c.in-Some.days (g.met.A.DaySeq.bounded c.args.seq.now).valid c.requires.window
+    c.requires.low c.requires.high
     (some_cycle c.args.kind c.args.interval c.requires.low) (sym c.days_to_read.ensures.value ∙ c.in-Some.is) c.in-Some.ensures.few
     c.in-Some-tally.counts.occupied c.in-Some-tally.counts.free items tallied t) c.taken_items.ensures
 
@@ -42,5 +44,6 @@ returns-in-None g c =
     let lost = subst (λ d. HasUnsorted (sort_of_day c.args.kind c.args.interval d) (is_occupied s) d c.in-Some.days
     ⊎ HasMixed (sort_of_day c.args.kind c.args.interval d) (is_occupied s) d c.in-Some.days)
     (near_read w.first c.requires.near.first) c.in-None.ensures in
-    no_rule_if_given_up s w c.args.kind c.args.interval c.in-Some.days (g.met.A.DaySeq.bounded c.args.seq.now).valid c.requires.window c.requires.low c.requires.high
+    no_rule_if_given_up s w c.args.kind c.args.interval c.in-Some.days (g.met.A.DaySeq.bounded c.args.seq.now).valid c.requires.window c.requires.low
+    c.requires.high
     (some_cycle c.args.kind c.args.interval c.requires.low) (sym c.days_to_read.ensures.value ∙ c.in-Some.is) c.in-Some.ensures.few lost
