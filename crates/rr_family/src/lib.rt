@@ -6,6 +6,8 @@ mod items;
 mod laws;
 mod months;
 mod sorts;
+#[cfg(test)]
+mod tests;
 mod weeks;
 mod window;
 mod years;

@@ -16,7 +16,14 @@ fn items_in_order(rt: HostRuntime) {
         (FamilyKind::W, 6, Item::Weekday(6)),
         (FamilyKind::MD, 30, Item::MonthDay(31)),
         (FamilyKind::MD, 31, Item::MonthDay(-1)),
-        (FamilyKind::MP, 36, Item::Place { place: -1, weekday: 1 }),
+        (
+            FamilyKind::MP,
+            36,
+            Item::Place {
+                place: -1,
+                weekday: 1,
+            },
+        ),
         (FamilyKind::YM, 11, Item::Month(12)),
         (FamilyKind::YD, 365, Item::YearDay(366)),
     ];
@@ -44,7 +51,12 @@ fn the_days_of_each_kind(rt: HostRuntime) {
 
 #[test]
 fn the_sort_of_a_day(rt: HostRuntime) {
-    let sort = sort_of_day(FamilyKind::MD, 1, &Day::new(FIRST), &Day::new(LAST_OF_JANUARY));
+    let sort = sort_of_day(
+        FamilyKind::MD,
+        1,
+        &Day::new(FIRST),
+        &Day::new(LAST_OF_JANUARY),
+    );
     assert_eq!(rt; sort, Some(123));
     assert!(rt; has_sort(FamilyKind::MD, 123, 31));
     assert_eq!(rt; many_sorts(FamilyKind::MP), 175);
