@@ -1,6 +1,6 @@
 mod ItemExamples
-mod OccurrenceLemmas
-mod ValidSeriesLemmas
+pub mod OccurrenceLemmas
+pub mod ValidSeriesLemmas
 mod ValidPartsLemmas
 mod ValidReadLemmas
 mod ByteLemmas
@@ -10,4 +10,4 @@ mod RuleTextLemmas
 mod RuleReadLemmas
 mod WrittenLineLemmas
 mod WrittenPassLemmas
-mod ReadBackProofs
+pub mod ReadBackProofs
