@@ -23,7 +23,7 @@ end_none kind start (Until other at) f = until_none kind other start at f.0 f.1
 end_none kind start (Count count) f = refl
 end_none kind start (Both other at count) f = until_none kind other start at f.0 f.1
 
-rules_none : (number : ℕ) (kind : Kind) (start : ℤ) (rules : List Rule) → All (FitsStart kind start) rules → rules_refusal number kind start rules ≡ None
+pub rules_none : (number : ℕ) (kind : Kind) (start : ℤ) (rules : List Rule) → All (FitsStart kind start) rules → rules_refusal number kind start rules ≡ None
 rules_none number kind start [] fit = refl
 rules_none number kind start (rule ∷ rules) fit =
     let f = All-head (FitsStart kind start) rule rules fit in

@@ -1,3 +1,4 @@
 pub mod OneEnd
 pub mod Target
 pub mod Translated
+pub mod Single

@@ -2,7 +2,9 @@
 #![tactic(auto)]
 
 mod calendar;
+mod graph;
 mod one_end;
+mod single;
 mod targets;
 
 pub use targets::{infer, translate};

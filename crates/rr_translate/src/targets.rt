@@ -6,6 +6,8 @@ ghost use Rattle.rr_model.specs.Series.Occurrences.{Occurs};
 ghost use Rattle.rr_translate.specs.Translated.{HasNoRule, HasNoWords, IsAnswered, IsInferredText, IsTranslation, limits_of};
 
 use crate::calendar::calendar_text;
+use crate::graph::graph_text;
+use crate::single::{inferred_text, vcal_text};
 use rr_check::Checked;
 use rr_model::{Fault, Lang};
 use std::alloc::Global;
@@ -22,8 +24,8 @@ pub fn translate(alloc: Global, series: &Checked, target: Lang) -> Result<Vec<u8
 {
     match target {
         Lang::Rrule => Ok(calendar_text(alloc, series)?),
-        Lang::Vcal => Err(Fault::NoMemory),
-        Lang::Graph => Err(Fault::NoMemory),
+        Lang::Vcal => vcal_text(alloc, series),
+        Lang::Graph => graph_text(alloc, series),
     }
 }
 
@@ -35,5 +37,5 @@ pub fn infer(alloc: Global, series: &Checked) -> Result<Vec<u8>, Fault>
     requires few { series_cycle series.now ≤ 16_777_216 }
     ensures { IsAnswered all_limits series.now (λ text. IsInferredText (Occurs series.now) text.items) (HasNoRule (Occurs series.now)) result }
 {
-    Err(Fault::NoMemory)
+    inferred_text(alloc, series)
 }

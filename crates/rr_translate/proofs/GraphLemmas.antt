@@ -1,0 +1,38 @@
+-- The text of the first pattern states the occurrences of its set.
+use Rattle.std.proofs.Common.{◌≡◌, ◌↔◌, None, Ok, ℤ, refl}
+use Rattle.rr_family.specs.GraphProfile.{IsFirstPattern, event_of}
+use Rattle.rr_graph.proofs.GraphReadBackLemmas.{graph_is_read_back}
+use Rattle.rr_graph.proofs.OccurrenceLemmas.{counterpart_has_occurrences}
+use Rattle.rr_graph.proofs.SoundLemmas.{counterpart_is_sound}
+use Rattle.rr_model.specs.Graph.Counterpart.{series_of_graph}
+use Rattle.rr_model.specs.Graph.Text.{graph_written}
+use Rattle.rr_model.specs.Moment.{Occurrences}
+use Rattle.rr_model.specs.Series.Occurrences.{Occurs}
+use Rattle.rr_model.specs.Sets.Verdict.{HaveEqualOccurrences}
+use Rattle.rr_model.specs.declared.graph.Pattern.{Pattern}
+use Rattle.rr_model.specs.declared.graph.Range.{Range}
+use Rattle.rr_model.specs.declared.kind.Kind.{Kind}
+use Rattle.rr_model.specs.declared.lang.Lang.TheVariants.{Graph}
+use Rattle.rr_translate.specs.Target.{States}
+use Rattle.rr_translate.specs.Translated.{IsGraphText}
+use Rattle.rr_translate.proofs.SoundLemmas.{sound_is_not_refused}
+
+module _ (P : Occurrences) (pattern : Pattern) (range : Range) (kind : Kind) (start : ℤ) (first : IsFirstPattern P pattern range kind start) where
+  equal : HaveEqualOccurrences (Occurs (series_of_graph (event_of pattern range kind start))) P
+  equal k t =
+      let a = counterpart_has_occurrences (event_of pattern range kind start) k t first.is_pattern.valid in
+      let b = first.is_pattern.equal k t in
+      (λ o. b.0 (a.1 o), λ p. a.0 (b.1 p))
+
+  graph_states : States Graph P (graph_written kind start pattern range)
+  graph_states = record {
+    series = series_of_graph (event_of pattern range kind start);
+    is_read = rw (graph_is_read_back kind start pattern range first.is_pattern.valid first.begins) refl;
+    sound = sound_is_not_refused _ (counterpart_is_sound (event_of pattern range kind start) first.is_pattern.valid);
+    equal = equal;
+  }
+
+  -- the pattern as it is written
+  pub is_graph_text : IsGraphText P (graph_written kind start pattern range)
+  is_graph_text =
+      record { pattern = pattern; range = range; kind = kind; start = start; is_first = first; written = refl; states = graph_states }

@@ -1,0 +1,25 @@
+// Into the JSON of Microsoft Graph.
+ghost use Rattle.std.specs.Prelude.{◌≤◌};
+ghost use Rattle.rr_fold.specs.Judged.{all_limits};
+ghost use Rattle.rr_model.specs.Series.Cycle.{series_cycle};
+ghost use Rattle.rr_model.specs.Series.Occurrences.{Occurs};
+ghost use Rattle.rr_translate.specs.Translated.{HasNoPattern, IsAnswered, IsGraphText};
+
+use rr_check::Checked;
+use rr_fold::fold;
+use rr_graph::write;
+use rr_graphfind::graph_of;
+use rr_model::{Fault, Refusal};
+use std::alloc::Global;
+
+/// The text of the first pattern and range that have the occurrences of a series.
+pub(crate) fn graph_text(alloc: Global, series: &Checked) -> Result<Vec<u8>, Fault>
+    requires few { series_cycle series.now ≤ 16_777_216 }
+    ensures { IsAnswered all_limits series.now (λ text. IsGraphText (Occurs series.now) text.items) (HasNoPattern (Occurs series.now)) result }
+{
+    let days = fold(alloc, series)?;
+    match graph_of(&days) {
+        None => Err(Fault::Refused(Refusal::NotSayable)),
+        Some(event) => Ok(write(alloc, &event)?),
+    }
+}
