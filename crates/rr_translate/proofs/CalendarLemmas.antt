@@ -1,17 +1,15 @@
 -- The text of RFC 5545 that is written for a series states its occurrences.
-use Rattle.std.proofs.Common.{◌≡◌, ◌↔◌, ℕ, ◌≤◌, Bool, true, false, List, [], ◌∷◌, All, Contains, None, Some, Ok, ℤ, pos, refl, sym, subst, ◌∙◌, inl, inr, ap, arith}
+use Rattle.std.proofs.Common.{◌≡◌, ◌≤◌, true, false, [], ◌∷◌, Contains, None, ℤ, pos, refl, sym, subst, ◌∙◌, inl, inr, ap, arith}
 use Rattle.std.proofs.lemmas.Bool.{false≢true}
 use Rattle.std.proofs.lemmas.Int.{ints}
 use Rattle.rr_model.specs.Calendar.{first_day_of_year}
 use Rattle.rr_model.specs.Moment.Years.{IsInYears}
 use Rattle.rr_model.specs.Rule.Validity.{EndsInYears, IsValidRule}
 use Rattle.std.proofs.lemmas.List.Elements.{All-nil, All-cons}
-use Rattle.rr_model.specs.Moment.{Occurrences}
 use Rattle.rr_model.specs.Series.Cycle.{series_cycle}
 use Rattle.rr_model.specs.Series.Occurrences.{Occurs}
 use Rattle.rr_model.specs.Series.Soundness.{IsSound}
 use Rattle.rr_model.specs.Series.Validity.{IsEmptySeries, IsValidSeries}
-use Rattle.rr_model.specs.Sets.Verdict.{HaveEqualOccurrences}
 use Rattle.rr_model.specs.Text.Calendars.{reads_calendar}
 use Rattle.rr_model.specs.Text.WriteLaws.{IsOneEnd}
 use Rattle.rr_model.specs.Text.Written.{calendar_written}

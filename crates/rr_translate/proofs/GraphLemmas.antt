@@ -1,9 +1,12 @@
 -- The text of the first pattern states the occurrences of its set.
-use Rattle.std.proofs.Common.{◌≡◌, ◌↔◌, None, Ok, ℤ, refl}
+use Rattle.std.proofs.Common.{ℕ, List, ℤ, refl, sym, subst}
 use Rattle.rr_family.specs.GraphProfile.{IsFirstPattern, event_of}
 use Rattle.rr_graph.proofs.GraphReadBackLemmas.{graph_is_read_back}
 use Rattle.rr_graph.proofs.OccurrenceLemmas.{counterpart_has_occurrences}
 use Rattle.rr_graph.proofs.SoundLemmas.{counterpart_is_sound}
+use Rattle.rr_graph.specs.Written.{IsWrittenText}
+use Rattle.rr_graphfind.specs.Found.{IsFirstRepeat}
+use Rattle.rr_model.specs.Graph.Validity.{IsValidGraphEvent}
 use Rattle.rr_model.specs.Graph.Counterpart.{series_of_graph}
 use Rattle.rr_model.specs.Graph.Text.{graph_written}
 use Rattle.rr_model.specs.Moment.{Occurrences}
@@ -11,10 +14,13 @@ use Rattle.rr_model.specs.Series.Occurrences.{Occurs}
 use Rattle.rr_model.specs.Sets.Verdict.{HaveEqualOccurrences}
 use Rattle.rr_model.specs.declared.graph.Pattern.{Pattern}
 use Rattle.rr_model.specs.declared.graph.Range.{Range}
+use Rattle.rr_model.specs.declared.graph.Repeat.{Repeat}
+use Rattle.rr_model.specs.declared.graph.Repeat.TheVariants as repeat
 use Rattle.rr_model.specs.declared.kind.Kind.{Kind}
 use Rattle.rr_model.specs.declared.lang.Lang.TheVariants.{Graph}
 use Rattle.rr_translate.specs.Target.{States}
 use Rattle.rr_translate.specs.Translated.{IsGraphText}
+use Rattle.rr_translate.proofs.SetLemmas.{first_pattern_of}
 use Rattle.rr_translate.proofs.SoundLemmas.{sound_is_not_refused}
 
 module _ (P : Occurrences) (pattern : Pattern) (range : Range) (kind : Kind) (start : ℤ) (first : IsFirstPattern P pattern range kind start) where
@@ -36,3 +42,15 @@ module _ (P : Occurrences) (pattern : Pattern) (range : Range) (kind : Kind) (st
   pub is_graph_text : IsGraphText P (graph_written kind start pattern range)
   is_graph_text =
       record { pattern = pattern; range = range; kind = kind; start = start; is_first = first; written = refl; states = graph_states }
+
+module _ (P Q : Occurrences) (same : HaveEqualOccurrences P Q) (kind : Kind) (start : ℤ) where
+  -- an event that repeats by the first pattern is valid
+  pub repeat_is_valid : (r : Repeat) → IsFirstRepeat P r kind start → IsValidGraphEvent (record { kind = kind; start = start; repeat = r })
+  repeat_is_valid repeat.Once f = absurd f
+  repeat_is_valid (repeat.Pattern pattern range) f = f.is_pattern.valid
+
+  -- its text
+  pub repeat_is_written : (r : Repeat) (text : List ℕ) → IsFirstRepeat P r kind start → IsWrittenText kind start r text → IsGraphText Q text
+  repeat_is_written repeat.Once text f w = absurd f
+  repeat_is_written (repeat.Pattern pattern range) text f w =
+      subst (IsGraphText Q) (sym w) (is_graph_text Q pattern range kind start (first_pattern_of P Q same pattern range kind start f))

@@ -1,5 +1,5 @@
 -- Limits that are not reached.
-use Rattle.std.proofs.Common.{◌≡◌, ◌⊎◌, ℕ, ◌<◌, ◌≤◌, false, None, refl, inr, arith}
+use Rattle.std.proofs.Common.{◌≤◌, None, refl, inr, arith}
 use Rattle.std.proofs.lemmas.Bool.{false≢true}
 use Rattle.rr_model.specs.Series.Cycle.{series_cycle}
 use Rattle.rr_model.specs.Series.FirstRefusal.{IsLimitRefusal}

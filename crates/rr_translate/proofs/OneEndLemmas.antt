@@ -1,14 +1,12 @@
 -- A series keeps its occurrences where each rule with both ends has the earlier one alone.
-use Rattle.std.proofs.Common.{◌≡◌, ◌⊎◌, ◌↔◌, ℕ, suc, ◌+◌, ◌<◌, ◌≤◌, Bool, true, false, cond, List, [], ◌∷◌, All, Contains, length, map, Option, None, Some}
+use Rattle.std.proofs.Common.{◌≡◌, ◌↔◌, ℕ, suc, ◌+◌, ◌<◌, ◌≤◌, true, false, cond, List, [], ◌∷◌, All, map}
 use Rattle.std.proofs.Common.{ℤ, pos, nat_abs, ◌+ℤ◌, ◌-ℤ◌, ◌≤ℤ◌, ◌<ℤ◌, refl, sym, subst, ◌∙◌, inl, inr, ap, arith}
-use Rattle.std.specs.Prelude.{IsTrue, nat_le, int_lt}
-use Rattle.std.specs.Option.{option_or}
+use Rattle.std.specs.Prelude.{nat_le}
 use Rattle.std.proofs.Math.Path.{fun_ext}
 use Rattle.std.proofs.lemmas.Int.{ints, by_lt_z}
 use Rattle.std.proofs.lemmas.Bool.Decides.{nat_tests}
 use Rattle.std.proofs.lemmas.List.{length-map}
 use Rattle.std.proofs.lemmas.List.Elements.{All-nil, All-cons, All-head, All-tail}
-use Rattle.rr_model.specs.Moment.Years.{IsInYears}
 use Rattle.rr_model.specs.Rule.Candidate.{is_candidate}
 use Rattle.rr_model.specs.Rule.Filled.{wants_day, wants_month_day, wants_month}
 use Rattle.rr_model.specs.declared.rule.Freq.{Freq}
@@ -19,7 +17,7 @@ use Rattle.rr_model.specs.Rule.Validity.{EndsInYears, HasCountInRange, IsValidRu
 use Rattle.rr_model.specs.Series.Cycle.{endless_cycle, rules_cycle, series_cycle}
 use Rattle.rr_model.specs.Series.Occurrences.{IsMemberOfSome, Occurs}
 use Rattle.rr_model.specs.Series.Soundness.{EndsNotBefore, FitsStart, IsSound}
-use Rattle.rr_model.specs.Series.Validity.{IsEmptySeries, IsValidSeries}
+use Rattle.rr_model.specs.Series.Validity.{IsValidSeries}
 use Rattle.rr_model.specs.Sets.Verdict.{HaveEqualOccurrences}
 use Rattle.rr_model.specs.Text.WriteLaws.{IsOneEnd}
 use Rattle.rr_model.specs.Whole.Count.{count_from}

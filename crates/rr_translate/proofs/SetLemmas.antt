@@ -1,5 +1,5 @@
 -- What is the first of a set is the first of each set with the same occurrences.
-use Rattle.std.proofs.Common.{◌≡◌, ◌↔◌, ℤ}
+use Rattle.std.proofs.Common.{ℤ}
 use Rattle.rr_family.specs.GraphProfile.{IsFirstPattern, IsPatternOf}
 use Rattle.rr_family.specs.Profile.{IsFirstRule, IsRuleOf}
 use Rattle.rr_model.specs.Moment.{Occurrences}

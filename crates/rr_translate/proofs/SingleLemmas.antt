@@ -1,29 +1,26 @@
 -- The texts of the first single rule state the occurrences of its set.
-use Rattle.std.proofs.Common.{◌≡◌, ◌↔◌, ℕ, ◌≤◌, List, [], ◌∷◌, All, Contains, None, Ok, ℤ, refl, sym, subst, ◌∙◌, inl, inr, ap, arith}
-use Rattle.std.specs.Prelude.{int_lt, IsTrue}
+use Rattle.std.proofs.Common.{◌≡◌, true, [], ◌∷◌, All, None, ℤ, refl, sym, subst, inl, inr, arith}
 use Rattle.std.proofs.lemmas.List.Elements.{All-nil, All-cons}
-use Rattle.rr_family.specs.Profile.{IsFirstRule, IsProfileEnd, IsRuleOf, VcalOccurrences}
+use Rattle.rr_family.specs.Profile.{IsFirstRule, IsProfileEnd, VcalOccurrences}
 use Rattle.rr_family.proofs.OrderLemmas.{list_items_rise}
 use Rattle.rr_model.specs.Moment.{Occurrences, day_part}
 use Rattle.rr_model.specs.Moment.Years.{IsInYears}
 use Rattle.rr_model.specs.Rising.{Rises}
 use Rattle.rr_model.specs.Rule.Validity.{EndsInYears}
 use Rattle.rr_model.specs.Series.Occurrences.{Occurs}
-use Rattle.rr_model.specs.Series.Soundness.{EndsNotBefore, FitsStart, first_refusal, rules_refusal}
+use Rattle.rr_model.specs.Series.Soundness.{EndsNotBefore, FitsStart, first_refusal}
 use Rattle.rr_model.specs.Series.Validity.{IsValidSeries}
 use Rattle.rr_model.specs.Sets.Verdict.{HaveEqualOccurrences}
-use Rattle.rr_model.specs.Text.Calendars.{reads_calendar}
 use Rattle.rr_model.specs.Text.WriteLaws.{IsOneEnd}
 use Rattle.rr_model.specs.Text.Written.{calendar_written}
 use Rattle.rr_model.specs.Vcal.Counterpart.{rule_of_vrule, series_of_vseries}
 use Rattle.rr_model.specs.Vcal.Items.{item_lt}
 use Rattle.rr_model.specs.Vcal.Laws.{IsWritable}
 use Rattle.rr_model.specs.Vcal.Members.{IsVcalMember, OccursInVseries}
-use Rattle.rr_model.specs.Vcal.Reading.{reads_vcal}
 use Rattle.rr_model.specs.Vcal.Validity.{IsValidVRule, IsValidVSeries}
 use Rattle.rr_model.specs.Vcal.Written.{vcal_written}
 use Rattle.rr_model.specs.declared.kind.Kind.{Kind}
-use Rattle.rr_model.specs.declared.lang.Lang.TheVariants.{Rrule, Vcal}
+use Rattle.rr_model.specs.declared.lang.Lang.TheVariants.{Vcal}
 use Rattle.rr_model.specs.declared.rule.End.{End}
 use Rattle.rr_model.specs.declared.rule.End.TheVariants.{Never, Until, Count, Both}
 use Rattle.rr_model.specs.declared.rule.Rule.{Rule}
@@ -34,10 +31,8 @@ use Rattle.rr_counterparts.proofs.CounterpartProofs.{counterpart_has_members}
 use Rattle.rr_rrule.proofs.WrittenSeriesLemmas.{calendar_is_read_back}
 use Rattle.rr_vcal.proofs.OccurrenceLemmas.{counterpart_has_occurrences}
 use Rattle.rr_vcal.proofs.ReadBackProofs.{vcal_read_back}
-use Rattle.rr_translate.specs.Single.{IsFirstSeries}
 use Rattle.rr_translate.specs.Target.{States}
 use Rattle.rr_translate.specs.Translated.{IsInferredText, IsVcalText, vseries_of}
-use Rattle.rr_translate.proofs.SetLemmas.{joined}
 use Rattle.rr_translate.proofs.SoundLemmas.{rules_none}
 
 -- ---- the end of such a rule
@@ -110,10 +105,13 @@ module _ (P : Occurrences) (rule : VRule) (kind : Kind) (start : ℤ) (first : I
 
   occurs_single : HaveEqualOccurrences (OccursInVseries single) (VcalOccurrences rule kind start)
   occurs_single k t = (
-    λ o. (o.same_kind, elim o.given [
-      | inl e ↦ subst (IsVcalMember rule kind start) (sym e) first.is_rule.begins
-      | inr x ↦ elim x [ inl y ↦ elim y [ inl m ↦ m | inr none ↦ absurd none ] | inr c ↦ absurd (Contains-none t c) ]
-    ]),
+    λ o. (
+      o.same_kind,
+      elim o.given [
+        | inl e ↦ subst (IsVcalMember rule kind start) (sym e) first.is_rule.begins
+        | inr x ↦ elim x [ inl y ↦ elim y [ inl m ↦ m | inr none ↦ absurd none ] | inr c ↦ absurd (Contains-none t c) ]
+      ],
+    ),
     λ m. record { same_kind = m.0; given = inr (inl (inl m.1)); kept = λ c. Contains-none t c },
   )
 

@@ -1,15 +1,12 @@
 -- How many chosen moments lie up to a moment, counted on the days of the tree that ends there.
-use Rattle.std.proofs.Common.{◌≡◌, ℕ, suc, ◌+◌, ◌<◌, ◌≤◌, Bool, true, false, ◌&&◌, ◌==◌, ℤ, pos, ◌+ℤ◌, ◌≤ℤ◌, ◌<ℤ◌, refl, sym, ap, ◌∙◌, arith}
-use Rattle.std.specs.Prelude.{Ok, nat_le, nat_lt, int_le}
+use Rattle.std.proofs.Common.{◌≡◌, ℕ, ◌+◌, ◌<◌, ◌≤◌, Bool, true, false, ◌==◌, ℤ, pos, ◌+ℤ◌, ◌≤ℤ◌, ◌<ℤ◌, refl, arith}
+use Rattle.std.specs.Prelude.{nat_le, int_le}
 use Rattle.std.proofs.lemmas.Int.{ints}
 use Rattle.std.proofs.lemmas.Bool.{and_right}
 use Rattle.std.proofs.lemmas.Bool.Decides.{nat_tests}
-use Rattle.rr_model.specs.Whole.{floor_div, floor_mod}
 use Rattle.rr_model.specs.Moment.{day_part, second_part, moment_at}
 use Rattle.rr_model.specs.Moment.Years.{IsFromYearOne, IsInYears}
-use Rattle.rr_model.specs.Rule.Chosen.{is_chosen}
 use Rattle.rr_model.specs.Rule.Member.{members_to}
-use Rattle.rr_model.specs.Sets.Counting.{count_before, count_seconds, count_to}
 use Rattle.rr_model.specs.Sets.Tree.{Tree, chosen_of, stands_at, upto}
 use Rattle.rr_model.specs.declared.kind.Kind.{Kind}
 use Rattle.rr_model.specs.declared.kind.Kind.TheVariants.{Days, Moments}
@@ -20,7 +17,6 @@ use Rattle.rr_lazy.proofs.CountingLemmas.{before_grows, before_next, seconds_ski
 use Rattle.rr_lazy.proofs.MemberCountLemmas.{count_is}
 use Rattle.rr_lazy.proofs.StretchLemmas.{day_mono}
 use Rattle.rr_iter.specs.Ends.{IsPlaceOf, before_day}
-use Rattle.rr_iter.specs.declared.place.Place.{Place}
 use Rattle.rr_iter.specs.declared.place.Place.TheVariants.{On, Beyond}
 
 -- the second of a moment's day is one of 86,400

@@ -1,5 +1,5 @@
 -- The series with the same occurrences of whose rules none has both ends (RFC 5545, section 3.3.10: UNTIL or COUNT, never both).
-use Rattle.std.specs.Prelude.{ℕ, nat_le, if◌then◌else◌, ℤ, List, map}
+use Rattle.std.specs.Prelude.{nat_le, if◌then◌else◌, ℤ, map}
 use Rattle.rr_model.specs.Rule.Member.{members_to}
 use Rattle.rr_model.specs.declared.kind.Kind.{Kind}
 use Rattle.rr_model.specs.declared.rule.End.{End}

@@ -1,5 +1,5 @@
 -- What a translation of a series is, and when there is none.
-use Rattle.std.specs.Prelude.{◌≡◌, ◌⊎◌, ℕ, ◌≤◌, true, false, ⊤, List, [], ◌∷◌, ℤ, Option, Some, None, Result, Ok, Err}
+use Rattle.std.specs.Prelude.{◌≡◌, ◌⊎◌, ℕ, ◌≤◌, true, false, ⊤, List, [], ◌∷◌, ℤ, Some, None, Result, Ok, Err}
 use Rattle.rr_family.specs.GraphProfile.{IsFirstPattern, IsPatternOf}
 use Rattle.rr_family.specs.Profile.{IsFirstRule, IsRuleOf}
 use Rattle.rr_fold.specs.Judged.{all_limits}

@@ -1,4 +1,4 @@
-use Rattle.std.proofs.Common.{◌≡◌, ◌≤◌, All, IfOk, Ok, sym, subst, ap, ◌∙◌}
+use Rattle.std.proofs.Common.{All, sym, subst, ap, ◌∙◌}
 use Rattle.std.proofs.lemmas.Result.{IfOk-weaker}
 use Rattle.rr_model.specs.Text.Written.{calendar_written}
 use Rattle.rr_model.specs.Series.Soundness.{IsSound}

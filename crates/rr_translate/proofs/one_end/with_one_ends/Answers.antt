@@ -1,4 +1,4 @@
-use Rattle.std.proofs.Common.{◌≡◌, map, refl, ap, ◌∙◌}
+use Rattle.std.proofs.Common.{map, refl, ap, ◌∙◌}
 use Rattle.rr_fold.proofs.BackLemmas.{moment_back}
 use Rattle.rr_translate.specs.OneEnd.{with_one_end, with_one_ends}
 use Rattle.rr_translate.proofs.one_end.with_one_ends.Goals as goal
@@ -9,5 +9,5 @@ returns c =
     let s = c.args.series.now in
     let start = moment_back s.kind s.start c.requires.sound.valid.start in
     let rules = c.in_ok-rules_with_one_end.ensures ∙ ap (λ z. map (with_one_end s.kind z) c.as_slice.result.now) start
-        ∙ ap (map (with_one_end s.kind s.start)) c.as_slice.ensures in
+    ∙ ap (map (with_one_end s.kind s.start)) c.as_slice.ensures in
     rw (start, rules, c.in_ok-copy.ensures, c.in_ok-copy-2.ensures) refl
