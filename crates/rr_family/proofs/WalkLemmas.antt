@@ -1,5 +1,6 @@
 -- What walks over the days of a set find.
-use Rattle.std.proofs.Common.{◌≡◌, ◌↔◌, ℕ, suc, ◌+◌, ◌<◌, ◌≤◌, ◌==◌, Bool, true, false, not, List, [], ◌∷◌, length, get_or, ℤ, pos, ◌+ℤ◌, ◌-ℤ◌, ◌≤ℤ◌, ◌<ℤ◌, refl, sym, ap, subst, ◌∙◌, arith}
+use Rattle.std.proofs.Common.{◌≡◌, ◌↔◌, ℕ, suc, ◌+◌, ◌<◌, ◌≤◌, ◌==◌, Bool, true, false, not, List, []}
+use Rattle.std.proofs.Common.{◌∷◌, length, get_or, ℤ, pos, ◌+ℤ◌, ◌-ℤ◌, ◌≤ℤ◌, ◌<ℤ◌, refl, sym, ap, subst, ◌∙◌, arith}
 use Rattle.std.specs.Prelude.{IsTrue, Option, Some, None}
 use Rattle.std.specs.List.{Contains}
 use Rattle.std.proofs.lemmas.Int.{ints, by_lt_z}
@@ -10,14 +11,13 @@ use Rattle.rr_model.specs.Rule.Validity.{is_absent}
 use Rattle.rr_model.specs.Sets.Least.{IsEndless}
 use Rattle.rr_model.specs.Sets.Sketch.{IsFirstDay, IsValidSketch, times_on}
 use Rattle.rr_model.specs.Whole.Count.{count_from}
-use Rattle.rr_model.specs.Whole.Periodic.{RepeatsFrom}
 use Rattle.rr_model.specs.declared.kind.Kind.{Kind}
 use Rattle.rr_model.specs.declared.sketch.Sketch.{Sketch}
 use Rattle.rr_model.proofs.CountLemmas.{one, count_from-suc}
-use Rattle.rr_word.proofs.OneLeastLemmas.{one_first, parts_of_moment}
+use Rattle.rr_word.proofs.OneLeastLemmas.{parts_of_moment}
 use Rattle.rr_word.proofs.SketchLemmas.{repeats_from, second_fits}
-use Rattle.rr_word.proofs.WindowLemmas.{turns, window_lasts}
-use Rattle.rr_family.specs.DaySets.{IsLastDay, IsOneSecond}
+use Rattle.rr_word.proofs.WindowLemmas.{window_lasts}
+use Rattle.rr_family.specs.DaySets.{IsOneSecond}
 use Rattle.rr_family.specs.Lasting.{at_second, is_occupied}
 use Rattle.rr_family.specs.Walks.{IsAtSecond, IsNextWithin, IsSecondOf}
 use Rattle.rr_family.specs.Windows.{HasWindow, IsSecondDay, IsWindowEnd}
@@ -88,12 +88,6 @@ one_second_for_ever s first second days valid is_first far some window =
         by_lt_z {P = IsAtSecond s second d} d first (λ l. none_at (times_on s d) (is_first.1 d l)) (λ l.
         by_lt_z {P = IsAtSecond s second d} d q (λ m. window d l (omega (arith, ints, m))) (λ m. later d m))
 
--- the second of the first day is the one that each day has
-pub first_tells : (s : Sketch) (kind : Kind) (second other : ℕ) (first : ℤ) → IsOneSecond s kind second first → times_on s first ≡ at_second other true
-    → second ≡ other
-first_tells s kind second other first is e =
-    same_head second other (sym (is.times first ∙ ap (at_second second) (is_there s first is.first_day)) ∙ e)
-
 pub first_is_one : (s : Sketch) (kind : Kind) (second : ℕ) (first : ℤ) → IsOneSecond s kind second first → times_on s first ≡ at_second second true
 first_is_one s kind second first is = is.times first ∙ ap (at_second second) (is_there s first is.first_day)
 
@@ -142,15 +136,6 @@ endless_if s settled day period valid at found q =
     let again = occupied_again s day s.period valid.period (repeats_from s day valid (omega (arith, ints, low, at))) found.2 q l in
     (again.0, again.1, not_empty (times_on s again.0) again.2))
 
--- the first day is the last where nothing is later
-pub last_is_first : (s : Sketch) (first at day : ℤ) → IsFirstDay s (Some first) → at ≡ first → day ≤ℤ first
-    → ((d : ℤ) → day <ℤ d → times_on s d ≡ []) → IsLastDay s at
-last_is_first s first at day is_first same h none =
-    record {
-      occupied = ap (is_occupied s) same ∙ is_there s first is_first;
-      none_after = λ d m. none d (omega (arith, ints, m, same, h));
-    }
-
 -- one day fewer is left
 pub none_later : (s : Sketch) (day before : ℤ) → before ≡ day -ℤ pos 1 → is_occupied s day ≡ false → ((d : ℤ) → day <ℤ d → times_on s d ≡ [])
     → (d : ℤ) → before <ℤ d → times_on s d ≡ []
@@ -174,12 +159,6 @@ counted_next p q day k many b e at so_far =
     omega (arith, so_far, count_from-suc p q k, ap one (e ∙ ap p at), ap (count_from p q) s)
 
 -- ---- the window
-
--- where no day has one second alone, or the set does not begin in the years 1 to 9999, there is none
-pub begins_elsewhere : (s : Sketch) (first : ℤ) (kind : Kind) (start : ℤ) → IsFirstDay s (Some first) → IsInYears kind start
-    → IsOneSecond s kind (second_part kind start) (day_part kind start) → (HasFourDigitYear first → ⊥) → ⊥
-begins_elsewhere s first kind start is_first years is wrong =
-    wrong (subst (λ z. HasFourDigitYear z) (one_first s (day_part kind start) first is.first_day is_first) years)
 
 pub no_second : (s : Sketch) (first : ℤ) (kind : Kind) (start : ℤ) → IsFirstDay s (Some first) → IsSecondOf s first None
     → IsOneSecond s kind (second_part kind start) (day_part kind start) → ⊥

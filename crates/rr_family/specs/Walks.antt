@@ -1,12 +1,12 @@
 -- What walks over the days of a set find, and how far they reach.
 use Rattle.std.specs.Prelude.{◌≡◌, ℕ, ◌≤◌, Bool, true, false, ⊤, Option, Some, None, ℤ, pos, ◌+ℤ◌, ◌≤ℤ◌, ◌<ℤ◌}
-use Rattle.rr_family.specs.DaySets.{IsOneSecond, IsLastDay}
+use Rattle.rr_family.specs.DaySets.{IsOneSecond}
 use Rattle.rr_family.specs.Lasting.{at_second, is_occupied}
 use Rattle.rr_family.specs.declared.window.Window.{Window}
 use Rattle.rr_family.specs.declared.window.WindowEnd.{WindowEnd}
 use Rattle.rr_family.specs.declared.window.WindowEnd.TheVariants.{Last, Cycle}
 use Rattle.rr_model.specs.Calendar.{IsDayWithin}
-use Rattle.rr_model.specs.Sets.Sketch.{IsFirstDay, IsNearDay, times_on}
+use Rattle.rr_model.specs.Sets.Sketch.{IsNearDay, times_on}
 use Rattle.rr_model.specs.declared.sketch.Sketch.{Sketch}
 
 -- the first day that passes of so many from q on, if there is one

@@ -1,7 +1,6 @@
 -- The first pattern that matches is the first that has the occurrences.
-use Rattle.std.proofs.Common.{◌≡◌, ◌↔◌, ℕ, zero, suc, ◌+◌, ◌<◌, ◌≤◌, Bool, true, false, ℤ, pos, nat_abs, ◌+ℤ◌, ◌-ℤ◌, ◌≤ℤ◌, ◌<ℤ◌, refl, sym, ap, subst, ◌∙◌, arith}
-use Rattle.std.specs.Prelude.{IsTrue, Option, Some, None}
-use Rattle.std.specs.Int.{◌∣◌}
+use Rattle.std.proofs.Common.{◌≡◌, ℕ, zero, suc, ◌≤◌, true, ℤ, pos, refl, sym, ap, subst, ◌∙◌, arith}
+use Rattle.std.specs.Prelude.{Some, None}
 use Rattle.std.specs.List.{Contains}
 use Rattle.std.proofs.lemmas.Int.{ints}
 use Rattle.rr_model.specs.Graph.Counterpart.{form_freq}
@@ -19,7 +18,6 @@ use Rattle.rr_model.specs.declared.graph.Range.{Range}
 use Rattle.rr_model.specs.declared.graph.RangeEnd.{RangeEnd}
 use Rattle.rr_model.specs.declared.graph.RangeEnd.TheVariants.{NoEnd, Numbered}
 use Rattle.rr_model.specs.declared.kind.Kind.{Kind}
-use Rattle.rr_model.specs.declared.kind.Kind.TheVariants.{Days}
 use Rattle.rr_model.specs.declared.sketch.Sketch.{Sketch}
 use Rattle.rr_model.proofs.CountLemmas.{count_from-first, one}
 use Rattle.rr_model.proofs.YearLemmas.{four_digit_bounds}
@@ -29,8 +27,8 @@ use Rattle.rr_setpos.proofs.ProductLemmas.{count_from-le}
 use Rattle.rr_word.proofs.OneLeastLemmas.{one_first, parts_of_moment}
 use Rattle.rr_word.proofs.SketchLemmas.{second_fits}
 use Rattle.rr_family.specs.DaySets.{IsOneSecond, window_days}
-use Rattle.rr_family.specs.GraphProfile.{EndsAs, IsFirstPattern, IsPatternOf, NoneBeforePattern, event_of, key_lt, pattern_key, range_from}
-use Rattle.rr_family.specs.Lasting.{FitsCycle, is_occupied}
+use Rattle.rr_family.specs.GraphProfile.{EndsAs, IsFirstPattern, IsPatternOf, NoneBeforePattern, event_of, range_from}
+use Rattle.rr_family.specs.Lasting.{is_occupied}
 use Rattle.rr_family.specs.Profile.{IsWindow}
 use Rattle.rr_family.specs.Shift.{form_cycle}
 use Rattle.rr_family.specs.Walks.{IsNearEnd, IsNearWindow}
@@ -38,13 +36,14 @@ use Rattle.rr_family.specs.Windows.{HasWindow, IsWindowEnd, IsWindowOf}
 use Rattle.rr_family.specs.declared.window.Window.{Window}
 use Rattle.rr_family.specs.declared.window.WindowEnd.{WindowEnd}
 use Rattle.rr_family.specs.declared.window.WindowEnd.TheVariants.{Last, Cycle}
-use Rattle.rr_family.proofs.GraphProfileLemmas.{endless_agreement_is_pattern, endless_pattern_has_cycle, finite_agreement_is_pattern, no_pattern_is_lost, pattern_has_one_second}
+use Rattle.rr_family.proofs.GraphProfileLemmas.{endless_agreement_is_pattern, endless_pattern_has_cycle}
+use Rattle.rr_family.proofs.GraphProfileLemmas.{finite_agreement_is_pattern, no_pattern_is_lost, pattern_has_one_second}
 use Rattle.rr_family.proofs.DaySetLemmas.{in_one}
 use Rattle.rr_family.proofs.ProfileLemmas.{is_there, last_is_late}
 use Rattle.rr_family.proofs.WalkLemmas.{first_is_one}
 use Rattle.rr_graphfind.specs.Found.{IsGraphFound}
 use Rattle.rr_graphfind.specs.Order.{IsFirstThat}
-use Rattle.rr_graphfind.specs.Search.{Agrees, EndsAfter, FitsEnd, Matches, days_compared, end_of_window, event_of_window}
+use Rattle.rr_graphfind.specs.Search.{Agrees, FitsEnd, Matches, days_compared, end_of_window, event_of_window}
 
 -- ---- every pattern that has the set matches
 
@@ -126,14 +125,17 @@ module _ (s : Sketch) (valid : IsValidSketch s) (kind : Kind) (start : ℤ) (pat
   pattern_cycle = form_cycle pattern.form pattern.interval
 
   -- the event is valid
-  valid_event : (end : RangeEnd) → IsRangeEnd end → last_day_of end ≡ pos 2_932_896 → IsValidPattern pattern → is_pattern_day pattern first_day first_day ≡ true
+  valid_event : (end : RangeEnd) → IsRangeEnd end → last_day_of end ≡ pos 2_932_896 → IsValidPattern pattern
+      → is_pattern_day pattern first_day first_day ≡ true
       → IsValidGraphEvent (event_of pattern (range_from first_day end) kind start)
   unfolding first_repeat_day
   valid_event end good_end far good passes =
       record { start = years; repeats = (good, good_end, refl, (first_day, found)) }
     where
       found : first_repeat_day pattern (range_from first_day end) ≡ Some first_day
-      found = (let b = four_digit_bounds first_day years in search_found (is_pattern_day pattern first_day) first_day (last_day_of end) (omega (arith, ints, b.1, far)) passes)
+      found = (
+          let b = four_digit_bounds first_day years in
+          search_found (is_pattern_day pattern first_day) first_day (last_day_of end) (omega (arith, ints, b.1, far)) passes)
 
   some_cycle : IsValidPattern pattern → 1 ≤ pattern_cycle
   some_cycle good = interval_cycle_some (form_freq pattern.form) pattern.interval good.interval_low
@@ -151,8 +153,10 @@ module _ (s : Sketch) (valid : IsValidSketch s) (kind : Kind) (start : ℤ) (pat
       let high = near.1 in
       let number : (1 ≤ many) × (many ≤ 18_446_744_073_709_551_615) = (omega (arith, ends.1, first_counts), omega (arith, ints, ends.1, few, low, high)) in
       record {
-        valid = valid_event (Numbered many) number refl agrees.valid (first_agrees s kind (second_part kind start) first_day days pattern one_sec some agrees);
-        equal = subst (λ n. HaveEqualOccurrences (IsGraphOccurrence (event_of pattern (range_from first_day (Numbered n)) kind start)) (StandsIn s)) (sym ends.1)
+        valid = valid_event (Numbered many) number refl agrees.valid (first_agrees s kind (second_part kind start) first_day days pattern one_sec
+            some agrees);
+        equal = subst (λ n. HaveEqualOccurrences (IsGraphOccurrence (event_of pattern (range_from first_day (Numbered n)) kind start)) (StandsIn s))
+            (sym ends.1)
             (finite_agreement_is_pattern s pattern kind start day valid one_sec ends.0 agrees.agree);
       }
     where
@@ -188,14 +192,16 @@ module _ (s : Sketch) (valid : IsValidSketch s) (kind : Kind) (start : ℤ) (pat
   is_first_pattern end ends near near_first fits agrees none = record {
     is_pattern = is_pattern_of end ends near near_first fits agrees;
     none_before = none;
-    begins = first_agrees s kind (second_part kind start) first_day (days_compared end first_day pattern_cycle) pattern one_sec (some_day end ends agrees.valid) agrees;
+    begins = first_agrees s kind (second_part kind start) first_day (days_compared end first_day pattern_cycle) pattern one_sec (some_day end ends
+        agrees.valid) agrees;
     sketch = s;
     valid = valid;
     stands = λ k t. (λ h. h, λ h. h);
     ends = ends_as end ends;
   }
 
-pub found_pattern : (s : Sketch) (w : Window) (pattern : Pattern) → IsValidSketch s → HasWindow s w → IsNearWindow w → IsFirstThat (Matches s w) (Some pattern)
+pub found_pattern : (s : Sketch) (w : Window) (pattern : Pattern) → IsValidSketch s → HasWindow s w → IsNearWindow w
+    → IsFirstThat (Matches s w) (Some pattern)
     → IsGraphFound (StandsIn s) (Some (event_of_window w pattern))
 found_pattern s w pattern valid known near first =
     let start = moment_at w.kind w.first w.second in
@@ -205,7 +211,8 @@ found_pattern s w pattern valid known near first =
     subst (λ x. IsOneSecond s w.kind x (day_part w.kind start)) (sym parts.1) (subst (λ d. IsOneSecond s w.kind w.second d) day known.one_second) in
     let cycle = form_cycle pattern.form pattern.interval in
     let m = first.0 in
-    let none : NoneBeforePattern (StandsIn s) pattern = λ other range kind begin is. first.1 other (matches_if_has s w other range kind begin valid known is) in
+    let none : NoneBeforePattern (StandsIn s) pattern =
+    λ other range kind begin is. first.1 other (matches_if_has s w other range kind begin valid known is) in
     subst (λ d. IsFirstPattern (StandsIn s) pattern (range_from d (end_of_window w.end)) w.kind start) parts.0
     (is_first_pattern s valid w.kind start pattern one_sec known.years w.end
     (subst (λ d. IsWindowEnd s d w.end) day known.end) near.end (subst (λ d. IsNearDay d) day near.first)

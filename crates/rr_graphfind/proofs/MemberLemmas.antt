@@ -1,6 +1,7 @@
 -- The members of valid patterns, and what is known of a pattern that has all members of another.
-use Rattle.std.proofs.Common.{◌≡◌, ◌⊎◌, inl, inr, ℕ, zero, suc, ◌+◌, ◌/◌, ◌%◌, ◌<◌, ◌≤◌, ◌==◌, Bool, true, false, ℤ, pos, negsuc, neg_ℤ, ◌≤ℤ◌, refl, sym, ap, subst, ◌∙◌, arith, if◌then◌else◌, w8, to_z, of_z}
-use Rattle.std.specs.Prelude.{Option, Some, None}
+use Rattle.std.proofs.Common.{◌≡◌, ◌⊎◌, inl, inr, ℕ, zero, suc, ◌+◌, ◌/◌, ◌%◌, ◌<◌, ◌≤◌, ◌==◌, Bool, true}
+use Rattle.std.proofs.Common.{false, ℤ, pos, negsuc, neg_ℤ, ◌≤ℤ◌, refl, sym, ap, subst, ◌∙◌, arith, if◌then◌else◌, w8, to_z, of_z}
+use Rattle.std.specs.Prelude.{None}
 use Rattle.std.proofs.lemmas.Int.{ints}
 use Rattle.std.proofs.lemmas.Nat.{mod_below, div-add-mod'}
 use Rattle.rr_model.specs.Graph.Occurrences.{is_pattern_day}
@@ -10,13 +11,12 @@ use Rattle.rr_model.specs.declared.graph.Form.{Form}
 use Rattle.rr_model.specs.declared.graph.Form.TheVariants as form
 use Rattle.rr_model.specs.declared.graph.Pattern.{Pattern}
 use Rattle.rr_model.specs.declared.sketch.Sketch.{Sketch}
-use Rattle.rr_family.specs.GraphProfile.{form_place, index_place, key_lt, pattern_key}
+use Rattle.rr_family.specs.GraphProfile.{form_place, index_place}
 use Rattle.rr_family.specs.Lasting.{is_occupied}
 use Rattle.rr_family.specs.Taking.{AgreeWithin}
 use Rattle.rr_graphfind.specs.Order.{IsFirstWith, SameMembers}
 use Rattle.rr_graphfind.specs.Search.{Agrees, ArePlaces}
 use Rattle.rr_graphfind.specs.declared.members.Places.{Places}
-use Rattle.rr_graphfind.proofs.OrderLemmas.{not_before_itself}
 
 -- ---- types
 
@@ -40,14 +40,6 @@ type_back form.RelativeYearly = refl
 
 pub form_is : (f g : Form) → form_place f ≡ form_place g → f ≡ g
 form_is f g e = sym (type_back f) ∙ ap type_at e ∙ type_back g
-
-pub place_of_form : (f : Form) → form_place f < 6
-place_of_form form.Daily = omega arith
-place_of_form form.Weekly = omega arith
-place_of_form form.AbsoluteMonthly = omega arith
-place_of_form form.RelativeMonthly = omega arith
-place_of_form form.AbsoluteYearly = omega arith
-place_of_form form.RelativeYearly = omega arith
 
 -- ---- the numbers of a member
 
@@ -81,8 +73,16 @@ seven n l = by ((n + 1) / 7) refl
 pub one_week_day : (m n : ℕ) → m ≤ 6 → n ≤ 6 → (m + 1) % 7 ≡ (n + 1) % 7 → m ≡ n
 one_week_day m n l h e =
     elim (seven m l) [
-      | inl a ↦ elim (seven n h) [ inl b ↦ (let x = a.1 in let y = b.1 in omega (arith, x, y, e)) | inr b ↦ (let x = a.1 in let y = b.1 in omega (arith, x, y, e)) ]
-      | inr a ↦ elim (seven n h) [ inl b ↦ (let x = a.1 in let y = b.1 in omega (arith, x, y, e)) | inr b ↦ (let x = a.0 in let y = b.0 in omega (arith, x, y)) ]
+      | inl a ↦ elim (seven n h) [
+        | inl b ↦ (let x = a.1 in let y = b.1 in omega (arith, x, y, e))
+        | inr b ↦ (let x = a.1 in let y =
+            b.1 in omega (arith, x, y, e))
+      ]
+      | inr a ↦ elim (seven n h) [
+        | inl b ↦ (let x = a.1 in let y = b.1 in omega (arith, x, y, e))
+        | inr b ↦ (let x = a.0 in let y =
+            b.0 in omega (arith, x, y))
+      ]
     ]
 
 pub day_most : (used : Bool) (n : ℕ) → LiesIfUsed used 0 6 6 n → n ≤ 6
@@ -157,15 +157,8 @@ same_pattern p q vp vq h =
     }
 
 module _ (s : Sketch) (first : ℤ) (days : ℕ) (with : Pattern) where
-  pub it_agrees : Agrees s first days with → IsFirstWith 7 with (Agrees s first days) (Some with)
-  it_agrees agrees = (
-    ((refl, (refl, (refl, (refl, (refl, (refl, (refl, tt))))))), agrees),
-    λ p h.
-        let e = same_pattern p with h.1.valid agrees.valid h.0 in
-        subst (λ z. key_lt (pattern_key z) (pattern_key with) ≡ false) (sym e) (not_before_itself (pattern_key with)),
-  )
-
-  pub it_differs : IsValidPattern with → (AgreeWithin (is_pattern_day with first) (is_occupied s) first days → ⊥) → IsFirstWith 7 with (Agrees s first days) None
+  pub it_differs : IsValidPattern with → (AgreeWithin (is_pattern_day with first) (is_occupied s) first days → ⊥)
+      → IsFirstWith 7 with (Agrees s first days) None
   it_differs valid differs p h =
       let e = same_pattern p with h.1.valid valid h.0 in
       differs (subst (λ z. AgreeWithin (is_pattern_day z first) (is_occupied s) first days) e h.1.agree)
@@ -184,7 +177,8 @@ pattern_with p first_day day_of_month month days index = record {
   index = index;
 }
 
-pub valid_with : (p : Pattern) → IsValidPattern p → (first_day day_of_month month days : ℕ) (index : ℤ) → LiesIfUsed (uses_first_day p.form) 0 6 6 first_day
+pub valid_with : (p : Pattern) → IsValidPattern p → (first_day day_of_month month days : ℕ) (index : ℤ)
+    → LiesIfUsed (uses_first_day p.form) 0 6 6 first_day
     → LiesIfUsed (uses_day_of_month p.form) 1 31 0 day_of_month → LiesIfUsed (uses_month p.form) 1 12 0 month → LiesIfUsed (uses_days p.form) 1 127 0 days
     → IsIndex (uses_index p.form) index → IsValidPattern (pattern_with p first_day day_of_month month days index)
 valid_with p v first_day day_of_month month days index a b c d e = record {
@@ -204,8 +198,8 @@ index_as_read p v =
     let high = index_most (uses_index p.form) p.index v.index in
     omega (arith, ints, low, high)
 
-pub index_kept : (used : Bool) (i j : ℤ) → j ≡ i → IsIndex used i → IsIndex used j
-index_kept used i j e h = subst (λ z. IsIndex used z) (sym e) h
+pub index_read : (p : Pattern) → IsValidPattern p → IsIndex (uses_index p.form) (to_z w8 (of_z w8 p.index))
+index_read p v = subst (λ z. IsIndex (uses_index p.form) z) (sym (index_as_read p v)) v.index
 
 pub most_place : (used : Bool) (low high otherwise n : ℕ) → otherwise ≤ high → LiesIfUsed used low high otherwise n → n ≤ high
 most_place true low high otherwise n l h = h.1

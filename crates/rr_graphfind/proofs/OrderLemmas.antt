@@ -1,6 +1,6 @@
 -- The first of several patterns, found one member after the other.
-use Rattle.std.proofs.Common.{◌≡◌, ◌⊎◌, inl, inr, ℕ, zero, suc, ◌+◌, ◌<◌, ◌≤◌, ◌==◌, Bool, true, false, List, [], ◌∷◌, length, refl, sym, ap, ◌∙◌, arith}
-use Rattle.std.specs.Prelude.{nat_lt, Option, Some, None}
+use Rattle.std.proofs.Common.{◌≡◌, inl, inr, ℕ, zero, suc, ◌+◌, ◌<◌, ◌≤◌, ◌==◌, true, false, List, [], ◌∷◌, length, refl, sym, ◌∙◌, arith}
+use Rattle.std.specs.Prelude.{nat_lt, Some, None}
 use Rattle.std.proofs.lemmas.Bool.{cases_eq, cases_lt, ne_eqb}
 use Rattle.std.proofs.lemmas.Bool.Decides.{nat_tests}
 use Rattle.rr_model.specs.declared.graph.Pattern.{Pattern}
@@ -44,13 +44,6 @@ same_number i (x ∷ xs) [] a = absurd a
 same_number zero (x ∷ xs) (y ∷ ys) a = a.0
 same_number (suc i) (x ∷ xs) (y ∷ ys) a = same_number i xs ys a.1
 
-pub not_before_itself : (xs : List ℕ) → key_lt xs xs ≡ false
-not_before_itself [] = refl
-not_before_itself (x ∷ xs) =
-    let less : nat_lt x x ≡ false = grind (arith, nat_tests) in
-    let same : (x == x) ≡ true = grind (arith, nat_tests) in
-    rw (less, same, not_before_itself xs) refl
-
 -- after the same numbers a greater one
 later : (i : ℕ) (xs ys : List ℕ) → i < length xs → i < length ys → SameFirst i xs ys → number_at i ys < number_at i xs → key_lt xs ys ≡ false
 later i [] ys l m a h = absurd (omega (arith, l))
@@ -76,7 +69,8 @@ abbrev pub NoneBelow : ℕ → Pattern → (Pattern → Type 0) → ℕ → Type
 NoneBelow i draft Passes n = (pattern : Pattern) → SameMembers i pattern draft → Passes pattern → member_at i pattern < n → ⊥
 
 module _ (i : ℕ) (few : i < 7) (draft : Pattern) (Passes : Pattern → Type 0) where
-  pub none_yet : (from : ℕ) → ((pattern : Pattern) → SameMembers i pattern draft → Passes pattern → from ≤ member_at i pattern) → NoneBelow i draft Passes from
+  pub none_yet : (from : ℕ) → ((pattern : Pattern) → SameMembers i pattern draft → Passes pattern → from ≤ member_at i pattern)
+      → NoneBelow i draft Passes from
   none_yet from low pattern same passes l = (let h = low pattern same passes in omega (arith, h, l))
 
   key_long : (pattern : Pattern) → i < length (pattern_key pattern)
@@ -87,7 +81,8 @@ module _ (i : ℕ) (few : i < 7) (draft : Pattern) (Passes : Pattern → Type 0)
       → SameMembers (suc i) pattern with
   one_more n with pattern same at has e =
       same_more i (pattern_key pattern) (pattern_key with) (key_long pattern) (key_long with)
-      (same_chain i (pattern_key pattern) (pattern_key draft) (pattern_key with) has (same_back i (pattern_key with) (pattern_key draft) same)) (e ∙ sym at)
+      (same_chain i (pattern_key pattern) (pattern_key draft) (pattern_key with) has (same_back i (pattern_key with) (pattern_key draft) same)) (e ∙
+      sym at)
 
   pub none_next : (n : ℕ) (with : Pattern) → SameMembers i with draft → member_at i with ≡ n → IsFirstWith (suc i) with Passes None
       → NoneBelow i draft Passes n → NoneBelow i draft Passes (n + 1)
@@ -115,11 +110,13 @@ module _ (i : ℕ) (few : i < 7) (draft : Pattern) (Passes : Pattern → Type 0)
             | inr differ ↦ elim (cases_lt (member_at i pattern) n) [
               | inl less ↦ absurd (below pattern has passes less)
               | inr more ↦ later i (pattern_key pattern) (pattern_key found) (key_long pattern) (key_long found)
-                  (same_chain i (pattern_key pattern) (pattern_key draft) (pattern_key found) has (same_back i (pattern_key found) (pattern_key draft) here))
+                  (same_chain i (pattern_key pattern) (pattern_key draft) (pattern_key found) has (same_back i (pattern_key found) (pattern_key
+                  draft) here))
                   (omega (arith, at_found, differ, more))
             ]
           ]
 
-  pub none_at_all : (to : ℕ) → ((pattern : Pattern) → SameMembers i pattern draft → Passes pattern → member_at i pattern < to) → NoneBelow i draft Passes to
+  pub none_at_all : (to : ℕ) → ((pattern : Pattern) → SameMembers i pattern draft → Passes pattern → member_at i pattern < to)
+      → NoneBelow i draft Passes to
       → IsFirstWith i draft Passes None
   none_at_all to high below pattern has = below pattern has.0 has.1 (high pattern has.0 has.1)

@@ -1,7 +1,7 @@
 -- The first of several patterns, in the order in which they are tried.
-use Rattle.std.specs.Prelude.{◌≡◌, ℕ, zero, suc, Bool, true, false, ◌%◌, ◌+◌, ⊤, List, [], ◌∷◌, Option, None, Some, ℤ, pos, neg_ℤ, if◌then◌else◌, nat_lt, ◌==◌}
+use Rattle.std.specs.Prelude.{◌≡◌, ℕ, zero, suc, Bool, true, false, ⊤, List, [], ◌∷◌, Option, None, Some, pos}
 use Rattle.rr_family.specs.GraphProfile.{pattern_key, key_lt}
-use Rattle.rr_model.specs.Graph.Uses.{uses_days, uses_index, uses_day_of_month, uses_month}
+use Rattle.rr_model.specs.Graph.Uses.{uses_days, uses_day_of_month, uses_month}
 use Rattle.rr_model.specs.declared.graph.Form.{Form}
 use Rattle.rr_model.specs.declared.graph.Pattern.{Pattern}
 

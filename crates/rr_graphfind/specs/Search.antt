@@ -56,11 +56,12 @@ IsStretchOf w cycle None = FitsEnd w.end w.first cycle → ⊥
 IsStretchOf w cycle (Some stretch) =
     FitsEnd w.end w.first cycle × (stretch.start.number ≡ w.first) × (stretch.days ≡ days_compared w.end w.first cycle)
 
--- the event of a pattern from the first occurrence on: with the number of occurrences of a finite set, and else without an end
+-- the number of occurrences of a finite set, and no end of an endless one
 abbrev pub end_of_window : WindowEnd → RangeEnd
 end_of_window (Last day many) = Numbered many
 end_of_window (Cycle period start) = NoEnd
 
+-- the event of a pattern from the first occurrence on
 abbrev pub event_of_window : Window → Pattern → GraphEvent
 event_of_window w pattern = event_of pattern (range_from w.first (end_of_window w.end)) w.kind (moment_at w.kind w.first w.second)
 

@@ -1,4 +1,4 @@
-use Rattle.std.proofs.Common.{arith, sym, ◌∙◌, w64, to_z, of_z}
+use Rattle.std.proofs.Common.{arith, sym, ◌∙◌, w64, to_z}
 use Rattle.std.proofs.lemmas.Int.{ints}
 use Rattle.rr_family.proofs.WalkLemmas.{first_before, none_later}
 use Rattle.rr_family.proofs.window.last_occupied.Goals as goal
