@@ -57,16 +57,23 @@ impl DaySeq for Every {
     }
 }
 
+// Every so many days from the first one on.
+fn every(step: u64) -> Every
+    requires steps { 1 ≤ step }
+    requires few { step ≤ 1_000 }
+{
+    Every { start: FIRST, step }
+}
+
 #[test]
 fn the_first_rule(rt: HostRuntime) -> Result<(), Fail> {
     let alloc = rt.alloc();
-    for (step, family, interval, item) in [
-        (1, FamilyKind::D, 1, Item::Every),
-        (7, FamilyKind::W, 1, Item::Weekday(0)),
-        (10, FamilyKind::D, 10, Item::Every),
-        (14, FamilyKind::W, 2, Item::Weekday(0)),
+    for (seq, family, interval, item) in [
+        (every(1), FamilyKind::D, 1, Item::Every),
+        (every(7), FamilyKind::W, 1, Item::Weekday(0)),
+        (every(10), FamilyKind::D, 10, Item::Every),
+        (every(14), FamilyKind::W, 2, Item::Weekday(0)),
     ] {
-        let seq = Every { start: FIRST, step };
         let found = find(alloc, &seq)?.ok_or("a rule is found")?;
         assert_eq!(rt; found.start, FIRST);
         assert_eq!(rt; found.rule.family, family);
