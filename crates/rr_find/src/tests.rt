@@ -58,7 +58,7 @@ impl DaySeq for Every {
 }
 
 // Every so many days from the first one on.
-fn every(step: u64) -> Every
+fn each_from_first(step: u64) -> Every
     requires steps { 1 ≤ step }
     requires few { step ≤ 1_000 }
 {
@@ -69,10 +69,10 @@ fn every(step: u64) -> Every
 fn the_first_rule(rt: HostRuntime) -> Result<(), Fail> {
     let alloc = rt.alloc();
     for (seq, family, interval, item) in [
-        (every(1), FamilyKind::D, 1, Item::Every),
-        (every(7), FamilyKind::W, 1, Item::Weekday(0)),
-        (every(10), FamilyKind::D, 10, Item::Every),
-        (every(14), FamilyKind::W, 2, Item::Weekday(0)),
+        (each_from_first(1), FamilyKind::D, 1, Item::Every),
+        (each_from_first(7), FamilyKind::W, 1, Item::Weekday(0)),
+        (each_from_first(10), FamilyKind::D, 10, Item::Every),
+        (each_from_first(14), FamilyKind::W, 2, Item::Weekday(0)),
     ] {
         let found = find(alloc, &seq)?.ok_or("a rule is found")?;
         assert_eq!(rt; found.start, FIRST);
