@@ -1,19 +1,16 @@
 -- Which rules have the set of a window.
-use Rattle.std.proofs.Common.{◌≡◌, ◌↔◌, ℕ, ◌+◌, ◌<◌, ◌≤◌, ◌%◌, ◌==◌, Bool, true, false, cond, ◌&&◌, List, [], ◌∷◌, Option, None, Some, ℤ, pos, ◌-ℤ◌, ◌≤ℤ◌, ◌<ℤ◌, inl, inr, refl, sym, ap, subst, ◌∙◌, arith}
-use Rattle.std.specs.Prelude.{◌⊎◌, unwrap_or}
-use Rattle.std.specs.Int.{◌∣◌}
-use Rattle.std.specs.List.{list_any, Contains}
+use Rattle.std.proofs.Common.{◌≡◌, ℕ, ◌<◌, ◌≤◌, ◌%◌, ◌==◌, Bool, true, false, cond, ◌&&◌, List, [], ◌∷◌, Option, None, Some, ℤ, ◌-ℤ◌, ◌≤ℤ◌, inl, inr, refl, sym, ap, subst, ◌∙◌, arith}
+use Rattle.std.specs.Prelude.{◌⊎◌}
+use Rattle.std.specs.List.{Contains}
 use Rattle.std.specs.Ordering.{int_eq}
 use Rattle.std.proofs.lemmas.Int.{ints}
-use Rattle.std.proofs.lemmas.Bool.{cases_Bool, eq-eqb, false≢true}
+use Rattle.std.proofs.lemmas.Bool.{eq-eqb, false≢true}
 use Rattle.std.proofs.lemmas.Bool.Decides.{nat_tests}
 use Rattle.std.proofs.lemmas.Nat.Gcd.{dvd_of_mod-eq-zero, mod-eq-zero_of_dvd}
 use Rattle.rr_model.specs.Moment.{day_part, second_part, moment_at}
-use Rattle.rr_model.specs.Moment.Years.{IsInYears}
 use Rattle.rr_model.specs.Sets.Least.{IsEndless, IsLeastStart}
-use Rattle.rr_model.specs.Sets.Sketch.{IsValidSketch, IsFirstDay, StandsIn, times_on}
-use Rattle.rr_model.specs.Sets.Verdict.{HaveEqualOccurrences}
-use Rattle.rr_model.specs.Vcal.Members.{family_unit, item_holds}
+use Rattle.rr_model.specs.Sets.Sketch.{IsValidSketch, StandsIn, times_on}
+use Rattle.rr_model.specs.Vcal.Members.{family_unit}
 use Rattle.rr_model.specs.Whole.{divides}
 use Rattle.rr_model.specs.Whole.Count.{count_from}
 use Rattle.rr_model.specs.declared.item.Item.{Item}
@@ -29,7 +26,7 @@ use Rattle.rr_setpos.proofs.ProductLemmas.{count_from-le}
 use Rattle.rr_word.proofs.OneLeastLemmas.{one_first}
 use Rattle.rr_word.proofs.ShapeLemmas.{int_eq-same}
 use Rattle.rr_word.proofs.SketchLemmas.{second_fits}
-use Rattle.rr_family.specs.DaySets.{IsOneSecond, IsLastDay, OccursOnDays, window_days}
+use Rattle.rr_family.specs.DaySets.{IsOneSecond, window_days}
 use Rattle.rr_family.specs.Lasting.{is_occupied, at_second, FitsCycle, HasCycle}
 use Rattle.rr_family.specs.Places.{place_has_day}
 use Rattle.rr_family.specs.Profile.{IsRuleOf, IsWindow, finite, endless, EndsWith, list_places, list_items, most_family_interval, range_of, vrule}

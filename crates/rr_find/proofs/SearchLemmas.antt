@@ -3,9 +3,9 @@ use Rattle.std.proofs.Common.{◌≡◌, ℕ, zero, suc, ◌+◌, ◌<◌, ◌�
 use Rattle.std.specs.Prelude.{is_some, nat_lt}
 use Rattle.std.proofs.lemmas.Bool.{cases_Bool, cases_eq, false≢true}
 use Rattle.std.proofs.lemmas.Bool.Decides.{nat_tests}
-use Rattle.rr_family.specs.Profile.{IsRuleOf, IsFirstRule, comes_before, kind_place, most_family_interval}
-use Rattle.rr_family.specs.Windows.{HasWindow, IsWindowOf}
-use Rattle.rr_find.specs.Found.{HasListedRule, HasNoRule, HasNoRuleBefore, HasNoRuleBelow, IsFound, IsFoundAt, IsFoundOf}
+use Rattle.rr_family.specs.Profile.{IsRuleOf, comes_before, kind_place, most_family_interval}
+use Rattle.rr_family.specs.Windows.{IsWindowOf}
+use Rattle.rr_find.specs.Found.{HasNoRule, HasNoRuleBefore, HasNoRuleBelow, IsFound, IsFoundAt, IsFoundOf}
 use Rattle.rr_find.specs.declared.found.Found.{Found}
 use Rattle.rr_find.proofs.RuleLemmas.{rule_days}
 use Rattle.rr_model.specs.Sets.Sketch.{IsValidSketch, StandsIn}

@@ -5,7 +5,6 @@ use Rattle.std.specs.List.{list_any}
 use Rattle.std.proofs.lemmas.Int.{ints}
 use Rattle.std.proofs.lemmas.Bool.{cases_Bool, cases_eq, eq-eqb, eqb-true, false≢true}
 use Rattle.std.proofs.lemmas.Bool.Decides.{nat_tests}
-use Rattle.rr_model.specs.Whole.Count.{count_from}
 use Rattle.rr_model.specs.declared.vcal.FamilyKind.{FamilyKind}
 use Rattle.rr_graph.proofs.DayCountLemmas.{count_from-none}
 use Rattle.rr_setpos.proofs.ProductLemmas.{count_from-le}
@@ -13,7 +12,7 @@ use Rattle.rr_family.specs.Places.{many_items, place_has_day}
 use Rattle.rr_family.specs.Profile.{all_places}
 use Rattle.rr_family.specs.Sorts.{many_sorts, sort_of_day, has_sort}
 use Rattle.rr_family.specs.Taking.{AgreeWithin, some_gives, is_sound, sound_places, further_days, first_greatest, taken_within, taken_places}
-use Rattle.rr_family.specs.Tally.{AreSorts, sum_below, sort_passes, days_of_sort}
+use Rattle.rr_family.specs.Tally.{sum_below, sort_passes, days_of_sort}
 use Rattle.rr_family.proofs.SortLemmas.{kinds_have_sorts}
 use Rattle.rr_family.proofs.TakingLemmas.{giver, taker, same_truth, in_window, count_from-none_at, taking_is_sound}
 use Rattle.rr_family.proofs.TallyLemmas.{sound_by_sorts, further_by_sorts, count_by_sorts}

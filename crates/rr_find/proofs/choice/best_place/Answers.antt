@@ -1,5 +1,4 @@
 use Rattle.std.proofs.Common.{arith, inl, inr, refl, sym}
-use Rattle.std.proofs.lemmas.Bool.Decides.{nat_tests}
 use Rattle.rr_find.proofs.BestLemmas.{best_zero}
 use Rattle.rr_find.proofs.ChoiceLemmas.{best_next}
 use Rattle.rr_find.proofs.choice.best_place.Goals as goal
