@@ -1,5 +1,5 @@
 -- What the texts tell that `canon` puts.
-use Rattle.std.proofs.Common.{◌≡◌, ℕ, List, sym, ap, ◌∙◌}
+use Rattle.std.proofs.Common.{◌≡◌, ℕ, List, sym, ap}
 use Rattle.std.specs.Prelude.{Result, Ok, Err}
 use Rattle.rr_canon.proofs.AnswerLemmas.{text_of_least}
 use Rattle.rr_canon.proofs.PrintableLemmas.{descriptor_text_tells, texts_are_equal_exactly}
@@ -30,12 +30,10 @@ pub text_of_fold :
 text_of_fold s u series bytes same least bounded e fold =
     text_of_least descriptor_text s u (Occurs series) bytes fold.stands same least bounded (λ k t p. occurs_from_year_one series k t fold.valid p) e
 
-pub canon_said_is_one : (series : Series) (x y : Answer) → IsCanonSaid series x → IsCanonSaid series y → x ≡ y
-canon_said_is_one series x y p q =
+pub canon_text_is_one : (series : Series) (x y : List ℕ) → IsTextOf descriptor_text (Occurs series) x → IsTextOf descriptor_text (Occurs series) y → x ≡ y
+canon_text_is_one series x y p q =
     let P = Occurs series in
-    let bytes = (texts_are_equal_exactly descriptor_text descriptor_text_tells P P x.bytes y.bytes p.1 q.1).1 (λ k t. ((λ h. h), (λ h. h))) in
-    let status = p.0 ∙ sym q.0 in
-    λ i. record { status = status i; bytes = bytes i }
+    (texts_are_equal_exactly descriptor_text descriptor_text_tells P P x y p q).1 (λ k t. ((λ h. h), (λ h. h)))
 
 -- ---- a text that was put is that of the series that was read
 

@@ -43,7 +43,7 @@ module _ (one : FirstRefusalIsOne) where
 -- ---- series that are admitted
 
 -- the limits alone are left
-passed : (limits : Limits) (read : Result Series Refusal) (series : Series) (cycle : ℕ) → IsAdmitted read series cycle → IsLimitRefusal limits series None
+pub passed : (limits : Limits) (read : Result Series Refusal) (series : Series) (cycle : ℕ) → IsAdmitted read series cycle → IsLimitRefusal limits series None
     → IsJudged limits read (Ok series)
 passed limits read series cycle a h = rw (a.is_read, a.unrefused) (refl, h)
 

@@ -1,6 +1,7 @@
 pub mod AnswerLemmas
 pub mod CanonLemmas
 pub mod JudgementLemmas
+pub mod DoneLemmas
 pub mod SaidOfBothLemmas
 pub mod VerdictLemmas
 pub mod LineLemmas

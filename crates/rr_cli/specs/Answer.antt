@@ -6,7 +6,7 @@ use Rattle.rr_cli.specs.Command.{Command, Contents, Operand, of_two, of_one, dri
 use Rattle.rr_cli.specs.Judgement.{cycle_limit, list_limits}
 use Rattle.rr_cli.specs.Listing.{ListsFirst}
 use Rattle.rr_cli.specs.OperandReading.{operand_read}
-use Rattle.rr_cli.specs.Said.{Answer, IsSaidWithin, line, usage}
+use Rattle.rr_cli.specs.Said.{Answer, IsDone, IsDoneOrNotSayable, IsSaidWithin, line, usage}
 use Rattle.rr_cli.specs.Verdicts.{IsSaidOfBoth}
 use Rattle.rr_fold.specs.Judged.{all_limits}
 use Rattle.rr_model.specs.Series.Cycle.{series_cycle}
@@ -14,10 +14,12 @@ use Rattle.rr_model.specs.Series.Occurrences.{Occurs}
 use Rattle.rr_model.specs.Sets.DescriptorText.{descriptor_text}
 use Rattle.rr_model.specs.Sets.Printable.{IsTextOf}
 use Rattle.rr_model.specs.Sets.Verdict.{HaveEqualOccurrences}
+use Rattle.rr_translate.specs.Translated.{HasNoRule, HasNoWords, IsInferredText, IsTranslation, limits_of}
 use Rattle.rr_cli.specs.declared.command.Question.{Question}
 use Rattle.rr_cli.specs.declared.command.Task.{Task}
 use Rattle.rr_cli.specs.declared.command.Task.TheVariants.{Canon, Translate, Infer, List as list, Check}
 use Rattle.rr_cli.specs.declared.program.Status.TheVariants as status
+use Rattle.rr_model.specs.declared.lang.Lang.{Lang}
 use Rattle.rr_model.specs.declared.refusal.Refusal.{Refusal}
 use Rattle.rr_model.specs.declared.rule.Series.{Series}
 use Rattle.rr_model.specs.declared.verdict.Side.TheVariants.{A, B}
@@ -30,7 +32,7 @@ IsVerdictAnswer question a b answer = IsSaidWithin A all_limits a (λ s. IsSaidW
 
 -- `canon`: the text of the least sketch of the occurrences
 abbrev pub IsCanonSaid : Series → Answer → Type 0
-IsCanonSaid series answer = (answer.status ≡ status.Yes) × IsTextOf descriptor_text (Occurs series) answer.bytes
+IsCanonSaid series answer = IsDone (IsTextOf descriptor_text (Occurs series)) answer
 
 -- `check`: the cycle in days
 abbrev pub cycle_said : ℕ → Answer
@@ -38,7 +40,15 @@ cycle_said days = record { status = status.Yes; bytes = line (codes "cycle " ++ 
 
 -- `list`: the first occurrences, so many, one a line
 abbrev pub IsListSaid : ℕ → Series → Answer → Type 0
-IsListSaid count series answer = (answer.status ≡ status.Yes) × ListsFirst (Occurs series series.kind) series.kind count answer.bytes
+IsListSaid count series answer = IsDone (ListsFirst (Occurs series series.kind) series.kind count) answer
+
+-- `translate`: the text in that language, or that it has no words for the occurrences
+abbrev pub IsTranslationSaid : Lang → Series → Answer → Type 0
+IsTranslationSaid target series answer = IsDoneOrNotSayable (IsTranslation target series) (HasNoWords target (Occurs series)) answer
+
+-- `infer`: the text of the first rule, or that no rule has the occurrences
+abbrev pub IsInferenceSaid : Series → Answer → Type 0
+IsInferenceSaid series answer = IsDoneOrNotSayable (IsInferredText (Occurs series)) (HasNoRule (Occurs series)) answer
 
 -- what is said for now of a command whose answer is not stated yet
 abbrev pub unsaid : Answer
@@ -49,8 +59,8 @@ abbrev pub IsSaidOfOne : Task → Result Series Refusal → Answer → Type 0
 IsSaidOfOne Canon read answer = IsSaidWithin A all_limits read IsCanonSaid answer
 IsSaidOfOne (list count) read answer = IsSaidWithin A list_limits read (IsListSaid count) answer
 IsSaidOfOne Check read answer = IsSaidWithin A cycle_limit read (λ s x. x ≡ cycle_said (series_cycle s)) answer
-IsSaidOfOne (Translate target) read answer = answer ≡ unsaid
-IsSaidOfOne Infer read answer = answer ≡ unsaid
+IsSaidOfOne (Translate target) read answer = IsSaidWithin A (limits_of target) read (IsTranslationSaid target) answer
+IsSaidOfOne Infer read answer = IsSaidWithin A all_limits read IsInferenceSaid answer
 
 -- what a command answers over the bytes of its operands
 abbrev pub IsAnswer : (command : Option Command) → Contents command → Answer → Type 0

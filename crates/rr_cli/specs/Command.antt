@@ -1,5 +1,5 @@
 -- The words of the command line: a command's name, its arguments, then its operands.
-use Rattle.std.specs.Prelude.{◌≡◌, ◌⊎◌, ℕ, ◌≤◌, ◌+◌, ◌*◌, ◌==◌, ◌&&◌, ◌||◌, Bool, true, false, not, nat_lt, nat_le, ℤ, pos, neg_ℤ, List, [], ◌∷◌, length}
+use Rattle.std.specs.Prelude.{◌≡◌, ◌⊎◌, ℕ, ◌≤◌, ◌+◌, ◌*◌, ◌==◌, ◌&&◌, ◌||◌, Bool, false, not, nat_lt, nat_le, ℤ, pos, neg_ℤ, List, [], ◌∷◌, length}
 use Rattle.std.specs.Prelude.{take, Option, Some, None, option_map, option_and_then, if◌then◌else◌, bytes_eq, codes, ⊤}
 use Rattle.std.specs.List.{list_all, before_first, after_first, position_or_len}
 use Rattle.rr_model.specs.Text.Digits.{is_digit, digits_value}

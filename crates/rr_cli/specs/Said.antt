@@ -1,5 +1,5 @@
 -- What a run says: how it ends, and the bytes that it puts.
-use Rattle.std.specs.Prelude.{◌≡◌, ℕ, List, [], ◌∷◌, ◌++◌, codes, Result, Ok, Err}
+use Rattle.std.specs.Prelude.{◌≡◌, ◌⊎◌, ℕ, List, [], ◌∷◌, ◌++◌, codes, Result, Ok, Err}
 use Rattle.rr_cli.specs.Command.{usage_text}
 use Rattle.rr_cli.specs.Judgement.{IsJudged}
 use Rattle.rr_model.specs.Series.FirstRefusal.{Limits}
@@ -8,6 +8,7 @@ use Rattle.rr_model.specs.Text.Refusals.{refusal_text}
 use Rattle.rr_cli.specs.declared.program.Status.{Status}
 use Rattle.rr_cli.specs.declared.program.Status.TheVariants as status
 use Rattle.rr_model.specs.declared.refusal.Refusal.{Refusal}
+use Rattle.rr_model.specs.declared.refusal.Refusal.TheVariants.{NotSayable}
 use Rattle.rr_model.specs.declared.rule.Series.{Series}
 use Rattle.rr_model.specs.declared.verdict.Side.{Side}
 use Rattle.rr_model.specs.declared.verdict.Side.TheVariants.{A, B, Both}
@@ -41,6 +42,14 @@ refused side refusal = record { status = status.Refused; bytes = line (codes "re
 abbrev pub said : Verdict → Answer
 said Yes = record { status = status.Yes; bytes = line (codes "yes") }
 said (No kind at side) = record { status = status.No; bytes = line (codes "no " ++ extended_text kind at ++ codes " " ++ side_text side) }
+
+-- a command without a verdict is done, and puts a text that is so
+abbrev pub IsDone : (List ℕ → Type 0) → Answer → Type 0
+IsDone is answer = (answer.status ≡ status.Yes) × is answer.bytes
+
+-- it is done, or A is refused as what cannot be said
+abbrev pub IsDoneOrNotSayable : (List ℕ → Type 0) → Type 0 → Answer → Type 0
+IsDoneOrNotSayable is none answer = IsDone is answer ⊎ (none × (answer ≡ refused A NotSayable))
 
 -- ---- what is said of one operand
 

@@ -1,5 +1,5 @@
 // What `canon` says of an operand.
-ghost use Rattle.std.specs.Prelude.{◌≡◌, IfOk};
+ghost use Rattle.std.specs.Prelude.{IfOk};
 ghost use Rattle.rr_fold.specs.Judged.{all_limits};
 ghost use Rattle.rr_model.specs.Series.Occurrences.{Occurs};
 ghost use Rattle.rr_model.specs.Sets.DescriptorText.{descriptor_text};

@@ -1,5 +1,5 @@
 // Series that were read, as sequences of days.
-ghost use Rattle.std.specs.Prelude.{◌≡◌, IfErr, IfOk};
+ghost use Rattle.std.specs.Prelude.{IfErr, IfOk};
 ghost use Rattle.rr_fold.specs.Judged.{all_limits};
 ghost use Rattle.rr_cli.specs.Folding.{IsFoldedFrom};
 ghost use Rattle.rr_cli.specs.Judgement.{IsFault};

@@ -18,6 +18,7 @@ mod program;
 mod tests;
 #[cfg(test)]
 mod text_tests;
+mod translation;
 mod verdicts;
 mod words;
 mod work;

@@ -1,7 +1,7 @@
 // What a run says.
 ghost use Rattle.std.specs.Prelude.{◌≡◌, IfOk};
 ghost use Rattle.rr_cli.specs.Answer.{unsaid};
-ghost use Rattle.rr_cli.specs.Outcome.{IsFaultSaid, answer_of};
+ghost use Rattle.rr_cli.specs.Outcome.{IsDoneOrFault, IsFaultSaid, answer_of};
 ghost use Rattle.rr_cli.specs.Printable.{IsPrintable, IsPrintableAt};
 ghost use Rattle.rr_cli.specs.Said.{refused, said, side_text};
 ghost use Rattle.rr_model.specs.declared.verdict.Verdict.TheVariants as verdict;
@@ -60,6 +60,19 @@ pub fn refused_for(alloc: Global, side: Side, fault: Fault) -> Result<Outcome, N
     match fault {
         Fault::NoMemory => Err(NoMemory),
         Fault::Refused(refusal) => refused(alloc, side, refusal),
+    }
+}
+
+/// A text, where a command without a verdict is done, or the refusal of A.
+pub fn done_or_refused(alloc: Global, text: Result<Vec<u8>, Fault>) -> Result<Outcome, NoMemory>
+    ensures { IfOk result (λ x. IsDoneOrFault text (answer_of x)) }
+{
+    match text {
+        Err(fault) => refused_for(alloc, Side::A, fault),
+        Ok(text) => Ok(Outcome {
+            conclusion: Conclusion::Yes,
+            text,
+        }),
     }
 }
 

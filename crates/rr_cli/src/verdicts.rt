@@ -1,5 +1,5 @@
 // What `equal`, `within` and `disjoint` say of two operands.
-ghost use Rattle.std.specs.Prelude.{◌≡◌, ◌↔◌, ◌<◌, ◌≤◌, IfOk, IsTrue};
+ghost use Rattle.std.specs.Prelude.{◌↔◌, ◌<◌, ◌≤◌, IfOk, IsTrue};
 ghost use Rattle.rr_decide.specs.Occurrence.{NamesUpToMaxDay};
 ghost use Rattle.rr_model.specs.Sets.Sketch.{StandsIn};
 ghost use Rattle.rr_model.specs.Whole.Divisors.{lcm};

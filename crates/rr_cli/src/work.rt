@@ -1,19 +1,19 @@
 // What a command asks, worked out over its operands.
-ghost use Rattle.std.specs.Prelude.{◌≡◌, ◌++◌, [], ◌∷◌, ℕ, List, Some, IfSome, IfOk, IsErrOf};
+ghost use Rattle.std.specs.Prelude.{◌≡◌, ◌++◌, [], ◌∷◌, List, Some, IfSome, IfOk, IsErrOf};
 ghost use Rattle.rr_io.specs.Outside.{KeepsHeld};
-ghost use Rattle.rr_cli.specs.Answer.{IsAnswer, IsSaidOfOne, IsVerdictAnswer};
+ghost use Rattle.rr_cli.specs.Answer.{IsAnswer, IsSaidOfOne};
 ghost use Rattle.rr_cli.specs.Command.{HasListCount, HasNumbers, content, contents, of_one, of_two};
 ghost use Rattle.rr_cli.specs.OperandReading.{operand_read};
 ghost use Rattle.rr_cli.specs.Outcome.{answer_of};
 ghost use Rattle.rr_cli.specs.Parsed.{command_in, operand_in};
 ghost use Rattle.rr_cli.specs.Run.{GainsOperand};
-ghost use Rattle.rr_cli.specs.Said.{usage};
 
 use crate::canon::canon_outcome;
 use crate::check::check_outcome;
 use crate::command::{Command, Operand, Question, Task};
 use crate::listing::list_outcome;
 use crate::outcome::{Outcome, unsaid};
+use crate::translation::{inference_outcome, translation_outcome};
 use crate::verdicts::verdict_outcome;
 use rr_io::{FetchError, Source};
 use rr_model::NoMemory;
@@ -43,7 +43,8 @@ fn said_of_one(
         Task::Canon => canon_outcome(alloc, operand, bytes),
         Task::List(count) => list_outcome(alloc, operand, bytes, count),
         Task::Check => check_outcome(alloc, operand, bytes),
-        Task::Translate(_) | Task::Infer => unsaid(alloc),
+        Task::Translate(target) => translation_outcome(alloc, target, operand, bytes),
+        Task::Infer => inference_outcome(alloc, operand, bytes),
     }
 }
 
