@@ -96,7 +96,9 @@ same_given = refl
 empty_states : States Rrule (Occurs none_given) (calendar_written (with_one_ends none_given))
 empty_states = record {
   series = none_left;
-  is_read = (ap (reads_calendar None) (ap calendar_written same_given ∙ same_text)) ∙ calendar_is_read_back none_left left_valid refl (All-nil (λ rule. IsOneEnd rule.end));
+  is_read =
+      ap (reads_calendar None) (ap calendar_written same_given ∙ same_text)
+      ∙ calendar_is_read_back none_left left_valid refl (All-nil (λ rule. IsOneEnd rule.end));
   sound = refl;
   equal = λ k t. (λ o. absurd (left_is_empty k t o), λ o. absurd (given_is_empty k t o));
 }

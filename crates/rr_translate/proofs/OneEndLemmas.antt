@@ -230,9 +230,13 @@ unfolding with_one_ends
 series_valid series v = record {
   start = v.start;
   start_counts = λ e. (let h = v.start_counts e in (h.0, h.1, ap (map (with_one_end series.kind series.start)) h.2, h.3, h.4));
-  rules = all_keep (IsValidRule series.kind) (IsValidRule series.kind) series.kind series.start (λ rule. still_valid rule series.kind series.start) series.rules v.rules;
+  rules =
+      all_keep (IsValidRule series.kind) (IsValidRule series.kind) series.kind series.start
+      (λ rule. still_valid rule series.kind series.start) series.rules v.rules;
   few_rules = subst (λ n. n ≤ 16) (sym (length-map series.rules (with_one_end series.kind series.start))) v.few_rules;
-  ends = all_keep (λ rule. EndsInYears rule.end) (λ rule. EndsInYears rule.end) series.kind series.start (λ rule. ends_in_years rule series.kind series.start rule.end) series.rules v.ends;
+  ends =
+      all_keep (λ rule. EndsInYears rule.end) (λ rule. EndsInYears rule.end) series.kind series.start
+      (λ rule. ends_in_years rule series.kind series.start rule.end) series.rules v.ends;
   plus = v.plus;
   minus = v.minus;
   plus_rises = v.plus_rises;
@@ -244,7 +248,9 @@ pub series_sound : (series : Series) → IsSound series → IsSound (with_one_en
 unfolding with_one_ends
 series_sound series s = record {
   valid = series_valid series s.valid;
-  rules = all_keep (FitsStart series.kind series.start) (FitsStart series.kind series.start) series.kind series.start (λ rule. still_fits rule series.kind series.start) series.rules s.rules;
+  rules =
+      all_keep (FitsStart series.kind series.start) (FitsStart series.kind series.start) series.kind series.start
+      (λ rule. still_fits rule series.kind series.start) series.rules s.rules;
 }
 
 pub ends_are_one : (series : Series) → All (λ rule. IsOneEnd rule.end) (with_one_ends series).rules
