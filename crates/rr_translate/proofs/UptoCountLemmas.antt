@@ -58,7 +58,7 @@ module _ (rule : Rule) (kind : Kind) (start at : ℤ) (in_years : IsInYears kind
     pub is_placed : (day : ℤ) → IsPlaceOf tree number (day_part kind at) (On day) → true ≡ nat_le number (members_to rule kind start at)
     is_placed day p =
         let grown = before_grows (λ d s. stands_at tree d s) (day +ℤ pos 1) (day_part kind at +ℤ pos 1)
-            (omega (arith, ints, p.1.begun)) (omega (arith, ints, p.0)) in
+        (omega (arith, ints, p.1.begun)) (omega (arith, ints, p.0)) in
         let m : number ≤ members_to rule kind start at = omega (arith, grown, p.1.within, members_before) in
         grind (arith, nat_tests)
 
