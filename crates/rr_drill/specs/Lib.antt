@@ -1,3 +1,6 @@
 pub mod Counting
+pub mod Cycles
 pub mod Draws
+pub mod Folds
+pub mod Question
 pub mod Summary

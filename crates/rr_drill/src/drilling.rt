@@ -1,19 +1,71 @@
 // The drill: series drawn from a number, and the verdicts on their pairs.
-ghost use Rattle.std.specs.Prelude.{◌≤◌, IfOk};
-ghost use Rattle.rr_drill.specs.Draws.{drawn_series};
+ghost use Rattle.std.specs.Prelude.{◌≡◌, ◌≤◌, IfOk};
+ghost use Rattle.rr_drill.specs.Draws.{after_series, drawn_series, series_from};
+ghost use Rattle.rr_drill.specs.Folds.{AreFoldsOf, IsDrawn, IsFoldOf};
 ghost use Rattle.rr_drill.specs.Summary.{IsSummary};
 
 use crate::Summary;
-use rr_model::NoMemory;
+use crate::counting::summary_of;
+use crate::drawn_days::DrawnDays;
+use crate::draws::Draws;
+use rr_check::{Checked, check};
+use rr_fold::fold;
+use rr_model::{Fault, NoMemory, Series};
 use std::alloc::Global;
+
+// A series that is drawn fits its start.
+fn checked(series: Series) -> Checked
+    requires { IsDrawn series }
+    ensures { result ≡ series }
+{
+    match check(series) {
+        Ok(checked) => checked,
+        Err(_) => unreachable!(),
+    }
+}
+
+// A series that is drawn as days; it goes beyond no limit.
+fn folded(alloc: Global, series: Series) -> Result<DrawnDays, NoMemory>
+    requires { IsDrawn series }
+    ensures { IfOk result (λ days. IsFoldOf days series) }
+{
+    match fold(alloc, &checked(series)) {
+        Ok(folded) => Ok(DrawnDays { folded }),
+        Err(Fault::NoMemory) => Err(NoMemory),
+        Err(Fault::Refused(_)) => unreachable!(),
+    }
+}
+
+// The next series that is drawn, as days.
+fn next_days(alloc: Global, draws: &mut Draws) -> Result<DrawnDays, NoMemory>
+    ensures days { IfOk result (λ days. IsFoldOf days (series_from draws.old.state)) }
+    ensures state { draws.new.state ≡ after_series draws.old.state }
+{
+    let series = draws.series(alloc)?;
+    folded(alloc, series)
+}
+
+// The series that are drawn from a seed, as days.
+fn drawn_days(alloc: Global, seed: u32, count: u32) -> Result<Vec<DrawnDays>, NoMemory>
+    ensures { IfOk result (λ days. AreFoldsOf days.items (drawn_series seed count)) }
+{
+    let mut draws = Draws::new(seed);
+    let mut days = Vec::with_capacity(alloc, count as usize)?;
+    for place in 0..count {
+        days.push(next_days(alloc, &mut draws)?)?;
+    }
+    Ok(days)
+}
 
 /// Draws so many series of dates from a seed, and counts the pairs of them whose verdicts are yes.
 ///
 /// `count` is 1 to 100. Each series is one endless rule without a BY part, from one of the first 28 days of 2024 on.
+/// Each is folded once, and all are kept until the last pair is compared.
 pub fn drill(alloc: Global, seed: u32, count: u32) -> Result<Summary, NoMemory>
     requires some { 1 ≤ count }
     requires few { count ≤ 100 }
     ensures { IfOk result (λ summary. IsSummary (drawn_series seed count) summary) }
 {
-    Err(NoMemory)
+    let days = drawn_days(alloc, seed, count)?;
+    Ok(summary_of(days.as_slice()))
 }

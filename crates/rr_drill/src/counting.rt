@@ -1,0 +1,86 @@
+// How many verdicts on the pairs of series are yes.
+ghost use Rattle.std.specs.Prelude.{◌≡◌, ◌≤◌, ◌*◌, ◌-◌, ◌/◌, length};
+ghost use Rattle.rr_drill.specs.Counting.{IsCountOf, IsCountOfPairs, IsOneWhere};
+ghost use Rattle.rr_drill.specs.Folds.{stands};
+ghost use Rattle.rr_drill.specs.Question.{IsVerdictTo, IsYes};
+ghost use Rattle.rr_drill.specs.Summary.{IsSummaryOf};
+
+use crate::Summary;
+use crate::drawn_days::DrawnDays;
+use crate::question::Question;
+use rr_decide::{disjoint, equal, within};
+use rr_model::Verdict;
+
+// The verdict on two series.
+fn verdict(question: Question, a: &DrawnDays, b: &DrawnDays) -> Verdict
+    ensures { IsVerdictTo question (stands a.now) (stands b.now) result }
+{
+    match question {
+        Question::Equal => equal(&a.folded, &b.folded),
+        Question::Within => within(&a.folded, &b.folded),
+        Question::Around => within(&b.folded, &a.folded),
+        Question::Disjoint => disjoint(&a.folded, &b.folded),
+    }
+}
+
+// One where the verdict on two series is yes, else none.
+fn one_where_yes(question: Question, a: &DrawnDays, b: &DrawnDays) -> u32
+    ensures count { IsOneWhere (IsYes question (stands a.now) (stands b.now)) result }
+    ensures few { result ≤ 1 }
+{
+    match verdict(question, a, b) {
+        Verdict::Yes => 1,
+        Verdict::No { .. } => 0,
+    }
+}
+
+// How many verdicts on a series and each of others are yes.
+fn yes_in_row(question: Question, first: &DrawnDays, others: &[DrawnDays]) -> u32
+    requires { length others.now ≤ 100 }
+    ensures count { IsCountOf (λ days. IsYes question (stands first.now) (stands days)) others.now result }
+    ensures few { result ≤ length others.now }
+{
+    let mut count = 0;
+    for days in others {
+        count += one_where_yes(question, first, days);
+    }
+    count
+}
+
+// How many verdicts on a series and a later one are yes.
+fn yes_in_pairs(question: Question, list: &[DrawnDays]) -> u32
+    requires { length list.now ≤ 100 }
+    ensures count { IsCountOfPairs (λ a b. IsYes question (stands a) (stands b)) list.now result }
+    ensures few { result ≤ 10_000 }
+{
+    let mut count = 0;
+    for place in 0..list.len() {
+        count += yes_in_row(question, &list[place], &list[place + 1..]);
+    }
+    count
+}
+
+// How many unordered pairs there are of so many series.
+fn pairs_of(series: u32) -> u32
+    requires some { 1 ≤ series }
+    requires few { series ≤ 100 }
+    ensures { result ≡ series * (series - 1) / 2 }
+{
+    series * (series - 1) / 2
+}
+
+/// The summary of 1 to 100 series.
+pub fn summary_of(list: &[DrawnDays]) -> Summary
+    requires some { 1 ≤ length list.now }
+    requires few { length list.now ≤ 100 }
+    ensures { IsSummaryOf stands list.now result }
+{
+    let series = list.len() as u32;
+    Summary {
+        series,
+        pairs: pairs_of(series),
+        equal: yes_in_pairs(Question::Equal, list),
+        within: yes_in_pairs(Question::Within, list) + yes_in_pairs(Question::Around, list),
+        disjoint: yes_in_pairs(Question::Disjoint, list),
+    }
+}

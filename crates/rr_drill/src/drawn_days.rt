@@ -1,0 +1,14 @@
+// A series that was drawn, as days.
+ghost use Rattle.std.specs.Prelude.{IsTrue};
+ghost use Rattle.rr_fold.specs.Sequence.{sketch};
+ghost use Rattle.rr_drill.specs.Cycles.{is_drawn_cycle};
+
+use rr_fold::Folded;
+
+/// The days of a series whose cycle is one of those that are drawn.
+#[derive(Drop)]
+pub struct DrawnDays {
+    /// The days.
+    pub folded: Folded,
+    ghost period: { IsTrue (is_drawn_cycle (sketch folded).period) },
+}
