@@ -1,2 +1,7 @@
 mod CountLemmas
+mod CycleLemmas
 mod DrawExamples
+mod FoldLemmas
+mod LimitLemmas
+mod SeriesLemmas
+mod SynchronisedLemmas

@@ -1,0 +1,136 @@
+-- What is counted of days is counted of the series for which they stand.
+use Rattle.std.proofs.Common.{◌≡◌, ℕ, zero, suc, ◌+◌, ◌-◌, ◌*◌, ◌/◌, List, [], ◌∷◌, ◌++◌, length, append_assoc, ℤ, refl, sym, ap, subst, ◌∙◌, inl, inr, arith}
+use Rattle.std.specs.Prelude.{◌↔◌}
+use Rattle.std.proofs.lemmas.List.{append-nil}
+use Rattle.rr_model.specs.Moment.{Occurrences}
+use Rattle.rr_model.specs.Series.Occurrences.{Occurs}
+use Rattle.rr_model.specs.declared.kind.Kind.{Kind}
+use Rattle.rr_model.specs.declared.rule.Series.{Series}
+use Rattle.rr_model.specs.declared.verdict.Side.{Side}
+use Rattle.rr_model.specs.declared.verdict.Side.TheVariants.{A, B, Both}
+use Rattle.rr_model.specs.declared.verdict.Verdict.TheVariants.{No}
+use Rattle.rr_drill.specs.Counting.{IsOneWhere, IsCountOf, IsCountOfPairs}
+use Rattle.rr_drill.specs.Draws.{series_from, after_series, series_list, drawn_series}
+use Rattle.rr_drill.specs.Folds.{stands, IsFoldOf, AreFoldsOf}
+use Rattle.rr_drill.specs.Question.{IsVerdictTo, IsYes}
+use Rattle.rr_drill.specs.Summary.{IsSummaryOf, IsSummary}
+use Rattle.rr_drill.specs.declared.drawn_days.DrawnDays.{DrawnDays}
+use Rattle.rr_drill.specs.declared.question.Question.{Question}
+use Rattle.rr_drill.specs.declared.question.Question.TheVariants.{Equal, Within, Around, Disjoint}
+use Rattle.rr_drill.specs.declared.summary.Summary.{Summary}
+
+-- ---- verdicts
+
+-- a verdict that is no is not yes
+pub not_yes : (question : Question) (P Q : Occurrences) (k : Kind) (t : ℤ) (side : Side) → IsVerdictTo question P Q (No k t side) → IsYes question P Q → ⊥
+not_yes Equal P Q k t A against h = against.0.1 ((h k t).0 against.0.0)
+not_yes Equal P Q k t B against h = against.0.1 ((h k t).1 against.0.0)
+not_yes Equal P Q k t Both against h = absurd against.0
+not_yes Within P Q k t side against h = against.2 (h k t against.1)
+not_yes Around P Q k t side against h = against.2 (h k t against.1)
+not_yes Disjoint P Q k t side against h = h k t against.1 against.2
+
+-- the two have the same occurrences
+abbrev Same : Occurrences → Occurrences → Type 0
+Same P Q = (k : Kind) (t : ℤ) → P k t ↔ Q k t
+
+other_way : (P Q : Occurrences) → Same P Q → Same Q P
+other_way P Q s = λ k t. ((s k t).1, (s k t).0)
+
+yes_of : (question : Question) (P Q P' Q' : Occurrences) → Same P P' → Same Q Q' → IsYes question P Q → IsYes question P' Q'
+yes_of Equal P Q P' Q' p q all = λ k t. ((λ h. (q k t).0 ((all k t).0 ((p k t).1 h))), (λ h. (p k t).0 ((all k t).1 ((q k t).1 h))))
+yes_of Within P Q P' Q' p q all = λ k t h. (q k t).0 (all k t ((p k t).1 h))
+yes_of Around P Q P' Q' p q all = λ k t h. (p k t).0 (all k t ((q k t).1 h))
+yes_of Disjoint P Q P' Q' p q all = λ k t h g. all k t ((p k t).1 h) ((q k t).1 g)
+
+yes_alike : (question : Question) (a b : DrawnDays) (s u : Series) → IsFoldOf a s → IsFoldOf b u
+    → IsYes question (stands a) (stands b) ↔ IsYes question (Occurs s) (Occurs u)
+yes_alike question a b s u f g = (
+  yes_of question (stands a) (stands b) (Occurs s) (Occurs u) f g,
+  yes_of question (Occurs s) (Occurs u) (stands a) (stands b) (other_way (stands a) (Occurs s) f) (other_way (stands b) (Occurs u) g),
+)
+
+-- ---- counts
+
+one_of : (P Q : Type 0) (n : ℕ) → P ↔ Q → IsOneWhere P n → IsOneWhere Q n
+one_of P Q n e (inl (p, same)) = inl (e.0 p, same)
+one_of P Q n e (inr (none, same)) = inr ((λ q. none (e.1 q)), same)
+
+count_of : (P : DrawnDays → Type 0) (Q : Series → Type 0) → ((days : DrawnDays) (s : Series) → IsFoldOf days s → P days ↔ Q s)
+    → (list : List DrawnDays) (others : List Series) (n : ℕ) → AreFoldsOf list others → IsCountOf P list n → IsCountOf Q others n
+count_of P Q alike [] [] n folds count = count
+count_of P Q alike [] (s ∷ others) n folds count = absurd folds
+count_of P Q alike (days ∷ list) [] n folds count = absurd folds
+count_of P Q alike (days ∷ list) (s ∷ others) n folds (one, rest, is_one, counted, sum) = (
+  one,
+  rest,
+  one_of (P days) (Q s) one (alike days s folds.0) is_one,
+  count_of P Q alike list others rest folds.1 counted,
+  sum,
+)
+
+pairs_of : (R : DrawnDays → DrawnDays → Type 0) (T : Series → Series → Type 0)
+    → ((a b : DrawnDays) (s u : Series) → IsFoldOf a s → IsFoldOf b u → R a b ↔ T s u)
+    → (list : List DrawnDays) (others : List Series) (n : ℕ) → AreFoldsOf list others → IsCountOfPairs R list n → IsCountOfPairs T others n
+pairs_of R T alike [] [] n folds count = count
+pairs_of R T alike [] (s ∷ others) n folds count = absurd folds
+pairs_of R T alike (days ∷ list) [] n folds count = absurd folds
+pairs_of R T alike (days ∷ list) (s ∷ others) n folds (first, rest, row, counted, sum) = (
+  first,
+  rest,
+  count_of (R days) (T s) (λ b u g. alike days b s u folds.0 g) list others first folds.1 row,
+  pairs_of R T alike list others rest folds.1 counted,
+  sum,
+)
+
+yes_pairs : (question : Question) (list : List DrawnDays) (others : List Series) (n : ℕ) → AreFoldsOf list others
+    → IsCountOfPairs (λ a b. IsYes question (stands a) (stands b)) list n → IsCountOfPairs (λ s u. IsYes question (Occurs s) (Occurs u)) others n
+yes_pairs question list others n folds count =
+    pairs_of (λ a b. IsYes question (stands a) (stands b)) (λ s u. IsYes question (Occurs s) (Occurs u)) (yes_alike question) list others n folds count
+
+folds_length : (list : List DrawnDays) (others : List Series) → AreFoldsOf list others → length list ≡ length others
+folds_length [] [] folds = refl
+folds_length [] (s ∷ others) folds = absurd folds
+folds_length (days ∷ list) [] folds = absurd folds
+folds_length (days ∷ list) (s ∷ others) folds = ap suc (folds_length list others folds.1)
+
+list_length : (n x : ℕ) → length (series_list n x) ≡ n
+unfolding series_list
+list_length zero x = refl
+list_length (suc n) x = ap suc (list_length n (after_series x))
+
+pub folds_count : (list : List DrawnDays) (seed count : ℕ) → AreFoldsOf list (drawn_series seed count) → length list ≡ count
+folds_count list seed count folds = folds_length list (drawn_series seed count) folds ∙ list_length count _
+
+pub summary_of : (list : List DrawnDays) (others : List Series) (summary : Summary) → AreFoldsOf list others → IsSummaryOf stands list summary
+    → IsSummary others summary
+summary_of list others summary folds s =
+    let size = folds_length list others folds in
+    record {
+      series = s.series ∙ size;
+      pairs = subst (λ n. summary.pairs ≡ n * (n - 1) / 2) size s.pairs;
+      equal = yes_pairs Equal list others _ folds s.equal;
+      within =
+          (s.within.0, s.within.1, yes_pairs Within list others _ folds s.within.2, yes_pairs Around list others _ folds s.within.3, s.within.4);
+      disjoint = yes_pairs Disjoint list others _ folds s.disjoint;
+    }
+
+-- ---- one series after the other
+
+-- with what is still to be drawn, the days stand for all
+abbrev pub StandFor : List DrawnDays → ℕ → ℕ → List Series → Type 0
+StandFor list left x all = (rest : List DrawnDays) → AreFoldsOf rest (series_list left x) → AreFoldsOf (list ++ rest) all
+
+pub one_more : (list : List DrawnDays) (left left' x x' : ℕ) (all : List Series) (days : DrawnDays) → StandFor list left x all → left ≡ suc left'
+    → IsFoldOf days (series_from x) → x' ≡ after_series x → StandFor (list ++ days ∷ []) left' x' all
+unfolding series_list
+one_more list left left' x x' all days before e fold same = λ rest folds.
+    (let moved : AreFoldsOf rest (series_list left' (after_series x)) = subst (λ y. AreFoldsOf rest (series_list left' y)) same folds in
+    let whole : AreFoldsOf (list ++ (days ∷ rest)) all =
+    before (days ∷ rest) (subst (λ n. AreFoldsOf (days ∷ rest) (series_list n x)) (sym e) (fold, moved)) in
+    subst (λ l. AreFoldsOf l all) (sym (append_assoc list (days ∷ []) rest)) whole)
+
+pub all_drawn : (list : List DrawnDays) (left x : ℕ) (all : List Series) → StandFor list left x all → left ≡ 0 → AreFoldsOf list all
+unfolding series_list
+all_drawn list left x all before e =
+    subst (λ l. AreFoldsOf l all) (append-nil list) (before [] (subst (λ n. AreFoldsOf [] (series_list n x)) (sym e) tt))

@@ -1,0 +1,12 @@
+use Rattle.std.proofs.Common.{refl, subst, inr}
+use Rattle.rr_drill.specs.Folds.{stands}
+use Rattle.rr_drill.specs.Question.{IsVerdictTo}
+use Rattle.rr_drill.proofs.FoldLemmas.{not_yes}
+use Rattle.rr_drill.proofs.counting.one_where_yes.Goals as goal
+
+pub returns-in-No-clause-count : goal.returns-in-No-clause-count
+returns-in-No-clause-count c =
+    let P = stands c.args.a.now in
+    let Q = stands c.args.b.now in
+    let no = subst (IsVerdictTo c.args.question P Q) c.in-No.is c.verdict.ensures in
+    inr ((λ yes. not_yes c.args.question P Q c.in-No.kind c.in-No.at c.in-No.side no yes), refl)
