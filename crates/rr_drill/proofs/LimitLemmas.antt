@@ -1,5 +1,5 @@
 -- A series that is drawn goes beyond no limit.
-use Rattle.std.proofs.Common.{◌≡◌, ◌≢◌, ℕ, zero, suc, ◌+◌, ◌<◌, ◌≤◌, true, None, Some, List, [], ◌∷◌, length, get_or, All, refl, sym, ap, subst, ◌∙◌, inl, inr, arith}
+use Rattle.std.proofs.Common.{◌≡◌, ◌≢◌, ℕ, zero, suc, ◌≤◌, Some, List, [], ◌∷◌, length, get_or, All, refl, sym, ap, subst, ◌∙◌, inl, inr, arith}
 use Rattle.std.specs.Prelude.{◌⊎◌, AllPairs, ℤ}
 use Rattle.rr_fold.proofs.KindLemmas.{is_time_set, stands_second, tree_of_kind}
 use Rattle.rr_fold.specs.Judged.{all_limits}
@@ -12,7 +12,7 @@ use Rattle.rr_model.specs.Sets.Tree.{Tree, IsOfKind, stands_at}
 use Rattle.rr_model.specs.declared.kind.Kind.TheVariants.{Days}
 use Rattle.rr_model.specs.declared.refusal.Refusal.{Refusal}
 use Rattle.rr_model.specs.declared.rule.Rule.{Rule}
-use Rattle.rr_drill.specs.Draws.{next_state, drawn_rule, series_from}
+use Rattle.rr_drill.specs.Draws.{series_from}
 use Rattle.rr_drill.proofs.CycleLemmas.{cycle_short, series_cycle_drawn}
 use Rattle.rr_drill.proofs.SeriesLemmas.{drawn_sound}
 

@@ -1,5 +1,5 @@
 -- A rule of a frequency, an interval and a week start alone chooses its own start, where that is a date.
-use Rattle.std.proofs.Common.{◌≡◌, ℕ, ◌+◌, ◌<◌, ◌≤◌, ◌%◌, Bool, true, false, ◌&&◌, ◌||◌, ◌==◌, List, [], ◌∷◌, ℤ, pos, ◌-ℤ◌, refl, ap, arith}
+use Rattle.std.proofs.Common.{◌≡◌, ℕ, ◌≤◌, ◌%◌, Bool, true, false, ◌&&◌, ◌||◌, ◌==◌, [], ◌∷◌, ℤ, pos, ◌-ℤ◌, refl, ap, arith}
 use Rattle.std.specs.Ordering.{int_eq}
 use Rattle.std.proofs.lemmas.Int.{ints}
 use Rattle.std.proofs.lemmas.Bool.Decides.{nat_tests}
@@ -42,17 +42,15 @@ divides_none n u h =
 five : (a b c d e : Bool) → a ≡ true → b ≡ true → c ≡ true → d ≡ true → e ≡ true → (a && b && c && d && e) ≡ true
 five a b c d e p q r s t = rw (p, q, r, s, t) refl
 
-weekday_held : (freq : Freq) (n w : ℕ) (start : ℤ) → freq ≡ Weekly → by_day_holds (filled (plain Weekly n w) Days start) start ≡ true
-weekday_held freq n w start f =
-    let e : (weekday_of start == weekday_of start) ≡ true = grind (arith, nat_tests) in
-    ap (λ (b : Bool). (b && true) || false) e
+weekday_held : (n w : ℕ) (start : ℤ) → by_day_holds (filled (plain Weekly n w) Days start) start ≡ true
+weekday_held n w start = let e : (weekday_of start == weekday_of start) ≡ true = grind (arith, nat_tests) in ap (λ (b : Bool). (b && true) || false) e
 
 dates_hold : (freq : Freq) (n w : ℕ) (start : ℤ) → date_parts_hold (filled (plain freq n w) Days start) start ≡ true
 dates_hold Secondly n w start = refl
 dates_hold Minutely n w start = refl
 dates_hold Hourly n w start = refl
 dates_hold Daily n w start = refl
-dates_hold Weekly n w start = weekday_held Weekly n w start refl
+dates_hold Weekly n w start = weekday_held n w start
 dates_hold Monthly n w start =
     let r : Rule = filled (plain Monthly n w) Days start in
     five (by_month_holds r start) (by_week_no_holds r start) (by_year_day_holds r start) (by_month_day_holds r start) (by_day_holds r start)

@@ -1,5 +1,5 @@
 -- How many members of a list meet a condition, and how many pairs of them stand in a relation.
-use Rattle.std.specs.Prelude.{◌≡◌, ◌⊎◌, ℕ, suc, ◌+◌, List, [], ◌∷◌}
+use Rattle.std.specs.Prelude.{◌≡◌, ◌⊎◌, ℕ, ◌+◌, List, [], ◌∷◌}
 
 -- one where the condition holds, else none
 abbrev pub IsOneWhere : Type 0 → ℕ → Type 0

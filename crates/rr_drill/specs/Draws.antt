@@ -1,5 +1,5 @@
 -- The series that are drawn from a number, one after the other.
-use Rattle.std.specs.Prelude.{ℕ, zero, suc, ◌+◌, ◌*◌, ◌/◌, ◌%◌, ◌==◌, true, if◌then◌else◌, List, [], ◌∷◌, ℤ, pos}
+use Rattle.std.specs.Prelude.{◌≡◌, ℕ, zero, suc, ◌+◌, ◌*◌, ◌/◌, ◌%◌, ◌==◌, true, if◌then◌else◌, List, [], ◌∷◌, ℤ, pos}
 use Rattle.rr_model.specs.Rule.Plain.{plain_rule}
 use Rattle.rr_model.specs.declared.kind.Kind.TheVariants.{Days}
 use Rattle.rr_model.specs.declared.rule.Freq.{Freq}
@@ -87,3 +87,7 @@ series_list (suc n) x = series_from x ∷ series_list n (after_series x)
 -- the series that are drawn from a seed
 abbrev pub drawn_series : ℕ → ℕ → List Series
 drawn_series seed count = series_list count (seed % 2_147_483_648)
+
+-- the series is drawn from some state
+abbrev pub IsDrawn : Series → Type 0
+IsDrawn series = (x : ℕ) × (series ≡ series_from x)

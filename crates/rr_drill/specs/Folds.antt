@@ -1,11 +1,10 @@
 -- Series that are drawn, each as days.
-use Rattle.std.specs.Prelude.{◌≡◌, ℕ, ⊤, List, [], ◌∷◌}
+use Rattle.std.specs.Prelude.{⊤, List, [], ◌∷◌}
 use Rattle.rr_model.specs.Moment.{Occurrences}
 use Rattle.rr_model.specs.Series.Occurrences.{Occurs}
 use Rattle.rr_model.specs.Sets.Sketch.{StandsFor, StandsIn}
 use Rattle.rr_model.specs.declared.rule.Series.{Series}
 use Rattle.rr_fold.specs.Sequence.{sketch}
-use Rattle.rr_drill.specs.Draws.{series_from}
 use Rattle.rr_drill.specs.declared.drawn_days.DrawnDays.{DrawnDays}
 
 -- what stands in the days
@@ -22,7 +21,3 @@ AreFoldsOf [] [] = ⊤
 AreFoldsOf (days ∷ rest) (series ∷ others) = IsFoldOf days series × AreFoldsOf rest others
 AreFoldsOf [] (series ∷ others) = ⊥
 AreFoldsOf (days ∷ rest) [] = ⊥
-
--- the series is drawn from some state
-abbrev pub IsDrawn : Series → Type 0
-IsDrawn series = (x : ℕ) × (series ≡ series_from x)

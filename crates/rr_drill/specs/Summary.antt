@@ -1,5 +1,5 @@
 -- How many verdicts on the pairs of a list of series are yes.
-use Rattle.std.specs.Prelude.{◌≡◌, ℕ, ◌*◌, ◌-◌, ◌/◌, List, length}
+use Rattle.std.specs.Prelude.{◌≡◌, ◌*◌, ◌-◌, ◌/◌, List, length}
 use Rattle.rr_model.specs.Moment.{Occurrences}
 use Rattle.rr_model.specs.Series.Occurrences.{Occurs}
 use Rattle.rr_model.specs.Sets.Verdict.{IsDisjointVerdict, IsEqualVerdict, IsWithinVerdict}

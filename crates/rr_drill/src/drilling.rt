@@ -1,7 +1,7 @@
 // The drill: series drawn from a number, and the verdicts on their pairs.
 ghost use Rattle.std.specs.Prelude.{◌≡◌, ◌≤◌, IfOk};
-ghost use Rattle.rr_drill.specs.Draws.{after_series, drawn_series, series_from};
-ghost use Rattle.rr_drill.specs.Folds.{AreFoldsOf, IsDrawn, IsFoldOf};
+ghost use Rattle.rr_drill.specs.Draws.{IsDrawn, after_series, drawn_series, series_from};
+ghost use Rattle.rr_drill.specs.Folds.{AreFoldsOf, IsFoldOf};
 ghost use Rattle.rr_drill.specs.Summary.{IsSummary};
 
 use crate::Summary;

@@ -1,4 +1,6 @@
-use Rattle.std.proofs.Common.{◌≡◌, ◌-◌, ◌+◌, ◌++◌, [], ◌∷◌, suc, subst, sym, arith}
+use Rattle.std.proofs.Common.{◌≡◌, ◌-◌, ◌+◌, suc, subst, sym, arith}
+use Rattle.std.specs.Prelude.{List}
+use Rattle.rr_drill.specs.declared.drawn_days.DrawnDays.{DrawnDays}
 use Rattle.rr_drill.specs.Draws.{drawn_series}
 use Rattle.rr_drill.proofs.FoldLemmas.{StandFor, all_drawn, one_more}
 use Rattle.rr_drill.proofs.drilling.drawn_days.Goals as goal
@@ -11,7 +13,7 @@ loop-place-preserved c =
     let all = drawn_series c.args.seed c.args.count in
     let more = one_more c.loop-place.days.items left after c.loop-place.draws.state c.next_days.new.draws.state all c.in_ok-next_days.field-0
     c.loop-place.invariant one c.in_ok-next_days.ensures.days c.next_days.ensures.state in
-    subst (λ l. StandFor l after c.next_days.new.draws.state all) (sym c.in_ok-push.ensures.items) more
+    subst (λ l. StandFor l after c.next_days.new.draws.state all) (sym {A = List DrawnDays} c.in_ok-push.ensures.items) more
 
 pub returns : goal.returns
 returns c =

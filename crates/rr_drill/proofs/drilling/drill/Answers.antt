@@ -1,4 +1,4 @@
-use Rattle.std.proofs.Common.{◌≡◌, ◌∙◌, ap, length, subst, arith}
+use Rattle.std.proofs.Common.{ap, length, subst, arith}
 use Rattle.rr_drill.specs.Draws.{drawn_series}
 use Rattle.rr_drill.specs.Folds.{stands}
 use Rattle.rr_drill.specs.Summary.{IsSummaryOf}
