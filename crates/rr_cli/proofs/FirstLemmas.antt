@@ -1,5 +1,5 @@
 -- The first of a set: that there is one list of them, and when a list of what comes before a day has them.
-use Rattle.std.proofs.Common.{◌≡◌, ◌⊎◌, ℕ, zero, suc, ◌+◌, ◌<◌, ◌≤◌, ℤ, pos, ◌≤ℤ◌, ◌<ℤ◌, List, [], ◌∷◌, ◌++◌, length, get_or, take, All, Contains, inl, inr}
+use Rattle.std.proofs.Common.{◌≡◌, ◌⊎◌, ℕ, zero, suc, ◌<◌, ◌≤◌, ℤ, pos, ◌≤ℤ◌, ◌<ℤ◌, List, [], ◌∷◌, ◌++◌, length, get_or, take, All, Contains, inl, inr}
 use Rattle.std.proofs.Common.{sym, subst, ◌∙◌, arith, length-append}
 use Rattle.std.specs.Prelude.{IsTrue, int_lt}
 use Rattle.std.proofs.lemmas.Int.{ints, by_lt_z}
