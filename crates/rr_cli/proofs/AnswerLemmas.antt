@@ -9,7 +9,9 @@ use Rattle.rr_model.specs.declared.refusal.Refusal.{Refusal}
 use Rattle.rr_model.specs.declared.rule.Series.{Series}
 use Rattle.rr_model.specs.declared.verdict.Side.TheVariants.{A, B}
 use Rattle.rr_translate.specs.Translated.{limits_of}
-use Rattle.rr_cli.specs.Answer.{AnswerIsOne, IsCanonSaid, IsInferenceSaid, IsListSaid, IsSaidOfOne, IsTranslationSaid, IsVerdictAnswer, cycle_said}
+use Rattle.rr_cli.specs.Answer.{AnswerIsOne, IsCanonSaid, IsInferenceSaid, IsListSaid, IsSaidOfOne, IsTranslationSaid, IsVerdictAnswer, cycle_said, summary_said}
+use Rattle.rr_drill.specs.Draws.{drawn_series}
+use Rattle.rr_drill.specs.Summary.{SummaryIsOne}
 use Rattle.rr_cli.specs.Command.{of_two, of_one, drill}
 use Rattle.rr_cli.specs.Judgement.{cycle_limit, list_limits}
 use Rattle.rr_cli.specs.Listing.{ListsFirst, listed_text}
@@ -31,7 +33,7 @@ listed_is_one count series x y p q =
     let same = first_is_one (Occurs series series.kind) count p.times q.times p.are_first q.are_first in
     p.lines ∙ ap (listed_text series.kind) same ∙ sym q.lines
 
-module _ (one : FirstRefusalIsOne) where
+module _ (one : FirstRefusalIsOne) (one_summary : SummaryIsOne) where
   verdict_answer_is_one :
       (question : Question) (a b : Result Series Refusal) (x y : Answer) → IsVerdictAnswer question a b x → IsVerdictAnswer question a b y → x ≡ y
   verdict_answer_is_one question a b =
@@ -52,4 +54,5 @@ module _ (one : FirstRefusalIsOne) where
   answer_is_one None bytes x y p q = p ∙ sym q
   answer_is_one (Some (of_two question a b)) bytes x y p q = verdict_answer_is_one question (operand_read a bytes.0) (operand_read b bytes.1) x y p q
   answer_is_one (Some (of_one task a)) bytes x y p q = said_of_one_is_one task (operand_read a bytes) x y p q
-  answer_is_one (Some (drill seed count)) bytes x y p q = p ∙ sym q
+  answer_is_one (Some (drill seed count)) bytes x y p q =
+      p.is_said ∙ ap summary_said (one_summary (drawn_series seed count) p.summary q.summary p.is_summary q.is_summary) ∙ sym q.is_said

@@ -2,7 +2,7 @@
 -- It is no function, since a verdict speaks of all whole numbers. That there is one answer alone is a law.
 use Rattle.std.specs.Prelude.{◌≡◌, ◌↔◌, ℕ, List, ◌++◌, codes, Option, Some, None, Result, Ok}
 use Rattle.std.specs.Fmt.{decimal}
-use Rattle.rr_cli.specs.Command.{Command, Contents, Operand, of_two, of_one, drill, usage_text}
+use Rattle.rr_cli.specs.Command.{Command, Contents, Operand, of_two, of_one, drill}
 use Rattle.rr_cli.specs.Judgement.{cycle_limit, list_limits}
 use Rattle.rr_cli.specs.Listing.{ListsFirst}
 use Rattle.rr_cli.specs.OperandReading.{operand_read}
@@ -14,6 +14,9 @@ use Rattle.rr_model.specs.Series.Occurrences.{Occurs}
 use Rattle.rr_model.specs.Sets.DescriptorText.{descriptor_text}
 use Rattle.rr_model.specs.Sets.Printable.{IsTextOf}
 use Rattle.rr_model.specs.Sets.Verdict.{HaveEqualOccurrences}
+use Rattle.rr_drill.specs.Draws.{drawn_series}
+use Rattle.rr_drill.specs.Summary.{IsSummary}
+use Rattle.rr_drill.specs.declared.summary.Summary.{Summary}
 use Rattle.rr_translate.specs.Translated.{HasNoRule, HasNoWords, IsInferredText, IsTranslation, limits_of}
 use Rattle.rr_cli.specs.declared.command.Question.{Question}
 use Rattle.rr_cli.specs.declared.command.Task.{Task}
@@ -50,9 +53,19 @@ IsTranslationSaid target series answer = IsDoneOrNotSayable (IsTranslation targe
 abbrev pub IsInferenceSaid : Series → Answer → Type 0
 IsInferenceSaid series answer = IsDoneOrNotSayable (IsInferredText (Occurs series)) (HasNoRule (Occurs series)) answer
 
--- what is said for now of a command whose answer is not stated yet
-abbrev pub unsaid : Answer
-unsaid = record { status = status.Yes; bytes = line usage_text }
+-- a summary of verdicts
+abbrev pub summary_said : Summary → Answer
+summary_said s = record {
+  status = status.Yes;
+  bytes = codes "series " ++ decimal s.series ++ codes " pairs " ++ decimal s.pairs ++ codes " equal " ++ decimal s.equal
+      ++ codes " within " ++ decimal s.within ++ codes " disjoint " ++ decimal s.disjoint ++ codes "\n";
+}
+
+-- `drill`: the summary of so many series that are drawn from the seed
+pub record IsDrillSaid (seed count : ℕ) (answer : Answer) : Type 0 where
+  pub summary : Summary
+  pub is_summary : IsSummary (drawn_series seed count) summary
+  pub is_said : answer ≡ summary_said summary
 
 -- what is said of what was read of one operand, by what is asked
 abbrev pub IsSaidOfOne : Task → Result Series Refusal → Answer → Type 0
@@ -67,7 +80,7 @@ abbrev pub IsAnswer : (command : Option Command) → Contents command → Answer
 IsAnswer None bytes answer = answer ≡ usage
 IsAnswer (Some (of_two question a b)) bytes answer = IsVerdictAnswer question (operand_read a bytes.0) (operand_read b bytes.1) answer
 IsAnswer (Some (of_one task a)) bytes answer = IsSaidOfOne task (operand_read a bytes) answer
-IsAnswer (Some (drill seed count)) bytes answer = answer ≡ unsaid
+IsAnswer (Some (drill seed count)) bytes answer = IsDrillSaid seed count answer
 
 -- ---- laws
 

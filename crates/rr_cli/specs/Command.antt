@@ -153,11 +153,11 @@ abbrev pub HasListCount : Task → Type 0
 HasListCount (task.List count) = (1 ≤ count) × (count ≤ MAX_LIST)
 HasListCount _ = ⊤
 
--- a seed has at most 32 bits, and series to draw are 1 to MAX_DRILL
+-- and series to draw are 1 to MAX_DRILL
 abbrev pub HasNumbers : Command → Type 0
 HasNumbers (of_two question a b) = ⊤
 HasNumbers (of_one task a) = HasListCount task
-HasNumbers (drill seed count) = (seed ≤ 4294967295) × (1 ≤ count) × (count ≤ MAX_DRILL)
+HasNumbers (drill seed count) = (1 ≤ count) × (count ≤ MAX_DRILL)
 
 -- the line that is said of words that are no command
 abbrev pub usage_text : List ℕ

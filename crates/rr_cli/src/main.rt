@@ -6,6 +6,7 @@ mod canon;
 mod check;
 mod command;
 mod conclusion;
+mod drilling;
 mod folding;
 mod laws;
 #[cfg(test)]

@@ -1,13 +1,11 @@
 // What a run says.
 ghost use Rattle.std.specs.Prelude.{◌≡◌, IfOk};
-ghost use Rattle.rr_cli.specs.Answer.{unsaid};
 ghost use Rattle.rr_cli.specs.Outcome.{IsDoneOrFault, IsFaultSaid, answer_of};
 ghost use Rattle.rr_cli.specs.Printable.{IsPrintable, IsPrintableAt};
 ghost use Rattle.rr_cli.specs.Said.{refused, said, side_text};
 ghost use Rattle.rr_model.specs.declared.verdict.Verdict.TheVariants as verdict;
 
 use crate::conclusion::Conclusion;
-use crate::words::USAGE;
 use rr_model::{Fault, Kind, NoMemory, Refusal, Side, Verdict};
 use rr_text::push_extended;
 use std::alloc::Global;
@@ -40,16 +38,6 @@ pub fn refused(alloc: Global, side: Side, refusal: Refusal) -> Result<Outcome, N
     Ok(Outcome {
         conclusion: Conclusion::Refused,
         text: text.into_bytes(),
-    })
-}
-
-/// What is said for now of a command whose answer is not stated yet.
-pub fn unsaid(alloc: Global) -> Result<Outcome, NoMemory>
-    ensures { IfOk result (λ x. answer_of x ≡ unsaid) }
-{
-    Ok(Outcome {
-        conclusion: Conclusion::Yes,
-        text: Vec::from_slice(alloc, USAGE)?,
     })
 }
 

@@ -228,7 +228,10 @@ fn drilling<'a>(words: &[&'a str]) -> Option<Command<'a>>
         [seed, count] => {
             let seed = number_of(0, u32::MAX as u64, seed)?;
             let count = number_of(1, MAX_DRILL, count)?;
-            Some(Command::Drill { seed, count })
+            Some(Command::Drill {
+                seed: seed as u32,
+                count: count as u32,
+            })
         }
         _ => None,
     }

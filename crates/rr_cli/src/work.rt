@@ -11,8 +11,9 @@ ghost use Rattle.rr_cli.specs.Run.{GainsOperand};
 use crate::canon::canon_outcome;
 use crate::check::check_outcome;
 use crate::command::{Command, Operand, Question, Task};
+use crate::drilling::drill_outcome;
 use crate::listing::list_outcome;
-use crate::outcome::{Outcome, unsaid};
+use crate::outcome::Outcome;
 use crate::translation::{inference_outcome, translation_outcome};
 use crate::verdicts::verdict_outcome;
 use rr_io::{FetchError, Source};
@@ -95,6 +96,6 @@ pub fn work_out<S: Source>(
     match command {
         Command::OfTwo { question, a, b } => of_two(alloc, question, a, b, source),
         Command::OfOne { task, a } => of_one(alloc, task, a, source),
-        Command::Drill { .. } => Ok(unsaid(alloc)?),
+        Command::Drill { seed, count } => Ok(drill_outcome(alloc, seed, count)?),
     }
 }
