@@ -20,6 +20,8 @@ mod tests;
 #[cfg(test)]
 mod text_tests;
 mod translation;
+#[cfg(test)]
+mod translation_tests;
 mod verdicts;
 mod words;
 mod work;
