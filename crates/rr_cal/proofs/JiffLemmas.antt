@@ -9,7 +9,7 @@ use Rattle.jiff_core.proofs.CalendarLemmas.{days_from_civil-day_count, day_count
 use Rattle.jiff_core.proofs.MarchLemmas.{day_count-early}
 use Rattle.jiff_core.specs.Date.{epoch_day, ordinal}
 use Rattle.jiff_core.specs.declared.civil.date.Date.{Date as Plain}
-use Rattle.rr_model.specs.Whole.{floor_div, floor_mod, divides}
+use Rattle.rr_model.specs.Whole.{divides}
 use Rattle.rr_model.specs.Calendar.{is_leap, days_in_month, days_in_year, days_of_months, first_day_of_year, day_number, IsDate, IsDayWithin, day_of_year}
 use Rattle.rr_model.specs.Calendar.{weekday_of, kind_of_year}
 use Rattle.rr_model.proofs.FloorLemmas.{floor_div-int, floor_mod-int}

@@ -1,5 +1,6 @@
 pub mod DayUnitLemmas
 pub mod JiffLemmas
 mod NearLemmas
+mod NextDayLemmas
 pub mod StretchLemmas
 mod UnitLemmas

@@ -59,6 +59,29 @@ mod tests {
             let week = week_of(day, 6);
             assert_eq!(rt; (week.year, week.number, week.last), from_sunday);
         }
+        // the day after the last day of a year, of 28 and of 29 February
+        let next_days = [
+            (19_722, (2024, 1, 1), (31, 1, 366, 0)),
+            (19_781, (2024, 2, 29), (29, 60, 366, 3)),
+            (19_782, (2024, 3, 1), (31, 61, 366, 4)),
+        ];
+        for (number, date, rest) in next_days {
+            assert!(rt; -FARTHEST <= number && number < FARTHEST);
+            let day = Day::new(number).next();
+            assert_eq!(rt;
+                (day.number, (day.year, day.month, day.day_of_month)),
+                (number + 1, date)
+            );
+            assert_eq!(rt;
+                (
+                    day.days_in_month,
+                    day.day_of_year,
+                    day.days_in_year,
+                    day.weekday
+                ),
+                rest
+            );
+        }
         for (year, kind) in [(2023, 6), (2024, 7), (2000, 12), (1900, 0), (-400, 12)] {
             assert_eq!(rt; year_kind(year), kind);
         }

@@ -1,10 +1,8 @@
-use Rattle.std.proofs.Common.{arith, rules, ◌≡◌, ◌∙◌, sym, ap, refl, pos, ◌+ℤ◌, ◌*ℤ◌, to_z, of_z, to_z-of_z, w8, w16, w32, w64, FitsSigned}
-use Rattle.std.proofs.lemmas.Int.{to_z_pos}
+use Rattle.std.proofs.Common.{arith, rules, ◌≡◌, ◌∙◌, sym, ap, refl, pos, ◌+ℤ◌, ◌*ℤ◌, to_z, of_z, to_z-of_z, w32, w64, FitsSigned}
 use Rattle.std.specs.Int.{int_div_euclid}
 use Rattle.jiff_core.specs.Date.{epoch_day}
 use Rattle.jiff_core.proofs.SignedLemmas.{signed_arith}
 use Rattle.rr_model.specs.Calendar.{day_number}
-use Rattle.rr_model.proofs.CalendarLemmas.{days_in_month_bounds}
 use Rattle.rr_cal.proofs.JiffLemmas.{day_number-moved, year_near_day}
 use Rattle.rr_cal.proofs.date.day_of_near.Goals as goal
 

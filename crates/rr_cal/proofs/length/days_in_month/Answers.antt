@@ -1,8 +1,8 @@
-use Rattle.std.proofs.Common.{arith, ◌≡◌, ◌∙◌, ap, ℕ, ◌+◌, ◌≤◌, ℤ, pos, ◌+ℤ◌, ◌*ℤ◌, w8, w16, w64, to_z, of_z, nat_abs, refl}
+use Rattle.std.proofs.Common.{arith, ◌≡◌, ◌∙◌, ap, ℕ, ℤ, pos, ◌+ℤ◌, ◌*ℤ◌, w8, w16, w64, to_z, of_z, nat_abs, refl}
 use Rattle.std.proofs.lemmas.Int.{to_z_pos}
 use Rattle.std.specs.Int.{int_div_euclid}
 use Rattle.jiff_core.proofs.SignedLemmas.{signed_arith}
-use Rattle.jiff_core.specs.Date.{month_length as length_of_month, IsYmd}
+use Rattle.jiff_core.specs.Date.{month_length as length_of_month}
 use Rattle.jiff_core.specs.declared.civil.date.Date.{Date as Plain}
 use Rattle.rr_model.specs.Calendar.{days_in_month}
 use Rattle.rr_model.proofs.CalendarLemmas.{days_in_month_bounds}
