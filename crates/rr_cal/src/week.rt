@@ -1,10 +1,9 @@
 // Weekdays, weeks and kinds of year.
 ghost use Rattle.std.specs.Prelude.{◌≡◌, ◌+◌, ◌/◌, ◌<◌, ◌≤◌};
-ghost use Rattle.rr_model.specs.Calendar.{days_into_year, IsDayWithin, kind_of_year, weekday_of};
+ghost use Rattle.rr_model.specs.Calendar.{day_number, days_into_year, IsDayWithin, kind_of_year, weekday_of, year_of};
 ghost use Rattle.rr_model.specs.Calendar.Week.{fourth_day, last_week, week_index, week_number, week_year};
 
 use crate::date::{CYCLE_YEARS, Date, date_of_near, day_of_near};
-use crate::length::day_of_year;
 use jiff::civil;
 
 /// A week: the year that it belongs to, its number there, and the number of that year's last week.
@@ -47,6 +46,11 @@ pub fn week_of(day: i64, week_start: u8) -> Week
 {
     let fourth = fourth_of_week(day, week_start);
     let year = date_of_near(fourth).year;
+    let first = day_of_near(Date {
+        year,
+        month: 1,
+        day: 1,
+    });
     let december_28 = day_of_near(Date {
         year,
         month: 12,
@@ -55,8 +59,8 @@ pub fn week_of(day: i64, week_start: u8) -> Week
     let last = fourth_of_week(december_28, week_start);
     Week {
         year,
-        number: number_of_week(fourth),
-        last: number_of_week(last),
+        number: number_of_week(fourth, first),
+        last: number_of_week(last, first),
     }
 }
 
@@ -70,12 +74,13 @@ fn fourth_of_week(day: i64, week_start: u8) -> i64
     fourth - (fourth - start).rem_euclid(7)
 }
 
-// The number of the week that has this fourth day.
-fn number_of_week(fourth: i64) -> u8
+// The number of the week that has this fourth day, where its year has this first day.
+fn number_of_week(fourth: i64, first: i64) -> u8
     requires near { IsDayWithin 2000 fourth }
+    requires first { first ≡ day_number (year_of fourth) 1 1 }
     ensures { result ≡ days_into_year fourth / 7 + 1 }
 {
-    ((day_of_year(date_of_near(fourth)) - 1) / 7 + 1) as u8
+    (fourth.abs_diff(first) / 7 + 1) as u8
 }
 
 /// The kind of a year, of which there are 14: the weekday of 1 January, plus 7 in a leap year. Any year.
