@@ -6,7 +6,7 @@ use Rattle.std.proofs.lemmas.Nat.{le-div}
 use Rattle.std.proofs.Math.Nat.{div-mul-le_self}
 use Rattle.std.proofs.lemmas.Bool.{cases_lt, false≢true}
 use Rattle.rr_model.specs.Whole.{floor_div, floor_mod, divides}
-use Rattle.rr_model.specs.Moment.{day_part, moment_at}
+use Rattle.rr_model.specs.Moment.{moment_at}
 use Rattle.rr_model.specs.Moment.Units.{unit_number}
 use Rattle.rr_model.specs.Rising.Sets.{IsSetOf}
 use Rattle.rr_model.specs.Rule.Filled.{hour_of, minute_of, second_of, filled}

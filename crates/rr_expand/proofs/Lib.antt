@@ -4,8 +4,13 @@ pub mod SetLemmas
 pub mod TimeLemmas
 pub mod UnitLemmas
 pub mod DaySets
+pub mod KeptMaskLemmas
+pub mod AllowedListLemmas
 pub mod CandidateDays
 pub mod FitLemmas
 pub mod StepSets
 pub mod UnitSets
 pub mod FinerLemmas
+pub mod MaskLemmas
+pub mod KeyLemmas
+pub mod KeyWeekLemmas

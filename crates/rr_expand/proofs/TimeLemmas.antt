@@ -1,16 +1,12 @@
 -- The seconds of a day that the time parts of a filled rule allow.
-use Rattle.std.proofs.Common.{◌≡◌, ℕ, ◌/◌, ◌%◌, ◌<◌, Bool, true, false, ◌&&◌, List, ℤ, pos, refl, ap, arith}
+use Rattle.std.proofs.Common.{◌≡◌, ℕ, ◌/◌, ◌%◌, ◌<◌, Bool, true, ◌&&◌, List, ℤ, pos, arith}
 use Rattle.std.specs.Prelude.{IsTrue, nat_lt}
 use Rattle.std.proofs.lemmas.List.Elements.{Contains-get_or}
-use Rattle.rr_model.specs.Moment.{second_part, moment_at}
 use Rattle.rr_model.specs.Rising.Sets.{IsSetOf, IsSecondsOfDay}
-use Rattle.rr_model.specs.Rule.Filled.{hour_of, minute_of, second_of, wants_hour, wants_minute, wants_second, filled_part, filled}
-use Rattle.rr_model.specs.Rule.Candidate.{allows, time_parts_hold}
+use Rattle.rr_model.specs.Rule.Filled.{hour_of, minute_of, second_of, filled_part, filled}
+use Rattle.rr_model.specs.Rule.Candidate.{allows}
 use Rattle.rr_model.specs.declared.kind.Kind.TheVariants.{Moments}
-use Rattle.rr_model.specs.declared.rule.Freq.{Freq}
-use Rattle.rr_model.specs.declared.rule.Freq.TheVariants.{Secondly, Minutely, Hourly, Daily, Weekly, Monthly, Yearly}
 use Rattle.rr_model.specs.declared.rule.Rule.{Rule}
-use Rattle.rr_model.proofs.WholeLemmas.{floor_only}
 use Rattle.rr_model.proofs.DaysAndTimesLemmas.{time_parts_hold-at, fills_times, and_true, and_parts}
 use Rattle.rr_model.proofs.RisingSetLemmas.{set_same}
 use Rattle.rr_model.specs.Rule.DaysAndTimes.{IsCandidateTime}
@@ -39,10 +35,10 @@ module _ (H M S : ℕ → Bool) (hs ms ss : List ℕ) (a : IsSetOf nat_lt hs (Pa
       ))
 
 -- a set of seconds below a day's is one of a day
-pub seconds_of_day : (xs : List ℕ) (P : ℕ → Type 0) → IsSetOf nat_lt xs (λ s. (s < 86_400) × P s) → IsSecondsOfDay xs
-seconds_of_day xs P set = record {
+pub below_a_day : (xs : List ℕ) (P : ℕ → Type 0) → ((s : ℕ) → P s → s < 86_400) → IsSetOf nat_lt xs P → IsSecondsOfDay xs
+below_a_day xs P low set = record {
   rises = set.rises;
-  below_a_day = λ k d l. ((set.exact _).0 (Contains-get_or xs k d l)).0;
+  below_a_day = λ k d l. low _ ((set.exact _).0 (Contains-get_or xs k d l));
 }
 
 -- for a rule of days these are its candidate times

@@ -1,2 +1,4 @@
 pub mod Expansion
 pub mod Spread
+pub mod KeptMasks
+pub mod Years

@@ -31,12 +31,29 @@ pub fn seconds_on(alloc: Global, rule: &Rule, start: i64, day: i64) -> Result<Ti
     if !date_parts_hold(rule, &start_day, &Day::new(day)) {
         return TimeSet::of(alloc, &[]);
     }
-    let seconds = fitting_seconds(alloc, rule, start, day)?;
+    fitting_seconds(alloc, rule, start, day)
+}
+
+/// The seconds of one day in units that fit the interval, at which the time parts hold; date parts are not asked. The rest is
+/// as in `seconds_on`.
+pub fn fitting_seconds(
+    alloc: Global,
+    rule: &Rule,
+    start: i64,
+    day: i64,
+) -> Result<TimeSet, NoMemory>
+    requires freq { is_whole_days rule.now.freq ≡ false }
+    requires interval { 1 ≤ rule.now.interval }
+    requires start { IsDayWithin 1000 (day_part Moments start) }
+    requires near { IsDayWithin 1000 day }
+    ensures { IfOk result (λ t. IsSetOf nat_lt t (IsFittingSecond rule.now start day)) }
+{
+    let seconds = fitting_list(alloc, rule, start, day)?;
     TimeSet::of(alloc, seconds.as_slice())
 }
 
-// The seconds of the day in units that fit the interval, at which the time parts hold.
-fn fitting_seconds(alloc: Global, rule: &Rule, start: i64, day: i64) -> Result<Vec<u32>, AllocError>
+// The same, second by second.
+fn fitting_list(alloc: Global, rule: &Rule, start: i64, day: i64) -> Result<Vec<u32>, AllocError>
     requires freq { is_whole_days rule.now.freq ≡ false }
     requires interval { 1 ≤ rule.now.interval }
     requires start { IsDayWithin 1000 (day_part Moments start) }

@@ -1,16 +1,22 @@
 //! Exactly the candidates of one unit of a rule (RFC 5545, section 3.3.10).
 #![tactic(auto)]
 
+mod allowed_days;
 mod day_times;
 mod finer;
 mod finer_units;
+mod laws;
 mod spread;
 #[cfg(test)]
 mod tests;
 mod time_parts;
 mod unit_days;
+mod year_masks;
 
+pub use allowed_days::AllowedDays;
 pub use day_times::times;
-pub use finer::seconds_on;
+pub use finer::{fitting_seconds, seconds_on};
 pub use finer_units::{first_fit, first_unit, unit_of, units_of_day};
+pub use laws::equal_keys_have_equal_masks;
 pub use unit_days::days;
+pub use year_masks::{YearMask, mask_key, year_mask};

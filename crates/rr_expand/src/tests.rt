@@ -1,4 +1,4 @@
-use crate::{days, seconds_on, times};
+use crate::{days, seconds_on, times, year_mask};
 use rr_model::{Freq, Kind, Rule};
 use std::test::Fail;
 
@@ -44,5 +44,32 @@ fn seconds_of_a_day(rt: HostRuntime) -> Result<(), Fail> {
         seconds_on(alloc, &rule, 873_190_800, 10_106)?.as_slice(),
         [7_200, 32_400, 57_600, 82_800].as_slice()
     );
+    Ok(())
+}
+
+#[test]
+#[tactic(auto, unfolding(rr_model::specs::Calendar::first_day_of_year))]
+fn mask_of_a_year(rt: HostRuntime) -> Result<(), Fail> {
+    let mut rule = Rule::new(rt.alloc(), Freq::Daily, 1);
+    rule.by_month_day.put(-1)?;
+    let mask = year_mask(&rule, 19_723, 2024);
+    let last_days = [
+        (0, Some(30)),
+        (31, Some(59)),
+        (60, Some(90)),
+        (91, Some(120)),
+        (121, Some(151)),
+        (152, Some(181)),
+        (182, Some(212)),
+        (213, Some(243)),
+        (244, Some(273)),
+        (274, Some(304)),
+        (305, Some(334)),
+        (335, Some(365)),
+        (366, None),
+    ];
+    for (from, last_day) in last_days {
+        assert_eq!(rt; mask.first_from(from, 384), last_day);
+    }
     Ok(())
 }

@@ -4,7 +4,7 @@ use Rattle.rr_model.specs.Rising.Sets.{IsSetOf}
 use Rattle.rr_model.specs.declared.kind.Kind.TheVariants.{Moments}
 use Rattle.rr_model.specs.Rule.DaysAndTimes.{IsCandidateTime}
 use Rattle.rr_expand.proofs.SetLemmas.{passed_below, ok_set}
-use Rattle.rr_expand.proofs.TimeLemmas.{candidate_times, seconds_of_day}
+use Rattle.rr_expand.proofs.TimeLemmas.{below_a_day, candidate_times}
 use Rattle.rr_expand.proofs.day_times.times_of_day.Goals as goal
 
 pub push_hours-requires-clause-hours : goal.push_hours-requires-clause-hours
@@ -27,7 +27,7 @@ times_set c =
     (candidate_times c.args.rule.now c.args.start c.in_ok-hours.hours.items c.in_ok-minutes.minutes.items c.in_ok-seconds.seconds.items c.requires hs ms ss)
 
 pub of-requires : goal.of-requires
-of-requires c = seconds_of_day _ _ (times_set c)
+of-requires c = below_a_day _ _ (λ s h. h.0) (times_set c)
 
 pub returns : goal.returns
 returns c = ok_set (IsCandidateTime c.args.rule.now Moments c.args.start) c.as_slice.result.now c.of.result

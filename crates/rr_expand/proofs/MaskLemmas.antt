@@ -1,0 +1,95 @@
+-- Bits of words: what a shift, a write and one test more tell of them.
+use Rattle.std.proofs.Common.{◌≡◌, ◌≢◌, ◌∙◌, sym, ap, refl, ℕ, ◌+◌, ◌-◌, ◌*◌, ◌/◌, ◌%◌, ◌^◌, ◌<◌, ◌≤◌, Bool, true, false, ◌&&◌, List, [], ◌∷◌, replicate, length, get_or, inl, inr, w64, arith}
+use Rattle.std.specs.Prelude.{◌==◌, bit_or, nat_lt, slice_set, Some, None}
+use Rattle.std.specs.Int.{bit_at, trailing_zeros}
+use Rattle.std.proofs.Math.Nat.{div-div-eq-div-mul, div-le_self}
+use Rattle.std.proofs.lemmas.Bool.{cases_eq, cases_lt}
+use Rattle.std.proofs.lemmas.Bool.Decides.{nat_tests}
+use Rattle.std.proofs.lemmas.List.{get_or-replicate, get_or-set_other, get_or-set_same}
+use Rattle.std.proofs.lemmas.Nat.{pow-add}
+use Rattle.std.proofs.lemmas.Nat.Bits.{bit_at-trailing_zeros, bit_at-zero, bit_at_above, bit_at_set_same, bit_at_set_other}
+use Rattle.rr_expand.specs.Years.{IsFirstBit, is_bit_set}
+
+-- the bits of `n >> j` are those of n from j on
+pub bit_at_shr : (n j i : ℕ) → bit_at (n / 2 ^ j) i ≡ bit_at n (j + i)
+bit_at_shr n j i = ap (λ m. m % 2) (div-div-eq-div-mul n (2 ^ j) (2 ^ i) ∙ ap (λ m. n / m) (sym (pow-add 2 j i)))
+
+module _ (words : List ℕ) (from i : ℕ) (word : i ≡ from / 64) where
+  -- what is left of the word of a place without the bits below the place's
+  abbrev pub rest_of_word : ℕ
+  rest_of_word = get_or words i 0 / 2 ^ (from % 64)
+
+  at_rest : (k : ℕ) → from ≤ k → k < (from / 64 + 1) * 64 → is_bit_set words k ≡ (bit_at rest_of_word (k - from) == 1)
+  at_rest k low high =
+      let same : k / 64 ≡ i = omega arith in
+      let place : k % 64 ≡ from % 64 + (k - from) = omega arith in
+      rw (same, place) (ap (λ b. b == 1) (sym (bit_at_shr (get_or words i 0) (from % 64) (k - from))))
+
+  -- where nothing is left no bit is set
+  pub no_bit_in_word : rest_of_word ≡ 0 → IsFirstBit words from ((from / 64 + 1) * 64) None
+  no_bit_in_word none k low high = at_rest k low high ∙ ap (λ b. b == 1) (ap (λ n. bit_at n (k - from)) none ∙ bit_at-zero (k - from))
+
+  -- and else the lowest that is left is the first
+  pub first_bit_in_word : get_or words i 0 < 2 ^ 64 → 0 < rest_of_word → IsFirstBit words from ((from / 64 + 1) * 64) (Some (from + trailing_zeros w64 rest_of_word))
+  first_bit_in_word fits some =
+      let t = trailing_zeros w64 rest_of_word in
+      let all = get_or words i 0 in
+      let bound : rest_of_word < 2 ^ 64 = omega (arith, div-le_self all (2 ^ (from % 64))) in
+      let lowest = bit_at-trailing_zeros w64 rest_of_word some bound in
+      let within : from % 64 + t < 64 = elim (cases_lt (from % 64 + t) 64) [
+        | inl l ↦ l
+        | inr g ↦ absurd (omega (arith, lowest.1, bit_at_shr all (from % 64) t, bit_at_above all 64 (from % 64 + t) fits g))
+      ] in
+      let high : from + t < (from / 64 + 1) * 64 = omega arith in
+      let low : from ≤ from + t = omega arith in
+      let back : from + t - from ≡ t = omega arith in (
+        low,
+        high,
+        at_rest (from + t) low high ∙ ap (λ j. bit_at rest_of_word j == 1) back ∙ ap (λ b. b == 1) lowest.1,
+        (λ k least below. at_rest k least (omega arith) ∙ ap (λ b. b == 1) (lowest.2 (k - from) (omega arith))),
+      )
+
+module _ (words : List ℕ) (place i : ℕ) (word : i ≡ place / 64) (within : i < length words) where
+  -- the words after `words[i] |= 1 << (place % 64)`
+  abbrev pub with_bit : List ℕ
+  with_bit = slice_set words i (bit_or (get_or words i 0) (1 * 2 ^ (place % 64) % 2 ^ 64))
+
+  below : place % 64 < 64
+  below = omega arith
+
+  pub is_bit_set-with_bit : is_bit_set with_bit place ≡ true
+  is_bit_set-with_bit =
+      let e : place / 64 ≡ i = sym word in
+      rw (e, get_or-set_same) (ap (λ b. b == 1) (bit_at_set_same w64 (get_or words i 0) (place % 64) below))
+
+  pub is_bit_set-with_other : (k : ℕ) → k ≢ place → is_bit_set with_bit k ≡ is_bit_set words k
+  is_bit_set-with_other k ne = elim (cases_eq (k / 64) i) [
+    | inl e ↦
+        (let apart : k % 64 ≢ place % 64 = λ s. ne (omega arith) in
+        rw (e, get_or-set_same) (ap (λ b. b == 1) (bit_at_set_other w64 (get_or words i 0) (place % 64) below (k % 64) apart)))
+    | inr n ↦ rw get_or-set_other refl
+  ]
+
+-- one test more: the bit at n is the test's, the others are as before
+pub bits_more : (words others : List ℕ) (test : ℕ → Bool) (n : ℕ) → ((k : ℕ) → k < 384 → is_bit_set words k ≡ (nat_lt k n && test k))
+    → is_bit_set others n ≡ test n → ((k : ℕ) → k ≢ n → is_bit_set others k ≡ is_bit_set words k)
+    → (k : ℕ) → k < 384 → is_bit_set others k ≡ (nat_lt k (n + 1) && test k)
+bits_more words others test n before here other k h = elim (cases_eq k n) [
+  | inl e ↦ rw e (grind (arith, nat_tests, here))
+  | inr ne ↦ other k ne ∙ before k h ∙ ap (λ b. b && test k) (let t : nat_lt k n ≡ nat_lt k (n + 1) = grind (arith, nat_tests) in t)
+]
+
+-- the same where the bit at n is not set yet and the test does not pass
+pub bits_same : (words : List ℕ) (test : ℕ → Bool) (n : ℕ) → n < 384 → ((k : ℕ) → k < 384 → is_bit_set words k ≡ (nat_lt k n && test k))
+    → test n ≡ false → (k : ℕ) → k < 384 → is_bit_set words k ≡ (nat_lt k (n + 1) && test k)
+bits_same words test n below before fails =
+    let none : nat_lt n n ≡ false = grind (arith, nat_tests) in
+    bits_more words words test n before (before n below ∙ ap (λ b. b && test n) none ∙ sym fails) (λ k ne. refl)
+
+-- with no test made no bit is set
+pub bits_none : (test : ℕ → Bool) (k : ℕ) → k < 384 → is_bit_set (0 ∷ 0 ∷ 0 ∷ 0 ∷ 0 ∷ 0 ∷ []) k ≡ (nat_lt k 0 && test k)
+bits_none test k h =
+    let zero : ℕ = 0 in
+    let none : get_or (replicate 6 zero) (k / 64) zero ≡ zero = get_or-replicate 6 (k / 64) zero zero (omega arith) in
+    let low : nat_lt k 0 ≡ false = grind (arith, nat_tests) in
+    rw (none, low) (ap (λ b. b == 1) (bit_at-zero (k % 64)))

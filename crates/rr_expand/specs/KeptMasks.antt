@@ -1,0 +1,55 @@
+-- Masks of years that are kept, and the year in which the last day lay that was asked for.
+use Rattle.std.specs.Prelude.{◌≡◌, Bool, true, false, not, ◌&&◌, List, length, get_or, Option, Some, None, ℤ, pos, nat_abs, ◌+ℤ◌, ◌-ℤ◌, ◌≤ℤ◌, ◌<ℤ◌}
+use Rattle.rr_model.specs.Calendar.{IsDayWithin}
+use Rattle.rr_model.specs.Rule.Validity.{is_absent}
+use Rattle.rr_model.specs.declared.rule.Rule.{Rule}
+use Rattle.rr_expand.specs.Years.{Filling, IsYearMask, allows_day, is_bit_set, mask_key}
+use Rattle.rr_expand.specs.declared.allowed_days.MaskedYear.{MaskedYear}
+use Rattle.rr_expand.specs.declared.allowed_days.KeptMasks.{KeptMasks}
+use Rattle.rr_expand.specs.declared.year_masks.YearMask.{YearMask}
+
+-- a place for each key, where a mask that is kept is that of every year of its key
+pub record AreMasks (f : Filling) (kept : List (Option YearMask)) : Type 0 where
+  pub places : length kept ≡ 56
+  pub masks : (year : ℤ) (mask : YearMask) → get_or kept (mask_key f.rule year) None ≡ Some mask → IsYearMask f year mask.bits
+
+-- ---- one year
+
+-- at most so many days as a year has, near enough for the calls
+pub record IsMaskedYear (year : MaskedYear) : Type 0 where
+  pub near : IsDayWithin 1000 year.first
+  pub ordered : year.first ≤ℤ year.next
+  pub short : year.next ≤ℤ (year.first +ℤ pos 366)
+
+-- the bit of a day of the year is set
+abbrev pub is_marked : MaskedYear → ℤ → Bool
+is_marked year d = is_bit_set year.mask.bits (nat_abs (d -ℤ year.first))
+
+-- of the year's days from one on and before another the first whose bit is set
+abbrev pub IsFirstMarked : MaskedYear → ℤ → ℤ → Option ℤ → Type 0
+IsFirstMarked year from end None = (d : ℤ) → from ≤ℤ d → d <ℤ end → d <ℤ year.next → is_marked year d ≡ false
+IsFirstMarked year from end (Some day) =
+    (from ≤ℤ day) × (day <ℤ end) × (day <ℤ year.next) × (is_marked year day ≡ true) × ((d : ℤ) → from ≤ℤ d → d <ℤ day → is_marked year d ≡ false)
+
+-- ---- a rule's years
+
+-- the masks that are kept are those of the rule's years, and so is that of the year looked at
+pub record AreKeptMasks (f : Filling) (masks : KeptMasks) : Type 0 where
+  pub kept : AreMasks f masks.kept.items
+  pub year : IsMaskedYear masks.year
+  pub marked : (d : ℤ) → masks.year.first ≤ℤ d → d <ℤ masks.year.next → is_marked masks.year d ≡ allows_day f d
+
+-- where there are no masks every day is allowed
+abbrev pub TellDays : Filling → Option KeptMasks → Type 0
+TellDays f None = (d : ℤ) → allows_day f d ≡ true
+TellDays f (Some masks) = AreKeptMasks f masks
+
+-- the same of a start that is near enough
+pub record AreMasksOf (f : Filling) (masks : Option KeptMasks) : Type 0 where
+  pub near : IsDayWithin 1000 f.start_day
+  pub days : TellDays f masks
+
+-- a date part is present
+abbrev pub has_date_part : Rule → Bool
+has_date_part rule =
+    not (is_absent rule.by_month && is_absent rule.by_week_no && is_absent rule.by_year_day && is_absent rule.by_month_day && is_absent rule.by_day)

@@ -1,0 +1,54 @@
+-- The days of a year that the date parts of a rule allow, as bits, and the key of a year that tells them.
+use Rattle.std.specs.Prelude.{◌≡◌, ℕ, ◌+◌, ◌/◌, ◌%◌, ◌^◌, ◌<◌, ◌≤◌, ◌==◌, Bool, true, false, ◌&&◌, if◌then◌else◌, List, get_or, nat_lt, Option, Some, None, ℤ, pos, ◌+ℤ◌, ◌-ℤ◌, ◌≤ℤ◌, ◌<ℤ◌}
+use Rattle.rr_model.specs.Calendar.{days_in_year, first_day_of_year, is_leap, kind_of_year}
+use Rattle.rr_model.specs.Rule.Candidate.{date_parts_hold}
+use Rattle.rr_model.specs.Rule.Filled.{filled}
+use Rattle.rr_model.specs.Rule.Validity.{is_absent}
+use Rattle.rr_model.specs.declared.kind.Kind.TheVariants.{Days}
+use Rattle.rr_model.specs.declared.rule.Rule.{Rule}
+
+-- a rule, and the day of the start that its date parts are filled from
+pub record Filling : Type 0 where
+  pub rule : Rule
+  pub start_day : ℤ
+
+-- each date part of the filled rule holds of the day (RFC 5545, section 3.3.10)
+abbrev pub allows_day : Filling → ℤ → Bool
+allows_day f d = date_parts_hold (filled f.rule Days f.start_day) d
+
+-- day k of the year, from 0, lies in the year and is allowed
+abbrev pub allows_place : Filling → ℤ → ℕ → Bool
+allows_place f year k = nat_lt k (days_in_year year) && allows_day f (first_day_of_year year +ℤ pos k)
+
+-- the bit of a place, counted from the lowest bit of the first of words of 64 bits
+abbrev pub is_bit_set : List ℕ → ℕ → Bool
+is_bit_set words k = (get_or words (k / 64) 0 / 2 ^ (k % 64) % 2) == 1
+
+-- the bits are those of the allowed days of the year
+abbrev pub IsYearMask : Filling → ℤ → List ℕ → Type 0
+IsYearMask f year words = (k : ℕ) → k < 384 → is_bit_set words k ≡ allows_place f year k
+
+-- of places from one on and below another the first whose bit is set
+abbrev pub IsFirstBit : List ℕ → ℕ → ℕ → Option ℕ → Type 0
+IsFirstBit words from end None = (k : ℕ) → from ≤ k → k < end → is_bit_set words k ≡ false
+IsFirstBit words from end (Some place) =
+    (from ≤ place) × (place < end) × (is_bit_set words place ≡ true) × ((k : ℕ) → from ≤ k → k < place → is_bit_set words k ≡ false)
+
+-- What a year's mask depends on: its kind, of which there are 14, and, where BYWEEKNO is present, whether the years before and
+-- after it are leap, since a week at either end of a year can belong to the year beside it.
+abbrev pub mask_key : Rule → ℤ → ℕ
+mask_key rule year =
+    kind_of_year year
+    + (if is_absent rule.by_week_no then 0
+    else ((if is_leap (year -ℤ pos 1) then 14 else 0) + (if is_leap (year +ℤ pos 1) then 28 else 0)))
+
+-- Years of equal keys have the same days allowed.
+abbrev pub EqualKeysHaveEqualMasks : Type 0
+EqualKeysHaveEqualMasks =
+    (f : Filling) (year other : ℤ) → mask_key f.rule year ≡ mask_key f.rule other → (k : ℕ) → allows_place f year k ≡ allows_place f other k
+
+-- of the days from one on and before another the first that is allowed
+abbrev pub IsFirstAllowed : Filling → ℤ → ℤ → Option ℤ → Type 0
+IsFirstAllowed f from end None = (d : ℤ) → from ≤ℤ d → d <ℤ end → allows_day f d ≡ false
+IsFirstAllowed f from end (Some day) =
+    (from ≤ℤ day) × (day <ℤ end) × (allows_day f day ≡ true) × ((d : ℤ) → from ≤ℤ d → d <ℤ day → allows_day f d ≡ false)

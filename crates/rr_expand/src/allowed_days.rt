@@ -1,0 +1,249 @@
+// The days that the date parts of a rule allow, found by masks of years.
+ghost use Rattle.std.specs.Prelude.{◌≡◌, IfOk, OnOk, false, int_lt, pos, true, ◌+ℤ◌, ◌≤ℤ◌, ◌<ℤ◌, ℤ};
+ghost use Rattle.rr_model.specs.Calendar.{IsDayWithin, first_day_of_year};
+ghost use Rattle.rr_model.specs.Rising.Sets.{IsSetOf};
+ghost use Rattle.rr_expand.specs.Expansion.{IsAllowedDay};
+ghost use Rattle.rr_expand.specs.Years.{Filling, IsFirstAllowed, IsYearMask, allows_day};
+ghost use Rattle.rr_expand.specs.KeptMasks.{AreMasks, AreKeptMasks, IsFirstMarked, IsMaskedYear, TellDays, has_date_part};
+
+use crate::year_masks::{YearMask, mask_key, year_mask};
+use rr_cal::{Date, date_of, day_of, days_in_year};
+use rr_model::{Freq, NoMemory, Rule};
+use std::alloc::{AllocError, Global};
+use std::marker::Model;
+
+// How many keys of years there are.
+const KEYS: usize = 56;
+
+/// The days that the date parts of a rule allow, filled from the day of its start (RFC 5545, section 3.3.10).
+///
+/// A year's days are found by a mask, of which there are at most 56, each made at its first use and kept. Where no date
+/// part is present or filled every day is allowed, and no date is computed.
+#[derive(Drop)]
+pub struct AllowedDays {
+    rule: Rule,
+    start_day: i64,
+    masks: Option<KeptMasks>,
+}
+
+impl Model for AllowedDays {
+    ghost use Rattle.rr_expand.specs.Years.{Filling};
+    ghost use Rattle.rr_expand.specs.KeptMasks.{AreMasksOf};
+
+    ghost Value = { Filling };
+
+    ghost view = { λ s. record { rule = s.rule; start_day = s.start_day } };
+
+    ghost invariant = { λ s. AreMasksOf (record { rule = s.rule; start_day = s.start_day }) s.masks };
+}
+
+// Masks of years, at the place of each key, and the year in which the last day lay that was asked for.
+#[derive(Drop)]
+struct KeptMasks {
+    kept: Vec<Option<YearMask>>,
+    year: MaskedYear,
+}
+
+// The days of a year, from its first one on and before the next year's, and its mask. At first it has no day.
+#[derive(Clone, Copy)]
+struct MaskedYear {
+    first: i64,
+    next: i64,
+    mask: YearMask,
+}
+
+impl AllowedDays {
+    /// Of a rule beside the day of its start, in days since 1970-01-01. No mask is made yet.
+    pub fn new(alloc: Global, rule: &Rule, start_day: i64) -> Result<Self, NoMemory>
+        requires { IsDayWithin 1000 start_day }
+        ensures { IfOk result (λ a. a ≡ record { rule = rule.now; start_day = start_day }) }
+    {
+        let rule = rule.copy(alloc)?;
+        let masks = masks_for(alloc, &rule)?;
+        Ok(AllowedDays {
+            rule,
+            start_day,
+            masks,
+        })
+    }
+
+    /// The first allowed day from one on and before another. It takes no memory.
+    pub fn first_from(&mut self, from: i64, end: i64) -> Option<i64>
+        requires from { IsDayWithin 0 from }
+        requires end { IsDayWithin 0 end }
+        ensures same { self.new ≡ self.old }
+        ensures first { IsFirstAllowed self.old from end result }
+    {
+        self.first_near(from, end)
+    }
+
+    // As `first_from`, somewhat farther.
+    fn first_near(&mut self, from: i64, end: i64) -> Option<i64>
+        requires from { IsDayWithin 400 from }
+        requires end { IsDayWithin 400 end }
+        ensures same { self.new ≡ self.old }
+        ensures first { IsFirstAllowed self.old from end result }
+    {
+        match &mut self.masks {
+            None => first_of_all(from, end),
+            Some(masks) => masks.first_from(&self.rule, self.start_day, from, end),
+        }
+    }
+
+    /// Puts the allowed days, of so many from the first one on, in place of those of a list.
+    pub fn list(&mut self, first: i64, count: u16, days: &mut Vec<i64>) -> Result<(), NoMemory>
+        requires first { IsDayWithin 400 first }
+        requires last { IsDayWithin 400 (first +ℤ pos count) }
+        ensures same { self.new ≡ self.old }
+        ensures listed { OnOk result (IsSetOf int_lt days.new.items (IsAllowedDay self.old.rule self.old.start_day first count)) }
+    {
+        days.clear();
+        let end = first + i64::from(count);
+        let mut from = first;
+        while let Some(day) = self.first_near(from, end) {
+            days.push(day)?;
+            from = day + 1;
+        }
+        Ok(())
+    }
+}
+
+impl KeptMasks {
+    // A place for each key, and no mask.
+    fn new(alloc: Global) -> Result<Self, AllocError>
+        ensures { IfOk result (λ m. (f : Filling) → AreKeptMasks f m) }
+    {
+        let mut kept = Vec::new(alloc);
+        for _ in 0..KEYS {
+            kept.push(None)?;
+        }
+        Ok(KeptMasks {
+            kept,
+            year: MaskedYear {
+                first: 0,
+                next: 0,
+                mask: YearMask { bits: [0; 6] },
+            },
+        })
+    }
+
+    // The first day from one on and before another that the rule allows, year by year.
+    fn first_from(&mut self, rule: &Rule, start_day: i64, from: i64, end: i64) -> Option<i64>
+        requires start { IsDayWithin 1000 start_day }
+        requires from { IsDayWithin 400 from }
+        requires end { IsDayWithin 400 end }
+        requires known { AreKeptMasks (record { rule = rule.now; start_day = start_day }) self.old }
+        ensures known { AreKeptMasks (record { rule = rule.now; start_day = start_day }) self.new }
+        ensures first { IsFirstAllowed (record { rule = rule.now; start_day = start_day }) from end result }
+    {
+        let mut day = from;
+        while day < end {
+            self.enter_year_of(rule, start_day, day);
+            if let Some(found) = self.year.first_from(day, end) {
+                return Some(found);
+            }
+            day = self.year.next;
+        }
+        None
+    }
+
+    // Turns to the year of a day.
+    fn enter_year_of(&mut self, rule: &Rule, start_day: i64, day: i64)
+        requires start { IsDayWithin 1000 start_day }
+        requires near { IsDayWithin 400 day }
+        requires known { AreKeptMasks (record { rule = rule.now; start_day = start_day }) self.old }
+        ensures known { AreKeptMasks (record { rule = rule.now; start_day = start_day }) self.new }
+        ensures begun { self.new.year.first ≤ℤ day }
+        ensures not_over { day <ℤ self.new.year.next }
+    {
+        if self.year.first <= day && day < self.year.next {
+            return;
+        }
+        let year = date_of(day).year;
+        let first = day_of(Date {
+            year,
+            month: 1,
+            day: 1,
+        });
+        let mask = mask_of(&mut self.kept, rule, start_day, year);
+        self.year = MaskedYear {
+            first,
+            next: first + i64::from(days_in_year(year)),
+            mask,
+        };
+    }
+}
+
+impl MaskedYear {
+    // Of the year's days from one on and before another the first whose bit is set.
+    fn first_from(&self, from: i64, end: i64) -> Option<i64>
+        requires year { IsMaskedYear self.now }
+        requires begun { self.now.first ≤ℤ from }
+        requires not_over { from <ℤ self.now.next }
+        requires some { from ≤ℤ end }
+        ensures { IsFirstMarked self.now from end result }
+    {
+        let end = end.min(self.next);
+        let place = self
+            .mask
+            .first_from((from - self.first) as u16, (end - self.first) as u16)?;
+        Some(self.first + i64::from(place))
+    }
+}
+
+// The mask of a year, made at the first use of its key.
+fn mask_of(kept: &mut Vec<Option<YearMask>>, rule: &Rule, start_day: i64, year: i64) -> YearMask
+    requires start { IsDayWithin 1000 start_day }
+    requires first { IsDayWithin 1000 (first_day_of_year year) }
+    requires next { IsDayWithin 1000 (first_day_of_year (year +ℤ pos 1)) }
+    requires kept { AreMasks (record { rule = rule.now; start_day = start_day }) kept.old.items }
+    ensures kept { AreMasks (record { rule = rule.now; start_day = start_day }) kept.new.items }
+    ensures mask { IsYearMask (record { rule = rule.now; start_day = start_day }) year result.bits }
+{
+    let key = usize::from(mask_key(rule, year));
+    if let Some(mask) = kept[key] {
+        return mask;
+    }
+    let mask = year_mask(rule, start_day, year);
+    kept[key] = Some(mask);
+    mask
+}
+
+// Masks for the rule, or none where it allows every day.
+fn masks_for(alloc: Global, rule: &Rule) -> Result<Option<KeptMasks>, AllocError>
+    ensures { IfOk result (λ m. (start : ℤ) → TellDays (record { rule = rule.now; start_day = start }) m) }
+{
+    if restricts_days(rule) {
+        Ok(Some(KeptMasks::new(alloc)?))
+    } else {
+        Ok(None)
+    }
+}
+
+// Whether a date part of the rule is present, or filled from its start: that of a week, a month or a year always is.
+fn restricts_days(rule: &Rule) -> bool
+    ensures { (start d : ℤ) → result ≡ false → allows_day (record { rule = rule.now; start_day = start }) d ≡ true }
+{
+    match rule.freq {
+        Freq::Weekly | Freq::Monthly | Freq::Yearly => true,
+        _ => has_date_part(rule),
+    }
+}
+
+// Whether a date part is present.
+fn has_date_part(rule: &Rule) -> bool
+    ensures { result ≡ has_date_part rule.now }
+{
+    !(rule.by_month.is_empty()
+        && rule.by_week_no.is_empty()
+        && rule.by_year_day.is_empty()
+        && rule.by_month_day.is_empty()
+        && rule.by_day.is_empty())
+}
+
+// The first day from one on and before another.
+fn first_of_all(from: i64, end: i64) -> Option<i64>
+    ensures { (f : Filling) → ((d : ℤ) → allows_day f d ≡ true) → IsFirstAllowed f from end result }
+{
+    if from < end { Some(from) } else { None }
+}

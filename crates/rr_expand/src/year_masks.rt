@@ -1,0 +1,125 @@
+// The days of a year that the date parts of a rule allow, as bits.
+ghost use Rattle.std.specs.Prelude.{◌≡◌, ◌≢◌, ℕ, ◌+◌, ◌*◌, ◌/◌, ◌<◌, ◌≤◌, ◌+ℤ◌, ◌&&◌, nat_lt, pos, true, if◌then◌else◌};
+ghost use Rattle.rr_model.specs.Calendar.{IsDayWithin, first_day_of_year, is_leap};
+ghost use Rattle.rr_expand.specs.Years.{IsFirstBit, IsYearMask, allows_day, is_bit_set, mask_key};
+
+use rr_cal::{Date, Day, day_of, days_in_year, year_kind};
+use rr_model::Rule;
+use rr_setpos::date_parts_hold;
+
+/// The days of a year that the date parts of a rule allow (RFC 5545, section 3.3.10), a bit for each: bit `k`, counted
+/// from the lowest bit of the first word, is that of day `k` of the year, where 1 January is day 0.
+#[derive(Clone, Copy)]
+pub struct YearMask {
+    /// The bits; those from the year's length on are 0.
+    pub bits: [u64; 6],
+}
+
+impl YearMask {
+    /// The first day from one on and before another, counted in the year from 0, whose bit is 1. Words of which no bit is
+    /// set are passed over at once.
+    pub fn first_from(&self, from: u16, end: u16) -> Option<u16>
+        requires { end ≤ 384 }
+        ensures { IsFirstBit self.now.bits from end result }
+    {
+        let mut next = from;
+        while next < end {
+            if let Some(place) = self.first_in_word(next) {
+                return if place < end { Some(place) } else { None };
+            }
+            next = (next / 64 + 1) * 64;
+        }
+        None
+    }
+
+    // The first day from one on whose bit is 1, of those that have their bits in one word.
+    fn first_in_word(&self, from: u16) -> Option<u16>
+        requires { from < 384 }
+        ensures { IsFirstBit self.now.bits from ((from / 64 + 1) * 64) result }
+    {
+        let rest = self.bits[usize::from(from / 64)] >> (from % 64);
+        if rest == 0 {
+            None
+        } else {
+            Some(from + rest.trailing_zeros() as u16)
+        }
+    }
+
+    // Sets the bit of a day, counted in the year from 0.
+    fn set(&mut self, place: u16)
+        requires { place < 384 }
+        ensures same { is_bit_set self.new.bits place ≡ true }
+        ensures other { (k : ℕ) → k ≢ place → is_bit_set self.new.bits k ≡ is_bit_set self.old.bits k }
+    {
+        self.bits[usize::from(place / 64)] |= 1 << (place % 64);
+    }
+}
+
+/// The mask of a year: the days at which every date part of the rule holds, filled from the day of its start. INTERVAL and
+/// BYSETPOS are not asked. Days are counted since 1970-01-01. Within `MAX_DAY` every year is near enough.
+pub fn year_mask(rule: &Rule, start_day: i64, year: i64) -> YearMask
+    requires start { IsDayWithin 1000 start_day }
+    requires first { IsDayWithin 1000 (first_day_of_year year) }
+    requires next { IsDayWithin 1000 (first_day_of_year (year +ℤ pos 1)) }
+    ensures { IsYearMask (record { rule = rule.now; start_day = start_day }) year result.bits }
+{
+    mask_from(
+        rule,
+        &Day::new(start_day),
+        new_year(year),
+        days_in_year(year),
+    )
+}
+
+// The mask of so many days from the first on.
+fn mask_from(rule: &Rule, start: &Day, first: Day, count: u16) -> YearMask
+    requires count { count ≤ 384 }
+    requires last { IsDayWithin 1000 (first.number +ℤ pos count) }
+    ensures { (k : ℕ) → k < 384
+        → is_bit_set result.bits k ≡ (nat_lt k count && allows_day (record { rule = rule.now; start_day = start.now.number }) (first.number +ℤ pos k)) }
+{
+    let mut mask = YearMask { bits: [0; 6] };
+    let mut day = first;
+    for place in 0..count {
+        if date_parts_hold(rule, start, &day) {
+            mask.set(place);
+        }
+        day = day.next();
+    }
+    mask
+}
+
+// The first day of a year.
+fn new_year(year: i64) -> Day
+    requires { IsDayWithin 1000 (first_day_of_year year) }
+    ensures { result.number ≡ first_day_of_year year }
+{
+    let date = Date {
+        year,
+        month: 1,
+        day: 1,
+    };
+    Day::new(day_of(date))
+}
+
+/// The key of a year, below 56: years of one key have the same mask. It is the kind of the year, and with BYWEEKNO 14 more
+/// where the year before is leap, and 28 more where the year after is. Any year but the first and the last of `i64`.
+pub fn mask_key(rule: &Rule, year: i64) -> u8
+    requires { IsDayWithin 0 year }
+    ensures value { result ≡ mask_key rule.now year }
+    ensures below { result < 56 }
+{
+    let kind = year_kind(year);
+    if rule.by_week_no.is_empty() {
+        kind
+    } else {
+        kind + if_leap(year - 1, 14) + if_leap(year + 1, 28)
+    }
+}
+
+// So much where the year is leap, and 0 where it is not.
+fn if_leap(year: i64, more: u8) -> u8
+    ensures { result ≡ (if is_leap year then more else 0) }
+{
+    if days_in_year(year) == 366 { more } else { 0 }
+}
