@@ -5,6 +5,7 @@ use Rattle.std.specs.Prelude.{Option, Some, None, IfSome, int_lt}
 use Rattle.std.specs.List.{All}
 use Rattle.std.proofs.lemmas.Int.{ints}
 use Rattle.std.proofs.lemmas.List.Elements.{All-nil}
+use Rattle.std.proofs.lemmas.Option.{slice_get-get_or}
 use Rattle.rr_model.specs.Moment.{day_part, second_part}
 use Rattle.rr_model.specs.Sets.Sketch.{HasRisingDays, IsDaySequence, IsEmptySketch, IsFirstDay, IsTimeSet, StandsIn, times_in, times_on}
 use Rattle.rr_model.specs.Sets.Verdict.{HaveEqualOccurrences}
@@ -21,6 +22,7 @@ use Rattle.rr_word.proofs.OccupiedLemmas.{sketch_from, sketch_from_bounded, sket
 use Rattle.rr_word.proofs.OccupiedLemmas.{equal_by_times}
 use Rattle.rr_word.proofs.OneLeastLemmas.{none_on}
 use Rattle.rr_word.proofs.SetNumberLemmas.{IsKnown, all_known, All-front, All-back}
+use Rattle.rr_word.specs.Stretches.{IsStretch}
 use Rattle.rr_word.specs.Numbered.{number_in, numbered, shapes_of}
 use Rattle.rr_word.specs.declared.numbered.NumberedDay.{NumberedDay}
 use Rattle.rr_word.proofs.NumberedLemmas.{times_of, times_by_number, AllKnown, shapes_of-numbered, numbered_stays_of, numbers_within, with_sets_of-append}
@@ -39,6 +41,21 @@ times_kept kind sets before settled period cycle day =
       | true ↦ sym (times_by_number sets before day)
       | false ↦ sym (times_by_number sets cycle place)
     ]
+
+-- the number of a day is that of its set
+pub stretch_kept : (kind : Kind) (sets : List (List ℕ)) (before : List NumberedDay) (settled : ℤ) (period : ℕ) (cycle : List NumberedDay) (day : ℤ)
+    (r : Option ℕ) → r ≡ number_kept before settled period cycle day → IfSome r (λ n. n < length sets)
+    → IsStretch sets (sketch_of kind sets before settled period cycle) day r []
+stretch_kept kind sets before settled period cycle day None e within = record {
+  of_day = sym (ap (times_of sets) e ∙ times_kept kind sets before settled period cycle day);
+  of_later = λ k l. absurd (omega arith);
+}
+stretch_kept kind sets before settled period cycle day (Some n) e within = record {
+  of_day =
+      slice_get-get_or sets n [] within
+      ∙ ap (λ (x : List ℕ). Some x) (ap (times_of sets) e ∙ times_kept kind sets before settled period cycle day);
+  of_later = λ k l. absurd (omega arith);
+}
 
 if_some : (r : Option ℕ) (P : ℕ → Type 0) → ((n : ℕ) → r ≡ Some n → P n) → IfSome r P
 if_some None P h = tt

@@ -10,7 +10,7 @@ ghost use Rattle.rr_canon.specs.Kept.{IsKept, sketch_of};
 use crate::sets::TimeSets;
 use crate::stretch::{days_between, number_days};
 use rr_model::{Kind, NoMemory};
-use rr_word::{DaySeq, NumberedDays, least_period, least_start};
+use rr_word::{DaySeq, NumberedDays, Stretch, least_period, least_start};
 use std::alloc::Global;
 
 /// The least sketch of a set: its least period, from its least start on.
@@ -50,6 +50,8 @@ impl DaySeq for LeastSeq {
 
     ghost sketch = { λ l. least_sketch l };
 
+    ghost sets = { λ l. l.sets };
+
     ghost bounded = { λ l. IsDaySequence-bounded (least_sketch l) l.bounded };
 
     fn kind(&self) -> Kind {
@@ -73,6 +75,17 @@ impl DaySeq for LeastSeq {
             None => &[],
             Some(number) => self.sets.times(number),
         }
+    }
+
+    fn stretch(&self, day: i64) -> Stretch<'_> {
+        Stretch {
+            first: self.number_on(day),
+            rest: &[],
+        }
+    }
+
+    fn times(&self, number: u32) -> &[u32] {
+        self.sets.times(number)
     }
 }
 

@@ -2,5 +2,6 @@ pub mod EveryLemmas
 pub mod MergeLemmas
 pub mod OrderLemmas
 pub mod QuestionLemmas
+pub mod QuietLemmas
 pub mod StandsLemmas
 pub mod WindowLemmas

@@ -1,8 +1,8 @@
 -- For how many days past both settled days a question is to be asked.
-use Rattle.std.proofs.Common.{◌≡◌, inl, inr, ℕ, ◌+◌, ◌≤◌, Bool, List, ℤ, pos, ◌+ℤ◌, ◌≤ℤ◌, refl, sym, subst, arith}
+use Rattle.std.proofs.Common.{◌≡◌, inl, inr, ℕ, ◌+◌, min, ◌≤◌, Bool, List, ℤ, pos, ◌+ℤ◌, ◌≤ℤ◌, refl, sym, subst, arith}
 use Rattle.std.specs.List.{Contains}
 use Rattle.std.specs.Prelude.{nat_lt}
-use Rattle.std.proofs.lemmas.Bool.{false≢true}
+use Rattle.std.proofs.lemmas.Bool.{cases_lt, false≢true}
 use Rattle.std.proofs.lemmas.Int.{ints, by_lt_z}
 use Rattle.rr_model.specs.Whole.Divisors.{lcm}
 use Rattle.rr_model.specs.Rising.{Rises}
@@ -54,23 +54,15 @@ every_day shows s u from last to n e window ns nu ls lu fl is walked d =
     by_lt_z {P = P} d last (λ l. walked d after (omega (arith, ints))) (λ g.
     window last ls lu (λ x low high. walked x (omega (arith, ints)) (omega (arith, ints))) d g))
 
--- ---- a walk, one more day
+-- ---- a walk
 
-pub none_one_more : (shows : Side → Bool) (s u : Sketch) (from day : ℤ) (k : ℕ) (xs ys : List ℕ) → day ≡ from +ℤ pos k → xs ≡ times_on s day
-    → ys ≡ times_on u day → ShowsNoneWithin shows s u from (from +ℤ pos k) → ShowsNone shows xs ys → ShowsNoneWithin shows s u from (from +ℤ pos (k + 1))
-none_one_more shows s u from day k xs ys e ex ey before here d low high =
-    let P : Type 0 = ShowsNone shows (times_on s d) (times_on u d) in
-    by_lt_z {P = P} d day (λ l. before d low (omega (arith, ints))) (λ g.
-    let i : d ≡ day = omega (arith, ints) in
-    rw i (rw (← ex, ← ey) here))
-
-pub first_one : (shows : Side → Bool) (s u : Sketch) (from from' day : ℤ) (k x : ℕ) (side : Side) (xs ys : List ℕ) → from' ≡ from → day ≡ from +ℤ pos k
-    → xs ≡ times_on s day → ys ≡ times_on u day → ShowsNoneWithin shows s u from' (from' +ℤ pos k) → IsFirstShown shows xs ys x side
-    → IsFirstDayShown shows s u from day x side
-first_one shows s u from from' day k x side xs ys ef e ex ey before here = record {
+pub first_one : (shows : Side → Bool) (s u : Sketch) (from from' day day' : ℤ) (k x : ℕ) (side : Side) → from' ≡ from → day ≡ from +ℤ pos k → day' ≡ day
+    → ShowsNoneWithin shows s u from' (from' +ℤ pos k) → IsFirstShown shows (times_on s day) (times_on u day) x side
+    → IsFirstDayShown shows s u from day' x side
+first_one shows s u from from' day day' k x side ef e ed before here = record {
   not_before = omega (arith, ints);
   none_earlier = λ d low high. before d (omega (arith, ints)) (omega (arith, ints));
-  on_day = rw (← ex, ← ey) here;
+  on_day = rw ed here;
 }
 
 pub none_to_end : (shows : Side → Bool) (s u : Sketch) (from from' : ℤ) (k n : ℕ) → from' ≡ from → n ≤ k → ShowsNoneWithin shows s u from' (from' +ℤ pos k)
@@ -82,9 +74,6 @@ rising_list s d xs v e = rw e (rising_on s d v)
 
 -- ---- windows as the code has them
 
-pub equal_window_of : (s u : Sketch) (p r : ℕ) → IsValidSketch s → IsValidSketch u → p ≡ s.period → r ≡ u.period → IsWindow (shown_by Equal) s u (p + r)
-equal_window_of s u p r vs vu ep er = rw (ep, er) (equal_window s u vs vu)
-
 pub lcm_window : (shows : Side → Bool) (s u : Sketch) (p r c : ℕ) → IsValidSketch s → IsValidSketch u → p ≡ s.period → r ≡ u.period → c ≡ lcm p r
     → IsWindow shows s u c
 lcm_window shows s u p r c vs vu ep er ec =
@@ -95,3 +84,12 @@ lcm_window shows s u p r c vs vu ep er ec =
       of_first = multiple.0;
       of_second = multiple.1;
     }))
+
+-- the lesser of both windows for equality
+pub least_equal_window : (s u : Sketch) (p r c : ℕ) → IsValidSketch s → IsValidSketch u → p ≡ s.period → r ≡ u.period → c ≡ min (p + r) (lcm p r)
+    → IsWindow (shown_by Equal) s u c
+least_equal_window s u p r c vs vu ep er ec =
+    elim (cases_lt (lcm p r) (p + r)) [
+      | inl l ↦ lcm_window (shown_by Equal) s u p r c vs vu ep er (omega arith)
+      | inr g ↦ (let is : c ≡ s.period + u.period = omega arith in rw is (equal_window s u vs vu))
+    ]

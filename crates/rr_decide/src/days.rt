@@ -1,10 +1,14 @@
 // A walk over the days of two sequences.
-ghost use Rattle.std.specs.Prelude.{◌≡◌, ◌≤◌, IfSome, IfNone, pos, ◌+ℤ◌, ◌≤ℤ◌};
+ghost use Rattle.std.specs.Prelude.{◌≡◌, ◌<◌, ◌≤◌, [], IfSome, IfNone, MatchOption, Some, length, slice_get, pos, ◌+ℤ◌, ◌≤ℤ◌};
 ghost use Rattle.rr_model.specs.Sets.Sketch.{IsNearDay, StandsIn};
+ghost use Rattle.rr_word.specs.Stretches.{IsNumberOn};
+ghost use Rattle.rr_decide.specs.Look.{IsFirstOn, IsLook};
 ghost use Rattle.rr_decide.specs.Question.{AreApart, HasNoneBefore, IsFirstDayShown, ShowsNoneWithin, shown_by};
+ghost use Rattle.rr_decide.specs.Quiet.{IsQuiet};
 
 use crate::merge::first_shown;
 use crate::question::Question;
+use crate::quiet::{Quiet, are_remembered, count_remembered, remember};
 use rr_model::Side;
 use rr_word::DaySeq;
 
@@ -33,13 +37,82 @@ pub fn first_day_shown<A: DaySeq, B: DaySeq>(
     ensures some { IfSome result (λ r. IsFirstDayShown (shown_by question) (A.sketch a.now) (B.sketch b.now) from r.day r.second r.side) }
     ensures high { IfSome result (λ r. r.day ≤ℤ pos 3_000_000_000_000) }
 {
-    for k in 0..days {
+    let mut quiet = None;
+    let mut k = 0;
+    while k < days {
         let day = from + k as i64;
-        if let Some((second, side)) = first_shown(question, a.at(day), b.at(day)) {
-            return Some(Shown { day, second, side });
+        let of_a = a.stretch(day);
+        let of_b = b.stretch(day);
+        match look_at_day(question, a, b, day, of_a.first, of_b.first, quiet) {
+            Look::Shows(shown) => return Some(shown),
+            Look::Quiet(remembered) => quiet = remembered,
         }
+        let left = (days - k - 1) as usize;
+        k += 1 + count_remembered(quiet, of_a.rest, of_b.rest, left) as u64;
     }
     None
+}
+
+// What a day shows.
+enum Look {
+    // The first second that shows that the answer is no.
+    Shows(Shown),
+    // Nothing; and what is remembered after it.
+    Quiet(Option<Quiet>),
+}
+
+// What a day shows, by the numbers of its sets.
+fn look_at_day<A: DaySeq, B: DaySeq>(
+    question: Question,
+    a: &A,
+    b: &B,
+    day: i64,
+    of_a: Option<u32>,
+    of_b: Option<u32>,
+    quiet: Option<Quiet>,
+) -> Look
+    requires first { IsNumberOn (A.sets a.now) (A.sketch a.now) day of_a }
+    requires second { IsNumberOn (B.sets b.now) (B.sketch b.now) day of_b }
+    requires quiet { IsQuiet (shown_by question) (A.sets a.now) (B.sets b.now) quiet }
+    ensures { IsLook (shown_by question) (A.sets a.now) (B.sets b.now) (A.sketch a.now) (B.sketch b.now) day result }
+{
+    if are_remembered(quiet, of_a, of_b) {
+        return Look::Quiet(quiet);
+    }
+    match shown_on_day(question, a, b, day, of_a, of_b) {
+        Some(shown) => Look::Shows(shown),
+        None => Look::Quiet(remember(quiet, of_a, of_b)),
+    }
+}
+
+// The first second of a day that shows that the answer is no, by the numbers of its sets.
+fn shown_on_day<A: DaySeq, B: DaySeq>(
+    question: Question,
+    a: &A,
+    b: &B,
+    day: i64,
+    of_a: Option<u32>,
+    of_b: Option<u32>,
+) -> Option<Shown>
+    requires first { IsNumberOn (A.sets a.now) (A.sketch a.now) day of_a }
+    requires second { IsNumberOn (B.sets b.now) (B.sketch b.now) day of_b }
+    ensures { IsFirstOn (shown_by question) (A.sketch a.now) (B.sketch b.now) day result }
+{
+    match first_shown(question, seconds(a, of_a), seconds(b, of_b)) {
+        None => None,
+        Some((second, side)) => Some(Shown { day, second, side }),
+    }
+}
+
+// The seconds of the time set of a number; none without a number.
+fn seconds<S: DaySeq>(seq: &S, number: Option<u32>) -> &[u32]
+    requires { IfSome number (λ n. n < length (S.sets seq.now)) }
+    ensures { MatchOption number (result.now ≡ []) (λ n. slice_get (S.sets seq.now) n ≡ Some result.now) }
+{
+    match number {
+        None => &[],
+        Some(number) => seq.times(number),
+    }
 }
 
 /// How many days lie from one day to another.

@@ -1,5 +1,5 @@
 // The three verdicts on two sequences.
-ghost use Rattle.std.specs.Prelude.{◌≡◌, ◌≤◌};
+ghost use Rattle.std.specs.Prelude.{◌≡◌, ◌≤◌, ◌+◌, min};
 ghost use Rattle.rr_model.specs.Whole.Divisors.{lcm};
 ghost use Rattle.rr_model.specs.Sets.Sketch.{StandsIn};
 ghost use Rattle.rr_model.specs.Sets.Verdict.{IsDisjointVerdict, IsEqualVerdict, IsWithinVerdict};
@@ -15,12 +15,12 @@ use rr_word::DaySeq;
 ///
 /// A no names an occurrence up to the greatest day, 3,000,000,000,000.
 /// It reads no more days of each than there are from the first occupied day of both to the later settled day,
-/// and both periods together. It takes no memory.
+/// and then both periods together, or the least common multiple of the periods where that is less. It takes no memory.
 pub fn equal<A: DaySeq, B: DaySeq>(a: &A, b: &B) -> Verdict
     ensures verdict { IsEqualVerdict (StandsIn (A.sketch a.now)) (StandsIn (B.sketch b.now)) result }
     ensures day { NamesUpToMaxDay result }
 {
-    verdict(Question::Equal, a, b, a.period() + b.period())
+    verdict(Question::Equal, a, b, equal_days(a.period(), b.period()))
 }
 
 /// Whether each occurrence of the first set is one of the second; else the first that the second lacks, on side A.
@@ -54,6 +54,17 @@ pub fn disjoint<A: DaySeq, B: DaySeq>(a: &A, b: &B) -> Verdict
         b,
         common_cycle(a.period(), b.period()),
     )
+}
+
+// For how many days two sequences are to be equal, past both settled days, to be so for ever.
+fn equal_days(p: u64, r: u64) -> u64
+    requires first { 1 ≤ p }
+    requires second { 1 ≤ r }
+    requires few { p + r ≤ 2_000_000_000 }
+    ensures { result ≡ min (p + r) (lcm p r) }
+{
+    let both = p + r;
+    lcm_within(p, r, both).unwrap_or(both)
 }
 
 // After how many days two sequences repeat together.

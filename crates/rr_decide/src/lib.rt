@@ -6,6 +6,7 @@ mod decide;
 mod merge;
 mod occurrence;
 mod question;
+mod quiet;
 mod verdicts;
 
 pub use decide::{disjoint, equal, within};

@@ -4,7 +4,7 @@ ghost use Rattle.rr_model.specs.Sets.Sketch.{IsNearDay};
 
 use crate::{disjoint, equal, within};
 use rr_model::{Kind, Side, Verdict};
-use rr_word::DaySeq;
+use rr_word::{DaySeq, Stretch};
 
 // Every so many days from a start, each at second 0, or nothing.
 #[derive(Clone, Copy)]
@@ -19,9 +19,12 @@ struct Every {
 }
 
 impl DaySeq for Every {
+    ghost use Rattle.std.specs.Prelude.{[], ◌∷◌};
     ghost use Rattle.rr_decide.specs.Every.{every, IsDaySequence-every};
 
     ghost sketch = { λ s. every s.kind s.start s.step s.some };
+
+    ghost sets = { λ s. (0 ∷ []) ∷ [] };
 
     ghost bounded = { λ s. IsDaySequence-every s.kind s.start s.step s.some s.near s.steps s.few };
 
@@ -47,6 +50,35 @@ impl DaySeq for Every {
         } else {
             &[]
         }
+    }
+
+    fn stretch(&self, day: i64) -> Stretch<'_> {
+        Stretch {
+            first: self.number_on(day),
+            rest: &[],
+        }
+    }
+
+    fn times(&self, _number: u32) -> &[u32] {
+        &[0]
+    }
+}
+
+impl Every {
+    ghost use Rattle.std.specs.Prelude.{[], ◌∷◌, pos, neg_ℤ, ◌≤ℤ◌};
+    ghost use Rattle.rr_word.specs.Stretches.{IsNumberOn, IsStretch};
+    ghost use Rattle.rr_decide.specs.Every.{every};
+
+    // The number of the one set, on a day that has it.
+    fn number_on(&self, day: i64) -> Option<u32>
+        requires low { neg_ℤ (pos 3_000_000_000_000) ≤ℤ day }
+        requires high { day ≤ℤ pos 3_000_000_000_000 }
+        ensures { IsNumberOn ((0 ∷ []) ∷ []) (every self.now.kind self.now.start self.now.step self.now.some) day result }
+    {
+        if self.some && day >= self.start && (day - self.start) as u64 % self.step == 0 {
+            return Some(0);
+        }
+        None
     }
 }
 

@@ -4,7 +4,7 @@ ghost use Rattle.rr_model.specs.Sets.Sketch.{IsNearDay};
 
 use crate::find;
 use rr_model::{End, FamilyKind, Item, Kind};
-use rr_word::DaySeq;
+use rr_word::{DaySeq, Stretch};
 use std::test::Fail;
 
 // Monday, 1 January 2024.
@@ -24,11 +24,13 @@ struct Every {
 }
 
 impl DaySeq for Every {
-    ghost use Rattle.std.specs.Prelude.{true};
+    ghost use Rattle.std.specs.Prelude.{true, [], ◌∷◌};
     ghost use Rattle.rr_decide.specs.Every.{every, IsDaySequence-every};
     ghost use Rattle.rr_model.specs.declared.kind.Kind.TheVariants.{Days};
 
     ghost sketch = { λ s. every Days s.start s.step true };
+
+    ghost sets = { λ s. (0 ∷ []) ∷ [] };
 
     ghost bounded = { λ s. IsDaySequence-every Days s.start s.step true s.near s.steps s.few };
 
@@ -54,6 +56,36 @@ impl DaySeq for Every {
         } else {
             &[]
         }
+    }
+
+    fn stretch(&self, day: i64) -> Stretch<'_> {
+        Stretch {
+            first: self.number_on(day),
+            rest: &[],
+        }
+    }
+
+    fn times(&self, _number: u32) -> &[u32] {
+        &[0]
+    }
+}
+
+impl Every {
+    ghost use Rattle.std.specs.Prelude.{true, [], ◌∷◌, pos, neg_ℤ, ◌≤ℤ◌};
+    ghost use Rattle.rr_word.specs.Stretches.{IsNumberOn, IsStretch};
+    ghost use Rattle.rr_decide.specs.Every.{every};
+    ghost use Rattle.rr_model.specs.declared.kind.Kind.TheVariants.{Days};
+
+    // The number of the one set, on a day that has it.
+    fn number_on(&self, day: i64) -> Option<u32>
+        requires low { neg_ℤ (pos 3_000_000_000_000) ≤ℤ day }
+        requires high { day ≤ℤ pos 3_000_000_000_000 }
+        ensures { IsNumberOn ((0 ∷ []) ∷ []) (every Days self.now.start self.now.step true) day result }
+    {
+        if day >= self.start && (day - self.start) as u64 % self.step == 0 {
+            return Some(0);
+        }
+        None
     }
 }
 

@@ -17,7 +17,7 @@ use rr_check::{Checked, admit};
 use rr_iter::ends;
 use rr_model::{Fault, Kind};
 use rr_shapes::Shapes;
-use rr_word::DaySeq;
+use rr_word::{DaySeq, Stretch};
 use std::alloc::Global;
 
 /// The occurrences of a series, as one number of a time set for each day up to a cycle past its settled day.
@@ -117,6 +117,8 @@ impl DaySeq for Folded {
 
     ghost sketch = { λ f. sketch f };
 
+    ghost sets = { λ f. f.shapes };
+
     ghost bounded = { λ f. IsDaySequence-bounded (sketch f) f.bounded };
 
     fn kind(&self) -> Kind {
@@ -140,6 +142,23 @@ impl DaySeq for Folded {
             None => &[],
             Some(place) => self.shapes.times(self.numbers[place]),
         }
+    }
+
+    fn stretch(&self, day: i64) -> Stretch<'_> {
+        match self.place(day) {
+            None => Stretch {
+                first: None,
+                rest: &[],
+            },
+            Some(place) => Stretch {
+                first: Some(self.numbers[place]),
+                rest: &self.numbers[place + 1..],
+            },
+        }
+    }
+
+    fn times(&self, number: u32) -> &[u32] {
+        self.shapes.times(number)
     }
 }
 

@@ -1,3 +1,4 @@
 pub mod SketchLaws
 pub mod Bounded
 pub mod Numbered
+pub mod Stretches

@@ -1,9 +1,19 @@
 // A set of occurrences, read day by day.
-ghost use Rattle.std.specs.Prelude.{◌≡◌, ◌≤◌, pos, neg_ℤ, ◌≤ℤ◌, IfSome};
+ghost use Rattle.std.specs.Prelude.{◌≡◌, ◌<◌, ◌≤◌, ℕ, List, Some, length, pos, neg_ℤ, ◌≤ℤ◌, IfSome, slice_get};
 ghost use Rattle.rr_model.specs.Sets.Sketch.{IsDaySequence, IsFirstDay, IsNearDay, times_on};
 ghost use Rattle.rr_model.specs.declared.sketch.Sketch.{Sketch};
+ghost use Rattle.rr_word.specs.Stretches.{IsStretch};
 
 use rr_model::Kind;
+
+/// The number of a day's time set, and those of the days after it, one after another, as far as they are kept in a row.
+#[derive(Clone, Copy)]
+pub struct Stretch<'a> {
+    /// The day's own number; none only where the day is not occupied.
+    pub first: Option<u32>,
+    /// The numbers of the days after it.
+    pub rest: &'a [u32],
+}
 
 /// A set of occurrences that repeats from some day on, read day by day.
 ///
@@ -14,6 +24,9 @@ use rr_model::Kind;
 pub trait DaySeq {
     /// The sequence as a sketch.
     ghost sketch: { Self → Sketch };
+
+    /// Its time sets, by their numbers.
+    ghost sets: { Self → List (List ℕ) };
 
     /// Whether the occurrences are dates or moments.
     fn kind(&self) -> Kind
@@ -41,6 +54,18 @@ pub trait DaySeq {
         requires low { neg_ℤ (pos 3_000_000_000_000) ≤ℤ day }
         requires high { day ≤ℤ pos 3_000_000_000_000 }
         ensures { result.now ≡ times_on (sketch self.now) day };
+
+    /// The numbers of the time sets of a day within 3,000,000,000,000 either way and of days after it. Days with equal
+    /// numbers have equal seconds.
+    fn stretch(&self, day: i64) -> Stretch<'_>
+        requires low { neg_ℤ (pos 3_000_000_000_000) ≤ℤ day }
+        requires high { day ≤ℤ pos 3_000_000_000_000 }
+        ensures { IsStretch (sets self.now) (sketch self.now) day result.first result.rest.now };
+
+    /// The seconds of the time set of a number.
+    fn times(&self, number: u32) -> &[u32]
+        requires { number < length (sets self.now) }
+        ensures { slice_get (sets self.now) number ≡ Some result.now };
 
     /// The sketch is valid and lies within the bounds.
     ghost bounded: { (s : Self) → IsDaySequence (sketch s) };

@@ -8,7 +8,7 @@ mod least;
 mod numbered;
 mod same;
 
-pub use day_seq::DaySeq;
+pub use day_seq::{DaySeq, Stretch};
 pub use laws::{
     agreement_lasts, agreement_of_lists_lasts, each_has_one_least_sketch, least_period_divides,
     least_sketch_is_one, window_lasts,

@@ -1,11 +1,11 @@
 use Rattle.rr_decide.proofs.QuestionLemmas.{equal_verdict}
-use Rattle.rr_decide.proofs.WindowLemmas.{equal_window_of}
+use Rattle.rr_decide.proofs.WindowLemmas.{least_equal_window}
 use Rattle.rr_decide.proofs.decide.equal.Goals as goal
 
 pub verdict-requires-clause-window : goal.verdict-requires-clause-window
 verdict-requires-clause-window g c =
-    equal_window_of (g.A.DaySeq.sketch c.args.a.now) (g.B.DaySeq.sketch c.args.b.now) _ _ (g.met.A.DaySeq.bounded c.args.a.now).valid
-    (g.met.B.DaySeq.bounded c.args.b.now).valid c.period.ensures.value c.period-2.ensures.value
+    least_equal_window (g.A.DaySeq.sketch c.args.a.now) (g.B.DaySeq.sketch c.args.b.now) _ _ _ (g.met.A.DaySeq.bounded c.args.a.now).valid
+    (g.met.B.DaySeq.bounded c.args.b.now).valid c.period.ensures.value c.period-2.ensures.value c.equal_days.ensures
 
 pub returns-clause-verdict : goal.returns-clause-verdict
 returns-clause-verdict g c = equal_verdict (g.A.DaySeq.sketch c.args.a.now) (g.B.DaySeq.sketch c.args.b.now) c.verdict.result c.verdict.ensures.verdict

@@ -1,0 +1,73 @@
+-- Numbers of time sets that together show nothing, and the days that have them.
+use Rattle.std.proofs.Common.{◌≡◌, ◌⊎◌, inl, inr, ℕ, ◌+◌, ◌<◌, ◌≤◌, Bool, List, [], length, get_or, ℤ, pos, nat_abs, ◌+ℤ◌, ◌-ℤ◌, sym, ap, subst, ◌∙◌, arith}
+use Rattle.std.specs.Prelude.{MatchOption, IfSome, Option, None, Some, slice_get, unwrap_or}
+use Rattle.std.proofs.lemmas.Int.{ints, by_lt_z}
+use Rattle.std.proofs.lemmas.Option.{slice_get_within}
+use Rattle.rr_model.specs.Sets.Sketch.{times_on}
+use Rattle.rr_model.specs.declared.sketch.Sketch.{Sketch}
+use Rattle.rr_model.specs.declared.verdict.Side.{Side}
+use Rattle.rr_model.proofs.PeriodicLemmas.{offset}
+use Rattle.rr_word.specs.Stretches.{IsNumberOn, IsStretch}
+use Rattle.rr_decide.specs.Question.{ShowsNone, ShowsNoneWithin}
+use Rattle.rr_decide.specs.Quiet.{AreRemembered, IsQuiet, IsRemembered, ShowNothing}
+use Rattle.rr_decide.specs.declared.quiet.Quiet.{Quiet}
+
+-- ---- one day
+
+one_set : (xs ys : List ℕ) → Some xs ≡ Some ys → xs ≡ ys
+one_set xs ys e = ap (λ o. unwrap_or o []) e
+
+pub number_within : (sets : List (List ℕ)) (s : Sketch) (d : ℤ) (n : Option ℕ) → IsNumberOn sets s d n → IfSome n (λ i. i < length sets)
+number_within sets s d None h = tt
+number_within sets s d (Some n) h = slice_get_within sets n (times_on s d) h
+
+pub seconds_of_day : (sets : List (List ℕ)) (s : Sketch) (d : ℤ) (n : Option ℕ) (xs : List ℕ) → IsNumberOn sets s d n
+    → MatchOption n (xs ≡ []) (λ i. slice_get sets i ≡ Some xs) → xs ≡ times_on s d
+seconds_of_day sets s d None xs on e = e ∙ sym on
+seconds_of_day sets s d (Some n) xs on e = one_set xs (times_on s d) (sym e ∙ on)
+
+module _ (shows : Side → Bool) (sets_a sets_b : List (List ℕ)) (s u : Sketch) where
+  -- a day whose numbers are remembered shows nothing
+  pub remembered_day : (d : ℤ) (q : Option Quiet) (a b : Option ℕ) → IsNumberOn sets_a s d a → IsNumberOn sets_b u d b → IsQuiet shows sets_a sets_b q
+      → AreRemembered q a b → ShowsNone shows (times_on s d) (times_on u d)
+  remembered_day d q (Some a) (Some b) on_a on_b quiet known = quiet a b known (times_on s d) (times_on u d) on_a on_b
+  remembered_day d q (Some a) None on_a on_b quiet known = absurd known
+  remembered_day d q None b on_a on_b quiet known = absurd known
+
+  -- the numbers of a day that shows nothing do so wherever they stand
+  numbers_of_day : (d : ℤ) (a b : ℕ) → IsNumberOn sets_a s d (Some a) → IsNumberOn sets_b u d (Some b) → ShowsNone shows (times_on s d) (times_on u d)
+      → ShowNothing shows sets_a sets_b a b
+  numbers_of_day d a b on_a on_b none xs ys ex ey =
+      let x : times_on s d ≡ xs = one_set (times_on s d) xs (sym on_a ∙ ex) in
+      let y : times_on u d ≡ ys = one_set (times_on u d) ys (sym on_b ∙ ey) in
+      rw (x, y) at none
+
+  pub quiet_after : (d : ℤ) (q r : Option Quiet) (a b : Option ℕ) → IsNumberOn sets_a s d a → IsNumberOn sets_b u d b → IsQuiet shows sets_a sets_b q
+      → ShowsNone shows (times_on s d) (times_on u d) → ((x y : ℕ) → IsRemembered r x y → IsRemembered q x y ⊎ ((a ≡ Some x) × (b ≡ Some y)))
+      → IsQuiet shows sets_a sets_b r
+  quiet_after d q r a b on_a on_b quiet none from x y known =
+      elim (from x y known) [
+        | inl before ↦ quiet x y before
+        | inr new ↦
+            numbers_of_day d x y (subst (IsNumberOn sets_a s d) new.0 on_a) (subst (IsNumberOn sets_b u d) new.1 on_b) none
+      ]
+
+  -- ---- a day and those after it
+
+  module _ (day : ℤ) (n : ℕ) (q : Option Quiet) (fa fb : Option ℕ) (xs ys : List ℕ) (of_a : IsStretch sets_a s day fa xs) (of_b : IsStretch sets_b u day fb ys)
+      (quiet : IsQuiet shows sets_a sets_b q) (few_a : n ≤ length xs) (few_b : n ≤ length ys)
+      (known : (j : ℕ) → j < n → IsRemembered q (get_or xs j 0) (get_or ys j 0)) where
+    later_day : (j : ℕ) → j < n → ShowsNone shows (times_on s ((day +ℤ pos 1) +ℤ pos j)) (times_on u ((day +ℤ pos 1) +ℤ pos j))
+    later_day j l =
+        quiet (get_or xs j 0) (get_or ys j 0) (known j l) (times_on s ((day +ℤ pos 1) +ℤ pos j)) (times_on u ((day +ℤ pos 1) +ℤ pos j))
+        (of_a.of_later j (omega arith)) (of_b.of_later j (omega arith))
+
+    pub none_in_stretch : (from : ℤ) (k to : ℕ) → day ≡ from +ℤ pos k → to ≡ k + (1 + n) → ShowsNoneWithin shows s u from (from +ℤ pos k)
+        → ShowsNone shows (times_on s day) (times_on u day) → ShowsNoneWithin shows s u from (from +ℤ pos to)
+    none_in_stretch from k to e et before here d low high =
+        let P : Type 0 = ShowsNone shows (times_on s d) (times_on u d) in
+        by_lt_z {P = P} d day (λ l. before d low (omega (arith, ints))) (λ g.
+        by_lt_z {P = P} d (day +ℤ pos 1) (λ l. (let i : d ≡ day = omega (arith, ints) in rw i here)) (λ h.
+        let j = nat_abs (d -ℤ (day +ℤ pos 1)) in
+        let at : d ≡ (day +ℤ pos 1) +ℤ pos j = offset (day +ℤ pos 1) d (omega (arith, ints)) in
+        subst (λ (x : ℤ). ShowsNone shows (times_on s x) (times_on u x)) (sym at) (later_day j (omega (arith, ints)))))

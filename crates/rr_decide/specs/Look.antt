@@ -1,0 +1,24 @@
+-- What one day shows of two sketches.
+use Rattle.std.specs.Prelude.{◌≡◌, Bool, ℕ, ℤ, List, Option, None, Some}
+use Rattle.rr_model.specs.Sets.Sketch.{times_on}
+use Rattle.rr_model.specs.declared.sketch.Sketch.{Sketch}
+use Rattle.rr_model.specs.declared.verdict.Side.{Side}
+use Rattle.rr_decide.specs.Question.{IsFirstShown, ShowsNone}
+use Rattle.rr_decide.specs.Quiet.{IsQuiet}
+use Rattle.rr_decide.specs.declared.days.Look.{Look}
+use Rattle.rr_decide.specs.declared.days.Look.TheVariants.{Shows, Quiet}
+use Rattle.rr_decide.specs.declared.days.Shown.{Shown}
+
+-- it is of this day, and the first second there that shows it
+abbrev pub IsShownOn : (Side → Bool) → Sketch → Sketch → ℤ → Shown → Type 0
+IsShownOn shows s u day r = (r.day ≡ day) × IsFirstShown shows (times_on s day) (times_on u day) r.second r.side
+
+-- the first second of the day that shows it; none where no second does
+abbrev pub IsFirstOn : (Side → Bool) → Sketch → Sketch → ℤ → Option Shown → Type 0
+IsFirstOn shows s u day None = ShowsNone shows (times_on s day) (times_on u day)
+IsFirstOn shows s u day (Some r) = IsShownOn shows s u day r
+
+-- what the day shows; where it shows nothing, nor does what is remembered after it
+abbrev pub IsLook : (Side → Bool) → List (List ℕ) → List (List ℕ) → Sketch → Sketch → ℤ → Look → Type 0
+IsLook shows sets_a sets_b s u day (Shows r) = IsShownOn shows s u day r
+IsLook shows sets_a sets_b s u day (Quiet q) = ShowsNone shows (times_on s day) (times_on u day) × IsQuiet shows sets_a sets_b q

@@ -1,0 +1,14 @@
+-- The numbers of the time sets of days in a row.
+use Rattle.std.specs.Prelude.{◌≡◌, ℕ, ◌<◌, List, [], length, get_or, slice_get, Option, Some, None, ℤ, pos, ◌+ℤ◌}
+use Rattle.rr_model.specs.Sets.Sketch.{times_on}
+use Rattle.rr_model.specs.declared.sketch.Sketch.{Sketch}
+
+-- the number is that of the day's set; without a number the day has no seconds
+abbrev pub IsNumberOn : List (List ℕ) → Sketch → ℤ → Option ℕ → Type 0
+IsNumberOn sets s day None = times_on s day ≡ []
+IsNumberOn sets s day (Some number) = slice_get sets number ≡ Some (times_on s day)
+
+-- the number of the day's set, and those of the days after it, one after another
+pub record IsStretch (sets : List (List ℕ)) (s : Sketch) (day : ℤ) (first : Option ℕ) (rest : List ℕ) : Type 0 where
+  pub of_day : IsNumberOn sets s day first
+  pub of_later : (k : ℕ) → k < length rest → IsNumberOn sets s ((day +ℤ pos 1) +ℤ pos k) (Some (get_or rest k 0))
