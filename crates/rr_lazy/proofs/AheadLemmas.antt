@@ -1,18 +1,20 @@
 -- What is known of a part of a union.
-use Rattle.std.proofs.Common.{◌≡◌, ◌≢◌, ◌⊎◌, ◌||◌, inl, inr, ℕ, true, false, List, [], ◌∷◌, Contains, Option, Some, None, Ok, ℤ, pos, negsuc, w64, to_z}
-use Rattle.std.proofs.Common.{of_z, ◌+ℤ◌, ◌≤ℤ◌, ◌<ℤ◌, refl, sym, subst, ◌∙◌, arith}
+use Rattle.std.proofs.Common.{◌≡◌, ◌≢◌, ◌⊎◌, ◌||◌, inl, inr, ℕ, ◌<◌, true, false, List, [], ◌∷◌, Contains, length, get_or, take}
+use Rattle.std.proofs.Common.{Option, Some, None, Ok, ℤ, pos, negsuc, w64, to_z, of_z, ◌+ℤ◌, ◌≤ℤ◌, ◌<ℤ◌, refl, sym, subst, ◌∙◌, arith}
 use Rattle.std.specs.Prelude.{is_some, nat_lt, ◌↔◌, IsTrue}
 use Rattle.std.proofs.lemmas.Int.{ints, by_lt_z}
 use Rattle.std.specs.Option.{ForSome, ForNone}
 use Rattle.std.proofs.lemmas.Bool.{false≢true}
-use Rattle.rr_model.proofs.RisingSetLemmas.{set_same, Contains-head, Contains-none}
+use Rattle.std.proofs.Math.Seq.{take-length}
+use Rattle.rr_model.proofs.RisingSetLemmas.{set_itself, set_same, Contains-head, Contains-none}
 use Rattle.rr_model.specs.Rising.Sets.{IsSetOf}
+use Rattle.rr_model.specs.Calendar.{first_day_of_year}
 use Rattle.rr_model.specs.Sets.Tree.{Tree, union, stands_at}
-use Rattle.rr_lazy.specs.Next.{HasNone, IsFirstOccupied, IsNext, IsUnasked}
+use Rattle.rr_lazy.specs.Next.{HasNone, IsFirstOccupied, IsNextIn, IsUnasked, with_set}
 use Rattle.rr_lazy.proofs.FirstLemmas.{first_day_is}
-use Rattle.rr_lazy.specs.Ahead.{IsGiven, IsAhead, HasOn, GaveDay, IsFirstOfBoth, IsLeft}
-use Rattle.rr_lazy.specs.declared.day_times.DayTimes.{DayTimes}
-use Rattle.rr_lazy.proofs.SecondsTestLemmas.{tested, seconds_test}
+use Rattle.rr_lazy.specs.Ahead.{IsGiven, IsAhead, IsAheadIn, IsGivenOn, IsGivenByBoth, HasOn, GaveDay, IsFirstOfBoth, IsLeft, seen}
+use Rattle.rr_lazy.specs.DayTimes.{DayTimes}
+use Rattle.rr_lazy.specs.declared.occupied_day.OccupiedDay.{OccupiedDay}
 
 -- nothing on two stretches
 pub join : (t : Tree) (from mid to : ℤ) → HasNone t from mid → HasNone t mid to → HasNone t from to
@@ -24,24 +26,44 @@ given_from t from own own' f k x e = record {
   late = omega (arith, ints, k.0, x.late);
   before = join t from own f.day k.1 x.before;
   some = x.some;
-  seconds = seconds_test f.times (stands_at t f.day) x.all;
+  seconds = x.all;
   own_next = e;
 }
 
-pub filled : (t t' : Tree) (own own' from to : ℤ) (ahead found : Option DayTimes) → IsAhead t own from ahead → is_some ahead ≡ false → t' ≡ t
-    → IsNext t own to (Ok found) own' → IsAhead t' own' from found
-filled t t' own own' from to (Some y) found k n e x = absurd (cc)
-filled t t' own own' from to None (Some d) k n e x =
-    rw e (record {
-      some = λ f q. (let i : f ≡ d = cc in rw i (given_from t from own own' d (k.none refl) x.0 x.2));
-      none = λ q. absurd (cc);
-    })
-filled t t' own own' from to None None k n e x =
-    let own_next = k.none refl in
-    rw e (record {
-      some = λ d q. absurd (cc);
-      none = λ q. (omega (arith, ints, own_next.0, x.1), join t from own own' own_next.1 x.0);
-    })
+-- a part of which nothing was known was asked
+pub filled : (sets new : List (List ℕ)) (t : Tree) (own own' from to : ℤ) (ahead found : Option OccupiedDay) → is_some ahead ≡ false
+    → IsNextIn new t own to (Ok found) own' → IsAheadIn sets t own from ahead → IsAheadIn new t own' from found
+filled sets new t own own' from to (Some y) found n x k = absurd (cc)
+filled sets new t own own' from to None (Some d) n x k = record {
+  within = λ f q. (let i : f ≡ d = cc in rw i x.0);
+  known = record {
+    some =
+        λ f q. (let i : f ≡ with_set new d = cc in rw i (given_from t from own own' (with_set new d) (k.known.none refl) x.1.0 x.1.2));
+    none = λ q. absurd (cc);
+  };
+}
+filled sets new t own own' from to None None n x k =
+    let own_next = k.known.none refl in
+    record {
+      within = λ f q. absurd (cc);
+      known = record {
+        some = λ d q. absurd (cc);
+        none = λ q. (omega (arith, ints, own_next.0, x.1), join t from own own' own_next.1 x.0);
+      };
+    }
+
+-- what is known of no day that is seen is known where the part gave none
+pub seen_none : (sets : List (List ℕ)) (ahead : Option OccupiedDay) (P : Type 0) → ForNone ahead P → ForNone (seen sets ahead) P
+seen_none sets None P n e = n refl
+seen_none sets (Some f) P n e = absurd (cc)
+
+-- a day that a part gave is within the table, and its seconds rise
+pub given_on : (sets : List (List ℕ)) (t : Tree) (own from : ℤ) (ahead : Option OccupiedDay) → IsAheadIn sets t own from ahead
+    → ForSome ahead (IsGivenOn sets)
+given_on sets t own from None k f e = absurd (cc)
+given_on sets t own from (Some g) k f e =
+    let i : f ≡ g = cc in
+    rw i (record { within = k.within g refl; rises = (k.known.some (with_set sets g) refl).seconds.rises })
 
 -- the same from a later day on, which is not past what is known
 pub advance : (t : Tree) (own from q : ℤ) (ahead : Option DayTimes) → IsAhead t own from ahead → from ≤ℤ q → ForSome ahead (λ x. q ≤ℤ x.day)
@@ -96,8 +118,8 @@ on_day t own from d (Some f) k l some none s =
     by_lt_z {P = (stands_at t d s ≡ true) ↔ ((f.day ≡ d) × Contains f.times s)} d f.day
     (λ m. (λ h. absurd (false≢true (sym (g.before d s l m) ∙ h)), λ x. absurd (omega (arith, ints, x.0, m))))
     (λ n. (let e : f.day ≡ d = omega (arith, ints, n, some f refl) in (
-      λ h. (e, (tested f.times s).0 (g.seconds s ∙ subst (λ x. stands_at t x s ≡ true) (sym e) h)),
-      λ x. subst (λ y. stands_at t y s ≡ true) e (sym (g.seconds s) ∙ (tested f.times s).1 x.1),
+      λ h. (e, (g.seconds.exact s).1 (subst (λ x. stands_at t x s ≡ true) (sym e) h)),
+      λ x. subst (λ y. stands_at t y s ≡ true) e ((g.seconds.exact s).0 x.1),
     )))
 
 pub has_some : (t : Tree) (own from d : ℤ) (ahead : Option DayTimes) → IsAhead t own from ahead → GaveDay ahead d → (s : ℕ) × HasOn ahead d s
@@ -168,3 +190,95 @@ unasked_ahead t own u = record {
   some = λ f q. absurd (cc);
   none = λ q. (let e : own ≡ negsuc 719_161 = u ∙ first_day_is in (omega (arith, ints, e), λ d s l h. absurd (omega (arith, ints, e, l, h))));
 }
+
+-- ---- by a table of sets
+
+pub unasked_in : (sets : List (List ℕ)) (t : Tree) (own : ℤ) → IsUnasked own → IsAheadIn sets t own (negsuc 719_161) None
+unasked_in sets t own u = record { within = λ f e. absurd (cc); known = unasked_ahead t own u }
+
+-- one side where no day was given
+pub side_none_in : (sets : List (List ℕ)) (t : Tree) (own from to q : ℤ) (ahead : Option OccupiedDay) → IsAheadIn sets t own from ahead
+    → from ≤ℤ q → (q ≡ to +ℤ pos 1) ⊎ (q ≡ from) → ForSome (seen sets ahead) (λ x. to <ℤ x.day) → ForNone ahead (to <ℤ own)
+    → IsAheadIn sets t own q ahead × HasNone t from q
+side_none_in sets t own from to q ahead k l one some none =
+    let s = side_none t own from to q (seen sets ahead) k.known l one some (seen_none sets ahead (to <ℤ own) none) in
+    (record { within = k.within; known = s.0 }, s.1)
+
+-- one side after the day d was given
+pub side_given_in : (sets : List (List ℕ)) (t : Tree) (own from d q : ℤ) (ahead left : Option OccupiedDay) → IsAheadIn sets t own from ahead
+    → from ≤ℤ d → ForSome (seen sets ahead) (λ f. d ≤ℤ f.day) → ForNone ahead (d <ℤ own) → IsLeft (seen sets ahead) d (seen sets left)
+    → ForSome left (λ f. ahead ≡ Some f) → q ≡ d +ℤ pos 1 → IsAheadIn sets t own q left
+side_given_in sets t own from d q ahead left k l some none w same e = record {
+  within = λ f h. k.within f (same f h);
+  known = side_given t own from d q (seen sets ahead) (seen sets left) k.known l some (seen_none sets ahead (d <ℤ own) none) w e;
+}
+
+-- two parts of a union of which one gave a day
+module _ (sets : List (List ℕ)) (t u : Tree) (own_t own_u from d to : ℤ) (a b : Option OccupiedDay) (ka : IsAheadIn sets t own_t from a)
+    (kb : IsAheadIn sets u own_u from b) (first : IsFirstOfBoth (seen sets a) (seen sets b) to (Some d)) (na : ForNone a (to <ℤ own_t))
+    (nb : ForNone b (to <ℤ own_u)) where
+  before : (own : ℤ) (x : Option OccupiedDay) → ForNone x (to <ℤ own) → ForNone (seen sets x) (d <ℤ own)
+  before own x n = seen_none sets x (d <ℤ own) (λ e. omega (arith, ints, n e, first.0))
+
+  not_before : from ≤ℤ d
+  not_before =
+      late t u own_t own_u from d to (seen sets a) (seen sets b) ka.known kb.known first (before own_t a na) (before own_u b nb)
+
+  -- the day is not before the position, and is a number of the code, as is the day after it
+  pub union_day : first_day_of_year (pos 1) ≤ℤ from → to ≤ℤ pos 2_999_999_999_000
+      → (from ≤ℤ d) × (to_z w64 (of_z w64 d) ≡ d) × (to_z w64 (of_z w64 (to_z w64 (of_z w64 d) +ℤ pos 1)) ≡ d +ℤ pos 1)
+  union_day begun high =
+      let fits = day_fits from d to (rw first_day_is at begun) not_before first.0 high in
+      (not_before, fits.0, rw fits.0 fits.1)
+
+  pub union_next : (new : List (List ℕ)) (found : Option OccupiedDay) → IsGivenByBoth sets a b d new found
+      → IsNextIn new (union t u) from to (Ok found) (d +ℤ pos 1)
+  union_next new None given = absurd (elim first.1 [ inl g ↦ given.0 g | inr g ↦ given.1 g ])
+  union_next new (Some f) given =
+      let times = (with_set new f).times in
+      let none_a = before own_t a na in
+      let none_b = before own_u b nb in
+      let all = union_given t u own_t own_u from d to (seen sets a) (seen sets b) ka.known kb.known first none_a none_b times given.3 in
+      (given.1.within, (subst (λ x. IsFirstOccupied (union t u) from x times) (sym given.0) all, rw given.0 first.0, rw given.0 refl))
+
+-- ---- the seconds of a day by their number
+
+-- a part that has the day with a second gave it
+gave : (ahead : Option DayTimes) (day : ℤ) (s : ℕ) → HasOn ahead day s → GaveDay ahead day
+gave None day s h = h
+gave (Some f) day s h = h.0
+
+-- both parts gave the day, and the number is that of the union
+pub given_joined : (old new : List (List ℕ)) (a b : OccupiedDay) (x y : List ℕ) (number count : ℕ) → a.day ≡ b.day → x ≡ (with_set old a).times
+    → y ≡ (with_set old b).times → number < length new → IsSetOf nat_lt (get_or new number []) (λ s. Contains x s ⊎ Contains y s)
+    → count ≡ length (get_or new number [])
+    → IsGivenByBoth old (Some a) (Some b) a.day new (Some (record { day = a.day; number = number; count = count }))
+given_joined old new a b x y number count e of_x of_y within set many =
+    let whole : take count (get_or new number []) ≡ get_or new number [] = rw many (take-length (get_or new number [])) in (
+      refl,
+      record { within = (within, omega (arith, many)); rises = rw whole set.rises },
+      inl refl,
+      rw whole (set_same nat_lt (λ s. Contains x s ⊎ Contains y s)
+          (λ s. HasOn (seen old (Some a)) a.day s ⊎ HasOn (seen old (Some b)) a.day s) (get_or new number []) set (λ s. (
+            (λ m. elim m [
+              | inl c ↦ inl (refl, subst (λ z. Contains z s) of_x c)
+              | inr c ↦ inr (sym e, subst (λ z. Contains z s) of_y c)
+            ]),
+            (λ m. elim m [
+              | inl c ↦ inl (subst (λ z. Contains z s) (sym of_x) c.1)
+              | inr c ↦ inr (subst (λ z. Contains z s) (sym of_y) c.1)
+            ]),
+          ))),
+    )
+
+-- the first part alone gave the day
+pub given_first : (sets : List (List ℕ)) (b : Option OccupiedDay) (found : OccupiedDay) → IsGivenOn sets found → (GaveDay (seen sets b) found.day → ⊥)
+    → IsGivenByBoth sets (Some found) b found.day sets (Some found)
+given_first sets b found g not_b = (
+  refl,
+  g,
+  inl refl,
+  set_same nat_lt (Contains ((with_set sets found).times)) (λ s. HasOn (seen sets (Some found)) found.day s ⊎ HasOn (seen sets b) found.day s)
+      ((with_set sets found).times) (set_itself nat_lt ((with_set sets found).times) g.rises)
+      (λ s. ((λ c. inl (refl, c)), (λ m. elim m [ inl c ↦ c.1 | inr c ↦ absurd (not_b (gave (seen sets b) found.day s c)) ]))),
+)

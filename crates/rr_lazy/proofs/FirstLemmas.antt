@@ -1,5 +1,6 @@
 -- An iterator over the first n occurrences.
-use Rattle.std.proofs.Common.{◌≡◌, ◌⊎◌, ℕ, suc, ◌+◌, ◌-◌, ◌<◌, ◌≤◌, true, false, ◌&&◌, List, [], length, get_or, take, Contains, ℤ, pos, negsuc, ◌+ℤ◌, ◌≤ℤ◌}
+use Rattle.std.proofs.Common.{◌≡◌, ◌⊎◌, ℕ, zero, suc, ◌+◌, ◌-◌, ◌<◌, ◌≤◌, true, false, ◌&&◌, List, [], ◌∷◌, min, length, get_or, take, Contains, ℤ, pos}
+use Rattle.std.proofs.Common.{negsuc, ◌+ℤ◌, ◌≤ℤ◌}
 use Rattle.std.proofs.Common.{◌<ℤ◌, refl, sym, ap, ◌∙◌, inl, inr, arith}
 use Rattle.std.specs.Prelude.{IsTrue, nat_le}
 use Rattle.std.proofs.lemmas.Int.{ints}
@@ -12,7 +13,7 @@ use Rattle.rr_times.proofs.TakeLemmas.{Rises-take}
 use Rattle.rr_model.specs.Sets.Counting.{count_seconds, count_before, count_to}
 use Rattle.rr_model.specs.Sets.Tree.{Tree, first_n, stands_at}
 use Rattle.std.specs.Prelude.{Some, None, Ok}
-use Rattle.rr_lazy.specs.declared.day_times.DayTimes.{DayTimes}
+use Rattle.rr_lazy.specs.DayTimes.{DayTimes}
 use Rattle.rr_lazy.specs.Next.{HasNone, IsFirstOccupied, IsNext, IsUnasked}
 use Rattle.rr_lazy.proofs.TreeLemmas.{seconds_of_occupied}
 use Rattle.rr_lazy.specs.FirstN.{IsCounting}
@@ -185,4 +186,23 @@ first_some tree tree' own own' position to to' q found kept count left left' k h
       rw (e, same, i, j, g) (first_counted tree own position count left k found.day found.times n.0 seconds h),
       rw g (first_given tree own position count left k found.day found.times n.0 seconds h),
       omega (arith, ints, n.1, f),
+    )
+
+-- ---- the first of the first
+
+pub take_less : (m n : ℕ) (xs : List ℕ) → m ≤ n → take m (take n xs) ≡ take m xs
+take_less zero n xs l = refl
+take_less (suc m) zero xs l = absurd (omega (arith, l))
+take_less (suc m) (suc n) [] l = refl
+take_less (suc m) (suc n) (x ∷ xs) l = ap (λ ys. x ∷ ys) (take_less m n xs (omega (arith, l)))
+
+pub take_lesser : (m n k : ℕ) (xs : List ℕ) → n ≤ length xs → k ≡ min n m → (k ≤ n) × (take k xs ≡ take m (take n xs)) × (length (take k xs) ≡ k)
+take_lesser m n k xs h e =
+    let l : k ≤ n = omega (arith, e) in (
+      l,
+      elim (cases_lt m n) [
+        | inl c ↦ (let f : k ≡ m = omega (arith, e, c) in rw f (sym (take_less m n xs (omega (arith, c)))))
+        | inr c ↦ (let f : k ≡ n = omega (arith, e, c) in rw f (sym (take_all m (take n xs) (omega (arith, length-take-le n xs h, c)))))
+      ],
+      length-take-le k xs (omega (arith, l, h)),
     )

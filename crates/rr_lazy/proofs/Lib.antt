@@ -3,7 +3,6 @@ mod KindExamples
 pub mod CountingLemmas
 pub mod TreeLemmas
 pub mod FirstLemmas
-pub mod SecondsTestLemmas
 pub mod AheadLemmas
 mod UptoLemmas
 pub mod StretchLemmas
@@ -13,3 +12,4 @@ pub mod CycleCountLemmas
 pub mod PastLemmas
 pub mod MemberCountLemmas
 pub mod AgreeLemmas
+pub mod WithoutLemmas

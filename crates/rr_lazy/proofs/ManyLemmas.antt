@@ -1,19 +1,23 @@
 -- Several parts, and what each gave.
 use Rattle.std.proofs.Common.{◌≡◌, ◌≢◌, ◌⊎◌, ◌↔◌, ◌||◌, ℕ, zero, suc, ◌+◌, ◌<◌, Bool, true, false, List, [], ◌∷◌, ◌++◌, length, get_or, All, Contains}
-use Rattle.std.proofs.Common.{Option, Some, None, ℤ, pos, ◌+ℤ◌, ◌≤ℤ◌, ◌<ℤ◌, refl, sym, ap, subst, ◌∙◌, inl, inr, arith}
+use Rattle.std.proofs.Common.{Option, Some, None, Ok, ℤ, pos, ◌+ℤ◌, ◌≤ℤ◌, ◌<ℤ◌, refl, sym, ap, subst, ◌∙◌, inl, inr, arith}
 use Rattle.std.specs.Prelude.{IsTrue, nat_lt, slice_set, if◌then◌else◌}
 use Rattle.std.specs.Option.{ForSome, ForNone}
 use Rattle.std.proofs.lemmas.Int.{ints}
 use Rattle.std.proofs.lemmas.Bool.{cases_lt, false≢true}
 use Rattle.std.proofs.lemmas.List.{get_or_default}
+use Rattle.rr_model.specs.Rising.{Rises}
 use Rattle.rr_model.specs.Rising.Sets.{IsSetOf}
 use Rattle.rr_model.proofs.RisingSetLemmas.{set_same, Contains-none}
-use Rattle.rr_lazy.specs.declared.day_times.DayTimes.{DayTimes}
+use Rattle.rr_lazy.specs.DayTimes.{DayTimes}
 use Rattle.rr_model.specs.Sets.Tree.{Tree, part, many, IsOfOneKind, stands_at, some_stands_at}
-use Rattle.rr_lazy.specs.Next.{HasNone, IsFirstOccupied}
-use Rattle.rr_lazy.specs.Ahead.{HasOn, GaveDay, IsAhead}
-use Rattle.rr_lazy.specs.Many.{forest_of, with_part, GaveDaySome, HasOnSome, IsLeftBy}
-use Rattle.rr_lazy.proofs.AheadLemmas.{none_below, on_day, has_some, side_none, side_given}
+use Rattle.rr_shapes.specs.Tables.{Extends}
+use Rattle.rr_lazy.specs.declared.occupied_day.OccupiedDay.{OccupiedDay}
+use Rattle.rr_lazy.specs.Next.{HasNone, IsFirstOccupied, IsNextIn, IsWithin, with_set}
+use Rattle.rr_lazy.specs.Tables.{same_day, same_seen}
+use Rattle.rr_lazy.specs.Ahead.{HasOn, GaveDay, IsAhead, IsAheadIn, IsGivenByBoth, IsGivenOn, IsLeft, seen}
+use Rattle.rr_lazy.specs.Many.{forest_of, with_part, GaveDaySome, HasOnSome, IsGivenBySome, IsLeftBy}
+use Rattle.rr_lazy.proofs.AheadLemmas.{given_on, has_some, none_below, on_day, seen_none, side_given, side_none}
 
 -- ---- one part is written
 
@@ -145,6 +149,70 @@ module _ {X : Type 0} (ahead : X → Option DayTimes) (xs : List X) (d : ℤ) wh
             inr (subst (λ w. HasOn (ahead w) d s) (sym e) (subst (λ j. HasOn (ahead (get_or xs j x)) d s) (sym q) (h x))))
       ]
 
+-- a day that is given in a table is given in one that goes on
+pub given_more : (old new : List (List ℕ)) (f : OccupiedDay) → Extends old new → IsGivenOn old f → IsGivenOn new f
+given_more old new f more g =
+    let same = same_day old new f more g.within in
+    record { within = same.0; rises = subst (λ (x : DayTimes). Rises nat_lt x.times) (sym same.1) g.rises }
+
+-- what was given for a day is given
+pub given_is : (old new : List (List ℕ)) (a b : Option OccupiedDay) (d : ℤ) (found : Option OccupiedDay) → IsGivenByBoth old a b d new found
+    → ForSome found (IsGivenOn new)
+given_is old new a b d None g f e = absurd (cc)
+given_is old new a b d (Some found) g f e = (let i : f ≡ found = cc in rw i g.1)
+
+-- the seconds of one more part join those that were given
+module _ {X : Type 0} (start old new : List (List ℕ)) (ahead : X → Option OccupiedDay) (xs : List X) (d : ℤ) (place : ℕ) (x : X) (l : place < length xs)
+    (e : x ≡ get_or xs place x) (more : Extends start old) (within : ForSome (ahead x) (IsWithin start)) where
+  none_more : IsGivenBySome start ahead xs place d old None → (GaveDay (seen old (ahead x)) d → ⊥) → IsGivenBySome start ahead xs (place + 1) d new None
+  none_more by not k m n z g = elim (cases_lt k place) [
+    | inl p ↦ by k p n z g
+    | inr p ↦ (let q : place ≡ k = omega arith in
+        let here : GaveDay (seen start (ahead x)) d =
+        subst (λ y. GaveDay (seen start (ahead y)) d) (sym (e ∙ get_or_default xs place x z l)) (subst (λ j. GaveDay (seen start (ahead (get_or xs j z))) d) (sym q) g) in
+        not (subst (λ y. GaveDay y d) (sym (same_seen start old (ahead x) more within).1) here))
+  ]
+
+  pub more_given : (given found : Option OccupiedDay) → IsGivenBySome start ahead xs place d old given → IsGivenByBoth old given (ahead x) d new found
+      → IsGivenBySome start ahead xs (place + 1) d new found
+  more_given None None by both = none_more by both.1
+  more_given (Some f) None by both = absurd (both.0 by.0)
+  more_given None (Some g) by both = (
+    both.0,
+    both.1,
+    set_same nat_lt (λ s. HasOn (seen old None) d s ⊎ HasOn (seen old (ahead x)) d s) (HasOnSome (λ p. seen start (ahead p)) xs (place + 1) d)
+        ((with_set new g).times) both.3 (λ s. (
+        let one = one_more_on (λ p. seen start (ahead p)) xs d place s x l e in
+        let same = (same_seen start old (ahead x) more within).1 in (
+          λ h. elim h [ inl y ↦ absurd y | inr y ↦ one.0 (inr (subst (λ w. HasOn w d s) same y)) ],
+          λ h. elim (one.1 h) [
+            | inl y ↦ absurd (gave_of s y)
+            | inr y ↦ inr (subst (λ w. HasOn w d s) (sym same) y)
+          ],
+        ))),
+  )
+    where
+      gave_of : (s : ℕ) → HasOnSome (λ p. seen start (ahead p)) xs place d s → ⊥
+      gave_of s h = by h.0 h.1 h.2 x (day_of (seen start (ahead (get_or xs h.0 x))) (h.3 x))
+        where
+          day_of : (a : Option DayTimes) → HasOn a d s → GaveDay a d
+          day_of None m = m
+          day_of (Some f) m = m.0
+  more_given (Some f) (Some g) by both = (
+    both.0,
+    both.1,
+    set_same nat_lt (λ s. HasOn (seen old (Some f)) d s ⊎ HasOn (seen old (ahead x)) d s) (HasOnSome (λ p. seen start (ahead p)) xs (place + 1) d)
+        ((with_set new g).times) both.3 (λ s. (
+        let one = one_more_on (λ p. seen start (ahead p)) xs d place s x l e in
+        let same = (same_seen start old (ahead x) more within).1 in (
+          λ h. elim h [ inl y ↦ one.0 (inl ((by.2.exact s).0 y.1)) | inr y ↦ one.0 (inr (subst (λ w. HasOn w d s) same y)) ],
+          λ h. elim (one.1 h) [
+            | inl y ↦ inl (by.0, (by.2.exact s).1 y)
+            | inr y ↦ inr (subst (λ w. HasOn w d s) (sym same) y)
+          ],
+        ))),
+  )
+
 -- ---- the least day
 
 module _ {X : Type 0} (ahead : X → Option DayTimes) (xs : List X) (place : ℕ) (first next : ℤ) where
@@ -164,6 +232,16 @@ module _ {X : Type 0} (ahead : X → Option DayTimes) (xs : List X) (place : ℕ
   gave_more from x l e (inl a) (inl b) = inl (b ∙ a)
   gave_more from x l e (inr a) (inl b) = inr (subst (λ y. GaveDaySome ahead xs y) (sym b) a)
   gave_more from x l e a (inr b) = inr (place, l, λ d. subst (λ y. GaveDay (ahead y) next) (e ∙ get_or_default xs place x d l) b)
+
+-- what a part gave is the day by every table
+module _ (sets : List (List ℕ)) where
+  pub some_by : (P : ℤ → Type 0) (a : Option OccupiedDay) → ForSome (seen [] a) (λ f. P f.day) → ForSome (seen sets a) (λ f. P f.day)
+  some_by P None h f e = absurd (cc)
+  some_by P (Some o) h f e = (let i : f ≡ with_set sets o = cc in rw i (h (with_set [] o) refl))
+
+  pub gave_by : (a : Option OccupiedDay) (d : ℤ) → GaveDay (seen [] a) d → GaveDay (seen sets a) d
+  gave_by None d g = g
+  gave_by (Some o) d g = g
 
 -- ---- the parts after a call
 
@@ -199,6 +277,87 @@ module _ {X L : Type 0} (tree : L → Tree) (own : L → ℤ) (lazy : X → L) (
 
   pub forest_left : IsLeftBy ahead lazy old d (length old) new → forest_of (λ x. tree (lazy x)) new ≡ forest_of (λ x. tree (lazy x)) old
   forest_left left = forest_same (λ x. tree (lazy x)) old new left.many (λ k z m. ap tree (left.lazies k z m))
+
+-- ---- the same by a table
+
+module _ {X L : Type 0} (knows : L → Type 0) (tree : L → Tree) (own : L → ℤ) (lazy : X → L) (ahead : X → Option OccupiedDay) (sets : List (List ℕ))
+    (xs : List X) (from : ℤ) (known : All (λ x. knows (lazy x) × IsAheadIn sets (tree (lazy x)) (own (lazy x)) from (ahead x)) xs) where
+  pub all_seen : All (λ x. IsAhead (tree (lazy x)) (own (lazy x)) from (seen sets (ahead x))) xs
+  all_seen k z l = (known k z l).1.known
+
+  pub all_given : All (λ x. ForSome (ahead x) (IsGivenOn sets)) xs
+  all_given k z l = given_on sets (tree (lazy (get_or xs k z))) (own (lazy (get_or xs k z))) from (ahead (get_or xs k z)) (known k z l).1
+
+  pub known_on : (q : ℤ) → All (λ x. IsAhead (tree (lazy x)) (own (lazy x)) q (seen sets (ahead x))) xs
+      → All (λ x. knows (lazy x) × IsAheadIn sets (tree (lazy x)) (own (lazy x)) q (ahead x)) xs
+  known_on q later k z l = ((known k z l).0, record { within = (known k z l).1.within; known = later k z l })
+
+  pub known_left : (new : List X) (d q : ℤ) → from ≤ℤ d → All (λ x. ForSome (seen sets (ahead x)) (λ f. d ≤ℤ f.day)) xs
+      → All (λ x. ForNone (seen sets (ahead x)) (d <ℤ own (lazy x))) xs → IsLeftBy (λ x. seen sets (ahead x)) lazy xs d (length xs) new
+      → All (λ x. ForSome (ahead x) (IsWithin sets)) new → q ≡ d +ℤ pos 1
+      → All (λ x. knows (lazy x) × IsAheadIn sets (tree (lazy x)) (own (lazy x)) q (ahead x)) new
+  known_left new d q l some none left within e k z m =
+      let n : k < length xs = omega (arith, left.many, m) in (
+        subst knows (sym (left.lazies k z n)) (known k z n).0,
+        record {
+          within = within k z m;
+          known = all_left tree own lazy (λ x. seen sets (ahead x)) xs new from d q all_seen l some none left e k z m;
+        },
+      )
+
+-- what parts gave, by any table
+module _ {X : Type 0} (sets : List (List ℕ)) (own : X → ℤ) (ahead : X → Option OccupiedDay) (xs : List X) where
+  pub all_none_by : (to : ℤ) → All (λ x. ForNone (ahead x) (to <ℤ own x)) xs → All (λ x. ForNone (seen sets (ahead x)) (to <ℤ own x)) xs
+  all_none_by to none k z l = seen_none sets (ahead (get_or xs k z)) (to <ℤ own (get_or xs k z)) (none k z l)
+
+  pub all_some_by : (d : ℤ) → All (λ x. ForSome (seen [] (ahead x)) (λ f. d ≤ℤ f.day)) xs → All (λ x. ForSome (seen sets (ahead x)) (λ f. d ≤ℤ f.day)) xs
+  all_some_by d some k z l = some_by sets (λ e. d ≤ℤ e) (ahead (get_or xs k z)) (some k z l)
+
+  pub gave_some_by : (d : ℤ) → GaveDaySome (λ x. seen [] (ahead x)) xs d → GaveDaySome (λ x. seen sets (ahead x)) xs d
+  gave_some_by d gave = (gave.0, gave.1, λ z. gave_by sets (ahead (get_or xs gave.0 z)) d (gave.2 z))
+
+-- what parts gave for their first day answers a call
+pub next_given : {X : Type 0} (tree : Tree) (position to day next : ℤ) (sets new : List (List ℕ)) (ahead : X → Option OccupiedDay) (xs : List X)
+    (found : Option OccupiedDay) → IsGivenBySome sets ahead xs (length xs) day new found → GaveDaySome (λ x. seen sets (ahead x)) xs day → X
+    → ((times : List ℕ) → IsSetOf nat_lt times (HasOnSome (λ x. seen sets (ahead x)) xs (length xs) day) → IsFirstOccupied tree position day times)
+    → day ≤ℤ to → next ≡ day +ℤ pos 1 → IsNextIn new tree position to (Ok found) next
+next_given tree position to day next sets new ahead xs None given gave x first within e = absurd (given gave.0 gave.1 gave.1 x (gave.2 x))
+next_given tree position to day next sets new ahead xs (Some found) given gave x first within e = (
+  given.1.within,
+  rw given.0 (first ((with_set new found).times) given.2, within, e),
+)
+
+-- one more part has forgotten the day
+module _ {X L : Type 0} (ahead : X → Option DayTimes) (lazy : X → L) (old mid : List X) (d : ℤ) (place : ℕ) (y : X) (l : place < length mid)
+    (left : IsLeftBy ahead lazy old d place mid) (same : (z : X) → lazy y ≡ lazy (get_or mid place z))
+    (here : (z : X) → IsLeft (ahead (get_or mid place z)) d (ahead y)) where
+  lazies_more : (k : ℕ) (z : X) → k < length old → lazy (get_or (slice_set mid place y) k z) ≡ lazy (get_or old k z)
+  lazies_more k z m = elim (cases_lt k place) [
+    | inl p ↦ rw (other_set mid place k y z (λ e. absurd (omega (arith, e, p)))) (left.lazies k z m)
+    | inr p ↦
+        elim (cases_lt place k) [
+          | inl q ↦ rw (other_set mid place k y z (λ e. absurd (omega (arith, e, q)))) (left.lazies k z m)
+          | inr q ↦ (let e : place ≡ k = omega (arith, p, q) in
+              subst (λ j. lazy (get_or (slice_set mid place y) j z) ≡ lazy (get_or old j z)) e
+              (rw (same_set mid place y z l) (same z ∙ left.lazies place z (omega (arith, left.many, l)))))
+        ]
+  ]
+
+  left_on : (k : ℕ) (z : X) → k < place + 1 → k < length old → IsLeft (ahead (get_or old k z)) d (ahead (get_or (slice_set mid place y) k z))
+  left_on k z n m = elim (cases_lt k place) [
+    | inl p ↦ rw (other_set mid place k y z (λ e. absurd (omega (arith, e, p)))) (left.left k z p m)
+    | inr p ↦ (let e : place ≡ k = omega (arith, p, n) in
+        subst (λ j. IsLeft (ahead (get_or old j z)) d (ahead (get_or (slice_set mid place y) j z))) e
+        (rw (same_set mid place y z l, sym (left.rest place z (omega arith) (omega (arith, left.many, l)))) (here z)))
+  ]
+
+  pub left_more : IsLeftBy ahead lazy old d (place + 1) (slice_set mid place y)
+  left_more = record {
+    many = length_set mid place y ∙ left.many;
+    lazies = lazies_more;
+    left = left_on;
+    rest = λ k z n m. rw (other_set mid place k y z (λ e. absurd (omega (arith, e, n)))) (left.rest k z (omega (arith, n)) m);
+  }
 
 -- the day that was given is not the bound
 pub gave_it : {X : Type 0} (ahead : X → Option DayTimes) (xs : List X) (day to : ℤ) → day ≤ℤ to → (day ≡ to +ℤ pos 1) ⊎ GaveDaySome ahead xs day

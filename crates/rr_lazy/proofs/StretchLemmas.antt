@@ -1,14 +1,15 @@
 -- The dates of one day in a rising list.
-use Rattle.std.proofs.Common.{◌≡◌, ◌≢◌, ◌⊎◌, ◌↔◌, ℕ, zero, suc, ◌+◌, ◌<◌, ◌≤◌, Bool, true, false, ◌||◌, List, [], ◌∷◌, ◌++◌, length, get_or, Contains, ℤ}
+use Rattle.std.proofs.Common.{◌≡◌, ◌≢◌, ◌⊎◌, ◌↔◌, ℕ, zero, suc, ◌+◌, ◌<◌, ◌≤◌, true, false, ◌||◌, List, [], ◌∷◌, ◌++◌, length, get_or, Contains, ℤ}
 use Rattle.std.proofs.Common.{pos, ◌+ℤ◌, ◌≤ℤ◌, ◌<ℤ◌, w64, to_z, of_z, refl, sym, ap, subst, ◌∙◌, inl, inr, arith}
-use Rattle.std.specs.Prelude.{IsTrue, not, int_lt, nat_lt}
+use Rattle.std.specs.Prelude.{IsTrue, int_lt, nat_lt}
 use Rattle.std.specs.List.{list_any}
 use Rattle.std.specs.List.Sorted.{IsPartitionedBy, IsPartitionPoint}
 use Rattle.std.specs.Ordering.{int_eq}
-use Rattle.std.proofs.lemmas.Int.{ints, by_lt_z}
+use Rattle.std.proofs.lemmas.Int.{ints}
 use Rattle.std.proofs.lemmas.Bool.{cases_lt, false≢true}
 use Rattle.std.proofs.lemmas.Bool.Decides.{nat_tests}
-use Rattle.std.proofs.lemmas.List.{get_or_default}
+use Rattle.std.proofs.lemmas.List.{get_or_default, take_all}
+use Rattle.std.proofs.lemmas.Option.{get_or_from_slice_get, slice_get_within}
 use Rattle.std.proofs.lemmas.List.Elements.{Contains-get_or}
 use Rattle.rr_model.specs.Whole.{floor_mod}
 use Rattle.rr_model.specs.Moment.{day_part, second_part, moment_at}
@@ -16,18 +17,16 @@ use Rattle.rr_model.specs.Rule.Candidate.{lists}
 use Rattle.rr_model.specs.Rising.{Rises}
 use Rattle.rr_model.specs.Rising.Sets.{IsSetOf}
 use Rattle.rr_model.specs.declared.kind.Kind.{Kind}
-use Rattle.rr_model.specs.declared.refusal.NoMemory.{NoMemory}
 use Rattle.rr_model.specs.declared.kind.Kind.TheVariants.{Days, Moments}
 use Rattle.rr_model.proofs.WholeLemmas.{floor_whole, floor_mod_below}
 use Rattle.rr_model.proofs.MomentLemmas.{day_part-moment_at, second_part-moment_at}
 use Rattle.rr_model.proofs.RisingSetLemmas.{set_same, set_push, set_empty, below_rest, Rises-tail, Contains-head, Contains-tail, Contains-none}
 use Rattle.rr_model.proofs.RisingSetLemmas.{Contains-cons_cases}
 use Rattle.rr_model.specs.Sets.Tree.{has_second, is_among}
-use Rattle.std.specs.Prelude.{Some, None, Ok, Err}
-use Rattle.rr_model.specs.Sets.Tree.{Tree, dates_of, without, stands_at}
-use Rattle.rr_lazy.specs.Next.{HasNone, IsFirstOccupied, IsNext}
-use Rattle.rr_lazy.specs.Stretch.{IsFirstFrom, IsFirstDate, IsNextLeft}
-use Rattle.rr_lazy.specs.declared.day_times.DayTimes.{DayTimes}
+use Rattle.std.specs.Prelude.{Some, None, slice_get}
+use Rattle.rr_model.specs.Sets.Tree.{dates_of}
+use Rattle.rr_lazy.specs.Next.{HasNone, IsFirstOccupied, IsWithin, with_set}
+use Rattle.rr_lazy.specs.Stretch.{IsFirstFrom, IsFirstDate}
 use Rattle.rr_lazy.proofs.TreeLemmas.{has_second_below, and_left, and_right}
 
 -- ---- rising dates by place
@@ -263,6 +262,13 @@ module _ (kind : Kind) (dates : List ℤ) (rises : Rises int_lt dates) (from to 
         ),
       )
 
+-- no date lies on a day that is not that of the first date from it on
+pub none_on : (kind : Kind) (dates : List ℤ) → Rises int_lt dates → (day : ℤ) (place : ℕ) → IsFirstFrom kind dates day place
+    → (place < length dates → day_part kind (get_or dates place (pos 0)) ≡ day → ⊥) → (s : ℕ) → is_among kind dates day s ≡ false
+none_on kind dates rises day place f other s = none_of kind dates rises day day place f day s
+    (λ t. (let n = not_early kind dates rises day day place f day s (omega (arith, ints)) t in
+    other n.0 (omega (arith, ints, n.1, f.from place (omega arith) n.0))))
+
 pub dates_none : (kind : Kind) (dates : List ℤ) (position to q : ℤ) → IsFirstDate kind dates position to None → (q ≡ to +ℤ pos 1) ⊎ (q ≡ position)
     → HasNone (dates_of kind dates) position q
 dates_none kind dates position to q none one d s l h =
@@ -277,91 +283,12 @@ dates_some kind dates position to day times f set = record {
   all = set;
 }
 
--- ---- a part without dates
-
-module _ (tree : Tree) (kind : Kind) (dates : List ℤ) where
-  without_none : (d : ℤ) (s : ℕ) → stands_at tree d s ≡ false → stands_at (without tree kind dates) d s ≡ false
-  without_none d s e = rw e refl
-
-  -- what is left of a day
-  left_stands : (d : ℤ) (times left : List ℕ) → IsSetOf nat_lt times (λ s. IsTrue (stands_at tree d s))
-      → ((s : ℕ) → Contains left s ↔ (Contains times s × (is_among kind dates d s ≡ false))) → (s : ℕ)
-      → Contains left s ↔ IsTrue (stands_at (without tree kind dates) d s)
-  left_stands d times left set out s = (
-    λ c. (let p = (out s).0 c in rw ((set.exact s).0 p.0, p.1) refl),
-    λ h. (out s).1 ((set.exact s).1 (and_left _ _ h), not_so (is_among kind dates d s) (and_right (stands_at tree d s) _ h)),
-  )
-    where
-      not_so : (b : Bool) → not b ≡ true → b ≡ false
-      not_so true e = absurd (false≢true e)
-      not_so false e = refl
-
-  module _ (old own own' to : ℤ) (order : old ≤ℤ own) (none : HasNone (without tree kind dates) old own) where
-    pub left_none : IsNext tree own to (Ok None) own' → IsNextLeft tree kind dates old to (Ok None) own'
-    left_none n = (
-      λ d s l h. by_lt_z {P = stands_at (without tree kind dates) d s ≡ false} d own (λ m. none d s l m) (λ g. without_none d s (n.0 d s g h)),
-      omega (arith, ints, order, n.1),
-      n.2,
+-- a set that was placed in a table is the day's
+pub placed : (sets : List (List ℕ)) (day : ℤ) (number count : ℕ) (times : List ℕ) → slice_get sets number ≡ Some times → count ≡ length times
+    → IsWithin sets (record { day = day; number = number; count = count })
+    × ((with_set sets (record { day = day; number = number; count = count })).times ≡ times)
+placed sets day number count times at e =
+    let set : get_or sets number [] ≡ times = get_or_from_slice_get sets number times [] at in (
+      (slice_get_within sets number times at, rw (set, e) (omega arith)),
+      rw (set, e) (take_all (length times) times (omega arith)),
     )
-
-    -- a day of which nothing is left is passed over
-    pub left_passed : (found : DayTimes) (left : List ℕ) → IsNext tree own to (Ok (Some found)) own'
-        → ((s : ℕ) → Contains left s ↔ (Contains found.times s × (is_among kind dates found.day s ≡ false))) → left ≡ []
-        → (old ≤ℤ own') × HasNone (without tree kind dates) old own'
-    left_passed found left n out e = (
-      omega (arith, ints, order, n.0.late, n.2),
-      λ d s l h. by_lt_z {P = stands_at (without tree kind dates) d s ≡ false} d own (λ m. none d s l m) (λ g.
-          by_lt_z {P = stands_at (without tree kind dates) d s ≡ false} d found.day (λ m. without_none d s (n.0.before d s g m)) (λ k.
-          (let i : found.day ≡ d = omega (arith, ints, k, h, n.2) in
-          elim (stands_at (without tree kind dates) d s) as (λ b. stands_at (without tree kind dates) d s ≡ b → b ≡ false) [
-            | false ↦ λ x. refl
-            | true ↦ λ x. absurd
-                (Contains-none s (subst (λ y. Contains y s) e
-                ((left_stands found.day found.times left n.0.all out s).1 (subst (λ y. stands_at (without tree kind dates) y s ≡ true) (sym i) x))))
-          ] refl))),
-    )
-
-    pub left_found : (found : DayTimes) (left : List ℕ) → IsNext tree own to (Ok (Some found)) own'
-        → ((s : ℕ) → Contains left s ↔ (Contains found.times s × (is_among kind dates found.day s ≡ false))) → Rises nat_lt left → left ≢ []
-        → IsFirstOccupied (without tree kind dates) old found.day left × (found.day ≤ℤ to) × (own' ≡ found.day +ℤ pos 1)
-    left_found found left n out r e = (
-      record {
-        late = omega (arith, ints, order, n.0.late);
-        before = λ d s l h. by_lt_z {P = stands_at (without tree kind dates) d s ≡ false} d own (λ m. none d s l m)
-            (λ g. without_none d s (n.0.before d s g h));
-        some = e;
-        all = record { rises = r; exact = left_stands found.day found.times left n.0.all out };
-      },
-      n.1,
-      n.2,
-    )
-
--- ---- the combinator's own position, before which its part has nothing left
-
-module _ (tree : Tree) (kind : Kind) (dates : List ℤ) (position own own' to : ℤ) (order : position ≤ℤ own)
-    (passed : HasNone (without tree kind dates) position own) where
-  pub own_none : (q : ℤ) → IsNextLeft tree kind dates own to (Ok None) own' → position ≤ℤ q → (q ≡ to +ℤ pos 1) ⊎ (q ≡ position)
-      → (q ≤ℤ own') × HasNone (without tree kind dates) position q × HasNone (without tree kind dates) q own'
-  own_none q n late one =
-      let l : q ≤ℤ own' = elim one [ inl e ↦ omega (arith, ints, e, n.2) | inr e ↦ omega (arith, ints, e, order, n.1) ] in
-      let all : HasNone (without tree kind dates) position own' =
-      λ d s a b. by_lt_z {P = stands_at (without tree kind dates) d s ≡ false} d own (λ m. passed d s a m) (λ g. n.0 d s g b) in
-      (l, (λ d s a b. all d s a (omega (arith, ints, b, l))), (λ d s a b. all d s (omega (arith, ints, a, late)) b))
-
-  pub own_kept : (e : NoMemory) → IsNextLeft tree kind dates own to (Err e) own' → (position ≤ℤ own') × HasNone (without tree kind dates) position own'
-  own_kept e n = (
-    omega (arith, ints, order, n.1),
-    λ d s a b. by_lt_z {P = stands_at (without tree kind dates) d s ≡ false} d own (λ m. passed d s a m) (λ g. n.0 d s g b),
-  )
-
-  pub own_some : (found : DayTimes) → IsNextLeft tree kind dates own to (Ok (Some found)) own'
-      → IsFirstOccupied (without tree kind dates) position found.day found.times
-  own_some found n = record {
-    late = omega (arith, ints, order, n.0.late);
-    before = λ d s a b. by_lt_z {P = stands_at (without tree kind dates) d s ≡ false} d own (λ m. passed d s a m) (λ g. n.0.before d s g b);
-    some = n.0.some;
-    all = n.0.all;
-  }
-
-pub nothing_between : (tree : Tree) (a b : ℤ) → a ≡ b → HasNone tree a b
-nothing_between tree a b e d s l h = absurd (omega (arith, ints, e, l, h))

@@ -1,22 +1,25 @@
 -- An iterator that ends at a moment.
-use Rattle.std.proofs.Common.{◌≡◌, ◌≢◌, ◌⊎◌, ℕ, suc, ◌+◌, ◌<◌, true, false, ◌&&◌, List, [], ◌∷◌, Contains, ℤ, pos, ◌+ℤ◌, ◌≤ℤ◌, ◌<ℤ◌, refl, sym, ap, subst}
+use Rattle.std.proofs.Common.{◌≡◌, ◌≢◌, ◌⊎◌, ℕ, ◌+◌, ◌<◌, ◌≤◌, true, false, ◌&&◌, List, [], ◌∷◌, take, Contains, ℤ, pos, ◌+ℤ◌, ◌≤ℤ◌, ◌<ℤ◌, refl, sym, ap}
+use Rattle.std.proofs.Common.{subst}
 use Rattle.std.proofs.Common.{◌∙◌, inl, inr, arith}
-use Rattle.std.specs.Prelude.{Some, None, Ok, IsTrue, int_le, nat_lt, nat_eq, length}
+use Rattle.std.specs.Prelude.{Some, None, Ok, IsTrue, int_le, nat_lt, length}
 use Rattle.std.proofs.lemmas.Int.{ints, clamps, by_lt_z}
 use Rattle.std.specs.Int.{int_min}
-use Rattle.std.proofs.lemmas.Bool.{false≢true}
+use Rattle.std.proofs.lemmas.List.{length-take-le}
 use Rattle.std.proofs.lemmas.Bool.Decides.{nat_tests}
 use Rattle.rr_model.specs.Whole.{floor_div, floor_mod}
 use Rattle.rr_model.specs.Moment.{day_part, moment_at}
-use Rattle.rr_model.specs.Rising.Sets.{IsSetOf}
+use Rattle.rr_model.specs.Rising.Sets.{IsSetOf, IsSecondsOfDay}
+use Rattle.rr_times.specs.Split.{SplitsAt}
+use Rattle.rr_times.proofs.TakeLemmas.{first_below}
 use Rattle.rr_model.specs.declared.kind.Kind.{Kind}
 use Rattle.rr_model.specs.declared.kind.Kind.TheVariants.{Days, Moments}
 use Rattle.rr_model.proofs.WholeLemmas.{floor_whole, floor_mod_below}
 use Rattle.rr_model.proofs.RisingSetLemmas.{set_same, Contains-head, Contains-none}
 use Rattle.rr_model.specs.Sets.Tree.{Tree, upto, stands_at}
 use Rattle.rr_lazy.specs.Next.{HasNone, IsFirstOccupied, IsNext}
-use Rattle.rr_lazy.specs.Upto.{IsSecondsTo}
-use Rattle.rr_lazy.specs.declared.day_times.DayTimes.{DayTimes}
+use Rattle.rr_lazy.specs.Upto.{IsSecondsTo, IsUpTo}
+use Rattle.rr_lazy.specs.DayTimes.{DayTimes}
 use Rattle.rr_lazy.proofs.TreeLemmas.{stands_below, and_left, and_right}
 
 -- ---- the seconds of a day up to a moment
@@ -49,6 +52,30 @@ to_moment at day e s l =
           grind (arith, ints))
     ] refl
 
+-- ---- the first seconds of a day, those up to a moment
+
+module _ (kind : Kind) (at day : ℤ) (times : List ℕ) (of_day : IsSecondsOfDay times) where
+  cut_same : (kept : List ℕ) (bound : ℕ) → IsSecondsTo kind at day bound → IsSetOf nat_lt kept (λ s. Contains times s × (s < bound))
+      → IsUpTo kind at day times kept
+  cut_same kept bound until set =
+      set_same nat_lt (λ s. Contains times s × (s < bound)) (λ s. Contains times s × IsTrue (int_le (moment_at kind day s) at)) kept set (λ s. (
+        (λ h. (let e = until s (second_of_day s h.0) in let l : s < bound = h.1 in (h.0, e ∙ (grind (arith, nat_tests))))),
+        (λ h. (let e : nat_lt s bound ≡ true = sym (until s (second_of_day s h.0)) ∙ h.1 in (h.0, (grind (arith, nat_tests))))),
+      ))
+    where
+      second_of_day : (s : ℕ) → Contains times s → s < 86_400
+      second_of_day s c = subst (λ x. x < 86_400) c.2 (of_day.below_a_day c.0 s c.1)
+
+  -- all of a day before the moment's
+  pub cut_before : day <ℤ day_part kind at → IsUpTo kind at day times times
+  cut_before h = cut_same times 86_400 (to_before kind at day h)
+      (record { rises = of_day.rises; exact = λ s. ((λ c. (c, subst (λ x. x < 86_400) c.2 (of_day.below_a_day c.0 s c.1))), (λ p. p.0)) })
+
+  -- the first ones, below the bound
+  pub cut_to : (bound place : ℕ) → IsSecondsTo kind at day bound → SplitsAt times place bound
+      → IsUpTo kind at day times (take place times)
+  cut_to bound place until split = cut_same (take place times) bound until (first_below times place bound of_day.rises split)
+
 -- ---- what stands up to it
 
 module _ (tree : Tree) (kind : Kind) (at : ℤ) where
@@ -63,16 +90,13 @@ module _ (tree : Tree) (kind : Kind) (at : ℤ) where
   none_upto d s e = rw e refl
 
   -- what is kept of a day
-  pub day_kept : (d : ℤ) (times kept : List ℕ) (bound : ℕ) → IsSetOf nat_lt times (λ s. IsTrue (stands_at tree d s)) → IsSecondsTo kind at d bound
-      → IsSetOf nat_lt kept (λ s. Contains times s × (s < bound)) → IsSetOf nat_lt kept (λ s. IsTrue (stands_at (upto tree kind at) d s))
-  day_kept d times kept bound set to cut =
-      set_same nat_lt (λ s. Contains times s × (s < bound)) (λ s. IsTrue (stands_at (upto tree kind at) d s)) kept cut (λ s. (
-        (λ h. (let e : stands_at tree d s ≡ true = (set.exact s).0 h.0 in
-            let l : nat_lt s bound ≡ true = grind (arith, nat_tests) in
-            rw e (to s (stands_below tree d s e) ∙ l))),
-        (λ h. (let e : stands_at tree d s ≡ true = and_left _ _ h in
-            let l : nat_lt s bound ≡ true = sym (to s (stands_below tree d s e)) ∙ and_right (stands_at tree d s) _ h in
-            ((set.exact s).1 e, (let m : s < bound = grind (arith, nat_tests) in m)))),
+  pub day_kept : (d : ℤ) (times kept : List ℕ) → IsSetOf nat_lt times (λ s. IsTrue (stands_at tree d s))
+      → IsUpTo kind at d times kept
+      → IsSetOf nat_lt kept (λ s. IsTrue (stands_at (upto tree kind at) d s))
+  day_kept d times kept set cut =
+      set_same nat_lt (λ s. Contains times s × IsTrue (int_le (moment_at kind d s) at)) (λ s. IsTrue (stands_at (upto tree kind at) d s)) kept cut (λ s. (
+        (λ h. (let e : stands_at tree d s ≡ true = (set.exact s).0 h.0 in rw e h.1)),
+        (λ h. ((set.exact s).1 (and_left _ _ h), and_right (stands_at tree d s) _ h)),
       ))
 
   none_of_empty : (P : ℕ → Type 0) (xs : List ℕ) → xs ≡ [] → IsSetOf nat_lt xs P → (s : ℕ) → P s → ⊥
@@ -94,9 +118,10 @@ module _ (tree tree' : Tree) (kind : Kind) (at own own' position to to' q : ℤ)
   )
 
   -- the part gave a day of which nothing is kept: it is the last one
-  pub upto_emptied : (found : DayTimes) (kept : List ℕ) (cut : ℕ) → IsNext tree own to' (Ok (Some found)) own' → IsSecondsTo kind at found.day cut
-      → IsSetOf nat_lt kept (λ s. Contains found.times s × (s < cut)) → kept ≡ [] → HasNone (upto tree kind at) position q × (q ≤ℤ day_part kind at → own' ≡ q)
-  upto_emptied found kept cut n until set e =
+  pub upto_emptied : (found : DayTimes) (kept : List ℕ) → IsNext tree own to' (Ok (Some found)) own'
+      → IsUpTo kind at found.day found.times kept → kept ≡ []
+      → HasNone (upto tree kind at) position q × (q ≤ℤ day_part kind at → own' ≡ q)
+  upto_emptied found kept n set e =
       let last : day_part kind at ≤ℤ found.day =
       by_lt_z {P = day_part kind at ≤ℤ found.day} found.day (day_part kind at) (λ m. absurd (not_before m found.times refl)) (λ g. g) in (
         λ d s l h. by_lt_z {P = stands_at (upto tree kind at) d s ≡ false} d found.day
@@ -108,7 +133,7 @@ module _ (tree tree' : Tree) (kind : Kind) (at own own' position to to' q : ℤ)
               | false ↦ λ x. refl
               | true ↦ λ x. absurd
                   (none_of_empty tree kind at (λ s. IsTrue (stands_at (upto tree kind at) found.day s)) kept e
-                  (day_kept tree kind at found.day found.times kept cut n.0.all until set) s (subst (λ y. stands_at (upto tree kind at) y s ≡ true) (sym i) x))
+                  (day_kept tree kind at found.day found.times kept n.0.all set) s (subst (λ y. stands_at (upto tree kind at) y s ≡ true) (sym i) x))
             ] refl))),
         λ h. absurd (elim one [
           | inl a ↦ omega (arith, ints, clamps, a, h, last, n.1, bound)
@@ -123,21 +148,21 @@ module _ (tree tree' : Tree) (kind : Kind) (at own own' position to to' q : ℤ)
           let c : Contains found.times s = subst (λ x. Contains x s) (sym f) (Contains-head s ss) in
           let x : stands_at tree found.day s ≡ true = (n.0.all.exact s).0 c in
           let b : s < 86_400 = stands_below tree found.day s x in
-          let y : nat_lt s cut ≡ nat_lt s 86_400 = sym (until s b) ∙ to_before kind at found.day m s b in
-          let z : s < cut = grind (arith, nat_tests) in
-          none_of_empty tree kind at (λ s. Contains found.times s × (s < cut)) kept e set s (c, z)
+          let y : int_le (moment_at kind found.day s) at ≡ nat_lt s 86_400 = to_before kind at found.day m s b in
+          let z : IsTrue (int_le (moment_at kind found.day s) at) = y ∙ (grind (arith, nat_tests)) in
+          none_of_empty tree kind at (λ s. Contains found.times s × IsTrue (int_le (moment_at kind found.day s) at)) kept e set s (c, z)
 
 -- the part gave a day of which something is kept
 pub upto_some : (tree : Tree) (kind : Kind) (at own own' position to to' q : ℤ) → own ≡ position → to' ≡ int_min to (day_part kind at)
-    → (found : DayTimes) (kept : List ℕ) (cut : ℕ) → IsNext tree own to' (Ok (Some found)) own' → IsSecondsTo kind at found.day cut
-    → IsSetOf nat_lt kept (λ s. Contains found.times s × (s < cut)) → kept ≢ [] → q ≡ found.day +ℤ pos 1
+    → (found : DayTimes) (kept : List ℕ) → IsNext tree own to' (Ok (Some found)) own'
+    → IsUpTo kind at found.day found.times kept → kept ≢ [] → q ≡ found.day +ℤ pos 1
     → IsFirstOccupied (upto tree kind at) position found.day kept × (found.day ≤ℤ to) × (own' ≡ q)
-upto_some tree kind at own own' position to to' q same bound found kept cut n until set some e = (
+upto_some tree kind at own own' position to to' q same bound found kept n set some e = (
   record {
     late = omega (arith, ints, n.0.late, same);
     before = λ d s l h. none_upto tree kind at d s (n.0.before d s (omega (arith, ints, l, same)) h);
     some = some;
-    all = day_kept tree kind at found.day found.times kept cut n.0.all until set;
+    all = day_kept tree kind at found.day found.times kept n.0.all set;
   },
   omega (arith, ints, clamps, n.1, bound),
   n.2 ∙ sym e,
@@ -148,9 +173,10 @@ upto_some tree kind at own own' position to to' q same bound found kept cut n un
 pub begun_next : (low own position day q : ℤ) → low ≤ℤ position → own ≡ position → own ≤ℤ day → q ≡ day +ℤ pos 1 → low ≤ℤ q
 begun_next low own position day q a b c d = omega (arith, ints)
 
-pub empty_is : (xs : List ℕ) → nat_eq (length xs) 0 ≡ true → xs ≡ []
-empty_is [] e = refl
-empty_is (x ∷ xs) e = absurd (let f : nat_eq (suc (length xs)) 0 ≡ false = grind (arith, nat_tests) in false≢true (sym f ∙ e))
+pub none_of_length : (xs : List ℕ) → length xs ≡ 0 → xs ≡ []
+none_of_length [] e = refl
+none_of_length (x ∷ xs) e = absurd (omega (arith, e))
 
-pub not_empty : (xs : List ℕ) → nat_eq (length xs) 0 ≡ false → xs ≡ [] → ⊥
-not_empty xs e f = (let n : length xs ≡ 0 = ap length f in let g : nat_eq (length xs) 0 ≡ true = grind (arith, nat_tests) in false≢true (sym e ∙ g))
+-- a day of which some seconds are kept
+pub take_some : (count : ℕ) (xs : List ℕ) → (count ≡ 0 → ⊥) → count ≤ length xs → take count xs ≡ [] → ⊥
+take_some count xs n l e = n (omega (arith, length-take-le count xs l, ap length e))

@@ -1,28 +1,37 @@
 -- What a combinator knows of a part that it asked.
-use Rattle.std.specs.Prelude.{◌≡◌, ◌≢◌, ◌⊎◌, ℕ, Bool, List, [], Option, Some, None, nat_eq, ℤ, pos, ◌+ℤ◌, ◌≤ℤ◌, ◌<ℤ◌}
-use Rattle.std.specs.List.{list_any, Contains}
+use Rattle.std.specs.Prelude.{◌≡◌, ◌≢◌, ◌⊎◌, ℕ, IsTrue, List, [], Option, Some, None, nat_lt, ℤ, pos, ◌+ℤ◌, ◌≤ℤ◌, ◌<ℤ◌}
+use Rattle.std.specs.List.{Contains}
 use Rattle.std.specs.Option.{ForSome, ForNone}
 use Rattle.rr_model.specs.Calendar.{first_day_of_year}
-use Rattle.rr_lazy.specs.declared.day_times.DayTimes.{DayTimes}
+use Rattle.rr_lazy.specs.DayTimes.{DayTimes}
 use Rattle.rr_model.specs.Sets.Tree.{Tree, union, stands_at, IsOfOneKind}
-use Rattle.rr_lazy.specs.Next.{HasNone, IsSoundLazy}
-
--- the list has exactly the seconds that pass, said by tests, so that there is one proof of it
-abbrev pub HasSeconds : List ℕ → (ℕ → Bool) → Type 0
-HasSeconds times test = (s : ℕ) → list_any (λ x. nat_eq x s) times ≡ test s
+use Rattle.rr_model.specs.Rising.{Rises}
+use Rattle.rr_model.specs.Rising.Sets.{IsSetOf}
+use Rattle.rr_lazy.specs.declared.occupied_day.OccupiedDay.{OccupiedDay}
+use Rattle.rr_lazy.specs.Next.{HasNone, IsSoundLazy, IsWithin, with_set}
 
 -- the first occupied day from one on, which the part gave last
 pub record IsGiven (tree : Tree) (own from day : ℤ) (times : List ℕ) : Type 0 where
   pub late : from ≤ℤ day
   pub before : HasNone tree from day
   pub some : times ≢ []
-  pub seconds : HasSeconds times (stands_at tree day)
+  pub seconds : IsSetOf nat_lt times (λ s. IsTrue (stands_at tree day s))
   pub own_next : own ≡ day +ℤ pos 1
 
 -- from a day on: the part's first occupied day, or that it has none before its own position
 pub record IsAhead (tree : Tree) (own from : ℤ) (ahead : Option DayTimes) : Type 0 where
   pub some : ForSome ahead (λ f. IsGiven tree own from f.day f.times)
   pub none : ForNone ahead ((from ≤ℤ own) × HasNone tree from own)
+
+-- what is known of the day that a part gave, by the table of sets
+abbrev pub seen : List (List ℕ) → Option OccupiedDay → Option DayTimes
+seen sets None = None
+seen sets (Some f) = Some (with_set sets f)
+
+-- the same of a part that told the seconds by a number
+pub record IsAheadIn (sets : List (List ℕ)) (tree : Tree) (own from : ℤ) (ahead : Option OccupiedDay) : Type 0 where
+  pub within : ForSome ahead (IsWithin sets)
+  pub known : IsAhead tree own from (seen sets ahead)
 
 -- the part gave this day, with this second
 abbrev pub HasOn : Option DayTimes → ℤ → ℕ → Type 0
@@ -43,6 +52,18 @@ IsFirstOfBoth a b to None = ForSome a (λ f. to <ℤ f.day) × ForSome b (λ f. 
 abbrev pub IsLeft : Option DayTimes → ℤ → Option DayTimes → Type 0
 IsLeft None day r = r ≡ None
 IsLeft (Some f) day r = ((f.day ≡ day) × (r ≡ None)) ⊎ ((f.day ≢ day) × (r ≡ Some f))
+
+-- it is within the table, and its seconds rise
+pub record IsGivenOn (sets : List (List ℕ)) (found : OccupiedDay) : Type 0 where
+  pub within : IsWithin sets found
+  pub rises : Rises nat_lt ((with_set sets found).times)
+
+-- What two parts gave for a day: all seconds of both, and nothing where neither gave it.
+abbrev pub IsGivenByBoth : List (List ℕ) → Option OccupiedDay → Option OccupiedDay → ℤ → List (List ℕ) → Option OccupiedDay → Type 0
+IsGivenByBoth old a b day new None = (GaveDay (seen old a) day → ⊥) × (GaveDay (seen old b) day → ⊥)
+IsGivenByBoth old a b day new (Some found) =
+    (found.day ≡ day) × IsGivenOn new found × (GaveDay (seen old a) day ⊎ GaveDay (seen old b) day)
+    × IsSetOf nat_lt ((with_set new found).times) (λ s. HasOn (seen old a) day s ⊎ HasOn (seen old b) day s)
 
 -- two trees of one kind make a sound iterator
 pub sound_union : (t u : Tree) (position : ℤ) → IsOfOneKind (union t u) → first_day_of_year (pos 1) ≤ℤ position → IsSoundLazy (union t u) position

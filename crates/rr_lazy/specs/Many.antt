@@ -1,10 +1,12 @@
 -- Several parts of a combinator, and what each gave.
-use Rattle.std.specs.Prelude.{◌≡◌, ℕ, ◌<◌, ◌≤◌, List, [], ◌∷◌, length, get_or, Option, ℤ, pos, ◌≤ℤ◌}
+use Rattle.std.specs.Prelude.{◌≡◌, ℕ, ◌<◌, ◌≤◌, List, [], ◌∷◌, length, get_or, nat_lt, Option, Some, None, ℤ, pos, ◌≤ℤ◌}
 use Rattle.rr_model.specs.Calendar.{first_day_of_year}
-use Rattle.rr_lazy.specs.declared.day_times.DayTimes.{DayTimes}
+use Rattle.rr_lazy.specs.DayTimes.{DayTimes}
 use Rattle.rr_model.specs.Sets.Tree.{Tree, Forest, nothing, part, many, IsOfOneKind}
-use Rattle.rr_lazy.specs.Next.{IsSoundLazy}
-use Rattle.rr_lazy.specs.Ahead.{HasOn, GaveDay, IsLeft}
+use Rattle.rr_model.specs.Rising.Sets.{IsSetOf}
+use Rattle.rr_lazy.specs.declared.occupied_day.OccupiedDay.{OccupiedDay}
+use Rattle.rr_lazy.specs.Next.{IsSoundLazy, with_set}
+use Rattle.rr_lazy.specs.Ahead.{HasOn, GaveDay, IsGivenOn, IsLeft, seen}
 
 -- the trees of the parts of a list
 abbrev pub forest_of : {X : Type 0} → (X → Tree) → List X → Forest
@@ -28,6 +30,13 @@ GaveDaySome {X} ahead parts day = (k : ℕ) × (k < length parts) × ((d : X) �
 -- one of the first parts, so many, gave this day with this second
 abbrev pub HasOnSome : {X : Type 0} → (X → Option DayTimes) → List X → ℕ → ℤ → ℕ → Type 0
 HasOnSome {X} ahead parts place day s = (k : ℕ) × (k < place) × (k < length parts) × ((d : X) → HasOn (ahead (get_or parts k d)) day s)
+
+-- What the first parts, so many, gave for a day: all seconds of those that gave it, and nothing where none did.
+abbrev pub IsGivenBySome : {X : Type 0} → List (List ℕ) → (X → Option OccupiedDay) → List X → ℕ → ℤ → List (List ℕ) → Option OccupiedDay → Type 0
+IsGivenBySome {X} old ahead parts place day new None = (k : ℕ) → k < place → k < length parts → (d : X) → GaveDay (seen old (ahead (get_or parts k d))) day → ⊥
+IsGivenBySome {X} old ahead parts place day new (Some found) =
+    (found.day ≡ day) × IsGivenOn new found
+    × IsSetOf nat_lt ((with_set new found).times) (HasOnSome (λ p. seen old (ahead p)) parts place day)
 
 -- the first parts, so many, have forgotten the day; nothing else has changed
 pub record IsLeftBy {X L : Type 0} (ahead : X → Option DayTimes) (lazy : X → L) (old : List X) (day : ℤ) (place : ℕ) (new : List X) : Type 0 where

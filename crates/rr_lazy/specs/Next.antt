@@ -1,9 +1,10 @@
 -- What a lazy iterator answers: its occupied days one after another.
-use Rattle.std.specs.Prelude.{◌≡◌, ◌≢◌, ◌⊎◌, ℕ, false, IsTrue, List, [], Option, Some, None, Result, Ok, Err, nat_lt, ℤ, pos, ◌+ℤ◌, ◌≤ℤ◌, ◌<ℤ◌}
+use Rattle.std.specs.Prelude.{◌≡◌, ◌≢◌, ◌⊎◌, ℕ, ◌<◌, ◌≤◌, length, get_or, take, false, IsTrue, List, [], Option, Some, None, Result, Ok, Err, nat_lt, ℤ, pos, ◌+ℤ◌, ◌≤ℤ◌, ◌<ℤ◌}
 use Rattle.rr_model.specs.Rising.Sets.{IsSetOf}
 use Rattle.rr_model.specs.Calendar.{first_day_of_year}
 use Rattle.rr_model.specs.declared.refusal.NoMemory.{NoMemory}
-use Rattle.rr_lazy.specs.declared.day_times.DayTimes.{DayTimes}
+use Rattle.rr_lazy.specs.DayTimes.{DayTimes}
+use Rattle.rr_lazy.specs.declared.occupied_day.OccupiedDay.{OccupiedDay}
 use Rattle.rr_model.specs.Sets.Tree.{Tree, IsOfOneKind, stands_at}
 
 -- no day from one on and below another is occupied
@@ -22,6 +23,22 @@ abbrev pub IsNext : Tree → ℤ → ℤ → Result (Option DayTimes) NoMemory �
 IsNext tree old to (Ok (Some found)) new = IsFirstOccupied tree old found.day found.times × (found.day ≤ℤ to) × (new ≡ found.day +ℤ pos 1)
 IsNext tree old to (Ok None) new = HasNone tree old new × (old ≤ℤ new) × (to <ℤ new) × ((new ≡ to +ℤ pos 1) ⊎ (new ≡ old))
 IsNext tree old to (Err e) new = new ≡ old
+
+-- ---- by numbers in a table of sets
+
+-- the day, with the first seconds, so many, of the set of its number
+abbrev pub with_set : List (List ℕ) → OccupiedDay → DayTimes
+with_set sets f = record { day = f.day; times = take f.count (get_or sets f.number []) }
+
+-- its number and its count are within the table
+abbrev pub IsWithin : List (List ℕ) → OccupiedDay → Type 0
+IsWithin sets f = (f.number < length sets) × (f.count ≤ length (get_or sets f.number []))
+
+-- What a call of `next` does where the seconds are told by a number.
+abbrev pub IsNextIn : List (List ℕ) → Tree → ℤ → ℤ → Result (Option OccupiedDay) NoMemory → ℤ → Type 0
+IsNextIn sets tree old to (Ok (Some found)) new = IsWithin sets found × IsNext tree old to (Ok (Some (with_set sets found))) new
+IsNextIn sets tree old to (Ok None) new = IsNext tree old to (Ok None) new
+IsNextIn sets tree old to (Err e) new = IsNext tree old to (Err e) new
 
 -- what is known of every lazy iterator: its tree is of one kind, and its position is not before 0001-01-01
 pub record IsSoundLazy (tree : Tree) (position : ℤ) : Type 0 where

@@ -1,13 +1,14 @@
 // Dates that are listed.
-ghost use Rattle.std.specs.Prelude.{◌≡◌, ◌≤ℤ◌, All, pos};
+ghost use Rattle.std.specs.Prelude.{◌≡◌, ◌≤ℤ◌, All, List, ℕ, pos};
 ghost use Rattle.rr_model.specs.Calendar.{first_day_of_year};
 ghost use Rattle.rr_model.specs.Moment.Years.{IsInYears};
 ghost use Rattle.rr_lazy.specs.Next.{IsUnasked};
 
 use crate::position::past;
 use crate::stretch::{first_date, seconds_on};
-use crate::{DayTimes, Lazy};
+use crate::{Lazy, OccupiedDay};
 use rr_model::{Dates, Kind, NoMemory};
+use rr_shapes::SetTable;
 use std::alloc::Global;
 
 /// The days of listed dates.
@@ -28,6 +29,7 @@ impl DatesLazy {
         requires in_years { All (IsInYears kind) dates }
         ensures tree { ⟦<DatesLazy as Lazy>⟧.tree result ≡ dates_of kind dates }
         ensures unasked { IsUnasked (⟦<DatesLazy as Lazy>⟧.position result) }
+        ensures knows { (sets : List (List ℕ)) → ⟦<DatesLazy as Lazy>⟧.knows result sets }
     {
         DatesLazy {
             kind,
@@ -38,6 +40,7 @@ impl DatesLazy {
 }
 
 impl Lazy for DatesLazy {
+    ghost use Rattle.std.specs.Prelude.{⊤};
     ghost use Rattle.rr_model.specs.Sets.Tree.{dates_of};
     ghost use Rattle.rr_lazy.specs.Stretch.{sound_dates};
 
@@ -47,7 +50,16 @@ impl Lazy for DatesLazy {
 
     ghost sound = { λ s. sound_dates s.kind s.dates s.position s.in_years s.begun };
 
-    fn next(&mut self, alloc: Global, to: i64) -> Result<Option<DayTimes>, NoMemory> {
+    ghost knows = { λ s sets. ⊤ };
+
+    ghost knows_more = { λ s old new more k. tt };
+
+    fn next(
+        &mut self,
+        alloc: Global,
+        sets: &mut SetTable,
+        to: i64,
+    ) -> Result<Option<OccupiedDay>, NoMemory> {
         match first_date(self.kind, self.dates.as_slice(), self.position, to) {
             None => {
                 self.position = past(self.position, to);
@@ -55,8 +67,10 @@ impl Lazy for DatesLazy {
             }
             Some(day) => {
                 let times = seconds_on(alloc, self.kind, self.dates.as_slice(), day)?;
+                let count = times.as_slice().len();
+                let number = sets.place(times)?;
                 self.position = day + 1;
-                Ok(Some(DayTimes { day, times }))
+                Ok(Some(OccupiedDay { day, number, count }))
             }
         }
     }

@@ -1,11 +1,12 @@
 // The first occurrences, so many.
-ghost use Rattle.std.specs.Prelude.{◌≡◌};
+ghost use Rattle.std.specs.Prelude.{◌≡◌, List, ℕ};
 ghost use Rattle.rr_lazy.specs.FirstN.{IsCounting};
 ghost use Rattle.rr_lazy.specs.Next.{IsUnasked};
 
 use crate::position::past;
-use crate::{DayTimes, Lazy};
+use crate::{Lazy, OccupiedDay};
 use rr_model::NoMemory;
+use rr_shapes::SetTable;
 use std::alloc::Global;
 
 /// The first occurrences of a part, so many; the last of them may lie within a day.
@@ -26,6 +27,7 @@ impl<A: Lazy + Drop> FirstN<A> {
         requires { IsUnasked (A.position lazy) }
         ensures tree { ⟦<FirstN<A> as Lazy>⟧.tree result ≡ first_n (A.tree lazy) count }
         ensures unasked { IsUnasked (⟦<FirstN<A> as Lazy>⟧.position result) }
+        ensures knows { (sets : List (List ℕ)) → A.knows lazy sets → ⟦<FirstN<A> as Lazy>⟧.knows result sets }
     {
         FirstN {
             lazy,
@@ -46,19 +48,28 @@ impl<A: Lazy + Drop> Lazy for FirstN<A> {
 
     ghost sound = { λ s. sound_first (A.tree s.lazy) (A.position s.lazy) s.position s.count s.left (A.sound s.lazy) s.counting };
 
-    fn next(&mut self, alloc: Global, to: i64) -> Result<Option<DayTimes>, NoMemory> {
+    ghost knows = { λ s sets. A.knows s.lazy sets };
+
+    ghost knows_more = { λ s old new more k. A.knows_more s.lazy old new more k };
+
+    fn next(
+        &mut self,
+        alloc: Global,
+        sets: &mut SetTable,
+        to: i64,
+    ) -> Result<Option<OccupiedDay>, NoMemory> {
         if self.left == 0 {
             self.position = past(self.position, to);
             return Ok(None);
         }
-        match self.lazy.next(alloc, to)? {
+        match self.lazy.next(alloc, sets, to)? {
             None => {
                 self.position = past(self.position, to);
                 Ok(None)
             }
             Some(mut found) => {
-                found.times.keep_first(self.left as usize);
-                self.left -= found.times.as_slice().len() as u64;
+                found.count = found.count.min(self.left as usize);
+                self.left -= found.count as u64;
                 self.position = found.day + 1;
                 Ok(Some(found))
             }

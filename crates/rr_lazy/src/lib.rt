@@ -3,10 +3,10 @@
 
 mod ahead;
 mod dates_lazy;
-mod day_times;
 mod first_n;
 mod lazy;
 mod many;
+mod occupied_day;
 mod position;
 mod stretch;
 mod upto;
@@ -14,9 +14,9 @@ mod without;
 
 pub use ahead::Union;
 pub use dates_lazy::DatesLazy;
-pub use day_times::DayTimes;
 pub use first_n::FirstN;
 pub use lazy::Lazy;
 pub use many::Many;
+pub use occupied_day::OccupiedDay;
 pub use upto::Upto;
 pub use without::Without;

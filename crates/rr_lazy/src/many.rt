@@ -1,26 +1,27 @@
 // The occurrences of several parts.
-ghost use Rattle.std.specs.Prelude.{◌≡◌, ◌⊎◌, ◌≤◌, ◌<◌, All, IfOk, OnOk, OnErr, length, nat_lt, neg_ℤ, pos, ◌+ℤ◌, ◌≤ℤ◌, ◌<ℤ◌, []};
+ghost use Rattle.std.specs.Prelude.{◌≡◌, ◌⊎◌, ◌≤◌, ◌<◌, All, IfOk, OnOk, OnErr, List, ℕ, length, nat_lt, neg_ℤ, pos, ◌+ℤ◌, ◌≤ℤ◌, ◌<ℤ◌, []};
 ghost use Rattle.std.specs.Option.{ForNone, ForSome};
 ghost use Rattle.rr_model.specs.Calendar.{first_day_of_year};
 ghost use Rattle.rr_model.specs.Rising.Sets.{IsSetOf};
 ghost use Rattle.rr_model.proofs.TreeLemmas.{IsOfOneKind-prop};
 ghost use Rattle.rr_model.specs.Sets.Tree.{IsOfOneKind, many};
-ghost use Rattle.rr_lazy.specs.Next.{IsUnasked};
-ghost use Rattle.rr_lazy.specs.Ahead.{GaveDay, IsAhead, IsLeft};
-ghost use Rattle.rr_lazy.specs.Many.{forest_of, HasOnSome, GaveDaySome, IsLeftBy};
+ghost use Rattle.rr_lazy.specs.Next.{IsUnasked, IsWithin};
+ghost use Rattle.rr_shapes.specs.Tables.{Extends};
+ghost use Rattle.rr_lazy.specs.Ahead.{GaveDay, IsAheadIn, IsGivenOn, seen};
+ghost use Rattle.rr_lazy.specs.Many.{forest_of, IsGivenBySome, GaveDaySome, IsLeftBy};
 
-use crate::ahead::{fill, forget, seconds_on};
+use crate::ahead::{fill, forget, on_day};
 use crate::position::past;
-use crate::{DayTimes, Lazy};
+use crate::{Lazy, OccupiedDay};
 use rr_model::NoMemory;
-use rr_times::TimeSet;
+use rr_shapes::SetTable;
 use std::alloc::Global;
 
 // A part, and the day that it gave and that was not passed on yet.
 #[derive(Drop)]
 pub(crate) struct Asked<A: Lazy + Drop> {
     pub(crate) lazy: A,
-    pub(crate) ahead: Option<DayTimes>,
+    pub(crate) ahead: Option<OccupiedDay>,
 }
 
 /// The days of several parts.
@@ -30,7 +31,6 @@ pub struct Many<A: Lazy + Drop> {
     position: i64,
     ghost begun: { first_day_of_year (pos 1) ≤ℤ position },
     ghost one_kind: { IsOfOneKind (many (forest_of (λ p. A.tree p.lazy) parts.items)) } by { IsOfOneKind-prop (many (forest_of (λ p. A.tree p.lazy) parts.items)) },
-    ghost known: { All (λ p. IsAhead (A.tree p.lazy) (A.position p.lazy) position p.ahead) parts.items },
 }
 
 impl<A: Lazy + Drop> Many<A> {
@@ -41,6 +41,7 @@ impl<A: Lazy + Drop> Many<A> {
     pub fn new(alloc: Global) -> Many<A>
         ensures tree { ⟦<Many<A> as Lazy>⟧.tree result ≡ many nothing }
         ensures unasked { IsUnasked (⟦<Many<A> as Lazy>⟧.position result) }
+        ensures knows { (sets : List (List ℕ)) → ⟦<Many<A> as Lazy>⟧.knows result sets }
     {
         Many {
             parts: Vec::new(alloc),
@@ -55,6 +56,7 @@ impl<A: Lazy + Drop> Many<A> {
         requires part_unasked { IsUnasked (A.position lazy) }
         ensures tree { OnOk result (⟦<Many<A> as Lazy>⟧.tree self.new ≡ joined (⟦<Many<A> as Lazy>⟧.tree self.old) (A.tree lazy)) }
         ensures unasked { IsUnasked (⟦<Many<A> as Lazy>⟧.position self.new) }
+        ensures knows { (sets : List (List ℕ)) → ⟦<Many<A> as Lazy>⟧.knows self.old sets → A.knows lazy sets → ⟦<Many<A> as Lazy>⟧.knows self.new sets }
     {
         self.parts.push(Asked { lazy, ahead: None })?;
         Ok(())
@@ -63,45 +65,58 @@ impl<A: Lazy + Drop> Many<A> {
 
 impl<A: Lazy + Drop> Lazy for Many<A> {
     ghost use Rattle.rr_model.specs.Sets.Tree.{many};
+    ghost use Rattle.rr_lazy.specs.Ahead.{IsAheadIn};
     ghost use Rattle.rr_lazy.specs.Many.{forest_of, sound_many};
+    ghost use Rattle.rr_lazy.specs.Tables.{all_more};
 
     ghost tree = { λ s. many (forest_of (λ p. A.tree p.lazy) s.parts.items) };
 
     ghost position = { λ s. s.position };
 
+    ghost knows = { λ s sets. All (λ p. A.knows p.lazy sets × IsAheadIn sets (A.tree p.lazy) (A.position p.lazy) s.position p.ahead) s.parts.items };
+
+    ghost knows_more = { λ s old new more k. all_more A.knows A.tree A.position A.knows_more s.position (λ p. p.lazy) (λ p. p.ahead) s.parts.items old new more k };
+
     ghost sound = { λ s. sound_many (forest_of (λ p. A.tree p.lazy) s.parts.items) s.position s.one_kind s.begun };
 
-    fn next(&mut self, alloc: Global, to: i64) -> Result<Option<DayTimes>, NoMemory> {
-        ask_all(alloc, &mut self.parts, self.position, to)?;
+    fn next(
+        &mut self,
+        alloc: Global,
+        sets: &mut SetTable,
+        to: i64,
+    ) -> Result<Option<OccupiedDay>, NoMemory> {
+        ask_all(alloc, sets, &mut self.parts, self.position, to)?;
         let day = first_of_all(&self.parts, to + 1);
         if day > to {
             self.position = past(self.position, to);
             return Ok(None);
         }
-        let times = all_on(alloc, &self.parts, day)?;
+        let found = all_on(alloc, sets, &self.parts, day)?;
         forget_all(&mut self.parts, day);
         self.position = day + 1;
-        Ok(Some(DayTimes { day, times }))
+        Ok(found)
     }
 }
 
 // Asks each part for its first day up to `to`, unless it is known.
 fn ask_all<A: Lazy + Drop>(
     alloc: Global,
+    sets: &mut SetTable,
     parts: &mut Vec<Asked<A>>,
     from: i64,
     to: i64,
 ) -> Result<(), NoMemory>
-    requires known { All (λ p. IsAhead (A.tree p.lazy) (A.position p.lazy) from p.ahead) parts.old.items }
+    requires known { All (λ p. A.knows p.lazy sets.old × IsAheadIn sets.old (A.tree p.lazy) (A.position p.lazy) from p.ahead) parts.old.items }
     requires low { neg_ℤ (pos 2_999_999_999_000) ≤ℤ to }
     requires high { to ≤ℤ pos 2_999_999_999_000 }
     ensures tree { forest_of (λ p. A.tree p.lazy) parts.new.items ≡ forest_of (λ p. A.tree p.lazy) parts.old.items }
-    ensures known { All (λ p. IsAhead (A.tree p.lazy) (A.position p.lazy) from p.ahead) parts.new.items }
+    ensures kept { Extends sets.old sets.new }
+    ensures known { All (λ p. A.knows p.lazy sets.new × IsAheadIn sets.new (A.tree p.lazy) (A.position p.lazy) from p.ahead) parts.new.items }
     ensures none { OnOk result (All (λ p. ForNone p.ahead (to <ℤ A.position p.lazy)) parts.new.items) }
 {
     let mut place = 0;
     while place < parts.len() {
-        ask(alloc, &mut parts[place], from, to)?;
+        ask(alloc, sets, &mut parts[place], from, to)?;
         place += 1;
     }
     Ok(())
@@ -110,40 +125,44 @@ fn ask_all<A: Lazy + Drop>(
 // Asks a part for its first day up to `to`, unless it is known.
 fn ask<A: Lazy + Drop>(
     alloc: Global,
+    sets: &mut SetTable,
     part: &mut Asked<A>,
     from: i64,
     to: i64,
 ) -> Result<(), NoMemory>
-    requires known { IsAhead (A.tree part.old.lazy) (A.position part.old.lazy) from part.old.ahead }
+    requires knows { A.knows part.old.lazy sets.old }
+    requires known { IsAheadIn sets.old (A.tree part.old.lazy) (A.position part.old.lazy) from part.old.ahead }
     requires low { neg_ℤ (pos 2_999_999_999_000) ≤ℤ to }
     requires high { to ≤ℤ pos 2_999_999_999_000 }
     ensures tree { A.tree part.new.lazy ≡ A.tree part.old.lazy }
-    ensures known { IsAhead (A.tree part.new.lazy) (A.position part.new.lazy) from part.new.ahead }
+    ensures kept { Extends sets.old sets.new }
+    ensures knows { A.knows part.new.lazy sets.new }
+    ensures known { IsAheadIn sets.new (A.tree part.new.lazy) (A.position part.new.lazy) from part.new.ahead }
     ensures none { OnOk result (ForNone part.new.ahead (to <ℤ A.position part.new.lazy)) }
 {
-    fill(alloc, &mut part.lazy, &mut part.ahead, from, to)
+    fill(alloc, sets, &mut part.lazy, &mut part.ahead, to)
 }
 
 // The least of a day and of the days that parts gave.
 fn first_of_all<A: Lazy + Drop>(parts: &[Asked<A>], from: i64) -> i64
     ensures bound { result ≤ℤ from }
-    ensures least { All (λ p. ForSome p.ahead (λ f. result ≤ℤ f.day)) parts.now }
-    ensures one { (result ≡ from) ⊎ GaveDaySome (λ p. p.ahead) parts.now result }
+    ensures least { All (λ p. ForSome (seen [] p.ahead) (λ f. result ≤ℤ f.day)) parts.now }
+    ensures one { (result ≡ from) ⊎ GaveDaySome (λ p. seen [] p.ahead) parts.now result }
 {
     let mut first = from;
     let mut place = 0;
     while place < parts.len() {
-        first = lesser(first, &parts[place].ahead);
+        first = lesser(first, parts[place].ahead);
         place += 1;
     }
     first
 }
 
 // The lesser of a day and of what a part gave.
-fn lesser(day: i64, ahead: &Option<DayTimes>) -> i64
+fn lesser(day: i64, ahead: Option<OccupiedDay>) -> i64
     ensures bound { result ≤ℤ day }
-    ensures least { ForSome ahead.now (λ f. result ≤ℤ f.day) }
-    ensures one { (result ≡ day) ⊎ GaveDay ahead.now result }
+    ensures least { ForSome (seen [] ahead) (λ f. result ≤ℤ f.day) }
+    ensures one { (result ≡ day) ⊎ GaveDay (seen [] ahead) result }
 {
     match ahead {
         None => day,
@@ -151,23 +170,30 @@ fn lesser(day: i64, ahead: &Option<DayTimes>) -> i64
     }
 }
 
-// The seconds that parts gave for a day.
-fn all_on<A: Lazy + Drop>(alloc: Global, parts: &[Asked<A>], day: i64) -> Result<TimeSet, NoMemory>
-    ensures { IfOk result (λ t. IsSetOf nat_lt t (HasOnSome (λ p. p.ahead) parts.now (length parts.now) day)) }
+// The seconds that parts gave for a day; none where no part gave it.
+fn all_on<A: Lazy + Drop>(
+    alloc: Global,
+    sets: &mut SetTable,
+    parts: &[Asked<A>],
+    day: i64,
+) -> Result<Option<OccupiedDay>, NoMemory>
+    requires { All (λ p. ForSome p.ahead (IsGivenOn sets.old)) parts.now }
+    ensures kept { Extends sets.old sets.new }
+    ensures given { IfOk result (IsGivenBySome sets.old (λ p. p.ahead) parts.now (length parts.now) day sets.new) }
 {
-    let empty = TimeSet::of(alloc, &[])?;
-    let mut times = TimeSet::of(alloc, &[])?;
+    let mut given = None;
     let mut place = 0;
     while place < parts.len() {
-        times = TimeSet::union(alloc, &times, seconds_on(&parts[place].ahead, day, &empty))?;
+        given = on_day(alloc, sets, given, parts[place].ahead, day)?;
         place += 1;
     }
-    Ok(times)
+    Ok(given)
 }
 
 // Forgets what parts gave for a day.
 fn forget_all<A: Lazy + Drop>(parts: &mut Vec<Asked<A>>, day: i64)
-    ensures { IsLeftBy (λ p. p.ahead) (λ p. p.lazy) parts.old.items day (length parts.old.items) parts.new.items }
+    ensures left { (sets : List (List ℕ)) → IsLeftBy (λ p. seen sets p.ahead) (λ p. p.lazy) parts.old.items day (length parts.old.items) parts.new.items }
+    ensures within { (sets : List (List ℕ)) → All (λ p. ForSome p.ahead (IsWithin sets)) parts.old.items → All (λ p. ForSome p.ahead (IsWithin sets)) parts.new.items }
 {
     let mut place = 0;
     while place < parts.len() {

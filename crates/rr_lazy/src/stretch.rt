@@ -33,6 +33,15 @@ pub(crate) fn first_date(kind: Kind, dates: &[i64], from: i64, to: i64) -> Optio
     Some(day)
 }
 
+// Whether one of the dates lies on a day.
+pub(crate) fn dates_on(kind: Kind, dates: &[i64], day: i64) -> bool
+    requires { Rises int_lt dates.now }
+    ensures { result ≡ false → (s : ℕ) → is_among kind dates.now day s ≡ false }
+{
+    let place = first_from(kind, dates, day);
+    place < dates.len() && day_part(kind, dates[place]) == day
+}
+
 // The seconds of the dates on a day.
 pub(crate) fn seconds_on(
     alloc: Global,

@@ -1,15 +1,17 @@
 // The occurrences up to a moment.
-ghost use Rattle.std.specs.Prelude.{◌≡◌, ◌≤ℤ◌, pos};
+ghost use Rattle.std.specs.Prelude.{◌≡◌, ◌≤◌, ◌≤ℤ◌, [], List, ℕ, get_or, pos, take};
 ghost use Rattle.rr_model.specs.Calendar.{first_day_of_year};
 ghost use Rattle.rr_model.specs.Moment.{day_part};
 ghost use Rattle.rr_model.proofs.TreeLemmas.{IsOfOneKind-prop};
 ghost use Rattle.rr_model.specs.Sets.Tree.{IsOfOneKind, upto};
-ghost use Rattle.rr_lazy.specs.Next.{IsUnasked};
-ghost use Rattle.rr_lazy.specs.Upto.{IsSecondsTo};
+ghost use Rattle.rr_model.specs.Rising.Sets.{IsSecondsOfDay};
+ghost use Rattle.rr_lazy.specs.Next.{IsUnasked, IsWithin, with_set};
+ghost use Rattle.rr_lazy.specs.Upto.{IsSecondsTo, IsUpTo};
 
 use crate::position::past;
-use crate::{DayTimes, Lazy};
+use crate::{Lazy, OccupiedDay};
 use rr_model::{Kind, NoMemory, day_part, second_part};
+use rr_shapes::SetTable;
 use std::alloc::Global;
 
 /// The occurrences of a part that are not after a moment.
@@ -33,6 +35,7 @@ impl<A: Lazy + Drop> Upto<A> {
         requires unasked { IsUnasked (A.position lazy) }
         ensures tree { ⟦<Upto<A> as Lazy>⟧.tree result ≡ upto (A.tree lazy) kind at }
         ensures unasked { IsUnasked (⟦<Upto<A> as Lazy>⟧.position result) }
+        ensures knows { (sets : List (List ℕ)) → A.knows lazy sets → ⟦<Upto<A> as Lazy>⟧.knows result sets }
     {
         let last_day = day_part(kind, at);
         Upto {
@@ -53,23 +56,30 @@ impl<A: Lazy + Drop> Lazy for Upto<A> {
 
     ghost position = { λ s. s.position };
 
+    ghost knows = { λ s sets. A.knows s.lazy sets };
+
+    ghost knows_more = { λ s old new more k. A.knows_more s.lazy old new more k };
+
     ghost sound = { λ s. sound_upto (A.tree s.lazy) s.kind s.at s.position s.one_kind s.begun };
 
-    fn next(&mut self, alloc: Global, to: i64) -> Result<Option<DayTimes>, NoMemory> {
+    fn next(
+        &mut self,
+        alloc: Global,
+        sets: &mut SetTable,
+        to: i64,
+    ) -> Result<Option<OccupiedDay>, NoMemory> {
         if self.position > self.last_day {
             self.position = past(self.position, to);
             return Ok(None);
         }
-        match self.lazy.next(alloc, to.min(self.last_day))? {
+        match self.lazy.next(alloc, sets, to.min(self.last_day))? {
             None => {
                 self.position = past(self.position, to);
                 Ok(None)
             }
             Some(mut found) => {
-                found
-                    .times
-                    .keep_below(seconds_to(self.kind, self.at, found.day));
-                if found.times.as_slice().is_empty() {
+                found.count = count_to(sets, self.kind, self.at, found);
+                if found.count == 0 {
                     self.position = past(self.position, to);
                     return Ok(None);
                 }
@@ -78,6 +88,21 @@ impl<A: Lazy + Drop> Lazy for Upto<A> {
             }
         }
     }
+}
+
+// How many seconds of a day are not after a moment.
+fn count_to(sets: &SetTable, kind: Kind, at: i64, found: OccupiedDay) -> usize
+    requires within { IsWithin sets.now found }
+    requires of_day { IsSecondsOfDay ((with_set sets.now found).times) }
+    ensures few { result ≤ found.count }
+    ensures seconds { IsUpTo kind at found.day ((with_set sets.now found).times) (take result (get_or sets.now found.number [])) }
+{
+    if found.day < day_part(kind, at) {
+        return found.count;
+    }
+    let bound = seconds_to(kind, at, found.day);
+    let seconds = &sets.times(found.number).as_slice()[..found.count];
+    seconds.partition_point(|second| *second < bound)
 }
 
 // The seconds of a day that are not after a moment lie below this one.

@@ -1,16 +1,21 @@
 // The occurrences that are not among dates.
-ghost use Rattle.std.specs.Prelude.{◌≡◌, ◌≤ℤ◌, int_lt, neg_ℤ, pos};
+ghost use Rattle.std.specs.Prelude.{◌≡◌, ◌≢◌, ◌≤ℤ◌, [], IfOk, List, ℕ, ℤ, int_lt, neg_ℤ, pos};
 ghost use Rattle.rr_model.specs.Calendar.{first_day_of_year};
 ghost use Rattle.rr_model.specs.Rising.{Rises};
-ghost use Rattle.rr_lazy.specs.Stretch.{IsNextLeft};
 ghost use Rattle.rr_model.proofs.TreeLemmas.{IsOfOneKind-prop};
 ghost use Rattle.rr_model.specs.Sets.Tree.{IsOfOneKind, without};
-ghost use Rattle.rr_lazy.specs.Next.{HasNone, IsUnasked};
+ghost use Rattle.rr_shapes.specs.Tables.{Extends};
+ghost use Rattle.rr_lazy.specs.Ahead.{IsGivenOn};
+ghost use Rattle.rr_lazy.specs.Next.{IsUnasked, with_set};
+ghost use Rattle.rr_lazy.specs.Stretch.{IsLeftOf, IsNextLeft, KnowsPart};
 
+use crate::ahead::fill;
 use crate::position::past;
-use crate::stretch::take_out;
-use crate::{DayTimes, Lazy};
+use crate::stretch::{dates_on, take_out};
+use crate::{Lazy, OccupiedDay};
 use rr_model::{Dates, Kind, NoMemory};
+use rr_shapes::SetTable;
+use rr_times::TimeSet;
 use std::alloc::Global;
 
 /// The occurrences of a part that are not among dates.
@@ -20,10 +25,9 @@ pub struct Without<A: Lazy + Drop> {
     kind: Kind,
     dates: Dates,
     position: i64,
+    ahead: Option<OccupiedDay>,
     ghost begun: { first_day_of_year (pos 1) ≤ℤ position },
     ghost one_kind: { IsOfOneKind (without (A.tree lazy) kind dates) } by { IsOfOneKind-prop (without (A.tree lazy) kind dates) },
-    ghost order: { position ≤ℤ A.position lazy },
-    ghost passed: { HasNone (without (A.tree lazy) kind dates) position (A.position lazy) },
 }
 
 impl<A: Lazy + Drop> Without<A> {
@@ -33,28 +37,49 @@ impl<A: Lazy + Drop> Without<A> {
         requires unasked { IsUnasked (A.position lazy) }
         ensures tree { ⟦<Without<A> as Lazy>⟧.tree result ≡ without (A.tree lazy) kind dates }
         ensures unasked { IsUnasked (⟦<Without<A> as Lazy>⟧.position result) }
+        ensures knows { (sets : List (List ℕ)) → A.knows lazy sets → ⟦<Without<A> as Lazy>⟧.knows result sets }
     {
         Without {
             lazy,
             kind,
             dates,
             position: -719_162,
+            ahead: None,
         }
     }
 }
 
 impl<A: Lazy + Drop> Lazy for Without<A> {
     ghost use Rattle.rr_model.specs.Sets.Tree.{without};
-    ghost use Rattle.rr_lazy.specs.Stretch.{sound_without};
+    ghost use Rattle.rr_lazy.specs.Stretch.{KnowsPart, sound_without};
+    ghost use Rattle.rr_lazy.specs.Tables.{knows_part_more};
 
     ghost tree = { λ s. without (A.tree s.lazy) s.kind s.dates };
 
     ghost position = { λ s. s.position };
 
+    ghost knows = { λ s sets. A.knows s.lazy sets × KnowsPart sets (A.tree s.lazy) (A.position s.lazy) s.kind s.dates s.position s.ahead };
+
+    ghost knows_more = { λ s old new more k. (A.knows_more s.lazy old new more k.0, knows_part_more old new _ _ _ _ _ _ more k.1) };
+
     ghost sound = { λ s. sound_without (A.tree s.lazy) s.kind s.dates s.position s.one_kind s.begun };
 
-    fn next(&mut self, alloc: Global, to: i64) -> Result<Option<DayTimes>, NoMemory> {
-        match next_left(alloc, &mut self.lazy, self.kind, self.dates.as_slice(), to)? {
+    fn next(
+        &mut self,
+        alloc: Global,
+        sets: &mut SetTable,
+        to: i64,
+    ) -> Result<Option<OccupiedDay>, NoMemory> {
+        let dates = self.dates.as_slice();
+        match next_left(
+            alloc,
+            sets,
+            &mut self.lazy,
+            &mut self.ahead,
+            self.kind,
+            dates,
+            to,
+        )? {
             None => {
                 self.position = past(self.position, to);
                 Ok(None)
@@ -67,29 +92,72 @@ impl<A: Lazy + Drop> Lazy for Without<A> {
     }
 }
 
-// The first day up to `to` of which something is left once the dates are taken out.
+// The first day up to `to` of which something is left once the dates are taken out. A day that the part gave is kept until
+// it is known what is left of it, so that want of memory loses none.
 fn next_left<A: Lazy>(
     alloc: Global,
+    sets: &mut SetTable,
     lazy: &mut A,
+    ahead: &mut Option<OccupiedDay>,
     kind: Kind,
     dates: &[i64],
     to: i64,
-) -> Result<Option<DayTimes>, NoMemory>
+) -> Result<Option<OccupiedDay>, NoMemory>
     requires rises { Rises int_lt dates.now }
     requires low { neg_ℤ (pos 2_999_999_999_000) ≤ℤ to }
     requires high { to ≤ℤ pos 2_999_999_999_000 }
+    requires knows { A.knows lazy.old sets.old }
+    requires known { (position : ℤ) × KnowsPart sets.old (A.tree lazy.old) (A.position lazy.old) kind dates.now position ahead.old }
     ensures tree { A.tree lazy.new ≡ A.tree lazy.old }
-    ensures next { IsNextLeft (A.tree lazy.old) kind dates.now (A.position lazy.old) to result (A.position lazy.new) }
+    ensures knows { A.knows lazy.new sets.new }
+    ensures kept { Extends sets.old sets.new }
+    ensures next { IsNextLeft sets.old sets.new (A.tree lazy.old) kind dates.now (A.position lazy.old) (A.position lazy.new) ahead.old ahead.new to result }
 {
     'days: loop {
-        match lazy.next(alloc, to)? {
-            None => return Ok(None),
-            Some(mut found) => {
-                take_out(&mut found.times, kind, dates, found.day);
-                if !found.times.as_slice().is_empty() {
-                    return Ok(Some(found));
-                }
-            }
+        fill(alloc, sets, lazy, ahead, to)?;
+        let Some(found) = *ahead else {
+            return Ok(None);
+        };
+        if found.day > to {
+            return Ok(None);
+        }
+        let left = left_of(alloc, sets, kind, dates, found)?;
+        *ahead = None;
+        if left.is_some() {
+            return Ok(left);
         }
     }
+}
+
+// What is left of a day once the dates are taken out; none where nothing is.
+fn left_of(
+    alloc: Global,
+    sets: &mut SetTable,
+    kind: Kind,
+    dates: &[i64],
+    found: OccupiedDay,
+) -> Result<Option<OccupiedDay>, NoMemory>
+    requires rises { Rises int_lt dates.now }
+    requires high { found.day ≤ℤ pos 2_999_999_999_000 }
+    requires given { IsGivenOn sets.old found }
+    requires some { (with_set sets.old found).times ≢ [] }
+    ensures kept { Extends sets.old sets.new }
+    ensures left { IfOk result (IsLeftOf sets.old kind dates.now found sets.new) }
+{
+    if !dates_on(kind, dates, found.day) {
+        return Ok(Some(found));
+    }
+    let seconds = &sets.times(found.number).as_slice()[..found.count];
+    let mut times = TimeSet::of(alloc, seconds)?;
+    take_out(&mut times, kind, dates, found.day);
+    let count = times.as_slice().len();
+    if count == 0 {
+        return Ok(None);
+    }
+    let number = sets.place(times)?;
+    Ok(Some(OccupiedDay {
+        day: found.day,
+        number,
+        count,
+    }))
 }

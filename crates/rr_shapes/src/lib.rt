@@ -1,8 +1,11 @@
 //! Numbers for distinct time sets.
 #![tactic(auto)]
 
+mod set_table;
 mod shapes;
+mod unions;
 
+pub use set_table::SetTable;
 pub use shapes::Shapes;
 
 #[cfg(test)]

@@ -121,7 +121,7 @@ impl Shapes {
 }
 
 // Whether the set at this place has these seconds.
-fn is_at(sets: &IndexSet<TimeSet>, place: usize, times: &[u32]) -> bool
+pub(crate) fn is_at(sets: &IndexSet<TimeSet>, place: usize, times: &[u32]) -> bool
     ensures { IsTrue result → slice_get sets.now.keys place ≡ Some times.now }
 {
     match sets.get_index(place) {

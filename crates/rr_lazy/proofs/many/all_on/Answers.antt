@@ -1,38 +1,40 @@
-use Rattle.std.proofs.Common.{◌≡◌, ◌⊎◌, ◌+◌, nat_lt, Contains, length, get_or, arith, w64, to_z, of_z, to_z-of_z, subst, inl, inr}
-use Rattle.rr_model.specs.Rising.Sets.{IsSetOf}
-use Rattle.rr_model.proofs.RisingSetLemmas.{set_same, set_empty}
+use Rattle.std.proofs.Common.{◌≡◌, get_or, arith, length, subst, w64, to_z, of_z, to_z-of_z}
 use Rattle.std.proofs.lemmas.List.{get_or_default}
-use Rattle.rr_lazy.specs.Many.{HasOnSome}
-use Rattle.rr_lazy.proofs.ManyLemmas.{none_yet_on, one_more_on}
+use Rattle.rr_lazy.specs.Many.{IsGivenBySome}
+use Rattle.rr_lazy.proofs.ManyLemmas.{given_is, given_more, more_given}
 use Rattle.rr_lazy.proofs.many.all_on.Goals as goal
 
 pub loop-place-init : goal.loop-place-init
-loop-place-init g c = (
-  omega arith,
-  rw c.in_ok-times.ensures
-      (set_empty nat_lt (HasOnSome (λ p. p.ahead) c.args.parts.now 0 (to_z w64 (of_z w64 c.args.day)))
-      (none_yet_on (λ p. p.ahead) c.args.parts.now (to_z w64 (of_z w64 c.args.day)))),
-)
+loop-place-init g c = (omega arith, (λ n t e. e), (λ f e. absurd (cc)), (λ k m n d x. absurd (omega (arith, m))))
+
+pub on_day-requires-clause-b : goal.on_day-requires-clause-b
+on_day-requires-clause-b g c x e =
+    given_more c.args.sets.now c.loop-place.sets x c.loop-place.invariant.1
+    (c.requires c.loop-place.place c.index-parts-place.result c.loop-place-test.true x e)
 
 pub loop-place-preserved : goal.loop-place-preserved
 loop-place-preserved g c =
-    let xs = c.args.parts.now in
-    let day = to_z w64 (of_z w64 c.args.day) in
-    let place = c.loop-place.place in
     let i = c.loop-place.invariant in
-    let at = get_or_default xs place c.index-parts-place.result (get_or xs place c.index-parts-place.result) c.loop-place-test.true in (
-      omega (arith, c.loop-place-test.true),
-      set_same nat_lt (λ s. Contains c.loop-place.times s ⊎ Contains c.seconds_on.result.now s)
-          (HasOnSome (λ p. p.ahead) xs (place + 1) day) c.in_ok-times-2.times c.in_ok-times-2.ensures (λ s.
-          (let m = one_more_on (λ p. p.ahead) xs day place s (get_or xs place c.index-parts-place.result) c.loop-place-test.true at in (
-            λ h. m.0 (elim h [ inl x ↦ inl ((i.1.exact s).0 x) | inr y ↦ inr ((c.seconds_on.ensures s).0 y) ]),
-            λ h. elim (m.1 h) [ inl x ↦ inl ((i.1.exact s).1 x) | inr y ↦ inr ((c.seconds_on.ensures s).1 y) ],
-          ))),
+    let xs = c.args.parts.now in
+    let place = c.loop-place.place in
+    let l = c.loop-place-test.true in
+    let x = get_or xs place c.index-parts-place.result in
+    let start = c.args.sets.now in
+    let day = to_z w64 (of_z w64 c.args.day) in (
+      omega (arith, l),
+      (λ n t e. c.on_day.ensures.kept n t (i.1 n t e)),
+      given_is c.loop-place.sets c.on_day.new.sets c.loop-place.given x.ahead day c.in_ok-given.given c.in_ok-given.ensures.given,
+      more_given start c.loop-place.sets c.on_day.new.sets (λ p. p.ahead) xs day place x l
+          (get_or_default xs place c.index-parts-place.result x l) i.1
+          (λ f e. (c.requires place c.index-parts-place.result l f e).within) c.loop-place.given c.in_ok-given.given i.3 c.in_ok-given.ensures.given,
     )
 
 pub returns : goal.returns
 returns g c =
-    let t = to_z-of_z c.ranges.day in
     let i = c.loop-place.invariant in
+    let t = to_z-of_z c.ranges.day in
     let e : c.loop-place.place ≡ length c.args.parts.now = omega (arith, i.0, c.loop-place-test.false) in
-    subst (λ n. IsSetOf nat_lt c.loop-place.times (HasOnSome (λ p. p.ahead) c.args.parts.now n c.args.day)) e (rw t at i.1)
+    record {
+      kept = i.1;
+      given = subst (λ n. IsGivenBySome c.args.sets.now (λ p. p.ahead) c.args.parts.now n c.args.day c.loop-place.sets c.loop-place.given) e (rw t at i.3);
+    }

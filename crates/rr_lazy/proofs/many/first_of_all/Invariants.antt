@@ -1,12 +1,13 @@
-use Rattle.std.proofs.Common.{◌≡◌, ◌⊎◌, ◌<◌, ◌-◌, ℕ, length, get_or, ◌≤ℤ◌}
+use Rattle.std.proofs.Common.{◌≡◌, ◌⊎◌, ◌<◌, ◌-◌, ℕ, [], length, get_or, ◌≤ℤ◌}
 use Rattle.std.specs.Option.{ForSome}
+use Rattle.rr_lazy.specs.Ahead.{seen}
 use Rattle.rr_lazy.specs.Many.{GaveDaySome}
 use Rattle.rr_lazy.proofs.many.first_of_all.Given as goal
 
 abbrev pub invariant-loop-place : goal.invariant-loop-place
 invariant-loop-place g l = (l.first ≤ℤ l.from)
-    × ((k : ℕ) (d : _) → k < l.place → k < length l.parts → ForSome (get_or l.parts k d).ahead (λ f. l.first ≤ℤ f.day))
-    × ((l.first ≡ l.from) ⊎ GaveDaySome (λ p. p.ahead) l.parts l.first)
+    × ((k : ℕ) (d : _) → k < l.place → k < length l.parts → ForSome (seen [] (get_or l.parts k d).ahead) (λ f. l.first ≤ℤ f.day))
+    × ((l.first ≡ l.from) ⊎ GaveDaySome (λ p. seen [] p.ahead) l.parts l.first)
 
 abbrev pub decreases-loop-place : goal.decreases-loop-place
 decreases-loop-place g l = length l.parts - l.place

@@ -1,9 +1,14 @@
-use Rattle.std.proofs.Common.{◌-◌, length}
+use Rattle.std.proofs.Common.{◌-◌, ℕ, List, length}
+use Rattle.std.specs.Option.{ForSome}
+use Rattle.std.specs.List.{All}
+use Rattle.rr_lazy.specs.Ahead.{seen}
 use Rattle.rr_lazy.specs.Many.{IsLeftBy}
+use Rattle.rr_lazy.specs.Next.{IsWithin}
 use Rattle.rr_lazy.proofs.many.forget_all.Given as goal
 
 abbrev pub invariant-loop-place : goal.invariant-loop-place
-invariant-loop-place g l = IsLeftBy (λ p. p.ahead) (λ p. p.lazy) l.fn.parts.items l.day l.place l.parts.items
+invariant-loop-place g l = (sets : List (List ℕ)) → IsLeftBy (λ p. seen sets p.ahead) (λ p. p.lazy) l.fn.parts.items l.day l.place l.parts.items
+    × (All (λ p. ForSome p.ahead (IsWithin sets)) l.fn.parts.items → All (λ p. ForSome p.ahead (IsWithin sets)) l.parts.items)
 
 abbrev pub decreases-loop-place : goal.decreases-loop-place
 decreases-loop-place g l = length l.parts.items - l.place

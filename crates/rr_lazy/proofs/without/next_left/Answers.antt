@@ -1,39 +1,121 @@
-use Rattle.std.proofs.Common.{◌≡◌, ◌≢◌, ◌↔◌, [], ℕ, Contains, w64, to_z, of_z, to_z-of_z, sym, ◌∙◌, false}
-use Rattle.rr_model.specs.Sets.Tree.{is_among}
-use Rattle.rr_lazy.proofs.FirstLemmas.{first_day_is}
-use Rattle.rr_lazy.proofs.AheadLemmas.{day_fits}
-use Rattle.rr_lazy.proofs.UptoLemmas.{empty_is, not_empty}
-use Rattle.rr_lazy.proofs.StretchLemmas.{left_none, left_passed, left_found}
+use Rattle.std.proofs.Common.{rules, ◌≡◌, ◌∙◌, refl, sym, arith, to_z-of_z, FitsSigned, w64, to_z, of_z, Some, None, ◌<ℤ◌}
+use Rattle.std.proofs.lemmas.Int.{ints}
+use Rattle.rr_lazy.specs.Tables.{knows_part_more}
+use Rattle.rr_lazy.proofs.WithoutLemmas.{known_filled, given_on, given_some, next_given, next_passed, next_err, not_sooner, fewer_days}
 use Rattle.rr_lazy.proofs.without.next_left.Goals as goal
 
-pub returns-in-None-clause-next : goal.returns-in-None-clause-next
-returns-in-None-clause-next g c =
-    let n = rw (c.in-None.is, to_z-of_z c.ranges.to, c.days.invariant.0) at c.in_ok-next.ensures.next in
-    left_none (g.A.Lazy.tree c.args.lazy.now) c.args.kind c.args.dates.now (g.A.Lazy.position c.args.lazy.now) (g.A.Lazy.position c.days.lazy)
-    (g.A.Lazy.position c.next.new.self) c.args.to c.days.invariant.1 c.days.invariant.2 n
+pub days-init : goal.days-init
+days-init g c = (refl, c.requires.knows, (λ n t h. h), (λ p k. k))
 
-pub returns-then-not-is_empty-clause-next : goal.returns-then-not-is_empty-clause-next
-returns-then-not-is_empty-clause-next g c =
-    let n = rw (c.in-Some.is, to_z-of_z c.ranges.to, c.days.invariant.0) at c.in_ok-next.ensures.next in
-    let low = (g.met.A.Lazy.sound c.days.lazy).in_years in
-    let df : to_z w64 (of_z w64 c.in-Some.found.day) ≡ c.in-Some.found.day =
-    (day_fits (g.A.Lazy.position c.days.lazy) c.in-Some.found.day c.args.to (rw first_day_is at low) n.0.late n.1 c.requires.high).0 in
-    let out : (s : ℕ) → Contains c.take_out.new.times s
-    ↔ (Contains c.in-Some.found.times s × (is_among c.args.kind c.args.dates.now c.in-Some.found.day s ≡ false)) = rw df at c.take_out.ensures in
-    let e : c.take_out.new.times ≢ [] = λ x. not_empty c.as_slice.result.now (sym c.is_empty.ensures ∙ c.if-not-is_empty.true) (c.as_slice.ensures.same ∙ x) in
-    left_found (g.A.Lazy.tree c.args.lazy.now) c.args.kind c.args.dates.now (g.A.Lazy.position c.args.lazy.now) (g.A.Lazy.position c.days.lazy)
-    (g.A.Lazy.position c.next.new.self) c.args.to c.days.invariant.1 c.days.invariant.2 c.in-Some.found c.take_out.new.times n out
-    c.as_slice.ensures.of_day.rises e
+pub fill-requires-clause-knows : goal.fill-requires-clause-knows
+fill-requires-clause-knows g c = c.days.invariant.1
+
+pub returns-in_err-fill-clause-kept : goal.returns-in_err-fill-clause-kept
+returns-in_err-fill-clause-kept g c = λ n t h. c.fill.ensures.kept n t (c.days.invariant.2 n t h)
+
+pub returns-in_err-fill-clause-next : goal.returns-in_err-fill-clause-next
+returns-in_err-fill-clause-next g c =
+    let k = known_filled (g.A.Lazy.tree c.args.lazy.now) c.args.kind c.args.dates.now c.args.sets.now c.days.sets c.fill.new.sets
+    (g.A.Lazy.position c.args.lazy.now) (g.A.Lazy.position c.days.lazy) (g.A.Lazy.position c.fill.new.lazy) c.args.ahead.now c.days.ahead c.fill.new.ahead
+    (g.A.Lazy.tree c.days.lazy) c.days.invariant.0 c.days.invariant.3 c.fill.ensures.known in
+    next_err (g.A.Lazy.tree c.args.lazy.now) c.args.kind c.args.dates.now c.args.sets.now c.fill.new.sets (g.A.Lazy.position c.args.lazy.now)
+    (g.A.Lazy.position c.fill.new.lazy) c.args.to c.args.ahead.now c.fill.new.ahead c.from_residual.result c.from_residual.ensures.0
+    k
+
+pub returns-in_default-clause-kept : goal.returns-in_default-clause-kept
+returns-in_default-clause-kept g c = λ n t h. c.fill.ensures.kept n t (c.days.invariant.2 n t h)
+
+pub returns-in_default-clause-next : goal.returns-in_default-clause-next
+returns-in_default-clause-next g c =
+    let k = known_filled (g.A.Lazy.tree c.args.lazy.now) c.args.kind c.args.dates.now c.args.sets.now c.days.sets c.fill.new.sets
+    (g.A.Lazy.position c.args.lazy.now) (g.A.Lazy.position c.days.lazy) (g.A.Lazy.position c.fill.new.lazy) c.args.ahead.now c.days.ahead c.fill.new.ahead
+    (g.A.Lazy.tree c.days.lazy) c.days.invariant.0 c.days.invariant.3 c.fill.ensures.known in
+    (λ f e. absurd (c.in_default.not-Some f e), rw (to_z-of_z c.ranges.to) at c.in_ok-fill.ensures.none, k)
+
+pub returns-then-found-to-clause-kept : goal.returns-then-found-to-clause-kept
+returns-then-found-to-clause-kept g c = λ n t h. c.fill.ensures.kept n t (c.days.invariant.2 n t h)
+
+pub returns-then-found-to-clause-next : goal.returns-then-found-to-clause-next
+returns-then-found-to-clause-next g c =
+    let k = known_filled (g.A.Lazy.tree c.args.lazy.now) c.args.kind c.args.dates.now c.args.sets.now c.days.sets c.fill.new.sets
+    (g.A.Lazy.position c.args.lazy.now) (g.A.Lazy.position c.days.lazy) (g.A.Lazy.position c.fill.new.lazy) c.args.ahead.now c.days.ahead c.fill.new.ahead
+    (g.A.Lazy.tree c.days.lazy) c.days.invariant.0 c.days.invariant.3 c.fill.ensures.known in
+    let fits : FitsSigned w64 c.in-Some.found.day = search rules in
+    let later : c.args.to <ℤ c.in-Some.found.day = omega (arith, ints, to_z-of_z fits, to_z-of_z c.ranges.to, c.if-found-to.true) in (
+      λ f e. (let j : Some c.in-Some.found ≡ Some f = sym c.in-Some.is ∙ e in let i : f ≡ c.in-Some.found = cc in rw i later),
+      λ e. (let j : Some c.in-Some.found ≡ None = sym c.in-Some.is ∙ e in absurd (cc)),
+      k,
+    )
+
+pub left_of-requires-clause-given : goal.left_of-requires-clause-given
+left_of-requires-clause-given g c =
+    let k = known_filled (g.A.Lazy.tree c.args.lazy.now) c.args.kind c.args.dates.now c.args.sets.now c.days.sets c.fill.new.sets
+    (g.A.Lazy.position c.args.lazy.now) (g.A.Lazy.position c.days.lazy) (g.A.Lazy.position c.fill.new.lazy) c.args.ahead.now c.days.ahead c.fill.new.ahead
+    (g.A.Lazy.tree c.days.lazy) c.days.invariant.0 c.days.invariant.3 c.fill.ensures.known in
+    let m = rw c.in-Some.is at k in
+    given_on (g.A.Lazy.tree c.args.lazy.now) c.args.kind c.args.dates.now c.fill.new.sets (g.A.Lazy.position c.fill.new.lazy) c.requires.known.0
+    c.in-Some.found (m c.requires.known.0 c.requires.known.1)
+
+pub left_of-requires-clause-some : goal.left_of-requires-clause-some
+left_of-requires-clause-some g c =
+    let k = known_filled (g.A.Lazy.tree c.args.lazy.now) c.args.kind c.args.dates.now c.args.sets.now c.days.sets c.fill.new.sets
+    (g.A.Lazy.position c.args.lazy.now) (g.A.Lazy.position c.days.lazy) (g.A.Lazy.position c.fill.new.lazy) c.args.ahead.now c.days.ahead c.fill.new.ahead
+    (g.A.Lazy.tree c.days.lazy) c.days.invariant.0 c.days.invariant.3 c.fill.ensures.known in
+    let m = rw c.in-Some.is at k in
+    given_some (g.A.Lazy.tree c.args.lazy.now) c.args.kind c.args.dates.now c.fill.new.sets (g.A.Lazy.position c.fill.new.lazy) c.requires.known.0
+    c.in-Some.found (m c.requires.known.0 c.requires.known.1)
+
+pub returns-in_err-left-clause-kept : goal.returns-in_err-left-clause-kept
+returns-in_err-left-clause-kept g c = λ n t h. c.left_of.ensures.kept n t (c.fill.ensures.kept n t (c.days.invariant.2 n t h))
+
+pub returns-in_err-left-clause-next : goal.returns-in_err-left-clause-next
+returns-in_err-left-clause-next g c =
+    let k = known_filled (g.A.Lazy.tree c.args.lazy.now) c.args.kind c.args.dates.now c.args.sets.now c.days.sets c.fill.new.sets
+    (g.A.Lazy.position c.args.lazy.now) (g.A.Lazy.position c.days.lazy) (g.A.Lazy.position c.fill.new.lazy) c.args.ahead.now c.days.ahead c.fill.new.ahead
+    (g.A.Lazy.tree c.days.lazy) c.days.invariant.0 c.days.invariant.3 c.fill.ensures.known in
+    next_err (g.A.Lazy.tree c.args.lazy.now) c.args.kind c.args.dates.now c.args.sets.now c.left_of.new.sets (g.A.Lazy.position c.args.lazy.now)
+    (g.A.Lazy.position c.fill.new.lazy) c.args.to c.args.ahead.now c.fill.new.ahead c.from_residual-in_err-left.result c.from_residual-in_err-left.ensures.0
+    (λ p x. knows_part_more c.fill.new.sets c.left_of.new.sets (g.A.Lazy.tree c.args.lazy.now) (g.A.Lazy.position c.fill.new.lazy) c.args.kind
+    c.args.dates.now p c.fill.new.ahead c.left_of.ensures.kept (k p x))
+
+pub returns-then-is_some-clause-knows : goal.returns-then-is_some-clause-knows
+returns-then-is_some-clause-knows g c =
+    g.met.A.Lazy.knows_more c.fill.new.lazy c.fill.new.sets c.left_of.new.sets c.left_of.ensures.kept c.fill.ensures.knows
+
+pub returns-then-is_some-clause-kept : goal.returns-then-is_some-clause-kept
+returns-then-is_some-clause-kept g c = λ n t h. c.left_of.ensures.kept n t (c.fill.ensures.kept n t (c.days.invariant.2 n t h))
+
+pub returns-then-is_some-clause-next : goal.returns-then-is_some-clause-next
+returns-then-is_some-clause-next g c =
+    let k = known_filled (g.A.Lazy.tree c.args.lazy.now) c.args.kind c.args.dates.now c.args.sets.now c.days.sets c.fill.new.sets
+    (g.A.Lazy.position c.args.lazy.now) (g.A.Lazy.position c.days.lazy) (g.A.Lazy.position c.fill.new.lazy) c.args.ahead.now c.days.ahead c.fill.new.ahead
+    (g.A.Lazy.tree c.days.lazy) c.days.invariant.0 c.days.invariant.3 c.fill.ensures.known in
+    let m = rw c.in-Some.is at k in
+    let fits : FitsSigned w64 c.in-Some.found.day = search rules in
+    next_given (g.A.Lazy.tree c.args.lazy.now) c.args.kind c.args.dates.now c.args.sets.now c.fill.new.sets (g.A.Lazy.position c.args.lazy.now)
+    (g.A.Lazy.position c.fill.new.lazy) c.args.to c.args.ahead.now c.in-Some.found m c.left_of.new.sets c.in_ok-left.left c.in_ok-left.ensures.left
+    (sym c.is_some.ensures ∙ c.if-is_some.true) (omega (arith, ints, to_z-of_z fits, to_z-of_z c.ranges.to, c.if-found-to.false))
 
 pub days-preserved : goal.days-preserved
 days-preserved g c =
-    let n = rw (c.in-Some.is, to_z-of_z c.ranges.to, c.days.invariant.0) at c.in_ok-next.ensures.next in
-    let low = (g.met.A.Lazy.sound c.days.lazy).in_years in
-    let df : to_z w64 (of_z w64 c.in-Some.found.day) ≡ c.in-Some.found.day =
-    (day_fits (g.A.Lazy.position c.days.lazy) c.in-Some.found.day c.args.to (rw first_day_is at low) n.0.late n.1 c.requires.high).0 in
-    let out : (s : ℕ) → Contains c.take_out.new.times s
-    ↔ (Contains c.in-Some.found.times s × (is_among c.args.kind c.args.dates.now c.in-Some.found.day s ≡ false)) = rw df at c.take_out.ensures in
-    let e : c.take_out.new.times ≡ [] = sym c.as_slice.ensures.same ∙ empty_is c.as_slice.result.now (sym c.is_empty.ensures ∙ c.if-not-is_empty.false) in
-    let r = left_passed (g.A.Lazy.tree c.args.lazy.now) c.args.kind c.args.dates.now (g.A.Lazy.position c.args.lazy.now) (g.A.Lazy.position c.days.lazy)
-    (g.A.Lazy.position c.next.new.self) c.args.to c.days.invariant.1 c.days.invariant.2 c.in-Some.found c.take_out.new.times n out e in
-    (c.in_ok-next.ensures.tree ∙ c.days.invariant.0, r.0, r.1)
+    let k = known_filled (g.A.Lazy.tree c.args.lazy.now) c.args.kind c.args.dates.now c.args.sets.now c.days.sets c.fill.new.sets
+    (g.A.Lazy.position c.args.lazy.now) (g.A.Lazy.position c.days.lazy) (g.A.Lazy.position c.fill.new.lazy) c.args.ahead.now c.days.ahead c.fill.new.ahead
+    (g.A.Lazy.tree c.days.lazy) c.days.invariant.0 c.days.invariant.3 c.fill.ensures.known in
+    let m = rw c.in-Some.is at k in (
+      c.fill.ensures.tree ∙ c.days.invariant.0,
+      g.met.A.Lazy.knows_more c.fill.new.lazy c.fill.new.sets c.left_of.new.sets c.left_of.ensures.kept c.fill.ensures.knows,
+      λ n t h. c.left_of.ensures.kept n t (c.fill.ensures.kept n t (c.days.invariant.2 n t h)),
+      next_passed (g.A.Lazy.tree c.args.lazy.now) c.args.kind c.args.dates.now c.args.sets.now c.fill.new.sets (g.A.Lazy.position c.args.lazy.now)
+          (g.A.Lazy.position c.fill.new.lazy) c.args.to c.args.ahead.now c.in-Some.found m c.left_of.new.sets c.in_ok-left.left c.in_ok-left.ensures.left
+          (sym c.is_some.ensures ∙ c.if-is_some.false),
+    )
+
+pub days-smaller : goal.days-smaller
+days-smaller g c =
+    let n = not_sooner (g.A.Lazy.tree c.args.lazy.now) c.args.kind c.args.dates.now c.args.sets.now c.days.sets c.fill.new.sets
+    (g.A.Lazy.position c.args.lazy.now) (g.A.Lazy.position c.days.lazy) (g.A.Lazy.position c.fill.new.lazy) c.args.ahead.now c.days.ahead c.fill.new.ahead
+    (g.A.Lazy.tree c.days.lazy) c.days.invariant.0 c.days.invariant.3 c.fill.ensures.known c.requires.known.0 c.requires.known.1 c.in-Some.found
+    c.in-Some.is in
+    let fits : FitsSigned w64 c.in-Some.found.day = search rules in
+    fewer_days _ c.in-Some.found.day c.args.to (to_z w64 (of_z w64 c.args.to)) _ (to_z-of_z c.ranges.to) n.0
+    (omega (arith, ints, to_z-of_z fits, to_z-of_z c.ranges.to, c.if-found-to.false)) n.1

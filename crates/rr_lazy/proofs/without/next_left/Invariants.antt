@@ -1,11 +1,13 @@
-use Rattle.std.proofs.Common.{◌≡◌, pos, nat_abs, ◌+ℤ◌, ◌-ℤ◌, ◌≤ℤ◌}
-use Rattle.rr_model.specs.Sets.Tree.{without}
-use Rattle.rr_lazy.specs.Next.{HasNone}
+use Rattle.std.proofs.Common.{◌≡◌, ℤ, pos, nat_abs, ◌+ℤ◌, ◌-ℤ◌}
+use Rattle.rr_shapes.specs.Tables.{Extends}
+use Rattle.rr_lazy.specs.Stretch.{KnowsPart}
+use Rattle.rr_lazy.proofs.WithoutLemmas.{next_day}
 use Rattle.rr_lazy.proofs.without.next_left.Given as goal
 
 abbrev pub invariant-days : goal.invariant-days
-invariant-days g l = (g.A.Lazy.tree l.lazy ≡ g.A.Lazy.tree l.fn.lazy) × (g.A.Lazy.position l.fn.lazy ≤ℤ g.A.Lazy.position l.lazy)
-    × HasNone (without (g.A.Lazy.tree l.fn.lazy) l.kind l.dates) (g.A.Lazy.position l.fn.lazy) (g.A.Lazy.position l.lazy)
+invariant-days g l = (g.A.Lazy.tree l.lazy ≡ g.A.Lazy.tree l.fn.lazy) × g.A.Lazy.knows l.lazy l.sets × Extends l.fn.sets l.sets
+    × ((position : ℤ) → KnowsPart l.fn.sets (g.A.Lazy.tree l.fn.lazy) (g.A.Lazy.position l.fn.lazy) l.kind l.dates position l.fn.ahead
+    → KnowsPart l.sets (g.A.Lazy.tree l.fn.lazy) (g.A.Lazy.position l.lazy) l.kind l.dates position l.ahead)
 
 abbrev pub decreases-days : goal.decreases-days
-decreases-days g l = nat_abs ((l.to +ℤ pos 1) -ℤ g.A.Lazy.position l.lazy)
+decreases-days g l = nat_abs ((l.to +ℤ pos 1) -ℤ next_day l.ahead (g.A.Lazy.position l.lazy))

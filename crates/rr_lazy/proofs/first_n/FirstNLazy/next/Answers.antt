@@ -1,6 +1,7 @@
-use Rattle.std.proofs.Common.{refl, ◌⊎◌, ◌≡◌, pos, ◌+ℤ◌, ◌≤ℤ◌, ◌<ℤ◌, ◌∙◌, w64, to_z, of_z, arith, inl, inr}
+use Rattle.std.proofs.Common.{refl, ◌⊎◌, ◌≡◌, pos, ◌+ℤ◌, ◌≤ℤ◌, ◌<ℤ◌, w64, to_z, of_z, arith, inl, inr, ℕ, ◌-◌, List, [], take, get_or}
+use Rattle.rr_lazy.specs.Next.{with_set}
 use Rattle.std.proofs.lemmas.Int.{ints, to_z-of_z}
-use Rattle.rr_lazy.proofs.FirstLemmas.{first_day_is, none_spent, spent_moves, first_none, first_some}
+use Rattle.rr_lazy.proofs.FirstLemmas.{first_day_is, none_spent, spent_moves, first_none, first_some, take_lesser}
 use Rattle.rr_lazy.proofs.first_n.FirstNLazy.next.Goals as goal
 
 pub invariant_of-self : goal.invariant_of-self
@@ -61,29 +62,34 @@ pub invariant_of-self-in-Some : goal.invariant_of-self-in-Some
 invariant_of-self-in-Some g c =
     let s = c.args.self.now in
     let found = c.in-Some.found in
-    let n = rw c.in-Some.is at c.in_ok-next.ensures.next in
+    let whole : List ℕ = get_or c.next.new.sets found.number [] in
+    let both = rw c.in-Some.is at c.in_ok-next.ensures.next in
+    let n = both.1 in
     let t = to_z-of_z w64 c.args.to c.ranges.to in
     let same = s.counting.together (omega (arith, c.if-self-eq0.false)) in
     let d : to_z w64 (of_z w64 found.day) ≡ found.day = omega (arith, ints, n.0.late, n.1, s.counting.begun, first_day_is, same, t) in
     let q : to_z w64 (of_z w64 (to_z w64 (of_z w64 found.day) +ℤ pos 1)) ≡ found.day +ℤ pos 1 =
     omega (arith, ints, d, n.0.late, n.1, s.counting.begun, first_day_is, same, t) in
-    record {
-      counting = (first_some (g.A.Lazy.tree s.lazy) (g.A.Lazy.tree c.next.new.self) (g.A.Lazy.position s.lazy)
-          (g.A.Lazy.position c.next.new.self) s.position c.args.to (to_z w64 (of_z w64 c.args.to)) _ found _ s.count s.left _
-          s.counting (omega (arith, c.if-self-eq0.false)) n c.in_ok-next.ensures.tree t (c.as_slice.ensures.same ∙ c.keep_first.ensures) q refl).0;
-    }
+    let cut = take_lesser s.left found.count c.min.result whole both.0.1 c.min.ensures in
+    let all = first_some (g.A.Lazy.tree s.lazy) (g.A.Lazy.tree c.next.new.self) (g.A.Lazy.position s.lazy)
+    (g.A.Lazy.position c.next.new.self) s.position c.args.to (to_z w64 (of_z w64 c.args.to)) _ (with_set c.next.new.sets found) (take c.min.result whole)
+    s.count s.left (s.left - c.min.result) s.counting (omega (arith, c.if-self-eq0.false)) n c.in_ok-next.ensures.tree t cut.1 q (rw cut.2 refl) in
+    record { counting = all.0 }
 
 pub returns-in-Some-clause-next : goal.returns-in-Some-clause-next
 returns-in-Some-clause-next g c =
     let s = c.args.self.now in
     let found = c.in-Some.found in
-    let n = rw c.in-Some.is at c.in_ok-next.ensures.next in
+    let whole : List ℕ = get_or c.next.new.sets found.number [] in
+    let both = rw c.in-Some.is at c.in_ok-next.ensures.next in
+    let n = both.1 in
     let t = to_z-of_z w64 c.args.to c.ranges.to in
     let same = s.counting.together (omega (arith, c.if-self-eq0.false)) in
     let d : to_z w64 (of_z w64 found.day) ≡ found.day = omega (arith, ints, n.0.late, n.1, s.counting.begun, first_day_is, same, t) in
     let q : to_z w64 (of_z w64 (to_z w64 (of_z w64 found.day) +ℤ pos 1)) ≡ found.day +ℤ pos 1 =
     omega (arith, ints, d, n.0.late, n.1, s.counting.begun, first_day_is, same, t) in
-    let all = (first_some (g.A.Lazy.tree s.lazy) (g.A.Lazy.tree c.next.new.self) (g.A.Lazy.position s.lazy)
-    (g.A.Lazy.position c.next.new.self) s.position c.args.to (to_z w64 (of_z w64 c.args.to)) _ found _ s.count s.left _
-    s.counting (omega (arith, c.if-self-eq0.false)) n c.in_ok-next.ensures.tree t c.keep_first.ensures q refl) in
-    (all.1, all.2, q)
+    let cut = take_lesser s.left found.count c.min.result whole both.0.1 c.min.ensures in
+    let all = first_some (g.A.Lazy.tree s.lazy) (g.A.Lazy.tree c.next.new.self) (g.A.Lazy.position s.lazy)
+    (g.A.Lazy.position c.next.new.self) s.position c.args.to (to_z w64 (of_z w64 c.args.to)) _ (with_set c.next.new.sets found) (take c.min.result whole)
+    s.count s.left (s.left - c.min.result) s.counting (omega (arith, c.if-self-eq0.false)) n c.in_ok-next.ensures.tree t cut.1 q (rw cut.2 refl) in
+    ((both.0.0, omega (arith, cut.0, both.0.1)), (all.1, all.2, q))

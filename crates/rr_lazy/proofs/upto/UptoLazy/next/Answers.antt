@@ -1,11 +1,16 @@
-use Rattle.std.proofs.Common.{rules, ◌≡◌, ◌≢◌, ◌≤ℤ◌, pos, ◌<◌, [], Contains, ◌+ℤ◌, ◌<ℤ◌, FitsSigned, to_z, of_z, w64, to_z-of_z, arith, sym, ◌∙◌, nat_lt}
+use Rattle.std.proofs.Common.{rules, ◌≡◌, ◌≢◌, ◌≤ℤ◌, pos, [], Contains, ◌+ℤ◌, ◌<ℤ◌, FitsSigned, to_z, of_z, w64, to_z-of_z, arith, sym, ◌∙◌, nat_lt, ℕ, List}
+use Rattle.std.proofs.Common.{take, get_or, length, ◌≤◌, refl}
+use Rattle.std.specs.Prelude.{IsTrue, int_le}
 use Rattle.std.proofs.lemmas.Int.{ints, clamps}
 use Rattle.std.specs.Int.{int_min}
 use Rattle.rr_model.specs.Moment.{day_part}
 use Rattle.rr_model.specs.Rising.Sets.{IsSetOf}
-use Rattle.rr_lazy.specs.Upto.{IsSecondsTo}
+use Rattle.rr_model.specs.Moment.{moment_at}
+use Rattle.rr_lazy.specs.Next.{with_set}
+use Rattle.rr_lazy.specs.Upto.{IsUpTo}
+use Rattle.rr_lazy.proofs.TreeLemmas.{seconds_of_occupied}
 use Rattle.rr_lazy.proofs.FirstLemmas.{first_day_is}
-use Rattle.rr_lazy.proofs.UptoLemmas.{none_after, upto_none, upto_emptied, upto_some, begun_next, empty_is, not_empty}
+use Rattle.rr_lazy.proofs.UptoLemmas.{none_after, upto_none, upto_emptied, upto_some, begun_next, take_some}
 use Rattle.rr_lazy.proofs.upto.UptoLazy.next.Goals as goal
 
 pub returns-then-self-clause-next : goal.returns-then-self-clause-next
@@ -75,31 +80,33 @@ returns-in-None-clause-next g c =
     (g.A.Lazy.position c.next.new.self) s.position c.args.to c.min.result r same m kept past one n in
     rw q (u.0, kept, past, one)
 
-pub invariant_of-self-then-is_empty : goal.invariant_of-self-then-is_empty
-invariant_of-self-then-is_empty g c =
+pub invariant_of-self-then-found-eq0 : goal.invariant_of-self-then-found-eq0
+invariant_of-self-then-found-eq0 g c =
     let s = c.args.self.now in
-    let r = c.past-self-then-is_empty.result in
+    let r = c.past-self-then-found-eq0.result in
     let lf : FitsSigned w64 s.last_day = search rules in
     let fits : FitsSigned w64 s.position = search rules in
     let f = to_z-of_z fits in
     let t = to_z-of_z c.ranges.to in
-    let q : to_z w64 (of_z w64 r) ≡ r = (let fr : FitsSigned w64 r = record { sfits = c.past-self-then-is_empty.type_inv } in to_z-of_z fr) in
+    let q : to_z w64 (of_z w64 r) ≡ r = (let fr : FitsSigned w64 r = record { sfits = c.past-self-then-found-eq0.type_inv } in to_z-of_z fr) in
     let same = s.together (omega (arith, ints, c.if-self.false)) in
     let m : c.min.result ≡ int_min c.args.to (day_part s.kind s.at) = rw (t, to_z-of_z lf, s.of_day) at c.min.ensures.value in
     let mf : FitsSigned w64 c.min.result = record { sfits = c.min.type_inv } in
-    let n = rw (c.in-Some.is, to_z-of_z mf) at c.in_ok-next.ensures.next in
-    let kept = rw f at c.past-self-then-is_empty.ensures.kept in
-    let past = rw t at c.past-self-then-is_empty.ensures.past in
-    let one = rw (f, t) at c.past-self-then-is_empty.ensures.one in
+    let both = rw (c.in-Some.is, to_z-of_z mf) at c.in_ok-next.ensures.next in
+    let n = both.1 in
+    let kept = rw f at c.past-self-then-found-eq0.ensures.kept in
+    let past = rw t at c.past-self-then-found-eq0.ensures.past in
+    let one = rw (f, t) at c.past-self-then-found-eq0.ensures.one in
     let af : FitsSigned w64 s.at = search rules in
     let df : to_z w64 (of_z w64 c.in-Some.found.day) ≡ c.in-Some.found.day =
     omega (arith, ints, n.0.late, n.1, s.begun, first_day_is, same, c.min.ensures.self_bound, c.requires.high, t) in
-    let until : IsSecondsTo s.kind s.at c.in-Some.found.day c.seconds_to.result = rw (to_z-of_z af, df) at c.seconds_to.ensures in
-    let set : IsSetOf nat_lt c.keep_below.new.self (λ x. Contains c.in-Some.found.times x × (x < c.seconds_to.result)) = c.keep_below.ensures in
-    let e : c.keep_below.new.self ≡ [] = sym c.as_slice.ensures.same ∙ empty_is c.as_slice.result.now (sym c.is_empty.ensures ∙ c.if-is_empty.true) in
+    let whole : List ℕ = get_or c.next.new.sets c.in-Some.found.number [] in
+    let set : IsUpTo s.kind s.at c.in-Some.found.day ((with_set c.next.new.sets c.in-Some.found).times) (take c.count_to.result whole) =
+    rw (to_z-of_z af) at c.count_to.ensures.seconds in
+    let e : take c.count_to.result whole ≡ [] = rw c.if-found-eq0.true refl in
     let u = upto_emptied (g.A.Lazy.tree s.lazy) (g.A.Lazy.tree c.next.new.self) s.kind s.at (g.A.Lazy.position s.lazy)
-    (g.A.Lazy.position c.next.new.self) s.position c.args.to c.min.result r same m kept past one c.in-Some.found c.keep_below.new.self
-    c.seconds_to.result n until set e in
+    (g.A.Lazy.position c.next.new.self) s.position c.args.to c.min.result r same m kept past one (with_set c.next.new.sets c.in-Some.found)
+    (take c.count_to.result whole) n set e in
     record {
       begun = omega (arith, ints, s.begun, kept, q);
       one_kind = rw c.in_ok-next.ensures.tree s.one_kind;
@@ -107,31 +114,33 @@ invariant_of-self-then-is_empty g c =
       together = λ l. u.1 (omega (arith, ints, l, s.of_day, q)) ∙ sym q;
     }
 
-pub returns-then-is_empty-clause-next : goal.returns-then-is_empty-clause-next
-returns-then-is_empty-clause-next g c =
+pub returns-then-found-eq0-clause-next : goal.returns-then-found-eq0-clause-next
+returns-then-found-eq0-clause-next g c =
     let s = c.args.self.now in
-    let r = c.past-self-then-is_empty.result in
+    let r = c.past-self-then-found-eq0.result in
     let lf : FitsSigned w64 s.last_day = search rules in
     let fits : FitsSigned w64 s.position = search rules in
     let f = to_z-of_z fits in
     let t = to_z-of_z c.ranges.to in
-    let q : to_z w64 (of_z w64 r) ≡ r = (let fr : FitsSigned w64 r = record { sfits = c.past-self-then-is_empty.type_inv } in to_z-of_z fr) in
+    let q : to_z w64 (of_z w64 r) ≡ r = (let fr : FitsSigned w64 r = record { sfits = c.past-self-then-found-eq0.type_inv } in to_z-of_z fr) in
     let same = s.together (omega (arith, ints, c.if-self.false)) in
     let m : c.min.result ≡ int_min c.args.to (day_part s.kind s.at) = rw (t, to_z-of_z lf, s.of_day) at c.min.ensures.value in
     let mf : FitsSigned w64 c.min.result = record { sfits = c.min.type_inv } in
-    let n = rw (c.in-Some.is, to_z-of_z mf) at c.in_ok-next.ensures.next in
-    let kept = rw f at c.past-self-then-is_empty.ensures.kept in
-    let past = rw t at c.past-self-then-is_empty.ensures.past in
-    let one = rw (f, t) at c.past-self-then-is_empty.ensures.one in
+    let both = rw (c.in-Some.is, to_z-of_z mf) at c.in_ok-next.ensures.next in
+    let n = both.1 in
+    let kept = rw f at c.past-self-then-found-eq0.ensures.kept in
+    let past = rw t at c.past-self-then-found-eq0.ensures.past in
+    let one = rw (f, t) at c.past-self-then-found-eq0.ensures.one in
     let af : FitsSigned w64 s.at = search rules in
     let df : to_z w64 (of_z w64 c.in-Some.found.day) ≡ c.in-Some.found.day =
     omega (arith, ints, n.0.late, n.1, s.begun, first_day_is, same, c.min.ensures.self_bound, c.requires.high, t) in
-    let until : IsSecondsTo s.kind s.at c.in-Some.found.day c.seconds_to.result = rw (to_z-of_z af, df) at c.seconds_to.ensures in
-    let set : IsSetOf nat_lt c.keep_below.new.self (λ x. Contains c.in-Some.found.times x × (x < c.seconds_to.result)) = c.keep_below.ensures in
-    let e : c.keep_below.new.self ≡ [] = sym c.as_slice.ensures.same ∙ empty_is c.as_slice.result.now (sym c.is_empty.ensures ∙ c.if-is_empty.true) in
+    let whole : List ℕ = get_or c.next.new.sets c.in-Some.found.number [] in
+    let set : IsUpTo s.kind s.at c.in-Some.found.day ((with_set c.next.new.sets c.in-Some.found).times) (take c.count_to.result whole) =
+    rw (to_z-of_z af) at c.count_to.ensures.seconds in
+    let e : take c.count_to.result whole ≡ [] = rw c.if-found-eq0.true refl in
     let u = upto_emptied (g.A.Lazy.tree s.lazy) (g.A.Lazy.tree c.next.new.self) s.kind s.at (g.A.Lazy.position s.lazy)
-    (g.A.Lazy.position c.next.new.self) s.position c.args.to c.min.result r same m kept past one c.in-Some.found c.keep_below.new.self
-    c.seconds_to.result n until set e in
+    (g.A.Lazy.position c.next.new.self) s.position c.args.to c.min.result r same m kept past one (with_set c.next.new.sets c.in-Some.found)
+    (take c.count_to.result whole) n set e in
     rw q (u.0, kept, past, one)
 
 pub overflow_add-self : goal.overflow_add-self
@@ -142,7 +151,8 @@ overflow_add-self g c =
     let same = s.together (omega (arith, ints, c.if-self.false)) in
     let m : c.min.result ≡ int_min c.args.to (day_part s.kind s.at) = rw (t, to_z-of_z lf, s.of_day) at c.min.ensures.value in
     let mf : FitsSigned w64 c.min.result = record { sfits = c.min.type_inv } in
-    let n = rw (c.in-Some.is, to_z-of_z mf) at c.in_ok-next.ensures.next in
+    let both = rw (c.in-Some.is, to_z-of_z mf) at c.in_ok-next.ensures.next in
+    let n = both.1 in
     let d : c.in-Some.found.day ≤ℤ pos 2_999_999_999_000 = omega (arith, ints, n.1, c.min.ensures.self_bound, c.requires.high, t) in
     omega (arith, ints, n.0.late, s.begun, first_day_is, same, d)
 
@@ -154,18 +164,22 @@ invariant_of-self-in-Some g c =
     let same = s.together (omega (arith, ints, c.if-self.false)) in
     let m : c.min.result ≡ int_min c.args.to (day_part s.kind s.at) = rw (t, to_z-of_z lf, s.of_day) at c.min.ensures.value in
     let mf : FitsSigned w64 c.min.result = record { sfits = c.min.type_inv } in
-    let n = rw (c.in-Some.is, to_z-of_z mf) at c.in_ok-next.ensures.next in
+    let both = rw (c.in-Some.is, to_z-of_z mf) at c.in_ok-next.ensures.next in
+    let n = both.1 in
     let af : FitsSigned w64 s.at = search rules in
     let df : to_z w64 (of_z w64 c.in-Some.found.day) ≡ c.in-Some.found.day =
     omega (arith, ints, n.0.late, n.1, s.begun, first_day_is, same, c.min.ensures.self_bound, c.requires.high, t) in
-    let until : IsSecondsTo s.kind s.at c.in-Some.found.day c.seconds_to.result = rw (to_z-of_z af, df) at c.seconds_to.ensures in
-    let set : IsSetOf nat_lt c.keep_below.new.self (λ x. Contains c.in-Some.found.times x × (x < c.seconds_to.result)) = c.keep_below.ensures in
+    let set : IsSetOf nat_lt (with_set c.next.new.sets (record { day = c.in-Some.found.day; number = c.in-Some.found.number; count = c.count_to.result })).times
+    (λ x. Contains (with_set c.next.new.sets c.in-Some.found).times x × IsTrue (int_le (moment_at s.kind c.in-Some.found.day x) s.at)) =
+    rw (to_z-of_z af) at c.count_to.ensures.seconds in
     let q : to_z w64 (of_z w64 (to_z w64 (of_z w64 c.in-Some.found.day) +ℤ pos 1)) ≡ c.in-Some.found.day +ℤ pos 1 =
     omega (arith, ints, df, n.0.late, n.1, s.begun, first_day_is, same, c.min.ensures.self_bound, c.requires.high, t) in
-    let e : c.keep_below.new.self ≢ [] = λ x. not_empty c.as_slice.result.now (sym c.is_empty.ensures ∙ c.if-is_empty.false) (c.as_slice.ensures.same ∙ x) in
+    let whole : List ℕ = get_or c.next.new.sets c.in-Some.found.number [] in
+    let few : c.count_to.result ≤ length whole = omega (arith, c.count_to.ensures.few, both.0.1) in
+    let e : take c.count_to.result whole ≢ [] = take_some c.count_to.result whole c.if-found-eq0.false few in
     let u = upto_some (g.A.Lazy.tree s.lazy) s.kind s.at (g.A.Lazy.position s.lazy)
-    (g.A.Lazy.position c.next.new.self) s.position c.args.to c.min.result _ same m c.in-Some.found c.keep_below.new.self c.seconds_to.result n until
-    set e q in
+    (g.A.Lazy.position c.next.new.self) s.position c.args.to c.min.result _ same m (with_set c.next.new.sets c.in-Some.found)
+    (take c.count_to.result whole) n set e q in
     record {
       begun = begun_next _ (g.A.Lazy.position s.lazy) s.position c.in-Some.found.day _ s.begun same n.0.late q;
       one_kind = rw c.in_ok-next.ensures.tree s.one_kind;
@@ -173,24 +187,35 @@ invariant_of-self-in-Some g c =
       together = λ l. u.2;
     }
 
-pub returns-else-is_empty-clause-next : goal.returns-else-is_empty-clause-next
-returns-else-is_empty-clause-next g c =
+pub returns-else-found-eq0-clause-next : goal.returns-else-found-eq0-clause-next
+returns-else-found-eq0-clause-next g c =
     let s = c.args.self.now in
     let lf : FitsSigned w64 s.last_day = search rules in
     let t = to_z-of_z c.ranges.to in
     let same = s.together (omega (arith, ints, c.if-self.false)) in
     let m : c.min.result ≡ int_min c.args.to (day_part s.kind s.at) = rw (t, to_z-of_z lf, s.of_day) at c.min.ensures.value in
     let mf : FitsSigned w64 c.min.result = record { sfits = c.min.type_inv } in
-    let n = rw (c.in-Some.is, to_z-of_z mf) at c.in_ok-next.ensures.next in
+    let both = rw (c.in-Some.is, to_z-of_z mf) at c.in_ok-next.ensures.next in
+    let n = both.1 in
     let af : FitsSigned w64 s.at = search rules in
     let df : to_z w64 (of_z w64 c.in-Some.found.day) ≡ c.in-Some.found.day =
     omega (arith, ints, n.0.late, n.1, s.begun, first_day_is, same, c.min.ensures.self_bound, c.requires.high, t) in
-    let until : IsSecondsTo s.kind s.at c.in-Some.found.day c.seconds_to.result = rw (to_z-of_z af, df) at c.seconds_to.ensures in
-    let set : IsSetOf nat_lt c.keep_below.new.self (λ x. Contains c.in-Some.found.times x × (x < c.seconds_to.result)) = c.keep_below.ensures in
+    let set : IsSetOf nat_lt (with_set c.next.new.sets (record { day = c.in-Some.found.day; number = c.in-Some.found.number; count = c.count_to.result })).times
+    (λ x. Contains (with_set c.next.new.sets c.in-Some.found).times x × IsTrue (int_le (moment_at s.kind c.in-Some.found.day x) s.at)) =
+    rw (to_z-of_z af) at c.count_to.ensures.seconds in
     let q : to_z w64 (of_z w64 (to_z w64 (of_z w64 c.in-Some.found.day) +ℤ pos 1)) ≡ c.in-Some.found.day +ℤ pos 1 =
     omega (arith, ints, df, n.0.late, n.1, s.begun, first_day_is, same, c.min.ensures.self_bound, c.requires.high, t) in
-    let e : c.keep_below.new.self ≢ [] = λ x. not_empty c.as_slice.result.now (sym c.is_empty.ensures ∙ c.if-is_empty.false) (c.as_slice.ensures.same ∙ x) in
+    let whole : List ℕ = get_or c.next.new.sets c.in-Some.found.number [] in
+    let few : c.count_to.result ≤ length whole = omega (arith, c.count_to.ensures.few, both.0.1) in
+    let e : take c.count_to.result whole ≢ [] = take_some c.count_to.result whole c.if-found-eq0.false few in
     let u = upto_some (g.A.Lazy.tree s.lazy) s.kind s.at (g.A.Lazy.position s.lazy)
-    (g.A.Lazy.position c.next.new.self) s.position c.args.to c.min.result _ same m c.in-Some.found c.keep_below.new.self c.seconds_to.result n until
-    set e q in
-    (u.0, u.1, q)
+    (g.A.Lazy.position c.next.new.self) s.position c.args.to c.min.result _ same m (with_set c.next.new.sets c.in-Some.found)
+    (take c.count_to.result whole) n set e q in
+    ((both.0.0, few), (u.0, u.1, q))
+
+pub count_to-requires-clause-of_day : goal.count_to-requires-clause-of_day
+count_to-requires-clause-of_day g c =
+    let mf : FitsSigned w64 c.min.result = record { sfits = c.min.type_inv } in
+    let n = (rw (c.in-Some.is, to_z-of_z mf) at c.in_ok-next.ensures.next).1 in
+    seconds_of_occupied (g.A.Lazy.tree c.args.self.now.lazy) (g.A.Lazy.position c.args.self.now.lazy) c.in-Some.found.day
+    (with_set c.next.new.sets c.in-Some.found).times n.0

@@ -1,0 +1,102 @@
+-- Tables of time sets that grow, and what is known of their unions.
+use Rattle.std.proofs.Common.{◌≡◌, ℕ, ◌<◌, Bool, true, false, cond, List, [], ◌∷◌, ◌++◌, length, nat_lt, Some, slice_get, get_or, All, Contains, inl, inr, refl, sym, ◌∙◌, subst, arith}
+use Rattle.std.specs.Prelude.{◌⊎◌}
+use Rattle.std.specs.List.{list_any}
+use Rattle.std.proofs.lemmas.List.{get_or_append_left, length-append}
+use Rattle.std.proofs.lemmas.List.Elements.{All-push, All-contains, All-contains_itself}
+use Rattle.std.proofs.lemmas.Option.{slice_get_read, slice_get_within, slice_get-get_or, get_or_from_slice_get}
+use Rattle.indexmap.specs.IndexSet.{insert_key}
+use Rattle.rr_model.specs.Rising.Sets.{IsSetOf, IsSecondsOfDay}
+use Rattle.rr_model.proofs.RisingSetLemmas.{set_itself, set_same}
+use Rattle.rr_shapes.specs.Tables.{Extends, IsUnion, IsTable}
+use Rattle.rr_shapes.specs.declared.unions.Pair.{Pair}
+use Rattle.rr_shapes.proofs.ShapeLemmas.{same}
+
+-- a set that goes last leaves the others where they are
+push_extends : (sets : List (List ℕ)) (times : List ℕ) → Extends sets (sets ++ times ∷ [])
+push_extends sets times number set e =
+    let within = slice_get_within sets number set e in
+    let read = sym (get_or_append_left sets (times ∷ []) set number within ∙ get_or_from_slice_get sets number set set e) in
+    slice_get_read (sets ++ times ∷ []) (length (sets ++ times ∷ [])) number set refl (omega (arith, length-append sets (times ∷ []))) read
+
+-- and so does one that is inserted where it is not there yet
+pub insert_extends : (sets new : List (List ℕ)) (times : List ℕ) → new ≡ insert_key same sets times → Extends sets new
+insert_extends sets new times e = subst (Extends sets) (sym e) (by (list_any (same times) sets))
+  where
+    by : (b : Bool) → Extends sets (cond b sets (sets ++ times ∷ []))
+    by true = λ number set at. at
+    by false = push_extends sets times
+
+pub insert_of_day : (sets new : List (List ℕ)) (times : List ℕ) → new ≡ insert_key same sets times → All IsSecondsOfDay sets → IsSecondsOfDay times
+    → All IsSecondsOfDay new
+insert_of_day sets new times e were day = subst (All IsSecondsOfDay) (sym e) (by (list_any (same times) sets))
+  where
+    by : (b : Bool) → All IsSecondsOfDay (cond b sets (sets ++ times ∷ []))
+    by true = were
+    by false = All-push IsSecondsOfDay sets times were day
+
+module _ (old new : List (List ℕ)) (grows : Extends old new) (number : ℕ) (within : number < length old) where
+  -- a number keeps its set
+  pub kept_set : get_or new number [] ≡ get_or old number []
+  kept_set = get_or_from_slice_get new number (get_or old number []) [] (grows number (get_or old number []) (slice_get-get_or old number [] within))
+
+  pub kept_number : number < length new
+  kept_number = slice_get_within new number (get_or old number []) (grows number (get_or old number []) (slice_get-get_or old number [] within))
+
+-- a union of the old table is one of the new
+pub kept_union : (old new : List (List ℕ)) (known : Pair × ℕ) → Extends old new → IsUnion old known → IsUnion new known
+kept_union old new known grows union = record {
+  a = kept_number old new grows known.0.a union.a;
+  b = kept_number old new grows known.0.b union.b;
+  number = kept_number old new grows known.1 union.number;
+  union = rw (kept_set old new grows known.0.a union.a, kept_set old new grows known.0.b union.b, kept_set old new grows known.1 union.number) union.union;
+}
+
+-- a table with one set inserted
+pub table_with_set : (sets new : List (List ℕ)) (unions : List (Pair × ℕ)) (times : List ℕ) → IsTable sets unions → new ≡ insert_key same sets times
+    → IsSecondsOfDay times → IsTable new unions
+table_with_set sets new unions times table e day = record {
+  of_day = insert_of_day sets new times e table.of_day day;
+  unions = λ k d l. kept_union sets new _ (insert_extends sets new times e) (table.unions k d l);
+}
+
+-- a table of which at most one more union is known
+pub table_with_union : (sets : List (List ℕ)) (unions new : List (Pair × ℕ)) (one : Pair × ℕ) → IsTable sets unions → IsUnion sets one
+    → ((known : Pair × ℕ) → Contains new known → Contains unions known ⊎ (one ≡ known)) → IsTable sets new
+table_with_union sets unions new one table union only = record {
+  of_day = table.of_day;
+  unions = λ k d l. elim (only _ (All-contains_itself new k d l)) [
+    | inl was ↦ All-contains (IsUnion sets) unions _ table.unions was
+    | inr e ↦ subst (IsUnion sets) e union
+  ];
+}
+
+-- a set is its union with itself
+pub own_union : (sets : List (List ℕ)) (a : ℕ) → All IsSecondsOfDay sets → a < length sets
+    → IsSetOf nat_lt (get_or sets a []) (λ s. Contains (get_or sets a []) s ⊎ Contains (get_or sets a []) s)
+own_union sets a days within =
+    set_same nat_lt (Contains (get_or sets a [])) _ (get_or sets a []) (set_itself nat_lt (get_or sets a []) (days a [] within).rises)
+    (λ s. (inl, λ either. elim either [ inl c ↦ c | inr c ↦ c ]))
+
+-- a union that was placed
+module _ (old new : List (List ℕ)) (pair : Pair) (number : ℕ) (a b both : List ℕ) (grows : Extends old new) (at_a : slice_get old pair.a ≡ Some a)
+    (at_b : slice_get old pair.b ≡ Some b) (at_both : slice_get new number ≡ Some both)
+    (union : IsSetOf nat_lt both (λ s. Contains a s ⊎ Contains b s)) where
+  pub new_union : IsUnion new (pair, number)
+  new_union = record {
+    a = slice_get_within new pair.a a (grows pair.a a at_a);
+    b = slice_get_within new pair.b b (grows pair.b b at_b);
+    number = slice_get_within new number both at_both;
+    union = rw (
+      get_or_from_slice_get new number both [] at_both,
+      get_or_from_slice_get new pair.a a [] (grows pair.a a at_a),
+      get_or_from_slice_get new pair.b b [] (grows pair.b b at_b),
+    ) union;
+  }
+
+  pub union_of_old : IsSetOf nat_lt (get_or new number []) (λ s. Contains (get_or old pair.a []) s ⊎ Contains (get_or old pair.b []) s)
+  union_of_old = rw (
+    get_or_from_slice_get new number both [] at_both,
+    get_or_from_slice_get old pair.a a [] at_a,
+    get_or_from_slice_get old pair.b b [] at_b,
+  ) union

@@ -1,0 +1,25 @@
+use Rattle.std.proofs.Common.{◌≡◌, sym, ap, subst, ◌∙◌, Contains}
+use Rattle.std.proofs.lemmas.Map.Made.{lookup_key_passes}
+use Rattle.rr_shapes.proofs.UnionLemmas.{same_pair, one_pair, there}
+use Rattle.rr_shapes.proofs.unions.Unions.get.Goals as goal
+use Rattle.rr_shapes.proofs.unions.Unions.get.Goals.{in-Some+else-eq, in_default}
+
+pub returns-then-eq-clause-known : goal.returns-then-eq-clause-known
+returns-then-eq-clause-known c =
+    subst (λ p. Contains c.args.self.now (p, c.in-Some.number.now)) (one_pair c.in-Some.known.now c.args.pair (sym c.eq.ensures ∙ c.if-eq.true))
+    (rw (← c.self.view_is) (there c.self.inside.known.entries c.self.inside.last (c.in-Some.known.now, c.in-Some.number.now) (sym c.in-Some.ensures.entry)))
+
+pub returns-clause-known : goal.returns-clause-known
+returns-clause-known c =
+    let k = c.in_ok-place.field-0-1.now in
+    let entries = c.match-get_index.self-inside.known.entries in
+    let passes = lookup_key_passes (same_pair c.args.pair) entries k (sym c.in_ok-place.ensures.key) in
+    let stays : entries ≡ c.self.inside.known.entries =
+    elim c.match-get_index.branch [
+      | in-Some+else-eq w ↦ ap (λ u. u.known.entries) w.self-inside-is
+      | in_default w ↦ ap (λ u. u.known.entries) w.self-inside-is
+    ] in
+    subst (λ p. Contains c.args.self.now (p, c.in_ok-place.number.now)) (sym (one_pair c.args.pair k passes)) (
+    subst (λ l. Contains l (k, c.in_ok-place.number.now)) (stays ∙ c.self.view_is)
+    (there entries c.in_ok-place.place (k, c.in_ok-place.number.now) c.in_ok-place.ensures.entry)
+    )

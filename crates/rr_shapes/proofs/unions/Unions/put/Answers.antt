@@ -1,0 +1,12 @@
+use Rattle.std.proofs.Common.{subst, Contains}
+use Rattle.rr_shapes.proofs.UnionLemmas.{same_pair, one_pair, inserted_only, inserted_there}
+use Rattle.rr_shapes.proofs.unions.Unions.put.Goals as goal
+
+pub returns-clause-there : goal.returns-clause-there
+returns-clause-there c =
+    rw c.in-Ok.ensures.entries (inserted_there same_pair one_pair c.args.pair c.args.number c.self.inside.known.entries)
+
+pub returns-clause-nothing_else : goal.returns-clause-nothing_else
+returns-clause-nothing_else c known now =
+    rw (← c.self.view_is)
+    (inserted_only same_pair one_pair c.args.pair c.args.number c.self.inside.known.entries known (subst (λ l. Contains l known) c.in-Ok.ensures.entries now))

@@ -1,0 +1,20 @@
+-- A table of time sets that grows: sets that are there keep their numbers.
+use Rattle.std.specs.Prelude.{◌≡◌, ◌⊎◌, ℕ, ◌<◌, List, [], All, Contains, get_or, length, nat_lt, slice_get, Some}
+use Rattle.rr_model.specs.Rising.Sets.{IsSetOf, IsSecondsOfDay}
+use Rattle.rr_shapes.specs.declared.unions.Pair.{Pair}
+
+-- each set of the old table has the same number in the new one
+abbrev pub Extends : List (List ℕ) → List (List ℕ) → Type 0
+Extends old new = (number : ℕ) (times : List ℕ) → slice_get old number ≡ Some times → slice_get new number ≡ Some times
+
+-- the set of one number is the union of those of two others
+pub record IsUnion (sets : List (List ℕ)) (known : Pair × ℕ) : Type 0 where
+  pub a : known.0.a < length sets
+  pub b : known.0.b < length sets
+  pub number : known.1 < length sets
+  pub union : IsSetOf nat_lt (get_or sets known.1 []) (λ s. Contains (get_or sets known.0.a []) s ⊎ Contains (get_or sets known.0.b []) s)
+
+-- sets of seconds of a day, and unions that are known
+pub record IsTable (sets : List (List ℕ)) (known : List (Pair × ℕ)) : Type 0 where
+  pub of_day : All IsSecondsOfDay sets
+  pub unions : All (IsUnion sets) known

@@ -1,0 +1,108 @@
+// A table of time sets, on which several iterators draw.
+ghost use Rattle.std.specs.Prelude.{◌≡◌, ◌⊎◌, ◌<◌, [], Contains, IfOk, Some, get_or, length, nat_lt, slice_get, take};
+ghost use Rattle.rr_model.specs.Rising.Sets.{IsSetOf};
+ghost use Rattle.rr_shapes.specs.Tables.{Extends};
+
+use crate::shapes::is_at;
+use crate::unions::{Pair, Unions};
+use indexmap::IndexSet;
+use rr_model::NoMemory;
+use rr_times::TimeSet;
+use std::alloc::Global;
+use std::marker::Model;
+
+/// Distinct time sets by numbers, for iterators that give the same sets again and again. Nothing is refused here.
+///
+/// A set keeps its number, and which set is the union of two others is remembered by their numbers.
+/// Contracts see it as the list of the sets, each a rising list, at its number.
+#[derive(Drop)]
+pub struct SetTable {
+    sets: IndexSet<TimeSet>,
+    // The number that was given last; days in a row mostly have the same set.
+    last: usize,
+    unions: Unions,
+}
+
+impl Model for SetTable {
+    ghost use Rattle.std.specs.Prelude.{ℕ, List};
+    ghost use Rattle.rr_shapes.specs.Tables.{IsTable};
+
+    ghost Value = { List (List ℕ) };
+
+    ghost view = { λ s. s.sets.keys };
+
+    ghost invariant = { λ s. IsTable s.sets.keys s.unions };
+}
+
+impl SetTable {
+    /// No sets yet; it takes no memory.
+    pub fn new(alloc: Global) -> SetTable
+        ensures { result ≡ [] }
+    {
+        SetTable {
+            sets: IndexSet::new(alloc),
+            last: 0,
+            unions: Unions::new(alloc),
+        }
+    }
+
+    /// The number of a set; one that has none yet gets the next number.
+    pub fn place(&mut self, times: TimeSet) -> Result<usize, NoMemory>
+        ensures placed { IfOk result (λ n. slice_get self.new n ≡ Some times) }
+        ensures kept { Extends self.old self.new }
+    {
+        if is_at(&self.sets, self.last, times.as_slice()) {
+            return Ok(self.last);
+        }
+        let Ok((number, _)) = self.sets.insert_full(times) else {
+            return Err(NoMemory);
+        };
+        self.last = number;
+        Ok(number)
+    }
+
+    /// The set of a number.
+    pub fn times(&self, number: usize) -> &TimeSet
+        requires { number < length self.now }
+        ensures { slice_get self.now number ≡ Some result.now }
+    {
+        &self.sets[number]
+    }
+
+    /// The number of the first seconds, so many, of a set; of the set itself where it has no more.
+    pub fn prefix(&mut self, alloc: Global, number: usize, count: usize) -> Result<usize, NoMemory>
+        requires { number < length self.old }
+        ensures placed { IfOk result (λ n. slice_get self.new n ≡ Some (take count (get_or self.old number []))) }
+        ensures kept { Extends self.old self.new }
+    {
+        let seconds = self.sets[number].as_slice();
+        if seconds.len() <= count {
+            return Ok(number);
+        }
+        let first = TimeSet::of(alloc, &seconds[..count])?;
+        self.place(first)
+    }
+
+    /// The number of the union of two sets. It is made at the first question for the two, and the pair that was asked for
+    /// last is looked for nowhere else.
+    pub fn union(&mut self, alloc: Global, a: usize, b: usize) -> Result<usize, NoMemory>
+        requires a { a < length self.old }
+        requires b { b < length self.old }
+        ensures within { IfOk result (λ n. n < length self.new) }
+        ensures union { IfOk result (λ n. IsSetOf nat_lt (get_or self.new n []) (λ s. Contains (get_or self.old a []) s ⊎ Contains (get_or self.old b []) s)) }
+        ensures kept { Extends self.old self.new }
+    {
+        let sets = &self.sets;
+        if a == b {
+            return Ok(a);
+        }
+        let pair = Pair { a, b };
+        if let Some(number) = self.unions.get(pair) {
+            return Ok(number);
+        }
+        let both = TimeSet::union(alloc, &sets[a], &sets[b])?;
+        let number = self.place(both)?;
+        self.unions.put(pair, number)?;
+        Ok(number)
+    }
+}

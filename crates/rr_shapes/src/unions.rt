@@ -1,0 +1,72 @@
+// Which set of a table is the union of which two.
+ghost use Rattle.std.specs.Prelude.{◌≡◌, ◌⊎◌, [], Contains, IfSome, OnOk, ℕ};
+ghost use Rattle.rr_shapes.specs.declared.unions.Pair.{Pair};
+
+use indexmap::IndexMap;
+use rr_model::NoMemory;
+use std::alloc::Global;
+use std::marker::Model;
+
+// The numbers of two sets, in the order of the question.
+#[derive(Clone, Copy, PartialEq, Eq, Hash)]
+pub(crate) struct Pair {
+    pub(crate) a: usize,
+    pub(crate) b: usize,
+}
+
+// The numbers of unions by the numbers of the two sets; contracts see it as the list of the pairs with their unions.
+#[derive(Drop)]
+pub(crate) struct Unions {
+    known: IndexMap<Pair, usize>,
+    // The place of the pair that was asked for last.
+    last: usize,
+}
+
+impl Model for Unions {
+    ghost use Rattle.std.specs.Prelude.{ℕ, List};
+    ghost use Rattle.rr_shapes.specs.declared.unions.Pair.{Pair};
+
+    ghost Value = { List (Pair × ℕ) };
+
+    ghost view = { λ u. u.known.entries };
+}
+
+impl Unions {
+    // None are known yet; it takes no memory.
+    pub(crate) fn new(alloc: Global) -> Unions
+        ensures { result ≡ [] }
+    {
+        Unions {
+            known: IndexMap::new(alloc),
+            last: 0,
+        }
+    }
+
+    // The union of a pair, where it is known. The pair that was asked for last is looked for nowhere else.
+    pub(crate) fn get(&mut self, pair: Pair) -> Option<usize>
+        ensures known { IfSome result (λ n. Contains self.old (pair, n)) }
+        ensures unchanged { self.new ≡ self.old }
+    {
+        if let Some((known, number)) = self.known.get_index(self.last) {
+            if *known == pair {
+                return Some(*number);
+            }
+        }
+        let (place, _, number) = self.known.get_full(&pair)?;
+        let number = *number;
+        self.last = place;
+        Some(number)
+    }
+
+    // Remembers the union of a pair, which becomes the pair that was asked for last.
+    pub(crate) fn put(&mut self, pair: Pair, number: usize) -> Result<(), NoMemory>
+        ensures there { OnOk result (Contains self.new (pair, number)) }
+        ensures nothing_else { (known : Pair × ℕ) → Contains self.new known → Contains self.old known ⊎ ((pair, number) ≡ known) }
+    {
+        let Ok((place, _)) = self.known.insert_full(pair, number) else {
+            return Err(NoMemory);
+        };
+        self.last = place;
+        Ok(())
+    }
+}
