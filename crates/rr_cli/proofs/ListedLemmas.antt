@@ -1,12 +1,13 @@
 -- What is listed of a tree, one occupied day after another.
 use Rattle.std.proofs.Common.{length-append, to_z, of_z, w64, negsuc, ◌≡◌, ◌⊎◌, ℕ, zero, suc, ◌+◌, ◌-◌, ◌*◌, ◌<◌, ◌≤◌, true, false, ◌||◌, ℤ, pos, nat_abs}
 use Rattle.std.proofs.Common.{◌+ℤ◌, ◌-ℤ◌, ◌≤ℤ◌, ◌<ℤ◌, List, [], ◌∷◌, ◌++◌, length, take, map, All, Contains, inl, inr, refl, sym, ap, subst, ◌∙◌, arith}
-use Rattle.std.specs.Prelude.{IsTrue, neg_ℤ, int_le, int_lt, nat_lt, Some, Ok}
+use Rattle.std.specs.Prelude.{IsTrue, get_or, min, slice_get, neg_ℤ, int_le, int_lt, nat_lt, Some, Ok}
 use Rattle.std.proofs.lemmas.Int.{ints, by_lt_z}
 use Rattle.std.proofs.lemmas.Bool.{false≢true}
 use Rattle.std.proofs.lemmas.Bool.Decides.{nat_tests}
 use Rattle.std.proofs.lemmas.List.{get_or-map, length-map, take-map, take_all, length-take-le}
 use Rattle.std.proofs.lemmas.Bool.{cases_lt}
+use Rattle.std.proofs.lemmas.Option.{get_or_from_slice_get}
 use Rattle.std.proofs.lemmas.List.Concat.{flat_map-append}
 use Rattle.std.proofs.lemmas.List.Elements.{All-contains, Contains-append_cases, Contains-append_left, Contains-append_right}
 use Rattle.std.proofs.Math.Seq.{take-append-add}
@@ -21,10 +22,11 @@ use Rattle.rr_model.specs.Sets.Tree.{some_stands_at, stands_in, IsOfKind, AreOfK
 use Rattle.rr_model.specs.declared.kind.Kind.{Kind}
 use Rattle.rr_model.specs.declared.kind.Kind.TheVariants.{Days, Moments}
 use Rattle.rr_model.proofs.RisingSetLemmas.{Contains-head, Contains-tail, Contains-none, Contains-cons_cases}
-use Rattle.rr_lazy.specs.Next.{HasNone, IsFirstOccupied, IsNext}
-use Rattle.rr_lazy.specs.declared.day_times.DayTimes.{DayTimes}
+use Rattle.rr_lazy.specs.Next.{HasNone, IsFirstOccupied, IsNext, IsNextIn, IsWithin, with_set}
+use Rattle.rr_lazy.specs.DayTimes.{DayTimes}
+use Rattle.rr_lazy.specs.declared.occupied_day.OccupiedDay.{OccupiedDay}
 use Rattle.rr_lazy.proofs.AheadLemmas.{day_fits}
-use Rattle.rr_lazy.proofs.FirstLemmas.{first_day_is}
+use Rattle.rr_lazy.proofs.FirstLemmas.{first_day_is, take_lesser}
 use Rattle.rr_lazy.proofs.StretchLemmas.{day_mono, listed, moment_day, moment_second, of_day}
 use Rattle.rr_lazy.proofs.TreeLemmas.{and_left, and_right}
 use Rattle.rr_cli.specs.Listing.{AreFirst, ListsFirst, listed_text, occurrence_line}
@@ -289,6 +291,15 @@ some_taken (x ∷ xs) seconds left none some cut = elim (cases_lt left (length (
   | inr l ↦ (let e : seconds ≡ x ∷ xs = cut ∙ take_all left (x ∷ xs) l in (omega (arith, ap length e), omega (arith, l, ap length e)))
 ]
 
+-- the seconds that are taken of a day, as many as are left, read from its set
+pub first_taken : (sets : List (List ℕ)) (found : OccupiedDay) (times read : List ℕ) (left taken : ℕ) → IsWithin sets found
+    → slice_get sets found.number ≡ Some times → read ≡ times → taken ≡ min found.count left
+    → (taken ≡ length (take taken read)) × (take taken read ≡ take left (with_set sets found).times)
+first_taken sets found times read left taken within at same lesser =
+    let e : read ≡ get_or sets found.number [] = same ∙ sym (get_or_from_slice_get sets found.number times [] at) in
+    let t = take_lesser left found.count taken (get_or sets found.number []) within.1 lesser in
+    rw e (sym t.2, t.1)
+
 -- Where the calls so far have come: each asked for at most one cycle more than the one before it.
 pub record IsAsking (settled from : ℤ) (cycle count left : ℕ) : Type 0 where
   pub low : first_day_of_year (pos 1) ≤ℤ settled
@@ -336,12 +347,12 @@ module _ (settled from : ℤ) (cycle count left : ℕ) (a : IsAsking settled fro
   asked_high = omega (arith, ints, a.high, a.few, a.short, a.near)
 
   -- what a call gave
-  pub gave : (tree : Tree) (position position' : ℤ) (bits : ℕ) (found : DayTimes) → first_day_of_year (pos 1) ≤ℤ position → to_z w64 bits ≡ from
-      → IsNext tree position (to_z w64 (of_z w64 (to_z w64 bits +ℤ to_z w64 cycle))) (Ok (Some found)) position' → IsGiven tree position position'
-      (from +ℤ pos cycle) found
-  gave tree position position' bits found begun e next =
+  pub gave : (tree : Tree) (position position' : ℤ) (bits : ℕ) (sets : List (List ℕ)) (found : OccupiedDay) → first_day_of_year (pos 1) ≤ℤ position
+      → to_z w64 bits ≡ from → IsNextIn sets tree position (to_z w64 (of_z w64 (to_z w64 bits +ℤ to_z w64 cycle))) (Ok (Some found)) position'
+      → IsGiven tree position position' (from +ℤ pos cycle) (with_set sets found)
+  gave tree position position' bits sets found begun e (within, next) =
       let l : negsuc 719_161 ≤ℤ position = rw first_day_is at begun in
-      let n : IsNext tree position (from +ℤ pos cycle) (Ok (Some found)) position' = rw (asked_is bits e) at next in
+      let n : IsNext tree position (from +ℤ pos cycle) (Ok (Some (with_set sets found))) position' = rw (asked_is bits e) at next in
       let high = asked_high in
       record {
         occupied = n.0;

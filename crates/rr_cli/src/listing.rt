@@ -1,5 +1,5 @@
 // What `list` says of an operand.
-ghost use Rattle.std.specs.Prelude.{◌≡◌, ◌⊎◌, ◌++◌, ◌<◌, ◌≤◌, ◌+ℤ◌, ◌≤ℤ◌, pos, map, All, IfErr, IfOk, IsTrue, OnOk};
+ghost use Rattle.std.specs.Prelude.{◌≡◌, ◌⊎◌, ◌++◌, ◌<◌, ◌≤◌, ◌+ℤ◌, ◌≤ℤ◌, pos, List, ℕ, map, All, IfErr, IfOk, IsTrue, OnOk};
 ghost use Rattle.rr_model.specs.Calendar.{IsDayWithin};
 ghost use Rattle.rr_model.specs.Moment.{day_part, moment_at};
 ghost use Rattle.rr_model.specs.Moment.Years.{IsFromYearOne};
@@ -24,6 +24,7 @@ use crate::outcome::{Outcome, refused_for};
 use rr_check::Checked;
 use rr_iter::{Lazy, ends, occurrences};
 use rr_model::{Fault, Kind, MAX_CYCLE_DAYS, NoMemory, Side, moment_at};
+use rr_shapes::SetTable;
 use rr_text::push_extended;
 use std::alloc::Global;
 
@@ -71,6 +72,7 @@ fn first_lines<A: Lazy>(
     count: u64,
 ) -> Result<Vec<u8>, NoMemory>
     requires unasked { IsUnasked (A.position lazy.old) }
+    requires knows { (sets : List (List ℕ)) → A.knows lazy.old sets }
     requires kind { kind ≡ or_days (kind_in (A.tree lazy.old)) }
     requires repeats { RepeatsAfter (A.tree lazy.old) settled cycle }
     requires some_days { 1 ≤ cycle }
@@ -82,14 +84,14 @@ fn first_lines<A: Lazy>(
     ensures { IfOk result (λ out. ListsFirst (λ t. IsTrue (stands_in (A.tree lazy.old) kind t)) kind count out.items) }
 {
     let mut out = Vec::new(alloc);
+    let mut sets = SetTable::new(alloc);
     let mut left = count as usize;
     let mut from = settled;
     'days: loop {
-        match lazy.next(alloc, from + cycle as i64)? {
+        match lazy.next(alloc, &mut sets, from + cycle as i64)? {
             None => return Ok(out),
-            Some(mut found) => {
-                found.times.keep_first(left);
-                let seconds = found.times.as_slice();
+            Some(found) => {
+                let seconds = &sets.times(found.number).as_slice()[..found.count.min(left)];
                 push_day(&mut out, kind, found.day, seconds)?;
                 left -= seconds.len();
                 if left == 0 {

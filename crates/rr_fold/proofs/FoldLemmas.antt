@@ -11,7 +11,7 @@ use Rattle.std.proofs.lemmas.List.Elements.{All-push}
 use Rattle.std.proofs.lemmas.List.Sums.{sum_by_push}
 use Rattle.std.proofs.lemmas.List.Quantifiers.{all_pairs_push}
 use Rattle.rr_lazy.specs.Next.{HasNone, IsFirstOccupied, IsNext}
-use Rattle.rr_lazy.specs.declared.day_times.DayTimes.{DayTimes}
+use Rattle.rr_lazy.specs.DayTimes.{DayTimes}
 use Rattle.rr_model.proofs.RisingSetLemmas.{Contains-head, Contains-tail, Contains-none, Contains-cons_cases, set_empty, set_same}
 use Rattle.rr_model.specs.Answers.{RefusedExactlyWhere}
 use Rattle.rr_model.specs.Rising.Sets.{IsSetOf}
@@ -51,7 +51,7 @@ module _ (times : List ℕ) (old new : List (List ℕ)) (number : ℕ) (placed :
   grown = elim (known_or_fresh old times) [ inl c ↦ inl (placed.known c) | inr n ↦ inr (placed.added n).0 ]
 
   -- a number keeps its set
-  keeps : (n : ℕ) (d : List ℕ) → n < length old → (n < length new) × (get_or new n d ≡ get_or old n d)
+  pub keeps : (n : ℕ) (d : List ℕ) → n < length old → (n < length new) × (get_or new n d ≡ get_or old n d)
   keeps n d l = elim grown [
     | inl e ↦ rw e (l, refl)
     | inr e ↦ rw e (grind (arith, common_steps), grind (arith, elements))

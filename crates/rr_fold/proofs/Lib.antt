@@ -5,6 +5,7 @@ pub mod FoldLemmas
 pub mod JumpLemmas
 pub mod JumpOfLemmas
 pub mod KindLemmas
+pub mod NumberingLemmas
 pub mod PlaceLemmas
 pub mod SequenceLemmas
 pub mod SingleLemmas

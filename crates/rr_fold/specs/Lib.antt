@@ -3,3 +3,4 @@ pub mod Judged
 pub mod Jump
 pub mod Sequence
 pub mod Sketched
+pub mod Numbering

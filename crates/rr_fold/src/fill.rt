@@ -1,14 +1,16 @@
 // The days of a series, folded into numbers of time sets.
-ghost use Rattle.std.specs.Prelude.{◌≡◌, ◌+◌, ◌≤◌, IfOk, OnOk, length, pos, neg_ℤ, ◌≤ℤ◌, ◌<ℤ◌, ◌+ℤ◌};
+ghost use Rattle.std.specs.Prelude.{◌≡◌, ◌+◌, ◌≤◌, IfOk, OnOk, List, ℕ, length, pos, neg_ℤ, ◌≤ℤ◌, ◌<ℤ◌, ◌+ℤ◌};
 ghost use Rattle.rr_model.specs.Answers.{RefusedExactlyWhere};
 ghost use Rattle.rr_model.specs.Series.Limits.{HasTooManyMoments};
 ghost use Rattle.rr_model.specs.Series.Tree.{tree_of};
 ghost use Rattle.rr_model.specs.declared.refusal.Refusal.TheVariants.{TooManyMoments};
 ghost use Rattle.rr_lazy.specs.Next.{IsUnasked};
 ghost use Rattle.rr_fold.specs.Folding.{HasNoneBefore, IsFoldedTo, IsPut};
+ghost use Rattle.rr_fold.specs.Numbering.{IsKnown};
 ghost use Rattle.rr_fold.specs.Jump.{IsJump};
 
 use crate::jump::{Jump, days_left_out, jump_of, spliced};
+use crate::numbering::Numbering;
 use rr_check::Checked;
 use rr_iter::{RuleLazy, occurrences};
 use rr_lazy::{FirstN, Lazy};
@@ -108,6 +110,7 @@ fn collected<L: Lazy + Drop>(
     requires order { first <ℤ end }
     requires high { end ≤ℤ pos 40_000_000 }
     requires unasked { IsUnasked (L.position lazy) }
+    requires knows { (sets : List (List ℕ)) → L.knows lazy sets }
     requires early { HasNoneBefore (L.tree lazy) first }
     ensures folded { IfOk result (λ days. IsFoldedTo (L.tree lazy) first end days.shapes days.numbers.items) }
     ensures whole { IfOk result (λ days. end ≡ first +ℤ pos (length days.numbers.items)) }
@@ -117,7 +120,16 @@ fn collected<L: Lazy + Drop>(
     let days = days_between(first, end);
     let mut shapes = Shapes::with_empty_set(alloc)?;
     let mut numbers = Vec::with_capacity(alloc, days)?;
-    match fill(alloc, &mut lazy, first, end - 1, &mut shapes, &mut numbers) {
+    let mut numbering = Numbering::new(alloc);
+    match fill(
+        alloc,
+        &mut lazy,
+        first,
+        end - 1,
+        &mut numbering,
+        &mut shapes,
+        &mut numbers,
+    ) {
         Ok(()) => {}
         Err(fault) => return Err(fault),
     }
@@ -131,6 +143,7 @@ fn fill<L: Lazy>(
     lazy: &mut L,
     first: i64,
     to: i64,
+    numbering: &mut Numbering,
     shapes: &mut Shapes,
     numbers: &mut Vec<u32>,
 ) -> Result<(), Fault>
@@ -139,16 +152,18 @@ fn fill<L: Lazy>(
     requires first { first ≤ℤ to }
     requires begun { neg_ℤ (pos 2_999_999_999_000) ≤ℤ first }
     requires position { L.position lazy.old ≤ℤ (to +ℤ pos 1) }
+    requires knows { L.knows lazy.old numbering.old.sets }
+    requires known { IsKnown numbering.old.sets shapes.old numbering.old.known.items }
     requires folded { IsFoldedTo (L.tree lazy.old) first (L.position lazy.old) shapes.old numbers.old.items }
     ensures folded { OnOk result (IsFoldedTo (L.tree lazy.old) first (to +ℤ pos 1) shapes.new numbers.new.items) }
     ensures refused { RefusedExactlyWhere (HasTooManyMoments (L.tree lazy.old) (to +ℤ pos 1)) TooManyMoments result }
 {
     'days: loop {
-        match lazy.next(alloc, to)? {
+        match lazy.next(alloc, &mut numbering.sets, to)? {
             None => return Ok(()),
             Some(found) => {
                 let place = days_between(first, found.day);
-                match shapes.place(found.times) {
+                match numbering.number_of(alloc, found, shapes) {
                     Ok(number) => put(numbers, place, number)?,
                     Err(fault) => return Err(fault),
                 }

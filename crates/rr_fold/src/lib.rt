@@ -5,5 +5,6 @@ mod fill;
 mod first_day;
 mod folded;
 mod jump;
+mod numbering;
 
 pub use folded::{Folded, fold};

@@ -1,18 +1,18 @@
 -- Rising days by place.
-use Rattle.std.proofs.Common.{◌≡◌, ℕ, zero, suc, ◌+◌, ◌<◌, ◌≤◌, Bool, ◌==◌, true, false, List, [], ◌∷◌, length, get_or, Contains, ℤ, pos, ◌≤ℤ◌, ◌<ℤ◌, refl}
+use Rattle.std.proofs.Common.{◌≡◌, ℕ, zero, suc, ◌+◌, ◌<◌, ◌≤◌, Bool, true, false, List, [], ◌∷◌, length, get_or, Contains, ℤ, pos, ◌≤ℤ◌, ◌<ℤ◌, refl}
 use Rattle.std.proofs.Common.{sym, ap, ◌∙◌, subst, inl, inr, arith}
-use Rattle.std.specs.Prelude.{IsTrue, nat_lt, int_lt, Some, None}
+use Rattle.std.specs.Prelude.{IsTrue, nat_lt, int_lt, Option, Some, None}
 use Rattle.std.proofs.lemmas.Int.{ints}
-use Rattle.std.proofs.lemmas.Bool.{cases_lt, false≢true}
-use Rattle.std.proofs.lemmas.Bool.Decides.{nat_tests}
+use Rattle.std.proofs.lemmas.Bool.{cases_lt}
 use Rattle.std.proofs.lemmas.List.{get_or_default}
 use Rattle.std.proofs.lemmas.List.Elements.{Contains-get_or}
 use Rattle.rr_model.specs.Rising.{Rises}
 use Rattle.rr_model.specs.Rising.Sets.{IsSetOf}
 use Rattle.rr_model.proofs.RisingSetLemmas.{below_rest, Rises-tail}
 use Rattle.rr_model.specs.Sets.Tree.{Tree, stands_at}
-use Rattle.rr_lazy.specs.declared.day_times.DayTimes.{DayTimes}
-use Rattle.rr_iter.specs.Walk.{IsFirstOf, IsOnDay}
+use Rattle.rr_lazy.specs.DayTimes.{DayTimes}
+use Rattle.rr_lazy.specs.declared.occupied_day.OccupiedDay.{OccupiedDay}
+use Rattle.rr_iter.specs.Walk.{IsFirstOf, IsOnDay, IsOnDayIn, IsPlacedDay}
 
 pub rising_days : (xs : List ℤ) → Rises int_lt xs → (i j : ℕ) → i < j → j < length xs → get_or xs i (pos 0) <ℤ get_or xs j (pos 0)
 rising_days [] r i j l h = absurd (omega arith)
@@ -32,17 +32,12 @@ nothing_in test times set e s = elim (test s) as (λ b. test s ≡ b → test s 
   | true ↦ λ h. (let c = (set.exact s).1 h in absurd (omega (arith, c.1, ap length e)))
 ] refl
 
-empty_by_length : (xs : List ℕ) → (length xs == 0) ≡ true → xs ≡ []
-empty_by_length [] e = refl
-empty_by_length (x ∷ xs) e = absurd (let z : length (x ∷ xs) ≡ 0 = grind (arith, nat_tests) in omega (arith, z))
-
-pub not_empty : (xs shown : List ℕ) → shown ≡ xs → (length shown == 0) ≡ false → xs ≡ [] → ⊥
-not_empty xs shown e some none = false≢true (sym some ∙ ap (λ l. length l == 0) (e ∙ none))
-
--- a day without seconds is not occupied
-pub unoccupied : (tree : Tree) (day day' : ℤ) (times shown : List ℕ) → day' ≡ day → IsSetOf nat_lt times (λ s. IsTrue (stands_at tree day' s))
-    → shown ≡ times → (length shown == 0) ≡ true → IsOnDay tree day None
-unoccupied tree day day' times shown e set f g s = rw (sym e) (nothing_in (stands_at tree day') times set (sym f ∙ empty_by_length shown g) s)
+-- a day is occupied with the seconds that are placed
+pub placed_on : (sets : List (List ℕ)) (tree : Tree) (day : ℤ) (times : List ℕ) (r : Option OccupiedDay)
+    → IsSetOf nat_lt times (λ s. IsTrue (stands_at tree day s)) → IsPlacedDay sets day times r → IsOnDayIn sets tree day r
+placed_on sets tree day times None set p = nothing_in (stands_at tree day) times set p
+placed_on sets tree day times (Some f) set p =
+    (p.2, (p.0, (λ e. p.1 (sym p.3 ∙ e)), subst (λ xs. IsSetOf nat_lt xs (λ s. IsTrue (stands_at tree day s))) (sym p.3) set))
 
 module _ (tree : Tree) (days : List ℤ) (from : ℤ) where
   -- the first i days of the list are not occupied from the given day on
@@ -54,10 +49,6 @@ module _ (tree : Tree) (days : List ℤ) (from : ℤ) where
 
   one_more : (i : ℕ) → PassedDays i → ((s : ℕ) → from ≤ℤ get_or days i (pos 0) → stands_at tree (get_or days i (pos 0)) s ≡ false) → PassedDays (i + 1)
   one_more i passed here k s l h = elim (cases_lt k i) [ inl m ↦ passed k s m h | inr g ↦ (let e : k ≡ i = omega arith in rw e (here s (rw e at h))) ]
-
-  -- a day before the given one
-  pub passed_early : (i : ℕ) (day : ℤ) → day ≡ get_or days i (pos 0) → day <ℤ from → PassedDays i → PassedDays (i + 1)
-  passed_early i day e l passed = one_more i passed (λ s h. absurd (omega (arith, ints, e)))
 
   -- a day that is not occupied
   pub passed_empty : (i : ℕ) (day : ℤ) → day ≡ get_or days i (pos 0) → IsOnDay tree day None → PassedDays i → PassedDays (i + 1)

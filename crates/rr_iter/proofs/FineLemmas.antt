@@ -1,23 +1,28 @@
 -- Rules whose units are shorter than a day, walked day by day.
-use Rattle.std.proofs.Common.{◌≡◌, ℕ, ◌+◌, ◌*◌, ◌/◌, ◌<◌, ◌≤◌, true, false, ◌&&◌, List, ℤ, pos, nat_abs, ◌+ℤ◌, ◌-ℤ◌, ◌*ℤ◌, Contains, refl, sym, ◌∙◌, inl}
+use Rattle.std.proofs.Common.{◌≡◌, ℕ, ◌+◌, ◌*◌, ◌/◌, ◌<◌, ◌≤◌, true, false, ◌&&◌, List, ℤ, pos, nat_abs, ◌+ℤ◌, ◌-ℤ◌, ◌*ℤ◌, Contains, refl, sym, ap, ◌∙◌, inl}
 use Rattle.std.proofs.Common.{inr, arith}
-use Rattle.std.specs.Prelude.{IsTrue, nat_lt, nat_le, int_le, None}
+use Rattle.std.proofs.Common.{subst}
+use Rattle.std.proofs.Math.Seq.{take-length}
+use Rattle.std.proofs.lemmas.Option.{get_or_from_slice_get, slice_get_within}
+use Rattle.std.specs.Prelude.{Bool, slice_get, IsTrue, nat_lt, nat_le, int_le, Some, None, [], length, get_or, take, ◌<ℤ◌, ◌≤ℤ◌}
 use Rattle.std.proofs.lemmas.Int.{ints, by_lt_z}
 use Rattle.std.proofs.lemmas.Bool.{cases_lt, false≢true}
 use Rattle.std.proofs.lemmas.Bool.Decides.{nat_tests}
 use Rattle.rr_model.specs.Whole.{floor_mod}
-use Rattle.rr_model.specs.Moment.{moment_at}
+use Rattle.rr_model.specs.Moment.{day_part, moment_at}
 use Rattle.rr_model.specs.Moment.Units.{unit_number}
 use Rattle.rr_model.specs.Rule.Validity.{takes_start}
 use Rattle.rr_model.specs.Rising.Sets.{IsSetOf}
 use Rattle.rr_model.specs.Rule.Chosen.{is_chosen}
-use Rattle.rr_model.specs.Rule.Candidate.{is_candidate, interval_holds}
+use Rattle.rr_model.specs.Rule.Candidate.{date_parts_hold, is_candidate, interval_holds}
+use Rattle.rr_model.specs.Rule.Filled.{filled}
 use Rattle.rr_model.specs.declared.kind.Kind.{Kind}
 use Rattle.rr_model.specs.declared.kind.Kind.TheVariants.{Days, Moments}
 use Rattle.rr_model.specs.declared.rule.Freq.{Freq}
 use Rattle.rr_model.specs.declared.rule.Freq.TheVariants.{Secondly, Minutely, Hourly, Daily, Weekly, Monthly, Yearly}
 use Rattle.rr_model.specs.declared.rule.Rule.{Rule}
 use Rattle.rr_model.proofs.WholeLemmas.{floor_only}
+use Rattle.rr_model.proofs.MomentLemmas.{day_part-moment_at}
 use Rattle.rr_model.proofs.RisingSetLemmas.{set_same}
 use Rattle.rr_model.specs.Moment.Units.{is_whole_days, unit_seconds}
 use Rattle.rr_setpos.proofs.PositionLemmas.{chosen_no_candidate}
@@ -25,9 +30,12 @@ use Rattle.rr_model.proofs.DaysAndTimesLemmas.{takes_start-days}
 use Rattle.rr_expand.proofs.FinerLemmas.{unit_at}
 use Rattle.rr_expand.proofs.FitLemmas.{none_before}
 use Rattle.rr_model.specs.Sets.Tree.{Tree, chosen_of, stands_at}
+use Rattle.rr_lazy.specs.declared.occupied_day.OccupiedDay.{OccupiedDay}
 use Rattle.rr_lazy.specs.Next.{HasNone}
 use Rattle.rr_lazy.proofs.TreeLemmas.{and_left, and_right, stands_below}
-use Rattle.rr_iter.specs.Walk.{IsFirstSecond, IsOnDay}
+use Rattle.rr_expand.specs.Years.{Filling, IsFirstAllowed, allows_day}
+use Rattle.rr_iter.specs.Ruling.{Ruling}
+use Rattle.rr_iter.specs.Walk.{IsFirstFine, IsFirstSecond, IsFirstUpToIn, IsOnDay, IsOnDayIn}
 
 -- a valid rule whose units are shorter than a day chooses moments
 pub only_moments : (freq : Freq) (kind : Kind) → IsTrue (takes_start freq kind) → is_whole_days freq ≡ false → kind ≡ Moments
@@ -126,12 +134,95 @@ module _ (rule : Rule) (start : ℤ) where
         | inr g ↦ (let n : nat_lt s 86_400 ≡ false = grind (arith, nat_tests) in rw n refl)
       ]
 
--- a walk that has come to a day without an occupied one
-pub walked_on : (tree : Tree) (from day next : ℤ) → HasNone tree from day → IsOnDay tree day None → HasNone tree (day +ℤ pos 1) next → HasNone tree from next
-walked_on tree from day next before none after d s l h =
-    by_lt_z {P = stands_at tree d s ≡ false} d day (λ m. before d s l m)
-    (λ g. by_lt_z {P = stands_at tree d s ≡ false} day d (λ m. after d s (omega (arith, ints, m)) h)
-    (λ n. (let e : d ≡ day = omega (arith, ints, g, n) in rw e (none s))))
+-- ---- days that the date parts do not allow
+
+and_false : (a : Bool) → (a && false) ≡ false
+and_false true = refl
+and_false false = refl
+
+no_date : (rule : Rule) (start d : ℤ) (s : ℕ) → s < 86_400 → date_parts_hold (filled rule Days (day_part Moments start)) d ≡ false
+    → is_candidate rule Moments start (moment_at Moments d s) ≡ false
+unfolding is_candidate
+no_date rule start d s low e =
+    let dates : date_parts_hold (filled rule Moments start) (day_part Moments (moment_at Moments d s)) ≡ false =
+    ap (date_parts_hold (filled rule Moments start)) (day_part-moment_at d s low) ∙ e in
+    rw (dates, and_false (interval_holds rule Moments start (moment_at Moments d s))) refl
+
+-- none of them is occupied
+pub none_allowed : (rule : Rule) (start day end : ℤ)
+    → ((d : ℤ) → day ≤ℤ d → d <ℤ end → date_parts_hold (filled rule Days (day_part Moments start)) d ≡ false)
+    → HasNone (chosen_of rule Moments start) day end
+none_allowed rule start day end none d s l h =
+    elim (cases_lt s 86_400) [
+      | inl m ↦ stands_is rule start d s m
+          ∙ (rw (chosen_no_candidate rule Moments start (moment_at Moments d s) (no_date rule start d s m (none d l h))) refl)
+      | inr g ↦ (let n : nat_lt s 86_400 ≡ false = grind (arith, nat_tests) in rw n refl)
+    ]
+
+-- ---- a walk, day by day
+
+pub none_on : (tree : Tree) (from day next : ℤ) → HasNone tree from day → HasNone tree day next → HasNone tree from next
+none_on tree from day next before after d s l h =
+    by_lt_z {P = stands_at tree d s ≡ false} d day (λ m. before d s l m) (λ g. after d s (omega (arith, ints, g)) h)
+
+-- past a day that is not occupied
+pub none_past : (tree : Tree) (from day : ℤ) → HasNone tree from day → IsOnDay tree day None → HasNone tree from (day +ℤ pos 1)
+none_past tree from day before none d s l h =
+    by_lt_z {P = stands_at tree d s ≡ false} d day (λ m. before d s l m) (λ g. (let e : d ≡ day = omega (arith, ints, g, h) in rw e (none s)))
+
+-- to a day that is
+pub found_first : (sets : List (List ℕ)) (tree : Tree) (from day to : ℤ) (found : OccupiedDay) → from ≤ℤ day → day ≤ℤ to → HasNone tree from day
+    → IsOnDayIn sets tree day (Some found) → IsFirstUpToIn sets tree from to (Some found)
+found_first sets tree from day to found late low none on = (
+  on.0,
+  (
+    record { late = omega (arith, ints, late, on.1.0); before = λ d s l h. none d s l (omega (arith, ints, h, on.1.0)); some = on.1.1; all = rw on.1.0 on.1.2 },
+    omega (arith, ints, low, on.1.0),
+  ),
+)
+
+-- the first day on which a candidate can lie, after days that are known to be unoccupied
+module _ (r : Ruling) (f : Filling) (is : f ≡ record { rule = r.rule; start_day = day_part Moments r.start }) (from day to : ℤ)
+    (before : HasNone (chosen_of r.rule Moments r.start) from day) where
+  allowed_at : (d : ℤ) → date_parts_hold (filled r.rule Days (day_part Moments r.start)) d ≡ allows_day f d
+  allowed_at d = ap (λ g. allows_day g d) (sym is)
+
+  pub fine_none : IsFirstAllowed f day (to +ℤ pos 1) None → IsFirstFine r from to None
+  fine_none h =
+      none_on (chosen_of r.rule Moments r.start) from day (to +ℤ pos 1) before
+      (none_allowed r.rule r.start day (to +ℤ pos 1) (λ d l m. allowed_at d ∙ h d l m))
+
+  pub fine_some : (found : ℤ) → from ≤ℤ day → day ≤ℤ to → found ≡ day → IsFirstAllowed f day (to +ℤ pos 1) (Some found) → IsFirstFine r from to (Some day)
+  fine_some found late low e h = (late, low, before, allowed_at day ∙ (rw e at h.2))
+
+  pub fine_more : (found next : ℤ) → IsFirstAllowed f day (to +ℤ pos 1) (Some found) → HasNone (chosen_of r.rule Moments r.start) found next
+      → HasNone (chosen_of r.rule Moments r.start) from next
+  fine_more found next h after =
+      none_on (chosen_of r.rule Moments r.start) from found next
+      (none_on (chosen_of r.rule Moments r.start) from day found before (none_allowed r.rule r.start day found (λ d l m. allowed_at d ∙ h.3 d l m))) after
+
+-- ---- a day with all that is chosen on it
+
+pub whole_day : (rule : Rule) (start d : ℤ) (first : ℕ) (all : List ℕ) → IsFirstSecond Moments start d first → first ≡ 0
+    → IsSetOf nat_lt all (λ s. (s < 86_400) × IsTrue (is_chosen rule Moments start (moment_at Moments d s)))
+    → IsSetOf nat_lt all (λ s. IsTrue (stands_at (chosen_of rule Moments start) d s))
+whole_day rule start d first all is none set =
+    seconds_of_day rule start d first all all is set
+    (record { rises = set.rises; exact = λ s. ((λ c. (c, omega (arith, none), ((set.exact s).0 c).0)), (λ h. h.0)) })
+
+pub on_whole : (sets : List (List ℕ)) (tree : Tree) (day d : ℤ) (number count : ℕ) (all : List ℕ) → slice_get sets number ≡ Some all → count ≡ length all
+    → 0 < count → d ≡ day → IsSetOf nat_lt all (λ s. IsTrue (stands_at tree day s))
+    → IsOnDayIn sets tree day (Some (record { day = d; number = number; count = count }))
+on_whole sets tree day d number count all at counted some same set =
+    let is : get_or sets number [] ≡ all = get_or_from_slice_get sets number all [] at in
+    let whole : take count (get_or sets number []) ≡ all = rw (is, counted) (take-length all) in (
+      (slice_get_within sets number all at, rw is (omega (arith, counted))),
+      (
+        same,
+        (λ e. omega (arith, some, counted, ap length (sym whole ∙ e))),
+        subst (λ xs. IsSetOf nat_lt xs (λ s. IsTrue (stands_at tree day s))) (sym whole) set,
+      ),
+    )
 
 -- as many units are at least as many days
 pub few_days : (freq : Freq) (k m : ℕ) → is_whole_days freq ≡ false → m ≡ 86_400 / unit_seconds freq → k / m ≤ k

@@ -3,10 +3,12 @@ pub mod DayListLemmas
 pub mod StepLemmas
 pub mod FineLemmas
 pub mod OffsetLemmas
+pub mod PlaceOfDayLemmas
 pub mod PlaceLemmas
 pub mod RulesLemmas
 mod SeriesExamples
 pub mod SetPositionLemmas
+pub mod PositionDayLemmas
 mod TreeExamples
 pub mod RepeatLemmas
 pub mod CountedFarLemmas
@@ -16,3 +18,4 @@ pub mod NumberLemmas
 pub mod CountedLemmas
 pub mod LastDayLemmas
 pub mod SettledLemmas
+pub mod PlainLemmas

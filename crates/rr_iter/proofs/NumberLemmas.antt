@@ -1,14 +1,19 @@
 -- Occurrences by their numbers, day by day.
-use Rattle.std.proofs.Common.{◌≡◌, ℕ, ◌+◌, ◌-◌, ◌<◌, ◌≤◌, List, length, ℤ, pos, ◌+ℤ◌, ◌≤ℤ◌, ap, inl, inr, arith}
+use Rattle.std.proofs.Common.{◌≡◌, ℕ, ◌+◌, ◌-◌, ◌<◌, ◌≤◌, List, [], get_or, length, length-take-le, ℤ, pos, ◌+ℤ◌, ◌≤ℤ◌, ap, inl, inr, arith}
 use Rattle.std.specs.Prelude.{Ok, Some, None}
 use Rattle.std.proofs.lemmas.Int.{ints}
 use Rattle.rr_model.specs.Moment.Years.{IsFromYearOne}
 use Rattle.rr_model.specs.Sets.Tree.{Tree, stands_at}
-use Rattle.rr_lazy.specs.Next.{IsFirstOccupied, IsNext, IsUnasked}
-use Rattle.rr_lazy.specs.declared.day_times.DayTimes.{DayTimes}
+use Rattle.rr_lazy.specs.Next.{IsFirstOccupied, IsNext, IsUnasked, IsWithin, with_set}
+use Rattle.rr_lazy.specs.declared.occupied_day.OccupiedDay.{OccupiedDay}
+use Rattle.rr_lazy.specs.DayTimes.{DayTimes}
 use Rattle.rr_lazy.proofs.TreeLemmas.{seconds_of_occupied}
 use Rattle.rr_lazy.proofs.CountingLemmas.{before_skip, before_next, before_none, seconds_whole}
 use Rattle.rr_iter.specs.Ends.{before_day, HasNumberOn}
+
+-- a day of which so many seconds are given has so many
+pub counted_seconds : (sets : List (List ℕ)) (found : OccupiedDay) → IsWithin sets found → length ((with_set sets found).times) ≡ found.count
+counted_seconds sets found within = length-take-le found.count (get_or sets found.number []) within.1
 
 -- nothing is counted at first
 pub unasked_counted : (tree : Tree) (position to : ℤ) (number : ℕ) → IsUnasked position → IsFromYearOne to → 1 ≤ number

@@ -48,7 +48,7 @@ last_holds true false c e = absurd (false≢true e)
 last_holds false b c e = absurd (false≢true e)
 
 -- a moment as the start takes each frequency
-fine_taken : (freq : Freq) → IsTrue (takes_start freq Moments)
+pub fine_taken : (freq : Freq) → IsTrue (takes_start freq Moments)
 fine_taken Secondly = refl
 fine_taken Minutely = refl
 fine_taken Hourly = refl
@@ -57,7 +57,7 @@ fine_taken Weekly = refl
 fine_taken Monthly = refl
 fine_taken Yearly = refl
 
-if_not : (c : Bool) (m n : ℕ) → c ≡ false → cond c m n ≡ n
+pub if_not : (c : Bool) (m n : ℕ) → c ≡ false → cond c m n ≡ n
 if_not true m n e = absurd (false≢true (sym e))
 if_not false m n e = refl
 

@@ -6,7 +6,7 @@ use Rattle.rr_model.specs.Moment.Years.{IsInYears}
 use Rattle.rr_model.specs.Rule.Validity.{EndsInYears}
 use Rattle.rr_model.specs.Series.Soundness.{EndsNotBefore, IsSound}
 use Rattle.rr_model.specs.Series.Tree.{dates_with_start, ended, members_of, members_of_all}
-use Rattle.rr_model.specs.Sets.Tree.{Tree, Forest, chosen_of, dates_of, union, many, without, nothing, part, IsOfKind, AreOfKind, IsOfOneKind}
+use Rattle.rr_model.specs.Sets.Tree.{Tree, chosen_of, dates_of, union, many, without, part, IsOfKind, AreOfKind, IsOfOneKind}
 use Rattle.rr_model.specs.declared.kind.Kind.{Kind}
 use Rattle.rr_model.specs.declared.rule.End.{End}
 use Rattle.rr_model.specs.declared.rule.End.TheVariants.{Never, Until, Count, Both}

@@ -374,7 +374,7 @@ candidate_at r days day i place count u low at same all =
     })
 
 -- a unit has at most 366 candidate days
-few_of_unit : (rule : Rule) (start_day d : ℤ) → is_whole_days rule.freq ≡ true → days_of_unit rule start_day d ≤ 366
+pub few_of_unit : (rule : Rule) (start_day d : ℤ) → is_whole_days rule.freq ≡ true → days_of_unit rule start_day d ≤ 366
 few_of_unit rule start_day d coarse =
     let u = unit_number rule.freq rule.week_start Days d in
     let n = unit_length rule.freq rule.week_start u coarse in

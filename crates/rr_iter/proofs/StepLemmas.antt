@@ -2,7 +2,7 @@
 use Rattle.std.proofs.Common.{◌≡◌, ◌⊎◌, ℕ, ◌<◌, true, false, ◌&&◌, ℤ, pos, ◌+ℤ◌, ◌≤ℤ◌, ◌<ℤ◌, refl, inl, inr, arith}
 use Rattle.std.specs.Prelude.{Some, None, int_le}
 use Rattle.std.proofs.lemmas.Int.{ints, clamps, by_lt_z}
-use Rattle.std.specs.Int.{int_max}
+use Rattle.std.specs.Int.{int_max, int_min}
 use Rattle.rr_model.specs.Moment.{day_part, moment_at}
 use Rattle.rr_model.specs.Rule.Chosen.{is_chosen}
 use Rattle.rr_model.specs.declared.kind.Kind.{Kind}
@@ -11,7 +11,7 @@ use Rattle.rr_model.specs.declared.rule.Rule.{Rule}
 use Rattle.rr_model.proofs.WholeLemmas.{floor_whole}
 use Rattle.rr_model.specs.Sets.Tree.{Tree, chosen_of, has_second, stands_at}
 use Rattle.rr_lazy.specs.Next.{HasNone, IsFirstOccupied}
-use Rattle.rr_lazy.specs.declared.day_times.DayTimes.{DayTimes}
+use Rattle.rr_lazy.specs.DayTimes.{DayTimes}
 use Rattle.rr_lazy.proofs.TreeLemmas.{has_second_below}
 use Rattle.rr_iter.specs.Walk.{IsFirstUpTo}
 
@@ -54,3 +54,7 @@ module _ (rule : Rule) (kind : Kind) (start position from to : ℤ) (within : (f
 pub later_is : (a b m : ℤ) → m ≡ int_max a b → (m ≡ a) ⊎ (m ≡ b)
 later_is a b m e = let P : Type 0 = (m ≡ a) ⊎ (m ≡ b) in
     by_lt_z {P = P} a b (λ l. inr (omega (arith, ints, clamps, l, e))) (λ g. inl (omega (arith, ints, clamps, g, e)))
+
+pub earlier_is : (a b m : ℤ) → m ≡ int_min a b → (m ≡ a) ⊎ (m ≡ b)
+earlier_is a b m e = let P : Type 0 = (m ≡ a) ⊎ (m ≡ b) in
+    by_lt_z {P = P} a b (λ l. inl (omega (arith, ints, clamps, l, e))) (λ g. inr (omega (arith, ints, clamps, g, e)))

@@ -1,6 +1,5 @@
 -- Worked cases of what stands in trees.
-use Rattle.std.proofs.Common.{◌≡◌, true, false, List, [], ◌∷◌, pos, refl}
-use Rattle.rr_model.specs.Calendar.{first_day_of_year, year_of, days_into_year}
+use Rattle.std.proofs.Common.{◌≡◌, true, false, [], ◌∷◌, pos, refl}
 use Rattle.rr_model.specs.Calendar.Week.{week_index}
 use Rattle.rr_model.specs.Calendar.{weekday_of}
 use Rattle.rr_model.specs.Rule.Candidate.{is_candidate}

@@ -5,7 +5,7 @@ use Rattle.std.specs.Prelude.{Option, Some, None, IsTrue, nat_lt, nat_le, int_le
 use Rattle.std.proofs.lemmas.Int.{ints, by_lt_z}
 use Rattle.std.proofs.lemmas.Bool.{cases_lt, false≢true}
 use Rattle.std.proofs.lemmas.Bool.Decides.{nat_tests}
-use Rattle.rr_lazy.specs.declared.day_times.DayTimes.{DayTimes}
+use Rattle.rr_lazy.specs.DayTimes.{DayTimes}
 use Rattle.rr_model.specs.Whole.{divides, floor_div, floor_mod}
 use Rattle.rr_model.specs.Calendar.{IsDayWithin, first_day_of_year}
 use Rattle.rr_model.specs.Moment.{day_part, moment_at}
@@ -26,7 +26,7 @@ use Rattle.rr_model.specs.Rule.DaysAndTimes.{seconds_of, day_holds, IsCandidateD
 use Rattle.rr_expand.specs.Expansion.{IsUnitNear}
 use Rattle.rr_model.proofs.DaysAndTimesLemmas.{candidates_are_days_and_times}
 use Rattle.rr_setpos.proofs.PositionLemmas.{chosen_no_candidate}
-use Rattle.rr_cal.proofs.DayUnitLemmas.{week_next, month_next, unit_near}
+use Rattle.rr_cal.proofs.DayUnitLemmas.{week_next, month_next, unit_length}
 use Rattle.rr_expand.proofs.UnitLemmas.{unit_start_near}
 use Rattle.rr_expand.proofs.FitLemmas.{fits_at, first_fits, none_before, next_fits, none_between}
 use Rattle.rr_model.specs.Sets.Tree.{Tree, chosen_of, has_second, stands_at}
@@ -106,12 +106,21 @@ module _ (freq : Freq) (w : ℕ) (coarse : is_whole_days freq ≡ true) where
           omega (arith, ints, r, zero_near.1, near.0, s.1)))
           (λ g. omega (arith, ints))
 
+  -- a unit that holds a day of the calls begins and ends near
+  day_unit_near : (d : ℤ) → IsDayWithin 0 d → IsDayWithin 400 (begin (unit d)) × IsDayWithin 400 (begin (unit d +ℤ pos 1))
+  day_unit_near d near =
+      let n = unit_length freq w (unit d) coarse in
+      let s = (units_are_stretches freq w Days d (unit d)).0 refl in (
+        (omega (arith, ints, near.0, s.1, n.1, n.2), omega (arith, ints, near.1, s.0)),
+        (omega (arith, ints, near.0, s.1), omega (arith, ints, near.1, s.0, n.1, n.2)),
+      )
+
   -- a unit between those of two days begins and ends near
   pub between_near : (u d e : ℤ) → unit d ≤ℤ u → u ≤ℤ unit e → IsDayWithin 0 d → IsDayWithin 0 e
-      → IsDayWithin 1000 (begin u) × IsDayWithin 1000 (begin (u +ℤ pos 1))
+      → IsDayWithin 400 (begin u) × IsDayWithin 400 (begin (u +ℤ pos 1))
   between_near u d e l h near_d near_e =
-      let a = (unit_near freq w d coarse near_d).0 in
-      let b = (unit_near freq w e coarse near_e).1 in
+      let a = (day_unit_near d near_d).0 in
+      let b = (day_unit_near e near_e).1 in
       let m = begin_mono (unit d) u l in
       let n = begin_mono (u +ℤ pos 1) (unit e +ℤ pos 1) (omega (arith, ints, h)) in
       let o = begin_mono u (u +ℤ pos 1) (omega (arith, ints)) in
@@ -143,10 +152,14 @@ module _ (rule : Rule) (kind : Kind) (start : ℤ) (coarse : is_whole_days rule.
   not_chosen : (d : ℤ) (s : ℕ) → s < seconds_of kind → day_holds rule (day_part kind start) d ≡ false → is_chosen rule kind start (moment_at kind d s) ≡ false
   not_chosen d s l e = chosen_no_candidate rule kind start (moment_at kind d s) (candidates_are_days_and_times rule kind start d s coarse l ∙ rw e refl)
 
+  -- a day of which no second is chosen is not occupied
+  pub none_chosen : (d : ℤ) (s : ℕ) → ((t : ℕ) → t < seconds_of kind → is_chosen rule kind start (moment_at kind d t) ≡ false) → stands_at tree d s ≡ false
+  none_chosen d s none =
+      elim (cases_lt s (seconds_of kind)) [ inl l ↦ stands_is d s l ∙ (rw (none s l) refl) | inr g ↦ (rw (has_second_not kind s g) refl) ]
+
   -- a day that is no candidate is not occupied
   pub no_candidate : (d : ℤ) (s : ℕ) → day_holds rule (day_part kind start) d ≡ false → stands_at tree d s ≡ false
-  no_candidate d s e =
-      elim (cases_lt s (seconds_of kind)) [ inl l ↦ stands_is d s l ∙ (rw (not_chosen d s l e) refl) | inr g ↦ (rw (has_second_not kind s g) refl) ]
+  no_candidate d s e = none_chosen d s (λ t l. not_chosen d t l e)
 
   -- the chosen seconds of a day from the start on
   pub seconds_of_day : (d : ℤ) (from : ℕ) (all times : List ℕ) → IsFirstSecond kind start d from

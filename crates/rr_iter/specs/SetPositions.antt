@@ -1,5 +1,5 @@
 -- The seconds that set positions choose, in the order in which a unit is walked (RFC 5545, section 3.3.10, BYSETPOS).
-use Rattle.std.specs.Prelude.{◌≡◌, ℕ, ◌+◌, ◌%◌, ◌<◌, Bool, true, IsTrue, Option, Some, None, List, Contains, get_or, length, ℤ, pos}
+use Rattle.std.specs.Prelude.{◌≡◌, ℕ, ◌+◌, ◌*◌, ◌%◌, ◌<◌, ◌≤◌, Bool, true, IsTrue, Option, Some, None, List, Contains, get_or, length, ℤ, pos}
 use Rattle.rr_model.specs.Moment.Units.{unit_seconds}
 use Rattle.rr_model.specs.Rule.Filled.{minute_of, second_of, wants_second}
 use Rattle.rr_model.specs.Sets.Counting.{count_seconds}
@@ -24,6 +24,29 @@ IsTimeAt times before size place (Some s) = IsAtPlace times before size place s
 -- the time has one of the first k places
 abbrev pub IsAtSome : List ℕ → ℕ → ℕ → List ℤ → ℕ → ℕ → Type 0
 IsAtSome times before size places k s = (i : ℕ) × ((i < k) × IsAtPlace times before size (get_or places i (pos 0)) s)
+
+-- the position is that of a time of the day at this place, where each of so many days has so many times
+abbrev pub IsPositionOn : ℤ → ℕ → ℕ → ℕ → Type 0
+IsPositionOn position each count place = (r : ℕ) × ((r < each) × IsPlaceOf position (count * each) (place * each + r))
+
+-- the place of the day on which a position is, None where it is on none
+abbrev pub IsDayOfPosition : ℤ → ℕ → ℕ → Option ℕ → Type 0
+IsDayOfPosition position each count None = (k : ℕ) → k < count → IsPositionOn position each count k → ⊥
+IsDayOfPosition position each count (Some place) = (place < count) × IsPositionOn position each count place
+
+-- one of the first k positions is that of a time of the day at this place
+abbrev pub HasOneOn : List ℤ → ℕ → ℕ → ℕ → ℕ → Type 0
+HasOneOn positions k each count place = (i : ℕ) × ((i < k) × IsPositionOn (get_or positions i (pos 0)) each count place)
+
+-- one of all positions is
+abbrev pub HasPositionOn : List ℤ → ℕ → ℕ → ℕ → Type 0
+HasPositionOn positions each count place = HasOneOn positions (length positions) each count place
+
+-- the first such place from one on, None where there is none
+abbrev pub IsNextPlace : List ℤ → ℕ → ℕ → ℕ → Option ℕ → Type 0
+IsNextPlace positions each count from None = (k : ℕ) → from ≤ k → k < count → HasPositionOn positions each count k → ⊥
+IsNextPlace positions each count from (Some place) =
+    (from ≤ place) × (place < count) × HasPositionOn positions each count place × ((k : ℕ) → from ≤ k → k < place → HasPositionOn positions each count k → ⊥)
 
 -- ---- units shorter than a day
 

@@ -1,12 +1,13 @@
 // The dates that are added to a series, and the members of its rules.
-ghost use Rattle.std.specs.Prelude.{◌≡◌, IfOk};
+ghost use Rattle.std.specs.Prelude.{◌≡◌, IfOk, List, ℕ};
 ghost use Rattle.rr_model.specs.Series.Soundness.{IsSound};
 ghost use Rattle.rr_model.specs.Series.Tree.{dates_with_start, members_of_all};
 ghost use Rattle.rr_lazy.specs.Next.{IsUnasked};
 
 use crate::RulesLazy;
-use rr_lazy::{DatesLazy, DayTimes, Lazy, Union};
+use rr_lazy::{DatesLazy, Lazy, OccupiedDay, Union};
 use rr_model::{Dates, NoMemory, Series};
+use rr_shapes::SetTable;
 use std::alloc::Global;
 
 /// The dates that are added to a series, and the members of its rules.
@@ -23,6 +24,7 @@ impl AllLazy {
         requires sound { IsSound series.now }
         ensures tree { IfOk result (λ l. ⟦<AllLazy as Lazy>⟧.tree l ≡ union (dates_of series.now.kind (dates_with_start series.now)) (many (members_of_all series.now.kind series.now.start series.now.rules))) }
         ensures unasked { IfOk result (λ l. IsUnasked (⟦<AllLazy as Lazy>⟧.position l)) }
+        ensures knows { IfOk result (λ l. (sets : List (List ℕ)) → ⟦<AllLazy as Lazy>⟧.knows l sets) }
     {
         let dates = DatesLazy::new(series.kind, dates_with_start(alloc, series)?);
         let rules = RulesLazy::new(alloc, series)?;
@@ -44,15 +46,25 @@ fn dates_with_start(alloc: Global, series: &Series) -> Result<Dates, NoMemory>
 }
 
 impl Lazy for AllLazy {
+    ghost use Rattle.rr_iter.specs.KnowsAll.{knows_all, knows_all_more};
     ghost use Rattle.rr_lazy.specs.Ahead.{sound_union};
 
     ghost tree = { λ s. ⟦<Union<DatesLazy, RulesLazy> as Lazy>⟧.tree s.lazy };
 
     ghost position = { λ s. ⟦<Union<DatesLazy, RulesLazy> as Lazy>⟧.position s.lazy };
 
+    ghost knows = { knows_all };
+
+    ghost knows_more = { knows_all_more };
+
     ghost sound = { λ s. sound_union (⟦<DatesLazy as Lazy>⟧.tree s.lazy.a) (⟦<RulesLazy as Lazy>⟧.tree s.lazy.b) s.lazy.position s.lazy.one_kind s.lazy.begun };
 
-    fn next(&mut self, alloc: Global, to: i64) -> Result<Option<DayTimes>, NoMemory> {
-        self.lazy.next(alloc, to)
+    fn next(
+        &mut self,
+        alloc: Global,
+        sets: &mut SetTable,
+        to: i64,
+    ) -> Result<Option<OccupiedDay>, NoMemory> {
+        self.lazy.next(alloc, sets, to)
     }
 }

@@ -1,12 +1,13 @@
 // The occurrences of a series.
-ghost use Rattle.std.specs.Prelude.{◌≡◌, IfOk};
+ghost use Rattle.std.specs.Prelude.{◌≡◌, IfOk, List, ℕ};
 ghost use Rattle.rr_model.specs.Series.Tree.{tree_of};
 ghost use Rattle.rr_lazy.specs.Next.{IsUnasked};
 
 use crate::AllLazy;
 use rr_check::Checked;
-use rr_lazy::{DayTimes, Lazy, Without};
+use rr_lazy::{Lazy, OccupiedDay, Without};
 use rr_model::NoMemory;
+use rr_shapes::SetTable;
 use std::alloc::Global;
 
 /// The occurrences of a series.
@@ -20,6 +21,7 @@ pub struct AnyLazy {
 pub fn occurrences(alloc: Global, series: &Checked) -> Result<AnyLazy, NoMemory>
     ensures tree { IfOk result (λ l. ⟦<AnyLazy as Lazy>⟧.tree l ≡ tree_of series.now) }
     ensures unasked { IfOk result (λ l. IsUnasked (⟦<AnyLazy as Lazy>⟧.position l)) }
+    ensures knows { IfOk result (λ l. (sets : List (List ℕ)) → ⟦<AnyLazy as Lazy>⟧.knows l sets) }
 {
     let given = series.series();
     let all = AllLazy::new(alloc, given)?;
@@ -30,15 +32,25 @@ pub fn occurrences(alloc: Global, series: &Checked) -> Result<AnyLazy, NoMemory>
 }
 
 impl Lazy for AnyLazy {
+    ghost use Rattle.rr_iter.specs.KnowsAny.{knows_any, knows_any_more};
     ghost use Rattle.rr_lazy.specs.Stretch.{sound_without};
 
     ghost tree = { λ s. ⟦<Without<AllLazy> as Lazy>⟧.tree s.lazy };
 
     ghost position = { λ s. ⟦<Without<AllLazy> as Lazy>⟧.position s.lazy };
 
+    ghost knows = { knows_any };
+
+    ghost knows_more = { knows_any_more };
+
     ghost sound = { λ s. sound_without (⟦<AllLazy as Lazy>⟧.tree s.lazy.lazy) s.lazy.kind s.lazy.dates s.lazy.position s.lazy.one_kind s.lazy.begun };
 
-    fn next(&mut self, alloc: Global, to: i64) -> Result<Option<DayTimes>, NoMemory> {
-        self.lazy.next(alloc, to)
+    fn next(
+        &mut self,
+        alloc: Global,
+        sets: &mut SetTable,
+        to: i64,
+    ) -> Result<Option<OccupiedDay>, NoMemory> {
+        self.lazy.next(alloc, sets, to)
     }
 }

@@ -1,5 +1,5 @@
 // The members of a rule.
-ghost use Rattle.std.specs.Prelude.{◌≡◌, IfOk};
+ghost use Rattle.std.specs.Prelude.{◌≡◌, IfOk, List, ℕ};
 ghost use Rattle.rr_model.specs.Moment.Years.{IsInYears};
 ghost use Rattle.rr_model.specs.Rule.Validity.{EndsInYears, IsValidRule};
 ghost use Rattle.rr_model.specs.Series.Soundness.{EndsNotBefore};
@@ -7,8 +7,9 @@ ghost use Rattle.rr_model.specs.Series.Tree.{members_of};
 ghost use Rattle.rr_lazy.specs.Next.{IsUnasked};
 
 use crate::{RuleLazy, UptoRule};
-use rr_lazy::{DayTimes, FirstN, Lazy};
+use rr_lazy::{FirstN, Lazy, OccupiedDay};
 use rr_model::{End, Kind, NoMemory, Rule};
+use rr_shapes::SetTable;
 use std::alloc::Global;
 
 /// The members of a rule: its chosen moments from its start on, up to its end.
@@ -34,6 +35,7 @@ impl EndedLazy {
         requires ends_not_before { EndsNotBefore kind start rule.now.end }
         ensures tree { IfOk result (λ l. ⟦<EndedLazy as Lazy>⟧.tree l ≡ members_of kind start rule.now) }
         ensures unasked { IfOk result (λ l. IsUnasked (⟦<EndedLazy as Lazy>⟧.position l)) }
+        ensures knows { IfOk result (λ l. (sets : List (List ℕ)) → ⟦<EndedLazy as Lazy>⟧.knows l sets) }
     {
         let chosen = RuleLazy::new(alloc, rule, kind, start)?;
         Ok(match rule.end {
@@ -48,20 +50,29 @@ impl EndedLazy {
 }
 
 impl Lazy for EndedLazy {
-    ghost use Rattle.rr_iter.specs.Ended.{tree_of_ended, position_of_ended, sound_ended};
+    ghost use Rattle.rr_iter.specs.Ended.{knows_ended, knows_ended_more, position_of_ended, sound_ended, tree_of_ended};
 
     ghost tree = { tree_of_ended };
 
     ghost position = { position_of_ended };
 
+    ghost knows = { knows_ended };
+
+    ghost knows_more = { knows_ended_more };
+
     ghost sound = { sound_ended };
 
-    fn next(&mut self, alloc: Global, to: i64) -> Result<Option<DayTimes>, NoMemory> {
+    fn next(
+        &mut self,
+        alloc: Global,
+        sets: &mut SetTable,
+        to: i64,
+    ) -> Result<Option<OccupiedDay>, NoMemory> {
         match self {
-            EndedLazy::Never(lazy) => lazy.next(alloc, to),
-            EndedLazy::Until(lazy) => lazy.next(alloc, to),
-            EndedLazy::Count(lazy) => lazy.next(alloc, to),
-            EndedLazy::Both(lazy) => lazy.next(alloc, to),
+            EndedLazy::Never(lazy) => lazy.next(alloc, sets, to),
+            EndedLazy::Until(lazy) => lazy.next(alloc, sets, to),
+            EndedLazy::Count(lazy) => lazy.next(alloc, sets, to),
+            EndedLazy::Both(lazy) => lazy.next(alloc, sets, to),
         }
     }
 }

@@ -1,5 +1,5 @@
 // The chosen moments of a rule in hours.
-ghost use Rattle.std.specs.Prelude.{◌≡◌, IfOk};
+ghost use Rattle.std.specs.Prelude.{◌≡◌, IfOk, List, ℕ};
 ghost use Rattle.rr_model.specs.Moment.Years.{IsInYears};
 ghost use Rattle.rr_model.specs.Rule.Validity.{IsValidRule};
 ghost use Rattle.rr_model.specs.declared.rule.Freq.TheVariants.{Hourly};
@@ -8,8 +8,9 @@ ghost use Rattle.rr_iter.specs.Ruling.{IsValidRuling, IsValidRuling-prop, at_mom
 ghost use Rattle.rr_iter.specs.Steps.{HasBegun};
 
 use crate::fine_rule::FineRule;
-use rr_lazy::{DayTimes, Lazy};
+use rr_lazy::{Lazy, OccupiedDay};
 use rr_model::{Kind, NoMemory, Rule};
+use rr_shapes::SetTable;
 use std::alloc::Global;
 
 /// The chosen moments of a rule with FREQ=HOURLY from its start on.
@@ -31,6 +32,7 @@ impl HourLazy {
         requires in_years { IsInYears kind start }
         ensures tree { IfOk result (λ l. ⟦<HourLazy as Lazy>⟧.tree l ≡ chosen_of rule.now kind start) }
         ensures unasked { IfOk result (λ l. IsUnasked (⟦<HourLazy as Lazy>⟧.position l)) }
+        ensures knows { IfOk result (λ l. (sets : List (List ℕ)) → ⟦<HourLazy as Lazy>⟧.knows l sets) }
     {
         let rule = FineRule::new(alloc, rule, kind, start)?;
         Ok(HourLazy {
@@ -43,16 +45,25 @@ impl HourLazy {
 impl Lazy for HourLazy {
     ghost use Rattle.rr_model.specs.Sets.Tree.{chosen_of};
     ghost use Rattle.rr_iter.specs.Steps.{sound_ruling};
-    ghost use Rattle.rr_iter.specs.Ruling.{at_moments};
+    ghost use Rattle.rr_iter.specs.Ruling.{KnowsPlaces, at_moments, places_more};
     ghost use Rattle.rr_model.specs.declared.kind.Kind.TheVariants.{Moments};
 
     ghost tree = { λ s. chosen_of s.rule.rule Moments s.rule.start };
 
     ghost position = { λ s. s.position };
 
+    ghost knows = { λ s sets. KnowsPlaces s.rule sets };
+
+    ghost knows_more = { λ s old new more k. places_more s.rule old new more k };
+
     ghost sound = { λ s. sound_ruling (at_moments s.rule) s.position s.valid s.begun };
 
-    fn next(&mut self, alloc: Global, to: i64) -> Result<Option<DayTimes>, NoMemory> {
-        self.rule.step(alloc, &mut self.position, to)
+    fn next(
+        &mut self,
+        alloc: Global,
+        sets: &mut SetTable,
+        to: i64,
+    ) -> Result<Option<OccupiedDay>, NoMemory> {
+        self.rule.step(alloc, sets, &mut self.position, to)
     }
 }

@@ -1,5 +1,5 @@
 // The last day of a rule that ends.
-ghost use Rattle.std.specs.Prelude.{◌≡◌, ◌≤◌, ◌≤ℤ◌, IfOk, pos};
+ghost use Rattle.std.specs.Prelude.{◌≡◌, ◌≤◌, ◌≤ℤ◌, IfOk, List, ℕ, pos};
 ghost use Rattle.rr_model.specs.Answers.{RefusedExactlyWhere};
 ghost use Rattle.rr_model.specs.Moment.{day_part};
 ghost use Rattle.rr_model.specs.Moment.Years.{IsFromYearOne};
@@ -13,6 +13,7 @@ use crate::EndedLazy;
 use crate::counted::last_counted;
 use rr_lazy::Lazy;
 use rr_model::{End, Fault, Kind, NoMemory, Rule, day_part};
+use rr_shapes::SetTable;
 use std::alloc::Global;
 
 // The last day of a rule's UNTIL or members; the start's day for an endless rule.
@@ -49,14 +50,16 @@ fn last_occupied<A: Lazy + Drop>(
     to: i64,
 ) -> Result<i64, NoMemory>
     requires unasked { IsUnasked (A.position lazy) }
+    requires knows { (sets : List (List ℕ)) → A.knows lazy sets }
     requires given { IsFromYearOne given }
     requires low { IsFromYearOne to }
     requires high { to ≤ℤ pos 2_999_999_999_000 }
     ensures { IfOk result (IsLastUpTo (A.tree lazy) given to) }
 {
+    let mut sets = SetTable::new(alloc);
     let mut last = given;
     'days: loop {
-        match lazy.next(alloc, to)? {
+        match lazy.next(alloc, &mut sets, to)? {
             None => return Ok(last),
             Some(found) => last = found.day,
         }

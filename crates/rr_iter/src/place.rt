@@ -1,5 +1,5 @@
 // Where the chosen moment of a number lies.
-ghost use Rattle.std.specs.Prelude.{◌≡◌, ◌≤◌, ◌≤ℤ◌, IfOk, pos};
+ghost use Rattle.std.specs.Prelude.{◌≡◌, ◌≤◌, ◌≤ℤ◌, IfOk, List, ℕ, pos};
 ghost use Rattle.rr_model.specs.Moment.Years.{IsFromYearOne};
 ghost use Rattle.rr_model.specs.Sets.Tree.{chosen_of};
 ghost use Rattle.rr_lazy.specs.Next.{IsUnasked};
@@ -8,6 +8,7 @@ ghost use Rattle.rr_iter.specs.Ends.{IsPlaceOf, IsSoundRule};
 use crate::RuleLazy;
 use rr_lazy::Lazy;
 use rr_model::{Kind, NoMemory, Rule};
+use rr_shapes::SetTable;
 use std::alloc::Global;
 
 /// Where an occurrence lies, looked for up to a day.
@@ -48,17 +49,19 @@ pub fn place_of<A: Lazy + Drop>(
     to: i64,
 ) -> Result<Place, NoMemory>
     requires unasked { IsUnasked (A.position lazy) }
+    requires knows { (sets : List (List ℕ)) → A.knows lazy sets }
     requires some { 1 ≤ number }
     requires low { IsFromYearOne to }
     requires high { to ≤ℤ pos 2_999_999_999_000 }
     ensures { IfOk result (IsPlaceOf (A.tree lazy) number to) }
 {
+    let mut sets = SetTable::new(alloc);
     let mut left = number;
     'days: loop {
-        match lazy.next(alloc, to)? {
+        match lazy.next(alloc, &mut sets, to)? {
             None => return Ok(Place::Beyond(left)),
             Some(found) => {
-                let count = found.times.as_slice().len() as u64;
+                let count = found.count as u64;
                 if left <= count {
                     return Ok(Place::On(found.day));
                 }

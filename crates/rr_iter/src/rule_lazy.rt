@@ -1,13 +1,14 @@
 // The chosen moments of a rule.
-ghost use Rattle.std.specs.Prelude.{◌≡◌, IfOk};
+ghost use Rattle.std.specs.Prelude.{◌≡◌, IfOk, List, ℕ};
 ghost use Rattle.rr_model.specs.Moment.Years.{IsInYears};
 ghost use Rattle.rr_model.specs.Rule.Validity.{IsValidRule};
 ghost use Rattle.rr_lazy.specs.Next.{IsUnasked};
 ghost use Rattle.rr_model.specs.Sets.Tree.{chosen_of};
 
 use crate::{DayLazy, HourLazy, MinuteLazy, MonthLazy, SecondLazy, WeekLazy, YearLazy};
-use rr_lazy::{DayTimes, Lazy};
+use rr_lazy::{Lazy, OccupiedDay};
 use rr_model::{Freq, Kind, NoMemory, Rule};
+use rr_shapes::SetTable;
 use std::alloc::Global;
 
 /// The chosen moments of a rule from its start on.
@@ -36,6 +37,7 @@ impl RuleLazy {
         requires in_years { IsInYears kind start }
         ensures tree { IfOk result (λ l. ⟦<RuleLazy as Lazy>⟧.tree l ≡ chosen_of rule.now kind start) }
         ensures unasked { IfOk result (λ l. IsUnasked (⟦<RuleLazy as Lazy>⟧.position l)) }
+        ensures knows { IfOk result (λ l. (sets : List (List ℕ)) → ⟦<RuleLazy as Lazy>⟧.knows l sets) }
     {
         Ok(match rule.freq {
             Freq::Secondly => RuleLazy::Second(SecondLazy::new(alloc, rule, kind, start)?),
@@ -50,23 +52,32 @@ impl RuleLazy {
 }
 
 impl Lazy for RuleLazy {
-    ghost use Rattle.rr_iter.specs.Lazies.{tree_of_rule, position_of_rule, sound_rule};
+    ghost use Rattle.rr_iter.specs.Lazies.{knows_rule, knows_rule_more, position_of_rule, sound_rule, tree_of_rule};
 
     ghost tree = { tree_of_rule };
 
     ghost position = { position_of_rule };
 
+    ghost knows = { knows_rule };
+
+    ghost knows_more = { knows_rule_more };
+
     ghost sound = { sound_rule };
 
-    fn next(&mut self, alloc: Global, to: i64) -> Result<Option<DayTimes>, NoMemory> {
+    fn next(
+        &mut self,
+        alloc: Global,
+        sets: &mut SetTable,
+        to: i64,
+    ) -> Result<Option<OccupiedDay>, NoMemory> {
         match self {
-            RuleLazy::Second(lazy) => lazy.next(alloc, to),
-            RuleLazy::Minute(lazy) => lazy.next(alloc, to),
-            RuleLazy::Hour(lazy) => lazy.next(alloc, to),
-            RuleLazy::Day(lazy) => lazy.next(alloc, to),
-            RuleLazy::Week(lazy) => lazy.next(alloc, to),
-            RuleLazy::Month(lazy) => lazy.next(alloc, to),
-            RuleLazy::Year(lazy) => lazy.next(alloc, to),
+            RuleLazy::Second(lazy) => lazy.next(alloc, sets, to),
+            RuleLazy::Minute(lazy) => lazy.next(alloc, sets, to),
+            RuleLazy::Hour(lazy) => lazy.next(alloc, sets, to),
+            RuleLazy::Day(lazy) => lazy.next(alloc, sets, to),
+            RuleLazy::Week(lazy) => lazy.next(alloc, sets, to),
+            RuleLazy::Month(lazy) => lazy.next(alloc, sets, to),
+            RuleLazy::Year(lazy) => lazy.next(alloc, sets, to),
         }
     }
 }

@@ -1,12 +1,13 @@
 // The members of the rules of a series.
-ghost use Rattle.std.specs.Prelude.{◌≡◌, IfOk};
+ghost use Rattle.std.specs.Prelude.{◌≡◌, IfOk, List, ℕ};
 ghost use Rattle.rr_model.specs.Series.Soundness.{IsSound};
 ghost use Rattle.rr_model.specs.Series.Tree.{members_of_all};
 ghost use Rattle.rr_lazy.specs.Next.{IsUnasked};
 
 use crate::EndedLazy;
-use rr_lazy::{DayTimes, Lazy, Many};
+use rr_lazy::{Lazy, Many, OccupiedDay};
 use rr_model::{NoMemory, Series};
+use rr_shapes::SetTable;
 use std::alloc::Global;
 
 /// The members of the rules of a series.
@@ -23,6 +24,7 @@ impl RulesLazy {
         requires sound { IsSound series.now }
         ensures tree { IfOk result (λ l. ⟦<RulesLazy as Lazy>⟧.tree l ≡ many (members_of_all series.now.kind series.now.start series.now.rules)) }
         ensures unasked { IfOk result (λ l. IsUnasked (⟦<RulesLazy as Lazy>⟧.position l)) }
+        ensures knows { IfOk result (λ l. (sets : List (List ℕ)) → ⟦<RulesLazy as Lazy>⟧.knows l sets) }
     {
         let mut lazy = Many::new(alloc);
         for rule in series.rules.as_slice() {
@@ -34,15 +36,25 @@ impl RulesLazy {
 }
 
 impl Lazy for RulesLazy {
+    ghost use Rattle.rr_iter.specs.KnowsRules.{knows_rules, knows_rules_more};
     ghost use Rattle.rr_lazy.specs.Many.{forest_of, sound_many};
 
     ghost tree = { λ s. ⟦<Many<EndedLazy> as Lazy>⟧.tree s.lazy };
 
     ghost position = { λ s. ⟦<Many<EndedLazy> as Lazy>⟧.position s.lazy };
 
+    ghost knows = { knows_rules };
+
+    ghost knows_more = { knows_rules_more };
+
     ghost sound = { λ s. sound_many (forest_of (λ p. ⟦<EndedLazy as Lazy>⟧.tree p.lazy) s.lazy.parts.items) s.lazy.position s.lazy.one_kind s.lazy.begun };
 
-    fn next(&mut self, alloc: Global, to: i64) -> Result<Option<DayTimes>, NoMemory> {
-        self.lazy.next(alloc, to)
+    fn next(
+        &mut self,
+        alloc: Global,
+        sets: &mut SetTable,
+        to: i64,
+    ) -> Result<Option<OccupiedDay>, NoMemory> {
+        self.lazy.next(alloc, sets, to)
     }
 }

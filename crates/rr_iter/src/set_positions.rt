@@ -2,7 +2,7 @@
 ghost use Rattle.std.specs.Prelude.{◌≡◌, ◌≤◌, ◌<◌, ◌+◌, ◌*◌, IfOk, length, nat_lt, pos};
 ghost use Rattle.rr_model.specs.Rising.Sets.{IsSetOf};
 ghost use Rattle.rr_model.specs.Rule.Validity.{CountUpTo};
-ghost use Rattle.rr_iter.specs.SetPositions.{IsAtSome, IsTimeAt};
+ghost use Rattle.rr_iter.specs.SetPositions.{IsAtSome, IsDayOfPosition, IsNextPlace, IsTimeAt};
 
 use rr_model::{NoMemory, Numbers, Seconds};
 use rr_setpos::rank_of;
@@ -27,6 +27,44 @@ pub(crate) fn times_at_positions(
     let size = count * times.len();
     let chosen = seconds_at_places(alloc, times, before as u32, size as u32, positions)?;
     TimeSet::of(alloc, chosen.as_slice())
+}
+
+// The first place, from one on, among so many days of a unit at which one of the positions is, where each day has so many times.
+pub(crate) fn next_place(
+    positions: &Numbers,
+    each: usize,
+    count: usize,
+    from: usize,
+) -> Option<usize>
+    requires each { each ≤ 86_400 }
+    requires count { count ≤ 366 }
+    requires positions { CountUpTo 366 positions.now }
+    ensures { IsNextPlace positions.now each count from result }
+{
+    // No position is on the days from that one on and before this one.
+    let mut end = count;
+    for position in positions.as_slice() {
+        if let Some(place) = day_of_position(i64::from(*position), each, count) {
+            if from <= place && place < end {
+                end = place;
+            }
+        }
+    }
+    if end < count { Some(end) } else { None }
+}
+
+// The place of the day on which a position is, among so many days of a unit that have so many times each.
+fn day_of_position(position: i64, each: usize, count: usize) -> Option<usize>
+    requires position { position ≡ pos 0 → ⊥ }
+    requires each { each ≤ 86_400 }
+    requires count { count ≤ 366 }
+    ensures { IsDayOfPosition position each count result }
+{
+    let size = count * each;
+    match rank_of(position, size as u32) {
+        None => None,
+        Some(rank) => Some(rank as usize / each),
+    }
 }
 
 // Of the times of a day those at the listed places, where so many candidates of the unit come before them, of so many.

@@ -1,11 +1,12 @@
 // The chosen moments of a rule up to its UNTIL.
-ghost use Rattle.std.specs.Prelude.{◌≡◌};
+ghost use Rattle.std.specs.Prelude.{◌≡◌, List, ℕ};
 ghost use Rattle.rr_model.specs.Sets.Tree.{IsOfOneKind, upto};
 ghost use Rattle.rr_lazy.specs.Next.{IsUnasked};
 
 use crate::RuleLazy;
-use rr_lazy::{DayTimes, Lazy, Upto};
+use rr_lazy::{Lazy, OccupiedDay, Upto};
 use rr_model::{Kind, NoMemory};
+use rr_shapes::SetTable;
 use std::alloc::Global;
 
 /// The chosen moments of a rule from its start on that are not after a moment.
@@ -21,6 +22,7 @@ impl UptoRule {
         requires unasked { IsUnasked (⟦<RuleLazy as Lazy>⟧.position lazy) }
         ensures tree { ⟦<UptoRule as Lazy>⟧.tree result ≡ upto (⟦<RuleLazy as Lazy>⟧.tree lazy) kind at }
         ensures unasked { IsUnasked (⟦<UptoRule as Lazy>⟧.position result) }
+        ensures knows { (sets : List (List ℕ)) → ⟦<RuleLazy as Lazy>⟧.knows lazy sets → ⟦<UptoRule as Lazy>⟧.knows result sets }
     {
         UptoRule {
             lazy: Upto::new(lazy, kind, at),
@@ -29,15 +31,25 @@ impl UptoRule {
 }
 
 impl Lazy for UptoRule {
+    ghost use Rattle.rr_iter.specs.Lazies.{knows_rule_more};
     ghost use Rattle.rr_lazy.specs.Upto.{sound_upto};
 
     ghost tree = { λ s. ⟦<Upto<RuleLazy> as Lazy>⟧.tree s.lazy };
 
     ghost position = { λ s. ⟦<Upto<RuleLazy> as Lazy>⟧.position s.lazy };
 
+    ghost knows = { λ s sets. ⟦<Upto<RuleLazy> as Lazy>⟧.knows s.lazy sets };
+
+    ghost knows_more = { λ s old new more k. knows_rule_more s.lazy.lazy old new more k };
+
     ghost sound = { λ s. sound_upto (⟦<RuleLazy as Lazy>⟧.tree s.lazy.lazy) s.lazy.kind s.lazy.at s.lazy.position s.lazy.one_kind s.lazy.begun };
 
-    fn next(&mut self, alloc: Global, to: i64) -> Result<Option<DayTimes>, NoMemory> {
-        self.lazy.next(alloc, to)
+    fn next(
+        &mut self,
+        alloc: Global,
+        sets: &mut SetTable,
+        to: i64,
+    ) -> Result<Option<OccupiedDay>, NoMemory> {
+        self.lazy.next(alloc, sets, to)
     }
 }

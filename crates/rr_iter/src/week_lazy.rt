@@ -1,5 +1,5 @@
 // The chosen moments of a rule in weeks.
-ghost use Rattle.std.specs.Prelude.{◌≡◌, IfOk};
+ghost use Rattle.std.specs.Prelude.{◌≡◌, IfOk, List, ℕ};
 ghost use Rattle.rr_model.specs.Moment.Years.{IsInYears};
 ghost use Rattle.rr_model.specs.Rule.Validity.{IsValidRule};
 ghost use Rattle.rr_model.specs.declared.rule.Freq.TheVariants.{Weekly};
@@ -8,8 +8,9 @@ ghost use Rattle.rr_iter.specs.Ruling.{IsValidRuling, IsValidRuling-prop};
 ghost use Rattle.rr_iter.specs.Steps.{HasBegun};
 
 use crate::day_rule::DayRule;
-use rr_lazy::{DayTimes, Lazy};
+use rr_lazy::{Lazy, OccupiedDay};
 use rr_model::{Kind, NoMemory, Rule};
+use rr_shapes::SetTable;
 use std::alloc::Global;
 
 /// The chosen moments of a rule with FREQ=WEEKLY from its start on.
@@ -31,6 +32,7 @@ impl WeekLazy {
         requires in_years { IsInYears kind start }
         ensures tree { IfOk result (λ l. ⟦<WeekLazy as Lazy>⟧.tree l ≡ chosen_of rule.now kind start) }
         ensures unasked { IfOk result (λ l. IsUnasked (⟦<WeekLazy as Lazy>⟧.position l)) }
+        ensures knows { IfOk result (λ l. (sets : List (List ℕ)) → ⟦<WeekLazy as Lazy>⟧.knows l sets) }
     {
         let rule = DayRule::new(alloc, rule, kind, start)?;
         Ok(WeekLazy {
@@ -42,15 +44,25 @@ impl WeekLazy {
 
 impl Lazy for WeekLazy {
     ghost use Rattle.rr_model.specs.Sets.Tree.{chosen_of};
+    ghost use Rattle.rr_iter.specs.Ruling.{KnowsTimes, keeps_more};
     ghost use Rattle.rr_iter.specs.Steps.{sound_ruling};
 
     ghost tree = { λ s. chosen_of s.rule.rule s.rule.kind s.rule.start };
 
     ghost position = { λ s. s.position };
 
+    ghost knows = { λ s sets. KnowsTimes s.rule sets };
+
+    ghost knows_more = { λ s old new more k. keeps_more s.rule 0 _ old new more k };
+
     ghost sound = { λ s. sound_ruling s.rule s.position s.valid s.begun };
 
-    fn next(&mut self, alloc: Global, to: i64) -> Result<Option<DayTimes>, NoMemory> {
-        self.rule.step(alloc, &mut self.position, to)
+    fn next(
+        &mut self,
+        alloc: Global,
+        sets: &mut SetTable,
+        to: i64,
+    ) -> Result<Option<OccupiedDay>, NoMemory> {
+        self.rule.step(alloc, sets, &mut self.position, to)
     }
 }

@@ -1,10 +1,12 @@
-use Rattle.std.proofs.Common.{◌∙◌, ◌-◌, ◌++◌, length, map, pos, ◌+ℤ◌, ap, refl, w64, to_z-of_z, arith}
+use Rattle.std.proofs.Common.{◌∙◌, ◌-◌, ◌++◌, length, take, map, pos, ◌+ℤ◌, ap, refl, w64, to_z-of_z, arith}
 use Rattle.std.specs.Prelude.{FitsSigned}
 use Rattle.std.proofs.lemmas.Int.{ints}
 use Rattle.rr_model.specs.Moment.{moment_at}
 use Rattle.rr_model.specs.Sets.Tree.{IsOfKind}
 use Rattle.rr_cli.specs.Listing.{listed_text}
-use Rattle.rr_cli.proofs.ListedLemmas.{asking, gave, listed_begins, listed_day, listed_last, listed_none, asked_is, asked_low, asked_more, some_taken}
+use Rattle.rr_lazy.specs.Next.{with_set}
+use Rattle.rr_cli.proofs.ListedLemmas.{asking, first_taken, gave, listed_begins, listed_day, listed_last}
+use Rattle.rr_cli.proofs.ListedLemmas.{listed_none, asked_is, asked_low, asked_more, some_taken}
 use Rattle.rr_cli.proofs.listing.first_lines.Goals as goal
 
 pub days-init : goal.days-init
@@ -13,6 +15,7 @@ days-init g c =
     let of_kind : IsOfKind c.args.kind (g.A.Lazy.tree c.args.lazy.now) = rw c.requires.kind (g.met.A.Lazy.sound c.args.lazy.now).of_kind in
     record {
       tree = refl;
+      knows = c.requires.knows c.new-sets.result;
       listed = rw c.new-out.ensures.items (listed_begins (g.A.Lazy.tree c.args.lazy.now) c.args.kind of_kind (g.A.Lazy.position c.args.lazy.now)
           c.args.count c.requires.unasked);
       some = c.requires.some;
@@ -50,7 +53,8 @@ push_day-requires-clause-from g c =
     c.requires.from c.requires.near c.requires.few c.requires.short i.settled i.near in
     let d = gave c.args.settled c.days.from c.args.cycle c.args.count c.days.left a (g.A.Lazy.tree c.args.lazy.now) (g.A.Lazy.position c.days.lazy)
     (g.A.Lazy.position c.next.new.self)
-    c.days.from-bits c.in-Some.found (g.met.A.Lazy.sound c.days.lazy).in_years c.days.from-is (rw (c.in-Some.is, i.tree) at c.in_ok-next.ensures.next) in
+    c.days.from-bits c.next.new.sets c.in-Some.found (g.met.A.Lazy.sound c.days.lazy).in_years c.days.from-is
+    (rw (c.in-Some.is, i.tree) at c.in_ok-next.ensures.next) in
     rw d.fits d.in_years
 
 pub push_day-requires-clause-near : goal.push_day-requires-clause-near
@@ -61,7 +65,8 @@ push_day-requires-clause-near g c =
     c.requires.from c.requires.near c.requires.few c.requires.short i.settled i.near in
     let d = gave c.args.settled c.days.from c.args.cycle c.args.count c.days.left a (g.A.Lazy.tree c.args.lazy.now) (g.A.Lazy.position c.days.lazy)
     (g.A.Lazy.position c.next.new.self)
-    c.days.from-bits c.in-Some.found (g.met.A.Lazy.sound c.days.lazy).in_years c.days.from-is (rw (c.in-Some.is, i.tree) at c.in_ok-next.ensures.next) in
+    c.days.from-bits c.next.new.sets c.in-Some.found (g.met.A.Lazy.sound c.days.lazy).in_years c.days.from-is
+    (rw (c.in-Some.is, i.tree) at c.in_ok-next.ensures.next) in
     rw d.fits d.near
 
 pub next_from-from-requires : goal.next_from-from-requires
@@ -72,7 +77,8 @@ next_from-from-requires g c =
     c.requires.from c.requires.near c.requires.few c.requires.short i.settled i.near in
     let d = gave c.args.settled c.days.from c.args.cycle c.args.count c.days.left a (g.A.Lazy.tree c.args.lazy.now) (g.A.Lazy.position c.days.lazy)
     (g.A.Lazy.position c.next.new.self)
-    c.days.from-bits c.in-Some.found (g.met.A.Lazy.sound c.days.lazy).in_years c.days.from-is (rw (c.in-Some.is, i.tree) at c.in_ok-next.ensures.next) in
+    c.days.from-bits c.next.new.sets c.in-Some.found (g.met.A.Lazy.sound c.days.lazy).in_years c.days.from-is
+    (rw (c.in-Some.is, i.tree) at c.in_ok-next.ensures.next) in
     rw d.fits d.near
 
 pub returns-then-left-eq0 : goal.returns-then-left-eq0
@@ -83,14 +89,18 @@ returns-then-left-eq0 g c =
     c.requires.from c.requires.near c.requires.few c.requires.short i.settled i.near in
     let d = gave c.args.settled c.days.from c.args.cycle c.args.count c.days.left a (g.A.Lazy.tree c.args.lazy.now) (g.A.Lazy.position c.days.lazy)
     (g.A.Lazy.position c.next.new.self)
-    c.days.from-bits c.in-Some.found (g.met.A.Lazy.sound c.days.lazy).in_years c.days.from-is (rw (c.in-Some.is, i.tree) at c.in_ok-next.ensures.next) in
+    c.days.from-bits c.next.new.sets c.in-Some.found (g.met.A.Lazy.sound c.days.lazy).in_years c.days.from-is
+    (rw (c.in-Some.is, i.tree) at c.in_ok-next.ensures.next) in
     let of_kind : IsOfKind c.args.kind (g.A.Lazy.tree c.args.lazy.now) = rw c.requires.kind (g.met.A.Lazy.sound c.args.lazy.now).of_kind in
-    let seconds = c.as_slice-seconds.result.now in
-    let cut = c.as_slice-seconds.ensures.same ∙ c.keep_first.ensures in
-    let taken = some_taken c.in-Some.found.times seconds c.days.left d.occupied.some i.some cut in
+    let times = (with_set c.next.new.sets c.in-Some.found).times in
+    let seconds = take c.min.result c.as_slice.result.now in
+    let within = rw c.in-Some.is at c.in_ok-next.ensures.next in
+    let cut = (first_taken c.next.new.sets c.in-Some.found c.times.result.now c.as_slice.result.now c.days.left c.min.result within.0
+    c.times.ensures c.as_slice.ensures.same c.min.ensures).1 in
+    let taken = some_taken times seconds c.days.left d.occupied.some i.some cut in
     let more = c.in_ok-push_day-in-Some.ensures ∙ ap (λ x. c.days.out.items ++ listed_text c.args.kind (map (moment_at c.args.kind x) seconds)) d.fits in
     listed_last (g.A.Lazy.tree c.args.lazy.now) c.args.kind of_kind (g.A.Lazy.position c.days.lazy) c.in-Some.found.day c.args.count c.days.left
-    c.days.out.items c.push_day.new.out.items c.in-Some.found.times seconds i.listed d.occupied cut more
+    c.days.out.items c.push_day.new.out.items times seconds i.listed d.occupied cut more
     (omega (arith, taken.1, c.if-left-eq0.true))
 
 pub days-preserved : goal.days-preserved
@@ -101,20 +111,25 @@ days-preserved g c =
     c.requires.from c.requires.near c.requires.few c.requires.short i.settled i.near in
     let d = gave c.args.settled c.days.from c.args.cycle c.args.count c.days.left a (g.A.Lazy.tree c.args.lazy.now) (g.A.Lazy.position c.days.lazy)
     (g.A.Lazy.position c.next.new.self)
-    c.days.from-bits c.in-Some.found (g.met.A.Lazy.sound c.days.lazy).in_years c.days.from-is (rw (c.in-Some.is, i.tree) at c.in_ok-next.ensures.next) in
+    c.days.from-bits c.next.new.sets c.in-Some.found (g.met.A.Lazy.sound c.days.lazy).in_years c.days.from-is
+    (rw (c.in-Some.is, i.tree) at c.in_ok-next.ensures.next) in
     let of_kind : IsOfKind c.args.kind (g.A.Lazy.tree c.args.lazy.now) = rw c.requires.kind (g.met.A.Lazy.sound c.args.lazy.now).of_kind in
-    let seconds = c.as_slice-seconds.result.now in
-    let cut = c.as_slice-seconds.ensures.same ∙ c.keep_first.ensures in
-    let taken = some_taken c.in-Some.found.times seconds c.days.left d.occupied.some i.some cut in
+    let times = (with_set c.next.new.sets c.in-Some.found).times in
+    let seconds = take c.min.result c.as_slice.result.now in
+    let within = rw c.in-Some.is at c.in_ok-next.ensures.next in
+    let cut = (first_taken c.next.new.sets c.in-Some.found c.times.result.now c.as_slice.result.now c.days.left c.min.result within.0
+    c.times.ensures c.as_slice.ensures.same c.min.ensures).1 in
+    let taken = some_taken times seconds c.days.left d.occupied.some i.some cut in
     let more = c.in_ok-push_day-in-Some.ensures ∙ ap (λ x. c.days.out.items ++ listed_text c.args.kind (map (moment_at c.args.kind x) seconds)) d.fits in
     let listed = listed_day (g.A.Lazy.tree c.args.lazy.now) c.args.kind of_kind (g.A.Lazy.position c.days.lazy) c.in-Some.found.day c.args.count c.days.left
-    c.days.out.items c.push_day.new.out.items c.in-Some.found.times seconds i.listed d.occupied cut more
+    c.days.out.items c.push_day.new.out.items times seconds i.listed d.occupied cut more
     (c.days.left - length seconds) refl c.if-left-eq0.false in
     let fits : FitsSigned w64 c.next_from-from.result = record { sfits = c.next_from-from.type_inv } in
     let next = to_z-of_z fits in
     let e = rw (back, d.fits) at c.next_from-from.ensures in
     record {
       tree = c.in_ok-next.ensures.tree ∙ i.tree;
+      knows = c.in_ok-next.ensures.knows;
       listed = rw d.moved listed;
       some = omega (arith, c.if-left-eq0.false);
       settled = rw (back, next) e.settled;
@@ -122,3 +137,27 @@ days-preserved g c =
       near = rw (back, next) (asked_more c.args.settled c.days.from c.args.cycle c.args.count c.days.left a c.in-Some.found.day c.next_from-from.result
           (length seconds) taken.0 taken.1 (omega (arith, i.listed.still)) d.early e.one);
     }
+
+pub slice_bounds-seconds-end : goal.slice_bounds-seconds-end
+slice_bounds-seconds-end g c =
+    let within = rw c.in-Some.is at c.in_ok-next.ensures.next in
+    (first_taken c.next.new.sets c.in-Some.found c.times.result.now c.as_slice.result.now c.days.left c.min.result within.0
+    c.times.ensures c.as_slice.ensures.same c.min.ensures).0
+
+pub days-smaller : goal.days-smaller
+days-smaller g c =
+    let i = c.days.invariant in
+    let back = to_z-of_z c.ranges.settled in
+    let a = asking c.args.settled c.days.from c.days.from-bits c.args.cycle c.args.count c.days.left back c.days.from-is
+    c.requires.from c.requires.near c.requires.few c.requires.short i.settled i.near in
+    let d = gave c.args.settled c.days.from c.args.cycle c.args.count c.days.left a (g.A.Lazy.tree c.args.lazy.now) (g.A.Lazy.position c.days.lazy)
+    (g.A.Lazy.position c.next.new.self)
+    c.days.from-bits c.next.new.sets c.in-Some.found (g.met.A.Lazy.sound c.days.lazy).in_years c.days.from-is
+    (rw (c.in-Some.is, i.tree) at c.in_ok-next.ensures.next) in
+    let times = (with_set c.next.new.sets c.in-Some.found).times in
+    let seconds = take c.min.result c.as_slice.result.now in
+    let within = rw c.in-Some.is at c.in_ok-next.ensures.next in
+    let cut = (first_taken c.next.new.sets c.in-Some.found c.times.result.now c.as_slice.result.now c.days.left c.min.result within.0
+    c.times.ensures c.as_slice.ensures.same c.min.ensures).1 in
+    let taken = some_taken times seconds c.days.left d.occupied.some i.some cut in
+    omega (arith, taken.0, i.some)

@@ -6,6 +6,7 @@ use Rattle.rr_cli.proofs.listing.first_lines.Given as goal
 abbrev pub invariant-days : goal.invariant-days
 invariant-days g l = record {
   tree : g.A.Lazy.tree l.lazy ≡ g.A.Lazy.tree l.fn.lazy;
+  knows : g.A.Lazy.knows l.lazy l.sets;
   listed : IsListedTo (g.A.Lazy.tree l.fn.lazy) l.kind (g.A.Lazy.position l.lazy) l.count l.left l.out.items;
   some : 1 ≤ l.left;
   settled : l.settled ≤ℤ l.from;

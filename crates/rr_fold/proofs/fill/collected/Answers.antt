@@ -6,6 +6,8 @@ use Rattle.rr_model.specs.Series.Limits.{HasTooManyMoments}
 use Rattle.rr_fold.specs.declared.fill.FoldedDays.{FoldedDays}
 use Rattle.rr_fold.proofs.DistinctLemmas.{not_too_many}
 use Rattle.rr_fold.proofs.FoldLemmas.{filled_up, list_within, nothing_folded, refused_so}
+use Rattle.rr_fold.proofs.NumberingLemmas.{memory_told}
+use Rattle.rr_model.specs.declared.refusal.Refusal.TheVariants.{TooManyMoments}
 use Rattle.rr_fold.proofs.fill.collected.Goals as goal
 
 -- the day before the end keeps its number, and so does the end
@@ -58,3 +60,8 @@ returns-clause-folded g c =
 pub returns-clause-refused : goal.returns-clause-refused
 returns-clause-refused g c =
     not_too_many (g.L.Lazy.tree c.args.lazy) c.args.first c.args.end c.fill.new.shapes c.resize.new.self.items (returns-clause-folded g c)
+
+pub returns-in_err-resize-clause-refused : goal.returns-in_err-resize-clause-refused
+returns-in_err-resize-clause-refused g c =
+    memory_told (HasTooManyMoments (g.L.Lazy.tree c.args.lazy) c.args.end) TooManyMoments c.from_residual-in_err-resize.result
+    c.from_residual-in_err-resize.ensures.1

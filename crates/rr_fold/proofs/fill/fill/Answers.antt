@@ -1,10 +1,12 @@
 use Rattle.std.proofs.Common.{ℕ, refl, ◌≡◌, ◌≤ℤ◌, ℤ, pos, ◌+ℤ◌, neg_ℤ, sym, ◌∙◌, arith, rules, w64, to_z, of_z, to_z-of_z, FitsSigned}
 use Rattle.std.proofs.lemmas.Int.{ints}
 use Rattle.rr_model.specs.Series.Limits.{HasTooManyMoments}
-use Rattle.rr_shapes.specs.Placing.{IsTooMany}
+use Rattle.rr_lazy.specs.Next.{with_set}
 use Rattle.rr_fold.specs.Folding.{IsFoldedTo}
+use Rattle.rr_fold.specs.Numbering.{IsOneTooMany}
 use Rattle.rr_fold.proofs.DistinctLemmas.{not_too_many}
 use Rattle.rr_fold.proofs.FoldLemmas.{found_on, none_on, not_early, refused_so, too_many}
+use Rattle.rr_fold.proofs.NumberingLemmas.{known_of_table, next_at}
 use Rattle.rr_fold.proofs.fill.fill.Goals as goal
 
 -- a day near enough keeps its number
@@ -28,41 +30,49 @@ returns-in-None-clause-refused g c =
 
 pub days_between-place-requires-clause-order : goal.days_between-place-requires-clause-order
 days_between-place-requires-clause-order g c =
-    let n = rw c.in-Some.is at c.in_ok-next.ensures.next in
+    let n = next_at c.next.new.sets (g.L.Lazy.tree c.days.lazy) (g.L.Lazy.position c.days.lazy) (to_z w64 (of_z w64 c.args.to))
+    (g.L.Lazy.position c.next.new.self) c.in-Some.found (rw c.in-Some.is at c.in_ok-next.ensures.next) in
     let first : ℤ = to_z w64 (of_z w64 c.args.first) in
     let found = rw c.days.invariant.0 at n.0 in
-    let order = not_early (g.L.Lazy.tree c.args.lazy.now) first
-    (g.L.Lazy.position c.days.lazy) c.days.shapes c.days.numbers.items c.days.invariant.2 c.in-Some.found.day c.in-Some.found.times found in
+    let order = not_early (g.L.Lazy.tree c.args.lazy.now) first (g.L.Lazy.position c.days.lazy) c.days.shapes c.days.numbers.items c.days.invariant.2
+    c.in-Some.found.day (with_set c.next.new.sets c.in-Some.found).times found in
     let t = to_z-of_z c.ranges.to in
     let f = to_z-of_z c.ranges.first in
     rw (day_back first c.in-Some.found.day c.args.to (omega (arith, ints, f, c.requires.begun)) order (omega (arith, ints, n.1, t)) c.requires.high) order
 
+pub number_of-requires-clause-known : goal.number_of-requires-clause-known
+number_of-requires-clause-known g c =
+    known_of_table c.days.numbering.sets c.next.new.sets c.days.shapes c.days.numbering.known.items c.in_ok-next.ensures.kept c.days.invariant.4
+
 pub days-preserved : goal.days-preserved
 days-preserved g c =
-    let n = rw c.in-Some.is at c.in_ok-next.ensures.next in
+    let n = next_at c.next.new.sets (g.L.Lazy.tree c.days.lazy) (g.L.Lazy.position c.days.lazy) (to_z w64 (of_z w64 c.args.to))
+    (g.L.Lazy.position c.next.new.self) c.in-Some.found (rw c.in-Some.is at c.in_ok-next.ensures.next) in
     let t = to_z-of_z c.ranges.to in
     let f = to_z-of_z c.ranges.first in
     let first : ℤ = to_z w64 (of_z w64 c.args.first) in
     let found = rw c.days.invariant.0 at n.0 in
-    let order = not_early (g.L.Lazy.tree c.args.lazy.now) first
-    (g.L.Lazy.position c.days.lazy) c.days.shapes c.days.numbers.items c.days.invariant.2 c.in-Some.found.day c.in-Some.found.times found in
+    let order = not_early (g.L.Lazy.tree c.args.lazy.now) first (g.L.Lazy.position c.days.lazy) c.days.shapes c.days.numbers.items c.days.invariant.2
+    c.in-Some.found.day (with_set c.next.new.sets c.in-Some.found).times found in
     let day = day_back first c.in-Some.found.day c.args.to (omega (arith, ints, f, c.requires.begun)) order (omega (arith, ints, n.1, t)) c.requires.high in
     let at : c.in-Some.found.day ≡ to_z w64 (of_z w64 c.args.first) +ℤ pos c.days_between-place.result = sym day ∙ c.days_between-place.ensures in
+    let o = c.in-Ok.ensures in
     let r = found_on (g.L.Lazy.tree c.args.lazy.now) (g.L.Lazy.tree c.days.lazy) (to_z w64 (of_z w64 c.args.first)) (g.L.Lazy.position c.days.lazy)
     (to_z w64 (of_z w64 c.args.to)) (to_z w64 (of_z w64 c.args.to))
-    (g.L.Lazy.position c.next.new.self) c.in-Ok.number c.days_between-place.result c.days.shapes c.place.new.self c.days.numbers.items
-    c.put.new.numbers.items c.in-Some.found
-    c.days.invariant.2 n c.days.invariant.0 refl c.in-Ok.ensures.placed c.in-Ok.ensures.room at c.in_ok-put-in-Ok.ensures in
-    (c.in_ok-next.ensures.tree ∙ c.days.invariant.0, r.1, r.0)
+    (g.L.Lazy.position c.next.new.self) c.in-Ok.number c.days_between-place.result c.days.shapes c.number_of.new.shapes c.days.numbers.items
+    c.put.new.numbers.items (with_set c.next.new.sets c.in-Some.found)
+    c.days.invariant.2 n c.days.invariant.0 refl o.placed (o.room c.days.invariant.2.few) at c.in_ok-put-in-Ok.ensures in
+    (c.in_ok-next.ensures.tree ∙ c.days.invariant.0, r.1, r.0, rw o.same c.in_ok-next.ensures.knows, o.known)
 
 pub returns-in-Err-clause-refused : goal.returns-in-Err-clause-refused
 returns-in-Err-clause-refused g c =
-    let n = rw c.in-Some.is at c.in_ok-next.ensures.next in
+    let n = next_at c.next.new.sets (g.L.Lazy.tree c.days.lazy) (g.L.Lazy.position c.days.lazy) (to_z w64 (of_z w64 c.args.to))
+    (g.L.Lazy.position c.next.new.self) c.in-Some.found (rw c.in-Some.is at c.in_ok-next.ensures.next) in
     let e = c.in-Err.ensures in
     let t = to_z-of_z c.ranges.to in
-    refused_so ℕ (Unit {0}) c.in-Err.fault (IsTooMany c.in-Some.found.times c.days.shapes)
+    refused_so ℕ (Unit {0}) c.in-Err.fault (IsOneTooMany (with_set c.next.new.sets c.in-Some.found).times c.days.shapes)
     (HasTooManyMoments (g.L.Lazy.tree c.args.lazy.now) (c.args.to +ℤ pos 1)) e.refused
     (λ many. too_many (g.L.Lazy.tree c.args.lazy.now) (g.L.Lazy.tree c.days.lazy) (to_z w64 (of_z w64 c.args.first))
     (g.L.Lazy.position c.days.lazy) c.args.to (to_z w64 (of_z w64 c.args.to))
-    (g.L.Lazy.position c.next.new.self) c.days.shapes c.days.numbers.items c.in-Some.found
-    c.days.invariant.2 n c.days.invariant.0 t (rw e.unchanged at e.numbering) many)
+    (g.L.Lazy.position c.next.new.self) c.days.shapes c.days.numbers.items (with_set c.next.new.sets c.in-Some.found)
+    c.days.invariant.2 n c.days.invariant.0 t many.1 many.0)

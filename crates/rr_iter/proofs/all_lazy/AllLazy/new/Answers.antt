@@ -15,3 +15,6 @@ new-requires-2-clause-one_kind c =
     let series = c.args.series.now in
     let dates = c.new-dates.ensures.tree ∙ ap (dates_of series.kind) c.in_ok-dates_with_start.ensures in
     all_one_kind series _ _ c.requires.sound dates c.in_ok-rules.ensures.tree
+
+pub returns-clause-knows : goal.returns-clause-knows
+returns-clause-knows c sets = c.new-2.ensures.knows sets (c.new-dates.ensures.knows sets) (c.in_ok-rules.ensures.knows sets)

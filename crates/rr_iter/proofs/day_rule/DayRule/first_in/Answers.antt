@@ -1,60 +1,76 @@
-use Rattle.std.proofs.Common.{rules, FitsSigned, ◌≡◌, arith, w64, to_z, of_z, to_z-of_z, sym, ap, subst, ◌∙◌}
+use Rattle.std.proofs.Common.{rules, FitsSigned, ◌≡◌, true, refl, ◌∷◌, [], arith, w64, to_z, to_z-of_z, sym, ap, ◌∙◌}
 use Rattle.std.specs.Prelude.{int_lt}
+use Rattle.std.proofs.lemmas.Bool.{eqb-true, false≢true}
 use Rattle.std.proofs.lemmas.Int.{ints}
+use Rattle.std.proofs.lemmas.Result.{IfOk-weaker}
 use Rattle.rr_model.specs.Moment.{day_part}
 use Rattle.rr_model.specs.Rising.Sets.{IsSetOf}
 use Rattle.rr_model.specs.Rule.DaysAndTimes.{IsCandidateDay}
 use Rattle.rr_model.specs.Sets.Tree.{chosen_of}
-use Rattle.rr_iter.specs.Walk.{IsFirstIn}
-use Rattle.std.proofs.lemmas.Result.{IfOk-weaker}
-use Rattle.rr_iter.proofs.WalkLemmas.{start_near, first_of_unit}
+use Rattle.rr_expand.proofs.CandidateDays.{candidate_days}
+use Rattle.rr_iter.specs.Ruling.{IsUnrolled, Ruling}
+use Rattle.rr_iter.specs.Walk.{IsFirstInIn, IsFirstOfIn}
+use Rattle.rr_iter.proofs.PositionDayLemmas.{first_in_unit, held_unrolled}
 use Rattle.rr_iter.proofs.day_rule.DayRule.first_in.Goals as goal
+use Rattle.rr_iter.proofs.day_rule.DayRule.first_in.Goals.{then-not-self-unit+in_ok-list, else-not-self-unit, then-self, else-self}
 
--- the days that were held
-held_days : (c : goal.After-as_slice)
-    → IsSetOf int_lt c.as_slice.result.now (IsCandidateDay c.self.inside.rule (day_part c.self.inside.kind c.self.inside.start) c.args.unit)
-held_days c =
-    let fits : FitsSigned w64 c.self.inside.unit = search rules in
-    let e : c.self.inside.unit ≡ c.args.unit = sym (to_z-of_z fits) ∙ ap (to_z w64) c.if-self-unit.true ∙ to_z-of_z c.ranges.unit in
-    rw c.as_slice.ensures.value
-    (subst (λ u. IsSetOf int_lt c.self.inside.days (IsCandidateDay c.self.inside.rule (day_part c.self.inside.kind c.self.inside.start) u)) e
-    (c.self.invariant.held c.if-self.true))
+pub first_day_of_unit-first-requires-clause-near : goal.first_day_of_unit-first-requires-clause-near
+first_day_of_unit-first-requires-clause-near c =
+    let near = rw (sym c.self.view_is) at c.requires.first in
+    rw (to_z-of_z c.ranges.unit) (omega (arith, ints, near.0), omega (arith, ints, near.1))
 
-pub first_of-requires : goal.first_of-requires
-first_of-requires c = rw (← c.self.view_is) (c.args.unit, held_days c)
+-- the unit's days are held
+held : (c : goal.After-as_slice) → (let s = c.if-not-self-unit.self-inside in
+    let r : Ruling = record { rule = s.rule; kind = s.kind; start = s.start; kept = s.number ∷ [] } in
+    IsUnrolled r s.start_day s.start_second s.times s.allowed s.is_held s.unit s.days.items × (s.is_held ≡ true) × (s.unit ≡ c.args.unit) × (r ≡ c.args.self.now))
+held c = elim c.if-not-self-unit.branch [
+  | then-not-self-unit+in_ok-list w ↦ (
+      let i = c.self.inside in
+      let r : Ruling = record { rule = i.rule; kind = i.kind; start = i.start; kept = i.number ∷ [] } in
+      let unit = to_z-of_z c.ranges.unit in
+      let first = w.first_day_of_unit-first.result in
+      let fits : FitsSigned w64 w.first_day_of_unit-first.result = search rules in
+      let begins = rw unit at w.first_day_of_unit-first.ensures in
+      let ends = rw unit at (w.days_in_unit.ensures.next i.rule.week_start) in
+      let listed = rw (c.self.invariant.of_allowed, to_z-of_z fits) at w.in_ok-list.ensures.listed in
+      let fit = rw (sym c.self.view_is) at c.requires.fits in
+      let made = candidate_days i.rule (day_part i.kind i.start) c.args.unit first w.days_in_unit.result w.list.new.days.items c.self.invariant.freq begins ends
+      fit listed in
+      rw (w.self-inside-is, unit) (
+        held_unrolled r i.start_day i.start_second i.times i.allowed w.list.new.self i.is_held i.unit c.args.unit i.days.items w.list.new.days.items
+            c.self.invariant w.list.ensures.same made,
+        refl,
+        refl,
+        c.self.view_is,
+      ))
+  | else-not-self-unit w ↦ elim c.if-self.branch [
+    | then-self v ↦ (
+        let fits : FitsSigned w64 c.self.inside.unit = search rules in
+        let e : c.self.inside.unit ≡ c.args.unit =
+        sym (to_z-of_z fits) ∙ ap (to_z w64) (eqb-true _ _ (sym v.value-is ∙ w.if-not-self-unit.false)) ∙ to_z-of_z c.ranges.unit in
+        rw w.self-inside-is (c.self.invariant, v.if-self.true, e, c.self.view_is))
+    | else-self v ↦ absurd (false≢true (sym v.if-self.false ∙ sym v.value-is ∙ w.if-not-self-unit.false))
+  ]
+]
 
-pub returns-then-self-unit-clause-found : goal.returns-then-self-unit-clause-found
-returns-then-self-unit-clause-found c =
-    let i = c.self.inside in
-    let found = rw (to_z-of_z c.ranges.from) at (rw (sym c.self.view_is) at c.first_of.ensures) in
-    rw (← c.self.view_is) (IfOk-weaker c.first_of.result _ (IsFirstIn (chosen_of i.rule i.kind i.start) i.rule c.args.unit c.args.from)
-    (λ r f. first_of_unit i.rule i.kind i.start c.self.invariant.freq c.as_slice.result.now c.args.unit c.args.from r (held_days c.before) f) found)
+pub invariant_of-self-2 : goal.invariant_of-self-2
+invariant_of-self-2 c = (held c).0
 
-pub days-requires-clause-start : goal.days-requires-clause-start
-days-requires-clause-start c =
-    let d = c.self.inside.start_day in
-    let n = start_near c.self.inside.kind c.self.inside.start d c.self.invariant.of_day c.self.invariant.valid.in_years in
-    (omega (arith, ints, n.0, n.1), omega (arith, ints, n.0, n.1))
+pub first_of-requires-clause-days : goal.first_of-requires-clause-days
+first_of-requires-clause-days c = let h = held c in (c.if-not-self-unit.self-inside.unit, rw c.as_slice.ensures.value (h.0.held h.1))
 
--- the days that were made
-made_days : (c : goal.After-as_slice-2)
-    → IsSetOf int_lt c.as_slice-2.result.now (IsCandidateDay c.self.inside.rule (day_part c.self.inside.kind c.self.inside.start) c.args.unit)
-made_days c =
-    let d = c.self.inside.start_day in
-    let n = start_near c.self.inside.kind c.self.inside.start d c.self.invariant.of_day c.self.invariant.valid.in_years in
-    let e : to_z w64 (of_z w64 d) ≡ day_part c.self.inside.kind c.self.inside.start = omega (arith, ints, n.0, n.1, c.self.invariant.of_day) in
-    rw c.as_slice-2.ensures.value (rw (e, to_z-of_z c.ranges.unit) at c.in_ok-days.ensures)
-
-pub first_of-found-requires : goal.first_of-found-requires
-first_of-found-requires c = rw (← c.self.view_is) (c.args.unit, made_days c)
+pub invariant_of-self-3 : goal.invariant_of-self-3
+invariant_of-self-3 c = (held c.before).0
 
 pub returns-clause-found : goal.returns-clause-found
 returns-clause-found c =
-    let i = c.self.inside in
-    let n = start_near c.self.inside.kind c.self.inside.start i.start_day c.self.invariant.of_day c.self.invariant.valid.in_years in
-    let e : to_z w64 (of_z w64 i.start_day) ≡ day_part i.kind i.start = omega (arith, ints, n.0, n.1, c.self.invariant.of_day) in
-    let made : IsSetOf int_lt c.as_slice-2.result.now (IsCandidateDay i.rule (day_part i.kind i.start) c.args.unit) =
-    rw c.as_slice-2.ensures.value (rw (e, to_z-of_z c.ranges.unit) at c.in_ok-days.ensures) in
-    let found = rw (to_z-of_z c.ranges.from) at (rw (sym c.self.view_is) at c.first_of-found.ensures) in
-    rw (← c.self.view_is) (IfOk-weaker c.first_of-found.result _ (IsFirstIn (chosen_of i.rule i.kind i.start) i.rule c.args.unit c.args.from)
-    (λ r f. first_of_unit i.rule i.kind i.start c.self.invariant.freq c.as_slice-2.result.now c.args.unit c.args.from r made f) found)
+    let s = c.if-not-self-unit.self-inside in
+    let h = held c.before in
+    let sets = c.first_of.new.sets in
+    let days = c.as_slice.result.now in
+    let set : IsSetOf int_lt c.as_slice.result.now (IsCandidateDay s.rule (day_part s.kind s.start) c.args.unit) =
+    rw c.as_slice.ensures.value (rw h.2 at (h.0.held h.1)) in
+    let found = rw (to_z-of_z c.ranges.from) at c.first_of.ensures.found in
+    rw (← h.3) (IfOk-weaker c.first_of.result (IsFirstOfIn sets (chosen_of s.rule s.kind s.start) days c.args.from)
+    (IsFirstInIn sets (chosen_of s.rule s.kind s.start) s.rule c.args.unit c.args.from)
+    (λ f first. first_in_unit s.rule s.kind s.start sets days c.args.unit c.args.from f h.0.freq set first) found)

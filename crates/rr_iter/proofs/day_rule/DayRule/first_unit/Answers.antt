@@ -1,10 +1,12 @@
-use Rattle.std.proofs.Common.{◌≡◌, ◌≤◌, pos, ◌+ℤ◌, ◌-ℤ◌, arith, w64, to_z, of_z, to_z-of_z, sym}
+use Rattle.std.proofs.Common.{◌≡◌, ◌≤◌, [], ◌∷◌, pos, ◌+ℤ◌, ◌-ℤ◌, arith, w64, to_z, of_z, to_z-of_z, sym}
 use Rattle.std.proofs.lemmas.Int.{ints, to_z_pos}
 use Rattle.rr_model.specs.Whole.{floor_mod}
 use Rattle.rr_model.specs.Moment.Units.{unit_number}
 use Rattle.rr_model.specs.declared.kind.Kind.TheVariants.{Days}
 use Rattle.rr_model.specs.Moment.{day_part}
 use Rattle.rr_expand.specs.Expansion.{IsUnitNear}
+use Rattle.rr_iter.specs.Ruling.{Ruling}
+use Rattle.rr_iter.proofs.PlainLemmas.{passed_first}
 use Rattle.rr_iter.proofs.WalkLemmas.{start_near, unit_bounds, unit_near_is, walked_first}
 use Rattle.rr_iter.proofs.day_rule.DayRule.first_unit.Goals as goal
 
@@ -75,3 +77,22 @@ returns-clause-walked c =
     ≡ unit_number i.rule.freq i.rule.week_start Days c.args.from +ℤ pos c.first_fit.result = omega (arith, ints, f.0, f.1, u.0.0, u.0.1, from) in
     rw (← c.self.view_is)
     (rw q (walked_first i.rule i.kind i.start c.self.invariant.freq c.self.invariant.valid.valid.interval_low c.args.from c.first_fit.result value))
+
+pub returns-clause-passed : goal.returns-clause-passed
+returns-clause-passed c =
+    let i = c.self.inside in
+    let f = fit_is c in
+    let u = units_near c.before in
+    let a : to_z w64 (of_z w64 c.unit_of-unit.result) ≡ c.unit_of-unit.result = omega (arith, ints, u.0.0, u.0.1) in
+    let b : to_z w64 (of_z w64 c.unit_of-own.result) ≡ c.unit_of-own.result = omega (arith, ints, u.1.0, u.1.1) in
+    let own = u.2 in
+    let from : c.unit_of-unit.result ≡ unit_number i.rule.freq i.rule.week_start Days c.args.from = rw (to_z-of_z c.ranges.from) at c.unit_of-unit.ensures in
+    let value : c.first_fit.result ≡ floor_mod
+    (unit_number i.rule.freq i.rule.week_start Days
+    (day_part i.kind i.start) -ℤ unit_number i.rule.freq i.rule.week_start Days c.args.from) i.rule.interval =
+    rw (sym own, sym from) (rw (a, b) at c.first_fit.ensures.value) in
+    let q : to_z w64 (of_z w64 (to_z w64 (of_z w64 c.unit_of-unit.result) +ℤ to_z w64 c.first_fit.result))
+    ≡ unit_number i.rule.freq i.rule.week_start Days c.args.from +ℤ pos c.first_fit.result = omega (arith, ints, f.0, f.1, u.0.0, u.0.1, from) in
+    let r : Ruling = record { rule = i.rule; kind = i.kind; start = i.start; kept = i.number ∷ [] } in
+    rw (← c.self.view_is)
+    (rw q (passed_first r c.self.invariant.freq c.self.invariant.valid.valid.interval_low c.args.from c.first_fit.result value))

@@ -2,11 +2,12 @@ use Rattle.std.proofs.Common.{◌≡◌, ◌⊎◌, ℤ, pos, ◌+ℤ◌, ◌≤
 use Rattle.std.proofs.lemmas.Int.{ints}
 use Rattle.rr_model.specs.Calendar.{IsDayWithin}
 use Rattle.rr_model.specs.Moment.{day_part}
+use Rattle.rr_lazy.specs.Next.{with_set}
 use Rattle.rr_iter.proofs.WalkLemmas.{start_near}
 use Rattle.rr_iter.proofs.StepLemmas.{later_is, step_none, step_some}
 use Rattle.rr_iter.proofs.day_rule.DayRule.step.Goals as goal
 
-module _ (c : goal.After-first_up_to-arg-1) where
+module _ (c : goal.After-first_up_to-arg-2-1) where
   -- the day from which on is looked
   abbrev from : ℤ
   from = c.max-from.result
@@ -36,6 +37,9 @@ module _ (c : goal.After-first_up_to-arg-1) where
 pub first_up_to-requires-clause-from : goal.first_up_to-requires-clause-from
 first_up_to-requires-clause-from c = let n = near c in (omega (arith, ints, n.0, n.1), omega (arith, ints, n.0, n.1))
 
+pub first_up_to-requires-clause-next : goal.first_up_to-requires-clause-next
+first_up_to-requires-clause-next c = rw (to_z-of_z c.ranges.to) (omega (arith, ints, c.requires.low), omega (arith, ints, c.requires.high))
+
 pub returns-in-None-clause-next : goal.returns-in-None-clause-next
 returns-in-None-clause-next c =
     let r = c.args.self.now in
@@ -56,8 +60,9 @@ returns-in-Some-clause-next c =
     let b = c.before.before.before.before.before.before in
     let fits : to_z w64 (of_z w64 c.max-from.result) ≡ c.max-from.result = omega (arith, ints, (near b).0, (near b).1) in
     let some = rw (fits, to_z-of_z c.ranges.to) at (rw c.in-Some.is at c.in_ok-first_up_to.ensures.found) in
-    let f = step_some r.rule r.kind r.start c.args.position.now c.max-from.result c.args.to (within b) (late b) c.in-Some.found some in
-    (f, some.1, omega (arith, ints, some.1, f.late, c.requires.begun, c.requires.high))
+    let f = step_some r.rule r.kind r.start c.args.position.now c.max-from.result c.args.to (within b) (late b)
+    (with_set c.first_up_to.new.sets c.in-Some.found) some.1 in
+    (some.0, (f, some.1.1, omega (arith, ints, some.1.1, f.late, c.requires.begun, c.requires.high)))
 
 pub returns-in-Some-clause-later : goal.returns-in-Some-clause-later
 returns-in-Some-clause-later c =
@@ -65,5 +70,13 @@ returns-in-Some-clause-later c =
     let b = c.before.before.before.before.before.before in
     let fits : to_z w64 (of_z w64 c.max-from.result) ≡ c.max-from.result = omega (arith, ints, (near b).0, (near b).1) in
     let some = rw (fits, to_z-of_z c.ranges.to) at (rw c.in-Some.is at c.in_ok-first_up_to.ensures.found) in
-    let f = step_some r.rule r.kind r.start c.args.position.now c.max-from.result c.args.to (within b) (late b) c.in-Some.found some in
-    omega (arith, ints, some.1, f.late, c.requires.begun, c.requires.high)
+    let f = step_some r.rule r.kind r.start c.args.position.now c.max-from.result c.args.to (within b) (late b)
+    (with_set c.first_up_to.new.sets c.in-Some.found) some.1 in
+    omega (arith, ints, some.1.1, f.late, c.requires.begun, c.requires.high)
+
+pub overflow_add-position-in-Some : goal.overflow_add-position-in-Some
+overflow_add-position-in-Some c =
+    let b = c.before.before.before.before.before.before in
+    let fits : to_z w64 (of_z w64 c.max-from.result) ≡ c.max-from.result = omega (arith, ints, (near b).0, (near b).1) in
+    let some = rw (fits, to_z-of_z c.ranges.to) at (rw c.in-Some.is at c.in_ok-first_up_to.ensures.found) in
+    omega (arith, ints, some.1.1, some.1.0.late, (near b).0, c.requires.high)

@@ -6,13 +6,14 @@ use Rattle.rr_model.specs.Moment.{moment_at}
 use Rattle.rr_model.specs.Rising.Sets.{IsSetOf}
 use Rattle.rr_model.specs.Rule.Chosen.{is_chosen}
 use Rattle.rr_model.specs.declared.kind.Kind.TheVariants.{Moments}
+use Rattle.rr_expand.proofs.FinerLemmas.{candidate_seconds}
 use Rattle.rr_iter.proofs.OffsetLemmas.{chosen_at_offsets, chosen_plain}
 use Rattle.rr_iter.proofs.SetPositionLemmas.{absent_is}
 use Rattle.rr_iter.proofs.WalkLemmas.{start_near}
 use Rattle.rr_iter.proofs.fine_rule.FineRule.chosen_on.Goals as goal
 
-pub seconds_on-requires-clause-start : goal.seconds_on-requires-clause-start
-seconds_on-requires-clause-start c =
+pub fitting_seconds-requires-clause-start : goal.fitting_seconds-requires-clause-start
+fitting_seconds-requires-clause-start c =
     let fits : FitsSigned w64 c.self.inside.start = search rules in
     let n = start_near Moments c.self.inside.start c.self.inside.start_day c.self.invariant.of_day c.self.invariant.valid.in_years in
     rw (to_z-of_z fits) (omega (arith, ints, n.0, c.self.invariant.of_day), omega (arith, ints, n.1, c.self.invariant.of_day))
@@ -21,17 +22,21 @@ pub returns-then-is_empty : goal.returns-then-is_empty
 returns-then-is_empty c =
     let i = c.self.inside in
     let fits : FitsSigned w64 i.start = search rules in
-    let set = rw (to_z-of_z fits, to_z-of_z c.ranges.day) at c.in_ok-seconds.ensures in
+    let found = rw (to_z-of_z fits, to_z-of_z c.ranges.day) at c.in_ok-fitting.ensures in
+    let allowed = rw (sym c.self.view_is) at c.requires.allowed in
+    let set = candidate_seconds i.rule i.start c.args.day c.in_ok-fitting.fitting allowed found in
     let plain = absent_is i.rule.by_set_pos (sym c.is_empty.ensures ∙ c.if-is_empty.true) in
-    rw (← c.self.view_is) (chosen_plain i.rule i.start c.args.day c.self.invariant.freq c.in_ok-seconds.seconds plain set)
+    rw (← c.self.view_is) (chosen_plain i.rule i.start c.args.day c.self.invariant.freq c.in_ok-fitting.fitting plain set)
 
 pub returns : goal.returns
 returns c =
     let i = c.self.inside in
     let fits : FitsSigned w64 i.start = search rules in
-    let set = rw (to_z-of_z fits, to_z-of_z c.ranges.day) at c.in_ok-seconds.ensures in
+    let found = rw (to_z-of_z fits, to_z-of_z c.ranges.day) at c.in_ok-fitting.ensures in
+    let allowed = rw (sym c.self.view_is) at c.requires.allowed in
+    let set = candidate_seconds i.rule i.start c.args.day c.in_ok-fitting.fitting allowed found in
     let offsets = c.self.invariant.of_offsets (sym c.is_empty.ensures ∙ c.if-is_empty.false) in
     rw (← c.self.view_is) (IfOk-weaker c.at_offsets.result _
     (λ t. IsSetOf nat_lt t (λ s. (s < 86_400) × IsTrue (is_chosen i.rule Moments i.start (moment_at Moments c.args.day s))))
-    (λ t h. chosen_at_offsets i.rule i.start c.args.day c.self.invariant.freq c.in_ok-seconds.seconds i.offsets t set offsets h)
+    (λ t h. chosen_at_offsets i.rule i.start c.args.day c.self.invariant.freq c.in_ok-fitting.fitting i.offsets t set offsets h)
     (rw c.seconds_of_unit-unit.ensures.value at c.at_offsets.ensures))

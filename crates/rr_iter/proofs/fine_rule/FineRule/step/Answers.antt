@@ -3,11 +3,12 @@ use Rattle.std.proofs.lemmas.Int.{ints}
 use Rattle.rr_model.specs.Calendar.{IsDayWithin}
 use Rattle.rr_model.specs.declared.kind.Kind.TheVariants.{Moments}
 use Rattle.rr_model.specs.Moment.{day_part}
+use Rattle.rr_lazy.specs.Next.{with_set}
 use Rattle.rr_iter.proofs.WalkLemmas.{start_near}
 use Rattle.rr_iter.proofs.StepLemmas.{later_is, step_none, step_some}
 use Rattle.rr_iter.proofs.fine_rule.FineRule.step.Goals as goal
 
-module _ (c : goal.After-max-from) where
+module _ (c : goal.After-first_up_to-arg-2-1) where
   -- the day from which on is looked
   abbrev from : ℤ
   from = c.max-from.result
@@ -37,12 +38,15 @@ module _ (c : goal.After-max-from) where
 pub first_up_to-requires-clause-from : goal.first_up_to-requires-clause-from
 first_up_to-requires-clause-from c = let n = near c in (omega (arith, ints, n.0, n.1), omega (arith, ints, n.0, n.1))
 
+pub first_up_to-requires-clause-to : goal.first_up_to-requires-clause-to
+first_up_to-requires-clause-to c = rw (to_z-of_z c.ranges.to) (omega (arith, ints, c.requires.low), omega (arith, ints, c.requires.high))
+
 pub returns-in-None-clause-next : goal.returns-in-None-clause-next
 returns-in-None-clause-next c =
     let r = c.args.self.now in
     let b = c.before.before.before.before in
     let fits : to_z w64 (of_z w64 c.max-from.result) ≡ c.max-from.result = omega (arith, ints, (near b).0, (near b).1) in
-    let none = rw (fits, to_z-of_z c.ranges.to) at (rw c.in-None.is at c.in_ok-first_up_to.ensures) in
+    let none = rw (fits, to_z-of_z c.ranges.to) at (rw c.in-None.is at c.in_ok-first_up_to.ensures.found) in
     let q : to_z w64 (of_z w64 (to_z w64 (of_z w64 c.args.to) +ℤ pos 1)) ≡ c.args.to +ℤ pos 1 = omega (arith, ints, c.requires.low, c.requires.high) in
     rw q (
       step_none r.rule Moments r.start c.args.position.now c.max-from.result c.args.to (within b) (late b) none,
@@ -56,15 +60,24 @@ returns-in-Some-clause-next c =
     let r = c.args.self.now in
     let b = c.before.before.before.before.before.before in
     let fits : to_z w64 (of_z w64 c.max-from.result) ≡ c.max-from.result = omega (arith, ints, (near b).0, (near b).1) in
-    let some = rw (fits, to_z-of_z c.ranges.to) at (rw c.in-Some.is at c.in_ok-first_up_to.ensures) in
-    let f = step_some r.rule Moments r.start c.args.position.now c.max-from.result c.args.to (within b) (late b) c.in-Some.found some in
-    (f, some.1, omega (arith, ints, some.1, f.late, c.requires.begun, c.requires.high))
+    let some = rw (fits, to_z-of_z c.ranges.to) at (rw c.in-Some.is at c.in_ok-first_up_to.ensures.found) in
+    let found = with_set c.first_up_to.new.sets c.in-Some.found in
+    let f = step_some r.rule Moments r.start c.args.position.now c.max-from.result c.args.to (within b) (late b) found some.1 in
+    (some.0, (f, some.1.1, omega (arith, ints, some.1.1, f.late, c.requires.begun, c.requires.high)))
 
 pub returns-in-Some-clause-later : goal.returns-in-Some-clause-later
 returns-in-Some-clause-later c =
     let r = c.args.self.now in
     let b = c.before.before.before.before.before.before in
     let fits : to_z w64 (of_z w64 c.max-from.result) ≡ c.max-from.result = omega (arith, ints, (near b).0, (near b).1) in
-    let some = rw (fits, to_z-of_z c.ranges.to) at (rw c.in-Some.is at c.in_ok-first_up_to.ensures) in
-    let f = step_some r.rule Moments r.start c.args.position.now c.max-from.result c.args.to (within b) (late b) c.in-Some.found some in
-    omega (arith, ints, some.1, f.late, c.requires.begun, c.requires.high)
+    let some = rw (fits, to_z-of_z c.ranges.to) at (rw c.in-Some.is at c.in_ok-first_up_to.ensures.found) in
+    let found = with_set c.first_up_to.new.sets c.in-Some.found in
+    let f = step_some r.rule Moments r.start c.args.position.now c.max-from.result c.args.to (within b) (late b) found some.1 in
+    omega (arith, ints, some.1.1, f.late, c.requires.begun, c.requires.high)
+
+pub overflow_add-position-in-Some : goal.overflow_add-position-in-Some
+overflow_add-position-in-Some c =
+    let some = rw (to_z-of_z c.ranges.to) at (rw c.in-Some.is at c.in_ok-first_up_to.ensures.found) in
+    let b = c.before.before.before.before.before.before in
+    let fits : to_z w64 (of_z w64 c.max-from.result) ≡ c.max-from.result = omega (arith, ints, (near b).0, (near b).1) in
+    omega (arith, ints, some.1.1, some.1.0.late, fits, (near b).0, c.requires.low, c.requires.high)

@@ -8,8 +8,9 @@ use Rattle.rr_iter.proofs.hour_lazy.HourLazy.new.Goals as goal
 pub invariant_of-result : goal.invariant_of-result
 invariant_of-result c =
     let m = c.new.ensures.kind in
+    let same = c.in_ok-rule.ensures.rule in
     record {
-      valid = rw (c.in_ok-rule.ensures.made, to_z-of_z c.ranges.start)
+      valid = rw (same.rule, same.start, to_z-of_z c.ranges.start)
           (record {
             valid = subst (λ k. IsValidRule k c.args.rule.now) m c.requires.valid;
             in_years =

@@ -27,8 +27,11 @@ loop-rule-preserved c =
     let fits : FitsSigned w64 series.start = search rules in
     let members = rw (to_z-of_z fits) at c.in_ok-members.ensures.tree in
     let next = joined_next series.kind series.start rule_list c.loop-rule.rule-index c.rule-item.result _ _ c.loop-rule-test.true c.rule-item.is
-    c.loop-rule.invariant.0 members in
-    (c.in_ok-put.ensures.tree ∙ next, c.in_ok-put.ensures.unasked)
+    c.loop-rule.invariant.0 members in (
+      c.in_ok-put.ensures.tree ∙ next,
+      c.in_ok-put.ensures.unasked,
+      (λ sets. c.in_ok-put.ensures.knows sets (c.loop-rule.invariant.2 sets) (c.in_ok-members.ensures.knows sets)),
+    )
 
 pub returns-clause-tree : goal.returns-clause-tree
 returns-clause-tree c =
