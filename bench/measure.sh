@@ -59,3 +59,32 @@ measure() {
 best 20 none
 empty=$least
 awk -v empty="$empty" 'BEGIN { printf "an empty run: %.4f s\n", empty / 1e9 }'
+
+# instructions WORDS..: how many instructions a run takes.
+instructions() {
+    valgrind --tool=callgrind --callgrind-out-file="$scratch/callgrind" "$program" "$@" 2>&1 >/dev/null |
+        sed -n 's/.*Collected : //p'
+}
+
+if command -v valgrind >/dev/null 2>&1; then
+    empty_instructions=$(instructions none)
+else
+    empty_instructions=
+fi
+
+# counted LIMIT EACH NAME WORDS..: one line with the instructions of a run beyond those of an empty one, divided by EACH.
+counted() {
+    limit=$1
+    each=$2
+    name=$3
+    shift 3
+    if [ -z "$empty_instructions" ]; then
+        printf '%-42s %12s\n' "$name" -
+        return
+    fi
+    all=$(instructions "$@")
+    taken=$(((all - empty_instructions) / each))
+    said=ok
+    [ "$taken" -le "$limit" ] || said=SLOW
+    printf '%-42s %12d  %-5s %s\n' "$name" "$taken" "$said" "$("$program" "$@" | head -n 1)"
+}

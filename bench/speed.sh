@@ -1,0 +1,68 @@
+#!/bin/sh
+# What a printed line, an everyday verdict and pairs of long cycles cost, in one run: instructions beyond those of a run that
+# only prints the usage line, where valgrind is there, and seconds, the ratio to that run and the most memory.
+# Usage: bench/speed.sh [PROGRAM], after the program was built; it stands on GNU time, and on valgrind for instructions.
+set -u
+
+. "$(dirname -- "$0")/measure.sh"
+
+# lines LIMIT NAME START RULE: instructions for each of 100,000 printed lines of a rule; the limit is in instructions.
+lines() {
+    series line "$3" "$4"
+    counted "$1" 100000 "$2" list 100000 "rrule:$scratch/line"
+}
+
+# rare NAME START RULE: the first two occurrences of a rule, which may lie centuries apart.
+rare() {
+    series line "$2" "$3"
+    measure 0.03 5 "list 2, $1" list 2 "rrule:$scratch/line"
+}
+
+# pair NAME: instructions for the verdict on the series `NAME` and `NAME-other`.
+pair() {
+    counted 5000000 1 "equal, $1" equal "rrule:$scratch/$1" "rrule:$scratch/$1-other"
+}
+
+echo 'instructions a printed line'
+lines 1000 'each day' 20240101 'FREQ=DAILY'
+lines 1000 'each day at 09:30' 20240101T093000 'FREQ=DAILY'
+lines 1000 'each week' 20240101 'FREQ=WEEKLY'
+lines 1000 'three days a week' 20240101 'FREQ=WEEKLY;BYDAY=MO,WE,FR'
+lines 1000 'each month' 20240115 'FREQ=MONTHLY'
+lines 1000 'the second Tuesday of each month' 20240109 'FREQ=MONTHLY;BYDAY=2TU'
+lines 3000 'each year' 20240115 'FREQ=YEARLY'
+lines 3000 'Monday of each twentieth week' 20240513 'FREQ=YEARLY;BYWEEKNO=20;BYDAY=MO'
+lines 1000 'each hour' 20240101T090000 'FREQ=HOURLY'
+lines 1000 'each seventh hour' 20240101T090000 'FREQ=HOURLY;INTERVAL=7'
+lines 1000 'each minute' 20240101T090000 'FREQ=MINUTELY'
+lines 1000 'each second' 20240101T090000 'FREQ=SECONDLY'
+lines 3000 'by place, the last workday of each month' 20240131 'FREQ=MONTHLY;BYDAY=MO,TU,WE,TH,FR;BYSETPOS=-1'
+
+series weekdays 20240101 'FREQ=WEEKLY;BYDAY=MO,WE,FR'
+series weekdays-other 20240101 'FREQ=DAILY;BYDAY=MO,WE,FR'
+series second-tuesday 20240109 'FREQ=MONTHLY;BYDAY=2TU'
+series second-tuesday-other 20240109 'FREQ=MONTHLY;BYDAY=TU;BYSETPOS=2'
+series leap-day 20240229 'FREQ=YEARLY;BYMONTH=2;BYMONTHDAY=29'
+series leap-day-other 20240229 'FREQ=YEARLY'
+# they differ for the first time on 2100-02-28
+series far 20240229 'FREQ=YEARLY;BYMONTH=2;BYMONTHDAY=29'
+series far-other 20240229 'FREQ=YEARLY;INTERVAL=4;BYMONTH=2;BYMONTHDAY=-1'
+echo 'instructions of an everyday verdict'
+pair weekdays
+pair second-tuesday
+pair leap-day
+pair far
+
+series long 20240101 'FREQ=MONTHLY;INTERVAL=113'
+several beside 20240101 'FREQ=MONTHLY;INTERVAL=113' 'FREQ=DAILY'
+series january 20240101T000000 'FREQ=SECONDLY;BYMONTH=1'
+series dense 20240101T000000 'FREQ=MINUTELY;INTERVAL=113;BYMONTH=1,2,3,4,5,6,7,8,9,10,11,12'
+echo 'seconds, the ratio to an empty run, and the most memory'
+rare 'once in 28 years' 20240229 'FREQ=YEARLY;BYMONTH=2;BYMONTHDAY=29;BYDAY=TH'
+rare 'once in 400 years' 20000229 'FREQ=YEARLY;INTERVAL=400;BYMONTH=2;BYMONTHDAY=29'
+rare 'every 146,097 days' 20000229 'FREQ=DAILY;INTERVAL=146097'
+measure 0.3 3 'equal, a cycle of 16,508,961 days' equal "rrule:$scratch/long" "rrule:$scratch/long"
+measure 1 3 'equal, that cycle beside a daily rule' equal "rrule:$scratch/beside" "rrule:$scratch/beside"
+measure 2 3 'equal, each second of January' equal "rrule:$scratch/january" "rrule:$scratch/january"
+measure 2 3 'equal, minutes in 16,508,961 days' equal "rrule:$scratch/dense" "rrule:$scratch/dense"
+measure 2 3 'canon, minutes in 16,508,961 days' canon "rrule:$scratch/dense"
