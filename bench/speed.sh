@@ -36,7 +36,7 @@ lines 1000 'each hour' 20240101T090000 'FREQ=HOURLY'
 lines 1000 'each seventh hour' 20240101T090000 'FREQ=HOURLY;INTERVAL=7'
 lines 1000 'each minute' 20240101T090000 'FREQ=MINUTELY'
 lines 1000 'each second' 20240101T090000 'FREQ=SECONDLY'
-lines 3000 'by place, the last workday of each month' 20240131 'FREQ=MONTHLY;BYDAY=MO,TU,WE,TH,FR;BYSETPOS=-1'
+lines 5000 'by place, the last workday of each month' 20240131 'FREQ=MONTHLY;BYDAY=MO,TU,WE,TH,FR;BYSETPOS=-1'
 
 series weekdays 20240101 'FREQ=WEEKLY;BYDAY=MO,WE,FR'
 series weekdays-other 20240101 'FREQ=DAILY;BYDAY=MO,WE,FR'
