@@ -7,6 +7,7 @@ mod unions;
 
 pub use set_table::SetTable;
 pub use shapes::Shapes;
+pub use unions::{Pair, Unions};
 
 #[cfg(test)]
 mod tests {

@@ -1,4 +1,4 @@
-// Which set of a table is the union of which two.
+// Numbers by pairs of numbers: which set is the union of which two.
 ghost use Rattle.std.specs.Prelude.{◌≡◌, ◌⊎◌, [], Contains, IfSome, OnOk, ℕ};
 ghost use Rattle.rr_shapes.specs.declared.unions.Pair.{Pair};
 
@@ -7,16 +7,18 @@ use rr_model::NoMemory;
 use std::alloc::Global;
 use std::marker::Model;
 
-// The numbers of two sets, in the order of the question.
+/// The numbers of two sets, in the order of the question.
 #[derive(Clone, Copy, PartialEq, Eq, Hash)]
-pub(crate) struct Pair {
-    pub(crate) a: usize,
-    pub(crate) b: usize,
+pub struct Pair {
+    /// The number of the first set.
+    pub a: usize,
+    /// The number of the second set.
+    pub b: usize,
 }
 
-// The numbers of unions by the numbers of the two sets; contracts see it as the list of the pairs with their unions.
+/// The numbers of unions by the numbers of the two sets. Contracts see it as the list of the pairs with their unions.
 #[derive(Drop)]
-pub(crate) struct Unions {
+pub struct Unions {
     known: IndexMap<Pair, usize>,
     // The place of the pair that was asked for last.
     last: usize,
@@ -32,8 +34,8 @@ impl Model for Unions {
 }
 
 impl Unions {
-    // None are known yet; it takes no memory.
-    pub(crate) fn new(alloc: Global) -> Unions
+    /// None are known yet; it takes no memory.
+    pub fn new(alloc: Global) -> Unions
         ensures { result ≡ [] }
     {
         Unions {
@@ -42,8 +44,8 @@ impl Unions {
         }
     }
 
-    // The union of a pair, where it is known. The pair that was asked for last is looked for nowhere else.
-    pub(crate) fn get(&mut self, pair: Pair) -> Option<usize>
+    /// The union of a pair, where it is known. The pair that was asked for last is looked for nowhere else.
+    pub fn get(&mut self, pair: Pair) -> Option<usize>
         ensures known { IfSome result (λ n. Contains self.old (pair, n)) }
         ensures unchanged { self.new ≡ self.old }
     {
@@ -58,8 +60,8 @@ impl Unions {
         Some(number)
     }
 
-    // Remembers the union of a pair, which becomes the pair that was asked for last.
-    pub(crate) fn put(&mut self, pair: Pair, number: usize) -> Result<(), NoMemory>
+    /// Remembers the union of a pair, which becomes the pair that was asked for last.
+    pub fn put(&mut self, pair: Pair, number: usize) -> Result<(), NoMemory>
         ensures there { OnOk result (Contains self.new (pair, number)) }
         ensures nothing_else { (known : Pair × ℕ) → Contains self.new known → Contains self.old known ⊎ ((pair, number) ≡ known) }
     {
