@@ -4,3 +4,4 @@ pub mod Jump
 pub mod Sequence
 pub mod Sketched
 pub mod Numbering
+pub mod Years

@@ -1,5 +1,5 @@
 // The chosen moments of a rule in months.
-ghost use Rattle.std.specs.Prelude.{◌≡◌, IfOk, List, ℕ};
+ghost use Rattle.std.specs.Prelude.{◌≡◌, ◌≤ℤ◌, IfOk, List, ℕ};
 ghost use Rattle.rr_model.specs.Moment.Years.{IsInYears};
 ghost use Rattle.rr_model.specs.Rule.Validity.{IsValidRule};
 ghost use Rattle.rr_model.specs.declared.rule.Freq.TheVariants.{Monthly};
@@ -39,6 +39,16 @@ impl MonthLazy {
             rule,
             position: -719_162,
         })
+    }
+
+    // Goes on from a day: the days before it are passed over.
+    pub(crate) fn skip_to(&mut self, day: i64)
+        requires { ⟦<MonthLazy as Lazy>⟧.position self.old ≤ℤ day }
+        ensures tree { ⟦<MonthLazy as Lazy>⟧.tree self.new ≡ ⟦<MonthLazy as Lazy>⟧.tree self.old }
+        ensures position { ⟦<MonthLazy as Lazy>⟧.position self.new ≡ day }
+        ensures knows { (sets : List (List ℕ)) → ⟦<MonthLazy as Lazy>⟧.knows self.old sets → ⟦<MonthLazy as Lazy>⟧.knows self.new sets }
+    {
+        self.position = day;
     }
 }
 

@@ -1,5 +1,5 @@
 // The chosen moments of a rule.
-ghost use Rattle.std.specs.Prelude.{◌≡◌, IfOk, List, ℕ};
+ghost use Rattle.std.specs.Prelude.{◌≡◌, ◌≤ℤ◌, IfOk, List, ℕ};
 ghost use Rattle.rr_model.specs.Moment.Years.{IsInYears};
 ghost use Rattle.rr_model.specs.Rule.Validity.{IsValidRule};
 ghost use Rattle.rr_lazy.specs.Next.{IsUnasked};
@@ -48,6 +48,24 @@ impl RuleLazy {
             Freq::Monthly => RuleLazy::Month(MonthLazy::new(alloc, rule, kind, start)?),
             Freq::Yearly => RuleLazy::Year(YearLazy::new(alloc, rule, kind, start)?),
         })
+    }
+
+    /// Goes on from a day, in days since 1970-01-01: the days before it are passed over.
+    pub fn skip_to(&mut self, day: i64)
+        requires { ⟦<RuleLazy as Lazy>⟧.position self.old ≤ℤ day }
+        ensures tree { ⟦<RuleLazy as Lazy>⟧.tree self.new ≡ ⟦<RuleLazy as Lazy>⟧.tree self.old }
+        ensures position { ⟦<RuleLazy as Lazy>⟧.position self.new ≡ day }
+        ensures knows { (sets : List (List ℕ)) → ⟦<RuleLazy as Lazy>⟧.knows self.old sets → ⟦<RuleLazy as Lazy>⟧.knows self.new sets }
+    {
+        match self {
+            RuleLazy::Second(lazy) => lazy.skip_to(day),
+            RuleLazy::Minute(lazy) => lazy.skip_to(day),
+            RuleLazy::Hour(lazy) => lazy.skip_to(day),
+            RuleLazy::Day(lazy) => lazy.skip_to(day),
+            RuleLazy::Week(lazy) => lazy.skip_to(day),
+            RuleLazy::Month(lazy) => lazy.skip_to(day),
+            RuleLazy::Year(lazy) => lazy.skip_to(day),
+        }
     }
 }
 

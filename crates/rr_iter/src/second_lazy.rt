@@ -1,5 +1,5 @@
 // The chosen moments of a rule in seconds.
-ghost use Rattle.std.specs.Prelude.{◌≡◌, IfOk, List, ℕ};
+ghost use Rattle.std.specs.Prelude.{◌≡◌, ◌≤ℤ◌, IfOk, List, ℕ};
 ghost use Rattle.rr_model.specs.Moment.Years.{IsInYears};
 ghost use Rattle.rr_model.specs.Rule.Validity.{IsValidRule};
 ghost use Rattle.rr_model.specs.declared.rule.Freq.TheVariants.{Secondly};
@@ -39,6 +39,16 @@ impl SecondLazy {
             rule,
             position: -719_162,
         })
+    }
+
+    // Goes on from a day: the days before it are passed over.
+    pub(crate) fn skip_to(&mut self, day: i64)
+        requires { ⟦<SecondLazy as Lazy>⟧.position self.old ≤ℤ day }
+        ensures tree { ⟦<SecondLazy as Lazy>⟧.tree self.new ≡ ⟦<SecondLazy as Lazy>⟧.tree self.old }
+        ensures position { ⟦<SecondLazy as Lazy>⟧.position self.new ≡ day }
+        ensures knows { (sets : List (List ℕ)) → ⟦<SecondLazy as Lazy>⟧.knows self.old sets → ⟦<SecondLazy as Lazy>⟧.knows self.new sets }
+    {
+        self.position = day;
     }
 }
 
