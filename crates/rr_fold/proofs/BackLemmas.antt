@@ -1,9 +1,10 @@
 -- Numbers that fit come back from 64 bits as they are.
-use Rattle.std.proofs.Common.{◌≡◌, ℕ, ◌≤◌, ℤ, pos, neg_ℤ, nat_abs, ◌+ℤ◌, ◌-ℤ◌, ◌≤ℤ◌, arith, rules, w64, to_z, of_z, to_z-of_z, FitsSigned, ◌∙◌}
+use Rattle.std.proofs.Common.{◌≡◌, ℕ, ◌≤◌, ℤ, pos, neg_ℤ, nat_abs, ◌+ℤ◌, ◌-ℤ◌, ◌≤ℤ◌, ap, arith, rules, w64, to_z, of_z, to_z-of_z, FitsSigned, ◌∙◌}
 use Rattle.std.proofs.lemmas.Int.{ints, clamps}
 use Rattle.std.specs.Int.{int_min}
 use Rattle.rr_model.proofs.WholeLemmas.{floor_whole, floor_mod_below}
 use Rattle.rr_model.proofs.YearLemmas.{four_digit_bounds}
+use Rattle.rr_model.specs.Moment.{day_part}
 use Rattle.rr_model.specs.Moment.Years.{IsInYears}
 use Rattle.rr_model.specs.Whole.{floor_div}
 use Rattle.rr_model.specs.declared.kind.Kind.{Kind}
@@ -20,6 +21,11 @@ moment_back Moments t y =
     let w = floor_whole t 86_400 (omega arith) in
     let r = floor_mod_below t 86_400 (omega arith) in
     back t (omega (arith, ints, b.0, w)) (omega (arith, ints, b.1, w, r))
+
+-- the day of such a moment
+pub day_back : (kind : Kind) (t day : ℤ) → IsInYears kind t → day ≡ day_part kind (to_z w64 (of_z w64 t)) → to_z w64 (of_z w64 day) ≡ day_part kind t
+day_back kind t day y e =
+    (λ i. to_z w64 (of_z w64 ((e ∙ ap (day_part kind) (moment_back kind t y)) i))) ∙ moment_back Days (day_part kind t) y
 
 -- how many days lie between two days
 pub between_back : (day first day' first' : ℤ) → day' ≡ day → first' ≡ first → first ≤ℤ day → day ≤ℤ pos 3_000_000_000_000 → neg_ℤ (pos 1_000_000_000) ≤ℤ first

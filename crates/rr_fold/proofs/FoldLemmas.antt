@@ -203,14 +203,19 @@ found_on tree tree' first position to to' position' number place sets sets' numb
       omega (arith, ints, n.2, n.1, f),
     )
 
--- it gave none
+-- it gave none: the position is the day after the last one that was asked of
+pub none_position : (tree : Tree) (position to to' position' : ℤ) → IsNext tree position to' (Ok None) position' → to' ≡ to
+    → position ≤ℤ (to +ℤ pos 1) → position' ≡ to +ℤ pos 1
+none_position tree position to to' position' next f l =
+    elim next.3 [ inl a ↦ omega (arith, ints, a, f) | inr b ↦ omega (arith, ints, b, f, l, next.2) ]
+
+-- it gave none: all is folded up to that position
 pub none_on : (tree tree' : Tree) (first position to to' position' : ℤ) (sets : List (List ℕ)) (numbers : List ℕ)
     → IsFoldedTo tree first position sets numbers → IsNext tree' position to' (Ok None) position' → tree' ≡ tree → to' ≡ to → position ≤ℤ (to +ℤ pos 1)
     → IsFoldedTo tree first (to +ℤ pos 1) sets numbers
 none_on tree tree' first position to to' position' sets numbers folded next e f l =
     let n = rw e at next in
-    let same : position' ≡ to +ℤ pos 1 = elim n.3 [ inl a ↦ omega (arith, ints, a, f) | inr b ↦ omega (arith, ints, b, f, l, n.2) ] in
-    rw (sym same) (folded_on tree first position sets numbers folded position' n.1 n.0)
+    rw (sym (none_position tree position to to' position' n f l)) (folded_on tree first position sets numbers folded position' n.1 n.0)
 
 -- it gave a day whose set is one too many
 pub too_many : (tree tree' : Tree) (first position to to' position' : ℤ) (sets : List (List ℕ)) (numbers : List ℕ) (found : DayTimes)

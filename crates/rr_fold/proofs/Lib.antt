@@ -7,8 +7,16 @@ pub mod JumpOfLemmas
 pub mod KindLemmas
 pub mod NumberingLemmas
 pub mod PlaceLemmas
+pub mod RulesAloneLemmas
+pub mod RulesFoldLemmas
+pub mod SameTreeLemmas
+pub mod SameYearLemmas
 pub mod SequenceLemmas
 pub mod SingleLemmas
 pub mod SketchedLemmas
 pub mod SplicedLemmas
+pub mod UnitedFoldLemmas
+pub mod UnitedLemmas
+pub mod WalkLemmas
 pub mod WholeFoldLemmas
+pub mod YearWalkLemmas

@@ -1,7 +1,10 @@
 pub mod Folding
 pub mod Judged
 pub mod Jump
+pub mod Rules
 pub mod Sequence
 pub mod Sketched
 pub mod Numbering
+pub mod United
+pub mod Walks
 pub mod Years

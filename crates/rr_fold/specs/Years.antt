@@ -1,15 +1,19 @@
 -- Rules whose days are the same in each year of one key.
-use Rattle.std.specs.Prelude.{◌≡◌, ◌⊎◌, ℕ, ◌+◌, ◌<◌, ◌≤◌, true, List, length, get_or, slice_get, Option, Some, ℤ, pos, ◌+ℤ◌, ◌<ℤ◌}
+use Rattle.std.specs.Prelude.{◌≡◌, ◌⊎◌, ℕ, ◌+◌, ◌<◌, ◌≤◌, true, List, length, get_or, slice_get, Option, Some, ℤ, pos, ◌+ℤ◌, ◌≤ℤ◌, ◌<ℤ◌}
 use Rattle.rr_expand.specs.Years.{mask_key}
+use Rattle.rr_iter.specs.Lazies.{knows_rule, position_of_rule, tree_of_rule}
+use Rattle.rr_iter.specs.declared.rule_lazy.RuleLazy.{RuleLazy}
 use Rattle.rr_model.specs.Calendar.{days_in_year, first_day_of_year}
 use Rattle.rr_model.specs.Moment.{day_part}
 use Rattle.rr_model.specs.Moment.Units.{is_whole_days}
 use Rattle.rr_model.specs.Moment.Years.{IsInYears}
 use Rattle.rr_model.specs.Rule.Validity.{IsValidRule, is_absent}
-use Rattle.rr_model.specs.Sets.Tree.{chosen_of, stands_at}
+use Rattle.rr_model.specs.Sets.Tree.{Tree, chosen_of, stands_at}
 use Rattle.rr_model.specs.declared.kind.Kind.{Kind}
 use Rattle.rr_model.specs.declared.rule.Freq.TheVariants.{Monthly, Yearly}
 use Rattle.rr_model.specs.declared.rule.Rule.{Rule}
+use Rattle.rr_fold.specs.Walks.{IsWalk}
+use Rattle.rr_fold.specs.declared.walk.Walk.{Walk}
 
 -- A rule of whole days that leaves no unit out, and whose set positions, if it has some, are counted within units that lie in one year.
 pub record RepeatsByYears (rule : Rule) : Type 0 where
@@ -33,18 +37,38 @@ EqualKeysHaveEqualDays =
 abbrev pub EqualKeysHaveEqualLengths : Type 0
 EqualKeysHaveEqualLengths = (rule : Rule) (year other : ℤ) → mask_key rule year ≡ mask_key rule other → days_in_year year ≡ days_in_year other
 
--- a year of this key begins at the place, counted from the first day on, after the start's day, and ends within so many days
-pub record IsKeptYear (rule : Rule) (kind : Kind) (start first : ℤ) (days key place : ℕ) : Type 0 where
+-- Of two years of one key that begin after the first day, each day of one has the seconds of the same day of the other.
+abbrev pub HasEqualYears : Rule → Tree → ℤ → Type 0
+HasEqualYears rule tree first =
+    (year other : ℤ) → first <ℤ first_day_of_year year → first <ℤ first_day_of_year other → mask_key rule year ≡ mask_key rule other
+    → (k s : ℕ) → k < days_in_year year → stands_at tree (first_day_of_year year +ℤ pos k) s ≡ stands_at tree (first_day_of_year other +ℤ pos k) s
+
+-- a year of this key begins after the first day, at the place counted from there, and ends within so many days
+pub record IsKeptYear (rule : Rule) (first : ℤ) (days key place : ℕ) : Type 0 where
   pub year : ℤ
   pub of_key : mask_key rule year ≡ key
-  pub after : IsAfterStart kind start year
+  pub after : first <ℤ first_day_of_year year
   pub begins : first_day_of_year year ≡ first +ℤ pos place
   pub ends : place + days_in_year year ≤ days
 
 -- there is a place for each key, and a year of that key begins where it is known
-pub record AreKeptYears (rule : Rule) (kind : Kind) (start first : ℤ) (days : ℕ) (kept : List (Option ℕ)) : Type 0 where
+pub record AreKeptYears (rule : Rule) (first : ℤ) (days : ℕ) (kept : List (Option ℕ)) : Type 0 where
   pub places : length kept ≡ 56
-  pub years : (key place : ℕ) → slice_get kept key ≡ Some (Some place) → IsKeptYear rule kind start first days key place
+  pub years : (key place : ℕ) → slice_get kept key ≡ Some (Some place) → IsKeptYear rule first days key place
+
+-- The iterator stands at this position, and each day before it, from the first one on, has its number.
+pub record IsYearWalk (tree : Tree) (first position : ℤ) (lazy : RuleLazy) (walk : Walk) : Type 0 where
+  pub same : tree_of_rule lazy ≡ tree
+  pub at : position_of_rule lazy ≡ position
+  pub knows : knows_rule lazy walk.numbering.sets
+  pub walked : IsWalk tree first position walk
+  pub whole : position ≡ first +ℤ pos (length walk.days.numbers.items)
+
+-- the year begins after the first day and before the other, which is not past the year's end
+pub record IsYearUpTo (first year to : ℤ) : Type 0 where
+  pub after : first <ℤ first_day_of_year year
+  pub begun : first_day_of_year year <ℤ to
+  pub within : to ≤ℤ first_day_of_year (year +ℤ pos 1)
 
 -- so many numbers from a place on stand once more at the end
 pub record IsCopied (old : List ℕ) (place count : ℕ) (new : List ℕ) : Type 0 where

@@ -5,16 +5,17 @@ ghost use Rattle.rr_model.specs.Series.Limits.{HasTooManyMoments};
 ghost use Rattle.rr_model.specs.Series.Tree.{tree_of};
 ghost use Rattle.rr_model.specs.declared.refusal.Refusal.TheVariants.{TooManyMoments};
 ghost use Rattle.rr_lazy.specs.Next.{IsUnasked};
-ghost use Rattle.rr_fold.specs.Folding.{HasNoneBefore, IsFoldedTo, IsPut};
-ghost use Rattle.rr_fold.specs.Numbering.{IsKnown};
+ghost use Rattle.rr_fold.specs.Folding.{HasNoneBefore, IsFoldedTo};
 ghost use Rattle.rr_fold.specs.Jump.{IsJump};
+ghost use Rattle.rr_fold.specs.Rules.{HasRulesAlone};
 
 use crate::jump::{Jump, days_left_out, jump_of, spliced};
-use crate::numbering::Numbering;
+use crate::rules::{days_of_rules, has_rules_alone};
+use crate::walk::Walk;
 use rr_check::Checked;
 use rr_iter::{RuleLazy, occurrences};
 use rr_lazy::{FirstN, Lazy};
-use rr_model::{Fault, NoMemory};
+use rr_model::Fault;
 use rr_shapes::Shapes;
 use std::alloc::Global;
 
@@ -44,8 +45,26 @@ pub fn folded_days(
 {
     match jump_of(alloc, series, first, end)? {
         Some(jump) => jumped(alloc, series, first, end, jump),
-        None => walked(alloc, series, first, end),
+        None => not_jumped(alloc, series, first, end),
     }
+}
+
+// The days, rule by rule where the series has endless rules alone; where that asks for too much, day by day.
+fn not_jumped(alloc: Global, series: &Checked, first: i64, end: i64) -> Result<FoldedDays, Fault>
+    requires low { neg_ℤ (pos 719_162) ≤ℤ first }
+    requires order { first <ℤ end }
+    requires high { end ≤ℤ pos 40_000_000 }
+    requires early { HasNoneBefore (tree_of series.now) first }
+    ensures folded { IfOk result (λ days. IsFoldedTo (tree_of series.now) first end days.shapes days.numbers.items) }
+    ensures whole { IfOk result (λ days. end ≡ first +ℤ pos (length days.numbers.items)) }
+    ensures refused { RefusedExactlyWhere (HasTooManyMoments (tree_of series.now) end) TooManyMoments result }
+{
+    if has_rules_alone(series.series(), first) {
+        if let Ok(days) = days_of_rules(alloc, series, end) {
+            return Ok(days);
+        }
+    }
+    walked(alloc, series, first, end)
 }
 
 // The days, each walked.
@@ -100,7 +119,7 @@ fn jumped(
 }
 
 // The days of an iterator that was not asked yet, from one on and below another.
-fn collected<L: Lazy + Drop>(
+pub(crate) fn collected<L: Lazy + Drop>(
     alloc: Global,
     lazy: L,
     first: i64,
@@ -117,58 +136,10 @@ fn collected<L: Lazy + Drop>(
     ensures refused { RefusedExactlyWhere (HasTooManyMoments (L.tree lazy) end) TooManyMoments result }
 {
     let mut lazy = lazy;
-    let days = days_between(first, end);
-    let mut shapes = Shapes::with_empty_set(alloc)?;
-    let mut numbers = Vec::with_capacity(alloc, days)?;
-    let mut numbering = Numbering::new(alloc);
-    match fill(
-        alloc,
-        &mut lazy,
-        first,
-        end - 1,
-        &mut numbering,
-        &mut shapes,
-        &mut numbers,
-    ) {
-        Ok(()) => {}
-        Err(fault) => return Err(fault),
-    }
-    numbers.resize(days, 0)?;
-    Ok(FoldedDays { numbers, shapes })
-}
-
-// Folds the occupied days of an iterator up to a day, from where it stands on.
-fn fill<L: Lazy>(
-    alloc: Global,
-    lazy: &mut L,
-    first: i64,
-    to: i64,
-    numbering: &mut Numbering,
-    shapes: &mut Shapes,
-    numbers: &mut Vec<u32>,
-) -> Result<(), Fault>
-    requires low { neg_ℤ (pos 2_999_999_999_000) ≤ℤ to }
-    requires high { to ≤ℤ pos 2_999_999_999_000 }
-    requires first { first ≤ℤ to }
-    requires begun { neg_ℤ (pos 2_999_999_999_000) ≤ℤ first }
-    requires position { L.position lazy.old ≤ℤ (to +ℤ pos 1) }
-    requires knows { L.knows lazy.old numbering.old.sets }
-    requires known { IsKnown numbering.old.sets shapes.old numbering.old.known.items }
-    requires folded { IsFoldedTo (L.tree lazy.old) first (L.position lazy.old) shapes.old numbers.old.items }
-    ensures folded { OnOk result (IsFoldedTo (L.tree lazy.old) first (to +ℤ pos 1) shapes.new numbers.new.items) }
-    ensures refused { RefusedExactlyWhere (HasTooManyMoments (L.tree lazy.old) (to +ℤ pos 1)) TooManyMoments result }
-{
-    'days: loop {
-        match lazy.next(alloc, &mut numbering.sets, to)? {
-            None => return Ok(()),
-            Some(found) => {
-                let place = days_between(first, found.day);
-                match numbering.number_of(alloc, found, shapes) {
-                    Ok(number) => put(numbers, place, number)?,
-                    Err(fault) => return Err(fault),
-                }
-            }
-        }
+    let mut walk = Walk::new(alloc, days_between(first, end))?;
+    match walk.walk_to(alloc, &mut lazy, first, end) {
+        Ok(()) => Ok(walk.days),
+        Err(fault) => Err(fault),
     }
 }
 
@@ -180,14 +151,4 @@ pub(crate) fn days_between(first: i64, day: i64) -> usize
     ensures { day ≡ first +ℤ pos result }
 {
     (day - first) as usize
-}
-
-// Puts a number at its place, and 0, the number of the empty set, at each place before it that has none yet.
-fn put(numbers: &mut Vec<u32>, place: usize, number: u32) -> Result<(), NoMemory>
-    requires { length numbers.old.items ≤ place }
-    ensures { OnOk result (IsPut numbers.old.items place number numbers.new.items) }
-{
-    numbers.resize(place, 0)?;
-    numbers.push(number)?;
-    Ok(())
 }

@@ -6,5 +6,9 @@ mod first_day;
 mod folded;
 mod jump;
 mod numbering;
+mod rules;
+mod united;
+mod walk;
+mod years;
 
 pub use folded::{Folded, fold};

@@ -1,7 +1,7 @@
 use Rattle.std.proofs.Common.{◌≡◌, pos, nat_abs, ◌+ℤ◌, ◌-ℤ◌, ◌≤ℤ◌}
 use Rattle.rr_fold.specs.Folding.{IsFoldedTo}
 use Rattle.rr_fold.specs.Numbering.{IsKnown}
-use Rattle.rr_fold.proofs.fill.fill.Given as goal
+use Rattle.rr_fold.proofs.walk.fill.Given as goal
 
 abbrev pub invariant-days : goal.invariant-days
 invariant-days g l = (g.L.Lazy.tree l.lazy ≡ g.L.Lazy.tree l.fn.lazy) × (g.L.Lazy.position l.lazy ≤ℤ (l.to +ℤ pos 1))

@@ -5,9 +5,9 @@ use Rattle.rr_lazy.specs.Next.{with_set}
 use Rattle.rr_fold.specs.Folding.{IsFoldedTo}
 use Rattle.rr_fold.specs.Numbering.{IsOneTooMany}
 use Rattle.rr_fold.proofs.DistinctLemmas.{not_too_many}
-use Rattle.rr_fold.proofs.FoldLemmas.{found_on, none_on, not_early, refused_so, too_many}
+use Rattle.rr_fold.proofs.FoldLemmas.{found_on, none_on, none_position, not_early, refused_so, too_many}
 use Rattle.rr_fold.proofs.NumberingLemmas.{known_of_table, next_at}
-use Rattle.rr_fold.proofs.fill.fill.Goals as goal
+use Rattle.rr_fold.proofs.walk.fill.Goals as goal
 
 -- a day near enough keeps its number
 day_back : (first day to : ℤ) → neg_ℤ (pos 2_999_999_999_000) ≤ℤ first → first ≤ℤ day → day ≤ℤ to → to ≤ℤ pos 2_999_999_999_000 → to_z w64 (of_z w64 day) ≡ day
@@ -23,6 +23,17 @@ returns-in-None-clause-folded g c =
     none_on (g.L.Lazy.tree c.args.lazy.now) (g.L.Lazy.tree c.days.lazy) c.args.first (g.L.Lazy.position c.days.lazy) c.args.to
     (to_z w64 (of_z w64 c.args.to)) (g.L.Lazy.position c.next.new.self) c.days.shapes c.days.numbers.items
     before n c.days.invariant.0 t (omega (arith, ints, c.days.invariant.1, t))
+
+pub returns-in-None-clause-position : goal.returns-in-None-clause-position
+returns-in-None-clause-position g c =
+    let t = to_z-of_z c.ranges.to in
+    let n = rw c.in-None.is at c.in_ok-next.ensures.next in
+    none_position (g.L.Lazy.tree c.days.lazy) (g.L.Lazy.position c.days.lazy) c.args.to
+    (to_z w64 (of_z w64 c.args.to)) (g.L.Lazy.position c.next.new.self) n t (omega (arith, ints, c.days.invariant.1, t))
+
+pub returns-in-None-clause-known : goal.returns-in-None-clause-known
+returns-in-None-clause-known g c =
+    known_of_table c.days.numbering.sets c.next.new.sets c.days.shapes c.days.numbering.known.items c.in_ok-next.ensures.kept c.days.invariant.4
 
 pub returns-in-None-clause-refused : goal.returns-in-None-clause-refused
 returns-in-None-clause-refused g c =

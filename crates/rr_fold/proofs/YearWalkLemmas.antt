@@ -1,0 +1,199 @@
+-- Days of years that are copied from those of another year, and the places that are kept.
+use Rattle.std.proofs.Common.{◌≡◌, ℕ, ◌+◌, ◌-◌, ◌<◌, ◌≤◌, List, [], length, get_or, ℤ, pos, neg_ℤ, ◌+ℤ◌, ◌≤ℤ◌, ◌<ℤ◌}
+use Rattle.std.proofs.Common.{sym, ap, subst, ◌∙◌, inl, inr, arith, rules, w64, to_z, of_z, to_z-of_z, FitsSigned}
+use Rattle.std.specs.Prelude.{IsTrue, Option, Some, None, nat_lt}
+use Rattle.std.specs.Int.{int_min}
+use Rattle.std.specs.List.{slice_set}
+use Rattle.std.proofs.lemmas.Bool.{cases_eq, cases_lt}
+use Rattle.std.proofs.lemmas.Grind.{get_or-set_at}
+use Rattle.std.proofs.lemmas.Int.{clamps, ints}
+use Rattle.std.proofs.lemmas.List.{get_or-set_other, length-set}
+use Rattle.std.proofs.lemmas.Option.{get_or_from_slice_get, slice_get-get_or, slice_get_within}
+use Rattle.rr_model.proofs.CalendarLemmas.{IsInYear-year_of, days_in_year_bounds, first_day_of_year_bounds, first_day_of_year-next}
+use Rattle.rr_model.proofs.RisingSetLemmas.{set_same}
+use Rattle.rr_model.specs.Calendar.{days_in_year, first_day_of_year, year_of}
+use Rattle.rr_model.specs.Sets.Tree.{Tree, stands_at}
+use Rattle.rr_model.specs.declared.rule.Rule.{Rule}
+use Rattle.rr_expand.specs.Years.{mask_key}
+use Rattle.rr_fold.specs.Folding.{IsFoldedTo, IsNumbered}
+use Rattle.rr_fold.specs.Years.{AreKeptYears, HasEqualYears, IsCopied, IsKeptYear, IsYearUpTo}
+use Rattle.rr_fold.proofs.BackLemmas.{back}
+use Rattle.rr_fold.proofs.SameYearLemmas.{equal_keys_have_equal_lengths}
+
+-- ---- days that have the seconds of others
+
+-- a day has the number of one that has the same seconds
+pub numbered_alike : (tree : Tree) (d e : ℤ) (sets : List (List ℕ)) (number : ℕ) → ((s : ℕ) → stands_at tree d s ≡ stands_at tree e s)
+    → IsNumbered sets number (stands_at tree d) → IsNumbered sets number (stands_at tree e)
+numbered_alike tree d e sets number same i = record {
+  within = i.within;
+  all = set_same nat_lt (λ s. IsTrue (stands_at tree d s)) (λ s. IsTrue (stands_at tree e s)) (get_or sets number []) i.all
+      (λ s. ((λ t. sym (same s) ∙ t), (λ t. same s ∙ t)));
+}
+
+-- so many days more are folded by the numbers of days that have the same seconds
+pub folded_copied : (tree : Tree) (first from : ℤ) (sets : List (List ℕ)) (old new : List ℕ) (place count : ℕ) → IsFoldedTo tree first from sets old
+    → from ≡ first +ℤ pos (length old) → IsCopied old place count new → place + count ≤ length old
+    → ((k s : ℕ) → k < count → stands_at tree (first +ℤ pos (place + k)) s ≡ stands_at tree (from +ℤ pos k) s)
+    → IsFoldedTo tree first (from +ℤ pos count) sets new
+folded_copied tree first from sets old new place count folded at copied room same = record {
+  within = folded.within;
+  empty = folded.empty;
+  few = folded.few;
+  early = folded.early;
+  numbered = λ k l. elim (cases_lt k (length old)) [
+    | inl m ↦ rw (copied.kept k m) (folded.numbered k m)
+    | inr g ↦ (
+        let j : ℕ = k - length old in
+        let k_is : k ≡ length old + j = omega (arith, g) in
+        let within : j < count = omega (arith, l, copied.whole, k_is) in
+        let day : first +ℤ pos (length old + j) ≡ from +ℤ pos j = omega (arith, ints, at) in
+        rw (k_is, copied.again j within, day)
+        (numbered_alike tree (first +ℤ pos (place + j)) (from +ℤ pos j) sets (get_or old (place + j) 0) (λ s. same j s within)
+        (folded.numbered (place + j) (omega (arith, within, room)))))
+  ];
+  reached = λ some. omega (arith, ints, at, copied.whole);
+  rest = λ d s a b. absurd (omega (arith, ints, at, copied.whole, a, b));
+  sets_of_days = λ k d h n. (let t = folded.sets_of_days k d h n in record { day = t.day; early = omega (arith, ints, t.early); all = t.all });
+}
+
+-- ---- places of years
+
+-- a kept year stays where it is as days are added
+pub kept_longer : (rule : Rule) (first : ℤ) (days days' : ℕ) (kept : List (Option ℕ)) → days ≤ days' → AreKeptYears rule first days kept
+    → AreKeptYears rule first days' kept
+kept_longer rule first days days' kept more are = record {
+  places = are.places;
+  years = λ key place e. (let y = are.years key place e in
+      record { year = y.year; of_key = y.of_key; after = y.after; begins = y.begins; ends = omega (arith, y.ends, more) });
+}
+
+-- no year is kept where there is nothing at each place
+pub none_kept : (rule : Rule) (first : ℤ) (days : ℕ) (kept : List (Option ℕ)) → length kept ≡ 56 → ((k : ℕ) → k < 56 → get_or kept k None ≡ None)
+    → AreKeptYears rule first days kept
+none_kept rule first days kept whole none = record {
+  places = whole;
+  years = λ key place e.
+      (let l = slice_get_within kept key (Some place) e in
+      let here : get_or kept key None ≡ Some place = get_or_from_slice_get kept key (Some place) None e in
+      let nothing : get_or kept key None ≡ None = none key (omega (arith, l, whole)) in
+      absurd (cc));
+}
+
+some_place : (a b : ℕ) → Some a ≡ Some b → a ≡ b
+some_place a b e = cc
+
+-- a year that is over is kept at its key
+pub one_kept : (rule : Rule) (first year : ℤ) (days days' place : ℕ) (kept : List (Option ℕ)) → days ≤ days' → AreKeptYears rule first days kept
+    → mask_key rule year < 56 → first <ℤ first_day_of_year year → first_day_of_year year ≡ first +ℤ pos place → place + days_in_year year ≤ days'
+    → AreKeptYears rule first days' (slice_set kept (mask_key rule year) (Some place))
+one_kept rule first year days days' place kept more are low after begins ends =
+    let key : ℕ = mask_key rule year in
+    let new : List (Option ℕ) = slice_set kept key (Some place) in
+    let long = kept_longer rule first days days' kept more are in
+    record {
+      places = length-set kept key (Some place) ∙ are.places;
+      years = λ n p e. (
+          let here : get_or new n None ≡ Some p = get_or_from_slice_get new n (Some p) None e in
+          elim (cases_eq n key) [
+            | inl same ↦ (
+                let found : place ≡ p =
+                some_place place p (sym (get_or-set_at kept key n (Some place) None same (omega (arith, low, are.places))) ∙ here) in
+                record { year = year; of_key = sym same; after = after; begins = rw (sym found) begins; ends = rw (sym found) ends })
+            | inr other ↦ (
+                let m : n < length kept = omega (arith, length-set kept key (Some place), slice_get_within new n (Some p) e) in
+                let before : get_or kept n None ≡ Some p = sym (get_or-set_other kept key n (Some place) None other) ∙ here in
+                long.years n p (slice_get-get_or kept n None m ∙ ap (λ (x : Option ℕ). Some x) before))
+          ]);
+    }
+
+-- the year whose place is read at its key
+pub kept_read : (rule : Rule) (first year : ℤ) (days key place : ℕ) (kept : List (Option ℕ)) (found : Option ℕ) → AreKeptYears rule first days kept
+    → key < 56 → key ≡ mask_key rule year → found ≡ get_or kept key found → found ≡ Some place → IsKeptYear rule first days (mask_key rule year) place
+kept_read rule first year days key place kept found are low of_key read is =
+    subst (λ n. IsKeptYear rule first days n place) of_key
+    (are.years key place (slice_get-get_or kept key found (omega (arith, low, are.places)) ∙ ap (λ (x : Option ℕ). Some x) (sym read ∙ is)))
+
+-- the days of a kept year have the seconds of those of a year of its key
+pub kept_alike : (rule : Rule) (tree : Tree) (first year : ℤ) (days place k s : ℕ) → HasEqualYears rule tree first
+    → IsKeptYear rule first days (mask_key rule year) place → first <ℤ first_day_of_year year → k < days_in_year year
+    → stands_at tree (first +ℤ pos (place + k)) s ≡ stands_at tree (first_day_of_year year +ℤ pos k) s
+kept_alike rule tree first year days place k s equal kept after l =
+    let day : first +ℤ pos (place + k) ≡ first_day_of_year kept.year +ℤ pos k = omega (arith, ints, kept.begins) in
+    ap (λ d. stands_at tree d s) day ∙ sym (equal year kept.year after kept.after (sym kept.of_key) k s l)
+
+-- as many days of a kept year as a year of its key has are within the days
+pub kept_within : (rule : Rule) (first year : ℤ) (days place count : ℕ) → IsKeptYear rule first days (mask_key rule year) place → count ≤ days_in_year year
+    → place + count ≤ days
+kept_within rule first year days place count kept l =
+    omega (arith, kept.ends, equal_keys_have_equal_lengths rule year kept.year (sym kept.of_key), l)
+
+-- ---- how far years reach
+
+-- a year whose first day is near enough is near enough itself
+pub year_reached : (year : ℤ) → neg_ℤ (pos 719_162) ≤ℤ first_day_of_year year → first_day_of_year year ≤ℤ pos 40_000_366
+    → (neg_ℤ (pos 1_000_000) ≤ℤ year) × (year ≤ℤ pos 1_000_000)
+year_reached year low high = let b = first_day_of_year_bounds year in (omega (arith, ints, low, b.1), omega (arith, ints, high, b.0))
+
+-- the year after that of a day begins after it, within 366 days
+pub year_after : (day : ℤ) → (day <ℤ first_day_of_year (year_of day +ℤ pos 1)) × (first_day_of_year (year_of day +ℤ pos 1) ≤ℤ (day +ℤ pos 366))
+year_after day =
+    let i = IsInYear-year_of day in
+    (i.not_over, omega (arith, ints, i.begun, first_day_of_year-next (year_of day), (days_in_year_bounds (year_of day)).1))
+
+-- from the first day of a year up to its end, or to one that comes before
+pub year_step : (first from end to year : ℤ) → first <ℤ from → from ≡ first_day_of_year year → from <ℤ end
+    → to ≡ int_min (from +ℤ pos (days_in_year year)) end
+    → IsYearUpTo first year to × (to ≤ℤ end) × (from <ℤ to) × (to <ℤ end → to ≡ first_day_of_year (year +ℤ pos 1))
+year_step first from end to year after at before is =
+    let next = first_day_of_year-next year in
+    let long = (days_in_year_bounds year).0 in (
+      record {
+        after = omega (arith, ints, after, at);
+        begun = omega (arith, ints, clamps, is, at, before, long);
+        within = omega (arith, ints, clamps, is, at, next);
+      },
+      omega (arith, ints, clamps, is),
+      omega (arith, ints, clamps, is, before, long),
+      λ l. omega (arith, ints, clamps, is, at, next, l),
+    )
+
+-- the year after one that is near enough fits 64 bits
+pub year_fits : (year : ℤ) → (neg_ℤ (pos 2_000_000) ≤ℤ year) × (year ≤ℤ pos 1_000_000) → FitsSigned w64 (year +ℤ pos 1)
+year_fits year (low, high) = search rules
+
+-- the lesser of a day so many days on and the end, as it is stored
+pub least_step : (from end end' to more : ℤ) (days : ℕ) → to ≡ int_min (to_z w64 (of_z w64 (from +ℤ to_z w64 (of_z w64 more)))) end' → more ≡ pos days
+    → days ≤ 366 → end' ≡ end → neg_ℤ (pos 719_162) ≤ℤ from → from ≤ℤ end → end ≤ℤ pos 40_000_000
+    → to_z w64 (of_z w64 to) ≡ int_min (from +ℤ pos days) end'
+least_step from end end' to more days is m few e low within high =
+    let more_back : to_z w64 (of_z w64 more) ≡ pos days = back more (omega (arith, ints, m)) (omega (arith, ints, m, few)) ∙ m in
+    let next : to_z w64 (of_z w64 (from +ℤ pos days)) ≡ from +ℤ pos days =
+    back (from +ℤ pos days) (omega (arith, ints, low)) (omega (arith, ints, within, high, few)) in
+    let least : to ≡ int_min (from +ℤ pos days) end' = rw (more_back, next) at is in
+    back to (omega (arith, ints, clamps, least, e, low, within)) (omega (arith, ints, clamps, least, e, high)) ∙ least
+
+-- the year after that of a day, as it is stored
+pub next_year : (first year : ℤ) → neg_ℤ (pos 719_162) ≤ℤ first → first ≤ℤ pos 40_000_000 → year ≡ year_of first
+    → FitsSigned w64 (to_z w64 (of_z w64 year) +ℤ pos 1) × (to_z w64 (of_z w64 (to_z w64 (of_z w64 year) +ℤ pos 1)) ≡ year_of first +ℤ pos 1)
+next_year first year low high is =
+    let a = year_after first in
+    let near = year_reached (year_of first +ℤ pos 1) (omega (arith, ints, low, a.0)) (omega (arith, ints, high, a.1)) in
+    let own : to_z w64 (of_z w64 year) ≡ year_of first = back year (omega (arith, ints, is, near.0)) (omega (arith, ints, is, near.1)) ∙ is in
+    let fits : FitsSigned w64 (year_of first +ℤ pos 1) = year_fits (year_of first) (omega (arith, ints, near.0), omega (arith, ints, near.1)) in
+    rw own (fits, to_z-of_z fits)
+
+-- the lesser of a day and the end, as it is stored
+pub least_first : (day end end' from : ℤ) → from ≡ int_min (to_z w64 (of_z w64 day)) end' → end' ≡ end → neg_ℤ (pos 719_162) ≤ℤ day → day ≤ℤ pos 40_000_366
+    → neg_ℤ (pos 719_162) ≤ℤ end → end ≤ℤ pos 40_000_000 → to_z w64 (of_z w64 from) ≡ int_min day end'
+least_first day end end' from is e low high above below =
+    let d : to_z w64 (of_z w64 day) ≡ day = back day (omega (arith, ints, low)) (omega (arith, ints, high)) in
+    let least : from ≡ int_min day end' = rw d at is in
+    back from (omega (arith, ints, clamps, least, e, low, above)) (omega (arith, ints, clamps, least, e, below)) ∙ least
+
+-- the first day of the year after that of a day, or the end where it comes before
+pub first_step : (first end from : ℤ) → first <ℤ end → from ≡ int_min (first_day_of_year (year_of first +ℤ pos 1)) end
+    → (first <ℤ from) × (from ≤ℤ end) × (from <ℤ end → from ≡ first_day_of_year (year_of first +ℤ pos 1))
+first_step first end from order is =
+    let a = year_after first in
+    (omega (arith, ints, clamps, is, order, a.0), omega (arith, ints, clamps, is), λ l. omega (arith, ints, clamps, is, l))

@@ -1,0 +1,11 @@
+use Rattle.std.proofs.Common.{◌≡◌, ◌+◌, ◌+ℤ◌, length, pos, take}
+use Rattle.rr_model.specs.Moment.{day_part}
+use Rattle.rr_fold.specs.Folding.{IsFoldedTo}
+use Rattle.rr_fold.specs.Rules.{members_of_rules}
+use Rattle.rr_fold.proofs.rules.days_of_rules.Given as goal
+
+abbrev pub invariant-loop-rule : goal.invariant-loop-rule
+invariant-loop-rule l =
+    IsFoldedTo (members_of_rules l.series.kind l.series.start (take (l.rule-index + 1) l.series.rules)) (day_part l.series.kind l.series.start) l.fn.end
+    l.days.shapes l.days.numbers.items
+    × (l.fn.end ≡ day_part l.series.kind l.series.start +ℤ pos (length l.days.numbers.items))

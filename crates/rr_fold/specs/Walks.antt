@@ -1,0 +1,18 @@
+-- The days of an iterator, folded up to its position.
+use Rattle.std.specs.Prelude.{◌≡◌, [], ◌∷◌, ℤ}
+use Rattle.rr_model.specs.Sets.Tree.{Tree}
+use Rattle.rr_fold.specs.Folding.{IsFoldedTo}
+use Rattle.rr_fold.specs.Numbering.{IsKnown}
+use Rattle.rr_fold.specs.declared.walk.Walk.{Walk}
+
+-- the days from the first one on are folded up to the position, and what is known of the table's sets are numbers of theirs
+pub record IsWalk (tree : Tree) (first position : ℤ) (walk : Walk) : Type 0 where
+  pub known : IsKnown walk.numbering.sets walk.days.shapes walk.numbering.known.items
+  pub folded : IsFoldedTo tree first position walk.days.shapes walk.days.numbers.items
+
+-- no day is folded, and no set is known but the empty one
+pub record IsNewWalk (walk : Walk) : Type 0 where
+  pub sets : walk.numbering.sets ≡ []
+  pub known : walk.numbering.known.items ≡ []
+  pub shapes : walk.days.shapes ≡ [] ∷ []
+  pub numbers : walk.days.numbers.items ≡ []

@@ -1,0 +1,83 @@
+// The days of a series of endless rules alone, rule by rule.
+ghost use Rattle.std.specs.Prelude.{◌≡◌, ◌<ℤ◌, ◌≤ℤ◌, ◌+ℤ◌, IfOk, length, pos, true};
+ghost use Rattle.rr_model.specs.Moment.{day_part};
+ghost use Rattle.rr_model.specs.Moment.Years.{IsInYears};
+ghost use Rattle.rr_model.specs.Rule.Validity.{IsValidRule};
+ghost use Rattle.rr_model.specs.Series.Tree.{tree_of};
+ghost use Rattle.rr_model.specs.Sets.Tree.{chosen_of};
+ghost use Rattle.rr_fold.specs.Folding.{IsFoldedTo};
+ghost use Rattle.rr_fold.specs.Rules.{AreEndless, HasRulesAlone};
+
+use crate::fill::{FoldedDays, collected};
+use crate::united::united;
+use crate::years::{days_by_years, repeats_by_years};
+use rr_check::Checked;
+use rr_iter::RuleLazy;
+use rr_model::{End, Fault, Kind, Rule, Series, day_part};
+use std::alloc::Global;
+
+/// Whether a series has endless rules alone, at least one and no dates, and its start lies on a day.
+pub fn has_rules_alone(series: &Series, first: i64) -> bool
+    ensures { result ≡ true → HasRulesAlone series.now first }
+{
+    let rules = series.rules.as_slice();
+    !rules.is_empty()
+        && series.plus.is_empty()
+        && series.minus.is_empty()
+        && first == day_part(series.kind, series.start)
+        && are_endless(rules)
+}
+
+// Whether no rule has an end.
+fn are_endless(rules: &[Rule]) -> bool
+    ensures { result ≡ true → AreEndless rules.now }
+{
+    for rule in rules {
+        match rule.end {
+            End::Never => {}
+            _ => return false,
+        }
+    }
+    true
+}
+
+/// The days of a series of endless rules alone, from its start's day on and below another. They are the union of the days
+/// of each rule; unlike that of the series itself, a rule's days or those of some rules may be refused as `TooManyMoments`.
+pub fn days_of_rules(alloc: Global, series: &Checked, end: i64) -> Result<FoldedDays, Fault>
+    requires alone { HasRulesAlone series.now (day_part series.now.kind series.now.start) }
+    requires order { day_part series.now.kind series.now.start <ℤ end }
+    requires high { end ≤ℤ pos 40_000_000 }
+    ensures folded { IfOk result (λ days. IsFoldedTo (tree_of series.now) (day_part series.now.kind series.now.start) end days.shapes days.numbers.items) }
+    ensures whole { IfOk result (λ days. end ≡ day_part series.now.kind series.now.start +ℤ pos (length days.numbers.items)) }
+{
+    let given = series.series();
+    let rules = given.rules.as_slice();
+    let mut days = days_of_rule(alloc, &rules[0], given.kind, given.start, end)?;
+    for rule in &rules[1..] {
+        let more = days_of_rule(alloc, rule, given.kind, given.start, end)?;
+        days = united(alloc, days, &more)?;
+    }
+    Ok(days)
+}
+
+// The days that a rule chooses, from its start's day on and below another.
+fn days_of_rule(
+    alloc: Global,
+    rule: &Rule,
+    kind: Kind,
+    start: i64,
+    end: i64,
+) -> Result<FoldedDays, Fault>
+    requires valid { IsValidRule kind rule.now }
+    requires in_years { IsInYears kind start }
+    requires order { day_part kind start <ℤ end }
+    requires high { end ≤ℤ pos 40_000_000 }
+    ensures folded { IfOk result (λ days. IsFoldedTo (chosen_of rule.now kind start) (day_part kind start) end days.shapes days.numbers.items) }
+    ensures whole { IfOk result (λ days. end ≡ day_part kind start +ℤ pos (length days.numbers.items)) }
+{
+    if repeats_by_years(rule) {
+        return days_by_years(alloc, rule, kind, start, end);
+    }
+    let lazy = RuleLazy::new(alloc, rule, kind, start)?;
+    collected(alloc, lazy, day_part(kind, start), end)
+}

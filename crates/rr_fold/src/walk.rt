@@ -1,0 +1,122 @@
+// The days of an iterator, folded up to its position.
+ghost use Rattle.std.specs.Prelude.{◌≡◌, ◌+◌, ◌≤◌, IfOk, OnOk, length, pos, neg_ℤ, ◌≤ℤ◌, ◌<ℤ◌, ◌+ℤ◌};
+ghost use Rattle.rr_model.specs.Answers.{RefusedExactlyWhere};
+ghost use Rattle.rr_model.specs.Series.Limits.{HasTooManyMoments};
+ghost use Rattle.rr_model.specs.declared.refusal.Refusal.TheVariants.{TooManyMoments};
+ghost use Rattle.rr_fold.specs.Folding.{IsFoldedTo, IsPut};
+ghost use Rattle.rr_fold.specs.Numbering.{IsKnown};
+ghost use Rattle.rr_fold.specs.Walks.{IsNewWalk, IsWalk};
+
+use crate::fill::{FoldedDays, days_between};
+use crate::numbering::Numbering;
+use rr_lazy::Lazy;
+use rr_model::{Fault, NoMemory};
+use rr_shapes::Shapes;
+use std::alloc::Global;
+
+// The days that were walked, beside the numbers of the sets on which the iterator draws.
+#[derive(Drop)]
+pub(crate) struct Walk {
+    pub(crate) numbering: Numbering,
+    pub(crate) days: FoldedDays,
+}
+
+impl Walk {
+    // Nothing is walked yet; there is room for so many days.
+    pub(crate) fn new(alloc: Global, days: usize) -> Result<Walk, NoMemory>
+        ensures { IfOk result IsNewWalk }
+    {
+        let shapes = Shapes::with_empty_set(alloc)?;
+        let numbers = Vec::with_capacity(alloc, days)?;
+        Ok(Walk {
+            numbering: Numbering::new(alloc),
+            days: FoldedDays { numbers, shapes },
+        })
+    }
+
+    // Walks an iterator up to a day, from where it stands on; the first one is the day of the first number.
+    pub(crate) fn walk_to<L: Lazy>(
+        &mut self,
+        alloc: Global,
+        lazy: &mut L,
+        first: i64,
+        end: i64,
+    ) -> Result<(), Fault>
+        requires low { neg_ℤ (pos 719_162) ≤ℤ first }
+        requires order { first <ℤ end }
+        requires high { end ≤ℤ pos 40_000_000 }
+        requires position { L.position lazy.old ≤ℤ end }
+        requires knows { L.knows lazy.old self.old.numbering.sets }
+        requires walk { IsWalk (L.tree lazy.old) first (L.position lazy.old) self.old }
+        ensures same { OnOk result (L.tree lazy.new ≡ L.tree lazy.old) }
+        ensures position { OnOk result (L.position lazy.new ≡ end) }
+        ensures knows { OnOk result (L.knows lazy.new self.new.numbering.sets) }
+        ensures walk { OnOk result (IsWalk (L.tree lazy.old) first end self.new) }
+        ensures whole { OnOk result (end ≡ first +ℤ pos (length self.new.days.numbers.items)) }
+        ensures refused { RefusedExactlyWhere (HasTooManyMoments (L.tree lazy.old) end) TooManyMoments result }
+    {
+        match fill(
+            alloc,
+            lazy,
+            first,
+            end - 1,
+            &mut self.numbering,
+            &mut self.days.shapes,
+            &mut self.days.numbers,
+        ) {
+            Ok(()) => {}
+            Err(fault) => return Err(fault),
+        }
+        self.days.numbers.resize(days_between(first, end), 0)?;
+        Ok(())
+    }
+}
+
+// Folds the occupied days of an iterator up to a day, from where it stands on.
+fn fill<L: Lazy>(
+    alloc: Global,
+    lazy: &mut L,
+    first: i64,
+    to: i64,
+    numbering: &mut Numbering,
+    shapes: &mut Shapes,
+    numbers: &mut Vec<u32>,
+) -> Result<(), Fault>
+    requires low { neg_ℤ (pos 2_999_999_999_000) ≤ℤ to }
+    requires high { to ≤ℤ pos 2_999_999_999_000 }
+    requires first { first ≤ℤ to }
+    requires begun { neg_ℤ (pos 2_999_999_999_000) ≤ℤ first }
+    requires position { L.position lazy.old ≤ℤ (to +ℤ pos 1) }
+    requires knows { L.knows lazy.old numbering.old.sets }
+    requires known { IsKnown numbering.old.sets shapes.old numbering.old.known.items }
+    requires folded { IsFoldedTo (L.tree lazy.old) first (L.position lazy.old) shapes.old numbers.old.items }
+    ensures folded { OnOk result (IsFoldedTo (L.tree lazy.old) first (to +ℤ pos 1) shapes.new numbers.new.items) }
+    ensures same { OnOk result (L.tree lazy.new ≡ L.tree lazy.old) }
+    ensures position { OnOk result (L.position lazy.new ≡ to +ℤ pos 1) }
+    ensures knows { OnOk result (L.knows lazy.new numbering.new.sets) }
+    ensures known { OnOk result (IsKnown numbering.new.sets shapes.new numbering.new.known.items) }
+    ensures refused { RefusedExactlyWhere (HasTooManyMoments (L.tree lazy.old) (to +ℤ pos 1)) TooManyMoments result }
+{
+    'days: loop {
+        match lazy.next(alloc, &mut numbering.sets, to)? {
+            None => return Ok(()),
+            Some(found) => {
+                let place = days_between(first, found.day);
+                match numbering.number_of(alloc, found, shapes) {
+                    Ok(number) => put(numbers, place, number)?,
+                    Err(fault) => return Err(fault),
+                }
+            }
+        }
+    }
+}
+
+// Puts a number at its place, and 0, the number of the empty set, at each place before it that has none yet.
+fn put(numbers: &mut Vec<u32>, place: usize, number: u32) -> Result<(), NoMemory>
+    requires { length numbers.old.items ≤ place }
+    ensures { OnOk result (IsPut numbers.old.items place number numbers.new.items) }
+{
+    numbers.resize(place, 0)?;
+    numbers.push(number)?;
+    Ok(())
+}
