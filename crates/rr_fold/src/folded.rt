@@ -42,8 +42,9 @@ pub struct Folded {
 ///
 /// `CountedTooFar` where a rule counts a member more than `MAX_SPAN_DAYS` days after its start, and else
 /// `TooManyMoments` where the distinct time sets up to a cycle past the settled day have together more than
-/// `MAX_SECONDS` seconds. It walks each of these days once, of a single rule with COUNT those of a few cycles alone,
-/// and keeps four bytes for each.
+/// `MAX_SECONDS` seconds. It keeps four bytes for each of these days, and eight while it unites the days of two rules. Of a
+/// single rule with COUNT the days of a few cycles are walked, and of an endless rule that leaves no unit out those of one
+/// year of each key; the others are copied.
 pub fn fold(alloc: Global, series: &Checked) -> Result<Folded, Fault>
     requires few { series_cycle series.now ≤ 16_777_216 }
     ensures stands { IfOk result (λ f. StandsFor (⟦<Folded as DaySeq>⟧.sketch f) (Occurs series.now)) }

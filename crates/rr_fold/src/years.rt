@@ -19,7 +19,7 @@ use rr_lazy::Lazy;
 use rr_model::{Fault, Freq, Kind, NoMemory, Rule, day_part};
 use std::alloc::Global;
 
-// How many keys of years there are.
+// How many keys of years there are: each `mask_key` is below.
 const KEYS: usize = 56;
 
 /// Whether a rule has the same days in each year of one key: it is of whole days, leaves no unit out, and its set
