@@ -1,6 +1,9 @@
 // Pairs of time sets that showed nothing, by their numbers.
-ghost use Rattle.std.specs.Prelude.{◌≡◌, ◌⊎◌, ◌<◌, ◌≤◌, ℕ, IsTrue, Some, length, get_or};
+ghost use Rattle.std.specs.Prelude.{◌≡◌, ◌+◌, ◌⊎◌, ◌<◌, ◌≤◌, ℕ, IsTrue, Some, length, get_or};
 ghost use Rattle.rr_decide.specs.Quiet.{AreRemembered, HasPair, IsRemembered};
+
+// How many places make a block.
+const BLOCK: usize = 16;
 
 /// The numbers of two time sets, one of each sequence.
 #[derive(Clone, Copy)]
@@ -29,6 +32,8 @@ impl Quiet {
     }
 
     /// At how many places from the first one on, of at most so many, two rows have one of the pairs.
+    ///
+    /// Whole blocks of places are compared at a time, and place by place only where a block has another pair.
     pub fn count(self, xs: &[u32], ys: &[u32], most: usize) -> usize
         ensures first { result ≤ length xs.now }
         ensures second { result ≤ length ys.now }
@@ -36,12 +41,48 @@ impl Quiet {
         ensures has { (k : ℕ) → k < result → HasPair self (get_or xs.now k 0) (get_or ys.now k 0) }
     {
         let end = xs.len().min(ys.len()).min(most);
-        for place in 0..end {
+        if end == 0 || !self.has(xs[0], ys[0]) {
+            return 0;
+        }
+        let mut from = 0;
+        while end - from >= BLOCK {
+            if !self.has_block(xs, ys, from) {
+                return self.count_from(xs, ys, from, end);
+            }
+            from += BLOCK;
+        }
+        self.count_from(xs, ys, from, end)
+    }
+
+    // The first place from one on, and before an end, at which two rows have neither pair; the end where there is none.
+    fn count_from(self, xs: &[u32], ys: &[u32], from: usize, end: usize) -> usize
+        requires first { end ≤ length xs.now }
+        requires second { end ≤ length ys.now }
+        requires order { from ≤ end }
+        requires before { (k : ℕ) → k < from → HasPair self (get_or xs.now k 0) (get_or ys.now k 0) }
+        ensures most { result ≤ end }
+        ensures has { (k : ℕ) → k < result → HasPair self (get_or xs.now k 0) (get_or ys.now k 0) }
+    {
+        for place in from..end {
             if !self.has(xs[place], ys[place]) {
                 return place;
             }
         }
         end
+    }
+
+    // Whether two rows have one of the pairs at each place of the block that begins at one. No place is left out, so that several
+    // are compared at once.
+    fn has_block(self, xs: &[u32], ys: &[u32], from: usize) -> bool
+        requires first { from + 16 ≤ length xs.now }
+        requires second { from + 16 ≤ length ys.now }
+        ensures { IsTrue result → (k : ℕ) → from ≤ k → k < from + 16 → HasPair self (get_or xs.now k 0) (get_or ys.now k 0) }
+    {
+        let mut all = true;
+        for place in from..from + BLOCK {
+            all = self.has(xs[place], ys[place]) & all;
+        }
+        all
     }
 }
 

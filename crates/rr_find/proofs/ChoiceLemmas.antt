@@ -1,5 +1,5 @@
 -- What each step of the choice keeps.
-use Rattle.std.proofs.Common.{◌≡◌, ℕ, suc, ◌+◌, ◌<◌, ◌≤◌, ◌==◌, Bool, true, false, cond, List, [], ◌∷◌, Option, None, Some, inl, inr, refl, sym, ap, ◌∙◌, arith}
+use Rattle.std.proofs.Common.{◌≡◌, ℕ, zero, suc, ◌+◌, ◌-◌, ◌<◌, ◌≤◌, ◌==◌, Bool, true, false, cond, List, [], ◌∷◌, Option, None, Some, inl, inr, refl, sym, ap, ◌∙◌, arith}
 use Rattle.std.specs.Prelude.{◌⊎◌, nat_lt}
 use Rattle.std.proofs.lemmas.Bool.Decides.{nat_tests}
 use Rattle.rr_family.specs.Places.{item_at, many_items}
@@ -7,7 +7,7 @@ use Rattle.rr_family.specs.Sorts.{many_sorts, has_sort}
 use Rattle.rr_family.specs.Tally.{sum_below}
 use Rattle.rr_find.specs.ByCounts.{days_of_place, gain_of_place, best_below, best_place, days_left, number_at, AreTakenSoFar, IsTakenFrom, IsClear, AreTaken}
 use Rattle.rr_find.proofs.BestLemmas.{best_suc}
-use Rattle.rr_find.proofs.TakenLemmas.{sum_same, sum_suc, sum_parts, some_days, left_after}
+use Rattle.rr_find.proofs.TakenLemmas.{sum_same, sum_suc, sum_zero, sum_parts, some_days, left_after}
 use Rattle.rr_model.specs.Rising.{with_value}
 use Rattle.rr_model.specs.Vcal.Items.{item_lt}
 use Rattle.rr_model.specs.declared.item.Item.{Item}
@@ -106,3 +106,42 @@ best_next number n best best' most most' days is of_best of_n (inr w) =
       w.1 ∙ is ∙ sym (ap (best_below number) s ∙ best_suc number n ∙ ap (λ b. cond b (Some n) (best_below number n)) not_more),
       w.2 ∙ of_best ∙ sym (ap (number_at number) w.1),
     )
+
+-- ---- a sum of which one number stays
+
+own_number : (place x : ℕ) → cond (place == place) x 0 ≡ x
+own_number place x = (let e : (place == place) ≡ true = grind (arith, nat_tests) in ap (λ b. cond b x 0) e)
+
+no_number : (place k x : ℕ) → k < place → cond (place == k) x 0 ≡ 0
+no_number place k x l = (let e : (place == k) ≡ false = grind (arith, nat_tests) in ap (λ b. cond b x 0) e)
+
+later_number : (place k x : ℕ) → place < k → cond (place == k) x 0 ≡ 0
+later_number place k x l = (let e : (place == k) ≡ false = grind (arith, nat_tests) in ap (λ b. cond b x 0) e)
+
+sum_before : (n place : ℕ) (number : ℕ → ℕ) → n ≤ place → sum_below n (λ k. cond (place == k) (number k) 0) ≡ 0
+sum_before zero place number l = sum_zero _
+sum_before (suc n) place number l =
+    omega (arith, sum_suc n (λ k. cond (place == k) (number k) 0), sum_before n place number (omega (arith, l)), no_number place n (number n) (omega (arith, l)))
+
+sum_through : (n place : ℕ) (number : ℕ → ℕ) → sum_below ((place + 1) + n) (λ k. cond (place == k) (number k) 0) ≡ number place
+sum_through zero place number =
+    let s : (place + 1) + 0 ≡ suc place = omega arith in
+    ap (λ m. sum_below m (λ k. cond (place == k) (number k) 0)) s
+    ∙ omega (arith, sum_suc place (λ k. cond (place == k) (number k) 0), sum_before place place number (omega arith), own_number place (number place))
+sum_through (suc n) place number =
+    let s : (place + 1) + suc n ≡ suc ((place + 1) + n) = omega arith in
+    ap (λ m. sum_below m (λ k. cond (place == k) (number k) 0)) s
+    ∙ omega (arith, sum_suc ((place + 1) + n) (λ k. cond (place == k) (number k) 0), sum_through n place number, later_number place ((place + 1) + n) (number ((place + 1) + n)) (omega arith))
+
+module _ (f : FamilyKind) (days : ℕ → ℕ) (place : ℕ) (own : (sort place : ℕ) → has_sort f sort place ≡ (place == sort)) where
+  by_numbers : days_of_place f days place ≡ sum_below (many_sorts f) (λ k. cond (place == k) (days k) 0)
+  by_numbers = sum_same (many_sorts f) _ _ (λ k l. ap (λ b. cond b (days k) 0) (own k place))
+
+  pub days_of_own : place < many_sorts f → days_of_place f days place ≡ days place
+  days_of_own l =
+      let n = many_sorts f - (place + 1) in
+      let s : many_sorts f ≡ (place + 1) + n = omega (arith, l) in
+      by_numbers ∙ ap (λ m. sum_below m (λ k. cond (place == k) (days k) 0)) s ∙ sum_through n place days
+
+  pub days_of_none : many_sorts f ≤ place → days_of_place f days place ≡ 0
+  days_of_none l = by_numbers ∙ sum_before (many_sorts f) place days l

@@ -1,13 +1,14 @@
 -- Which rules have the set of a window.
-use Rattle.std.proofs.Common.{◌≡◌, ℕ, ◌<◌, ◌≤◌, ◌%◌, ◌==◌, Bool, true, false, cond, ◌&&◌, List, [], ◌∷◌, Option, None, Some, ℤ, ◌-ℤ◌, ◌≤ℤ◌, inl, inr, refl, sym, ap, subst, ◌∙◌, arith}
+use Rattle.std.proofs.Common.{◌≡◌, ℕ, ◌<◌, ◌≤◌, ◌%◌, ◌==◌, Bool, true, false, not, cond, ◌&&◌, List, [], ◌∷◌, Option, None, Some, ℤ, ◌-ℤ◌, ◌≤ℤ◌, ◌<ℤ◌, inl, inr, refl, sym, ap, subst, ◌∙◌, arith}
 use Rattle.std.specs.Prelude.{◌⊎◌}
 use Rattle.std.specs.List.{Contains}
 use Rattle.std.specs.Ordering.{int_eq}
-use Rattle.std.proofs.lemmas.Int.{ints}
+use Rattle.std.proofs.lemmas.Int.{ints, by_lt_z}
 use Rattle.std.proofs.lemmas.Bool.{eq-eqb, false≢true}
 use Rattle.std.proofs.lemmas.Bool.Decides.{nat_tests}
 use Rattle.std.proofs.lemmas.Nat.Gcd.{dvd_of_mod-eq-zero, mod-eq-zero_of_dvd}
 use Rattle.rr_model.specs.Moment.{day_part, second_part, moment_at}
+use Rattle.rr_model.specs.Rule.Validity.{is_absent}
 use Rattle.rr_model.specs.Sets.Least.{IsEndless, IsLeastStart}
 use Rattle.rr_model.specs.Sets.Sketch.{IsValidSketch, StandsIn, times_on}
 use Rattle.rr_model.specs.Vcal.Members.{family_unit}
@@ -42,7 +43,7 @@ use Rattle.rr_family.proofs.ProfileLemmas.{members_on_days, is_there, no_list_is
 use Rattle.rr_family.proofs.SortLemmas.{kinds_have_sorts}
 use Rattle.rr_family.proofs.TallyLemmas.{unsorted_has_no_list, mixed_has_no_list}
 use Rattle.rr_find.specs.Counted.{HasUnsorted, HasMixed, has_some_sort}
-use Rattle.rr_find.specs.Found.{HasNoRule, HasListedRule, days_up_to, end_of, found_of, is_in_unit}
+use Rattle.rr_find.specs.Found.{HasNoRule, HasListedRule, days_up_to, end_of, found_of, is_in_unit, last_day}
 
 -- the list that is taken has the occupied days of the window
 abbrev pub IsListed : Sketch → FamilyKind → ℕ → ℤ → ℕ → Type 0
@@ -116,6 +117,32 @@ no_rule_if_out s w f interval valid has out rule kind start r same_family same_i
         let same_first = first_is s w rule kind start valid has r in
         let late : day_part kind start ≤ℤ d = (let l = second.0 in omega (arith, ints, same_first, l)) in
         let given = (rule_days s rule kind start valid r).1 d d late (omega (arith, ints)) second.1 ∙ second.1 in
+        let out' : divides rule.interval (family_unit rule.family d -ℤ family_unit rule.family (day_part kind start)) ≡ false =
+        subst (λ g. divides rule.interval (family_unit g d -ℤ family_unit g (day_part kind start)) ≡ false) (sym same_family)
+        (subst (λ n. divides n (family_unit f d -ℤ family_unit f (day_part kind start)) ≡ false) (sym same_interval)
+        (subst (λ x. divides interval (family_unit f d -ℤ family_unit f x) ≡ false) (sym same_first) h)) in
+        false≢true (sym (no_item rule.family rule.interval (day_part kind start) d rule.items out') ∙ given)
+
+-- an occupied day that is not before the first one, and whose unit does not count, has no rule
+pub no_rule_if_last_out : (s : Sketch) (w : Window) (f : FamilyKind) (interval : ℕ) → IsValidSketch s → HasWindow s w
+    → is_in_unit f interval w.first (last_day w.end) ≡ false → HasNoRule s f interval
+no_rule_if_last_out s w f interval valid has out rule kind start r same_family same_interval = of_end w.end has.end out
+  where
+    same_first : day_part kind start ≡ w.first
+    same_first = first_is s w rule kind start valid has r
+
+    last_is_late : (d : ℤ) → is_occupied s d ≡ true → day_part kind start ≤ℤ d
+    last_is_late d occupied =
+        by_lt_z {P = day_part kind start ≤ℤ d} d (day_part kind start)
+        (λ l. absurd (false≢true (sym (ap (λ times. not (is_absent times)) (has.one_second.first_day.1 d (subst (λ x. d <ℤ x) same_first l))) ∙ occupied)))
+        (λ g. g)
+
+    of_end : (end : WindowEnd) → IsWindowEnd s w.first end → is_in_unit f interval w.first (last_day end) ≡ false → ⊥
+    of_end (Cycle period from) last h = false≢true (sym h)
+    of_end (Last d many) last h =
+        let occupied = last.0.occupied in
+        let late : day_part kind start ≤ℤ d = last_is_late d occupied in
+        let given = (rule_days s rule kind start valid r).1 d d late (omega (arith, ints)) occupied ∙ occupied in
         let out' : divides rule.interval (family_unit rule.family d -ℤ family_unit rule.family (day_part kind start)) ≡ false =
         subst (λ g. divides rule.interval (family_unit g d -ℤ family_unit g (day_part kind start)) ≡ false) (sym same_family)
         (subst (λ n. divides n (family_unit f d -ℤ family_unit f (day_part kind start)) ≡ false) (sym same_interval)

@@ -76,6 +76,11 @@ abbrev pub is_in_unit : FamilyKind → ℕ → ℤ → Option ℤ → Bool
 is_in_unit f interval first None = true
 is_in_unit f interval first (Some day) = divides interval (family_unit f day -ℤ family_unit f first)
 
+-- the last day of a finite set
+abbrev pub last_day : WindowEnd → Option ℤ
+last_day (Last day many) = Some day
+last_day (Cycle period start) = None
+
 -- ---- of one interval
 
 -- no rule of this interval whose kind comes before the place has the set

@@ -1,5 +1,5 @@
 // Which items a kind of rule takes, by how many days of each sort a window has.
-ghost use Rattle.std.specs.Prelude.{◌≡◌, ◌↔◌, ◌≤◌, ◌<◌, IsTrue, IfOk, if◌then◌else◌, length, get_or, ℕ};
+ghost use Rattle.std.specs.Prelude.{◌≡◌, ◌==◌, ◌↔◌, ◌≤◌, ◌<◌, IsTrue, IfOk, if◌then◌else◌, length, get_or, ℕ};
 ghost use Rattle.rr_family.specs.Places.{many_items};
 ghost use Rattle.rr_family.specs.Sorts.{has_sort, many_sorts};
 ghost use Rattle.rr_find.specs.ByCounts.{AreTaken, IsClear, IsTakenFrom, best_place, days_of_place, gain_of_place};
@@ -74,6 +74,39 @@ fn gain_of_place(kind: FamilyKind, left: &[u64], free: &[u64], place: u16) -> u6
 
 // How many days the sorts of a place have.
 fn days_of_place(kind: FamilyKind, counts: &[u64], place: u16) -> u64
+    requires place { place < 366 }
+    requires sorts { many_sorts kind ≤ length counts.now }
+    requires few { HasFewDays counts.now }
+    ensures { result ≡ days_of_place kind (λ sort. get_or counts.now sort 0) place }
+{
+    if tells_places(kind) {
+        return days_of_own_sort(kind, counts, place);
+    }
+    days_of_sorts(kind, counts, place)
+}
+
+// Whether each place of the kind has the sort of its own number alone.
+fn tells_places(kind: FamilyKind) -> bool
+    ensures { IsTrue result → (sort place : ℕ) → has_sort kind sort place ≡ (place == sort) }
+{
+    matches!(kind, FamilyKind::W | FamilyKind::YM | FamilyKind::YD)
+}
+
+// How many days the one sort of a place has, where each place has that of its own number alone.
+fn days_of_own_sort(kind: FamilyKind, counts: &[u64], place: u16) -> u64
+    requires own { (sort place : ℕ) → has_sort kind sort place ≡ (place == sort) }
+    requires sorts { many_sorts kind ≤ length counts.now }
+    ensures { result ≡ days_of_place kind (λ sort. get_or counts.now sort 0) place }
+{
+    if place < many_sorts(kind) {
+        counts[usize::from(place)]
+    } else {
+        0
+    }
+}
+
+// How many days the sorts of a place have, sort by sort.
+fn days_of_sorts(kind: FamilyKind, counts: &[u64], place: u16) -> u64
     requires place { place < 366 }
     requires sorts { many_sorts kind ≤ length counts.now }
     requires few { HasFewDays counts.now }

@@ -4,7 +4,7 @@ ghost use Rattle.rr_family.specs.Profile.{most_family_interval};
 ghost use Rattle.rr_family.specs.Shift.{family_cycle};
 ghost use Rattle.rr_family.specs.Walks.{IsNearWindow};
 ghost use Rattle.rr_family.specs.Windows.{HasWindow};
-ghost use Rattle.rr_find.specs.Found.{IsListOf, days_to_read, is_in_unit};
+ghost use Rattle.rr_find.specs.Found.{IsListOf, days_to_read, is_in_unit, last_day};
 
 use crate::choice::taken_items;
 use crate::tallies::tally;
@@ -18,7 +18,7 @@ use std::alloc::Global;
 
 /// The items of a rule of this kind and interval that has the set, or none where no such rule has it.
 ///
-/// The window is that of the set. Its days are read once, and not at all where its period, its start or its second day
+/// The window is that of the set. Its days are read once, and not at all where its period, its start, its second or last day
 /// tells that no such rule has the set.
 pub(crate) fn list_of<A: DaySeq>(
     alloc: Global,
@@ -37,6 +37,9 @@ pub(crate) fn list_of<A: DaySeq>(
         return Ok(None);
     };
     if !is_second_day_in_unit(window, kind, interval) {
+        return Ok(None);
+    }
+    if !is_last_day_in_unit(window, kind, interval) {
         return Ok(None);
     }
     match tally(seq, kind, interval, window.first, days) {
@@ -94,5 +97,19 @@ fn is_second_day_in_unit(window: &Window, kind: FamilyKind, interval: u32) -> bo
     };
     let from = unit_of(kind, &Day::new(window.first));
     let to = unit_of(kind, &Day::new(next));
+    is_congruent(from, to, interval)
+}
+
+// Whether the week, month or year of the last day counts, if there is one.
+fn is_last_day_in_unit(window: &Window, kind: FamilyKind, interval: u32) -> bool
+    requires near { IsNearWindow window.now }
+    requires low { 1 ≤ interval }
+    ensures { result ≡ is_in_unit kind interval window.now.first (last_day window.now.end) }
+{
+    let WindowEnd::Last { day, .. } = window.end else {
+        return true;
+    };
+    let from = unit_of(kind, &Day::new(window.first));
+    let to = unit_of(kind, &Day::new(day));
     is_congruent(from, to, interval)
 }

@@ -72,12 +72,13 @@ fn count_days<A: DaySeq>(
     ensures { IsWalked result occupied.new free.new (sort_of_day kind interval first) (is_occupied (A.sketch seq.now)) first days }
 {
     let start = Day::new(first);
+    let mut day = start;
     for k in 0..days {
-        let number = first + k as i64;
-        let sorted = count_day(seq, kind, interval, &start, number, occupied, free);
+        let sorted = count_day(seq, kind, interval, &start, &day, occupied, free);
         if !sorted {
             return false;
         }
+        day = day.next();
     }
     true
 }
@@ -88,23 +89,22 @@ fn count_day<A: DaySeq>(
     kind: FamilyKind,
     interval: u32,
     start: &Day,
-    number: i64,
+    day: &Day,
     occupied: &mut [u64],
     free: &mut [u64],
 ) -> bool
     requires some { 1 ≤ interval }
-    requires near { IsDayWithin 0 number }
+    requires near { IsDayWithin 0 day.now.number }
     requires sorts { many_sorts kind ≤ length occupied.old }
     requires free_sorts { many_sorts kind ≤ length free.old }
     requires room { (k : ℕ) → get_or occupied.old k 0 < 18_446_744_073_709_551_615 }
     requires free_room { (k : ℕ) → get_or free.old k 0 < 18_446_744_073_709_551_615 }
-    ensures occupied { IsCountedOn occupied.old occupied.new (sort_of_day kind interval start.now.number number) (is_occupied (A.sketch seq.now) number) }
-    ensures free { IsCountedOn free.old free.new (sort_of_day kind interval start.now.number number) (not (is_occupied (A.sketch seq.now) number)) }
-    ensures goes_on { IsDayResult result occupied.new free.new (sort_of_day kind interval start.now.number number) (is_occupied (A.sketch seq.now) number) }
+    ensures occupied { IsCountedOn occupied.old occupied.new (sort_of_day kind interval start.now.number day.now.number) (is_occupied (A.sketch seq.now) day.now.number) }
+    ensures free { IsCountedOn free.old free.new (sort_of_day kind interval start.now.number day.now.number) (not (is_occupied (A.sketch seq.now) day.now.number)) }
+    ensures goes_on { IsDayResult result occupied.new free.new (sort_of_day kind interval start.now.number day.now.number) (is_occupied (A.sketch seq.now) day.now.number) }
 {
-    let day = Day::new(number);
-    let taken = is_occupied(seq, number);
-    match sort_of_day(kind, interval, start, &day) {
+    let taken = is_occupied(seq, day.number);
+    match sort_of_day(kind, interval, start, day) {
         None => !taken,
         Some(sort) => {
             count_at(taken, sort, occupied, free);

@@ -1,5 +1,5 @@
 -- Which patterns agree with a set of occurrences on its window.
-use Rattle.std.specs.Prelude.{◌≡◌, ◌↔◌, ℕ, ◌<◌, ◌≤◌, Bool, ⊤, Option, None, Some, ℤ, ◌≤ℤ◌}
+use Rattle.std.specs.Prelude.{◌≡◌, ◌↔◌, ℕ, ◌<◌, ◌≤◌, Bool, ⊤, Option, None, Some, ℤ, ◌-ℤ◌, ◌≤ℤ◌}
 use Rattle.std.specs.Int.{◌∣◌}
 use Rattle.rr_family.specs.DaySets.{window_days}
 use Rattle.rr_family.specs.Lasting.{is_occupied}
@@ -11,9 +11,10 @@ use Rattle.rr_family.specs.declared.window.WindowEnd.{WindowEnd}
 use Rattle.rr_family.specs.declared.window.WindowEnd.TheVariants.{Last, Cycle}
 use Rattle.rr_graphfind.specs.declared.agreement.Stretch.{Stretch}
 use Rattle.rr_graphfind.specs.declared.members.Places.{Places}
-use Rattle.rr_model.specs.Graph.Occurrences.{is_pattern_day}
+use Rattle.rr_model.specs.Graph.Occurrences.{is_pattern_day, period_of}
 use Rattle.rr_model.specs.Graph.Validity.{IsValidPattern, LiesIfUsed}
 use Rattle.rr_model.specs.Moment.{moment_at}
+use Rattle.rr_model.specs.Whole.{divides}
 use Rattle.rr_model.specs.declared.graph.GraphEvent.{GraphEvent}
 use Rattle.rr_model.specs.declared.graph.Pattern.{Pattern}
 use Rattle.rr_model.specs.declared.graph.RangeEnd.{RangeEnd}
@@ -24,6 +25,10 @@ use Rattle.rr_model.specs.declared.sketch.Sketch.{Sketch}
 pub record Agrees (s : Sketch) (first : ℤ) (days : ℕ) (pattern : Pattern) : Type 0 where
   pub valid : IsValidPattern pattern
   pub agree : AgreeWithin (is_pattern_day pattern first) (is_occupied s) first days
+
+-- the period of the day counts from that of the first day on
+abbrev pub counts_on : Pattern → ℤ → ℤ → Bool
+counts_on pattern first d = divides pattern.interval (period_of pattern.form pattern.first_day d -ℤ period_of pattern.form pattern.first_day first)
 
 -- of an endless set, the least period divides the cycle and the least start is the first day
 abbrev pub FitsEnd : WindowEnd → ℤ → ℕ → Type 0

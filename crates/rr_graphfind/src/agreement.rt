@@ -19,12 +19,15 @@ pub(crate) struct Stretch {
     pub start: Day,
     /// One of them that tells many patterns apart, which is compared before the others.
     pub probe: Day,
+    /// The last of them.
+    pub last: Day,
     /// How many they are.
     pub days: u64,
     ghost near: { IsNearDay start.number },
     ghost few: { days ≤ 4_000_000_000 },
     ghost not_early: { start.number ≤ℤ probe.number },
     ghost not_late: { probe.number <ℤ (start.number +ℤ pos days) },
+    ghost last_is: { last.number +ℤ pos 1 ≡ start.number +ℤ pos days },
 }
 
 /// Whether the pattern's days, counted from the first day, are the occupied ones of the stretch.
@@ -48,11 +51,12 @@ fn agrees_throughout<A: DaySeq>(seq: &A, pattern: &Pattern, start: &Day, days: u
     requires few { days ≤ 4_000_000_000 }
     ensures { IsTrue result ↔ AgreeWithin (is_pattern_day pattern.now start.now.number) (is_occupied (A.sketch seq.now)) start.now.number days }
 {
+    let mut day = *start;
     for k in 0..days {
-        let day = Day::new(start.number + k as i64);
         if !is_alike(seq, pattern, start, &day) {
             return false;
         }
+        day = day.next();
     }
     true
 }

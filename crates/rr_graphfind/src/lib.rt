@@ -3,6 +3,7 @@
 
 mod agreement;
 mod members;
+mod pruning;
 mod search;
 
 pub use search::graph_of;

@@ -7,6 +7,7 @@ ghost use Rattle.rr_model.specs.Graph.Uses.{uses_day_of_month, uses_days, uses_f
 ghost use Rattle.rr_model.specs.Graph.Validity.{IsValidPattern};
 
 use crate::agreement::{Stretch, agrees};
+use crate::pruning::{is_out_of_month, is_out_of_period};
 use rr_model::{Form, Pattern};
 use rr_word::DaySeq;
 
@@ -27,11 +28,26 @@ pub(crate) fn try_first_days<A: DaySeq>(
             first_day: weekday_from_sunday(place),
             ..*draft
         };
-        if let Some(found) = try_days_of_month(seq, stretch, &with) {
+        if let Some(found) = try_first_day(seq, stretch, &with) {
             return Some(found);
         }
     }
     None
+}
+
+// Of those that also have its first day of the week. None are tried where an occupied day lies in a period that does not
+// count: the one that tells many patterns apart, or the last one.
+fn try_first_day<A: DaySeq>(seq: &A, stretch: &Stretch, draft: &Pattern) -> Option<Pattern>
+    requires { IsValidPattern draft.now }
+    ensures { IsFirstWith 3 draft.now (Agrees (A.sketch seq.now) stretch.now.start.number stretch.now.days) result }
+{
+    if is_out_of_period(seq, draft, &stretch.start, &stretch.probe) {
+        return None;
+    }
+    if is_out_of_period(seq, draft, &stretch.start, &stretch.last) {
+        return None;
+    }
+    try_days_of_month(seq, stretch, draft)
 }
 
 // Of those that also have its first day of the week.
@@ -60,11 +76,22 @@ fn try_months<A: DaySeq>(seq: &A, stretch: &Stretch, draft: &Pattern) -> Option<
     let places = places_of(uses_month(draft.form), 1, 12, 0);
     for month in places.from..places.to {
         let with = Pattern { month, ..*draft };
-        if let Some(found) = try_indexes(seq, stretch, &with) {
+        if let Some(found) = try_month(seq, stretch, &with) {
             return Some(found);
         }
     }
     None
+}
+
+// Of those that also have its month. None are tried where the first day lies in another.
+fn try_month<A: DaySeq>(seq: &A, stretch: &Stretch, draft: &Pattern) -> Option<Pattern>
+    requires { IsValidPattern draft.now }
+    ensures { IsFirstWith 5 draft.now (Agrees (A.sketch seq.now) stretch.now.start.number stretch.now.days) result }
+{
+    if is_out_of_month(seq, draft, &stretch.start) {
+        return None;
+    }
+    try_indexes(seq, stretch, draft)
 }
 
 // Of those that also have its month.

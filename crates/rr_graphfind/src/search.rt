@@ -156,6 +156,7 @@ fn stretch_of(window: &Window, cycle: u64) -> Option<Stretch>
     Some(Stretch {
         start: Day::new(window.first),
         probe: Day::new(probe_day(window, days)),
+        last: Day::new(window.first + (days - 1) as i64),
         days,
     })
 }

@@ -21,23 +21,25 @@ pub(crate) fn is_named(text: &[u8], word: &[u8]) -> bool
     is_same_name(name, word)
 }
 
+// The kind of a line. Its name is read once.
 #[tactic(auto, unfolding(rr_model::specs::Text::UsedLines::line_kind))]
 pub(crate) fn line_kind(text: &[u8]) -> LineKind
     ensures { result ≡ line_kind text.now }
 {
-    if is_named(text, b"BEGIN") {
+    let (name, _) = name_and_rest(text);
+    if is_same_name(name, b"BEGIN") {
         LineKind::Begin
-    } else if is_named(text, b"END") {
+    } else if is_same_name(name, b"END") {
         LineKind::End
-    } else if is_named(text, b"DTSTART") {
+    } else if is_same_name(name, b"DTSTART") {
         LineKind::Property(LineName::Dtstart)
-    } else if is_named(text, b"RRULE") {
+    } else if is_same_name(name, b"RRULE") {
         LineKind::Property(LineName::Rrule)
-    } else if is_named(text, b"RDATE") {
+    } else if is_same_name(name, b"RDATE") {
         LineKind::Property(LineName::Rdate)
-    } else if is_named(text, b"EXDATE") {
+    } else if is_same_name(name, b"EXDATE") {
         LineKind::Property(LineName::Exdate)
-    } else if is_named(text, b"EXRULE") {
+    } else if is_same_name(name, b"EXRULE") {
         LineKind::Property(LineName::Exrule)
     } else {
         LineKind::Other

@@ -9,6 +9,7 @@ use Rattle.rr_find.proofs.tallies.count_days.Goals as goal
 
 pub loop-k-init : goal.loop-k-init
 loop-k-init g c = (
+  omega (arith, ints),
   c.requires.sorts,
   c.requires.free_sorts,
   nothing_tallied c.args.occupied.now c.args.free.now (sort_of_day c.args.kind c.args.interval (to_z w64 (of_z w64 c.args.first))) (is_occupied
@@ -17,36 +18,38 @@ loop-k-init g c = (
 
 pub count_day-sorted-requires-clause-room : goal.count_day-sorted-requires-clause-room
 count_day-sorted-requires-clause-room g c =
-    room c.loop-k.occupied _ _ _ c.loop-k.k c.loop-k.invariant.2.of_occupied (omega (arith, c.requires.few, c.loop-k-test.true))
+    room c.loop-k.occupied _ _ _ c.loop-k.k c.loop-k.invariant.3.of_occupied (omega (arith, c.requires.few, c.loop-k-test.true))
 
 pub count_day-sorted-requires-clause-free_room : goal.count_day-sorted-requires-clause-free_room
 count_day-sorted-requires-clause-free_room g c =
-    room c.loop-k.free _ _ _ c.loop-k.k c.loop-k.invariant.2.of_free (omega (arith, c.requires.few, c.loop-k-test.true))
+    room c.loop-k.free _ _ _ c.loop-k.k c.loop-k.invariant.3.of_free (omega (arith, c.requires.few, c.loop-k-test.true))
 
 pub returns-then-not-sorted : goal.returns-then-not-sorted
 returns-then-not-sorted g c =
     let first : to_z w64 (of_z w64 c.args.first) ≡ c.args.first = to_z-of_z w64 c.args.first c.ranges.first in
     let counted = c.count_day-sorted.ensures in
+    let at = c.loop-k.invariant.0 in
+    let start = c.new-start.ensures in
     subst (λ z. HasUnsorted (sort_of_day c.args.kind c.args.interval z) (is_occupied (g.A.DaySeq.sketch c.args.seq.now)) z c.args.days ⊎ HasMixed
     (sort_of_day c.args.kind c.args.interval z) (is_occupied (g.A.DaySeq.sketch c.args.seq.now)) z c.args.days) first
     (lost_there c.args.kind c.args.interval _ (to_z w64 (of_z w64 c.args.first)) _ (is_occupied (g.A.DaySeq.sketch c.args.seq.now)) _ _ _ _
     c.loop-k.k c.args.days c.count_day-sorted.result
-    (omega (arith, ints, c.new-start.ensures)) (omega (arith, ints)) (omega (
+    (omega (arith, ints, start)) (omega (arith, ints, start, at)) (omega (
       arith,
       c.loop-k-test.true,
-    )) c.loop-k.invariant.2 counted.occupied counted.free counted.goes_on c.if-not-sorted.true)
+    )) c.loop-k.invariant.3 counted.occupied counted.free counted.goes_on c.if-not-sorted.true)
 
 pub loop-k-preserved : goal.loop-k-preserved
 loop-k-preserved g c =
-    let counted = c.count_day-sorted.ensures in (
-      subst (λ n. many_sorts c.args.kind ≤ n) (sym counted.occupied.0) c.loop-k.invariant.0,
-      subst (λ n. many_sorts c.args.kind ≤ n) (sym counted.free.0) c.loop-k.invariant.1,
+    let counted = c.count_day-sorted.ensures in
+    let at = c.loop-k.invariant.0 in
+    let start = c.new-start.ensures in (
+      omega (arith, ints, at, c.next-day.ensures),
+      subst (λ n. many_sorts c.args.kind ≤ n) (sym counted.occupied.0) c.loop-k.invariant.1,
+      subst (λ n. many_sorts c.args.kind ≤ n) (sym counted.free.0) c.loop-k.invariant.2,
       tallied_more c.args.kind c.args.interval _ (to_z w64 (of_z w64 c.args.first)) _ (is_occupied (g.A.DaySeq.sketch c.args.seq.now)) _ _ _ _
           c.loop-k.k c.count_day-sorted.result
-          (omega (arith, ints, c.new-start.ensures)) (omega (
-            arith,
-            ints,
-          )) c.loop-k.invariant.2 counted.occupied counted.free counted.goes_on c.if-not-sorted.false,
+          (omega (arith, ints, start)) (omega (arith, ints, start, at)) c.loop-k.invariant.3 counted.occupied counted.free counted.goes_on c.if-not-sorted.false,
     )
 
 pub returns : goal.returns
@@ -56,4 +59,4 @@ returns g c =
     subst (λ z. IsTallied c.loop-k.occupied c.loop-k.free (sort_of_day c.args.kind c.args.interval z) (is_occupied (g.A.DaySeq.sketch
     c.args.seq.now)) z c.args.days) first
     (subst (λ n. IsTallied c.loop-k.occupied c.loop-k.free (sort_of_day c.args.kind c.args.interval (to_z w64 (of_z w64 c.args.first))) (is_occupied
-    (g.A.DaySeq.sketch c.args.seq.now)) (to_z w64 (of_z w64 c.args.first)) n) all c.loop-k.invariant.2)
+    (g.A.DaySeq.sketch c.args.seq.now)) (to_z w64 (of_z w64 c.args.first)) n) all c.loop-k.invariant.3)

@@ -21,8 +21,8 @@ weekday_from_sunday-requires g c =
     let most = most_place c.uses_first_day.result 0 6 0 place (omega arith) ((places.ensures place).1 (c.loop-place.auto.place, c.loop-place-test.true)) in
     omega (arith, most)
 
-pub try_days_of_month-requires : goal.try_days_of_month-requires
-try_days_of_month-requires g c =
+pub try_first_day-requires : goal.try_first_day-requires
+try_first_day-requires g c =
     let p = c.args.draft.now in
     let v = c.requires in
     let place = c.loop-place.place in

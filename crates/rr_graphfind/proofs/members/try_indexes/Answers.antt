@@ -1,9 +1,10 @@
-use Rattle.std.proofs.Common.{◌≡◌, refl, ap, ◌∙◌, arith, w8, to_z, of_z}
+use Rattle.std.proofs.Common.{◌≡◌, refl, ap, subst, ◌∙◌, arith, w8, to_z, of_z}
 use Rattle.std.proofs.lemmas.Int.{ints}
 use Rattle.rr_model.specs.Graph.Uses.{uses_index}
 use Rattle.rr_family.specs.GraphProfile.{index_place}
+use Rattle.rr_graphfind.specs.Order.{IsFirstWith}
 use Rattle.rr_graphfind.specs.Search.{Agrees}
-use Rattle.rr_graphfind.proofs.OrderLemmas.{none_yet, found_first, none_at_all}
+use Rattle.rr_graphfind.proofs.OrderLemmas.{none_yet, none_next, found_first, none_at_all}
 use Rattle.rr_graphfind.proofs.MemberLemmas.{in_places, pattern_with, valid_with, lies_in, most_place, index_low, index_of_place, place_of_index}
 use Rattle.rr_graphfind.proofs.members.try_indexes.Goals as goal
 
@@ -50,6 +51,21 @@ returns-in-Some g c =
     let with = pattern_with p p.first_day p.day_of_month p.month p.days (to_z w8 (of_z w8 c.index_at.result)) in
     found_first 5 (omega arith) p (Agrees (g.A.DaySeq.sketch c.args.seq.now) c.args.stretch.now.start.number c.args.stretch.now.days) place with
     c.in-Some.found (refl, (refl, (refl, (refl, (refl, tt))))) (ap index_place as_read ∙ at.place) c.in-Some.ensures c.loop-place.invariant
+
+pub loop-place-preserved : goal.loop-place-preserved
+loop-place-preserved g c =
+    let p = c.args.draft.now in
+    let place = c.loop-place.place in
+    let at = c.index_at.ensures in
+    let few = at.few in
+    let most = most_place c.uses_index.result 1 5 1 place (omega arith) ((c.places_of-places.ensures place).1 (c.loop-place.auto.place, c.loop-place-test.true)) in
+    let low = index_low c.index_at.result place most at.place in
+    let as_read : to_z w8 (of_z w8 c.index_at.result) ≡ c.index_at.result = omega (arith, ints, few, low) in
+    let with = pattern_with p p.first_day p.day_of_month p.month p.days (to_z w8 (of_z w8 c.index_at.result)) in
+    none_next 5 (omega arith) p (Agrees (g.A.DaySeq.sketch c.args.seq.now) c.args.stretch.now.start.number c.args.stretch.now.days) place with
+    (refl, (refl, (refl, (refl, (refl, tt))))) (ap index_place as_read ∙ at.place)
+    (subst (λ found. IsFirstWith 6 with (Agrees (g.A.DaySeq.sketch c.args.seq.now) c.args.stretch.now.start.number c.args.stretch.now.days) found)
+    c.in_default.is c.try_days.ensures) c.loop-place.invariant
 
 pub returns : goal.returns
 returns g c =
