@@ -1,6 +1,7 @@
 mod PartsExamples
 pub mod ChoiceLemmas
 pub mod DayLemmas
+pub mod FitLemmas
 pub mod NthLemmas
 pub mod PositionLemmas
 pub mod ProductLemmas

@@ -1,4 +1,4 @@
-use Rattle.std.proofs.Common.{◌≡◌, ◌+◌, ◌<◌, ℤ, List, get_or, length, refl, ap, subst, ◌∙◌, arith, w64, to_z, of_z, to_z-of_z}
+use Rattle.std.proofs.Common.{◌≡◌, ◌+◌, ◌<◌, ◌+ℤ◌, ℕ, ℤ, pos, sym, List, get_or, length, refl, ap, subst, ◌∙◌, arith, w64, to_z, of_z, to_z-of_z}
 use Rattle.std.proofs.lemmas.Int.{ints}
 use Rattle.rr_model.specs.Moment.{day_part}
 use Rattle.rr_model.specs.Rule.Validity.{IsValidRule}
@@ -89,3 +89,52 @@ returns-clause-folded c =
     let folded = rw e at c.loop-rule.invariant.0 in
     all_folded s (day_part s.kind s.start) c.args.end (c.loop-rule.rule-index + 1) c.loop-rule.days.shapes c.loop-rule.days.numbers.items sound
     c.requires.alone (omega (arith, whole, ap length list)) folded
+
+-- Two lists that reach from one day to one end are equally long.
+as_long : (from end : ℤ) (m n : ℕ) → end ≡ from +ℤ pos m → end ≡ from +ℤ pos n → m ≡ n
+as_long from end m n one other = omega (arith, ints)
+
+pub bounds-rules-0 : goal.bounds-rules-0
+bounds-rules-0 c =
+    let list = c.as_slice-rules.ensures ∙ ap (λ s. s.rules) c.series-given.ensures.value in
+    subst (λ rules. 0 < length rules) (sym list) (some_rule c.args.series.now.rules c.requires.alone.some)
+
+pub slice_bounds-rule-items-count : goal.slice_bounds-rule-items-count
+slice_bounds-rule-items-count c =
+    let list = c.as_slice-rules.ensures ∙ ap (λ s. s.rules) c.series-given.ensures.value in
+    subst (λ rules. 0 < length rules) (sym list) (some_rule c.args.series.now.rules c.requires.alone.some)
+
+pub days_of_rule-requires-clause-in_years : goal.days_of_rule-requires-clause-in_years
+days_of_rule-requires-clause-in_years c =
+    let sound = subst IsSound c.series-given.ensures.value c.series-given.ensures.sound in
+    rw (given_start c.args.series.now c.series-given.result.now c.series-given.ensures.value sound) sound.valid.start
+
+pub days_of_rule-requires-clause-order : goal.days_of_rule-requires-clause-order
+days_of_rule-requires-clause-order c =
+    let sound = subst IsSound c.series-given.ensures.value c.series-given.ensures.sound in
+    rw (given_start c.args.series.now c.series-given.result.now c.series-given.ensures.value sound, to_z-of_z c.ranges.end) c.requires.order
+
+pub days_of_rule-requires-clause-high : goal.days_of_rule-requires-clause-high
+days_of_rule-requires-clause-high c = rw (to_z-of_z c.ranges.end) c.requires.high
+
+pub days_of_rule-requires-in-loop-rule-clause-in_years : goal.days_of_rule-requires-in-loop-rule-clause-in_years
+days_of_rule-requires-in-loop-rule-clause-in_years c =
+    let sound = subst IsSound c.series-given.ensures.value c.series-given.ensures.sound in
+    rw (given_start c.args.series.now c.series-given.result.now c.series-given.ensures.value sound) sound.valid.start
+
+pub days_of_rule-requires-in-loop-rule-clause-order : goal.days_of_rule-requires-in-loop-rule-clause-order
+days_of_rule-requires-in-loop-rule-clause-order c =
+    let sound = subst IsSound c.series-given.ensures.value c.series-given.ensures.sound in
+    rw (given_start c.args.series.now c.series-given.result.now c.series-given.ensures.value sound, to_z-of_z c.ranges.end) c.requires.order
+
+pub days_of_rule-requires-in-loop-rule-clause-high : goal.days_of_rule-requires-in-loop-rule-clause-high
+days_of_rule-requires-in-loop-rule-clause-high c = rw (to_z-of_z c.ranges.end) c.requires.high
+
+pub united-requires-clause-long : goal.united-requires-clause-long
+united-requires-clause-long c =
+    let sound = subst IsSound c.series-given.ensures.value c.series-given.ensures.sound in
+    as_long _ _ _ _ c.loop-rule.invariant.1
+    (rw (given_start c.args.series.now c.series-given.result.now c.series-given.ensures.value sound) at c.in_ok-more.ensures.whole)
+
+pub returns-clause-whole : goal.returns-clause-whole
+returns-clause-whole c = rw (to_z-of_z c.ranges.end) at c.loop-rule.invariant.1

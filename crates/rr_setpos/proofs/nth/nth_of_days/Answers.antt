@@ -1,4 +1,4 @@
-use Rattle.std.proofs.Common.{◌≡◌, ◌∙◌, sym, ap, subst, refl, rules, FitsSigned, w64, to_z, of_z, to_z-of_z, pos, ◌+ℤ◌, ◌-ℤ◌, Some, ◌*◌, ◌/◌, arith}
+use Rattle.std.proofs.Common.{◌≡◌, ◌≤◌, ℕ, ◌∙◌, sym, ap, subst, refl, rules, FitsSigned, w64, to_z, of_z, to_z-of_z, pos, ◌+ℤ◌, ◌-ℤ◌, Some, ◌*◌, ◌/◌, arith}
 use Rattle.std.proofs.lemmas.Int.{ints}
 use Rattle.std.proofs.lemmas.Nat.{div-add-mod'}
 use Rattle.rr_model.specs.Whole.{divides}
@@ -10,7 +10,11 @@ use Rattle.rr_setpos.specs.Ranks.{days_among, times_before}
 use Rattle.rr_setpos.specs.Nth.{IsNthOfUnit}
 use Rattle.rr_setpos.proofs.PositionLemmas.{unit_of_day}
 use Rattle.rr_setpos.proofs.NthLemmas.{nth_some, nth_none, none_unfit, size_by_days, in_unit_there, candidate_there, rank_there}
+use Rattle.rr_setpos.proofs.FitLemmas.{day_rank, product_fits, same_within, some_times, time_rank}
 use Rattle.rr_setpos.proofs.nth.nth_of_days.Goals as goal
+
+few_among : (days count : ℕ) → days ≤ count → count ≤ 366 → days ≤ 366
+few_among days count within few = omega arith
 
 pub returns-then-not-fits : goal.returns-then-not-fits
 returns-then-not-fits c =
@@ -88,3 +92,55 @@ returns-in-Some c =
     (ranked_there ∙ rw (before, each, c.nth_time.ensures.rank) (div-add-mod' c.in-Some.rank c.times_before-times.result))
     (size_by_days rule start.kind start.at c.args.unit c.requires.freq count ends _ in_it passes ∙ rw (each, many) refl)
     ranked.1)
+
+pub first_day_of_unit-first-requires-clause-near : goal.first_day_of_unit-first-requires-clause-near
+first_day_of_unit-first-requires-clause-near c = rw (to_z-of_z c.ranges.unit) c.requires.first
+
+pub days_among-days-requires-clause-first : goal.days_among-days-requires-clause-first
+days_among-days-requires-clause-first c =
+    let fits : FitsSigned w64 c.first_day_of_unit-first.result = record { sfits = c.first_day_of_unit-first.type_inv } in
+    rw (to_z-of_z fits, c.first_day_of_unit-first.ensures, to_z-of_z c.ranges.unit) c.requires.first
+
+pub days_among-days-requires-clause-last : goal.days_among-days-requires-clause-last
+days_among-days-requires-clause-last c =
+    let fits : FitsSigned w64 c.first_day_of_unit-first.result = record { sfits = c.first_day_of_unit-first.type_inv } in
+    rw (to_z-of_z fits, c.first_day_of_unit-first.ensures, to_z-of_z c.ranges.unit)
+    (rw (rw (to_z-of_z c.ranges.unit) at (c.days_in_unit-count.ensures.next c.args.rule.now.week_start)) at c.requires.next)
+
+pub times_before-times-requires : goal.times_before-times-requires
+times_before-times-requires c = same_within _ _ c.seconds_of.ensures
+
+pub overflow_mul-days : goal.overflow_mul-days
+overflow_mul-days c =
+    product_fits _ _ _ c.args.start.now.kind (few_among _ _ c.days_among-days.ensures.few c.days_in_unit-count.ensures.few)
+    c.times_before-times.ensures.few c.seconds_of.ensures
+
+pub rank_of-requires : goal.rank_of-requires
+rank_of-requires c = rw (to_z-of_z c.ranges.place) c.requires.place
+
+pub nonzero_div-rank : goal.nonzero_div-rank
+nonzero_div-rank c = some_times c.in-Some.rank c.days_among-days.result _ (rw c.in-Some.is at c.rank_of.ensures).0
+
+pub nth_day-requires-clause-first : goal.nth_day-requires-clause-first
+nth_day-requires-clause-first c =
+    let fits : FitsSigned w64 c.first_day_of_unit-first.result = record { sfits = c.first_day_of_unit-first.type_inv } in
+    rw (to_z-of_z fits, c.first_day_of_unit-first.ensures, to_z-of_z c.ranges.unit) c.requires.first
+
+pub nth_day-requires-clause-last : goal.nth_day-requires-clause-last
+nth_day-requires-clause-last c =
+    let fits : FitsSigned w64 c.first_day_of_unit-first.result = record { sfits = c.first_day_of_unit-first.type_inv } in
+    rw (to_z-of_z fits, c.first_day_of_unit-first.ensures, to_z-of_z c.ranges.unit)
+    (rw (rw (to_z-of_z c.ranges.unit) at (c.days_in_unit-count.ensures.next c.args.rule.now.week_start)) at c.requires.next)
+
+pub nth_day-requires-clause-rank : goal.nth_day-requires-clause-rank
+nth_day-requires-clause-rank c =
+    rw (sym c.days_among-days.ensures.value)
+    (day_rank c.in-Some.rank c.days_among-days.result c.times_before-times.result (rw c.in-Some.is at c.rank_of.ensures).0)
+
+pub nonzero_rem-rank : goal.nonzero_rem-rank
+nonzero_rem-rank c = some_times c.in-Some.rank c.days_among-days.result _ (rw c.in-Some.is at c.rank_of.ensures).0
+
+pub nth_time-requires : goal.nth_time-requires
+nth_time-requires c =
+    rw (sym c.seconds_of.ensures, sym c.times_before-times.ensures.value)
+    (time_rank c.in-Some.rank c.days_among-days.result c.times_before-times.result (rw c.in-Some.is at c.rank_of.ensures).0)

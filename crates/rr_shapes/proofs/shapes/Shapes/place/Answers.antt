@@ -59,3 +59,42 @@ returns-clause-placed c =
 
 pub returns-clause-numbering : goal.returns-clause-numbering
 returns-clause-numbering c = (invariant_of-self-2 c).numbering
+
+pub returns-then-is_at-clause-numbering : goal.returns-then-is_at-clause-numbering
+returns-then-is_at-clause-numbering c = rw (← c.self.view_is) c.self.invariant.numbering
+
+pub returns-then-is_at-clause-room : goal.returns-then-is_at-clause-room
+returns-then-is_at-clause-room c = rw (← c.self.view_is) (rw c.self.invariant.sum at c.self.invariant.within)
+
+pub invariant_of-self : goal.invariant_of-self
+invariant_of-self c = c.self.invariant
+
+pub returns-in-Some-clause-numbering : goal.returns-in-Some-clause-numbering
+returns-in-Some-clause-numbering c = c.self.invariant.numbering
+
+pub returns-in-Some-clause-room : goal.returns-in-Some-clause-room
+returns-in-Some-clause-room c = rw c.self.invariant.sum at c.self.invariant.within
+
+pub overflow_sub-self-inside : goal.overflow_sub-self-inside
+overflow_sub-self-inside c = c.self.invariant.within
+
+pub returns-then-more-self-clause-numbering : goal.returns-then-more-self-clause-numbering
+returns-then-more-self-clause-numbering c = rw (← c.self.view_is) c.self.invariant.numbering
+
+pub returns-then-more-self-clause-room : goal.returns-then-more-self-clause-room
+returns-then-more-self-clause-room c = rw (← c.self.view_is) (rw c.self.invariant.sum at c.self.invariant.within)
+
+pub returns-clause-room : goal.returns-clause-room
+returns-clause-room c = let n = invariant_of-self-2 c in rw n.sum at n.within
+
+pub invariant_of-self-in_default-insert_full : goal.invariant_of-self-in_default-insert_full
+invariant_of-self-in_default-insert_full c = rw c.in_default-insert_full.ensures.err c.self.invariant
+
+pub returns-in_default-insert_full-clause-unchanged : goal.returns-in_default-insert_full-clause-unchanged
+returns-in_default-insert_full-clause-unchanged c = rw c.in_default-insert_full.ensures.err c.self.view_is
+
+pub returns-in_default-insert_full-clause-numbering : goal.returns-in_default-insert_full-clause-numbering
+returns-in_default-insert_full-clause-numbering c = rw c.in_default-insert_full.ensures.err c.self.invariant.numbering
+
+pub returns-in_default-insert_full-clause-room : goal.returns-in_default-insert_full-clause-room
+returns-in_default-insert_full-clause-room c = rw c.in_default-insert_full.ensures.err (rw c.self.invariant.sum at c.self.invariant.within)
