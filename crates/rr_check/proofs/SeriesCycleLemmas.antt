@@ -1,13 +1,14 @@
 -- The cycle of a series, rule by rule.
-use Rattle.std.proofs.Common.{◌≡◌, ℕ, ◌≤◌, cond, List, [], ◌∷◌, All, arith}
+use Rattle.std.proofs.Common.{◌≡◌, ℕ, ◌≤◌, ◌<◌, inl, inr, cond, List, [], ◌∷◌, All, arith}
 use Prim.Native.Nat.{◌∣◌}
-use Rattle.std.proofs.lemmas.Bool.{cond_both}
+use Rattle.std.proofs.lemmas.Bool.{cases_lt, cond_both}
 use Rattle.std.proofs.lemmas.Nat.Gcd.{dvd_refl, dvd_trans, le_of_dvd}
 use Rattle.std.proofs.Math.Nat.{one-dvd}
 use Rattle.std.proofs.lemmas.List.Elements.{All-head, All-tail}
 use Rattle.rr_model.specs.Whole.Divisors.{lcm}
 use Rattle.rr_model.specs.Rule.Cycle.{interval_cycle, parts_cycle, asks_calendar, rule_cycle}
-use Rattle.rr_model.specs.Rule.Validity.{is_absent}
+use Rattle.rr_model.specs.Rule.Validity.{IsValidRule, is_absent}
+use Rattle.rr_model.specs.declared.kind.Kind.{Kind}
 use Rattle.rr_model.specs.Series.Cycle.{endless_cycle, rules_cycle}
 use Rattle.rr_model.specs.declared.rule.End.{End}
 use Rattle.rr_model.specs.declared.rule.End.TheVariants.{Never, Until, Count, Both}
@@ -88,3 +89,19 @@ joined-first n rule rules h valid =
     let first = All-head HasInterval rule rules valid in
     lcm_assoc n (endless_cycle rule.end rule) (rules_cycle rules) h (endless_cycle_some rule.end rule first)
     (rules_cycle_some rules (All-tail HasInterval rule rules valid))
+
+-- ---- two lists of rules
+
+over : (n : ℕ) → (n ≤ 16_777_216 → ⊥) → 16_777_216 < n
+over n h = elim (cases_lt 16_777_216 n) [ inl l ↦ l | inr g ↦ absurd (h (omega (arith, g))) ]
+
+-- a cycle that is too long makes the whole too long
+pub over_first : (a b : ℕ) → 1 ≤ a → 1 ≤ b → (a ≤ 16_777_216 → ⊥) → 16_777_216 < lcm a b
+over_first a b ha hb h = omega (arith, over a h, (lcm_above a b ha hb).0)
+
+pub over_second : (a b : ℕ) → 1 ≤ a → 1 ≤ b → (b ≤ 16_777_216 → ⊥) → 16_777_216 < lcm a b
+over_second a b ha hb h = omega (arith, over b h, (lcm_above a b ha hb).1)
+
+-- the rules of a series have intervals from 1
+pub have_intervals : (kind : Kind) (rules : List Rule) → All (IsValidRule kind) rules → All HasInterval rules
+have_intervals kind rules valid k d l = (valid k d l).interval_low

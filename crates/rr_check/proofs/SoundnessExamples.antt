@@ -39,8 +39,11 @@ rule_of freq interval by_day end = record {
 }
 
 -- from Monday, 2024-01-01 on
+abbrev with_excluded : List Rule → List Rule → Series
+with_excluded rules excluded = record { kind = Days; start = pos 19_723; start_counts = true; rules = rules; excluded = excluded; plus = []; minus = [] }
+
 abbrev with_rules : List Rule → Series
-with_rules rules = record { kind = Days; start = pos 19_723; start_counts = true; rules = rules; plus = []; minus = [] }
+with_rules rules = with_excluded rules []
 
 abbrev tuesdays : List DayItem
 tuesdays = record { place = pos 0; weekday = 1 } ∷ []
@@ -56,13 +59,24 @@ of_series :
 unfolding is_chosen is_candidate week_index weekday_of
 of_series = refl
 
+-- an excluded rule need not choose the start, and is not numbered; its UNTIL is judged after the rules
+of_excluded :
+    (first_refusal (with_excluded (rule_of Daily 1 [] Never ∷ []) (rule_of Weekly 1 tuesdays Never ∷ []))
+    ∷ first_refusal (with_excluded (rule_of Daily 1 [] Never ∷ []) (rule_of Weekly 1 tuesdays (Until Days (pos 19_722)) ∷ []))
+    ∷ first_refusal (with_excluded (rule_of Weekly 1 tuesdays Never ∷ []) (rule_of Daily 1 [] (Until Moments (pos 1_704_067_200)) ∷ []))
+    ∷ [])
+    ≡ (None ∷ Some UntilBeforeStart ∷ Some (NotSynchronised 1) ∷ [])
+unfolding is_chosen is_candidate week_index weekday_of
+of_excluded = refl
+
 -- the cycles of 2 and 3 days repeat together after 6, weeks after 7, and a rule that ends adds nothing
 of_cycles :
     (series_cycle (with_rules (rule_of Daily 2 [] Never ∷ rule_of Daily 3 [] Never ∷ []))
     ∷ series_cycle (with_rules (rule_of Weekly 1 tuesdays Never ∷ rule_of Daily 5 [] (Count 3) ∷ []))
     ∷ series_cycle (with_rules [])
+    ∷ series_cycle (with_excluded (rule_of Daily 2 [] Never ∷ []) (rule_of Weekly 1 tuesdays Never ∷ rule_of Daily 5 [] (Count 3) ∷ []))
     ∷ [])
-    ≡ (6 ∷ 7 ∷ 1 ∷ [])
+    ≡ (6 ∷ 7 ∷ 1 ∷ 14 ∷ [])
 unfolding rules_cycle gcd_within gcd lcm
 of_cycles = refl
 

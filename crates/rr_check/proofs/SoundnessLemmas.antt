@@ -4,7 +4,7 @@ use Rattle.std.proofs.lemmas.Int.{ints}
 use Rattle.std.specs.Option.{option_or}
 use Rattle.std.proofs.lemmas.List.Elements.{All-nil, All-cons}
 use Rattle.rr_model.specs.Rule.Chosen.{is_chosen}
-use Rattle.rr_model.specs.Series.Soundness.{until_refusal, end_refusal, choice_refusal, rule_refusal, rules_refusal, EndsNotBefore, FitsStart}
+use Rattle.rr_model.specs.Series.Soundness.{until_refusal, end_refusal, choice_refusal, rule_refusal, rules_refusal, ends_refusal, EndsNotBefore, FitsStart}
 use Rattle.rr_model.specs.declared.kind.Kind.{Kind}
 use Rattle.rr_model.specs.declared.kind.Kind.TheVariants.{Days, Moments}
 use Rattle.rr_model.specs.declared.refusal.Refusal.TheVariants.{UntilBeforeStart, NotSynchronised}
@@ -13,7 +13,7 @@ use Rattle.rr_model.specs.declared.rule.End.TheVariants.{Never, Until, Count, Bo
 use Rattle.rr_model.specs.declared.rule.Rule.{Rule}
 
 -- neither of two
-or_none : {X : Type 0} (x y : Option X) → option_or x y ≡ None → (x ≡ None) × (y ≡ None)
+pub or_none : {X : Type 0} (x y : Option X) → option_or x y ≡ None → (x ≡ None) × (y ≡ None)
 or_none None y e = (refl, e)
 or_none (Some x) y e = absurd (cc)
 
@@ -45,3 +45,9 @@ rules_fit number kind start (rule ∷ rules) e =
     let first : FitsStart kind start rule =
     record { synchronised = chooses number (is_chosen rule kind start start) two.1; end = end_fits kind start rule.end two.0 } in
     All-cons (FitsStart kind start) rule rules first (rules_fit (suc number) kind start rules both.1)
+
+pub ends_fit : (kind : Kind) (start : ℤ) (rules : List Rule) → ends_refusal kind start rules ≡ None → All (λ rule. EndsNotBefore kind start rule.end) rules
+ends_fit kind start [] e = All-nil (λ rule. EndsNotBefore kind start rule.end)
+ends_fit kind start (rule ∷ rules) e =
+    let both = or_none (end_refusal kind start rule.end) (ends_refusal kind start rules) e in
+    All-cons (λ r. EndsNotBefore kind start r.end) rule rules (end_fits kind start rule.end both.0) (ends_fit kind start rules both.1)

@@ -9,14 +9,22 @@ use crate::Checked;
 use rr_model::{End, MAX_CYCLE_DAYS, Refusal, Rule};
 use rr_num::{day_cycle, lcm_within};
 
-/// The cycle of a series in days: the least common multiple of the cycles of its endless rules, 1 if there is none.
+/// The cycle of a series in days: the least common multiple of the cycles of its endless rules, excluded ones among them, 1 if
+/// there is none.
 ///
 /// `CycleTooLong` exactly where it is above `MAX_CYCLE_DAYS`.
 pub fn admit(checked: &Checked) -> Result<u64, Refusal>
     ensures admitted { IfOk result (λ days. (days ≡ series_cycle checked.now) × (days ≤ MAX_CYCLE_DAYS)) }
     ensures refused { IfErr result (λ refusal. (refusal ≡ CycleTooLong) × (MAX_CYCLE_DAYS < series_cycle checked.now)) }
 {
-    match cycle_of(checked.series().rules.as_slice()) {
+    let series = checked.series();
+    let Some(rules) = cycle_of(series.rules.as_slice()) else {
+        return Err(Refusal::CycleTooLong);
+    };
+    let Some(excluded) = cycle_of(series.excluded.as_slice()) else {
+        return Err(Refusal::CycleTooLong);
+    };
+    match lcm_within(rules, excluded, MAX_CYCLE_DAYS) {
         Some(days) => Ok(days),
         None => Err(Refusal::CycleTooLong),
     }
@@ -61,7 +69,7 @@ pub(crate) fn joined(cycle: u64, days: u128) -> Option<u64>
     lcm_within(cycle, days as u64, MAX_CYCLE_DAYS)
 }
 
-/// The chosen moments of a valid rule repeat with its cycle, which `admit` joins.
+/// The chosen moments of a valid rule repeat with its cycle, which `admit` joins, whether the rule chooses its start or not.
 pub fn chosen_repeats()
     ensures { ChosenRepeats }
 {}

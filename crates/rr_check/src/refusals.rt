@@ -1,25 +1,51 @@
-// Why a series is refused: the first reason, rule by rule.
+// Why a series is refused: the first reason, rule by rule, and then excluded rule by excluded rule.
 ghost use Rattle.std.specs.Prelude.{◌≡◌, ◌≤◌, All, length};
 ghost use Rattle.rr_model.specs.Moment.Years.{IsInYears};
 ghost use Rattle.rr_model.specs.Rule.Validity.{IsValidRule};
 ghost use Rattle.rr_model.specs.Series.Validity.{IsValidSeries};
-ghost use Rattle.rr_model.specs.Series.Soundness.{choice_refusal, end_refusal, first_refusal, rule_refusal, until_refusal};
+ghost use Rattle.rr_model.specs.Series.Soundness.{choice_refusal, end_refusal, ends_refusal, first_refusal, rule_refusal, rules_refusal, until_refusal};
 
 use rr_model::{End, Kind, Refusal, Rule, Series};
 use rr_setpos::chosen;
 
-// The first refusal of a series.
+// The first refusal of a series: of a rule, else of an excluded one.
 pub(crate) fn first_refusal(series: &Series) -> Option<Refusal>
     requires valid { IsValidSeries series.now }
     ensures { result ≡ first_refusal series.now }
 {
+    match rules_refusal(series.kind, series.start, series.rules.as_slice()) {
+        None => ends_refusal(series.kind, series.start, series.excluded.as_slice()),
+        of_a_rule => of_a_rule,
+    }
+}
+
+// The first refusal of rules, which are numbered from 1.
+fn rules_refusal(kind: Kind, start: i64, rules: &[Rule]) -> Option<Refusal>
+    requires valid { All (IsValidRule kind) rules.now }
+    requires few { length rules.now ≤ 16 }
+    requires start { IsInYears kind start }
+    ensures { result ≡ rules_refusal 1 kind start rules.now }
+{
     let mut number = 1;
-    for rule in series.rules.as_slice() {
-        let refusal = rule_refusal(number, series.kind, series.start, rule);
+    for rule in rules {
+        let refusal = rule_refusal(number, kind, start, rule);
         if refusal.is_some() {
             return refusal;
         }
         number += 1;
+    }
+    None
+}
+
+// The first refusal of excluded rules, which need not choose the start.
+fn ends_refusal(kind: Kind, start: i64, rules: &[Rule]) -> Option<Refusal>
+    ensures { result ≡ ends_refusal kind start rules.now }
+{
+    for rule in rules {
+        let refusal = end_refusal(kind, start, rule.end);
+        if refusal.is_some() {
+            return refusal;
+        }
     }
     None
 }

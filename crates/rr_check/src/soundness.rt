@@ -7,7 +7,8 @@ use crate::refusals::first_refusal;
 use rr_model::{Refusal, Series};
 use std::marker::Model;
 
-/// A series whose rules choose its start, and end neither before it nor at a moment of the other kind.
+/// A series whose rules choose its start, and whose rules and excluded rules end neither before it nor at a moment of the other
+/// kind.
 #[derive(Drop)]
 pub struct Checked {
     series: Series,
@@ -38,7 +39,7 @@ impl Checked {
 ///
 /// For each rule in order: `UntilKind` where its UNTIL has another kind than the start, then `UntilBeforeStart`,
 /// then `NotSynchronised` with the rule's number, from 1, where the rule does not choose the start
-/// (RFC 5545, section 3.8.5.3).
+/// (RFC 5545, section 3.8.5.3). Then for each excluded rule the first two; it need not choose the start.
 pub fn check(series: Series) -> Result<Checked, Refusal>
     requires valid { IsValidSeries series }
     ensures accepted { IfOk result (λ checked. (checked ≡ series) × (first_refusal series ≡ None)) }

@@ -37,6 +37,7 @@ fn series(alloc: Global, start: i64) -> Result<Series, NoMemory>
         start,
         start_counts: true,
         rules,
+        excluded: Rules::new(alloc),
         plus: Dates::new(alloc),
         minus: Dates::new(alloc),
     })

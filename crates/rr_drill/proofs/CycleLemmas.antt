@@ -7,6 +7,7 @@ use Rattle.std.proofs.lemmas.Bool.Decides.{nat_tests}
 use Rattle.std.proofs.lemmas.Nat.{mod_below}
 use Rattle.std.proofs.lemmas.Nat.Gcd.{le_of_dvd, dvd_of_mod-eq-zero}
 use Rattle.rr_num.proofs.DivisorLemmas.{lcm_is}
+use Rattle.rr_check.proofs.SeriesCycleLemmas.{lcm-one_right}
 use Rattle.rr_model.specs.Moment.Units.{is_whole_days}
 use Rattle.rr_model.specs.Rule.Cycle.{interval_cycle}
 use Rattle.rr_model.specs.Series.Cycle.{rules_cycle, series_cycle}
@@ -135,10 +136,16 @@ some_intervals Weekly = omega arith
 some_intervals Monthly = omega arith
 some_intervals Yearly = omega arith
 
+drawn_some : (n : ℕ) → is_drawn_cycle n ≡ true → 1 ≤ n
+unfolding is_drawn_cycle
+drawn_some n e = cycle_some n e
+
 pub series_cycle_drawn : (x : ℕ) → is_drawn_cycle (series_cycle (series_from x)) ≡ true
 unfolding rules_cycle
 series_cycle_drawn x =
     let freq : Freq = drawn_freq (next_state x) in
     let k : ℕ = draw_below (intervals freq) (next_state (next_state x)) in
     let less : k < intervals freq = mod_below (draw (next_state (next_state x))) (intervals freq) (some_intervals freq) in
-    below (intervals freq) (has_drawn_cycle freq) k less (each_interval freq (freq_whole_days (next_state x)))
+    let drawn = below (intervals freq) (has_drawn_cycle freq) k less (each_interval freq (freq_whole_days (next_state x))) in
+    let cycle : ℕ = rules_cycle (series_from x).rules in
+    subst (λ n. is_drawn_cycle n ≡ true) (sym (lcm-one_right cycle (drawn_some cycle drawn))) drawn

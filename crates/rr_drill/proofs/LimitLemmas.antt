@@ -5,14 +5,14 @@ use Rattle.rr_fold.proofs.KindLemmas.{is_time_set, stands_second, tree_of_kind}
 use Rattle.rr_fold.specs.Judged.{all_limits}
 use Rattle.rr_model.specs.Series.Cycle.{series_cycle}
 use Rattle.rr_model.specs.Series.FirstRefusal.{IsLimitRefusal}
-use Rattle.rr_model.specs.Series.Limits.{Counts, IsCountedTooFar, IsTooManyMoments, IsTimeSetBefore, HasTooManyMoments}
+use Rattle.rr_model.specs.Series.Limits.{CountsTooFar, IsCountedTooFar, IsTooManyMoments, IsTimeSetBefore, HasTooManyMoments}
 use Rattle.rr_model.specs.Series.Tree.{tree_of}
 use Rattle.rr_model.specs.Sets.Sizes.{total_size}
 use Rattle.rr_model.specs.Sets.Tree.{Tree, IsOfKind, stands_at}
 use Rattle.rr_model.specs.declared.kind.Kind.TheVariants.{Days}
 use Rattle.rr_model.specs.declared.refusal.Refusal.{Refusal}
 use Rattle.rr_model.specs.declared.rule.Rule.{Rule}
-use Rattle.rr_drill.specs.Draws.{series_from}
+use Rattle.rr_drill.specs.Draws.{drawn_start, series_from}
 use Rattle.rr_drill.proofs.CycleLemmas.{cycle_short, series_cycle_drawn}
 use Rattle.rr_drill.proofs.SeriesLemmas.{drawn_sound}
 
@@ -60,8 +60,9 @@ cycle_within : (x : ℕ) → series_cycle (series_from x) ≤ 16_777_216
 cycle_within x = cycle_short _ (series_cycle_drawn x)
 
 none_counted : (x : ℕ) → IsCountedTooFar (series_from x) → ⊥
-none_counted x (zero, rule, l, same, far) = subst (λ (r : Rule). Counts r.end) (sym same) far.0
-none_counted x (suc k, rule, l, same, far) = absurd (omega (arith, l))
+none_counted x (inl (zero, rule, l, same, far)) = subst (λ (r : Rule). CountsTooFar Days (drawn_start x) r) (sym same) far
+none_counted x (inl (suc k, rule, l, same, far)) = absurd (omega (arith, l))
+none_counted x (inr (k, rule, l, same, far)) = absurd (omega (arith, l))
 
 moments_within : (x : ℕ) (settled : ℤ) → IsTooManyMoments (series_from x) settled → ⊥
 moments_within x settled many = few_moments (tree_of (series_from x)) _ (tree_of_kind (series_from x) (drawn_sound x)) many

@@ -63,8 +63,10 @@ valid_series start freq n w low high valid = record {
   start = (four_digit_year start).1 (omega (arith, ints, low), high);
   start_counts = λ e. absurd (false≢true (sym e));
   rules = All-cons (IsValidRule Days) (plain freq n w) [] valid (All-nil (IsValidRule Days));
+  excluded = All-nil (IsValidRule Days);
   few_rules = omega arith;
   ends = All-cons (λ r. EndsInYears r.end) (plain freq n w) [] tt (All-nil (λ r. EndsInYears r.end));
+  excluded_ends = All-nil (λ r. EndsInYears r.end);
   plus = All-nil (IsInYears Days);
   minus = All-nil (IsInYears Days);
   plus_rises = tt;
@@ -128,8 +130,9 @@ pub drawn_sound : (x : ℕ) → IsSound (series_from x)
 drawn_sound x = record {
   valid = drawn_valid x;
   rules = All-cons (FitsStart Days (drawn_start x)) (drawn_rule (next_state x)) [] (drawn_synchronised x) (All-nil (FitsStart Days (drawn_start x)));
+  excluded = All-nil _;
 }
 
 pub drawn_fits : (x : ℕ) → first_refusal (series_from x) ≡ None
 drawn_fits x =
-    ap (λ (b : Bool). option_or (cond b None (Some (NotSynchronised 1))) None) (drawn_synchronised x).synchronised
+    ap (λ (b : Bool). option_or (option_or (cond b None (Some (NotSynchronised 1))) None) None) (drawn_synchronised x).synchronised

@@ -69,7 +69,7 @@ drawn_start x = pos (19_723 + draw_below 28 x)
 
 -- the dates of an endless rule from a start on
 abbrev pub dates_of_rule : ℤ → Rule → Series
-dates_of_rule start rule = record { kind = Days; start = start; start_counts = true; rules = rule ∷ []; plus = []; minus = [] }
+dates_of_rule start rule = record { kind = Days; start = start; start_counts = true; rules = rule ∷ []; excluded = []; plus = []; minus = [] }
 
 -- the series that is drawn from a state: its start, then its rule
 abbrev pub series_from : ℕ → Series

@@ -91,6 +91,7 @@ impl Draws {
             start,
             start_counts: true,
             rules,
+            excluded: Rules::new(alloc),
             plus: Dates::new(alloc),
             minus: Dates::new(alloc),
         })

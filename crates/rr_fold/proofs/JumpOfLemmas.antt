@@ -19,13 +19,17 @@ pub no_dates_listed : (xs : List ℤ) → length xs ≤ 0 → xs ≡ []
 no_dates_listed [] l = refl
 no_dates_listed (x ∷ xs) l = absurd (omega (arith, l))
 
+pub no_rules_listed : (xs : List Rule) → length xs ≤ 0 → xs ≡ []
+no_rules_listed [] l = refl
+no_rules_listed (x ∷ xs) l = absurd (omega (arith, l))
+
 pub sound_rule : (series : Series) (rule : Rule) → IsSound series → series.rules ≡ rule ∷ []
     → IsSoundRule series.kind series.start rule
 sound_rule series rule sound rules = record {
   valid = (subst (λ rs. All (IsValidRule series.kind) rs) rules sound.valid.rules) 0 rule (omega arith);
   in_years = sound.valid.start;
   ends_in_years = (subst (λ rs. All (λ r. EndsInYears r.end) rs) rules sound.valid.ends) 0 rule (omega arith);
-  fits = (subst (λ rs. All (FitsStart series.kind series.start) rs) rules sound.rules) 0 rule (omega arith);
+  end = ((subst (λ rs. All (FitsStart series.kind series.start) rs) rules sound.rules) 0 rule (omega arith)).end;
 }
 
 pub jump_map : (r : Result (Option Jump) NoMemory) (P Q : Jump → Type 0) → ((j : Jump) → P j → Q j) → IfOk r (λ o. IfSome o P) → IfOk r (λ o. IfSome o Q)

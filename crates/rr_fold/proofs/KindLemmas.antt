@@ -17,7 +17,7 @@ use Rattle.rr_model.specs.Series.Occurrences.{IsMemberOfSome}
 use Rattle.rr_model.specs.Series.Soundness.{IsSound}
 use Rattle.rr_model.specs.Series.Tree.{tree_of, TreeStandsForSeries}
 use Rattle.rr_model.specs.Sets.Sketch.{IsTimeSet}
-use Rattle.rr_model.specs.Sets.Tree.{Tree, Forest, chosen_of, dates_of, union, many, upto, first_n, without, nothing, part, has_second, stands_at}
+use Rattle.rr_model.specs.Sets.Tree.{Tree, Forest, chosen_of, dates_of, union, many, upto, first_n, without, except, nothing, part, has_second, stands_at}
 use Rattle.rr_model.specs.Sets.Tree.{some_stands_at, IsOfKind, AreOfKind}
 use Rattle.rr_model.specs.declared.kind.Kind.{Kind}
 use Rattle.rr_model.specs.declared.kind.Kind.TheVariants.{Days, Moments}
@@ -41,6 +41,7 @@ mutual
   stands_second k (upto a kind at) d s o e = stands_second k a d s o.2 (and_left _ _ e)
   stands_second k (first_n a n) d s o e = stands_second k a d s o (and_left _ _ e)
   stands_second k (without a kind dates) d s o e = stands_second k a d s o.2 (and_left _ _ e)
+  stands_second k (except a b) d s o e = stands_second k a d s o.0 (and_left _ _ e)
 
   some_second : (k : Kind) (parts : Forest) (d : ℤ) (s : ℕ) → AreOfKind k parts → some_stands_at parts d s ≡ true → has_second k s ≡ true
   some_second k nothing d s o e = absurd (false≢true e)

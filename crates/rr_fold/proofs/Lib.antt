@@ -15,8 +15,8 @@ pub mod SequenceLemmas
 pub mod SingleLemmas
 pub mod SketchedLemmas
 pub mod SplicedLemmas
-pub mod UnitedFoldLemmas
-pub mod UnitedLemmas
+pub mod CombinedFoldLemmas
+pub mod CombinedLemmas
 pub mod WalkLemmas
 pub mod WholeFoldLemmas
 pub mod YearWalkLemmas

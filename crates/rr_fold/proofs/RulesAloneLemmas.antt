@@ -1,4 +1,4 @@
--- A series of endless rules alone has the members of its rules.
+-- A series of endless rules alone has the members of its rules that no excluded rule has.
 use Rattle.std.proofs.Common.{◌≡◌, ◌≢◌, ℕ, Bool, true, false, not, ◌&&◌, ◌||◌, List, [], ◌∷◌, ◌++◌, All, ℤ, refl, sym, ap, subst, ◌∙◌, inl, inr, arith}
 use Rattle.std.specs.Prelude.{if◌then◌else◌, int_le, int_lt}
 use Rattle.std.proofs.Math.Bool.{and-true, or-false, or_assoc}
@@ -19,10 +19,10 @@ use Rattle.rr_model.specs.declared.rule.Rule.{Rule}
 use Rattle.rr_model.specs.declared.rule.Series.{Series}
 use Rattle.rr_fold.specs.Rules.{AreEndless, HasRulesAlone, members_of_rules}
 
--- what is there anyway adds nothing, and nothing is taken out
-absorbed : (a b c : Bool) → (a ≡ true → b ≡ true) → c ≡ false → ((a || b) && not c) ≡ b
-absorbed true b c f e = ap not e ∙ sym (f refl)
-absorbed false b c f e = ap (λ x. b && not x) e ∙ and-true b
+-- what is there anyway adds nothing, and no date is taken out
+absorbed : (a b x c : Bool) → (a ≡ true → b ≡ true) → c ≡ false → (((a || b) && not x) && not c) ≡ (b && not x)
+absorbed true b x c f e = rw (e, f refl) (and-true (not x))
+absorbed false b x c f e = rw e (and-true (b && not x))
 
 module _ (kind : Kind) (start : ℤ) where
   -- the members of an endless rule are what it chooses
@@ -70,10 +70,16 @@ module _ (kind : Kind) (start : ℤ) where
     start_or_none false rules some fits endless e = absurd (false≢true (sym none_among ∙ e))
 
 pub rules_alone : (series : Series) (first : ℤ) → IsSound series → HasRulesAlone series first → (d : ℤ) (s : ℕ)
-    → stands_at (tree_of series) d s ≡ stands_at (members_of_rules series.kind series.start series.rules) d s
+    → stands_at (tree_of series) d s
+    ≡ (stands_at (members_of_rules series.kind series.start series.rules) d s && not (stands_at (members_of_rules series.kind series.start series.excluded) d s))
 rules_alone series first sound alone d s =
     absorbed (is_among series.kind (dates_with_start series) d s) (some_stands_at (members_of_all series.kind series.start series.rules) d s)
-    (is_among series.kind series.minus d s)
+    (some_stands_at (members_of_all series.kind series.start series.excluded) d s) (is_among series.kind series.minus d s)
     (λ e. start_or_none series.kind series.start d s series.start_counts series.rules alone.some sound.rules alone.endless
     (subst (λ plus. is_among series.kind (if series.start_counts then with_value int_lt plus series.start else plus) d s ≡ true) alone.plus e))
     (ap (λ dates. is_among series.kind dates d s) alone.minus ∙ none_among series.kind series.start d s)
+
+-- without an excluded rule it has those of its rules
+pub none_excluded : (kind : Kind) (start : ℤ) (rules : List Rule) (d : ℤ) (s : ℕ) → rules ≡ []
+    → (b : Bool) → (b && not (stands_at (members_of_rules kind start rules) d s)) ≡ b
+none_excluded kind start rules d s e b = rw e (and-true b)

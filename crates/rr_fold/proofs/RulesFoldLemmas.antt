@@ -1,23 +1,25 @@
 -- The days of endless rules, one rule after another.
 use Rattle.std.proofs.Common.{◌≡◌, ◌≢◌, ℕ, ◌+◌, ◌-◌, ◌<◌, ◌≤◌, List, [], ◌∷◌, ◌++◌, length, get_or, take, drop, All, ℤ, pos, ◌+ℤ◌, refl, sym}
-use Rattle.std.proofs.Common.{ap, subst, ◌∙◌, arith, w64, to_z, of_z}
+use Rattle.std.proofs.Common.{ap, subst, ◌∙◌, arith}
+use Rattle.std.specs.Prelude.{Result, Ok, Err, IfOk, true, false}
+use Rattle.std.proofs.lemmas.Bool.{false≢true}
+use Rattle.rr_model.specs.Rule.Validity.{is_absent}
 use Rattle.std.proofs.lemmas.Grind.{get_or_after_one}
 use Rattle.std.proofs.lemmas.List.{length-drop, take_all, take_more}
-use Rattle.rr_model.specs.Moment.{day_part}
 use Rattle.rr_model.specs.Series.Soundness.{IsSound}
 use Rattle.rr_model.specs.Series.Tree.{tree_of}
-use Rattle.rr_model.specs.Sets.Tree.{chosen_of}
+use Rattle.rr_model.specs.Sets.Tree.{chosen_of, stands_at}
 use Rattle.rr_model.specs.declared.kind.Kind.{Kind}
 use Rattle.rr_model.specs.declared.rule.End.TheVariants.{Never}
 use Rattle.rr_model.specs.declared.rule.Rule.{Rule}
 use Rattle.rr_model.specs.declared.rule.Series.{Series}
 use Rattle.rr_fold.specs.Folding.{IsFoldedTo}
 use Rattle.rr_fold.specs.Rules.{AreEndless, HasRulesAlone, members_of_rules}
-use Rattle.rr_fold.specs.United.{AreUnited}
-use Rattle.rr_fold.proofs.BackLemmas.{moment_back}
-use Rattle.rr_fold.proofs.RulesAloneLemmas.{first_rule, next_rule, rules_alone}
+use Rattle.rr_fold.specs.Combined.{AreCombined}
+use Rattle.rr_fold.specs.declared.combined.Op.TheVariants.{Union, Minus}
+use Rattle.rr_fold.proofs.RulesAloneLemmas.{first_rule, next_rule, none_excluded, rules_alone}
 use Rattle.rr_fold.proofs.SameTreeLemmas.{folded_same}
-use Rattle.rr_fold.proofs.UnitedFoldLemmas.{united_folded}
+use Rattle.rr_fold.proofs.CombinedFoldLemmas.{combined_folded}
 
 -- ---- rules by their places
 
@@ -45,23 +47,6 @@ no_later_rule rules i l = omega (arith, l, ap length (after_first rules), length
 pub rule_at : (P : Rule → Type 0) (rules xs : List Rule) (i : ℕ) (rule : Rule) → xs ≡ rules → All P rules → i < length xs → rule ≡ get_or xs i rule → P rule
 rule_at P rules xs i rule is all l at = subst P (sym at) ((subst (All P) (sym is) all) i rule l)
 
--- ---- a series that is read
-
-module _ (series given : Series) (value : given ≡ series) (sound : IsSound series) where
-  start_is : to_z w64 (of_z w64 given.start) ≡ series.start
-  start_is = ap (λ g. to_z w64 (of_z w64 g.start)) value ∙ moment_back series.kind series.start sound.valid.start
-
-  pub given_folded : (rule : Rule) (end : ℤ) (sets : List (List ℕ)) (numbers : List ℕ)
-      → IsFoldedTo (chosen_of rule given.kind (to_z w64 (of_z w64 given.start))) (day_part given.kind (to_z w64 (of_z w64 given.start))) end sets numbers
-      → IsFoldedTo (chosen_of rule series.kind series.start) (day_part series.kind series.start) end sets numbers
-  given_folded rule end sets numbers folded =
-      subst (λ t. IsFoldedTo (chosen_of rule series.kind t) (day_part series.kind t) end sets numbers) start_is
-      (subst (λ k. IsFoldedTo (chosen_of rule k (to_z w64 (of_z w64 given.start))) (day_part k (to_z w64 (of_z w64 given.start))) end sets numbers)
-      (ap (λ g. g.kind) value) folded)
-
-  pub given_start : day_part given.kind (to_z w64 (of_z w64 given.start)) ≡ day_part series.kind series.start
-  given_start = ap (λ k. day_part k (to_z w64 (of_z w64 given.start))) (ap (λ g. g.kind) value) ∙ ap (day_part series.kind) start_is
-
 -- ---- their days
 
 module _ (kind : Kind) (start first end : ℤ) (rules : List Rule) (endless : AreEndless rules) (i : ℕ) (rule : Rule) (l : i < length rules)
@@ -84,18 +69,51 @@ module _ (kind : Kind) (start first end : ℤ) (rules : List Rule) (endless : Ar
 
     pub next_folded : (one : List (List ℕ)) (ones : List ℕ) (other : List (List ℕ)) (others : List ℕ)
         → IsFoldedTo (members_of_rules kind start (take i rules)) first end one ones → IsFoldedTo (chosen_of rule kind start) first end other others
-        → end ≡ first +ℤ pos (length ones) → end ≡ first +ℤ pos (length others) → AreUnited one ones other others sets numbers
+        → end ≡ first +ℤ pos (length ones) → end ≡ first +ℤ pos (length others) → AreCombined Union one ones other others sets numbers
         → IsFoldedTo (members_of_rules kind start (take (i + 1) rules)) first end sets numbers
-    next_folded one ones other others folded by_rule long as_long united =
+    next_folded one ones other others folded by_rule long as_long combined =
         subst (λ xs. IsFoldedTo (members_of_rules kind start xs) first end sets numbers) (sym more)
-        (united_folded (members_of_rules kind start (take i rules ++ rule ∷ [])) (members_of_rules kind start (take i rules)) (chosen_of rule kind start)
-        first end one ones other others sets numbers folded by_rule long as_long (next_rule kind start (take i rules) rule ends) united)
+        (combined_folded Union (members_of_rules kind start (take i rules ++ rule ∷ [])) (members_of_rules kind start (take i rules)) (chosen_of rule kind start)
+        first end one ones other others sets numbers folded by_rule long as_long (next_rule kind start (take i rules) rule ends) combined)
 
--- all of them are those of the series
-pub all_folded : (series : Series) (first end : ℤ) (i : ℕ) (sets : List (List ℕ)) (numbers : List ℕ) → IsSound series → HasRulesAlone series first
-    → length series.rules ≤ i → IsFoldedTo (members_of_rules series.kind series.start (take i series.rules)) first end sets numbers
-    → IsFoldedTo (tree_of series) first end sets numbers
-all_folded series first end i sets numbers sound alone l folded =
-    folded_same (members_of_rules series.kind series.start series.rules) (tree_of series) (λ d s. sym (rules_alone series first sound alone d s))
-    first end sets numbers
-    (subst (λ xs. IsFoldedTo (members_of_rules series.kind series.start xs) first end sets numbers) (take_all i series.rules l) folded)
+-- all of them
+pub all_folded : (kind : Kind) (start first end : ℤ) (rules : List Rule) (i : ℕ) (sets : List (List ℕ)) (numbers : List ℕ) → length rules ≤ i
+    → IsFoldedTo (members_of_rules kind start (take i rules)) first end sets numbers → IsFoldedTo (members_of_rules kind start rules) first end sets numbers
+all_folded kind start first end rules i sets numbers l folded =
+    subst (λ xs. IsFoldedTo (members_of_rules kind start xs) first end sets numbers) (take_all i rules l) folded
+
+-- ---- the series
+
+module _ (series : Series) (first end : ℤ) (sound : IsSound series) (alone : HasRulesAlone series first) where
+  -- without excluded rules its days are those of its rules
+  pub given_folded : (sets : List (List ℕ)) (numbers : List ℕ) → series.excluded ≡ []
+      → IsFoldedTo (members_of_rules series.kind series.start series.rules) first end sets numbers → IsFoldedTo (tree_of series) first end sets numbers
+  given_folded sets numbers none folded =
+      folded_same (members_of_rules series.kind series.start series.rules) (tree_of series) (λ d s. sym (rules_alone series first sound alone d s
+      ∙ none_excluded series.kind series.start series.excluded d s none (stands_at (members_of_rules series.kind series.start series.rules) d s)))
+      first end sets numbers folded
+
+  -- else these without the days of the excluded ones
+  pub left_folded : (one : List (List ℕ)) (ones : List ℕ) (other : List (List ℕ)) (others : List ℕ) (sets : List (List ℕ)) (numbers : List ℕ)
+      → IsFoldedTo (members_of_rules series.kind series.start series.rules) first end one ones
+      → IsFoldedTo (members_of_rules series.kind series.start series.excluded) first end other others
+      → end ≡ first +ℤ pos (length ones) → end ≡ first +ℤ pos (length others) → AreCombined Minus one ones other others sets numbers
+      → IsFoldedTo (tree_of series) first end sets numbers
+  left_folded one ones other others sets numbers folded out long as_long made =
+      combined_folded Minus (tree_of series) (members_of_rules series.kind series.start series.rules)
+      (members_of_rules series.kind series.start series.excluded)
+      first end one ones other others sets numbers folded out long as_long (rules_alone series first sound alone) made
+
+-- ---- what a call gives
+
+pub none_listed : (xs : List Rule) → is_absent xs ≡ true → xs ≡ []
+none_listed [] e = refl
+none_listed (x ∷ xs) e = absurd (false≢true e)
+
+pub some_listed : (xs : List Rule) → is_absent xs ≡ false → xs ≢ []
+some_listed [] e = absurd (false≢true (sym e))
+some_listed (x ∷ xs) e = λ f. absurd (cc)
+
+pub if_ok_map : {X E : Type 0} (P Q : X → Type 0) → ((x : X) → P x → Q x) → (r : Result X E) → IfOk r P → IfOk r Q
+if_ok_map P Q f (Ok x) h = f x h
+if_ok_map P Q f (Err e) h = tt

@@ -5,6 +5,7 @@ use Rattle.std.proofs.lemmas.Int.{ints}
 use Rattle.rr_lazy.proofs.AgreeLemmas.{members_agree}
 use Rattle.rr_lazy.proofs.StretchLemmas.{moment_day, moment_second}
 use Rattle.rr_iter.proofs.RulesLemmas.{members_of_kind}
+use Rattle.rr_iter.proofs.SettledLemmas.{rules_are_sound}
 use Rattle.rr_model.proofs.CountLemmas.{count_from-zero, count_from-suc}
 use Rattle.rr_model.proofs.RisingSetLemmas.{Contains-none}
 use Rattle.rr_model.specs.Moment.{moment_at}
@@ -39,7 +40,7 @@ first_number rule kind start =
     rw e (omega (arith, count_from-suc g start 0, count_from-zero g start, one_at_most (g (start +ℤ pos 0))))
 
 module _ (law : TreeStandsForSeries) (series : Series) (rule : Rule) (count : ℕ) (sound : IsSound series) (rules : series.rules ≡ rule ∷ [])
-    (plus : series.plus ≡ []) (minus : series.minus ≡ [])
+    (excluded : series.excluded ≡ []) (plus : series.plus ≡ []) (minus : series.minus ≡ [])
     (ends : rule.end ≡ Count count) where
   valid : IsValidRule series.kind rule
   valid = (subst (λ rs. All (IsValidRule series.kind) rs) rules sound.valid.rules) 0 rule (omega arith)
@@ -72,6 +73,7 @@ module _ (law : TreeStandsForSeries) (series : Series) (rule : Rule) (count : �
       kind = refl;
       stands = inr (inl (subst (λ rs. IsMemberOfSome rs series.kind series.start t) (sym rules) (inl m)));
       kept = λ c. Contains-none t (subst (λ l. Contains l t) minus c);
+      not_excluded = λ m. subst (λ rs. IsMemberOfSome rs series.kind series.start t) excluded m;
     }),
   )
 
@@ -81,7 +83,8 @@ module _ (law : TreeStandsForSeries) (series : Series) (rule : Rule) (count : �
 
   members_second : (d : ℤ) (s : ℕ) → stands_at (members_of series.kind series.start rule) d s ≡ true → has_second series.kind s ≡ true
   members_second d s e =
-      let kinds = subst (λ rs. All (λ r. IsOfKind series.kind (members_of series.kind series.start r)) rs) rules (members_of_kind series sound) in
+      let kinds = subst (λ rs. All (λ r. IsOfKind series.kind (members_of series.kind series.start r)) rs) rules
+      (members_of_kind series.kind series.start series.rules (rules_are_sound series sound)) in
       stands_second series.kind (members_of series.kind series.start rule) d s (kinds 0 rule (omega arith)) e
 
   -- a second of a day by its moment

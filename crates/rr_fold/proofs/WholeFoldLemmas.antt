@@ -5,7 +5,7 @@ use Rattle.std.proofs.lemmas.Int.{ints}
 use Rattle.std.proofs.lemmas.List.{get_or_default}
 use Rattle.rr_model.specs.Answers.{RefusedExactlyWhere}
 use Rattle.rr_model.specs.Moment.{day_part}
-use Rattle.rr_model.specs.Series.Cycle.{series_cycle}
+use Rattle.rr_model.specs.Series.Cycle.{rules_cycle, series_cycle}
 use Rattle.rr_model.specs.Series.FirstRefusal.{IsCycleOver}
 use Rattle.rr_model.specs.Series.Limits.{IsCountedTooFar, IsTooManyMoments}
 use Rattle.rr_model.specs.Series.Settled.{IsSettledDay}
@@ -16,7 +16,8 @@ use Rattle.rr_model.specs.declared.refusal.Fault.TheVariants.{Refused, NoMemory}
 use Rattle.rr_model.specs.declared.refusal.Refusal.TheVariants.{CountedTooFar, TooManyMoments}
 use Rattle.rr_model.specs.declared.rule.Series.{Series}
 use Rattle.rr_model.proofs.YearLemmas.{four_digit_bounds}
-use Rattle.rr_check.proofs.SeriesCycleLemmas.{rules_cycle_some}
+use Rattle.rr_num.proofs.DivisorLemmas.{lcm_some}
+use Rattle.rr_check.proofs.SeriesCycleLemmas.{have_intervals, rules_cycle_some}
 use Rattle.rr_fold.specs.Folding.{IsFoldedTo}
 use Rattle.rr_fold.specs.Judged.{all_limits, IsJudged}
 use Rattle.rr_fold.specs.Sketched.{IsWholeFold}
@@ -44,7 +45,10 @@ whole_fold series sets numbers first settled end period sound settled_is folded 
     }
 
 pub cycle_some : (series : Series) → IsSound series → 1 ≤ series_cycle series
-cycle_some series sound = rules_cycle_some series.rules (λ k d l. (sound.valid.rules k d l).interval_low)
+cycle_some series sound =
+    let given = rules_cycle_some series.rules (have_intervals series.kind series.rules sound.valid.rules) in
+    let out = rules_cycle_some series.excluded (have_intervals series.kind series.excluded sound.valid.excluded) in
+    lcm_some (rules_cycle series.rules) (rules_cycle series.excluded) given out
 
 -- the settled day lies after 0001-01-01, and the first day before it
 pub settled_low : (series : Series) (settled : ℤ) → IsSound series → IsSettledDay series settled → neg_ℤ (pos 719_162) ≤ℤ settled

@@ -33,6 +33,7 @@ pub record IsJump (series : Series) (start_day end : ℤ) (jump : Jump) : Type 0
   pub count : ℕ
   pub days : ℕ
   pub rules : series.rules ≡ rule ∷ []
+  pub excluded : series.excluded ≡ []
   pub plus : series.plus ≡ []
   pub minus : series.minus ≡ []
   pub ends : rule.end ≡ Count count

@@ -5,6 +5,6 @@ pub mod Rules
 pub mod Sequence
 pub mod Sketched
 pub mod Numbering
-pub mod United
+pub mod Combined
 pub mod Walks
 pub mod Years

@@ -1,4 +1,4 @@
--- Series of endless rules alone.
+-- Series of endless rules and endless excluded rules alone.
 use Rattle.std.specs.Prelude.{◌≡◌, ◌≢◌, List, [], All, ℤ}
 use Rattle.rr_model.specs.Moment.{day_part}
 use Rattle.rr_model.specs.Series.Tree.{members_of_all}
@@ -12,10 +12,11 @@ use Rattle.rr_model.specs.declared.rule.Series.{Series}
 abbrev pub AreEndless : List Rule → Type 0
 AreEndless rules = All (λ rule. rule.end ≡ Never) rules
 
--- a rule at least, none of which has an end, no dates, and the start lies on this day
+-- a rule at least, none of which has an end, no excluded rule with an end, no dates, and the start lies on this day
 pub record HasRulesAlone (series : Series) (first : ℤ) : Type 0 where
   pub some : series.rules ≢ []
   pub endless : AreEndless series.rules
+  pub excluded_endless : AreEndless series.excluded
   pub plus : series.plus ≡ []
   pub minus : series.minus ≡ []
   pub begins : first ≡ day_part series.kind series.start

@@ -10,7 +10,7 @@ ghost use Rattle.rr_fold.specs.Jump.{IsJump};
 ghost use Rattle.rr_fold.specs.Rules.{HasRulesAlone};
 
 use crate::jump::{Jump, days_left_out, jump_of, spliced};
-use crate::rules::{days_of_rules, has_rules_alone};
+use crate::rules::{days_alone, has_rules_alone};
 use crate::walk::Walk;
 use rr_check::Checked;
 use rr_iter::{RuleLazy, occurrences};
@@ -49,7 +49,7 @@ pub fn folded_days(
     }
 }
 
-// The days, rule by rule where the series has endless rules alone; where that asks for too much, day by day.
+// The days, rule by rule where the series has endless rules and endless excluded rules alone; where that asks for too much, day by day.
 fn not_jumped(alloc: Global, series: &Checked, first: i64, end: i64) -> Result<FoldedDays, Fault>
     requires low { neg_ℤ (pos 719_162) ≤ℤ first }
     requires order { first <ℤ end }
@@ -60,7 +60,7 @@ fn not_jumped(alloc: Global, series: &Checked, first: i64, end: i64) -> Result<F
     ensures refused { RefusedExactlyWhere (HasTooManyMoments (tree_of series.now) end) TooManyMoments result }
 {
     if has_rules_alone(series.series(), first) {
-        if let Ok(days) = days_of_rules(alloc, series, end) {
+        if let Ok(days) = days_alone(alloc, series, end) {
             return Ok(days);
         }
     }

@@ -23,8 +23,8 @@ pub struct Jump {
     pub count: u64,
 }
 
-/// The cycles that can be left out of the days of a series; none where it is more than one rule with COUNT, or the
-/// count ends within the first cycle.
+/// The cycles that can be left out of the days of a series; none where it is more than one rule with COUNT, an excluded rule
+/// among them, or the count ends within the first cycle.
 pub fn jump_of(
     alloc: Global,
     series: &Checked,
@@ -37,7 +37,9 @@ pub fn jump_of(
     ensures { IfOk result (λ r. IfSome r (IsJump series.now first end)) }
 {
     let given = series.series();
-    let dates = given.plus.as_slice().len() + given.minus.as_slice().len();
+    let others = given.plus.as_slice().len()
+        + given.minus.as_slice().len()
+        + given.excluded.as_slice().len();
     let [rule] = given.rules.as_slice() else {
         return Ok(None);
     };
@@ -46,7 +48,7 @@ pub fn jump_of(
     };
     let days = days_between(first, end) as u64;
     let cycle = day_cycle(rule).min(100_000_000) as u64;
-    if dates > 0 || cycle >= days || first != day_part(given.kind, given.start) {
+    if others > 0 || cycle >= days || first != day_part(given.kind, given.start) {
         return Ok(None);
     }
     counted_jump(alloc, rule, given.kind, given.start, count, cycle, days)

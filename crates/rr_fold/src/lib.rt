@@ -1,13 +1,13 @@
 //! A series as a sequence of days that repeats.
 #![tactic(auto)]
 
+mod combined;
 mod fill;
 mod first_day;
 mod folded;
 mod jump;
 mod numbering;
 mod rules;
-mod united;
 mod walk;
 mod years;
 

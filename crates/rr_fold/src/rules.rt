@@ -1,22 +1,23 @@
-// The days of a series of endless rules alone, rule by rule.
-ghost use Rattle.std.specs.Prelude.{◌≡◌, ◌<ℤ◌, ◌≤ℤ◌, ◌+ℤ◌, IfOk, length, pos, true};
+// The days of a series of endless rules and endless excluded rules alone, rule by rule.
+ghost use Rattle.std.specs.Prelude.{◌≡◌, ◌≢◌, ◌<ℤ◌, ◌≤ℤ◌, ◌+ℤ◌, [], All, IfOk, length, pos, true};
 ghost use Rattle.rr_model.specs.Moment.{day_part};
 ghost use Rattle.rr_model.specs.Moment.Years.{IsInYears};
 ghost use Rattle.rr_model.specs.Rule.Validity.{IsValidRule};
 ghost use Rattle.rr_model.specs.Series.Tree.{tree_of};
 ghost use Rattle.rr_model.specs.Sets.Tree.{chosen_of};
 ghost use Rattle.rr_fold.specs.Folding.{IsFoldedTo};
-ghost use Rattle.rr_fold.specs.Rules.{AreEndless, HasRulesAlone};
+ghost use Rattle.rr_fold.specs.Rules.{AreEndless, HasRulesAlone, members_of_rules};
 
+use crate::combined::{Op, combined};
 use crate::fill::{FoldedDays, collected};
-use crate::united::united;
 use crate::years::{days_by_years, repeats_by_years};
 use rr_check::Checked;
 use rr_iter::RuleLazy;
 use rr_model::{End, Fault, Kind, Rule, Series, day_part};
 use std::alloc::Global;
 
-/// Whether a series has endless rules alone, at least one and no dates, and its start lies on a day.
+/// Whether a series has endless rules alone, at least one, beside endless excluded ones and no dates, and its start lies on
+/// a day.
 pub fn has_rules_alone(series: &Series, first: i64) -> bool
     ensures { result ≡ true → HasRulesAlone series.now first }
 {
@@ -26,6 +27,7 @@ pub fn has_rules_alone(series: &Series, first: i64) -> bool
         && series.minus.is_empty()
         && first == day_part(series.kind, series.start)
         && are_endless(rules)
+        && are_endless(series.excluded.as_slice())
 }
 
 // Whether no rule has an end.
@@ -41,9 +43,10 @@ fn are_endless(rules: &[Rule]) -> bool
     true
 }
 
-/// The days of a series of endless rules alone, from its start's day on and below another. They are the union of the days
-/// of each rule; unlike that of the series itself, a rule's days or those of some rules may be refused as `TooManyMoments`.
-pub fn days_of_rules(alloc: Global, series: &Checked, end: i64) -> Result<FoldedDays, Fault>
+/// The days of a series of endless rules and endless excluded rules alone, from its start's day on and below another: those
+/// of its rules without those of its excluded rules. Unlike those of the series itself, the days of a rule or of some rules
+/// may be refused as `TooManyMoments`.
+pub fn days_alone(alloc: Global, series: &Checked, end: i64) -> Result<FoldedDays, Fault>
     requires alone { HasRulesAlone series.now (day_part series.now.kind series.now.start) }
     requires order { day_part series.now.kind series.now.start <ℤ end }
     requires high { end ≤ℤ pos 40_000_000 }
@@ -51,11 +54,37 @@ pub fn days_of_rules(alloc: Global, series: &Checked, end: i64) -> Result<Folded
     ensures whole { IfOk result (λ days. end ≡ day_part series.now.kind series.now.start +ℤ pos (length days.numbers.items)) }
 {
     let given = series.series();
-    let rules = given.rules.as_slice();
-    let mut days = days_of_rule(alloc, &rules[0], given.kind, given.start, end)?;
+    let kind = given.kind;
+    let start = given.start;
+    let days = days_of_rules(alloc, kind, start, given.rules.as_slice(), end)?;
+    if given.excluded.is_empty() {
+        return Ok(days);
+    }
+    let out = days_of_rules(alloc, kind, start, given.excluded.as_slice(), end)?;
+    combined(alloc, Op::Minus, days, &out)
+}
+
+// The days of endless rules together, from their start's day on and below another.
+fn days_of_rules(
+    alloc: Global,
+    kind: Kind,
+    start: i64,
+    rules: &[Rule],
+    end: i64,
+) -> Result<FoldedDays, Fault>
+    requires some { rules.now ≢ [] }
+    requires endless { AreEndless rules.now }
+    requires valid { All (IsValidRule kind) rules.now }
+    requires in_years { IsInYears kind start }
+    requires order { day_part kind start <ℤ end }
+    requires high { end ≤ℤ pos 40_000_000 }
+    ensures folded { IfOk result (λ days. IsFoldedTo (members_of_rules kind start rules.now) (day_part kind start) end days.shapes days.numbers.items) }
+    ensures whole { IfOk result (λ days. end ≡ day_part kind start +ℤ pos (length days.numbers.items)) }
+{
+    let mut days = days_of_rule(alloc, &rules[0], kind, start, end)?;
     for rule in &rules[1..] {
-        let more = days_of_rule(alloc, rule, given.kind, given.start, end)?;
-        days = united(alloc, days, &more)?;
+        let more = days_of_rule(alloc, rule, kind, start, end)?;
+        days = combined(alloc, Op::Union, days, &more)?;
     }
     Ok(days)
 }

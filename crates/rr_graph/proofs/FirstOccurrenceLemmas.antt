@@ -34,7 +34,7 @@ member_not_before (rule ∷ rules) kind start t (inr m) = member_not_before rule
 
 from_starts_first : (kind : Kind) (start : ℤ) (rules : List Rule) → StartsFirst (series_from kind start rules) kind
 from_starts_first kind start rules = (
-  record { kind = refl; stands = inl (refl, refl); kept = none_contained start },
+  record { kind = refl; stands = inl (refl, refl); kept = none_contained start; not_excluded = λ m. m },
   λ t o. elim o.stands [
     | inl s ↦ omega (arith, ints, s.1)
     | inr m ↦ elim m [ inl a ↦ member_not_before rules kind start t a | inr p ↦ absurd (none_contained t p) ]

@@ -37,7 +37,7 @@ none_contained t c = omega (arith, c.1)
 module _ (kind : Kind) (start t : ℤ) (years : IsInYears kind start) where
   repeat_occurs : (r : Repeat) → IsRepeatFrom (day_part kind start) r → OccursAt r kind start t ↔ Occurs (series_of_repeat r kind start) kind t
   repeat_occurs repeat.Once v = (
-    (λ e. record { kind = refl; stands = inl (refl, e); kept = none_contained t }),
+    (λ e. record { kind = refl; stands = inl (refl, e); kept = none_contained t; not_excluded = λ m. m }),
     (λ o. elim o.stands [ inl s ↦ s.1 | inr m ↦ elim m [ inl a ↦ absurd a | inr p ↦ absurd (none_contained t p) ] ]),
   )
   repeat_occurs (repeat.Pattern pattern range) v =
@@ -45,7 +45,7 @@ module _ (kind : Kind) (start t : ℤ) (years : IsInYears kind start) where
       let found = v.3.1 in
       let good = counted_range range kind start years v.2 v.1 in
       let same = same_occurrences pattern range kind start first t (used_members pattern v.0) good v.2 found in (
-        (λ h. record { kind = refl; stands = inr (inl (inl (same.0 h))); kept = none_contained t }),
+        (λ h. record { kind = refl; stands = inr (inl (inl (same.0 h))); kept = none_contained t; not_excluded = λ m. m }),
         (λ o. elim o.stands [
           | inl s ↦ (
               let here : t ≡ moment_at kind first (second_part kind start) =
@@ -81,7 +81,7 @@ module _ (kind : Kind) (start t : ℤ) (years : IsInYears kind start) where
 
 -- an occurrence of a series is one of its kind
 of_kind : (series : Series) (k : Kind) (t : ℤ) → Occurs series k t → Occurs series series.kind t
-of_kind series k t o = record { kind = refl; stands = o.stands; kept = o.kept }
+of_kind series k t o = record { kind = refl; stands = o.stands; kept = o.kept; not_excluded = o.not_excluded }
 
 kind_is : (r : Repeat) (kind : Kind) (start : ℤ) → (series_of_repeat r kind start).kind ≡ kind
 kind_is repeat.Once kind start = refl

@@ -60,8 +60,10 @@ alone kind start years = record {
     start = years;
     start_counts = λ e. absurd (cc);
     rules = nothing _;
+    excluded = nothing _;
     few_rules = omega arith;
     ends = nothing _;
+    excluded_ends = nothing _;
     plus = nothing _;
     minus = nothing _;
     plus_rises = tt;
@@ -69,6 +71,7 @@ alone kind start years = record {
     few_dates = omega arith;
   };
   rules = nothing _;
+  excluded = nothing _;
 }
 
 with_rule : (kind : Kind) (start : ℤ) (rule : Rule) → IsInYears kind start → IsValidRule kind rule → EndsInYears rule.end → FitsStart kind start rule
@@ -78,8 +81,10 @@ with_rule kind start rule years valid end fits = record {
     start = years;
     start_counts = λ e. absurd (cc);
     rules = All-cons (IsValidRule kind) rule [] valid (nothing _);
+    excluded = nothing _;
     few_rules = omega arith;
     ends = All-cons (λ r. EndsInYears r.end) rule [] end (nothing _);
+    excluded_ends = nothing _;
     plus = nothing _;
     minus = nothing _;
     plus_rises = tt;
@@ -87,6 +92,7 @@ with_rule kind start rule years valid end fits = record {
     few_dates = omega arith;
   };
   rules = All-cons (FitsStart kind start) rule [] fits (nothing _);
+  excluded = nothing _;
 }
 
 repeat_is_sound : (r : Repeat) (kind : Kind) (start : ℤ) → IsInYears kind start → IsRepeatFrom (day_part kind start) r → IsSound (series_of_repeat r kind start)

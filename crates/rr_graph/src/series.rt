@@ -25,6 +25,7 @@ fn series_from(alloc: Global, kind: Kind, start: i64, rules: Rules) -> Series
         start,
         start_counts: true,
         rules,
+        excluded: Rules::new(alloc),
         plus: Dates::new(alloc),
         minus: Dates::new(alloc),
     }

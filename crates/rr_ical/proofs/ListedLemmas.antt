@@ -93,10 +93,12 @@ pub series_valid : (first : Option Stamp) (plus : List ℤ) → AreInYears first
     → IsValidSeries (series_of_list first plus)
 series_valid None plus years rises few = record {
   start = (four_digit_year (pos 0)).1 (omega (arith, ints), omega (arith, ints));
-  start_counts = λ e. (refl, refl, refl, refl, refl);
+  start_counts = λ e. (refl, refl, refl, refl, refl, refl);
   rules = All-nil _;
+  excluded = All-nil _;
   few_rules = omega arith;
   ends = All-nil _;
+  excluded_ends = All-nil _;
   plus = All-nil _;
   minus = All-nil _;
   plus_rises = tt;
@@ -107,8 +109,10 @@ series_valid (Some first) plus years rises few = record {
   start = years.0;
   start_counts = λ e. absurd (cc);
   rules = All-nil _;
+  excluded = All-nil _;
   few_rules = omega arith;
   ends = All-nil _;
+  excluded_ends = All-nil _;
   plus = years.1;
   minus = All-nil _;
   plus_rises = rises;

@@ -13,7 +13,7 @@ use Rattle.rr_model.specs.declared.line.Line.{Line}
 use Rattle.rr_model.specs.declared.refusal.Refusal.{Refusal}
 use Rattle.rr_model.specs.declared.used.LineKind.TheVariants.{Property}
 use Rattle.rr_model.specs.declared.used.LineName.{LineName}
-use Rattle.rr_model.specs.declared.used.LineName.TheVariants.{Dtstart, Rrule, Rdate, Exdate}
+use Rattle.rr_model.specs.declared.used.LineName.TheVariants.{Dtstart, Rrule, Rdate, Exdate, Exrule}
 use Rattle.rr_model.specs.declared.used.UsedLine.{UsedLine}
 use Rattle.rr_text.proofs.FoldedLineLemmas.{AreLines, number_after, numbered, folded_lines_unfold}
 use Rattle.rr_text.proofs.PlainTextLemmas.{trim-plain, unbroken-plain, folded_lines-utf8}
@@ -136,3 +136,7 @@ minus_front Moments = record { kind = λ v. refl; stated = λ v. refl; no_begin 
 pub rule_front : IsFront (codes "RRULE:") Rrule
 unfolding line_kind value_of_line
 rule_front = record { kind = λ v. refl; stated = λ v. refl; no_begin = λ v. refl; no_blank = λ v. refl; bytes = refl }
+
+pub excluded_rule_front : IsFront (codes "EXRULE:") Exrule
+unfolding line_kind value_of_line
+excluded_rule_front = record { kind = λ v. refl; stated = λ v. refl; no_begin = λ v. refl; no_blank = λ v. refl; bytes = refl }

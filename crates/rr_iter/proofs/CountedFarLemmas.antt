@@ -1,34 +1,29 @@
 -- Where a rule that counts has members from a day on.
-use Rattle.std.proofs.Common.{◌≡◌, ◌↔◌, ℕ, zero, suc, ◌*◌, nat_abs, ◌-ℤ◌, ◌+◌, ◌<◌, ◌≤◌, true, ℤ, pos, ◌+ℤ◌, ◌≤ℤ◌, refl, sym, ap, subst, ◌∙◌, arith}
+use Rattle.std.proofs.Common.{◌≡◌, ◌↔◌, ℕ, zero, suc, ◌+◌, ◌<◌, ◌≤◌, Bool, ◌==◌, true, false, ℤ, pos, ◌+ℤ◌, ◌≤ℤ◌, refl, sym, ap, subst, ◌∙◌, arith}
 use Rattle.std.proofs.lemmas.Int.{ints}
 use Rattle.std.proofs.lemmas.Bool.{and_parts}
-use Rattle.std.proofs.Math.Nat.{dvd-mul_left}
-use Rattle.rr_model.specs.Whole.{floor_div, floor_mod}
+use Rattle.std.proofs.lemmas.Bool.Decides.{nat_tests}
 use Rattle.rr_model.specs.Moment.{day_part, second_part}
 use Rattle.rr_model.specs.Moment.Years.{IsInYears, IsFromYearOne}
-use Rattle.rr_model.specs.Rule.Chosen.{is_chosen, IsSynchronised}
-use Rattle.rr_model.specs.Rule.Cycle.{rule_cycle}
 use Rattle.rr_model.specs.Rule.Member.{IsMember}
-use Rattle.rr_model.specs.Rule.Repetition.{days_in}
-use Rattle.rr_model.specs.Rule.Validity.{IsValidRule, EndsInYears}
-use Rattle.rr_model.specs.Series.Limits.{Counts, CountsTooFar}
+use Rattle.rr_model.specs.Rule.Member.{members_to}
+use Rattle.rr_model.specs.Series.Limits.{CountsMore, CountsTooFar, span_end}
 use Rattle.rr_model.specs.Series.Soundness.{EndsNotBefore}
 use Rattle.rr_model.specs.Series.Tree.{ended, members_of}
-use Rattle.rr_model.specs.Sets.Counting.{count_before}
+use Rattle.rr_model.specs.Sets.Counting.{count_before, count_seconds, count_to}
 use Rattle.rr_model.specs.Sets.Tree.{Tree, chosen_of, first_n, stands_at}
 use Rattle.rr_model.specs.declared.kind.Kind.{Kind}
 use Rattle.rr_model.specs.declared.kind.Kind.TheVariants.{Days, Moments}
 use Rattle.rr_model.specs.declared.limits.TheConstants.{MAX_SPAN_DAYS}
-use Rattle.rr_model.specs.declared.rule.End.TheVariants.{Never, Count, Both}
+use Rattle.rr_model.specs.declared.rule.End.TheVariants.{Count, Both}
 use Rattle.rr_model.specs.declared.rule.Rule.{Rule}
-use Rattle.rr_model.proofs.WholeLemmas.{floor_whole, floor_mod_below, floor_only}
-use Rattle.rr_model.proofs.YearLemmas.{year_1, year_10000}
-use Rattle.rr_check.proofs.RepetitionLemmas.{chosen_repeats_by}
-use Rattle.rr_check.proofs.SeriesCycleLemmas.{rule_cycle_some}
-use Rattle.rr_lazy.proofs.AgreeLemmas.{members_agree, agree}
+use Rattle.rr_lazy.proofs.AgreeLemmas.{members_agree}
 use Rattle.rr_lazy.proofs.PastLemmas.{first_from_on, few_before}
-use Rattle.rr_lazy.proofs.StretchLemmas.{day_mono}
-use Rattle.rr_iter.proofs.RepeatLemmas.{member_at}
+use Rattle.rr_lazy.proofs.StretchLemmas.{moment_day, moment_second}
+use Rattle.rr_lazy.proofs.CountingLemmas.{before_next, count_seconds-zero, count_seconds_no, seconds_skip, to_is}
+use Rattle.rr_lazy.proofs.MemberCountLemmas.{count_is}
+use Rattle.rr_iter.specs.Ends.{HasNumberOn}
+use Rattle.rr_iter.proofs.RepeatLemmas.{before_later_day, member_at}
 
 -- ---- a rule with COUNT
 
@@ -68,55 +63,65 @@ module _
         (_, omega (arith, ints, m.1, x.2), m.0)),
   )
 
--- ---- chosen moments far on
+-- ---- the members within a span
 
--- so many days later
-day_later : (kind : Kind) (t : ℤ) (n : ℕ) → (day_part kind (t +ℤ days_in kind (pos n)) ≡ day_part kind t +ℤ pos n) × (t ≤ℤ (t +ℤ days_in kind (pos n)))
-day_later Days t n = (refl, omega (arith, ints))
-day_later Moments t n =
-    let w = floor_whole t 86_400 (omega arith) in
-    let b = floor_mod_below t 86_400 (omega arith) in
-    let later = floor_only (t +ℤ days_in Moments (pos n)) (floor_div t 86_400 +ℤ pos n) 86_400 (floor_mod t 86_400) b (omega (arith, ints, w)) in
-    (later.0, omega (arith, ints))
+-- a date has its midnight alone
+one_second : (rule : Rule) (start d : ℤ) (s : ℕ) → 1 ≤ s → stands_at (chosen_of rule Days start) d s ≡ false
+one_second rule start d s l = let n : (s == 0) ≡ false = grind (arith, nat_tests) in rw n refl
 
-many_cycles : (m c : ℕ) → 1 ≤ c → m ≤ m * c
-many_cycles m (suc c) l = omega arith
-many_cycles m zero l = absurd (omega arith)
+module _ (rule : Rule) (start : ℤ) where
+  -- the day after a span, counted over days and over the numbers of the kind
+  pub in_span : (kind : Kind) → IsInYears kind start
+      → count_before (λ x y. stands_at (chosen_of rule kind start) x y) (day_part kind start +ℤ pos (MAX_SPAN_DAYS + 1))
+      ≡ members_to rule kind start (span_end kind start)
+  in_span Days y =
+      let test = λ (x : ℤ) (z : ℕ). stands_at (chosen_of rule Days start) x z in
+      let t : ℤ = start +ℤ pos MAX_SPAN_DAYS in
+      let begun : IsFromYearOne t = omega (arith, ints, y.0) in
+      let all : count_to test t 0 ≡ members_to rule Days start t = count_is rule Days start t y (omega (arith, ints)) in
+      let one = seconds_skip (test t) 1 86_400 (omega arith) (λ s a b. one_second rule start t s a) in
+      let next : start +ℤ pos (MAX_SPAN_DAYS + 1) ≡ t +ℤ pos 1 = omega (arith, ints) in
+      rw next (omega (arith, all, to_is test t 0, one, before_next test t begun))
+  in_span Moments y =
+      let test = λ (x : ℤ) (z : ℕ). stands_at (chosen_of rule Moments start) x z in
+      let d : ℤ = day_part Moments start +ℤ pos MAX_SPAN_DAYS in
+      let t : ℤ = span_end Moments start in
+      let begun : IsFromYearOne d = omega (arith, ints, y.0) in
+      let day = moment_day Moments d 86_399 refl in
+      let second = moment_second Moments d 86_399 refl in
+      let early = before_later_day Moments start d 86_399 (omega (arith, ints)) in
+      let all = rw (day, second) at (count_is rule Moments start t y (omega (arith, ints, early))) in
+      let next : day_part Moments start +ℤ pos (MAX_SPAN_DAYS + 1) ≡ d +ℤ pos 1 = omega (arith, ints) in
+      rw next (omega (arith, all, to_is test d 86_399, before_next test d begun))
 
-module _
-    (rule : Rule) (kind : Kind) (start : ℤ) (in_years : IsInYears kind start) (valid : IsValidRule kind rule)
-    (synchronised : IsSynchronised rule kind start) where
-  -- a rule that chooses its start chooses a moment from any day on
-  pub chosen_from : (from : ℤ) → HasSecondFrom (chosen_of rule kind start) from
-  chosen_from from =
-      let m : ℕ = nat_abs (from -ℤ day_part kind start) in
-      let n : ℕ = m * rule_cycle rule in
-      let far : m ≤ n = many_cycles m (rule_cycle rule) (rule_cycle_some rule valid.interval_low) in
-      let t : ℤ = start +ℤ days_in kind (pos n) in
-      let later = day_later kind start n in
-      let c : is_chosen rule kind start t ≡ true = chosen_repeats_by rule kind start start valid n (dvd-mul_left (rule_cycle rule) m) ∙ synchronised in
-      (day_part kind t, second_part kind t, omega (arith, ints, later.0, far), (agree rule kind start t in_years Never tt).1 (c, later.1, tt))
+-- a rule with COUNT counts too far exactly where fewer of its chosen moments lie within the span than it counts
+pub counts_too_far : (rule : Rule) (kind : Kind) (start : ℤ) → IsInYears kind start → (count : ℕ) → rule.end ≡ Count count
+    → CountsTooFar kind start rule
+    ↔ (count_before (λ x y. stands_at (chosen_of rule kind start) x y) (day_part kind start +ℤ pos (MAX_SPAN_DAYS + 1)) < count)
+counts_too_far rule kind start y count e =
+    let same = in_span rule start kind y in (
+      λ f. (let few = subst (CountsMore kind start rule) e f in omega (arith, same, few)),
+      λ few. subst (CountsMore kind start rule) (sym e) (omega (arith, same, few)),
+    )
 
-  -- so a rule with COUNT counts too far exactly where fewer of its chosen moments lie within the span than it counts
-  pub counts_too_far : (count : ℕ) → rule.end ≡ Count count
-      → CountsTooFar kind start rule
-      ↔ (count_before (λ x y. stands_at (chosen_of rule kind start) x y) (day_part kind start +ℤ pos (MAX_SPAN_DAYS + 1)) < count)
-  counts_too_far count e =
-      let from : ℤ = day_part kind start +ℤ pos (MAX_SPAN_DAYS + 1) in
-      let c = counted_from_on rule kind start count in_years e from (omega (arith, ints, in_years.0)) in (
-        λ f. (c.0 (f.1.0, omega (arith, ints, f.1.1), f.1.2)).0,
-        λ few. (let m = c.1 (few, chosen_from from) in (subst Counts (sym e) tt, (m.0, omega (arith, ints, m.1), m.2))),
-      )
+-- seconds that are counted are there
+seconds_exist : (test : ℕ → Bool) (n : ℕ) → 1 ≤ count_seconds test n → (s : ℕ) × (test s ≡ true)
+seconds_exist test zero l = absurd (omega (arith, count_seconds-zero test, l))
+seconds_exist test (suc n) l = elim (test n) as (λ b. test n ≡ b → (s : ℕ) × (test s ≡ true)) [
+  | true ↦ λ e. (n, e)
+  | false ↦ λ e. seconds_exist test n (omega (arith, count_seconds_no test n e, l))
+] refl
+
+-- the day on which the chosen moment of a number lies is occupied
+pub second_on : (tree : Tree) (number : ℕ) (day : ℤ) → HasNumberOn tree number day → HasSecondFrom tree day
+second_on tree number day h =
+    let some : 1 ≤ count_seconds (stands_at tree day) 86_400 =
+    omega (arith, before_next (λ x y. stands_at tree x y) day h.begun, h.above, h.within) in
+    let x = seconds_exist (stands_at tree day) 86_400 some in
+    (day, x.0, omega (arith, ints), x.1)
 
 -- ---- a rule with COUNT and UNTIL
 
--- its members lie in the years 1 to 9999, so it never counts too far
-pub both_not_far : (rule : Rule) (kind other : Kind) (start at : ℤ) (count : ℕ) → IsInYears kind start → rule.end ≡ Both other at count → EndsInYears rule.end
-    → CountsTooFar kind start rule → ⊥
-both_not_far rule kind other start at count in_years e ends far =
-    let t = far.1.0 in
-    let m = far.1.2 in
-    let within = rw e at m.within_end in
-    let high : IsInYears other at = rw e at ends in
-    let same : IsInYears kind at = subst (λ k. IsInYears k at) within.0 high in
-    omega (arith, ints, in_years.0, same.1, far.1.1, day_mono kind t at within.1, year_1, year_10000)
+-- it is never said to count too far: its members lie in the years 1 to 9999
+pub both_not_far : (rule : Rule) (kind other : Kind) (start at : ℤ) (count : ℕ) → rule.end ≡ Both other at count → CountsTooFar kind start rule → ⊥
+both_not_far rule kind other start at count e far = subst (CountsMore kind start rule) e far

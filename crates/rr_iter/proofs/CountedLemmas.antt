@@ -20,27 +20,8 @@ use Rattle.rr_lazy.proofs.CountingLemmas.{count_seconds-suc, count_seconds-zero,
 use Rattle.rr_lazy.proofs.CycleCountLemmas.{cycles_and_days, days_split}
 use Rattle.rr_lazy.proofs.TreeLemmas.{stands_below}
 use Rattle.rr_iter.specs.Ends.{HasNumberOn, IsSoundRule, before_day}
-use Rattle.rr_iter.proofs.CountedFarLemmas.{HasSecondFrom, chosen_from}
 use Rattle.rr_iter.proofs.StepLemmas.{before_start}
 use Rattle.rr_iter.proofs.RepeatLemmas.{chosen_later}
-
--- a second that passes is counted
-seconds_some : (test : ℕ → Bool) (n s : ℕ) → s < n → test s ≡ true → 1 ≤ count_seconds test n
-seconds_some test zero s l e = absurd (omega (arith, l))
-seconds_some test (suc n) s l e = elim (cases_lt s n) [
-  | inl h ↦ omega (arith, count_seconds-suc test n, seconds_some test n s h e)
-  | inr h ↦ (let same : s ≡ n = omega arith in let here : test n ≡ true = rw same at e in omega (arith, count_seconds_yes test n here))
-]
-
--- an occupied day adds one occurrence at least
-day_adds : (tree : Tree) (d : ℤ) (s : ℕ) → IsFromYearOne d → stands_at tree d s ≡ true → before_day tree d + 1 ≤ before_day tree (d +ℤ pos 1)
-day_adds tree d s begun e =
-    let some = seconds_some (stands_at tree d) 86_400 s (stands_below tree d s e) e in
-    omega (arith, before_next (λ x y. stands_at tree x y) d begun, some)
-
-some_factor : (k e : ℕ) → 1 ≤ k * e → 1 ≤ e
-some_factor k zero l = absurd (let z : k * 0 ≡ 0 = omega arith in omega (arith, z, l))
-some_factor k (suc e) l = omega arith
 
 many_cycles : (k c : ℕ) → 1 ≤ c → k ≤ k * c
 many_cycles k zero l = absurd (omega (arith, l))
@@ -103,19 +84,6 @@ module _ (tree : Tree) (first : ℤ) (cycle each : ℕ) (begun : IsFromYearOne f
       let c = rw each_is at (cycles_and_days (λ d s. stands_at tree d s) next cycle repeats k n) in
       omega (arith, ap (before_day tree) e, ap (before_day tree) f, after_next (k * cycle + n), after_next n, c)
 
-  -- a cycle has an occurrence, where there is one after the day
-  pub each_some : 1 ≤ cycle → HasSecondFrom tree next → 1 ≤ each
-  each_some some (d, s, l, t) =
-      let n : ℕ = nat_abs (d -ℤ next) in
-      let k : ℕ = n + 1 in
-      let e : d ≡ next +ℤ pos n = omega (arith, ints, l) in
-      let far : k ≤ k * cycle = many_cycles k cycle some in
-      let from : IsFromYearOne d = omega (arith, ints, begun, l) in
-      let early = before_grows (λ x y. stands_at tree x y) next d (omega (arith, ints, begun)) l in
-      let late = before_grows (λ x y. stands_at tree x y) (d +ℤ pos 1) (next +ℤ pos (k * cycle)) (omega (arith, ints, from)) (omega (arith, ints, e, far)) in
-      let adds = day_adds tree d s from t in
-      some_factor k each (omega (arith, early, adds, late, cycles_later k next (omega (arith, ints))))
-
   -- the number is more than these cycles have, after the occurrences of the first days
   module _ (k days passed count left : ℕ) (d : days ≡ k * cycle) (p : passed ≡ k * each)
       (counted : before_day tree next + left ≡ count) (some : passed < left) where
@@ -176,9 +144,6 @@ module _ (kind : Kind) (start : ℤ) (rule : Rule) (sound : IsSoundRule kind sta
       → stands_at (chosen_of rule kind start) (d +ℤ pos (rule_cycle rule)) s ≡ stands_at (chosen_of rule kind start) d s
   repeats d s l = chosen_later rule kind start sound.valid (rule_cycle rule) d s (dvd_refl (rule_cycle rule)) (omega (arith, ints, l))
 
-  pub has_later : HasSecondFrom (chosen_of rule kind start) (day_part kind start +ℤ pos 1)
-  has_later = chosen_from rule kind start sound.in_years sound.valid sound.fits.synchronised (day_part kind start +ℤ pos 1)
-
   pub cycle_some : 1 ≤ rule_cycle rule
   cycle_some = rule_cycle_some rule sound.valid.interval_low
 
@@ -195,9 +160,6 @@ module _ (kind : Kind) (start : ℤ) (rule : Rule) (sound : IsSoundRule kind sta
   -- the moments of its first cycle, the number that is looked for, and how many of them come after the start's day
   module _ (each : ℕ) (one : before_day (chosen_of rule kind start) ((day_part kind start +ℤ pos (rule_cycle rule)) +ℤ pos 1)
       ≡ before_day (chosen_of rule kind start) (day_part kind start +ℤ pos 1) + each) where
-    pub rule_each_some : 1 ≤ each
-    rule_each_some = each_some (chosen_of rule kind start) (day_part kind start) (rule_cycle rule) each start_begun repeats one cycle_some has_later
-
     module _ (count left : ℕ) (counted : before_day (chosen_of rule kind start) (day_part kind start +ℤ pos 1) + left ≡ count) (some : 1 ≤ left) where
       -- so many whole cycles are passed over
       abbrev cycles : ℕ
@@ -225,4 +187,14 @@ module _ (kind : Kind) (start : ℤ) (rule : Rule) (sound : IsSoundRule kind sta
       rule_number_after far =
           number_after (chosen_of rule kind start) (day_part kind start) (rule_cycle rule) each start_begun repeats one
           cycles days (cycles * each) count left refl refl counted (passed_less left each some)
+          (day_part kind start +ℤ pos 16_777_217) (omega (arith, ints, start_begun)) (omega (arith, ints, far))
+
+      -- where a cycle has none, the number lies after any number of cycles
+      pub rule_number_never : each ≡ 0 → before_day (chosen_of rule kind start) (day_part kind start +ℤ pos 16_777_217) < count
+      rule_number_never none =
+          let k : ℕ = 16_777_217 in
+          let far : k ≤ k * rule_cycle rule = many_cycles k (rule_cycle rule) cycle_some in
+          let nothing : k * each ≡ 0 = omega (arith, none) in
+          number_after (chosen_of rule kind start) (day_part kind start) (rule_cycle rule) each start_begun repeats one
+          k (k * rule_cycle rule) (k * each) count left refl refl counted (omega (arith, nothing, some))
           (day_part kind start +ℤ pos 16_777_217) (omega (arith, ints, start_begun)) (omega (arith, ints, far))

@@ -6,10 +6,9 @@ use Rattle.std.proofs.lemmas.Bool.{false≢true}
 use Rattle.rr_model.specs.Answers.{RefusedExactlyWhere}
 use Rattle.rr_model.specs.Moment.{day_part, second_part, moment_at}
 use Rattle.rr_model.specs.Moment.Years.{IsInYears, IsFromYearOne}
-use Rattle.rr_model.specs.Rule.Chosen.{IsSynchronised}
 use Rattle.rr_model.specs.Rule.Member.{IsMember}
-use Rattle.rr_model.specs.Rule.Validity.{EndsInYears, IsValidRule}
-use Rattle.rr_model.specs.Series.Limits.{Counts, CountsTooFar}
+use Rattle.rr_model.specs.Rule.Validity.{EndsInYears}
+use Rattle.rr_model.specs.Series.Limits.{CountsMore, CountsTooFar}
 use Rattle.rr_model.specs.Series.Settled.{EndsBefore}
 use Rattle.rr_model.specs.Series.Soundness.{EndsNotBefore}
 use Rattle.rr_model.specs.Series.Tree.{members_of}
@@ -26,7 +25,7 @@ use Rattle.rr_lazy.specs.Next.{HasNone, IsFirstOccupied}
 use Rattle.rr_lazy.proofs.AgreeLemmas.{members_agree}
 use Rattle.rr_lazy.proofs.StretchLemmas.{day_mono}
 use Rattle.rr_iter.specs.Ends.{AnswersDayOf, HasNumberOn, IsLastDay, IsLastUpTo, IsSoundRule, before_day}
-use Rattle.rr_iter.proofs.CountedFarLemmas.{chosen_from, counted_from_on, counts_too_far}
+use Rattle.rr_iter.proofs.CountedFarLemmas.{counted_from_on, counts_too_far, second_on}
 use Rattle.rr_iter.proofs.CountedLemmas.{not_after}
 use Rattle.rr_iter.proofs.RepeatLemmas.{member_at}
 
@@ -60,7 +59,7 @@ module _ (kind : Kind) (start : ℤ) (rule : Rule) where
   }
 
   pub never_far : rule.end ≡ Never → CountsTooFar kind start rule → ⊥
-  never_far e f = subst Counts e f.0
+  never_far e f = subst (CountsMore kind start rule) e f
 
   -- with UNTIL
   pub until_last : (other : Kind) (at : ℤ) → rule.end ≡ Until other at → EndsNotBefore kind start rule.end → IsLastDay kind start rule (day_part kind at)
@@ -78,17 +77,17 @@ module _ (kind : Kind) (start : ℤ) (rule : Rule) where
   until_near other at e y f = subst (λ k. IsInYears k at) (subst (EndsNotBefore kind start) e f).0 (subst EndsInYears e y)
 
   pub until_far : (other : Kind) (at : ℤ) → rule.end ≡ Until other at → CountsTooFar kind start rule → ⊥
-  until_far other at e f = subst Counts e f.0
+  until_far other at e f = subst (CountsMore kind start rule) e f
 
   -- with COUNT
-  pub count_last : (count : ℕ) (day : ℤ) → rule.end ≡ Count count → IsInYears kind start → IsValidRule kind rule → IsSynchronised rule kind start
+  pub count_last : (count : ℕ) (day : ℤ) → rule.end ≡ Count count → IsInYears kind start
       → HasNumberOn (chosen_of rule kind start) count day → IsLastDay kind start rule day
-  count_last count day e y v s h =
+  count_last count day e y h =
       let begun : IsFromYearOne (day +ℤ pos 1) = omega (arith, ints, h.begun) in
       let last : (t : ℤ) → IsMember rule kind start t → day_part kind t <ℤ (day +ℤ pos 1) = λ t m.
       by_lt_z {P = day_part kind t <ℤ (day +ℤ pos 1)} (day_part kind t) (day +ℤ pos 1) (λ l. l) (λ g.
       (let few = ((counted_from_on rule kind start count y e (day +ℤ pos 1) begun).0 (t, g, m)).0 in absurd (omega (arith, few, h.within)))) in
-      let member = (counted_from_on rule kind start count y e day h.begun).1 (h.above, chosen_from rule kind start y v s day) in
+      let member = (counted_from_on rule kind start count y e day h.begun).1 (h.above, second_on (chosen_of rule kind start) count day h) in
       record {
         late = (let a = day_mono kind start member.0 member.2.not_before in let b = last member.0 member.2 in omega (arith, ints, a, b));
         ends = subst (EndsBefore kind start (day +ℤ pos 1) rule) (sym e) last;
@@ -101,11 +100,11 @@ module _ (kind : Kind) (start : ℤ) (rule : Rule) where
   module _ (count : ℕ) (e : rule.end ≡ Count count) (sound : IsSoundRule kind start rule) where
     pub count_answered : (result : Result ℤ Fault) → AnswersDayOf (chosen_of rule kind start) (day_part kind start) count result
         → IfOk result (IsLastDay kind start rule)
-    count_answered (Ok day) a = count_last count day e sound.in_years sound.valid sound.fits.synchronised a.1
+    count_answered (Ok day) a = count_last count day e sound.in_years a.1
     count_answered (Err fault) a = tt
 
     few : CountsTooFar kind start rule ↔ (before_day (chosen_of rule kind start) (day_part kind start +ℤ pos 16_777_217) < count)
-    few = counts_too_far rule kind start sound.in_years sound.valid sound.fits.synchronised count e
+    few = counts_too_far rule kind start sound.in_years count e
 
     pub count_refused : (result : Result ℤ Fault) → AnswersDayOf (chosen_of rule kind start) (day_part kind start) count result
         → RefusedExactlyWhere (CountsTooFar kind start rule) CountedTooFar result

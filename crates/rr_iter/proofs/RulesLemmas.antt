@@ -5,8 +5,8 @@ use Rattle.std.proofs.lemmas.List.{take_all, take_more}
 use Rattle.rr_model.specs.Moment.Years.{IsInYears}
 use Rattle.rr_model.specs.Rule.Validity.{EndsInYears}
 use Rattle.rr_model.specs.Series.Soundness.{EndsNotBefore, IsSound}
-use Rattle.rr_model.specs.Series.Tree.{dates_with_start, ended, members_of, members_of_all}
-use Rattle.rr_model.specs.Sets.Tree.{Tree, chosen_of, dates_of, union, many, without, part, IsOfKind, AreOfKind, IsOfOneKind}
+use Rattle.rr_model.specs.Series.Tree.{dates_with_start, ended, members_of, members_of_all, tree_of_given}
+use Rattle.rr_model.specs.Sets.Tree.{Tree, chosen_of, dates_of, union, many, without, except, part, IsOfKind, AreOfKind, IsOfOneKind}
 use Rattle.rr_model.specs.declared.kind.Kind.{Kind}
 use Rattle.rr_model.specs.declared.rule.End.{End}
 use Rattle.rr_model.specs.declared.rule.End.TheVariants.{Never, Until, Count, Both}
@@ -14,6 +14,8 @@ use Rattle.rr_model.specs.declared.rule.Rule.{Rule}
 use Rattle.rr_model.specs.declared.rule.Series.{Series}
 use Rattle.rr_model.specs.Rising.{with_value}
 use Rattle.rr_model.proofs.RisingLemmas.{All-with_value}
+use Rattle.rr_iter.specs.Ends.{IsSoundRule}
+use Rattle.rr_iter.proofs.SettledLemmas.{excluded_are_sound, rules_are_sound}
 use Rattle.rr_lazy.specs.Many.{with_part, joined}
 use Rattle.rr_lazy.proofs.KindLemmas.{of_one_kind}
 
@@ -25,12 +27,13 @@ ended_of_kind kind start tree (Until other at) h y n = ((λ i. kind), subst (λ 
 ended_of_kind kind start tree (Count count) h y n = h
 ended_of_kind kind start tree (Both other at count) h y n = ((λ i. kind), subst (λ k. IsInYears k at) n.0 y, h)
 
--- the members of each rule of a sound series are of its kind
-pub members_of_kind : (series : Series) → IsSound series → All (λ rule. IsOfKind series.kind (members_of series.kind series.start rule)) series.rules
-members_of_kind series s k d l =
-    let rule = get_or series.rules k d in
-    let tree = chosen_of rule series.kind series.start in
-    ended_of_kind series.kind series.start tree rule.end ((λ i. series.kind), s.valid.rules k d l, s.valid.start) (s.valid.ends k d l) (s.rules k d l).end
+-- the members of each of some rules are of their kind
+pub members_of_kind : (kind : Kind) (start : ℤ) (rules : List Rule) → All (IsSoundRule kind start) rules
+    → All (λ rule. IsOfKind kind (members_of kind start rule)) rules
+members_of_kind kind start rules s k d l =
+    let rule = get_or rules k d in
+    let sound = s k d l in
+    ended_of_kind kind start (chosen_of rule kind start) rule.end ((λ i. kind), sound.valid, sound.in_years) sound.ends_in_years sound.end
 
 module _ (kind : Kind) (start : ℤ) where
   -- the members of each of these rules
@@ -71,22 +74,36 @@ dates_in_years series s =
       | false ↦ s.valid.plus
     ]
 
--- the dates and the members together
-abbrev all_of : Series → Tree
-all_of series = union (dates_of series.kind (dates_with_start series)) (all_members series.kind series.start series.rules)
+-- the members of some rules together
+all_of_rules : (kind : Kind) (start : ℤ) (rules : List Rule) → All (IsSoundRule kind start) rules → AreOfKind kind (members_of_all kind start rules)
+all_of_rules kind start rules s =
+    let first = first_of_kind kind start (length rules) rules (members_of_kind kind start rules s) in
+    subst (λ r. AreOfKind kind (members_of_all kind start r)) (take_all (length rules) rules (omega arith)) first
 
-all_of_kind : (series : Series) → IsSound series → IsOfKind series.kind (all_of series)
-all_of_kind series s =
-    let rules = series.rules in
-    let first = first_of_kind series.kind series.start (length rules) rules (members_of_kind series s) in
-    let whole = take_all (length rules) rules (omega arith) in
-    (((λ i. series.kind), dates_in_years series s), subst (λ r. AreOfKind series.kind (members_of_all series.kind series.start r)) whole first)
+given_of_kind : (series : Series) → IsSound series → IsOfKind series.kind (tree_of_given series)
+given_of_kind series s =
+    (((λ i. series.kind), dates_in_years series s), all_of_rules series.kind series.start series.rules (rules_are_sound series s))
 
 pub all_one_kind : (series : Series) (a b : Tree) → IsSound series → a ≡ dates_of series.kind (dates_with_start series)
     → b ≡ all_members series.kind series.start series.rules → IsOfOneKind (union a b)
-all_one_kind series a b s e f = rw (e, f) (of_one_kind series.kind (all_of series) (all_of_kind series s))
+all_one_kind series a b s e f = rw (e, f) (of_one_kind series.kind (tree_of_given series) (given_of_kind series s))
 
-pub whole_one_kind : (series : Series) (a : Tree) (dates : List ℤ) → IsSound series → a ≡ all_of series → dates ≡ series.minus
+-- what is left of these once the members of excluded rules are taken out
+abbrev kept_of : Series → Tree
+kept_of series = except (tree_of_given series) (all_members series.kind series.start series.excluded)
+
+kept_of_kind : (series : Series) → IsSound series → IsOfKind series.kind (kept_of series)
+kept_of_kind series s = (given_of_kind series s, all_of_rules series.kind series.start series.excluded (excluded_are_sound series s))
+
+pub kept_one_kind : (series : Series) (a b : Tree) → IsSound series → a ≡ tree_of_given series
+    → b ≡ all_members series.kind series.start series.excluded → IsOfOneKind (except a b)
+kept_one_kind series a b s e f = rw (e, f) (of_one_kind series.kind (kept_of series) (kept_of_kind series s))
+
+pub whole_one_kind : (series : Series) (a : Tree) (dates : List ℤ) → IsSound series → a ≡ kept_of series → dates ≡ series.minus
     → IsOfOneKind (without a series.kind dates)
 whole_one_kind series a dates s e f =
-    ((λ i. series.kind), subst (All (IsInYears series.kind)) (sym f) s.valid.minus, subst (IsOfKind series.kind) (sym e) (all_of_kind series s))
+    ((λ i. series.kind), subst (All (IsInYears series.kind)) (sym f) s.valid.minus, subst (IsOfKind series.kind) (sym e) (kept_of_kind series s))
+
+-- two trees that are known make the tree of their difference
+pub same_except : (a a' b b' : Tree) → a ≡ a' → b ≡ b' → except a b ≡ except a' b'
+same_except a a' b b' e f = ap (λ t. except t b) e ∙ ap (λ t. except a' t) f

@@ -6,7 +6,7 @@ use Rattle.rr_model.specs.Rule.Candidate.{is_candidate}
 use Rattle.rr_model.specs.Rule.Chosen.{is_chosen}
 use Rattle.rr_model.specs.Rule.Plain.{plain_rule}
 use Rattle.rr_model.specs.Series.Tree.{ended, members_of, members_of_all, dates_with_start, tree_of}
-use Rattle.rr_model.specs.Sets.Tree.{chosen_of, dates_of, union, many, upto, first_n, without, nothing, part, stands_in}
+use Rattle.rr_model.specs.Sets.Tree.{chosen_of, dates_of, union, many, upto, first_n, without, except, nothing, part, stands_in}
 use Rattle.rr_model.specs.declared.kind.Kind.TheVariants.{Days}
 use Rattle.rr_model.specs.declared.rule.End.TheVariants.{Never, Until, Count, Both}
 use Rattle.rr_model.specs.declared.rule.Freq.TheVariants.{Weekly}
@@ -17,8 +17,12 @@ abbrev weekly : Rule
 weekly = plain_rule Weekly 1
 
 -- from 2024-01-01 on
+abbrev with_excluded : List Rule → List Rule → List ℤ → List ℤ → Series
+with_excluded rules excluded plus minus =
+    record { kind = Days; start = pos 19_723; start_counts = true; rules = rules; excluded = excluded; plus = plus; minus = minus }
+
 abbrev with_rules : List Rule → List ℤ → List ℤ → Series
-with_rules rules plus minus = record { kind = Days; start = pos 19_723; start_counts = true; rules = rules; plus = plus; minus = minus }
+with_rules rules plus minus = with_excluded rules [] plus minus
 
 -- an end goes round the tree of its rule, and a count counts what lies up to an UNTIL
 of_ends :
@@ -45,7 +49,7 @@ changed = with_rules (weekly ∷ []) (pos 19_725 ∷ []) (pos 19_730 ∷ [])
 whole :
     tree_of changed
     ≡ without
-    (union (dates_of Days (pos 19_723 ∷ pos 19_725 ∷ [])) (many (part (chosen_of weekly Days (pos 19_723)) nothing)))
+    (except (union (dates_of Days (pos 19_723 ∷ pos 19_725 ∷ [])) (many (part (chosen_of weekly Days (pos 19_723)) nothing))) (many nothing))
     Days
     (pos 19_730 ∷ [])
 whole = refl
@@ -58,6 +62,17 @@ stands :
     × (stands_in (tree_of changed) Days (pos 19_738) ≡ false)
 unfolding is_chosen is_candidate week_index weekday_of
 stands = (refl, refl, refl, refl)
+
+-- each week, except every second one: 2024-01-08 stands in it, and neither 2024-01-15 nor the start does
+abbrev thinned : Series
+thinned = with_excluded (weekly ∷ []) (plain_rule Weekly 2 ∷ []) [] []
+
+stands_thinned :
+    (stands_in (tree_of thinned) Days (pos 19_730) ≡ true)
+    × (stands_in (tree_of thinned) Days (pos 19_737) ≡ false)
+    × (stands_in (tree_of thinned) Days (pos 19_723) ≡ false)
+unfolding is_chosen is_candidate week_index weekday_of
+stands_thinned = (refl, refl, refl)
 
 -- a series of no rule has the dates alone
 of_none : members_of_all Days (pos 19_723) [] ≡ nothing

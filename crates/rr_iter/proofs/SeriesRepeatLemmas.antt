@@ -8,7 +8,7 @@ use Rattle.std.proofs.lemmas.Int.{ints}
 use Rattle.std.proofs.lemmas.Bool.{and_right}
 use Rattle.std.proofs.lemmas.List.Elements.{All-head, All-tail}
 use Rattle.std.proofs.lemmas.List.Folds.{list_any_none}
-use Rattle.std.proofs.lemmas.Nat.Gcd.{dvd_refl, dvd_trans}
+use Rattle.std.proofs.lemmas.Nat.Gcd.{dvd_trans}
 use Rattle.rr_model.specs.Moment.{day_part, moment_at}
 use Rattle.rr_model.specs.Moment.Years.{IsInYears}
 use Rattle.rr_model.specs.Rising.{with_value}
@@ -16,7 +16,7 @@ use Rattle.rr_model.specs.Rule.Member.{IsMember}
 use Rattle.rr_model.specs.Rule.Validity.{IsValidRule}
 use Rattle.rr_model.specs.Series.Cycle.{endless_cycle, rules_cycle, series_cycle}
 use Rattle.rr_model.specs.Series.Settled.{EndsBefore, LieBefore, IsPast, SeriesRepeats}
-use Rattle.rr_model.specs.Series.Soundness.{EndsNotBefore, FitsStart}
+use Rattle.rr_model.specs.Series.Soundness.{EndsNotBefore}
 use Rattle.rr_model.specs.Series.Tree.{ended, members_of, members_of_all, dates_with_start}
 use Rattle.rr_model.specs.Sets.Tree.{chosen_of, has_second, is_among, stands_at, some_stands_at}
 use Rattle.rr_model.specs.declared.kind.Kind.{Kind}
@@ -26,7 +26,7 @@ use Rattle.rr_model.specs.declared.rule.Rule.{Rule}
 use Rattle.rr_model.specs.declared.rule.Series.{Series}
 use Rattle.rr_model.proofs.RisingLemmas.{All-with_value}
 use Rattle.rr_num.proofs.DivisorLemmas.{lcm_is}
-use Rattle.rr_check.proofs.SeriesCycleLemmas.{endless_cycle_some, rules_cycle_some}
+use Rattle.rr_check.proofs.SeriesCycleLemmas.{endless_cycle_some, have_intervals, rules_cycle_some}
 use Rattle.rr_lazy.proofs.StretchLemmas.{day_mono}
 use Rattle.rr_iter.proofs.RepeatLemmas.{before_later_day, chosen_later, none_ended}
 
@@ -73,7 +73,11 @@ module _ (kind : Kind) (start settled : ℤ) where
     abbrev HasEnded : Rule → Type 0
     HasEnded rule = EndsBefore kind start settled rule rule.end
 
-    rules_repeat : (rules : List Rule) → All (IsValidRule kind) rules → All (FitsStart kind start) rules → All HasEnded rules → rules_cycle rules ∣ n
+    -- does not end before the start
+    abbrev FitsEnd : Rule → Type 0
+    FitsEnd rule = EndsNotBefore kind start rule.end
+
+    rules_repeat : (rules : List Rule) → All (IsValidRule kind) rules → All FitsEnd rules → All HasEnded rules → rules_cycle rules ∣ n
         → some_stands_at (members_of_all kind start rules) (d +ℤ pos n) s ≡ some_stands_at (members_of_all kind start rules) d s
     unfolding rules_cycle
     rules_repeat [] valid fit before div = refl
@@ -83,9 +87,9 @@ module _ (kind : Kind) (start settled : ℤ) where
         let some = endless_cycle_some rule.end rule v.interval_low in
         let rest_some = rules_cycle_some rules (λ k x h. (rest_valid k x h).interval_low) in
         let m = lcm_is (endless_cycle rule.end rule) (rules_cycle rules) some rest_some in
-        let fits = (All-head (FitsStart kind start) rule rules fit).end in
+        let fits = (All-head FitsEnd rule rules fit) in
         let first = rule_repeats rule rule.end refl v fits (All-head HasEnded rule rules before) (dvd_trans _ m.0 div) in
-        let rest_fit = All-tail (FitsStart kind start) rule rules fit in
+        let rest_fit = All-tail FitsEnd rule rules fit in
         let rest = rules_repeat rules rest_valid rest_fit (All-tail HasEnded rule rules before) (dvd_trans _ m.1 div) in
         rw (first, rest) refl
 
@@ -115,10 +119,15 @@ series_repeats series settled sound past d s l =
     let v = sound.valid in
     let n : ℕ = series_cycle series in
     let late : settled ≤ℤ (d +ℤ pos n) = omega (arith, ints, l) in
-    let rules = rules_repeat series.kind series.start settled v.start past.start n d s l series.rules v.rules sound.rules past.rules (dvd_refl n) in
+    let of_rules = rules_cycle_some series.rules (have_intervals series.kind series.rules v.rules) in
+    let of_excluded = rules_cycle_some series.excluded (have_intervals series.kind series.excluded v.excluded) in
+    let both = lcm_is (rules_cycle series.rules) (rules_cycle series.excluded) of_rules of_excluded in
+    let fit : All (λ rule. EndsNotBefore series.kind series.start rule.end) series.rules = λ k x h. (sound.rules k x h).end in
+    let rules = rules_repeat series.kind series.start settled v.start past.start n d s l series.rules v.rules fit past.rules both.0 in
+    let out = rules_repeat series.kind series.start settled v.start past.start n d s l series.excluded v.excluded sound.excluded past.excluded both.1 in
     let plus = with_start series settled past in
     let a = none_dates series.kind settled (dates_with_start series) d s plus l in
     let b = none_dates series.kind settled (dates_with_start series) (d +ℤ pos n) s plus late in
     let c = none_dates series.kind settled series.minus d s past.minus l in
     let e = none_dates series.kind settled series.minus (d +ℤ pos n) s past.minus late in
-    rw (a, b, c, e, rules) refl
+    rw (a, b, c, e, rules, out) refl

@@ -9,7 +9,7 @@ use Rattle.rr_model.specs.Moment.Years.{IsInYears}
 use Rattle.rr_model.specs.Rising.{with_value}
 use Rattle.rr_model.specs.Rule.Candidate.{lists}
 use Rattle.rr_model.specs.Series.Occurrences.{IsMemberOfSome, Occurs}
-use Rattle.rr_model.specs.Series.Soundness.{FitsStart, IsSound}
+use Rattle.rr_model.specs.Series.Soundness.{EndsNotBefore, IsSound}
 use Rattle.rr_model.specs.Series.Tree.{members_of, members_of_all, dates_with_start, tree_of, TreeStandsForSeries}
 use Rattle.rr_model.specs.Sets.Tree.{is_among, some_stands_at, stands_in}
 use Rattle.rr_model.specs.declared.kind.Kind.{Kind}
@@ -23,12 +23,12 @@ use Rattle.rr_lazy.proofs.StretchLemmas.{listed}
 -- ---- rules
 
 -- some rule's tree has it exactly where it is a member of some rule
-members_of_some : (rules : List Rule) (kind : Kind) (start t : ℤ) → IsInYears kind start → All (FitsStart kind start) rules
+members_of_some : (rules : List Rule) (kind : Kind) (start t : ℤ) → IsInYears kind start → All (λ rule. EndsNotBefore kind start rule.end) rules
     → (some_stands_at (members_of_all kind start rules) (day_part kind t) (second_part kind t) ≡ true) ↔ IsMemberOfSome rules kind start t
 members_of_some [] kind start t y fit = (λ h. absurd (false≢true h), λ m. absurd m)
 members_of_some (rule ∷ rules) kind start t y fit =
-    let a = members_agree rule kind start t y (All-head (FitsStart kind start) rule rules fit).end in
-    let b = members_of_some rules kind start t y (All-tail (FitsStart kind start) rule rules fit) in
+    let a = members_agree rule kind start t y (All-head (λ r. EndsNotBefore kind start r.end) rule rules fit) in
+    let b = members_of_some rules kind start t y (All-tail (λ r. EndsNotBefore kind start r.end) rule rules fit) in
     let one = stands_in (members_of kind start rule) kind t in
     let others = some_stands_at (members_of_all kind start rules) (day_part kind t) (second_part kind t) in (
       λ h. elim (or_cases one others h) [ inl x ↦ inl (a.0 x) | inr x ↦ inr (b.0 x) ],
@@ -90,12 +90,19 @@ module _ (series : Series) (t : ℤ) (sound : IsSound series) where
   abbrev rules : Bool
   rules = some_stands_at (members_of_all series.kind series.start series.rules) (day_part series.kind t) (second_part series.kind t)
 
+  -- in the tree of an excluded rule
+  abbrev excluded : Bool
+  excluded = some_stands_at (members_of_all series.kind series.start series.excluded) (day_part series.kind t) (second_part series.kind t)
+
   -- among the dates taken out
   abbrev minus : Bool
   minus = is_among series.kind series.minus (day_part series.kind t) (second_part series.kind t)
 
   of_rules : (rules ≡ true) ↔ IsMemberOfSome series.rules series.kind series.start t
-  of_rules = members_of_some series.rules series.kind series.start t sound.valid.start sound.rules
+  of_rules = members_of_some series.rules series.kind series.start t sound.valid.start (λ k d l. (sound.rules k d l).end)
+
+  of_excluded : (excluded ≡ true) ↔ IsMemberOfSome series.excluded series.kind series.start t
+  of_excluded = members_of_some series.excluded series.kind series.start t sound.valid.start sound.excluded
 
   of_dates : (dates ≡ true) ↔ (((series.start_counts ≡ true) × (t ≡ series.start)) ⊎ Contains series.plus t)
   of_dates =
@@ -106,25 +113,29 @@ module _ (series : Series) (t : ℤ) (sound : IsSound series) where
   of_minus : (minus ≡ true) ↔ Contains series.minus t
   of_minus = among_is series.kind series.minus t
 
-  stands : ((dates || rules) && not minus) ≡ true → Occurs series series.kind t
+  stands : (((dates || rules) && not excluded) && not minus) ≡ true → Occurs series series.kind t
   stands h =
-      let p = and_parts (dates || rules) (not minus) h in
+      let p = and_parts ((dates || rules) && not excluded) (not minus) h in
+      let q = and_parts (dates || rules) (not excluded) p.0 in
       record {
         kind = refl;
-        stands = elim (or_cases dates rules p.0) [
+        stands = elim (or_cases dates rules q.0) [
           | inl d ↦ elim (of_dates.0 d) [ inl x ↦ inl x | inr y ↦ inr (inr y) ]
           | inr r ↦ inr (inl (of_rules.0 r))
         ];
         kept = λ c. absurd (false≢true (sym (not-true minus p.1) ∙ of_minus.1 c));
+        not_excluded = λ m. absurd (false≢true (sym (not-true excluded q.1) ∙ of_excluded.1 m));
       }
 
-  occurring : (k : Kind) → Occurs series k t → ((dates || rules) && not minus) ≡ true
+  occurring : (k : Kind) → Occurs series k t → (((dates || rules) && not excluded) && not minus) ≡ true
   occurring k o =
       let s : (dates || rules) ≡ true = elim o.stands [
         | inl x ↦ or_left dates rules (of_dates.1 (inl x))
         | inr y ↦ elim y [ inl m ↦ or_right dates rules (of_rules.1 m) | inr p ↦ or_left dates rules (of_dates.1 (inr p)) ]
       ] in
-      and_from (dates || rules) (not minus) s (not_from_false minus (false_from_ne_true minus (λ m. o.kept (of_minus.0 m))))
+      let out = not_from_false excluded (false_from_ne_true excluded (λ m. o.not_excluded (of_excluded.0 m))) in
+      and_from ((dates || rules) && not excluded) (not minus) (and_from (dates || rules) (not excluded) s out)
+      (not_from_false minus (false_from_ne_true minus (λ m. o.kept (of_minus.0 m))))
 
 pub tree_stands_for_series : TreeStandsForSeries
 tree_stands_for_series series k t sound = (

@@ -1,5 +1,5 @@
 -- The settled day, gathered from the start, the dates and the rules.
-use Rattle.std.proofs.Common.{◌≡◌, ℕ, ◌+◌, ◌-◌, ◌<◌, ◌≤◌, List, length, get_or, ℤ, pos, neg_ℤ, ◌+ℤ◌, ◌≤ℤ◌, ◌<ℤ◌, sym, ap, subst, ◌∙◌, inl, inr, arith}
+use Rattle.std.proofs.Common.{◌≡◌, ℕ, ◌+◌, ◌-◌, ◌<◌, ◌≤◌, List, length, get_or, All, ℤ, pos, neg_ℤ, ◌+ℤ◌, ◌≤ℤ◌, ◌<ℤ◌, sym, ap, subst, ◌∙◌, inl, inr, arith}
 use Rattle.std.specs.Prelude.{Err, Some, int_lt}
 use Rattle.std.specs.Int.{int_max}
 use Rattle.std.proofs.lemmas.Int.{ints, clamps}
@@ -12,10 +12,9 @@ use Rattle.rr_lazy.proofs.StretchLemmas.{day_mono, rising_dates}
 use Rattle.rr_model.specs.Answers.{RefusedExactlyWhere}
 use Rattle.rr_model.specs.Calendar.{first_day_of_year}
 use Rattle.rr_model.specs.Moment.{day_part}
-use Rattle.rr_model.specs.Rule.Validity.{EndsInYears, IsValidRule}
-use Rattle.rr_model.specs.Series.Limits.{CountsTooFar, IsCountedTooFar}
+use Rattle.rr_model.specs.Series.Limits.{CountsTooFar, CountSomeTooFar, IsCountedTooFar}
 use Rattle.rr_model.specs.Series.Settled.{EndsBefore, LieBefore, IsPast, IsSettledDay}
-use Rattle.rr_model.specs.Series.Soundness.{FitsStart, IsSound}
+use Rattle.rr_model.specs.Series.Soundness.{IsSound}
 use Rattle.rr_model.specs.declared.kind.Kind.{Kind}
 use Rattle.rr_model.specs.declared.refusal.Fault.{Fault}
 use Rattle.rr_model.specs.declared.refusal.Fault.TheVariants.{Refused, NoMemory}
@@ -25,7 +24,7 @@ use Rattle.rr_model.specs.declared.rule.End.TheVariants.{Never, Until, Count, Bo
 use Rattle.rr_model.specs.declared.rule.Rule.{Rule}
 use Rattle.rr_model.specs.declared.rule.Series.{Series}
 use Rattle.rr_model.proofs.YearLemmas.{year_1, year_10000}
-use Rattle.rr_iter.specs.Ends.{IsLastDay, IsSoundRule}
+use Rattle.rr_iter.specs.Ends.{HaveEnded, IsLastDay, IsLastOfRules, IsSoundRule}
 
 -- a rule that has ended has ended on each later day
 pub ends_later : (kind : Kind) (start : ℤ) (rule : Rule) (end : End) (a b : ℤ) → a ≤ℤ b → EndsBefore kind start a rule end → EndsBefore kind start b rule end
@@ -51,104 +50,134 @@ last_past kind dates date bound r e l k d h =
     let days = day_mono kind (get_or dates k d) date (omega (arith, ints, here, order, last)) in
     omega (arith, ints, days, l)
 
--- what is known of a day once the start, the dates and the first rules, so many, were asked
-pub record IsGathered (series : Series) (asked : ℕ) (last : ℤ) : Type 0 where
-  pub low : neg_ℤ (pos 719_162) ≤ℤ last
+-- what is known of a day once the first rules, so many, were asked
+pub record IsGathered (kind : Kind) (start : ℤ) (rules : List Rule) (day : ℤ) (asked : ℕ) (last : ℤ) : Type 0 where
+  pub late : day ≤ℤ last
   pub high : last ≤ℤ pos 19_710_112
-  pub start : day_part series.kind series.start ≤ℤ last
-  pub plus : LieBefore series.kind (last +ℤ pos 1) series.plus
-  pub minus : LieBefore series.kind (last +ℤ pos 1) series.minus
-  pub rules : (k : ℕ) (d : Rule) → k < asked → k < length series.rules
-      → EndsBefore series.kind series.start (last +ℤ pos 1) (get_or series.rules k d) (get_or series.rules k d).end
-  pub near : (k : ℕ) (d : Rule) → k < asked → k < length series.rules → CountsTooFar series.kind series.start (get_or series.rules k d) → ⊥
-  pub least : (day : ℤ) → IsPast series day → last <ℤ day
+  pub ended : (k : ℕ) (d : Rule) → k < asked → k < length rules → EndsBefore kind start (last +ℤ pos 1) (get_or rules k d) (get_or rules k d).end
+  pub near : (k : ℕ) (d : Rule) → k < asked → k < length rules → CountsTooFar kind start (get_or rules k d) → ⊥
+  pub least : (settled : ℤ) → day <ℤ settled → HaveEnded kind start settled rules → last <ℤ settled
 
--- the start and the dates alone
-module _ (series : Series) (sound : IsSound series) where
-  pub gathered_none : (day plus last : ℤ) → day ≡ day_part series.kind series.start
-      → day ≤ℤ plus → LieBefore series.kind (plus +ℤ pos 1) series.plus
-      → ((settled : ℤ) → day <ℤ settled → LieBefore series.kind settled series.plus → plus <ℤ settled)
-      → plus ≤ℤ last → LieBefore series.kind (last +ℤ pos 1) series.minus
-      → ((settled : ℤ) → plus <ℤ settled → LieBefore series.kind settled series.minus → last <ℤ settled)
-      → IsGathered series 0 last
-  gathered_none day plus last e late1 past1 least1 late2 past2 least2 =
+module _ (kind : Kind) (start : ℤ) (rules : List Rule) (day : ℤ) where
+  -- none was asked
+  pub gathered_none : day ≤ℤ pos 19_710_112 → IsGathered kind start rules day 0 day
+  gathered_none h = record {
+    late = omega (arith, ints);
+    high = h;
+    ended = λ k d b w. absurd (omega (arith, b));
+    near = λ k d b w. absurd (omega (arith, b));
+    least = λ settled l e. l;
+  }
+
+  module _ (asked : ℕ) (last : ℤ) (first : day_part kind start ≤ℤ day) (g : IsGathered kind start rules day asked last) where
+    -- one rule more
+    pub gathered_more : (rule : Rule) (own both : ℤ) → asked < length rules → get_or rules asked rule ≡ rule → IsLastDay kind start rule own
+        → own ≤ℤ pos 19_710_112 → (CountsTooFar kind start rule → ⊥) → both ≡ int_max last own → IsGathered kind start rules day (asked + 1) both
+    gathered_more rule own both l e i h n m =
+        let left : last ≤ℤ both = omega (arith, ints, clamps, m) in
+        let right : own ≤ℤ both = omega (arith, ints, clamps, m) in
+        let here : (d : Rule) → get_or rules asked d ≡ rule = λ d. get_or_default rules asked d rule l ∙ e in
+        record {
+          late = omega (arith, ints, left, g.late);
+          high = omega (arith, ints, clamps, m, h, g.high);
+          ended = λ k d b w. elim (cases_lt k asked) [
+            | inl c ↦ (
+                let other = get_or rules k d in
+                ends_later kind start other other.end (last +ℤ pos 1) (both +ℤ pos 1) (omega (arith, ints, left)) (g.ended k d c w))
+            | inr c ↦ (
+                let same : k ≡ asked = omega arith in
+                let now = ends_later kind start rule rule.end (own +ℤ pos 1) (both +ℤ pos 1) (omega (arith, ints, right)) i.ends in
+                rw same (subst (λ r. EndsBefore kind start (both +ℤ pos 1) r r.end) (sym (here d)) now))
+          ];
+          near = λ k d b w. elim (cases_lt k asked) [
+            | inl c ↦ g.near k d c w
+            | inr c ↦ (let same : k ≡ asked = omega arith in rw same (subst (λ r. CountsTooFar kind start r → ⊥) (sym (here d)) n))
+          ];
+          least = λ settled p q. (
+              let a = g.least settled p q in
+              let b = i.least settled (omega (arith, ints, first, p)) (subst (λ r. EndsBefore kind start settled r r.end) (here rule) (q asked rule l)) in
+              omega (arith, ints, clamps, m, a, b));
+        }
+
+    -- all rules
+    pub gathered_all : length rules ≤ asked → IsLastOfRules kind start rules day last
+    gathered_all l = record { late = g.late; ended = λ k d h. g.ended k d (omega arith) h; least = g.least }
+
+    pub none_too_far : length rules ≤ asked → CountSomeTooFar kind start rules → ⊥
+    none_too_far l (k, rule, h, e, far) = g.near k rule (omega arith) h (subst (CountsTooFar kind start) (sym e) far)
+
+-- a rule that is refused
+pub one_too_far : (kind : Kind) (start : ℤ) (rules : List Rule) (k : ℕ) (rule : Rule) (fault : Fault) → k < length rules → get_or rules k rule ≡ rule
+    → RefusedExactlyWhere {X = ℤ} (CountsTooFar kind start rule) CountedTooFar (Err fault)
+    → RefusedExactlyWhere {X = ℤ} (CountSomeTooFar kind start rules) CountedTooFar (Err fault)
+one_too_far kind start rules k rule (Refused other) l e r = (r.0, (k, rule, l, e, r.1))
+one_too_far kind start rules k rule NoMemory l e r = tt
+
+-- ---- the series
+
+-- each rule, and each excluded one, beside the start
+pub rules_are_sound : (series : Series) → IsSound series → All (IsSoundRule series.kind series.start) series.rules
+rules_are_sound series sound k d l = record {
+  valid = sound.valid.rules k d l;
+  in_years = sound.valid.start;
+  ends_in_years = sound.valid.ends k d l;
+  end = (sound.rules k d l).end;
+}
+
+pub excluded_are_sound : (series : Series) → IsSound series → All (IsSoundRule series.kind series.start) series.excluded
+excluded_are_sound series sound k d l = record {
+  valid = sound.valid.excluded k d l;
+  in_years = sound.valid.start;
+  ends_in_years = sound.valid.excluded_ends k d l;
+  end = sound.excluded k d l;
+}
+
+-- the start's day, the dates added, and the dates taken out
+module _ (series : Series) (sound : IsSound series) (day plus dates : ℤ) (e : day ≡ day_part series.kind series.start)
+    (late1 : day ≤ℤ plus) (past1 : LieBefore series.kind (plus +ℤ pos 1) series.plus)
+    (least1 : (settled : ℤ) → day <ℤ settled → LieBefore series.kind settled series.plus → plus <ℤ settled)
+    (late2 : plus ≤ℤ dates) (past2 : LieBefore series.kind (dates +ℤ pos 1) series.minus)
+    (least2 : (settled : ℤ) → plus <ℤ settled → LieBefore series.kind settled series.minus → dates <ℤ settled) where
+  -- the days of the dates are those of years 1 to 9999
+  pub dates_near : (neg_ℤ (pos 719_162) ≤ℤ dates) × (day_part series.kind series.start ≤ℤ dates) × (dates ≤ℤ pos 19_710_112)
+  dates_near =
       let start = sound.valid.start in
       let end : ℤ = first_day_of_year (pos 10_000) in
       let before_plus : plus <ℤ end = least1 end (omega (arith, ints, e, start.1)) (λ k d h. (sound.valid.plus k d h).1) in
-      let before_minus : last <ℤ end = least2 end before_plus (λ k d h. (sound.valid.minus k d h).1) in
-      record {
-        low = omega (arith, ints, e, start.0, year_1, late1, late2);
-        high = omega (arith, ints, before_minus, year_10000);
-        start = omega (arith, ints, e, late1, late2);
-        plus = lie_later series.kind series.plus (plus +ℤ pos 1) (last +ℤ pos 1) (omega (arith, ints, late2)) past1;
-        minus = past2;
-        rules = λ k d b w. absurd (omega (arith, b));
-        near = λ k d b w. absurd (omega (arith, b));
-        least = λ settled p. least2 settled (least1 settled (let s = p.start in omega (arith, ints, e, s)) p.plus) p.minus;
-      }
+      let before_minus : dates <ℤ end = least2 end before_plus (λ k d h. (sound.valid.minus k d h).1) in
+      (omega (arith, ints, e, start.0, year_1, late1, late2), omega (arith, ints, e, late1, late2), omega (arith, ints, before_minus, year_10000))
 
-  -- each rule beside the start
-  pub rule_is_sound : (k : ℕ) (rule : Rule) → k < length series.rules → get_or series.rules k rule ≡ rule
-      → IsSoundRule series.kind series.start rule
-  rule_is_sound k rule l e = record {
-    valid = subst (IsValidRule series.kind) e (sound.valid.rules k rule l);
-    in_years = sound.valid.start;
-    ends_in_years = subst (λ r. EndsInYears r.end) e (sound.valid.ends k rule l);
-    fits = subst (FitsStart series.kind series.start) e (sound.rules k rule l);
-  }
-
-module _ (series : Series) (asked : ℕ) (last : ℤ) (g : IsGathered series asked last) where
-  -- one rule more
-  pub gathered_more : (rule : Rule) (day both : ℤ) → asked < length series.rules → get_or series.rules asked rule ≡ rule
-      → IsLastDay series.kind series.start rule day → day ≤ℤ pos 19_710_112 → (CountsTooFar series.kind series.start rule → ⊥)
-      → both ≡ int_max last day → IsGathered series (asked + 1) both
-  gathered_more rule day both l e i h n m =
-      let left : last ≤ℤ both = omega (arith, ints, clamps, m) in
-      let right : day ≤ℤ both = omega (arith, ints, clamps, m) in
-      let here : (d : Rule) → get_or series.rules asked d ≡ rule = λ d. get_or_default series.rules asked d rule l ∙ e in
-      record {
-        low = omega (arith, ints, left, g.low);
-        high = omega (arith, ints, clamps, m, h, g.high);
-        start = omega (arith, ints, left, g.start);
-        plus = lie_later series.kind series.plus (last +ℤ pos 1) (both +ℤ pos 1) (omega (arith, ints, left)) g.plus;
-        minus = lie_later series.kind series.minus (last +ℤ pos 1) (both +ℤ pos 1) (omega (arith, ints, left)) g.minus;
-        rules = λ k d b w. elim (cases_lt k asked) [
-          | inl c ↦ (
-              let other = get_or series.rules k d in
-              ends_later series.kind series.start other other.end (last +ℤ pos 1) (both +ℤ pos 1) (omega (arith, ints, left)) (g.rules k d c w))
-          | inr c ↦ (
-              let same : k ≡ asked = omega arith in
-              let now = ends_later series.kind series.start rule rule.end (day +ℤ pos 1) (both +ℤ pos 1) (omega (arith, ints, right)) i.ends in
-              rw same (subst (λ r. EndsBefore series.kind series.start (both +ℤ pos 1) r r.end) (sym (here d)) now))
-        ];
-        near = λ k d b w. elim (cases_lt k asked) [
-          | inl c ↦ g.near k d c w
-          | inr c ↦ (let same : k ≡ asked = omega arith in rw same (subst (λ r. CountsTooFar series.kind series.start r → ⊥) (sym (here d)) n))
-        ];
-        least = λ d p. (
-            let a = g.least d p in
-            let b = i.least d p.start (subst (λ r. EndsBefore series.kind series.start d r r.end) (here rule) (p.rules asked rule l)) in
-            omega (arith, ints, clamps, m, a, b));
-      }
-
-  -- all rules
-  pub gathered_all : length series.rules ≤ asked → IsSettledDay series (last +ℤ pos 1)
-  gathered_all l = record {
+  -- and the last days of the rules and of the excluded ones
+  pub settled_is : (rules last : ℤ) → IsLastOfRules series.kind series.start series.rules dates rules
+      → IsLastOfRules series.kind series.start series.excluded rules last → IsSettledDay series (last +ℤ pos 1)
+  settled_is rules last r x = record {
     past = record {
-      start = omega (arith, ints, g.start);
-      plus = g.plus;
-      minus = g.minus;
-      rules = λ k d h. g.rules k d (omega arith) h;
+      start = omega (arith, ints, e, late1, late2, r.late, x.late);
+      plus = lie_later series.kind series.plus (plus +ℤ pos 1) (last +ℤ pos 1) (omega (arith, ints, late2, r.late, x.late)) past1;
+      minus = lie_later series.kind series.minus (dates +ℤ pos 1) (last +ℤ pos 1) (omega (arith, ints, r.late, x.late)) past2;
+      rules = λ k d h. (let rule = get_or series.rules k d in
+          ends_later series.kind series.start rule rule.end (rules +ℤ pos 1) (last +ℤ pos 1) (omega (arith, ints, x.late)) (r.ended k d h));
+      excluded = x.ended;
     };
-    least = λ day p. omega (arith, ints, g.least day p);
+    least = λ settled p. (
+        let a = least1 settled (let s = p.start in omega (arith, ints, e, s)) p.plus in
+        let b = r.least settled (least2 settled a p.minus) p.rules in
+        omega (arith, ints, x.least settled b p.excluded));
   }
 
-  pub none_too_far : length series.rules ≤ asked → IsCountedTooFar series → ⊥
-  none_too_far l (k, rule, h, e, far) = g.near k rule (omega arith) h (subst (CountsTooFar series.kind series.start) (sym e) far)
-
--- a rule that is refused
-pub one_too_far : (series : Series) (k : ℕ) (rule : Rule) (fault : Fault) → k < length series.rules → get_or series.rules k rule ≡ rule
-    → RefusedExactlyWhere {X = ℤ} (CountsTooFar series.kind series.start rule) CountedTooFar (Err fault)
+-- refused for a rule, or else for an excluded one
+pub rule_too_far : (series : Series) (fault : Fault)
+    → RefusedExactlyWhere {X = ℤ} (CountSomeTooFar series.kind series.start series.rules) CountedTooFar (Err fault)
     → RefusedExactlyWhere {X = ℤ} (IsCountedTooFar series) CountedTooFar (Err fault)
-one_too_far series k rule (Refused other) l e r = (r.0, (k, rule, l, e, r.1))
-one_too_far series k rule NoMemory l e r = tt
+rule_too_far series (Refused other) r = (r.0, inl r.1)
+rule_too_far series NoMemory r = tt
+
+pub excluded_too_far : (series : Series) (fault : Fault)
+    → RefusedExactlyWhere {X = ℤ} (CountSomeTooFar series.kind series.start series.excluded) CountedTooFar (Err fault)
+    → RefusedExactlyWhere {X = ℤ} (IsCountedTooFar series) CountedTooFar (Err fault)
+excluded_too_far series (Refused other) r = (r.0, inr r.1)
+excluded_too_far series NoMemory r = tt
+
+pub neither_too_far : (series : Series) → (CountSomeTooFar series.kind series.start series.rules → ⊥)
+    → (CountSomeTooFar series.kind series.start series.excluded → ⊥) → IsCountedTooFar series → ⊥
+neither_too_far series a b far = elim far [ inl r ↦ a r | inr x ↦ b x ]

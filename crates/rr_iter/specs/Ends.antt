@@ -1,10 +1,10 @@
 -- Where rules end (RFC 5545, section 3.3.10, UNTIL and COUNT).
-use Rattle.std.specs.Prelude.{◌≡◌, ◌⊎◌, ℕ, ◌+◌, ◌<◌, ◌≤◌, true, ⊤, Result, Ok, Err, ℤ, pos, ◌+ℤ◌, ◌≤ℤ◌, ◌<ℤ◌}
+use Rattle.std.specs.Prelude.{◌≡◌, ◌⊎◌, ℕ, ◌+◌, ◌<◌, ◌≤◌, true, ⊤, List, All, Result, Ok, Err, ℤ, pos, ◌+ℤ◌, ◌≤ℤ◌, ◌<ℤ◌}
 use Rattle.rr_model.specs.Moment.{day_part}
 use Rattle.rr_model.specs.Moment.Years.{IsFromYearOne, IsInYears}
 use Rattle.rr_model.specs.Rule.Validity.{EndsInYears, IsValidRule}
 use Rattle.rr_model.specs.Series.Settled.{EndsBefore}
-use Rattle.rr_model.specs.Series.Soundness.{FitsStart}
+use Rattle.rr_model.specs.Series.Soundness.{EndsNotBefore}
 use Rattle.rr_model.specs.Sets.Counting.{count_before}
 use Rattle.rr_model.specs.Sets.Tree.{Tree, stands_at}
 use Rattle.rr_model.specs.declared.kind.Kind.{Kind}
@@ -17,18 +17,28 @@ use Rattle.rr_lazy.specs.Next.{HasNone}
 use Rattle.rr_iter.specs.declared.place.Place.{Place}
 use Rattle.rr_iter.specs.declared.place.Place.TheVariants.{On, Beyond}
 
--- a rule of a sound series, beside its start
+-- a rule or an excluded rule of a sound series, beside its start, which it need not choose
 pub record IsSoundRule (kind : Kind) (start : ℤ) (rule : Rule) : Type 0 where
   pub valid : IsValidRule kind rule
   pub in_years : IsInYears kind start
   pub ends_in_years : EndsInYears rule.end
-  pub fits : FitsStart kind start rule
+  pub end : EndsNotBefore kind start rule.end
 
 -- the last day of the start and of the rule's UNTIL or members; an endless rule adds none
 pub record IsLastDay (kind : Kind) (start : ℤ) (rule : Rule) (day : ℤ) : Type 0 where
   pub late : day_part kind start ≤ℤ day
   pub ends : EndsBefore kind start (day +ℤ pos 1) rule rule.end
   pub least : (settled : ℤ) → day_part kind start <ℤ settled → EndsBefore kind start settled rule rule.end → day <ℤ settled
+
+-- each of these rules has nothing from the day on, unless it is endless
+abbrev pub HaveEnded : Kind → ℤ → ℤ → List Rule → Type 0
+HaveEnded kind start settled rules = All (λ rule. EndsBefore kind start settled rule rule.end) rules
+
+-- the later of a day and the last days of rules; endless ones add none
+pub record IsLastOfRules (kind : Kind) (start : ℤ) (rules : List Rule) (day last : ℤ) : Type 0 where
+  pub late : day ≤ℤ last
+  pub ended : HaveEnded kind start (last +ℤ pos 1) rules
+  pub least : (settled : ℤ) → day <ℤ settled → HaveEnded kind start settled rules → last <ℤ settled
 
 -- the last occupied day up to a day, or the one that is given where nothing after it is
 pub record IsLastUpTo (tree : Tree) (given to day : ℤ) : Type 0 where

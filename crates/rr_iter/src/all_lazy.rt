@@ -27,7 +27,7 @@ impl AllLazy {
         ensures knows { IfOk result (λ l. (sets : List (List ℕ)) → ⟦<AllLazy as Lazy>⟧.knows l sets) }
     {
         let dates = DatesLazy::new(series.kind, dates_with_start(alloc, series)?);
-        let rules = RulesLazy::new(alloc, series)?;
+        let rules = RulesLazy::new(alloc, series.kind, series.start, series.rules.as_slice())?;
         Ok(AllLazy {
             lazy: Union::new(dates, rules),
         })

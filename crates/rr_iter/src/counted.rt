@@ -34,7 +34,8 @@ pub(crate) fn last_counted(
     }
 }
 
-// The same of a number that is so many more than the moments of the start's day.
+// The same of a number that is so many more than the moments of the start's day. A rule that chooses nothing in a whole cycle
+// after that day never does.
 fn after_start(
     alloc: Global,
     rule: &Rule,
@@ -56,12 +57,15 @@ fn after_start(
             if cycle == MAX_SPAN_DAYS {
                 return Err(Fault::Refused(Refusal::CountedTooFar));
             }
+            if after == left {
+                return Err(Fault::Refused(Refusal::CountedTooFar));
+            }
             after_cycles(alloc, rule, kind, start, count, left, left - after)
         }
     }
 }
 
-// The same where the cycle is shorter than a span, and each cycle after the start's day has so many moments.
+// The same where the cycle is shorter than a span, and each cycle after the start's day has so many moments, one at least.
 fn after_cycles(
     alloc: Global,
     rule: &Rule,
@@ -75,6 +79,7 @@ fn after_cycles(
     requires some { 1 ≤ left }
     requires left { before_day (chosen_of rule.now kind start) (day_part kind start +ℤ pos 1) + left ≡ count }
     requires cycle { rule_cycle rule.now < MAX_SPAN_DAYS }
+    requires some_each { 1 ≤ each }
     requires each { before_day (chosen_of rule.now kind start) ((day_part kind start +ℤ pos (rule_cycle rule.now)) +ℤ pos 1) ≡ before_day (chosen_of rule.now kind start) (day_part kind start +ℤ pos 1) + each }
     ensures { AnswersDayOf (chosen_of rule.now kind start) (day_part kind start) count result }
 {

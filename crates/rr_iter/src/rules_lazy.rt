@@ -1,16 +1,16 @@
-// The members of the rules of a series.
-ghost use Rattle.std.specs.Prelude.{◌≡◌, IfOk, List, ℕ};
-ghost use Rattle.rr_model.specs.Series.Soundness.{IsSound};
+// The members of some rules of a series.
+ghost use Rattle.std.specs.Prelude.{◌≡◌, All, IfOk, List, ℕ};
+ghost use Rattle.rr_iter.specs.Ends.{IsSoundRule};
 ghost use Rattle.rr_model.specs.Series.Tree.{members_of_all};
 ghost use Rattle.rr_lazy.specs.Next.{IsUnasked};
 
 use crate::EndedLazy;
 use rr_lazy::{Lazy, Many, OccupiedDay};
-use rr_model::{NoMemory, Series};
+use rr_model::{Kind, NoMemory, Rule};
 use rr_shapes::SetTable;
 use std::alloc::Global;
 
-/// The members of the rules of a series.
+/// The members of rules, or of excluded rules, of a series.
 #[derive(Drop)]
 pub struct RulesLazy {
     pub(crate) lazy: Many<EndedLazy>,
@@ -19,16 +19,21 @@ pub struct RulesLazy {
 impl RulesLazy {
     ghost use Rattle.rr_model.specs.Sets.Tree.{many};
 
-    /// The members of the rules of a series.
-    pub(crate) fn new(alloc: Global, series: &Series) -> Result<RulesLazy, NoMemory>
-        requires sound { IsSound series.now }
-        ensures tree { IfOk result (λ l. ⟦<RulesLazy as Lazy>⟧.tree l ≡ many (members_of_all series.now.kind series.now.start series.now.rules)) }
+    /// The members of rules from one start on.
+    pub(crate) fn new(
+        alloc: Global,
+        kind: Kind,
+        start: i64,
+        rules: &[Rule],
+    ) -> Result<RulesLazy, NoMemory>
+        requires sound { All (IsSoundRule kind start) rules.now }
+        ensures tree { IfOk result (λ l. ⟦<RulesLazy as Lazy>⟧.tree l ≡ many (members_of_all kind start rules.now)) }
         ensures unasked { IfOk result (λ l. IsUnasked (⟦<RulesLazy as Lazy>⟧.position l)) }
         ensures knows { IfOk result (λ l. (sets : List (List ℕ)) → ⟦<RulesLazy as Lazy>⟧.knows l sets) }
     {
         let mut lazy = Many::new(alloc);
-        for rule in series.rules.as_slice() {
-            let members = EndedLazy::new(alloc, rule, series.kind, series.start)?;
+        for rule in rules {
+            let members = EndedLazy::new(alloc, rule, kind, start)?;
             lazy.put(members)?;
         }
         Ok(RulesLazy { lazy })

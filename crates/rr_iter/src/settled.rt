@@ -1,20 +1,22 @@
 // The settled day of a series.
-ghost use Rattle.std.specs.Prelude.{◌≡◌, ◌+ℤ◌, ◌≤ℤ◌, ◌<ℤ◌, ℤ, IfOk, int_lt, neg_ℤ, pos};
+ghost use Rattle.std.specs.Prelude.{◌≡◌, ◌+ℤ◌, ◌≤ℤ◌, ◌<ℤ◌, ℤ, All, IfOk, int_lt, neg_ℤ, pos};
+ghost use Rattle.rr_iter.specs.Ends.{IsLastOfRules, IsSoundRule};
+ghost use Rattle.rr_model.specs.Moment.{day_part};
 ghost use Rattle.rr_model.specs.Answers.{RefusedExactlyWhere};
-ghost use Rattle.rr_model.specs.Series.Limits.{IsCountedTooFar};
+ghost use Rattle.rr_model.specs.Series.Limits.{CountSomeTooFar, IsCountedTooFar};
 ghost use Rattle.rr_model.specs.Series.Settled.{IsSettledDay, LieBefore};
 ghost use Rattle.rr_model.specs.declared.refusal.Refusal.TheVariants.{CountedTooFar};
 
 use crate::last_day::last_day;
 use rr_check::Checked;
-use rr_model::{Dates, Fault, Kind, day_part};
+use rr_model::{Dates, Fault, Kind, Rule, day_part};
 use std::alloc::Global;
 
 /// The settled day of a series, in days since 1970-01-01: the day after the last of its
-/// start, its dates, added or taken out, and the UNTIL or else the last member of each rule that ends (RFC 5545,
-/// section 3.8.5). From it on the series repeats with its cycle.
+/// start, its dates, added or taken out, and the UNTIL or else the last member of each rule that ends, excluded ones among
+/// them (RFC 5545, section 3.8.5). From it on the series repeats with its cycle.
 ///
-/// `CountedTooFar` exactly where a rule with a COUNT has a member more than `MAX_SPAN_DAYS` days after the start's day.
+/// `CountedTooFar` exactly where a rule with a COUNT has not so many members up to `MAX_SPAN_DAYS` days after the start's day.
 pub fn ends(alloc: Global, series: &Checked) -> Result<i64, Fault>
     ensures settled { IfOk result (IsSettledDay series.now) }
     ensures near { IfOk result (λ day. (neg_ℤ (pos 719_162) <ℤ day) × (day ≤ℤ pos 19_710_113)) }
@@ -23,14 +25,53 @@ pub fn ends(alloc: Global, series: &Checked) -> Result<i64, Fault>
     let given = series.series();
     let kind = given.kind;
     let with_plus = last_of(kind, &given.plus, day_part(kind, given.start));
-    let mut last = last_of(kind, &given.minus, with_plus);
-    for rule in given.rules.as_slice() {
-        match last_day(alloc, rule, kind, given.start) {
+    let with_dates = last_of(kind, &given.minus, with_plus);
+    let with_rules = match last_of_rules(
+        alloc,
+        kind,
+        given.start,
+        given.rules.as_slice(),
+        with_dates,
+    ) {
+        Ok(day) => day,
+        Err(fault) => return Err(fault),
+    };
+    match last_of_rules(
+        alloc,
+        kind,
+        given.start,
+        given.excluded.as_slice(),
+        with_rules,
+    ) {
+        Ok(day) => Ok(day + 1),
+        Err(fault) => Err(fault),
+    }
+}
+
+// The later of a day, which is not before the start's, and the last days of rules.
+fn last_of_rules(
+    alloc: Global,
+    kind: Kind,
+    start: i64,
+    rules: &[Rule],
+    day: i64,
+) -> Result<i64, Fault>
+    requires sound { All (IsSoundRule kind start) rules.now }
+    requires low { neg_ℤ (pos 719_162) ≤ℤ day }
+    requires late { day_part kind start ≤ℤ day }
+    requires near { day ≤ℤ pos 19_710_112 }
+    ensures last { IfOk result (IsLastOfRules kind start rules.now day) }
+    ensures near { IfOk result (λ last. last ≤ℤ pos 19_710_112) }
+    ensures refused { RefusedExactlyWhere (CountSomeTooFar kind start rules.now) CountedTooFar result }
+{
+    let mut last = day;
+    for rule in rules {
+        match last_day(alloc, rule, kind, start) {
             Ok(day) => last = last.max(day),
             Err(fault) => return Err(fault),
         }
     }
-    Ok(last + 1)
+    Ok(last)
 }
 
 // The later of a day and the last day of dates.

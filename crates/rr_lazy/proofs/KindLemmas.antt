@@ -3,7 +3,7 @@ use Rattle.std.proofs.Common.{◌≡◌, ◌⊎◌, inl, inr, ap, sym, refl}
 use Rattle.std.specs.Prelude.{Option, Some, None}
 use Rattle.std.specs.Option.{option_or}
 use Rattle.std.proofs.lemmas.Option.{none-some}
-use Rattle.rr_model.specs.Sets.Tree.{Tree, Forest, chosen_of, dates_of, union, many, upto, first_n, without, nothing, part, IsOfKind, AreOfKind}
+use Rattle.rr_model.specs.Sets.Tree.{Tree, Forest, chosen_of, dates_of, union, many, upto, first_n, without, except, nothing, part, IsOfKind, AreOfKind}
 use Rattle.rr_model.specs.Sets.Tree.{IsOfOneKind, kind_in, kind_in_some}
 use Rattle.rr_model.specs.declared.kind.Kind.{Kind}
 use Rattle.rr_model.specs.declared.kind.Kind.TheVariants.{Days}
@@ -27,6 +27,7 @@ mutual
   kind_is k (upto a kind at) h = inr (ap Some h.0)
   kind_is k (first_n a n) h = kind_is k a h
   kind_is k (without a kind dates) h = inr (ap Some h.0)
+  kind_is k (except a b) h = either_is k (kind_in a) (kind_in b) (kind_is k a h.0) (kind_is k b h.1)
 
   kinds_are : (k : Kind) (parts : Forest) → AreOfKind k parts → (kind_in_some parts ≡ None) ⊎ (kind_in_some parts ≡ Some k)
   kinds_are k nothing h = inl refl
@@ -42,6 +43,7 @@ mutual
   any_kind k j (upto a kind at) e h = absurd (none-some kind (sym e))
   any_kind k j (first_n a n) e h = any_kind k j a e h
   any_kind k j (without a kind dates) e h = absurd (none-some kind (sym e))
+  any_kind k j (except a b) e h = let n = both_none (kind_in a) (kind_in b) e in (any_kind k j a n.0 h.0, any_kind k j b n.1 h.1)
 
   any_kinds : (k j : Kind) (parts : Forest) → kind_in_some parts ≡ None → AreOfKind k parts → AreOfKind j parts
   any_kinds k j nothing e h = h

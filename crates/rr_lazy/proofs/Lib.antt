@@ -13,3 +13,4 @@ pub mod PastLemmas
 pub mod MemberCountLemmas
 pub mod AgreeLemmas
 pub mod WithoutLemmas
+pub mod ExceptLemmas

@@ -6,7 +6,7 @@ use Rattle.std.proofs.lemmas.List.Elements.{Contains-get_or}
 use Rattle.rr_model.specs.Rising.Sets.{IsSecondsOfDay}
 use Rattle.rr_model.specs.declared.kind.Kind.{Kind}
 use Rattle.rr_model.specs.declared.kind.Kind.TheVariants.{Days, Moments}
-use Rattle.rr_model.specs.Sets.Tree.{Tree, Forest, chosen_of, dates_of, union, many, upto, first_n, without, nothing, part, has_second, stands_at}
+use Rattle.rr_model.specs.Sets.Tree.{Tree, Forest, chosen_of, dates_of, union, many, upto, first_n, without, except, nothing, part, has_second, stands_at}
 use Rattle.rr_model.specs.Sets.Tree.{some_stands_at}
 use Rattle.rr_lazy.specs.Next.{IsFirstOccupied}
 
@@ -35,6 +35,7 @@ mutual
   stands_below (upto a kind at) d s e = stands_below a d s (and_left _ _ e)
   stands_below (first_n a n) d s e = stands_below a d s (and_left _ _ e)
   stands_below (without a kind dates) d s e = stands_below a d s (and_left _ _ e)
+  stands_below (except a b) d s e = stands_below a d s (and_left _ _ e)
 
   some_below : (parts : Forest) (d : ℤ) (s : ℕ) → some_stands_at parts d s ≡ true → s < 86_400
   some_below nothing d s e = absurd (false≢true e)

@@ -25,7 +25,7 @@ next_day (Some f) own = f.day
 
 -- ---- what is seen of a part
 
-seen_some : (sets : List (List ℕ)) (ahead : Option OccupiedDay) (q : ℤ) → ForSome ahead (λ f. q ≤ℤ f.day) → ForSome (seen sets ahead) (λ f. q ≤ℤ f.day)
+pub seen_some : (sets : List (List ℕ)) (ahead : Option OccupiedDay) (q : ℤ) → ForSome ahead (λ f. q ≤ℤ f.day) → ForSome (seen sets ahead) (λ f. q ≤ℤ f.day)
 seen_some sets None q some f e = absurd (cc)
 seen_some sets (Some g) q some f e = (let i : f ≡ with_set sets g = cc in rw i (some g refl))
 
@@ -41,11 +41,11 @@ all_taken times left out is e s c = elim (out s) as (λ b. out s ≡ b → b ≡
   | false ↦ λ x. absurd (Contains-none s (subst (λ y. Contains y s) e ((is s).1 (c, x))))
 ] refl
 
-nothing_ahead : (tree : Tree) (sets : List (List ℕ)) (own from : ℤ) → from ≤ℤ own → HasNone tree from own → IsAheadIn sets tree own from None
+pub nothing_ahead : (tree : Tree) (sets : List (List ℕ)) (own from : ℤ) → from ≤ℤ own → HasNone tree from own → IsAheadIn sets tree own from None
 nothing_ahead tree sets own from l none = record { within = λ f e. absurd (cc); known = record { some = λ f e. absurd (cc); none = λ e. (l, none) } }
 
 -- a day that is given is not before what is ahead
-given_later : (tree : Tree) (sets : List (List ℕ)) (own from : ℤ) (ahead : Option OccupiedDay) → IsAheadIn sets tree own from ahead → (own' day : ℤ)
+pub given_later : (tree : Tree) (sets : List (List ℕ)) (own from : ℤ) (ahead : Option OccupiedDay) → IsAheadIn sets tree own from ahead → (own' day : ℤ)
     (times : List ℕ) → IsGiven tree own' from day times → next_day ahead own ≤ℤ day
 given_later tree sets own from ahead k own' day [] given = absurd (given.some refl)
 given_later tree sets own from ahead k own' day (s ∷ ss) given = by_lt_z {P = next_day ahead own ≤ℤ day} day (next_day ahead own)

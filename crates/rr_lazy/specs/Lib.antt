@@ -1,5 +1,6 @@
 pub mod Ahead
 pub mod DayTimes
+pub mod Except
 pub mod FirstN
 pub mod Many
 pub mod Next

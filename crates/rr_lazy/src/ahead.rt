@@ -158,7 +158,7 @@ pub(crate) fn on_day(
 }
 
 // What a part gave, if it is this day.
-fn of_day(ahead: Option<OccupiedDay>, day: i64) -> Option<OccupiedDay>
+pub(crate) fn of_day(ahead: Option<OccupiedDay>, day: i64) -> Option<OccupiedDay>
     ensures { ((result ≡ ahead) × ForSome ahead (λ f. f.day ≡ day)) ⊎ ((result ≡ None) × ForSome ahead (λ f. f.day ≡ day → ⊥)) }
 {
     match ahead {

@@ -3,6 +3,7 @@
 
 mod ahead;
 mod dates_lazy;
+mod except;
 mod first_n;
 mod lazy;
 mod many;
@@ -14,6 +15,7 @@ mod without;
 
 pub use ahead::Union;
 pub use dates_lazy::DatesLazy;
+pub use except::Except;
 pub use first_n::FirstN;
 pub use lazy::Lazy;
 pub use many::Many;

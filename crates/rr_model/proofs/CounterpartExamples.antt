@@ -9,7 +9,7 @@ use Rattle.rr_model.specs.declared.rule.DayItem.{DayItem}
 use Rattle.rr_model.specs.declared.rule.End.{End}
 use Rattle.rr_model.specs.declared.rule.End.TheVariants.{Never, Count}
 use Rattle.rr_model.specs.declared.rule.Freq.{Freq}
-use Rattle.rr_model.specs.declared.rule.Freq.TheVariants.{Daily, Monthly, Yearly}
+use Rattle.rr_model.specs.declared.rule.Freq.TheVariants.{Daily, Monthly}
 use Rattle.rr_model.specs.declared.rule.Rule.{Rule}
 use Rattle.rr_model.specs.declared.vcal.FamilyKind.{FamilyKind}
 use Rattle.rr_model.specs.declared.vcal.FamilyKind.TheVariants.{D, MD, MP, YM}
@@ -58,7 +58,7 @@ of_lists = (refl, refl, refl)
 
 -- a series keeps its dates, and its start counts
 of_series :
-    series_of_vseries (record { kind = Days; start = pos 19_753; rules = vrule D 4 (Every ∷ []) Never ∷ []; plus = pos 19_800 ∷ []; minus = [] })
-    ≡ record { kind = Days; start = pos 19_753; start_counts = true; rules = rule Daily 4 [] Never ∷ []; plus = pos 19_800 ∷ []; minus = [] }
+    series_of_vseries (record { kind = Days; start = pos 19_753; rules = vrule D 4 (Every ∷ []) Never ∷ []; excluded = vrule D 2 (Every ∷ []) Never ∷ []; plus = pos 19_800 ∷ []; minus = [] })
+    ≡ record { kind = Days; start = pos 19_753; start_counts = true; rules = rule Daily 4 [] Never ∷ []; excluded = rule Daily 2 [] Never ∷ []; plus = pos 19_800 ∷ []; minus = [] }
 unfolding rule_of_vrule series_of_vseries
 of_series = refl

@@ -9,7 +9,7 @@ use Rattle.rr_model.specs.declared.kind.Kind.{Kind}
 use Rattle.rr_model.specs.declared.kind.Kind.TheVariants.{Days, Moments}
 use Rattle.rr_model.specs.declared.rule.DayItem.{DayItem}
 use Rattle.rr_model.specs.declared.rule.End.{End}
-use Rattle.rr_model.specs.declared.rule.End.TheVariants.{Until, Count}
+use Rattle.rr_model.specs.declared.rule.End.TheVariants.{Never, Until, Count}
 use Rattle.rr_model.specs.declared.rule.Freq.{Freq}
 use Rattle.rr_model.specs.declared.rule.Freq.TheVariants.{Daily, Weekly}
 use Rattle.rr_model.specs.declared.rule.Rule.{Rule}
@@ -43,7 +43,7 @@ rule freq days end = record {
 }
 
 abbrev series : Kind → ℤ → List Rule → List ℤ → List ℤ → Series
-series kind start rules plus minus = record { kind = kind; start = start; start_counts = true; rules = rules; plus = plus; minus = minus }
+series kind start rules plus minus = record { kind = kind; start = start; start_counts = true; rules = rules; excluded = []; plus = plus; minus = minus }
 
 extended_texts :
     (extended (codes "2024-02-29") ≡ Some (date_stamp (pos 19_782)))
@@ -62,7 +62,7 @@ abbrev dates : List ℤ → Series
 dates plus = series Days (pos 19_723) [] plus []
 
 lists :
-    (list_text (codes "") ≡ Ok (record { kind = Days; start = pos 0; start_counts = false; rules = []; plus = []; minus = [] }))
+    (list_text (codes "") ≡ Ok (record { kind = Days; start = pos 0; start_counts = false; rules = []; excluded = []; plus = []; minus = [] }))
     × (list_text (codes "\n 2024-01-01\t\r\n\n2024-01-03") ≡ Ok (dates (pos 19_725 ∷ [])))
     × (list_text (codes "2024-01-02\n2024-01-01\n") ≡ Err (NotRising 2))
     × (list_text (codes "2024-01-02\n2024-01-02\n") ≡ Err (NotRising 2))
@@ -85,10 +85,20 @@ calendars :
     ≡ Ok (series Moments (pos 1_704_101_400) (rule Daily [] (Until Moments (pos 1_704_274_200)) ∷ []) [] []))
     × (calendar_text None (codes "DTSTART:20240101\nRDATE:20240103, 20240102\nEXDATE:20240101\n")
     ≡ Ok (series Days (pos 19_723) [] (pos 19_724 ∷ pos 19_725 ∷ []) (pos 19_723 ∷ [])))
+    × (calendar_text None (codes "DTSTART:20240101\nEXRULE:FREQ=WEEKLY\nRRULE:FREQ=DAILY\nEXRULE:FREQ=DAILY;UNTIL=20240105\n")
+    ≡ Ok (record {
+      kind = Days;
+      start = pos 19_723;
+      start_counts = true;
+      rules = rule Daily [] Never ∷ [];
+      excluded = rule Weekly [] Never ∷ rule Daily [] (Until Days (pos 19_727)) ∷ [];
+      plus = [];
+      minus = [];
+    }))
 unfolding calendar_file physical_lines unfolded_lines value_of_line line_kind left_by event_scan stated_rule rule_beside calendar_text day_number
     first_day_of_year days_of_months is_digits number_at basic basic_date basic_time basic_moment freq_named weekday_named number_up_to number_within
     numbers_of day_item_within day_items_of part_named name_of with_part parts_of rule_of rule_parts line_value
-calendars = (refl, refl, refl, refl)
+calendars = (refl, refl, refl, refl, refl)
 
 abbrev refused : List ℕ → Refusal → Type 0
 refused bytes refusal = calendar_text None bytes ≡ Err refusal
@@ -103,7 +113,9 @@ refusals :
     × refused (codes "DTSTART:20240101\nDTSTART:x\n") (PartTwice 2)
     × refused (text (codes "20240101") (codes "FREQ=DAILY;COUNT=0")) (NumberRange 2)
     × refused (codes "DTSTART:20240101T090000\nRDATE;VALUE=PERIOD:20240102T090000/PT1H\n") PeriodValue
-    × refused (codes "DTSTART:20240101\nEXRULE:x\n") Extended
+    × refused (codes "DTSTART:20240101\nEXRULE:x\n") (BadRule 2)
+    × refused (codes "DTSTART:20240101\nEXRULE:FREQ=DAILY;SKIP=OMIT\n") Extended
+    × refused (codes "EXRULE:FREQ=HOURLY\nDTSTART:20240101\nRDATE:20240102T000000\n") NotAllowed
     × refused (codes "DTSTART:20240101T090000\nRDATE:20240102,20240102T000000Z\n") (MixedKinds 2)
     × refused (codes "DTSTART:20240101T090000\nRDATE:20240102T000000Z,20240102\n") UtcMoment
     × refused (text (codes "20240101") (codes "FREQ=HOURLY;UNTIL=20240101T000000Z")) NotAllowed
@@ -115,4 +127,4 @@ refusals :
 unfolding physical_lines unfolded_lines value_of_line line_kind left_by event_scan stated_rule rule_beside calendar_text day_number first_day_of_year
     days_of_months is_digits number_at basic basic_date basic_time basic_moment freq_named weekday_named number_up_to number_within numbers_of
     day_item_within day_items_of part_named name_of with_part parts_of rule_of rule_parts line_value
-refusals = (refl, refl, refl, refl, refl, refl, refl, refl, refl, refl, refl, refl, refl, refl, refl, refl, refl, refl)
+refusals = (refl, refl, refl, refl, refl, refl, refl, refl, refl, refl, refl, refl, refl, refl, refl, refl, refl, refl, refl, refl)

@@ -1,7 +1,7 @@
 -- There is one proof at most that a tree is of a kind.
 use Rattle.std.specs.Coded.{×_prop, Unit-prop}
 use Rattle.std.proofs.Props.{props}
-use Rattle.rr_model.specs.Sets.Tree.{Tree, Forest, chosen_of, dates_of, union, many, upto, first_n, without, nothing, part, IsOfKind, AreOfKind}
+use Rattle.rr_model.specs.Sets.Tree.{Tree, Forest, chosen_of, dates_of, union, many, upto, first_n, without, except, nothing, part, IsOfKind, AreOfKind}
 use Rattle.rr_model.specs.Sets.Tree.{IsOfOneKind, kind_in, or_days}
 use Rattle.rr_model.specs.declared.kind.Kind.{Kind}
 use Rattle.rr_model.proofs.ValidityProps.{HasCountInRange-prop, PartsRise-prop}
@@ -15,6 +15,7 @@ mutual
   IsOfKind-prop k (upto a kind at) = let p = IsOfKind-prop k a in hlevel (props, p)
   IsOfKind-prop k (first_n a n) = IsOfKind-prop k a
   IsOfKind-prop k (without a kind dates) = let p = IsOfKind-prop k a in hlevel (props, p)
+  IsOfKind-prop k (except a b) = ×_prop (IsOfKind-prop k a) (IsOfKind-prop k b)
 
   pub AreOfKind-prop : (k : Kind) (parts : Forest) → IsProp (AreOfKind k parts)
   AreOfKind-prop k nothing = Unit-prop

@@ -33,7 +33,7 @@ vrule family interval items end = record { family = family; interval = interval;
 
 -- a series of dates from 2024-01-31 with one rule
 abbrev one : VRule → VSeries
-one rule = record { kind = Days; start = pos 19_753; rules = rule ∷ []; plus = []; minus = [] }
+one rule = record { kind = Days; start = pos 19_753; rules = rule ∷ []; excluded = []; plus = []; minus = [] }
 
 abbrev read : List ℕ → VRule → Type 0
 read rule wanted = reads_vcal None (text rule) ≡ Ok (one wanted)

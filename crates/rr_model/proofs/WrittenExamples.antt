@@ -34,7 +34,7 @@ use Rattle.rr_model.specs.declared.graph.GraphEvent.{GraphEvent}
 use Rattle.rr_model.specs.declared.graph.RangeEnd.TheVariants.{NoEnd, EndDate, Numbered}
 use Rattle.rr_model.specs.declared.graph.Repeat.TheVariants as repeat
 use Rattle.rr_model.specs.declared.vcal.FamilyKind.TheVariants as family
-use Rattle.rr_model.specs.declared.item.Item.TheVariants.{MonthDay, Place}
+use Rattle.rr_model.specs.declared.item.Item.TheVariants.{Every, MonthDay, Place}
 use Rattle.rr_model.specs.declared.vcal.VSeries.{VSeries}
 
 foldings :
@@ -58,12 +58,13 @@ march = record {
         end =
             Both Days (pos 19_756) 5;
       } ∷ [];
+  excluded = record { family = family.D; interval = 2; items = Every ∷ []; end = Never } ∷ [];
   plus = [];
   minus = pos 19_756 ∷ [];
 }
 
 vcals :
-    (vcal_written march ≡ codes "DTSTART:20240131\r\nRRULE:MD1 1 LD 2- #0\r\nRRULE:MP2 1+ MO WE 1- FR #5 20240203\r\nEXDATE:20240203\r\n")
+    (vcal_written march ≡ codes "DTSTART:20240131\r\nRRULE:MD1 1 LD 2- #0\r\nRRULE:MP2 1+ MO WE 1- FR #5 20240203\r\nEXRULE:D2 #0\r\nEXDATE:20240203\r\n")
 unfolding digits first_day_of_year days_of_months year_of days_into_year months_over month_of day_of_month basic_date_text basic_time_text basic_text
     weekday_text family_text vrule_text vcal_written
 vcals = refl
@@ -96,7 +97,7 @@ calendars :
     (calendar_written (series_of_graph meeting) ≡ codes "DTSTART:20240102T093000\r\nRRULE:FREQ=WEEKLY;UNTIL=20240630T093000;INTERVAL=2;WKST=SU;BYDAY=TU,TH\r\n")
     × (calendar_written (series_of_graph month_end) ≡ codes "DTSTART;VALUE=DATE:20240131\r\nRRULE:FREQ=MONTHLY;BYMONTHDAY=28,29,30,31;BYSETPOS=-1\r\n")
     × (calendar_written (series_of_graph late) ≡ codes "DTSTART;VALUE=DATE:20240115\r\nRRULE:FREQ=WEEKLY;COUNT=2;INTERVAL=2;BYDAY=MO\r\n")
-    × (calendar_written (record { kind = Days; start = pos 0; start_counts = false; rules = []; plus = []; minus = [] })
+    × (calendar_written (record { kind = Days; start = pos 0; start_counts = false; rules = []; excluded = []; plus = []; minus = [] })
     ≡ codes "DTSTART;VALUE=DATE:19700101\r\nEXDATE;VALUE=DATE:19700101\r\n")
 unfolding digits first_day_of_year days_of_months year_of days_into_year months_over month_of day_of_month weekday_of week_index is_pattern_day first_from
     first_repeat_day rule_of_pattern series_of_graph basic_date_text basic_time_text basic_text folded freq_text weekday_text rule_text calendar_written
@@ -136,13 +137,13 @@ graphs = (refl, refl, refl)
 -- ---- read back
 
 abbrev empty_series : Series
-empty_series = record { kind = Days; start = pos 0; start_counts = false; rules = []; plus = []; minus = [] }
+empty_series = record { kind = Days; start = pos 0; start_counts = false; rules = []; excluded = []; plus = []; minus = [] }
 
 read_back :
     (calendar_text None (calendar_written (series_of_graph meeting)) ≡ Ok (series_of_graph meeting))
     × (calendar_text None (calendar_written (series_of_graph month_end)) ≡ Ok (series_of_graph month_end))
     × (calendar_text None (calendar_written empty_series)
-    ≡ Ok (record { kind = Days; start = pos 0; start_counts = true; rules = []; plus = []; minus = pos 0 ∷ [] }))
+    ≡ Ok (record { kind = Days; start = pos 0; start_counts = true; rules = []; excluded = []; plus = []; minus = pos 0 ∷ [] }))
     × (reads_vcal None (vcal_written march) ≡ Ok march)
 unfolding digits first_day_of_year days_of_months year_of days_into_year months_over month_of day_of_month day_of_year weekday_of week_index is_pattern_day
     first_from first_repeat_day rule_of_pattern series_of_graph basic_date_text basic_time_text basic_text folded freq_text weekday_text rule_text

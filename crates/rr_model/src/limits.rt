@@ -3,13 +3,13 @@
 /// The most bytes of one operand.
 pub const MAX_INPUT: usize = 1_048_576;
 
-/// The most rules of a series.
+/// The most rules of a series, RRULE and EXRULE together.
 pub const MAX_RULES: usize = 16;
 
 /// The most dates of a series, RDATE and EXDATE together.
 pub const MAX_DATES: usize = 10_000;
 
-/// The most days from a start to the last occurrence of a rule with a COUNT.
+/// The most days from a start to the last member of a rule with a COUNT.
 pub const MAX_SPAN_DAYS: u64 = 16_777_216;
 
 /// The most days of a cycle.

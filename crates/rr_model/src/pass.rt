@@ -6,7 +6,7 @@ use crate::Stamp;
 pub struct FirstPass {
     /// DTSTART as its line states it.
     pub start: Option<Stamp>,
-    /// How many RRULE lines, at most 16.
+    /// How many RRULE and EXRULE lines together, at most 16.
     pub rule_count: usize,
     /// How many values of RDATE and EXDATE, at most 10,000.
     pub date_count: usize,

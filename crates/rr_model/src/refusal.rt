@@ -129,7 +129,7 @@ pub enum Refusal {
     NotSynchronised(u32),
     /// A value of RDATE is a period.
     PeriodValue,
-    /// A rule has RSCALE or SKIP (RFC 7529), or the event has an EXRULE.
+    /// A rule has RSCALE or SKIP (RFC 7529).
     Extended,
     /// The text is no JSON (RFC 8259), is nested more than 127 levels deep, or is no object.
     BadJson,
@@ -143,16 +143,22 @@ pub enum Refusal {
     IntervalTooLarge,
     /// The cycle is longer than `MAX_CYCLE_DAYS`.
     CycleTooLong,
-    /// The last occurrence of a counted rule lies too many days after the start.
+    /// A rule with a COUNT has not so many members up to `MAX_SPAN_DAYS` days after the start's day.
     CountedTooFar,
     /// The distinct time sets have more than `MAX_SECONDS` seconds.
     TooManyMoments,
     /// No rule or pattern of the kind that is looked for has these occurrences.
     NotSayable,
-    /// A seventeenth rule, or more dates than are allowed.
+    /// A seventeenth rule, RRULE and EXRULE together, or more dates than are allowed.
     TooManyParts,
     /// A value of a list is not above the value before it.
     NotRising(u64),
+    /// The text is no canonical text of a set of occurrences within its bounds.
+    NotCanonical,
+    /// A union of dates and moments is asked.
+    MixedSets,
+    /// The occurrence of this number lies past `MAX_DAY`.
+    PastRange,
 }
 
 impl Refusal {
@@ -193,6 +199,9 @@ impl Refusal {
             Refusal::NotSayable => "NotSayable",
             Refusal::TooManyParts => "TooManyParts",
             Refusal::NotRising(_) => "NotRising",
+            Refusal::NotCanonical => "NotCanonical",
+            Refusal::MixedSets => "MixedSets",
+            Refusal::PastRange => "PastRange",
         }
     }
 }
@@ -235,6 +244,9 @@ impl fmt::Display for Refusal {
             Refusal::NotSayable => write!(f, "NotSayable"),
             Refusal::TooManyParts => write!(f, "TooManyParts"),
             Refusal::NotRising(line) => write!(f, "NotRising {line}"),
+            Refusal::NotCanonical => write!(f, "NotCanonical"),
+            Refusal::MixedSets => write!(f, "MixedSets"),
+            Refusal::PastRange => write!(f, "PastRange"),
         }
     }
 }

@@ -144,7 +144,7 @@ impl Rule {
     }
 }
 
-/// A recurrence set (RFC 5545, section 3.8.5): a start, rules, and dates beside them.
+/// A recurrence set (RFC 5545, section 3.8.5): a start, rules, excluded rules, and dates beside them.
 #[derive(Drop)]
 pub struct Series {
     /// Whether its occurrences are dates or moments.
@@ -155,6 +155,8 @@ pub struct Series {
     pub start_counts: bool,
     /// RRULE.
     pub rules: Rules,
+    /// EXRULE, rules whose members do not occur (RFC 2445, section 4.8.5.2).
+    pub excluded: Rules,
     /// RDATE.
     pub plus: Dates,
     /// EXDATE.

@@ -50,15 +50,17 @@ pub struct VRuleParts {
     pub until: Option<Stamp>,
 }
 
-/// A series of vCalendar 1.0: a start, which always counts, rules, and dates beside them.
+/// A series of vCalendar 1.0: a start, which always counts, rules, excluded rules, and dates beside them.
 #[derive(Drop)]
 pub struct VSeries {
     /// Whether its occurrences are dates or moments.
     pub kind: Kind,
     /// DTSTART, a day number or a second number of the years 1 to 9999.
     pub start: i64,
-    /// RRULE, at most 16 rules.
+    /// RRULE, with EXRULE at most 16 rules.
     pub rules: VRules,
+    /// EXRULE, rules whose members do not occur.
+    pub excluded: VRules,
     /// RDATE, further dates.
     pub plus: Dates,
     /// EXDATE, excluded dates.

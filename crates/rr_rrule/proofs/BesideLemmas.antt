@@ -1,5 +1,5 @@
 -- What is read beside the start is valid.
-use Rattle.std.proofs.Common.{◌≡◌, ℕ, ◌&&◌, not, Bool, true, false, if◌then◌else◌, List, [], ◌∷◌, Result, Ok, Err, Option, None, Some, refl, sym, ap, ◌∙◌}
+use Rattle.std.proofs.Common.{◌≡◌, ◌++◌, ℕ, ◌&&◌, not, Bool, true, false, if◌then◌else◌, List, [], ◌∷◌, Result, Ok, Err, Option, None, Some, refl, sym, ap, ◌∙◌}
 use Rattle.std.proofs.Common.{arith, subst, ℤ, ◌+ℤ◌}
 use Rattle.std.specs.Prelude.{All, int_lt, ok_or}
 use Rattle.std.specs.List.{slice_split}
@@ -18,7 +18,7 @@ use Rattle.rr_model.specs.Text.Event.{event_scan}
 use Rattle.rr_model.specs.Text.Lines.{without_mark}
 use Rattle.rr_model.specs.Text.Moments.{basic}
 use Rattle.rr_model.specs.Text.Passes.{Stated, Beside, Event, nothing_read, nothing_beside, turned, moment_beside, date_value, date_beside, put_date}
-use Rattle.rr_model.specs.Text.Passes.{with_date, with_line, first_pass, second_pass, unless_stopped, passes}
+use Rattle.rr_model.specs.Text.Passes.{put_rule, with_date, with_line, with_rule, first_pass, second_pass, unless_stopped, passes}
 use Rattle.rr_model.specs.Text.Rules.{has_time}
 use Rattle.rr_model.specs.Text.UsedLines.{trim}
 use Rattle.rr_model.specs.declared.kind.Kind.{Kind}
@@ -139,18 +139,22 @@ module _ (offset : Option ℤ) (start : Stamp) where
   record AreValid (beside : Beside Rule) : Type 0 where
     rules : All (IsValidRule start.kind) beside.rules
     ends : All (λ (rule : Rule). EndsInYears rule.end) beside.rules
+    excluded : All (IsValidRule start.kind) beside.excluded
+    excluded_ends : All (λ (rule : Rule). EndsInYears rule.end) beside.excluded
     plus : All (IsInYears start.kind) beside.plus
     minus : All (IsInYears start.kind) beside.minus
     plus_rises : Rises int_lt beside.plus
     minus_rises : Rises int_lt beside.minus
 
   nothing-valid : AreValid nothing_beside
-  nothing-valid = record { rules = All-nil _; ends = All-nil _; plus = All-nil _; minus = All-nil _; plus_rises = tt; minus_rises = tt }
+  nothing-valid = record { rules = All-nil _; ends = All-nil _; excluded = All-nil _; excluded_ends = All-nil _; plus = All-nil _; minus = All-nil _; plus_rises = tt; minus_rises = tt }
 
   put_date-valid : (is_plus : Bool) (beside : Beside Rule) (at : ℤ) → AreValid beside → IsInYears start.kind at → AreValid (put_date is_plus beside at)
   put_date-valid true beside at v in_years = record {
     rules = v.rules;
     ends = v.ends;
+    excluded = v.excluded;
+    excluded_ends = v.excluded_ends;
     plus = All-with_value (IsInYears start.kind) int_lt beside.plus at v.plus in_years;
     minus = v.minus;
     plus_rises = Rises-with_value int_lt beside.plus at v.plus_rises;
@@ -159,6 +163,8 @@ module _ (offset : Option ℤ) (start : Stamp) where
   put_date-valid false beside at v in_years = record {
     rules = v.rules;
     ends = v.ends;
+    excluded = v.excluded;
+    excluded_ends = v.excluded_ends;
     plus = v.plus;
     minus = All-with_value (IsInYears start.kind) int_lt beside.minus at v.minus in_years;
     plus_rises = v.plus_rises;
@@ -172,29 +178,60 @@ module _ (offset : Option ℤ) (start : Stamp) where
       let in_years = date_beside-in_years line put.0 put.2 (date_value-stamp line text put.0 put.1) put.3 in
       subst AreValid put.4 (put_date-valid is_plus beside put.2 v in_years)
 
-  with_rule-valid : (line : ℕ) (beside : Beside Rule) (text : List ℕ) (next : Beside Rule) → AreValid beside
-      → with_line rrule_language (rule_beside offset start) offset start line Rrule beside text ≡ Ok next → AreValid next
-  with_rule-valid line beside text next v h =
-      let put = rule-put rrule_language (rule_beside offset start) offset start line beside text next h in
+  -- one valid rule more
+  one_more : (rules : List Rule) (rule : Rule) → All (IsValidRule start.kind) rules → All (λ (r : Rule). EndsInYears r.end) rules
+      → IsValidRule start.kind rule × EndsInYears rule.end
+      → All (IsValidRule start.kind) (rules ++ rule ∷ []) × All (λ (r : Rule). EndsInYears r.end) (rules ++ rule ∷ [])
+  one_more rules rule v e one = (
+    All-append (IsValidRule start.kind) rules (rule ∷ []) v (All-cons (IsValidRule start.kind) rule [] one.0 (All-nil _)),
+    All-append (λ (r : Rule). EndsInYears r.end) rules (rule ∷ []) e (All-cons (λ (r : Rule). EndsInYears r.end) rule [] one.1 (All-nil _)),
+  )
+
+  put_rule-valid : (is_given : Bool) (beside : Beside Rule) (rule : Rule) → AreValid beside → IsValidRule start.kind rule × EndsInYears rule.end
+      → AreValid (put_rule is_given beside rule)
+  put_rule-valid true beside rule v one =
+      let more = one_more beside.rules rule v.rules v.ends one in
+      record {
+        rules = more.0;
+        ends = more.1;
+        excluded = v.excluded;
+        excluded_ends = v.excluded_ends;
+        plus = v.plus;
+        minus = v.minus;
+        plus_rises = v.plus_rises;
+        minus_rises = v.minus_rises;
+      }
+  put_rule-valid false beside rule v one =
+      let more = one_more beside.excluded rule v.excluded v.excluded_ends one in
+      record {
+        rules = v.rules;
+        ends = v.ends;
+        excluded = more.0;
+        excluded_ends = more.1;
+        plus = v.plus;
+        minus = v.minus;
+        plus_rises = v.plus_rises;
+        minus_rises = v.minus_rises;
+      }
+
+  with_rule-valid : (line : ℕ) (is_given : Bool) (beside : Beside Rule) (text : List ℕ) (next : Beside Rule) → AreValid beside
+      → with_rule rrule_language (rule_beside offset start) line is_given beside text ≡ Ok next → AreValid next
+  with_rule-valid line is_given beside text next v h =
+      let put = rule-put rrule_language (rule_beside offset start) line is_given beside text next h in
       let valid = rule_beside-valid line put.0 put.2 (stated_rule-valid line text put.0 put.1) put.3 in
-      let rules = All-append (IsValidRule start.kind) beside.rules (put.2 ∷ []) v.rules (All-cons (IsValidRule start.kind) put.2 [] valid.0 (All-nil _)) in
-      let ends = All-append (λ (r : Rule). EndsInYears r.end) beside.rules (put.2 ∷ []) v.ends
-      (All-cons (λ (r : Rule). EndsInYears r.end) put.2 [] valid.1 (All-nil _)) in
-      subst AreValid put.4 (record { rules = rules; ends = ends; plus = v.plus; minus = v.minus; plus_rises = v.plus_rises; minus_rises = v.minus_rises })
+      subst AreValid put.4 (put_rule-valid is_given beside put.2 v valid)
 
   with_line-valid : (line : ℕ) (name : LineName) (beside : Beside Rule) (text : List ℕ) (next : Beside Rule) → AreValid beside
       → with_line rrule_language (rule_beside offset start) offset start line name beside text ≡ Ok next → AreValid next
   with_line-valid line Dtstart beside text next v h =
       let same : beside ≡ next = cc in
       subst AreValid same v
-  with_line-valid line Rrule beside text next v h = with_rule-valid line beside text next v h
+  with_line-valid line Rrule beside text next v h = with_rule-valid line true beside text next v h
   with_line-valid line Rdate beside text next v h =
       in_turn-keeps (with_date offset start line true) AreValid (with_date-valid line true) beside (slice_split rrule_language.is_separator text) next v h
   with_line-valid line Exdate beside text next v h =
       in_turn-keeps (with_date offset start line false) AreValid (with_date-valid line false) beside (slice_split rrule_language.is_separator text) next v h
-  with_line-valid line Exrule beside text next v h =
-      let same : beside ≡ next = cc in
-      subst AreValid same v
+  with_line-valid line Exrule beside text next v h = with_rule-valid line false beside text next v h
 
   second_pass-valid : (lines : List UsedLine) (beside : Beside Rule)
       → second_pass rrule_language (rule_beside offset start) offset start nothing_beside lines ≡ Ok beside → AreValid beside
@@ -218,8 +255,10 @@ module _ (offset : Option ℤ) (start : Stamp) where
         start = in_years.0;
         start_counts = λ e. absurd (cc);
         rules = v.rules;
+        excluded = v.excluded;
         few_rules = omega (arith, bounded.0, counts.0, sound.few_rules);
         ends = v.ends;
+        excluded_ends = v.excluded_ends;
         plus = v.plus;
         minus = v.minus;
         plus_rises = v.plus_rises;

@@ -472,7 +472,7 @@ judged_line-lowered line Dtstart pass text = rw (basic-lowered text) refl
 judged_line-lowered line Rrule pass text = rw (stated_rule-lowered line text) refl
 judged_line-lowered line Rdate pass text = judged_dates-lowered line true pass text
 judged_line-lowered line Exdate pass text = judged_dates-lowered line false pass text
-judged_line-lowered line Exrule pass text = refl
+judged_line-lowered line Exrule pass text = rw (stated_rule-lowered line text) refl
 
 module _ (offset : Option ℤ) (start : Stamp) where
   with_date-lowered : (line : ℕ) (is_plus : Bool) (beside : Beside Rule) (text : List ℕ)
@@ -493,7 +493,7 @@ module _ (offset : Option ℤ) (start : Stamp) where
   with_line-lowered line Rrule beside text = rw (stated_rule-lowered line text) refl
   with_line-lowered line Rdate beside text = with_dates-lowered line true beside text
   with_line-lowered line Exdate beside text = with_dates-lowered line false beside text
-  with_line-lowered line Exrule beside text = refl
+  with_line-lowered line Exrule beside text = rw (stated_rule-lowered line text) refl
 
 scan-lowered : (offset : Option ℤ) (scan : Scan) → calendar_scan offset (lowered_scan scan) ≡ calendar_scan offset scan
 scan-lowered offset scan =

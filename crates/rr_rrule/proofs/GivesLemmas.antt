@@ -9,7 +9,7 @@ use Rattle.rr_model.specs.Rising.{with_value, day_item_lt}
 use Rattle.rr_model.specs.Text.Calendars.{stated_rule, end_beside, rule_beside, rrule_language, is_comma}
 use Rattle.rr_model.specs.Text.Digits.{digits_value}
 use Rattle.rr_model.specs.Text.Moments.{basic}
-use Rattle.rr_model.specs.Text.Passes.{Stated, Beside, has_slash, date_value, judged_date, judged_line, turned, moment_beside, date_beside, with_date}
+use Rattle.rr_model.specs.Text.Passes.{Stated, Beside, has_slash, date_value, judged_date, judged_line, judged_rule, turned, moment_beside, date_beside, with_date, with_rule}
 use Rattle.rr_model.specs.Text.Passes.{with_line}
 use Rattle.rr_model.specs.Text.RuleValues.{◌>>=◌, pieces, freq_named, weekday_named, is_number, number_up_to, placed, unsigned, signed, seconds}
 use Rattle.rr_model.specs.Text.RuleValues.{has_number_form, magnitude, number_within, numbers_of, place_text, weekday_text, is_day_item, place_within}
@@ -157,15 +157,18 @@ module _ (n m : ℕ) where
       gives-if (nat_le MAX_DATES pass.date_count) _ _ _ _ (gives-err _ _) (gives-if (is_plus && has_slash text) _ _ _ _ (gives-err _ _)
       (gives-then _ _ _ _ (date_value-gives text) (λ stamp. gives-same _)))
 
+  judged_rule-gives : (pass : FirstPass) (text : List ℕ) → Gives (judged_rule rrule_language n pass text) (judged_rule rrule_language m pass text)
+  judged_rule-gives pass text =
+      gives-if (nat_le MAX_RULES pass.rule_count) _ _ _ _ (gives-err _ _) (gives-then _ _ _ _ (stated_rule-gives text) (λ rule. gives-same _))
+
   pub judged_line-gives : (name : LineName) (pass : FirstPass) (text : List ℕ)
       → Gives (judged_line rrule_language n name pass text) (judged_line rrule_language m name pass text)
   judged_line-gives Dtstart pass text =
       gives-if (is_some pass.start) _ _ _ _ (gives-err _ _) (gives-then _ _ _ _ (gives-ok_or (basic text) _ _) (λ stamp. gives-same _))
-  judged_line-gives Rrule pass text =
-      gives-if (nat_le MAX_RULES pass.rule_count) _ _ _ _ (gives-err _ _) (gives-then _ _ _ _ (stated_rule-gives text) (λ rule. gives-same _))
+  judged_line-gives Rrule pass text = judged_rule-gives pass text
   judged_line-gives Rdate pass text = in_turn-gives (judged_date n true) (judged_date m true) (judged_date-gives true) (slice_split is_comma text) pass
   judged_line-gives Exdate pass text = in_turn-gives (judged_date n false) (judged_date m false) (judged_date-gives false) (slice_split is_comma text) pass
-  judged_line-gives Exrule pass text = gives-same _
+  judged_line-gives Exrule pass text = judged_rule-gives pass text
 
   -- ---- the second pass
 
@@ -193,14 +196,18 @@ module _ (n m : ℕ) where
     with_date-gives is_plus beside text =
         gives-then _ _ _ _ (date_value-gives text) (λ stamp. gives-then _ _ _ _ (date_beside-gives stamp) (λ at. gives-same _))
 
+    with_rule-gives : (is_given : Bool) (beside : Beside Rule) (text : List ℕ)
+        → Gives (with_rule rrule_language (rule_beside offset start) n is_given beside text) (with_rule rrule_language (rule_beside offset start) m is_given beside text)
+    with_rule-gives is_given beside text =
+        gives-then _ _ _ _ (stated_rule-gives text) (λ stated. gives-then _ _ _ _ (rule_beside-gives stated) (λ rule. gives-same _))
+
     pub with_line-gives : (name : LineName) (beside : Beside Rule) (text : List ℕ)
         → Gives (with_line rrule_language (rule_beside offset start) offset start n name beside text)
         (with_line rrule_language (rule_beside offset start) offset start m name beside text)
     with_line-gives Dtstart beside text = gives-same _
-    with_line-gives Rrule beside text =
-        gives-then _ _ _ _ (stated_rule-gives text) (λ stated. gives-then _ _ _ _ (rule_beside-gives stated) (λ rule. gives-same _))
+    with_line-gives Rrule beside text = with_rule-gives true beside text
     with_line-gives Rdate beside text = in_turn-gives (with_date offset start n true) (with_date offset start m true) (with_date-gives true)
         (slice_split is_comma text) beside
     with_line-gives Exdate beside text = in_turn-gives (with_date offset start n false) (with_date offset start m false) (with_date-gives false)
         (slice_split is_comma text) beside
-    with_line-gives Exrule beside text = gives-same _
+    with_line-gives Exrule beside text = with_rule-gives false beside text

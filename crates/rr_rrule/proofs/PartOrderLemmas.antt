@@ -12,7 +12,7 @@ use Rattle.std.proofs.lemmas.List.{take_all, length-append, length-map, map-appe
 use Rattle.std.proofs.lemmas.List.Folds.{list_all-append}
 use Rattle.rr_model.specs.Text.Calendars.{stated_rule, rule_beside, rrule_language, series_of_event, calendar_scan, calendar_text}
 use Rattle.rr_model.specs.Text.Event.{used_line}
-use Rattle.rr_model.specs.Text.Passes.{Stated, Beside, Event, nothing_read, nothing_beside, judged_line, first_pass, with_line, passes}
+use Rattle.rr_model.specs.Text.Passes.{Stated, Beside, Event, nothing_read, nothing_beside, judged_line, first_pass, with_line, passes, put_rule}
 use Rattle.rr_model.specs.Text.Rules.{is_blank, with_part, with_parts, no_parts, without_last_semicolon, trim_start, trim_end, parts_of, rule_of}
 use Rattle.rr_model.specs.Text.Rules.{line_value, rule_parts}
 use Rattle.rr_model.specs.Text.RuleValues.{◌>>=◌, pieces}
@@ -315,7 +315,7 @@ module _ (offset : Option ℤ) (before after : List UsedLine) (number : ℕ) (st
       (r >>= λ rule. Ok (record p { rule_count = p.rule_count + 1 }))) same in
       let two : (start : Stamp) (b : Beside Rule) → second_step start b (used_line number Rrule value) ≡ second_step start b (used_line number Rrule other) =
       λ start b. ap (λ (r : Result (Stated Rule) Refusal). r >>= λ stated. rule_beside offset start number stated
-      >>= λ rule. Ok (record b { rules = b.rules ++ rule ∷ [] })) same in
+      >>= λ rule. Ok (put_rule true b rule)) same in
       scan_by_passes offset (lines value) (lines other) stop (in_turn-same first_step (used_line number Rrule value)
       (used_line number Rrule other) after one before nothing_read)
       (λ start. in_turn-same (second_step start) (used_line number Rrule value) (used_line number Rrule other) after (two start) before nothing_beside)

@@ -8,7 +8,7 @@ use Rattle.std.proofs.lemmas.Bool.Decides.{nat_tests}
 use Rattle.std.proofs.lemmas.List.{length-append}
 use Rattle.rr_model.specs.Rising.{with_value}
 use Rattle.rr_model.specs.Text.Moments.{basic}
-use Rattle.rr_model.specs.Text.Passes.{Stated, Language, has_slash, date_value, judged_date, judged_dates, judged_line, first_pass, Beside, put_date}
+use Rattle.rr_model.specs.Text.Passes.{Stated, Language, has_slash, date_value, judged_date, judged_dates, judged_line, judged_rule, first_pass, Beside, put_date, put_rule, with_rule}
 use Rattle.rr_model.specs.Text.Passes.{date_beside, with_date, with_line, second_pass}
 use Rattle.rr_model.specs.Text.RuleValues.{◌>>=◌}
 use Rattle.rr_model.specs.Text.Steps.{in_turn}
@@ -84,6 +84,15 @@ date-sound line is_plus pass text next sound h =
     let counts = date-counts line is_plus pass text next h in
     subst IsSoundPass (sym counts.0) (record { start = sound.start; few_rules = sound.few_rules; few_dates = omega (arith, counts.1) })
 
+rule-sound : {R : Type 0} (language : Language R) (line : ℕ) (pass : FirstPass) (text : List ℕ) (next : FirstPass) → IsSoundPass pass
+    → judged_rule language line pass text ≡ Ok next → IsSoundPass next
+rule-sound language line pass text next sound h =
+    let room = not_refused (nat_le 16 pass.rule_count) TooManyParts _ next h in
+    let rule = and_then_ok (language.stated line text) (λ stated. Ok (record pass { rule_count = pass.rule_count + 1 })) next room.1 in
+    let same : record pass { rule_count = pass.rule_count + 1 } ≡ next = cc in
+    let below : pass.rule_count < 16 = grind (arith, nat_tests, room.0) in
+    subst IsSoundPass same (record { start = sound.start; few_rules = omega (arith, below); few_dates = sound.few_dates })
+
 line-sound : {R : Type 0} (language : Language R) (line : ℕ) (name : LineName) (pass : FirstPass) (text : List ℕ) (next : FirstPass) → IsSoundPass pass
     → judged_line language line name pass text ≡ Ok next → IsSoundPass next
 line-sound language line Dtstart pass text next sound h =
@@ -96,17 +105,12 @@ line-sound language line Dtstart pass text next sound h =
       few_rules = sound.few_rules;
       few_dates = sound.few_dates;
     })
-line-sound language line Rrule pass text next sound h =
-    let room = not_refused (nat_le 16 pass.rule_count) TooManyParts _ next h in
-    let rule = and_then_ok (language.stated line text) (λ stated. Ok (record pass { rule_count = pass.rule_count + 1 })) next room.1 in
-    let same : record pass { rule_count = pass.rule_count + 1 } ≡ next = cc in
-    let below : pass.rule_count < 16 = grind (arith, nat_tests, room.0) in
-    subst IsSoundPass same (record { start = sound.start; few_rules = omega (arith, below); few_dates = sound.few_dates })
+line-sound language line Rrule pass text next sound h = rule-sound language line pass text next sound h
 line-sound language line Rdate pass text next sound h =
     in_turn-keeps (judged_date line true) IsSoundPass (date-sound line true) pass (slice_split language.is_separator text) next sound h
 line-sound language line Exdate pass text next sound h =
     in_turn-keeps (judged_date line false) IsSoundPass (date-sound line false) pass (slice_split language.is_separator text) next sound h
-line-sound language line Exrule pass text next sound h = absurd (cc)
+line-sound language line Exrule pass text next sound h = rule-sound language line pass text next sound h
 
 pub first_pass-sound : {R : Type 0} (language : Language R) (pass : FirstPass) (lines : List UsedLine) (next : FirstPass) → IsSoundPass pass
     → first_pass language pass lines ≡ Ok next → IsSoundPass next
@@ -117,6 +121,7 @@ first_pass-sound language pass lines next =
 -- how many rules a line has
 pub rules_on : LineName → ℕ
 rules_on Rrule = 1
+rules_on Exrule = 1
 rules_on name = 0
 
 -- how many date values a line has
@@ -144,6 +149,15 @@ dates-keep_rules line is_plus n =
     in_turn-keeps (judged_date line is_plus) (λ (p : FirstPass). p.rule_count ≡ n)
     (λ p text z same h. subst (λ (q : FirstPass). q.rule_count ≡ n) (sym (date-counts line is_plus p text z h).0) same)
 
+-- a rule is counted, and no date
+rule-counts : {R : Type 0} (language : Language R) (line : ℕ) (pass : FirstPass) (text : List ℕ) (next : FirstPass)
+    → judged_rule language line pass text ≡ Ok next → (next.rule_count ≡ pass.rule_count + 1) × (next.date_count ≡ pass.date_count + 0)
+rule-counts language line pass text next h =
+    let room = not_refused (nat_le 16 pass.rule_count) TooManyParts _ next h in
+    let rule = and_then_ok (language.stated line text) (λ stated. Ok (record pass { rule_count = pass.rule_count + 1 })) next room.1 in
+    let same : record pass { rule_count = pass.rule_count + 1 } ≡ next = cc in
+    (omega (arith, ap (λ (p : FirstPass). p.rule_count) same), omega (arith, ap (λ (p : FirstPass). p.date_count) same))
+
 line-counts : {R : Type 0} (language : Language R) (line : ℕ) (name : LineName) (pass : FirstPass) (text : List ℕ) (next : FirstPass)
     → judged_line language line name pass text ≡ Ok next
     → (next.rule_count ≡ pass.rule_count + rules_on name) × (next.date_count ≡ pass.date_count + dates_on language name text)
@@ -153,18 +167,14 @@ line-counts language line Dtstart pass text next h =
     let value = and_then_ok (ok_or (basic text) (BadMoment line)) (λ (stamp : Stamp). Ok (record pass { start = Some stamp })) next once.1 in
     let same : record pass { start = Some value.0 } ≡ next = cc in
     (omega (arith, ap (λ (p : FirstPass). p.rule_count) same), omega (arith, ap (λ (p : FirstPass). p.date_count) same))
-line-counts language line Rrule pass text next h =
-    let room = not_refused (nat_le 16 pass.rule_count) TooManyParts _ next h in
-    let rule = and_then_ok (language.stated line text) (λ stated. Ok (record pass { rule_count = pass.rule_count + 1 })) next room.1 in
-    let same : record pass { rule_count = pass.rule_count + 1 } ≡ next = cc in
-    (omega (arith, ap (λ (p : FirstPass). p.rule_count) same), omega (arith, ap (λ (p : FirstPass). p.date_count) same))
+line-counts language line Rrule pass text next h = rule-counts language line pass text next h
 line-counts language line Rdate pass text next h =
     let texts = slice_split language.is_separator text in
     (omega (arith, dates-keep_rules line true pass.rule_count pass texts next refl h), dates-count line true pass texts next h)
 line-counts language line Exdate pass text next h =
     let texts = slice_split language.is_separator text in
     (omega (arith, dates-keep_rules line false pass.rule_count pass texts next refl h), dates-count line false pass texts next h)
-line-counts language line Exrule pass text next h = absurd (cc)
+line-counts language line Exrule pass text next h = rule-counts language line pass text next h
 
 -- what is counted is what all lines have
 pub first_pass-counts : {R : Type 0} (language : Language R) (pass : FirstPass) (lines : List UsedLine) (next : FirstPass)
@@ -192,6 +202,10 @@ length-with_value below (y ∷ ys) v = by (below y v) (below v y) (length-with_v
     by false true h = omega arith
     by false false h = omega arith
 
+-- how many rules and excluded rules are beside the start
+abbrev pub rule_count : {R : Type 0} → Beside R → ℕ
+rule_count beside = length beside.rules + length beside.excluded
+
 -- how many dates are beside the start
 abbrev pub date_count : {R : Type 0} → Beside R → ℕ
 date_count beside = length beside.plus + length beside.minus
@@ -216,33 +230,36 @@ with_date-bounded offset start line is_plus beside text next h =
     let put = date-put offset start line is_plus beside text next h in
     subst (λ b. date_count b ≤ date_count beside + 1) put.4 (put_date-bounded is_plus beside put.2)
 
-put_date-keeps_rules : {R : Type 0} (is_plus : Bool) (beside : Beside R) (at : ℤ) → length (put_date is_plus beside at).rules ≡ length beside.rules
+put_date-keeps_rules : {R : Type 0} (is_plus : Bool) (beside : Beside R) (at : ℤ) → rule_count (put_date is_plus beside at) ≡ rule_count beside
 put_date-keeps_rules true beside at = refl
 put_date-keeps_rules false beside at = refl
 
 with_date-keeps_rules : {R : Type 0} (offset : Option ℤ) (start : Stamp) (line : ℕ) (is_plus : Bool) (n : ℕ) (beside : Beside R) (text : List ℕ)
-    (next : Beside R) → length beside.rules ≡ n
-    → with_date offset start line is_plus beside text ≡ Ok next → length next.rules ≡ n
+    (next : Beside R) → rule_count beside ≡ n
+    → with_date offset start line is_plus beside text ≡ Ok next → rule_count next ≡ n
 with_date-keeps_rules {R = R} offset start line is_plus n beside text next same h =
     let put = date-put offset start line is_plus beside text next h in
-    subst (λ (b : Beside R). length b.rules ≡ n) put.4 (put_date-keeps_rules is_plus beside put.2 ∙ same)
+    subst (λ (b : Beside R). rule_count b ≡ n) put.4 (put_date-keeps_rules is_plus beside put.2 ∙ same)
 
--- the rule of a line is put at the end, and nothing else changes
-pub rule-put : {R : Type 0} (language : Language R) (rule_beside : ℕ → Stated R → Result R Refusal) (offset : Option ℤ) (start : Stamp) (line : ℕ)
-    (beside : Beside R) (text : List ℕ) (next : Beside R)
-    → with_line language rule_beside offset start line Rrule beside text ≡ Ok next
+-- the rule of a line is put at the end of its list, and nothing else changes
+pub rule-put : {R : Type 0} (language : Language R) (rule_beside : ℕ → Stated R → Result R Refusal) (line : ℕ) (is_given : Bool)
+    (beside : Beside R) (text : List ℕ) (next : Beside R) → with_rule language rule_beside line is_given beside text ≡ Ok next
     → (stated : Stated R) × (language.stated line text ≡ Ok stated) × (rule : R) × (rule_beside line stated ≡ Ok rule)
-    × (record beside { rules = beside.rules ++ rule ∷ [] } ≡ next)
-rule-put language rule_beside offset start line beside text next h =
-    let stated = and_then_ok (language.stated line text) (λ s. rule_beside line s
-    >>= λ rule. Ok (record beside { rules = beside.rules ++ rule ∷ [] })) next h in
-    let rule = and_then_ok (rule_beside line stated.0) (λ r. Ok (record beside { rules = beside.rules ++ r ∷ [] })) next stated.2 in
-    let same : record beside { rules = beside.rules ++ rule.0 ∷ [] } ≡ next = cc in
+    × (put_rule is_given beside rule ≡ next)
+rule-put language rule_beside line is_given beside text next h =
+    let stated = and_then_ok (language.stated line text) (λ s. rule_beside line s >>= λ rule. Ok (put_rule is_given beside rule)) next h in
+    let rule = and_then_ok (rule_beside line stated.0) (λ r. Ok (put_rule is_given beside r)) next stated.2 in
+    let same : put_rule is_given beside rule.0 ≡ next = cc in
     (stated.0, stated.1, rule.0, rule.1, same)
+
+put_rule-counted : {R : Type 0} (is_given : Bool) (beside : Beside R) (rule : R)
+    → (rule_count (put_rule is_given beside rule) ≡ rule_count beside + 1) × (date_count (put_rule is_given beside rule) ≡ date_count beside)
+put_rule-counted true beside rule = (omega (arith, length-append beside.rules (rule ∷ [])), refl)
+put_rule-counted false beside rule = (omega (arith, length-append beside.excluded (rule ∷ [])), refl)
 
 module _ {R : Type 0} (language : Language R) (rule_beside : ℕ → Stated R → Result R Refusal) (offset : Option ℤ) (start : Stamp) where
   abbrev IsBounded : Beside R → ℕ → ℕ → Beside R → Type 0
-  IsBounded beside rules dates next = (length next.rules ≤ length beside.rules + rules) × (date_count next ≤ date_count beside + dates)
+  IsBounded beside rules dates next = (rule_count next ≤ rule_count beside + rules) × (date_count next ≤ date_count beside + dates)
 
   dates-bounded : (line : ℕ) (is_plus : Bool) (beside : Beside R) (texts : List (List ℕ)) (next : Beside R)
       → in_turn (with_date offset start line is_plus) beside texts ≡ Ok next
@@ -250,12 +267,19 @@ module _ {R : Type 0} (language : Language R) (rule_beside : ℕ → Stated R �
   dates-bounded line is_plus beside texts next h = (
     omega (
       arith,
-      in_turn-keeps (with_date offset start line is_plus) (λ (b : Beside R). length b.rules ≡ length beside.rules)
-          (λ b t z same e. with_date-keeps_rules offset start line is_plus (length beside.rules) b t z same e) beside texts next refl h,
+      in_turn-keeps (with_date offset start line is_plus) (λ (b : Beside R). rule_count b ≡ rule_count beside)
+          (λ b t z same e. with_date-keeps_rules offset start line is_plus (rule_count beside) b t z same e) beside texts next refl h,
     ),
     in_turn-bounded (with_date offset start line is_plus) (λ b. date_count b) (λ (piece : List ℕ). 1)
         (λ b t z e. with_date-bounded offset start line is_plus b t z e) beside texts next h,
   )
+
+  rule-bounded : (line : ℕ) (is_given : Bool) (beside : Beside R) (text : List ℕ) (next : Beside R)
+      → with_rule language rule_beside line is_given beside text ≡ Ok next → IsBounded beside 1 0 next
+  rule-bounded line is_given beside text next h =
+      let put = rule-put language rule_beside line is_given beside text next h in
+      let counted = put_rule-counted is_given beside put.2 in
+      subst (IsBounded beside 1 0) put.4 (omega (arith, counted.0), omega (arith, counted.1))
 
   line-bounded : (line : ℕ) (name : LineName) (beside : Beside R) (text : List ℕ) (next : Beside R)
       → with_line language rule_beside offset start line name beside text ≡ Ok next
@@ -264,20 +288,16 @@ module _ {R : Type 0} (language : Language R) (rule_beside : ℕ → Stated R �
   line-bounded line Dtstart beside text next h =
       let same : beside ≡ next = cc in
       subst (IsBounded beside 0 0) same (omega arith, omega arith)
-  line-bounded line Rrule beside text next h =
-      let put = rule-put language rule_beside offset start line beside text next h in
-      subst (IsBounded beside 1 0) put.4 (omega (arith, length-append beside.rules (put.2 ∷ [])), omega arith)
+  line-bounded line Rrule beside text next h = rule-bounded line true beside text next h
   line-bounded line Rdate beside text next h = dates-bounded line true beside (slice_split language.is_separator text) next h
   line-bounded line Exdate beside text next h = dates-bounded line false beside (slice_split language.is_separator text) next h
-  line-bounded line Exrule beside text next h =
-      let same : beside ≡ next = cc in
-      subst (IsBounded beside 0 0) same (omega arith, omega arith)
+  line-bounded line Exrule beside text next h = rule-bounded line false beside text next h
 
   -- beside the start are no more rules and dates than the lines have
   pub second_pass-bounded : (beside : Beside R) (lines : List UsedLine) (next : Beside R) → second_pass language rule_beside offset start beside lines ≡ Ok next
       → IsBounded beside (all_rules lines) (all_dates language lines) next
   second_pass-bounded beside lines next h = (
-    in_turn-bounded with_used (λ (b : Beside R). length b.rules) (λ (line : UsedLine). rules_on line.name)
+    in_turn-bounded with_used (λ (b : Beside R). rule_count b) (λ (line : UsedLine). rules_on line.name)
         (λ b line z e. (line-bounded line.number line.name b line.value z e).0) beside lines next h,
     in_turn-bounded with_used (λ b. date_count b) (λ (line : UsedLine). dates_on language line.name line.value)
         (λ b line z e. (line-bounded line.number line.name b line.value z e).1) beside lines next h,

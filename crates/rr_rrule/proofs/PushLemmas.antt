@@ -4,7 +4,7 @@ use Rattle.std.proofs.Common.{append_assoc, append-nil, length-drop}
 use Rattle.std.specs.Prelude.{codes}
 use Rattle.std.specs.List.{join_with_byte}
 use Rattle.std.proofs.lemmas.List.{drop_all, drop_more, take_min}
-use Rattle.rr_model.specs.Text.Written.{calendar_written, date_line, excluded, folded, folded_line, folded_rest, lines_of, line_break, rule_line, rule_text}
+use Rattle.rr_model.specs.Text.Written.{calendar_written, date_line, dates_out, folded, folded_line, folded_rest, lines_of, line_break, rule_line, rule_text}
 use Rattle.rr_model.specs.declared.rule.Rule.{Rule}
 use Rattle.rr_model.specs.declared.rule.Series.{Series}
 use Rattle.rr_rrule.specs.RuleTexts.{repetition_text, date_parts_text, time_parts_text}
@@ -105,9 +105,11 @@ unfolding rule_text
 rule_by_stretches rule = in_stretches (repetition_text rule) _ _ _ _ _ _ _ _ _
 
 -- the lines of a series, one after the other
-pub series_written : (series : Series) (a b c d : List ℕ) (rules : List Rule) (plus minus : List ℤ) → rules ≡ series.rules → plus ≡ series.plus
-    → minus ≡ excluded series → a ≡ date_line (codes "DTSTART") series.kind series.start → b ≡ a ++ lines_of rule_line rules
-    → c ≡ b ++ lines_of (date_line (codes "RDATE") series.kind) plus → d ≡ c ++ lines_of (date_line (codes "EXDATE") series.kind) minus
+pub series_written : (series : Series) (a b x c d : List ℕ) (rules excluded : List Rule) (plus minus : List ℤ) → rules ≡ series.rules
+    → excluded ≡ series.excluded → plus ≡ series.plus
+    → minus ≡ dates_out series → a ≡ date_line (codes "DTSTART") series.kind series.start → b ≡ a ++ lines_of (rule_line (codes "RRULE")) rules
+    → x ≡ b ++ lines_of (rule_line (codes "EXRULE")) excluded
+    → c ≡ x ++ lines_of (date_line (codes "RDATE") series.kind) plus → d ≡ c ++ lines_of (date_line (codes "EXDATE") series.kind) minus
     → d ≡ calendar_written series
 unfolding calendar_written
-series_written series a b c d rules plus minus er ep em ea eb ec ed = rw (ed, ec, eb, ea, er, ep, em) refl
+series_written series a b x c d rules excluded plus minus er ex ep em ea eb eo ec ed = rw (ed, ec, eo, eb, ea, er, ex, ep, em) refl

@@ -45,7 +45,7 @@ rule_alone freq interval month_days days end = record {
 }
 
 abbrev series_of : Kind → ℤ → Rule → Series
-series_of kind start rule = record { kind = kind; start = start; start_counts = true; rules = rule ∷ []; plus = []; minus = [] }
+series_of kind start rule = record { kind = kind; start = start; start_counts = true; rules = rule ∷ []; excluded = []; plus = []; minus = [] }
 
 read_values :
     (calendar_text None (text (codes "20240101") (codes "FREQ=DAILY")) ≡ Ok (series_of Days (pos 19_723) (rule_alone Daily 1 [] [] Never)))

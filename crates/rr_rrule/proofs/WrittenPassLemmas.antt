@@ -13,7 +13,7 @@ use Rattle.rr_model.specs.Rule.Validity.{IsValidRule, EndsInYears}
 use Rattle.rr_model.specs.Text.Calendars.{end_beside, rule_beside, rrule_language}
 use Rattle.rr_model.specs.Text.Event.{used_line}
 use Rattle.rr_model.specs.Text.Moments.{basic}
-use Rattle.rr_model.specs.Text.Passes.{Beside, has_slash, date_value, judged_date, judged_dates, judged_line, put_date, with_date, with_dates}
+use Rattle.rr_model.specs.Text.Passes.{Beside, has_slash, date_value, judged_date, judged_dates, judged_line, judged_rule, put_date, with_date, with_dates}
 use Rattle.rr_model.specs.Text.Passes.{with_line}
 use Rattle.rr_model.specs.Text.RuleValues.{◌>>=◌}
 use Rattle.rr_model.specs.Text.Steps.{in_turn}
@@ -29,7 +29,7 @@ use Rattle.rr_model.specs.declared.rule.End.TheVariants.{Never, Until, Count, Bo
 use Rattle.rr_model.specs.declared.rule.Rule.{Rule}
 use Rattle.rr_model.specs.declared.stamp.Stamp.{Stamp}
 use Rattle.rr_model.specs.declared.used.LineName.{LineName}
-use Rattle.rr_model.specs.declared.used.LineName.TheVariants.{Rrule, Rdate, Exdate}
+use Rattle.rr_model.specs.declared.used.LineName.TheVariants.{Rrule, Rdate, Exdate, Exrule}
 use Rattle.rr_model.specs.declared.used.UsedLine.{UsedLine}
 use Rattle.rr_model.proofs.RisingSetLemmas.{Rises-tail}
 use Rattle.rr_text.proofs.FoldedLineLemmas.{number_after}
@@ -168,28 +168,36 @@ pub record IsWritable (kind : Kind) (rule : Rule) : Type 0 where
   pub one_end : IsOneEnd rule.end
   pub years : EndsInYears rule.end
 
--- the line of a rule
-abbrev pub ruled : Rule → WrittenLine
-ruled rule = record { text = codes "RRULE:" ++ rule_text rule; name = Rrule; value = rule_text rule }
+-- the line of a rule: the word that it begins with, and its name
+abbrev pub ruled : List ℕ → LineName → Rule → WrittenLine
+ruled word name rule = record { text = word ++ codes ":" ++ rule_text rule; name = name; value = rule_text rule }
 
--- rules that there is room for
-abbrev pub AreFew : Kind → List Rule → List Rule → Type 0
-AreFew kind done rules = (length done + length rules ≤ 16) × AllByRecursion (IsWritable kind) rules
+-- rules that there is room for beside those before them
+abbrev pub AreFew : Kind → ℕ → List Rule → List Rule → Type 0
+AreFew kind before done rules = (before + (length done + length rules) ≤ 16) × AllByRecursion (IsWritable kind) rules
 
-few_next : (kind : Kind) (done : List Rule) (rule : Rule) (rules : List Rule) → AreFew kind done (rule ∷ rules) → AreFew kind (done ++ rule ∷ []) rules
-few_next kind done rule rules h = (omega (arith, h.0, length_push done rule), h.1.1)
+few_next : (kind : Kind) (before : ℕ) (done : List Rule) (rule : Rule) (rules : List Rule) → AreFew kind before done (rule ∷ rules)
+    → AreFew kind before (done ++ rule ∷ []) rules
+few_next kind before done rule rules h = (omega (arith, h.0, length_push done rule), h.1.1)
 
-abbrev pub rules_so_far : Stamp → List Rule → FirstPass
-rules_so_far start done = passed start (length done) 0
+abbrev pub rules_so_far : Stamp → ℕ → List Rule → FirstPass
+rules_so_far start before done = passed start (before + length done) 0
 
-pub rule_judged : (start : Stamp) (kind : Kind) → GoesOn first_step ruled (rules_so_far start) (AreFew kind)
-rule_judged start kind k done rule rules h =
-    let w = h.1.0 in
-    let few : nat_le 16 (length done) ≡ false = grind (arith, nat_tests, h.0) in
-    let counted : length done + 1 ≡ length (done ++ rule ∷ []) = omega (arith, length_push done rule) in (
-      rw (few, stated_rule-written k kind rule w.valid w.one_end w.years) refl ∙ ap (λ n. Ok (passed start n 0)) counted,
-      few_next kind done rule rules h,
-    )
+module _ (start : Stamp) (kind : Kind) (before k : ℕ) (done : List Rule) (rule : Rule) (rules : List Rule) (h : AreFew kind before done (rule ∷ rules)) where
+  counted_rule : judged_rule rrule_language k (rules_so_far start before done) (rule_text rule) ≡ Ok (rules_so_far start before (done ++ rule ∷ []))
+  counted_rule =
+      let w = h.1.0 in
+      let few : nat_le 16 (before + length done) ≡ false = grind (arith, nat_tests, h.0) in
+      let counted : before + length done + 1 ≡ before + length (done ++ rule ∷ []) = omega (arith, length_push done rule) in
+      rw (few, stated_rule-written k kind rule w.valid w.one_end w.years) refl ∙ ap (λ n. Ok (passed start n 0)) counted
+
+pub rule_judged : (start : Stamp) (kind : Kind) (before : ℕ) (word : List ℕ)
+    → GoesOn first_step (ruled word Rrule) (rules_so_far start before) (AreFew kind before)
+rule_judged start kind before word k done rule rules h = (counted_rule start kind before k done rule rules h, few_next kind before done rule rules h)
+
+pub excluded_judged : (start : Stamp) (kind : Kind) (before : ℕ) (word : List ℕ)
+    → GoesOn first_step (ruled word Exrule) (rules_so_far start before) (AreFew kind before)
+excluded_judged start kind before word k done rule rules h = (counted_rule start kind before k done rule rules h, few_next kind before done rule rules h)
 
 -- ---- the second pass
 
@@ -222,13 +230,25 @@ rule_beside-written line kind start rule w = rw (end_beside-written (stamp_of ki
 module _ (kind : Kind) (start : ℤ) where
   -- rules that are read so far
   abbrev pub rules_beside : List Rule → Beside Rule
-  rules_beside done = record { rules = done; plus = []; minus = [] }
+  rules_beside done = record { rules = done; excluded = []; plus = []; minus = [] }
 
-  pub rule_put : GoesOn (second_step (stamp_of kind start)) ruled rules_beside (AreFew kind)
-  rule_put k done rule rules h =
+  -- and excluded ones
+  abbrev pub excluded_beside : List Rule → List Rule → Beside Rule
+  excluded_beside rules done = record { rules = rules; excluded = done; plus = []; minus = [] }
+
+  pub rule_put : (before : ℕ) (word : List ℕ) → GoesOn (second_step (stamp_of kind start)) (ruled word Rrule) rules_beside (AreFew kind before)
+  rule_put before word k done rule rules h =
       let w = h.1.0 in (
         rw (stated_rule-written k kind rule w.valid w.one_end w.years, rule_beside-written k kind start rule w) refl,
-        few_next kind done rule rules h,
+        few_next kind before done rule rules h,
+      )
+
+  pub excluded_put : (given : List Rule) (before : ℕ) (word : List ℕ)
+      → GoesOn (second_step (stamp_of kind start)) (ruled word Exrule) (excluded_beside given) (AreFew kind before)
+  excluded_put given before word k done rule rules h =
+      let w = h.1.0 in (
+        rw (stated_rule-written k kind rule w.valid w.one_end w.years, rule_beside-written k kind start rule w) refl,
+        few_next kind before done rule rules h,
       )
 
   -- dates that rise from those before them
@@ -238,9 +258,9 @@ module _ (kind : Kind) (start : ℤ) where
   goes_on : (done : List ℤ) (at : ℤ) (ats : List ℤ) → GoOn done (at ∷ ats) → GoOn (done ++ at ∷ []) ats
   goes_on done at ats h = (h.0.1, Rises-tail int_lt at ats h.1, IsAbove-next int_lt int_lt-transitive done at ats h.2 h.1)
 
-  module _ (rules : List Rule) where
+  module _ (rules excluded : List Rule) where
     abbrev pub plus_beside : List ℤ → Beside Rule
-    plus_beside done = record { rules = rules; plus = done; minus = [] }
+    plus_beside done = record { rules = rules; excluded = excluded; plus = done; minus = [] }
 
     pub plus_put : (word : List ℕ) → GoesOn (second_step (stamp_of kind start)) (dated word Rdate kind) plus_beside GoOn
     plus_put word k done at ats h = (
@@ -250,7 +270,7 @@ module _ (kind : Kind) (start : ℤ) where
 
     module _ (plus : List ℤ) where
       abbrev pub minus_beside : List ℤ → Beside Rule
-      minus_beside done = record { rules = rules; plus = plus; minus = done }
+      minus_beside done = record { rules = rules; excluded = excluded; plus = plus; minus = done }
 
       pub minus_put : (word : List ℕ) → GoesOn (second_step (stamp_of kind start)) (dated word Exdate kind) minus_beside GoOn
       minus_put word k done at ats h = (

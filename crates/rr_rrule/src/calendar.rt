@@ -19,6 +19,7 @@ fn series_of(start: Stamp, beside: Nearby) -> Series
         start: start.at,
         start_counts: true,
         rules: beside.rules,
+        excluded: beside.excluded,
         plus: beside.plus,
         minus: beside.minus,
     }
@@ -51,14 +52,14 @@ fn read_text(alloc: Global, offset: Option<i32>, text: &[u8]) -> Result<Series, 
 /// Reads the series of the one event of an iCalendar text, or of a text without components (RFC 5545, section 3.8.5).
 ///
 /// The offset is local time less UTC in seconds. It turns a moment of UTC that stands beside a start of local time;
-/// without it such a moment is refused. Used are DTSTART, the start, which counts, RRULE, RDATE and EXDATE; their
+/// without it such a moment is refused. Used are DTSTART, the start, which counts, RRULE, EXRULE, RDATE and EXDATE; their
 /// parameters and all other lines are passed over, and so is one byte order mark. A text of more than `MAX_INPUT` bytes
 /// is read like any other.
 ///
 /// The first fault is the refusal. `NotText` comes for bytes that are no UTF-8. Then line by line, from left to right,
 /// what `rr_ical::event_lines` refuses; of DTSTART `PartTwice`, `BadMoment`; of each value of RDATE or EXDATE
-/// `TooManyParts`, `PeriodValue` in RDATE, `BadMoment`; of RRULE `TooManyParts`, then the faults of its parts, then
-/// those of its parts together; of EXRULE `Extended`. At the end of the text `BadLine` for an open component, `NoStart`.
+/// `TooManyParts`, `PeriodValue` in RDATE, `BadMoment`; of RRULE and EXRULE `TooManyParts`, then the faults of its parts,
+/// then those of its parts together. At the end of the text `BadLine` for an open component, `NoStart`.
 /// Then line by line beside the start, of each date `MixedKinds`, of each date and UNTIL `UtcMoment` without an offset,
 /// `BadMoment` where the offset leaves the years 1 to 9999, and of a rule finer than DAILY beside a date `NotAllowed`.
 /// A refusal names the first physical line of the line at fault.

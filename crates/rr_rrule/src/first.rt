@@ -109,10 +109,9 @@ fn judged_line(
 {
     match name {
         LineName::Dtstart => judged_start(line, pass, text),
-        LineName::Rrule => judged_rule(alloc, line, pass, text),
+        LineName::Rrule | LineName::Exrule => judged_rule(alloc, line, pass, text),
         LineName::Rdate => judged_dates(line, true, pass, text),
         LineName::Exdate => judged_dates(line, false, pass, text),
-        LineName::Exrule => Err(Fault::Refused(Refusal::Extended)),
     }
 }
 

@@ -4,19 +4,20 @@ ghost use Rattle.std.specs.List.{slice_split};
 ghost use Rattle.rr_model.specs.Answers.{Answers};
 ghost use Rattle.rr_model.specs.Moment.{is_same_kind};
 ghost use Rattle.rr_model.specs.Moment.Years.{IsInYears};
-ghost use Rattle.rr_model.specs.Text.Passes.{nothing_beside, put_date, date_beside, with_date, with_dates, with_rule, with_line, second_pass};
+ghost use Rattle.rr_model.specs.Text.Passes.{nothing_beside, put_date, put_rule, date_beside, with_date, with_dates, with_rule, with_line, second_pass};
 ghost use Rattle.rr_model.specs.Text.Calendars.{is_comma, rrule_language, rule_beside};
 
 use crate::first::date_value;
 use crate::stated::{moment_beside, rule_beside, stated_rule};
-use rr_model::{Dates, Fault, Kind, LineName, NoMemory, Refusal, Rules, Stamp, UsedLine};
+use rr_model::{Dates, Fault, Kind, LineName, NoMemory, Refusal, Rule, Rules, Stamp, UsedLine};
 use std::alloc::Global;
 use std::marker::Model;
 
-/// Rules and dates beside a start.
+/// Rules, excluded rules and dates beside a start.
 #[derive(Drop)]
 pub(crate) struct Nearby {
     pub(crate) rules: Rules,
+    pub(crate) excluded: Rules,
     pub(crate) plus: Dates,
     pub(crate) minus: Dates,
 }
@@ -27,7 +28,7 @@ impl Model for Nearby {
 
     ghost Value = { Beside Rule };
 
-    ghost view = { λ n. record { rules = n.rules; plus = n.plus; minus = n.minus } };
+    ghost view = { λ n. record { rules = n.rules; excluded = n.excluded; plus = n.plus; minus = n.minus } };
 }
 
 /// What the values of an event stand beside.
@@ -107,21 +108,33 @@ fn with_dates(
     Ok(beside)
 }
 
-// The rule of a line beside the start.
+// With one rule more, of RRULE or EXRULE.
+fn put_rule(is_given: bool, beside: Nearby, rule: Rule) -> Result<Nearby, NoMemory>
+    ensures { IfOk result (λ more. more ≡ put_rule is_given beside rule) }
+{
+    let mut beside = beside;
+    if is_given {
+        beside.rules.put(rule)?;
+    } else {
+        beside.excluded.put(rule)?;
+    }
+    Ok(beside)
+}
+
+// The rule of a line beside the start, of RRULE or EXRULE.
 fn with_rule(
     alloc: Global,
     setting: Setting,
     line: u64,
+    is_given: bool,
     beside: Nearby,
     text: &[u8],
 ) -> Result<Nearby, Fault>
-    ensures { Answers (with_rule rrule_language (rule_beside setting.offset setting.start) line beside text.now) result }
+    ensures { Answers (with_rule rrule_language (rule_beside setting.offset setting.start) line is_given beside text.now) result }
 {
-    let mut beside = beside;
     let stated = stated_rule(alloc, line, text)?;
     let rule = rule_beside(setting.offset, setting.start, line, stated)?;
-    beside.rules.put(rule)?;
-    Ok(beside)
+    Ok(put_rule(is_given, beside, rule)?)
 }
 
 // One used line.
@@ -135,10 +148,11 @@ fn with_line(
 {
     let text = line.value.as_slice();
     match line.name {
-        LineName::Rrule => with_rule(alloc, setting, line.number, beside, text),
+        LineName::Rrule => with_rule(alloc, setting, line.number, true, beside, text),
+        LineName::Exrule => with_rule(alloc, setting, line.number, false, beside, text),
         LineName::Rdate => with_dates(setting, line.number, true, beside, text),
         LineName::Exdate => with_dates(setting, line.number, false, beside, text),
-        LineName::Dtstart | LineName::Exrule => Ok(beside),
+        LineName::Dtstart => Ok(beside),
     }
 }
 
@@ -147,6 +161,7 @@ fn nothing_beside(alloc: Global) -> Nearby
 {
     Nearby {
         rules: Rules::new(alloc),
+        excluded: Rules::new(alloc),
         plus: Dates::new(alloc),
         minus: Dates::new(alloc),
     }

@@ -41,6 +41,7 @@ fn rule(alloc: Global) -> Result<Rule, NoMemory>
 fn series(alloc: Global) -> Result<Series, NoMemory>
     ensures valid { IfOk result IsValidSeries }
     ensures one { IfOk result (λ series. All (λ rule. IsOneEnd rule.end) series.rules) }
+    ensures excluded_one { IfOk result (λ series. All (λ rule. IsOneEnd rule.end) series.excluded) }
 {
     let mut rules = Rules::new(alloc);
     rules.put(rule(alloc)?)?;
@@ -49,6 +50,7 @@ fn series(alloc: Global) -> Result<Series, NoMemory>
         start: START,
         start_counts: true,
         rules,
+        excluded: Rules::new(alloc),
         plus: Dates::new(alloc),
         minus: Dates::new(alloc),
     })

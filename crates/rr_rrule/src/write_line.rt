@@ -73,14 +73,16 @@ pub(crate) fn push_date_line(
 pub(crate) fn push_rule_line(
     out: &mut Vec<u8>,
     line: &mut Vec<u8>,
+    name: &[u8],
     rule: &Rule,
 ) -> Result<(), NoMemory>
     requires years { EndsInYears rule.now.end }
     requires one { IsOneEnd rule.now.end }
-    ensures { OnOk result (out.new.items ≡ out.old.items ++ rule_line rule.now) }
+    ensures { OnOk result (out.new.items ≡ out.old.items ++ rule_line name.now rule.now) }
 {
     line.clear();
-    line.extend_from_slice(b"RRULE:")?;
+    line.extend_from_slice(name)?;
+    line.push(b':')?;
     push_rule(line, rule)?;
     push_folded(out, line)
 }

@@ -8,7 +8,7 @@ use Rattle.std.proofs.lemmas.Option.{slice_get_read, slice_get_within, slice_get
 use Rattle.indexmap.specs.IndexSet.{insert_key}
 use Rattle.rr_model.specs.Rising.Sets.{IsSetOf, IsSecondsOfDay}
 use Rattle.rr_model.proofs.RisingSetLemmas.{set_itself, set_same}
-use Rattle.rr_shapes.specs.Tables.{Extends, IsUnion, IsTable}
+use Rattle.rr_shapes.specs.Tables.{Extends, IsUnion, IsDifference, IsTable}
 use Rattle.rr_shapes.specs.declared.unions.Pair.{Pair}
 use Rattle.rr_shapes.proofs.ShapeLemmas.{same}
 
@@ -52,22 +52,45 @@ kept_union old new known grows union = record {
   union = rw (kept_set old new grows known.0.a union.a, kept_set old new grows known.0.b union.b, kept_set old new grows known.1 union.number) union.union;
 }
 
+-- and so is a difference
+pub kept_difference : (old new : List (List ℕ)) (known : Pair × ℕ) → Extends old new → IsDifference old known → IsDifference new known
+kept_difference old new known grows less = record {
+  a = kept_number old new grows known.0.a less.a;
+  b = kept_number old new grows known.0.b less.b;
+  number = kept_number old new grows known.1 less.number;
+  difference = rw (kept_set old new grows known.0.a less.a, kept_set old new grows known.0.b less.b, kept_set old new grows known.1 less.number) less.difference;
+}
+
 -- a table with one set inserted
-pub table_with_set : (sets new : List (List ℕ)) (unions : List (Pair × ℕ)) (times : List ℕ) → IsTable sets unions → new ≡ insert_key same sets times
-    → IsSecondsOfDay times → IsTable new unions
-table_with_set sets new unions times table e day = record {
+pub table_with_set : (sets new : List (List ℕ)) (unions less : List (Pair × ℕ)) (times : List ℕ) → IsTable sets unions less
+    → new ≡ insert_key same sets times → IsSecondsOfDay times → IsTable new unions less
+table_with_set sets new unions less times table e day = record {
   of_day = insert_of_day sets new times e table.of_day day;
   unions = λ k d l. kept_union sets new _ (insert_extends sets new times e) (table.unions k d l);
+  differences = λ k d l. kept_difference sets new _ (insert_extends sets new times e) (table.differences k d l);
 }
 
 -- a table of which at most one more union is known
-pub table_with_union : (sets : List (List ℕ)) (unions new : List (Pair × ℕ)) (one : Pair × ℕ) → IsTable sets unions → IsUnion sets one
-    → ((known : Pair × ℕ) → Contains new known → Contains unions known ⊎ (one ≡ known)) → IsTable sets new
-table_with_union sets unions new one table union only = record {
+pub table_with_union : (sets : List (List ℕ)) (unions new less : List (Pair × ℕ)) (one : Pair × ℕ) → IsTable sets unions less → IsUnion sets one
+    → ((known : Pair × ℕ) → Contains new known → Contains unions known ⊎ (one ≡ known)) → IsTable sets new less
+table_with_union sets unions new less one table union only = record {
   of_day = table.of_day;
   unions = λ k d l. elim (only _ (All-contains_itself new k d l)) [
     | inl was ↦ All-contains (IsUnion sets) unions _ table.unions was
     | inr e ↦ subst (IsUnion sets) e union
+  ];
+  differences = table.differences;
+}
+
+-- a table of which at most one more difference is known
+pub table_with_difference : (sets : List (List ℕ)) (unions less new : List (Pair × ℕ)) (one : Pair × ℕ) → IsTable sets unions less → IsDifference sets one
+    → ((known : Pair × ℕ) → Contains new known → Contains less known ⊎ (one ≡ known)) → IsTable sets unions new
+table_with_difference sets unions less new one table difference only = record {
+  of_day = table.of_day;
+  unions = table.unions;
+  differences = λ k d l. elim (only _ (All-contains_itself new k d l)) [
+    | inl was ↦ All-contains (IsDifference sets) less _ table.differences was
+    | inr e ↦ subst (IsDifference sets) e difference
   ];
 }
 
@@ -100,3 +123,26 @@ module _ (old new : List (List ℕ)) (pair : Pair) (number : ℕ) (a b both : Li
     get_or_from_slice_get old pair.a a [] at_a,
     get_or_from_slice_get old pair.b b [] at_b,
   ) union
+
+-- a difference that was placed
+module _ (old new : List (List ℕ)) (pair : Pair) (number : ℕ) (a b left : List ℕ) (grows : Extends old new) (at_a : slice_get old pair.a ≡ Some a)
+    (at_b : slice_get old pair.b ≡ Some b) (at_left : slice_get new number ≡ Some left)
+    (less : IsSetOf nat_lt left (λ s. Contains a s × ¬ Contains b s)) where
+  pub new_difference : IsDifference new (pair, number)
+  new_difference = record {
+    a = slice_get_within new pair.a a (grows pair.a a at_a);
+    b = slice_get_within new pair.b b (grows pair.b b at_b);
+    number = slice_get_within new number left at_left;
+    difference = rw (
+      get_or_from_slice_get new number left [] at_left,
+      get_or_from_slice_get new pair.a a [] (grows pair.a a at_a),
+      get_or_from_slice_get new pair.b b [] (grows pair.b b at_b),
+    ) less;
+  }
+
+  pub difference_of_old : IsSetOf nat_lt (get_or new number []) (λ s. Contains (get_or old pair.a []) s × ¬ Contains (get_or old pair.b []) s)
+  difference_of_old = rw (
+    get_or_from_slice_get new number left [] at_left,
+    get_or_from_slice_get old pair.a a [] at_a,
+    get_or_from_slice_get old pair.b b [] at_b,
+  ) less

@@ -14,7 +14,15 @@ pub record IsUnion (sets : List (List ℕ)) (known : Pair × ℕ) : Type 0 where
   pub number : known.1 < length sets
   pub union : IsSetOf nat_lt (get_or sets known.1 []) (λ s. Contains (get_or sets known.0.a []) s ⊎ Contains (get_or sets known.0.b []) s)
 
--- sets of seconds of a day, and unions that are known
-pub record IsTable (sets : List (List ℕ)) (known : List (Pair × ℕ)) : Type 0 where
+-- the set of one number has the seconds of a first set that a second one lacks
+pub record IsDifference (sets : List (List ℕ)) (known : Pair × ℕ) : Type 0 where
+  pub a : known.0.a < length sets
+  pub b : known.0.b < length sets
+  pub number : known.1 < length sets
+  pub difference : IsSetOf nat_lt (get_or sets known.1 []) (λ s. Contains (get_or sets known.0.a []) s × ¬ Contains (get_or sets known.0.b []) s)
+
+-- sets of seconds of a day, and unions and differences that are known
+pub record IsTable (sets : List (List ℕ)) (known known_less : List (Pair × ℕ)) : Type 0 where
   pub of_day : All IsSecondsOfDay sets
   pub unions : All (IsUnion sets) known
+  pub differences : All (IsDifference sets) known_less

@@ -13,7 +13,7 @@ use std::marker::Model;
 
 /// Distinct time sets by numbers, for iterators that give the same sets again and again. Nothing is refused here.
 ///
-/// A set keeps its number, and which set is the union of two others is remembered by their numbers.
+/// A set keeps its number, and which set is the union or the difference of two others is remembered by their numbers.
 /// Contracts see it as the list of the sets, each a rising list, at its number.
 #[derive(Drop)]
 pub struct SetTable {
@@ -21,6 +21,8 @@ pub struct SetTable {
     // The number that was given last; days in a row mostly have the same set.
     last: usize,
     unions: Unions,
+    // The same of what a second set leaves of a first.
+    differences: Unions,
 }
 
 impl Model for SetTable {
@@ -31,7 +33,7 @@ impl Model for SetTable {
 
     ghost view = { λ s. s.sets.keys };
 
-    ghost invariant = { λ s. IsTable s.sets.keys s.unions };
+    ghost invariant = { λ s. IsTable s.sets.keys s.unions s.differences };
 }
 
 impl SetTable {
@@ -43,6 +45,7 @@ impl SetTable {
             sets: IndexSet::new(alloc),
             last: 0,
             unions: Unions::new(alloc),
+            differences: Unions::new(alloc),
         }
     }
 
@@ -103,6 +106,26 @@ impl SetTable {
         let both = TimeSet::union(alloc, &sets[a], &sets[b])?;
         let number = self.place(both)?;
         self.unions.put(pair, number)?;
+        Ok(number)
+    }
+
+    /// The number of the seconds of one set that another lacks. It is made at the first question for the two, and the pair
+    /// that was asked for last is looked for nowhere else.
+    pub fn difference(&mut self, alloc: Global, a: usize, b: usize) -> Result<usize, NoMemory>
+        requires a { a < length self.old }
+        requires b { b < length self.old }
+        ensures within { IfOk result (λ n. n < length self.new) }
+        ensures difference { IfOk result (λ n. IsSetOf nat_lt (get_or self.new n []) (λ s. Contains (get_or self.old a []) s × ¬ Contains (get_or self.old b []) s)) }
+        ensures kept { Extends self.old self.new }
+    {
+        let sets = &self.sets;
+        let pair = Pair { a, b };
+        if let Some(number) = self.differences.get(pair) {
+            return Ok(number);
+        }
+        let left = TimeSet::without(alloc, &sets[a], &sets[b])?;
+        let number = self.place(left)?;
+        self.differences.put(pair, number)?;
         Ok(number)
     }
 }

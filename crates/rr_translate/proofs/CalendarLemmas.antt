@@ -22,18 +22,18 @@ use Rattle.rr_rrule.proofs.WrittenSeriesLemmas.{calendar_is_read_back}
 use Rattle.rr_translate.specs.OneEnd.{with_one_ends}
 use Rattle.rr_translate.specs.Target.{States}
 use Rattle.rr_translate.specs.Translated.{IsCalendarText}
-use Rattle.rr_translate.proofs.OneEndLemmas.{ends_are_one, same_occurrences, same_series_cycle, series_sound, series_valid}
+use Rattle.rr_translate.proofs.OneEndLemmas.{ends_are_one, excluded_ends_are_one, same_occurrences, same_series_cycle, series_sound, series_valid}
 use Rattle.rr_translate.proofs.SoundLemmas.{sound_is_not_refused}
 
 -- ---- the empty series
 
 -- what is read of the text of the empty series: its start, which is excluded
 abbrev none_left : Series
-none_left = record { kind = Days; start = pos 0; start_counts = true; rules = []; plus = []; minus = pos 0 ∷ [] }
+none_left = record { kind = Days; start = pos 0; start_counts = true; rules = []; excluded = []; plus = []; minus = pos 0 ∷ [] }
 
 -- the empty series
 abbrev none_given : Series
-none_given = record { kind = Days; start = pos 0; start_counts = false; rules = []; plus = []; minus = [] }
+none_given = record { kind = Days; start = pos 0; start_counts = false; rules = []; excluded = []; plus = []; minus = [] }
 
 same_text : calendar_written none_given ≡ calendar_written none_left
 unfolding calendar_written
@@ -53,7 +53,7 @@ given_is_empty k t o = elim o.stands [
 
 -- a series that is empty
 is_none : (series : Series) → series.start_counts ≡ false → IsEmptySeries series → series ≡ none_given
-is_none series e (kind, start, rules, plus, minus) = rw (kind, start, rules, plus, minus, e) refl
+is_none series e (kind, start, rules, excluded, plus, minus) = rw (kind, start, rules, excluded, plus, minus, e) refl
 
 -- ---- every series
 
@@ -66,7 +66,8 @@ written_states : (series : Series) → IsSound series → series.start_counts �
     → States Rrule (Occurs series) (calendar_written (with_one_ends series))
 written_states series s counts = record {
   series = with_one_ends series;
-  is_read = calendar_is_read_back (with_one_ends series) (series_valid series s.valid) (same_start series ∙ counts) (ends_are_one series);
+  is_read = calendar_is_read_back (with_one_ends series) (series_valid series s.valid) (same_start series ∙ counts) (ends_are_one series)
+      (excluded_ends_are_one series);
   sound = sound_is_not_refused (with_one_ends series) (series_sound series s);
   equal = same_occurrences series s;
 }
@@ -80,8 +81,10 @@ left_valid = record {
   start = zero_in_years;
   start_counts = λ e. absurd (false≢true (sym e));
   rules = All-nil (IsValidRule Days);
+  excluded = All-nil (IsValidRule Days);
   few_rules = omega arith;
   ends = All-nil (λ rule. EndsInYears rule.end);
+  excluded_ends = All-nil (λ rule. EndsInYears rule.end);
   plus = All-nil (IsInYears Days);
   minus = All-cons (IsInYears Days) (pos 0) [] zero_in_years (All-nil (IsInYears Days));
   plus_rises = tt;
@@ -98,7 +101,7 @@ empty_states = record {
   series = none_left;
   is_read =
       ap (reads_calendar None) (ap calendar_written same_given ∙ same_text)
-      ∙ calendar_is_read_back none_left left_valid refl (All-nil (λ rule. IsOneEnd rule.end));
+      ∙ calendar_is_read_back none_left left_valid refl (All-nil (λ rule. IsOneEnd rule.end)) (All-nil (λ rule. IsOneEnd rule.end));
   sound = refl;
   equal = λ k t. (λ o. absurd (left_is_empty k t o), λ o. absurd (given_is_empty k t o));
 }

@@ -101,7 +101,7 @@ module _ (rule : Rule) (kind : Kind) (start : ℤ) where
   same_count : (end : End) (t : ℤ) → members_to (record rule { end = end }) kind start t ≡ members_to rule kind start t
   same_count end t = rw (same_choice end) refl
 
-  same_members : FitsStart kind start rule → (t : ℤ) → IsMember (with_one_end kind start rule) kind start t ↔ IsMember rule kind start t
+  same_members : EndsNotBefore kind start rule.end → (t : ℤ) → IsMember (with_one_end kind start rule) kind start t ↔ IsMember rule kind start t
   same_members fit t =
       let end : End = one_end rule kind start rule.end in
       let chosen : is_chosen (record rule { end = end }) kind start t ≡ is_chosen rule kind start t = same_chosen end t in
@@ -110,12 +110,12 @@ module _ (rule : Rule) (kind : Kind) (start : ℤ) where
             record {
               chosen = c;
               not_before = m.not_before;
-              within_end = (within_one rule.end t fit.end m.not_before c).0 (subst (IsWithinEnd end kind t) count m.within_end);
+              within_end = (within_one rule.end t fit m.not_before c).0 (subst (IsWithinEnd end kind t) count m.within_end);
             }),
         λ m. record {
           chosen = chosen ∙ m.chosen;
           not_before = m.not_before;
-          within_end = subst (IsWithinEnd end kind t) (sym count) ((within_one rule.end t fit.end m.not_before m.chosen).1 m.within_end);
+          within_end = subst (IsWithinEnd end kind t) (sym count) ((within_one rule.end t fit m.not_before m.chosen).1 m.within_end);
         },
       )
 
@@ -213,15 +213,22 @@ unfolding rules_cycle
 cycles_kept kind start [] = refl
 cycles_kept kind start (rule ∷ rules) = rw (same_cycle rule kind start rule.end, cycles_kept kind start rules) refl
 
-members_of_some : (kind : Kind) (start : ℤ) (rules : List Rule) → All (FitsStart kind start) rules → (t : ℤ)
+members_of_some : (kind : Kind) (start : ℤ) (rules : List Rule) → All (λ rule. EndsNotBefore kind start rule.end) rules → (t : ℤ)
     → IsMemberOfSome (map (with_one_end kind start) rules) kind start t ↔ IsMemberOfSome rules kind start t
 members_of_some kind start [] fit t = (λ x. x, λ x. x)
 members_of_some kind start (rule ∷ rules) fit t =
-    let a = same_members rule kind start (All-head (FitsStart kind start) rule rules fit) t in
-    let b = members_of_some kind start rules (All-tail (FitsStart kind start) rule rules fit) t in (
+    let a = same_members rule kind start (All-head (λ r. EndsNotBefore kind start r.end) rule rules fit) t in
+    let b = members_of_some kind start rules (All-tail (λ r. EndsNotBefore kind start r.end) rule rules fit) t in (
       λ x. elim x [ inl m ↦ inl (a.0 m) | inr m ↦ inr (b.0 m) ],
       λ x. elim x [ inl m ↦ inl (a.1 m) | inr m ↦ inr (b.1 m) ],
     )
+
+-- rules that fit their start do not end before it
+ends_of : (kind : Kind) (start : ℤ) (rules : List Rule) → All (FitsStart kind start) rules → All (λ rule. EndsNotBefore kind start rule.end) rules
+ends_of kind start [] fit = All-nil (λ rule. EndsNotBefore kind start rule.end)
+ends_of kind start (rule ∷ rules) fit =
+    All-cons (λ r. EndsNotBefore kind start r.end) rule rules (All-head (FitsStart kind start) rule rules fit).end
+    (ends_of kind start rules (All-tail (FitsStart kind start) rule rules fit))
 
 -- ---- the series
 
@@ -229,14 +236,23 @@ pub series_valid : (series : Series) → IsValidSeries series → IsValidSeries 
 unfolding with_one_ends
 series_valid series v = record {
   start = v.start;
-  start_counts = λ e. (let h = v.start_counts e in (h.0, h.1, ap (map (with_one_end series.kind series.start)) h.2, h.3, h.4));
+  start_counts = λ e. (let h = v.start_counts e in (h.0, h.1, ap (map (with_one_end series.kind series.start)) h.2, ap (map (with_one_end series.kind series.start)) h.3, h.4, h.5));
   rules =
       all_keep (IsValidRule series.kind) (IsValidRule series.kind) series.kind series.start
       (λ rule. still_valid rule series.kind series.start) series.rules v.rules;
-  few_rules = subst (λ n. n ≤ 16) (sym (length-map series.rules (with_one_end series.kind series.start))) v.few_rules;
+  excluded =
+      all_keep (IsValidRule series.kind) (IsValidRule series.kind) series.kind series.start
+      (λ rule. still_valid rule series.kind series.start) series.excluded v.excluded;
+  few_rules =
+      let given = length-map series.rules (with_one_end series.kind series.start) in
+      let left_out = length-map series.excluded (with_one_end series.kind series.start) in
+      omega (arith, given, left_out, v.few_rules);
   ends =
       all_keep (λ rule. EndsInYears rule.end) (λ rule. EndsInYears rule.end) series.kind series.start
       (λ rule. ends_in_years rule series.kind series.start rule.end) series.rules v.ends;
+  excluded_ends =
+      all_keep (λ rule. EndsInYears rule.end) (λ rule. EndsInYears rule.end) series.kind series.start
+      (λ rule. ends_in_years rule series.kind series.start rule.end) series.excluded v.excluded_ends;
   plus = v.plus;
   minus = v.minus;
   plus_rises = v.plus_rises;
@@ -251,20 +267,39 @@ series_sound series s = record {
   rules =
       all_keep (FitsStart series.kind series.start) (FitsStart series.kind series.start) series.kind series.start
       (λ rule. still_fits rule series.kind series.start) series.rules s.rules;
+  excluded =
+      all_keep (λ rule. EndsNotBefore series.kind series.start rule.end) (λ rule. EndsNotBefore series.kind series.start rule.end) series.kind
+      series.start (λ rule. ends_not_before rule series.kind series.start rule.end) series.excluded s.excluded;
 }
 
 pub ends_are_one : (series : Series) → All (λ rule. IsOneEnd rule.end) (with_one_ends series).rules
 unfolding with_one_ends
 ends_are_one series = all_one series.kind series.start series.rules
 
+pub excluded_ends_are_one : (series : Series) → All (λ rule. IsOneEnd rule.end) (with_one_ends series).excluded
+unfolding with_one_ends
+excluded_ends_are_one series = all_one series.kind series.start series.excluded
+
 pub same_series_cycle : (series : Series) → series_cycle (with_one_ends series) ≡ series_cycle series
 unfolding with_one_ends
-same_series_cycle series = cycles_kept series.kind series.start series.rules
+same_series_cycle series =
+    rw (cycles_kept series.kind series.start series.rules, cycles_kept series.kind series.start series.excluded) refl
 
 pub same_occurrences : (series : Series) → IsSound series → HaveEqualOccurrences (Occurs (with_one_ends series)) (Occurs series)
 unfolding with_one_ends
 same_occurrences series s k t =
-    let m = members_of_some series.kind series.start series.rules s.rules t in (
-      λ o. record { kind = o.kind; stands = elim o.stands [ inl x ↦ inl x | inr y ↦ elim y [ inl a ↦ inr (inl (m.0 a)) | inr b ↦ inr (inr b) ] ]; kept = o.kept },
-      λ o. record { kind = o.kind; stands = elim o.stands [ inl x ↦ inl x | inr y ↦ elim y [ inl a ↦ inr (inl (m.1 a)) | inr b ↦ inr (inr b) ] ]; kept = o.kept },
+    let m = members_of_some series.kind series.start series.rules (ends_of series.kind series.start series.rules s.rules) t in
+    let x = members_of_some series.kind series.start series.excluded s.excluded t in (
+      λ o. record {
+        kind = o.kind;
+        stands = elim o.stands [ inl e ↦ inl e | inr y ↦ elim y [ inl a ↦ inr (inl (m.0 a)) | inr b ↦ inr (inr b) ] ];
+        kept = o.kept;
+        not_excluded = λ a. o.not_excluded (x.1 a);
+      },
+      λ o. record {
+        kind = o.kind;
+        stands = elim o.stands [ inl e ↦ inl e | inr y ↦ elim y [ inl a ↦ inr (inl (m.1 a)) | inr b ↦ inr (inr b) ] ];
+        kept = o.kept;
+        not_excluded = λ a. o.not_excluded (x.0 a);
+      },
     )

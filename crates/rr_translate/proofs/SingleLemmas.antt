@@ -68,8 +68,10 @@ module _ (P : Occurrences) (rule : VRule) (kind : Kind) (start : ℤ) (first : I
   single_is_valid = record {
     start = first.is_rule.years;
     rules = All-cons IsValidVRule rule [] first.is_rule.valid (All-nil IsValidVRule);
+    excluded = All-nil IsValidVRule;
     few_rules = omega arith;
     ends = All-cons (λ rule. EndsInYears rule.end) rule [] (end_in_years rule.end first.is_rule.end) (All-nil (λ rule. EndsInYears rule.end));
+    excluded_ends = All-nil (λ rule. EndsInYears rule.end);
     plus = All-nil (IsInYears kind);
     minus = All-nil (IsInYears kind);
     few_dates = omega arith;
@@ -81,6 +83,7 @@ module _ (P : Occurrences) (rule : VRule) (kind : Kind) (start : ℤ) (first : I
         All-cons (λ rule. Rises item_lt rule.items) rule []
         (subst (Rises item_lt) (sym first.items) (list_items_rise first.sketch rule.family rule.interval (day_part kind start) first.days))
         (All-nil (λ rule. Rises item_lt rule.items));
+    excluded = All-nil (λ rule. Rises item_lt rule.items);
     plus = tt;
     minus = tt;
   }
@@ -101,7 +104,7 @@ module _ (P : Occurrences) (rule : VRule) (kind : Kind) (start : ℤ) (first : I
 
   sound : first_refusal (series_of_vseries single) ≡ None
   unfolding series_of_vseries
-  sound = rules_none 1 kind start (counterpart ∷ []) (All-cons (FitsStart kind start) counterpart [] fits (All-nil (FitsStart kind start)))
+  sound = rw (rules_none 1 kind start (counterpart ∷ []) (All-cons (FitsStart kind start) counterpart [] fits (All-nil (FitsStart kind start)))) refl
 
   occurs_single : HaveEqualOccurrences (OccursInVseries single) (VcalOccurrences rule kind start)
   occurs_single k t = (
@@ -112,7 +115,7 @@ module _ (P : Occurrences) (rule : VRule) (kind : Kind) (start : ℤ) (first : I
         | inr x ↦ elim x [ inl y ↦ elim y [ inl m ↦ m | inr none ↦ absurd none ] | inr c ↦ absurd (Contains-none t c) ]
       ],
     ),
-    λ m. record { same_kind = m.0; given = inr (inl (inl m.1)); kept = λ c. Contains-none t c },
+    λ m. record { same_kind = m.0; given = inr (inl (inl m.1)); kept = λ c. Contains-none t c; not_excluded = λ x. x },
   )
 
   equal : HaveEqualOccurrences (Occurs (series_of_vseries single)) P
@@ -140,6 +143,10 @@ module _ (P : Occurrences) (rule : VRule) (kind : Kind) (start : ℤ) (first : I
       All-cons (λ rule. IsOneEnd rule.end) counterpart [] (subst IsOneEnd (sym same_end) (end_is_one rule.end first.is_rule.end))
       (All-nil (λ rule. IsOneEnd rule.end))
 
+  pub no_excluded : All (λ rule. IsOneEnd rule.end) (series_of_vseries single).excluded
+  unfolding series_of_vseries
+  no_excluded = All-nil (λ rule. IsOneEnd rule.end)
+
   start_counts : (series_of_vseries single).start_counts ≡ true
   unfolding series_of_vseries
   start_counts = refl
@@ -154,7 +161,7 @@ module _ (P : Occurrences) (rule : VRule) (kind : Kind) (start : ℤ) (first : I
     written = refl;
     states = record {
       series = series_of_vseries single;
-      is_read = calendar_is_read_back (series_of_vseries single) valid start_counts one_end;
+      is_read = calendar_is_read_back (series_of_vseries single) valid start_counts one_end no_excluded;
       sound = sound;
       equal = equal;
     };

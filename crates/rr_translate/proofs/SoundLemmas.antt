@@ -3,7 +3,7 @@ use Rattle.std.proofs.Common.{◌≡◌, ℕ, suc, false, None, List, [], ◌∷
 use Rattle.std.specs.Prelude.{int_lt}
 use Rattle.std.proofs.lemmas.Int.{ints}
 use Rattle.std.proofs.lemmas.List.Elements.{All-head, All-tail}
-use Rattle.rr_model.specs.Series.Soundness.{end_refusal, first_refusal, rules_refusal, until_refusal, EndsNotBefore, FitsStart, IsSound}
+use Rattle.rr_model.specs.Series.Soundness.{end_refusal, ends_refusal, first_refusal, rules_refusal, until_refusal, EndsNotBefore, FitsStart, IsSound}
 use Rattle.rr_model.specs.declared.kind.Kind.{Kind}
 use Rattle.rr_model.specs.declared.kind.Kind.TheVariants.{Days, Moments}
 use Rattle.rr_model.specs.declared.rule.End.{End}
@@ -29,5 +29,12 @@ rules_none number kind start (rule ∷ rules) fit =
     let f = All-head (FitsStart kind start) rule rules fit in
     rw (end_none kind start rule.end f.end, f.synchronised, rules_none (suc number) kind start rules (All-tail (FitsStart kind start) rule rules fit)) refl
 
+ends_none : (kind : Kind) (start : ℤ) (rules : List Rule) → All (λ rule. EndsNotBefore kind start rule.end) rules → ends_refusal kind start rules ≡ None
+ends_none kind start [] fit = refl
+ends_none kind start (rule ∷ rules) fit =
+    let f = All-head (λ r. EndsNotBefore kind start r.end) rule rules fit in
+    rw (end_none kind start rule.end f, ends_none kind start rules (All-tail (λ r. EndsNotBefore kind start r.end) rule rules fit)) refl
+
 pub sound_is_not_refused : (series : Series) → IsSound series → first_refusal series ≡ None
-sound_is_not_refused series s = rules_none 1 series.kind series.start series.rules s.rules
+sound_is_not_refused series s =
+    rw (rules_none 1 series.kind series.start series.rules s.rules, ends_none series.kind series.start series.excluded s.excluded) refl

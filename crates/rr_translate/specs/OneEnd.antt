@@ -1,4 +1,4 @@
--- The series with the same occurrences of whose rules none has both ends (RFC 5545, section 3.3.10: UNTIL or COUNT, never both).
+-- The series with the same occurrences of whose rules and excluded rules none has both ends (RFC 5545, section 3.3.10: UNTIL or COUNT, never both).
 use Rattle.std.specs.Prelude.{nat_le, if◌then◌else◌, ℤ, map}
 use Rattle.rr_model.specs.Rule.Member.{members_to}
 use Rattle.rr_model.specs.declared.kind.Kind.{Kind}
@@ -16,6 +16,9 @@ one_end rule kind start end = end
 abbrev pub with_one_end : Kind → ℤ → Rule → Rule
 with_one_end kind start rule = record rule { end = one_end rule kind start rule.end }
 
--- the series with one end for each rule
+-- the series with one end for each rule and each excluded rule
 unfoldable pub with_one_ends : Series → Series
-with_one_ends series = record series { rules = map (with_one_end series.kind series.start) series.rules }
+with_one_ends series = record series {
+  rules = map (with_one_end series.kind series.start) series.rules;
+  excluded = map (with_one_end series.kind series.start) series.excluded;
+}

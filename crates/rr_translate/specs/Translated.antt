@@ -30,7 +30,7 @@ use Rattle.rr_translate.specs.Target.{States}
 
 -- the series of vCalendar 1.0 with this rule alone
 abbrev pub vseries_of : VRule → Kind → ℤ → VSeries
-vseries_of rule kind start = record { kind = kind; start = start; rules = rule ∷ []; plus = []; minus = [] }
+vseries_of rule kind start = record { kind = kind; start = start; rules = rule ∷ []; excluded = []; plus = []; minus = [] }
 
 -- into RFC 5545: the series itself, with one end for each rule; read again, its cycle is within the limit
 pub record IsCalendarText (series : Series) (text : List ℕ) : Type 0 where

@@ -78,7 +78,7 @@ fn rules_with_one_end(
     Ok(made)
 }
 
-/// The series with the same occurrences of whose rules none has both ends (RFC 5545, section 3.3.10).
+/// The series with the same occurrences of whose rules and excluded rules none has both ends (RFC 5545, section 3.3.10).
 ///
 /// Where a rule has both, its members up to the UNTIL are counted, one occupied day after another.
 pub(crate) fn with_one_ends(alloc: Global, series: &Series) -> Result<Series, NoMemory>
@@ -90,6 +90,12 @@ pub(crate) fn with_one_ends(alloc: Global, series: &Series) -> Result<Series, No
         start: series.start,
         start_counts: series.start_counts,
         rules: rules_with_one_end(alloc, series.rules.as_slice(), series.kind, series.start)?,
+        excluded: rules_with_one_end(
+            alloc,
+            series.excluded.as_slice(),
+            series.kind,
+            series.start,
+        )?,
         plus: series.plus.copy(alloc)?,
         minus: series.minus.copy(alloc)?,
     })

@@ -22,6 +22,7 @@ fn series_of(alloc: Global, found: Found) -> Result<VSeries, NoMemory>
         kind: found.kind,
         start: found.start,
         rules,
+        excluded: VRules::new(alloc),
         plus: Dates::new(alloc),
         minus: Dates::new(alloc),
     })

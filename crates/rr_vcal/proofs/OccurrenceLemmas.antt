@@ -27,13 +27,15 @@ module _ (kind : Kind) (start t : ℤ) where
 pub counterpart_has_occurrences : VcalCounterpartHasOccurrences
 unfolding series_of_vseries
 counterpart_has_occurrences series k t valid =
-    let v = recursion_from_All IsValidVRule series.rules valid.rules in (
+    let v = recursion_from_All IsValidVRule series.rules valid.rules in
+    let x = recursion_from_All IsValidVRule series.excluded valid.excluded in (
       (λ o. record {
         kind = o.same_kind;
         stands = elim o.given [
           | inl s ↦ inl (refl, s)
           | inr m ↦ inr (elim m [ inl a ↦ inl (some_member series.kind series.start t series.rules v a) | inr p ↦ inr p ])
         ];
+        not_excluded = λ m. o.not_excluded (some_vmember series.kind series.start t series.excluded x m);
         kept = o.kept;
       }),
       (λ o. record {
@@ -42,6 +44,7 @@ counterpart_has_occurrences series k t valid =
           | inl s ↦ inl s.1
           | inr m ↦ inr (elim m [ inl a ↦ inl (some_vmember series.kind series.start t series.rules v a) | inr p ↦ inr p ])
         ];
+        not_excluded = λ m. o.not_excluded (some_member series.kind series.start t series.excluded x m);
         kept = o.kept;
       }),
     )

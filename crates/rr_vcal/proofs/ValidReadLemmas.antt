@@ -1,5 +1,5 @@
 -- What is read of a vCalendar 1.0 text is a valid series.
-use Rattle.std.proofs.Common.{◌≡◌, ℕ, ◌≤◌, ◌==◌, not, Bool, true, false, if◌then◌else◌, List, [], ◌∷◌, length, Option, None, Some, Result, Ok, Err, ℤ, pos}
+use Rattle.std.proofs.Common.{◌≡◌, ◌++◌, ℕ, ◌≤◌, ◌==◌, not, Bool, true, false, if◌then◌else◌, List, [], ◌∷◌, length, Option, None, Some, Result, Ok, Err, ℤ, pos}
 use Rattle.std.proofs.Common.{refl, sym, ap, ◌∙◌, subst, arith}
 use Rattle.std.specs.Prelude.{All, IfOk, int_lt, ok_or}
 use Rattle.std.specs.List.{slice_split}
@@ -14,8 +14,8 @@ use Rattle.rr_model.specs.Moment.{day_part}
 use Rattle.rr_model.specs.Moment.Years.{IsInYears}
 use Rattle.rr_model.specs.Rule.Validity.{is_absent, HasCountInRange, EndsInYears}
 use Rattle.rr_model.specs.Text.Calendars.{end_at, end_beside}
-use Rattle.rr_model.specs.Text.Passes.{Stated, Beside, Event, nothing_read, nothing_beside, moment_beside, put_date, with_date, with_line, first_pass}
-use Rattle.rr_model.specs.Text.Passes.{second_pass, unless_stopped, passes}
+use Rattle.rr_model.specs.Text.Passes.{Stated, Beside, Event, nothing_read, nothing_beside, moment_beside, put_date, put_rule, with_date, with_line, with_rule}
+use Rattle.rr_model.specs.Text.Passes.{first_pass, second_pass, unless_stopped, passes}
 use Rattle.rr_model.specs.Text.Event.{event_scan}
 use Rattle.rr_model.specs.Text.Lines.{without_mark}
 use Rattle.rr_model.specs.Text.Rules.{is_blank, line_value}
@@ -203,22 +203,28 @@ module _ (offset : Option ℤ) (start : Stamp) where
   record AreValid (beside : Beside VRule) : Type 0 where
     rules : All IsValidVRule beside.rules
     ends : All (λ (rule : VRule). EndsInYears rule.end) beside.rules
+    excluded : All IsValidVRule beside.excluded
+    excluded_ends : All (λ (rule : VRule). EndsInYears rule.end) beside.excluded
     plus : All (IsInYears start.kind) beside.plus
     minus : All (IsInYears start.kind) beside.minus
 
   nothing-valid : AreValid nothing_beside
-  nothing-valid = record { rules = All-nil _; ends = All-nil _; plus = All-nil _; minus = All-nil _ }
+  nothing-valid = record { rules = All-nil _; ends = All-nil _; excluded = All-nil _; excluded_ends = All-nil _; plus = All-nil _; minus = All-nil _ }
 
   put_date-valid : (is_plus : Bool) (beside : Beside VRule) (at : ℤ) → AreValid beside → IsInYears start.kind at → AreValid (put_date is_plus beside at)
   put_date-valid true beside at v in_years = record {
     rules = v.rules;
     ends = v.ends;
+    excluded = v.excluded;
+    excluded_ends = v.excluded_ends;
     plus = All-with_value (IsInYears start.kind) int_lt beside.plus at v.plus in_years;
     minus = v.minus;
   }
   put_date-valid false beside at v in_years = record {
     rules = v.rules;
     ends = v.ends;
+    excluded = v.excluded;
+    excluded_ends = v.excluded_ends;
     plus = v.plus;
     minus = All-with_value (IsInYears start.kind) int_lt beside.minus at v.minus in_years;
   }
@@ -230,29 +236,41 @@ module _ (offset : Option ℤ) (start : Stamp) where
       let in_years = date_beside-in_years offset start line put.0 put.2 (date_value-stamp line text put.0 put.1) put.3 in
       subst AreValid put.4 (put_date-valid is_plus beside put.2 v in_years)
 
-  with_rule-valid : (line : ℕ) (beside : Beside VRule) (text : List ℕ) (next : Beside VRule) → AreValid beside
-      → with_line vcal_language (vrule_beside offset start) offset start line Rrule beside text ≡ Ok next → AreValid next
-  with_rule-valid line beside text next v h =
-      let put = rule-put vcal_language (vrule_beside offset start) offset start line beside text next h in
+  -- one valid rule more
+  one_more : (rules : List VRule) (rule : VRule) → All IsValidVRule rules → All (λ (r : VRule). EndsInYears r.end) rules
+      → IsValidVRule rule × EndsInYears rule.end → All IsValidVRule (rules ++ rule ∷ []) × All (λ (r : VRule). EndsInYears r.end) (rules ++ rule ∷ [])
+  one_more rules rule v e one = (
+    All-append IsValidVRule rules (rule ∷ []) v (All-cons IsValidVRule rule [] one.0 (All-nil _)),
+    All-append (λ (r : VRule). EndsInYears r.end) rules (rule ∷ []) e (All-cons (λ (r : VRule). EndsInYears r.end) rule [] one.1 (All-nil _)),
+  )
+
+  put_rule-valid : (is_given : Bool) (beside : Beside VRule) (rule : VRule) → AreValid beside → IsValidVRule rule × EndsInYears rule.end
+      → AreValid (put_rule is_given beside rule)
+  put_rule-valid true beside rule v one =
+      let more = one_more beside.rules rule v.rules v.ends one in
+      record { rules = more.0; ends = more.1; excluded = v.excluded; excluded_ends = v.excluded_ends; plus = v.plus; minus = v.minus }
+  put_rule-valid false beside rule v one =
+      let more = one_more beside.excluded rule v.excluded v.excluded_ends one in
+      record { rules = v.rules; ends = v.ends; excluded = more.0; excluded_ends = more.1; plus = v.plus; minus = v.minus }
+
+  with_rule-valid : (line : ℕ) (is_given : Bool) (beside : Beside VRule) (text : List ℕ) (next : Beside VRule) → AreValid beside
+      → with_rule vcal_language (vrule_beside offset start) line is_given beside text ≡ Ok next → AreValid next
+  with_rule-valid line is_given beside text next v h =
+      let put = rule-put vcal_language (vrule_beside offset start) line is_given beside text next h in
       let valid = vrule_beside-valid line put.0 put.2 (stated_vrule-valid line text put.0 put.1) put.3 in
-      let rules = All-append IsValidVRule beside.rules (put.2 ∷ []) v.rules (All-cons IsValidVRule put.2 [] valid.0 (All-nil _)) in
-      let ends = All-append (λ (r : VRule). EndsInYears r.end) beside.rules (put.2 ∷ []) v.ends
-      (All-cons (λ (r : VRule). EndsInYears r.end) put.2 [] valid.1 (All-nil _)) in
-      subst AreValid put.4 (record { rules = rules; ends = ends; plus = v.plus; minus = v.minus })
+      subst AreValid put.4 (put_rule-valid is_given beside put.2 v valid)
 
   with_line-valid : (line : ℕ) (name : LineName) (beside : Beside VRule) (text : List ℕ) (next : Beside VRule) → AreValid beside
       → with_line vcal_language (vrule_beside offset start) offset start line name beside text ≡ Ok next → AreValid next
   with_line-valid line Dtstart beside text next v h =
       let same : beside ≡ next = cc in
       subst AreValid same v
-  with_line-valid line Rrule beside text next v h = with_rule-valid line beside text next v h
+  with_line-valid line Rrule beside text next v h = with_rule-valid line true beside text next v h
   with_line-valid line Rdate beside text next v h =
       in_turn-keeps (with_date offset start line true) AreValid (with_date-valid line true) beside (slice_split vcal_language.is_separator text) next v h
   with_line-valid line Exdate beside text next v h =
       in_turn-keeps (with_date offset start line false) AreValid (with_date-valid line false) beside (slice_split vcal_language.is_separator text) next v h
-  with_line-valid line Exrule beside text next v h =
-      let same : beside ≡ next = cc in
-      subst AreValid same v
+  with_line-valid line Exrule beside text next v h = with_rule-valid line false beside text next v h
 
   second_pass-valid : (lines : List UsedLine) (beside : Beside VRule)
       → second_pass vcal_language (vrule_beside offset start) offset start nothing_beside lines ≡ Ok beside → AreValid beside
@@ -277,6 +295,8 @@ module _ (offset : Option ℤ) (start : Stamp) where
         rules = v.rules;
         few_rules = omega (arith, bounded.0, counts.0, sound.few_rules);
         ends = v.ends;
+        excluded = v.excluded;
+        excluded_ends = v.excluded_ends;
         plus = v.plus;
         minus = v.minus;
         few_dates = omega (arith, bounded.1, counts.1, sound.few_dates);

@@ -44,19 +44,29 @@ module _ (kind : Kind) (start : ℤ) where
   same_length (rule ∷ rules) = ap (λ (n : ℕ). suc n) (same_length rules)
 
 -- the series with the parts of the counterpart
-pub series_is_valid : (series : VSeries) (start : ℤ) (rules : List Rule) (plus minus : List ℤ) → start ≡ series.start
-    → rules ≡ rules_of_vrules series.kind series.start series.rules → plus ≡ series.plus → minus ≡ series.minus → Rises int_lt plus → Rises int_lt minus
-    → IsValidVSeries series → IsValidSeries (record { kind = series.kind; start = start; start_counts = true; rules = rules; plus = plus; minus = minus })
-series_is_valid series start rules plus minus same made added taken plus_rises minus_rises valid = record {
+pub series_is_valid : (series : VSeries) (start : ℤ) (rules excluded : List Rule) (plus minus : List ℤ) → start ≡ series.start
+    → rules ≡ rules_of_vrules series.kind series.start series.rules → excluded ≡ rules_of_vrules series.kind series.start series.excluded → plus ≡ series.plus → minus ≡ series.minus → Rises int_lt plus → Rises int_lt minus
+    → IsValidVSeries series
+    → IsValidSeries (record { kind = series.kind; start = start; start_counts = true; rules = rules; excluded = excluded; plus = plus; minus = minus })
+series_is_valid series start rules excluded plus minus same made out added taken plus_rises minus_rises valid = record {
   start = subst (IsInYears series.kind) (sym same) valid.start;
   start_counts = λ e. absurd (cc);
   rules =
       subst (All (IsValidRule series.kind)) (sym made) (All-from_recursion _ _
       (all_valid series.kind series.start series.rules (recursion_from_All _ series.rules valid.rules)));
-  few_rules = subst (λ (n : ℕ). n ≤ MAX_RULES) (sym (ap length made ∙ same_length series.kind series.start series.rules)) valid.few_rules;
+  excluded =
+      subst (All (IsValidRule series.kind)) (sym out) (All-from_recursion _ _
+      (all_valid series.kind series.start series.excluded (recursion_from_All _ series.excluded valid.excluded)));
+  few_rules =
+      let given = ap length made ∙ same_length series.kind series.start series.rules in
+      let left_out = ap length out ∙ same_length series.kind series.start series.excluded in
+      omega (arith, given, left_out, valid.few_rules);
   ends =
       subst (All EndIsInYears) (sym made) (All-from_recursion _ _ (all_end series.kind series.start series.rules
       (recursion_from_All HasEndInYears series.rules valid.ends)));
+  excluded_ends =
+      subst (All EndIsInYears) (sym out) (All-from_recursion _ _ (all_end series.kind series.start series.excluded
+      (recursion_from_All HasEndInYears series.excluded valid.excluded_ends)));
   plus = subst (All (IsInYears series.kind)) (sym added) valid.plus;
   minus = subst (All (IsInYears series.kind)) (sym taken) valid.minus;
   plus_rises = plus_rises;

@@ -11,8 +11,8 @@ use Rattle.rr_model.specs.Moment.Years.{IsInYears}
 use Rattle.rr_model.specs.Rising.{Rises, with_value}
 use Rattle.rr_model.specs.Rule.Validity.{EndsInYears}
 use Rattle.rr_model.specs.Text.Calendars.{end_beside}
-use Rattle.rr_model.specs.Text.Passes.{Beside, has_slash, date_value, judged_date, judged_dates, judged_line, first_pass, put_date, with_date, with_line}
-use Rattle.rr_model.specs.Text.Passes.{with_dates, second_pass}
+use Rattle.rr_model.specs.Text.Passes.{Beside, has_slash, date_value, judged_date, judged_dates, judged_line, judged_rule, first_pass, put_date, put_rule}
+use Rattle.rr_model.specs.Text.Passes.{with_date, with_dates, with_line, with_rule, second_pass}
 use Rattle.rr_model.specs.Text.RuleValues.{◌>>=◌}
 use Rattle.rr_model.specs.Text.Written.{basic_text}
 use Rattle.rr_model.specs.Vcal.Items.{item_lt}
@@ -29,7 +29,7 @@ use Rattle.rr_model.specs.declared.rule.End.{End}
 use Rattle.rr_model.specs.declared.rule.End.TheVariants.{Never, Until, Count, Both}
 use Rattle.rr_model.specs.declared.stamp.Stamp.{Stamp}
 use Rattle.rr_model.specs.declared.used.LineName.{LineName}
-use Rattle.rr_model.specs.declared.used.LineName.TheVariants.{Dtstart, Rrule, Rdate, Exdate}
+use Rattle.rr_model.specs.declared.used.LineName.TheVariants.{Dtstart, Rrule, Rdate, Exdate, Exrule}
 use Rattle.rr_model.specs.declared.vcal.FamilyKind.{FamilyKind}
 use Rattle.rr_model.specs.declared.vcal.VRule.{VRule}
 use Rattle.rr_model.proofs.RisingSetLemmas.{Rises-tail}
@@ -48,8 +48,8 @@ stamp_of kind at = record { kind = kind; at = at; utc = false }
 
 -- ---- lines of rules and of dates
 
-abbrev pub rule_line : VRule → WrittenLine
-rule_line rule = record { name = Rrule; value = vrule_text rule }
+abbrev pub rule_line : LineName → VRule → WrittenLine
+rule_line name rule = record { name = name; value = vrule_text rule }
 
 abbrev pub date_line : LineName → Kind → ℤ → WrittenLine
 date_line name kind at = record { name = name; value = basic_text kind at }
@@ -88,7 +88,7 @@ date_value-written line kind at h = rw (value-trimmed (basic_text kind at) (date
 -- ---- the first pass
 
 rule-judged : (k : ℕ) (pass : FirstPass) (rule : VRule) → IsWritableRule rule → pass.rule_count < MAX_RULES
-    → judged_line vcal_language k Rrule pass (vrule_text rule) ≡ Ok (record pass { rule_count = pass.rule_count + 1 })
+    → judged_rule vcal_language k pass (vrule_text rule) ≡ Ok (record pass { rule_count = pass.rule_count + 1 })
 rule-judged k pass rule h room =
     let few : nat_le MAX_RULES pass.rule_count ≡ false = grind (arith, nat_tests, room) in
     rw (few, stated-written k rule h.valid h.rises h.years) refl
@@ -119,14 +119,18 @@ module _ (start : Option Stamp) where
       let rest = more (k + 1) in
       (rest.0, ap (λ (m : Result FirstPass Refusal). m >>= λ p. first_pass vcal_language p (used_from (k + 1) ls)) (judged k) ∙ rest.1, rest.2)
 
-  pub reads-rules : (pass : FirstPass) (rules : List VRule) (ls : List WrittenLine) → AllByRecursion IsWritableRule rules
-      → pass.rule_count + length rules ≤ MAX_RULES → ((q : FirstPass) → q.start ≡ pass.start → q.date_count ≡ pass.date_count → Reads q ls)
-      → Reads pass (map rule_line rules ++ ls)
-  reads-rules pass [] ls h room more = more pass refl refl
-  reads-rules pass (rule ∷ rules) ls h room more =
+  pub reads-rules : (name : LineName)
+      → ((k : ℕ) (pass : FirstPass) (text : List ℕ) → judged_line vcal_language k name pass text ≡ judged_rule vcal_language k pass text)
+      → (pass : FirstPass) (rules : List VRule) (ls : List WrittenLine) → AllByRecursion IsWritableRule rules
+      → pass.rule_count + length rules ≤ MAX_RULES
+      → ((q : FirstPass) → q.start ≡ pass.start → q.rule_count ≡ pass.rule_count + length rules → q.date_count ≡ pass.date_count → Reads q ls)
+      → Reads pass (map (rule_line name) rules ++ ls)
+  reads-rules name by_name pass [] ls h room more = more pass refl (omega arith) refl
+  reads-rules name by_name pass (rule ∷ rules) ls h room more =
       let next : FirstPass = record pass { rule_count = pass.rule_count + 1 } in
-      reads-next pass next (rule_line rule) (map rule_line rules ++ ls) (λ k. rule-judged k pass rule h.0 (omega (arith, room)))
-      (reads-rules next rules ls h.1 (omega (arith, room)) more)
+      reads-next pass next (rule_line name rule) (map (rule_line name) rules ++ ls)
+      (λ k. by_name k pass (vrule_text rule) ∙ rule-judged k pass rule h.0 (omega (arith, room)))
+      (reads-rules name by_name next rules ls h.1 (omega (arith, room)) (λ q same count dates. more q same (omega (arith, count)) dates))
 
   pub reads-dates : (name : LineName) (is_plus : Bool) (kind : Kind)
       → ((k : ℕ) (pass : FirstPass) (text : List ℕ) → judged_line vcal_language k name pass text
@@ -182,23 +186,21 @@ module _ (kind : Kind) (first : ℤ) (r : Result (Beside VRule) Refusal) where
 
   -- ---- rules
 
-  abbrev beside_of : List VRule → List ℤ → List ℤ → Beside VRule
-  beside_of rules plus minus = record { rules = rules; plus = plus; minus = minus }
+  module _ (name : LineName) (is_given : Bool) (place : List VRule → Beside VRule)
+      (by_name : (k : ℕ) (beside : Beside VRule) (text : List ℕ) → with_line vcal_language (vrule_beside None start) None start k name beside text
+      ≡ with_rule vcal_language (vrule_beside None start) k is_given beside text)
+      (put_is : (done : List VRule) (rule : VRule) → put_rule is_given (place done) rule ≡ place (done ++ rule ∷ [])) where
+    rule-given : (k : ℕ) (done : List VRule) (rule : VRule) → IsWritableRule rule
+        → with_rule vcal_language (vrule_beside None start) k is_given (place done) (vrule_text rule) ≡ Ok (place (done ++ rule ∷ []))
+    rule-given k done rule h = rw (stated-written k rule h.valid h.rises h.years, rule-kept start k rule h) (ap Ok (put_is done rule))
 
-  rule-given : (k : ℕ) (done : List VRule) (plus minus : List ℤ) (rule : VRule) → IsWritableRule rule
-      → with_line vcal_language (vrule_beside None start) None start k Rrule (beside_of done plus minus) (vrule_text rule)
-      ≡ Ok (beside_of (done ++ rule ∷ []) plus minus)
-  rule-given k done plus minus rule h = rw (stated-written k rule h.valid h.rises h.years, rule-kept start k rule h) refl
-
-  pub gives-rules : (done : List VRule) (plus minus : List ℤ) (rules : List VRule) (ls : List WrittenLine) → AllByRecursion IsWritableRule rules
-      → Gives (beside_of (done ++ rules) plus minus) ls → Gives (beside_of done plus minus) (map rule_line rules ++ ls)
-  gives-rules done plus minus [] ls h more =
-      gives-same _ _ ls (ap (λ (l : List VRule). beside_of l plus minus) (sym (append-nil done))) more
-  gives-rules done plus minus (rule ∷ rules) ls h more =
-      gives-next (beside_of done plus minus) (beside_of (done ++ rule ∷ []) plus minus) (rule_line rule) (map rule_line rules ++ ls)
-      (λ k. rule-given k done plus minus rule h.0)
-      (gives-rules (done ++ rule ∷ []) plus minus rules ls h.1
-      (gives-same _ _ ls (ap (λ (l : List VRule). beside_of l plus minus) (append_assoc done (rule ∷ []) rules)) more))
+    pub gives-rules : (done rules : List VRule) (ls : List WrittenLine) → AllByRecursion IsWritableRule rules
+        → Gives (place (done ++ rules)) ls → Gives (place done) (map (rule_line name) rules ++ ls)
+    gives-rules done [] ls h more = gives-same _ _ ls (ap place (sym (append-nil done))) more
+    gives-rules done (rule ∷ rules) ls h more =
+        gives-next (place done) (place (done ++ rule ∷ [])) (rule_line name rule) (map (rule_line name) rules ++ ls)
+        (λ k. by_name k (place done) (vrule_text rule) ∙ rule-given k done rule h.0)
+        (gives-rules (done ++ rule ∷ []) rules ls h.1 (gives-same _ _ ls (ap place (append_assoc done (rule ∷ []) rules)) more))
 
   -- ---- dates
 
@@ -223,15 +225,22 @@ module _ (kind : Kind) (first : ℤ) (r : Result (Beside VRule) Refusal) where
 
   -- ---- all lines
 
-  pub gives-all : (rules : List VRule) (plus minus : List ℤ) → AllByRecursion IsWritableRule rules → AllByRecursion (IsInYears kind) plus → Rises int_lt plus
-      → AllByRecursion (IsInYears kind) minus → Rises int_lt minus → r ≡ Ok (beside_of rules plus minus)
-      → Gives (beside_of [] [] []) (date_line Dtstart kind first ∷ (map rule_line rules ++ (map (date_line Rdate kind) plus
-      ++ (map (date_line Exdate kind) minus ++ []))))
-  gives-all rules plus minus h hp rp hm rm is =
+  abbrev beside_of : List VRule → List VRule → List ℤ → List ℤ → Beside VRule
+  beside_of rules excluded plus minus = record { rules = rules; excluded = excluded; plus = plus; minus = minus }
+
+  pub gives-all : (rules excluded : List VRule) (plus minus : List ℤ) → AllByRecursion IsWritableRule rules → AllByRecursion IsWritableRule excluded
+      → AllByRecursion (IsInYears kind) plus → Rises int_lt plus → AllByRecursion (IsInYears kind) minus → Rises int_lt minus
+      → r ≡ Ok (beside_of rules excluded plus minus)
+      → Gives (beside_of [] [] [] []) (date_line Dtstart kind first ∷ (map (rule_line Rrule) rules ++ (map (rule_line Exrule) excluded
+      ++ (map (date_line Rdate kind) plus ++ (map (date_line Exdate kind) minus ++ [])))))
+  gives-all rules excluded plus minus h he hp rp hm rm is =
       let minus_lines = map (date_line Exdate kind) minus ++ [] in
       let plus_lines = map (date_line Rdate kind) plus ++ minus_lines in
-      gives-next (beside_of [] [] []) (beside_of [] [] []) (date_line Dtstart kind first) (map rule_line rules ++ plus_lines) (λ k. refl)
-      (gives-rules [] [] [] rules plus_lines h
-      (gives-dates Rdate true (λ l. beside_of rules l []) (λ k b t. refl) (λ l at. refl) [] plus minus_lines hp rp (above_none int_lt int_lt-transitive plus)
-      (gives-dates Exdate false (λ l. beside_of rules plus l) (λ k b t. refl) (λ l at. refl) [] minus [] hm rm (above_none int_lt int_lt-transitive minus)
-      (λ k. sym is))))
+      let excluded_lines = map (rule_line Exrule) excluded ++ plus_lines in
+      gives-next (beside_of [] [] [] []) (beside_of [] [] [] []) (date_line Dtstart kind first) (map (rule_line Rrule) rules ++ excluded_lines) (λ k. refl)
+      (gives-rules Rrule true (λ l. beside_of l [] [] []) (λ k b t. refl) (λ l rule. refl) [] rules excluded_lines h
+      (gives-rules Exrule false (λ l. beside_of rules l [] []) (λ k b t. refl) (λ l rule. refl) [] excluded plus_lines he
+      (gives-dates Rdate true (λ l. beside_of rules excluded l []) (λ k b t. refl) (λ l at. refl) [] plus minus_lines hp rp
+      (above_none int_lt int_lt-transitive plus)
+      (gives-dates Exdate false (λ l. beside_of rules excluded plus l) (λ k b t. refl) (λ l at. refl) [] minus [] hm rm
+      (above_none int_lt int_lt-transitive minus) (λ k. sym is)))))

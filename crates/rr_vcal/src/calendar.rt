@@ -20,6 +20,7 @@ fn vseries_of(start: Stamp, beside: Nearby) -> VSeries
         kind: start.kind,
         start: start.at,
         rules: beside.rules,
+        excluded: beside.excluded,
         plus: beside.plus,
         minus: beside.minus,
     }
@@ -52,15 +53,15 @@ fn read_text(alloc: Global, offset: Option<i32>, bytes: &[u8]) -> Result<VSeries
 /// Reads the series of the one event of a vCalendar 1.0 text, or of a text without components.
 ///
 /// The bytes need not be UTF-8. The offset is local time less UTC in seconds. It turns a moment of UTC that stands beside
-/// a start of local time; without it such a moment is refused. Used are DTSTART, the start, which counts, RRULE, RDATE and
-/// EXDATE; their parameters and all other lines are passed over, and so is one byte order mark. A line that is folded keeps
-/// the blank at the fold. A rule without an end has two events, and a bare rule takes the item of the start. A text of more
+/// a start of local time; without it such a moment is refused. Used are DTSTART, the start, which counts, RRULE, EXRULE,
+/// RDATE and EXDATE; their parameters and all other lines are passed over, and so is one byte order mark. A line that is
+/// folded keeps the blank at the fold. A rule without an end has two events, and a bare rule takes the item of the start. A text of more
 /// than `MAX_INPUT` bytes is read like any other.
 ///
 /// The first fault is the refusal. Line by line, from left to right, come what `rr_ical::event_lines` refuses; of DTSTART
 /// `PartTwice`, `BadMoment`; of each value of RDATE or EXDATE `TooManyParts`, `PeriodValue` in RDATE, `BadMoment`; of RRULE
-/// `TooManyParts`, then word by word `BadRule`, `BadMoment` of an end moment, `PartTwice` of a second number of events or
-/// end moment, `NumberRange`; of EXRULE `Extended`. At the end of the text `BadLine` for an open component, `NoStart`. Then
+/// and EXRULE `TooManyParts`, then word by word `BadRule`, `BadMoment` of an end moment, `PartTwice` of a second number of events or
+/// end moment, `NumberRange`. At the end of the text `BadLine` for an open component, `NoStart`. Then
 /// line by line beside the start, of each date `MixedKinds`, of each date and end moment `UtcMoment` without an offset, and
 /// `BadMoment` where the offset leaves the years 1 to 9999. A refusal names the first physical line of the line at fault.
 pub fn read(alloc: Global, bytes: &[u8], offset: Option<i32>) -> Result<VSeries, Fault>

@@ -3,20 +3,21 @@ ghost use Rattle.std.specs.Prelude.{◌≡◌, IfOk};
 ghost use Rattle.std.specs.List.{slice_split};
 ghost use Rattle.rr_model.specs.Answers.{Answers};
 ghost use Rattle.rr_model.specs.Moment.Years.{IsInYears};
-ghost use Rattle.rr_model.specs.Text.Passes.{nothing_beside, put_date, with_date, with_dates, with_rule, with_line, second_pass};
+ghost use Rattle.rr_model.specs.Text.Passes.{nothing_beside, put_date, put_rule, with_date, with_dates, with_rule, with_line, second_pass};
 ghost use Rattle.rr_model.specs.Vcal.Reading.{is_comma_or_semicolon, vcal_language, vrule_beside};
 
 use crate::beside::vrule_beside;
 use crate::rule::stated_vrule;
-use rr_model::{Dates, Fault, LineName, NoMemory, UsedLine, VRules};
+use rr_model::{Dates, Fault, LineName, NoMemory, UsedLine, VRule, VRules};
 use rr_rrule::{Setting, date_beside, date_value};
 use std::alloc::Global;
 use std::marker::Model;
 
-/// Rules and dates beside a start.
+/// Rules, excluded rules and dates beside a start.
 #[derive(Drop)]
 pub(crate) struct Nearby {
     pub(crate) rules: VRules,
+    pub(crate) excluded: VRules,
     pub(crate) plus: Dates,
     pub(crate) minus: Dates,
 }
@@ -27,7 +28,7 @@ impl Model for Nearby {
 
     ghost Value = { Beside VRule };
 
-    ghost view = { λ n. record { rules = n.rules; plus = n.plus; minus = n.minus } };
+    ghost view = { λ n. record { rules = n.rules; excluded = n.excluded; plus = n.plus; minus = n.minus } };
 }
 
 // With one date more.
@@ -75,22 +76,34 @@ fn with_dates(
     Ok(beside)
 }
 
-// The rule of a line beside the start.
+// With one rule more, of RRULE or EXRULE.
+fn put_rule(is_given: bool, beside: Nearby, rule: VRule) -> Result<Nearby, NoMemory>
+    ensures { IfOk result (λ more. more ≡ put_rule is_given beside rule) }
+{
+    let mut beside = beside;
+    if is_given {
+        beside.rules.put(rule)?;
+    } else {
+        beside.excluded.put(rule)?;
+    }
+    Ok(beside)
+}
+
+// The rule of a line beside the start, of RRULE or EXRULE.
 fn with_rule(
     alloc: Global,
     setting: Setting,
     line: u64,
+    is_given: bool,
     beside: Nearby,
     text: &[u8],
 ) -> Result<Nearby, Fault>
     requires { IsInYears setting.start.kind setting.start.at }
-    ensures { Answers (with_rule vcal_language (vrule_beside setting.offset setting.start) line beside text.now) result }
+    ensures { Answers (with_rule vcal_language (vrule_beside setting.offset setting.start) line is_given beside text.now) result }
 {
-    let mut beside = beside;
     let stated = stated_vrule(alloc, line, text)?;
     let rule = vrule_beside(alloc, setting, line, stated)?;
-    beside.rules.put(rule)?;
-    Ok(beside)
+    Ok(put_rule(is_given, beside, rule)?)
 }
 
 // One used line.
@@ -105,10 +118,11 @@ fn with_line(
 {
     let text = line.value.as_slice();
     match line.name {
-        LineName::Rrule => with_rule(alloc, setting, line.number, beside, text),
+        LineName::Rrule => with_rule(alloc, setting, line.number, true, beside, text),
+        LineName::Exrule => with_rule(alloc, setting, line.number, false, beside, text),
         LineName::Rdate => with_dates(setting, line.number, true, beside, text),
         LineName::Exdate => with_dates(setting, line.number, false, beside, text),
-        LineName::Dtstart | LineName::Exrule => Ok(beside),
+        LineName::Dtstart => Ok(beside),
     }
 }
 
@@ -117,6 +131,7 @@ fn nothing_beside(alloc: Global) -> Nearby
 {
     Nearby {
         rules: VRules::new(alloc),
+        excluded: VRules::new(alloc),
         plus: Dates::new(alloc),
         minus: Dates::new(alloc),
     }

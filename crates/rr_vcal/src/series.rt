@@ -25,7 +25,7 @@ fn rules_of(alloc: Global, kind: Kind, start: i64, rules: &[VRule]) -> Result<Ru
 
 /// The series of RFC 5545, section 3.8.5, that has the occurrences of a series of vCalendar 1.0.
 ///
-/// Its start counts, its rules are those of `to_rule`, and its dates are the same.
+/// Its start counts, its rules and excluded rules are those of `to_rule`, and its dates are the same.
 #[tactic(auto, unfolding(rr_model::specs::Vcal::Counterpart::series_of_vseries))]
 pub fn to_series(alloc: Global, series: &VSeries) -> Result<Series, NoMemory>
     requires { IsValidVSeries series.now }
@@ -35,11 +35,18 @@ pub fn to_series(alloc: Global, series: &VSeries) -> Result<Series, NoMemory>
     let plus = series.plus.copy(alloc)?;
     let minus = series.minus.copy(alloc)?;
     let rules = rules_of(alloc, series.kind, series.start, series.rules.as_slice())?;
+    let excluded = rules_of(
+        alloc,
+        series.kind,
+        series.start,
+        series.excluded.as_slice(),
+    )?;
     Ok(Series {
         kind: series.kind,
         start: series.start,
         start_counts: true,
         rules,
+        excluded,
         plus,
         minus,
     })

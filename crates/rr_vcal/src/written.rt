@@ -1,5 +1,5 @@
 // Writes a series.
-ghost use Rattle.std.specs.Prelude.{◌≡◌, ◌++◌, All, IfOk, OnOk, codes};
+ghost use Rattle.std.specs.Prelude.{◌≡◌, ◌++◌, All, IfOk, OnOk};
 ghost use Rattle.rr_model.specs.Moment.Years.{IsInYears};
 ghost use Rattle.rr_model.specs.Rule.Validity.{EndsInYears};
 ghost use Rattle.rr_model.specs.Text.Written.{basic_text, line_break, lines_of};
@@ -42,30 +42,31 @@ fn push_dates(out: &mut Vec<u8>, name: &[u8], kind: Kind, dates: &[i64]) -> Resu
 }
 
 // The line of a rule.
-fn push_rule_line(out: &mut Vec<u8>, rule: &VRule) -> Result<(), NoMemory>
+fn push_rule_line(out: &mut Vec<u8>, name: &[u8], rule: &VRule) -> Result<(), NoMemory>
     requires { EndsInYears rule.now.end }
-    ensures { OnOk result (out.new.items ≡ out.old.items ++ vcal_line (codes "RRULE") (vrule_text rule.now)) }
+    ensures { OnOk result (out.new.items ≡ out.old.items ++ vcal_line name.now (vrule_text rule.now)) }
 {
-    out.extend_from_slice(b"RRULE:")?;
+    out.extend_from_slice(name)?;
+    out.push(b':')?;
     push_rule(out, rule)?;
     end_line(out)
 }
 
 // A line for each rule.
-fn push_rules(out: &mut Vec<u8>, rules: &[VRule]) -> Result<(), NoMemory>
+fn push_rules(out: &mut Vec<u8>, name: &[u8], rules: &[VRule]) -> Result<(), NoMemory>
     requires { All (λ rule. EndsInYears rule.end) rules.now }
-    ensures { OnOk result (out.new.items ≡ out.old.items ++ lines_of (λ rule. vcal_line (codes "RRULE") (vrule_text rule)) rules.now) }
+    ensures { OnOk result (out.new.items ≡ out.old.items ++ lines_of (λ rule. vcal_line name.now (vrule_text rule)) rules.now) }
 {
     for rule in rules {
-        push_rule_line(out, rule)?;
+        push_rule_line(out, name, rule)?;
     }
     Ok(())
 }
 
 /// Writes a series as a vCalendar 1.0 text, which `read` reads back.
 ///
-/// The lines are DTSTART, an RRULE for each rule in its order, an RDATE and an EXDATE for each date, rising. They end with
-/// CR LF and are not folded. A rule is its head, its items in their order and its end: `#` and a number of events, `#0` for
+/// The lines are DTSTART, an RRULE for each rule in its order, an EXRULE for each excluded one in its order, an RDATE and an
+/// EXDATE for each date, rising. They end with CR LF and are not folded. A rule is its head, its items in their order and its end: `#` and a number of events, `#0` for
 /// no end, an end moment alone, or both, the number first. The last day of a month is `LD`, and the others from the back are
 /// `2-` and so on. A place is written once before all its weekdays.
 #[tactic(auto, unfolding(rr_model::specs::Vcal::Written::vcal_written))]
@@ -75,7 +76,8 @@ pub fn write(alloc: Global, series: &VSeries) -> Result<Vec<u8>, NoMemory>
 {
     let mut out = Vec::new(alloc);
     push_date(&mut out, b"DTSTART", series.kind, series.start)?;
-    push_rules(&mut out, series.rules.as_slice())?;
+    push_rules(&mut out, b"RRULE", series.rules.as_slice())?;
+    push_rules(&mut out, b"EXRULE", series.excluded.as_slice())?;
     push_dates(&mut out, b"RDATE", series.kind, series.plus.as_slice())?;
     push_dates(&mut out, b"EXDATE", series.kind, series.minus.as_slice())?;
     Ok(out)

@@ -87,7 +87,7 @@ rule_of_pattern pattern end = record {
 
 -- the series that starts at the first occurrence
 abbrev pub series_from : Kind → ℤ → List Rule → Series
-series_from kind start rules = record { kind = kind; start = start; start_counts = true; rules = rules; plus = []; minus = [] }
+series_from kind start rules = record { kind = kind; start = start; start_counts = true; rules = rules; excluded = []; plus = []; minus = [] }
 
 -- the series of an event that repeats, or of its start alone
 abbrev pub series_of_repeat : Repeat → Kind → ℤ → Series

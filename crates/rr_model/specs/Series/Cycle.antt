@@ -17,6 +17,6 @@ unfoldable pub rules_cycle : List Rule → ℕ
 rules_cycle [] = 1
 rules_cycle (rule ∷ rules) = lcm (endless_cycle rule.end rule) (rules_cycle rules)
 
--- the cycle of a series, in days
+-- the cycle of a series, in days; its excluded rules repeat too
 abbrev pub series_cycle : Series → ℕ
-series_cycle series = rules_cycle series.rules
+series_cycle series = lcm (rules_cycle series.rules) (rules_cycle series.excluded)

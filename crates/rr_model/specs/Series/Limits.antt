@@ -1,35 +1,47 @@
 -- Which sound series go beyond the limits (RFC 5545, section 3.8.5).
-use Rattle.std.specs.Prelude.{◌≡◌, ◌≢◌, ℕ, ◌<◌, IsTrue, ⊤, List, [], All, AllPairs, length, get_or, nat_lt, ℤ, pos, ◌+ℤ◌, ◌<ℤ◌}
-use Rattle.rr_model.specs.Moment.{day_part}
+use Rattle.std.specs.Prelude.{◌≡◌, ◌≢◌, ◌⊎◌, ℕ, ◌<◌, IsTrue, List, [], All, AllPairs, length, get_or, nat_lt, ℤ, pos, ◌+ℤ◌, ◌<ℤ◌}
+use Rattle.rr_model.specs.Moment.{day_part, moment_at}
 use Rattle.rr_model.specs.Rising.Sets.{IsSetOf}
-use Rattle.rr_model.specs.Rule.Member.{IsMember}
+use Rattle.rr_model.specs.Rule.Member.{members_to}
 use Rattle.rr_model.specs.Series.Cycle.{series_cycle}
 use Rattle.rr_model.specs.Series.Tree.{tree_of}
 use Rattle.rr_model.specs.Sets.Sizes.{total_size}
 use Rattle.rr_model.specs.Sets.Tree.{Tree, stands_at}
 use Rattle.rr_model.specs.declared.kind.Kind.{Kind}
+use Rattle.rr_model.specs.declared.kind.Kind.TheVariants.{Days, Moments}
 use Rattle.rr_model.specs.declared.limits.TheConstants.{MAX_SECONDS, MAX_SPAN_DAYS}
 use Rattle.rr_model.specs.declared.rule.End.{End}
-use Rattle.rr_model.specs.declared.rule.End.TheVariants.{Never, Until, Count, Both}
+use Rattle.rr_model.specs.declared.rule.End.TheVariants.{Count}
 use Rattle.rr_model.specs.declared.rule.Rule.{Rule}
 use Rattle.rr_model.specs.declared.rule.Series.{Series}
 
 -- ---- members that are counted too far
 
--- a rule with this end counts its members
-abbrev pub Counts : End → Type 0
-Counts Never = ⊥
-Counts (Until kind at) = ⊥
-Counts (Count count) = ⊤
-Counts (Both kind at count) = ⊤
+-- the last moment of a day
+abbrev pub last_of_day : Kind → ℤ → ℤ
+last_of_day Days day = day
+last_of_day Moments day = moment_at Moments day 86_399
 
--- a rule that counts has a member more days after its start's day than the most of a span
+-- the last moment of the span of days that begins on a start's day
+abbrev pub span_end : Kind → ℤ → ℤ
+span_end kind start = last_of_day kind (day_part kind start +ℤ pos MAX_SPAN_DAYS)
+
+-- a rule with this end counts more members than it has in the span; an UNTIL ends long before
+abbrev pub CountsMore : Kind → ℤ → Rule → End → Type 0
+CountsMore kind start rule (Count count) = members_to rule kind start (span_end kind start) < count
+CountsMore kind start rule end = ⊥
+
+-- the rule does
 abbrev pub CountsTooFar : Kind → ℤ → Rule → Type 0
-CountsTooFar kind start rule = Counts rule.end × ((t : ℤ) × ((day_part kind start +ℤ pos MAX_SPAN_DAYS) <ℤ day_part kind t) × IsMember rule kind start t)
+CountsTooFar kind start rule = CountsMore kind start rule rule.end
 
--- some rule of a series does
+-- some of the rules does
+abbrev pub CountSomeTooFar : Kind → ℤ → List Rule → Type 0
+CountSomeTooFar kind start rules = (k : ℕ) × (rule : Rule) × (k < length rules) × (get_or rules k rule ≡ rule) × CountsTooFar kind start rule
+
+-- some rule of a series does, or some excluded one
 abbrev pub IsCountedTooFar : Series → Type 0
-IsCountedTooFar series = (k : ℕ) × (rule : Rule) × (k < length series.rules) × (get_or series.rules k rule ≡ rule) × CountsTooFar series.kind series.start rule
+IsCountedTooFar series = CountSomeTooFar series.kind series.start series.rules ⊎ CountSomeTooFar series.kind series.start series.excluded
 
 -- ---- too many moments
 

@@ -23,12 +23,13 @@ EndsBefore kind start settled rule (Both other at count) = (t : ℤ) → IsMembe
 abbrev pub LieBefore : Kind → ℤ → List ℤ → Type 0
 LieBefore kind settled dates = All (λ t. day_part kind t <ℤ settled) dates
 
--- the start, the dates and the last days of the rules that end lie before the day
+-- the start, the dates and the last days of the rules that end, excluded ones among them, lie before the day
 pub record IsPast (series : Series) (settled : ℤ) : Type 0 where
   pub start : day_part series.kind series.start <ℤ settled
   pub plus : LieBefore series.kind settled series.plus
   pub minus : LieBefore series.kind settled series.minus
   pub rules : All (λ rule. EndsBefore series.kind series.start settled rule rule.end) series.rules
+  pub excluded : All (λ rule. EndsBefore series.kind series.start settled rule rule.end) series.excluded
 
 -- the day after the last of these
 pub record IsSettledDay (series : Series) (settled : ℤ) : Type 0 where

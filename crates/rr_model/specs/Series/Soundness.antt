@@ -40,9 +40,14 @@ abbrev pub rules_refusal : ℕ → Kind → ℤ → List Rule → Option Refusal
 rules_refusal number kind start [] = None
 rules_refusal number kind start (rule ∷ rules) = option_or (rule_refusal number kind start rule) (rules_refusal (suc number) kind start rules)
 
--- of a series, whose rules are numbered from 1
+-- of excluded rules, which need not choose the start: the first one's end comes first
+abbrev pub ends_refusal : Kind → ℤ → List Rule → Option Refusal
+ends_refusal kind start [] = None
+ends_refusal kind start (rule ∷ rules) = option_or (end_refusal kind start rule.end) (ends_refusal kind start rules)
+
+-- of a series, whose rules are numbered from 1; its excluded rules come after them
 abbrev pub first_refusal : Series → Option Refusal
-first_refusal series = rules_refusal 1 series.kind series.start series.rules
+first_refusal series = option_or (rules_refusal 1 series.kind series.start series.rules) (ends_refusal series.kind series.start series.excluded)
 
 -- ---- what is sound
 
@@ -57,7 +62,8 @@ pub record FitsStart (kind : Kind) (start : ℤ) (rule : Rule) : Type 0 where
   pub synchronised : IsSynchronised rule kind start
   pub end : EndsNotBefore kind start rule.end
 
--- the series is valid, and each rule fits the start
+-- the series is valid, each rule fits the start, and no excluded rule ends before it
 pub record IsSound (series : Series) : Type 0 where
   pub valid : IsValidSeries series
   pub rules : All (FitsStart series.kind series.start) series.rules
+  pub excluded : All (λ rule. EndsNotBefore series.kind series.start rule.end) series.excluded

@@ -3,7 +3,7 @@ use Rattle.std.specs.Prelude.{◌≡◌, ◌↔◌, true, List, [], ◌∷◌, i
 use Rattle.rr_model.specs.Rising.{with_value}
 use Rattle.rr_model.specs.Series.Occurrences.{Occurs}
 use Rattle.rr_model.specs.Series.Soundness.{IsSound}
-use Rattle.rr_model.specs.Sets.Tree.{Tree, Forest, chosen_of, dates_of, union, many, upto, first_n, without, nothing, part, stands_in}
+use Rattle.rr_model.specs.Sets.Tree.{Tree, Forest, chosen_of, dates_of, union, many, upto, first_n, without, except, nothing, part, stands_in}
 use Rattle.rr_model.specs.declared.kind.Kind.{Kind}
 use Rattle.rr_model.specs.declared.rule.End.{End}
 use Rattle.rr_model.specs.declared.rule.End.TheVariants.{Never, Until, Count, Both}
@@ -30,10 +30,14 @@ members_of_all kind start (rule ∷ rules) = part (members_of kind start rule) (
 abbrev pub dates_with_start : Series → List ℤ
 dates_with_start series = if series.start_counts then with_value int_lt series.plus series.start else series.plus
 
--- the dates and the members of all rules, without the dates taken out
+-- the dates and the members of all rules
+abbrev pub tree_of_given : Series → Tree
+tree_of_given series = union (dates_of series.kind (dates_with_start series)) (many (members_of_all series.kind series.start series.rules))
+
+-- these, except the members of the excluded rules, without the dates taken out
 abbrev pub tree_of : Series → Tree
-tree_of series = without
-    (union (dates_of series.kind (dates_with_start series)) (many (members_of_all series.kind series.start series.rules))) series.kind series.minus
+tree_of series =
+    without (except (tree_of_given series) (many (members_of_all series.kind series.start series.excluded))) series.kind series.minus
 
 -- Exactly what occurs in a sound series stands in its tree.
 abbrev pub TreeStandsForSeries : Type 0

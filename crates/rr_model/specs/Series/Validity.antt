@@ -9,15 +9,17 @@ use Rattle.rr_model.specs.declared.rule.Series.{Series}
 
 -- nothing occurs in it
 abbrev pub IsEmptySeries : Series → Type 0
-IsEmptySeries series = (series.kind ≡ Days) × (series.start ≡ pos 0) × (series.rules ≡ []) × (series.plus ≡ []) × (series.minus ≡ [])
+IsEmptySeries series = (series.kind ≡ Days) × (series.start ≡ pos 0) × (series.rules ≡ []) × (series.excluded ≡ []) × (series.plus ≡ []) × (series.minus ≡ [])
 
--- the rules are valid beside the start, the moments lie in the years 1 to 9999, and the dates rise without repeats
+-- the rules and the excluded rules are valid beside the start, the moments lie in the years 1 to 9999, and the dates rise without repeats
 pub record IsValidSeries (series : Series) : Type 0 where
   pub start : IsInYears series.kind series.start
   pub start_counts : series.start_counts ≡ false → IsEmptySeries series
   pub rules : All (IsValidRule series.kind) series.rules
-  pub few_rules : length series.rules ≤ MAX_RULES
+  pub excluded : All (IsValidRule series.kind) series.excluded
+  pub few_rules : length series.rules + length series.excluded ≤ MAX_RULES
   pub ends : All (λ rule. EndsInYears rule.end) series.rules
+  pub excluded_ends : All (λ rule. EndsInYears rule.end) series.excluded
   pub plus : All (IsInYears series.kind) series.plus
   pub minus : All (IsInYears series.kind) series.minus
   pub plus_rises : Rises int_lt series.plus

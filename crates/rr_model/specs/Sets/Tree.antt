@@ -21,6 +21,7 @@ mutual
     upto : Tree → Kind → ℤ → Tree
     first_n : Tree → ℕ → Tree
     without : Tree → Kind → List ℤ → Tree
+    except : Tree → Tree → Tree
 
   -- a list of trees
   pub data Forest : Type 0 where
@@ -49,6 +50,7 @@ abbrev mutual
   stands_at (upto a kind at) day second = stands_at a day second && int_le (moment_at kind day second) at
   stands_at (first_n a n) day second = stands_at a day second && nat_le (count_to (λ d s. stands_at a d s) day second) n
   stands_at (without a kind dates) day second = stands_at a day second && not (is_among kind dates day second)
+  stands_at (except a b) day second = stands_at a day second && not (stands_at b day second)
 
   -- in one of the trees at least
   pub some_stands_at : Forest → ℤ → ℕ → Bool
@@ -75,6 +77,7 @@ abbrev mutual
   IsOfKind k (upto a kind at) = (kind ≡ k) × IsInYears k at × IsOfKind k a
   IsOfKind k (first_n a n) = IsOfKind k a
   IsOfKind k (without a kind dates) = (kind ≡ k) × All (IsInYears k) dates × IsOfKind k a
+  IsOfKind k (except a b) = IsOfKind k a × IsOfKind k b
 
   -- so it is of each tree
   pub AreOfKind : Kind → Forest → Type 0
@@ -91,6 +94,7 @@ abbrev mutual
   kind_in (upto a kind at) = Some kind
   kind_in (first_n a n) = kind_in a
   kind_in (without a kind dates) = Some kind
+  kind_in (except a b) = option_or (kind_in a) (kind_in b)
 
   -- of the first tree that has one
   pub kind_in_some : Forest → Option Kind

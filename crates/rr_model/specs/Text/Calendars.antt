@@ -55,6 +55,7 @@ series_of_event event = record {
   start = event.start.at;
   start_counts = true;
   rules = event.beside.rules;
+  excluded = event.beside.excluded;
   plus = event.beside.plus;
   minus = event.beside.minus;
 }

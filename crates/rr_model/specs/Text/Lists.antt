@@ -48,8 +48,8 @@ with_list_lines line so_far (text ∷ texts) = with_list_line line so_far text >
 
 -- the first value is the start, and the others are further dates
 abbrev pub series_of_list : Option Stamp → List ℤ → Series
-series_of_list None plus = record { kind = Days; start = pos 0; start_counts = false; rules = []; plus = []; minus = [] }
-series_of_list (Some first) plus = record { kind = first.kind; start = first.at; start_counts = true; rules = []; plus = plus; minus = [] }
+series_of_list None plus = record { kind = Days; start = pos 0; start_counts = false; rules = []; excluded = []; plus = []; minus = [] }
+series_of_list (Some first) plus = record { kind = first.kind; start = first.at; start_counts = true; rules = []; excluded = []; plus = plus; minus = [] }
 
 -- what the text of a list states
 unfoldable pub list_text : List ℕ → Result Series Refusal

@@ -1,5 +1,5 @@
 -- How the used lines of an event are read: a first pass judges each line alone, a second one judges moments beside the start
--- (RFC 5545, sections 3.3.5, 3.8.2.4, 3.8.5.1, 3.8.5.2; vCalendar 1.0, the same properties).
+-- (RFC 5545, sections 3.3.5, 3.8.2.4, 3.8.5.1, 3.8.5.2; RFC 2445, section 4.8.5.2, EXRULE; vCalendar 1.0, the same properties).
 use Rattle.std.specs.Prelude.{ℕ, ◌+◌, ◌==◌, nat_le, Bool, true, false, not, ◌&&◌, if◌then◌else◌, ℤ, ◌+ℤ◌, int_lt, List, [], ◌∷◌, ◌++◌, Option, None, Some}
 use Rattle.std.specs.Prelude.{ok_or, Result, Ok, Err}
 use Rattle.std.specs.List.{list_any, slice_split}
@@ -17,7 +17,7 @@ use Rattle.rr_model.specs.Text.UsedLines.{trim}
 use Rattle.rr_model.specs.declared.pass.FirstPass.{FirstPass}
 use Rattle.rr_model.specs.declared.limits.TheConstants.{MAX_DATES, MAX_RULES}
 use Rattle.rr_model.specs.declared.refusal.Refusal.{Refusal}
-use Rattle.rr_model.specs.declared.refusal.Refusal.TheVariants.{NoStart, BadMoment, MixedKinds, PartTwice, UtcMoment, PeriodValue, Extended, TooManyParts}
+use Rattle.rr_model.specs.declared.refusal.Refusal.TheVariants.{NoStart, BadMoment, MixedKinds, PartTwice, UtcMoment, PeriodValue, TooManyParts}
 use Rattle.rr_model.specs.declared.used.LineName.{LineName}
 use Rattle.rr_model.specs.declared.used.LineName.TheVariants.{Dtstart, Rrule, Rdate, Exdate, Exrule}
 use Rattle.rr_model.specs.declared.used.UsedLine.{UsedLine}
@@ -73,7 +73,7 @@ judged_line language line Dtstart pass text = judged_start line pass text
 judged_line language line Rrule pass text = judged_rule language line pass text
 judged_line language line Rdate pass text = judged_dates line true pass (slice_split language.is_separator text)
 judged_line language line Exdate pass text = judged_dates line false pass (slice_split language.is_separator text)
-judged_line language line Exrule pass text = Err Extended
+judged_line language line Exrule pass text = judged_rule language line pass text
 
 -- the first pass over the lines
 abbrev pub first_pass : {R : Type 0} → Language R → FirstPass → List UsedLine → Result FirstPass Refusal
@@ -94,15 +94,16 @@ moment_beside offset start line stamp = if stamp.utc && not start.utc && has_tim
 abbrev pub date_beside : Option ℤ → Stamp → ℕ → Stamp → Result ℤ Refusal
 date_beside offset start line stamp = if is_same_kind start.kind stamp.kind then moment_beside offset start line stamp else Err (MixedKinds line)
 
--- rules and dates beside the start
+-- rules, excluded rules and dates beside the start
 pub record Beside (R : Type 0) : Type 0 where
   pub rules : List R
+  pub excluded : List R
   pub plus : List ℤ
   pub minus : List ℤ
 
 -- nothing is read beside the start yet
 abbrev pub nothing_beside : {R : Type 0} → Beside R
-nothing_beside = record { rules = []; plus = []; minus = [] }
+nothing_beside = record { rules = []; excluded = []; plus = []; minus = [] }
 
 -- with one date more
 abbrev pub put_date : {R : Type 0} → Bool → Beside R → ℤ → Beside R
@@ -120,21 +121,26 @@ with_date offset start line is_plus beside text = do
 abbrev pub with_dates : {R : Type 0} → Option ℤ → Stamp → ℕ → Bool → Beside R → List (List ℕ) → Result (Beside R) Refusal
 with_dates offset start line is_plus beside texts = in_turn (with_date offset start line is_plus) beside texts
 
--- the rule of a line beside the start
-abbrev pub with_rule : {R : Type 0} → Language R → (ℕ → Stated R → Result R Refusal) → ℕ → Beside R → List ℕ → Result (Beside R) Refusal
-with_rule language rule_beside line beside text = do
+-- with one rule more, of RRULE (true) or EXRULE
+abbrev pub put_rule : {R : Type 0} → Bool → Beside R → R → Beside R
+put_rule true beside rule = record beside { rules = beside.rules ++ rule ∷ [] }
+put_rule false beside rule = record beside { excluded = beside.excluded ++ rule ∷ [] }
+
+-- the rule of a line beside the start, of RRULE (true) or EXRULE
+abbrev pub with_rule : {R : Type 0} → Language R → (ℕ → Stated R → Result R Refusal) → ℕ → Bool → Beside R → List ℕ → Result (Beside R) Refusal
+with_rule language rule_beside line is_given beside text = do
   stated ← language.stated line text
   rule ← rule_beside line stated
-  Ok (record beside { rules = beside.rules ++ rule ∷ [] })
+  Ok (put_rule is_given beside rule)
 
 -- one used line; what it states was judged in the first pass
 abbrev pub with_line : {R : Type 0} → Language R → (ℕ → Stated R → Result R Refusal) → Option ℤ → Stamp → ℕ → LineName → Beside R → List ℕ
     → Result (Beside R) Refusal
 with_line language rule_beside offset start line Dtstart beside text = Ok beside
-with_line language rule_beside offset start line Rrule beside text = with_rule language rule_beside line beside text
+with_line language rule_beside offset start line Rrule beside text = with_rule language rule_beside line true beside text
 with_line language rule_beside offset start line Rdate beside text = with_dates offset start line true beside (slice_split language.is_separator text)
 with_line language rule_beside offset start line Exdate beside text = with_dates offset start line false beside (slice_split language.is_separator text)
-with_line language rule_beside offset start line Exrule beside text = Ok beside
+with_line language rule_beside offset start line Exrule beside text = with_rule language rule_beside line false beside text
 
 -- the second pass over the lines
 abbrev pub second_pass : {R : Type 0} → Language R → (ℕ → Stated R → Result R Refusal) → Option ℤ → Stamp → Beside R → List UsedLine → Result (Beside R) Refusal

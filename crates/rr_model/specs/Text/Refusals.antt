@@ -8,7 +8,7 @@ use Rattle.rr_model.specs.declared.refusal.Refusal.TheVariants.{TooLong, NotText
 use Rattle.rr_model.specs.declared.refusal.Refusal.TheVariants.{PartTwice, NumberRange, UntilAndCount, NotAllowed, LeapSecond, UtcMoment, UntilKind}
 use Rattle.rr_model.specs.declared.refusal.Refusal.TheVariants.{UntilBeforeStart, NotSynchronised, PeriodValue, Extended, BadJson, BadMember, StartDiffers}
 use Rattle.rr_model.specs.declared.refusal.Refusal.TheVariants.{NoOccurrence, IntervalTooLarge, CycleTooLong, CountedTooFar, TooManyMoments, NotSayable}
-use Rattle.rr_model.specs.declared.refusal.Refusal.TheVariants.{TooManyParts, NotRising}
+use Rattle.rr_model.specs.declared.refusal.Refusal.TheVariants.{TooManyParts, NotRising, NotCanonical, MixedSets, PastRange}
 
 -- a member by its name in JSON (Microsoft Graph, event, recurrencePattern, recurrenceRange)
 abbrev pub member_text : Member → List ℕ
@@ -63,6 +63,9 @@ refusal_name TooManyMoments = codes "TooManyMoments"
 refusal_name NotSayable = codes "NotSayable"
 refusal_name TooManyParts = codes "TooManyParts"
 refusal_name (NotRising line) = codes "NotRising"
+refusal_name NotCanonical = codes "NotCanonical"
+refusal_name MixedSets = codes "MixedSets"
+refusal_name PastRange = codes "PastRange"
 
 -- the name, and after a blank the line, the rule or the member where there is one
 abbrev pub refusal_text : Refusal → List ℕ
@@ -96,3 +99,6 @@ refusal_text TooManyMoments = codes "TooManyMoments"
 refusal_text NotSayable = codes "NotSayable"
 refusal_text TooManyParts = codes "TooManyParts"
 refusal_text (NotRising line) = codes "NotRising " ++ decimal line
+refusal_text NotCanonical = codes "NotCanonical"
+refusal_text MixedSets = codes "MixedSets"
+refusal_text PastRange = codes "PastRange"

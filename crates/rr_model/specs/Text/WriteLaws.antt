@@ -12,8 +12,8 @@ abbrev pub IsOneEnd : End → Type 0
 IsOneEnd (Both kind at count) = ⊥
 IsOneEnd end = ⊤
 
--- A valid series whose start counts, and of whose rules none has both ends, is read back from its text.
+-- A valid series whose start counts, and of whose rules and excluded rules none has both ends, is read back from its text.
 abbrev pub CalendarIsReadBack : Type 0
 CalendarIsReadBack =
-    (series : Series) → IsValidSeries series → series.start_counts ≡ true → All (λ rule. IsOneEnd rule.end) series.rules
+    (series : Series) → IsValidSeries series → series.start_counts ≡ true → All (λ rule. IsOneEnd rule.end) series.rules → All (λ rule. IsOneEnd rule.end) series.excluded
     → reads_calendar None (calendar_written series) ≡ Ok series

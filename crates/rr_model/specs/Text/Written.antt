@@ -128,15 +128,16 @@ abbrev pub date_line : List ℕ → Kind → ℤ → List ℕ
 date_line name kind at = folded_line (name ++ value_type kind ++ codes ":" ++ basic_text kind at)
 
 -- a line with a rule
-abbrev pub rule_line : Rule → List ℕ
-rule_line rule = folded_line (codes "RRULE:" ++ rule_text rule)
+abbrev pub rule_line : List ℕ → Rule → List ℕ
+rule_line name rule = folded_line (name ++ codes ":" ++ rule_text rule)
 
--- a start that does not count is excluded
-abbrev pub excluded : Series → List ℤ
-excluded series = if series.start_counts then series.minus else with_value int_lt series.minus series.start
+-- a start that does not count is a date that is taken out
+abbrev pub dates_out : Series → List ℤ
+dates_out series = if series.start_counts then series.minus else with_value int_lt series.minus series.start
 
 -- what is written for a series
 unfoldable pub calendar_written : Series → List ℕ
 calendar_written series =
-    date_line (codes "DTSTART") series.kind series.start ++ lines_of rule_line series.rules
-    ++ lines_of (date_line (codes "RDATE") series.kind) series.plus ++ lines_of (date_line (codes "EXDATE") series.kind) (excluded series)
+    date_line (codes "DTSTART") series.kind series.start
+    ++ lines_of (rule_line (codes "RRULE")) series.rules ++ lines_of (rule_line (codes "EXRULE")) series.excluded
+    ++ lines_of (date_line (codes "RDATE") series.kind) series.plus ++ lines_of (date_line (codes "EXDATE") series.kind) (dates_out series)

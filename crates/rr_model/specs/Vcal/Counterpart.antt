@@ -95,6 +95,7 @@ series_of_vseries series = record {
   start = series.start;
   start_counts = true;
   rules = rules_of_vrules series.kind series.start series.rules;
+  excluded = rules_of_vrules series.kind series.start series.excluded;
   plus = series.plus;
   minus = series.minus;
 }

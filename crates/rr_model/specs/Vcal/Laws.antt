@@ -35,6 +35,7 @@ VcalCounterpartHasOccurrences =
 -- each list of the series rises (as the list types of the model always do)
 pub record IsWritable (series : VSeries) : Type 0 where
   pub items : All (λ rule. Rises item_lt rule.items) series.rules
+  pub excluded : All (λ rule. Rises item_lt rule.items) series.excluded
   pub plus : Rises int_lt series.plus
   pub minus : Rises int_lt series.minus
 

@@ -72,8 +72,9 @@ abbrev pub IsVcalMemberOfSome : Kind → ℤ → ℤ → List VRule → Type 0
 IsVcalMemberOfSome kind start t [] = ⊥
 IsVcalMemberOfSome kind start t (rule ∷ rules) = IsVcalMember rule kind start t ⊎ IsVcalMemberOfSome kind start t rules
 
--- t occurs in the series: it is the start, a member of a rule or a further date, and no excluded one
+-- t occurs in the series: it is the start, a member of a rule or a further date, and neither an excluded date nor a member of an excluded rule
 pub record OccursInVseries (series : VSeries) (kind : Kind) (t : ℤ) : Type 0 where
   pub same_kind : kind ≡ series.kind
   pub given : (t ≡ series.start) ⊎ (IsVcalMemberOfSome series.kind series.start t series.rules ⊎ Contains series.plus t)
   pub kept : Contains series.minus t → ⊥
+  pub not_excluded : IsVcalMemberOfSome series.kind series.start t series.excluded → ⊥

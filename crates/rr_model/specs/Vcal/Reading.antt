@@ -47,8 +47,14 @@ vcal_language = record { stated = stated_vrule; is_separator = is_comma_or_semic
 
 -- the series that an event states
 abbrev pub vseries_of_event : Event VRule → VSeries
-vseries_of_event event =
-    record { kind = event.start.kind; start = event.start.at; rules = event.beside.rules; plus = event.beside.plus; minus = event.beside.minus }
+vseries_of_event event = record {
+  kind = event.start.kind;
+  start = event.start.at;
+  rules = event.beside.rules;
+  excluded = event.beside.excluded;
+  plus = event.beside.plus;
+  minus = event.beside.minus;
+}
 
 -- The series that the bytes state, beside a stated offset of local time from UTC in seconds. They need not be UTF-8.
 unfoldable pub reads_vcal : Option ℤ → List ℕ → Result VSeries Refusal

@@ -28,12 +28,14 @@ pub record IsValidVRule (rule : VRule) : Type 0 where
   pub some_item : 1 ≤ length rule.items
   pub count : HasCountInRange rule.end
 
--- the rules are valid, and the moments lie in the years 1 to 9999
+-- the rules and the excluded rules are valid, and the moments lie in the years 1 to 9999
 pub record IsValidVSeries (series : VSeries) : Type 0 where
   pub start : IsInYears series.kind series.start
   pub rules : All IsValidVRule series.rules
-  pub few_rules : length series.rules ≤ MAX_RULES
+  pub excluded : All IsValidVRule series.excluded
+  pub few_rules : length series.rules + length series.excluded ≤ MAX_RULES
   pub ends : All (λ rule. EndsInYears rule.end) series.rules
+  pub excluded_ends : All (λ rule. EndsInYears rule.end) series.excluded
   pub plus : All (IsInYears series.kind) series.plus
   pub minus : All (IsInYears series.kind) series.minus
   pub few_dates : length series.plus + length series.minus ≤ MAX_DATES

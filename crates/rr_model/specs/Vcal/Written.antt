@@ -65,5 +65,6 @@ vcal_line name value = name ++ codes ":" ++ value ++ line_break
 unfoldable pub vcal_written : VSeries → List ℕ
 vcal_written series =
     vcal_line (codes "DTSTART") (basic_text series.kind series.start) ++ lines_of (λ rule. vcal_line (codes "RRULE") (vrule_text rule)) series.rules
+    ++ lines_of (λ rule. vcal_line (codes "EXRULE") (vrule_text rule)) series.excluded
     ++ lines_of (λ at. vcal_line (codes "RDATE") (basic_text series.kind at)) series.plus
     ++ lines_of (λ at. vcal_line (codes "EXDATE") (basic_text series.kind at)) series.minus

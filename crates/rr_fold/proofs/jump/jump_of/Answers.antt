@@ -4,7 +4,7 @@ use Rattle.rr_model.proofs.YearLemmas.{four_digit_bounds}
 use Rattle.rr_model.specs.Moment.{day_part}
 use Rattle.rr_fold.specs.Jump.{IsCountedJump, IsJump}
 use Rattle.rr_fold.proofs.BackLemmas.{back, moment_back}
-use Rattle.rr_fold.proofs.JumpOfLemmas.{jump_map, no_dates_listed, one_rule, sound_rule}
+use Rattle.rr_fold.proofs.JumpOfLemmas.{jump_map, no_dates_listed, no_rules_listed, one_rule, sound_rule}
 use Rattle.rr_fold.proofs.jump.jump_of.Goals as goal
 
 pub counted_jump-requires-clause-sound : goal.counted_jump-requires-clause-sound
@@ -13,8 +13,8 @@ counted_jump-requires-clause-sound c =
     let sound = c.series-given.ensures.sound in
     let start = moment_back s.kind s.start sound.valid.start in
     let rules : s.rules ≡ c.rule-item.result ∷ [] =
-    sym c.as_slice-3.ensures
-    ∙ one_rule c.as_slice-3.result.now c.rule-item.result c.in-len1.len_at_least (omega (arith, c.in-len1.len_below)) c.rule-item.is in
+    sym c.as_slice-4.ensures
+    ∙ one_rule c.as_slice-4.result.now c.rule-item.result c.in-len1.len_at_least (omega (arith, c.in-len1.len_below)) c.rule-item.is in
     rw start (sound_rule s c.rule-item.result sound rules)
 
 pub returns : goal.returns
@@ -23,10 +23,11 @@ returns c =
     let sound = c.series-given.ensures.sound in
     let start = moment_back s.kind s.start sound.valid.start in
     let rules : s.rules ≡ c.rule-item.result ∷ [] =
-    sym c.as_slice-3.ensures
-    ∙ one_rule c.as_slice-3.result.now c.rule-item.result c.in-len1.len_at_least (omega (arith, c.in-len1.len_below)) c.rule-item.is in
-    let plus : s.plus ≡ [] = sym c.as_slice.ensures.value ∙ no_dates_listed c.as_slice.result.now (omega (arith, c.if-dates-gt0.false)) in
-    let minus : s.minus ≡ [] = sym c.as_slice-2.ensures.value ∙ no_dates_listed c.as_slice-2.result.now (omega (arith, c.if-dates-gt0.false)) in
+    sym c.as_slice-4.ensures
+    ∙ one_rule c.as_slice-4.result.now c.rule-item.result c.in-len1.len_at_least (omega (arith, c.in-len1.len_below)) c.rule-item.is in
+    let plus : s.plus ≡ [] = sym c.as_slice.ensures.value ∙ no_dates_listed c.as_slice.result.now (omega (arith, c.if-others-gt0.false)) in
+    let minus : s.minus ≡ [] = sym c.as_slice-2.ensures.value ∙ no_dates_listed c.as_slice-2.result.now (omega (arith, c.if-others-gt0.false)) in
+    let excluded : s.excluded ≡ [] = sym c.as_slice-3.ensures ∙ no_rules_listed c.as_slice-3.result.now (omega (arith, c.if-others-gt0.false)) in
     let b = four_digit_bounds (day_part s.kind s.start) sound.valid.start in
     let day : c.day_part.result ≡ day_part s.kind s.start = c.day_part.ensures ∙ ap (day_part s.kind) start in
     let near = back c.day_part.result (omega (arith, ints, b.0, day)) (omega (arith, ints, b.1, day)) in
@@ -43,6 +44,7 @@ returns c =
       count = c.in-Count.count;
       days = c.days_between-days.result;
       rules = rules;
+      excluded = excluded;
       plus = plus;
       minus = minus;
       ends = c.in-Count.is;

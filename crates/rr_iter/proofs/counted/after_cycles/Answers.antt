@@ -7,7 +7,7 @@ use Rattle.rr_model.specs.declared.kind.Kind.{Kind}
 use Rattle.rr_model.specs.declared.rule.Rule.{Rule}
 use Rattle.rr_model.proofs.YearLemmas.{year_1}
 use Rattle.rr_iter.specs.Ends.{IsSoundRule}
-use Rattle.rr_iter.proofs.CountedLemmas.{rule_each_some, rule_number_moved, rule_number_beyond, rule_number_after, start_bounds, cycle_some, days_within}
+use Rattle.rr_iter.proofs.CountedLemmas.{rule_number_moved, rule_number_beyond, rule_number_after, start_bounds, cycle_some, days_within}
 use Rattle.rr_iter.proofs.CountedLemmas.{days_beyond}
 use Rattle.rr_iter.proofs.counted.after_cycles.Goals as goal
 
@@ -62,7 +62,7 @@ module _ (kind : Kind) (start : ℤ) (rule : Rule) (sound : IsSoundRule kind sta
 
 pub nonzero_div-cycles : goal.nonzero_div-cycles
 nonzero_div-cycles c =
-    let some = rule_each_some c.args.kind c.args.start c.args.rule.now c.requires.sound c.args.each c.requires.each in
+    let some = c.requires.some_each in
     omega (arith, some)
 
 pub returns-then-cycles-cycle : goal.returns-then-cycles-cycle

@@ -7,7 +7,7 @@ use Rattle.rr_model.specs.Sets.Tree.{Tree, chosen_of, stands_at}
 use Rattle.rr_model.proofs.YearLemmas.{year_1}
 use Rattle.rr_lazy.proofs.CountingLemmas.{before_grows}
 use Rattle.rr_iter.specs.Ends.{before_day}
-use Rattle.rr_iter.proofs.CountedLemmas.{start_begun, start_bounds}
+use Rattle.rr_iter.proofs.CountedLemmas.{rule_number_never, start_begun, start_bounds}
 use Rattle.rr_iter.proofs.counted.after_start.Goals as goal
 
 to_fits : (r first : ℤ) (days : ℕ) → r ≡ first → neg_ℤ (pos 719_162) ≤ℤ first → first ≤ℤ pos 2_932_896 → days ≤ 16_777_216
@@ -114,6 +114,44 @@ after_cycles-requires-clause-each c =
     let falls = left_falls tree first cycle c.args.count c.args.left c.in-Beyond.after begun c.requires.left place.1 in
     let whole : cycle ≡ rule_cycle c.args.rule.now = omega (arith, c.cycle_within_span-cycle.ensures, c.if-cycle-eq-MAX_SPAN_DAYS.false) in
     rw (to_z-of_z c.ranges.start) (omega (arith, ap (λ n. before_day tree ((first +ℤ pos n) +ℤ pos 1)) whole, falls, c.requires.left, place.1))
+
+pub returns-then-after-left : goal.returns-then-after-left
+returns-then-after-left c =
+    let kind = c.args.kind in
+    let start = c.args.start in
+    let first : ℤ = day_part kind start in
+    let cycle : ℕ = c.cycle_within_span-cycle.result in
+    let within : cycle ≤ 16_777_216 = omega (arith, c.cycle_within_span-cycle.ensures) in
+    let bounds = start_bounds kind start c.args.rule.now c.requires.sound in
+    let day = rw (to_z-of_z c.ranges.start) at c.day_part.ensures in
+    let t = to_is c.day_part.result first cycle day bounds.0 bounds.1 within in
+    let place = rw (c.in-Beyond.is, to_z-of_z c.ranges.start, t) at c.in_ok-day.ensures in
+    let tree : Tree = chosen_of c.args.rule.now kind start in
+    let begun = start_begun kind start c.args.rule.now c.requires.sound in
+    let falls = left_falls tree first cycle c.args.count c.args.left c.in-Beyond.after begun c.requires.left place.1 in
+    let rule = c.args.rule.now in
+    let whole : cycle ≡ rule_cycle rule = omega (arith, c.cycle_within_span-cycle.ensures, c.if-cycle-eq-MAX_SPAN_DAYS.false) in
+    let moved = ap (λ n. before_day tree ((first +ℤ pos n) +ℤ pos 1)) whole in
+    let same : c.in-Beyond.after ≡ c.args.left = c.if-after-left.true in
+    let one : before_day tree ((first +ℤ pos (rule_cycle rule)) +ℤ pos 1) ≡ before_day tree (first +ℤ pos 1) + 0 =
+    omega (arith, moved, same, c.requires.left, place.1) in
+    (refl, rule_number_never kind start rule c.requires.sound 0 one c.args.count c.args.left c.requires.left c.requires.some refl)
+
+pub after_cycles-requires-clause-some_each : goal.after_cycles-requires-clause-some_each
+after_cycles-requires-clause-some_each c =
+    let kind = c.args.kind in
+    let start = c.args.start in
+    let first : ℤ = day_part kind start in
+    let cycle : ℕ = c.cycle_within_span-cycle.result in
+    let within : cycle ≤ 16_777_216 = omega (arith, c.cycle_within_span-cycle.ensures) in
+    let bounds = start_bounds kind start c.args.rule.now c.requires.sound in
+    let day = rw (to_z-of_z c.ranges.start) at c.day_part.ensures in
+    let t = to_is c.day_part.result first cycle day bounds.0 bounds.1 within in
+    let place = rw (c.in-Beyond.is, to_z-of_z c.ranges.start, t) at c.in_ok-day.ensures in
+    let tree : Tree = chosen_of c.args.rule.now kind start in
+    let begun = start_begun kind start c.args.rule.now c.requires.sound in
+    let falls = left_falls tree first cycle c.args.count c.args.left c.in-Beyond.after begun c.requires.left place.1 in
+    omega (arith, falls, c.if-after-left.false)
 
 pub returns-in-On : goal.returns-in-On
 returns-in-On c =

@@ -20,7 +20,7 @@ returns-in-Until-clause-near c =
     let fits : FitsSigned w64 c.in-Until.at = search rules in
     let day = rw (to_z-of_z fits) at c.day_part-in-Until.ensures in
     let u = c.in-Until in
-    let years = until_near c.args.kind c.args.start c.args.rule.now u.kind u.at u.is sound.ends_in_years sound.fits.end in
+    let years = until_near c.args.kind c.args.start c.args.rule.now u.kind u.at u.is sound.ends_in_years sound.end in
     let bounds = four_digit_bounds (day_part c.args.kind u.at) years in
     omega (arith, ints, day, bounds.0, bounds.1)
 
@@ -48,7 +48,7 @@ last_member-requires-clause-high c =
     let day = rw (to_z-of_z fits) at c.day_part-in-Both.ensures in
     let b = c.in-Both in
     let rule = c.args.rule.now in
-    let years = both_in_years c.args.kind c.args.start rule b.kind b.at b.count b.is sound.in_years sound.fits.end sound.ends_in_years in
+    let years = both_in_years c.args.kind c.args.start rule b.kind b.at b.count b.is sound.in_years sound.end sound.ends_in_years in
     let bounds = four_digit_bounds (day_part c.args.kind b.at) years in
     omega (arith, ints, day, bounds.0, bounds.1)
 
@@ -60,14 +60,14 @@ returns-in_ok-last_member-in-Both-clause-day c =
     let rule = c.args.rule.now in
     let b = c.in-Both in
     let fits : FitsSigned w64 b.at = search rules in
-    let years = both_in_years kind start rule b.kind b.at b.count b.is sound.in_years sound.fits.end sound.ends_in_years in
+    let years = both_in_years kind start rule b.kind b.at b.count b.is sound.in_years sound.end sound.ends_in_years in
     let bounds = four_digit_bounds (day_part kind b.at) years in
     let day = rw (to_z-of_z fits) at c.day_part-in-Both.ensures in
     let to : to_z w64 (of_z w64 c.day_part-in-Both.result) ≡ day_part kind b.at = omega (arith, ints, day, bounds.0, bounds.1) in
     let last = rw (to_z-of_z c.ranges.start, to) at c.in_ok-last_member-in-Both.ensures in
     let found : ℤ = c.in_ok-last_member-in-Both.field-0 in
-    let is_last = both_last kind start rule b.kind b.at b.count b.is sound.in_years sound.fits.end found last in
-    let near = both_near kind start rule b.kind b.at b.count b.is sound.in_years sound.fits.end found last sound.ends_in_years in
+    let is_last = both_last kind start rule b.kind b.at b.count b.is sound.in_years sound.end found last in
+    let near = both_near kind start rule b.kind b.at b.count b.is sound.in_years sound.end found last sound.ends_in_years in
     let low = (start_bounds kind start rule sound).0 in
     let same : to_z w64 (of_z w64 found) ≡ found = omega (arith, ints, is_last.late, near, low) in
     rw same is_last
@@ -80,20 +80,19 @@ returns-in_ok-last_member-in-Both-clause-near c =
     let rule = c.args.rule.now in
     let b = c.in-Both in
     let fits : FitsSigned w64 b.at = search rules in
-    let years = both_in_years kind start rule b.kind b.at b.count b.is sound.in_years sound.fits.end sound.ends_in_years in
+    let years = both_in_years kind start rule b.kind b.at b.count b.is sound.in_years sound.end sound.ends_in_years in
     let bounds = four_digit_bounds (day_part kind b.at) years in
     let day = rw (to_z-of_z fits) at c.day_part-in-Both.ensures in
     let to : to_z w64 (of_z w64 c.day_part-in-Both.result) ≡ day_part kind b.at = omega (arith, ints, day, bounds.0, bounds.1) in
     let last = rw (to_z-of_z c.ranges.start, to) at c.in_ok-last_member-in-Both.ensures in
     let found : ℤ = c.in_ok-last_member-in-Both.field-0 in
-    let is_last = both_last kind start rule b.kind b.at b.count b.is sound.in_years sound.fits.end found last in
-    let near = both_near kind start rule b.kind b.at b.count b.is sound.in_years sound.fits.end found last sound.ends_in_years in
+    let is_last = both_last kind start rule b.kind b.at b.count b.is sound.in_years sound.end found last in
+    let near = both_near kind start rule b.kind b.at b.count b.is sound.in_years sound.end found last sound.ends_in_years in
     let low = (start_bounds kind start rule sound).0 in
     let same : to_z w64 (of_z w64 found) ≡ found = omega (arith, ints, is_last.late, near, low) in
     rw same (omega (arith, ints, near))
 
 pub returns-in_ok-last_member-in-Both-clause-refused : goal.returns-in_ok-last_member-in-Both-clause-refused
 returns-in_ok-last_member-in-Both-clause-refused c =
-    let sound = c.requires.sound in
     let b = c.in-Both in
-    both_not_far c.args.rule.now c.args.kind b.kind c.args.start b.at b.count sound.in_years b.is sound.ends_in_years
+    both_not_far c.args.rule.now c.args.kind b.kind c.args.start b.at b.count b.is

@@ -1,89 +1,202 @@
-use Rattle.std.proofs.Common.{rules, ◌≡◌, ◌<◌, length, get_or, ℤ, pos, ◌+ℤ◌, w64, to_z, of_z, FitsSigned, to_z-of_z, sym, ap, subst, ◌∙◌, arith}
+use Rattle.std.proofs.Common.{rules, ◌≡◌, pos, ◌+ℤ◌, ℤ, w64, to_z, of_z, FitsSigned, to_z-of_z, subst, inl, inr, arith}
 use Rattle.std.specs.Prelude.{Err}
 use Rattle.std.proofs.lemmas.Int.{ints}
 use Rattle.rr_model.specs.Answers.{RefusedExactlyWhere}
-use Rattle.rr_model.specs.Moment.{day_part}
-use Rattle.rr_model.specs.Series.Limits.{CountsTooFar}
-use Rattle.rr_model.specs.Series.Soundness.{IsSound}
+use Rattle.rr_model.specs.Series.Limits.{CountSomeTooFar, IsCountedTooFar}
+use Rattle.rr_model.specs.Series.Settled.{IsSettledDay}
 use Rattle.rr_model.specs.declared.refusal.Refusal.TheVariants.{CountedTooFar}
-use Rattle.rr_model.proofs.YearLemmas.{four_digit_bounds}
-use Rattle.rr_iter.proofs.SettledLemmas.{gathered_none, rule_is_sound, gathered_more, gathered_all, none_too_far, one_too_far}
+use Rattle.rr_iter.proofs.SettledLemmas.{dates_near, excluded_are_sound, excluded_too_far, neither_too_far, rule_too_far, rules_are_sound, settled_is}
 use Rattle.rr_iter.proofs.settled.ends.Goals as goal
 
-pub loop-rule-init : goal.loop-rule-init
-loop-rule-init c =
+pub last_of_rules-requires-clause-sound : goal.last_of_rules-requires-clause-sound
+last_of_rules-requires-clause-sound c =
+    let s = c.series-given.result.now in
+    let start : FitsSigned w64 s.start = search rules in
+    rw (to_z-of_z start, c.as_slice.ensures) (rules_are_sound s c.series-given.ensures.sound)
+
+pub last_of_rules-requires-clause-low : goal.last_of_rules-requires-clause-low
+last_of_rules-requires-clause-low c =
     let value = c.series-given.ensures.value in
-    let sound : IsSound c.args.series.now = rw value at c.series-given.ensures.sound in
-    let start : FitsSigned w64 c.series-given.result.now.start = search rules in
+    let s = c.series-given.result.now in
+    let start : FitsSigned w64 s.start = search rules in
     let day_fits : FitsSigned w64 c.day_part.result = record { sfits = c.day_part.type_inv } in
     let plus_fits : FitsSigned w64 c.last_of-with_plus.result = record { sfits = c.last_of-with_plus.type_inv } in
-    let last_fits : FitsSigned w64 c.last_of-last.result = record { sfits = c.last_of-last.type_inv } in
-    let day = rw (to_z-of_z start, value) at c.day_part.ensures in
+    let dates_fits : FitsSigned w64 c.last_of-with_dates.result = record { sfits = c.last_of-with_dates.type_inv } in
+    let day = rw (to_z-of_z start) at c.day_part.ensures in
     let plus = c.last_of-with_plus.ensures in
-    let minus = c.last_of-last.ensures in
-    rw (to_z-of_z last_fits) (gathered_none c.args.series.now sound c.day_part.result c.last_of-with_plus.result c.last_of-last.result day
-    (rw (to_z-of_z day_fits) at plus.late) (rw value at plus.past) (rw (to_z-of_z day_fits, value) at plus.least)
-    (rw (to_z-of_z plus_fits) at minus.late) (rw value at minus.past) (rw (to_z-of_z plus_fits, value) at minus.least))
+    let minus = c.last_of-with_dates.ensures in
+    let near = dates_near s c.series-given.ensures.sound c.day_part.result c.last_of-with_plus.result c.last_of-with_dates.result day
+    (rw (to_z-of_z day_fits) at plus.late) plus.past (rw (to_z-of_z day_fits) at plus.least) (rw (to_z-of_z plus_fits) at minus.late) minus.past
+    (rw (to_z-of_z plus_fits) at minus.least) in
+    rw (to_z-of_z dates_fits) near.0
 
-pub last_day-requires : goal.last_day-requires
-last_day-requires c =
+pub last_of_rules-requires-clause-late : goal.last_of_rules-requires-clause-late
+last_of_rules-requires-clause-late c =
     let value = c.series-given.ensures.value in
-    let start : FitsSigned w64 c.series-given.result.now.start = search rules in
-    let sound = rw value at c.series-given.ensures.sound in
-    let series = c.args.series.now in
-    let listed = c.as_slice-rule-items.ensures ∙ ap (λ s. s.rules) value in
-    let within : c.loop-rule.rule-index < length series.rules = rw listed at c.loop-rule-test.true in
-    let item : get_or series.rules c.loop-rule.rule-index c.rule-item.result ≡ c.rule-item.result = rw listed at (sym c.rule-item.is) in
-    let index = c.loop-rule.rule-index in
-    let fits = rule_is_sound series sound index c.rule-item.result within item in
-    record { sound = rw (to_z-of_z start, value) fits }
+    let s = c.series-given.result.now in
+    let start : FitsSigned w64 s.start = search rules in
+    let day_fits : FitsSigned w64 c.day_part.result = record { sfits = c.day_part.type_inv } in
+    let plus_fits : FitsSigned w64 c.last_of-with_plus.result = record { sfits = c.last_of-with_plus.type_inv } in
+    let dates_fits : FitsSigned w64 c.last_of-with_dates.result = record { sfits = c.last_of-with_dates.type_inv } in
+    let day = rw (to_z-of_z start) at c.day_part.ensures in
+    let plus = c.last_of-with_plus.ensures in
+    let minus = c.last_of-with_dates.ensures in
+    let near = dates_near s c.series-given.ensures.sound c.day_part.result c.last_of-with_plus.result c.last_of-with_dates.result day
+    (rw (to_z-of_z day_fits) at plus.late) plus.past (rw (to_z-of_z day_fits) at plus.least) (rw (to_z-of_z plus_fits) at minus.late) minus.past
+    (rw (to_z-of_z plus_fits) at minus.least) in
+    rw (to_z-of_z start, to_z-of_z dates_fits) near.1
+
+pub last_of_rules-requires-clause-near : goal.last_of_rules-requires-clause-near
+last_of_rules-requires-clause-near c =
+    let value = c.series-given.ensures.value in
+    let s = c.series-given.result.now in
+    let start : FitsSigned w64 s.start = search rules in
+    let day_fits : FitsSigned w64 c.day_part.result = record { sfits = c.day_part.type_inv } in
+    let plus_fits : FitsSigned w64 c.last_of-with_plus.result = record { sfits = c.last_of-with_plus.type_inv } in
+    let dates_fits : FitsSigned w64 c.last_of-with_dates.result = record { sfits = c.last_of-with_dates.type_inv } in
+    let day = rw (to_z-of_z start) at c.day_part.ensures in
+    let plus = c.last_of-with_plus.ensures in
+    let minus = c.last_of-with_dates.ensures in
+    let near = dates_near s c.series-given.ensures.sound c.day_part.result c.last_of-with_plus.result c.last_of-with_dates.result day
+    (rw (to_z-of_z day_fits) at plus.late) plus.past (rw (to_z-of_z day_fits) at plus.least) (rw (to_z-of_z plus_fits) at minus.late) minus.past
+    (rw (to_z-of_z plus_fits) at minus.least) in
+    rw (to_z-of_z dates_fits) near.2
 
 pub returns-in-Err-clause-refused : goal.returns-in-Err-clause-refused
 returns-in-Err-clause-refused c =
-    let value = c.series-given.ensures.value in
-    let start : FitsSigned w64 c.series-given.result.now.start = search rules in
-    let series = c.args.series.now in
-    let listed = c.as_slice-rule-items.ensures ∙ ap (λ s. s.rules) value in
-    let within : c.loop-rule.rule-index < length series.rules = rw listed at c.loop-rule-test.true in
-    let item : get_or series.rules c.loop-rule.rule-index c.rule-item.result ≡ c.rule-item.result = rw listed at (sym c.rule-item.is) in
-    let rule = c.rule-item.result in
+    let s = c.series-given.result.now in
+    let start : FitsSigned w64 s.start = search rules in
     let fault = c.in-Err.fault in
-    let kind = c.series-given.result.now.kind in
-    let given =
-    subst (λ t. RefusedExactlyWhere {X = ℤ} (CountsTooFar kind t rule) CountedTooFar (Err fault)) (to_z-of_z start) c.in-Err.ensures.refused in
-    let refused = subst (λ s. RefusedExactlyWhere {X = ℤ} (CountsTooFar s.kind s.start rule) CountedTooFar (Err fault)) value given in
-    one_too_far series c.loop-rule.rule-index c.rule-item.result c.in-Err.fault within item refused
+    let given = subst (λ t. RefusedExactlyWhere {X = ℤ} (CountSomeTooFar s.kind t c.as_slice.result.now) CountedTooFar (Err fault)) (to_z-of_z start)
+    c.in-Err.ensures.refused in
+    let listed = subst (λ l. RefusedExactlyWhere {X = ℤ} (CountSomeTooFar s.kind s.start l) CountedTooFar (Err fault)) c.as_slice.ensures given in
+    let refused = rule_too_far s fault listed in
+    subst (λ x. RefusedExactlyWhere {X = ℤ} (IsCountedTooFar x) CountedTooFar (Err c.in-Err.fault)) c.series-given.ensures.value refused
 
-pub loop-rule-preserved : goal.loop-rule-preserved
-loop-rule-preserved c =
+pub last_of_rules-requires-2-clause-sound : goal.last_of_rules-requires-2-clause-sound
+last_of_rules-requires-2-clause-sound c =
+    let s = c.series-given.result.now in
+    let start : FitsSigned w64 s.start = search rules in
+    rw (to_z-of_z start, c.as_slice-2.ensures) (excluded_are_sound s c.series-given.ensures.sound)
+
+pub last_of_rules-requires-2-clause-low : goal.last_of_rules-requires-2-clause-low
+last_of_rules-requires-2-clause-low c =
     let value = c.series-given.ensures.value in
-    let start : FitsSigned w64 c.series-given.result.now.start = search rules in
-    let max_fits : FitsSigned w64 c.max-last.result = record { sfits = c.max-last.type_inv } in
-    let series = c.args.series.now in
-    let listed = c.as_slice-rule-items.ensures ∙ ap (λ s. s.rules) value in
-    let within : c.loop-rule.rule-index < length series.rules = rw listed at c.loop-rule-test.true in
-    let item : get_or series.rules c.loop-rule.rule-index c.rule-item.result ≡ c.rule-item.result = rw listed at (sym c.rule-item.is) in
-    let day = rw (to_z-of_z start, value) at c.in-Ok.ensures.day in
-    let refused = rw (to_z-of_z start, value) at c.in-Ok.ensures.refused in
-    let near = c.in-Ok.ensures.near in
-    let gathered = c.loop-rule.invariant in
-    let sound = rw value at c.series-given.ensures.sound in
-    let low = (four_digit_bounds (day_part series.kind series.start) sound.valid.start).0 in
-    let same : to_z w64 (of_z w64 c.in-Ok.day) ≡ c.in-Ok.day = omega (arith, ints, near, day.late, low) in
-    let both = rw same at c.max-last.ensures.value in
-    let more =
-    gathered_more series c.loop-rule.rule-index _ gathered c.rule-item.result c.in-Ok.day c.max-last.result within item day near refused both in
-    rw (to_z-of_z max_fits) more
+    let s = c.series-given.result.now in
+    let start : FitsSigned w64 s.start = search rules in
+    let day_fits : FitsSigned w64 c.day_part.result = record { sfits = c.day_part.type_inv } in
+    let plus_fits : FitsSigned w64 c.last_of-with_plus.result = record { sfits = c.last_of-with_plus.type_inv } in
+    let dates_fits : FitsSigned w64 c.last_of-with_dates.result = record { sfits = c.last_of-with_dates.type_inv } in
+    let day = rw (to_z-of_z start) at c.day_part.ensures in
+    let plus = c.last_of-with_plus.ensures in
+    let minus = c.last_of-with_dates.ensures in
+    let near = dates_near s c.series-given.ensures.sound c.day_part.result c.last_of-with_plus.result c.last_of-with_dates.result day
+    (rw (to_z-of_z day_fits) at plus.late) plus.past (rw (to_z-of_z day_fits) at plus.least) (rw (to_z-of_z plus_fits) at minus.late) minus.past
+    (rw (to_z-of_z plus_fits) at minus.least) in
+    let by_rules = rw (to_z-of_z start, to_z-of_z dates_fits, c.as_slice.ensures) at c.in-Ok.ensures.last in
+    let rules_is : to_z w64 (of_z w64 c.in-Ok.day) ≡ c.in-Ok.day = omega (arith, ints, by_rules.late, near.0, c.in-Ok.ensures.near) in
+    rw rules_is (omega (arith, ints, by_rules.late, near.0))
 
-pub returns-clause-settled : goal.returns-clause-settled
-returns-clause-settled c =
-    let listed = c.as_slice-rule-items.ensures ∙ ap (λ s. s.rules) c.series-given.ensures.value in
-    let gathered = c.loop-rule.invariant in
-    let last : ℤ = to_z w64 c.loop-rule.last-bits in
-    let same : to_z w64 (of_z w64 (last +ℤ pos 1)) ≡ last +ℤ pos 1 = omega (arith, ints, gathered.low, gathered.high) in
-    rw same (gathered_all c.args.series.now c.loop-rule.rule-index last gathered (rw listed at c.loop-rule-test.false))
+pub last_of_rules-requires-2-clause-late : goal.last_of_rules-requires-2-clause-late
+last_of_rules-requires-2-clause-late c =
+    let value = c.series-given.ensures.value in
+    let s = c.series-given.result.now in
+    let start : FitsSigned w64 s.start = search rules in
+    let day_fits : FitsSigned w64 c.day_part.result = record { sfits = c.day_part.type_inv } in
+    let plus_fits : FitsSigned w64 c.last_of-with_plus.result = record { sfits = c.last_of-with_plus.type_inv } in
+    let dates_fits : FitsSigned w64 c.last_of-with_dates.result = record { sfits = c.last_of-with_dates.type_inv } in
+    let day = rw (to_z-of_z start) at c.day_part.ensures in
+    let plus = c.last_of-with_plus.ensures in
+    let minus = c.last_of-with_dates.ensures in
+    let near = dates_near s c.series-given.ensures.sound c.day_part.result c.last_of-with_plus.result c.last_of-with_dates.result day
+    (rw (to_z-of_z day_fits) at plus.late) plus.past (rw (to_z-of_z day_fits) at plus.least) (rw (to_z-of_z plus_fits) at minus.late) minus.past
+    (rw (to_z-of_z plus_fits) at minus.least) in
+    let by_rules = rw (to_z-of_z start, to_z-of_z dates_fits, c.as_slice.ensures) at c.in-Ok.ensures.last in
+    let rules_is : to_z w64 (of_z w64 c.in-Ok.day) ≡ c.in-Ok.day = omega (arith, ints, by_rules.late, near.0, c.in-Ok.ensures.near) in
+    rw (to_z-of_z start, rules_is) (omega (arith, ints, by_rules.late, near.1))
 
-pub returns-clause-refused : goal.returns-clause-refused
-returns-clause-refused c =
-    let listed = c.as_slice-rule-items.ensures ∙ ap (λ s. s.rules) c.series-given.ensures.value in
-    none_too_far c.args.series.now c.loop-rule.rule-index _ c.loop-rule.invariant (rw listed at c.loop-rule-test.false)
+pub last_of_rules-requires-2-clause-near : goal.last_of_rules-requires-2-clause-near
+last_of_rules-requires-2-clause-near c =
+    let value = c.series-given.ensures.value in
+    let s = c.series-given.result.now in
+    let start : FitsSigned w64 s.start = search rules in
+    let day_fits : FitsSigned w64 c.day_part.result = record { sfits = c.day_part.type_inv } in
+    let plus_fits : FitsSigned w64 c.last_of-with_plus.result = record { sfits = c.last_of-with_plus.type_inv } in
+    let dates_fits : FitsSigned w64 c.last_of-with_dates.result = record { sfits = c.last_of-with_dates.type_inv } in
+    let day = rw (to_z-of_z start) at c.day_part.ensures in
+    let plus = c.last_of-with_plus.ensures in
+    let minus = c.last_of-with_dates.ensures in
+    let near = dates_near s c.series-given.ensures.sound c.day_part.result c.last_of-with_plus.result c.last_of-with_dates.result day
+    (rw (to_z-of_z day_fits) at plus.late) plus.past (rw (to_z-of_z day_fits) at plus.least) (rw (to_z-of_z plus_fits) at minus.late) minus.past
+    (rw (to_z-of_z plus_fits) at minus.least) in
+    let by_rules = rw (to_z-of_z start, to_z-of_z dates_fits, c.as_slice.ensures) at c.in-Ok.ensures.last in
+    let rules_is : to_z w64 (of_z w64 c.in-Ok.day) ≡ c.in-Ok.day = omega (arith, ints, by_rules.late, near.0, c.in-Ok.ensures.near) in
+    rw rules_is c.in-Ok.ensures.near
+
+pub returns-in-Ok-last_of_rules-clause-settled : goal.returns-in-Ok-last_of_rules-clause-settled
+returns-in-Ok-last_of_rules-clause-settled c =
+    let value = c.series-given.ensures.value in
+    let s = c.series-given.result.now in
+    let start : FitsSigned w64 s.start = search rules in
+    let day_fits : FitsSigned w64 c.day_part.result = record { sfits = c.day_part.type_inv } in
+    let plus_fits : FitsSigned w64 c.last_of-with_plus.result = record { sfits = c.last_of-with_plus.type_inv } in
+    let dates_fits : FitsSigned w64 c.last_of-with_dates.result = record { sfits = c.last_of-with_dates.type_inv } in
+    let day = rw (to_z-of_z start) at c.day_part.ensures in
+    let plus = c.last_of-with_plus.ensures in
+    let minus = c.last_of-with_dates.ensures in
+    let near = dates_near s c.series-given.ensures.sound c.day_part.result c.last_of-with_plus.result c.last_of-with_dates.result day
+    (rw (to_z-of_z day_fits) at plus.late) plus.past (rw (to_z-of_z day_fits) at plus.least) (rw (to_z-of_z plus_fits) at minus.late) minus.past
+    (rw (to_z-of_z plus_fits) at minus.least) in
+    let by_rules = rw (to_z-of_z start, to_z-of_z dates_fits, c.as_slice.ensures) at c.in-Ok.ensures.last in
+    let rules_is : to_z w64 (of_z w64 c.in-Ok.day) ≡ c.in-Ok.day = omega (arith, ints, by_rules.late, near.0, c.in-Ok.ensures.near) in
+    let by_all = rw (to_z-of_z start, rules_is, c.as_slice-2.ensures) at c.in-Ok-last_of_rules.ensures.last in
+    let last_is : to_z w64 (of_z w64 c.in-Ok-last_of_rules.day) ≡ c.in-Ok-last_of_rules.day =
+    omega (arith, ints, by_all.late, by_rules.late, near.0, c.in-Ok-last_of_rules.ensures.near) in
+    let next_is : to_z w64 (of_z w64 (to_z w64 (of_z w64 c.in-Ok-last_of_rules.day) +ℤ pos 1)) ≡ c.in-Ok-last_of_rules.day +ℤ pos 1 =
+    rw last_is (omega (arith, ints, by_all.late, by_rules.late, near.0, c.in-Ok-last_of_rules.ensures.near)) in
+    let settled = settled_is s c.series-given.ensures.sound c.day_part.result c.last_of-with_plus.result c.last_of-with_dates.result day
+    (rw (to_z-of_z day_fits) at plus.late) plus.past (rw (to_z-of_z day_fits) at plus.least) (rw (to_z-of_z plus_fits) at minus.late) minus.past
+    (rw (to_z-of_z plus_fits) at minus.least) c.in-Ok.day c.in-Ok-last_of_rules.day by_rules by_all in
+    rw next_is (subst (λ x. IsSettledDay x (c.in-Ok-last_of_rules.day +ℤ pos 1)) value settled)
+
+pub returns-in-Ok-last_of_rules-clause-near : goal.returns-in-Ok-last_of_rules-clause-near
+returns-in-Ok-last_of_rules-clause-near c =
+    let value = c.series-given.ensures.value in
+    let s = c.series-given.result.now in
+    let start : FitsSigned w64 s.start = search rules in
+    let day_fits : FitsSigned w64 c.day_part.result = record { sfits = c.day_part.type_inv } in
+    let plus_fits : FitsSigned w64 c.last_of-with_plus.result = record { sfits = c.last_of-with_plus.type_inv } in
+    let dates_fits : FitsSigned w64 c.last_of-with_dates.result = record { sfits = c.last_of-with_dates.type_inv } in
+    let day = rw (to_z-of_z start) at c.day_part.ensures in
+    let plus = c.last_of-with_plus.ensures in
+    let minus = c.last_of-with_dates.ensures in
+    let near = dates_near s c.series-given.ensures.sound c.day_part.result c.last_of-with_plus.result c.last_of-with_dates.result day
+    (rw (to_z-of_z day_fits) at plus.late) plus.past (rw (to_z-of_z day_fits) at plus.least) (rw (to_z-of_z plus_fits) at minus.late) minus.past
+    (rw (to_z-of_z plus_fits) at minus.least) in
+    let by_rules = rw (to_z-of_z start, to_z-of_z dates_fits, c.as_slice.ensures) at c.in-Ok.ensures.last in
+    let rules_is : to_z w64 (of_z w64 c.in-Ok.day) ≡ c.in-Ok.day = omega (arith, ints, by_rules.late, near.0, c.in-Ok.ensures.near) in
+    let by_all = rw (to_z-of_z start, rules_is, c.as_slice-2.ensures) at c.in-Ok-last_of_rules.ensures.last in
+    let last_is : to_z w64 (of_z w64 c.in-Ok-last_of_rules.day) ≡ c.in-Ok-last_of_rules.day =
+    omega (arith, ints, by_all.late, by_rules.late, near.0, c.in-Ok-last_of_rules.ensures.near) in
+    let next_is : to_z w64 (of_z w64 (to_z w64 (of_z w64 c.in-Ok-last_of_rules.day) +ℤ pos 1)) ≡ c.in-Ok-last_of_rules.day +ℤ pos 1 =
+    rw last_is (omega (arith, ints, by_all.late, by_rules.late, near.0, c.in-Ok-last_of_rules.ensures.near)) in
+    rw next_is (omega (arith, ints, by_all.late, by_rules.late, near.0), omega (arith, ints, c.in-Ok-last_of_rules.ensures.near))
+
+pub returns-in-Ok-last_of_rules-clause-refused : goal.returns-in-Ok-last_of_rules-clause-refused
+returns-in-Ok-last_of_rules-clause-refused c =
+    let s = c.series-given.result.now in
+    let start : FitsSigned w64 s.start = search rules in
+    let a = rw (to_z-of_z start, c.as_slice.ensures) at c.in-Ok.ensures.refused in
+    let b = rw (to_z-of_z start, c.as_slice-2.ensures) at c.in-Ok-last_of_rules.ensures.refused in
+    subst (λ x. IsCountedTooFar x → ⊥) c.series-given.ensures.value (neither_too_far s a b)
+
+pub returns-in-Err-last_of_rules-clause-refused : goal.returns-in-Err-last_of_rules-clause-refused
+returns-in-Err-last_of_rules-clause-refused c =
+    let s = c.series-given.result.now in
+    let start : FitsSigned w64 s.start = search rules in
+    let fault = c.in-Err-last_of_rules.fault in
+    let given = subst (λ t. RefusedExactlyWhere {X = ℤ} (CountSomeTooFar s.kind t c.as_slice-2.result.now) CountedTooFar (Err fault)) (to_z-of_z start)
+    c.in-Err-last_of_rules.ensures.refused in
+    let listed = subst (λ l. RefusedExactlyWhere {X = ℤ} (CountSomeTooFar s.kind s.start l) CountedTooFar (Err fault)) c.as_slice-2.ensures given in
+    let refused = excluded_too_far s fault listed in
+    subst (λ x. RefusedExactlyWhere {X = ℤ} (IsCountedTooFar x) CountedTooFar (Err fault)) c.series-given.ensures.value refused

@@ -4,5 +4,5 @@ use Rattle.rr_rrule.proofs.write_series.push_rules.Goals as goal
 
 pub loop-rule-preserved : goal.loop-rule-preserved
 loop-rule-preserved c =
-    one_written rule_line c.loop-rule.out.items c.push_rule_line.new.out.items _ c.args.rules.now c.loop-rule.rule-index c.rule-item.result _
+    one_written (rule_line c.args.name.now) c.loop-rule.out.items c.push_rule_line.new.out.items _ c.args.rules.now c.loop-rule.rule-index c.rule-item.result _
     c.loop-rule-test.true c.rule-item.is c.loop-rule.invariant c.in_ok-push_rule_line.ensures

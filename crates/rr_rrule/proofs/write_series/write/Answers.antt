@@ -4,6 +4,6 @@ use Rattle.rr_rrule.proofs.write_series.write.Goals as goal
 
 pub returns : goal.returns
 returns c =
-    series_written c.args.series.now c.push_date_line.new.out.items c.push_rules.new.out.items c.push_dates.new.out.items c.push_dates-2.new.out.items
-    c.as_slice.result.now c.as_slice-2.result.now c.as_slice-3.result.now
-    (search rules) (search rules) (search rules) (search rules) (search rules) (search rules) (search rules)
+    series_written c.args.series.now c.push_date_line.new.out.items c.push_rules.new.out.items c.push_rules-2.new.out.items c.push_dates.new.out.items
+    c.push_dates-2.new.out.items c.as_slice.result.now c.as_slice-2.result.now c.as_slice-3.result.now c.as_slice-4.result.now
+    (search rules) (search rules) (search rules) (search rules) (search rules) (search rules) (search rules) (search rules) (search rules)

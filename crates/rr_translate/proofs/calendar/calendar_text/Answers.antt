@@ -8,7 +8,7 @@ use Rattle.rr_model.specs.declared.rule.Series.{Series}
 use Rattle.rr_translate.specs.OneEnd.{with_one_ends}
 use Rattle.rr_translate.specs.Translated.{IsCalendarText}
 use Rattle.rr_translate.proofs.CalendarLemmas.{is_calendar_text}
-use Rattle.rr_translate.proofs.OneEndLemmas.{ends_are_one, series_valid}
+use Rattle.rr_translate.proofs.OneEndLemmas.{ends_are_one, excluded_ends_are_one, series_valid}
 use Rattle.rr_translate.proofs.calendar.calendar_text.Goals as goal
 
 pub write-requires-clause-valid : goal.write-requires-clause-valid
@@ -16,6 +16,10 @@ write-requires-clause-valid c = subst IsValidSeries (sym c.in_ok-series.ensures)
 
 pub write-requires-clause-one : goal.write-requires-clause-one
 write-requires-clause-one c = subst (λ (s : Series). All (λ rule. IsOneEnd rule.end) s.rules) (sym c.in_ok-series.ensures) (ends_are_one c.series.result.now)
+
+pub write-requires-clause-excluded_one : goal.write-requires-clause-excluded_one
+write-requires-clause-excluded_one c =
+    subst (λ (s : Series). All (λ rule. IsOneEnd rule.end) s.excluded) (sym c.in_ok-series.ensures) (excluded_ends_are_one c.series.result.now)
 
 pub returns : goal.returns
 returns c =

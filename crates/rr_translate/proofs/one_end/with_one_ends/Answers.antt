@@ -10,4 +10,6 @@ returns c =
     let start = moment_back s.kind s.start c.requires.sound.valid.start in
     let rules = c.in_ok-rules_with_one_end.ensures ∙ ap (λ z. map (with_one_end s.kind z) c.as_slice.result.now) start
     ∙ ap (map (with_one_end s.kind s.start)) c.as_slice.ensures in
-    rw (start, rules, c.in_ok-copy.ensures, c.in_ok-copy-2.ensures) refl
+    let excluded = c.in_ok-rules_with_one_end-2.ensures ∙ ap (λ z. map (with_one_end s.kind z) c.as_slice-2.result.now) start
+    ∙ ap (map (with_one_end s.kind s.start)) c.as_slice-2.ensures in
+    rw (start, rules, excluded, c.in_ok-copy.ensures, c.in_ok-copy-2.ensures) refl

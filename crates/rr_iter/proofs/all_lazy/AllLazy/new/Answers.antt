@@ -1,4 +1,4 @@
-use Rattle.std.proofs.Common.{sym, ap, ◌∙◌, subst}
+use Rattle.std.proofs.Common.{rules, sym, ap, ◌∙◌, subst, w64, to_z-of_z, FitsSigned}
 use Rattle.std.specs.Prelude.{All}
 use Rattle.rr_model.specs.Moment.Years.{IsInYears}
 use Rattle.rr_model.specs.Sets.Tree.{dates_of}
@@ -14,7 +14,8 @@ pub new-requires-2-clause-one_kind : goal.new-requires-2-clause-one_kind
 new-requires-2-clause-one_kind c =
     let series = c.args.series.now in
     let dates = c.new-dates.ensures.tree ∙ ap (dates_of series.kind) c.in_ok-dates_with_start.ensures in
-    all_one_kind series _ _ c.requires.sound dates c.in_ok-rules.ensures.tree
+    let fits : FitsSigned w64 series.start = search rules in
+    all_one_kind series _ _ c.requires.sound dates (rw (to_z-of_z fits, c.as_slice.ensures) at c.in_ok-rules.ensures.tree)
 
 pub returns-clause-knows : goal.returns-clause-knows
 returns-clause-knows c sets = c.new-2.ensures.knows sets (c.new-dates.ensures.knows sets) (c.in_ok-rules.ensures.knows sets)

@@ -9,7 +9,7 @@ use Rattle.rr_iter.proofs.rules_lazy.RulesLazy.new.Given as goal
 
 abbrev pub invariant-loop-rule : goal.invariant-loop-rule
 invariant-loop-rule l =
-    (many (forest_of (λ p. tree_of_ended p.lazy) l.lazy.parts.items) ≡ many (members_of_all l.series.kind l.series.start (take l.rule-index l.rule-items)))
+    (many (forest_of (λ p. tree_of_ended p.lazy) l.lazy.parts.items) ≡ many (members_of_all l.kind l.start (take l.rule-index l.rules)))
     × (l.lazy.position ≡ first_day_of_year (pos 1))
     × ((sets : List (List ℕ)) → All (λ p. knows_ended p.lazy sets × IsAheadIn sets (tree_of_ended p.lazy) (position_of_ended p.lazy) l.lazy.position p.ahead)
     l.lazy.parts.items)

@@ -1,0 +1,55 @@
+-- Two lists of days that are combined day by day.
+use Rattle.std.specs.Prelude.{◌≡◌, ◌≢◌, ◌⊎◌, ℕ, ◌<◌, ◌≤◌, Bool, not, ◌&&◌, ◌||◌, List, [], All, Contains, get_or, length, nat_lt}
+use Rattle.rr_model.specs.Rising.Sets.{IsSetOf}
+use Rattle.rr_model.specs.Sets.Sizes.{total_size}
+use Rattle.rr_model.specs.declared.limits.TheConstants.{MAX_SECONDS}
+use Rattle.rr_shapes.specs.Tables.{Extends}
+use Rattle.rr_shapes.specs.declared.unions.Pair.{Pair}
+use Rattle.rr_fold.specs.declared.combined.Op.{Op}
+use Rattle.rr_fold.specs.declared.combined.Op.TheVariants.{Union, Minus}
+
+-- a second is in what two sets are combined into: in either, or in the first and not in the second
+abbrev pub Has : Op → List ℕ → List ℕ → ℕ → Type 0
+Has Union x y s = Contains x s ⊎ Contains y s
+Has Minus x y s = Contains x s × ¬ Contains y s
+
+-- the same of what passes two tests
+abbrev pub holds : Op → Bool → Bool → Bool
+holds Union a b = a || b
+holds Minus a b = a && not b
+
+-- the set of one number is the combination of those of two numbers, each in a list of its own
+pub record IsCombinationOf (op : Op) (one other sets : List (List ℕ)) (a b number : ℕ) : Type 0 where
+  pub within : number < length sets
+  pub set : IsSetOf nat_lt (get_or sets number []) (Has op (get_or one a []) (get_or other b []))
+
+-- the set that has number 0 is empty, and all sets together are within the limit
+pub record AreShapes (sets : List (List ℕ)) : Type 0 where
+  pub within : 0 < length sets
+  pub empty : get_or sets 0 [] ≡ []
+  pub few : total_size sets ≤ MAX_SECONDS
+
+-- of each pair that is known the combination is that of its number, which is a 32-bit number
+abbrev pub AreCombinationsOf : Op → List (List ℕ) → List (List ℕ) → List (List ℕ) → List (Pair × ℕ) → Type 0
+AreCombinationsOf op one other sets known = All (λ k. (k.1 ≤ 4_294_967_295) × IsCombinationOf op one other sets k.0.a k.0.b k.1) known
+
+-- sets that are there keep their numbers, and no set comes but that of this number
+pub record IsGrown (old new : List (List ℕ)) (number : ℕ) : Type 0 where
+  pub kept : Extends old new
+  pub added : (k : ℕ) → k < length new → (k < length old) ⊎ (k ≡ number)
+
+-- each number is that of the combination of the sets of both numbers at its place
+abbrev pub AreCombinedTo : Op → ℕ → List (List ℕ) → List ℕ → List (List ℕ) → List ℕ → List (List ℕ) → List ℕ → Type 0
+AreCombinedTo op n one ones other others sets numbers = (k : ℕ) → k < n → IsCombinationOf op one other sets (get_or ones k 0) (get_or others k 0) (get_or numbers k 0)
+
+-- each set, but an empty one, is that of one of the first n numbers
+abbrev pub AreUsed : ℕ → List (List ℕ) → List ℕ → Type 0
+AreUsed n sets numbers =
+    (number : ℕ) → number < length sets → get_or sets number [] ≢ [] → (k : ℕ) × ((k < n) × (get_or numbers k 0 ≡ number))
+
+-- as many numbers as each list has, each that of a combination, and no sets but theirs and the empty one
+pub record AreCombined (op : Op) (one : List (List ℕ)) (ones : List ℕ) (other : List (List ℕ)) (others : List ℕ) (sets : List (List ℕ)) (numbers : List ℕ) : Type 0 where
+  pub whole : length numbers ≡ length ones
+  pub shapes : AreShapes sets
+  pub combined : AreCombinedTo op (length ones) one ones other others sets numbers
+  pub used : AreUsed (length ones) sets numbers

@@ -1,0 +1,64 @@
+// What is left of a series once the members of its excluded rules are taken out.
+ghost use Rattle.std.specs.Prelude.{◌≡◌, IfOk, List, ℕ};
+ghost use Rattle.rr_model.specs.Series.Soundness.{IsSound};
+ghost use Rattle.rr_model.specs.Series.Tree.{members_of_all, tree_of_given};
+ghost use Rattle.rr_lazy.specs.Next.{IsUnasked};
+
+use crate::{AllLazy, RulesLazy};
+use rr_lazy::{Except, Lazy, OccupiedDay};
+use rr_model::{NoMemory, Series};
+use rr_shapes::SetTable;
+use std::alloc::Global;
+
+/// The dates that are added to a series and the members of its rules, except the members of its excluded rules.
+#[derive(Drop)]
+pub struct KeptLazy {
+    pub(crate) lazy: Except<AllLazy, RulesLazy>,
+}
+
+impl KeptLazy {
+    ghost use Rattle.rr_model.specs.Sets.Tree.{except, many};
+
+    /// The dates of a series, its start among them where it counts, and the members of its rules that no excluded rule has.
+    pub(crate) fn new(alloc: Global, series: &Series) -> Result<KeptLazy, NoMemory>
+        requires sound { IsSound series.now }
+        ensures tree { IfOk result (λ l. ⟦<KeptLazy as Lazy>⟧.tree l ≡ except (tree_of_given series.now) (many (members_of_all series.now.kind series.now.start series.now.excluded))) }
+        ensures unasked { IfOk result (λ l. IsUnasked (⟦<KeptLazy as Lazy>⟧.position l)) }
+        ensures knows { IfOk result (λ l. (sets : List (List ℕ)) → ⟦<KeptLazy as Lazy>⟧.knows l sets) }
+    {
+        let all = AllLazy::new(alloc, series)?;
+        let excluded = RulesLazy::new(
+            alloc,
+            series.kind,
+            series.start,
+            series.excluded.as_slice(),
+        )?;
+        Ok(KeptLazy {
+            lazy: Except::new(all, excluded),
+        })
+    }
+}
+
+impl Lazy for KeptLazy {
+    ghost use Rattle.rr_iter.specs.KnowsKept.{knows_kept, knows_kept_more};
+    ghost use Rattle.rr_lazy.specs.Except.{sound_except};
+
+    ghost tree = { λ s. ⟦<Except<AllLazy, RulesLazy> as Lazy>⟧.tree s.lazy };
+
+    ghost position = { λ s. ⟦<Except<AllLazy, RulesLazy> as Lazy>⟧.position s.lazy };
+
+    ghost knows = { knows_kept };
+
+    ghost knows_more = { knows_kept_more };
+
+    ghost sound = { λ s. sound_except (⟦<AllLazy as Lazy>⟧.tree s.lazy.a) (⟦<RulesLazy as Lazy>⟧.tree s.lazy.b) s.lazy.position s.lazy.one_kind s.lazy.begun };
+
+    fn next(
+        &mut self,
+        alloc: Global,
+        sets: &mut SetTable,
+        to: i64,
+    ) -> Result<Option<OccupiedDay>, NoMemory> {
+        self.lazy.next(alloc, sets, to)
+    }
+}

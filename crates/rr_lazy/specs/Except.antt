@@ -1,0 +1,77 @@
+-- What is left of one part once the occurrences of another are taken out.
+use Rattle.std.specs.Prelude.{◌≡◌, ◌≢◌, ◌↔◌, ℕ, true, false, List, [], Contains, Result, Ok, Err, Option, Some, None, ℤ, pos, ◌+ℤ◌, ◌≤ℤ◌, ◌<ℤ◌}
+use Rattle.std.specs.Option.{ForSome, ForNone}
+use Rattle.rr_model.specs.Calendar.{first_day_of_year}
+use Rattle.rr_model.specs.declared.refusal.NoMemory.{NoMemory}
+use Rattle.rr_model.specs.Sets.Tree.{Tree, except, stands_at, IsOfOneKind}
+use Rattle.rr_shapes.specs.Tables.{Extends}
+use Rattle.rr_lazy.specs.declared.occupied_day.OccupiedDay.{OccupiedDay}
+use Rattle.rr_lazy.specs.Next.{HasNone, IsNextIn, IsSoundLazy, with_set}
+use Rattle.rr_lazy.specs.Ahead.{IsAheadIn, IsGivenOn}
+use Rattle.rr_lazy.specs.Tables.{ahead_more}
+
+-- a part: what it stands for, where it goes on, and the day that it gave and that was not passed on
+pub record Part : Type 0 where
+  pub tree : Tree
+  pub own : ℤ
+  pub ahead : Option OccupiedDay
+
+-- a part of these
+abbrev pub part_of : Tree → ℤ → Option OccupiedDay → Part
+part_of tree own ahead = record { tree = tree; own = own; ahead = ahead }
+
+-- what is known of a part from some day on that is not after this one
+pub record IsAheadUpTo (sets : List (List ℕ)) (part : Part) (day : ℤ) : Type 0 where
+  pub from : ℤ
+  pub early : from ≤ℤ day
+  pub known : IsAheadIn sets part.tree part.own from part.ahead
+
+-- What is known of two parts from a position on: the day that the first one gave, from some day on, before which nothing is left once
+-- the second one is taken out; and of the second one at least as much.
+pub record KnowsBoth (sets : List (List ℕ)) (a b : Part) (position : ℤ) : Type 0 where
+  pub from : ℤ
+  pub order : position ≤ℤ from
+  pub passed : HasNone (except a.tree b.tree) position from
+  pub known : IsAheadIn sets a.tree a.own from a.ahead
+  pub out : IsAheadUpTo sets b from
+
+-- the seconds of a day that one part gave and another, which gave the day too, lacks; None where it lacks none
+abbrev pub IsLacking : List (List ℕ) → OccupiedDay → OccupiedDay → List (List ℕ) → Option OccupiedDay → Type 0
+IsLacking old a b new None = (s : ℕ) → Contains ((with_set old a).times) s → ¬ ¬ Contains ((with_set old b).times) s
+IsLacking old a b new (Some found) =
+    (found.day ≡ a.day) × IsGivenOn new found × (((with_set new found).times) ≢ [])
+    × ((s : ℕ) → Contains ((with_set new found).times) s ↔ (Contains ((with_set old a).times) s × ¬ Contains ((with_set old b).times) s))
+
+-- what is left of a day once what stands in a tree is taken out; None where nothing is
+abbrev pub IsLeftBy : List (List ℕ) → Tree → OccupiedDay → List (List ℕ) → Option OccupiedDay → Type 0
+IsLeftBy old out given new None = (s : ℕ) → Contains ((with_set old given).times) s → stands_at out given.day s ≡ true
+IsLeftBy old out given new (Some found) =
+    (found.day ≡ given.day) × IsGivenOn new found × (((with_set new found).times) ≢ [])
+    × ((s : ℕ) → Contains ((with_set new found).times) s ↔ (Contains ((with_set old given).times) s × (stands_at out given.day s ≡ false)))
+
+-- What is given up to a day once the second part is taken out, by what was known of both before and is known after: a day of which
+-- something is left, and no such day was passed over; or nothing, where what is known of the first part after it lies past the day.
+abbrev pub IsNextOfBoth : List (List ℕ) → List (List ℕ) → Part → Part → Part → Part → ℤ → Result (Option OccupiedDay) NoMemory → Type 0
+IsNextOfBoth old new a a' b b' to (Ok (Some found)) =
+    (position : ℤ) → KnowsBoth old a b position
+    → IsNextIn new (except a.tree b.tree) position to (Ok (Some found)) (found.day +ℤ pos 1) × KnowsBoth new a' b' (found.day +ℤ pos 1)
+IsNextOfBoth old new a a' b b' to (Ok None) =
+    ForSome a'.ahead (λ f. to <ℤ f.day) × ForNone a'.ahead (to <ℤ a'.own)
+    × ((position : ℤ) → KnowsBoth old a b position → KnowsBoth new a' b' position)
+IsNextOfBoth old new a a' b b' to (Err e) = (position : ℤ) → KnowsBoth old a b position → KnowsBoth new a' b' position
+
+pub up_to_more : (old new : List (List ℕ)) (part : Part) (day : ℤ) → Extends old new → IsAheadUpTo old part day → IsAheadUpTo new part day
+up_to_more old new part day more k =
+    record { from = k.from; early = k.early; known = ahead_more old new part.tree part.own k.from part.ahead more k.known }
+
+pub knows_both_more : (old new : List (List ℕ)) (a b : Part) (position : ℤ) → Extends old new → KnowsBoth old a b position → KnowsBoth new a b position
+knows_both_more old new a b position more k = record {
+  from = k.from;
+  order = k.order;
+  passed = k.passed;
+  known = ahead_more old new a.tree a.own k.from a.ahead more k.known;
+  out = up_to_more old new b k.from more k.out;
+}
+
+pub sound_except : (a b : Tree) (position : ℤ) → IsOfOneKind (except a b) → first_day_of_year (pos 1) ≤ℤ position → IsSoundLazy (except a b) position
+sound_except a b position k s = record { of_kind = k; in_years = s }

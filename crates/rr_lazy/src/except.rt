@@ -1,0 +1,214 @@
+// The occurrences of one part that another lacks.
+ghost use Rattle.std.specs.Prelude.{◌≡◌, ◌≢◌, ◌≤ℤ◌, ◌<ℤ◌, [], IfOk, OnOk, List, ℕ, ℤ, neg_ℤ, pos};
+ghost use Rattle.std.specs.Option.{ForNone, ForSome};
+ghost use Rattle.rr_model.specs.Calendar.{first_day_of_year};
+ghost use Rattle.rr_model.proofs.TreeLemmas.{IsOfOneKind-prop};
+ghost use Rattle.rr_model.specs.Sets.Tree.{IsOfOneKind, except};
+ghost use Rattle.rr_shapes.specs.Tables.{Extends};
+ghost use Rattle.rr_lazy.specs.Ahead.{IsGivenOn};
+ghost use Rattle.rr_lazy.specs.Except.{IsAheadUpTo, IsLacking, IsLeftBy, IsNextOfBoth, KnowsBoth, part_of};
+ghost use Rattle.rr_lazy.specs.Next.{IsUnasked, with_set};
+
+use crate::ahead::{fill, of_day};
+use crate::position::past;
+use crate::{Lazy, OccupiedDay};
+use rr_model::NoMemory;
+use rr_shapes::SetTable;
+use std::alloc::Global;
+
+/// The occurrences of one part that another lacks. The other part is asked only up to the days of the first one.
+#[derive(Drop)]
+pub struct Except<A: Lazy + Drop, B: Lazy + Drop> {
+    a: A,
+    b: B,
+    position: i64,
+    ahead_a: Option<OccupiedDay>,
+    ahead_b: Option<OccupiedDay>,
+    ghost begun: { first_day_of_year (pos 1) ≤ℤ position },
+    ghost one_kind: { IsOfOneKind (except (A.tree a) (B.tree b)) } by { IsOfOneKind-prop (except (A.tree a) (B.tree b)) },
+}
+
+impl<A: Lazy + Drop, B: Lazy + Drop> Except<A, B> {
+    /// The occurrences of a first part that a second one lacks. Both are of one kind, and neither has been asked.
+    pub fn new(a: A, b: B) -> Except<A, B>
+        requires one_kind { IsOfOneKind (except (A.tree a) (B.tree b)) }
+        requires a { IsUnasked (A.position a) }
+        requires b { IsUnasked (B.position b) }
+        ensures tree { ⟦<Except<A, B> as Lazy>⟧.tree result ≡ except (A.tree a) (B.tree b) }
+        ensures unasked { IsUnasked (⟦<Except<A, B> as Lazy>⟧.position result) }
+        ensures knows { (sets : List (List ℕ)) → A.knows a sets → B.knows b sets → ⟦<Except<A, B> as Lazy>⟧.knows result sets }
+    {
+        Except {
+            a,
+            b,
+            position: -719_162,
+            ahead_a: None,
+            ahead_b: None,
+        }
+    }
+}
+
+impl<A: Lazy + Drop, B: Lazy + Drop> Lazy for Except<A, B> {
+    ghost use Rattle.rr_model.specs.Sets.Tree.{except};
+    ghost use Rattle.rr_lazy.specs.Except.{KnowsBoth, knows_both_more, part_of, sound_except};
+
+    ghost tree = { λ s. except (A.tree s.a) (B.tree s.b) };
+
+    ghost position = { λ s. s.position };
+
+    ghost knows = { λ s sets. A.knows s.a sets × B.knows s.b sets × KnowsBoth sets (part_of (A.tree s.a) (A.position s.a) s.ahead_a) (part_of (B.tree s.b) (B.position s.b) s.ahead_b) s.position };
+
+    ghost knows_more = { λ s old new more k. (A.knows_more s.a old new more k.0, B.knows_more s.b old new more k.1, knows_both_more old new _ _ _ more k.2) };
+
+    ghost sound = { λ s. sound_except (A.tree s.a) (B.tree s.b) s.position s.one_kind s.begun };
+
+    fn next(
+        &mut self,
+        alloc: Global,
+        sets: &mut SetTable,
+        to: i64,
+    ) -> Result<Option<OccupiedDay>, NoMemory> {
+        match next_of_both(
+            alloc,
+            sets,
+            &mut self.a,
+            &mut self.ahead_a,
+            &mut self.b,
+            &mut self.ahead_b,
+            to,
+        )? {
+            None => {
+                self.position = past(self.position, to);
+                Ok(None)
+            }
+            Some(found) => {
+                self.position = found.day + 1;
+                Ok(Some(found))
+            }
+        }
+    }
+}
+
+// The first day up to `to` of which something is left once the second part is taken out. A day that the first part gave is
+// kept until it is known what is left of it, so that want of memory loses none.
+fn next_of_both<A: Lazy, B: Lazy>(
+    alloc: Global,
+    sets: &mut SetTable,
+    a: &mut A,
+    ahead_a: &mut Option<OccupiedDay>,
+    b: &mut B,
+    ahead_b: &mut Option<OccupiedDay>,
+    to: i64,
+) -> Result<Option<OccupiedDay>, NoMemory>
+    requires low { neg_ℤ (pos 2_999_999_999_000) ≤ℤ to }
+    requires high { to ≤ℤ pos 2_999_999_999_000 }
+    requires knows_a { A.knows a.old sets.old }
+    requires knows_b { B.knows b.old sets.old }
+    requires known { (position : ℤ) × (first_day_of_year (pos 1) ≤ℤ position) × KnowsBoth sets.old (part_of (A.tree a.old) (A.position a.old) ahead_a.old) (part_of (B.tree b.old) (B.position b.old) ahead_b.old) position }
+    ensures tree_a { A.tree a.new ≡ A.tree a.old }
+    ensures tree_b { B.tree b.new ≡ B.tree b.old }
+    ensures knows_a { A.knows a.new sets.new }
+    ensures knows_b { B.knows b.new sets.new }
+    ensures kept { Extends sets.old sets.new }
+    ensures next { IsNextOfBoth sets.old sets.new (part_of (A.tree a.old) (A.position a.old) ahead_a.old) (part_of (A.tree a.old) (A.position a.new) ahead_a.new) (part_of (B.tree b.old) (B.position b.old) ahead_b.old) (part_of (B.tree b.old) (B.position b.new) ahead_b.new) to result }
+{
+    'days: loop {
+        fill(alloc, sets, a, ahead_a, to)?;
+        let Some(found) = *ahead_a else {
+            return Ok(None);
+        };
+        if found.day > to {
+            return Ok(None);
+        }
+        let left = left_of(alloc, sets, b, ahead_b, found)?;
+        *ahead_a = None;
+        if left.is_some() {
+            return Ok(left);
+        }
+    }
+}
+
+// What is left of a day that the first part gave once the second one is taken out; none where nothing is. The days of the
+// second part before it are passed over.
+fn left_of<B: Lazy>(
+    alloc: Global,
+    sets: &mut SetTable,
+    lazy: &mut B,
+    ahead: &mut Option<OccupiedDay>,
+    found: OccupiedDay,
+) -> Result<Option<OccupiedDay>, NoMemory>
+    requires low { neg_ℤ (pos 2_999_999_999_000) ≤ℤ found.day }
+    requires high { found.day ≤ℤ pos 2_999_999_999_000 }
+    requires knows { B.knows lazy.old sets.old }
+    requires known { IsAheadUpTo sets.old (part_of (B.tree lazy.old) (B.position lazy.old) ahead.old) found.day }
+    requires given { IsGivenOn sets.old found }
+    requires some { (with_set sets.old found).times ≢ [] }
+    ensures tree { B.tree lazy.new ≡ B.tree lazy.old }
+    ensures knows { B.knows lazy.new sets.new }
+    ensures kept { Extends sets.old sets.new }
+    ensures known { IsAheadUpTo sets.new (part_of (B.tree lazy.old) (B.position lazy.new) ahead.new) found.day }
+    ensures left { IfOk result (IsLeftBy sets.old (B.tree lazy.old) found sets.new) }
+{
+    pass_to(alloc, sets, lazy, ahead, found.day)?;
+    match of_day(*ahead, found.day) {
+        Some(out) => lacking(alloc, sets, found, out),
+        None => Ok(Some(found)),
+    }
+}
+
+// Passes over the days of a part before one: what it gave then is not before that day, or it has none up to it.
+fn pass_to<B: Lazy>(
+    alloc: Global,
+    sets: &mut SetTable,
+    lazy: &mut B,
+    ahead: &mut Option<OccupiedDay>,
+    day: i64,
+) -> Result<(), NoMemory>
+    requires low { neg_ℤ (pos 2_999_999_999_000) ≤ℤ day }
+    requires high { day ≤ℤ pos 2_999_999_999_000 }
+    requires knows { B.knows lazy.old sets.old }
+    requires known { IsAheadUpTo sets.old (part_of (B.tree lazy.old) (B.position lazy.old) ahead.old) day }
+    ensures tree { B.tree lazy.new ≡ B.tree lazy.old }
+    ensures knows { B.knows lazy.new sets.new }
+    ensures kept { Extends sets.old sets.new }
+    ensures known { IsAheadUpTo sets.new (part_of (B.tree lazy.old) (B.position lazy.new) ahead.new) day }
+    ensures some { OnOk result (ForSome ahead.new (λ f. day ≤ℤ f.day)) }
+    ensures none { OnOk result (ForNone ahead.new (day <ℤ B.position lazy.new)) }
+{
+    'days: loop {
+        fill(alloc, sets, lazy, ahead, day)?;
+        let Some(found) = *ahead else {
+            return Ok(());
+        };
+        if found.day >= day {
+            return Ok(());
+        }
+        *ahead = None;
+    }
+}
+
+// The seconds of a day that one part gave and another, which gave the day too, lacks; none where it lacks none.
+fn lacking(
+    alloc: Global,
+    sets: &mut SetTable,
+    a: OccupiedDay,
+    b: OccupiedDay,
+) -> Result<Option<OccupiedDay>, NoMemory>
+    requires a { IsGivenOn sets.old a }
+    requires b { IsGivenOn sets.old b }
+    ensures kept { Extends sets.old sets.new }
+    ensures left { IfOk result (IsLacking sets.old a b sets.new) }
+{
+    let of_a = sets.prefix(alloc, a.number, a.count)?;
+    let of_b = sets.prefix(alloc, b.number, b.count)?;
+    let number = sets.difference(alloc, of_a, of_b)?;
+    let count = sets.times(number).as_slice().len();
+    if count == 0 {
+        return Ok(None);
+    }
+    Ok(Some(OccupiedDay {
+        day: a.day,
+        number,
+        count,
+    }))
+}
