@@ -1,4 +1,5 @@
-//! Exactly the candidates of one unit of a rule (RFC 5545, section 3.3.10).
+//! The candidates of one unit of a rule (RFC 5545, section 3.3.10), and what finds them quickly: masks of years and the keys under
+//! which they are kept, the units of a frequency, the times of a day.
 #![tactic(auto)]
 
 mod allowed_days;

@@ -103,7 +103,7 @@ fn new_year(year: i64) -> Day
 }
 
 /// The key of a year, below 56: years of one key have the same mask. It is the kind of the year, and with BYWEEKNO 14 more
-/// where the year before is leap, and 28 more where the year after is. Any year but the first and the last of `i64`.
+/// where the year before is leap, and 28 more where the year after is. Years from -3,000,000,000,000 to 3,000,000,000,000.
 pub fn mask_key(rule: &Rule, year: i64) -> u8
     requires { IsDayWithin 0 year }
     ensures value { result ≡ mask_key rule.now year }

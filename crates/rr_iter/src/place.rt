@@ -21,7 +21,7 @@ pub enum Place {
 }
 
 /// Where the chosen moment of a number, from 1, lies from the rule's start up to a day, in days since 1970-01-01.
-/// The rule has no BYSETPOS, and its end is not asked. Each day's moments are counted at once.
+/// INTERVAL and the BY parts are asked, BYSETPOS among them; UNTIL and COUNT are not. Each day's moments are counted at once.
 pub fn find(
     alloc: Global,
     rule: &Rule,

@@ -1,6 +1,6 @@
 -- A value put into a rising list.
-use Rattle.std.proofs.Common.{◌≡◌, ℕ, zero, suc, ◌+◌, ◌<◌, ◌≤◌, Bool, true, false, cond, List, [], ◌∷◌, length, get_or, refl, sym, ap, ◌∙◌, arith}
-use Rattle.std.specs.Prelude.{Ok, Err, ℤ, int_lt, nat_lt}
+use Rattle.std.proofs.Common.{◌≡◌, ℕ, zero, suc, ◌+◌, ◌<◌, ◌≤◌, Bool, true, false, cond, List, [], ◌∷◌, ◌++◌, ◌-◌, length, get_or, refl, sym, ap, subst, ◌∙◌, arith}
+use Rattle.std.specs.Prelude.{Ok, Err, Some, ℤ, int_lt, nat_lt, slice_get}
 use Rattle.std.specs.List.{insert, All, AllByRecursion}
 use Rattle.std.specs.List.Sorted.{IsBinarySearchResult, IsNonDecreasingBy}
 use Rattle.std.specs.Ordering.{is_lt, ordering_index, ordering_reverse, nat_cmp, int_cmp, ordering_then}
@@ -11,6 +11,7 @@ use Rattle.std.specs.Cmp.{IsTotalOrder}
 use Rattle.std.proofs.lemmas.Cmp.{alike_right}
 use Rattle.std.proofs.lemmas.List.Elements.{All-from_recursion, recursion_from_All}
 use Rattle.std.proofs.lemmas.List.Sorted.{searchable_from_sorted}
+use Rattle.std.proofs.lemmas.Option.{get_or_from_slice_get}
 use Rattle.std.proofs.lemmas.Int.{ints}
 use Rattle.std.proofs.lemmas.Bool.Decides.{nat_tests}
 use Rattle.rr_model.specs.Rising.{Rises, with_value, below_by, day_item_lt}
@@ -107,6 +108,28 @@ module _ {X : Type 0} {cmp : X → X → Ordering} (o : IsTotalOrder cmp) where
       let a : is_lt (cmp y v) ≡ true = ap is_lt (before 0 v (omega arith) (omega arith)) in
       rw a (ap (λ l. y ∷ l)
       (new ys i v (omega arith) (λ k d z l. before (suc k) d (omega arith) (omega arith)) (λ k d z l. from (suc k) d (omega arith) (omega arith))))
+
+  -- a value above the last one stands behind it
+  at_end : (xs : List X) (k : ℕ) (v : X) → Rises (below_by cmp) xs → k + 1 ≡ length xs → ((d : X) → cmp (get_or xs k d) v ≡ Less)
+      → with_value (below_by cmp) xs v ≡ xs ++ (v ∷ [])
+  at_end [] k v r e last = absurd (omega (arith, e))
+  at_end (y ∷ []) zero v r e last =
+      let a : is_lt (cmp y v) ≡ true = ap is_lt (last v) in
+      rw a refl
+  at_end (y ∷ []) (suc k) v r e last = absurd (omega (arith, e))
+  at_end (y ∷ z ∷ zs) zero v r e last = absurd (omega (arith, e))
+  at_end (y ∷ z ∷ zs) (suc k) v r e last =
+      let below = first_below y (z ∷ zs) r k v (omega (arith, e)) in
+      let a : is_lt (cmp y v) ≡ true = ap is_lt (o.trans y (get_or (z ∷ zs) k v) v below (last v)) in
+      rw a (ap (λ l. y ∷ l) (at_end (z ∷ zs) k v r.1 (omega (arith, e)) last))
+
+  pub behind_last : (xs : List X) (x v : X) → Rises (below_by cmp) xs → slice_get xs (length xs - 1) ≡ Some x → cmp x v ≡ Less
+      → with_value (below_by cmp) xs v ≡ xs ++ (v ∷ [])
+  behind_last [] x v r e l = refl
+  behind_last (y ∷ ys) x v r e l =
+      let place : length (y ∷ ys) - 1 ≡ length ys = omega arith in
+      let found = subst (λ n. slice_get (y ∷ ys) n ≡ Some x) place e in
+      at_end (y ∷ ys) (length ys) v r (omega arith) (λ d. ap (λ z. cmp z v) (get_or_from_slice_get (y ∷ ys) (length ys) x d found) ∙ l)
 
   -- what a binary search found, or found wanting, in the slice of the list
   pub put_there : (xs ys : List X) (i : ℕ) (v : X) → ys ≡ xs → Rises (below_by cmp) xs → i < length ys → IsBinarySearchResult (λ y. cmp y v) ys (Ok i)

@@ -37,15 +37,15 @@ LastWeekIsGreatest = (y : ℤ) (w : ℕ) → IsLastWeek y w (last_week y w)
 
 -- ---- 400 years are 146,097 days, which are 20,871 weeks, and then the calendar begins again
 
--- the day, the year and the week that many cycles of 400 years later, of any sign
+-- the day as many cycles of 400 years later as `cycles` says, earlier where it is negative
 abbrev pub later_day : ℤ → ℤ → ℤ
 later_day cycles d = d +ℤ (pos 146_097 *ℤ cycles)
 
--- the year that many cycles later
+-- the year as many cycles of 400 years later as `cycles` says
 abbrev pub later_year : ℤ → ℤ → ℤ
 later_year cycles y = y +ℤ (pos 400 *ℤ cycles)
 
--- the week that many cycles later
+-- the week as many cycles of 400 years later as `cycles` says
 abbrev pub later_week : ℤ → ℤ → ℤ
 later_week cycles i = i +ℤ (pos 20_871 *ℤ cycles)
 

@@ -46,7 +46,7 @@ rank_in_month days d = count_from (is_day_in days) ((d -ℤ pos (day_of_month d)
 abbrev pub rank_from_month_end : ℕ → ℤ → ℕ
 rank_from_month_end days d = count_from (is_day_in days) d ((days_in_month (year_of d) (month_of d) + 1) - day_of_month d)
 
--- the rank is the index, or from the back its size where it is negative
+-- the day has this rank among the allowed weekdays of its month: from the front for an index from 0 on, from the back for a negative one
 abbrev pub has_index : ℤ → ℕ → ℤ → Bool
 has_index (pos n) days d = rank_in_month days d == n
 has_index (negsuc n) days d = rank_from_month_end days d == suc n

@@ -31,15 +31,15 @@ abbrev pub CountsMore : Kind → ℤ → Rule → End → Type 0
 CountsMore kind start rule (Count count) = members_to rule kind start (span_end kind start) < count
 CountsMore kind start rule end = ⊥
 
--- the rule does
+-- the rule counts more members than it has in the span from its start
 abbrev pub CountsTooFar : Kind → ℤ → Rule → Type 0
 CountsTooFar kind start rule = CountsMore kind start rule rule.end
 
--- some of the rules does
+-- some of the rules counts more members than it has in the span from its start
 abbrev pub CountSomeTooFar : Kind → ℤ → List Rule → Type 0
 CountSomeTooFar kind start rules = (k : ℕ) × (rule : Rule) × (k < length rules) × (get_or rules k rule ≡ rule) × CountsTooFar kind start rule
 
--- some rule of a series does, or some excluded one
+-- some rule of a series, or some excluded one, counts more members than it has in the span from the start
 abbrev pub IsCountedTooFar : Series → Type 0
 IsCountedTooFar series = CountSomeTooFar series.kind series.start series.rules ⊎ CountSomeTooFar series.kind series.start series.excluded
 

@@ -7,7 +7,7 @@ use Rattle.rr_model.specs.declared.kind.Kind.TheVariants.{Days}
 use Rattle.rr_model.specs.declared.limits.TheConstants.{MAX_RULES, MAX_DATES}
 use Rattle.rr_model.specs.declared.rule.Series.{Series}
 
--- nothing occurs in it
+-- the data of an empty list of dates: kind Days, start 0, and nothing beside it
 abbrev pub IsEmptySeries : Series → Type 0
 IsEmptySeries series = (series.kind ≡ Days) × (series.start ≡ pos 0) × (series.rules ≡ []) × (series.excluded ≡ []) × (series.plus ≡ []) × (series.minus ≡ [])
 

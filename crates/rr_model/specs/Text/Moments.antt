@@ -20,15 +20,15 @@ number_at start count text = digits_value (take count (drop start text))
 
 -- ---- basic texts
 
--- the year, the month and the day of YYYYMMDD
+-- the year of YYYYMMDD
 abbrev pub written_year : List ℕ → ℕ
 written_year text = number_at 0 4 text
 
--- its month
+-- the month of YYYYMMDD
 abbrev pub written_month : List ℕ → ℕ
 written_month text = number_at 4 2 text
 
--- its day
+-- the day of YYYYMMDD
 abbrev pub written_day : List ℕ → ℕ
 written_day text = number_at 6 2 text
 
@@ -42,15 +42,15 @@ unfoldable pub basic_date : List ℕ → Option ℤ
 basic_date text =
     if is_basic_date text then Some (day_number (pos (written_year text)) (written_month text) (written_day text)) else None
 
--- the hour, the minute and the second of HHMMSS
+-- the hour of HHMMSS
 abbrev pub written_hour : List ℕ → ℕ
 written_hour text = number_at 0 2 text
 
--- its minute
+-- the minute of HHMMSS
 abbrev pub written_minute : List ℕ → ℕ
 written_minute text = number_at 2 2 text
 
--- its second
+-- the second of HHMMSS
 abbrev pub written_second : List ℕ → ℕ
 written_second text = number_at 4 2 text
 

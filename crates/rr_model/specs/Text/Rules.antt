@@ -159,7 +159,7 @@ abbrev pub has_time : Kind → Bool
 has_time Days = false
 has_time Moments = true
 
--- the value of a line: in capitals, without the blanks and tabs around it
+-- a blank: a space or a tab
 abbrev pub is_blank : ℕ → Bool
 is_blank b = (b == 32) || (b == 9)
 
