@@ -3,3 +3,4 @@ pub mod SetLemmas
 pub mod SplitLemmas
 pub mod TakeLemmas
 mod RemoveLemmas
+pub mod ItemLemmas

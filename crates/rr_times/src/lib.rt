@@ -3,8 +3,10 @@
 
 mod merge;
 mod rank;
+mod stretch;
 mod time_set;
 
+pub use stretch::Stretch;
 pub use time_set::TimeSet;
 
 #[cfg(test)]

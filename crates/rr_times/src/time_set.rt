@@ -1,5 +1,5 @@
 // A set of seconds of a day, and the operations on such sets.
-ghost use Rattle.std.specs.Prelude.{◌≡◌, ◌≢◌, ◌⊎◌, ◌<◌, ◌≤◌, Contains, IfOk, count_by, nat_eq, nat_lt, slice_get, take};
+ghost use Rattle.std.specs.Prelude.{◌≡◌, ◌≢◌, ◌⊎◌, ◌<◌, ◌≤◌, ◌+◌, Contains, IfOk, count_by, drop, get_or, length, nat_eq, nat_lt, slice_get, take};
 ghost use Rattle.std.proofs.Common.{rules};
 ghost use Rattle.std.specs.Cmp.Lexicographic.{pointwise};
 ghost use Rattle.std.proofs.lemmas.Cmp.{nat_list_eq_equiv};
@@ -7,9 +7,12 @@ ghost use Rattle.std.specs.Cmp.{partial_equiv_from_equiv};
 ghost use Rattle.std.specs.Cmp.Rules.{hashing};
 ghost use Rattle.std.specs.Hash as fed;
 ghost use Rattle.rr_model.specs.Rising.Sets.{IsSetOf, IsSecondsOfDay};
+ghost use Rattle.rr_model.specs.Sets.Stretches.{first_stretch};
+ghost use Rattle.rr_times.specs.Items.{stretch_of};
 
 use crate::merge::{difference_of, union_of};
 use crate::rank::count_below;
+use crate::stretch::{Stretch, first_stretch};
 use rr_model::NoMemory;
 use std::alloc::Global;
 use std::hash::{Hash, Hasher};
@@ -88,6 +91,17 @@ impl TimeSet {
         ensures { result ≡ slice_get self.now place }
     {
         self.seconds.as_slice().get(place as usize).copied()
+    }
+
+    /// The item that begins at the place `from`, counted from 0: a row of three or more seconds with equal steps from
+    /// there on, or the second alone. It takes no memory.
+    pub fn stretch(&self, from: usize) -> Stretch
+        requires within { from < length self.now }
+        ensures item { stretch_of result ≡ first_stretch (get_or self.now from 0) (drop (from + 1) self.now) }
+        ensures some { 1 ≤ result.count }
+        ensures few { from + result.count ≤ length self.now }
+    {
+        first_stretch(self.as_slice(), from)
     }
 
     /// Keeps the first seconds, so many, or all where there are fewer; it takes no memory.

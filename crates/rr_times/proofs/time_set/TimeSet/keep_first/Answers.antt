@@ -1,5 +1,3 @@
-use Rattle.std.proofs.Common.{sym}
-use Rattle.rr_model.specs.Rising.Sets.{IsSecondsOfDay}
 use Rattle.rr_times.proofs.TakeLemmas.{first_seconds}
 use Rattle.rr_times.proofs.time_set.TimeSet.keep_first.Goals as goal
 

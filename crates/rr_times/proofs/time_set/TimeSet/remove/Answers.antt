@@ -1,6 +1,5 @@
-use Rattle.std.proofs.Common.{rules, ◌≡◌, ◌≢◌, ◌<◌, Contains, nat_lt, length, ℕ, get_or, sym, ap, ◌∙◌, arith}
+use Rattle.std.proofs.Common.{rules, ◌≡◌, ◌<◌, length, get_or, sym, ◌∙◌}
 use Rattle.std.proofs.lemmas.List.{get_or_default}
-use Rattle.rr_model.specs.Rising.Sets.{IsSetOf, IsSecondsOfDay}
 use Rattle.rr_times.specs.Split.{SplitsAt}
 use Rattle.rr_times.proofs.RemoveLemmas.{without_one, without_none, fewer_seconds}
 use Rattle.rr_times.proofs.time_set.TimeSet.remove.Goals as goal
