@@ -79,8 +79,8 @@ fn folded_to(alloc: Global, series: &Checked, settled: i64) -> Result<Folded, Fa
     }
 }
 
-// The sequence of numbered days.
-fn sequence(kind: Kind, first: i64, settled: i64, period: u64, days: FoldedDays) -> Folded
+/// The sequence of numbered days, from the first one up to a period past the settled day.
+pub fn sequence(kind: Kind, first: i64, settled: i64, period: u64, days: FoldedDays) -> Folded
     requires { IsWholeFold kind days.shapes days.numbers.items first settled period }
     ensures { sketch_of result.kind result.shapes result.numbers.items result.first result.settled result.period ≡ sketch_of kind days.shapes days.numbers.items first settled period }
 {

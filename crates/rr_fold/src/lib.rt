@@ -11,4 +11,5 @@ mod rules;
 mod walk;
 mod years;
 
-pub use folded::{Folded, fold};
+pub use fill::FoldedDays;
+pub use folded::{Folded, fold, sequence};

@@ -79,7 +79,7 @@ module _ (offset : Option ℤ) (start : Stamp) where
 
   -- ---- rules
 
-  end_beside-valid : (line : ℕ) (until : Option Stamp) (end next : End) → FitsUntil until end → HasCountInRange end × EndsInYears end
+  pub end_beside-valid : (line : ℕ) (until : Option Stamp) (end next : End) → FitsUntil until end → HasCountInRange end × EndsInYears end
       → end_beside offset start line until end ≡ Ok next
       → HasCountInRange next × EndsInYears next
   end_beside-valid line None end next fits v h =
@@ -91,7 +91,7 @@ module _ (offset : Option ℤ) (start : Stamp) where
       let same : Until stamp.kind moment.0 ≡ next = ap (λ (x : End). end_at x moment.0) (sym fits.1) ∙ at in
       subst (λ (x : End). HasCountInRange x × EndsInYears x) same (tt, moment_beside-in_years line stamp moment.0 fits.0 moment.1)
 
-  with_end-valid : (kind : Kind) (rule : Rule) (end : End) → IsValidRule kind rule → HasCountInRange end → IsValidRule kind (record rule { end = end })
+  pub with_end-valid : (kind : Kind) (rule : Rule) (end : End) → IsValidRule kind rule → HasCountInRange end → IsValidRule kind (record rule { end = end })
   with_end-valid kind rule end v count = record {
     interval_low = v.interval_low;
     interval_high = v.interval_high;

@@ -31,7 +31,7 @@ module _ {X : Type 0} (P : X → Type 0) (below : X → X → Bool) (judged : Li
       let step = and_then_ok (judged text) (λ x. placed below judged (with_value below list x) texts) all e in
       All-placed (with_value below list step.0) texts all (All-with_value P below list step.0 h (each text step.0 step.1)) step.2
 
-  All-list_of : (line : ℕ) (has_form : List ℕ → Bool) (text : List ℕ) (all : List X) → list_of line has_form below judged text ≡ Ok all → All P all
+  pub All-list_of : (line : ℕ) (has_form : List ℕ → Bool) (text : List ℕ) (all : List X) → list_of line has_form below judged text ≡ Ok all → All P all
   All-list_of line has_form text all e =
       All-placed [] (pieces 44 text) all (All-nil P) (passed (list_all has_form (pieces 44 text)) _ _ all e).1
 
@@ -57,7 +57,7 @@ size_is true size = omega (arith, ints)
 size_is false size = refl
 
 -- a number counts from the front or from the back
-number_within-counts : (line most : ℕ) (text : List ℕ) (n : ℤ) → number_within line (signed most) text ≡ Ok n → (1 ≤ nat_abs n) × (nat_abs n ≤ most)
+pub number_within-counts : (line most : ℕ) (text : List ℕ) (n : ℤ) → number_within line (signed most) text ≡ Ok n → (1 ≤ nat_abs n) × (nat_abs n ≤ most)
 number_within-counts line most text n h =
     let w = number_within-means line (signed most) text n h in
     let size = size_is (starts_with_minus text) (magnitude text) in

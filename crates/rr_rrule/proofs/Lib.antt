@@ -1,13 +1,13 @@
 mod NumberLemmas
 mod BlankLemmas
-mod PlacedLemmas
+pub mod PlacedLemmas
 mod PartsLemmas
 pub mod StepLemmas
 pub mod InYearsLemmas
 pub mod BoundsLemmas
-mod ValidPartsLemmas
-mod ValidityLemmas
-mod ValidRisingLemmas
+pub mod ValidPartsLemmas
+pub mod ValidityLemmas
+pub mod ValidRisingLemmas
 mod RulePartLemmas
 mod PartOrderLemmas
 mod TextExamples

@@ -43,7 +43,7 @@ pub record ArePartsValid (parts : RuleParts) : Type 0 where
   pub months_rise : Rises int_lt parts.by_month
   pub set_positions_rise : Rises int_lt parts.by_set_pos
 
-no_parts-valid : ArePartsValid no_parts
+pub no_parts-valid : ArePartsValid no_parts
 no_parts-valid = record {
   until = tt;
   count = tt;
@@ -70,7 +70,7 @@ no_parts-valid = record {
 }
 
 -- each value is one of its part
-with_part_value-valid : (line : ℕ) (parts : RuleParts) (name : PartName) (text : List ℕ) (more : RuleParts) → ArePartsValid parts
+pub with_part_value-valid : (line : ℕ) (parts : RuleParts) (name : PartName) (text : List ℕ) (more : RuleParts) → ArePartsValid parts
     → with_part_value line parts name text ≡ Ok more → ArePartsValid more
 with_part_value-valid line parts part.Freq text more v =
     step_keeps ArePartsValid (ok_or (freq_named text) (BadRule line)) (λ x. record parts { freq = Some x }) more (λ x e. assumption)

@@ -19,7 +19,7 @@ module _ {X : Type 0} (below : X → X → Bool) (judged : List ℕ → Result X
       let step = and_then_ok (judged text) (λ x. placed below judged (with_value below list x) texts) all e in
       Rises-placed (with_value below list step.0) texts all (Rises-with_value below list step.0 r) step.2
 
-  Rises-list_of : (line : ℕ) (has_form : List ℕ → Bool) (text : List ℕ) (all : List X) → list_of line has_form below judged text ≡ Ok all → Rises below all
+  pub Rises-list_of : (line : ℕ) (has_form : List ℕ → Bool) (text : List ℕ) (all : List X) → list_of line has_form below judged text ≡ Ok all → Rises below all
   Rises-list_of line has_form text all e = Rises-placed [] (pieces 44 text) all tt (passed (list_all has_form (pieces 44 text)) _ _ all e).1
 
 pub numbers_of-rise : (line : ℕ) (bounds : NumberBounds) (text : List ℕ) (ns : List ℤ) → numbers_of line bounds text ≡ Ok ns → Rises int_lt ns

@@ -22,7 +22,7 @@ use Rattle.rr_rrule.proofs.ValidPartsLemmas.{ArePartsValid, rule_parts-valid}
 -- ---- the rule
 
 -- the COUNT of an end is in its range, and its UNTIL lies in the years 1 to 9999
-end_of-valid : (until : Option Stamp) (count : Option ℕ) (end : End) → IfSome until IsStamp → IfSome count IsCount → end_of until count ≡ Ok end
+pub end_of-valid : (until : Option Stamp) (count : Option ℕ) (end : End) → IfSome until IsStamp → IfSome count IsCount → end_of until count ≡ Ok end
     → HasCountInRange end × EndsInYears end
 end_of-valid None None end u c h =
     let e : Never ≡ end = cc in
@@ -39,7 +39,7 @@ end_of-valid (Some stamp) (Some n) end u c h = absurd (cc)
 abbrev pub IsValidBeside : Rule → Type 0
 IsValidBeside rule = ((kind : Kind) → IsTrue (takes_start rule.freq kind) → IsValidRule kind rule) × EndsInYears rule.end
 
-rule_with-valid : (freq : Freq) (end : End) (parts : RuleParts) → ArePartsValid parts → HasCountInRange end × EndsInYears end
+pub rule_with-valid : (freq : Freq) (end : End) (parts : RuleParts) → ArePartsValid parts → HasCountInRange end × EndsInYears end
     → IsTrue (is_allowed (rule_with freq end parts)) → IsValidBeside (rule_with freq end parts)
 rule_with-valid freq end parts v ends allowed = (
   λ kind taken. record {
@@ -87,7 +87,7 @@ rule_of-valid line parts rule v h =
 
 -- ---- the rule as its line states it
 
-until-in_years : (until : Option Stamp) → IfSome until IsStamp → IfSome until (λ stamp. IsInYears stamp.kind stamp.at)
+pub until-in_years : (until : Option Stamp) → IfSome until IsStamp → IfSome until (λ stamp. IsInYears stamp.kind stamp.at)
 until-in_years None h = tt
 until-in_years (Some stamp) h = h.0
 
@@ -100,7 +100,7 @@ abbrev pub FitsUntil : Option Stamp → End → Type 0
 FitsUntil None end = Unit {0}
 FitsUntil (Some stamp) end = IsStamp stamp × (end ≡ Until stamp.kind stamp.at)
 
-end_of-fits : (until : Option Stamp) (count : Option ℕ) (end : End) → IfSome until IsStamp → end_of until count ≡ Ok end → FitsUntil until end
+pub end_of-fits : (until : Option Stamp) (count : Option ℕ) (end : End) → IfSome until IsStamp → end_of until count ≡ Ok end → FitsUntil until end
 end_of-fits None count end u h = tt
 end_of-fits (Some stamp) None end u h =
     let e : Until stamp.kind stamp.at ≡ end = cc in

@@ -25,11 +25,16 @@ pub use laws::{
     calendar_is_read_back, case_does_not_matter, folding_does_not_matter, line_ends_do_not_matter,
     order_does_not_matter,
 };
-pub use numbers::whole_number;
+pub use lists::have_number_form;
+pub use numbers::{number_within, whole_number};
 pub use part_text::weekday_text;
-pub use parts::{interval_of, moment_of, weekday_of};
+pub use parts::{
+    interval_of, is_present, moment_of, no_parts, weekday_of, with_part_value,
+    without_last_semicolon,
+};
+pub use rule::{end_of, rule_with};
 pub use second::{Setting, date_beside};
 pub use stated::end_beside;
-pub use values::line_value;
-pub use words::weekday_named;
+pub use values::{line_value, split_once};
+pub use words::{part_named, weekday_named};
 pub use write_series::write;

@@ -71,7 +71,8 @@ pub(crate) fn takes_start(freq: Freq, kind: Kind) -> bool
     }
 }
 
-fn end_of(until: Option<Stamp>, count: Option<u64>) -> Result<End, Refusal>
+/// The end that UNTIL and COUNT make; `UntilAndCount` comes for both.
+pub fn end_of(until: Option<Stamp>, count: Option<u64>) -> Result<End, Refusal>
     ensures { result ≡ end_of until count }
 {
     match (until, count) {
@@ -85,7 +86,8 @@ fn end_of(until: Option<Stamp>, count: Option<u64>) -> Result<End, Refusal>
     }
 }
 
-fn rule_with(freq: Freq, end: End, parts: RuleParts) -> Rule
+/// A rule of these parts, with an interval of 1 and weeks from Monday on where they are absent.
+pub fn rule_with(freq: Freq, end: End, parts: RuleParts) -> Rule
     ensures { result ≡ rule_with freq end parts }
 {
     Rule {

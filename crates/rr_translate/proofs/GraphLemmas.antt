@@ -1,5 +1,5 @@
 -- The text of the first pattern states the occurrences of its set.
-use Rattle.std.proofs.Common.{ℕ, List, ℤ, refl, sym, subst}
+use Rattle.std.proofs.Common.{ℕ, List, ℤ, refl, sym, subst, inr, None, Result, Ok, Err}
 use Rattle.rr_family.specs.GraphProfile.{IsFirstPattern, event_of}
 use Rattle.rr_graph.proofs.GraphReadBackLemmas.{graph_is_read_back}
 use Rattle.rr_graph.proofs.OccurrenceLemmas.{counterpart_has_occurrences}
@@ -19,8 +19,14 @@ use Rattle.rr_model.specs.declared.graph.Repeat.TheVariants as repeat
 use Rattle.rr_model.specs.declared.kind.Kind.{Kind}
 use Rattle.rr_model.specs.declared.lang.Lang.TheVariants.{Graph}
 use Rattle.rr_translate.specs.Target.{States}
-use Rattle.rr_translate.specs.Translated.{IsGraphText}
-use Rattle.rr_translate.proofs.SetLemmas.{first_pattern_of}
+use Rattle.rr_model.specs.Series.FirstRefusal.{Limits, IsLimitRefusal}
+use Rattle.rr_model.specs.declared.refusal.Fault.{Fault}
+use Rattle.rr_model.specs.declared.refusal.Fault.TheVariants.{Refused, NoMemory}
+use Rattle.rr_model.specs.declared.rule.Series.{Series}
+use Rattle.rr_model.specs.declared.sketch.Sketch.{Sketch}
+use Rattle.rr_model.specs.Sets.Sketch.{StandsIn, StandsFor}
+use Rattle.rr_translate.specs.Translated.{IsGraphText, HasNoPattern, IsSaid, IsAnswered}
+use Rattle.rr_translate.proofs.SetLemmas.{first_pattern_of, no_pattern_of, joined}
 use Rattle.rr_translate.proofs.SoundLemmas.{sound_is_not_refused}
 
 module _ (P : Occurrences) (pattern : Pattern) (range : Range) (kind : Kind) (start : ℤ) (first : IsFirstPattern P pattern range kind start) where
@@ -54,3 +60,26 @@ module _ (P Q : Occurrences) (same : HaveEqualOccurrences P Q) (kind : Kind) (st
   repeat_is_written repeat.Once text f w = absurd f
   repeat_is_written (repeat.Pattern pattern range) text f w =
       subst (IsGraphText Q) (sym w) (is_graph_text Q pattern range kind start (first_pattern_of P Q same pattern range kind start f))
+
+module _ (P Q : Occurrences) (same : HaveEqualOccurrences P Q) where
+  -- the text of a set is that of each set with the same occurrences
+  pub graph_text_of : (text : List ℕ) → IsGraphText P text → IsGraphText Q text
+  graph_text_of text g = record {
+    pattern = g.pattern;
+    range = g.range;
+    kind = g.kind;
+    start = g.start;
+    is_first = first_pattern_of P Q same g.pattern g.range g.kind g.start g.is_first;
+    written = g.written;
+    states = record { series = g.states.series; is_read = g.states.is_read; sound = g.states.sound; equal = joined _ P Q g.states.equal same };
+  }
+
+-- what is said of the days of a series that no limit refuses is what is answered of the series
+pub said_is_answered : {X : Type 0} (items : X → List ℕ) (limits : Limits) (series : Series) (sketch : Sketch) (result : Result X Fault)
+    → IsLimitRefusal limits series None → StandsFor sketch (Occurs series)
+    → IsSaid (λ x. IsGraphText (StandsIn sketch) (items x)) (HasNoPattern (StandsIn sketch)) result
+    → IsAnswered limits series (λ x. IsGraphText (Occurs series) (items x)) (HasNoPattern (Occurs series)) result
+said_is_answered items limits series sketch (Ok x) judged stands s = (judged, graph_text_of (StandsIn sketch) (Occurs series) stands (items x) s)
+said_is_answered items limits series sketch (Err (Refused refusal)) judged stands s =
+    inr (judged, no_pattern_of (StandsIn sketch) (Occurs series) stands s.0, s.1)
+said_is_answered items limits series sketch (Err NoMemory) judged stands s = tt

@@ -17,6 +17,9 @@ joined P Q R a b k t = (λ p. (b k t).0 ((a k t).0 p), λ r. (a k t).1 ((b k t).
 pub turned : (P Q : Occurrences) → HaveEqualOccurrences P Q → HaveEqualOccurrences Q P
 turned P Q a k t = ((a k t).1, (a k t).0)
 
+pub itself : (P : Occurrences) → HaveEqualOccurrences P P
+itself P k t = ((λ p. p), (λ p. p))
+
 module _ (P Q : Occurrences) (same : HaveEqualOccurrences P Q) where
   rule_of : (rule : VRule) (kind : Kind) (start : ℤ) → IsRuleOf P rule kind start → IsRuleOf Q rule kind start
   rule_of rule kind start r =

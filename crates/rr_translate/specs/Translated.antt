@@ -101,3 +101,11 @@ IsAnswered limits series is none (Ok x) = IsLimitRefusal limits series None × i
 IsAnswered limits series is none (Err (Refused refusal)) =
     IsLimitRefusal limits series (Some refusal) ⊎ (IsLimitRefusal limits series None × none × (refusal ≡ NotSayable))
 IsAnswered limits series is none (Err NoMemory) = ⊤
+
+-- ---- what is said of a set of days
+
+-- something that is wanted; else that there is none; or want of memory
+abbrev pub IsSaid : {X : Type 0} → (X → Type 0) → Type 0 → Result X Fault → Type 0
+IsSaid is none (Ok x) = is x
+IsSaid is none (Err (Refused refusal)) = none × (refusal ≡ NotSayable)
+IsSaid is none (Err NoMemory) = ⊤

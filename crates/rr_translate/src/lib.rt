@@ -7,4 +7,5 @@ mod one_end;
 mod single;
 mod targets;
 
+pub use graph::graph_of_days;
 pub use targets::{infer, translate};
