@@ -4,22 +4,11 @@ ghost use Rattle.std.specs.Result.{MatchResult};
 ghost use Rattle.std.specs.Str.{IsUtf8, is_utf8, str_eq_ignore_ascii_case};
 ghost use Rattle.serde_json.specs.View.{view};
 ghost use Rattle.rr_model.specs.Graph.Members.{json_object, member_of, number_in, object_in, object_or, text_in, within};
-ghost use Rattle.rr_model.specs.Text.Lines.{without_mark};
 ghost use Rattle.rr_graph.specs.Answers.{AnswersValue};
 
 use rr_model::{Fault, Member, Refusal};
 use serde_json::Value;
 use std::alloc::Global;
-
-/// The bytes without one byte order mark, EF BB BF, at their front.
-pub(crate) fn without_mark(bytes: &[u8]) -> &[u8]
-    ensures { result.now ≡ without_mark bytes.now }
-{
-    match bytes.strip_prefix(&[0xEF, 0xBB, 0xBF]) {
-        Some(rest) => rest,
-        None => bytes,
-    }
-}
 
 /// The object that a text in UTF-8 is, or `BadJson`.
 #[tactic(auto, using(crate::proofs::JsonLemmas::object_or_object, crate::proofs::JsonLemmas::object_or_other), unfolding(rr_model::specs::Graph::Members::json_object))]

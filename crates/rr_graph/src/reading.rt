@@ -6,8 +6,9 @@ ghost use Rattle.rr_model.specs.Graph.Validity.{IsValidGraphEvent};
 ghost use Rattle.std.specs.Str.{IsUtf8};
 
 use crate::event::value_in;
-use crate::members::{json_object, without_mark};
+use crate::members::json_object;
 use rr_model::{Fault, GraphEvent, Refusal};
+use rr_text::without_mark;
 use std::alloc::Global;
 
 // What a text in UTF-8 states.

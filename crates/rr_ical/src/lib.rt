@@ -6,13 +6,11 @@ mod event;
 mod laws;
 mod list;
 mod names;
-mod text;
 mod value;
 
 pub use event::event_lines;
 pub use laws::{folding_does_not_matter, line_ends_do_not_matter};
 pub use list::read_list;
-pub use text::{is_text, without_mark};
 
 #[cfg(test)]
 mod tests;

@@ -1,7 +1,6 @@
 // Reads a list, value by value.
 ghost use Rattle.std.specs.Prelude.{◌≡◌, ◌<◌, IfOk, IfSome};
 ghost use Rattle.rr_model.specs.Moment.{is_same_kind};
-ghost use Rattle.rr_model.specs.Text.ExtendedMoments.{plain_extended};
 ghost use Rattle.rr_model.specs.Text.Lists.{empty_list, with_next, with_list_value, with_trimmed, with_list_line, with_list_lines, series_of_list, list_text, reads_list};
 ghost use Rattle.rr_model.specs.Text.Lines.{physical_lines};
 ghost use Rattle.rr_model.specs.Moment.Years.{IsInYears};
@@ -9,9 +8,8 @@ ghost use Rattle.rr_model.specs.Series.Validity.{IsValidSeries};
 ghost use Rattle.rr_ical.specs.Listed.{IsValidListed};
 ghost use Rattle.rr_model.specs.Answers.{Answers};
 
-use crate::text::{is_text, without_mark};
 use rr_model::{Dates, Fault, Kind, ListedDates, MAX_DATES, Refusal, Rules, Series, Stamp};
-use rr_text::{extended, take_line, trim};
+use rr_text::{is_text, plain_extended, take_line, trim, without_mark};
 use std::alloc::Global;
 
 #[tactic(auto, using(crate::proofs::ListedLemmas::empty_list_valid))]
@@ -24,18 +22,6 @@ fn empty_list(alloc: Global) -> ListedDates
         last: 0,
         count: 0,
         plus: Dates::new(alloc),
-    }
-}
-
-// An extended date or moment without a fraction and without a `Z`.
-fn plain_extended(text: &[u8]) -> Option<Stamp>
-    ensures stamp { result ≡ plain_extended text.now }
-    ensures years { IfSome result (λ s. IsInYears s.kind s.at) }
-{
-    if text.len() <= 19 {
-        extended(text)
-    } else {
-        None
     }
 }
 

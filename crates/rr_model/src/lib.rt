@@ -44,7 +44,7 @@ pub use limits::{
 pub use line::{Line, LineList};
 pub use listed::ListedDates;
 pub use lists::{Dates, DayItems, DayShapes, Items, Numbers, Rules, Seconds, VRules};
-pub use moment::{SECONDS_OF_DAY, day_part, is_within_max_day, moment_at, second_part};
+pub use moment::{SECONDS_OF_DAY, day_part, moment_at, second_part};
 pub use pass::FirstPass;
 pub use refusal::{Fault, Member, NoMemory, Refusal};
 pub use rule::{DayItem, End, Freq, Rule, Series};

@@ -1,20 +1,12 @@
 // Moments as a day and a second of the day.
-ghost use Rattle.std.specs.Prelude.{◌≡◌, ◌<◌, ◌↔◌, IsTrue};
+ghost use Rattle.std.specs.Prelude.{◌≡◌, ◌<◌};
 ghost use Rattle.rr_model.specs.Calendar.{IsDayWithin};
 ghost use Rattle.rr_model.specs.Moment.{day_part, second_part, moment_at};
 
-use crate::{Kind, MAX_DAY};
+use crate::Kind;
 
 /// The seconds of a day: no day has a leap second.
 pub const SECONDS_OF_DAY: i64 = 86_400;
-
-/// Whether a day, in days since 1970-01-01, lies within `MAX_DAY`: every call takes it then.
-pub fn is_within_max_day(day: i64) -> bool
-    ensures value { IsTrue result ↔ IsDayWithin 0 day }
-    ensures near { IsTrue result → IsDayWithin 1000 day }
-{
-    -MAX_DAY <= day && day <= MAX_DAY
-}
 
 /// The day of an occurrence, in days since 1970-01-01, whatever its number.
 ///

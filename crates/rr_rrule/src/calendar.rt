@@ -6,8 +6,9 @@ ghost use Rattle.rr_model.specs.Text.Calendars.{series_of_event, calendar_scan, 
 
 use crate::first::first_pass;
 use crate::second::{Nearby, Setting, second_pass};
-use rr_ical::{event_lines, is_text, without_mark};
+use rr_ical::event_lines;
 use rr_model::{Fault, Refusal, Scan, Series, Stamp};
+use rr_text::{is_text, without_mark};
 use std::alloc::Global;
 
 // The series of a start, which counts, and what stands beside it.

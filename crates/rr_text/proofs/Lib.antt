@@ -14,3 +14,4 @@ pub mod WrittenListLemmas
 pub mod WrittenValueLemmas
 pub mod PlainTextLemmas
 pub mod WrittenExtendedLemmas
+mod Utf8Lemmas

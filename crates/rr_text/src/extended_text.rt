@@ -3,7 +3,7 @@ ghost use Rattle.std.specs.Prelude.{◌≡◌, ◌<◌, ◌≤◌, ◌==◌, len
 ghost use Rattle.rr_model.specs.Moment.{day_part};
 ghost use Rattle.rr_model.specs.Moment.Years.{HasFourDigitYear};
 ghost use Rattle.rr_model.specs.Text.Moments.{utc_mark};
-ghost use Rattle.rr_model.specs.Text.ExtendedMoments.{extended_date_of, extended_time_of, count_zeros, after_fraction, extended_moment_of, extended};
+ghost use Rattle.rr_model.specs.Text.ExtendedMoments.{extended_date_of, extended_time_of, count_zeros, after_fraction, extended_moment_of, extended, plain_extended};
 
 use crate::moment::{basic_date, basic_time, is_letter_t, utc_mark};
 use rr_model::{Kind, Stamp, moment_at};
@@ -112,4 +112,17 @@ pub fn extended(text: &[u8]) -> Option<Stamp>
         });
     }
     extended_moment(text)
+}
+
+/// An extended date `YYYY-MM-DD` or moment `YYYY-MM-DDThh:mm:ss` of the years 1 to 9999, without a fraction and without a `Z`
+/// (ISO 8601). None for any other text.
+pub fn plain_extended(text: &[u8]) -> Option<Stamp>
+    ensures stamp { result ≡ plain_extended text.now }
+    ensures years { IfSome result (λ s. IsInYears s.kind s.at) }
+{
+    if text.len() <= 19 {
+        extended(text)
+    } else {
+        None
+    }
 }

@@ -7,15 +7,17 @@ mod extended_text;
 mod laws;
 mod moment;
 mod physical;
+mod plain;
 mod print;
 mod unfold;
 
 pub use blanks::trim;
 pub use digits::{Digits, number};
-pub use extended_text::extended;
+pub use extended_text::{extended, plain_extended};
 pub use laws::printed_texts_differ;
 pub use moment::basic;
 pub use physical::take_line;
+pub use plain::{is_text, without_mark};
 pub use print::{push_basic, push_extended, push_number, push_unsigned};
 pub use rr_model::Stamp;
 pub use unfold::lines;

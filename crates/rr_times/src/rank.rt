@@ -3,8 +3,8 @@ ghost use Rattle.std.specs.Prelude.{nat_lt};
 ghost use Rattle.rr_model.specs.Rising.{Rises};
 ghost use Rattle.rr_times.specs.Split.{SplitsAt};
 
-// How many of the seconds lie below this one.
-pub(crate) fn count_below(seconds: &[u32], second: u32) -> usize
+/// How many of the seconds lie below this one, by binary search.
+pub fn count_below(seconds: &[u32], second: u32) -> usize
     requires { Rises nat_lt seconds.now }
     ensures { SplitsAt seconds.now result second }
 {

@@ -1,5 +1,5 @@
 // A set of seconds of a day, and the operations on such sets.
-ghost use Rattle.std.specs.Prelude.{◌≡◌, ◌≢◌, ◌⊎◌, ◌<◌, ◌≤◌, ◌+◌, Contains, IfOk, count_by, drop, get_or, length, nat_eq, nat_lt, slice_get, take};
+ghost use Rattle.std.specs.Prelude.{◌≡◌, ◌≢◌, ◌⊎◌, ◌<◌, ◌≤◌, ◌+◌, Contains, IfOk, count_by, drop, get_or, length, nat_eq, nat_lt, slice_get};
 ghost use Rattle.std.proofs.Common.{rules};
 ghost use Rattle.std.specs.Cmp.Lexicographic.{pointwise};
 ghost use Rattle.std.proofs.lemmas.Cmp.{nat_list_eq_equiv};
@@ -102,21 +102,6 @@ impl TimeSet {
         ensures few { from + result.count ≤ length self.now }
     {
         first_stretch(self.as_slice(), from)
-    }
-
-    /// Keeps the first seconds, so many, or all where there are fewer; it takes no memory.
-    pub fn keep_first(&mut self, count: usize)
-        ensures { self.new ≡ take count self.old }
-    {
-        self.seconds.truncate(count);
-    }
-
-    /// Keeps the seconds below a bound; it takes no memory.
-    pub fn keep_below(&mut self, bound: u32)
-        ensures { IsSetOf nat_lt self.new (λ s. Contains self.old s × (s < bound)) }
-    {
-        let count = count_below(self.seconds.as_slice(), bound);
-        self.seconds.truncate(count);
     }
 
     /// Takes one second out, where the set has it; it takes no memory.

@@ -7,9 +7,10 @@ ghost use Rattle.rr_vcal.specs.Scans.{vcal_scan};
 
 use crate::first::first_pass;
 use crate::second::{Nearby, second_pass};
-use rr_ical::{event_lines, without_mark};
+use rr_ical::event_lines;
 use rr_model::{Fault, Refusal, Scan, Stamp, VSeries};
 use rr_rrule::Setting;
+use rr_text::without_mark;
 use std::alloc::Global;
 
 // The series of a start, which counts, and what stands beside it.

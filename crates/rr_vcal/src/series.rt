@@ -35,12 +35,7 @@ pub fn to_series(alloc: Global, series: &VSeries) -> Result<Series, NoMemory>
     let plus = series.plus.copy(alloc)?;
     let minus = series.minus.copy(alloc)?;
     let rules = rules_of(alloc, series.kind, series.start, series.rules.as_slice())?;
-    let excluded = rules_of(
-        alloc,
-        series.kind,
-        series.start,
-        series.excluded.as_slice(),
-    )?;
+    let excluded = rules_of(alloc, series.kind, series.start, series.excluded.as_slice())?;
     Ok(Series {
         kind: series.kind,
         start: series.start,

@@ -2,9 +2,8 @@
 ghost use Rattle.std.specs.Prelude.{◌≡◌, ◌∷◌, ◌++◌, [], true, OnOk, OnErr};
 ghost use Rattle.rr_model.specs.Rising.{Rises, with_value, below_by};
 
-use std::cmp::Ordering;
-
 use crate::NoMemory;
+use std::cmp::Ordering;
 
 // Whether the value is above the last item, and so above each; a list without items has none to be above.
 fn is_above_last<T: Ord + Copy>(items: &[T], value: T) -> bool
