@@ -1,7 +1,7 @@
 use Rattle.std.proofs.Common.{◌≡◌, get_or, ◌∙◌, to_z-of_z}
 use Rattle.std.proofs.lemmas.List.{get_or_default}
-use Rattle.rr_fold.proofs.PlaceLemmas.{stretch_at}
-use Rattle.rr_fold.proofs.folded.FoldedDaySeq.stretch.Goals as goal
+use Rattle.rr_days.proofs.PlaceLemmas.{stretch_at}
+use Rattle.rr_days.proofs.folded.FoldedDaySeq.stretch.Goals as goal
 
 pub returns-in-Some : goal.returns-in-Some
 returns-in-Some c =

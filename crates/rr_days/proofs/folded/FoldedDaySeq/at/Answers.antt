@@ -1,8 +1,8 @@
 use Rattle.std.proofs.Common.{◌≡◌, [], get_or, sym, ap, ◌∙◌, to_z-of_z}
 use Rattle.std.proofs.lemmas.List.{get_or_default}
 use Rattle.std.proofs.lemmas.Option.{get_or_from_slice_get}
-use Rattle.rr_fold.proofs.PlaceLemmas.{set_at}
-use Rattle.rr_fold.proofs.folded.FoldedDaySeq.at.Goals as goal
+use Rattle.rr_days.proofs.PlaceLemmas.{set_at}
+use Rattle.rr_days.proofs.folded.FoldedDaySeq.at.Goals as goal
 
 pub returns-in-Some : goal.returns-in-Some
 returns-in-Some c =

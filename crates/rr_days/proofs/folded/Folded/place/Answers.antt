@@ -1,8 +1,8 @@
 use Rattle.std.proofs.Common.{ℕ, ◌≤ℤ◌, nat_abs, ◌-ℤ◌, ◌∙◌, arith, w64, to_z, of_z, to_z-of_z}
 use Rattle.std.proofs.lemmas.Int.{ints}
-use Rattle.rr_fold.proofs.BackLemmas.{back, between_back}
-use Rattle.rr_fold.proofs.PlaceLemmas.{early_place, within_place, beyond_place}
-use Rattle.rr_fold.proofs.folded.Folded.place.Goals as goal
+use Rattle.rr_days.proofs.BackLemmas.{back, between_back}
+use Rattle.rr_days.proofs.PlaceLemmas.{early_place, within_place, beyond_place}
+use Rattle.rr_days.proofs.folded.Folded.place.Goals as goal
 
 pub returns-then-day-self : goal.returns-then-day-self
 returns-then-day-self c =

@@ -11,8 +11,8 @@ use Rattle.rr_model.specs.declared.sketch.DayShape.{DayShape}
 use Rattle.rr_model.specs.declared.sketch.Sketch.{Sketch}
 use Rattle.rr_model.proofs.WholeLemmas.{floor_only, floor_mod_below}
 use Rattle.rr_word.specs.Bounded.{IsBounded}
-use Rattle.rr_fold.proofs.SketchedLemmas.{times_early, times_before, times_after}
-use Rattle.rr_fold.specs.Sketched.{with_day, shapes_from, sketch_of, IsEmptyAt, IsFirstFilled, IsWholeFold}
+use Rattle.rr_days.proofs.SketchedLemmas.{times_early, times_before, times_after}
+use Rattle.rr_days.specs.Sketched.{with_day, shapes_from, sketch_of, IsEmptyAt, IsFirstFilled, IsWholeFold}
 
 -- ---- the days rise
 
@@ -130,7 +130,7 @@ module _ (kind : Kind) (sets : List (List ℕ)) (numbers : List ℕ) (first sett
   first_near d f = by_lt_z {P = IsNearDay d} d first
       (λ l. absurd (f.0 (times_early kind sets numbers first settled period days w.some from_first w.whole d l)))
       (λ g. by_lt_z {P = IsNearDay d} d (settled +ℤ pos period)
-      (λ m. (omega (arith, ints, w.low, g), omega (arith, ints, m, w.high, w.few)))
+      (λ m. (omega (arith, ints, w.low, g), omega (arith, ints, m, w.high)))
       (λ h. (
       let k : ℕ = nat_abs (d -ℤ settled) in
       let e : d ≡ settled +ℤ pos k = omega (arith, ints, h) in
@@ -146,7 +146,7 @@ module _ (kind : Kind) (sets : List (List ℕ)) (numbers : List ℕ) (first sett
       let u : length (drop days numbers) + days ≡ length numbers = length_drop days numbers (omega (arith, w.whole)) in
       record {
         some = w.some;
-        few = omega (arith, w.few);
+        few = w.few;
         settled = (omega (arith, ints, w.low, w.order), omega (arith, ints, w.high));
         before = rising_from (neg_ℤ (pos 1_000_000_000)) first settled (shapes_from sets first (take days numbers)) (omega (arith, ints, w.low))
             (shapes_rise sets (take days numbers) first settled (omega (arith, ints, t, from_first)));

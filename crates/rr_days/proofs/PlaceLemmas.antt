@@ -9,10 +9,10 @@ use Rattle.std.proofs.lemmas.Option.{slice_get-get_or}
 use Rattle.rr_model.proofs.WholeLemmas.{floor_mod_below}
 use Rattle.rr_model.specs.Sets.Sketch.{times_on}
 use Rattle.rr_word.specs.Stretches.{IsStretch}
-use Rattle.rr_fold.specs.Sequence.{IsPlaceOf, sketch}
-use Rattle.rr_fold.specs.declared.folded.Folded.{Folded}
-use Rattle.rr_fold.proofs.SketchedLemmas.{times_early, times_after}
-use Rattle.rr_fold.proofs.SequenceLemmas.{times_at_days}
+use Rattle.rr_days.specs.Sequence.{IsPlaceOf, sketch}
+use Rattle.rr_days.specs.declared.folded.Folded.{Folded}
+use Rattle.rr_days.proofs.SketchedLemmas.{times_early, times_after}
+use Rattle.rr_days.proofs.SequenceLemmas.{times_at_days}
 
 module _ (f : Folded) (day : ℤ) where
   from_first : f.settled ≡ f.first +ℤ pos (nat_abs (f.settled -ℤ f.first))

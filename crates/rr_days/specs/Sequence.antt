@@ -1,9 +1,9 @@
--- The sketch of a folded series.
+-- The sketch of numbered days.
 use Rattle.std.specs.Prelude.{◌≡◌, ℕ, ◌+◌, ◌<◌, [], Option, Some, None, length, get_or, ℤ, pos, ◌+ℤ◌}
 use Rattle.rr_model.specs.Sets.Sketch.{times_on}
 use Rattle.rr_model.specs.declared.sketch.Sketch.{Sketch}
-use Rattle.rr_fold.specs.Sketched.{sketch_of}
-use Rattle.rr_fold.specs.declared.folded.Folded.{Folded}
+use Rattle.rr_days.specs.Sketched.{sketch_of}
+use Rattle.rr_days.specs.declared.folded.Folded.{Folded}
 
 -- the sketch of its numbered days
 abbrev pub sketch : Folded → Sketch

@@ -1,6 +1,6 @@
 use Rattle.std.proofs.Common.{ℕ, ◌<◌}
-use Rattle.rr_fold.specs.Sketched.{IsEmptyAt}
-use Rattle.rr_fold.proofs.folded.first_occupied.Given as goal
+use Rattle.rr_days.specs.Sketched.{IsEmptyAt}
+use Rattle.rr_days.proofs.folded.first_occupied.Given as goal
 
 -- the sets so far are empty
 abbrev pub invariant-loop-place : goal.invariant-loop-place
