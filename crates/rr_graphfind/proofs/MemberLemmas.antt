@@ -241,7 +241,8 @@ module _ (s : Sketch) (first : ℤ) (days : ℕ) (p : Pattern) (d : ℤ) (low : 
       let agrees = h.1 in
       let same_form : q.form ≡ p.form = form_is q.form p.form same.1.0 in
       let same_week : q.first_day ≡ p.first_day =
-      one_week_day q.first_day p.first_day (day_most (uses_first_day q.form) q.first_day agrees.valid.first_day) (day_most (uses_first_day p.form) p.first_day valid.first_day) same.1.1.0 in
+      one_week_day q.first_day p.first_day (day_most (uses_first_day q.form) q.first_day agrees.valid.first_day)
+      (day_most (uses_first_day p.form) p.first_day valid.first_day) same.1.1.0 in
       let at : counts_on q first d ≡ true = counts_in q first d (agrees.agree d low high ∙ occupied) in
       let at' : counts_on p first d ≡ true =
       subst (λ f. divides p.interval (period_of f p.first_day d -ℤ period_of f p.first_day first) ≡ true) same_form

@@ -11,10 +11,11 @@ use Rattle.rr_iter.specs.declared.kept_lazy.KeptLazy.{KeptLazy}
 abbrev pub tree_of_kept : KeptLazy → Tree
 tree_of_kept s = except (tree_of_all s.lazy.a) (tree_of_rules s.lazy.b)
 
--- the dates and rules, and the excluded rules, and the day that each of the two gave and that was not passed on
+-- the dates and rules, with the day that they gave and that was not passed on
 abbrev pub given_part : KeptLazy → Part
 given_part s = part_of (tree_of_all s.lazy.a) s.lazy.a.lazy.position s.lazy.ahead_a
 
+-- the excluded rules, with the day that they gave and that was not passed on
 abbrev pub excluded_part : KeptLazy → Part
 excluded_part s = part_of (tree_of_rules s.lazy.b) s.lazy.b.lazy.position s.lazy.ahead_b
 

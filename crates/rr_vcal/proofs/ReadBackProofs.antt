@@ -156,7 +156,8 @@ module _ (kind : Kind) (start : ℤ) (rules excluded : List VRule) (plus minus :
   passes-written =
       let lines = used_from 1 (lines_with kind start rules excluded plus minus) in
       let first = reads-all 1 in
-      let second = gives-all kind start (Ok (record { rules = rules; excluded = excluded; plus = plus; minus = minus })) rules excluded plus minus h.each_rule h.each_excluded h.each_plus h.plus_rises
+      let second = gives-all kind start (Ok (record { rules = rules; excluded = excluded; plus = plus; minus = minus })) rules excluded plus minus
+      h.each_rule h.each_excluded h.each_plus h.plus_rises
       h.each_minus h.minus_rises refl 1 in
       ap (λ (m : Result FirstPass Refusal). m >>= λ pass. ok_or pass.start NoStart >>= λ s.
       second_pass vcal_language (vrule_beside None s) None s (record { rules = []; excluded = []; plus = []; minus = [] }) lines >>= λ beside.

@@ -45,7 +45,8 @@ module _ (kind : Kind) (start : ℤ) where
 
 -- the series with the parts of the counterpart
 pub series_is_valid : (series : VSeries) (start : ℤ) (rules excluded : List Rule) (plus minus : List ℤ) → start ≡ series.start
-    → rules ≡ rules_of_vrules series.kind series.start series.rules → excluded ≡ rules_of_vrules series.kind series.start series.excluded → plus ≡ series.plus → minus ≡ series.minus → Rises int_lt plus → Rises int_lt minus
+    → rules ≡ rules_of_vrules series.kind series.start series.rules → excluded ≡ rules_of_vrules series.kind series.start series.excluded
+    → plus ≡ series.plus → minus ≡ series.minus → Rises int_lt plus → Rises int_lt minus
     → IsValidVSeries series
     → IsValidSeries (record { kind = series.kind; start = start; start_counts = true; rules = rules; excluded = excluded; plus = plus; minus = minus })
 series_is_valid series start rules excluded plus minus same made out added taken plus_rises minus_rises valid = record {

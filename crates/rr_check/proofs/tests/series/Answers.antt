@@ -11,7 +11,8 @@ use Rattle.rr_model.specs.declared.rule.Rule.{Rule}
 use Rattle.rr_model.proofs.YearLemmas.{four_digit_year}
 use Rattle.rr_check.proofs.tests.series.Goals as goal
 
-one_rule : (rule : Rule) (start : ℤ) (rules excluded : List Rule) (plus minus : List ℤ) → IsValidRule Days rule → rule.end ≡ Never → rules ≡ rule ∷ [] → excluded ≡ [] → plus ≡ []
+one_rule : (rule : Rule) (start : ℤ) (rules excluded : List Rule) (plus minus : List ℤ) → IsValidRule Days rule → rule.end ≡ Never → rules ≡ rule ∷ []
+    → excluded ≡ [] → plus ≡ []
     → minus ≡ [] → pos 0 ≤ℤ start → start ≤ℤ pos 2_932_896
     → IsValidSeries (record { kind = Days; start = start; start_counts = true; rules = rules; excluded = excluded; plus = plus; minus = minus })
 one_rule rule start rules excluded plus minus valid end one out none nothing low high =
@@ -36,6 +37,7 @@ returns c =
     let one : c.put.new.self ≡ rule ∷ [] = c.in_ok-put.ensures.ok ∙ ap (λ l. l ++ rule ∷ []) c.new-rules.ensures in
     rw (to_z-of_z c.ranges.start) (record {
       valid =
-          one_rule rule c.args.start c.put.new.self c.new.result c.new-2.result c.new-3.result c.in_ok-mondays.ensures.valid c.in_ok-mondays.ensures.end one c.new.ensures
+          one_rule rule c.args.start c.put.new.self c.new.result c.new-2.result c.new-3.result c.in_ok-mondays.ensures.valid c.in_ok-mondays.ensures.end one
+          c.new.ensures
           c.new-2.ensures c.new-3.ensures c.requires.low c.requires.high;
     })

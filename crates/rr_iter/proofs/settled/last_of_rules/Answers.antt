@@ -19,7 +19,8 @@ loop-rule-preserved c =
     let refused = subst (λ t. CountsTooFar c.args.kind t rule → ⊥) start c.in-Ok.ensures.refused in
     let near = c.in-Ok.ensures.near in
     let gathered = rw (start, day_is) at c.loop-rule.invariant in
-    let first_low = (start_bounds c.args.kind c.args.start rule (subst (IsSoundRule c.args.kind c.args.start) item (c.requires.sound index rule c.loop-rule-test.true))).0 in
+    let first_low = (start_bounds c.args.kind c.args.start rule (subst (IsSoundRule c.args.kind c.args.start) item
+    (c.requires.sound index rule c.loop-rule-test.true))).0 in
     let same : to_z w64 (of_z w64 c.in-Ok.day) ≡ c.in-Ok.day = omega (arith, ints, near, day.late, first_low) in
     let both = rw same at c.max-last.ensures.value in
     rw (start, day_is, to_z-of_z max_fits) (gathered_more c.args.kind c.args.start list c.args.day index _ c.requires.late gathered rule c.in-Ok.day

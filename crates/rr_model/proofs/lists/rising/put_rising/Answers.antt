@@ -6,7 +6,8 @@ use Rattle.rr_model.proofs.lists.rising.put_rising.Goals as goal
 pub returns-in_ok-insert-clause-ok : goal.returns-in_ok-insert-clause-ok
 returns-in_ok-insert-clause-ok g c =
     c.in_ok-insert.ensures.items
-    ∙ put_new g.met.T.Ord.total c.args.items.now.items c.deref-else-is_above_last.result.now c.in-Err.place c.args.value c.deref-else-is_above_last.ensures.value c.requires
+    ∙ put_new g.met.T.Ord.total c.args.items.now.items c.deref-else-is_above_last.result.now c.in-Err.place c.args.value
+    c.deref-else-is_above_last.ensures.value c.requires
     c.in-Err.ensures.bound c.in-Err.ensures.position
 
 pub returns-in_ok-insert-clause-rises : goal.returns-in_ok-insert-clause-rises
@@ -15,7 +16,8 @@ returns-in_ok-insert-clause-rises g c =
 
 pub returns-in_default-clause-ok : goal.returns-in_default-clause-ok
 returns-in_default-clause-ok g c =
-    put_there g.met.T.Ord.total c.args.items.now.items c.deref-else-is_above_last.result.now c.in_default.field-0 c.args.value c.deref-else-is_above_last.ensures.value c.requires
+    put_there g.met.T.Ord.total c.args.items.now.items c.deref-else-is_above_last.result.now c.in_default.field-0 c.args.value
+    c.deref-else-is_above_last.ensures.value c.requires
     c.in_default.ensures.bound c.in_default.ensures.position
 
 pub returns-in_ok-push-clause-ok : goal.returns-in_ok-push-clause-ok

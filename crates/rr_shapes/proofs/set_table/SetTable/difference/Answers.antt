@@ -8,7 +8,8 @@ use Rattle.rr_shapes.proofs.set_table.SetTable.difference.Goals as goal
 
 pub returns-in-Some-clause-difference : goal.returns-in-Some-clause-difference
 returns-in-Some-clause-difference c =
-    rw (← c.self.view_is) (All-contains (IsDifference c.self.inside.sets.keys) c.self.inside.differences _ c.self.invariant.differences c.in-Some.ensures.known).difference
+    rw (← c.self.view_is) (All-contains (IsDifference c.self.inside.sets.keys) c.self.inside.differences _ c.self.invariant.differences
+    c.in-Some.ensures.known).difference
 
 pub invariant_of-self-in_err-put : goal.invariant_of-self-in_err-put
 invariant_of-self-in_err-put c =
@@ -17,7 +18,8 @@ invariant_of-self-in_err-put c =
     subst (Extends c.self.inside.sets.keys) (sym c.self-2.view_is) c.place.ensures.kept in
     let placed : slice_get c.self-2.inside.sets.keys c.in_ok-number.number ≡ Some c.in_ok-left.left =
     subst (λ sets. slice_get sets c.in_ok-number.number ≡ Some c.in_ok-left.left) (sym c.self-2.view_is) c.in_ok-number.ensures.placed in
-    table_with_difference c.self-2.inside.sets.keys c.self-2.inside.unions c.self-2.inside.differences c.put.new.self (pair, c.in_ok-number.number) c.self-2.invariant (
+    table_with_difference c.self-2.inside.sets.keys c.self-2.inside.unions c.self-2.inside.differences c.put.new.self (pair, c.in_ok-number.number)
+    c.self-2.invariant (
     new_difference c.self.inside.sets.keys c.self-2.inside.sets.keys pair c.in_ok-number.number c.index.result.now c.index-2.result.now c.in_ok-left.left grows
     c.index.ensures c.index-2.ensures placed c.in_ok-left.ensures
     ) c.put.ensures.nothing_else
@@ -29,7 +31,8 @@ invariant_of-self-3 c =
     subst (Extends c.self.inside.sets.keys) (sym c.self-2.view_is) c.place.ensures.kept in
     let placed : slice_get c.self-2.inside.sets.keys c.in_ok-number.number ≡ Some c.in_ok-left.left =
     subst (λ sets. slice_get sets c.in_ok-number.number ≡ Some c.in_ok-left.left) (sym c.self-2.view_is) c.in_ok-number.ensures.placed in
-    table_with_difference c.self-2.inside.sets.keys c.self-2.inside.unions c.self-2.inside.differences c.put.new.self (pair, c.in_ok-number.number) c.self-2.invariant (
+    table_with_difference c.self-2.inside.sets.keys c.self-2.inside.unions c.self-2.inside.differences c.put.new.self (pair, c.in_ok-number.number)
+    c.self-2.invariant (
     new_difference c.self.inside.sets.keys c.self-2.inside.sets.keys pair c.in_ok-number.number c.index.result.now c.index-2.result.now c.in_ok-left.left grows
     c.index.ensures c.index-2.ensures placed c.in_ok-left.ensures
     ) c.put.ensures.nothing_else
@@ -47,6 +50,7 @@ returns-clause-difference c =
     let placed : slice_get c.self-2.inside.sets.keys c.in_ok-number.number ≡ Some c.in_ok-left.left =
     subst (λ sets. slice_get sets c.in_ok-number.number ≡ Some c.in_ok-left.left) (sym c.self-2.view_is) c.in_ok-number.ensures.placed in
     rw (← c.self.view_is) (
-    difference_of_old c.self.inside.sets.keys c.self-2.inside.sets.keys pair c.in_ok-number.number c.index.result.now c.index-2.result.now c.in_ok-left.left grows
+    difference_of_old c.self.inside.sets.keys c.self-2.inside.sets.keys pair c.in_ok-number.number c.index.result.now c.index-2.result.now c.in_ok-left.left
+    grows
     c.index.ensures c.index-2.ensures placed c.in_ok-left.ensures
     )

@@ -22,7 +22,8 @@ invariant_of-self-in_err-put c =
     subst (Extends c.self.inside.sets.keys) (sym c.self-2.view_is) c.place.ensures.kept in
     let placed : slice_get c.self-2.inside.sets.keys c.in_ok-number.number ≡ Some c.in_ok-both.both =
     subst (λ sets. slice_get sets c.in_ok-number.number ≡ Some c.in_ok-both.both) (sym c.self-2.view_is) c.in_ok-number.ensures.placed in
-    table_with_union c.self-2.inside.sets.keys c.self-2.inside.unions c.put.new.self c.self-2.inside.differences (pair, c.in_ok-number.number) c.self-2.invariant (
+    table_with_union c.self-2.inside.sets.keys c.self-2.inside.unions c.put.new.self c.self-2.inside.differences (pair, c.in_ok-number.number)
+    c.self-2.invariant (
     new_union c.self.inside.sets.keys c.self-2.inside.sets.keys pair c.in_ok-number.number c.index.result.now c.index-2.result.now c.in_ok-both.both grows
     c.index.ensures c.index-2.ensures placed c.in_ok-both.ensures
     ) c.put.ensures.nothing_else
@@ -34,7 +35,8 @@ invariant_of-self-3 c =
     subst (Extends c.self.inside.sets.keys) (sym c.self-2.view_is) c.place.ensures.kept in
     let placed : slice_get c.self-2.inside.sets.keys c.in_ok-number.number ≡ Some c.in_ok-both.both =
     subst (λ sets. slice_get sets c.in_ok-number.number ≡ Some c.in_ok-both.both) (sym c.self-2.view_is) c.in_ok-number.ensures.placed in
-    table_with_union c.self-2.inside.sets.keys c.self-2.inside.unions c.put.new.self c.self-2.inside.differences (pair, c.in_ok-number.number) c.self-2.invariant (
+    table_with_union c.self-2.inside.sets.keys c.self-2.inside.unions c.put.new.self c.self-2.inside.differences (pair, c.in_ok-number.number)
+    c.self-2.invariant (
     new_union c.self.inside.sets.keys c.self-2.inside.sets.keys pair c.in_ok-number.number c.index.result.now c.index-2.result.now c.in_ok-both.both grows
     c.index.ensures c.index-2.ensures placed c.in_ok-both.ensures
     ) c.put.ensures.nothing_else
