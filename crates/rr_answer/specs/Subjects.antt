@@ -4,6 +4,7 @@ use Rattle.rr_model.specs.Moment.{Occurrences}
 use Rattle.rr_model.specs.Series.Cycle.{series_cycle}
 use Rattle.rr_model.specs.Series.FirstRefusal.{IsFirstRefusal, Limits}
 use Rattle.rr_model.specs.Series.Occurrences.{Occurs}
+use Rattle.rr_model.specs.declared.kind.Kind.{Kind}
 use Rattle.rr_model.specs.declared.refusal.Refusal.{Refusal}
 use Rattle.rr_model.specs.declared.rule.Series.{Series}
 
@@ -14,6 +15,10 @@ pub data Subject : Type 0 where
 -- its occurrences
 abbrev pub OccursIn : Subject → Occurrences
 OccursIn (of_series series) = Occurs series
+
+-- whether they are dates or moments
+abbrev pub kind_of : Subject → Kind
+kind_of (of_series series) = series.kind
 
 -- after how many days it repeats, once it has settled
 abbrev pub cycle_of : Subject → ℕ
