@@ -23,11 +23,16 @@ use Rattle.rr_rrule.proofs.StepLemmas.{and_then_ok}
 use Rattle.rr_vcal.proofs.OccurrenceLemmas.{counterpart_has_occurrences as vcal_counterpart}
 use Rattle.rr_vcal.proofs.ValidReadLemmas.{answer-valid}
 use Rattle.rr_answer.specs.Command.{Operand}
-use Rattle.rr_answer.specs.OperandReading.{IsStatedIn, IsSubjectRead, graph_as_series, vcal_as_series}
+use Rattle.rr_answer.specs.OperandReading.{IsDescriptorRead, IsStatedIn, IsSubjectRead, graph_as_series, vcal_as_series}
 use Rattle.rr_answer.specs.OwnSense.{OccursAsStated, OwnSense}
-use Rattle.rr_answer.specs.Subjects.{OccursIn, Subject, as_subject, of_series}
+use Rattle.rr_answer.specs.Subjects.{OccursIn, Subject, as_subject, of_series, of_sketch}
 use Rattle.rr_answer.specs.declared.command.Language.{Language}
-use Rattle.rr_answer.specs.declared.command.Language.TheVariants.{Rrule, Vcal, Graph, List as list}
+use Rattle.rr_answer.specs.declared.command.Language.TheVariants.{Rrule, Vcal, Graph, List as list, Canon}
+use Rattle.rr_answer.proofs.DescriptorLemmas.{descriptor_is_one}
+use Rattle.rr_algebra.specs.Stated.{IsDescriptor}
+use Rattle.rr_model.specs.Sets.Sketch.{StandsIn}
+use Rattle.rr_model.specs.Text.Lines.{without_mark}
+use Rattle.rr_model.specs.declared.sketch.Sketch.{Sketch}
 use Rattle.rr_answer.proofs.GraphEventLemmas.{reads_graph-valid}
 
 -- a series was read where it is the subject
@@ -73,6 +78,13 @@ series_stated read subject h =
     subst (λ x. HaveEqualOccurrences (OccursIn x) (λ k t. (series : Series) × (read ≡ Ok series) × Occurs series k t)) (sym is.is_subject)
     (of_value Series read (λ s. s) Occurs (λ s p k t. ((λ o. o), (λ o. o))) is.series is.is_read)
 
+descriptor_stated :
+    (text : List ℕ) (subject : Subject) → IsDescriptorRead text (Ok subject)
+    → HaveEqualOccurrences (OccursIn subject) (λ k t. (sketch : Sketch) × IsDescriptor text sketch × StandsIn sketch k t)
+descriptor_stated text (of_series series) h = absurd h
+descriptor_stated text (of_sketch sketch) h k t =
+    ((λ o. (sketch, h, o)), (λ o. subst (λ z. StandsIn z k t) (descriptor_is_one text o.0 sketch o.1 h) o.2))
+
 stated_in :
     (language : Language) (offset : Option ℤ) (bytes : List ℕ) (subject : Subject) → IsStatedIn language offset bytes (Ok subject)
     → HaveEqualOccurrences (OccursIn subject) (OccursAsStated language offset bytes)
@@ -84,6 +96,7 @@ stated_in Vcal offset bytes subject h =
 stated_in Graph offset bytes subject h =
     stated_occurs GraphEvent (reads_graph offset bytes) series_of_graph IsGraphOccurrence
     (λ e p k t. graph_counterpart e k t (reads_graph-valid offset bytes e p)) subject h
+stated_in Canon offset bytes subject h = descriptor_stated (without_mark bytes) subject h
 
 pub own_sense : OwnSense
 unfolding IsSubjectRead
