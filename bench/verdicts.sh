@@ -13,6 +13,9 @@ series yearly 20240229 'FREQ=YEARLY;BYMONTH=2;BYMONTHDAY=-1'
 series counted 20240101 'FREQ=DAILY;COUNT=16777217'
 series seconds 20240101T000000 'FREQ=SECONDLY;INTERVAL=86399'
 series january 20240101T000000 'FREQ=SECONDLY;BYMONTH=1'
+series visits 20240101T090000 'FREQ=DAILY;INTERVAL=4096'
+series repairs 20240101T100000 'FREQ=DAILY;INTERVAL=4095'
+series daily 20240101 'FREQ=DAILY'
 series dense 20240101T000000 'FREQ=MINUTELY;INTERVAL=113;BYMONTH=1,2,3,4,5,6,7,8,9,10,11,12'
 
 several beside 20240101 'FREQ=MONTHLY;INTERVAL=113' 'FREQ=DAILY'
@@ -36,5 +39,9 @@ measure 0.02 5 'canon, monthly' canon "rrule:$scratch/monthly"
 measure 2 3 'canon, a dense cycle of 16,508,961 days' canon "rrule:$scratch/dense"
 measure 1 1 'equal, a long and a daily rule' equal "rrule:$scratch/beside" "rrule:$scratch/beside"
 measure 2 3 'equal, 16 counted rules and 10,000 dates' equal "rrule:$scratch/sixteen" "rrule:$scratch/sixteen"
+measure 0.02 5 'clear, yearly and weekly, a day each' clear 86400 "rrule:$scratch/yearly" 86400 "rrule:$scratch/weekly"
+measure 2 3 'clear, visits and repairs of an hour, 16,773,120 days' clear 3600 "rrule:$scratch/visits" 3600 "rrule:$scratch/repairs"
+measure 0.02 5 'nth 1000000000000, daily' nth 1000000000000 "rrule:$scratch/daily"
+measure 0.5 3 'rank 9999-12-31, a cycle of 16,508,961 days' rank 9999-12-31 "rrule:$scratch/long"
 measure 0.5 3 'list 100000 of two rules' list 100000 "rrule:$scratch/pair"
 measure 0.1 3 'check, set positions of whole years' check "rrule:$scratch/second"

@@ -1,0 +1,29 @@
+use Rattle.std.proofs.Common.{arith}
+use Rattle.std.proofs.lemmas.Result.{IfOk-weaker}
+use Rattle.rr_answer.specs.Outcome.{answer_of}
+use Rattle.rr_answer.specs.declared.command.Inquiry.TheVariants.{Clash}
+use Rattle.rr_answer.proofs.ClashLemmas.{clash_is_said, clash_of_both, printable_clash, printable_kinds}
+use Rattle.rr_answer.proofs.SaidOfBothLemmas.{too_late_said}
+use Rattle.rr_answer.proofs.clashes.clash_outcome.Goals as goal
+
+pub clash_told-requires : goal.clash_told-requires
+clash_told-requires c =
+    printable_kinds _ _ c.kind-kind_a.result c.kind-kind_b.result c.clear-clash.result c.kind-kind_a.ensures c.kind-kind_b.ensures
+    (printable_clash _ _ c.args.duration_a c.args.duration_b c.clear-clash.result c.requires.a c.requires.b c.clear-clash.ensures.verdict
+    c.clear-clash.ensures.day)
+
+pub returns-if-not-together : goal.returns-if-not-together
+returns-if-not-together c =
+    let late = λ h. absurd (c.if-not-together.true (c.repeat_together-together.ensures.1 h)) in
+    IfOk-weaker c.refused.result _ _
+    (λ x e s u fold fold'. too_late_said s u _ _ fold fold' (Clash c.args.duration_a c.args.duration_b) (answer_of x) late e)
+    c.refused.ensures
+
+pub returns : goal.returns
+returns c =
+    let few = c.repeat_together-together.ensures.0 c.if-not-together.false in
+    IfOk-weaker c.clash_told.result _ _
+    (λ x e s u fold fold'. clash_of_both s u _ _ fold fold' c.args.duration_a c.args.duration_b (answer_of x) few
+    (clash_is_said s u _ _ fold fold' c.args.duration_a c.args.duration_b c.kind-kind_a.result c.kind-kind_b.result
+    c.clear-clash.result (answer_of x) c.kind-kind_a.ensures c.kind-kind_b.ensures c.clear-clash.ensures.verdict e))
+    c.clash_told.ensures

@@ -1,0 +1,22 @@
+use Rattle.std.proofs.lemmas.Result.{IfOk-weaker}
+use Rattle.std.specs.Prelude.{Ok}
+use Rattle.rr_answer.proofs.SaidOfBothLemmas.{fold_from_year_one}
+use Rattle.rr_answer.proofs.pairs.pair_outcome.Goals as goal
+
+pub said_of_both-requires-clause-a : goal.said_of_both-requires-clause-a
+said_of_both-requires-clause-a c = fold_from_year_one c.in-Ok.ensures.accepted.subject _ c.in-Ok.ensures.accepted.fold
+
+pub said_of_both-requires-clause-b : goal.said_of_both-requires-clause-b
+said_of_both-requires-clause-b c = fold_from_year_one c.in-Ok-read_folded.ensures.accepted.subject _ c.in-Ok-read_folded.ensures.accepted.fold
+
+pub returns-in-Ok-read_folded : goal.returns-in-Ok-read_folded
+returns-in-Ok-read_folded c =
+    let of_a = c.in-Ok.ensures.accepted in
+    let of_b = c.in-Ok-read_folded.ensures.accepted in
+    IfOk-weaker c.said_of_both.result _ _
+    (λ x e. record {
+      judged = Ok of_a.subject;
+      is_judged = of_a.judged;
+      is_said = record { judged = Ok of_b.subject; is_judged = of_b.judged; is_said = e of_a.subject of_b.subject of_a.fold of_b.fold };
+    })
+    c.said_of_both.ensures

@@ -1,0 +1,38 @@
+-- What the text of an operand states in its own language, with no word of RFC 5545 but where that is its language.
+use Rattle.std.specs.Prelude.{◌≡◌, ℤ, List, ℕ, Option, Ok}
+use Rattle.rr_answer.specs.Command.{Operand}
+use Rattle.rr_answer.specs.OperandReading.{IsSubjectRead}
+use Rattle.rr_answer.specs.Subjects.{OccursIn, Subject}
+use Rattle.rr_answer.specs.declared.command.Language.{Language}
+use Rattle.rr_answer.specs.declared.command.Language.TheVariants.{Rrule, Vcal, Graph, List as list, Canon}
+use Rattle.rr_algebra.specs.Stated.{IsDescriptor}
+use Rattle.rr_model.specs.Graph.Occurrences.{IsGraphOccurrence}
+use Rattle.rr_model.specs.Graph.Reading.{reads_graph}
+use Rattle.rr_model.specs.Moment.{Occurrences}
+use Rattle.rr_model.specs.Series.Occurrences.{Occurs}
+use Rattle.rr_model.specs.Sets.Sketch.{StandsIn}
+use Rattle.rr_model.specs.Sets.Verdict.{HaveEqualOccurrences}
+use Rattle.rr_model.specs.Text.Calendars.{reads_calendar}
+use Rattle.rr_model.specs.Text.Lines.{without_mark}
+use Rattle.rr_model.specs.Text.Lists.{reads_list}
+use Rattle.rr_model.specs.Vcal.Members.{OccursInVseries}
+use Rattle.rr_model.specs.Vcal.Reading.{reads_vcal}
+use Rattle.rr_model.specs.declared.graph.GraphEvent.{GraphEvent}
+use Rattle.rr_model.specs.declared.rule.Series.{Series}
+use Rattle.rr_model.specs.declared.sketch.Sketch.{Sketch}
+use Rattle.rr_model.specs.declared.vcal.VSeries.{VSeries}
+
+-- The occurrences of what the bytes state: of a series of RFC 5545 or of dates, of the items of a vCalendar 1.0 series, of the
+-- days of a Graph pattern within its range, of the sketch of a canonical text. The offset is the stated one, local time less UTC in seconds.
+abbrev pub OccursAsStated : Language → Option ℤ → List ℕ → Occurrences
+OccursAsStated Rrule offset bytes k t = (series : Series) × (reads_calendar offset bytes ≡ Ok series) × Occurs series k t
+OccursAsStated list offset bytes k t = (series : Series) × (reads_list bytes ≡ Ok series) × Occurs series k t
+OccursAsStated Vcal offset bytes k t = (series : VSeries) × (reads_vcal offset bytes ≡ Ok series) × OccursInVseries series k t
+OccursAsStated Graph offset bytes k t = (event : GraphEvent) × (reads_graph offset bytes ≡ Ok event) × IsGraphOccurrence event k t
+OccursAsStated Canon offset bytes k t = (sketch : Sketch) × IsDescriptor (without_mark bytes) sketch × StandsIn sketch k t
+
+-- What is read of an operand has the occurrences that its text states in its own language.
+abbrev pub OwnSense : Type 0
+OwnSense =
+    (operand : Operand) (bytes : List ℕ) (subject : Subject) → IsSubjectRead operand bytes (Ok subject)
+    → HaveEqualOccurrences (OccursIn subject) (OccursAsStated operand.language operand.offset bytes)

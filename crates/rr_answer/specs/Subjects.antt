@@ -1,0 +1,45 @@
+-- What a command is about: occurrences with a cycle, by the form in which a text states them.
+use Rattle.std.specs.Prelude.{◌≡◌, ℕ, Option, None, Result, Ok, Err}
+use Rattle.rr_model.specs.Moment.{Occurrences}
+use Rattle.rr_model.specs.Series.Cycle.{series_cycle}
+use Rattle.rr_model.specs.Series.FirstRefusal.{IsFirstRefusal, Limits}
+use Rattle.rr_model.specs.Series.Occurrences.{Occurs}
+use Rattle.rr_model.specs.Sets.Sketch.{StandsIn}
+use Rattle.rr_model.specs.declared.kind.Kind.{Kind}
+use Rattle.rr_model.specs.declared.refusal.Refusal.{Refusal}
+use Rattle.rr_model.specs.declared.rule.Series.{Series}
+use Rattle.rr_model.specs.declared.sketch.Sketch.{Sketch}
+
+-- a series of RFC 5545, or the sketch of a canonical text
+pub data Subject : Type 0 where
+  of_series : Series → Subject
+  of_sketch : Sketch → Subject
+
+-- its occurrences
+abbrev pub OccursIn : Subject → Occurrences
+OccursIn (of_series series) = Occurs series
+OccursIn (of_sketch sketch) = StandsIn sketch
+
+-- whether they are dates or moments
+abbrev pub kind_of : Subject → Kind
+kind_of (of_series series) = series.kind
+kind_of (of_sketch sketch) = sketch.kind
+
+-- after how many days it repeats, once it has settled
+abbrev pub cycle_of : Subject → ℕ
+cycle_of (of_series series) = series_cycle series
+cycle_of (of_sketch sketch) = sketch.period
+
+-- the first refusal of what was read, by these limits, or None; a canonical text is refused by no limit
+abbrev pub IsSubjectRefusal : Limits → Subject → Option Refusal → Type 0
+IsSubjectRefusal limits (of_series series) x = IsFirstRefusal limits series x
+IsSubjectRefusal limits (of_sketch sketch) x = x ≡ None
+
+-- what may be read of a text: a subject, or why the text is refused
+abbrev pub Reading : Type 1
+Reading = Result Subject Refusal → Type 0
+
+-- what is read of a text that states a series
+abbrev pub as_subject : Result Series Refusal → Result Subject Refusal
+as_subject (Ok series) = Ok (of_series series)
+as_subject (Err refusal) = Err refusal

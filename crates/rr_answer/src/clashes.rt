@@ -1,0 +1,87 @@
+// What `clear` says of two series.
+ghost use Rattle.std.specs.Prelude.{◌≡◌, IfOk};
+ghost use Rattle.rr_model.specs.declared.kind.Kind.TheVariants.{Moments};
+ghost use Rattle.rr_overlap.specs.Running.{IsDuration};
+ghost use Rattle.rr_answer.specs.Clashes.{IsPrintableClash, clash_said, clash_text};
+ghost use Rattle.rr_answer.specs.Folding.{IsFoldOf, IsFromYearOneOn};
+ghost use Rattle.rr_answer.specs.Outcome.{answer_of};
+ghost use Rattle.rr_answer.specs.Printable.{IsPrintableAt};
+ghost use Rattle.rr_answer.specs.Verdicts.{IsSaidOfBoth};
+ghost use Rattle.rr_answer.specs.Subjects.{Subject};
+ghost use Rattle.rr_answer.specs.declared.command.Inquiry.TheVariants.{Clash as AskClash};
+
+use crate::conclusion::Conclusion;
+use crate::outcome::{Outcome, refused};
+use crate::verdicts::repeat_together;
+use rr_days::Folded;
+use rr_model::{Kind, NoMemory, Refusal, Side};
+use rr_overlap::{Clash, clear};
+use rr_text::push_extended;
+use rr_word::DaySeq;
+use std::alloc::Global;
+
+// A no with the first shared second and the two occurrences.
+fn clash_text(
+    alloc: Global,
+    at: i64,
+    kind_a: Kind,
+    a: i64,
+    kind_b: Kind,
+    b: i64,
+) -> Result<Vec<u8>, NoMemory>
+    requires at { IsPrintableAt Moments at }
+    requires a { IsPrintableAt kind_a a }
+    requires b { IsPrintableAt kind_b b }
+    ensures { IfOk result (λ text. text.items ≡ clash_text kind_a kind_b at a b) }
+{
+    let mut text = Vec::from_slice(alloc, b"no ")?;
+    push_extended(&mut text, Kind::Moments, at)?;
+    text.push(b' ')?;
+    push_extended(&mut text, kind_a, a)?;
+    text.push(b' ')?;
+    push_extended(&mut text, kind_b, b)?;
+    text.push(b'\n')?;
+    Ok(text)
+}
+
+// That two series of these kinds are clear of each other, or the first clash.
+fn clash_told(alloc: Global, kind_a: Kind, kind_b: Kind, clash: Clash) -> Result<Outcome, NoMemory>
+    requires { IsPrintableClash kind_a kind_b clash }
+    ensures { IfOk result (λ x. answer_of x ≡ clash_said kind_a kind_b clash) }
+{
+    match clash {
+        Clash::Yes => Ok(Outcome {
+            conclusion: Conclusion::Yes,
+            text: Vec::from_slice(alloc, b"yes\n")?,
+        }),
+        Clash::No { at, a, b } => Ok(Outcome {
+            conclusion: Conclusion::No,
+            text: clash_text(alloc, at, kind_a, a, kind_b, b)?,
+        }),
+    }
+}
+
+/// What is said of two series that are within their limits, whose occurrences last `duration_a` and `duration_b` seconds: that
+/// their common cycle is too long, or that they never run at the same time, or the first clash.
+pub fn clash_outcome(
+    alloc: Global,
+    duration_a: u32,
+    a: &Folded,
+    duration_b: u32,
+    b: &Folded,
+) -> Result<Outcome, NoMemory>
+    requires first { IsDuration duration_a }
+    requires second { IsDuration duration_b }
+    requires a { IsFromYearOneOn (⟦<Folded as DaySeq>⟧.sketch a.now) }
+    requires b { IsFromYearOneOn (⟦<Folded as DaySeq>⟧.sketch b.now) }
+    ensures { IfOk result (λ x. (s u : Subject) → IsFoldOf s (⟦<Folded as DaySeq>⟧.sketch a.now) → IsFoldOf u (⟦<Folded as DaySeq>⟧.sketch b.now) → IsSaidOfBoth (AskClash duration_a duration_b) s u (answer_of x)) }
+{
+    let together = repeat_together(a, b);
+    if !together {
+        return refused(alloc, Side::Both, Refusal::CycleTooLong);
+    }
+    let kind_a = a.kind();
+    let kind_b = b.kind();
+    let clash = clear(a, duration_a, b, duration_b);
+    clash_told(alloc, kind_a, kind_b, clash)
+}

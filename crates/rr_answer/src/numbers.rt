@@ -1,0 +1,132 @@
+// What `nth` and `rank` say of an operand.
+ghost use Rattle.std.specs.Prelude.{◌≡◌, ◌<◌, ◌≤◌, IfOk};
+ghost use Rattle.rr_fold.specs.Judged.{all_limits};
+ghost use Rattle.rr_model.specs.Moment.Years.{IsInYears};
+ghost use Rattle.rr_model.specs.Sets.Sketch.{StandsIn};
+ghost use Rattle.rr_model.specs.declared.verdict.Side.TheVariants.{A};
+ghost use Rattle.rr_rank.specs.Rank.{IsNthOf, IsRank};
+ghost use Rattle.rr_answer.specs.Numbers.{IsNthSaid, IsPrintableNth, IsRankSaid, nth_said, rank_said};
+ghost use Rattle.rr_answer.specs.OperandReading.{IsSubjectRead};
+ghost use Rattle.rr_answer.specs.Outcome.{answer_of};
+ghost use Rattle.rr_answer.specs.Parsed.{operand_in};
+ghost use Rattle.rr_answer.specs.Said.{IsSaidWithin};
+
+use crate::command::Operand;
+use crate::conclusion::Conclusion;
+use crate::folding::read_folded;
+use crate::outcome::{Outcome, refused, refused_for};
+use rr_days::Folded;
+use rr_model::{Kind, NoMemory, Refusal, Side};
+use rr_rank::{Nth, Ranked};
+use rr_steps::Steps;
+use rr_text::push_extended;
+use rr_word::{Counted, DaySeq};
+use std::alloc::Global;
+use std::marker::Brand;
+use std::sync::ledger::{Blank, Ledger};
+
+// The n-th occurrence. The days that are read are counted in the contract alone.
+fn nth_of<L: Ledger>(alloc: Global, days: Folded, n: u64, blank: Blank) -> Result<Nth, NoMemory>
+    requires name { blank.name ≡ L.name }
+    requires parts { blank.parts ≡ L.parts }
+    requires own { 0 < blank.parts }
+    requires some { 1 ≤ n }
+    requires most { n ≤ 1_125_899_906_842_624 }
+    ensures { IfOk result (λ r. IsNthOf (StandsIn (⟦<Folded as DaySeq>⟧.sketch days)) n r) }
+{
+    let mut steps = Steps::<L>::new(blank);
+    let counted = Counted::new(days);
+    let ranked = Ranked::new(alloc, &counted, &mut steps)?;
+    Ok(ranked.nth(n, &mut steps))
+}
+
+// How many occurrences are not after a moment. The days that are read are counted in the contract alone.
+fn rank_of<L: Ledger>(
+    alloc: Global,
+    days: Folded,
+    kind: Kind,
+    at: i64,
+    blank: Blank,
+) -> Result<u64, NoMemory>
+    requires name { blank.name ≡ L.name }
+    requires parts { blank.parts ≡ L.parts }
+    requires own { 0 < blank.parts }
+    requires years { IsInYears kind at }
+    ensures { IfOk result (λ n. IsRank (StandsIn (⟦<Folded as DaySeq>⟧.sketch days)) kind at n) }
+{
+    let mut steps = Steps::<L>::new(blank);
+    let counted = Counted::new(days);
+    let ranked = Ranked::new(alloc, &counted, &mut steps)?;
+    Ok(ranked.rank(kind, at, &mut steps))
+}
+
+// The occurrence of a number, that there are fewer, or that it lies past the greatest day.
+fn nth_told(alloc: Global, nth: Nth) -> Result<Outcome, NoMemory>
+    requires { IsPrintableNth nth }
+    ensures { IfOk result (λ x. answer_of x ≡ nth_said nth) }
+{
+    match nth {
+        Nth::At { kind, at } => {
+            let mut text = Vec::new(alloc);
+            push_extended(&mut text, kind, at)?;
+            text.push(b'\n')?;
+            Ok(Outcome {
+                conclusion: Conclusion::Yes,
+                text,
+            })
+        }
+        Nth::Fewer => Ok(Outcome {
+            conclusion: Conclusion::No,
+            text: Vec::from_slice(alloc, b"none\n")?,
+        }),
+        Nth::Past => refused(alloc, Side::A, Refusal::PastRange),
+    }
+}
+
+/// What is said of an operand's bytes: why its text or its series is refused, or its n-th occurrence, the first one as number 1.
+pub fn nth_outcome(
+    alloc: Global,
+    operand: Operand,
+    bytes: &[u8],
+    n: u64,
+) -> Result<Outcome, NoMemory>
+    requires some { 1 ≤ n }
+    requires most { n ≤ 1_125_899_906_842_624 }
+    ensures { IfOk result (λ x. IsSaidWithin A all_limits (IsSubjectRead (operand_in operand.entry) bytes.now) (IsNthSaid n) (answer_of x)) }
+{
+    match read_folded(alloc, operand, bytes) {
+        Err(fault) => refused_for(alloc, Side::A, fault),
+        Ok(days) => nth_told(alloc, nth_of::<Brand>(alloc, days, n, Blank::new(1))?),
+    }
+}
+
+// A number alone on a line.
+fn rank_told(alloc: Global, rank: u64) -> Result<Outcome, NoMemory>
+    ensures { IfOk result (λ x. answer_of x ≡ rank_said rank) }
+{
+    Ok(Outcome {
+        conclusion: Conclusion::Yes,
+        text: format!(in alloc; "{rank}\n")?.into_bytes(),
+    })
+}
+
+/// What is said of an operand's bytes: why its text or its series is refused, or how many of its occurrences are not after a
+/// moment of the years 1 to 9999, or a date of them.
+pub fn rank_outcome(
+    alloc: Global,
+    operand: Operand,
+    bytes: &[u8],
+    kind: Kind,
+    at: i64,
+) -> Result<Outcome, NoMemory>
+    requires { IsInYears kind at }
+    ensures { IfOk result (λ x. IsSaidWithin A all_limits (IsSubjectRead (operand_in operand.entry) bytes.now) (IsRankSaid kind at) (answer_of x)) }
+{
+    match read_folded(alloc, operand, bytes) {
+        Err(fault) => refused_for(alloc, Side::A, fault),
+        Ok(days) => rank_told(
+            alloc,
+            rank_of::<Brand>(alloc, days, kind, at, Blank::new(1))?,
+        ),
+    }
+}

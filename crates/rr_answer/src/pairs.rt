@@ -1,0 +1,67 @@
+// What is said of two operands.
+ghost use Rattle.std.specs.Prelude.{IfOk};
+ghost use Rattle.rr_answer.specs.Answer.{IsPairAnswer};
+ghost use Rattle.rr_answer.specs.Command.{HasDurations};
+ghost use Rattle.rr_answer.specs.Folding.{IsFoldOf, IsFromYearOneOn};
+ghost use Rattle.rr_answer.specs.OperandReading.{IsSubjectRead};
+ghost use Rattle.rr_answer.specs.Outcome.{answer_of};
+ghost use Rattle.rr_answer.specs.Parsed.{operand_in};
+ghost use Rattle.rr_answer.specs.Subjects.{Subject};
+ghost use Rattle.rr_answer.specs.Verdicts.{IsSaidOfBoth};
+
+use crate::clashes::clash_outcome;
+use crate::command::{Inquiry, Operand};
+use crate::folding::read_folded;
+use crate::outcome::{Outcome, refused_for};
+use crate::verdicts::verdict_outcome;
+use rr_days::Folded;
+use rr_model::{NoMemory, Side};
+use rr_word::DaySeq;
+use std::alloc::Global;
+
+// What is said of two series that are within their limits: that their common cycle is too long for what is asked, or the
+// answer.
+fn said_of_both(
+    alloc: Global,
+    inquiry: Inquiry,
+    a: Folded,
+    b: Folded,
+) -> Result<Outcome, NoMemory>
+    requires durations { HasDurations inquiry }
+    requires a { IsFromYearOneOn (⟦<Folded as DaySeq>⟧.sketch a) }
+    requires b { IsFromYearOneOn (⟦<Folded as DaySeq>⟧.sketch b) }
+    ensures { IfOk result (λ x. (s u : Subject) → IsFoldOf s (⟦<Folded as DaySeq>⟧.sketch a) → IsFoldOf u (⟦<Folded as DaySeq>⟧.sketch b) → IsSaidOfBoth inquiry s u (answer_of x)) }
+{
+    match inquiry {
+        Inquiry::Verdict(question) => verdict_outcome(alloc, question, a, b),
+        Inquiry::Clash {
+            duration_a,
+            duration_b,
+        } => clash_outcome(alloc, duration_a, &a, duration_b, &b),
+    }
+}
+
+/// What is said of the bytes of two operands: the refusal of A, else that of B, else that of both, else what is asked of
+/// them.
+///
+/// Nothing of B is read where A is refused.
+pub fn pair_outcome(
+    alloc: Global,
+    inquiry: Inquiry,
+    a: Operand,
+    text_a: &[u8],
+    b: Operand,
+    text_b: &[u8],
+) -> Result<Outcome, NoMemory>
+    requires { HasDurations inquiry }
+    ensures { IfOk result (λ x. IsPairAnswer inquiry (IsSubjectRead (operand_in a.entry) text_a.now) (IsSubjectRead (operand_in b.entry) text_b.now) (answer_of x)) }
+{
+    let a = match read_folded(alloc, a, text_a) {
+        Err(fault) => return refused_for(alloc, Side::A, fault),
+        Ok(days) => days,
+    };
+    match read_folded(alloc, b, text_b) {
+        Err(fault) => refused_for(alloc, Side::B, fault),
+        Ok(b) => said_of_both(alloc, inquiry, a, b),
+    }
+}

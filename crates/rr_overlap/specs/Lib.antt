@@ -1,0 +1,4 @@
+pub mod Apart
+pub mod Days
+pub mod Pairs
+pub mod Running

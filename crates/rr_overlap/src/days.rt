@@ -1,0 +1,165 @@
+// A walk over the days of two sequences.
+ghost use Rattle.std.specs.Prelude.{◌≡◌, ◌<◌, ◌≤◌, [], IsTrue, IfSome, IfNone, MatchOption, None, Some, length, slice_get, pos, neg_ℤ, ◌+ℤ◌, ◌*ℤ◌, ◌≤ℤ◌};
+ghost use Rattle.rr_model.specs.Sets.Sketch.{IsNearDay, times_on};
+ghost use Rattle.rr_word.specs.Stretches.{IsNumberOn};
+ghost use Rattle.rr_overlap.specs.Apart.{AreApartBefore, IsFound, IsLastBefore, IsNear, IsNearMidnight, IsNearSecond, IsWalked};
+ghost use Rattle.rr_overlap.specs.Days.{IsDayEnd, IsQuietDay, midnight};
+ghost use Rattle.rr_overlap.specs.Pairs.{AreQuiet, IsKnown};
+ghost use Rattle.rr_overlap.specs.Running.{IsDuration};
+
+use crate::begun::{Durations, LastBegun, Meeting, after_day, midnight_of, reaches, second_at};
+use crate::pairs::{Pairs, is_known, remember};
+use rr_word::{DaySeq, next_second};
+
+/// What a day shows of two sequences.
+#[derive(Clone, Copy)]
+pub enum DayEnd {
+    /// The first second in which occurrences of both run.
+    Meets(Meeting),
+    /// None, and what began last.
+    Clear(LastBegun),
+}
+
+// The seconds of the time set of a number; none without a number.
+fn seconds<S: DaySeq>(seq: &S, number: Option<u32>) -> &[u32]
+    requires { IfSome number (λ n. n < length (S.sets seq.now)) }
+    ensures { MatchOption number (result.now ≡ []) (λ n. slice_get (S.sets seq.now) n ≡ Some result.now) }
+{
+    match number {
+        None => &[],
+        Some(number) => seq.times(number),
+    }
+}
+
+// What a day shows, second by second.
+fn walk_seconds<A: DaySeq, B: DaySeq>(
+    a: &A,
+    b: &B,
+    durations: Durations,
+    day: i64,
+    begun: LastBegun,
+) -> DayEnd
+    requires first { IsDuration durations.first }
+    requires second { IsDuration durations.second }
+    requires low { neg_ℤ (pos 1_100_000_000) ≤ℤ day }
+    requires high { day ≤ℤ pos 1_100_000_000 }
+    requires walked { IsWalked (A.sketch a.now) durations.first (B.sketch b.now) durations.second (midnight day) begun }
+    requires near { IsNear begun }
+    ensures { IsDayEnd (A.sketch a.now) durations.first (B.sketch b.now) durations.second day result }
+{
+    let midnight = midnight_of(day);
+    let mut rest_a = a.at(day);
+    let mut rest_b = b.at(day);
+    let mut last = begun;
+    while let Some(next) = next_second(rest_a, rest_b) {
+        let at = second_at(midnight, next.second);
+        last = last.after(next.side, at);
+        if let Some(meeting) = last.meeting(durations, at) {
+            return DayEnd::Meets(meeting);
+        }
+        rest_a = next.xs;
+        rest_b = next.ys;
+    }
+    DayEnd::Clear(last)
+}
+
+// Whether nothing that begins on a day meets anything: no pair of its seconds does, as is remembered, and what began last
+// is over when the first of them begins.
+fn is_quiet(
+    known: bool,
+    durations: Durations,
+    midnight: i64,
+    xs: &[u32],
+    ys: &[u32],
+    begun: LastBegun,
+) -> bool
+    requires midnight { IsNearMidnight midnight }
+    requires near { IsNear begun }
+    ensures { IsTrue result → IsQuietDay known durations.first durations.second midnight xs.now ys.now begun }
+{
+    let apart = known || xs.is_empty() || ys.is_empty();
+    apart
+        && !reaches(begun.first, durations.first, midnight, ys)
+        && !reaches(begun.second, durations.second, midnight, xs)
+}
+
+/// What a day shows of two sequences.
+///
+/// Its seconds are walked where the pair of its time sets is not remembered, or what began before still runs.
+fn walk_day<A: DaySeq, B: DaySeq>(
+    a: &A,
+    b: &B,
+    durations: Durations,
+    day: i64,
+    begun: LastBegun,
+    pairs: &mut Pairs,
+) -> DayEnd
+    requires first { IsDuration durations.first }
+    requires second { IsDuration durations.second }
+    requires low { neg_ℤ (pos 1_100_000_000) ≤ℤ day }
+    requires high { day ≤ℤ pos 1_100_000_000 }
+    requires walked { IsWalked (A.sketch a.now) durations.first (B.sketch b.now) durations.second (midnight day) begun }
+    requires near { IsNear begun }
+    requires quiet { AreQuiet durations.first durations.second (A.sets a.now) (B.sets b.now) pairs.old.slots }
+    ensures day { IsDayEnd (A.sketch a.now) durations.first (B.sketch b.now) durations.second day result }
+    ensures quiet { AreQuiet durations.first durations.second (A.sets a.now) (B.sets b.now) pairs.new.slots }
+{
+    let of_a = a.stretch(day).first;
+    let of_b = b.stretch(day).first;
+    let xs = seconds(a, of_a);
+    let ys = seconds(b, of_b);
+    let midnight = midnight_of(day);
+    if is_quiet(
+        is_known(pairs, of_a, of_b),
+        durations,
+        midnight,
+        xs,
+        ys,
+        begun,
+    ) {
+        return DayEnd::Clear(LastBegun {
+            first: after_day(begun.first, midnight, xs),
+            second: after_day(begun.second, midnight, ys),
+        });
+    }
+    let end = walk_seconds(a, b, durations, day, begun);
+    if let DayEnd::Clear(_) = end {
+        remember(pairs, of_a, of_b);
+    }
+    end
+}
+
+/// The first second of the `days` days from a day on in which occurrences of both run; None where there is none.
+///
+/// Days are numbered from 1970-01-01. It reads each day once. The seconds of a day are walked where the pair of its time sets is not one of those that were
+/// remembered; otherwise its first and last seconds are enough. It takes no memory.
+pub fn first_meeting<A: DaySeq, B: DaySeq>(
+    a: &A,
+    b: &B,
+    durations: Durations,
+    from: i64,
+    days: u64,
+) -> Option<Meeting>
+    requires first { IsDuration durations.first }
+    requires second { IsDuration durations.second }
+    requires low { neg_ℤ (pos 1_100_000_000) ≤ℤ from }
+    requires high { (from +ℤ pos days) ≤ℤ pos 1_100_000_000 }
+    requires first_of_a { IsLastBefore (A.sketch a.now) (midnight from) None }
+    requires first_of_b { IsLastBefore (B.sketch b.now) (midnight from) None }
+    ensures none { IfNone result (AreApartBefore (A.sketch a.now) durations.first (B.sketch b.now) durations.second (midnight (from +ℤ pos days))) }
+    ensures some { IfSome result (λ m. IsFound (A.sketch a.now) durations.first (B.sketch b.now) durations.second m.at m.first m.second) }
+    ensures near { IfSome result (λ m. IsNearSecond m.at) }
+{
+    let mut pairs = Pairs::new();
+    let mut begun = LastBegun {
+        first: None,
+        second: None,
+    };
+    for k in 0..days {
+        match walk_day(a, b, durations, from + k as i64, begun, &mut pairs) {
+            DayEnd::Meets(meeting) => return Some(meeting),
+            DayEnd::Clear(last) => begun = last,
+        }
+    }
+    None
+}
