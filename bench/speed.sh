@@ -18,9 +18,9 @@ rare() {
     measure 0.03 5 "list 2, $1" list 2 "rrule:$scratch/line"
 }
 
-# pair NAME: instructions for the verdict on the series `NAME` and `NAME-other`.
+# pair LIMIT NAME: instructions for the verdict on the series `NAME` and `NAME-other`.
 pair() {
-    counted 5000000 1 "equal, $1" equal "rrule:$scratch/$1" "rrule:$scratch/$1-other"
+    counted "$1" 1 "equal, $2" equal "rrule:$scratch/$2" "rrule:$scratch/$2-other"
 }
 
 echo 'instructions a printed line'
@@ -37,6 +37,9 @@ lines 1000 'each seventh hour' 20240101T090000 'FREQ=HOURLY;INTERVAL=7'
 lines 1000 'each minute' 20240101T090000 'FREQ=MINUTELY'
 lines 1000 'each second' 20240101T090000 'FREQ=SECONDLY'
 lines 5000 'by place, the last workday of each month' 20240131 'FREQ=MONTHLY;BYDAY=MO,TU,WE,TH,FR;BYSETPOS=-1'
+series working 20240101 'FREQ=DAILY'
+printf 'EXRULE:FREQ=WEEKLY;BYDAY=SA,SU\n' >>"$scratch/working"
+counted 1500 100000 'each day but Saturdays and Sundays' list 100000 "rrule:$scratch/working"
 
 series weekdays 20240101 'FREQ=WEEKLY;BYDAY=MO,WE,FR'
 series weekdays-other 20240101 'FREQ=DAILY;BYDAY=MO,WE,FR'
@@ -48,10 +51,21 @@ series leap-day-other 20240229 'FREQ=YEARLY'
 series far 20240229 'FREQ=YEARLY;BYMONTH=2;BYMONTHDAY=29'
 series far-other 20240229 'FREQ=YEARLY;INTERVAL=4;BYMONTH=2;BYMONTHDAY=-1'
 echo 'instructions of an everyday verdict'
-pair weekdays
-pair second-tuesday
-pair leap-day
-pair far
+series working-other 20240101 'FREQ=WEEKLY;BYDAY=MO,TU,WE,TH,FR'
+pair 1000000 weekdays
+pair 6000000 second-tuesday
+pair 4200000 leap-day
+pair 5000000 far
+pair 5000000 working
+
+series each-113th-month 20240101T093000 'FREQ=MONTHLY;INTERVAL=113'
+series each-113th-month-other 20240101T093000 'FREQ=MONTHLY;INTERVAL=113;BYMONTHDAY=1'
+series course 20240101 'FREQ=WEEKLY;COUNT=100;BYDAY=MO,TU'
+printf 'EXDATE:20240205\n' >>"$scratch/course"
+echo 'instructions of long cycles and of searches'
+pair 420000000 each-113th-month
+counted 45000000 1 'translate graph, a course with a date out' translate graph "rrule:$scratch/course"
+counted 11000000000 1 'drill 1 100' drill 1 100
 
 series long 20240101 'FREQ=MONTHLY;INTERVAL=113'
 several beside 20240101 'FREQ=MONTHLY;INTERVAL=113' 'FREQ=DAILY'
@@ -63,6 +77,9 @@ rare 'once in 400 years' 20000229 'FREQ=YEARLY;INTERVAL=400;BYMONTH=2;BYMONTHDAY
 rare 'every 146,097 days' 20000229 'FREQ=DAILY;INTERVAL=146097'
 measure 0.3 3 'equal, a cycle of 16,508,961 days' equal "rrule:$scratch/long" "rrule:$scratch/long"
 measure 1 3 'equal, that cycle beside a daily rule' equal "rrule:$scratch/beside" "rrule:$scratch/beside"
+series thinned 20240101 'FREQ=MONTHLY;INTERVAL=113'
+printf 'EXRULE:FREQ=DAILY\n' >>"$scratch/thinned"
+measure 1 3 'canon, that cycle less a daily rule' canon "rrule:$scratch/thinned"
 measure 2 3 'equal, each second of January' equal "rrule:$scratch/january" "rrule:$scratch/january"
 measure 2 3 'equal, minutes in 16,508,961 days' equal "rrule:$scratch/dense" "rrule:$scratch/dense"
 measure 2 3 'canon, minutes in 16,508,961 days' canon "rrule:$scratch/dense"

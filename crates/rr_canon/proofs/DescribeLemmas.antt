@@ -4,7 +4,7 @@ use Rattle.std.proofs.Common.{append_assoc, ℤ, ◌-ℤ◌, nat_abs, refl, sym,
 use Rattle.std.proofs.lemmas.List.{append-nil, map-append, take_all}
 use Rattle.std.proofs.Math.Seq.{take-suc, drop-cons}
 use Rattle.rr_model.specs.Sets.Descriptor.{Run, with_step, runs_of}
-use Rattle.rr_model.specs.Sets.DescriptorText.{text_of_lines, run_line, seconds_line, ending_lines, fields}
+use Rattle.rr_model.specs.Sets.DescriptorText.{text_of_lines, run_line, ending_lines, fields}
 use Rattle.rr_model.specs.Text.Moments.{extended_date_text}
 use Rattle.rr_word.specs.declared.numbered.NumberedDay.{NumberedDay}
 use Rattle.rr_canon.specs.Said.{steps_by_number, with_run, text_of_runs, IsNextRun, ending_said}
@@ -75,25 +75,26 @@ no_runs letter from days out none = sym (append-nil out) ∙ ap (λ l. out ++ te
 
 -- ---- sets
 
-pub no_sets : (out : List ℕ) (sets : List (List ℕ)) → out ≡ out ++ text_of_lines (map seconds_line (take 0 sets))
-unfolding text_of_lines
-no_sets out sets = sym (append-nil out)
+module _ (set_line : List ℕ → List ℕ) where
+  pub no_sets : (out : List ℕ) (sets : List (List ℕ)) → out ≡ out ++ text_of_lines (map set_line (take 0 sets))
+  unfolding text_of_lines
+  no_sets out sets = sym (append-nil out)
 
-pub one_more_set : (old out out' times : List ℕ) (sets : List (List ℕ)) (k : ℕ) → k < length sets → times ≡ get_or sets k []
-    → out ≡ old ++ text_of_lines (map seconds_line (take k sets)) → out' ≡ out ++ text_of_lines (seconds_line times ∷ [])
-    → out' ≡ old ++ text_of_lines (map seconds_line (take (k + 1) sets))
-one_more_set old out out' times sets k l et e f =
-    let next : take (k + 1) sets ≡ take k sets ++ get_or sets k [] ∷ [] =
-    (let g : k + 1 ≡ suc k = omega arith in ap (λ n. take n sets) g ∙ take-suc sets k [] l) in
-    f ∙ ap (λ o. o ++ text_of_lines (seconds_line times ∷ [])) e
-    ∙ append_assoc old (text_of_lines (map seconds_line (take k sets))) (text_of_lines (seconds_line times ∷ []))
-    ∙ ap (λ t. old ++ t) (sym (text_of_lines-append (map seconds_line (take k sets)) (seconds_line times ∷ []))
-    ∙ ap (λ t. text_of_lines (map seconds_line (take k sets) ++ seconds_line t ∷ [])) et
-    ∙ ap text_of_lines (sym (map-append seconds_line (take k sets) (get_or sets k [] ∷ [])) ∙ ap (map seconds_line) (sym next)))
+  pub one_more_set : (old out out' times : List ℕ) (sets : List (List ℕ)) (k : ℕ) → k < length sets → times ≡ get_or sets k []
+      → out ≡ old ++ text_of_lines (map set_line (take k sets)) → out' ≡ out ++ text_of_lines (set_line times ∷ [])
+      → out' ≡ old ++ text_of_lines (map set_line (take (k + 1) sets))
+  one_more_set old out out' times sets k l et e f =
+      let next : take (k + 1) sets ≡ take k sets ++ get_or sets k [] ∷ [] =
+      (let g : k + 1 ≡ suc k = omega arith in ap (λ n. take n sets) g ∙ take-suc sets k [] l) in
+      f ∙ ap (λ o. o ++ text_of_lines (set_line times ∷ [])) e
+      ∙ append_assoc old (text_of_lines (map set_line (take k sets))) (text_of_lines (set_line times ∷ []))
+      ∙ ap (λ t. old ++ t) (sym (text_of_lines-append (map set_line (take k sets)) (set_line times ∷ []))
+      ∙ ap (λ t. text_of_lines (map set_line (take k sets) ++ set_line t ∷ [])) et
+      ∙ ap text_of_lines (sym (map-append set_line (take k sets) (get_or sets k [] ∷ [])) ∙ ap (map set_line) (sym next)))
 
-pub all_sets : (old out : List ℕ) (sets front : List (List ℕ)) → front ≡ sets → out ≡ old ++ text_of_lines (map seconds_line front)
-    → out ≡ old ++ text_of_lines (map seconds_line sets)
-all_sets old out sets front e f = f ∙ ap (λ s. old ++ text_of_lines (map seconds_line s)) e
+  pub all_sets : (old out : List ℕ) (sets front : List (List ℕ)) → front ≡ sets → out ≡ old ++ text_of_lines (map set_line front)
+      → out ≡ old ++ text_of_lines (map set_line sets)
+  all_sets old out sets front e f = f ∙ ap (λ s. old ++ text_of_lines (map set_line s)) e
 
 pub no_lines : (out : List ℕ) → out ≡ out ++ text_of_lines []
 unfolding text_of_lines

@@ -14,3 +14,4 @@ pub mod DescribeLemmas
 pub mod SaidLemmas
 pub mod NumberedStretchLemmas
 pub mod YearOneLemmas
+pub mod ItemLemmas

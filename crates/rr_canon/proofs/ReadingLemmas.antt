@@ -50,14 +50,14 @@ module _ (s : Sketch) (valid : IsValidSketch s) (x : DayShape) (xs : List DaySha
   K : DayShape → Type 0
   K z = IsKnown (sets_of s) z.times
 
-  before_back : days_from (sets_of s) x.day (steps_of_runs (runs_of (steps_from (sets_of s) x.day s.before))) ≡ s.before
+  pub before_back : days_from (sets_of s) x.day (steps_of_runs (runs_of (steps_from (sets_of s) x.day s.before))) ≡ s.before
   before_back =
       ap (days_from (sets_of s) x.day) (steps_of_runs-runs_of (steps_from (sets_of s) x.day s.before))
       ∙ days_back (sets_of s) x.day x.day s.settled s.before (omega (arith, ints))
       (rises_from_first valid.before.0 s.settled s.before s.cycle x xs e valid.before.1)
       (All-front (λ (z : DayShape). IsKnown (sets_of s) z.times) s.before s.cycle (known_of s))
 
-  cycle_back : days_from (sets_of s) s.settled (steps_of_runs (runs_of (steps_from (sets_of s) s.settled s.cycle))) ≡ s.cycle
+  pub cycle_back : days_from (sets_of s) s.settled (steps_of_runs (runs_of (steps_from (sets_of s) s.settled s.cycle))) ≡ s.cycle
   cycle_back =
       ap (days_from (sets_of s) s.settled) (steps_of_runs-runs_of (steps_from (sets_of s) s.settled s.cycle))
       ∙ days_back (sets_of s) s.settled s.settled (s.settled +ℤ pos s.period) s.cycle (omega (arith, ints)) valid.cycle

@@ -7,7 +7,7 @@ use Rattle.rr_model.specs.declared.kind.Kind.{Kind}
 use Rattle.rr_model.specs.declared.sketch.DayShape.{DayShape}
 use Rattle.rr_model.specs.declared.sketch.Sketch.{Sketch}
 use Rattle.rr_model.specs.Sets.Descriptor.{Described, number_of, runs_of, steps_from, sets_of, ending_of, described, descriptor}
-use Rattle.rr_model.specs.Sets.DescriptorText.{text_of_lines, text_of, lines_of, seconds_line, descriptor_text}
+use Rattle.rr_model.specs.Sets.DescriptorText.{text_of_lines, text_of, lines_of}
 use Rattle.rr_model.specs.Sets.Least.{IsLeastSketch}
 use Rattle.rr_model.specs.Sets.Printable.{IsPrintedDay, HasNoneBeforeYearOne, IsDescribable}
 use Rattle.rr_canon.proofs.PrintableLemmas.{first_printed, settled_printed}
@@ -93,19 +93,20 @@ module _ (kind : Kind) (sets : List (List ℕ)) (before : List NumberedDay) (set
 
 -- ---- the text
 
-pub whole_text : (s : Sketch) (title : List ℕ) (x0 x1 x2 : List ℕ) → x0 ≡ [] → title ≡ codes "rrcanon 1" → x1 ≡ x0 ++ text_of_lines (title ∷ [])
-    → x2 ≡ x1 ++ text_of_lines (lines_of seconds_line (descriptor s)) → x2 ≡ descriptor_text s
-unfolding text_of
-whole_text s title x0 x1 x2 e0 et e1 e2 =
-    e2 ∙ ap (λ t. t ++ text_of_lines (lines_of seconds_line (descriptor s))) (e1 ∙ ap (λ t. t ++ text_of_lines (title ∷ [])) e0)
-    ∙ sym (text_of_lines-append (title ∷ []) (lines_of seconds_line (descriptor s)))
-    ∙ ap (λ t. text_of_lines (t ∷ lines_of seconds_line (descriptor s))) et
+module _ (set_line : List ℕ → List ℕ) where
+  pub whole_text : (s : Sketch) (title first : List ℕ) (x0 x1 x2 : List ℕ) → x0 ≡ [] → first ≡ title → x1 ≡ x0 ++ text_of_lines (first ∷ [])
+      → x2 ≡ x1 ++ text_of_lines (lines_of set_line (descriptor s)) → x2 ≡ text_of title set_line (descriptor s)
+  unfolding text_of
+  whole_text s title first x0 x1 x2 e0 et e1 e2 =
+      e2 ∙ ap (λ t. t ++ text_of_lines (lines_of set_line (descriptor s))) (e1 ∙ ap (λ t. t ++ text_of_lines (first ∷ [])) e0)
+      ∙ sym (text_of_lines-append (first ∷ []) (lines_of set_line (descriptor s)))
+      ∙ ap (λ t. text_of_lines (t ∷ lines_of set_line (descriptor s))) et
 
-pub none_text : (s : Sketch) (said : Option Described) (word old new : List ℕ) → descriptor s ≡ said → said ≡ None → word ≡ codes "none"
-    → new ≡ old ++ text_of_lines (word ∷ []) → new ≡ old ++ text_of_lines (lines_of seconds_line (descriptor s))
-none_text s said word old new ed es ew e =
-    e ∙ ap (λ w. old ++ text_of_lines (w ∷ [])) ew ∙ ap (λ d. old ++ text_of_lines (lines_of seconds_line d)) (sym (ed ∙ es))
+  pub none_text : (s : Sketch) (said : Option Described) (word old new : List ℕ) → descriptor s ≡ said → said ≡ None → word ≡ codes "none"
+      → new ≡ old ++ text_of_lines (word ∷ []) → new ≡ old ++ text_of_lines (lines_of set_line (descriptor s))
+  none_text s said word old new ed es ew e =
+      e ∙ ap (λ w. old ++ text_of_lines (w ∷ [])) ew ∙ ap (λ d. old ++ text_of_lines (lines_of set_line d)) (sym (ed ∙ es))
 
-pub some_text : (s : Sketch) (said : Option Described) (old new : List ℕ) → descriptor s ≡ said → new ≡ old ++ text_of_lines (lines_of seconds_line said)
-    → new ≡ old ++ text_of_lines (lines_of seconds_line (descriptor s))
-some_text s said old new ed e = e ∙ ap (λ d. old ++ text_of_lines (lines_of seconds_line d)) (sym ed)
+  pub some_text : (s : Sketch) (said : Option Described) (old new : List ℕ) → descriptor s ≡ said → new ≡ old ++ text_of_lines (lines_of set_line said)
+      → new ≡ old ++ text_of_lines (lines_of set_line (descriptor s))
+  some_text s said old new ed e = e ∙ ap (λ d. old ++ text_of_lines (lines_of set_line d)) (sym ed)

@@ -183,7 +183,7 @@ first_item s (x ∷ y ∷ ys) h l =
     at_least : (m : ℕ) → nat_le 3 m ≡ true → 3 ≤ m
     at_least m e = grind (arith, nat_tests)
 
-all_items : (steps : ℕ) (xs : List ℕ) → All (λ x. x < 86_400) xs → length xs ≤ 86_400 → All IsItem (stretches_within steps xs)
+pub all_items : (steps : ℕ) (xs : List ℕ) → All (λ x. x < 86_400) xs → length xs ≤ 86_400 → All IsItem (stretches_within steps xs)
 unfolding stretches_within
 all_items zero xs h l = All-nil IsItem
 all_items (suc steps) [] h l = All-nil IsItem
@@ -194,7 +194,7 @@ all_items (suc steps) (s ∷ xs) h l =
     (all_items steps rest (All-drop (λ x. x < 86_400) (item.count - 1) xs (All-tail (λ x. x < 86_400) s xs h))
     (omega (arith, l, length_drop_le (item.count - 1) xs)))
 
-items_of_set : (times : List ℕ) → IsSecondsOfDay times → All IsItem (stretches times)
+pub items_of_set : (times : List ℕ) → IsSecondsOfDay times → All IsItem (stretches times)
 items_of_set times h = all_items (length times) times h.below_a_day (few_seconds times h)
 
 pub IsSetLine-stretches : IsSetLine stretches_line

@@ -4,8 +4,7 @@ use Rattle.std.proofs.lemmas.Int.{ints}
 use Rattle.std.proofs.lemmas.List.Elements.{All-contains}
 use Rattle.rr_model.specs.Moment.{day_part}
 use Rattle.rr_model.specs.Moment.Years.{IsFromYearOne, IsInYears}
-use Rattle.rr_model.specs.Rule.Member.{IsMember}
-use Rattle.rr_model.specs.Series.Occurrences.{IsMemberOfSome, Occurs}
+use Rattle.rr_model.specs.Series.Occurrences.{IsMemberOfSome}
 use Rattle.rr_model.specs.declared.kind.Kind.{Kind}
 use Rattle.rr_model.specs.declared.kind.Kind.TheVariants.{Days, Moments}
 use Rattle.rr_model.specs.declared.rule.Rule.{Rule}

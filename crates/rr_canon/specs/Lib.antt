@@ -3,3 +3,4 @@ pub mod Least
 pub mod Placed
 pub mod Said
 pub mod Years
+pub mod Versions

@@ -7,10 +7,12 @@ mod lines;
 mod sets;
 mod stretch;
 mod text;
+mod version;
 
 pub use laws::{
     canon_is_equal_exactly, descriptor_tells_sets_apart, descriptors_read_back,
     occurs_from_year_one, second_version_tells_sets_apart,
 };
 pub use least_seq::{LeastSeq, least};
-pub use text::describe;
+pub use text::{describe, describe_in, describe_one};
+pub use version::Version;

@@ -3,11 +3,16 @@ ghost use Rattle.std.specs.Prelude.{◌≡◌, ◌+◌, ◌≤◌, ◌∷◌, []
 ghost use Rattle.std.specs.Fmt.{decimal};
 ghost use Rattle.rr_model.specs.Text.Moments.{extended_date_text};
 ghost use Rattle.rr_model.specs.Sets.DescriptorText.{text_of_lines, fields, kind_line, seconds_line, first_line, run_line};
+ghost use Rattle.rr_model.specs.Sets.Stretches.{item_text, stretches_line};
+ghost use Rattle.rr_times.specs.Items.{stretch_of};
+ghost use Rattle.rr_canon.specs.Versions.{set_line_of};
 ghost use Rattle.rr_model.specs.Sets.Printable.{IsPrintedDay};
 
+use crate::version::Version;
 use itoa::Buffer;
 use rr_model::{Kind, NoMemory};
 use rr_text::push_extended;
+use rr_times::{Stretch, TimeSet};
 
 /// As many equal steps in a row.
 #[derive(Clone, Copy)]
@@ -62,6 +67,54 @@ pub fn push_seconds(out: &mut Vec<u8>, times: &[u32]) -> Result<(), NoMemory>
     }
     out.push(b'\n')?;
     Ok(())
+}
+
+// A number after this byte.
+fn push_part(out: &mut Vec<u8>, before: u8, number: u32) -> Result<(), NoMemory>
+    ensures { OnOk result (out.new.items ≡ out.old.items ++ (before ∷ decimal number)) }
+{
+    let mut buffer = Buffer::new();
+    out.push(before)?;
+    out.extend_from_slice(buffer.format(number).as_bytes())?;
+    Ok(())
+}
+
+// A blank, and a second alone or a row of seconds.
+fn push_item(out: &mut Vec<u8>, item: Stretch) -> Result<(), NoMemory>
+    ensures { OnOk result (out.new.items ≡ out.old.items ++ (32 ∷ item_text (stretch_of item))) }
+{
+    push_part(out, b' ', item.start)?;
+    if item.count == 1 {
+        return Ok(());
+    }
+    push_part(out, b'/', item.step)?;
+    push_part(out, b'/', item.count)
+}
+
+/// `t` and the items of a time set, single seconds and rows of equal steps: a line of version 2.
+pub fn push_stretches(out: &mut Vec<u8>, times: &TimeSet) -> Result<(), NoMemory>
+    ensures { OnOk result (out.new.items ≡ out.old.items ++ text_of_lines (stretches_line times.now ∷ [])) }
+{
+    let count = times.as_slice().len();
+    out.push(b't')?;
+    let mut from = 0;
+    while from < count {
+        let item = times.stretch(from);
+        push_item(out, item)?;
+        from += item.count as usize;
+    }
+    out.push(b'\n')?;
+    Ok(())
+}
+
+/// The line of a time set in this version.
+pub fn push_set(out: &mut Vec<u8>, version: Version, times: &TimeSet) -> Result<(), NoMemory>
+    ensures { OnOk result (out.new.items ≡ out.old.items ++ text_of_lines (set_line_of version times.now ∷ [])) }
+{
+    match version {
+        Version::First => push_seconds(out, times.as_slice()),
+        Version::Second => push_stretches(out, times),
+    }
 }
 
 /// The kind.

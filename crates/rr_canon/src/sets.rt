@@ -54,12 +54,12 @@ impl TimeSets {
         self.sets.len()
     }
 
-    /// The seconds of the set at this place, in order.
-    pub fn at(&self, place: usize) -> &[u32]
+    /// The set at this place.
+    pub fn at(&self, place: usize) -> &TimeSet
         requires { place < length self.now }
         ensures { result.now ≡ get_or self.now place [] }
     {
-        self.sets[place].as_slice()
+        &self.sets[place]
     }
 
     /// The seconds of the set with this number, in order.

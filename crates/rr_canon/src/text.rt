@@ -2,16 +2,17 @@
 ghost use Rattle.std.specs.Prelude.{◌≡◌, ◌↔◌, ◌<◌, ◌≤◌, ◌++◌, [], IfOk, IsTrue, OnOk, Some, map};
 ghost use Rattle.rr_model.specs.declared.kind.Kind.{Kind};
 ghost use Rattle.rr_model.specs.Sets.Descriptor.{descriptor, runs_of};
-ghost use Rattle.rr_model.specs.Sets.DescriptorText.{descriptor_text, ending_lines, lines_of, run_line, seconds_line, set_lines, text_of_lines};
+ghost use Rattle.rr_model.specs.Sets.DescriptorText.{descriptor_text, ending_lines, lines_of, run_line, set_lines, text_of_lines};
 ghost use Rattle.rr_model.specs.Sets.Printable.{HasNoneBeforeYearOne, IsPrintedDay};
+ghost use Rattle.rr_model.specs.Sets.Stretches.{second_descriptor_text};
 ghost use Rattle.rr_canon.specs.Least.{least_sketch};
 ghost use Rattle.rr_canon.specs.Said.{IsNextRun, ending_said, first_in, said_of, steps_by_number, text_of_runs, with_run};
+ghost use Rattle.rr_canon.specs.Versions.{set_line_of, text_in, title_of};
 
 use crate::least_seq::LeastSeq;
-use crate::lines::{
-    OpenRun, push_first, push_kind, push_line, push_run, push_seconds, push_settled,
-};
+use crate::lines::{OpenRun, push_first, push_kind, push_line, push_run, push_set, push_settled};
 use crate::sets::TimeSets;
+use crate::version::Version;
 use rr_model::{Kind, NoMemory};
 use rr_word::NumberedDay;
 use std::alloc::Global;
@@ -83,22 +84,27 @@ fn push_runs(out: &mut Vec<u8>, letter: u8, from: i64, days: &[NumberedDay]) -> 
 }
 
 // The lines of all time sets.
-fn push_all_sets(out: &mut Vec<u8>, sets: &TimeSets) -> Result<(), NoMemory>
-    ensures { OnOk result (out.new.items ≡ out.old.items ++ text_of_lines (map seconds_line sets.now)) }
+fn push_all_sets(out: &mut Vec<u8>, version: Version, sets: &TimeSets) -> Result<(), NoMemory>
+    ensures { OnOk result (out.new.items ≡ out.old.items ++ text_of_lines (map (set_line_of version) sets.now)) }
 {
     for place in 0..sets.count() {
-        push_seconds(out, sets.at(place))?;
+        push_set(out, version, sets.at(place))?;
     }
     Ok(())
 }
 
 // The lines of the time sets of moments.
-fn push_sets(out: &mut Vec<u8>, kind: Kind, sets: &TimeSets) -> Result<(), NoMemory>
-    ensures { OnOk result (out.new.items ≡ out.old.items ++ text_of_lines (set_lines seconds_line kind sets.now)) }
+fn push_sets(
+    out: &mut Vec<u8>,
+    version: Version,
+    kind: Kind,
+    sets: &TimeSets,
+) -> Result<(), NoMemory>
+    ensures { OnOk result (out.new.items ≡ out.old.items ++ text_of_lines (set_lines (set_line_of version) kind sets.now)) }
 {
     match kind {
         Kind::Days => Ok(()),
-        Kind::Moments => push_all_sets(out, sets),
+        Kind::Moments => push_all_sets(out, version, sets),
     }
 }
 
@@ -133,38 +139,71 @@ fn first_day(before: &[NumberedDay], cycle: &[NumberedDay]) -> Option<i64>
 }
 
 // All lines but the first, of a set with occupied days.
-fn push_days(out: &mut Vec<u8>, least: &LeastSeq, first: i64) -> Result<(), NoMemory>
+fn push_days(
+    out: &mut Vec<u8>,
+    version: Version,
+    least: &LeastSeq,
+    first: i64,
+) -> Result<(), NoMemory>
     requires first { IsPrintedDay first }
     requires settled { (least.now.cycle ≡ [] → ⊥) → IsPrintedDay least.now.settled }
-    ensures { OnOk result (out.new.items ≡ out.old.items ++ text_of_lines (lines_of seconds_line (said_of least.now.kind least.now.sets least.now.before least.now.settled least.now.period least.now.cycle (Some first)))) }
+    ensures { OnOk result (out.new.items ≡ out.old.items ++ text_of_lines (lines_of (set_line_of version) (said_of least.now.kind least.now.sets least.now.before least.now.settled least.now.period least.now.cycle (Some first)))) }
 {
     push_kind(out, least.kind)?;
-    push_sets(out, least.kind, &least.sets)?;
+    push_sets(out, version, least.kind, &least.sets)?;
     push_first(out, first)?;
     push_runs(out, b'b', first, least.before.as_slice())?;
     push_ending(out, least.settled, least.period, least.cycle.as_slice())
 }
 
 // All lines but the first.
-fn push_said(out: &mut Vec<u8>, least: &LeastSeq) -> Result<(), NoMemory>
+fn push_said(out: &mut Vec<u8>, version: Version, least: &LeastSeq) -> Result<(), NoMemory>
     requires { HasNoneBeforeYearOne (least_sketch least.now) }
-    ensures { OnOk result (out.new.items ≡ out.old.items ++ text_of_lines (lines_of seconds_line (descriptor (least_sketch least.now)))) }
+    ensures { OnOk result (out.new.items ≡ out.old.items ++ text_of_lines (lines_of (set_line_of version) (descriptor (least_sketch least.now)))) }
 {
     match first_day(least.before.as_slice(), least.cycle.as_slice()) {
         None => push_line(out, b"none"),
-        Some(first) => push_days(out, least, first),
+        Some(first) => push_days(out, version, least, first),
     }
 }
 
-/// The canonical text of a set: version 1.
+// The first line of a version.
+fn title(version: Version) -> &'static [u8]
+    ensures { result.now ≡ title_of version }
+{
+    match version {
+        Version::First => b"rrcanon 1",
+        Version::Second => b"rrcanon 2",
+    }
+}
+
+/// The canonical text of a set in this version.
+///
+/// No occurrence may lie before 0001-01-01. Two sets have equal texts exactly where they have equal occurrences.
+pub fn describe_in(alloc: Global, version: Version, least: &LeastSeq) -> Result<Vec<u8>, NoMemory>
+    requires { HasNoneBeforeYearOne (least_sketch least.now) }
+    ensures { IfOk result (λ out. out.items ≡ text_in version (least_sketch least.now)) }
+{
+    let mut out = Vec::new(alloc);
+    push_line(&mut out, title(version))?;
+    push_said(&mut out, version, least)?;
+    Ok(out)
+}
+
+/// The canonical text of a set: version 2, which writes time sets as rows of equal steps.
 ///
 /// No occurrence may lie before 0001-01-01. Two sets have equal texts exactly where they have equal occurrences.
 pub fn describe(alloc: Global, least: &LeastSeq) -> Result<Vec<u8>, NoMemory>
     requires { HasNoneBeforeYearOne (least_sketch least.now) }
+    ensures { IfOk result (λ out. out.items ≡ second_descriptor_text (least_sketch least.now)) }
+{
+    describe_in(alloc, Version::Second, least)
+}
+
+/// The same in version 1, which writes each second by itself.
+pub fn describe_one(alloc: Global, least: &LeastSeq) -> Result<Vec<u8>, NoMemory>
+    requires { HasNoneBeforeYearOne (least_sketch least.now) }
     ensures { IfOk result (λ out. out.items ≡ descriptor_text (least_sketch least.now)) }
 {
-    let mut out = Vec::new(alloc);
-    push_line(&mut out, b"rrcanon 1")?;
-    push_said(&mut out, least)?;
-    Ok(out)
+    describe_in(alloc, Version::First, least)
 }

@@ -1,3 +1,4 @@
+pub mod AlikeLemmas
 pub mod EveryLemmas
 pub mod MergeLemmas
 pub mod OrderLemmas

@@ -19,14 +19,14 @@ use Rattle.rr_decide.specs.declared.question.Question.TheVariants.{Equal}
 use Rattle.rr_decide.proofs.StandsLemmas.{none_before_first}
 
 -- rising lists of which no second is in one alone are one
-one_where_none_shown : (xs ys : List ℕ) → Rises nat_lt xs → Rises nat_lt ys → ShowsNone (shown_by Equal) xs ys → xs ≡ ys
+pub one_where_none_shown : (xs ys : List ℕ) → Rises nat_lt xs → Rises nat_lt ys → ShowsNone (shown_by Equal) xs ys → xs ≡ ys
 one_where_none_shown xs ys r q none =
     one_list xs ys r q (λ w. (
       (λ c. elim (Contains-or_not ys w) [ inl there ↦ there | inr absent ↦ absurd (none w (A, refl, (c, absent))) ]),
       (λ c. elim (Contains-or_not xs w) [ inl there ↦ there | inr absent ↦ absurd (none w (B, refl, (c, absent))) ]),
     ))
 
-one_shows_none : (xs ys : List ℕ) → xs ≡ ys → ShowsNone (shown_by Equal) xs ys
+pub one_shows_none : (xs ys : List ℕ) → xs ≡ ys → ShowsNone (shown_by Equal) xs ys
 one_shows_none xs ys e w (A, t, h) = h.1 (subst (λ (l : List ℕ). Contains l w) e h.0)
 one_shows_none xs ys e w (B, t, h) = h.1 (subst (λ (l : List ℕ). Contains l w) (sym e) h.0)
 one_shows_none xs ys e w (Both, t, h) = false≢true t

@@ -1,6 +1,7 @@
+pub mod Alike
 pub mod Every
 pub mod Look
-pub mod Merge
 pub mod Occurrence
 pub mod Question
 pub mod Quiet
+pub mod Reading

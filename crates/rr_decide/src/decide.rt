@@ -57,7 +57,7 @@ pub fn disjoint<A: DaySeq, B: DaySeq>(a: &A, b: &B) -> Verdict
 }
 
 // For how many days two sequences are to be equal, past both settled days, to be so for ever.
-fn equal_days(p: u64, r: u64) -> u64
+pub(crate) fn equal_days(p: u64, r: u64) -> u64
     requires first { 1 ≤ p }
     requires second { 1 ≤ r }
     requires few { p + r ≤ 2_000_000_000 }

@@ -3,6 +3,7 @@
 
 mod days;
 mod decide;
+mod long;
 mod merge;
 mod occurrence;
 mod question;
@@ -10,6 +11,7 @@ mod quiet;
 mod verdicts;
 
 pub use decide::{disjoint, equal, within};
+pub use long::equal_long;
 
 #[cfg(test)]
 mod tests;

@@ -1,64 +1,11 @@
 // The seconds of one day of two sets, in order.
-ghost use Rattle.std.specs.Prelude.{◌≡◌, ◌↔◌, [], IsTrue, MatchOption, nat_lt};
+ghost use Rattle.std.specs.Prelude.{◌≡◌, ◌↔◌, IsTrue, MatchOption, nat_lt};
 ghost use Rattle.rr_model.specs.Rising.{Rises};
-ghost use Rattle.rr_decide.specs.Merge.{IsNextSecond, is_ahead};
 ghost use Rattle.rr_decide.specs.Question.{IsFirstShown, ShowsNone, shown_by};
 
 use crate::question::Question;
 use rr_model::Side;
-
-// The least second of two lists, the side that has it, and the seconds after it.
-#[derive(Drop)]
-struct NextSecond<'a> {
-    second: u32,
-    side: Side,
-    xs: &'a [u32],
-    ys: &'a [u32],
-}
-
-// Whether the first second of `xs` lies below those of `ys`.
-fn is_ahead(xs: &[u32], ys: &[u32]) -> bool
-    ensures { result ≡ is_ahead xs.now ys.now }
-{
-    match (xs, ys) {
-        ([x, ..], [y, ..]) => x < y,
-        ([_, ..], []) => true,
-        _ => false,
-    }
-}
-
-// The least second of both lists, None where both are empty.
-fn next_second<'a>(xs: &'a [u32], ys: &'a [u32]) -> Option<NextSecond<'a>>
-    requires xs { Rises nat_lt xs.now }
-    requires ys { Rises nat_lt ys.now }
-    ensures { MatchOption result ((xs.now ≡ []) × (ys.now ≡ [])) (λ n. IsNextSecond xs.now ys.now n.second n.side n.xs.now n.ys.now) }
-{
-    if is_ahead(xs, ys) {
-        return Some(NextSecond {
-            second: xs[0],
-            side: Side::A,
-            xs: &xs[1..],
-            ys,
-        });
-    }
-    if is_ahead(ys, xs) {
-        return Some(NextSecond {
-            second: ys[0],
-            side: Side::B,
-            xs,
-            ys: &ys[1..],
-        });
-    }
-    if xs.is_empty() {
-        return None;
-    }
-    Some(NextSecond {
-        second: xs[0],
-        side: Side::Both,
-        xs: &xs[1..],
-        ys: &ys[1..],
-    })
-}
+use rr_word::next_second;
 
 fn are_equal(xs: &[u32], ys: &[u32]) -> bool
     ensures { IsTrue result ↔ (xs.now ≡ ys.now) }

@@ -4,7 +4,7 @@ use Rattle.rr_model.specs.Moment.{Occurrences}
 use Rattle.rr_model.specs.Series.Occurrences.{Occurs}
 use Rattle.rr_model.specs.Sets.Sketch.{StandsFor, StandsIn}
 use Rattle.rr_model.specs.declared.rule.Series.{Series}
-use Rattle.rr_fold.specs.Sequence.{sketch}
+use Rattle.rr_days.specs.Sequence.{sketch}
 use Rattle.rr_drill.specs.declared.drawn_days.DrawnDays.{DrawnDays}
 
 -- what stands in the days

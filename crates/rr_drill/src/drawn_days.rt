@@ -1,9 +1,9 @@
 // A series that was drawn, as days.
 ghost use Rattle.std.specs.Prelude.{IsTrue};
-ghost use Rattle.rr_fold.specs.Sequence.{sketch};
+ghost use Rattle.rr_days.specs.Sequence.{sketch};
 ghost use Rattle.rr_drill.specs.Cycles.{is_drawn_cycle};
 
-use rr_fold::Folded;
+use rr_days::Folded;
 
 /// The days of a series whose cycle is one of those that are drawn.
 #[derive(Drop)]

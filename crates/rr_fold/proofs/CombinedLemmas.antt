@@ -11,27 +11,13 @@ use Rattle.rr_model.specs.Rising.Sets.{IsSetOf}
 use Rattle.rr_model.proofs.RisingSetLemmas.{Contains-none}
 use Rattle.rr_model.specs.Sets.Sizes.{total_size}
 use Rattle.rr_model.specs.declared.limits.TheConstants.{MAX_SECONDS}
-use Rattle.rr_shapes.specs.Placing.{IsPlaced}
 use Rattle.rr_shapes.specs.Tables.{Extends}
 use Rattle.rr_shapes.specs.declared.unions.Pair.{Pair}
 use Rattle.rr_lazy.specs.Tables.{same_set}
-use Rattle.rr_fold.specs.Combined.{AreCombinationsOf, AreCombinedTo, AreShapes, AreUsed, Has, IsCombinationOf, IsGrown}
+use Rattle.rr_days.specs.Growing.{IsGrown}
+use Rattle.rr_fold.specs.Combined.{AreCombinationsOf, AreCombinedTo, AreShapes, AreUsed, Has, IsCombinationOf}
 use Rattle.rr_fold.specs.declared.combined.Op.{Op}
 use Rattle.rr_fold.specs.declared.combined.Op.TheVariants.{Union, Minus}
-use Rattle.rr_fold.proofs.NumberingLemmas.{placed_extends}
-
--- a set that is placed comes alone
-pub placed_grown : (times : List ℕ) (old new : List (List ℕ)) (number : ℕ) → IsPlaced times old new number → IsGrown old new number
-placed_grown times old new number placed = record {
-  kept = placed_extends times old new number placed;
-  added = λ k l. elim (cases_lt k (length old)) [
-    | inl m ↦ inl m
-    | inr g ↦ (
-        let fresh : Contains old times → ⊥ = λ c. absurd (omega (arith, l, g, ap length (placed.known c))) in
-        let last = placed.added fresh in
-        inr (omega (arith, l, g, ap length last.0, last.1, length-append old (times ∷ []))))
-  ];
-}
 
 module _ (old new : List (List ℕ)) (more : Extends old new) where
   -- the empty set keeps its number
@@ -67,10 +53,6 @@ module _ (op : Op) (one other sets : List (List ℕ)) where
     | inl was ↦ All-contains (λ k. (k.1 ≤ 4_294_967_295) × IsCombinationOf op one other sets k.0.a k.0.b k.1) known _ unions was
     | inr e ↦ subst (λ k. (k.1 ≤ 4_294_967_295) × IsCombinationOf op one other sets k.0.a k.0.b k.1) e (small, union)
   ]
-
--- where no set comes each keeps its number
-pub not_grown : (sets : List (List ℕ)) (number : ℕ) → IsGrown sets sets number
-not_grown sets number = record { kept = λ k times at. at; added = λ k l. inl l }
 
 -- nothing is made of empty sets
 nothing_in : (op : Op) (s : ℕ) → Has op [] [] s → ⊥

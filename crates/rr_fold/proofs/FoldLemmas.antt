@@ -24,6 +24,7 @@ use Rattle.rr_model.specs.declared.refusal.Fault.TheVariants.{Refused, NoMemory}
 use Rattle.rr_model.specs.declared.refusal.Refusal.TheVariants.{TooManyMoments}
 use Rattle.rr_shapes.specs.Numbering.{IsNumbering}
 use Rattle.rr_shapes.specs.Placing.{IsPlaced, IsTooMany}
+use Rattle.rr_days.proofs.PlacedLemmas.{at_number, grown, keeps}
 use Rattle.rr_fold.specs.Folding.{IsNumbered, AreNumbered, HasNoneBefore, IsFoldedTo, IsPut}
 
 -- a set of seconds that do not stand is empty
@@ -33,33 +34,7 @@ no_second test (t ∷ ts) set none = absurd (false≢true (sym (none t) ∙ (set
 
 -- ---- sets that grow
 
--- whether a list of sets has a set is decided
-known_or_fresh : (sets : List (List ℕ)) (times : List ℕ) → Contains sets times ⊎ (Contains sets times → ⊥)
-known_or_fresh [] times = inr (λ c. Contains-none times c)
-known_or_fresh (x ∷ xs) times =
-    elim (pointwise nat_eq x times) as (λ b. pointwise nat_eq x times ≡ b → Contains (x ∷ xs) times ⊎ (Contains (x ∷ xs) times → ⊥)) [
-      | true ↦ λ e. inl (subst (Contains (x ∷ xs)) ((bytes_decides x times).0 e) (Contains-head x xs))
-      | false ↦ λ e. elim (known_or_fresh xs times) [
-        | inl c ↦ inl (Contains-tail x xs times c)
-        | inr n ↦ inr (λ c. elim (Contains-cons_cases x xs times c) [ inl same ↦ false≢true (sym e ∙ (bytes_decides x times).1 same) | inr d ↦ n d ])
-      ]
-    ] refl
-
 module _ (times : List ℕ) (old new : List (List ℕ)) (number : ℕ) (placed : IsPlaced times old new number) where
-  -- the sets are the same, or there is one more
-  grown : (new ≡ old) ⊎ (new ≡ old ++ times ∷ [])
-  grown = elim (known_or_fresh old times) [ inl c ↦ inl (placed.known c) | inr n ↦ inr (placed.added n).0 ]
-
-  -- a number keeps its set
-  pub keeps : (n : ℕ) (d : List ℕ) → n < length old → (n < length new) × (get_or new n d ≡ get_or old n d)
-  keeps n d l = elim grown [
-    | inl e ↦ rw e (l, refl)
-    | inr e ↦ rw e (grind (arith, common_steps), grind (arith, elements))
-  ]
-
-  at_number : (number < length new) × (get_or new number [] ≡ times)
-  at_number = (grind (arith, elements, placed.stands), grind (arith, elements, placed.stands))
-
   numbered_still : (n : ℕ) (test : ℕ → Bool) → IsNumbered old n test → IsNumbered new n test
   numbered_still n test i = let k = keeps n [] i.within in record { within = k.0; all = rw k.1 i.all }
 

@@ -1,4 +1,3 @@
-pub mod BackLemmas
 pub mod CountedJumpLemmas
 pub mod DistinctLemmas
 pub mod FoldLemmas
@@ -6,15 +5,13 @@ pub mod JumpLemmas
 pub mod JumpOfLemmas
 pub mod KindLemmas
 pub mod NumberingLemmas
-pub mod PlaceLemmas
 pub mod RulesAloneLemmas
 pub mod RulesFoldLemmas
 pub mod SameTreeLemmas
 pub mod SameYearLemmas
-pub mod SequenceLemmas
 pub mod SingleLemmas
-pub mod SketchedLemmas
 pub mod SplicedLemmas
+pub mod StandsForLemmas
 pub mod CombinedFoldLemmas
 pub mod CombinedLemmas
 pub mod WalkLemmas

@@ -21,7 +21,6 @@ use Rattle.rr_lazy.specs.declared.occupied_day.OccupiedDay.{OccupiedDay}
 use Rattle.rr_lazy.specs.Tables.{same_set}
 use Rattle.rr_fold.specs.Numbering.{IsKnown, IsOneTooMany, IsWidened}
 use Rattle.rr_fold.specs.declared.numbering.Known.{Known}
-use Rattle.rr_fold.proofs.FoldLemmas.{keeps}
 
 -- a set that stands at a number is among the sets
 pub contains_at : (sets : List (List ℕ)) (n : ℕ) (times : List ℕ) → slice_get sets n ≡ Some times → Contains sets times
@@ -34,12 +33,6 @@ placed_again sets n times at = record { stands = at; known = λ c. refl; added =
 -- a set that stands at a number is not one too many
 pub not_one_too_many : (sets : List (List ℕ)) (n : ℕ) (times : List ℕ) → slice_get sets n ≡ Some times → IsOneTooMany times sets → ⊥
 not_one_too_many sets n times at many = many.0.fresh (contains_at sets n times at)
-
--- a placed set leaves the others at their numbers
-pub placed_extends : (times : List ℕ) (old new : List (List ℕ)) (number : ℕ) → IsPlaced times old new number → Extends old new
-placed_extends times old new number placed n x at =
-    let k = keeps times old new number placed n [] (slice_get_within old n x at) in
-    slice_get-get_or new n [] k.0 ∙ ap (λ (y : List ℕ). Some y) (k.1 ∙ get_or_from_slice_get old n x [] at)
 
 some_same : (a b : Known) → Some a ≡ Some b → a ≡ b
 some_same a b e = cc

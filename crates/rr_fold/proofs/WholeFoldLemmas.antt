@@ -20,7 +20,7 @@ use Rattle.rr_num.proofs.DivisorLemmas.{lcm_some}
 use Rattle.rr_check.proofs.SeriesCycleLemmas.{have_intervals, rules_cycle_some}
 use Rattle.rr_fold.specs.Folding.{IsFoldedTo}
 use Rattle.rr_fold.specs.Judged.{all_limits, IsJudged}
-use Rattle.rr_fold.specs.Sketched.{IsWholeFold}
+use Rattle.rr_days.specs.Sketched.{IsWholeFold}
 use Rattle.rr_fold.proofs.KindLemmas.{is_time_set, stands_second, tree_of_kind}
 
 -- ---- the folded days
@@ -35,9 +35,9 @@ whole_fold series sets numbers first settled end period sound settled_is folded 
       order = omega (arith, ints, late, order);
       whole = omega (arith, ints, late, order, whole, end_is);
       some = some;
-      few = few;
-      low = low;
-      high = high;
+      few = omega (arith, few);
+      low = omega (arith, ints, low);
+      high = omega (arith, ints, few, high);
       within = λ k d l. subst (λ n. n < length sets) (get_or_default numbers k 0 d l) (folded.numbered k l).within;
       time_sets = λ k d l n. (
           let t = folded.sets_of_days k d l n in

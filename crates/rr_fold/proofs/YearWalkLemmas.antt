@@ -17,7 +17,7 @@ use Rattle.rr_model.specs.declared.rule.Rule.{Rule}
 use Rattle.rr_expand.specs.Years.{mask_key}
 use Rattle.rr_fold.specs.Folding.{IsFoldedTo, IsNumbered}
 use Rattle.rr_fold.specs.Years.{AreKeptYears, HasEqualYears, IsCopied, IsKeptYear, IsYearUpTo}
-use Rattle.rr_fold.proofs.BackLemmas.{back}
+use Rattle.rr_days.proofs.BackLemmas.{back}
 use Rattle.rr_fold.proofs.SameYearLemmas.{equal_keys_have_equal_lengths}
 
 -- ---- days that have the seconds of others

@@ -3,7 +3,6 @@ use Rattle.std.specs.Prelude.{◌≡◌, ◌≢◌, ◌⊎◌, ℕ, ◌<◌, ◌
 use Rattle.rr_model.specs.Rising.Sets.{IsSetOf}
 use Rattle.rr_model.specs.Sets.Sizes.{total_size}
 use Rattle.rr_model.specs.declared.limits.TheConstants.{MAX_SECONDS}
-use Rattle.rr_shapes.specs.Tables.{Extends}
 use Rattle.rr_shapes.specs.declared.unions.Pair.{Pair}
 use Rattle.rr_fold.specs.declared.combined.Op.{Op}
 use Rattle.rr_fold.specs.declared.combined.Op.TheVariants.{Union, Minus}
@@ -32,11 +31,6 @@ pub record AreShapes (sets : List (List ℕ)) : Type 0 where
 -- of each pair that is known the combination is that of its number, which is a 32-bit number
 abbrev pub AreCombinationsOf : Op → List (List ℕ) → List (List ℕ) → List (List ℕ) → List (Pair × ℕ) → Type 0
 AreCombinationsOf op one other sets known = All (λ k. (k.1 ≤ 4_294_967_295) × IsCombinationOf op one other sets k.0.a k.0.b k.1) known
-
--- sets that are there keep their numbers, and no set comes but that of this number
-pub record IsGrown (old new : List (List ℕ)) (number : ℕ) : Type 0 where
-  pub kept : Extends old new
-  pub added : (k : ℕ) → k < length new → (k < length old) ⊎ (k ≡ number)
 
 -- each number is that of the combination of the sets of both numbers at its place
 abbrev pub AreCombinedTo : Op → ℕ → List (List ℕ) → List ℕ → List (List ℕ) → List ℕ → List (List ℕ) → List ℕ → Type 0

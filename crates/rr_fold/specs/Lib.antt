@@ -2,8 +2,6 @@ pub mod Folding
 pub mod Judged
 pub mod Jump
 pub mod Rules
-pub mod Sequence
-pub mod Sketched
 pub mod Numbering
 pub mod Combined
 pub mod Walks

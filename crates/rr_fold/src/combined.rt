@@ -1,7 +1,8 @@
 // Two lists of folded days that are combined day by day.
 ghost use Rattle.std.specs.Prelude.{◌≡◌, ◌<◌, ◌∷◌, [], All, IfOk, get_or, length, nat_lt};
 ghost use Rattle.rr_model.specs.Rising.Sets.{IsSetOf};
-ghost use Rattle.rr_fold.specs.Combined.{AreCombinationsOf, AreCombined, AreShapes, Has, IsCombinationOf, IsGrown};
+ghost use Rattle.rr_days.specs.Growing.{IsGrown};
+ghost use Rattle.rr_fold.specs.Combined.{AreCombinationsOf, AreCombined, AreShapes, Has, IsCombinationOf};
 
 use crate::fill::FoldedDays;
 use rr_model::{Fault, NoMemory};

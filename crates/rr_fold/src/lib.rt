@@ -11,5 +11,4 @@ mod rules;
 mod walk;
 mod years;
 
-pub use fill::FoldedDays;
-pub use folded::{Folded, fold, sequence};
+pub use folded::fold;

@@ -1,7 +1,7 @@
 // Reads extended dates and moments (ISO 8601; Microsoft Graph, dateTimeTimeZone).
 ghost use Rattle.std.specs.Prelude.{◌≡◌, ◌<◌, ◌≤◌, ◌==◌, length, option_map, option_and_then, IfSome};
 ghost use Rattle.rr_model.specs.Moment.{day_part};
-ghost use Rattle.rr_model.specs.Moment.Years.{HasFourDigitYear};
+ghost use Rattle.rr_model.specs.Moment.Years.{HasFourDigitYear, IsInYears};
 ghost use Rattle.rr_model.specs.Text.Moments.{utc_mark};
 ghost use Rattle.rr_model.specs.Text.ExtendedMoments.{extended_date_of, extended_time_of, count_zeros, after_fraction, extended_moment_of, extended, plain_extended};
 

@@ -1,7 +1,7 @@
 -- Each set has a least sketch: its least period and its least start can be searched for.
-use Rattle.std.proofs.Common.{◌≡◌, ◌⊎◌, ◌↔◌, ℕ, zero, suc, ◌+◌, ◌<◌, ◌≤◌, Bool, true, false, nat_eq, List, [], ℤ, pos, nat_abs, ◌+ℤ◌, ◌-ℤ◌, ◌≤ℤ◌, ◌<ℤ◌, inl}
+use Rattle.std.proofs.Common.{◌≡◌, ◌⊎◌, ℕ, zero, suc, ◌<◌, ◌≤◌, true, false, nat_eq, List, [], ℤ, pos, nat_abs, ◌+ℤ◌, ◌-ℤ◌, ◌≤ℤ◌, ◌<ℤ◌, inl}
 use Rattle.std.proofs.Common.{inr, true≢false, refl, sym, ap, subst, ◌∙◌, arith}
-use Rattle.std.specs.Prelude.{Option, Some, None}
+use Rattle.std.specs.Prelude.{Some, None}
 use Rattle.std.specs.Cmp.Lexicographic.{pointwise, bytes_decides}
 use Rattle.std.specs.Int.{int_max}
 use Rattle.std.proofs.lemmas.Int.{ints, clamps, by_lt_z}
@@ -9,7 +9,7 @@ use Rattle.std.proofs.lemmas.Bool.{cases_lt}
 use Rattle.std.proofs.lemmas.List.Elements.{All-nil}
 use Rattle.rr_model.specs.Moment.{day_part, second_part}
 use Rattle.rr_model.specs.Whole.Periodic.{RepeatsFrom}
-use Rattle.rr_model.specs.Sets.Sketch.{IsDaySequence, IsEmptySketch, IsFirstDay, IsTimeSet, IsValidSketch, StandsIn, times_on}
+use Rattle.rr_model.specs.Sets.Sketch.{IsTimeSet, IsValidSketch, StandsIn, times_on}
 use Rattle.rr_model.specs.Sets.Verdict.{HaveEqualOccurrences}
 use Rattle.rr_model.specs.declared.kind.Kind.TheVariants.{Days}
 use Rattle.rr_model.specs.declared.sketch.DayShape.{DayShape}
@@ -18,7 +18,7 @@ use Rattle.rr_model.proofs.RisingSetLemmas.{Contains-none}
 use Rattle.rr_word.proofs.SketchLemmas.{repeats}
 use Rattle.rr_word.proofs.WindowLemmas.{window_lasts}
 use Rattle.rr_model.specs.Sets.ExactlyOne.{HasOneLeastSketch, EachHasOneLeastSketch}
-use Rattle.rr_model.specs.Sets.Least.{HasPeriodFrom, IsEventualPeriod, IsLeastPeriod, IsLeastStart, IsLeastOfNone, IsLeastSketch}
+use Rattle.rr_model.specs.Sets.Least.{IsLeastPeriod, IsLeastStart, IsLeastOfNone, IsLeastSketch}
 use Rattle.rr_word.proofs.OccupiedLemmas.{sketch_from, sketch_from_least, sketch_from_times, equal_by_times}
 use Rattle.rr_word.proofs.OneLeastLemmas.{none_on, one_least}
 use Rattle.rr_word.proofs.PeriodLemmas.{repeats_from_start}

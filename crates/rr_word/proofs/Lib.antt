@@ -10,3 +10,4 @@ pub mod ExactlyOneLemmas
 pub mod SetNumberLemmas
 pub mod SameLemmas
 pub mod NumberedLemmas
+pub mod MergeLemmas

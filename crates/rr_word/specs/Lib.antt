@@ -2,3 +2,4 @@ pub mod SketchLaws
 pub mod Bounded
 pub mod Numbered
 pub mod Stretches
+pub mod Merge

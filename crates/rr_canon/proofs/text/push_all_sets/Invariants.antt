@@ -1,7 +1,8 @@
 use Rattle.std.specs.Prelude.{◌≡◌, ◌++◌, map, take}
-use Rattle.rr_model.specs.Sets.DescriptorText.{seconds_line, text_of_lines}
+use Rattle.rr_model.specs.Sets.DescriptorText.{text_of_lines}
+use Rattle.rr_canon.specs.Versions.{set_line_of}
 use Rattle.rr_canon.proofs.text.push_all_sets.Given as goal
 
 -- the sets so far were added
 abbrev pub invariant-loop-place : goal.invariant-loop-place
-invariant-loop-place l = l.out.items ≡ l.fn.out.items ++ text_of_lines (map seconds_line (take l.place l.sets))
+invariant-loop-place l = l.out.items ≡ l.fn.out.items ++ text_of_lines (map (set_line_of l.version) (take l.place l.sets))

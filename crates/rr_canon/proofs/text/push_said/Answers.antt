@@ -4,6 +4,7 @@ use Rattle.std.proofs.lemmas.Int.{ints}
 use Rattle.std.proofs.lemmas.Result.{on_ok_weaker}
 use Rattle.rr_canon.specs.Least.{least_sketch}
 use Rattle.rr_canon.specs.Said.{first_in, said_of}
+use Rattle.rr_canon.specs.Versions.{set_line_of}
 use Rattle.rr_canon.proofs.SaidLemmas.{descriptor_kept, first_can_be_printed, settled_can_be_printed, none_text, some_text}
 use Rattle.rr_canon.proofs.text.push_said.Goals as goal
 
@@ -30,7 +31,7 @@ returns-in-None c =
     let first = c.in-None.ensures ∙ ap (λ days. first_in (days ++ c.as_slice-2.result.now)) c.as_slice.ensures
     ∙ ap (λ days. first_in (l.before ++ days)) c.as_slice-2.ensures in
     on_ok_weaker c.push_line.result
-    (λ e. none_text (least_sketch l) _ _ c.args.out.now.items c.push_line.new.out.items kept
+    (λ e. none_text (set_line_of c.args.version) (least_sketch l) _ _ c.args.out.now.items c.push_line.new.out.items kept
     (ap (said_of l.kind l.sets l.before l.settled l.period l.cycle) (sym first)) refl e) c.push_line.ensures
 
 pub returns-in-Some : goal.returns-in-Some
@@ -44,4 +45,4 @@ returns-in-Some c =
     let back : to_z w64 (of_z w64 c.in-Some.first) ≡ c.in-Some.first = omega (arith, ints, printed.0, printed.1.0, printed.1.1) in
     let said = said_of l.kind l.sets l.before l.settled l.period l.cycle in
     let same = ap (λ d. said (Some d)) back ∙ ap said first in
-    on_ok_weaker c.push_days.result (λ e. some_text (least_sketch l) _ c.args.out.now.items c.push_days.new.out.items (kept ∙ sym same) e) c.push_days.ensures
+    on_ok_weaker c.push_days.result (λ e. some_text (set_line_of c.args.version) (least_sketch l) _ c.args.out.now.items c.push_days.new.out.items (kept ∙ sym same) e) c.push_days.ensures

@@ -4,7 +4,7 @@ use Rattle.rr_model.specs.Series.Cycle.{series_cycle}
 use Rattle.rr_model.specs.Series.FirstRefusal.{IsLimitRefusal}
 use Rattle.rr_model.specs.Series.Occurrences.{Occurs}
 use Rattle.rr_model.specs.Sets.Sketch.{StandsFor}
-use Rattle.rr_fold.specs.Sequence.{sketch}
+use Rattle.rr_days.specs.Sequence.{sketch}
 use Rattle.rr_drill.specs.Cycles.{is_drawn_cycle}
 use Rattle.rr_drill.specs.Draws.{series_from}
 use Rattle.rr_drill.proofs.CycleLemmas.{cycle_short, series_cycle_drawn}

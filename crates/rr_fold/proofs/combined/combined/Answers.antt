@@ -1,6 +1,7 @@
 use Rattle.std.proofs.Common.{rules, ◌≡◌, ◌<◌, get_or, length, arith, sym, subst, ◌∙◌}
 use Rattle.rr_fold.specs.Combined.{AreCombinedTo, AreUsed, IsCombinationOf}
-use Rattle.rr_fold.proofs.CombinedLemmas.{not_grown, read_at, combined_on}
+use Rattle.rr_days.proofs.PlacedLemmas.{not_grown}
+use Rattle.rr_fold.proofs.CombinedLemmas.{read_at, combined_on}
 use Rattle.rr_fold.proofs.combined.combined.Goals as goal
 use Rattle.rr_fold.proofs.combined.combined.Goals.{then-last-a+in-Ok, else-last-a+else-last-b}
 

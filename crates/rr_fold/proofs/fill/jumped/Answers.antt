@@ -15,7 +15,7 @@ use Rattle.rr_model.specs.Series.Tree.{tree_of}
 use Rattle.rr_model.specs.Sets.Tree.{chosen_of, first_n}
 use Rattle.rr_fold.specs.Folding.{HasNoneBefore, IsFoldedTo}
 use Rattle.rr_fold.specs.declared.fill.FoldedDays.{FoldedDays}
-use Rattle.rr_fold.proofs.BackLemmas.{less_back, moment_back}
+use Rattle.rr_days.proofs.BackLemmas.{less_back, moment_back}
 use Rattle.rr_fold.proofs.DistinctLemmas.{not_too_many}
 use Rattle.rr_fold.proofs.FoldLemmas.{refused_so}
 use Rattle.rr_fold.proofs.JumpLemmas.{folded_whole, many_moved}

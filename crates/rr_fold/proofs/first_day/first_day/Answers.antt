@@ -4,7 +4,7 @@ use Rattle.std.proofs.lemmas.Int.{ints}
 use Rattle.rr_model.proofs.YearLemmas.{four_digit_bounds}
 use Rattle.rr_model.specs.Moment.{day_part}
 use Rattle.rr_iter.proofs.SeriesTreeLemmas.{tree_stands_for_series}
-use Rattle.rr_fold.proofs.BackLemmas.{back, least_back, moment_back}
+use Rattle.rr_days.proofs.BackLemmas.{back, least_back, moment_back}
 use Rattle.rr_fold.proofs.KindLemmas.{none_early, no_dates, first_date, first_in_years}
 use Rattle.rr_fold.proofs.first_day.first_day.Goals as goal
 

@@ -1,6 +1,6 @@
 use Rattle.std.proofs.Common.{arith}
 use Rattle.std.proofs.lemmas.Int.{ints}
-use Rattle.rr_fold.proofs.BackLemmas.{back}
+use Rattle.rr_days.proofs.BackLemmas.{back}
 use Rattle.rr_fold.proofs.WholeFoldLemmas.{judged_moments}
 use Rattle.rr_fold.proofs.folded.fold.Goals as goal
 

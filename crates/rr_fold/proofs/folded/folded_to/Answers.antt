@@ -9,15 +9,15 @@ use Rattle.rr_model.specs.Sets.Sketch.{StandsFor}
 use Rattle.rr_model.specs.declared.rule.Series.{Series}
 use Rattle.rr_iter.proofs.SeriesTreeLemmas.{tree_stands_for_series}
 use Rattle.rr_iter.proofs.SeriesRepeatLemmas.{series_repeats}
-use Rattle.rr_fold.proofs.BackLemmas.{back, days_back, sum_back}
+use Rattle.rr_days.proofs.BackLemmas.{back, days_back, sum_back}
 use Rattle.rr_fold.proofs.DistinctLemmas.{not_too_many}
 use Rattle.rr_fold.proofs.FoldLemmas.{refused_so}
-use Rattle.rr_fold.proofs.SketchedLemmas.{sketch_stands_for}
+use Rattle.rr_fold.proofs.StandsForLemmas.{sketch_stands_for}
 use Rattle.rr_fold.proofs.WholeFoldLemmas.{cycle_some, settled_low, whole_fold}
 use Rattle.rr_fold.specs.Folding.{HasNoneBefore, IsFoldedTo}
-use Rattle.rr_fold.specs.Sketched.{sketch_of, IsWholeFold}
+use Rattle.rr_days.specs.Sketched.{sketch_of, IsWholeFold}
 use Rattle.rr_fold.specs.declared.fill.FoldedDays.{FoldedDays}
-use Rattle.rr_fold.specs.declared.folded.Folded.{Folded}
+use Rattle.rr_days.specs.declared.folded.Folded.{Folded}
 use Rattle.rr_fold.proofs.folded.folded_to.Goals as goal
 
 pub overflow_add-settled : goal.overflow_add-settled

@@ -2,7 +2,7 @@ use Rattle.std.proofs.Common.{◌≡◌, ◌≤◌, ◌*◌, ◌-◌, pos, neg_�
 use Rattle.std.proofs.lemmas.Int.{ints}
 use Rattle.rr_model.proofs.YearLemmas.{four_digit_bounds}
 use Rattle.rr_model.specs.Moment.{day_part}
-use Rattle.rr_fold.proofs.BackLemmas.{back, days_back, sum_back}
+use Rattle.rr_days.proofs.BackLemmas.{back, days_back, sum_back}
 use Rattle.rr_fold.proofs.CountedJumpLemmas.{falls, some_days, fewer, counted_is}
 use Rattle.rr_fold.proofs.jump.counted_jump.Goals as goal
 

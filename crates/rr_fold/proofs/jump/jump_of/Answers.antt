@@ -3,7 +3,7 @@ use Rattle.std.proofs.lemmas.Int.{ints}
 use Rattle.rr_model.proofs.YearLemmas.{four_digit_bounds}
 use Rattle.rr_model.specs.Moment.{day_part}
 use Rattle.rr_fold.specs.Jump.{IsCountedJump, IsJump}
-use Rattle.rr_fold.proofs.BackLemmas.{back, moment_back}
+use Rattle.rr_days.proofs.BackLemmas.{back, moment_back}
 use Rattle.rr_fold.proofs.JumpOfLemmas.{jump_map, no_dates_listed, no_rules_listed, one_rule, sound_rule}
 use Rattle.rr_fold.proofs.jump.jump_of.Goals as goal
 

@@ -8,7 +8,7 @@ use Rattle.rr_fold.specs.Folding.{IsFoldedTo}
 use Rattle.rr_fold.specs.Rules.{HasRulesAlone}
 use Rattle.rr_fold.specs.declared.combined.Op.TheVariants.{Minus}
 use Rattle.rr_fold.specs.declared.fill.FoldedDays.{FoldedDays}
-use Rattle.rr_fold.proofs.BackLemmas.{moment_back}
+use Rattle.rr_days.proofs.BackLemmas.{moment_back}
 use Rattle.rr_fold.proofs.CombinedFoldLemmas.{numbers_within}
 use Rattle.rr_fold.proofs.RulesFoldLemmas.{given_folded, if_ok_map, left_folded, none_listed, some_listed}
 use Rattle.rr_fold.proofs.rules.days_alone.Goals as goal

@@ -5,7 +5,7 @@ use Rattle.rr_model.proofs.YearLemmas.{four_digit_bounds}
 use Rattle.rr_model.specs.Moment.{day_part}
 use Rattle.rr_model.specs.Sets.Tree.{chosen_of}
 use Rattle.rr_fold.specs.Folding.{HasNoneBefore}
-use Rattle.rr_fold.proofs.BackLemmas.{day_back}
+use Rattle.rr_days.proofs.BackLemmas.{day_back}
 use Rattle.rr_fold.proofs.rules.days_of_rule.Goals as goal
 
 pub collected-requires-clause-low : goal.collected-requires-clause-low

@@ -7,7 +7,7 @@ use Rattle.rr_model.specs.Moment.{day_part}
 use Rattle.rr_model.specs.Sets.Tree.{chosen_of}
 use Rattle.rr_fold.specs.Folding.{HasNoneBefore}
 use Rattle.rr_fold.specs.Years.{HasEqualYears}
-use Rattle.rr_fold.proofs.BackLemmas.{day_back}
+use Rattle.rr_days.proofs.BackLemmas.{day_back}
 use Rattle.rr_fold.proofs.SameYearLemmas.{equal_keys_have_equal_days}
 use Rattle.rr_fold.proofs.WalkLemmas.{nothing_walked}
 use Rattle.rr_fold.proofs.years.days_by_years.Goals as goal

@@ -1,5 +1,5 @@
 use Rattle.std.proofs.Common.{map, refl, ap, ◌∙◌}
-use Rattle.rr_fold.proofs.BackLemmas.{moment_back}
+use Rattle.rr_days.proofs.BackLemmas.{moment_back}
 use Rattle.rr_translate.specs.OneEnd.{with_one_end, with_one_ends}
 use Rattle.rr_translate.proofs.one_end.with_one_ends.Goals as goal
 

@@ -1,8 +1,8 @@
 use Rattle.std.proofs.Common.{rules, ◌≡◌, ◌≤◌}
 use Rattle.std.specs.Prelude.{Some, slice_get}
 use Rattle.rr_fold.specs.Combined.{AreCombinationsOf, IsCombinationOf}
-use Rattle.rr_fold.proofs.NumberingLemmas.{placed_extends}
-use Rattle.rr_fold.proofs.CombinedLemmas.{placed_grown, shapes_kept, union_at, unions_kept, unions_put}
+use Rattle.rr_days.proofs.PlacedLemmas.{placed_extends, placed_grown}
+use Rattle.rr_fold.proofs.CombinedLemmas.{shapes_kept, union_at, unions_kept, unions_put}
 use Rattle.rr_fold.proofs.combined.CombinedSets.number_of.Goals as goal
 
 pub returns-in-Ok-clause-shapes : goal.returns-in-Ok-clause-shapes

@@ -1,0 +1,22 @@
+-- The two versions of a descriptor: their first lines, and how they write a time set.
+use Rattle.std.specs.Prelude.{ℕ, List, codes}
+use Rattle.rr_model.specs.Sets.Descriptor.{descriptor}
+use Rattle.rr_model.specs.Sets.DescriptorText.{seconds_line, text_of}
+use Rattle.rr_model.specs.Sets.Stretches.{stretches_line}
+use Rattle.rr_model.specs.declared.sketch.Sketch.{Sketch}
+use Rattle.rr_canon.specs.declared.version.Version.{Version}
+use Rattle.rr_canon.specs.declared.version.Version.TheVariants.{First, Second}
+
+-- the first line
+abbrev pub title_of : Version → List ℕ
+title_of First = codes "rrcanon 1"
+title_of Second = codes "rrcanon 2"
+
+-- the line of a time set
+abbrev pub set_line_of : Version → List ℕ → List ℕ
+set_line_of First times = seconds_line times
+set_line_of Second times = stretches_line times
+
+-- the descriptor of a least sketch
+abbrev pub text_in : Version → Sketch → List ℕ
+text_in version s = text_of (title_of version) (set_line_of version) (descriptor s)

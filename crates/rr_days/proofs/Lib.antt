@@ -1,0 +1,5 @@
+pub mod BackLemmas
+pub mod PlaceLemmas
+pub mod PlacedLemmas
+pub mod SequenceLemmas
+pub mod SketchedLemmas

@@ -1,0 +1,7 @@
+//! Days in a row, each by the number of its time set, as a sequence that repeats: one type for all that states occurrences day
+//! by day, whether a series was folded, a canonical text read, or two sets combined.
+#![tactic(auto)]
+
+mod folded;
+
+pub use folded::{Folded, sequence};

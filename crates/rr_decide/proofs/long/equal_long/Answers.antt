@@ -1,0 +1,31 @@
+use Rattle.std.proofs.Common.{◌≡◌, ◌+◌, ◌≤◌, w64, to_z, of_z, arith, subst, ◌∙◌, ℤ}
+use Rattle.std.specs.Int.{int_min}
+use Rattle.std.proofs.lemmas.Int.{ints}
+use Rattle.rr_decide.specs.Reading.{steps_from}
+use Rattle.rr_decide.proofs.QuestionLemmas.{equal_verdict}
+use Rattle.rr_decide.proofs.long.equal_long.Goals as goal
+
+pub walked-requires-clause-first_of_b : goal.walked-requires-clause-first_of_b
+walked-requires-clause-first_of_b g c = λ d l. c.in-Some.ensures.first_of_b d (omega (arith, ints))
+
+pub returns-in-None-clause-verdict : goal.returns-in-None-clause-verdict
+returns-in-None-clause-verdict g c =
+    equal_verdict (g.A.DaySeq.sketch c.args.a.now) (g.B.DaySeq.sketch c.args.b.now) c.apart_long.result c.apart_long.ensures.verdict
+
+pub returns-in-Some-clause-verdict : goal.returns-in-Some-clause-verdict
+returns-in-Some-clause-verdict g c =
+    equal_verdict (g.A.DaySeq.sketch c.args.a.now) (g.B.DaySeq.sketch c.args.b.now) c.walked.result c.walked.ensures.verdict
+
+pub returns-in-Some-clause-steps : goal.returns-in-Some-clause-steps
+returns-in-Some-clause-steps g c =
+    let s = g.A.DaySeq.sketch c.args.a.now in
+    let u = g.B.DaySeq.sketch c.args.b.now in
+    record {
+      empty = λ e. absurd (c.in-Some.ensures.some e);
+      some = λ first other fa fb.
+          let first_is : c.in-Some.from ≡ int_min first other = c.in-Some.ensures.first first other fa fb in
+          let from_is : to_z w64 (of_z w64 c.in-Some.from) ≡ c.in-Some.from = omega (arith, ints) in
+          let few : c.walked.new.steps ≤ c.args.steps.now + steps_from s u (int_min first other) =
+          subst (λ (x : ℤ). c.walked.new.steps ≤ c.args.steps.now + steps_from s u x) (from_is ∙ first_is) c.walked.ensures.few in
+          omega (arith, few);
+    }

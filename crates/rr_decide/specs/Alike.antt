@@ -1,0 +1,28 @@
+-- Numbers under which two tables have the same set.
+use Rattle.std.specs.Prelude.{◌≡◌, ◌⊎◌, ℕ, ◌<◌, ◌≤◌, List, Option, Some, slice_get, ℤ}
+use Rattle.rr_model.specs.Sets.Sketch.{times_on}
+use Rattle.rr_model.specs.declared.sketch.Sketch.{Sketch}
+use Rattle.rr_decide.specs.Look.{IsShownOn}
+use Rattle.rr_decide.specs.Question.{ShowsNone, shown_by}
+use Rattle.rr_decide.specs.declared.question.Question.TheVariants.{Equal}
+use Rattle.rr_decide.specs.declared.long.AlikeNumbers.{AlikeNumbers}
+use Rattle.rr_decide.specs.declared.long.Comparison.{Comparison}
+use Rattle.rr_decide.specs.declared.long.Comparison.TheVariants.{Unlike, Alike}
+
+-- under each number of the stretch both tables have the same set
+abbrev pub AreAlike : List (List ℕ) → List (List ℕ) → AlikeNumbers → Type 0
+AreAlike sets_a sets_b alike = (k : ℕ) → alike.from ≤ k → k < alike.end → slice_get sets_a k ≡ slice_get sets_b k
+
+-- both days have one number of the stretch
+abbrev pub HaveOneOf : Option ℕ → Option ℕ → AlikeNumbers → Type 0
+HaveOneOf a b alike = (k : ℕ) × (alike.from ≤ k) × (k < alike.end) × (a ≡ Some k) × (b ≡ Some k)
+
+-- no number comes that both days do not have
+abbrev pub IsNextAlike : Option ℕ → Option ℕ → AlikeNumbers → AlikeNumbers → Type 0
+IsNextAlike a b old new =
+    (k : ℕ) → new.from ≤ k → k < new.end → ((old.from ≤ k) × (k < old.end)) ⊎ ((a ≡ Some k) × (b ≡ Some k))
+
+-- the first second in which the days differ; else they are alike, and so are the sets of these numbers
+abbrev pub IsCompared : List (List ℕ) → List (List ℕ) → Sketch → Sketch → ℤ → Comparison → Type 0
+IsCompared sets_a sets_b s u day (Unlike r) = IsShownOn (shown_by Equal) s u day r
+IsCompared sets_a sets_b s u day (Alike numbers) = ShowsNone (shown_by Equal) (times_on s day) (times_on u day) × AreAlike sets_a sets_b numbers

@@ -1,0 +1,272 @@
+// Equality of two sequences whatever their common cycle is, by days that are read in counted steps.
+ghost use Rattle.std.specs.Prelude.{◌≡◌, ◌⊎◌, ◌+◌, ◌-◌, ◌*◌, ◌<◌, ◌≤◌, ℕ, [], IfSome, IfNone, IsTrue, MatchOption, Some, length, slice_get, pos, neg_ℤ, ◌+ℤ◌, ◌≤ℤ◌};
+ghost use Rattle.rr_model.specs.Sets.Sketch.{IsEmptySketch, IsNearDay, StandsIn};
+ghost use Rattle.rr_model.specs.Sets.Verdict.{IsEqualVerdict};
+ghost use Rattle.rr_word.specs.Stretches.{IsNumberOn};
+ghost use Rattle.rr_decide.specs.Alike.{AreAlike, HaveOneOf, IsCompared, IsNextAlike};
+ghost use Rattle.rr_decide.specs.Look.{IsFirstOn};
+ghost use Rattle.rr_decide.specs.Occurrence.{IsNearOccurrence, IsUpToMaxDay, NamesUpToMaxDay};
+ghost use Rattle.rr_decide.specs.Question.{AreApart, HasNoneBefore, IsFirstDayShown, IsFirstOccurrence, IsVerdictBy, ShowsNoneWithin, shown_by};
+ghost use Rattle.rr_decide.specs.Reading.{IsFirstOfBoth, IsReadInFew, steps_from};
+ghost use Rattle.rr_decide.specs.declared.question.Question.TheVariants.{Equal};
+
+use crate::days::{Shown, days_between};
+use crate::decide::equal_days;
+use crate::merge::first_shown;
+use crate::occurrence::Occurrence;
+use crate::question::Question;
+use rr_model::{Side, Verdict};
+use rr_steps::Steps;
+use rr_word::{Counted, DaySeq};
+use std::sync::ledger::Ledger;
+
+/// Whether two sets have equal occurrences for all years to come, whatever their common cycle is; else the first
+/// occurrence that exactly one of them has.
+///
+/// Where `equal` walks a sequence that anyone reads, this reads two that are counted, so that its contract says how many days
+/// it reads: of each sequence the days from the lesser first occupied day to both periods past the later settled day, each
+/// once at most, and two more. Two sequences of two kinds, or of which one is empty, are told by a day of each.
+/// A no names an occurrence up to the greatest day, 3,000,000,000,000. It takes no memory.
+pub fn equal_long<A: DaySeq + Drop, B: DaySeq + Drop, L: Ledger>(
+    a: &Counted<A>,
+    b: &Counted<B>,
+    steps: &mut Steps<L>,
+) -> Verdict
+    ensures verdict { IsEqualVerdict (StandsIn (A.sketch a.now)) (StandsIn (B.sketch b.now)) result }
+    ensures day { NamesUpToMaxDay result }
+    ensures steps { IsReadInFew (A.sketch a.now) (B.sketch b.now) (steps.new - steps.old) }
+{
+    match first_of_both(a, b) {
+        None => apart_long(a, b, steps),
+        Some(from) => walked(a, b, from, steps),
+    }
+}
+
+// The first occupied day of two sequences of one kind; none where they are of two kinds or one of them is empty.
+fn first_of_both<A: DaySeq + Drop, B: DaySeq + Drop>(a: &Counted<A>, b: &Counted<B>) -> Option<i64>
+    ensures none { IfNone result (AreApart (StandsIn (A.sketch a.now)) (StandsIn (B.sketch b.now))) }
+    ensures kind { IfSome result (λ d. (A.sketch a.now).kind ≡ (B.sketch b.now).kind) }
+    ensures first_of_a { IfSome result (HasNoneBefore (A.sketch a.now)) }
+    ensures first_of_b { IfSome result (HasNoneBefore (B.sketch b.now)) }
+    ensures near { IfSome result IsNearDay }
+    ensures some { IfSome result (λ d. IsEmptySketch (A.sketch a.now) ⊎ IsEmptySketch (B.sketch b.now) → ⊥) }
+    ensures first { IfSome result (IsFirstOfBoth (A.sketch a.now) (B.sketch b.now)) }
+{
+    let Some(of_a) = a.first() else {
+        return None;
+    };
+    let Some(of_b) = b.first() else {
+        return None;
+    };
+    if a.kind() != b.kind() {
+        return None;
+    }
+    Some(of_a.min(of_b))
+}
+
+// The first occurrence of a sequence, in one step.
+fn read_first<S: DaySeq + Drop, L: Ledger>(
+    seq: &Counted<S>,
+    steps: &mut Steps<L>,
+) -> Option<Occurrence>
+    ensures first { MatchOption result (IsEmptySketch (S.sketch seq.now)) (λ o. IsFirstOccurrence (S.sketch seq.now) o.kind o.at) }
+    ensures near { IfSome result IsNearOccurrence }
+    ensures day { IfSome result (λ o. IsUpToMaxDay o.kind o.at) }
+    ensures few { steps.new ≤ steps.old + 1 }
+{
+    match seq.first() {
+        None => None,
+        Some(day) => Some(Occurrence::on_day(seq.kind(), day, seq.read(day, steps)[0])),
+    }
+}
+
+// The verdict on two sequences with nothing in common: the lesser of the first occurrences.
+fn apart_long<A: DaySeq + Drop, B: DaySeq + Drop, L: Ledger>(
+    a: &Counted<A>,
+    b: &Counted<B>,
+    steps: &mut Steps<L>,
+) -> Verdict
+    requires { AreApart (StandsIn (A.sketch a.now)) (StandsIn (B.sketch b.now)) }
+    ensures verdict { IsVerdictBy (shown_by Equal) (StandsIn (A.sketch a.now)) (StandsIn (B.sketch b.now)) result }
+    ensures day { NamesUpToMaxDay result }
+    ensures few { steps.new ≤ steps.old + 2 }
+{
+    let of_a = read_first(a, steps);
+    let of_b = read_first(b, steps);
+    match (of_a, of_b) {
+        (None, None) => Verdict::Yes,
+        (Some(one), None) => one.against(Side::A),
+        (None, Some(other)) => other.against(Side::B),
+        (Some(one), Some(other)) => {
+            if one.comes_before(other) {
+                one.against(Side::A)
+            } else {
+                other.against(Side::B)
+            }
+        }
+    }
+}
+
+// The verdict on two sequences of one kind, by a walk from their first occupied day on.
+fn walked<A: DaySeq + Drop, B: DaySeq + Drop, L: Ledger>(
+    a: &Counted<A>,
+    b: &Counted<B>,
+    from: i64,
+    steps: &mut Steps<L>,
+) -> Verdict
+    requires kind { (A.sketch a.now).kind ≡ (B.sketch b.now).kind }
+    requires first_of_a { HasNoneBefore (A.sketch a.now) from }
+    requires first_of_b { HasNoneBefore (B.sketch b.now) from }
+    requires near { IsNearDay from }
+    ensures verdict { IsVerdictBy (shown_by Equal) (StandsIn (A.sketch a.now)) (StandsIn (B.sketch b.now)) result }
+    ensures day { NamesUpToMaxDay result }
+    ensures few { steps.new ≤ steps.old + steps_from (A.sketch a.now) (B.sketch b.now) from }
+{
+    let last = from.max(a.settled()).max(b.settled());
+    let days = days_between(from, last) + equal_days(a.period(), b.period());
+    match first_day_unlike(a, b, from, days, steps) {
+        None => Verdict::Yes,
+        Some(shown) => { Occurrence::on_day(a.kind(), shown.day, shown.second).against(shown.side) }
+    }
+}
+
+// The first of `days` days on which two sequences differ.
+fn first_day_unlike<A: DaySeq + Drop, B: DaySeq + Drop, L: Ledger>(
+    a: &Counted<A>,
+    b: &Counted<B>,
+    from: i64,
+    days: u64,
+    steps: &mut Steps<L>,
+) -> Option<Shown>
+    requires near { IsNearDay from }
+    requires most { days ≤ 5_000_000_000 }
+    ensures none { IfNone result (ShowsNoneWithin (shown_by Equal) (A.sketch a.now) (B.sketch b.now) from (from +ℤ pos days)) }
+    ensures some { IfSome result (λ r. IsFirstDayShown (shown_by Equal) (A.sketch a.now) (B.sketch b.now) from r.day r.second r.side) }
+    ensures high { IfSome result (λ r. r.day ≤ℤ pos 3_000_000_000_000) }
+    ensures few { steps.new ≤ steps.old + 2 * days }
+{
+    let mut alike = AlikeNumbers { from: 0, end: 0 };
+    for k in 0..days {
+        let day = from + k as i64;
+        let of_a = a.read_number(day, steps);
+        let of_b = b.read_number(day, steps);
+        match compare_days(a, b, day, of_a, of_b, alike) {
+            Comparison::Unlike(shown) => return Some(shown),
+            Comparison::Alike(more) => alike = more,
+        }
+    }
+    None
+}
+
+// Numbers from one on and below another, under each of which both sequences have the same set.
+#[derive(Clone, Copy)]
+struct AlikeNumbers {
+    from: u32,
+    end: u32,
+}
+
+// What comes out where two days are compared.
+enum Comparison {
+    // The first second in which they differ.
+    Unlike(Shown),
+    // They are alike, and so are the sets of these numbers.
+    Alike(AlikeNumbers),
+}
+
+// Two days compared by the numbers of their sets.
+//
+// Distinct sets have distinct numbers. Where numbers are given in the order of days, equal sequences have equal numbers, so
+// each set is compared once, at its first day, and any later day by its number.
+fn compare_days<A: DaySeq + Drop, B: DaySeq + Drop>(
+    a: &Counted<A>,
+    b: &Counted<B>,
+    day: i64,
+    of_a: Option<u32>,
+    of_b: Option<u32>,
+    alike: AlikeNumbers,
+) -> Comparison
+    requires first { IsNumberOn (A.sets a.now) (A.sketch a.now) day of_a }
+    requires second { IsNumberOn (B.sets b.now) (B.sketch b.now) day of_b }
+    requires alike { AreAlike (A.sets a.now) (B.sets b.now) alike }
+    ensures { IsCompared (A.sets a.now) (B.sets b.now) (A.sketch a.now) (B.sketch b.now) day result }
+{
+    if have_one_of(of_a, of_b, alike) {
+        return Comparison::Alike(alike);
+    }
+    match unlike_on_day(a, b, day, of_a, of_b) {
+        Some(shown) => Comparison::Unlike(shown),
+        None => Comparison::Alike(next_alike(of_a, of_b, alike)),
+    }
+}
+
+// Whether both days have one number of the stretch.
+fn have_one_of(a: Option<u32>, b: Option<u32>, alike: AlikeNumbers) -> bool
+    ensures { IsTrue result → HaveOneOf a b alike }
+{
+    match (a, b) {
+        (Some(a), Some(b)) => a == b && alike.from <= a && a < alike.end,
+        _ => false,
+    }
+}
+
+// The numbers under which sets are alike after a day on which they are: one number more, where it comes next.
+fn next_alike(a: Option<u32>, b: Option<u32>, alike: AlikeNumbers) -> AlikeNumbers
+    ensures { IsNextAlike a b alike result }
+{
+    match (a, b) {
+        (Some(a), Some(b)) if a == b => with_number(alike, a),
+        _ => alike,
+    }
+}
+
+// The numbers with one more, where it comes next to them or they are none.
+fn with_number(alike: AlikeNumbers, number: u32) -> AlikeNumbers
+    ensures { (k : ℕ) → result.from ≤ k → k < result.end → ((alike.from ≤ k) × (k < alike.end)) ⊎ (k ≡ number) }
+{
+    let AlikeNumbers { from, end } = alike;
+    if number == u32::MAX {
+        return alike;
+    }
+    if from >= end {
+        return AlikeNumbers {
+            from: number,
+            end: number + 1,
+        };
+    }
+    if number == end {
+        return AlikeNumbers { from, end: end + 1 };
+    }
+    if number + 1 == from {
+        return AlikeNumbers { from: number, end };
+    }
+    alike
+}
+
+// The first second of a day in which two sequences differ, by the numbers of its sets.
+fn unlike_on_day<A: DaySeq + Drop, B: DaySeq + Drop>(
+    a: &Counted<A>,
+    b: &Counted<B>,
+    day: i64,
+    of_a: Option<u32>,
+    of_b: Option<u32>,
+) -> Option<Shown>
+    requires first { IsNumberOn (A.sets a.now) (A.sketch a.now) day of_a }
+    requires second { IsNumberOn (B.sets b.now) (B.sketch b.now) day of_b }
+    ensures { IsFirstOn (shown_by Equal) (A.sketch a.now) (B.sketch b.now) day result }
+{
+    match first_shown(Question::Equal, seconds_of(a, of_a), seconds_of(b, of_b)) {
+        None => None,
+        Some((second, side)) => Some(Shown { day, second, side }),
+    }
+}
+
+// The seconds of the time set of a number; none without a number.
+fn seconds_of<S: DaySeq + Drop>(seq: &Counted<S>, number: Option<u32>) -> &[u32]
+    requires { IfSome number (λ n. n < length (S.sets seq.now)) }
+    ensures { MatchOption number (result.now ≡ []) (λ n. slice_get (S.sets seq.now) n ≡ Some result.now) }
+{
+    match number {
+        None => &[],
+        Some(number) => seq.times(number),
+    }
+}

@@ -1,7 +1,0 @@
-use Rattle.std.proofs.Common.{ℕ, ◌<◌}
-use Rattle.rr_fold.specs.Sketched.{IsEmptyAt}
-use Rattle.rr_fold.proofs.folded.first_occupied.Given as goal
-
--- the sets so far are empty
-abbrev pub invariant-loop-place : goal.invariant-loop-place
-invariant-loop-place l = (k : ℕ) → k < l.place → IsEmptyAt l.shapes l.numbers k

@@ -1,0 +1,98 @@
+// A sequence of days that is read in steps.
+ghost use Rattle.std.specs.Prelude.{◌≡◌, ◌+◌, ◌<◌, ◌≤◌, IfSome, Some, length, pos, neg_ℤ, ◌≤ℤ◌, slice_get};
+ghost use Rattle.rr_model.specs.Sets.Sketch.{IsFirstDay, IsNearDay, times_on};
+ghost use Rattle.rr_word.specs.Stretches.{IsNumberOn};
+
+use crate::DaySeq;
+use rr_model::Kind;
+use rr_steps::Steps;
+use std::marker::Model;
+use std::sync::ledger::Ledger;
+
+/// A sequence of days whose days are read in counted steps: what a call tells of one day costs one step.
+///
+/// Contracts see it as the sequence. It is read in no other way, so a function that is handed one and says by how much the
+/// counter grows says how many days it reads. What is told of no day (the kind, the first day, the settled day, the period,
+/// the seconds of a number) costs no step. No call takes memory.
+#[derive(Drop)]
+pub struct Counted<A: DaySeq + Drop> {
+    seq: A,
+}
+
+impl<A: DaySeq + Drop> Model for Counted<A> {
+    ghost Value = { A };
+
+    ghost view = { λ c. c.seq };
+}
+
+impl<A: DaySeq + Drop> Counted<A> {
+    /// The sequence, which from now on is read in steps alone.
+    pub fn new(seq: A) -> Self
+        ensures { result ≡ seq }
+    {
+        Counted { seq }
+    }
+
+    /// Whether the occurrences are dates or moments.
+    pub fn kind(&self) -> Kind
+        ensures { result ≡ (A.sketch self.now).kind }
+    {
+        self.seq.kind()
+    }
+
+    /// The first occupied day, in days since 1970-01-01; None exactly for the empty set.
+    pub fn first(&self) -> Option<i64>
+        ensures first { IsFirstDay (A.sketch self.now) result }
+        ensures near { IfSome result IsNearDay }
+    {
+        self.seq.first()
+    }
+
+    /// The day from which on it repeats.
+    pub fn settled(&self) -> i64
+        ensures value { result ≡ (A.sketch self.now).settled }
+        ensures near { IsNearDay result }
+    {
+        self.seq.settled()
+    }
+
+    /// After how many days it repeats, from 1.
+    pub fn period(&self) -> u64
+        ensures value { result ≡ (A.sketch self.now).period }
+        ensures some { 1 ≤ result }
+        ensures most { result ≤ 1_000_000_000 }
+    {
+        self.seq.period()
+    }
+
+    /// The seconds of a day within 3,000,000,000,000 either way, rising, in one step.
+    pub fn read<L: Ledger>(&self, day: i64, steps: &mut Steps<L>) -> &[u32]
+        requires low { neg_ℤ (pos 3_000_000_000_000) ≤ℤ day }
+        requires high { day ≤ℤ pos 3_000_000_000_000 }
+        ensures value { result.now ≡ times_on (A.sketch self.now) day }
+        ensures step { steps.new ≡ steps.old + 1 }
+    {
+        steps.tick();
+        self.seq.at(day)
+    }
+
+    /// The number of the time set of a day within 3,000,000,000,000 either way, in one step; none only where the day is
+    /// not occupied.
+    pub fn read_number<L: Ledger>(&self, day: i64, steps: &mut Steps<L>) -> Option<u32>
+        requires low { neg_ℤ (pos 3_000_000_000_000) ≤ℤ day }
+        requires high { day ≤ℤ pos 3_000_000_000_000 }
+        ensures number { IsNumberOn (A.sets self.now) (A.sketch self.now) day result }
+        ensures step { steps.new ≡ steps.old + 1 }
+    {
+        steps.tick();
+        self.seq.stretch(day).first
+    }
+
+    /// The seconds of the time set of a number, whatever day has it.
+    pub fn times(&self, number: u32) -> &[u32]
+        requires { number < length (A.sets self.now) }
+        ensures { slice_get (A.sets self.now) number ≡ Some result.now }
+    {
+        self.seq.times(number)
+    }
+}
