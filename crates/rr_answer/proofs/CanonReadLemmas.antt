@@ -40,6 +40,7 @@ module _ (operand : Operand) (bytes : List ℕ) (canon : operand.language ≡ Ca
       stands = λ k t. ((λ h. h), (λ h. h));
       period = refl;
       kind = refl;
+      near = p.readable.within.settled;
     };
   }
 

@@ -1,5 +1,6 @@
 -- What is read and folded of a text that states a series.
-use Rattle.std.proofs.Common.{◌≡◌, ℕ, None, refl, sym}
+use Rattle.std.proofs.Common.{◌≡◌, ℕ, None, pos, ◌≤ℤ◌, refl, sym, arith}
+use Rattle.std.proofs.lemmas.Int.{ints}
 use Rattle.std.specs.Prelude.{Result, Ok, Err, IfErr, IfOk}
 use Rattle.rr_canon.proofs.YearOneLemmas.{occurs_from_year_one}
 use Rattle.rr_fold.specs.Judged.{IsJudged, all_limits}
@@ -18,9 +19,10 @@ use Rattle.rr_answer.proofs.JudgementLemmas.{passed, refused_by_limit}
 module _ {X : Type 0} (of : X → Sketch) (reads : Reading) (series : Series) (cycle : ℕ) (a : IsAdmitted reads series cycle) where
   pub series_folded :
       (result : Result X Fault) → IfOk result (λ f. StandsFor (of f) (Occurs series)) → IfOk result (λ f. (of f).kind ≡ series.kind)
-      → IfOk result (λ f. (of f).period ≡ series_cycle series) → IsJudged series result → IfOk result (λ f. IsFoldedFrom reads (of f))
-  series_folded (Err fault) stands kind period judged = tt
-  series_folded (Ok f) stands kind period judged = record {
+      → IfOk result (λ f. (of f).settled ≤ℤ pos 20_000_000) → IfOk result (λ f. (of f).period ≡ series_cycle series) → IsJudged series result
+      → IfOk result (λ f. IsFoldedFrom reads (of f))
+  series_folded (Err fault) stands kind near period judged = tt
+  series_folded (Ok f) stands kind near period judged = record {
     subject = of_series series;
     judged = passed all_limits reads series cycle a judged;
     fold = record {
@@ -28,6 +30,7 @@ module _ {X : Type 0} (of : X → Sketch) (reads : Reading) (series : Series) (c
       stands = stands;
       period = period;
       kind = kind;
+      near = omega (arith, ints, near);
     };
   }
 

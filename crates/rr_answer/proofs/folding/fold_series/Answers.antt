@@ -13,7 +13,7 @@ returns-in_err-admitted-clause-refused c =
 pub returns-clause-accepted : goal.returns-clause-accepted
 returns-clause-accepted c =
     series_folded sketch _ c.in_ok-admitted.admitted.series c.in_ok-admitted.admitted.cycle c.in_ok-admitted.ensures.accepted c.fold.result
-    c.fold.ensures.stands c.fold.ensures.kind c.fold.ensures.period c.fold.ensures.judged
+    c.fold.ensures.stands c.fold.ensures.kind c.fold.ensures.near c.fold.ensures.period c.fold.ensures.judged
 
 pub returns-clause-refused : goal.returns-clause-refused
 returns-clause-refused c =
