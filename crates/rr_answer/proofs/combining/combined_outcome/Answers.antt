@@ -27,8 +27,8 @@ combine-requires-clause-other_near c =
 pub canonical_text-requires : goal.canonical_text-requires
 canonical_text-requires c = result_from_year_one c.args.op _ _ _ c.requires.a c.requires.b c.in-Ok.ensures.stands
 
-pub returns-if-not-together : goal.returns-if-not-together
-returns-if-not-together c =
+pub returns-then-not-together : goal.returns-if-not-together
+returns-then-not-together c =
     let late = λ h. absurd (c.if-not-together.true (c.repeat_together-together.ensures.1 h)) in
     IfOk-weaker c.refused.result _ _
     (λ x e s u fold fold'. too_late_said s u _ _ fold fold' (Combine c.args.op) (answer_of x) late e)
