@@ -1,0 +1,68 @@
+#!/bin/sh
+# Tries the man page and the completions: mandoc finds nothing to warn of, and each shell completes commands, languages and file names.
+# What is not installed is skipped by name. The status is 0 where nothing failed.
+set -u
+here=$(CDPATH= cd -- "$(dirname -- "$0")/.." && pwd) || exit 1
+cd "$here" || exit 1
+failed=0
+
+# expect SHELL LINE WORD FOUND: among what a shell offers after LINE is WORD.
+expect() {
+    case " $4 " in
+    *" $3 "*) echo "ok: $1 completes '$2' to '$3'" ;;
+    *)
+        echo "FAILED: $1 completes '$2' to: $4"
+        failed=1
+        ;;
+    esac
+}
+
+has() {
+    command -v "$1" >/dev/null 2>&1 || { echo "skipped: $1 is not installed"; return 1; }
+}
+
+if has mandoc; then
+    if mandoc -T lint -W warning docs/rr.1; then echo 'ok: mandoc finds nothing'; else failed=1; fi
+fi
+
+in_bash() {
+    bash -c '. completions/rr.bash; COMP_LINE=$1; COMP_POINT=${#1}; _rr 2>/dev/null; echo ${COMPREPLY[*]}' '' "$1"
+}
+
+in_fish() {
+    fish --no-config -c 'source completions/rr.fish; complete -C $argv[1]' -- "$1" | cut -f 1 | tr '\n' ' '
+}
+
+# (zsh completes at a terminal alone: here its builtins print what the function hands them)
+in_zsh() {
+    zsh -f -c '
+        setopt extendedglob
+        compadd() { while [[ $1 != -- ]] { shift }; shift; print -r -- "$@" }
+        compset() { [[ $PREFIX == (#b)(${~2})(*) ]] && PREFIX=$match[-1] }
+        _files() { print -r -- ${PREFIX}*(N) }
+        words=("${(@s: :)1}") CURRENT=${#words} PREFIX=${words[-1]}
+        . completions/_rr' '' "$1" | tr '\n' ' '
+}
+
+for shell in bash fish; do
+    has $shell || continue
+    expect $shell 'rr tra' translate "$(in_$shell 'rr tra')"
+    expect $shell 'rr translate gr' graph "$(in_$shell 'rr translate gr')"
+    expect $shell 'rr check rr' rrule: "$(in_$shell 'rr check rr')"
+done
+if has bash; then
+    expect bash 'rr check rrule:examples/stand' examples/standup.ics "$(in_bash 'rr check rrule:examples/stand')"
+    expect bash 'rr check rrule@+01:00:examples/stand' examples/standup.ics "$(in_bash 'rr check rrule@+01:00:examples/stand')"
+fi
+if has fish; then
+    expect fish 'rr check rrule:examples/stand' rrule:examples/standup.ics "$(in_fish 'rr check rrule:examples/stand')"
+    expect fish 'rr check rrule@+01:00:examples/stand' rrule@+01:00:examples/standup.ics "$(in_fish 'rr check rrule@+01:00:examples/stand')"
+fi
+if has zsh; then
+    expect zsh 'rr tra' translate "$(in_zsh 'rr tra')"
+    expect zsh 'rr translate gr' graph "$(in_zsh 'rr translate gr')"
+    expect zsh 'rr check rr' rrule: "$(in_zsh 'rr check rr')"
+    expect zsh 'rr check rrule:examples/stand' examples/standup.ics "$(in_zsh 'rr check rrule:examples/stand')"
+    expect zsh 'rr check rrule@+01:00:examples/stand' examples/standup.ics "$(in_zsh 'rr check rrule@+01:00:examples/stand')"
+fi
+exit $failed

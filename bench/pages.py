@@ -1,0 +1,84 @@
+#!/usr/bin/env python3
+"""bench/pages.py [PROGRAM]
+
+Runs each command of README.md and docs/*.md that stands in an indented line after '$', and compares what it prints with the lines
+below it; and runs the input of each row of docs/REFUSALS.md and looks for the row's name. PROGRAM stands in for ./rr.
+It prints each line that differs, then 'N passed, M failed'. Python 3 and its standard library are enough.
+"""
+import os
+import re
+import subprocess
+import sys
+from pathlib import Path
+
+TOP = Path(__file__).resolve().parent.parent
+PROGRAM = os.path.abspath(sys.argv[1]) if len(sys.argv) > 1 else str(TOP / "rr")
+PAGES = [TOP / "README.md", *sorted((TOP / "docs").glob("*.md"))]
+
+
+def commands_of(page):
+    """The commands of a page: the line's number, the command, and the lines below it."""
+    found, indent = [], None
+    for number, line in enumerate(page.read_text().splitlines(), 1):
+        begins = re.fullmatch(r"( {4,})\$ (.*)", line)
+        if begins:
+            indent = begins.group(1)
+            found.append((number, begins.group(2), []))
+        elif indent and line.startswith(indent):
+            found[-1][2].append(line[len(indent):])
+        else:
+            indent = None
+    return found
+
+
+def printed(command, given=b""):
+    """What a shell command prints, with the program in place of ./rr."""
+    command = re.sub(r"(?<![\w/])\./rr(?![\w/])", lambda _: "'" + PROGRAM + "'", command)
+    run = subprocess.run(["sh", "-c", command], cwd=TOP, input=given, stdout=subprocess.PIPE, stderr=subprocess.DEVNULL, timeout=120)
+    return run.stdout.decode().replace("\r\n", "\n").splitlines()
+
+
+def input_of(cell):
+    """The bytes that the last cell of a row of refusals describes."""
+    if cell == "1,048,577 line feeds":
+        return b"\n" * 1048577
+    if cell == "the one byte FF":
+        return b"\xff"
+    lines = re.findall(r"`([^`]*)`", cell)
+    if "seventeen lines" in cell:
+        lines = lines[:1] + lines[1:] * 17
+    return "".join(line + "\n" for line in lines).encode()
+
+
+def refusals():
+    """The rows of docs/REFUSALS.md: the line's number, name, words and input."""
+    for number, line in enumerate((TOP / "docs/REFUSALS.md").read_text().splitlines(), 1):
+        cells = [cell.strip() for cell in line.strip("|").split("|")]
+        if len(cells) == 6 and cells[4].startswith("`"):
+            yield number, cells[0].split()[0], cells[4].strip("`"), input_of(cells[5])
+
+
+def main():
+    passed, failed = 0, 0
+
+    def note(place, holds, said):
+        nonlocal passed, failed
+        passed, failed = passed + holds, failed + (not holds)
+        if not holds:
+            print(f"{place}: {said}")
+
+    for page in PAGES:
+        for number, command, wanted in commands_of(page):
+            try:
+                said = printed(command)
+            except subprocess.TimeoutExpired:
+                said = ["(no end within two minutes)"]
+            note(f"{page.relative_to(TOP)}:{number}", said == wanted, f"$ {command}\n  prints " + "\n         ".join(said))
+    for number, name, words, given in refusals():
+        said = printed(f"./rr {words}", given)
+        note(f"docs/REFUSALS.md:{number}", bool(said) and said[0].split()[:3] == ["refused", "A", name], f"{name}: {said}")
+    print(f"{passed} passed, {failed} failed")
+    return failed > 0
+
+
+sys.exit(main())
