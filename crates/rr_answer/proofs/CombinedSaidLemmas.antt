@@ -34,16 +34,16 @@ combined_said_is_one op P Q x y (inr (inr p)) (inr (inr q)) = done_is_one _ (can
 
 module _ (op : Op) (a b : Sketch) (wa : IsDaySequence a) (wb : IsDaySequence b) (P Q : Occurrences) (f : StandsFor a P) (g : StandsFor b Q) where
   pub combined_fault :
-      {X : Type 0} (fault : Fault) (answer : Answer) → IsCombinedJudged {X = X} MixedSets TooManyMoments op a b (Err fault)
+      (X : Type 0) (fault : Fault) (answer : Answer) → IsCombinedJudged {X = X} MixedSets TooManyMoments op a b (Err fault)
       → IsFaultSaid Both fault answer → IsCombinedSaid op P Q answer
-  combined_fault (Refused refusal) answer (inl (e, mixed)) said = inl (is_mixed a b wa.valid wb.valid P Q f g op mixed, said ∙ ap (refused Both) e)
-  combined_fault (Refused refusal) answer (inr (e, alike, many)) said =
+  combined_fault X (Refused refusal) answer (inl (e, mixed)) said = inl (is_mixed a b wa.valid wb.valid P Q f g op mixed, said ∙ ap (refused Both) e)
+  combined_fault X (Refused refusal) answer (inr (e, alike, many)) said =
       inr (inl (
         (λ h. alike (is_mixed_union a b wa.valid wb.valid P Q f g op h)),
         too_many_seconds a b wa.valid wb.valid P Q f g op many,
         said ∙ ap (refused Both) e,
       ))
-  combined_fault NoMemory answer h said = absurd said
+  combined_fault X NoMemory answer h said = absurd said
 
   pub combined_text :
       {X : Type 0} (c : Sketch) (x : X) (bytes : List ℕ) → IsCombinedJudged MixedSets TooManyMoments op a b (Ok x)

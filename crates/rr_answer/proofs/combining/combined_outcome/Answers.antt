@@ -1,14 +1,14 @@
-use Rattle.std.proofs.Common.{arith}
+use Rattle.std.proofs.Common.{arith, sym, ◌∙◌}
+use Rattle.std.proofs.lemmas.Bool.{false≢true}
 use Rattle.std.proofs.lemmas.Int.{ints}
 use Rattle.std.proofs.lemmas.Result.{IfOk-weaker}
 use Rattle.rr_algebra.specs.Combined.{combined}
 use Rattle.rr_model.specs.Sets.Sketch.{StandsFor, StandsIn}
 use Rattle.rr_word.specs.Bounded.{IsDaySequence-bounded}
 use Rattle.rr_answer.specs.Outcome.{answer_of}
-use Rattle.rr_answer.specs.declared.command.Inquiry.TheVariants.{Combine}
 use Rattle.rr_answer.proofs.CombinedLemmas.{result_from_year_one}
 use Rattle.rr_answer.proofs.CombinedSaidLemmas.{combined_fault, combined_text}
-use Rattle.rr_answer.proofs.SaidOfBothLemmas.{together_said, too_late_said}
+use Rattle.rr_answer.proofs.SaidOfBothLemmas.{not_together_said, together_said}
 use Rattle.rr_answer.proofs.combining.combined_outcome.Goals as goal
 
 pub combine-requires-clause-cycle : goal.combine-requires-clause-cycle
@@ -29,9 +29,9 @@ canonical_text-requires c = result_from_year_one c.args.op _ _ _ c.requires.a c.
 
 pub returns-then-not-together : goal.returns-if-not-together
 returns-then-not-together c =
-    let late = λ h. absurd (c.if-not-together.true (c.repeat_together-together.ensures.1 h)) in
     IfOk-weaker c.refused.result _ _
-    (λ x e s u fold fold'. too_late_said s u _ _ fold fold' (Combine c.args.op) (answer_of x) late e)
+    (λ x e s u fold fold'. not_together_said s u _ _ fold fold' c.args.op (answer_of x)
+    (λ few. false≢true (sym c.if-not-together.true ∙ c.repeat_together-together.ensures.1 few)) e)
     c.refused.ensures
 
 pub returns-in-Err : goal.returns-in-Err
@@ -40,7 +40,7 @@ returns-in-Err c =
     IfOk-weaker c.refused_for.result _ _
     (λ x said s u fold fold'. together_said s u _ _ fold fold' c.args.op (answer_of x) few
     (combined_fault c.args.op _ _ (IsDaySequence-bounded _ c.args.a.now.bounded) (IsDaySequence-bounded _ c.args.b.now.bounded) _ _
-    fold.stands fold'.stands c.in-Err.fault (answer_of x) c.in-Err.ensures.judged said))
+    fold.stands fold'.stands _ c.in-Err.fault (answer_of x) c.in-Err.ensures.judged said))
     c.refused_for.ensures
 
 pub returns-in_ok-canonical_text-in-Ok : goal.returns-in_ok-canonical_text-in-Ok
