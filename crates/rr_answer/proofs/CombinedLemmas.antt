@@ -167,7 +167,9 @@ module _ (a b : Sketch) (va : IsValidSketch a) (vb : IsValidSketch b) (P Q : Occ
   too_many_seconds op h = record {
     sets = h.sets;
     distinct = h.distinct;
-    occupied = All-weaker (λ times. times ≢ [] → IsTimeSetOf (combined op P Q) times) (λ times. times ≢ [] → IsCombinedTimeSet op a b times) (λ times. times ≢ [] → IsTimeSetOf (combined op P Q) times) (λ times is some. time_set_of op times (is some)) h.sets h.occupied;
+    occupied = All-weaker (λ times. times ≢ [] → IsCombinedTimeSet op a b times)
+        (λ times. times ≢ [] → IsTimeSetOf (combined op P Q) times)
+        (λ times is some. time_set_of op times (is some)) h.sets h.occupied;
     above = h.above;
   }
 
@@ -175,7 +177,9 @@ module _ (a b : Sketch) (va : IsValidSketch a) (vb : IsValidSketch b) (P Q : Occ
   too_many_combined op h = record {
     sets = h.sets;
     distinct = h.distinct;
-    occupied = All-weaker (λ times. times ≢ [] → IsTimeSetOf (combined op P Q) times) (λ times. times ≢ [] → IsCombinedTimeSet op a b times) (λ times is some. combined_time_set op times (is some)) h.sets h.occupied;
+    occupied = All-weaker (λ times. times ≢ [] → IsTimeSetOf (combined op P Q) times)
+        (λ times. times ≢ [] → IsCombinedTimeSet op a b times)
+        (λ times is some. combined_time_set op times (is some)) h.sets h.occupied;
     above = h.above;
   }
 
