@@ -1,12 +1,15 @@
 -- What is said of two operands that last.
 use Rattle.std.proofs.Common.{◌≡◌, inl, inr, ℕ, ◌≤◌, ℤ, ◌≤ℤ◌, sym, ap, subst, ◌∙◌, arith}
+use Rattle.std.proofs.lemmas.Bool.{cases_lt}
 use Rattle.std.proofs.lemmas.Int.{ints}
 use Rattle.rr_model.specs.Moment.{day_part, instant_of}
 use Rattle.rr_model.specs.Sets.Sketch.{StandsIn}
 use Rattle.rr_model.specs.Whole.Divisors.{lcm}
 use Rattle.rr_model.specs.declared.kind.Kind.{Kind}
 use Rattle.rr_model.specs.declared.kind.Kind.TheVariants.{Days, Moments}
+use Rattle.rr_model.specs.declared.refusal.Refusal.TheVariants.{CycleTooLong}
 use Rattle.rr_model.specs.declared.sketch.Sketch.{Sketch}
+use Rattle.rr_model.specs.declared.verdict.Side.TheVariants.{Both}
 use Rattle.rr_model.proofs.WholeLemmas.{floor_mod_below, floor_whole}
 use Rattle.rr_model.proofs.YearLemmas.{from_year_one}
 use Rattle.rr_overlap.specs.Running.{IsClashVerdict, NamesUpToMaxDay}
@@ -15,11 +18,11 @@ use Rattle.rr_overlap.specs.declared.clash.Clash.TheVariants.{Yes, No}
 use Rattle.rr_overlap.proofs.OneLemmas.{clash_same}
 use Rattle.rr_answer.specs.Clashes.{IsClashSaid, IsPrintableClash, clash_said}
 use Rattle.rr_answer.specs.Folding.{IsFoldOf, IsFromYearOneOn}
-use Rattle.rr_answer.specs.Said.{Answer}
+use Rattle.rr_answer.specs.Said.{Answer, refused}
 use Rattle.rr_answer.specs.Subjects.{OccursIn, Subject, kind_of}
 use Rattle.rr_answer.specs.Verdicts.{IsSaidOfBoth, IsTooLate}
 use Rattle.rr_answer.specs.declared.command.Inquiry.TheVariants.{Clash as AskClash}
-use Rattle.rr_answer.proofs.SaidOfBothLemmas.{periods, printable_at}
+use Rattle.rr_answer.proofs.SaidOfBothLemmas.{periods, printable_at, too_late_said}
 
 module _ (s u : Subject) (of_s of_u : Sketch) (fold : IsFoldOf s of_s) (fold' : IsFoldOf u of_u) where
   -- from the sketches to their subjects
@@ -43,6 +46,14 @@ module _ (s u : Subject) (of_s of_u : Sketch) (fold : IsFoldOf s of_s) (fold' : 
   clash_of_both d e answer few h =
       let early : IsTooLate (AskClash d e) (lcm of_s.period of_u.period) → ⊥ = λ late. omega (arith, late, few) in
       inr (subst (λ (days : ℕ). IsTooLate (AskClash d e) days → ⊥) (periods s u of_s of_u fold fold') early, h)
+
+  pub clash_too_late :
+      (d e : ℕ) (answer : Answer) → (lcm of_s.period of_u.period ≤ 16_777_216 → ⊥) → answer ≡ refused Both CycleTooLong
+      → IsSaidOfBoth (AskClash d e) s u answer
+  clash_too_late d e answer many is =
+      let late : IsTooLate (AskClash d e) (lcm of_s.period of_u.period) =
+      elim (cases_lt 16_777_216 (lcm of_s.period of_u.period)) [ inl m ↦ omega (arith, m) | inr m ↦ absurd (many m) ] in
+      too_late_said s u of_s of_u fold fold' (AskClash d e) answer late is
 
 -- ---- it can be printed
 

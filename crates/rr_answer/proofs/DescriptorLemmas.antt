@@ -1,31 +1,20 @@
 -- The bytes of a canonical text are that of one sketch, whichever version they are in.
 use Rattle.std.proofs.Common.{◌≡◌, ℕ, ℤ, List, [], refl, sym, ap, subst, ◌∙◌, arith}
 use Rattle.std.specs.List.{Contains}
-use Rattle.std.specs.Prelude.{Ok, Err, Result, Some, None}
 use Rattle.rr_algebra.proofs.ReadableLemmas.{version_is, version_of_text}
-use Rattle.rr_algebra.specs.Stated.{HasNoDescriptor, IsDescriptor, version_read}
+use Rattle.rr_algebra.specs.Stated.{IsDescriptor, version_read}
 use Rattle.rr_canon.proofs.PrintableLemmas.{descriptor_text_tells}
 use Rattle.rr_canon.proofs.StretchTextLemmas.{second_version_tells}
 use Rattle.rr_canon.specs.Versions.{text_in}
 use Rattle.rr_canon.specs.declared.version.Version.{Version}
 use Rattle.rr_canon.specs.declared.version.Version.TheVariants.{First, Second}
-use Rattle.rr_fold.specs.Judged.{all_limits}
-use Rattle.rr_model.specs.Answers.{RefusedExactlyWhere}
 use Rattle.rr_model.specs.Moment.{day_part, second_part}
-use Rattle.rr_model.specs.Moment.Years.{IsFromYearOne}
 use Rattle.rr_model.specs.Sets.Printable.{TellsSetsApart}
 use Rattle.rr_model.specs.Sets.Sketch.{StandsIn, times_on}
 use Rattle.rr_model.specs.declared.kind.Kind.{Kind}
-use Rattle.rr_model.specs.declared.refusal.Fault.{Fault}
-use Rattle.rr_model.specs.declared.refusal.Fault.TheVariants.{NoMemory, Refused}
-use Rattle.rr_model.specs.declared.refusal.Refusal.{Refusal}
-use Rattle.rr_model.specs.declared.refusal.Refusal.TheVariants.{NotCanonical}
 use Rattle.rr_model.specs.declared.sketch.Sketch.{Sketch}
 use Rattle.rr_word.proofs.OneLeastLemmas.{one_least}
-use Rattle.rr_answer.specs.Folding.{IsFoldOf, IsFoldedFrom, OccurFromYearOne}
-use Rattle.rr_answer.specs.Judgement.{IsFault}
-use Rattle.rr_answer.specs.OperandReading.{IsDescriptorRead}
-use Rattle.rr_answer.specs.Subjects.{Reading, Subject, of_sketch}
+use Rattle.rr_answer.specs.Folding.{OccurFromYearOne}
 
 -- texts of each version tell sets apart
 pub version_tells : (version : Version) → TellsSetsApart (text_in version)
@@ -49,21 +38,7 @@ none_contained : (x : ℕ) → Contains [] x → ⊥
 none_contained x (k, l, e) = omega (arith, l)
 
 -- nothing of it lies before the year 1
-from_year_one : (text : List ℕ) (s : Sketch) → IsDescriptor text s → OccurFromYearOne (StandsIn s)
+pub from_year_one : (text : List ℕ) (s : Sketch) → IsDescriptor text s → OccurFromYearOne (StandsIn s)
 from_year_one text s p k t h =
     p.readable.within.describable.from_year_one (day_part k t)
     (λ e. none_contained (second_part k t) (subst (λ l. Contains l (second_part k t)) e h.second))
-
--- ---- what the call that reads it answers
-
-module _ (reads : Reading) (text : List ℕ) (is_read : (r : Result Subject Refusal) → IsDescriptorRead text r → reads r) where
-  pub descriptor_folded : (s : Sketch) → IsDescriptor text s → IsFoldedFrom reads s
-  descriptor_folded s p = record {
-    subject = of_sketch s;
-    judged = record { read = Ok (of_sketch s); is_read = is_read (Ok (of_sketch s)) p; is_judged = (refl, refl) };
-    fold = record { from_year_one = from_year_one text s p; stands = λ k t. ((λ h. h), (λ h. h)); period = refl };
-  }
-
-  pub descriptor_refused : (fault : Fault) → RefusedExactlyWhere (HasNoDescriptor text) NotCanonical (Err fault) → IsFault all_limits reads fault
-  descriptor_refused (Refused refusal) h = record { read = Err refusal; is_read = is_read (Err refusal) h; is_judged = refl }
-  descriptor_refused NoMemory h = tt

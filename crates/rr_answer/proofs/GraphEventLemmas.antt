@@ -176,7 +176,8 @@ end-is numbered range end h =
     let count = and_then_ok (within of.NumberOfOccurrences 1 18_446_744_073_709_551_615 (number_in (codes "numberOfOccurrences") range))
     (λ n. Ok (Numbered n)) end h in
     let e : Numbered count.0 ≡ end = ok_same (Numbered count.0) end count.2 in
-    subst IsRangeEnd e (within-lies of.NumberOfOccurrences 1 18_446_744_073_709_551_615 _ count.0 count.1)
+    subst IsRangeEnd e (within-lies of.NumberOfOccurrences 1 18_446_744_073_709_551_615 (number_in (codes "numberOfOccurrences") range) count.0
+    count.1)
 
 -- the range begins in the years 1 to 9999, and so does its end lie
 record IsReadRange (range : Range) : Type 0 where

@@ -1,5 +1,5 @@
 // What is said of two operands.
-ghost use Rattle.std.specs.Prelude.{IfOk};
+ghost use Rattle.std.specs.Prelude.{IfOk, ◌≤ℤ◌, pos};
 ghost use Rattle.rr_answer.specs.Answer.{IsPairAnswer};
 ghost use Rattle.rr_answer.specs.Command.{HasDurations};
 ghost use Rattle.rr_answer.specs.Folding.{IsFoldOf, IsFromYearOneOn};
@@ -10,6 +10,7 @@ ghost use Rattle.rr_answer.specs.Subjects.{Subject};
 ghost use Rattle.rr_answer.specs.Verdicts.{IsSaidOfBoth};
 
 use crate::clashes::clash_outcome;
+use crate::combining::combined_outcome;
 use crate::command::{Inquiry, Operand};
 use crate::folding::read_folded;
 use crate::outcome::{Outcome, refused_for};
@@ -21,19 +22,17 @@ use std::alloc::Global;
 
 // What is said of two series that are within their limits: that their common cycle is too long for what is asked, or the
 // answer.
-fn said_of_both(
-    alloc: Global,
-    inquiry: Inquiry,
-    a: Folded,
-    b: Folded,
-) -> Result<Outcome, NoMemory>
+fn said_of_both(alloc: Global, inquiry: Inquiry, a: Folded, b: Folded) -> Result<Outcome, NoMemory>
     requires durations { HasDurations inquiry }
     requires a { IsFromYearOneOn (⟦<Folded as DaySeq>⟧.sketch a) }
     requires b { IsFromYearOneOn (⟦<Folded as DaySeq>⟧.sketch b) }
+    requires near_a { (⟦<Folded as DaySeq>⟧.sketch a).settled ≤ℤ pos 40_000_000 }
+    requires near_b { (⟦<Folded as DaySeq>⟧.sketch b).settled ≤ℤ pos 40_000_000 }
     ensures { IfOk result (λ x. (s u : Subject) → IsFoldOf s (⟦<Folded as DaySeq>⟧.sketch a) → IsFoldOf u (⟦<Folded as DaySeq>⟧.sketch b) → IsSaidOfBoth inquiry s u (answer_of x)) }
 {
     match inquiry {
         Inquiry::Verdict(question) => verdict_outcome(alloc, question, a, b),
+        Inquiry::Combine(op) => combined_outcome(alloc, op, &a, &b),
         Inquiry::Clash {
             duration_a,
             duration_b,

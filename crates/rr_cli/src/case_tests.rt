@@ -83,6 +83,50 @@ rank 0001-01-01 rrule:a|DTSTART:00010101~RRULE:FREQ=YEARLY||1 [0]
 nth 2 rrule:a|DTSTART:20240102~RRULE:FREQ=WEEKLY;BYDAY=MO||refused A NotSynchronised 1 [2]
 ";
 
+// Canonical texts of both versions, printed and read.
+const CANONICAL_TEXTS: &str = "\
+canon rrule:a|DTSTART:20240101T000000~RRULE:FREQ=SECONDLY||rrcanon 2~moments~t 0/1/86400~f 2024-01-01~q 2024-01-01 1~c 0 0 1 [0]
+canon rrule:a|DTSTART:20240101T090000~RRULE:FREQ=DAILY;BYHOUR=9,17||rrcanon 2~moments~t 32400 61200~f 2024-01-01~q 2024-01-01 1~c 0 0 1 [0]
+canon rrule:a|DTSTART:20240101T000000~RRULE:FREQ=DAILY;BYSECOND=0,10,11,12||rrcanon 2~moments~t 0 10/1/3~f 2024-01-01~q 2024-01-01 1~c 0 0 1 [0]
+canon rrule:a|DTSTART:20240101T090000~RRULE:FREQ=HOURLY;INTERVAL=7||rrcanon 2~moments~t 32400/25200/3~t 21600/25200/3~t 10800/25200/3~t 0/25200/4~t 14400/25200/3~t 3600/25200/4~t 18000/25200/3~t 7200/25200/4~f 2024-01-01~b 0 0 1~q 2024-01-02 7~c 0 1 1~c 1 2 1~c 1 3 1~c 1 4 1~c 1 5 1~c 1 6 1~c 1 7 1 [0]
+canon1 rrule:a|DTSTART:20240101T090000~RRULE:FREQ=HOURLY;INTERVAL=7||rrcanon 1~moments~t 32400 57600 82800~t 21600 46800 72000~t 10800 36000 61200~t 0 25200 50400 75600~t 14400 39600 64800~t 3600 28800 54000 79200~t 18000 43200 68400~t 7200 32400 57600 82800~f 2024-01-01~b 0 0 1~q 2024-01-02 7~c 0 1 1~c 1 2 1~c 1 3 1~c 1 4 1~c 1 5 1~c 1 6 1~c 1 7 1 [0]
+canon canon:a|rrcanon 2~moments~t 32400/25200/3~t 21600/25200/3~t 10800/25200/3~t 0/25200/4~t 14400/25200/3~t 3600/25200/4~t 18000/25200/3~t 7200/25200/4~f 2024-01-01~b 0 0 1~q 2024-01-02 7~c 0 1 1~c 1 2 1~c 1 3 1~c 1 4 1~c 1 5 1~c 1 6 1~c 1 7 1~||rrcanon 2~moments~t 32400/25200/3~t 21600/25200/3~t 10800/25200/3~t 0/25200/4~t 14400/25200/3~t 3600/25200/4~t 18000/25200/3~t 7200/25200/4~f 2024-01-01~b 0 0 1~q 2024-01-02 7~c 0 1 1~c 1 2 1~c 1 3 1~c 1 4 1~c 1 5 1~c 1 6 1~c 1 7 1 [0]
+canon canon:a|rrcanon 1~moments~t 32400 57600 82800~t 21600 46800 72000~t 10800 36000 61200~t 0 25200 50400 75600~t 14400 39600 64800~t 3600 28800 54000 79200~t 18000 43200 68400~t 7200 32400 57600 82800~f 2024-01-01~b 0 0 1~q 2024-01-02 7~c 0 1 1~c 1 2 1~c 1 3 1~c 1 4 1~c 1 5 1~c 1 6 1~c 1 7 1~||rrcanon 2~moments~t 32400/25200/3~t 21600/25200/3~t 10800/25200/3~t 0/25200/4~t 14400/25200/3~t 3600/25200/4~t 18000/25200/3~t 7200/25200/4~f 2024-01-01~b 0 0 1~q 2024-01-02 7~c 0 1 1~c 1 2 1~c 1 3 1~c 1 4 1~c 1 5 1~c 1 6 1~c 1 7 1 [0]
+canon1 canon:a|rrcanon 2~moments~t 32400/25200/3~t 21600/25200/3~t 10800/25200/3~t 0/25200/4~t 14400/25200/3~t 3600/25200/4~t 18000/25200/3~t 7200/25200/4~f 2024-01-01~b 0 0 1~q 2024-01-02 7~c 0 1 1~c 1 2 1~c 1 3 1~c 1 4 1~c 1 5 1~c 1 6 1~c 1 7 1~||rrcanon 1~moments~t 32400 57600 82800~t 21600 46800 72000~t 10800 36000 61200~t 0 25200 50400 75600~t 14400 39600 64800~t 3600 28800 54000 79200~t 18000 43200 68400~t 7200 32400 57600 82800~f 2024-01-01~b 0 0 1~q 2024-01-02 7~c 0 1 1~c 1 2 1~c 1 3 1~c 1 4 1~c 1 5 1~c 1 6 1~c 1 7 1 [0]
+canon canon@+01:00:a|rrcanon 2~none~||rrcanon 2~none [0]
+canon1 canon:a|\u{feff}rrcanon 1~days~f 2024-01-01~b 0 0 1~b 1 0 2~||rrcanon 1~days~f 2024-01-01~b 0 0 1~b 1 0 2 [0]
+canon canon:a|rrcanon 2~days~f 2024-01-01~q 2024-01-01 14~c 0 0 1~c 7 0 1~||refused A NotCanonical [2]
+canon canon:a|rrcanon 2~moments~t 0 60 120~f 2024-01-01~b 0 0 1~||refused A NotCanonical [2]
+canon canon:a|rrcanon 2~days~f 2024-01-01~b 0 0 1~b 1 0 1000000000000~||refused A NotCanonical [2]
+canon canon:a|rrcanon 2~none||refused A NotCanonical [2]
+canon canon:a|||refused A NotCanonical [2]
+equal canon:a rrule:b|rrcanon 1~moments~t 32400 57600 82800~t 21600 46800 72000~t 10800 36000 61200~t 0 25200 50400 75600~t 14400 39600 64800~t 3600 28800 54000 79200~t 18000 43200 68400~t 7200 32400 57600 82800~f 2024-01-01~b 0 0 1~q 2024-01-02 7~c 0 1 1~c 1 2 1~c 1 3 1~c 1 4 1~c 1 5 1~c 1 6 1~c 1 7 1~|DTSTART:20240101T090000~RRULE:FREQ=HOURLY;INTERVAL=7|yes [0]
+within canon:a rrule:b|rrcanon 2~days~f 0001-01-01~b 0 0 1~|DTSTART:20240101~RRULE:FREQ=DAILY|no 0001-01-01 A [1]
+disjoint canon:a canon:b|rrcanon 2~none~|rrcanon 1~none~|yes [0]
+equal rrule:a canon:b|DTSTART:20240101~RRULE:FREQ=DAILY|rrcanon 3~none~|refused B NotCanonical [2]
+nth 3 canon:a|rrcanon 2~days~f 2024-01-01~q 2024-01-01 2~c 0 0 1~||2024-01-05 [0]
+clear 86400 canon:a 1 rrule:b|rrcanon 2~days~f 2024-01-01~b 0 0 1~|DTSTART:20240101~RRULE:FREQ=DAILY|no 2024-01-01T00:00:00 2024-01-01 2024-01-01 [1]
+";
+
+// Unions, common parts and differences.
+const COMBINED: &str = "\
+union rrule:a rrule:b|DTSTART:20240101~RRULE:FREQ=DAILY;INTERVAL=2|DTSTART:20240102~RRULE:FREQ=DAILY;INTERVAL=2|rrcanon 2~days~f 2024-01-01~q 2024-01-01 1~c 0 0 1 [0]
+common rrule:a rrule:b|DTSTART:20240101~RRULE:FREQ=DAILY;INTERVAL=2|DTSTART:20240101~RRULE:FREQ=DAILY;INTERVAL=3|rrcanon 2~days~f 2024-01-01~q 2024-01-01 6~c 0 0 1 [0]
+minus rrule:a rrule:b|DTSTART:20240101~RRULE:FREQ=DAILY;INTERVAL=2|DTSTART:20240101~RRULE:FREQ=DAILY|rrcanon 2~none [0]
+minus rrule:a rrule:b|DTSTART:20240101~RRULE:FREQ=DAILY;INTERVAL=2|DTSTART:20240102~RRULE:FREQ=DAILY;INTERVAL=2|rrcanon 2~days~f 2024-01-01~q 2024-01-01 2~c 0 0 1 [0]
+minus rrule:a rrule:b|DTSTART:20240101~RRULE:FREQ=DAILY|DTSTART:20240101~RRULE:FREQ=DAILY;COUNT=3|rrcanon 2~days~f 2024-01-04~q 2024-01-04 1~c 0 0 1 [0]
+union rrule:a rrule:b|DTSTART:20240101~RRULE:FREQ=DAILY|DTSTART:20240101T000000~RRULE:FREQ=DAILY|refused both MixedSets [2]
+common rrule:a rrule:b|DTSTART:20240101~RRULE:FREQ=DAILY|DTSTART:20240101T000000~RRULE:FREQ=DAILY|rrcanon 2~none [0]
+minus rrule:a rrule:b|DTSTART:20240101~RRULE:FREQ=DAILY|DTSTART:20240101T000000~RRULE:FREQ=DAILY|rrcanon 2~days~f 2024-01-01~q 2024-01-01 1~c 0 0 1 [0]
+union canon:a rrule:b|rrcanon 2~none~|DTSTART:20240101T000000~RRULE:FREQ=DAILY|rrcanon 2~moments~t 0~f 2024-01-01~q 2024-01-01 1~c 0 0 1 [0]
+union rrule:a canon:b|DTSTART:20240101T000000~RRULE:FREQ=DAILY|rrcanon 1~none~|rrcanon 2~moments~t 0~f 2024-01-01~q 2024-01-01 1~c 0 0 1 [0]
+union rrule:a rrule:b|DTSTART:20240101~RRULE:FREQ=MONTHLY;INTERVAL=113|DTSTART:20240101~RRULE:FREQ=DAILY;INTERVAL=5|refused both CycleTooLong [2]
+union rrule:a canon:b|DTSTART:20240101~RRULE:FREQ=DAILY|rrcanon 2~days~f 2024-01-01~q 2024-01-01 14~c 0 0 1~c 7 0 1~|refused B NotCanonical [2]
+union rrule:a canon:b|DTSTART:20240102~RRULE:FREQ=WEEKLY;BYDAY=MO|rrcanon 2~none|refused A NotSynchronised 1 [2]
+union canon:a canon:b|rrcanon 2~moments~t 0 60~f 2024-01-01~b 0 0 1~|rrcanon 2~moments~t 120 7200~f 2024-01-01~b 0 0 1~|rrcanon 2~moments~t 0/60/3 7200~f 2024-01-01~b 0 0 1 [0]
+minus canon:a canon:b|rrcanon 2~moments~t 0 60~f 2024-01-01~q 2024-01-01 1~c 0 0 1~|rrcanon 2~moments~t 60~f 2024-01-02~q 2024-01-02 1~c 0 0 1~|rrcanon 2~moments~t 0 60~t 0~f 2024-01-01~b 0 0 1~q 2024-01-02 1~c 0 1 1 [0]
+";
+
 // Words that are no command.
 const NO_COMMANDS: &str = "\
 clear 0 rrule:a 1 rrule:b
@@ -103,6 +147,13 @@ nth 1 rrule:a rrule:b
 rank rrule:a
 rank 2024-1-01 rrule:a
 rank 2024-01-01T24:00:00 rrule:a
+list 1 canon:a
+check canon:a
+infer canon:a
+translate rrule canon:a
+union canon:- canon:-
+union canon:a
+canon1 canon:a canon:b
 ";
 
 // What a run over these words puts, and its exit status.
@@ -121,7 +172,8 @@ fn said(alloc: Global, words: &str, a: &str, b: &str) -> Result<String, Fail> {
     let text = std::str::from_utf8(sink.bytes())
         .ok()
         .ok_or("the output is text")?;
-    Ok(format!(in alloc; "{} [{}]", text.trim_end(), status.code())?)
+    let text = text.trim_end().replace(alloc, "\n", "~")?;
+    Ok(format!(in alloc; "{} [{}]", text.as_str(), status.code())?)
 }
 
 // A row `WORDS|A|B|OUTPUT [STATUS]` holds.
@@ -135,7 +187,13 @@ fn row_holds(rt: &impl Abort, alloc: Global, row: &str) -> Result<(), Fail> {
 
 #[test]
 fn cases(rt: HostRuntime) -> Result<(), Fail> {
-    for table in [PAST_THE_COMMON_CYCLE, CLASHES, NUMBERS] {
+    for table in [
+        PAST_THE_COMMON_CYCLE,
+        CLASHES,
+        NUMBERS,
+        CANONICAL_TEXTS,
+        COMBINED,
+    ] {
         for row in table.lines() {
             row_holds(&rt, rt.alloc(), row)?;
         }

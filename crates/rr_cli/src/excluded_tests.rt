@@ -67,7 +67,7 @@ fn row_holds(rt: &impl Abort, alloc: Global, row: &str) -> Result<(), Fail> {
         .ok()
         .ok_or("the output is text")?;
     let said = said.trim_end().replace(alloc, "\n", " ")?;
-    let said = said.replace(alloc, "rrcanon 1", "CANON")?;
+    let said = said.replace(alloc, "rrcanon 2", "CANON")?;
     assert_eq!(rt; said.as_str(), wanted, "{row}");
     Ok(())
 }

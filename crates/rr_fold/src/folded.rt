@@ -30,6 +30,7 @@ pub fn fold(alloc: Global, series: &Checked) -> Result<Folded, Fault>
     ensures stands { IfOk result (λ f. StandsFor (⟦<Folded as DaySeq>⟧.sketch f) (Occurs series.now)) }
     ensures kind { IfOk result (λ f. (⟦<Folded as DaySeq>⟧.sketch f).kind ≡ series.now.kind) }
     ensures settled { IfOk result (λ f. IsSettledDay series.now (⟦<Folded as DaySeq>⟧.sketch f).settled) }
+    ensures near { IfOk result (λ f. (⟦<Folded as DaySeq>⟧.sketch f).settled ≤ℤ pos 20_000_000) }
     ensures period { IfOk result (λ f. (⟦<Folded as DaySeq>⟧.sketch f).period ≡ series_cycle series.now) }
     ensures judged { IsJudged series.now result }
 {

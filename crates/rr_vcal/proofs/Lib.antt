@@ -2,7 +2,7 @@ mod ItemExamples
 pub mod OccurrenceLemmas
 pub mod ValidSeriesLemmas
 mod ValidPartsLemmas
-mod ValidReadLemmas
+pub mod ValidReadLemmas
 mod ByteLemmas
 mod TrimLemmas
 mod WordLemmas

@@ -1,9 +1,8 @@
-use Rattle.std.proofs.Common.{arith}
+use Rattle.std.proofs.Common.{sym, ◌∙◌}
+use Rattle.std.proofs.lemmas.Bool.{false≢true}
 use Rattle.std.proofs.lemmas.Result.{IfOk-weaker}
 use Rattle.rr_answer.specs.Outcome.{answer_of}
-use Rattle.rr_answer.specs.declared.command.Inquiry.TheVariants.{Clash}
-use Rattle.rr_answer.proofs.ClashLemmas.{clash_is_said, clash_of_both, printable_clash, printable_kinds}
-use Rattle.rr_answer.proofs.SaidOfBothLemmas.{too_late_said}
+use Rattle.rr_answer.proofs.ClashLemmas.{clash_is_said, clash_of_both, clash_too_late, printable_clash, printable_kinds}
 use Rattle.rr_answer.proofs.clashes.clash_outcome.Goals as goal
 
 pub clash_told-requires : goal.clash_told-requires
@@ -12,11 +11,11 @@ clash_told-requires c =
     (printable_clash _ _ c.args.duration_a c.args.duration_b c.clear-clash.result c.requires.a c.requires.b c.clear-clash.ensures.verdict
     c.clear-clash.ensures.day)
 
-pub returns-if-not-together : goal.returns-if-not-together
-returns-if-not-together c =
-    let late = λ h. absurd (c.if-not-together.true (c.repeat_together-together.ensures.1 h)) in
+pub returns-then-not-together : goal.returns-then-not-together
+returns-then-not-together c =
     IfOk-weaker c.refused.result _ _
-    (λ x e s u fold fold'. too_late_said s u _ _ fold fold' (Clash c.args.duration_a c.args.duration_b) (answer_of x) late e)
+    (λ x e s u fold fold'. clash_too_late s u _ _ fold fold' c.args.duration_a c.args.duration_b (answer_of x)
+    (λ few. false≢true (sym c.if-not-together.true ∙ c.repeat_together-together.ensures.1 few)) e)
     c.refused.ensures
 
 pub returns : goal.returns

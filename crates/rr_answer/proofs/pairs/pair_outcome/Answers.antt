@@ -9,6 +9,12 @@ said_of_both-requires-clause-a c = fold_from_year_one c.in-Ok.ensures.accepted.s
 pub said_of_both-requires-clause-b : goal.said_of_both-requires-clause-b
 said_of_both-requires-clause-b c = fold_from_year_one c.in-Ok-read_folded.ensures.accepted.subject _ c.in-Ok-read_folded.ensures.accepted.fold
 
+pub said_of_both-requires-clause-near_a : goal.said_of_both-requires-clause-near_a
+said_of_both-requires-clause-near_a c = c.in-Ok.ensures.accepted.fold.near
+
+pub said_of_both-requires-clause-near_b : goal.said_of_both-requires-clause-near_b
+said_of_both-requires-clause-near_b c = c.in-Ok-read_folded.ensures.accepted.fold.near
+
 pub returns-in-Ok-read_folded : goal.returns-in-Ok-read_folded
 returns-in-Ok-read_folded c =
     let of_a = c.in-Ok.ensures.accepted in

@@ -1,0 +1,40 @@
+// What `union`, `common` and `minus` say of two operands.
+ghost use Rattle.std.specs.Prelude.{IfOk, ◌≤ℤ◌, pos};
+ghost use Rattle.rr_answer.specs.Folding.{IsFoldOf, IsFromYearOneOn};
+ghost use Rattle.rr_answer.specs.Outcome.{answer_of};
+ghost use Rattle.rr_answer.specs.Subjects.{Subject};
+ghost use Rattle.rr_answer.specs.Verdicts.{IsSaidOfBoth};
+ghost use Rattle.rr_answer.specs.declared.command.Inquiry.TheVariants.{Combine};
+
+use crate::canon::canonical_text;
+use crate::conclusion::Conclusion;
+use crate::outcome::{Outcome, refused, refused_for};
+use crate::verdicts::repeat_together;
+use rr_algebra::{Op, combine};
+use rr_canon::Version;
+use rr_days::Folded;
+use rr_model::{NoMemory, Refusal, Side};
+use rr_word::DaySeq;
+use std::alloc::Global;
+
+/// What is said of two operands that are combined: that their common cycle is too long, that one has dates and the other moments
+/// and both are to be in the result, that the result has too many moments, or its canonical text of the second version.
+pub fn combined_outcome(alloc: Global, op: Op, a: &Folded, b: &Folded) -> Result<Outcome, NoMemory>
+    requires a { IsFromYearOneOn (⟦<Folded as DaySeq>⟧.sketch a.now) }
+    requires b { IsFromYearOneOn (⟦<Folded as DaySeq>⟧.sketch b.now) }
+    requires near_a { (⟦<Folded as DaySeq>⟧.sketch a.now).settled ≤ℤ pos 40_000_000 }
+    requires near_b { (⟦<Folded as DaySeq>⟧.sketch b.now).settled ≤ℤ pos 40_000_000 }
+    ensures { IfOk result (λ x. (s u : Subject) → IsFoldOf s (⟦<Folded as DaySeq>⟧.sketch a.now) → IsFoldOf u (⟦<Folded as DaySeq>⟧.sketch b.now) → IsSaidOfBoth (Combine op) s u (answer_of x)) }
+{
+    let together = repeat_together(a, b);
+    if !together {
+        return refused(alloc, Side::Both, Refusal::CycleTooLong);
+    }
+    match combine(alloc, op, a, b) {
+        Err(fault) => refused_for(alloc, Side::Both, fault),
+        Ok(days) => Ok(Outcome {
+            conclusion: Conclusion::Yes,
+            text: canonical_text(alloc, Version::Second, &days)?,
+        }),
+    }
+}
