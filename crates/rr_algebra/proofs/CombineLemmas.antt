@@ -159,7 +159,7 @@ empty_made op s u sets e =
     (λ k d l some. absurd (some (let z : k ≡ 0 = omega (arith, l) in ap (λ n. get_or ([] ∷ []) n d) z)))
 
 pub empty_room : (sets : List (List ℕ)) → sets ≡ [] ∷ [] → total_size sets ≤ MAX_SECONDS
-empty_room sets e = subst (λ l. total_size l ≤ MAX_SECONDS) (sym e) (omega (arith, sum_by-cons length [] []))
+empty_room sets e = subst (λ l. total_size l ≤ MAX_SECONDS) (sym e) (let none : List (List ℕ) = [] in omega (arith, sum_by-cons length [] none))
 
 pub none_known : (op : Op) (one other sets : List (List ℕ)) (known : List (Pair × ℕ)) → known ≡ [] → AreKnown op one other sets known
 none_known op one other sets known e = subst (AreKnown op one other sets) (sym e) (λ k d l. absurd (omega (arith, l)))

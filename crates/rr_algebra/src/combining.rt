@@ -271,7 +271,7 @@ fn is_one_kind(kind: Kind, other: Kind) -> bool
     }
 }
 
-// One sequence with itself.
+// What is made of a set and itself: the same set, or nothing.
 fn with_itself<A: DaySeq>(alloc: Global, op: Op, one: &A) -> Result<Folded, Fault>
     requires cycle { (A.sketch one.now).period ≤ 16_777_216 }
     requires near { ((A.sketch one.now).settled +ℤ pos (A.sketch one.now).period) ≤ℤ pos 1_000_000_000 }
@@ -302,12 +302,12 @@ fn union_apart<A: DaySeq, B: DaySeq>(alloc: Global, one: &A, other: &B) -> Resul
 
 /// The union, the common part or the difference of two sets of occurrences.
 ///
-/// It repeats after the least common multiple of both periods, from the later settled day on. `MixedSets` comes exactly where the
-/// union is asked of two sets of different kinds, neither of which is empty; an empty set goes with either kind. `TooManyMoments`
-/// comes exactly where else the distinct time sets of the result have together more than `MAX_SECONDS` seconds.
+/// `MixedSets` comes exactly where the union is asked of two sets of different kinds, neither of which is empty; an empty set goes
+/// with either kind. Else `TooManyMoments` comes exactly where the distinct time sets of the result have together more than
+/// `MAX_SECONDS` seconds. Neither the period nor the settled day of the result need be the least.
 ///
-/// It keeps four bytes for each day from the first occupied one of both up to the least common multiple past the later settled
-/// day. Two time sets are combined once, however many days have them.
+/// It keeps four bytes for each day from the first occupied one of both up to the least common multiple of the periods past the
+/// later settled day. Two time sets are combined once, however many days have them.
 pub fn combine<A: DaySeq, B: DaySeq>(
     alloc: Global,
     op: Op,

@@ -12,7 +12,6 @@ mod read;
 mod runs;
 mod seconds;
 mod sets;
-
 #[cfg(test)]
 mod tests;
 

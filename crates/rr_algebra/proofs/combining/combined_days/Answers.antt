@@ -1,7 +1,9 @@
 use Rattle.std.proofs.Common.{◌≡◌, pos, ◌+ℤ◌, w64, to_z, of_z, sym, subst, ◌∙◌, to_z-of_z, arith}
 use Rattle.std.proofs.lemmas.Int.{ints}
 use Rattle.rr_days.specs.Sketched.{IsWholeFold, sketch_of}
-use Rattle.rr_algebra.specs.Combining.{AreDayNumbers, HasDaysOf}
+use Rattle.rr_days.specs.declared.folded.Folded.{Folded}
+use Rattle.rr_algebra.specs.Combining.{AreDayNumbers, HasDaysOf, HasTooManyMade}
+use Rattle.rr_algebra.specs.declared.combining.CombinedDays.{CombinedDays}
 use Rattle.rr_algebra.proofs.JudgedLemmas.{refused_exactly}
 use Rattle.rr_algebra.proofs.TogetherLemmas.{not_too_many, together_days, together_whole}
 use Rattle.rr_algebra.proofs.combining.combined_days.Goals as goal
@@ -47,7 +49,7 @@ returns-in-Ok-clause-days g c =
     (sym (c.sequence.ensures ∙ (λ i. sketch_of c.args.kind days.shapes days.numbers.items (b i) (q i) c.args.period))) made
 
 pub returns-in-Err-clause-refused : goal.returns-in-Err-clause-refused
-returns-in-Err-clause-refused g c = refused_exactly _ _ c.in-Err.fault _ c.in-Err.ensures.refused
+returns-in-Err-clause-refused g c = refused_exactly CombinedDays Folded c.in-Err.fault _ c.in-Err.ensures.refused
 
 pub returns-in-Ok-clause-refused : goal.returns-in-Ok-clause-refused
 returns-in-Ok-clause-refused g c =

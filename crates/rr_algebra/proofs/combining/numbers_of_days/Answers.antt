@@ -1,6 +1,7 @@
 use Rattle.std.proofs.Common.{◌≡◌, pos, ◌+ℤ◌, w64, to_z, of_z, length, length-append, [], ◌∷◌, ap, to_z-of_z, arith}
 use Rattle.std.proofs.lemmas.Int.{ints}
 use Rattle.rr_algebra.specs.Combining.{table}
+use Rattle.rr_algebra.specs.declared.combining.CombinedDays.{CombinedDays}
 use Rattle.rr_algebra.proofs.CombineLemmas.{empty_day_sets, empty_made, empty_room, no_numbers, none_known, one_more_number}
 use Rattle.rr_algebra.proofs.JudgedLemmas.{refused_all}
 use Rattle.rr_algebra.proofs.combining.numbers_of_days.Goals as goal
@@ -44,5 +45,5 @@ loop-k-preserved g c =
 
 pub returns-in-Err-clause-refused : goal.returns-in-Err-clause-refused
 returns-in-Err-clause-refused g c =
-    refused_all _ c.in-Err.fault c.args.op (g.A.DaySeq.sketch c.args.one.now) (g.B.DaySeq.sketch c.args.other.now) _ c.loop-k.sets.shapes
+    refused_all CombinedDays c.in-Err.fault c.args.op (g.A.DaySeq.sketch c.args.one.now) (g.B.DaySeq.sketch c.args.other.now) _ c.loop-k.sets.shapes
     c.in-Err.ensures.refused c.loop-k.invariant.4

@@ -40,8 +40,11 @@ pub returns-clause-judged : goal.returns-clause-judged
 returns-clause-judged g c =
     let s = g.A.DaySeq.sketch c.args.one.now in
     let u = g.B.DaySeq.sketch c.args.other.now in
-    inl (refl, record {
-      first = not_empty s c.first.result c.first.ensures.first (c.is_none.ensures ∙ ap not c.if-is_none.false);
-      second = not_empty u c.first-2.result c.first-2.ensures.first (c.is_none-2.ensures ∙ ap not c.if-is_none-2.false);
-      kinds = c.requires.apart;
-    })
+    inl (
+      refl,
+      record {
+        first = not_empty s c.first.result c.first.ensures.first (c.is_none.ensures ∙ ap not c.if-is_none.false);
+        second = not_empty u c.first-2.result c.first-2.ensures.first (c.is_none-2.ensures ∙ ap not c.if-is_none-2.false);
+        kinds = c.requires.apart;
+      },
+    )

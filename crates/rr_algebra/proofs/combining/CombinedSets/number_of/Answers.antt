@@ -1,4 +1,4 @@
-use Rattle.std.proofs.Common.{◌≡◌, ◌≤◌, [], get_or, sym, ap, subst, ◌∙◌, to_z-of_z, rules}
+use Rattle.std.proofs.Common.{◌≡◌, ◌≤◌, ℕ, [], get_or, sym, ap, subst, ◌∙◌, to_z-of_z, rules}
 use Rattle.std.proofs.lemmas.Option.{get_or_from_slice_get, slice_get_within}
 use Rattle.rr_model.specs.Rising.Sets.{IsSecondsOfDay}
 use Rattle.rr_model.specs.Sets.Sketch.{times_on}
@@ -98,5 +98,5 @@ returns-in-Err-clause-refused g c =
     let b : c.at-2.result.now ≡ times_on u day = c.at-2.ensures ∙ ap (times_on u) d in
     let made : IsMadeOf c.args.op (times_on s day) (times_on u day) c.in_ok-set.set =
     subst (λ x. IsMadeOf c.args.op x (times_on u day) c.in_ok-set.set) a (subst (λ y. IsMadeOf c.args.op c.at.result.now y c.in_ok-set.set) b c.in_ok-set.ensures) in
-    refused_one _ c.in-Err.fault c.args.op (times_on s day) (times_on u day) c.in_ok-set.set c.args.self.now.shapes c.place.new.self c.in-Err.ensures.refused
+    refused_one ℕ c.in-Err.fault c.args.op (times_on s day) (times_on u day) c.in_ok-set.set c.args.self.now.shapes c.place.new.self c.in-Err.ensures.refused
     made c.in-Err.ensures.numbering c.in-Err.ensures.unchanged
