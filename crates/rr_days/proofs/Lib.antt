@@ -1,5 +1,4 @@
 pub mod BackLemmas
-pub mod DistinctLemmas
 pub mod PlaceLemmas
 pub mod PlacedLemmas
 pub mod SequenceLemmas
