@@ -15,3 +15,4 @@ pub mod SaidLemmas
 pub mod NumberedStretchLemmas
 pub mod YearOneLemmas
 pub mod ItemLemmas
+pub mod OwnNumberLemmas

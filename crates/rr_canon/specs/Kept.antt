@@ -1,9 +1,10 @@
 -- The parts of a least sketch as they are kept: days with numbers, and the sets of these numbers.
-use Rattle.std.specs.Prelude.{◌≡◌, ℕ, List, [], ◌++◌, ℤ, pos, ◌+ℤ◌, ◌-ℤ◌, int_lt, Option, if◌then◌else◌}
+use Rattle.std.specs.Prelude.{◌≡◌, ◌≢◌, ◌⊎◌, ℕ, true, List, [], ◌++◌, get_or, ℤ, pos, ◌+ℤ◌, ◌-ℤ◌, int_lt, Option, Some, None, if◌then◌else◌}
+use Rattle.std.specs.List.{list_any}
 use Rattle.rr_model.specs.Whole.{floor_mod}
 use Rattle.rr_model.specs.declared.kind.Kind.{Kind}
 use Rattle.rr_model.specs.declared.sketch.Sketch.{Sketch}
-use Rattle.rr_model.specs.Sets.Descriptor.{with_sets_of}
+use Rattle.rr_model.specs.Sets.Descriptor.{is_same_set, number_of, with_sets_of}
 use Rattle.rr_model.specs.Sets.Occupied.{occupied, shape_if_some}
 use Rattle.rr_word.specs.Numbered.{shapes_of, numbered, number_in}
 use Rattle.rr_word.specs.declared.numbered.NumberedDay.{NumberedDay}
@@ -38,3 +39,20 @@ pub record AreStretchOf (s : Sketch) (from : ℤ) (n : ℕ) (old new : List (Lis
 pub record IsPutDay (day : ℤ) (times : List ℕ) (old_sets new_sets : List (List ℕ)) (old new : List NumberedDay) : Type 0 where
   pub sets : new_sets ≡ with_sets_of old_sets (shape_if_some day times)
   pub numbers : new ≡ old ++ numbered new_sets (shape_if_some day times)
+
+-- ---- the numbers of a sequence's own sets
+
+-- the set has seconds, and is among these sets under this number
+pub record IsKnownNumber (sets : List (List ℕ)) (times : List ℕ) (number : ℕ) : Type 0 where
+  pub some : times ≢ []
+  pub among : list_any (is_same_set times) sets ≡ true
+  pub number_is : number ≡ number_of sets times
+
+-- each number that is known, by the sequence's own number for a set, is that of this set
+abbrev pub AreKnown : List (List ℕ) → List (List ℕ) → List (Option ℕ) → Type 0
+AreKnown own sets known = (k n : ℕ) → get_or known k None ≡ Some n → IsKnownNumber sets (get_or own k []) n
+
+-- what is known then is this number, or was known before
+abbrev pub IsPutNumber : ℕ → ℕ → List (Option ℕ) → List (Option ℕ) → Type 0
+IsPutNumber own number old new =
+    (k n : ℕ) → get_or new k None ≡ Some n → ((k ≡ own) × (n ≡ number)) ⊎ (get_or old k None ≡ Some n)

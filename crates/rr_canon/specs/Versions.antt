@@ -1,8 +1,12 @@
 -- The two versions of a descriptor: their first lines, and how they write a time set.
-use Rattle.std.specs.Prelude.{ℕ, List, codes}
+use Rattle.std.specs.Prelude.{◌≡◌, ◌↔◌, ℕ, List, codes}
+use Rattle.rr_model.specs.Series.Occurrences.{Occurs}
 use Rattle.rr_model.specs.Sets.Descriptor.{descriptor}
 use Rattle.rr_model.specs.Sets.DescriptorText.{seconds_line, text_of}
+use Rattle.rr_model.specs.Sets.Printable.{IsTextOf}
 use Rattle.rr_model.specs.Sets.Stretches.{stretches_line}
+use Rattle.rr_model.specs.Sets.Verdict.{HaveEqualOccurrences}
+use Rattle.rr_model.specs.declared.rule.Series.{Series}
 use Rattle.rr_model.specs.declared.sketch.Sketch.{Sketch}
 use Rattle.rr_canon.specs.declared.version.Version.{Version}
 use Rattle.rr_canon.specs.declared.version.Version.TheVariants.{First, Second}
@@ -20,3 +24,9 @@ set_line_of Second times = stretches_line times
 -- the descriptor of a least sketch
 abbrev pub text_in : Version → Sketch → List ℕ
 text_in version s = text_of (title_of version) (set_line_of version) (descriptor s)
+
+-- Texts of two series in this version are equal exactly where the series have equal occurrences.
+abbrev pub TextsAreEqualExactly : Version → Type 0
+TextsAreEqualExactly version =
+    (s u : Series) (a b : List ℕ) → IsTextOf (text_in version) (Occurs s) a → IsTextOf (text_in version) (Occurs u) b
+    → (a ≡ b) ↔ HaveEqualOccurrences (Occurs s) (Occurs u)

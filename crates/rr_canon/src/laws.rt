@@ -3,7 +3,10 @@ ghost use Rattle.rr_model.specs.Sets.DescriptorText.{descriptor_text};
 ghost use Rattle.rr_model.specs.Sets.Printable.{DescriptorsReadBack, TellsSetsApart};
 ghost use Rattle.rr_model.specs.Sets.Stretches.{second_descriptor_text};
 ghost use Rattle.rr_model.specs.Series.CanonLaw.{CanonIsEqualExactly};
+ghost use Rattle.rr_canon.specs.Versions.{TextsAreEqualExactly};
 ghost use Rattle.rr_canon.specs.Years.{OccursFromYearOne};
+
+use crate::version::Version;
 
 /// Texts of the first version are equal exactly where the sets have equal occurrences.
 pub fn descriptor_tells_sets_apart()
@@ -20,9 +23,11 @@ pub fn descriptors_read_back()
     ensures { DescriptorsReadBack }
 {}
 
-/// Canonical texts of two series are equal exactly where the series have equal occurrences.
+/// Canonical texts of two series, both of the first version or both of the second, are equal exactly where the series have equal
+/// occurrences.
 pub fn canon_is_equal_exactly()
-    ensures { CanonIsEqualExactly }
+    ensures first { CanonIsEqualExactly }
+    ensures second { TextsAreEqualExactly Version.Second }
 {}
 
 /// Each occurrence of a valid series lies in the year 1 or later, as `describe` asks.

@@ -1,34 +1,124 @@
 // The occupied days of a stretch, with the numbers of their time sets.
-ghost use Rattle.std.specs.Prelude.{◌≡◌, ◌<◌, ◌≤◌, IfOk, OnOk, length, pos, ◌+ℤ◌, ◌≤ℤ◌};
+ghost use Rattle.std.specs.Prelude.{◌≡◌, ◌<◌, ◌≤◌, IfOk, IfSome, OnOk, ◌++◌, ◌∷◌, None, Some, ℕ, [], get_or, slice_get, length, neg_ℤ, pos, ◌+ℤ◌, ◌≤ℤ◌};
 ghost use Rattle.rr_model.specs.Rising.Sets.{IsSecondsOfDay};
-ghost use Rattle.rr_model.specs.Sets.Sketch.{IsNearDay};
-ghost use Rattle.rr_canon.specs.Kept.{AreStretchOf, IsPutDay};
+ghost use Rattle.rr_model.specs.Sets.Sketch.{IsNearDay, times_on};
+ghost use Rattle.rr_canon.specs.Kept.{AreKnown, AreStretchOf, IsKnownNumber, IsPutDay, IsPutNumber};
 
 use crate::sets::TimeSets;
 use rr_model::NoMemory;
 use rr_word::{DaySeq, NumberedDay, NumberedDays};
 use std::alloc::Global;
 
-// Adds a day, where it has seconds.
-fn put_day(
+// What is known of the time sets of a sequence: by its own number for a set, the number of the set among those that are kept. So
+// the seconds of each of its sets are read once, and not on each day.
+#[derive(Drop)]
+struct OwnNumbers {
+    known: Vec<Option<u32>>,
+}
+
+impl OwnNumbers {
+    // Nothing is known; it takes no memory.
+    fn new(alloc: Global) -> OwnNumbers
+        ensures { result.known.items ≡ [] }
+    {
+        OwnNumbers {
+            known: Vec::new(alloc),
+        }
+    }
+
+    // The number of the set with this own number, where it is known.
+    fn number(&self, own: u32) -> Option<u32>
+        ensures { IfSome result (λ n. get_or self.now.known.items own None ≡ Some n) }
+    {
+        match self.known.get(own as usize) {
+            Some(number) => *number,
+            None => None,
+        }
+    }
+
+    // Room for the numbers of the first sets.
+    fn make_room(&mut self, count: usize) -> Result<(), NoMemory>
+        ensures same { OnOk result ((k : ℕ) → get_or self.new.known.items k None ≡ get_or self.old.known.items k None) }
+        ensures room { OnOk result (count ≤ length self.new.known.items) }
+    {
+        if self.known.len() < count {
+            self.known.resize(count, None)?;
+        }
+        Ok(())
+    }
+
+    // Keeps the number of the set with this own number.
+    fn put(&mut self, own: u32, number: u32) -> Result<(), NoMemory>
+        ensures { OnOk result (IsPutNumber own number self.old.known.items self.new.known.items) }
+    {
+        let place = own as usize;
+        self.make_room(place + 1)?;
+        self.known[place] = Some(number);
+        Ok(())
+    }
+}
+
+// Adds a day whose set has a number.
+fn put_numbered(day: i64, number: u32, days: &mut NumberedDays) -> Result<(), NoMemory>
+    ensures { OnOk result (days.new ≡ days.old ++ record { day = day; number = number } ∷ []) }
+{
+    days.put(NumberedDay { day, number })
+}
+
+// Adds a day, where it has seconds, by the sequence's own number for its set.
+fn put_own<A: DaySeq>(
     alloc: Global,
+    seq: &A,
     day: i64,
-    times: &[u32],
+    own: u32,
+    known: &mut OwnNumbers,
     sets: &mut TimeSets,
     days: &mut NumberedDays,
 ) -> Result<(), NoMemory>
-    requires of_day { IsSecondsOfDay times.now }
+    requires own { slice_get (A.sets seq.now) own ≡ Some (times_on (A.sketch seq.now) day) }
+    requires of_day { IsSecondsOfDay (times_on (A.sketch seq.now) day) }
     requires few { length sets.old < 4_294_967_295 }
-    ensures { OnOk result (IsPutDay day times.now sets.old sets.new days.old days.new) }
+    requires known { AreKnown (A.sets seq.now) sets.old known.old.known.items }
+    ensures put { OnOk result (IsPutDay day (times_on (A.sketch seq.now) day) sets.old sets.new days.old days.new) }
+    ensures known { OnOk result (AreKnown (A.sets seq.now) sets.new known.new.known.items) }
 {
+    if let Some(number) = known.number(own) {
+        return put_numbered(day, number, days);
+    }
+    let times = seq.times(own);
     if times.is_empty() {
         return Ok(());
     }
     let number = sets.place(alloc, times)?;
-    days.put(NumberedDay { day, number })
+    known.put(own, number)?;
+    put_numbered(day, number, days)
 }
 
-/// The occupied ones of so many days, with the numbers of their time sets, which are added where they are new.
+// Adds a day, where it has seconds.
+fn put_day<A: DaySeq>(
+    alloc: Global,
+    seq: &A,
+    day: i64,
+    known: &mut OwnNumbers,
+    sets: &mut TimeSets,
+    days: &mut NumberedDays,
+) -> Result<(), NoMemory>
+    requires low { neg_ℤ (pos 3_000_000_000_000) ≤ℤ day }
+    requires high { day ≤ℤ pos 3_000_000_000_000 }
+    requires few { length sets.old < 4_294_967_295 }
+    requires known { AreKnown (A.sets seq.now) sets.old known.old.known.items }
+    ensures put { OnOk result (IsPutDay day (times_on (A.sketch seq.now) day) sets.old sets.new days.old days.new) }
+    ensures known { OnOk result (AreKnown (A.sets seq.now) sets.new known.new.known.items) }
+{
+    match seq.stretch(day).first {
+        None => Ok(()),
+        Some(own) => put_own(alloc, seq, day, own, known, sets, days),
+    }
+}
+
+/// The occupied ones of the `count` days from `from` on, with the numbers of their time sets, which are added where they are new.
+///
+/// The seconds of each of the sequence's own sets are read once, and not on each day.
 pub fn number_days<A: DaySeq>(
     alloc: Global,
     seq: &A,
@@ -41,10 +131,10 @@ pub fn number_days<A: DaySeq>(
     requires room { length sets.old ≤ 2_000_000_000 }
     ensures { IfOk result (λ d. AreStretchOf (A.sketch seq.now) from count sets.old sets.new d) }
 {
+    let mut known = OwnNumbers::new(alloc);
     let mut days = NumberedDays::new(alloc);
     for k in 0..count {
-        let day = from + k as i64;
-        put_day(alloc, day, seq.at(day), sets, &mut days)?;
+        put_day(alloc, seq, from + k as i64, &mut known, sets, &mut days)?;
     }
     Ok(days)
 }

@@ -1,4 +1,5 @@
 pub mod BackLemmas
+pub mod DistinctLemmas
 pub mod PlaceLemmas
 pub mod PlacedLemmas
 pub mod SequenceLemmas

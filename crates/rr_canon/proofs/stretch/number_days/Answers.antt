@@ -1,23 +1,25 @@
-use Rattle.std.proofs.Common.{w64, to_z, of_z, arith}
+use Rattle.std.proofs.Common.{w64, to_z, of_z, refl, arith}
 use Rattle.std.proofs.lemmas.Int.{ints}
-use Rattle.rr_canon.proofs.NumberedStretchLemmas.{no_days, one_more_day, sets_within, seconds_of_day}
+use Rattle.rr_canon.proofs.NumberedStretchLemmas.{no_days, one_more_day, sets_within}
+use Rattle.rr_canon.proofs.OwnNumberLemmas.{none_known}
 use Rattle.rr_canon.proofs.stretch.number_days.Goals as goal
 
 pub loop-k-init : goal.loop-k-init
-loop-k-init g c = rw c.new-days.ensures (no_days (g.A.DaySeq.sketch c.args.seq.now) (to_z w64 (of_z w64 c.args.from)) c.args.sets.now)
-
-pub put_day-requires-clause-of_day : goal.put_day-requires-clause-of_day
-put_day-requires-clause-of_day g c =
-    seconds_of_day (g.A.DaySeq.sketch c.args.seq.now) _ c.at.result.now (g.met.A.DaySeq.bounded c.args.seq.now).valid c.at.ensures
+loop-k-init g c = (
+  rw c.new-days.ensures (no_days (g.A.DaySeq.sketch c.args.seq.now) (to_z w64 (of_z w64 c.args.from)) c.args.sets.now),
+  rw c.new-known.ensures (none_known (g.A.DaySeq.sets c.args.seq.now) c.args.sets.now),
+)
 
 pub put_day-requires-clause-few : goal.put_day-requires-clause-few
 put_day-requires-clause-few g c =
     let within = sets_within (g.A.DaySeq.sketch c.args.seq.now)
-    (to_z w64 (of_z w64 c.args.from)) c.loop-k.k c.args.sets.now c.loop-k.sets c.loop-k.days c.loop-k.invariant in
+    (to_z w64 (of_z w64 c.args.from)) c.loop-k.k c.args.sets.now c.loop-k.sets c.loop-k.days c.loop-k.invariant.0 in
     omega (arith, within, c.requires.room, c.requires.few, c.loop-k-test.true)
 
 pub loop-k-preserved : goal.loop-k-preserved
-loop-k-preserved g c =
-    one_more_day (g.A.DaySeq.sketch c.args.seq.now) (to_z w64 (of_z w64 c.args.from))
-    (to_z w64 (of_z w64 c.args.from)) _ c.loop-k.k c.at.result.now c.args.sets.now c.loop-k.sets c.put_day.new.sets c.loop-k.days c.put_day.new.days
-    (omega (arith, ints)) (omega (arith, ints)) c.at.ensures c.loop-k.invariant c.in_ok-put_day.ensures
+loop-k-preserved g c = (
+  one_more_day (g.A.DaySeq.sketch c.args.seq.now) (to_z w64 (of_z w64 c.args.from))
+      (to_z w64 (of_z w64 c.args.from)) _ c.loop-k.k _ c.args.sets.now c.loop-k.sets c.put_day.new.sets c.loop-k.days c.put_day.new.days
+      (omega (arith, ints)) (omega (arith, ints)) refl c.loop-k.invariant.0 c.in_ok-put_day.ensures.put,
+  c.in_ok-put_day.ensures.known,
+)

@@ -1,0 +1,168 @@
+-- Sets of seconds that are made of two, and their numbers.
+use Rattle.std.proofs.Common.{◌≡◌, ◌≢◌, ◌⊎◌, ℕ, ◌+◌, ◌<◌, ◌≤◌, List, [], ◌∷◌, ◌++◌, Contains, get_or, length, length-append, nat_lt, ℤ, pos, ◌+ℤ◌, inl, inr, refl, sym, ap, subst, ◌∙◌, arith}
+use Rattle.std.proofs.lemmas.Bool.{cases_lt}
+use Rattle.std.proofs.lemmas.List.{get_or_default, get_or_append_left, get_or-append-add}
+use Rattle.std.proofs.lemmas.List.Elements.{All-contains, All-contains_itself, All-push}
+use Rattle.std.proofs.lemmas.List.Sums.{sum_by-cons}
+use Rattle.std.proofs.lemmas.Option.{get_or_from_slice_get, slice_get-get_or, slice_get_within}
+use Rattle.rr_model.specs.Rising.{Rises}
+use Rattle.rr_model.specs.Rising.Sets.{IsSecondsOfDay, IsSetOf}
+use Rattle.rr_model.proofs.RisingSetLemmas.{Contains-head, Contains-none, set_same}
+use Rattle.rr_model.proofs.SecondsLemmas.{Contains-or_not, below_from_test}
+use Rattle.rr_model.specs.Sets.Sizes.{total_size}
+use Rattle.rr_model.specs.Sets.Sketch.{IsTimeSet, times_on}
+use Rattle.rr_model.specs.declared.limits.TheConstants.{MAX_SECONDS}
+use Rattle.rr_model.specs.declared.sketch.Sketch.{Sketch}
+use Rattle.rr_model.specs.declared.kind.Kind.{Kind}
+use Rattle.rr_model.specs.declared.kind.Kind.TheVariants.{Days, Moments}
+use Rattle.rr_shapes.specs.Placing.{IsPlaced}
+use Rattle.rr_shapes.specs.Tables.{Extends}
+use Rattle.rr_shapes.specs.declared.unions.Pair.{Pair}
+use Rattle.rr_days.proofs.PlacedLemmas.{grown, placed_grown}
+use Rattle.rr_algebra.specs.Combining.{AreDayNumbers, AreDaySets, AreKnown, AreMadeOnDays, IsDaySet, IsMadeOf, IsMadeOnDay, IsNumberOf}
+use Rattle.rr_algebra.specs.declared.op.Op.{Op}
+use Rattle.rr_algebra.specs.declared.op.Op.TheVariants.{Common, Minus, Union}
+
+-- the common part is what is left without what the second lacks
+pub common_made : (xs ys rest both : List ℕ) → IsSetOf nat_lt rest (λ s. Contains xs s × (Contains ys s → ⊥))
+    → IsSetOf nat_lt both (λ s. Contains xs s × (Contains rest s → ⊥)) → IsMadeOf Common xs ys both
+common_made xs ys rest both r b =
+    set_same nat_lt (λ s. Contains xs s × (Contains rest s → ⊥)) (λ s. Contains xs s × Contains ys s) both b (λ s. (
+      (λ h. (h.0, elim (Contains-or_not ys s) [ inl there ↦ there | inr absent ↦ absurd (h.1 ((r.exact s).1 (h.0, absent))) ])),
+      (λ h. (h.0, λ c. ((r.exact s).0 c).1 h.1)),
+    ))
+
+-- ---- what was made keeps its number
+
+-- a number has the same set
+same_set : (old new : List (List ℕ)) (number : ℕ) → Extends old new → number < length old
+    → (number < length new) × (get_or new number [] ≡ get_or old number [])
+same_set old new number more l =
+    let at = more number (get_or old number []) (slice_get-get_or old number [] l) in
+    (slice_get_within new number (get_or old number []) at, get_or_from_slice_get new number (get_or old number []) [] at)
+
+module _ (old new : List (List ℕ)) (more : Extends old new) where
+  pub number_kept : (op : Op) (xs ys : List ℕ) (number : ℕ) → IsNumberOf op xs ys old number → IsNumberOf op xs ys new number
+  number_kept op xs ys number is =
+      let k = same_set old new number more is.within in
+      record { within = k.0; made = rw k.1 is.made }
+
+  pub known_kept : (op : Op) (one other : List (List ℕ)) (known : List (Pair × ℕ)) → AreKnown op one other old known → AreKnown op one other new known
+  known_kept op one other known are k d l = let u = are k d l in (u.0, number_kept op _ _ _ u.1)
+
+pub known_put : (op : Op) (one other sets : List (List ℕ)) (known new : List (Pair × ℕ)) (pair : Pair) (number : ℕ) → AreKnown op one other sets known
+    → number ≤ 4_294_967_295 → IsNumberOf op (get_or one pair.a []) (get_or other pair.b []) sets number
+    → ((k : Pair × ℕ) → Contains new k → Contains known k ⊎ ((pair, number) ≡ k)) → AreKnown op one other sets new
+known_put op one other sets known new pair number are small is only k d l = elim (only _ (All-contains_itself new k d l)) [
+  | inl was ↦ All-contains (λ k. (k.1 ≤ 4_294_967_295) × IsNumberOf op (get_or one k.0.a []) (get_or other k.0.b []) sets k.1) known _ are was
+  | inr e ↦ subst (λ k. (k.1 ≤ 4_294_967_295) × IsNumberOf op (get_or one k.0.a []) (get_or other k.0.b []) sets k.1) e (small, is)
+]
+
+-- ---- what is made of two sets of days is one
+
+made_within : (op : Op) (xs ys both : List ℕ) (s : ℕ) → IsMadeOf op xs ys both → Contains both s → Contains xs s ⊎ Contains ys s
+made_within Union xs ys both s h c = (h.exact s).0 c
+made_within Common xs ys both s h c = inl (((h.exact s).0 c).0)
+made_within Minus xs ys both s h c = inl (((h.exact s).0 c).0)
+
+-- of dates there is 0 alone
+midnight_alone : (xs : List ℕ) (s : ℕ) → IsDaySet Days xs → Contains xs s → s ≡ 0
+midnight_alone xs s (inl none) c = absurd (Contains-none s (subst (λ l. Contains l s) none c))
+midnight_alone xs s (inr is) c = of_one s (subst (λ l. Contains l s) is c)
+  where
+    of_one : (s : ℕ) → Contains (0 ∷ []) s → s ≡ 0
+    of_one s (k, l, e) = let first : k ≡ 0 = omega (arith, l) in sym e ∙ ap (λ n. get_or (0 ∷ []) n s) first
+
+zeros_are_one : (both : List ℕ) → Rises nat_lt both → ((s : ℕ) → Contains both s → s ≡ 0) → both ≢ [] → both ≡ 0 ∷ []
+zeros_are_one [] r all some = absurd (some refl)
+zeros_are_one (x ∷ []) r all some = let e = all x (Contains-head x []) in ap (λ n. n ∷ []) e
+zeros_are_one (x ∷ y ∷ ys) r all some =
+    let a = all x (Contains-head x (y ∷ ys)) in
+    let b = all y (1, omega arith, refl) in
+    let l = below_from_test x y r.0 in
+    absurd (omega (arith, a, b, l))
+
+pub made_time_set : (kind : Kind) (op : Op) (xs ys both : List ℕ) → IsDaySet kind xs → IsDaySet kind ys → IsMadeOf op xs ys both → IsSecondsOfDay both
+    → both ≢ [] → IsTimeSet kind both
+made_time_set Days op xs ys both hx hy made day some =
+    zeros_are_one both day.rises (λ s c. elim (made_within op xs ys both s made c) [
+      | inl l ↦ midnight_alone xs s hx l
+      | inr l ↦ midnight_alone ys s hy l
+    ]) some
+made_time_set Moments op xs ys both hx hy made day some = (some, day.rises, day.below_a_day)
+
+-- a placed set is one of a day, if it is made of those
+pub sets_placed : (kind : Kind) (times : List ℕ) (old new : List (List ℕ)) (number : ℕ) → IsPlaced times old new number → (times ≢ [] → IsTimeSet kind times)
+    → AreDaySets kind old → AreDaySets kind new
+sets_placed kind times old new number placed set are =
+    let grown = placed_grown times old new number placed in record {
+      some = (let k = same_set old new 0 grown.kept are.some in omega (arith, k.0));
+      all = λ k d l. elim (grown.added k l) [
+        | inl was ↦ (
+            let same = same_set old new k grown.kept was in
+            subst (λ t. t ≢ [] → IsTimeSet kind t) (sym (get_or_default new k d [] l ∙ same.1)) (are.all k [] was))
+        | inr new_one ↦ (
+            let here : get_or new k d ≡ times = ap (λ n. get_or new n d) new_one ∙ get_or_from_slice_get new number times d placed.stands in
+            subst (λ t. t ≢ [] → IsTimeSet kind t) (sym here) set)
+      ];
+    }
+
+-- the set that was placed has its number
+pub number_placed : (op : Op) (xs ys times : List ℕ) (old new : List (List ℕ)) (number : ℕ) → IsPlaced times old new number → IsMadeOf op xs ys times
+    → IsNumberOf op xs ys new number
+number_placed op xs ys times old new number placed made = record {
+  within = slice_get_within new number times placed.stands;
+  made = subst (IsMadeOf op xs ys) (sym (get_or_from_slice_get new number times [] placed.stands)) made;
+}
+
+-- each set is made on a day, where the placed one is
+pub made_placed : (op : Op) (s u : Sketch) (day : ℤ) (times : List ℕ) (old new : List (List ℕ)) (number : ℕ) → IsPlaced times old new number
+    → IsMadeOf op (times_on s day) (times_on u day) times → AreMadeOnDays op s u old → AreMadeOnDays op s u new
+made_placed op s u day times old new number placed made are = elim (grown times old new number placed) [
+  | inl e ↦ subst (AreMadeOnDays op s u) (sym e) are
+  | inr e ↦ subst (AreMadeOnDays op s u) (sym e) (All-push (λ t. t ≢ [] → IsMadeOnDay op s u t) old times are (λ some. record { day = day; made = made }))
+]
+
+-- ---- day after day
+
+pub one_more_number : (op : Op) (s u : Sketch) (begin day : ℤ) (old new : List (List ℕ)) (numbers numbers' : List ℕ) (number k : ℕ)
+    → length numbers ≡ k → Extends old new → numbers' ≡ numbers ++ number ∷ [] → day ≡ begin +ℤ pos k
+    → IsNumberOf op (times_on s day) (times_on u day) new number → AreDayNumbers op s u begin old numbers → AreDayNumbers op s u begin new numbers'
+one_more_number op s u begin day old new numbers numbers' number k whole more e at is are j l =
+    let long : length numbers' ≡ k + 1 = omega (arith, ap length e, length-append numbers (number ∷ []), whole) in
+    elim (cases_lt j k) [
+      | inl m ↦ (
+          let same : get_or numbers' j 0 ≡ get_or numbers j 0 = ap (λ ns. get_or ns j 0) e ∙ get_or_append_left numbers (number ∷ []) 0 j (omega (arith, m, whole)) in
+          subst (IsNumberOf op (times_on s (begin +ℤ pos j)) (times_on u (begin +ℤ pos j)) new) (sym same)
+          (number_kept old new more op _ _ _ (are j (omega (arith, m, whole)))))
+      | inr g ↦ (
+          let last : j ≡ k = omega (arith, g, l, long) in
+          let z : length numbers + 0 ≡ k = omega (arith, whole) in
+          let here : get_or numbers' j 0 ≡ number =
+          ap (λ n. get_or numbers' n 0) last ∙ ap (λ ns. get_or ns k 0) e ∙ ap (λ n. get_or (numbers ++ number ∷ []) n 0) (sym z)
+          ∙ get_or-append-add numbers (number ∷ []) 0 0 in
+          let of_day : day ≡ begin +ℤ pos j = at ∙ ap (λ n. begin +ℤ pos n) (sym last) in
+          subst (IsNumberOf op (times_on s (begin +ℤ pos j)) (times_on u (begin +ℤ pos j)) new) (sym here)
+          (subst (λ d. IsNumberOf op (times_on s d) (times_on u d) new number) of_day is))
+    ]
+
+pub empty_day_sets : (kind : Kind) (sets : List (List ℕ)) → sets ≡ [] ∷ [] → AreDaySets kind sets
+empty_day_sets kind sets e =
+    subst (AreDaySets kind) (sym e) (record {
+      some = omega arith;
+      all = λ k d l some. absurd (some (let z : k ≡ 0 = omega (arith, l) in ap (λ n. get_or ([] ∷ []) n d) z));
+    })
+
+pub empty_made : (op : Op) (s u : Sketch) (sets : List (List ℕ)) → sets ≡ [] ∷ [] → AreMadeOnDays op s u sets
+empty_made op s u sets e =
+    subst (AreMadeOnDays op s u) (sym e)
+    (λ k d l some. absurd (some (let z : k ≡ 0 = omega (arith, l) in ap (λ n. get_or ([] ∷ []) n d) z)))
+
+pub empty_room : (sets : List (List ℕ)) → sets ≡ [] ∷ [] → total_size sets ≤ MAX_SECONDS
+empty_room sets e = subst (λ l. total_size l ≤ MAX_SECONDS) (sym e) (let none : List (List ℕ) = [] in omega (arith, sum_by-cons length [] none))
+
+pub none_known : (op : Op) (one other sets : List (List ℕ)) (known : List (Pair × ℕ)) → known ≡ [] → AreKnown op one other sets known
+none_known op one other sets known e = subst (AreKnown op one other sets) (sym e) (λ k d l. absurd (omega (arith, l)))
+
+pub no_numbers : (op : Op) (s u : Sketch) (begin : ℤ) (sets : List (List ℕ)) (numbers : List ℕ) → numbers ≡ [] → AreDayNumbers op s u begin sets numbers
+no_numbers op s u begin sets numbers e = subst (AreDayNumbers op s u begin sets) (sym e) (λ k l. absurd (omega (arith, l)))

@@ -1,0 +1,13 @@
+pub mod RunLemmas
+pub mod NumberLemmas
+pub mod DenseLemmas
+pub mod ItemLemmas
+pub mod SetLineLemmas
+pub mod PartsLemmas
+pub mod ExpandedLemmas
+pub mod StatedLemmas
+pub mod CombinedLemmas
+pub mod ReadableLemmas
+pub mod CombineLemmas
+pub mod TogetherLemmas
+pub mod JudgedLemmas

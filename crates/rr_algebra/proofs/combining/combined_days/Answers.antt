@@ -1,0 +1,68 @@
+use Rattle.std.proofs.Common.{◌≡◌, pos, ◌+ℤ◌, w64, to_z, of_z, sym, subst, ◌∙◌, to_z-of_z, arith}
+use Rattle.std.proofs.lemmas.Int.{ints}
+use Rattle.rr_days.specs.Sketched.{IsWholeFold, sketch_of}
+use Rattle.rr_days.specs.declared.folded.Folded.{Folded}
+use Rattle.rr_algebra.specs.Combining.{AreDayNumbers, HasDaysOf, HasTooManyMade}
+use Rattle.rr_algebra.specs.declared.combining.CombinedDays.{CombinedDays}
+use Rattle.rr_algebra.proofs.JudgedLemmas.{refused_exactly}
+use Rattle.rr_algebra.proofs.TogetherLemmas.{not_too_many, together_days, together_whole}
+use Rattle.rr_algebra.proofs.combining.combined_days.Goals as goal
+
+pub sequence-requires : goal.sequence-requires
+sequence-requires g c =
+    let b = to_z-of_z c.ranges.begin in
+    let q = to_z-of_z c.ranges.settled in
+    let low = c.requires.low in
+    let high = c.requires.high in
+    let n = c.days_until.result in
+    let at : c.args.settled ≡ c.args.begin +ℤ pos n = omega (arith, ints, c.days_until.ensures.value, b, q) in
+    let s = g.A.DaySeq.sketch c.args.one.now in
+    let u = g.B.DaySeq.sketch c.args.other.now in
+    let vs = (g.met.A.DaySeq.bounded c.args.one.now).valid in
+    let vu = (g.met.B.DaySeq.bounded c.args.other.now).valid in
+    let days = c.in-Ok.days in
+    let are : AreDayNumbers c.args.op s u c.args.begin days.shapes days.numbers.items =
+    subst (λ z. AreDayNumbers c.args.op s u z days.shapes days.numbers.items) b c.in-Ok.ensures.numbers in
+    let whole = together_whole c.args.op s u vs vu c.args.kind days.shapes days.numbers.items c.args.begin c.args.settled c.args.period n c.requires.together at
+    c.in-Ok.ensures.whole are c.in-Ok.ensures.sets low high c.requires.few in
+    subst (λ z. IsWholeFold c.args.kind days.shapes days.numbers.items z (to_z w64 (of_z w64 c.args.settled)) c.args.period) (sym b)
+    (subst (λ z. IsWholeFold c.args.kind days.shapes days.numbers.items c.args.begin z c.args.period) (sym q) whole)
+
+pub returns-in-Ok-clause-days : goal.returns-in-Ok-clause-days
+returns-in-Ok-clause-days g c =
+    let b = to_z-of_z c.ranges.begin in
+    let q = to_z-of_z c.ranges.settled in
+    let low = c.requires.low in
+    let high = c.requires.high in
+    let n = c.days_until.result in
+    let at : c.args.settled ≡ c.args.begin +ℤ pos n = omega (arith, ints, c.days_until.ensures.value, b, q) in
+    let s = g.A.DaySeq.sketch c.args.one.now in
+    let u = g.B.DaySeq.sketch c.args.other.now in
+    let vs = (g.met.A.DaySeq.bounded c.args.one.now).valid in
+    let vu = (g.met.B.DaySeq.bounded c.args.other.now).valid in
+    let days = c.in-Ok.days in
+    let are : AreDayNumbers c.args.op s u c.args.begin days.shapes days.numbers.items =
+    subst (λ z. AreDayNumbers c.args.op s u z days.shapes days.numbers.items) b c.in-Ok.ensures.numbers in
+    let made = together_days c.args.op s u vs vu c.args.kind days.shapes days.numbers.items c.args.begin c.args.settled c.args.period n c.requires.together at
+    c.in-Ok.ensures.whole are in
+    subst (HasDaysOf c.args.op s u)
+    (sym (c.sequence.ensures ∙ (λ i. sketch_of c.args.kind days.shapes days.numbers.items (b i) (q i) c.args.period))) made
+
+pub returns-in-Err-clause-refused : goal.returns-in-Err-clause-refused
+returns-in-Err-clause-refused g c = refused_exactly CombinedDays Folded c.in-Err.fault _ c.in-Err.ensures.refused
+
+pub returns-in-Ok-clause-refused : goal.returns-in-Ok-clause-refused
+returns-in-Ok-clause-refused g c =
+    let b = to_z-of_z c.ranges.begin in
+    let q = to_z-of_z c.ranges.settled in
+    let n = c.days_until.result in
+    let at : c.args.settled ≡ c.args.begin +ℤ pos n = omega (arith, ints, c.days_until.ensures.value, b, q) in
+    let s = g.A.DaySeq.sketch c.args.one.now in
+    let u = g.B.DaySeq.sketch c.args.other.now in
+    let vs = (g.met.A.DaySeq.bounded c.args.one.now).valid in
+    let vu = (g.met.B.DaySeq.bounded c.args.other.now).valid in
+    let days = c.in-Ok.days in
+    let are : AreDayNumbers c.args.op s u c.args.begin days.shapes days.numbers.items =
+    subst (λ z. AreDayNumbers c.args.op s u z days.shapes days.numbers.items) b c.in-Ok.ensures.numbers in
+    not_too_many c.args.op s u vs vu c.args.kind days.shapes days.numbers.items c.args.begin c.args.settled c.args.period n c.requires.together at
+    c.in-Ok.ensures.whole are c.in-Ok.ensures.room

@@ -1,0 +1,99 @@
+-- The days of two sequences together, by the numbers of their time sets.
+use Rattle.std.specs.Prelude.{◌≡◌, ◌≢◌, ◌⊎◌, ℕ, ◌<◌, ◌≤◌, List, [], ◌∷◌, All, AllPairs, Contains, get_or, length, nat_lt, ⊤, Result, Ok, Err, ℤ, pos, ◌+ℤ◌, ◌≤ℤ◌, ◌<ℤ◌}
+use Rattle.std.specs.Int.{◌∣◌}
+use Rattle.rr_model.specs.Rising.Sets.{IsSetOf}
+use Rattle.rr_model.specs.Sets.Sketch.{IsTimeSet, times_on}
+use Rattle.rr_model.specs.Sets.Sizes.{total_size}
+use Rattle.rr_model.specs.declared.kind.Kind.{Kind}
+use Rattle.rr_model.specs.declared.limits.TheConstants.{MAX_SECONDS}
+use Rattle.rr_model.specs.declared.refusal.Fault.{Fault}
+use Rattle.rr_model.specs.declared.refusal.Fault.TheVariants.{Refused, NoMemory}
+use Rattle.rr_model.specs.declared.refusal.Refusal.TheVariants.{TooManyMoments}
+use Rattle.rr_model.specs.declared.sketch.Sketch.{Sketch}
+use Rattle.rr_shapes.specs.Numbering.{IsNumbering}
+use Rattle.rr_shapes.specs.Placing.{IsTooMany}
+use Rattle.rr_shapes.specs.declared.unions.Pair.{Pair}
+use Rattle.rr_algebra.specs.Combined.{HoldsFor}
+use Rattle.rr_algebra.specs.declared.op.Op.{Op}
+
+-- ---- the set of a day
+
+-- the list has what holds of two lists
+abbrev pub IsMadeOf : Op → List ℕ → List ℕ → List ℕ → Type 0
+IsMadeOf op xs ys both = IsSetOf nat_lt both (λ s. HoldsFor op (Contains xs s) (Contains ys s))
+
+-- the time sets of a sequence, with none at the front
+abbrev pub table : List (List ℕ) → List (List ℕ)
+table sets = [] ∷ sets
+
+-- the set of this number is made of these two
+pub record IsNumberOf (op : Op) (xs ys : List ℕ) (sets : List (List ℕ)) (number : ℕ) : Type 0 where
+  pub within : number < length sets
+  pub made : IsMadeOf op xs ys (get_or sets number [])
+
+-- of each pair of numbers that is known the set is made of those of both numbers
+abbrev pub AreKnown : Op → List (List ℕ) → List (List ℕ) → List (List ℕ) → List (Pair × ℕ) → Type 0
+AreKnown op one other sets known =
+    All (λ k. (k.1 ≤ 4_294_967_295) × IsNumberOf op (get_or one k.0.a []) (get_or other k.0.b []) sets k.1) known
+
+-- a day has no seconds, or those of a day of this kind
+abbrev pub IsDaySet : Kind → List ℕ → Type 0
+IsDaySet kind times = (times ≡ []) ⊎ IsTimeSet kind times
+
+-- each set is one of a day of this kind, and the set of number 0 is empty
+pub record AreDaySets (kind : Kind) (sets : List (List ℕ)) : Type 0 where
+  pub some : 0 < length sets
+  pub all : All (λ t. t ≢ [] → IsTimeSet kind t) sets
+
+-- each number is that of its day, from the first one on
+abbrev pub AreDayNumbers : Op → Sketch → Sketch → ℤ → List (List ℕ) → List ℕ → Type 0
+AreDayNumbers op s u begin sets numbers =
+    (k : ℕ) → k < length numbers → IsNumberOf op (times_on s (begin +ℤ pos k)) (times_on u (begin +ℤ pos k)) sets (get_or numbers k 0)
+
+-- ---- all days
+
+-- where two sequences are combined: from a day before which both have none, up to a common multiple past both settled days
+pub record AreTogether (s u : Sketch) (begin settled : ℤ) (period : ℕ) : Type 0 where
+  pub order : begin ≤ℤ settled
+  pub some : 1 ≤ period
+  pub first : s.settled ≤ℤ settled
+  pub second : u.settled ≤ℤ settled
+  pub of_first : s.period ∣ period
+  pub of_second : u.period ∣ period
+  pub none_first : (d : ℤ) → d <ℤ begin → times_on s d ≡ []
+  pub none_second : (d : ℤ) → d <ℤ begin → times_on u d ≡ []
+
+-- each day has what holds of both sequences on it
+abbrev pub HasDaysOf : Op → Sketch → Sketch → Sketch → Type 0
+HasDaysOf op s u c = (d : ℤ) → IsMadeOf op (times_on s d) (times_on u d) (times_on c d)
+
+-- ---- too many seconds
+
+-- the list is made of the sets of both on some day
+pub record IsMadeOnDay (op : Op) (s u : Sketch) (times : List ℕ) : Type 0 where
+  pub day : ℤ
+  pub made : IsMadeOf op (times_on s day) (times_on u day) times
+
+-- each list, but an empty one, is made so
+abbrev pub AreMadeOnDays : Op → Sketch → Sketch → List (List ℕ) → Type 0
+AreMadeOnDays op s u sets = All (λ times. times ≢ [] → IsMadeOnDay op s u times) sets
+
+-- distinct ones have together more than 16,777,216 seconds
+pub record HasTooManyMade (op : Op) (s u : Sketch) : Type 0 where
+  pub sets : List (List ℕ)
+  pub distinct : AllPairs (λ a b. a ≢ b) sets
+  pub made : AreMadeOnDays op s u sets
+  pub above : MAX_SECONDS < total_size sets
+
+-- beside these distinct sets the one that is made of two lists would be too many
+pub record IsOneTooMany (op : Op) (xs ys : List ℕ) (sets : List (List ℕ)) : Type 0 where
+  pub times : List ℕ
+  pub made : IsMadeOf op xs ys times
+  pub many : IsTooMany times sets
+  pub numbering : IsNumbering sets
+
+-- too many moments are refused only where this holds
+abbrev pub RefusedOnlyWhere : {X : Type 0} → Type 0 → Result X Fault → Type 0
+RefusedOnlyWhere P (Ok x) = ⊤
+RefusedOnlyWhere P (Err (Refused refusal)) = (refusal ≡ TooManyMoments) × P
+RefusedOnlyWhere P (Err NoMemory) = ⊤

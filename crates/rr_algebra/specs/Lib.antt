@@ -1,0 +1,10 @@
+pub mod Found
+pub mod Dense
+pub mod Items
+pub mod SetLines
+pub mod Parts
+pub mod Expanded
+pub mod Stated
+pub mod Combined
+pub mod Laws
+pub mod Combining

@@ -1,0 +1,333 @@
+// Unions, common parts and differences of two sequences of days.
+ghost use Rattle.std.specs.Prelude.{◌≡◌, ◌≢◌, ◌↔◌, ◌⊎◌, ◌≤◌, ◌<◌, ◌++◌, ◌+ℤ◌, ◌≤ℤ◌, ◌∷◌, [], IfOk, IfSome, IsTrue, OnOk, ℤ, get_or, length, neg_ℤ, pos};
+ghost use Rattle.rr_model.specs.Rising.Sets.{IsSecondsOfDay};
+ghost use Rattle.rr_model.specs.Answers.{RefusedExactlyWhere};
+ghost use Rattle.rr_model.specs.Sets.Sizes.{total_size};
+ghost use Rattle.rr_model.specs.declared.limits.TheConstants.{MAX_SECONDS};
+ghost use Rattle.rr_model.specs.declared.refusal.Refusal.TheVariants.{MixedSets, TooManyMoments};
+ghost use Rattle.rr_model.specs.Sets.Sketch.{IsNearDay, StandsFor, StandsIn, times_on};
+ghost use Rattle.rr_model.specs.Whole.Divisors.{lcm};
+ghost use Rattle.rr_shapes.specs.Tables.{Extends};
+ghost use Rattle.rr_days.specs.Sequence.{sketch};
+ghost use Rattle.rr_algebra.specs.Combined.{IsCombinedJudged, combined};
+ghost use Rattle.rr_algebra.specs.Combining.{AreDayNumbers, AreDaySets, AreKnown, AreMadeOnDays, AreTogether, HasDaysOf, HasTooManyMade, IsDaySet, IsMadeOf, IsNumberOf, IsOneTooMany, RefusedOnlyWhere, table};
+
+use crate::op::Op;
+use rr_days::{Folded, sequence};
+use rr_model::{Fault, Kind, MAX_CYCLE_DAYS, NoMemory, Refusal};
+use rr_num::lcm_within;
+use rr_shapes::{Pair, Shapes, Unions};
+use rr_times::TimeSet;
+use rr_word::DaySeq;
+use std::alloc::Global;
+
+/// What is made of two sets of occurrences.
+pub type Combined = Folded;
+
+// The seconds of both.
+fn common_part(alloc: Global, a: &TimeSet, b: &TimeSet) -> Result<TimeSet, NoMemory>
+    ensures { IfOk result (λ t. IsMadeOf Op.Common a.now b.now t) }
+{
+    let rest = TimeSet::without(alloc, a, b)?;
+    TimeSet::without(alloc, a, &rest)
+}
+
+// What holds of two sets of seconds.
+fn made_of(alloc: Global, op: Op, a: &[u32], b: &[u32]) -> Result<TimeSet, NoMemory>
+    requires a { IsSecondsOfDay a.now }
+    requires b { IsSecondsOfDay b.now }
+    ensures { IfOk result (λ t. IsMadeOf op a.now b.now t) }
+{
+    let first = TimeSet::of(alloc, a)?;
+    let second = TimeSet::of(alloc, b)?;
+    match op {
+        Op::Union => TimeSet::union(alloc, &first, &second),
+        Op::Common => common_part(alloc, &first, &second),
+        Op::Minus => TimeSet::without(alloc, &first, &second),
+    }
+}
+
+// The number of the set of a day plus 1, or 0 where the day has none.
+fn number_on<A: DaySeq>(seq: &A, day: i64) -> usize
+    requires low { neg_ℤ (pos 3_000_000_000_000) ≤ℤ day }
+    requires high { day ≤ℤ pos 3_000_000_000_000 }
+    ensures { get_or (table (A.sets seq.now)) result [] ≡ times_on (A.sketch seq.now) day }
+{
+    match seq.stretch(day).first {
+        None => 0,
+        Some(number) => number as usize + 1,
+    }
+}
+
+// The sets of combined days, and which of them is made of which two.
+#[derive(Drop)]
+struct CombinedSets {
+    known: Unions,
+    shapes: Shapes,
+}
+
+impl CombinedSets {
+    // The empty set alone.
+    fn new(alloc: Global) -> Result<CombinedSets, NoMemory>
+        ensures known { IfOk result (λ s. s.known ≡ []) }
+        ensures shapes { IfOk result (λ s. s.shapes ≡ [] ∷ []) }
+    {
+        let shapes = Shapes::with_empty_set(alloc)?;
+        Ok(CombinedSets {
+            known: Unions::new(alloc),
+            shapes,
+        })
+    }
+
+    // The number of what holds of both sets of a day.
+    fn number_of<A: DaySeq, B: DaySeq>(
+        &mut self,
+        alloc: Global,
+        op: Op,
+        kind: Kind,
+        one: &A,
+        other: &B,
+        day: i64,
+    ) -> Result<u32, Fault>
+        requires low { neg_ℤ (pos 1_000_000_000) ≤ℤ day }
+        requires high { day ≤ℤ pos 1_000_000_000 }
+        requires sets { AreDaySets kind self.old.shapes }
+        requires known { AreKnown op (table (A.sets one.now)) (table (B.sets other.now)) self.old.shapes self.old.known }
+        requires made { AreMadeOnDays op (A.sketch one.now) (B.sketch other.now) self.old.shapes }
+        requires room { total_size self.old.shapes ≤ MAX_SECONDS }
+        requires first { IsDaySet kind (times_on (A.sketch one.now) day) }
+        requires second { IsDaySet kind (times_on (B.sketch other.now) day) }
+        ensures sets { IfOk result (λ n. AreDaySets kind self.new.shapes) }
+        ensures known { IfOk result (λ n. AreKnown op (table (A.sets one.now)) (table (B.sets other.now)) self.new.shapes self.new.known) }
+        ensures made { IfOk result (λ n. AreMadeOnDays op (A.sketch one.now) (B.sketch other.now) self.new.shapes) }
+        ensures room { IfOk result (λ n. total_size self.new.shapes ≤ MAX_SECONDS) }
+        ensures grown { IfOk result (λ n. Extends self.old.shapes self.new.shapes) }
+        ensures number { IfOk result (IsNumberOf op (times_on (A.sketch one.now) day) (times_on (B.sketch other.now) day) self.new.shapes) }
+        ensures refused { RefusedOnlyWhere (IsOneTooMany op (times_on (A.sketch one.now) day) (times_on (B.sketch other.now) day) self.old.shapes) result }
+    {
+        let pair = Pair {
+            a: number_on(one, day),
+            b: number_on(other, day),
+        };
+        if let Some(number) = self.known.get(pair) {
+            return Ok(number as u32);
+        }
+        let set = made_of(alloc, op, one.at(day), other.at(day))?;
+        match self.shapes.place(set) {
+            Ok(number) => {
+                self.known.put(pair, number as usize)?;
+                Ok(number)
+            }
+            Err(fault) => Err(fault),
+        }
+    }
+}
+
+// One number for each of some days, and their sets.
+#[derive(Drop)]
+struct CombinedDays {
+    numbers: Vec<u32>,
+    shapes: Shapes,
+}
+
+// The numbers of the `days` days from `begin` on, each that of what is made of both sets of the day.
+fn numbers_of_days<A: DaySeq, B: DaySeq>(
+    alloc: Global,
+    op: Op,
+    kind: Kind,
+    one: &A,
+    other: &B,
+    begin: i64,
+    days: u64,
+) -> Result<CombinedDays, Fault>
+    requires low { neg_ℤ (pos 1_000_000_000) ≤ℤ begin }
+    requires high { (begin +ℤ pos days) ≤ℤ pos 1_000_000_000 }
+    requires first { (d : ℤ) → IsDaySet kind (times_on (A.sketch one.now) d) }
+    requires second { (d : ℤ) → IsDaySet kind (times_on (B.sketch other.now) d) }
+    ensures whole { IfOk result (λ c. length c.numbers.items ≡ days) }
+    ensures sets { IfOk result (λ c. AreDaySets kind c.shapes) }
+    ensures numbers { IfOk result (λ c. AreDayNumbers op (A.sketch one.now) (B.sketch other.now) begin c.shapes c.numbers.items) }
+    ensures room { IfOk result (λ c. total_size c.shapes ≤ MAX_SECONDS) }
+    ensures refused { RefusedOnlyWhere (HasTooManyMade op (A.sketch one.now) (B.sketch other.now)) result }
+{
+    let mut sets = CombinedSets::new(alloc)?;
+    let mut numbers = Vec::new(alloc);
+    for k in 0..days {
+        let number = match sets.number_of(alloc, op, kind, one, other, begin + k as i64) {
+            Ok(number) => number,
+            Err(fault) => return Err(fault),
+        };
+        push_number(&mut numbers, number)?;
+    }
+    Ok(CombinedDays {
+        numbers,
+        shapes: sets.shapes,
+    })
+}
+
+// Adds a number at the end.
+fn push_number(numbers: &mut Vec<u32>, number: u32) -> Result<(), NoMemory>
+    ensures { OnOk result (numbers.new.items ≡ numbers.old.items ++ number ∷ []) }
+{
+    numbers.push(number)?;
+    Ok(())
+}
+
+// How many days lie from one day to another.
+fn days_until(begin: i64, settled: i64) -> u64
+    requires low { neg_ℤ (pos 1_000_000_000) ≤ℤ begin }
+    requires high { settled ≤ℤ pos 1_000_000_000 }
+    requires order { begin ≤ℤ settled }
+    ensures value { settled ≡ begin +ℤ pos result }
+    ensures few { result ≤ 2_000_000_000 }
+{
+    (settled - begin) as u64
+}
+
+// The sequence of what holds of both on each day, up to a common multiple of the periods past both settled days.
+fn combined_days<A: DaySeq, B: DaySeq>(
+    alloc: Global,
+    op: Op,
+    kind: Kind,
+    one: &A,
+    other: &B,
+    begin: i64,
+    settled: i64,
+    period: u64,
+) -> Result<Folded, Fault>
+    requires together { AreTogether (A.sketch one.now) (B.sketch other.now) begin settled period }
+    requires low { neg_ℤ (pos 1_000_000_000) ≤ℤ begin }
+    requires high { (settled +ℤ pos period) ≤ℤ pos 1_000_000_000 }
+    requires few { period ≤ 1_000_000_000 }
+    requires first { (d : ℤ) → IsDaySet kind (times_on (A.sketch one.now) d) }
+    requires second { (d : ℤ) → IsDaySet kind (times_on (B.sketch other.now) d) }
+    ensures kind { IfOk result (λ f. (sketch f).kind ≡ kind) }
+    ensures days { IfOk result (λ f. HasDaysOf op (A.sketch one.now) (B.sketch other.now) (sketch f)) }
+    ensures refused { RefusedExactlyWhere (HasTooManyMade op (A.sketch one.now) (B.sketch other.now)) TooManyMoments result }
+{
+    let days = days_until(begin, settled) + period;
+    match numbers_of_days(alloc, op, kind, one, other, begin, days) {
+        Err(fault) => Err(fault),
+        Ok(days) => Ok(sequence(kind, begin, settled, period, days.numbers, days.shapes)),
+    }
+}
+
+// The earlier of a day and the first day of a set, where it has one.
+fn earlier_day(first: Option<i64>, day: i64) -> i64
+    requires first { IfSome first IsNearDay }
+    requires day { IsNearDay day }
+    ensures near { IsNearDay result }
+    ensures not_after { result ≤ℤ day }
+    ensures not_first { IfSome first (λ f. result ≤ℤ f) }
+{
+    match first {
+        None => day,
+        Some(first) => first.min(day),
+    }
+}
+
+// The later of two days.
+fn later_day(day: i64, other: i64) -> i64
+    requires day { IsNearDay day }
+    requires other { IsNearDay other }
+    ensures near { IsNearDay result }
+    ensures first { day ≤ℤ result }
+    ensures second { other ≤ℤ result }
+    ensures one { (result ≡ day) ⊎ (result ≡ other) }
+{
+    day.max(other)
+}
+
+// The sequence of what holds of both on each day.
+fn sequence_of_both<A: DaySeq, B: DaySeq>(
+    alloc: Global,
+    op: Op,
+    kind: Kind,
+    one: &A,
+    other: &B,
+) -> Result<Folded, Fault>
+    requires cycle { lcm (A.sketch one.now).period (B.sketch other.now).period ≤ 16_777_216 }
+    requires one_near { ((A.sketch one.now).settled +ℤ pos (lcm (A.sketch one.now).period (B.sketch other.now).period)) ≤ℤ pos 1_000_000_000 }
+    requires other_near { ((B.sketch other.now).settled +ℤ pos (lcm (A.sketch one.now).period (B.sketch other.now).period)) ≤ℤ pos 1_000_000_000 }
+    requires first { (d : ℤ) → IsDaySet kind (times_on (A.sketch one.now) d) }
+    requires second { (d : ℤ) → IsDaySet kind (times_on (B.sketch other.now) d) }
+    ensures kind { IfOk result (λ f. (sketch f).kind ≡ kind) }
+    ensures days { IfOk result (λ f. HasDaysOf op (A.sketch one.now) (B.sketch other.now) (sketch f)) }
+    ensures refused { RefusedExactlyWhere (HasTooManyMade op (A.sketch one.now) (B.sketch other.now)) TooManyMoments result }
+{
+    let settled = later_day(one.settled(), other.settled());
+    let begin = earlier_day(one.first(), earlier_day(other.first(), settled));
+    let period = lcm_within(one.period(), other.period(), MAX_CYCLE_DAYS).unwrap();
+    combined_days(alloc, op, kind, one, other, begin, settled, period)
+}
+
+// Whether two kinds are the same.
+fn is_one_kind(kind: Kind, other: Kind) -> bool
+    ensures { IsTrue result ↔ (kind ≡ other) }
+{
+    match (kind, other) {
+        (Kind::Days, Kind::Days) | (Kind::Moments, Kind::Moments) => true,
+        _ => false,
+    }
+}
+
+// What is made of a set and itself: the same set, or nothing.
+fn with_itself<A: DaySeq>(alloc: Global, op: Op, one: &A) -> Result<Folded, Fault>
+    requires cycle { (A.sketch one.now).period ≤ 16_777_216 }
+    requires near { ((A.sketch one.now).settled +ℤ pos (A.sketch one.now).period) ≤ℤ pos 1_000_000_000 }
+    ensures stands { IfOk result (λ c. StandsFor (sketch c) (combined op (StandsIn (A.sketch one.now)) (StandsIn (A.sketch one.now)))) }
+    ensures refused { RefusedExactlyWhere (HasTooManyMade op (A.sketch one.now) (A.sketch one.now)) TooManyMoments result }
+{
+    sequence_of_both(alloc, op, one.kind(), one, one)
+}
+
+// The union of two sets of different kinds: the one that is not empty.
+fn union_apart<A: DaySeq, B: DaySeq>(alloc: Global, one: &A, other: &B) -> Result<Folded, Fault>
+    requires apart { (A.sketch one.now).kind ≢ (B.sketch other.now).kind }
+    requires cycle { (A.sketch one.now).period ≤ 16_777_216 }
+    requires near { ((A.sketch one.now).settled +ℤ pos (A.sketch one.now).period) ≤ℤ pos 1_000_000_000 }
+    requires other_cycle { (B.sketch other.now).period ≤ 16_777_216 }
+    requires other_near { ((B.sketch other.now).settled +ℤ pos (B.sketch other.now).period) ≤ℤ pos 1_000_000_000 }
+    ensures stands { IfOk result (λ c. StandsFor (sketch c) (combined Op.Union (StandsIn (A.sketch one.now)) (StandsIn (B.sketch other.now)))) }
+    ensures judged { IsCombinedJudged MixedSets TooManyMoments Op.Union (A.sketch one.now) (B.sketch other.now) result }
+{
+    if one.first().is_none() {
+        return with_itself(alloc, Op::Union, other);
+    }
+    if other.first().is_none() {
+        return with_itself(alloc, Op::Union, one);
+    }
+    Err(Fault::Refused(Refusal::MixedSets))
+}
+
+/// The union, the common part or the difference of two sets of occurrences.
+///
+/// `MixedSets` comes exactly where the union is asked of two sets of different kinds, neither of which is empty; an empty set goes
+/// with either kind. Else `TooManyMoments` comes exactly where the distinct time sets of the result have together more than
+/// `MAX_SECONDS` seconds. Neither the period nor the settled day of the result need be the least.
+///
+/// It keeps four bytes for each day from the first occupied one of both up to the least common multiple of the periods past the
+/// later settled day. Two time sets are combined once, however many days have them.
+pub fn combine<A: DaySeq, B: DaySeq>(
+    alloc: Global,
+    op: Op,
+    one: &A,
+    other: &B,
+) -> Result<Combined, Fault>
+    requires cycle { lcm (A.sketch one.now).period (B.sketch other.now).period ≤ 16_777_216 }
+    requires one_near { ((A.sketch one.now).settled +ℤ pos (lcm (A.sketch one.now).period (B.sketch other.now).period)) ≤ℤ pos 1_000_000_000 }
+    requires other_near { ((B.sketch other.now).settled +ℤ pos (lcm (A.sketch one.now).period (B.sketch other.now).period)) ≤ℤ pos 1_000_000_000 }
+    ensures stands { IfOk result (λ c. StandsFor (sketch c) (combined op (StandsIn (A.sketch one.now)) (StandsIn (B.sketch other.now)))) }
+    ensures judged { IsCombinedJudged MixedSets TooManyMoments op (A.sketch one.now) (B.sketch other.now) result }
+{
+    let kind = one.kind();
+    let same = is_one_kind(kind, other.kind());
+    if same {
+        return sequence_of_both(alloc, op, kind, one, other);
+    }
+    match op {
+        Op::Union => union_apart(alloc, one, other),
+        Op::Common => with_itself(alloc, Op::Minus, one),
+        Op::Minus => with_itself(alloc, Op::Union, one),
+    }
+}

@@ -1,0 +1,76 @@
+// The days of runs as numbers of their sets, one for each day.
+ghost use Rattle.std.specs.Prelude.{◌≡◌, ◌<◌, ◌≤◌, ◌+◌, ◌++◌, ◌∷◌, [], IfOk, MatchOption, OnOk, length, replicate, ◌-◌};
+ghost use Rattle.rr_algebra.specs.Dense.{IsPutBy, IsStepTo, RefusedWhereNone, NumbersRuns, steps_in};
+
+use crate::runs::Run;
+use rr_model::{Fault, NoMemory, Refusal};
+use std::alloc::Global;
+
+// The place that lies `gap` days after the last one, where it has no number yet and lies before the end.
+fn next_place(days: usize, last: usize, gap: u64, end: usize) -> Option<usize>
+    requires { last ≤ end }
+    ensures { MatchOption result (IsStepTo days last gap end → ⊥) (λ place. (place ≡ last + gap) × IsStepTo days last gap end) }
+{
+    if gap >= (end - last) as u64 {
+        return None;
+    }
+    let place = last + gap as usize;
+    if place < days { None } else { Some(place) }
+}
+
+// Puts a number at its place, and 0 at each place before it that has none yet.
+fn put(numbers: &mut Vec<u32>, place: usize, number: u32) -> Result<(), NoMemory>
+    requires { length numbers.old.items ≤ place }
+    ensures { OnOk result (numbers.new.items ≡ numbers.old.items ++ replicate (place - length numbers.old.items) 0 ++ number ∷ []) }
+{
+    numbers.resize(place, 0)?;
+    numbers.push(number)?;
+    Ok(())
+}
+
+// Puts the days of a run, and gives the place of the last one.
+fn put_run(
+    numbers: &mut Vec<u32>,
+    last: usize,
+    run: Run,
+    end: usize,
+    sets: usize,
+) -> Result<usize, Fault>
+    requires last { last ≤ end }
+    requires few { end ≤ 100_000_000 }
+    requires sets { sets ≤ 100_000_000 }
+    ensures put { IfOk result (IsPutBy end sets numbers.old.items last (steps_in run) numbers.new.items) }
+    ensures within { IfOk result (λ place. place ≤ end) }
+    ensures refused { RefusedWhereNone end sets (length numbers.old.items) last (steps_in run) result }
+{
+    let mut last = last;
+    for k in 0..run.count {
+        if run.set >= sets as u64 {
+            return Err(Fault::Refused(Refusal::NotCanonical));
+        }
+        let Some(place) = next_place(numbers.len(), last, run.gap, end) else {
+            return Err(Fault::Refused(Refusal::NotCanonical));
+        };
+        put(numbers, place, run.set as u32 + 1)?;
+        last = place;
+    }
+    Ok(last)
+}
+
+/// For each day from the first one up to the last one of these runs the number of its set and 1, or 0 where it has none.
+/// The steps of a run are taken one by one, and none is taken past the end.
+pub fn numbers_of(alloc: Global, runs: &[Run], end: usize, sets: usize) -> Result<Vec<u32>, Fault>
+    requires few { end ≤ 100_000_000 }
+    requires sets { sets ≤ 100_000_000 }
+    ensures { NumbersRuns end sets runs.now result }
+{
+    let mut numbers = Vec::new(alloc);
+    let mut last = 0;
+    for run in runs {
+        match put_run(&mut numbers, last, *run, end, sets) {
+            Ok(place) => last = place,
+            Err(fault) => return Err(fault),
+        }
+    }
+    Ok(numbers)
+}

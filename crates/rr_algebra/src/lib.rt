@@ -1,0 +1,21 @@
+//! Canonical texts read again, and unions, common parts and differences of sets of occurrences.
+#![tactic(auto)]
+
+mod combining;
+mod dense;
+mod expansion;
+mod laws;
+mod numbers;
+mod op;
+mod parts;
+mod read;
+mod runs;
+mod seconds;
+mod sets;
+#[cfg(test)]
+mod tests;
+
+pub use combining::{Combined, combine};
+pub use laws::{common_is_none_where_disjoint, minus_is_none_where_within};
+pub use op::Op;
+pub use read::{Described, read_descriptor};
