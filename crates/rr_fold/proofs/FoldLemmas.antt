@@ -36,7 +36,7 @@ no_second test (t ∷ ts) set none = absurd (false≢true (sym (none t) ∙ (set
 
 module _ (times : List ℕ) (old new : List (List ℕ)) (number : ℕ) (placed : IsPlaced times old new number) where
   numbered_still : (n : ℕ) (test : ℕ → Bool) → IsNumbered old n test → IsNumbered new n test
-  numbered_still n test i = let k = keeps n [] i.within in record { within = k.0; all = rw k.1 i.all }
+  numbered_still n test i = let k = keeps times old new number placed n [] i.within in record { within = k.0; all = rw k.1 i.all }
 
 -- ---- one more day
 
