@@ -82,7 +82,7 @@ descriptor_stated :
     (text : List ℕ) (subject : Subject) → IsDescriptorRead text (Ok subject)
     → HaveEqualOccurrences (OccursIn subject) (λ k t. (sketch : Sketch) × IsDescriptor text sketch × StandsIn sketch k t)
 descriptor_stated text (of_series series) h = absurd h
-descriptor_stated text (of_sketch sketch) h k t =
+descriptor_stated text (of_sketch sketch) h = λ k t.
     ((λ o. (sketch, h, o)), (λ o. subst (λ z. StandsIn z k t) (descriptor_is_one text o.0 sketch o.1 h) o.2))
 
 stated_in :
