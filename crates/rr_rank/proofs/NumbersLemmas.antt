@@ -102,7 +102,7 @@ module _ (day : ℤ) where
   contains_at k (y ∷ ys) x c =
       elim (Contains-cons_cases y ys x c) [
         | inl e ↦ subst (λ z. Contains (moment_at k day y ∷ map (moment_at k day) ys) (moment_at k day z)) e
-          (Contains-head (moment_at k day y) (map (moment_at k day) ys))
+            (Contains-head (moment_at k day y) (map (moment_at k day) ys))
         | inr more ↦ Contains-tail (moment_at k day y) (map (moment_at k day) ys) (moment_at k day x) (contains_at k ys x more)
       ]
 

@@ -147,8 +147,16 @@ module _ (offset : Option ℤ) (start : Stamp) where
     minus_rises : Rises int_lt beside.minus
 
   nothing-valid : AreValid nothing_beside
-  nothing-valid = record { rules = All-nil _; ends = All-nil _; excluded = All-nil _; excluded_ends = All-nil _; plus = All-nil _; minus = All-nil _;
-      plus_rises = tt; minus_rises = tt }
+  nothing-valid = record {
+    rules = All-nil _;
+    ends = All-nil _;
+    excluded = All-nil _;
+    excluded_ends = All-nil _;
+    plus = All-nil _;
+    minus = All-nil _;
+    plus_rises = tt;
+    minus_rises = tt;
+  }
 
   put_date-valid : (is_plus : Bool) (beside : Beside Rule) (at : ℤ) → AreValid beside → IsInYears start.kind at → AreValid (put_date is_plus beside at)
   put_date-valid true beside at v in_years = record {

@@ -10,9 +10,13 @@ loop-next-init g c =
     let u = g.B.DaySeq.sketch c.args.b.now in
     let here =
     at_midnight s c.args.durations.first u c.args.durations.second c.args.day c.args.begun (g.met.A.DaySeq.bounded c.args.a.now).valid
-    (g.met.B.DaySeq.bounded c.args.b.now).valid c.requires.walked in
-    ((midnight c.args.day,
-    rw (to_z-of_z w64 c.args.day c.ranges.day, c.at-rest_a.ensures, c.at-rest_b.ensures, to_z-of_z w64 c.args.day c.ranges.day) here), c.requires.near)
+    (g.met.B.DaySeq.bounded c.args.b.now).valid c.requires.walked in (
+      (
+        midnight c.args.day,
+        rw (to_z-of_z w64 c.args.day c.ranges.day, c.at-rest_a.ensures, c.at-rest_b.ensures, to_z-of_z w64 c.args.day c.ranges.day) here,
+      ),
+      c.requires.near,
+    )
 
 pub returns-in-Some-meeting : goal.returns-in-Some-meeting
 returns-in-Some-meeting g c =

@@ -25,8 +25,11 @@ invariant_of-self-in-None g c =
     let o = known_past (g.A.Lazy.tree s.a) (g.B.Lazy.tree s.b) c.next_of_both.new.sets
     (part_of (g.B.Lazy.tree s.b) (g.B.Lazy.position c.next_of_both.new.b) c.next_of_both.new.ahead_b) (g.A.Lazy.position c.next_of_both.new.a) s.position
     c.args.to r c.next_of_both.new.ahead_a refl (n.2 s.position c.requires.knows.2) n.0 n.1 kept one in
-    record { begun = omega (arith, ints, s.begun, kept, q); one_kind = same_one_kind _ _ _ _ c.in_ok-next_of_both.ensures.tree_a
-    c.in_ok-next_of_both.ensures.tree_b s.one_kind }
+    record {
+      begun = omega (arith, ints, s.begun, kept, q);
+      one_kind = same_one_kind _ _ _ _ c.in_ok-next_of_both.ensures.tree_a
+          c.in_ok-next_of_both.ensures.tree_b s.one_kind;
+    }
 
 pub returns-in-None-clause-knows : goal.returns-in-None-clause-knows
 returns-in-None-clause-knows g c =
