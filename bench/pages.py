@@ -2,8 +2,8 @@
 """bench/pages.py [PROGRAM]
 
 Runs each command of README.md and docs/*.md that stands in an indented line after '$', and compares what it prints with the lines
-below it; runs the input of each row of docs/REFUSALS.md and looks for the row's name; and looks whether docs/TRUST.md has the counts
-that bench/definitions.py prints, and names edits that are there. PROGRAM stands in for ./rr.
+below it; runs the input of each row of docs/REFUSALS.md and looks for the row's name, of both where two operands stand in its words; and looks whether docs/TRUST.md has the counts
+that bench/definitions.py prints, and names edits that are there. PROGRAM stands in for ./rr and for the shipped program.
 It prints each line that differs, then 'N passed, M failed'. Python 3 and its standard library are enough.
 """
 import os
@@ -14,6 +14,8 @@ from pathlib import Path
 
 TOP = Path(__file__).resolve().parent.parent
 PROGRAM = os.path.abspath(sys.argv[1]) if len(sys.argv) > 1 else str(TOP / "rr")
+SHIPPED = "release/rr-x86_64-linux"
+SECONDS = 120
 PAGES = [TOP / "README.md", *sorted((TOP / "docs").glob("*.md"))]
 
 
@@ -35,7 +37,12 @@ def commands_of(page):
 def printed(command, given=b""):
     """What a shell command prints, with the program in place of ./rr."""
     command = re.sub(r"(?<![\w/])\./rr(?![\w/])", lambda _: "'" + PROGRAM + "'", command)
-    run = subprocess.run(["sh", "-c", command], cwd=TOP, input=given, stdout=subprocess.PIPE, stderr=subprocess.DEVNULL, timeout=120)
+    if len(sys.argv) > 1:
+        command = command.replace(SHIPPED, "'" + PROGRAM + "'")
+    try:
+        run = subprocess.run(["sh", "-c", command], cwd=TOP, input=given, stdout=subprocess.PIPE, stderr=subprocess.DEVNULL, timeout=SECONDS)
+    except subprocess.TimeoutExpired:
+        return [f"(no end within {SECONDS} seconds)"]
     return run.stdout.decode().replace("\r\n", "\n").splitlines()
 
 
@@ -82,14 +89,12 @@ def main():
 
     for page in PAGES:
         for number, command, wanted in commands_of(page):
-            try:
-                said = printed(command)
-            except subprocess.TimeoutExpired:
-                said = ["(no end within two minutes)"]
+            said = printed(command)
             note(f"{page.relative_to(TOP)}:{number}", said == wanted, f"$ {command}\n  prints " + "\n         ".join(said))
     for number, name, words, given in refusals():
         said = printed(f"./rr {words}", given)
-        note(f"docs/REFUSALS.md:{number}", bool(said) and said[0].split()[:3] == ["refused", "A", name], f"{name}: {said}")
+        side = "both" if words.count(":") == 2 else "A"
+        note(f"docs/REFUSALS.md:{number}", bool(said) and said[0].split()[:3] == ["refused", side, name], f"{name}: {said}")
     for said, holds in trusted():
         note("docs/TRUST.md", holds, said)
     print(f"{passed} passed, {failed} failed")
