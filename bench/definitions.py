@@ -56,11 +56,12 @@ def modules():
 
 
 def reached(all_modules, roots):
-    """The definitions that the roots reach, as (module, name)."""
+    """The definitions that the roots reach, as (module, name), without what is asked for beside a verdict."""
     seen, left = [], list(roots)
+    beside = BESIDE if ("rr_answer.specs.Verdicts", "IsSaidOfBoth") in roots else []
     while left:
         module, name = left.pop()
-        if module not in all_modules or (module, name) in seen or name not in all_modules[module][1]:
+        if module not in all_modules or (module, name) in seen or (module, name) in beside or name not in all_modules[module][1]:
             continue
         seen.append((module, name))
         _, blocks, imports = all_modules[module]
@@ -80,6 +81,8 @@ def roots_of_run():
 
 
 MODEL = "rr_model.specs."
+# (of two operands a clash or a combined set may be asked for too; a verdict needs neither)
+BESIDE = [("rr_answer.specs.Clashes", "IsClashSaid"), ("rr_answer.specs.Combined", "IsCombinedSaid")]
 QUESTIONS = {
     "what occurs in a series": [(MODEL + "Series.Occurrences", "Occurs")],
     "a verdict on two series": [
@@ -89,6 +92,7 @@ QUESTIONS = {
         (MODEL + "Sets.Verdict", "IsDisjointVerdict"),
         ("rr_answer.specs.Verdicts", "IsSaidOfBoth"),
     ],
+    "what is said of two series, clashes and combined sets too": [("rr_answer.specs.Answer", "IsPairAnswer")],
     "reading a calendar text": [(MODEL + "Text.Calendars", "reads_calendar")],
     "the clauses of run": roots_of_run(),
 }
