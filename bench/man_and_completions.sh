@@ -49,6 +49,10 @@ for shell in bash fish; do
     expect $shell 'rr tra' translate "$(in_$shell 'rr tra')"
     expect $shell 'rr translate gr' graph "$(in_$shell 'rr translate gr')"
     expect $shell 'rr check rr' rrule: "$(in_$shell 'rr check rr')"
+    expect $shell 'rr cl' clear "$(in_$shell 'rr cl')"
+    expect $shell 'rr union rrule:a ca' canon: "$(in_$shell 'rr union rrule:a ca')"
+    expect $shell 'rr nth 3 ca' canon: "$(in_$shell 'rr nth 3 ca')"
+    expect $shell 'rr clear 60 rrule:a 60 ca' canon: "$(in_$shell 'rr clear 60 rrule:a 60 ca')"
 done
 if has bash; then
     expect bash 'rr check rrule:examples/stand' examples/standup.ics "$(in_bash 'rr check rrule:examples/stand')"
@@ -62,6 +66,7 @@ if has zsh; then
     expect zsh 'rr tra' translate "$(in_zsh 'rr tra')"
     expect zsh 'rr translate gr' graph "$(in_zsh 'rr translate gr')"
     expect zsh 'rr check rr' rrule: "$(in_zsh 'rr check rr')"
+    expect zsh 'rr clear 60 rrule:a 60 ca' canon: "$(in_zsh 'rr clear 60 rrule:a 60 ca')"
     expect zsh 'rr check rrule:examples/stand' examples/standup.ics "$(in_zsh 'rr check rrule:examples/stand')"
     expect zsh 'rr check rrule@+01:00:examples/stand' examples/standup.ics "$(in_zsh 'rr check rrule@+01:00:examples/stand')"
 fi

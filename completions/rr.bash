@@ -9,22 +9,22 @@ _rr() {
     COMPREPLY=()
     case ${#words[@]}:${words[1]-} in
     [01]:* | 2:*)
-        mapfile -t COMPREPLY < <(compgen -W 'equal within disjoint canon translate infer list check drill help' -- "$current")
+        mapfile -t COMPREPLY < <(compgen -W 'equal within disjoint clear canon canon1 union common minus check list translate nth rank infer drill help' -- "$current")
         return
         ;;
     3:translate)
         mapfile -t COMPREPLY < <(compgen -W 'rrule vcal graph' -- "$current")
         return
         ;;
-    3:list | *:drill | *:help)
+    3:list | 3:nth | 3:rank | [35]:clear | *:drill | *:help)
         return
         ;;
     esac
     case $current in
-    rrule:* | vcal:* | graph:* | list:*) word=${current#*:} ;;
-    rrule@*:*:* | vcal@*:*:* | graph@*:*:* | list@*:*:*) word=${current#*:*:} ;;
+    rrule:* | vcal:* | graph:* | list:* | canon:*) word=${current#*:} ;;
+    rrule@*:*:* | vcal@*:*:* | graph@*:*:* | list@*:*:* | canon@*:*:*) word=${current#*:*:} ;;
     *)
-        mapfile -t COMPREPLY < <(compgen -W 'rrule: vcal: graph: list:' -- "$current")
+        mapfile -t COMPREPLY < <(compgen -W 'rrule: vcal: graph: list: canon:' -- "$current")
         compopt -o nospace 2>/dev/null
         return
         ;;
