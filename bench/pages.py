@@ -15,7 +15,7 @@ from pathlib import Path
 TOP = Path(__file__).resolve().parent.parent
 PROGRAM = os.path.abspath(sys.argv[1]) if len(sys.argv) > 1 else str(TOP / "rr")
 SHIPPED = "release/rr-x86_64-linux"
-SECONDS = 120
+SECONDS = 300
 PAGES = [TOP / "README.md", *sorted((TOP / "docs").glob("*.md"))]
 
 
