@@ -42,6 +42,7 @@ pub record AreEndless (count : ℕ) (first : ℤ) (before : List Run) (e : Endin
   pub before_steps : AreSteps (nat_abs (e.settled -ℤ first)) (count - 1) 0 0 (steps_of_runs before)
   pub cycle_steps : AreSteps e.period (count - 1) 0 0 (steps_of_runs e.cycle)
 
+-- the runs of a set that ends, or of one that repeats, have their days in their places
 abbrev pub AreEndlessIfSome : ℕ → ℤ → List Run → Option Ending → Type 0
 AreEndlessIfSome count first before None = AreFinite count first before
 AreEndlessIfSome count first before (Some e) = AreEndless count first before e
@@ -56,10 +57,12 @@ abbrev pub described_in : Kind → List (List ℕ) → ℤ → List Run → Opti
 described_in kind shapes first before ending =
     record { kind = kind; sets = drop 1 shapes; first = first; before = before; ending = ending }
 
+-- the sequence is the one that the runs of a set that ends state
 pub record IsFiniteExpanded (kind : Kind) (count : ℕ) (shapes : List (List ℕ)) (first : ℤ) (before : List RunRead) (s : Sketch) : Type 0 where
   pub same : s ≡ sketch_with (described_in kind shapes first (map run_in before) None) None
   pub steps : AreFinite count first (map run_in before)
 
+-- the sequence is the one that the runs of a set that repeats state
 pub record IsEndlessExpanded (kind : Kind) (count : ℕ) (shapes : List (List ℕ)) (first : ℤ) (before : List RunRead) (e : Ending) (s : Sketch) : Type 0 where
   pub same : s ≡ sketch_with (described_in kind shapes first (map run_in before) (Some e)) (Some e)
   pub steps : AreEndless count first (map run_in before) e
@@ -69,12 +72,15 @@ pub record IsExpanded (kind : Kind) (count : ℕ) (shapes : List (List ℕ)) (p 
   pub same : s ≡ sketch_with (described_in kind shapes p.first p.before p.ending) p.ending
   pub expandable : AreExpandable count p
 
+-- a refusal comes only where the runs of a set that ends leave their places
 abbrev pub RefusedWhereNotFinite : {X : Type 0} → ℕ → ℤ → List RunRead → Result X Fault → Type 0
 RefusedWhereNotFinite count first before result = RefusedWhereNot (AreFinite count first (map run_in before)) result
 
+-- a refusal comes only where the runs of a set that repeats leave their places
 abbrev pub RefusedWhereNotEndless : {X : Type 0} → ℕ → ℤ → List RunRead → Ending → Result X Fault → Type 0
 RefusedWhereNotEndless count first before e result = RefusedWhereNot (AreEndless count first (map run_in before) e) result
 
+-- a refusal comes only where days leave their places or the bounds
 abbrev pub RefusedWhereNotExpandable : {X : Type 0} → ℕ → Parts → Result X Fault → Type 0
 RefusedWhereNotExpandable count p result = RefusedWhereNot (AreExpandable count p) result
 
@@ -87,6 +93,7 @@ abbrev pub AreBoth : ℕ → ℕ → ℕ → List RunRead → List RunRead → T
 AreBoth days period sets before cycle =
     AreSteps days sets 0 0 (steps_of_runs (map run_in before)) × AreSteps period sets 0 0 (steps_of_runs (map run_in cycle))
 
+-- the numbers of the days before the settled day and of one period, or NotCanonical where a run leaves its places
 abbrev pub NumbersEndless : ℕ → ℕ → ℕ → List RunRead → List RunRead → Result (Vec ℕ Global) Fault → Type 0
 NumbersEndless days period sets before cycle (Ok numbers) =
     (numbers.items ≡ padded_to days (dense 0 0 (steps_of_runs (map run_in before))) ++ padded_to period (dense 0 0 (steps_of_runs (map run_in cycle))))
