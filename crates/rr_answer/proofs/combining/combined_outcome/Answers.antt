@@ -2,8 +2,7 @@ use Rattle.std.proofs.Common.{arith, sym, ◌∙◌}
 use Rattle.std.proofs.lemmas.Bool.{false≢true}
 use Rattle.std.proofs.lemmas.Int.{ints}
 use Rattle.std.proofs.lemmas.Result.{IfOk-weaker}
-use Rattle.rr_algebra.specs.Combined.{combined}
-use Rattle.rr_model.specs.Sets.Sketch.{StandsFor, StandsIn}
+use Rattle.rr_days.specs.declared.folded.Folded.{Folded}
 use Rattle.rr_word.specs.Bounded.{IsDaySequence-bounded}
 use Rattle.rr_answer.specs.Outcome.{answer_of}
 use Rattle.rr_answer.proofs.CombinedLemmas.{result_from_year_one}
@@ -27,7 +26,7 @@ combine-requires-clause-other_near c =
 pub canonical_text-requires : goal.canonical_text-requires
 canonical_text-requires c = result_from_year_one c.args.op _ _ _ c.requires.a c.requires.b c.in-Ok.ensures.stands
 
-pub returns-then-not-together : goal.returns-if-not-together
+pub returns-then-not-together : goal.returns-then-not-together
 returns-then-not-together c =
     IfOk-weaker c.refused.result _ _
     (λ x e s u fold fold'. not_together_said s u _ _ fold fold' c.args.op (answer_of x)
@@ -40,7 +39,7 @@ returns-in-Err c =
     IfOk-weaker c.refused_for.result _ _
     (λ x said s u fold fold'. together_said s u _ _ fold fold' c.args.op (answer_of x) few
     (combined_fault c.args.op _ _ (IsDaySequence-bounded _ c.args.a.now.bounded) (IsDaySequence-bounded _ c.args.b.now.bounded) _ _
-    fold.stands fold'.stands _ c.in-Err.fault (answer_of x) c.in-Err.ensures.judged said))
+    fold.stands fold'.stands Folded c.in-Err.fault (answer_of x) c.in-Err.ensures.judged said))
     c.refused_for.ensures
 
 pub returns-in_ok-canonical_text-in-Ok : goal.returns-in_ok-canonical_text-in-Ok
