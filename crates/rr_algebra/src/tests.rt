@@ -1,7 +1,6 @@
-// Which texts are read, and what two sets are combined into.
+// Which texts are read.
 use super::*;
-use rr_canon::{Version, describe_in, least};
-use rr_model::{Fault, Refusal};
+use rr_model::Fault;
 use std::alloc::Global;
 use std::test::Fail;
 
@@ -143,78 +142,6 @@ fn long_texts(rt: HostRuntime) -> Result<(), Fail> {
     ] {
         let text = long_text(alloc, end)?;
         assert_eq!(rt; read_descriptor(alloc, text.as_slice()).is_ok(), is_read);
-    }
-    Ok(())
-}
-
-const NONE: &[u8] = b"rrcanon 2\nnone\n";
-
-const DATES: &[u8] = b"rrcanon 2\ndays\nf 2024-01-01\nq 2024-01-01 1\nc 0 0 1\n";
-
-const MIDNIGHTS: &[u8] = b"rrcanon 2\nmoments\nt 0\nf 2024-01-01\nq 2024-01-01 1\nc 0 0 1\n";
-
-const ODD: &[u8] = b"rrcanon 2\ndays\nf 2024-01-01\nq 2024-01-01 2\nc 0 0 1\n";
-
-const EVEN: &[u8] = b"rrcanon 2\ndays\nf 2024-01-02\nq 2024-01-02 2\nc 0 0 1\n";
-
-// Two sets, and what they are combined into; nothing for a refusal as MixedSets.
-const COMBINED: [(Op, &[u8], &[u8], &[u8]); 14] = [
-    (Op::Union, NONE, NONE, NONE),
-    (Op::Union, NONE, MIDNIGHTS, MIDNIGHTS),
-    (Op::Union, DATES, NONE, DATES),
-    (Op::Union, DATES, MIDNIGHTS, b""),
-    (Op::Common, DATES, MIDNIGHTS, NONE),
-    (Op::Minus, DATES, MIDNIGHTS, DATES),
-    (Op::Minus, NONE, MIDNIGHTS, NONE),
-    (Op::Union, ODD, EVEN, DATES),
-    (Op::Common, ODD, EVEN, NONE),
-    (Op::Minus, DATES, ODD, EVEN),
-    (
-        Op::Minus,
-        DATES,
-        b"rrcanon 2\ndays\nf 2024-01-01\nb 0 0 1\nb 1 0 2\n",
-        b"rrcanon 2\ndays\nf 2024-01-04\nq 2024-01-04 1\nc 0 0 1\n",
-    ),
-    (
-        Op::Common,
-        ODD,
-        b"rrcanon 2\ndays\nf 2024-01-01\nq 2024-01-01 3\nc 0 0 1\n",
-        b"rrcanon 2\ndays\nf 2024-01-01\nq 2024-01-01 6\nc 0 0 1\n",
-    ),
-    (
-        Op::Common,
-        b"rrcanon 2\nmoments\nt 0 60/3600/3\nf 2024-01-01\nq 2024-01-01 1\nc 0 0 1\n",
-        b"rrcanon 1\nmoments\nt 60 7260\nf 2024-01-01\nq 2024-01-01 1\nc 0 0 1\n",
-        b"rrcanon 2\nmoments\nt 60 7260\nf 2024-01-01\nq 2024-01-01 1\nc 0 0 1\n",
-    ),
-    (
-        Op::Minus,
-        b"rrcanon 2\nmoments\nt 0 60\nf 2024-01-01\nq 2024-01-01 1\nc 0 0 1\n",
-        b"rrcanon 2\nmoments\nt 60\nf 2024-01-02\nq 2024-01-02 1\nc 0 0 1\n",
-        b"rrcanon 2\nmoments\nt 0 60\nt 0\nf 2024-01-01\nb 0 0 1\nq 2024-01-02 1\nc 0 1 1\n",
-    ),
-];
-
-// The canonical text of what two canonical texts are combined into.
-fn combined_text(alloc: Global, op: Op, one: &[u8], other: &[u8]) -> Result<Vec<u8>, Fault> {
-    let one = read_descriptor(alloc, one)?;
-    let other = read_descriptor(alloc, other)?;
-    let both = combine(alloc, op, &one, &other)?;
-    let least = least(alloc, &both)?;
-    Ok(describe_in(alloc, Version::Second, &least)?)
-}
-
-#[test]
-fn combined_texts(rt: HostRuntime) -> Result<(), Fail> {
-    let alloc = rt.alloc();
-    for (op, one, other, wanted) in COMBINED {
-        match combined_text(alloc, op, one, other) {
-            Ok(text) => assert_eq!(rt; text.as_slice(), wanted),
-            Err(fault) => assert_eq!(rt;
-                wanted.is_empty() && fault == Fault::Refused(Refusal::MixedSets),
-                true
-            ),
-        }
     }
     Ok(())
 }
