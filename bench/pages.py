@@ -2,7 +2,8 @@
 """bench/pages.py [PROGRAM]
 
 Runs each command of README.md and docs/*.md that stands in an indented line after '$', and compares what it prints with the lines
-below it; and runs the input of each row of docs/REFUSALS.md and looks for the row's name. PROGRAM stands in for ./rr.
+below it; runs the input of each row of docs/REFUSALS.md and looks for the row's name; and looks whether docs/TRUST.md has the counts
+that bench/definitions.py prints, and names edits that are there. PROGRAM stands in for ./rr.
 It prints each line that differs, then 'N passed, M failed'. Python 3 and its standard library are enough.
 """
 import os
@@ -58,6 +59,18 @@ def refusals():
             yield number, cells[0].split()[0], cells[4].strip("`"), input_of(cells[5])
 
 
+def trusted():
+    """What docs/TRUST.md says that can be looked up: a text, and whether it holds."""
+    page = (TOP / "docs/TRUST.md").read_text()
+    counts = subprocess.run([sys.executable, str(TOP / "bench/definitions.py")], stdout=subprocess.PIPE).stdout.decode()
+    for question, definitions, lines in re.findall(r"(.*): (\d+) definitions, (\d+) lines", counts):
+        yield f"{question}: {definitions} definitions, {lines} lines", f"| {int(definitions):,} | {int(lines):,} |" in page
+    for crates, edits in re.findall(r"(rr_\w+(?:, rr_\w+)*): (`\w+`(?:, `\w+`)*)", page):
+        for crate in crates.split(", "):
+            for edit in re.findall(r"\w+", edits):
+                yield f"{crate}: {edit}", (TOP / f"crates/{crate}/must-fail/{edit}.edit").is_file()
+
+
 def main():
     passed, failed = 0, 0
 
@@ -77,6 +90,8 @@ def main():
     for number, name, words, given in refusals():
         said = printed(f"./rr {words}", given)
         note(f"docs/REFUSALS.md:{number}", bool(said) and said[0].split()[:3] == ["refused", "A", name], f"{name}: {said}")
+    for said, holds in trusted():
+        note("docs/TRUST.md", holds, said)
     print(f"{passed} passed, {failed} failed")
     return failed > 0
 

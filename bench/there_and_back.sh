@@ -1,6 +1,6 @@
 #!/bin/sh
 # Translates each shipped example into every language and compares it with what was written: a line for each says `yes`, or
-# that the language has no words for it.
+# why the example is refused: the language has no words for it, or it shows a refusal.
 # Usage: bench/there_and_back.sh [PROGRAM], after the program was built.
 set -u
 
@@ -28,7 +28,10 @@ back() {
 for file in "$here"/examples/*; do
     name=$(basename -- "$file")
     case $name in
-    *.ics) operand=rrule:$file ;;
+    # (the offset turns an UNTIL in UTC beside a local start, and nothing where there is none)
+    *.ics) operand=rrule@+01:00:$file ;;
+    *.vcs) operand=vcal:$file ;;
+    *.json) operand=graph:$file ;;
     *) operand=list:$file ;;
     esac
     for language in rrule vcal graph; do

@@ -1,18 +1,16 @@
 -- One more day is folded.
-use Rattle.std.proofs.Common.{◌≡◌, ◌≢◌, ◌⊎◌, ℕ, zero, suc, lit≤, ◌+◌, ◌<◌, ◌≤◌, Bool, true, false, List, [], ◌∷◌, ◌++◌, length, get_or, All, Contains, ℤ}
+use Rattle.std.proofs.Common.{◌≡◌, ◌≢◌, ℕ, zero, suc, lit≤, ◌+◌, ◌<◌, ◌≤◌, Bool, false, List, [], ◌∷◌, ◌++◌, length, get_or, All, ℤ}
 use Rattle.std.proofs.Common.{pos, ◌+ℤ◌, ◌≤ℤ◌, refl, sym, subst, ◌∙◌, inl, inr, arith}
-use Rattle.std.specs.Prelude.{IsTrue, nat_lt, nat_eq, None, Some, Ok, Err}
-use Rattle.std.specs.Cmp.Lexicographic.{pointwise, bytes_decides}
+use Rattle.std.specs.Prelude.{IsTrue, nat_lt, None, Some, Ok, Err}
 use Rattle.std.proofs.lemmas.Int.{ints, by_lt_z}
 use Rattle.std.proofs.lemmas.Bool.{cases_lt, false≢true}
-use Rattle.std.proofs.lemmas.Grind.{common_steps, elements}
 use Rattle.std.proofs.lemmas.List.{get_or_default}
 use Rattle.std.proofs.lemmas.List.Elements.{All-push}
 use Rattle.std.proofs.lemmas.List.Sums.{sum_by_push}
 use Rattle.std.proofs.lemmas.List.Quantifiers.{all_pairs_push}
 use Rattle.rr_lazy.specs.Next.{HasNone, IsFirstOccupied, IsNext}
 use Rattle.rr_lazy.specs.DayTimes.{DayTimes}
-use Rattle.rr_model.proofs.RisingSetLemmas.{Contains-head, Contains-tail, Contains-none, Contains-cons_cases, set_empty, set_same}
+use Rattle.rr_model.proofs.RisingSetLemmas.{Contains-head, set_empty, set_same}
 use Rattle.rr_model.specs.Answers.{RefusedExactlyWhere}
 use Rattle.rr_model.specs.Rising.Sets.{IsSetOf}
 use Rattle.rr_model.specs.Series.Limits.{IsTimeSetBefore, HasTooManyMoments}
@@ -36,7 +34,7 @@ no_second test (t ∷ ts) set none = absurd (false≢true (sym (none t) ∙ (set
 
 module _ (times : List ℕ) (old new : List (List ℕ)) (number : ℕ) (placed : IsPlaced times old new number) where
   numbered_still : (n : ℕ) (test : ℕ → Bool) → IsNumbered old n test → IsNumbered new n test
-  numbered_still n test i = let k = keeps n [] i.within in record { within = k.0; all = rw k.1 i.all }
+  numbered_still n test i = let k = keeps times old new number placed n [] i.within in record { within = k.0; all = rw k.1 i.all }
 
 -- ---- one more day
 

@@ -20,11 +20,14 @@ use std::alloc::Global;
 
 /// Folds a series whose cycle is at most `MAX_CYCLE_DAYS`, as `admit` gives it.
 ///
-/// `CountedTooFar` where a rule counts a member more than `MAX_SPAN_DAYS` days after its start, and else
-/// `TooManyMoments` where the distinct time sets up to a cycle past the settled day have together more than
-/// `MAX_SECONDS` seconds. It keeps four bytes for each of these days, and eight while it unites the days of two rules. Of a
-/// single rule with COUNT the days of a few cycles are walked, and of an endless rule that leaves no unit out those of one
-/// year of each key; the others are copied.
+/// `CountedTooFar` where a rule or an excluded rule counts a member more than `MAX_SPAN_DAYS` days after the start, and else
+/// `TooManyMoments` where the distinct time sets up to a cycle past the settled day, those of the occurrences that are left,
+/// have together more than `MAX_SECONDS` seconds.
+///
+/// It keeps four bytes for each of these days, eight while the days of two rules are united or excluded days are taken out,
+/// and twelve while the days of two excluded rules are united. Of a single rule with COUNT and nothing beside it the days of a
+/// few cycles are walked, and of endless rules, and of endless excluded ones, that leave no unit out those of one year of each
+/// key, where the series has no dates and no other rules that end; the others are copied.
 pub fn fold(alloc: Global, series: &Checked) -> Result<Folded, Fault>
     requires few { series_cycle series.now ≤ 16_777_216 }
     ensures stands { IfOk result (λ f. StandsFor (⟦<Folded as DaySeq>⟧.sketch f) (Occurs series.now)) }

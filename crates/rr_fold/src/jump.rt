@@ -11,8 +11,7 @@ use rr_model::{End, Kind, NoMemory, Rule, day_part};
 use rr_num::day_cycle;
 use std::alloc::Global;
 
-/// So many whole cycles after the first one, which hold the same days again, and the count that a rule has without
-/// their members.
+/// Whole cycles after the first one, which hold the same days again, and the count that a rule has without their members.
 #[derive(Clone, Copy)]
 pub struct Jump {
     /// The days of a cycle.
@@ -23,8 +22,8 @@ pub struct Jump {
     pub count: u64,
 }
 
-/// The cycles that can be left out of the days of a series; none where it is more than one rule with COUNT, an excluded rule
-/// among them, or the count ends within the first cycle.
+/// The whole cycles that can be left out of the days of a series that is one rule with COUNT and nothing beside it. None for a
+/// series with another rule, an excluded rule, dates or an UNTIL, and where its days or its count end within the first cycle.
 pub fn jump_of(
     alloc: Global,
     series: &Checked,
@@ -54,8 +53,8 @@ pub fn jump_of(
     counted_jump(alloc, rule, given.kind, given.start, count, cycle, days)
 }
 
-// The cycles of a rule with COUNT that can be left out of so many days from its start's on; none where the count
-// ends within the first cycle.
+// The cycles of a rule with COUNT that can be left out of the `days` days from its start's on; none where the count ends
+// within the first cycle.
 fn counted_jump(
     alloc: Global,
     rule: &Rule,
@@ -88,7 +87,7 @@ fn counted_jump(
     }))
 }
 
-/// How many days are left out.
+/// How many days are left out: `cycles` times `cycle`.
 pub fn days_left_out(jump: Jump) -> i64
     requires { jump.cycles * jump.cycle ≤ 100_000_000 }
     ensures { result ≡ pos (jump.cycles * jump.cycle) }
@@ -96,7 +95,7 @@ pub fn days_left_out(jump: Jump) -> i64
     (jump.cycles * jump.cycle) as i64
 }
 
-/// The numbers with so many whole cycles, as the one that follows the first day, put in after that day.
+/// The numbers with the `cycle` numbers that follow the first one put in after it `cycles` times more.
 pub fn spliced(
     alloc: Global,
     numbers: &[u32],

@@ -16,8 +16,8 @@ use rr_iter::RuleLazy;
 use rr_model::{End, Fault, Kind, Rule, Series, day_part};
 use std::alloc::Global;
 
-/// Whether a series has endless rules alone, at least one, beside endless excluded ones and no dates, and its start lies on
-/// a day.
+/// Whether a series has endless rules, at least one, endless excluded rules or none, and no RDATE or EXDATE, and `first` is
+/// its start's day.
 pub fn has_rules_alone(series: &Series, first: i64) -> bool
     ensures { result ≡ true → HasRulesAlone series.now first }
 {
@@ -43,9 +43,11 @@ fn are_endless(rules: &[Rule]) -> bool
     true
 }
 
-/// The days of a series of endless rules and endless excluded rules alone, from its start's day on and below another: those
-/// of its rules without those of its excluded rules. Unlike those of the series itself, the days of a rule or of some rules
-/// may be refused as `TooManyMoments`.
+/// The days of a series of endless rules and endless excluded rules alone, from its start's day on and below `end`: those of
+/// its rules without those of its excluded rules.
+///
+/// `TooManyMoments` where the days of one rule, of some rules together or of the excluded ones have too many seconds. The days
+/// of the series itself may have fewer: whether it is refused is told by walking it.
 pub fn days_alone(alloc: Global, series: &Checked, end: i64) -> Result<FoldedDays, Fault>
     requires alone { HasRulesAlone series.now (day_part series.now.kind series.now.start) }
     requires order { day_part series.now.kind series.now.start <ℤ end }

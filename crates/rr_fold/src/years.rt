@@ -37,8 +37,8 @@ pub fn repeats_by_years(rule: &Rule) -> bool
     }
 }
 
-/// The days that such a rule chooses, from its start's day on and below another. Of the years after the start's one is
-/// walked for each key, and the others are copied.
+/// The days that such a rule chooses, from its start's day on and below `end`. Of the years after the start's one is walked
+/// for each key, and the others are copied.
 pub fn days_by_years(
     alloc: Global,
     rule: &Rule,
@@ -148,7 +148,7 @@ impl KeptYears {
     }
 }
 
-// Puts so many numbers, from a place on, once more at the end. The block holds them for that time.
+// Puts the `count` numbers from `place` on once more at the end. The block holds them for that time.
 fn copy_on(
     numbers: &mut Vec<u32>,
     block: &mut Vec<u32>,

@@ -90,12 +90,7 @@ pub(crate) fn with_one_ends(alloc: Global, series: &Series) -> Result<Series, No
         start: series.start,
         start_counts: series.start_counts,
         rules: rules_with_one_end(alloc, series.rules.as_slice(), series.kind, series.start)?,
-        excluded: rules_with_one_end(
-            alloc,
-            series.excluded.as_slice(),
-            series.kind,
-            series.start,
-        )?,
+        excluded: rules_with_one_end(alloc, series.excluded.as_slice(), series.kind, series.start)?,
         plus: series.plus.copy(alloc)?,
         minus: series.minus.copy(alloc)?,
     })

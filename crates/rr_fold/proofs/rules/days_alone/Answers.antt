@@ -1,5 +1,4 @@
 use Rattle.std.proofs.Common.{◌≡◌, ℤ, length, pos, ◌+ℤ◌, sym, subst, ◌∙◌, arith, to_z-of_z}
-use Rattle.std.specs.Prelude.{IfOk, false, true}
 use Rattle.std.proofs.lemmas.Int.{ints}
 use Rattle.rr_model.specs.Moment.{day_part}
 use Rattle.rr_model.specs.Series.Tree.{tree_of}

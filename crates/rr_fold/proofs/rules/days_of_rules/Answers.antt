@@ -1,4 +1,4 @@
-use Rattle.std.proofs.Common.{◌≡◌, ◌+◌, ◌<◌, ℤ, List, get_or, length, refl, arith, w64, to_z, of_z, to_z-of_z}
+use Rattle.std.proofs.Common.{◌+◌, ℤ, refl, arith, w64, to_z, of_z, to_z-of_z}
 use Rattle.std.proofs.lemmas.Int.{ints}
 use Rattle.rr_model.specs.Moment.{day_part}
 use Rattle.rr_model.specs.Rule.Validity.{IsValidRule}
