@@ -1,6 +1,6 @@
 -- What is read and folded of a canonical text.
-use Rattle.std.proofs.Common.{◌≡◌, ℕ, ◌<◌, ◌≤◌, List, length, None, refl, sym, subst}
-use Rattle.std.specs.Prelude.{Result, Ok, Err, IfErr, IfOk}
+use Rattle.std.proofs.Common.{◌≡◌, ℕ, ◌<◌, ◌≤◌, List, length, refl, sym, subst}
+use Rattle.std.specs.Prelude.{Result, Ok, Err, IfErr}
 use Rattle.rr_algebra.specs.Stated.{HasNoDescriptor, IsDescriptor}
 use Rattle.rr_fold.specs.Judged.{all_limits}
 use Rattle.rr_model.specs.Answers.{RefusedExactlyWhere}

@@ -1,6 +1,6 @@
 -- From what is combined of two sketches to what is said of their occurrences.
-use Rattle.std.proofs.Common.{◌≡◌, ◌≢◌, ◌↔◌, inl, inr, ℕ, ◌<◌, ◌≤◌, Bool, List, [], ◌∷◌, ℤ, cond, refl, sym, subst, ap, ◌∙◌, arith}
-use Rattle.std.specs.Prelude.{All, if◌then◌else◌}
+use Rattle.std.proofs.Common.{◌≡◌, ◌≢◌, inl, inr, ℕ, List, [], ◌∷◌, ℤ, refl, sym, subst, ◌∙◌}
+use Rattle.std.specs.Prelude.{if◌then◌else◌}
 use Rattle.std.specs.List.{Contains}
 use Rattle.std.proofs.lemmas.List.Elements.{All-weaker}
 use Rattle.rr_algebra.specs.Combined.{AreMixed, HasTooManyCombined, HoldsFor, IsCombinedTimeSet, IsMixedUnion, combined, times_beside}
@@ -10,8 +10,6 @@ use Rattle.rr_algebra.specs.declared.op.Op.TheVariants.{Union, Common, Minus}
 use Rattle.rr_model.proofs.RisingSetLemmas.{Contains-none}
 use Rattle.rr_model.proofs.SecondsLemmas.{first_of_some}
 use Rattle.rr_model.specs.Moment.{Occurrences, day_part, is_same_kind, moment_at, second_part}
-use Rattle.rr_model.specs.Moment.Years.{IsFromYearOne}
-use Rattle.rr_model.specs.Rising.Sets.{IsSetOf}
 use Rattle.rr_model.specs.Sets.Sketch.{IsEmptySketch, IsValidSketch, StandsFor, StandsIn, times_on}
 use Rattle.rr_model.specs.Sets.Verdict.{HaveEqualOccurrences}
 use Rattle.rr_model.specs.declared.kind.Kind.{Kind}

@@ -1,6 +1,6 @@
 -- What is said of two subjects that are combined: there is one answer, and it is the one that calls give.
-use Rattle.std.proofs.Common.{◌≡◌, inl, inr, ℕ, ◌<◌, ◌≤◌, List, refl, sym, ap, ◌∙◌, arith}
-use Rattle.std.specs.Prelude.{Result, Ok, Err}
+use Rattle.std.proofs.Common.{◌≡◌, inl, inr, ℕ, List, refl, sym, ap, ◌∙◌}
+use Rattle.std.specs.Prelude.{Ok, Err}
 use Rattle.rr_algebra.specs.Combined.{IsCombinedJudged, combined}
 use Rattle.rr_algebra.specs.declared.op.Op.{Op}
 use Rattle.rr_canon.specs.Versions.{text_in}

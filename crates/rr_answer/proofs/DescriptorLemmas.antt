@@ -1,5 +1,5 @@
 -- The bytes of a canonical text are that of one sketch, whichever version they are in.
-use Rattle.std.proofs.Common.{◌≡◌, ℕ, ℤ, List, [], refl, sym, ap, subst, ◌∙◌, arith}
+use Rattle.std.proofs.Common.{◌≡◌, ℕ, List, [], sym, ap, subst, ◌∙◌, arith}
 use Rattle.std.specs.List.{Contains}
 use Rattle.rr_algebra.proofs.ReadableLemmas.{version_is, version_of_text}
 use Rattle.rr_algebra.specs.Stated.{IsDescriptor, version_read}
@@ -10,8 +10,7 @@ use Rattle.rr_canon.specs.declared.version.Version.{Version}
 use Rattle.rr_canon.specs.declared.version.Version.TheVariants.{First, Second}
 use Rattle.rr_model.specs.Moment.{day_part, second_part}
 use Rattle.rr_model.specs.Sets.Printable.{TellsSetsApart}
-use Rattle.rr_model.specs.Sets.Sketch.{StandsIn, times_on}
-use Rattle.rr_model.specs.declared.kind.Kind.{Kind}
+use Rattle.rr_model.specs.Sets.Sketch.{StandsIn}
 use Rattle.rr_model.specs.declared.sketch.Sketch.{Sketch}
 use Rattle.rr_word.proofs.OneLeastLemmas.{one_least}
 use Rattle.rr_answer.specs.Folding.{OccurFromYearOne}

@@ -1,5 +1,5 @@
 -- What is read and folded of a text that states a series.
-use Rattle.std.proofs.Common.{◌≡◌, ℕ, None, pos, ◌≤ℤ◌, refl, sym, arith}
+use Rattle.std.proofs.Common.{◌≡◌, ℕ, pos, ◌≤ℤ◌, arith}
 use Rattle.std.proofs.lemmas.Int.{ints}
 use Rattle.std.specs.Prelude.{Result, Ok, Err, IfErr, IfOk}
 use Rattle.rr_canon.proofs.YearOneLemmas.{occurs_from_year_one}

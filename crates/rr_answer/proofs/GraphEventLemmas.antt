@@ -1,7 +1,7 @@
 -- What is read of a Graph text is a valid event.
-use Rattle.std.proofs.Common.{◌≡◌, inl, inr, ℕ, ◌+◌, ◌*◌, ◌<◌, ◌≤◌, ◌==◌, ◌&&◌, nat_le, Bool, true, false, if◌then◌else◌, Option, None, Some, List, length}
-use Rattle.std.proofs.Common.{take, drop, slice_index, option_map, option_and_then, ℤ, pos, ◌+ℤ◌, ◌≤ℤ◌, ◌<ℤ◌, not, ◌||◌, codes, refl, sym, ap, subst, ◌∙◌, arith}
-use Rattle.std.specs.Prelude.{Result, Ok, Err, ok_or}
+use Rattle.std.proofs.Common.{◌≡◌, ℕ, ◌+◌, ◌*◌, ◌<◌, ◌≤◌, ◌==◌, ◌&&◌, nat_le, Bool, true, false, if◌then◌else◌, Option, None, Some, List, length}
+use Rattle.std.proofs.Common.{take, drop, slice_index, option_map, option_and_then, ℤ, pos, ◌+ℤ◌, codes, refl, sym, ap, subst, ◌∙◌, arith}
+use Rattle.std.specs.Prelude.{Result, Ok, ok_or}
 use Rattle.std.specs.Ordering.{int_eq}
 use Rattle.std.specs.Str.{is_utf8}
 use Rattle.std.proofs.lemmas.Bool.{and_parts}
@@ -12,7 +12,7 @@ use Rattle.rr_model.specs.Calendar.{day_number, is_date}
 use Rattle.rr_model.specs.Graph.Members.{json_object, member_of, number_in, object_in, object_or, text_in, within}
 use Rattle.rr_model.specs.Graph.Occurrences.{first_repeat_day}
 use Rattle.rr_model.specs.Graph.Reading.{EndType, Recurrence, bare_of, by_pattern, date_in, end_date, end_in, end_type_named, event_of, event_start}
-use Rattle.rr_model.specs.Graph.Reading.{graph_moment, graph_text, is_all_day, is_flag_or_missing, is_named_utc, is_text_or_missing, must, no_end, numbered}
+use Rattle.rr_model.specs.Graph.Reading.{graph_moment, graph_text, is_all_day, is_flag_or_missing, is_text_or_missing, must, no_end, numbered}
 use Rattle.rr_model.specs.Graph.Reading.{pattern_of, range_of, reads_graph, recurrence_of, repeat_of, repeating, repeating_from, start_moment, turned_start}
 use Rattle.rr_model.specs.Graph.Reading.{with_occurrence}
 use Rattle.rr_model.specs.Graph.Validity.{IsRangeEnd, IsRepeatFrom, IsValidGraphEvent, IsValidPattern}
@@ -22,21 +22,18 @@ use Rattle.rr_model.specs.Text.ExtendedMoments.{date_digits, extended, extended_
 use Rattle.rr_model.specs.Text.Lines.{without_mark}
 use Rattle.rr_model.specs.Text.Moments.{basic_date, basic_time, date_stamp, is_basic_date, is_basic_time, is_digits, is_letter_t, moment_of, moment_stamp}
 use Rattle.rr_model.specs.Text.Moments.{written_day, written_hour, written_minute, written_month, written_second, written_year}
-use Rattle.rr_model.specs.Text.RuleValues.{◌>>=◌}
 use Rattle.rr_model.specs.Text.Rules.{has_time}
 use Rattle.rr_model.specs.declared.graph.GraphEvent.{GraphEvent}
-use Rattle.rr_model.specs.declared.graph.Pattern.{Pattern}
 use Rattle.rr_model.specs.declared.graph.Range.{Range}
 use Rattle.rr_model.specs.declared.graph.RangeEnd.{RangeEnd}
 use Rattle.rr_model.specs.declared.graph.RangeEnd.TheVariants.{EndDate, NoEnd, Numbered}
 use Rattle.rr_model.specs.declared.graph.Repeat.{Repeat}
 use Rattle.rr_model.specs.declared.graph.Repeat.TheVariants as repeat
-use Rattle.rr_model.specs.declared.kind.Kind.{Kind}
 use Rattle.rr_model.specs.declared.kind.Kind.TheVariants.{Days, Moments}
 use Rattle.rr_model.specs.declared.refusal.Member.{Member}
 use Rattle.rr_model.specs.declared.refusal.Member.TheVariants as of
 use Rattle.rr_model.specs.declared.refusal.Refusal.{Refusal}
-use Rattle.rr_model.specs.declared.refusal.Refusal.TheVariants.{BadMember, NoOccurrence, NoStart, NotText, StartDiffers}
+use Rattle.rr_model.specs.declared.refusal.Refusal.TheVariants.{BadMember, NoStart, NotText, StartDiffers}
 use Rattle.rr_model.specs.declared.stamp.Stamp.{Stamp}
 use Rattle.rr_model.proofs.CalendarLemmas.{is_date_is}
 use Rattle.rr_model.proofs.MomentLemmas.{day_part-moment_at}

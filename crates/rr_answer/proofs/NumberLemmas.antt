@@ -12,10 +12,9 @@ use Rattle.rr_rank.specs.declared.nth.Nth.TheVariants.{At, Fewer, Past}
 use Rattle.rr_rank.proofs.OneLemmas.{answer_is_one, count_is_one, nth_same, rank_same}
 use Rattle.rr_answer.specs.Folding.{IsFoldedFrom, IsFromYearOneOn}
 use Rattle.rr_answer.specs.Numbers.{IsNthSaid, IsPrintableNth, IsRankSaid, nth_said, rank_said}
-use Rattle.rr_answer.specs.Printable.{IsPrintableAt}
 use Rattle.rr_answer.specs.Said.{Answer, IsSaidWithin}
 use Rattle.rr_answer.specs.Subjects.{OccursIn, Reading, Subject}
-use Rattle.rr_answer.proofs.SaidOfBothLemmas.{fold_from_year_one, printable_at}
+use Rattle.rr_answer.proofs.SaidOfBothLemmas.{printable_at}
 
 pub nth_said_is_one : (n : ℕ) (s : Subject) (x y : Answer) → IsNthSaid n s x → IsNthSaid n s y → x ≡ y
 nth_said_is_one n s x y p q = p.is_said ∙ ap nth_said (answer_is_one (OccursIn s) n p.nth q.nth p.is_nth q.is_nth) ∙ sym q.is_said

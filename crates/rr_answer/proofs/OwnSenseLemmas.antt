@@ -22,8 +22,7 @@ use Rattle.rr_graph.proofs.OccurrenceLemmas.{counterpart_has_occurrences as grap
 use Rattle.rr_rrule.proofs.StepLemmas.{and_then_ok}
 use Rattle.rr_vcal.proofs.OccurrenceLemmas.{counterpart_has_occurrences as vcal_counterpart}
 use Rattle.rr_vcal.proofs.ValidReadLemmas.{answer-valid}
-use Rattle.rr_answer.specs.Command.{Operand}
-use Rattle.rr_answer.specs.OperandReading.{IsDescriptorRead, IsStatedIn, IsSubjectRead, graph_as_series, vcal_as_series}
+use Rattle.rr_answer.specs.OperandReading.{IsDescriptorRead, IsStatedIn, IsSubjectRead}
 use Rattle.rr_answer.specs.OwnSense.{OccursAsStated, OwnSense}
 use Rattle.rr_answer.specs.Subjects.{OccursIn, Subject, as_subject, of_series, of_sketch}
 use Rattle.rr_answer.specs.declared.command.Language.{Language}

@@ -1,7 +1,6 @@
 -- Which languages a command takes.
-use Rattle.std.proofs.Common.{◌≡◌, ℕ, Bool, true, false, List, refl}
+use Rattle.std.proofs.Common.{◌≡◌, false}
 use Rattle.std.specs.Prelude.{IsTrue}
-use Rattle.rr_model.specs.declared.lang.Lang.{Lang}
 use Rattle.rr_answer.specs.Command.{asks_of_occurrences, may_be_asked}
 use Rattle.rr_answer.specs.OperandReading.{StatesSeries}
 use Rattle.rr_answer.specs.declared.command.Language.{Language}

@@ -1,5 +1,12 @@
 use Rattle.std.proofs.lemmas.Result.{IfOk-weaker}
 use Rattle.std.specs.Prelude.{Ok}
+use Rattle.rr_fold.specs.Judged.{all_limits}
+use Rattle.rr_model.specs.declared.verdict.Side.TheVariants.{B}
+use Rattle.rr_answer.specs.OperandReading.{IsSubjectRead}
+use Rattle.rr_answer.specs.Outcome.{answer_of}
+use Rattle.rr_answer.specs.Parsed.{operand_in}
+use Rattle.rr_answer.specs.Verdicts.{IsSaidOfBoth}
+use Rattle.rr_answer.proofs.JudgementLemmas.{fault_said}
 use Rattle.rr_answer.proofs.SaidOfBothLemmas.{fold_from_year_one}
 use Rattle.rr_answer.proofs.pairs.pair_outcome.Goals as goal
 
@@ -26,3 +33,15 @@ returns-in-Ok-read_folded c =
       is_said = record { judged = Ok of_b.subject; is_judged = of_b.judged; is_said = e of_a.subject of_b.subject of_a.fold of_b.fold };
     })
     c.said_of_both.ensures
+
+pub returns-in-Err-read_folded : goal.returns-in-Err-read_folded
+returns-in-Err-read_folded c =
+    let of_a = c.in-Ok.ensures.accepted in
+    IfOk-weaker c.refused_for-in-Err-read_folded.result _ _
+    (λ x e. record {
+      judged = Ok of_a.subject;
+      is_judged = of_a.judged;
+      is_said = fault_said B all_limits (IsSubjectRead (operand_in c.args.b) c.args.text_b.now) (IsSaidOfBoth c.args.inquiry of_a.subject)
+          c.in-Err-read_folded.fault (answer_of x) c.in-Err-read_folded.ensures.refused e;
+    })
+    c.refused_for-in-Err-read_folded.ensures
