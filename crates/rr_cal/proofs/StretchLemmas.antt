@@ -79,7 +79,7 @@ by_days : (kind : Kind) (t a b : ℤ) (P : Type 0) → P ↔ ((a ≤ℤ day_part
     → P ↔ ((moment_at kind a 0 ≤ℤ t) × (t <ℤ moment_at kind b 0))
 by_days kind t a b P h = (λ p. (on_days kind t a b).0 (h.0 p), λ q. h.1 ((on_days kind t a b).1 q))
 
--- a unit of so many seconds
+-- a unit of n seconds
 by_seconds : (t u : ℤ) (n : ℕ) → 0 < n → (floor_div t n ≡ u) ↔ (((u *ℤ pos n) ≤ℤ t) × (t <ℤ ((u +ℤ pos 1) *ℤ pos n)))
 by_seconds t u n h =
     let w = floor_whole t n h in

@@ -16,10 +16,10 @@ pub struct Date {
     pub day: u8,
 }
 
-// After so many years the calendar begins again,
+// After this number of years the calendar begins again,
 pub(crate) const CYCLE_YEARS: i64 = 400;
 
-// which are so many days.
+// which are this number of days.
 const CYCLE_DAYS: i64 = 146_097;
 
 // How many days 0000-01-01 lies before 1970-01-01.

@@ -29,7 +29,7 @@ use Rattle.rr_canon.proofs.TextLemmas.{text_only, IsSetLine-seconds}
 
 -- ---- how many
 
--- so many days at most lie from one day to another
+-- at most n days lie from one day to another
 rising_few : (low high : ℤ) (ss : List DayShape) (n : ℕ) → HasRisingDays low high ss → high ≤ℤ (low +ℤ pos n) → length ss ≤ n
 rising_few low high [] n r h = omega arith
 rising_few low high (s ∷ ss) zero r h = absurd (let a = r.0 in let b = r.1 in omega (arith, ints))
@@ -55,7 +55,7 @@ pub record IsSmallStep (step : Step) : Type 0 where
   pub gap : step.gap < 2 ^ 64
   pub set : step.set < 2 ^ 64
 
--- a run of small steps, of which there are so many at most
+-- a run of small steps, of which there are n at most
 pub record IsSmallRun (most : ℕ) (run : Run) : Type 0 where
   pub gap : run.gap < 2 ^ 64
   pub set : run.set < 2 ^ 64

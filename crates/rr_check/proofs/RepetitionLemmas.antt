@@ -164,7 +164,7 @@ chosen_repeats_by rule kind start t valid c of_cycle =
 
 -- ---- any whole number of cycles
 
--- so many cycles, from 0
+-- n cycles, from 0
 module _ (rule : Rule) (kind : Kind) (start : ℤ) (valid : IsValidRule kind rule) where
   cycles_later : (k : ℕ) (t : ℤ) → is_chosen rule kind start (t +ℤ days_in kind (pos (rule_cycle rule * k))) ≡ is_chosen rule kind start t
   cycles_later k t = chosen_repeats_by rule kind start t valid (rule_cycle rule * k) (dvd-mul_right (rule_cycle rule) k)

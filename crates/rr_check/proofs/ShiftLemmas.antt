@@ -11,7 +11,7 @@ use Rattle.rr_model.specs.declared.kind.Kind.{Kind}
 use Rattle.rr_model.specs.declared.rule.Rule.{Rule}
 use Rattle.rr_model.proofs.CountLemmas.{count_from-shift}
 
--- s later lies the same moment of the unit that is so many units later, at a whole number of intervals, and the parts hold as before
+-- s later lies the same moment of the unit that is n units later, at a whole number of intervals, and the parts hold as before
 pub record KeepsRule (rule : Rule) (kind : Kind) (start s units : ℤ) : Type 0 where
   pub number : (t : ℤ) → unit_number rule.freq rule.week_start kind (t +ℤ s) ≡ unit_number rule.freq rule.week_start kind t +ℤ units
   pub begin : (u : ℤ) → unit_start rule.freq rule.week_start kind (u +ℤ units) ≡ unit_start rule.freq rule.week_start kind u +ℤ s

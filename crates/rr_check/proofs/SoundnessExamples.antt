@@ -20,7 +20,7 @@ use Rattle.rr_model.specs.declared.rule.Freq.TheVariants.{Daily, Weekly}
 use Rattle.rr_model.specs.declared.rule.Rule.{Rule}
 use Rattle.rr_model.specs.declared.rule.Series.{Series}
 
--- every so many units on the weekdays that are listed
+-- every n units on the weekdays that are listed
 abbrev rule_of : Freq → ℕ → List DayItem → End → Rule
 rule_of freq interval by_day end = record {
   freq = freq;

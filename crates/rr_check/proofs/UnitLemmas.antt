@@ -48,7 +48,7 @@ first_day_of_month-cycle n c =
 
 -- ---- days that are whole units
 
--- So many days are so many units: of time in kind Moments alone, and months and years in whole cycles of the calendar.
+-- A number of days is a number of units: of time in kind Moments alone, and months and years in whole cycles of the calendar.
 abbrev pub AreUnits : Freq → Kind → ℤ → ℤ → Type 0
 AreUnits Secondly kind days units = (kind ≡ Moments) × (units ≡ days *ℤ pos 86_400)
 AreUnits Minutely kind days units = (kind ≡ Moments) × (units ≡ days *ℤ pos 1_440)

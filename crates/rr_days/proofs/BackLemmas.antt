@@ -38,7 +38,7 @@ between_back day first day' first' e f order high low =
 pub days_back : (n : ℕ) → n ≤ 100_000_000 → to_z w64 n ≡ pos n
 days_back n l = omega (arith, ints, l)
 
--- so many days on
+-- n days on
 pub sum_back : (day day' : ℤ) (n : ℕ) → day' ≡ day → neg_ℤ (pos 1_000_000_000) ≤ℤ day → day ≤ℤ pos 1_000_000_000 → n ≤ 100_000_000
     → to_z w64 (of_z w64 (day' +ℤ to_z w64 n)) ≡ day +ℤ pos n
 sum_back day day' n e low high l =
@@ -59,7 +59,7 @@ least_back day date least e d t =
     let h = back least (omega (arith, ints, low)) (omega (arith, ints, first, d.1)) in
     rw h (low, first, second)
 
--- so many days earlier
+-- n days earlier
 pub less_back : (end end' left : ℤ) (n : ℕ) → end' ≡ end → left ≡ pos n → neg_ℤ (pos 1_000_000_000) ≤ℤ end → end ≤ℤ pos 1_000_000_000 → n ≤ 100_000_000
     → to_z w64 (of_z w64 (end' -ℤ to_z w64 (of_z w64 left))) +ℤ pos n ≡ end
 less_back end end' left n e f low high few =

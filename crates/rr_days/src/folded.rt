@@ -148,7 +148,7 @@ impl Folded {
     }
 }
 
-// How far into a cycle a day lies that comes so many days after the end of the first one.
+// How far into a cycle a day lies that comes `past` days after the end of the first one.
 fn place_in_cycle(past: usize, period: usize) -> usize
     requires { 1 ≤ period }
     ensures { result ≡ past % period }

@@ -1,4 +1,4 @@
--- Every so many days from a start, each at second 0, or no day at all: what the tests compare.
+-- Every n days from a start, each at second 0, or no day at all: what the tests compare.
 use Rattle.std.specs.Prelude.{◌≡◌, ℕ, ◌%◌, ◌≤◌, ◌<◌, Bool, true, false, List, [], ◌∷◌, Some, ℤ, pos, ◌+ℤ◌, ◌-ℤ◌, ◌<ℤ◌, refl, int_lt}
 use Rattle.std.specs.List.{All}
 use Rattle.std.specs.Ordering.{int_eq}
@@ -17,7 +17,7 @@ abbrev pub start_or_none : Bool → ℤ → List DayShape
 start_or_none true start = record { day = start; times = 0 ∷ [] } ∷ []
 start_or_none false start = []
 
--- each so many days from a start, or nothing
+-- each n days from a start, or nothing
 abbrev pub every : Kind → ℤ → ℕ → Bool → Sketch
 every kind start step some = record { kind = kind; before = []; settled = start; period = step; cycle = start_or_none some start }
 

@@ -59,7 +59,7 @@ pub record IsFirstDayShown (shows : Side → Bool) (s u : Sketch) (from day : �
   pub none_earlier : ShowsNoneWithin shows s u from day
   pub on_day : IsFirstShown shows (times_on s day) (times_on u day) second side
 
--- where so many days in a row past both settled days show nothing, no later day does
+-- where n days in a row past both settled days show nothing, no later day does
 abbrev pub IsWindow : (Side → Bool) → Sketch → Sketch → ℕ → Type 0
 IsWindow shows s u n =
     (q : ℤ) → s.settled ≤ℤ q → u.settled ≤ℤ q → ShowsNoneWithin shows s u q (q +ℤ pos n) → (d : ℤ) → q ≤ℤ d → ShowsNone shows (times_on s d) (times_on u d)

@@ -23,7 +23,7 @@ pub struct Shown {
     pub side: Side,
 }
 
-/// The first of so many days that shows that the answer is no.
+/// The first of `days` days that shows that the answer is no.
 pub fn first_day_shown<A: DaySeq, B: DaySeq>(
     question: Question,
     a: &A,

@@ -31,7 +31,7 @@ impl Quiet {
         (a == self.last.a && b == self.last.b) || (a == self.earlier.a && b == self.earlier.b)
     }
 
-    /// At how many places from the first one on, of at most so many, two rows have one of the pairs.
+    /// At how many places from the first one on, of at most `most`, two rows have one of the pairs.
     ///
     /// Whole blocks of places are compared at a time, and place by place only where a block has another pair.
     pub fn count(self, xs: &[u32], ys: &[u32], most: usize) -> usize
@@ -96,7 +96,7 @@ pub fn are_remembered(quiet: Option<Quiet>, a: Option<u32>, b: Option<u32>) -> b
     }
 }
 
-/// At how many places from the first one on, of at most so many, two rows have a remembered pair.
+/// At how many places from the first one on, of at most `most`, two rows have a remembered pair.
 pub fn count_remembered(quiet: Option<Quiet>, xs: &[u32], ys: &[u32], most: usize) -> usize
     ensures first { result ≤ length xs.now }
     ensures second { result ≤ length ys.now }

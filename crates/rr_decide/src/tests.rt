@@ -1,4 +1,4 @@
-// The verdicts on small sets: every so many days from a start.
+// The verdicts on small sets: every n days from a start.
 ghost use Rattle.std.specs.Prelude.{◌≤◌};
 ghost use Rattle.rr_model.specs.Sets.Sketch.{IsNearDay};
 
@@ -6,7 +6,7 @@ use crate::{disjoint, equal, within};
 use rr_model::{Kind, Side, Verdict};
 use rr_word::{DaySeq, Stretch};
 
-// Every so many days from a start, each at second 0, or nothing.
+// Every n days from a start, each at second 0, or nothing.
 #[derive(Clone, Copy)]
 struct Every {
     kind: Kind,
@@ -82,7 +82,7 @@ impl Every {
     }
 }
 
-// Every so many days from a day on, as dates.
+// Every n days from a day on, as dates.
 fn dates(start: i64, step: u64) -> Every
     requires near { IsNearDay start }
     requires steps { 1 ≤ step }
@@ -96,7 +96,7 @@ fn dates(start: i64, step: u64) -> Every
     }
 }
 
-// Every so many days from a day on, as moments at midnight.
+// Every n days from a day on, as moments at midnight.
 fn midnights(start: i64, step: u64) -> Every
     requires near { IsNearDay start }
     requires steps { 1 ≤ step }

@@ -10,7 +10,7 @@ use crate::question::Question;
 use rr_model::{Side, Verdict};
 use rr_word::DaySeq;
 
-/// The verdict, where so many days past both settled days tell of all later days.
+/// The verdict, where `window` days past both settled days tell of all later days.
 pub fn verdict<A: DaySeq, B: DaySeq>(question: Question, a: &A, b: &B, window: u64) -> Verdict
     requires window { IsWindow (shown_by question) (A.sketch a.now) (B.sketch b.now) window }
     requires few { window ≤ 2_000_000_000 }

@@ -4,7 +4,7 @@ use Rattle.rr_model.specs.Rule.Plain.{plain_rule}
 use Rattle.rr_model.specs.declared.rule.Freq.TheVariants.{Monthly, Yearly}
 use Rattle.rr_drill.specs.Draws.{next_state, draw, dates_of_rule, series_list, drawn_series}
 
--- so many draws from a state
+-- n draws from a state
 unfoldable draws : ℕ → ℕ → List ℕ
 draws zero x = []
 draws (suc n) x = draw x ∷ draws n (next_state x)

@@ -79,7 +79,7 @@ series_from x = dates_of_rule (drawn_start x) (drawn_rule (next_state x))
 abbrev pub after_series : ℕ → ℕ
 after_series x = after_rule (next_state x)
 
--- so many series that are drawn from a state, one after the other
+-- n series that are drawn from a state, one after the other
 unfoldable pub series_list : ℕ → ℕ → List Series
 series_list zero x = []
 series_list (suc n) x = series_from x ∷ series_list n (after_series x)

@@ -60,7 +60,7 @@ fn yes_in_pairs(question: Question, list: &[DrawnDays]) -> u32
     count
 }
 
-// How many unordered pairs there are of so many series.
+// How many unordered pairs there are of `series` series.
 fn pairs_of(series: u32) -> u32
     requires some { 1 ≤ series }
     requires few { series ≤ 100 }

@@ -57,7 +57,7 @@ fn drawn_days(alloc: Global, seed: u32, count: u32) -> Result<Vec<DrawnDays>, No
     Ok(days)
 }
 
-/// Draws so many series of dates from a seed, and counts the pairs of them whose verdicts are yes.
+/// Draws `count` series of dates from a seed, and counts the pairs of them whose verdicts are yes.
 ///
 /// `count` is 1 to 100. Each series is one endless rule without a BY part, from one of the first 28 days of 2024 on.
 /// Each is folded once, and all are kept until the last pair is compared.

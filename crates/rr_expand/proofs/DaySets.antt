@@ -16,7 +16,7 @@ with_value-last (y ∷ ys) x above =
     rw l (ap (λ zs. y ∷ zs) (with_value-last ys x (λ z c. above z (Contains-tail y ys z c))))
 
 module _ (first : ℤ) (test : ℤ → Bool) where
-  -- the days that pass, of so many from the first on
+  -- the days that pass, of the n from the first on
   abbrev pub PassedDay : ℕ → ℤ → Type 0
   PassedDay n d = (first ≤ℤ d) × (d <ℤ (first +ℤ pos n)) × IsTrue (test d)
 

@@ -44,7 +44,7 @@ none_more [] none (suc k) = refl
 none_more (x ∷ xs) none zero = none 0
 none_more (x ∷ xs) none (suc k) = none_more xs (λ j. none (suc j)) k
 
--- so many places and no mask
+-- n places and no mask
 pub record ArePlaces (count : ℕ) (kept : List (Option YearMask)) : Type 0 where
   pub places : length kept ≡ count
   pub none : (k : ℕ) → get_or kept k None ≡ None

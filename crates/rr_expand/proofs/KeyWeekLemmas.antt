@@ -99,7 +99,7 @@ module _ (y z : ℤ) (alike : AreAlike y z) where
 
 -- ---- the years beside alike years
 
--- the year before begins so many days before
+-- the year before begins n days before
 first_day_of_year-before : (y : ℤ) → first_day_of_year (y -ℤ pos 1) ≡ first_day_of_year y +ℤ neg_ℤ (pos (days_in_year (y -ℤ pos 1)))
 first_day_of_year-before y =
     let back : (y -ℤ pos 1) +ℤ pos 1 ≡ y = omega (arith, ints) in

@@ -11,7 +11,7 @@ use Rattle.rr_model.specs.declared.rule.Rule.{Rule}
 abbrev pub IsCandidateSecond : Rule → ℤ → ℤ → ℕ → Type 0
 IsCandidateSecond rule start day second = (second < 86_400) × IsTrue (is_candidate rule Moments start (moment_at Moments day second))
 
--- a day of a stretch of so many days at which the date parts hold
+-- a day of a stretch of n days at which the date parts hold
 abbrev pub IsAllowedDay : Rule → ℤ → ℤ → ℕ → ℤ → Type 0
 IsAllowedDay rule start_day first count day = (first ≤ℤ day) × (day <ℤ (first +ℤ pos count)) × IsTrue (date_parts_hold (filled rule Days start_day) day)
 

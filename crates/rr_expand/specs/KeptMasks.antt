@@ -15,7 +15,7 @@ pub record AreMasks (f : Filling) (kept : List (Option YearMask)) : Type 0 where
 
 -- ---- one year
 
--- at most so many days as a year has, near enough for the calls
+-- at most as many days as a year has, near enough for the calls
 pub record IsMaskedYear (year : MaskedYear) : Type 0 where
   pub near : IsDayWithin 1000 year.first
   pub ordered : year.first ≤ℤ year.next

@@ -90,7 +90,7 @@ impl AllowedDays {
         }
     }
 
-    /// Puts the allowed days, of so many from the first one on, in place of those of a list.
+    /// Puts the allowed days, of `count` from the first one on, in place of those of a list.
     pub fn list(&mut self, first: i64, count: u16, days: &mut Vec<i64>) -> Result<(), NoMemory>
         requires first { IsDayWithin 400 first }
         requires last { IsDayWithin 400 (first +ℤ pos count) }

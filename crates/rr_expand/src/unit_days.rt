@@ -35,7 +35,7 @@ pub fn days(alloc: Global, rule: &Rule, start_day: i64, unit: i64) -> Result<Dat
     days_from(alloc, rule, &start, first, days_in_unit(rule.freq, unit))
 }
 
-// The days, of so many from the first on, at which the date parts hold.
+// The days, of `count` from the first on, at which the date parts hold.
 fn days_from(
     alloc: Global,
     rule: &Rule,

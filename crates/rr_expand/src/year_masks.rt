@@ -71,7 +71,7 @@ pub fn year_mask(rule: &Rule, start_day: i64, year: i64) -> YearMask
     )
 }
 
-// The mask of so many days from the first on.
+// The mask of `count` days from the first on.
 fn mask_from(rule: &Rule, start: &Day, first: Day, count: u16) -> YearMask
     requires count { count ≤ 384 }
     requires last { IsDayWithin 1000 (first.number +ℤ pos count) }

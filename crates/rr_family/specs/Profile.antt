@@ -74,7 +74,7 @@ NoneBefore P interval f =
 
 -- ---- the list that is written
 
--- the first so many places from k on
+-- the first n places from k on
 abbrev pub places_from : ℕ → ℕ → List ℕ
 places_from k zero = []
 places_from k (suc n) = k ∷ places_from (suc k) n
@@ -170,7 +170,7 @@ EndlessListIsRule = (s : Sketch) (f : FamilyKind) (interval : ℕ) (kind : Kind)
     → AgreeWithin (some_gives (place_has_day f interval first) (list_places s f interval first days)) (is_occupied s) first days
     → IsRuleOf (StandsIn s) (vrule f interval (list_items s f interval first days) Never) kind start
 
--- One that has those of a finite set is a rule of it, with as many members as days are occupied, where a COUNT can be so many.
+-- One that has those of a finite set is a rule of it, with as many members as days are occupied, where a COUNT can be that.
 abbrev pub FiniteListIsRule : Type 0
 FiniteListIsRule = (s : Sketch) (f : FamilyKind) (interval : ℕ) (kind : Kind) (start last : ℤ) → IsValidSketch s → 1 ≤ interval
     → interval ≤ most_family_interval f → IsInYears kind start

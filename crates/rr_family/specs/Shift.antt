@@ -28,7 +28,7 @@ form_cycle form interval = interval_cycle (form_freq form) interval
 abbrev pub items_have_day : FamilyKind → ℕ → ℤ → List Item → ℤ → Bool
 items_have_day family interval start items d = list_any (λ item. item_has_day family interval start item d) items
 
--- so many days later the test holds exactly where it held
+-- n days later the test holds exactly where it held
 abbrev pub RepeatsEverywhere : (ℤ → Bool) → ℕ → Type 0
 RepeatsEverywhere test c = (d : ℤ) → test (d +ℤ pos c) ≡ test d
 

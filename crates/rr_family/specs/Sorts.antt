@@ -17,11 +17,11 @@ many_sorts family.MP = 175
 many_sorts family.YM = 12
 many_sorts family.YD = 366
 
--- the sort of the k-th day of a month of so many: k and the month's length
+-- the sort of the k-th day of a month of n days: k and the month's length
 abbrev pub month_day_sort : ℕ → ℕ → ℕ
 month_day_sort k many = (k - 1) * 4 + (many - 28)
 
--- the sort of a weekday that is the k-th day of a month of so many: its rank from the front, from the back, and the weekday
+-- the sort of a weekday that is the k-th day of a month of n days: its rank from the front, from the back, and the weekday
 abbrev pub place_sort : ℕ → ℕ → ℕ → ℕ
 place_sort k many weekday = ((k - 1) / 7 * 5 + (many - k) / 7) * 7 + weekday
 

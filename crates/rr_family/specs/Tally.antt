@@ -5,7 +5,7 @@ use Rattle.std.specs.List.{list_any}
 use Rattle.rr_model.specs.Whole.Count.{count_from}
 use Rattle.rr_family.specs.Taking.{AgreeWithin, some_gives, is_sound, further_days}
 
--- the sum of the first so many numbers
+-- the sum of the first n numbers
 unfoldable pub sum_below : ℕ → (ℕ → ℕ) → ℕ
 sum_below zero number = 0
 sum_below (suc n) number = sum_below n number + number n

@@ -9,7 +9,7 @@ use Rattle.rr_model.specs.Calendar.{IsDayWithin}
 use Rattle.rr_model.specs.Sets.Sketch.{IsNearDay, times_on}
 use Rattle.rr_model.specs.declared.sketch.Sketch.{Sketch}
 
--- the first day that passes of so many from q on, if there is one
+-- the first day that passes of n from q on, if there is one
 abbrev pub IsNextWithin : (ℤ → Bool) → ℤ → ℕ → Option ℤ → Type 0
 IsNextWithin test q days None = (d : ℤ) → q ≤ℤ d → d <ℤ (q +ℤ pos days) → test d ≡ false
 IsNextWithin test q days (Some day) = (q ≤ℤ day) × (day <ℤ (q +ℤ pos days)) × (test day ≡ true) × ((d : ℤ) → q ≤ℤ d → d <ℤ day → test d ≡ false)

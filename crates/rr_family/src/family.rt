@@ -57,7 +57,7 @@ pub trait Family {
         ensures { result ≡ place_has_day (of_kind self.now) (every self.now) (start self.now) place day };
 }
 
-/// Each so many days: the kind D.
+/// Each n days: the kind D.
 #[derive(Clone, Copy, Debug)]
 pub struct DayFamily {
     first_day: i64,
@@ -67,7 +67,7 @@ pub struct DayFamily {
 }
 
 impl DayFamily {
-    /// The kind D from this day, each so many days: 1 to 999.
+    /// The kind D from this day, each n days: 1 to 999.
     pub fn new(first_day: i64, interval: u32) -> Self
         requires near { IsDayWithin 0 first_day }
         requires low { 1 ≤ interval }

@@ -1,4 +1,4 @@
-// Days of each so many months.
+// Days of each n months.
 ghost use Rattle.std.specs.Prelude.{◌≡◌, ◌≤◌, ◌<◌, ◌+◌, pos, ◌-ℤ◌};
 ghost use Rattle.rr_model.specs.Calendar.{IsDayWithin};
 ghost use Rattle.rr_model.specs.Moment.Units.{month_number};
@@ -12,7 +12,7 @@ use rr_cal::{Day, month_number};
 use rr_model::FamilyKind;
 use rr_setpos::{is_congruent, is_in_place};
 
-/// Days of each so many months, counted from the front or from the back: the kind MD.
+/// Days of each n months, counted from the front or from the back: the kind MD.
 #[derive(Clone, Copy, Debug)]
 pub struct MonthDayFamily {
     first_day: i64,
@@ -22,7 +22,7 @@ pub struct MonthDayFamily {
 }
 
 impl MonthDayFamily {
-    /// The kind MD from this day, each so many months: 1 to 99.
+    /// The kind MD from this day, each n months: 1 to 99.
     pub fn new(first_day: i64, interval: u32) -> Self
         requires near { IsDayWithin 0 first_day }
         requires low { 1 ≤ interval }
@@ -61,7 +61,7 @@ impl Family for MonthDayFamily {
     }
 }
 
-/// Weekdays at places of each so many months, counted from the front or from the back: the kind MP.
+/// Weekdays at places of each n months, counted from the front or from the back: the kind MP.
 #[derive(Clone, Copy, Debug)]
 pub struct MonthPlaceFamily {
     first_day: i64,
@@ -71,7 +71,7 @@ pub struct MonthPlaceFamily {
 }
 
 impl MonthPlaceFamily {
-    /// The kind MP from this day, each so many months: 1 to 99.
+    /// The kind MP from this day, each n months: 1 to 99.
     pub fn new(first_day: i64, interval: u32) -> Self
         requires near { IsDayWithin 0 first_day }
         requires low { 1 ≤ interval }
@@ -120,7 +120,7 @@ fn is_month_day(number: i8, day: &Day) -> bool
     i16::from(number) == i16::from(day.day_of_month) || i16::from(number) == from_back
 }
 
-// The number from the back of the k-th day of so many.
+// The number from the back of the k-th of n days.
 fn number_from_back(k: u8, many: u8) -> i16
     ensures { result ≡ (pos k -ℤ pos many) -ℤ pos 1 }
 {

@@ -1,4 +1,4 @@
-// Weekdays of each so many weeks.
+// Weekdays of each n weeks.
 ghost use Rattle.std.specs.Prelude.{◌≡◌, ◌≤◌};
 ghost use Rattle.rr_model.specs.Calendar.{IsDayWithin};
 
@@ -7,7 +7,7 @@ use rr_cal::{week_index, weekday};
 use rr_model::FamilyKind;
 use rr_setpos::is_congruent;
 
-/// Weekdays of each so many weeks, which begin on Monday: the kind W.
+/// Weekdays of each n weeks, which begin on Monday: the kind W.
 #[derive(Clone, Copy, Debug)]
 pub struct WeekFamily {
     first_day: i64,
@@ -17,7 +17,7 @@ pub struct WeekFamily {
 }
 
 impl WeekFamily {
-    /// The kind W from this day, each so many weeks: 1 to 999.
+    /// The kind W from this day, each n weeks: 1 to 999.
     pub fn new(first_day: i64, interval: u32) -> Self
         requires near { IsDayWithin 0 first_day }
         requires low { 1 ≤ interval }

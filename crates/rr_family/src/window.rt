@@ -122,7 +122,7 @@ fn days_known<A: DaySeq>(seq: &A, first: i64) -> u64
     (settled - first) as u64 + seq.period()
 }
 
-// Whether each of so many days from the first one on has this second alone, or nothing.
+// Whether each of `days` days from the first one on has this second alone, or nothing.
 fn has_one_second<A: DaySeq>(seq: &A, second: u32, first: i64, days: u64) -> bool
     requires near { IsNearDay first }
     requires few { days ≤ 3_000_000_000 }
@@ -149,7 +149,7 @@ fn is_at_second<A: DaySeq>(seq: &A, second: u32, day: i64) -> bool
     }
 }
 
-// The first occupied day of so many, if there is one.
+// The first occupied one of `days` days, if there is one.
 fn next_occupied<A: DaySeq>(seq: &A, from: i64, days: u64) -> Option<i64>
     requires near { IsDayWithin 0 from }
     requires far { from ≤ℤ pos 2_000_000_000 }
@@ -234,7 +234,7 @@ fn last_occupied<A: DaySeq>(seq: &A, first: i64, after: i64) -> i64
     first
 }
 
-// How many of so many days are occupied.
+// How many of `days` days are occupied.
 fn count_occupied<A: DaySeq>(seq: &A, first: i64, days: u64) -> u64
     requires near { IsNearDay first }
     requires few { days ≤ 3_000_000_000 }

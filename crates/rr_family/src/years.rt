@@ -1,4 +1,4 @@
-// Months or days of each so many years.
+// Months or days of each n years.
 ghost use Rattle.std.specs.Prelude.{◌≡◌, ◌≤◌};
 ghost use Rattle.rr_model.specs.Calendar.{IsDayWithin};
 
@@ -7,7 +7,7 @@ use rr_cal::Day;
 use rr_model::FamilyKind;
 use rr_setpos::is_congruent;
 
-/// The start's day of the month in months of each so many years: the kind YM.
+/// The start's day of the month in months of each n years: the kind YM.
 #[derive(Clone, Copy, Debug)]
 pub struct YearMonthFamily {
     first_day: i64,
@@ -17,7 +17,7 @@ pub struct YearMonthFamily {
 }
 
 impl YearMonthFamily {
-    /// The kind YM from this day, each so many years: 1 to 99.
+    /// The kind YM from this day, each n years: 1 to 99.
     pub fn new(first_day: i64, interval: u32) -> Self
         requires near { IsDayWithin 0 first_day }
         requires low { 1 ≤ interval }
@@ -57,7 +57,7 @@ impl Family for YearMonthFamily {
     }
 }
 
-/// Days of each so many years: the kind YD.
+/// Days of each n years: the kind YD.
 #[derive(Clone, Copy, Debug)]
 pub struct YearDayFamily {
     first_day: i64,
@@ -67,7 +67,7 @@ pub struct YearDayFamily {
 }
 
 impl YearDayFamily {
-    /// The kind YD from this day, each so many years: 1 to 99.
+    /// The kind YD from this day, each n years: 1 to 99.
     pub fn new(first_day: i64, interval: u32) -> Self
         requires near { IsDayWithin 0 first_day }
         requires low { 1 ≤ interval }

@@ -22,7 +22,7 @@ abbrev pub number_at : (ℕ → ℕ) → Option ℕ → ℕ
 number_at number None = 0
 number_at number (Some place) = number place
 
--- of the first so many places the one with the greatest number, the first of them on a tie; none where all numbers are 0
+-- of the first n places the one with the greatest number, the first of them on a tie; none where all numbers are 0
 unfoldable pub best_below : (ℕ → ℕ) → ℕ → Option ℕ
 best_below number zero = None
 best_below number (suc n) = if nat_lt (number_at number (best_below number n)) (number n) then Some n else best_below number n
@@ -45,7 +45,7 @@ abbrev pub items_of : FamilyKind → List ℕ → List Item
 items_of f [] = []
 items_of f (place ∷ taken) = with_value item_lt (items_of f taken) (item_at f place)
 
--- these items are taken so far, and so many days of each sort are left
+-- these items are taken so far, and these numbers of days of each sort are left
 pub record AreTakenSoFar (f : FamilyKind) (occupied free left : ℕ → ℕ) (items : List Item) : Type 0 where
   pub taken : List ℕ
   pub in_turn : IsTakenInTurn f occupied free taken

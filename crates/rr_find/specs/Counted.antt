@@ -12,7 +12,7 @@ abbrev pub IsCountedOn : List ℕ → List ℕ → Option ℕ → Bool → Type 
 IsCountedOn old new sort counts = (length new ≡ length old) × ((k : ℕ)
     → get_or new k 0 ≡ get_or old k 0 + one_if (sort_passes (λ j. k == j) sort && counts))
 
--- the counts are those of the first so many days of the window
+-- the counts are those of the first n days of the window
 abbrev pub AreCounts : List ℕ → (ℤ → Option ℕ) → (ℤ → Bool) → ℤ → ℕ → Type 0
 AreCounts counts sort_of test first days = (k : ℕ) → get_or counts k 0 ≡ days_of_sort sort_of test first days k
 
@@ -21,7 +21,7 @@ abbrev pub has_some_sort : Option ℕ → Bool
 has_some_sort None = false
 has_some_sort (Some sort) = true
 
--- each occupied day of the first so many has a sort
+-- each occupied day of the first n has a sort
 abbrev pub AreSorted : (ℤ → Option ℕ) → (ℤ → Bool) → ℤ → ℕ → Type 0
 AreSorted sort_of occupied first days = (d : ℤ) → first ≤ℤ d → d <ℤ (first +ℤ pos days) → occupied d ≡ true → has_some_sort (sort_of d) ≡ true
 
@@ -45,7 +45,7 @@ IsDayResult true occupied_counts free_counts sort occupied = occupied ≡ true �
 IsDayResult false occupied_counts free_counts sort occupied =
     ((occupied ≡ true) × (has_some_sort sort ≡ false)) ⊎ ((k : ℕ) × (1 ≤ get_or occupied_counts k 0) × (1 ≤ get_or free_counts k 0))
 
--- what a walk over so many days has counted
+-- what a walk over n days has counted
 pub record IsTallied (occupied_counts free_counts : List ℕ) (sort_of : ℤ → Option ℕ) (occupied : ℤ → Bool) (first : ℤ) (days : ℕ) : Type 0 where
   pub of_occupied : AreCounts occupied_counts sort_of occupied first days
   pub of_free : AreCounts free_counts sort_of (λ d. not (occupied d)) first days

@@ -11,7 +11,7 @@ use rr_family::{is_occupied, sort_of_day};
 use rr_model::FamilyKind;
 use rr_word::DaySeq;
 
-/// How many days of each sort a window has; a kind that tells fewer sorts apart uses the first so many.
+/// How many days of each sort a window has; a kind that tells fewer sorts apart uses the first few.
 #[derive(Drop)]
 pub(crate) struct Counts {
     /// Of each sort how many days are occupied.

@@ -1,4 +1,4 @@
-// The first rule of small sets of dates: every so many days from a start.
+// The first rule of small sets of dates: every n days from a start.
 ghost use Rattle.std.specs.Prelude.{◌≤◌};
 ghost use Rattle.rr_model.specs.Sets.Sketch.{IsNearDay};
 
@@ -13,7 +13,7 @@ const FIRST: i64 = 19_723;
 // 1 January of the year 10000.
 const YEAR_10000: i64 = 2_932_897;
 
-// Every so many days from a start, as dates.
+// Every n days from a start, as dates.
 #[derive(Clone, Copy)]
 struct Every {
     start: i64,
@@ -89,7 +89,7 @@ impl Every {
     }
 }
 
-// Every so many days from the first one on.
+// Every n days from the first one on.
 fn each_from_first(step: u64) -> Every
     requires steps { 1 ≤ step }
     requires few { step ≤ 1_000 }

@@ -12,7 +12,7 @@ use Rattle.rr_model.specs.declared.kind.Kind.{Kind}
 use Rattle.rr_model.specs.declared.rule.Rule.{Rule}
 use Rattle.rr_fold.specs.Jump.{IsCountedJump}
 
--- a share of a number, so many times
+-- a share of a number, n times
 shares_within : (c each share n : ℕ) → each ≤ share → c ≤ n / share → c * each ≤ n
 shares_within c each share n l h =
     let m : c * each ≤ n / share * share = mul-le-mul h l in

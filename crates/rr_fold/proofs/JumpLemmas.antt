@@ -45,7 +45,7 @@ all_early a n d s begun few = elim (stands_at a d s) as (λ b. stands_at a d s �
 module _ (a : Tree) (first : ℤ) (cycle each : ℕ) (begun : IsFromYearOne first) (some : 1 ≤ cycle)
     (repeats : (d : ℤ) (s : ℕ) → (first +ℤ pos 1) ≤ℤ d → stands_at a (d +ℤ pos cycle) s ≡ stands_at a d s)
     (one : before_day a ((first +ℤ pos cycle) +ℤ pos 1) ≡ before_day a (first +ℤ pos 1) + each) where
-  -- so many cycles later the same stands
+  -- n cycles later the same stands
   cycles_same : (k : ℕ) (d : ℤ) (s : ℕ) → (first +ℤ pos 1) ≤ℤ d → stands_at a (d +ℤ pos (k * cycle)) s ≡ stands_at a d s
   cycles_same zero d s l = let e : d +ℤ pos (0 * cycle) ≡ d = omega (arith, ints) in ap (λ x. stands_at a x s) e
   cycles_same (suc k) d s l =

@@ -107,7 +107,7 @@ pub next_at : (sets : List (List ℕ)) (tree : Tree) (old to new : ℤ) (found :
     → IsNext tree old to (Ok (Some (with_set sets found))) new
 next_at sets tree old to new found (within, next) = next
 
--- want of memory is no refusal
+-- out of memory is no refusal
 pub memory_told : {X : Type 0} (P : Type 0) (why : Refusal) (result : Result X Fault) → IsErrAnd result (λ fault. fault ≡ NoMemory)
     → RefusedExactlyWhere P why result
 memory_told P why (Ok x) told = absurd told

@@ -12,7 +12,7 @@ at_left xs ys k l = grind (arith, elements)
 at_right : (xs ys : List ℕ) (k j : ℕ) → k ≡ length xs + j → get_or (xs ++ ys) k 0 ≡ get_or ys j 0
 at_right xs ys k j e = rw e (grind (arith, elements))
 
--- the first number, and so many stretches
+-- the first number, and n stretches
 pub record HasCycles (numbers : List ℕ) (cycle cycles : ℕ) (new : List ℕ) : Type 0 where
   pub whole : length new ≡ cycles * cycle + 1
   pub first : get_or new 0 0 ≡ get_or numbers 0 0
@@ -47,7 +47,7 @@ module _ (numbers : List ℕ) (cycle i : ℕ) (old : List ℕ) (so_far : HasCycl
         at_right old tail (k + i * cycle) j (omega (arith, so_far.whole, k_is)) ∙ same j (omega (arith, l, size, k_is)) ∙ ap (λ x. get_or numbers x 0) k_is);
   })
 
--- so many numbers after the first
+-- n numbers after the first
 pub stretch_length : (numbers : List ℕ) (n : ℕ) → n + 1 ≤ length numbers → length (take n (drop 1 numbers)) ≡ n
 stretch_length numbers n l = length-take-le n (drop 1 numbers) (omega (arith, length-drop 1 numbers, l))
 

@@ -31,7 +31,7 @@ numbered_alike tree d e sets number same i = record {
       (λ s. ((λ t. sym (same s) ∙ t), (λ t. same s ∙ t)));
 }
 
--- so many days more are folded by the numbers of days that have the same seconds
+-- n days more are folded by the numbers of days that have the same seconds
 pub folded_copied : (tree : Tree) (first from : ℤ) (sets : List (List ℕ)) (old new : List ℕ) (place count : ℕ) → IsFoldedTo tree first from sets old
     → from ≡ first +ℤ pos (length old) → IsCopied old place count new → place + count ≤ length old
     → ((k s : ℕ) → k < count → stands_at tree (first +ℤ pos (place + k)) s ≡ stands_at tree (from +ℤ pos k) s)
@@ -162,7 +162,7 @@ year_step first from end to year after at before is =
 pub year_fits : (year : ℤ) → (neg_ℤ (pos 2_000_000) ≤ℤ year) × (year ≤ℤ pos 1_000_000) → FitsSigned w64 (year +ℤ pos 1)
 year_fits year (low, high) = search rules
 
--- the lesser of a day so many days on and the end, as it is stored
+-- the lesser of a day n days on and the end, as it is stored
 pub least_step : (from end end' to more : ℤ) (days : ℕ) → to ≡ int_min (to_z w64 (of_z w64 (from +ℤ to_z w64 (of_z w64 more)))) end' → more ≡ pos days
     → days ≤ 366 → end' ≡ end → neg_ℤ (pos 719_162) ≤ℤ from → from ≤ℤ end → end ≤ℤ pos 40_000_000
     → to_z w64 (of_z w64 to) ≡ int_min (from +ℤ pos days) end'

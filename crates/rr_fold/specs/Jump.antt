@@ -10,14 +10,14 @@ use Rattle.rr_model.specs.declared.rule.Rule.{Rule}
 use Rattle.rr_model.specs.declared.rule.Series.{Series}
 use Rattle.rr_fold.specs.declared.jump.Jump.{Jump}
 
--- so many whole cycles stand after the first day
+-- n whole cycles stand after the first day
 pub record IsSpliced (old : List ℕ) (cycle cycles : ℕ) (new : List ℕ) : Type 0 where
   pub whole : length new ≡ length old + cycles * cycle
   pub first : get_or new 0 0 ≡ get_or old 0 0
   pub middle : (k : ℕ) → k < cycles * cycle → get_or new (k + 1) 0 ≡ get_or old (k % cycle + 1) 0
   pub last : (k : ℕ) → 1 ≤ k → k < length old → get_or new (k + cycles * cycle) 0 ≡ get_or old k 0
 
--- Without so many whole cycles after the first one, the rule has as many members less as these cycles have.
+-- Without n whole cycles after the first one, the rule has as many members less as these cycles have.
 pub record IsCountedJump (rule : Rule) (kind : Kind) (start : ℤ) (count days : ℕ) (jump : Jump) : Type 0 where
   pub each : ℕ
   pub is_cycle : jump.cycle ≡ rule_cycle rule
@@ -27,7 +27,7 @@ pub record IsCountedJump (rule : Rule) (kind : Kind) (start : ℤ) (count days :
   pub sum : jump.count + jump.cycles * each ≡ count
   pub long : (jump.cycle + 1) + jump.cycles * jump.cycle ≤ days
 
--- The series is one rule with COUNT from this first day on, and its days before the end have so many whole cycles more than one.
+-- The series is one rule with COUNT from this first day on, and its days before the end have n whole cycles more than one.
 pub record IsJump (series : Series) (start_day end : ℤ) (jump : Jump) : Type 0 where
   pub rule : Rule
   pub count : ℕ

@@ -5,7 +5,7 @@ use Rattle.rr_shapes.specs.Placing.{IsTooMany}
 use Rattle.rr_lazy.specs.declared.occupied_day.OccupiedDay.{OccupiedDay}
 use Rattle.rr_fold.specs.declared.numbering.Known.{Known}
 
--- what is known of a set of the table is the number of its first seconds, so many
+-- what is known of a set of the table is the number of its first n seconds
 abbrev pub IsKnown : List (List ℕ) → List (List ℕ) → List (Option Known) → Type 0
 IsKnown table sets known =
     (n : ℕ) (k : Known) → slice_get known n ≡ Some (Some k) → (n < length table) × (slice_get sets k.number ≡ Some (take k.count (get_or table n [])))

@@ -43,7 +43,7 @@ HasEqualYears rule tree first =
     (year other : ℤ) → first <ℤ first_day_of_year year → first <ℤ first_day_of_year other → mask_key rule year ≡ mask_key rule other
     → (k s : ℕ) → k < days_in_year year → stands_at tree (first_day_of_year year +ℤ pos k) s ≡ stands_at tree (first_day_of_year other +ℤ pos k) s
 
--- a year of this key begins after the first day, at the place counted from there, and ends within so many days
+-- a year of this key begins after the first day, at the place counted from there, and ends within n days
 pub record IsKeptYear (rule : Rule) (first : ℤ) (days key place : ℕ) : Type 0 where
   pub year : ℤ
   pub of_key : mask_key rule year ≡ key
@@ -70,7 +70,7 @@ pub record IsYearUpTo (first year to : ℤ) : Type 0 where
   pub begun : first_day_of_year year <ℤ to
   pub within : to ≤ℤ first_day_of_year (year +ℤ pos 1)
 
--- so many numbers from a place on stand once more at the end
+-- n numbers from a place on stand once more at the end
 pub record IsCopied (old : List ℕ) (place count : ℕ) (new : List ℕ) : Type 0 where
   pub whole : length new ≡ length old + count
   pub kept : (k : ℕ) → k < length old → get_or new k 0 ≡ get_or old k 0

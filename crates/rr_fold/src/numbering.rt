@@ -13,7 +13,7 @@ use rr_model::{Fault, NoMemory};
 use rr_shapes::{SetTable, Shapes};
 use std::alloc::Global;
 
-// The number, among the sets of folded days, of the first seconds, so many, of a set.
+// The number, among the sets of folded days, of the first `count` seconds of a set.
 #[derive(Clone, Copy)]
 pub(crate) struct Known {
     pub(crate) count: u32,

@@ -22,7 +22,7 @@ pub(crate) struct Walk {
 }
 
 impl Walk {
-    // Nothing is walked yet; there is room for so many days.
+    // Nothing is walked yet; there is room for this number of days.
     pub(crate) fn new(alloc: Global, days: usize) -> Result<Walk, NoMemory>
         ensures { IfOk result IsNewWalk }
     {

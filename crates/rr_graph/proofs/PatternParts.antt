@@ -66,7 +66,7 @@ SameFromFirst =
     (pattern : Pattern) (start first d : ℤ) → 1 ≤ pattern.interval → IsTrue (is_pattern_day pattern start first)
     → is_pattern_day pattern first d ≡ is_pattern_day pattern start d
 
--- a range of so many days has at least one
+-- a range of n days has at least one
 abbrev pub RangeCounts : RangeEnd → Type 0
 RangeCounts (Numbered n) = 1 ≤ n
 RangeCounts end = ⊤

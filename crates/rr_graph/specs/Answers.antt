@@ -7,7 +7,7 @@ use Rattle.rr_model.specs.declared.refusal.Fault.{Fault}
 use Rattle.rr_model.specs.declared.refusal.Fault.TheVariants.{Refused, NoMemory}
 use Rattle.rr_model.specs.declared.refusal.Refusal.{Refusal}
 
--- the answer is the value that is wanted, but want of memory may come in place of each
+-- the answer is the value that is wanted, but out of memory may come in place of each
 abbrev pub AnswersValue : Result Data Refusal → Result Value Fault → Type 0
 AnswersValue wanted (Ok value) = wanted ≡ Ok (view value)
 AnswersValue wanted (Err (Refused refusal)) = wanted ≡ Err refusal

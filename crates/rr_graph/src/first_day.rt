@@ -148,7 +148,7 @@ fn rank_from_month_end(days: u8, day: &Day) -> u8
     count_days(days, day.number, day.days_in_month + 1 - day.day_of_month)
 }
 
-// How many of so many days from one on have such a weekday.
+// How many of `many` days from one on have such a weekday.
 fn count_days(days: u8, first: i64, many: u8) -> u8
     requires near { IsDayWithin 100 first }
     requires few { many ≤ 31 }

@@ -55,7 +55,7 @@ module _ (s : Sketch) (valid : IsValidSketch s) (pattern : Pattern) (range : Ran
   good : IsValidPattern pattern
   good = is.valid.repeats.0
 
-  -- its cycle fits, and so many days are a window
+  -- its cycle fits, and that number of days is a window
   fits_window : (end : WindowEnd) → IsWindowEnd s first end → FitsEnd end first cycle × IsWindow s first cycle (days_compared end first cycle)
   fits_window (Last day many) h = (tt, IsWindow.finite day h.0)
   fits_window (Cycle period from) h =

@@ -21,7 +21,7 @@ use Rattle.rr_model.specs.declared.graph.RangeEnd.{RangeEnd}
 use Rattle.rr_model.specs.declared.graph.RangeEnd.TheVariants.{NoEnd, Numbered}
 use Rattle.rr_model.specs.declared.sketch.Sketch.{Sketch}
 
--- The pattern is valid, and its days, counted from the first day, are the occupied ones of so many days.
+-- The pattern is valid, and its days, counted from the first day, are the occupied ones of n days.
 pub record Agrees (s : Sketch) (first : ℤ) (days : ℕ) (pattern : Pattern) : Type 0 where
   pub valid : IsValidPattern pattern
   pub agree : AgreeWithin (is_pattern_day pattern first) (is_occupied s) first days

@@ -44,7 +44,7 @@ pub(crate) fn agrees<A: DaySeq>(seq: &A, pattern: &Pattern, stretch: &Stretch) -
     agrees_throughout(seq, pattern, start, stretch.days)
 }
 
-// Whether they are so on each of so many days.
+// Whether they are so on each of `days` days.
 fn agrees_throughout<A: DaySeq>(seq: &A, pattern: &Pattern, start: &Day, days: u64) -> bool
     requires interval { 1 ≤ pattern.now.interval }
     requires near { IsNearDay start.now.number }

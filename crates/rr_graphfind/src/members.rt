@@ -155,7 +155,7 @@ fn places_of(used: bool, low: u8, high: u8, otherwise: u8) -> Places
     }
 }
 
-// The weekday, from 0 for Monday, that is so many days after Sunday.
+// The weekday, from 0 for Monday, that is this number of days after Sunday.
 fn weekday_from_sunday(place: u8) -> u8
     requires { place < 7 }
     ensures low { result ≤ 6 }

@@ -6,7 +6,7 @@ use Rattle.rr_model.specs.declared.refusal.Fault.TheVariants.{Refused, NoMemory}
 use Rattle.rr_model.specs.declared.refusal.Refusal.{Refusal}
 use Rattle.rr_model.specs.declared.used.UsedLine.{UsedLine}
 
--- The value becomes what is wanted, or the refusal is answered, or memory is wanting.
+-- The value becomes what is wanted, or the refusal is answered, or it is out of memory.
 abbrev pub Becomes : {A : Type 0} → Result A Refusal → A → Result (Unit {0}) Fault → Type 0
 Becomes wanted new (Ok done) = wanted ≡ Ok new
 Becomes wanted new (Err (Refused refusal)) = wanted ≡ Err refusal

@@ -85,7 +85,7 @@ impl Nesting {
         }
     }
 
-    /// The fault of a text that ends here, with so many physical lines.
+    /// The fault of a text that ends here, with `last` physical lines.
     pub(crate) fn stop_at_end(&self, last: u64) -> Option<Refusal>
         ensures { result ≡ stop_at_end last self.now }
     {

@@ -96,7 +96,7 @@ fn list_text(alloc: Global, text: &str) -> Result<String, Fail> {
             series.plus.as_slice()
         )?),
         Err(Fault::Refused(refusal)) => Ok(format!(in alloc; "{refusal}")?),
-        Err(Fault::NoMemory) => Err("memory was wanting".into()),
+        Err(Fault::NoMemory) => Err("out of memory".into()),
     }
 }
 

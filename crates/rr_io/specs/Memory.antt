@@ -26,7 +26,7 @@ pub record Puts : Type 0 where
 abbrev pub IsToFail : Fetches → ℕ → List ℕ → Type 0
 IsToFail s number name = IsTrue (list_any (λ n. nat_eq n number) s.failing) ⊎ IsNone (bytes_at s.names name)
 
--- a fetch fails exactly where it is to fail, but for want of memory
+-- a fetch fails exactly where it is to fail, unless out of memory
 abbrev pub FailsExactly : {T : Type 0} → Result T FetchError → Type 0 → Type 0
 FailsExactly (Ok v) to_fail = to_fail → ⊥
 FailsExactly (Err fetch.Failed) to_fail = to_fail

@@ -8,7 +8,7 @@ use std::alloc::AllocError;
 pub enum PutError {
     /// The sink has failed and counted it. It may have taken a first part of the bytes.
     Failed,
-    /// Memory was wanting, and nothing was appended.
+    /// Out of memory, and nothing was appended.
     NoMemory,
 }
 

@@ -9,7 +9,7 @@ use std::alloc::{AllocError, AllocFailed, Global};
 pub enum FetchError {
     /// The bytes could not be had, and the source has noted the name.
     Failed,
-    /// Memory was wanting.
+    /// Out of memory.
     NoMemory,
 }
 
@@ -56,7 +56,7 @@ pub trait Source {
     /// The names whose fetch has failed, in order.
     ghost failed: { Self → List (List ℕ) };
 
-    /// The bytes under a name, cut after `MAX_INPUT + 1` bytes: who gets so many knows that there are too many.
+    /// The bytes under a name, cut after `MAX_INPUT + 1` bytes: who gets `MAX_INPUT + 1` knows that there are too many.
     ///
     /// `Failed` comes only with the name at the end of those that have failed. `NoMemory` leaves these names as they were.
     fn fetch(&mut self, alloc: Global, name: &str) -> Result<Vec<u8>, FetchError>

@@ -27,7 +27,7 @@ many_cycles : (k c : ℕ) → 1 ≤ c → k ≤ k * c
 many_cycles k zero l = absurd (omega (arith, l))
 many_cycles k (suc c) l = omega arith
 
--- ---- so many days
+-- ---- a number of days
 
 seconds_most : (test : ℕ → Bool) (n : ℕ) → count_seconds test n ≤ n
 seconds_most test zero = omega (arith, count_seconds-zero test)
@@ -63,7 +63,7 @@ module _ (tree : Tree) (first : ℤ) (cycle each : ℕ) (begun : IsFromYearOne f
   abbrev next : ℤ
   next = first +ℤ pos 1
 
-  -- so many occurrences lie on the days that follow it
+  -- n occurrences lie on the days that follow it
   abbrev on_days : ℕ → ℕ
   on_days n = count_days (λ d s. stands_at tree d s) next n
 
@@ -75,7 +75,7 @@ module _ (tree : Tree) (first : ℤ) (cycle each : ℕ) (begun : IsFromYearOne f
       let e : (first +ℤ pos cycle) +ℤ pos 1 ≡ next +ℤ pos cycle = omega (arith, ints) in
       omega (arith, ap (before_day tree) e, after_next cycle, one)
 
-  -- so many cycles later as many more
+  -- n cycles later as many more
   pub cycles_later : (k : ℕ) (x : ℤ) → next ≤ℤ x → before_day tree (x +ℤ pos (k * cycle)) ≡ before_day tree x + k * each
   cycles_later k x l =
       let n : ℕ = nat_abs (x -ℤ next) in
@@ -90,7 +90,7 @@ module _ (tree : Tree) (first : ℤ) (cycle each : ℕ) (begun : IsFromYearOne f
     moved : (x : ℤ) → next ≤ℤ x → before_day tree (x +ℤ pos days) ≡ before_day tree x + passed
     moved x l = rw (d, p) (cycles_later k x l)
 
-    -- the day of the number that is left lies so many days earlier
+    -- the day of the number that is left lies n days earlier
     pub number_moved : (day : ℤ) → HasNumberOn tree (count - passed) day → HasNumberOn tree count (day +ℤ pos days)
     number_moved day h =
         let late : next ≤ℤ day = by_lt_z {P = next ≤ℤ day} day next (λ l.
@@ -103,7 +103,7 @@ module _ (tree : Tree) (first : ℤ) (cycle each : ℕ) (begun : IsFromYearOne f
           within = omega (arith, ap (before_day tree) e, moved (day +ℤ pos 1) (omega (arith, ints, late)), h.within, counted, some);
         }
 
-    -- where it lies beyond a day, the number lies so many days after that day
+    -- where it lies beyond a day, the number lies n days after that day
     pub number_beyond : (to end : ℤ) (rest : ℕ) → first ≤ℤ to → end ≡ (to +ℤ pos 1) +ℤ pos days → 1 ≤ rest
         → before_day tree (to +ℤ pos 1) + rest ≡ count - passed → before_day tree end < count
     number_beyond to end rest l e r c = omega (arith, ap (before_day tree) e, moved (to +ℤ pos 1) (omega (arith, ints, l)), c, r, some, counted)
@@ -161,7 +161,7 @@ module _ (kind : Kind) (start : ℤ) (rule : Rule) (sound : IsSoundRule kind sta
   module _ (each : ℕ) (one : before_day (chosen_of rule kind start) ((day_part kind start +ℤ pos (rule_cycle rule)) +ℤ pos 1)
       ≡ before_day (chosen_of rule kind start) (day_part kind start +ℤ pos 1) + each) where
     module _ (count left : ℕ) (counted : before_day (chosen_of rule kind start) (day_part kind start +ℤ pos 1) + left ≡ count) (some : 1 ≤ left) where
-      -- so many whole cycles are passed over
+      -- n whole cycles are passed over
       abbrev cycles : ℕ
       cycles = (left - 1) / each
 

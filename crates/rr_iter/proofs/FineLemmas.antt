@@ -56,7 +56,7 @@ first_unit_is Weekly w d e = absurd (false≢true (sym e))
 first_unit_is Monthly w d e = absurd (false≢true (sym e))
 first_unit_is Yearly w d e = absurd (false≢true (sym e))
 
--- a second of a later day lies so many units after the first of a day, fewer than the days in between have with the day
+-- a second of a later day lies n units after the first of a day, fewer than the days in between have with the day
 unit_after : (freq : Freq) (w : ℕ) (day d : ℤ) (j s : ℕ) → is_whole_days freq ≡ false → d ≡ day +ℤ pos j → s < 86_400
     → (unit_number freq w Moments (moment_at Moments d s)
     ≡ unit_number freq w Moments (moment_at Moments day 0) +ℤ pos (j * per_day freq + s / unit_seconds freq)) × (s / unit_seconds freq < per_day freq)

@@ -11,7 +11,7 @@ use Rattle.rr_lazy.proofs.TreeLemmas.{seconds_of_occupied}
 use Rattle.rr_lazy.proofs.CountingLemmas.{before_skip, before_next, before_none, seconds_whole}
 use Rattle.rr_iter.specs.Ends.{before_day, HasNumberOn}
 
--- a day of which so many seconds are given has so many
+-- a day of which n seconds are given has n
 pub counted_seconds : (sets : List (List ℕ)) (found : OccupiedDay) → IsWithin sets found → length ((with_set sets found).times) ≡ found.count
 counted_seconds sets found within = length-take-le found.count (get_or sets found.number []) within.1
 

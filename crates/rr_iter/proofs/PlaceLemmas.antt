@@ -28,7 +28,7 @@ count_none g q (suc n) none =
     last ∙ count_none g q n (λ t l h. none t l (omega (arith, ints, h)))
 
 module _ (test : ℤ → Bool) where
-  -- of so many whole numbers from one on, those that pass
+  -- of n whole numbers from one on, those that pass
   abbrev pub PassedFrom : ℤ → ℕ → ℤ → Type 0
   PassedFrom q n d = (q ≤ℤ d) × (d <ℤ (q +ℤ pos n)) × (test d ≡ true)
 

@@ -50,7 +50,7 @@ last_past kind dates date bound r e l k d h =
     let days = day_mono kind (get_or dates k d) date (omega (arith, ints, here, order, last)) in
     omega (arith, ints, days, l)
 
--- what is known of a day once the first rules, so many, were asked
+-- what is known of a day once the first n rules were asked
 pub record IsGathered (kind : Kind) (start : ℤ) (rules : List Rule) (day : ℤ) (asked : ℕ) (last : ℤ) : Type 0 where
   pub late : day ≤ℤ last
   pub high : last ≤ℤ pos 19_710_112

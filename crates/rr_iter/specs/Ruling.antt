@@ -111,7 +111,7 @@ pub record IsFine (r : Ruling) (start_day : ℤ) (start_second : ℕ) (offsets :
 abbrev pub AreUnitDays : Ruling → List ℤ → Type 0
 AreUnitDays r days = (unit : ℤ) × IsSetOf int_lt days (IsCandidateDay r.rule (day_part r.kind r.start) unit)
 
--- a candidate day, so many of its unit's candidate days before it, and so many in all
+-- a candidate day, how many of its unit's candidate days lie before it, and how many there are
 pub record IsCandidateAt (r : Ruling) (day : ℤ) (place count : ℕ) : Type 0 where
   pub candidate : IsTrue (day_holds r.rule (day_part r.kind r.start) day)
   pub before : place ≡ days_before r.rule (day_part r.kind r.start) day

@@ -12,7 +12,7 @@ use Rattle.rr_setpos.specs.Ranks.{hour_second_allowed, is_rank_listed, number_al
 
 -- ---- the times of one day of a unit
 
--- One of the times has the place in its unit, where so many of the unit's candidates come before these times, of so many in all.
+-- One of the times has the place in its unit, where n of the unit's m candidates come before these times.
 abbrev pub IsAtPlace : List ℕ → ℕ → ℕ → ℤ → ℕ → Type 0
 IsAtPlace times before size place s = (r : ℕ) × ((r < length times) × (get_or times r 0 ≡ s) × IsPlaceOf place size (before + r))
 
@@ -25,7 +25,7 @@ IsTimeAt times before size place (Some s) = IsAtPlace times before size place s
 abbrev pub IsAtSome : List ℕ → ℕ → ℕ → List ℤ → ℕ → ℕ → Type 0
 IsAtSome times before size places k s = (i : ℕ) × ((i < k) × IsAtPlace times before size (get_or places i (pos 0)) s)
 
--- the position is that of a time of the day at this place, where each of so many days has so many times
+-- the position is that of a time of the day at this place, where each of n days has m times
 abbrev pub IsPositionOn : ℤ → ℕ → ℕ → ℕ → Type 0
 IsPositionOn position each count place = (r : ℕ) × ((r < each) × IsPlaceOf position (count * each) (place * each + r))
 

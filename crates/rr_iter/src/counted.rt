@@ -34,7 +34,7 @@ pub(crate) fn last_counted(
     }
 }
 
-// The same of a number that is so many more than the moments of the start's day. A rule that chooses nothing in a whole cycle
+// The same of a number that is `left` above the moments up to the start's day. A rule that chooses nothing in a whole cycle
 // after that day never does.
 fn after_start(
     alloc: Global,
@@ -65,7 +65,7 @@ fn after_start(
     }
 }
 
-// The same where the cycle is shorter than a span, and each cycle after the start's day has so many moments, one at least.
+// The same where the cycle is shorter than a span, and each cycle after the start's day has this number of moments, one at least.
 fn after_cycles(
     alloc: Global,
     rule: &Rule,

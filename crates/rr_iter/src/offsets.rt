@@ -71,7 +71,7 @@ fn allows_second(rule: &Rule, own: Time, second: u8) -> bool
     allows_filled(&rule.by_second, wants_second(rule.freq), own.second, second)
 }
 
-// The seconds of a day that lie at these seconds of their unit, which has so many.
+// The seconds of a day that lie at these seconds of their unit, which has `unit` seconds.
 pub(crate) fn at_offsets(
     alloc: Global,
     seconds: &TimeSet,

@@ -104,7 +104,7 @@ impl DayRule {
         Ok(None)
     }
 
-    // A candidate day, if it is occupied. So many of its unit's candidate days come before it, of so many.
+    // A candidate day, if it is occupied: of its unit's `count` candidate days `place` come before it.
     fn on_day(
         &self,
         alloc: Global,
@@ -122,8 +122,8 @@ impl DayRule {
         placed(sets, day, times)
     }
 
-    // The seconds of a candidate day that the rule chooses from its start on. So many of its unit's candidate days come
-    // before it, of so many.
+    // The seconds of a candidate day that the rule chooses from its start on: of its unit's `count` candidate
+    // days `place` come before it.
     fn seconds_of(
         &self,
         alloc: Global,

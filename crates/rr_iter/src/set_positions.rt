@@ -9,7 +9,7 @@ use rr_setpos::rank_of;
 use rr_times::TimeSet;
 use std::alloc::Global;
 
-// Of the times that each day of a unit has, those that the positions choose on the day at this place, from 0, of so many.
+// Of the times that each day of a unit has, those that the positions choose on the day at this place, from 0.
 pub(crate) fn times_at_positions(
     alloc: Global,
     times: &TimeSet,
@@ -29,7 +29,7 @@ pub(crate) fn times_at_positions(
     TimeSet::of(alloc, chosen.as_slice())
 }
 
-// The first place, from one on, among so many days of a unit at which one of the positions is, where each day has so many times.
+// The first place, from one on, among `count` days of a unit, at which one of the positions is, where each day has `each` times.
 pub(crate) fn next_place(
     positions: &Numbers,
     each: usize,
@@ -53,7 +53,7 @@ pub(crate) fn next_place(
     if end < count { Some(end) } else { None }
 }
 
-// The place of the day on which a position is, among so many days of a unit that have so many times each.
+// The place of the day on which a position is, among `count` days of a unit that have `each` times each.
 fn day_of_position(position: i64, each: usize, count: usize) -> Option<usize>
     requires position { position ≡ pos 0 → ⊥ }
     requires each { each ≤ 86_400 }
@@ -67,7 +67,7 @@ fn day_of_position(position: i64, each: usize, count: usize) -> Option<usize>
     }
 }
 
-// Of the times of a day those at the listed places, where so many candidates of the unit come before them, of so many.
+// Of the times of a day those at the listed places, where `before` candidates of the unit come before them.
 fn seconds_at_places(
     alloc: Global,
     times: &[u32],

@@ -44,7 +44,7 @@ module _ (rule : Rule) (kind : Kind) (start t : ℤ) (in_years : IsInYears kind 
   abbrev chosen : Tree
   chosen = chosen_of rule kind start
 
-  -- so many stand in a tree up to t
+  -- n stand in a tree up to t
   abbrev number_in : Tree → ℕ
   number_in tree = count_to (λ d s. stands_at tree d s) (day_part kind t) (second_part kind t)
 

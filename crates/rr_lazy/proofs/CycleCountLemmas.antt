@@ -35,7 +35,7 @@ module _ (test : ℤ → ℕ → Bool) (q : ℤ) (c : ℕ) (repeats : (d : ℤ) 
       let e : suc k * c ≡ c + k * c = omega arith in
       rw e (omega (arith, days_split test q c (k * c), days_later q (k * c) (omega (arith, ints)), cycles_count k))
 
-  -- so many days into the cycle after k whole ones
+  -- n days into the cycle after k whole ones
   pub cycles_and_days : (k n : ℕ) → count_days test q (k * c + n) ≡ k * count_days test q c + count_days test q n
   cycles_and_days k n = omega (arith, days_split test q (k * c) n, cycles_count k, later k q (omega (arith, ints)))
     where

@@ -303,7 +303,7 @@ module _ (tree out : Tree) where
     none_before same d s l h = by_lt_z {P = stands_at (except tree out) d s ≡ false} d k.from
         (λ m. subst (λ t. stands_at (except tree t) d s ≡ false) same (k.passed d s l m)) (λ g. except_none d s (given.before d s g h))
 
-    -- it is kept after want of memory
+    -- it is kept after out of memory
     pub known_kept : (new : List (List ℕ)) (own_b : ℤ) (ahead_b : Option OccupiedDay) → b.tree ≡ out → Extends old new
         → IsAheadUpTo new (part_of out own_b ahead_b) found.day → KnowsBoth new (part_of tree own (Some found)) (part_of out own_b ahead_b) position
     known_kept new own_b ahead_b same more o = record {
@@ -398,7 +398,7 @@ module _ (tree out : Tree) where
     λ d s a c. absurd (omega (arith, ints, a, c, e)),
   )
 
--- after want of memory
+-- after out of memory
 pub both_err : (old new : List (List ℕ)) (a a' b b' : Part) (to : ℤ) (result : Result (Option OccupiedDay) NoMemory) → IsErr result
     → ((position : ℤ) → KnowsBoth old a b position → KnowsBoth new a' b' position) → IsNextOfBoth old new a a' b b' to result
 both_err old new a a' b b' to (Ok x) e known = absurd (cc)

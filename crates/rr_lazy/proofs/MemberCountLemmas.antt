@@ -54,7 +54,7 @@ seconds_same f g (suc n) same =
     let rest = seconds_same f g n (λ s l. same s (omega arith)) in
     count_seconds-suc f n ∙ (rw (same n (omega arith), rest) (sym (count_seconds-suc g n)))
 
--- the days from one on, so many, pass the same at each second
+-- the n days from one on pass the same at each second
 abbrev AreAlike : (ℤ → ℕ → Bool) → (ℤ → ℕ → Bool) → ℤ → ℕ → Type 0
 AreAlike f g q n = (d : ℤ) (s : ℕ) → q ≤ℤ d → d <ℤ (q +ℤ pos n) → s < 86_400 → f d s ≡ g d s
 

@@ -117,7 +117,7 @@ listed (x ∷ xs) t = (
 -- ---- the seconds of the first dates
 
 module _ (kind : Kind) (dates : List ℤ) (day : ℤ) where
-  -- this second is among the first dates, so many
+  -- this second is among the first n dates
   abbrev pub StandsFirst : ℕ → ℕ → Type 0
   StandsFirst place s = (k : ℕ) × (k < place) × (k < length dates) × (get_or dates k (pos 0) ≡ moment_at kind day s) × (has_second kind s ≡ true)
 

@@ -204,7 +204,7 @@ module _ (tree : Tree) (kind : Kind) (dates : List ℤ) where
     next_passed new None l e position k = known_passed mid own' position found (step position k) new l
     next_passed new (Some left) l e position k = absurd (cc)
 
-  -- after want of memory
+  -- after out of memory
   pub next_err : (old new : List (List ℕ)) (own own' to : ℤ) (ahead ahead' : Option OccupiedDay) (result : Result (Option OccupiedDay) NoMemory) → IsErr result
       → ((position : ℤ) → KnowsPart old tree own kind dates position ahead → KnowsPart new tree own' kind dates position ahead')
       → IsNextLeft old new tree kind dates own own' ahead ahead' to result

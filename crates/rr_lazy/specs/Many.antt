@@ -27,18 +27,18 @@ joined other t = other
 abbrev pub GaveDaySome : {X : Type 0} → (X → Option DayTimes) → List X → ℤ → Type 0
 GaveDaySome {X} ahead parts day = (k : ℕ) × (k < length parts) × ((d : X) → GaveDay (ahead (get_or parts k d)) day)
 
--- one of the first parts, so many, gave this day with this second
+-- one of the first n parts gave this day with this second
 abbrev pub HasOnSome : {X : Type 0} → (X → Option DayTimes) → List X → ℕ → ℤ → ℕ → Type 0
 HasOnSome {X} ahead parts place day s = (k : ℕ) × (k < place) × (k < length parts) × ((d : X) → HasOn (ahead (get_or parts k d)) day s)
 
--- What the first parts, so many, gave for a day: all seconds of those that gave it, and nothing where none did.
+-- What the first n parts gave for a day: all seconds of those that gave it, and nothing where none did.
 abbrev pub IsGivenBySome : {X : Type 0} → List (List ℕ) → (X → Option OccupiedDay) → List X → ℕ → ℤ → List (List ℕ) → Option OccupiedDay → Type 0
 IsGivenBySome {X} old ahead parts place day new None = (k : ℕ) → k < place → k < length parts → (d : X) → GaveDay (seen old (ahead (get_or parts k d))) day → ⊥
 IsGivenBySome {X} old ahead parts place day new (Some found) =
     (found.day ≡ day) × IsGivenOn new found
     × IsSetOf nat_lt ((with_set new found).times) (HasOnSome (λ p. seen old (ahead p)) parts place day)
 
--- the first parts, so many, have forgotten the day; nothing else has changed
+-- the first n parts have forgotten the day; nothing else has changed
 pub record IsLeftBy {X L : Type 0} (ahead : X → Option DayTimes) (lazy : X → L) (old : List X) (day : ℤ) (place : ℕ) (new : List X) : Type 0 where
   pub many : length new ≡ length old
   pub lazies : (k : ℕ) (d : X) → k < length old → lazy (get_or new k d) ≡ lazy (get_or old k d)

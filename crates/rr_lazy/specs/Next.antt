@@ -26,7 +26,7 @@ IsNext tree old to (Err e) new = new ≡ old
 
 -- ---- by numbers in a table of sets
 
--- the day, with the first seconds, so many, of the set of its number
+-- the day, with the first `count` seconds of the set of its number
 abbrev pub with_set : List (List ℕ) → OccupiedDay → DayTimes
 with_set sets f = record { day = f.day; times = take f.count (get_or sets f.number []) }
 

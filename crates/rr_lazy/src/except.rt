@@ -90,7 +90,7 @@ impl<A: Lazy + Drop, B: Lazy + Drop> Lazy for Except<A, B> {
 }
 
 // The first day up to `to` of which something is left once the second part is taken out. A day that the first part gave is
-// kept until it is known what is left of it, so that want of memory loses none.
+// kept until it is known what is left of it, so that a call that ends out of memory loses none.
 fn next_of_both<A: Lazy, B: Lazy>(
     alloc: Global,
     sets: &mut SetTable,

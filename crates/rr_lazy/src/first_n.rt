@@ -1,4 +1,4 @@
-// The first occurrences, so many.
+// The first n occurrences.
 ghost use Rattle.std.specs.Prelude.{◌≡◌, List, ℕ};
 ghost use Rattle.rr_lazy.specs.FirstN.{IsCounting};
 ghost use Rattle.rr_lazy.specs.Next.{IsUnasked};
@@ -9,7 +9,7 @@ use rr_model::NoMemory;
 use rr_shapes::SetTable;
 use std::alloc::Global;
 
-/// The first occurrences of a part, so many; the last of them may lie within a day.
+/// The first n occurrences of a part; the last of them may lie within a day.
 #[derive(Drop)]
 pub struct FirstN<A: Lazy + Drop> {
     lazy: A,

@@ -26,7 +26,7 @@ pub trait Lazy {
     /// The first occupied day from the position up to `to`, with all its seconds; the position is then the day after it.
     ///
     /// None exactly where no day from the position up to `to` is occupied; the position is then the day after `to`, or
-    /// stays where it was past it. After want of memory the position is as it was.
+    /// stays where it was past it. After out of memory the position is as it was.
     fn next(
         &mut self,
         alloc: Global,

@@ -1,6 +1,6 @@
 // An occupied day and its seconds.
 
-/// An occupied day; its seconds are the first ones, so many, of a set in a table.
+/// An occupied day; its seconds are the first `count` ones of a set in a table.
 #[derive(Clone, Copy)]
 pub struct OccupiedDay {
     /// The day number.

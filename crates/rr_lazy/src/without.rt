@@ -93,7 +93,7 @@ impl<A: Lazy + Drop> Lazy for Without<A> {
 }
 
 // The first day up to `to` of which something is left once the dates are taken out. A day that the part gave is kept until
-// it is known what is left of it, so that want of memory loses none.
+// it is known what is left of it, so that a call that ends out of memory loses none.
 fn next_left<A: Lazy>(
     alloc: Global,
     sets: &mut SetTable,

@@ -26,7 +26,7 @@ module _ {X : Type 0} (F G : ℕ → X) (p r : ℕ) (hp : 1 ≤ p) (hr : 1 ≤ r
             ap F e ∙ t ∙ ap G (sym e))
       ]
 
--- a later whole number is so many on
+-- a later whole number is n on
 pub offset : (q d : ℤ) → q ≤ℤ d → d ≡ q +ℤ pos (nat_abs (d -ℤ q))
 offset q d h = omega (arith, ints)
 

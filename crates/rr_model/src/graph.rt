@@ -46,7 +46,7 @@ pub enum RangeEnd {
     NoEnd,
     /// `endDate`: on this day, which may still have an occurrence; days since 1970-01-01.
     EndDate(i64),
-    /// `numbered`: after so many occurrences, from 1.
+    /// `numbered`: after this number of occurrences, from 1.
     Numbered(u64),
 }
 

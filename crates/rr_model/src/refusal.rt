@@ -1,4 +1,4 @@
-// Why an operand is refused, and want of memory.
+// Why an operand is refused, and out of memory.
 ghost use Rattle.std.specs.Prelude.{◌≡◌};
 
 use std::alloc::{AllocError, AllocFailed};
@@ -143,7 +143,7 @@ pub enum Refusal {
     IntervalTooLarge,
     /// The cycle is longer than `MAX_CYCLE_DAYS`.
     CycleTooLong,
-    /// A rule with a COUNT has not so many members up to `MAX_SPAN_DAYS` days after the start's day.
+    /// A rule with a COUNT has fewer members than it counts up to `MAX_SPAN_DAYS` days after the start's day.
     CountedTooFar,
     /// The distinct time sets have more than `MAX_SECONDS` seconds.
     TooManyMoments,
@@ -251,7 +251,7 @@ impl fmt::Display for Refusal {
     }
 }
 
-/// Memory was wanting.
+/// Out of memory.
 #[derive(Clone, Copy, Debug, PartialEq, Eq)]
 pub struct NoMemory;
 
@@ -276,7 +276,7 @@ impl<T: Drop> From<AllocFailed<T>> for NoMemory {
 pub enum Fault {
     /// The argument is refused.
     Refused(Refusal),
-    /// Memory was wanting.
+    /// Out of memory.
     NoMemory,
 }
 

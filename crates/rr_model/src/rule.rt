@@ -46,7 +46,7 @@ pub enum End {
         /// Its day number, or its second number.
         at: i64,
     },
-    /// It has at most so many members.
+    /// It has at most this number of members.
     Count(u64),
     /// Both ends hold.
     Both {

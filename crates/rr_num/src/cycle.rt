@@ -21,7 +21,7 @@ pub fn day_cycle(rule: &Rule) -> u128
     (units / gcd(units, parts)) as u128 * parts as u128
 }
 
-/// After how many days the units of a frequency, each so many of them, begin at the same place of a day, of a week or of
+/// After how many days the units of a frequency, each n-th of them, begin at the same place of a day, of a week or of
 /// 400 years. Every valid rule has an interval of at least 1.
 pub fn interval_cycle(freq: Freq, interval: u32) -> u64
     requires { 1 ≤ interval }
@@ -40,7 +40,7 @@ pub fn interval_cycle(freq: Freq, interval: u32) -> u64
     }
 }
 
-// How many rounds of so many units hold a whole number of intervals.
+// How many rounds of `units` units hold a whole number of intervals.
 fn turns(interval: u32, units: u64) -> u64
     requires { 1 ≤ interval }
     ensures value { result ≡ interval / gcd interval units }

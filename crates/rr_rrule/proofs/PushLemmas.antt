@@ -43,7 +43,7 @@ all_written f out all xs i l so_far = sym (append-nil out) ∙ ap (λ ys. out ++
 
 -- ---- folded lines
 
--- what is left behind at most so many values
+-- what is left behind at most n values
 drop_min : {X : Type 0} (n : ℕ) (xs : List X) → drop (min n (length xs)) xs ≡ drop n xs
 drop_min zero xs = let on : min zero (length xs) ≡ zero = omega arith in ap (λ k. drop k xs) on
 drop_min (suc n) [] = let on : min (suc n) 0 ≡ zero = omega arith in ap (λ k. drop k []) on
@@ -51,7 +51,7 @@ drop_min (suc n) (x ∷ xs) =
     let on : min (suc n) (length (x ∷ xs)) ≡ suc (min n (length xs)) = omega arith in
     ap (λ k. drop k (x ∷ xs)) on ∙ drop_min n xs
 
--- so many pieces are enough
+-- n pieces are enough
 folded_rest-enough : (m n : ℕ) (text : List ℕ) → length text ≤ 74 * m → length text ≤ 74 * n → folded_rest m text ≡ folded_rest n text
 folded_rest-enough zero zero text hm hn = refl
 folded_rest-enough zero (suc n) [] hm hn = refl

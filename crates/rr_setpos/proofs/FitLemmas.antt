@@ -15,7 +15,7 @@ seconds_few Moments = omega arith
 pub same_within : (a b : ℕ) → a ≡ b → a ≤ b
 same_within a b is = omega arith
 
--- So many days of so many seconds each are few.
+-- This number of days of this number of seconds each is small.
 product_few : (days times seconds : ℕ) (kind : Kind) → days ≤ 366 → times ≤ seconds → seconds ≡ seconds_of kind → days * times ≤ 31622400
 product_few days times seconds kind few below is = mul-le days times 366 86400 few (omega (arith, seconds_few kind))
 

@@ -6,11 +6,11 @@ use Rattle.rr_model.specs.Rule.Chosen.{position_from_front, position_from_back}
 use Rattle.rr_model.specs.declared.kind.Kind.{Kind}
 use Rattle.rr_model.specs.declared.rule.Rule.{Rule}
 
--- a place, from the front from 1 on, or from the back as a negative number, is that of a rank among so many
+-- a place, from the front from 1 on, or from the back as a negative number, is that of a rank among n
 abbrev pub IsPlaceOf : ℤ → ℕ → ℕ → Type 0
 IsPlaceOf place size rank = (place ≡ pos (rank + 1)) ⊎ (place ≡ neg_ℤ (pos (size - rank)))
 
--- the rank of a place among so many, None where there is none
+-- the rank of a place among n, None where there is none
 abbrev pub IsRankOf : ℤ → ℕ → Option ℕ → Type 0
 IsRankOf place size None = (rank : ℕ) → rank < size → IsPlaceOf place size rank → ⊥
 IsRankOf place size (Some rank) = (rank < size) × IsPlaceOf place size rank

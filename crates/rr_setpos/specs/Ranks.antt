@@ -49,7 +49,7 @@ size_of_unit rule kind start t = count_from (is_candidate rule kind start) (unit
 abbrev pub begin_in_day : Rule → ℕ → ℕ
 begin_in_day rule second = second / unit_seconds rule.freq * unit_seconds rule.freq
 
--- of a unit of whole days a product: so many days before, each with all its times, and the times before on its own day
+-- of a unit of whole days a product: the days before, each with all its times, and the times before on its own day
 abbrev pub rank_by_parts : Rule → Kind → ℤ → ℤ → ℕ
 rank_by_parts rule kind start t =
     if is_whole_days rule.freq
@@ -65,7 +65,7 @@ size_by_parts rule kind start t =
     else times_before rule kind start (begin_in_day rule (second_part kind t) + unit_seconds rule.freq) - times_before rule kind start
     (begin_in_day rule (second_part kind t))
 
--- the second place of so many, the rank among them, is listed from the front or from the back
+-- the second place of n, the rank among them, is listed from the front or from the back
 abbrev pub is_rank_listed : Rule → ℕ → ℕ → Bool
 is_rank_listed rule rank size = is_absent rule.by_set_pos || lists rule.by_set_pos (pos (rank + 1)) || lists rule.by_set_pos (neg_ℤ (pos (size - rank)))
 

@@ -8,7 +8,7 @@ use crate::dates::date_parts_hold;
 use rr_cal::{Day, days_in_unit, first_day_of_unit, unit_of_day};
 use rr_model::Rule;
 
-// How many of so many days from the first on the date parts allow.
+// How many of `count` days from the first on the date parts allow.
 pub(crate) fn days_among(rule: &Rule, start: &Day, first: i64, count: u16) -> u32
     requires first { IsDayWithin 1000 first }
     requires last { IsDayWithin 1000 (first +ℤ pos count) }

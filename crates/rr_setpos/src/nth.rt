@@ -91,7 +91,7 @@ fn nth_of_seconds(rule: &Rule, start: &Moment, unit: i64, place: i64) -> Option<
     }
 }
 
-/// The rank, from 0, of a place among so many: a place from 1 from the front, or negative from the back; none exactly
+/// The rank, from 0, of a place among `size`: a place from 1 from the front, or negative from the back; none exactly
 /// where there is none (RFC 5545, section 3.3.10, BYSETPOS).
 pub fn rank_of(place: i64, size: u32) -> Option<u32>
     requires { place ≡ pos 0 → ⊥ }

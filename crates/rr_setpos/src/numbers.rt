@@ -26,7 +26,7 @@ pub fn allows(numbers: &Numbers, n: i16) -> bool
     numbers.is_empty() || lists(numbers, n)
 }
 
-// Whether the part is absent, or lists the k-th of so many, from the front or from the back.
+// Whether the part is absent, or lists the k-th of `many`, from the front or from the back.
 pub(crate) fn allows_place(numbers: &Numbers, k: u16, many: u16) -> bool
     requires place { k ≤ 366 }
     requires most { many ≤ 366 }
@@ -35,7 +35,7 @@ pub(crate) fn allows_place(numbers: &Numbers, k: u16, many: u16) -> bool
     numbers.is_empty() || lists(numbers, k as i16) || lists(numbers, place_from_back(k, many))
 }
 
-// The place of the k-th of so many, from the back as a negative number.
+// The place of the k-th of `many`, from the back as a negative number.
 fn place_from_back(k: u16, many: u16) -> i16
     requires place { k ≤ 366 }
     requires most { many ≤ 366 }

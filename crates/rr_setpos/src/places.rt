@@ -37,7 +37,7 @@ pub fn is_in_place(place: i8, in_year: bool, day: &Day) -> bool
     }
 }
 
-// Whether the k-th day of so many has this place among the days of its weekday there.
+// Whether the k-th day of `many` has this place among the days of its weekday there.
 fn is_weekday_place(place: i8, k: u16, many: u16) -> bool
     requires first { 1 ≤ k }
     requires within { k ≤ many }

@@ -57,7 +57,7 @@ fn rank_in_unit(rule: &Rule, start: &Moment, moment: &Moment) -> Standing
     }
 }
 
-// The place in a unit of whole days: so many days before, each with all times, and the times before on its own day.
+// The place in a unit of whole days: the days before, each with all times, and the times before on its own day.
 fn rank_by_days(rule: &Rule, start: &Moment, moment: &Moment) -> Standing
     requires kind { start.now.kind ≡ moment.now.kind }
     requires freq { IsTrue (is_whole_days rule.now.freq) }
@@ -75,7 +75,7 @@ fn rank_by_days(rule: &Rule, start: &Moment, moment: &Moment) -> Standing
     }
 }
 
-// The place in a unit of so many seconds, which lies in one day.
+// The place in a unit of seconds, which lies in one day.
 fn rank_in_day(rule: &Rule, start: &Moment, moment: &Moment, seconds: u32) -> Standing
     requires kind { start.now.kind ≡ moment.now.kind }
     requires moments { moment.now.kind ≡ Moments }

@@ -72,7 +72,7 @@ impl SetTable {
         &self.sets[number]
     }
 
-    /// The number of the first seconds, so many, of a set; of the set itself where it has no more.
+    /// The number of the first `count` seconds of a set; of the set itself where it has no more.
     pub fn prefix(&mut self, alloc: Global, number: usize, count: usize) -> Result<usize, NoMemory>
         requires { number < length self.old }
         ensures placed { IfOk result (λ n. slice_get self.new n ≡ Some (take count (get_or self.old number []))) }

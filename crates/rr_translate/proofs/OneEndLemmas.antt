@@ -97,7 +97,7 @@ module _ (rule : Rule) (kind : Kind) (start : ℤ) where
         ))
       ] refl
 
-  -- so many are members up to a moment, whatever the end
+  -- n are members up to a moment, whatever the end
   same_count : (end : End) (t : ℤ) → members_to (record rule { end = end }) kind start t ≡ members_to rule kind start t
   same_count end t = rw (same_choice end) refl
 

@@ -54,7 +54,7 @@ module _ (rule : Rule) (kind : Kind) (start at : ℤ) (in_years : IsInYears kind
       omega (arith, day, rest, whole, up, all)
 
   module _ (number : ℕ) where
-    -- the number lies on a day up to its own: so many members lie up to it
+    -- the number lies on a day up to its own: that many members lie up to it
     pub is_placed : (day : ℤ) → IsPlaceOf tree number (day_part kind at) (On day) → true ≡ nat_le number (members_to rule kind start at)
     is_placed day p =
         let grown = before_grows (λ d s. stands_at tree d s) (day +ℤ pos 1) (day_part kind at +ℤ pos 1)

@@ -10,7 +10,7 @@ use rr_iter::{Place, RuleLazy, Upto, place_of};
 use rr_model::{End, Kind, NoMemory, Rule, Rules, Series, day_part};
 use std::alloc::Global;
 
-// Whether a rule chooses so many moments, at least one, from its start up to a moment of its kind.
+// Whether a rule chooses `count` moments, at least one, from its start up to a moment of its kind.
 fn has_members_to(
     alloc: Global,
     rule: &Rule,

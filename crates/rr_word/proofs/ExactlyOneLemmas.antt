@@ -31,7 +31,7 @@ same_or_not xs ys =
     ] refl
 
 module _ (f : ℤ → List ℕ) (q : ℤ) where
-  -- the first n days have what the days so many later have
+  -- the first n days have what the days m later have
   SameFor : ℕ → ℕ → Type 0
   SameFor r n = (d : ℤ) → q ≤ℤ d → d <ℤ (q +ℤ pos n) → f (d +ℤ pos r) ≡ f d
 

@@ -12,7 +12,7 @@ use Rattle.rr_model.specs.Sets.Least.{HasPeriodFrom, IsEventualPeriod, IsLeastSt
 use Rattle.rr_word.proofs.PeriodLemmas.{repeats_from_start}
 use Rattle.rr_word.proofs.OneLeastLemmas.{one_first}
 
--- so many days from a day on have the seconds of the day so many later
+-- m days from a day on have the seconds of the day n later
 abbrev pub SameAfter : Sketch → ℤ → ℕ → ℕ → Type 0
 SameAfter s q n days = (d : ℤ) → q ≤ℤ d → d <ℤ (q +ℤ pos n) → times_on s (d +ℤ pos days) ≡ times_on s d
 

@@ -6,7 +6,7 @@ use Rattle.std.proofs.lemmas.Nat.{mod_below, div-add-mod'}
 use Rattle.std.proofs.lemmas.Nat.Gcd.{mod-eq-zero_of_dvd}
 use Rattle.rr_model.specs.Whole.Periodic.{RepeatsFrom}
 
--- so many periods later
+-- n periods later
 pub turns : {X : Type 0} (f : ℤ → X) (q : ℤ) (p : ℕ) → RepeatsFrom f q p → (k : ℕ) (d : ℤ) → q ≤ℤ d → f (d +ℤ pos (k * p)) ≡ f d
 turns f q p h zero d l = let e : d +ℤ pos (0 * p) ≡ d = omega (arith, ints) in ap f e
 turns f q p h (suc k) d l =

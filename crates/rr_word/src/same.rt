@@ -16,9 +16,9 @@ pub fn same_on<A: DaySeq>(seq: &A, day: i64, other: i64) -> bool
     seq.at(day) == seq.at(other)
 }
 
-/// Whether the sequence repeats after so many days from its settled day on.
+/// Whether the sequence repeats after `days` days from its settled day on.
 ///
-/// The days of one period that it has from there are compared, each with the day so many later.
+/// The days of one period that it has from there are compared, each with the day `days` later.
 pub fn repeats_after<A: DaySeq>(seq: &A, period: u64, days: u64) -> bool
     requires period { HasPeriodFrom (times_on (A.sketch seq.now)) (A.sketch seq.now).settled period }
     requires few { period ≤ 1_000_000_000 }

@@ -24,7 +24,7 @@ lists numbers n = list_any (λ x. int_eq x n) numbers
 abbrev pub allows : List ℤ → ℤ → Bool
 allows numbers n = is_absent numbers || lists numbers n
 
--- the part is absent, or lists the k-th of so many, from the front or from the back
+-- the part is absent, or lists the k-th of n, from the front or from the back
 abbrev pub allows_place : List ℤ → ℤ → ℤ → Bool
 allows_place numbers k many = is_absent numbers || lists numbers k || lists numbers ((k -ℤ many) -ℤ pos 1)
 
@@ -38,7 +38,7 @@ has_weekday_of d e = weekday_of e == weekday_of d
 abbrev pub rank_from_front : ℤ → ℕ → ℕ
 rank_from_front d k = count_from (has_weekday_of d) ((d -ℤ pos k) +ℤ pos 1) k
 
--- the same from the back, where the month or the year has so many days
+-- the same from the back, where the month or the year has n days
 abbrev pub rank_from_back : ℤ → ℕ → ℕ → ℕ
 rank_from_back d k many = count_from (has_weekday_of d) d ((many + 1) - k)
 

@@ -7,7 +7,7 @@ use Rattle.rr_model.specs.declared.kind.Kind.{Kind}
 use Rattle.rr_model.specs.declared.kind.Kind.TheVariants.{Days, Moments}
 use Rattle.rr_model.specs.declared.rule.Rule.{Rule}
 
--- so many days, in the numbers of the kind
+-- n days, in the numbers of the kind
 abbrev pub days_in : Kind → ℤ → ℤ
 days_in Days days = days
 days_in Moments days = days *ℤ pos 86_400

@@ -30,7 +30,7 @@ first_stretch s [] = single s
 first_stretch s (x ∷ []) = single s
 first_stretch s (x ∷ y ∷ ys) = stretch_or_single s (x - s) (row_after s (x - s) (x ∷ y ∷ ys) + 1)
 
--- its items, for at most so many steps
+-- its items, for at most n steps
 unfoldable pub stretches_within : ℕ → List ℕ → List Stretch
 stretches_within zero xs = []
 stretches_within (suc steps) [] = []
@@ -42,7 +42,7 @@ stretches xs = stretches_within (length xs) xs
 
 -- ---- what a stretch says
 
--- so many seconds from one on, each a step above the one before it
+-- n seconds from one on, each a step above the one before it
 abbrev pub seconds_from : ℕ → ℕ → ℕ → List ℕ
 seconds_from start step zero = []
 seconds_from start step (suc count) = start ∷ seconds_from (start + step) step count

@@ -61,7 +61,7 @@ abbrev mutual
 abbrev pub stands_in : Tree → Kind → ℤ → Bool
 stands_in tree kind t = stands_at tree (day_part kind t) (second_part kind t)
 
--- from a day on, each day has the seconds of the day so many days later
+-- from a day on, each day has the seconds of the day n days later
 abbrev pub RepeatsAfter : Tree → ℤ → ℕ → Type 0
 RepeatsAfter tree from days = (d : ℤ) (s : ℕ) → from ≤ℤ d → stands_at tree (d +ℤ pos days) s ≡ stands_at tree d s
 

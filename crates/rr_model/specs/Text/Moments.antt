@@ -10,11 +10,11 @@ use Rattle.rr_model.specs.declared.kind.Kind.{Kind}
 use Rattle.rr_model.specs.declared.kind.Kind.TheVariants.{Days, Moments}
 use Rattle.rr_model.specs.declared.stamp.Stamp.{Stamp}
 
--- the text is so many digits
+-- the text is n digits
 unfoldable pub is_digits : ℕ → List ℕ → Bool
 is_digits count text = (length text == count) && list_all is_digit text
 
--- the number that so many digits write, from a place on
+-- the number that n digits write, from a place on
 unfoldable pub number_at : ℕ → ℕ → List ℕ → ℕ
 number_at start count text = digits_value (take count (drop start text))
 

@@ -81,7 +81,7 @@ first_pass language pass lines = in_turn (λ p line. judged_line language line.n
 
 -- ---- the second pass
 
--- a moment of UTC as local time, which is so many seconds later
+-- a moment of UTC as local time, which is n seconds later
 abbrev pub turned : ℕ → Option ℤ → ℤ → Result ℤ Refusal
 turned line None at = Err UtcMoment
 turned line (Some offset) at = if is_in_years Moments (at +ℤ offset) then Ok (at +ℤ offset) else Err (BadMoment line)

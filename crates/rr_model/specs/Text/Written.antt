@@ -40,7 +40,7 @@ basic_text Moments t = basic_date_text (day_part Moments t) ++ codes "T" ++ basi
 abbrev pub line_break : List ℕ
 line_break = codes "\r\n"
 
--- so many pieces of 74 bytes, each on a line that begins with a blank, as long as bytes are left
+-- n pieces of 74 bytes, each on a line that begins with a blank, as long as bytes are left
 abbrev pub folded_rest : ℕ → List ℕ → List ℕ
 folded_rest zero text = []
 folded_rest (suc n) text = if is_absent text then [] else line_break ++ 32 ∷ (take 74 text ++ folded_rest n (drop 74 text))

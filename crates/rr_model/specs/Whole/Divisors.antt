@@ -3,7 +3,7 @@ use Rattle.std.specs.Prelude.{ℕ, zero, suc, ◌<◌, ◌≤◌, ◌*◌, ◌/�
 use Prim.Native.Nat.{◌∣◌}
 use Rattle.std.specs.Int.{IsGcd}
 
--- Euclid's division: the remainder divides on, for at most so many steps
+-- Euclid's division: the remainder divides on, for at most n steps
 unfoldable pub gcd_within : ℕ → ℕ → ℕ → ℕ
 gcd_within zero a b = a
 gcd_within (suc steps) a b = if b == 0 then a else gcd_within steps b (a % b)

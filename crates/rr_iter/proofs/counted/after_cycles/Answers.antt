@@ -11,7 +11,7 @@ use Rattle.rr_iter.proofs.CountedLemmas.{rule_number_moved, rule_number_beyond, 
 use Rattle.rr_iter.proofs.CountedLemmas.{days_beyond}
 use Rattle.rr_iter.proofs.counted.after_cycles.Goals as goal
 
--- so many cycles that a span has them; the start's day is `r`
+-- n cycles, so that a span has them; the start's day is `r`
 module _ (kind : Kind) (start : ℤ) (rule : Rule) (sound : IsSoundRule kind start rule) (k : ℕ) (few : k ≤ 16_777_216 / rule_cycle rule)
     (r : ℤ) (e : r ≡ day_part kind start) where
   -- the days of these cycles
@@ -45,7 +45,7 @@ module _ (kind : Kind) (start : ℤ) (rule : Rule) (sound : IsSoundRule kind sta
       let b = start_bounds kind start rule sound in
       rw (days_is, first_is, rest_is) (omega (arith, ints, b.0, b.1, within))
 
-  -- a day up to it, so many days later
+  -- a day up to it, n days later
   module _ (day : ℤ) (begun : IsFromYearOne day) (early : day ≤ℤ (day_part kind start +ℤ (pos 16_777_216 -ℤ pos days))) where
     day_is : to_z w64 (of_z w64 day) ≡ day
     day_is = let b = start_bounds kind start rule sound in omega (arith, ints, begun, year_1, early, b.1, within)
