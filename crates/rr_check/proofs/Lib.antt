@@ -6,6 +6,6 @@ pub mod RepetitionLemmas
 pub mod RuleCycleLemmas
 pub mod SeriesCycleLemmas
 pub mod ShiftLemmas
-mod SoundnessLemmas
+pub mod SoundnessLemmas
 pub mod UnitLemmas
 pub mod WeekShiftLemmas

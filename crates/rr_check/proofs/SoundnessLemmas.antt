@@ -27,7 +27,7 @@ until_fits Moments Moments start at e = (refl, not_before start at (int_lt at st
 until_fits Days Moments start at e = absurd (cc)
 until_fits Moments Days start at e = absurd (cc)
 
-end_fits : (kind : Kind) (start : ℤ) (end : End) → end_refusal kind start end ≡ None → EndsNotBefore kind start end
+pub end_fits : (kind : Kind) (start : ℤ) (end : End) → end_refusal kind start end ≡ None → EndsNotBefore kind start end
 end_fits kind start Never e = tt
 end_fits kind start (Until other at) e = until_fits kind other start at e
 end_fits kind start (Count count) e = tt

@@ -8,4 +8,5 @@ mod soundness;
 mod tests;
 
 pub use cycle::{admit, chosen_repeats};
+pub use refusals::end_refusal;
 pub use soundness::{Checked, check};

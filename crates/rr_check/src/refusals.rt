@@ -62,8 +62,9 @@ fn rule_refusal(number: u32, kind: Kind, start: i64, rule: &Rule) -> Option<Refu
     }
 }
 
-// The refusal of the end of a rule.
-pub(crate) fn end_refusal(kind: Kind, start: i64, end: End) -> Option<Refusal>
+/// The refusal of the end of a rule beside a start: of its UNTIL `UntilKind` where it is of another kind than the start, and
+/// else `UntilBeforeStart` where it is earlier.
+pub fn end_refusal(kind: Kind, start: i64, end: End) -> Option<Refusal>
     ensures { result ≡ end_refusal kind start end }
 {
     match end {

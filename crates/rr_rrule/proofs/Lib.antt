@@ -21,5 +21,5 @@ mod FoldedLemmas
 pub mod PushLemmas
 mod WrittenPartLemmas
 mod WrittenRuleLemmas
-mod WrittenPassLemmas
+pub mod WrittenPassLemmas
 pub mod WrittenSeriesLemmas

@@ -44,7 +44,8 @@ use Rattle.rr_rrule.proofs.WrittenRuleLemmas.{until_of, stated_rule-written}
 
 -- ---- lines in turn
 
-in_turn-append : {X Y : Type 0} (step : X → Y → Result X Refusal) (x : X) (ys zs : List Y)
+-- first some things, then others
+pub in_turn-append : {X Y : Type 0} (step : X → Y → Result X Refusal) (x : X) (ys zs : List Y)
     → in_turn step x (ys ++ zs) ≡ (in_turn step x ys >>= λ next. in_turn step next zs)
 in_turn-append step x [] zs = refl
 in_turn-append step x (y ∷ ys) zs = by (step x y) (λ next. in_turn-append step next ys zs)

@@ -36,5 +36,5 @@ pub use rule::{end_of, rule_with};
 pub use second::{Setting, date_beside};
 pub use stated::end_beside;
 pub use values::{line_value, split_once};
-pub use words::{part_named, weekday_named};
+pub use words::{is_word, part_named, weekday_named};
 pub use write_series::write;
