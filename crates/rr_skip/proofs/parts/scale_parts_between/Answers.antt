@@ -1,0 +1,33 @@
+use Rattle.std.proofs.Common.{rules, tests, ◌==◌, length, arith}
+use Rattle.std.proofs.lemmas.Iterator.Consumers.{YieldsList-turn, YieldsList-end}
+use Rattle.std.proofs.lemmas.Iterator.Splits.{YieldsList-from_slice_split}
+use Rattle.std.proofs.lemmas.List.{length_push}
+use Rattle.std.proofs.lemmas.Result.{err_from_is_err_and}
+use Rattle.rr_model.specs.Text.RuleValues.{pieces}
+use Rattle.rr_model.proofs.TurnLemmas.{goes_on, ends, done}
+use Rattle.rr_skip.specs.Parts.{with_scale_part}
+use Rattle.rr_skip.proofs.parts.scale_parts_between.Goals as goal
+
+pub returns-in_err-parts : goal.returns-in_err-parts
+returns-in_err-parts c =
+    let turn = YieldsList-turn
+    (YieldsList-from_slice_split _ (λ b. b == 59) c.args.text.now (cc) (cc) (cc)
+    (λ x b q k. search (rules, tests))) c.loop-piece.yielded _ c.loop-piece.yielded_by _ _ c.in-Some.piece c.in-Some.is c.next.ensures.steps in
+    let p = err_from_is_err_and c.from_residual.result c.from_residual.ensures.1 in
+    rw (p.1, p.2) (ends (with_scale_part c.args.line) (pieces 59 c.args.text.now) c.loop-piece.parts
+    (length c.loop-piece.yielded) c.in-Some.piece.now c.in_err-parts.field-0.0 _ turn c.in_err-parts.ensures c.loop-piece.invariant)
+
+pub loop-piece-preserved : goal.loop-piece-preserved
+loop-piece-preserved c =
+    let turn = YieldsList-turn
+    (YieldsList-from_slice_split _ (λ b. b == 59) c.args.text.now (cc) (cc) (cc)
+    (λ x b q k. search (rules, tests))) c.loop-piece.yielded _ c.loop-piece.yielded_by _ _ c.in-Some.piece c.in-Some.is c.next.ensures.steps in
+    goes_on (with_scale_part c.args.line) (pieces 59 c.args.text.now) c.loop-piece.parts _ (length c.loop-piece.yielded) _ c.in-Some.piece.now _ turn
+    (length_push c.loop-piece.yielded c.in-Some.piece) c.in_ok-parts.ensures c.loop-piece.invariant
+
+pub returns : goal.returns
+returns c =
+    let end = YieldsList-end
+    (YieldsList-from_slice_split _ (λ b. b == 59) c.args.text.now (cc) (cc) (cc)
+    (λ x b q k. search (rules, tests))) c.loop-piece.yielded _ c.loop-piece.yielded_by _ _ c.in-None.is c.next.ensures.steps in
+    done (with_scale_part c.args.line) (pieces 59 c.args.text.now) c.loop-piece.parts (length c.loop-piece.yielded) _ (omega (arith, end.1)) c.loop-piece.invariant

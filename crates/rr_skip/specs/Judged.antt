@@ -1,0 +1,36 @@
+-- What is answered of a series whose rule says what becomes of a day which a month lacks: the first refusal by a limit, or its days.
+use Rattle.std.specs.Prelude.{◌≡◌, ◌<◌, ⊤, Option, None, Some, Result, Ok, Err}
+use Rattle.rr_model.specs.Series.FirstRefusal.{IsRefusalWhere}
+use Rattle.rr_model.specs.Sets.Sketch.{StandsFor}
+use Rattle.rr_model.specs.declared.limits.TheConstants.{MAX_CYCLE_DAYS}
+use Rattle.rr_model.specs.declared.refusal.Fault.{Fault}
+use Rattle.rr_model.specs.declared.refusal.Fault.TheVariants.{Refused, NoMemory}
+use Rattle.rr_model.specs.declared.refusal.Refusal.{Refusal}
+use Rattle.rr_model.specs.declared.refusal.Refusal.TheVariants.{CycleTooLong, CountedTooFar}
+use Rattle.rr_model.specs.declared.sketch.Sketch.{Sketch}
+use Rattle.rr_skip.specs.Members.{OccursSkipping, skip_cycle, IsSkippedTooFar}
+use Rattle.rr_skip.specs.declared.series.SkipSeries.{SkipSeries}
+
+-- the refusal by the limits, or None: the cycle first, then counts
+abbrev pub IsSkipLimitRefusal : SkipSeries → Option Refusal → Type 0
+IsSkipLimitRefusal series =
+    IsRefusalWhere (MAX_CYCLE_DAYS < skip_cycle series) CycleTooLong (IsRefusalWhere (IsSkippedTooFar series) CountedTooFar (λ x. x ≡ None))
+
+-- days that stand for the occurrences of the series, with its cycle
+pub record StandsForSeries (series : SkipSeries) (sketch : Sketch) : Type 0 where
+  pub stands : StandsFor sketch (OccursSkipping series)
+  pub kind : sketch.kind ≡ series.kind
+  pub period : sketch.period ≡ skip_cycle series
+
+-- the days where no limit refuses the series; the first limit that does; or out of memory
+abbrev pub IsFoldedSeries : {A : Type 0} → (A → Sketch) → SkipSeries → Result A Fault → Type 0
+IsFoldedSeries sketch series (Ok days) = StandsForSeries series (sketch days) × IsSkipLimitRefusal series None
+IsFoldedSeries sketch series (Err (Refused refusal)) = IsSkipLimitRefusal series (Some refusal)
+IsFoldedSeries sketch series (Err NoMemory) = ⊤
+
+-- the same of what is read, or the refusal of the reading
+abbrev pub IsFoldedText : {A : Type 0} → (A → Sketch) → Result SkipSeries Refusal → Result A Fault → Type 0
+IsFoldedText sketch (Ok series) answer = IsFoldedSeries sketch series answer
+IsFoldedText sketch (Err refusal) (Ok days) = ⊥
+IsFoldedText sketch (Err refusal) (Err (Refused other)) = other ≡ refusal
+IsFoldedText sketch (Err refusal) (Err NoMemory) = ⊤

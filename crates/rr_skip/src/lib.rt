@@ -1,0 +1,23 @@
+//! Calendar texts whose rule says what becomes of a day that a month lacks: RSCALE and SKIP (RFC 7529, section 4).
+#![tactic(auto)]
+
+mod admit;
+mod calendar;
+mod fold;
+mod judged;
+mod laws;
+mod months;
+mod parts;
+mod passes;
+mod schedule;
+mod series;
+#[cfg(test)]
+mod tests;
+mod turn;
+mod walk;
+
+pub use calendar::read;
+pub use fold::fold_skip;
+pub use judged::{fold_admitted, fold_text};
+pub use laws::{chosen_is_given, omitting_is_plain, omitting_text_is_plain, skip_chosen_repeats};
+pub use series::{Skip, SkipRule, SkipSeries};

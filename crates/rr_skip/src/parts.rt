@@ -1,0 +1,277 @@
+// The parts of a rule that may have RSCALE and SKIP, one after the other (RFC 7529, section 4).
+ghost use Rattle.std.specs.Prelude.{◌≡◌, ◌≤ℤ◌, [], int_lt, IfOk, neg_ℤ, pos};
+ghost use Rattle.std.specs.List.{list_all};
+ghost use Rattle.rr_model.specs.Answers.{Answers};
+ghost use Rattle.rr_model.specs.Text.RuleValues.{pieces, placed};
+ghost use Rattle.rr_model.specs.Text.Steps.{in_turn};
+ghost use Rattle.rr_model.specs.Text.UsedLines.{is_name_byte};
+ghost use Rattle.rr_skip.specs.Parts.{front_day, front_days, has_scale_part, is_scale_name, is_taken, no_scale_parts, scale_part_named};
+ghost use Rattle.rr_skip.specs.Parts.{scale_parts, scale_parts_of, skip_named, with_scale, with_scale_part, with_scale_value, with_taken_value};
+
+use crate::Skip;
+use rr_model::{Fault, NumberBounds, Numbers, PartName, Refusal, RuleParts};
+use rr_rrule::{
+    have_number_form, is_present, is_word, line_value, no_parts, number_within, part_named,
+    split_once, with_part_value, without_last_semicolon,
+};
+use std::alloc::Global;
+
+/// The name of a part of such a rule.
+#[derive(Clone, Copy, Debug, PartialEq, Eq)]
+pub enum ScalePart {
+    /// RSCALE, the calendar.
+    Scale,
+    /// SKIP, what becomes of a day that a month lacks.
+    Skipping,
+    /// A part of RFC 5545.
+    Of(PartName),
+}
+
+/// The parts of such a rule as far as they are read.
+#[derive(Drop)]
+pub struct ScaledParts {
+    /// Whether RSCALE is present.
+    pub has_scale: bool,
+    /// SKIP.
+    pub skip: Option<Skip>,
+    /// The parts of RFC 5545.
+    pub parts: RuleParts,
+}
+
+// Whether the part is read beside RSCALE.
+fn is_taken(name: PartName) -> bool
+    ensures { result ≡ is_taken name }
+{
+    matches!(
+        name,
+        PartName::Freq
+            | PartName::Until
+            | PartName::Count
+            | PartName::Interval
+            | PartName::WeekStart
+            | PartName::ByMonthDay
+            | PartName::ByMonth
+    )
+}
+
+// The part of a name, on this line.
+#[tactic(auto, unfolding(crate::specs::Parts::scale_part_named))]
+fn scale_part_named(line: u64, name: &[u8]) -> Result<ScalePart, Refusal>
+    ensures { result ≡ scale_part_named line name.now }
+{
+    if is_word(name, b"RSCALE") {
+        return Ok(ScalePart::Scale);
+    }
+    if is_word(name, b"SKIP") {
+        return Ok(ScalePart::Skipping);
+    }
+    let part = part_named(name).ok_or(Refusal::BadRule(line))?;
+    if is_taken(part) {
+        Ok(ScalePart::Of(part))
+    } else {
+        Err(Refusal::Extended)
+    }
+}
+
+// Whether the part is present.
+fn has_scale_part(parts: &ScaledParts, name: ScalePart) -> bool
+    ensures { result ≡ has_scale_part parts.now name }
+{
+    match name {
+        ScalePart::Scale => parts.has_scale,
+        ScalePart::Skipping => parts.skip.is_some(),
+        ScalePart::Of(name) => is_present(&parts.parts, name),
+    }
+}
+
+fn are_name_bytes(text: &[u8]) -> bool
+    ensures { result ≡ list_all is_name_byte text.now }
+{
+    text.iter().all(|b| b.is_ascii_alphanumeric() || *b == b'-')
+}
+
+fn is_scale_name(text: &[u8]) -> bool
+    ensures { result ≡ is_scale_name text.now }
+{
+    !text.is_empty() && are_name_bytes(text)
+}
+
+// The parts with RSCALE, whose value is judged.
+#[tactic(auto, unfolding(crate::specs::Parts::with_scale))]
+fn with_scale(line: u64, parts: ScaledParts, text: &[u8]) -> Result<ScaledParts, Refusal>
+    ensures { result ≡ with_scale line parts text.now }
+{
+    if !is_scale_name(text) {
+        return Err(Refusal::BadRule(line));
+    }
+    if !is_word(text, b"GREGORIAN") {
+        return Err(Refusal::Extended);
+    }
+    Ok(ScaledParts {
+        has_scale: true,
+        ..parts
+    })
+}
+
+#[tactic(auto, unfolding(crate::specs::Parts::skip_named))]
+fn skip_named(text: &[u8]) -> Option<Skip>
+    ensures { result ≡ skip_named text.now }
+{
+    if is_word(text, b"OMIT") {
+        Some(Skip::Omit)
+    } else if is_word(text, b"BACKWARD") {
+        Some(Skip::Backward)
+    } else if is_word(text, b"FORWARD") {
+        Some(Skip::Forward)
+    } else {
+        None
+    }
+}
+
+// A day of the month from the front.
+fn front_day(line: u64, text: &[u8]) -> Result<i16, Refusal>
+    ensures value { result ≡ front_day line text.now }
+    ensures range { IfOk result (λ n. (neg_ℤ (pos 31) ≤ℤ n) × (n ≤ℤ pos 31)) }
+{
+    let day = number_within(line, NumberBounds::signed(31), text)?;
+    if day < 0 {
+        Err(Refusal::Extended)
+    } else {
+        Ok(day)
+    }
+}
+
+fn front_days_placed(alloc: Global, line: u64, text: &[u8]) -> Result<Numbers, Fault>
+    ensures { Answers (placed int_lt (front_day line) [] (pieces 44 text.now)) result }
+{
+    let mut days = Numbers::new(alloc);
+    for piece in text.split(|b| *b == b',') {
+        days.put(front_day(line, piece)?)?;
+    }
+    Ok(days)
+}
+
+// The days of BYMONTHDAY: first the form of all, then each.
+#[tactic(auto, unfolding(crate::specs::Parts::front_days))]
+fn front_days(alloc: Global, line: u64, text: &[u8]) -> Result<Numbers, Fault>
+    ensures { Answers (front_days line text.now) result }
+{
+    if have_number_form(NumberBounds::signed(31), text) {
+        front_days_placed(alloc, line, text)
+    } else {
+        Err(Fault::Refused(Refusal::BadRule(line)))
+    }
+}
+
+// The parts of RFC 5545 with the value of one more.
+fn with_taken_value(
+    alloc: Global,
+    line: u64,
+    parts: RuleParts,
+    name: PartName,
+    text: &[u8],
+) -> Result<RuleParts, Fault>
+    ensures { Answers (with_taken_value line parts name text.now) result }
+{
+    match name {
+        PartName::ByMonthDay => {
+            let mut parts = parts;
+            parts.by_month_day = front_days(alloc, line, text)?;
+            Ok(parts)
+        }
+        name => with_part_value(alloc, line, parts, name, text),
+    }
+}
+
+// The parts with SKIP.
+fn with_skip(line: u64, parts: ScaledParts, text: &[u8]) -> Result<ScaledParts, Refusal>
+    ensures { result ≡ with_scale_value line parts ScalePart.Skipping text.now }
+{
+    let skip = skip_named(text).ok_or(Refusal::BadRule(line))?;
+    Ok(ScaledParts {
+        skip: Some(skip),
+        ..parts
+    })
+}
+
+// The parts with the value of one more.
+fn with_scale_value(
+    alloc: Global,
+    line: u64,
+    parts: ScaledParts,
+    name: ScalePart,
+    text: &[u8],
+) -> Result<ScaledParts, Fault>
+    ensures { Answers (with_scale_value line parts name text.now) result }
+{
+    match name {
+        ScalePart::Scale => Ok(with_scale(line, parts, text)?),
+        ScalePart::Skipping => Ok(with_skip(line, parts, text)?),
+        ScalePart::Of(name) => {
+            let more = with_taken_value(alloc, line, parts.parts, name, text)?;
+            Ok(ScaledParts {
+                has_scale: parts.has_scale,
+                skip: parts.skip,
+                parts: more,
+            })
+        }
+    }
+}
+
+// The parts with one more, `NAME=value`.
+#[tactic(auto, unfolding(crate::specs::Parts::with_scale_part))]
+fn with_scale_part(
+    alloc: Global,
+    line: u64,
+    parts: ScaledParts,
+    text: &[u8],
+) -> Result<ScaledParts, Fault>
+    ensures { Answers (with_scale_part line parts text.now) result }
+{
+    let Some((name, value)) = split_once(text, b'=') else {
+        return Err(Fault::Refused(Refusal::BadRule(line)));
+    };
+    let name = scale_part_named(line, name)?;
+    if has_scale_part(&parts, name) {
+        return Err(Fault::Refused(Refusal::PartTwice(line)));
+    }
+    with_scale_value(alloc, line, parts, name, value)
+}
+
+fn no_scale_parts(alloc: Global) -> ScaledParts
+    ensures { result ≡ no_scale_parts }
+{
+    ScaledParts {
+        has_scale: false,
+        skip: None,
+        parts: no_parts(alloc),
+    }
+}
+
+// The parts of a text between semicolons.
+fn scale_parts_between(alloc: Global, line: u64, text: &[u8]) -> Result<ScaledParts, Fault>
+    ensures { Answers (in_turn (with_scale_part line) no_scale_parts (pieces 59 text.now)) result }
+{
+    let mut parts = no_scale_parts(alloc);
+    for piece in text.split(|b| *b == b';') {
+        parts = with_scale_part(alloc, line, parts, piece)?;
+    }
+    Ok(parts)
+}
+
+// The parts of a rule's value in capitals, judged one after the other.
+#[tactic(auto, unfolding(crate::specs::Parts::scale_parts_of))]
+fn scale_parts_of(alloc: Global, line: u64, text: &[u8]) -> Result<ScaledParts, Fault>
+    ensures { Answers (scale_parts_of line text.now) result }
+{
+    scale_parts_between(alloc, line, without_last_semicolon(text))
+}
+
+/// The parts that the value of a line states.
+#[tactic(auto, unfolding(crate::specs::Parts::scale_parts))]
+pub(crate) fn scale_parts(alloc: Global, line: u64, text: &[u8]) -> Result<ScaledParts, Fault>
+    ensures { Answers (scale_parts line text.now) result }
+{
+    let value = line_value(alloc, text)?;
+    scale_parts_of(alloc, line, &value)
+}
