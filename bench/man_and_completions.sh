@@ -51,6 +51,7 @@ for shell in bash fish; do
     expect $shell 'rr check rr' rrule: "$(in_$shell 'rr check rr')"
     expect $shell 'rr cl' clear "$(in_$shell 'rr cl')"
     expect $shell 'rr union rrule:a ca' canon: "$(in_$shell 'rr union rrule:a ca')"
+    expect $shell 'rr nth 3 rs' rscale: "$(in_$shell 'rr nth 3 rs')"
     expect $shell 'rr nth 3 ca' canon: "$(in_$shell 'rr nth 3 ca')"
     expect $shell 'rr clear 60 rrule:a 60 ca' canon: "$(in_$shell 'rr clear 60 rrule:a 60 ca')"
 done

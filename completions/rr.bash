@@ -21,10 +21,10 @@ _rr() {
         ;;
     esac
     case $current in
-    rrule:* | vcal:* | graph:* | list:* | canon:*) word=${current#*:} ;;
-    rrule@*:*:* | vcal@*:*:* | graph@*:*:* | list@*:*:* | canon@*:*:*) word=${current#*:*:} ;;
+    rrule:* | vcal:* | graph:* | list:* | canon:* | rscale:*) word=${current#*:} ;;
+    rrule@*:*:* | vcal@*:*:* | graph@*:*:* | list@*:*:* | canon@*:*:* | rscale@*:*:*) word=${current#*:*:} ;;
     *)
-        mapfile -t COMPREPLY < <(compgen -W 'rrule: vcal: graph: list: canon:' -- "$current")
+        mapfile -t COMPREPLY < <(compgen -W 'rrule: vcal: graph: list: canon: rscale:' -- "$current")
         compopt -o nospace 2>/dev/null
         return
         ;;

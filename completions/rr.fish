@@ -1,13 +1,13 @@
 # Completion of rr for fish: commands, languages, and file names after the colon.
 function __rr_operands
     set -l token (commandline -ct)
-    set -l parts (string match -r '^((?:rrule|vcal|graph|list|canon)(?:@[-+][0-9][0-9]:[0-9][0-9])?:)(.*)$' -- $token)
+    set -l parts (string match -r '^((?:rrule|vcal|graph|list|canon|rscale)(?:@[-+][0-9][0-9]:[0-9][0-9])?:)(.*)$' -- $token)
     if test (count $parts) -ge 2
         for name in (__fish_complete_path "$parts[3]")
             echo $parts[2]$name
         end
     else
-        printf '%s\n' rrule: vcal: graph: list: canon:
+        printf '%s\n' rrule: vcal: graph: list: canon: rscale:
     end
 end
 

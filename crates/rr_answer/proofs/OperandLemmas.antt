@@ -10,10 +10,10 @@ use Rattle.rr_model.specs.declared.refusal.Refusal.TheVariants.{TooLong}
 use Rattle.rr_model.specs.declared.rule.Series.{Series}
 use Rattle.rr_answer.specs.Command.{Operand}
 use Rattle.rr_answer.specs.OperandReading.{AnswersRead, IsDescriptorRead, IsStatedIn, IsSubjectRead}
-use Rattle.rr_answer.specs.Subjects.{Subject, as_subject, of_series, of_sketch}
+use Rattle.rr_answer.specs.Subjects.{Subject, as_subject, of_series, of_sketch, of_skipping}
 use Rattle.rr_model.specs.Text.Lines.{without_mark}
 use Rattle.rr_answer.specs.declared.command.Language.{Language}
-use Rattle.rr_answer.specs.declared.command.Language.TheVariants.{Rrule, Vcal, Graph, List as list, Canon}
+use Rattle.rr_answer.specs.declared.command.Language.TheVariants.{Rrule, Vcal, Graph, List as list, Canon, Rscale}
 use Rattle.rr_answer.proofs.DescriptorLemmas.{descriptor_is_one}
 
 -- ---- there is one reading
@@ -24,10 +24,13 @@ IsOne reads = (x y : Result Subject Refusal) → reads x → reads y → x ≡ y
 descriptor_read_is_one : (text : List ℕ) → IsOne (IsDescriptorRead text)
 descriptor_read_is_one text (Ok (of_sketch s)) (Ok (of_sketch u)) p q = ap (λ z. Ok (of_sketch z)) (descriptor_is_one text s u p q)
 descriptor_read_is_one text (Ok (of_sketch s)) (Ok (of_series u)) p q = absurd q
+descriptor_read_is_one text (Ok (of_sketch s)) (Ok (of_skipping u)) p q = absurd q
 descriptor_read_is_one text (Ok (of_series s)) y p q = absurd p
+descriptor_read_is_one text (Ok (of_skipping s)) y p q = absurd p
 descriptor_read_is_one text (Ok (of_sketch s)) (Err refusal) p q = absurd (q.1 s p)
 descriptor_read_is_one text (Err refusal) (Ok (of_sketch u)) p q = absurd (p.1 u q)
 descriptor_read_is_one text (Err refusal) (Ok (of_series u)) p q = absurd q
+descriptor_read_is_one text (Err refusal) (Ok (of_skipping u)) p q = absurd q
 descriptor_read_is_one text (Err refusal) (Err other) p q = ap Err (p.0 ∙ sym q.0)
 
 stated_is_one : (language : Language) (offset : Option ℤ) (bytes : List ℕ) → IsOne (IsStatedIn language offset bytes)
@@ -36,6 +39,7 @@ stated_is_one list offset bytes x y p q = p ∙ sym q
 stated_is_one Vcal offset bytes x y p q = p ∙ sym q
 stated_is_one Graph offset bytes x y p q = p ∙ sym q
 stated_is_one Canon offset bytes x y p q = descriptor_read_is_one (without_mark bytes) x y p q
+stated_is_one Rscale offset bytes x y p q = p ∙ sym q
 
 pub subject_read_is_one : (operand : Operand) (bytes : List ℕ) → IsOne (IsSubjectRead operand bytes)
 unfolding IsSubjectRead

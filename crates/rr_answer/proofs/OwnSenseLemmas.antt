@@ -24,14 +24,17 @@ use Rattle.rr_vcal.proofs.OccurrenceLemmas.{counterpart_has_occurrences as vcal_
 use Rattle.rr_vcal.proofs.ValidReadLemmas.{answer-valid}
 use Rattle.rr_answer.specs.OperandReading.{IsDescriptorRead, IsStatedIn, IsSubjectRead}
 use Rattle.rr_answer.specs.OwnSense.{OccursAsStated, OwnSense}
-use Rattle.rr_answer.specs.Subjects.{OccursIn, Subject, as_subject, of_series, of_sketch}
+use Rattle.rr_answer.specs.Subjects.{OccursIn, Subject, as_skipping, as_subject, of_series, of_sketch, of_skipping}
 use Rattle.rr_answer.specs.declared.command.Language.{Language}
-use Rattle.rr_answer.specs.declared.command.Language.TheVariants.{Rrule, Vcal, Graph, List as list, Canon}
+use Rattle.rr_answer.specs.declared.command.Language.TheVariants.{Rrule, Vcal, Graph, List as list, Canon, Rscale}
 use Rattle.rr_answer.proofs.DescriptorLemmas.{descriptor_is_one}
 use Rattle.rr_algebra.specs.Stated.{IsDescriptor}
 use Rattle.rr_model.specs.Sets.Sketch.{StandsIn}
 use Rattle.rr_model.specs.Text.Lines.{without_mark}
 use Rattle.rr_model.specs.declared.sketch.Sketch.{Sketch}
+use Rattle.rr_skip.specs.Members.{OccursSkipping}
+use Rattle.rr_skip.specs.Reading.{reads_rscale}
+use Rattle.rr_skip.specs.declared.series.SkipSeries.{SkipSeries}
 use Rattle.rr_answer.proofs.GraphEventLemmas.{reads_graph-valid}
 
 -- a series was read where it is the subject
@@ -47,19 +50,20 @@ series_of : (read : Result Series Refusal) (subject : Subject) → Ok subject �
 series_of (Ok series) subject h = record { series = series; is_read = refl; is_subject = cc }
 series_of (Err refusal) subject h = absurd (cc)
 
+-- one value was read
+one_value : {V : Type 0} (read : Result V Refusal) (v w : V) → read ≡ Ok v → read ≡ Ok w → v ≡ w
+one_value read v w p q = let e : Ok v ≡ Ok w = sym p ∙ q in cc
+
 -- The value that was read, and its counterpart, have the same occurrences; then so have the subject and what is stated.
 module _ (V : Type 0) (read : Result V Refusal) (counterpart : V → Series) (In : V → Occurrences)
     (same : (v : V) → read ≡ Ok v → (k : Kind) (t : ℤ) → In v k t ↔ Occurs (counterpart v) k t) where
   abbrev Stated : Occurrences
   Stated k t = (v : V) × (read ≡ Ok v) × In v k t
 
-  one_value : (v w : V) → read ≡ Ok v → read ≡ Ok w → v ≡ w
-  one_value v w p q = let e : Ok v ≡ Ok w = sym p ∙ q in cc
-
   of_value : (v : V) → read ≡ Ok v → HaveEqualOccurrences (Occurs (counterpart v)) Stated
   of_value v p k t = (
     (λ h. (v, p, (same v p k t).1 h)),
-    (λ h. (same v p k t).0 (subst (λ w. In w k t) (one_value h.0 v h.1 p) h.2)),
+    (λ h. (same v p k t).0 (subst (λ w. In w k t) (one_value read h.0 v h.1 p) h.2)),
   )
 
   stated_occurs : (subject : Subject) → Ok subject ≡ as_subject (read >>= λ v. Ok (counterpart v)) → HaveEqualOccurrences (OccursIn subject) Stated
@@ -81,8 +85,26 @@ descriptor_stated :
     (text : List ℕ) (subject : Subject) → IsDescriptorRead text (Ok subject)
     → HaveEqualOccurrences (OccursIn subject) (λ k t. (sketch : Sketch) × IsDescriptor text sketch × StandsIn sketch k t)
 descriptor_stated text (of_series series) h = absurd h
+descriptor_stated text (of_skipping series) h = absurd h
 descriptor_stated text (of_sketch sketch) h = λ k t.
     ((λ o. (sketch, h, o)), (λ o. subst (λ z. StandsIn z k t) (descriptor_is_one text o.0 sketch o.1 h) o.2))
+
+-- what occurs in the series with SKIP that was read
+abbrev OccursInRead : Result SkipSeries Refusal → Occurrences
+OccursInRead read k t = (series : SkipSeries) × (read ≡ Ok series) × OccursSkipping series k t
+
+skipping_read : (read : Result SkipSeries Refusal) (series : SkipSeries) → read ≡ Ok series → HaveEqualOccurrences (OccursSkipping series) (OccursInRead read)
+skipping_read read series e k t = (
+  (λ o. (series, e, o)),
+  (λ o. subst (λ (s : SkipSeries). OccursSkipping s k t) (one_value read o.0 series o.1 e) o.2),
+)
+
+skipping_stated :
+    (read : Result SkipSeries Refusal) (subject : Subject) → Ok subject ≡ as_skipping read → HaveEqualOccurrences (OccursIn subject) (OccursInRead read)
+skipping_stated (Err refusal) subject h = absurd (cc)
+skipping_stated (Ok series) subject h =
+    let same : of_skipping series ≡ subject = cc in
+    subst (λ (x : Subject). HaveEqualOccurrences (OccursIn x) (OccursInRead (Ok series))) same (skipping_read (Ok series) series refl)
 
 stated_in :
     (language : Language) (offset : Option ℤ) (bytes : List ℕ) (subject : Subject) → IsStatedIn language offset bytes (Ok subject)
@@ -96,6 +118,7 @@ stated_in Graph offset bytes subject h =
     stated_occurs GraphEvent (reads_graph offset bytes) series_of_graph IsGraphOccurrence
     (λ e p k t. graph_counterpart e k t (reads_graph-valid offset bytes e p)) subject h
 stated_in Canon offset bytes subject h = descriptor_stated (without_mark bytes) subject h
+stated_in Rscale offset bytes subject h = skipping_stated (reads_rscale offset bytes) subject h
 
 pub own_sense : OwnSense
 unfolding IsSubjectRead

@@ -4,7 +4,7 @@ use Rattle.rr_answer.specs.Command.{Operand}
 use Rattle.rr_answer.specs.OperandReading.{IsSubjectRead}
 use Rattle.rr_answer.specs.Subjects.{OccursIn, Subject}
 use Rattle.rr_answer.specs.declared.command.Language.{Language}
-use Rattle.rr_answer.specs.declared.command.Language.TheVariants.{Rrule, Vcal, Graph, List as list, Canon}
+use Rattle.rr_answer.specs.declared.command.Language.TheVariants.{Rrule, Vcal, Graph, List as list, Canon, Rscale}
 use Rattle.rr_algebra.specs.Stated.{IsDescriptor}
 use Rattle.rr_model.specs.Graph.Occurrences.{IsGraphOccurrence}
 use Rattle.rr_model.specs.Graph.Reading.{reads_graph}
@@ -21,15 +21,20 @@ use Rattle.rr_model.specs.declared.graph.GraphEvent.{GraphEvent}
 use Rattle.rr_model.specs.declared.rule.Series.{Series}
 use Rattle.rr_model.specs.declared.sketch.Sketch.{Sketch}
 use Rattle.rr_model.specs.declared.vcal.VSeries.{VSeries}
+use Rattle.rr_skip.specs.Members.{OccursSkipping}
+use Rattle.rr_skip.specs.Reading.{reads_rscale}
+use Rattle.rr_skip.specs.declared.series.SkipSeries.{SkipSeries}
 
 -- The occurrences of what the bytes state: of a series of RFC 5545 or of dates, of the items of a vCalendar 1.0 series, of the
--- days of a Graph pattern within its range, of the sketch of a canonical text. The offset is the stated one, local time less UTC in seconds.
+-- days of a Graph pattern within its range, of the sketch of a canonical text, of a rule of RFC 7529 with its SKIP. The offset is the
+-- stated one, local time less UTC in seconds.
 abbrev pub OccursAsStated : Language → Option ℤ → List ℕ → Occurrences
 OccursAsStated Rrule offset bytes k t = (series : Series) × (reads_calendar offset bytes ≡ Ok series) × Occurs series k t
 OccursAsStated list offset bytes k t = (series : Series) × (reads_list bytes ≡ Ok series) × Occurs series k t
 OccursAsStated Vcal offset bytes k t = (series : VSeries) × (reads_vcal offset bytes ≡ Ok series) × OccursInVseries series k t
 OccursAsStated Graph offset bytes k t = (event : GraphEvent) × (reads_graph offset bytes ≡ Ok event) × IsGraphOccurrence event k t
 OccursAsStated Canon offset bytes k t = (sketch : Sketch) × IsDescriptor (without_mark bytes) sketch × StandsIn sketch k t
+OccursAsStated Rscale offset bytes k t = (series : SkipSeries) × (reads_rscale offset bytes ≡ Ok series) × OccursSkipping series k t
 
 -- What is read of an operand has the occurrences that its text states in its own language.
 abbrev pub OwnSense : Type 0
