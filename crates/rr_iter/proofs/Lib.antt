@@ -19,3 +19,4 @@ pub mod CountedLemmas
 pub mod LastDayLemmas
 pub mod SettledLemmas
 pub mod PlainLemmas
+pub mod AloneLemmas

@@ -1,19 +1,24 @@
 // The occurrences of a series.
 ghost use Rattle.std.specs.Prelude.{◌≡◌, IfOk, List, ℕ};
+ghost use Rattle.rr_model.specs.Series.Soundness.{IsSound};
 ghost use Rattle.rr_model.specs.Series.Tree.{tree_of};
 ghost use Rattle.rr_lazy.specs.Next.{IsUnasked};
 
-use crate::KeptLazy;
+use crate::alone_lazy::is_alone;
+use crate::{AloneLazy, KeptLazy};
 use rr_check::Checked;
 use rr_lazy::{Lazy, OccupiedDay, Without};
-use rr_model::NoMemory;
+use rr_model::{NoMemory, Series};
 use rr_shapes::SetTable;
 use std::alloc::Global;
 
 /// The occurrences of a series.
 #[derive(Drop)]
-pub struct AnyLazy {
-    pub(crate) lazy: Without<KeptLazy>,
+pub enum AnyLazy {
+    /// Of a series that has nothing but one rule, and its start.
+    Alone(AloneLazy),
+    /// Of any other series.
+    Whole(Without<KeptLazy>),
 }
 
 /// The occurrences of a series (RFC 5545, section 3.8.5): its start where it counts, the members of its rules and the
@@ -24,26 +29,38 @@ pub fn occurrences(alloc: Global, series: &Checked) -> Result<AnyLazy, NoMemory>
     ensures knows { IfOk result (λ l. (sets : List (List ℕ)) → ⟦<AnyLazy as Lazy>⟧.knows l sets) }
 {
     let given = series.series();
-    let kept = KeptLazy::new(alloc, given)?;
-    let minus = given.minus.copy(alloc)?;
-    Ok(AnyLazy {
-        lazy: Without::new(kept, given.kind, minus),
-    })
+    if is_alone(given) {
+        let alone = AloneLazy::new(alloc, given)?;
+        return Ok(AnyLazy::Alone(alone));
+    }
+    let whole = whole(alloc, given)?;
+    Ok(AnyLazy::Whole(whole))
+}
+
+// The occurrences of a series, whatever it has.
+fn whole(alloc: Global, series: &Series) -> Result<Without<KeptLazy>, NoMemory>
+    requires sound { IsSound series.now }
+    ensures tree { IfOk result (λ l. ⟦<Without<KeptLazy> as Lazy>⟧.tree l ≡ tree_of series.now) }
+    ensures unasked { IfOk result (λ l. IsUnasked (⟦<Without<KeptLazy> as Lazy>⟧.position l)) }
+    ensures knows { IfOk result (λ l. (sets : List (List ℕ)) → ⟦<Without<KeptLazy> as Lazy>⟧.knows l sets) }
+{
+    let kept = KeptLazy::new(alloc, series)?;
+    let minus = series.minus.copy(alloc)?;
+    Ok(Without::new(kept, series.kind, minus))
 }
 
 impl Lazy for AnyLazy {
-    ghost use Rattle.rr_iter.specs.KnowsAny.{knows_any, knows_any_more};
-    ghost use Rattle.rr_lazy.specs.Stretch.{sound_without};
+    ghost use Rattle.rr_iter.specs.KnowsAny.{knows_any, knows_any_more, position_of_any, sound_any, tree_of_any};
 
-    ghost tree = { λ s. ⟦<Without<KeptLazy> as Lazy>⟧.tree s.lazy };
+    ghost tree = { tree_of_any };
 
-    ghost position = { λ s. ⟦<Without<KeptLazy> as Lazy>⟧.position s.lazy };
+    ghost position = { position_of_any };
 
     ghost knows = { knows_any };
 
     ghost knows_more = { knows_any_more };
 
-    ghost sound = { λ s. sound_without (⟦<KeptLazy as Lazy>⟧.tree s.lazy.lazy) s.lazy.kind s.lazy.dates s.lazy.position s.lazy.one_kind s.lazy.begun };
+    ghost sound = { sound_any };
 
     fn next(
         &mut self,
@@ -51,6 +68,9 @@ impl Lazy for AnyLazy {
         sets: &mut SetTable,
         to: i64,
     ) -> Result<Option<OccupiedDay>, NoMemory> {
-        self.lazy.next(alloc, sets, to)
+        match self {
+            AnyLazy::Alone(lazy) => lazy.next(alloc, sets, to),
+            AnyLazy::Whole(lazy) => lazy.next(alloc, sets, to),
+        }
     }
 }

@@ -2,6 +2,7 @@
 #![tactic(auto)]
 
 mod all_lazy;
+mod alone_lazy;
 mod any_lazy;
 mod counted;
 mod day_lazy;
@@ -27,6 +28,7 @@ mod week_lazy;
 mod year_lazy;
 
 pub use all_lazy::AllLazy;
+pub use alone_lazy::AloneLazy;
 pub use any_lazy::{AnyLazy, occurrences};
 pub use day_lazy::DayLazy;
 pub use ended_lazy::EndedLazy;

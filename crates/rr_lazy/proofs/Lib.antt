@@ -7,6 +7,7 @@ pub mod AheadLemmas
 mod UptoLemmas
 pub mod StretchLemmas
 mod ManyLemmas
+pub mod PassedOnLemmas
 pub mod KindLemmas
 pub mod CycleCountLemmas
 pub mod PastLemmas

@@ -1,17 +1,18 @@
 // The occurrences of several parts.
-ghost use Rattle.std.specs.Prelude.{◌≡◌, ◌⊎◌, ◌≤◌, ◌<◌, All, IfOk, OnOk, OnErr, List, ℕ, length, nat_lt, neg_ℤ, pos, ◌+ℤ◌, ◌≤ℤ◌, ◌<ℤ◌, []};
+ghost use Rattle.std.specs.Prelude.{◌≡◌, ◌⊎◌, ◌≤◌, ◌<◌, All, IfOk, IsTrue, OnOk, OnErr, List, ℕ, length, nat_lt, neg_ℤ, pos, ◌+ℤ◌, ◌≤ℤ◌, ◌<ℤ◌, []};
 ghost use Rattle.std.specs.Option.{ForNone, ForSome};
 ghost use Rattle.rr_model.specs.Calendar.{first_day_of_year};
 ghost use Rattle.rr_model.specs.Rising.Sets.{IsSetOf};
 ghost use Rattle.rr_model.proofs.TreeLemmas.{IsOfOneKind-prop};
 ghost use Rattle.rr_model.specs.Sets.Tree.{IsOfOneKind, many};
-ghost use Rattle.rr_lazy.specs.Next.{IsUnasked, IsWithin};
+ghost use Rattle.rr_lazy.specs.Next.{IsNextIn, IsUnasked, IsWithin};
 ghost use Rattle.rr_shapes.specs.Tables.{Extends};
 ghost use Rattle.rr_lazy.specs.Ahead.{GaveDay, IsAheadIn, IsGivenOn, seen};
 ghost use Rattle.rr_lazy.specs.Many.{forest_of, IsGivenBySome, GaveDaySome, IsLeftBy};
+ghost use Rattle.rr_lazy.specs.PassedOn.{IsOneAtRest};
 
 use crate::ahead::{fill, forget, on_day};
-use crate::position::past;
+use crate::position::{after, past};
 use crate::{Lazy, OccupiedDay};
 use rr_model::NoMemory;
 use rr_shapes::SetTable;
@@ -61,6 +62,61 @@ impl<A: Lazy + Drop> Many<A> {
         self.parts.push(Asked { lazy, ahead: None })?;
         Ok(())
     }
+
+    // Whether there is one part alone, and no day that it gave is left to be passed on.
+    fn is_one_at_rest(&self) -> bool
+        ensures { IsTrue result → IsOneAtRest (λ p. p.ahead) self.now.parts.items }
+    {
+        self.parts.len() == 1 && self.parts[0].ahead.is_none()
+    }
+
+    // The next day of the one part, which passes on as it is.
+    fn next_of_one(
+        &mut self,
+        alloc: Global,
+        sets: &mut SetTable,
+        to: i64,
+    ) -> Result<Option<OccupiedDay>, NoMemory>
+        requires one { IsOneAtRest (λ p. p.ahead) self.old.parts.items }
+        requires low { neg_ℤ (pos 2_999_999_999_000) ≤ℤ to }
+        requires high { to ≤ℤ pos 2_999_999_999_000 }
+        requires knows { ⟦<Many<A> as Lazy>⟧.knows self.old sets.old }
+        ensures tree { ⟦<Many<A> as Lazy>⟧.tree self.new ≡ ⟦<Many<A> as Lazy>⟧.tree self.old }
+        ensures knows { ⟦<Many<A> as Lazy>⟧.knows self.new sets.new }
+        ensures kept { Extends sets.old sets.new }
+        ensures next { IsNextIn sets.new (⟦<Many<A> as Lazy>⟧.tree self.old) (⟦<Many<A> as Lazy>⟧.position self.old) to result (⟦<Many<A> as Lazy>⟧.position self.new) }
+    {
+        let found = self.parts[0].lazy.next(alloc, sets, to)?;
+        self.position = after(found, self.position, to);
+        Ok(found)
+    }
+
+    // The first day that some part gives, with the seconds of all parts on it.
+    fn next_of_all(
+        &mut self,
+        alloc: Global,
+        sets: &mut SetTable,
+        to: i64,
+    ) -> Result<Option<OccupiedDay>, NoMemory>
+        requires low { neg_ℤ (pos 2_999_999_999_000) ≤ℤ to }
+        requires high { to ≤ℤ pos 2_999_999_999_000 }
+        requires knows { ⟦<Many<A> as Lazy>⟧.knows self.old sets.old }
+        ensures tree { ⟦<Many<A> as Lazy>⟧.tree self.new ≡ ⟦<Many<A> as Lazy>⟧.tree self.old }
+        ensures knows { ⟦<Many<A> as Lazy>⟧.knows self.new sets.new }
+        ensures kept { Extends sets.old sets.new }
+        ensures next { IsNextIn sets.new (⟦<Many<A> as Lazy>⟧.tree self.old) (⟦<Many<A> as Lazy>⟧.position self.old) to result (⟦<Many<A> as Lazy>⟧.position self.new) }
+    {
+        ask_all(alloc, sets, &mut self.parts, self.position, to)?;
+        let day = first_of_all(&self.parts, to + 1);
+        if day > to {
+            self.position = past(self.position, to);
+            return Ok(None);
+        }
+        let found = all_on(alloc, sets, &self.parts, day)?;
+        forget_all(&mut self.parts, day);
+        self.position = day + 1;
+        Ok(found)
+    }
 }
 
 impl<A: Lazy + Drop> Lazy for Many<A> {
@@ -85,16 +141,11 @@ impl<A: Lazy + Drop> Lazy for Many<A> {
         sets: &mut SetTable,
         to: i64,
     ) -> Result<Option<OccupiedDay>, NoMemory> {
-        ask_all(alloc, sets, &mut self.parts, self.position, to)?;
-        let day = first_of_all(&self.parts, to + 1);
-        if day > to {
-            self.position = past(self.position, to);
-            return Ok(None);
+        if self.is_one_at_rest() {
+            self.next_of_one(alloc, sets, to)
+        } else {
+            self.next_of_all(alloc, sets, to)
         }
-        let found = all_on(alloc, sets, &self.parts, day)?;
-        forget_all(&mut self.parts, day);
-        self.position = day + 1;
-        Ok(found)
     }
 }
 

@@ -1,4 +1,4 @@
-use Rattle.std.proofs.Common.{rules, refl, ◌≡◌, ◌⊎◌, ◌≤ℤ◌, ◌<ℤ◌, ◌+ℤ◌, pos, All, [], List, ℕ, ℤ, length, arith, w64, to_z, of_z, to_z-of_z, FitsSigned, sym, ap, ◌∙◌}
+use Rattle.std.proofs.Common.{rules, refl, ◌≡◌, ◌⊎◌, ◌≤ℤ◌, ◌<ℤ◌, ◌+ℤ◌, pos, All, [], List, ℕ, length, arith, w64, to_z, of_z, to_z-of_z, FitsSigned, sym, ap, ◌∙◌}
 use Rattle.std.proofs.lemmas.Int.{ints}
 use Rattle.std.specs.Option.{ForSome, ForNone}
 use Rattle.rr_model.specs.Calendar.{first_day_of_year}
@@ -12,9 +12,9 @@ use Rattle.rr_lazy.proofs.AheadLemmas.{day_fits}
 use Rattle.rr_lazy.proofs.UptoLemmas.{begun_next}
 use Rattle.rr_lazy.proofs.ManyLemmas.{all_given, all_none, all_none_by, all_seen, all_some_by, forest_left, gave_it, gave_some_by, known_left, known_on}
 use Rattle.rr_lazy.proofs.ManyLemmas.{many_given, many_late, next_given, part_exists}
-use Rattle.rr_lazy.proofs.many.ManyLazy.next.Given.{Over}
-use Rattle.rr_lazy.proofs.many.ManyLazy.next.Goals.{After-deref, After-deref-2, After-past-self}
-use Rattle.rr_lazy.proofs.many.ManyLazy.next.Goals as goal
+use Rattle.rr_lazy.proofs.many.Many.next_of_all.Given.{Over}
+use Rattle.rr_lazy.proofs.many.Many.next_of_all.Goals.{After-deref, After-deref-2, After-past-self}
+use Rattle.rr_lazy.proofs.many.Many.next_of_all.Goals as goal
 
 -- ---- what is known once all parts were asked
 
