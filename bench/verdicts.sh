@@ -17,8 +17,16 @@ series visits 20240101T090000 'FREQ=DAILY;INTERVAL=4096'
 series repairs 20240101T100000 'FREQ=DAILY;INTERVAL=4095'
 series daily 20240101 'FREQ=DAILY'
 series dense 20240101T000000 'FREQ=MINUTELY;INTERVAL=113;BYMONTH=1,2,3,4,5,6,7,8,9,10,11,12'
+series dense-other 20240101T000100 'FREQ=MINUTELY;INTERVAL=113;BYMONTH=1,2,3,4,5,6,7,8,9,10,11,12'
+# 113 sets of 765 seconds take turns
+series turns 20240101T000000 'FREQ=SECONDLY;INTERVAL=113;BYMONTH=1,2,3,4,5,6,7,8,9,10,11,12'
 
 several beside 20240101 'FREQ=MONTHLY;INTERVAL=113' 'FREQ=DAILY'
+several minutes 20240101T000000 'FREQ=MINUTELY' 'FREQ=MONTHLY;INTERVAL=113;BYSECOND=0,30'
+"$program" canon "rrule:$scratch/minutes" >"$scratch/minutes-text"
+# a canonical text of a megabyte, whose runs have a day each
+{ printf 'rrcanon 2\ndays\nf 2024-01-01\nb 0 0 1\n' && yes 'b 1 0 1
+b 2 0 1' | head -n 130000 && echo 'b 1 0 1'; } >"$scratch/megabyte"
 several pair 20240101 'FREQ=WEEKLY' 'FREQ=MONTHLY'
 several sixteen 20240101 'FREQ=DAILY;COUNT=1001' 'FREQ=DAILY;COUNT=1002' 'FREQ=DAILY;COUNT=1003' 'FREQ=DAILY;COUNT=1004' \
     'FREQ=DAILY;COUNT=1005' 'FREQ=DAILY;COUNT=1006' 'FREQ=DAILY;COUNT=1007' 'FREQ=DAILY;COUNT=1008' \
@@ -37,6 +45,11 @@ measure 0.5 3 'equal, each 86,399 seconds' equal "rrule:$scratch/seconds" "rrule
 measure 10 1 'equal, each second of January' equal "rrule:$scratch/january" "rrule:$scratch/january"
 measure 0.02 5 'canon, monthly' canon "rrule:$scratch/monthly"
 measure 2 3 'canon, a dense cycle of 16,508,961 days' canon "rrule:$scratch/dense"
+measure 1.5 3 'canon, minutes beside a cycle of 16,508,961 days' canon "rrule:$scratch/minutes"
+measure 0.5 3 'nth 1, the text of those minutes' nth 1 "canon:$scratch/minutes-text"
+measure 0.05 5 'nth 1, a canonical text of a megabyte' nth 1 "canon:$scratch/megabyte"
+measure 2 3 'union, two dense cycles of 16,508,961 days' union "rrule:$scratch/dense" "rrule:$scratch/dense-other"
+measure 1.6 3 'canon, 113 sets that take turns' canon "rrule:$scratch/turns"
 measure 1 1 'equal, a long and a daily rule' equal "rrule:$scratch/beside" "rrule:$scratch/beside"
 measure 2 3 'equal, 16 counted rules and 10,000 dates' equal "rrule:$scratch/sixteen" "rrule:$scratch/sixteen"
 measure 0.02 5 'clear, yearly and weekly, a day each' clear 86400 "rrule:$scratch/yearly" 86400 "rrule:$scratch/weekly"

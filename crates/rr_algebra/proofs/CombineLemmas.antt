@@ -1,8 +1,8 @@
 -- Sets of seconds that are made of two, and their numbers.
-use Rattle.std.proofs.Common.{◌≡◌, ◌≢◌, ◌⊎◌, ℕ, ◌+◌, ◌<◌, ◌≤◌, List, [], ◌∷◌, ◌++◌, Contains, get_or, length, length-append, nat_lt, ℤ, pos, ◌+ℤ◌, inl, inr, refl, sym, ap, subst, ◌∙◌, arith}
+use Rattle.std.proofs.Common.{◌≡◌, ◌≢◌, ◌⊎◌, ℕ, ◌+◌, ◌<◌, ◌≤◌, List, [], ◌∷◌, ◌++◌, All, Contains, get_or, length, length-append, nat_lt, ℤ, pos, ◌+ℤ◌, inl, inr, refl, sym, ap, subst, ◌∙◌, arith}
 use Rattle.std.proofs.lemmas.Bool.{cases_lt}
 use Rattle.std.proofs.lemmas.List.{get_or_default, get_or_append_left, get_or-append-add}
-use Rattle.std.proofs.lemmas.List.Elements.{All-contains, All-contains_itself, All-push}
+use Rattle.std.proofs.lemmas.List.Elements.{All-contains, All-contains_itself, All-push, Contains-append_cases, Contains-append_left, Contains-append_right}
 use Rattle.std.proofs.lemmas.List.Sums.{sum_by-cons}
 use Rattle.std.proofs.lemmas.Option.{get_or_from_slice_get, slice_get-get_or, slice_get_within}
 use Rattle.rr_model.specs.Rising.{Rises}
@@ -49,6 +49,20 @@ module _ (old new : List (List ℕ)) (more : Extends old new) where
 
   pub known_kept : (op : Op) (one other : List (List ℕ)) (known : List (Pair × ℕ)) → AreKnown op one other old known → AreKnown op one other new known
   known_kept op one other known are k d l = let u = are k d l in (u.0, number_kept op _ _ _ u.1)
+
+-- what is in two lists then was in them, or is the new one
+pub only_put : {X : Type 0} (all all' recent recent' : List X) (e : X) → ((k : X) → Contains all' k → Contains all k ⊎ (e ≡ k))
+    → All (λ k. Contains recent k ⊎ (e ≡ k)) recent' → (k : X) → Contains (all' ++ recent') k → Contains (all ++ recent) k ⊎ (e ≡ k)
+only_put {X} all all' recent recent' e only kept k c = elim (Contains-append_cases all' recent' k c) [
+  | inl a ↦ elim (only k a) [
+    | inl was ↦ inl (Contains-append_left all recent k was)
+    | inr new ↦ inr new
+  ]
+  | inr b ↦ elim (All-contains (λ (k : X). Contains recent k ⊎ (e ≡ k)) recent' k kept b) [
+    | inl was ↦ inl (Contains-append_right all recent k was)
+    | inr new ↦ inr new
+  ]
+]
 
 pub known_put : (op : Op) (one other sets : List (List ℕ)) (known new : List (Pair × ℕ)) (pair : Pair) (number : ℕ) → AreKnown op one other sets known
     → number ≤ 4_294_967_295 → IsNumberOf op (get_or one pair.a []) (get_or other pair.b []) sets number

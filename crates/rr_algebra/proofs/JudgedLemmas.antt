@@ -1,5 +1,5 @@
 -- Which refusals come where two sets are combined.
-use Rattle.std.proofs.Common.{◌≡◌, ◌≢◌, ◌⊎◌, ◌↔◌, ℕ, ◌+◌, ◌≤◌, true, false, List, [], ◌∷◌, ◌++◌, Contains, get_or, length, nat_lt, ℤ, inl, inr, refl, sym, ap, subst, ◌∙◌, arith}
+use Rattle.std.proofs.Common.{◌≡◌, ◌≢◌, ◌↔◌, ℕ, true, false, List, [], ◌∷◌, ◌++◌, Contains, get_or, length, nat_lt, ℤ, inl, inr, refl, sym, ap, subst, ◌∙◌, arith}
 use Rattle.std.specs.Prelude.{Result, Ok, Err, Option, Some, None, if◌then◌else◌}
 use Rattle.std.specs.Option.{is_some}
 use Rattle.std.proofs.lemmas.List.{get_or_default}
@@ -18,7 +18,7 @@ use Rattle.rr_model.specs.declared.refusal.Refusal.TheVariants.{MixedSets, TooMa
 use Rattle.rr_model.specs.declared.sketch.Sketch.{Sketch}
 use Rattle.rr_shapes.specs.Numbering.{IsNumbering}
 use Rattle.rr_shapes.specs.Placing.{IsTooMany}
-use Rattle.rr_algebra.specs.Combined.{AreMixed, HasTooManyCombined, HoldsFor, IsCombinedJudged, IsMixedUnion, times_beside}
+use Rattle.rr_algebra.specs.Combined.{HasTooManyCombined, HoldsFor, IsCombinedJudged, IsMixedUnion, times_beside}
 use Rattle.rr_algebra.specs.Combining.{AreMadeOnDays, HasTooManyMade, IsMadeOf, IsMadeOnDay, IsOneTooMany, RefusedOnlyWhere}
 use Rattle.rr_algebra.specs.declared.op.Op.{Op}
 use Rattle.rr_algebra.specs.declared.op.Op.TheVariants.{Common, Minus, Union}

@@ -12,11 +12,12 @@ ghost use Rattle.rr_days.specs.Sequence.{sketch};
 ghost use Rattle.rr_algebra.specs.Combined.{IsCombinedJudged, combined};
 ghost use Rattle.rr_algebra.specs.Combining.{AreDayNumbers, AreDaySets, AreKnown, AreMadeOnDays, AreTogether, HasDaysOf, HasTooManyMade, IsDaySet, IsMadeOf, IsNumberOf, IsOneTooMany, RefusedOnlyWhere, table};
 
+use crate::known_pairs::KnownPairs;
 use crate::op::Op;
 use rr_days::{Folded, sequence};
 use rr_model::{Fault, Kind, MAX_CYCLE_DAYS, NoMemory, Refusal};
 use rr_num::lcm_within;
-use rr_shapes::{Pair, Shapes, Unions};
+use rr_shapes::{Pair, Shapes};
 use rr_times::TimeSet;
 use rr_word::DaySeq;
 use std::alloc::Global;
@@ -62,7 +63,7 @@ fn number_on<A: DaySeq>(seq: &A, day: i64) -> usize
 // The sets of combined days, and which of them is made of which two.
 #[derive(Drop)]
 struct CombinedSets {
-    known: Unions,
+    known: KnownPairs,
     shapes: Shapes,
 }
 
@@ -74,7 +75,7 @@ impl CombinedSets {
     {
         let shapes = Shapes::with_empty_set(alloc)?;
         Ok(CombinedSets {
-            known: Unions::new(alloc),
+            known: KnownPairs::new(alloc),
             shapes,
         })
     }

@@ -1,5 +1,5 @@
 // The days of runs as numbers of their sets, one for each day.
-ghost use Rattle.std.specs.Prelude.{◌≡◌, ◌<◌, ◌≤◌, ◌+◌, ◌++◌, ◌∷◌, [], IfOk, MatchOption, OnOk, length, replicate, ◌-◌};
+ghost use Rattle.std.specs.Prelude.{◌≡◌, ◌<◌, ◌≤◌, ◌+◌, ◌*◌, ◌++◌, ◌∷◌, [], IfOk, IsTrue, MatchOption, OnOk, length, replicate, ◌-◌};
 ghost use Rattle.rr_algebra.specs.Dense.{IsPutBy, IsStepTo, RefusedWhereNone, NumbersRuns, steps_in};
 
 use crate::runs::Run;
@@ -16,6 +16,20 @@ fn next_place(days: usize, last: usize, gap: u64, end: usize) -> Option<usize>
     }
     let place = last + gap as usize;
     if place < days { None } else { Some(place) }
+}
+
+// Whether a run that has days has its last one at the end or past it, so that it can't be put.
+fn runs_past(last: usize, run: Run, end: usize) -> bool
+    requires { last ≤ end }
+    ensures { IsTrue result → (1 ≤ run.count) × (end ≤ last + run.count * run.gap) }
+{
+    if run.count == 0 {
+        return false;
+    }
+    match run.count.checked_mul(run.gap) {
+        None => true,
+        Some(days) => days >= (end - last) as u64,
+    }
 }
 
 // Puts a number at its place, and 0 at each place before it that has none yet.
@@ -43,6 +57,10 @@ fn put_run(
     ensures within { IfOk result (λ place. place ≤ end) }
     ensures refused { RefusedWhereNone end sets (length numbers.old.items) last (steps_in run) result }
 {
+    let past = runs_past(last, run, end);
+    if past {
+        return Err(Fault::Refused(Refusal::NotCanonical));
+    }
     let mut last = last;
     for k in 0..run.count {
         if run.set >= sets as u64 {
@@ -58,7 +76,7 @@ fn put_run(
 }
 
 /// For each day from the first one up to the last one of these runs the number of its set and 1, or 0 where it has none.
-/// The steps of a run are taken one by one, and none is taken past the end.
+/// The steps of a run are taken one by one, where its last day lies before the end; else none is taken.
 pub fn numbers_of(alloc: Global, runs: &[Run], end: usize, sets: usize) -> Result<Vec<u32>, Fault>
     requires few { end ≤ 100_000_000 }
     requires sets { sets ≤ 100_000_000 }

@@ -4,6 +4,7 @@
 mod combining;
 mod dense;
 mod expansion;
+mod known_pairs;
 mod laws;
 mod numbers;
 mod op;

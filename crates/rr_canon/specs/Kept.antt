@@ -1,11 +1,12 @@
 -- The parts of a least sketch as they are kept: days with numbers, and the sets of these numbers.
-use Rattle.std.specs.Prelude.{◌≡◌, ◌≢◌, ◌⊎◌, ℕ, true, List, [], ◌++◌, get_or, ℤ, pos, ◌+ℤ◌, ◌-ℤ◌, int_lt, Option, Some, None, if◌then◌else◌}
+use Rattle.std.specs.Prelude.{◌≡◌, ◌≢◌, ◌⊎◌, ℕ, ◌<◌, true, List, [], ◌++◌, get_or, length, ℤ, pos, ◌+ℤ◌, ◌-ℤ◌, int_lt, Option, Some, None, if◌then◌else◌}
 use Rattle.std.specs.List.{list_any}
 use Rattle.rr_model.specs.Whole.{floor_mod}
 use Rattle.rr_model.specs.declared.kind.Kind.{Kind}
 use Rattle.rr_model.specs.declared.sketch.Sketch.{Sketch}
 use Rattle.rr_model.specs.Sets.Descriptor.{is_same_set, number_of, with_sets_of}
 use Rattle.rr_model.specs.Sets.Occupied.{occupied, shape_if_some}
+use Rattle.rr_word.specs.Stretches.{IsNumberOn}
 use Rattle.rr_word.specs.Numbered.{shapes_of, numbered, number_in}
 use Rattle.rr_word.specs.declared.numbered.NumberedDay.{NumberedDay}
 
@@ -41,6 +42,10 @@ pub record IsPutDay (day : ℤ) (times : List ℕ) (old_sets new_sets : List (Li
   pub numbers : new ≡ old ++ numbered new_sets (shape_if_some day times)
 
 -- ---- the numbers of a sequence's own sets
+
+-- these are the numbers of the day's set and of those of the days after it, one after another
+abbrev pub AreNumbersFrom : List (List ℕ) → Sketch → ℤ → List ℕ → Type 0
+AreNumbersFrom own s day numbers = (k : ℕ) → k < length numbers → IsNumberOn own s (day +ℤ pos k) (Some (get_or numbers k 0))
 
 -- the set has seconds, and is among these sets under this number
 pub record IsKnownNumber (sets : List (List ℕ)) (times : List ℕ) (number : ℕ) : Type 0 where

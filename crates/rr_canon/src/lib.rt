@@ -4,6 +4,7 @@
 mod laws;
 mod least_seq;
 mod lines;
+mod period;
 mod sets;
 mod stretch;
 mod text;

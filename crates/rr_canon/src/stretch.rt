@@ -2,11 +2,12 @@
 ghost use Rattle.std.specs.Prelude.{◌≡◌, ◌<◌, ◌≤◌, IfOk, IfSome, OnOk, ◌++◌, ◌∷◌, None, Some, ℕ, [], get_or, slice_get, length, neg_ℤ, pos, ◌+ℤ◌, ◌≤ℤ◌};
 ghost use Rattle.rr_model.specs.Rising.Sets.{IsSecondsOfDay};
 ghost use Rattle.rr_model.specs.Sets.Sketch.{IsNearDay, times_on};
-ghost use Rattle.rr_canon.specs.Kept.{AreKnown, AreStretchOf, IsKnownNumber, IsPutDay, IsPutNumber};
+ghost use Rattle.rr_word.specs.Stretches.{IsNumberOn, IsStretch};
+ghost use Rattle.rr_canon.specs.Kept.{AreKnown, AreNumbersFrom, AreStretchOf, IsKnownNumber, IsPutDay, IsPutNumber};
 
 use crate::sets::TimeSets;
 use rr_model::NoMemory;
-use rr_word::{DaySeq, NumberedDay, NumberedDays};
+use rr_word::{DaySeq, NumberedDay, NumberedDays, Stretch};
 use std::alloc::Global;
 
 // What is known of the time sets of a sequence: by its own number for a set, the number of the set among those that are kept. So
@@ -94,23 +95,39 @@ fn put_own<A: DaySeq>(
     put_numbered(day, number, days)
 }
 
-// Adds a day, where it has seconds.
+// The numbers of a day and of those after it: what is left of those that were read, or what the sequence says.
+fn next_stretch<'a, A: DaySeq>(seq: &'a A, day: i64, rest: &'a [u32]) -> Stretch<'a>
+    requires low { neg_ℤ (pos 3_000_000_000_000) ≤ℤ day }
+    requires high { day ≤ℤ pos 3_000_000_000_000 }
+    requires rest { AreNumbersFrom (A.sets seq.now) (A.sketch seq.now) day rest.now }
+    ensures { IsStretch (A.sets seq.now) (A.sketch seq.now) day result.first result.rest.now }
+{
+    match rest {
+        [own, later @ ..] => Stretch {
+            first: Some(*own),
+            rest: later,
+        },
+        [] => seq.stretch(day),
+    }
+}
+
+// Adds a day, where it has seconds, by its number.
 fn put_day<A: DaySeq>(
     alloc: Global,
     seq: &A,
     day: i64,
+    own: Option<u32>,
     known: &mut OwnNumbers,
     sets: &mut TimeSets,
     days: &mut NumberedDays,
 ) -> Result<(), NoMemory>
-    requires low { neg_ℤ (pos 3_000_000_000_000) ≤ℤ day }
-    requires high { day ≤ℤ pos 3_000_000_000_000 }
+    requires own { IsNumberOn (A.sets seq.now) (A.sketch seq.now) day own }
     requires few { length sets.old < 4_294_967_295 }
     requires known { AreKnown (A.sets seq.now) sets.old known.old.known.items }
     ensures put { OnOk result (IsPutDay day (times_on (A.sketch seq.now) day) sets.old sets.new days.old days.new) }
     ensures known { OnOk result (AreKnown (A.sets seq.now) sets.new known.new.known.items) }
 {
-    match seq.stretch(day).first {
+    match own {
         None => Ok(()),
         Some(own) => put_own(alloc, seq, day, own, known, sets, days),
     }
@@ -118,7 +135,7 @@ fn put_day<A: DaySeq>(
 
 /// The occupied ones of the `count` days from `from` on, with the numbers of their time sets, which are added where they are new.
 ///
-/// The seconds of each of the sequence's own sets are read once, and not on each day.
+/// The seconds of each of the sequence's own sets are read once, and not on each day; so are the numbers of days in a row.
 pub fn number_days<A: DaySeq>(
     alloc: Global,
     seq: &A,
@@ -133,8 +150,12 @@ pub fn number_days<A: DaySeq>(
 {
     let mut known = OwnNumbers::new(alloc);
     let mut days = NumberedDays::new(alloc);
+    let mut rest: &[u32] = &[];
     for k in 0..count {
-        put_day(alloc, seq, from + k as i64, &mut known, sets, &mut days)?;
+        let day = from + k as i64;
+        let stretch = next_stretch(seq, day, rest);
+        put_day(alloc, seq, day, stretch.first, &mut known, sets, &mut days)?;
+        rest = stretch.rest;
     }
     Ok(days)
 }

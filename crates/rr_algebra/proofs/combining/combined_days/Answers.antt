@@ -2,7 +2,7 @@ use Rattle.std.proofs.Common.{◌≡◌, pos, ◌+ℤ◌, w64, to_z, of_z, sym, 
 use Rattle.std.proofs.lemmas.Int.{ints}
 use Rattle.rr_days.specs.Sketched.{IsWholeFold, sketch_of}
 use Rattle.rr_days.specs.declared.folded.Folded.{Folded}
-use Rattle.rr_algebra.specs.Combining.{AreDayNumbers, HasDaysOf, HasTooManyMade}
+use Rattle.rr_algebra.specs.Combining.{AreDayNumbers, HasDaysOf}
 use Rattle.rr_algebra.specs.declared.combining.CombinedDays.{CombinedDays}
 use Rattle.rr_algebra.proofs.JudgedLemmas.{refused_exactly}
 use Rattle.rr_algebra.proofs.TogetherLemmas.{not_too_many, together_days, together_whole}

@@ -1,14 +1,20 @@
-use Rattle.std.proofs.Common.{w64, to_z, of_z, refl, arith}
+use Rattle.std.proofs.Common.{[], w64, to_z, of_z, refl, subst, arith}
 use Rattle.std.proofs.lemmas.Int.{ints}
+use Rattle.rr_canon.specs.Kept.{AreNumbersFrom}
 use Rattle.rr_canon.proofs.NumberedStretchLemmas.{no_days, one_more_day, sets_within}
-use Rattle.rr_canon.proofs.OwnNumberLemmas.{none_known}
+use Rattle.rr_canon.proofs.OwnNumberLemmas.{left_after, none_known, none_left}
 use Rattle.rr_canon.proofs.stretch.number_days.Goals as goal
 
 pub loop-k-init : goal.loop-k-init
 loop-k-init g c = (
   rw c.new-days.ensures (no_days (g.A.DaySeq.sketch c.args.seq.now) (to_z w64 (of_z w64 c.args.from)) c.args.sets.now),
   rw c.new-known.ensures (none_known (g.A.DaySeq.sets c.args.seq.now) c.args.sets.now),
+  none_left (g.A.DaySeq.sets c.args.seq.now) (g.A.DaySeq.sketch c.args.seq.now) _ [] refl,
 )
+
+pub next_stretch-stretch-requires-clause-rest : goal.next_stretch-stretch-requires-clause-rest
+next_stretch-stretch-requires-clause-rest g c =
+    subst (λ d. AreNumbersFrom (g.A.DaySeq.sets c.args.seq.now) (g.A.DaySeq.sketch c.args.seq.now) d c.loop-k.rest.now) (omega (arith, ints)) c.loop-k.invariant.2
 
 pub put_day-requires-clause-few : goal.put_day-requires-clause-few
 put_day-requires-clause-few g c =
@@ -22,4 +28,5 @@ loop-k-preserved g c = (
       (to_z w64 (of_z w64 c.args.from)) _ c.loop-k.k _ c.args.sets.now c.loop-k.sets c.put_day.new.sets c.loop-k.days c.put_day.new.days
       (omega (arith, ints)) (omega (arith, ints)) refl c.loop-k.invariant.0 c.in_ok-put_day.ensures.put,
   c.in_ok-put_day.ensures.known,
+  left_after (g.A.DaySeq.sets c.args.seq.now) (g.A.DaySeq.sketch c.args.seq.now) _ _ _ _ (omega (arith, ints)) c.next_stretch-stretch.ensures,
 )

@@ -55,7 +55,7 @@ returns-in_ok-put-in-Ok-clause-known g c =
     let were : AreKnown c.args.op one other new c.args.self.now.known =
     known_kept old new (placed_extends c.in_ok-set.set old new number placed) c.args.op one other c.args.self.now.known c.requires.known in
     known_put c.args.op one other new c.get.new.self c.put.new.self (record { a = c.number_on.result; b = c.number_on-2.result }) number
-    (subst (λ k. AreKnown c.args.op one other new k) (sym c.get.ensures.unchanged) were) small pair c.put.ensures.nothing_else
+    (subst (λ k. AreKnown c.args.op one other new k) (sym c.get.ensures.unchanged) were) small pair c.in_ok-put-in-Ok.ensures
 
 pub returns-in_ok-put-in-Ok-clause-grown : goal.returns-in_ok-put-in-Ok-clause-grown
 returns-in_ok-put-in-Ok-clause-grown g c = placed_extends c.in_ok-set.set c.args.self.now.shapes c.place.new.self c.in-Ok.number c.in-Ok.ensures.placed

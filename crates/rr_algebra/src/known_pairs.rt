@@ -1,0 +1,74 @@
+// Which sets are made of which two.
+ghost use Rattle.std.specs.Prelude.{◌≡◌, ◌⊎◌, ◌++◌, [], All, Contains, IfSome, OnOk, ℕ};
+ghost use Rattle.rr_shapes.specs.declared.unions.Pair.{Pair};
+
+use rr_model::NoMemory;
+use rr_shapes::{Pair, Unions};
+use std::alloc::Global;
+use std::marker::Model;
+
+// How many pairs are kept by the number of the first set, so that sets which take turns are found at once.
+const RECENT: usize = 128;
+
+/// The numbers of sets by the numbers of the two sets that each is made of. Contracts see it as the list of the pairs with their
+/// numbers.
+#[derive(Drop)]
+pub struct KnownPairs {
+    all: Unions,
+    recent: Vec<(Pair, usize)>,
+}
+
+impl Model for KnownPairs {
+    ghost use Rattle.std.specs.Prelude.{ℕ, List, ◌++◌};
+    ghost use Rattle.rr_shapes.specs.declared.unions.Pair.{Pair};
+
+    ghost Value = { List (Pair × ℕ) };
+
+    ghost view = { λ k. k.all ++ k.recent.items };
+}
+
+// Keeps a pair with its number at the place that the number of the first set gives.
+fn keep(recent: &mut Vec<(Pair, usize)>, pair: Pair, number: usize) -> Result<(), NoMemory>
+    ensures { OnOk result (All (λ known. Contains recent.old.items known ⊎ ((pair, number) ≡ known)) recent.new.items) }
+{
+    let place = pair.a % RECENT;
+    if recent.len() <= place {
+        recent.resize(place + 1, (pair, number))?;
+    }
+    recent[place] = (pair, number);
+    Ok(())
+}
+
+impl KnownPairs {
+    /// None are known yet; it takes no memory.
+    pub fn new(alloc: Global) -> KnownPairs
+        ensures { result ≡ [] }
+    {
+        KnownPairs {
+            all: Unions::new(alloc),
+            recent: Vec::new(alloc),
+        }
+    }
+
+    /// The number of the set that is made of a pair, where it is known.
+    pub fn get(&mut self, pair: Pair) -> Option<usize>
+        ensures known { IfSome result (λ n. Contains self.old (pair, n)) }
+        ensures unchanged { self.new ≡ self.old }
+    {
+        if let Some((known, number)) = self.recent.get(pair.a % RECENT) {
+            if *known == pair {
+                return Some(*number);
+            }
+        }
+        self.all.get(pair)
+    }
+
+    /// Remembers the number of the set that is made of a pair.
+    pub fn put(&mut self, pair: Pair, number: usize) -> Result<(), NoMemory>
+        ensures { OnOk result ((known : Pair × ℕ) → Contains self.new known → Contains self.old known ⊎ ((pair, number) ≡ known)) }
+    {
+        self.all.put(pair, number)?;
+        keep(&mut self.recent, pair, number)?;
+        Ok(())
+    }
+}
