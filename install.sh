@@ -1,33 +1,44 @@
 #!/bin/sh
-# Installs the shipped program, and its man page and completions where they are here: ./install.sh [--prefix DIR]
-# Removes the same files: ./install.sh uninstall [--prefix DIR]. DIR is /usr/local where it is not given.
+# Installs the shipped program, and its man page and completions where they are here: ./install.sh [--prefix DIR]. DIR is /usr/local where
+# it is not given. Removes the same files: ./install.sh uninstall [--prefix DIR].
+# With --libraries it installs the header and both libraries for C too, and with --python FOLDER the Python module with a library of its
+# own, in a folder where Python looks for modules, as `python3 -c 'import site; print(site.getusersitepackages())'` prints one.
+# uninstall removes the libraries always, and the Python module where its folder is given.
 set -eu
 top=$(CDPATH='' cd -- "$(dirname -- "$0")" && pwd)
 prefix=/usr/local
-remove=
+removes=
+libraries=
+python=
 
 usage() {
-    echo 'usage: install.sh [uninstall] [--prefix DIR]' >&2
+    echo 'usage: install.sh [uninstall] [--prefix DIR] [--libraries] [--python FOLDER]' >&2
     exit 3
 }
 
 while [ $# -gt 0 ]; do
     case $1 in
-    uninstall | --uninstall) remove=yes ;;
+    uninstall | --uninstall) removes=yes ;;
     --prefix)
         [ $# -ge 2 ] || usage
         prefix=$2
         shift
         ;;
     --prefix=*) prefix=${1#--prefix=} ;;
+    --libraries) libraries=yes ;;
+    --python)
+        [ $# -ge 2 ] && [ -n "$2" ] || usage
+        python=$2
+        shift
+        ;;
     *) usage ;;
     esac
     shift
 done
 [ -n "$prefix" ] || usage
 
-# What is installed: where it is here, its place, and its mode.
-files() {
+# What is installed: where it is here, its place under a folder, and its mode.
+program_files() {
     cat <<'END'
 release/rr-x86_64-linux bin/rr 755
 docs/rr.1 share/man/man1/rr.1 644
@@ -37,20 +48,61 @@ completions/rr.fish share/fish/vendor_completions.d/rr.fish 644
 END
 }
 
-if [ -n "$remove" ]; then
-    files | while read -r _ to _; do
-        [ ! -e "$prefix/$to" ] || { rm -f -- "$prefix/$to" && echo "removed $prefix/$to"; }
+library_files() {
+    cat <<'END'
+include/rr.h include/rr.h 644
+release/librr-x86_64-linux.a lib/librr.a 644
+release/librr-x86_64-linux.so lib/librr.so.1 755
+END
+}
+
+python_files() {
+    cat <<'END'
+python/rr/__init__.py rr/__init__.py 644
+python/rr/py.typed rr/py.typed 644
+release/librr-x86_64-linux.so rr/librr.so 755
+END
+}
+
+# install FOLDER puts the files of the standard input in their places under it, each whole at once.
+install() {
+    while read -r from to mode; do
+        [ -f "$top/$from" ] || continue
+        mkdir -p -- "$(dirname -- "$1/$to")"
+        cp -- "$top/$from" "$1/$to.new"
+        chmod "$mode" "$1/$to.new"
+        mv -f -- "$1/$to.new" "$1/$to"
+        echo "$1/$to"
     done
+}
+
+# remove FOLDER removes them.
+remove() {
+    while read -r _ to _; do
+        if [ -e "$1/$to" ] || [ -L "$1/$to" ]; then
+            rm -f -- "$1/$to"
+            echo "removed $1/$to"
+        fi
+    done
+}
+
+if [ -n "$removes" ]; then
+    { program_files && library_files && echo '- lib/librr.so -'; } | remove "$prefix"
+    if [ -n "$python" ]; then
+        python_files | remove "$python"
+        rm -rf -- "$python/rr/__pycache__"
+        [ ! -d "$python/rr" ] || rmdir -- "$python/rr"
+    fi
     exit 0
 fi
 [ "$(uname -sm)" = 'Linux x86_64' ] || { echo 'install.sh: the shipped program is for Linux on x86_64' >&2; exit 1; }
 [ -f "$top/release/SHA256SUMS" ] || { echo 'install.sh: no program is shipped here' >&2; exit 1; }
 (cd -- "$top/release" && sha256sum --quiet -c SHA256SUMS)
-files | while read -r from to mode; do
-    [ -f "$top/$from" ] || continue
-    mkdir -p -- "$(dirname -- "$prefix/$to")"
-    cp -- "$top/$from" "$prefix/$to.new"
-    chmod "$mode" "$prefix/$to.new"
-    mv -f -- "$prefix/$to.new" "$prefix/$to"
-    echo "$prefix/$to"
-done
+program_files | install "$prefix"
+if [ -n "$libraries" ]; then
+    library_files | install "$prefix"
+    # (the linker looks for this name, the loader for the one with the number)
+    ln -sf librr.so.1 "$prefix/lib/librr.so"
+    echo "$prefix/lib/librr.so"
+fi
+[ -z "$python" ] || python_files | install "$python"

@@ -1,0 +1,386 @@
+"""Whether a repeating series survived a trip between calendars, for all years to come.
+
+>>> import rr
+>>> sent = "DTSTART;VALUE=DATE:20240101\\nRRULE:FREQ=DAILY;INTERVAL=7\\n"
+>>> received = "DTSTART;VALUE=DATE:20240101\\nRRULE:FREQ=WEEKLY;INTERVAL=2\\n"
+>>> rr.equal(sent, received)
+Differs(moment=datetime.date(2024, 1, 8), side='A')
+>>> if not rr.equal(sent, received):
+...     print("lost")
+lost
+>>> rr.occurrences(received, 3)
+[datetime.date(2024, 1, 1), datetime.date(2024, 1, 15), datetime.date(2024, 1, 29)]
+
+A series is the text or the bytes of a calendar file. One in another language, or with an offset from UTC, is a `Series`:
+
+>>> phone = rr.Series("DTSTART:20240101T090000\\nRRULE:D1 #0\\n", "vcal")
+>>> rr.nth(phone, 366)
+datetime.datetime(2024, 12, 31, 9, 0)
+
+What can't be read, or is beyond the limits, is refused by an exception that says why:
+
+>>> rr.check("DTSTART;VALUE=DATE:20240101\\nRRULE:FREQ=NEVER\\n")
+Traceback (most recent call last):
+    ...
+rr.Refused: A: BadRule 2
+
+Calls keep nothing, and the interpreter's lock is not held while one runs: threads may call at once. The shared library is the file that
+the environment's RR_LIBRARY names, or librr.so beside this module, or the one that is shipped beside it in the repository, or else
+librr.so.1 where the system finds it.
+"""
+from __future__ import annotations
+
+import ctypes
+import datetime
+import os
+import re
+from dataclasses import dataclass
+from pathlib import Path
+from typing import Literal, Union
+
+__all__ = [
+    "Clash", "Differs", "OutOfMemory", "Refused", "Series",
+    "answer", "canon", "canon1", "check", "clear", "common", "disjoint", "equal", "infer", "minus", "nth", "occurrences", "rank",
+    "translate", "union", "within",
+]
+
+Language = Literal["rrule", "vcal", "graph", "list", "canon", "rscale"]
+Moment = Union[datetime.date, datetime.datetime, str]
+"""A date, or a moment of the local clock; its text where the year is past 9999, which the standard library does not have."""
+
+
+@dataclass(frozen=True)
+class Series:
+    """A text, its language, and how far local time is ahead of UTC where a moment of the text is in UTC.
+
+    >>> utc = "DTSTART:20240101T090000\\nRRULE:FREQ=DAILY;UNTIL=20240102T080000Z\\n"
+    >>> occurrences(Series(utc, offset=datetime.timedelta(hours=1)), 5)
+    [datetime.datetime(2024, 1, 1, 9, 0), datetime.datetime(2024, 1, 2, 9, 0)]
+    """
+
+    text: str | bytes
+    language: Language = "rrule"
+    offset: datetime.timedelta | None = None
+
+
+AnySeries = Union[Series, str, bytes]
+
+
+@dataclass(frozen=True)
+class Differs:
+    """A no: the first moment that shows it, and whose occurrence that is, 'A', 'B' or 'both'. It is false in a condition."""
+
+    moment: Moment
+    side: str
+
+    def __bool__(self) -> bool:
+        return False
+
+
+@dataclass(frozen=True)
+class Clash:
+    """A no of `clear`: the first second that is shared, and the occurrences of A and of B that run then. It is false in a condition."""
+
+    moment: Moment
+    a: Moment
+    b: Moment
+
+    def __bool__(self) -> bool:
+        return False
+
+
+class Refused(ValueError):
+    """An operand is refused: which one ('A', 'B' or 'both'), by what name, and where the name has one its place: the number of a line, of
+    NotSynchronised that of a rule, of BadMember the name of a member. docs/REFUSALS.md says of each name what to do.
+
+    >>> try:
+    ...     equal("DTSTART;VALUE=DATE:20240101\\nRRULE:FREQ=DAILY\\n", "DTSTART;VALUE=DATE:20240101\\nRRULE:FREQ=WEEKLY;BYDAY=TU\\n")
+    ... except Refused as refused:
+    ...     (refused.operand, refused.name, refused.place)
+    ('B', 'NotSynchronised', 1)
+    """
+
+    def __init__(self, operand: str, name: str, place: int | str | None = None):
+        super().__init__(operand, name, place)
+        self.operand, self.name, self.place = operand, name, place
+
+    def __str__(self) -> str:
+        return f"{self.operand}: {self.name}" if self.place is None else f"{self.operand}: {self.name} {self.place}"
+
+
+class OutOfMemory(MemoryError):
+    """There was no memory for the answer."""
+
+
+def _library() -> ctypes.CDLL:
+    here = Path(__file__).resolve().parent
+    named = os.environ.get("RR_LIBRARY")
+    if named:
+        return ctypes.CDLL(named)
+    for place in (here / "librr.so", here.parent.parent / "release" / "librr-x86_64-linux.so"):
+        if place.exists():
+            return ctypes.CDLL(str(place))
+    return ctypes.CDLL("librr.so.1")
+
+
+_answer = _library().rr_answer
+_answer.restype = ctypes.c_uint32
+_answer.argtypes = [ctypes.c_char_p, ctypes.c_size_t] * 3 + [ctypes.c_void_p, ctypes.c_size_t, ctypes.POINTER(ctypes.c_uint64)]
+
+_NO, _REFUSED, _USAGE, _NO_MEMORY, _TOO_SMALL = 1, 2, 3, 6, 8
+# What a line and most texts have room in; a longer answer costs a second call.
+_ROOM, _TEXT_ROOM = 4096, 65_536
+_LINE = len("2024-02-29T09:30:00\n")
+
+
+def answer(words: list[str], a: bytes = b"", b: bytes = b"", room: int = _ROOM) -> tuple[int, bytes]:
+    """The program's exit status and what it prints, for the words of its command line and the bytes of the operands. Where the answer has
+    more bytes than the room, it is computed once more.
+
+    >>> answer(["check", "rrule:a"], b"DTSTART;VALUE=DATE:20240101\\nRRULE:FREQ=WEEKLY\\n")
+    (0, b'cycle 7\\n')
+    """
+    if any("\0" in word for word in words):
+        raise ValueError("a word has no zero byte")
+    said, length = "\0".join(words).encode(), ctypes.c_uint64()
+    while True:
+        out = ctypes.create_string_buffer(max(room, 1))
+        status = _answer(said, len(said), a, len(a), b, len(b), out, room, ctypes.byref(length))
+        if status == _NO_MEMORY:
+            raise OutOfMemory
+        if status != _TOO_SMALL:
+            return status, ctypes.string_at(out, length.value)
+        room = length.value
+
+
+def _moment(text: str) -> Moment:
+    """What a printed date or moment is in the standard library.
+
+    >>> _moment("2024-01-03"), _moment("2024-01-03T09:30:00"), _moment("10000-01-01")
+    (datetime.date(2024, 1, 3), datetime.datetime(2024, 1, 3, 9, 30), '10000-01-01')
+    """
+    if not re.match(r"(?!0000)\d{4}-", text):
+        return text
+    return datetime.datetime.fromisoformat(text) if "T" in text else datetime.date.fromisoformat(text)
+
+
+def _text_of(moment: Moment) -> str:
+    """A date or moment as it is written in a word. A moment has whole seconds and no zone."""
+    if isinstance(moment, datetime.datetime):
+        if moment.tzinfo is not None or moment.microsecond:
+            raise ValueError("a moment has whole seconds, and no zone: it is one of the local clock")
+        return moment.isoformat()
+    return moment.isoformat() if isinstance(moment, datetime.date) else moment
+
+
+def _seconds_of(duration: datetime.timedelta | int) -> str:
+    """A duration in seconds, as it is written in a word."""
+    if isinstance(duration, int):
+        return str(duration)
+    if duration.microseconds:
+        raise ValueError("a duration has whole seconds")
+    return str(duration // datetime.timedelta(seconds=1))
+
+
+def _series(series: AnySeries) -> Series:
+    return series if isinstance(series, Series) else Series(series)
+
+
+def _word_of(series: Series, name: str) -> str:
+    """The word for a series, under a name."""
+    if series.offset is None:
+        return f"{series.language}:{name}"
+    minutes = series.offset // datetime.timedelta(minutes=1)
+    if datetime.timedelta(minutes=minutes) != series.offset:
+        raise ValueError("an offset has whole minutes")
+    return f"{series.language}@{'-' if minutes < 0 else '+'}{abs(minutes) // 60:02}:{abs(minutes) % 60:02}:{name}"
+
+
+def _bytes_of(series: Series) -> bytes:
+    return series.text.encode() if isinstance(series.text, str) else bytes(series.text)
+
+
+def _place(place: str | None = None) -> int | str | None:
+    return int(place) if place and place.isdecimal() else place
+
+
+def _ask(words: list[str], a: Series, b: Series | None = None, room: int = _ROOM) -> tuple[int, str]:
+    """The status and the answer, where it is no refusal. The words end with those of the operands."""
+    status, out = answer(words, _bytes_of(a), b"" if b is None else _bytes_of(b), room)
+    if status == _REFUSED:
+        _, operand, name, *place = out.decode().split()
+        raise Refused(operand, name, _place(*place))
+    if status >= _USAGE:
+        raise ValueError(f"not within what rr takes: {' '.join(words)}")
+    return status, out.decode()
+
+
+def _of_one(words: list[str], series: AnySeries, room: int = _ROOM) -> tuple[int, str]:
+    a = _series(series)
+    return _ask([*words, _word_of(a, "a")], a, room=room)
+
+
+def _of_two(command: str, a: AnySeries, b: AnySeries, room: int = _ROOM) -> tuple[int, str]:
+    a, b = _series(a), _series(b)
+    return _ask([command, _word_of(a, "a"), _word_of(b, "b")], a, b, room)
+
+
+def _verdict(question: str, a: AnySeries, b: AnySeries) -> Literal[True] | Differs:
+    status, out = _of_two(question, a, b)
+    if status != _NO:
+        return True
+    _, moment, side = out.split()
+    return Differs(_moment(moment), side)
+
+
+def equal(a: AnySeries, b: AnySeries) -> Literal[True] | Differs:
+    """Whether both have the same occurrences for all years, or else the first that only one of them has.
+
+    >>> weekdays = "DTSTART;VALUE=DATE:20240101\\nRRULE:FREQ=WEEKLY;BYDAY=MO,TU,WE,TH,FR\\n"
+    >>> days = "DTSTART;VALUE=DATE:20240101\\nRRULE:FREQ=DAILY;BYDAY=MO,TU,WE,TH,FR\\n"
+    >>> equal(weekdays, days)
+    True
+    >>> equal(weekdays, days + "EXDATE;VALUE=DATE:20300101\\n")
+    Differs(moment=datetime.date(2030, 1, 1), side='A')
+    """
+    return _verdict("equal", a, b)
+
+
+def within(a: AnySeries, b: AnySeries) -> Literal[True] | Differs:
+    """Whether each occurrence of a is one of b, or else the first that is not.
+
+    >>> within("DTSTART;VALUE=DATE:20240102\\nRRULE:FREQ=DAILY\\n", "DTSTART;VALUE=DATE:20240101\\nRRULE:FREQ=DAILY\\n")
+    True
+    """
+    return _verdict("within", a, b)
+
+
+def disjoint(a: AnySeries, b: AnySeries) -> Literal[True] | Differs:
+    """Whether they have no occurrence in common, or else the first that both have.
+
+    >>> disjoint("DTSTART;VALUE=DATE:20240101\\nRRULE:FREQ=WEEKLY\\n", "DTSTART;VALUE=DATE:20240101\\nRRULE:FREQ=MONTHLY\\n")
+    Differs(moment=datetime.date(2024, 1, 1), side='both')
+    """
+    return _verdict("disjoint", a, b)
+
+
+def clear(a: AnySeries, a_lasts: datetime.timedelta | int, b: AnySeries, b_lasts: datetime.timedelta | int) -> Literal[True] | Clash:
+    """Whether a and b never run at the same time, or else the first second in which they do. Each occurrence lasts as long as is said,
+    1 second to 366 days; a number is of seconds.
+
+    >>> course = "DTSTART:20240101T090000\\nRRULE:FREQ=WEEKLY\\n"
+    >>> board = "DTSTART:20240105T100000\\nRRULE:FREQ=MONTHLY\\n"
+    >>> clear(course, datetime.timedelta(minutes=90), board, 3600)
+    Clash(moment=datetime.datetime(2024, 2, 5, 10, 0), a=datetime.datetime(2024, 2, 5, 9, 0), b=datetime.datetime(2024, 2, 5, 10, 0))
+    >>> clear(course, 3600, board, 3600)
+    True
+    """
+    a, b = _series(a), _series(b)
+    status, out = _ask(["clear", _seconds_of(a_lasts), _word_of(a, "a"), _seconds_of(b_lasts), _word_of(b, "b")], a, b)
+    return Clash(*map(_moment, out.split()[1:])) if status == _NO else True
+
+
+def canon(series: AnySeries) -> str:
+    """The canonical text, which is equal exactly for equal occurrences: a key to group series by, and an operand again.
+
+    >>> text = canon("DTSTART;VALUE=DATE:20240101\\nRRULE:FREQ=DAILY\\n")
+    >>> text
+    'rrcanon 2\\ndays\\nf 2024-01-01\\nq 2024-01-01 1\\nc 0 0 1\\n'
+    >>> canon(Series(text, "canon")) == text
+    True
+    """
+    return _of_one(["canon"], series, _TEXT_ROOM)[1]
+
+
+def canon1(series: AnySeries) -> str:
+    """The canonical text in its first version, which writes out each second.
+
+    >>> canon1("DTSTART;VALUE=DATE:20240101\\n")
+    'rrcanon 1\\ndays\\nf 2024-01-01\\nb 0 0 1\\n'
+    """
+    return _of_one(["canon1"], series, _TEXT_ROOM)[1]
+
+
+def union(a: AnySeries, b: AnySeries) -> str:
+    """The canonical text of what a or b has.
+
+    >>> equal(Series(union("DTSTART;VALUE=DATE:20240101\\n", "DTSTART;VALUE=DATE:20240102\\n"), "canon"), Series("2024-01-01\\n2024-01-02\\n", "list"))
+    True
+    """
+    return _of_two("union", a, b, _TEXT_ROOM)[1]
+
+
+def common(a: AnySeries, b: AnySeries) -> str:
+    """The canonical text of what both have.
+
+    >>> common("DTSTART;VALUE=DATE:20240101\\n", "DTSTART;VALUE=DATE:20240102\\n")
+    'rrcanon 2\\nnone\\n'
+    """
+    return _of_two("common", a, b, _TEXT_ROOM)[1]
+
+
+def minus(a: AnySeries, b: AnySeries) -> str:
+    """The canonical text of what a has and b has not.
+
+    >>> minus(Series("2024-01-01\\n2024-01-02\\n", "list"), "DTSTART;VALUE=DATE:20240102\\n") == canon("DTSTART;VALUE=DATE:20240101\\n")
+    True
+    """
+    return _of_two("minus", a, b, _TEXT_ROOM)[1]
+
+
+def check(series: AnySeries) -> int:
+    """The least number of days after which the endless rules of a series repeat; 1 where there is none.
+
+    >>> check("DTSTART;VALUE=DATE:20240101\\nRRULE:FREQ=WEEKLY;INTERVAL=2\\n")
+    14
+    """
+    return int(_of_one(["check"], series)[1].split()[1])
+
+
+def occurrences(series: AnySeries, n: int) -> list[Moment]:
+    """The first n occurrences, or all where there are fewer; n is 1 to 100,000.
+
+    >>> occurrences("DTSTART:20240229T093000\\nRRULE:FREQ=YEARLY\\n", 2)
+    [datetime.datetime(2024, 2, 29, 9, 30), datetime.datetime(2028, 2, 29, 9, 30)]
+    >>> occurrences("DTSTART;VALUE=DATE:99991231\\nRRULE:FREQ=DAILY\\n", 2)
+    [datetime.date(9999, 12, 31), '10000-01-01']
+    """
+    return [_moment(line) for line in _of_one(["list", str(n)], series, max(_ROOM, _LINE * min(n, 100_000)))[1].splitlines()]
+
+
+def nth(series: AnySeries, n: int) -> Moment | None:
+    """The n-th occurrence, or None where there are fewer; n is 1 to 1,125,899,906,842,624.
+
+    >>> nth("DTSTART;VALUE=DATE:20240101\\nRRULE:FREQ=WEEKLY\\n", 20_872)
+    datetime.date(2424, 1, 1)
+    >>> nth("DTSTART;VALUE=DATE:20240101\\n", 2)
+    """
+    status, out = _of_one(["nth", str(n)], series)
+    return None if status == _NO else _moment(out.strip())
+
+
+def rank(series: AnySeries, moment: Moment) -> int:
+    """How many occurrences are not after a date or a moment of the years 1 to 9999.
+
+    >>> rank("DTSTART;VALUE=DATE:20240101\\nRRULE:FREQ=WEEKLY\\n", datetime.date(2024, 12, 31))
+    53
+    """
+    return int(_of_one(["rank", _text_of(moment)], series)[1])
+
+
+def translate(series: AnySeries, language: Literal["rrule", "vcal", "graph"]) -> str:
+    """A text in another language that has exactly the occurrences; refused as NotSayable where there is none.
+
+    >>> translate("DTSTART:20240101T090000\\nRRULE:FREQ=DAILY\\n", "vcal")
+    'DTSTART:20240101T090000\\r\\nRRULE:D1 #0\\r\\n'
+    """
+    return _of_one(["translate", language], series, _TEXT_ROOM)[1]
+
+
+def infer(series: AnySeries) -> str:
+    """The first single rule of iCalendar that has the occurrences; refused as NotSayable where there is none.
+
+    >>> infer(Series("2024-01-31\\n2024-03-31\\n2024-05-31\\n", "list"))
+    'DTSTART;VALUE=DATE:20240131\\r\\nRRULE:FREQ=MONTHLY;COUNT=3;BYMONTHDAY=31\\r\\n'
+    """
+    return _of_one(["infer"], series, _TEXT_ROOM)[1]
