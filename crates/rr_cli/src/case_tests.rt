@@ -1,18 +1,73 @@
 // Questions that are asked of whole texts. Each row has the words, the text of `a`, that of `b`, and what is put, with the exit
-// status; `~` stands for a line break.
-use crate::run;
+// status. `~` stands for a line break, which a text has where it says so, and what is put also at its end.
+use crate::{Status, run};
 use rr_io::{SteadySink, SteadySource};
 use std::alloc::Global;
 use std::process::Abort;
 use std::test::*;
 
-// Series that repeat together after more days than the limit.
-const PAST_THE_COMMON_CYCLE: &str = "\
-equal rrule:a rrule:b|DTSTART:20240101~RRULE:FREQ=MONTHLY;INTERVAL=113|DTSTART:20240101~RRULE:FREQ=DAILY;INTERVAL=2|no 2024-01-03 B [1]
-within rrule:a rrule:b|DTSTART:20240101~RRULE:FREQ=MONTHLY;INTERVAL=113|DTSTART:20240101~RRULE:FREQ=DAILY;INTERVAL=2|refused both CycleTooLong [2]
-disjoint rrule:a rrule:b|DTSTART:20240101~RRULE:FREQ=MONTHLY;INTERVAL=113|DTSTART:20240101~RRULE:FREQ=DAILY;INTERVAL=2|refused both CycleTooLong [2]
-equal rrule:a rrule:b|DTSTART:20240101~RRULE:FREQ=MONTHLY;INTERVAL=7~RRULE:FREQ=MONTHLY;INTERVAL=91|DTSTART:20240101~RRULE:FREQ=MONTHLY;INTERVAL=7~RRULE:FREQ=MONTHLY;INTERVAL=77|yes [0]
-equal rrule:a rrule:b|DTSTART:20240101T000000~RRULE:FREQ=SECONDLY;INTERVAL=86399|DTSTART:20240101T000000~RRULE:FREQ=SECONDLY;INTERVAL=86399|yes [0]
+// Verdicts: rules that are written in different ways, ends, dates beside moments, the languages, the order of refusals, and counts of
+// verdicts between series that are drawn.
+const VERDICTS: &str = "\
+equal rrule:a rrule:b|DTSTART:20240101~RRULE:FREQ=DAILY~EXRULE:FREQ=YEARLY;BYMONTH=2;BYMONTHDAY=30|DTSTART:20240101~RRULE:FREQ=DAILY|yes [0]
+equal rrule:a rrule:b|DTSTART:20240101~RRULE:FREQ=DAILY~EXRULE:FREQ=YEARLY;BYMONTH=2;BYMONTHDAY=30;COUNT=1|DTSTART:20240101~RRULE:FREQ=DAILY|refused A CountedTooFar [2]
+equal rrule:a rrule:b|DTSTART:20240101~EXRULE:FREQ=WEEKLY;BYDAY=SA,SU~RRULE:FREQ=DAILY|DTSTART:20240101~RRULE:FREQ=WEEKLY;BYDAY=MO,TU,WE,TH,FR|yes [0]
+disjoint rrule:a rrule:b|DTSTART:20240101T000000~RRULE:FREQ=SECONDLY~EXRULE:FREQ=SECONDLY;BYSECOND=0|DTSTART:20240101T000000~RRULE:FREQ=MINUTELY|yes [0]
+equal rrule:a rrule:b|DTSTART:20240101~RRULE:FREQ=DAILY;INTERVAL=2|DTSTART:20240101~RRULE:FREQ=DAILY;INTERVAL=3|no 2024-01-03 A [1]
+equal rrule:a rrule:b|DTSTART:20240101~RRULE:FREQ=DAILY;INTERVAL=3|DTSTART:20240101~RRULE:FREQ=DAILY;INTERVAL=2|no 2024-01-03 B [1]
+equal rrule:a rrule:b|DTSTART:20240101~RRULE:FREQ=DAILY|DTSTART:20240101~RRULE:FREQ=DAILY;INTERVAL=1|yes [0]
+equal rrule:a rrule:b|DTSTART:99991231~RRULE:FREQ=DAILY|DTSTART:99991231~RRULE:FREQ=DAILY;INTERVAL=2|no 10000-01-01 A [1]
+equal rrule:a rrule:b|DTSTART:20240101~RRULE:FREQ=WEEKLY;BYDAY=MO|DTSTART:20240101~RRULE:FREQ=DAILY;INTERVAL=7|yes [0]
+equal rrule:a rrule:b|DTSTART:20240131~RRULE:FREQ=MONTHLY;BYMONTHDAY=31|DTSTART:20240131~RRULE:FREQ=MONTHLY;BYMONTHDAY=-1|no 2024-02-29 B [1]
+equal rrule:a rrule:b|DTSTART:20241231~RRULE:FREQ=YEARLY;BYYEARDAY=366|DTSTART:20241231~RRULE:FREQ=YEARLY;BYMONTH=12;BYMONTHDAY=31|no 2025-12-31 B [1]
+equal rrule:a rrule:b|DTSTART:20960229~RRULE:FREQ=YEARLY;BYMONTH=2;BYMONTHDAY=29|DTSTART:20960229~RRULE:FREQ=YEARLY;INTERVAL=4;BYMONTH=2;BYMONTHDAY=29|yes [0]
+equal rrule:a rrule:b|DTSTART:19970805~RRULE:FREQ=WEEKLY;INTERVAL=2;BYDAY=TU,SU;WKST=MO|DTSTART:19970805~RRULE:FREQ=WEEKLY;INTERVAL=2;BYDAY=TU,SU;WKST=SU|no 1997-08-10 A [1]
+equal rrule:a rrule:b|DTSTART:20240229~RRULE:FREQ=YEARLY;INTERVAL=4;BYMONTH=2;BYMONTHDAY=-1|DTSTART:20240229~RRULE:FREQ=YEARLY;INTERVAL=4;BYMONTH=2;BYMONTHDAY=29|no 2100-02-28 A [1]
+equal rrule:a rrule:b|DTSTART:20240101~RRULE:FREQ=DAILY|DTSTART:20240101T000000~RRULE:FREQ=DAILY|no 2024-01-01 A [1]
+equal rrule:a rrule:b|DTSTART:20240101T093000~RRULE:FREQ=HOURLY;INTERVAL=24|DTSTART:20240101T093000~RRULE:FREQ=DAILY|yes [0]
+equal rrule:a rrule:b|DTSTART:20240101T093000~RRULE:FREQ=HOURLY;INTERVAL=12|DTSTART:20240101T093000~RRULE:FREQ=DAILY|no 2024-01-01T21:30:00 A [1]
+equal rrule:a rrule:b|DTSTART:20240101~RRULE:FREQ=DAILY;INTERVAL=2~RRULE:FREQ=DAILY;INTERVAL=3|DTSTART:20240101~RRULE:FREQ=DAILY;INTERVAL=2~RRULE:FREQ=DAILY;INTERVAL=3~RDATE:20240105|yes [0]
+within rrule:a rrule:b|DTSTART:20240101~RRULE:FREQ=WEEKLY|DTSTART:20240101~RRULE:FREQ=DAILY|yes [0]
+within rrule:a rrule:b|DTSTART:20240101~RRULE:FREQ=DAILY|DTSTART:20240101~RRULE:FREQ=WEEKLY|no 2024-01-02 A [1]
+disjoint rrule:a rrule:b|DTSTART:20240101~RRULE:FREQ=MONTHLY;BYMONTHDAY=1|DTSTART:20240107~RRULE:FREQ=WEEKLY;BYDAY=SU|no 2024-09-01 both [1]
+disjoint rrule:a rrule:b|DTSTART:20240101~RRULE:FREQ=DAILY;INTERVAL=2|DTSTART:20240102~RRULE:FREQ=DAILY;INTERVAL=2|yes [0]
+within rrule:a rrule:b|DTSTART:20240101~RRULE:FREQ=DAILY;INTERVAL=4099|DTSTART:20240101~RRULE:FREQ=DAILY;INTERVAL=4111|refused both CycleTooLong [2]
+disjoint rrule:a rrule:b|DTSTART:20240101~RRULE:FREQ=DAILY;INTERVAL=4099|DTSTART:20240101~RRULE:FREQ=MONTHLY;INTERVAL=127|refused B CycleTooLong [2]
+equal rrule:a rrule:b|DTSTART:20240101~RRULE:FREQ=MONTHLY;INTERVAL=127||refused A CycleTooLong [2]
+equal rrule:a rrule:b|DTSTART:20240101~RRULE:FREQ=DAILY|DTSTART:20230229~RRULE:FREQ=DAILY|refused B BadMoment 1 [2]
+within rrule:a rrule:b|DTSTART:20240102~RRULE:FREQ=WEEKLY;BYDAY=MO|DTSTART:20230229~RRULE:FREQ=DAILY|refused A NotSynchronised 1 [2]
+disjoint rrule:a rrule:b|DTSTART:20240101~RRULE:FREQ=DAILY|DTSTART:20240102~RRULE:FREQ=MONTHLY;BYDAY=TU;BYSETPOS=1|no 2024-01-02 both [1]
+equal rrule:a rrule:b|DTSTART:20240126~RRULE:FREQ=MONTHLY;BYDAY=-1FR|DTSTART:20240126~RRULE:FREQ=MONTHLY;BYDAY=FR;BYSETPOS=-1|yes [0]
+equal vcal:a rrule:b|DTSTART:20240101~RRULE:W2 MO #0|DTSTART:20240101~RRULE:FREQ=DAILY;INTERVAL=14|yes [0]
+equal vcal:a rrule:b|DTSTART:20240101~RRULE:D1 #5 20240103|DTSTART:20240101~RRULE:FREQ=DAILY;COUNT=3|yes [0]
+drill 1 1|||series 1 pairs 0 equal 0 within 0 disjoint 0 [0]
+drill 1 2|||series 2 pairs 1 equal 0 within 0 disjoint 1 [0]
+drill 1 3|||series 3 pairs 3 equal 0 within 0 disjoint 3 [0]
+";
+
+// Cycles in days, and faults of a cycle.
+const CYCLES: &str = "\
+check rrule:a|DTSTART:20240229~RRULE:FREQ=YEARLY;INTERVAL=4;BYMONTH=2;BYMONTHDAY=29||cycle 146097 [0]
+check rrule:a|DTSTART:20240101T090000~RRULE:FREQ=HOURLY;INTERVAL=7;BYDAY=MO||cycle 7 [0]
+check rrule:a|DTSTART:20240101T000000~RRULE:FREQ=SECONDLY;INTERVAL=4294967295||refused A CycleTooLong [2]
+check rrule:a|DTSTART:20240102~RRULE:FREQ=MONTHLY;BYDAY=TU;BYSETPOS=1||cycle 146097 [0]
+check rrule:a|DTSTART:20240101~RRULE:FREQ=MONTHLY;INTERVAL=113||cycle 16508961 [0]
+check rrule:a|DTSTART:20240101~RRULE:FREQ=DAILY;FREQ=DAILY||refused A PartTwice 2 [2]
+";
+
+// Occurrences of whole calendar files and events, of rules of vCalendar 1.0, and with an offset. Of two ends of a vCalendar rule the
+// earlier counts.
+const LISTED: &str = "\
+list 9 vcal:a|DTSTART:20240101T090000~RRULE:D4||2024-01-01T09:00:00~2024-01-05T09:00:00 [0]
+list 9 vcal:a|DTSTART:20240329~RRULE:MP1 5+ FR #3||2024-03-29~2024-05-31~2024-08-30 [0]
+list 9 rrule:a|BEGIN:VCALENDAR\r~VERSION:2.0\r~BEGIN:VTIMEZONE\r~TZID:Europe/Berlin\r~BEGIN:STANDARD\r~DTSTART:19701025T030000\r~RRULE:FREQ=YEARLY;BYMONTH=10;BYDAY=-1SU\r~END:STANDARD\r~END:VTIMEZONE\r~BEGIN:VEVENT\r~DTSTART;TZID=Europe/Berlin:20240103T100000\r~RRULE:FREQ=WEEKLY;WKST=MO;COUNT=4;\r~ BYDAY=WE\r~EXDATE;TZID=Europe/Berlin:20240110T100000\r~SUMMARY:Status\r~BEGIN:VALARM\r~TRIGGER:-P0DT0H10M0S\r~END:VALARM\r~END:VEVENT\r~END:VCALENDAR\r~||2024-01-03T10:00:00~2024-01-17T10:00:00~2024-01-24T10:00:00 [0]
+list 9 rrule:a|DTSTART;TZID=Europe/Berlin:20240101T093000~RRULE:FREQ=DAILY;UNTIL=20240103T083000Z||refused A UtcMoment [2]
+list 9 rrule@+01:00:a|DTSTART;TZID=Europe/Berlin:20240101T093000~RRULE:FREQ=DAILY;UNTIL=20240103T083000Z||2024-01-01T09:30:00~2024-01-02T09:30:00~2024-01-03T09:30:00 [0]
+list 1 graph:a|{\"start\":{\"dateTime\":\"2024-01-02T04:00:00.0000000\",\"timeZone\":\"UTC\"},\"recurrence\":{\"pattern\":{\"type\":\"weekly\",\"interval\":1,\"daysOfWeek\":[\"monday\"]},\"range\":{\"type\":\"noEnd\",\"startDate\":\"2024-01-01\"}}}||refused A StartDiffers [2]
+list 1 graph@-08:00:a|{\"start\":{\"dateTime\":\"2024-01-02T04:00:00.0000000\",\"timeZone\":\"UTC\"},\"recurrence\":{\"pattern\":{\"type\":\"weekly\",\"interval\":1,\"daysOfWeek\":[\"monday\"]},\"range\":{\"type\":\"noEnd\",\"startDate\":\"2024-01-01\"}}}||2024-01-01T20:00:00 [0]
+list 5 list:a||| [0]
+list 9 vcal:a|DTSTART:20240101~RRULE:D1 #5 20240103||2024-01-01~2024-01-02~2024-01-03 [0]
+list 9 vcal:a|DTSTART:20240101~RRULE:D1 #2 20240103||2024-01-01~2024-01-02 [0]
 ";
 
 // Series that last: dates beside moments, occurrences that overlap their own successors, sets that end, empty sets, and the first
@@ -39,7 +94,6 @@ clear 3600 rrule:a 3600 rrule:b|DTSTART:20240101T000000~RRULE:FREQ=HOURLY;INTERV
 clear 3601 rrule:a 3600 rrule:b|DTSTART:20240101T000000~RRULE:FREQ=HOURLY;INTERVAL=7|DTSTART:20240101T010000~RRULE:FREQ=HOURLY;INTERVAL=7|no 2024-01-01T01:00:00 2024-01-01T00:00:00 2024-01-01T01:00:00 [1]
 clear 1 rrule:a 1 rrule:b|DTSTART:20240101T000000~RRULE:FREQ=SECONDLY;INTERVAL=2|DTSTART:20240101T000001~RRULE:FREQ=SECONDLY;INTERVAL=2|yes [0]
 clear 2 rrule:a 1 rrule:b|DTSTART:20240101T000000~RRULE:FREQ=SECONDLY;INTERVAL=2|DTSTART:20240101T000001~RRULE:FREQ=SECONDLY;INTERVAL=2|no 2024-01-01T00:00:01 2024-01-01T00:00:00 2024-01-01T00:00:01 [1]
-clear 1 rrule:a 1 rrule:b|DTSTART:20240101~RRULE:FREQ=MONTHLY;INTERVAL=113|DTSTART:20240101~RRULE:FREQ=DAILY;INTERVAL=2|refused both CycleTooLong [2]
 clear 86400 rrule:a 86400 rrule:b|DTSTART:20000229~RRULE:FREQ=YEARLY;INTERVAL=400;BYMONTH=2;BYMONTHDAY=29|DTSTART:20240101~RRULE:FREQ=DAILY;INTERVAL=146098|refused both CycleTooLong [2]
 clear 1 rrule:a 1 rrule:b|DTSTART:20240102~RRULE:FREQ=WEEKLY;BYDAY=MO|DTSTART:20240101~RRULE:FREQ=DAILY|refused A NotSynchronised 1 [2]
 clear 86400 rrule:a 1 rrule:b|DTSTART:99991231~RRULE:FREQ=DAILY|DTSTART:99990101~RRULE:FREQ=YEARLY|no 10000-01-01T00:00:00 10000-01-01 10000-01-01 [1]
@@ -85,6 +139,14 @@ nth 2 rrule:a|DTSTART:20240102~RRULE:FREQ=WEEKLY;BYDAY=MO||refused A NotSynchron
 
 // Canonical texts of both versions, printed and read.
 const CANONICAL_TEXTS: &str = "\
+canon rrule:a|DTSTART:20240101~RRULE:FREQ=WEEKLY||rrcanon 2~days~f 2024-01-01~q 2024-01-01 7~c 0 0 1 [0]
+canon rrule:a|DTSTART:20240101~RRULE:FREQ=WEEKLY~RRULE:FREQ=WEEKLY;INTERVAL=2~RDATE:20240108||rrcanon 2~days~f 2024-01-01~q 2024-01-01 7~c 0 0 1 [0]
+canon rrule:a|DTSTART:20240101~EXDATE:20240101||rrcanon 2~none [0]
+canon rrule:a|DTSTART:20240101~RRULE:FREQ=DAILY;INTERVAL=2;COUNT=3||rrcanon 2~days~f 2024-01-01~b 0 0 1~b 2 0 2 [0]
+canon rrule:a|DTSTART:20240101~RRULE:FREQ=MONTHLY;INTERVAL=127||refused A CycleTooLong [2]
+canon list:a|||rrcanon 2~none [0]
+canon1 list:a|||rrcanon 1~none [0]
+canon vcal:a|DTSTART:20240101~RRULE:D1 #5 20240103||rrcanon 2~days~f 2024-01-01~b 0 0 1~b 1 0 2 [0]
 canon rrule:a|DTSTART:20240101T000000~RRULE:FREQ=SECONDLY||rrcanon 2~moments~t 0/1/86400~f 2024-01-01~q 2024-01-01 1~c 0 0 1 [0]
 canon rrule:a|DTSTART:20240101T090000~RRULE:FREQ=DAILY;BYHOUR=9,17||rrcanon 2~moments~t 32400 61200~f 2024-01-01~q 2024-01-01 1~c 0 0 1 [0]
 canon rrule:a|DTSTART:20240101T000000~RRULE:FREQ=DAILY;BYSECOND=0,10,11,12||rrcanon 2~moments~t 0 10/1/3~f 2024-01-01~q 2024-01-01 1~c 0 0 1 [0]
@@ -97,7 +159,6 @@ canon canon@+01:00:a|rrcanon 2~none~||rrcanon 2~none [0]
 canon1 canon:a|\u{feff}rrcanon 1~days~f 2024-01-01~b 0 0 1~b 1 0 2~||rrcanon 1~days~f 2024-01-01~b 0 0 1~b 1 0 2 [0]
 canon canon:a|rrcanon 2~days~f 2024-01-01~q 2024-01-01 14~c 0 0 1~c 7 0 1~||refused A NotCanonical [2]
 canon canon:a|rrcanon 2~moments~t 0 60 120~f 2024-01-01~b 0 0 1~||refused A NotCanonical [2]
-canon canon:a|rrcanon 2~days~f 2024-01-01~b 0 0 1~b 1 0 1000000000000~||refused A NotCanonical [2]
 canon canon:a|rrcanon 2~none||refused A NotCanonical [2]
 canon canon:a|||refused A NotCanonical [2]
 equal canon:a rrule:b|rrcanon 1~moments~t 32400 57600 82800~t 21600 46800 72000~t 10800 36000 61200~t 0 25200 50400 75600~t 14400 39600 64800~t 3600 28800 54000 79200~t 18000 43200 68400~t 7200 32400 57600 82800~f 2024-01-01~b 0 0 1~q 2024-01-02 7~c 0 1 1~c 1 2 1~c 1 3 1~c 1 4 1~c 1 5 1~c 1 6 1~c 1 7 1~|DTSTART:20240101T090000~RRULE:FREQ=HOURLY;INTERVAL=7|yes [0]
@@ -120,7 +181,6 @@ common rrule:a rrule:b|DTSTART:20240101~RRULE:FREQ=DAILY|DTSTART:20240101T000000
 minus rrule:a rrule:b|DTSTART:20240101~RRULE:FREQ=DAILY|DTSTART:20240101T000000~RRULE:FREQ=DAILY|rrcanon 2~days~f 2024-01-01~q 2024-01-01 1~c 0 0 1 [0]
 union canon:a rrule:b|rrcanon 2~none~|DTSTART:20240101T000000~RRULE:FREQ=DAILY|rrcanon 2~moments~t 0~f 2024-01-01~q 2024-01-01 1~c 0 0 1 [0]
 union rrule:a canon:b|DTSTART:20240101T000000~RRULE:FREQ=DAILY|rrcanon 1~none~|rrcanon 2~moments~t 0~f 2024-01-01~q 2024-01-01 1~c 0 0 1 [0]
-union rrule:a rrule:b|DTSTART:20240101~RRULE:FREQ=MONTHLY;INTERVAL=113|DTSTART:20240101~RRULE:FREQ=DAILY;INTERVAL=5|refused both CycleTooLong [2]
 union rrule:a canon:b|DTSTART:20240101~RRULE:FREQ=DAILY|rrcanon 2~days~f 2024-01-01~q 2024-01-01 14~c 0 0 1~c 7 0 1~|refused B NotCanonical [2]
 union rrule:a canon:b|DTSTART:20240102~RRULE:FREQ=WEEKLY;BYDAY=MO|rrcanon 2~none|refused A NotSynchronised 1 [2]
 union canon:a canon:b|rrcanon 2~moments~t 0 60~f 2024-01-01~b 0 0 1~|rrcanon 2~moments~t 120 7200~f 2024-01-01~b 0 0 1~|rrcanon 2~moments~t 0/60/3 7200~f 2024-01-01~b 0 0 1 [0]
@@ -158,8 +218,59 @@ canon rscale:a|DTSTART:20240131~RRULE:RSCALE=GREGORIAN;FREQ=MONTHLY~RRULE:nothin
 canon rscale:a|RDATE:nothing~DTSTART:20230229||refused A Extended [2]
 ";
 
+// Series of millions of days, and of too many seconds. Who asks each second of the sixteen million days of a common cycle has no
+// answer within the time of a test.
+const LONG: &str = "\
+equal rrule:a rrule:b|DTSTART:20240101~RRULE:FREQ=MONTHLY;INTERVAL=113|DTSTART:20240101~RRULE:FREQ=DAILY;INTERVAL=2|no 2024-01-03 B [1]
+within rrule:a rrule:b|DTSTART:20240101~RRULE:FREQ=MONTHLY;INTERVAL=113|DTSTART:20240101~RRULE:FREQ=DAILY;INTERVAL=2|refused both CycleTooLong [2]
+disjoint rrule:a rrule:b|DTSTART:20240101~RRULE:FREQ=MONTHLY;INTERVAL=113|DTSTART:20240101~RRULE:FREQ=DAILY;INTERVAL=2|refused both CycleTooLong [2]
+clear 1 rrule:a 1 rrule:b|DTSTART:20240101~RRULE:FREQ=MONTHLY;INTERVAL=113|DTSTART:20240101~RRULE:FREQ=DAILY;INTERVAL=2|refused both CycleTooLong [2]
+canon canon:a|rrcanon 2~days~f 2024-01-01~b 0 0 1~b 1 0 1000000000000~||refused A NotCanonical [2]
+union rrule:a rrule:b|DTSTART:20240101~RRULE:FREQ=MONTHLY;INTERVAL=113|DTSTART:20240101~RRULE:FREQ=DAILY;INTERVAL=5|refused both CycleTooLong [2]
+equal rrule:a rrule:b|DTSTART:20240101~RRULE:FREQ=MONTHLY;INTERVAL=7~RRULE:FREQ=MONTHLY;INTERVAL=91|DTSTART:20240101~RRULE:FREQ=MONTHLY;INTERVAL=7~RRULE:FREQ=MONTHLY;INTERVAL=77|yes [0]
+equal rrule:a rrule:b|DTSTART:20240101T000000~RRULE:FREQ=SECONDLY;INTERVAL=86399|DTSTART:20240101T000000~RRULE:FREQ=SECONDLY;INTERVAL=86399|yes [0]
+equal rrule:a rrule:b|DTSTART:20240101~RRULE:FREQ=DAILY;INTERVAL=7|DTSTART:20240101~RRULE:FREQ=WEEKLY~EXDATE:99991227|no 9999-12-27 A [1]
+equal rrule:a rrule:b|DTSTART:20240101~RRULE:FREQ=MONTHLY;INTERVAL=113|DTSTART:20240101~RRULE:FREQ=MONTHLY;INTERVAL=113|yes [0]
+equal rrule:a rrule:b|DTSTART:20240101T093000~RRULE:FREQ=MONTHLY;INTERVAL=113|DTSTART:20240101T093000~RRULE:FREQ=MONTHLY;INTERVAL=113;BYMONTHDAY=1|yes [0]
+canon rrule:a|DTSTART:20240101T000000~RRULE:FREQ=SECONDLY;INTERVAL=7~RRULE:FREQ=SECONDLY;INTERVAL=11~RRULE:FREQ=SECONDLY;INTERVAL=13||refused A TooManyMoments [2]
+equal rrule:a rrule:b|DTSTART:20240101T000000~RRULE:FREQ=SECONDLY;INTERVAL=7~RRULE:FREQ=SECONDLY;INTERVAL=11~RRULE:FREQ=SECONDLY;INTERVAL=13|DTSTART:20240101~RRULE:FREQ=DAILY|refused A TooManyMoments [2]
+union rrule:a rrule:b|DTSTART:20240101T000000~RRULE:FREQ=SECONDLY;INTERVAL=7~RRULE:FREQ=SECONDLY;INTERVAL=11|DTSTART:20240101T000000~RRULE:FREQ=SECONDLY;INTERVAL=13|refused both TooManyMoments [2]
+";
+
 // Words that are no command.
 const NO_COMMANDS: &str = "\
+equal rrule:- rrule:-
+equal list:- rrule@+01:00:-
+list 0 rrule:x
+Equal rrule:a rrule:b
+equal rrule: rrule:b
+equal RRULE:a rrule:b
+equal rrule:a
+check
+canon rrule:a rrule:b
+translate list rrule:a
+translate rrule:a
+list 100001 rrule:x
+list 01 rrule:x
+list  rrule:x
+list +1 rrule:x
+list 18446744073709551617 rrule:x
+drill 1
+drill 4294967296 1
+drill 1 0
+drill 1 101
+drill 00 1
+drill 1 1 rrule:a
+check rrule@+24:00:a
+check rrule@+01:60:a
+check rrule@01:00:a
+check rrule@+1:00:a
+check rrule@+0100:a
+check rrule@+01:00
+check rrule@+01:00:
+check rrule@:a
+check rrule
+check ical:a
 clear 0 rrule:a 1 rrule:b
 clear 31622401 rrule:a 1 rrule:b
 clear 01 rrule:a 1 rrule:b
@@ -193,39 +304,55 @@ union canon:a
 canon1 canon:a canon:b
 ";
 
+// The usage line.
+const USAGE: &str =
+    "usage: rr equal A B | within A B | disjoint A B | canon A | translate LANG A | infer A | list N A | check A | drill SEED N | canon1 A | union A B | common A B | minus A B | clear D A E B | nth N A | rank MOMENT A [3]";
+
+// What was put, with `~` for a line break; each output that is not empty ends with one more.
+pub(crate) fn shown(alloc: Global, bytes: &[u8]) -> Result<String, Fail> {
+    let text = std::str::from_utf8(bytes).ok().ok_or("the output is text")?;
+    if text.is_empty() {
+        return Ok(String::new(alloc));
+    }
+    let lines = text
+        .strip_suffix('\n')
+        .ok_or("the output ends with a line break")?;
+    Ok(lines.replace(alloc, "\n", "~")?)
+}
+
 // What a run over these words puts, and its exit status.
-fn said(alloc: Global, words: &str, a: &str, b: &str) -> Result<String, Fail> {
+pub(crate) fn said(alloc: Global, words: &str, a: &[u8], b: &[u8]) -> Result<String, Fail> {
     let mut list = Vec::new(alloc);
     for word in words.split(' ') {
         list.push(word)?;
     }
-    let a = a.replace(alloc, "~", "\n")?;
-    let b = b.replace(alloc, "~", "\n")?;
     let mut source = SteadySource::new(alloc);
-    source.hold("a", a.as_bytes()).ok().ok_or("memory")?;
-    source.hold("b", b.as_bytes()).ok().ok_or("memory")?;
+    source.hold("a", a).ok().ok_or("memory")?;
+    source.hold("b", b).ok().ok_or("memory")?;
     let mut sink = SteadySink::new(alloc);
     let status = run(alloc, list.as_slice(), &mut source, &mut sink);
-    let text = std::str::from_utf8(sink.bytes())
-        .ok()
-        .ok_or("the output is text")?;
-    let text = text.trim_end().replace(alloc, "\n", "~")?;
+    let text = shown(alloc, sink.bytes())?;
     Ok(format!(in alloc; "{} [{}]", text.as_str(), status.code())?)
 }
 
 // A row `WORDS|A|B|OUTPUT [STATUS]` holds.
-fn row_holds(rt: &impl Abort, alloc: Global, row: &str) -> Result<(), Fail> {
+pub(crate) fn row_holds(rt: &impl Abort, alloc: Global, row: &str) -> Result<(), Fail> {
     let (given, wanted) = row.rsplit_once('|').ok_or("a row has an output")?;
     let (given, b) = given.rsplit_once('|').ok_or("a row has a text of b")?;
     let (words, a) = given.rsplit_once('|').ok_or("a row has a text of a")?;
-    assert_eq!(rt; said(alloc, words, a, b)?.as_str(), wanted, "{row}");
+    let a = a.replace(alloc, "~", "\n")?;
+    let b = b.replace(alloc, "~", "\n")?;
+    let said = said(alloc, words, a.as_bytes(), b.as_bytes())?;
+    assert_eq!(rt; said.as_str(), wanted, "{row}");
     Ok(())
 }
 
 #[test]
 fn cases(rt: HostRuntime) -> Result<(), Fail> {
     for table in [
-        PAST_THE_COMMON_CYCLE,
+        VERDICTS,
+        CYCLES,
+        LISTED,
         CLASHES,
         NUMBERS,
         CANONICAL_TEXTS,
@@ -236,9 +363,39 @@ fn cases(rt: HostRuntime) -> Result<(), Fail> {
             row_holds(&rt, rt.alloc(), row)?;
         }
     }
+    Ok(())
+}
+
+#[test]
+fn long_series(rt: HostRuntime) -> Result<(), Fail> {
+    for row in LONG.lines() {
+        row_holds(&rt, rt.alloc(), row)?;
+    }
+    Ok(())
+}
+
+#[test]
+fn usage(rt: HostRuntime) -> Result<(), Fail> {
+    let mut source = SteadySource::new(rt.alloc());
+    let mut sink = SteadySink::new(rt.alloc());
+    let status = run(rt.alloc(), &[], &mut source, &mut sink);
+    assert_eq!(rt; status, Status::Usage);
     for words in NO_COMMANDS.lines() {
-        let line = said(rt.alloc(), words, "DTSTART:20240101", "DTSTART:20240101")?;
-        assert_eq!(rt; line.ends_with("[3]"), true, "{words}");
+        let said = said(rt.alloc(), words, b"DTSTART:20240101", b"DTSTART:20240101")?;
+        assert_eq!(rt; said.as_str(), USAGE, "{words}");
+    }
+    Ok(())
+}
+
+#[test]
+fn names(rt: HostRuntime) -> Result<(), Fail> {
+    let alloc = rt.alloc();
+    for (word, name) in [("rrule:a:b@c", "a:b@c"), ("rrule:@", "@"), ("rrule:-", "-")] {
+        let mut source = SteadySource::new(alloc);
+        source.hold(name, b"DTSTART:20240101").ok().ok_or("memory")?;
+        let mut sink = SteadySink::new(alloc);
+        run(alloc, &["check", word], &mut source, &mut sink);
+        assert_eq!(rt; shown(alloc, sink.bytes())?.as_str(), "cycle 1", "{word}");
     }
     Ok(())
 }
