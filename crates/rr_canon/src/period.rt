@@ -64,8 +64,9 @@ fn divided_once<A: DaySeq>(seq: &A, period: u64, factor: u64) -> u64
     period
 }
 
-/// The least number of days, from 1, after which the sequence repeats from some day on: that of rr_word, which reads the seconds
-/// of each day.
+/// The least number of days, from 1, after which the sequence repeats from some day on.
+///
+/// It takes no memory. It gives what `least_period` of rr_word gives, which reads the seconds of each day.
 pub fn least_period<A: DaySeq>(seq: &A) -> u64
     ensures least { IsLeastPeriod (times_on (A.sketch seq.now)) result }
     ensures few { result ≤ 1_000_000_000 }
