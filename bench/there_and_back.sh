@@ -26,6 +26,7 @@ back() {
 }
 
 for file in "$here"/examples/*; do
+    [ -f "$file" ] || continue
     name=$(basename -- "$file")
     case $name in
     # (the offset turns an UNTIL in UTC beside a local start, and nothing where there is none)
