@@ -260,6 +260,7 @@ pub fn fold_skip(alloc: Global, series: &SkipSeries) -> Result<Folded, Fault>
     requires few { skip_cycle series.now ≤ 16_777_216 }
     ensures stands { IfOk result (λ f. StandsFor (⟦<Folded as DaySeq>⟧.sketch f) (OccursSkipping series.now)) }
     ensures kind { IfOk result (λ f. (⟦<Folded as DaySeq>⟧.sketch f).kind ≡ series.now.kind) }
+    ensures near { IfOk result (λ f. (⟦<Folded as DaySeq>⟧.sketch f).settled ≤ℤ pos 20_000_000) }
     ensures period { IfOk result (λ f. (⟦<Folded as DaySeq>⟧.sketch f).period ≡ skip_cycle series.now) }
     ensures refused { RefusedExactlyWhere (IsSkippedTooFar series.now) CountedTooFar result }
 {

@@ -1,6 +1,7 @@
-use Rattle.std.proofs.Common.{sym, subst}
+use Rattle.std.proofs.Common.{pos, ◌≤ℤ◌, sym, subst}
 use Rattle.rr_days.proofs.BackLemmas.{moment_back}
 use Rattle.rr_model.specs.Sets.Sketch.{StandsFor}
+use Rattle.rr_model.specs.declared.sketch.Sketch.{Sketch}
 use Rattle.rr_skip.specs.Folding.{is_occupied}
 use Rattle.rr_skip.specs.Members.{OccursSkipping}
 use Rattle.rr_skip.proofs.SkipSketchLemmas.{is_folding, skip_stands}
@@ -18,3 +19,7 @@ returns-in_ok-folded-in-Ok-clause-stands c =
     let s = moment_back series.kind series.start c.requires.sound.start in
     let same = rw s at c.in_ok-folded-in-Ok.ensures in
     subst (λ x. StandsFor x (OccursSkipping series)) (sym same) (skip_stands series c.in-Ok.days c.in-Ok.ensures.days)
+
+pub returns-in_ok-folded-in-Ok-clause-near : goal.returns-in_ok-folded-in-Ok-clause-near
+returns-in_ok-folded-in-Ok-clause-near c =
+    subst (λ (x : Sketch). x.settled ≤ℤ pos 20_000_000) (sym c.in_ok-folded-in-Ok.ensures) c.in-Ok.ensures.days.high
