@@ -46,7 +46,7 @@ measure 10 1 'equal, each second of January' equal "rrule:$scratch/january" "rru
 measure 0.02 5 'canon, monthly' canon "rrule:$scratch/monthly"
 measure 2 3 'canon, a dense cycle of 16,508,961 days' canon "rrule:$scratch/dense"
 measure 1.5 3 'canon, minutes beside a cycle of 16,508,961 days' canon "rrule:$scratch/minutes"
-measure 0.5 3 'nth 1, the text of those minutes' nth 1 "canon:$scratch/minutes-text"
+measure 0.5 3 'within, the text of those minutes, read back' within "canon:$scratch/minutes-text" "rrule:$scratch/weekly"
 measure 0.05 5 'nth 1, a canonical text of a megabyte' nth 1 "canon:$scratch/megabyte"
 measure 2 3 'union, two dense cycles of 16,508,961 days' union "rrule:$scratch/dense" "rrule:$scratch/dense-other"
 measure 1.6 3 'canon, 113 sets that take turns' canon "rrule:$scratch/turns"
