@@ -88,8 +88,11 @@ fn keep(used: &mut Used, line: Option<UsedLine>) -> Result<(), NoMemory>
     }
 }
 
-// The used lines up to the first fault of the components.
-fn scan_lines(alloc: Global, is_bare: bool, last: u64, lines: &[Line]) -> Result<Scan, NoMemory>
+/// The used lines of unfolded lines, up to the first fault of the components.
+///
+/// `is_bare` says that no line has the name BEGIN, and `last` is the number of the last physical line, which the
+/// refusal of an open component names. See `event_lines`.
+pub fn scan_lines(alloc: Global, is_bare: bool, last: u64, lines: &[Line]) -> Result<Scan, NoMemory>
     ensures { IfOk result (λ scan. scan ≡ scanned is_bare last no_components lines.now) }
 {
     let mut used = Used::new(alloc);

@@ -8,7 +8,7 @@ mod list;
 mod names;
 mod value;
 
-pub use event::event_lines;
+pub use event::{event_lines, scan_lines};
 pub use laws::{folding_does_not_matter, line_ends_do_not_matter};
 pub use list::read_list;
 

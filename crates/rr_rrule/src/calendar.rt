@@ -26,8 +26,8 @@ fn series_of(start: Stamp, beside: Nearby) -> Series
     }
 }
 
-// Both passes over the used lines of an event.
-fn read_scan(alloc: Global, offset: Option<i32>, scan: &Scan) -> Result<Series, Fault>
+/// The series that the used lines of one event state; see `read`, which refuses in the same order.
+pub fn read_scan(alloc: Global, offset: Option<i32>, scan: &Scan) -> Result<Series, Fault>
     ensures { Answers (calendar_scan offset scan.now) result }
 {
     let lines = scan.used.as_slice();

@@ -19,7 +19,7 @@ mod words;
 mod write_line;
 mod write_series;
 
-pub use calendar::read;
+pub use calendar::{read, read_scan};
 pub use first::{date_value, judged_date, judged_start};
 pub use laws::{
     calendar_is_read_back, case_does_not_matter, folding_does_not_matter, line_ends_do_not_matter,

@@ -1,7 +1,7 @@
 -- The lines as far as they are unfolded.
 use Rattle.std.proofs.Common.{◌≡◌, ℕ, ◌+◌, ◌&&◌, not, Bool, true, false, if◌then◌else◌, List, [], ◌∷◌, ◌++◌, refl, sym, ap, ◌∙◌}
 use Rattle.rr_model.specs.Rule.Validity.{is_absent}
-use Rattle.rr_model.specs.Text.Lines.{begins_blank, continuation, onto_last, with_physical_line, with_physical_lines, physical_lines, unfolded_lines}
+use Rattle.rr_model.specs.Text.Lines.{begins_blank, continuation, onto_last, with_physical_line, with_physical_lines, physical_lines}
 use Rattle.rr_model.specs.declared.line.Line.{Line}
 
 -- a line made longer
@@ -29,9 +29,9 @@ taken_in keeps number next lines more text rest line all cut step put so_far =
     rw (step, put) (sym (ap (with_physical_lines keeps number lines) cut) ∙ so_far)
 
 -- an empty text has no lines
-pub no_lines : (keeps : Bool) (text : List ℕ) → text ≡ [] → [] ≡ unfolded_lines keeps text
-unfolding unfolded_lines physical_lines
-no_lines keeps text e = rw e refl
+pub no_lines : (keeps : Bool) (first : ℕ) (text : List ℕ) → text ≡ [] → [] ≡ with_physical_lines keeps first [] (physical_lines text)
+unfolding physical_lines
+no_lines keeps first text e = rw e refl
 
 -- nothing is left
 pub all_taken : (keeps : Bool) (number : ℕ) (lines : List Line) (text : List ℕ) (all : List Line) → text ≡ []

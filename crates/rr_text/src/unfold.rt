@@ -1,6 +1,6 @@
 // Unfolded lines (RFC 5545, section 3.1; vCalendar 1.0, section 2.1.3).
-ghost use Rattle.std.specs.Prelude.{◌≡◌, ◌++◌, ◌∷◌, [], true, IfOk, OnOk};
-ghost use Rattle.rr_model.specs.Text.Lines.{begins_blank, continuation, with_physical_line, unfolded_lines};
+ghost use Rattle.std.specs.Prelude.{◌≡◌, ◌<◌, ◌+◌, ◌^◌, ◌++◌, ◌∷◌, [], length, true, IfOk, OnOk};
+ghost use Rattle.rr_model.specs.Text.Lines.{begins_blank, continuation, physical_lines, with_physical_line, with_physical_lines, unfolded_lines};
 ghost use Rattle.rr_model.specs.declared.line.Line.{Line};
 
 use crate::physical::take_line;
@@ -53,6 +53,36 @@ fn take_in(
     }
 }
 
+/// The unfolded lines of a part of a text, whose first physical line has the number `first`.
+///
+/// A part that begins with an unfolded line of the whole text has the lines that the whole text has there, with their
+/// numbers. See `lines`.
+#[tactic(auto)]
+pub fn lines_from(
+    alloc: Global,
+    bytes: &[u8],
+    keep_blank: bool,
+    first: u64,
+) -> Result<LineList, NoMemory>
+    requires { first + length bytes.now < 2 ^ 64 }
+    ensures { IfOk result (λ lines. lines ≡ with_physical_lines keep_blank first [] (physical_lines bytes.now)) }
+{
+    let mut done = LineList::new(alloc);
+    let Some((text, after)) = take_line(bytes) else {
+        return Ok(done);
+    };
+    let mut last = line_of(alloc, first, text)?;
+    let mut rest = after;
+    let mut number = first;
+    while let Some((text, after)) = take_line(rest) {
+        number += 1;
+        take_in(alloc, keep_blank, number, &mut done, &mut last, text)?;
+        rest = after;
+    }
+    done.put(last)?;
+    Ok(done)
+}
+
 /// The unfolded lines of the bytes, each with the number of its first physical line, from 1.
 ///
 /// A physical line ends with CR LF or LF, or with the end of the text. One that begins with a blank or a tab
@@ -62,18 +92,5 @@ fn take_in(
 pub fn lines(alloc: Global, bytes: &[u8], keep_blank: bool) -> Result<LineList, NoMemory>
     ensures { IfOk result (λ lines. lines ≡ unfolded_lines keep_blank bytes.now) }
 {
-    let mut done = LineList::new(alloc);
-    let Some((first, after)) = take_line(bytes) else {
-        return Ok(done);
-    };
-    let mut last = line_of(alloc, 1, first)?;
-    let mut rest = after;
-    let mut number = 1u64;
-    while let Some((text, after)) = take_line(rest) {
-        number += 1;
-        take_in(alloc, keep_blank, number, &mut done, &mut last, text)?;
-        rest = after;
-    }
-    done.put(last)?;
-    Ok(done)
+    lines_from(alloc, bytes, keep_blank, 1)
 }

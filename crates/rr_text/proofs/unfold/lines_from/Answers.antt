@@ -1,9 +1,9 @@
 use Rattle.std.proofs.Common.{◌≡◌, ◌∙◌, ◌+◌, sym}
 use Rattle.rr_text.proofs.UnfoldLemmas.{no_lines, all_taken}
-use Rattle.rr_text.proofs.unfold.lines.Goals as goal
+use Rattle.rr_text.proofs.unfold.lines_from.Goals as goal
 
 pub returns-in_default : goal.returns-in_default
-returns-in_default c = c.new-done.ensures ∙ no_lines c.args.keep_blank c.args.bytes.now c.in_default.ensures
+returns-in_default c = c.new-done.ensures ∙ no_lines c.args.keep_blank c.args.first c.args.bytes.now c.in_default.ensures
 
 pub returns : goal.returns
 returns c =
