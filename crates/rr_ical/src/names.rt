@@ -6,24 +6,24 @@ ghost use Rattle.rr_model.specs.Text.UsedLines.{is_named, line_kind};
 use crate::value::name_and_rest;
 use rr_model::{LineKind, LineName};
 
-// Whether two names are the same in either case.
-pub(crate) fn is_same_name(name: &[u8], other: &[u8]) -> bool
+/// Whether two names are the same in either case.
+pub fn is_same_name(name: &[u8], other: &[u8]) -> bool
     ensures { result ≡ str_eq_ignore_ascii_case name.now other.now }
 {
     name.eq_ignore_ascii_case(other)
 }
 
-// Whether the line has this name.
-pub(crate) fn is_named(text: &[u8], word: &[u8]) -> bool
+/// Whether the unfolded line has this name, in either case (RFC 5545, section 3.1).
+pub fn is_named(text: &[u8], word: &[u8]) -> bool
     ensures { result ≡ is_named text.now word.now }
 {
     let (name, _) = name_and_rest(text);
     is_same_name(name, word)
 }
 
-// The kind of a line. Its name is read once.
+/// The kind of an unfolded line by its name, in either case. The name is read once.
 #[tactic(auto, unfolding(rr_model::specs::Text::UsedLines::line_kind))]
-pub(crate) fn line_kind(text: &[u8]) -> LineKind
+pub fn line_kind(text: &[u8]) -> LineKind
     ensures { result ≡ line_kind text.now }
 {
     let (name, _) = name_and_rest(text);

@@ -16,8 +16,8 @@ fn count_name_bytes(text: &[u8]) -> usize
     text.iter().take_while(|b| is_name_byte(**b)).count()
 }
 
-// The name of a line, and what stands after it.
-pub(crate) fn name_and_rest(text: &[u8]) -> (&[u8], &[u8])
+/// The name of an unfolded line, and what stands after it (RFC 5545, section 3.1).
+pub fn name_and_rest(text: &[u8]) -> (&[u8], &[u8])
     ensures name { result.0.now ≡ name_of_line text.now }
     ensures rest { result.1.now ≡ after_name text.now }
 {
@@ -41,8 +41,8 @@ fn is_quoted_after(is_quoted: bool, byte: u8, rest: &[u8]) -> bool
     }
 }
 
-// What stands after the first colon that is not between two quotes.
-fn after_colon(text: &[u8]) -> Option<&[u8]>
+/// What stands after the first colon that is not between two quotes (RFC 5545, section 3.1).
+pub fn after_colon(text: &[u8]) -> Option<&[u8]>
     ensures { option_map (λ rest. rest.now) result ≡ after_colon false text.now }
 {
     let mut is_quoted = false;
@@ -65,9 +65,10 @@ fn begins_value(text: &[u8]) -> bool
     }
 }
 
-// The value of a line, if it has one.
+/// The value of an unfolded line, if it has one: what stands after its name, its parameters and the colon, without the blanks
+/// and tabs around it (RFC 5545, section 3.1).
 #[tactic(auto, unfolding(rr_model::specs::Text::UsedLines::value_of_line))]
-pub(crate) fn value_of_line(text: &[u8]) -> Option<&[u8]>
+pub fn value_of_line(text: &[u8]) -> Option<&[u8]>
     ensures { option_map (λ value. value.now) result ≡ value_of_line text.now }
 {
     let (_, rest) = name_and_rest(text);

@@ -105,6 +105,19 @@ impl Source for MemorySource {
         ensures fails { FailsExactly result (IsToFail self.old (next_number self.old.fetches) name.now) }
         ensures rest { self.new ≡ record self.old { fetches = next_number self.old.fetches; failed = failed_after result name.now self.old.failed } }
     {
+        self.fetch_within(alloc, name, MAX_INPUT)
+    }
+
+    fn fetch_within(
+        &mut self,
+        alloc: Global,
+        name: &str,
+        limit: usize,
+    ) -> Result<Vec<u8>, FetchError>
+        ensures bytes { IfOk result (λ v. IfSome (bytes_at self.old.names name.now) (λ bytes. v.items ≡ take (limit + 1) bytes)) }
+        ensures fails { FailsExactly result (IsToFail self.old (next_number self.old.fetches) name.now) }
+        ensures rest { self.new ≡ record self.old { fetches = next_number self.old.fetches; failed = failed_after result name.now self.old.failed } }
+    {
         self.fetches = self.fetches.saturating_add(1);
         if self.failing.contains(&self.fetches) {
             self.note(name)?;
@@ -114,7 +127,7 @@ impl Source for MemorySource {
             self.note(name)?;
             return Err(FetchError::Failed);
         };
-        Ok(front(alloc, bytes)?)
+        Ok(front(alloc, bytes, limit)?)
     }
 }
 

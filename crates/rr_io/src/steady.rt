@@ -69,9 +69,22 @@ impl Source for SteadySource {
         ensures steady { IsErrOf result FetchError.Failed → ⊥ }
         ensures same { self.new ≡ self.old }
     {
+        self.fetch_within(alloc, name, MAX_INPUT)
+    }
+
+    fn fetch_within(
+        &mut self,
+        alloc: Global,
+        name: &str,
+        limit: usize,
+    ) -> Result<Vec<u8>, FetchError>
+        ensures bytes { IfOk result (λ v. v.items ≡ take (limit + 1) (unwrap_or (bytes_at self.old name.now) [])) }
+        ensures steady { IsErrOf result FetchError.Failed → ⊥ }
+        ensures same { self.new ≡ self.old }
+    {
         match self.names.get(name) {
             None => Ok(Vec::new(alloc)),
-            Some(bytes) => Ok(front(alloc, bytes)?),
+            Some(bytes) => Ok(front(alloc, bytes, limit)?),
         }
     }
 }

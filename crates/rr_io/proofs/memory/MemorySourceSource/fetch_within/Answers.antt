@@ -2,7 +2,7 @@ use Rattle.std.proofs.Common.{sym, ap, ◌∙◌, inl}
 use Rattle.std.specs.Prelude.{nat_eq}
 use Rattle.std.specs.List.{list_any}
 use Rattle.rr_io.specs.Outside.{next_number}
-use Rattle.rr_io.proofs.memory.MemorySourceSource.fetch.Goals as goal
+use Rattle.rr_io.proofs.memory.MemorySourceSource.fetch_within.Goals as goal
 
 pub returns-then-contains-clause-fails : goal.returns-then-contains-clause-fails
 returns-then-contains-clause-fails c =

@@ -1,0 +1,3 @@
+mod CuttingLemmas
+mod InstanceLemmas
+mod Examples

@@ -1,0 +1,15 @@
+pub mod Cutting
+pub mod Events
+pub mod Finding
+pub mod Own
+pub mod Keys
+pub mod Event
+pub mod Entries
+pub mod Edited
+pub mod Instances
+pub mod Judged
+pub mod Said
+pub mod Files
+pub mod Report
+pub mod Counts
+pub mod Printed

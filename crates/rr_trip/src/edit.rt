@@ -1,0 +1,311 @@
+// The series of a key with its instances as dates (RFC 5545, sections 3.8.4.4, 3.8.5.1 and 3.8.5.2).
+ghost use Rattle.std.specs.Prelude.{◌≡◌, IfOk, OnOk, option_map};
+ghost use Rattle.rr_model.specs.Answers.{Answers};
+ghost use Rattle.rr_model.specs.Moment.Years.{IsInYears};
+ghost use Rattle.rr_trip.specs.Edited.{AnswersKey, edited_alone, edited_by, edited_event, edited_series, edited_with_series, moment_of, recurrence_stamp, series_of_starts, shifts_of, stamp_on, start_beside, start_line, values_outside, with_instance, with_moment, with_shifts, with_start, with_values, within_dates};
+
+use crate::event::{Event, Recurrence};
+use crate::gather::{Gathered, KeyFault, KeyRefusal, at_event};
+use rr_model::{
+    Dates, Fault, Kind, LineName, MAX_DATES, NoMemory, Refusal, Rules, Scan, Series, Stamp, UsedLine,
+};
+use rr_rrule::{Setting, date_beside, date_value, read_scan};
+use std::alloc::Global;
+use std::marker::Model;
+
+/// The moments that instances take out, and the moments at which they start.
+#[derive(Drop)]
+struct Shifted {
+    moments: Dates,
+    starts: Dates,
+}
+
+impl Model for Shifted {
+    ghost use Rattle.rr_trip.specs.Edited.{Shifts};
+
+    ghost Value = { Shifts };
+
+    ghost view = { λ s. record { moments = s.moments; starts = s.starts } };
+}
+
+// The first DTSTART of the used lines.
+fn start_line(scan: &Scan) -> Option<&UsedLine>
+    ensures { option_map (λ line. line.now) result ≡ start_line scan.now.used }
+{
+    for line in scan.used.as_slice() {
+        if matches!(line.name, LineName::Dtstart) {
+            return Some(line);
+        }
+    }
+    None
+}
+
+// The start of an event as its line states it.
+fn stamp_of(scan: &Scan) -> Result<Stamp, Refusal>
+    ensures value { result ≡ stamp_on (start_line scan.now.used) }
+    ensures years { IfOk result (λ stamp. IsInYears stamp.kind stamp.at) }
+{
+    match start_line(scan) {
+        None => Err(Refusal::NoStart),
+        Some(line) => date_value(line.number, line.value.as_slice()),
+    }
+}
+
+// The date or moment of a RECURRENCE-ID beside the start.
+fn moment_of(setting: Setting, recurrence: &Recurrence) -> Result<i64, Refusal>
+    ensures { result ≡ moment_of setting.offset setting.start recurrence.now }
+{
+    let stamp = date_value(recurrence.line, recurrence.value.as_slice())?;
+    date_beside(setting, recurrence.line, stamp)
+}
+
+// The start of an instance beside the start of its series.
+fn start_beside(alloc: Global, setting: Setting, scan: &Scan) -> Result<i64, Fault>
+    ensures { Answers (start_beside setting.offset setting.start scan.now) result }
+{
+    read_scan(alloc, setting.offset, scan)?;
+    let Some(line) = start_line(scan) else {
+        return Err(Fault::Refused(Refusal::NoStart));
+    };
+    let stamp = date_value(line.number, line.value.as_slice())?;
+    Ok(date_beside(setting, line.number, stamp)?)
+}
+
+// The start of an instance is put in, where it is not cancelled.
+fn with_start(
+    alloc: Global,
+    setting: Setting,
+    shifted: Shifted,
+    event: &Event,
+) -> Result<Shifted, Fault>
+    ensures { Answers (with_start setting.offset setting.start shifted event.now) result }
+{
+    let mut shifted = shifted;
+    if event.is_cancelled {
+        return match event.scan.stop {
+            Some(refusal) => Err(Fault::Refused(refusal)),
+            None => Ok(shifted),
+        };
+    }
+    let at = start_beside(alloc, setting, &event.scan)?;
+    shifted.starts.put(at)?;
+    Ok(shifted)
+}
+
+// The moment of an instance is taken out.
+fn with_moment(shifted: Shifted, event: &Event, at: i64) -> Result<Shifted, KeyFault>
+    ensures { AnswersKey (with_moment shifted event.now at) result }
+{
+    let mut shifted = shifted;
+    if shifted.moments.as_slice().binary_search(&at).is_ok() {
+        return Err(KeyFault::Refused(KeyRefusal::TwoInstances(event.first)));
+    }
+    shifted.moments.put(at)?;
+    Ok(shifted)
+}
+
+// With one instance more.
+fn with_instance(
+    alloc: Global,
+    setting: Setting,
+    shifted: Shifted,
+    event: &Event,
+) -> Result<Shifted, KeyFault>
+    ensures { AnswersKey (with_instance setting.offset setting.start shifted event.now) result }
+{
+    let Some(recurrence) = &event.recurrence else {
+        return Ok(shifted);
+    };
+    let at = match moment_of(setting, recurrence) {
+        Ok(at) => at,
+        Err(refusal) => return Err(at_event(event.first, Fault::Refused(refusal))),
+    };
+    let shifted = with_moment(shifted, event, at)?;
+    match with_start(alloc, setting, shifted, event) {
+        Ok(shifted) => Ok(shifted),
+        Err(fault) => Err(at_event(event.first, fault)),
+    }
+}
+
+// What instances take out and put in beside a start.
+fn shifts_of(alloc: Global, setting: Setting, instances: &[Event]) -> Result<Shifted, KeyFault>
+    ensures { AnswersKey (shifts_of setting.offset setting.start instances.now) result }
+{
+    let mut shifted = Shifted {
+        moments: Dates::new(alloc),
+        starts: Dates::new(alloc),
+    };
+    for event in instances {
+        shifted = with_instance(alloc, setting, shifted, event)?;
+    }
+    Ok(shifted)
+}
+
+// Puts dates into a rising list.
+fn put_all(dates: &mut Dates, values: &[i64]) -> Result<(), NoMemory>
+    ensures { OnOk result (dates.new ≡ with_values dates.old values.now) }
+{
+    for at in values {
+        dates.put(*at)?;
+    }
+    Ok(())
+}
+
+// The dates of a rising list that are not among these, put into another.
+fn put_outside(dates: &mut Dates, starts: &Dates, values: &Dates) -> Result<(), NoMemory>
+    ensures { OnOk result (dates.new ≡ with_values dates.old (values_outside starts.now values.now)) }
+{
+    for at in values.as_slice() {
+        if starts.as_slice().binary_search(at).is_err() {
+            dates.put(*at)?;
+        }
+    }
+    Ok(())
+}
+
+// The starts alone, as a list of dates.
+fn series_of_starts(alloc: Global, kind: Kind, starts: &Dates) -> Result<Series, NoMemory>
+    ensures { IfOk result (λ series. series ≡ series_of_starts kind starts.now) }
+{
+    let mut series = Series {
+        kind: Kind::Days,
+        start: 0,
+        start_counts: false,
+        rules: Rules::new(alloc),
+        excluded: Rules::new(alloc),
+        plus: Dates::new(alloc),
+        minus: Dates::new(alloc),
+    };
+    if let [first, more @ ..] = starts.as_slice() {
+        series.kind = kind;
+        series.start = *first;
+        series.start_counts = true;
+        put_all(&mut series.plus, more)?;
+    }
+    Ok(series)
+}
+
+// The series with the starts as dates that are added, and the moments taken out where nothing starts.
+fn with_shifts(alloc: Global, series: Series, shifted: &Shifted) -> Result<Series, NoMemory>
+    ensures { IfOk result (λ made. made ≡ with_shifts series shifted.now) }
+{
+    let mut series = series;
+    put_all(&mut series.plus, shifted.starts.as_slice())?;
+    let mut minus = Dates::new(alloc);
+    put_outside(&mut minus, &shifted.starts, &series.minus)?;
+    put_outside(&mut minus, &shifted.starts, &shifted.moments)?;
+    series.minus = minus;
+    Ok(series)
+}
+
+// A series with at most `MAX_DATES` dates.
+fn within_dates(line: u64, series: Series) -> Result<Series, KeyRefusal>
+    ensures { result ≡ within_dates line series }
+{
+    if series.plus.len() + series.minus.len() > MAX_DATES {
+        return Err(KeyRefusal::Event {
+            refusal: Refusal::TooManyParts,
+            line,
+        });
+    }
+    Ok(series)
+}
+
+// A series that begins on this line, with its instances as dates.
+fn edited_series(
+    alloc: Global,
+    line: u64,
+    series: Series,
+    shifted: &Shifted,
+) -> Result<Series, KeyFault>
+    ensures { AnswersKey (edited_series line series shifted.now) result }
+{
+    if series.excluded.is_empty() || shifted.starts.is_empty() {
+        return Ok(within_dates(line, with_shifts(alloc, series, shifted)?)?);
+    }
+    Err(KeyFault::Refused(KeyRefusal::ExcludedRule(line)))
+}
+
+// A series of one event, which may be cancelled, with its instances as dates.
+fn edited_event(
+    alloc: Global,
+    event: &Event,
+    kind: Kind,
+    series: Series,
+    shifted: &Shifted,
+) -> Result<Series, KeyFault>
+    ensures { AnswersKey (edited_event event.now kind series shifted.now) result }
+{
+    if event.is_cancelled {
+        let series = series_of_starts(alloc, kind, &shifted.starts)?;
+        return Ok(within_dates(event.first, series)?);
+    }
+    edited_series(alloc, event.first, series, shifted)
+}
+
+// A series with its instances.
+fn edited_with_series(
+    alloc: Global,
+    offset: Option<i32>,
+    event: &Event,
+    instances: &[Event],
+) -> Result<Series, KeyFault>
+    ensures { AnswersKey (edited_with_series offset event.now instances.now) result }
+{
+    let series = match read_scan(alloc, offset, &event.scan) {
+        Ok(series) => series,
+        Err(fault) => return Err(at_event(event.first, fault)),
+    };
+    let start = match stamp_of(&event.scan) {
+        Ok(start) => start,
+        Err(refusal) => return Err(at_event(event.first, Fault::Refused(refusal))),
+    };
+    let shifted = shifts_of(alloc, Setting { offset, start }, instances)?;
+    edited_event(alloc, event, start.kind, series, &shifted)
+}
+
+// The date or moment of the RECURRENCE-ID of an event.
+fn recurrence_stamp(event: &Event) -> Result<Stamp, Refusal>
+    ensures value { result ≡ recurrence_stamp event.now.recurrence }
+    ensures years { IfOk result (λ stamp. IsInYears stamp.kind stamp.at) }
+{
+    match &event.recurrence {
+        None => Err(Refusal::NoStart),
+        Some(recurrence) => date_value(recurrence.line, recurrence.value.as_slice()),
+    }
+}
+
+// Instances without a series.
+fn edited_alone(
+    alloc: Global,
+    offset: Option<i32>,
+    instances: &[Event],
+) -> Result<Series, KeyFault>
+    ensures { AnswersKey (edited_alone offset instances.now) result }
+{
+    let [event, ..] = instances else {
+        return Ok(series_of_starts(alloc, Kind::Days, &Dates::new(alloc))?);
+    };
+    let start = match recurrence_stamp(event) {
+        Ok(start) => start,
+        Err(refusal) => return Err(at_event(event.first, Fault::Refused(refusal))),
+    };
+    let shifted = shifts_of(alloc, Setting { offset, start }, instances)?;
+    let series = series_of_starts(alloc, start.kind, &shifted.starts)?;
+    Ok(within_dates(event.first, series)?)
+}
+
+/// The series of a key with its instances as dates.
+///
+/// The refusal is that of the series' own event by the reader, then instance by instance, of its RECURRENCE-ID `BadMoment`,
+/// `MixedKinds` or `UtcMoment`, `TwoInstances`, and, where it is not cancelled, what the reader refuses and the same of its
+/// DTSTART; then `ExcludedRule`, and `TooManyParts` for more than `MAX_DATES` dates. A series that is cancelled has the
+/// starts of its instances alone. Instances without a series are judged beside the RECURRENCE-ID of the first one.
+pub fn edited(alloc: Global, offset: Option<i32>, events: &Gathered) -> Result<Series, KeyFault>
+    ensures { AnswersKey (edited_by offset events.now.series events.now.instances) result }
+{
+    match events.series() {
+        None => edited_alone(alloc, offset, events.instances()),
+        Some(event) => edited_with_series(alloc, offset, event, events.instances()),
+    }
+}

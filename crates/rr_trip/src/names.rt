@@ -1,0 +1,109 @@
+// The components that are open (RFC 5545, section 3.6).
+ghost use Rattle.std.specs.Prelude.{◌≡◌, [], ◌∷◌, OnOk};
+ghost use Rattle.rr_model.specs.Text.Event.{ended, is_event, is_in_event, no_components, value_on};
+ghost use Rattle.rr_model.specs.Text.RuleValues.{◌>>=◌};
+ghost use Rattle.std.specs.Prelude.{Ok};
+ghost use Rattle.rr_model.specs.Rule.Validity.{is_absent};
+ghost use Rattle.rr_trip.specs.Events.{Becomes, is_within_event, open_after};
+
+use rr_ical::{is_same_name, line_kind, value_of_line};
+use rr_model::{Bytes, Fault, Line, LineKind, NoMemory, Refusal};
+use std::alloc::Global;
+use std::marker::Model;
+
+/// The names of the components that are open, the innermost at the end.
+#[derive(Drop)]
+pub struct OpenNames {
+    names: Vec<Bytes>,
+}
+
+impl Model for OpenNames {
+    ghost use Rattle.std.specs.Prelude.{ℕ, List, reverse};
+
+    ghost Value = { List (List ℕ) };
+
+    ghost view = { λ n. reverse n.names.items };
+}
+
+fn is_event(name: &[u8]) -> bool
+    ensures { result ≡ is_event name.now }
+{
+    is_same_name(name, b"VEVENT")
+}
+
+impl OpenNames {
+    /// No component is open.
+    pub fn new(alloc: Global) -> Self
+        ensures { result ≡ [] }
+    {
+        OpenNames {
+            names: Vec::new(alloc),
+        }
+    }
+
+    /// Whether no component is open.
+    pub fn is_empty(&self) -> bool
+        ensures { result ≡ is_absent self.now }
+    {
+        self.names.is_empty()
+    }
+
+    /// Whether the innermost component is an event.
+    pub fn is_in_event(&self) -> bool
+        ensures { result ≡ is_in_event self.now }
+    {
+        match self.names.last() {
+            Some(name) => is_event(name.as_slice()),
+            None => false,
+        }
+    }
+
+    /// Whether some component is an event.
+    pub fn is_within_event(&self) -> bool
+        ensures { result ≡ is_within_event self.now }
+    {
+        self.names.iter().any(|name| is_event(name.as_slice()))
+    }
+
+    // A component is opened.
+    fn begin(&mut self, name: Bytes) -> Result<(), NoMemory>
+        ensures { OnOk result (self.new ≡ name ∷ self.old) }
+    {
+        self.names.push(name)?;
+        Ok(())
+    }
+
+    // The innermost component is closed, where it has this name.
+    fn end(&mut self, number: u64, name: &[u8]) -> Result<(), Fault>
+        ensures { Becomes (ended number no_components self.old name.now >>= λ after. Ok after.open_names) self.new result }
+    {
+        match self.names.last() {
+            Some(innermost) if is_same_name(name, innermost.as_slice()) => {
+                self.names.pop();
+                Ok(())
+            }
+            _ => Err(Fault::Refused(Refusal::BadLine(number))),
+        }
+    }
+
+    /// One line more. `BadLine` comes for a BEGIN or END without a value, and for an END that does not close the innermost
+    /// component.
+    #[tactic(auto, unfolding(crate::specs::Events::open_after))]
+    pub fn step(&mut self, alloc: Global, line: &Line) -> Result<(), Fault>
+        ensures { Becomes (open_after self.old line.now) self.new result }
+    {
+        let text = line.text.as_slice();
+        let kind = line_kind(text);
+        if !matches!(kind, LineKind::Begin | LineKind::End) {
+            return Ok(());
+        }
+        let Some(name) = value_of_line(text) else {
+            return Err(Fault::Refused(Refusal::BadLine(line.number)));
+        };
+        if matches!(kind, LineKind::Begin) {
+            Ok(self.begin(Bytes::of(alloc, name)?)?)
+        } else {
+            self.end(line.number, name)
+        }
+    }
+}
