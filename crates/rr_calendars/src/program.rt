@@ -1,4 +1,12 @@
 // The top call.
+ghost use Rattle.std.specs.Prelude.{◌≡◌, ◌⊎◌, ◌++◌, ◌∷◌, [], IfOk, IfSome, IsErrOf, IsNone, Some};
+ghost use Rattle.rr_io.specs.Outside.{RoseOrIsLast};
+ghost use Rattle.rr_calendars.specs.Outcomes.{outcome_is};
+ghost use Rattle.rr_calendars.specs.Parsed.{request_in, words_of};
+ghost use Rattle.rr_calendars.specs.Run.{Answer, Ends, GainsFile, HasCause, IsAnswer, IsCompared, contents, status_by};
+ghost use Rattle.rr_calendars.specs.Words.{asked_of, comparison};
+ghost use Rattle.rr_trip.specs.Counts.{counts_of, status_of};
+
 use crate::status::Status;
 use crate::words::{Asked, Request, parse};
 use rr_io::{FetchError, PutError, Sink, Source};
@@ -33,12 +41,15 @@ no text in UTF-8.
 
 // What is to be put, and how the run then ends.
 #[derive(Drop)]
-struct Answer {
+struct Outcome {
     status: Status,
     text: Vec<u8>,
 }
 
-fn status_of(report: &Report) -> Status {
+// How a run ends with a report.
+fn status_of(report: &Report) -> Status
+    ensures { result ≡ status_by (status_of (counts_of report.now.lines.items)) }
+{
     match report.counts().status() {
         rr_trip::Status::Equal => Status::Equal,
         rr_trip::Status::Differs => Status::Differs,
@@ -47,13 +58,15 @@ fn status_of(report: &Report) -> Status {
 }
 
 // What is said of two files.
-fn answer(alloc: Global, request: Request, old: &[u8], new: &[u8]) -> Result<Answer, NoMemory> {
+fn answer(alloc: Global, request: Request, old: &[u8], new: &[u8]) -> Result<Outcome, NoMemory>
+    ensures { IfOk result (λ x. IsCompared (request_in request.entry) (old.now, new.now) (outcome_is x)) }
+{
     match compare(alloc, request.offset, old, new) {
-        Ok(report) => Ok(Answer {
+        Ok(report) => Ok(Outcome {
             status: status_of(&report),
             text: print(alloc, request.only_differences, &report)?,
         }),
-        Err(TripFault::Refused { side, refusal }) => Ok(Answer {
+        Err(TripFault::Refused { side, refusal }) => Ok(Outcome {
             status: Status::Refused,
             text: print_refusal(alloc, side, refusal)?,
         }),
@@ -66,7 +79,11 @@ fn work_out<S: Source>(
     alloc: Global,
     request: Request,
     source: &mut S,
-) -> Result<Answer, FetchError> {
+) -> Result<Outcome, FetchError>
+    ensures answer { IfOk result (λ x. IfSome (contents (Some (comparison (request_in request.entry))) (S.held source.old)) (λ files. IsCompared (request_in request.entry) files (outcome_is x))) }
+    ensures failed { IsErrOf result FetchError.Failed → GainsFile (Some (comparison (request_in request.entry))) (S.failed source.old) (S.failed source.new) }
+    ensures kept { (IsErrOf result FetchError.Failed → ⊥) → S.failed source.new ≡ S.failed source.old }
+{
     let old = source.fetch_within(alloc, request.old, MAX_FILE)?;
     let new = source.fetch_within(alloc, request.new, MAX_FILE)?;
     Ok(answer(alloc, request, &old, &new)?)
@@ -89,7 +106,21 @@ pub fn run<S: Source, K: Sink>(
     words: &[&str],
     source: &mut S,
     sink: &mut K,
-) -> Status {
+) -> Status
+    // What is put is the answer to the words over the bytes that the source holds, and the status is the answer's.
+    ensures answer { IfSome (contents (asked_of (words_of words.now)) (S.held source.old)) (λ files. Ends result (IsAnswer (asked_of (words_of words.now)) files) (K.written sink.old) (K.written sink.new)) }
+
+    // A fault is answered only where the fetch of a file or the put has failed, and then that alone.
+    ensures cause { HasCause result (asked_of (words_of words.now)) (S.failed source.old) (S.failed source.new) (K.faults sink.old) (K.faults sink.new) }
+
+    // The same over a source that does not tell what it holds.
+    ensures usage { result ≡ Status.Usage → IsNone (asked_of (words_of words.now)) }
+    ensures quiet { (result ≡ Status.ReadFault) ⊎ (result ≡ Status.NoMemory) → K.written sink.new ≡ K.written sink.old }
+
+    // Where nothing failed the answer comes, but for want of memory.
+    ensures complete { S.failed source.new ≡ S.failed source.old → (RoseOrIsLast (K.faults sink.old) (K.faults sink.new) → ⊥)
+        → IfSome (contents (asked_of (words_of words.now)) (S.held source.old)) (λ files. (result ≡ Status.NoMemory) ⊎ ((answer : Answer) × IsAnswer (asked_of (words_of words.now)) files answer × (result ≡ answer.status))) }
+{
     let request = match parse(words) {
         None => return put(sink, USAGE, Status::Usage),
         Some(Asked::Help) => return put(sink, HELP, Status::Equal),

@@ -4,7 +4,7 @@ ghost use Rattle.rr_trip.specs.Finding.{IsFound};
 
 use crate::cut::{Cut, cut_line};
 use crate::names::OpenNames;
-use rr_model::{Fault, Refusal};
+use rr_model::{Fault, NoMemory, Refusal};
 use rr_text::lines_from;
 use std::alloc::Global;
 
@@ -51,6 +51,18 @@ impl<'a> Finder<'a> {
         }
     }
 
+    // An event is closed before what follows it.
+    fn close(&mut self, begun: Piece<'a>, after: &[u8]) -> Result<(), NoMemory>
+        requires { length after.now ≤ length begun.text.now }
+    {
+        self.found.push(Piece {
+            text: before(begun.text, after),
+            first: begun.first,
+        })?;
+        self.begun = None;
+        Ok(())
+    }
+
     // One unfolded line more, cut off the rest of the text.
     fn step(
         &mut self,
@@ -68,14 +80,7 @@ impl<'a> Finder<'a> {
                     first: number,
                 });
             }
-            Some(piece) if !is_within => {
-                let text = before(piece.text, cut.after);
-                self.found.push(Piece {
-                    text,
-                    first: piece.first,
-                })?;
-                self.begun = None;
-            }
+            Some(begun) if !is_within => self.close(begun, cut.after)?,
             _ => {}
         }
         Ok(())

@@ -1,0 +1,4 @@
+pub mod Words
+pub mod Parsed
+pub mod Run
+pub mod Outcomes
