@@ -18,7 +18,8 @@ use std::alloc::Global;
 pub const USAGE: &[u8] = b"usage: rr-calendars OLD NEW [--differences] [--offset +HH:MM]\n";
 
 /// The page of help.
-pub const HELP: &[u8] = b"rr-calendars says of two calendar files whether each event survived the trip between them, for all years to come.
+pub const HELP: &[u8] =
+    b"rr-calendars says of two calendar files whether each event survived the trip between them, for all years to come.
 
   rr-calendars OLD NEW [--differences] [--offset +HH:MM]
 

@@ -23,7 +23,7 @@ line-after : (kb : Bool) (n : ℕ) (done : List Line) (line : Line) (more : List
 line-after kb n [] line more text = refl
 line-after kb n (d ∷ done) line more text =
     elim (begins_blank text) as (λ b. cond (b && true) (onto_last (d ∷ (done ++ line ∷ more)) (continuation kb text)) (d ∷ ((done ++ line ∷ more) ++ record { number = n; text = text } ∷ []))
-      ≡ d ∷ (done ++ cond (b && true) (onto_last (line ∷ more) (continuation kb text)) (line ∷ (more ++ record { number = n; text = text } ∷ [])))) [
+    ≡ d ∷ (done ++ cond (b && true) (onto_last (line ∷ more) (continuation kb text)) (line ∷ (more ++ record { number = n; text = text } ∷ [])))) [
       | true ↦ onto_last-after (d ∷ done) line more (continuation kb text)
       | false ↦ ap (λ l. d ∷ l) (three done (line ∷ more) (record { number = n; text = text } ∷ []))
     ]

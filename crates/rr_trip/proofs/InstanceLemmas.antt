@@ -57,23 +57,27 @@ instances_are_dates s e moments starts is k t = (
   (λ h. elim (there_or_not starts t) [
     | inl there ↦ inl (h.kind ∙ is.kind, there)
     | inr absent ↦ inr (
-        record { kind = h.kind ∙ is.kind; stands = stands_in s e moments starts is k t absent h;
-        kept = λ m. h.kept ((is.minus.exact t).1 (inl m, absent)) },
-        λ m. h.kept ((is.minus.exact t).1 (inr m, absent)))
+      record {
+        kind = h.kind ∙ is.kind;
+        stands = stands_in s e moments starts is k t absent h;
+        kept = λ m. h.kept ((is.minus.exact t).1 (inl m, absent));
+      },
+      λ m. h.kept ((is.minus.exact t).1 (inr m, absent)),
+    )
   ]),
   (λ h. elim h [
     | inl started ↦ record {
-        kind = started.0 ∙ sym is.kind;
-        stands = inr (inr ((is.plus.exact t).1 (inr started.1)));
-        kept = λ m. ((is.minus.exact t).0 m).1 started.1;
+      kind = started.0 ∙ sym is.kind;
+      stands = inr (inr ((is.plus.exact t).1 (inr started.1)));
+      kept = λ m. ((is.minus.exact t).0 m).1 started.1;
       not_excluded = λ m. All-contains (λ x. IsMemberOfSome s.excluded s.kind s.start x → ⊥) starts t is.clear started.1
-        (rw (sym is.excluded) (rw (sym is.kind) (rw (sym is.start) m)));
-      }
+          (rw (sym is.excluded) (rw (sym is.kind) (rw (sym is.start) m)));
+    }
     | inr kept ↦ record {
-        kind = kept.0.kind ∙ sym is.kind;
-        stands = stands_in_edited s e moments starts is k t kept.0;
-        kept = λ m. elim (((is.minus.exact t).0 m).0) [ inl out ↦ kept.0.kept out | inr moved ↦ kept.1 moved ];
+      kind = kept.0.kind ∙ sym is.kind;
+      stands = stands_in_edited s e moments starts is k t kept.0;
+      kept = λ m. elim (((is.minus.exact t).0 m).0) [ inl out ↦ kept.0.kept out | inr moved ↦ kept.1 moved ];
       not_excluded = λ m. kept.0.not_excluded (rw (sym is.excluded) (rw (sym is.kind) (rw (sym is.start) m)));
-      }
+    }
   ]),
 )

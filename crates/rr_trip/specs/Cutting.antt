@@ -29,7 +29,7 @@ pub record IsContinued (text after : List ℕ) : Type 0 where
 -- a text is its first unfolded line, which has so many physical lines, and what follows, which continues none
 pub record IsCut (text piece after : List ℕ) (count : ℕ) : Type 0 where
   pub joined : text ≡ piece ++ after
-  pub count : count ≡ length (physical_lines piece)
+  pub counted : count ≡ length (physical_lines piece)
   pub ends : (after ≡ [] → ⊥) → EndsWithFeed piece
   pub next : begins_blank after ≡ false
   pub first : List ℕ

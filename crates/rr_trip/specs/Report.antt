@@ -67,14 +67,20 @@ after_a entries = drop (length (front_of_a entries)) entries
 
 -- the line of the entries of one key, those of A first
 pub record IsLineOf (offset : Option ℤ) (key : Key) (run : List Entry) (line : ReportLine) : Type 0 where
-  pub key : line.key ≡ key
+  pub of_key : line.key ≡ key
   pub said : IsSaid offset (events_in (front_of_a run)) (events_in (after_a run)) line.said
   pub printable : IsPrintableSaid line.said
+
+-- entries begin with a run of one key, that of the first, and these follow
+pub record IsRunAt (entries : List Entry) (first : Entry) (run after : List Entry) : Type 0 where
+  pub more : List Entry
+  pub begins : entries ≡ first ∷ more
+  pub run_is : run ≡ take_while (has_key first.key) entries
+  pub after_is : after ≡ drop (length run) entries
 
 -- the lines of entries, run by run of one key
 pub data AreLinesOf (offset : Option ℤ) : List Entry → List ReportLine → Type 0 where
   none : AreLinesOf offset [] []
-  run : (first : Entry) (entries : List Entry) (line : ReportLine) (lines : List ReportLine)
-      → IsLineOf offset first.key (take_while (has_key first.key) (first ∷ entries)) line
-      → AreLinesOf offset (drop (length (take_while (has_key first.key) (first ∷ entries))) (first ∷ entries)) lines
-      → AreLinesOf offset (first ∷ entries) (line ∷ lines)
+  next : (entries run after : List Entry) (first : Entry) (line : ReportLine) (lines : List ReportLine)
+      → IsRunAt entries first run after → IsLineOf offset first.key run line → AreLinesOf offset after lines
+      → AreLinesOf offset entries (line ∷ lines)

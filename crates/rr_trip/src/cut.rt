@@ -1,5 +1,5 @@
 // A text cut behind its first unfolded line (RFC 5545, section 3.1).
-ghost use Rattle.std.specs.Prelude.{◌≡◌, [], drop, MatchOption};
+ghost use Rattle.std.specs.Prelude.{◌≡◌, false, [], MatchOption};
 ghost use Rattle.rr_model.specs.Text.Lines.{begins_blank};
 ghost use Rattle.rr_trip.specs.Cutting.{IsContinued, IsCut};
 

@@ -7,7 +7,8 @@ ghost use Rattle.rr_trip.specs.Edited.{AnswersKey, edited_alone, edited_by, edit
 use crate::event::{Event, Recurrence};
 use crate::gather::{Gathered, KeyFault, KeyRefusal, at_event};
 use rr_model::{
-    Dates, Fault, Kind, LineName, MAX_DATES, NoMemory, Refusal, Rules, Scan, Series, Stamp, UsedLine,
+    Dates, Fault, Kind, LineName, MAX_DATES, NoMemory, Refusal, Rules, Scan, Series, Stamp,
+    UsedLine,
 };
 use rr_rrule::{Setting, date_beside, date_value, read_scan};
 use std::alloc::Global;
@@ -276,11 +277,7 @@ fn recurrence_stamp(event: &Event) -> Result<Stamp, Refusal>
 }
 
 // Instances without a series.
-fn edited_alone(
-    alloc: Global,
-    offset: Option<i32>,
-    instances: &[Event],
-) -> Result<Series, KeyFault>
+fn edited_alone(alloc: Global, offset: Option<i32>, instances: &[Event]) -> Result<Series, KeyFault>
     ensures { AnswersKey (edited_alone offset instances.now) result }
 {
     let [event, ..] = instances else {

@@ -1,7 +1,7 @@
 //! Whether whole calendars survived a trip: events found again by their UID, with moved and cancelled instances.
 #![tactic(auto)]
 
-mod compare;
+mod comparison;
 mod cut;
 mod edit;
 mod entry;
@@ -15,15 +15,15 @@ mod laws;
 mod names;
 mod own;
 mod parameter;
-mod print;
+mod printing;
 mod report;
 mod said;
 
-pub use compare::compare;
+pub use comparison::compare;
 pub use file::{FileRefusal, MAX_FILE, TripFault};
 pub use gather::KeyRefusal;
 pub use key::Key;
 pub use laws::{instances_are_dates, parts_unfold_alone};
-pub use print::{print, print_refusal};
+pub use printing::{print, print_refusal};
 pub use report::{Counts, Report, ReportLine, Status};
 pub use said::Said;

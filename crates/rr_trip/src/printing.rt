@@ -119,11 +119,7 @@ fn push_numbered(out: &mut Vec<u8>, text: &[u8], number: u64) -> Result<(), NoMe
     push_unsigned(out, number)
 }
 
-fn push_key_refusal(
-    alloc: Global,
-    out: &mut Vec<u8>,
-    refusal: KeyRefusal,
-) -> Result<(), NoMemory>
+fn push_key_refusal(alloc: Global, out: &mut Vec<u8>, refusal: KeyRefusal) -> Result<(), NoMemory>
     ensures { OnOk result (out.new.items ≡ out.old.items ++ key_refusal_text refusal) }
 {
     match refusal {
@@ -232,11 +228,7 @@ fn push_counts(out: &mut Vec<u8>, counts: Counts) -> Result<(), NoMemory>
 /// The report as it is printed: a line for each key, or, with `only_differences`, for each that is not equal, and a last line
 /// with the counts of all.
 #[tactic(auto, unfolding(crate::specs::Printed::printed))]
-pub fn print(
-    alloc: Global,
-    only_differences: bool,
-    report: &Report,
-) -> Result<Vec<u8>, NoMemory>
+pub fn print(alloc: Global, only_differences: bool, report: &Report) -> Result<Vec<u8>, NoMemory>
     requires { All (λ line. IsPrintableSaid line.said) report.now.lines.items }
     ensures { IfOk result (λ text. text.items ≡ printed only_differences report.now.lines.items) }
 {
@@ -247,11 +239,7 @@ pub fn print(
 }
 
 /// The line that refuses a whole file.
-pub fn print_refusal(
-    alloc: Global,
-    side: Side,
-    refusal: FileRefusal,
-) -> Result<Vec<u8>, NoMemory>
+pub fn print_refusal(alloc: Global, side: Side, refusal: FileRefusal) -> Result<Vec<u8>, NoMemory>
     ensures { IfOk result (λ text. text.items ≡ file_refusal_line side refusal) }
 {
     let mut out = Vec::new(alloc);

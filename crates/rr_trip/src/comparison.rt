@@ -1,7 +1,7 @@
 // Two calendar files, key by key.
-ghost use Rattle.std.specs.Prelude.{All, IfOk};
+ghost use Rattle.std.specs.Prelude.{◌≡◌, [], All, IfOk, MatchOption};
 ghost use Rattle.rr_trip.specs.Entries.{IsNumbered};
-ghost use Rattle.rr_trip.specs.Report.{AnswersTrip, AreLinesOf, IsLineOf};
+ghost use Rattle.rr_trip.specs.Report.{AnswersTrip, AreLinesOf, IsLineOf, IsRunAt};
 
 use crate::entry::{Entry, count_of_a, count_of_key, sorted_entries};
 use crate::file::{TripFault, read_file};
@@ -11,18 +11,34 @@ use crate::said::said_of;
 use rr_model::{NoMemory, Side};
 use std::alloc::Global;
 
-// What is said of the entries of one key, those of A first.
-fn line_of(
-    alloc: Global,
-    offset: Option<i32>,
-    first: &Entry,
-    run: &[Entry],
-) -> Result<ReportLine, NoMemory>
-    requires { All IsNumbered run.now }
-    ensures { IfOk result (λ line. IsLineOf offset first.now.key run.now line) }
+// The entries at the front that have the key of the first, and those after them.
+#[derive(Clone, Copy)]
+struct Run<'a, 'b> {
+    first: &'b Entry<'a>,
+    entries: &'b [Entry<'a>],
+    after: &'b [Entry<'a>],
+}
+
+// The first run of sorted entries.
+fn first_run<'a, 'b>(entries: &'b [Entry<'a>]) -> Option<Run<'a, 'b>>
+    ensures { MatchOption result (entries.now ≡ []) (λ run. IsRunAt entries.now run.first.now run.entries.now run.after.now) }
 {
-    let key = copy_key(alloc, &first.key)?;
-    let (a, b) = run.split_at(count_of_a(run));
+    let first = entries.first()?;
+    let (run, after) = entries.split_at(count_of_key(&first.key, entries));
+    Some(Run {
+        first,
+        entries: run,
+        after,
+    })
+}
+
+// What is said of a run, whose entries of A come first.
+fn line_of(alloc: Global, offset: Option<i32>, run: Run) -> Result<ReportLine, NoMemory>
+    requires { All IsNumbered run.entries.now }
+    ensures { IfOk result (λ line. IsLineOf offset run.first.now.key run.entries.now line) }
+{
+    let key = copy_key(alloc, &run.first.key)?;
+    let (a, b) = run.entries.split_at(count_of_a(run.entries));
     Ok(ReportLine {
         key,
         said: said_of(alloc, offset, a, b)?,
@@ -40,10 +56,9 @@ fn lines_of(
 {
     let mut lines = Vec::new(alloc);
     let mut rest = entries;
-    while let Some(first) = rest.first() {
-        let (run, after) = rest.split_at(count_of_key(&first.key, rest));
-        lines.push(line_of(alloc, offset, first, run)?)?;
-        rest = after;
+    while let Some(run) = first_run(rest) {
+        lines.push(line_of(alloc, offset, run)?)?;
+        rest = run.after;
     }
     Ok(lines)
 }
