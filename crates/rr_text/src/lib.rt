@@ -20,7 +20,7 @@ pub use physical::take_line;
 pub use plain::{is_text, without_mark};
 pub use print::{push_basic, push_extended, push_number, push_unsigned};
 pub use rr_model::Stamp;
-pub use unfold::{lines, lines_from};
+pub use unfold::{begins_blank, lines, lines_from};
 
 #[cfg(test)]
 mod tests {

@@ -1,12 +1,12 @@
 // The components that are open (RFC 5545, section 3.6).
 ghost use Rattle.std.specs.Prelude.{◌≡◌, [], ◌∷◌, OnOk};
-ghost use Rattle.rr_model.specs.Text.Event.{ended, is_event, is_in_event, no_components, value_on};
-ghost use Rattle.rr_model.specs.Text.RuleValues.{◌>>=◌};
-ghost use Rattle.std.specs.Prelude.{Ok};
+ghost use Rattle.std.specs.List.{list_any};
 ghost use Rattle.rr_model.specs.Rule.Validity.{is_absent};
-ghost use Rattle.rr_trip.specs.Events.{Becomes, is_within_event, open_after};
+ghost use Rattle.rr_model.specs.Text.Event.{is_event, is_in_event};
+ghost use Rattle.rr_ical.specs.Steps.{Becomes};
+ghost use Rattle.rr_events.specs.Events.{closed_by, is_within_event, open_after};
 
-use rr_ical::{is_same_name, line_kind, value_of_line};
+use rr_ical::{is_event, is_same_name, line_kind, value_of_line};
 use rr_model::{Bytes, Fault, Line, LineKind, NoMemory, Refusal};
 use std::alloc::Global;
 use std::marker::Model;
@@ -25,10 +25,11 @@ impl Model for OpenNames {
     ghost view = { λ n. reverse n.names.items };
 }
 
-fn is_event(name: &[u8]) -> bool
-    ensures { result ≡ is_event name.now }
+// Whether one of the components is an event.
+fn has_event(names: &[Bytes]) -> bool
+    ensures { result ≡ list_any is_event names.now }
 {
-    is_same_name(name, b"VEVENT")
+    names.iter().any(|name| is_event(name.as_slice()))
 }
 
 impl OpenNames {
@@ -62,7 +63,7 @@ impl OpenNames {
     pub fn is_within_event(&self) -> bool
         ensures { result ≡ is_within_event self.now }
     {
-        self.names.iter().any(|name| is_event(name.as_slice()))
+        has_event(&self.names)
     }
 
     // A component is opened.
@@ -75,7 +76,7 @@ impl OpenNames {
 
     // The innermost component is closed, where it has this name.
     fn end(&mut self, number: u64, name: &[u8]) -> Result<(), Fault>
-        ensures { Becomes (ended number no_components self.old name.now >>= λ after. Ok after.open_names) self.new result }
+        ensures { Becomes (closed_by number self.old name.now) self.new result }
     {
         match self.names.last() {
             Some(innermost) if is_same_name(name, innermost.as_slice()) => {

@@ -4,7 +4,7 @@ use Rattle.std.specs.Prelude.{not, ◌&&◌, cond}
 use Rattle.rr_model.specs.Rule.Validity.{is_absent}
 use Rattle.rr_model.specs.Text.Lines.{begins_blank, continuation, onto_last, with_physical_line, with_physical_lines}
 use Rattle.rr_model.specs.declared.line.Line.{Line}
-use Rattle.rr_trip.specs.Cutting.{PartsUnfoldAlone}
+use Rattle.rr_events.specs.Cutting.{PartsUnfoldAlone}
 
 -- only the last line is made longer
 onto_last-after : (done : List Line) (line : Line) (more : List Line) (text : List ℕ) → onto_last (done ++ line ∷ more) text ≡ done ++ onto_last (line ∷ more) text

@@ -1,6 +1,6 @@
 // What stands directly in an event (RFC 5545, section 3.6.1).
 ghost use Rattle.std.specs.Prelude.{◌≡◌, [], map, option_map, IfOk};
-ghost use Rattle.rr_trip.specs.Own.{first_named, first_value, own_lines};
+ghost use Rattle.rr_events.specs.Own.{first_named, first_value, own_lines};
 
 use crate::names::OpenNames;
 use rr_ical::{is_named, value_of_line};

@@ -1,5 +1,5 @@
 -- The events of a whole calendar text, each as its lines from BEGIN to END (RFC 5545, sections 3.4 and 3.6.1).
-use Rattle.std.specs.Prelude.{◌≡◌, ℕ, Bool, if◌then◌else◌, List, [], ◌∷◌, ◌++◌, length, Result, Ok, Err, ⊤}
+use Rattle.std.specs.Prelude.{ℕ, Bool, if◌then◌else◌, List, [], ◌∷◌, ◌++◌, length, Result, Ok, Err}
 use Rattle.std.specs.List.{list_any}
 use Rattle.rr_model.specs.Rule.Validity.{is_absent}
 use Rattle.rr_model.specs.Text.Event.{ended, is_event, no_components, value_on}
@@ -7,21 +7,22 @@ use Rattle.rr_model.specs.Text.Lines.{physical_lines}
 use Rattle.rr_model.specs.Text.RuleValues.{◌>>=◌}
 use Rattle.rr_model.specs.Text.UsedLines.{line_kind}
 use Rattle.rr_model.specs.declared.line.Line.{Line}
-use Rattle.rr_model.specs.declared.refusal.Fault.{Fault}
-use Rattle.rr_model.specs.declared.refusal.Fault.TheVariants.{Refused, NoMemory}
 use Rattle.rr_model.specs.declared.refusal.Refusal.{Refusal}
 use Rattle.rr_model.specs.declared.refusal.Refusal.TheVariants.{BadLine}
 use Rattle.rr_model.specs.declared.used.LineKind.{LineKind}
 use Rattle.rr_model.specs.declared.used.LineKind.TheVariants.{Begin, End, Property, Other}
-use Rattle.rr_trip.specs.Cutting.{lines_at}
+use Rattle.rr_events.specs.Cutting.{lines_at}
 
 -- ---- components
+
+-- the components that are open after the end of one of this name
+abbrev pub closed_by : ℕ → List (List ℕ) → List ℕ → Result (List (List ℕ)) Refusal
+closed_by number names name = ended number no_components names name >>= λ after. Ok after.open_names
 
 -- the components that are open after a line, by its kind, the innermost first
 abbrev pub open_at : List (List ℕ) → ℕ → LineKind → List ℕ → Result (List (List ℕ)) Refusal
 open_at names number Begin text = value_on number text >>= λ name. Ok (name ∷ names)
-open_at names number End text =
-    value_on number text >>= λ name. (ended number no_components names name >>= λ after. Ok after.open_names)
+open_at names number End text = value_on number text >>= λ name. closed_by number names name
 open_at names number (Property name) text = Ok names
 open_at names number Other text = Ok names
 
@@ -32,12 +33,6 @@ open_after names line = open_at names line.number (line_kind line.text) line.tex
 -- a place lies within an event, directly or deeper
 abbrev pub is_within_event : List (List ℕ) → Bool
 is_within_event names = list_any is_event names
-
--- The value becomes what is wanted, or the refusal is answered, or memory is wanting.
-abbrev pub Becomes : {A : Type 0} → Result A Refusal → A → Result (Unit {0}) Fault → Type 0
-Becomes wanted new (Ok done) = wanted ≡ Ok new
-Becomes wanted new (Err (Refused refusal)) = wanted ≡ Err refusal
-Becomes wanted new (Err NoMemory) = ⊤
 
 -- ---- events
 
