@@ -33,7 +33,7 @@ fn take_continuation(text: &[u8]) -> Option<(&[u8], &[u8])>
 
 /// The first unfolded line of a text whose first physical line has this number; the empty text has none.
 ///
-/// It is the first of `rr_text::lines_from`, without the blanks behind its line breaks. No byte is copied more than twice.
+/// It is the first of `rr_text::lines_from`, without the blanks behind its line breaks.
 pub fn cut_line<'a>(alloc: Global, text: &'a [u8], number: u64) -> Result<Option<Cut<'a>>, NoMemory>
     requires { number + length text.now < 2 ^ 64 }
     ensures { IfOk result (λ cut. MatchOption cut (text.now ≡ []) (λ cut. IsCut number text.now cut.line cut.after.now cut.next)) }

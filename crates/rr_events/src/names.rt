@@ -1,8 +1,7 @@
 // The components that are open (RFC 5545, section 3.6).
-ghost use Rattle.std.specs.Prelude.{◌≡◌, [], ◌∷◌, OnOk};
-ghost use Rattle.std.specs.List.{list_any};
+ghost use Rattle.std.specs.Prelude.{◌≡◌, [], ◌∷◌, drop, OnOk};
 ghost use Rattle.rr_model.specs.Rule.Validity.{is_absent};
-ghost use Rattle.rr_model.specs.Text.Event.{is_event, is_in_event};
+ghost use Rattle.rr_model.specs.Text.Event.{is_in_event};
 ghost use Rattle.rr_ical.specs.Steps.{Becomes};
 ghost use Rattle.rr_events.specs.Events.{closed_by, is_within_event, open_after};
 
@@ -11,46 +10,45 @@ use rr_model::{Bytes, Fault, Line, LineKind, NoMemory, Refusal};
 use std::alloc::Global;
 use std::marker::Model;
 
-/// The names of the components that are open, the innermost at the end.
+/// The names of the components that are open, the innermost at the end, and how many of them are events.
 #[derive(Drop)]
-pub struct OpenNames {
+pub(crate) struct OpenNames {
     names: Vec<Bytes>,
+    events: usize,
 }
 
 impl Model for OpenNames {
-    ghost use Rattle.std.specs.Prelude.{ℕ, List, reverse};
+    ghost use Rattle.std.specs.Prelude.{◌≡◌, ℕ, List, reverse};
+    ghost use Rattle.std.specs.List.{count_by};
+    ghost use Rattle.rr_model.specs.Text.Event.{is_event};
 
     ghost Value = { List (List ℕ) };
 
     ghost view = { λ n. reverse n.names.items };
-}
 
-// Whether one of the components is an event.
-fn has_event(names: &[Bytes]) -> bool
-    ensures { result ≡ list_any is_event names.now }
-{
-    names.iter().any(|name| is_event(name.as_slice()))
+    ghost invariant = { λ n. n.events ≡ count_by is_event (reverse n.names.items) };
 }
 
 impl OpenNames {
     /// No component is open.
-    pub fn new(alloc: Global) -> Self
+    pub(crate) fn new(alloc: Global) -> Self
         ensures { result ≡ [] }
     {
         OpenNames {
             names: Vec::new(alloc),
+            events: 0,
         }
     }
 
     /// Whether no component is open.
-    pub fn is_empty(&self) -> bool
+    pub(crate) fn is_empty(&self) -> bool
         ensures { result ≡ is_absent self.now }
     {
         self.names.is_empty()
     }
 
     /// Whether the innermost component is an event.
-    pub fn is_in_event(&self) -> bool
+    pub(crate) fn is_in_event(&self) -> bool
         ensures { result ≡ is_in_event self.now }
     {
         match self.names.last() {
@@ -60,18 +58,34 @@ impl OpenNames {
     }
 
     /// Whether some component is an event.
-    pub fn is_within_event(&self) -> bool
+    pub(crate) fn is_within_event(&self) -> bool
         ensures { result ≡ is_within_event self.now }
     {
-        has_event(&self.names)
+        self.events > 0
     }
 
     // A component is opened.
     fn begin(&mut self, name: Bytes) -> Result<(), NoMemory>
         ensures { OnOk result (self.new ≡ name ∷ self.old) }
     {
+        let event = is_event(name.as_slice());
         self.names.push(name)?;
+        if event {
+            self.events += 1;
+        }
         Ok(())
+    }
+
+    // The innermost component, if there is one, is closed.
+    fn pop(&mut self)
+        ensures { self.new ≡ drop 1 self.old }
+    {
+        let Some(innermost) = self.names.pop() else {
+            return;
+        };
+        if is_event(innermost.as_slice()) {
+            self.events -= 1;
+        }
     }
 
     // The innermost component is closed, where it has this name.
@@ -80,7 +94,7 @@ impl OpenNames {
     {
         match self.names.last() {
             Some(innermost) if is_same_name(name, innermost.as_slice()) => {
-                self.names.pop();
+                self.pop();
                 Ok(())
             }
             _ => Err(Fault::Refused(Refusal::BadLine(number))),
@@ -90,7 +104,7 @@ impl OpenNames {
     /// One line more. `BadLine` comes for a BEGIN or END without a value, and for an END that does not close the innermost
     /// component.
     #[tactic(auto, unfolding(crate::specs::Events::open_after))]
-    pub fn step(&mut self, alloc: Global, line: &Line) -> Result<(), Fault>
+    pub(crate) fn step(&mut self, alloc: Global, line: &Line) -> Result<(), Fault>
         ensures { Becomes (open_after self.old line.now) self.new result }
     {
         let text = line.text.as_slice();

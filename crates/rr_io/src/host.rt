@@ -93,6 +93,7 @@ impl<R: Files + Input + Drop> Source for HostSource<R> {
         name: &str,
         limit: usize,
     ) -> Result<Vec<u8>, FetchError>
+        requires { limit < 2 ^ 62 }
         ensures { self.new ≡ failed_after result name.now self.old }
     {
         // The name and room for it first: a fetch that fails then wants no memory to note it.

@@ -1,5 +1,5 @@
 // A source and a sink in memory that never fail.
-ghost use Rattle.std.specs.Prelude.{◌≡◌, ◌++◌, ◌+◌, [], Some, take, unwrap_or, OnOk, OnErr, IfOk, IsErrOf};
+ghost use Rattle.std.specs.Prelude.{◌≡◌, ◌^◌, ◌<◌, ◌++◌, ◌+◌, [], Some, take, unwrap_or, OnOk, OnErr, IfOk, IsErrOf};
 ghost use Rattle.rr_io.specs.Names.{bytes_at, Sets};
 ghost use Rattle.rr_io.specs.Outside.{IsPut};
 
@@ -78,6 +78,7 @@ impl Source for SteadySource {
         name: &str,
         limit: usize,
     ) -> Result<Vec<u8>, FetchError>
+        requires { limit < 2 ^ 62 }
         ensures bytes { IfOk result (λ v. v.items ≡ take (limit + 1) (unwrap_or (bytes_at self.old name.now) [])) }
         ensures steady { IsErrOf result FetchError.Failed → ⊥ }
         ensures same { self.new ≡ self.old }

@@ -6,11 +6,11 @@ use Rattle.rr_model.specs.Text.UsedLines as U
 use Rattle.rr_model.specs.declared.line.Line.{Line}
 use Rattle.rr_model.specs.declared.refusal.Refusal.{Refusal}
 use Rattle.rr_model.specs.declared.refusal.Refusal.TheVariants.{BadLine}
-use Rattle.rr_trip.specs.Events as E
-use Rattle.rr_trip.specs.Events.{events_of}
+use Rattle.rr_events.specs.Events as E
+use Rattle.rr_events.specs.Events.{events_of}
 use Rattle.rr_trip.specs.Keys.{key_of}
-use Rattle.rr_trip.specs.Own as O
-use Rattle.rr_trip.specs.Own.{parameter_of}
+use Rattle.rr_trip.specs.Parameters as O
+use Rattle.rr_trip.specs.Parameters.{parameter_of}
 use Rattle.rr_trip.specs.declared.key.Key.{Key}
 use Rattle.rr_trip.specs.declared.key.Key.TheVariants as key
 

@@ -1,3 +1,2 @@
-mod CuttingLemmas
 mod InstanceLemmas
 mod Examples

@@ -5,11 +5,11 @@ use Rattle.rr_model.specs.declared.line.Line.{Line}
 use Rattle.rr_model.specs.declared.verdict.Side.{Side}
 use Rattle.rr_model.specs.declared.verdict.Side.TheVariants.{A, B, Both}
 use Rattle.rr_trip.specs.Event.{event_of}
-use Rattle.rr_trip.specs.Finding.{lines_in}
+use Rattle.rr_events.specs.Finding.{lines_in}
 use Rattle.rr_trip.specs.Keys.{is_same_key, key_lt, key_of}
 use Rattle.rr_trip.specs.declared.entry.Entry.{Entry}
 use Rattle.rr_trip.specs.declared.event.Event.{Event}
-use Rattle.rr_trip.specs.declared.find.Piece.{Piece}
+use Rattle.rr_events.specs.declared.find.Piece.{Piece}
 use Rattle.rr_trip.specs.declared.key.Key.{Key}
 
 -- the numbers of its lines are numbers of the machine

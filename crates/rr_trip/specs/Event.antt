@@ -11,7 +11,8 @@ use Rattle.rr_model.specs.declared.used.LineName.TheVariants.{Rrule, Rdate}
 use Rattle.rr_model.specs.declared.used.Scan.{Scan}
 use Rattle.rr_model.specs.declared.used.UsedLine.{UsedLine}
 use Rattle.rr_trip.specs.Keys.{first_line}
-use Rattle.rr_trip.specs.Own.{first_named, first_value, own_lines, parameter_of, value_or_empty}
+use Rattle.rr_events.specs.Own.{first_named, first_value, own_lines, value_or_empty}
+use Rattle.rr_trip.specs.Parameters.{parameter_of}
 use Rattle.rr_trip.specs.declared.event.Event.{Event}
 use Rattle.rr_trip.specs.declared.event.Recurrence.{Recurrence}
 

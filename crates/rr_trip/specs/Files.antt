@@ -8,15 +8,15 @@ use Rattle.rr_model.specs.declared.line.Line.{Line}
 use Rattle.rr_model.specs.declared.refusal.Refusal.{Refusal}
 use Rattle.rr_model.specs.declared.refusal.Refusal.TheVariants as refusal
 use Rattle.rr_model.specs.declared.verdict.Side.{Side}
-use Rattle.rr_trip.specs.Cutting.{lines_at}
-use Rattle.rr_trip.specs.Events.{events_of}
-use Rattle.rr_trip.specs.Finding.{lines_in}
+use Rattle.rr_events.specs.Cutting.{lines_at}
+use Rattle.rr_events.specs.Events.{events_of}
+use Rattle.rr_events.specs.Finding.{lines_in}
 use Rattle.rr_trip.specs.declared.file.FileRefusal.{FileRefusal}
 use Rattle.rr_trip.specs.declared.file.FileRefusal.TheVariants.{TooLong, NoEvents, BadLine}
 use Rattle.rr_trip.specs.declared.file.TheConstants.{MAX_FILE}
 use Rattle.rr_trip.specs.declared.file.TripFault.{TripFault}
 use Rattle.rr_trip.specs.declared.file.TripFault.TheVariants as trip
-use Rattle.rr_trip.specs.declared.find.Piece.{Piece}
+use Rattle.rr_events.specs.declared.find.Piece.{Piece}
 
 -- some line of a text has the name BEGIN
 abbrev pub has_begin : List ℕ → Bool

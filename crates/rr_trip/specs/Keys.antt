@@ -5,7 +5,7 @@ use Rattle.std.specs.Ordering.{is_eq, is_lt, nat_cmp}
 use Rattle.std.specs.declared.cmp.Ordering.{Ordering}
 use Rattle.std.specs.declared.cmp.Ordering.TheVariants.{Less, Greater}
 use Rattle.rr_model.specs.declared.line.Line.{Line}
-use Rattle.rr_trip.specs.Own.{first_value, own_lines}
+use Rattle.rr_events.specs.Own.{first_value, own_lines}
 use Rattle.rr_trip.specs.declared.key.Key.{Key}
 use Rattle.rr_trip.specs.declared.key.Key.TheVariants as key
 

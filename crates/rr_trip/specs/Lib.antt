@@ -1,7 +1,4 @@
-pub mod Cutting
-pub mod Events
-pub mod Finding
-pub mod Own
+pub mod Parameters
 pub mod Keys
 pub mod Event
 pub mod Entries

@@ -1,11 +1,10 @@
 // What an event states of itself as part of a calendar (RFC 5545, sections 3.6.1 and 3.8.4.4).
 ghost use Rattle.std.specs.Prelude.{◌≡◌, ◌<◌, ◌+◌, ◌^◌, length, map, IfOk, option_map};
 ghost use Rattle.rr_trip.specs.Event.{event_of, has_rule_or_date, is_cancelled, is_rule_or_date, recurrence_of, recurrence_on, zone_of};
-ghost use Rattle.rr_trip.specs.Finding.{lines_in};
+ghost use Rattle.rr_events.specs.Finding.{lines_in};
 
-use crate::find::Piece;
 use crate::key::first_line;
-use crate::own::{first_named, first_value, own_lines};
+use rr_events::{Piece, first_named, first_value, own_lines};
 use crate::parameter::parameter_of;
 use rr_ical::{scan_lines, value_of_line};
 use rr_model::{Bytes, Line, LineName, NoMemory, Scan, UsedLine};

@@ -3,11 +3,10 @@ ghost use Rattle.std.specs.Prelude.{◌≡◌, ◌<◌, ◌^◌, length, All, If
 ghost use Rattle.rr_trip.specs.Files.{AnswersFile, has_begin};
 ghost use Rattle.rr_trip.specs.Entries.{IsNumberedPiece};
 
-use crate::cut::cut_line;
-use crate::find::{Piece, find_events};
+use rr_events::{Piece, cut_line, find_events};
 use rr_ical::is_named;
 use rr_model::{Fault, NoMemory, Refusal, Side};
-use rr_text::{lines_from, without_mark};
+use rr_text::without_mark;
 use std::alloc::Global;
 
 /// The most bytes of a file.
@@ -50,25 +49,18 @@ impl From<NoMemory> for TripFault {
     }
 }
 
-// Whether the first of these lines has the name BEGIN.
-fn begins(alloc: Global, piece: &[u8]) -> Result<bool, NoMemory> {
-    let lines = lines_from(alloc, piece, false, 1)?;
-    match lines.as_slice() {
-        [line, ..] => Ok(is_named(line.text.as_slice(), b"BEGIN")),
-        [] => Ok(false),
-    }
-}
-
 // Whether some line of a text has the name BEGIN.
 fn has_begin(alloc: Global, text: &[u8]) -> Result<bool, NoMemory>
     requires { length text.now < 2 ^ 62 }
     ensures { IfOk result (λ b. b ≡ has_begin text.now) }
 {
     let mut rest = text;
-    while let Some(cut) = cut_line(rest) {
-        if begins(alloc, cut.piece)? {
+    let mut number = 1u64;
+    while let Some(cut) = cut_line(alloc, rest, number)? {
+        if is_named(cut.line.text.as_slice(), b"BEGIN") {
             return Ok(true);
         }
+        number = cut.next;
         rest = cut.after;
     }
     Ok(false)

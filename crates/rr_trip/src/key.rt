@@ -1,10 +1,9 @@
 // What an event is found again by (RFC 5545, section 3.8.4.7).
 ghost use Rattle.std.specs.Prelude.{◌≡◌, ◌<◌, ◌+◌, ◌^◌, length, IfOk};
-ghost use Rattle.rr_trip.specs.Finding.{lines_in};
+ghost use Rattle.rr_events.specs.Finding.{lines_in};
 ghost use Rattle.rr_trip.specs.Keys.{first_line, key_cmp, key_of};
 
-use crate::find::Piece;
-use crate::own::{first_value, own_lines};
+use rr_events::{Piece, first_value, own_lines};
 use rr_model::{Bytes, Line, NoMemory};
 use rr_text::lines_from;
 use std::alloc::Global;

@@ -2,18 +2,14 @@
 #![tactic(auto)]
 
 mod comparison;
-mod cut;
 mod edit;
 mod entry;
 mod event;
 mod file;
-mod find;
 mod gather;
 mod judge;
 mod key;
 mod laws;
-mod names;
-mod own;
 mod parameter;
 mod printing;
 mod report;
@@ -23,7 +19,7 @@ pub use comparison::compare;
 pub use file::{FileRefusal, MAX_FILE, TripFault};
 pub use gather::KeyRefusal;
 pub use key::Key;
-pub use laws::{instances_are_dates, parts_unfold_alone};
+pub use laws::instances_are_dates;
 pub use printing::{print, print_refusal};
 pub use report::{Counts, Report, ReportLine, Status};
 pub use said::Said;

@@ -2,7 +2,7 @@
 ghost use Rattle.std.specs.Prelude.{◌≡◌, ◌==◌, Some, option_map};
 ghost use Rattle.std.specs.List.{slice_split};
 ghost use Rattle.rr_model.specs.Text.Rules.{split_once};
-ghost use Rattle.rr_trip.specs.Own.{parameter_of, parameters_of, value_named, without_quotes};
+ghost use Rattle.rr_trip.specs.Parameters.{parameter_of, parameters_of, value_named, without_quotes};
 
 use rr_ical::{after_colon, is_same_name, name_and_rest};
 use rr_rrule::split_once;
