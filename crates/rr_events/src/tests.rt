@@ -27,7 +27,11 @@ const TEXTS: [(&str, &str); 9] = [
 // The events that are found, as the table writes them.
 fn told(alloc: Global, text: &str) -> Result<String, Fail> {
     let mut told = String::new(alloc);
-    let pieces = match find_events(alloc, text.as_bytes()) {
+    let bytes = text.as_bytes();
+    if bytes.len() > 1000 {
+        return Err("a long text".into());
+    }
+    let pieces = match find_events(alloc, bytes) {
         Ok(pieces) => pieces,
         Err(Fault::Refused(Refusal::BadLine(line))) => return Ok(format!(in alloc; "line {line}")?),
         Err(_) => return Err("another fault".into()),
