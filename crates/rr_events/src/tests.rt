@@ -15,8 +15,8 @@ const TEXTS: [(&str, &str); 9] = [
     ),
     ("begin:vevent\nUID:\n a\n b\nUID:c\nend:vevent", "1 40 ab|"),
     (
-        "BEGIN:VTODO\nBEGIN:VEVENT\nBEGIN:VEVENT\nUID:a\nEND:VEVENT\nEND:VEVENT\nEND:VTODO\n",
-        "2 54 |",
+        "BEGIN:VTODO\nBEGIN:VEVENT\nUID:a\nBEGIN:VEVENT\nUID:b\nEND:VEVENT\nEND:VEVENT\nEND:VTODO\n",
+        "2 60 a|",
     ),
     ("BEGIN:VEVENT\nEND:VEVENT\n\n\nBEGIN:A\n\n", "line 6"),
     ("END:VEVENT\n", "line 1"),
