@@ -22,7 +22,8 @@ line-after : (kb : Bool) (n : ℕ) (done : List Line) (line : Line) (more : List
     → with_physical_line kb n (done ++ line ∷ more) text ≡ done ++ with_physical_line kb n (line ∷ more) text
 line-after kb n [] line more text = refl
 line-after kb n (d ∷ done) line more text =
-    elim (begins_blank text) as (λ b. cond (b && true) (onto_last (d ∷ (done ++ line ∷ more)) (continuation kb text)) (d ∷ ((done ++ line ∷ more) ++ record { number = n; text = text } ∷ []))
+    elim (begins_blank text) as (λ b. cond (b && true) (onto_last (d ∷ (done ++ line ∷ more)) (continuation kb text))
+    (d ∷ ((done ++ line ∷ more) ++ record { number = n; text = text } ∷ []))
     ≡ d ∷ (done ++ cond (b && true) (onto_last (line ∷ more) (continuation kb text)) (line ∷ (more ++ record { number = n; text = text } ∷ [])))) [
       | true ↦ onto_last-after (d ∷ done) line more (continuation kb text)
       | false ↦ ap (λ l. d ∷ l) (three done (line ∷ more) (record { number = n; text = text } ∷ []))
@@ -36,7 +37,8 @@ longer-some line (next ∷ more) text = refl
 -- with one more physical line there is a line
 line-some : (kb : Bool) (n : ℕ) (line : Line) (more : List Line) (text : List ℕ) → is_absent (with_physical_line kb n (line ∷ more) text) ≡ false
 line-some kb n line more text =
-    elim (begins_blank text) as (λ b. is_absent (cond (b && true) (onto_last (line ∷ more) (continuation kb text)) (line ∷ (more ++ record { number = n; text = text } ∷ []))) ≡ false) [
+    elim (begins_blank text) as (λ b. is_absent (cond (b && true) (onto_last (line ∷ more) (continuation kb text))
+    (line ∷ (more ++ record { number = n; text = text } ∷ []))) ≡ false) [
       | true ↦ longer-some line more (continuation kb text)
       | false ↦ refl
     ]

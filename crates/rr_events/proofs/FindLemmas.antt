@@ -148,7 +148,8 @@ turn last names names_after lines line more opened = rw opened (by (is_within_ev
     by false true = refl
     by false false = refl
 
-one-found : (found : List (List Line)) (lines : List Line) (come : Events) → after_found found (come >>= λ events. Ok (lines ∷ events)) ≡ after_found (found ++ lines ∷ []) come
+one-found : (found : List (List Line)) (lines : List Line) (come : Events)
+    → after_found found (come >>= λ events. Ok (lines ∷ events)) ≡ after_found (found ++ lines ∷ []) come
 one-found found lines (Ok events) = ap Ok (sym (append_assoc found (lines ∷ []) events))
 one-found found lines (Err refusal) = refl
 
@@ -158,12 +159,21 @@ module _ (text rest after : List ℕ) (names names_after : List (List ℕ)) (num
   last = length (physical_lines text)
 
   abbrev Goes : Option Piece → List Piece → Bool → Type 0
-  Goes begun found now = IsBegun text now begun after next × (events_of text ≡ after_found (map lines_in found) (events_from last names_after (so_far begun after) (lines_at next after))) × All (IsPlaced text) found
+  Goes begun found now =
+      IsBegun text now begun after next
+      × (events_of text ≡ after_found (map lines_in found) (events_from last names_after (so_far begun after) (lines_at next after)))
+      × All (IsPlaced text) found
+
+  -- what comes after the line, by whether it ends within an event and begins within one
+  abbrev come : Bool → Bool → List Line → Events
+  come now was lines = turned now was last names_after lines line (lines_at next after)
 
   turned_so : (begun : Option Piece) (found : List Piece) → IsSoFar text names begun found rest number
-      → events_of text ≡ after_found (map lines_in found) (turned (is_within_event names_after) (is_within_event names) last names_after (so_far begun rest) line (lines_at next after))
+      → events_of text ≡ after_found (map lines_in found) (come (is_within_event names_after) (is_within_event names) (so_far begun rest))
   turned_so begun found is =
-      is.events ∙ ap (λ (ls : List Line). after_found (map lines_in found) (events_from last names (so_far begun rest) ls)) (line-first number rest line after next cut)
+      is.events
+      ∙ ap (λ (ls : List Line). after_found (map lines_in found) (events_from last names (so_far begun rest) ls))
+      (line-first number rest line after next cut)
       ∙ ap (after_found (map lines_in found)) (turn last names names_after (so_far begun rest) line (lines_at next after) opened)
 
   -- the line ends within an event
@@ -173,7 +183,7 @@ module _ (text rest after : List ℕ) (names names_after : List (List ℕ)) (num
       let new = open-here text here rest after number next line at first is.few cut in (
         (refl, new.0),
         turned_so None found is
-            ∙ ap (λ (b : Bool). after_found (map lines_in found) (turned b (is_within_event names) last names_after [] line (lines_at next after))) now
+            ∙ ap (λ (b : Bool). after_found (map lines_in found) (come b (is_within_event names) [])) now
             ∙ ap (λ (ls : List Line). after_found (map lines_in found) (events_from last names_after ls (lines_at next after))) (sym new.1),
         is.placed,
       )
@@ -181,7 +191,7 @@ module _ (text rest after : List ℕ) (names names_after : List (List ℕ)) (num
       let new = open-longer text begun rest after number next line is.open_one.1 cut in (
         (refl, new.goes_on),
         turned_so (Some begun) found is
-            ∙ ap (λ (b : Bool). after_found (map lines_in found) (turned b (is_within_event names) last names_after (so_far (Some begun) rest) line (lines_at next after))) now
+            ∙ ap (λ (b : Bool). after_found (map lines_in found) (come b (is_within_event names) (so_far (Some begun) rest))) now
             ∙ ap (λ (ls : List Line). after_found (map lines_in found) (events_from last names_after ls (lines_at next after))) (sym new.lines),
         is.placed,
       )
@@ -198,8 +208,8 @@ module _ (text rest after : List ℕ) (names names_after : List (List ℕ)) (num
   outside None found more is now same = rw same (
     refl,
     turned_so None found is
-        ∙ ap (λ (b : Bool). after_found (map lines_in found) (turned b (is_within_event names) last names_after [] line (lines_at next after))) now
-        ∙ ap (λ (b : Bool). after_found (map lines_in found) (turned false b last names_after [] line (lines_at next after))) is.open_one,
+        ∙ ap (λ (b : Bool). after_found (map lines_in found) (come b (is_within_event names) [])) now
+        ∙ ap (λ (b : Bool). after_found (map lines_in found) (come false b [])) is.open_one,
     is.placed,
   )
   outside (Some begun) found more is now pushed =
@@ -209,11 +219,12 @@ module _ (text rest after : List ℕ) (names names_after : List (List ℕ)) (num
       rw pushed.put (
         refl,
         turned_so (Some begun) found is
-            ∙ ap (λ (b : Bool). after_found (map lines_in found) (turned b (is_within_event names) last names_after (so_far (Some begun) rest) line (lines_at next after))) now
-            ∙ ap (λ (b : Bool). after_found (map lines_in found) (turned false b last names_after (so_far (Some begun) rest) line (lines_at next after))) is.open_one.0
+            ∙ ap (λ (b : Bool). after_found (map lines_in found) (come b (is_within_event names) (so_far (Some begun) rest))) now
+            ∙ ap (λ (b : Bool). after_found (map lines_in found) (come false b (so_far (Some begun) rest))) is.open_one.0
             ∙ ap (λ (ls : List Line). after_found (map lines_in found) (events_from last names_after [] (lines_at next after) >>= λ events. Ok (ls ∷ events))) lines
             ∙ one-found (map lines_in found) (lines_in pushed.piece) (events_from last names_after [] (lines_at next after))
-            ∙ ap (λ (fs : List (List Line)). after_found fs (events_from last names_after [] (lines_at next after))) (sym (map-append lines_in found (pushed.piece ∷ []))),
+            ∙ ap (λ (fs : List (List Line)). after_found fs (events_from last names_after [] (lines_at next after)))
+            (sym (map-append lines_in found (pushed.piece ∷ []))),
         All-push (IsPlaced text) found pushed.piece is.placed (closed_placed begun pushed.piece new.goes_on pushed.is),
       )
 
@@ -232,7 +243,8 @@ module _ (text rest after : List ℕ) (names names_after : List (List ℕ)) (num
         few = omega (arith, is.few, one.few);
       }
     where
-      by : (now : Bool) → is_within_event names_after ≡ now → more_begun ≡ begun_after now begun here → IsFoundAfter now begun after found more → Goes more_begun more now
+      by : (now : Bool) → is_within_event names_after ≡ now → more_begun ≡ begun_after now begun here → IsFoundAfter now begun after found more
+          → Goes more_begun more now
       by true now begins finds = rw (begins, finds) (within_one begun found is now)
       by false now begins finds = rw begins (outside begun found more is now finds)
 
@@ -248,7 +260,9 @@ one_more text rest after number next line here old new at first cut step is =
 refused : (text rest after : List ℕ) (names : List (List ℕ)) (begun : Option Piece) (found : List Piece) (number next : ℕ) (line : Line) (refusal : Refusal)
     → IsSoFar text names begun found rest number → IsCut number rest line after next → open_after names line ≡ Err refusal → events_of text ≡ Err refusal
 refused text rest after names begun found number next line refusal is cut closed =
-    is.events ∙ ap (λ (ls : List Line). after_found (map lines_in found) (events_from (length (physical_lines text)) names (so_far begun rest) ls)) (line-first number rest line after next cut)
+    is.events
+    ∙ ap (λ (ls : List Line). after_found (map lines_in found) (events_from (length (physical_lines text)) names (so_far begun rest) ls))
+    (line-first number rest line after next cut)
     ∙ rw closed refl
 
 -- the fault of a line is that of the whole
@@ -270,7 +284,8 @@ all_found text rest names begun found number is_empty is none empty =
     let no = no_lines rest none in
     let last : length (physical_lines text) ≡ number - 1 = omega (arith, is.last, ap length no) in
     is.events
-    ∙ ap (λ (ls : List (List ℕ)). after_found (map lines_in found) (events_from (length (physical_lines text)) names (so_far begun rest) (with_physical_lines false number [] ls))) no
+    ∙ ap (λ (ls : List (List ℕ)). after_found (map lines_in found)
+    (events_from (length (physical_lines text)) names (so_far begun rest) (with_physical_lines false number [] ls))) no
     ∙ ap (λ (b : Bool). after_found (map lines_in found) (if b then Ok [] else Err (BadLine (length (physical_lines text))))) empty
     ∙ ap (λ (n : ℕ). after_found (map lines_in found) (if is_empty then Ok [] else Err (BadLine n))) last
 

@@ -56,7 +56,8 @@ one-longer number text line rest more taken after next same one add =
       unfolds =
           ap (with_physical_lines false number []) lines ∙ lines-append false number [] (physical_lines one.part) (add.line ∷ [])
           ∙ ap (λ (ls : List Line). with_physical_line false place ls add.line) one.unfolds
-          ∙ ap (λ (b : Bool). if b && true then onto_last (line ∷ []) (continuation false add.line) else line ∷ record { number = place; text = add.line } ∷ []) add.blank
+          ∙ ap (λ (b : Bool). if b && true then onto_last (line ∷ []) (continuation false add.line)
+          else line ∷ record { number = place; text = add.line } ∷ []) add.blank
           ∙ ap (λ (t : List ℕ). record { number = line.number; text = line.text ++ t } ∷ []) (sym add.adds);
       counted = omega (arith, one.counted, ap length lines, length-append (physical_lines one.part) (add.line ∷ []));
       later = omega (arith, one.later);
@@ -72,7 +73,8 @@ lines-apart kb n done rest starts = by (physical_lines rest) refl
     none [] = refl
     none (d ∷ done) = ap (λ (ls : List Line). d ∷ ls) (none done)
 
-    by : (lines : List (List ℕ)) → physical_lines rest ≡ lines → with_physical_lines kb n done (physical_lines rest) ≡ done ++ with_physical_lines kb n [] (physical_lines rest)
+    by : (lines : List (List ℕ)) → physical_lines rest ≡ lines
+        → with_physical_lines kb n done (physical_lines rest) ≡ done ++ with_physical_lines kb n [] (physical_lines rest)
     by [] e = rw e (none done)
     by (text ∷ texts) e = rw e (parts_unfold_alone kb n done text texts (first-blank rest text texts e ∙ starts))
 

@@ -19,7 +19,8 @@ returns-in_err-step-clause-found c =
     let p = err_from_is_err_and c.from_residual-in_err-step.result c.from_residual-in_err-step.ensures.1 in
     rw (p.1, p.2)
     (fault-found c.args.text.now c.loop-finder.rest.now c.in-Some.cut.after.now c.loop-finder.number c.in-Some.cut.next c.in-Some.cut.line
-    (record { text = c.loop-finder.rest; first = c.loop-finder.number }) c.loop-finder.finder c.step.new.self c.in_err-step.field-0.0 cut c.loop-finder.invariant c.in_err-step.ensures)
+    (record { text = c.loop-finder.rest; first = c.loop-finder.number }) c.loop-finder.finder c.step.new.self c.in_err-step.field-0.0 cut
+    c.loop-finder.invariant c.in_err-step.ensures)
 
 pub loop-finder-preserved : goal.loop-finder-preserved
 loop-finder-preserved c =
