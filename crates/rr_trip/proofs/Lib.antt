@@ -1,2 +1,9 @@
 mod InstanceLemmas
+mod ParameterLemmas
+mod KeyStepLemmas
+mod EditLemmas
+mod EditedLemmas
+mod YearOneLemmas
+mod JudgeLemmas
+mod SaidLemmas
 mod Examples

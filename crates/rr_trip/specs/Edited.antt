@@ -177,13 +177,13 @@ values_outside starts dates = filter (λ t. not (list_any (λ s. int_eq s t) sta
 -- the starts alone, as a list of dates
 abbrev pub series_of_starts : Kind → List ℤ → Series
 series_of_starts kind [] = series_of_list None []
-series_of_starts kind (t ∷ ts) = series_of_list (Some (record { kind = kind; at = t; utc = false })) ts
+series_of_starts kind (t ∷ ts) = series_of_list (Some (record { kind = kind; at = t; utc = false })) (with_values [] ts)
 
 -- the series with the starts as dates that are added, and the moments taken out where nothing starts
 abbrev pub with_shifts : Series → Shifts → Series
 with_shifts series shifts = record series {
   plus = with_values series.plus shifts.starts;
-  minus = with_values (values_outside shifts.starts series.minus) (values_outside shifts.starts shifts.moments);
+  minus = with_values (with_values [] (values_outside shifts.starts series.minus)) (values_outside shifts.starts shifts.moments);
 }
 
 -- a series has at most so many dates
@@ -197,16 +197,21 @@ edited_series line series shifts =
     else Err (refusal.ExcludedRule line)
 
 -- a series that is cancelled has none of its occurrences, and keeps its instances
-abbrev pub edited_event : Event → Kind → Series → Shifts → Result Series KeyRefusal
-edited_event event kind series shifts =
-    if event.is_cancelled then within_dates event.first (series_of_starts kind shifts.starts) else edited_series event.first series shifts
+abbrev pub edited_event : Event → Series → Shifts → Result Series KeyRefusal
+edited_event event series shifts =
+    if event.is_cancelled then within_dates event.first (series_of_starts series.kind shifts.starts)
+    else edited_series event.first series shifts
+
+-- the start of a series, in UTC where its DTSTART states it so
+abbrev pub start_of : Series → Stamp → Stamp
+start_of series stamp = record { kind = series.kind; at = series.start; utc = stamp.utc }
 
 -- a series with its instances
 abbrev pub edited_with_series : Option ℤ → Event → List Event → Result Series KeyRefusal
 edited_with_series offset event instances =
     at_event event.first (calendar_scan offset event.scan) >=> (λ series.
-    at_event event.first (stamp_on (start_line event.scan.used)) >=> (λ start.
-    shifts_of offset start instances >=> (λ shifts. edited_event event start.kind series shifts)))
+    at_event event.first (stamp_on (start_line event.scan.used)) >=> (λ stamp.
+    shifts_of offset (start_of series stamp) instances >=> (λ shifts. edited_event event series shifts)))
 
 -- the date or moment of the RECURRENCE-ID of an event
 abbrev pub recurrence_stamp : Option Recurrence → Result Stamp Refusal

@@ -1,5 +1,5 @@
 -- The parameters of a line (RFC 5545, sections 3.1 and 3.2).
-use Rattle.std.specs.Prelude.{ℕ, ◌-◌, ◌==◌, false, if◌then◌else◌, List, [], ◌∷◌, length, reverse, take, Option, None, Some}
+use Rattle.std.specs.Prelude.{ℕ, ◌-◌, ◌==◌, false, if◌then◌else◌, List, [], ◌∷◌, length, take, drop, bytes_eq, codes, Option, None, Some}
 use Rattle.std.specs.List.{slice_split}
 use Rattle.std.specs.Option.{option_or}
 use Rattle.std.specs.Str.{str_eq_ignore_ascii_case}
@@ -16,13 +16,16 @@ abbrev pub parameters_of : List ℕ → List ℕ
 parameters_of text = before_rest (after_name text) (after_colon false (after_name text))
 
 -- without a quote at the front
-abbrev pub without_quote : List ℕ → List ℕ
-without_quote [] = []
-without_quote (b ∷ bs) = if b == 34 then bs else b ∷ bs
+abbrev pub without_first_quote : List ℕ → List ℕ
+without_first_quote text = if bytes_eq (take 1 text) (codes "\"") then drop 1 text else text
+
+-- without a quote at the end
+abbrev pub without_last_quote : List ℕ → List ℕ
+without_last_quote text = if bytes_eq (drop (length text - 1) text) (codes "\"") then take (length text - 1) text else text
 
 -- without the quotes around it
 abbrev pub without_quotes : List ℕ → List ℕ
-without_quotes text = reverse (without_quote (reverse (without_quote text)))
+without_quotes text = without_last_quote (without_first_quote text)
 
 -- the value of a parameter, where it has this name
 abbrev pub value_named : List ℕ → Option (List ℕ × List ℕ) → Option (List ℕ)

@@ -5,8 +5,11 @@ use Rattle.rr_model.specs.Calendar.{IsDayWithin}
 use Rattle.rr_model.specs.Moment.{day_part}
 use Rattle.rr_model.specs.Moment.Years.{IsFromYearOne}
 use Rattle.rr_model.specs.Series.Occurrences.{Occurs}
+use Rattle.rr_decide.specs.Occurrence.{NamesUpToMaxDay}
+use Rattle.rr_model.specs.Sets.Sketch.{StandsIn}
 use Rattle.rr_model.specs.Sets.Verdict.{IsEqualVerdict}
 use Rattle.rr_model.specs.declared.rule.Series.{Series}
+use Rattle.rr_model.specs.declared.sketch.Sketch.{Sketch}
 use Rattle.rr_model.specs.declared.verdict.Side.{Side}
 use Rattle.rr_model.specs.declared.verdict.Side.TheVariants.{A, B, Both}
 use Rattle.rr_model.specs.declared.verdict.Verdict.{Verdict}
@@ -58,6 +61,12 @@ IsSaid offset (x ∷ xs) (y ∷ ys) (Compared verdict one_zone) =
 abbrev pub IsFaultSaid : Side → KeyFault → Said → Type 0
 IsFaultSaid side (key_fault.Refused refusal) said = said ≡ Refused side refusal
 IsFaultSaid side key_fault.NoMemory said = ⊥
+
+-- The verdict on the equality of two sketches, over all whole numbers, which names a day up to the greatest, and whether the zones are the same.
+abbrev pub IsCompared : Sketch → Sketch → Bool → Said → Type 0
+IsCompared a b zones (Compared verdict one_zone) =
+    IsEqualVerdict (StandsIn a) (StandsIn b) verdict × NamesUpToMaxDay verdict × (one_zone ≡ zones)
+IsCompared a b zones said = ⊥
 
 -- a no names a counterexample that can be printed, from 0001-01-01 up to the greatest day
 abbrev pub IsPrintable : Verdict → Type 0

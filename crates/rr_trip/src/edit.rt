@@ -1,8 +1,10 @@
 // The series of a key with its instances as dates (RFC 5545, sections 3.8.4.4, 3.8.5.1 and 3.8.5.2).
 ghost use Rattle.std.specs.Prelude.{◌≡◌, IfOk, OnOk, option_map};
+ghost use Rattle.std.specs.List.{list_any};
+ghost use Rattle.std.specs.Ordering.{int_eq};
 ghost use Rattle.rr_model.specs.Answers.{Answers};
 ghost use Rattle.rr_model.specs.Moment.Years.{IsInYears};
-ghost use Rattle.rr_trip.specs.Edited.{AnswersKey, edited_alone, edited_by, edited_event, edited_series, edited_with_series, moment_of, recurrence_stamp, series_of_starts, shifts_of, stamp_on, start_beside, start_line, values_outside, with_instance, with_moment, with_shifts, with_start, with_values, within_dates};
+ghost use Rattle.rr_trip.specs.Edited.{AnswersKey, edited_alone, edited_by, edited_event, edited_series, edited_with_series, is_start, moment_of, recurrence_stamp, series_of_starts, shifts_of, stamp_on, start_beside, start_line, start_of, values_outside, with_instance, with_moment, with_shifts, with_start, with_values, within_dates};
 
 use crate::event::{Event, Recurrence};
 use crate::gather::{Gathered, KeyFault, KeyRefusal, at_event};
@@ -29,12 +31,19 @@ impl Model for Shifted {
     ghost view = { λ s. record { moments = s.moments; starts = s.starts } };
 }
 
-// The first DTSTART of the used lines.
-fn start_line(scan: &Scan) -> Option<&UsedLine>
-    ensures { option_map (λ line. line.now) result ≡ start_line scan.now.used }
+// Whether a used line is DTSTART.
+fn is_start(line: &UsedLine) -> bool
+    ensures { result ≡ is_start line.now.name }
 {
-    for line in scan.used.as_slice() {
-        if matches!(line.name, LineName::Dtstart) {
+    matches!(line.name, LineName::Dtstart)
+}
+
+// The first DTSTART of the used lines.
+fn start_line(lines: &[UsedLine]) -> Option<&UsedLine>
+    ensures { option_map (λ line. line.now) result ≡ start_line lines.now }
+{
+    for line in lines {
+        if is_start(line) {
             return Some(line);
         }
     }
@@ -46,7 +55,7 @@ fn stamp_of(scan: &Scan) -> Result<Stamp, Refusal>
     ensures value { result ≡ stamp_on (start_line scan.now.used) }
     ensures years { IfOk result (λ stamp. IsInYears stamp.kind stamp.at) }
 {
-    match start_line(scan) {
+    match start_line(scan.used.as_slice()) {
         None => Err(Refusal::NoStart),
         Some(line) => date_value(line.number, line.value.as_slice()),
     }
@@ -65,7 +74,7 @@ fn start_beside(alloc: Global, setting: Setting, scan: &Scan) -> Result<i64, Fau
     ensures { Answers (start_beside setting.offset setting.start scan.now) result }
 {
     read_scan(alloc, setting.offset, scan)?;
-    let Some(line) = start_line(scan) else {
+    let Some(line) = start_line(scan.used.as_slice()) else {
         return Err(Fault::Refused(Refusal::NoStart));
     };
     let stamp = date_value(line.number, line.value.as_slice())?;
@@ -93,12 +102,19 @@ fn with_start(
     Ok(shifted)
 }
 
+// Whether the date is one of a rising list.
+fn has_date(dates: &Dates, at: i64) -> bool
+    ensures { result ≡ list_any (λ t. int_eq t at) dates.now }
+{
+    dates.as_slice().binary_search(&at).is_ok()
+}
+
 // The moment of an instance is taken out.
 fn with_moment(shifted: Shifted, event: &Event, at: i64) -> Result<Shifted, KeyFault>
     ensures { AnswersKey (with_moment shifted event.now at) result }
 {
     let mut shifted = shifted;
-    if shifted.moments.as_slice().binary_search(&at).is_ok() {
+    if has_date(&shifted.moments, at) {
         return Err(KeyFault::Refused(KeyRefusal::TwoInstances(event.first)));
     }
     shifted.moments.put(at)?;
@@ -153,11 +169,11 @@ fn put_all(dates: &mut Dates, values: &[i64]) -> Result<(), NoMemory>
 }
 
 // The dates of a rising list that are not among these, put into another.
-fn put_outside(dates: &mut Dates, starts: &Dates, values: &Dates) -> Result<(), NoMemory>
+fn put_outside(dates: &mut Dates, starts: &Dates, values: &[i64]) -> Result<(), NoMemory>
     ensures { OnOk result (dates.new ≡ with_values dates.old (values_outside starts.now values.now)) }
 {
-    for at in values.as_slice() {
-        if starts.as_slice().binary_search(at).is_err() {
+    for at in values {
+        if !has_date(starts, *at) {
             dates.put(*at)?;
         }
     }
@@ -193,8 +209,8 @@ fn with_shifts(alloc: Global, series: Series, shifted: &Shifted) -> Result<Serie
     let mut series = series;
     put_all(&mut series.plus, shifted.starts.as_slice())?;
     let mut minus = Dates::new(alloc);
-    put_outside(&mut minus, &shifted.starts, &series.minus)?;
-    put_outside(&mut minus, &shifted.starts, &shifted.moments)?;
+    put_outside(&mut minus, &shifted.starts, series.minus.as_slice())?;
+    put_outside(&mut minus, &shifted.starts, shifted.moments.as_slice())?;
     series.minus = minus;
     Ok(series)
 }
@@ -231,17 +247,27 @@ fn edited_series(
 fn edited_event(
     alloc: Global,
     event: &Event,
-    kind: Kind,
     series: Series,
     shifted: &Shifted,
 ) -> Result<Series, KeyFault>
-    ensures { AnswersKey (edited_event event.now kind series shifted.now) result }
+    ensures { AnswersKey (edited_event event.now series shifted.now) result }
 {
     if event.is_cancelled {
-        let series = series_of_starts(alloc, kind, &shifted.starts)?;
+        let series = series_of_starts(alloc, series.kind, &shifted.starts)?;
         return Ok(within_dates(event.first, series)?);
     }
     edited_series(alloc, event.first, series, shifted)
+}
+
+// The start of a series, in UTC where its DTSTART states it so.
+fn start_of(series: &Series, stamp: Stamp) -> Stamp
+    ensures { result ≡ start_of series.now stamp }
+{
+    Stamp {
+        kind: series.kind,
+        at: series.start,
+        utc: stamp.utc,
+    }
 }
 
 // A series with its instances.
@@ -257,12 +283,13 @@ fn edited_with_series(
         Ok(series) => series,
         Err(fault) => return Err(at_event(event.first, fault)),
     };
-    let start = match stamp_of(&event.scan) {
-        Ok(start) => start,
+    let stamp = match stamp_of(&event.scan) {
+        Ok(stamp) => stamp,
         Err(refusal) => return Err(at_event(event.first, Fault::Refused(refusal))),
     };
+    let start = start_of(&series, stamp);
     let shifted = shifts_of(alloc, Setting { offset, start }, instances)?;
-    edited_event(alloc, event, start.kind, series, &shifted)
+    edited_event(alloc, event, series, &shifted)
 }
 
 // The date or moment of the RECURRENCE-ID of an event.

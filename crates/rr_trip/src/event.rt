@@ -115,10 +115,5 @@ fn is_rule_or_date(line: &UsedLine) -> bool
 pub fn has_rule_or_date(scan: &Scan) -> bool
     ensures { result ≡ has_rule_or_date scan.now }
 {
-    for line in scan.used.as_slice() {
-        if is_rule_or_date(line) {
-            return true;
-        }
-    }
-    false
+    scan.used.as_slice().iter().any(|line| is_rule_or_date(line))
 }

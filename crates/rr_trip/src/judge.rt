@@ -1,7 +1,7 @@
 // A series of a key as days.
 ghost use Rattle.std.specs.Prelude.{◌≡◌, ◌++◌, All, IfErr, IfOk, OnOk, map};
 ghost use Rattle.rr_model.specs.Series.Validity.{IsValidSeries};
-ghost use Rattle.rr_trip.specs.Judged.{IsFaultOf, IsFoldOf, IsKeyDays, IsKeyFault, first_of, key_zones, zones_in, zones_of};
+ghost use Rattle.rr_trip.specs.Judged.{IsFaultOf, IsFoldOf, IsKeyDays, IsKeyFault, first_of, key_zones, zones_in, zones_of, zones_of_all};
 ghost use Rattle.rr_trip.specs.Entries.{IsNumbered, events_in};
 
 use crate::edit::edited;
@@ -49,6 +49,20 @@ fn put_zones(alloc: Global, zones: &mut Vec<Bytes>, event: &Event) -> Result<(),
     Ok(())
 }
 
+// Puts the TZID parameters of several events.
+fn put_all_zones(
+    alloc: Global,
+    zones: &mut Vec<Bytes>,
+    events: &[Event],
+) -> Result<(), NoMemory>
+    ensures { OnOk result (zones.new.items ≡ zones.old.items ++ zones_of_all events.now) }
+{
+    for event in events {
+        put_zones(alloc, zones, event)?;
+    }
+    Ok(())
+}
+
 // The TZID parameters of the events of a key, those of its series first.
 fn zones_of(alloc: Global, events: &Gathered) -> Result<Vec<Bytes>, NoMemory>
     ensures { IfOk result (λ zones. zones.items ≡ zones_in events.now) }
@@ -57,9 +71,7 @@ fn zones_of(alloc: Global, events: &Gathered) -> Result<Vec<Bytes>, NoMemory>
     if let Some(event) = events.series() {
         put_zones(alloc, &mut zones, event)?;
     }
-    for event in events.instances() {
-        put_zones(alloc, &mut zones, event)?;
-    }
+    put_all_zones(alloc, &mut zones, events.instances())?;
     Ok(zones)
 }
 

@@ -2,7 +2,7 @@
 ghost use Rattle.std.specs.Prelude.{◌≡◌, ◌==◌, Some, option_map};
 ghost use Rattle.std.specs.List.{slice_split};
 ghost use Rattle.rr_model.specs.Text.Rules.{split_once};
-ghost use Rattle.rr_trip.specs.Parameters.{parameter_of, parameters_of, value_named, without_quotes};
+ghost use Rattle.rr_trip.specs.Parameters.{parameter_of, parameters_of, value_named, without_first_quote, without_last_quote, without_quotes};
 
 use rr_ical::{after_colon, is_same_name, name_and_rest};
 use rr_rrule::split_once;
@@ -18,11 +18,28 @@ fn parameters_of(text: &[u8]) -> &[u8]
     }
 }
 
+fn without_first_quote(text: &[u8]) -> &[u8]
+    ensures { result.now ≡ without_first_quote text.now }
+{
+    match text.strip_prefix(b"\"") {
+        Some(rest) => rest,
+        None => text,
+    }
+}
+
+fn without_last_quote(text: &[u8]) -> &[u8]
+    ensures { result.now ≡ without_last_quote text.now }
+{
+    match text.strip_suffix(b"\"") {
+        Some(front) => front,
+        None => text,
+    }
+}
+
 fn without_quotes(text: &[u8]) -> &[u8]
     ensures { result.now ≡ without_quotes text.now }
 {
-    let text = text.strip_prefix(b"\"").unwrap_or(text);
-    text.strip_suffix(b"\"").unwrap_or(text)
+    without_last_quote(without_first_quote(text))
 }
 
 // The value of one parameter, where it has this name.
@@ -39,7 +56,7 @@ fn value_named<'a>(word: &[u8], text: &'a [u8]) -> Option<&'a [u8]>
 
 /// The value of the first parameter of this name of an unfolded line, without the quotes around it. Parameters stand between
 /// semicolons.
-#[tactic(auto, unfolding(crate::specs::Own::parameter_of))]
+#[tactic(auto, unfolding(crate::specs::Parameters::parameter_of))]
 pub fn parameter_of<'a>(word: &[u8], text: &'a [u8]) -> Option<&'a [u8]>
     ensures { option_map (λ value. value.now) result ≡ parameter_of word.now text.now }
 {

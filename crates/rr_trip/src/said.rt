@@ -2,13 +2,15 @@
 ghost use Rattle.std.specs.Prelude.{◌≡◌, ◌++◌, All, IfOk, bytes_eq};
 ghost use Rattle.std.specs.List.{list_all};
 ghost use Rattle.rr_trip.specs.Entries.{IsNumbered, events_in};
-ghost use Rattle.rr_trip.specs.Said.{IsFaultSaid, IsPrintableSaid, IsSaid, have_one_zone};
+ghost use Rattle.rr_trip.specs.Said.{IsCompared, IsFaultSaid, IsPrintableSaid, IsSaid, have_one_zone};
 
 use crate::entry::Entry;
 use crate::gather::{KeyFault, KeyRefusal};
 use crate::judge::{KeyDays, key_days};
+use rr_days::Folded;
 use rr_decide::equal;
 use rr_model::{Bytes, NoMemory, Side, Verdict};
+use rr_word::DaySeq;
 use std::alloc::Global;
 
 /// What is said of a key.
@@ -67,7 +69,9 @@ fn refused(side: Side, fault: KeyFault) -> Result<Said, NoMemory>
 }
 
 // The verdict on both calendars.
-fn compared(a: &KeyDays, b: &KeyDays) -> Said {
+fn compared(a: &KeyDays, b: &KeyDays) -> Said
+    ensures { IsCompared (⟦<Folded as DaySeq>⟧.sketch a.now.days) (⟦<Folded as DaySeq>⟧.sketch b.now.days) (have_one_zone (a.now.zones.items ++ b.now.zones.items)) result }
+{
     Said::Compared {
         verdict: equal(&a.days, &b.days),
         one_zone: have_one_zone(&a.zones, &b.zones),

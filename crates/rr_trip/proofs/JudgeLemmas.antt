@@ -1,0 +1,45 @@
+-- What is judged of the series of a key.
+use Rattle.std.proofs.Common.{◌≡◌, ℕ, ◌<◌, inl, inr, None, Some, Result, Ok, Err, refl, sym, subst, ap, ◌∙◌}
+use Rattle.std.specs.Prelude.{IfErr, IfOk}
+use Rattle.rr_fold.specs.Judged.{IsJudged, all_limits}
+use Rattle.rr_model.specs.Series.Cycle.{series_cycle}
+use Rattle.rr_model.specs.Series.FirstRefusal.{IsFirstRefusal, IsLimitRefusal}
+use Rattle.rr_model.specs.Series.Occurrences.{Occurs}
+use Rattle.rr_model.specs.Series.Soundness.{first_refusal}
+use Rattle.rr_model.specs.Series.Validity.{IsValidSeries}
+use Rattle.rr_model.specs.Sets.Sketch.{StandsFor}
+use Rattle.rr_model.specs.declared.limits.TheConstants.{MAX_CYCLE_DAYS}
+use Rattle.rr_model.specs.declared.refusal.Fault.{Fault}
+use Rattle.rr_model.specs.declared.refusal.Fault.TheVariants.{NoMemory, Refused}
+use Rattle.rr_model.specs.declared.refusal.Refusal.{Refusal}
+use Rattle.rr_model.specs.declared.refusal.Refusal.TheVariants.{CycleTooLong}
+use Rattle.rr_model.specs.declared.rule.Series.{Series}
+use Rattle.rr_model.specs.declared.sketch.Sketch.{Sketch}
+use Rattle.rr_trip.specs.Judged.{IsFaultOf, IsFoldOf}
+use Rattle.rr_trip.proofs.YearOneLemmas.{occurs_from_year_one}
+
+-- a rule does not fit the start
+pub unsound : (series : Series) (r : Refusal) → first_refusal series ≡ Some r → IsFirstRefusal all_limits series (Some r)
+unsound series r h = rw h refl
+
+module _ (series checked : Series) (same : checked ≡ series) (sound : first_refusal series ≡ None) where
+  -- the cycle is too long
+  pub too_long : (r : Refusal) → (r ≡ CycleTooLong) × (MAX_CYCLE_DAYS < series_cycle checked) → IsFirstRefusal all_limits series (Some r)
+  too_long r h =
+      let long : MAX_CYCLE_DAYS < series_cycle series = subst (λ (s : Series). MAX_CYCLE_DAYS < series_cycle s) same h.1 in
+      rw sound (inl ((refl, long), ap Some h.0))
+
+  module _ {X : Type 0} (of : X → Sketch) (valid : IsValidSeries series) where
+    pub folded : (result : Result X Fault) → IfOk result (λ f. StandsFor (of f) (Occurs checked)) → IsJudged checked result
+        → IfOk result (λ f. IsFoldOf series (of f))
+    folded (Err fault) stands judged = tt
+    folded (Ok f) stands judged = record {
+      unrefused = rw sound (subst (λ (s : Series). IsLimitRefusal all_limits s None) same judged);
+      from_year_one = λ k t h. occurs_from_year_one series k t valid h;
+      stands = subst (λ (s : Series). StandsFor (of f) (Occurs s)) same stands;
+    }
+
+  pub not_folded : {X : Type 0} (result : Result X Fault) → IsJudged checked result → IfErr result (IsFaultOf series)
+  not_folded (Ok f) judged = tt
+  not_folded (Err (Refused r)) judged = rw sound (subst (λ (s : Series). IsLimitRefusal all_limits s (Some r)) same judged)
+  not_folded (Err NoMemory) judged = tt

@@ -1,0 +1,77 @@
+-- Steps of which the first refusal ends the key.
+use Rattle.std.proofs.Common.{◌≡◌, ℕ, ◌+◌, ◌<◌, ◌≤◌, Bool, true, false, if◌then◌else◌, List, [], ◌∷◌, length, get_or, drop, Result, Ok, Err}
+use Rattle.std.proofs.Common.{refl, sym, ap, subst, ◌∙◌}
+use Rattle.std.proofs.lemmas.List.{at_drop_more, at_drop_all}
+use Rattle.rr_model.specs.Answers.{Answers}
+use Rattle.rr_model.specs.declared.refusal.Fault.{Fault}
+use Rattle.rr_model.specs.declared.refusal.Fault.TheVariants as fault
+use Rattle.rr_model.specs.declared.refusal.Refusal.{Refusal}
+use Rattle.rr_trip.specs.Edited.{◌>=>◌, AnswersKey, at_event, fault_at, key_in_turn}
+use Rattle.rr_trip.specs.declared.gather.KeyFault.{KeyFault}
+use Rattle.rr_trip.specs.declared.gather.KeyFault.TheVariants.{Refused, NoMemory}
+use Rattle.rr_trip.specs.declared.gather.KeyRefusal.{KeyRefusal}
+
+-- ---- what a call answers where it goes on, and where it ends
+
+module _ {A B : Type 0} (f : A → Result B KeyRefusal) where
+  pub goes_on : (m : Result A KeyRefusal) (x : A) (r : Result B KeyFault) → m ≡ Ok x → AnswersKey (f x) r → AnswersKey (m >=> f) r
+  goes_on m x r is h = rw is h
+
+  pub ends : (m : Result A KeyRefusal) (fault : KeyFault) → AnswersKey m (Err fault) → AnswersKey (m >=> f) (Err fault)
+  ends m (Refused r) h = ap (λ n. n >=> f) h
+  ends m NoMemory h = tt
+
+pub at_event-ok : {A : Type 0} (line : ℕ) (m : Result A Refusal) (x : A) → m ≡ Ok x → at_event line m ≡ Ok x
+at_event-ok line m x is = ap (at_event line) is
+
+pub at_event-refused : {A : Type 0} (line : ℕ) (m : Result A Refusal) (r : Refusal) → m ≡ Err r
+    → AnswersKey (at_event line m) (Err (fault_at line (fault.Refused r)))
+at_event-refused line m r is = ap (at_event line) is
+
+pub at_event-fault : {A : Type 0} (line : ℕ) (m : Result A Refusal) (f : Fault) → Answers m (Err f) → AnswersKey (at_event line m) (Err (fault_at line f))
+at_event-fault line m (fault.Refused r) h = ap (at_event line) h
+at_event-fault line m fault.NoMemory h = tt
+
+-- ---- steps in turn, as far as they are done
+
+module _ {X Y : Type 0} (step : X → Y → Result X KeyRefusal) (ys : List Y) where
+  turn : (x : X) (n : ℕ) (d : Y) → n < length ys
+      → key_in_turn step x (drop n ys) ≡ (step x (get_or ys n d) >=> λ next. key_in_turn step next (drop (n + 1) ys))
+  turn x n d below = at_drop_more (key_in_turn step x) ys n d below
+
+  pub turn_on : (x next : X) (n : ℕ) (d : Y) (all : Result X KeyRefusal) → n < length ys → step x (get_or ys n d) ≡ Ok next
+      → key_in_turn step x (drop n ys) ≡ all → key_in_turn step next (drop (n + 1) ys) ≡ all
+  turn_on x next n d all below done so_far =
+      ap (λ r. r >=> λ z. key_in_turn step z (drop (n + 1) ys)) (sym done) ∙ sym (turn x n d below) ∙ so_far
+
+  pub turn_ends : (x : X) (n : ℕ) (d : Y) (fault : KeyFault) (all : Result X KeyRefusal) → n < length ys → AnswersKey (step x (get_or ys n d)) (Err fault)
+      → key_in_turn step x (drop n ys) ≡ all → AnswersKey all (Err fault)
+  turn_ends x n d (Refused r) all below refused so_far =
+      sym so_far ∙ turn x n d below ∙ ap (λ r. r >=> λ z. key_in_turn step z (drop (n + 1) ys)) refused
+  turn_ends x n d NoMemory all below refused so_far = tt
+
+  pub turned : (x : X) (n : ℕ) (all : Result X KeyRefusal) → length ys ≤ n → key_in_turn step x (drop n ys) ≡ all → all ≡ Ok x
+  turned x n all over so_far = sym so_far ∙ at_drop_all (key_in_turn step x) ys n over
+
+-- ---- what follows where the steps end well
+
+pub then_ok : {A B : Type 0} (m : Result A KeyRefusal) (f : A → Result B KeyRefusal) (y : B) → m >=> f ≡ Ok y → (x : A) × (m ≡ Ok x) × (f x ≡ Ok y)
+then_ok (Ok x) f y h = (x, refl, h)
+then_ok (Err r) f y h = absurd (cc)
+
+pub was_ok : {A : Type 0} (line : ℕ) (m : Result A Refusal) (x : A) → at_event line m ≡ Ok x → m ≡ Ok x
+was_ok line (Ok z) x h = cc
+was_ok line (Err r) x h = absurd (cc)
+
+pub passed : {A : Type 0} (b : Bool) (r : KeyRefusal) (m : Result A KeyRefusal) (y : A) → (if b then Err r else m) ≡ Ok y → (b ≡ false) × (m ≡ Ok y)
+passed true r m y h = absurd (cc)
+passed false r m y h = (refl, h)
+
+pub in_turn-keeps : {X Y : Type 0} (step : X → Y → Result X KeyRefusal) (P : X → Type 0) → ((x : X) (y : Y) (z : X) → P x → step x y ≡ Ok z → P z)
+    → (x : X) (ys : List Y) (z : X) → P x → key_in_turn step x ys ≡ Ok z → P z
+in_turn-keeps step P keeps x [] z p h =
+    let same : x ≡ z = cc in
+    subst P same p
+in_turn-keeps step P keeps x (y ∷ ys) z p h =
+    let one = then_ok (step x y) (λ next. key_in_turn step next ys) z h in
+    in_turn-keeps step P keeps one.0 ys z (keeps x y one.0 p one.1) one.2
