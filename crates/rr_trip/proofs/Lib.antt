@@ -3,6 +3,7 @@ mod ParameterLemmas
 mod KeyStepLemmas
 mod EditLemmas
 mod EditedLemmas
+mod EditedInstanceLemmas
 mod YearOneLemmas
 mod JudgeLemmas
 mod SaidLemmas

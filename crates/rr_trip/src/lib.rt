@@ -19,7 +19,7 @@ pub use comparison::compare;
 pub use file::{FileRefusal, MAX_FILE, TripFault};
 pub use gather::KeyRefusal;
 pub use key::Key;
-pub use laws::instances_are_dates;
+pub use laws::{edited_has_instances, instances_are_dates};
 pub use printing::{print, print_refusal};
 pub use report::{Counts, Report, ReportLine, Status};
 pub use said::Said;

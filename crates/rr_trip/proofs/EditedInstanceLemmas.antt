@@ -1,0 +1,172 @@
+-- A series that is edited is the series with its instances as dates.
+use Rattle.std.proofs.Common.{◌≡◌, ℕ, Bool, true, false, cond, if◌then◌else◌, List, [], ◌∷◌, get_or, Result, Ok, Err, ◌⊎◌, ◌↔◌, inl, inr, refl, sym, ap, ◌∙◌, subst, arith, ℤ, pos}
+use Rattle.std.specs.Prelude.{All, Contains, int_lt, not, ◌||◌}
+use Rattle.std.specs.Cmp.{signed_Decides}
+use Rattle.std.specs.List.{filter, list_any}
+use Rattle.std.specs.Ordering.{int_eq}
+use Rattle.std.proofs.lemmas.Bool.{false≢true}
+use Rattle.std.proofs.lemmas.Int.{ints}
+use Rattle.std.proofs.lemmas.List.Elements.{All-from_get_or, All-nil, Contains-get_or}
+use Rattle.std.proofs.lemmas.List.Folds.{list_any_at}
+use Rattle.rr_model.specs.Rising.{with_value}
+use Rattle.rr_model.specs.Rising.Sets.{IsSetOf}
+use Rattle.rr_model.specs.Rule.Validity.{is_absent}
+use Rattle.rr_model.specs.Series.Occurrences.{IsMemberOfSome}
+use Rattle.rr_model.specs.Series.Validity.{IsValidSeries}
+use Rattle.rr_model.specs.declared.kind.Kind.{Kind}
+use Rattle.rr_model.specs.declared.rule.Rule.{Rule}
+use Rattle.rr_model.specs.declared.rule.Series.{Series}
+use Rattle.rr_model.proofs.RisingLemmas.{All-with_value}
+use Rattle.rr_model.proofs.RisingSetLemmas.{Contains-cons_cases, Contains-head, Contains-none, Contains-tail}
+use Rattle.rr_trip.specs.Edited.{Shifts, edited_series, values_outside, with_shifts, with_values, within_dates}
+use Rattle.rr_trip.specs.Instances.{EditedHasInstances, IsWithInstances}
+use Rattle.rr_trip.specs.declared.gather.KeyRefusal.TheVariants as refusal
+use Rattle.rr_trip.proofs.EditLemmas.{Rises-with_values}
+use Rattle.rr_trip.proofs.KeyStepLemmas.{passed}
+
+-- ---- dates put into a rising list
+
+module _ (v : ℤ) where
+  keeps : (xs : List ℤ) (x : ℤ) → Contains xs x → Contains (with_value int_lt xs v) x
+  keeps [] x c = absurd (Contains-none x c)
+  keeps (y ∷ ys) x c = elim (int_lt y v) as (λ b. Contains (cond b (y ∷ with_value int_lt ys v) (cond (int_lt v y) (v ∷ y ∷ ys) (y ∷ ys))) x) [
+    | true ↦ elim (Contains-cons_cases y ys x c) [
+      | inl e ↦ subst (Contains (y ∷ with_value int_lt ys v)) e (Contains-head y (with_value int_lt ys v))
+      | inr d ↦ Contains-tail y (with_value int_lt ys v) x (keeps ys x d)
+    ]
+    | false ↦ elim (int_lt v y) as (λ b. Contains (cond b (v ∷ y ∷ ys) (y ∷ ys)) x) [ true ↦ Contains-tail v (y ∷ ys) x c | false ↦ c ]
+  ]
+
+  has_own : (xs : List ℤ) → Contains (with_value int_lt xs v) v
+  has_own [] = Contains-head v []
+  has_own (y ∷ ys) = elim (int_lt y v) as (λ b. int_lt y v ≡ b → Contains (cond b (y ∷ with_value int_lt ys v) (cond (int_lt v y) (v ∷ y ∷ ys) (y ∷ ys))) v) [
+    | true ↦ λ e. Contains-tail y (with_value int_lt ys v) v (has_own ys)
+    | false ↦ λ e. elim (int_lt v y) as (λ b. int_lt v y ≡ b → Contains (cond b (v ∷ y ∷ ys) (y ∷ ys)) v) [
+      | true ↦ λ f. Contains-head v (y ∷ ys)
+      | false ↦ λ f. (let same : y ≡ v = omega (arith, ints, e, f) in subst (Contains (y ∷ ys)) same (Contains-head y ys))
+    ] refl
+  ] refl
+
+  only : (xs : List ℤ) (x : ℤ) → Contains (with_value int_lt xs v) x → Contains xs x ⊎ (v ≡ x)
+  only xs x (k, l, e) =
+      let all = All-with_value (λ y. Contains xs y ⊎ (v ≡ y)) int_lt xs v (λ i d h. inl (Contains-get_or xs i d h)) (inr refl) k x l in
+      subst (λ y. Contains xs y ⊎ (v ≡ y)) e all
+
+put_in : (dates ts : List ℤ) (t : ℤ) → Contains (with_values dates ts) t ↔ (Contains dates t ⊎ Contains ts t)
+put_in dates [] t = (λ c. inl c, λ m. elim m [ inl c ↦ c | inr n ↦ absurd (Contains-none t n) ])
+put_in dates (v ∷ ts) t =
+    let more = put_in (with_value int_lt dates v) ts t in (
+      λ c. elim (more.0 c) [
+        | inl d ↦ elim (only v dates t d) [ inl e ↦ inl e | inr e ↦ inr (subst (Contains (v ∷ ts)) e (Contains-head v ts)) ]
+        | inr d ↦ inr (Contains-tail v ts t d)
+      ],
+      λ m. elim m [
+        | inl d ↦ more.1 (inl (keeps v dates t d))
+        | inr d ↦ elim (Contains-cons_cases v ts t d) [
+          | inl e ↦ more.1 (inl (subst (Contains (with_value int_lt dates v)) e (has_own v dates)))
+          | inr f ↦ more.1 (inr f)
+        ]
+      ],
+    )
+
+-- ---- dates that are not among others
+
+kept : (p : ℤ → Bool) (xs : List ℤ) (t : ℤ) → Contains (filter p xs) t ↔ (Contains xs t × (p t ≡ true))
+kept p [] t = (λ c. absurd (Contains-none t c), λ h. h.0)
+kept p (x ∷ xs) t = elim (p x) as (λ b. p x ≡ b → Contains (cond b (x ∷ filter p xs) (filter p xs)) t ↔ (Contains (x ∷ xs) t × (p t ≡ true))) [
+  | true ↦ λ e. (
+    λ c. elim (Contains-cons_cases x (filter p xs) t c) [
+      | inl same ↦ (subst (Contains (x ∷ xs)) same (Contains-head x xs), ap p (sym same) ∙ e)
+      | inr d ↦ (Contains-tail x xs t ((kept p xs t).0 d).0, ((kept p xs t).0 d).1)
+    ],
+    λ h. elim (Contains-cons_cases x xs t h.0) [
+      | inl same ↦ subst (Contains (x ∷ filter p xs)) same (Contains-head x (filter p xs))
+      | inr d ↦ Contains-tail x (filter p xs) t ((kept p xs t).1 (d, h.1))
+    ],
+  )
+  | false ↦ λ e. (
+    λ c. (Contains-tail x xs t ((kept p xs t).0 c).0, ((kept p xs t).0 c).1),
+    λ h. elim (Contains-cons_cases x xs t h.0) [
+      | inl same ↦ absurd (false≢true (sym e ∙ ap p same ∙ h.1))
+      | inr d ↦ (kept p xs t).1 (d, h.1)
+    ],
+  )
+] refl
+
+any_is_there : (xs : List ℤ) (t : ℤ) → list_any (λ s. int_eq s t) xs ≡ true → Contains xs t
+any_is_there [] t h = absurd (false≢true h)
+any_is_there (x ∷ xs) t = elim (int_eq x t) as (λ b. int_eq x t ≡ b → (b || list_any (λ s. int_eq s t) xs) ≡ true → Contains (x ∷ xs) t) [
+  | true ↦ λ e h. subst (Contains (x ∷ xs)) ((signed_Decides x t).0 e) (Contains-head x xs)
+  | false ↦ λ e h. Contains-tail x xs t (any_is_there xs t h)
+] refl
+
+outside : (starts dates : List ℤ) (t : ℤ) → Contains (values_outside starts dates) t ↔ (Contains dates t × (Contains starts t → ⊥))
+outside starts dates t =
+    let k = kept (λ u. not (list_any (λ s. int_eq s u) starts)) dates t in (
+      λ c. ((k.0 c).0, absent (list_any (λ s. int_eq s t) starts) refl (k.0 c).1),
+      λ h. k.1 (h.0, passes (list_any (λ s. int_eq s t) starts) refl h.1),
+    )
+  where
+    absent : (b : Bool) → list_any (λ s. int_eq s t) starts ≡ b → not b ≡ true → Contains starts t → ⊥
+    absent true e n c = false≢true n
+    absent false e n (i, l, at) = false≢true (sym e ∙ list_any_at (λ s. int_eq s t) starts i t l ((signed_Decides (get_or starts i t) t).1 at))
+    passes : (b : Bool) → list_any (λ s. int_eq s t) starts ≡ b → (Contains starts t → ⊥) → not b ≡ true
+    passes true e never = absurd (never (any_is_there starts t e))
+    passes false e never = refl
+
+-- ---- the edited series
+
+clear : (rules : List Rule) (kind : Kind) (start : ℤ) (starts : List ℤ) → (is_absent rules || is_absent starts) ≡ true
+    → All (λ t. IsMemberOfSome rules kind start t → ⊥) starts
+clear [] kind start starts h = All-from_get_or (λ t. IsMemberOfSome [] kind start t → ⊥) starts (pos 0) (λ i l m. m)
+clear (r ∷ rs) kind start [] h = All-nil _
+clear (r ∷ rs) kind start (x ∷ xs) h = absurd (false≢true h)
+
+module _ (line : ℕ) (series edited : Series) (shifts : Shifts) (v : IsValidSeries series) where
+  plus_is : IsSetOf int_lt (with_shifts series shifts).plus (λ t. Contains series.plus t ⊎ Contains shifts.starts t)
+  plus_is = record { rises = Rises-with_values series.plus shifts.starts v.plus_rises; exact = λ t. put_in series.plus shifts.starts t }
+
+  minus_is : IsSetOf int_lt (with_shifts series shifts).minus (λ t. (Contains series.minus t ⊎ Contains shifts.moments t) × (Contains shifts.starts t → ⊥))
+  minus_is = record {
+    rises = Rises-with_values (with_values [] old) new (Rises-with_values [] old tt);
+    exact = λ t. (to t, from t);
+  }
+    where
+      old new : List ℤ
+      old = values_outside shifts.starts series.minus
+      new = values_outside shifts.starts shifts.moments
+      to : (t : ℤ) → Contains (with_values (with_values [] old) new) t → (Contains series.minus t ⊎ Contains shifts.moments t) × (Contains shifts.starts t → ⊥)
+      to t c = elim ((put_in (with_values [] old) new t).0 c) [
+        | inl d ↦ elim ((put_in [] old t).0 d) [
+          | inl n ↦ absurd (Contains-none t n)
+          | inr o ↦ (inl ((outside shifts.starts series.minus t).0 o).0, ((outside shifts.starts series.minus t).0 o).1)
+        ]
+        | inr n ↦ (inr ((outside shifts.starts shifts.moments t).0 n).0, ((outside shifts.starts shifts.moments t).0 n).1)
+      ]
+      from : (t : ℤ) → (Contains series.minus t ⊎ Contains shifts.moments t) × (Contains shifts.starts t → ⊥) → Contains (with_values (with_values [] old) new) t
+      from t h = elim h.0 [
+        | inl m ↦ (put_in (with_values [] old) new t).1 (inl ((put_in [] old t).1 (inr ((outside shifts.starts series.minus t).1 (m, h.1)))))
+        | inr m ↦ (put_in (with_values [] old) new t).1 (inr ((outside shifts.starts shifts.moments t).1 (m, h.1)))
+      ]
+
+  by : (b : Bool) → (is_absent series.excluded || is_absent shifts.starts) ≡ b
+      → (if b then within_dates line (with_shifts series shifts) else Err (refusal.ExcludedRule line)) ≡ Ok edited
+      → IsWithInstances series shifts.moments shifts.starts edited
+  by true e h =
+      let few = passed _ _ (Ok (with_shifts series shifts)) edited h in
+      let whole = few.1 in
+      let same : with_shifts series shifts ≡ edited = cc in
+      subst (IsWithInstances series shifts.moments shifts.starts) same (record {
+        kind = refl;
+        start = refl;
+        start_counts = refl;
+        rules = refl;
+        excluded = refl;
+        clear = clear series.excluded series.kind series.start shifts.starts e;
+        plus = plus_is;
+        minus = minus_is;
+      })
+  by false e h = absurd (cc)
+
+pub edited_has_instances : EditedHasInstances
+edited_has_instances line series edited shifts v h = by line series edited shifts v (is_absent series.excluded || is_absent shifts.starts) refl h
