@@ -95,10 +95,10 @@ kept p (x ∷ xs) t = elim (p x) as (λ b. p x ≡ b → Contains (cond b (x ∷
 
 any_is_there : (xs : List ℤ) (t : ℤ) → list_any (λ s. int_eq s t) xs ≡ true → Contains xs t
 any_is_there [] t h = absurd (false≢true h)
-any_is_there (x ∷ xs) t = elim (int_eq x t) as (λ b. int_eq x t ≡ b → (b || list_any (λ s. int_eq s t) xs) ≡ true → Contains (x ∷ xs) t) [
-  | true ↦ λ e h. subst (Contains (x ∷ xs)) ((signed_Decides x t).0 e) (Contains-head x xs)
-  | false ↦ λ e h. Contains-tail x xs t (any_is_there xs t h)
-] refl
+any_is_there (x ∷ xs) t h = elim (int_eq x t) as (λ b. int_eq x t ≡ b → (b || list_any (λ s. int_eq s t) xs) ≡ true → Contains (x ∷ xs) t) [
+  | true ↦ λ e f. subst (Contains (x ∷ xs)) ((signed_Decides x t).0 e) (Contains-head x xs)
+  | false ↦ λ e f. Contains-tail x xs t (any_is_there xs t f)
+] refl h
 
 outside : (starts dates : List ℤ) (t : ℤ) → Contains (values_outside starts dates) t ↔ (Contains dates t × (Contains starts t → ⊥))
 outside starts dates t =
@@ -114,6 +114,21 @@ outside starts dates t =
     passes true e never = absurd (never (any_is_there starts t e))
     passes false e never = refl
 
+taken_out : (starts minus moments : List ℤ) (t : ℤ)
+    → Contains (with_values (with_values [] (values_outside starts minus)) (values_outside starts moments)) t
+    ↔ ((Contains minus t ⊎ Contains moments t) × (Contains starts t → ⊥))
+taken_out starts minus moments t =
+    let put = put_in (with_values [] (values_outside starts minus)) (values_outside starts moments) t in
+    let first = put_in [] (values_outside starts minus) t in
+    let m = outside starts minus t in
+    let n = outside starts moments t in (
+      λ c. elim (put.0 c) [
+        | inl d ↦ elim (first.0 d) [ inl none ↦ absurd (Contains-none t none) | inr o ↦ (inl (m.0 o).0, (m.0 o).1) ]
+        | inr o ↦ (inr (n.0 o).0, (n.0 o).1)
+      ],
+      λ h. elim h.0 [ inl o ↦ put.1 (inl (first.1 (inr (m.1 (o, h.1))))) | inr o ↦ put.1 (inr (n.1 (o, h.1))) ],
+    )
+
 -- ---- the edited series
 
 clear : (rules : List Rule) (kind : Kind) (start : ℤ) (starts : List ℤ) → (is_absent rules || is_absent starts) ≡ true
@@ -128,26 +143,11 @@ module _ (line : ℕ) (series edited : Series) (shifts : Shifts) (v : IsValidSer
 
   minus_is : IsSetOf int_lt (with_shifts series shifts).minus (λ t. (Contains series.minus t ⊎ Contains shifts.moments t) × (Contains shifts.starts t → ⊥))
   minus_is = record {
-    rises = Rises-with_values (with_values [] old) new (Rises-with_values [] old tt);
-    exact = λ t. (to t, from t);
+    rises =
+        Rises-with_values (with_values [] (values_outside shifts.starts series.minus)) (values_outside shifts.starts shifts.moments)
+        (Rises-with_values [] (values_outside shifts.starts series.minus) tt);
+    exact = λ t. taken_out shifts.starts series.minus shifts.moments t;
   }
-    where
-      old new : List ℤ
-      old = values_outside shifts.starts series.minus
-      new = values_outside shifts.starts shifts.moments
-      to : (t : ℤ) → Contains (with_values (with_values [] old) new) t → (Contains series.minus t ⊎ Contains shifts.moments t) × (Contains shifts.starts t → ⊥)
-      to t c = elim ((put_in (with_values [] old) new t).0 c) [
-        | inl d ↦ elim ((put_in [] old t).0 d) [
-          | inl n ↦ absurd (Contains-none t n)
-          | inr o ↦ (inl ((outside shifts.starts series.minus t).0 o).0, ((outside shifts.starts series.minus t).0 o).1)
-        ]
-        | inr n ↦ (inr ((outside shifts.starts shifts.moments t).0 n).0, ((outside shifts.starts shifts.moments t).0 n).1)
-      ]
-      from : (t : ℤ) → (Contains series.minus t ⊎ Contains shifts.moments t) × (Contains shifts.starts t → ⊥) → Contains (with_values (with_values [] old) new) t
-      from t h = elim h.0 [
-        | inl m ↦ (put_in (with_values [] old) new t).1 (inl ((put_in [] old t).1 (inr ((outside shifts.starts series.minus t).1 (m, h.1)))))
-        | inr m ↦ (put_in (with_values [] old) new t).1 (inr ((outside shifts.starts shifts.moments t).1 (m, h.1)))
-      ]
 
   by : (b : Bool) → (is_absent series.excluded || is_absent shifts.starts) ≡ b
       → (if b then within_dates line (with_shifts series shifts) else Err (refusal.ExcludedRule line)) ≡ Ok edited

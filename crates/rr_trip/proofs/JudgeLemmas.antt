@@ -1,5 +1,5 @@
 -- What is judged of the series of a key.
-use Rattle.std.proofs.Common.{◌≡◌, ℕ, ◌<◌, inl, inr, None, Some, Result, Ok, Err, refl, sym, subst, ap, ◌∙◌}
+use Rattle.std.proofs.Common.{◌≡◌, ℕ, ◌<◌, inl, inr, List, ℤ, Option, None, Some, Result, Ok, Err, refl, sym, subst, ap, ◌∙◌}
 use Rattle.std.specs.Prelude.{IfErr, IfOk}
 use Rattle.rr_fold.specs.Judged.{IsJudged, all_limits}
 use Rattle.rr_model.specs.Series.Cycle.{series_cycle}
@@ -15,7 +15,11 @@ use Rattle.rr_model.specs.declared.refusal.Refusal.{Refusal}
 use Rattle.rr_model.specs.declared.refusal.Refusal.TheVariants.{CycleTooLong}
 use Rattle.rr_model.specs.declared.rule.Series.{Series}
 use Rattle.rr_model.specs.declared.sketch.Sketch.{Sketch}
-use Rattle.rr_trip.specs.Judged.{IsFaultOf, IsFoldOf}
+use Rattle.rr_trip.specs.Edited.{◌>=>◌, AnswersKey, KeyEvents, edited_by, fault_at}
+use Rattle.rr_trip.specs.Judged.{IsFaultOf, IsFoldOf, IsKeyDays, IsKeyFault, first_of, key_events, key_zones, zones_in}
+use Rattle.rr_trip.specs.declared.event.Event.{Event}
+use Rattle.rr_trip.specs.declared.gather.KeyFault.{KeyFault}
+use Rattle.rr_trip.specs.declared.gather.KeyFault.TheVariants as key_fault
 use Rattle.rr_trip.proofs.YearOneLemmas.{occurs_from_year_one}
 
 -- a rule does not fit the start
@@ -43,3 +47,26 @@ module _ (series checked : Series) (same : checked ≡ series) (sound : first_re
   not_folded (Ok f) judged = tt
   not_folded (Err (Refused r)) judged = rw sound (subst (λ (s : Series). IsLimitRefusal all_limits s (Some r)) same judged)
   not_folded (Err NoMemory) judged = tt
+
+-- ---- the events of a key
+
+module _ (offset : Option ℤ) (events : List Event) where
+  pub not_gathered : (f : KeyFault) → AnswersKey (key_events events) (Err f) → IsKeyFault offset events f
+  not_gathered (key_fault.Refused r) h = rw h refl
+  not_gathered key_fault.NoMemory h = tt
+
+  module _ (all : KeyEvents) (is : key_events events ≡ Ok all) where
+    pub zones_are : (zones : List (List ℕ)) → zones ≡ zones_in all → zones ≡ key_zones events
+    zones_are zones h = rw is h
+
+    pub not_edited : (f : KeyFault) → AnswersKey (edited_by offset all.series all.instances) (Err f) → IsKeyFault offset events f
+    not_edited (key_fault.Refused r) h = rw (is, h) refl
+    not_edited key_fault.NoMemory h = tt
+
+    module _ (series : Series) (states : edited_by offset all.series all.instances ≡ Ok series) where
+      pub key_fault-is : (f : Fault) → IsFaultOf series f → IsKeyFault offset events (fault_at (first_of all.series all.instances) f)
+      key_fault-is (Refused r) h = rw (is, states) (refl, h)
+      key_fault-is NoMemory h = tt
+
+      pub key_days-are : (sketch : Sketch) → IsFoldOf series sketch → IsKeyDays offset events sketch
+      key_days-are sketch h = record { series = series; states = rw is states; fold = h }

@@ -2,6 +2,7 @@ mod InstanceLemmas
 mod ParameterLemmas
 mod KeyStepLemmas
 mod EditLemmas
+mod EditStepLemmas
 mod EditedLemmas
 mod EditedInstanceLemmas
 mod YearOneLemmas
