@@ -1,5 +1,5 @@
 -- Rising lists of dates: what a search finds, and what stands in them with others.
-use Rattle.std.proofs.Common.{◌≡◌, ℕ, zero, suc, ◌+◌, ◌<◌, ◌≤◌, Bool, true, false, List, [], ◌∷◌, length, get_or, Result, Ok, Err, inl, inr, sym, ap, arith, ℤ}
+use Rattle.std.proofs.Common.{◌≡◌, ℕ, zero, suc, ◌+◌, ◌<◌, ◌≤◌, Bool, true, false, List, [], ◌∷◌, length, get_or, Result, Ok, Err, drop, inl, inr, sym, ap, ◌∙◌, arith, ℤ}
 use Rattle.std.specs.Prelude.{All, int_lt}
 use Rattle.std.specs.List.{list_any}
 use Rattle.std.specs.List.Sorted.{IsBinarySearchResult}
@@ -14,7 +14,8 @@ use Rattle.std.proofs.lemmas.List.Folds.{list_any_at, list_any_none}
 use Rattle.std.proofs.lemmas.List.Sorted.{searchable_from_sorted}
 use Rattle.rr_model.specs.Rising.{Rises, with_value}
 use Rattle.rr_model.proofs.RisingLemmas.{All-with_value, Rises-with_value}
-use Rattle.rr_trip.specs.Edited.{with_values}
+use Rattle.std.proofs.lemmas.List.{at_drop_more}
+use Rattle.rr_trip.specs.Edited.{values_outside, with_values}
 
 -- ---- a search
 
@@ -51,3 +52,18 @@ module _ (P : ℤ → Type 0) where
 pub Rises-with_values : (dates ts : List ℤ) → Rises int_lt dates → Rises int_lt (with_values dates ts)
 Rises-with_values dates [] r = r
 Rises-with_values dates (t ∷ ts) r = Rises-with_values (with_value int_lt dates t) ts (Rises-with_value int_lt dates t r)
+
+-- ---- dates that are not among others, as far as they are put
+
+module _ (dates next starts values : List ℤ) (i : ℕ) (d : ℤ) (all : List ℤ) (below : i < length values) where
+  pub put_next : list_any (λ s. int_eq s (get_or values i d)) starts ≡ false → next ≡ with_value int_lt dates (get_or values i d)
+      → with_values dates (values_outside starts (drop i values)) ≡ all → with_values next (values_outside starts (drop (i + 1) values)) ≡ all
+  put_next absent put so_far =
+      let step = at_drop_more (λ (vs : List ℤ). with_values dates (values_outside starts vs)) values i d below in
+      rw put (rw absent at (sym step ∙ so_far))
+
+  pub passed_over : list_any (λ s. int_eq s (get_or values i d)) starts ≡ true → next ≡ dates
+      → with_values dates (values_outside starts (drop i values)) ≡ all → with_values next (values_outside starts (drop (i + 1) values)) ≡ all
+  passed_over there same so_far =
+      let step = at_drop_more (λ (vs : List ℤ). with_values dates (values_outside starts vs)) values i d below in
+      rw same (rw there at (sym step ∙ so_far))
