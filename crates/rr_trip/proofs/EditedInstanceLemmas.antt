@@ -110,6 +110,7 @@ outside starts dates t =
     absent : (b : Bool) → list_any (λ s. int_eq s t) starts ≡ b → not b ≡ true → Contains starts t → ⊥
     absent true e n c = false≢true n
     absent false e n (i, l, at) = false≢true (sym e ∙ list_any_at (λ s. int_eq s t) starts i t l ((signed_Decides (get_or starts i t) t).1 at))
+
     passes : (b : Bool) → list_any (λ s. int_eq s t) starts ≡ b → (Contains starts t → ⊥) → not b ≡ true
     passes true e never = absurd (never (any_is_there starts t e))
     passes false e never = refl

@@ -70,6 +70,7 @@ module _ (offset : Option ℤ) (start : Stamp) where
           let same : shifts ≡ next = cc in
           subst (AreInYears start.kind) same v
       cancelled (Some r) e = absurd (cc)
+
       by : (b : Bool)
           → (if b then unless_at_fault event.scan.stop shifts
           else (start_beside offset start event.scan >>= λ at. Ok (record shifts { starts = with_value int_lt shifts.starts at }))) ≡ Ok next

@@ -4,8 +4,8 @@ ghost use Rattle.rr_trip.specs.Event.{event_of, has_rule_or_date, is_cancelled, 
 ghost use Rattle.rr_events.specs.Finding.{lines_in};
 
 use crate::key::first_line;
-use rr_events::{Piece, first_named, first_value, own_lines};
 use crate::parameter::parameter_of;
+use rr_events::{Piece, first_named, first_value, own_lines};
 use rr_ical::{scan_lines, value_of_line};
 use rr_model::{Bytes, Line, LineName, NoMemory, Scan, UsedLine};
 use rr_text::lines_from;
@@ -115,5 +115,8 @@ fn is_rule_or_date(line: &UsedLine) -> bool
 pub fn has_rule_or_date(scan: &Scan) -> bool
     ensures { result ≡ has_rule_or_date scan.now }
 {
-    scan.used.as_slice().iter().any(|line| is_rule_or_date(line))
+    scan.used
+        .as_slice()
+        .iter()
+        .any(|line| is_rule_or_date(line))
 }

@@ -50,11 +50,7 @@ fn put_zones(alloc: Global, zones: &mut Vec<Bytes>, event: &Event) -> Result<(),
 }
 
 // Puts the TZID parameters of several events.
-fn put_all_zones(
-    alloc: Global,
-    zones: &mut Vec<Bytes>,
-    events: &[Event],
-) -> Result<(), NoMemory>
+fn put_all_zones(alloc: Global, zones: &mut Vec<Bytes>, events: &[Event]) -> Result<(), NoMemory>
     ensures { OnOk result (zones.new.items ≡ zones.old.items ++ zones_of_all events.now) }
 {
     for event in events {
