@@ -1,2 +1,4 @@
 mod InstanceLemmas
 mod Examples
+mod RunLemmas
+mod ReportLemmas

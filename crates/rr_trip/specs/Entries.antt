@@ -1,6 +1,6 @@
 -- The events of both calendars, sorted by their keys.
 use Rattle.std.specs.Prelude.{ℕ, ◌+◌, ◌<◌, ◌^◌, Bool, true, false, List, ◌++◌, length, map, All}
-use Rattle.std.specs.List.Sorted.{IsSortedBy, IsStableBy}
+use Rattle.std.specs.List.Sorted.{IsPermutation, IsSortedBy, IsStableBy}
 use Rattle.rr_model.specs.declared.line.Line.{Line}
 use Rattle.rr_model.specs.declared.verdict.Side.{Side}
 use Rattle.rr_model.specs.declared.verdict.Side.TheVariants.{A, B, Both}
@@ -34,6 +34,7 @@ entry_lt x y = key_lt x.key y.key
 
 -- the entries in the order of their keys, those of one key in the order that they had
 pub record IsSortedOf (given sorted : List Entry) : Type 0 where
+  pub moved : IsPermutation given sorted
   pub rises : IsSortedBy entry_lt sorted
   pub stable : IsStableBy entry_lt given sorted
   pub numbered : All IsNumbered sorted
