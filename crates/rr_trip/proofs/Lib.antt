@@ -1,4 +1,5 @@
 mod InstanceLemmas
 mod Examples
 mod RunLemmas
+mod FileLemmas
 mod ReportLemmas

@@ -1,13 +1,13 @@
 -- The lines of sorted entries are a report of both calendars.
-use Rattle.std.proofs.Common.{◌≡◌, ℕ, ◌+◌, ◌<◌, ◌≤◌, Bool, true, false, cond, ℤ, List, [], ◌∷◌, ◌++◌, length, get_or, drop, map, Option, sym, refl, ap, ◌∙◌, subst, arith}
-use Rattle.std.specs.Cmp.{IsTotalOrder, nat_cmp_total}
+use Rattle.std.proofs.Common.{◌≡◌, ℕ, ◌+◌, ◌-◌, ◌<◌, ◌≤◌, Bool, true, false, append_assoc, cond, length-drop, ℤ, List, [], ◌∷◌, ◌++◌, length, get_or, drop, map, Option, sym, refl, ap, ◌∙◌, subst, arith}
+use Rattle.std.specs.Cmp.{IsTotalOrder, nat_cmp_total, tied_itself}
 use Rattle.std.specs.Cmp.Lexicographic.{nat_list_cmp_total}
-use Rattle.std.specs.List.{All, Contains, filter, take_while}
+use Rattle.std.specs.List.{All, Contains, filter, prefix_len, take_while}
 use Rattle.std.specs.Ordering.{is_eq, is_lt, ordering_reverse}
 use Rattle.std.specs.declared.cmp.Ordering.TheVariants.{Less, Equal, Greater}
 use Rattle.std.proofs.lemmas.Bool.{true≢false}
-use Rattle.std.proofs.lemmas.List.{get_or-map, length-map, map-append}
-use Rattle.std.proofs.lemmas.List.Elements.{All-filter, All-head, All-map, All-tail, filter-append}
+use Rattle.std.proofs.lemmas.List.{append-nil, get_or-map, length-map, map-append}
+use Rattle.std.proofs.lemmas.List.Elements.{All-drop, All-filter, All-head, All-map, All-tail, All-take, filter-append}
 use Rattle.std.proofs.lemmas.List.Sums.{take_while-cons}
 use Rattle.std.proofs.lemmas.Map.Lookups.{exact_bytes, exact_unsigned}
 use Rattle.rr_model.specs.declared.line.Line.{Line}
@@ -15,7 +15,7 @@ use Rattle.rr_model.specs.declared.verdict.Side.{Side}
 use Rattle.rr_model.specs.declared.verdict.Side.TheVariants.{A, B}
 use Rattle.rr_events.specs.Finding.{lines_in}
 use Rattle.rr_events.specs.declared.find.Piece.{Piece}
-use Rattle.rr_trip.specs.Entries.{IsSortedOf, entries_of, entry_lt, entry_of, events_in, has_key, is_of_a}
+use Rattle.rr_trip.specs.Entries.{IsNumbered, IsSortedOf, entries_of, entry_lt, entry_of, events_in, has_key, is_of_a}
 use Rattle.rr_trip.specs.Event.{event_of}
 use Rattle.rr_trip.specs.Keys.{is_same_key, key_cmp, key_of}
 use Rattle.rr_trip.specs.Report.{AreLinesOf, IsLineOf, IsReport, IsRunAt, after_a, events_at, front_of_a, keys_of}
@@ -92,6 +92,47 @@ have_lines offset entries lines up (AreLinesOf.next _ run rest first line more_l
       (next_line offset first at.more run rest line more_lines (subst (λ ys. run ≡ take_while (has_key first.key) ys) at.begins at.run_is)
         (subst (λ ys. rest ≡ drop (length run) ys) at.begins at.after_is) (subst (Ascends entry_key key_cmp key_cmp_total) at.begins up) is
         (λ up_rest. have_lines offset rest more_lines up_rest more))
+
+-- the lines so far are those of the entries before the rest
+pub record IsUpTo (offset : Option ℤ) (entries : List Entry) (lines : List ReportLine) (rest : List Entry) : Type 0 where
+  pub joins : (more : List ReportLine) → AreLinesOf offset rest more → AreLinesOf offset entries (lines ++ more)
+  pub numbered : All IsNumbered rest
+
+pub IsUpTo-start : (offset : Option ℤ) (entries : List Entry) (lines : List ReportLine) → lines ≡ [] → All IsNumbered entries → IsUpTo offset entries lines entries
+IsUpTo-start offset entries lines none all = record {
+  joins = λ more are. subst (λ ls. AreLinesOf offset entries (ls ++ more)) (sym none) are;
+  numbered = all;
+}
+
+pub IsUpTo-next : (offset : Option ℤ) (entries : List Entry) (lines : List ReportLine) (rest run rest_after : List Entry) (first : Entry) (line : ReportLine)
+    → IsRunAt rest first run rest_after → IsLineOf offset first.key run line → IsUpTo offset entries lines rest → IsUpTo offset entries (lines ++ line ∷ []) rest_after
+IsUpTo-next offset entries lines rest run rest_after first line at is so_far = record {
+  joins = λ more are. subst (AreLinesOf offset entries) (sym (append_assoc lines (line ∷ []) more))
+      (so_far.joins (line ∷ more) (AreLinesOf.next rest run rest_after first line more at is are));
+  numbered = subst (All IsNumbered) (sym at.after_is) (All-drop IsNumbered (length run) rest so_far.numbered);
+}
+
+pub IsUpTo-end : (offset : Option ℤ) (entries : List Entry) (lines : List ReportLine) (rest : List Entry) → IsUpTo offset entries lines rest → rest ≡ []
+    → AreLinesOf offset entries lines
+IsUpTo-end offset entries lines rest so_far none =
+    subst (AreLinesOf offset entries) (append-nil lines) (so_far.joins [] (subst (λ es. AreLinesOf offset es []) (sym none) AreLinesOf.none))
+
+has_own_key : (entry : Entry) → has_key entry.key entry ≡ true
+has_own_key entry = ap is_eq (tied_itself key_cmp_total entry.key)
+
+-- a run has an entry at least
+pub length-after : (entries : List Entry) (first : Entry) (run rest : List Entry) → IsRunAt entries first run rest → length rest < length entries
+length-after entries first run rest at =
+    let e : take_while (has_key first.key) (first ∷ at.more) ≡ first ∷ take_while (has_key first.key) at.more =
+        take_while-cons (has_key first.key) first at.more
+        ∙ ap (λ b. cond b (first ∷ take_while (has_key first.key) at.more) []) (has_own_key first) in
+    let r : run ≡ first ∷ take_while (has_key first.key) at.more = at.run_is ∙ ap (take_while (has_key first.key)) at.begins ∙ e in
+    let d : length rest ≡ length entries - length run = ap length at.after_is ∙ length-drop (length run) entries in
+    omega (arith, ap length r, ap length at.begins)
+
+pub run-numbered : (entries : List Entry) (first : Entry) (run rest : List Entry) → IsRunAt entries first run rest → All IsNumbered entries → All IsNumbered run
+run-numbered entries first run rest at all =
+    subst (All IsNumbered) (sym at.run_is) (All-take IsNumbered (prefix_len (has_key first.key) entries) entries all)
 
 -- ---- the entries of a key, by calendar
 

@@ -128,7 +128,7 @@ module _ {E K : Type 0} (key : E → K) (cmp : K → K → Ordering) (o : IsTota
   equal_from Greater e = absurd (true≢false (sym e))
 
   -- no element is below the first
-  lowest : (x : E) (xs : List E) → Ascends (x ∷ xs) → All (λ y. is_lt (cmp (key y) (key x)) ≡ false) (x ∷ xs)
+  pub lowest : (x : E) (xs : List E) → Ascends (x ∷ xs) → All (λ y. is_lt (cmp (key y) (key x)) ≡ false) (x ∷ xs)
   lowest x xs up = All-cons (λ y. is_lt (cmp (key y) (key x)) ≡ false) x xs (ap is_lt (tied_itself o (key x))) up.0
 
   -- ---- lines, one for each key of a list

@@ -1,0 +1,46 @@
+-- A text has a BEGIN where some line from here on has it; no piece of a text has a number past its bytes.
+use Rattle.std.proofs.Common.{◌≡◌, ℕ, ◌+◌, ◌<◌, ◌≤◌, ◌^◌, Bool, true, false, ◌||◌, List, [], ◌∷◌, length, codes, sym, refl, ap, ◌∙◌, arith}
+use Rattle.std.specs.List.{All, list_any}
+use Rattle.std.proofs.lemmas.List.Elements.{All-weaker}
+use Rattle.rr_model.specs.Text.UsedLines.{is_named}
+use Rattle.rr_model.specs.declared.line.Line.{Line}
+use Rattle.rr_events.specs.Cutting.{IsCut, lines_at}
+use Rattle.rr_events.specs.Finding.{IsPlaced}
+use Rattle.rr_events.specs.declared.find.Piece.{Piece}
+use Rattle.rr_events.proofs.LineLemmas.{line-first}
+use Rattle.rr_trip.specs.Entries.{IsNumberedPiece}
+use Rattle.rr_trip.specs.Files.{has_begin}
+
+-- a line has the name BEGIN
+abbrev begins : Line → Bool
+begins line = is_named line.text (codes "BEGIN")
+
+-- a text has a BEGIN exactly where the rest, from a line with this number on, has one
+pub record IsUnread (text rest : List ℕ) (number : ℕ) : Type 0 where
+  pub same : has_begin text ≡ list_any begins (lines_at number rest)
+  pub few : number + length rest ≤ 1 + length text
+
+pub IsUnread-start : (text : List ℕ) → IsUnread text text 1
+IsUnread-start text = record { same = refl; few = omega arith }
+
+read_by : (text rest after : List ℕ) (number next : ℕ) (line : Line) → IsUnread text rest number → IsCut number rest line after next
+    → has_begin text ≡ (begins line || list_any begins (lines_at next after))
+read_by text rest after number next line unread cut = unread.same ∙ ap (list_any begins) (line-first number rest line after next cut)
+
+pub begun : (text rest after : List ℕ) (number next : ℕ) (line : Line) → IsUnread text rest number → IsCut number rest line after next
+    → begins line ≡ true → true ≡ has_begin text
+begun text rest after number next line unread cut e =
+    sym (read_by text rest after number next line unread cut ∙ ap (λ b. b || list_any begins (lines_at next after)) e)
+
+pub IsUnread-next : (text rest after : List ℕ) (number next : ℕ) (line : Line) → IsUnread text rest number → IsCut number rest line after next
+    → begins line ≡ false → IsUnread text after next
+IsUnread-next text rest after number next line unread cut e = record {
+  same = read_by text rest after number next line unread cut ∙ ap (λ b. b || list_any begins (lines_at next after)) e;
+  few = omega (arith, unread.few, cut.one.few);
+}
+
+pub not_begun : (text rest : List ℕ) (number : ℕ) → IsUnread text rest number → rest ≡ [] → false ≡ has_begin text
+not_begun text rest number unread none = sym (unread.same ∙ ap (λ bytes. list_any begins (lines_at number bytes)) none)
+
+pub numbered : (text : List ℕ) (pieces : List Piece) → length text < 2 ^ 62 → All (IsPlaced text) pieces → All IsNumberedPiece pieces
+numbered text pieces short all = All-weaker (IsPlaced text) IsNumberedPiece (λ piece h. omega arith) pieces all
