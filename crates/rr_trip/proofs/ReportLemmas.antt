@@ -6,7 +6,7 @@ use Rattle.std.specs.List.{All, Contains, filter, prefix_len, take_while}
 use Rattle.std.specs.Ordering.{is_eq, is_lt, ordering_reverse}
 use Rattle.std.specs.declared.cmp.Ordering.TheVariants.{Less, Equal, Greater}
 use Rattle.std.proofs.lemmas.Bool.{true≢false}
-use Rattle.std.proofs.lemmas.List.{append-nil, get_or-map, length-map, map-append}
+use Rattle.std.proofs.lemmas.List.{append-nil, drop-drop, get_or-map, length-map, length-take, map-append}
 use Rattle.std.proofs.lemmas.List.Elements.{All-drop, All-filter, All-head, All-map, All-tail, All-take, filter-append}
 use Rattle.std.proofs.lemmas.List.Sums.{take_while-cons}
 use Rattle.std.proofs.lemmas.Map.Lookups.{exact_bytes, exact_unsigned}
@@ -72,14 +72,15 @@ line_key line = line.key
 abbrev HasEntryLines : Option ℤ → List Entry → List ReportLine → Type 0
 HasEntryLines offset entries lines = HasLines entry_key key_cmp key_cmp_total line_key (IsLineOf offset) entries lines
 
-next_line : (offset : Option ℤ) (first : Entry) (more run rest : List Entry) (line : ReportLine) (lines : List ReportLine)
-    → run ≡ take_while (has_key first.key) (first ∷ more) → rest ≡ drop (length run) (first ∷ more) → Ascends entry_key key_cmp key_cmp_total (first ∷ more)
-    → IsLineOf offset first.key run line → (Ascends entry_key key_cmp key_cmp_total rest → HasEntryLines offset rest lines)
+next_line : (offset : Option ℤ) (first : Entry) (more run : List Entry) (line : ReportLine) (lines : List ReportLine)
+    → run ≡ take_while (has_key first.key) (first ∷ more) → Ascends entry_key key_cmp key_cmp_total (first ∷ more)
+    → IsLineOf offset first.key run line
+    → (Ascends entry_key key_cmp key_cmp_total (drop (length run) (first ∷ more)) → HasEntryLines offset (drop (length run) (first ∷ more)) lines)
     → HasEntryLines offset (first ∷ more) (line ∷ lines)
-next_line offset first more run rest line lines run_is rest_is up is lined =
+next_line offset first more run line lines run_is up is lined =
     let k = first.key in
     let fr = IsFront-from_ascends entry_key key_cmp key_cmp_total k (first ∷ more) up (lowest entry_key key_cmp key_cmp_total first more up) in
-    let at : rest ≡ after entry_key key_cmp key_cmp_total k (first ∷ more) = rest_is ∙ ap (λ ys. drop (length ys) (first ∷ more)) run_is in
+    let at : drop (length run) (first ∷ more) ≡ after entry_key key_cmp key_cmp_total k (first ∷ more) = ap (λ ys. drop (length ys) (first ∷ more)) run_is in
     HasLines-next entry_key key_cmp key_cmp_total line_key (IsLineOf offset) key_exact first more line lines up is.of_key
       (subst (λ ys. IsLineOf offset k ys line) run_is is)
       (subst (λ ys. HasEntryLines offset ys lines) at (lined (subst (Ascends entry_key key_cmp key_cmp_total) (sym at) fr.ascends)))
@@ -87,52 +88,53 @@ next_line offset first more run rest line lines run_is rest_is up is lined =
 have_lines : (offset : Option ℤ) (entries : List Entry) (lines : List ReportLine) → Ascends entry_key key_cmp key_cmp_total entries → AreLinesOf offset entries lines
     → HasEntryLines offset entries lines
 have_lines offset entries lines up AreLinesOf.none = HasLines-none entry_key key_cmp key_cmp_total line_key (IsLineOf offset)
-have_lines offset entries lines up (AreLinesOf.next _ run rest first line more_lines at is more) =
-    subst (λ ys. HasEntryLines offset ys (line ∷ more_lines)) (sym at.begins)
-      (next_line offset first at.more run rest line more_lines (subst (λ ys. run ≡ take_while (has_key first.key) ys) at.begins at.run_is)
-        (subst (λ ys. rest ≡ drop (length run) ys) at.begins at.after_is) (subst (Ascends entry_key key_cmp key_cmp_total) at.begins up) is
-        (λ up_rest. have_lines offset rest more_lines up_rest more))
+have_lines offset entries lines up (AreLinesOf.next _ run first line more_lines at is more) =
+    let e = at.begins in
+    subst (λ ys. HasEntryLines offset ys (line ∷ more_lines)) (sym e)
+      (next_line offset first at.more run line more_lines (subst (λ ys. run ≡ take_while (has_key first.key) ys) e at.run_is)
+        (subst (Ascends entry_key key_cmp key_cmp_total) e up) is
+        (λ up_rest. subst (λ ys. HasEntryLines offset (drop (length run) ys) more_lines) e
+          (have_lines offset (drop (length run) entries) more_lines (subst (λ ys. Ascends entry_key key_cmp key_cmp_total (drop (length run) ys)) (sym e) up_rest) more)))
 
--- the lines so far are those of the entries before the rest
-pub record IsUpTo (offset : Option ℤ) (entries : List Entry) (lines : List ReportLine) (rest : List Entry) : Type 0 where
-  pub joins : (more : List ReportLine) → AreLinesOf offset rest more → AreLinesOf offset entries (lines ++ more)
-  pub numbered : All IsNumbered rest
+-- the lines so far are those of the entries before this place
+pub record IsUpTo (offset : Option ℤ) (entries : List Entry) (lines : List ReportLine) (start : ℕ) : Type 0 where
+  pub joins : (more : List ReportLine) → AreLinesOf offset (drop start entries) more → AreLinesOf offset entries (lines ++ more)
+  pub within : start ≤ length entries
 
-pub IsUpTo-start : (offset : Option ℤ) (entries : List Entry) (lines : List ReportLine) → lines ≡ [] → All IsNumbered entries → IsUpTo offset entries lines entries
-IsUpTo-start offset entries lines none all = record {
+pub IsUpTo-start : (offset : Option ℤ) (entries : List Entry) (lines : List ReportLine) → lines ≡ [] → IsUpTo offset entries lines 0
+IsUpTo-start offset entries lines none = record {
   joins = λ more are. subst (λ ls. AreLinesOf offset entries (ls ++ more)) (sym none) are;
-  numbered = all;
+  within = omega arith;
 }
 
-pub IsUpTo-next : (offset : Option ℤ) (entries : List Entry) (lines : List ReportLine) (rest run rest_after : List Entry) (first : Entry) (line : ReportLine)
-    → IsRunAt rest first run rest_after → IsLineOf offset first.key run line → IsUpTo offset entries lines rest → IsUpTo offset entries (lines ++ line ∷ []) rest_after
-IsUpTo-next offset entries lines rest run rest_after first line at is so_far = record {
-  joins = λ more are. subst (AreLinesOf offset entries) (sym (append_assoc lines (line ∷ []) more))
-      (so_far.joins (line ∷ more) (AreLinesOf.next rest run rest_after first line more at is are));
-  numbered = subst (All IsNumbered) (sym at.after_is) (All-drop IsNumbered (length run) rest so_far.numbered);
-}
-
-pub IsUpTo-end : (offset : Option ℤ) (entries : List Entry) (lines : List ReportLine) (rest : List Entry) → IsUpTo offset entries lines rest → rest ≡ []
-    → AreLinesOf offset entries lines
-IsUpTo-end offset entries lines rest so_far none =
-    subst (AreLinesOf offset entries) (append-nil lines) (so_far.joins [] (subst (λ es. AreLinesOf offset es []) (sym none) AreLinesOf.none))
-
-has_own_key : (entry : Entry) → has_key entry.key entry ≡ true
-has_own_key entry = ap is_eq (tied_itself key_cmp_total entry.key)
-
--- a run has an entry at least
-pub length-after : (entries : List Entry) (first : Entry) (run rest : List Entry) → IsRunAt entries first run rest → length rest < length entries
-length-after entries first run rest at =
+-- a run has an entry at least, and no more than there are
+pub run_length : (entries : List Entry) (first : Entry) (run : List Entry) → IsRunAt entries first run → (1 ≤ length run) × (length run ≤ length entries)
+run_length entries first run at =
     let e : take_while (has_key first.key) (first ∷ at.more) ≡ first ∷ take_while (has_key first.key) at.more =
         take_while-cons (has_key first.key) first at.more
-        ∙ ap (λ b. cond b (first ∷ take_while (has_key first.key) at.more) []) (has_own_key first) in
+        ∙ ap (λ b. cond b (first ∷ take_while (has_key first.key) at.more) []) (ap is_eq (tied_itself key_cmp_total first.key)) in
     let r : run ≡ first ∷ take_while (has_key first.key) at.more = at.run_is ∙ ap (take_while (has_key first.key)) at.begins ∙ e in
-    let d : length rest ≡ length entries - length run = ap length at.after_is ∙ length-drop (length run) entries in
-    omega (arith, ap length r, ap length at.begins)
+    let t = length-take (prefix_len (has_key first.key) entries) entries in
+    (omega (arith, ap length r), omega (arith, ap length at.run_is, t))
 
-pub run-numbered : (entries : List Entry) (first : Entry) (run rest : List Entry) → IsRunAt entries first run rest → All IsNumbered entries → All IsNumbered run
-run-numbered entries first run rest at all =
-    subst (All IsNumbered) (sym at.run_is) (All-take IsNumbered (prefix_len (has_key first.key) entries) entries all)
+pub IsUpTo-next : (offset : Option ℤ) (entries : List Entry) (lines : List ReportLine) (start : ℕ) (first : Entry) (run : List Entry) (line : ReportLine)
+    → IsRunAt (drop start entries) first run → IsLineOf offset first.key run line → IsUpTo offset entries lines start
+    → IsUpTo offset entries (lines ++ line ∷ []) (start + length run)
+IsUpTo-next offset entries lines start first run line at is so_far = record {
+  joins = λ more are. subst (AreLinesOf offset entries) (sym (append_assoc lines (line ∷ []) more))
+      (so_far.joins (line ∷ more) (AreLinesOf.next (drop start entries) run first line more at is
+        (subst (λ es. AreLinesOf offset es more) (sym (drop-drop (length run) start entries)) are)));
+  within = omega (arith, so_far.within, run_length (drop start entries) first run at, length-drop start entries);
+}
+
+pub IsUpTo-end : (offset : Option ℤ) (entries : List Entry) (lines : List ReportLine) (start : ℕ) → IsUpTo offset entries lines start → drop start entries ≡ []
+    → AreLinesOf offset entries lines
+IsUpTo-end offset entries lines start so_far none =
+    subst (AreLinesOf offset entries) (append-nil lines) (so_far.joins [] (subst (λ es. AreLinesOf offset es []) (sym none) AreLinesOf.none))
+
+pub run_numbered : (entries : List Entry) (start : ℕ) (first : Entry) (run : List Entry) → IsRunAt (drop start entries) first run → All IsNumbered entries → All IsNumbered run
+run_numbered entries start first run at all =
+    subst (All IsNumbered) (sym at.run_is) (All-take IsNumbered (prefix_len (has_key first.key) (drop start entries)) (drop start entries) (All-drop IsNumbered start entries all))
 
 -- ---- the entries of a key, by calendar
 

@@ -71,16 +71,15 @@ pub record IsLineOf (offset : Option ℤ) (key : Key) (run : List Entry) (line :
   pub said : IsSaid offset (events_in (front_of_a run)) (events_in (after_a run)) line.said
   pub printable : IsPrintableSaid line.said
 
--- entries begin with a run of one key, that of the first, and these follow
-pub record IsRunAt (entries : List Entry) (first : Entry) (run after : List Entry) : Type 0 where
+-- entries begin with this run of one key, that of the first
+pub record IsRunAt (entries : List Entry) (first : Entry) (run : List Entry) : Type 0 where
   pub more : List Entry
   pub begins : entries ≡ first ∷ more
   pub run_is : run ≡ take_while (has_key first.key) entries
-  pub after_is : after ≡ drop (length run) entries
 
 -- the lines of entries, run by run of one key
 pub data AreLinesOf (offset : Option ℤ) : List Entry → List ReportLine → Type 0 where
   none : AreLinesOf offset [] []
-  next : (entries run after : List Entry) (first : Entry) (line : ReportLine) (lines : List ReportLine)
-      → IsRunAt entries first run after → IsLineOf offset first.key run line → AreLinesOf offset after lines
+  next : (entries run : List Entry) (first : Entry) (line : ReportLine) (lines : List ReportLine)
+      → IsRunAt entries first run → IsLineOf offset first.key run line → AreLinesOf offset (drop (length run) entries) lines
       → AreLinesOf offset entries (line ∷ lines)

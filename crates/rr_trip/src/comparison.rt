@@ -5,40 +5,43 @@ ghost use Rattle.rr_trip.specs.Report.{AnswersTrip, AreLinesOf, IsLineOf, IsRunA
 
 use crate::entry::{Entry, count_of_a, count_of_key, sorted_entries};
 use crate::file::{TripFault, read_file};
-use crate::key::copy_key;
+use crate::key::{Key, copy_key};
 use crate::report::{Report, ReportLine};
 use crate::said::said_of;
 use rr_model::{NoMemory, Side};
 use std::alloc::Global;
 
-// The entries at the front that have the key of the first, and those after them.
+// The entries at the front that have the key of the first.
 #[derive(Clone, Copy)]
 struct Run<'a, 'b> {
     first: &'b Entry<'a>,
     entries: &'b [Entry<'a>],
-    after: &'b [Entry<'a>],
 }
 
 // The first run of sorted entries.
 fn first_run<'a, 'b>(entries: &'b [Entry<'a>]) -> Option<Run<'a, 'b>>
-    ensures { MatchOption result (entries.now ≡ []) (λ run. IsRunAt entries.now run.first.now run.entries.now run.after.now) }
+    ensures { MatchOption result (entries.now ≡ []) (λ run. IsRunAt entries.now run.first.now run.entries.now) }
 {
     let first = entries.first()?;
-    let (run, after) = entries.split_at(count_of_key(&first.key, entries));
+    let count = count_of_key(&first.key, entries);
     Some(Run {
         first,
-        entries: run,
-        after,
+        entries: &entries[..count],
     })
 }
 
-// What is said of a run, whose entries of A come first.
-fn line_of(alloc: Global, offset: Option<i32>, run: Run) -> Result<ReportLine, NoMemory>
-    requires { All IsNumbered run.entries.now }
-    ensures { IfOk result (λ line. IsLineOf offset run.first.now.key run.entries.now line) }
+// What is said of a run of this key, whose entries of A come first.
+fn line_of(
+    alloc: Global,
+    offset: Option<i32>,
+    key: &Key,
+    run: &[Entry],
+) -> Result<ReportLine, NoMemory>
+    requires { All IsNumbered run.now }
+    ensures { IfOk result (λ line. IsLineOf offset key.now run.now line) }
 {
-    let key = copy_key(alloc, &run.first.key)?;
-    let (a, b) = run.entries.split_at(count_of_a(run.entries));
+    let key = copy_key(alloc, key)?;
+    let (a, b) = run.split_at(count_of_a(run));
     Ok(ReportLine {
         key,
         said: said_of(alloc, offset, a, b)?,
@@ -55,10 +58,10 @@ fn lines_of(
     ensures { IfOk result (λ lines. AreLinesOf offset entries.now lines.items) }
 {
     let mut lines = Vec::new(alloc);
-    let mut rest = entries;
-    while let Some(run) = first_run(rest) {
-        lines.push(line_of(alloc, offset, run)?)?;
-        rest = run.after;
+    let mut start = 0;
+    while let Some(run) = first_run(&entries[start..]) {
+        lines.push(line_of(alloc, offset, &run.first.key, run.entries)?)?;
+        start += run.entries.len();
     }
     Ok(lines)
 }

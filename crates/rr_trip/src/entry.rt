@@ -6,7 +6,6 @@ use rr_events::Piece;
 use crate::key::{Key, compare_keys, key_of};
 use rr_model::{NoMemory, Side};
 use std::alloc::Global;
-use std::cmp::Ordering;
 
 /// An event of one of the two calendars.
 #[derive(Drop)]
@@ -60,7 +59,7 @@ pub fn count_of_key(key: &Key, entries: &[Entry]) -> usize
 {
     entries
         .iter()
-        .take_while(|entry| compare_keys(&entry.key, key) == Ordering::Equal)
+        .take_while(|entry| compare_keys(&entry.key, key).is_eq())
         .count()
 }
 

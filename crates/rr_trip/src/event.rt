@@ -41,7 +41,7 @@ pub struct Event {
 
 // The TZID parameter of a line.
 fn zone_of(alloc: Global, line: Option<&Line>) -> Result<Bytes, NoMemory>
-    ensures { IfOk result (λ zone. zone ≡ zone_of (option_map (λ l. l.now) line)) }
+    ensures { IfOk result (λ zone. zone ≡ zone_of (option_map (λ l. l.now) line.entry)) }
 {
     let Some(line) = line else {
         return Ok(Bytes::new(alloc));
@@ -98,7 +98,7 @@ fn event_of(alloc: Global, lines: &[Line]) -> Result<Event, NoMemory>
 /// What an event states of itself.
 pub fn read_event(alloc: Global, piece: Piece) -> Result<Event, NoMemory>
     requires { piece.first + length piece.text.now < 2 ^ 64 }
-    ensures { IfOk result (λ event. event ≡ event_of (lines_in piece)) }
+    ensures { IfOk result (λ event. event ≡ event_of (lines_in piece.entry)) }
 {
     let lines = lines_from(alloc, piece.text, false, piece.first)?;
     event_of(alloc, lines.as_slice())
@@ -115,10 +115,5 @@ fn is_rule_or_date(line: &UsedLine) -> bool
 pub fn has_rule_or_date(scan: &Scan) -> bool
     ensures { result ≡ has_rule_or_date scan.now }
 {
-    for line in scan.used.as_slice() {
-        if is_rule_or_date(line) {
-            return true;
-        }
-    }
-    false
+    scan.used.as_slice().iter().any(|line| is_rule_or_date(line))
 }

@@ -66,7 +66,7 @@ fn key_of_lines(alloc: Global, lines: &[Line]) -> Result<Key, NoMemory>
 /// The key of an event.
 pub fn key_of(alloc: Global, piece: Piece) -> Result<Key, NoMemory>
     requires { piece.first + length piece.text.now < 2 ^ 64 }
-    ensures { IfOk result (λ key. key ≡ key_of (lines_in piece)) }
+    ensures { IfOk result (λ key. key ≡ key_of (lines_in piece.entry)) }
 {
     let lines = lines_from(alloc, piece.text, false, piece.first)?;
     key_of_lines(alloc, lines.as_slice())

@@ -1,7 +1,7 @@
 // The lines of a report as they are printed.
 ghost use Rattle.std.specs.Prelude.{◌≡◌, ◌<◌, ◌++◌, All, IfOk, OnOk};
 ghost use Rattle.std.specs.Fmt.{decimal};
-ghost use Rattle.rr_trip.specs.Printed.{counts_text, escaped, escaped_byte, event_refusal_text, file_refusal_line, has_number, hex_digit, is_difference, key_refusal_text, key_text, lines_text, printed, said_text, side_text, verdict_text};
+ghost use Rattle.rr_trip.specs.Printed.{counts_text, escaped, escaped_byte, event_refusal_text, file_refusal_line, has_number, hex_digit, is_difference, key_refusal_text, key_text, line_text, lines_text, printed, said_text, side_text, verdict_text};
 ghost use Rattle.rr_trip.specs.Said.{IsPrintable, IsPrintableSaid};
 
 use crate::file::FileRefusal;
@@ -193,6 +193,23 @@ fn is_difference(said: Said) -> bool
     )
 }
 
+// The line of a key, or nothing where it is left out.
+fn push_line(
+    alloc: Global,
+    out: &mut Vec<u8>,
+    only_differences: bool,
+    line: &ReportLine,
+) -> Result<(), NoMemory>
+    requires { IsPrintableSaid line.now.said }
+    ensures { OnOk result (out.new.items ≡ out.old.items ++ line_text only_differences line.now) }
+{
+    if !only_differences || is_difference(line.said) {
+        push_said(alloc, out, &line.key, line.said)?;
+        return push(out, b"\n");
+    }
+    Ok(())
+}
+
 // The lines of keys.
 fn push_lines(
     alloc: Global,
@@ -204,10 +221,7 @@ fn push_lines(
     ensures { OnOk result (out.new.items ≡ out.old.items ++ lines_text only_differences lines.now) }
 {
     for line in lines {
-        if !only_differences || is_difference(line.said) {
-            push_said(alloc, out, &line.key, line.said)?;
-            push(out, b"\n")?;
-        }
+        push_line(alloc, out, only_differences, line)?;
     }
     Ok(())
 }
