@@ -1,6 +1,7 @@
 mod InstanceLemmas
 mod Examples
 mod RunLemmas
+mod FaultLemmas
 mod FileLemmas
 mod CountLemmas
 mod PrintLemmas
