@@ -5,6 +5,8 @@ use Rattle.std.specs.Global.{Global}
 use Rattle.rr_model.specs.Text.Lines.{without_mark}
 use Rattle.rr_model.specs.Text.UsedLines.{is_named}
 use Rattle.rr_model.specs.declared.line.Line.{Line}
+use Rattle.rr_model.specs.declared.refusal.Fault.{Fault}
+use Rattle.rr_model.specs.declared.refusal.Fault.TheVariants as fault
 use Rattle.rr_model.specs.declared.refusal.Refusal.{Refusal}
 use Rattle.rr_model.specs.declared.refusal.Refusal.TheVariants as refusal
 use Rattle.rr_model.specs.declared.verdict.Side.{Side}
@@ -26,6 +28,11 @@ has_begin text = list_any (λ (line : Line). is_named line.text (codes "BEGIN"))
 abbrev pub component_refusal : Refusal → FileRefusal
 component_refusal (refusal.BadLine line) = BadLine line
 component_refusal r = BadLine 0
+
+-- the refusal of a file on this side for a fault of its components, or want of memory
+abbrev pub file_fault : Side → Fault → TripFault
+file_fault side (fault.Refused r) = trip.Refused side (component_refusal r)
+file_fault side fault.NoMemory = trip.NoMemory
 
 -- the events of the text, or the refusal of the file
 abbrev pub events_or_refusal : Result (List (List Line)) Refusal → Result (List (List Line)) FileRefusal

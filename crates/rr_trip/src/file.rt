@@ -1,6 +1,6 @@
 // One of the two calendar files.
 ghost use Rattle.std.specs.Prelude.{◌≡◌, ◌<◌, ◌^◌, length, All, IfOk};
-ghost use Rattle.rr_trip.specs.Files.{AnswersFile, has_begin};
+ghost use Rattle.rr_trip.specs.Files.{AnswersFile, file_fault, has_begin};
 ghost use Rattle.rr_trip.specs.Entries.{IsNumberedPiece};
 
 use rr_events::{Piece, cut_line, find_events};
@@ -67,7 +67,9 @@ fn has_begin(alloc: Global, text: &[u8]) -> Result<bool, NoMemory>
 }
 
 // The refusal of a file for a fault of its components.
-fn file_fault(side: Side, fault: Fault) -> TripFault {
+fn file_fault(side: Side, fault: Fault) -> TripFault
+    ensures { result ≡ file_fault side fault }
+{
     let refusal = match fault {
         Fault::NoMemory => return TripFault::NoMemory,
         Fault::Refused(Refusal::BadLine(line)) => FileRefusal::BadLine(line),
