@@ -1,10 +1,11 @@
 -- The lines of sorted entries are a report of both calendars.
-use Rattle.std.proofs.Common.{◌≡◌, ℕ, ◌+◌, ◌-◌, ◌<◌, ◌≤◌, Bool, true, false, append_assoc, cond, length-drop, ℤ, List, [], ◌∷◌, ◌++◌, length, get_or, drop, map, Option, sym, refl, ap, ◌∙◌, subst, arith}
+use Rattle.std.proofs.Common.{◌≡◌, ℕ, ◌+◌, ◌-◌, ◌<◌, ◌≤◌, Bool, true, false, append_assoc, cond, length-drop, ℤ, List, [], ◌∷◌, ◌++◌, length, get_or, drop, map, Option, sym, take, refl, ap, ◌∙◌, subst, arith}
 use Rattle.std.specs.Cmp.{IsTotalOrder, nat_cmp_total, tied_itself}
 use Rattle.std.specs.Cmp.Lexicographic.{nat_list_cmp_total}
 use Rattle.std.specs.List.{All, Contains, filter, prefix_len, take_while}
 use Rattle.std.specs.Ordering.{is_eq, is_lt, ordering_reverse}
 use Rattle.std.specs.declared.cmp.Ordering.TheVariants.{Less, Equal, Greater}
+use Rattle.std.proofs.Math.Seq.{take-length}
 use Rattle.std.proofs.lemmas.Bool.{true≢false}
 use Rattle.std.proofs.lemmas.List.{append-nil, drop-drop, get_or-map, length-map, length-take, map-append}
 use Rattle.std.proofs.lemmas.List.Elements.{All-drop, All-filter, All-head, All-map, All-tail, All-take, filter-append}
@@ -95,6 +96,10 @@ have_lines offset entries lines up (AreLinesOf.next _ run first line more_lines 
         (subst (Ascends entry_key key_cmp key_cmp_total) e up) is
         (λ up_rest. subst (λ ys. HasEntryLines offset (drop (length run) ys) more_lines) e
           (have_lines offset (drop (length run) entries) more_lines (subst (λ ys. Ascends entry_key key_cmp key_cmp_total (drop (length run) ys)) (sym e) up_rest) more)))
+
+-- what is left from a place on, taken whole
+pub whole_rest : (start : ℕ) (entries : List Entry) → take (length entries - start) (drop start entries) ≡ drop start entries
+whole_rest start entries = subst (λ n. take n (drop start entries) ≡ drop start entries) (length-drop start entries) (take-length (drop start entries))
 
 -- the lines so far are those of the entries before this place
 pub record IsUpTo (offset : Option ℤ) (entries : List Entry) (lines : List ReportLine) (start : ℕ) : Type 0 where
