@@ -68,7 +68,8 @@ too_long bytes e = ap (λ b. cond b (Err TooLong) (text_events (without_mark byt
 short_enough : (bytes : List ℕ) → nat_lt MAX_FILE (length bytes) ≡ false → file_events bytes ≡ text_events (without_mark bytes)
 short_enough bytes e = ap (λ b. cond b (Err TooLong) (text_events (without_mark bytes))) e
 
-pub no_events : (bytes text : List ℕ) → text ≡ without_mark bytes → nat_lt MAX_FILE (length bytes) ≡ false → has_begin text ≡ false → file_events bytes ≡ Err NoEvents
+pub no_events : (bytes text : List ℕ) → text ≡ without_mark bytes → nat_lt MAX_FILE (length bytes) ≡ false → has_begin text ≡ false
+    → file_events bytes ≡ Err NoEvents
 no_events bytes text is e none =
     short_enough bytes e ∙ ap text_events (sym is) ∙ ap (λ b. cond b (events_or_refusal (events_of text)) (Err NoEvents)) none
 

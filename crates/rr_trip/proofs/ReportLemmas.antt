@@ -86,8 +86,8 @@ next_line offset first more run line lines run_is up is lined =
       (subst (λ ys. IsLineOf offset k ys line) run_is is)
       (subst (λ ys. HasEntryLines offset ys lines) at (lined (subst (Ascends entry_key key_cmp key_cmp_total) (sym at) fr.ascends)))
 
-have_lines : (offset : Option ℤ) (entries : List Entry) (lines : List ReportLine) → Ascends entry_key key_cmp key_cmp_total entries → AreLinesOf offset entries lines
-    → HasEntryLines offset entries lines
+have_lines : (offset : Option ℤ) (entries : List Entry) (lines : List ReportLine) → Ascends entry_key key_cmp key_cmp_total entries
+    → AreLinesOf offset entries lines → HasEntryLines offset entries lines
 have_lines offset entries lines up AreLinesOf.none = HasLines-none entry_key key_cmp key_cmp_total line_key (IsLineOf offset)
 have_lines offset entries lines up (AreLinesOf.next _ run first line more_lines at is more) =
     let e = at.begins in
@@ -95,7 +95,8 @@ have_lines offset entries lines up (AreLinesOf.next _ run first line more_lines 
       (next_line offset first at.more run line more_lines (subst (λ ys. run ≡ take_while (has_key first.key) ys) e at.run_is)
         (subst (Ascends entry_key key_cmp key_cmp_total) e up) is
         (λ up_rest. subst (λ ys. HasEntryLines offset (drop (length run) ys) more_lines) e
-          (have_lines offset (drop (length run) entries) more_lines (subst (λ ys. Ascends entry_key key_cmp key_cmp_total (drop (length run) ys)) (sym e) up_rest) more)))
+          (have_lines offset (drop (length run) entries) more_lines
+            (subst (λ ys. Ascends entry_key key_cmp key_cmp_total (drop (length run) ys)) (sym e) up_rest) more)))
 
 -- what is left from a place on, taken whole
 pub whole_rest : (start : ℕ) (entries : List Entry) → take (length entries - start) (drop start entries) ≡ drop start entries
@@ -132,14 +133,16 @@ IsUpTo-next offset entries lines start first run line at is so_far = record {
   within = omega (arith, so_far.within, run_length (drop start entries) first run at, length-drop start entries);
 }
 
-pub IsUpTo-end : (offset : Option ℤ) (entries : List Entry) (lines : List ReportLine) (start : ℕ) → IsUpTo offset entries lines start → drop start entries ≡ []
-    → AreLinesOf offset entries lines
+pub IsUpTo-end : (offset : Option ℤ) (entries : List Entry) (lines : List ReportLine) (start : ℕ) → IsUpTo offset entries lines start
+    → drop start entries ≡ [] → AreLinesOf offset entries lines
 IsUpTo-end offset entries lines start so_far none =
     subst (AreLinesOf offset entries) (append-nil lines) (so_far.joins [] (subst (λ es. AreLinesOf offset es []) (sym none) AreLinesOf.none))
 
-pub run_numbered : (entries : List Entry) (start : ℕ) (first : Entry) (run : List Entry) → IsRunAt (drop start entries) first run → All IsNumbered entries → All IsNumbered run
+pub run_numbered : (entries : List Entry) (start : ℕ) (first : Entry) (run : List Entry) → IsRunAt (drop start entries) first run
+    → All IsNumbered entries → All IsNumbered run
 run_numbered entries start first run at all =
-    subst (All IsNumbered) (sym at.run_is) (All-take IsNumbered (prefix_len (has_key first.key) (drop start entries)) (drop start entries) (All-drop IsNumbered start entries all))
+    subst (All IsNumbered) (sym at.run_is)
+      (All-take IsNumbered (prefix_len (has_key first.key) (drop start entries)) (drop start entries) (All-drop IsNumbered start entries all))
 
 -- ---- the entries of a key, by calendar
 
@@ -172,14 +175,17 @@ after_is : (xs ys : List Entry) → All (λ x. is_of_a x ≡ true) xs → All (�
 after_is xs ys in_a in_b = ap (λ zs. drop (length zs) (xs ++ ys)) (front_is xs ys in_a in_b) ∙ drop_front xs ys
 
 -- what is said of the entries of a key is said of the events with it in each calendar
-said_of_events : (offset : Option ℤ) (a b : List Piece) (line : ReportLine) → IsLineOf offset line.key (filter (has_key line.key) (entries_of a b)) line
+said_of_events : (offset : Option ℤ) (a b : List Piece) (line : ReportLine)
+    → IsLineOf offset line.key (filter (has_key line.key) (entries_of a b)) line
     → IsSaid offset (events_at line.key (map lines_in a)) (events_at line.key (map lines_in b)) line.said
 said_of_events offset a b line is =
     let k = line.key in
     let xs = filter (has_key k) (map (entry_of A) a) in
     let ys = filter (has_key k) (map (entry_of B) b) in
-    let in_a : All (λ x. is_of_a x ≡ true) xs = All-filter (has_key k) (λ x. is_of_a x ≡ true) (map (entry_of A) a) (All-map (λ x. is_of_a x ≡ true) (entry_of A) a (λ n d h. refl)) in
-    let in_b : All (λ y. is_of_a y ≡ false) ys = All-filter (has_key k) (λ y. is_of_a y ≡ false) (map (entry_of B) b) (All-map (λ y. is_of_a y ≡ false) (entry_of B) b (λ n d h. refl)) in
+    let in_a : All (λ x. is_of_a x ≡ true) xs =
+        All-filter (has_key k) (λ x. is_of_a x ≡ true) (map (entry_of A) a) (All-map (λ x. is_of_a x ≡ true) (entry_of A) a (λ n d h. refl)) in
+    let in_b : All (λ y. is_of_a y ≡ false) ys =
+        All-filter (has_key k) (λ y. is_of_a y ≡ false) (map (entry_of B) b) (All-map (λ y. is_of_a y ≡ false) (entry_of B) b (λ n d h. refl)) in
     let run_is = filter-append (has_key k) (map (entry_of A) a) (map (entry_of B) b) in
     let front : events_in (front_of_a (filter (has_key k) (entries_of a b))) ≡ events_at k (map lines_in a) =
         ap (λ es. events_in (front_of_a es)) run_is ∙ ap events_in (front_is xs ys in_a in_b) ∙ kept_entries A k a in

@@ -1,5 +1,5 @@
 -- Runs of one key in sorted lists.
-use Rattle.std.proofs.Common.{◌≡◌, ℕ, ◌+◌, ◌<◌, ◌≤◌, Bool, true, false, not, ◌&&◌, ◌⊎◌, cond, List, [], ◌∷◌, ◌++◌, length, get_or, take, drop, map, Ordering, sym, refl, ap, ◌∙◌, subst, inl, inr, arith, rules}
+use Rattle.std.proofs.Common.{◌≡◌, ℕ, ◌+◌, ◌<◌, ◌≤◌, Bool, true, false, not, ◌&&◌, ◌⊎◌, cond, List, [], ◌∷◌, ◌++◌, length, get_or, drop, map, Ordering, sym, refl, ap, ◌∙◌, subst, inl, inr, arith}
 use Rattle.std.specs.Bool.{⊤}
 use Rattle.std.specs.Cmp.{IsTotalOrder, alike_right, tied_itself}
 use Rattle.std.specs.List.{All, Contains, filter, take_while}
@@ -100,10 +100,12 @@ module _ {E K : Type 0} (key : E → K) (cmp : K → K → Ordering) (o : IsTota
   kept_true : (k : K) (x : E) (xs : List E) → has k x ≡ true → filter (has k) (x ∷ xs) ≡ x ∷ filter (has k) xs
   kept_true k x xs e = ap (λ b. cond b (x ∷ filter (has k) xs) (filter (has k) xs)) e
 
-  front_by : (k : K) (x : E) (xs : List E) (b : Bool) → has k x ≡ b → Ascends (x ∷ xs) → is_lt (cmp (key x) k) ≡ false → IsFront k xs → IsFront k (x ∷ xs)
+  front_by : (k : K) (x : E) (xs : List E) (b : Bool) → has k x ≡ b → Ascends (x ∷ xs) → is_lt (cmp (key x) k) ≡ false → IsFront k xs
+      → IsFront k (x ∷ xs)
   front_by k x xs true e up low rest = record {
     kept = kept_true k x xs e ∙ ap (λ ys. x ∷ ys) rest.kept ∙ sym (front_true k x xs e);
-    joined = ap (λ ys. ys ++ after k (x ∷ xs)) (front_true k x xs e) ∙ ap (λ ys. x ∷ (take_while (has k) xs ++ ys)) (after_true k x xs e) ∙ ap (λ ys. x ∷ ys) rest.joined;
+    joined = ap (λ ys. ys ++ after k (x ∷ xs)) (front_true k x xs e) ∙ ap (λ ys. x ∷ (take_while (has k) xs ++ ys)) (after_true k x xs e)
+        ∙ ap (λ ys. x ∷ ys) rest.joined;
     above = subst (AllAbove k) (sym (after_true k x xs e)) rest.above;
     ascends = subst Ascends (sym (after_true k x xs e)) rest.ascends;
   }
@@ -120,7 +122,8 @@ module _ {E K : Type 0} (key : E → K) (cmp : K → K → Ordering) (o : IsTota
   pub IsFront-from_ascends : (k : K) (xs : List E) → Ascends xs → All (λ y. is_lt (cmp (key y) k) ≡ false) xs → IsFront k xs
   IsFront-from_ascends k [] up low = record { kept = refl; joined = refl; above = All-nil (λ y. cmp k (key y) ≡ Less); ascends = tt }
   IsFront-from_ascends k (x ∷ xs) up low =
-      front_by k x xs (has k x) refl up (All-head (λ y. is_lt (cmp (key y) k) ≡ false) x xs low) (IsFront-from_ascends k xs up.1 (All-tail (λ y. is_lt (cmp (key y) k) ≡ false) x xs low))
+      front_by k x xs (has k x) refl up (All-head (λ y. is_lt (cmp (key y) k) ≡ false) x xs low)
+        (IsFront-from_ascends k xs up.1 (All-tail (λ y. is_lt (cmp (key y) k) ≡ false) x xs low))
 
   equal_from : (r : Ordering) → is_eq r ≡ true → r ≡ Equal
   equal_from Less e = absurd (true≢false (sym e))
@@ -149,8 +152,8 @@ module _ {E K : Type 0} (key : E → K) (cmp : K → K → Ordering) (o : IsTota
       said = All-nil (λ line. IsLine (key_of_line line) [] line);
     }
 
-    rises_by : (k : K) (line : L) (lines : List L) → key_of_line line ≡ k → All (λ l. cmp k (key_of_line l) ≡ Less) lines → Rises (λ a b. is_lt (cmp a b)) (map key_of_line lines)
-        → Rises (λ a b. is_lt (cmp a b)) (map key_of_line (line ∷ lines))
+    rises_by : (k : K) (line : L) (lines : List L) → key_of_line line ≡ k → All (λ l. cmp k (key_of_line l) ≡ Less) lines
+        → Rises (λ a b. is_lt (cmp a b)) (map key_of_line lines) → Rises (λ a b. is_lt (cmp a b)) (map key_of_line (line ∷ lines))
     rises_by k line [] e above up = tt
     rises_by k line (next ∷ lines) e above up =
         (ap is_lt (ap (λ j. cmp j (key_of_line next)) e ∙ All-head (λ l. cmp k (key_of_line l) ≡ Less) next lines above), up)
@@ -162,7 +165,8 @@ module _ {E K : Type 0} (key : E → K) (cmp : K → K → Ordering) (o : IsTota
     filter-front : (k j : K) (xs : List E) → cmp k j ≡ Less → All (λ x. has k x ≡ true) xs → filter (has j) xs ≡ []
     filter-front k j [] up all = refl
     filter-front k j (x ∷ xs) up all =
-        let e : is_eq (cmp (key x) j) ≡ false = ap is_eq (o.congr (key x) k j (equal_from (cmp (key x) k) (All-head (λ y. has k y ≡ true) x xs all)) ∙ up) in
+        let e : is_eq (cmp (key x) j) ≡ false =
+            ap is_eq (o.congr (key x) k j (equal_from (cmp (key x) k) (All-head (λ y. has k y ≡ true) x xs all)) ∙ up) in
         rw e (filter-front k j xs up (All-tail (λ y. has k y ≡ true) x xs all))
 
     pub HasLines-next : (exact : (j k : K) → cmp j k ≡ Equal → j ≡ k) (x : E) (more : List E) (line : L) (lines : List L)
@@ -178,8 +182,10 @@ module _ {E K : Type 0} (key : E → K) (cmp : K → K → Ordering) (o : IsTota
         record {
           rises = rises_by k line lines of_key (λ n d h. above_contained k _ (after k xs) fr.above (rest.none_else n d h)) rest.rises;
           every = subst (All (λ y. Contains keys (key y))) fr.joined (All-append (λ y. Contains keys (key y)) front (after k xs)
-              (All-weaker (λ y. has k y ≡ true) (λ y. Contains keys (key y)) (λ y h. (0, omega arith, of_key ∙ sym (exact (key y) k (equal_from _ h)))) front all_k)
-              (All-weaker (λ y. Contains (map key_of_line lines) (key y)) (λ y. Contains keys (key y)) (λ y c. Contains-tail (key_of_line line) (map key_of_line lines) (key y) c) (after k xs) rest.every));
+              (All-weaker (λ y. has k y ≡ true) (λ y. Contains keys (key y))
+                (λ y h. (0, omega arith, of_key ∙ sym (exact (key y) k (equal_from _ h)))) front all_k)
+              (All-weaker (λ y. Contains (map key_of_line lines) (key y)) (λ y. Contains keys (key y))
+                (λ y c. Contains-tail (key_of_line line) (map key_of_line lines) (key y) c) (after k xs) rest.every));
           none_else = All-cons (λ l. Contains (map key xs) (key_of_line l)) line lines (0, omega arith, sym of_key)
               (λ n d h. subst (λ ys. Contains ys (key_of_line (get_or lines n d))) (sym (map-append key front (after k xs)) ∙ ap (map key) fr.joined)
                 (Contains-append_right (map key front) (map key (after k xs)) (key_of_line (get_or lines n d)) (rest.none_else n d h)));
@@ -189,7 +195,8 @@ module _ {E K : Type 0} (key : E → K) (cmp : K → K → Ordering) (o : IsTota
                 let l = get_or lines n d in
                 let j = key_of_line l in
                 let same : filter (has j) (after k xs) ≡ filter (has j) xs =
-                    sym (ap (λ ys. ys ++ filter (has j) (after k xs)) (filter-front k j front (above_contained k j (after k xs) fr.above (rest.none_else n d h)) all_k))
+                    sym (ap (λ ys. ys ++ filter (has j) (after k xs))
+                      (filter-front k j front (above_contained k j (after k xs) fr.above (rest.none_else n d h)) all_k))
                     ∙ sym (filter-append (has j) front (after k xs)) ∙ ap (filter (has j)) fr.joined in
                 subst (λ ys. IsLine j ys l) same (rest.said n d h));
         }
@@ -208,13 +215,15 @@ module _ {E K : Type 0} (key : E → K) (cmp : K → K → Ordering) (o : IsTota
     element_with (x ∷ xs) j c = elim (Contains-cons_cases (key x) (map key xs) j c) [ inl e ↦ (x, e) | inr more ↦ element_with xs j more ]
 
     -- the lines of a list that was sorted and kept the order of elements with one key are those of the list as it was
-    pub HasLines-given : (given sorted : List E) (lines : List L) → IsPermutation given sorted → IsStableBy lt given sorted → HasLines sorted lines → HasLines given lines
+    pub HasLines-given : (given sorted : List E) (lines : List L) → IsPermutation given sorted → IsStableBy lt given sorted → HasLines sorted lines
+        → HasLines given lines
     HasLines-given given sorted lines moved stable is =
         let back = IsPermutation-sym given sorted moved in
         record {
           rises = is.rises;
           every = All-permutation (λ x. Contains (map key_of_line lines) (key x)) sorted given back is.every;
-          none_else = λ n d h. Contains-permutation (map key sorted) (map key given) (key_of_line (get_or lines n d)) (IsPermutation-map key sorted given back) (is.none_else n d h);
+          none_else = λ n d h. Contains-permutation (map key sorted) (map key given) (key_of_line (get_or lines n d))
+              (IsPermutation-map key sorted given back) (is.none_else n d h);
           said = λ n d h.
               let l = get_or lines n d in
               let j = key_of_line l in
