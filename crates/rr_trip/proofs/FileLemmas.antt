@@ -3,7 +3,7 @@ use Rattle.std.proofs.Common.{◌≡◌, ℕ, ◌+◌, ◌<◌, ◌≤◌, ◌^�
 use Rattle.std.specs.Prelude.{bytes_eq, if◌then◌else◌, unwrap_or}
 use Rattle.std.specs.List.{All, list_any}
 use Rattle.std.proofs.lemmas.List.Elements.{All-weaker}
-use Rattle.rr_model.specs.Text.Lines.{without_mark}
+use Rattle.rr_model.specs.Text.Lines.{physical_lines, without_mark}
 use Rattle.rr_model.specs.Text.UsedLines.{is_named}
 use Rattle.rr_model.specs.declared.line.Line.{Line}
 use Rattle.rr_model.specs.declared.refusal.Fault.{Fault}
@@ -48,6 +48,7 @@ IsUnread-next text rest after number next line unread cut e = record {
 }
 
 pub not_begun : (text rest : List ℕ) (number : ℕ) → IsUnread text rest number → rest ≡ [] → false ≡ has_begin text
+unfolding physical_lines
 not_begun text rest number unread none = sym (unread.same ∙ ap (λ bytes. list_any begins (lines_at number bytes)) none)
 
 pub numbered : (text : List ℕ) (pieces : List Piece) → length text < 2 ^ 62 → All (IsPlaced text) pieces → All IsNumberedPiece pieces
