@@ -83,8 +83,8 @@ next_line offset first more run line lines run_is up is lined =
     let fr = IsFront-from_ascends entry_key key_cmp key_cmp_total k (first ∷ more) up (lowest entry_key key_cmp key_cmp_total first more up) in
     let at : drop (length run) (first ∷ more) ≡ after entry_key key_cmp key_cmp_total k (first ∷ more) = ap (λ ys. drop (length ys) (first ∷ more)) run_is in
     HasLines-next entry_key key_cmp key_cmp_total line_key (IsLineOf offset) key_exact first more line lines up is.of_key
-      (subst (λ ys. IsLineOf offset k ys line) run_is is)
-      (subst (λ ys. HasEntryLines offset ys lines) at (lined (subst (Ascends entry_key key_cmp key_cmp_total) (sym at) fr.ascends)))
+    (subst (λ ys. IsLineOf offset k ys line) run_is is)
+    (subst (λ ys. HasEntryLines offset ys lines) at (lined (subst (Ascends entry_key key_cmp key_cmp_total) (sym at) fr.ascends)))
 
 have_lines : (offset : Option ℤ) (entries : List Entry) (lines : List ReportLine) → Ascends entry_key key_cmp key_cmp_total entries
     → AreLinesOf offset entries lines → HasEntryLines offset entries lines
@@ -92,11 +92,11 @@ have_lines offset entries lines up AreLinesOf.none = HasLines-none entry_key key
 have_lines offset entries lines up (AreLinesOf.next _ run first line more_lines at is more) =
     let e = at.begins in
     subst (λ ys. HasEntryLines offset ys (line ∷ more_lines)) (sym e)
-      (next_line offset first at.more run line more_lines (subst (λ ys. run ≡ take_while (has_key first.key) ys) e at.run_is)
-        (subst (Ascends entry_key key_cmp key_cmp_total) e up) is
-        (λ up_rest. subst (λ ys. HasEntryLines offset (drop (length run) ys) more_lines) e
-          (have_lines offset (drop (length run) entries) more_lines
-            (subst (λ ys. Ascends entry_key key_cmp key_cmp_total (drop (length run) ys)) (sym e) up_rest) more)))
+    (next_line offset first at.more run line more_lines (subst (λ ys. run ≡ take_while (has_key first.key) ys) e at.run_is)
+    (subst (Ascends entry_key key_cmp key_cmp_total) e up) is
+    (λ up_rest. subst (λ ys. HasEntryLines offset (drop (length run) ys) more_lines) e
+    (have_lines offset (drop (length run) entries) more_lines
+    (subst (λ ys. Ascends entry_key key_cmp key_cmp_total (drop (length run) ys)) (sym e) up_rest) more)))
 
 -- what is left from a place on, taken whole
 pub whole_rest : (start : ℕ) (entries : List Entry) → take (length entries - start) (drop start entries) ≡ drop start entries
@@ -117,8 +117,8 @@ IsUpTo-start offset entries lines none = record {
 pub run_length : (entries : List Entry) (first : Entry) (run : List Entry) → IsRunAt entries first run → (1 ≤ length run) × (length run ≤ length entries)
 run_length entries first run at =
     let e : take_while (has_key first.key) (first ∷ at.more) ≡ first ∷ take_while (has_key first.key) at.more =
-        take_while-cons (has_key first.key) first at.more
-        ∙ ap (λ b. cond b (first ∷ take_while (has_key first.key) at.more) []) (ap is_eq (tied_itself key_cmp_total first.key)) in
+    take_while-cons (has_key first.key) first at.more
+    ∙ ap (λ b. cond b (first ∷ take_while (has_key first.key) at.more) []) (ap is_eq (tied_itself key_cmp_total first.key)) in
     let r : run ≡ first ∷ take_while (has_key first.key) at.more = at.run_is ∙ ap (take_while (has_key first.key)) at.begins ∙ e in
     let t = length-take (prefix_len (has_key first.key) entries) entries in
     (omega (arith, ap length r), omega (arith, ap length at.run_is, t))
@@ -129,7 +129,7 @@ pub IsUpTo-next : (offset : Option ℤ) (entries : List Entry) (lines : List Rep
 IsUpTo-next offset entries lines start first run line at is so_far = record {
   joins = λ more are. subst (AreLinesOf offset entries) (sym (append_assoc lines (line ∷ []) more))
       (so_far.joins (line ∷ more) (AreLinesOf.next (drop start entries) run first line more at is
-        (subst (λ es. AreLinesOf offset es more) (sym (drop-drop (length run) start entries)) are)));
+      (subst (λ es. AreLinesOf offset es more) (sym (drop-drop (length run) start entries)) are)));
   within = omega (arith, so_far.within, run_length (drop start entries) first run at, length-drop start entries);
 }
 
@@ -142,7 +142,7 @@ pub run_numbered : (entries : List Entry) (start : ℕ) (first : Entry) (run : L
     → All IsNumbered entries → All IsNumbered run
 run_numbered entries start first run at all =
     subst (All IsNumbered) (sym at.run_is)
-      (All-take IsNumbered (prefix_len (has_key first.key) (drop start entries)) (drop start entries) (All-drop IsNumbered start entries all))
+    (All-take IsNumbered (prefix_len (has_key first.key) (drop start entries)) (drop start entries) (All-drop IsNumbered start entries all))
 
 -- ---- the entries of a key, by calendar
 
@@ -157,7 +157,7 @@ kept_entries : (side : Side) (k : Key) (pieces : List Piece)
 kept_entries side k [] = refl
 kept_entries side k (piece ∷ pieces) =
     kept_by (is_same_key (key_of (lines_in piece)) k) (entry_of side piece) (filter (has_key k) (map (entry_of side) pieces)) (lines_in piece)
-      (filter (λ event. is_same_key (key_of event) k) (map lines_in pieces)) refl (kept_entries side k pieces)
+    (filter (λ event. is_same_key (key_of event) k) (map lines_in pieces)) refl (kept_entries side k pieces)
 
 front_is : (xs ys : List Entry) → All (λ x. is_of_a x ≡ true) xs → All (λ y. is_of_a y ≡ false) ys → front_of_a (xs ++ ys) ≡ xs
 front_is [] [] in_a in_b = refl
@@ -183,16 +183,16 @@ said_of_events offset a b line is =
     let xs = filter (has_key k) (map (entry_of A) a) in
     let ys = filter (has_key k) (map (entry_of B) b) in
     let in_a : All (λ x. is_of_a x ≡ true) xs =
-        All-filter (has_key k) (λ x. is_of_a x ≡ true) (map (entry_of A) a) (All-map (λ x. is_of_a x ≡ true) (entry_of A) a (λ n d h. refl)) in
+    All-filter (has_key k) (λ x. is_of_a x ≡ true) (map (entry_of A) a) (All-map (λ x. is_of_a x ≡ true) (entry_of A) a (λ n d h. refl)) in
     let in_b : All (λ y. is_of_a y ≡ false) ys =
-        All-filter (has_key k) (λ y. is_of_a y ≡ false) (map (entry_of B) b) (All-map (λ y. is_of_a y ≡ false) (entry_of B) b (λ n d h. refl)) in
+    All-filter (has_key k) (λ y. is_of_a y ≡ false) (map (entry_of B) b) (All-map (λ y. is_of_a y ≡ false) (entry_of B) b (λ n d h. refl)) in
     let run_is = filter-append (has_key k) (map (entry_of A) a) (map (entry_of B) b) in
     let front : events_in (front_of_a (filter (has_key k) (entries_of a b))) ≡ events_at k (map lines_in a) =
-        ap (λ es. events_in (front_of_a es)) run_is ∙ ap events_in (front_is xs ys in_a in_b) ∙ kept_entries A k a in
+    ap (λ es. events_in (front_of_a es)) run_is ∙ ap events_in (front_is xs ys in_a in_b) ∙ kept_entries A k a in
     let back : events_in (after_a (filter (has_key k) (entries_of a b))) ≡ events_at k (map lines_in b) =
-        ap (λ es. events_in (after_a es)) run_is ∙ ap events_in (after_is xs ys in_a in_b) ∙ kept_entries B k b in
+    ap (λ es. events_in (after_a es)) run_is ∙ ap events_in (after_is xs ys in_a in_b) ∙ kept_entries B k b in
     subst (λ es. IsSaid offset es (events_at k (map lines_in b)) line.said) front
-      (subst (λ es. IsSaid offset (events_in (front_of_a (filter (has_key k) (entries_of a b)))) es line.said) back is.said)
+    (subst (λ es. IsSaid offset (events_in (front_of_a (filter (has_key k) (entries_of a b)))) es line.said) back is.said)
 
 -- ---- keys of events
 
@@ -217,7 +217,7 @@ pub is_report : (offset : Option ℤ) (a b : List Piece) (sorted : List Entry) (
 is_report offset a b sorted lines order lined =
     let up = Ascends-from_sorted entry_key key_cmp key_cmp_total sorted order.rises in
     let is = HasLines-given entry_key key_cmp key_cmp_total line_key (IsLineOf offset) (entries_of a b) sorted lines order.moved order.stable
-        (have_lines offset sorted lines up lined) in
+    (have_lines offset sorted lines up lined) in
     let same = keys_of_entries a b in
     record {
       rises = is.rises;

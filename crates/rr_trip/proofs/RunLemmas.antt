@@ -113,17 +113,17 @@ module _ {E K : Type 0} (key : E → K) (cmp : K → K → Ordering) (o : IsTota
       let up_x = above_from (key x) k low e in
       let above = All-cons (λ y. cmp k (key y) ≡ Less) x xs up_x (AllAbove-from_first k x xs up_x up.0) in
       record {
-    kept = filter-above k (x ∷ xs) above ∙ sym (front_false k x xs e);
-    joined = ap (λ ys. ys ++ after k (x ∷ xs)) (front_false k x xs e) ∙ after_false k x xs e;
-    above = subst (AllAbove k) (sym (after_false k x xs e)) above;
-    ascends = subst Ascends (sym (after_false k x xs e)) up;
-  }
+        kept = filter-above k (x ∷ xs) above ∙ sym (front_false k x xs e);
+        joined = ap (λ ys. ys ++ after k (x ∷ xs)) (front_false k x xs e) ∙ after_false k x xs e;
+        above = subst (AllAbove k) (sym (after_false k x xs e)) above;
+        ascends = subst Ascends (sym (after_false k x xs e)) up;
+      }
 
   pub IsFront-from_ascends : (k : K) (xs : List E) → Ascends xs → All (λ y. is_lt (cmp (key y) k) ≡ false) xs → IsFront k xs
   IsFront-from_ascends k [] up low = record { kept = refl; joined = refl; above = All-nil (λ y. cmp k (key y) ≡ Less); ascends = tt }
   IsFront-from_ascends k (x ∷ xs) up low =
       front_by k x xs (has k x) refl up (All-head (λ y. is_lt (cmp (key y) k) ≡ false) x xs low)
-        (IsFront-from_ascends k xs up.1 (All-tail (λ y. is_lt (cmp (key y) k) ≡ false) x xs low))
+      (IsFront-from_ascends k xs up.1 (All-tail (λ y. is_lt (cmp (key y) k) ≡ false) x xs low))
 
   equal_from : (r : Ordering) → is_eq r ≡ true → r ≡ Equal
   equal_from Less e = absurd (true≢false (sym e))
@@ -166,7 +166,7 @@ module _ {E K : Type 0} (key : E → K) (cmp : K → K → Ordering) (o : IsTota
     filter-front k j [] up all = refl
     filter-front k j (x ∷ xs) up all =
         let e : is_eq (cmp (key x) j) ≡ false =
-            ap is_eq (o.congr (key x) k j (equal_from (cmp (key x) k) (All-head (λ y. has k y ≡ true) x xs all)) ∙ up) in
+        ap is_eq (o.congr (key x) k j (equal_from (cmp (key x) k) (All-head (λ y. has k y ≡ true) x xs all)) ∙ up) in
         rw e (filter-front k j xs up (All-tail (λ y. has k y ≡ true) x xs all))
 
     pub HasLines-next : (exact : (j k : K) → cmp j k ≡ Equal → j ≡ k) (x : E) (more : List E) (line : L) (lines : List L)
@@ -183,22 +183,22 @@ module _ {E K : Type 0} (key : E → K) (cmp : K → K → Ordering) (o : IsTota
           rises = rises_by k line lines of_key (λ n d h. above_contained k _ (after k xs) fr.above (rest.none_else n d h)) rest.rises;
           every = subst (All (λ y. Contains keys (key y))) fr.joined (All-append (λ y. Contains keys (key y)) front (after k xs)
               (All-weaker (λ y. has k y ≡ true) (λ y. Contains keys (key y))
-                (λ y h. (0, omega arith, of_key ∙ sym (exact (key y) k (equal_from _ h)))) front all_k)
+              (λ y h. (0, omega arith, of_key ∙ sym (exact (key y) k (equal_from _ h)))) front all_k)
               (All-weaker (λ y. Contains (map key_of_line lines) (key y)) (λ y. Contains keys (key y))
-                (λ y c. Contains-tail (key_of_line line) (map key_of_line lines) (key y) c) (after k xs) rest.every));
+              (λ y c. Contains-tail (key_of_line line) (map key_of_line lines) (key y) c) (after k xs) rest.every));
           none_else = All-cons (λ l. Contains (map key xs) (key_of_line l)) line lines (0, omega arith, sym of_key)
               (λ n d h. subst (λ ys. Contains ys (key_of_line (get_or lines n d))) (sym (map-append key front (after k xs)) ∙ ap (map key) fr.joined)
-                (Contains-append_right (map key front) (map key (after k xs)) (key_of_line (get_or lines n d)) (rest.none_else n d h)));
+              (Contains-append_right (map key front) (map key (after k xs)) (key_of_line (get_or lines n d)) (rest.none_else n d h)));
           said = All-cons (λ l. IsLine (key_of_line l) (filter (has (key_of_line l)) xs) l) line lines
               (subst (λ j. IsLine j (filter (has j) xs) line) (sym of_key) (subst (λ ys. IsLine k ys line) (sym fr.kept) is))
               (λ n d h.
-                let l = get_or lines n d in
-                let j = key_of_line l in
-                let same : filter (has j) (after k xs) ≡ filter (has j) xs =
-                    sym (ap (λ ys. ys ++ filter (has j) (after k xs))
-                      (filter-front k j front (above_contained k j (after k xs) fr.above (rest.none_else n d h)) all_k))
-                    ∙ sym (filter-append (has j) front (after k xs)) ∙ ap (filter (has j)) fr.joined in
-                subst (λ ys. IsLine j ys l) same (rest.said n d h));
+              let l = get_or lines n d in
+              let j = key_of_line l in
+              let same : filter (has j) (after k xs) ≡ filter (has j) xs =
+              sym (ap (λ ys. ys ++ filter (has j) (after k xs))
+              (filter-front k j front (above_contained k j (after k xs) fr.above (rest.none_else n d h)) all_k))
+              ∙ sym (filter-append (has j) front (after k xs)) ∙ ap (filter (has j)) fr.joined in
+              subst (λ ys. IsLine j ys l) same (rest.said n d h));
         }
 
     ties_by : (r s : Ordering) → s ≡ ordering_reverse r → (not (is_lt s) && not (is_lt r)) ≡ is_eq r
@@ -229,6 +229,6 @@ module _ {E K : Type 0} (key : E → K) (cmp : K → K → Ordering) (o : IsTota
               let j = key_of_line l in
               let x = element_with sorted j (is.none_else n d h) in
               let same : filter (has j) sorted ≡ filter (has j) given =
-                  subst (λ i. filter (has i) sorted ≡ filter (has i) given) x.1 (sym (filter-ties x.0 sorted) ∙ stable x.0 ∙ filter-ties x.0 given) in
+              subst (λ i. filter (has i) sorted ≡ filter (has i) given) x.1 (sym (filter-ties x.0 sorted) ∙ stable x.0 ∙ filter-ties x.0 given) in
               subst (λ ys. IsLine j ys l) same (is.said n d h);
         }

@@ -2,8 +2,8 @@
 ghost use Rattle.std.specs.Prelude.{◌≡◌, ◌++◌, length, take_while, map, All, IfOk, OnOk};
 ghost use Rattle.rr_trip.specs.Entries.{IsNumberedPiece, IsSortedOf, entries_of, entry_of, has_key, is_of_a};
 
-use rr_events::Piece;
 use crate::key::{Key, compare_keys, key_of};
+use rr_events::Piece;
 use rr_model::{NoMemory, Side};
 use std::alloc::Global;
 

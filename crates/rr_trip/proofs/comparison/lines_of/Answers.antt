@@ -14,8 +14,8 @@ loop-run-preserved c =
     let run = c.in-Some.run'.entries.now in
     let at = subst (λ es. IsRunAt es c.in-Some.run'.first.now run) (whole_rest start entries) c.in-Some.ensures in
     subst (λ ls. IsUpTo c.args.offset entries ls (start + length run)) (sym c.in_ok-push.ensures.items)
-      (IsUpTo-next c.args.offset entries c.loop-run.lines.items start c.in-Some.run'.first.now run c.in_ok-line_of.field-0 at c.in_ok-line_of.ensures
-        c.loop-run.invariant)
+    (IsUpTo-next c.args.offset entries c.loop-run.lines.items start c.in-Some.run'.first.now run c.in_ok-line_of.field-0 at c.in_ok-line_of.ensures
+    c.loop-run.invariant)
 
 pub loop-run-smaller : goal.loop-run-smaller
 loop-run-smaller c =
@@ -38,4 +38,4 @@ returns c =
     let entries = c.args.entries.now in
     let start = c.loop-run.start in
     IsUpTo-end c.args.offset entries c.loop-run.lines.items start c.loop-run.invariant
-      (sym (whole_rest start entries) ∙ (rw c.in_default.is at c.first_run.ensures))
+    (sym (whole_rest start entries) ∙ (rw c.in_default.is at c.first_run.ensures))

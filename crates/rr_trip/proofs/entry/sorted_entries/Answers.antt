@@ -14,7 +14,7 @@ returns c =
     let order = ranks_by key_cmp_total (λ (x : Entry). x.key) in
     let put : c.put_entries-2.new.entries.items ≡ entries_of c.args.a.now c.args.b.now = search rules in
     let moved : IsPermutation (entries_of c.args.a.now c.args.b.now) c.sort_by.new.self.items =
-        subst (λ es. IsPermutation es c.sort_by.new.self.items) put c.in_ok-sort_by.ensures.permutation in
+    subst (λ es. IsPermutation es c.sort_by.new.self.items) put c.in_ok-sort_by.ensures.permutation in
     record {
       moved = moved;
       rises = c.in_ok-sort_by.ensures.sorted entry_lt order (always_returns_same _ _ _ (λ a r f' k. search rules));
@@ -22,5 +22,5 @@ returns c =
           (c.in_ok-sort_by.ensures.stable entry_lt order (always_returns_same _ _ _ (λ a r f' k. search rules)));
       numbered = All-permutation IsNumbered (entries_of c.args.a.now c.args.b.now) c.sort_by.new.self.items moved
           (All-append IsNumbered (map (entry_of A) c.args.a.now) (map (entry_of B) c.args.b.now)
-            (All-map IsNumbered (entry_of A) c.args.a.now c.requires.a) (All-map IsNumbered (entry_of B) c.args.b.now c.requires.b));
+          (All-map IsNumbered (entry_of A) c.args.a.now c.requires.a) (All-map IsNumbered (entry_of B) c.args.b.now c.requires.b));
     }
