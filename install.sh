@@ -1,5 +1,5 @@
 #!/bin/sh
-# Installs the shipped program, and its man page and completions where they are here: ./install.sh [--prefix DIR]. DIR is /usr/local where
+# Installs the shipped programs, and their man pages and completions where they are here: ./install.sh [--prefix DIR]. DIR is /usr/local where
 # it is not given. Removes the same files: ./install.sh uninstall [--prefix DIR].
 # With --libraries it installs the header and both libraries for C too, and with --python FOLDER the Python module with a library of its
 # own, in a folder where Python looks for modules, as `python3 -c 'import site; print(site.getusersitepackages())'` prints one.
@@ -41,10 +41,15 @@ done
 program_files() {
     cat <<'END'
 release/rr-x86_64-linux bin/rr 755
+release/rr-calendars-x86_64-linux bin/rr-calendars 755
 docs/rr.1 share/man/man1/rr.1 644
+docs/rr-calendars.1 share/man/man1/rr-calendars.1 644
 completions/rr.bash share/bash-completion/completions/rr 644
 completions/_rr share/zsh/site-functions/_rr 644
 completions/rr.fish share/fish/vendor_completions.d/rr.fish 644
+completions/rr-calendars.bash share/bash-completion/completions/rr-calendars 644
+completions/_rr-calendars share/zsh/site-functions/_rr-calendars 644
+completions/rr-calendars.fish share/fish/vendor_completions.d/rr-calendars.fish 644
 END
 }
 

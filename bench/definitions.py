@@ -95,6 +95,7 @@ QUESTIONS = {
     "what is said of two series, clashes and combined sets too": [("rr_answer.specs.Answer", "IsPairAnswer")],
     "reading a calendar text": [(MODEL + "Text.Calendars", "reads_calendar")],
     "the clauses of run": roots_of_run(),
+    "what is said of two whole calendars": [("rr_trip.specs.Report", "IsReportOf"), ("rr_trip.specs.Report", "IsFileRefused")],
 }
 
 

@@ -22,11 +22,15 @@ has() {
 }
 
 if has mandoc; then
-    if mandoc -T lint -W warning docs/rr.1; then echo 'ok: mandoc finds nothing'; else failed=1; fi
+    if mandoc -T lint -W warning docs/rr.1 docs/rr-calendars.1; then echo 'ok: mandoc finds nothing'; else failed=1; fi
 fi
 
 in_bash() {
     bash -c '. completions/rr.bash; COMP_LINE=$1; COMP_POINT=${#1}; _rr 2>/dev/null; echo ${COMPREPLY[*]}' '' "$1"
+}
+
+calendars_in_bash() {
+    bash -c '. completions/rr-calendars.bash; COMP_WORDS=($1); COMP_CWORD=$((${#COMP_WORDS[@]} - 1)); _rr_calendars 2>/dev/null; echo ${COMPREPLY[*]}' '' "$1"
 }
 
 in_fish() {
@@ -58,8 +62,11 @@ done
 if has bash; then
     expect bash 'rr check rrule:examples/stand' examples/standup.ics "$(in_bash 'rr check rrule:examples/stand')"
     expect bash 'rr check rrule@+01:00:examples/stand' examples/standup.ics "$(in_bash 'rr check rrule@+01:00:examples/stand')"
+    expect bash 'rr-calendars --d' --differences "$(calendars_in_bash 'rr-calendars --d')"
+    expect bash 'rr-calendars examples/calendar-o' examples/calendar-old.ics "$(calendars_in_bash 'rr-calendars examples/calendar-o')"
 fi
 if has fish; then
+    expect fish 'rr-calendars --d' --differences "$(fish --no-config -c 'source completions/rr-calendars.fish; complete -C $argv[1]' -- 'rr-calendars --d' | cut -f 1 | tr '\n' ' ')"
     expect fish 'rr check rrule:examples/stand' rrule:examples/standup.ics "$(in_fish 'rr check rrule:examples/stand')"
     expect fish 'rr check rrule@+01:00:examples/stand' rrule@+01:00:examples/standup.ics "$(in_fish 'rr check rrule@+01:00:examples/stand')"
 fi

@@ -1,9 +1,9 @@
 #!/usr/bin/env python3
-"""bench/pages.py [PROGRAM]
+"""bench/pages.py [PROGRAM [CALENDARS]]
 
 Runs each command of README.md and docs/*.md that stands in an indented line after '$', and compares what it prints with the lines
 below it; runs the input of each row of docs/REFUSALS.md and looks for the row's name, of both where two operands stand in its words; and looks whether docs/TRUST.md has the counts
-that bench/definitions.py prints, and names edits that are there. PROGRAM stands in for ./rr and for the shipped program.
+that bench/definitions.py prints, and names edits that are there. PROGRAM stands in for ./rr and for the shipped program, CALENDARS for ./rr-calendars.
 It prints each line that differs, then 'N passed, M failed'. Python 3 and its standard library are enough.
 """
 import os
@@ -14,6 +14,7 @@ from pathlib import Path
 
 TOP = Path(__file__).resolve().parent.parent
 PROGRAM = os.path.abspath(sys.argv[1]) if len(sys.argv) > 1 else str(TOP / "rr")
+CALENDARS = os.path.abspath(sys.argv[2]) if len(sys.argv) > 2 else str(TOP / "rr-calendars")
 SHIPPED = "release/rr-x86_64-linux"
 SECONDS = 300
 PAGES = [TOP / "README.md", *sorted((TOP / "docs").glob("*.md"))]
@@ -36,7 +37,8 @@ def commands_of(page):
 
 def printed(command, given=b""):
     """What a shell command prints, with the program in place of ./rr."""
-    command = re.sub(r"(?<![\w/])\./rr(?![\w/])", lambda _: "'" + PROGRAM + "'", command)
+    command = re.sub(r"(?<![\w/])\./rr(?![\w/-])", lambda _: "'" + PROGRAM + "'", command)
+    command = re.sub(r"(?<![\w/])\./rr-calendars(?![\w/])", lambda _: "'" + CALENDARS + "'", command)
     if len(sys.argv) > 1:
         command = command.replace(SHIPPED, "'" + PROGRAM + "'")
     try:

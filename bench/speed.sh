@@ -62,9 +62,13 @@ series each-113th-month 20240101T093000 'FREQ=MONTHLY;INTERVAL=113'
 series each-113th-month-other 20240101T093000 'FREQ=MONTHLY;INTERVAL=113;BYMONTHDAY=1'
 series course 20240101 'FREQ=WEEKLY;COUNT=100;BYDAY=MO,TU'
 printf 'EXDATE:20240205\n' >>"$scratch/course"
+series two-years 20240101 'FREQ=WEEKLY;COUNT=208;BYDAY=MO,TU'
+printf 'EXDATE:20240205\n' >>"$scratch/two-years"
 echo 'instructions of long cycles and of searches'
 pair 420000000 each-113th-month
-counted 45000000 1 'translate graph, a course with a date out' translate graph "rrule:$scratch/course"
+counted 5000000 1 'translate graph, a course with a date out' translate graph "rrule:$scratch/course"
+counted 5000000 1 'translate graph, one of two years' translate graph "rrule:$scratch/two-years"
+counted 5000000 1 'infer, the same course' infer "rrule:$scratch/two-years"
 counted 11000000000 1 'drill 1 100' drill 1 100
 
 series long 20240101 'FREQ=MONTHLY;INTERVAL=113'

@@ -27,6 +27,10 @@ several minutes 20240101T000000 'FREQ=MINUTELY' 'FREQ=MONTHLY;INTERVAL=113;BYSEC
 # a canonical text of a megabyte, whose runs have a day each
 { printf 'rrcanon 2\ndays\nf 2024-01-01\nb 0 0 1\n' && yes 'b 1 0 1
 b 2 0 1' | head -n 130000 && echo 'b 1 0 1'; } >"$scratch/megabyte"
+# seven sets of 12,343 seconds take turns; the second rule adds none, but its cycle
+months=$(seq -s , 1 12)
+several sevenths 20240101T000000 'FREQ=SECONDLY;INTERVAL=7' "FREQ=SECONDLY;INTERVAL=791;BYMONTH=$months"
+several sevenths-later 20240101T000001 'FREQ=SECONDLY;INTERVAL=7' "FREQ=SECONDLY;INTERVAL=791;BYMONTH=$months"
 several pair 20240101 'FREQ=WEEKLY' 'FREQ=MONTHLY'
 several sixteen 20240101 'FREQ=DAILY;COUNT=1001' 'FREQ=DAILY;COUNT=1002' 'FREQ=DAILY;COUNT=1003' 'FREQ=DAILY;COUNT=1004' \
     'FREQ=DAILY;COUNT=1005' 'FREQ=DAILY;COUNT=1006' 'FREQ=DAILY;COUNT=1007' 'FREQ=DAILY;COUNT=1008' \
@@ -43,6 +47,7 @@ measure 0.02 5 'disjoint, yearly and weekly' disjoint "rrule:$scratch/yearly" "r
 measure 1 3 'equal, 16,777,217 counted days' equal "rrule:$scratch/counted" "rrule:$scratch/counted"
 measure 0.5 3 'equal, each 86,399 seconds' equal "rrule:$scratch/seconds" "rrule:$scratch/seconds"
 measure 10 1 'equal, each second of January' equal "rrule:$scratch/january" "rrule:$scratch/january"
+measure 3 1 'disjoint, each seventh second and a second later, 16,508,961 days' disjoint "rrule:$scratch/sevenths" "rrule:$scratch/sevenths-later"
 measure 0.02 5 'canon, monthly' canon "rrule:$scratch/monthly"
 measure 2 3 'canon, a dense cycle of 16,508,961 days' canon "rrule:$scratch/dense"
 measure 1.5 3 'canon, minutes beside a cycle of 16,508,961 days' canon "rrule:$scratch/minutes"

@@ -22,11 +22,11 @@ first_newer() (
         "$find_test" "$find_file" -print -quit
 )
 
-# is_built TOP: whether the built program is of the sources that stand here. None of them is newer, or out/built-of, which is written
+# is_built TOP CRATE: whether the built program of the crate is of the sources that stand here. None of them is newer, or out/built-of, which is written
 # after a build and after a gate that passed, has their digest.
 is_built() (
     cd -- "$1" || exit 1
-    program=crates/rr_cli/out/rr_cli
+    program=crates/$2/out/$2
     [ -x "$program" ] || exit 1
     [ -n "$(first_newer . -newer "$program")" ] || exit 0
     [ -f out/built-of ] && read -r digest <out/built-of && [ -z "$(find "$program" -newer out/built-of)" ] && [ "$digest" = "$(digest_of_sources .)" ]

@@ -111,6 +111,7 @@ pub sets_placed : (kind : Kind) (times : List ℕ) (old new : List (List ℕ)) (
 sets_placed kind times old new number placed set are =
     let grown = placed_grown times old new number placed in record {
       some = (let k = same_set old new 0 grown.kept are.some in omega (arith, k.0));
+      empty = (let k = same_set old new 0 grown.kept are.some in k.1 ∙ are.empty);
       all = λ k d l. elim (grown.added k l) [
         | inl was ↦ (
             let same = same_set old new k grown.kept was in
@@ -164,6 +165,7 @@ pub empty_day_sets : (kind : Kind) (sets : List (List ℕ)) → sets ≡ [] ∷ 
 empty_day_sets kind sets e =
     subst (AreDaySets kind) (sym e) (record {
       some = omega arith;
+      empty = refl;
       all = λ k d l some. absurd (some (let z : k ≡ 0 = omega (arith, l) in ap (λ n. get_or ([] ∷ []) n d) z));
     })
 

@@ -43,6 +43,7 @@ IsDaySet kind times = (times ≡ []) ⊎ IsTimeSet kind times
 -- each set is one of a day of this kind, and the set of number 0 is empty
 pub record AreDaySets (kind : Kind) (sets : List (List ℕ)) : Type 0 where
   pub some : 0 < length sets
+  pub empty : get_or sets 0 [] ≡ []
   pub all : All (λ t. t ≢ [] → IsTimeSet kind t) sets
 
 -- each number is that of its day, from the first one on

@@ -14,7 +14,7 @@ ghost use Rattle.rr_algebra.specs.Combining.{AreDayNumbers, AreDaySets, AreKnown
 
 use crate::known_pairs::KnownPairs;
 use crate::op::Op;
-use rr_days::{Folded, sequence};
+use rr_days::{Folded, sequence_of_numbers};
 use rr_model::{Fault, Kind, MAX_CYCLE_DAYS, NoMemory, Refusal};
 use rr_num::lcm_within;
 use rr_shapes::{Pair, Shapes};
@@ -209,7 +209,18 @@ fn combined_days<A: DaySeq, B: DaySeq>(
     let days = days_until(begin, settled) + period;
     match numbers_of_days(alloc, op, kind, one, other, begin, days) {
         Err(fault) => Err(fault),
-        Ok(days) => Ok(sequence(kind, begin, settled, period, days.numbers, days.shapes)),
+        Ok(days) => {
+            let folded = sequence_of_numbers(
+                alloc,
+                kind,
+                begin,
+                settled,
+                period,
+                days.numbers,
+                days.shapes,
+            )?;
+            Ok(folded)
+        }
     }
 }
 

@@ -8,7 +8,7 @@ ghost use Rattle.rr_algebra.specs.Expanded.{HasSets, IsEndlessExpanded, IsExpand
 use crate::dense::numbers_of;
 use crate::parts::{EndingRead, PartsRead};
 use crate::runs::Run;
-use rr_days::{Folded, sequence};
+use rr_days::{Folded, sequence_of_numbers};
 use rr_model::{Fault, Kind, MAX_CYCLE_DAYS, NoMemory, Refusal};
 use rr_shapes::Shapes;
 use std::alloc::Global;
@@ -75,7 +75,16 @@ fn finite_sequence(
     };
     let days = numbers.len();
     fill_up(&mut numbers, days + 1)?;
-    Ok(sequence(kind, first, day_after(first, days), 1, numbers, shapes))
+    let folded = sequence_of_numbers(
+        alloc,
+        kind,
+        first,
+        day_after(first, days),
+        1,
+        numbers,
+        shapes,
+    )?;
+    Ok(folded)
 }
 
 // Whether a period may be read.
@@ -159,7 +168,16 @@ fn endless_sequence(
         Ok(numbers) => numbers,
         Err(fault) => return Err(fault),
     };
-    Ok(sequence(kind, first, ending.settled, ending.period, numbers, shapes))
+    let folded = sequence_of_numbers(
+        alloc,
+        kind,
+        first,
+        ending.settled,
+        ending.period,
+        numbers,
+        shapes,
+    )?;
+    Ok(folded)
 }
 
 /// The sequence of the days that a descriptor states, where each lies in its place and within the bounds.

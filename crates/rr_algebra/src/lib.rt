@@ -13,8 +13,6 @@ mod read;
 mod runs;
 mod seconds;
 mod sets;
-#[cfg(test)]
-mod tests;
 
 pub use combining::{Combined, combine};
 pub use laws::{common_is_none_where_disjoint, minus_is_none_where_within};

@@ -16,7 +16,7 @@ use crate::parts::take_parts;
 use crate::runs::begins_with;
 use crate::sets::take_sets;
 use rr_canon::{Version, describe_in, least};
-use rr_days::{Folded, sequence};
+use rr_days::{Folded, sequence_of_numbers};
 use rr_model::{Fault, Kind, MAX_CYCLE_DAYS, NoMemory, Refusal};
 use rr_shapes::Shapes;
 use rr_text::without_mark;
@@ -77,7 +77,8 @@ fn empty_sequence(alloc: Global) -> Result<Folded, NoMemory>
     let shapes = Shapes::with_empty_set(alloc)?;
     let mut numbers = Vec::new(alloc);
     fill_up(&mut numbers, 1)?;
-    Ok(sequence(Kind::Days, 0, 0, 1, numbers, shapes))
+    let folded = sequence_of_numbers(alloc, Kind::Days, 0, 0, 1, numbers, shapes)?;
+    Ok(folded)
 }
 
 // The sequence that the lines after the first one state.

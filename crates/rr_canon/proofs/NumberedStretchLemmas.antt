@@ -1,6 +1,8 @@
 -- Adding the days of a stretch one after another.
-use Rattle.std.proofs.Common.{◌≡◌, ℕ, suc, ◌+◌, ◌<◌, ◌≤◌, List, [], ◌++◌, length, ℤ, pos, ◌+ℤ◌, inl, inr, refl, sym, ap, subst, ◌∙◌, arith}
+use Rattle.std.proofs.Common.{◌≡◌, ℕ, zero, suc, ◌+◌, ◌<◌, ◌≤◌, List, [], ◌++◌, length, ℤ, pos, ◌+ℤ◌, inl, inr, refl, sym, ap, subst, ◌∙◌, arith}
 use Rattle.std.specs.List.{All}
+use Rattle.std.proofs.lemmas.Int.{ints}
+use Rattle.std.proofs.lemmas.List.{append-nil}
 use Rattle.std.proofs.lemmas.List.Elements.{All-nil, All-cons}
 use Rattle.rr_model.specs.Rising.Sets.{IsSecondsOfDay}
 use Rattle.rr_model.specs.Sets.Sketch.{IsValidSketch, IsTimeSet, times_on}
@@ -13,6 +15,7 @@ use Rattle.rr_model.specs.Sets.Occupied.{occupied, shape_if_some}
 use Rattle.rr_word.proofs.OccupiedLemmas.{occupied_few}
 use Rattle.rr_canon.proofs.PrintableLemmas.{sets_few}
 use Rattle.rr_word.proofs.SetNumberLemmas.{IsKnown as IsKnownIn, all_known}
+use Rattle.rr_word.specs.Stretches.{AreFree}
 use Rattle.rr_word.specs.Numbered.{numbered}
 use Rattle.rr_word.specs.declared.numbered.NumberedDay.{NumberedDay}
 use Rattle.rr_word.proofs.NumberedLemmas.{numbered_stays_of, numbered-append, with_sets_of-append}
@@ -45,6 +48,24 @@ one_more_day s from from' day k times old sets sets' days days' ef ed et stretch
       sets = new_sets ∙ ap (with_sets_of old) here;
       numbers = new_days ∙ ap (numbered sets') here;
     }
+
+-- free days add nothing
+occupied_free : (s : Sketch) (q : ℤ) (k n : ℕ) → AreFree s (q +ℤ pos k) n → occupied s q (k + n) ≡ occupied s q k
+unfolding occupied
+occupied_free s q k zero free = (let e : k + zero ≡ k = omega arith in ap (λ i. occupied s q i) e)
+occupied_free s q k (suc n) free =
+    let e : k + suc n ≡ suc (k + n) = omega arith in
+    let i : (q +ℤ pos k) +ℤ pos n ≡ q +ℤ pos (k + n) = omega (arith, ints) in
+    let none : times_on s (q +ℤ pos (k + n)) ≡ [] = ap (times_on s) (sym i) ∙ free n (omega arith) in
+    ap (λ j. occupied s q j) e ∙ ap (λ (t : List ℕ). occupied s q (k + n) ++ shape_if_some (q +ℤ pos (k + n)) t) none
+    ∙ append-nil (occupied s q (k + n)) ∙ occupied_free s q k n (λ j l. free j (omega arith))
+
+pub more_free_days : (s : Sketch) (from day : ℤ) (k n free m : ℕ) (old sets : List (List ℕ)) (days : List NumberedDay) → day ≡ from +ℤ pos k
+    → m ≡ k + n → n ≤ free → AreFree s day free → AreStretchOf s from k old sets days → AreStretchOf s from m old sets days
+more_free_days s from day k n free m old sets days ed em le are stretch =
+    let here : AreFree s (from +ℤ pos k) n = λ j l. ap (λ d. times_on s (d +ℤ pos j)) (sym ed) ∙ are j (omega arith) in
+    let e : occupied s from k ≡ occupied s from m = sym (ap (λ i. occupied s from i) em ∙ occupied_free s from k n here) in
+    record { sets = stretch.sets ∙ ap (with_sets_of old) e; numbers = stretch.numbers ∙ ap (numbered sets) e }
 
 -- the numbers stay within their type
 pub sets_within : (s : Sketch) (from : ℤ) (k : ℕ) (old sets : List (List ℕ)) (days : List NumberedDay) → AreStretchOf s from k old sets days

@@ -7,11 +7,10 @@ ghost use Rattle.rr_model.specs.Sets.Least.{IsLeastOfNone, IsLeastSketch};
 ghost use Rattle.rr_word.specs.Bounded.{IsBounded, IsBounded-prop, IsFirstDay-prop};
 ghost use Rattle.rr_canon.specs.Kept.{IsKept, sketch_of};
 
-use crate::period::least_period;
 use crate::sets::TimeSets;
 use crate::stretch::{days_between, number_days};
 use rr_model::{Kind, NoMemory};
-use rr_word::{DaySeq, NumberedDays, Stretch, least_start};
+use rr_word::{DaySeq, NumberedDays, Stretch, least_period, least_start};
 use std::alloc::Global;
 
 /// The least sketch of a set: its least period, from its least start on.
@@ -83,6 +82,10 @@ impl DaySeq for LeastSeq {
             first: self.number_on(day),
             rest: &[],
         }
+    }
+
+    fn free_days(&self, _day: i64) -> u64 {
+        0
     }
 
     fn times(&self, number: u32) -> &[u32] {

@@ -2,7 +2,7 @@
 ghost use Rattle.std.specs.Prelude.{◌≡◌, ◌<◌, ◌≤◌, IfOk, IfSome, OnOk, ◌++◌, ◌∷◌, None, Some, ℕ, [], get_or, slice_get, length, neg_ℤ, pos, ◌+ℤ◌, ◌≤ℤ◌};
 ghost use Rattle.rr_model.specs.Rising.Sets.{IsSecondsOfDay};
 ghost use Rattle.rr_model.specs.Sets.Sketch.{IsNearDay, times_on};
-ghost use Rattle.rr_word.specs.Stretches.{IsNumberOn, IsStretch};
+ghost use Rattle.rr_word.specs.Stretches.{AreFree, IsNumberOn, IsStretch};
 ghost use Rattle.rr_canon.specs.Kept.{AreKnown, AreNumbersFrom, AreStretchOf, IsKnownNumber, IsPutDay, IsPutNumber};
 
 use crate::sets::TimeSets;
@@ -111,6 +111,20 @@ fn next_stretch<'a, A: DaySeq>(seq: &'a A, day: i64, rest: &'a [u32]) -> Stretch
     }
 }
 
+// For how many days from one on it is known at once that none is occupied; 0 where numbers that were read are left.
+fn free_ahead<A: DaySeq>(seq: &A, day: i64, rest: &[u32]) -> u64
+    requires low { neg_ℤ (pos 3_000_000_000_000) ≤ℤ day }
+    requires high { day ≤ℤ pos 3_000_000_000_000 }
+    ensures free { AreFree (A.sketch seq.now) day result }
+    ensures none_left { 1 ≤ result → length rest.now ≡ 0 }
+{
+    if rest.is_empty() {
+        seq.free_days(day)
+    } else {
+        0
+    }
+}
+
 // Adds a day, where it has seconds, by its number.
 fn put_day<A: DaySeq>(
     alloc: Global,
@@ -135,7 +149,8 @@ fn put_day<A: DaySeq>(
 
 /// The occupied ones of the `count` days from `from` on, with the numbers of their time sets, which are added where they are new.
 ///
-/// The seconds of each of the sequence's own sets are read once, and not on each day; so are the numbers of days in a row.
+/// The seconds of each of the sequence's own sets are read once, and not on each day; so are the numbers of days in a row. Days
+/// that are known to be free are passed over.
 pub fn number_days<A: DaySeq>(
     alloc: Global,
     seq: &A,
@@ -151,11 +166,18 @@ pub fn number_days<A: DaySeq>(
     let mut known = OwnNumbers::new(alloc);
     let mut days = NumberedDays::new(alloc);
     let mut rest: &[u32] = &[];
-    for k in 0..count {
+    let mut k = 0;
+    while k < count {
         let day = from + k as i64;
+        let free = free_ahead(seq, day, rest).min(count - k);
+        if free > 0 {
+            k += free;
+            continue;
+        }
         let stretch = next_stretch(seq, day, rest);
         put_day(alloc, seq, day, stretch.first, &mut known, sets, &mut days)?;
         rest = stretch.rest;
+        k += 1;
     }
     Ok(days)
 }

@@ -1,6 +1,6 @@
 pub mod BackLemmas
 pub mod DistinctLemmas
-pub mod PlaceLemmas
+pub mod RowLemmas
 pub mod PlacedLemmas
 pub mod SequenceLemmas
 pub mod SketchedLemmas

@@ -21,11 +21,11 @@ other_day : (x y : ℤ) → (x ≡ y → ⊥) → int_eq x y ≡ false
 other_day x y n = elim (int_eq x y) as (λ b. int_eq x y ≡ b → int_eq x y ≡ false) [ true ↦ λ e. absurd (n ((Decides-int_eq x y).0 e)) | false ↦ λ e. e ] refl
 
 -- the day itself, and other days
-with_own : (d : ℤ) (times : List ℕ) (rest : List DayShape) → times_in rest d ≡ [] → times_in (with_day d times rest) d ≡ times
+pub with_own : (d : ℤ) (times : List ℕ) (rest : List DayShape) → times_in rest d ≡ [] → times_in (with_day d times rest) d ≡ times
 with_own d [] rest none = none
 with_own d (s ∷ ss) rest none = rw (same_day d) refl
 
-with_other : (d x : ℤ) (times : List ℕ) (rest : List DayShape) → (d ≡ x → ⊥) → times_in (with_day d times rest) x ≡ times_in rest x
+pub with_other : (d x : ℤ) (times : List ℕ) (rest : List DayShape) → (d ≡ x → ⊥) → times_in (with_day d times rest) x ≡ times_in rest x
 with_other d x [] rest n = refl
 with_other d x (s ∷ ss) rest n = rw (other_day d x n) refl
 

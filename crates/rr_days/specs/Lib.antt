@@ -1,3 +1,4 @@
 pub mod Growing
+pub mod Rows
 pub mod Sequence
 pub mod Sketched

@@ -1,78 +1,151 @@
 // Days, each by the number of its time set, as a sequence that repeats.
-ghost use Rattle.std.specs.Prelude.{◌≡◌, ◌<◌, ◌≤◌, ◌+◌, ◌%◌, All, length, nat_abs, pos, neg_ℤ, ◌-ℤ◌, ◌≤ℤ◌};
+ghost use Rattle.std.specs.Prelude.{◌≡◌, ◌<◌, ◌≤◌, ◌+◌, ◌++◌, ◌%◌, [], All, IfOk, drop, get_or, length, min, nat_abs, take, pos, neg_ℤ, ◌+ℤ◌, ◌-ℤ◌, ◌≤ℤ◌};
 ghost use Rattle.rr_model.specs.Sets.Sketch.{IsFirstDay};
+ghost use Rattle.rr_runs.specs.Runs.{IsFarDay};
 ghost use Rattle.rr_word.specs.Bounded.{IsBounded, IsBounded-prop, IsFirstDay-prop};
+ghost use Rattle.rr_word.specs.Stretches.{AreFree};
+ghost use Rattle.rr_days.specs.Rows.{AreRising, AreRising-prop, AreWithin, HasEmptyFirst, first_number, sketch_of_runs};
 ghost use Rattle.rr_days.specs.Sketched.{IsFirstFilled, IsWholeFold, sketch_of};
 
-use rr_model::Kind;
+use rr_model::{Kind, NoMemory};
+use rr_runs::{Pages, RunDays};
 use rr_shapes::Shapes;
 use rr_word::{DaySeq, Stretch};
+use std::alloc::Global;
 
-/// A set of occurrences that repeats from its settled day on: the number of a time set for each day in a row, from a first one up
-/// to a period past the settled day.
+/// A set of occurrences that repeats from its settled day on: the occupied days before that day and those of one period, each
+/// with the number of its time set.
 ///
-/// Days are numbered from 1970-01-01, which is day 0. It takes four bytes for each of these days, beside its distinct time
-/// sets. `sequence` makes one.
+/// Days are numbered from 1970-01-01, which is day 0. It takes at most four bytes for each of these days, and much less where they
+/// repeat, beside its distinct time sets. `sequence` and its kin make one.
 #[derive(Drop)]
 pub struct Folded {
     kind: Kind,
     occupied: Option<i64>,
-    first: i64,
     settled: i64,
     period: u64,
-    numbers: Vec<u32>,
+    // Each number is one less than that of the day's set.
+    before: RunDays,
+    cycle: RunDays,
     shapes: Shapes,
-    ghost bounded: { IsBounded (sketch_of kind shapes numbers.items first settled period) } by { IsBounded-prop (sketch_of kind shapes numbers.items first settled period) },
-    ghost first_is: { IsFirstDay (sketch_of kind shapes numbers.items first settled period) occupied } by { IsFirstDay-prop (sketch_of kind shapes numbers.items first settled period) occupied },
-    ghost order: { first ≤ℤ settled },
-    ghost low: { neg_ℤ (pos 1_000_000_000) ≤ℤ first },
-    ghost whole: { length numbers.items ≡ nat_abs (settled -ℤ first) + period },
-    ghost within: { All (λ n. n < length shapes) numbers.items },
+    ghost bounded: { IsBounded (sketch_of_runs kind shapes before cycle settled period) } by { IsBounded-prop (sketch_of_runs kind shapes before cycle settled period) },
+    ghost first_is: { IsFirstDay (sketch_of_runs kind shapes before cycle settled period) occupied } by { IsFirstDay-prop (sketch_of_runs kind shapes before cycle settled period) occupied },
+    ghost empty: { HasEmptyFirst shapes },
+    ghost before_within: { AreWithin shapes before },
+    ghost cycle_within: { AreWithin shapes cycle },
+    ghost before_rises: { AreRising (neg_ℤ (pos 1_000_000_000)) before } by { AreRising-prop (neg_ℤ (pos 1_000_000_000)) before },
+    ghost cycle_rises: { AreRising settled cycle } by { AreRising-prop settled cycle },
 }
 
-/// The sequence whose days have these numbers: `numbers[k]` is that of the time set, in `shapes`, of the day `first + k`.
+/// The sequence whose days have these numbers: number `k` is that of the time set, in `shapes`, of the day `first + k`.
 ///
 /// There is a number for each day from `first` up to, but without, `settled + period`, and from `settled` on the days repeat
 /// every `period` days; no day before `first` is occupied. The days lie between -1,000,000,000 and 1,000,000,000, and each set
-/// is empty, or one of seconds of a day, and `[0]` alone for dates. `first` need not be occupied, and neither `settled` nor
-/// `period` need be the least ones.
+/// is empty, as set 0 is, or one of seconds of a day, and `[0]` alone for dates. `first` need not be occupied, and neither
+/// `settled` nor `period` need be the least ones.
 pub fn sequence(
+    alloc: Global,
+    kind: Kind,
+    first: i64,
+    settled: i64,
+    period: u64,
+    numbers: Pages,
+    shapes: Shapes,
+) -> Result<Folded, NoMemory>
+    requires whole { IsWholeFold kind shapes numbers first settled period }
+    requires empty { get_or shapes 0 [] ≡ [] }
+    ensures { IfOk result (λ f. ⟦<Folded as DaySeq>⟧.sketch f ≡ sketch_of kind shapes numbers first settled period) }
+{
+    let days = days_between(first, settled);
+    let mut before = Pages::new(alloc);
+    before.push_from(&numbers, 0, days)?;
+    let mut cycle = Pages::new(alloc);
+    cycle.push_from(&numbers, days, period as usize)?;
+    let folded = sequence_in_parts(kind, first, settled, period, before, cycle, shapes);
+    Ok(folded)
+}
+
+/// The sequence whose days have these numbers, as `sequence` has it.
+pub fn sequence_of_numbers(
+    alloc: Global,
     kind: Kind,
     first: i64,
     settled: i64,
     period: u64,
     numbers: Vec<u32>,
     shapes: Shapes,
-) -> Folded
-    requires { IsWholeFold kind shapes numbers.items first settled period }
-    ensures { ⟦<Folded as DaySeq>⟧.sketch result ≡ sketch_of kind shapes numbers.items first settled period }
+) -> Result<Folded, NoMemory>
+    requires whole { IsWholeFold kind shapes numbers.items first settled period }
+    requires empty { get_or shapes 0 [] ≡ [] }
+    ensures { IfOk result (λ f. ⟦<Folded as DaySeq>⟧.sketch f ≡ sketch_of kind shapes numbers.items first settled period) }
 {
-    let occupied = first_occupied(numbers.as_slice(), &shapes, first);
+    let days = days_between(first, settled);
+    let mut before = Pages::new(alloc);
+    before.push_all(first_of_row(numbers.as_slice(), days))?;
+    let mut cycle = Pages::new(alloc);
+    cycle.push_all(rest_of_row(numbers.as_slice(), days))?;
+    let folded = sequence_in_parts(kind, first, settled, period, before, cycle, shapes);
+    Ok(folded)
+}
+
+/// The sequence whose days have these numbers, as `sequence` has it, where those before the settled day and those of the period stand
+/// apart. It takes no memory.
+pub fn sequence_in_parts(
+    kind: Kind,
+    first: i64,
+    settled: i64,
+    period: u64,
+    before: Pages,
+    cycle: Pages,
+    shapes: Shapes,
+) -> Folded
+    requires whole { IsWholeFold kind shapes (before ++ cycle) first settled period }
+    requires parts { length before ≡ nat_abs (settled -ℤ first) }
+    requires empty { get_or shapes 0 [] ≡ [] }
+    ensures { ⟦<Folded as DaySeq>⟧.sketch result ≡ sketch_of kind shapes (before ++ cycle) first settled period }
+{
+    let occupied = first_occupied(&before, &cycle, &shapes, first);
+    let early = RunDays::of_row(first, before);
+    let repeated = RunDays::of_row(settled, cycle);
     Folded {
         kind,
         occupied,
-        first,
         settled,
         period,
-        numbers,
+        before: early,
+        cycle: repeated,
         shapes,
     }
 }
 
 // The first of the days whose set is not empty.
-fn first_occupied(numbers: &[u32], shapes: &Shapes, first: i64) -> Option<i64>
+fn first_occupied(before: &Pages, cycle: &Pages, shapes: &Shapes, first: i64) -> Option<i64>
     requires low { neg_ℤ (pos 1_000_000_000) ≤ℤ first }
     requires high { first ≤ℤ pos 1_000_000_000 }
-    requires few { length numbers.now ≤ 2_000_000_000 }
-    requires within { All (λ n. n < length shapes.now) numbers.now }
-    ensures { IsFirstFilled shapes.now numbers.now first result }
+    requires within { All (λ n. n < length shapes.now) (before.now ++ cycle.now) }
+    ensures { IsFirstFilled shapes.now (before.now ++ cycle.now) first result }
 {
-    for place in 0..numbers.len() {
-        if !shapes.times(numbers[place]).is_empty() {
+    for place in 0..before.len() + cycle.len() {
+        if !shapes
+            .times(number_of_place(before, cycle, place))
+            .is_empty()
+        {
             return Some(first + place as i64);
         }
     }
     None
+}
+
+// The number at a place of two lists, one after the other.
+fn number_of_place(before: &Pages, cycle: &Pages, place: usize) -> u32
+    requires { place < length before.now + length cycle.now }
+    ensures { result ≡ get_or (before.now ++ cycle.now) place 0 }
+{
+    let days = before.len();
+    if place < days {
+        return before.number_at(place);
+    }
+    cycle.number_at(place - days)
 }
 
 impl DaySeq for Folded {
@@ -102,23 +175,18 @@ impl DaySeq for Folded {
     }
 
     fn at(&self, day: i64) -> &[u32] {
-        match self.place(day) {
-            None => &[],
-            Some(place) => self.shapes.times(self.numbers[place]),
+        match self.row_on(day) {
+            [] => &[],
+            [number, ..] => self.shapes.times(*number),
         }
     }
 
     fn stretch(&self, day: i64) -> Stretch<'_> {
-        match self.place(day) {
-            None => Stretch {
-                first: None,
-                rest: &[],
-            },
-            Some(place) => Stretch {
-                first: Some(self.numbers[place]),
-                rest: &self.numbers[place + 1..],
-            },
-        }
+        stretch_of(self.row_on(day))
+    }
+
+    fn free_days(&self, day: i64) -> u64 {
+        self.free_ahead(day)
     }
 
     fn times(&self, number: u32) -> &[u32] {
@@ -127,31 +195,100 @@ impl DaySeq for Folded {
 }
 
 impl Folded {
-    ghost use Rattle.rr_days.specs.Sequence.{IsPlaceOf};
+    ghost use Rattle.rr_days.specs.Rows.{IsRowOn};
+    ghost use Rattle.rr_days.specs.Sequence.{sketch};
 
-    // The place of the number of a day; none before the first day.
-    fn place(&self, day: i64) -> Option<usize>
+    // The numbers of the sets of a day and days after it, as far as they are kept in a row.
+    fn row_on(&self, day: i64) -> &[u32]
         requires low { neg_ℤ (pos 3_000_000_000_000) ≤ℤ day }
         requires high { day ≤ℤ pos 3_000_000_000_000 }
-        ensures { IsPlaceOf self.now day result }
+        ensures { IsRowOn self.now.shapes (sketch self.now) day result.now }
     {
-        if day < self.first {
-            return None;
-        }
-        let place = (day - self.first) as usize;
-        let end = self.numbers.len();
-        if place < end {
-            return Some(place);
+        if day < self.settled {
+            return first_of_row(self.before.row_from(day), days_between(day, self.settled));
         }
         let period = self.period as usize;
-        Some(end - period + place_in_cycle(place - end, period))
+        let place = place_in_cycle(days_between(self.settled, day), period);
+        first_of_row(
+            self.cycle.row_from(day_after(self.settled, place)),
+            period - place,
+        )
+    }
+
+    // For how many days in a row from a day on it is known that none is occupied; 0 where the day is occupied.
+    fn free_ahead(&self, day: i64) -> u64
+        requires low { neg_ℤ (pos 3_000_000_000_000) ≤ℤ day }
+        requires high { day ≤ℤ pos 3_000_000_000_000 }
+        ensures { AreFree (sketch self.now) day result }
+    {
+        if self.settled > day {
+            let before = self.before.free_days(day);
+            return before.min(days_between(day, self.settled) as u64);
+        }
+        let period = self.period as usize;
+        let past = days_between(self.settled, day);
+        let place = place_in_cycle(past, period);
+        let cycle = self.cycle.free_days(day_after(self.settled, place));
+        cycle.min((period - place) as u64)
     }
 }
 
-// How far into a cycle a day lies that comes `past` days after the end of the first one.
+// How far into a cycle a day lies that comes `past` days after the settled day.
 fn place_in_cycle(past: usize, period: usize) -> usize
     requires { 1 ≤ period }
     ensures { result ≡ past % period }
 {
     if past < period { past } else { past % period }
+}
+
+// How many days lie from one day to another.
+fn days_between(from: i64, to: i64) -> usize
+    requires order { from ≤ℤ to }
+    requires low { neg_ℤ (pos 3_000_000_000_000) ≤ℤ from }
+    requires high { to ≤ℤ pos 3_000_000_000_000 }
+    ensures { to ≡ from +ℤ pos result }
+{
+    (to - from) as usize
+}
+
+// The day so many days after another.
+fn day_after(day: i64, days: usize) -> i64
+    requires low { neg_ℤ (pos 1_000_000_000) ≤ℤ day }
+    requires high { day ≤ℤ pos 1_000_000_000 }
+    requires few { days ≤ 1_000_000_000 }
+    ensures { result ≡ day +ℤ pos days }
+{
+    day + days as i64
+}
+
+// The first numbers of a row, at most so many.
+fn first_of_row(row: &[u32], most: usize) -> &[u32]
+    ensures { result.now ≡ take (min (length row.now) most) row.now }
+{
+    &row[..row.len().min(most)]
+}
+
+// The numbers of a row after the first ones.
+fn rest_of_row(row: &[u32], from: usize) -> &[u32]
+    requires { from ≤ length row.now }
+    ensures { result.now ≡ drop from row.now }
+{
+    &row[from..]
+}
+
+// The first number of a row, and those after it.
+fn stretch_of(row: &[u32]) -> Stretch<'_>
+    ensures first { result.first ≡ first_number row.now }
+    ensures rest { result.rest.now ≡ drop 1 row.now }
+{
+    match row {
+        [] => Stretch {
+            first: None,
+            rest: &[],
+        },
+        [number, rest @ ..] => Stretch {
+            first: Some(*number),
+            rest,
+        },
+    }
 }

@@ -4,4 +4,4 @@
 
 mod folded;
 
-pub use folded::{Folded, sequence};
+pub use folded::{Folded, sequence, sequence_in_parts, sequence_of_numbers};

@@ -1,14 +1,15 @@
 -- What the next second of two rising lists, and the seconds after it, show of the whole lists.
-use Rattle.std.proofs.Common.{◌≡◌, ◌↔◌, ◌⊎◌, inl, inr, ℕ, ◌<◌, Bool, false, List, [], refl, sym, subst, ◌∙◌}
+use Rattle.std.proofs.Common.{◌≡◌, ◌↔◌, ◌⊎◌, inl, inr, ℕ, min, max, ◌<◌, Bool, false, List, [], refl, sym, subst, ◌∙◌, arith}
 use Rattle.std.specs.Prelude.{IsTrue}
 use Rattle.std.specs.List.{Contains}
-use Rattle.std.proofs.lemmas.Bool.{cases_order, false≢true}
+use Rattle.std.proofs.lemmas.Bool.{cases_lt, cases_order, false≢true}
 use Rattle.rr_model.specs.Sets.Verdict.{HoldsOn}
 use Rattle.rr_model.specs.declared.verdict.Side.{Side}
 use Rattle.rr_model.specs.declared.verdict.Side.TheVariants.{A, B, Both}
 use Rattle.rr_model.proofs.RisingSetLemmas.{Contains-none}
 use Rattle.rr_word.specs.Merge.{IsNextSecond}
-use Rattle.rr_decide.specs.Question.{IsShown, ShowsNone, IsFirstShown}
+use Rattle.rr_decide.specs.Question.{IsShown, ShowsNone, ShowsNoneBelow, IsFirstShown, shown_by}
+use Rattle.rr_decide.specs.declared.question.Question.TheVariants.{Equal, Within, Disjoint}
 
 -- ---- sides
 
@@ -94,4 +95,23 @@ empty_shows_none shows xs ys e f w (r, t, h) =
     elim (HoldsOn-some r (Contains xs w) (Contains ys w) h) [
       | inl c ↦ Contains-none w (subst (λ (l : List ℕ). Contains l w) e c)
       | inr c ↦ Contains-none w (subst (λ (l : List ℕ). Contains l w) f c)
+    ]
+
+-- ---- where a list is empty
+
+pub none_below_equal : (a b n : ℕ) → n ≡ min a b → ShowsNoneBelow (shown_by Equal) a b n
+none_below_equal a b n e k l xs ys ex ey = empty_shows_none (shown_by Equal) xs ys (ex (omega arith)) (ey (omega arith))
+
+pub none_below_within : (a b : ℕ) → ShowsNoneBelow (shown_by Within) a b a
+none_below_within a b k l xs ys ex ey w (A, t, h) = Contains-none w (subst (λ (l : List ℕ). Contains l w) (ex l) h.0)
+none_below_within a b k l xs ys ex ey w (B, t, h) = false≢true t
+none_below_within a b k l xs ys ex ey w (Both, t, h) = false≢true t
+
+pub none_below_disjoint : (a b n : ℕ) → n ≡ max a b → ShowsNoneBelow (shown_by Disjoint) a b n
+none_below_disjoint a b n e k l xs ys ex ey w (A, t, h) = false≢true t
+none_below_disjoint a b n e k l xs ys ex ey w (B, t, h) = false≢true t
+none_below_disjoint a b n e k l xs ys ex ey w (Both, t, h) =
+    elim (cases_lt k a) [
+      | inl la ↦ Contains-none w (subst (λ (l : List ℕ). Contains l w) (ex la) h.0)
+      | inr ga ↦ Contains-none w (subst (λ (l : List ℕ). Contains l w) (ey (omega arith)) h.1)
     ]

@@ -2,14 +2,18 @@
 use Rattle.std.proofs.Common.{◌≡◌, ◌⊎◌, inl, inr, ℕ, ◌+◌, ◌<◌, ◌≤◌, Bool, List, [], length, get_or, ℤ, pos, nat_abs, ◌+ℤ◌, ◌-ℤ◌, sym, ap, subst, ◌∙◌, arith}
 use Rattle.std.specs.Prelude.{MatchOption, IfSome, Option, None, Some, slice_get, unwrap_or}
 use Rattle.std.proofs.lemmas.Int.{ints, by_lt_z}
+use Rattle.std.proofs.lemmas.Bool.{cases_lt}
+use Rattle.std.proofs.lemmas.List.{get_or-replicate, length-replicate}
 use Rattle.std.proofs.lemmas.Option.{slice_get_within}
+use Rattle.std.proofs.Math.ListN.{replicate}
 use Rattle.rr_model.specs.Sets.Sketch.{times_on}
 use Rattle.rr_model.specs.declared.sketch.Sketch.{Sketch}
 use Rattle.rr_model.specs.declared.verdict.Side.{Side}
 use Rattle.rr_model.proofs.PeriodicLemmas.{offset}
 use Rattle.rr_word.specs.Stretches.{IsNumberOn, IsStretch}
 use Rattle.rr_decide.specs.Question.{ShowsNone, ShowsNoneWithin}
-use Rattle.rr_decide.specs.Quiet.{AreRemembered, IsQuiet, IsRemembered, ShowNothing}
+use Rattle.rr_decide.specs.Quiet.{AreRemembered, HasPair, IsPair, IsPlaced, IsQuiet, IsRecent, ShowNothing, WereThere}
+use Rattle.rr_decide.specs.declared.quiet.Pair.{Pair}
 use Rattle.rr_decide.specs.declared.quiet.Quiet.{Quiet}
 
 -- ---- one day
@@ -28,7 +32,7 @@ seconds_of_day sets s d (Some n) xs on e = one_set xs (times_on s d) (sym e ∙ 
 
 module _ (shows : Side → Bool) (sets_a sets_b : List (List ℕ)) (s u : Sketch) where
   -- a day whose numbers are remembered shows nothing
-  pub remembered_day : (d : ℤ) (q : Option Quiet) (a b : Option ℕ) → IsNumberOn sets_a s d a → IsNumberOn sets_b u d b → IsQuiet shows sets_a sets_b q
+  pub remembered_day : (d : ℤ) (q : Quiet) (a b : Option ℕ) → IsNumberOn sets_a s d a → IsNumberOn sets_b u d b → IsQuiet shows sets_a sets_b q
       → AreRemembered q a b → ShowsNone shows (times_on s d) (times_on u d)
   remembered_day d q (Some a) (Some b) on_a on_b quiet known = quiet a b known (times_on s d) (times_on u d) on_a on_b
   remembered_day d q (Some a) None on_a on_b quiet known = absurd known
@@ -42,8 +46,8 @@ module _ (shows : Side → Bool) (sets_a sets_b : List (List ℕ)) (s u : Sketch
       let y : times_on u d ≡ ys = one_set (times_on u d) ys (sym on_b ∙ ey) in
       rw (x, y) at none
 
-  pub quiet_after : (d : ℤ) (q r : Option Quiet) (a b : Option ℕ) → IsNumberOn sets_a s d a → IsNumberOn sets_b u d b → IsQuiet shows sets_a sets_b q
-      → ShowsNone shows (times_on s d) (times_on u d) → ((x y : ℕ) → IsRemembered r x y → IsRemembered q x y ⊎ ((a ≡ Some x) × (b ≡ Some y)))
+  pub quiet_after : (d : ℤ) (q r : Quiet) (a b : Option ℕ) → IsNumberOn sets_a s d a → IsNumberOn sets_b u d b → IsQuiet shows sets_a sets_b q
+      → ShowsNone shows (times_on s d) (times_on u d) → ((x y : ℕ) → HasPair r x y → HasPair q x y ⊎ ((a ≡ Some x) × (b ≡ Some y)))
       → IsQuiet shows sets_a sets_b r
   quiet_after d q r a b on_a on_b quiet none from x y known =
       elim (from x y known) [
@@ -54,20 +58,56 @@ module _ (shows : Side → Bool) (sets_a sets_b : List (List ℕ)) (s u : Sketch
 
   -- ---- a day and those after it
 
-  module _ (day : ℤ) (n : ℕ) (q : Option Quiet) (fa fb : Option ℕ) (xs ys : List ℕ) (of_a : IsStretch sets_a s day fa xs) (of_b : IsStretch sets_b u day fb ys)
+  module _ (day : ℤ) (n : ℕ) (q : Quiet) (fa fb : Option ℕ) (xs ys : List ℕ) (of_a : IsStretch sets_a s day fa xs) (of_b : IsStretch sets_b u day fb ys)
       (quiet : IsQuiet shows sets_a sets_b q) (few_a : n ≤ length xs) (few_b : n ≤ length ys)
-      (known : (j : ℕ) → j < n → IsRemembered q (get_or xs j 0) (get_or ys j 0)) where
+      (known : (j : ℕ) → j < n → HasPair q (get_or xs j 0) (get_or ys j 0)) where
     later_day : (j : ℕ) → j < n → ShowsNone shows (times_on s ((day +ℤ pos 1) +ℤ pos j)) (times_on u ((day +ℤ pos 1) +ℤ pos j))
     later_day j l =
         quiet (get_or xs j 0) (get_or ys j 0) (known j l) (times_on s ((day +ℤ pos 1) +ℤ pos j)) (times_on u ((day +ℤ pos 1) +ℤ pos j))
         (of_a.of_later j (omega arith)) (of_b.of_later j (omega arith))
 
-    pub none_in_stretch : (from : ℤ) (k to : ℕ) → day ≡ from +ℤ pos k → to ≡ k + (1 + n) → ShowsNoneWithin shows s u from (from +ℤ pos k)
-        → ShowsNone shows (times_on s day) (times_on u day) → ShowsNoneWithin shows s u from (from +ℤ pos to)
-    none_in_stretch from k to e et before here d low high =
+    pub none_in_stretch : (from : ℤ) (to : ℕ) → from ≡ day → to ≡ 1 + n → ShowsNone shows (times_on s day) (times_on u day)
+        → ShowsNoneWithin shows s u from (from +ℤ pos to)
+    none_in_stretch from to e et here d low high =
         let P : Type 0 = ShowsNone shows (times_on s d) (times_on u d) in
-        by_lt_z {P = P} d day (λ l. before d low (omega (arith, ints))) (λ g.
         by_lt_z {P = P} d (day +ℤ pos 1) (λ l. (let i : d ≡ day = omega (arith, ints) in rw i here)) (λ h.
         let j = nat_abs (d -ℤ (day +ℤ pos 1)) in
         let at : d ≡ (day +ℤ pos 1) +ℤ pos j = offset (day +ℤ pos 1) d (omega (arith, ints)) in
-        subst (λ (x : ℤ). ShowsNone shows (times_on s x) (times_on u x)) (sym at) (later_day j (omega (arith, ints)))))
+        subst (λ (x : ℤ). ShowsNone shows (times_on s x) (times_on u x)) (sym at) (later_day j (omega (arith, ints))))
+
+-- ---- what is remembered
+
+nothing_is_no_pair : (p : Pair) (o : Option Pair) → o ≡ None → o ≡ Some p → ⊥
+nothing_is_no_pair p o e f = cc
+
+-- no pair is at any of `n` empty places
+pub none_there : (n a b : ℕ) → IsPlaced (replicate n None) a b → ⊥
+none_there n a b h =
+    nothing_is_no_pair (record { a = a; b = b }) (get_or (replicate n None) h.0 None)
+    (get_or-replicate n h.0 None None (omega (arith, h.1, length-replicate {A = Option Pair} n None))) h.2
+
+-- a remembered pair that becomes the last one
+pub brought_forward : (q r : Quiet) (p : Pair) → r.slots ≡ q.slots → ((a b : ℕ) → IsRecent r.recent a b → IsRecent q.recent a b ⊎ IsPair p a b)
+    → HasPair q p.a p.b → WereThere q r
+brought_forward q r p same recent has a b (inl h) = elim (recent a b h) [ inl old ↦ inl old | inr is ↦ rw (is.0, is.1) has ]
+brought_forward q r p same recent has a b (inr h) = inr (subst (λ (l : List (Option Pair)). IsPlaced l a b) same h)
+
+-- the pairs of one place more
+pub has_more : (q r : Quiet) (xs ys : List ℕ) (from i x y : ℕ) → ((k : ℕ) → from ≤ k → k < i → HasPair q (get_or xs k 0) (get_or ys k 0))
+    → WereThere q r → x ≡ get_or xs i 0 → y ≡ get_or ys i 0 → HasPair r x y → (k : ℕ) → from ≤ k → k < i + 1 → HasPair q (get_or xs k 0) (get_or ys k 0)
+has_more q r xs ys from i x y before kept ex ey here k low high =
+    elim (cases_lt k i) [
+      | inl l ↦ before k low l
+      | inr g ↦ (let e : k ≡ i = omega arith in rw e (kept (get_or xs i 0) (get_or ys i 0) (rw (← ex, ← ey) here)))
+    ]
+
+-- the last two pairs up to a place, and any from it on
+pub has_either : (q : Quiet) (xs ys : List ℕ) (i m j : ℕ) → ((k : ℕ) → i ≤ k → k < m → IsRecent q.recent (get_or xs k 0) (get_or ys k 0))
+    → ((k : ℕ) → m ≤ k → k < j → HasPair q (get_or xs k 0) (get_or ys k 0)) → (k : ℕ) → i ≤ k → k < j → HasPair q (get_or xs k 0) (get_or ys k 0)
+has_either q xs ys i m j recent more k low high = elim (cases_lt k m) [ inl l ↦ inl (recent k low l) | inr g ↦ more k g high ]
+
+-- the pairs of more places
+pub has_joined : (q r : Quiet) (xs ys : List ℕ) (i j : ℕ) → ((k : ℕ) → k < i → HasPair q (get_or xs k 0) (get_or ys k 0)) → WereThere q r
+    → ((k : ℕ) → i ≤ k → k < j → HasPair r (get_or xs k 0) (get_or ys k 0)) → (k : ℕ) → k < j → HasPair q (get_or xs k 0) (get_or ys k 0)
+has_joined q r xs ys i j before kept more k high =
+    elim (cases_lt k i) [ inl l ↦ before k l | inr g ↦ kept (get_or xs k 0) (get_or ys k 0) (more k g high) ]

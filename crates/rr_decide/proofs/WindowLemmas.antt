@@ -1,5 +1,5 @@
 -- For how many days past both settled days a question is to be asked.
-use Rattle.std.proofs.Common.{◌≡◌, inl, inr, ℕ, ◌+◌, min, ◌≤◌, Bool, List, ℤ, pos, ◌+ℤ◌, ◌≤ℤ◌, refl, sym, subst, arith}
+use Rattle.std.proofs.Common.{◌≡◌, inl, inr, ℕ, ◌+◌, min, ◌≤◌, Bool, List, ℤ, pos, nat_abs, ◌+ℤ◌, ◌-ℤ◌, ◌≤ℤ◌, refl, sym, subst, arith}
 use Rattle.std.specs.List.{Contains}
 use Rattle.std.specs.Prelude.{nat_lt}
 use Rattle.std.proofs.lemmas.Bool.{cases_lt, false≢true}
@@ -12,9 +12,11 @@ use Rattle.rr_model.specs.declared.sketch.Sketch.{Sketch}
 use Rattle.rr_model.specs.declared.verdict.Side.{Side}
 use Rattle.rr_model.specs.declared.verdict.Side.TheVariants.{A, B, Both}
 use Rattle.rr_num.proofs.DivisorLemmas.{lcm_is, lcm_some}
+use Rattle.rr_model.proofs.PeriodicLemmas.{offset}
 use Rattle.rr_model.proofs.SecondsLemmas.{Contains-or_not, one_list}
 use Rattle.rr_word.proofs.SketchLemmas.{agreement_of_sketches_lasts, common_window, rising_on}
-use Rattle.rr_decide.specs.Question.{HasNoneBefore, IsFirstDayShown, IsFirstShown, IsWindow, ShowsNone, ShowsNoneWithin, shown_by}
+use Rattle.rr_word.specs.Stretches.{AreFree}
+use Rattle.rr_decide.specs.Question.{HasNoneBefore, IsFirstDayShown, IsFirstShown, IsWindow, ShowsNone, ShowsNoneBelow, ShowsNoneWithin, shown_by}
 use Rattle.rr_decide.specs.declared.question.Question.TheVariants.{Equal}
 use Rattle.rr_decide.proofs.StandsLemmas.{none_before_first}
 
@@ -93,3 +95,32 @@ least_equal_window s u p r c vs vu ep er ec =
       | inl l ↦ lcm_window (shown_by Equal) s u p r c vs vu ep er (omega arith)
       | inr g ↦ (let is : c ≡ s.period + u.period = omega arith in rw is (equal_window s u vs vu))
     ]
+
+-- ---- days in a row
+
+-- no day shows it below a number of days on which it can't be shown
+pub none_while_free : (shows : Side → Bool) (s u : Sketch) (from day : ℤ) (a b free n : ℕ) → from ≡ day → ShowsNoneBelow shows a b free → AreFree s day a
+    → AreFree u day b → n ≤ free → ShowsNoneWithin shows s u from (from +ℤ pos n)
+none_while_free shows s u from day a b free n e none free_s free_u le d low high =
+    let k = nat_abs (d -ℤ day) in
+    let at : d ≡ day +ℤ pos k = offset day d (omega (arith, ints)) in
+    subst (λ (x : ℤ). ShowsNone shows (times_on s x) (times_on u x)) (sym at)
+    (none k (omega (arith, ints)) (times_on s (day +ℤ pos k)) (times_on u (day +ℤ pos k)) (free_s k) (free_u k))
+
+-- the days up to one, and those from it on
+pub none_joined : (shows : Side → Bool) (s u : Sketch) (from day : ℤ) (k n to : ℕ) → day ≡ from +ℤ pos k → to ≡ k + n
+    → ShowsNoneWithin shows s u from (from +ℤ pos k) → ShowsNoneWithin shows s u day (day +ℤ pos n) → ShowsNoneWithin shows s u from (from +ℤ pos to)
+none_joined shows s u from day k n to e et before more d low high =
+    let P : Type 0 = ShowsNone shows (times_on s d) (times_on u d) in
+    by_lt_z {P = P} d day (λ l. before d low (omega (arith, ints))) (λ g. more d g (omega (arith, ints)))
+
+-- the first day from one on, where no day before that one shows it
+pub first_joined : (shows : Side → Bool) (s u : Sketch) (from from' day found : ℤ) (k x : ℕ) (side : Side) → from' ≡ from → day ≡ from' +ℤ pos k
+    → ShowsNoneWithin shows s u from' (from' +ℤ pos k) → IsFirstDayShown shows s u day found x side → IsFirstDayShown shows s u from found x side
+first_joined shows s u from from' day found k x side ef e before first = record {
+  not_before = omega (arith, ints, first.not_before);
+  none_earlier = λ d low high.
+      let P : Type 0 = ShowsNone shows (times_on s d) (times_on u d) in
+      by_lt_z {P = P} d day (λ l. before d (omega (arith, ints)) (omega (arith, ints))) (λ g. first.none_earlier d g high);
+  on_day = first.on_day;
+}

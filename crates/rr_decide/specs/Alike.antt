@@ -1,13 +1,15 @@
 -- Numbers under which two tables have the same set.
-use Rattle.std.specs.Prelude.{◌≡◌, ◌⊎◌, ℕ, ◌<◌, ◌≤◌, List, Option, Some, slice_get, ℤ}
+use Rattle.std.specs.Prelude.{◌≡◌, ◌⊎◌, ℕ, ◌<◌, ◌≤◌, List, Option, Some, slice_get, ℤ, pos, ◌+ℤ◌, ◌≤ℤ◌}
 use Rattle.rr_model.specs.Sets.Sketch.{times_on}
 use Rattle.rr_model.specs.declared.sketch.Sketch.{Sketch}
 use Rattle.rr_decide.specs.Look.{IsShownOn}
-use Rattle.rr_decide.specs.Question.{ShowsNone, shown_by}
+use Rattle.rr_decide.specs.Question.{IsFirstDayShown, ShowsNone, ShowsNoneWithin, shown_by}
 use Rattle.rr_decide.specs.declared.question.Question.TheVariants.{Equal}
 use Rattle.rr_decide.specs.declared.long.AlikeNumbers.{AlikeNumbers}
 use Rattle.rr_decide.specs.declared.long.Comparison.{Comparison}
+use Rattle.rr_decide.specs.declared.long.Run.{Run}
 use Rattle.rr_decide.specs.declared.long.Comparison.TheVariants.{Unlike, Alike}
+use Rattle.rr_decide.specs.declared.long.Run.TheVariants.{Differs, Agrees}
 
 -- under each number of the stretch both tables have the same set
 abbrev pub AreAlike : List (List ℕ) → List (List ℕ) → AlikeNumbers → Type 0
@@ -26,3 +28,16 @@ IsNextAlike a b old new =
 abbrev pub IsCompared : List (List ℕ) → List (List ℕ) → Sketch → Sketch → ℤ → Comparison → Type 0
 IsCompared sets_a sets_b s u day (Unlike r) = IsShownOn (shown_by Equal) s u day r
 IsCompared sets_a sets_b s u day (Alike numbers) = ShowsNone (shown_by Equal) (times_on s day) (times_on u day) × AreAlike sets_a sets_b numbers
+
+-- the first day from this one on that differs, by its first second; else so many of at most `most` days are alike, and so are the
+-- sets of these numbers
+abbrev pub IsRun : List (List ℕ) → List (List ℕ) → Sketch → Sketch → ℤ → ℕ → Run → Type 0
+IsRun sets_a sets_b s u day most (Differs r) =
+    IsFirstDayShown (shown_by Equal) s u day r.day r.second r.side × (r.day ≤ℤ pos 3_000_000_000_000)
+IsRun sets_a sets_b s u day most (Agrees n numbers) =
+    (1 ≤ n) × (n ≤ most) × ShowsNoneWithin (shown_by Equal) s u day (day +ℤ pos n) × AreAlike sets_a sets_b numbers
+
+-- how many days were compared, at most
+abbrev pub days_of : ℕ → Run → ℕ
+days_of most (Differs r) = most
+days_of most (Agrees n numbers) = n

@@ -1,10 +1,9 @@
 -- What one day shows of two sketches.
-use Rattle.std.specs.Prelude.{◌≡◌, Bool, ℕ, ℤ, List, Option, None, Some}
+use Rattle.std.specs.Prelude.{◌≡◌, ◌≤◌, Bool, ℕ, ℤ, pos, ◌+ℤ◌, List, Option, None, Some}
 use Rattle.rr_model.specs.Sets.Sketch.{times_on}
 use Rattle.rr_model.specs.declared.sketch.Sketch.{Sketch}
 use Rattle.rr_model.specs.declared.verdict.Side.{Side}
-use Rattle.rr_decide.specs.Question.{IsFirstShown, ShowsNone}
-use Rattle.rr_decide.specs.Quiet.{IsQuiet}
+use Rattle.rr_decide.specs.Question.{IsFirstShown, ShowsNone, ShowsNoneWithin}
 use Rattle.rr_decide.specs.declared.days.Look.{Look}
 use Rattle.rr_decide.specs.declared.days.Look.TheVariants.{Shows, Quiet}
 use Rattle.rr_decide.specs.declared.days.Shown.{Shown}
@@ -18,7 +17,7 @@ abbrev pub IsFirstOn : (Side → Bool) → Sketch → Sketch → ℤ → Option 
 IsFirstOn shows s u day None = ShowsNone shows (times_on s day) (times_on u day)
 IsFirstOn shows s u day (Some r) = IsShownOn shows s u day r
 
--- what the day shows; where it shows nothing, nor does what is remembered after it
-abbrev pub IsLook : (Side → Bool) → List (List ℕ) → List (List ℕ) → Sketch → Sketch → ℤ → Look → Type 0
-IsLook shows sets_a sets_b s u day (Shows r) = IsShownOn shows s u day r
-IsLook shows sets_a sets_b s u day (Quiet q) = ShowsNone shows (times_on s day) (times_on u day) × IsQuiet shows sets_a sets_b q
+-- what the days from this one on show, of at most so many
+abbrev pub IsLook : (Side → Bool) → Sketch → Sketch → ℤ → ℕ → Look → Type 0
+IsLook shows s u day most (Shows r) = IsShownOn shows s u day r
+IsLook shows s u day most (Quiet n) = (1 ≤ n) × (n ≤ most) × ShowsNoneWithin shows s u day (day +ℤ pos n)

@@ -41,6 +41,10 @@ IsVerdictBy shows P Q (No k t side) =
 abbrev pub ShowsNone : (Side → Bool) → List ℕ → List ℕ → Type 0
 ShowsNone shows xs ys = (w : ℕ) → IsShown shows (Contains xs w) (Contains ys w) → ⊥
 
+-- at no place below n a second shows it, where the first lists are empty below a and the second below b
+abbrev pub ShowsNoneBelow : (Side → Bool) → ℕ → ℕ → ℕ → Type 0
+ShowsNoneBelow shows a b n = (k : ℕ) → k < n → (xs ys : List ℕ) → (k < a → xs ≡ []) → (k < b → ys ≡ []) → ShowsNone shows xs ys
+
 -- the first second of the two lists that shows it, and its side
 pub record IsFirstShown (shows : Side → Bool) (xs ys : List ℕ) (second : ℕ) (side : Side) : Type 0 where
   pub shown : IsTrue (shows side)

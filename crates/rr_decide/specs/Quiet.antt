@@ -1,28 +1,46 @@
 -- Numbers of time sets that together show nothing.
-use Rattle.std.specs.Prelude.{◌≡◌, ◌⊎◌, Bool, ℕ, List, Option, None, Some, slice_get}
+use Rattle.std.specs.Prelude.{◌≡◌, ◌⊎◌, Bool, ℕ, ◌<◌, List, Option, None, Some, length, slice_get, slice_index_or}
 use Rattle.rr_model.specs.declared.verdict.Side.{Side}
 use Rattle.rr_decide.specs.Question.{ShowsNone}
+use Rattle.rr_decide.specs.declared.quiet.Pair.{Pair}
 use Rattle.rr_decide.specs.declared.quiet.Quiet.{Quiet}
+use Rattle.rr_decide.specs.declared.quiet.Recent.{Recent}
 
 -- the sets of the two numbers show nothing
 abbrev pub ShowNothing : (Side → Bool) → List (List ℕ) → List (List ℕ) → ℕ → ℕ → Type 0
 ShowNothing shows sets_a sets_b a b = (xs ys : List ℕ) → slice_get sets_a a ≡ Some xs → slice_get sets_b b ≡ Some ys → ShowsNone shows xs ys
 
--- the pair is one of the two
-abbrev pub HasPair : Quiet → ℕ → ℕ → Type 0
-HasPair q a b = ((a ≡ q.last.a) × (b ≡ q.last.b)) ⊎ ((a ≡ q.earlier.a) × (b ≡ q.earlier.b))
+-- these are the pair's numbers
+abbrev pub IsPair : Pair → ℕ → ℕ → Type 0
+IsPair pair a b = (a ≡ pair.a) × (b ≡ pair.b)
+
+-- the pair is one of the last two
+abbrev pub IsRecent : Option Recent → ℕ → ℕ → Type 0
+IsRecent None a b = ⊥
+IsRecent (Some r) a b = IsPair r.last a b ⊎ IsPair r.earlier a b
+
+-- the pair is at some place
+abbrev pub IsPlaced : List (Option Pair) → ℕ → ℕ → Type 0
+IsPlaced slots a b = (k : ℕ) × (k < length slots) × (slice_index_or slots k None ≡ Some (record { a = a; b = b }))
 
 -- the pair is remembered
-abbrev pub IsRemembered : Option Quiet → ℕ → ℕ → Type 0
-IsRemembered None a b = ⊥
-IsRemembered (Some q) a b = HasPair q a b
+abbrev pub HasPair : Quiet → ℕ → ℕ → Type 0
+HasPair q a b = IsRecent q.recent a b ⊎ IsPlaced q.slots a b
+
+-- each pair was there
+abbrev pub WereThere : Quiet → Quiet → Type 0
+WereThere old new = (a b : ℕ) → HasPair new a b → HasPair old a b
+
+-- each pair was there or is this one
+abbrev pub WereThereOr : Quiet → Quiet → Pair → Type 0
+WereThereOr old new pair = (a b : ℕ) → HasPair new a b → HasPair old a b ⊎ IsPair pair a b
 
 -- both numbers are there, and remembered
-abbrev pub AreRemembered : Option Quiet → Option ℕ → Option ℕ → Type 0
-AreRemembered q (Some a) (Some b) = IsRemembered q a b
+abbrev pub AreRemembered : Quiet → Option ℕ → Option ℕ → Type 0
+AreRemembered q (Some a) (Some b) = HasPair q a b
 AreRemembered q (Some a) None = ⊥
 AreRemembered q None b = ⊥
 
 -- what is remembered shows nothing
-abbrev pub IsQuiet : (Side → Bool) → List (List ℕ) → List (List ℕ) → Option Quiet → Type 0
-IsQuiet shows sets_a sets_b q = (a b : ℕ) → IsRemembered q a b → ShowNothing shows sets_a sets_b a b
+abbrev pub IsQuiet : (Side → Bool) → List (List ℕ) → List (List ℕ) → Quiet → Type 0
+IsQuiet shows sets_a sets_b q = (a b : ℕ) → HasPair q a b → ShowNothing shows sets_a sets_b a b

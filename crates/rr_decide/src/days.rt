@@ -1,5 +1,5 @@
 // A walk over the days of two sequences.
-ghost use Rattle.std.specs.Prelude.{◌≡◌, ◌<◌, ◌≤◌, [], IfSome, IfNone, MatchOption, Some, length, slice_get, pos, ◌+ℤ◌, ◌≤ℤ◌};
+ghost use Rattle.std.specs.Prelude.{◌≡◌, ◌<◌, ◌≤◌, [], IfSome, IfNone, MatchOption, Some, length, slice_get, pos, neg_ℤ, ◌+ℤ◌, ◌≤ℤ◌};
 ghost use Rattle.rr_model.specs.Sets.Sketch.{IsNearDay, StandsIn};
 ghost use Rattle.rr_word.specs.Stretches.{IsNumberOn};
 ghost use Rattle.rr_decide.specs.Look.{IsFirstOn, IsLook};
@@ -8,7 +8,7 @@ ghost use Rattle.rr_decide.specs.Quiet.{IsQuiet};
 
 use crate::merge::first_shown;
 use crate::question::Question;
-use crate::quiet::{Quiet, are_remembered, count_remembered, remember};
+use crate::quiet::{Quiet, are_remembered, remember};
 use rr_model::Side;
 use rr_word::DaySeq;
 
@@ -37,28 +37,53 @@ pub fn first_day_shown<A: DaySeq, B: DaySeq>(
     ensures some { IfSome result (λ r. IsFirstDayShown (shown_by question) (A.sketch a.now) (B.sketch b.now) from r.day r.second r.side) }
     ensures high { IfSome result (λ r. r.day ≤ℤ pos 3_000_000_000_000) }
 {
-    let mut quiet = None;
+    let mut quiet = Quiet::new();
     let mut k = 0;
     while k < days {
-        let day = from + k as i64;
-        let of_a = a.stretch(day);
-        let of_b = b.stretch(day);
-        match look_at_day(question, a, b, day, of_a.first, of_b.first, quiet) {
+        match look_from(question, a, b, from + k as i64, days - k, &mut quiet) {
             Look::Shows(shown) => return Some(shown),
-            Look::Quiet(remembered) => quiet = remembered,
+            Look::Quiet(count) => k += count,
         }
-        let left = (days - k - 1) as usize;
-        k += 1 + count_remembered(quiet, of_a.rest, of_b.rest, left) as u64;
     }
     None
 }
 
-// What a day shows.
+// What the days from one on show.
 enum Look {
-    // The first second that shows that the answer is no.
+    // The first second of the first day that shows that the answer is no.
     Shows(Shown),
-    // Nothing; and what is remembered after it.
-    Quiet(Option<Quiet>),
+    // So many days show nothing.
+    Quiet(u64),
+}
+
+// What the days from one on show, of at most `most`: those on which the sets can't show anything since they are free, or else the
+// first day and those after it whose numbers are remembered.
+fn look_from<A: DaySeq, B: DaySeq>(
+    question: Question,
+    a: &A,
+    b: &B,
+    day: i64,
+    most: u64,
+    quiet: &mut Quiet,
+) -> Look
+    requires low { neg_ℤ (pos 1_000_000_000) ≤ℤ day }
+    requires high { day ≤ℤ pos 6_000_000_000 }
+    requires some { 1 ≤ most }
+    requires few { most ≤ 5_000_000_000 }
+    requires quiet { IsQuiet (shown_by question) (A.sets a.now) (B.sets b.now) quiet.old }
+    ensures look { IsLook (shown_by question) (A.sketch a.now) (B.sketch b.now) day most result }
+    ensures quiet { IsQuiet (shown_by question) (A.sets a.now) (B.sets b.now) quiet.new }
+{
+    let free = question.days_without(a.free_days(day), b.free_days(day));
+    if free > 0 {
+        return Look::Quiet(free.min(most));
+    }
+    let of_a = a.stretch(day);
+    let of_b = b.stretch(day);
+    match look_at_day(question, a, b, day, of_a.first, of_b.first, quiet) {
+        Some(shown) => Look::Shows(shown),
+        None => Look::Quiet(1 + quiet.count(of_a.rest, of_b.rest, (most - 1) as usize) as u64),
+    }
 }
 
 // What a day shows, by the numbers of its sets.
@@ -69,19 +94,23 @@ fn look_at_day<A: DaySeq, B: DaySeq>(
     day: i64,
     of_a: Option<u32>,
     of_b: Option<u32>,
-    quiet: Option<Quiet>,
-) -> Look
+    quiet: &mut Quiet,
+) -> Option<Shown>
     requires first { IsNumberOn (A.sets a.now) (A.sketch a.now) day of_a }
     requires second { IsNumberOn (B.sets b.now) (B.sketch b.now) day of_b }
-    requires quiet { IsQuiet (shown_by question) (A.sets a.now) (B.sets b.now) quiet }
-    ensures { IsLook (shown_by question) (A.sets a.now) (B.sets b.now) (A.sketch a.now) (B.sketch b.now) day result }
+    requires quiet { IsQuiet (shown_by question) (A.sets a.now) (B.sets b.now) quiet.old }
+    ensures shown { IsFirstOn (shown_by question) (A.sketch a.now) (B.sketch b.now) day result }
+    ensures quiet { IsQuiet (shown_by question) (A.sets a.now) (B.sets b.now) quiet.new }
 {
     if are_remembered(quiet, of_a, of_b) {
-        return Look::Quiet(quiet);
+        return None;
     }
     match shown_on_day(question, a, b, day, of_a, of_b) {
-        Some(shown) => Look::Shows(shown),
-        None => Look::Quiet(remember(quiet, of_a, of_b)),
+        Some(shown) => Some(shown),
+        None => {
+            remember(quiet, of_a, of_b);
+            None
+        }
     }
 }
 

@@ -3,7 +3,7 @@ ghost use Rattle.std.specs.Prelude.{◌≡◌, ◌⊎◌, ◌+◌, ◌-◌, ◌*
 ghost use Rattle.rr_model.specs.Sets.Sketch.{IsEmptySketch, IsNearDay, StandsIn};
 ghost use Rattle.rr_model.specs.Sets.Verdict.{IsEqualVerdict};
 ghost use Rattle.rr_word.specs.Stretches.{IsNumberOn};
-ghost use Rattle.rr_decide.specs.Alike.{AreAlike, HaveOneOf, IsCompared, IsNextAlike};
+ghost use Rattle.rr_decide.specs.Alike.{AreAlike, HaveOneOf, IsCompared, IsNextAlike, IsRun, days_of};
 ghost use Rattle.rr_decide.specs.Look.{IsFirstOn};
 ghost use Rattle.rr_decide.specs.Occurrence.{IsNearOccurrence, IsUpToMaxDay, NamesUpToMaxDay};
 ghost use Rattle.rr_decide.specs.Question.{AreApart, HasNoneBefore, IsFirstDayShown, IsFirstOccurrence, IsVerdictBy, ShowsNoneWithin, shown_by};
@@ -146,16 +146,120 @@ fn first_day_unlike<A: DaySeq + Drop, B: DaySeq + Drop, L: Ledger>(
     ensures few { steps.new ≤ steps.old + 2 * days }
 {
     let mut alike = AlikeNumbers { from: 0, end: 0 };
-    for k in 0..days {
-        let day = from + k as i64;
-        let of_a = a.read_number(day, steps);
-        let of_b = b.read_number(day, steps);
-        match compare_days(a, b, day, of_a, of_b, alike) {
-            Comparison::Unlike(shown) => return Some(shown),
-            Comparison::Alike(more) => alike = more,
+    let mut k = 0;
+    while k < days {
+        match compare_from(a, b, from + k as i64, days - k, alike, steps) {
+            Run::Differs(shown) => return Some(shown),
+            Run::Agrees(count, more) => {
+                k += count;
+                alike = more;
+            }
         }
     }
     None
+}
+
+// What comes out where days in a row are compared.
+enum Run {
+    // The first second in which the first of them that differ do.
+    Differs(Shown),
+    // So many of them are alike, and so are the sets of these numbers.
+    Agrees(u64, AlikeNumbers),
+}
+
+// Days from one on compared, of at most `most`: those that are free, or else the first day and those after it whose numbers are
+// kept in a row. Where a sequence is seen to be free its day is not read once more.
+fn compare_from<A: DaySeq + Drop, B: DaySeq + Drop, L: Ledger>(
+    a: &Counted<A>,
+    b: &Counted<B>,
+    day: i64,
+    most: u64,
+    alike: AlikeNumbers,
+    steps: &mut Steps<L>,
+) -> Run
+    requires low { neg_ℤ (pos 1_000_000_000) ≤ℤ day }
+    requires high { day ≤ℤ pos 6_000_000_000 }
+    requires some { 1 ≤ most }
+    requires few_days { most ≤ 5_000_000_000 }
+    requires alike { AreAlike (A.sets a.now) (B.sets b.now) alike }
+    ensures run { IsRun (A.sets a.now) (B.sets b.now) (A.sketch a.now) (B.sketch b.now) day most result }
+    ensures few { steps.new ≤ steps.old + 2 * days_of most result }
+{
+    let free_a = a.read_free(day, steps);
+    if free_a == 0 {
+        let of_a = a.read_number(day, steps);
+        let of_b = b.read_number(day, steps);
+        return compare_row(a, b, day, most, of_a, of_b, alike, steps);
+    }
+    let free_b = b.read_free(day, steps);
+    if free_b == 0 {
+        let of_b = b.read_number(day, steps);
+        return compare_row(a, b, day, 1, None, of_b, alike, steps);
+    }
+    Run::Agrees(free_a.min(free_b).min(most), alike)
+}
+
+// A day whose numbers are read, and the days after it whose numbers are kept in a row, compared; at most `most` days.
+fn compare_row<A: DaySeq + Drop, B: DaySeq + Drop, L: Ledger>(
+    a: &Counted<A>,
+    b: &Counted<B>,
+    day: i64,
+    most: u64,
+    of_a: Option<u32>,
+    of_b: Option<u32>,
+    alike: AlikeNumbers,
+    steps: &mut Steps<L>,
+) -> Run
+    requires low { neg_ℤ (pos 1_000_000_000) ≤ℤ day }
+    requires high { day ≤ℤ pos 6_000_000_000 }
+    requires some { 1 ≤ most }
+    requires few_days { most ≤ 5_000_000_000 }
+    requires first { IsNumberOn (A.sets a.now) (A.sketch a.now) day of_a }
+    requires second { IsNumberOn (B.sets b.now) (B.sketch b.now) day of_b }
+    requires alike { AreAlike (A.sets a.now) (B.sets b.now) alike }
+    ensures run { IsRun (A.sets a.now) (B.sets b.now) (A.sketch a.now) (B.sketch b.now) day most result }
+    ensures few { steps.new + 2 ≤ steps.old + 2 * days_of most result }
+{
+    match compare_days(a, b, day, of_a, of_b, alike) {
+        Comparison::Unlike(shown) => Run::Differs(shown),
+        Comparison::Alike(more) => compare_later(a, b, day, most, more, steps),
+    }
+}
+
+// The days after a day on which both are alike, compared as far as their numbers are kept in a row; with this one at most `most`.
+fn compare_later<A: DaySeq + Drop, B: DaySeq + Drop, L: Ledger>(
+    a: &Counted<A>,
+    b: &Counted<B>,
+    day: i64,
+    most: u64,
+    alike: AlikeNumbers,
+    steps: &mut Steps<L>,
+) -> Run
+    requires low { neg_ℤ (pos 1_000_000_000) ≤ℤ day }
+    requires high { day ≤ℤ pos 6_000_000_000 }
+    requires some { 1 ≤ most }
+    requires few_days { most ≤ 5_000_000_000 }
+    requires first { ShowsNoneWithin (shown_by Equal) (A.sketch a.now) (B.sketch b.now) day (day +ℤ pos 1) }
+    requires alike { AreAlike (A.sets a.now) (B.sets b.now) alike }
+    ensures run { IsRun (A.sets a.now) (B.sets b.now) (A.sketch a.now) (B.sketch b.now) day most result }
+    ensures few { steps.new + 2 ≤ steps.old + 2 * days_of most result }
+{
+    let later_a = a.later(day);
+    let later_b = b.later(day);
+    let end = later_a
+        .count()
+        .min(later_b.count())
+        .min((most - 1) as usize) as u64;
+    let mut alike = alike;
+    for k in 0..end {
+        let of_a = later_a.read_number(k as usize, steps);
+        let of_b = later_b.read_number(k as usize, steps);
+        match compare_days(a, b, day + 1 + k as i64, Some(of_a), Some(of_b), alike) {
+            Comparison::Unlike(shown) => return Run::Differs(shown),
+            Comparison::Alike(more) => alike = more,
+        }
+    }
+    Run::Agrees(end + 1, alike)
 }
 
 // Numbers from one on and below another, under each of which both sequences have the same set.

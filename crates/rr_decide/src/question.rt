@@ -1,6 +1,6 @@
 // What is asked of two sets.
 ghost use Rattle.std.specs.Prelude.{◌≡◌};
-ghost use Rattle.rr_decide.specs.Question.{shown_by};
+ghost use Rattle.rr_decide.specs.Question.{ShowsNoneBelow, shown_by};
 
 use rr_model::Side;
 
@@ -24,6 +24,18 @@ impl Question {
             Question::Equal => side != Side::Both,
             Question::Within => side == Side::A,
             Question::Disjoint => side == Side::Both,
+        }
+    }
+
+    /// On how many days no occurrence shows that the answer is no, where the first set has none on `a` days and the second none
+    /// on `b`.
+    pub fn days_without(self, a: u64, b: u64) -> u64
+        ensures { ShowsNoneBelow (shown_by self) a b result }
+    {
+        match self {
+            Question::Equal => a.min(b),
+            Question::Within => a,
+            Question::Disjoint => a.max(b),
         }
     }
 }

@@ -59,6 +59,14 @@ impl DaySeq for Every {
         }
     }
 
+    fn free_days(&self, day: i64) -> u64 {
+        if day < self.start {
+            (self.start - day) as u64
+        } else {
+            0
+        }
+    }
+
     fn times(&self, _number: u32) -> &[u32] {
         &[0]
     }

@@ -12,6 +12,3 @@ mod summary;
 pub use drilling::drill;
 pub use laws::summary_is_one;
 pub use summary::Summary;
-
-#[cfg(test)]
-mod tests;

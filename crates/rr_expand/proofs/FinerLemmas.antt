@@ -22,11 +22,11 @@ use Rattle.rr_model.specs.Rule.DaysAndTimes.{time_holds}
 use Rattle.rr_model.specs.Moment.Units.{is_whole_days, unit_seconds}
 use Rattle.rr_expand.specs.Expansion.{IsFittingSecond, IsCandidateSecond}
 use Rattle.rr_expand.specs.Spread.{of_unit}
-use Rattle.rr_expand.proofs.SetLemmas.{Passed}
+use Rattle.rr_expand.specs.UnitTimes.{AreUnitTimes}
 use Rattle.rr_model.proofs.DaysAndTimesLemmas.{time_parts_hold-at, and_true, and_parts}
 use Rattle.rr_expand.proofs.FitLemmas.{fits_at, first_fits, none_before, next_fits, none_between}
 use Rattle.rr_expand.proofs.StepSets.{Before, At, before_first, one_more, all_before}
-use Rattle.rr_expand.proofs.UnitSets.{minute_allowed, second_allowed, unit_set}
+use Rattle.rr_expand.proofs.UnitSets.{unit_set}
 
 -- ---- the unit of a second of a day
 
@@ -107,16 +107,15 @@ module _ (rule : Rule) (start day : ℤ) where
   }
 
   pub found_more : (k : ℕ) (out new ms ss : List ℕ) → 1 ≤ rule.interval → is_whole_days rule.freq ≡ false → k < 86_400 / unit_seconds rule.freq
-      → IsSetOf nat_lt ms (Passed (minute_allowed rule.freq rule (hour_of Moments start) (minute_of Moments start) (second_of Moments start)) 60)
-      → IsSetOf nat_lt ss (Passed (second_allowed rule.freq rule (hour_of Moments start) (minute_of Moments start) (second_of Moments start)) 60)
+      → AreUnitTimes rule start ms ss
       → new ≡ out ++ of_unit rule.freq rule k ms ss → IsFound k out → IsFound (k + rule.interval) new
-  found_more k out new ms ss some fine low m s e found = record {
+  found_more k out new ms ss some fine low times e found = record {
     fit = next_fits rule.interval some day_unit start_unit k found.fit;
     set = one_more unit fits Stands (later (unit_seconds rule.freq) (unit_some rule.freq)) out
         (of_unit rule.freq rule k ms ss) new k rule.interval some found.fit
         (λ j a b. none_between rule.interval some day_unit start_unit k j found.fit a b) found.set
         (set_same nat_lt _ (At unit Stands k) (of_unit rule.freq rule k ms ss)
-        (unit_set rule.freq rule (hour_of Moments start) (minute_of Moments start) (second_of Moments start) ms ss fine m s k low)
+        (unit_set rule.freq rule (hour_of Moments start) (minute_of Moments start) (second_of Moments start) ms ss fine times.0 times.1 k low)
         (λ t. (
           (λ h. (h.0, (h.1.0, rw (time_parts_hold-at (filled rule Moments start) (pos 0) t h.1.0) h.1.1))),
           (λ h. (h.0, (h.1.0, rw (time_parts_hold-at (filled rule Moments start) (pos 0) t h.1.0) at h.1.1))),

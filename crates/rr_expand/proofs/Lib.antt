@@ -14,3 +14,4 @@ pub mod FinerLemmas
 pub mod MaskLemmas
 pub mod KeyLemmas
 pub mod KeyWeekLemmas
+pub mod LeftOutLemmas

@@ -86,6 +86,20 @@ bits_same words test n below before fails =
     let none : nat_lt n n ≡ false = grind (arith, nat_tests) in
     bits_more words words test n before (before n below ∙ ap (λ b. b && test n) none ∙ sym fails) (λ k ne. refl)
 
+-- tests that fail leave the bits as they are
+pub bits_on : (words : List ℕ) (test : ℕ → Bool) (n m : ℕ) → n ≤ m → ((k : ℕ) → k < 384 → is_bit_set words k ≡ (nat_lt k n && test k))
+    → ((k : ℕ) → n ≤ k → k < m → test k ≡ false) → (k : ℕ) → k < 384 → is_bit_set words k ≡ (nat_lt k m && test k)
+bits_on words test n m on before fails k h = elim (cases_lt k n) [
+  | inl low ↦ before k h ∙ ap (λ b. b && test k) (let t : nat_lt k n ≡ nat_lt k m = grind (arith, nat_tests) in t)
+  | inr high ↦ elim (cases_lt k m) [
+    | inl below ↦ (let none = fails k high below in
+        let past : nat_lt k n ≡ false = grind (arith, nat_tests) in
+        let short : nat_lt k m ≡ true = grind (arith, nat_tests) in
+        before k h ∙ rw (past, short, none) refl)
+    | inr over ↦ before k h ∙ ap (λ b. b && test k) (let t : nat_lt k n ≡ nat_lt k m = grind (arith, nat_tests) in t)
+  ]
+]
+
 -- with no test made no bit is set
 pub bits_none : (test : ℕ → Bool) (k : ℕ) → k < 384 → is_bit_set (0 ∷ 0 ∷ 0 ∷ 0 ∷ 0 ∷ 0 ∷ []) k ≡ (nat_lt k 0 && test k)
 bits_none test k h =

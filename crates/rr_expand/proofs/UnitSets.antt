@@ -1,5 +1,5 @@
 -- The seconds that the time parts allow in one unit of a day.
-use Rattle.std.proofs.Common.{◌≡◌, ℕ, ◌-◌, ◌*◌, ◌/◌, ◌%◌, ◌<◌, ◌≤◌, Bool, true, false, ◌&&◌, cond, List, [], ◌∷◌, Contains, pos, refl, sym, subst, arith}
+use Rattle.std.proofs.Common.{◌≡◌, ℕ, ◌-◌, ◌*◌, ◌/◌, ◌%◌, ◌<◌, ◌≤◌, Bool, true, false, ◌&&◌, cond, List, [], ◌∷◌, Contains, ℤ, pos, All, refl, sym, subst, arith}
 use Rattle.std.specs.Prelude.{IsTrue, nat_lt}
 use Rattle.std.proofs.lemmas.Bool.{false≢true}
 use Rattle.rr_model.specs.Rising.Sets.{IsSetOf}
@@ -11,7 +11,8 @@ use Rattle.rr_model.specs.declared.rule.Rule.{Rule}
 use Rattle.rr_model.proofs.RisingSetLemmas.{set_same, set_empty}
 use Rattle.rr_model.specs.Moment.Units.{is_whole_days, unit_seconds}
 use Rattle.rr_expand.specs.Spread.{of_minute, of_hour, of_unit}
-use Rattle.rr_expand.proofs.SetLemmas.{Passed}
+use Rattle.rr_expand.specs.UnitTimes.{AreNumbersOfUnit}
+use Rattle.rr_expand.proofs.SetLemmas.{Passed, passed_below}
 use Rattle.rr_expand.proofs.SpreadSets.{InMinute, InHour, InHour-below, of_minute-set, of_hour-set, set_one}
 use Rattle.rr_model.proofs.DaysAndTimesLemmas.{and_true, and_parts}
 
@@ -112,8 +113,14 @@ module _ (freq : Freq) (rule : Rule) (h m s : ℕ) where
   abbrev pub second_allowed : ℕ → Bool
   second_allowed n = allows (filled_part (wants_second freq) rule.by_second (pos s)) (pos n)
 
+-- the numbers of a unit are below 60
+pub numbers_below : (holds_many : Bool) (part : List ℤ) (own : ℕ) (ns given : List ℕ) → given ≡ ns → AreNumbersOfUnit holds_many part own ns
+    → All (λ n. n < 60) given
+numbers_below true part own ns given e set = passed_below (λ n. allows (filled_part true part (pos own)) (pos n)) ns given 60 e set
+numbers_below false part own ns given e none = rw (e, none) (λ k d l. absurd (omega (arith, l)))
+
 pub unit_set : (freq : Freq) (rule : Rule) (h m s : ℕ) (ms ss : List ℕ) → is_whole_days freq ≡ false
-    → IsSetOf nat_lt ms (Passed (minute_allowed freq rule h m s) 60) → IsSetOf nat_lt ss (Passed (second_allowed freq rule h m s) 60)
+    → AreNumbersOfUnit (wants_minute freq) rule.by_minute m ms → AreNumbersOfUnit (wants_second freq) rule.by_second s ss
     → (k : ℕ) → k < 86_400 / unit_seconds freq
     → IsSetOf nat_lt (of_unit freq rule k ms ss) (λ t. (t / unit_seconds freq ≡ k)
     × PassesAt (hour_allowed freq rule h m s) (minute_allowed freq rule h m s) (second_allowed freq rule h m s) t)

@@ -1,4 +1,6 @@
 pub mod Expansion
 pub mod Spread
 pub mod KeptMasks
+pub mod LeftOut
+pub mod UnitTimes
 pub mod Years

@@ -6,12 +6,13 @@ ghost use Rattle.rr_model.specs.Rising.Sets.{IsSetOf};
 ghost use Rattle.rr_model.specs.declared.kind.Kind.TheVariants.{Moments};
 ghost use Rattle.rr_model.specs.Moment.Units.{is_whole_days};
 ghost use Rattle.rr_expand.specs.Expansion.{IsCandidateSecond, IsFittingSecond};
+ghost use Rattle.rr_expand.specs.UnitTimes.{AreUnitTimes};
 
 use crate::finer_units::{first_fit, first_unit, push_unit, unit_of, units_of_day};
-use crate::time_parts::allowed;
+use crate::unit_times::UnitTimes;
 use rr_cal::Day;
 use rr_model::{Kind, NoMemory, Rule, day_part};
-use rr_setpos::{date_parts_hold, time_of, wants_minute, wants_second};
+use rr_setpos::date_parts_hold;
 use rr_times::TimeSet;
 use std::alloc::{AllocError, Global};
 
@@ -48,38 +49,49 @@ pub fn fitting_seconds(
     requires near { IsDayWithin 1000 day }
     ensures { IfOk result (λ t. IsSetOf nat_lt t (IsFittingSecond rule.now start day)) }
 {
-    let seconds = fitting_list(alloc, rule, start, day)?;
+    let times = UnitTimes::new(alloc, rule, start)?;
+    fitting_seconds_by(alloc, rule, start, &times, day)
+}
+
+/// As `fitting_seconds`, by the minutes and seconds that the time parts allow in a unit: they are the same on each day.
+pub fn fitting_seconds_by(
+    alloc: Global,
+    rule: &Rule,
+    start: i64,
+    times: &UnitTimes,
+    day: i64,
+) -> Result<TimeSet, NoMemory>
+    requires freq { is_whole_days rule.now.freq ≡ false }
+    requires interval { 1 ≤ rule.now.interval }
+    requires start { IsDayWithin 1000 (day_part Moments start) }
+    requires times { AreUnitTimes rule.now start times.now.minutes.items times.now.seconds.items }
+    requires near { IsDayWithin 1000 day }
+    ensures { IfOk result (λ t. IsSetOf nat_lt t (IsFittingSecond rule.now start day)) }
+{
+    let seconds = fitting_list(alloc, rule, start, times, day)?;
     TimeSet::of(alloc, seconds.as_slice())
 }
 
 // The same, second by second.
-fn fitting_list(alloc: Global, rule: &Rule, start: i64, day: i64) -> Result<Vec<u32>, AllocError>
+fn fitting_list(
+    alloc: Global,
+    rule: &Rule,
+    start: i64,
+    times: &UnitTimes,
+    day: i64,
+) -> Result<Vec<u32>, AllocError>
     requires freq { is_whole_days rule.now.freq ≡ false }
     requires interval { 1 ≤ rule.now.interval }
     requires start { IsDayWithin 1000 (day_part Moments start) }
+    requires times { AreUnitTimes rule.now start times.now.minutes.items times.now.seconds.items }
     requires near { IsDayWithin 1000 day }
     ensures { IfOk result (λ v. IsSetOf nat_lt v.items (IsFittingSecond rule.now start day)) }
 {
-    let own = time_of(start);
-    let minutes = allowed(
-        alloc,
-        &rule.by_minute,
-        wants_minute(rule.freq),
-        own.minute,
-        60,
-    )?;
-    let seconds = allowed(
-        alloc,
-        &rule.by_second,
-        wants_second(rule.freq),
-        own.second,
-        60,
-    )?;
     let mut out = Vec::new(alloc);
     let first = first_unit(rule.freq, day);
     let mut unit = first_fit(first, unit_of(rule.freq, start), rule.interval);
     while unit < units_of_day(rule.freq) {
-        push_unit(&mut out, rule, unit as u32, &minutes, &seconds)?;
+        push_unit(&mut out, rule, unit as u32, &times.minutes, &times.seconds)?;
         unit += u64::from(rule.interval);
     }
     Ok(out)

@@ -7,17 +7,18 @@ mod day_times;
 mod finer;
 mod finer_units;
 mod laws;
+mod left_out;
 mod spread;
-#[cfg(test)]
-mod tests;
 mod time_parts;
 mod unit_days;
+mod unit_times;
 mod year_masks;
 
 pub use allowed_days::AllowedDays;
 pub use day_times::times;
-pub use finer::{fitting_seconds, seconds_on};
+pub use finer::{fitting_seconds, fitting_seconds_by, seconds_on};
 pub use finer_units::{first_fit, first_unit, unit_of, units_of_day};
 pub use laws::equal_keys_have_equal_masks;
 pub use unit_days::days;
+pub use unit_times::UnitTimes;
 pub use year_masks::{YearMask, mask_key, year_mask};

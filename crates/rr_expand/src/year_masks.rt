@@ -3,6 +3,7 @@ ghost use Rattle.std.specs.Prelude.{◌≡◌, ◌≢◌, ℕ, ◌+◌, ◌*◌,
 ghost use Rattle.rr_model.specs.Calendar.{IsDayWithin, first_day_of_year, is_leap};
 ghost use Rattle.rr_expand.specs.Years.{IsFirstBit, IsYearMask, allows_day, is_bit_set, mask_key};
 
+use crate::left_out::{days_on, later};
 use rr_cal::{Date, Day, day_of, days_in_year, year_kind};
 use rr_model::Rule;
 use rr_setpos::date_parts_hold;
@@ -71,7 +72,7 @@ pub fn year_mask(rule: &Rule, start_day: i64, year: i64) -> YearMask
     )
 }
 
-// The mask of `count` days from the first on.
+// The mask of `count` days from the first on. Days that a month, a day of the month or a weekday leaves out are stepped over.
 fn mask_from(rule: &Rule, start: &Day, first: Day, count: u16) -> YearMask
     requires count { count ≤ 384 }
     requires last { IsDayWithin 1000 (first.number +ℤ pos count) }
@@ -80,11 +81,14 @@ fn mask_from(rule: &Rule, start: &Day, first: Day, count: u16) -> YearMask
 {
     let mut mask = YearMask { bits: [0; 6] };
     let mut day = first;
-    for place in 0..count {
+    let mut place = 0;
+    while place < count {
         if date_parts_hold(rule, start, &day) {
             mask.set(place);
         }
-        day = day.next();
+        let step = u16::from(days_on(rule, start, &day)).min(count - place);
+        day = later(&day, step as u8);
+        place += step;
     }
     mask
 }

@@ -10,3 +10,4 @@ pub mod OrderLemmas
 pub mod FirstLemmas
 pub mod GraphProfileLemmas
 pub mod WalkLemmas
+pub mod DivisorLemmas

@@ -1,6 +1,6 @@
 -- What walks over the days of a set find.
-use Rattle.std.proofs.Common.{◌≡◌, ◌↔◌, ℕ, suc, ◌+◌, ◌<◌, ◌≤◌, ◌==◌, Bool, true, false, not, List, []}
-use Rattle.std.proofs.Common.{◌∷◌, length, get_or, ℤ, pos, ◌+ℤ◌, ◌-ℤ◌, ◌≤ℤ◌, ◌<ℤ◌, refl, sym, ap, subst, ◌∙◌, arith}
+use Rattle.std.proofs.Common.{◌≡◌, ◌↔◌, ℕ, suc, ◌+◌, ◌-◌, ◌<◌, ◌≤◌, ◌==◌, Bool, true, false, not, List, []}
+use Rattle.std.proofs.Common.{◌∷◌, length, get_or, ℤ, pos, nat_abs, ◌+ℤ◌, ◌-ℤ◌, ◌≤ℤ◌, ◌<ℤ◌, refl, sym, ap, subst, ◌∙◌, arith}
 use Rattle.std.specs.Prelude.{IsTrue, Option, Some, None}
 use Rattle.std.specs.List.{Contains}
 use Rattle.std.proofs.lemmas.Int.{ints, by_lt_z}
@@ -14,6 +14,9 @@ use Rattle.rr_model.specs.Whole.Count.{count_from}
 use Rattle.rr_model.specs.declared.kind.Kind.{Kind}
 use Rattle.rr_model.specs.declared.sketch.Sketch.{Sketch}
 use Rattle.rr_model.proofs.CountLemmas.{one, count_from-suc}
+use Rattle.rr_graph.proofs.DayCountLemmas.{count_from-none}
+use Rattle.rr_setpos.proofs.ProductLemmas.{count_from-split}
+use Rattle.rr_word.specs.Stretches.{AreFree}
 use Rattle.rr_word.proofs.OneLeastLemmas.{parts_of_moment}
 use Rattle.rr_word.proofs.SketchLemmas.{repeats_from, second_fits}
 use Rattle.rr_word.proofs.WindowLemmas.{window_lasts}
@@ -32,6 +35,30 @@ all_next P q k day here at so_far d l h =
     by_lt_z {P = P d} d day (λ m. so_far d l (omega (arith, ints, m, at))) (λ m.
     let e : day ≡ d = omega (arith, ints, m, at, h) in
     subst P e here)
+
+-- ---- free days
+
+-- what holds of days that are known to be free holds of those so far and them
+pub free_next : (p : ℤ → Bool) (q : ℤ) (k free : ℕ) (day : ℤ) → day ≡ q +ℤ pos k → ((d : ℤ) → day ≤ℤ d → d <ℤ (day +ℤ pos free) → p d ≡ false)
+    → ((d : ℤ) → q ≤ℤ d → d <ℤ (q +ℤ pos k) → p d ≡ false) → (d : ℤ) → q ≤ℤ d → d <ℤ (q +ℤ pos (k + free)) → p d ≡ false
+free_next p q k free day at here so_far d l h =
+    by_lt_z {P = p d ≡ false} d day (λ m. so_far d l (omega (arith, ints, m, at))) (λ m. here d m (omega (arith, ints, h, at)))
+
+-- of a row of days that are known to be free, and of a free day alone
+pub free_row : (s : Sketch) (day from : ℤ) (known n : ℕ) → from ≡ day → AreFree s from known → (1 < n → n ≤ known) → is_occupied s day ≡ false
+    → (d : ℤ) → day ≤ℤ d → d <ℤ (day +ℤ pos n) → is_occupied s d ≡ false
+free_row s day from known n at row few free d l h =
+    by_lt_z {P = is_occupied s d ≡ false} day d (λ later.
+    let k = nat_abs (d -ℤ day) in
+    let more = few (omega (arith, ints, later, h)) in
+    let is : from +ℤ pos k ≡ d = omega (arith, ints, at, l) in
+    subst (λ z. is_occupied s z ≡ false) is (ap (λ times. not (is_absent times)) (row k (omega (arith, ints, l, h, more))))) (λ same.
+    let is : day ≡ d = omega (arith, ints, same, l) in
+    subst (λ z. is_occupied s z ≡ false) is free)
+
+-- a free day has the second alone, or nothing
+pub free_at_second : (s : Sketch) (second : ℕ) (d : ℤ) → is_occupied s d ≡ false → IsAtSecond s second d
+free_at_second s second d free = empty_if (times_on s d) free ∙ sym (ap (at_second second) free)
 
 -- ---- one second
 
@@ -151,12 +178,24 @@ first_before s first after is_first none =
 
 -- ---- counting
 
--- one more day, occupied or not
-pub counted_next : (p : ℤ → Bool) (q day : ℤ) (k many : ℕ) (b : Bool) → b ≡ p day → day ≡ q +ℤ pos k → many ≡ count_from p q k
-    → many + one b ≡ count_from p q (k + 1)
-counted_next p q day k many b e at so_far =
-    let s : k + 1 ≡ suc k = omega arith in
-    omega (arith, so_far, count_from-suc p q k, ap one (e ∙ ap p at), ap (count_from p q) s)
+-- free days count nothing
+pub counted_free : (p : ℤ → Bool) (q : ℤ) (k n : ℕ) → k ≤ n → ((d : ℤ) → (q +ℤ pos k) ≤ℤ d → d <ℤ (q +ℤ pos n) → p d ≡ false)
+    → count_from p q n ≡ count_from p q k
+counted_free p q k n less free =
+    let rest = n - k in
+    let whole : n ≡ k + rest = omega (arith, less) in
+    let none = count_from-none p (q +ℤ pos k) rest (λ i m. free ((q +ℤ pos k) +ℤ pos i) (omega (arith, ints)) (omega (arith, ints, m, less))) in
+    ap (count_from p q) whole ∙ count_from-split p q k rest ∙ omega (arith, none)
+
+-- one more occupied day, which lies some free days later
+pub counted_next : (p : ℤ → Bool) (q day : ℤ) (k next many : ℕ) → (q +ℤ pos k) ≤ℤ day → (q +ℤ pos next) ≡ day +ℤ pos 1
+    → ((d : ℤ) → (q +ℤ pos k) ≤ℤ d → d <ℤ day → p d ≡ false) → p day ≡ true → many ≡ count_from p q k → many + 1 ≡ count_from p q next
+counted_next p q day k next many late at free here so_far =
+    let n = nat_abs (day -ℤ q) in
+    let is : q +ℤ pos n ≡ day = omega (arith, ints, late) in
+    let more : next ≡ suc n = omega (arith, ints, is, at) in
+    let same = counted_free p q k n (omega (arith, ints, is, late)) (λ d l h. free d l (omega (arith, ints, h, is))) in
+    omega (arith, so_far, same, count_from-suc p q n, ap one (ap p is ∙ here)) ∙ ap (count_from p q) (sym more)
 
 -- ---- the window
 

@@ -9,3 +9,4 @@ pub mod Tally
 pub mod Sorts
 pub mod Windows
 pub mod Walks
+pub mod Divisors

@@ -1,17 +1,17 @@
 //! Kinds of rules of vCalendar 1.0, item by item, and what a window of a set of occurrences tells of them for ever.
 #![tactic(auto)]
 
+mod divisors;
 mod family;
 mod items;
 mod laws;
 mod months;
 mod sorts;
-#[cfg(test)]
-mod tests;
 mod weeks;
 mod window;
 mod years;
 
+pub use divisors::{Divisors, divisors_of};
 pub use family::{DayFamily, Family};
 pub use items::{item_at, many_items};
 pub use laws::{

@@ -1,8 +1,9 @@
 // The sorts of days that each kind of rule tells apart.
-ghost use Rattle.std.specs.Prelude.{◌≡◌, ◌≤◌, ◌<◌, ◌+◌, ◌-◌, ◌/◌, ◌%◌};
+ghost use Rattle.std.specs.Prelude.{◌≡◌, ◌≤◌, ◌<◌, ◌+◌, ◌-◌, ◌/◌, ◌%◌, ◌-ℤ◌};
 ghost use Rattle.rr_family.specs.Sorts.{has_sort, many_sorts, month_day_sort, place_sort, sort_in_unit, sort_of_day};
 ghost use Rattle.rr_model.specs.Calendar.{day_of_month, day_of_year, days_in_month, month_of, weekday_of, year_of};
 ghost use Rattle.rr_model.specs.Vcal.Members.{family_unit};
+ghost use Rattle.rr_model.specs.Whole.{divides};
 ghost use Rattle.rr_model.specs.declared.vcal.FamilyKind.TheVariants.{YM};
 
 use rr_cal::{Day, month_number, week_index};
@@ -35,11 +36,22 @@ pub fn sort_of_day(kind: FamilyKind, interval: u32, start: &Day, day: &Day) -> O
     requires some { 1 ≤ interval }
     ensures { result ≡ sort_of_day kind interval start.now.number day.now.number }
 {
-    if is_congruent(unit_of(kind, start), unit_of(kind, day), interval) {
+    if counts(kind, interval, start, day) {
         sort_in_unit(kind, start, day)
     } else {
         None
     }
+}
+
+// Whether the unit of a day counts; at interval 1 each does, and no unit is computed.
+fn counts(kind: FamilyKind, interval: u32, start: &Day, day: &Day) -> bool
+    requires { 1 ≤ interval }
+    ensures { result ≡ divides interval (family_unit kind day.now.number -ℤ family_unit kind start.now.number) }
+{
+    if interval == 1 {
+        return true;
+    }
+    is_congruent(unit_of(kind, start), unit_of(kind, day), interval)
 }
 
 /// The number of the day, week, month or year in which a day lies, by the kind; weeks begin on Monday.

@@ -1,5 +1,5 @@
 // What the searches for a rule or a pattern know of a set of occurrences.
-ghost use Rattle.std.specs.Prelude.{◌≡◌, ◌↔◌, ◌≤◌, true, false, IfSome, IsTrue, Some, None, ℤ, ℕ, pos, ◌+ℤ◌, ◌-ℤ◌, ◌≤ℤ◌, ◌<ℤ◌, []};
+ghost use Rattle.std.specs.Prelude.{◌≡◌, ◌↔◌, ◌<◌, ◌≤◌, true, false, IfSome, IsTrue, Some, None, ℤ, ℕ, pos, ◌+ℤ◌, ◌-ℤ◌, ◌≤ℤ◌, ◌<ℤ◌, []};
 ghost use Rattle.rr_family.specs.DaySets.{IsLastDay, IsOneSecond};
 ghost use Rattle.rr_family.specs.Lasting.{at_second, is_occupied};
 ghost use Rattle.rr_family.specs.Walks.{IsAtSecond, IsNearEnd, IsNearWindow, IsNextWithin, IsSecondOf};
@@ -112,7 +112,7 @@ fn only_second(times: &[u32]) -> Option<u32>
 }
 
 // How many days from the first occupied one on are to be read: up to the end of the first whole period.
-fn days_known<A: DaySeq>(seq: &A, first: i64) -> u64
+pub(crate) fn days_known<A: DaySeq>(seq: &A, first: i64) -> u64
     requires near { IsNearDay first }
     ensures few { result ≤ 3_000_000_000 }
     ensures settled { ((A.sketch seq.now).settled +ℤ pos (A.sketch seq.now).period) ≤ℤ (first +ℤ pos result) }
@@ -128,11 +128,15 @@ fn has_one_second<A: DaySeq>(seq: &A, second: u32, first: i64, days: u64) -> boo
     requires few { days ≤ 3_000_000_000 }
     ensures { IsTrue result ↔ ((d : ℤ) → first ≤ℤ d → d <ℤ (first +ℤ pos days) → IsAtSecond (A.sketch seq.now) second d) }
 {
-    for k in 0..days {
-        let day = first + k as i64;
+    let mut read = 0;
+    while read < days {
+        let Some(day) = next_occupied(seq, day_after(first, read), days - read) else {
+            return true;
+        };
         if !is_at_second(seq, second, day) {
             return false;
         }
+        read = days_through(first, day);
     }
     true
 }
@@ -149,20 +153,67 @@ fn is_at_second<A: DaySeq>(seq: &A, second: u32, day: i64) -> bool
     }
 }
 
-// The first occupied one of `days` days, if there is one.
-fn next_occupied<A: DaySeq>(seq: &A, from: i64, days: u64) -> Option<i64>
+// The first occupied one of `days` days, if there is one. Days that are known at once to be free are passed over.
+pub(crate) fn next_occupied<A: DaySeq>(seq: &A, from: i64, days: u64) -> Option<i64>
     requires near { IsDayWithin 0 from }
-    requires far { from ≤ℤ pos 2_000_000_000 }
-    requires few { days ≤ 3_000_000_000 }
+    requires far { from ≤ℤ pos 5_000_000_000 }
+    requires few { days ≤ 4_000_000_000 }
     ensures { IsNextWithin (is_occupied (A.sketch seq.now)) from days result }
 {
-    for k in 0..days {
-        let day = from + k as i64;
+    let mut passed = 0;
+    while passed < days {
+        let day = from + passed as i64;
         if is_occupied(seq, day) {
             return Some(day);
         }
+        let free = free_from(seq, day, days - passed);
+        passed += free;
     }
     None
+}
+
+// How many of at most `most` days from a free one on are known to be free, itself the first of them.
+fn free_from<A: DaySeq>(seq: &A, day: i64, most: u64) -> u64
+    requires near { IsDayWithin 0 day }
+    requires free { is_occupied (A.sketch seq.now) day ≡ false }
+    requires some { 1 ≤ most }
+    ensures some { 1 ≤ result }
+    ensures most { result ≤ most }
+    ensures free { (d : ℤ) → day ≤ℤ d → d <ℤ (day +ℤ pos result) → is_occupied (A.sketch seq.now) d ≡ false }
+{
+    within(seq.free_days(day), most)
+}
+
+// The number, but at least 1 and at most `most`.
+fn within(number: u64, most: u64) -> u64
+    requires { 1 ≤ most }
+    ensures some { 1 ≤ result }
+    ensures most { result ≤ most }
+    ensures number { 1 < result → result ≤ number }
+{
+    if number <= 1 {
+        return 1;
+    }
+    if number < most { number } else { most }
+}
+
+// The day so many days after the first one.
+pub(crate) fn day_after(first: i64, days: u64) -> i64
+    requires near { IsNearDay first }
+    requires few { days ≤ 3_000_000_366 }
+    ensures { result ≡ first +ℤ pos days }
+{
+    first + days as i64
+}
+
+// How many days there are from the first one to another, both included.
+pub(crate) fn days_through(first: i64, day: i64) -> u64
+    requires near { IsNearDay first }
+    requires late { first ≤ℤ day }
+    requires day_near { day ≤ℤ pos 5_000_000_000 }
+    ensures { first +ℤ pos result ≡ day +ℤ pos 1 }
+{
+    (day - first) as u64 + 1
 }
 
 // The occupied day after the first one, if there is one.
@@ -241,10 +292,13 @@ fn count_occupied<A: DaySeq>(seq: &A, first: i64, days: u64) -> u64
     ensures { result ≡ count_from (is_occupied (A.sketch seq.now)) first days }
 {
     let mut many = 0;
-    for k in 0..days {
-        if is_occupied(seq, first + k as i64) {
-            many += 1;
-        }
+    let mut read = 0;
+    while read < days {
+        let Some(day) = next_occupied(seq, day_after(first, read), days - read) else {
+            return many;
+        };
+        many += 1;
+        read = days_through(first, day);
     }
     many
 }

@@ -3,6 +3,7 @@ pub mod BestLemmas
 pub mod TakenLemmas
 pub mod ItemOrderLemmas
 pub mod RuleLemmas
+pub mod ApartLemmas
 pub mod ChoiceLemmas
 pub mod ListLemmas
 pub mod SearchLemmas

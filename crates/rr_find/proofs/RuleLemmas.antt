@@ -1,14 +1,13 @@
 -- Which rules have the set of a window.
-use Rattle.std.proofs.Common.{◌≡◌, ℕ, ◌<◌, ◌≤◌, ◌%◌, ◌==◌, Bool, true, false, not, cond, ◌&&◌, List, [], ◌∷◌, Option, None, Some, ℤ, ◌-ℤ◌, ◌≤ℤ◌, ◌<ℤ◌, inl, inr, refl, sym, ap, subst, ◌∙◌, arith}
+use Rattle.std.proofs.Common.{◌≡◌, ℕ, ◌<◌, ◌≤◌, ◌%◌, ◌==◌, Bool, true, false, cond, ◌&&◌, List, [], ◌∷◌, Option, None, Some, ℤ, ◌-ℤ◌, ◌≤ℤ◌, inl, inr, refl, sym, ap, subst, ◌∙◌, arith}
 use Rattle.std.specs.Prelude.{◌⊎◌}
 use Rattle.std.specs.List.{Contains}
 use Rattle.std.specs.Ordering.{int_eq}
-use Rattle.std.proofs.lemmas.Int.{ints, by_lt_z}
+use Rattle.std.proofs.lemmas.Int.{ints}
 use Rattle.std.proofs.lemmas.Bool.{eq-eqb, false≢true}
 use Rattle.std.proofs.lemmas.Bool.Decides.{nat_tests}
 use Rattle.std.proofs.lemmas.Nat.Gcd.{dvd_of_mod-eq-zero, mod-eq-zero_of_dvd}
 use Rattle.rr_model.specs.Moment.{day_part, second_part, moment_at}
-use Rattle.rr_model.specs.Rule.Validity.{is_absent}
 use Rattle.rr_model.specs.Sets.Least.{IsEndless, IsLeastStart}
 use Rattle.rr_model.specs.Sets.Sketch.{IsValidSketch, StandsIn, times_on}
 use Rattle.rr_model.specs.Vcal.Members.{family_unit}
@@ -34,7 +33,7 @@ use Rattle.rr_family.specs.Profile.{IsRuleOf, IsWindow, finite, endless, EndsWit
 use Rattle.rr_family.specs.Shift.{family_cycle, items_have_day}
 use Rattle.rr_family.specs.Sorts.{many_sorts, sort_of_day, has_sort}
 use Rattle.rr_family.specs.Taking.{AgreeWithin, some_gives}
-use Rattle.rr_family.specs.Windows.{HasWindow, IsSecondDay, IsWindowEnd}
+use Rattle.rr_family.specs.Windows.{HasWindow, IsWindowEnd}
 use Rattle.rr_family.specs.declared.window.Window.{Window}
 use Rattle.rr_family.specs.declared.window.WindowEnd.{WindowEnd}
 use Rattle.rr_family.specs.declared.window.WindowEnd.TheVariants.{Last, Cycle}
@@ -43,7 +42,7 @@ use Rattle.rr_family.proofs.ProfileLemmas.{members_on_days, is_there, no_list_is
 use Rattle.rr_family.proofs.SortLemmas.{kinds_have_sorts}
 use Rattle.rr_family.proofs.TallyLemmas.{unsorted_has_no_list, mixed_has_no_list}
 use Rattle.rr_find.specs.Counted.{HasUnsorted, HasMixed, has_some_sort}
-use Rattle.rr_find.specs.Found.{HasNoRule, HasListedRule, days_up_to, end_of, found_of, is_in_unit, last_day}
+use Rattle.rr_find.specs.Found.{HasNoRule, HasListedRule, days_up_to, end_of, found_of}
 
 -- the list that is taken has the occupied days of the window
 abbrev pub IsListed : Sketch → FamilyKind → ℕ → ℤ → ℕ → Type 0
@@ -65,7 +64,7 @@ rule_days s rule kind start valid r =
       λ h. (members_on_days rule kind start t k r.end).0 ((r.equal k t).1 h),
     ))
 
-first_is : (s : Sketch) (w : Window) (rule : VRule) (kind : Kind) (start : ℤ) → IsValidSketch s → HasWindow s w → IsRuleOf (StandsIn s) rule kind start
+pub first_is : (s : Sketch) (w : Window) (rule : VRule) (kind : Kind) (start : ℤ) → IsValidSketch s → HasWindow s w → IsRuleOf (StandsIn s) rule kind start
     → day_part kind start ≡ w.first
 first_is s w rule kind start valid has r =
     one_first s (day_part kind start) w.first (rule_days s rule kind start valid r).0.first_day has.one_second.first_day
@@ -102,52 +101,10 @@ unlisted_if_given_up s f interval first days (inr m) listed =
     (list_places s f interval first days) m.sort (kinds_have_sorts f interval first) m.some_occupied m.some_free listed
 
 -- a day whose unit does not count is in no item
-no_item : (f : FamilyKind) (interval : ℕ) (start d : ℤ) (items : List Item) → divides interval (family_unit f d -ℤ family_unit f start) ≡ false
+pub no_item : (f : FamilyKind) (interval : ℕ) (start d : ℤ) (items : List Item) → divides interval (family_unit f d -ℤ family_unit f start) ≡ false
     → items_have_day f interval start items d ≡ false
 no_item f interval start d [] out = refl
 no_item f interval start d (item ∷ items) out = rw (out, no_item f interval start d items out) refl
-
-pub no_rule_if_out : (s : Sketch) (w : Window) (f : FamilyKind) (interval : ℕ) → IsValidSketch s → HasWindow s w
-    → is_in_unit f interval w.first w.next ≡ false → HasNoRule s f interval
-no_rule_if_out s w f interval valid has out rule kind start r same_family same_interval = of_next w.next has.next out
-  where
-    of_next : (next : Option ℤ) → IsSecondDay s w.first next → is_in_unit f interval w.first next ≡ false → ⊥
-    of_next None second h = false≢true (sym h)
-    of_next (Some d) second h =
-        let same_first = first_is s w rule kind start valid has r in
-        let late : day_part kind start ≤ℤ d = (let l = second.0 in omega (arith, ints, same_first, l)) in
-        let given = (rule_days s rule kind start valid r).1 d d late (omega (arith, ints)) second.1 ∙ second.1 in
-        let out' : divides rule.interval (family_unit rule.family d -ℤ family_unit rule.family (day_part kind start)) ≡ false =
-        subst (λ g. divides rule.interval (family_unit g d -ℤ family_unit g (day_part kind start)) ≡ false) (sym same_family)
-        (subst (λ n. divides n (family_unit f d -ℤ family_unit f (day_part kind start)) ≡ false) (sym same_interval)
-        (subst (λ x. divides interval (family_unit f d -ℤ family_unit f x) ≡ false) (sym same_first) h)) in
-        false≢true (sym (no_item rule.family rule.interval (day_part kind start) d rule.items out') ∙ given)
-
--- an occupied day that is not before the first one, and whose unit does not count, has no rule
-pub no_rule_if_last_out : (s : Sketch) (w : Window) (f : FamilyKind) (interval : ℕ) → IsValidSketch s → HasWindow s w
-    → is_in_unit f interval w.first (last_day w.end) ≡ false → HasNoRule s f interval
-no_rule_if_last_out s w f interval valid has out rule kind start r same_family same_interval = of_end w.end has.end out
-  where
-    same_first : day_part kind start ≡ w.first
-    same_first = first_is s w rule kind start valid has r
-
-    last_is_late : (d : ℤ) → is_occupied s d ≡ true → day_part kind start ≤ℤ d
-    last_is_late d occupied =
-        by_lt_z {P = day_part kind start ≤ℤ d} d (day_part kind start)
-        (λ l. absurd (false≢true (sym (ap (λ times. not (is_absent times)) (has.one_second.first_day.1 d (subst (λ x. d <ℤ x) same_first l))) ∙ occupied)))
-        (λ g. g)
-
-    of_end : (end : WindowEnd) → IsWindowEnd s w.first end → is_in_unit f interval w.first (last_day end) ≡ false → ⊥
-    of_end (Cycle period from) last h = false≢true (sym h)
-    of_end (Last d many) last h =
-        let occupied = last.0.occupied in
-        let late : day_part kind start ≤ℤ d = last_is_late d occupied in
-        let given = (rule_days s rule kind start valid r).1 d d late (omega (arith, ints)) occupied ∙ occupied in
-        let out' : divides rule.interval (family_unit rule.family d -ℤ family_unit rule.family (day_part kind start)) ≡ false =
-        subst (λ g. divides rule.interval (family_unit g d -ℤ family_unit g (day_part kind start)) ≡ false) (sym same_family)
-        (subst (λ n. divides n (family_unit f d -ℤ family_unit f (day_part kind start)) ≡ false) (sym same_interval)
-        (subst (λ x. divides interval (family_unit f d -ℤ family_unit f x) ≡ false) (sym same_first) h)) in
-        false≢true (sym (no_item rule.family rule.interval (day_part kind start) d rule.items out') ∙ given)
 
 -- ---- the days that are read
 

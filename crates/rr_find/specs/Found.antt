@@ -1,5 +1,5 @@
 -- What the search for a rule finds.
-use Rattle.std.specs.Prelude.{◌≡◌, ℕ, ◌<◌, ◌%◌, ◌==◌, Bool, true, ◌&&◌, if◌then◌else◌, Option, None, Some, List, ℤ, ◌-ℤ◌}
+use Rattle.std.specs.Prelude.{◌≡◌, ℕ, ◌<◌, ◌%◌, ◌==◌, ◌&&◌, if◌then◌else◌, Option, None, Some, List, ℤ}
 use Rattle.std.specs.Ordering.{int_eq}
 use Rattle.rr_family.specs.DaySets.{window_days}
 use Rattle.rr_family.specs.Profile.{IsRuleOf, IsFirstRule, IsWindow, EndsWith, kind_place, list_items, vrule}
@@ -10,8 +10,6 @@ use Rattle.rr_family.specs.declared.window.WindowEnd.TheVariants.{Last, Cycle}
 use Rattle.rr_find.specs.declared.found.Found.{Found}
 use Rattle.rr_model.specs.Moment.{Occurrences, day_part, moment_at}
 use Rattle.rr_model.specs.Sets.Sketch.{StandsIn}
-use Rattle.rr_model.specs.Vcal.Members.{family_unit}
-use Rattle.rr_model.specs.Whole.{divides}
 use Rattle.rr_model.specs.declared.item.Item.{Item}
 use Rattle.rr_model.specs.declared.kind.Kind.{Kind}
 use Rattle.rr_model.specs.declared.rule.End.{End}
@@ -70,16 +68,6 @@ days_up_to first cycle (Cycle period start) = if int_eq start first && (cycle % 
 -- the same for a kind and interval
 abbrev pub days_to_read : Window → FamilyKind → ℕ → Option ℕ
 days_to_read w f interval = days_up_to w.first (family_cycle f interval) w.end
-
--- the week, month or year of the day counts, if there is a day
-abbrev pub is_in_unit : FamilyKind → ℕ → ℤ → Option ℤ → Bool
-is_in_unit f interval first None = true
-is_in_unit f interval first (Some day) = divides interval (family_unit f day -ℤ family_unit f first)
-
--- the last day of a finite set
-abbrev pub last_day : WindowEnd → Option ℤ
-last_day (Last day many) = Some day
-last_day (Cycle period start) = None
 
 -- ---- of one interval
 

@@ -1,25 +1,25 @@
 // The list of items of one kind and interval that has a set.
-ghost use Rattle.std.specs.Prelude.{◌≡◌, ◌≤◌, IfOk, IfSome};
+ghost use Rattle.std.specs.Prelude.{◌≡◌, ◌≤◌, IfOk, IfSome, IsTrue};
 ghost use Rattle.rr_family.specs.Profile.{most_family_interval};
 ghost use Rattle.rr_family.specs.Shift.{family_cycle};
 ghost use Rattle.rr_family.specs.Walks.{IsNearWindow};
 ghost use Rattle.rr_family.specs.Windows.{HasWindow};
-ghost use Rattle.rr_find.specs.Found.{IsListOf, days_to_read, is_in_unit, last_day};
+ghost use Rattle.rr_find.specs.Found.{IsListOf, days_to_read};
+ghost use Rattle.rr_model.specs.Moment.Units.{is_whole_days};
+ghost use Rattle.rr_model.specs.Vcal.Counterpart.{family_freq};
 
 use crate::choice::taken_items;
 use crate::tallies::tally;
-use rr_cal::Day;
-use rr_family::{Window, WindowEnd, unit_of};
+use rr_family::{Window, WindowEnd};
 use rr_model::{FamilyKind, Freq, Items, NoMemory};
 use rr_num::interval_cycle;
-use rr_setpos::is_congruent;
 use rr_word::DaySeq;
 use std::alloc::Global;
 
 /// The items of a rule of this kind and interval that has the set, or none where no such rule has it.
 ///
-/// The window is that of the set. Its days are read once, and not at all where its period, its start, its second or last day
-/// tells that no such rule has the set.
+/// The window is that of the set. Its days are read once, and not at all where its period or its start tells that no such
+/// rule has the set.
 pub(crate) fn list_of<A: DaySeq>(
     alloc: Global,
     seq: &A,
@@ -36,12 +36,6 @@ pub(crate) fn list_of<A: DaySeq>(
     let Some(days) = days_to_read(window, kind, interval) else {
         return Ok(None);
     };
-    if !is_second_day_in_unit(window, kind, interval) {
-        return Ok(None);
-    }
-    if !is_last_day_in_unit(window, kind, interval) {
-        return Ok(None);
-    }
     match tally(seq, kind, interval, window.first, days) {
         Some(counts) => taken_items(alloc, kind, &counts),
         None => Ok(None),
@@ -77,39 +71,18 @@ fn family_cycle(kind: FamilyKind, interval: u32) -> u64
     ensures value { result ≡ family_cycle kind interval }
     ensures few { result ≤ 145_950_903 }
 {
-    let freq = match kind {
+    interval_cycle(family_freq(kind), interval)
+}
+
+/// The frequency whose units a kind counts.
+pub(crate) fn family_freq(kind: FamilyKind) -> Freq
+    ensures value { result ≡ family_freq kind }
+    ensures whole { IsTrue (is_whole_days result) }
+{
+    match kind {
         FamilyKind::D => Freq::Daily,
         FamilyKind::W => Freq::Weekly,
         FamilyKind::MD | FamilyKind::MP => Freq::Monthly,
         FamilyKind::YM | FamilyKind::YD => Freq::Yearly,
-    };
-    interval_cycle(freq, interval)
-}
-
-// Whether the week, month or year of the second day counts, if there is one.
-fn is_second_day_in_unit(window: &Window, kind: FamilyKind, interval: u32) -> bool
-    requires near { IsNearWindow window.now }
-    requires low { 1 ≤ interval }
-    ensures { result ≡ is_in_unit kind interval window.now.first window.now.next }
-{
-    let Some(next) = window.next else {
-        return true;
-    };
-    let from = unit_of(kind, &Day::new(window.first));
-    let to = unit_of(kind, &Day::new(next));
-    is_congruent(from, to, interval)
-}
-
-// Whether the week, month or year of the last day counts, if there is one.
-fn is_last_day_in_unit(window: &Window, kind: FamilyKind, interval: u32) -> bool
-    requires near { IsNearWindow window.now }
-    requires low { 1 ≤ interval }
-    ensures { result ≡ is_in_unit kind interval window.now.first (last_day window.now.end) }
-{
-    let WindowEnd::Last { day, .. } = window.end else {
-        return true;
-    };
-    let from = unit_of(kind, &Day::new(window.first));
-    let to = unit_of(kind, &Day::new(day));
-    is_congruent(from, to, interval)
+    }
 }

@@ -1,14 +1,15 @@
 // The search over intervals and kinds.
 ghost use Rattle.std.specs.Prelude.{◌≡◌, ◌≤◌, IfOk};
+ghost use Rattle.rr_family.specs.Divisors.{HasDivisors};
 ghost use Rattle.rr_family.specs.Profile.{most_family_interval};
 ghost use Rattle.rr_family.specs.Walks.{IsNearWindow};
 ghost use Rattle.rr_family.specs.Windows.{HasWindow};
-ghost use Rattle.rr_find.specs.Found.{IsFound, IsFoundAt, IsFoundOf, found_of};
+ghost use Rattle.rr_find.specs.Found.{HasNoRuleBelow, IsFound, IsFoundAt, IsFoundOf, found_of};
 ghost use Rattle.rr_model.specs.Sets.Sketch.{StandsIn};
 
 use crate::found::Found;
-use crate::lists::list_of;
-use rr_family::{Window, WindowEnd, window_of};
+use crate::lists::{family_freq, list_of};
+use rr_family::{Divisors, Window, WindowEnd, divisors_of, window_of};
 use rr_model::{End, FamilyKind, Items, NoMemory, VRule, moment_at};
 use rr_word::DaySeq;
 use std::alloc::Global;
@@ -34,8 +35,9 @@ pub fn find<A: DaySeq>(alloc: Global, seq: &A) -> Result<Option<Found>, NoMemory
     let Some(window) = window_of(seq) else {
         return Ok(None);
     };
+    let divisors = divisors_of(seq, &window);
     for interval in 1..1_000 {
-        let found = find_at(alloc, seq, &window, interval)?;
+        let found = find_at(alloc, seq, &window, &divisors, interval)?;
         if found.is_some() {
             return Ok(found);
         }
@@ -43,21 +45,24 @@ pub fn find<A: DaySeq>(alloc: Global, seq: &A) -> Result<Option<Found>, NoMemory
     Ok(None)
 }
 
-// The first rule of one interval.
+// The first rule of one interval, where none of a lesser one has the set.
 fn find_at<A: DaySeq>(
     alloc: Global,
     seq: &A,
     window: &Window,
+    divisors: &Divisors,
     interval: u32,
 ) -> Result<Option<Found>, NoMemory>
     requires window { HasWindow (A.sketch seq.now) window.now }
     requires near { IsNearWindow window.now }
+    requires divisors { HasDivisors (A.sketch seq.now) window.now divisors.now }
+    requires below { HasNoRuleBelow (A.sketch seq.now) interval }
     requires low { 1 ≤ interval }
     requires high { interval ≤ 999 }
     ensures { IfOk result (IsFoundAt (A.sketch seq.now) interval) }
 {
     for kind in KINDS {
-        let found = find_of(alloc, seq, window, kind, interval)?;
+        let found = find_of(alloc, seq, window, divisors, kind, interval)?;
         if found.is_some() {
             return Ok(found);
         }
@@ -65,20 +70,27 @@ fn find_at<A: DaySeq>(
     Ok(None)
 }
 
-// The rule of one kind and interval.
+// The rule of one kind and interval, where none of a lesser interval has the set. No day is read where the divisor of the
+// kind's units leaves the interval out.
 fn find_of<A: DaySeq>(
     alloc: Global,
     seq: &A,
     window: &Window,
+    divisors: &Divisors,
     kind: FamilyKind,
     interval: u32,
 ) -> Result<Option<Found>, NoMemory>
     requires window { HasWindow (A.sketch seq.now) window.now }
     requires near { IsNearWindow window.now }
+    requires divisors { HasDivisors (A.sketch seq.now) window.now divisors.now }
+    requires below { HasNoRuleBelow (A.sketch seq.now) interval }
     requires low { 1 ≤ interval }
     ensures { IfOk result (IsFoundOf (A.sketch seq.now) kind interval) }
 {
     if interval > most_interval(kind) {
+        return Ok(None);
+    }
+    if divisors.leave_out(window.end, family_freq(kind), 0, interval) {
         return Ok(None);
     }
     match list_of(alloc, seq, window, kind, interval)? {

@@ -65,6 +65,10 @@ impl DaySeq for Every {
         }
     }
 
+    fn free_days(&self, _day: i64) -> u64 {
+        0
+    }
+
     fn times(&self, _number: u32) -> &[u32] {
         &[0]
     }

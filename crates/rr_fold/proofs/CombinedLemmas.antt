@@ -1,10 +1,10 @@
 -- Combinations of the sets of two lists, and their numbers.
-use Rattle.std.proofs.Common.{◌≡◌, ℕ, ◌+◌, ◌<◌, ◌≤◌, List, [], Contains, get_or, length, nat_lt, refl, sym, subst, ◌∙◌, inl, inr, arith}
-use Rattle.std.specs.Prelude.{◌⊎◌, ◌≢◌, Some, slice_get}
-use Rattle.std.specs.List.{slice_set}
+use Rattle.std.proofs.Common.{◌≡◌, ℕ, zero, suc, ◌+◌, ◌-◌, ◌<◌, ◌≤◌, List, [], ◌∷◌, ◌++◌, Contains, get_or, length, length-append, nat_lt, refl, sym, ap, subst, ◌∙◌, inl, inr, arith, rules}
+use Rattle.std.specs.Prelude.{◌⊎◌, ◌≢◌, Some, replicate, slice_get}
 use Rattle.std.proofs.lemmas.Bool.{cases_lt}
-use Rattle.std.proofs.lemmas.Grind.{get_or-set_at}
-use Rattle.std.proofs.lemmas.List.{get_or_default, get_or-set_other, length-set}
+use Rattle.std.proofs.Math.ListN.{get_or-append}
+use Rattle.std.proofs.Math.Seq.{get_or-append_seam}
+use Rattle.std.proofs.lemmas.List.{get_or-append-add, get_or-replicate, length-replicate}
 use Rattle.std.proofs.lemmas.List.Elements.{All-contains, All-contains_itself}
 use Rattle.std.proofs.lemmas.Option.{get_or_from_slice_get, slice_get_within}
 use Rattle.rr_model.specs.Rising.Sets.{IsSetOf}
@@ -15,7 +15,8 @@ use Rattle.rr_shapes.specs.Tables.{Extends}
 use Rattle.rr_shapes.specs.declared.unions.Pair.{Pair}
 use Rattle.rr_lazy.specs.Tables.{same_set}
 use Rattle.rr_days.specs.Growing.{IsGrown}
-use Rattle.rr_fold.specs.Combined.{AreCombinationsOf, AreCombinedTo, AreShapes, AreUsed, Has, IsCombinationOf}
+use Rattle.rr_runs.specs.Pages.{IsZeroFrom}
+use Rattle.rr_fold.specs.Combined.{AreCombinationsOf, AreCombined, AreCombinedTo, AreLists, AreShapes, AreUsed, Has, IsCombinationOf, IsCombinedTo}
 use Rattle.rr_fold.specs.declared.combined.Op.{Op}
 use Rattle.rr_fold.specs.declared.combined.Op.TheVariants.{Union, Minus}
 
@@ -62,63 +63,114 @@ nothing_in Minus s h = Contains-none s h.0
 pub made_of_none : (op : Op) (x y times : List ℕ) → x ≡ [] → y ≡ [] → times ≡ [] → IsSetOf nat_lt times (Has op x y)
 made_of_none op x y times e f g = rw (e, f, g) (record { rises = tt; exact = λ s. ((λ c. absurd (Contains-none s c)), (λ h. absurd (nothing_in op s h))) })
 
+-- two empty sets have the number of the empty set
+pub none_combined : (op : Op) (one other sets : List (List ℕ)) → get_or one 0 [] ≡ [] → get_or other 0 [] ≡ [] → AreShapes sets
+    → IsCombinationOf op one other sets 0 0 0
+none_combined op one other sets e f shapes = record {
+  within = shapes.within;
+  set = made_of_none op (get_or one 0 []) (get_or other 0 []) (get_or sets 0 []) e f shapes.empty;
+}
+
+-- fewer days are free, too
+pub fewer_free : (numbers : List ℕ) (place count few : ℕ) → few ≤ count → IsZeroFrom numbers place count → IsZeroFrom numbers place few
+fewer_free numbers place count few l free = record {
+  within = omega (arith, free.within, l);
+  zeros = λ k m. free.zeros k (omega (arith, m, l));
+}
+
+-- the one set of this list is empty
+only_empty : (m : ℕ) → get_or {A = List ℕ} ([] ∷ []) m [] ≡ []
+only_empty zero = refl
+only_empty (suc m) = refl
+
 -- ---- place by place
 
--- the numbers before a place are those of combinations, and the others are as they were
-pub record IsCombinedTo (op : Op) (n : ℕ) (one : List (List ℕ)) (ones : List ℕ) (other : List (List ℕ)) (others : List ℕ) (sets : List (List ℕ)) (known : List (Pair × ℕ))
-    (numbers : List ℕ) : Type 0 where
-  pub whole : length numbers ≡ length ones
-  pub rest : (k : ℕ) → n ≤ k → get_or numbers k 0 ≡ get_or ones k 0
-  pub shapes : AreShapes sets
-  pub unions : AreCombinationsOf op one other sets known
-  pub combined : AreCombinedTo op n one ones other others sets numbers
-  pub used : AreUsed n sets numbers
+module _ (op : Op) (one : List (List ℕ)) (ones : List ℕ) (other : List (List ℕ)) (others : List ℕ) where
+  -- one more number
+  module _ (n : ℕ) (sets sets' : List (List ℕ)) (known known' : List (Pair × ℕ)) (numbers numbers' : List ℕ) (number : ℕ)
+      (so_far : IsCombinedTo op one ones other others sets known numbers) (at : length numbers ≡ n) (more : IsGrown sets sets' number)
+      (union : IsCombinationOf op one other sets' (get_or ones n 0) (get_or others n 0) number) (put : numbers' ≡ numbers ++ number ∷ []) where
+    pub longer : length numbers' ≡ n + 1
+    longer = omega (arith, ap length put, length-append numbers (number ∷ []), at)
 
--- what is read at a place of a list
-pub read_at : (xs : List ℕ) (k x : ℕ) → k < length xs → x ≡ get_or xs k x → get_or xs k 0 ≡ x
-read_at xs k x l e = get_or_default xs k 0 x l ∙ sym e
+    here : get_or numbers' n 0 ≡ number
+    here = ap (λ (l : List ℕ). get_or l n 0) put ∙ ap (λ k. get_or (numbers ++ number ∷ []) k 0) (sym at) ∙ get_or-append_seam numbers number [] 0
 
--- one more number
-module _ (op : Op) (one : List (List ℕ)) (ones : List ℕ) (other : List (List ℕ)) (others : List ℕ) (n : ℕ) (sets sets' : List (List ℕ))
-    (known known' : List (Pair × ℕ)) (numbers : List ℕ) (number : ℕ) (so_far : IsCombinedTo op n one ones other others sets known numbers)
-    (within : n < length ones) (more : IsGrown sets sets' number)
-    (union : IsCombinationOf op one other sets' (get_or numbers n 0) (get_or others n 0) number) where
-  abbrev numbers' : List ℕ
-  numbers' = slice_set numbers n number
+    others_kept : (k : ℕ) → k < n → get_or numbers' k 0 ≡ get_or numbers k 0
+    others_kept k l = ap (λ (xs : List ℕ). get_or xs k 0) put ∙ get_or-append numbers (number ∷ []) 0 k (omega (arith, l, at))
 
-  here : get_or numbers' n 0 ≡ number
-  here = get_or-set_at numbers n n number 0 refl (omega (arith, within, so_far.whole))
+    combined_to : AreCombinedTo op (length numbers') one ones other others sets' numbers'
+    combined_to k l = elim (cases_lt k n) [
+      | inl m ↦ rw (others_kept k m) (union_kept sets sets' more.kept op one other _ _ _ (so_far.combined k (omega (arith, m, at))))
+      | inr g ↦ (
+          let e : k ≡ n = omega (arith, l, g, longer) in
+          rw (e, here) union)
+    ]
 
-  others_kept : (k : ℕ) → (k ≡ n → ⊥) → get_or numbers' k 0 ≡ get_or numbers k 0
-  others_kept k apart = get_or-set_other numbers n k number 0 apart
+    used_so_far : (m : ℕ) → m < length sets → get_or sets' m [] ≢ [] → (k : ℕ) × ((k < length numbers') × (get_or numbers' k 0 ≡ m))
+    used_so_far m l some =
+        let found = so_far.used m l (λ e. some ((same_set sets sets' m more.kept l).1 ∙ e)) in
+        (found.0, (omega (arith, found.1.0, at, longer), others_kept found.0 (omega (arith, found.1.0, at)) ∙ found.1.1))
 
-  combined_to : AreCombinedTo op (n + 1) one ones other others sets' numbers'
-  combined_to k l = elim (cases_lt k n) [
-    | inl m ↦ rw (others_kept k (λ e. absurd (omega (arith, m, e)))) (union_kept sets sets' more.kept op one other _ _ _ (so_far.combined k m))
-    | inr g ↦ (
-        let e : k ≡ n = omega (arith, l, g) in
-        let union_of_ones : IsCombinationOf op one other sets' (get_or ones n 0) (get_or others n 0) number =
-        subst (λ a. IsCombinationOf op one other sets' a (get_or others n 0) number) (so_far.rest n (omega arith)) union in
-        rw (e, here) union_of_ones)
-  ]
+    used_to : AreUsed (length numbers') sets' numbers'
+    used_to m l some = elim (more.added m l) [
+      | inl was ↦ used_so_far m was some
+      | inr new ↦ (n, (omega (arith, longer), here ∙ sym new))
+    ]
 
-  used_so_far : (m : ℕ) → m < length sets → get_or sets' m [] ≢ [] → (k : ℕ) × ((k < n + 1) × (get_or numbers' k 0 ≡ m))
-  used_so_far m l some =
-      let at = so_far.used m l (λ e. some ((same_set sets sets' m more.kept l).1 ∙ e)) in
-      (at.0, (omega (arith, at.1.0), others_kept at.0 (λ e. absurd (omega (arith, at.1.0, e))) ∙ at.1.1))
+    pub combined_on : AreShapes sets' → AreCombinationsOf op one other sets' known' → IsCombinedTo op one ones other others sets' known' numbers'
+    combined_on shapes unions = record { shapes = shapes; known_ones = unions; combined = combined_to; used = used_to }
 
-  used_to : AreUsed (n + 1) sets' numbers'
-  used_to m l some = elim (more.added m l) [
-    | inl was ↦ used_so_far m was some
-    | inr new ↦ (n, (omega arith, here ∙ sym new))
-  ]
+  -- days that are free in both
+  module _ (n count : ℕ) (sets : List (List ℕ)) (known : List (Pair × ℕ)) (numbers numbers' : List ℕ)
+      (so_far : IsCombinedTo op one ones other others sets known numbers) (at : length numbers ≡ n) (lists : AreLists one ones other others)
+      (free : IsZeroFrom ones n count) (free' : IsZeroFrom others n count) (put : numbers' ≡ numbers ++ replicate count 0) where
+    pub longer_free : length numbers' ≡ n + count
+    longer_free = omega (arith, ap length put, length-append numbers (replicate count 0), length-replicate {A = ℕ} count 0, at)
 
-  pub combined_on : AreShapes sets' → AreCombinationsOf op one other sets' known' → IsCombinedTo op (n + 1) one ones other others sets' known' numbers'
-  combined_on shapes unions = record {
-    whole = length-set numbers n number ∙ so_far.whole;
-    rest = λ k l. others_kept k (λ e. absurd (omega (arith, l, e))) ∙ so_far.rest k (omega (arith, l));
-    shapes = shapes;
-    unions = unions;
-    combined = combined_to;
-    used = used_to;
+    kept_free : (k : ℕ) → k < n → get_or numbers' k 0 ≡ get_or numbers k 0
+    kept_free k l = ap (λ (xs : List ℕ). get_or xs k 0) put ∙ get_or-append numbers (replicate count 0) 0 k (omega (arith, l, at))
+
+    free_at : (j : ℕ) → j < count → get_or numbers' (n + j) 0 ≡ 0
+    free_at j l =
+        ap (λ (xs : List ℕ). get_or xs (n + j) 0) put ∙ ap (λ i. get_or (numbers ++ replicate count 0) (i + j) 0) (sym at)
+        ∙ get_or-append-add numbers (replicate count 0) j 0 ∙ get_or-replicate count j 0 0 l
+
+    combined_free : AreCombinedTo op (length numbers') one ones other others sets numbers'
+    combined_free k l = elim (cases_lt k n) [
+      | inl m ↦ rw (kept_free k m) (so_far.combined k (omega (arith, m, at)))
+      | inr g ↦ (
+          let j : ℕ = k - n in
+          let k_is : k ≡ n + j = omega (arith, g) in
+          let within : j < count = omega (arith, l, longer_free, k_is) in
+          rw (k_is, free_at j within, free.zeros j within, free'.zeros j within)
+          (none_combined op one other sets lists.one_empty lists.other_empty so_far.shapes))
+    ]
+
+    pub combined_on_free : IsCombinedTo op one ones other others sets known numbers'
+    combined_on_free = record {
+      shapes = so_far.shapes;
+      known_ones = so_far.known_ones;
+      combined = combined_free;
+      used = λ m l some. (let found = so_far.used m l some in
+          (found.0, (omega (arith, found.1.0, at, longer_free), kept_free found.0 (omega (arith, found.1.0, at)) ∙ found.1.1)));
+    }
+
+  -- nothing is combined yet
+  pub combined_none : (known : List (Pair × ℕ)) (sets : List (List ℕ)) → known ≡ [] → sets ≡ [] ∷ [] → IsCombinedTo op one ones other others sets known []
+  combined_none known sets none alone = rw (none, alone) (record {
+    shapes = record { within = search rules; empty = refl; few = search rules };
+    known_ones = λ k d l. absurd (omega (arith, l));
+    combined = λ k l. absurd (omega (arith, l));
+    used = λ m l some. absurd (some (only_empty m));
+  })
+
+  -- all is combined
+  pub all_combined : (sets : List (List ℕ)) (known : List (Pair × ℕ)) (numbers : List ℕ) → length numbers ≡ length ones
+      → IsCombinedTo op one ones other others sets known numbers → AreCombined op one ones other others sets numbers
+  all_combined sets known numbers whole is = record {
+    whole = whole;
+    shapes = is.shapes;
+    combined = subst (λ n. AreCombinedTo op n one ones other others sets numbers) whole is.combined;
+    used = subst (λ n. AreUsed n sets numbers) whole is.used;
   }

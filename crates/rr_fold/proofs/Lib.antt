@@ -1,5 +1,6 @@
 pub mod CountedJumpLemmas
 pub mod DistinctLemmas
+pub mod FineYearLemmas
 pub mod FoldLemmas
 pub mod JumpLemmas
 pub mod JumpOfLemmas

@@ -31,7 +31,7 @@ use Rattle.rr_setpos.proofs.PositionLemmas.{chosen_candidate, chosen_no_candidat
 use Rattle.rr_expand.specs.Years.{Filling, allows_day, mask_key}
 use Rattle.rr_expand.proofs.KeyLemmas.{told_by_keys, days_in_year-alike}
 use Rattle.rr_expand.proofs.KeyWeekLemmas.{equal_keys_have_equal_masks}
-use Rattle.rr_fold.specs.Years.{RepeatsByYears, EqualKeysHaveEqualDays, EqualKeysHaveEqualLengths}
+use Rattle.rr_fold.specs.Years.{LeavesNoUnitOut, EqualKeysHaveEqualDays, EqualKeysHaveEqualLengths}
 
 -- ---- lengths
 
@@ -181,12 +181,12 @@ has_second_is Days s l = grind (arith, nat_tests)
 has_second_is Moments s l = grind (arith, nat_tests)
 
 -- and no others
-has_second_not : (kind : Kind) (s : ℕ) → seconds_of kind ≤ s → has_second kind s ≡ false
+pub has_second_not : (kind : Kind) (s : ℕ) → seconds_of kind ≤ s → has_second kind s ≡ false
 has_second_not Days s l = grind (arith, nat_tests)
 has_second_not Moments s l = grind (arith, nat_tests)
 
 -- each second of a day after the start's day is after the start
-not_before : (kind : Kind) (start d : ℤ) (s : ℕ) → day_part kind start <ℤ d → int_le start (moment_at kind d s) ≡ true
+pub not_before : (kind : Kind) (start d : ℤ) (s : ℕ) → day_part kind start <ℤ d → int_le start (moment_at kind d s) ≡ true
 not_before Days start d s h = grind (arith, ints)
 not_before Moments start d s h =
     let w = floor_whole start 86_400 (omega arith) in
@@ -207,13 +207,13 @@ day_holds-each rule start_day d each =
     rw fits refl
 
 -- of two tests that hold, what is left of the conjunctions
-left_of_and : (a b p q : Bool) → a ≡ true → b ≡ true → (a && p) ≡ (b && q) → p ≡ q
+pub left_of_and : (a b p q : Bool) → a ≡ true → b ≡ true → (a && p) ≡ (b && q) → p ≡ q
 left_of_and true true p q g h e = e
 left_of_and true false p q g h e = absurd (cc)
 left_of_and false b p q g h e = absurd (cc)
 
 -- moments that are candidates alike, and whose ranks are listed alike, are chosen alike
-chosen-same : (rule : Rule) (kind : Kind) (start t u : ℤ) → IsValidRule kind rule → is_candidate rule kind start t ≡ is_candidate rule kind start u
+pub chosen-same : (rule : Rule) (kind : Kind) (start t u : ℤ) → IsValidRule kind rule → is_candidate rule kind start t ≡ is_candidate rule kind start u
     → is_rank_listed rule (rank_by_parts rule kind start t) (size_by_parts rule kind start t)
     ≡ is_rank_listed rule (rank_by_parts rule kind start u) (size_by_parts rule kind start u)
     → is_chosen rule kind start t ≡ is_chosen rule kind start u
@@ -223,7 +223,7 @@ chosen-same rule kind start t u valid alike listed =
       | false ↦ λ e. chosen_no_candidate rule kind start t e ∙ sym (chosen_no_candidate rule kind start u (sym alike ∙ e))
     ] refl
 
-module _ (rule : Rule) (kind : Kind) (start y z : ℤ) (valid : IsValidRule kind rule) (repeats : RepeatsByYears rule)
+module _ (rule : Rule) (kind : Kind) (start y z : ℤ) (valid : IsValidRule kind rule) (repeats : LeavesNoUnitOut rule)
     (keys : mask_key rule y ≡ mask_key rule z) where
   leap_same : is_leap y ≡ is_leap z
   leap_same = (told_by_keys rule y z keys).alike.leap

@@ -1,9 +1,12 @@
 -- What is walked.
-use Rattle.std.proofs.Common.{ℕ, List, [], ℤ, ◌≤ℤ◌, arith}
+use Rattle.std.proofs.Common.{◌≡◌, ℕ, ◌+◌, ◌-◌, ◌<◌, ◌≤◌, List, [], ◌∷◌, ◌++◌, length, length-append, get_or, ℤ, ◌≤ℤ◌, sym, ap, ◌∙◌, arith}
+use Rattle.std.proofs.Math.ListN.{get_or-append}
+use Rattle.std.proofs.Math.Seq.{get_or-append_seam}
+use Rattle.std.proofs.lemmas.List.{get_or-append-add, get_or-replicate, length-replicate}
 use Rattle.std.proofs.lemmas.Option.{slice_get_within}
-use Rattle.std.specs.Prelude.{Some}
+use Rattle.std.specs.Prelude.{Some, replicate}
 use Rattle.rr_model.specs.Sets.Tree.{Tree}
-use Rattle.rr_fold.specs.Folding.{HasNoneBefore}
+use Rattle.rr_fold.specs.Folding.{HasNoneBefore, IsFilledUp, IsPut}
 use Rattle.rr_fold.specs.Numbering.{IsKnown}
 use Rattle.rr_fold.specs.Walks.{IsNewWalk, IsWalk}
 use Rattle.rr_fold.specs.declared.walk.Walk.{Walk}
@@ -20,3 +23,33 @@ nothing_walked tree first position walk new early l = record {
   known = rw new.known (nothing_known walk.numbering.sets walk.days.shapes);
   folded = rw (new.shapes, new.numbers) (nothing_folded tree first position early l);
 }
+
+-- ---- days without occurrences
+
+-- 0 at each place before this one
+pub filled_to : (old new : List ℕ) (place count : ℕ) → length old ≤ place → count ≡ place - length old → new ≡ old ++ replicate count 0
+    → IsFilledUp old place new
+filled_to old new place count order many put =
+    let size : length new ≡ length old + count = omega (arith, ap length put, length-append old (replicate count 0), length-replicate {A = ℕ} count 0) in
+    record {
+      whole = omega (arith, size, many, order);
+      kept = λ k l. ap (λ (xs : List ℕ). get_or xs k 0) put ∙ get_or-append old (replicate count 0) 0 k l;
+      zeros = λ k l m.
+          let j : ℕ = k - length old in
+          let k_is : k ≡ length old + j = omega (arith, l) in
+          ap (λ (i : ℕ). get_or new i 0) k_is ∙ ap (λ (xs : List ℕ). get_or xs (length old + j) 0) put
+          ∙ get_or-append-add old (replicate count 0) j 0 ∙ get_or-replicate count j 0 0 (omega (arith, m, many, k_is));
+    }
+
+-- and a number at it
+pub put_after : (old mid new : List ℕ) (place number : ℕ) → IsFilledUp old place mid → new ≡ mid ++ number ∷ [] → length old ≤ place
+    → IsPut old place number new
+put_after old mid new place number filled put order =
+    let before : (k : ℕ) → k < place → get_or new k 0 ≡ get_or mid k 0 =
+    λ k l. ap (λ (xs : List ℕ). get_or xs k 0) put ∙ get_or-append mid (number ∷ []) 0 k (omega (arith, l, filled.whole)) in
+    record {
+      whole = omega (arith, ap length put, length-append mid (number ∷ []), filled.whole);
+      kept = λ k l. before k (omega (arith, l, order)) ∙ filled.kept k l;
+      between = λ k l m. before k m ∙ filled.zeros k l m;
+      last = ap (λ (i : ℕ). get_or new i 0) (sym filled.whole) ∙ ap (λ (xs : List ℕ). get_or xs (length mid) 0) put ∙ get_or-append_seam mid number [] 0;
+    }

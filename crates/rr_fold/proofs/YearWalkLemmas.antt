@@ -1,5 +1,5 @@
 -- Days of years that are copied from those of another year, and the places that are kept.
-use Rattle.std.proofs.Common.{◌≡◌, ℕ, ◌+◌, ◌-◌, ◌<◌, ◌≤◌, List, [], length, get_or, ℤ, pos, neg_ℤ, ◌+ℤ◌, ◌≤ℤ◌, ◌<ℤ◌}
+use Rattle.std.proofs.Common.{◌≡◌, ℕ, ◌+◌, ◌-◌, ◌*◌, ◌%◌, ◌<◌, ◌≤◌, List, [], ◌++◌, length, length-append, get_or, take, drop, refl, nat_abs, ℤ, pos, neg_ℤ, ◌-ℤ◌, ◌+ℤ◌, ◌≤ℤ◌, ◌<ℤ◌}
 use Rattle.std.proofs.Common.{sym, ap, subst, ◌∙◌, inl, inr, arith, rules, w64, to_z, of_z, to_z-of_z, FitsSigned}
 use Rattle.std.specs.Prelude.{IsTrue, Option, Some, None, nat_lt}
 use Rattle.std.specs.Int.{int_min}
@@ -16,9 +16,11 @@ use Rattle.rr_model.specs.Sets.Tree.{Tree, stands_at}
 use Rattle.rr_model.specs.declared.rule.Rule.{Rule}
 use Rattle.rr_expand.specs.Years.{mask_key}
 use Rattle.rr_fold.specs.Folding.{IsFoldedTo, IsNumbered}
-use Rattle.rr_fold.specs.Years.{AreKeptYears, HasEqualYears, IsCopied, IsKeptYear, IsYearUpTo}
+use Rattle.rr_fold.specs.Years.{AreKeptYears, HasEqualYears, IsCopied, IsKeptYear, IsYearUpTo, year_slot}
 use Rattle.rr_days.proofs.BackLemmas.{back}
 use Rattle.rr_fold.proofs.SameYearLemmas.{equal_keys_have_equal_lengths}
+use Rattle.rr_fold.proofs.FineYearLemmas.{slot_keys}
+use Rattle.rr_fold.proofs.SplicedLemmas.{kept_put, length_put, put_at}
 
 -- ---- days that have the seconds of others
 
@@ -29,6 +31,18 @@ numbered_alike tree d e sets number same i = record {
   within = i.within;
   all = set_same nat_lt (λ s. IsTrue (stands_at tree d s)) (λ s. IsTrue (stands_at tree e s)) (get_or sets number []) i.all
       (λ s. ((λ t. sym (same s) ∙ t), (λ t. same s ∙ t)));
+}
+
+-- a list that goes on is no shorter
+pub grown : (old new more : List ℕ) → new ≡ old ++ more → length old ≤ length new
+grown old new more put = omega (arith, ap length put, length-append old more)
+
+-- numbers that stand once more at the end
+pub copied_again : (old new : List ℕ) (place count : ℕ) → place + count ≤ length old → new ≡ old ++ take count (drop place old) → IsCopied old place count new
+copied_again old new place count room put = record {
+  whole = length_put old old new place count room put;
+  kept = kept_put old old new place count room put;
+  again = λ k l. put_at old old new place count room put (length old + k) k refl l;
 }
 
 -- n days more are folded by the numbers of days that have the same seconds
@@ -59,19 +73,26 @@ folded_copied tree first from sets old new place count folded at copied room sam
 
 -- ---- places of years
 
+-- the slot of a year whose first day has a place
+pub slot_is : (rule : Rule) (period : ℕ) (first year : ℤ) (place slot : ℕ) → first_day_of_year year ≡ first +ℤ pos place
+    → slot ≡ mask_key rule year + 56 * (place % period) → slot ≡ year_slot rule period first year
+slot_is rule period first year place slot at e =
+    let same : place ≡ nat_abs (first_day_of_year year -ℤ first) = omega (arith, ints, at) in
+    e ∙ ap (λ (n : ℕ). mask_key rule year + 56 * (n % period)) same
+
 -- a kept year stays where it is as days are added
-pub kept_longer : (rule : Rule) (first : ℤ) (days days' : ℕ) (kept : List (Option ℕ)) → days ≤ days' → AreKeptYears rule first days kept
-    → AreKeptYears rule first days' kept
-kept_longer rule first days days' kept more are = record {
+pub kept_longer : (rule : Rule) (period : ℕ) (first : ℤ) (days days' : ℕ) (kept : List (Option ℕ)) → days ≤ days' → AreKeptYears rule period first days kept
+    → AreKeptYears rule period first days' kept
+kept_longer rule period first days days' kept more are = record {
   places = are.places;
   years = λ key place e. (let y = are.years key place e in
-      record { year = y.year; of_key = y.of_key; after = y.after; begins = y.begins; ends = omega (arith, y.ends, more) });
+      record { year = y.year; of_slot = y.of_slot; after = y.after; begins = y.begins; ends = omega (arith, y.ends, more) });
 }
 
 -- no year is kept where there is nothing at each place
-pub none_kept : (rule : Rule) (first : ℤ) (days : ℕ) (kept : List (Option ℕ)) → length kept ≡ 56 → ((k : ℕ) → k < 56 → get_or kept k None ≡ None)
-    → AreKeptYears rule first days kept
-none_kept rule first days kept whole none = record {
+pub none_kept : (rule : Rule) (period : ℕ) (first : ℤ) (days : ℕ) (kept : List (Option ℕ)) → length kept ≡ 56 * period → ((k : ℕ) → k < 56 * period → get_or kept k None ≡ None)
+    → AreKeptYears rule period first days kept
+none_kept rule period first days kept whole none = record {
   places = whole;
   years = λ key place e.
       (let l = slice_get_within kept key (Some place) e in
@@ -83,14 +104,14 @@ none_kept rule first days kept whole none = record {
 some_place : (a b : ℕ) → Some a ≡ Some b → a ≡ b
 some_place a b e = cc
 
--- a year that is over is kept at its key
-pub one_kept : (rule : Rule) (first year : ℤ) (days days' place : ℕ) (kept : List (Option ℕ)) → days ≤ days' → AreKeptYears rule first days kept
-    → mask_key rule year < 56 → first <ℤ first_day_of_year year → first_day_of_year year ≡ first +ℤ pos place → place + days_in_year year ≤ days'
-    → AreKeptYears rule first days' (slice_set kept (mask_key rule year) (Some place))
-one_kept rule first year days days' place kept more are low after begins ends =
-    let key : ℕ = mask_key rule year in
+-- a year that is over is kept at its slot
+pub one_kept : (rule : Rule) (period : ℕ) (first year : ℤ) (days days' place : ℕ) (kept : List (Option ℕ)) → days ≤ days' → AreKeptYears rule period first days kept
+    → year_slot rule period first year < 56 * period → first <ℤ first_day_of_year year → first_day_of_year year ≡ first +ℤ pos place → place + days_in_year year ≤ days'
+    → AreKeptYears rule period first days' (slice_set kept (year_slot rule period first year) (Some place))
+one_kept rule period first year days days' place kept more are low after begins ends =
+    let key : ℕ = year_slot rule period first year in
     let new : List (Option ℕ) = slice_set kept key (Some place) in
-    let long = kept_longer rule first days days' kept more are in
+    let long = kept_longer rule period first days days' kept more are in
     record {
       places = length-set kept key (Some place) ∙ are.places;
       years = λ n p e. (
@@ -99,7 +120,7 @@ one_kept rule first year days days' place kept more are low after begins ends =
             | inl same ↦ (
                 let found : place ≡ p =
                 some_place place p (sym (get_or-set_at kept key n (Some place) None same (omega (arith, low, are.places))) ∙ here) in
-                record { year = year; of_key = sym same; after = after; begins = rw (sym found) begins; ends = rw (sym found) ends })
+                record { year = year; of_slot = sym same; after = after; begins = rw (sym found) begins; ends = rw (sym found) ends })
             | inr other ↦ (
                 let m : n < length kept = omega (arith, length-set kept key (Some place), slice_get_within new n (Some p) e) in
                 let before : get_or kept n None ≡ Some p = sym (get_or-set_other kept key n (Some place) None other) ∙ here in
@@ -107,26 +128,26 @@ one_kept rule first year days days' place kept more are low after begins ends =
           ]);
     }
 
--- the year whose place is read at its key
-pub kept_read : (rule : Rule) (first year : ℤ) (days key place : ℕ) (kept : List (Option ℕ)) (found : Option ℕ) → AreKeptYears rule first days kept
-    → key < 56 → key ≡ mask_key rule year → found ≡ get_or kept key found → found ≡ Some place → IsKeptYear rule first days (mask_key rule year) place
-kept_read rule first year days key place kept found are low of_key read is =
-    subst (λ n. IsKeptYear rule first days n place) of_key
+-- the year whose place is read at its slot
+pub kept_read : (rule : Rule) (period : ℕ) (first year : ℤ) (days key place : ℕ) (kept : List (Option ℕ)) (found : Option ℕ) → AreKeptYears rule period first days kept
+    → key < 56 * period → key ≡ year_slot rule period first year → found ≡ get_or kept key found → found ≡ Some place → IsKeptYear rule period first days (year_slot rule period first year) place
+kept_read rule period first year days key place kept found are low of_key read is =
+    subst (λ n. IsKeptYear rule period first days n place) of_key
     (are.years key place (slice_get-get_or kept key found (omega (arith, low, are.places)) ∙ ap (λ (x : Option ℕ). Some x) (sym read ∙ is)))
 
--- the days of a kept year have the seconds of those of a year of its key
-pub kept_alike : (rule : Rule) (tree : Tree) (first year : ℤ) (days place k s : ℕ) → HasEqualYears rule tree first
-    → IsKeptYear rule first days (mask_key rule year) place → first <ℤ first_day_of_year year → k < days_in_year year
+-- the days of a kept year have the seconds of those of a year of its slot
+pub kept_alike : (rule : Rule) (period : ℕ) (tree : Tree) (first year : ℤ) (days place k s : ℕ) → HasEqualYears rule period tree first
+    → IsKeptYear rule period first days (year_slot rule period first year) place → first <ℤ first_day_of_year year → k < days_in_year year
     → stands_at tree (first +ℤ pos (place + k)) s ≡ stands_at tree (first_day_of_year year +ℤ pos k) s
-kept_alike rule tree first year days place k s equal kept after l =
+kept_alike rule period tree first year days place k s equal kept after l =
     let day : first +ℤ pos (place + k) ≡ first_day_of_year kept.year +ℤ pos k = omega (arith, ints, kept.begins) in
-    ap (λ d. stands_at tree d s) day ∙ sym (equal year kept.year after kept.after (sym kept.of_key) k s l)
+    ap (λ d. stands_at tree d s) day ∙ sym (equal year kept.year after kept.after (sym kept.of_slot) k s l)
 
--- as many days of a kept year as a year of its key has are within the days
-pub kept_within : (rule : Rule) (first year : ℤ) (days place count : ℕ) → IsKeptYear rule first days (mask_key rule year) place → count ≤ days_in_year year
-    → place + count ≤ days
-kept_within rule first year days place count kept l =
-    omega (arith, kept.ends, equal_keys_have_equal_lengths rule year kept.year (sym kept.of_key), l)
+-- as many days of a kept year as a year of its slot has are within the days
+pub kept_within : (rule : Rule) (period : ℕ) (first year : ℤ) (days place count : ℕ)
+    → IsKeptYear rule period first days (year_slot rule period first year) place → count ≤ days_in_year year → place + count ≤ days
+kept_within rule period first year days place count kept l =
+    omega (arith, kept.ends, equal_keys_have_equal_lengths rule year kept.year (slot_keys rule period first year kept.year (sym kept.of_slot)), l)
 
 -- ---- how far years reach
 

@@ -41,6 +41,22 @@ abbrev pub AreUsed : ℕ → List (List ℕ) → List ℕ → Type 0
 AreUsed n sets numbers =
     (number : ℕ) → number < length sets → get_or sets number [] ≢ [] → (k : ℕ) × ((k < n) × (get_or numbers k 0 ≡ number))
 
+-- the numbers so far are those of combinations
+pub record IsCombinedTo (op : Op) (one : List (List ℕ)) (ones : List ℕ) (other : List (List ℕ)) (others : List ℕ) (sets : List (List ℕ)) (known : List (Pair × ℕ))
+    (numbers : List ℕ) : Type 0 where
+  pub shapes : AreShapes sets
+  pub known_ones : AreCombinationsOf op one other sets known
+  pub combined : AreCombinedTo op (length numbers) one ones other others sets numbers
+  pub used : AreUsed (length numbers) sets numbers
+
+-- two lists that are equally long, each of numbers of its sets, of which the first one is empty
+pub record AreLists (one : List (List ℕ)) (ones : List ℕ) (other : List (List ℕ)) (others : List ℕ) : Type 0 where
+  pub long : length ones ≡ length others
+  pub one_empty : get_or one 0 [] ≡ []
+  pub other_empty : get_or other 0 [] ≡ []
+  pub one_within : All (λ n. n < length one) ones
+  pub other_within : All (λ n. n < length other) others
+
 -- as many numbers as each list has, each that of a combination, and no sets but theirs and the empty one
 pub record AreCombined (op : Op) (one : List (List ℕ)) (ones : List ℕ) (other : List (List ℕ)) (others : List ℕ) (sets : List (List ℕ)) (numbers : List ℕ) : Type 0 where
   pub whole : length numbers ≡ length ones

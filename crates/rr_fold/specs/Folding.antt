@@ -38,3 +38,9 @@ pub record IsPut (old : List ℕ) (place number : ℕ) (new : List ℕ) : Type 0
   pub kept : (k : ℕ) → k < length old → get_or new k 0 ≡ get_or old k 0
   pub between : (k : ℕ) → length old ≤ k → k < place → get_or new k 0 ≡ 0
   pub last : get_or new place 0 ≡ number
+
+-- the list goes on with 0 up to the place
+pub record IsFilledUp (old : List ℕ) (place : ℕ) (new : List ℕ) : Type 0 where
+  pub whole : length new ≡ place
+  pub kept : (k : ℕ) → k < length old → get_or new k 0 ≡ get_or old k 0
+  pub zeros : (k : ℕ) → length old ≤ k → k < place → get_or new k 0 ≡ 0

@@ -10,6 +10,12 @@ use Rattle.rr_model.specs.declared.rule.Rule.{Rule}
 use Rattle.rr_model.specs.declared.rule.Series.{Series}
 use Rattle.rr_fold.specs.declared.jump.Jump.{Jump}
 
+-- as many days as some whole cycles have, one cycle at least
+pub record AreWholeCycles (cycle days : ℕ) : Type 0 where
+  pub cycles : ℕ
+  pub some : 1 ≤ days
+  pub whole : days ≡ cycles * cycle
+
 -- n whole cycles stand after the first day
 pub record IsSpliced (old : List ℕ) (cycle cycles : ℕ) (new : List ℕ) : Type 0 where
   pub whole : length new ≡ length old + cycles * cycle

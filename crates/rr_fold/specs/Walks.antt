@@ -8,11 +8,11 @@ use Rattle.rr_fold.specs.declared.walk.Walk.{Walk}
 -- the days from the first one on are folded up to the position, and what is known of the table's sets are numbers of theirs
 pub record IsWalk (tree : Tree) (first position : ℤ) (walk : Walk) : Type 0 where
   pub known : IsKnown walk.numbering.sets walk.days.shapes walk.numbering.known.items
-  pub folded : IsFoldedTo tree first position walk.days.shapes walk.days.numbers.items
+  pub folded : IsFoldedTo tree first position walk.days.shapes walk.days.numbers
 
 -- no day is folded, and no set is known but the empty one
 pub record IsNewWalk (walk : Walk) : Type 0 where
   pub sets : walk.numbering.sets ≡ []
   pub known : walk.numbering.known.items ≡ []
   pub shapes : walk.days.shapes ≡ [] ∷ []
-  pub numbers : walk.days.numbers.items ≡ []
+  pub numbers : walk.days.numbers ≡ []

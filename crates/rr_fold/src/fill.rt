@@ -16,6 +16,7 @@ use rr_check::Checked;
 use rr_iter::{RuleLazy, occurrences};
 use rr_lazy::{FirstN, Lazy};
 use rr_model::Fault;
+use rr_runs::Pages;
 use rr_shapes::Shapes;
 use std::alloc::Global;
 
@@ -23,7 +24,7 @@ use std::alloc::Global;
 #[derive(Drop)]
 pub struct FoldedDays {
     /// The number of each day.
-    pub numbers: Vec<u32>,
+    pub numbers: Pages,
     /// The sets of these numbers.
     pub shapes: Shapes,
 }
@@ -39,8 +40,8 @@ pub fn folded_days(
     requires order { first <ℤ end }
     requires high { end ≤ℤ pos 40_000_000 }
     requires early { HasNoneBefore (tree_of series.now) first }
-    ensures folded { IfOk result (λ days. IsFoldedTo (tree_of series.now) first end days.shapes days.numbers.items) }
-    ensures whole { IfOk result (λ days. end ≡ first +ℤ pos (length days.numbers.items)) }
+    ensures folded { IfOk result (λ days. IsFoldedTo (tree_of series.now) first end days.shapes days.numbers) }
+    ensures whole { IfOk result (λ days. end ≡ first +ℤ pos (length days.numbers)) }
     ensures refused { RefusedExactlyWhere (HasTooManyMoments (tree_of series.now) end) TooManyMoments result }
 {
     match jump_of(alloc, series, first, end)? {
@@ -55,8 +56,8 @@ fn not_jumped(alloc: Global, series: &Checked, first: i64, end: i64) -> Result<F
     requires order { first <ℤ end }
     requires high { end ≤ℤ pos 40_000_000 }
     requires early { HasNoneBefore (tree_of series.now) first }
-    ensures folded { IfOk result (λ days. IsFoldedTo (tree_of series.now) first end days.shapes days.numbers.items) }
-    ensures whole { IfOk result (λ days. end ≡ first +ℤ pos (length days.numbers.items)) }
+    ensures folded { IfOk result (λ days. IsFoldedTo (tree_of series.now) first end days.shapes days.numbers) }
+    ensures whole { IfOk result (λ days. end ≡ first +ℤ pos (length days.numbers)) }
     ensures refused { RefusedExactlyWhere (HasTooManyMoments (tree_of series.now) end) TooManyMoments result }
 {
     if has_rules_alone(series.series(), first) {
@@ -73,8 +74,8 @@ fn walked(alloc: Global, series: &Checked, first: i64, end: i64) -> Result<Folde
     requires order { first <ℤ end }
     requires high { end ≤ℤ pos 40_000_000 }
     requires early { HasNoneBefore (tree_of series.now) first }
-    ensures folded { IfOk result (λ days. IsFoldedTo (tree_of series.now) first end days.shapes days.numbers.items) }
-    ensures whole { IfOk result (λ days. end ≡ first +ℤ pos (length days.numbers.items)) }
+    ensures folded { IfOk result (λ days. IsFoldedTo (tree_of series.now) first end days.shapes days.numbers) }
+    ensures whole { IfOk result (λ days. end ≡ first +ℤ pos (length days.numbers)) }
     ensures refused { RefusedExactlyWhere (HasTooManyMoments (tree_of series.now) end) TooManyMoments result }
 {
     let lazy = occurrences(alloc, series)?;
@@ -94,8 +95,8 @@ fn jumped(
     requires high { end ≤ℤ pos 40_000_000 }
     requires early { HasNoneBefore (tree_of series.now) first }
     requires jump { IsJump series.now first end jump }
-    ensures folded { IfOk result (λ days. IsFoldedTo (tree_of series.now) first end days.shapes days.numbers.items) }
-    ensures whole { IfOk result (λ days. end ≡ first +ℤ pos (length days.numbers.items)) }
+    ensures folded { IfOk result (λ days. IsFoldedTo (tree_of series.now) first end days.shapes days.numbers) }
+    ensures whole { IfOk result (λ days. end ≡ first +ℤ pos (length days.numbers)) }
     ensures refused { RefusedExactlyWhere (HasTooManyMoments (tree_of series.now) end) TooManyMoments result }
 {
     let given = series.series();
@@ -105,7 +106,7 @@ fn jumped(
         Ok(days) => {
             let numbers = spliced(
                 alloc,
-                days.numbers.as_slice(),
+                &days.numbers,
                 jump.cycle as usize,
                 jump.cycles as usize,
             )?;
@@ -131,12 +132,12 @@ pub(crate) fn collected<L: Lazy + Drop>(
     requires unasked { IsUnasked (L.position lazy) }
     requires knows { (sets : List (List ℕ)) → L.knows lazy sets }
     requires early { HasNoneBefore (L.tree lazy) first }
-    ensures folded { IfOk result (λ days. IsFoldedTo (L.tree lazy) first end days.shapes days.numbers.items) }
-    ensures whole { IfOk result (λ days. end ≡ first +ℤ pos (length days.numbers.items)) }
+    ensures folded { IfOk result (λ days. IsFoldedTo (L.tree lazy) first end days.shapes days.numbers) }
+    ensures whole { IfOk result (λ days. end ≡ first +ℤ pos (length days.numbers)) }
     ensures refused { RefusedExactlyWhere (HasTooManyMoments (L.tree lazy) end) TooManyMoments result }
 {
     let mut lazy = lazy;
-    let mut walk = Walk::new(alloc, days_between(first, end))?;
+    let mut walk = Walk::new(alloc)?;
     match walk.walk_to(alloc, &mut lazy, first, end) {
         Ok(()) => Ok(walk.days),
         Err(fault) => Err(fault),

@@ -24,10 +24,12 @@ use std::alloc::Global;
 /// `TooManyMoments` where the distinct time sets up to a cycle past the settled day, those of the occurrences that are left,
 /// have together more than `MAX_SECONDS` seconds.
 ///
-/// It keeps four bytes for each of these days, eight while the days of two rules are united or excluded days are taken out,
-/// and twelve while the days of two excluded rules are united. Of a single rule with COUNT and nothing beside it the days of a
-/// few cycles are walked, and of endless rules, and of endless excluded ones, that leave no unit out those of one year of each
-/// key, where the series has no dates and no other rules that end; the others are copied.
+/// It keeps four bytes for nine weeks of these days, and the numbers of each distinct nine weeks once: four bytes a day where
+/// no two are alike. While the days of two rules are united or excluded days are taken out it keeps three such lists. Of a
+/// single rule with COUNT and nothing beside it the days of a few cycles are walked. Of endless rules, and of endless excluded
+/// ones, the days of one year of each kind are walked, where the series has no dates and no other rules that end: of rules of
+/// whole days that leave no unit out, and of rules of hours, minutes or seconds, whose years also differ by the place of their
+/// first day in the rule's period. The others are copied.
 pub fn fold(alloc: Global, series: &Checked) -> Result<Folded, Fault>
     requires few { series_cycle series.now ≤ 16_777_216 }
     ensures stands { IfOk result (λ f. StandsFor (⟦<Folded as DaySeq>⟧.sketch f) (Occurs series.now)) }
@@ -59,13 +61,14 @@ fn folded_to(alloc: Global, series: &Checked, settled: i64) -> Result<Folded, Fa
     let first = first_day(given);
     match folded_days(alloc, series, first, settled + period as i64) {
         Ok(days) => Ok(sequence(
+            alloc,
             given.kind,
             first,
             settled,
             period,
             days.numbers,
             days.shapes,
-        )),
+        )?),
         Err(fault) => Err(fault),
     }
 }

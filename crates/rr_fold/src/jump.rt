@@ -2,14 +2,18 @@
 ghost use Rattle.std.specs.Prelude.{◌≡◌, ◌+◌, ◌*◌, ◌<◌, ◌≤◌, ◌≤ℤ◌, ◌<ℤ◌, IfOk, IfSome, length, neg_ℤ, pos};
 ghost use Rattle.rr_model.specs.Rule.Cycle.{rule_cycle};
 ghost use Rattle.rr_iter.specs.Ends.{IsSoundRule};
-ghost use Rattle.rr_fold.specs.Jump.{IsCountedJump, IsJump, IsSpliced};
+ghost use Rattle.rr_fold.specs.Jump.{AreWholeCycles, IsCountedJump, IsJump, IsSpliced};
 
 use crate::fill::days_between;
 use rr_check::Checked;
 use rr_iter::{Place, find};
 use rr_model::{End, Kind, NoMemory, Rule, day_part};
 use rr_num::day_cycle;
+use rr_runs::Pages;
 use std::alloc::Global;
+
+// How many numbers stand on a page: numbers that repeat by a multiple of it are kept once.
+const PAGE: usize = 63;
 
 /// Whole cycles after the first one, which hold the same days again, and the count that a rule has without their members.
 #[derive(Clone, Copy)]
@@ -98,19 +102,39 @@ pub fn days_left_out(jump: Jump) -> i64
 /// The numbers with the `cycle` numbers that follow the first one put in after it `cycles` times more.
 pub fn spliced(
     alloc: Global,
-    numbers: &[u32],
+    numbers: &Pages,
     cycle: usize,
     cycles: usize,
-) -> Result<Vec<u32>, NoMemory>
+) -> Result<Pages, NoMemory>
+    requires some { 1 ≤ cycle }
     requires long { cycle + 1 ≤ length numbers.now }
     requires few { length numbers.now + cycles * cycle ≤ 100_000_000 }
-    ensures { IfOk result (λ new. IsSpliced numbers.now cycle cycles new.items) }
+    ensures { IfOk result (IsSpliced numbers.now cycle cycles) }
 {
-    let mut new = Vec::with_capacity(alloc, numbers.len() + cycles * cycle)?;
-    new.push(numbers[0])?;
-    for i in 0..cycles {
-        new.extend_from_slice(&numbers[1..cycle + 1])?;
+    let mut new = Pages::new(alloc);
+    new.push_from(numbers, 0, cycle + 1)?;
+    let end = cycles * cycle + cycle;
+    let mut done = cycle;
+    while done < end {
+        let back = whole_cycles(done, cycle);
+        new.push_again(done + 1 - back, back.min(end - done))?;
+        done = new.len() - 1;
     }
-    new.extend_from_slice(&numbers[1..])?;
+    new.push_from(numbers, cycle + 1, numbers.len() - cycle - 1)?;
     Ok(new)
+}
+
+// How many numbers whole cycles have, at most `most` numbers and one cycle at least: whole pages of them, if it can be.
+fn whole_cycles(most: usize, cycle: usize) -> usize
+    requires some { 1 ≤ cycle }
+    requires room { cycle ≤ most }
+    requires few { most ≤ 100_000_000 }
+    ensures whole { AreWholeCycles cycle result }
+    ensures room { result ≤ most }
+{
+    if most / PAGE < cycle {
+        return most / cycle * cycle;
+    }
+    let paged = PAGE * cycle;
+    most / paged * paged
 }

@@ -10,7 +10,7 @@ ghost use Rattle.rr_fold.specs.Rules.{AreEndless, HasRulesAlone, members_of_rule
 
 use crate::combined::{Op, combined};
 use crate::fill::{FoldedDays, collected};
-use crate::years::{days_by_years, repeats_by_years};
+use crate::years::{days_by_years, year_period};
 use rr_check::Checked;
 use rr_iter::RuleLazy;
 use rr_model::{End, Fault, Kind, Rule, Series, day_part};
@@ -52,8 +52,8 @@ pub fn days_alone(alloc: Global, series: &Checked, end: i64) -> Result<FoldedDay
     requires alone { HasRulesAlone series.now (day_part series.now.kind series.now.start) }
     requires order { day_part series.now.kind series.now.start <ℤ end }
     requires high { end ≤ℤ pos 40_000_000 }
-    ensures folded { IfOk result (λ days. IsFoldedTo (tree_of series.now) (day_part series.now.kind series.now.start) end days.shapes days.numbers.items) }
-    ensures whole { IfOk result (λ days. end ≡ day_part series.now.kind series.now.start +ℤ pos (length days.numbers.items)) }
+    ensures folded { IfOk result (λ days. IsFoldedTo (tree_of series.now) (day_part series.now.kind series.now.start) end days.shapes days.numbers) }
+    ensures whole { IfOk result (λ days. end ≡ day_part series.now.kind series.now.start +ℤ pos (length days.numbers)) }
 {
     let given = series.series();
     let kind = given.kind;
@@ -63,7 +63,7 @@ pub fn days_alone(alloc: Global, series: &Checked, end: i64) -> Result<FoldedDay
         return Ok(days);
     }
     let out = days_of_rules(alloc, kind, start, given.excluded.as_slice(), end)?;
-    combined(alloc, Op::Minus, days, &out)
+    combined(alloc, Op::Minus, &days, &out)
 }
 
 // The days of endless rules together, from their start's day on and below another.
@@ -80,13 +80,13 @@ fn days_of_rules(
     requires in_years { IsInYears kind start }
     requires order { day_part kind start <ℤ end }
     requires high { end ≤ℤ pos 40_000_000 }
-    ensures folded { IfOk result (λ days. IsFoldedTo (members_of_rules kind start rules.now) (day_part kind start) end days.shapes days.numbers.items) }
-    ensures whole { IfOk result (λ days. end ≡ day_part kind start +ℤ pos (length days.numbers.items)) }
+    ensures folded { IfOk result (λ days. IsFoldedTo (members_of_rules kind start rules.now) (day_part kind start) end days.shapes days.numbers) }
+    ensures whole { IfOk result (λ days. end ≡ day_part kind start +ℤ pos (length days.numbers)) }
 {
     let mut days = days_of_rule(alloc, &rules[0], kind, start, end)?;
     for rule in &rules[1..] {
         let more = days_of_rule(alloc, rule, kind, start, end)?;
-        days = combined(alloc, Op::Union, days, &more)?;
+        days = combined(alloc, Op::Union, &days, &more)?;
     }
     Ok(days)
 }
@@ -103,11 +103,11 @@ fn days_of_rule(
     requires in_years { IsInYears kind start }
     requires order { day_part kind start <ℤ end }
     requires high { end ≤ℤ pos 40_000_000 }
-    ensures folded { IfOk result (λ days. IsFoldedTo (chosen_of rule.now kind start) (day_part kind start) end days.shapes days.numbers.items) }
-    ensures whole { IfOk result (λ days. end ≡ day_part kind start +ℤ pos (length days.numbers.items)) }
+    ensures folded { IfOk result (λ days. IsFoldedTo (chosen_of rule.now kind start) (day_part kind start) end days.shapes days.numbers) }
+    ensures whole { IfOk result (λ days. end ≡ day_part kind start +ℤ pos (length days.numbers)) }
 {
-    if repeats_by_years(rule) {
-        return days_by_years(alloc, rule, kind, start, end);
+    if let Some(period) = year_period(rule) {
+        return days_by_years(alloc, rule, period, kind, start, end);
     }
     let lazy = RuleLazy::new(alloc, rule, kind, start)?;
     collected(alloc, lazy, day_part(kind, start), end)

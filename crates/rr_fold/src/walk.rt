@@ -3,7 +3,7 @@ ghost use Rattle.std.specs.Prelude.{◌≡◌, ◌+◌, ◌≤◌, IfOk, OnOk, l
 ghost use Rattle.rr_model.specs.Answers.{RefusedExactlyWhere};
 ghost use Rattle.rr_model.specs.Series.Limits.{HasTooManyMoments};
 ghost use Rattle.rr_model.specs.declared.refusal.Refusal.TheVariants.{TooManyMoments};
-ghost use Rattle.rr_fold.specs.Folding.{IsFoldedTo, IsPut};
+ghost use Rattle.rr_fold.specs.Folding.{IsFilledUp, IsFoldedTo, IsPut};
 ghost use Rattle.rr_fold.specs.Numbering.{IsKnown};
 ghost use Rattle.rr_fold.specs.Walks.{IsNewWalk, IsWalk};
 
@@ -11,6 +11,7 @@ use crate::fill::{FoldedDays, days_between};
 use crate::numbering::Numbering;
 use rr_lazy::Lazy;
 use rr_model::{Fault, NoMemory};
+use rr_runs::Pages;
 use rr_shapes::Shapes;
 use std::alloc::Global;
 
@@ -22,15 +23,17 @@ pub(crate) struct Walk {
 }
 
 impl Walk {
-    // Nothing is walked yet; there is room for this number of days.
-    pub(crate) fn new(alloc: Global, days: usize) -> Result<Walk, NoMemory>
+    // Nothing is walked yet.
+    pub(crate) fn new(alloc: Global) -> Result<Walk, NoMemory>
         ensures { IfOk result IsNewWalk }
     {
         let shapes = Shapes::with_empty_set(alloc)?;
-        let numbers = Vec::with_capacity(alloc, days)?;
         Ok(Walk {
             numbering: Numbering::new(alloc),
-            days: FoldedDays { numbers, shapes },
+            days: FoldedDays {
+                numbers: Pages::new(alloc),
+                shapes,
+            },
         })
     }
 
@@ -52,7 +55,7 @@ impl Walk {
         ensures position { OnOk result (L.position lazy.new ≡ end) }
         ensures knows { OnOk result (L.knows lazy.new self.new.numbering.sets) }
         ensures walk { OnOk result (IsWalk (L.tree lazy.old) first end self.new) }
-        ensures whole { OnOk result (end ≡ first +ℤ pos (length self.new.days.numbers.items)) }
+        ensures whole { OnOk result (end ≡ first +ℤ pos (length self.new.days.numbers)) }
         ensures refused { RefusedExactlyWhere (HasTooManyMoments (L.tree lazy.old) end) TooManyMoments result }
     {
         match fill(
@@ -67,7 +70,7 @@ impl Walk {
             Ok(()) => {}
             Err(fault) => return Err(fault),
         }
-        self.days.numbers.resize(days_between(first, end), 0)?;
+        fill_to(&mut self.days.numbers, days_between(first, end))?;
         Ok(())
     }
 }
@@ -80,7 +83,7 @@ fn fill<L: Lazy>(
     to: i64,
     numbering: &mut Numbering,
     shapes: &mut Shapes,
-    numbers: &mut Vec<u32>,
+    numbers: &mut Pages,
 ) -> Result<(), Fault>
     requires low { neg_ℤ (pos 2_999_999_999_000) ≤ℤ to }
     requires high { to ≤ℤ pos 2_999_999_999_000 }
@@ -89,8 +92,8 @@ fn fill<L: Lazy>(
     requires position { L.position lazy.old ≤ℤ (to +ℤ pos 1) }
     requires knows { L.knows lazy.old numbering.old.sets }
     requires known { IsKnown numbering.old.sets shapes.old numbering.old.known.items }
-    requires folded { IsFoldedTo (L.tree lazy.old) first (L.position lazy.old) shapes.old numbers.old.items }
-    ensures folded { OnOk result (IsFoldedTo (L.tree lazy.old) first (to +ℤ pos 1) shapes.new numbers.new.items) }
+    requires folded { IsFoldedTo (L.tree lazy.old) first (L.position lazy.old) shapes.old numbers.old }
+    ensures folded { OnOk result (IsFoldedTo (L.tree lazy.old) first (to +ℤ pos 1) shapes.new numbers.new) }
     ensures same { OnOk result (L.tree lazy.new ≡ L.tree lazy.old) }
     ensures position { OnOk result (L.position lazy.new ≡ to +ℤ pos 1) }
     ensures knows { OnOk result (L.knows lazy.new numbering.new.sets) }
@@ -112,11 +115,21 @@ fn fill<L: Lazy>(
 }
 
 // Puts a number at its place, and 0, the number of the empty set, at each place before it that has none yet.
-fn put(numbers: &mut Vec<u32>, place: usize, number: u32) -> Result<(), NoMemory>
-    requires { length numbers.old.items ≤ place }
-    ensures { OnOk result (IsPut numbers.old.items place number numbers.new.items) }
+fn put(numbers: &mut Pages, place: usize, number: u32) -> Result<(), NoMemory>
+    requires { length numbers.old ≤ place }
+    ensures { OnOk result (IsPut numbers.old place number numbers.new) }
 {
-    numbers.resize(place, 0)?;
+    fill_to(numbers, place)?;
     numbers.push(number)?;
+    Ok(())
+}
+
+// Puts 0, the number of the empty set, at each place before this one that has none yet.
+fn fill_to(numbers: &mut Pages, place: usize) -> Result<(), NoMemory>
+    requires { length numbers.old ≤ place }
+    ensures { OnOk result (IsFilledUp numbers.old place numbers.new) }
+{
+    let count = place - numbers.len();
+    numbers.push_same(0, count)?;
     Ok(())
 }

@@ -1,14 +1,16 @@
 // The days of a rule whose years repeat.
-ghost use Rattle.std.specs.Prelude.{◌≡◌, ◌+◌, ◌≤◌, ◌<ℤ◌, ◌≤ℤ◌, ◌+ℤ◌, IfOk, OnOk, length, pos, neg_ℤ, true, ℤ};
+ghost use Rattle.std.specs.Prelude.{◌≡◌, ◌+◌, ◌*◌, ◌%◌, ◌<◌, ◌≤◌, ◌<ℤ◌, ◌≤ℤ◌, ◌+ℤ◌, IfOk, IfSome, OnOk, length, pos, neg_ℤ, true, false, ℤ};
+ghost use Rattle.rr_expand.specs.Years.{mask_key};
 ghost use Rattle.rr_model.specs.Calendar.{IsDayWithin, first_day_of_year};
 ghost use Rattle.rr_model.specs.Moment.{day_part};
 ghost use Rattle.rr_model.specs.Moment.Years.{IsInYears};
-ghost use Rattle.rr_model.specs.Rule.Validity.{IsValidRule};
+ghost use Rattle.rr_model.specs.Moment.Units.{is_whole_days};
+ghost use Rattle.rr_model.specs.Rule.Validity.{IsValidRule, is_absent};
 ghost use Rattle.rr_model.specs.Sets.Tree.{chosen_of};
 ghost use Rattle.rr_model.specs.declared.rule.Rule.{Rule};
 ghost use Rattle.rr_fold.specs.Folding.{IsFoldedTo};
 ghost use Rattle.rr_fold.specs.Walks.{IsWalk};
-ghost use Rattle.rr_fold.specs.Years.{AreKeptYears, HasEqualYears, IsCopied, IsYearUpTo, IsYearWalk, RepeatsByYears};
+ghost use Rattle.rr_fold.specs.Years.{AreKeptYears, HasEqualYears, IsYearUpTo, IsYearWalk, LeavesNoUnitOut, RepeatsByYears};
 
 use crate::fill::{FoldedDays, days_between};
 use crate::walk::Walk;
@@ -17,15 +19,52 @@ use rr_expand::mask_key;
 use rr_iter::RuleLazy;
 use rr_lazy::Lazy;
 use rr_model::{Fault, Freq, Kind, NoMemory, Rule, day_part};
+use rr_num::interval_cycle;
 use std::alloc::Global;
 
 // How many keys of years there are: each `mask_key` is below.
 const KEYS: usize = 56;
 
-/// Whether a rule has the same days in each year of one key: it is of whole days, leaves no unit out, and its set
-/// positions, if it has some, are counted within months or years.
-pub fn repeats_by_years(rule: &Rule) -> bool
-    ensures { result ≡ true → RepeatsByYears rule.now }
+// The longest period for which places of years are kept.
+const MAX_PERIOD: u64 = 1_000;
+
+/// The days of a period such that years of one key, whole periods apart, have the same days by a rule: 1 for a rule of whole
+/// days that leaves no unit out and whose set positions, if it has some, are counted within months or years. For a finer rule
+/// without set positions its units begin at the same second of a day again after a period. None for any other rule, and where
+/// the period is above `MAX_PERIOD`.
+pub fn year_period(rule: &Rule) -> Option<usize>
+    requires { 1 ≤ rule.now.interval }
+    ensures repeats { IfSome result (RepeatsByYears rule.now) }
+    ensures some { IfSome result (λ p. 1 ≤ p) }
+    ensures few { IfSome result (λ p. p ≤ 1_000) }
+{
+    if leaves_no_unit_out(rule) {
+        return Some(1);
+    }
+    if is_finer(rule) {
+        return finer_period(rule);
+    }
+    None
+}
+
+// The period of a rule that is finer than whole days and has no set positions.
+fn finer_period(rule: &Rule) -> Option<usize>
+    requires low { 1 ≤ rule.now.interval }
+    requires finer { (is_whole_days rule.now.freq ≡ false) × (is_absent rule.now.by_set_pos ≡ true) }
+    ensures repeats { IfSome result (RepeatsByYears rule.now) }
+    ensures some { IfSome result (λ p. 1 ≤ p) }
+    ensures few { IfSome result (λ p. p ≤ 1_000) }
+{
+    let days = interval_cycle(rule.freq, rule.interval);
+    if days > MAX_PERIOD {
+        return None;
+    }
+    Some(days as usize)
+}
+
+// Whether a rule is of whole days and leaves no unit out, and its set positions are counted within months or years.
+fn leaves_no_unit_out(rule: &Rule) -> bool
+    ensures { result ≡ true → LeavesNoUnitOut rule.now }
 {
     if rule.interval != 1 {
         return false;
@@ -37,27 +76,40 @@ pub fn repeats_by_years(rule: &Rule) -> bool
     }
 }
 
-/// The days that such a rule chooses, from its start's day on and below `end`. Of the years after the start's one is walked
-/// for each key, and the others are copied.
+// Whether a rule is finer than whole days and has no set positions.
+fn is_finer(rule: &Rule) -> bool
+    ensures { result ≡ true → (is_whole_days rule.now.freq ≡ false) × (is_absent rule.now.by_set_pos ≡ true) }
+{
+    match rule.freq {
+        Freq::Hourly | Freq::Minutely | Freq::Secondly => rule.by_set_pos.is_empty(),
+        _ => false,
+    }
+}
+
+/// The days that a rule with such a period chooses, from its start's day on and below `end`. Of the years after the start's one
+/// is walked for each key and each place of its first day in a period, and the others are copied.
 pub fn days_by_years(
     alloc: Global,
     rule: &Rule,
+    period: usize,
     kind: Kind,
     start: i64,
     end: i64,
 ) -> Result<FoldedDays, Fault>
     requires valid { IsValidRule kind rule.now }
     requires in_years { IsInYears kind start }
-    requires repeats { RepeatsByYears rule.now }
+    requires repeats { RepeatsByYears rule.now period }
+    requires some { 1 ≤ period }
+    requires few { period ≤ 1_000 }
     requires order { day_part kind start <ℤ end }
     requires high { end ≤ℤ pos 40_000_000 }
-    ensures folded { IfOk result (λ days. IsFoldedTo (chosen_of rule.now kind start) (day_part kind start) end days.shapes days.numbers.items) }
-    ensures whole { IfOk result (λ days. end ≡ day_part kind start +ℤ pos (length days.numbers.items)) }
+    ensures folded { IfOk result (λ days. IsFoldedTo (chosen_of rule.now kind start) (day_part kind start) end days.shapes days.numbers) }
+    ensures whole { IfOk result (λ days. end ≡ day_part kind start +ℤ pos (length days.numbers)) }
 {
     let first = day_part(kind, start);
     let mut lazy = RuleLazy::new(alloc, rule, kind, start)?;
-    let mut walk = Walk::new(alloc, days_between(first, end))?;
-    match walk_by_years(alloc, rule, &mut lazy, &mut walk, first, end) {
+    let mut walk = Walk::new(alloc)?;
+    match walk_by_years(alloc, rule, period, &mut lazy, &mut walk, first, end) {
         Ok(()) => Ok(walk.days),
         Err(fault) => Err(fault),
     }
@@ -67,6 +119,7 @@ pub fn days_by_years(
 fn walk_by_years(
     alloc: Global,
     rule: &Rule,
+    period: usize,
     lazy: &mut RuleLazy,
     walk: &mut Walk,
     first: i64,
@@ -75,13 +128,15 @@ fn walk_by_years(
     requires low { neg_ℤ (pos 719_162) ≤ℤ first }
     requires order { first <ℤ end }
     requires high { end ≤ℤ pos 40_000_000 }
-    requires equal { HasEqualYears rule.now (⟦<RuleLazy as Lazy>⟧.tree lazy.old) first }
+    requires some { 1 ≤ period }
+    requires few { period ≤ 1_000 }
+    requires equal { HasEqualYears rule.now period (⟦<RuleLazy as Lazy>⟧.tree lazy.old) first }
     requires position { ⟦<RuleLazy as Lazy>⟧.position lazy.old ≤ℤ first }
     requires knows { ⟦<RuleLazy as Lazy>⟧.knows lazy.old walk.old.numbering.sets }
     requires walk { IsWalk (⟦<RuleLazy as Lazy>⟧.tree lazy.old) first (⟦<RuleLazy as Lazy>⟧.position lazy.old) walk.old }
     ensures { OnOk result (IsYearWalk (⟦<RuleLazy as Lazy>⟧.tree lazy.old) first end lazy.new walk.new) }
 {
-    let mut kept = KeptYears::new(alloc)?;
+    let mut kept = KeptYears::new(alloc, period)?;
     let mut year = date_of(first).year + 1;
     let mut from = new_year(year).min(end);
     walk.walk_to(alloc, lazy, first, from)?;
@@ -94,27 +149,37 @@ fn walk_by_years(
     Ok(())
 }
 
-// For each key of years the place of the first day of a year that has it, and room for days that are copied.
+// For each key of years, and each place in a period, the place of the first day of a year that has both.
 #[derive(Drop)]
 struct KeptYears {
+    period: usize,
     places: Vec<Option<usize>>,
-    block: Vec<u32>,
 }
 
 impl KeptYears {
     // No year yet.
-    fn new(alloc: Global) -> Result<KeptYears, NoMemory>
-        ensures { IfOk result (λ kept. (rule : Rule) (first : ℤ) → AreKeptYears rule first 0 kept.places.items) }
+    fn new(alloc: Global, period: usize) -> Result<KeptYears, NoMemory>
+        requires { period ≤ 1_000 }
+        ensures period { IfOk result (λ kept. kept.period ≡ period) }
+        ensures kept { IfOk result (λ kept. (rule : Rule) (first : ℤ) → AreKeptYears rule kept.period first 0 kept.places.items) }
     {
         let mut places = Vec::new(alloc);
-        places.resize(KEYS, None)?;
-        Ok(KeptYears {
-            places,
-            block: Vec::new(alloc),
-        })
+        places.resize(KEYS * period, None)?;
+        Ok(KeptYears { period, places })
     }
 
-    // Goes on with the days of a year below another day: those of a year of its key are copied, or else they are walked.
+    // The slot of a year whose first day has this place.
+    fn slot_of(&self, rule: &Rule, year: i64, place: usize) -> usize
+        requires year { IsDayWithin 0 year }
+        requires some { 1 ≤ self.now.period }
+        requires few { self.now.period ≤ 1_000 }
+        ensures value { result ≡ mask_key rule.now year + 56 * (place % self.now.period) }
+        ensures below { result < 56 * self.now.period }
+    {
+        usize::from(mask_key(rule, year)) + KEYS * (place % self.period)
+    }
+
+    // Goes on with the days of a year below another day: those of a year of its slot are copied, or else they are walked.
     fn go_on(
         &mut self,
         alloc: Global,
@@ -125,43 +190,30 @@ impl KeptYears {
         year: i64,
         to: i64,
     ) -> Result<(), Fault>
+        requires some { 1 ≤ self.old.period }
+        requires few { self.old.period ≤ 1_000 }
         requires low { neg_ℤ (pos 719_162) ≤ℤ first }
         requires high { to ≤ℤ pos 40_000_000 }
         requires year { IsYearUpTo first year to }
-        requires equal { HasEqualYears rule.now (⟦<RuleLazy as Lazy>⟧.tree lazy.old) first }
+        requires equal { HasEqualYears rule.now self.old.period (⟦<RuleLazy as Lazy>⟧.tree lazy.old) first }
         requires walked { IsYearWalk (⟦<RuleLazy as Lazy>⟧.tree lazy.old) first (first_day_of_year year) lazy.old walk.old }
-        requires kept { AreKeptYears rule.now first (length walk.old.days.numbers.items) self.old.places.items }
+        requires kept { AreKeptYears rule.now self.old.period first (length walk.old.days.numbers) self.old.places.items }
+        ensures same { OnOk result (self.new.period ≡ self.old.period) }
         ensures walked { OnOk result (IsYearWalk (⟦<RuleLazy as Lazy>⟧.tree lazy.old) first to lazy.new walk.new) }
-        ensures kept { OnOk result (to ≡ first_day_of_year (year +ℤ pos 1) → AreKeptYears rule.now first (length walk.new.days.numbers.items) self.new.places.items) }
+        ensures kept { OnOk result (to ≡ first_day_of_year (year +ℤ pos 1) → AreKeptYears rule.now self.new.period first (length walk.new.days.numbers) self.new.places.items) }
     {
-        let key = usize::from(mask_key(rule, year));
         let place = walk.days.numbers.len();
-        if let Some(from) = self.places[key] {
+        let slot = self.slot_of(rule, year, place);
+        if let Some(from) = self.places[slot] {
             let count = days_between(first, to) - place;
-            copy_on(&mut walk.days.numbers, &mut self.block, from, count)?;
+            walk.days.numbers.push_again(from, count)?;
             lazy.skip_to(to);
             return Ok(());
         }
         walk.walk_to(alloc, lazy, first, to)?;
-        self.places[key] = Some(place);
+        self.places[slot] = Some(place);
         Ok(())
     }
-}
-
-// Puts the `count` numbers from `place` on once more at the end. The block holds them for that time.
-fn copy_on(
-    numbers: &mut Vec<u32>,
-    block: &mut Vec<u32>,
-    place: usize,
-    count: usize,
-) -> Result<(), NoMemory>
-    requires { place + count ≤ length numbers.old.items }
-    ensures { OnOk result (IsCopied numbers.old.items place count numbers.new.items) }
-{
-    block.clear();
-    block.extend_from_slice(&numbers[place..place + count])?;
-    numbers.extend_from_slice(block.as_slice())?;
-    Ok(())
 }
 
 // The first day of a year.

@@ -24,6 +24,3 @@ pub use laws::{
 pub use reading::read;
 pub use series::to_series;
 pub use writing::write;
-
-#[cfg(test)]
-mod tests;

@@ -1,13 +1,12 @@
 -- The members of valid patterns, and what is known of a pattern that has all members of another.
 use Rattle.std.proofs.Common.{◌≡◌, ◌⊎◌, inl, inr, ℕ, zero, suc, ◌+◌, ◌/◌, ◌%◌, ◌<◌, ◌≤◌, ◌==◌, Bool, true}
-use Rattle.std.proofs.Common.{false, ◌&&◌, ℤ, pos, negsuc, neg_ℤ, ◌+ℤ◌, ◌-ℤ◌, ◌≤ℤ◌, ◌<ℤ◌, refl, sym, ap, subst, ◌∙◌, arith, if◌then◌else◌, w8, to_z, of_z}
+use Rattle.std.proofs.Common.{false, ◌&&◌, ℤ, pos, negsuc, neg_ℤ, ◌+ℤ◌, ◌≤ℤ◌, ◌<ℤ◌, refl, sym, ap, subst, ◌∙◌, arith, if◌then◌else◌, w8, to_z, of_z}
 use Rattle.std.specs.Prelude.{None}
 use Rattle.std.proofs.lemmas.Int.{ints}
 use Rattle.std.proofs.lemmas.Bool.{false≢true}
 use Rattle.std.proofs.lemmas.Nat.{mod_below, div-add-mod'}
 use Rattle.rr_model.specs.Calendar.{month_of}
-use Rattle.rr_model.specs.Whole.{divides}
-use Rattle.rr_model.specs.Graph.Occurrences.{form_holds, is_pattern_day, period_of}
+use Rattle.rr_model.specs.Graph.Occurrences.{form_holds, is_pattern_day}
 use Rattle.rr_model.specs.Graph.Uses.{uses_day_of_month, uses_days, uses_first_day, uses_index, uses_month}
 use Rattle.rr_model.specs.Graph.Validity.{IsIndex, IsValidPattern, LiesIfUsed}
 use Rattle.rr_model.specs.declared.graph.Form.{Form}
@@ -226,7 +225,7 @@ month_of_form form.RelativeMonthly p d uses h = absurd (false≢true uses)
 month_of_form form.AbsoluteYearly p d uses h = both_left _ _ h
 month_of_form form.RelativeYearly p d uses h = both_left _ _ h
 
-counts_in : (p : Pattern) (first d : ℤ) → is_pattern_day p first d ≡ true → counts_on p first d ≡ true
+pub counts_in : (p : Pattern) (first d : ℤ) → is_pattern_day p first d ≡ true → counts_on p first d ≡ true
 unfolding is_pattern_day
 counts_in p first d h = both_left _ _ h
 
@@ -235,21 +234,6 @@ unfolding is_pattern_day
 month_in p first d uses h = month_of_form p.form p d uses (both_right _ _ h)
 
 module _ (s : Sketch) (first : ℤ) (days : ℕ) (p : Pattern) (d : ℤ) (low : first ≤ℤ d) (high : d <ℤ (first +ℤ pos days)) (occupied : is_occupied s d ≡ true) where
-  pub none_out_of_period : IsValidPattern p → counts_on p first d ≡ false → IsFirstWith 3 p (Agrees s first days) None
-  none_out_of_period valid out q h =
-      let same = h.0 in
-      let agrees = h.1 in
-      let same_form : q.form ≡ p.form = form_is q.form p.form same.1.0 in
-      let same_week : q.first_day ≡ p.first_day =
-      one_week_day q.first_day p.first_day (day_most (uses_first_day q.form) q.first_day agrees.valid.first_day)
-      (day_most (uses_first_day p.form) p.first_day valid.first_day) same.1.1.0 in
-      let at : counts_on q first d ≡ true = counts_in q first d (agrees.agree d low high ∙ occupied) in
-      let at' : counts_on p first d ≡ true =
-      subst (λ f. divides p.interval (period_of f p.first_day d -ℤ period_of f p.first_day first) ≡ true) same_form
-      (subst (λ w. divides p.interval (period_of q.form w d -ℤ period_of q.form w first) ≡ true) same_week
-      (subst (λ n. divides n (period_of q.form q.first_day d -ℤ period_of q.form q.first_day first) ≡ true) same.0 at)) in
-      false≢true (sym out ∙ at')
-
   pub none_out_of_month : uses_month p.form ≡ true → (month_of d == p.month) ≡ false → IsFirstWith 5 p (Agrees s first days) None
   none_out_of_month uses out q h =
       let same = h.0 in

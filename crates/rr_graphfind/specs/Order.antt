@@ -1,7 +1,7 @@
 -- The first of several patterns, in the order in which they are tried.
-use Rattle.std.specs.Prelude.{◌≡◌, ℕ, zero, suc, Bool, true, false, ⊤, List, [], ◌∷◌, Option, None, Some, pos}
+use Rattle.std.specs.Prelude.{◌≡◌, ℕ, zero, suc, ◌<◌, nat_lt, Bool, true, false, ◌&&◌, ⊤, List, [], ◌∷◌, Option, None, Some, pos}
 use Rattle.rr_family.specs.GraphProfile.{pattern_key, key_lt}
-use Rattle.rr_model.specs.Graph.Uses.{uses_days, uses_day_of_month, uses_month}
+use Rattle.rr_model.specs.Graph.Uses.{uses_days, uses_day_of_month, uses_first_day, uses_month}
 use Rattle.rr_model.specs.declared.graph.Form.{Form}
 use Rattle.rr_model.specs.declared.graph.Pattern.{Pattern}
 
@@ -29,6 +29,14 @@ IsFirstThat Passes (Some found) = Passes found × ((pattern : Pattern) → Passe
 -- the first that passes of those with the first i members of this one
 abbrev pub IsFirstWith : ℕ → Pattern → (Pattern → Type 0) → Option Pattern → Type 0
 IsFirstWith i draft Passes found = IsFirstThat (λ pattern. SameMembers i pattern draft × Passes pattern) found
+
+-- none of a lesser interval passes
+abbrev pub NoneOfLess : (Pattern → Type 0) → ℕ → Type 0
+NoneOfLess Passes interval = (pattern : Pattern) → Passes pattern → pattern.interval < interval → ⊥
+
+-- patterns of this type and interval differ by the first day of the week
+abbrev pub tells_first_days : Pattern → Bool
+tells_first_days pattern = uses_first_day pattern.form && nat_lt 1 pattern.interval
 
 -- 1 where the member is used, and else 0
 abbrev pub one_if_used : Bool → ℕ

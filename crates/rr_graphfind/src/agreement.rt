@@ -19,15 +19,12 @@ pub(crate) struct Stretch {
     pub start: Day,
     /// One of them that tells many patterns apart, which is compared before the others.
     pub probe: Day,
-    /// The last of them.
-    pub last: Day,
     /// How many they are.
     pub days: u64,
     ghost near: { IsNearDay start.number },
     ghost few: { days ≤ 4_000_000_000 },
     ghost not_early: { start.number ≤ℤ probe.number },
     ghost not_late: { probe.number <ℤ (start.number +ℤ pos days) },
-    ghost last_is: { last.number +ℤ pos 1 ≡ start.number +ℤ pos days },
 }
 
 /// Whether the pattern's days, counted from the first day, are the occupied ones of the stretch.

@@ -1,4 +1,5 @@
-// The members of a pattern, one after the other in the order in which patterns are tried.
+// The members of a pattern after its interval, type and first day of the week, one after the other in the order in which
+// patterns are tried.
 ghost use Rattle.std.specs.Prelude.{◌≡◌, ◌≤◌, ◌<◌, ◌+◌, ◌%◌, pos, ◌≤ℤ◌};
 ghost use Rattle.rr_family.specs.GraphProfile.{index_place};
 ghost use Rattle.rr_graphfind.specs.Order.{IsFirstWith, least_pattern};
@@ -7,51 +8,16 @@ ghost use Rattle.rr_model.specs.Graph.Uses.{uses_day_of_month, uses_days, uses_f
 ghost use Rattle.rr_model.specs.Graph.Validity.{IsValidPattern};
 
 use crate::agreement::{Stretch, agrees};
-use crate::pruning::{is_out_of_month, is_out_of_period};
+use crate::pruning::is_out_of_month;
 use rr_model::{Form, Pattern};
 use rr_word::DaySeq;
 
-/// The first pattern that agrees, of those with the draft's interval and type.
-///
-/// They are tried with each first day of the week, where the type uses it.
-pub(crate) fn try_first_days<A: DaySeq>(
+/// The first pattern that agrees, of those with the draft's interval, type and first day of the week.
+pub(crate) fn try_days_of_month<A: DaySeq>(
     seq: &A,
     stretch: &Stretch,
     draft: &Pattern,
 ) -> Option<Pattern>
-    requires { IsValidPattern draft.now }
-    ensures { IsFirstWith 2 draft.now (Agrees (A.sketch seq.now) stretch.now.start.number stretch.now.days) result }
-{
-    let places = places_of(uses_first_day(draft.form), 0, 6, 0);
-    for place in places.from..places.to {
-        let with = Pattern {
-            first_day: weekday_from_sunday(place),
-            ..*draft
-        };
-        if let Some(found) = try_first_day(seq, stretch, &with) {
-            return Some(found);
-        }
-    }
-    None
-}
-
-// Of those that also have its first day of the week. None are tried where an occupied day lies in a period that does not
-// count: the one that tells many patterns apart, or the last one.
-fn try_first_day<A: DaySeq>(seq: &A, stretch: &Stretch, draft: &Pattern) -> Option<Pattern>
-    requires { IsValidPattern draft.now }
-    ensures { IsFirstWith 3 draft.now (Agrees (A.sketch seq.now) stretch.now.start.number stretch.now.days) result }
-{
-    if is_out_of_period(seq, draft, &stretch.start, &stretch.probe) {
-        return None;
-    }
-    if is_out_of_period(seq, draft, &stretch.start, &stretch.last) {
-        return None;
-    }
-    try_days_of_month(seq, stretch, draft)
-}
-
-// Of those that also have its first day of the week.
-fn try_days_of_month<A: DaySeq>(seq: &A, stretch: &Stretch, draft: &Pattern) -> Option<Pattern>
     requires { IsValidPattern draft.now }
     ensures { IsFirstWith 3 draft.now (Agrees (A.sketch seq.now) stretch.now.start.number stretch.now.days) result }
 {
@@ -136,8 +102,8 @@ pub(crate) struct Places {
     pub to: u8,
 }
 
-// The numbers of a member: its range where it is used, and else its one value.
-fn places_of(used: bool, low: u8, high: u8, otherwise: u8) -> Places
+/// The numbers of a member: its range where it is used, and else its one value.
+pub(crate) fn places_of(used: bool, low: u8, high: u8, otherwise: u8) -> Places
     requires high { high < 255 }
     requires otherwise { otherwise < 255 }
     ensures { ArePlaces used low high otherwise result }
@@ -155,8 +121,8 @@ fn places_of(used: bool, low: u8, high: u8, otherwise: u8) -> Places
     }
 }
 
-// The weekday, from 0 for Monday, that is this number of days after Sunday.
-fn weekday_from_sunday(place: u8) -> u8
+/// The weekday, from 0 for Monday, that is this number of days after Sunday.
+pub(crate) fn weekday_from_sunday(place: u8) -> u8
     requires { place < 7 }
     ensures low { result ≤ 6 }
     ensures place { (result + 1) % 7 ≡ place }
@@ -173,7 +139,8 @@ fn index_at(place: u8) -> i8
     if place < 5 { place as i8 } else { -1 }
 }
 
-fn uses_first_day(form: Form) -> bool
+/// Whether the type uses the first day of the week.
+pub(crate) fn uses_first_day(form: Form) -> bool
     ensures { result ≡ uses_first_day form }
 {
     matches!(form, Form::Weekly)

@@ -1,22 +1,27 @@
 // The first pattern, over all intervals and types, and the event that has it.
 ghost use Rattle.std.specs.Prelude.{◌≡◌, ◌↔◌, ◌≤◌, ◌<◌, IfSome, IsTrue, None, pos, ◌+ℤ◌, ◌≤ℤ◌, ◌<ℤ◌};
+ghost use Rattle.rr_family.specs.Divisors.{HasDivisors};
 ghost use Rattle.rr_family.specs.GraphProfile.{form_place};
 ghost use Rattle.rr_family.specs.Shift.{form_cycle};
 ghost use Rattle.rr_family.specs.Walks.{IsNearWindow};
 ghost use Rattle.rr_family.specs.Windows.{HasWindow};
 ghost use Rattle.rr_family.specs.declared.window.WindowEnd.TheVariants as end;
 ghost use Rattle.rr_graphfind.specs.Found.{IsGraphFound};
-ghost use Rattle.rr_graphfind.specs.Order.{IsFirstThat, IsFirstWith, least_pattern};
+ghost use Rattle.rr_graphfind.specs.Order.{IsFirstThat, IsFirstWith, NoneOfLess, least_pattern, tells_first_days};
 ghost use Rattle.rr_graphfind.specs.Search.{EndsAfter, FitsEnd, IsDaysCompared, IsStretchOf, Matches, event_of_window};
 ghost use Rattle.rr_model.specs.Calendar.{IsDayWithin};
+ghost use Rattle.rr_model.specs.Graph.Counterpart.{form_freq};
 ghost use Rattle.rr_model.specs.Graph.Uses.{most_interval};
+ghost use Rattle.rr_model.specs.Graph.Validity.{IsValidPattern};
 ghost use Rattle.rr_model.specs.Sets.Sketch.{StandsIn};
 ghost use Rattle.rr_model.specs.declared.graph.Form.TheVariants as form;
 
 use crate::agreement::Stretch;
-use crate::members::{least_pattern, try_first_days};
+use crate::members::{
+    least_pattern, places_of, try_days_of_month, uses_first_day, weekday_from_sunday,
+};
 use rr_cal::Day;
-use rr_family::{Window, WindowEnd, window_of};
+use rr_family::{Divisors, Window, WindowEnd, divisors_of, window_of};
 use rr_model::{Form, Freq, GraphEvent, Pattern, Range, RangeEnd, Repeat, moment_at};
 use rr_num::interval_cycle;
 use rr_word::DaySeq;
@@ -31,7 +36,8 @@ pub fn graph_of<A: DaySeq>(seq: &A) -> Option<GraphEvent>
     ensures { IsGraphFound (StandsIn (A.sketch seq.now)) result }
 {
     let window = window_of(seq)?;
-    let pattern = first_pattern(seq, &window)?;
+    let divisors = divisors_of(seq, &window);
+    let pattern = first_pattern(seq, &window, &divisors)?;
     Some(event_of(&window, pattern))
 }
 
@@ -58,29 +64,37 @@ fn event_of(window: &Window, pattern: Pattern) -> GraphEvent
 }
 
 // The first pattern that agrees on the window.
-fn first_pattern<A: DaySeq>(seq: &A, window: &Window) -> Option<Pattern>
+fn first_pattern<A: DaySeq>(seq: &A, window: &Window, divisors: &Divisors) -> Option<Pattern>
     requires known { HasWindow (A.sketch seq.now) window.now }
     requires near { IsNearWindow window.now }
+    requires divisors { HasDivisors (A.sketch seq.now) window.now divisors.now }
     ensures { IsFirstThat (Matches (A.sketch seq.now) window.now) result }
 {
     for interval in 1..1000 {
-        if let Some(found) = try_forms(seq, window, interval) {
+        if let Some(found) = try_forms(seq, window, divisors, interval) {
             return Some(found);
         }
     }
     None
 }
 
-// The first of those with this interval.
-fn try_forms<A: DaySeq>(seq: &A, window: &Window, interval: u32) -> Option<Pattern>
+// The first of those with this interval, where none of a lesser one matches.
+fn try_forms<A: DaySeq>(
+    seq: &A,
+    window: &Window,
+    divisors: &Divisors,
+    interval: u32,
+) -> Option<Pattern>
     requires known { HasWindow (A.sketch seq.now) window.now }
     requires near { IsNearWindow window.now }
+    requires divisors { HasDivisors (A.sketch seq.now) window.now divisors.now }
+    requires below { NoneOfLess (Matches (A.sketch seq.now) window.now) interval }
     requires low { 1 ≤ interval }
     requires high { interval ≤ 999 }
     ensures { IsFirstWith 1 (least_pattern form.Daily interval) (Matches (A.sketch seq.now) window.now) result }
 {
     for place in 0..6 {
-        if let Some(found) = try_form(seq, window, form_at(place), interval) {
+        if let Some(found) = try_form(seq, window, divisors, form_at(place), interval) {
             return Some(found);
         }
     }
@@ -88,9 +102,17 @@ fn try_forms<A: DaySeq>(seq: &A, window: &Window, interval: u32) -> Option<Patte
 }
 
 // The first of those that also have this type.
-fn try_form<A: DaySeq>(seq: &A, window: &Window, form: Form, interval: u32) -> Option<Pattern>
+fn try_form<A: DaySeq>(
+    seq: &A,
+    window: &Window,
+    divisors: &Divisors,
+    form: Form,
+    interval: u32,
+) -> Option<Pattern>
     requires known { HasWindow (A.sketch seq.now) window.now }
     requires near { IsNearWindow window.now }
+    requires divisors { HasDivisors (A.sketch seq.now) window.now divisors.now }
+    requires below { NoneOfLess (Matches (A.sketch seq.now) window.now) interval }
     requires low { 1 ≤ interval }
     requires high { interval ≤ 999 }
     ensures { IsFirstWith 2 (least_pattern form interval) (Matches (A.sketch seq.now) window.now) result }
@@ -98,8 +120,69 @@ fn try_form<A: DaySeq>(seq: &A, window: &Window, form: Form, interval: u32) -> O
     if interval > most_interval(form) {
         return None;
     }
-    let stretch = stretch_of(window, form_cycle(form, interval))?;
-    try_first_days(seq, &stretch, &least_pattern(form, interval))
+    try_first_days(seq, window, divisors, &least_pattern(form, interval))
+}
+
+// The first of those that also have the draft's type. They are tried with each first day of the week, where the type uses
+// it and the interval is not 1, at which each week counts.
+fn try_first_days<A: DaySeq>(
+    seq: &A,
+    window: &Window,
+    divisors: &Divisors,
+    draft: &Pattern,
+) -> Option<Pattern>
+    requires known { HasWindow (A.sketch seq.now) window.now }
+    requires near { IsNearWindow window.now }
+    requires divisors { HasDivisors (A.sketch seq.now) window.now divisors.now }
+    requires below { NoneOfLess (Matches (A.sketch seq.now) window.now) draft.now.interval }
+    requires valid { IsValidPattern draft.now }
+    ensures { IsFirstWith 2 draft.now (Matches (A.sketch seq.now) window.now) result }
+{
+    let places = places_of(tells_first_days(draft), 0, 6, 0);
+    for place in places.from..places.to {
+        let with = Pattern {
+            first_day: weekday_from_sunday(place),
+            ..*draft
+        };
+        if let Some(found) = try_first_day(seq, window, divisors, &with) {
+            return Some(found);
+        }
+    }
+    None
+}
+
+// Whether patterns of this type and interval differ by the first day of the week.
+fn tells_first_days(draft: &Pattern) -> bool
+    ensures { result ≡ tells_first_days draft.now }
+{
+    uses_first_day(draft.form) && 1 < draft.interval
+}
+
+// The first of those that also have the draft's first day of the week. No day is read where the divisor of the periods
+// leaves the interval out.
+fn try_first_day<A: DaySeq>(
+    seq: &A,
+    window: &Window,
+    divisors: &Divisors,
+    draft: &Pattern,
+) -> Option<Pattern>
+    requires known { HasWindow (A.sketch seq.now) window.now }
+    requires near { IsNearWindow window.now }
+    requires divisors { HasDivisors (A.sketch seq.now) window.now divisors.now }
+    requires below { NoneOfLess (Matches (A.sketch seq.now) window.now) draft.now.interval }
+    requires valid { IsValidPattern draft.now }
+    ensures { IsFirstWith 3 draft.now (Matches (A.sketch seq.now) window.now) result }
+{
+    if divisors.leave_out(
+        window.end,
+        form_freq(draft.form),
+        draft.first_day,
+        draft.interval,
+    ) {
+        return None;
+    }
+    let stretch = stretch_of(window, form_cycle(draft.form, draft.interval))?;
+    try_days_of_month(seq, &stretch, draft)
 }
 
 // The type at a place of the order.
@@ -135,13 +218,19 @@ fn form_cycle(form: Form, interval: u32) -> u64
     ensures some { 1 ≤ result }
     ensures most { result ≤ 145_950_903 }
 {
-    let freq = match form {
+    interval_cycle(form_freq(form), interval)
+}
+
+// The frequency whose units a type counts.
+fn form_freq(form: Form) -> Freq
+    ensures { result ≡ form_freq form }
+{
+    match form {
         Form::Daily => Freq::Daily,
         Form::Weekly => Freq::Weekly,
         Form::AbsoluteMonthly | Form::RelativeMonthly => Freq::Monthly,
         Form::AbsoluteYearly | Form::RelativeYearly => Freq::Yearly,
-    };
-    interval_cycle(freq, interval)
+    }
 }
 
 // The days on which patterns of this cycle are compared, where one of them may have the set.
@@ -156,7 +245,6 @@ fn stretch_of(window: &Window, cycle: u64) -> Option<Stretch>
     Some(Stretch {
         start: Day::new(window.first),
         probe: Day::new(probe_day(window, days)),
-        last: Day::new(window.first + (days - 1) as i64),
         days,
     })
 }

@@ -1,6 +1,7 @@
 mod ListedLemmas
 mod ScanLemmas
 mod TextLemmas
+pub mod ColonLemmas
 pub mod FoldingLemmas
 pub mod LineEndLemmas
 pub mod WrittenLineLemmas

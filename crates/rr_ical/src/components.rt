@@ -3,7 +3,7 @@ ghost use Rattle.std.specs.Prelude.{◌≡◌, ◌∷◌, ◌||◌, Result, OnOk
 ghost use Rattle.rr_model.specs.Text.Event.{Components, no_components, is_event, is_in_event, begun, ended, stop_at_end};
 ghost use Rattle.rr_ical.specs.Steps.{Becomes};
 
-use crate::names::is_same_name;
+use crate::names::{is_event, is_same_name};
 use rr_model::{Bytes, Fault, NoMemory, Refusal};
 use std::alloc::Global;
 use std::marker::Model;
@@ -22,13 +22,6 @@ impl Model for Nesting {
     ghost Value = { Components };
 
     ghost view = { λ n. record { open_names = reverse n.names.items; had_event = n.had_event } };
-}
-
-// Whether it is the name of an event.
-fn is_event(name: &[u8]) -> bool
-    ensures { result ≡ is_event name.now }
-{
-    is_same_name(name, b"VEVENT")
 }
 
 impl Nesting {

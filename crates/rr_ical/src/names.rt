@@ -1,6 +1,7 @@
 // Which line a line is by its name.
 ghost use Rattle.std.specs.Prelude.{◌≡◌};
 ghost use Rattle.std.specs.Str.{str_eq_ignore_ascii_case};
+ghost use Rattle.rr_model.specs.Text.Event.{is_event};
 ghost use Rattle.rr_model.specs.Text.UsedLines.{is_named, line_kind};
 
 use crate::value::name_and_rest;
@@ -11,6 +12,13 @@ pub fn is_same_name(name: &[u8], other: &[u8]) -> bool
     ensures { result ≡ str_eq_ignore_ascii_case name.now other.now }
 {
     name.eq_ignore_ascii_case(other)
+}
+
+/// Whether it is the name of an event, in either case (RFC 5545, section 3.6.1).
+pub fn is_event(name: &[u8]) -> bool
+    ensures { result ≡ is_event name.now }
+{
+    is_same_name(name, b"VEVENT")
 }
 
 /// Whether the unfolded line has this name, in either case (RFC 5545, section 3.1).

@@ -1,7 +1,8 @@
 // The name and the value of a line (RFC 5545, section 3.1).
-ghost use Rattle.std.specs.Prelude.{◌≡◌, ◌==◌, length, take_while, false, option_map};
+ghost use Rattle.std.specs.Prelude.{◌≡◌, ◌==◌, ◌&&◌, ◌+◌, ◌<◌, not, drop, length, take_while, false, option_map};
 ghost use Rattle.rr_model.specs.Text.UsedLines.{is_name_byte, name_of_line, after_name, has_quote, after_colon, is_quoted_after, begins_value, value_of_line};
 
+use memchr::memchr2;
 use rr_text::trim;
 
 fn is_name_byte(byte: u8) -> bool
@@ -41,17 +42,34 @@ fn is_quoted_after(is_quoted: bool, byte: u8, rest: &[u8]) -> bool
     }
 }
 
+// Whether a byte ends a line's name and parameters: a colon that is not between two quotes.
+fn ends_parameters(is_quoted: bool, byte: u8) -> bool
+    ensures { result ≡ (byte == 58) && not is_quoted }
+{
+    byte == b':' && !is_quoted
+}
+
+// What stands after a place.
+fn after_place(text: &[u8], place: usize) -> &[u8]
+    requires { place < length text.now }
+    ensures { result.now ≡ drop (place + 1) text.now }
+{
+    &text[place + 1..]
+}
+
 /// What stands after the first colon that is not between two quotes (RFC 5545, section 3.1).
 pub fn after_colon(text: &[u8]) -> Option<&[u8]>
     ensures { option_map (λ rest. rest.now) result ≡ after_colon false text.now }
 {
     let mut is_quoted = false;
-    for (i, b) in text.iter().enumerate() {
-        let rest = &text[i + 1..];
-        if *b == b':' && !is_quoted {
+    let mut rest = text;
+    while let Some(place) = memchr2(b':', b'"', rest) {
+        let byte = rest[place];
+        rest = after_place(rest, place);
+        if ends_parameters(is_quoted, byte) {
             return Some(rest);
         }
-        is_quoted = is_quoted_after(is_quoted, *b, rest);
+        is_quoted = is_quoted_after(is_quoted, byte, rest);
     }
     None
 }

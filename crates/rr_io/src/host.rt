@@ -1,5 +1,5 @@
 // Files, standard input and standard output.
-ghost use Rattle.std.specs.Prelude.{◌≡◌, ◌≤◌, ◌+◌, [], take, IfOk, IfSome};
+ghost use Rattle.std.specs.Prelude.{◌≡◌, ◌<◌, ◌≤◌, ◌+◌, ◌^◌, [], take, IfOk, IfSome};
 ghost use Rattle.rr_io.specs.Outside.{failed_after, faults_after};
 
 use crate::{FetchError, PutError, Sink, Source};
@@ -41,12 +41,13 @@ impl<R: Print + Drop> Model for HostSink<R> {
     ghost view = { λ s. s.faults };
 }
 
-// What a reader gives, up to `MAX_INPUT + 1` bytes. A read that a signal interrupts is tried again.
-fn read_front<F: Read + Drop>(alloc: Global, reader: F) -> io::Result<Vec<u8>>
-    ensures { IfOk result (λ v. IfSome (F.remaining reader) (λ bytes. v.items ≡ take (MAX_INPUT + 1) bytes)) }
+// What a reader gives, up to `limit + 1` bytes. A read that a signal interrupts is tried again.
+fn read_front<F: Read + Drop>(alloc: Global, reader: F, limit: usize) -> io::Result<Vec<u8>>
+    requires { limit < 2 ^ 62 }
+    ensures { IfOk result (λ v. IfSome (F.remaining reader) (λ bytes. v.items ≡ take (limit + 1) bytes)) }
 {
     let mut bytes = Vec::new(alloc);
-    reader.take(MAX_INPUT as u64 + 1).read_to_end(&mut bytes)?;
+    reader.take(limit as u64 + 1).read_to_end(&mut bytes)?;
     Ok(bytes)
 }
 
@@ -62,12 +63,14 @@ impl<R: Files + Input + Drop> HostSource<R> {
         }
     }
 
-    fn read_name(&self, alloc: Global, name: &str) -> io::Result<Vec<u8>> {
+    fn read_name(&self, alloc: Global, name: &str, limit: usize) -> io::Result<Vec<u8>>
+        requires { limit < 2 ^ 62 }
+    {
         if name == "-" {
-            return read_front(alloc, self.rt.reader());
+            return read_front(alloc, self.rt.reader(), limit);
         }
         let file = fs::open(&self.rt, name)?;
-        read_front(alloc, file)
+        read_front(alloc, file, limit)
     }
 }
 
@@ -81,10 +84,22 @@ impl<R: Files + Input + Drop> Source for HostSource<R> {
     fn fetch(&mut self, alloc: Global, name: &str) -> Result<Vec<u8>, FetchError>
         ensures { self.new ≡ failed_after result name.now self.old }
     {
+        self.fetch_within(alloc, name, MAX_INPUT)
+    }
+
+    fn fetch_within(
+        &mut self,
+        alloc: Global,
+        name: &str,
+        limit: usize,
+    ) -> Result<Vec<u8>, FetchError>
+        requires { limit < 2 ^ 62 }
+        ensures { self.new ≡ failed_after result name.now self.old }
+    {
         // The name and room for it first: a fetch that fails then wants no memory to note it.
         let noted = String::from_str(self.alloc, name)?;
         self.failed.reserve(1)?;
-        match self.read_name(alloc, name) {
+        match self.read_name(alloc, name, limit) {
             Ok(bytes) => Ok(bytes),
             Err(error) if error.kind() == ErrorKind::OutOfMemory => Err(FetchError::NoMemory),
             Err(_) => {

@@ -7,8 +7,6 @@ mod names;
 mod sink;
 mod source;
 mod steady;
-#[cfg(test)]
-mod tests;
 
 pub use host::{HostSink, HostSource};
 pub use memory::{MemorySink, MemorySource};

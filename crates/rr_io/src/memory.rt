@@ -1,5 +1,5 @@
 // A source and a sink in memory whose failures are listed.
-ghost use Rattle.std.specs.Prelude.{◌≡◌, ◌≤◌, ◌++◌, ◌+◌, [], ◌∷◌, Some, IfOk, IfSome, OnOk, OnErr, take};
+ghost use Rattle.std.specs.Prelude.{◌≡◌, ◌^◌, ◌<◌, ◌≤◌, ◌++◌, ◌+◌, [], ◌∷◌, Some, IfOk, IfSome, OnOk, OnErr, take};
 ghost use Rattle.rr_io.specs.Names.{bytes_at, Sets};
 ghost use Rattle.rr_io.specs.Outside.{KeepsHeld, failed_after, faults_after, next_number, IsPut};
 ghost use Rattle.rr_io.specs.Memory.{IsToFail, FailsExactly, first_of, PutsAs};
@@ -105,6 +105,20 @@ impl Source for MemorySource {
         ensures fails { FailsExactly result (IsToFail self.old (next_number self.old.fetches) name.now) }
         ensures rest { self.new ≡ record self.old { fetches = next_number self.old.fetches; failed = failed_after result name.now self.old.failed } }
     {
+        self.fetch_within(alloc, name, MAX_INPUT)
+    }
+
+    fn fetch_within(
+        &mut self,
+        alloc: Global,
+        name: &str,
+        limit: usize,
+    ) -> Result<Vec<u8>, FetchError>
+        requires { limit < 2 ^ 62 }
+        ensures bytes { IfOk result (λ v. IfSome (bytes_at self.old.names name.now) (λ bytes. v.items ≡ take (limit + 1) bytes)) }
+        ensures fails { FailsExactly result (IsToFail self.old (next_number self.old.fetches) name.now) }
+        ensures rest { self.new ≡ record self.old { fetches = next_number self.old.fetches; failed = failed_after result name.now self.old.failed } }
+    {
         self.fetches = self.fetches.saturating_add(1);
         if self.failing.contains(&self.fetches) {
             self.note(name)?;
@@ -114,7 +128,7 @@ impl Source for MemorySource {
             self.note(name)?;
             return Err(FetchError::Failed);
         };
-        Ok(front(alloc, bytes)?)
+        Ok(front(alloc, bytes, limit)?)
     }
 }
 

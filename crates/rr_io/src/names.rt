@@ -1,8 +1,8 @@
 // Names with bytes, which the sources in memory hold.
-ghost use Rattle.std.specs.Prelude.{◌≡◌, ◌+◌, [], take, option_map, IfOk, OnOk, OnErr};
+ghost use Rattle.std.specs.Prelude.{◌≡◌, ◌<◌, ◌+◌, ◌^◌, [], take, option_map, IfOk, OnOk, OnErr};
 ghost use Rattle.rr_io.specs.Names.{bytes_at, Sets};
 
-use rr_model::{MAX_INPUT, NoMemory};
+use rr_model::NoMemory;
 use std::alloc::{AllocError, Global};
 use std::collections::BTreeMap;
 use std::marker::Model;
@@ -57,9 +57,10 @@ impl Names {
     }
 }
 
-/// A copy of the bytes, cut after `MAX_INPUT + 1`.
-pub fn front(alloc: Global, bytes: &[u8]) -> Result<Vec<u8>, AllocError>
-    ensures { IfOk result (λ v. v.items ≡ take (MAX_INPUT + 1) bytes.now) }
+/// A copy of the bytes, cut after `limit + 1`.
+pub fn front(alloc: Global, bytes: &[u8], limit: usize) -> Result<Vec<u8>, AllocError>
+    requires { limit < 2 ^ 62 }
+    ensures { IfOk result (λ v. v.items ≡ take (limit + 1) bytes.now) }
 {
-    bytes[..(MAX_INPUT + 1).min(bytes.len())].to_vec(alloc)
+    bytes[..(limit + 1).min(bytes.len())].to_vec(alloc)
 }

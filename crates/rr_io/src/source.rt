@@ -1,5 +1,5 @@
 // Where operands come from.
-ghost use Rattle.std.specs.Prelude.{◌≡◌, ◌+◌, ℕ, List, Option, take, IfOk, IfSome};
+ghost use Rattle.std.specs.Prelude.{◌≡◌, ◌<◌, ◌+◌, ◌^◌, ℕ, List, Option, take, IfOk, IfSome};
 
 use rr_model::{MAX_INPUT, NoMemory};
 use std::alloc::{AllocError, AllocFailed, Global};
@@ -61,6 +61,18 @@ pub trait Source {
     /// `Failed` comes only with the name at the end of those that have failed. `NoMemory` leaves these names as they were.
     fn fetch(&mut self, alloc: Global, name: &str) -> Result<Vec<u8>, FetchError>
         ensures bytes { IfOk result (λ v. IfSome (held self.old name.now) (λ bytes. v.items ≡ take (MAX_INPUT + 1) bytes)) }
+        ensures failed { failed self.new ≡ failed_after result name.now (failed self.old) }
+        ensures held { KeepsHeld (held self.old) (held self.new) };
+
+    /// The bytes under a name, cut after `limit + 1` bytes: who gets so many knows that there are too many. See `fetch`.
+    fn fetch_within(
+        &mut self,
+        alloc: Global,
+        name: &str,
+        limit: usize,
+    ) -> Result<Vec<u8>, FetchError>
+        requires { limit < 2 ^ 62 }
+        ensures bytes { IfOk result (λ v. IfSome (held self.old name.now) (λ bytes. v.items ≡ take (limit + 1) bytes)) }
         ensures failed { failed self.new ≡ failed_after result name.now (failed self.old) }
         ensures held { KeepsHeld (held self.old) (held self.new) };
 }

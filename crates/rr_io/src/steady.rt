@@ -1,5 +1,5 @@
 // A source and a sink in memory that never fail.
-ghost use Rattle.std.specs.Prelude.{◌≡◌, ◌++◌, ◌+◌, [], Some, take, unwrap_or, OnOk, OnErr, IfOk, IsErrOf};
+ghost use Rattle.std.specs.Prelude.{◌≡◌, ◌^◌, ◌<◌, ◌++◌, ◌+◌, [], Some, take, unwrap_or, OnOk, OnErr, IfOk, IsErrOf};
 ghost use Rattle.rr_io.specs.Names.{bytes_at, Sets};
 ghost use Rattle.rr_io.specs.Outside.{IsPut};
 
@@ -69,9 +69,23 @@ impl Source for SteadySource {
         ensures steady { IsErrOf result FetchError.Failed → ⊥ }
         ensures same { self.new ≡ self.old }
     {
+        self.fetch_within(alloc, name, MAX_INPUT)
+    }
+
+    fn fetch_within(
+        &mut self,
+        alloc: Global,
+        name: &str,
+        limit: usize,
+    ) -> Result<Vec<u8>, FetchError>
+        requires { limit < 2 ^ 62 }
+        ensures bytes { IfOk result (λ v. v.items ≡ take (limit + 1) (unwrap_or (bytes_at self.old name.now) [])) }
+        ensures steady { IsErrOf result FetchError.Failed → ⊥ }
+        ensures same { self.new ≡ self.old }
+    {
         match self.names.get(name) {
             None => Ok(Vec::new(alloc)),
-            Some(bytes) => Ok(front(alloc, bytes)?),
+            Some(bytes) => Ok(front(alloc, bytes, limit)?),
         }
     }
 }

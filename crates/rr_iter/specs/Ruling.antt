@@ -10,6 +10,8 @@ use Rattle.rr_model.specs.Rule.Chosen.{is_chosen}
 use Rattle.rr_model.specs.Rule.Filled.{filled}
 use Rattle.rr_model.specs.Whole.{divides, floor_mod}
 use Rattle.rr_expand.specs.Years.{Filling}
+use Rattle.rr_expand.specs.UnitTimes.{AreUnitTimes}
+use Rattle.rr_expand.specs.declared.unit_times.UnitTimes.{UnitTimes}
 use Rattle.rr_shapes.specs.Tables.{Extends}
 use Rattle.rr_lazy.specs.Tables.{same_set}
 use Rattle.rr_model.specs.Rising.Sets.{IsSetOf}
@@ -97,14 +99,15 @@ pub record IsUnrolled (r : Ruling) (start_day : ℤ) (start_second : ℕ) (times
 pub IsValidRuling-prop : (r : Ruling) → IsProp (IsValidRuling r)
 IsValidRuling-prop r = let p = IsValidRule-prop r.kind r.rule in hlevel (props, p)
 
--- of a rule whose units are shorter than a day: the start's day and second, the seconds of each unit that BYSETPOS chooses, and the days
--- that its date parts allow
-pub record IsFine (r : Ruling) (start_day : ℤ) (start_second : ℕ) (offsets : List ℕ) (allowed : Filling) : Type 0 where
+-- of a rule whose units are shorter than a day: the start's day and second, the seconds of each unit that BYSETPOS chooses, the minutes and
+-- seconds that its time parts allow in a unit, and the days that its date parts allow
+pub record IsFine (r : Ruling) (start_day : ℤ) (start_second : ℕ) (offsets : List ℕ) (times : UnitTimes) (allowed : Filling) : Type 0 where
   pub freq : is_whole_days r.rule.freq ≡ false
   pub valid : IsValidRuling r
   pub of_day : start_day ≡ day_part r.kind r.start
   pub of_second : start_second ≡ second_part r.kind r.start
   pub of_offsets : is_absent r.rule.by_set_pos ≡ false → IsSetOf nat_lt offsets (IsChosenOffset r.rule r.start)
+  pub of_times : AreUnitTimes r.rule r.start times.minutes.items times.seconds.items
   pub of_allowed : allowed ≡ record { rule = r.rule; start_day = day_part Moments r.start }
 
 -- the days are the candidate days of one unit

@@ -19,7 +19,9 @@ ghost use Rattle.rr_iter.specs.Walk.{IsFirstFine, IsFirstSecond, IsFirstUpToIn, 
 
 use crate::day_rule::{SECONDS_OF_DAY, placed};
 use crate::offsets::{at_offsets, chosen_offsets};
-use rr_expand::{AllowedDays, first_fit, first_unit, fitting_seconds, unit_of, units_of_day};
+use rr_expand::{
+    AllowedDays, UnitTimes, first_fit, first_unit, fitting_seconds_by, unit_of, units_of_day,
+};
 use rr_lazy::OccupiedDay;
 use rr_model::{Kind, NoMemory, Rule, day_part, second_part};
 use rr_setpos::seconds_of_unit;
@@ -28,8 +30,8 @@ use rr_times::TimeSet;
 use std::alloc::Global;
 use std::marker::Model;
 
-// A rule of hours, minutes or seconds beside its start, with the seconds of each unit that BYSETPOS chooses, the days that the
-// date parts allow, and the numbers of the sets of its days in the table. What is chosen on an allowed day depends on nothing
+// A rule of hours, minutes or seconds beside its start, with the seconds of each unit that BYSETPOS chooses, the minutes and
+// seconds that the time parts allow in a unit, the days that the date parts allow, and the numbers of the sets of its days in the table. What is chosen on an allowed day depends on nothing
 // but the place of the day's first unit that fits the interval: the numbers are kept by that place.
 #[derive(Drop)]
 pub(crate) struct FineRule {
@@ -38,6 +40,7 @@ pub(crate) struct FineRule {
     start_day: i64,
     start_second: u32,
     offsets: TimeSet,
+    times: UnitTimes,
     allowed: AllowedDays,
     numbers: Vec<Option<usize>>,
 }
@@ -50,7 +53,7 @@ impl Model for FineRule {
 
     ghost view = { λ s. record { rule = s.rule; kind = Moments; start = s.start; kept = s.numbers.items } };
 
-    ghost invariant = { λ s. IsFine (record { rule = s.rule; kind = Moments; start = s.start; kept = s.numbers.items }) s.start_day s.start_second s.offsets s.allowed };
+    ghost invariant = { λ s. IsFine (record { rule = s.rule; kind = Moments; start = s.start; kept = s.numbers.items }) s.start_day s.start_second s.offsets s.times s.allowed };
 }
 
 impl FineRule {
@@ -67,12 +70,14 @@ impl FineRule {
         let places = units_of_day(rule.freq).min(u64::from(rule.interval)) as usize;
         let mut numbers = Vec::new(alloc);
         numbers.resize(places, None)?;
+        let times = UnitTimes::new(alloc, rule, start)?;
         Ok(FineRule {
             rule: rule.copy(alloc)?,
             start,
             start_day,
             start_second: second_part(kind, start),
             offsets: chosen_offsets(alloc, rule, start)?,
+            times,
             allowed: AllowedDays::new(alloc, rule, start_day)?,
             numbers,
         })
@@ -248,7 +253,7 @@ impl FineRule {
         requires allowed { IsTrue (date_parts_hold (filled self.now.rule Days (day_part Moments self.now.start)) day) }
         ensures { IfOk result (λ t. IsSetOf nat_lt t (IsChosenSecond self.now day)) }
     {
-        let fitting = fitting_seconds(alloc, &self.rule, self.start, day)?;
+        let fitting = fitting_seconds_by(alloc, &self.rule, self.start, &self.times, day)?;
         if self.rule.by_set_pos.is_empty() {
             return Ok(fitting);
         }

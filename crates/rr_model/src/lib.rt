@@ -20,8 +20,6 @@ mod rule_laws;
 mod rule_parts;
 mod sketch;
 mod stamp;
-#[cfg(test)]
-mod tests;
 mod used;
 mod vcal;
 mod verdict;

@@ -4,8 +4,6 @@
 mod cycle;
 mod divisors;
 mod factors;
-#[cfg(test)]
-mod tests;
 
 pub use cycle::{day_cycle, interval_cycle};
 pub use divisors::{gcd, gcd_is_greatest, lcm_is_least, lcm_within};

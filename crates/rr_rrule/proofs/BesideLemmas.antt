@@ -279,7 +279,7 @@ pub not_stopped : {A : Type 0} (stop : Option Refusal) (x y : A) → unless_stop
 not_stopped None x y h = cc
 not_stopped (Some refusal) x y h = absurd (cc)
 
-scan-valid : (offset : Option ℤ) (scan : Scan) (series : Series) → calendar_scan offset scan ≡ Ok series → IsValidSeries series
+pub scan-valid : (offset : Option ℤ) (scan : Scan) (series : Series) → calendar_scan offset scan ≡ Ok series → IsValidSeries series
 scan-valid offset scan series h =
     let event = and_then_ok (passes rrule_language (rule_beside offset) offset scan) (λ (e : Event Rule). Ok (series_of_event e)) series h in
     let read = and_then_ok (first_pass rrule_language nothing_read scan.used) _ event.0 event.1 in

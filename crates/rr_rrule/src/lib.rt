@@ -12,8 +12,6 @@ mod rule;
 mod rule_text;
 mod second;
 mod stated;
-#[cfg(test)]
-mod tests;
 mod values;
 mod words;
 mod write_line;

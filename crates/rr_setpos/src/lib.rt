@@ -13,8 +13,6 @@ mod numbers;
 mod places;
 mod select;
 mod set_positions;
-#[cfg(test)]
-mod tests;
 mod time_counts;
 mod times;
 mod units;

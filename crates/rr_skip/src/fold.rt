@@ -17,7 +17,7 @@ ghost use Rattle.rr_skip.specs.Validity.{FitsSkipping, IsSoundSkipping};
 use crate::schedule::Schedule;
 use crate::walk::{Walk, day_at, walked};
 use crate::{SkipRule, SkipSeries};
-use rr_days::{Folded, sequence};
+use rr_days::{Folded, sequence_of_numbers};
 use rr_model::{End, Fault, Kind, MAX_SPAN_DAYS, NoMemory, Refusal, day_part, second_part};
 use rr_num::day_cycle;
 use rr_shapes::Shapes;
@@ -278,5 +278,14 @@ fn folded(alloc: Global, kind: Kind, start: i64, days: SkipDays) -> Result<Folde
 {
     let first = day_in_years(kind, start);
     let shapes = sets_of(alloc, second_part(kind, start))?;
-    Ok(sequence(kind, first, days.settled, days.period, days.numbers, shapes))
+    let folded = sequence_of_numbers(
+        alloc,
+        kind,
+        first,
+        days.settled,
+        days.period,
+        days.numbers,
+        shapes,
+    )?;
+    Ok(folded)
 }

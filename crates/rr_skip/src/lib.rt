@@ -11,8 +11,6 @@ mod parts;
 mod passes;
 mod schedule;
 mod series;
-#[cfg(test)]
-mod tests;
 mod turn;
 mod walk;
 

@@ -1,13 +1,13 @@
 -- The texts of dates and moments: bounds of what they state.
 use Rattle.std.proofs.Common.{◌≡◌, ℕ, ◌+◌, ◌^◌, ◌<◌, ◌≤◌, Bool, true, false, if◌then◌else◌, Option, None, Some, List, length, take, drop, slice_index, ℤ}
-use Rattle.std.proofs.Common.{pos, neg_ℤ, ◌+ℤ◌, ◌≤ℤ◌, refl, arith}
+use Rattle.std.proofs.Common.{pos, ◌+ℤ◌, ◌≤ℤ◌, nat_abs, refl, arith}
 use Rattle.std.specs.List.{AllPass, list_all}
 use Rattle.std.proofs.lemmas.Bool.Decides.{nat_tests}
 use Rattle.std.proofs.lemmas.Grind.{common_steps}
 use Rattle.std.proofs.lemmas.Int.{ints, by_lt_z}
 use Rattle.std.proofs.lemmas.List.Elements.{All-take, All-drop}
 use Rattle.std.proofs.lemmas.List.Sums.{AllPass-from_list_all, list_all-from_AllPass}
-use Rattle.rr_model.specs.Calendar.{day_number, first_day_of_year, year_of, IsDate}
+use Rattle.rr_model.specs.Calendar.{day_number, year_of, IsDate}
 use Rattle.rr_model.specs.Text.Digits.{is_digit}
 use Rattle.rr_model.specs.Moment.Years.{IsFromYearOne, HasFourDigitYear}
 use Rattle.rr_model.specs.Text.Moments.{is_digits, number_at, basic_date, basic_time, basic_moment, is_letter_t, utc_mark, moment_of}
@@ -31,6 +31,16 @@ year_of-low d h =
     by_lt_z {P = P} (year_of d) (pos 1)
     (λ l. absurd (omega (arith, ints, within.not_over, first_day_of_year_mono (year_of d +ℤ pos 1) (pos 1) (omega (arith, ints, l)), h)))
     (λ g. g)
+
+-- the year of a day of the years 1 to 9999 has four digits
+pub year_of-short : (d : ℤ) → HasFourDigitYear d → nat_abs (year_of d) < 10_000
+year_of-short d h =
+    let low = year_of-low d h.0 in
+    let within = IsInYear-year_of d in
+    let P : Type 0 = year_of d ≤ℤ pos 9_999 in
+    let high : year_of d ≤ℤ pos 9_999 = by_lt_z {P = P} (year_of d) (pos 10_000) (λ l. omega (arith, ints, l))
+    (λ g. absurd (omega (arith, ints, within.begun, first_day_of_year_mono (pos 10_000) (year_of d) g, h.1))) in
+    omega (arith, ints, low, high)
 
 -- what a text of digits is
 pub is_digits_means : (count : ℕ) (text : List ℕ) → is_digits count text ≡ true → (length text ≡ count) × AllPass is_digit text

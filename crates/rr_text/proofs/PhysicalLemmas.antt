@@ -1,6 +1,6 @@
 -- A text is cut after its first physical line.
 use Rattle.std.proofs.Common.{◌≡◌, ℕ, ◌+◌, ◌-◌, ◌<◌, ◌≤◌, ◌==◌, ◌&&◌, not, Bool, true, false, if◌then◌else◌, List, [], ◌∷◌, length, take, drop, refl, sym}
-use Rattle.std.proofs.Common.{ap, ◌∙◌, arith, suc, zero, Option, Some, None, rules}
+use Rattle.std.proofs.Common.{◌++◌, ap, ◌∙◌, append-nil, take-append-drop, eqb-true, inl, inr, arith, suc, zero, Option, Some, None, rules}
 use Rattle.std.specs.Prelude.{codes, nat_lt, nat_le}
 use Rattle.std.specs.List.{position, position_or_len, onto_first}
 use Rattle.std.specs.Str.{bytes_eq}
@@ -11,7 +11,7 @@ use Rattle.std.proofs.lemmas.List.{take_rest}
 use Rattle.std.proofs.Math.Seq.{drop-length}
 use Rattle.rr_model.specs.Rule.Validity.{is_absent}
 use Rattle.rr_model.specs.Text.Lines.{feeds_next, physical_lines}
-use Rattle.rr_text.specs.Physical.{without_return, IsCutAt}
+use Rattle.rr_text.specs.Physical.{without_return, EndsWithFeed, IsCutAt}
 
 -- the same, byte by byte
 cut_return : List ℕ → List ℕ
@@ -143,6 +143,25 @@ first : (text : List ℕ) → HasFirst text
 first [] k at h = absurd (omega (arith, h))
 first (b ∷ bs) k at h = first-step b bs (first bs) k at h
 
+-- the line with its line feed
+abbrev FeedsAtEnd : List ℕ → Type 0
+FeedsAtEnd text = (k : ℕ) → position_or_len is_feed text ≡ k → k < length text → EndsWithFeed (take (suc k) text)
+
+feeds-step : (b : ℕ) (bs : List ℕ) → FeedsAtEnd bs → FeedsAtEnd (b ∷ bs)
+feeds-step b bs more k at h = by (b == 10) refl k at h
+  where
+    by : (t : Bool) → (b == 10) ≡ t → FeedsAtEnd (b ∷ bs)
+    by true e zero at h = record { front = []; is = ap (λ (x : ℕ). x ∷ []) (eqb-true b 10 e) }
+    by true e (suc k) at h = absurd (omega (arith, at, place-feed b bs e))
+    by false e zero at h = absurd (omega (arith, at, place-more b bs e))
+    by false e (suc k) at h =
+        let more = more k (omega (arith, at, place-more b bs e)) (omega (arith, h)) in
+        record { front = b ∷ more.front; is = ap (λ (t : List ℕ). b ∷ t) more.is }
+
+feeds_at_end : (text : List ℕ) → FeedsAtEnd text
+feeds_at_end [] k at h = absurd (omega (arith, h))
+feeds_at_end (b ∷ bs) k at h = feeds-step b bs (feeds_at_end bs) k at h
+
 -- ---- the carriage return
 
 without_return-is : (text : List ℕ) → without_return text ≡ cut_return text
@@ -196,11 +215,18 @@ cut_at text k at =
     rw (rest, without_return-is (take k text)) record {
       lines = rw next (first text k place.0 place.1);
       shorter = grind (arith, common_steps, place.1);
+      part = take (k + 1) text;
+      parts = record { joined = sym (take-append-drop (k + 1) text); ends = inr (rw next (feeds_at_end text k place.0 place.1)) };
     }
 
 some_line : (text : List ℕ) → (text ≡ [] → ⊥) → length text ≤ position_or_len is_feed text → IsCutAt text text []
 some_line [] some h = absurd (some refl)
-some_line (b ∷ bs) some h = record { lines = one_line (b ∷ bs) h ∙ ap (λ (ls : List (List ℕ)). (b ∷ bs) ∷ ls) (sym physical_lines-nil); shorter = omega arith }
+some_line (b ∷ bs) some h = record {
+  lines = one_line (b ∷ bs) h ∙ ap (λ (ls : List (List ℕ)). (b ∷ bs) ∷ ls) (sym physical_lines-nil);
+  shorter = omega arith;
+  part = b ∷ bs;
+  parts = record { joined = sym (append-nil (b ∷ bs)); ends = inl refl };
+}
 
 pub cut_at_end : (text : List ℕ) → None ≡ position is_feed text → (text ≡ [] → ⊥)
     → IsCutAt text text (take (length text - length text) (drop (length text) text))

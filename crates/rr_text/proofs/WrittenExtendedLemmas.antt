@@ -1,11 +1,10 @@
 -- Written extended dates and moments are ASCII and are read back (ISO 8601).
-use Rattle.std.proofs.Common.{◌≡◌, ℕ, zero, suc, ◌+◌, ◌/◌, ◌%◌, ◌^◌, ◌<◌, ℤ, pos, ◌≤ℤ◌, nat_abs, List, [], ◌∷◌, ◌++◌, length, take, drop, replicate}
+use Rattle.std.proofs.Common.{◌≡◌, ℕ, zero, suc, ◌+◌, ◌/◌, ◌%◌, ◌^◌, ◌<◌, ℤ, nat_abs, List, [], ◌∷◌, ◌++◌, length, take, drop, replicate}
 use Rattle.std.proofs.Common.{length-append, Some, true, false, refl, sym, ap, ◌∙◌, arith}
 use Rattle.std.specs.Prelude.{codes, slice_index, ◌==◌}
 use Rattle.std.specs.Str.{IsAscii}
 use Rattle.std.proofs.lemmas.Bool.Decides.{nat_tests}
 use Rattle.std.proofs.lemmas.Fmt.{IsAscii-decimal}
-use Rattle.std.proofs.lemmas.Int.{ints, by_lt_z}
 use Rattle.std.proofs.lemmas.List.{append_assoc, take_at, drop_at, take_all, drop_all, get_or_at}
 use Rattle.std.proofs.lemmas.Str.{IsAscii-append}
 use Rattle.std.proofs.lemmas.Str.Ascii.{IsAscii-nil, IsAscii-cons}
@@ -17,9 +16,9 @@ use Rattle.rr_model.specs.Text.Moments.{padded, extended_date_text, extended_tim
 use Rattle.rr_model.specs.Text.Written.{basic_date_text, basic_time_text}
 use Rattle.rr_model.specs.declared.kind.Kind.{Kind}
 use Rattle.rr_model.specs.declared.kind.Kind.TheVariants.{Days, Moments}
-use Rattle.rr_model.proofs.CalendarLemmas.{IsInYear-year_of, IsDate-year_of, first_day_of_year_mono, days_in_month_bounds}
+use Rattle.rr_model.proofs.CalendarLemmas.{IsDate-year_of, days_in_month_bounds}
 use Rattle.rr_model.proofs.WholeLemmas.{floor_whole, floor_mod_below}
-use Rattle.rr_text.proofs.MomentTextLemmas.{year_of-low}
+use Rattle.rr_text.proofs.MomentTextLemmas.{year_of-short}
 use Rattle.rr_text.proofs.WrittenLemmas.{length-padded_to, basic_date-written, basic_time-written}
 
 -- ---- ASCII
@@ -82,15 +81,10 @@ record HasShortDate (day : ℤ) : Type 0 where
 
 short_date : (day : ℤ) → HasFourDigitYear day → HasShortDate day
 short_date day h =
-    let low = year_of-low day h.0 in
-    let within = IsInYear-year_of day in
     let date = IsDate-year_of day in
     let bounds = days_in_month_bounds (year_of day) (month_of day) in
-    let P : Type 0 = year_of day ≤ℤ pos 9_999 in
-    let high : year_of day ≤ℤ pos 9_999 = by_lt_z {P = P} (year_of day) (pos 10_000) (λ l. omega (arith, ints, l))
-    (λ g. absurd (omega (arith, ints, within.begun, first_day_of_year_mono (pos 10_000) (year_of day) g, h.1))) in
     record {
-      year = omega (arith, ints, low, high);
+      year = year_of-short day h;
       month = omega (arith, date.1);
       number = omega (arith, date.3, bounds.1);
     }

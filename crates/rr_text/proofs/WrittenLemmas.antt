@@ -1,5 +1,5 @@
 -- Written numbers, dates and moments are read back (RFC 5545, sections 3.3.4 and 3.3.5).
-use Rattle.std.proofs.Common.{◌≡◌, ℕ, zero, suc, ◌+◌, ◌-◌, ◌*◌, ◌/◌, ◌%◌, ◌^◌, ◌<◌, ◌≤◌, true, ℤ, pos, ◌≤ℤ◌, nat_abs, List, [], ◌∷◌, ◌++◌, length, take, drop}
+use Rattle.std.proofs.Common.{◌≡◌, ℕ, zero, suc, ◌+◌, ◌-◌, ◌*◌, ◌/◌, ◌%◌, ◌^◌, ◌<◌, ◌≤◌, true, ℤ, pos, nat_abs, List, [], ◌∷◌, ◌++◌, length, take, drop}
 use Rattle.std.proofs.Common.{replicate, length-append, Some, refl, sym, ap, ◌∙◌, arith}
 use Rattle.std.specs.Prelude.{nat_le, nat_lt, codes, slice_index, ◌==◌, false}
 use Rattle.std.specs.Fmt.{decimal}
@@ -8,7 +8,7 @@ use Rattle.std.specs.Str.Parse.{AllDigits}
 use Rattle.std.proofs.lemmas.Bool.{and_from}
 use Rattle.std.proofs.lemmas.Bool.Decides.{nat_tests}
 use Rattle.std.proofs.lemmas.Fmt.{decimal_is_IsNumeral, length-decimal-le}
-use Rattle.std.proofs.lemmas.Int.{ints, by_lt_z}
+use Rattle.std.proofs.lemmas.Int.{ints}
 use Rattle.std.proofs.lemmas.List.{append_assoc, length-replicate, take_at, drop_at, take_all, drop_all, get_or_at}
 use Rattle.std.proofs.lemmas.List.Folds.{list_all-append}
 use Rattle.std.proofs.lemmas.Str.Parse.{digit_from_value}
@@ -21,9 +21,9 @@ use Rattle.rr_model.specs.Text.RuleValues.{is_number}
 use Rattle.rr_model.specs.Text.Written.{basic_date_text, basic_time_text, basic_text}
 use Rattle.rr_model.specs.declared.kind.Kind.{Kind}
 use Rattle.rr_model.specs.declared.kind.Kind.TheVariants.{Days, Moments}
-use Rattle.rr_model.proofs.CalendarLemmas.{IsInYear-year_of, IsDate-year_of, day_number-year_of, is_date_is, first_day_of_year_mono, days_in_month_bounds}
+use Rattle.rr_model.proofs.CalendarLemmas.{IsDate-year_of, day_number-year_of, is_date_is, days_in_month_bounds}
 use Rattle.rr_model.proofs.WholeLemmas.{floor_whole, floor_mod_below}
-use Rattle.rr_text.proofs.MomentTextLemmas.{year_of-low}
+use Rattle.rr_text.proofs.MomentTextLemmas.{year_of-low, year_of-short}
 use Rattle.rr_text.proofs.PrintedLemmas.{digits_value-padded}
 
 -- ---- numbers
@@ -114,16 +114,12 @@ record IsWrittenDate (day : ℤ) : Type 0 where
 written_date : (day : ℤ) → HasFourDigitYear day → IsWrittenDate day
 written_date day h =
     let low = year_of-low day h.0 in
-    let within = IsInYear-year_of day in
     let date = IsDate-year_of day in
     let bounds = days_in_month_bounds (year_of day) (month_of day) in
-    let P : Type 0 = year_of day ≤ℤ pos 9_999 in
-    let high : year_of day ≤ℤ pos 9_999 = by_lt_z {P = P} (year_of day) (pos 10_000) (λ l. omega (arith, ints, l))
-    (λ g. absurd (omega (arith, ints, within.begun, first_day_of_year_mono (pos 10_000) (year_of day) g, h.1))) in
     record {
       year = omega (arith, ints, low);
       from_one = omega (arith, ints, low);
-      four_digits = omega (arith, ints, low, high);
+      four_digits = year_of-short day h;
       two_month = omega (arith, date.1);
       two_day = omega (arith, date.3, bounds.1);
     }

@@ -3,11 +3,13 @@ ghost use Rattle.std.specs.Prelude.{◌≡◌, ◌==◌, ◌<◌, length, positi
 ghost use Rattle.rr_model.specs.Text.Lines.{physical_lines};
 ghost use Rattle.rr_text.specs.Physical.{without_return, IsCutAt};
 
+use memchr::memchr;
+
 // The place of the first line feed.
 fn feed_place(text: &[u8]) -> Option<usize>
     ensures { result ≡ position (λ b. b == 10) text.now }
 {
-    text.iter().position(|b| *b == b'\n')
+    memchr(b'\n', text)
 }
 
 // One carriage return at the end is dropped.

@@ -1,12 +1,12 @@
 // Prints numbers, dates and moments.
-ghost use Rattle.std.specs.Prelude.{◌≡◌, ◌<◌, ◌≤◌, ◌++◌, ◌∷◌, codes, nat_abs, replicate, OnOk, OnErr};
+ghost use Rattle.std.specs.Prelude.{◌≡◌, ◌+◌, ◌/◌, ◌%◌, ◌<◌, ◌≤◌, ◌++◌, ◌∷◌, codes, nat_abs, OnOk, OnErr};
 ghost use Rattle.std.specs.Fmt.{decimal, signed_decimal};
 ghost use Rattle.rr_model.specs.Calendar.{IsDayWithin, day_of_month, month_of, year_of};
 ghost use Rattle.rr_model.specs.Moment.{day_part};
-ghost use Rattle.rr_model.specs.Moment.Years.{IsFromYearOne, IsInYears};
-ghost use Rattle.rr_model.specs.Text.Moments.{padded, extended_date_text, extended_time_text, extended_text};
+ghost use Rattle.rr_model.specs.Moment.Years.{HasFourDigitYear, IsFromYearOne, IsInYears};
+ghost use Rattle.rr_model.specs.Text.Moments.{padded, extended_date, extended_date_text, extended_time_text, extended_text};
 ghost use Rattle.rr_model.specs.Text.Written.{basic_date_text, basic_time_text, basic_text};
-ghost use Rattle.rr_text.specs.Appending.{StandsInFront};
+ghost use Rattle.rr_model.specs.declared.kind.Kind.TheVariants.{Moments};
 
 use itoa::Buffer;
 use rr_cal::date_of;
@@ -27,55 +27,28 @@ pub fn push_unsigned(out: &mut Vec<u8>, value: u64) -> Result<(), NoMemory>
     ensures ok { OnOk result (out.new.items ≡ out.old.items ++ decimal value) }
     ensures err { OnErr result (out.new.items ≡ out.old.items) }
 {
+    if value < 10 {
+        out.push(b'0' + value as u8)?;
+        return Ok(());
+    }
     let mut buffer = Buffer::new();
     out.extend_from_slice(buffer.format(value).as_bytes())?;
     Ok(())
 }
 
-// Some zeros.
-fn push_zeros(out: &mut Vec<u8>, count: usize) -> Result<(), NoMemory>
-    requires { count ≤ 4 }
-    ensures ok { OnOk result (out.new.items ≡ out.old.items ++ replicate count 48) }
-    ensures err { OnErr result (out.new.items ≡ out.old.items) }
-{
-    out.resize(out.len() + count, b'0')?;
-    Ok(())
-}
-
-// The digits with zeros before them up to a width.
-fn push_padded(out: &mut Vec<u8>, width: usize, value: u64) -> Result<(), NoMemory>
-    requires { width ≤ 4 }
-    ensures ok { OnOk result (out.new.items ≡ out.old.items ++ padded width value) }
-    ensures err { OnErr result (StandsInFront out.old.items out.new.items) }
-{
-    let mut buffer = Buffer::new();
-    let digits = buffer.format(value).as_bytes();
-    push_zeros(out, width.saturating_sub(digits.len()))?;
-    out.extend_from_slice(digits)?;
-    Ok(())
-}
-
-// Two digits after a separator.
-#[tactic(auto, using(crate::proofs::PrintLemmas::padded_two))]
-fn push_part(out: &mut Vec<u8>, separator: u8, value: u8) -> Result<(), NoMemory>
+// The tens of a number of two digits, as a digit.
+fn tens(value: u8) -> u8
     requires { value < 100 }
-    ensures ok { OnOk result (out.new.items ≡ out.old.items ++ (separator ∷ padded 2 value)) }
-    ensures err { OnErr result (StandsInFront out.old.items out.new.items) }
+    ensures { result ≡ 48 + value / 10 }
 {
-    let text = [separator, b'0' + value / 10, b'0' + value % 10];
-    out.extend_from_slice(&text)?;
-    Ok(())
+    b'0' + value / 10
 }
 
-#[tactic(auto, unfolding(rr_model::specs::Text::Moments::extended_time_text))]
-fn push_time(out: &mut Vec<u8>, second: u32) -> Result<(), NoMemory>
-    requires { second < 86_400 }
-    ensures ok { OnOk result (out.new.items ≡ out.old.items ++ (codes "T" ++ extended_time_text second)) }
-    ensures err { OnErr result (StandsInFront out.old.items out.new.items) }
+// Its ones.
+fn ones(value: u8) -> u8
+    ensures { result ≡ 48 + value % 10 }
 {
-    push_part(out, b'T', (second / 3_600) as u8)?;
-    push_part(out, b':', (second / 60 % 60) as u8)?;
-    push_part(out, b':', (second % 60) as u8)
+    b'0' + value % 10
 }
 
 // The year, month and day of a day from 0001-01-01 on.
@@ -102,30 +75,107 @@ fn date_parts(day: i64) -> DateParts
     }
 }
 
-fn push_day(out: &mut Vec<u8>, day: i64) -> Result<(), NoMemory>
+// YYYY-MM-DD of a year of at most four digits.
+fn extended_bytes(date: DateParts) -> [u8; 10]
+    requires year { date.year < 10_000 }
+    requires two { (date.month < 100) × (date.day < 100) }
+    ensures { result ≡ extended_date date.year date.month date.day }
+{
+    let century = (date.year / 100) as u8;
+    let year = (date.year % 100) as u8;
+    [
+        tens(century),
+        ones(century),
+        tens(year),
+        ones(year),
+        b'-',
+        tens(date.month),
+        ones(date.month),
+        b'-',
+        tens(date.day),
+        ones(date.day),
+    ]
+}
+
+// A date whose year has more digits than four.
+fn push_long_date(out: &mut Vec<u8>, date: DateParts) -> Result<(), NoMemory>
+    requires year { 10_000 ≤ date.year }
+    requires two { (date.month < 100) × (date.day < 100) }
+    ensures ok { OnOk result (out.new.items ≡ out.old.items ++ extended_date date.year date.month date.day) }
+    ensures err { OnErr result (out.new.items ≡ out.old.items) }
+{
+    let before = out.len();
+    let end = extended_bytes(DateParts {
+        year: date.year % 10_000,
+        ..date
+    });
+    push_unsigned(out, date.year / 10_000)?;
+    match out.extend_from_slice(&end) {
+        Ok(()) => Ok(()),
+        Err(_) => {
+            out.truncate(before);
+            Err(NoMemory)
+        }
+    }
+}
+
+/// Appends a date as `2024-02-29` (ISO 8601). `day` is a day number, in days since 1970-01-01.
+///
+/// A year past 9999 has as many digits as it needs.
+pub fn push_extended_date(out: &mut Vec<u8>, day: i64) -> Result<(), NoMemory>
     requires from { IsFromYearOne day }
     requires near { IsDayWithin 0 day }
     ensures ok { OnOk result (out.new.items ≡ out.old.items ++ extended_date_text day) }
-    ensures err { OnErr result (StandsInFront out.old.items out.new.items) }
+    ensures err { OnErr result (out.new.items ≡ out.old.items) }
 {
     let date = date_parts(day);
-    push_padded(out, 4, date.year)?;
-    push_part(out, b'-', date.month)?;
-    push_part(out, b'-', date.day)
+    if date.year >= 10_000 {
+        return push_long_date(out, date);
+    }
+    out.extend_from_slice(&extended_bytes(date))?;
+    Ok(())
 }
 
-#[tactic(auto, unfolding(rr_model::specs::Text::Moments::extended_text))]
-fn push_parts(out: &mut Vec<u8>, kind: Kind, at: i64) -> Result<(), NoMemory>
-    requires from { IsFromYearOne (day_part kind at) }
-    requires near { IsDayWithin 0 (day_part kind at) }
-    ensures ok { OnOk result (out.new.items ≡ out.old.items ++ extended_text kind at) }
-    ensures err { OnErr result (StandsInFront out.old.items out.new.items) }
+/// Appends a second of the day as `T09:30:00` (ISO 8601), as it follows its date in a moment.
+#[tactic(auto, using(crate::proofs::PrintLemmas::padded_two), unfolding(rr_model::specs::Text::Moments::extended_time_text))]
+pub fn push_extended_time(out: &mut Vec<u8>, second: u32) -> Result<(), NoMemory>
+    requires { second < 86_400 }
+    ensures ok { OnOk result (out.new.items ≡ out.old.items ++ (codes "T" ++ extended_time_text second)) }
+    ensures err { OnErr result (out.new.items ≡ out.old.items) }
 {
-    match kind {
-        Kind::Days => push_day(out, at),
-        Kind::Moments => {
-            push_day(out, day_part(kind, at))?;
-            push_time(out, second_part(kind, at))
+    let hour = (second / 3_600) as u8;
+    let minute = (second / 60 % 60) as u8;
+    let rest = (second % 60) as u8;
+    let text = [
+        b'T',
+        tens(hour),
+        ones(hour),
+        b':',
+        tens(minute),
+        ones(minute),
+        b':',
+        tens(rest),
+        ones(rest),
+    ];
+    out.extend_from_slice(&text)?;
+    Ok(())
+}
+
+// A moment.
+#[tactic(auto, unfolding(rr_model::specs::Text::Moments::extended_text))]
+fn push_moment(out: &mut Vec<u8>, at: i64) -> Result<(), NoMemory>
+    requires from { IsFromYearOne (day_part Moments at) }
+    requires near { IsDayWithin 0 (day_part Moments at) }
+    ensures ok { OnOk result (out.new.items ≡ out.old.items ++ extended_text Moments at) }
+    ensures err { OnErr result (out.new.items ≡ out.old.items) }
+{
+    let before = out.len();
+    push_extended_date(out, day_part(Kind::Moments, at))?;
+    match push_extended_time(out, second_part(Kind::Moments, at)) {
+        Ok(()) => Ok(()),
+        Err(error) => {
+            out.truncate(before);
+            Err(error)
         }
     }
 }
@@ -134,70 +184,85 @@ fn push_parts(out: &mut Vec<u8>, kind: Kind, at: i64) -> Result<(), NoMemory>
 ///
 /// `at` is a day number, or 86,400 times the day number plus the second of the day.
 /// A year past 9999 has as many digits as it needs.
+#[tactic(auto, unfolding(rr_model::specs::Text::Moments::extended_text))]
 pub fn push_extended(out: &mut Vec<u8>, kind: Kind, at: i64) -> Result<(), NoMemory>
     requires from { IsFromYearOne (day_part kind at) }
     requires near { IsDayWithin 0 (day_part kind at) }
     ensures ok { OnOk result (out.new.items ≡ out.old.items ++ extended_text kind at) }
     ensures err { OnErr result (out.new.items ≡ out.old.items) }
 {
-    let before = out.len();
-    match push_parts(out, kind, at) {
-        Ok(()) => Ok(()),
-        Err(error) => {
-            out.truncate(before);
-            Err(error)
-        }
+    match kind {
+        Kind::Days => push_extended_date(out, at),
+        Kind::Moments => push_moment(out, at),
     }
 }
 
 // ---- basic texts
 
-#[tactic(auto, using(crate::proofs::PrintLemmas::padded_two))]
-fn push_two_digits(out: &mut Vec<u8>, value: u8) -> Result<(), NoMemory>
-    requires { value < 100 }
-    ensures ok { OnOk result (out.new.items ≡ out.old.items ++ padded 2 value) }
-    ensures err { OnErr result (StandsInFront out.old.items out.new.items) }
+// YYYYMMDD.
+fn basic_bytes(date: DateParts) -> [u8; 8]
+    requires year { date.year < 10_000 }
+    requires two { (date.month < 100) × (date.day < 100) }
+    ensures { result ≡ padded 4 date.year ++ padded 2 date.month ++ padded 2 date.day }
 {
-    let text = [b'0' + value / 10, b'0' + value % 10];
+    let century = (date.year / 100) as u8;
+    let year = (date.year % 100) as u8;
+    [
+        tens(century),
+        ones(century),
+        tens(year),
+        ones(year),
+        tens(date.month),
+        ones(date.month),
+        tens(date.day),
+        ones(date.day),
+    ]
+}
+
+fn push_basic_date(out: &mut Vec<u8>, day: i64) -> Result<(), NoMemory>
+    requires { HasFourDigitYear day }
+    ensures ok { OnOk result (out.new.items ≡ out.old.items ++ basic_date_text day) }
+    ensures err { OnErr result (out.new.items ≡ out.old.items) }
+{
+    out.extend_from_slice(&basic_bytes(date_parts(day)))?;
+    Ok(())
+}
+
+#[tactic(auto, using(crate::proofs::PrintLemmas::padded_two), unfolding(rr_model::specs::Text::Written::basic_time_text))]
+fn push_basic_time(out: &mut Vec<u8>, second: u32) -> Result<(), NoMemory>
+    requires { second < 86_400 }
+    ensures ok { OnOk result (out.new.items ≡ out.old.items ++ (codes "T" ++ basic_time_text second)) }
+    ensures err { OnErr result (out.new.items ≡ out.old.items) }
+{
+    let hour = (second / 3_600) as u8;
+    let minute = (second / 60 % 60) as u8;
+    let rest = (second % 60) as u8;
+    let text = [
+        b'T',
+        tens(hour),
+        ones(hour),
+        tens(minute),
+        ones(minute),
+        tens(rest),
+        ones(rest),
+    ];
     out.extend_from_slice(&text)?;
     Ok(())
 }
 
-fn push_basic_day(out: &mut Vec<u8>, day: i64) -> Result<(), NoMemory>
-    requires from { IsFromYearOne day }
-    requires near { IsDayWithin 0 day }
-    ensures ok { OnOk result (out.new.items ≡ out.old.items ++ basic_date_text day) }
-    ensures err { OnErr result (StandsInFront out.old.items out.new.items) }
-{
-    let date = date_parts(day);
-    push_padded(out, 4, date.year)?;
-    push_two_digits(out, date.month)?;
-    push_two_digits(out, date.day)
-}
-
-#[tactic(auto, unfolding(rr_model::specs::Text::Written::basic_time_text))]
-fn push_basic_time(out: &mut Vec<u8>, second: u32) -> Result<(), NoMemory>
-    requires { second < 86_400 }
-    ensures ok { OnOk result (out.new.items ≡ out.old.items ++ (codes "T" ++ basic_time_text second)) }
-    ensures err { OnErr result (StandsInFront out.old.items out.new.items) }
-{
-    push_part(out, b'T', (second / 3_600) as u8)?;
-    push_two_digits(out, (second / 60 % 60) as u8)?;
-    push_two_digits(out, (second % 60) as u8)
-}
-
 #[tactic(auto, unfolding(rr_model::specs::Text::Written::basic_text))]
-fn push_basic_parts(out: &mut Vec<u8>, kind: Kind, at: i64) -> Result<(), NoMemory>
-    requires from { IsFromYearOne (day_part kind at) }
-    requires near { IsDayWithin 0 (day_part kind at) }
-    ensures ok { OnOk result (out.new.items ≡ out.old.items ++ basic_text kind at) }
-    ensures err { OnErr result (StandsInFront out.old.items out.new.items) }
+fn push_basic_moment(out: &mut Vec<u8>, at: i64) -> Result<(), NoMemory>
+    requires { IsInYears Moments at }
+    ensures ok { OnOk result (out.new.items ≡ out.old.items ++ basic_text Moments at) }
+    ensures err { OnErr result (out.new.items ≡ out.old.items) }
 {
-    match kind {
-        Kind::Days => push_basic_day(out, at),
-        Kind::Moments => {
-            push_basic_day(out, day_part(kind, at))?;
-            push_basic_time(out, second_part(kind, at))
+    let before = out.len();
+    push_basic_date(out, day_part(Kind::Moments, at))?;
+    match push_basic_time(out, second_part(Kind::Moments, at)) {
+        Ok(()) => Ok(()),
+        Err(error) => {
+            out.truncate(before);
+            Err(error)
         }
     }
 }
@@ -205,17 +270,14 @@ fn push_basic_parts(out: &mut Vec<u8>, kind: Kind, at: i64) -> Result<(), NoMemo
 /// Appends a date as `20240229`, a moment as `20240229T093000` (RFC 5545, sections 3.3.4 and 3.3.5).
 ///
 /// `at` is a day number, or 86,400 times the day number plus the second of the day.
+#[tactic(auto, unfolding(rr_model::specs::Text::Written::basic_text))]
 pub fn push_basic(out: &mut Vec<u8>, kind: Kind, at: i64) -> Result<(), NoMemory>
     requires { IsInYears kind at }
     ensures ok { OnOk result (out.new.items ≡ out.old.items ++ basic_text kind at) }
     ensures err { OnErr result (out.new.items ≡ out.old.items) }
 {
-    let before = out.len();
-    match push_basic_parts(out, kind, at) {
-        Ok(()) => Ok(()),
-        Err(error) => {
-            out.truncate(before);
-            Err(error)
-        }
+    match kind {
+        Kind::Days => push_basic_date(out, at),
+        Kind::Moments => push_basic_moment(out, at),
     }
 }

@@ -7,8 +7,8 @@ use crate::physical::take_line;
 use rr_model::{Bytes, Line, LineList, NoMemory};
 use std::alloc::Global;
 
-// Whether the physical line continues the one before it.
-fn begins_blank(text: &[u8]) -> bool
+/// Whether a physical line continues the one before it (RFC 5545, section 3.1).
+pub fn begins_blank(text: &[u8]) -> bool
     ensures { result ≡ begins_blank text.now }
 {
     match text {

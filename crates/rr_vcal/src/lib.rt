@@ -13,8 +13,6 @@ mod rule;
 mod rule_text;
 mod second;
 mod series;
-#[cfg(test)]
-mod tests;
 mod words;
 mod written;
 

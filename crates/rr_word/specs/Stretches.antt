@@ -1,5 +1,5 @@
 -- The numbers of the time sets of days in a row.
-use Rattle.std.specs.Prelude.{◌≡◌, ℕ, ◌<◌, List, [], length, get_or, slice_get, Option, Some, None, ℤ, pos, ◌+ℤ◌}
+use Rattle.std.specs.Prelude.{◌≡◌, ℕ, ◌<◌, List, [], length, get_or, slice_get, Option, Some, None, ℤ, pos, ◌+ℤ◌, ◌≤ℤ◌, ◌<ℤ◌}
 use Rattle.rr_model.specs.Sets.Sketch.{times_on}
 use Rattle.rr_model.specs.declared.sketch.Sketch.{Sketch}
 
@@ -12,3 +12,15 @@ IsNumberOn sets s day (Some number) = slice_get sets number ≡ Some (times_on s
 pub record IsStretch (sets : List (List ℕ)) (s : Sketch) (day : ℤ) (first : Option ℕ) (rest : List ℕ) : Type 0 where
   pub of_day : IsNumberOn sets s day first
   pub of_later : (k : ℕ) → k < length rest → IsNumberOn sets s ((day +ℤ pos 1) +ℤ pos k) (Some (get_or rest k 0))
+
+-- these are the numbers of the sets of the days after this one, one after another
+abbrev pub AreNumbersAfter : List (List ℕ) → Sketch → ℤ → List ℕ → Type 0
+AreNumbersAfter sets s day numbers = (k : ℕ) → k < length numbers → IsNumberOn sets s ((day +ℤ pos 1) +ℤ pos k) (Some (get_or numbers k 0))
+
+-- so many days from this one on, itself the first of them, have no seconds
+abbrev pub AreFree : Sketch → ℤ → ℕ → Type 0
+AreFree s day days = (k : ℕ) → k < days → times_on s (day +ℤ pos k) ≡ []
+
+-- n days from a day on have the seconds of the day that many later
+abbrev pub SameAfter : Sketch → ℤ → ℕ → ℕ → Type 0
+SameAfter s q n later = (d : ℤ) → q ≤ℤ d → d <ℤ (q +ℤ pos n) → times_on s (d +ℤ pos later) ≡ times_on s d

@@ -1,7 +1,7 @@
 // A sequence of days that is read in steps.
-ghost use Rattle.std.specs.Prelude.{◌≡◌, ◌+◌, ◌<◌, ◌≤◌, IfSome, Some, length, pos, neg_ℤ, ◌≤ℤ◌, slice_get};
+ghost use Rattle.std.specs.Prelude.{◌≡◌, ◌+◌, ◌<◌, ◌≤◌, min, IfSome, Some, get_or, length, pos, neg_ℤ, ◌≤ℤ◌, slice_get};
 ghost use Rattle.rr_model.specs.Sets.Sketch.{IsFirstDay, IsNearDay, times_on};
-ghost use Rattle.rr_word.specs.Stretches.{IsNumberOn};
+ghost use Rattle.rr_word.specs.Stretches.{AreFree, AreNumbersAfter, IsNumberOn};
 
 use crate::DaySeq;
 use rr_model::Kind;
@@ -88,11 +88,70 @@ impl<A: DaySeq + Drop> Counted<A> {
         self.seq.stretch(day).first
     }
 
+    /// For how many days in a row from a day within 3,000,000,000,000 either way on, itself the first of them, it is known at
+    /// once that none is occupied. It is one step where it tells of a day, and none where it is 0, which tells nothing.
+    pub fn read_free<L: Ledger>(&self, day: i64, steps: &mut Steps<L>) -> u64
+        requires low { neg_ℤ (pos 3_000_000_000_000) ≤ℤ day }
+        requires high { day ≤ℤ pos 3_000_000_000_000 }
+        ensures free { AreFree (A.sketch self.now) day result }
+        ensures step { steps.new ≡ steps.old + min result 1 }
+    {
+        let days = self.seq.free_days(day);
+        tick_if_some(days, steps);
+        days
+    }
+
+    /// The days after a day within 3,000,000,000,000 either way, as far as the numbers of their sets are kept in a row. It tells
+    /// how many they are, and no more.
+    pub fn later(&self, day: i64) -> Later<'_>
+        requires low { neg_ℤ (pos 3_000_000_000_000) ≤ℤ day }
+        requires high { day ≤ℤ pos 3_000_000_000_000 }
+        ensures { AreNumbersAfter (A.sets self.now) (A.sketch self.now) day result.numbers.now }
+    {
+        Later {
+            numbers: self.seq.stretch(day).rest,
+        }
+    }
+
     /// The seconds of the time set of a number, whatever day has it.
     pub fn times(&self, number: u32) -> &[u32]
         requires { number < length (A.sets self.now) }
         ensures { slice_get (A.sets self.now) number ≡ Some result.now }
     {
         self.seq.times(number)
+    }
+}
+
+// One step, unless nothing is told.
+fn tick_if_some<L: Ledger>(days: u64, steps: &mut Steps<L>)
+    ensures { steps.new ≡ steps.old + min days 1 }
+{
+    if days > 0 {
+        steps.tick();
+    }
+}
+
+/// Days in a row whose numbers are there to be read, each in one step.
+#[derive(Clone, Copy)]
+pub struct Later<'a> {
+    numbers: &'a [u32],
+}
+
+impl<'a> Later<'a> {
+    /// How many days they are.
+    pub fn count(self) -> usize
+        ensures { result ≡ length self.entry.numbers.now }
+    {
+        self.numbers.len()
+    }
+
+    /// The number of the time set of the day at a place, in one step.
+    pub fn read_number<L: Ledger>(self, place: usize, steps: &mut Steps<L>) -> u32
+        requires { place < length self.numbers.now }
+        ensures number { result ≡ get_or self.entry.numbers.now place 0 }
+        ensures step { steps.new ≡ steps.old + 1 }
+    {
+        steps.tick();
+        self.numbers[place]
     }
 }

@@ -2,7 +2,7 @@
 ghost use Rattle.std.specs.Prelude.{◌≡◌, ◌<◌, ◌≤◌, ℕ, List, Some, length, pos, neg_ℤ, ◌≤ℤ◌, IfSome, slice_get};
 ghost use Rattle.rr_model.specs.Sets.Sketch.{IsDaySequence, IsFirstDay, IsNearDay, times_on};
 ghost use Rattle.rr_model.specs.declared.sketch.Sketch.{Sketch};
-ghost use Rattle.rr_word.specs.Stretches.{IsStretch};
+ghost use Rattle.rr_word.specs.Stretches.{AreFree, IsStretch};
 
 use rr_model::Kind;
 
@@ -61,6 +61,13 @@ pub trait DaySeq {
         requires low { neg_ℤ (pos 3_000_000_000_000) ≤ℤ day }
         requires high { day ≤ℤ pos 3_000_000_000_000 }
         ensures { IsStretch (sets self.now) (sketch self.now) day result.first result.rest.now };
+
+    /// For how many days in a row from a day within 3,000,000,000,000 either way on, itself the first of them, it is known at
+    /// once that none is occupied; 0 where the day is occupied, and where nothing is known.
+    fn free_days(&self, day: i64) -> u64
+        requires low { neg_ℤ (pos 3_000_000_000_000) ≤ℤ day }
+        requires high { day ≤ℤ pos 3_000_000_000_000 }
+        ensures { AreFree (sketch self.now) day result };
 
     /// The seconds of the time set of a number.
     fn times(&self, number: u32) -> &[u32]

@@ -1,11 +1,12 @@
 // The least period and the least start.
-ghost use Rattle.std.specs.Prelude.{◌≡◌, ◌≤◌, ℤ, Some};
-ghost use Rattle.rr_model.specs.Sets.Sketch.{IsFirstDay, times_on};
+ghost use Rattle.std.specs.Prelude.{◌≡◌, ◌≤◌, ℤ, Some, pos, ◌≤ℤ◌};
+ghost use Rattle.rr_model.specs.Whole.Periodic.{RepeatsFrom};
+ghost use Rattle.rr_model.specs.Sets.Sketch.{IsFirstDay, IsNearDay, times_on};
 ghost use Rattle.rr_model.specs.Sets.Least.{HasPeriodFrom, IsEventualPeriod, IsLeastPeriod, IsLeastStart};
 ghost use Rattle.rr_model.specs.Sets.DividingOut.{IsDividedOnce};
 
 use crate::DaySeq;
-use crate::same::{repeats_after, same_on};
+use crate::same::{are_same, repeats_after, same_on};
 use rr_num::least_factor;
 
 // The period over the factor where the sequence repeats after that many days too, and else the period.
@@ -42,6 +43,31 @@ pub fn least_period<A: DaySeq>(seq: &A) -> u64
     period
 }
 
+// How many days are compared at a time on the way back to the least start.
+const BLOCK: u64 = 1_024;
+
+// A day on the way back to the first one from which a period holds: as far back as all days of a block have it.
+fn start_by_blocks<A: DaySeq>(seq: &A, first: i64, from: i64, period: u64) -> i64
+    requires near { IsNearDay first }
+    requires order { first ≤ℤ from }
+    requires high { from ≤ℤ pos 1_000_000_000 }
+    requires few { period ≤ 1_000_000_000 }
+    requires repeats { RepeatsFrom (times_on (A.sketch seq.now)) from period }
+    ensures not_before { first ≤ℤ result }
+    ensures not_after { result ≤ℤ from }
+    ensures repeats { RepeatsFrom (times_on (A.sketch seq.now)) result period }
+{
+    let mut start = from;
+    while start - first >= BLOCK as i64 {
+        let before = start - BLOCK as i64;
+        if !are_same(seq, before, period, BLOCK) {
+            return start;
+        }
+        start = before;
+    }
+    start
+}
+
 /// The least day, not before the first occupied one, from which a period holds.
 ///
 /// It is the same for every eventual period, so the days are compared by the lesser of this one and the sequence's own.
@@ -54,7 +80,7 @@ pub fn least_start<A: DaySeq>(seq: &A, period: u64) -> i64
     let Some(first) = seq.first() else {
         return seq.settled();
     };
-    let mut start = seq.settled().max(first);
+    let mut start = start_by_blocks(seq, first, seq.settled().max(first), step);
     while start > first {
         let before = start - 1;
         let same = same_on(seq, before, before + step as i64);

@@ -10,7 +10,7 @@ mod merge;
 mod numbered;
 mod same;
 
-pub use counted::Counted;
+pub use counted::{Counted, Later};
 pub use day_seq::{DaySeq, Stretch};
 pub use laws::{
     agreement_lasts, agreement_of_lists_lasts, each_has_one_least_sketch, least_period_divides,

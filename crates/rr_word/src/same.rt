@@ -1,19 +1,114 @@
 // Whether days of a sequence have the same seconds.
-ghost use Rattle.std.specs.Prelude.{◌≡◌, ◌↔◌, ◌≤◌, IsTrue, pos, neg_ℤ, ◌≤ℤ◌};
+ghost use Rattle.std.specs.Prelude.{◌≡◌, ◌↔◌, ◌<◌, ◌≤◌, ℕ, IsTrue, length, get_or, pos, neg_ℤ, ◌+ℤ◌, ◌≤ℤ◌};
 ghost use Rattle.rr_model.specs.Calendar.{IsDayWithin};
 ghost use Rattle.rr_model.specs.Whole.Periodic.{RepeatsFrom};
-ghost use Rattle.rr_model.specs.Sets.Sketch.{times_on};
+ghost use Rattle.rr_model.specs.Sets.Sketch.{IsNearDay, times_on};
 ghost use Rattle.rr_model.specs.Sets.Least.{HasPeriodFrom};
+ghost use Rattle.rr_word.specs.Stretches.{IsNumberOn, SameAfter};
 
 use crate::DaySeq;
 
-/// Whether two days have the same seconds.
+/// Whether two days have the same seconds. These are read only where the numbers of both days differ.
 pub fn same_on<A: DaySeq>(seq: &A, day: i64, other: i64) -> bool
     requires near { IsDayWithin 0 day }
     requires other_near { IsDayWithin 0 other }
     ensures { IsTrue result ↔ (times_on (A.sketch seq.now) day ≡ times_on (A.sketch seq.now) other) }
 {
+    have_same(
+        seq,
+        day,
+        other,
+        seq.stretch(day).first,
+        seq.stretch(other).first,
+    )
+}
+
+// Whether two days have the same seconds, by the numbers of their sets where these tell.
+fn have_same<A: DaySeq>(
+    seq: &A,
+    day: i64,
+    other: i64,
+    of_day: Option<u32>,
+    of_other: Option<u32>,
+) -> bool
+    requires near { IsDayWithin 0 day }
+    requires other_near { IsDayWithin 0 other }
+    requires number { IsNumberOn (A.sets seq.now) (A.sketch seq.now) day of_day }
+    requires other_number { IsNumberOn (A.sets seq.now) (A.sketch seq.now) other of_other }
+    ensures { IsTrue result ↔ (times_on (A.sketch seq.now) day ≡ times_on (A.sketch seq.now) other) }
+{
+    if is_one_number(of_day, of_other) {
+        return true;
+    }
     seq.at(day) == seq.at(other)
+}
+
+// Whether both days have a number, and the same one.
+fn is_one_number(one: Option<u32>, other: Option<u32>) -> bool
+    ensures { IsTrue result → (one ≡ other) }
+{
+    match (one, other) {
+        (Some(one), Some(other)) => one == other,
+        _ => false,
+    }
+}
+
+// At how many places from the first one on, of at most `most`, two rows have the same number.
+fn count_equal(xs: &[u32], ys: &[u32], most: usize) -> usize
+    ensures first { result ≤ length xs.now }
+    ensures second { result ≤ length ys.now }
+    ensures most { result ≤ most }
+    ensures equal { (k : ℕ) → k < result → get_or xs.now k 0 ≡ get_or ys.now k 0 }
+{
+    let end = xs.len().min(ys.len()).min(most);
+    for place in 0..end {
+        if xs[place] != ys[place] {
+            return place;
+        }
+    }
+    end
+}
+
+// How many days from one on, of at most `most`, are seen at once to have the seconds of the days `later` days later; 0 only where
+// the first has not.
+fn count_same<A: DaySeq>(seq: &A, day: i64, later: u64, most: u64) -> u64
+    requires low { neg_ℤ (pos 1_000_000_000) ≤ℤ day }
+    requires high { day ≤ℤ pos 2_000_000_000 }
+    requires few { later ≤ 1_000_000_000 }
+    requires some { 1 ≤ most }
+    ensures most { result ≤ most }
+    ensures none { result ≡ 0 → times_on (A.sketch seq.now) (day +ℤ pos later) ≡ times_on (A.sketch seq.now) day → ⊥ }
+    ensures same { SameAfter (A.sketch seq.now) day result later }
+{
+    let other = day + later as i64;
+    let free = seq.free_days(day).min(seq.free_days(other)).min(most);
+    if free > 0 {
+        return free;
+    }
+    let of_day = seq.stretch(day);
+    let of_other = seq.stretch(other);
+    if !have_same(seq, day, other, of_day.first, of_other.first) {
+        return 0;
+    }
+    1 + count_equal(of_day.rest, of_other.rest, (most - 1) as usize) as u64
+}
+
+/// Whether `days` days from one on have the seconds of the days `later` days later.
+pub fn are_same<A: DaySeq>(seq: &A, from: i64, later: u64, days: u64) -> bool
+    requires near { IsNearDay from }
+    requires few { later ≤ 1_000_000_000 }
+    requires few_days { days ≤ 1_000_000_000 }
+    ensures { IsTrue result ↔ SameAfter (A.sketch seq.now) from days later }
+{
+    let mut k = 0;
+    while k < days {
+        let count = count_same(seq, from + k as i64, later, days - k);
+        if count == 0 {
+            return false;
+        }
+        k += count;
+    }
+    true
 }
 
 /// Whether the sequence repeats after `days` days from its settled day on.
@@ -25,13 +120,5 @@ pub fn repeats_after<A: DaySeq>(seq: &A, period: u64, days: u64) -> bool
     requires few_days { days ≤ 1_000_000_000 }
     ensures { IsTrue result ↔ RepeatsFrom (times_on (A.sketch seq.now)) (A.sketch seq.now).settled days }
 {
-    let settled = seq.settled();
-    for k in 0..period {
-        let day = settled + k as i64;
-        let same = same_on(seq, day, day + days as i64);
-        if !same {
-            return false;
-        }
-    }
-    true
+    are_same(seq, seq.settled(), days, period)
 }

@@ -8,8 +8,11 @@ use Rattle.rr_algebra.proofs.JudgedLemmas.{refused_exactly}
 use Rattle.rr_algebra.proofs.TogetherLemmas.{not_too_many, together_days, together_whole}
 use Rattle.rr_algebra.proofs.combining.combined_days.Goals as goal
 
-pub sequence-requires : goal.sequence-requires
-sequence-requires g c =
+pub sequence_of_numbers-requires-clause-empty : goal.sequence_of_numbers-requires-clause-empty
+sequence_of_numbers-requires-clause-empty g c = c.in-Ok.ensures.sets.empty
+
+pub sequence_of_numbers-requires-clause-whole : goal.sequence_of_numbers-requires-clause-whole
+sequence_of_numbers-requires-clause-whole g c =
     let b = to_z-of_z c.ranges.begin in
     let q = to_z-of_z c.ranges.settled in
     let low = c.requires.low in
@@ -28,8 +31,8 @@ sequence-requires g c =
     subst (λ z. IsWholeFold c.args.kind days.shapes days.numbers.items z (to_z w64 (of_z w64 c.args.settled)) c.args.period) (sym b)
     (subst (λ z. IsWholeFold c.args.kind days.shapes days.numbers.items c.args.begin z c.args.period) (sym q) whole)
 
-pub returns-in-Ok-clause-days : goal.returns-in-Ok-clause-days
-returns-in-Ok-clause-days g c =
+pub returns-in_ok-folded-in-Ok-clause-days : goal.returns-in_ok-folded-in-Ok-clause-days
+returns-in_ok-folded-in-Ok-clause-days g c =
     let b = to_z-of_z c.ranges.begin in
     let q = to_z-of_z c.ranges.settled in
     let low = c.requires.low in
@@ -46,13 +49,13 @@ returns-in-Ok-clause-days g c =
     let made = together_days c.args.op s u vs vu c.args.kind days.shapes days.numbers.items c.args.begin c.args.settled c.args.period n c.requires.together at
     c.in-Ok.ensures.whole are in
     subst (HasDaysOf c.args.op s u)
-    (sym (c.sequence.ensures ∙ (λ i. sketch_of c.args.kind days.shapes days.numbers.items (b i) (q i) c.args.period))) made
+    (sym (c.in_ok-folded-in-Ok.ensures ∙ (λ i. sketch_of c.args.kind days.shapes days.numbers.items (b i) (q i) c.args.period))) made
 
 pub returns-in-Err-clause-refused : goal.returns-in-Err-clause-refused
 returns-in-Err-clause-refused g c = refused_exactly CombinedDays Folded c.in-Err.fault _ c.in-Err.ensures.refused
 
-pub returns-in-Ok-clause-refused : goal.returns-in-Ok-clause-refused
-returns-in-Ok-clause-refused g c =
+pub returns-in_ok-folded-in-Ok-clause-refused : goal.returns-in_ok-folded-in-Ok-clause-refused
+returns-in_ok-folded-in-Ok-clause-refused g c =
     let b = to_z-of_z c.ranges.begin in
     let q = to_z-of_z c.ranges.settled in
     let n = c.days_until.result in

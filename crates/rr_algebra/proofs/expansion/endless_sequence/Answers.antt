@@ -46,8 +46,8 @@ returns-in-Err-clause-refused c =
       subst (λ l. AreSteps e.period (c.args.count - 1) 0 0 (steps_of_runs (map run_in l))) (sym c.as_slice.ensures.value) h.cycle_steps,
     )) c.in-Err.ensures
 
-pub sequence-requires : goal.sequence-requires
-sequence-requires c =
+pub sequence_of_numbers-requires-clause-whole : goal.sequence_of_numbers-requires-clause-whole
+sequence_of_numbers-requires-clause-whole c =
     let d = to_z-of_z c.ranges.first in
     let fits : FitsSigned w64 c.args.ending.now.settled = search rules in
     let q = to_z-of_z fits in
@@ -101,7 +101,7 @@ returns-clause-expanded c =
     ∙ ap (λ k. padded_to k (dense 0 0 (steps_of_runs runs)) ++ padded_to e.period (dense 0 0 (steps_of_runs (map run_in c.as_slice.result.now)))) n
     ∙ ap (λ l. padded_to (nat_abs (e.settled -ℤ first)) (dense 0 0 (steps_of_runs runs)) ++ padded_to e.period (dense 0 0 (steps_of_runs (map run_in l)))) cycle in
     record {
-      same = c.sequence.ensures ∙ (λ i. sketch_of c.args.kind c.args.shapes c.in-Ok.numbers.items (d i) (q i) e.period)
+      same = c.in_ok-folded.ensures ∙ (λ i. sketch_of c.args.kind c.args.shapes c.in-Ok.numbers.items (d i) (q i) e.period)
           ∙ endless_sketch c.args.kind c.args.count c.args.shapes c.requires.sets first c.requires.first runs e h c.in-Ok.numbers.items numbers;
       steps = h;
     }

@@ -39,8 +39,8 @@ day_after-requires-clause-few c =
     let short = dense_short c.days_between-end.result (c.args.count - 1) 0 0 (steps_of_runs (map run_in c.args.before.now)) c.in-Ok.ensures.1 (omega arith) in
     omega (arith, ints, c.days_between-end.ensures, d, low, short, ap length c.in-Ok.ensures.0, c.len-days.ensures, c.in-Ok.numbers.ok.0)
 
-pub sequence-requires : goal.sequence-requires
-sequence-requires c =
+pub sequence_of_numbers-requires-clause-whole : goal.sequence_of_numbers-requires-clause-whole
+sequence_of_numbers-requires-clause-whole c =
     let d = to_z-of_z c.ranges.first in
     let low = (from_year_one c.args.first).0 c.requires.first.from in
     let most = c.requires.first.most in
@@ -77,7 +77,7 @@ returns-clause-expanded c =
     let settled : to_z w64 (of_z w64 c.day_after.result) ≡ c.args.first +ℤ pos (length front) =
     omega (arith, ints, c.day_after.ensures, d, n, short, low, most, c.days_between-end.ensures) in
     record {
-      same = c.sequence.ensures ∙ (λ i. sketch_of c.args.kind c.args.shapes c.fill_up.new.numbers.items (d i) (settled i) 1)
+      same = c.in_ok-folded.ensures ∙ (λ i. sketch_of c.args.kind c.args.shapes c.fill_up.new.numbers.items (d i) (settled i) 1)
           ∙ finite_sketch c.args.kind c.args.count c.args.shapes c.requires.sets c.args.first c.requires.first runs h c.fill_up.new.numbers.items m
           (omega (arith, one)) numbers one;
       steps = h;

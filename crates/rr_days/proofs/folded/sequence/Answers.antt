@@ -1,23 +1,31 @@
-use Rattle.std.proofs.Common.{ℤ, w64, to_z, of_z, arith, to_z-of_z}
+use Rattle.std.proofs.Common.{◌≡◌, ◌+◌, ◌++◌, List, ℕ, length, nat_abs, ◌-ℤ◌, to_z-of_z, subst, sym, ap, ◌∙◌, arith}
 use Rattle.std.proofs.lemmas.Int.{ints}
-use Rattle.rr_days.specs.Sketched.{IsFirstFilled, IsWholeFold}
-use Rattle.rr_days.proofs.SequenceLemmas.{whole_bounded, first_day_is}
+use Rattle.rr_days.specs.Sketched.{IsWholeFold, sketch_of}
+use Rattle.rr_days.proofs.RowLemmas.{parts_whole}
 use Rattle.rr_days.proofs.folded.sequence.Goals as goal
 
-pub invariant_of-result : goal.invariant_of-result
-invariant_of-result c =
+pub sequence_in_parts-folded-requires-clause-whole : goal.sequence_in_parts-folded-requires-clause-whole
+sequence_in_parts-folded-requires-clause-whole c =
+    let a = c.args in
     let f = to_z-of_z c.ranges.first in
     let s = to_z-of_z c.ranges.settled in
-    let first : ℤ = to_z w64 (of_z w64 c.args.first) in
-    let settled : ℤ = to_z w64 (of_z w64 c.args.settled) in
-    let w : IsWholeFold c.args.kind c.args.shapes c.args.numbers.items first settled c.args.period = rw (f, s) c.requires in
-    let filled : IsFirstFilled c.args.shapes c.args.numbers.items first c.first_occupied-occupied.result =
-    rw c.as_slice.ensures.value at c.first_occupied-occupied.ensures in
-    record {
-      bounded = whole_bounded c.args.kind c.args.shapes c.args.numbers.items first settled c.args.period w;
-      first_is = first_day_is c.args.kind c.args.shapes c.args.numbers.items first settled c.args.period w c.first_occupied-occupied.result filled;
-      order = w.order;
-      low = omega (arith, ints, w.low);
-      whole = w.whole;
-      within = w.within;
-    }
+    let days = c.days_between-days.result in
+    let at : days ≡ nat_abs (a.settled -ℤ a.first) = omega (arith, ints, c.days_between-days.ensures, f, s) in
+    let long : length a.numbers ≡ days + a.period = omega (arith, c.requires.whole.whole, at) in
+    let same : c.push_from.new.self ++ c.push_from-2.new.self ≡ a.numbers =
+    parts_whole a.numbers c.push_from.new.self c.push_from-2.new.self days a.period (rw c.new-before.ensures at c.in_ok-push_from.ensures)
+    (rw c.new-cycle.ensures at c.in_ok-push_from-2.ensures) long in
+    rw (f, s) (subst (λ (l : List ℕ). IsWholeFold a.kind a.shapes l a.first a.settled a.period) (sym same) c.requires.whole)
+
+pub returns : goal.returns
+returns c =
+    let a = c.args in
+    let f = to_z-of_z c.ranges.first in
+    let s = to_z-of_z c.ranges.settled in
+    let days = c.days_between-days.result in
+    let at : days ≡ nat_abs (a.settled -ℤ a.first) = omega (arith, ints, c.days_between-days.ensures, f, s) in
+    let long : length a.numbers ≡ days + a.period = omega (arith, c.requires.whole.whole, at) in
+    let same : c.push_from.new.self ++ c.push_from-2.new.self ≡ a.numbers =
+    parts_whole a.numbers c.push_from.new.self c.push_from-2.new.self days a.period (rw c.new-before.ensures at c.in_ok-push_from.ensures)
+    (rw c.new-cycle.ensures at c.in_ok-push_from-2.ensures) long in
+    (rw (f, s) at c.sequence_in_parts-folded.ensures) ∙ ap (λ (l : List ℕ). sketch_of a.kind a.shapes l a.first a.settled a.period) same

@@ -1,5 +1,5 @@
-use Rattle.std.proofs.Common.{◌∙◌, rules, FitsSigned, w64, to_z, of_z, to_z-of_z}
-use Rattle.rr_expand.proofs.SetLemmas.{passed_below}
+use Rattle.std.proofs.Common.{◌∙◌, sym, rules, FitsSigned, w64, to_z, of_z, to_z-of_z}
+use Rattle.rr_expand.proofs.UnitSets.{numbers_below}
 use Rattle.rr_expand.proofs.FinerLemmas.{found_first, found_more, found_all}
 use Rattle.rr_expand.proofs.finer.fitting_list.Goals as goal
 
@@ -16,23 +16,22 @@ loop-unit-init c =
     (rw (start_unit, day_unit) at c.first_fit-unit.ensures.value))
 
 pub push_unit-requires-clause-minutes : goal.push_unit-requires-clause-minutes
-push_unit-requires-clause-minutes c = passed_below _ _ _ 60 c.deref.ensures.value c.in_ok-minutes.ensures
+push_unit-requires-clause-minutes c = numbers_below _ _ _ _ _ c.deref.ensures.value c.requires.times.0
 
 pub push_unit-requires-clause-seconds : goal.push_unit-requires-clause-seconds
-push_unit-requires-clause-seconds c = passed_below _ _ _ 60 c.deref-in-loop-unit.ensures.value c.in_ok-seconds.ensures
+push_unit-requires-clause-seconds c = numbers_below _ _ _ _ _ c.deref-in-loop-unit.ensures.value c.requires.times.1
 
 pub loop-unit-preserved : goal.loop-unit-preserved
 loop-unit-preserved c =
     let rule = c.args.rule.now in
-    let minutes = rw (c.wants_minute.ensures, c.time_of-own.ensures.minute) at c.in_ok-minutes.ensures in
-    let seconds = rw (c.wants_second.ensures, c.time_of-own.ensures.second) at c.in_ok-seconds.ensures in
     let low = rw c.units_of_day.ensures at c.loop-unit-test.true in
     let more = rw (c.deref.ensures.value, c.deref-in-loop-unit.ensures.value) at c.in_ok-push_unit.ensures in
+    let times = rw (sym (to_z-of_z c.ranges.start)) at c.requires.times in
     rw c.from-unit.ensures
     (found_more rule (to_z w64 (of_z w64 c.args.start))
-    (to_z w64 (of_z w64 c.args.day)) c.loop-unit.unit c.loop-unit.out.items c.push_unit.new.out.items c.in_ok-minutes.minutes.items
-    c.in_ok-seconds.seconds.items
-    c.requires.interval c.requires.freq low minutes seconds more c.loop-unit.invariant)
+    (to_z w64 (of_z w64 c.args.day)) c.loop-unit.unit c.loop-unit.out.items c.push_unit.new.out.items c.args.times.now.minutes.items
+    c.args.times.now.seconds.items
+    c.requires.interval c.requires.freq low times more c.loop-unit.invariant)
 
 pub returns : goal.returns
 returns c = found_all c.args.rule.now c.args.start c.args.day c.loop-unit.unit c.loop-unit.out.items c.requires.freq

@@ -1,14 +1,26 @@
-use Rattle.std.proofs.Common.{◌≡◌, ◌∙◌, sym, ap, ℕ, Bool, pos, ◌+ℤ◌, arith}
+use Rattle.std.proofs.Common.{◌≡◌, ◌∙◌, sym, ap, ℕ, ◌+◌, ◌-◌, ◌<◌, ◌≤◌, Bool, false, ◌&&◌, pos, ◌+ℤ◌, subst, arith}
+use Rattle.std.specs.Prelude.{nat_lt}
+use Rattle.std.proofs.Math.Nat.{le-min, min-le_left, min-le_right}
 use Rattle.std.proofs.lemmas.Int.{ints}
-use Rattle.rr_expand.specs.Years.{Filling, allows_day}
-use Rattle.rr_expand.proofs.MaskLemmas.{bits_none, bits_more, bits_same}
+use Rattle.rr_expand.specs.Years.{Filling, allows_day, is_bit_set}
+use Rattle.rr_expand.proofs.MaskLemmas.{bits_none, bits_more, bits_on, bits_same}
 use Rattle.rr_expand.proofs.year_masks.mask_from.Goals as goal
 use Rattle.rr_expand.proofs.year_masks.mask_from.Goals.{then-date_parts_hold, else-date_parts_hold}
 
 pub loop-place-init : goal.loop-place-init
 loop-place-init c =
-    let filling : Filling = record { rule = c.args.rule.now; start_day = c.args.start.now.number } in
-    record { at = omega (arith, ints); marked = bits_none (λ k. allows_day filling (c.args.first.number +ℤ pos k)) }
+    let filling : Filling = record { rule = c.args.rule.now; start_day = c.args.start.now.number } in record {
+      within = omega arith;
+      at = omega (arith, ints);
+      marked = bits_none (λ k. allows_day filling (c.args.first.number +ℤ pos k));
+    }
+
+pub loop-place-smaller : goal.loop-place-smaller
+loop-place-smaller c =
+    let left = c.args.count - c.loop-place.place in
+    let some : 1 ≤ c.min-step.result =
+    omega (arith, c.min-step.ensures, le-min {k = 1} {a = c.from.result} {b = left} (omega (arith, c.from.ensures, c.days_on.ensures.some)) (omega (arith, c.loop-place-test.true))) in
+    omega (arith, some, c.min-step.ensures, min-le_right c.from.result left)
 
 pub loop-place-preserved : goal.loop-place-preserved
 loop-place-preserved c =
@@ -17,16 +29,26 @@ loop-place-preserved c =
     let test : ℕ → Bool = λ k. allows_day filling (c.args.first.number +ℤ pos k) in
     let invariant = c.loop-place.invariant in
     let tested : c.date_parts_hold.result ≡ test n = c.date_parts_hold.ensures ∙ ap (λ d. allows_day filling d) invariant.at in
+    let marked : (k : ℕ) → k < 384 → is_bit_set c.if-date_parts_hold.mask.bits k ≡ (nat_lt k (n + 1) && test k) =
+    elim c.if-date_parts_hold.branch [
+      | then-date_parts_hold w ↦
+          rw w.mask-is
+          (bits_more c.loop-place.mask.bits w.set.new.self.bits test n invariant.marked
+          (w.set.ensures.same ∙ sym w.if-date_parts_hold.true ∙ tested)
+          w.set.ensures.other)
+      | else-date_parts_hold w ↦
+          rw w.mask-is
+          (bits_same c.loop-place.mask.bits test n (omega arith) invariant.marked (sym tested ∙ w.if-date_parts_hold.false))
+    ] in
+    let left = c.args.count - n in
+    let some : 1 ≤ c.min-step.result =
+    omega (arith, c.min-step.ensures, le-min {k = 1} {a = c.from.result} {b = left} (omega (arith, c.from.ensures, c.days_on.ensures.some)) (omega (arith, c.loop-place-test.true))) in
+    let few : c.min-step.result ≤ c.days_on.result = omega (arith, c.min-step.ensures, c.from.ensures, min-le_left c.from.result left) in
     record {
-      at = omega (arith, ints, c.next-day.ensures, invariant.at);
-      marked = elim c.if-date_parts_hold.branch [
-        | then-date_parts_hold w ↦
-            rw w.mask-is
-            (bits_more c.loop-place.mask.bits w.set.new.self.bits test n invariant.marked
-            (w.set.ensures.same ∙ sym w.if-date_parts_hold.true ∙ tested)
-            w.set.ensures.other)
-        | else-date_parts_hold w ↦
-            rw w.mask-is
-            (bits_same c.loop-place.mask.bits test n (omega arith) invariant.marked (sym tested ∙ w.if-date_parts_hold.false))
-      ];
+      within = omega (arith, c.min-step.ensures, min-le_right c.from.result left, invariant.within);
+      at = omega (arith, ints, c.later-day.ensures, invariant.at);
+      marked = bits_on c.if-date_parts_hold.mask.bits test (n + 1) (n + c.min-step.result) (omega (arith, some)) marked
+          (λ k low high. (
+          let e : c.args.first.number +ℤ pos k ≡ c.loop-place.day.number +ℤ pos (k - n) = omega (arith, ints, invariant.at, low) in
+          ap (allows_day filling) e ∙ c.days_on.ensures.none (k - n) (omega (arith, low)) (omega (arith, high, few))));
     }

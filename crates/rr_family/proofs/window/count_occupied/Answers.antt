@@ -1,27 +1,52 @@
-use Rattle.std.proofs.Common.{arith, sym, ◌∙◌, w64, to_z, of_z, true, false}
-use Rattle.std.proofs.lemmas.Int.{ints}
+use Rattle.std.proofs.Common.{◌≡◌, pos, ◌+ℤ◌, arith, sym, ap, ◌∙◌, w64, to_z, of_z}
+use Rattle.std.proofs.lemmas.Int.{ints, to_z-of_z}
+use Rattle.rr_model.specs.Whole.Count.{count_from}
 use Rattle.rr_model.proofs.CountLemmas.{count_from-zero}
 use Rattle.rr_family.specs.Lasting.{is_occupied}
-use Rattle.rr_family.proofs.WalkLemmas.{counted_next}
+use Rattle.rr_family.proofs.WalkLemmas.{counted_free, counted_next}
 use Rattle.rr_family.proofs.window.count_occupied.Goals as goal
-use Rattle.rr_family.proofs.window.count_occupied.Goals.{then-is_occupied, else-is_occupied}
 
-pub loop-k-init : goal.loop-k-init
-loop-k-init g c = (sym (count_from-zero _ _), omega arith)
+pub loop-read-init : goal.loop-read-init
+loop-read-init g c = (omega arith, omega arith, sym (count_from-zero _ _))
 
-pub loop-k-preserved : goal.loop-k-preserved
-loop-k-preserved g c =
-    let p = is_occupied (g.A.DaySeq.sketch c.args.seq.now) in
-    let q = to_z w64 (of_z w64 c.args.first) in
-    let known = c.loop-k.invariant in
-    elim c.if-is_occupied.branch [
-      | then-is_occupied w ↦ (
-          let next = counted_next p q _ c.loop-k.k c.loop-k.many true (sym w.if-is_occupied.true ∙ c.is_occupied.ensures) (omega (arith, ints)) known.0 in
-          (omega (arith, next, w.many-is), omega (arith, w.many-is, known.1)))
-      | else-is_occupied w ↦ (
-          let next = counted_next p q _ c.loop-k.k c.loop-k.many false (sym w.if-is_occupied.false ∙ c.is_occupied.ensures) (omega (
-            arith,
-            ints,
-          )) known.0 in
-          (omega (arith, next, w.many-is), omega (arith, w.many-is, known.1)))
-    ]
+pub returns-in_default : goal.returns-in_default
+returns-in_default g c =
+    let back : to_z w64 (of_z w64 c.args.first) ≡ c.args.first = to_z-of_z w64 c.args.first c.ranges.first in
+    let near = c.requires.near in
+    let less = c.loop-read.invariant.0 in
+    let few = c.requires.few in
+    let at = c.day_after.ensures in
+    let from : to_z w64 (of_z w64 c.day_after.result) ≡ c.args.first +ℤ pos c.loop-read.read = omega (arith, ints, at, back, near.0, near.1, less, few) in
+    let occupied = is_occupied (g.A.DaySeq.sketch c.args.seq.now) in
+    c.loop-read.invariant.2 ∙ ap (λ q. count_from occupied q c.loop-read.read) back
+    ∙ sym (counted_free occupied c.args.first c.loop-read.read c.args.days less
+    (λ d l h. c.in_default.ensures d (omega (arith, ints, from, l)) (omega (arith, ints, from, h, less))))
+
+pub loop-read-preserved : goal.loop-read-preserved
+loop-read-preserved g c =
+    let back : to_z w64 (of_z w64 c.args.first) ≡ c.args.first = to_z-of_z w64 c.args.first c.ranges.first in
+    let near = c.requires.near in
+    let less = c.loop-read.invariant.0 in
+    let few = c.requires.few in
+    let at = c.day_after.ensures in
+    let from : to_z w64 (of_z w64 c.day_after.result) ≡ c.args.first +ℤ pos c.loop-read.read = omega (arith, ints, at, back, near.0, near.1, less, few) in
+    let low = c.in-Some.ensures.0 in
+    let high = c.in-Some.ensures.1 in
+    let same : to_z w64 (of_z w64 c.in-Some.day) ≡ c.in-Some.day = omega (arith, ints, low, high, from, near.0, near.1, few, less) in
+    let through = c.days_through-read.ensures in
+    let first = to_z w64 (of_z w64 c.args.first) in
+    let next : (to_z w64 (of_z w64 c.args.first) +ℤ pos c.days_through-read.result) ≡ c.in-Some.day +ℤ pos 1 = omega (arith, ints, through, back, same) in
+    let fewer = c.loop-read.invariant.1 in (
+      omega (arith, ints, next, back, high, from, less),
+      omega (arith, ints, next, back, low, from, fewer),
+      counted_next (is_occupied (g.A.DaySeq.sketch c.args.seq.now)) first c.in-Some.day c.loop-read.read c.days_through-read.result c.loop-read.many
+          (omega (arith, ints, low, from, back)) next (λ d l h. c.in-Some.ensures.3 d (omega (arith, ints, from, l, back)) h) c.in-Some.ensures.2
+          c.loop-read.invariant.2,
+    )
+
+pub returns : goal.returns
+returns g c =
+    let back : to_z w64 (of_z w64 c.args.first) ≡ c.args.first = to_z-of_z w64 c.args.first c.ranges.first in
+    let all : c.loop-read.read ≡ c.args.days = omega (arith, c.loop-read.invariant.0, c.loop-read-test.false) in
+    let occupied = is_occupied (g.A.DaySeq.sketch c.args.seq.now) in
+    c.loop-read.invariant.2 ∙ ap (λ q. count_from occupied q c.loop-read.read) back ∙ ap (count_from occupied c.args.first) all

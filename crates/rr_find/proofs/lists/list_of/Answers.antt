@@ -4,7 +4,7 @@ use Rattle.rr_family.specs.Lasting.{is_occupied}
 use Rattle.rr_family.specs.Sorts.{sort_of_day}
 use Rattle.rr_find.specs.Counted.{HasMixed, HasUnsorted, IsTallied}
 use Rattle.rr_find.proofs.ListLemmas.{answer_is, list_of_taken, near_read, no_rule_if_given_up, some_cycle}
-use Rattle.rr_find.proofs.RuleLemmas.{no_rule_if_last_out, no_rule_if_no_days, no_rule_if_out}
+use Rattle.rr_find.proofs.RuleLemmas.{no_rule_if_no_days}
 use Rattle.rr_find.proofs.TallyDayLemmas.{few_days}
 use Rattle.rr_find.proofs.lists.list_of.Goals as goal
 
@@ -12,16 +12,6 @@ pub returns-in_default : goal.returns-in_default
 returns-in_default g c =
     no_rule_if_no_days (g.A.DaySeq.sketch c.args.seq.now) c.args.window.now c.args.kind c.args.interval (g.met.A.DaySeq.bounded c.args.seq.now).valid
     c.requires.window (some_cycle c.args.kind c.args.interval c.requires.low) (sym c.days_to_read.ensures.value ∙ c.in_default.is)
-
-pub returns-then-not-is_second_day_in_unit : goal.returns-then-not-is_second_day_in_unit
-returns-then-not-is_second_day_in_unit g c =
-    no_rule_if_out (g.A.DaySeq.sketch c.args.seq.now) c.args.window.now c.args.kind c.args.interval (g.met.A.DaySeq.bounded c.args.seq.now).valid
-    c.requires.window (sym c.is_second_day_in_unit.ensures ∙ c.if-not-is_second_day_in_unit.true)
-
-pub returns-then-not-is_last_day_in_unit : goal.returns-then-not-is_last_day_in_unit
-returns-then-not-is_last_day_in_unit g c =
-    no_rule_if_last_out (g.A.DaySeq.sketch c.args.seq.now) c.args.window.now c.args.kind c.args.interval (g.met.A.DaySeq.bounded c.args.seq.now).valid
-    c.requires.window (sym c.is_last_day_in_unit.ensures ∙ c.if-not-is_last_day_in_unit.true)
 
 pub taken_items-requires-clause-few : goal.taken_items-requires-clause-few
 taken_items-requires-clause-few g c = few_days c.in-Some-tally.counts.occupied _ _ _ _ c.in-Some-tally.ensures.of_occupied c.in-Some.ensures.few

@@ -50,19 +50,19 @@ returns-in_ok-numbers-in-Ok-clause-folded c =
     let end = less_back c.args.end (to_z w64 (of_z w64 c.args.end)) c.days_left_out.result (c.args.jump.cycles * c.args.jump.cycle)
     (to_z-of_z c.ranges.end) c.days_left_out.ensures (omega (arith, ints, c.requires.low, c.requires.order)) (omega (arith, ints, c.requires.high)) out in
     let early_end : ℤ = to_z w64 (of_z w64 (to_z w64 (of_z w64 c.args.end) -ℤ to_z w64 (of_z w64 c.days_left_out.result))) in
-    let folded : IsFoldedTo (first_n a c.args.jump.count) c.args.first early_end c.in-Ok.days.shapes c.in-Ok.days.numbers.items =
+    let folded : IsFoldedTo (first_n a c.args.jump.count) c.args.first early_end c.in-Ok.days.shapes c.in-Ok.days.numbers =
     rw (tree, f) at c.in-Ok.ensures.folded in
-    let whole : early_end ≡ c.args.first +ℤ pos (length c.in-Ok.days.numbers.items) = rw f at c.in-Ok.ensures.whole in
-    let spliced = rw c.as_slice-in-Ok.ensures.value at c.in_ok-numbers-in-Ok.ensures in
+    let whole : early_end ≡ c.args.first +ℤ pos (length c.in-Ok.days.numbers) = rw f at c.in-Ok.ensures.whole in
+    let spliced = c.in_ok-numbers-in-Ok.ensures in
     let result = folded_whole a c.args.first c.args.jump.cycle k.each begun some repeats one j.count c.args.jump.cycles c.args.jump.count room k.sum
     (tree_of s) same c.requires.early none
-    early_end c.in-Ok.days.shapes c.in-Ok.days.numbers.items c.in_ok-numbers-in-Ok.numbers.items folded whole
+    early_end c.in-Ok.days.shapes c.in-Ok.days.numbers c.in_ok-numbers-in-Ok.numbers folded whole
     (omega (arith, ints, whole, end, k.long, j.whole)) spliced in
-    subst (λ e. IsFoldedTo (tree_of s) c.args.first e c.in-Ok.days.shapes c.in_ok-numbers-in-Ok.numbers.items) end result
+    subst (λ e. IsFoldedTo (tree_of s) c.args.first e c.in-Ok.days.shapes c.in_ok-numbers-in-Ok.numbers) end result
 
 pub returns-in_ok-numbers-in-Ok-clause-refused : goal.returns-in_ok-numbers-in-Ok-clause-refused
 returns-in_ok-numbers-in-Ok-clause-refused c =
-    not_too_many (tree_of c.args.series.now) c.args.first c.args.end c.in-Ok.days.shapes c.in_ok-numbers-in-Ok.numbers.items
+    not_too_many (tree_of c.args.series.now) c.args.first c.args.end c.in-Ok.days.shapes c.in_ok-numbers-in-Ok.numbers
     (returns-in_ok-numbers-in-Ok-clause-folded c)
 
 pub returns-in-Err-clause-refused : goal.returns-in-Err-clause-refused
@@ -114,3 +114,10 @@ collected-requires-clause-early c =
     let f = to_z-of_z c.ranges.first in
     subst (λ t. HasNoneBefore t (to_z w64 (of_z w64 c.args.first))) (sym tree)
     (λ d x l. (let z = before_start j.rule s.kind s.start d x (omega (arith, ints, l, f, j.begins)) in rw z refl))
+
+pub spliced-requires-clause-some : goal.spliced-requires-clause-some
+spliced-requires-clause-some c =
+    let j = c.requires.jump in
+    let s = c.args.series.now in
+    let sound = subst IsSound c.series-given.ensures.value c.series-given.ensures.sound in
+    rw j.counted.is_cycle (rule_cycle_some j.rule (sound_rule s j.rule sound j.rules).valid.interval_low)

@@ -67,8 +67,8 @@ folded_days-requires-clause-early c =
     (omega (arith, ints, order, c.requires.settled.past.start, c.requires.high)) in
     rw first_back (subst (λ z. HasNoneBefore (tree_of z) c.first_day-first.result) value c.first_day-first.ensures.early)
 
-pub sequence-requires : goal.sequence-requires
-sequence-requires c =
+pub sequence-requires-clause-whole : goal.sequence-requires-clause-whole
+sequence-requires-clause-whole c =
     let s = c.args.series.now in
     let sound = subst IsSound c.series-given.ensures.value c.series-given.ensures.sound in
     let p = rw c.unwrap-period.ensures at c.admit.ensures.admitted in
@@ -80,18 +80,21 @@ sequence-requires c =
     let first_back = back c.first_day-first.result (omega (arith, ints, c.first_day-first.ensures.low))
     (omega (arith, ints, order, c.requires.settled.past.start, c.requires.high)) in
     let end : ℤ = c.args.settled +ℤ pos c.unwrap-period.result in
-    let folded : IsFoldedTo (tree_of s) c.first_day-first.result end c.in-Ok.days.shapes c.in-Ok.days.numbers.items =
+    let folded : IsFoldedTo (tree_of s) c.first_day-first.result end c.in-Ok.days.shapes c.in-Ok.days.numbers =
     rw (first_back, end_back) at c.in-Ok.ensures.folded in
-    let whole : end ≡ c.first_day-first.result +ℤ pos (length c.in-Ok.days.numbers.items) = rw (first_back, end_back) at c.in-Ok.ensures.whole in
+    let whole : end ≡ c.first_day-first.result +ℤ pos (length c.in-Ok.days.numbers) = rw (first_back, end_back) at c.in-Ok.ensures.whole in
     let some : 1 ≤ c.unwrap-period.result = rw p.0 (cycle_some s sound) in
-    let w = whole_fold s c.in-Ok.days.shapes c.in-Ok.days.numbers.items c.first_day-first.result c.args.settled end c.unwrap-period.result sound
+    let w = whole_fold s c.in-Ok.days.shapes c.in-Ok.days.numbers c.first_day-first.result c.args.settled end c.unwrap-period.result sound
     c.requires.settled folded whole refl some p.1 c.first_day-first.ensures.low order c.requires.high in
     rw (first_back, settled_back)
-    (subst (λ (given : Series). IsWholeFold given.kind c.in-Ok.days.shapes c.in-Ok.days.numbers.items c.first_day-first.result c.args.settled
+    (subst (λ (given : Series). IsWholeFold given.kind c.in-Ok.days.shapes c.in-Ok.days.numbers c.first_day-first.result c.args.settled
     c.unwrap-period.result) (sym c.series-given.ensures.value) w)
 
-pub returns-in-Ok-clause-stands : goal.returns-in-Ok-clause-stands
-returns-in-Ok-clause-stands c =
+pub sequence-requires-clause-empty : goal.sequence-requires-clause-empty
+sequence-requires-clause-empty c = c.in-Ok.ensures.folded.empty
+
+pub returns-in_ok-sequence-in-Ok-clause-stands : goal.returns-in_ok-sequence-in-Ok-clause-stands
+returns-in_ok-sequence-in-Ok-clause-stands c =
     let s = c.args.series.now in
     let sound = subst IsSound c.series-given.ensures.value c.series-given.ensures.sound in
     let p = rw c.unwrap-period.ensures at c.admit.ensures.admitted in
@@ -103,21 +106,21 @@ returns-in-Ok-clause-stands c =
     let first_back = back c.first_day-first.result (omega (arith, ints, c.first_day-first.ensures.low))
     (omega (arith, ints, order, c.requires.settled.past.start, c.requires.high)) in
     let end : ℤ = c.args.settled +ℤ pos c.unwrap-period.result in
-    let folded : IsFoldedTo (tree_of s) c.first_day-first.result end c.in-Ok.days.shapes c.in-Ok.days.numbers.items =
+    let folded : IsFoldedTo (tree_of s) c.first_day-first.result end c.in-Ok.days.shapes c.in-Ok.days.numbers =
     rw (first_back, end_back) at c.in-Ok.ensures.folded in
-    let whole : end ≡ c.first_day-first.result +ℤ pos (length c.in-Ok.days.numbers.items) = rw (first_back, end_back) at c.in-Ok.ensures.whole in
+    let whole : end ≡ c.first_day-first.result +ℤ pos (length c.in-Ok.days.numbers) = rw (first_back, end_back) at c.in-Ok.ensures.whole in
     let some : 1 ≤ c.unwrap-period.result = rw p.0 (cycle_some s sound) in
     let days : ℕ = nat_abs (c.args.settled -ℤ c.first_day-first.result) in
     let at : c.args.settled ≡ c.first_day-first.result +ℤ pos days = omega (arith, ints, order, c.requires.settled.past.start) in
-    let full : length c.in-Ok.days.numbers.items ≡ days + series_cycle s = omega (arith, ints, whole, at, p.0) in
-    let fact = sketch_stands_for tree_stands_for_series series_repeats s c.in-Ok.days.shapes c.in-Ok.days.numbers.items c.first_day-first.result
+    let full : length c.in-Ok.days.numbers ≡ days + series_cycle s = omega (arith, ints, whole, at, p.0) in
+    let fact = sketch_stands_for tree_stands_for_series series_repeats s c.in-Ok.days.shapes c.in-Ok.days.numbers c.first_day-first.result
     c.args.settled days sound c.requires.settled.past (cycle_some s sound) at full folded.numbered folded.early in
-    let same = c.sequence.ensures
-    ∙ (λ i. sketch_of (c.series-given.ensures.value i).kind c.in-Ok.days.shapes c.in-Ok.days.numbers.items (first_back i) (settled_back i) (p.0 i)) in
+    let same = c.in_ok-sequence-in-Ok.ensures
+    ∙ (λ i. sketch_of (c.series-given.ensures.value i).kind c.in-Ok.days.shapes c.in-Ok.days.numbers (first_back i) (settled_back i) (p.0 i)) in
     subst (λ x. StandsFor x (Occurs s)) (sym same) fact
 
-pub returns-in-Ok-clause-refused : goal.returns-in-Ok-clause-refused
-returns-in-Ok-clause-refused c =
+pub returns-in_ok-sequence-in-Ok-clause-refused : goal.returns-in_ok-sequence-in-Ok-clause-refused
+returns-in_ok-sequence-in-Ok-clause-refused c =
     let s = c.args.series.now in
     let sound = subst IsSound c.series-given.ensures.value c.series-given.ensures.sound in
     let p = rw c.unwrap-period.ensures at c.admit.ensures.admitted in
@@ -129,11 +132,11 @@ returns-in-Ok-clause-refused c =
     let first_back = back c.first_day-first.result (omega (arith, ints, c.first_day-first.ensures.low))
     (omega (arith, ints, order, c.requires.settled.past.start, c.requires.high)) in
     let end : ℤ = c.args.settled +ℤ pos c.unwrap-period.result in
-    let folded : IsFoldedTo (tree_of s) c.first_day-first.result end c.in-Ok.days.shapes c.in-Ok.days.numbers.items =
+    let folded : IsFoldedTo (tree_of s) c.first_day-first.result end c.in-Ok.days.shapes c.in-Ok.days.numbers =
     rw (first_back, end_back) at c.in-Ok.ensures.folded in
-    let whole : end ≡ c.first_day-first.result +ℤ pos (length c.in-Ok.days.numbers.items) = rw (first_back, end_back) at c.in-Ok.ensures.whole in
+    let whole : end ≡ c.first_day-first.result +ℤ pos (length c.in-Ok.days.numbers) = rw (first_back, end_back) at c.in-Ok.ensures.whole in
     let some : 1 ≤ c.unwrap-period.result = rw p.0 (cycle_some s sound) in
-    λ many. not_too_many (tree_of s) c.first_day-first.result end c.in-Ok.days.shapes c.in-Ok.days.numbers.items folded
+    λ many. not_too_many (tree_of s) c.first_day-first.result end c.in-Ok.days.shapes c.in-Ok.days.numbers folded
     (subst (λ n. HasTooManyMoments (tree_of s) (c.args.settled +ℤ pos n)) (sym p.0) many)
 
 pub returns-in-Err-clause-refused : goal.returns-in-Err-clause-refused

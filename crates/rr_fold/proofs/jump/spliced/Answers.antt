@@ -1,22 +1,42 @@
-use Rattle.std.proofs.Common.{◌≡◌, ℕ, ◌+◌, ◌-◌, length, take, drop, sym, ◌∙◌, arith}
-use Rattle.rr_fold.proofs.SplicedLemmas.{all_spliced, one_more, stretch_at, stretch_length}
+use Rattle.std.proofs.Common.{◌≡◌, ◌≤◌, ℕ, ◌+◌, ◌-◌, ◌*◌, length, refl, ap, arith}
+use Rattle.rr_fold.proofs.SplicedLemmas.{all_spliced, length_put, more_cycles, one_cycle}
 use Rattle.rr_fold.proofs.jump.spliced.Goals as goal
 
-pub loop-i-preserved : goal.loop-i-preserved
-loop-i-preserved c =
-    let n : ℕ = c.args.cycle + 1 - 1 in
-    let same : n ≡ c.args.cycle = omega arith in
-    one_more c.args.numbers.now c.args.cycle c.loop-i.i c.loop-i.new.items c.loop-i.invariant
-    (take n (drop 1 c.args.numbers.now)) c.extend_from_slice.new.self.items
-    c.in_ok-extend_from_slice.ensures.items (stretch_length c.args.numbers.now n (omega (arith, c.requires.long, same)) ∙ same)
-    (λ j l. stretch_at c.args.numbers.now n j (omega (arith, l, same)))
+pub loop-done-init : goal.loop-done-init
+loop-done-init c =
+    let numbers = c.args.numbers.now in
+    let none = ap length c.new-new.ensures in
+    let room = c.requires.long in
+    let size = length_put c.new-new.result numbers c.push_from.new.self 0 (c.args.cycle + 1) (omega (arith, room)) c.in_ok-push_from.ensures in (
+      one_cycle numbers c.args.cycle c.requires.some c.new-new.result c.push_from.new.self room c.new-new.ensures c.in_ok-push_from.ensures,
+      omega (arith, size, none),
+      omega arith,
+      omega arith,
+    )
+
+pub loop-done-preserved : goal.loop-done-preserved
+loop-done-preserved c =
+    let i = c.loop-done.invariant in
+    let back = c.whole_cycles-back.result in
+    let old = c.loop-done.new in
+    let new = c.push_again.new.self in
+    let place : ℕ = c.loop-done.done + 1 - back in
+    let room : back ≤ c.loop-done.done = c.whole_cycles-back.ensures.room in
+    let few : c.min.result ≤ back = omega (arith, c.min.ensures) in
+    let short : c.min.result ≤ c.args.cycles * c.args.cycle + c.args.cycle - c.loop-done.done = omega (arith, c.min.ensures) in
+    let at : place + back ≡ length old = omega (arith, i.1, room) in
+    let size = length_put old old new place c.min.result (omega (arith, at, few)) c.in_ok-push_again.ensures in (
+      more_cycles c.args.numbers.now c.args.cycle c.requires.some old new place back c.min.result i.0 c.whole_cycles-back.ensures.whole
+          (omega (arith, i.1, room)) at few c.in_ok-push_again.ensures,
+      omega (arith, c.len-done.ensures.value, size, i.1),
+      omega (arith, c.len-done.ensures.value, size, i.1, short),
+      omega (arith, c.len-done.ensures.value, size, i.1, i.3),
+    )
 
 pub returns : goal.returns
 returns c =
-    let n : ℕ = length c.args.numbers.now - 1 in
-    let all : c.loop-i.i ≡ c.args.cycles = omega (arith, c.loop-i-test.false, c.loop-i.auto.i-end) in
-    let size = stretch_length c.args.numbers.now n (omega (arith, c.requires.long)) in
-    rw (sym all) (all_spliced c.args.numbers.now c.args.cycle c.loop-i.i c.loop-i.new.items c.loop-i.invariant
-    (take n (drop 1 c.args.numbers.now)) c.extend_from_slice-2.new.self.items
-    c.in_ok-extend_from_slice-2.ensures.items (omega (arith, size, c.requires.long))
-    (λ j l. stretch_at c.args.numbers.now n j (omega (arith, l, size))))
+    let i = c.loop-done.invariant in
+    let n : ℕ = length c.args.numbers.now - c.args.cycle - 1 in
+    let size : length c.loop-done.new ≡ c.args.cycles * c.args.cycle + c.args.cycle + 1 = omega (arith, i.1, i.2, c.loop-done-test.false) in
+    all_spliced c.args.numbers.now c.args.cycle c.requires.some c.args.cycles c.loop-done.new c.push_from-2.new.self n c.requires.long i.0 size refl
+    (rw c.len.ensures.value at c.in_ok-push_from-2.ensures)

@@ -61,8 +61,8 @@ returns-then-is_empty-clause-folded c =
     let folded = rw (start, end, c.as_slice.ensures) at c.in_ok-days.ensures.folded in
     let whole = rw (start, end) at c.in_ok-days.ensures.whole in
     let none = none_listed given.excluded (sym c.is_empty.ensures ∙ c.if-is_empty.true) in
-    subst (λ x. IsFoldedTo (tree_of x) (day_part x.kind x.start) c.args.end days.shapes days.numbers.items) value
-    (given_folded given first c.args.end c.series-given.ensures.sound alone days.shapes days.numbers.items none folded)
+    subst (λ x. IsFoldedTo (tree_of x) (day_part x.kind x.start) c.args.end days.shapes days.numbers) value
+    (given_folded given first c.args.end c.series-given.ensures.sound alone days.shapes days.numbers none folded)
 
 pub returns-then-is_empty-clause-whole : goal.returns-then-is_empty-clause-whole
 returns-then-is_empty-clause-whole c =
@@ -75,7 +75,7 @@ returns-then-is_empty-clause-whole c =
     let days = c.in_ok-days.days in
     let folded = rw (start, end, c.as_slice.ensures) at c.in_ok-days.ensures.folded in
     let whole = rw (start, end) at c.in_ok-days.ensures.whole in
-    subst (λ x. c.args.end ≡ day_part x.kind x.start +ℤ pos (length days.numbers.items)) value whole
+    subst (λ x. c.args.end ≡ day_part x.kind x.start +ℤ pos (length days.numbers)) value whole
 
 pub combined-requires-clause-long : goal.combined-requires-clause-long
 combined-requires-clause-long c = omega (arith, ints, c.in_ok-days.ensures.whole, c.in_ok-out.ensures.whole)
@@ -84,10 +84,10 @@ pub combined-requires-clause-empty : goal.combined-requires-clause-empty
 combined-requires-clause-empty c = (c.in_ok-days.ensures.folded.empty, c.in_ok-out.ensures.folded.empty)
 
 pub combined-requires-clause-ones : goal.combined-requires-clause-ones
-combined-requires-clause-ones c = numbers_within _ _ _ c.in_ok-days.days.shapes c.in_ok-days.days.numbers.items c.in_ok-days.ensures.folded
+combined-requires-clause-ones c = numbers_within _ _ _ c.in_ok-days.days.shapes c.in_ok-days.days.numbers c.in_ok-days.ensures.folded
 
 pub combined-requires-clause-others : goal.combined-requires-clause-others
-combined-requires-clause-others c = numbers_within _ _ _ c.in_ok-out.out.shapes c.in_ok-out.out.numbers.items c.in_ok-out.ensures.folded
+combined-requires-clause-others c = numbers_within _ _ _ c.in_ok-out.out.shapes c.in_ok-out.out.numbers c.in_ok-out.ensures.folded
 
 pub returns-clause-folded : goal.returns-clause-folded
 returns-clause-folded c =
@@ -103,11 +103,11 @@ returns-clause-folded c =
     let out = c.in_ok-out.out in
     let out_folded = rw (start, end, c.as_slice-2.ensures) at c.in_ok-out.ensures.folded in
     let out_whole = rw (start, end) at c.in_ok-out.ensures.whole in
-    if_ok_map (λ (made : FoldedDays). AreCombined Minus days.shapes days.numbers.items out.shapes out.numbers.items made.shapes made.numbers.items)
-    (λ made. IsFoldedTo (tree_of c.args.series.now) (day_part c.args.series.now.kind c.args.series.now.start) c.args.end made.shapes made.numbers.items)
-    (λ made h. subst (λ x. IsFoldedTo (tree_of x) (day_part x.kind x.start) c.args.end made.shapes made.numbers.items) value
-    (left_folded given first c.args.end c.series-given.ensures.sound alone days.shapes days.numbers.items out.shapes out.numbers.items made.shapes
-    made.numbers.items folded out_folded whole out_whole h)) c.combined.result c.combined.ensures
+    if_ok_map (λ (made : FoldedDays). AreCombined Minus days.shapes days.numbers out.shapes out.numbers made.shapes made.numbers)
+    (λ made. IsFoldedTo (tree_of c.args.series.now) (day_part c.args.series.now.kind c.args.series.now.start) c.args.end made.shapes made.numbers)
+    (λ made h. subst (λ x. IsFoldedTo (tree_of x) (day_part x.kind x.start) c.args.end made.shapes made.numbers) value
+    (left_folded given first c.args.end c.series-given.ensures.sound alone days.shapes days.numbers out.shapes out.numbers made.shapes
+    made.numbers folded out_folded whole out_whole h)) c.combined.result c.combined.ensures
 
 pub returns-clause-whole : goal.returns-clause-whole
 returns-clause-whole c =
@@ -123,7 +123,7 @@ returns-clause-whole c =
     let out = c.in_ok-out.out in
     let out_folded = rw (start, end, c.as_slice-2.ensures) at c.in_ok-out.ensures.folded in
     let out_whole = rw (start, end) at c.in_ok-out.ensures.whole in
-    if_ok_map (λ (made : FoldedDays). AreCombined Minus days.shapes days.numbers.items out.shapes out.numbers.items made.shapes made.numbers.items)
-    (λ made. c.args.end ≡ day_part c.args.series.now.kind c.args.series.now.start +ℤ pos (length made.numbers.items))
-    (λ made h. subst (λ x. c.args.end ≡ day_part x.kind x.start +ℤ pos (length made.numbers.items)) value (omega (arith, ints, whole, h.whole)))
+    if_ok_map (λ (made : FoldedDays). AreCombined Minus days.shapes days.numbers out.shapes out.numbers made.shapes made.numbers)
+    (λ made. c.args.end ≡ day_part c.args.series.now.kind c.args.series.now.start +ℤ pos (length made.numbers))
+    (λ made h. subst (λ x. c.args.end ≡ day_part x.kind x.start +ℤ pos (length made.numbers)) value (omega (arith, ints, whole, h.whole)))
     c.combined.result c.combined.ensures

@@ -18,7 +18,7 @@ loop-rule-init c =
     let end : ℤ = to_z w64 (of_z w64 c.args.end) in
     let days = c.in_ok-days.days in (
       first_folded c.args.kind start (day_part c.args.kind start) end list c.requires.endless 0 c.index-rules-0.result (some_rule list c.requires.some)
-          c.index-rules-0.is days.shapes days.numbers.items refl c.in_ok-days.ensures.folded,
+          c.index-rules-0.is days.shapes days.numbers refl c.in_ok-days.ensures.folded,
       c.in_ok-days.ensures.whole,
     )
 
@@ -35,11 +35,11 @@ pub combined-requires-clause-empty : goal.combined-requires-clause-empty
 combined-requires-clause-empty c = (c.loop-rule.invariant.0.empty, c.in_ok-more.ensures.folded.empty)
 
 pub combined-requires-clause-ones : goal.combined-requires-clause-ones
-combined-requires-clause-ones c = numbers_within _ _ _ c.loop-rule.days.shapes c.loop-rule.days.numbers.items c.loop-rule.invariant.0
+combined-requires-clause-ones c = numbers_within _ _ _ c.loop-rule.days.shapes c.loop-rule.days.numbers c.loop-rule.invariant.0
 
 pub combined-requires-clause-others : goal.combined-requires-clause-others
 combined-requires-clause-others c =
-    numbers_within _ _ _ c.in_ok-more.more.shapes c.in_ok-more.more.numbers.items c.in_ok-more.ensures.folded
+    numbers_within _ _ _ c.in_ok-more.more.shapes c.in_ok-more.more.numbers c.in_ok-more.ensures.folded
 
 pub loop-rule-preserved : goal.loop-rule-preserved
 loop-rule-preserved c =
@@ -53,7 +53,7 @@ loop-rule-preserved c =
     let new = c.in_ok-days-2.days in
     let made = c.in_ok-days-2.ensures in (
       next_folded c.args.kind start (day_part c.args.kind start) end list c.requires.endless (i + 1) c.rule-item.result later.0 later.1
-          new.shapes new.numbers.items old.shapes old.numbers.items more.shapes more.numbers.items c.loop-rule.invariant.0 c.in_ok-more.ensures.folded
+          new.shapes new.numbers old.shapes old.numbers more.shapes more.numbers c.loop-rule.invariant.0 c.in_ok-more.ensures.folded
           c.loop-rule.invariant.1 c.in_ok-more.ensures.whole made,
       omega (arith, ints, c.loop-rule.invariant.1, made.whole),
     )
@@ -65,7 +65,7 @@ returns-clause-folded c =
     let end : ℤ = to_z w64 (of_z w64 c.args.end) in
     let whole = no_later_rule list c.loop-rule.rule-index c.loop-rule-test.false in
     rw (to_z-of_z c.ranges.start, to_z-of_z c.ranges.end)
-    at (all_folded c.args.kind start (day_part c.args.kind start) end list (c.loop-rule.rule-index + 1) c.loop-rule.days.shapes c.loop-rule.days.numbers.items
+    at (all_folded c.args.kind start (day_part c.args.kind start) end list (c.loop-rule.rule-index + 1) c.loop-rule.days.shapes c.loop-rule.days.numbers
     whole c.loop-rule.invariant.0)
 
 pub returns-clause-whole : goal.returns-clause-whole

@@ -6,5 +6,5 @@ use Rattle.rr_fold.proofs.rules.days_of_rules.Given as goal
 
 abbrev pub invariant-loop-rule : goal.invariant-loop-rule
 invariant-loop-rule l =
-    IsFoldedTo (members_of_rules l.kind l.start (take (l.rule-index + 1) l.rules)) (day_part l.kind l.start) l.end l.days.shapes l.days.numbers.items
-    × (l.end ≡ day_part l.kind l.start +ℤ pos (length l.days.numbers.items))
+    IsFoldedTo (members_of_rules l.kind l.start (take (l.rule-index + 1) l.rules)) (day_part l.kind l.start) l.end l.days.shapes l.days.numbers
+    × (l.end ≡ day_part l.kind l.start +ℤ pos (length l.days.numbers))

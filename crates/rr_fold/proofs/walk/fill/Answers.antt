@@ -18,10 +18,10 @@ returns-in-None-clause-folded g c =
     let t = to_z-of_z c.ranges.to in
     let f = to_z-of_z c.ranges.first in
     let n = rw c.in-None.is at c.in_ok-next.ensures.next in
-    let before : IsFoldedTo (g.L.Lazy.tree c.args.lazy.now) c.args.first (g.L.Lazy.position c.days.lazy) c.days.shapes c.days.numbers.items =
+    let before : IsFoldedTo (g.L.Lazy.tree c.args.lazy.now) c.args.first (g.L.Lazy.position c.days.lazy) c.days.shapes c.days.numbers =
     rw f at c.days.invariant.2 in
     none_on (g.L.Lazy.tree c.args.lazy.now) (g.L.Lazy.tree c.days.lazy) c.args.first (g.L.Lazy.position c.days.lazy) c.args.to
-    (to_z w64 (of_z w64 c.args.to)) (g.L.Lazy.position c.next.new.self) c.days.shapes c.days.numbers.items
+    (to_z w64 (of_z w64 c.args.to)) (g.L.Lazy.position c.next.new.self) c.days.shapes c.days.numbers
     before n c.days.invariant.0 t (omega (arith, ints, c.days.invariant.1, t))
 
 pub returns-in-None-clause-position : goal.returns-in-None-clause-position
@@ -37,7 +37,7 @@ returns-in-None-clause-known g c =
 
 pub returns-in-None-clause-refused : goal.returns-in-None-clause-refused
 returns-in-None-clause-refused g c =
-    not_too_many (g.L.Lazy.tree c.args.lazy.now) c.args.first (c.args.to +ℤ pos 1) c.days.shapes c.days.numbers.items (returns-in-None-clause-folded g c)
+    not_too_many (g.L.Lazy.tree c.args.lazy.now) c.args.first (c.args.to +ℤ pos 1) c.days.shapes c.days.numbers (returns-in-None-clause-folded g c)
 
 pub days_between-place-requires-clause-order : goal.days_between-place-requires-clause-order
 days_between-place-requires-clause-order g c =
@@ -45,7 +45,7 @@ days_between-place-requires-clause-order g c =
     (g.L.Lazy.position c.next.new.self) c.in-Some.found (rw c.in-Some.is at c.in_ok-next.ensures.next) in
     let first : ℤ = to_z w64 (of_z w64 c.args.first) in
     let found = rw c.days.invariant.0 at n.0 in
-    let order = not_early (g.L.Lazy.tree c.args.lazy.now) first (g.L.Lazy.position c.days.lazy) c.days.shapes c.days.numbers.items c.days.invariant.2
+    let order = not_early (g.L.Lazy.tree c.args.lazy.now) first (g.L.Lazy.position c.days.lazy) c.days.shapes c.days.numbers c.days.invariant.2
     c.in-Some.found.day (with_set c.next.new.sets c.in-Some.found).times found in
     let t = to_z-of_z c.ranges.to in
     let f = to_z-of_z c.ranges.first in
@@ -63,15 +63,15 @@ days-preserved g c =
     let f = to_z-of_z c.ranges.first in
     let first : ℤ = to_z w64 (of_z w64 c.args.first) in
     let found = rw c.days.invariant.0 at n.0 in
-    let order = not_early (g.L.Lazy.tree c.args.lazy.now) first (g.L.Lazy.position c.days.lazy) c.days.shapes c.days.numbers.items c.days.invariant.2
+    let order = not_early (g.L.Lazy.tree c.args.lazy.now) first (g.L.Lazy.position c.days.lazy) c.days.shapes c.days.numbers c.days.invariant.2
     c.in-Some.found.day (with_set c.next.new.sets c.in-Some.found).times found in
     let day = day_back first c.in-Some.found.day c.args.to (omega (arith, ints, f, c.requires.begun)) order (omega (arith, ints, n.1, t)) c.requires.high in
     let at : c.in-Some.found.day ≡ to_z w64 (of_z w64 c.args.first) +ℤ pos c.days_between-place.result = sym day ∙ c.days_between-place.ensures in
     let o = c.in-Ok.ensures in
     let r = found_on (g.L.Lazy.tree c.args.lazy.now) (g.L.Lazy.tree c.days.lazy) (to_z w64 (of_z w64 c.args.first)) (g.L.Lazy.position c.days.lazy)
     (to_z w64 (of_z w64 c.args.to)) (to_z w64 (of_z w64 c.args.to))
-    (g.L.Lazy.position c.next.new.self) c.in-Ok.number c.days_between-place.result c.days.shapes c.number_of.new.shapes c.days.numbers.items
-    c.put.new.numbers.items (with_set c.next.new.sets c.in-Some.found)
+    (g.L.Lazy.position c.next.new.self) c.in-Ok.number c.days_between-place.result c.days.shapes c.number_of.new.shapes c.days.numbers
+    c.put.new.numbers (with_set c.next.new.sets c.in-Some.found)
     c.days.invariant.2 n c.days.invariant.0 refl o.placed (o.room c.days.invariant.2.few) at c.in_ok-put-in-Ok.ensures in
     (c.in_ok-next.ensures.tree ∙ c.days.invariant.0, r.1, r.0, rw o.same c.in_ok-next.ensures.knows, o.known)
 
@@ -85,5 +85,5 @@ returns-in-Err-clause-refused g c =
     (HasTooManyMoments (g.L.Lazy.tree c.args.lazy.now) (c.args.to +ℤ pos 1)) e.refused
     (λ many. too_many (g.L.Lazy.tree c.args.lazy.now) (g.L.Lazy.tree c.days.lazy) (to_z w64 (of_z w64 c.args.first))
     (g.L.Lazy.position c.days.lazy) c.args.to (to_z w64 (of_z w64 c.args.to))
-    (g.L.Lazy.position c.next.new.self) c.days.shapes c.days.numbers.items (with_set c.next.new.sets c.in-Some.found)
+    (g.L.Lazy.position c.next.new.self) c.days.shapes c.days.numbers (with_set c.next.new.sets c.in-Some.found)
     c.days.invariant.2 n c.days.invariant.0 t many.1 many.0)

@@ -5,7 +5,7 @@ use Rattle.rr_fold.proofs.walk.fill.Given as goal
 
 abbrev pub invariant-days : goal.invariant-days
 invariant-days g l = (g.L.Lazy.tree l.lazy ≡ g.L.Lazy.tree l.fn.lazy) × (g.L.Lazy.position l.lazy ≤ℤ (l.to +ℤ pos 1))
-    × IsFoldedTo (g.L.Lazy.tree l.fn.lazy) l.first (g.L.Lazy.position l.lazy) l.shapes l.numbers.items
+    × IsFoldedTo (g.L.Lazy.tree l.fn.lazy) l.first (g.L.Lazy.position l.lazy) l.shapes l.numbers
     × g.L.Lazy.knows l.lazy l.numbering.sets × IsKnown l.numbering.sets l.shapes l.numbering.known.items
 
 abbrev pub decreases-days : goal.decreases-days

@@ -8,15 +8,9 @@ use Rattle.rr_model.specs.Sets.Tree.{chosen_of}
 use Rattle.rr_fold.specs.Folding.{HasNoneBefore}
 use Rattle.rr_fold.specs.Years.{HasEqualYears}
 use Rattle.rr_days.proofs.BackLemmas.{day_back}
-use Rattle.rr_fold.proofs.SameYearLemmas.{equal_keys_have_equal_days}
+use Rattle.rr_fold.proofs.FineYearLemmas.{equal_slots_have_equal_days}
 use Rattle.rr_fold.proofs.WalkLemmas.{nothing_walked}
 use Rattle.rr_fold.proofs.years.days_by_years.Goals as goal
-
-pub days_between-requires-clause-first : goal.days_between-requires-clause-first
-days_between-requires-clause-first c =
-    let day = day_back c.args.kind c.args.start c.day_part-first.result c.requires.in_years c.day_part-first.ensures in
-    let bounds = four_digit_bounds (day_part c.args.kind c.args.start) c.requires.in_years in
-    omega (arith, ints, day, bounds.0)
 
 pub walk_by_years-requires-clause-low : goal.walk_by_years-requires-clause-low
 walk_by_years-requires-clause-low c =
@@ -29,10 +23,9 @@ walk_by_years-requires-clause-equal c =
     let day = day_back c.args.kind c.args.start c.day_part-first.result c.requires.in_years c.day_part-first.ensures in
     let tree = c.in_ok-lazy.ensures.tree ∙ ap (chosen_of c.args.rule.now c.args.kind) (to_z-of_z c.ranges.start) in
     let first : ℤ = to_z w64 (of_z w64 c.day_part-first.result) in
-    subst (λ t. HasEqualYears c.args.rule.now t first) (sym tree)
-    (subst (λ d. HasEqualYears c.args.rule.now (chosen_of c.args.rule.now c.args.kind c.args.start) d) (sym day)
-    (λ year other a b e k s l. equal_keys_have_equal_days c.args.rule.now c.args.kind c.args.start year other c.requires.valid c.requires.in_years
-    c.requires.repeats a b e k s l))
+    subst (λ t. HasEqualYears c.args.rule.now c.args.period t first) (sym tree)
+    (subst (λ d. HasEqualYears c.args.rule.now c.args.period (chosen_of c.args.rule.now c.args.kind c.args.start) d) (sym day)
+    (equal_slots_have_equal_days c.args.rule.now c.args.kind c.args.start c.args.period c.requires.valid c.requires.in_years c.requires.repeats))
 
 pub walk_by_years-requires-clause-position : goal.walk_by_years-requires-clause-position
 walk_by_years-requires-clause-position c =

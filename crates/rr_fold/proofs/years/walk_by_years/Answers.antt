@@ -61,10 +61,11 @@ loop-from-init c =
       first.after,
       first.within,
       record { same = w.same; at = w.position; knows = w.knows; walked = w.walk; whole = w.whole },
+      c.in_ok-kept.ensures.period,
       λ l. (
         first.begins l ∙ ap first_day_of_year (sym first.next),
-        kept_longer c.args.rule.now (stored c.args.first) 0 (length c.walk_to.new.self.days.numbers.items) c.in_ok-kept.kept.places.items (omega arith)
-            (c.in_ok-kept.ensures c.args.rule.now (stored c.args.first)),
+        kept_longer c.args.rule.now c.in_ok-kept.kept.period (stored c.args.first) 0 (length c.walk_to.new.self.days.numbers) c.in_ok-kept.kept.places.items (omega arith)
+            (c.in_ok-kept.ensures.kept c.args.rule.now (stored c.args.first)),
       ),
     )
 
@@ -87,7 +88,7 @@ step c =
     let year : ℤ = to_z w64 c.loop-from.year-bits in
     let end : ℤ = stored c.args.end in
     let before : from <ℤ end = omega (arith, ints, c.loop-from-test.true) in
-    let at = (i.3 before).0 in
+    let at = (i.4 before).0 in
     let days : c.from.result ≡ pos (days_in_year year) = c.from.ensures ∙ ap (λ n. pos n) c.days_in_year.ensures in
     let to = least_step from c.args.end end c.min-to.result c.from.result (days_in_year year) c.min-to.ensures.value days (days_in_year_bounds year).1 e
     (omega (arith, ints, f, c.requires.low, i.0)) (omega (arith, ints, e, before)) c.requires.high in
@@ -110,13 +111,13 @@ go_on-requires-clause-walked c = let i = c.loop-from.invariant in rw (i.2.same, 
 pub go_on-requires-clause-kept : goal.go_on-requires-clause-kept
 go_on-requires-clause-kept c =
     let before : to_z w64 c.loop-from.from-bits <ℤ stored c.args.end = omega (arith, ints, c.loop-from-test.true) in
-    (c.loop-from.invariant.3 before).1
+    (c.loop-from.invariant.4 before).1
 
 pub go_on-requires-clause-year : goal.go_on-requires-clause-year
 go_on-requires-clause-year c = (step c).up_to
 
 pub go_on-requires-clause-equal : goal.go_on-requires-clause-equal
-go_on-requires-clause-equal c = rw (to_z-of_z c.ranges.first, c.loop-from.invariant.2.same) c.requires.equal
+go_on-requires-clause-equal c = rw (to_z-of_z c.ranges.first, c.loop-from.invariant.2.same, c.loop-from.invariant.3) c.requires.equal
 
 pub overflow_add-year-in-loop-from : goal.overflow_add-year-in-loop-from
 overflow_add-year-in-loop-from c =
@@ -137,6 +138,7 @@ loop-from-preserved c =
       omega (arith, ints, s.later, i.0),
       s.within,
       rw (sym i.2.same) on.walked,
+      on.same ∙ i.3,
       λ l. (rw next (s.next l), on.kept (s.next l)),
     )
 
@@ -147,3 +149,9 @@ returns c =
     let i = c.loop-from.invariant in
     let over : to_z w64 c.loop-from.from-bits ≡ c.args.end = omega (arith, ints, c.loop-from-test.false, i.1, e) in
     rw (f, over) at i.2
+
+pub go_on-requires-clause-some : goal.go_on-requires-clause-some
+go_on-requires-clause-some c = omega (arith, c.loop-from.invariant.3, c.requires.some)
+
+pub go_on-requires-clause-few : goal.go_on-requires-clause-few
+go_on-requires-clause-few c = omega (arith, c.loop-from.invariant.3, c.requires.few)

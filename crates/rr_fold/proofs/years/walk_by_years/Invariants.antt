@@ -8,9 +8,10 @@ use Rattle.rr_fold.proofs.years.walk_by_years.Given as goal
 abbrev pub invariant-loop-from : goal.invariant-loop-from
 invariant-loop-from l = (l.first <ℤ l.from) × (l.from ≤ℤ l.end)
     × IsYearWalk (tree_of_rule l.fn.lazy) l.first l.from l.lazy l.walk
+    × (l.kept.period ≡ l.period)
     × (l.from <ℤ l.end
     → (l.from ≡ first_day_of_year l.year)
-    × AreKeptYears l.rule l.first (length l.walk.days.numbers.items) l.kept.places.items)
+    × AreKeptYears l.rule l.kept.period l.first (length l.walk.days.numbers) l.kept.places.items)
 
 abbrev pub decreases-loop-from : goal.decreases-loop-from
 decreases-loop-from l = nat_abs (l.end -ℤ l.from)

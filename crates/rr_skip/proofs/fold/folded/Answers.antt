@@ -6,8 +6,8 @@ use Rattle.rr_model.proofs.YearLemmas.{four_digit_bounds}
 use Rattle.rr_skip.proofs.SkipSketchLemmas.{whole_fold}
 use Rattle.rr_skip.proofs.fold.folded.Goals as goal
 
-pub sequence-requires : goal.sequence-requires
-sequence-requires c =
+pub sequence_of_numbers-requires-clause-whole : goal.sequence_of_numbers-requires-clause-whole
+sequence_of_numbers-requires-clause-whole c =
     let a = to_z-of_z c.ranges.start in
     let b = four_digit_bounds (day_part c.args.kind c.args.start) c.requires.start in
     let d = to_z-of_z {w = w64} {z = c.day_in_years-first.result} (record { sfits = c.day_in_years-first.type_inv }) in

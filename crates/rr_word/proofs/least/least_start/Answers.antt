@@ -1,4 +1,4 @@
-use Rattle.std.proofs.Common.{w64, to_z, of_z, ◌∙◌, sym, arith}
+use Rattle.std.proofs.Common.{w64, to_z, ◌∙◌, sym, arith}
 use Rattle.std.proofs.lemmas.Int.{ints, clamps}
 use Rattle.std.proofs.lemmas.Bool.{false≢true}
 use Rattle.rr_model.specs.Sets.Sketch.{times_on}
@@ -7,19 +7,24 @@ use Rattle.rr_model.specs.Sets.Least.{IsEventualPeriod}
 use Rattle.rr_word.proofs.PeriodLemmas.{same_start, lesser_period}
 use Rattle.rr_word.proofs.least.least_start.Goals as goal
 
-pub loop-start-init : goal.loop-start-init
-loop-start-init g c =
+pub start_by_blocks-start-requires-clause-high : goal.start_by_blocks-start-requires-clause-high
+start_by_blocks-start-requires-clause-high g c =
+    omega (arith, ints, clamps, c.max.ensures.value, c.in-Some.ensures.near.1, c.settled-2.ensures.near.1)
+
+pub start_by_blocks-start-requires-clause-repeats : goal.start_by_blocks-start-requires-clause-repeats
+start_by_blocks-start-requires-clause-repeats g c =
     let s = g.A.DaySeq.sketch c.args.seq.now in
     let valid = (g.met.A.DaySeq.bounded c.args.seq.now).valid in
     let own : IsEventualPeriod (times_on s) c.period.result = own_period s c.period.result valid c.period.ensures.value in
     let step = lesser_period (times_on s) c.args.period c.period.result c.min-step.result c.min-step.ensures c.requires own in
-    let near_first = c.in-Some.ensures.near in
-    let near = c.settled-2.ensures.near in
-    let max = c.max-start.ensures in
-    let value = c.settled-2.ensures.value in (
-      omega (arith, ints, clamps, max.value),
-      omega (arith, ints, clamps, max.value, near_first.1, near.1),
-      repeats_from_later s (to_z w64 (of_z w64 c.max-start.result)) c.min-step.result valid (omega (arith, ints, clamps, max.value, value)) step,
+    repeats_from_later s _ c.min-step.result valid (omega (arith, ints, clamps, c.max.ensures.value, c.settled-2.ensures.value)) step
+
+pub loop-start-init : goal.loop-start-init
+loop-start-init g c =
+    let back = c.start_by_blocks-start.ensures in (
+      omega (arith, ints, back.not_before),
+      omega (arith, ints, clamps, back.not_after, c.max.ensures.value, c.in-Some.ensures.near.1, c.settled-2.ensures.near.1),
+      λ d l. back.repeats d (omega (arith, ints)),
     )
 
 pub returns-then-not-same : goal.returns-then-not-same

@@ -1,12 +1,10 @@
-use Rattle.std.proofs.Common.{◌≡◌, get_or, ◌∙◌, to_z-of_z}
-use Rattle.std.proofs.lemmas.List.{get_or_default}
-use Rattle.rr_days.proofs.PlaceLemmas.{stretch_at}
+use Rattle.std.proofs.Common.{to_z-of_z}
+use Rattle.rr_days.specs.Sequence.{sketch}
+use Rattle.rr_days.proofs.RowLemmas.{stretch_of_row}
 use Rattle.rr_days.proofs.folded.FoldedDaySeq.stretch.Goals as goal
 
-pub returns-in-Some : goal.returns-in-Some
-returns-in-Some c =
+pub returns : goal.returns
+returns c =
     let f = c.args.self.now in
-    let p = rw (to_z-of_z c.ranges.day) at c.in-Some.ensures in
-    let n : c.index.result.now ≡ get_or f.numbers.items c.in-Some.place 0 =
-    c.index.ensures ∙ get_or_default f.numbers.items c.in-Some.place c.index.result.now 0 p.0 in
-    stretch_at f c.args.day c.in-Some.place p c.index.result.now c.deref.result.now n c.deref.ensures.value
+    stretch_of_row f.shapes (sketch f) c.args.day c.row_on.result.now c.stretch_of.result.rest.now c.stretch_of.result.first
+    (rw (to_z-of_z c.ranges.day) at c.row_on.ensures) c.stretch_of.ensures.first c.stretch_of.ensures.rest

@@ -29,24 +29,28 @@ pub returns-clause-walk : goal.returns-clause-walk
 returns-clause-walk g c =
     let e = end_back c.args.first c.args.end c.requires.order c.requires.low c.requires.high in
     let f = to_z-of_z c.ranges.first in
-    let folded : IsFoldedTo (g.L.Lazy.tree c.args.lazy.now) c.args.first c.args.end c.fill.new.shapes c.fill.new.numbers.items =
+    let folded : IsFoldedTo (g.L.Lazy.tree c.args.lazy.now) c.args.first c.args.end c.fill.new.shapes c.fill.new.numbers =
     rw (e, f) at c.in-Ok.ensures.folded in
     let back = to_z-of_z c.ranges.end in
     let at : c.args.end ≡ c.args.first +ℤ pos c.days_between.result =
     sym back ∙ c.days_between.ensures ∙ (λ i. f i +ℤ pos c.days_between.result) in
-    let stored = c.fill.new.numbers.ok.0 in
-    let listed : length c.fill.new.numbers.items ≤ c.days_between.result =
-    list_within (g.L.Lazy.tree c.args.lazy.now) c.args.first c.args.end c.fill.new.shapes c.fill.new.numbers.items c.days_between.result folded at in
     record {
       known = c.in-Ok.ensures.known;
       folded =
-          filled_up (g.L.Lazy.tree c.args.lazy.now) c.args.first c.args.end c.fill.new.shapes c.fill.new.numbers.items c.resize.new.self.items
-          c.days_between.result folded at
-          (search rules)
-          (λ k l. c.in_ok-resize.ensures.by_index.0 k 0 (omega (arith, l, listed)) (omega (arith, l, stored)))
-          (λ k l m. c.in_ok-resize.ensures.by_index.1 k 0 refl (omega (arith, l, stored)) m);
+          filled_up (g.L.Lazy.tree c.args.lazy.now) c.args.first c.args.end c.fill.new.shapes c.fill.new.numbers c.fill_to.new.numbers
+          c.days_between.result folded at c.in_ok-fill_to.ensures.whole c.in_ok-fill_to.ensures.kept c.in_ok-fill_to.ensures.zeros;
     }
 
 pub returns-clause-refused : goal.returns-clause-refused
 returns-clause-refused g c =
-    not_too_many (g.L.Lazy.tree c.args.lazy.now) c.args.first c.args.end c.fill.new.shapes c.resize.new.self.items (returns-clause-walk g c).folded
+    not_too_many (g.L.Lazy.tree c.args.lazy.now) c.args.first c.args.end c.fill.new.shapes c.fill_to.new.numbers (returns-clause-walk g c).folded
+
+pub fill_to-requires : goal.fill_to-requires
+fill_to-requires g c =
+    let e = end_back c.args.first c.args.end c.requires.order c.requires.low c.requires.high in
+    let f = to_z-of_z c.ranges.first in
+    let folded : IsFoldedTo (g.L.Lazy.tree c.args.lazy.now) c.args.first c.args.end c.fill.new.shapes c.fill.new.numbers =
+    rw (e, f) at c.in-Ok.ensures.folded in
+    let at : c.args.end ≡ c.args.first +ℤ pos c.days_between.result =
+    sym (to_z-of_z c.ranges.end) ∙ c.days_between.ensures ∙ (λ i. f i +ℤ pos c.days_between.result) in
+    list_within (g.L.Lazy.tree c.args.lazy.now) c.args.first c.args.end c.fill.new.shapes c.fill.new.numbers c.days_between.result folded at

@@ -12,11 +12,16 @@ use Rattle.rr_iter.proofs.SetPositionLemmas.{absent_is}
 use Rattle.rr_iter.proofs.WalkLemmas.{start_near}
 use Rattle.rr_iter.proofs.fine_rule.FineRule.chosen_on.Goals as goal
 
-pub fitting_seconds-requires-clause-start : goal.fitting_seconds-requires-clause-start
-fitting_seconds-requires-clause-start c =
+pub fitting_seconds_by-requires-clause-start : goal.fitting_seconds_by-requires-clause-start
+fitting_seconds_by-requires-clause-start c =
     let fits : FitsSigned w64 c.self.inside.start = search rules in
     let n = start_near Moments c.self.inside.start c.self.inside.start_day c.self.invariant.of_day c.self.invariant.valid.in_years in
     rw (to_z-of_z fits) (omega (arith, ints, n.0, c.self.invariant.of_day), omega (arith, ints, n.1, c.self.invariant.of_day))
+
+pub fitting_seconds_by-requires-clause-times : goal.fitting_seconds_by-requires-clause-times
+fitting_seconds_by-requires-clause-times c =
+    let fits : FitsSigned w64 c.self.inside.start = search rules in
+    rw (to_z-of_z fits) c.self.invariant.of_times
 
 pub returns-then-is_empty : goal.returns-then-is_empty
 returns-then-is_empty c =

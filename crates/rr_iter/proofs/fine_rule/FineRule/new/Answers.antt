@@ -10,8 +10,8 @@ use Rattle.rr_iter.proofs.FineLemmas.{only_moments}
 use Rattle.rr_iter.proofs.PlaceOfDayLemmas.{knows_none}
 use Rattle.rr_iter.proofs.fine_rule.FineRule.new.Goals as goal
 
-pub new-requires : goal.new-requires
-new-requires c =
+pub new-requires-2 : goal.new-requires-2
+new-requires-2 c =
     let m = only_moments c.args.rule.now.freq c.args.kind c.requires.valid.start c.requires.freq in
     let y : IsInYears Moments c.args.start = subst (λ k. IsInYears k c.args.start) m c.requires.in_years in
     let d : c.day_part-start_day.result ≡ day_part Moments c.args.start =
@@ -36,6 +36,7 @@ invariant_of-result c =
       of_day = is;
       of_second = subst (λ k. c.second_part.result ≡ second_part k c.args.start) m (rw (to_z-of_z c.ranges.start) at c.second_part.ensures.value);
       of_offsets = rw (to_z-of_z c.ranges.start) at c.in_ok-chosen_offsets.ensures;
+      of_times = rw (to_z-of_z c.ranges.start) at c.in_ok-times.ensures;
       of_allowed = rw is at c.in_ok-new.ensures;
     })
 

@@ -1,0 +1,51 @@
+#!/bin/sh
+# What two calendars of 10,000 everyday events cost: seconds and the most memory, of a comparison of equal files and of one in
+# which every tenth event differs. Usage: bench/calendars.sh [PROGRAM [EVENTS]], after the program was built; it stands on GNU time.
+set -eu
+program=${1:-$(dirname -- "$0")/../crates/rr_calendars/out/rr_calendars}
+events=${2:-10000}
+scratch=$(mktemp -d)
+trap 'rm -rf "$scratch"' EXIT
+
+# calendar DIFFERENT: a mix of everyday events: weekly ones, two workdays, fortnights, months by day and by weekday, birthdays, single
+# ones, and of every twentieth a moved instance; where DIFFERENT is 1, each tenth lacks a date.
+calendar() {
+    awk -v n="$events" -v different="$1" 'BEGIN {
+        ORS = "\r\n"
+        split("FREQ=WEEKLY;BYDAY=MO|FREQ=WEEKLY;BYDAY=MO,WE|FREQ=WEEKLY;INTERVAL=2;BYDAY=MO|FREQ=MONTHLY;BYMONTHDAY=8|FREQ=MONTHLY;BYDAY=2MO|FREQ=YEARLY||FREQ=DAILY;COUNT=5", rule, "|")
+        print "BEGIN:VCALENDAR"
+        print "VERSION:2.0"
+        print "PRODID:-//Bench//Calendars//EN"
+        for (i = 0; i < n; i++) {
+            uid = sprintf("%06d-event@bench.example", (i * 7919) % 1000000)
+            time = sprintf("T%02d%02d00", 8 + i % 10, i % 4 * 15)
+            print "BEGIN:VEVENT"
+            print "UID:" uid
+            print "DTSTAMP:20240101T080000Z"
+            print "SUMMARY:Event " i
+            print "DTSTART;TZID=Europe/Berlin:20240108" time
+            print "DURATION:PT1H"
+            r = rule[1 + i % 8]
+            if (r != "") print "RRULE:" r
+            if (different && i % 10 == 0) print "EXDATE;TZID=Europe/Berlin:20240108" time
+            print "END:VEVENT"
+            if (i % 20 == 0) {
+                print "BEGIN:VEVENT"
+                print "UID:" uid
+                print "DTSTAMP:20240101T080000Z"
+                print "RECURRENCE-ID;TZID=Europe/Berlin:20240115" time
+                print "DTSTART;TZID=Europe/Berlin:20240116" time
+                print "END:VEVENT"
+            }
+        }
+        print "END:VCALENDAR"
+    }'
+}
+
+calendar 0 >"$scratch/old.ics"
+calendar 1 >"$scratch/new.ics"
+for other in old new; do
+    status=0
+    /usr/bin/time -f '%e s (%U of the processor), %M KB' -o "$scratch/time" "$program" "$scratch/old.ics" "$scratch/$other.ics" --differences >"$scratch/said" || status=$?
+    printf '%s: status %s, %s, %s\n' "$other" "$status" "$(tail -n 1 "$scratch/time")" "$(tail -n 1 "$scratch/said")"
+done

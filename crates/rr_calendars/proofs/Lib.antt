@@ -1,0 +1,4 @@
+mod WordLemmas
+mod AnswerLemmas
+mod FetchLemmas
+mod RunLemmas

@@ -1,0 +1,85 @@
+-- What a run leaves, by what was worked out and what the put answers.
+use Rattle.std.proofs.Common.{◌≡◌, ◌⊎◌, inl, inr, ℕ, List, Option, Some, None, IfSome, IsNone, refl, subst}
+use Rattle.std.specs.Prelude.{IfOk, Result}
+use Rattle.rr_io.specs.declared.source.FetchError.{FetchError}
+use Rattle.rr_io.specs.Outside.{Appended, AppendedPart}
+use Rattle.rr_calendars.specs.Outcomes.{outcome_is}
+use Rattle.rr_calendars.specs.Run.{Answer, Ends, HasCause, IsAnswer, IsEnding, contents}
+use Rattle.rr_calendars.specs.Words.{Asked}
+use Rattle.rr_calendars.specs.declared.answer.Outcome.{Outcome}
+use Rattle.rr_calendars.specs.declared.status.Status.{Status}
+use Rattle.rr_calendars.specs.declared.status.Status.TheVariants.{Equal, Differs, Refused, Usage, ReadFault, WriteFault, NoMemory}
+
+pub of_all : {T : Type 0} {P : T → Type 0} (o : Option T) → ((x : T) → P x) → IfSome o P
+of_all None f = tt
+of_all (Some x) f = f x
+
+pub of_some : {T : Type 0} {P Q : T → Type 0} (o : Option T) → IfSome o P → ((x : T) → P x → Q x) → IfSome o Q
+of_some None h f = tt
+of_some (Some x) h f = f x h
+
+-- it is the answer to what is asked, over what is held
+abbrev pub IsAnswerTo : Option Asked → (List ℕ → Option (List ℕ)) → Answer → Type 0
+IsAnswerTo asked held x = IfSome (contents asked held) (λ files. IsAnswer asked files x)
+
+-- ---- what the words ask
+
+-- what answers one thing that is asked answers the same thing
+pub ok_answer_to : (held : List ℕ → Option (List ℕ)) (said asked : Option Asked) (r : Result Outcome FetchError) → said ≡ asked
+    → IfOk r (λ (x : Outcome). IsAnswerTo said held (outcome_is x)) → IfOk r (λ (x : Outcome). IsAnswerTo asked held (outcome_is x))
+ok_answer_to held said asked r e h = subst (λ (w : Option Asked). IfOk r (λ (x : Outcome). IsAnswerTo w held (outcome_is x))) e h
+
+-- ---- an answer that was put
+
+-- what holds of each status that an answer can have
+of_ending : (P : Status → Type 0) (asked : Option Asked) (status : Status) → IsEnding asked status → P Equal → P Differs → P Refused → P Usage → P status
+of_ending P None Usage h equal differs refused usage = usage
+of_ending P (Some asked) Equal h equal differs refused usage = equal
+of_ending P (Some asked) Differs h equal differs refused usage = differs
+of_ending P (Some asked) Refused h equal differs refused usage = refused
+of_ending P None Equal h equal differs refused usage = absurd h
+of_ending P None Differs h equal differs refused usage = absurd h
+of_ending P None Refused h equal differs refused usage = absurd h
+of_ending P None ReadFault h equal differs refused usage = absurd h
+of_ending P None WriteFault h equal differs refused usage = absurd h
+of_ending P None NoMemory h equal differs refused usage = absurd h
+of_ending P (Some asked) Usage h equal differs refused usage = absurd h
+of_ending P (Some asked) ReadFault h equal differs refused usage = absurd h
+of_ending P (Some asked) WriteFault h equal differs refused usage = absurd h
+of_ending P (Some asked) NoMemory h equal differs refused usage = absurd h
+
+ends_said : (asked : Option Asked) (is : Answer → Type 0) (x : Answer) (old new : Option (List ℕ)) → IsEnding asked x.status → is x
+    → Appended old x.bytes new → Ends x.status is old new
+ends_said asked is x old new h said put =
+    of_ending (λ (s : Status). s ≡ x.status → Ends s is old new) asked x.status h
+    (λ e. (x, said, e, put)) (λ e. (x, said, e, put)) (λ e. (x, said, e, put)) (λ e. (x, said, e, put)) refl
+
+pub caused : (asked : Option Asked) (status : Status) (failed failed' : List (List ℕ)) (faults faults' : ℕ) → IsEnding asked status
+    → failed' ≡ failed → faults' ≡ faults → HasCause status asked failed failed' faults faults'
+caused asked status failed failed' faults faults' h p q =
+    of_ending (λ (s : Status). HasCause s asked failed failed' faults faults') asked status h (p, q) (p, q) (p, q) (p, q)
+
+pub usage_none : (asked : Option Asked) (status : Status) → IsEnding asked status → status ≡ Usage → IsNone asked
+usage_none None status h e = refl
+usage_none (Some asked) status h e = absurd (subst (λ (s : Status). IsEnding (Some asked) s) e h)
+
+pub no_fault : (asked : Option Asked) (status : Status) → IsEnding asked status → (status ≡ ReadFault) ⊎ (status ≡ NoMemory) → ⊥
+no_fault asked status h (inl e) = no_read asked (subst (λ (s : Status). IsEnding asked s) e h)
+  where
+    no_read : (a : Option Asked) → IsEnding a ReadFault → ⊥
+    no_read None k = k
+    no_read (Some a) k = k
+no_fault asked status h (inr e) = no_memory asked (subst (λ (s : Status). IsEnding asked s) e h)
+  where
+    no_memory : (a : Option Asked) → IsEnding a NoMemory → ⊥
+    no_memory None k = k
+    no_memory (Some a) k = k
+
+module _ (asked : Option Asked) (held : List ℕ → Option (List ℕ)) (x : Answer) (said : IsAnswerTo asked held x) (bytes : List ℕ) (same : bytes ≡ x.bytes)
+    (old new : Option (List ℕ)) where
+  pub ends_failed : AppendedPart old bytes new → IfSome (contents asked held) (λ files. Ends WriteFault (IsAnswer asked files) old new)
+  ends_failed part = of_some (contents asked held) said (λ files is. (x, is, subst (λ b. AppendedPart old b new) same part))
+
+  pub ends_done : IsEnding asked x.status → Appended old bytes new → IfSome (contents asked held) (λ files. Ends x.status (IsAnswer asked files) old new)
+  ends_done h whole =
+      of_some (contents asked held) said (λ files is. ends_said asked (IsAnswer asked files) x old new h is (subst (λ b. Appended old b new) same whole))

@@ -1,0 +1,19 @@
+use Rattle.std.proofs.Common.{ℕ, List, ap, subst}
+use Rattle.rr_calendars.specs.Outcomes.{outcome_is}
+use Rattle.rr_calendars.specs.Run.{IsNamed}
+use Rattle.rr_calendars.specs.declared.answer.Outcome.{Outcome}
+use Rattle.rr_calendars.specs.declared.status.Status.{Status}
+use Rattle.rr_calendars.proofs.AnswerLemmas.{show_fault}
+use Rattle.rr_trip.specs.Shown.{IsShownIn}
+use Rattle.rr_calendars.proofs.answer.named.Goals as goal
+
+pub returns-in-Ok : goal.returns-in-Ok
+returns-in-Ok c = record {
+  shown = c.in-Ok.shown;
+  shows = subst (λ (name : List ℕ). IsShownIn c.args.offset c.args.old.now c.args.new.now name c.in-Ok.shown) c.as_bytes.ensures.value c.in-Ok.ensures;
+  is = ap (λ (s : Status). record { status = s; bytes = c.in-Ok.shown.text.items }) c.status_by.ensures;
+}
+
+pub returns-in-Err : goal.returns-in-Err
+returns-in-Err c =
+    show_fault (λ (x : Outcome). IsNamed c.args.offset c.args.name.now c.args.old.now c.args.new.now (outcome_is x)) c.args.offset c.args.old.now c.args.new.now c.as_bytes.result.now c.in-Err.fault c.in-Err.ensures

@@ -1,0 +1,12 @@
+-- The exit status of the program.
+use Rattle.std.specs.Prelude.{ℕ, Result, Ok, Err}
+use Rattle.rr_calendars.specs.Run.{code_of}
+use Rattle.rr_calendars.specs.declared.exit.NotRun.{NotRun}
+use Rattle.rr_calendars.specs.declared.exit.NotRun.TheVariants.{NoText, NoMemory}
+use Rattle.rr_calendars.specs.declared.status.Ended.{Ended}
+
+-- the exit status: the number of the status where the words were run, 7 where one is no text, and 6 out of memory for them
+abbrev pub exit_number : Result Ended NotRun → ℕ
+exit_number (Ok ended) = code_of ended.status
+exit_number (Err NoText) = 7
+exit_number (Err NoMemory) = 6

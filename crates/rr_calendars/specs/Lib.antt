@@ -1,0 +1,5 @@
+pub mod Words
+pub mod Parsed
+pub mod Run
+pub mod Outcomes
+pub mod Exit

@@ -1,0 +1,42 @@
+-- What the values of the program mean.
+use Rattle.std.specs.Prelude.{ℕ, List, map, Option, option_map}
+use Rattle.std.specs.Borrow.{Bor}
+use Rattle.rr_calendars.specs.Words.{Asked, Given, Request, comparison, help}
+use Rattle.rr_calendars.specs.declared.words.Asked.{Asked as ParsedAsked}
+use Rattle.rr_calendars.specs.declared.words.Asked.TheVariants.{Help, Comparison}
+use Rattle.rr_calendars.specs.declared.words.Given.{Given as ParsedGiven}
+use Rattle.rr_calendars.specs.declared.words.Request.{Request as ParsedRequest}
+
+-- the texts that the words are
+abbrev pub words_of : List (Bor (List ℕ)) → List (List ℕ)
+words_of words = map (λ (w : Bor (List ℕ)). w.now) words
+
+-- the text of a word, where there is one
+abbrev pub word_in : Option (Bor (List ℕ)) → Option (List ℕ)
+word_in word = option_map (λ (w : Bor (List ℕ)). w.now) word
+
+-- the words so far that a value of the program is
+abbrev pub given_in : ParsedGiven → Given
+given_in given = record {
+  old = word_in given.old;
+  new = word_in given.new;
+  only_differences = given.only_differences;
+  offset = given.offset;
+  show = word_in given.show;
+  next = given.next;
+}
+
+-- the comparison that a value of the program is
+abbrev pub request_in : ParsedRequest → Request
+request_in request = record {
+  old = request.old.now;
+  new = request.new.now;
+  only_differences = request.only_differences;
+  offset = request.offset;
+  show = word_in request.show;
+}
+
+-- what a value of the program asks
+abbrev pub asked_in : ParsedAsked → Asked
+asked_in Help = help
+asked_in (Comparison request) = comparison (request_in request)

@@ -1,0 +1,129 @@
+-- What a run answers, and what it leaves, by its status.
+use Rattle.std.specs.Prelude.{◌≡◌, ◌⊎◌, ℕ, ◌+◌, Bool, ℤ, List, [], ◌∷◌, ◌++◌, take, Option, None, Some, option_map, option_and_then, ⊤}
+use Rattle.rr_io.specs.Outside.{Appended, AppendedPart, RoseOrIsLast}
+use Rattle.rr_model.specs.declared.verdict.Side.{Side}
+use Rattle.rr_trip.specs.Counts.{counts_of, status_of}
+use Rattle.rr_trip.specs.Printed.{file_refusal_line, printed}
+use Rattle.rr_trip.specs.Report.{IsFileRefused, IsReportOf}
+use Rattle.rr_trip.specs.Shown.{IsShownIn}
+use Rattle.rr_trip.specs.declared.file.FileRefusal.{FileRefusal}
+use Rattle.rr_trip.specs.declared.file.TheConstants.{MAX_FILE}
+use Rattle.rr_trip.specs.declared.report.ReportLine.{ReportLine}
+use Rattle.rr_trip.specs.declared.report.Status.{Status as Ending}
+use Rattle.rr_trip.specs.declared.report.Status.TheVariants as ending
+use Rattle.rr_trip.specs.declared.shown.Shown.{Shown}
+use Rattle.rr_calendars.specs.Words.{Asked, Request, comparison, help}
+use Rattle.rr_calendars.specs.declared.status.Status.{Status}
+use Rattle.rr_calendars.specs.declared.status.Status.TheVariants.{Equal, Differs, Refused, Usage, ReadFault, WriteFault, NoMemory}
+
+-- ---- answers
+
+-- how the run ends, and the bytes that it puts
+pub record Answer : Type 0 where
+  pub status : Status
+  pub bytes : List ℕ
+
+-- the number of a status
+abbrev pub code_of : Status → ℕ
+code_of Equal = 0
+code_of Differs = 1
+code_of Refused = 2
+code_of Usage = 3
+code_of ReadFault = 4
+code_of WriteFault = 5
+code_of NoMemory = 6
+
+-- the status of a run by how its comparison ends
+abbrev pub status_by : Ending → Status
+status_by ending.Equal = Equal
+status_by ending.Differs = Differs
+status_by ending.Refused = Refused
+
+-- the answer that a report is
+abbrev pub report_answer : Bool → List ReportLine → Answer
+report_answer only_differences lines = record { status = status_by (status_of (counts_of lines)); bytes = printed only_differences lines }
+
+-- the answer that refuses a file
+abbrev pub refusal_answer : Side → FileRefusal → Answer
+refusal_answer side refusal = record { status = Refused; bytes = file_refusal_line side refusal }
+
+-- the report of both files
+pub record IsReported (request : Request) (old new : List ℕ) (answer : Answer) : Type 0 where
+  pub lines : List ReportLine
+  pub report : IsReportOf request.offset old new lines
+  pub is : answer ≡ report_answer request.only_differences lines
+
+-- the refusal of a file
+pub record IsFileAnswer (old new : List ℕ) (answer : Answer) : Type 0 where
+  pub side : Side
+  pub refusal : FileRefusal
+  pub refused : IsFileRefused side old new refusal
+  pub is : answer ≡ refusal_answer side refusal
+
+-- what is shown of the events of a name in both files
+pub record IsNamed (offset : Option ℤ) (name old new : List ℕ) (answer : Answer) : Type 0 where
+  pub shown : Shown
+  pub shows : IsShownIn offset old new name shown
+  pub is : answer ≡ record { status = status_by shown.status; bytes = shown.text.items }
+
+-- what a comparison with two files that are not refused answers: the report, or what is shown of one name
+abbrev pub IsOfBoth : Option (List ℕ) → Request → List ℕ → List ℕ → Answer → Type 0
+IsOfBoth None request old new answer = IsReported request old new answer
+IsOfBoth (Some name) request old new answer = IsNamed request.offset name old new answer
+
+-- what a comparison answers over the bytes of the files
+abbrev pub IsCompared : Request → List ℕ × List ℕ → Answer → Type 0
+IsCompared request files answer = IsOfBoth request.show request files.0 files.1 answer ⊎ IsFileAnswer files.0 files.1 answer
+
+-- what is asked is answered, over the bytes of the files; the texts of usage and help are no promise
+abbrev pub IsAnswer : Option Asked → List ℕ × List ℕ → Answer → Type 0
+IsAnswer None files answer = answer.status ≡ Usage
+IsAnswer (Some help) files answer = answer.status ≡ Equal
+IsAnswer (Some (comparison request)) files answer = IsCompared request files answer
+
+-- a status that an answer can have: usage where nothing is asked, and else that of an ended comparison
+abbrev pub IsEnding : Option Asked → Status → Type 0
+IsEnding None Usage = ⊤
+IsEnding (Some asked) Equal = ⊤
+IsEnding (Some asked) Differs = ⊤
+IsEnding (Some asked) Refused = ⊤
+IsEnding asked status = ⊥
+
+-- ---- files
+
+-- the first MAX_FILE + 1 bytes under a name; None where the source does not tell them
+abbrev pub content : (List ℕ → Option (List ℕ)) → List ℕ → Option (List ℕ)
+content held name = option_map (take (MAX_FILE + 1)) (held name)
+
+-- the bytes of the files; None where the source does not tell them
+abbrev pub contents : Option Asked → (List ℕ → Option (List ℕ)) → Option (List ℕ × List ℕ)
+contents None held = Some ([], [])
+contents (Some help) held = Some ([], [])
+contents (Some (comparison request)) held =
+    option_and_then (λ old. option_map (λ new. (old, new)) (content held request.new)) (content held request.old)
+
+-- it is the name of a file that is asked for
+abbrev pub IsFileOf : Option Asked → List ℕ → Type 0
+IsFileOf None name = ⊥
+IsFileOf (Some help) name = ⊥
+IsFileOf (Some (comparison request)) name = (name ≡ request.old) ⊎ (name ≡ request.new)
+
+-- ---- what a run leaves
+
+-- What the sink has at the end, by the status, where `is` says which answers there are: the answer after what it had, a part of it where
+-- a put failed, nothing more where a fetch failed or out of memory.
+abbrev pub Ends : Status → (Answer → Type 0) → Option (List ℕ) → Option (List ℕ) → Type 0
+Ends ReadFault is old new = new ≡ old
+Ends NoMemory is old new = new ≡ old
+Ends WriteFault is old new = (answer : Answer) × is answer × AppendedPart old answer.bytes new
+Ends status is old new = (answer : Answer) × is answer × (status ≡ answer.status) × Appended old answer.bytes new
+
+-- the names of failed fetches gained that of a file
+abbrev pub GainsFile : Option Asked → List (List ℕ) → List (List ℕ) → Type 0
+GainsFile asked failed failed' = (name : List ℕ) × IsFileOf asked name × (failed' ≡ failed ++ name ∷ [])
+
+-- The cause of each status: which names of failed fetches and which count of faults the run left as they were, and which it raised.
+abbrev pub HasCause : Status → Option Asked → List (List ℕ) → List (List ℕ) → ℕ → ℕ → Type 0
+HasCause ReadFault asked failed failed' faults faults' = GainsFile asked failed failed' × (faults' ≡ faults)
+HasCause WriteFault asked failed failed' faults faults' = (failed' ≡ failed) × RoseOrIsLast faults faults'
+HasCause status asked failed failed' faults faults' = (failed' ≡ failed) × (faults' ≡ faults)

@@ -1,0 +1,252 @@
+// The words of the command line.
+ghost use Rattle.std.specs.Prelude.{◌≡◌, ◌<◌, ◌≤◌, length, option_map, IfSome};
+ghost use Rattle.rr_calendars.specs.Words.{are_input, asked_of, given_of, is_help, is_word, offset_in, offset_of, request_of, signed, two_digits, with_file, with_name, with_offset, with_option, with_word};
+ghost use Rattle.rr_calendars.specs.Parsed.{asked_in, given_in, request_in, words_of};
+
+/// What is asked of two files.
+#[derive(Clone, Copy)]
+pub struct Request<'a> {
+    /// The name of the file A, which is not empty.
+    pub old: &'a str,
+    /// The name of the file B, which is not empty.
+    pub new: &'a str,
+    /// Whether the lines of equal events are left out.
+    pub only_differences: bool,
+    /// The stated offset, local time less UTC, in seconds.
+    pub offset: Option<i32>,
+    /// The name of the only event that is asked for, as a report prints it, which is not empty.
+    pub show: Option<&'a str>,
+}
+
+/// What the words ask.
+#[derive(Clone, Copy)]
+pub enum Asked<'a> {
+    /// The page of help.
+    Help,
+    /// A comparison.
+    Comparison(Request<'a>),
+}
+
+/// What the next word is.
+#[derive(Clone, Copy, Debug, PartialEq, Eq)]
+pub enum Next {
+    /// A file or an option.
+    Word,
+    /// The value of `--offset`.
+    Offset,
+    /// The value of `--show`.
+    Name,
+}
+
+// The words so far.
+#[derive(Clone, Copy)]
+struct Given<'a> {
+    old: Option<&'a str>,
+    new: Option<&'a str>,
+    only_differences: bool,
+    offset: Option<i32>,
+    show: Option<&'a str>,
+    next: Next,
+}
+
+// A number of two digits below a limit.
+fn two_digits(limit: u64, tens: u8, ones: u8) -> Option<u64>
+    requires { limit ≤ 100 }
+    ensures number { result ≡ two_digits limit tens ones }
+    ensures below { IfSome result (λ value. value < limit) }
+{
+    if !tens.is_ascii_digit() || !ones.is_ascii_digit() {
+        return None;
+    }
+    let value = u64::from(tens - b'0') * 10 + u64::from(ones - b'0');
+    if value < limit { Some(value) } else { None }
+}
+
+// A number of seconds, after a plus or a minus.
+fn signed(sign: u8, seconds: u64) -> Option<i32>
+    requires { seconds < 86_400 }
+    ensures { result ≡ signed sign seconds }
+{
+    match sign {
+        b'+' => Some(seconds as i32),
+        b'-' => Some(-(seconds as i32)),
+        _ => None,
+    }
+}
+
+// An offset from UTC in seconds: a sign with two digits of hours below 24, a colon, and two digits of minutes below 60.
+fn offset_in(text: &[u8]) -> Option<i32>
+    requires { length text.now ≡ 6 }
+    ensures { result ≡ offset_in text.now }
+{
+    if text[3] != b':' {
+        return None;
+    }
+    let hours = two_digits(24, text[1], text[2])?;
+    let minutes = two_digits(60, text[4], text[5])?;
+    signed(text[0], hours * 3_600 + minutes * 60)
+}
+
+// The same of a text of any length.
+fn offset_of(text: &[u8]) -> Option<i32>
+    ensures { result ≡ offset_of text.now }
+{
+    if text.len() == 6 {
+        offset_in(text)
+    } else {
+        None
+    }
+}
+
+// With the name of a file, the first of which is A.
+fn with_file<'a>(given: Given<'a>, name: &'a str) -> Option<Given<'a>>
+    ensures { option_map given_in result ≡ with_file (given_in given.entry) name.now }
+{
+    if name.is_empty() || name.starts_with("--") {
+        return None;
+    }
+    if given.old.is_none() {
+        return Some(Given {
+            old: Some(name),
+            ..given
+        });
+    }
+    if given.new.is_some() {
+        return None;
+    }
+    Some(Given {
+        new: Some(name),
+        ..given
+    })
+}
+
+// With the value of `--offset`.
+fn with_offset<'a>(given: Given<'a>, text: &str) -> Option<Given<'a>>
+    ensures { option_map given_in result ≡ with_offset (given_in given.entry) text.now }
+{
+    let offset = offset_of(text.as_bytes())?;
+    Some(Given {
+        offset: Some(offset),
+        next: Next::Word,
+        ..given
+    })
+}
+
+// With the value of `--show`.
+fn with_name<'a>(given: Given<'a>, name: &'a str) -> Option<Given<'a>>
+    ensures { option_map given_in result ≡ with_name (given_in given.entry) name.now }
+{
+    if name.is_empty() {
+        return None;
+    }
+    Some(Given {
+        show: Some(name),
+        next: Next::Word,
+        ..given
+    })
+}
+
+// With a word that is no option's value. Each option is given once.
+fn with_option<'a>(given: Given<'a>, word: &'a str) -> Option<Given<'a>>
+    ensures { option_map given_in result ≡ with_option (given_in given.entry) word.now }
+{
+    match word {
+        "--differences" if !given.only_differences => Some(Given {
+            only_differences: true,
+            ..given
+        }),
+        "--offset" if given.offset.is_none() => Some(Given {
+            next: Next::Offset,
+            ..given
+        }),
+        "--show" if given.show.is_none() => Some(Given {
+            next: Next::Name,
+            ..given
+        }),
+        _ => with_file(given, word),
+    }
+}
+
+// With one word more.
+fn with_word<'a>(given: Given<'a>, word: &'a str) -> Option<Given<'a>>
+    ensures { option_map given_in result ≡ with_word (given_in given.entry) word.now }
+{
+    match given.next {
+        Next::Word => with_option(given, word),
+        Next::Offset => with_offset(given, word),
+        Next::Name => with_name(given, word),
+    }
+}
+
+// The words of a comparison, files and options in any order.
+fn given_of<'a>(words: &[&'a str]) -> Option<Given<'a>>
+    ensures { option_map given_in result ≡ given_of (words_of words.now) }
+{
+    let mut given = Given {
+        old: None,
+        new: None,
+        only_differences: false,
+        offset: None,
+        show: None,
+        next: Next::Word,
+    };
+    for word in words {
+        given = with_word(given, word)?;
+    }
+    Some(given)
+}
+
+// Whether no option waits for its value.
+fn is_word(next: Next) -> bool
+    ensures { result ≡ is_word next }
+{
+    matches!(next, Next::Word)
+}
+
+// Whether both are standard input.
+fn are_input(old: &str, new: &str) -> bool
+    ensures { result ≡ are_input old.now new.now }
+{
+    old == "-" && new == "-"
+}
+
+// The comparison that the words ask. Standard input, `-`, can be one of the files alone.
+fn request_of<'a>(given: Given<'a>) -> Option<Request<'a>>
+    ensures { option_map request_in result ≡ request_of (given_in given.entry) }
+{
+    let old = given.old?;
+    let new = given.new?;
+    if !is_word(given.next) || are_input(old, new) {
+        return None;
+    }
+    Some(Request {
+        old,
+        new,
+        only_differences: given.only_differences,
+        offset: given.offset,
+        show: given.show,
+    })
+}
+
+// Whether `--help` is the only word.
+fn is_help(words: &[&str]) -> bool
+    ensures { result ≡ is_help (words_of words.now) }
+{
+    if words.len() != 1 {
+        return false;
+    }
+    words[0] == "--help"
+}
+
+/// What the words ask, where they ask something: `--help` alone, or two files, with `--differences`, `--offset` and `--show`
+/// at any place.
+#[tactic(auto, unfolding(crate::specs::Words::asked_of))]
+pub fn parse<'a>(words: &[&'a str]) -> Option<Asked<'a>>
+    ensures { option_map asked_in result ≡ asked_of (words_of words.now) }
+{
+    if is_help(words) {
+        return Some(Asked::Help);
+    }
+    let given = given_of(words)?;
+    Some(Asked::Comparison(request_of(given)?))
+}

@@ -1,7 +1,0 @@
-use Rattle.std.specs.Prelude.{ℕ, IsTrue, ◌<◌, ◌≤◌, get_or}
-use Rattle.rr_decide.specs.Quiet.{HasPair}
-use Rattle.rr_decide.proofs.quiet.Quiet.has_block.Given as goal
-
--- where all is true, the places of the block before this one have one of the pairs
-abbrev pub invariant-loop-place : goal.invariant-loop-place
-invariant-loop-place l = IsTrue l.all → (k : ℕ) → l.from ≤ k → k < l.place → HasPair l.self (get_or l.xs k 0) (get_or l.ys k 0)

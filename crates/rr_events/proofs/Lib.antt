@@ -1,0 +1,6 @@
+pub mod CuttingLemmas
+pub mod PartLemmas
+pub mod LineLemmas
+pub mod NameLemmas
+pub mod FindLemmas
+mod Examples

@@ -1,0 +1,10 @@
+use Rattle.std.proofs.Common.{reverse, ap, ◌∙◌, ℕ}
+use Rattle.std.specs.Prelude.{nat_lt}
+use Rattle.std.specs.List.{list_any}
+use Rattle.rr_model.specs.Text.Event.{is_event}
+use Rattle.rr_events.proofs.NameLemmas.{any-counted}
+use Rattle.rr_events.proofs.names.OpenNames.is_within_event.Goals as goal
+
+pub returns : goal.returns
+returns c =
+    ap (λ (n : ℕ). nat_lt 0 n) c.self.invariant ∙ any-counted (reverse c.self.inside.names.items) ∙ ap (list_any is_event) c.self.view_is

@@ -1,0 +1,4 @@
+pub mod Cutting
+pub mod Events
+pub mod Finding
+pub mod Own

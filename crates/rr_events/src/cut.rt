@@ -1,0 +1,60 @@
+// A text cut behind its first unfolded line (RFC 5545, section 3.1).
+ghost use Rattle.std.specs.Prelude.{◌≡◌, ◌<◌, ◌+◌, ◌^◌, false, [], length, IfOk, MatchOption};
+ghost use Rattle.rr_model.specs.Text.Lines.{begins_blank};
+ghost use Rattle.rr_events.specs.Cutting.{IsContinued, IsCut};
+
+use rr_model::{Bytes, Line, NoMemory};
+use rr_text::{begins_blank, take_line};
+use std::alloc::Global;
+
+/// The first unfolded line of a text, and what follows it.
+#[derive(Drop)]
+pub struct Cut<'a> {
+    /// The line.
+    pub line: Line,
+    /// What follows its physical lines.
+    pub after: &'a [u8],
+    /// The number of the physical line that follows.
+    pub next: u64,
+}
+
+// What the first physical line adds to the line before it, and what follows, where it continues that line.
+fn take_continuation(text: &[u8]) -> Option<(&[u8], &[u8])>
+    ensures { MatchOption result (begins_blank text.now ≡ false) (λ sides. IsContinued text.now sides.0.now sides.1.now) }
+{
+    if !begins_blank(text) {
+        return None;
+    }
+    let Some((line, after)) = take_line(text) else {
+        return None;
+    };
+    Some((&line[1..], after))
+}
+
+/// The first unfolded line of a text whose first physical line has this number; the empty text has none.
+///
+/// It is the first of `rr_text::lines_from`, without the blanks behind its line breaks.
+pub fn cut_line<'a>(alloc: Global, text: &'a [u8], number: u64) -> Result<Option<Cut<'a>>, NoMemory>
+    requires { number + length text.now < 2 ^ 64 }
+    ensures { IfOk result (λ cut. MatchOption cut (text.now ≡ []) (λ cut. IsCut number text.now cut.line cut.after.now cut.next)) }
+{
+    let Some((first, after)) = take_line(text) else {
+        return Ok(None);
+    };
+    let mut line = Line {
+        number,
+        text: Bytes::of(alloc, first)?,
+    };
+    let mut rest = after;
+    let mut next = number + 1;
+    while let Some((more, after)) = take_continuation(rest) {
+        line.text.append(more)?;
+        next += 1;
+        rest = after;
+    }
+    Ok(Some(Cut {
+        line,
+        after: rest,
+        next,
+    }))
+}

@@ -1,0 +1,13 @@
+//! The events of a whole calendar text: where each stands, and what stands directly in it.
+#![tactic(auto)]
+
+mod cut;
+mod find;
+mod laws;
+mod names;
+mod own;
+
+pub use cut::{Cut, cut_line};
+pub use find::{Piece, find_events};
+pub use laws::parts_unfold_alone;
+pub use own::{first_named, first_value, own_lines};

@@ -1,0 +1,179 @@
+// Days that the months, the days of the month or the weekdays of a rule leave out, passed over without a test of each part.
+ghost use Rattle.std.specs.Prelude.{◌≡◌, ℕ, ◌∷◌, [], ◌+◌, ◌-◌, ◌%◌, ◌<◌, ◌≤◌, ◌&&◌, false, true, pos, ◌+ℤ◌, ◌-ℤ◌, ℤ};
+ghost use Rattle.std.specs.List.{list_any};
+ghost use Rattle.rr_model.specs.Calendar.{IsDayWithin, month_of};
+ghost use Rattle.rr_model.specs.Rule.Candidate.{allows_place, by_month_holds};
+ghost use Rattle.rr_model.specs.Rule.Filled.{filled, wants_month, wants_month_day};
+ghost use Rattle.rr_model.specs.Rule.Validity.{is_absent};
+ghost use Rattle.rr_model.specs.declared.kind.Kind.TheVariants.{Days};
+ghost use Rattle.rr_expand.specs.LeftOut.{IsNextIn, has_weekday};
+ghost use Rattle.rr_expand.specs.Years.{allows_day};
+
+use rr_cal::Day;
+use rr_model::{DayItem, Freq, Numbers, Rule};
+use rr_setpos::{allows, allows_filled};
+
+// How many days to go on from a day: none of those between is allowed.
+pub(crate) fn days_on(rule: &Rule, start: &Day, day: &Day) -> u8
+    ensures some { 1 ≤ result }
+    ensures few { result ≤ 31 }
+    ensures none { (j : ℕ) → 1 ≤ j → j < result
+        → allows_day (record { rule = rule.now; start_day = start.now.number }) (day.now.number +ℤ pos j) ≡ false }
+{
+    if day.day_of_month < day.days_in_month {
+        next_in_month(rule, start, day) - day.day_of_month
+    } else {
+        1
+    }
+}
+
+// A later day of the month, by its number there: none of the days between is allowed.
+fn next_in_month(rule: &Rule, start: &Day, day: &Day) -> u8
+    requires { day.now.day_of_month < day.now.days_in_month }
+    ensures { IsNextIn (λ i. allows_day (record { rule = rule.now; start_day = start.now.number }) (day.now.number +ℤ pos (i - day.now.day_of_month)))
+        day.now.day_of_month day.now.days_in_month result }
+{
+    if leaves_out_month(rule, start, day) {
+        day.days_in_month
+    } else if !rule.by_month_day.is_empty() {
+        next_listed(&rule.by_month_day, day.day_of_month, day.days_in_month)
+    } else if !rule.by_day.is_empty() {
+        next_weekday(rule.by_day.as_slice(), day)
+    } else if fills_month_day(rule) {
+        next_own(start.day_of_month, day.day_of_month, day.days_in_month)
+    } else {
+        day.day_of_month + 1
+    }
+}
+
+// Whether BYMONTH, filled from the start, leaves out the month of a day.
+fn leaves_out_month(rule: &Rule, start: &Day, day: &Day) -> bool
+    ensures { result ≡ true → (d : ℤ) → month_of d ≡ month_of day.now.number → by_month_holds (filled rule.now Days start.now.number) d ≡ false }
+{
+    !allows_filled(&rule.by_month, fills_month(rule), start.month, day.month)
+}
+
+// Of the days after the k-th of a month of `many` days the first that BYMONTHDAY, which is present, lists; else the last.
+fn next_listed(numbers: &Numbers, k: u8, many: u8) -> u8
+    requires { k < many }
+    ensures { IsNextIn (λ i. allows_place numbers.now (pos i) (pos many)) k many result }
+{
+    for next in k + 1..many {
+        if lists_place(numbers, next, many) {
+            return next;
+        }
+    }
+    many
+}
+
+// Whether the part is absent, or lists the k-th day of a month of `many` days, from the front or from the back.
+fn lists_place(numbers: &Numbers, k: u8, many: u8) -> bool
+    ensures { result ≡ allows_place numbers.now (pos k) (pos many) }
+{
+    allows(numbers, i16::from(k)) || allows(numbers, place_from_back(k, many))
+}
+
+// The place of the k-th day of `many`, from the back as a negative number.
+fn place_from_back(k: u8, many: u8) -> i16
+    ensures { result ≡ (pos k -ℤ pos many) -ℤ pos 1 }
+{
+    i16::from(k) - i16::from(many) - 1
+}
+
+// Of the later days of the month the first that has the weekday of an item; else the last.
+fn next_weekday(items: &[DayItem], day: &Day) -> u8
+    requires { day.now.day_of_month < day.now.days_in_month }
+    ensures { IsNextIn (λ i. list_any (has_weekday ((day.now.weekday + (i - day.now.day_of_month)) % 7)) items.now)
+        day.now.day_of_month day.now.days_in_month result }
+{
+    for next in day.day_of_month + 1..day.days_in_month {
+        if lists_weekday(items, (day.weekday + (next - day.day_of_month)) % 7) {
+            return next;
+        }
+    }
+    day.days_in_month
+}
+
+// Whether an item has the weekday.
+fn lists_weekday(items: &[DayItem], weekday: u8) -> bool
+    ensures { result ≡ list_any (has_weekday weekday) items.now }
+{
+    items.iter().any(|item| has_weekday(*item, weekday))
+}
+
+// Whether the item has the weekday.
+fn has_weekday(item: DayItem, weekday: u8) -> bool
+    ensures { result ≡ has_weekday weekday item }
+{
+    item.weekday == weekday
+}
+
+// Of the days after the k-th of a month of `many` days that of the start's number; else the last.
+fn next_own(own: u8, k: u8, many: u8) -> u8
+    requires { k < many }
+    ensures { IsNextIn (λ i. allows_place (pos own ∷ []) (pos i) (pos many)) k many result }
+{
+    if k < own && own < many { own } else { many }
+}
+
+// Whether the month is filled from the start, where it is absent.
+fn fills_month(rule: &Rule) -> bool
+    ensures { result ≡ wants_month rule.now.freq rule.now }
+{
+    match rule.freq {
+        Freq::Yearly => names_no_day(rule),
+        _ => false,
+    }
+}
+
+// Whether the rule names no day and takes the day of the month from its start.
+fn fills_month_day(rule: &Rule) -> bool
+    ensures { result ≡ true → (is_absent rule.now.by_month_day ≡ true) × (wants_month_day rule.now.freq rule.now ≡ true) }
+{
+    match rule.freq {
+        Freq::Monthly | Freq::Yearly => names_no_day(rule),
+        _ => false,
+    }
+}
+
+// Whether no part of the rule names a day of the year, of the month or of the week, and none a week.
+fn names_no_day(rule: &Rule) -> bool
+    ensures { result ≡ (is_absent rule.now.by_week_no && is_absent rule.now.by_year_day && is_absent rule.now.by_month_day && is_absent rule.now.by_day) }
+{
+    rule.by_week_no.is_empty()
+        && rule.by_year_day.is_empty()
+        && rule.by_month_day.is_empty()
+        && rule.by_day.is_empty()
+}
+
+// So many days after a day.
+pub(crate) fn later(day: &Day, days: u8) -> Day
+    requires near { IsDayWithin 1000 (day.now.number +ℤ pos days) }
+    ensures { result.number ≡ day.now.number +ℤ pos days }
+{
+    if days == 1 {
+        day.next()
+    } else if days <= day.days_in_month - day.day_of_month {
+        later_in_month(day, days)
+    } else {
+        Day::new(day.number + i64::from(days))
+    }
+}
+
+// The same in one month.
+fn later_in_month(day: &Day, days: u8) -> Day
+    requires near { IsDayWithin 1000 (day.now.number +ℤ pos days) }
+    requires inside { day.now.day_of_month + days ≤ day.now.days_in_month }
+    ensures { result.number ≡ day.now.number +ℤ pos days }
+{
+    Day {
+        number: day.number + i64::from(days),
+        year: day.year,
+        month: day.month,
+        day_of_month: day.day_of_month + days,
+        days_in_month: day.days_in_month,
+        day_of_year: day.day_of_year + u16::from(days),
+        days_in_year: day.days_in_year,
+        weekday: (day.weekday + days % 7) % 7,
+    }
+}

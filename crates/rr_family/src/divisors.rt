@@ -1,0 +1,207 @@
+// By multiples of which numbers the occupied units of a set lie apart, which tells the intervals that a rule of it can have.
+ghost use Rattle.std.specs.Prelude.{◌≡◌, ◌≤◌, ◌<◌, IsTrue, get_or, ℕ, pos, ◌+ℤ◌, ◌≤ℤ◌};
+ghost use Rattle.std.specs.Int.{IsGcd};
+ghost use Rattle.rr_family.specs.Divisors.{AreDivisors, HasDivisors, IsFinite, IsJoined, IsLeftOut, ReachesEnd, divisor_of, units_apart};
+ghost use Rattle.rr_family.specs.Lasting.{is_occupied};
+ghost use Rattle.rr_family.specs.Walks.{IsNearWindow};
+ghost use Rattle.rr_model.specs.Moment.Units.{is_whole_days, unit_number};
+ghost use Rattle.rr_model.specs.Sets.Sketch.{IsNearDay};
+ghost use Rattle.rr_model.specs.declared.kind.Kind.TheVariants.{Days};
+ghost use Rattle.rr_model.specs.declared.rule.Freq.TheVariants.{Weekly};
+
+use crate::window::{Window, WindowEnd, day_after, days_known, days_through, next_occupied};
+use rr_cal::{Day, unit_of_day};
+use rr_model::Freq;
+use rr_num::gcd;
+use rr_word::DaySeq;
+
+// How many days more of an endless set are read than the first whole period, so that short periods are told apart by months
+// and years.
+const MORE_DAYS: u64 = 366;
+
+/// The greatest numbers by multiples of which the units of a set's occupied days lie from that of the first one; 0 where
+/// all of them lie in one unit.
+///
+/// A rule or pattern of the set has an interval that divides the number of its unit.
+#[derive(Clone, Copy, Debug, PartialEq, Eq)]
+pub struct Divisors {
+    /// Of days.
+    pub days: u64,
+    /// Of weeks, by the weekday on which they begin, from 0 for Monday.
+    pub weeks: [u64; 7],
+    /// Of months.
+    pub months: u64,
+    /// Of years.
+    pub years: u64,
+}
+
+/// The divisors of a set whose window this is.
+///
+/// The days of a finite set are read up to the last one, and those of an endless one up to a year after the first whole
+/// period; none is read after all divisors are 1. It takes no memory.
+pub fn divisors_of<A: DaySeq>(seq: &A, window: &Window) -> Divisors
+    requires { IsNearWindow window.now }
+    ensures { HasDivisors (A.sketch seq.now) window.now result }
+{
+    divisors_within(seq, window.first, days_joined(seq, window))
+}
+
+// The divisors of `days` days from the first one on.
+fn divisors_within<A: DaySeq>(seq: &A, first: i64, days: u64) -> Divisors
+    requires near { IsNearDay first }
+    requires few { days ≤ 3_000_000_366 }
+    ensures { AreDivisors result (is_occupied (A.sketch seq.now)) first days }
+{
+    let start = Day::new(first);
+    let mut divisors = Divisors::of_one_day();
+    let mut read = 0;
+    while read < days {
+        let Some(number) = next_occupied(seq, day_after(first, read), days - read) else {
+            return divisors;
+        };
+        divisors = divisors.joined(&start, &Day::new(number));
+        if divisors.are_one() {
+            return divisors;
+        }
+        read = days_through(first, number);
+    }
+    divisors
+}
+
+// How many days from the first one on are read.
+fn days_joined<A: DaySeq>(seq: &A, window: &Window) -> u64
+    requires { IsNearWindow window.now }
+    ensures all { ReachesEnd window.now.first window.now.end result }
+    ensures few { result ≤ 3_000_000_366 }
+{
+    match window.end {
+        WindowEnd::Last { day, .. } => (day - window.first + 1).unsigned_abs(),
+        WindowEnd::Cycle { .. } => days_known(seq, window.first) + MORE_DAYS,
+    }
+}
+
+impl Divisors {
+    /// The divisor of the units of a frequency, DAILY or coarser; weeks begin on the weekday `week_start`, from 0 for
+    /// Monday to 6 for Sunday.
+    pub fn of_unit(&self, freq: Freq, week_start: u8) -> u64
+        requires { week_start < 7 }
+        ensures { result ≡ divisor_of self.now freq week_start }
+    {
+        match freq {
+            Freq::Weekly => self.weeks[usize::from(week_start)],
+            Freq::Monthly => self.months,
+            Freq::Yearly => self.years,
+            Freq::Secondly | Freq::Minutely | Freq::Hourly | Freq::Daily => self.days,
+        }
+    }
+
+    /// Whether they tell that no rule or pattern of this interval has the set, where none of a lesser one has it: its
+    /// interval does not divide the number of its units, or all days of a finite set lie in one unit, so that each interval
+    /// has those of interval 1.
+    pub fn leave_out(&self, end: WindowEnd, freq: Freq, week_start: u8, interval: u32) -> bool
+        requires week { week_start < 7 }
+        requires interval { 1 ≤ interval }
+        ensures { IsTrue result → IsLeftOut end (divisor_of self.now freq week_start) interval }
+    {
+        is_left_out(end, self.of_unit(freq, week_start), interval)
+    }
+
+    // Those of one day alone.
+    fn of_one_day() -> Self
+        ensures { (freq : Freq) (w : ℕ) → divisor_of result freq w ≡ 0 }
+    {
+        Divisors {
+            days: 0,
+            weeks: [0; 7],
+            months: 0,
+            years: 0,
+        }
+    }
+
+    // Those of one more occupied day.
+    fn joined(&self, start: &Day, day: &Day) -> Self
+        ensures { IsJoined self.now start.now.number day.now.number result }
+    {
+        let days = self.joined_unit(Freq::Daily, 0, start, day);
+        let weeks = self.joined_weeks(start, day);
+        let months = self.joined_unit(Freq::Monthly, 0, start, day);
+        let years = self.joined_unit(Freq::Yearly, 0, start, day);
+        Divisors {
+            days,
+            weeks,
+            months,
+            years,
+        }
+    }
+
+    // Those of weeks.
+    fn joined_weeks(&self, start: &Day, day: &Day) -> [u64; 7]
+        ensures { (w : ℕ) → w < 7 → IsGcd (divisor_of self.now Weekly w) (units_apart (unit_number Weekly w Days) start.now.number day.now.number) (get_or result w 0) }
+    {
+        [
+            self.joined_unit(Freq::Weekly, 0, start, day),
+            self.joined_unit(Freq::Weekly, 1, start, day),
+            self.joined_unit(Freq::Weekly, 2, start, day),
+            self.joined_unit(Freq::Weekly, 3, start, day),
+            self.joined_unit(Freq::Weekly, 4, start, day),
+            self.joined_unit(Freq::Weekly, 5, start, day),
+            self.joined_unit(Freq::Weekly, 6, start, day),
+        ]
+    }
+
+    // That of the units of a frequency.
+    fn joined_unit(&self, freq: Freq, week_start: u8, start: &Day, day: &Day) -> u64
+        requires whole { IsTrue (is_whole_days freq) }
+        requires week { week_start < 7 }
+        ensures { IsGcd (divisor_of self.now freq week_start) (units_apart (unit_number freq week_start Days) start.now.number day.now.number) result }
+    {
+        let divisor = self.of_unit(freq, week_start);
+        if divisor == 1 {
+            return 1;
+        }
+        common_divisor(divisor, units_apart(freq, week_start, start, day))
+    }
+
+    // Whether all are 1, which no day changes.
+    fn are_one(&self) -> bool
+        ensures { IsTrue result → (freq : Freq) (w : ℕ) → w < 7 → divisor_of self.now freq w ≡ 1 }
+    {
+        self.days == 1 && self.weeks == [1; 7] && self.months == 1 && self.years == 1
+    }
+}
+
+// How many units of a frequency the two days lie apart.
+fn units_apart(freq: Freq, week_start: u8, start: &Day, day: &Day) -> u64
+    requires { IsTrue (is_whole_days freq) }
+    ensures { result ≡ units_apart (unit_number freq week_start Days) start.now.number day.now.number }
+{
+    unit_of_day(freq, week_start, day).abs_diff(unit_of_day(freq, week_start, start))
+}
+
+// The greatest common divisor, which is 0 where both are.
+fn common_divisor(a: u64, b: u64) -> u64
+    ensures { IsGcd a b result }
+{
+    if b == 0 { a } else { gcd(a, b) }
+}
+
+// Whether a divisor leaves an interval out.
+fn is_left_out(end: WindowEnd, divisor: u64, interval: u32) -> bool
+    requires { 1 ≤ interval }
+    ensures { IsTrue result → IsLeftOut end divisor interval }
+{
+    if divisor == 0 {
+        return 1 < interval && is_finite(end);
+    }
+    divisor % u64::from(interval) != 0
+}
+
+// Whether a set has a last day.
+fn is_finite(end: WindowEnd) -> bool
+    ensures { IsTrue result → IsFinite end }
+{
+    match end {
+        WindowEnd::Last { .. } => true,
+        WindowEnd::Cycle { .. } => false,
+    }
+}

@@ -1,0 +1,305 @@
+-- Which patterns the divisors of a set's units leave out, and which have the days of an earlier one.
+use Rattle.std.proofs.Common.{◌≡◌, ℕ, ◌+◌, ◌%◌, ◌<◌, ◌≤◌, Bool, true, false, not, ◌&&◌, IsTrue, ℤ, ◌-ℤ◌, ◌≤ℤ◌, inl, inr, refl, sym, ap, subst, ◌∙◌, arith}
+use Rattle.std.specs.Prelude.{None, nat_lt}
+use Rattle.std.specs.Int.{◌∣◌}
+use Rattle.std.proofs.lemmas.Int.{ints, by_lt_z}
+use Rattle.std.proofs.lemmas.Bool.{cases_eq, cases_lt, false≢true}
+use Rattle.std.proofs.lemmas.Bool.Decides.{nat_tests}
+use Rattle.std.proofs.lemmas.Nat.{mod_below}
+use Rattle.rr_check.proofs.RuleCycleLemmas.{interval_cycle_some}
+use Rattle.rr_model.specs.Graph.Counterpart.{form_freq}
+use Rattle.rr_model.specs.Graph.Occurrences.{form_holds, is_pattern_day, period_of}
+use Rattle.rr_model.specs.Graph.Uses.{most_interval, uses_first_day}
+use Rattle.rr_model.specs.Graph.Validity.{IsValidPattern, LiesIfUsed}
+use Rattle.rr_model.specs.Moment.Units.{is_whole_days, unit_number}
+use Rattle.rr_model.specs.Rule.Validity.{is_absent}
+use Rattle.rr_model.specs.Sets.Least.{IsLeastStart}
+use Rattle.rr_model.specs.Sets.Sketch.{times_on}
+use Rattle.rr_model.specs.Whole.{divides}
+use Rattle.rr_model.specs.declared.graph.Form.{Form}
+use Rattle.rr_model.specs.declared.graph.Form.TheVariants as form
+use Rattle.rr_model.specs.declared.graph.Pattern.{Pattern}
+use Rattle.rr_model.specs.declared.kind.Kind.TheVariants.{Days}
+use Rattle.rr_model.specs.declared.rule.Freq.{Freq}
+use Rattle.rr_model.specs.declared.sketch.Sketch.{Sketch}
+use Rattle.rr_family.specs.DaySets.{window_days}
+use Rattle.rr_family.specs.Divisors.{HasDivisors, IsFinite, IsLeftOut, ReachesEnd, divisor_of}
+use Rattle.rr_family.specs.Lasting.{is_occupied}
+use Rattle.rr_family.specs.Shift.{form_cycle}
+use Rattle.rr_family.specs.Taking.{AgreeWithin}
+use Rattle.rr_family.specs.Windows.{HasWindow, IsWindowEnd}
+use Rattle.rr_family.specs.declared.divisors.Divisors.{Divisors}
+use Rattle.rr_family.specs.declared.window.Window.{Window}
+use Rattle.rr_family.specs.declared.window.WindowEnd.{WindowEnd}
+use Rattle.rr_family.specs.declared.window.WindowEnd.TheVariants.{Last, Cycle}
+use Rattle.rr_family.proofs.DivisorLemmas.{divides_none, interval_divides, one_divides, one_unit}
+use Rattle.rr_family.proofs.LastingLemmas.{agreement_on_cycle_lasts}
+use Rattle.rr_family.proofs.ProfileLemmas.{last_is_late}
+use Rattle.rr_family.proofs.ShiftLemmas.{pattern_repeats}
+use Rattle.rr_graphfind.specs.Order.{IsFirstWith, NoneOfLess, SameMembers}
+use Rattle.rr_graphfind.specs.Search.{ArePlaces, EndsAfter, FitsEnd, Matches, days_compared}
+use Rattle.rr_graphfind.specs.declared.members.Places.{Places}
+use Rattle.rr_graphfind.proofs.MemberLemmas.{counts_in, day_most, form_is, one_week_day}
+use Rattle.rr_graphfind.proofs.OrderLemmas.{NoneBelow, member_at}
+
+-- ---- periods
+
+period_is : (f : Form) (w : ℕ) (d : ℤ) → unit_number (form_freq f) w Days d ≡ period_of f w d
+period_is form.Daily w d = refl
+period_is form.Weekly w d = refl
+period_is form.AbsoluteMonthly w d = refl
+period_is form.RelativeMonthly w d = refl
+period_is form.AbsoluteYearly w d = refl
+period_is form.RelativeYearly w d = refl
+
+whole : (f : Form) → IsTrue (is_whole_days (form_freq f))
+whole form.Daily = refl
+whole form.Weekly = refl
+whole form.AbsoluteMonthly = refl
+whole form.RelativeMonthly = refl
+whole form.AbsoluteYearly = refl
+whole form.RelativeYearly = refl
+
+pub few_intervals : (f : Form) → most_interval f ≤ 999
+few_intervals form.Daily = omega arith
+few_intervals form.Weekly = omega arith
+few_intervals form.AbsoluteMonthly = omega arith
+few_intervals form.RelativeMonthly = omega arith
+few_intervals form.AbsoluteYearly = omega arith
+few_intervals form.RelativeYearly = omega arith
+
+pub ends_after : (s : Sketch) (w : Window) → HasWindow s w → EndsAfter w.first w.end
+ends_after s w has = of_end w.end has.end
+  where
+    of_end : (end : WindowEnd) → IsWindowEnd s w.first end → EndsAfter w.first end
+    of_end (Last day many) ends = last_is_late s w.first day has.one_second.first_day ends.0
+    of_end (Cycle period from) ends = tt
+
+-- ---- a pattern with another interval or first day of the week
+
+abbrev with_start : Pattern → ℕ → ℕ → Pattern
+with_start p interval first_day = record {
+  form = p.form;
+  interval = interval;
+  day_of_month = p.day_of_month;
+  month = p.month;
+  days = p.days;
+  first_day = first_day;
+  index = p.index;
+}
+
+form_same : (f : Form) (p : Pattern) (interval first_day : ℕ) (d : ℤ) → form_holds f (with_start p interval first_day) d ≡ form_holds f p d
+form_same form.Daily p interval first_day d = refl
+form_same form.Weekly p interval first_day d = refl
+form_same form.AbsoluteMonthly p interval first_day d = refl
+form_same form.RelativeMonthly p interval first_day d = refl
+form_same form.AbsoluteYearly p interval first_day d = refl
+form_same form.RelativeYearly p interval first_day d = refl
+
+-- where both periods count, the day is one of both or of none
+same_day : (p : Pattern) (interval first_day : ℕ) (first d : ℤ)
+    → divides interval (period_of p.form first_day d -ℤ period_of p.form first_day first) ≡ true
+    → divides p.interval (period_of p.form p.first_day d -ℤ period_of p.form p.first_day first) ≡ true
+    → is_pattern_day (with_start p interval first_day) first d ≡ is_pattern_day p first d
+unfolding is_pattern_day
+same_day p interval first_day first d a b =
+    ap (λ t. t && form_holds p.form (with_start p interval first_day) d) a ∙ form_same p.form p interval first_day d ∙ ap (λ t. t && form_holds p.form p d) (sym b)
+
+some_interval : (f : Form) → 1 ≤ most_interval f
+some_interval form.Daily = omega arith
+some_interval form.Weekly = omega arith
+some_interval form.AbsoluteMonthly = omega arith
+some_interval form.RelativeMonthly = omega arith
+some_interval form.AbsoluteYearly = omega arith
+some_interval form.RelativeYearly = omega arith
+
+-- ---- a pattern that matches
+
+module _ (s : Sketch) (w : Window) (has : HasWindow s w) (p : Pattern) (m : Matches s w p) where
+  abbrev cycle : ℕ
+  cycle = form_cycle p.form p.interval
+
+  -- it has each occupied day
+  on_pattern : (d : ℤ) → w.first ≤ℤ d → is_occupied s d ≡ true → is_pattern_day p w.first d ≡ true
+  on_pattern d l o = of_end w.end has.end m.fits m.agrees.agree
+    where
+      of_end : (end : WindowEnd) → IsWindowEnd s w.first end → FitsEnd end w.first cycle
+          → AgreeWithin (is_pattern_day p w.first) (is_occupied s) w.first (days_compared end w.first cycle) → is_pattern_day p w.first d ≡ true
+      of_end (Last day many) ends fits agree =
+          by_lt_z {P = is_pattern_day p w.first d ≡ true} day d
+          (λ late. absurd (false≢true (sym (ap (λ times. not (is_absent times)) (ends.0.none_after d late)) ∙ o)))
+          (λ g. agree d l (omega (arith, ints, g, l)) ∙ o)
+      of_end (Cycle period from) ends fits agree =
+          let high = m.agrees.valid.interval_high in
+          agreement_on_cycle_lasts s w.first cycle (is_pattern_day p w.first)
+          record {
+            some = interval_cycle_some (form_freq p.form) p.interval m.agrees.valid.interval_low;
+            period = period;
+            is_period = ends.1;
+            divides = fits.0;
+            start = subst (λ q. IsLeastStart (times_on s) w.first period q) fits.1 ends.2;
+          }
+          (pattern_repeats p w.first m.agrees.valid (omega (arith, high, few_intervals p.form))) agree d l ∙ o
+
+  in_unit : (d : ℤ) → w.first ≤ℤ d → is_occupied s d ≡ true
+      → divides p.interval (unit_number (form_freq p.form) p.first_day Days d -ℤ unit_number (form_freq p.form) p.first_day Days w.first) ≡ true
+  in_unit d l o =
+      ap (λ x. divides p.interval (x -ℤ unit_number (form_freq p.form) p.first_day Days w.first)) (period_is p.form p.first_day d)
+      ∙ ap (λ x. divides p.interval (period_of p.form p.first_day d -ℤ x)) (period_is p.form p.first_day w.first)
+      ∙ counts_in p w.first d (on_pattern d l o)
+
+  week_start : p.first_day < 7
+  week_start = (let most = day_most (uses_first_day p.form) p.first_day m.agrees.valid.first_day in omega (arith, most))
+
+  -- with the first day of the week that comes first, where each week counts
+  abbrev from_sunday : Pattern
+  from_sunday = with_start p p.interval 6
+
+  pub sunday_matches : p.interval ≡ 1 → Matches s w from_sunday
+  sunday_matches one = record {
+    fits = m.fits;
+    agrees = record {
+      valid = record {
+        interval_low = m.agrees.valid.interval_low;
+        interval_high = m.agrees.valid.interval_high;
+        days = m.agrees.valid.days;
+        first_day = six (uses_first_day p.form);
+        index = m.agrees.valid.index;
+        day_of_month = m.agrees.valid.day_of_month;
+        month = m.agrees.valid.month;
+      };
+      agree = λ d l h. same_day p p.interval 6 w.first d (all _) (all _) ∙ m.agrees.agree d l h;
+    };
+  }
+    where
+      six : (used : Bool) → LiesIfUsed used 0 6 6 6
+      six true = (omega arith, omega arith)
+      six false = refl
+
+      all : (z : ℤ) → divides p.interval z ≡ true
+      all z = ap (λ n. divides n z) one ∙ one_divides z
+
+  module _ (divisors : Divisors) (known : HasDivisors s w divisors) where
+    pub interval_of_pattern_divides : p.interval ∣ divisor_of divisors (form_freq p.form) p.first_day
+    interval_of_pattern_divides =
+        interval_divides s w.first known.days divisors (form_freq p.form) p.first_day p.interval known.are (whole p.form) week_start
+        m.agrees.valid.interval_low in_unit
+
+    -- where all days up to the last one lie in one period, the pattern of interval 1 matches too
+    pub interval_one_matches : (last : ℤ) (many : ℕ) → w.end ≡ Last last many → divisor_of divisors (form_freq p.form) p.first_day ≡ 0
+        → Matches s w (with_start p 1 p.first_day)
+    interval_one_matches last many is zero = record {
+      fits = subst (λ end. FitsEnd end w.first (form_cycle p.form 1)) (sym is) tt;
+      agrees = record {
+        valid = record {
+          interval_low = omega arith;
+          interval_high = some_interval p.form;
+          days = m.agrees.valid.days;
+          first_day = m.agrees.valid.first_day;
+          index = m.agrees.valid.index;
+          day_of_month = m.agrees.valid.day_of_month;
+          month = m.agrees.valid.month;
+        };
+        agree = subst (λ end. AgreeWithin (is_pattern_day (with_start p 1 p.first_day) w.first) (is_occupied s) w.first (days_compared end w.first (form_cycle p.form 1)))
+            (sym is) (λ d l h.
+            let before : d ≤ℤ last = omega (arith, ints, h, late) in
+            let same = in_first_period d l before in
+            same_day p 1 p.first_day w.first d (divides_none 1 _ _ same) (divides_none p.interval _ _ same) ∙ agree d l h);
+      };
+    }
+      where
+        ends : IsWindowEnd s w.first (Last last many)
+        ends = subst (λ end. IsWindowEnd s w.first end) is has.end
+
+        late : w.first ≤ℤ last
+        late = last_is_late s w.first last has.one_second.first_day ends.0
+
+        reaches : known.days ≡ window_days w.first last
+        reaches = subst (λ end. ReachesEnd w.first end known.days) is known.reaches_end
+
+        agree : AgreeWithin (is_pattern_day p w.first) (is_occupied s) w.first (window_days w.first last)
+        agree = subst (λ end. AgreeWithin (is_pattern_day p w.first) (is_occupied s) w.first (days_compared end w.first cycle)) is m.agrees.agree
+
+        in_first_period : (d : ℤ) → w.first ≤ℤ d → d ≤ℤ last → period_of p.form p.first_day d ≡ period_of p.form p.first_day w.first
+        in_first_period d l h =
+            sym (period_is p.form p.first_day d)
+            ∙ one_unit s w.first last known.days divisors (form_freq p.form) p.first_day known.are (whole p.form) week_start zero ends.0.occupied late
+            (omega (arith, ints, reaches, late)) d l h
+            ∙ period_is p.form p.first_day w.first
+
+-- ---- none with these members
+
+-- of the patterns with the draft's first three members none matches, where the divisor of their periods leaves the interval out
+pub none_left_out : (s : Sketch) (w : Window) (divisors : Divisors) (draft : Pattern) (freq : Freq) → HasWindow s w → HasDivisors s w divisors
+    → IsValidPattern draft → freq ≡ form_freq draft.form → NoneOfLess (Matches s w) draft.interval
+    → IsLeftOut w.end (divisor_of divisors freq draft.first_day) draft.interval → IsFirstWith 3 draft (Matches s w) None
+none_left_out s w divisors draft freq has known valid is below out q h = by_case out
+  where
+    m : Matches s w q
+    m = h.1
+
+    same_form : q.form ≡ draft.form
+    same_form = form_is q.form draft.form h.0.1.0
+
+    same_week : q.first_day ≡ draft.first_day
+    same_week = one_week_day q.first_day draft.first_day (day_most (uses_first_day q.form) q.first_day m.agrees.valid.first_day)
+        (day_most (uses_first_day draft.form) draft.first_day valid.first_day) h.0.1.1.0
+
+    same_divisor : divisor_of divisors (form_freq q.form) q.first_day ≡ divisor_of divisors freq draft.first_day
+    same_divisor = ap (λ f. divisor_of divisors (form_freq f) q.first_day) same_form ∙ ap (divisor_of divisors (form_freq draft.form)) same_week
+        ∙ ap (λ f. divisor_of divisors f draft.first_day) (sym is)
+
+    by_end : (end : WindowEnd) → w.end ≡ end → IsFinite end → divisor_of divisors freq draft.first_day ≡ 0 → 1 < draft.interval → ⊥
+    by_end (Cycle period from) e finite zero more = finite
+    by_end (Last last many) e finite zero more =
+        below (with_start q 1 q.first_day) (interval_one_matches s w has q m divisors known last many e (same_divisor ∙ zero)) more
+
+    by_case : IsLeftOut w.end (divisor_of divisors freq draft.first_day) draft.interval → ⊥
+    by_case (inl apart) = apart (subst (λ n. n ∣ divisor_of divisors freq draft.first_day) h.0.0
+        (subst (λ g. q.interval ∣ g) same_divisor (interval_of_pattern_divides s w has q m divisors known)))
+    by_case (inr one) = by_end w.end refl one.2 one.0 one.1
+
+-- ---- first days of the week
+
+-- a first day that is tried is one that the type may have
+pub week_start_lies : (used uses : Bool) (interval place : ℕ) → used ≡ (uses && nat_lt 1 interval) → LiesIfUsed used 0 6 0 place → LiesIfUsed uses 0 6 0 place
+week_start_lies true true interval place e h = h
+week_start_lies true false interval place e h = absurd (false≢true (sym e))
+week_start_lies false true interval place e h = (omega arith, omega (arith, h))
+week_start_lies false false interval place e h = h
+
+-- Sunday comes first
+pub sunday_first : (used : Bool) (places : Places) → ArePlaces used 0 6 0 places → (places.from ≤ 0) × (0 < places.to)
+sunday_first true places are = (are 0).0 (omega arith, omega arith)
+sunday_first false places are = (are 0).0 refl
+
+-- all first days are tried that can have another pattern
+pub week_start_below : (s : Sketch) (w : Window) (draft : Pattern) (used : Bool) (places : Places) (place : ℕ) → HasWindow s w
+    → used ≡ (uses_first_day draft.form && nat_lt 1 draft.interval) → ArePlaces used 0 6 0 places → places.to ≤ place → NoneBelow 2 draft (Matches s w) place
+    → (q : Pattern) → SameMembers 2 q draft → Matches s w q → member_at 2 q < place
+week_start_below s w draft used places place has e are past below q same m =
+    elim (cases_eq ((q.first_day + 1) % 7) 0) [
+      | inl sunday ↦ (let first = (sunday_first used places are).1 in omega (arith, sunday, first, past))
+      | inr other ↦ elim (cases_lt 1 draft.interval) [
+        | inl more ↦ (let t : nat_lt 1 draft.interval ≡ true = grind (arith, nat_tests) in
+            tried (uses_first_day q.form) q.first_day m.agrees.valid.first_day other
+            (e ∙ ap (λ b. uses_first_day draft.form && b) t ∙ and_true (uses_first_day draft.form) ∙ ap uses_first_day (sym same_form)))
+        | inr few ↦ absurd (below (with_start q q.interval 6) same (sunday_matches s w has q m (let low = m.agrees.valid.interval_low in let i =
+            same.0 in omega (arith, low, few, i))) (let first = (sunday_first used places are).1 in omega (arith, first, past)))
+      ]
+    ]
+  where
+    same_form : q.form ≡ draft.form
+    same_form = form_is q.form draft.form same.1.0
+
+    and_true : (b : Bool) → (b && true) ≡ b
+    and_true true = refl
+    and_true false = refl
+
+    tried : (uses : Bool) (n : ℕ) → LiesIfUsed uses 0 6 6 n → ((n + 1) % 7 ≡ 0 → ⊥) → used ≡ uses → (n + 1) % 7 < place
+    tried true n h other same_use =
+        let few = mod_below (n + 1) 7 (omega arith) in
+        let within = (subst (λ u. LiesIfUsed u 0 6 0 ((n + 1) % 7) → (places.from ≤ (n + 1) % 7) × ((n + 1) % 7 < places.to)) same_use (are ((n + 1) % 7)).0
+        (omega arith, omega (arith, few))).1 in
+        omega (arith, within, past)
+    tried false n h other same_use = absurd (other (ap (λ k. (k + 1) % 7) h))

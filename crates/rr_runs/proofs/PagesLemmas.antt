@@ -1,0 +1,442 @@
+-- A list of numbers that is kept in pages.
+use Rattle.std.proofs.Common.{◌≡◌, inl, inr, ℕ, zero, suc, ◌+◌, ◌*◌, ◌-◌, ◌/◌, ◌%◌, ◌<◌, ◌≤◌, min, true, false, List, [], ◌∷◌, ◌++◌, length, get_or, take, drop, replicate, refl, sym, ap, ◌∙◌, append_assoc, append-nil, arith, length-append, length-drop}
+use Rattle.std.proofs.lemmas.List.{get_or-drop, get_or-take, length-take, length-take-le, drop-append-le, drop-drop, take-append-le, take_all, get_or-append-add, ext_get_or, get_or-replicate, length-replicate, replicate-append-replicate, take-replicate}
+use Rattle.std.proofs.Math.ListN.{get_or-append}
+use Rattle.std.proofs.Math.Seq.{drop-append_seam, get_or-append_seam, take-add, take-length}
+use Rattle.std.proofs.lemmas.Bool.{cases_lt}
+use Rattle.rr_runs.specs.Pages.{ArePages, HasAgain, IsGrown, IsPageOf, IsPaged, IsPiece, IsZeroFrom, IsZeroPage, page_numbers, paged, repeated}
+
+length_page : (pool : List ℕ) (p : ℕ) → p + 63 ≤ length pool → length (page_numbers pool p) ≡ 63
+length_page pool p h = simp (length-take, length-drop) (omega arith)
+
+page_at : (pool : List ℕ) (p r : ℕ) → r < 63 → get_or (page_numbers pool p) r 0 ≡ get_or pool (p + r) 0
+page_at pool p r h = get_or-take 63 (drop p pool) r 0 h ∙ get_or-drop p pool r 0
+
+later_pages : (pool : List ℕ) (p : ℕ) (pages : List ℕ) → ArePages pool (p ∷ pages) → ArePages pool pages
+later_pages pool p pages stand k h = stand (suc k) (omega arith)
+
+pub length_paged : (pool pages : List ℕ) → ArePages pool pages → length (paged pool pages) ≡ length pages * 63
+length_paged pool [] stand = refl
+length_paged pool (p ∷ pages) stand =
+    let page = length_page pool p (stand 0 (omega arith)) in
+    let rest = length_paged pool pages (later_pages pool p pages stand) in
+    simp length-append (omega (arith, page, rest))
+
+-- a number of the list stands in its page of the pool
+pub paged_at : (pool pages : List ℕ) → ArePages pool pages → (i r : ℕ) → i < length pages → r < 63
+    → get_or (paged pool pages) (i * 63 + r) 0 ≡ get_or pool (get_or pages i 0 + r) 0
+paged_at pool [] stand i r l s = absurd (omega arith)
+paged_at pool (p ∷ pages) stand zero r l s =
+    let page = length_page pool p (stand 0 (omega arith)) in
+    let at : 0 * 63 + r ≡ r = omega arith in
+    ap (λ k. get_or (page_numbers pool p ++ paged pool pages) k 0) at
+    ∙ get_or-append (page_numbers pool p) (paged pool pages) 0 r (omega (arith, page))
+    ∙ page_at pool p r s
+paged_at pool (p ∷ pages) stand (suc i) r l s =
+    let page = length_page pool p (stand 0 (omega arith)) in
+    let at : suc i * 63 + r ≡ length (page_numbers pool p) + (i * 63 + r) = omega (arith, page) in
+    ap (λ k. get_or (page_numbers pool p ++ paged pool pages) k 0) at
+    ∙ get_or-append-add (page_numbers pool p) (paged pool pages) (i * 63 + r) 0
+    ∙ paged_at pool pages (later_pages pool p pages stand) i r (omega arith) s
+
+-- a pool that has grown has the same pages
+page_stays : (pool more : List ℕ) (p : ℕ) → p + 63 ≤ length pool → page_numbers (pool ++ more) p ≡ page_numbers pool p
+page_stays pool more p h =
+    ap (take 63) (drop-append-le p pool more (omega arith))
+    ∙ take-append-le 63 (drop p pool) more (simp length-drop (omega arith))
+
+pub paged_stays : (pool more pages : List ℕ) → ArePages pool pages → paged (pool ++ more) pages ≡ paged pool pages
+paged_stays pool more [] stand = refl
+paged_stays pool more (p ∷ pages) stand =
+    ap (λ (l : List ℕ). l ++ paged (pool ++ more) pages) (page_stays pool more p (stand 0 (omega arith)))
+    ∙ ap (λ (l : List ℕ). page_numbers pool p ++ l) (paged_stays pool more pages (later_pages pool p pages stand))
+
+pub paged-append : (pool pages : List ℕ) (p : ℕ) → paged pool (pages ++ p ∷ []) ≡ paged pool pages ++ page_numbers pool p
+paged-append pool [] p = append-nil (page_numbers pool p)
+paged-append pool (q ∷ pages) p = rw append_assoc (ap (λ (l : List ℕ). page_numbers pool q ++ l) (paged-append pool pages p))
+
+-- numbers that were put at the end are a page
+pub new_page : (old numbers new : List ℕ) (page : ℕ) → new ≡ old ++ numbers → page ≡ length old → length numbers ≡ 63 → IsPageOf new numbers page
+new_page old numbers new page e ep whole = record {
+  within = omega (arith, ap length e ∙ length-append old numbers);
+  same =
+      ap (λ (l : List ℕ). take 63 (drop page l)) e
+      ∙ ap (λ n. take 63 (drop n (old ++ numbers))) ep
+      ∙ ap (take 63) (drop-append_seam old numbers)
+      ∙ ap (λ n. take n numbers) (sym whole)
+      ∙ take-length numbers;
+}
+
+-- ---- as the code has them
+
+module _ (pool pages rest numbers : List ℕ) (view : numbers ≡ paged pool pages ++ rest) (is : IsPaged pool pages rest) where
+  pub length_numbers : length numbers ≡ length pages * 63 + length rest
+  length_numbers = ap length view ∙ length-append (paged pool pages) rest ∙ ap (λ (n : ℕ). n + length rest) (length_paged pool pages is.stand)
+
+  -- the rest of a page of the pool
+  pub piece_of_page : (place page i r : ℕ) (row : List ℕ) → place ≡ i * 63 + r → r < 63 → i < length pages → page ≡ get_or pages i 0
+      → row ≡ take (63 - r) (drop (page + r) pool) → IsPiece numbers place row
+  piece_of_page place page i r row at s l e er =
+      let stands : page + 63 ≤ length pool = rw e (is.stand i l) in
+      let many : length row ≡ 63 - r = ap length er ∙ simp (length-take, length-drop) (omega arith) in
+      record {
+        some = omega (arith, many);
+        within = omega (arith, many, length_numbers);
+        same = λ k h.
+            let left : k < 63 - r = omega (arith, many) in
+            let in_list : place + k ≡ i * 63 + (r + k) = omega arith in
+            let before : i * 63 + (r + k) < length (paged pool pages) = omega (arith, length_paged pool pages is.stand) in
+            let sum : (page + r) + k ≡ page + (r + k) = omega arith in
+            ap (λ (xs : List ℕ). get_or xs k 0) er
+            ∙ get_or-take (63 - r) (drop (page + r) pool) k 0 left
+            ∙ get_or-drop (page + r) pool k 0
+            ∙ ap (λ j. get_or pool j 0) sum
+            ∙ ap (λ p. get_or pool (p + (r + k)) 0) e
+            ∙ sym (paged_at pool pages is.stand i (r + k) l (omega arith))
+            ∙ sym (get_or-append (paged pool pages) rest 0 (i * 63 + (r + k)) before)
+            ∙ ap (λ (xs : List ℕ). get_or xs (i * 63 + (r + k)) 0) (sym view)
+            ∙ ap (λ j. get_or numbers j 0) (sym in_list);
+      }
+
+  -- the numbers after the last page
+  pub piece_of_rest : (place j : ℕ) (row : List ℕ) → place ≡ length pages * 63 + j → place < length numbers → row ≡ drop j rest → IsPiece numbers place row
+  piece_of_rest place j row at l er =
+      let many : length row ≡ length rest - j = ap length er ∙ length-drop j rest in
+      let all = length_numbers in
+      let whole = length_paged pool pages is.stand in
+      record {
+        some = omega (arith, many, all);
+        within = omega (arith, many, all);
+        same = λ k h.
+            let in_list : place + k ≡ length (paged pool pages) + (j + k) = omega (arith, whole) in
+            ap (λ (xs : List ℕ). get_or xs k 0) er
+            ∙ get_or-drop j rest k 0
+            ∙ sym (get_or-append-add (paged pool pages) rest (j + k) 0)
+            ∙ ap (λ (xs : List ℕ). get_or xs (length (paged pool pages) + (j + k)) 0) (sym view)
+            ∙ ap (λ i. get_or numbers i 0) (sym in_list);
+      }
+
+-- a page more, in place of the numbers after the last page
+pub closed : (pool pool' pages pages' rest rest' : List ℕ) (page : ℕ) → IsPaged pool pages rest → IsGrown pool pool' → IsPageOf pool' rest page
+    → pages' ≡ pages ++ page ∷ [] → rest' ≡ [] → paged pool' pages' ++ rest' ≡ paged pool pages ++ rest
+closed pool pool' pages pages' rest rest' page is (more, grown) of ep er =
+    let kept : paged pool' pages ≡ paged pool pages = rw grown (paged_stays pool more pages is.stand) in
+    ap (λ (l : List ℕ). paged pool' l ++ rest') ep
+    ∙ ap (λ (l : List ℕ). paged pool' (pages ++ page ∷ []) ++ l) er
+    ∙ append-nil (paged pool' (pages ++ page ∷ []))
+    ∙ paged-append pool' pages page
+    ∙ ap (λ (l : List ℕ). l ++ page_numbers pool' page) kept
+    ∙ ap (λ (l : List ℕ). paged pool pages ++ l) of.same
+
+-- the pages of a pool that has grown
+pub pages_stand : (pool pool' pages : List ℕ) → ArePages pool pages → IsGrown pool pool' → ArePages pool' pages
+pages_stand pool pool' pages stand (more, grown) k h = omega (arith, ap length grown ∙ length-append pool more, stand k h)
+
+pub paged_in_grown : (pool pool' pages rest : List ℕ) → IsPaged pool pages rest → IsGrown pool pool' → paged pool' pages ++ rest ≡ paged pool pages ++ rest
+paged_in_grown pool pool' pages rest is (more, grown) =
+    let kept : paged pool' pages ≡ paged pool pages = rw grown (paged_stays pool more pages is.stand) in
+    ap (λ (l : List ℕ). l ++ rest) kept
+
+pub more_pages : (pool pages pages' : List ℕ) (page : ℕ) → ArePages pool pages → page + 63 ≤ length pool → pages' ≡ pages ++ page ∷ [] → ArePages pool pages'
+more_pages pool pages pages' page stand within e k h =
+    let many : length pages' ≡ length pages + 1 = ap length e ∙ length-append pages (page ∷ []) in
+    elim (cases_lt k (length pages)) [
+      | inl l ↦
+          (let at : get_or pages' k 0 ≡ get_or pages k 0 = ap (λ (xs : List ℕ). get_or xs k 0) e ∙ get_or-append pages (page ∷ []) 0 k l in
+          omega (arith, at, stand k l))
+      | inr g ↦
+          (let last : k ≡ length pages = omega (arith, many) in
+          let at : get_or pages' k 0 ≡ page =
+          ap (λ (xs : List ℕ). get_or xs k 0) e ∙ ap (λ j. get_or (pages ++ page ∷ []) j 0) last ∙ get_or-append_seam pages page [] 0 in
+          omega (arith, at))
+    ]
+
+pub is_paged_grown : (pool pool' pages rest : List ℕ) → IsPaged pool pages rest → IsGrown pool pool' → IsPaged pool' pages rest
+is_paged_grown pool pool' pages rest is grown = record {
+  stand = pages_stand pool pool' pages is.stand grown;
+  few = is.few;
+  short = is.short;
+}
+
+pub is_paged_closed : (pool pool' pages pages' rest rest' : List ℕ) (page : ℕ) → IsPaged pool pages rest → IsGrown pool pool' → IsPageOf pool' rest page
+    → pages' ≡ pages ++ page ∷ [] → rest' ≡ [] → length pages < 100_000_000 → IsPaged pool' pages' rest'
+is_paged_closed pool pool' pages pages' rest rest' page is grown of ep er few = record {
+  stand = more_pages pool' pages pages' page (pages_stand pool pool' pages is.stand grown) of.within ep;
+  few = omega (arith, ap length ep ∙ length-append pages (page ∷ []));
+  short = omega (arith, ap length er);
+}
+
+pub is_paged_more : (pool pages rest rest' : List ℕ) (number : ℕ) → IsPaged pool pages rest → length rest < 63 → rest' ≡ rest ++ number ∷ []
+    → IsPaged pool pages rest'
+is_paged_more pool pages rest rest' number is room e = record {
+  stand = is.stand;
+  few = is.few;
+  short = omega (arith, ap length e ∙ length-append rest (number ∷ []));
+}
+
+-- ---- stretches
+
+-- the first numbers of a piece
+pub cut_piece : (numbers : List ℕ) (place : ℕ) (row cut : List ℕ) (most : ℕ) → IsPiece numbers place row → cut ≡ take (min (length row) most) row
+    → cut ≡ take (length cut) (drop place numbers)
+cut_piece numbers place row cut most is e =
+    let many : length cut ≡ min (length row) most = ap length e ∙ length-take-le (min (length row) most) row (omega arith) in
+    let fits : length cut ≤ length (drop place numbers) = omega (arith, many, length-drop place numbers, is.within) in
+    ext_get_or 0 cut (take (length cut) (drop place numbers)) (sym (length-take-le (length cut) (drop place numbers) fits))
+    (λ k h.
+    let low : k < min (length row) most = omega (arith, many) in
+    ap (λ (xs : List ℕ). get_or xs k 0) e
+    ∙ get_or-take (min (length row) most) row k 0 low
+    ∙ is.same k (omega (arith, low))
+    ∙ sym (get_or-drop place numbers k 0)
+    ∙ sym (get_or-take (length cut) (drop place numbers) k 0 h))
+
+pub piece_is_stretch : (numbers : List ℕ) (place : ℕ) (row : List ℕ) → IsPiece numbers place row → row ≡ take (length row) (drop place numbers)
+piece_is_stretch numbers place row is =
+    let most : length row ≤ min (length row) (length row) = omega arith in
+    cut_piece numbers place row row (length row) is (sym (take_all (min (length row) (length row)) row most))
+
+-- zeros that stand in the list from a place on
+pub zeros_are : (numbers : List ℕ) (place count put : ℕ) → IsZeroFrom numbers place count → put ≤ count → 0 < put → replicate put 0 ≡ take put (drop place numbers)
+zeros_are numbers place count put are few some =
+    let long : length (replicate put 0) ≡ put = length-replicate put 0 in
+    piece_is_stretch numbers place (replicate put 0) (record {
+      some = omega (arith, long, some);
+      within = omega (arith, long, few, are.within);
+      same = λ k h. (let below : k < put = omega (arith, long, h) in get_or-replicate put k 0 0 below ∙ sym (are.zeros k (omega (arith, below, few))));
+    }) ∙ ap (λ n. take n (drop place numbers)) long
+
+-- a stretch that is put in two parts
+pub stretch_goes_on : (numbers old new new' : List ℕ) (place done more : ℕ) → new ≡ old ++ take done (drop place numbers)
+    → new' ≡ new ++ take more (drop (place + done) numbers) → new' ≡ old ++ take (done + more) (drop place numbers)
+stretch_goes_on numbers old new new' place done more e e' =
+    e'
+    ∙ ap (λ (xs : List ℕ). xs ++ take more (drop (place + done) numbers)) e
+    ∙ append_assoc old (take done (drop place numbers)) (take more (drop (place + done) numbers))
+    ∙ ap (λ (xs : List ℕ). old ++ (take done (drop place numbers) ++ take more xs)) (sym (drop-drop done place numbers))
+    ∙ ap (λ (xs : List ℕ). old ++ xs) (sym (take-add done more (drop place numbers)))
+
+-- a stretch of a list that has grown
+pub stretch_stays : (old new added : List ℕ) (place count : ℕ) → new ≡ old ++ added → place + count ≤ length old
+    → take count (drop place new) ≡ take count (drop place old)
+stretch_stays old new added place count e l =
+    ap (λ (xs : List ℕ). take count (drop place xs)) e
+    ∙ ap (take count) (drop-append-le place old added (omega arith))
+    ∙ take-append-le count (drop place old) added (omega (arith, length-drop place old))
+
+-- equal numbers that are put in two parts
+pub same_go_on : (old new new' : List ℕ) (number done more : ℕ) → new ≡ old ++ replicate done number → new' ≡ new ++ replicate more number
+    → new' ≡ old ++ replicate (done + more) number
+same_go_on old new new' number done more e e' =
+    e'
+    ∙ ap (λ (xs : List ℕ). xs ++ replicate more number) e
+    ∙ append_assoc old (replicate done number) (replicate more number)
+    ∙ ap (λ (xs : List ℕ). old ++ xs) (replicate-append-replicate done more number)
+
+-- ---- pages once more
+
+pub paged_all : (pool pages more : List ℕ) → paged pool (pages ++ more) ≡ paged pool pages ++ paged pool more
+paged_all pool [] more = refl
+paged_all pool (q ∷ pages) more =
+    ap (λ (l : List ℕ). page_numbers pool q ++ l) (paged_all pool pages more)
+    ∙ sym (append_assoc (page_numbers pool q) (paged pool pages) (paged pool more))
+
+pub paged_same : (pool numbers : List ℕ) (page count : ℕ) → page_numbers pool page ≡ numbers → paged pool (replicate count page) ≡ repeated count numbers
+paged_same pool numbers page zero e = refl
+paged_same pool numbers page (suc count) e =
+    ap (λ (l : List ℕ). l ++ paged pool (replicate count page)) e ∙ ap (λ (l : List ℕ). numbers ++ l) (paged_same pool numbers page count e)
+
+pub repeated_same : (count number : ℕ) (numbers : List ℕ) → numbers ≡ replicate 63 number → repeated count numbers ≡ replicate (count * 63) number
+repeated_same zero number numbers e = let none : 0 * 63 ≡ 0 = omega arith in ap (λ n. replicate n number) (sym none)
+repeated_same (suc count) number numbers e =
+    let sum : 63 + count * 63 ≡ suc count * 63 = omega arith in
+    ap (λ (l : List ℕ). l ++ repeated count numbers) e
+    ∙ ap (λ (l : List ℕ). replicate 63 number ++ l) (repeated_same count number numbers e)
+    ∙ replicate-append-replicate 63 (count * 63) number
+    ∙ ap (λ n. replicate n number) sum
+
+-- where no page is open nothing is left after the pages are closed
+pub none_open : (pool pages rest numbers : List ℕ) → IsPaged pool pages rest → paged pool pages ++ rest ≡ numbers → length numbers % 63 ≡ 0 → length rest < 63
+    → rest ≡ []
+none_open pool pages [] numbers is view whole room = refl
+none_open pool pages (r ∷ rest) numbers is view whole room =
+    let all = length_numbers pool pages (r ∷ rest) numbers (sym view) is in
+    absurd (omega (arith, all))
+
+-- pages of the same numbers
+pub pages_added : (pool pool' pages pages' rest numbers view : List ℕ) (page count : ℕ) → IsPaged pool pages rest → paged pool pages ++ rest ≡ view
+    → rest ≡ [] → IsGrown pool pool' → IsPageOf pool' numbers page → pages' ≡ pages ++ replicate count page
+    → paged pool' pages' ++ rest ≡ view ++ repeated count numbers
+pages_added pool pool' pages pages' rest numbers view page count is e none grown of ep =
+    let kept : paged pool' pages ++ rest ≡ paged pool pages ++ rest = paged_in_grown pool pool' pages rest is grown in
+    let bare : paged pool' pages ≡ view =
+    sym (append-nil (paged pool' pages)) ∙ ap (λ (l : List ℕ). paged pool' pages ++ l) (sym none) ∙ kept ∙ e in
+    ap (λ (l : List ℕ). paged pool' pages' ++ l) none
+    ∙ append-nil (paged pool' pages')
+    ∙ ap (paged pool') ep
+    ∙ paged_all pool' pages (replicate count page)
+    ∙ ap (λ (l : List ℕ). l ++ paged pool' (replicate count page)) bare
+    ∙ ap (λ (l : List ℕ). view ++ l) (paged_same pool' numbers page count of.same)
+
+pub is_paged_added : (pool pool' pages pages' rest : List ℕ) (page count : ℕ) → IsPaged pool pages rest → IsGrown pool pool' → page + 63 ≤ length pool'
+    → pages' ≡ pages ++ replicate count page → length pages + count ≤ 100_000_000 → IsPaged pool' pages' rest
+is_paged_added pool pool' pages pages' rest page count is grown within ep few =
+    let many : length pages' ≡ length pages + count =
+    ap length ep ∙ length-append pages (replicate count page) ∙ ap (λ n. length pages + n) (length-replicate count page) in
+    record {
+      stand = λ k h. elim (cases_lt k (length pages)) [
+        | inl l ↦
+            (let at : get_or pages' k 0 ≡ get_or pages k 0 = ap (λ (xs : List ℕ). get_or xs k 0) ep ∙ get_or-append pages (replicate count page) 0 k l in
+            omega (arith, at, pages_stand pool pool' pages is.stand grown k l))
+        | inr g ↦
+            (let place : k ≡ length pages + (k - length pages) = omega (arith, g) in
+            let low : k - length pages < count = omega (arith, many, h, g) in
+            let at : get_or pages' k 0 ≡ page =
+            ap (λ (xs : List ℕ). get_or xs k 0) ep
+            ∙ ap (λ j. get_or (pages ++ replicate count page) j 0) place
+            ∙ get_or-append-add pages (replicate count page) (k - length pages) 0
+            ∙ get_or-replicate count (k - length pages) page 0 low in
+            omega (arith, at, within))
+      ];
+      few = omega (arith, many);
+      short = is.short;
+    }
+
+-- the page that begins at a place
+pub page_again : (pool pages pages' rest numbers : List ℕ) (place page most : ℕ) → IsPaged pool pages rest → paged pool pages ++ rest ≡ numbers → rest ≡ []
+    → 63 ≤ most → place % 63 ≡ 0 → place / 63 < length pages → page ≡ get_or pages (place / 63) 0 → pages' ≡ pages ++ page ∷ []
+    → HasAgain numbers place most (paged pool pages' ++ rest) true
+page_again pool pages pages' rest numbers place page most is view none many whole l e ep =
+    let at : place ≡ (place / 63) * 63 + 0 = omega (arith, whole) in
+    let start : page + 0 ≡ page = omega arith in
+    let stands : page + 63 ≤ length pool = rw e (is.stand (place / 63) l) in
+    let piece : IsPiece numbers place (page_numbers pool page) =
+    piece_of_page pool pages rest numbers (sym view) is place page (place / 63) 0 (page_numbers pool page) at (omega arith) l e
+    (ap (λ n. take 63 (drop n pool)) (sym start)) in
+    let long : length (page_numbers pool page) ≡ 63 = length_page pool page stands in
+    let bare : paged pool pages ≡ numbers = sym (append-nil (paged pool pages)) ∙ ap (λ (l : List ℕ). paged pool pages ++ l) (sym none) ∙ view in (
+      many,
+      ap (λ (l : List ℕ). paged pool pages' ++ l) none
+          ∙ append-nil (paged pool pages')
+          ∙ ap (paged pool) ep
+          ∙ paged-append pool pages page
+          ∙ ap (λ (l : List ℕ). l ++ page_numbers pool page) bare
+          ∙ ap (λ (l : List ℕ). numbers ++ l) (piece_is_stretch numbers place (page_numbers pool page) piece
+          ∙ ap (λ n. take n (drop place numbers)) long),
+    )
+
+pub take_part : (xs : List ℕ) (put count : ℕ) → put ≤ count → take put (take count xs) ≡ take put xs
+take_part xs zero count l = refl
+take_part xs (suc put) zero l = absurd (omega arith)
+take_part [] (suc put) (suc count) l = refl
+take_part (x ∷ xs) (suc put) (suc count) l = ap (λ (ys : List ℕ). x ∷ ys) (take_part xs put count (omega arith))
+
+-- some numbers that were read into a block and put
+pub block_put : (old same new block part : List ℕ) (place most count put : ℕ) → same ≡ old → length block ≡ 63 → count ≤ 63 → count ≤ most
+    → take count block ≡ take count (drop place same) → part ≡ take (min (length block) count) block
+    → (1 ≤ put) × (put ≤ length part) × (new ≡ same ++ take put part) → (1 ≤ put) × (put ≤ most) × (new ≡ old ++ take put (drop place old))
+block_put old same new block part place most count put es room few low eb ep is =
+    let n : min (length block) count ≡ count = omega (arith, room, few) in
+    let part_is : part ≡ take count block = ep ∙ ap (λ k. take k block) n in
+    let many : length part ≡ count = ap length part_is ∙ length-take-le count block (omega (arith, room, few)) in
+    let within : put ≤ count = omega (arith, many, is.1) in (
+      is.0,
+      omega (arith, within, low),
+      is.2
+          ∙ ap (λ (l : List ℕ). l ++ take put part) es
+          ∙ ap (λ (l : List ℕ). old ++ take put l) (part_is ∙ eb ∙ ap (λ (l : List ℕ). take count (drop place l)) es)
+          ∙ ap (λ (l : List ℕ). old ++ l) (take_part (drop place old) put count within),
+    )
+
+-- part of a page of one number
+same_part : (page part : List ℕ) (number n count : ℕ) → page ≡ replicate 63 number → part ≡ take n page → n ≤ 63 → count ≤ length part
+    → take count part ≡ replicate count number
+same_part page part number n count e ep low few =
+    let part_is : part ≡ replicate n number = ep ∙ ap (take n) e ∙ take-replicate n 63 number low in
+    let many : length part ≡ n = ap length part_is ∙ length-replicate n number in
+    ap (take count) part_is ∙ take-replicate count n number (omega (arith, many))
+
+pub same_put : (page part old new : List ℕ) (number most count : ℕ) → page ≡ replicate 63 number → part ≡ take (min (length page) most) page
+    → (1 ≤ count) × (count ≤ length part) × (new ≡ old ++ take count part) → (1 ≤ count) × (count ≤ most) × (new ≡ old ++ replicate count number)
+same_put page part old new number most count e ep is =
+    let long : length page ≡ 63 = ap length e ∙ length-replicate 63 number in
+    let many : length part ≡ min (length page) most = ap length ep ∙ length-take-le (min (length page) most) page (omega arith) in (
+      is.0,
+      omega (arith, many, is.1),
+      is.2 ∙ ap (λ (l : List ℕ). old ++ l) (same_part page part number (min (length page) most) count e ep (omega (arith, long)) is.1),
+    )
+
+pub none_left : (xs : List ℕ) → length xs ≡ 0 → xs ≡ []
+none_left [] e = refl
+none_left (x ∷ xs) e = absurd (omega arith)
+
+pub pages_of_part : (pool pages row : List ℕ) (from most : ℕ) → ArePages pool pages → row ≡ take most (drop from pages) → ArePages pool row
+pages_of_part pool pages row from most stand er k h =
+    let many : length row ≤ length pages - from = omega (arith, ap length er, length-take most (drop from pages), length-drop from pages) in
+    let low : k < most = omega (arith, h, ap length er, length-take most (drop from pages)) in
+    let at : get_or row k 0 ≡ get_or pages (from + k) 0 =
+    ap (λ (xs : List ℕ). get_or xs k 0) er ∙ get_or-take most (drop from pages) k 0 low ∙ get_or-drop from pages k 0 in
+    omega (arith, at, stand (from + k) (omega (arith, many, h)))
+
+-- ---- zeros
+
+pub zeros_of_page : (pool : List ℕ) (page count : ℕ) (row : List ℕ) → row ≡ take (63 - 0) (drop (page + 0) pool) → count ≡ 63
+    → ((k : ℕ) → k < count → get_or row k 0 ≡ 0) → IsZeroPage pool page
+zeros_of_page pool page count row e all free k h =
+    let start : page + 0 ≡ page = omega arith in
+    sym (page_at pool page k h) ∙ ap (λ n. get_or (take 63 (drop n pool)) k 0) (sym start) ∙ ap (λ (xs : List ℕ). get_or xs k 0) (sym e)
+    ∙ free k (omega (arith, all))
+
+pub zeros_of_pages : (pool pages rest numbers row : List ℕ) (place count most : ℕ) → IsPaged pool pages rest → numbers ≡ paged pool pages ++ rest
+    → place % 63 ≡ 0 → place / 63 ≤ length pages → row ≡ take most (drop (place / 63) pages) → count ≤ length row
+    → ((k : ℕ) → k < count → IsZeroPage pool (get_or row k 0)) → IsZeroFrom numbers place (count * 63)
+zeros_of_pages pool pages rest numbers row place count most is view whole below er few free =
+    let all = length_numbers pool pages rest numbers view is in
+    let many : length row ≤ length pages - place / 63 = omega (arith, ap length er, length-take most (drop (place / 63) pages), length-drop (place / 63) pages) in
+    let short : length row ≤ most = omega (arith, ap length er, length-take most (drop (place / 63) pages)) in
+    record {
+      within = omega (arith, all, many, few, whole, below);
+      zeros = λ k h.
+          let i : ℕ = place / 63 in
+          let j : ℕ = k / 63 in
+          let low : j < count = omega (arith, h) in
+          let at : place + k ≡ (i + j) * 63 + k % 63 = omega (arith, whole) in
+          let stands : i + j < length pages = omega (arith, low, few, many, below) in
+          let before : (i + j) * 63 + k % 63 < length (paged pool pages) = omega (arith, length_paged pool pages is.stand, stands) in
+          let page : get_or row j 0 ≡ get_or pages (i + j) 0 =
+          ap (λ (xs : List ℕ). get_or xs j 0) er
+          ∙ get_or-take most (drop i pages) j 0 (omega (arith, low, few, short))
+          ∙ get_or-drop i pages j 0 in
+          ap (λ (xs : List ℕ). get_or xs (place + k) 0) view
+          ∙ ap (λ n. get_or (paged pool pages ++ rest) n 0) at
+          ∙ get_or-append (paged pool pages) rest 0 ((i + j) * 63 + k % 63) before
+          ∙ paged_at pool pages is.stand (i + j) (k % 63) stands (omega arith)
+          ∙ ap (λ p. get_or pool (p + k % 63) 0) (sym page)
+          ∙ free j low (k % 63) (omega arith);
+    }
+
+pub zeros_in_piece : (numbers row : List ℕ) (place count : ℕ) → IsPiece numbers place row → count ≤ length row
+    → ((k : ℕ) → k < count → get_or row k 0 ≡ 0) → IsZeroFrom numbers place count
+zeros_in_piece numbers row place count is few free = record {
+  within = omega (arith, is.within);
+  zeros = λ k h. sym (is.same k (omega (arith, few))) ∙ free k h;
+}
+
+pub zeros_go_on : (numbers : List ℕ) (place count more : ℕ) → IsZeroFrom numbers place count → IsZeroFrom numbers (place + count) more
+    → IsZeroFrom numbers place (count + more)
+zeros_go_on numbers place count more one other = record {
+  within = omega (arith, other.within);
+  zeros = λ k h. elim (cases_lt k count) [
+    | inl l ↦ one.zeros k l
+    | inr g ↦
+        (let at : place + k ≡ (place + count) + (k - count) = omega (arith, g) in
+        ap (λ n. get_or numbers n 0) at ∙ other.zeros (k - count) (omega (arith, g)))
+  ];
+}
+
+-- a list that is made longer
+pub resized : (old new : List ℕ) (n len count value : ℕ) → new ≡ take n old ++ replicate (n - len) value → len ≡ length old → n ≡ len + count
+    → new ≡ old ++ replicate count value
+resized old new n len count value e el en =
+    let added : n - len ≡ count = omega arith in
+    e ∙ ap (λ (l : List ℕ). l ++ replicate (n - len) value) (take_all n old (omega arith)) ∙ ap (λ k. old ++ replicate k value) added

@@ -1,0 +1,16 @@
+use Rattle.std.proofs.Common.{◌≡◌, ◌+◌, ◌*◌, arith}
+use Rattle.rr_runs.proofs.PagesLemmas.{zeros_go_on}
+use Rattle.rr_runs.proofs.pages.Pages.zeros_from.Goals as goal
+
+pub returns-then-next-pages : goal.returns-then-next-pages
+returns-then-next-pages c =
+    zeros_go_on c.args.self.now c.args.place c.zeros_in_piece-here.result (c.zero_pages_from-pages.result * 63) c.zeros_in_piece-here.ensures
+    c.zero_pages_from-pages.ensures
+
+pub returns : goal.returns
+returns c =
+    let here = c.zeros_in_piece-here in
+    let pages = c.zero_pages_from-pages.result * 63 in
+    let at : (c.args.place + here.result) + pages ≡ c.args.place + (here.result + pages) = omega arith in
+    zeros_go_on c.args.self.now c.args.place (here.result + pages) c.zeros_in_piece.result
+    (zeros_go_on c.args.self.now c.args.place here.result pages here.ensures c.zero_pages_from-pages.ensures) (rw at at c.zeros_in_piece.ensures)

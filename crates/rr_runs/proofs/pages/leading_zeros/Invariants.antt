@@ -1,0 +1,6 @@
+use Rattle.std.proofs.Common.{◌≡◌, ◌<◌, ℕ, get_or}
+use Rattle.rr_runs.proofs.pages.leading_zeros.Given as goal
+
+-- the numbers so far are 0
+abbrev pub invariant-loop-k : goal.invariant-loop-k
+invariant-loop-k l = (i : ℕ) → i < l.k → get_or l.numbers i 0 ≡ 0

@@ -1,0 +1,55 @@
+-- A list of numbers that is kept in pages, of which equal ones are kept once.
+use Rattle.std.specs.Prelude.{◌≡◌, ℕ, zero, suc, ◌+◌, ◌*◌, ◌<◌, ◌≤◌, Bool, true, false, List, [], ◌∷◌, ◌++◌, length, take, drop, get_or}
+
+-- the numbers of a page, which begins at this place of the pool
+abbrev pub page_numbers : List ℕ → ℕ → List ℕ
+page_numbers pool page = take 63 (drop page pool)
+
+-- the numbers of pages, one page after another
+abbrev pub paged : List ℕ → List ℕ → List ℕ
+paged pool [] = []
+paged pool (page ∷ pages) = page_numbers pool page ++ paged pool pages
+
+-- each page is one of the pool
+abbrev pub ArePages : List ℕ → List ℕ → Type 0
+ArePages pool pages = (k : ℕ) → k < length pages → get_or pages k 0 + 63 ≤ length pool
+
+-- the pool has grown at its end
+abbrev pub IsGrown : List ℕ → List ℕ → Type 0
+IsGrown old new = (more : List ℕ) × (new ≡ old ++ more)
+
+-- a page of the pool has these numbers
+pub record IsPageOf (pool numbers : List ℕ) (page : ℕ) : Type 0 where
+  pub within : page + 63 ≤ length pool
+  pub same : page_numbers pool page ≡ numbers
+
+-- pages of the pool, not too many to be counted, and not more than a page that is still open
+pub record IsPaged (pool pages rest : List ℕ) : Type 0 where
+  pub stand : ArePages pool pages
+  pub few : length pages ≤ 100_000_000
+  pub short : length rest ≤ 63
+
+-- the numbers of this row are those of the list from this place on, one at least
+pub record IsPiece (numbers : List ℕ) (place : ℕ) (row : List ℕ) : Type 0 where
+  pub some : 0 < length row
+  pub within : place + length row ≤ length numbers
+  pub same : (k : ℕ) → k < length row → get_or row k 0 ≡ get_or numbers (place + k) 0
+
+-- so many numbers of the list from this place on are 0
+pub record IsZeroFrom (numbers : List ℕ) (place count : ℕ) : Type 0 where
+  pub within : place + count ≤ length numbers
+  pub zeros : (k : ℕ) → k < count → get_or numbers (place + k) 0 ≡ 0
+
+-- a page of the pool has 0 alone
+abbrev pub IsZeroPage : List ℕ → ℕ → Type 0
+IsZeroPage pool page = (k : ℕ) → k < 63 → get_or pool (page + k) 0 ≡ 0
+
+-- numbers so many times, one after another
+abbrev pub repeated : ℕ → List ℕ → List ℕ
+repeated zero numbers = []
+repeated (suc count) numbers = numbers ++ repeated count numbers
+
+-- a whole page from this place on, one of so many numbers, stands once more at the end, or nothing has changed
+abbrev pub HasAgain : List ℕ → ℕ → ℕ → List ℕ → Bool → Type 0
+HasAgain old place most new false = new ≡ old
+HasAgain old place most new true = (63 ≤ most) × (new ≡ old ++ take 63 (drop place old))

@@ -1,0 +1,78 @@
+-- Days with numbers as a row of numbers, and how many runs they have.
+use Rattle.std.specs.Prelude.{◌≡◌, ℕ, zero, suc, ◌+◌, ◌<◌, ◌≤◌, ◌==◌, ◌&&◌, if◌then◌else◌, List, [], ◌∷◌, length, get_or, nat_abs, Option, Some, None, ℤ, pos, neg_ℤ, ◌+ℤ◌, ◌-ℤ◌, ◌≤ℤ◌}
+use Rattle.rr_word.specs.Numbered.{number_in}
+use Rattle.rr_word.specs.declared.numbered.NumberedDay.{NumberedDay}
+use Rattle.rr_runs.specs.declared.run_days.RunCount.{RunCount}
+
+-- ---- a row of numbers, one for each day
+
+-- a day with one number less than its place in the row has; with 0 it has none
+abbrev pub with_day : ℤ → ℕ → List NumberedDay → List NumberedDay
+with_day day zero days = days
+with_day day (suc number) days = record { day = day; number = number } ∷ days
+
+-- the days of a row of numbers from a day on
+abbrev pub days_of : ℤ → List ℕ → List NumberedDay
+days_of day [] = []
+days_of day (n ∷ ns) = with_day day n (days_of (day +ℤ pos 1) ns)
+
+-- the number that a place of the row tells
+abbrev pub number_told : ℕ → Option ℕ
+number_told zero = None
+number_told (suc number) = Some number
+
+-- the row tells the numbers of this day and the days after it
+abbrev pub IsRowOf : List NumberedDay → ℤ → List ℕ → Type 0
+IsRowOf days day row = (k : ℕ) → k < length row → number_in days (day +ℤ pos k) ≡ number_told (get_or row k 0)
+
+-- ---- runs
+
+-- how far an item lies after the one before it, and its number
+pub record Reached : Type 0 where
+  pub day : ℤ
+  pub gap : ℕ
+  pub number : ℕ
+
+-- the next item
+abbrev pub reach : Reached → NumberedDay → Reached
+reach r x = record { day = x.day; gap = nat_abs (x.day -ℤ r.day); number = x.number }
+
+-- the last of these items
+abbrev pub reached : Reached → List NumberedDay → Reached
+reached r [] = r
+reached r (x ∷ xs) = reached (reach r x) xs
+
+-- 0 where both gap and number are the same, and else 1
+abbrev pub change : ℕ → ℕ → ℕ → ℕ → ℕ
+change gap number gap' number' = if (gap == gap') && (number == number') then 0 else 1
+
+-- how many of these items differ in gap or number from the one before
+abbrev pub changes : Reached → List NumberedDay → ℕ
+changes r [] = 0
+changes r (x ∷ xs) = change (nat_abs (x.day -ℤ r.day)) x.number r.gap r.number + changes (reach r x) xs
+
+-- the first item, whose gap is 0
+abbrev pub first_reached : NumberedDay → Reached
+first_reached x = record { day = x.day; gap = 0; number = x.number }
+
+-- how many longest stretches of equal neighbouring pairs of gap and number there are
+abbrev pub run_count : List NumberedDay → ℕ
+run_count [] = 0
+run_count (x ∷ xs) = 1 + changes (first_reached x) xs
+
+-- ---- as they are kept
+
+-- so many runs, and the last item
+abbrev pub IsCountOf : List NumberedDay → RunCount → Type 0
+IsCountOf [] count = count.runs ≡ 0
+IsCountOf (x ∷ xs) count =
+    (count.runs ≡ 1 + changes (first_reached x) xs)
+    × (reached (first_reached x) xs ≡ record { day = count.last; gap = count.gap; number = count.number })
+
+-- a day within 3,000,000,000,000 either way
+abbrev pub IsFarDay : ℤ → Type 0
+IsFarDay d = (neg_ℤ (pos 3_000_000_000_000) ≤ℤ d) × (d ≤ℤ pos 3_000_000_000_000)
+
+-- a day of a row that begins on such a day
+abbrev pub IsCountedDay : ℤ → Type 0
+IsCountedDay d = (neg_ℤ (pos 4_000_000_000_000) ≤ℤ d) × (d ≤ℤ pos 4_000_000_000_000)

@@ -1,0 +1,255 @@
+// Occupied days with the numbers of their time sets, in little room.
+ghost use Rattle.std.specs.Prelude.{◌≡◌, ◌≢◌, ◌⊎◌, ℕ, ◌<◌, ◌≤◌, ◌∷◌, ◌++◌, ◌+◌, [], ℤ, List, None, OnErr, OnOk, length, pos, neg_ℤ, ◌+ℤ◌, ◌≤ℤ◌, ◌<ℤ◌};
+ghost use Rattle.std.specs.List.{All};
+ghost use Rattle.rr_word.specs.Numbered.{number_in};
+ghost use Rattle.rr_word.specs.declared.numbered.NumberedDay.{NumberedDay};
+ghost use Rattle.rr_runs.specs.Runs.{IsCountOf, IsCountedDay, IsFarDay, IsRowOf, change, days_of, number_told, run_count};
+
+use crate::pages::Pages;
+use rr_model::NoMemory;
+use std::alloc::Global;
+use std::marker::Model;
+
+// How many runs there are, and the last item: its day, how far it lies after the one before it, and its number.
+#[derive(Clone, Copy)]
+struct RunCount {
+    runs: usize,
+    last: i64,
+    gap: u64,
+    number: u32,
+}
+
+/// Occupied days with the numbers of their time sets, days rising.
+///
+/// Contracts see it as the list of the days with their numbers. What repeats is kept once, in pages of 63 days.
+#[derive(Drop)]
+pub struct RunDays {
+    // The day of the first place of the row.
+    first: i64,
+    // A number for each day: 0 for a day without one, and else one more than its number.
+    row: Pages,
+}
+
+impl Model for RunDays {
+    ghost use Rattle.std.specs.Prelude.{List};
+    ghost use Rattle.rr_word.specs.declared.numbered.NumberedDay.{NumberedDay};
+    ghost use Rattle.rr_runs.specs.Runs.{IsFarDay, days_of};
+
+    ghost Value = { List NumberedDay };
+
+    ghost view = { λ r. days_of r.first r.row };
+
+    ghost invariant = { λ r. IsFarDay r.first };
+}
+
+impl RunDays {
+    /// No days; it takes no memory.
+    pub fn new(alloc: Global) -> Self
+        ensures { result ≡ [] }
+    {
+        RunDays {
+            first: 0,
+            row: Pages::new(alloc),
+        }
+    }
+
+    /// The days of a row of numbers from a day on: 0 for a day without a number, and else one more than its number.
+    /// It takes no memory.
+    pub fn of_row(first: i64, row: Pages) -> Self
+        requires far { IsFarDay first }
+        ensures { result ≡ days_of first row }
+    {
+        RunDays { first, row }
+    }
+
+    /// Puts a day with its number at the end.
+    pub fn put(&mut self, day: i64, number: u32) -> Result<(), NoMemory>
+        requires after { All (λ x. x.day <ℤ day) self.old }
+        requires far { IsFarDay day }
+        ensures ok { OnOk result (self.new ≡ self.old ++ record { day = day; number = number } ∷ []) }
+        ensures err { OnErr result (self.new ≡ self.old) }
+    {
+        let first = first_of(self.row.len(), self.first, day);
+        if day < first {
+            return Err(NoMemory);
+        }
+        put_at(&mut self.row, place_of(first, day), number)?;
+        self.first = first;
+        Ok(())
+    }
+
+    /// The number on a day; None exactly where no item has the day. It takes no memory.
+    pub fn number_on(&self, day: i64) -> Option<u32>
+        requires far { IsFarDay day }
+        ensures { result ≡ number_in self.now day }
+    {
+        match self.row_from(day) {
+            [told, ..] => number_of(*told),
+            [] => None,
+        }
+    }
+
+    /// How many longest stretches of equal neighbouring pairs of gap and number there are, where the first gap is 0.
+    pub fn runs(&self) -> usize
+        ensures { result ≡ run_count self.now }
+    {
+        count_runs(self.first, &self.row)
+    }
+
+    /// For a day and days after it, as far as they are kept in a row: 0 for a day without a number, and else one more than
+    /// its number. None only where no item has the day.
+    pub fn row_from(&self, day: i64) -> &[u32]
+        requires far { IsFarDay day }
+        ensures row { IsRowOf self.now day result.now }
+        ensures none { result.now ≡ [] → number_in self.now day ≡ None }
+    {
+        if day < self.first {
+            return &[];
+        }
+        let place = (day - self.first) as usize;
+        if place >= self.row.len() {
+            return &[];
+        }
+        self.row.piece(place)
+    }
+
+    /// How many days from a day on surely have no number: 0 where the day has one.
+    pub fn free_days(&self, day: i64) -> u64
+        requires far { IsFarDay day }
+        ensures { (k : ℕ) → k < result → number_in self.now (day +ℤ pos k) ≡ None }
+    {
+        if day < self.first {
+            return (self.first - day) as u64;
+        }
+        let place = (day - self.first) as usize;
+        if place >= self.row.len() {
+            return u64::MAX;
+        }
+        self.row.zeros_from(place) as u64
+    }
+}
+
+// The number that a place of a row tells.
+fn number_of(told: u32) -> Option<u32>
+    ensures { result ≡ number_told told }
+{
+    if told == 0 { None } else { Some(told - 1) }
+}
+
+// The day of the first place of a row with so many places, once a day is put.
+fn first_of(places: usize, first: i64, day: i64) -> i64
+    requires first_far { IsFarDay first }
+    requires far { IsFarDay day }
+    ensures value { ((places ≡ 0) × (result ≡ day)) ⊎ ((places ≢ 0) × (result ≡ first)) }
+    ensures far { IsFarDay result }
+{
+    if places == 0 { day } else { first }
+}
+
+// The place of a day in a row that begins on a day.
+fn place_of(first: i64, day: i64) -> usize
+    requires order { first ≤ℤ day }
+    requires first_far { IsFarDay first }
+    requires far { IsFarDay day }
+    ensures { day ≡ first +ℤ pos result }
+{
+    (day - first) as usize
+}
+
+// How many runs the days of a row have.
+fn count_runs(first: i64, row: &Pages) -> usize
+    requires far { IsFarDay first }
+    ensures { result ≡ run_count (days_of first row.now) }
+{
+    let mut count = RunCount {
+        runs: 0,
+        last: 0,
+        gap: 0,
+        number: 0,
+    };
+    for place in 0..row.len() {
+        count = count_told(count, first + place as i64, row.number_at(place));
+    }
+    count.runs
+}
+
+// The runs and the last item after a place of a row.
+fn count_told(count: RunCount, day: i64, told: u32) -> RunCount
+    requires some { count.runs ≢ 0 → count.last <ℤ day }
+    requires near { IsCountedDay day }
+    requires last_near { IsCountedDay count.last }
+    requires few { count.runs < 18_446_744_073_709_551_615 }
+    ensures counted { (days : List NumberedDay) → IsCountOf days count → IsCountOf (days ++ days_of day (told ∷ [])) result }
+    ensures last { result.runs ≢ 0 → result.last ≤ℤ day }
+    ensures near { IsCountedDay result.last }
+    ensures few { result.runs ≤ count.runs + 1 }
+{
+    match number_of(told) {
+        None => count,
+        Some(number) => counted(count, day, number),
+    }
+}
+
+// The runs and the last item, after a day with a number.
+fn counted(count: RunCount, day: i64, number: u32) -> RunCount
+    requires some { count.runs ≢ 0 → count.last <ℤ day }
+    requires near { IsCountedDay day }
+    requires last_near { IsCountedDay count.last }
+    requires few { count.runs < 18_446_744_073_709_551_615 }
+    ensures counted { (days : List NumberedDay) → IsCountOf days count → IsCountOf (days ++ record { day = day; number = number } ∷ []) result }
+    ensures last { result.last ≡ day }
+    ensures few { result.runs ≤ count.runs + 1 }
+{
+    if count.runs == 0 {
+        return RunCount {
+            runs: 1,
+            last: day,
+            gap: 0,
+            number,
+        };
+    }
+    let gap = (day - count.last) as u64;
+    RunCount {
+        runs: count.runs + change(gap, number, count),
+        last: day,
+        gap,
+        number,
+    }
+}
+
+// 0 where a run goes on, and else 1.
+fn change(gap: u64, number: u32, count: RunCount) -> usize
+    ensures value { result ≡ change gap number count.gap count.number }
+    ensures few { result ≤ 1 }
+{
+    if gap == count.gap && number == count.number {
+        0
+    } else {
+        1
+    }
+}
+
+// Puts a number at a place of the row, after the places that are there.
+fn put_at(row: &mut Pages, place: usize, number: u32) -> Result<(), NoMemory>
+    ensures ok { OnOk result ((day : ℤ) → days_of day row.new ≡ days_of day row.old ++ record { day = day +ℤ pos place; number = number } ∷ []) }
+    ensures err { OnErr result ((day : ℤ) → days_of day row.new ≡ days_of day row.old) }
+{
+    if number == u32::MAX || place < row.len() {
+        return Err(NoMemory);
+    }
+    fill(row, place)?;
+    row.push(number + 1)?;
+    Ok(())
+}
+
+// Puts 0 at each place before this one that is not there yet.
+fn fill(row: &mut Pages, place: usize) -> Result<(), NoMemory>
+    requires { length row.old ≤ place }
+    ensures same { (day : ℤ) → days_of day row.new ≡ days_of day row.old }
+    ensures whole { OnOk result (length row.new ≡ place) }
+{
+    for k in row.len()..place {
+        row.push(0)?;
+    }
+    Ok(())
+}

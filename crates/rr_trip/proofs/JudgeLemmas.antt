@@ -1,0 +1,72 @@
+-- What is judged of the series of a key.
+use Rattle.std.proofs.Common.{◌≡◌, ℕ, ◌<◌, inl, List, ℤ, Option, None, Some, Result, Ok, Err, refl, subst, ap}
+use Rattle.std.specs.Prelude.{IfErr, IfOk}
+use Rattle.rr_fold.specs.Judged.{IsJudged, all_limits}
+use Rattle.rr_model.specs.Series.Cycle.{series_cycle}
+use Rattle.rr_model.specs.Series.FirstRefusal.{IsFirstRefusal, IsLimitRefusal}
+use Rattle.rr_model.specs.Series.Occurrences.{Occurs}
+use Rattle.rr_model.specs.Series.Soundness.{first_refusal}
+use Rattle.rr_model.specs.Series.Validity.{IsValidSeries}
+use Rattle.rr_model.specs.Sets.Sketch.{StandsFor}
+use Rattle.rr_model.specs.declared.limits.TheConstants.{MAX_CYCLE_DAYS}
+use Rattle.rr_model.specs.declared.refusal.Fault.{Fault}
+use Rattle.rr_model.specs.declared.refusal.Fault.TheVariants.{NoMemory, Refused}
+use Rattle.rr_model.specs.declared.refusal.Refusal.{Refusal}
+use Rattle.rr_model.specs.declared.refusal.Refusal.TheVariants.{CycleTooLong}
+use Rattle.rr_model.specs.declared.rule.Series.{Series}
+use Rattle.rr_model.specs.declared.sketch.Sketch.{Sketch}
+use Rattle.rr_trip.specs.Edited.{AnswersKey, KeyEvents, edited_by, fault_at}
+use Rattle.rr_trip.specs.Judged.{IsFaultOf, IsFoldOf, IsKeyDays, IsKeyFault, first_of, key_events, key_zones, zones_in}
+use Rattle.rr_trip.specs.declared.event.Event.{Event}
+use Rattle.rr_trip.specs.declared.gather.KeyFault.{KeyFault}
+use Rattle.rr_trip.specs.declared.gather.KeyFault.TheVariants as key_fault
+use Rattle.rr_trip.proofs.YearOneLemmas.{occurs_from_year_one}
+
+-- a rule does not fit the start
+pub unsound : (series : Series) (r : Refusal) → first_refusal series ≡ Some r → IsFirstRefusal all_limits series (Some r)
+unsound series r h = rw h refl
+
+module _ (series checked : Series) (same : checked ≡ series) (sound : first_refusal series ≡ None) where
+  -- the cycle is too long
+  pub too_long : (r : Refusal) → (r ≡ CycleTooLong) × (MAX_CYCLE_DAYS < series_cycle checked) → IsFirstRefusal all_limits series (Some r)
+  too_long r h =
+      let long : MAX_CYCLE_DAYS < series_cycle series = subst (λ (s : Series). MAX_CYCLE_DAYS < series_cycle s) same h.1 in
+      rw sound (inl ((refl, long), ap Some h.0))
+
+  module _ {X : Type 0} (of : X → Sketch) (valid : IsValidSeries series) where
+    pub folded : (result : Result X Fault) → IfOk result (λ f. StandsFor (of f) (Occurs checked)) → IsJudged checked result
+        → IfOk result (λ f. IsFoldOf series (of f))
+    folded (Err fault) stands judged = tt
+    folded (Ok f) stands judged = record {
+      unrefused = rw sound (subst (λ (s : Series). IsLimitRefusal all_limits s None) same judged);
+      from_year_one = λ k t h. occurs_from_year_one series k t valid h;
+      stands = subst (λ (s : Series). StandsFor (of f) (Occurs s)) same stands;
+    }
+
+  pub not_folded : {X : Type 0} (result : Result X Fault) → IsJudged checked result → IfErr result (IsFaultOf series)
+  not_folded (Ok f) judged = tt
+  not_folded (Err (Refused r)) judged = rw sound (subst (λ (s : Series). IsLimitRefusal all_limits s (Some r)) same judged)
+  not_folded (Err NoMemory) judged = tt
+
+-- ---- the events of a key
+
+module _ (offset : Option ℤ) (events : List Event) where
+  pub not_gathered : (f : KeyFault) → AnswersKey (key_events events) (Err f) → IsKeyFault offset events f
+  not_gathered (key_fault.Refused r) h = rw h refl
+  not_gathered key_fault.NoMemory h = tt
+
+  module _ (all : KeyEvents) (is : key_events events ≡ Ok all) where
+    pub zones_are : (zones : List (List ℕ)) → zones ≡ zones_in all → zones ≡ key_zones events
+    zones_are zones h = rw is h
+
+    pub not_edited : (f : KeyFault) → AnswersKey (edited_by offset all.series all.instances) (Err f) → IsKeyFault offset events f
+    not_edited (key_fault.Refused r) h = rw (is, h) refl
+    not_edited key_fault.NoMemory h = tt
+
+    module _ (series : Series) (states : edited_by offset all.series all.instances ≡ Ok series) where
+      pub key_fault-is : (f : Fault) → IsFaultOf series f → IsKeyFault offset events (fault_at (first_of all.series all.instances) f)
+      key_fault-is (Refused r) h = rw (is, states) (refl, h)
+      key_fault-is NoMemory h = tt
+
+      pub key_days-are : (sketch : Sketch) → IsFoldOf series sketch → IsKeyDays offset events sketch
+      key_days-are sketch h = record { series = series; states = rw is states; fold = h }

@@ -1,0 +1,42 @@
+use Rattle.std.proofs.Common.{arith}
+use Rattle.std.proofs.lemmas.Result.{err_from_is_err_and}
+use Rattle.rr_days.specs.Sequence.{sketch}
+use Rattle.rr_trip.proofs.JudgeLemmas.{folded, not_folded, too_long, unsound}
+use Rattle.rr_trip.proofs.judge.days_of.Goals as goal
+
+pub check-requires : goal.check-requires
+check-requires c = record { valid = c.requires }
+
+pub returns-in_err-series-clause-accepted : goal.returns-in_err-series-clause-accepted
+returns-in_err-series-clause-accepted c =
+    let p = err_from_is_err_and c.from_residual.result c.from_residual.ensures.1 in
+    rw p.1 tt
+
+pub returns-in_err-series-clause-refused : goal.returns-in_err-series-clause-refused
+returns-in_err-series-clause-refused c =
+    let p = err_from_is_err_and c.from_residual.result c.from_residual.ensures.1 in
+    rw (p.1, p.2) (unsound c.args.series c.in_err-series.field-0.0 c.in_err-series.ensures.refused)
+
+pub returns-in_err-admit-clause-accepted : goal.returns-in_err-admit-clause-accepted
+returns-in_err-admit-clause-accepted c =
+    let p = err_from_is_err_and c.from_residual-in_err-admit.result c.from_residual-in_err-admit.ensures.1 in
+    rw p.1 tt
+
+pub returns-in_err-admit-clause-refused : goal.returns-in_err-admit-clause-refused
+returns-in_err-admit-clause-refused c =
+    let p = err_from_is_err_and c.from_residual-in_err-admit.result c.from_residual-in_err-admit.ensures.1 in
+    let accepted = c.in_ok-series.ensures.accepted in
+    rw (p.1, p.2) (too_long c.args.series c.in_ok-series.series accepted.0 accepted.1 c.in_err-admit.field-0.0 c.in_err-admit.ensures.refused)
+
+pub fold-requires : goal.fold-requires
+fold-requires c = record { few = omega (arith, c.in_ok-admit.ensures.admitted) }
+
+pub returns-clause-accepted : goal.returns-clause-accepted
+returns-clause-accepted c =
+    let accepted = c.in_ok-series.ensures.accepted in
+    folded c.args.series c.in_ok-series.series accepted.0 accepted.1 sketch c.requires c.fold.result c.fold.ensures.stands c.fold.ensures.judged
+
+pub returns-clause-refused : goal.returns-clause-refused
+returns-clause-refused c =
+    let accepted = c.in_ok-series.ensures.accepted in
+    not_folded c.args.series c.in_ok-series.series accepted.0 accepted.1 c.fold.result c.fold.ensures.judged

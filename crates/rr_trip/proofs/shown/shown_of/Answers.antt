@@ -1,0 +1,13 @@
+use Rattle.std.proofs.Common.{sym, ◌∙◌}
+use Rattle.rr_trip.proofs.ShownLemmas.{ok_each, shown_some, shown_unknown}
+use Rattle.rr_trip.proofs.shown.shown_of.Goals as goal
+
+pub returns-then-are_none : goal.returns-then-are_none
+returns-then-are_none c =
+    ok_each c.unknown.result c.unknown.ensures (λ shown h. shown_unknown c.args.offset c.args.name.now shown c.args.a.now c.args.b.now
+    (sym c.are_none.ensures ∙ c.if-are_none.true) h)
+
+pub returns : goal.returns
+returns c =
+    ok_each c.shown_said.result c.shown_said.ensures (λ shown h. shown_some c.args.offset c.args.name.now shown c.args.a.now c.args.b.now
+    (sym c.are_none.ensures ∙ c.if-are_none.false) h)

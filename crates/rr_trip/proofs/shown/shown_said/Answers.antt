@@ -1,0 +1,11 @@
+use Rattle.std.proofs.Common.{rules}
+use Rattle.rr_trip.proofs.shown.shown_said.Goals as goal
+
+pub returns : goal.returns
+returns c = record {
+  said = c.in_ok-said.said;
+  more = c.in_ok-picture.picture.items;
+  is_said = c.in_ok-said.ensures.said;
+  status = search rules;
+  text = search rules;
+}

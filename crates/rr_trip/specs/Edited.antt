@@ -1,0 +1,240 @@
+-- The series of a key with its instances as dates (RFC 5545, sections 3.8.4.4, 3.8.5.1 and 3.8.5.2).
+use Rattle.std.specs.Prelude.{◌≡◌, ℕ, ◌+◌, nat_lt, Bool, true, false, not, ◌||◌, if◌then◌else◌, ℤ, int_lt, List, [], ◌∷◌, ◌++◌, length}
+use Rattle.std.specs.Prelude.{Option, None, Some, Result, Ok, Err, ⊤}
+use Rattle.std.specs.List.{filter, list_any}
+use Rattle.std.specs.Option.{is_some}
+use Rattle.std.specs.Ordering.{int_eq}
+use Rattle.rr_model.specs.Rising.{with_value}
+use Rattle.rr_model.specs.Rule.Validity.{is_absent}
+use Rattle.rr_model.specs.Text.Calendars.{calendar_scan}
+use Rattle.rr_model.specs.Text.Lists.{series_of_list}
+use Rattle.rr_model.specs.Text.Passes.{date_beside, date_value}
+use Rattle.rr_model.specs.Text.RuleValues.{◌>>=◌}
+use Rattle.rr_model.specs.declared.kind.Kind.{Kind}
+use Rattle.rr_model.specs.declared.limits.TheConstants.{MAX_DATES}
+use Rattle.rr_model.specs.declared.refusal.Fault.{Fault}
+use Rattle.rr_model.specs.declared.refusal.Fault.TheVariants as fault
+use Rattle.rr_model.specs.declared.refusal.Refusal.{Refusal}
+use Rattle.rr_model.specs.declared.refusal.Refusal.TheVariants.{NoStart, TooManyParts}
+use Rattle.rr_model.specs.declared.rule.Series.{Series}
+use Rattle.rr_model.specs.declared.stamp.Stamp.{Stamp}
+use Rattle.rr_model.specs.declared.used.LineName.{LineName}
+use Rattle.rr_model.specs.declared.used.LineName.TheVariants.{Dtstart}
+use Rattle.rr_model.specs.declared.used.Scan.{Scan}
+use Rattle.rr_model.specs.declared.used.UsedLine.{UsedLine}
+use Rattle.rr_trip.specs.Event.{has_rule_or_date}
+use Rattle.rr_trip.specs.declared.event.Event.{Event}
+use Rattle.rr_trip.specs.declared.event.Recurrence.{Recurrence}
+use Rattle.rr_trip.specs.declared.gather.KeyFault.{KeyFault}
+use Rattle.rr_trip.specs.declared.gather.KeyFault.TheVariants as key_fault
+use Rattle.rr_trip.specs.declared.gather.KeyRefusal.{KeyRefusal}
+use Rattle.rr_trip.specs.declared.gather.KeyRefusal.TheVariants as refusal
+
+-- ---- steps
+
+-- what the next step makes of a value; the first refusal of the key ends it
+infixl 10 ◌>=>◌
+abbrev pub ◌>=>◌ : {A B : Type 0} → Result A KeyRefusal → (A → Result B KeyRefusal) → Result B KeyRefusal
+(Ok x) >=> f = f x
+(Err r) >=> f = Err r
+
+-- what a step makes of a value and each thing in turn
+abbrev pub key_in_turn : {X Y : Type 0} → (X → Y → Result X KeyRefusal) → X → List Y → Result X KeyRefusal
+key_in_turn step x [] = Ok x
+key_in_turn step x (y ∷ ys) = step x y >=> λ next. key_in_turn step next ys
+
+-- a refusal of the reader, at an event that begins on this line
+abbrev pub at_event : {A : Type 0} → ℕ → Result A Refusal → Result A KeyRefusal
+at_event line (Ok x) = Ok x
+at_event line (Err r) = Err (refusal.Event r line)
+
+-- the fault of a key that a fault of the reader is
+abbrev pub fault_at : ℕ → Fault → KeyFault
+fault_at line (fault.Refused r) = key_fault.Refused (refusal.Event r line)
+fault_at line fault.NoMemory = key_fault.NoMemory
+
+-- The answer is the one that is wanted, but out of memory may come in place of each.
+abbrev pub AnswersKey : {A : Type 0} → Result A KeyRefusal → Result A KeyFault → Type 0
+AnswersKey wanted (Ok x) = wanted ≡ Ok x
+AnswersKey wanted (Err (key_fault.Refused r)) = wanted ≡ Err r
+AnswersKey wanted (Err key_fault.NoMemory) = ⊤
+
+-- ---- the series and the instances
+
+-- the series of a key, where it has one, and its instances
+pub record KeyEvents : Type 0 where
+  pub series : Option Event
+  pub instances : List Event
+
+-- no event is there yet
+abbrev pub no_events : KeyEvents
+no_events = record { series = None; instances = [] }
+
+-- an instance with this RECURRENCE-ID may have no range, and neither a rule nor dates
+abbrev pub judged_instance : Option Recurrence → Event → Result (Unit {0}) KeyRefusal
+judged_instance None event = Ok tt
+judged_instance (Some recurrence) event =
+    if recurrence.has_range then Err (refusal.Range recurrence.line)
+    else (if has_rule_or_date event.scan then Err (refusal.TwoSeries event.first) else Ok tt)
+
+-- a second series is refused
+abbrev pub with_series : KeyEvents → Event → Result KeyEvents KeyRefusal
+with_series events event =
+    if is_some events.series then Err (refusal.TwoSeries event.first) else Ok (record events { series = Some event })
+
+-- with one event more, by its RECURRENCE-ID
+abbrev pub with_event_by : KeyEvents → Event → Option Recurrence → Result KeyEvents KeyRefusal
+with_event_by events event None = with_series events event
+with_event_by events event (Some recurrence) =
+    judged_instance (Some recurrence) event >=> λ judged. Ok (record events { instances = events.instances ++ event ∷ [] })
+
+-- with one event more
+abbrev pub with_event : KeyEvents → Event → Result KeyEvents KeyRefusal
+with_event events event = with_event_by events event event.recurrence
+
+-- ---- what the instances take out and put in
+
+-- the moments that instances take out, and the moments at which they start
+pub record Shifts : Type 0 where
+  pub moments : List ℤ
+  pub starts : List ℤ
+
+-- no instance is read yet
+abbrev pub no_shifts : Shifts
+no_shifts = record { moments = []; starts = [] }
+
+-- a used line is DTSTART
+abbrev pub is_start : LineName → Bool
+is_start Dtstart = true
+is_start name = false
+
+-- the first DTSTART of the used lines
+abbrev pub start_line : List UsedLine → Option UsedLine
+start_line [] = None
+start_line (line ∷ lines) = if is_start line.name then Some line else start_line lines
+
+-- the number and the value of a used line state a date or a moment
+abbrev pub stamp_on : Option UsedLine → Result Stamp Refusal
+stamp_on None = Err NoStart
+stamp_on (Some line) = date_value line.number line.value
+
+-- a date or a moment of a RECURRENCE-ID beside the start
+abbrev pub moment_of : Option ℤ → Stamp → Recurrence → Result ℤ Refusal
+moment_of offset start recurrence = date_value recurrence.line recurrence.value >>= date_beside offset start recurrence.line
+
+-- the start on a line beside the start of a series
+abbrev pub start_on : Option ℤ → Stamp → Option UsedLine → Result ℤ Refusal
+start_on offset start None = Err NoStart
+start_on offset start (Some line) = date_value line.number line.value >>= date_beside offset start line.number
+
+-- the start of an instance, which the reader takes, beside the start of its series
+abbrev pub start_beside : Option ℤ → Stamp → Scan → Result ℤ Refusal
+start_beside offset start scan = calendar_scan offset scan >>= λ series. start_on offset start (start_line scan.used)
+
+-- nothing is put in, unless the components of an event are at fault
+abbrev pub unless_at_fault : Option Refusal → Shifts → Result Shifts Refusal
+unless_at_fault None shifts = Ok shifts
+unless_at_fault (Some r) shifts = Err r
+
+-- the start of an instance is put in; one that is cancelled has none, and of it only the components are judged
+abbrev pub with_start : Option ℤ → Stamp → Shifts → Event → Result Shifts Refusal
+with_start offset start shifts event =
+    if event.is_cancelled then unless_at_fault event.scan.stop shifts
+    else (start_beside offset start event.scan >>= λ at. Ok (record shifts { starts = with_value int_lt shifts.starts at }))
+
+-- the moment of an instance is taken out; a second instance of one moment is refused
+abbrev pub with_moment : Shifts → Event → ℤ → Result Shifts KeyRefusal
+with_moment shifts event at =
+    if list_any (λ t. int_eq t at) shifts.moments then Err (refusal.TwoInstances event.first)
+    else Ok (record shifts { moments = with_value int_lt shifts.moments at })
+
+-- with one instance more, by its RECURRENCE-ID
+abbrev pub with_instance_by : Option ℤ → Stamp → Shifts → Event → Option Recurrence → Result Shifts KeyRefusal
+with_instance_by offset start shifts event None = Ok shifts
+with_instance_by offset start shifts event (Some recurrence) =
+    at_event event.first (moment_of offset start recurrence) >=> (λ at.
+    with_moment shifts event at >=> λ more. at_event event.first (with_start offset start more event))
+
+-- with one instance more
+abbrev pub with_instance : Option ℤ → Stamp → Shifts → Event → Result Shifts KeyRefusal
+with_instance offset start shifts event = with_instance_by offset start shifts event event.recurrence
+
+-- what the instances of a key take out and put in beside a start
+abbrev pub shifts_of : Option ℤ → Stamp → List Event → Result Shifts KeyRefusal
+shifts_of offset start instances = key_in_turn (with_instance offset start) no_shifts instances
+
+-- ---- the edited series
+
+-- the dates in a rising list with these
+abbrev pub with_values : List ℤ → List ℤ → List ℤ
+with_values dates [] = dates
+with_values dates (t ∷ ts) = with_values (with_value int_lt dates t) ts
+
+-- the dates that are not among these
+abbrev pub values_outside : List ℤ → List ℤ → List ℤ
+values_outside starts dates = filter (λ t. not (list_any (λ s. int_eq s t) starts)) dates
+
+-- the starts alone, as a list of dates
+abbrev pub series_of_starts : Kind → List ℤ → Series
+series_of_starts kind [] = series_of_list None []
+series_of_starts kind (t ∷ ts) = series_of_list (Some (record { kind = kind; at = t; utc = false })) (with_values [] ts)
+
+-- the dates that are taken out, and the moments, without those at which an instance starts
+abbrev pub minus_without_starts : List ℤ → Shifts → List ℤ
+minus_without_starts minus shifts =
+    with_values (with_values [] (values_outside shifts.starts minus)) (values_outside shifts.starts shifts.moments)
+
+-- the series with the starts as dates that are added, and the moments taken out where nothing starts
+abbrev pub with_shifts : Series → Shifts → Series
+with_shifts series shifts = record series {
+  plus = with_values series.plus shifts.starts;
+  minus = minus_without_starts series.minus shifts;
+}
+
+-- a series has at most `MAX_DATES` dates
+abbrev pub within_dates : ℕ → Series → Result Series KeyRefusal
+within_dates line series = if nat_lt MAX_DATES (length series.plus + length series.minus) then Err (refusal.Event TooManyParts line) else Ok series
+
+-- the starts beside a series that an EXRULE might take out again are refused
+abbrev pub edited_series : ℕ → Series → Shifts → Result Series KeyRefusal
+edited_series line series shifts =
+    if is_absent series.excluded || is_absent shifts.starts then within_dates line (with_shifts series shifts)
+    else Err (refusal.ExcludedRule line)
+
+-- a series that is cancelled has none of its occurrences, and keeps its instances
+abbrev pub edited_event : Event → Series → Shifts → Result Series KeyRefusal
+edited_event event series shifts =
+    if event.is_cancelled then within_dates event.first (series_of_starts series.kind shifts.starts)
+    else edited_series event.first series shifts
+
+-- the start of a series, in UTC where its DTSTART states it so
+abbrev pub start_of : Series → Stamp → Stamp
+start_of series stamp = record { kind = series.kind; at = series.start; utc = stamp.utc }
+
+-- a series with its instances
+abbrev pub edited_with_series : Option ℤ → Event → List Event → Result Series KeyRefusal
+edited_with_series offset event instances =
+    at_event event.first (calendar_scan offset event.scan) >=> (λ series.
+    at_event event.first (stamp_on (start_line event.scan.used)) >=> (λ stamp.
+    shifts_of offset (start_of series stamp) instances >=> (λ shifts. edited_event event series shifts)))
+
+-- the date or moment of the RECURRENCE-ID of an event
+abbrev pub recurrence_stamp : Option Recurrence → Result Stamp Refusal
+recurrence_stamp None = Err NoStart
+recurrence_stamp (Some recurrence) = date_value recurrence.line recurrence.value
+
+-- instances without a series are beside the RECURRENCE-ID of the first one
+abbrev pub edited_alone : Option ℤ → List Event → Result Series KeyRefusal
+edited_alone offset [] = Ok (series_of_list None [])
+edited_alone offset (event ∷ events) =
+    at_event event.first (recurrence_stamp event.recurrence) >=> (λ start.
+    shifts_of offset start (event ∷ events) >=> (λ shifts. within_dates event.first (series_of_starts start.kind shifts.starts)))
+
+-- the series of a key with its instances as dates
+abbrev pub edited_by : Option ℤ → Option Event → List Event → Result Series KeyRefusal
+edited_by offset None instances = edited_alone offset instances
+edited_by offset (Some event) instances = edited_with_series offset event instances
+
+-- the series that the events of a key state together
+abbrev pub edited : Option ℤ → List Event → Result Series KeyRefusal
+edited offset events = key_in_turn with_event no_events events >=> λ all. edited_by offset all.series all.instances

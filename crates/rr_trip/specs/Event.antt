@@ -1,0 +1,62 @@
+-- What an event states of itself as part of a calendar (RFC 5545, sections 3.6.1 and 3.8.4.4).
+use Rattle.std.specs.Prelude.{ℕ, Bool, true, false, List, [], codes, Option, Some, option_and_then, option_map}
+use Rattle.std.specs.List.{list_any}
+use Rattle.std.specs.Option.{is_some}
+use Rattle.std.specs.Str.{str_eq_ignore_ascii_case}
+use Rattle.rr_model.specs.Text.Event.{no_components, scanned}
+use Rattle.rr_model.specs.Text.UsedLines.{value_of_line}
+use Rattle.rr_model.specs.declared.line.Line.{Line}
+use Rattle.rr_model.specs.declared.used.LineName.{LineName}
+use Rattle.rr_model.specs.declared.used.LineName.TheVariants.{Rrule, Rdate}
+use Rattle.rr_model.specs.declared.used.Scan.{Scan}
+use Rattle.rr_model.specs.declared.used.UsedLine.{UsedLine}
+use Rattle.rr_trip.specs.Keys.{first_line}
+use Rattle.rr_events.specs.Own.{first_named, first_value, own_lines, value_or_empty}
+use Rattle.rr_trip.specs.Parameters.{parameter_of}
+use Rattle.rr_trip.specs.declared.event.Event.{Event}
+use Rattle.rr_trip.specs.declared.event.Recurrence.{Recurrence}
+
+-- the TZID parameter of a line, the empty text where there is none
+abbrev pub zone_of : Option Line → List ℕ
+zone_of line = value_or_empty (option_and_then (λ (l : Line). parameter_of (codes "TZID") l.text) line)
+
+-- what a RECURRENCE-ID line states
+abbrev pub recurrence_on : Line → Recurrence
+recurrence_on line = record {
+  line = line.number;
+  value = value_or_empty (value_of_line line.text);
+  has_range = is_some (parameter_of (codes "RANGE") line.text);
+  zone = zone_of (Some line);
+}
+
+-- the RECURRENCE-ID among the lines of an event
+abbrev pub recurrence_of : List Line → Option Recurrence
+recurrence_of own = option_map recurrence_on (first_named (codes "RECURRENCE-ID") own)
+
+-- the STATUS among the lines of an event is CANCELLED
+abbrev pub is_cancelled : List Line → Bool
+is_cancelled own = str_eq_ignore_ascii_case (first_value (codes "STATUS") own) (codes "CANCELLED")
+
+-- what an event states, by its first line, its used lines and its own lines
+abbrev pub event_by : ℕ → Scan → List Line → Event
+event_by first scan own = record {
+  first = first;
+  scan = scan;
+  recurrence = recurrence_of own;
+  is_cancelled = is_cancelled own;
+  zone = zone_of (first_named (codes "DTSTART") own);
+}
+
+-- what the lines of an event state; they are numbered as in the whole text
+abbrev pub event_of : List Line → Event
+event_of lines = event_by (first_line lines) (scanned false 0 no_components lines) (own_lines [] lines)
+
+-- a used line is a rule or a date that is added
+abbrev pub is_rule_or_date : LineName → Bool
+is_rule_or_date Rrule = true
+is_rule_or_date Rdate = true
+is_rule_or_date name = false
+
+-- an event has a rule or dates of its own
+abbrev pub has_rule_or_date : Scan → Bool
+has_rule_or_date scan = list_any (λ (line : UsedLine). is_rule_or_date line.name) scan.used

@@ -1,0 +1,114 @@
+-- The events of a key in one calendar, as days (RFC 5545, section 3.8.5).
+use Rattle.std.specs.Prelude.{◌≡◌, ℕ, if◌then◌else◌, ℤ, List, [], ◌∷◌, ◌++◌, Option, None, Some, Result, Ok, Err, ⊤}
+use Rattle.rr_fold.specs.Judged.{all_limits}
+use Rattle.rr_model.specs.Moment.{Occurrences, day_part}
+use Rattle.rr_model.specs.Moment.Years.{IsFromYearOne}
+use Rattle.rr_model.specs.Series.FirstRefusal.{IsFirstRefusal}
+use Rattle.rr_model.specs.Series.Occurrences.{Occurs}
+use Rattle.rr_model.specs.Sets.Sketch.{StandsFor}
+use Rattle.rr_model.specs.declared.kind.Kind.{Kind}
+use Rattle.rr_model.specs.declared.refusal.Fault.{Fault}
+use Rattle.rr_model.specs.declared.refusal.Fault.TheVariants as fault
+use Rattle.rr_model.specs.declared.rule.Series.{Series}
+use Rattle.rr_model.specs.declared.sketch.Sketch.{Sketch}
+use Rattle.rr_trip.specs.Edited.{KeyEvents, edited, key_in_turn, no_events, with_event}
+use Rattle.rr_trip.specs.declared.event.Event.{Event}
+use Rattle.rr_trip.specs.declared.event.Recurrence.{Recurrence}
+use Rattle.rr_trip.specs.declared.gather.KeyFault.{KeyFault}
+use Rattle.rr_trip.specs.declared.gather.KeyFault.TheVariants as key_fault
+use Rattle.rr_trip.specs.declared.gather.KeyRefusal.{KeyRefusal}
+use Rattle.rr_trip.specs.declared.gather.KeyRefusal.TheVariants as refusal
+
+-- ---- a series
+
+-- each of these occurrences lies in the year 1 or later
+abbrev pub OccurFromYearOne : Occurrences → Type 0
+OccurFromYearOne P = (k : Kind) (t : ℤ) → P k t → IsFromYearOne (day_part k t)
+
+-- the series is refused by no limit, and the sketch stands for its occurrences
+pub record IsFoldOf (series : Series) (sketch : Sketch) : Type 0 where
+  pub unrefused : IsFirstRefusal all_limits series None
+  pub from_year_one : OccurFromYearOne (Occurs series)
+  pub stands : StandsFor sketch (Occurs series)
+
+-- a fault is the first refusal of the series by all limits, or out of memory
+abbrev pub IsFaultOf : Series → Fault → Type 0
+IsFaultOf series (fault.Refused r) = IsFirstRefusal all_limits series (Some r)
+IsFaultOf series fault.NoMemory = ⊤
+
+-- ---- the events of a key
+
+-- the number of the line at which a limit refuses the events of a key: that of the series' BEGIN, else that of the first instance
+abbrev pub first_of : Option Event → List Event → ℕ
+first_of (Some event) instances = event.first
+first_of None [] = 0
+first_of None (event ∷ events) = event.first
+
+-- the series and the instances of a key
+abbrev pub key_events : List Event → Result KeyEvents KeyRefusal
+key_events events = key_in_turn with_event no_events events
+
+-- the line at which a limit refuses the events of a key
+abbrev pub line_of : Result KeyEvents KeyRefusal → ℕ
+line_of (Ok all) = first_of all.series all.instances
+line_of (Err r) = 0
+
+-- the edited series is refused so, or is refused by a limit at the line of its BEGIN
+abbrev pub IsRefusalBy : ℕ → Result Series KeyRefusal → KeyRefusal → Type 0
+IsRefusalBy line (Err r) said = said ≡ r
+IsRefusalBy line (Ok series) (refusal.Event r at) = (at ≡ line) × IsFirstRefusal all_limits series (Some r)
+IsRefusalBy line (Ok series) said = ⊥
+
+-- the events of a key in one calendar are refused so
+abbrev pub IsKeyRefusal : Option ℤ → List Event → KeyRefusal → Type 0
+IsKeyRefusal offset events said = IsRefusalBy (line_of (key_events events)) (edited offset events) said
+
+-- a fault is the refusal of the key, or out of memory
+abbrev pub IsKeyFault : Option ℤ → List Event → KeyFault → Type 0
+IsKeyFault offset events (key_fault.Refused r) = IsKeyRefusal offset events r
+IsKeyFault offset events key_fault.NoMemory = ⊤
+
+-- the events of a key state this series, which no limit refuses
+pub record IsKeySeries (offset : Option ℤ) (events : List Event) (series : Series) : Type 0 where
+  pub states : edited offset events ≡ Ok series
+  pub unrefused : IsFirstRefusal all_limits series None
+
+-- the sketch stands for the occurrences of the events of a key, which are not refused
+pub record IsKeyDays (offset : Option ℤ) (events : List Event) (sketch : Sketch) : Type 0 where
+  pub series : Series
+  pub states : edited offset events ≡ Ok series
+  pub fold : IsFoldOf series sketch
+
+-- ---- zones
+
+-- the TZID parameters of an event by its RECURRENCE-ID: its own and that of its DTSTART, where it is not cancelled
+abbrev pub zones_by : Event → Option Recurrence → List (List ℕ)
+zones_by event None = event.zone ∷ []
+zones_by event (Some recurrence) = if event.is_cancelled then recurrence.zone ∷ [] else recurrence.zone ∷ event.zone ∷ []
+
+-- the TZID parameters of an event
+abbrev pub zones_of : Event → List (List ℕ)
+zones_of event = zones_by event event.recurrence
+
+-- the TZID parameters of a list of events
+abbrev pub zones_of_all : List Event → List (List ℕ)
+zones_of_all [] = []
+zones_of_all (event ∷ events) = zones_of event ++ zones_of_all events
+
+-- the TZID parameters of the series, where there is one
+abbrev pub zones_of_series : Option Event → List (List ℕ)
+zones_of_series None = []
+zones_of_series (Some event) = zones_of event
+
+-- the TZID parameters of the series and the instances
+abbrev pub zones_in : KeyEvents → List (List ℕ)
+zones_in all = zones_of_series all.series ++ zones_of_all all.instances
+
+-- the TZID parameters of the events of a key, where these are not refused
+abbrev pub zones_by_events : Result KeyEvents KeyRefusal → List (List ℕ)
+zones_by_events (Ok all) = zones_in all
+zones_by_events (Err r) = []
+
+-- the TZID parameters of the events of a key
+abbrev pub key_zones : List Event → List (List ℕ)
+key_zones events = zones_by_events (key_events events)

@@ -1,0 +1,14 @@
+pub mod Parameters
+pub mod Keys
+pub mod Event
+pub mod Entries
+pub mod Edited
+pub mod Instances
+pub mod Judged
+pub mod Said
+pub mod Files
+pub mod Report
+pub mod Counts
+pub mod Printed
+pub mod Grid
+pub mod Shown

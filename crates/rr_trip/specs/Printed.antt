@@ -1,0 +1,130 @@
+-- The lines of a report as they are printed.
+use Rattle.std.specs.Prelude.{ℕ, ◌+◌, ◌-◌, ◌/◌, ◌%◌, ◌==◌, nat_lt, Bool, true, false, not, ◌&&◌, ◌||◌, if◌then◌else◌, List, [], ◌∷◌, ◌++◌, codes}
+use Rattle.std.specs.Fmt.{decimal}
+use Rattle.rr_model.specs.Text.Moments.{extended_text}
+use Rattle.rr_model.specs.Text.Refusals.{refusal_text}
+use Rattle.rr_model.specs.declared.refusal.Refusal.{Refusal}
+use Rattle.rr_model.specs.declared.refusal.Refusal.TheVariants.{BadLine, BadMoment, MixedKinds, BadRule, PartTwice, NumberRange, NotSynchronised, NotRising}
+use Rattle.rr_model.specs.declared.verdict.Side.{Side}
+use Rattle.rr_model.specs.declared.verdict.Side.TheVariants.{A, B, Both}
+use Rattle.rr_model.specs.declared.verdict.Verdict.{Verdict}
+use Rattle.rr_model.specs.declared.verdict.Verdict.TheVariants.{Yes, No}
+use Rattle.rr_trip.specs.Counts.{counts_of, is_equal}
+use Rattle.rr_trip.specs.declared.file.FileRefusal.{FileRefusal}
+use Rattle.rr_trip.specs.declared.file.FileRefusal.TheVariants as file
+use Rattle.rr_trip.specs.declared.gather.KeyRefusal.{KeyRefusal}
+use Rattle.rr_trip.specs.declared.gather.KeyRefusal.TheVariants as refusal
+use Rattle.rr_trip.specs.declared.key.Key.{Key}
+use Rattle.rr_trip.specs.declared.key.Key.TheVariants as key
+use Rattle.rr_trip.specs.declared.report.Counts.{Counts}
+use Rattle.rr_trip.specs.declared.report.ReportLine.{ReportLine}
+use Rattle.rr_trip.specs.declared.said.Said.{Said}
+use Rattle.rr_trip.specs.declared.said.Said.TheVariants.{Only, Refused, Compared}
+
+-- a side as it is printed
+abbrev pub side_text : Side → List ℕ
+side_text A = codes "A"
+side_text B = codes "B"
+side_text Both = codes "both"
+
+-- ---- keys
+
+-- a digit to the base of 16
+abbrev pub hex_digit : ℕ → ℕ
+hex_digit n = if nat_lt n 10 then 48 + n else 97 + (n - 10)
+
+-- a byte stands for itself: a visible character of ASCII that is no backslash
+abbrev pub is_plain : ℕ → Bool
+is_plain b = nat_lt 32 b && (nat_lt b 127 && not (b == 92))
+
+-- a byte as it stands, or as a backslash, an x and two digits
+abbrev pub escaped_byte : ℕ → List ℕ
+escaped_byte b = if is_plain b then b ∷ [] else 92 ∷ 120 ∷ hex_digit (b / 16) ∷ hex_digit (b % 16) ∷ []
+
+-- a text with its bytes so
+abbrev pub escaped : List ℕ → List ℕ
+escaped [] = []
+escaped (b ∷ bs) = escaped_byte b ++ escaped bs
+
+-- a key
+abbrev pub key_text : Key → List ℕ
+key_text (key.Line number) = codes "line " ++ decimal number
+key_text (key.Uid uid) = escaped uid
+
+-- ---- refusals
+
+-- the refusal is printed with a number of its own
+abbrev pub has_number : Refusal → Bool
+has_number (BadLine line) = true
+has_number (BadMoment line) = true
+has_number (MixedKinds line) = true
+has_number (BadRule line) = true
+has_number (PartTwice line) = true
+has_number (NumberRange line) = true
+has_number (NotSynchronised rule) = true
+has_number (NotRising line) = true
+has_number refusal = false
+
+-- the refusal of an event, with its own number, else with the line of the event's BEGIN
+abbrev pub event_refusal_text : Refusal → ℕ → List ℕ
+event_refusal_text r line = if has_number r then refusal_text r else refusal_text r ++ codes " " ++ decimal line
+
+-- the refusal of the events of a key
+abbrev pub key_refusal_text : KeyRefusal → List ℕ
+key_refusal_text (refusal.Event r line) = event_refusal_text r line
+key_refusal_text (refusal.Range line) = codes "Range " ++ decimal line
+key_refusal_text (refusal.TwoSeries line) = codes "TwoSeries " ++ decimal line
+key_refusal_text (refusal.TwoInstances line) = codes "TwoInstances " ++ decimal line
+key_refusal_text (refusal.ExcludedRule line) = codes "ExcludedRule " ++ decimal line
+
+-- the refusal of a whole file
+abbrev pub file_refusal_text : FileRefusal → List ℕ
+file_refusal_text file.TooLong = codes " TooLong"
+file_refusal_text file.NoEvents = codes " NoEvents"
+file_refusal_text (file.BadLine line) = codes " BadLine " ++ decimal line
+
+-- the line that refuses a whole file
+abbrev pub file_refusal_line : Side → FileRefusal → List ℕ
+file_refusal_line side r = codes "refused " ++ side_text side ++ file_refusal_text r ++ codes "\n"
+
+-- ---- lines
+
+-- a verdict on a key
+abbrev pub verdict_text : List ℕ → Verdict → List ℕ
+verdict_text key Yes = codes "equal " ++ key
+verdict_text key (No kind at side) = codes "differs " ++ key ++ codes " no " ++ extended_text kind at ++ codes " " ++ side_text side
+
+-- behind the line of a key whose zones differ
+abbrev pub zone_text : Bool → List ℕ
+zone_text true = []
+zone_text false = codes " zone"
+
+-- what is said of a key
+abbrev pub said_text : List ℕ → Said → List ℕ
+said_text key (Only side) = codes "only " ++ side_text side ++ codes " " ++ key
+said_text key (Refused side r) = codes "refused " ++ key ++ codes " " ++ side_text side ++ codes " " ++ key_refusal_text r
+said_text key (Compared verdict one_zone) = verdict_text key verdict ++ zone_text one_zone
+
+-- a line is printed where those of equal keys are left out
+abbrev pub is_difference : Said → Bool
+is_difference said = not (is_equal said)
+
+-- the line of a key, or nothing where it is left out
+abbrev pub line_text : Bool → ReportLine → List ℕ
+line_text only_differences line =
+    if not only_differences || is_difference line.said then said_text (key_text line.key) line.said ++ codes "\n" else []
+
+-- the lines of the keys
+abbrev pub lines_text : Bool → List ReportLine → List ℕ
+lines_text only_differences [] = []
+lines_text only_differences (line ∷ lines) = line_text only_differences line ++ lines_text only_differences lines
+
+-- the last line, which counts
+abbrev pub counts_text : Counts → List ℕ
+counts_text counts =
+    codes "events " ++ decimal counts.events ++ codes " equal " ++ decimal counts.equal ++ codes " differs " ++ decimal counts.differs
+    ++ codes " only-A " ++ decimal counts.only_a ++ codes " only-B " ++ decimal counts.only_b ++ codes " refused " ++ decimal counts.refused ++ codes "\n"
+
+-- The report as it is printed: the lines of the keys, and the counts of all.
+unfoldable pub printed : Bool → List ReportLine → List ℕ
+printed only_differences lines = lines_text only_differences lines ++ counts_text (counts_of lines)

@@ -1,0 +1,80 @@
+-- What is said of a key.
+use Rattle.std.specs.Prelude.{◌≡◌, ℕ, Bool, true, ℤ, List, [], ◌∷◌, ◌++◌, Option, ⊤, bytes_eq}
+use Rattle.std.specs.List.{list_all}
+use Rattle.rr_model.specs.Calendar.{IsDayWithin}
+use Rattle.rr_model.specs.Moment.{day_part}
+use Rattle.rr_model.specs.Moment.Years.{IsFromYearOne}
+use Rattle.rr_model.specs.Series.Occurrences.{Occurs}
+use Rattle.rr_decide.specs.Occurrence.{NamesUpToMaxDay}
+use Rattle.rr_model.specs.Sets.Sketch.{StandsIn}
+use Rattle.rr_model.specs.Sets.Verdict.{IsEqualVerdict}
+use Rattle.rr_model.specs.declared.rule.Series.{Series}
+use Rattle.rr_model.specs.declared.sketch.Sketch.{Sketch}
+use Rattle.rr_model.specs.declared.verdict.Side.{Side}
+use Rattle.rr_model.specs.declared.verdict.Side.TheVariants.{A, B, Both}
+use Rattle.rr_model.specs.declared.verdict.Verdict.{Verdict}
+use Rattle.rr_model.specs.declared.verdict.Verdict.TheVariants.{Yes, No}
+use Rattle.rr_trip.specs.Judged.{IsKeyRefusal, IsKeySeries, key_zones}
+use Rattle.rr_trip.specs.declared.event.Event.{Event}
+use Rattle.rr_trip.specs.declared.gather.KeyFault.{KeyFault}
+use Rattle.rr_trip.specs.declared.gather.KeyFault.TheVariants as key_fault
+use Rattle.rr_trip.specs.declared.gather.KeyRefusal.{KeyRefusal}
+use Rattle.rr_trip.specs.declared.said.Said.{Said}
+use Rattle.rr_trip.specs.declared.said.Said.TheVariants.{Only, Refused, Compared}
+
+-- the TZID parameters are all the same
+abbrev pub have_one_zone : List (List ℕ) → Bool
+have_one_zone [] = true
+have_one_zone (zone ∷ zones) = list_all (bytes_eq zone) zones
+
+-- the events of B are refused, while those of A state a series
+pub record IsSecondRefusal (offset : Option ℤ) (a b : List Event) (refusal : KeyRefusal) : Type 0 where
+  pub series : Series
+  pub first : IsKeySeries offset a series
+  pub refused : IsKeyRefusal offset b refusal
+
+-- the events of a key are refused on this side: A's, or, where those state a series, B's
+abbrev pub IsRefusedOn : Side → Option ℤ → List Event → List Event → KeyRefusal → Type 0
+IsRefusedOn A offset a b refusal = IsKeyRefusal offset a refusal
+IsRefusedOn B offset a b refusal = IsSecondRefusal offset a b refusal
+IsRefusedOn Both offset a b refusal = ⊥
+
+-- the events of a key state a series in each calendar, and this is the verdict on their equality, over all whole numbers
+pub record IsComparison (offset : Option ℤ) (a b : List Event) (verdict : Verdict) : Type 0 where
+  pub series_a : Series
+  pub series_b : Series
+  pub first : IsKeySeries offset a series_a
+  pub second : IsKeySeries offset b series_b
+  pub is_verdict : IsEqualVerdict (Occurs series_a) (Occurs series_b) verdict
+
+-- What is said of a key with these events in A and in B: where one calendar has none, that the other alone has some; else the refusal of
+-- A, else that of B, else the verdict, and whether the zones are the same.
+abbrev pub IsSaid : Option ℤ → List Event → List Event → Said → Type 0
+IsSaid offset a [] said = said ≡ Only A
+IsSaid offset [] (y ∷ ys) said = said ≡ Only B
+IsSaid offset (x ∷ xs) (y ∷ ys) (Only side) = ⊥
+IsSaid offset (x ∷ xs) (y ∷ ys) (Refused side refusal) = IsRefusedOn side offset (x ∷ xs) (y ∷ ys) refusal
+IsSaid offset (x ∷ xs) (y ∷ ys) (Compared verdict one_zone) =
+    IsComparison offset (x ∷ xs) (y ∷ ys) verdict × (one_zone ≡ have_one_zone (key_zones (x ∷ xs) ++ key_zones (y ∷ ys)))
+
+-- what a fault of a key is said as; of out of memory nothing is said
+abbrev pub IsFaultSaid : Side → KeyFault → Said → Type 0
+IsFaultSaid side (key_fault.Refused refusal) said = said ≡ Refused side refusal
+IsFaultSaid side key_fault.NoMemory said = ⊥
+
+-- The verdict on the equality of two sketches, over all whole numbers, which names a day up to the greatest, and whether the zones are the same.
+abbrev pub IsCompared : Sketch → Sketch → Bool → Said → Type 0
+IsCompared a b zones (Compared verdict one_zone) =
+    IsEqualVerdict (StandsIn a) (StandsIn b) verdict × NamesUpToMaxDay verdict × (one_zone ≡ zones)
+IsCompared a b zones said = ⊥
+
+-- a no names a counterexample that can be printed, from 0001-01-01 up to the greatest day
+abbrev pub IsPrintable : Verdict → Type 0
+IsPrintable Yes = ⊤
+IsPrintable (No kind at side) = IsFromYearOne (day_part kind at) × IsDayWithin 0 (day_part kind at)
+
+-- what is said can be printed
+abbrev pub IsPrintableSaid : Said → Type 0
+IsPrintableSaid (Only side) = ⊤
+IsPrintableSaid (Refused side refusal) = ⊤
+IsPrintableSaid (Compared verdict one_zone) = IsPrintable verdict

@@ -1,0 +1,88 @@
+// Two calendar files, key by key.
+ghost use Rattle.std.specs.Prelude.{◌≡◌, [], All, IfOk, MatchOption};
+ghost use Rattle.rr_trip.specs.Entries.{IsNumbered};
+ghost use Rattle.rr_trip.specs.Report.{AnswersTrip, AreLinesOf, IsLineOf, IsRunAt};
+
+use crate::entry::{Entry, count_of_a, count_of_key, sorted_entries};
+use crate::file::{TripFault, read_file};
+use crate::key::{Key, copy_key};
+use crate::report::{Report, ReportLine};
+use crate::said::said_of;
+use rr_model::{NoMemory, Side};
+use std::alloc::Global;
+
+// The entries at the front that have the key of the first.
+#[derive(Clone, Copy)]
+struct Run<'a, 'b> {
+    first: &'b Entry<'a>,
+    entries: &'b [Entry<'a>],
+}
+
+// The first run of sorted entries.
+fn first_run<'a, 'b>(entries: &'b [Entry<'a>]) -> Option<Run<'a, 'b>>
+    ensures { MatchOption result (entries.now ≡ []) (λ run. IsRunAt entries.now run.first.now run.entries.now) }
+{
+    let first = entries.first()?;
+    let count = count_of_key(&first.key, entries);
+    Some(Run {
+        first,
+        entries: &entries[..count],
+    })
+}
+
+// What is said of a run of this key, whose entries of A come first.
+fn line_of(
+    alloc: Global,
+    offset: Option<i32>,
+    key: &Key,
+    run: &[Entry],
+) -> Result<ReportLine, NoMemory>
+    requires { All IsNumbered run.now }
+    ensures { IfOk result (λ line. IsLineOf offset key.now run.now line) }
+{
+    let key = copy_key(alloc, key)?;
+    let (a, b) = run.split_at(count_of_a(run));
+    Ok(ReportLine {
+        key,
+        said: said_of(alloc, offset, a, b)?,
+    })
+}
+
+// What is said of each key of sorted entries.
+fn lines_of(
+    alloc: Global,
+    offset: Option<i32>,
+    entries: &[Entry],
+) -> Result<Vec<ReportLine>, NoMemory>
+    requires { All IsNumbered entries.now }
+    ensures { IfOk result (λ lines. AreLinesOf offset entries.now lines.items) }
+{
+    let mut lines = Vec::new(alloc);
+    let mut start = 0;
+    while let Some(run) = first_run(&entries[start..]) {
+        lines.push(line_of(alloc, offset, &run.first.key, run.entries)?)?;
+        start += run.entries.len();
+    }
+    Ok(lines)
+}
+
+/// Compares two calendar files: each key of either has one line, in the order of the keys, which says what is so of its
+/// events. The offset is local time less UTC in seconds; see `rr_rrule::read`.
+///
+/// A file is refused as a whole as `TooLong`, `NoEvents` or `BadLine`; then nothing is said of keys, and nothing of B where A is
+/// refused.
+pub fn compare(
+    alloc: Global,
+    offset: Option<i32>,
+    old: &[u8],
+    new: &[u8],
+) -> Result<Report, TripFault>
+    ensures { AnswersTrip offset old.now new.now result }
+{
+    let a = read_file(alloc, Side::A, old)?;
+    let b = read_file(alloc, Side::B, new)?;
+    let entries = sorted_entries(alloc, &a, &b)?;
+    Ok(Report {
+        lines: lines_of(alloc, offset, &entries)?,
+    })
+}

@@ -1,0 +1,122 @@
+// What an event states of itself as part of a calendar (RFC 5545, sections 3.6.1 and 3.8.4.4).
+ghost use Rattle.std.specs.Prelude.{◌≡◌, ◌<◌, ◌+◌, ◌^◌, length, map, IfOk, option_map};
+ghost use Rattle.rr_trip.specs.Event.{event_of, has_rule_or_date, is_cancelled, is_rule_or_date, recurrence_of, recurrence_on, zone_of};
+ghost use Rattle.rr_events.specs.Finding.{lines_in};
+
+use crate::key::first_line;
+use crate::parameter::parameter_of;
+use rr_events::{Piece, first_named, first_value, own_lines};
+use rr_ical::{scan_lines, value_of_line};
+use rr_model::{Bytes, Line, LineName, NoMemory, Scan, UsedLine};
+use rr_text::lines_from;
+use std::alloc::Global;
+
+/// A RECURRENCE-ID, which makes an event an instance of a series (RFC 5545, section 3.8.4.4).
+#[derive(Drop)]
+pub struct Recurrence {
+    /// The number of its line.
+    pub line: u64,
+    /// Its value, empty where it has none.
+    pub value: Bytes,
+    /// Whether it has a RANGE parameter.
+    pub has_range: bool,
+    /// Its TZID parameter without the quotes around it, empty where it has none.
+    pub zone: Bytes,
+}
+
+/// What an event states of itself.
+#[derive(Drop)]
+pub struct Event {
+    /// The number of the line of its BEGIN.
+    pub first: u64,
+    /// Its used lines.
+    pub scan: Scan,
+    /// Its RECURRENCE-ID, where it is an instance.
+    pub recurrence: Option<Recurrence>,
+    /// Whether its STATUS is CANCELLED.
+    pub is_cancelled: bool,
+    /// The TZID parameter of its DTSTART without the quotes around it, empty where it has none.
+    pub zone: Bytes,
+}
+
+// The TZID parameter of a line.
+fn zone_of(alloc: Global, line: Option<&Line>) -> Result<Bytes, NoMemory>
+    ensures { IfOk result (λ zone. zone ≡ zone_of (option_map (λ l. l.now) line.entry)) }
+{
+    let Some(line) = line else {
+        return Ok(Bytes::new(alloc));
+    };
+    let zone = parameter_of(b"TZID", line.text.as_slice()).unwrap_or(b"");
+    Ok(Bytes::of(alloc, zone)?)
+}
+
+// What a RECURRENCE-ID line states.
+fn recurrence_on(alloc: Global, line: &Line) -> Result<Recurrence, NoMemory>
+    ensures { IfOk result (λ recurrence. recurrence ≡ recurrence_on line.now) }
+{
+    let text = line.text.as_slice();
+    let value = value_of_line(text).unwrap_or(b"");
+    Ok(Recurrence {
+        line: line.number,
+        value: Bytes::of(alloc, value)?,
+        has_range: parameter_of(b"RANGE", text).is_some(),
+        zone: zone_of(alloc, Some(line))?,
+    })
+}
+
+// The RECURRENCE-ID among the lines of an event.
+fn recurrence_of(alloc: Global, own: &[&Line]) -> Result<Option<Recurrence>, NoMemory>
+    ensures { IfOk result (λ recurrence. recurrence ≡ recurrence_of (map (λ line. line.now) own.now)) }
+{
+    match first_named(b"RECURRENCE-ID", own) {
+        None => Ok(None),
+        Some(line) => Ok(Some(recurrence_on(alloc, line)?)),
+    }
+}
+
+// Whether the STATUS among the lines of an event is CANCELLED (RFC 5545, section 3.8.1.11).
+fn is_cancelled(own: &[&Line]) -> bool
+    ensures { result ≡ is_cancelled (map (λ line. line.now) own.now) }
+{
+    first_value(b"STATUS", own).eq_ignore_ascii_case(b"CANCELLED")
+}
+
+// What the lines of an event state.
+fn event_of(alloc: Global, lines: &[Line]) -> Result<Event, NoMemory>
+    ensures { IfOk result (λ event. event ≡ event_of lines.now) }
+{
+    let own = own_lines(alloc, lines)?;
+    Ok(Event {
+        first: first_line(lines),
+        scan: scan_lines(alloc, false, 0, lines)?,
+        recurrence: recurrence_of(alloc, &own)?,
+        is_cancelled: is_cancelled(&own),
+        zone: zone_of(alloc, first_named(b"DTSTART", &own))?,
+    })
+}
+
+/// What an event states of itself.
+pub fn read_event(alloc: Global, piece: Piece) -> Result<Event, NoMemory>
+    requires { piece.first + length piece.text.now < 2 ^ 64 }
+    ensures { IfOk result (λ event. event ≡ event_of (lines_in piece.entry)) }
+{
+    let lines = lines_from(alloc, piece.text, false, piece.first)?;
+    event_of(alloc, lines.as_slice())
+}
+
+// Whether a used line is RRULE or RDATE.
+fn is_rule_or_date(line: &UsedLine) -> bool
+    ensures { result ≡ is_rule_or_date line.now.name }
+{
+    matches!(line.name, LineName::Rrule | LineName::Rdate)
+}
+
+/// Whether an event has a rule or dates of its own.
+pub fn has_rule_or_date(scan: &Scan) -> bool
+    ensures { result ≡ has_rule_or_date scan.now }
+{
+    scan.used
+        .as_slice()
+        .iter()
+        .any(|line| is_rule_or_date(line))
+}

@@ -1,0 +1,261 @@
+// Three months of two sequences of days as they are painted for a person.
+ghost use Rattle.std.specs.Prelude.{◌≡◌, ◌≤ℤ◌, ◌+ℤ◌, ◌-ℤ◌, ◌++◌, ◌≤◌, pos, neg_ℤ, OnOk};
+ghost use Rattle.rr_model.specs.Moment.{is_same_kind};
+ghost use Rattle.rr_model.specs.Calendar.{IsDayWithin};
+ghost use Rattle.rr_trip.specs.Grid.{IsPainted, cell_text, cells_text, day_sign, sign_of};
+
+use crate::printing::push;
+use rr_cal::{date_of, days_in_month, weekday};
+use rr_model::{Kind, MAX_DAY, NoMemory};
+use rr_word::DaySeq;
+use std::alloc::Global;
+
+// The farthest day either way whose months are painted, so that each of their days is one that a sequence takes.
+const FARTHEST: i64 = MAX_DAY - 1_000;
+
+// How many times of a day are printed at most.
+const MOST_TIMES: usize = 8;
+
+fn is_same_kind(a: Kind, b: Kind) -> bool
+    ensures { result ≡ is_same_kind a b }
+{
+    a == b
+}
+
+// The sign of a day by its times in A and in B.
+fn sign_of(one_kind: bool, a: &[u32], b: &[u32]) -> u8
+    ensures { result ≡ sign_of one_kind a.now b.now }
+{
+    match (a, b) {
+        ([], []) => b'.',
+        ([_, ..], []) => b'A',
+        ([], [_, ..]) => b'B',
+        ([_, ..], [_, ..]) => { if one_kind && a == b { b'=' } else { b'x' } }
+    }
+}
+
+// The sign of a day.
+fn day_sign<A: DaySeq, B: DaySeq>(a: &A, b: &B, day: i64) -> u8
+    requires { IsDayWithin 0 day }
+    ensures { result ≡ day_sign (A.sketch a.now) (B.sketch b.now) day }
+{
+    sign_of(is_same_kind(a.kind(), b.kind()), a.at(day), b.at(day))
+}
+
+// Puts the cell of a day; a Monday begins a row.
+fn push_cell<A: DaySeq, B: DaySeq>(
+    out: &mut Vec<u8>,
+    a: &A,
+    b: &B,
+    day: i64,
+) -> Result<(), NoMemory>
+    requires { IsDayWithin 0 day }
+    ensures { OnOk result (out.new.items ≡ out.old.items ++ cell_text (A.sketch a.now) (B.sketch b.now) day) }
+{
+    if weekday(day) == 0 {
+        push(out, b"\n")?;
+    }
+    push(out, &[b' ', b' ', day_sign(a, b, day)])
+}
+
+// The day so many days after another.
+fn day_after(first: i64, days: u8) -> i64
+    requires { IsPainted first }
+    ensures value { result ≡ first +ℤ pos days }
+    ensures within { IsDayWithin 0 result }
+{
+    first + i64::from(days)
+}
+
+// Puts the cells of days in a row.
+fn push_cells<A: DaySeq, B: DaySeq>(
+    out: &mut Vec<u8>,
+    a: &A,
+    b: &B,
+    first: i64,
+    days: u8,
+) -> Result<(), NoMemory>
+    requires { IsPainted first }
+    ensures { OnOk result (out.new.items ≡ out.old.items ++ cells_text (A.sketch a.now) (B.sketch b.now) first days) }
+{
+    for i in 0..days {
+        push_cell(out, a, b, day_after(first, i))?;
+    }
+    Ok(())
+}
+
+// The head of a month that begins on this day, and the blanks of the days of its first week that are no days of it.
+fn push_head(alloc: Global, out: &mut Vec<u8>, first: i64) -> Result<(), NoMemory>
+    requires { IsPainted first }
+{
+    let date = date_of(first);
+    let head = format!(in alloc;
+        "\n{:04}-{:02}\n Mo Tu We Th Fr Sa Su",
+        date.year, date.month
+    )?;
+    push(out, head.as_bytes())?;
+    let blank_days = weekday(first);
+    if blank_days > 0 {
+        push(out, b"\n")?;
+    }
+    for _ in 0..blank_days {
+        push(out, b"   ")?;
+    }
+    Ok(())
+}
+
+// The times of the first day with some among the days of three months, those of A before those of B: the usual ones.
+fn usual_times<'a, A: DaySeq, B: DaySeq>(a: &'a A, b: &'a B, first: i64) -> &'a [u32]
+    requires { IsPainted first }
+{
+    for i in 0..92 {
+        let day = day_after(first, i);
+        let times = a.at(day);
+        if !times.is_empty() {
+            return times;
+        }
+        let times = b.at(day);
+        if !times.is_empty() {
+            return times;
+        }
+    }
+    &[]
+}
+
+// Puts the times of a day, the first few of them where it has more.
+fn push_times(alloc: Global, out: &mut Vec<u8>, times: &[u32]) -> Result<(), NoMemory> {
+    for second in times.iter().take(MOST_TIMES) {
+        let second = *second;
+        let text = format!(in alloc;
+            " {:02}:{:02}:{:02}",
+            second / 3_600,
+            second / 60 % 60,
+            second % 60
+        )?;
+        push(out, text.as_bytes())?;
+    }
+    if times.len() > MOST_TIMES {
+        let more = format!(in alloc; " and {} more", times.len() - MOST_TIMES)?;
+        push(out, more.as_bytes())?;
+    }
+    Ok(())
+}
+
+// Puts the times of a day in one sequence, where they are others than the usual ones.
+fn push_unusual<S: DaySeq>(
+    alloc: Global,
+    out: &mut Vec<u8>,
+    name: &[u8],
+    usual: &[u32],
+    days: &S,
+    day: i64,
+) -> Result<(), NoMemory>
+    requires { IsDayWithin 0 day }
+{
+    let times = days.at(day);
+    if days.kind() == Kind::Days || times.is_empty() || times == usual {
+        return Ok(());
+    }
+    let date = date_of(day);
+    let text = format!(in alloc; "{:04}-{:02}-{:02} ", date.year, date.month, date.day)?;
+    push(out, text.as_bytes())?;
+    push(out, name)?;
+    push_times(alloc, out, times)?;
+    push(out, b"\n")
+}
+
+// Puts a month that begins on this day: its cells, and the days with others than the usual times.
+fn push_month<A: DaySeq, B: DaySeq>(
+    alloc: Global,
+    out: &mut Vec<u8>,
+    a: &A,
+    b: &B,
+    first: i64,
+) -> Result<(), NoMemory>
+    requires { IsPainted first }
+{
+    let days = month_length(first);
+    push_head(alloc, out, first)?;
+    push_cells(out, a, b, first, days)?;
+    push(out, b"\n")?;
+    Ok(())
+}
+
+// Puts the days of a month with others than the usual times.
+fn push_legend<A: DaySeq, B: DaySeq>(
+    alloc: Global,
+    out: &mut Vec<u8>,
+    usual: &[u32],
+    a: &A,
+    b: &B,
+    first: i64,
+) -> Result<(), NoMemory>
+    requires { IsPainted first }
+{
+    for i in 0..month_length(first) {
+        let day = day_after(first, i);
+        push_unusual(alloc, out, b"A", usual, a, day)?;
+        push_unusual(alloc, out, b"B", usual, b, day)?;
+    }
+    Ok(())
+}
+
+// How many days the month has that begins on this day.
+fn month_length(first: i64) -> u8
+    requires { IsPainted first }
+{
+    let date = date_of(first);
+    days_in_month(date.year, date.month)
+}
+
+// The first day of the month of a day.
+fn first_of_month(day: i64) -> i64
+    requires { IsDayWithin 0 day }
+    ensures low { (day -ℤ pos 256) ≤ℤ result }
+    ensures high { result ≤ℤ day }
+{
+    day - i64::from(date_of(day).day - 1)
+}
+
+// The first day of the month after the one that begins on this day.
+fn month_after(first: i64) -> i64
+    requires { IsPainted first }
+    ensures low { first ≤ℤ result }
+    ensures high { result ≤ℤ (first +ℤ pos 256) }
+{
+    first + i64::from(month_length(first))
+}
+
+/// The month of a day and the two after it, Monday first: for each day `=` where it has the same times in both, `x` where it
+/// has others, `A` or `B` where one alone has it, and `.` where none has; then the days with others than the usual times.
+///
+/// It is empty for a day within 1,000 of `MAX_DAY`.
+pub fn picture<A: DaySeq, B: DaySeq>(
+    alloc: Global,
+    a: &A,
+    b: &B,
+    day: i64,
+) -> Result<Vec<u8>, NoMemory> {
+    let mut out = Vec::new(alloc);
+    if day < -FARTHEST || day > FARTHEST {
+        return Ok(out);
+    }
+    let first = first_of_month(day);
+    let second = month_after(first);
+    let third = month_after(second);
+    push_month(alloc, &mut out, a, b, first)?;
+    push_month(alloc, &mut out, a, b, second)?;
+    push_month(alloc, &mut out, a, b, third)?;
+    push(
+        &mut out,
+        b"\n= both, x both at other times, A or B one alone, . none\n",
+    )?;
+    let usual = usual_times(a, b, first);
+    push(&mut out, b"usually")?;
+    push_times(alloc, &mut out, usual)?;
+    push(&mut out, b"\n")?;
+    push_legend(alloc, &mut out, usual, a, b, first)?;
+    push_legend(alloc, &mut out, usual, a, b, second)?;
+    push_legend(alloc, &mut out, usual, a, b, third)?;
+    Ok(out)
+}

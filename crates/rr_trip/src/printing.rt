@@ -1,0 +1,271 @@
+// The lines of a report as they are printed.
+ghost use Rattle.std.specs.Prelude.{◌≡◌, ◌<◌, ◌++◌, All, IfOk, OnOk};
+ghost use Rattle.std.specs.Fmt.{decimal};
+ghost use Rattle.rr_trip.specs.Printed.{counts_text, escaped, escaped_byte, event_refusal_text, file_refusal_line, has_number, hex_digit, is_difference, key_refusal_text, key_text, line_text, lines_text, printed, said_text, side_text, verdict_text};
+ghost use Rattle.rr_trip.specs.Said.{IsPrintable, IsPrintableSaid};
+
+use crate::file::FileRefusal;
+use crate::gather::KeyRefusal;
+use crate::key::Key;
+use crate::report::{Counts, Report, ReportLine};
+use crate::said::Said;
+use rr_model::{NoMemory, Refusal, Side, Verdict};
+use rr_text::{push_extended, push_unsigned};
+use std::alloc::Global;
+
+fn side_text(side: Side) -> &'static [u8]
+    ensures { result.now ≡ side_text side }
+{
+    match side {
+        Side::A => b"A",
+        Side::B => b"B",
+        Side::Both => b"both",
+    }
+}
+
+// Puts a text.
+pub fn push(out: &mut Vec<u8>, text: &[u8]) -> Result<(), NoMemory>
+    ensures { OnOk result (out.new.items ≡ out.old.items ++ text.now) }
+{
+    out.extend_from_slice(text)?;
+    Ok(())
+}
+
+// A digit to the base of 16.
+fn hex_digit(value: u8) -> u8
+    requires { value < 16 }
+    ensures { result ≡ hex_digit value }
+{
+    if value < 10 {
+        b'0' + value
+    } else {
+        b'a' + (value - 10)
+    }
+}
+
+// A byte as it stands, or as a backslash, an x and two digits where it is a blank, a control character, a backslash or no ASCII.
+fn push_escaped_byte(out: &mut Vec<u8>, byte: u8) -> Result<(), NoMemory>
+    ensures { OnOk result (out.new.items ≡ out.old.items ++ escaped_byte byte) }
+{
+    if byte > b' ' && byte < 0x7F && byte != b'\\' {
+        out.push(byte)?;
+        return Ok(());
+    }
+    let text = [b'\\', b'x', hex_digit(byte / 16), hex_digit(byte % 16)];
+    push(out, &text)
+}
+
+fn push_escaped(out: &mut Vec<u8>, text: &[u8]) -> Result<(), NoMemory>
+    ensures { OnOk result (out.new.items ≡ out.old.items ++ escaped text.now) }
+{
+    for byte in text {
+        push_escaped_byte(out, *byte)?;
+    }
+    Ok(())
+}
+
+// A key: `line 12`, or the UID.
+pub fn push_key(out: &mut Vec<u8>, key: &Key) -> Result<(), NoMemory>
+    ensures { OnOk result (out.new.items ≡ out.old.items ++ key_text key.now) }
+{
+    match key {
+        Key::Line(number) => {
+            push(out, b"line ")?;
+            push_unsigned(out, *number)
+        }
+        Key::Uid(uid) => push_escaped(out, uid.as_slice()),
+    }
+}
+
+// Whether a refusal is printed with a number of its own.
+fn has_number(refusal: Refusal) -> bool
+    ensures { result ≡ has_number refusal }
+{
+    matches!(
+        refusal,
+        Refusal::BadLine(_)
+            | Refusal::BadMoment(_)
+            | Refusal::MixedKinds(_)
+            | Refusal::BadRule(_)
+            | Refusal::PartTwice(_)
+            | Refusal::NumberRange(_)
+            | Refusal::NotSynchronised(_)
+            | Refusal::NotRising(_)
+    )
+}
+
+// The refusal of an event, with its own number, else with the line of the event's BEGIN.
+fn push_event_refusal(
+    alloc: Global,
+    out: &mut Vec<u8>,
+    refusal: Refusal,
+    line: u64,
+) -> Result<(), NoMemory>
+    ensures { OnOk result (out.new.items ≡ out.old.items ++ event_refusal_text refusal line) }
+{
+    let text = format!(in alloc; "{refusal}")?;
+    push(out, text.as_bytes())?;
+    if has_number(refusal) {
+        return Ok(());
+    }
+    push_numbered(out, b" ", line)
+}
+
+// A text and a number.
+fn push_numbered(out: &mut Vec<u8>, text: &[u8], number: u64) -> Result<(), NoMemory>
+    ensures { OnOk result (out.new.items ≡ out.old.items ++ text.now ++ decimal number) }
+{
+    push(out, text)?;
+    push_unsigned(out, number)
+}
+
+fn push_key_refusal(alloc: Global, out: &mut Vec<u8>, refusal: KeyRefusal) -> Result<(), NoMemory>
+    ensures { OnOk result (out.new.items ≡ out.old.items ++ key_refusal_text refusal) }
+{
+    match refusal {
+        KeyRefusal::Event { refusal, line } => push_event_refusal(alloc, out, refusal, line),
+        KeyRefusal::Range(line) => push_numbered(out, b"Range ", line),
+        KeyRefusal::TwoSeries(line) => push_numbered(out, b"TwoSeries ", line),
+        KeyRefusal::TwoInstances(line) => push_numbered(out, b"TwoInstances ", line),
+        KeyRefusal::ExcludedRule(line) => push_numbered(out, b"ExcludedRule ", line),
+    }
+}
+
+// The verdict on a key that is printed so.
+fn push_verdict(out: &mut Vec<u8>, name: &[u8], verdict: Verdict) -> Result<(), NoMemory>
+    requires { IsPrintable verdict }
+    ensures { OnOk result (out.new.items ≡ out.old.items ++ verdict_text name.now verdict) }
+{
+    match verdict {
+        Verdict::Yes => {
+            push(out, b"equal ")?;
+            push(out, name)
+        }
+        Verdict::No { kind, at, side } => {
+            push(out, b"differs ")?;
+            push(out, name)?;
+            push(out, b" no ")?;
+            push_extended(out, kind, at)?;
+            push(out, b" ")?;
+            push(out, side_text(side))
+        }
+    }
+}
+
+// What is said of a key that is printed so, without the line feed.
+pub fn push_said(alloc: Global, out: &mut Vec<u8>, name: &[u8], said: Said) -> Result<(), NoMemory>
+    requires { IsPrintableSaid said }
+    ensures { OnOk result (out.new.items ≡ out.old.items ++ said_text name.now said) }
+{
+    match said {
+        Said::Only(side) => {
+            push(out, b"only ")?;
+            push(out, side_text(side))?;
+            push(out, b" ")?;
+            push(out, name)
+        }
+        Said::Refused { side, refusal } => {
+            push(out, b"refused ")?;
+            push(out, name)?;
+            push(out, b" ")?;
+            push(out, side_text(side))?;
+            push(out, b" ")?;
+            push_key_refusal(alloc, out, refusal)
+        }
+        Said::Compared { verdict, one_zone } => {
+            push_verdict(out, name, verdict)?;
+            let zone: &[u8] = if one_zone { b"" } else { b" zone" };
+            push(out, zone)
+        }
+    }
+}
+
+// Whether a line is printed where those of equal keys are left out.
+fn is_difference(said: Said) -> bool
+    ensures { result ≡ is_difference said }
+{
+    !matches!(
+        said,
+        Said::Compared {
+            verdict: Verdict::Yes,
+            ..
+        }
+    )
+}
+
+// The line of a key, or nothing where it is left out.
+fn push_line(
+    alloc: Global,
+    out: &mut Vec<u8>,
+    only_differences: bool,
+    line: &ReportLine,
+) -> Result<(), NoMemory>
+    requires { IsPrintableSaid line.now.said }
+    ensures { OnOk result (out.new.items ≡ out.old.items ++ line_text only_differences line.now) }
+{
+    if !only_differences || is_difference(line.said) {
+        let mut name = Vec::new(alloc);
+        push_key(&mut name, &line.key)?;
+        push_said(alloc, out, &name, line.said)?;
+        return push(out, b"\n");
+    }
+    Ok(())
+}
+
+// The lines of keys.
+fn push_lines(
+    alloc: Global,
+    out: &mut Vec<u8>,
+    only_differences: bool,
+    lines: &[ReportLine],
+) -> Result<(), NoMemory>
+    requires { All (λ line. IsPrintableSaid line.said) lines.now }
+    ensures { OnOk result (out.new.items ≡ out.old.items ++ lines_text only_differences lines.now) }
+{
+    for line in lines {
+        push_line(alloc, out, only_differences, line)?;
+    }
+    Ok(())
+}
+
+// The last line, which counts.
+fn push_counts(out: &mut Vec<u8>, counts: Counts) -> Result<(), NoMemory>
+    ensures { OnOk result (out.new.items ≡ out.old.items ++ counts_text counts) }
+{
+    push_numbered(out, b"events ", counts.events as u64)?;
+    push_numbered(out, b" equal ", counts.equal as u64)?;
+    push_numbered(out, b" differs ", counts.differs as u64)?;
+    push_numbered(out, b" only-A ", counts.only_a as u64)?;
+    push_numbered(out, b" only-B ", counts.only_b as u64)?;
+    push_numbered(out, b" refused ", counts.refused as u64)?;
+    push(out, b"\n")
+}
+
+/// The report as it is printed: a line for each key, or, with `only_differences`, for each that is not equal, and a last line
+/// with the counts of all.
+#[tactic(auto, unfolding(crate::specs::Printed::printed))]
+pub fn print(alloc: Global, only_differences: bool, report: &Report) -> Result<Vec<u8>, NoMemory>
+    requires { All (λ line. IsPrintableSaid line.said) report.now.lines.items }
+    ensures { IfOk result (λ text. text.items ≡ printed only_differences report.now.lines.items) }
+{
+    let mut out = Vec::new(alloc);
+    push_lines(alloc, &mut out, only_differences, &report.lines)?;
+    push_counts(&mut out, report.counts())?;
+    Ok(out)
+}
+
+/// The line that refuses a whole file.
+pub fn print_refusal(alloc: Global, side: Side, refusal: FileRefusal) -> Result<Vec<u8>, NoMemory>
+    ensures { IfOk result (λ text. text.items ≡ file_refusal_line side refusal) }
+{
+    let mut out = Vec::new(alloc);
+    push(&mut out, b"refused ")?;
+    push(&mut out, side_text(side))?;
+    match refusal {
+        FileRefusal::TooLong => push(&mut out, b" TooLong")?,
+        FileRefusal::NoEvents => push(&mut out, b" NoEvents")?,
+        FileRefusal::BadLine(line) => push_numbered(&mut out, b" BadLine ", line)?,
+    }
+    push(&mut out, b"\n")?;
+    Ok(out)
+}

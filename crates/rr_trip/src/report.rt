@@ -1,0 +1,157 @@
+// What is said of each key of two calendars, and how many of each there are.
+ghost use Rattle.std.specs.Prelude.{◌≡◌};
+ghost use Rattle.rr_trip.specs.Counts.{count_said, counts_of, differs, is_equal, is_in_utc, is_only, is_refused, status_of};
+
+use crate::gather::KeyRefusal;
+use crate::key::Key;
+use crate::said::Said;
+use rr_model::{Refusal, Side, Verdict};
+
+/// What is said of one key.
+#[derive(Drop)]
+pub struct ReportLine {
+    /// The key.
+    pub key: Key,
+    /// What is said of it.
+    pub said: Said,
+}
+
+/// What is said of each key of two calendars, in the order of the keys.
+#[derive(Drop)]
+pub struct Report {
+    /// One line for each key.
+    pub lines: Vec<ReportLine>,
+}
+
+/// How many keys there are, and of how many each is said.
+#[derive(Clone, Copy, Debug, PartialEq, Eq)]
+pub struct Counts {
+    /// All keys.
+    pub events: usize,
+    /// Those with equal occurrences.
+    pub equal: usize,
+    /// Those with an occurrence that one calendar alone has.
+    pub differs: usize,
+    /// Those that A alone has.
+    pub only_a: usize,
+    /// Those that B alone has.
+    pub only_b: usize,
+    /// Those that are refused.
+    pub refused: usize,
+}
+
+/// How a comparison ends.
+#[derive(Clone, Copy, Debug, PartialEq, Eq)]
+pub enum Status {
+    /// All keys are equal.
+    Equal,
+    /// A key differs, or stands in one calendar alone.
+    Differs,
+    /// Neither, but a key or a file is refused.
+    Refused,
+}
+
+// Whether this is said of a key.
+fn is_equal(said: Said) -> bool
+    ensures { result ≡ is_equal said }
+{
+    matches!(
+        said,
+        Said::Compared {
+            verdict: Verdict::Yes,
+            ..
+        }
+    )
+}
+
+fn differs(said: Said) -> bool
+    ensures { result ≡ differs said }
+{
+    matches!(
+        said,
+        Said::Compared {
+            verdict: Verdict::No { .. },
+            ..
+        }
+    )
+}
+
+fn is_only(side: Side, said: Said) -> bool
+    ensures { result ≡ is_only side said }
+{
+    match said {
+        Said::Only(only) => only == side,
+        _ => false,
+    }
+}
+
+fn is_refused(said: Said) -> bool
+    ensures { result ≡ is_refused said }
+{
+    matches!(said, Said::Refused { .. })
+}
+
+/// Whether events of a key are refused for a moment in UTC beside local time, which no stated offset relates.
+pub fn is_in_utc(said: Said) -> bool
+    ensures { result ≡ is_in_utc said }
+{
+    matches!(
+        said,
+        Said::Refused {
+            refusal: KeyRefusal::Event {
+                refusal: Refusal::UtcMoment,
+                ..
+            },
+            ..
+        }
+    )
+}
+
+impl Report {
+    /// How many keys are refused for a moment in UTC beside local time.
+    pub fn in_utc_count(&self) -> usize
+        ensures { result ≡ count_said is_in_utc self.now.lines.items }
+    {
+        self.lines
+            .as_slice()
+            .iter()
+            .filter(|line| is_in_utc(line.said))
+            .count()
+    }
+
+    /// How many keys there are, and of how many each is said.
+    pub fn counts(&self) -> Counts
+        ensures { result ≡ counts_of self.now.lines.items }
+    {
+        let lines = self.lines.as_slice();
+        Counts {
+            events: lines.len(),
+            equal: lines.iter().filter(|line| is_equal(line.said)).count(),
+            differs: lines.iter().filter(|line| differs(line.said)).count(),
+            only_a: lines
+                .iter()
+                .filter(|line| is_only(Side::A, line.said))
+                .count(),
+            only_b: lines
+                .iter()
+                .filter(|line| is_only(Side::B, line.said))
+                .count(),
+            refused: lines.iter().filter(|line| is_refused(line.said)).count(),
+        }
+    }
+}
+
+impl Counts {
+    /// How a comparison with these counts ends.
+    pub fn status(self) -> Status
+        ensures { result ≡ status_of self }
+    {
+        if self.differs > 0 || self.only_a > 0 || self.only_b > 0 {
+            Status::Differs
+        } else if self.refused > 0 {
+            Status::Refused
+        } else {
+            Status::Equal
+        }
+    }
+}

@@ -1,0 +1,108 @@
+// What is said of a key.
+ghost use Rattle.std.specs.Prelude.{◌≡◌, ◌++◌, All, IfOk, bytes_eq};
+ghost use Rattle.std.specs.List.{list_all};
+ghost use Rattle.rr_trip.specs.Entries.{IsNumbered, events_in};
+ghost use Rattle.rr_trip.specs.Said.{IsCompared, IsFaultSaid, IsPrintableSaid, IsSaid, have_one_zone};
+
+use crate::entry::Entry;
+use crate::gather::{KeyFault, KeyRefusal};
+use crate::judge::{KeyDays, key_days};
+use rr_days::Folded;
+use rr_decide::equal;
+use rr_model::{Bytes, NoMemory, Side, Verdict};
+use rr_word::DaySeq;
+use std::alloc::Global;
+
+/// What is said of a key.
+#[derive(Clone, Copy, Debug, PartialEq, Eq)]
+pub enum Said {
+    /// Only this calendar has an event of the key.
+    Only(Side),
+    /// The events of the key in this calendar are refused.
+    Refused {
+        /// The calendar.
+        side: Side,
+        /// The refusal.
+        refusal: KeyRefusal,
+    },
+    /// Both are compared, for all years to come.
+    Compared {
+        /// Whether they have equal occurrences, else the first that one of them alone has.
+        verdict: Verdict,
+        /// Whether the TZID parameters of the key's events are all the same.
+        one_zone: bool,
+    },
+}
+
+fn is_zone(zone: &Bytes, other: &Bytes) -> bool
+    ensures { result ≡ bytes_eq zone.now other.now }
+{
+    zone.as_slice() == other.as_slice()
+}
+
+// Whether all are the same as this one.
+fn are_zone(zone: &Bytes, zones: &[Bytes]) -> bool
+    ensures { result ≡ list_all (bytes_eq zone.now) zones.now }
+{
+    zones.iter().all(|other| is_zone(zone, other))
+}
+
+// Whether the TZID parameters of both calendars are all the same.
+fn have_one_zone(a: &[Bytes], b: &[Bytes]) -> bool
+    ensures { result ≡ have_one_zone (a.now ++ b.now) }
+{
+    match (a, b) {
+        ([zone, a @ ..], b) => are_zone(zone, a) && are_zone(zone, b),
+        ([], [zone, b @ ..]) => are_zone(zone, b),
+        ([], []) => true,
+    }
+}
+
+// A refusal of one calendar.
+fn refusal_on(side: Side, fault: KeyFault) -> Result<Said, NoMemory>
+    ensures { IfOk result (IsFaultSaid side fault) }
+{
+    match fault {
+        KeyFault::NoMemory => Err(NoMemory),
+        KeyFault::Refused(refusal) => Ok(Said::Refused { side, refusal }),
+    }
+}
+
+// The verdict on both calendars.
+fn verdict_on(a: &KeyDays, b: &KeyDays) -> Said
+    ensures { IsCompared (⟦<Folded as DaySeq>⟧.sketch a.now.days) (⟦<Folded as DaySeq>⟧.sketch b.now.days) (have_one_zone (a.now.zones.items ++ b.now.zones.items)) result }
+{
+    Said::Compared {
+        verdict: equal(&a.days, &b.days),
+        one_zone: have_one_zone(&a.zones, &b.zones),
+    }
+}
+
+/// What is said of a key with these events in A and in B: that one calendar alone has some, else the refusal of A, else that
+/// of B, else the verdict. Nothing of B is read where A is refused.
+pub fn said_of(
+    alloc: Global,
+    offset: Option<i32>,
+    a: &[Entry],
+    b: &[Entry],
+) -> Result<Said, NoMemory>
+    requires a { All IsNumbered a.now }
+    requires b { All IsNumbered b.now }
+    ensures said { IfOk result (IsSaid offset (events_in a.now) (events_in b.now)) }
+    ensures printable { IfOk result IsPrintableSaid }
+{
+    if b.is_empty() {
+        return Ok(Said::Only(Side::A));
+    }
+    if a.is_empty() {
+        return Ok(Said::Only(Side::B));
+    }
+    let a = match key_days(alloc, offset, a) {
+        Ok(days) => days,
+        Err(fault) => return refusal_on(Side::A, fault),
+    };
+    match key_days(alloc, offset, b) {
+        Ok(b) => Ok(verdict_on(&a, &b)),
+        Err(fault) => refusal_on(Side::B, fault),
+    }
+}

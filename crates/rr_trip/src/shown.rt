@@ -1,0 +1,217 @@
+// What is said of the events that are printed by one name, with a picture of where they differ.
+ghost use Rattle.std.specs.Prelude.{◌≡◌, ◌++◌, All, IfOk, OnOk, bytes_eq, map};
+ghost use Rattle.std.specs.List.{filter};
+ghost use Rattle.rr_trip.specs.Entries.{IsNumbered, IsNumberedPiece, entry_of, events_in};
+ghost use Rattle.rr_trip.specs.Printed.{key_text};
+ghost use Rattle.rr_trip.specs.Shown.{AnswersShow, IsShownOf, IsShownSaid, IsUnknown, are_none, is_entry_named, named_part, said_status};
+
+use crate::entry::Entry;
+use crate::file::{TripFault, read_file};
+use crate::gather::KeyFault;
+use crate::grid::picture;
+use crate::judge::key_days;
+use crate::key::{Key, key_of};
+use crate::printing::{push, push_key, push_said};
+use crate::report::Status;
+use crate::said::{Said, said_of};
+use rr_events::Piece;
+use rr_model::{NoMemory, Side, Verdict, day_part};
+use std::alloc::Global;
+
+/// What is said of the events of one name.
+#[derive(Drop)]
+pub struct Shown {
+    /// How it ends.
+    pub status: Status,
+    /// What is printed.
+    pub text: Vec<u8>,
+    /// What is said, where a calendar has such an event.
+    pub said: Option<Said>,
+}
+
+// Whether a key is printed so.
+fn is_named(alloc: Global, key: &Key, name: &[u8]) -> Result<bool, NoMemory>
+    ensures { IfOk result (λ b. b ≡ bytes_eq (key_text key.now) name.now) }
+{
+    let mut text = Vec::new(alloc);
+    push_key(&mut text, key)?;
+    Ok(text.as_slice() == name)
+}
+
+// Puts an event whose key is printed so.
+fn put_named<'a>(
+    alloc: Global,
+    entries: &mut Vec<Entry<'a>>,
+    entry: Entry<'a>,
+    name: &[u8],
+) -> Result<(), NoMemory>
+    ensures { OnOk result (entries.new.items ≡ entries.old.items ++ named_part name.now entry.entry) }
+{
+    if !is_named(alloc, &entry.key, name)? {
+        return Ok(());
+    }
+    entries.push(entry)?;
+    Ok(())
+}
+
+// The events of one calendar whose key is printed so.
+fn entries_named<'a>(
+    alloc: Global,
+    side: Side,
+    pieces: &[Piece<'a>],
+    name: &[u8],
+) -> Result<Vec<Entry<'a>>, NoMemory>
+    requires { All IsNumberedPiece pieces.now }
+    ensures named { IfOk result (λ entries. entries.items ≡ filter (is_entry_named name.now) (map (entry_of side) pieces.now)) }
+    ensures numbered { IfOk result (λ entries. All IsNumbered entries.items) }
+{
+    let mut entries = Vec::new(alloc);
+    for piece in pieces {
+        let piece = *piece;
+        let key = key_of(alloc, piece)?;
+        put_named(alloc, &mut entries, Entry { key, side, piece }, name)?;
+    }
+    Ok(entries)
+}
+
+// How it ends where this is said of one key.
+fn said_status(said: Said) -> Status
+    ensures { result ≡ said_status said }
+{
+    match said {
+        Said::Only(_) => Status::Differs,
+        Said::Refused { .. } => Status::Refused,
+        Said::Compared { verdict, .. } => match verdict {
+            Verdict::Yes => Status::Equal,
+            Verdict::No { .. } => Status::Differs,
+        },
+    }
+}
+
+// The picture of the months from a day on.
+fn picture_from(
+    alloc: Global,
+    offset: Option<i32>,
+    a: &[Entry],
+    b: &[Entry],
+    day: i64,
+) -> Result<Vec<u8>, NoMemory>
+    requires a { All IsNumbered a.now }
+    requires b { All IsNumbered b.now }
+{
+    let a = key_days(alloc, offset, a);
+    let b = key_days(alloc, offset, b);
+    match (a, b) {
+        (Ok(a), Ok(b)) => picture(alloc, &a.days, &b.days, day),
+        (Err(KeyFault::NoMemory), _) | (_, Err(KeyFault::NoMemory)) => Err(NoMemory),
+        _ => Ok(Vec::new(alloc)),
+    }
+}
+
+// The picture of where the events of a key differ, or nothing.
+fn picture_of(
+    alloc: Global,
+    offset: Option<i32>,
+    said: Said,
+    a: &[Entry],
+    b: &[Entry],
+) -> Result<Vec<u8>, NoMemory>
+    requires a { All IsNumbered a.now }
+    requires b { All IsNumbered b.now }
+{
+    match said {
+        Said::Compared {
+            verdict: Verdict::No { kind, at, .. },
+            ..
+        } => picture_from(alloc, offset, a, b, day_part(kind, at)),
+        _ => Ok(Vec::new(alloc)),
+    }
+}
+
+// No event is printed so.
+fn unknown(alloc: Global, name: &[u8]) -> Result<Shown, NoMemory>
+    ensures { IfOk result (IsUnknown name.now) }
+{
+    let mut text = Vec::new(alloc);
+    push(&mut text, b"unknown ")?;
+    push(&mut text, name)?;
+    push(&mut text, b"\n")?;
+    Ok(Shown {
+        status: Status::Refused,
+        text,
+        said: None,
+    })
+}
+
+// What is said of the events of a key that is printed so, of which a calendar has one.
+fn shown_said(
+    alloc: Global,
+    offset: Option<i32>,
+    a: &[Entry],
+    b: &[Entry],
+    name: &[u8],
+) -> Result<Shown, NoMemory>
+    requires a { All IsNumbered a.now }
+    requires b { All IsNumbered b.now }
+    ensures { IfOk result (IsShownSaid offset (events_in a.now) (events_in b.now) name.now) }
+{
+    let said = said_of(alloc, offset, a, b)?;
+    let mut text = Vec::new(alloc);
+    push_said(alloc, &mut text, name, said)?;
+    push(&mut text, b"\n")?;
+    let picture = picture_of(alloc, offset, said, a, b)?;
+    push(&mut text, &picture)?;
+    Ok(Shown {
+        status: said_status(said),
+        text,
+        said: Some(said),
+    })
+}
+
+// Whether there are no events in A and none in B.
+fn are_none(a: &[Entry], b: &[Entry]) -> bool
+    ensures { result ≡ are_none a.now b.now }
+{
+    match (a, b) {
+        ([], []) => true,
+        ([_, ..], _) | ([], [_, ..]) => false,
+    }
+}
+
+// What is said of the events of a key that is printed so.
+fn shown_of(
+    alloc: Global,
+    offset: Option<i32>,
+    a: &[Entry],
+    b: &[Entry],
+    name: &[u8],
+) -> Result<Shown, NoMemory>
+    requires a { All IsNumbered a.now }
+    requires b { All IsNumbered b.now }
+    ensures { IfOk result (IsShownOf offset (events_in a.now) (events_in b.now) name.now) }
+{
+    if are_none(a, b) {
+        return unknown(alloc, name);
+    }
+    shown_said(alloc, offset, a, b, name)
+}
+
+/// What is said of the events of two calendar files whose key is printed by this name, as in a report; and, where they
+/// differ, a picture of the month of the first counterexample and the two after it. Where no event has the name, that.
+///
+/// A file is refused as a whole as in `compare`, which says of the offset.
+pub fn show(
+    alloc: Global,
+    offset: Option<i32>,
+    old: &[u8],
+    new: &[u8],
+    name: &[u8],
+) -> Result<Shown, TripFault>
+    ensures { AnswersShow offset old.now new.now name.now result }
+{
+    let pieces_a = read_file(alloc, Side::A, old)?;
+    let pieces_b = read_file(alloc, Side::B, new)?;
+    let a = entries_named(alloc, Side::A, &pieces_a, name)?;
+    let b = entries_named(alloc, Side::B, &pieces_b, name)?;
+    Ok(shown_of(alloc, offset, &a, &b, name)?)
+}
