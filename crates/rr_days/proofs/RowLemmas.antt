@@ -6,7 +6,7 @@ use Rattle.std.proofs.Math.Nat.{mod-add-mod, mod-eq_of_lt}
 use Rattle.std.proofs.Math.Seq.{drop-append_seam, take-append_seam}
 use Rattle.std.proofs.lemmas.Bool.Decides.{Decides-int_eq}
 use Rattle.std.proofs.lemmas.Int.{ints}
-use Rattle.std.proofs.lemmas.List.{get_or-drop, get_or-take, length-drop, length-take-le, take_all, take-append-drop}
+use Rattle.std.proofs.lemmas.List.{get_or-drop, get_or-take, length-take-le, take-append-drop}
 use Rattle.std.proofs.lemmas.List.Elements.{All-drop, All-head, All-tail, All-take}
 use Rattle.std.proofs.lemmas.Option.{slice_get-get_or}
 use Rattle.rr_model.specs.Whole.{floor_mod}
@@ -221,15 +221,14 @@ module _ (kind : Kind) (sets : List (List ℕ)) (before cycle : List ℕ) (first
       let P : ℕ → Type 0 = λ n. n < length sets in
       row_within sets settled cycle (subst (λ (ns : List ℕ). All P ns) (drop-append_seam before cycle) (All-drop P (length before) (before ++ cycle) w.within))
 
--- the two parts of a list
-pub parts_whole : (numbers before cycle : List ℕ) (days period : ℕ) → before ≡ take days (drop 0 numbers) → cycle ≡ take period (drop days numbers)
-    → length numbers ≡ days + period → before ++ cycle ≡ numbers
-parts_whole numbers before cycle days period eb ec whole =
-    let rest : take period (drop days numbers) ≡ drop days numbers =
-    take_all period (drop days numbers) (omega (arith, length-drop days numbers, whole)) in
-    ap (λ (l : List ℕ). l ++ cycle) eb ∙ ap (λ (l : List ℕ). take days numbers ++ l) (ec ∙ rest) ∙ take-append-drop days numbers
+-- the first numbers of a list, and those after them
+pub before_rest : (numbers before : List ℕ) (days : ℕ) → before ≡ take days (drop 0 numbers) → before ++ drop days numbers ≡ numbers
+before_rest numbers before days e = ap (λ (l : List ℕ). l ++ drop days numbers) e ∙ take-append-drop days numbers
 
--- the same of a list of numbers that is not in pages
+pub before_long : (numbers before : List ℕ) (days : ℕ) → before ≡ take days (drop 0 numbers) → days ≤ length numbers → length before ≡ days
+before_long numbers before days e l = ap length e ∙ length-take-le days numbers l
+
+-- the two parts of a list of numbers that is not in pages
 pub slice_parts : (numbers front back before cycle : List ℕ) (days period : ℕ) → before ≡ front → front ≡ take (min (length numbers) days) numbers
     → cycle ≡ back → back ≡ drop days numbers → length numbers ≡ days + period → (before ++ cycle ≡ numbers) × (length before ≡ days)
 slice_parts numbers front back before cycle days period eb ef ec er whole =

@@ -16,8 +16,9 @@ use std::alloc::Global;
 /// A set of occurrences that repeats from its settled day on: the occupied days before that day and those of one period, each
 /// with the number of its time set.
 ///
-/// Days are numbered from 1970-01-01, which is day 0. It takes at most four bytes for each of these days, and much less where they
-/// repeat, beside its distinct time sets. `sequence` and its kin make one.
+/// Days are numbered from 1970-01-01, which is day 0. It takes at most four bytes for each of these days, or eight for one before
+/// the settled day, and much less where they are more than 200,025 and repeat, beside its distinct time sets. `sequence` and its
+/// kin make one.
 #[derive(Drop)]
 pub struct Folded {
     kind: Kind,
@@ -59,9 +60,9 @@ pub fn sequence(
     let days = days_between(first, settled);
     let mut before = Pages::new(alloc);
     before.push_from(&numbers, 0, days)?;
-    let mut cycle = Pages::new(alloc);
-    cycle.push_from(&numbers, days, period as usize)?;
-    let folded = sequence_in_parts(kind, first, settled, period, before, cycle, shapes);
+    let folded = sequence_of_rest(
+        kind, first, settled, period, before, numbers, days, shapes,
+    );
     Ok(folded)
 }
 
@@ -104,9 +105,30 @@ pub fn sequence_in_parts(
     requires empty { get_or shapes 0 [] ≡ [] }
     ensures { ⟦<Folded as DaySeq>⟧.sketch result ≡ sketch_of kind shapes (before ++ cycle) first settled period }
 {
-    let occupied = first_occupied(&before, &cycle, &shapes, first);
+    sequence_of_rest(kind, first, settled, period, before, cycle, 0, shapes)
+}
+
+// The sequence, as `sequence` has it, where the numbers of the days before the settled day stand apart, and those of the period
+// follow the first `skipped` numbers of a row.
+fn sequence_of_rest(
+    kind: Kind,
+    first: i64,
+    settled: i64,
+    period: u64,
+    before: Pages,
+    row: Pages,
+    skipped: usize,
+    shapes: Shapes,
+) -> Folded
+    requires whole { IsWholeFold kind shapes (before ++ drop skipped row) first settled period }
+    requires parts { length before ≡ nat_abs (settled -ℤ first) }
+    requires within { skipped ≤ length row }
+    requires empty { get_or shapes 0 [] ≡ [] }
+    ensures { ⟦<Folded as DaySeq>⟧.sketch result ≡ sketch_of kind shapes (before ++ drop skipped row) first settled period }
+{
+    let occupied = first_occupied(&before, &row, skipped, &shapes, first);
     let early = RunDays::of_row(first, before);
-    let repeated = RunDays::of_row(settled, cycle);
+    let repeated = RunDays::of_rest(settled, row, skipped);
     Folded {
         kind,
         occupied,
@@ -119,15 +141,22 @@ pub fn sequence_in_parts(
 }
 
 // The first of the days whose set is not empty.
-fn first_occupied(before: &Pages, cycle: &Pages, shapes: &Shapes, first: i64) -> Option<i64>
+fn first_occupied(
+    before: &Pages,
+    row: &Pages,
+    skipped: usize,
+    shapes: &Shapes,
+    first: i64,
+) -> Option<i64>
     requires low { neg_ℤ (pos 1_000_000_000) ≤ℤ first }
     requires high { first ≤ℤ pos 1_000_000_000 }
-    requires within { All (λ n. n < length shapes.now) (before.now ++ cycle.now) }
-    ensures { IsFirstFilled shapes.now (before.now ++ cycle.now) first result }
+    requires skipped { skipped ≤ length row.now }
+    requires within { All (λ n. n < length shapes.now) (before.now ++ drop skipped row.now) }
+    ensures { IsFirstFilled shapes.now (before.now ++ drop skipped row.now) first result }
 {
-    for place in 0..before.len() + cycle.len() {
+    for place in 0..before.len() + (row.len() - skipped) {
         if !shapes
-            .times(number_of_place(before, cycle, place))
+            .times(number_of_place(before, row, skipped, place))
             .is_empty()
         {
             return Some(first + place as i64);
@@ -136,16 +165,17 @@ fn first_occupied(before: &Pages, cycle: &Pages, shapes: &Shapes, first: i64) ->
     None
 }
 
-// The number at a place of two lists, one after the other.
-fn number_of_place(before: &Pages, cycle: &Pages, place: usize) -> u32
-    requires { place < length before.now + length cycle.now }
-    ensures { result ≡ get_or (before.now ++ cycle.now) place 0 }
+// The number at a place of two lists, one after the other, where the first places of the second are passed over.
+fn number_of_place(before: &Pages, row: &Pages, skipped: usize, place: usize) -> u32
+    requires skipped { skipped ≤ length row.now }
+    requires place { place + skipped < length before.now + length row.now }
+    ensures { result ≡ get_or (before.now ++ drop skipped row.now) place 0 }
 {
     let days = before.len();
     if place < days {
         return before.number_at(place);
     }
-    cycle.number_at(place - days)
+    row.number_at(place - days + skipped)
 }
 
 impl DaySeq for Folded {

@@ -1,10 +1,10 @@
 -- A list of numbers that is kept in pages.
-use Rattle.std.proofs.Common.{◌≡◌, inl, inr, ℕ, zero, suc, ◌+◌, ◌*◌, ◌-◌, ◌/◌, ◌%◌, ◌<◌, ◌≤◌, min, true, false, List, [], ◌∷◌, ◌++◌, length, get_or, take, drop, replicate, refl, sym, ap, ◌∙◌, append_assoc, append-nil, arith, length-append, length-drop}
-use Rattle.std.proofs.lemmas.List.{get_or-drop, get_or-take, length-take, length-take-le, drop-append-le, drop-drop, take-append-le, take_all, get_or-append-add, ext_get_or, get_or-replicate, length-replicate, replicate-append-replicate, take-replicate}
+use Rattle.std.proofs.Common.{◌≡◌, inl, inr, ℕ, zero, suc, ◌+◌, ◌*◌, ◌-◌, ◌/◌, ◌%◌, ◌<◌, ◌≤◌, min, true, false, List, [], ◌∷◌, ◌++◌, length, get_or, take, drop, replicate, refl, sym, ap, subst, ◌∙◌, append_assoc, append-nil, arith, length-append, length-drop}
+use Rattle.std.proofs.lemmas.List.{get_or-drop, get_or-take, length-take, length-take-le, drop-append-le, drop-drop, take-append-drop, take-append-le, take_all, get_or-append-add, ext_get_or, get_or-replicate, length-replicate, replicate-append-replicate}
 use Rattle.std.proofs.Math.ListN.{get_or-append}
-use Rattle.std.proofs.Math.Seq.{drop-append_seam, get_or-append_seam, take-add, take-length}
+use Rattle.std.proofs.Math.Seq.{drop-append_seam, drop-nil, get_or-append_seam, take-add, take-append-add, take-length, take-nil}
 use Rattle.std.proofs.lemmas.Bool.{cases_lt}
-use Rattle.rr_runs.specs.Pages.{ArePages, HasAgain, IsGrown, IsPageOf, IsPaged, IsPiece, IsZeroFrom, IsZeroPage, page_numbers, paged, repeated}
+use Rattle.rr_runs.specs.Pages.{ArePages, HasRoom, IsGrown, IsPageOf, IsPaged, IsPiece, IsZeroFrom, IsZeroPage, page_numbers, paged}
 
 length_page : (pool : List ℕ) (p : ℕ) → p + 63 ≤ length pool → length (page_numbers pool p) ≡ 63
 length_page pool p h = simp (length-take, length-drop) (omega arith)
@@ -116,17 +116,15 @@ module _ (pool pages rest numbers : List ℕ) (view : numbers ≡ paged pool pag
             ∙ ap (λ i. get_or numbers i 0) (sym in_list);
       }
 
--- a page more, in place of the numbers after the last page
-pub closed : (pool pool' pages pages' rest rest' : List ℕ) (page : ℕ) → IsPaged pool pages rest → IsGrown pool pool' → IsPageOf pool' rest page
-    → pages' ≡ pages ++ page ∷ [] → rest' ≡ [] → paged pool' pages' ++ rest' ≡ paged pool pages ++ rest
-closed pool pool' pages pages' rest rest' page is (more, grown) of ep er =
-    let kept : paged pool' pages ≡ paged pool pages = rw grown (paged_stays pool more pages is.stand) in
-    ap (λ (l : List ℕ). paged pool' l ++ rest') ep
-    ∙ ap (λ (l : List ℕ). paged pool' (pages ++ page ∷ []) ++ l) er
-    ∙ append-nil (paged pool' (pages ++ page ∷ []))
-    ∙ paged-append pool' pages page
-    ∙ ap (λ (l : List ℕ). l ++ page_numbers pool' page) kept
-    ∙ ap (λ (l : List ℕ). paged pool pages ++ l) of.same
+-- pages in place of the numbers after the last page
+pub all_closed : (pool pool' pages pages' rest rest' : List ℕ) → paged pool' pages' ≡ paged pool pages ++ rest → rest' ≡ []
+    → paged pool' pages' ++ rest' ≡ paged pool pages ++ rest
+all_closed pool pool' pages pages' rest rest' e er = ap (λ (l : List ℕ). paged pool' pages' ++ l) er ∙ append-nil (paged pool' pages') ∙ e
+
+-- pages that were put are taken away
+pub taken_back : (pages pages' pages'' : List ℕ) (before : ℕ) → IsGrown pages pages' → before ≡ length pages → pages'' ≡ take before pages' → pages'' ≡ pages
+taken_back pages pages' pages'' before (more, grown) en e =
+    e ∙ ap (take before) grown ∙ take-append-le before pages more (omega arith) ∙ take_all before pages (omega arith)
 
 -- the pages of a pool that has grown
 pub pages_stand : (pool pool' pages : List ℕ) → ArePages pool pages → IsGrown pool pool' → ArePages pool' pages
@@ -155,24 +153,62 @@ pub is_paged_grown : (pool pool' pages rest : List ℕ) → IsPaged pool pages r
 is_paged_grown pool pool' pages rest is grown = record {
   stand = pages_stand pool pool' pages is.stand grown;
   few = is.few;
-  short = is.short;
+  room = is.room;
 }
 
-pub is_paged_closed : (pool pool' pages pages' rest rest' : List ℕ) (page : ℕ) → IsPaged pool pages rest → IsGrown pool pool' → IsPageOf pool' rest page
-    → pages' ≡ pages ++ page ∷ [] → rest' ≡ [] → length pages < 100_000_000 → IsPaged pool' pages' rest'
-is_paged_closed pool pool' pages pages' rest rest' page is grown of ep er few = record {
-  stand = more_pages pool' pages pages' page (pages_stand pool pool' pages is.stand grown) of.within ep;
-  few = omega (arith, ap length ep ∙ length-append pages (page ∷ []));
-  short = omega (arith, ap length er);
+-- no numbers after the last page
+pub none_after : (pages rest : List ℕ) → rest ≡ [] → HasRoom pages rest 1
+none_after pages rest e = let none : length rest ≡ 0 = ap length e in record { short = omega (arith, none); late = λ some. omega (arith, none) }
+
+pub less_room : (pages rest : List ℕ) (count less : ℕ) → HasRoom pages rest count → less ≤ count → HasRoom pages rest less
+less_room pages rest count less room l = record { short = omega (arith, room.short); late = λ some. omega (arith, room.late some) }
+
+pub closed_is_paged : (pool pages rest : List ℕ) → ArePages pool pages → length pages ≤ 100_000_000 → rest ≡ [] → IsPaged pool pages rest
+closed_is_paged pool pages rest stand few e = record {
+  stand = stand;
+  few = few;
+  room = less_room pages rest 1 0 (none_after pages rest e) (omega arith);
 }
 
-pub is_paged_more : (pool pages rest rest' : List ℕ) (number : ℕ) → IsPaged pool pages rest → length rest < 63 → rest' ≡ rest ++ number ∷ []
-    → IsPaged pool pages rest'
-is_paged_more pool pages rest rest' number is room e = record {
-  stand = is.stand;
-  few = is.few;
-  short = omega (arith, ap length e ∙ length-append rest (number ∷ []));
-}
+-- pages that were put and taken away again, over a pool that has grown
+pub back_paged : (pool pool' pages pages' pages'' rest : List ℕ) (before : ℕ) → IsPaged pool pages rest → IsGrown pool pool' → IsGrown pages pages'
+    → before ≡ length pages → pages'' ≡ take before pages'
+    → IsPaged pool' pages'' rest × (paged pool' pages'' ++ rest ≡ paged pool pages ++ rest)
+back_paged pool pool' pages pages' pages'' rest before is grown more en e =
+    let back : pages'' ≡ pages = taken_back pages pages' pages'' before more en e in (
+      subst (λ (l : List ℕ). IsPaged pool' l rest) (sym back) (is_paged_grown pool pool' pages rest is grown),
+      ap (λ (l : List ℕ). paged pool' l ++ rest) back ∙ paged_in_grown pool pool' pages rest is grown,
+    )
+
+-- where there is no room
+pub no_room : (pages rest : List ℕ) (count : ℕ) → HasRoom pages rest 0 → (HasRoom pages rest (count + 1) → ⊥) → count ≡ 0 → length rest % 63 ≡ 0
+no_room [] rest count room all none =
+    elim (cases_lt (length rest) 200_025) [
+      | inl l ↦ absurd (all (record { short = omega arith; late = λ some. absurd (omega arith) }))
+      | inr g ↦ omega (arith, room.short)
+    ]
+no_room (p ∷ pages) rest count room all none =
+    elim (cases_lt (length rest) 63) [
+      | inl l ↦ absurd (all (record { short = omega arith; late = λ some. omega arith }))
+      | inr g ↦ omega (arith, room.late (omega arith))
+    ]
+
+-- ---- numbers that become pages
+
+pub grown_none : (xs : List ℕ) → IsGrown xs xs
+grown_none xs = ([], sym (append-nil xs))
+
+pub grown_on : (xs ys zs : List ℕ) → IsGrown xs ys → IsGrown ys zs → IsGrown xs zs
+grown_on xs ys zs (more, e) (other, e') = (more ++ other, e' ∙ ap (λ (l : List ℕ). l ++ other) e ∙ append_assoc xs more other)
+
+-- the first 63 of the numbers that are left become a page
+pub page_goes_on : (all part left left' now now' : List ℕ) → 63 ≤ length left → part ≡ take (min (length left) 63) left → left' ≡ drop 63 left
+    → now' ≡ now ++ part → now ++ left ≡ all → now' ++ left' ≡ all
+page_goes_on all part left left' now now' l ep el en e =
+    let n : min (length left) 63 ≡ 63 = omega (arith, l) in
+    let whole : part ++ left' ≡ left =
+    ap (λ (xs : List ℕ). xs ++ left') (ep ∙ ap (λ k. take k left) n) ∙ ap (λ (xs : List ℕ). take 63 left ++ xs) el ∙ take-append-drop 63 left in
+    ap (λ (xs : List ℕ). xs ++ left') en ∙ append_assoc now part left' ∙ ap (λ (xs : List ℕ). now ++ xs) whole ∙ e
 
 -- ---- stretches
 
@@ -241,89 +277,130 @@ paged_all pool (q ∷ pages) more =
     ap (λ (l : List ℕ). page_numbers pool q ++ l) (paged_all pool pages more)
     ∙ sym (append_assoc (page_numbers pool q) (paged pool pages) (paged pool more))
 
-pub paged_same : (pool numbers : List ℕ) (page count : ℕ) → page_numbers pool page ≡ numbers → paged pool (replicate count page) ≡ repeated count numbers
-paged_same pool numbers page zero e = refl
-paged_same pool numbers page (suc count) e =
-    ap (λ (l : List ℕ). l ++ paged pool (replicate count page)) e ∙ ap (λ (l : List ℕ). numbers ++ l) (paged_same pool numbers page count e)
-
-pub repeated_same : (count number : ℕ) (numbers : List ℕ) → numbers ≡ replicate 63 number → repeated count numbers ≡ replicate (count * 63) number
-repeated_same zero number numbers e = let none : 0 * 63 ≡ 0 = omega arith in ap (λ n. replicate n number) (sym none)
-repeated_same (suc count) number numbers e =
+pub paged_same : (pool : List ℕ) (page number count : ℕ) → page_numbers pool page ≡ replicate 63 number
+    → paged pool (replicate count page) ≡ replicate (count * 63) number
+paged_same pool page number zero e = let none : 0 * 63 ≡ 0 = omega arith in ap (λ n. replicate n number) (sym none)
+paged_same pool page number (suc count) e =
     let sum : 63 + count * 63 ≡ suc count * 63 = omega arith in
-    ap (λ (l : List ℕ). l ++ repeated count numbers) e
-    ∙ ap (λ (l : List ℕ). replicate 63 number ++ l) (repeated_same count number numbers e)
+    ap (λ (l : List ℕ). l ++ paged pool (replicate count page)) e
+    ∙ ap (λ (l : List ℕ). replicate 63 number ++ l) (paged_same pool page number count e)
     ∙ replicate-append-replicate 63 (count * 63) number
     ∙ ap (λ n. replicate n number) sum
 
--- where no page is open nothing is left after the pages are closed
-pub none_open : (pool pages rest numbers : List ℕ) → IsPaged pool pages rest → paged pool pages ++ rest ≡ numbers → length numbers % 63 ≡ 0 → length rest < 63
-    → rest ≡ []
-none_open pool pages [] numbers is view whole room = refl
-none_open pool pages (r ∷ rest) numbers is view whole room =
-    let all = length_numbers pool pages (r ∷ rest) numbers (sym view) is in
-    absurd (omega (arith, all))
+-- a page is put
+pub page_put : (pool pool' pages pages' numbers : List ℕ) (page : ℕ) → ArePages pool pages → IsGrown pool pool' → IsPageOf pool' numbers page
+    → pages' ≡ pages ++ page ∷ [] → paged pool' pages' ≡ paged pool pages ++ numbers
+page_put pool pool' pages pages' numbers page stand (more, grown) of ep =
+    let kept : paged pool' pages ≡ paged pool pages = rw grown (paged_stays pool more pages stand) in
+    ap (paged pool') ep
+    ∙ paged-append pool' pages page
+    ∙ ap (λ (l : List ℕ). l ++ page_numbers pool' page) kept
+    ∙ ap (λ (l : List ℕ). paged pool pages ++ l) of.same
 
--- pages of the same numbers
-pub pages_added : (pool pool' pages pages' rest numbers view : List ℕ) (page count : ℕ) → IsPaged pool pages rest → paged pool pages ++ rest ≡ view
-    → rest ≡ [] → IsGrown pool pool' → IsPageOf pool' numbers page → pages' ≡ pages ++ replicate count page
-    → paged pool' pages' ++ rest ≡ view ++ repeated count numbers
-pages_added pool pool' pages pages' rest numbers view page count is e none grown of ep =
-    let kept : paged pool' pages ++ rest ≡ paged pool pages ++ rest = paged_in_grown pool pool' pages rest is grown in
-    let bare : paged pool' pages ≡ view =
-    sym (append-nil (paged pool' pages)) ∙ ap (λ (l : List ℕ). paged pool' pages ++ l) (sym none) ∙ kept ∙ e in
-    ap (λ (l : List ℕ). paged pool' pages' ++ l) none
-    ∙ append-nil (paged pool' pages')
-    ∙ ap (paged pool') ep
+-- pages of the same number are put
+pub pages_put : (pool pool' pages pages' numbers : List ℕ) (page number count : ℕ) → ArePages pool pages → IsGrown pool pool'
+    → numbers ≡ replicate 63 number → IsPageOf pool' numbers page → pages' ≡ pages ++ replicate count page
+    → paged pool' pages' ≡ paged pool pages ++ replicate (count * 63) number
+pages_put pool pool' pages pages' numbers page number count stand (more, grown) en of ep =
+    let kept : paged pool' pages ≡ paged pool pages = rw grown (paged_stays pool more pages stand) in
+    ap (paged pool') ep
     ∙ paged_all pool' pages (replicate count page)
-    ∙ ap (λ (l : List ℕ). l ++ paged pool' (replicate count page)) bare
-    ∙ ap (λ (l : List ℕ). view ++ l) (paged_same pool' numbers page count of.same)
+    ∙ ap (λ (l : List ℕ). l ++ paged pool' (replicate count page)) kept
+    ∙ ap (λ (l : List ℕ). paged pool pages ++ l) (paged_same pool' page number count (of.same ∙ en))
 
-pub is_paged_added : (pool pool' pages pages' rest : List ℕ) (page count : ℕ) → IsPaged pool pages rest → IsGrown pool pool' → page + 63 ≤ length pool'
-    → pages' ≡ pages ++ replicate count page → length pages + count ≤ 100_000_000 → IsPaged pool' pages' rest
-is_paged_added pool pool' pages pages' rest page count is grown within ep few =
+pub same_pages_stand : (pool pages pages' : List ℕ) (page count : ℕ) → ArePages pool pages → page + 63 ≤ length pool
+    → pages' ≡ pages ++ replicate count page → ArePages pool pages'
+same_pages_stand pool pages pages' page count stand within ep k h =
     let many : length pages' ≡ length pages + count =
     ap length ep ∙ length-append pages (replicate count page) ∙ ap (λ n. length pages + n) (length-replicate count page) in
-    record {
-      stand = λ k h. elim (cases_lt k (length pages)) [
-        | inl l ↦
-            (let at : get_or pages' k 0 ≡ get_or pages k 0 = ap (λ (xs : List ℕ). get_or xs k 0) ep ∙ get_or-append pages (replicate count page) 0 k l in
-            omega (arith, at, pages_stand pool pool' pages is.stand grown k l))
-        | inr g ↦
-            (let place : k ≡ length pages + (k - length pages) = omega (arith, g) in
-            let low : k - length pages < count = omega (arith, many, h, g) in
-            let at : get_or pages' k 0 ≡ page =
-            ap (λ (xs : List ℕ). get_or xs k 0) ep
-            ∙ ap (λ j. get_or (pages ++ replicate count page) j 0) place
-            ∙ get_or-append-add pages (replicate count page) (k - length pages) 0
-            ∙ get_or-replicate count (k - length pages) page 0 low in
-            omega (arith, at, within))
-      ];
-      few = omega (arith, many);
-      short = is.short;
-    }
+    elim (cases_lt k (length pages)) [
+      | inl l ↦
+          (let at : get_or pages' k 0 ≡ get_or pages k 0 = ap (λ (xs : List ℕ). get_or xs k 0) ep ∙ get_or-append pages (replicate count page) 0 k l in
+          omega (arith, at, stand k l))
+      | inr g ↦
+          (let place : k ≡ length pages + (k - length pages) = omega (arith, g) in
+          let low : k - length pages < count = omega (arith, many, h, g) in
+          let at : get_or pages' k 0 ≡ page =
+          ap (λ (xs : List ℕ). get_or xs k 0) ep
+          ∙ ap (λ j. get_or (pages ++ replicate count page) j 0) place
+          ∙ get_or-append-add pages (replicate count page) (k - length pages) 0
+          ∙ get_or-replicate count (k - length pages) page 0 low in
+          omega (arith, at, within))
+    ]
 
--- the page that begins at a place
-pub page_again : (pool pages pages' rest numbers : List ℕ) (place page most : ℕ) → IsPaged pool pages rest → paged pool pages ++ rest ≡ numbers → rest ≡ []
-    → 63 ≤ most → place % 63 ≡ 0 → place / 63 < length pages → page ≡ get_or pages (place / 63) 0 → pages' ≡ pages ++ page ∷ []
-    → HasAgain numbers place most (paged pool pages' ++ rest) true
-page_again pool pages pages' rest numbers place page most is view none many whole l e ep =
-    let at : place ≡ (place / 63) * 63 + 0 = omega (arith, whole) in
-    let start : page + 0 ≡ page = omega arith in
-    let stands : page + 63 ≤ length pool = rw e (is.stand (place / 63) l) in
-    let piece : IsPiece numbers place (page_numbers pool page) =
-    piece_of_page pool pages rest numbers (sym view) is place page (place / 63) 0 (page_numbers pool page) at (omega arith) l e
-    (ap (λ n. take 63 (drop n pool)) (sym start)) in
-    let long : length (page_numbers pool page) ≡ 63 = length_page pool page stands in
-    let bare : paged pool pages ≡ numbers = sym (append-nil (paged pool pages)) ∙ ap (λ (l : List ℕ). paged pool pages ++ l) (sym none) ∙ view in (
-      many,
-      ap (λ (l : List ℕ). paged pool pages' ++ l) none
-          ∙ append-nil (paged pool pages')
-          ∙ ap (paged pool) ep
-          ∙ paged-append pool pages page
-          ∙ ap (λ (l : List ℕ). l ++ page_numbers pool page) bare
-          ∙ ap (λ (l : List ℕ). numbers ++ l) (piece_is_stretch numbers place (page_numbers pool page) piece
-          ∙ ap (λ n. take n (drop place numbers)) long),
-    )
+-- some of the pages stand once more at the end
+pub pages_stand_again : (pool pages pages' : List ℕ) (i count : ℕ) → ArePages pool pages → pages' ≡ pages ++ take count (drop i pages) → ArePages pool pages'
+pages_stand_again pool pages pages' i count stand ep k h =
+    let part = take count (drop i pages) in
+    let many : length pages' ≡ length pages + length part = ap length ep ∙ length-append pages part in
+    elim (cases_lt k (length pages)) [
+      | inl l ↦
+          (let at : get_or pages' k 0 ≡ get_or pages k 0 = ap (λ (xs : List ℕ). get_or xs k 0) ep ∙ get_or-append pages part 0 k l in
+          omega (arith, at, stand k l))
+      | inr g ↦
+          (let j : ℕ = k - length pages in
+          let place : k ≡ length pages + j = omega (arith, g) in
+          let short : length part ≤ length pages - i = omega (arith, length-take count (drop i pages), length-drop i pages) in
+          let low : j < count = omega (arith, many, h, g, length-take count (drop i pages)) in
+          let at : get_or pages' k 0 ≡ get_or pages (i + j) 0 =
+          ap (λ (xs : List ℕ). get_or xs k 0) ep
+          ∙ ap (λ n. get_or (pages ++ part) n 0) place
+          ∙ get_or-append-add pages part j 0
+          ∙ get_or-take count (drop i pages) j 0 low
+          ∙ get_or-drop i pages j 0 in
+          omega (arith, at, stand (i + j) (omega (arith, many, h, short, g))))
+    ]
+
+pub again_is_paged : (pool pages pages' rest : List ℕ) (i count : ℕ) → IsPaged pool pages rest → rest ≡ [] → length pages + count ≤ 100_000_000
+    → pages' ≡ pages ++ take count (drop i pages) → IsPaged pool pages' rest
+again_is_paged pool pages pages' rest i count is none few ep =
+    let many : length pages' ≡ length pages + length (take count (drop i pages)) = ap length ep ∙ length-append pages (take count (drop i pages)) in
+    closed_is_paged pool pages' rest (pages_stand_again pool pages pages' i count is.stand ep) (omega (arith, many, few, length-take count (drop i pages))) none
+
+-- the numbers of the first pages, and of those after them
+drop_pages : (pool pages : List ℕ) (i : ℕ) → ArePages pool pages → drop (i * 63) (paged pool pages) ≡ paged pool (drop i pages)
+drop_pages pool pages zero stand = refl
+drop_pages pool [] (suc i) stand = drop-nil (suc i * 63)
+drop_pages pool (p ∷ pages) (suc i) stand =
+    let page = length_page pool p (stand 0 (omega arith)) in
+    let sum : suc i * 63 ≡ length (page_numbers pool p) + i * 63 = omega (arith, page) in
+    ap (λ n. drop n (page_numbers pool p ++ paged pool pages)) sum
+    ∙ sym (drop-drop (i * 63) (length (page_numbers pool p)) (page_numbers pool p ++ paged pool pages))
+    ∙ ap (drop (i * 63)) (drop-append_seam (page_numbers pool p) (paged pool pages))
+    ∙ drop_pages pool pages i (later_pages pool p pages stand)
+
+take_pages : (pool pages : List ℕ) (count : ℕ) → ArePages pool pages → take (count * 63) (paged pool pages) ≡ paged pool (take count pages)
+take_pages pool pages zero stand = refl
+take_pages pool [] (suc count) stand = take-nil (suc count * 63)
+take_pages pool (p ∷ pages) (suc count) stand =
+    let page = length_page pool p (stand 0 (omega arith)) in
+    let sum : suc count * 63 ≡ length (page_numbers pool p) + count * 63 = omega (arith, page) in
+    ap (λ n. take n (page_numbers pool p ++ paged pool pages)) sum
+    ∙ take-append-add (page_numbers pool p) (paged pool pages) (count * 63)
+    ∙ ap (λ (l : List ℕ). page_numbers pool p ++ l) (take_pages pool pages count (later_pages pool p pages stand))
+
+pages_of_rest : (pool pages : List ℕ) (i : ℕ) → ArePages pool pages → ArePages pool (drop i pages)
+pages_of_rest pool pages i stand k h = let at = get_or-drop i pages k 0 in omega (arith, at, stand (i + k) (omega (arith, length-drop i pages)))
+
+-- whole pages from a place on stand once more at the end
+pub pages_again : (pool pages pages' rest numbers : List ℕ) (place count : ℕ) → IsPaged pool pages rest → paged pool pages ++ rest ≡ numbers → rest ≡ []
+    → place % 63 ≡ 0 → pages' ≡ pages ++ take count (drop (place / 63) pages)
+    → paged pool pages' ++ rest ≡ numbers ++ take (count * 63) (drop place numbers)
+pages_again pool pages pages' rest numbers place count is view none whole ep =
+    let i : ℕ = place / 63 in
+    let at : place ≡ i * 63 = omega (arith, whole) in
+    let bare : paged pool pages ≡ numbers = sym (append-nil (paged pool pages)) ∙ ap (λ (l : List ℕ). paged pool pages ++ l) (sym none) ∙ view in
+    let part : paged pool (take count (drop i pages)) ≡ take (count * 63) (drop place numbers) =
+    sym (take_pages pool (drop i pages) count (pages_of_rest pool pages i is.stand))
+    ∙ ap (take (count * 63)) (sym (drop_pages pool pages i is.stand))
+    ∙ ap (λ n. take (count * 63) (drop n (paged pool pages))) (sym at)
+    ∙ ap (λ (l : List ℕ). take (count * 63) (drop place l)) bare in
+    ap (λ (l : List ℕ). paged pool pages' ++ l) none
+    ∙ append-nil (paged pool pages')
+    ∙ ap (paged pool) ep
+    ∙ paged_all pool pages (take count (drop i pages))
+    ∙ ap (λ (l : List ℕ). l ++ paged pool (take count (drop i pages))) bare
+    ∙ ap (λ (l : List ℕ). numbers ++ l) part
 
 pub take_part : (xs : List ℕ) (put count : ℕ) → put ≤ count → take put (take count xs) ≡ take put xs
 take_part xs zero count l = refl
@@ -346,24 +423,6 @@ block_put old same new block part place most count put es room few low eb ep is 
           ∙ ap (λ (l : List ℕ). l ++ take put part) es
           ∙ ap (λ (l : List ℕ). old ++ take put l) (part_is ∙ eb ∙ ap (λ (l : List ℕ). take count (drop place l)) es)
           ∙ ap (λ (l : List ℕ). old ++ l) (take_part (drop place old) put count within),
-    )
-
--- part of a page of one number
-same_part : (page part : List ℕ) (number n count : ℕ) → page ≡ replicate 63 number → part ≡ take n page → n ≤ 63 → count ≤ length part
-    → take count part ≡ replicate count number
-same_part page part number n count e ep low few =
-    let part_is : part ≡ replicate n number = ep ∙ ap (take n) e ∙ take-replicate n 63 number low in
-    let many : length part ≡ n = ap length part_is ∙ length-replicate n number in
-    ap (take count) part_is ∙ take-replicate count n number (omega (arith, many))
-
-pub same_put : (page part old new : List ℕ) (number most count : ℕ) → page ≡ replicate 63 number → part ≡ take (min (length page) most) page
-    → (1 ≤ count) × (count ≤ length part) × (new ≡ old ++ take count part) → (1 ≤ count) × (count ≤ most) × (new ≡ old ++ replicate count number)
-same_put page part old new number most count e ep is =
-    let long : length page ≡ 63 = ap length e ∙ length-replicate 63 number in
-    let many : length part ≡ min (length page) most = ap length ep ∙ length-take-le (min (length page) most) page (omega arith) in (
-      is.0,
-      omega (arith, many, is.1),
-      is.2 ∙ ap (λ (l : List ℕ). old ++ l) (same_part page part number (min (length page) most) count e ep (omega (arith, long)) is.1),
     )
 
 pub none_left : (xs : List ℕ) → length xs ≡ 0 → xs ≡ []

@@ -1,5 +1,5 @@
 -- A list of numbers that is kept in pages, of which equal ones are kept once.
-use Rattle.std.specs.Prelude.{◌≡◌, ℕ, zero, suc, ◌+◌, ◌*◌, ◌<◌, ◌≤◌, Bool, true, false, List, [], ◌∷◌, ◌++◌, length, take, drop, get_or}
+use Rattle.std.specs.Prelude.{◌≡◌, ℕ, ◌+◌, ◌<◌, ◌≤◌, List, [], ◌∷◌, ◌++◌, length, take, drop, get_or}
 
 -- the numbers of a page, which begins at this place of the pool
 abbrev pub page_numbers : List ℕ → ℕ → List ℕ
@@ -23,11 +23,17 @@ pub record IsPageOf (pool numbers : List ℕ) (page : ℕ) : Type 0 where
   pub within : page + 63 ≤ length pool
   pub same : page_numbers pool page ≡ numbers
 
--- pages of the pool, not too many to be counted, and not more than a page that is still open
+-- there is room for so many numbers after these numbers that follow the last page: for as many as a page has, or, where there is no
+-- page yet, 200,025
+pub record HasRoom (pages rest : List ℕ) (count : ℕ) : Type 0 where
+  pub short : length rest + count ≤ 200_025
+  pub late : 0 < length pages → length rest + count ≤ 63
+
+-- pages of the pool, not too many to be counted, and not more numbers after them than may be there
 pub record IsPaged (pool pages rest : List ℕ) : Type 0 where
   pub stand : ArePages pool pages
   pub few : length pages ≤ 100_000_000
-  pub short : length rest ≤ 63
+  pub room : HasRoom pages rest 0
 
 -- the numbers of this row are those of the list from this place on, one at least
 pub record IsPiece (numbers : List ℕ) (place : ℕ) (row : List ℕ) : Type 0 where
@@ -43,13 +49,3 @@ pub record IsZeroFrom (numbers : List ℕ) (place count : ℕ) : Type 0 where
 -- a page of the pool has 0 alone
 abbrev pub IsZeroPage : List ℕ → ℕ → Type 0
 IsZeroPage pool page = (k : ℕ) → k < 63 → get_or pool (page + k) 0 ≡ 0
-
--- numbers so many times, one after another
-abbrev pub repeated : ℕ → List ℕ → List ℕ
-repeated zero numbers = []
-repeated (suc count) numbers = numbers ++ repeated count numbers
-
--- a whole page from this place on, one of so many numbers, stands once more at the end, or nothing has changed
-abbrev pub HasAgain : List ℕ → ℕ → ℕ → List ℕ → Bool → Type 0
-HasAgain old place most new false = new ≡ old
-HasAgain old place most new true = (63 ≤ most) × (new ≡ old ++ take 63 (drop place old))

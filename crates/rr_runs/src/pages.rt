@@ -1,6 +1,6 @@
-// A list of numbers, kept in pages.
-ghost use Rattle.std.specs.Prelude.{◌≡◌, ◌↔◌, ◌<◌, ◌≤◌, ◌∷◌, ◌++◌, [], ℕ, IfOk, IfSome, IsTrue, OnErr, OnOk, length, get_or, take, drop, replicate, ◌+◌, ◌-◌, ◌*◌, ◌%◌, min};
-ghost use Rattle.rr_runs.specs.Pages.{ArePages, HasAgain, IsGrown, IsPageOf, IsPaged, IsPiece, IsZeroFrom, IsZeroPage, paged, repeated};
+// A list of numbers, kept as they are or in pages.
+ghost use Rattle.std.specs.Prelude.{◌≡◌, ◌↔◌, ◌<◌, ◌≤◌, ◌∷◌, ◌++◌, [], ℕ, IfOk, IfSome, IsTrue, OnErr, OnOk, length, get_or, take, drop, replicate, ◌+◌, ◌-◌, ◌*◌, ◌/◌, ◌%◌, min};
+ghost use Rattle.rr_runs.specs.Pages.{ArePages, HasRoom, IsGrown, IsPageOf, IsPaged, IsPiece, IsZeroFrom, IsZeroPage, paged};
 
 use rr_model::NoMemory;
 use std::alloc::Global;
@@ -9,18 +9,28 @@ use std::marker::Model;
 // How many numbers a page has: nine weeks of days, of which 2,319 are 400 years.
 const PAGE: usize = 63;
 
+// How many numbers are kept as they are before the first page is made: 3,175 pages.
+const OPEN: usize = 200_025;
+
 // How many pages there can be.
 const MOST_PAGES: usize = 100_000_000;
 
 // How many pages are looked at for 0 in one call.
-const LOOKED_AT: usize = 16;
+const LOOKED_AT: usize = 64;
+
+// How many numbers of one stretch are looked at for 0 in one call.
+const COUNTED: usize = 1_008;
+
+// How many numbers are compared with 0 at once.
+const BLOCK: usize = 16;
 
 // How many pages that were kept last are remembered.
 const REMEMBERED: usize = 4_096;
 
-/// A list of numbers of days in a row. Pages of 63 numbers that are equal are kept once.
+/// A list of numbers of days in a row.
 ///
-/// Contracts see it as the list.
+/// Up to 200,025 numbers are kept as they are, four bytes each. A longer list is kept in pages of 63 numbers, four bytes a page, of
+/// which equal ones are kept once. Contracts see it as the list.
 #[derive(Drop)]
 pub struct Pages {
     // The numbers of the distinct pages, one after another.
@@ -72,7 +82,7 @@ impl Pages {
         ensures ok { OnOk result (self.new ≡ self.old ++ number ∷ []) }
         ensures err { OnErr result (self.new ≡ self.old) }
     {
-        close_full(
+        make_room(
             &mut self.pool,
             &mut self.pages,
             &mut self.rest,
@@ -94,21 +104,19 @@ impl Pages {
         Ok(())
     }
 
-    /// Puts `count` equal numbers at the end. A whole page of them costs its place alone.
+    /// Puts `count` equal numbers at the end. A whole page of them costs its place alone once there are pages.
+    #[inline(always)]
     pub fn push_same(&mut self, number: u32, count: usize) -> Result<(), NoMemory>
         ensures { OnOk result (self.new ≡ self.old ++ replicate count number) }
     {
-        let page = [number; PAGE];
-        let mut done = 0;
-        while done < count {
-            let more = self.push_some_same(number, &page, count - done)?;
-            done += more;
+        if count > room_left(&self.pages, &self.rest) {
+            return self.push_many_same(number, count);
         }
-        Ok(())
+        put_same(&mut self.rest, number, count)
     }
 
-    /// Puts the `count` numbers from a place on once more at the end. A whole page costs its place alone where the place lies a
-    /// multiple of 63 places before the end.
+    /// Puts the `count` numbers from a place on once more at the end. Once there are pages, a whole page costs its place alone
+    /// where the place lies a multiple of 63 places before the end.
     pub fn push_again(&mut self, place: usize, count: usize) -> Result<(), NoMemory>
         requires { place + count ≤ length self.old }
         ensures { OnOk result (self.new ≡ self.old ++ take count (drop place self.old)) }
@@ -136,54 +144,86 @@ impl Pages {
         Ok(())
     }
 
-    // Puts as many of the numbers at the end as the last page has room for, one at least.
+    // Puts as many of the numbers at the end as there is room for after the last page, one at least.
     fn push_some(&mut self, numbers: &[u32]) -> Result<usize, NoMemory>
         requires { 0 < length numbers.now }
         ensures { IfOk result (λ count. (1 ≤ count) × (count ≤ length numbers.now) × (self.new ≡ self.old ++ take count numbers.now)) }
     {
-        close_full(
+        make_room(
             &mut self.pool,
             &mut self.pages,
             &mut self.rest,
             &mut self.remembered,
         )?;
-        let count = (PAGE - self.rest.len()).min(numbers.len());
+        let count = room_left(&self.pages, &self.rest).min(numbers.len());
         self.rest.extend_from_slice(&numbers[..count])?;
         Ok(count)
     }
 
-    // Puts some of `most` equal numbers at the end, one at least: whole pages where the last page is whole.
-    fn push_some_same(&mut self, number: u32, page: &[u32], most: usize) -> Result<usize, NoMemory>
-        requires some { 1 ≤ most }
-        requires page { page.now ≡ replicate 63 number }
+    // Puts `count` equal numbers at the end, for which there may be no room after the last page.
+    fn push_many_same(&mut self, number: u32, count: usize) -> Result<(), NoMemory>
+        ensures { OnOk result (self.new ≡ self.old ++ replicate count number) }
+    {
+        let mut done = 0;
+        while done < count {
+            let more = self.push_some_same(number, count - done)?;
+            done += more;
+        }
+        Ok(())
+    }
+
+    // Puts some of `most` equal numbers at the end, one at least: whole pages where no number follows the last page.
+    fn push_some_same(&mut self, number: u32, most: usize) -> Result<usize, NoMemory>
+        requires { 1 ≤ most }
         ensures { IfOk result (λ count. (1 ≤ count) × (count ≤ most) × (self.new ≡ self.old ++ replicate count number)) }
     {
-        let pages = most / PAGE;
-        if pages == 0 || !self.has_no_open_page() {
-            let count = self.push_some(first_numbers(page, most))?;
-            return Ok(count);
-        }
-        push_pages(
+        make_room(
             &mut self.pool,
             &mut self.pages,
             &mut self.rest,
             &mut self.remembered,
-            page,
+        )?;
+        let pages = most / PAGE;
+        if pages == 0 || self.pages.is_empty() || !self.rest.is_empty() {
+            let count = room_left(&self.pages, &self.rest).min(most);
+            put_same(&mut self.rest, number, count)?;
+            return Ok(count);
+        }
+        put_pages_of(
+            &mut self.pool,
+            &mut self.pages,
+            &mut self.remembered,
+            number,
             pages,
         )?;
         Ok(pages * PAGE)
     }
 
-    // Puts some of the `most` numbers from a place on once more at the end, one at least: a page where both are aligned.
+    // Puts some of the `most` numbers from a place on once more at the end, one at least: as many as are kept as they are, or
+    // whole pages where both are aligned.
     fn push_some_again(&mut self, place: usize, most: usize) -> Result<usize, NoMemory>
         requires some { 1 ≤ most }
         requires within { place + most ≤ length self.old }
         ensures { IfOk result (λ count. (1 ≤ count) × (count ≤ most) × (self.new ≡ self.old ++ take count (drop place self.old))) }
     {
-        let again = self.push_page_again(place, most)?;
-        if again {
-            return Ok(PAGE);
+        if self.pages.is_empty() && self.rest.len() < OPEN {
+            let count = (OPEN - self.rest.len()).min(most);
+            put_again(&mut self.rest, place, count)?;
+            return Ok(count);
         }
+        let pages = self.push_pages_again(place, most)?;
+        if pages > 0 {
+            return Ok(pages * PAGE);
+        }
+        self.push_block_again(place, most)
+    }
+
+    // Puts the numbers of a block from a place on once more at the end, one at least.
+    fn push_block_again(&mut self, place: usize, most: usize) -> Result<usize, NoMemory>
+        requires some { 1 ≤ most }
+        requires within { place + most ≤ length self.old }
+        ensures { IfOk result (λ count. (1 ≤ count) × (count ≤ most) × (self.new ≡ self.old ++ take count (drop place self.old))) }
+    {
         let mut block = [0; PAGE];
         let count = self.read_into(&mut block, place, most);
         let put = self.push_some(first_numbers(&block, count))?;
@@ -197,6 +237,9 @@ impl Pages {
         requires within { place + most ≤ length other.now }
         ensures { IfOk result (λ count. (1 ≤ count) × (count ≤ most) × (self.new ≡ self.old ++ take count (drop place other.now))) }
     {
+        if other.pages.is_empty() {
+            return self.push_piece_of(other, place, most);
+        }
         let zeros = other.zeros_from(place).min(most);
         if zeros < PAGE {
             return self.push_piece_of(other, place, most);
@@ -216,35 +259,24 @@ impl Pages {
         Ok(piece.len())
     }
 
-    // Whether the numbers after the last page are none, or a whole page.
-    fn has_no_open_page(&self) -> bool
-        ensures { IsTrue result → length self.now % 63 ≡ 0 }
+    // Puts the pages that begin at a place once more at the end, as many as have at most so many numbers, and tells how many; 0
+    // where no page begins there, or none may begin at the end.
+    fn push_pages_again(&mut self, place: usize, most: usize) -> Result<usize, NoMemory>
+        requires { place + most ≤ length self.old }
+        ensures { IfOk result (λ pages. (pages * 63 ≤ most) × (self.new ≡ self.old ++ take (pages * 63) (drop place self.old))) }
     {
-        self.len() % PAGE == 0
-    }
-
-    // Puts the page that begins at a place once more at the end, where so many numbers may be put, a page begins there and one may
-    // begin at the end.
-    fn push_page_again(&mut self, place: usize, most: usize) -> Result<bool, NoMemory>
-        ensures { IfOk result (HasAgain self.old place most self.new) }
-    {
-        let i = place / PAGE;
-        close_full(
+        make_room(
             &mut self.pool,
             &mut self.pages,
             &mut self.rest,
             &mut self.remembered,
         )?;
-        if most < PAGE
-            || place % PAGE != 0
-            || i >= self.pages.len()
-            || !has_room(&self.pages, &self.rest)
-        {
-            return Ok(false);
+        let count = most / PAGE;
+        if place % PAGE != 0 || !has_room(&self.pages, &self.rest, count) {
+            return Ok(0);
         }
-        let page = self.pages[i];
-        self.pages.push(page)?;
-        Ok(true)
+        put_again(&mut self.pages, place / PAGE, count)?;
+        Ok(count)
     }
 
     // Copies some numbers from a place on to the start of a block, one at least and at most so many, and tells how many.
@@ -289,33 +321,43 @@ impl Pages {
         requires { place < length self.now }
         ensures { IsPiece self.now place result.now }
     {
-        let page = place / PAGE;
-        if page < self.pages.len() {
-            return rest_of_page(&self.pool, self.pages[page] as usize, place % PAGE);
+        let paged = self.pages.len() * PAGE;
+        if place >= paged {
+            return rest_from(&self.rest, place - paged);
         }
-        rest_from(&self.rest, place - self.pages.len() * PAGE)
+        let page = place / PAGE;
+        rest_of_page(&self.pool, self.pages[page] as usize, place % PAGE)
     }
 
     /// How many numbers from a place on are surely 0: 0 where the number itself is not. All up to the first other number are
     /// counted, but for what follows after some 1,000.
+    #[inline(always)]
     pub fn zeros_from(&self, place: usize) -> usize
+        requires { place < length self.now }
+        ensures { IsZeroFrom self.now place result }
+    {
+        if self.number_at(place) != 0 {
+            return 0;
+        }
+        self.count_zeros(place)
+    }
+
+    // How many numbers from a place on are 0, as far as these are looked at.
+    fn count_zeros(&self, place: usize) -> usize
         requires { place < length self.now }
         ensures { IsZeroFrom self.now place result }
     {
         let end = self.len();
         let here = self.zeros_in_piece(place);
         let next = place + here;
-        if here == 0 || next >= end {
-            return here;
-        }
         let pages = self.zero_pages_from(next) * PAGE;
-        if next + pages >= end {
+        if pages == 0 || next + pages >= end {
             return here + pages;
         }
         here + pages + self.zeros_in_piece(next + pages)
     }
 
-    // How many numbers from a place on are 0, up to the end of its page.
+    // How many numbers from a place on are 0, as far as they are kept in a row.
     fn zeros_in_piece(&self, place: usize) -> usize
         requires { place < length self.now }
         ensures { IsZeroFrom self.now place result }
@@ -369,17 +411,58 @@ fn is_zero_page(pool: &[u32], page: u32, known: Option<u32>) -> bool
     leading_zeros(rest_of_page(pool, page as usize, 0)) == PAGE
 }
 
-// How many of the first numbers are 0.
+// How many of the first numbers are 0, as far as these are looked at.
 fn leading_zeros(numbers: &[u32]) -> usize
     ensures few { result ≤ length numbers.now }
     ensures zeros { (k : ℕ) → k < result → get_or numbers.now k 0 ≡ 0 }
 {
-    for k in 0..numbers.len() {
+    let end = numbers.len().min(COUNTED);
+    let blocks = zero_blocks(numbers, end);
+    zeros_before(numbers, blocks, end)
+}
+
+// The end of the whole blocks of zeros from the first number on and up to an end.
+fn zero_blocks(numbers: &[u32], end: usize) -> usize
+    requires { end ≤ length numbers.now }
+    ensures most { result ≤ end }
+    ensures zeros { (k : ℕ) → k < result → get_or numbers.now k 0 ≡ 0 }
+{
+    let mut at = 0;
+    while end - at >= BLOCK {
+        if !is_zero_block(numbers, at) {
+            return at;
+        }
+        at += BLOCK;
+    }
+    at
+}
+
+// Whether the numbers of the block that begins at a place are 0. No place is left out, so that several are compared at once.
+fn is_zero_block(numbers: &[u32], from: usize) -> bool
+    requires { from + 16 ≤ length numbers.now }
+    ensures { IsTrue result → (k : ℕ) → from ≤ k → k < from + 16 → get_or numbers.now k 0 ≡ 0 }
+{
+    let mut all = true;
+    for place in from..from + BLOCK {
+        all = (numbers[place] == 0) & all;
+    }
+    all
+}
+
+// The first place from one on, and before an end, that has another number than 0; the end where there is none.
+fn zeros_before(numbers: &[u32], from: usize, end: usize) -> usize
+    requires order { from ≤ end }
+    requires within { end ≤ length numbers.now }
+    requires zeros { (k : ℕ) → k < from → get_or numbers.now k 0 ≡ 0 }
+    ensures most { result ≤ end }
+    ensures zeros { (k : ℕ) → k < result → get_or numbers.now k 0 ≡ 0 }
+{
+    for k in from..end {
         if numbers[k] != 0 {
             return k;
         }
     }
-    numbers.len()
+    end
 }
 
 // The numbers of a page of the pool from one of them on.
@@ -401,11 +484,12 @@ fn rest_from(numbers: &[u32], from: usize) -> &[u32]
     &numbers[from..]
 }
 
-// Whether a page may be put after the pages that there are.
-fn has_room(pages: &Vec<u32>, rest: &Vec<u32>) -> bool
-    ensures { IsTrue result → (rest.now.items ≡ []) × (length pages.now.items < 100_000_000) }
+// Whether so many pages may be put after the pages that there are.
+fn has_room(pages: &Vec<u32>, rest: &Vec<u32>, count: usize) -> bool
+    requires { length pages.now.items ≤ 100_000_000 }
+    ensures { IsTrue result → (rest.now.items ≡ []) × (length pages.now.items + count ≤ 100_000_000) }
 {
-    rest.is_empty() && pages.len() < MOST_PAGES
+    rest.is_empty() && count <= MOST_PAGES - pages.len()
 }
 
 // Copies numbers to the start of a block.
@@ -425,9 +509,19 @@ fn first_numbers(numbers: &[u32], most: usize) -> &[u32]
     &numbers[..numbers.len().min(most)]
 }
 
-// Makes a page of the numbers after the last page where these are as many as a page has.
+// How many numbers there is room for after the last page.
 #[inline(always)]
-fn close_full(
+fn room_left(pages: &Vec<u32>, rest: &Vec<u32>) -> usize
+    requires { HasRoom pages.now.items rest.now.items 0 }
+    ensures room { HasRoom pages.now.items rest.now.items result }
+    ensures all { HasRoom pages.now.items rest.now.items (result + 1) → ⊥ }
+{
+    if pages.is_empty() { OPEN - rest.len() } else { PAGE - rest.len() }
+}
+
+// Sees to it that there is room for a number after the last page.
+#[inline(always)]
+fn make_room(
     pool: &mut Vec<u32>,
     pages: &mut Vec<u32>,
     rest: &mut Vec<u32>,
@@ -436,43 +530,183 @@ fn close_full(
     requires { IsPaged pool.old.items pages.old.items rest.old.items }
     ensures paged { IsPaged pool.new.items pages.new.items rest.new.items }
     ensures same { paged pool.new.items pages.new.items ++ rest.new.items ≡ paged pool.old.items pages.old.items ++ rest.old.items }
-    ensures room { OnOk result (length rest.new.items < 63) }
+    ensures room { OnOk result (HasRoom pages.new.items rest.new.items 1) }
 {
-    if rest.len() < PAGE {
+    if room_left(pages, rest) > 0 {
         return Ok(());
     }
-    if pages.len() >= MOST_PAGES {
-        return Err(NoMemory);
-    }
-    let page = page_of(pool, remembered, rest.as_slice())?;
-    pages.push(page)?;
-    rest.clear();
+    close(pool, pages, rest, remembered)?;
     Ok(())
 }
 
-// Puts a page of these numbers at the end so many times, where the numbers after the last page are none or a whole page.
-fn push_pages(
+// Makes pages of the numbers after the last page.
+fn close(
     pool: &mut Vec<u32>,
     pages: &mut Vec<u32>,
     rest: &mut Vec<u32>,
     remembered: &mut Vec<u32>,
-    numbers: &[u32],
-    count: usize,
 ) -> Result<(), NoMemory>
     requires paged { IsPaged pool.old.items pages.old.items rest.old.items }
-    requires whole { length (paged pool.old.items pages.old.items ++ rest.old.items) % 63 ≡ 0 }
-    requires page { length numbers.now ≡ 63 }
+    requires whole { length rest.old.items % 63 ≡ 0 }
     ensures paged { IsPaged pool.new.items pages.new.items rest.new.items }
-    ensures value { OnOk result (paged pool.new.items pages.new.items ++ rest.new.items ≡ (paged pool.old.items pages.old.items ++ rest.old.items) ++ repeated count numbers.now) }
+    ensures same { paged pool.new.items pages.new.items ++ rest.new.items ≡ paged pool.old.items pages.old.items ++ rest.old.items }
+    ensures none { OnOk result (rest.new.items ≡ []) }
 {
-    close_full(pool, pages, rest, remembered)?;
+    let before = pages.len();
+    if before + rest.len() / PAGE > MOST_PAGES {
+        return Err(NoMemory);
+    }
+    match put_pages(pool, pages, remembered, rest.as_slice()) {
+        Ok(()) => {
+            let_go(rest);
+            Ok(())
+        }
+        Err(fault) => {
+            pages.truncate(before);
+            Err(fault)
+        }
+    }
+}
+
+// Takes all numbers away, and their room where it is more than a page needs.
+fn let_go(rest: &mut Vec<u32>)
+    ensures { rest.new.items ≡ [] }
+{
+    let many = rest.len() > PAGE;
+    rest.clear();
+    if many {
+        rest.shrink_to_fit();
+    }
+}
+
+// Puts numbers at the end as pages.
+fn put_pages(
+    pool: &mut Vec<u32>,
+    pages: &mut Vec<u32>,
+    remembered: &mut Vec<u32>,
+    numbers: &[u32],
+) -> Result<(), NoMemory>
+    requires stand { ArePages pool.old.items pages.old.items }
+    requires whole { length numbers.now % 63 ≡ 0 }
+    ensures grown { IsGrown pool.old.items pool.new.items }
+    ensures more { IsGrown pages.old.items pages.new.items }
+    ensures stand { ArePages pool.new.items pages.new.items }
+    ensures value { OnOk result (paged pool.new.items pages.new.items ≡ paged pool.old.items pages.old.items ++ numbers.now) }
+    ensures many { OnOk result (length pages.new.items ≡ length pages.old.items + length numbers.now / 63) }
+{
+    let mut left = numbers;
+    while left.len() >= PAGE {
+        put_page(pool, pages, remembered, first_numbers(left, PAGE))?;
+        left = rest_from(left, PAGE);
+    }
+    Ok(())
+}
+
+// Puts a page of these numbers at the end.
+fn put_page(
+    pool: &mut Vec<u32>,
+    pages: &mut Vec<u32>,
+    remembered: &mut Vec<u32>,
+    numbers: &[u32],
+) -> Result<(), NoMemory>
+    requires stand { ArePages pool.old.items pages.old.items }
+    requires page { length numbers.now ≡ 63 }
+    ensures grown { IsGrown pool.old.items pool.new.items }
+    ensures more { IsGrown pages.old.items pages.new.items }
+    ensures stand { ArePages pool.new.items pages.new.items }
+    ensures value { OnOk result (paged pool.new.items pages.new.items ≡ paged pool.old.items pages.old.items ++ numbers.now) }
+    ensures many { OnOk result (length pages.new.items ≡ length pages.old.items + 1) }
+{
+    let page = page_for(pool, pages.as_slice(), remembered, numbers)?;
+    pages.push(page)?;
+    Ok(())
+}
+
+// Puts a page of one number at the end so many times.
+fn put_pages_of(
+    pool: &mut Vec<u32>,
+    pages: &mut Vec<u32>,
+    remembered: &mut Vec<u32>,
+    number: u32,
+    count: usize,
+) -> Result<(), NoMemory>
+    requires stand { ArePages pool.old.items pages.old.items }
+    requires few { length pages.old.items ≤ 100_000_000 }
+    ensures grown { IsGrown pool.old.items pool.new.items }
+    ensures stand { ArePages pool.new.items pages.new.items }
+    ensures few { length pages.new.items ≤ 100_000_000 }
+    ensures some { length pages.old.items ≤ length pages.new.items }
+    ensures value { OnOk result (paged pool.new.items pages.new.items ≡ paged pool.old.items pages.old.items ++ replicate (count * 63) number) }
+{
     if count > MOST_PAGES - pages.len() {
         return Err(NoMemory);
     }
-    let page = page_of(pool, remembered, numbers)?;
-    let end = pages.len() + count;
-    pages.resize(end, page)?;
+    let page = page_of(pool, remembered, &[number; PAGE])?;
+    put_same(pages, page, count)?;
     Ok(())
+}
+
+// Puts a number at the end of a list so many times.
+#[inline(always)]
+fn put_same(numbers: &mut Vec<u32>, number: u32, count: usize) -> Result<(), NoMemory>
+    requires few { length numbers.old.items ≤ 100_000_000 }
+    requires count { count ≤ 100_000_000 }
+    ensures value { OnOk result (numbers.new.items ≡ numbers.old.items ++ replicate count number) }
+    ensures err { OnErr result (numbers.new.items ≡ numbers.old.items) }
+{
+    let end = numbers.len() + count;
+    numbers.resize(end, number)?;
+    Ok(())
+}
+
+// Puts the numbers of a list from a place on once more at its end.
+fn put_again(numbers: &mut Vec<u32>, place: usize, count: usize) -> Result<(), NoMemory>
+    requires within { place + count ≤ length numbers.old.items }
+    requires few { length numbers.old.items ≤ 100_000_000 }
+    ensures value { OnOk result (numbers.new.items ≡ numbers.old.items ++ take count (drop place numbers.old.items)) }
+    ensures err { OnErr result (numbers.new.items ≡ numbers.old.items) }
+{
+    let end = numbers.len();
+    put_same(numbers, 0, count)?;
+    copy_on(numbers.as_mut_slice(), place, count, end);
+    Ok(())
+}
+
+// Copies the numbers from a place on over those from another one on up to the end.
+fn copy_on(numbers: &mut [u32], place: usize, count: usize, to: usize)
+    requires before { place + count ≤ to }
+    requires whole { to + count ≡ length numbers.old }
+    ensures { numbers.new ≡ take to numbers.old ++ take count (drop place numbers.old) }
+{
+    let (front, back) = numbers.split_at_mut(to);
+    back.copy_from_slice(&front[place..place + count]);
+}
+
+// A page of the pool that has these numbers: the one that was put last, where it has them.
+fn page_for(
+    pool: &mut Vec<u32>,
+    pages: &[u32],
+    remembered: &mut Vec<u32>,
+    numbers: &[u32],
+) -> Result<u32, NoMemory>
+    requires { length numbers.now ≡ 63 }
+    ensures grown { IsGrown pool.old.items pool.new.items }
+    ensures page { IfOk result (IsPageOf pool.new.items numbers.now) }
+{
+    match last_page(pool.as_slice(), pages, numbers) {
+        Some(page) => Ok(page),
+        None => page_of(pool, remembered, numbers),
+    }
+}
+
+// The page that was put last, where it has these numbers.
+fn last_page(pool: &[u32], pages: &[u32], numbers: &[u32]) -> Option<u32>
+    ensures { IfSome result (IsPageOf pool.now numbers.now) }
+{
+    match pages {
+        [.., page] if is_page(pool, *page as usize, numbers) => Some(*page),
+        _ => None,
+    }
 }
 
 // A page of the pool that has these numbers; where none is known a new one is put at the end of the pool.
@@ -522,13 +756,22 @@ fn new_page(pool: &mut Vec<u32>, numbers: &[u32]) -> Result<u32, NoMemory>
     Ok(page as u32)
 }
 
-// Where a page with these numbers is remembered.
-fn remembered_place(numbers: &[u32]) -> usize {
+// Where a page with these numbers is remembered: by the sum of the numbers, each times a weight of its place.
+fn remembered_place(numbers: &[u32]) -> usize
+    requires { length numbers.now ≡ 63 }
+{
     let mut sum: u32 = 0;
-    for number in numbers {
-        sum = sum.wrapping_mul(31).wrapping_add(*number);
+    for k in 0..PAGE {
+        sum = sum.wrapping_add(numbers[k].wrapping_mul(weight(k as u32)));
     }
-    (sum as usize ^ sum as usize >> 12) % REMEMBERED
+    (sum >> 20) as usize
+}
+
+// A weight for each place of a page.
+#[inline(always)]
+fn weight(place: u32) -> u32 {
+    let number = place.wrapping_add(1);
+    number.wrapping_mul(0x9e37_79b1) ^ number.wrapping_mul(number).wrapping_mul(0x85eb_ca6b)
 }
 
 // Remembers a page.

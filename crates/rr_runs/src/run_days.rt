@@ -1,5 +1,5 @@
 // Occupied days with the numbers of their time sets, in little room.
-ghost use Rattle.std.specs.Prelude.{◌≡◌, ◌≢◌, ◌⊎◌, ℕ, ◌<◌, ◌≤◌, ◌∷◌, ◌++◌, ◌+◌, [], ℤ, List, None, OnErr, OnOk, length, pos, neg_ℤ, ◌+ℤ◌, ◌≤ℤ◌, ◌<ℤ◌};
+ghost use Rattle.std.specs.Prelude.{◌≡◌, ◌≢◌, ◌⊎◌, ℕ, ◌<◌, ◌≤◌, ◌∷◌, ◌++◌, ◌+◌, [], ℤ, List, None, OnErr, OnOk, drop, length, pos, neg_ℤ, ◌+ℤ◌, ◌≤ℤ◌, ◌<ℤ◌};
 ghost use Rattle.std.specs.List.{All};
 ghost use Rattle.rr_word.specs.Numbered.{number_in};
 ghost use Rattle.rr_word.specs.declared.numbered.NumberedDay.{NumberedDay};
@@ -21,25 +21,28 @@ struct RunCount {
 
 /// Occupied days with the numbers of their time sets, days rising.
 ///
-/// Contracts see it as the list of the days with their numbers. What repeats is kept once, in pages of 63 days.
+/// Contracts see it as the list of the days with their numbers. It takes four bytes for each day from the first to the last, and
+/// less where these are more than 200,025 and much repeats.
 #[derive(Drop)]
 pub struct RunDays {
-    // The day of the first place of the row.
+    // The day of the first place of the row that counts.
     first: i64,
     // A number for each day: 0 for a day without one, and else one more than its number.
     row: Pages,
+    // How many places of the row come before those of the days.
+    skipped: usize,
 }
 
 impl Model for RunDays {
-    ghost use Rattle.std.specs.Prelude.{List};
+    ghost use Rattle.std.specs.Prelude.{List, ◌≤◌, drop, length};
     ghost use Rattle.rr_word.specs.declared.numbered.NumberedDay.{NumberedDay};
     ghost use Rattle.rr_runs.specs.Runs.{IsFarDay, days_of};
 
     ghost Value = { List NumberedDay };
 
-    ghost view = { λ r. days_of r.first r.row };
+    ghost view = { λ r. days_of r.first (drop r.skipped r.row) };
 
-    ghost invariant = { λ r. IsFarDay r.first };
+    ghost invariant = { λ r. IsFarDay r.first × (r.skipped ≤ length r.row) };
 }
 
 impl RunDays {
@@ -50,6 +53,7 @@ impl RunDays {
         RunDays {
             first: 0,
             row: Pages::new(alloc),
+            skipped: 0,
         }
     }
 
@@ -59,7 +63,21 @@ impl RunDays {
         requires far { IsFarDay first }
         ensures { result ≡ days_of first row }
     {
-        RunDays { first, row }
+        RunDays::of_rest(first, row, 0)
+    }
+
+    /// The days of a row of numbers from a day on, as `of_row` has them, where the first `skipped` numbers of the row are passed
+    /// over: the number after them is that of the day. It takes no memory.
+    pub fn of_rest(first: i64, row: Pages, skipped: usize) -> Self
+        requires far { IsFarDay first }
+        requires within { skipped ≤ length row }
+        ensures { result ≡ days_of first (drop skipped row) }
+    {
+        RunDays {
+            first,
+            row,
+            skipped,
+        }
     }
 
     /// Puts a day with its number at the end.
@@ -69,11 +87,11 @@ impl RunDays {
         ensures ok { OnOk result (self.new ≡ self.old ++ record { day = day; number = number } ∷ []) }
         ensures err { OnErr result (self.new ≡ self.old) }
     {
-        let first = first_of(self.row.len(), self.first, day);
+        let first = first_of(self.row.len() - self.skipped, self.first, day);
         if day < first {
             return Err(NoMemory);
         }
-        put_at(&mut self.row, place_of(first, day), number)?;
+        put_at(&mut self.row, self.skipped, place_of(first, day), number)?;
         self.first = first;
         Ok(())
     }
@@ -93,7 +111,7 @@ impl RunDays {
     pub fn runs(&self) -> usize
         ensures { result ≡ run_count self.now }
     {
-        count_runs(self.first, &self.row)
+        count_runs(self.first, &self.row, self.skipped)
     }
 
     /// For a day and days after it, as far as they are kept in a row: 0 for a day without a number, and else one more than
@@ -106,8 +124,9 @@ impl RunDays {
         if day < self.first {
             return &[];
         }
-        let place = (day - self.first) as usize;
-        if place >= self.row.len() {
+        let end = self.row.len();
+        let place = (day - self.first) as usize + self.skipped;
+        if place >= end {
             return &[];
         }
         self.row.piece(place)
@@ -121,8 +140,9 @@ impl RunDays {
         if day < self.first {
             return (self.first - day) as u64;
         }
-        let place = (day - self.first) as usize;
-        if place >= self.row.len() {
+        let end = self.row.len();
+        let place = (day - self.first) as usize + self.skipped;
+        if place >= end {
             return u64::MAX;
         }
         self.row.zeros_from(place) as u64
@@ -156,10 +176,11 @@ fn place_of(first: i64, day: i64) -> usize
     (day - first) as usize
 }
 
-// How many runs the days of a row have.
-fn count_runs(first: i64, row: &Pages) -> usize
+// How many runs the days of a row have whose first places are passed over.
+fn count_runs(first: i64, row: &Pages, skipped: usize) -> usize
     requires far { IsFarDay first }
-    ensures { result ≡ run_count (days_of first row.now) }
+    requires within { skipped ≤ length row.now }
+    ensures { result ≡ run_count (days_of first (drop skipped row.now)) }
 {
     let mut count = RunCount {
         runs: 0,
@@ -167,8 +188,12 @@ fn count_runs(first: i64, row: &Pages) -> usize
         gap: 0,
         number: 0,
     };
-    for place in 0..row.len() {
-        count = count_told(count, first + place as i64, row.number_at(place));
+    for place in 0..row.len() - skipped {
+        count = count_told(
+            count,
+            first + place as i64,
+            row.number_at(skipped + place),
+        );
     }
     count.runs
 }
@@ -229,23 +254,29 @@ fn change(gap: u64, number: u32, count: RunCount) -> usize
     }
 }
 
-// Puts a number at a place of the row, after the places that are there.
-fn put_at(row: &mut Pages, place: usize, number: u32) -> Result<(), NoMemory>
-    ensures ok { OnOk result ((day : ℤ) → days_of day row.new ≡ days_of day row.old ++ record { day = day +ℤ pos place; number = number } ∷ []) }
-    ensures err { OnErr result ((day : ℤ) → days_of day row.new ≡ days_of day row.old) }
+// Puts a number at a place of a row whose first places are passed over, after the places that are there.
+fn put_at(row: &mut Pages, skipped: usize, place: usize, number: u32) -> Result<(), NoMemory>
+    requires within { skipped ≤ length row.old }
+    requires near { place ≤ 6_000_000_000_000 }
+    ensures ok { OnOk result ((day : ℤ) → days_of day (drop skipped row.new) ≡ days_of day (drop skipped row.old) ++ record { day = day +ℤ pos place; number = number } ∷ []) }
+    ensures err { OnErr result ((day : ℤ) → days_of day (drop skipped row.new) ≡ days_of day (drop skipped row.old)) }
+    ensures within { skipped ≤ length row.new }
 {
-    if number == u32::MAX || place < row.len() {
+    let end = row.len();
+    if number == u32::MAX || skipped + place < end {
         return Err(NoMemory);
     }
-    fill(row, place)?;
+    fill(row, skipped, skipped + place)?;
     row.push(number + 1)?;
     Ok(())
 }
 
 // Puts 0 at each place before this one that is not there yet.
-fn fill(row: &mut Pages, place: usize) -> Result<(), NoMemory>
-    requires { length row.old ≤ place }
-    ensures same { (day : ℤ) → days_of day row.new ≡ days_of day row.old }
+fn fill(row: &mut Pages, skipped: usize, place: usize) -> Result<(), NoMemory>
+    requires within { skipped ≤ length row.old }
+    requires order { length row.old ≤ place }
+    ensures same { (day : ℤ) → days_of day (drop skipped row.new) ≡ days_of day (drop skipped row.old) }
+    ensures more { length row.old ≤ length row.new }
     ensures whole { OnOk result (length row.new ≡ place) }
 {
     for k in row.len()..place {

@@ -42,8 +42,99 @@ fn pages_keep_numbers(rt: HostRuntime) -> Result<(), Fail> {
     assert_eq!(rt; number_at(&pages, 3_005), 3);
     assert_eq!(rt; number_at(&other, 3_003), 2);
     assert_eq!(rt; zeros_from(&pages, 3), 0);
-    assert_eq!(rt; zeros_from(&pages, 4), 1_130);
+    assert_eq!(rt; zeros_from(&pages, 4), 1_008);
     assert_eq!(rt; zeros_from(&pages, 3_629), 1);
+    Ok(())
+}
+
+#[test]
+fn long_lists_are_put_number_by_number(rt: HostRuntime) -> Result<(), Fail> {
+    let alloc = rt.alloc();
+    let mut pages = Pages::new(alloc);
+    pages.push_same(3, 200_020)?;
+    for number in 0..100 {
+        pages.push(number)?;
+    }
+    assert_eq!(rt; pages.len(), 200_120);
+    assert_eq!(rt; number_at(&pages, 0), 3);
+    assert_eq!(rt; number_at(&pages, 200_019), 3);
+    assert_eq!(rt; number_at(&pages, 200_024), 4);
+    assert_eq!(rt; number_at(&pages, 200_025), 5);
+    assert_eq!(rt; number_at(&pages, 200_119), 99);
+    Ok(())
+}
+
+#[test]
+fn long_lists_are_put_by_equal_numbers(rt: HostRuntime) -> Result<(), Fail> {
+    let alloc = rt.alloc();
+    let mut pages = Pages::new(alloc);
+    pages.push_same(0, 200_000)?;
+    pages.push(5)?;
+    pages.push_same(0, 1_000_000)?;
+    pages.push(6)?;
+    let mut other = Pages::new(alloc);
+    if pages.len() >= 1_200_002 {
+        other.push_from(&pages, 199_999, 1_000_003)?;
+    }
+    assert_eq!(rt; pages.len(), 1_200_002);
+    assert_eq!(rt; number_at(&pages, 200_000), 5);
+    assert_eq!(rt; number_at(&pages, 1_200_000), 0);
+    assert_eq!(rt; number_at(&pages, 1_200_001), 6);
+    // 24 to the end of the page, 64 pages and one page more
+    assert_eq!(rt; zeros_from(&pages, 200_001), 4_119);
+    assert_eq!(rt; zeros_from(&pages, 1_200_000), 1);
+    assert_eq!(rt; other.len(), 1_000_003);
+    assert_eq!(rt; number_at(&other, 0), 0);
+    assert_eq!(rt; number_at(&other, 1), 5);
+    assert_eq!(rt; number_at(&other, 1_000_002), 6);
+    Ok(())
+}
+
+#[test]
+fn long_lists_are_put_again(rt: HostRuntime) -> Result<(), Fail> {
+    let alloc = rt.alloc();
+    let mut pages = Pages::new(alloc);
+    for number in 1..101 {
+        pages.push(number)?;
+    }
+    for _ in 0..13 {
+        let count = pages.len();
+        pages.push_again(0, count)?;
+    }
+    if pages.len() >= 819_200 {
+        // not a multiple of 63 places before the end
+        pages.push_again(818_700, 450)?;
+    }
+    assert_eq!(rt; pages.len(), 819_650);
+    assert_eq!(rt; number_at(&pages, 100), 1);
+    assert_eq!(rt; number_at(&pages, 200_024), 25);
+    assert_eq!(rt; number_at(&pages, 200_025), 26);
+    assert_eq!(rt; number_at(&pages, 409_600), 1);
+    assert_eq!(rt; number_at(&pages, 819_199), 100);
+    assert_eq!(rt; number_at(&pages, 819_649), 50);
+    Ok(())
+}
+
+#[test]
+fn days_begin_after_the_first_numbers(rt: HostRuntime) -> Result<(), Fail> {
+    let alloc = rt.alloc();
+    let mut row = Pages::new(alloc);
+    row.push_all(&[9, 9, 0, 4, 0, 0, 1])?;
+    if row.len() < 2 {
+        return Ok(());
+    }
+    let days = RunDays::of_rest(10, row, 2);
+    assert_eq!(rt; days.number_on(8), None);
+    assert_eq!(rt; days.number_on(9), None);
+    assert_eq!(rt; days.number_on(10), None);
+    assert_eq!(rt; days.number_on(11), Some(3));
+    assert_eq!(rt; days.number_on(14), Some(0));
+    assert_eq!(rt; days.number_on(15), None);
+    assert_eq!(rt; days.free_days(8), 2);
+    assert_eq!(rt; days.free_days(12), 2);
+    assert_eq!(rt; days.free_days(15), u64::MAX);
+    // gaps and numbers 0 3, 3 0
+    assert_eq!(rt; days.runs(), 2);
     Ok(())
 }
 

@@ -3,14 +3,6 @@ use Rattle.std.proofs.lemmas.Grind.{get_or_default_zero}
 use Rattle.rr_runs.proofs.PagesLemmas.{length_numbers, piece_of_page, piece_of_rest}
 use Rattle.rr_runs.proofs.pages.Pages.piece.Goals as goal
 
-pub returns-then-page-len : goal.returns-then-page-len
-returns-then-page-len c =
-    let stands : c.args.place / 63 < length c.self.inside.pages.items = omega arith in
-    piece_of_page c.self.inside.pool.items c.self.inside.pages.items c.self.inside.rest.items c.args.self.now (sym c.self.view_is) c.self.invariant
-    c.args.place c.index.result.now (c.args.place / 63) (c.args.place % 63) c.rest_of_page.result.now (omega arith) (omega arith) stands
-    (c.index.ensures ∙ get_or_default_zero c.self.inside.pages.items (c.args.place / 63) c.index.result.now stands)
-    (rw c.deref.ensures.value at c.rest_of_page.ensures)
-
 pub rest_from-requires : goal.rest_from-requires
 rest_from-requires c =
     let all =
@@ -18,7 +10,15 @@ rest_from-requires c =
     c.self.invariant in
     omega (arith, all)
 
+pub returns-then-place-paged : goal.returns-then-place-paged
+returns-then-place-paged c =
+    piece_of_rest c.self.inside.pool.items c.self.inside.pages.items c.self.inside.rest.items c.args.self.now (sym c.self.view_is) c.self.invariant
+    c.args.place (c.args.place - c.len-paged.result * 63) c.rest_from.result.now (omega arith) c.requires (rw c.deref.ensures.value at c.rest_from.ensures)
+
 pub returns : goal.returns
 returns c =
-    piece_of_rest c.self.inside.pool.items c.self.inside.pages.items c.self.inside.rest.items c.args.self.now (sym c.self.view_is) c.self.invariant
-    c.args.place (c.args.place - c.len-2.result * 63) c.rest_from.result.now (omega arith) c.requires (rw c.deref-2.ensures.value at c.rest_from.ensures)
+    let stands : c.args.place / 63 < length c.self.inside.pages.items = omega arith in
+    piece_of_page c.self.inside.pool.items c.self.inside.pages.items c.self.inside.rest.items c.args.self.now (sym c.self.view_is) c.self.invariant
+    c.args.place c.index.result.now (c.args.place / 63) (c.args.place % 63) c.rest_of_page.result.now (omega arith) (omega arith) stands
+    (c.index.ensures ∙ get_or_default_zero c.self.inside.pages.items (c.args.place / 63) c.index.result.now stands)
+    (rw c.deref-2.ensures.value at c.rest_of_page.ensures)

@@ -1,9 +1,9 @@
 use Rattle.std.proofs.Common.{◌≡◌, ◌+◌, ◌*◌, arith}
 use Rattle.rr_runs.proofs.PagesLemmas.{zeros_go_on}
-use Rattle.rr_runs.proofs.pages.Pages.zeros_from.Goals as goal
+use Rattle.rr_runs.proofs.pages.Pages.count_zeros.Goals as goal
 
-pub returns-then-next-pages : goal.returns-then-next-pages
-returns-then-next-pages c =
+pub returns-then-pages-eq0 : goal.returns-then-pages-eq0
+returns-then-pages-eq0 c =
     zeros_go_on c.args.self.now c.args.place c.zeros_in_piece-here.result (c.zero_pages_from-pages.result * 63) c.zeros_in_piece-here.ensures
     c.zero_pages_from-pages.ensures
 

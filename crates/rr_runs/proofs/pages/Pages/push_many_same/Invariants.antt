@@ -1,5 +1,5 @@
 use Rattle.std.proofs.Common.{◌≡◌, ◌≤◌, ◌-◌, ◌++◌, replicate}
-use Rattle.rr_runs.proofs.pages.Pages.push_same.Given as goal
+use Rattle.rr_runs.proofs.pages.Pages.push_many_same.Given as goal
 
 -- so many numbers are put
 abbrev pub invariant-loop-done : goal.invariant-loop-done

@@ -1,6 +1,6 @@
 use Rattle.std.proofs.Common.{ℕ, ◌≡◌, ◌++◌, replicate, ap, ◌∙◌, arith}
 use Rattle.rr_runs.proofs.PagesLemmas.{same_go_on}
-use Rattle.rr_runs.proofs.pages.Pages.push_same.Goals as goal
+use Rattle.rr_runs.proofs.pages.Pages.push_many_same.Goals as goal
 
 pub loop-done-preserved : goal.loop-done-preserved
 loop-done-preserved c = (

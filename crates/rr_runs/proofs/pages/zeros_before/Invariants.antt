@@ -1,5 +1,5 @@
 use Rattle.std.proofs.Common.{◌≡◌, ◌<◌, ℕ, get_or}
-use Rattle.rr_runs.proofs.pages.leading_zeros.Given as goal
+use Rattle.rr_runs.proofs.pages.zeros_before.Given as goal
 
 -- the numbers so far are 0
 abbrev pub invariant-loop-k : goal.invariant-loop-k

@@ -1,0 +1,13 @@
+use Rattle.std.proofs.Common.{inl, inr, arith}
+use Rattle.std.proofs.lemmas.Bool.{cases_lt}
+use Rattle.rr_runs.proofs.pages.zero_blocks.Goals as goal
+
+pub loop-at-preserved : goal.loop-at-preserved
+loop-at-preserved c = (
+  omega arith,
+  λ k high.
+      elim (cases_lt k c.loop-at.at) [
+        | inl l ↦ c.loop-at.invariant.1 k l
+        | inr g ↦ c.is_zero_block.ensures c.if-not-is_zero_block.false k g high
+      ],
+)
