@@ -169,6 +169,7 @@ fn first_occupied(
 fn number_of_place(before: &Pages, row: &Pages, skipped: usize, place: usize) -> u32
     requires skipped { skipped ≤ length row.now }
     requires place { place + skipped < length before.now + length row.now }
+    requires few { place + skipped ≤ 20_000_000_000 }
     ensures { result ≡ get_or (before.now ++ drop skipped row.now) place 0 }
 {
     let days = before.len();
