@@ -1,22 +1,24 @@
 // What is said of two operands.
-ghost use Rattle.std.specs.Prelude.{IfOk, ◌≤ℤ◌, pos};
+ghost use Rattle.std.specs.Prelude.{◌≡◌, IfOk, IsTrue, ◌≤ℤ◌, pos};
 ghost use Rattle.rr_answer.specs.Answer.{IsPairAnswer};
 ghost use Rattle.rr_answer.specs.Command.{HasDurations};
 ghost use Rattle.rr_answer.specs.Folding.{IsFoldOf, IsFromYearOneOn};
-ghost use Rattle.rr_answer.specs.OperandReading.{IsSubjectRead};
+ghost use Rattle.rr_answer.specs.OperandReading.{HaveOneText, IsSubjectRead};
 ghost use Rattle.rr_answer.specs.Outcome.{answer_of};
 ghost use Rattle.rr_answer.specs.Parsed.{operand_in};
 ghost use Rattle.rr_answer.specs.Subjects.{Subject};
 ghost use Rattle.rr_answer.specs.Verdicts.{IsSaidOfBoth};
+ghost use Rattle.rr_answer.specs.declared.command.Inquiry.TheVariants.{Verdict as Ask};
+ghost use Rattle.rr_answer.specs.declared.command.Question.TheVariants.{Equal};
 
 use crate::clashes::clash_outcome;
 use crate::combining::combined_outcome;
-use crate::command::{Inquiry, Operand};
+use crate::command::{Inquiry, Operand, Question};
 use crate::folding::read_folded;
-use crate::outcome::{Outcome, refused_for};
+use crate::outcome::{Outcome, refused_for, said};
 use crate::verdicts::verdict_outcome;
 use rr_days::Folded;
-use rr_model::{NoMemory, Side};
+use rr_model::{NoMemory, Side, Verdict};
 use rr_word::DaySeq;
 use std::alloc::Global;
 
@@ -40,10 +42,27 @@ fn said_of_both(alloc: Global, inquiry: Inquiry, a: Folded, b: Folded) -> Result
     }
 }
 
+// Whether two operands are one text in one language with one offset, so that they state the same.
+fn is_one_text(a: Operand, text_a: &[u8], b: Operand, text_b: &[u8]) -> bool
+    ensures { IsTrue result → HaveOneText (operand_in a.entry) text_a.now (operand_in b.entry) text_b.now }
+{
+    a.language == b.language && a.offset == b.offset && text_a == text_b
+}
+
+// Whether it is asked if one text has the same occurrences as itself.
+fn asks_of_itself(inquiry: Inquiry, a: Operand, text_a: &[u8], b: Operand, text_b: &[u8]) -> bool
+    ensures { IsTrue result → (inquiry ≡ Ask Equal) × HaveOneText (operand_in a.entry) text_a.now (operand_in b.entry) text_b.now }
+{
+    match inquiry {
+        Inquiry::Verdict(Question::Equal) => is_one_text(a, text_a, b, text_b),
+        _ => false,
+    }
+}
+
 /// What is said of the bytes of two operands: the refusal of A, else that of B, else that of both, else what is asked of
 /// them.
 ///
-/// Nothing of B is read where A is refused.
+/// Nothing of B is read where A is refused, or where equality is asked of one text twice.
 pub fn pair_outcome(
     alloc: Global,
     inquiry: Inquiry,
@@ -55,12 +74,15 @@ pub fn pair_outcome(
     requires { HasDurations inquiry }
     ensures { IfOk result (λ x. IsPairAnswer inquiry (IsSubjectRead (operand_in a.entry) text_a.now) (IsSubjectRead (operand_in b.entry) text_b.now) (answer_of x)) }
 {
-    let a = match read_folded(alloc, a, text_a) {
+    let of_a = match read_folded(alloc, a, text_a) {
         Err(fault) => return refused_for(alloc, Side::A, fault),
         Ok(days) => days,
     };
+    if asks_of_itself(inquiry, a, text_a, b, text_b) {
+        return said(alloc, Verdict::Yes);
+    }
     match read_folded(alloc, b, text_b) {
         Err(fault) => refused_for(alloc, Side::B, fault),
-        Ok(b) => said_of_both(alloc, inquiry, a, b),
+        Ok(of_b) => said_of_both(alloc, inquiry, of_a, of_b),
     }
 }

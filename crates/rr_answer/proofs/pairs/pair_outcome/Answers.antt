@@ -1,12 +1,17 @@
+use Rattle.std.proofs.Common.{sym, subst}
 use Rattle.std.proofs.lemmas.Result.{IfOk-weaker}
 use Rattle.std.specs.Prelude.{Ok}
 use Rattle.rr_fold.specs.Judged.{all_limits}
 use Rattle.rr_model.specs.declared.verdict.Side.TheVariants.{B}
+use Rattle.rr_model.specs.declared.verdict.Verdict.TheVariants.{Yes}
+use Rattle.rr_answer.specs.Answer.{IsPairAnswer}
 use Rattle.rr_answer.specs.OperandReading.{IsSubjectRead}
 use Rattle.rr_answer.specs.Outcome.{answer_of}
 use Rattle.rr_answer.specs.Parsed.{operand_in}
+use Rattle.rr_answer.specs.Said.{said}
 use Rattle.rr_answer.specs.Verdicts.{IsSaidOfBoth}
 use Rattle.rr_answer.proofs.JudgementLemmas.{fault_said}
+use Rattle.rr_answer.proofs.OneTextLemmas.{said_of_one_text}
 use Rattle.rr_answer.proofs.SaidOfBothLemmas.{fold_from_year_one}
 use Rattle.rr_answer.proofs.pairs.pair_outcome.Goals as goal
 
@@ -21,6 +26,17 @@ said_of_both-requires-clause-near_a c = c.in-Ok.ensures.accepted.fold.near
 
 pub said_of_both-requires-clause-near_b : goal.said_of_both-requires-clause-near_b
 said_of_both-requires-clause-near_b c = c.in-Ok-read_folded.ensures.accepted.fold.near
+
+pub returns-then-asks_of_itself : goal.returns-then-asks_of_itself
+returns-then-asks_of_itself c =
+    let of_a = c.in-Ok.ensures.accepted in
+    let itself = c.asks_of_itself.ensures c.if-asks_of_itself.true in
+    IfOk-weaker c.said.result _ _
+    (λ x e. subst (IsPairAnswer c.args.inquiry (IsSubjectRead (operand_in c.args.a) c.args.text_a.now) (IsSubjectRead (operand_in c.args.b) c.args.text_b.now)) (sym e)
+        (subst (λ i. IsPairAnswer i (IsSubjectRead (operand_in c.args.a) c.args.text_a.now) (IsSubjectRead (operand_in c.args.b) c.args.text_b.now) (said Yes))
+            (sym itself.0)
+            (said_of_one_text (operand_in c.args.a) (operand_in c.args.b) c.args.text_a.now c.args.text_b.now itself.1 of_a.subject of_a.judged)))
+    c.said.ensures
 
 pub returns-in-Ok-read_folded : goal.returns-in-Ok-read_folded
 returns-in-Ok-read_folded c =
