@@ -1,5 +1,5 @@
 -- Numbers under which two tables have the same set, and the days that have them.
-use Rattle.std.proofs.Common.{◌≡◌, inl, inr, ℕ, ◌+◌, ◌<◌, ◌≤◌, Bool, List, [], length, take, get_or, ℤ, pos, nat_abs, ◌+ℤ◌, ◌-ℤ◌, sym, ap, subst, ◌∙◌, arith}
+use Rattle.std.proofs.Common.{◌≡◌, inl, inr, ℕ, ◌+◌, ◌<◌, ◌≤◌, Bool, List, [], length, take, get_or, ℤ, pos, nat_abs, ◌+ℤ◌, ◌-ℤ◌, refl, sym, ap, subst, ◌∙◌, arith}
 use Rattle.std.specs.Prelude.{IsTrue, Option, Some, ◌&&◌, bit_or, nat_eq, slice_get, unwrap_or}
 use Rattle.std.proofs.lemmas.Bool.{cases_lt}
 use Rattle.std.proofs.lemmas.Int.{ints, by_lt_z}
@@ -11,7 +11,7 @@ use Rattle.rr_model.specs.declared.verdict.Side.{Side}
 use Rattle.rr_model.proofs.PeriodicLemmas.{offset}
 use Rattle.rr_word.proofs.SketchLemmas.{rising_on}
 use Rattle.rr_word.specs.Stretches.{AreFree, AreNumbersAfter, IsNumberOn}
-use Rattle.rr_decide.specs.Alike.{AreAlike, HaveOneAt, IsNextAlike, IsRun, days_of}
+use Rattle.rr_decide.specs.Alike.{AreAlike, HaveOneAt, HaveOneOf, IsNextAlike, IsRun, days_of}
 use Rattle.rr_decide.specs.Look.{IsShownOn}
 use Rattle.rr_decide.specs.Question.{IsFirstDayShown, ShowsNone, ShowsNoneWithin, shown_by}
 use Rattle.rr_decide.specs.declared.days.Shown.{Shown}
@@ -89,10 +89,13 @@ pub numbers_of_first : (sets : List (List ℕ)) (s : Sketch) (day : ℤ) (number
 numbers_of_first sets s day numbers xs n e after =
     subst (λ (l : List ℕ). AreNumbersAfter sets s day l) (sym e) (first_numbers sets s day numbers n after)
 
--- two sets that stand under alike numbers
-one_of_both : (sets_a sets_b : List (List ℕ)) (xs ys : List ℕ) (k : ℕ) → slice_get sets_a k ≡ Some xs → slice_get sets_b k ≡ Some ys
-    → slice_get sets_a k ≡ slice_get sets_b k → xs ≡ ys
-one_of_both sets_a sets_b xs ys k xa xb same = ap (λ o. unwrap_or o []) (sym xa ∙ same ∙ xb)
+-- a day on which both have one number of the stretch shows nothing
+none_of_one : (sets_a sets_b : List (List ℕ)) (s u : Sketch) (d : ℤ) (a b : Option ℕ) (alike : AlikeNumbers) → IsNumberOn sets_a s d a
+    → IsNumberOn sets_b u d b → AreAlike sets_a sets_b alike → HaveOneOf a b alike → ShowsNone (shown_by Equal) (times_on s d) (times_on u d)
+none_of_one sets_a sets_b s u d a b alike on_a on_b same one =
+    let xa : slice_get sets_a one.0 ≡ Some (times_on s d) = subst (IsNumberOn sets_a s d) one.3 on_a in
+    let xb : slice_get sets_b one.0 ≡ Some (times_on u d) = subst (IsNumberOn sets_b u d) one.4 on_b in
+    one_shows_none (times_on s d) (times_on u d) (ap (λ o. unwrap_or o []) (sym xa ∙ same one.0 one.1 one.2 ∙ xb))
 
 -- blocks of days on which both have one number of the stretch show nothing, after days that show nothing
 pub none_in_blocks : (sets_a sets_b : List (List ℕ)) (s u : Sketch) (day here : ℤ) (xs ys : List ℕ) (alike : AlikeNumbers) (i j : ℕ) → here ≡ day
@@ -103,15 +106,10 @@ none_in_blocks sets_a sets_b s u day here xs ys alike i j e after_a after_b few_
     let P : Type 0 = ShowsNone (shown_by Equal) (times_on s d) (times_on u d) in
     by_lt_z {P = P} d (here +ℤ pos (i + 1)) (λ l. before d low l) (λ g.
     let k = nat_abs (d -ℤ (day +ℤ pos 1)) in
-    let at : (day +ℤ pos 1) +ℤ pos k ≡ d = sym (offset (day +ℤ pos 1) d (omega (arith, ints))) in
-    let one = has k (omega (arith, ints)) (omega (arith, ints)) in
-    let on_a : IsNumberOn sets_a s d (Some (get_or xs k 0)) =
-    subst (λ (x : ℤ). IsNumberOn sets_a s x (Some (get_or xs k 0))) at (after_a k (omega (arith, ints))) in
-    let on_b : IsNumberOn sets_b u d (Some (get_or ys k 0)) =
-    subst (λ (x : ℤ). IsNumberOn sets_b u x (Some (get_or ys k 0))) at (after_b k (omega (arith, ints))) in
-    one_shows_none (times_on s d) (times_on u d)
-    (one_of_both sets_a sets_b (times_on s d) (times_on u d) one.0 (subst (IsNumberOn sets_a s d) one.3 on_a) (subst (IsNumberOn sets_b u d) one.4 on_b)
-    (same one.0 one.1 one.2)))
+    let at : d ≡ (day +ℤ pos 1) +ℤ pos k = offset (day +ℤ pos 1) d (omega (arith, ints)) in
+    none_of_one sets_a sets_b s u d (Some (get_or xs k 0)) (Some (get_or ys k 0)) alike
+    (number_at sets_a s day d xs k (get_or xs k 0) after_a (omega (arith, ints)) refl at)
+    (number_at sets_b u day d ys k (get_or ys k 0) after_b (omega (arith, ints)) refl at) same (has k (omega (arith, ints)) (omega (arith, ints))))
 
 -- a free day has no seconds
 pub free_here : (s : Sketch) (day at : ℤ) (days : ℕ) → at ≡ day → AreFree s day days → 1 ≤ days → times_on s at ≡ []

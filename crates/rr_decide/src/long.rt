@@ -319,7 +319,14 @@ fn compare_places<A: DaySeq + Drop, B: DaySeq + Drop>(
 {
     let mut alike = alike;
     for k in from..to {
-        match compare_days(a, b, day + 1 + k as i64, Some(of_a[k]), Some(of_b[k]), alike) {
+        match compare_days(
+            a,
+            b,
+            day + 1 + k as i64,
+            Some(of_a[k]),
+            Some(of_b[k]),
+            alike,
+        ) {
             Comparison::Unlike(shown) => return Comparison::Unlike(shown),
             Comparison::Alike(more) => alike = more,
         }

@@ -1,5 +1,4 @@
-use Rattle.std.proofs.Common.{inl, inr, get_or, arith}
-use Rattle.std.proofs.lemmas.Bool.{cases_lt}
+use Rattle.std.proofs.Common.{arith}
 use Rattle.rr_decide.proofs.AlikeLemmas.{equal_more, most_more}
 use Rattle.rr_decide.proofs.long.bits_of_equal.Goals as goal
 

@@ -1,7 +1,5 @@
-use Rattle.std.proofs.Common.{◌+◌, w64, to_z, of_z, arith}
+use Rattle.std.proofs.Common.{w64, to_z, of_z, arith}
 use Rattle.std.proofs.lemmas.Int.{ints, to_z-of_z}
-use Rattle.rr_decide.specs.Question.{shown_by}
-use Rattle.rr_decide.specs.declared.question.Question.TheVariants.{Equal}
 use Rattle.rr_decide.proofs.AlikeLemmas.{none_in_blocks}
 use Rattle.rr_decide.proofs.long.compare_numbers.Goals as goal
 
