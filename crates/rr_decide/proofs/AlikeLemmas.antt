@@ -1,10 +1,9 @@
 -- Numbers under which two tables have the same set, and the days that have them.
 use Rattle.std.proofs.Common.{◌≡◌, inl, inr, ℕ, ◌+◌, ◌<◌, ◌≤◌, Bool, List, [], length, take, get_or, ℤ, pos, nat_abs, ◌+ℤ◌, ◌-ℤ◌, refl, sym, ap, subst, ◌∙◌, arith}
-use Rattle.std.specs.Prelude.{IsTrue, Option, Some, ◌&&◌, bit_or, nat_eq, slice_get, unwrap_or}
+use Rattle.std.specs.Prelude.{IsTrue, Option, Some, ◌&&◌, max, nat_eq, slice_get, unwrap_or}
 use Rattle.std.proofs.lemmas.Bool.{cases_lt}
 use Rattle.std.proofs.lemmas.Int.{ints, by_lt_z}
 use Rattle.std.proofs.lemmas.List.{get_or-take, length-take, length-take-le}
-use Rattle.std.proofs.lemmas.Nat.{le_or_l, le_or_r}
 use Rattle.rr_model.specs.Sets.Sketch.{IsFirstDay, IsValidSketch, times_on}
 use Rattle.rr_model.specs.declared.sketch.Sketch.{Sketch}
 use Rattle.rr_model.specs.declared.verdict.Side.{Side}
@@ -67,12 +66,12 @@ equal_more xs ys from i equal before t k low high =
       | inr g ↦ (let e : k ≡ i = omega arith in rw e (grind (arith, t)))
     ]
 
-pub most_more : (xs : List ℕ) (from i bits : ℕ) → ((k : ℕ) → from ≤ k → k < i → get_or xs k 0 ≤ bits)
-    → (k : ℕ) → from ≤ k → k < i + 1 → get_or xs k 0 ≤ bit_or bits (get_or xs i 0)
-most_more xs from i bits before k low high =
+pub most_more : (xs : List ℕ) (from i greatest next : ℕ) → next ≡ max (get_or xs i 0) greatest
+    → ((k : ℕ) → from ≤ k → k < i → get_or xs k 0 ≤ greatest) → (k : ℕ) → from ≤ k → k < i + 1 → get_or xs k 0 ≤ next
+most_more xs from i greatest next is before k low high =
     elim (cases_lt k i) [
-      | inl l ↦ omega (arith, before k low l, le_or_l bits (get_or xs i 0))
-      | inr g ↦ (let e : k ≡ i = omega arith in rw e (le_or_r bits (get_or xs i 0)))
+      | inl l ↦ omega (arith, is, before k low l)
+      | inr g ↦ (let e : k ≡ i = omega arith in rw e (omega (arith, is)))
     ]
 
 -- the first numbers of a row

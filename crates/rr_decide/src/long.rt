@@ -374,19 +374,19 @@ impl AlikeNumbers {
         if !have_one_of(Some(xs[from]), Some(ys[from]), self) {
             return false;
         }
-        match bits_of_equal(xs, ys, from) {
+        match greatest_of_equal(xs, ys, from) {
             None => false,
-            Some(bits) => self.has_numbers(xs, from, bits),
+            Some(greatest) => self.has_numbers(xs, from, greatest),
         }
     }
 
-    // Whether the numbers of a row at each place of the block that begins at one, none of them greater than `bits`, are of the stretch.
-    fn has_numbers(self, xs: &[u32], from: usize, bits: u32) -> bool
+    // Whether the numbers of a row at each place of the block that begins at one, none of them above `greatest`, are of the stretch.
+    fn has_numbers(self, xs: &[u32], from: usize, greatest: u32) -> bool
         requires within { from + 64 ≤ length xs.now }
-        requires most { (k : ℕ) → from ≤ k → k < from + 64 → get_or xs.now k 0 ≤ bits }
+        requires most { (k : ℕ) → from ≤ k → k < from + 64 → get_or xs.now k 0 ≤ greatest }
         ensures { IsTrue result → AreOf self xs.now from (from + 64) }
     {
-        if self.from == 0 && bits < self.end {
+        if self.from == 0 && greatest < self.end {
             return true;
         }
         self.has_each(xs, from)
@@ -406,21 +406,21 @@ impl AlikeNumbers {
     }
 }
 
-// All bits of the numbers at the places of the block that begins at one, so that none of them is greater; none unless two rows are
-// equal there. No place is left out, so that several are compared at once.
-fn bits_of_equal(xs: &[u32], ys: &[u32], from: usize) -> Option<u32>
+// The greatest of the numbers at the places of the block that begins at one; none unless two rows are equal there. No place is
+// left out, so that several are compared at once.
+fn greatest_of_equal(xs: &[u32], ys: &[u32], from: usize) -> Option<u32>
     requires first { from + 64 ≤ length xs.now }
     requires second { from + 64 ≤ length ys.now }
-    ensures equal { IfSome result (λ bits. (k : ℕ) → from ≤ k → k < from + 64 → get_or xs.now k 0 ≡ get_or ys.now k 0) }
-    ensures most { IfSome result (λ bits. (k : ℕ) → from ≤ k → k < from + 64 → get_or xs.now k 0 ≤ bits) }
+    ensures equal { IfSome result (λ greatest. (k : ℕ) → from ≤ k → k < from + 64 → get_or xs.now k 0 ≡ get_or ys.now k 0) }
+    ensures most { IfSome result (λ greatest. (k : ℕ) → from ≤ k → k < from + 64 → get_or xs.now k 0 ≤ greatest) }
 {
     let mut equal = true;
-    let mut bits = 0;
+    let mut greatest = 0;
     for place in from..from + BLOCK {
         equal = (xs[place] == ys[place]) & equal;
-        bits |= xs[place];
+        greatest = xs[place].max(greatest);
     }
-    if equal { Some(bits) } else { None }
+    if equal { Some(greatest) } else { None }
 }
 
 // What comes out where days are compared.
