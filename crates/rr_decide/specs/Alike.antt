@@ -1,5 +1,5 @@
 -- Numbers under which two tables have the same set.
-use Rattle.std.specs.Prelude.{◌≡◌, ◌⊎◌, ℕ, ◌<◌, ◌≤◌, List, Option, Some, slice_get, ℤ, pos, ◌+ℤ◌, ◌≤ℤ◌}
+use Rattle.std.specs.Prelude.{◌≡◌, ◌⊎◌, ℕ, ◌<◌, ◌≤◌, List, Option, Some, get_or, slice_get, ℤ, pos, ◌+ℤ◌, ◌≤ℤ◌}
 use Rattle.rr_model.specs.Sets.Sketch.{times_on}
 use Rattle.rr_model.specs.declared.sketch.Sketch.{Sketch}
 use Rattle.rr_decide.specs.Look.{IsShownOn}
@@ -19,6 +19,14 @@ AreAlike sets_a sets_b alike = (k : ℕ) → alike.from ≤ k → k < alike.end 
 abbrev pub HaveOneOf : Option ℕ → Option ℕ → AlikeNumbers → Type 0
 HaveOneOf a b alike = (k : ℕ) × (alike.from ≤ k) × (k < alike.end) × (a ≡ Some k) × (b ≡ Some k)
 
+-- at each place from one on and below another a row has a number of the stretch
+abbrev pub AreOf : AlikeNumbers → List ℕ → ℕ → ℕ → Type 0
+AreOf alike xs from to = (k : ℕ) → from ≤ k → k < to → (alike.from ≤ get_or xs k 0) × (get_or xs k 0 < alike.end)
+
+-- at each place from one on and below another both rows have one number of the stretch
+abbrev pub HaveOneAt : List ℕ → List ℕ → AlikeNumbers → ℕ → ℕ → Type 0
+HaveOneAt xs ys alike from to = (k : ℕ) → from ≤ k → k < to → HaveOneOf (Some (get_or xs k 0)) (Some (get_or ys k 0)) alike
+
 -- no number comes that both days do not have
 abbrev pub IsNextAlike : Option ℕ → Option ℕ → AlikeNumbers → AlikeNumbers → Type 0
 IsNextAlike a b old new =
@@ -28,6 +36,13 @@ IsNextAlike a b old new =
 abbrev pub IsCompared : List (List ℕ) → List (List ℕ) → Sketch → Sketch → ℤ → Comparison → Type 0
 IsCompared sets_a sets_b s u day (Unlike r) = IsShownOn (shown_by Equal) s u day r
 IsCompared sets_a sets_b s u day (Alike numbers) = ShowsNone (shown_by Equal) (times_on s day) (times_on u day) × AreAlike sets_a sets_b numbers
+
+-- the first day from this one on that differs, by its first second; else so many days are alike, and so are the sets of these
+-- numbers
+abbrev pub AreCompared : List (List ℕ) → List (List ℕ) → Sketch → Sketch → ℤ → ℕ → Comparison → Type 0
+AreCompared sets_a sets_b s u day n (Unlike r) =
+    IsFirstDayShown (shown_by Equal) s u day r.day r.second r.side × (r.day ≤ℤ pos 3_000_000_000_000)
+AreCompared sets_a sets_b s u day n (Alike numbers) = ShowsNoneWithin (shown_by Equal) s u day (day +ℤ pos n) × AreAlike sets_a sets_b numbers
 
 -- the first day from this one on that differs, by its first second; else so many of at most `most` days are alike, and so are the
 -- sets of these numbers

@@ -1,9 +1,9 @@
 // Equality of two sequences whatever their common cycle is, by days that are read in counted steps.
-ghost use Rattle.std.specs.Prelude.{◌≡◌, ◌⊎◌, ◌+◌, ◌-◌, ◌*◌, ◌<◌, ◌≤◌, ℕ, [], IfSome, IfNone, IsTrue, MatchOption, Some, length, slice_get, pos, neg_ℤ, ◌+ℤ◌, ◌≤ℤ◌};
+ghost use Rattle.std.specs.Prelude.{◌≡◌, ◌⊎◌, ◌+◌, ◌-◌, ◌*◌, ◌<◌, ◌≤◌, ℕ, [], IfSome, IfNone, IsTrue, MatchOption, Some, get_or, length, slice_get, pos, neg_ℤ, ◌+ℤ◌, ◌≤ℤ◌};
 ghost use Rattle.rr_model.specs.Sets.Sketch.{IsEmptySketch, IsNearDay, StandsIn};
 ghost use Rattle.rr_model.specs.Sets.Verdict.{IsEqualVerdict};
-ghost use Rattle.rr_word.specs.Stretches.{IsNumberOn};
-ghost use Rattle.rr_decide.specs.Alike.{AreAlike, HaveOneOf, IsCompared, IsNextAlike, IsRun, days_of};
+ghost use Rattle.rr_word.specs.Stretches.{AreNumbersAfter, IsNumberOn};
+ghost use Rattle.rr_decide.specs.Alike.{AreAlike, AreCompared, AreOf, HaveOneAt, HaveOneOf, IsCompared, IsNextAlike, IsRun, days_of};
 ghost use Rattle.rr_decide.specs.Look.{IsFirstOn};
 ghost use Rattle.rr_decide.specs.Occurrence.{IsNearOccurrence, IsUpToMaxDay, NamesUpToMaxDay};
 ghost use Rattle.rr_decide.specs.Question.{AreApart, HasNoneBefore, IsFirstDayShown, IsFirstOccurrence, IsVerdictBy, ShowsNoneWithin, shown_by};
@@ -249,18 +249,93 @@ fn compare_later<A: DaySeq + Drop, B: DaySeq + Drop, L: Ledger>(
     let end = later_a
         .count()
         .min(later_b.count())
-        .min((most - 1) as usize) as u64;
+        .min((most - 1) as usize);
+    let of_a = later_a.read_numbers(end, steps);
+    let of_b = later_b.read_numbers(end, steps);
+    match compare_numbers(a, b, day, of_a, of_b, alike) {
+        Comparison::Unlike(shown) => Run::Differs(shown),
+        Comparison::Alike(more) => Run::Agrees(end as u64 + 1, more),
+    }
+}
+
+// The days after a day on which both are alike, compared by two rows of their numbers.
+//
+// Whole blocks of days are compared at once, and day by day only where a block has another pair of numbers.
+fn compare_numbers<A: DaySeq + Drop, B: DaySeq + Drop>(
+    a: &Counted<A>,
+    b: &Counted<B>,
+    day: i64,
+    of_a: &[u32],
+    of_b: &[u32],
+    alike: AlikeNumbers,
+) -> Comparison
+    requires low { neg_ℤ (pos 1_000_000_000) ≤ℤ day }
+    requires high { day ≤ℤ pos 6_000_000_000 }
+    requires few_days { length of_a.now ≤ 5_000_000_000 }
+    requires one_length { length of_a.now ≡ length of_b.now }
+    requires numbers_of_a { AreNumbersAfter (A.sets a.now) (A.sketch a.now) day of_a.now }
+    requires numbers_of_b { AreNumbersAfter (B.sets b.now) (B.sketch b.now) day of_b.now }
+    requires first { ShowsNoneWithin (shown_by Equal) (A.sketch a.now) (B.sketch b.now) day (day +ℤ pos 1) }
+    requires alike { AreAlike (A.sets a.now) (B.sets b.now) alike }
+    ensures { AreCompared (A.sets a.now) (B.sets b.now) (A.sketch a.now) (B.sketch b.now) day (length of_a.now + 1) result }
+{
+    let end = of_a.len();
     let mut alike = alike;
-    for k in 0..end {
-        let of_a = later_a.read_number(k as usize, steps);
-        let of_b = later_b.read_number(k as usize, steps);
-        match compare_days(a, b, day + 1 + k as i64, Some(of_a), Some(of_b), alike) {
-            Comparison::Unlike(shown) => return Run::Differs(shown),
+    let mut from = 0;
+    while from < end {
+        let block = alike.pass_blocks(of_a, of_b, from, end);
+        let stop = end.min(block + BLOCK);
+        match compare_places(a, b, day, of_a, of_b, block, stop, alike) {
+            Comparison::Unlike(shown) => return Comparison::Unlike(shown),
+            Comparison::Alike(more) => alike = more,
+        }
+        from = stop;
+    }
+    Comparison::Alike(alike)
+}
+
+// The days at places of two rows of numbers compared one by one, where both are alike on each day before them.
+fn compare_places<A: DaySeq + Drop, B: DaySeq + Drop>(
+    a: &Counted<A>,
+    b: &Counted<B>,
+    day: i64,
+    of_a: &[u32],
+    of_b: &[u32],
+    from: usize,
+    to: usize,
+    alike: AlikeNumbers,
+) -> Comparison
+    requires low { neg_ℤ (pos 1_000_000_000) ≤ℤ day }
+    requires high { day ≤ℤ pos 6_000_000_000 }
+    requires few_days { to ≤ 5_000_000_000 }
+    requires order { from ≤ to }
+    requires within_a { to ≤ length of_a.now }
+    requires within_b { to ≤ length of_b.now }
+    requires numbers_of_a { AreNumbersAfter (A.sets a.now) (A.sketch a.now) day of_a.now }
+    requires numbers_of_b { AreNumbersAfter (B.sets b.now) (B.sketch b.now) day of_b.now }
+    requires before { ShowsNoneWithin (shown_by Equal) (A.sketch a.now) (B.sketch b.now) day (day +ℤ pos (from + 1)) }
+    requires alike { AreAlike (A.sets a.now) (B.sets b.now) alike }
+    ensures { AreCompared (A.sets a.now) (B.sets b.now) (A.sketch a.now) (B.sketch b.now) day (to + 1) result }
+{
+    let mut alike = alike;
+    for k in from..to {
+        match compare_days(
+            a,
+            b,
+            day + 1 + k as i64,
+            Some(of_a[k]),
+            Some(of_b[k]),
+            alike,
+        ) {
+            Comparison::Unlike(shown) => return Comparison::Unlike(shown),
             Comparison::Alike(more) => alike = more,
         }
     }
-    Run::Agrees(end + 1, alike)
+    Comparison::Alike(alike)
 }
+
+// How many days make a block.
+const BLOCK: usize = 64;
 
 // Numbers from one on and below another, under each of which both sequences have the same set.
 #[derive(Clone, Copy)]
@@ -269,7 +344,86 @@ struct AlikeNumbers {
     end: u32,
 }
 
-// What comes out where two days are compared.
+impl AlikeNumbers {
+    // The end of the whole blocks from one place on, and up to an end, at each place of which two rows have one number of the stretch.
+    fn pass_blocks(self, xs: &[u32], ys: &[u32], from: usize, end: usize) -> usize
+        requires first { end ≤ length xs.now }
+        requires second { end ≤ length ys.now }
+        requires order { from ≤ end }
+        ensures least { from ≤ result }
+        ensures most { result ≤ end }
+        ensures has { HaveOneAt xs.now ys.now self from result }
+    {
+        let mut at = from;
+        while end - at >= BLOCK {
+            if !self.has_block(xs, ys, at) {
+                return at;
+            }
+            at += BLOCK;
+        }
+        at
+    }
+
+    // Whether two rows have one number of the stretch at each place of the block that begins at one. Its first place is asked alone,
+    // so that little is lost where each day has another number.
+    fn has_block(self, xs: &[u32], ys: &[u32], from: usize) -> bool
+        requires first { from + 64 ≤ length xs.now }
+        requires second { from + 64 ≤ length ys.now }
+        ensures { IsTrue result → HaveOneAt xs.now ys.now self from (from + 64) }
+    {
+        if !have_one_of(Some(xs[from]), Some(ys[from]), self) {
+            return false;
+        }
+        match greatest_of_equal(xs, ys, from) {
+            None => false,
+            Some(greatest) => self.has_numbers(xs, from, greatest),
+        }
+    }
+
+    // Whether the numbers of a row at each place of the block that begins at one, none of them above `greatest`, are of the stretch.
+    fn has_numbers(self, xs: &[u32], from: usize, greatest: u32) -> bool
+        requires within { from + 64 ≤ length xs.now }
+        requires most { (k : ℕ) → from ≤ k → k < from + 64 → get_or xs.now k 0 ≤ greatest }
+        ensures { IsTrue result → AreOf self xs.now from (from + 64) }
+    {
+        if self.from == 0 && greatest < self.end {
+            return true;
+        }
+        self.has_each(xs, from)
+    }
+
+    // Whether the numbers of a row at each place of the block that begins at one are of the stretch. No place is left out, so that
+    // several are compared at once.
+    fn has_each(self, xs: &[u32], from: usize) -> bool
+        requires { from + 64 ≤ length xs.now }
+        ensures { IsTrue result → AreOf self xs.now from (from + 64) }
+    {
+        let mut all = true;
+        for place in from..from + BLOCK {
+            all = (self.from <= xs[place]) & (xs[place] < self.end) & all;
+        }
+        all
+    }
+}
+
+// The greatest of the numbers at the places of the block that begins at one; none unless two rows are equal there. No place is
+// left out, so that several are compared at once.
+fn greatest_of_equal(xs: &[u32], ys: &[u32], from: usize) -> Option<u32>
+    requires first { from + 64 ≤ length xs.now }
+    requires second { from + 64 ≤ length ys.now }
+    ensures equal { IfSome result (λ greatest. (k : ℕ) → from ≤ k → k < from + 64 → get_or xs.now k 0 ≡ get_or ys.now k 0) }
+    ensures most { IfSome result (λ greatest. (k : ℕ) → from ≤ k → k < from + 64 → get_or xs.now k 0 ≤ greatest) }
+{
+    let mut equal = true;
+    let mut greatest = 0;
+    for place in from..from + BLOCK {
+        equal = (xs[place] == ys[place]) & equal;
+        greatest = xs[place].max(greatest);
+    }
+    if equal { Some(greatest) } else { None }
+}
+
+// What comes out where days are compared.
 enum Comparison {
     // The first second in which they differ.
     Unlike(Shown),

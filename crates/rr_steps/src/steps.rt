@@ -4,8 +4,8 @@ use std::sync::ledger::{Blank, Book, Ledger, Share};
 
 /// A counter of steps. Contracts see it as a number of steps, from 0.
 ///
-/// It takes no bytes, and nothing is counted when the program runs. Only `tick` changes it, so a function that is handed a
-/// counter and says by how much it grows says how many steps it takes.
+/// It takes no bytes, and nothing is counted when the program runs. Only `tick` and `tick_many` change it, so a function that
+/// is handed a counter and says by how much it grows says how many steps it takes.
 ///
 /// A caller that counts nothing takes `Brand` for the ledger and `Steps::new(Blank::new(1))`, and names the ledger in its
 /// proof.
@@ -44,5 +44,12 @@ impl<L: Ledger> Steps<L> {
         ensures { self.new ≡ self.old + 1 }
     {
         self.book.add(&mut self.share, 1);
+    }
+
+    /// So many steps more, at once.
+    pub fn tick_many(&mut self, count: u64)
+        ensures { self.new ≡ self.old + count }
+    {
+        self.book.add(&mut self.share, count);
     }
 }

@@ -1,5 +1,5 @@
 // A sequence of days that is read in steps.
-ghost use Rattle.std.specs.Prelude.{◌≡◌, ◌+◌, ◌<◌, ◌≤◌, min, IfSome, Some, get_or, length, pos, neg_ℤ, ◌≤ℤ◌, slice_get};
+ghost use Rattle.std.specs.Prelude.{◌≡◌, ◌+◌, ◌<◌, ◌≤◌, min, IfSome, Some, get_or, length, take, pos, neg_ℤ, ◌≤ℤ◌, slice_get};
 ghost use Rattle.rr_model.specs.Sets.Sketch.{IsFirstDay, IsNearDay, times_on};
 ghost use Rattle.rr_word.specs.Stretches.{AreFree, AreNumbersAfter, IsNumberOn};
 
@@ -131,7 +131,7 @@ fn tick_if_some<L: Ledger>(days: u64, steps: &mut Steps<L>)
     }
 }
 
-/// Days in a row whose numbers are there to be read, each in one step.
+/// Days in a row whose numbers are there to be read, one or several at once, each in one step.
 #[derive(Clone, Copy)]
 pub struct Later<'a> {
     numbers: &'a [u32],
@@ -153,5 +153,15 @@ impl<'a> Later<'a> {
     {
         steps.tick();
         self.numbers[place]
+    }
+
+    /// The numbers of the time sets of the first days, in as many steps as they are.
+    pub fn read_numbers<L: Ledger>(self, count: usize, steps: &mut Steps<L>) -> &'a [u32]
+        requires { count ≤ length self.numbers.now }
+        ensures numbers { result.now ≡ take count self.entry.numbers.now }
+        ensures step { steps.new ≡ steps.old + count }
+    {
+        steps.tick_many(count as u64);
+        &self.numbers[..count]
     }
 }

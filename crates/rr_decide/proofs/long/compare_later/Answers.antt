@@ -1,43 +1,50 @@
-use Rattle.std.proofs.Common.{◌+◌, w64, to_z, of_z, refl, arith}
+use Rattle.std.proofs.Common.{w64, to_z, of_z, arith}
 use Rattle.std.proofs.lemmas.Int.{ints, to_z-of_z}
-use Rattle.rr_decide.specs.Question.{shown_by}
-use Rattle.rr_decide.specs.declared.question.Question.TheVariants.{Equal}
-use Rattle.rr_decide.proofs.AlikeLemmas.{none_more, number_at}
-use Rattle.rr_decide.proofs.WindowLemmas.{first_one}
+use Rattle.rr_decide.proofs.AlikeLemmas.{length_of_first, numbers_of_first}
 use Rattle.rr_decide.proofs.long.compare_later.Goals as goal
 
-pub loop-k-init : goal.loop-k-init
-loop-k-init g c = ((λ d low high. c.requires.first d (omega (arith, ints)) (omega (arith, ints))), c.requires.alike, omega arith)
+pub compare_numbers-requires-clause-few_days : goal.compare_numbers-requires-clause-few_days
+compare_numbers-requires-clause-few_days g c =
+    omega (arith, c.requires.few_days, length_of_first _ _ _ c.read_numbers-of_a.ensures.numbers (omega arith))
 
-pub compare_days-requires-clause-first : goal.compare_days-requires-clause-first
-compare_days-requires-clause-first g c =
-    number_at (g.A.DaySeq.sets c.args.a.now) (g.A.DaySeq.sketch c.args.a.now) (to_z w64 (of_z w64 c.args.day)) _ c.later-later_a.result.numbers.now c.loop-k.k
-    c.read_number-of_a.result c.later-later_a.ensures (omega arith) c.read_number-of_a.ensures.number (omega (arith, ints))
+pub compare_numbers-requires-clause-one_length : goal.compare_numbers-requires-clause-one_length
+compare_numbers-requires-clause-one_length g c =
+    omega (
+      arith,
+      length_of_first _ _ _ c.read_numbers-of_a.ensures.numbers (omega arith),
+      length_of_first _ _ _ c.read_numbers-of_b.ensures.numbers (omega arith),
+    )
 
-pub compare_days-requires-clause-second : goal.compare_days-requires-clause-second
-compare_days-requires-clause-second g c =
-    number_at (g.B.DaySeq.sets c.args.b.now) (g.B.DaySeq.sketch c.args.b.now) (to_z w64 (of_z w64 c.args.day)) _ c.later-later_b.result.numbers.now c.loop-k.k
-    c.read_number-of_b.result c.later-later_b.ensures (omega arith) c.read_number-of_b.ensures.number (omega (arith, ints))
+pub compare_numbers-requires-clause-numbers_of_a : goal.compare_numbers-requires-clause-numbers_of_a
+compare_numbers-requires-clause-numbers_of_a g c =
+    numbers_of_first (g.A.DaySeq.sets c.args.a.now) (g.A.DaySeq.sketch c.args.a.now) (to_z w64 (of_z w64 c.args.day)) c.later-later_a.result.numbers.now
+    c.read_numbers-of_a.result.now _ c.read_numbers-of_a.ensures.numbers c.later-later_a.ensures
+
+pub compare_numbers-requires-clause-numbers_of_b : goal.compare_numbers-requires-clause-numbers_of_b
+compare_numbers-requires-clause-numbers_of_b g c =
+    numbers_of_first (g.B.DaySeq.sets c.args.b.now) (g.B.DaySeq.sketch c.args.b.now) (to_z w64 (of_z w64 c.args.day)) c.later-later_b.result.numbers.now
+    c.read_numbers-of_b.result.now _ c.read_numbers-of_b.ensures.numbers c.later-later_b.ensures
+
+pub compare_numbers-requires-clause-first : goal.compare_numbers-requires-clause-first
+compare_numbers-requires-clause-first g c = λ d low high. c.requires.first d (omega (arith, ints)) (omega (arith, ints))
 
 pub returns-in-Unlike-clause-run : goal.returns-in-Unlike-clause-run
-returns-in-Unlike-clause-run g c = (
-  first_one (shown_by Equal) (g.A.DaySeq.sketch c.args.a.now) (g.B.DaySeq.sketch c.args.b.now) c.args.day (to_z w64 (of_z w64 c.args.day)) _ c.in-Unlike.shown.day (c.loop-k.k + 1) c.in-Unlike.shown.second
-      c.in-Unlike.shown.side (to_z-of_z w64 c.args.day c.ranges.day) (omega (arith, ints)) c.in-Unlike.ensures.0 c.loop-k.invariant.0 c.in-Unlike.ensures.1,
-  omega (arith, ints, c.in-Unlike.ensures.0),
-)
+returns-in-Unlike-clause-run g c = rw (to_z-of_z w64 c.args.day c.ranges.day) at c.in-Unlike.ensures
 
-pub loop-k-preserved : goal.loop-k-preserved
-loop-k-preserved g c = (
-  none_more (shown_by Equal) (g.A.DaySeq.sketch c.args.a.now) (g.B.DaySeq.sketch c.args.b.now) (to_z w64 (of_z w64 c.args.day)) _ (c.loop-k.k + 1)
-      (omega (arith, ints)) c.loop-k.invariant.0 c.in-Alike.ensures.0,
-  c.in-Alike.ensures.1,
-  omega (arith, c.loop-k.invariant.2, c.read_number-of_a.ensures.step, c.read_number-of_b.ensures.step),
-)
+pub returns-in-Unlike-clause-few : goal.returns-in-Unlike-clause-few
+returns-in-Unlike-clause-few g c =
+    omega (arith, c.requires.some, c.read_numbers-of_a.ensures.step, c.read_numbers-of_b.ensures.step)
 
-pub returns-clause-run : goal.returns-clause-run
-returns-clause-run g c = (
+pub returns-in-Alike-clause-run : goal.returns-in-Alike-clause-run
+returns-in-Alike-clause-run g c = (
   omega arith,
   omega (arith, c.requires.some),
-  λ d low high. c.loop-k.invariant.0 d (omega (arith, ints)) (omega (arith, ints)),
-  c.loop-k.invariant.1,
+  (λ d low high.
+      c.in-Alike.ensures.0 d (omega (arith, ints))
+      (omega (arith, ints, length_of_first _ _ _ c.read_numbers-of_a.ensures.numbers (omega arith)))),
+  c.in-Alike.ensures.1,
 )
+
+pub returns-in-Alike-clause-few : goal.returns-in-Alike-clause-few
+returns-in-Alike-clause-few g c =
+    omega (arith, c.requires.some, c.read_numbers-of_a.ensures.step, c.read_numbers-of_b.ensures.step)

@@ -1,12 +1,11 @@
-use Rattle.std.specs.Prelude.{◌+◌, ◌*◌, ◌≤◌, pos, ◌+ℤ◌}
+use Rattle.std.specs.Prelude.{◌+◌, pos, ◌+ℤ◌}
 use Rattle.rr_decide.specs.Alike.{AreAlike}
 use Rattle.rr_decide.specs.Question.{ShowsNoneWithin, shown_by}
 use Rattle.rr_decide.specs.declared.question.Question.TheVariants.{Equal}
-use Rattle.rr_decide.proofs.long.compare_later.Given as goal
+use Rattle.rr_decide.proofs.long.compare_places.Given as goal
 
--- the days before this one are alike, the sets of the numbers too, and a day took two steps
+-- the days before this one are alike, and the sets of the numbers too
 abbrev pub invariant-loop-k : goal.invariant-loop-k
 invariant-loop-k g l =
     ShowsNoneWithin (shown_by Equal) (g.A.DaySeq.sketch l.a) (g.B.DaySeq.sketch l.b) l.day (l.day +ℤ pos (l.k + 1))
     × AreAlike (g.A.DaySeq.sets l.a) (g.B.DaySeq.sets l.b) l.alike
-    × (l.steps ≤ l.initial.steps + 2 * l.k)
