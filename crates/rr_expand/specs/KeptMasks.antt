@@ -1,6 +1,7 @@
 -- Masks of years that are kept, and the year in which the last day lay that was asked for.
-use Rattle.std.specs.Prelude.{◌≡◌, Bool, true, false, not, ◌&&◌, List, length, get_or, Option, Some, None, ℤ, pos, nat_abs, ◌+ℤ◌, ◌-ℤ◌, ◌≤ℤ◌, ◌<ℤ◌}
+use Rattle.std.specs.Prelude.{◌≡◌, Bool, true, false, IsTrue, not, ◌&&◌, List, length, get_or, Option, Some, None, int_lt, ℤ, pos, nat_abs, ◌+ℤ◌, ◌-ℤ◌, ◌≤ℤ◌, ◌<ℤ◌}
 use Rattle.rr_model.specs.Calendar.{IsDayWithin}
+use Rattle.rr_model.specs.Rising.Sets.{IsSetOf}
 use Rattle.rr_model.specs.Rule.Validity.{is_absent}
 use Rattle.rr_model.specs.declared.rule.Rule.{Rule}
 use Rattle.rr_expand.specs.Years.{Filling, IsYearMask, allows_day, is_bit_set, mask_key}
@@ -33,11 +34,19 @@ IsFirstMarked year from end (Some day) =
 
 -- ---- a rule's years
 
+-- the bits of the year's days tell which of them are allowed
+abbrev pub TellsYear : Filling → MaskedYear → Type 0
+TellsYear f year = (d : ℤ) → year.first ≤ℤ d → d <ℤ year.next → is_marked year d ≡ allows_day f d
+
+-- the days are those from a first one on and before another that are allowed
+abbrev pub ListAllowed : Filling → ℤ → ℤ → List ℤ → Type 0
+ListAllowed f first end days = IsSetOf int_lt days (λ d. (first ≤ℤ d) × (d <ℤ end) × IsTrue (allows_day f d))
+
 -- the masks that are kept are those of the rule's years, and so is that of the year looked at
 pub record AreKeptMasks (f : Filling) (masks : KeptMasks) : Type 0 where
   pub kept : AreMasks f masks.kept.items
   pub year : IsMaskedYear masks.year
-  pub marked : (d : ℤ) → masks.year.first ≤ℤ d → d <ℤ masks.year.next → is_marked masks.year d ≡ allows_day f d
+  pub marked : TellsYear f masks.year
 
 -- where there are no masks every day is allowed
 abbrev pub TellDays : Filling → Option KeptMasks → Type 0

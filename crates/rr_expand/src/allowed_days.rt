@@ -1,10 +1,10 @@
 // The days that the date parts of a rule allow, found by masks of years.
-ghost use Rattle.std.specs.Prelude.{◌≡◌, IfOk, OnOk, false, int_lt, pos, true, ◌+ℤ◌, ◌≤ℤ◌, ◌<ℤ◌, ℤ};
+ghost use Rattle.std.specs.Prelude.{◌≡◌, IfOk, OnOk, [], false, int_lt, pos, true, ◌+ℤ◌, ◌≤ℤ◌, ◌<ℤ◌, ℤ};
 ghost use Rattle.rr_model.specs.Calendar.{IsDayWithin, first_day_of_year};
 ghost use Rattle.rr_model.specs.Rising.Sets.{IsSetOf};
 ghost use Rattle.rr_expand.specs.Expansion.{IsAllowedDay};
 ghost use Rattle.rr_expand.specs.Years.{Filling, IsFirstAllowed, IsYearMask, allows_day};
-ghost use Rattle.rr_expand.specs.KeptMasks.{AreMasks, AreKeptMasks, IsFirstMarked, IsMaskedYear, TellDays, has_date_part};
+ghost use Rattle.rr_expand.specs.KeptMasks.{AreMasks, AreKeptMasks, IsFirstMarked, IsMaskedYear, ListAllowed, TellDays, TellsYear, has_date_part};
 
 use crate::year_masks::{YearMask, mask_key, year_mask};
 use rr_cal::{Date, date_of, day_of, days_in_year};
@@ -74,16 +74,6 @@ impl AllowedDays {
         ensures same { self.new ≡ self.old }
         ensures first { IsFirstAllowed self.old from end result }
     {
-        self.first_near(from, end)
-    }
-
-    // As `first_from`, somewhat farther.
-    fn first_near(&mut self, from: i64, end: i64) -> Option<i64>
-        requires from { IsDayWithin 400 from }
-        requires end { IsDayWithin 400 end }
-        ensures same { self.new ≡ self.old }
-        ensures first { IsFirstAllowed self.old from end result }
-    {
         match &mut self.masks {
             None => first_of_all(from, end),
             Some(masks) => masks.first_from(&self.rule, self.start_day, from, end),
@@ -98,13 +88,10 @@ impl AllowedDays {
         ensures listed { OnOk result (IsSetOf int_lt days.new.items (IsAllowedDay self.old.rule self.old.start_day first count)) }
     {
         days.clear();
-        let end = first + i64::from(count);
-        let mut from = first;
-        while let Some(day) = self.first_near(from, end) {
-            days.push(day)?;
-            from = day + 1;
+        match &mut self.masks {
+            None => list_all(first, count, days),
+            Some(masks) => masks.list(&self.rule, self.start_day, first, count, days),
         }
-        Ok(())
     }
 }
 
@@ -145,6 +132,34 @@ impl KeptMasks {
             day = self.year.next;
         }
         None
+    }
+
+    // Puts the days that the rule allows, of `count` from the first one on, into an empty list, year by year.
+    fn list(
+        &mut self,
+        rule: &Rule,
+        start_day: i64,
+        first: i64,
+        count: u16,
+        days: &mut Vec<i64>,
+    ) -> Result<(), NoMemory>
+        requires start { IsDayWithin 1000 start_day }
+        requires first { IsDayWithin 400 first }
+        requires last { IsDayWithin 400 (first +ℤ pos count) }
+        requires empty { days.old.items ≡ [] }
+        requires known { AreKeptMasks (record { rule = rule.now; start_day = start_day }) self.old }
+        ensures known { AreKeptMasks (record { rule = rule.now; start_day = start_day }) self.new }
+        ensures listed { OnOk result (ListAllowed (record { rule = rule.now; start_day = start_day }) first (first +ℤ pos count) days.new.items) }
+    {
+        let end = first + i64::from(count);
+        let mut day = first;
+        while day < end {
+            self.enter_year_of(rule, start_day, day);
+            let last = end.min(self.year.next);
+            self.year.list(day, last, days)?;
+            day = last;
+        }
+        Ok(())
     }
 
     // Turns to the year of a day.
@@ -188,6 +203,24 @@ impl MaskedYear {
             .mask
             .first_from((from - self.first) as u16, (end - self.first) as u16)?;
         Some(self.first + i64::from(place))
+    }
+
+    // Puts the year's days from one on and before another whose bit is set after those of a list.
+    fn list(&self, from: i64, end: i64, days: &mut Vec<i64>) -> Result<(), NoMemory>
+        requires year { IsMaskedYear self.now }
+        requires begun { self.now.first ≤ℤ from }
+        requires some { from ≤ℤ end }
+        requires not_over { end ≤ℤ self.now.next }
+        ensures { (f : Filling) (first : ℤ) → first ≤ℤ from → TellsYear f self.now → ListAllowed f first from days.old.items
+            → OnOk result (ListAllowed f first end days.new.items) }
+    {
+        let last = (end - self.first) as u16;
+        let mut place = (from - self.first) as u16;
+        while let Some(found) = self.mask.first_from(place, last) {
+            days.push(self.first + i64::from(found))?;
+            place = found + 1;
+        }
+        Ok(())
     }
 }
 
@@ -246,4 +279,17 @@ fn first_of_all(from: i64, end: i64) -> Option<i64>
     ensures { (f : Filling) → ((d : ℤ) → allows_day f d ≡ true) → IsFirstAllowed f from end result }
 {
     if from < end { Some(from) } else { None }
+}
+
+// Puts the days, of `count` from the first one on, into an empty list.
+fn list_all(first: i64, count: u16, days: &mut Vec<i64>) -> Result<(), NoMemory>
+    requires first { IsDayWithin 400 first }
+    requires last { IsDayWithin 400 (first +ℤ pos count) }
+    requires empty { days.old.items ≡ [] }
+    ensures { (f : Filling) → ((d : ℤ) → allows_day f d ≡ true) → OnOk result (ListAllowed f first (first +ℤ pos count) days.new.items) }
+{
+    for k in 0..count {
+        days.push(first + i64::from(k))?;
+    }
+    Ok(())
 }

@@ -19,4 +19,5 @@ pub mod CountedLemmas
 pub mod LastDayLemmas
 pub mod SettledLemmas
 pub mod PlainLemmas
+pub mod AlonePlaceLemmas
 pub mod AloneLemmas

@@ -33,7 +33,7 @@ use Rattle.rr_iter.proofs.WalkLemmas.{no_candidate, seconds_of_day, unit_mono}
 
 -- ---- the seconds of a candidate day
 
-few_seconds : (kind : Kind) → seconds_of kind ≤ 86_400
+pub few_seconds : (kind : Kind) → seconds_of kind ≤ 86_400
 few_seconds Days = omega arith
 few_seconds Moments = omega arith
 

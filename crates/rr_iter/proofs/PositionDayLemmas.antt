@@ -18,10 +18,9 @@ use Rattle.rr_model.specs.declared.rule.Rule.{Rule}
 use Rattle.rr_model.proofs.RisingSetLemmas.{Contains-none, set_empty}
 use Rattle.rr_setpos.specs.Nth.{IsPlaceOf, IsRankOf}
 use Rattle.rr_expand.specs.Years.{Filling}
-use Rattle.rr_shapes.specs.Tables.{Extends}
 use Rattle.rr_lazy.specs.Next.{with_set}
 use Rattle.rr_lazy.specs.declared.occupied_day.OccupiedDay.{OccupiedDay}
-use Rattle.rr_iter.specs.Ruling.{AreUnitDays, IsUnrolled, KnowsTimes, Ruling, keeps_more}
+use Rattle.rr_iter.specs.Ruling.{AreUnitDays, IsSameRuling, IsUnrolled, Ruling}
 use Rattle.rr_iter.specs.SetPositions.{HasOneOn, HasPositionOn, IsAtSome, IsDayOfPosition, IsNextPlace, IsPositionOn}
 use Rattle.rr_iter.specs.Walk.{IsFirstInIn, IsFirstOf, IsFirstOfIn, IsOnDay, IsOnDayIn}
 use Rattle.rr_iter.proofs.DayListLemmas.{PassedDays, passed_all, passed_found}
@@ -215,6 +214,6 @@ first_in_unit rule kind start sets days unit from (Some found) coarse set f =
 
 -- ---- the walk from unit to unit
 
--- what is known of the same rule in a table that goes on
-pub knows_on : (new old : Ruling) (before after : List (List ℕ)) → new ≡ old → Extends before after → KnowsTimes old before → KnowsTimes new after
-knows_on new old before after e more k = rw e (keeps_more old 0 (IsCandidateTime old.rule old.kind old.start) before after more k)
+-- a rule that is the same as one that is the same
+pub same_ruling : (new between old : Ruling) → IsSameRuling new between → IsSameRuling between old → IsSameRuling new old
+same_ruling new between old a b = record { rule = a.rule ∙ b.rule; kind = a.kind ∙ b.kind; start = a.start ∙ b.start }

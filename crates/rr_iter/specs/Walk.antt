@@ -64,6 +64,11 @@ abbrev pub IsPlacedDay : List (List ℕ) → ℤ → List ℕ → Option Occupie
 IsPlacedDay sets day times None = times ≡ []
 IsPlacedDay sets day times (Some found) = (found.day ≡ day) × (times ≡ [] → ⊥) × IsWithin sets found × ((with_set sets found).times ≡ times)
 
+-- the day with a set of seconds
+abbrev pub IsDayWith : List (List ℕ) → (ℕ → Type 0) → ℤ → Option OccupiedDay → Type 0
+IsDayWith sets P day None = ⊥
+IsDayWith sets P day (Some found) = (found.day ≡ day) × IsWithin sets found × IsSetOf nat_lt (with_set sets found).times P
+
 -- no candidate of a finer rule lies on a day from one on up to another, or this is the first day on which one can lie: it is allowed
 abbrev pub IsFirstFine : Ruling → ℤ → ℤ → Option ℤ → Type 0
 IsFirstFine r from to None = HasNone (chosen_of r.rule Moments r.start) from (to +ℤ pos 1)

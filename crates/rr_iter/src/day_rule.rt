@@ -13,7 +13,7 @@ ghost use Rattle.rr_shapes.specs.Tables.{Extends};
 ghost use Rattle.rr_lazy.specs.Next.{IsNextIn};
 ghost use Rattle.rr_iter.specs.Ruling.{IsFirstCandidate, IsFirstCandidateIn, IsFittingUnit, IsPassed, IsSameRuling, KnowsTimes};
 ghost use Rattle.rr_iter.specs.Steps.{HasBegun};
-ghost use Rattle.rr_iter.specs.Walk.{IsFirstSecond, IsFirstUpToIn, IsOnDayIn, IsPlacedDay, IsWalked};
+ghost use Rattle.rr_iter.specs.Walk.{IsDayWith, IsFirstSecond, IsFirstUpToIn, IsOnDayIn, IsPlacedDay, IsWalked};
 
 use rr_cal::{Day, days_in_unit, first_day_of_unit, unit_of_day, week_index};
 use rr_expand::{AllowedDays, first_fit, times};
@@ -246,6 +246,24 @@ impl DayRule {
         if count == 0 {
             return Ok(None);
         }
+        let number = self.number_of_times(alloc, sets)?;
+        Ok(Some(OccupiedDay { day, number, count }))
+    }
+
+    // A day with the seconds of each candidate day.
+    pub(crate) fn with_times(
+        &mut self,
+        alloc: Global,
+        sets: &mut SetTable,
+        day: i64,
+    ) -> Result<Option<OccupiedDay>, NoMemory>
+        requires knows { KnowsTimes self.old sets.old }
+        ensures same { IsSameRuling self.new self.old }
+        ensures knows { KnowsTimes self.new sets.new }
+        ensures kept { Extends sets.old sets.new }
+        ensures found { IfOk result (IsDayWith sets.new (IsCandidateTime self.old.rule self.old.kind self.old.start) day) }
+    {
+        let count = self.times.as_slice().len();
         let number = self.number_of_times(alloc, sets)?;
         Ok(Some(OccupiedDay { day, number, count }))
     }

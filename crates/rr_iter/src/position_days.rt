@@ -1,14 +1,15 @@
 // A rule of whole days with BYSETPOS, walked unit by unit (RFC 5545, section 3.3.10, BYSETPOS).
-ghost use Rattle.std.specs.Prelude.{◌≡◌, ◌⊎◌, Some, None, IfOk, IsTrue, false, nat_lt, pos, ◌+ℤ◌, ◌≤ℤ◌, ◌<ℤ◌};
+ghost use Rattle.std.specs.Prelude.{◌≡◌, ◌⊎◌, Some, None, IfOk, IsTrue, List, false, nat_lt, pos, ◌+ℤ◌, ◌≤ℤ◌, ◌<ℤ◌, ℕ, ℤ};
 ghost use Rattle.rr_model.specs.Calendar.{IsDayWithin};
 ghost use Rattle.rr_model.specs.Moment.Units.{unit_start};
 ghost use Rattle.rr_model.specs.Rising.Sets.{IsSetOf};
+ghost use Rattle.rr_model.specs.Rule.DaysAndTimes.{IsCandidateTime};
 ghost use Rattle.rr_model.specs.Rule.Validity.{is_absent};
 ghost use Rattle.rr_model.specs.Sets.Tree.{chosen_of, stands_at};
 ghost use Rattle.rr_model.specs.declared.kind.Kind.TheVariants.{Days};
 ghost use Rattle.rr_shapes.specs.Tables.{Extends};
 ghost use Rattle.rr_iter.specs.Ruling.{AreUnitDays, IsCandidateAt, IsFittingUnit, IsSameRuling, KnowsTimes};
-ghost use Rattle.rr_iter.specs.Walk.{IsFirstInIn, IsFirstOfIn, IsFirstUpToIn, IsOnDayIn};
+ghost use Rattle.rr_iter.specs.Walk.{IsFirstInIn, IsFirstOf, IsFirstOfIn, IsFirstUpToIn, IsOnDayIn};
 
 use crate::day_rule::{DayRule, SECONDS_OF_DAY, placed, unit_of};
 use crate::set_positions::{next_place, times_at_positions};
@@ -63,7 +64,9 @@ impl DayRule {
         requires first { IsDayWithin 400 (unit_start self.old.rule.freq self.old.rule.week_start Days unit) }
         requires next { IsDayWithin 400 (unit_start self.old.rule.freq self.old.rule.week_start Days (unit +ℤ pos 1)) }
         requires fits { IsFittingUnit self.old unit }
-        ensures same { self.new ≡ self.old }
+        requires knows { KnowsTimes self.old sets.old }
+        ensures same { IsSameRuling self.new self.old }
+        ensures knows { KnowsTimes self.new sets.new }
         ensures kept { Extends sets.old sets.new }
         ensures found { IfOk result (IsFirstInIn sets.new (chosen_of self.old.rule self.old.kind self.old.start) self.old.rule unit from) }
     {
@@ -75,7 +78,30 @@ impl DayRule {
             self.unit = unit;
             self.is_held = true;
         }
-        self.first_of(alloc, sets, self.days.as_slice(), from)
+        match self.first_alone(self.days.as_slice(), from) {
+            None => self.first_of(alloc, sets, self.days.as_slice(), from),
+            Some(day) => self.with_times(alloc, sets, day),
+        }
+    }
+
+    // Of the candidate days of a unit the first occupied one from a day on, where each has one time: a day on which a position
+    // is has that time. None where the days have other numbers of times, and where the position lies before the start.
+    fn first_alone(&self, days: &[i64], from: i64) -> Option<i64>
+        requires positions { is_absent self.now.rule.by_set_pos ≡ false }
+        requires days { AreUnitDays self.now days.now }
+        ensures { (day : ℤ) (times : List ℕ) → result ≡ Some day → IsSetOf nat_lt times (IsCandidateTime self.now.rule self.now.kind self.now.start)
+            → IsFirstOf (chosen_of self.now.rule self.now.kind self.now.start) days.now from (Some (record { day = day; times = times })) }
+    {
+        let times = self.times.as_slice();
+        if times.len() != 1 {
+            return None;
+        }
+        let place = days.partition_point(|day| *day < from);
+        let found = next_place(&self.rule.by_set_pos, 1, days.len(), place)?;
+        if self.first_second(days[found]) > times[0] {
+            return None;
+        }
+        Some(days[found])
     }
 
     // Of the candidate days of a unit the first occupied one from a day on. Days at which no position is are passed over.

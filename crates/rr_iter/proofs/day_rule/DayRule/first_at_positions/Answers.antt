@@ -3,19 +3,23 @@ use Rattle.std.proofs.lemmas.Int.{ints}
 use Rattle.rr_model.specs.Moment.Units.{unit_number}
 use Rattle.rr_model.specs.declared.kind.Kind.TheVariants.{Days}
 use Rattle.rr_lazy.specs.Next.{with_set}
-use Rattle.rr_iter.proofs.PositionDayLemmas.{knows_on}
+use Rattle.rr_iter.specs.Ruling.{IsSameRuling}
+use Rattle.rr_iter.proofs.PositionDayLemmas.{same_ruling}
 use Rattle.rr_iter.proofs.WalkLemmas.{unit_bounds, between_near, walked_more, walked_found, walked_past, walked_all}
 use Rattle.rr_iter.proofs.day_rule.DayRule.first_at_positions.Goals as goal
+
+pub first_in-requires-clause-positions : goal.first_in-requires-clause-positions
+first_in-requires-clause-positions c = rw c.loop-unit.invariant.0.rule c.requires.positions
 
 pub first_in-requires-clause-first : goal.first_in-requires-clause-first
 first_in-requires-clause-first c =
     let r = c.args.self.now in
     let known = rw c.self.view_is at c.self.invariant in
     let fits : FitsSigned w64 c.unit_of-last.result = search rules in
-    let w = rw (to_z-of_z c.ranges.from) at c.loop-unit.invariant.2 in
+    let w = rw (to_z-of_z c.ranges.from) at c.loop-unit.invariant.3 in
     let last : c.unit_of-last.result ≡ unit_number c.args.self.now.rule.freq c.args.self.now.rule.week_start Days c.args.to =
     rw (← c.self.view_is) (rw (to_z-of_z c.ranges.to) at c.unit_of-last.ensures) in
-    rw c.loop-unit.invariant.0
+    rw c.loop-unit.invariant.0.rule
     (between_near r.rule.freq r.rule.week_start known.freq (to_z w64 c.loop-unit.unit-bits) c.args.from c.args.to w.begun
     (omega (arith, ints, c.loop-unit-test.true, to_z-of_z fits, last)) c.requires.from c.requires.to).0
 
@@ -24,28 +28,29 @@ first_in-requires-clause-next c =
     let r = c.args.self.now in
     let known = rw c.self.view_is at c.self.invariant in
     let fits : FitsSigned w64 c.unit_of-last.result = search rules in
-    let w = rw (to_z-of_z c.ranges.from) at c.loop-unit.invariant.2 in
+    let w = rw (to_z-of_z c.ranges.from) at c.loop-unit.invariant.3 in
     let last : c.unit_of-last.result ≡ unit_number c.args.self.now.rule.freq c.args.self.now.rule.week_start Days c.args.to =
     rw (← c.self.view_is) (rw (to_z-of_z c.ranges.to) at c.unit_of-last.ensures) in
-    rw c.loop-unit.invariant.0
+    rw c.loop-unit.invariant.0.rule
     (between_near r.rule.freq r.rule.week_start known.freq (to_z w64 c.loop-unit.unit-bits) c.args.from c.args.to w.begun
     (omega (arith, ints, c.loop-unit-test.true, to_z-of_z fits, last)) c.requires.from c.requires.to).1
 
-pub returns-in_err-first_in-clause-knows : goal.returns-in_err-first_in-clause-knows
-returns-in_err-first_in-clause-knows c =
-    knows_on c.first_in.new.self c.args.self.now c.args.sets.now c.first_in.new.sets (c.first_in.ensures.same ∙ c.loop-unit.invariant.0)
-    (λ n t e. c.first_in.ensures.kept n t (c.loop-unit.invariant.1 n t e)) c.requires.knows
+pub first_in-requires-clause-fits : goal.first_in-requires-clause-fits
+first_in-requires-clause-fits c =
+    let same = c.loop-unit.invariant.0 in
+    rw (same.rule, same.kind, same.start) (rw (to_z-of_z c.ranges.from) at c.loop-unit.invariant.3).fits
+
+pub returns-in_err-first_in-clause-same : goal.returns-in_err-first_in-clause-same
+returns-in_err-first_in-clause-same c = same_ruling c.first_in.new.self c.loop-unit.self c.args.self.now c.first_in.ensures.same c.loop-unit.invariant.0
 
 pub returns-in_err-first_in-clause-kept : goal.returns-in_err-first_in-clause-kept
-returns-in_err-first_in-clause-kept c n t e = c.first_in.ensures.kept n t (c.loop-unit.invariant.1 n t e)
+returns-in_err-first_in-clause-kept c n t e = c.first_in.ensures.kept n t (c.loop-unit.invariant.2 n t e)
 
-pub returns-in-Some-clause-knows : goal.returns-in-Some-clause-knows
-returns-in-Some-clause-knows c =
-    knows_on c.first_in.new.self c.args.self.now c.args.sets.now c.first_in.new.sets (c.first_in.ensures.same ∙ c.loop-unit.invariant.0)
-    (λ n t e. c.first_in.ensures.kept n t (c.loop-unit.invariant.1 n t e)) c.requires.knows
+pub returns-in-Some-clause-same : goal.returns-in-Some-clause-same
+returns-in-Some-clause-same c = same_ruling c.first_in.new.self c.loop-unit.self c.args.self.now c.first_in.ensures.same c.loop-unit.invariant.0
 
 pub returns-in-Some-clause-kept : goal.returns-in-Some-clause-kept
-returns-in-Some-clause-kept c n t e = c.first_in.ensures.kept n t (c.loop-unit.invariant.1 n t e)
+returns-in-Some-clause-kept c n t e = c.first_in.ensures.kept n t (c.loop-unit.invariant.2 n t e)
 
 pub returns-in-Some-clause-found : goal.returns-in-Some-clause-found
 returns-in-Some-clause-found c =
@@ -53,8 +58,9 @@ returns-in-Some-clause-found c =
     let known = rw c.self.view_is at c.self.invariant in
     let u : ℤ = to_z w64 c.loop-unit.unit-bits in
     let from = to_z-of_z c.ranges.from in
-    let some = rw (from, c.loop-unit.invariant.0) at (rw c.in-Some.is at c.in_ok-first_in.ensures.found) in
-    let w = rw from at c.loop-unit.invariant.2 in
+    let same = c.loop-unit.invariant.0 in
+    let some = rw (from, same.rule, same.kind, same.start) at (rw c.in-Some.is at c.in_ok-first_in.ensures.found) in
+    let w = rw from at c.loop-unit.invariant.3 in
     let found = with_set c.first_in.new.sets c.in-Some.found in
     elim (rw (to_z-of_z c.ranges.to) at c.up_to.ensures) [
       | inl h ↦ rw h.0
@@ -70,12 +76,13 @@ loop-unit-preserved c =
     let low : r.rule.week_start ≤ 255 = omega (arith, valid.week_start) in
     let u : ℤ = to_z w64 c.loop-unit.unit-bits in
     let from = to_z-of_z c.ranges.from in
+    let same = c.loop-unit.invariant.0 in
     let fits : FitsSigned w64 c.unit_of-last.result = search rules in
     let made : c.from-step.result ≡ pos c.args.self.now.rule.interval = rw (← c.self.view_is) c.from-step.ensures in
     let step : to_z w64 (of_z w64 c.from-step.result) ≡ pos r.rule.interval = omega (arith, ints, made, valid.interval_high) in
     let last : c.unit_of-last.result ≡ unit_number c.args.self.now.rule.freq c.args.self.now.rule.week_start Days c.args.to =
     rw (← c.self.view_is) (rw (to_z-of_z c.ranges.to) at c.unit_of-last.ensures) in
-    let w = rw from at c.loop-unit.invariant.2 in
+    let w = rw from at c.loop-unit.invariant.3 in
     let first_near = unit_bounds r.rule.freq r.rule.week_start known.freq c.args.from low (
       omega (arith, ints, c.requires.from.0),
       omega (arith, ints, c.requires.from.1),
@@ -87,17 +94,14 @@ loop-unit-preserved c =
     let l : u ≤ℤ c.unit_of-last.result = omega (arith, ints, c.loop-unit-test.true, to_z-of_z fits) in
     let q : to_z w64 (of_z w64 (u +ℤ to_z w64 (of_z w64 c.from-step.result))) ≡ u +ℤ pos r.rule.interval =
     omega (arith, ints, step, l, last, last_near.1, first_near.0, w.begun, valid.interval_high) in
-    let none = rw (from, c.loop-unit.invariant.0) at (rw c.in-None.is at c.in_ok-first_in.ensures.found) in
+    let none = rw (from, same.rule, same.kind, same.start) at (rw c.in-None.is at c.in_ok-first_in.ensures.found) in
     rw (q, from) (
-      c.first_in.ensures.same ∙ c.loop-unit.invariant.0,
-      (λ n t e. c.first_in.ensures.kept n t (c.loop-unit.invariant.1 n t e)),
+      same_ruling c.first_in.new.self c.loop-unit.self r c.first_in.ensures.same same,
+      c.first_in.ensures.knows,
+      (λ n t e. c.first_in.ensures.kept n t (c.loop-unit.invariant.2 n t e)),
       walked_more r.rule r.kind r.start known.freq valid.interval_low c.args.from u (u +ℤ pos r.rule.interval) refl w none,
       omega (arith, ints, l, last, last_near.1, valid.interval_high),
     )
-
-pub returns-clause-knows : goal.returns-clause-knows
-returns-clause-knows c =
-    knows_on c.loop-unit.self c.args.self.now c.args.sets.now c.loop-unit.sets c.loop-unit.invariant.0 c.loop-unit.invariant.1 c.requires.knows
 
 pub returns-clause-found : goal.returns-clause-found
 returns-clause-found c =
@@ -107,6 +111,6 @@ returns-clause-found c =
     let fits : FitsSigned w64 c.unit_of-last.result = search rules in
     let last : c.unit_of-last.result ≡ unit_number c.args.self.now.rule.freq c.args.self.now.rule.week_start Days c.args.to =
     rw (← c.self.view_is) (rw (to_z-of_z c.ranges.to) at c.unit_of-last.ensures) in
-    let w = rw (to_z-of_z c.ranges.from) at c.loop-unit.invariant.2 in
+    let w = rw (to_z-of_z c.ranges.from) at c.loop-unit.invariant.3 in
     walked_all r.rule r.kind r.start known.freq known.valid.valid.interval_low c.args.from u c.args.to w
     (omega (arith, ints, c.loop-unit-test.false, to_z-of_z fits, last))

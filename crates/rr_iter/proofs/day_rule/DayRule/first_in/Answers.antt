@@ -5,11 +5,12 @@ use Rattle.std.proofs.lemmas.Int.{ints}
 use Rattle.std.proofs.lemmas.Result.{IfOk-weaker}
 use Rattle.rr_model.specs.Moment.{day_part}
 use Rattle.rr_model.specs.Rising.Sets.{IsSetOf}
-use Rattle.rr_model.specs.Rule.DaysAndTimes.{IsCandidateDay}
+use Rattle.rr_model.specs.Rule.DaysAndTimes.{IsCandidateDay, IsCandidateTime}
 use Rattle.rr_model.specs.Sets.Tree.{chosen_of}
 use Rattle.rr_expand.proofs.CandidateDays.{candidate_days}
-use Rattle.rr_iter.specs.Ruling.{IsUnrolled, Ruling}
-use Rattle.rr_iter.specs.Walk.{IsFirstInIn, IsFirstOfIn}
+use Rattle.rr_iter.specs.Ruling.{IsUnrolled, Ruling, keeps_more}
+use Rattle.rr_iter.specs.Walk.{IsDayWith, IsFirstInIn, IsFirstOfIn}
+use Rattle.rr_iter.proofs.AlonePlaceLemmas.{first_with}
 use Rattle.rr_iter.proofs.PositionDayLemmas.{first_in_unit, held_unrolled}
 use Rattle.rr_iter.proofs.day_rule.DayRule.first_in.Goals as goal
 use Rattle.rr_iter.proofs.day_rule.DayRule.first_in.Goals.{then-not-self-unit+in_ok-list, else-not-self-unit, then-self, else-self}
@@ -53,24 +54,68 @@ held c = elim c.if-not-self-unit.branch [
   ]
 ]
 
+pub returns-in_err-list-clause-knows : goal.returns-in_err-list-clause-knows
+returns-in_err-list-clause-knows c = rw (sym c.self.view_is) at c.requires.knows
+
 pub invariant_of-self-2 : goal.invariant_of-self-2
 invariant_of-self-2 c = (held c).0
 
+pub first_alone-requires-clause-days : goal.first_alone-requires-clause-days
+first_alone-requires-clause-days c = let h = held c in (c.if-not-self-unit.self-inside.unit, rw c.as_slice.ensures.value (h.0.held h.1))
+
+-- none is found at once
+pub invariant_of-self-in-None : goal.invariant_of-self-in-None
+invariant_of-self-in-None c = (held c.before.before.before.before).0
+
 pub first_of-requires-clause-days : goal.first_of-requires-clause-days
-first_of-requires-clause-days c = let h = held c in (c.if-not-self-unit.self-inside.unit, rw c.as_slice.ensures.value (h.0.held h.1))
+first_of-requires-clause-days c =
+    let h = held c.before.before.before.before in
+    (c.if-not-self-unit.self-inside.unit, rw c.as_slice-in-None.ensures.value (h.0.held h.1))
 
-pub invariant_of-self-3 : goal.invariant_of-self-3
-invariant_of-self-3 c = (held c.before).0
+pub invariant_of-self-in-None-2 : goal.invariant_of-self-in-None-2
+invariant_of-self-in-None-2 c = (held c.before.before.before.before.before).0
 
-pub returns-clause-found : goal.returns-clause-found
-returns-clause-found c =
+pub returns-in-None-clause-knows : goal.returns-in-None-clause-knows
+returns-in-None-clause-knows c =
     let s = c.if-not-self-unit.self-inside in
-    let h = held c.before in
+    let r : Ruling = record { rule = s.rule; kind = s.kind; start = s.start; kept = s.number ∷ [] } in
+    let h = held c.before.before.before.before.before in
+    keeps_more r 0 (IsCandidateTime s.rule s.kind s.start) c.args.sets.now c.first_of.new.sets c.first_of.ensures.kept (rw (← h.3) at c.requires.knows)
+
+pub returns-in-None-clause-found : goal.returns-in-None-clause-found
+returns-in-None-clause-found c =
+    let s = c.if-not-self-unit.self-inside in
+    let h = held c.before.before.before.before.before in
     let sets = c.first_of.new.sets in
-    let days = c.as_slice.result.now in
-    let set : IsSetOf int_lt c.as_slice.result.now (IsCandidateDay s.rule (day_part s.kind s.start) c.args.unit) =
-    rw c.as_slice.ensures.value (rw h.2 at (h.0.held h.1)) in
+    let days = c.as_slice-in-None.result.now in
+    let set : IsSetOf int_lt c.as_slice-in-None.result.now (IsCandidateDay s.rule (day_part s.kind s.start) c.args.unit) =
+    rw c.as_slice-in-None.ensures.value (rw h.2 at (h.0.held h.1)) in
     let found = rw (to_z-of_z c.ranges.from) at c.first_of.ensures.found in
     rw (← h.3) (IfOk-weaker c.first_of.result (IsFirstOfIn sets (chosen_of s.rule s.kind s.start) days c.args.from)
     (IsFirstInIn sets (chosen_of s.rule s.kind s.start) s.rule c.args.unit c.args.from)
     (λ f first. first_in_unit s.rule s.kind s.start sets days c.args.unit c.args.from f h.0.freq set first) found)
+
+-- one is
+pub invariant_of-self-in-Some : goal.invariant_of-self-in-Some
+invariant_of-self-in-Some c = (held c.before.before).0
+
+pub with_times-requires : goal.with_times-requires
+with_times-requires c = let h = held c.before.before.before.before in record { knows = rw (← h.3) at c.requires.knows }
+
+pub returns-in-Some-clause-found : goal.returns-in-Some-clause-found
+returns-in-Some-clause-found c =
+    let s = c.if-not-self-unit.self-inside in
+    let h = held c.before.before.before.before.before in
+    let sets = c.with_times.new.sets in
+    let days = c.as_slice.result.now in
+    let day = c.in-Some.day in
+    let tree = chosen_of s.rule s.kind s.start in
+    let fits : FitsSigned w64 c.in-Some.day = search rules in
+    let set : IsSetOf int_lt c.as_slice.result.now (IsCandidateDay s.rule (day_part s.kind s.start) c.args.unit) =
+    rw c.as_slice.ensures.value (rw h.2 at (h.0.held h.1)) in
+    let first = rw (to_z-of_z c.ranges.from) at c.in-Some.ensures in
+    let found = rw (to_z-of_z fits) at c.with_times.ensures.found in
+    rw (← h.3) (IfOk-weaker c.with_times.result (IsDayWith sets (IsCandidateTime s.rule s.kind s.start) day)
+    (IsFirstInIn sets tree s.rule c.args.unit c.args.from)
+    (λ f e. first_in_unit s.rule s.kind s.start sets days c.args.unit c.args.from f h.0.freq set
+    (first_with sets tree days c.args.from (IsCandidateTime s.rule s.kind s.start) day f e (λ times own. first day times refl own))) found)

@@ -1,8 +1,8 @@
 use Rattle.std.proofs.Common.{◌≡◌, to_z, of_z, to_z-of_z, w64, arith}
 use Rattle.std.proofs.lemmas.Int.{ints}
 use Rattle.rr_expand.specs.Years.{Filling}
-use Rattle.rr_expand.proofs.allowed_days.AllowedDays.first_near.Goals as goal
-use Rattle.rr_expand.proofs.allowed_days.AllowedDays.first_near.Goals.{in-None, in-Some}
+use Rattle.rr_expand.proofs.allowed_days.AllowedDays.first_from.Goals as goal
+use Rattle.rr_expand.proofs.allowed_days.AllowedDays.first_from.Goals.{in-None, in-Some}
 
 pub returns-clause-first : goal.returns-clause-first
 returns-clause-first c =
