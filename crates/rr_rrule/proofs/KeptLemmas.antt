@@ -234,7 +234,8 @@ module _ (offset : Option ℤ) (start : Stamp) where
       let kept = kept_date-ok line is_plus read text next h in
       beside-more read.values next.values (OneDate line is_plus kept.0) kept.2
       ∙ step_same (beside_of read) _ _
-      (λ (b : Beside Rule). ap (λ (m : Result Stamp Refusal). m >>= λ stamp. date_beside offset start line stamp >>= λ at. Ok (put_date is_plus b at)) (sym kept.1))
+      (λ (b : Beside Rule). ap (λ (m : Result Stamp Refusal). m >>= λ s. date_beside offset start line s >>= λ at. Ok (put_date is_plus b at))
+      (sym kept.1))
 
   rule-followed : (line : ℕ) (is_given : Bool) (read : ReadLines) (text : List ℕ) (next : ReadLines) → kept_rule line is_given read text ≡ Ok next
       → beside_of next ≡ (beside_of read >>= λ b. with_rule rrule_language (rule_beside offset start) line is_given b text)
@@ -242,7 +243,8 @@ module _ (offset : Option ℤ) (start : Stamp) where
       let kept = kept_rule-ok line is_given read text next h in
       beside-more read.values next.values (OneRule line is_given kept.0) kept.2
       ∙ step_same (beside_of read) _ _
-      (λ (b : Beside Rule). ap (λ (m : Result (Stated Rule) Refusal). m >>= λ stated. rule_beside offset start line stated >>= λ rule. Ok (put_rule is_given b rule)) (sym kept.1))
+      (λ (b : Beside Rule). ap (λ (m : Result (Stated Rule) Refusal). m >>= λ s. rule_beside offset start line s >>= λ rule. Ok (put_rule is_given b rule))
+      (sym kept.1))
 
   line-followed : (line : ℕ) (name : LineName) (read : ReadLines) (text : List ℕ) (next : ReadLines) → kept_line line name read text ≡ Ok next
       → beside_of next ≡ (beside_of read >>= λ b. with_line rrule_language (rule_beside offset start) offset start line name b text)
@@ -297,8 +299,8 @@ module _ (offset : Option ℤ) (used : List UsedLine) where
 pub event-kept : (offset : Option ℤ) (scan : Scan) → kept_event offset scan ≡ passes rrule_language (rule_beside offset) offset scan
 event-kept offset scan =
     read_once offset scan.used scan.stop (kept_lines nothing_kept scan.used) refl
-    ∙ ap (λ (m : Result FirstPass Refusal). m >>= λ (p : FirstPass). unless_stopped scan.stop p >>= λ (p : FirstPass). ok_or p.start NoStart >>= by_lines offset scan.used)
-    (lines-seen nothing_kept scan.used)
+    ∙ ap (λ (m : Result FirstPass Refusal). m >>= λ (p : FirstPass). unless_stopped scan.stop p
+    >>= λ (p : FirstPass). ok_or p.start NoStart >>= by_lines offset scan.used) (lines-seen nothing_kept scan.used)
 
 -- so is the series
 pub series-kept : (offset : Option ℤ) (scan : Scan) → kept_series offset scan ≡ calendar_scan offset scan
