@@ -1,6 +1,6 @@
 -- Both passes over written lines (RFC 5545, sections 3.8.2.4, 3.8.5.1, 3.8.5.2 and 3.8.5.3).
 use Rattle.std.proofs.Common.{◌≡◌, ℕ, ◌+◌, ◌<◌, ◌≤◌, Bool, true, false, ℤ, List, [], ◌∷◌, ◌++◌, length, map, None, Some, Result, Ok, Err}
-use Rattle.std.proofs.Common.{append_assoc, append-nil, length-append, refl, sym, ap, ◌∙◌, arith}
+use Rattle.std.proofs.Common.{append_assoc, append-nil, refl, sym, ap, ◌∙◌, arith}
 use Rattle.std.specs.Prelude.{◌==◌, ◌&&◌, not, nat_le, codes, int_lt, ok_or}
 use Rattle.std.specs.List.{list_all, list_any, AllByRecursion, slice_split}
 use Rattle.std.proofs.lemmas.Bool.{and_parts, and_right, not-true}

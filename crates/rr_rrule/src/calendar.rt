@@ -3,6 +3,7 @@ ghost use Rattle.std.specs.Prelude.{◌≡◌, IfOk};
 ghost use Rattle.rr_model.specs.Answers.{Answers};
 ghost use Rattle.rr_model.specs.Series.Validity.{IsValidSeries};
 ghost use Rattle.rr_model.specs.Text.Calendars.{series_of_event, calendar_scan, calendar_text, reads_calendar};
+ghost use Rattle.rr_rrule.specs.Kept.{kept_series};
 
 use crate::first::first_pass;
 use crate::second::{Nearby, Setting, second_pass};
@@ -26,20 +27,26 @@ fn series_of(start: Stamp, beside: Nearby) -> Series
     }
 }
 
+// The series of the used lines, each value read once.
+fn kept_series(alloc: Global, offset: Option<i32>, scan: &Scan) -> Result<Series, Fault>
+    ensures { Answers (kept_series offset scan.now) result }
+{
+    let read = first_pass(alloc, scan.used.as_slice())?;
+    if let Some(refusal) = scan.stop {
+        return Err(Fault::Refused(refusal));
+    }
+    let Some(start) = read.pass.start else {
+        return Err(Fault::Refused(Refusal::NoStart));
+    };
+    let beside = second_pass(alloc, Setting { offset, start }, read.values)?;
+    Ok(series_of(start, beside))
+}
+
 /// The series that the used lines of one event state; see `read`, which refuses in the same order.
 pub fn read_scan(alloc: Global, offset: Option<i32>, scan: &Scan) -> Result<Series, Fault>
     ensures { Answers (calendar_scan offset scan.now) result }
 {
-    let lines = scan.used.as_slice();
-    let pass = first_pass(alloc, lines)?;
-    if let Some(refusal) = scan.stop {
-        return Err(Fault::Refused(refusal));
-    }
-    let Some(start) = pass.start else {
-        return Err(Fault::Refused(Refusal::NoStart));
-    };
-    let beside = second_pass(alloc, Setting { offset, start }, lines)?;
-    Ok(series_of(start, beside))
+    kept_series(alloc, offset, scan)
 }
 
 #[tactic(auto, unfolding(rr_model::specs::Text::Calendars::calendar_text))]

@@ -1,12 +1,15 @@
 // The first pass over the used lines of an event judges each line alone (RFC 5545, section 3.8).
-ghost use Rattle.std.specs.Prelude.{◌≡◌, IfOk};
+ghost use Rattle.std.specs.Prelude.{◌≡◌, ◌<◌, IfOk};
 ghost use Rattle.std.specs.List.{slice_split};
 ghost use Rattle.rr_model.specs.Answers.{Answers};
 ghost use Rattle.rr_model.specs.Moment.Years.{IsInYears};
-ghost use Rattle.rr_model.specs.Text.Passes.{nothing_read, judged_start, has_slash, date_value, judged_date, judged_dates, judged_rule, judged_line, first_pass};
-ghost use Rattle.rr_model.specs.Text.Calendars.{is_comma, rrule_language};
+ghost use Rattle.rr_model.specs.Text.Passes.{judged_start, has_slash, date_value, judged_date};
+ghost use Rattle.rr_model.specs.Text.Calendars.{is_comma};
+ghost use Rattle.rr_ical.specs.Steps.{Becomes};
+ghost use Rattle.rr_rrule.specs.Kept.{kept_date, kept_dates, kept_line, kept_lines, kept_rule, kept_start, next_date, next_rule, nothing_kept};
 
-use crate::stated::stated_rule;
+use crate::kept::{LineValue, LineValues, ReadLines};
+use crate::stated::{StatedRule, stated_rule};
 use rr_model::{Fault, FirstPass, LineName, MAX_DATES, MAX_RULES, Refusal, Stamp, UsedLine};
 use rr_text::{basic, trim};
 use std::alloc::Global;
@@ -47,6 +50,21 @@ pub fn date_value(line: u64, text: &[u8]) -> Result<Stamp, Refusal>
     }
 }
 
+// One more value of RDATE or EXDATE, where so many are read.
+fn next_date(line: u64, is_plus: bool, date_count: usize, text: &[u8]) -> Result<Stamp, Refusal>
+    ensures value { result ≡ next_date line is_plus date_count text.now }
+    ensures room { IfOk result (λ stamp. date_count < 10_000) }
+    ensures years { IfOk result (λ stamp. IsInYears stamp.kind stamp.at) }
+{
+    if date_count >= MAX_DATES {
+        return Err(Refusal::TooManyParts);
+    }
+    if is_plus && has_slash(text) {
+        return Err(Refusal::PeriodValue);
+    }
+    date_value(line, text)
+}
+
 /// One value of RDATE or EXDATE.
 ///
 /// `TooManyParts` comes where there are `MAX_DATES` already, `PeriodValue` for a period in RDATE, and `BadMoment` where it is no
@@ -59,73 +77,115 @@ pub fn judged_date(
 ) -> Result<FirstPass, Fault>
     ensures { Answers (judged_date line is_plus pass text.now) result }
 {
-    if pass.date_count >= MAX_DATES {
-        return Err(Fault::Refused(Refusal::TooManyParts));
-    }
-    if is_plus && has_slash(text) {
-        return Err(Fault::Refused(Refusal::PeriodValue));
-    }
-    date_value(line, text)?;
+    next_date(line, is_plus, pass.date_count, text)?;
     Ok(FirstPass {
         date_count: pass.date_count + 1,
         ..pass
     })
 }
 
-// The values of RDATE or EXDATE from left to right.
-fn judged_dates(line: u64, is_plus: bool, pass: FirstPass, text: &[u8]) -> Result<FirstPass, Fault>
-    ensures { Answers (judged_dates line is_plus pass (slice_split is_comma text.now)) result }
+// One value of RDATE or EXDATE is kept.
+fn keep_date(line: u64, is_plus: bool, read: &mut ReadLines, text: &[u8]) -> Result<(), Fault>
+    ensures { Becomes (kept_date line is_plus read.old text.now) read.new result }
 {
-    let mut pass = pass;
-    for piece in text.split(|b| *b == b',') {
-        pass = judged_date(line, is_plus, pass, piece)?;
-    }
-    Ok(pass)
+    let stamp = next_date(line, is_plus, read.pass.date_count, text)?;
+    read.pass.date_count += 1;
+    read.values.put(LineValue::OneDate {
+        line,
+        is_plus,
+        stamp,
+    })?;
+    Ok(())
 }
 
-// A rule is read only where there is room for it.
-fn judged_rule(alloc: Global, line: u64, pass: FirstPass, text: &[u8]) -> Result<FirstPass, Fault>
-    ensures { Answers (judged_rule rrule_language line pass text.now) result }
+// The values of RDATE or EXDATE from left to right.
+fn keep_dates(line: u64, is_plus: bool, read: &mut ReadLines, text: &[u8]) -> Result<(), Fault>
+    ensures { Becomes (kept_dates line is_plus read.old (slice_split is_comma text.now)) read.new result }
 {
-    if pass.rule_count >= MAX_RULES {
+    for piece in text.split(|b| *b == b',') {
+        keep_date(line, is_plus, read, piece)?;
+    }
+    Ok(())
+}
+
+// One more rule, where so many are read; it is read only where there is room for it.
+fn next_rule(alloc: Global, line: u64, rule_count: usize, text: &[u8]) -> Result<StatedRule, Fault>
+    ensures answer { Answers (next_rule line rule_count text.now) result }
+    ensures room { IfOk result (λ stated. rule_count < 16) }
+{
+    if rule_count >= MAX_RULES {
         return Err(Fault::Refused(Refusal::TooManyParts));
     }
-    stated_rule(alloc, line, text)?;
-    Ok(FirstPass {
-        rule_count: pass.rule_count + 1,
-        ..pass
-    })
+    stated_rule(alloc, line, text)
+}
+
+// The rule of RRULE or EXRULE is kept.
+fn keep_rule(
+    alloc: Global,
+    line: u64,
+    is_given: bool,
+    read: &mut ReadLines,
+    text: &[u8],
+) -> Result<(), Fault>
+    ensures { Becomes (kept_rule line is_given read.old text.now) read.new result }
+{
+    let stated = next_rule(alloc, line, read.pass.rule_count, text)?;
+    read.pass.rule_count += 1;
+    read.values.put(LineValue::OneRule {
+        line,
+        is_given,
+        stated,
+    })?;
+    Ok(())
+}
+
+// The start is kept.
+fn keep_start(line: u64, read: &mut ReadLines, text: &[u8]) -> Result<(), Fault>
+    ensures { Becomes (kept_start line read.old text.now) read.new result }
+{
+    read.pass = judged_start(line, read.pass, text)?;
+    Ok(())
 }
 
 // One used line.
-fn judged_line(
+fn keep_line(
     alloc: Global,
     line: u64,
     name: LineName,
-    pass: FirstPass,
+    read: &mut ReadLines,
     text: &[u8],
-) -> Result<FirstPass, Fault>
-    ensures { Answers (judged_line rrule_language line name pass text.now) result }
+) -> Result<(), Fault>
+    ensures { Becomes (kept_line line name read.old text.now) read.new result }
 {
     match name {
-        LineName::Dtstart => judged_start(line, pass, text),
-        LineName::Rrule | LineName::Exrule => judged_rule(alloc, line, pass, text),
-        LineName::Rdate => judged_dates(line, true, pass, text),
-        LineName::Exdate => judged_dates(line, false, pass, text),
+        LineName::Dtstart => keep_start(line, read, text),
+        LineName::Rrule => keep_rule(alloc, line, true, read, text),
+        LineName::Exrule => keep_rule(alloc, line, false, read, text),
+        LineName::Rdate => keep_dates(line, true, read, text),
+        LineName::Exdate => keep_dates(line, false, read, text),
     }
 }
 
-/// The first pass: the start, and how many rules and date values there are.
-pub(crate) fn first_pass(alloc: Global, lines: &[UsedLine]) -> Result<FirstPass, Fault>
-    ensures { Answers (first_pass rrule_language nothing_read lines.now) result }
+/// The first pass: the start, and each rule and date value as its line states it.
+pub(crate) fn first_pass(alloc: Global, lines: &[UsedLine]) -> Result<ReadLines, Fault>
+    ensures { Answers (kept_lines nothing_kept lines.now) result }
 {
-    let mut pass = FirstPass {
-        start: None,
-        rule_count: 0,
-        date_count: 0,
+    let mut read = ReadLines {
+        pass: FirstPass {
+            start: None,
+            rule_count: 0,
+            date_count: 0,
+        },
+        values: LineValues::new(alloc),
     };
     for line in lines {
-        pass = judged_line(alloc, line.number, line.name, pass, line.value.as_slice())?;
+        keep_line(
+            alloc,
+            line.number,
+            line.name,
+            &mut read,
+            line.value.as_slice(),
+        )?;
     }
-    Ok(pass)
+    Ok(read)
 }

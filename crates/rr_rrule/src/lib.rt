@@ -3,6 +3,7 @@
 
 mod calendar;
 mod first;
+mod kept;
 mod laws;
 mod lists;
 mod numbers;

@@ -1,15 +1,15 @@
 // The second pass over the used lines of an event puts rules and dates beside the start (RFC 5545, section 3.8.5).
-ghost use Rattle.std.specs.Prelude.{◌≡◌, IfOk};
-ghost use Rattle.std.specs.List.{slice_split};
+ghost use Rattle.std.specs.Prelude.{◌≡◌, All, OnOk};
 ghost use Rattle.rr_model.specs.Answers.{Answers};
 ghost use Rattle.rr_model.specs.Moment.{is_same_kind};
 ghost use Rattle.rr_model.specs.Moment.Years.{IsInYears};
-ghost use Rattle.rr_model.specs.Text.Passes.{nothing_beside, put_date, put_rule, date_beside, with_date, with_dates, with_rule, with_line, second_pass};
-ghost use Rattle.rr_model.specs.Text.Calendars.{is_comma, rrule_language, rule_beside};
+ghost use Rattle.rr_model.specs.Text.Passes.{nothing_beside, put_date, put_rule, date_beside};
+ghost use Rattle.rr_ical.specs.Steps.{Becomes};
+ghost use Rattle.rr_rrule.specs.Kept.{IsValueInYears, value_beside, values_beside};
 
-use crate::first::date_value;
-use crate::stated::{moment_beside, rule_beside, stated_rule};
-use rr_model::{Dates, Fault, Kind, LineName, NoMemory, Refusal, Rule, Rules, Stamp, UsedLine};
+use crate::kept::{LineValue, LineValues};
+use crate::stated::{moment_beside, rule_beside};
+use rr_model::{Dates, Fault, Kind, NoMemory, Refusal, Rule, Rules, Stamp};
 use std::alloc::Global;
 use std::marker::Model;
 
@@ -64,96 +64,53 @@ pub fn date_beside(setting: Setting, line: u64, stamp: Stamp) -> Result<i64, Ref
 }
 
 // With one date more.
-fn put_date(is_plus: bool, beside: Nearby, at: i64) -> Result<Nearby, NoMemory>
-    ensures { IfOk result (λ more. more ≡ put_date is_plus beside at) }
+fn put_date(is_plus: bool, beside: &mut Nearby, at: i64) -> Result<(), NoMemory>
+    ensures { OnOk result (beside.new ≡ put_date is_plus beside.old at) }
 {
-    let mut beside = beside;
     if is_plus {
         beside.plus.put(at)?;
     } else {
         beside.minus.put(at)?;
     }
-    Ok(beside)
-}
-
-// One date value.
-fn with_date(
-    setting: Setting,
-    line: u64,
-    is_plus: bool,
-    beside: Nearby,
-    text: &[u8],
-) -> Result<Nearby, Fault>
-    ensures { Answers (with_date setting.offset setting.start line is_plus beside text.now) result }
-{
-    let stamp = date_value(line, text)?;
-    let at = date_beside(setting, line, stamp)?;
-    Ok(put_date(is_plus, beside, at)?)
-}
-
-// Date values from left to right.
-fn with_dates(
-    setting: Setting,
-    line: u64,
-    is_plus: bool,
-    beside: Nearby,
-    text: &[u8],
-) -> Result<Nearby, Fault>
-    ensures { Answers (with_dates setting.offset setting.start line is_plus beside (slice_split is_comma text.now)) result }
-{
-    let mut beside = beside;
-    for piece in text.split(|b| *b == b',') {
-        beside = with_date(setting, line, is_plus, beside, piece)?;
-    }
-    Ok(beside)
+    Ok(())
 }
 
 // With one rule more, of RRULE or EXRULE.
-fn put_rule(is_given: bool, beside: Nearby, rule: Rule) -> Result<Nearby, NoMemory>
-    ensures { IfOk result (λ more. more ≡ put_rule is_given beside rule) }
+fn put_rule(is_given: bool, beside: &mut Nearby, rule: Rule) -> Result<(), NoMemory>
+    ensures { OnOk result (beside.new ≡ put_rule is_given beside.old rule) }
 {
-    let mut beside = beside;
     if is_given {
         beside.rules.put(rule)?;
     } else {
         beside.excluded.put(rule)?;
     }
-    Ok(beside)
+    Ok(())
 }
 
-// The rule of a line beside the start, of RRULE or EXRULE.
-fn with_rule(
-    alloc: Global,
-    setting: Setting,
-    line: u64,
-    is_given: bool,
-    beside: Nearby,
-    text: &[u8],
-) -> Result<Nearby, Fault>
-    ensures { Answers (with_rule rrule_language (rule_beside setting.offset setting.start) line is_given beside text.now) result }
+// One value beside the start.
+fn put_value(setting: Setting, beside: &mut Nearby, value: LineValue) -> Result<(), Fault>
+    requires { IsValueInYears value }
+    ensures { Becomes (value_beside setting.offset setting.start beside.old value) beside.new result }
 {
-    let stated = stated_rule(alloc, line, text)?;
-    let rule = rule_beside(setting.offset, setting.start, line, stated)?;
-    Ok(put_rule(is_given, beside, rule)?)
-}
-
-// One used line.
-fn with_line(
-    alloc: Global,
-    setting: Setting,
-    line: &UsedLine,
-    beside: Nearby,
-) -> Result<Nearby, Fault>
-    ensures { Answers (with_line rrule_language (rule_beside setting.offset setting.start) setting.offset setting.start line.now.number line.now.name beside line.now.value) result }
-{
-    let text = line.value.as_slice();
-    match line.name {
-        LineName::Rrule => with_rule(alloc, setting, line.number, true, beside, text),
-        LineName::Exrule => with_rule(alloc, setting, line.number, false, beside, text),
-        LineName::Rdate => with_dates(setting, line.number, true, beside, text),
-        LineName::Exdate => with_dates(setting, line.number, false, beside, text),
-        LineName::Dtstart => Ok(beside),
+    match value {
+        LineValue::OneDate {
+            line,
+            is_plus,
+            stamp,
+        } => {
+            let at = date_beside(setting, line, stamp)?;
+            put_date(is_plus, beside, at)?;
+        }
+        LineValue::OneRule {
+            line,
+            is_given,
+            stated,
+        } => {
+            let rule = rule_beside(setting.offset, setting.start, line, stated)?;
+            put_rule(is_given, beside, rule)?;
+        }
     }
+    Ok(())
 }
 
 fn nothing_beside(alloc: Global) -> Nearby
@@ -171,13 +128,14 @@ fn nothing_beside(alloc: Global) -> Nearby
 pub(crate) fn second_pass(
     alloc: Global,
     setting: Setting,
-    lines: &[UsedLine],
+    values: LineValues,
 ) -> Result<Nearby, Fault>
-    ensures { Answers (second_pass rrule_language (rule_beside setting.offset setting.start) setting.offset setting.start nothing_beside lines.now) result }
+    requires { All IsValueInYears values }
+    ensures { Answers (values_beside setting.offset setting.start nothing_beside values) result }
 {
     let mut beside = nothing_beside(alloc);
-    for line in lines {
-        beside = with_line(alloc, setting, line, beside)?;
+    for value in values.into_items() {
+        put_value(setting, &mut beside, value)?;
     }
     Ok(beside)
 }

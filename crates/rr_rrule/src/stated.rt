@@ -10,7 +10,7 @@ ghost use Rattle.rr_model.specs.declared.kind.Kind.TheVariants.{Moments};
 use crate::parts::parts_of;
 use crate::rule::{rule_of, takes_start};
 use crate::values::line_value;
-use rr_model::{End, Fault, Kind, Refusal, Rule, RuleParts, Stamp};
+use rr_model::{End, Fault, Kind, NoMemory, Refusal, Rule, RuleParts, Stamp};
 use std::alloc::Global;
 use std::marker::Model;
 
@@ -18,7 +18,7 @@ use std::marker::Model;
 #[derive(Drop)]
 pub(crate) struct StatedRule {
     /// The rule.
-    pub(crate) rule: Rule,
+    pub(crate) rule: Box<Rule>,
     /// Its UNTIL, which is its end too.
     pub(crate) until: Option<Stamp>,
 }
@@ -29,7 +29,7 @@ impl Model for StatedRule {
 
     ghost Value = { Stated Rule };
 
-    ghost view = { λ s. record { rule = s.rule; until = s.until } };
+    ghost view = { λ s. record { rule = s.rule.value; until = s.until } };
 }
 
 #[tactic(auto, unfolding(rr_model::specs::Text::Rules::rule_parts))]
@@ -40,6 +40,13 @@ fn rule_parts(alloc: Global, line: u64, text: &[u8]) -> Result<RuleParts, Fault>
     parts_of(alloc, line, &value)
 }
 
+// A rule in memory of its own.
+fn boxed(alloc: Global, rule: Rule) -> Result<Box<Rule>, NoMemory>
+    ensures { IfOk result (λ kept. kept.value ≡ rule) }
+{
+    Ok(Box::new(alloc, rule)?)
+}
+
 /// The rule that the value of a line states.
 #[tactic(auto, unfolding(rr_model::specs::Text::Calendars::stated_rule))]
 pub(crate) fn stated_rule(alloc: Global, line: u64, text: &[u8]) -> Result<StatedRule, Fault>
@@ -48,7 +55,7 @@ pub(crate) fn stated_rule(alloc: Global, line: u64, text: &[u8]) -> Result<State
 {
     let parts = rule_parts(alloc, line, text)?;
     let until = parts.until;
-    let rule = rule_of(line, parts)?;
+    let rule = boxed(alloc, rule_of(line, parts)?)?;
     Ok(StatedRule { rule, until })
 }
 
@@ -155,7 +162,7 @@ pub(crate) fn rule_beside(
     ensures { result ≡ rule_beside offset start line stated }
 {
     let end = end_beside(offset, start, line, stated.until, stated.rule.end)?;
-    let mut rule = stated.rule;
+    let mut rule = Box::into_inner(stated.rule);
     if !takes_start(rule.freq, start.kind) {
         return Err(Refusal::NotAllowed);
     }

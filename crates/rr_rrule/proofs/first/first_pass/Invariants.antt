@@ -1,7 +1,6 @@
 use Rattle.std.proofs.Common.{◌≡◌, drop}
-use Rattle.rr_model.specs.Text.Passes.{nothing_read, first_pass}
-use Rattle.rr_model.specs.Text.Calendars.{rrule_language}
+use Rattle.rr_rrule.specs.Kept.{kept_lines, nothing_kept}
 use Rattle.rr_rrule.proofs.first.first_pass.Given as goal
 
 abbrev pub invariant-loop-line : goal.invariant-loop-line
-invariant-loop-line l = first_pass rrule_language l.pass (drop l.line-index l.lines) ≡ first_pass rrule_language nothing_read l.lines
+invariant-loop-line l = kept_lines l.read (drop l.line-index l.lines) ≡ kept_lines nothing_kept l.lines

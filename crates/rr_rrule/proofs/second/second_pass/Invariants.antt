@@ -1,9 +1,9 @@
-use Rattle.std.proofs.Common.{◌≡◌, drop}
-use Rattle.rr_model.specs.Text.Passes.{nothing_beside, second_pass}
-use Rattle.rr_model.specs.Text.Calendars.{rrule_language, rule_beside}
+use Rattle.std.proofs.Common.{◌≡◌, length, drop}
+use Rattle.rr_model.specs.Text.Passes.{nothing_beside}
+use Rattle.rr_rrule.specs.Kept.{values_beside}
 use Rattle.rr_rrule.proofs.second.second_pass.Given as goal
 
-abbrev pub invariant-loop-line : goal.invariant-loop-line
-invariant-loop-line l =
-    second_pass rrule_language (rule_beside l.setting.offset l.setting.start) l.setting.offset l.setting.start l.beside (drop l.line-index l.lines)
-    ≡ second_pass rrule_language (rule_beside l.setting.offset l.setting.start) l.setting.offset l.setting.start nothing_beside l.lines
+abbrev pub invariant-loop-value : goal.invariant-loop-value
+invariant-loop-value l =
+    values_beside l.setting.offset l.setting.start l.beside (drop (length l.yielded) l.fn.values)
+    ≡ values_beside l.setting.offset l.setting.start nothing_beside l.fn.values
