@@ -240,7 +240,7 @@ module _ (s : Sketch) (w : Window) (p : Pattern) (has : HasWindow s w) (valid : 
       by_end (Last last many) e finite zero more =
           let one = with_start q 1 q.first_day in
           false≢true (sym (before one (interval_one_matches s w has q m divisors known last many e (same_divisor ∙ zero)))
-              ∙ less_first 1 p.interval _ more)
+          ∙ less_first 1 p.interval _ more)
 
       by_case : IsLeftOut w.end (divisor_of divisors freq p.first_day) p.interval → ⊥
       by_case (inl apart) = apart (subst (λ n. n ∣ divisor_of divisors freq p.first_day) same.0
@@ -253,7 +253,7 @@ module _ (s : Sketch) (w : Window) (p : Pattern) (has : HasWindow s w) (valid : 
       let sunday = with_start q q.interval 6 in
       let some : 0 < (p.first_day + 1) % 7 = some_place in
       false≢true (sym (before sunday (sunday_matches s w has q m (same.0 ∙ one)))
-          ∙ less_rest q.interval p.interval _ same.0 (less_rest (form_place q.form) (form_place p.form) _ same.1.0 (less_first 0 ((p.first_day + 1) % 7) _ some)))
+      ∙ less_rest q.interval p.interval _ same.0 (less_rest (form_place q.form) (form_place p.form) _ same.1.0 (less_first 0 ((p.first_day + 1) % 7) _ some)))
     where
       some_place : 0 < (p.first_day + 1) % 7
       some_place =

@@ -18,7 +18,7 @@ use Rattle.rr_family.specs.Taking.{AgreeWithin}
 use Rattle.rr_family.specs.declared.window.Window.{Window}
 use Rattle.rr_graphfind.specs.Order.{IsRefusal, NoneWith, SameMembers}
 use Rattle.rr_graphfind.specs.declared.next.Group.TheVariants as group
-use Rattle.rr_graphfind.specs.Search.{Agrees, FitsEnd, Matches, days_compared}
+use Rattle.rr_graphfind.specs.Search.{FitsEnd, Matches, days_compared}
 use Rattle.rr_graphfind.proofs.MemberLemmas.{form_is, month_in, same_pattern}
 
 module _ (s : Sketch) (w : Window) (p : Pattern) (cycle : ℕ) (e : cycle ≡ form_cycle p.form p.interval) where

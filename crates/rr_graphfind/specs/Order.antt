@@ -1,5 +1,5 @@
 -- The first of several patterns, in the order in which they are tried.
-use Rattle.std.specs.Prelude.{◌≡◌, ℕ, zero, suc, ◌+◌, ◌≤◌, Bool, true, false, ⊤, List, [], ◌∷◌, take, Option, None, Some, pos}
+use Rattle.std.specs.Prelude.{◌≡◌, ℕ, zero, suc, ◌+◌, ◌≤◌, Bool, true, false, ⊤, List, ◌∷◌, take, Option, None, Some, pos}
 use Rattle.rr_family.specs.GraphProfile.{pattern_key, key_lt}
 use Rattle.rr_graphfind.specs.declared.next.Group.{Group}
 use Rattle.rr_graphfind.specs.declared.next.Group.TheVariants as group

@@ -1,5 +1,5 @@
 -- Which patterns agree with a set of occurrences on its window.
-use Rattle.std.specs.Prelude.{◌≡◌, ◌↔◌, ℕ, ◌<◌, ◌≤◌, Bool, ⊤, Option, None, Some, ℤ, ◌-ℤ◌, ◌≤ℤ◌}
+use Rattle.std.specs.Prelude.{◌≡◌, ℕ, Bool, ⊤, Option, None, Some, ℤ, ◌-ℤ◌, ◌≤ℤ◌}
 use Rattle.std.specs.Int.{◌∣◌}
 use Rattle.rr_family.specs.DaySets.{window_days}
 use Rattle.rr_family.specs.Lasting.{is_occupied}
@@ -68,4 +68,3 @@ end_of_window (Cycle period start) = NoEnd
 -- the event of a pattern from the first occurrence on
 abbrev pub event_of_window : Window → Pattern → GraphEvent
 event_of_window w pattern = event_of pattern (range_from w.first (end_of_window w.end)) w.kind (moment_at w.kind w.first w.second)
-

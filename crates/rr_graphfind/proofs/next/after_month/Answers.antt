@@ -1,5 +1,5 @@
 use Rattle.std.proofs.Common.{refl, sym, subst, pos, arith}
-use Rattle.rr_model.specs.Graph.Uses.{uses_day_of_month, uses_days, uses_first_day, uses_index, uses_month}
+use Rattle.rr_model.specs.Graph.Uses.{uses_days, uses_index, uses_month}
 use Rattle.rr_model.specs.Graph.Validity.{LiesIfUsed}
 use Rattle.rr_graphfind.specs.Order.{one_if_used}
 use Rattle.rr_graphfind.proofs.OrderLemmas.{last_number, next_number}

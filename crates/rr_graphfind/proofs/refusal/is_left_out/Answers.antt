@@ -1,4 +1,4 @@
-use Rattle.std.proofs.Common.{inr, sym, ap, ◌∙◌, subst}
+use Rattle.std.proofs.Common.{inr, subst}
 use Rattle.rr_family.specs.Divisors.{IsLeftOut, divisor_of}
 use Rattle.rr_graphfind.proofs.refusal.is_left_out.Goals as goal
 

@@ -1,5 +1,4 @@
 use Rattle.std.proofs.Common.{sym, subst}
-use Rattle.std.specs.Prelude.{None}
 use Rattle.rr_graphfind.specs.Order.{IsFirstThat, members_of}
 use Rattle.rr_graphfind.specs.Search.{Matches}
 use Rattle.rr_graphfind.proofs.OrderLemmas.{few_members, fewer_left, none_at_all, none_before_next}
