@@ -37,7 +37,7 @@ use Rattle.rr_family.proofs.ShiftLemmas.{pattern_repeats}
 use Rattle.rr_graphfind.specs.Order.{NoneBefore, NoneWith}
 use Rattle.rr_graphfind.specs.Search.{EndsAfter, FitsEnd, Matches, days_compared}
 use Rattle.rr_graphfind.proofs.MemberLemmas.{counts_in, day_most, form_is, one_week_day}
-use Rattle.rr_graphfind.proofs.OrderLemmas.{few_intervals, less_first, less_rest}
+use Rattle.rr_graphfind.proofs.OrderLemmas.{less_first, less_rest, type_bounds}
 
 -- ---- periods
 
@@ -94,14 +94,6 @@ unfolding is_pattern_day
 same_day p interval first_day first d a b =
     ap (λ t. t && form_holds p.form (with_start p interval first_day) d) a ∙ form_same p.form p interval first_day d ∙ ap (λ t. t && form_holds p.form p d) (sym b)
 
-some_interval : (f : Form) → 1 ≤ most_interval f
-some_interval form.Daily = omega arith
-some_interval form.Weekly = omega arith
-some_interval form.AbsoluteMonthly = omega arith
-some_interval form.RelativeMonthly = omega arith
-some_interval form.AbsoluteYearly = omega arith
-some_interval form.RelativeYearly = omega arith
-
 -- ---- a pattern that matches
 
 module _ (s : Sketch) (w : Window) (has : HasWindow s w) (p : Pattern) (m : Matches s w p) where
@@ -128,7 +120,7 @@ module _ (s : Sketch) (w : Window) (has : HasWindow s w) (p : Pattern) (m : Matc
             divides = fits.0;
             start = subst (λ q. IsLeastStart (times_on s) w.first period q) fits.1 ends.2;
           }
-          (pattern_repeats p w.first m.agrees.valid (omega (arith, high, few_intervals p.form))) agree d l ∙ o
+          (pattern_repeats p w.first m.agrees.valid (omega (arith, high, (type_bounds p.form).1))) agree d l ∙ o
 
   in_unit : (d : ℤ) → w.first ≤ℤ d → is_occupied s d ≡ true
       → divides p.interval (unit_number (form_freq p.form) p.first_day Days d -ℤ unit_number (form_freq p.form) p.first_day Days w.first) ≡ true
@@ -182,7 +174,7 @@ module _ (s : Sketch) (w : Window) (has : HasWindow s w) (p : Pattern) (m : Matc
       agrees = record {
         valid = record {
           interval_low = omega arith;
-          interval_high = some_interval p.form;
+          interval_high = (type_bounds p.form).0;
           days = m.agrees.valid.days;
           first_day = m.agrees.valid.first_day;
           index = m.agrees.valid.index;

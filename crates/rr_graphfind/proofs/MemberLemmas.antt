@@ -14,7 +14,7 @@ use Rattle.rr_model.specs.declared.graph.Pattern.{Pattern}
 use Rattle.rr_family.specs.GraphProfile.{form_place, index_place, pattern_key}
 use Rattle.rr_graphfind.specs.Order.{SameMembers, least_pattern, one_if_used}
 use Rattle.rr_graphfind.specs.Search.{counts_on}
-use Rattle.rr_graphfind.proofs.OrderLemmas.{NoneLess}
+use Rattle.rr_graphfind.proofs.OrderLemmas.{NoneLess, index_bounds}
 
 -- ---- types
 
@@ -39,50 +39,22 @@ type_back form.RelativeYearly = refl
 pub form_is : (f g : Form) → form_place f ≡ form_place g → f ≡ g
 form_is f g e = sym (type_back f) ∙ ap type_at e ∙ type_back g
 
--- ---- the first day of the week
+-- what a type asks of a member, another of the same place asks too
+pub same_use : (uses : Form → Bool) (MayStand : Bool → Type 0) (f g : Form) (used : Bool) → form_place f ≡ form_place g → used ≡ uses g
+    → MayStand (uses f) → MayStand used
+same_use uses MayStand f g used same is may = subst MayStand (ap uses (form_is f g same) ∙ sym is) may
 
--- the day after Saturday in one number: from Sunday on
-seven : (n : ℕ) → n ≤ 6 → ((n < 6) × ((n + 1) % 7 ≡ n + 1)) ⊎ ((n ≡ 6) × ((n + 1) % 7 ≡ 0))
-seven n l = by ((n + 1) / 7) refl
-  where
-    by : (q : ℕ) → (n + 1) / 7 ≡ q → ((n < 6) × ((n + 1) % 7 ≡ n + 1)) ⊎ ((n ≡ 6) × ((n + 1) % 7 ≡ 0))
-    by zero e = (
-        let w = div-add-mod' (n + 1) 7 in
-        let b = mod_below (n + 1) 7 (omega arith) in
-        inl (omega (arith, w, b, e, l), omega (arith, w, b, e, l)))
-    by (suc q) e = (
-        let w = div-add-mod' (n + 1) 7 in
-        let b = mod_below (n + 1) 7 (omega arith) in
-        inr (omega (arith, w, b, e, l), omega (arith, w, b, e, l)))
+-- ---- the first day of the week
 
 pub one_week_day : (m n : ℕ) → m ≤ 6 → n ≤ 6 → (m + 1) % 7 ≡ (n + 1) % 7 → m ≡ n
 one_week_day m n l h e =
-    elim (seven m l) [
-      | inl a ↦ elim (seven n h) [
-        | inl b ↦ (let x = a.1 in let y = b.1 in omega (arith, x, y, e))
-        | inr b ↦ (let x = a.1 in let y =
-            b.1 in omega (arith, x, y, e))
-      ]
-      | inr a ↦ elim (seven n h) [
-        | inl b ↦ (let x = a.1 in let y = b.1 in omega (arith, x, y, e))
-        | inr b ↦ (let x = a.0 in let y =
-            b.0 in omega (arith, x, y))
-      ]
-    ]
+    let a = div-add-mod' (m + 1) 7 in
+    let b = div-add-mod' (n + 1) 7 in
+    omega (arith, a, b, l, h, e)
 
 pub day_most : (used : Bool) (n : ℕ) → LiesIfUsed used 0 6 6 n → n ≤ 6
 day_most true n h = h.1
 day_most false n h = omega (arith, h)
-
-index_least : (used : Bool) (index : ℤ) → IsIndex used index → neg_ℤ (pos 1) ≤ℤ index
-index_least true index (inl h) = (let a = h.0 in omega (arith, ints, a))
-index_least true index (inr e) = omega (arith, ints, e)
-index_least false index e = omega (arith, ints, e)
-
-pub index_most : (used : Bool) (index : ℤ) → IsIndex used index → index ≤ℤ pos 4
-index_most true index (inl h) = h.1
-index_most true index (inr e) = omega (arith, ints, e)
-index_most false index e = omega (arith, ints, e)
 
 pub one_index : (i j : ℤ) → i ≤ℤ pos 4 → j ≤ℤ pos 4 → index_place i ≡ index_place j → i ≡ j
 one_index (pos m) (pos n) l h e = ap pos e
@@ -108,13 +80,6 @@ at_least : (used : Bool) (high n : ℕ) → LiesIfUsed used 1 high 0 n → one_i
 at_least true high n h = h.0
 at_least false high n h = omega arith
 
-index_at_least : (used : Bool) (index : ℤ) → IsIndex used index → 1 ≤ index_place index
-index_at_least true (pos n) (inl h) = (let a = h.0 in omega (arith, ints, a))
-index_at_least true (pos n) (inr e) = absurd (omega (arith, ints, e))
-index_at_least true (negsuc n) h = omega arith
-index_at_least false (pos n) e = omega (arith, ints, e)
-index_at_least false (negsuc n) e = absurd (omega (arith, ints, e))
-
 pub least_valid : (f : Form) (interval : ℕ) → 1 ≤ interval → interval ≤ most_interval f → IsValidPattern (least_pattern f interval)
 least_valid f interval l h = record {
   interval_low = l;
@@ -137,7 +102,7 @@ rest_of_type f interval other v same =
         (
           subst (λ g. one_if_used (uses_month g) ≤ other.month) e (at_least (uses_month other.form) 12 other.month v.month),
           (
-            index_at_least (uses_index other.form) other.index v.index,
+            (index_bounds (uses_index other.form) other.index v.index).2,
             (subst (λ g. one_if_used (uses_days g) ≤ other.days) e (at_least (uses_days other.form) 127 other.days v.days), tt),
           ),
         ),
@@ -148,7 +113,7 @@ rest_of_type f interval other v same =
 pub rest_of_all : (interval : ℕ) (other : Pattern) → IsValidPattern other
     → NoneLess (drop 1 (pattern_key other)) (drop 1 (pattern_key (least_pattern form.Daily interval)))
 rest_of_all interval other v =
-    (omega arith, (omega arith, (omega arith, (omega arith, (index_at_least (uses_index other.form) other.index v.index, (omega arith, tt))))))
+    (omega arith, (omega arith, (omega arith, (omega arith, ((index_bounds (uses_index other.form) other.index v.index).2, (omega arith, tt))))))
 
 -- ---- members replaced
 
@@ -180,10 +145,7 @@ valid_with p v first_day day_of_month month days index a b c d e = record {
 
 -- an index is read as it stands
 pub index_as_read : (used : Bool) (index : ℤ) → IsIndex used index → to_z w8 (of_z w8 index) ≡ index
-index_as_read used index is =
-    let low = index_least used index is in
-    let high = index_most used index is in
-    omega (arith, ints, low, high)
+index_as_read used index is = (let bounds = index_bounds used index is in let low = bounds.0 in let high = bounds.1 in omega (arith, ints, low, high))
 
 -- ---- a pattern with all members of another
 
@@ -195,8 +157,8 @@ same_pattern p q vp vq h =
     let q_day = day_most (uses_first_day q.form) q.first_day vq.first_day in
     let d = one_week_day p.first_day q.first_day p_day q_day after_type.0 in
     let after_month = after_type.1.1.1 in
-    let p_index = index_most (uses_index p.form) p.index vp.index in
-    let q_index = index_most (uses_index q.form) q.index vq.index in
+    let p_index = (index_bounds (uses_index p.form) p.index vp.index).1 in
+    let q_index = (index_bounds (uses_index q.form) q.index vq.index).1 in
     let x = one_index p.index q.index p_index q_index after_month.0 in
     λ i. record {
       form = f i;

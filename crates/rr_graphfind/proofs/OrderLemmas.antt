@@ -1,5 +1,5 @@
 -- The order of lists of numbers, and the first pattern after those that share their first members.
-use Rattle.std.proofs.Common.{◌≡◌, ◌⊎◌, inl, inr, ℕ, zero, suc, ◌+◌, ◌-◌, ◌*◌, ◌<◌, ◌≤◌, ◌==◌, ◌&&◌, ◌||◌, Bool, true, false, List, [], ◌∷◌, length, take, drop, ℤ, pos, negsuc, refl, sym, subst, ◌∙◌, arith}
+use Rattle.std.proofs.Common.{◌≡◌, ◌⊎◌, inl, inr, ℕ, zero, suc, ◌+◌, ◌-◌, ◌*◌, ◌<◌, ◌≤◌, ◌==◌, ◌&&◌, ◌||◌, Bool, true, false, List, [], ◌∷◌, length, take, drop, ℤ, neg_ℤ, ◌≤ℤ◌, pos, negsuc, refl, sym, subst, ◌∙◌, arith}
 use Rattle.std.specs.Prelude.{nat_lt, Option, Some, None, ⊤}
 use Rattle.std.proofs.lemmas.Bool.{cases_eq, cases_lt, ne_eqb, false≢true}
 use Rattle.std.proofs.lemmas.Bool.Decides.{nat_tests}
@@ -260,43 +260,39 @@ most_number = number_after 1 (0 ∷ 0 ∷ 0 ∷ 0 ∷ 0 ∷ 0 ∷ 0 ∷ [])
 unfoldable pub patterns_left : Pattern → ℕ
 patterns_left pattern = most_number - number_after 0 (pattern_key pattern)
 
-index_small : (used : Bool) (index : ℤ) → IsIndex used index → index_place index ≤ 5
-index_small true (pos n) (inl h) = (let b = h.1 in omega (arith, ints, b))
-index_small true (pos n) (inr e) = absurd (omega (arith, ints, e))
-index_small true (negsuc n) (inl h) = (let a = h.0 in absurd (omega (arith, ints, a)))
-index_small true (negsuc n) (inr e) = (let z : n ≡ 0 = omega (arith, ints, e) in omega (arith, z))
-index_small false (pos n) e = omega (arith, ints, e)
-index_small false (negsuc n) e = absurd (omega (arith, ints, e))
+-- -1 to 4, with a place from 1 to 5
+pub index_bounds : (used : Bool) (index : ℤ) → IsIndex used index
+    → (neg_ℤ (pos 1) ≤ℤ index) × (index ≤ℤ pos 4) × (1 ≤ index_place index) × (index_place index ≤ 5)
+index_bounds true (pos n) (inl h) =
+    (let a = h.0 in let b = h.1 in (omega (arith, ints), b, omega (arith, ints, a), omega (arith, ints, b)))
+index_bounds true (pos n) (inr e) = absurd (omega (arith, ints, e))
+index_bounds true (negsuc n) (inl h) = (let a = h.0 in absurd (omega (arith, ints, a)))
+index_bounds true (negsuc n) (inr e) = (let z : n ≡ 0 = omega (arith, ints, e) in (omega (arith, ints, z), omega (arith, ints), omega arith, omega (arith, z)))
+index_bounds false (pos n) e = (omega (arith, ints), omega (arith, ints, e), omega (arith, ints, e), omega (arith, ints, e))
+index_bounds false (negsuc n) e = absurd (omega (arith, ints, e))
 
 most_of : (used : Bool) (low high otherwise n : ℕ) → otherwise ≤ high → LiesIfUsed used low high otherwise n → n ≤ high
 most_of true low high otherwise n l h = h.1
 most_of false low high otherwise n l h = omega (arith, l, h)
 
-type_small : (f : Form) → form_place f ≤ 5
-type_small form.Daily = omega arith
-type_small form.Weekly = omega arith
-type_small form.AbsoluteMonthly = omega arith
-type_small form.RelativeMonthly = omega arith
-type_small form.AbsoluteYearly = omega arith
-type_small form.RelativeYearly = omega arith
-
-pub few_intervals : (f : Form) → most_interval f ≤ 999
-few_intervals form.Daily = omega arith
-few_intervals form.Weekly = omega arith
-few_intervals form.AbsoluteMonthly = omega arith
-few_intervals form.RelativeMonthly = omega arith
-few_intervals form.AbsoluteYearly = omega arith
-few_intervals form.RelativeYearly = omega arith
+pub type_bounds : (f : Form) → (1 ≤ most_interval f) × (most_interval f ≤ 999) × (form_place f ≤ 5)
+type_bounds form.Daily = (omega arith, omega arith, omega arith)
+type_bounds form.Weekly = (omega arith, omega arith, omega arith)
+type_bounds form.AbsoluteMonthly = (omega arith, omega arith, omega arith)
+type_bounds form.RelativeMonthly = (omega arith, omega arith, omega arith)
+type_bounds form.AbsoluteYearly = (omega arith, omega arith, omega arith)
+type_bounds form.RelativeYearly = (omega arith, omega arith, omega arith)
 
 are_digits : (p : Pattern) → IsValidPattern p → AreDigits (pattern_key p)
 are_digits p v =
     let interval = v.interval_high in
-    let few = few_intervals p.form in
-    let type = type_small p.form in
+    let bounds = type_bounds p.form in
+    let few = bounds.1 in
+    let type = bounds.2 in
     let week = mod_below (p.first_day + 1) 7 (omega arith) in
     let day = most_of (uses_day_of_month p.form) 1 31 0 p.day_of_month (omega arith) v.day_of_month in
     let month = most_of (uses_month p.form) 1 12 0 p.month (omega arith) v.month in
-    let index = index_small (uses_index p.form) p.index v.index in
+    let index = (index_bounds (uses_index p.form) p.index v.index).3 in
     let days = most_of (uses_days p.form) 1 127 0 p.days (omega arith) v.days in (
       omega (arith, interval, few),
       (omega (arith, type), (omega (arith, week), (omega (arith, day), (omega (arith, month), (omega (arith, index), (omega (arith, days), tt)))))),

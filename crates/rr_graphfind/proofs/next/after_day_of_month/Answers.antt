@@ -3,7 +3,7 @@ use Rattle.rr_model.specs.Graph.Uses.{uses_day_of_month, uses_days, uses_index, 
 use Rattle.rr_model.specs.Graph.Validity.{LiesIfUsed}
 use Rattle.rr_graphfind.specs.Order.{one_if_used}
 use Rattle.rr_graphfind.proofs.OrderLemmas.{last_number, next_number}
-use Rattle.rr_graphfind.proofs.MemberLemmas.{form_is, least_index, least_lies, pattern_with, rest_of_type, valid_with}
+use Rattle.rr_graphfind.proofs.MemberLemmas.{least_index, least_lies, pattern_with, rest_of_type, same_use, valid_with}
 use Rattle.rr_graphfind.proofs.next.after_day_of_month.Goals as goal
 
 pub returns-in-Some : goal.returns-in-Some
@@ -22,6 +22,5 @@ returns-in-None c =
     let p = c.args.pattern in
     last_number 3 p
     (λ other valid same. c.in-None.ensures other.day_of_month
-    (subst (λ used. LiesIfUsed used 1 31 0 other.day_of_month) (sym c.uses_day_of_month.ensures)
-    (subst (λ f. LiesIfUsed (uses_day_of_month f) 1 31 0 other.day_of_month) (form_is other.form p.form same.1.0) valid.day_of_month)))
+    (same_use uses_day_of_month (λ used. LiesIfUsed used 1 31 0 other.day_of_month) other.form p.form c.uses_day_of_month.result same.1.0 c.uses_day_of_month.ensures valid.day_of_month))
     c.after_first_day.result c.after_first_day.ensures

@@ -3,7 +3,7 @@ use Rattle.rr_model.specs.Graph.Uses.{uses_days, uses_index}
 use Rattle.rr_model.specs.Graph.Validity.{IsIndex, LiesIfUsed}
 use Rattle.rr_family.specs.GraphProfile.{index_place}
 use Rattle.rr_graphfind.proofs.OrderLemmas.{last_number, next_number}
-use Rattle.rr_graphfind.proofs.MemberLemmas.{form_is, index_as_read, pattern_with, valid_with}
+use Rattle.rr_graphfind.proofs.MemberLemmas.{index_as_read, pattern_with, same_use, valid_with}
 use Rattle.rr_graphfind.proofs.next.after_days.Goals as goal
 
 pub returns-in-Some : goal.returns-in-Some
@@ -25,6 +25,5 @@ returns-in-None c =
     let p = c.args.pattern in
     last_number 6 p
     (λ other valid same. c.in-None.ensures other.days
-    (subst (λ used. LiesIfUsed used 1 127 0 other.days) (sym c.uses_days.ensures)
-    (subst (λ f. LiesIfUsed (uses_days f) 1 127 0 other.days) (form_is other.form p.form same.1.0) valid.days)))
+    (same_use uses_days (λ used. LiesIfUsed used 1 127 0 other.days) other.form p.form c.uses_days.result same.1.0 c.uses_days.ensures valid.days))
     c.after_index.result c.after_index.ensures

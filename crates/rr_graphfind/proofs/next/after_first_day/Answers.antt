@@ -3,7 +3,7 @@ use Rattle.rr_model.specs.Graph.Uses.{uses_day_of_month, uses_days, uses_first_d
 use Rattle.rr_model.specs.Graph.Validity.{LiesIfUsed}
 use Rattle.rr_graphfind.specs.Order.{one_if_used}
 use Rattle.rr_graphfind.proofs.OrderLemmas.{last_number, next_number}
-use Rattle.rr_graphfind.proofs.MemberLemmas.{form_is, least_index, least_lies, pattern_with, rest_of_type, valid_with}
+use Rattle.rr_graphfind.proofs.MemberLemmas.{least_index, least_lies, pattern_with, rest_of_type, same_use, valid_with}
 use Rattle.rr_graphfind.proofs.next.after_first_day.Goals as goal
 
 pub returns-in-Some : goal.returns-in-Some
@@ -22,6 +22,5 @@ returns-in-None c =
     let p = c.args.pattern in
     last_number 2 p
     (λ other valid same. c.in-None.ensures other.first_day
-    (subst (λ used. LiesIfUsed used 0 6 6 other.first_day) (sym c.uses_first_day.ensures)
-    (subst (λ f. LiesIfUsed (uses_first_day f) 0 6 6 other.first_day) (form_is other.form p.form same.1.0) valid.first_day)))
+    (same_use uses_first_day (λ used. LiesIfUsed used 0 6 6 other.first_day) other.form p.form c.uses_first_day.result same.1.0 c.uses_first_day.ensures valid.first_day))
     c.after_form.result c.after_form.ensures

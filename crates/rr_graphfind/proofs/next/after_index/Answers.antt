@@ -4,7 +4,7 @@ use Rattle.rr_model.specs.Graph.Validity.{IsIndex}
 use Rattle.rr_family.specs.GraphProfile.{index_place}
 use Rattle.rr_graphfind.specs.Order.{one_if_used}
 use Rattle.rr_graphfind.proofs.OrderLemmas.{last_number, next_number}
-use Rattle.rr_graphfind.proofs.MemberLemmas.{form_is, index_as_read, least_lies, pattern_with, rest_of_type, valid_with}
+use Rattle.rr_graphfind.proofs.MemberLemmas.{index_as_read, least_lies, pattern_with, rest_of_type, same_use, valid_with}
 use Rattle.rr_graphfind.proofs.next.after_index.Goals as goal
 
 pub index_after-requires : goal.index_after-requires
@@ -39,6 +39,5 @@ returns-in-None c =
     let read = index_as_read (uses_index p.form) p.index c.requires.index in
     last_number 5 p
     (λ other valid same. subst (λ z. index_place other.index ≤ index_place z) read (c.in-None.ensures other.index
-    (subst (λ used. IsIndex used other.index) (sym c.uses_index.ensures)
-    (subst (λ f. IsIndex (uses_index f) other.index) (form_is other.form p.form same.1.0) valid.index))))
+    (same_use uses_index (λ used. IsIndex used other.index) other.form p.form c.uses_index.result same.1.0 c.uses_index.ensures valid.index)))
     c.after_month.result c.after_month.ensures

@@ -3,7 +3,7 @@ use Rattle.rr_model.specs.Graph.Uses.{uses_days, uses_index, uses_month}
 use Rattle.rr_model.specs.Graph.Validity.{LiesIfUsed}
 use Rattle.rr_graphfind.specs.Order.{one_if_used}
 use Rattle.rr_graphfind.proofs.OrderLemmas.{last_number, next_number}
-use Rattle.rr_graphfind.proofs.MemberLemmas.{form_is, least_index, least_lies, pattern_with, rest_of_type, valid_with}
+use Rattle.rr_graphfind.proofs.MemberLemmas.{least_index, least_lies, pattern_with, rest_of_type, same_use, valid_with}
 use Rattle.rr_graphfind.proofs.next.after_month.Goals as goal
 
 pub returns-in-Some : goal.returns-in-Some
@@ -22,6 +22,5 @@ returns-in-None c =
     let p = c.args.pattern in
     last_number 4 p
     (λ other valid same. c.in-None.ensures other.month
-    (subst (λ used. LiesIfUsed used 1 12 0 other.month) (sym c.uses_month.ensures)
-    (subst (λ f. LiesIfUsed (uses_month f) 1 12 0 other.month) (form_is other.form p.form same.1.0) valid.month)))
+    (same_use uses_month (λ used. LiesIfUsed used 1 12 0 other.month) other.form p.form c.uses_month.result same.1.0 c.uses_month.ensures valid.month))
     c.after_day_of_month.result c.after_day_of_month.ensures

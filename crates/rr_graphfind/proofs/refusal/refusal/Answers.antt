@@ -3,7 +3,7 @@ use Rattle.rr_model.specs.Graph.Uses.{uses_first_day}
 use Rattle.rr_graphfind.specs.Order.{IsRefusal}
 use Rattle.rr_graphfind.specs.Search.{Matches}
 use Rattle.rr_graphfind.proofs.ApartLemmas.{ends_after, none_from_other_days, none_left_out}
-use Rattle.rr_graphfind.proofs.OrderLemmas.{few_intervals}
+use Rattle.rr_graphfind.proofs.OrderLemmas.{type_bounds}
 use Rattle.rr_graphfind.proofs.MemberLemmas.{day_most}
 use Rattle.rr_graphfind.proofs.RefusalLemmas.{none_out_of_month, none_unfit, refused_if}
 use Rattle.std.proofs.lemmas.Int.{ints}
@@ -32,7 +32,7 @@ pub form_cycle-cycle-requires-clause-low : goal.form_cycle-cycle-requires-clause
 form_cycle-cycle-requires-clause-low g c = c.requires.valid.interval_low
 
 pub form_cycle-cycle-requires-clause-high : goal.form_cycle-cycle-requires-clause-high
-form_cycle-cycle-requires-clause-high g c = omega (arith, c.requires.valid.interval_high, few_intervals c.args.pattern.now.form)
+form_cycle-cycle-requires-clause-high g c = omega (arith, c.requires.valid.interval_high, (type_bounds c.args.pattern.now.form).1)
 
 pub stretch_of-requires-clause-ends : goal.stretch_of-requires-clause-ends
 stretch_of-requires-clause-ends g c = ends_after (g.A.DaySeq.sketch c.args.seq.now) c.args.window.now c.requires.known
