@@ -1,11 +1,8 @@
 -- Which patterns the divisors of a set's units leave out, and which have the days of an earlier one.
-use Rattle.std.proofs.Common.{◌≡◌, ℕ, ◌+◌, ◌%◌, ◌<◌, ◌≤◌, Bool, true, false, not, ◌&&◌, IsTrue, ℤ, ◌-ℤ◌, ◌≤ℤ◌, inl, inr, refl, sym, ap, subst, ◌∙◌, arith}
-use Rattle.std.specs.Prelude.{None, nat_lt}
+use Rattle.std.proofs.Common.{◌≡◌, ◌≢◌, ℕ, ◌+◌, ◌%◌, ◌<◌, ◌≤◌, Bool, true, false, not, ◌&&◌, IsTrue, ℤ, ◌-ℤ◌, ◌≤ℤ◌, inl, inr, refl, sym, ap, subst, ◌∙◌, arith}
 use Rattle.std.specs.Int.{◌∣◌}
 use Rattle.std.proofs.lemmas.Int.{ints, by_lt_z}
-use Rattle.std.proofs.lemmas.Bool.{cases_eq, cases_lt, false≢true}
-use Rattle.std.proofs.lemmas.Bool.Decides.{nat_tests}
-use Rattle.std.proofs.lemmas.Nat.{mod_below}
+use Rattle.std.proofs.lemmas.Bool.{cases_eq, false≢true}
 use Rattle.rr_check.proofs.RuleCycleLemmas.{interval_cycle_some}
 use Rattle.rr_model.specs.Graph.Counterpart.{form_freq}
 use Rattle.rr_model.specs.Graph.Occurrences.{form_holds, is_pattern_day, period_of}
@@ -23,6 +20,7 @@ use Rattle.rr_model.specs.declared.kind.Kind.TheVariants.{Days}
 use Rattle.rr_model.specs.declared.rule.Freq.{Freq}
 use Rattle.rr_model.specs.declared.sketch.Sketch.{Sketch}
 use Rattle.rr_family.specs.DaySets.{window_days}
+use Rattle.rr_family.specs.GraphProfile.{form_place}
 use Rattle.rr_family.specs.Divisors.{HasDivisors, IsFinite, IsLeftOut, ReachesEnd, divisor_of}
 use Rattle.rr_family.specs.Lasting.{is_occupied}
 use Rattle.rr_family.specs.Shift.{form_cycle}
@@ -36,11 +34,10 @@ use Rattle.rr_family.proofs.DivisorLemmas.{divides_none, interval_divides, one_d
 use Rattle.rr_family.proofs.LastingLemmas.{agreement_on_cycle_lasts}
 use Rattle.rr_family.proofs.ProfileLemmas.{last_is_late}
 use Rattle.rr_family.proofs.ShiftLemmas.{pattern_repeats}
-use Rattle.rr_graphfind.specs.Order.{IsFirstWith, NoneOfLess, SameMembers}
-use Rattle.rr_graphfind.specs.Search.{ArePlaces, EndsAfter, FitsEnd, Matches, days_compared}
-use Rattle.rr_graphfind.specs.declared.members.Places.{Places}
+use Rattle.rr_graphfind.specs.Order.{NoneBefore, NoneWith}
+use Rattle.rr_graphfind.specs.Search.{EndsAfter, FitsEnd, Matches, days_compared}
 use Rattle.rr_graphfind.proofs.MemberLemmas.{counts_in, day_most, form_is, one_week_day}
-use Rattle.rr_graphfind.proofs.OrderLemmas.{NoneBelow, member_at}
+use Rattle.rr_graphfind.proofs.OrderLemmas.{less_first, less_rest, type_bounds}
 
 -- ---- periods
 
@@ -59,14 +56,6 @@ whole form.AbsoluteMonthly = refl
 whole form.RelativeMonthly = refl
 whole form.AbsoluteYearly = refl
 whole form.RelativeYearly = refl
-
-pub few_intervals : (f : Form) → most_interval f ≤ 999
-few_intervals form.Daily = omega arith
-few_intervals form.Weekly = omega arith
-few_intervals form.AbsoluteMonthly = omega arith
-few_intervals form.RelativeMonthly = omega arith
-few_intervals form.AbsoluteYearly = omega arith
-few_intervals form.RelativeYearly = omega arith
 
 pub ends_after : (s : Sketch) (w : Window) → HasWindow s w → EndsAfter w.first w.end
 ends_after s w has = of_end w.end has.end
@@ -105,14 +94,6 @@ unfolding is_pattern_day
 same_day p interval first_day first d a b =
     ap (λ t. t && form_holds p.form (with_start p interval first_day) d) a ∙ form_same p.form p interval first_day d ∙ ap (λ t. t && form_holds p.form p d) (sym b)
 
-some_interval : (f : Form) → 1 ≤ most_interval f
-some_interval form.Daily = omega arith
-some_interval form.Weekly = omega arith
-some_interval form.AbsoluteMonthly = omega arith
-some_interval form.RelativeMonthly = omega arith
-some_interval form.AbsoluteYearly = omega arith
-some_interval form.RelativeYearly = omega arith
-
 -- ---- a pattern that matches
 
 module _ (s : Sketch) (w : Window) (has : HasWindow s w) (p : Pattern) (m : Matches s w p) where
@@ -139,7 +120,7 @@ module _ (s : Sketch) (w : Window) (has : HasWindow s w) (p : Pattern) (m : Matc
             divides = fits.0;
             start = subst (λ q. IsLeastStart (times_on s) w.first period q) fits.1 ends.2;
           }
-          (pattern_repeats p w.first m.agrees.valid (omega (arith, high, few_intervals p.form))) agree d l ∙ o
+          (pattern_repeats p w.first m.agrees.valid (omega (arith, high, (type_bounds p.form).1))) agree d l ∙ o
 
   in_unit : (d : ℤ) → w.first ≤ℤ d → is_occupied s d ≡ true
       → divides p.interval (unit_number (form_freq p.form) p.first_day Days d -ℤ unit_number (form_freq p.form) p.first_day Days w.first) ≡ true
@@ -193,7 +174,7 @@ module _ (s : Sketch) (w : Window) (has : HasWindow s w) (p : Pattern) (m : Matc
       agrees = record {
         valid = record {
           interval_low = omega arith;
-          interval_high = some_interval p.form;
+          interval_high = (type_bounds p.form).0;
           days = m.agrees.valid.days;
           first_day = m.agrees.valid.first_day;
           index = m.agrees.valid.index;
@@ -229,77 +210,46 @@ module _ (s : Sketch) (w : Window) (has : HasWindow s w) (p : Pattern) (m : Matc
 
 -- ---- none with these members
 
--- of the patterns with the draft's first three members none matches, where the divisor of their periods leaves the interval out
-pub none_left_out : (s : Sketch) (w : Window) (divisors : Divisors) (draft : Pattern) (freq : Freq) → HasWindow s w → HasDivisors s w divisors
-    → IsValidPattern draft → freq ≡ form_freq draft.form → NoneOfLess (Matches s w) draft.interval
-    → IsLeftOut w.end (divisor_of divisors freq draft.first_day) draft.interval → IsFirstWith 3 draft (Matches s w) None
-none_left_out s w divisors draft freq has known valid is below out q h = by_case out
-  where
-    m : Matches s w q
-    m = h.1
+module _ (s : Sketch) (w : Window) (p : Pattern) (has : HasWindow s w) (valid : IsValidPattern p) (before : NoneBefore (Matches s w) p) where
+  -- of the patterns with its first three members none matches, where the divisor of their periods leaves the interval out
+  pub none_left_out : (divisors : Divisors) (freq : Freq) → HasDivisors s w divisors → freq ≡ form_freq p.form
+      → IsLeftOut w.end (divisor_of divisors freq p.first_day) p.interval → NoneWith 3 p (Matches s w)
+  none_left_out divisors freq known is out q same m = by_case out
+    where
+      same_form : q.form ≡ p.form
+      same_form = form_is q.form p.form same.1.0
 
-    same_form : q.form ≡ draft.form
-    same_form = form_is q.form draft.form h.0.1.0
+      same_week : q.first_day ≡ p.first_day
+      same_week = one_week_day q.first_day p.first_day (day_most (uses_first_day q.form) q.first_day m.agrees.valid.first_day)
+          (day_most (uses_first_day p.form) p.first_day valid.first_day) same.1.1.0
 
-    same_week : q.first_day ≡ draft.first_day
-    same_week = one_week_day q.first_day draft.first_day (day_most (uses_first_day q.form) q.first_day m.agrees.valid.first_day)
-        (day_most (uses_first_day draft.form) draft.first_day valid.first_day) h.0.1.1.0
+      same_divisor : divisor_of divisors (form_freq q.form) q.first_day ≡ divisor_of divisors freq p.first_day
+      same_divisor = ap (λ f. divisor_of divisors (form_freq f) q.first_day) same_form ∙ ap (divisor_of divisors (form_freq p.form)) same_week
+          ∙ ap (λ f. divisor_of divisors f p.first_day) (sym is)
 
-    same_divisor : divisor_of divisors (form_freq q.form) q.first_day ≡ divisor_of divisors freq draft.first_day
-    same_divisor = ap (λ f. divisor_of divisors (form_freq f) q.first_day) same_form ∙ ap (divisor_of divisors (form_freq draft.form)) same_week
-        ∙ ap (λ f. divisor_of divisors f draft.first_day) (sym is)
+      by_end : (end : WindowEnd) → w.end ≡ end → IsFinite end → divisor_of divisors freq p.first_day ≡ 0 → 1 < p.interval → ⊥
+      by_end (Cycle period from) e finite zero more = finite
+      by_end (Last last many) e finite zero more =
+          let one = with_start q 1 q.first_day in
+          false≢true (sym (before one (interval_one_matches s w has q m divisors known last many e (same_divisor ∙ zero)))
+          ∙ less_first 1 p.interval _ more)
 
-    by_end : (end : WindowEnd) → w.end ≡ end → IsFinite end → divisor_of divisors freq draft.first_day ≡ 0 → 1 < draft.interval → ⊥
-    by_end (Cycle period from) e finite zero more = finite
-    by_end (Last last many) e finite zero more =
-        below (with_start q 1 q.first_day) (interval_one_matches s w has q m divisors known last many e (same_divisor ∙ zero)) more
+      by_case : IsLeftOut w.end (divisor_of divisors freq p.first_day) p.interval → ⊥
+      by_case (inl apart) = apart (subst (λ n. n ∣ divisor_of divisors freq p.first_day) same.0
+          (subst (λ g. q.interval ∣ g) same_divisor (interval_of_pattern_divides s w has q m divisors known)))
+      by_case (inr one) = by_end w.end refl one.2 one.0 one.1
 
-    by_case : IsLeftOut w.end (divisor_of divisors freq draft.first_day) draft.interval → ⊥
-    by_case (inl apart) = apart (subst (λ n. n ∣ divisor_of divisors freq draft.first_day) h.0.0
-        (subst (λ g. q.interval ∣ g) same_divisor (interval_of_pattern_divides s w has q m divisors known)))
-    by_case (inr one) = by_end w.end refl one.2 one.0 one.1
-
--- ---- first days of the week
-
--- a first day that is tried is one that the type may have
-pub week_start_lies : (used uses : Bool) (interval place : ℕ) → used ≡ (uses && nat_lt 1 interval) → LiesIfUsed used 0 6 0 place → LiesIfUsed uses 0 6 0 place
-week_start_lies true true interval place e h = h
-week_start_lies true false interval place e h = absurd (false≢true (sym e))
-week_start_lies false true interval place e h = (omega arith, omega (arith, h))
-week_start_lies false false interval place e h = h
-
--- Sunday comes first
-pub sunday_first : (used : Bool) (places : Places) → ArePlaces used 0 6 0 places → (places.from ≤ 0) × (0 < places.to)
-sunday_first true places are = (are 0).0 (omega arith, omega arith)
-sunday_first false places are = (are 0).0 refl
-
--- all first days are tried that can have another pattern
-pub week_start_below : (s : Sketch) (w : Window) (draft : Pattern) (used : Bool) (places : Places) (place : ℕ) → HasWindow s w
-    → used ≡ (uses_first_day draft.form && nat_lt 1 draft.interval) → ArePlaces used 0 6 0 places → places.to ≤ place → NoneBelow 2 draft (Matches s w) place
-    → (q : Pattern) → SameMembers 2 q draft → Matches s w q → member_at 2 q < place
-week_start_below s w draft used places place has e are past below q same m =
-    elim (cases_eq ((q.first_day + 1) % 7) 0) [
-      | inl sunday ↦ (let first = (sunday_first used places are).1 in omega (arith, sunday, first, past))
-      | inr other ↦ elim (cases_lt 1 draft.interval) [
-        | inl more ↦ (let t : nat_lt 1 draft.interval ≡ true = grind (arith, nat_tests) in
-            tried (uses_first_day q.form) q.first_day m.agrees.valid.first_day other
-            (e ∙ ap (λ b. uses_first_day draft.form && b) t ∙ and_true (uses_first_day draft.form) ∙ ap uses_first_day (sym same_form)))
-        | inr few ↦ absurd (below (with_start q q.interval 6) same (sunday_matches s w has q m (let low = m.agrees.valid.interval_low in let i =
-            same.0 in omega (arith, low, few, i))) (let first = (sunday_first used places are).1 in omega (arith, first, past)))
-      ]
-    ]
-  where
-    same_form : q.form ≡ draft.form
-    same_form = form_is q.form draft.form same.1.0
-
-    and_true : (b : Bool) → (b && true) ≡ b
-    and_true true = refl
-    and_true false = refl
-
-    tried : (uses : Bool) (n : ℕ) → LiesIfUsed uses 0 6 6 n → ((n + 1) % 7 ≡ 0 → ⊥) → used ≡ uses → (n + 1) % 7 < place
-    tried true n h other same_use =
-        let few = mod_below (n + 1) 7 (omega arith) in
-        let within = (subst (λ u. LiesIfUsed u 0 6 0 ((n + 1) % 7) → (places.from ≤ (n + 1) % 7) × ((n + 1) % 7 < places.to)) same_use (are ((n + 1) % 7)).0
-        (omega arith, omega (arith, few))).1 in
-        omega (arith, within, past)
-    tried false n h other same_use = absurd (other (ap (λ k. (k + 1) % 7) h))
+  -- nor where each week counts, and the same weekdays were tried with weeks from Sunday
+  pub none_from_other_days : p.interval ≡ 1 → p.first_day ≢ 6 → NoneWith 3 p (Matches s w)
+  none_from_other_days one other q same m =
+      let sunday = with_start q q.interval 6 in
+      let some : 0 < (p.first_day + 1) % 7 = some_place in
+      false≢true (sym (before sunday (sunday_matches s w has q m (same.0 ∙ one)))
+      ∙ less_rest q.interval p.interval _ same.0 (less_rest (form_place q.form) (form_place p.form) _ same.1.0 (less_first 0 ((p.first_day + 1) % 7) _ some)))
+    where
+      some_place : 0 < (p.first_day + 1) % 7
+      some_place =
+          elim (cases_eq ((p.first_day + 1) % 7) 0) [
+            | inl e ↦ absurd (other (one_week_day p.first_day 6 (day_most (uses_first_day p.form) p.first_day valid.first_day) (omega arith) e))
+            | inr differ ↦ omega (arith, differ)
+          ]

@@ -1,5 +1,5 @@
 pub mod OrderLemmas
 pub mod MemberLemmas
 pub mod ApartLemmas
-pub mod SearchLemmas
+pub mod RefusalLemmas
 pub mod FoundLemmas

@@ -1,9 +1,22 @@
 -- The first of several patterns, in the order in which they are tried.
-use Rattle.std.specs.Prelude.{◌≡◌, ℕ, zero, suc, ◌<◌, nat_lt, Bool, true, false, ◌&&◌, ⊤, List, [], ◌∷◌, Option, None, Some, pos}
+use Rattle.std.specs.Prelude.{◌≡◌, ℕ, zero, suc, ◌+◌, ◌≤◌, Bool, true, false, ⊤, List, ◌∷◌, take, Option, None, Some, pos}
 use Rattle.rr_family.specs.GraphProfile.{pattern_key, key_lt}
-use Rattle.rr_model.specs.Graph.Uses.{uses_days, uses_day_of_month, uses_first_day, uses_month}
+use Rattle.rr_graphfind.specs.declared.next.Group.{Group}
+use Rattle.rr_graphfind.specs.declared.next.Group.TheVariants as group
+use Rattle.rr_model.specs.Graph.Uses.{uses_days, uses_day_of_month, uses_month}
+use Rattle.rr_model.specs.Graph.Validity.{IsValidPattern}
 use Rattle.rr_model.specs.declared.graph.Form.{Form}
 use Rattle.rr_model.specs.declared.graph.Pattern.{Pattern}
+
+-- the pattern passes, and none that passes comes before it; or none passes
+abbrev pub IsFirstThat : (Pattern → Type 0) → Option Pattern → Type 0
+IsFirstThat Passes None = (pattern : Pattern) → Passes pattern → ⊥
+IsFirstThat Passes (Some found) = Passes found × ((pattern : Pattern) → Passes pattern → key_lt (pattern_key pattern) (pattern_key found) ≡ false)
+
+-- the other is valid, and comes after all patterns with the first i members of this one: of interval, type, firstDayOfWeek,
+-- dayOfMonth, month, index, daysOfWeek
+abbrev pub IsLater : ℕ → Pattern → Pattern → Type 0
+IsLater i pattern other = IsValidPattern other × (key_lt (take i (pattern_key pattern)) (take i (pattern_key other)) ≡ true)
 
 -- the first i numbers of two lists are the same
 abbrev pub SameFirst : ℕ → List ℕ → List ℕ → Type 0
@@ -11,32 +24,33 @@ SameFirst zero xs ys = ⊤
 SameFirst (suc i) (x ∷ xs) (y ∷ ys) = (x ≡ y) × SameFirst i xs ys
 SameFirst (suc i) xs ys = ⊥
 
--- the number at a place of a list
-abbrev pub number_at : ℕ → List ℕ → ℕ
-number_at i [] = 0
-number_at zero (x ∷ xs) = x
-number_at (suc i) (x ∷ xs) = number_at i xs
-
--- the first i members of two patterns are the same: of interval, type, firstDayOfWeek, dayOfMonth, month, index, daysOfWeek
+-- the first i members of two patterns are the same
 abbrev pub SameMembers : ℕ → Pattern → Pattern → Type 0
 SameMembers i pattern other = SameFirst i (pattern_key pattern) (pattern_key other)
 
--- the pattern passes, and none that passes comes before it; or none passes
-abbrev pub IsFirstThat : (Pattern → Type 0) → Option Pattern → Type 0
-IsFirstThat Passes None = (pattern : Pattern) → Passes pattern → ⊥
-IsFirstThat Passes (Some found) = Passes found × ((pattern : Pattern) → Passes pattern → key_lt (pattern_key pattern) (pattern_key found) ≡ false)
+-- none of the patterns with the first i members of this one passes
+abbrev pub NoneWith : ℕ → Pattern → (Pattern → Type 0) → Type 0
+NoneWith i pattern Passes = (other : Pattern) → SameMembers i other pattern → Passes other → ⊥
 
--- the first that passes of those with the first i members of this one
-abbrev pub IsFirstWith : ℕ → Pattern → (Pattern → Type 0) → Option Pattern → Type 0
-IsFirstWith i draft Passes found = IsFirstThat (λ pattern. SameMembers i pattern draft × Passes pattern) found
+-- none that passes comes before the pattern
+abbrev pub NoneBefore : (Pattern → Type 0) → Pattern → Type 0
+NoneBefore Passes pattern = (other : Pattern) → Passes other → key_lt (pattern_key other) (pattern_key pattern) ≡ false
 
--- none of a lesser interval passes
-abbrev pub NoneOfLess : (Pattern → Type 0) → ℕ → Type 0
-NoneOfLess Passes interval = (pattern : Pattern) → Passes pattern → pattern.interval < interval → ⊥
+-- how many of their first members the patterns of a group share
+abbrev pub members_of : Group → ℕ
+members_of group.FirstDay = 3
+members_of group.Month = 5
+members_of group.Alone = 7
 
--- patterns of this type and interval differ by the first day of the week
-abbrev pub tells_first_days : Pattern → Bool
-tells_first_days pattern = uses_first_day pattern.form && nat_lt 1 pattern.interval
+-- the pattern passes; or none of a group with it does
+abbrev pub IsRefusal : (Pattern → Type 0) → Pattern → Option Group → Type 0
+IsRefusal Passes pattern None = Passes pattern
+IsRefusal Passes pattern (Some group) = NoneWith (members_of group) pattern Passes
+
+-- the member that has the next place, of those that may stand; or none of them has a later one
+abbrev pub IsNext : {A : Type 0} → (A → Type 0) → (A → ℕ) → A → Option A → Type 0
+IsNext {A} MayStand place here None = (other : A) → MayStand other → place other ≤ place here
+IsNext {A} MayStand place here (Some next) = MayStand next × (place next ≡ place here + 1)
 
 -- 1 where the member is used, and else 0
 abbrev pub one_if_used : Bool → ℕ

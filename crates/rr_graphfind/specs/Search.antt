@@ -1,5 +1,5 @@
 -- Which patterns agree with a set of occurrences on its window.
-use Rattle.std.specs.Prelude.{◌≡◌, ◌↔◌, ℕ, ◌<◌, ◌≤◌, Bool, ⊤, Option, None, Some, ℤ, ◌-ℤ◌, ◌≤ℤ◌}
+use Rattle.std.specs.Prelude.{◌≡◌, ℕ, Bool, ⊤, Option, None, Some, ℤ, ◌-ℤ◌, ◌≤ℤ◌}
 use Rattle.std.specs.Int.{◌∣◌}
 use Rattle.rr_family.specs.DaySets.{window_days}
 use Rattle.rr_family.specs.Lasting.{is_occupied}
@@ -10,9 +10,8 @@ use Rattle.rr_family.specs.declared.window.Window.{Window}
 use Rattle.rr_family.specs.declared.window.WindowEnd.{WindowEnd}
 use Rattle.rr_family.specs.declared.window.WindowEnd.TheVariants.{Last, Cycle}
 use Rattle.rr_graphfind.specs.declared.agreement.Stretch.{Stretch}
-use Rattle.rr_graphfind.specs.declared.members.Places.{Places}
 use Rattle.rr_model.specs.Graph.Occurrences.{is_pattern_day, period_of}
-use Rattle.rr_model.specs.Graph.Validity.{IsValidPattern, LiesIfUsed}
+use Rattle.rr_model.specs.Graph.Validity.{IsValidPattern}
 use Rattle.rr_model.specs.Moment.{moment_at}
 use Rattle.rr_model.specs.Whole.{divides}
 use Rattle.rr_model.specs.declared.graph.GraphEvent.{GraphEvent}
@@ -69,7 +68,3 @@ end_of_window (Cycle period start) = NoEnd
 -- the event of a pattern from the first occurrence on
 abbrev pub event_of_window : Window → Pattern → GraphEvent
 event_of_window w pattern = event_of pattern (range_from w.first (end_of_window w.end)) w.kind (moment_at w.kind w.first w.second)
-
--- exactly the numbers that a member may have
-abbrev pub ArePlaces : Bool → ℕ → ℕ → ℕ → Places → Type 0
-ArePlaces used low high otherwise places = (n : ℕ) → LiesIfUsed used low high otherwise n ↔ ((places.from ≤ n) × (n < places.to))

@@ -2,8 +2,8 @@
 #![tactic(auto)]
 
 mod agreement;
-mod members;
-mod pruning;
+mod next;
+mod refusal;
 mod search;
 
 pub use search::graph_of;

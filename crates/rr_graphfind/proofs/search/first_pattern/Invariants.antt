@@ -1,9 +1,12 @@
-use Rattle.rr_graphfind.specs.Order.{least_pattern}
+use Rattle.rr_model.specs.Graph.Validity.{IsValidPattern}
+use Rattle.rr_graphfind.specs.Order.{NoneBefore}
 use Rattle.rr_graphfind.specs.Search.{Matches}
-use Rattle.rr_graphfind.proofs.OrderLemmas.{NoneBelow}
-use Rattle.rr_model.specs.declared.graph.Form.TheVariants as form
+use Rattle.rr_graphfind.proofs.OrderLemmas.{patterns_left}
 use Rattle.rr_graphfind.proofs.search.first_pattern.Given as goal
 
--- no pattern with a lesser interval agrees
-abbrev pub invariant-loop-interval : goal.invariant-loop-interval
-invariant-loop-interval g l = NoneBelow 0 (least_pattern form.Daily 1) (Matches (g.A.DaySeq.sketch l.seq) l.window) l.interval
+-- no earlier pattern has the set
+abbrev pub invariant-loop-group : goal.invariant-loop-group
+invariant-loop-group g l = IsValidPattern l.pattern × NoneBefore (Matches (g.A.DaySeq.sketch l.seq) l.window) l.pattern
+
+abbrev pub decreases-loop-group : goal.decreases-loop-group
+decreases-loop-group g l = patterns_left l.pattern

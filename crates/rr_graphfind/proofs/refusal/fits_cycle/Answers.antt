@@ -1,7 +1,7 @@
 use Rattle.std.proofs.Common.{◌≡◌, arith}
 use Rattle.std.proofs.lemmas.Int.{ints}
-use Rattle.rr_graphfind.proofs.SearchLemmas.{divides_if}
-use Rattle.rr_graphfind.proofs.search.fits_cycle.Goals as goal
+use Rattle.rr_graphfind.proofs.RefusalLemmas.{divides_if}
+use Rattle.rr_graphfind.proofs.refusal.fits_cycle.Goals as goal
 
 pub returns-then-start-first : goal.returns-then-start-first
 returns-then-start-first c =
