@@ -1,5 +1,5 @@
 -- A list of numbers that is kept in pages.
-use Rattle.std.proofs.Common.{◌≡◌, inl, inr, ℕ, zero, suc, ◌+◌, ◌*◌, ◌-◌, ◌/◌, ◌%◌, ◌<◌, ◌≤◌, min, true, false, List, [], ◌∷◌, ◌++◌, length, get_or, take, drop, replicate, refl, sym, ap, subst, ◌∙◌, append_assoc, append-nil, arith, length-append, length-drop}
+use Rattle.std.proofs.Common.{◌≡◌, inl, inr, ℕ, zero, suc, ◌+◌, ◌*◌, ◌-◌, ◌/◌, ◌%◌, ◌<◌, ◌≤◌, min, List, [], ◌∷◌, ◌++◌, length, get_or, take, drop, replicate, refl, sym, ap, subst, ◌∙◌, append_assoc, append-nil, arith, length-append, length-drop}
 use Rattle.std.proofs.lemmas.List.{get_or-drop, get_or-take, length-take, length-take-le, drop-append-le, drop-drop, take-append-drop, take-append-le, take_all, get_or-append-add, ext_get_or, get_or-replicate, length-replicate, replicate-append-replicate}
 use Rattle.std.proofs.Math.ListN.{get_or-append}
 use Rattle.std.proofs.Math.Seq.{drop-append_seam, drop-nil, get_or-append_seam, take-add, take-append-add, take-length, take-nil}

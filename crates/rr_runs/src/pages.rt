@@ -516,7 +516,11 @@ fn room_left(pages: &Vec<u32>, rest: &Vec<u32>) -> usize
     ensures room { HasRoom pages.now.items rest.now.items result }
     ensures all { HasRoom pages.now.items rest.now.items (result + 1) → ⊥ }
 {
-    if pages.is_empty() { OPEN - rest.len() } else { PAGE - rest.len() }
+    if pages.is_empty() {
+        OPEN - rest.len()
+    } else {
+        PAGE - rest.len()
+    }
 }
 
 // Sees to it that there is room for a number after the last page.

@@ -189,11 +189,7 @@ fn count_runs(first: i64, row: &Pages, skipped: usize) -> usize
         number: 0,
     };
     for place in 0..row.len() - skipped {
-        count = count_told(
-            count,
-            first + place as i64,
-            row.number_at(skipped + place),
-        );
+        count = count_told(count, first + place as i64, row.number_at(skipped + place));
     }
     count.runs
 }

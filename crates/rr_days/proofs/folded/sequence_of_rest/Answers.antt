@@ -31,4 +31,5 @@ returns c =
     let s = to_z-of_z c.ranges.settled in
     let early = rw f at c.of_row-early.ensures in
     let later = rw s at c.of_rest-repeated.ensures in
-    rw (s, early, later) (sym (parts_sketch a.kind a.shapes a.before (drop a.skipped a.row) a.first a.settled a.period c.requires.whole c.requires.parts c.requires.empty))
+    let same = parts_sketch a.kind a.shapes a.before (drop a.skipped a.row) a.first a.settled a.period c.requires.whole c.requires.parts c.requires.empty in
+    rw (s, early, later) (sym same)

@@ -1,4 +1,4 @@
-use Rattle.std.proofs.Common.{◌≡◌, ◌≤◌, length, arith}
+use Rattle.std.proofs.Common.{arith}
 use Rattle.rr_runs.proofs.PagesLemmas.{all_closed, back_paged, closed_is_paged}
 use Rattle.rr_runs.proofs.pages.close.Goals as goal
 

@@ -1,4 +1,4 @@
-use Rattle.std.proofs.Common.{◌≡◌, ℕ, ◌+◌, ◌*◌, ◌/◌, ◌%◌, ◌++◌, length}
+use Rattle.std.proofs.Common.{◌≡◌, ◌+◌, ◌/◌, ◌%◌, ◌++◌, length}
 use Rattle.rr_runs.specs.Pages.{ArePages, IsGrown, paged}
 use Rattle.rr_runs.proofs.pages.put_pages.Given as goal
 

@@ -1,4 +1,4 @@
-use Rattle.std.proofs.Common.{◌≡◌, ◌<◌, ℕ, get_or}
+use Rattle.std.proofs.Common.{◌<◌, ℕ, get_or}
 use Rattle.std.specs.Prelude.{IfSome}
 use Rattle.rr_runs.specs.Pages.{IsZeroPage}
 use Rattle.rr_runs.proofs.pages.zero_pages.Given as goal

@@ -1,4 +1,4 @@
-use Rattle.std.proofs.Common.{◌≡◌, ◌+◌, ◌<◌, ℕ, List, ap, drop, length, length-drop, pos, ◌+ℤ◌, sym, ◌∙◌, take, to_z, of_z, w64, arith}
+use Rattle.std.proofs.Common.{◌≡◌, ◌<◌, ℕ, List, ap, drop, length, length-drop, sym, ◌∙◌, take, to_z, of_z, w64, arith}
 use Rattle.std.proofs.lemmas.Int.{ints, to_z-of_z}
 use Rattle.std.proofs.lemmas.List.{get_or-drop, take_all}
 use Rattle.rr_runs.specs.Runs.{days_of, run_count}

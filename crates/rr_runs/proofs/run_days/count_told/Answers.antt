@@ -1,5 +1,5 @@
-use Rattle.std.proofs.Common.{sym, ◌∙◌}
-use Rattle.rr_runs.proofs.RunLemmas.{nothing_told, something_told}
+use Rattle.std.proofs.Common.{sym}
+use Rattle.rr_runs.proofs.RunLemmas.{nothing_told}
 use Rattle.rr_runs.proofs.run_days.count_told.Goals as goal
 
 pub returns-in-None-clause-counted : goal.returns-in-None-clause-counted

@@ -1,4 +1,4 @@
-use Rattle.std.proofs.Common.{◌≡◌, ◌≤◌, ◌+◌, ◌∙◌, ap, arith, drop, length, length-drop, ℕ, ℤ, pos, ◌+ℤ◌, List, ◌++◌, ◌∷◌, []}
+use Rattle.std.proofs.Common.{◌≡◌, ◌+◌, ◌∙◌, ap, arith, drop, length, length-drop, ℕ, pos, ◌+ℤ◌, List, ◌++◌, ◌∷◌, []}
 use Rattle.std.proofs.lemmas.List.{drop-append-le}
 use Rattle.rr_word.specs.declared.numbered.NumberedDay.{NumberedDay}
 use Rattle.rr_runs.proofs.RunLemmas.{number_put}

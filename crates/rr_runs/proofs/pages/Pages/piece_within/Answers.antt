@@ -1,4 +1,3 @@
-use Rattle.std.proofs.Common.{sym}
 use Rattle.rr_runs.proofs.PagesLemmas.{cut_piece}
 use Rattle.rr_runs.proofs.pages.Pages.piece_within.Goals as goal
 

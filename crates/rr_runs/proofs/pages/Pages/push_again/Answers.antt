@@ -1,4 +1,4 @@
-use Rattle.std.proofs.Common.{List, ℕ, ◌≡◌, ◌≤◌, ◌+◌, ◌++◌, take, drop, length, length-append, ap, ◌∙◌, arith}
+use Rattle.std.proofs.Common.{List, ℕ, ◌≤◌, ◌+◌, ◌++◌, take, drop, length, length-append, ap, ◌∙◌, arith}
 use Rattle.rr_runs.proofs.PagesLemmas.{stretch_goes_on, stretch_stays}
 use Rattle.rr_runs.proofs.pages.Pages.push_again.Goals as goal
 

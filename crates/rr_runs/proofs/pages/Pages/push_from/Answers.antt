@@ -1,4 +1,4 @@
-use Rattle.std.proofs.Common.{ℕ, ◌≤◌, ◌+◌, ◌++◌, take, drop, ap, ◌∙◌, arith}
+use Rattle.std.proofs.Common.{◌++◌, take, drop, ap, ◌∙◌, arith}
 use Rattle.rr_runs.proofs.PagesLemmas.{stretch_goes_on}
 use Rattle.rr_runs.proofs.pages.Pages.push_from.Goals as goal
 

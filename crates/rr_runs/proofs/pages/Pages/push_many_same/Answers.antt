@@ -1,4 +1,4 @@
-use Rattle.std.proofs.Common.{ℕ, ◌≡◌, ◌++◌, replicate, ap, ◌∙◌, arith}
+use Rattle.std.proofs.Common.{◌++◌, replicate, ap, ◌∙◌, arith}
 use Rattle.rr_runs.proofs.PagesLemmas.{same_go_on}
 use Rattle.rr_runs.proofs.pages.Pages.push_many_same.Goals as goal
 

@@ -1,4 +1,4 @@
-use Rattle.std.proofs.Common.{◌≡◌, ◌+◌, drop, get_or, ℤ, pos, nat_abs, ◌+ℤ◌, ◌-ℤ◌, List, sym, ap, ◌∙◌, arith}
+use Rattle.std.proofs.Common.{◌+◌, drop, get_or, pos, nat_abs, ◌+ℤ◌, ◌-ℤ◌, List, sym, ap, ◌∙◌, arith}
 use Rattle.std.proofs.lemmas.Int.{ints}
 use Rattle.std.proofs.lemmas.List.{get_or-drop, get_or_past}
 use Rattle.rr_word.specs.Numbered.{number_in}
