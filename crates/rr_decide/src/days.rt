@@ -12,6 +12,9 @@ use crate::quiet::{Quiet, are_remembered, remember};
 use rr_model::Side;
 use rr_word::DaySeq;
 
+// How many free days in a row are passed over at once. Fewer are compared in blocks with the days about them, which costs less.
+const FREE_DAYS: u64 = 64;
+
 /// A second of a day that shows that the answer is no.
 #[derive(Clone, Copy)]
 pub struct Shown {
@@ -56,8 +59,8 @@ enum Look {
     Quiet(u64),
 }
 
-// What the days from one on show, of at most `most`: those on which the sets can't show anything since they are free, or else the
-// first day and those after it whose numbers are remembered.
+// What the days from one on show, of at most `most`: those on which the sets can't show anything since they are free, where these are
+// many, or else the first day and those after it whose numbers are remembered.
 fn look_from<A: DaySeq, B: DaySeq>(
     question: Question,
     a: &A,
@@ -75,7 +78,7 @@ fn look_from<A: DaySeq, B: DaySeq>(
     ensures quiet { IsQuiet (shown_by question) (A.sets a.now) (B.sets b.now) quiet.new }
 {
     let free = question.days_without(a.free_days(day), b.free_days(day));
-    if free > 0 {
+    if free >= FREE_DAYS {
         return Look::Quiet(free.min(most));
     }
     let of_a = a.stretch(day);

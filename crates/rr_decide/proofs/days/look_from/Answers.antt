@@ -5,9 +5,9 @@ use Rattle.rr_decide.proofs.QuietLemmas.{none_in_stretch}
 use Rattle.rr_decide.proofs.WindowLemmas.{none_while_free}
 use Rattle.rr_decide.proofs.days.look_from.Goals as goal
 
-pub returns-then-free-gt0-clause-look : goal.returns-then-free-gt0-clause-look
-returns-then-free-gt0-clause-look g c = (
-  omega (arith, c.min.ensures, c.requires.some, c.if-free-gt0.true),
+pub returns-then-free-ge-FREE_DAYS-clause-look : goal.returns-then-free-ge-FREE_DAYS-clause-look
+returns-then-free-ge-FREE_DAYS-clause-look g c = (
+  omega (arith, c.min.ensures, c.requires.some, c.if-free-ge-FREE_DAYS.true),
   omega (arith, c.min.ensures),
   none_while_free (shown_by c.args.question) (g.A.DaySeq.sketch c.args.a.now) (g.B.DaySeq.sketch c.args.b.now) c.args.day (to_z w64 (of_z w64 c.args.day)) c.free_days.result c.free_days-2.result c.days_without-free.result c.min.result
       (omega (arith, ints)) c.days_without-free.ensures c.free_days.ensures c.free_days-2.ensures (omega (arith, c.min.ensures)),

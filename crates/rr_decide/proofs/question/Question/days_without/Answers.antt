@@ -1,4 +1,3 @@
-use Rattle.std.proofs.Common.{arith}
 use Rattle.rr_decide.proofs.MergeLemmas.{none_below_disjoint, none_below_equal, none_below_within}
 use Rattle.rr_decide.proofs.question.Question.days_without.Goals as goal
 

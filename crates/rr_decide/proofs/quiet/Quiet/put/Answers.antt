@@ -1,5 +1,4 @@
-use Rattle.std.proofs.Common.{inl, inr, subst}
-use Rattle.rr_decide.specs.Quiet.{IsPair, IsRecent}
+use Rattle.std.proofs.Common.{inl, inr}
 use Rattle.rr_decide.proofs.quiet.Quiet.put.Goals as goal
 
 pub returns : goal.returns
