@@ -60,9 +60,7 @@ pub fn sequence(
     let days = days_between(first, settled);
     let mut before = Pages::new(alloc);
     before.push_from(&numbers, 0, days)?;
-    let folded = sequence_of_rest(
-        kind, first, settled, period, before, numbers, days, shapes,
-    );
+    let folded = sequence_of_rest(kind, first, settled, period, before, numbers, days, shapes);
     Ok(folded)
 }
 

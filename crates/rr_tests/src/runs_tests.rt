@@ -19,6 +19,38 @@ fn zeros_from(pages: &Pages, place: usize) -> usize {
     }
 }
 
+// Puts equal numbers at the end.
+fn put_same(pages: &mut Pages, number: u32, count: usize) -> Result<(), Fail> {
+    pages.push_same(number, count)?;
+    Ok(())
+}
+
+// Puts the numbers from a place on once more at the end, where there are so many.
+fn put_again(pages: &mut Pages, place: usize, count: usize) -> Result<(), Fail> {
+    let len = pages.len();
+    if place <= len && count <= len - place {
+        pages.push_again(place, count)?;
+    }
+    Ok(())
+}
+
+// Puts the numbers of another list from a place on at the end, where there are so many.
+fn put_from(pages: &mut Pages, other: &Pages, place: usize, count: usize) -> Result<(), Fail> {
+    let len = other.len();
+    if place <= len && count <= len - place {
+        pages.push_from(other, place, count)?;
+    }
+    Ok(())
+}
+
+// Puts the numbers from one up to, but without, another at the end.
+fn put_numbers(pages: &mut Pages, from: u32, to: u32) -> Result<(), Fail> {
+    for number in from..to {
+        pages.push(number)?;
+    }
+    Ok(())
+}
+
 #[test]
 fn pages_keep_numbers(rt: HostRuntime) -> Result<(), Fail> {
     let alloc = rt.alloc();
@@ -51,10 +83,8 @@ fn pages_keep_numbers(rt: HostRuntime) -> Result<(), Fail> {
 fn long_lists_are_put_number_by_number(rt: HostRuntime) -> Result<(), Fail> {
     let alloc = rt.alloc();
     let mut pages = Pages::new(alloc);
-    pages.push_same(3, 200_020)?;
-    for number in 0..100 {
-        pages.push(number)?;
-    }
+    put_same(&mut pages, 3, 200_020)?;
+    put_numbers(&mut pages, 0, 100)?;
     assert_eq!(rt; pages.len(), 200_120);
     assert_eq!(rt; number_at(&pages, 0), 3);
     assert_eq!(rt; number_at(&pages, 200_019), 3);
@@ -68,14 +98,12 @@ fn long_lists_are_put_number_by_number(rt: HostRuntime) -> Result<(), Fail> {
 fn long_lists_are_put_by_equal_numbers(rt: HostRuntime) -> Result<(), Fail> {
     let alloc = rt.alloc();
     let mut pages = Pages::new(alloc);
-    pages.push_same(0, 200_000)?;
-    pages.push(5)?;
-    pages.push_same(0, 1_000_000)?;
-    pages.push(6)?;
+    put_same(&mut pages, 0, 200_000)?;
+    put_same(&mut pages, 5, 1)?;
+    put_same(&mut pages, 0, 1_000_000)?;
+    put_same(&mut pages, 6, 1)?;
     let mut other = Pages::new(alloc);
-    if pages.len() >= 1_200_002 {
-        other.push_from(&pages, 199_999, 1_000_003)?;
-    }
+    put_from(&mut other, &pages, 199_999, 1_000_003)?;
     assert_eq!(rt; pages.len(), 1_200_002);
     assert_eq!(rt; number_at(&pages, 200_000), 5);
     assert_eq!(rt; number_at(&pages, 1_200_000), 0);
@@ -94,17 +122,13 @@ fn long_lists_are_put_by_equal_numbers(rt: HostRuntime) -> Result<(), Fail> {
 fn long_lists_are_put_again(rt: HostRuntime) -> Result<(), Fail> {
     let alloc = rt.alloc();
     let mut pages = Pages::new(alloc);
-    for number in 1..101 {
-        pages.push(number)?;
-    }
+    put_numbers(&mut pages, 1, 101)?;
     for _ in 0..13 {
         let count = pages.len();
-        pages.push_again(0, count)?;
+        put_again(&mut pages, 0, count)?;
     }
-    if pages.len() >= 819_200 {
-        // not a multiple of 63 places before the end
-        pages.push_again(818_700, 450)?;
-    }
+    // not a multiple of 63 places before the end
+    put_again(&mut pages, 818_700, 450)?;
     assert_eq!(rt; pages.len(), 819_650);
     assert_eq!(rt; number_at(&pages, 100), 1);
     assert_eq!(rt; number_at(&pages, 200_024), 25);

@@ -1,4 +1,4 @@
-use Rattle.std.proofs.Common.{◌≡◌, ◌+◌, ◌++◌, List, ℕ, length, nat_abs, ◌-ℤ◌, to_z-of_z, subst, sym, ap, ◌∙◌, arith}
+use Rattle.std.proofs.Common.{◌≡◌, ◌+◌, List, ℕ, length, nat_abs, ◌-ℤ◌, to_z-of_z, subst, sym, ap, ◌∙◌, arith}
 use Rattle.std.proofs.lemmas.Int.{ints}
 use Rattle.rr_days.specs.Sketched.{IsWholeFold, sketch_of}
 use Rattle.rr_days.proofs.RowLemmas.{slice_parts}
