@@ -16,7 +16,8 @@ returns-in-Some c =
     let good = least_valid p.form p.interval v.interval_low v.interval_high in
     rw c.least_pattern.ensures
     (next_number 2 p (omega arith) (pattern_with p c.in-Some.first_day least.day_of_month least.month least.days least.index)
-    (valid_with p v c.in-Some.first_day least.day_of_month least.month least.days least.index lies good.day_of_month good.month good.days good.index) (refl, (refl, tt)) next.1
+    (valid_with p v c.in-Some.first_day least.day_of_month least.month least.days least.index
+    lies good.day_of_month good.month good.days good.index) (refl, (refl, tt)) next.1
     (λ other valid same. (rest_of_type p.form p.interval other valid same.1.0).1))
 
 pub returns-in-None : goal.returns-in-None

@@ -16,7 +16,8 @@ returns-in-Some c =
     let good = least_valid p.form p.interval v.interval_low v.interval_high in
     rw c.least_pattern.ensures
     (next_number 4 p (omega arith) (pattern_with p p.first_day p.day_of_month c.in-Some.month least.days least.index)
-    (valid_with p v p.first_day p.day_of_month c.in-Some.month least.days least.index v.first_day v.day_of_month lies good.days good.index) (refl, (refl, (refl, (refl, tt)))) next.1
+    (valid_with p v p.first_day p.day_of_month c.in-Some.month least.days least.index
+    v.first_day v.day_of_month lies good.days good.index) (refl, (refl, (refl, (refl, tt)))) next.1
     (λ other valid same. (rest_of_type p.form p.interval other valid same.1.0).1.1.1))
 
 pub returns-in-None : goal.returns-in-None
