@@ -1,12 +1,12 @@
 -- Which patterns the divisors of a set's units leave out, and which have the days of an earlier one.
-use Rattle.std.proofs.Common.{◌≡◌, ◌≢◌, ℕ, ◌+◌, ◌%◌, ◌<◌, ◌≤◌, Bool, true, false, not, ◌&&◌, IsTrue, ℤ, ◌-ℤ◌, ◌≤ℤ◌, inl, inr, refl, sym, ap, subst, ◌∙◌, arith}
+use Rattle.std.proofs.Common.{◌≡◌, ◌≢◌, ℕ, ◌+◌, ◌%◌, ◌<◌, Bool, true, false, not, ◌&&◌, IsTrue, ℤ, ◌-ℤ◌, ◌≤ℤ◌, inl, inr, refl, sym, ap, subst, ◌∙◌, arith}
 use Rattle.std.specs.Int.{◌∣◌}
 use Rattle.std.proofs.lemmas.Int.{ints, by_lt_z}
 use Rattle.std.proofs.lemmas.Bool.{cases_eq, false≢true}
 use Rattle.rr_check.proofs.RuleCycleLemmas.{interval_cycle_some}
 use Rattle.rr_model.specs.Graph.Counterpart.{form_freq}
 use Rattle.rr_model.specs.Graph.Occurrences.{form_holds, is_pattern_day, period_of}
-use Rattle.rr_model.specs.Graph.Uses.{most_interval, uses_first_day}
+use Rattle.rr_model.specs.Graph.Uses.{uses_first_day}
 use Rattle.rr_model.specs.Graph.Validity.{IsValidPattern, LiesIfUsed}
 use Rattle.rr_model.specs.Moment.Units.{is_whole_days, unit_number}
 use Rattle.rr_model.specs.Rule.Validity.{is_absent}

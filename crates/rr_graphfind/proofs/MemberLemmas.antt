@@ -1,9 +1,9 @@
 -- The members of valid patterns, and what is known of a pattern that has all members of another.
-use Rattle.std.proofs.Common.{◌≡◌, ◌⊎◌, inl, inr, ℕ, zero, suc, ◌+◌, ◌/◌, ◌%◌, ◌<◌, ◌≤◌, ◌==◌, Bool, true}
-use Rattle.std.proofs.Common.{false, ◌&&◌, ℤ, pos, negsuc, ◌≤ℤ◌, refl, sym, ap, subst, ◌∙◌, arith, drop, if◌then◌else◌, neg_ℤ, w8, to_z, of_z}
+use Rattle.std.proofs.Common.{◌≡◌, inl, ℕ, ◌+◌, ◌%◌, ◌≤◌, ◌==◌, Bool, true}
+use Rattle.std.proofs.Common.{false, ◌&&◌, ℤ, pos, negsuc, ◌≤ℤ◌, refl, sym, ap, subst, ◌∙◌, arith, drop, if◌then◌else◌, w8, to_z, of_z}
 use Rattle.std.proofs.lemmas.Int.{ints}
 use Rattle.std.proofs.lemmas.Bool.{false≢true}
-use Rattle.std.proofs.lemmas.Nat.{mod_below, div-add-mod'}
+use Rattle.std.proofs.lemmas.Nat.{div-add-mod'}
 use Rattle.rr_model.specs.Calendar.{month_of}
 use Rattle.rr_model.specs.Graph.Occurrences.{form_holds, is_pattern_day}
 use Rattle.rr_model.specs.Graph.Uses.{most_interval, uses_day_of_month, uses_days, uses_first_day, uses_index, uses_month}
@@ -64,7 +64,7 @@ one_index (negsuc m) (negsuc n) l h e = (let z : m ≡ n = omega (arith, e) in a
 
 -- ---- the least members
 
-pub least_lies : (used : Bool) (high : ℕ) → 1 ≤ high → LiesIfUsed used 1 high 0 (one_if_used used)
+least_lies : (used : Bool) (high : ℕ) → 1 ≤ high → LiesIfUsed used 1 high 0 (one_if_used used)
 least_lies true high l = (omega arith, l)
 least_lies false high l = refl
 
@@ -72,7 +72,7 @@ least_week : (used : Bool) → LiesIfUsed used 0 6 6 6
 least_week true = (omega arith, omega arith)
 least_week false = refl
 
-pub least_index : (used : Bool) → IsIndex used (pos 1)
+least_index : (used : Bool) → IsIndex used (pos 1)
 least_index true = inl (omega (arith, ints), omega (arith, ints))
 least_index false = refl
 

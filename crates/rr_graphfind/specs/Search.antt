@@ -1,6 +1,9 @@
 -- Which patterns agree with a set of occurrences on its window.
-use Rattle.std.specs.Prelude.{◌≡◌, ℕ, Bool, ⊤, Option, None, Some, ℤ, ◌-ℤ◌, ◌≤ℤ◌}
+use Rattle.std.specs.Prelude.{◌≡◌, ◌≢◌, ◌⊎◌, ℕ, Bool, ⊤, Option, None, Some, ℤ, ◌-ℤ◌, ◌≤ℤ◌}
 use Rattle.std.specs.Int.{◌∣◌}
+use Rattle.rr_family.specs.Divisors.{IsLeftOut, divisor_of}
+use Rattle.rr_family.specs.declared.divisors.Divisors.{Divisors}
+use Rattle.rr_model.specs.Graph.Counterpart.{form_freq}
 use Rattle.rr_family.specs.DaySets.{window_days}
 use Rattle.rr_family.specs.Lasting.{is_occupied}
 use Rattle.rr_family.specs.GraphProfile.{event_of, range_from}
@@ -68,3 +71,9 @@ end_of_window (Cycle period start) = NoEnd
 -- the event of a pattern from the first occurrence on
 abbrev pub event_of_window : Window → Pattern → GraphEvent
 event_of_window w pattern = event_of pattern (range_from w.first (end_of_window w.end)) w.kind (moment_at w.kind w.first w.second)
+
+-- each week counts, so that the same weekdays are tried with weeks from Sunday; or the divisor of its units leaves the interval out
+abbrev pub IsPassedOver : WindowEnd → Divisors → Pattern → Type 0
+IsPassedOver end divisors pattern =
+    ((pattern.interval ≡ 1) × (pattern.first_day ≢ 6))
+    ⊎ IsLeftOut end (divisor_of divisors (form_freq pattern.form) pattern.first_day) pattern.interval

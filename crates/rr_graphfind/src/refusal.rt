@@ -1,13 +1,13 @@
 // Whether a pattern has a set; and where it has not, which others are known by the same look not to have it.
-ghost use Rattle.std.specs.Prelude.{◌≡◌, ◌≢◌, ◌↔◌, ◌⊎◌, ◌≤◌, ◌<◌, ◌==◌, IfSome, IsTrue, true, false, pos, ◌+ℤ◌, ◌≤ℤ◌, ◌<ℤ◌};
-ghost use Rattle.rr_family.specs.Divisors.{HasDivisors, IsLeftOut, divisor_of};
+ghost use Rattle.std.specs.Prelude.{◌≡◌, ◌↔◌, ◌≤◌, ◌<◌, ◌==◌, IfSome, IsTrue, true, false, pos, ◌+ℤ◌, ◌≤ℤ◌, ◌<ℤ◌};
+ghost use Rattle.rr_family.specs.Divisors.{HasDivisors};
 ghost use Rattle.rr_family.specs.Lasting.{is_occupied};
 ghost use Rattle.rr_family.specs.Shift.{form_cycle};
 ghost use Rattle.rr_family.specs.Walks.{IsNearWindow};
 ghost use Rattle.rr_family.specs.Windows.{HasWindow};
 ghost use Rattle.rr_family.specs.declared.window.WindowEnd.TheVariants as end;
 ghost use Rattle.rr_graphfind.specs.Order.{IsRefusal, NoneBefore};
-ghost use Rattle.rr_graphfind.specs.Search.{EndsAfter, FitsEnd, IsDaysCompared, IsStretchOf, Matches};
+ghost use Rattle.rr_graphfind.specs.Search.{EndsAfter, FitsEnd, IsDaysCompared, IsPassedOver, IsStretchOf, Matches};
 ghost use Rattle.rr_model.specs.Calendar.{IsDayWithin, month_of};
 ghost use Rattle.rr_model.specs.Graph.Counterpart.{form_freq};
 ghost use Rattle.rr_model.specs.Graph.Uses.{uses_month};
@@ -63,7 +63,7 @@ pub(crate) fn refusal<A: DaySeq>(
     requires before { NoneBefore (Matches (A.sketch seq.now) window.now) pattern.now }
     ensures { IsRefusal (Matches (A.sketch seq.now) window.now) pattern.now result }
 {
-    if is_left_out(window, divisors, pattern) {
+    if is_passed_over(window, divisors, pattern) {
         return Some(Group::FirstDay);
     }
     let cycle = form_cycle(pattern.form, pattern.interval);
@@ -77,12 +77,12 @@ pub(crate) fn refusal<A: DaySeq>(
     (!has).then_some(Group::Alone)
 }
 
-// Whether the divisors of the set's units leave out all patterns with its interval, type and first day of the week; or the
-// interval is 1, so that each week counts and the same weekdays were tried with weeks from Sunday.
-fn is_left_out(window: &Window, divisors: &Divisors, pattern: &Pattern) -> bool
+// Whether all patterns with its interval, type and first day of the week are passed over: the divisors of the set's units
+// leave the interval out; or it is 1, so that each week counts and the same weekdays were tried with weeks from Sunday.
+fn is_passed_over(window: &Window, divisors: &Divisors, pattern: &Pattern) -> bool
     requires week { pattern.now.first_day < 7 }
     requires interval { 1 ≤ pattern.now.interval }
-    ensures { IsTrue result → ((pattern.now.interval ≡ 1) × (pattern.now.first_day ≢ 6)) ⊎ IsLeftOut window.now.end (divisor_of divisors.now (form_freq pattern.now.form) pattern.now.first_day) pattern.now.interval }
+    ensures { IsTrue result → IsPassedOver window.now.end divisors.now pattern.now }
 {
     if pattern.interval == 1 && pattern.first_day != 6 {
         return true;

@@ -1,9 +1,9 @@
-use Rattle.std.proofs.Common.{refl, sym, subst, pos, arith}
-use Rattle.rr_model.specs.Graph.Uses.{uses_day_of_month, uses_days, uses_index, uses_month}
+use Rattle.std.proofs.Common.{refl, subst, arith}
+use Rattle.rr_model.specs.Graph.Uses.{uses_day_of_month}
 use Rattle.rr_model.specs.Graph.Validity.{LiesIfUsed}
-use Rattle.rr_graphfind.specs.Order.{one_if_used}
+use Rattle.rr_graphfind.specs.Order.{least_pattern}
 use Rattle.rr_graphfind.proofs.OrderLemmas.{last_number, next_number}
-use Rattle.rr_graphfind.proofs.MemberLemmas.{least_index, least_lies, pattern_with, rest_of_type, same_use, valid_with}
+use Rattle.rr_graphfind.proofs.MemberLemmas.{least_valid, pattern_with, rest_of_type, same_use, valid_with}
 use Rattle.rr_graphfind.proofs.next.after_day_of_month.Goals as goal
 
 pub returns-in-Some : goal.returns-in-Some
@@ -12,9 +12,12 @@ returns-in-Some c =
     let v = c.requires in
     let next = c.in-Some.ensures in
     let lies = subst (λ used. LiesIfUsed used 1 31 0 c.in-Some.day_of_month) c.uses_day_of_month.ensures next.0 in
+    let least = least_pattern p.form p.interval in
+    let good = least_valid p.form p.interval v.interval_low v.interval_high in
     rw c.least_pattern.ensures
-    (next_number 3 p (omega arith) (pattern_with p p.first_day c.in-Some.day_of_month (one_if_used (uses_month p.form)) (one_if_used (uses_days p.form)) (pos 1))
-    (valid_with p v p.first_day c.in-Some.day_of_month (one_if_used (uses_month p.form)) (one_if_used (uses_days p.form)) (pos 1) v.first_day lies (least_lies (uses_month p.form) 12 (omega arith)) (least_lies (uses_days p.form) 127 (omega arith)) (least_index (uses_index p.form))) (refl, (refl, (refl, tt))) next.1
+    (next_number 3 p (omega arith) (pattern_with p p.first_day c.in-Some.day_of_month least.month least.days least.index)
+    (valid_with p v p.first_day c.in-Some.day_of_month least.month least.days least.index
+    v.first_day lies good.month good.days good.index) (refl, (refl, (refl, tt))) next.1
     (λ other valid same. (rest_of_type p.form p.interval other valid same.1.0).1.1))
 
 pub returns-in-None : goal.returns-in-None
@@ -22,5 +25,6 @@ returns-in-None c =
     let p = c.args.pattern in
     last_number 3 p
     (λ other valid same. c.in-None.ensures other.day_of_month
-    (same_use uses_day_of_month (λ used. LiesIfUsed used 1 31 0 other.day_of_month) other.form p.form c.uses_day_of_month.result same.1.0 c.uses_day_of_month.ensures valid.day_of_month))
+    (same_use uses_day_of_month (λ used. LiesIfUsed used 1 31 0 other.day_of_month) other.form p.form c.uses_day_of_month.result same.1.0
+    c.uses_day_of_month.ensures valid.day_of_month))
     c.after_first_day.result c.after_first_day.ensures

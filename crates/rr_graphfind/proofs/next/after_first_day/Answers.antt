@@ -1,9 +1,9 @@
-use Rattle.std.proofs.Common.{refl, sym, subst, pos, arith}
-use Rattle.rr_model.specs.Graph.Uses.{uses_day_of_month, uses_days, uses_first_day, uses_index, uses_month}
+use Rattle.std.proofs.Common.{refl, subst, arith}
+use Rattle.rr_model.specs.Graph.Uses.{uses_first_day}
 use Rattle.rr_model.specs.Graph.Validity.{LiesIfUsed}
-use Rattle.rr_graphfind.specs.Order.{one_if_used}
+use Rattle.rr_graphfind.specs.Order.{least_pattern}
 use Rattle.rr_graphfind.proofs.OrderLemmas.{last_number, next_number}
-use Rattle.rr_graphfind.proofs.MemberLemmas.{least_index, least_lies, pattern_with, rest_of_type, same_use, valid_with}
+use Rattle.rr_graphfind.proofs.MemberLemmas.{least_valid, pattern_with, rest_of_type, same_use, valid_with}
 use Rattle.rr_graphfind.proofs.next.after_first_day.Goals as goal
 
 pub returns-in-Some : goal.returns-in-Some
@@ -12,9 +12,12 @@ returns-in-Some c =
     let v = c.requires in
     let next = c.in-Some.ensures in
     let lies = subst (λ used. LiesIfUsed used 0 6 6 c.in-Some.first_day) c.uses_first_day.ensures next.0 in
+    let least = least_pattern p.form p.interval in
+    let good = least_valid p.form p.interval v.interval_low v.interval_high in
     rw c.least_pattern.ensures
-    (next_number 2 p (omega arith) (pattern_with p c.in-Some.first_day (one_if_used (uses_day_of_month p.form)) (one_if_used (uses_month p.form)) (one_if_used (uses_days p.form)) (pos 1))
-    (valid_with p v c.in-Some.first_day (one_if_used (uses_day_of_month p.form)) (one_if_used (uses_month p.form)) (one_if_used (uses_days p.form)) (pos 1) lies (least_lies (uses_day_of_month p.form) 31 (omega arith)) (least_lies (uses_month p.form) 12 (omega arith)) (least_lies (uses_days p.form) 127 (omega arith)) (least_index (uses_index p.form))) (refl, (refl, tt)) next.1
+    (next_number 2 p (omega arith) (pattern_with p c.in-Some.first_day least.day_of_month least.month least.days least.index)
+    (valid_with p v c.in-Some.first_day least.day_of_month least.month least.days least.index
+    lies good.day_of_month good.month good.days good.index) (refl, (refl, tt)) next.1
     (λ other valid same. (rest_of_type p.form p.interval other valid same.1.0).1))
 
 pub returns-in-None : goal.returns-in-None
@@ -22,5 +25,6 @@ returns-in-None c =
     let p = c.args.pattern in
     last_number 2 p
     (λ other valid same. c.in-None.ensures other.first_day
-    (same_use uses_first_day (λ used. LiesIfUsed used 0 6 6 other.first_day) other.form p.form c.uses_first_day.result same.1.0 c.uses_first_day.ensures valid.first_day))
+    (same_use uses_first_day (λ used. LiesIfUsed used 0 6 6 other.first_day) other.form p.form c.uses_first_day.result same.1.0
+    c.uses_first_day.ensures valid.first_day))
     c.after_form.result c.after_form.ensures

@@ -1,10 +1,10 @@
 use Rattle.std.proofs.Common.{◌≡◌, ◌+◌, ◌≤◌, refl, sym, ap, subst, ◌∙◌, arith, w8, to_z, of_z}
-use Rattle.rr_model.specs.Graph.Uses.{uses_days, uses_index}
+use Rattle.rr_model.specs.Graph.Uses.{uses_index}
 use Rattle.rr_model.specs.Graph.Validity.{IsIndex}
 use Rattle.rr_family.specs.GraphProfile.{index_place}
-use Rattle.rr_graphfind.specs.Order.{one_if_used}
+use Rattle.rr_graphfind.specs.Order.{least_pattern}
 use Rattle.rr_graphfind.proofs.OrderLemmas.{last_number, next_number}
-use Rattle.rr_graphfind.proofs.MemberLemmas.{index_as_read, least_lies, pattern_with, rest_of_type, same_use, valid_with}
+use Rattle.rr_graphfind.proofs.MemberLemmas.{index_as_read, least_valid, pattern_with, rest_of_type, same_use, valid_with}
 use Rattle.rr_graphfind.proofs.next.after_index.Goals as goal
 
 pub index_after-requires : goal.index_after-requires
@@ -24,12 +24,13 @@ returns-in-Some c =
     let read = index_as_read (uses_index p.form) c.in-Some.index lies in
     let index = to_z w8 (of_z w8 c.in-Some.index) in
     let is_index = subst (λ z. IsIndex (uses_index p.form) z) (sym read) lies in
-    let days = one_if_used (uses_days p.form) in
+    let least = least_pattern p.form p.interval in
+    let good = least_valid p.form p.interval v.interval_low v.interval_high in
     let at : index_place index ≡ index_place p.index + 1 =
     ap index_place read ∙ next.1 ∙ ap (λ z. index_place z + 1) (index_as_read (uses_index p.form) p.index v.index) in
     rw c.least_pattern.ensures
-    (next_number 5 p (omega arith) (pattern_with p p.first_day p.day_of_month p.month days index)
-    (valid_with p v p.first_day p.day_of_month p.month days index v.first_day v.day_of_month v.month (least_lies (uses_days p.form) 127 (omega arith)) is_index)
+    (next_number 5 p (omega arith) (pattern_with p p.first_day p.day_of_month p.month least.days index)
+    (valid_with p v p.first_day p.day_of_month p.month least.days index v.first_day v.day_of_month v.month good.days is_index)
     (refl, (refl, (refl, (refl, (refl, tt))))) at
     (λ other valid same. (rest_of_type p.form p.interval other valid same.1.0).1.1.1.1))
 

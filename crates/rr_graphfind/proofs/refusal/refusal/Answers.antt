@@ -9,21 +9,21 @@ use Rattle.rr_graphfind.proofs.RefusalLemmas.{none_out_of_month, none_unfit, ref
 use Rattle.std.proofs.lemmas.Int.{ints}
 use Rattle.rr_graphfind.proofs.refusal.refusal.Goals as goal
 
-pub is_left_out-requires-clause-week : goal.is_left_out-requires-clause-week
-is_left_out-requires-clause-week g c =
+pub is_passed_over-requires-clause-week : goal.is_passed_over-requires-clause-week
+is_passed_over-requires-clause-week g c =
     let p = c.args.pattern.now in
     let most = day_most (uses_first_day p.form) p.first_day c.requires.valid.first_day in
     omega (arith, most)
 
-pub is_left_out-requires-clause-interval : goal.is_left_out-requires-clause-interval
-is_left_out-requires-clause-interval g c = c.requires.valid.interval_low
+pub is_passed_over-requires-clause-interval : goal.is_passed_over-requires-clause-interval
+is_passed_over-requires-clause-interval g c = c.requires.valid.interval_low
 
-pub returns-then-is_left_out : goal.returns-then-is_left_out
-returns-then-is_left_out g c =
+pub returns-then-is_passed_over : goal.returns-then-is_passed_over
+returns-then-is_passed_over g c =
     let s = g.A.DaySeq.sketch c.args.seq.now in
     let w = c.args.window.now in
     let p = c.args.pattern.now in
-    elim (c.is_left_out.ensures c.if-is_left_out.true) [
+    elim (c.is_passed_over.ensures c.if-is_passed_over.true) [
       | inl sunday ↦ none_from_other_days s w p c.requires.known c.requires.valid c.requires.before sunday.0 sunday.1
       | inr out ↦ none_left_out s w p c.requires.known c.requires.valid c.requires.before c.args.divisors.now _ c.requires.divisors refl out
     ]

@@ -1,6 +1,6 @@
 use Rattle.std.proofs.Common.{inr, subst}
 use Rattle.rr_family.specs.Divisors.{IsLeftOut, divisor_of}
-use Rattle.rr_graphfind.proofs.refusal.is_left_out.Goals as goal
+use Rattle.rr_graphfind.proofs.refusal.is_passed_over.Goals as goal
 
 pub returns : goal.returns
 returns c = λ out.
