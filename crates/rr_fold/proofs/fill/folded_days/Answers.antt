@@ -2,7 +2,7 @@ use Rattle.std.proofs.Common.{to_z-of_z}
 use Rattle.rr_model.specs.Moment.{day_part}
 use Rattle.rr_model.specs.Series.Tree.{tree_of}
 use Rattle.rr_fold.proofs.DistinctLemmas.{not_too_many}
-use Rattle.rr_fold.proofs.fill.not_jumped.Goals as goal
+use Rattle.rr_fold.proofs.fill.folded_days.Goals as goal
 
 pub returns-in-Ok-clause-refused : goal.returns-in-Ok-clause-refused
 returns-in-Ok-clause-refused c =
