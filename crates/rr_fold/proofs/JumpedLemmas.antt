@@ -62,6 +62,16 @@ module _ (rule : Rule) (kind : Kind) (start end : ℤ) (jump : Jump) (sound : Is
       → IsSpliced numbers jump.cycle jump.cycles new → end ≡ day_part kind start +ℤ pos (length new)
   jumped_whole to numbers new at whole spliced = omega (arith, ints, at, whole, spliced.whole)
 
+  pub spliced_long : (to : ℤ) (numbers : List ℕ) → to +ℤ pos (jump.cycles * jump.cycle) ≡ end → to ≡ day_part kind start +ℤ pos (length numbers)
+      → jump.cycle + 1 ≤ length numbers
+  spliced_long to numbers at whole = omega (arith, ints, at, whole, j.counted.long, j.whole)
+
+  pub spliced_few : (to : ℤ) (numbers : List ℕ) → to +ℤ pos (jump.cycles * jump.cycle) ≡ end → to ≡ day_part kind start +ℤ pos (length numbers)
+      → length numbers + jump.cycles * jump.cycle ≤ 100_000_000
+  spliced_few to numbers at whole =
+      let b = four_digit_bounds (day_part kind start) sound.in_years in
+      omega (arith, ints, at, whole, b.0, high)
+
 -- what a call gives
 pub jump_map : (r : Result (Option Jump) NoMemory) (P Q : Jump → Type 0) → ((j : Jump) → P j → Q j) → IfOk r (λ o. IfSome o P) → IfOk r (λ o. IfSome o Q)
 jump_map (Ok (Some j)) P Q f h = f j h

@@ -26,16 +26,37 @@ const MANY_DAYS: i64 = 200_000;
 /// Whether the days of a series from one on and below another are folded rule by rule. It has a rule at least, and its start lies
 /// among them; and it has many days, or no dates and either one rule alone or endless rules alone. Any other series goes day by day.
 pub fn goes_by_rules(series: &Series, first: i64, end: i64) -> bool
+    requires sound { IsSound series.now }
     requires low { neg_ℤ (pos 719_162) ≤ℤ first }
     requires order { first <ℤ end }
     requires high { end ≤ℤ pos 40_000_000 }
     ensures { result ≡ true → HasRules series.now first end }
 {
+    pays(series, first, end) && has_rules(series, first, end)
+}
+
+// Whether so many days are folded, or such a series, that it takes less time rule by rule.
+fn pays(series: &Series, first: i64, end: i64) -> bool
+    requires low { neg_ℤ (pos 719_162) ≤ℤ first }
+    requires order { first <ℤ end }
+    requires high { end ≤ℤ pos 40_000_000 }
+{
+    end - first > MANY_DAYS || has_rules_alone(series)
+}
+
+// Whether a series has a rule at least, and its start lies from one day on and below another.
+fn has_rules(series: &Series, first: i64, end: i64) -> bool
+    requires { IsSound series.now }
+    ensures { result ≡ true → HasRules series.now first end }
+{
+    if series.rules.is_empty() {
+        return false;
+    }
     let day = day_part(series.kind, series.start);
-    !series.rules.is_empty()
-        && first <= day
-        && day < end
-        && (end - first > MANY_DAYS || has_rules_alone(series))
+    if day < first {
+        return false;
+    }
+    day < end
 }
 
 // Whether a series has no RDATE or EXDATE, and either one rule and no excluded rule, or endless ones alone.
@@ -99,10 +120,10 @@ fn kept_days(alloc: Global, series: &Series, first: i64, end: i64) -> Result<Fol
     ensures whole { IfOk result (λ days. end ≡ first +ℤ pos (length days.numbers)) }
 {
     let days = given_days(alloc, series, first, end)?;
-    let excluded = series.excluded.as_slice();
-    if excluded.is_empty() {
+    if series.excluded.is_empty() {
         return Ok(days);
     }
+    let excluded = series.excluded.as_slice();
     let out = days_of_rules(alloc, series.kind, series.start, excluded, first, end)?;
     combined(alloc, Op::Minus, &days, &out)
 }

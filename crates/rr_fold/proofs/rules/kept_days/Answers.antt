@@ -17,12 +17,13 @@ pub returns-then-is_empty-clause-folded : goal.returns-then-is_empty-clause-fold
 returns-then-is_empty-clause-folded c =
     let s = c.args.series.now in
     let days = c.in_ok-days.days in
-    let none = none_listed s.excluded (rw c.as_slice-excluded.ensures at (sym c.is_empty.ensures ∙ c.if-is_empty.true)) in
+    let none = none_listed s.excluded (sym c.is_empty.ensures ∙ c.if-is_empty.true) in
     folded_same (given_from s c.args.first) (kept_from s c.args.first) (no_excluded s c.args.first none) c.args.first c.args.end days.shapes days.numbers
     (rw (to_z-of_z c.ranges.first, to_z-of_z c.ranges.end) at c.in_ok-days.ensures.folded)
 
 pub days_of_rules-requires-clause-some : goal.days_of_rules-requires-clause-some
-days_of_rules-requires-clause-some c = some_listed c.as_slice-excluded.result.now (sym c.is_empty.ensures ∙ c.if-is_empty.false)
+days_of_rules-requires-clause-some c =
+    rw c.as_slice-excluded.ensures (some_listed c.args.series.now.excluded (sym c.is_empty.ensures ∙ c.if-is_empty.false))
 
 pub days_of_rules-requires-clause-sound : goal.days_of_rules-requires-clause-sound
 days_of_rules-requires-clause-sound c =
