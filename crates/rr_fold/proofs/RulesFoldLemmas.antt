@@ -1,4 +1,4 @@
--- The days of endless rules, one rule after another.
+-- The days of rules, one rule after another.
 use Rattle.std.proofs.Common.{◌≡◌, ◌≢◌, ℕ, ◌+◌, ◌-◌, ◌<◌, ◌≤◌, List, [], ◌∷◌, ◌++◌, length, get_or, take, drop, All, ℤ, pos, ◌+ℤ◌, refl, sym}
 use Rattle.std.proofs.Common.{ap, subst, ◌∙◌, arith}
 use Rattle.std.specs.Prelude.{Result, Ok, Err, IfOk, true, false}
@@ -6,18 +6,14 @@ use Rattle.std.proofs.lemmas.Bool.{false≢true}
 use Rattle.rr_model.specs.Rule.Validity.{is_absent}
 use Rattle.std.proofs.lemmas.Grind.{get_or_after_one}
 use Rattle.std.proofs.lemmas.List.{length-drop, take_all, take_more}
-use Rattle.rr_model.specs.Series.Soundness.{IsSound}
-use Rattle.rr_model.specs.Series.Tree.{tree_of}
-use Rattle.rr_model.specs.Sets.Tree.{chosen_of, stands_at}
+use Rattle.rr_model.specs.Series.Tree.{members_of}
 use Rattle.rr_model.specs.declared.kind.Kind.{Kind}
-use Rattle.rr_model.specs.declared.rule.End.TheVariants.{Never}
 use Rattle.rr_model.specs.declared.rule.Rule.{Rule}
-use Rattle.rr_model.specs.declared.rule.Series.{Series}
 use Rattle.rr_fold.specs.Folding.{IsFoldedTo}
-use Rattle.rr_fold.specs.Rules.{AreEndless, HasRulesAlone, members_of_rules}
+use Rattle.rr_fold.specs.Rules.{members_of_rules}
 use Rattle.rr_fold.specs.Combined.{AreCombined}
-use Rattle.rr_fold.specs.declared.combined.Op.TheVariants.{Union, Minus}
-use Rattle.rr_fold.proofs.RulesAloneLemmas.{first_rule, next_rule, none_excluded, rules_alone}
+use Rattle.rr_fold.specs.declared.combined.Op.TheVariants.{Union}
+use Rattle.rr_fold.proofs.ByRulesLemmas.{first_rule, next_rule}
 use Rattle.rr_fold.proofs.SameTreeLemmas.{folded_same}
 use Rattle.rr_fold.proofs.CombinedFoldLemmas.{combined_folded}
 
@@ -49,60 +45,34 @@ rule_at P rules xs i rule is all l at = subst P (sym at) ((subst (All P) (sym is
 
 -- ---- their days
 
-module _ (kind : Kind) (start first end : ℤ) (rules : List Rule) (endless : AreEndless rules) (i : ℕ) (rule : Rule) (l : i < length rules)
-    (at : rule ≡ get_or rules i rule) where
-  ends : rule.end ≡ Never
-  ends = ap (λ r. r.end) at ∙ endless i rule l
-
+module _ (kind : Kind) (start first end : ℤ) (rules : List Rule) (i : ℕ) (rule : Rule) (l : i < length rules) (at : rule ≡ get_or rules i rule) where
   -- those of the first rules, and of one more
   more : take (i + 1) rules ≡ take i rules ++ rule ∷ []
   more = take_more rules i rule l ∙ ap (λ r. take i rules ++ r ∷ []) (sym at)
 
   module _ (sets : List (List ℕ)) (numbers : List ℕ) where
-    pub first_folded : i ≡ 0 → IsFoldedTo (chosen_of rule kind start) first end sets numbers
+    pub first_folded : i ≡ 0 → IsFoldedTo (members_of kind start rule) first end sets numbers
         → IsFoldedTo (members_of_rules kind start (take 1 rules)) first end sets numbers
     first_folded zero folded =
         let none : take i rules ≡ [] = ap (λ n. take n rules) zero in
         let alone : take 1 rules ≡ rule ∷ [] = ap (λ n. take (n + 1) rules) (sym zero) ∙ more ∙ ap (λ xs. xs ++ rule ∷ []) none in
         subst (λ xs. IsFoldedTo (members_of_rules kind start xs) first end sets numbers) (sym alone)
-        (folded_same (chosen_of rule kind start) (members_of_rules kind start (rule ∷ [])) (first_rule kind start rule ends) first end sets numbers folded)
+        (folded_same (members_of kind start rule) (members_of_rules kind start (rule ∷ [])) (first_rule kind start rule) first end sets numbers folded)
 
     pub next_folded : (one : List (List ℕ)) (ones : List ℕ) (other : List (List ℕ)) (others : List ℕ)
-        → IsFoldedTo (members_of_rules kind start (take i rules)) first end one ones → IsFoldedTo (chosen_of rule kind start) first end other others
+        → IsFoldedTo (members_of_rules kind start (take i rules)) first end one ones → IsFoldedTo (members_of kind start rule) first end other others
         → end ≡ first +ℤ pos (length ones) → end ≡ first +ℤ pos (length others) → AreCombined Union one ones other others sets numbers
         → IsFoldedTo (members_of_rules kind start (take (i + 1) rules)) first end sets numbers
     next_folded one ones other others folded by_rule long as_long combined =
         subst (λ xs. IsFoldedTo (members_of_rules kind start xs) first end sets numbers) (sym more)
-        (combined_folded Union (members_of_rules kind start (take i rules ++ rule ∷ [])) (members_of_rules kind start (take i rules)) (chosen_of rule kind start)
-        first end one ones other others sets numbers folded by_rule long as_long (next_rule kind start (take i rules) rule ends) combined)
+        (combined_folded Union (members_of_rules kind start (take i rules ++ rule ∷ [])) (members_of_rules kind start (take i rules)) (members_of kind start rule)
+        first end one ones other others sets numbers folded by_rule long as_long (next_rule kind start (take i rules) rule) combined)
 
 -- all of them
 pub all_folded : (kind : Kind) (start first end : ℤ) (rules : List Rule) (i : ℕ) (sets : List (List ℕ)) (numbers : List ℕ) → length rules ≤ i
     → IsFoldedTo (members_of_rules kind start (take i rules)) first end sets numbers → IsFoldedTo (members_of_rules kind start rules) first end sets numbers
 all_folded kind start first end rules i sets numbers l folded =
     subst (λ xs. IsFoldedTo (members_of_rules kind start xs) first end sets numbers) (take_all i rules l) folded
-
--- ---- the series
-
-module _ (series : Series) (first end : ℤ) (sound : IsSound series) (alone : HasRulesAlone series first) where
-  -- without excluded rules its days are those of its rules
-  pub given_folded : (sets : List (List ℕ)) (numbers : List ℕ) → series.excluded ≡ []
-      → IsFoldedTo (members_of_rules series.kind series.start series.rules) first end sets numbers → IsFoldedTo (tree_of series) first end sets numbers
-  given_folded sets numbers none folded =
-      folded_same (members_of_rules series.kind series.start series.rules) (tree_of series) (λ d s. sym (rules_alone series first sound alone d s
-      ∙ none_excluded series.kind series.start series.excluded d s none (stands_at (members_of_rules series.kind series.start series.rules) d s)))
-      first end sets numbers folded
-
-  -- else these without the days of the excluded ones
-  pub left_folded : (one : List (List ℕ)) (ones : List ℕ) (other : List (List ℕ)) (others : List ℕ) (sets : List (List ℕ)) (numbers : List ℕ)
-      → IsFoldedTo (members_of_rules series.kind series.start series.rules) first end one ones
-      → IsFoldedTo (members_of_rules series.kind series.start series.excluded) first end other others
-      → end ≡ first +ℤ pos (length ones) → end ≡ first +ℤ pos (length others) → AreCombined Minus one ones other others sets numbers
-      → IsFoldedTo (tree_of series) first end sets numbers
-  left_folded one ones other others sets numbers folded out long as_long made =
-      combined_folded Minus (tree_of series) (members_of_rules series.kind series.start series.rules)
-      (members_of_rules series.kind series.start series.excluded)
-      first end one ones other others sets numbers folded out long as_long (rules_alone series first sound alone) made
 
 -- ---- what a call gives
 

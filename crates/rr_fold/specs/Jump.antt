@@ -1,5 +1,5 @@
 -- Whole cycles of a counted rule that are not walked.
-use Rattle.std.specs.Prelude.{◌≡◌, ℕ, ◌+◌, ◌*◌, ◌%◌, ◌<◌, ◌≤◌, List, [], ◌∷◌, length, get_or, ℤ, pos, ◌+ℤ◌}
+use Rattle.std.specs.Prelude.{◌≡◌, ℕ, ◌+◌, ◌*◌, ◌%◌, ◌<◌, ◌≤◌, List, length, get_or, ℤ, pos, ◌+ℤ◌}
 use Rattle.rr_iter.specs.Ends.{before_day}
 use Rattle.rr_model.specs.Moment.{day_part}
 use Rattle.rr_model.specs.Rule.Cycle.{rule_cycle}
@@ -7,7 +7,6 @@ use Rattle.rr_model.specs.Sets.Tree.{chosen_of}
 use Rattle.rr_model.specs.declared.kind.Kind.{Kind}
 use Rattle.rr_model.specs.declared.rule.End.TheVariants.{Count}
 use Rattle.rr_model.specs.declared.rule.Rule.{Rule}
-use Rattle.rr_model.specs.declared.rule.Series.{Series}
 use Rattle.rr_fold.specs.declared.jump.Jump.{Jump}
 
 -- as many days as some whole cycles have, one cycle at least
@@ -33,16 +32,10 @@ pub record IsCountedJump (rule : Rule) (kind : Kind) (start : ℤ) (count days :
   pub sum : jump.count + jump.cycles * each ≡ count
   pub long : (jump.cycle + 1) + jump.cycles * jump.cycle ≤ days
 
--- The series is one rule with COUNT from this first day on, and its days before the end have n whole cycles more than one.
-pub record IsJump (series : Series) (start_day end : ℤ) (jump : Jump) : Type 0 where
-  pub rule : Rule
+-- The rule has COUNT, and its days before the end have n whole cycles more than one.
+pub record IsJump (rule : Rule) (kind : Kind) (start end : ℤ) (jump : Jump) : Type 0 where
   pub count : ℕ
   pub days : ℕ
-  pub rules : series.rules ≡ rule ∷ []
-  pub excluded : series.excluded ≡ []
-  pub plus : series.plus ≡ []
-  pub minus : series.minus ≡ []
   pub ends : rule.end ≡ Count count
-  pub begins : start_day ≡ day_part series.kind series.start
-  pub whole : end ≡ start_day +ℤ pos days
-  pub counted : IsCountedJump rule series.kind series.start count days jump
+  pub whole : end ≡ day_part kind start +ℤ pos days
+  pub counted : IsCountedJump rule kind start count days jump

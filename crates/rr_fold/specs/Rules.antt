@@ -1,8 +1,8 @@
--- Series of endless rules and endless excluded rules alone.
-use Rattle.std.specs.Prelude.{◌≡◌, ◌≢◌, List, [], All, ℤ}
+-- Series that are folded rule by rule.
+use Rattle.std.specs.Prelude.{◌≡◌, ◌≢◌, List, [], All, filter, int_le, ℤ, ◌≤ℤ◌, ◌<ℤ◌}
 use Rattle.rr_model.specs.Moment.{day_part}
 use Rattle.rr_model.specs.Series.Tree.{members_of_all}
-use Rattle.rr_model.specs.Sets.Tree.{Tree, many}
+use Rattle.rr_model.specs.Sets.Tree.{Tree, dates_of, except, many, union}
 use Rattle.rr_model.specs.declared.kind.Kind.{Kind}
 use Rattle.rr_model.specs.declared.rule.End.TheVariants.{Never}
 use Rattle.rr_model.specs.declared.rule.Rule.{Rule}
@@ -12,15 +12,24 @@ use Rattle.rr_model.specs.declared.rule.Series.{Series}
 abbrev pub AreEndless : List Rule → Type 0
 AreEndless rules = All (λ rule. rule.end ≡ Never) rules
 
--- a rule at least, none of which has an end, no excluded rule with an end, no dates, and the start lies on this day
-pub record HasRulesAlone (series : Series) (first : ℤ) : Type 0 where
+-- a rule at least, and a start from the first day on and before the end
+pub record HasRules (series : Series) (first end : ℤ) : Type 0 where
   pub some : series.rules ≢ []
-  pub endless : AreEndless series.rules
-  pub excluded_endless : AreEndless series.excluded
-  pub plus : series.plus ≡ []
-  pub minus : series.minus ≡ []
-  pub begins : first ≡ day_part series.kind series.start
+  pub begun : first ≤ℤ day_part series.kind series.start
+  pub within : day_part series.kind series.start <ℤ end
 
 -- the members of each rule
 abbrev pub members_of_rules : Kind → ℤ → List Rule → Tree
 members_of_rules kind start rules = many (members_of_all kind start rules)
+
+-- the dates on a day or after it
+abbrev pub dates_from : Kind → ℤ → List ℤ → List ℤ
+dates_from kind first dates = filter (λ t. int_le first (day_part kind t)) dates
+
+-- the dates added from a day on, and the members of the rules
+abbrev pub given_from : Series → ℤ → Tree
+given_from series first = union (dates_of series.kind (dates_from series.kind first series.plus)) (members_of_rules series.kind series.start series.rules)
+
+-- these, except the members of the excluded rules
+abbrev pub kept_from : Series → ℤ → Tree
+kept_from series first = except (given_from series first) (members_of_rules series.kind series.start series.excluded)

@@ -6,15 +6,13 @@ ghost use Rattle.rr_model.specs.Series.Tree.{tree_of};
 ghost use Rattle.rr_model.specs.declared.refusal.Refusal.TheVariants.{TooManyMoments};
 ghost use Rattle.rr_lazy.specs.Next.{IsUnasked};
 ghost use Rattle.rr_fold.specs.Folding.{HasNoneBefore, IsFoldedTo};
-ghost use Rattle.rr_fold.specs.Jump.{IsJump};
-ghost use Rattle.rr_fold.specs.Rules.{HasRulesAlone};
+ghost use Rattle.rr_fold.specs.Rules.{HasRules};
 
-use crate::jump::{Jump, days_left_out, jump_of, spliced};
-use crate::rules::{days_alone, has_rules_alone};
+use crate::rules::{days_by_rules, goes_by_rules};
 use crate::walk::Walk;
 use rr_check::Checked;
-use rr_iter::{RuleLazy, occurrences};
-use rr_lazy::{FirstN, Lazy};
+use rr_iter::occurrences;
+use rr_lazy::Lazy;
 use rr_model::Fault;
 use rr_runs::Pages;
 use rr_shapes::Shapes;
@@ -29,7 +27,8 @@ pub struct FoldedDays {
     pub shapes: Shapes,
 }
 
-/// The days of a series from one on and below another, where no day before the first is occupied.
+/// The days of a series from one on and below another, where no day before the first is occupied: rule by rule where that pays,
+/// and day by day else, or where a rule, or some of them together, ask for too much.
 pub fn folded_days(
     alloc: Global,
     series: &Checked,
@@ -44,24 +43,8 @@ pub fn folded_days(
     ensures whole { IfOk result (λ days. end ≡ first +ℤ pos (length days.numbers)) }
     ensures refused { RefusedExactlyWhere (HasTooManyMoments (tree_of series.now) end) TooManyMoments result }
 {
-    match jump_of(alloc, series, first, end)? {
-        Some(jump) => jumped(alloc, series, first, end, jump),
-        None => not_jumped(alloc, series, first, end),
-    }
-}
-
-// The days, rule by rule where the series has endless rules and endless excluded rules alone; where that asks for too much, day by day.
-fn not_jumped(alloc: Global, series: &Checked, first: i64, end: i64) -> Result<FoldedDays, Fault>
-    requires low { neg_ℤ (pos 719_162) ≤ℤ first }
-    requires order { first <ℤ end }
-    requires high { end ≤ℤ pos 40_000_000 }
-    requires early { HasNoneBefore (tree_of series.now) first }
-    ensures folded { IfOk result (λ days. IsFoldedTo (tree_of series.now) first end days.shapes days.numbers) }
-    ensures whole { IfOk result (λ days. end ≡ first +ℤ pos (length days.numbers)) }
-    ensures refused { RefusedExactlyWhere (HasTooManyMoments (tree_of series.now) end) TooManyMoments result }
-{
-    if has_rules_alone(series.series(), first) {
-        if let Ok(days) = days_alone(alloc, series, end) {
+    if goes_by_rules(series.series(), first, end) {
+        if let Ok(days) = days_by_rules(alloc, series, first, end) {
             return Ok(days);
         }
     }
@@ -80,43 +63,6 @@ fn walked(alloc: Global, series: &Checked, first: i64, end: i64) -> Result<Folde
 {
     let lazy = occurrences(alloc, series)?;
     collected(alloc, lazy, first, end)
-}
-
-// The days, of which whole cycles are copied.
-fn jumped(
-    alloc: Global,
-    series: &Checked,
-    first: i64,
-    end: i64,
-    jump: Jump,
-) -> Result<FoldedDays, Fault>
-    requires low { neg_ℤ (pos 719_162) ≤ℤ first }
-    requires order { first <ℤ end }
-    requires high { end ≤ℤ pos 40_000_000 }
-    requires early { HasNoneBefore (tree_of series.now) first }
-    requires jump { IsJump series.now first end jump }
-    ensures folded { IfOk result (λ days. IsFoldedTo (tree_of series.now) first end days.shapes days.numbers) }
-    ensures whole { IfOk result (λ days. end ≡ first +ℤ pos (length days.numbers)) }
-    ensures refused { RefusedExactlyWhere (HasTooManyMoments (tree_of series.now) end) TooManyMoments result }
-{
-    let given = series.series();
-    let chosen = RuleLazy::new(alloc, &given.rules.as_slice()[0], given.kind, given.start)?;
-    let lazy = FirstN::new(chosen, jump.count);
-    match collected(alloc, lazy, first, end - days_left_out(jump)) {
-        Ok(days) => {
-            let numbers = spliced(
-                alloc,
-                &days.numbers,
-                jump.cycle as usize,
-                jump.cycles as usize,
-            )?;
-            Ok(FoldedDays {
-                numbers,
-                shapes: days.shapes,
-            })
-        }
-        Err(fault) => Err(fault),
-    }
 }
 
 // The days of an iterator that was not asked yet, from one on and below another.

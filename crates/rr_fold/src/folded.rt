@@ -25,9 +25,9 @@ use std::alloc::Global;
 /// have together more than `MAX_SECONDS` seconds.
 ///
 /// It keeps four bytes for nine weeks of these days, and the numbers of each distinct nine weeks once: four bytes a day where
-/// no two are alike. While the days of two rules are united or excluded days are taken out it keeps three such lists. Of a
-/// single rule with COUNT and nothing beside it the days of a few cycles are walked. Of endless rules, and of endless excluded
-/// ones, the days of one year of each kind are walked, where the series has no dates and no other rules that end: of rules of
+/// no two are alike. While the days of two rules are united or excluded days are taken out it keeps three such lists. A series
+/// of more than 200,000 days is folded rule by rule, and so are one rule alone and endless rules alone; any other is walked day by
+/// day. Of a rule with COUNT the days of a few cycles are walked, and of an endless one those of one year of each kind: of rules of
 /// whole days that leave no unit out, and of rules of hours, minutes or seconds, whose years also differ by the place of their
 /// first day in the rule's period. The others are copied.
 pub fn fold(alloc: Global, series: &Checked) -> Result<Folded, Fault>

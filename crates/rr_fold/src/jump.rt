@@ -1,13 +1,17 @@
-// Whole cycles of a rule with COUNT that are not walked.
-ghost use Rattle.std.specs.Prelude.{◌≡◌, ◌+◌, ◌*◌, ◌<◌, ◌≤◌, ◌≤ℤ◌, ◌<ℤ◌, IfOk, IfSome, length, neg_ℤ, pos};
+// The days of a rule with COUNT.
+ghost use Rattle.std.specs.Prelude.{◌≡◌, ◌+◌, ◌*◌, ◌<◌, ◌≤◌, ◌≤ℤ◌, ◌<ℤ◌, ◌+ℤ◌, IfOk, IfSome, length, pos};
+ghost use Rattle.rr_model.specs.Moment.{day_part};
 ghost use Rattle.rr_model.specs.Rule.Cycle.{rule_cycle};
+ghost use Rattle.rr_model.specs.Series.Tree.{members_of};
+ghost use Rattle.rr_model.specs.declared.rule.End.TheVariants.{Count};
 ghost use Rattle.rr_iter.specs.Ends.{IsSoundRule};
+ghost use Rattle.rr_fold.specs.Folding.{IsFoldedTo};
 ghost use Rattle.rr_fold.specs.Jump.{AreWholeCycles, IsCountedJump, IsJump, IsSpliced};
 
-use crate::fill::days_between;
-use rr_check::Checked;
-use rr_iter::{Place, find};
-use rr_model::{End, Kind, NoMemory, Rule, day_part};
+use crate::fill::{FoldedDays, collected, days_between};
+use rr_iter::{EndedLazy, Place, RuleLazy, find};
+use rr_lazy::FirstN;
+use rr_model::{Fault, Kind, NoMemory, Rule, day_part};
 use rr_num::day_cycle;
 use rr_runs::Pages;
 use std::alloc::Global;
@@ -15,46 +19,113 @@ use std::alloc::Global;
 // How many numbers stand on a page: numbers that repeat by a multiple of it are kept once.
 const PAGE: usize = 63;
 
-/// Whole cycles after the first one, which hold the same days again, and the count that a rule has without their members.
+// Whole cycles after the first one, which hold the same days again, and the count that a rule has without their members.
 #[derive(Clone, Copy)]
-pub struct Jump {
-    /// The days of a cycle.
-    pub cycle: u64,
-    /// How many cycles are left out.
-    pub cycles: u64,
-    /// The count without them.
-    pub count: u64,
+struct Jump {
+    // The days of a cycle.
+    cycle: u64,
+    // How many cycles are left out.
+    cycles: u64,
+    // The count without them.
+    count: u64,
 }
 
-/// The whole cycles that can be left out of the days of a series that is one rule with COUNT and nothing beside it. None for a
-/// series with another rule, an excluded rule, dates or an UNTIL, and where its days or its count end within the first cycle.
-pub fn jump_of(
+/// The days of a rule with COUNT, from its start's day on and below another: of whole cycles after the first one, which hold the
+/// same days again, the days are copied, and those of the others are walked. `TooManyMoments` where the distinct sets of the days
+/// that are walked have together more than `MAX_SECONDS` seconds.
+pub fn days_counted(
     alloc: Global,
-    series: &Checked,
-    first: i64,
+    rule: &Rule,
+    kind: Kind,
+    start: i64,
+    count: u64,
+    end: i64,
+) -> Result<FoldedDays, Fault>
+    requires sound { IsSoundRule kind start rule.now }
+    requires ends { rule.now.end ≡ Count count }
+    requires order { day_part kind start <ℤ end }
+    requires high { end ≤ℤ pos 40_000_000 }
+    ensures folded { IfOk result (λ days. IsFoldedTo (members_of kind start rule.now) (day_part kind start) end days.shapes days.numbers) }
+    ensures whole { IfOk result (λ days. end ≡ day_part kind start +ℤ pos (length days.numbers)) }
+{
+    match jump_of(alloc, rule, kind, start, count, end)? {
+        Some(jump) => jumped(alloc, rule, kind, start, end, jump),
+        None => days_ended(alloc, rule, kind, start, end),
+    }
+}
+
+// The days of a rule, each walked up to its end.
+pub(crate) fn days_ended(
+    alloc: Global,
+    rule: &Rule,
+    kind: Kind,
+    start: i64,
+    end: i64,
+) -> Result<FoldedDays, Fault>
+    requires sound { IsSoundRule kind start rule.now }
+    requires order { day_part kind start <ℤ end }
+    requires high { end ≤ℤ pos 40_000_000 }
+    ensures folded { IfOk result (λ days. IsFoldedTo (members_of kind start rule.now) (day_part kind start) end days.shapes days.numbers) }
+    ensures whole { IfOk result (λ days. end ≡ day_part kind start +ℤ pos (length days.numbers)) }
+{
+    let lazy = EndedLazy::new(alloc, rule, kind, start)?;
+    collected(alloc, lazy, day_part(kind, start), end)
+}
+
+// The days of a rule with COUNT, of which whole cycles are copied.
+fn jumped(
+    alloc: Global,
+    rule: &Rule,
+    kind: Kind,
+    start: i64,
+    end: i64,
+    jump: Jump,
+) -> Result<FoldedDays, Fault>
+    requires sound { IsSoundRule kind start rule.now }
+    requires order { day_part kind start <ℤ end }
+    requires high { end ≤ℤ pos 40_000_000 }
+    requires jump { IsJump rule.now kind start end jump }
+    ensures folded { IfOk result (λ days. IsFoldedTo (members_of kind start rule.now) (day_part kind start) end days.shapes days.numbers) }
+    ensures whole { IfOk result (λ days. end ≡ day_part kind start +ℤ pos (length days.numbers)) }
+{
+    let first = day_part(kind, start);
+    let chosen = RuleLazy::new(alloc, rule, kind, start)?;
+    let lazy = FirstN::new(chosen, jump.count);
+    let days = collected(alloc, lazy, first, end - days_left_out(jump))?;
+    let numbers = spliced(
+        alloc,
+        &days.numbers,
+        jump.cycle as usize,
+        jump.cycles as usize,
+    )?;
+    Ok(FoldedDays {
+        numbers,
+        shapes: days.shapes,
+    })
+}
+
+// The whole cycles of a rule with COUNT that can be left out of the days from its start's on and below another. None where its
+// days or its count end within the first cycle.
+fn jump_of(
+    alloc: Global,
+    rule: &Rule,
+    kind: Kind,
+    start: i64,
+    count: u64,
     end: i64,
 ) -> Result<Option<Jump>, NoMemory>
-    requires low { neg_ℤ (pos 719_162) ≤ℤ first }
-    requires order { first <ℤ end }
+    requires sound { IsSoundRule kind start rule.now }
+    requires ends { rule.now.end ≡ Count count }
+    requires order { day_part kind start <ℤ end }
     requires high { end ≤ℤ pos 40_000_000 }
-    ensures { IfOk result (λ r. IfSome r (IsJump series.now first end)) }
+    ensures { IfOk result (λ r. IfSome r (IsJump rule.now kind start end)) }
 {
-    let given = series.series();
-    let others = given.plus.as_slice().len()
-        + given.minus.as_slice().len()
-        + given.excluded.as_slice().len();
-    let [rule] = given.rules.as_slice() else {
-        return Ok(None);
-    };
-    let End::Count(count) = rule.end else {
-        return Ok(None);
-    };
-    let days = days_between(first, end) as u64;
+    let days = days_between(day_part(kind, start), end) as u64;
     let cycle = day_cycle(rule).min(100_000_000) as u64;
-    if others > 0 || cycle >= days || first != day_part(given.kind, given.start) {
+    if cycle >= days {
         return Ok(None);
     }
-    counted_jump(alloc, rule, given.kind, given.start, count, cycle, days)
+    counted_jump(alloc, rule, kind, start, count, cycle, days)
 }
 
 // The cycles of a rule with COUNT that can be left out of the `days` days from its start's on; none where the count ends
@@ -91,16 +162,16 @@ fn counted_jump(
     }))
 }
 
-/// How many days are left out: `cycles` times `cycle`.
-pub fn days_left_out(jump: Jump) -> i64
+// How many days are left out: `cycles` times `cycle`.
+fn days_left_out(jump: Jump) -> i64
     requires { jump.cycles * jump.cycle ≤ 100_000_000 }
     ensures { result ≡ pos (jump.cycles * jump.cycle) }
 {
     (jump.cycles * jump.cycle) as i64
 }
 
-/// The numbers with the `cycle` numbers that follow the first one put in after it `cycles` times more.
-pub fn spliced(
+// The numbers with the `cycle` numbers that follow the first one put in after it `cycles` times more.
+fn spliced(
     alloc: Global,
     numbers: &Pages,
     cycle: usize,

@@ -2,6 +2,7 @@
 #![tactic(auto)]
 
 mod combined;
+mod dates;
 mod fill;
 mod first_day;
 mod folded;

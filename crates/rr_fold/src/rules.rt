@@ -1,33 +1,73 @@
-// The days of a series of endless rules and endless excluded rules alone, rule by rule.
-ghost use Rattle.std.specs.Prelude.{◌≡◌, ◌≢◌, ◌<ℤ◌, ◌≤ℤ◌, ◌+ℤ◌, [], All, IfOk, length, pos, true};
+// The days of a series, rule by rule.
+ghost use Rattle.std.specs.Prelude.{◌≡◌, ◌≢◌, ◌<ℤ◌, ◌≤ℤ◌, ◌+ℤ◌, [], All, IfOk, length, neg_ℤ, pos, true};
 ghost use Rattle.rr_model.specs.Moment.{day_part};
 ghost use Rattle.rr_model.specs.Moment.Years.{IsInYears};
 ghost use Rattle.rr_model.specs.Rule.Validity.{IsValidRule};
-ghost use Rattle.rr_model.specs.Series.Tree.{tree_of};
+ghost use Rattle.rr_model.specs.Series.Soundness.{IsSound};
+ghost use Rattle.rr_model.specs.Series.Tree.{members_of, tree_of};
 ghost use Rattle.rr_model.specs.Sets.Tree.{chosen_of};
-ghost use Rattle.rr_fold.specs.Folding.{IsFoldedTo};
-ghost use Rattle.rr_fold.specs.Rules.{AreEndless, HasRulesAlone, members_of_rules};
+ghost use Rattle.rr_iter.specs.Ends.{IsSoundRule};
+ghost use Rattle.rr_fold.specs.Folding.{HasNoneBefore, IsFoldedTo};
+ghost use Rattle.rr_fold.specs.Rules.{AreEndless, HasRules, given_from, kept_from, members_of_rules};
 
 use crate::combined::{Op, combined};
-use crate::fill::{FoldedDays, collected};
+use crate::dates::{days_of_dates, led_by_free};
+use crate::fill::{FoldedDays, collected, days_between};
+use crate::jump::{days_counted, days_ended};
 use crate::years::{days_by_years, year_period};
 use rr_check::Checked;
 use rr_iter::RuleLazy;
 use rr_model::{End, Fault, Kind, Rule, Series, day_part};
 use std::alloc::Global;
 
-/// Whether a series has endless rules, at least one, endless excluded rules or none, and no RDATE or EXDATE, and `first` is
-/// its start's day.
-pub fn has_rules_alone(series: &Series, first: i64) -> bool
-    ensures { result ≡ true → HasRulesAlone series.now first }
+// A series with dates, or with several rules some of which end, is folded rule by rule where it has more days than these.
+const MANY_DAYS: i64 = 200_000;
+
+/// Whether the days of a series from one on and below another are folded rule by rule. It has a rule at least, and its start lies
+/// among them; and it has many days, or no dates and either one rule alone or endless rules alone. Any other series goes day by day.
+pub fn goes_by_rules(series: &Series, first: i64, end: i64) -> bool
+    requires sound { IsSound series.now }
+    requires low { neg_ℤ (pos 719_162) ≤ℤ first }
+    requires order { first <ℤ end }
+    requires high { end ≤ℤ pos 40_000_000 }
+    ensures { result ≡ true → HasRules series.now first end }
+{
+    pays(series, first, end) && has_rules(series, first, end)
+}
+
+// Whether so many days are folded, or such a series, that it takes less time rule by rule.
+fn pays(series: &Series, first: i64, end: i64) -> bool
+    requires low { neg_ℤ (pos 719_162) ≤ℤ first }
+    requires order { first <ℤ end }
+    requires high { end ≤ℤ pos 40_000_000 }
+{
+    end - first > MANY_DAYS || has_rules_alone(series)
+}
+
+// Whether a series has a rule at least, and its start lies from one day on and below another.
+fn has_rules(series: &Series, first: i64, end: i64) -> bool
+    requires { IsSound series.now }
+    ensures { result ≡ true → HasRules series.now first end }
+{
+    if series.rules.is_empty() {
+        return false;
+    }
+    let day = day_part(series.kind, series.start);
+    if day < first {
+        return false;
+    }
+    day < end
+}
+
+// Whether a series has no RDATE or EXDATE, and either one rule and no excluded rule, or endless ones alone.
+fn has_rules_alone(series: &Series) -> bool
+    ensures { result ≡ true → (series.now.plus ≡ []) × (series.now.minus ≡ []) }
 {
     let rules = series.rules.as_slice();
-    !rules.is_empty()
-        && series.plus.is_empty()
+    let excluded = series.excluded.as_slice();
+    series.plus.is_empty()
         && series.minus.is_empty()
-        && first == day_part(series.kind, series.start)
-        && are_endless(rules)
-        && are_endless(series.excluded.as_slice())
+        && (rules.len() + excluded.len() == 1 || are_endless(rules) && are_endless(excluded))
 }
 
 // Whether no rule has an end.
@@ -43,31 +83,96 @@ fn are_endless(rules: &[Rule]) -> bool
     true
 }
 
-/// The days of a series of endless rules and endless excluded rules alone, from its start's day on and below `end`: those of
-/// its rules without those of its excluded rules.
+/// The days of a series from one on, before which none is occupied, and below another: those of its rules and of the dates added,
+/// without those of its excluded rules and of the dates taken out.
 ///
-/// `TooManyMoments` where the days of one rule, of some rules together or of the excluded ones have too many seconds. The days
-/// of the series itself may have fewer: whether it is refused is told by walking it.
-pub fn days_alone(alloc: Global, series: &Checked, end: i64) -> Result<FoldedDays, Fault>
-    requires alone { HasRulesAlone series.now (day_part series.now.kind series.now.start) }
-    requires order { day_part series.now.kind series.now.start <ℤ end }
+/// `TooManyMoments` where the days of one rule, of some rules together, of dates or of the excluded rules have too many seconds.
+/// The days of the series itself may have fewer: whether it is refused is told by walking it.
+pub fn days_by_rules(
+    alloc: Global,
+    series: &Checked,
+    first: i64,
+    end: i64,
+) -> Result<FoldedDays, Fault>
+    requires rules { HasRules series.now first end }
+    requires low { neg_ℤ (pos 719_162) ≤ℤ first }
     requires high { end ≤ℤ pos 40_000_000 }
-    ensures folded { IfOk result (λ days. IsFoldedTo (tree_of series.now) (day_part series.now.kind series.now.start) end days.shapes days.numbers) }
-    ensures whole { IfOk result (λ days. end ≡ day_part series.now.kind series.now.start +ℤ pos (length days.numbers)) }
+    requires early { HasNoneBefore (tree_of series.now) first }
+    ensures folded { IfOk result (λ days. IsFoldedTo (tree_of series.now) first end days.shapes days.numbers) }
+    ensures whole { IfOk result (λ days. end ≡ first +ℤ pos (length days.numbers)) }
 {
     let given = series.series();
-    let kind = given.kind;
-    let start = given.start;
-    let days = days_of_rules(alloc, kind, start, given.rules.as_slice(), end)?;
-    if given.excluded.is_empty() {
+    let days = kept_days(alloc, given, first, end)?;
+    if given.minus.is_empty() {
         return Ok(days);
     }
-    let out = days_of_rules(alloc, kind, start, given.excluded.as_slice(), end)?;
+    let out = days_of_dates(alloc, given.kind, &given.minus, first, end)?;
     combined(alloc, Op::Minus, &days, &out)
 }
 
-// The days of endless rules together, from their start's day on and below another.
+// The days of the rules and of the dates added from one on and below another, without those of the excluded rules.
+fn kept_days(alloc: Global, series: &Series, first: i64, end: i64) -> Result<FoldedDays, Fault>
+    requires sound { IsSound series.now }
+    requires rules { HasRules series.now first end }
+    requires low { neg_ℤ (pos 719_162) ≤ℤ first }
+    requires high { end ≤ℤ pos 40_000_000 }
+    ensures folded { IfOk result (λ days. IsFoldedTo (kept_from series.now first) first end days.shapes days.numbers) }
+    ensures whole { IfOk result (λ days. end ≡ first +ℤ pos (length days.numbers)) }
+{
+    let days = given_days(alloc, series, first, end)?;
+    if series.excluded.is_empty() {
+        return Ok(days);
+    }
+    let excluded = series.excluded.as_slice();
+    let out = days_of_rules(alloc, series.kind, series.start, excluded, first, end)?;
+    combined(alloc, Op::Minus, &days, &out)
+}
+
+// The days of the rules and of the dates added, from one on and below another.
+fn given_days(alloc: Global, series: &Series, first: i64, end: i64) -> Result<FoldedDays, Fault>
+    requires sound { IsSound series.now }
+    requires rules { HasRules series.now first end }
+    requires low { neg_ℤ (pos 719_162) ≤ℤ first }
+    requires high { end ≤ℤ pos 40_000_000 }
+    ensures folded { IfOk result (λ days. IsFoldedTo (given_from series.now first) first end days.shapes days.numbers) }
+    ensures whole { IfOk result (λ days. end ≡ first +ℤ pos (length days.numbers)) }
+{
+    let rules = series.rules.as_slice();
+    let days = days_of_rules(alloc, series.kind, series.start, rules, first, end)?;
+    if series.plus.is_empty() {
+        return Ok(days);
+    }
+    let dates = days_of_dates(alloc, series.kind, &series.plus, first, end)?;
+    combined(alloc, Op::Union, &dates, &days)
+}
+
+// The days of rules together, from one on that is not after their start's and below another.
 fn days_of_rules(
+    alloc: Global,
+    kind: Kind,
+    start: i64,
+    rules: &[Rule],
+    first: i64,
+    end: i64,
+) -> Result<FoldedDays, Fault>
+    requires some { rules.now ≢ [] }
+    requires sound { All (IsSoundRule kind start) rules.now }
+    requires in_years { IsInYears kind start }
+    requires low { neg_ℤ (pos 719_162) ≤ℤ first }
+    requires begun { first ≤ℤ day_part kind start }
+    requires order { day_part kind start <ℤ end }
+    requires high { end ≤ℤ pos 40_000_000 }
+    ensures folded { IfOk result (λ days. IsFoldedTo (members_of_rules kind start rules.now) first end days.shapes days.numbers) }
+    ensures whole { IfOk result (λ days. end ≡ first +ℤ pos (length days.numbers)) }
+{
+    let days = days_from_start(alloc, kind, start, rules, end)?;
+    let free = days_between(first, day_part(kind, start));
+    let led = led_by_free(alloc, days, free)?;
+    Ok(led)
+}
+
+// The days of rules together, from their start's day on and below another.
+fn days_from_start(
     alloc: Global,
     kind: Kind,
     start: i64,
@@ -75,8 +180,7 @@ fn days_of_rules(
     end: i64,
 ) -> Result<FoldedDays, Fault>
     requires some { rules.now ≢ [] }
-    requires endless { AreEndless rules.now }
-    requires valid { All (IsValidRule kind) rules.now }
+    requires sound { All (IsSoundRule kind start) rules.now }
     requires in_years { IsInYears kind start }
     requires order { day_part kind start <ℤ end }
     requires high { end ≤ℤ pos 40_000_000 }
@@ -91,8 +195,29 @@ fn days_of_rules(
     Ok(days)
 }
 
-// The days that a rule chooses, from its start's day on and below another.
+// The days of a rule's members, from its start's day on and below another.
 fn days_of_rule(
+    alloc: Global,
+    rule: &Rule,
+    kind: Kind,
+    start: i64,
+    end: i64,
+) -> Result<FoldedDays, Fault>
+    requires sound { IsSoundRule kind start rule.now }
+    requires order { day_part kind start <ℤ end }
+    requires high { end ≤ℤ pos 40_000_000 }
+    ensures folded { IfOk result (λ days. IsFoldedTo (members_of kind start rule.now) (day_part kind start) end days.shapes days.numbers) }
+    ensures whole { IfOk result (λ days. end ≡ day_part kind start +ℤ pos (length days.numbers)) }
+{
+    match rule.end {
+        End::Never => days_chosen(alloc, rule, kind, start, end),
+        End::Count(count) => days_counted(alloc, rule, kind, start, count, end),
+        _ => days_ended(alloc, rule, kind, start, end),
+    }
+}
+
+// The days that a rule chooses, from its start's day on and below another.
+fn days_chosen(
     alloc: Global,
     rule: &Rule,
     kind: Kind,

@@ -1,32 +1,16 @@
-use Rattle.std.proofs.Common.{ap, sym, subst, ◌∙◌, arith, w64, to_z, of_z, to_z-of_z}
-use Rattle.std.proofs.lemmas.Int.{ints}
-use Rattle.rr_iter.proofs.StepLemmas.{before_start}
-use Rattle.rr_model.proofs.YearLemmas.{four_digit_bounds}
+use Rattle.std.proofs.Common.{sym, subst, to_z-of_z}
+use Rattle.std.specs.Prelude.{IfOk}
 use Rattle.rr_model.specs.Moment.{day_part}
+use Rattle.rr_model.specs.Series.Tree.{ended}
 use Rattle.rr_model.specs.Sets.Tree.{chosen_of}
-use Rattle.rr_fold.specs.Folding.{HasNoneBefore}
-use Rattle.rr_days.proofs.BackLemmas.{day_back}
+use Rattle.rr_fold.specs.Folding.{IsFoldedTo}
+use Rattle.rr_fold.specs.declared.fill.FoldedDays.{FoldedDays}
 use Rattle.rr_fold.proofs.rules.days_of_rule.Goals as goal
 
-pub collected-requires-clause-low : goal.collected-requires-clause-low
-collected-requires-clause-low c =
-    let day = day_back c.args.kind c.args.start c.day_part.result c.requires.in_years c.day_part.ensures in
-    omega (arith, ints, day, (four_digit_bounds (day_part c.args.kind c.args.start) c.requires.in_years).0)
-
-pub collected-requires-clause-early : goal.collected-requires-clause-early
-collected-requires-clause-early c =
-    let day = day_back c.args.kind c.args.start c.day_part.result c.requires.in_years c.day_part.ensures in
-    let tree = c.in_ok-lazy.ensures.tree ∙ ap (chosen_of c.args.rule.now c.args.kind) (to_z-of_z c.ranges.start) in
-    subst (λ t. HasNoneBefore t (to_z w64 (of_z w64 c.day_part.result))) (sym tree)
-    (λ d s l. before_start c.args.rule.now c.args.kind c.args.start d s (omega (arith, ints, l, day)))
-
-pub returns-clause-folded : goal.returns-clause-folded
-returns-clause-folded c =
-    let day = day_back c.args.kind c.args.start c.day_part.result c.requires.in_years c.day_part.ensures in
-    let tree = c.in_ok-lazy.ensures.tree ∙ ap (chosen_of c.args.rule.now c.args.kind) (to_z-of_z c.ranges.start) in
-    rw (tree, day, to_z-of_z c.ranges.end) at c.collected.ensures.folded
-
-pub returns-clause-whole : goal.returns-clause-whole
-returns-clause-whole c =
-    let day = day_back c.args.kind c.args.start c.day_part.result c.requires.in_years c.day_part.ensures in
-    rw (day, to_z-of_z c.ranges.end) at c.collected.ensures.whole
+pub returns-in-Never-clause-folded : goal.returns-in-Never-clause-folded
+returns-in-Never-clause-folded c =
+    let rule = c.args.rule.now in
+    let kind = c.args.kind in
+    let start = c.args.start in
+    subst (λ e. IfOk c.days_chosen.result (λ (days : FoldedDays). IsFoldedTo (ended kind e (chosen_of rule kind start)) (day_part kind start) c.args.end days.shapes days.numbers))
+    (sym c.in-Never.is) (rw (to_z-of_z c.ranges.start, to_z-of_z c.ranges.end) at c.days_chosen.ensures.folded)

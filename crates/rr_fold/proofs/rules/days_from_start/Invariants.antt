@@ -2,7 +2,7 @@ use Rattle.std.proofs.Common.{◌≡◌, ◌+◌, ◌+ℤ◌, length, pos, take}
 use Rattle.rr_model.specs.Moment.{day_part}
 use Rattle.rr_fold.specs.Folding.{IsFoldedTo}
 use Rattle.rr_fold.specs.Rules.{members_of_rules}
-use Rattle.rr_fold.proofs.rules.days_of_rules.Given as goal
+use Rattle.rr_fold.proofs.rules.days_from_start.Given as goal
 
 abbrev pub invariant-loop-rule : goal.invariant-loop-rule
 invariant-loop-rule l =

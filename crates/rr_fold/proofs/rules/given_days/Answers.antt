@@ -1,0 +1,68 @@
+use Rattle.std.proofs.Common.{◌≡◌, ℤ, length, pos, ◌+ℤ◌, refl, sym, ◌∙◌, arith, to_z-of_z}
+use Rattle.std.proofs.lemmas.Int.{ints}
+use Rattle.rr_iter.proofs.AloneLemmas.{none_is}
+use Rattle.rr_iter.proofs.SettledLemmas.{rules_are_sound}
+use Rattle.rr_model.specs.Sets.Tree.{dates_of}
+use Rattle.rr_days.proofs.BackLemmas.{moment_back}
+use Rattle.rr_fold.specs.Combined.{AreCombined}
+use Rattle.rr_fold.specs.Folding.{IsFoldedTo}
+use Rattle.rr_fold.specs.Rules.{dates_from, given_from, members_of_rules}
+use Rattle.rr_fold.specs.declared.combined.Op.TheVariants.{Union}
+use Rattle.rr_fold.specs.declared.fill.FoldedDays.{FoldedDays}
+use Rattle.rr_fold.proofs.ByRulesLemmas.{no_plus}
+use Rattle.rr_fold.proofs.CombinedFoldLemmas.{combined_folded, numbers_within}
+use Rattle.rr_fold.proofs.RulesFoldLemmas.{if_ok_map}
+use Rattle.rr_fold.proofs.SameTreeLemmas.{folded_same}
+use Rattle.rr_fold.proofs.rules.given_days.Goals as goal
+
+pub days_of_rules-requires-clause-some : goal.days_of_rules-requires-clause-some
+days_of_rules-requires-clause-some c = rw c.as_slice-rules.ensures c.requires.rules.some
+
+pub days_of_rules-requires-clause-sound : goal.days_of_rules-requires-clause-sound
+days_of_rules-requires-clause-sound c =
+    let s = c.args.series.now in
+    rw (c.as_slice-rules.ensures, moment_back s.kind s.start c.requires.sound.valid.start) (rules_are_sound s c.requires.sound)
+
+pub returns-then-is_empty-clause-folded : goal.returns-then-is_empty-clause-folded
+returns-then-is_empty-clause-folded c =
+    let s = c.args.series.now in
+    let start = moment_back s.kind s.start c.requires.sound.valid.start in
+    let days = c.in_ok-days.days in
+    let none = none_is s.plus (sym c.is_empty.ensures ∙ c.if-is_empty.true) in
+    folded_same (members_of_rules s.kind s.start s.rules) (given_from s c.args.first) (no_plus s c.args.first none) c.args.first c.args.end days.shapes days.numbers
+    (rw (start, to_z-of_z c.ranges.first, to_z-of_z c.ranges.end, c.as_slice-rules.ensures) at c.in_ok-days.ensures.folded)
+
+pub combined-requires-clause-long : goal.combined-requires-clause-long
+combined-requires-clause-long c = omega (arith, ints, c.in_ok-days.ensures.whole, c.in_ok-dates.ensures.whole)
+
+pub combined-requires-clause-empty : goal.combined-requires-clause-empty
+combined-requires-clause-empty c = (c.in_ok-dates.ensures.folded.empty, c.in_ok-days.ensures.folded.empty)
+
+pub combined-requires-clause-ones : goal.combined-requires-clause-ones
+combined-requires-clause-ones c = numbers_within _ _ _ c.in_ok-dates.dates.shapes c.in_ok-dates.dates.numbers c.in_ok-dates.ensures.folded
+
+pub combined-requires-clause-others : goal.combined-requires-clause-others
+combined-requires-clause-others c = numbers_within _ _ _ c.in_ok-days.days.shapes c.in_ok-days.days.numbers c.in_ok-days.ensures.folded
+
+pub returns-clause-folded : goal.returns-clause-folded
+returns-clause-folded c =
+    let s = c.args.series.now in
+    let start = moment_back s.kind s.start c.requires.sound.valid.start in
+    let f = to_z-of_z c.ranges.first in
+    let e = to_z-of_z c.ranges.end in
+    let days = c.in_ok-days.days in
+    let dates = c.in_ok-dates.dates in
+    if_ok_map (λ (made : FoldedDays). AreCombined Union dates.shapes dates.numbers days.shapes days.numbers made.shapes made.numbers)
+    (λ made. IsFoldedTo (given_from s c.args.first) c.args.first c.args.end made.shapes made.numbers)
+    (λ made h. combined_folded Union (given_from s c.args.first) (dates_of s.kind (dates_from s.kind c.args.first s.plus))
+    (members_of_rules s.kind s.start s.rules) c.args.first c.args.end dates.shapes dates.numbers days.shapes days.numbers made.shapes made.numbers
+    (rw (f, e) at c.in_ok-dates.ensures.folded) (rw (start, f, e, c.as_slice-rules.ensures) at c.in_ok-days.ensures.folded)
+    (rw (f, e) at c.in_ok-dates.ensures.whole) (rw (f, e) at c.in_ok-days.ensures.whole) (λ d x. refl) h) c.combined.result c.combined.ensures
+
+pub returns-clause-whole : goal.returns-clause-whole
+returns-clause-whole c =
+    let days = c.in_ok-days.days in
+    let dates = c.in_ok-dates.dates in
+    let whole = rw (to_z-of_z c.ranges.first, to_z-of_z c.ranges.end) at c.in_ok-dates.ensures.whole in
+    if_ok_map (λ (made : FoldedDays). AreCombined Union dates.shapes dates.numbers days.shapes days.numbers made.shapes made.numbers)
+    (λ made. c.args.end ≡ c.args.first +ℤ pos (length made.numbers)) (λ made h. omega (arith, ints, whole, h.whole)) c.combined.result c.combined.ensures

@@ -1,0 +1,66 @@
+use Rattle.std.proofs.Common.{◌≡◌, ℤ, length, pos, ◌+ℤ◌, refl, sym, ◌∙◌, arith, to_z-of_z}
+use Rattle.std.proofs.lemmas.Int.{ints}
+use Rattle.rr_iter.proofs.SettledLemmas.{excluded_are_sound}
+use Rattle.rr_days.proofs.BackLemmas.{moment_back}
+use Rattle.rr_fold.specs.Combined.{AreCombined}
+use Rattle.rr_fold.specs.Folding.{IsFoldedTo}
+use Rattle.rr_fold.specs.Rules.{given_from, kept_from, members_of_rules}
+use Rattle.rr_fold.specs.declared.combined.Op.TheVariants.{Minus}
+use Rattle.rr_fold.specs.declared.fill.FoldedDays.{FoldedDays}
+use Rattle.rr_fold.proofs.ByRulesLemmas.{no_excluded}
+use Rattle.rr_fold.proofs.CombinedFoldLemmas.{combined_folded, numbers_within}
+use Rattle.rr_fold.proofs.RulesFoldLemmas.{if_ok_map, none_listed, some_listed}
+use Rattle.rr_fold.proofs.SameTreeLemmas.{folded_same}
+use Rattle.rr_fold.proofs.rules.kept_days.Goals as goal
+
+pub returns-then-is_empty-clause-folded : goal.returns-then-is_empty-clause-folded
+returns-then-is_empty-clause-folded c =
+    let s = c.args.series.now in
+    let days = c.in_ok-days.days in
+    let none = none_listed s.excluded (sym c.is_empty.ensures ∙ c.if-is_empty.true) in
+    folded_same (given_from s c.args.first) (kept_from s c.args.first) (no_excluded s c.args.first none) c.args.first c.args.end days.shapes days.numbers
+    (rw (to_z-of_z c.ranges.first, to_z-of_z c.ranges.end) at c.in_ok-days.ensures.folded)
+
+pub days_of_rules-requires-clause-some : goal.days_of_rules-requires-clause-some
+days_of_rules-requires-clause-some c =
+    rw c.as_slice-excluded.ensures (some_listed c.args.series.now.excluded (sym c.is_empty.ensures ∙ c.if-is_empty.false))
+
+pub days_of_rules-requires-clause-sound : goal.days_of_rules-requires-clause-sound
+days_of_rules-requires-clause-sound c =
+    let s = c.args.series.now in
+    rw (c.as_slice-excluded.ensures, moment_back s.kind s.start c.requires.sound.valid.start) (excluded_are_sound s c.requires.sound)
+
+pub combined-requires-clause-long : goal.combined-requires-clause-long
+combined-requires-clause-long c = omega (arith, ints, c.in_ok-days.ensures.whole, c.in_ok-out.ensures.whole)
+
+pub combined-requires-clause-empty : goal.combined-requires-clause-empty
+combined-requires-clause-empty c = (c.in_ok-days.ensures.folded.empty, c.in_ok-out.ensures.folded.empty)
+
+pub combined-requires-clause-ones : goal.combined-requires-clause-ones
+combined-requires-clause-ones c = numbers_within _ _ _ c.in_ok-days.days.shapes c.in_ok-days.days.numbers c.in_ok-days.ensures.folded
+
+pub combined-requires-clause-others : goal.combined-requires-clause-others
+combined-requires-clause-others c = numbers_within _ _ _ c.in_ok-out.out.shapes c.in_ok-out.out.numbers c.in_ok-out.ensures.folded
+
+pub returns-clause-folded : goal.returns-clause-folded
+returns-clause-folded c =
+    let s = c.args.series.now in
+    let start = moment_back s.kind s.start c.requires.sound.valid.start in
+    let f = to_z-of_z c.ranges.first in
+    let e = to_z-of_z c.ranges.end in
+    let days = c.in_ok-days.days in
+    let out = c.in_ok-out.out in
+    if_ok_map (λ (made : FoldedDays). AreCombined Minus days.shapes days.numbers out.shapes out.numbers made.shapes made.numbers)
+    (λ made. IsFoldedTo (kept_from s c.args.first) c.args.first c.args.end made.shapes made.numbers)
+    (λ made h. combined_folded Minus (kept_from s c.args.first) (given_from s c.args.first) (members_of_rules s.kind s.start s.excluded)
+    c.args.first c.args.end days.shapes days.numbers out.shapes out.numbers made.shapes made.numbers
+    (rw (f, e) at c.in_ok-days.ensures.folded) (rw (start, f, e, c.as_slice-excluded.ensures) at c.in_ok-out.ensures.folded)
+    (rw (f, e) at c.in_ok-days.ensures.whole) (rw (f, e) at c.in_ok-out.ensures.whole) (λ d x. refl) h) c.combined.result c.combined.ensures
+
+pub returns-clause-whole : goal.returns-clause-whole
+returns-clause-whole c =
+    let days = c.in_ok-days.days in
+    let out = c.in_ok-out.out in
+    let whole = rw (to_z-of_z c.ranges.first, to_z-of_z c.ranges.end) at c.in_ok-days.ensures.whole in
+    if_ok_map (λ (made : FoldedDays). AreCombined Minus days.shapes days.numbers out.shapes out.numbers made.shapes made.numbers)
+    (λ made. c.args.end ≡ c.args.first +ℤ pos (length made.numbers)) (λ made h. omega (arith, ints, whole, h.whole)) c.combined.result c.combined.ensures

@@ -1,0 +1,74 @@
+// The days of dates, and days with free ones before them.
+ghost use Rattle.std.specs.Prelude.{◌≡◌, ◌++◌, ◌≤◌, ◌≤ℤ◌, ◌<ℤ◌, ◌+ℤ◌, All, IfOk, OnOk, if◌then◌else◌, int_le, int_lt, length, neg_ℤ, pos, replicate};
+ghost use Rattle.rr_model.specs.Moment.{day_part};
+ghost use Rattle.rr_model.specs.Moment.Years.{IsInYears};
+ghost use Rattle.rr_model.specs.Rising.{with_value};
+ghost use Rattle.rr_model.specs.Sets.Tree.{dates_of};
+ghost use Rattle.rr_fold.specs.Folding.{IsFoldedTo};
+ghost use Rattle.rr_fold.specs.Rules.{dates_from};
+
+use crate::fill::{FoldedDays, collected};
+use rr_lazy::DatesLazy;
+use rr_model::{Dates, Fault, Kind, NoMemory, day_part};
+use rr_runs::Pages;
+use std::alloc::Global;
+
+/// The days of the dates that lie on a day or after it, from that day on and below another. `TooManyMoments` where their distinct
+/// sets have together more than `MAX_SECONDS` seconds.
+pub fn days_of_dates(
+    alloc: Global,
+    kind: Kind,
+    dates: &Dates,
+    first: i64,
+    end: i64,
+) -> Result<FoldedDays, Fault>
+    requires in_years { All (IsInYears kind) dates.now }
+    requires low { neg_ℤ (pos 719_162) ≤ℤ first }
+    requires order { first <ℤ end }
+    requires high { end ≤ℤ pos 40_000_000 }
+    ensures folded { IfOk result (λ days. IsFoldedTo (dates_of kind (dates_from kind first dates.now)) first end days.shapes days.numbers) }
+    ensures whole { IfOk result (λ days. end ≡ first +ℤ pos (length days.numbers)) }
+{
+    let later = dates_from(alloc, kind, dates, first)?;
+    let lazy = DatesLazy::new(kind, later);
+    collected(alloc, lazy, first, end)
+}
+
+// The dates that lie on a day or after it.
+fn dates_from(alloc: Global, kind: Kind, dates: &Dates, first: i64) -> Result<Dates, NoMemory>
+    requires { All (IsInYears kind) dates.now }
+    ensures { IfOk result (λ later. later ≡ dates_from kind first dates.now) }
+{
+    let mut later = Dates::new(alloc);
+    for date in dates.as_slice() {
+        put_from(&mut later, kind, *date, first)?;
+    }
+    Ok(later)
+}
+
+// Puts a date that lies on a day or after it.
+fn put_from(later: &mut Dates, kind: Kind, date: i64, first: i64) -> Result<(), NoMemory>
+    ensures { OnOk result (later.new ≡ (if int_le first (day_part kind date) then with_value int_lt later.old date else later.old)) }
+{
+    if day_part(kind, date) < first {
+        return Ok(());
+    }
+    later.put(date)
+}
+
+/// The days with so many free ones before them.
+pub fn led_by_free(alloc: Global, days: FoldedDays, free: usize) -> Result<FoldedDays, NoMemory>
+    ensures shapes { IfOk result (λ led. led.shapes ≡ days.shapes) }
+    ensures numbers { IfOk result (λ led. led.numbers ≡ replicate free 0 ++ days.numbers) }
+{
+    if free == 0 {
+        return Ok(days);
+    }
+    let mut numbers = Pages::new(alloc);
+    numbers.push_same(0, free)?;
+    numbers.push_from(&days.numbers, 0, days.numbers.len())?;
+    Ok(FoldedDays {
+        numbers,
+        shapes: days.shapes,
+    })
+}
