@@ -1,29 +1,23 @@
 -- Set positions of days that have one time each: a day on which a position is has that time.
-use Rattle.std.proofs.Common.{◌≡◌, ℕ, ◌+◌, ◌*◌, ◌<◌, ◌≤◌, true, false, List, [], length, get_or, Contains, ℤ, pos, ◌≤ℤ◌, refl, sym, ap, ◌∙◌, subst, arith}
-use Rattle.std.specs.Prelude.{Option, Some, None, IsTrue, int_lt, nat_lt, take}
-use Rattle.std.proofs.lemmas.Int.{ints}
+use Rattle.std.proofs.Common.{◌≡◌, ℕ, ◌*◌, ◌<◌, ◌≤◌, true, false, List, [], length, get_or, Contains, ℤ, pos, refl, sym, ap, ◌∙◌, subst, arith}
+use Rattle.std.specs.Prelude.{Option, Some, None, IsTrue, nat_lt}
 use Rattle.std.proofs.lemmas.List.{get_or_default}
 use Rattle.std.proofs.lemmas.List.Elements.{Contains-get_or}
 use Rattle.std.proofs.Math.Seq.{take-length}
-use Rattle.rr_model.specs.Moment.{day_part, moment_at}
+use Rattle.rr_model.specs.Moment.{moment_at}
 use Rattle.rr_model.specs.Moment.Units.{is_whole_days}
 use Rattle.rr_model.specs.Rising.Sets.{IsSetOf}
 use Rattle.rr_model.specs.Rule.Chosen.{is_chosen}
 use Rattle.rr_model.specs.Rule.DaysAndTimes.{IsCandidateTime, seconds_of}
 use Rattle.rr_model.specs.Rule.Validity.{is_absent}
 use Rattle.rr_model.specs.Sets.Tree.{Tree, chosen_of, stands_at}
-use Rattle.rr_model.specs.declared.kind.Kind.{Kind}
-use Rattle.rr_model.specs.declared.kind.Kind.TheVariants.{Days, Moments}
-use Rattle.rr_model.proofs.RisingSetLemmas.{Contains-none, one_list_of_seconds, set_empty}
-use Rattle.rr_lazy.specs.Next.{IsWithin, with_set}
-use Rattle.rr_lazy.specs.DayTimes.{DayTimes}
+use Rattle.rr_model.proofs.RisingSetLemmas.{one_list_of_seconds}
+use Rattle.rr_lazy.specs.Next.{with_set}
 use Rattle.rr_lazy.specs.declared.occupied_day.OccupiedDay.{OccupiedDay}
 use Rattle.rr_iter.specs.Ruling.{AreUnitDays, Ruling}
-use Rattle.rr_iter.specs.SetPositions.{HasPositionOn, IsAtSome, IsNextPlace}
+use Rattle.rr_iter.specs.SetPositions.{HasPositionOn, IsAtSome}
 use Rattle.rr_iter.specs.Walk.{IsDayWith, IsFirstOf, IsFirstOfIn, IsFirstSecond, IsOnDay}
-use Rattle.rr_iter.proofs.DayListLemmas.{PassedDays, nothing_in, passed_empty, passed_found}
 use Rattle.rr_iter.proofs.PlainLemmas.{few_seconds}
-use Rattle.rr_iter.proofs.PositionDayLemmas.{passed_next}
 use Rattle.rr_iter.proofs.SetPositionLemmas.{candidate_at, chosen_at_places}
 use Rattle.rr_iter.proofs.WalkLemmas.{seconds_of_day}
 

@@ -1,9 +1,8 @@
-use Rattle.std.proofs.Common.{◌≡◌, ◌≤◌, ℤ, pos, ◌+ℤ◌, ◌≤ℤ◌, refl, inl, inr, arith, w64, to_z, of_z, to_z-of_z, ◌∙◌, FitsSigned, rules}
+use Rattle.std.proofs.Common.{◌≡◌, ◌≤◌, ℤ, pos, ◌+ℤ◌, ◌≤ℤ◌, refl, inl, inr, arith, w64, to_z, of_z, to_z-of_z, FitsSigned, rules}
 use Rattle.std.proofs.lemmas.Int.{ints}
 use Rattle.rr_model.specs.Moment.Units.{unit_number}
 use Rattle.rr_model.specs.declared.kind.Kind.TheVariants.{Days}
 use Rattle.rr_lazy.specs.Next.{with_set}
-use Rattle.rr_iter.specs.Ruling.{IsSameRuling}
 use Rattle.rr_iter.proofs.PositionDayLemmas.{same_ruling}
 use Rattle.rr_iter.proofs.WalkLemmas.{unit_bounds, between_near, walked_more, walked_found, walked_past, walked_all}
 use Rattle.rr_iter.proofs.day_rule.DayRule.first_at_positions.Goals as goal

@@ -1,4 +1,4 @@
-use Rattle.std.proofs.Common.{ap, length, rules, FitsSigned, w64, to_z-of_z}
+use Rattle.std.proofs.Common.{ap, length, to_z-of_z}
 use Rattle.rr_model.specs.Rule.DaysAndTimes.{IsCandidateTime}
 use Rattle.rr_iter.proofs.AlonePlaceLemmas.{numbered}
 use Rattle.rr_iter.proofs.day_rule.DayRule.with_times.Goals as goal
