@@ -12,7 +12,7 @@ use Rattle.rr_model.specs.Moment.Years.{IsInYears}
 use Rattle.rr_model.specs.Rule.Candidate.{lists}
 use Rattle.rr_model.specs.Rule.Validity.{IsValidRule}
 use Rattle.rr_model.specs.Series.Soundness.{FitsStart, IsSound}
-use Rattle.rr_model.specs.Series.Tree.{dates_with_start, ended, members_of, members_of_all, tree_of}
+use Rattle.rr_model.specs.Series.Tree.{ended, members_of, members_of_all, tree_of}
 use Rattle.rr_model.specs.Sets.Tree.{Tree, chosen_of, has_second, is_among, some_stands_at, stands_at, stands_in}
 use Rattle.rr_model.specs.declared.kind.Kind.{Kind}
 use Rattle.rr_model.specs.declared.rule.End.{End}

@@ -1,12 +1,11 @@
 -- Days with free ones before them.
-use Rattle.std.proofs.Common.{◌≡◌, ℕ, ◌+◌, ◌-◌, ◌<◌, ◌≤◌, List, [], ◌++◌, length, length-append, get_or, ℤ, pos, ◌+ℤ◌, sym, ap, subst, ◌∙◌, inl, inr, arith}
-use Rattle.std.specs.Prelude.{IsTrue, nat_lt, replicate, true}
+use Rattle.std.proofs.Common.{◌≡◌, ℕ, ◌+◌, ◌-◌, ◌<◌, List, ◌++◌, length, length-append, get_or, ℤ, pos, ◌+ℤ◌, sym, ap, ◌∙◌, inl, inr, arith}
+use Rattle.std.specs.Prelude.{IsTrue, nat_lt, replicate}
 use Rattle.std.proofs.lemmas.Bool.{cases_lt, false≢true}
 use Rattle.std.proofs.Math.ListN.{get_or-append}
 use Rattle.std.proofs.lemmas.Int.{ints}
 use Rattle.std.proofs.lemmas.List.{get_or-append-add, get_or-replicate, length-replicate}
 use Rattle.rr_model.proofs.RisingSetLemmas.{set_empty}
-use Rattle.rr_model.specs.Rising.Sets.{IsSetOf}
 use Rattle.rr_model.specs.Sets.Tree.{Tree, stands_at}
 use Rattle.rr_fold.specs.Folding.{IsFoldedTo, IsNumbered}
 

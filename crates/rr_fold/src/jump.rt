@@ -171,12 +171,7 @@ fn days_left_out(jump: Jump) -> i64
 }
 
 // The numbers with the `cycle` numbers that follow the first one put in after it `cycles` times more.
-fn spliced(
-    alloc: Global,
-    numbers: &Pages,
-    cycle: usize,
-    cycles: usize,
-) -> Result<Pages, NoMemory>
+fn spliced(alloc: Global, numbers: &Pages, cycle: usize, cycles: usize) -> Result<Pages, NoMemory>
     requires some { 1 ≤ cycle }
     requires long { cycle + 1 ≤ length numbers.now }
     requires few { length numbers.now + cycles * cycle ≤ 100_000_000 }

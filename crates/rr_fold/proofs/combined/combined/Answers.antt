@@ -1,4 +1,4 @@
-use Rattle.std.proofs.Common.{◌≡◌, length, sym, ◌∙◌, arith, refl}
+use Rattle.std.proofs.Common.{◌≡◌, length, arith, refl}
 use Rattle.rr_fold.proofs.CombinedLemmas.{all_combined, combined_none}
 use Rattle.rr_fold.proofs.combined.combined.Goals as goal
 

@@ -1,9 +1,8 @@
-use Rattle.std.proofs.Common.{ap, sym, subst, ◌∙◌, arith, w64, to_z, of_z, to_z-of_z}
+use Rattle.std.proofs.Common.{◌∙◌, arith, to_z-of_z}
 use Rattle.std.proofs.lemmas.Int.{ints}
 use Rattle.rr_model.proofs.YearLemmas.{four_digit_bounds}
 use Rattle.rr_model.specs.Moment.{day_part}
 use Rattle.rr_model.specs.Series.Tree.{members_of}
-use Rattle.rr_fold.specs.Folding.{HasNoneBefore}
 use Rattle.rr_days.proofs.BackLemmas.{day_back}
 use Rattle.rr_fold.proofs.ByRulesLemmas.{members_early}
 use Rattle.rr_fold.proofs.jump.days_ended.Goals as goal

@@ -1,9 +1,9 @@
-use Rattle.std.proofs.Common.{◌≡◌, pos, ◌+ℤ◌, length, ◌∙◌, ap, sym, subst, arith, w64, to_z, of_z, to_z-of_z}
+use Rattle.std.proofs.Common.{◌∙◌, sym, subst, arith, w64, to_z, of_z, to_z-of_z}
 use Rattle.std.proofs.lemmas.Int.{ints}
 use Rattle.rr_model.proofs.YearLemmas.{four_digit_bounds}
 use Rattle.rr_model.specs.Moment.{day_part}
 use Rattle.rr_model.specs.Sets.Tree.{chosen_of, first_n}
-use Rattle.rr_fold.specs.Folding.{HasNoneBefore, IsFoldedTo}
+use Rattle.rr_fold.specs.Folding.{HasNoneBefore}
 use Rattle.rr_days.proofs.BackLemmas.{day_back}
 use Rattle.rr_fold.proofs.JumpedLemmas.{early_end, jumped_folded, jumped_whole, left_out, some_cycle, spliced_few, spliced_long, walked_early}
 use Rattle.rr_fold.proofs.jump.jumped.Goals as goal

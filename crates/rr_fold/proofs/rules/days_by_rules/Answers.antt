@@ -1,4 +1,4 @@
-use Rattle.std.proofs.Common.{◌≡◌, ℤ, length, pos, ◌+ℤ◌, refl, sym, subst, ◌∙◌, arith, to_z-of_z}
+use Rattle.std.proofs.Common.{◌≡◌, length, pos, ◌+ℤ◌, sym, subst, ◌∙◌, arith, to_z-of_z}
 use Rattle.std.proofs.lemmas.Int.{ints}
 use Rattle.rr_iter.proofs.AloneLemmas.{none_is}
 use Rattle.rr_model.specs.Series.Soundness.{IsSound}
@@ -6,7 +6,7 @@ use Rattle.rr_model.specs.Series.Tree.{tree_of}
 use Rattle.rr_model.specs.Sets.Tree.{dates_of}
 use Rattle.rr_fold.specs.Combined.{AreCombined}
 use Rattle.rr_fold.specs.Folding.{IsFoldedTo}
-use Rattle.rr_fold.specs.Rules.{HasRules, dates_from, kept_from}
+use Rattle.rr_fold.specs.Rules.{dates_from, kept_from}
 use Rattle.rr_fold.specs.declared.combined.Op.TheVariants.{Minus}
 use Rattle.rr_fold.specs.declared.fill.FoldedDays.{FoldedDays}
 use Rattle.rr_fold.proofs.ByRulesLemmas.{no_minus, series_alike}

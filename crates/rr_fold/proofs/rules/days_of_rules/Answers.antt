@@ -1,5 +1,4 @@
-use Rattle.std.proofs.Common.{◌≡◌, pos, ◌+ℤ◌, arith, to_z-of_z}
-use Rattle.std.proofs.lemmas.Int.{ints}
+use Rattle.std.proofs.Common.{◌≡◌, pos, ◌+ℤ◌, to_z-of_z}
 use Rattle.rr_model.specs.Moment.{day_part}
 use Rattle.rr_days.proofs.BackLemmas.{day_back}
 use Rattle.rr_fold.specs.Rules.{members_of_rules}

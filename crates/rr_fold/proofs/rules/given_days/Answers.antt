@@ -1,4 +1,4 @@
-use Rattle.std.proofs.Common.{◌≡◌, ℤ, length, pos, ◌+ℤ◌, refl, sym, ◌∙◌, arith, to_z-of_z}
+use Rattle.std.proofs.Common.{◌≡◌, length, pos, ◌+ℤ◌, refl, sym, ◌∙◌, arith, to_z-of_z}
 use Rattle.std.proofs.lemmas.Int.{ints}
 use Rattle.rr_iter.proofs.AloneLemmas.{none_is}
 use Rattle.rr_iter.proofs.SettledLemmas.{rules_are_sound}

@@ -1,4 +1,4 @@
-use Rattle.std.proofs.Common.{◌≡◌, ℤ, length, pos, ◌+ℤ◌, refl, sym, ◌∙◌, arith, to_z-of_z}
+use Rattle.std.proofs.Common.{◌≡◌, length, pos, ◌+ℤ◌, refl, sym, ◌∙◌, arith, to_z-of_z}
 use Rattle.std.proofs.lemmas.Int.{ints}
 use Rattle.rr_iter.proofs.SettledLemmas.{excluded_are_sound}
 use Rattle.rr_days.proofs.BackLemmas.{moment_back}

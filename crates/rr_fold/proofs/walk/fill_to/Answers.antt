@@ -1,4 +1,4 @@
-use Rattle.std.proofs.Common.{◌-◌, length, arith}
+use Rattle.std.proofs.Common.{◌-◌, arith}
 use Rattle.rr_fold.proofs.WalkLemmas.{filled_to}
 use Rattle.rr_fold.proofs.walk.fill_to.Goals as goal
 

@@ -1,4 +1,4 @@
-use Rattle.std.proofs.Common.{◌≡◌, ◌<◌, length, sym, arith}
+use Rattle.std.proofs.Common.{sym, arith}
 use Rattle.rr_fold.proofs.CombinedLemmas.{combined_on_free, longer_free}
 use Rattle.rr_fold.proofs.combined.CombinedSets.push_next.Goals as goal
 

@@ -1,4 +1,4 @@
-use Rattle.std.proofs.Common.{◌≡◌, ℤ, pos, neg_ℤ, ◌<ℤ◌, rules, refl, ◌≤◌, length, subst, FitsSigned, ◌-ℤ◌, ◌+ℤ◌, ◌≤ℤ◌, sym, ◌∙◌, arith, w64, to_z, of_z}
+use Rattle.std.proofs.Common.{◌≡◌, ℤ, pos, neg_ℤ, ◌<ℤ◌, rules, subst, FitsSigned, ◌-ℤ◌, ◌+ℤ◌, ◌≤ℤ◌, sym, ◌∙◌, arith, w64, to_z, of_z}
 use Rattle.std.proofs.Common.{to_z-of_z}
 use Rattle.std.proofs.lemmas.Int.{ints}
 use Rattle.rr_model.specs.Series.Limits.{HasTooManyMoments}

@@ -1,4 +1,4 @@
-use Rattle.std.proofs.Common.{◌*◌, ℤ, length, refl, arith}
+use Rattle.std.proofs.Common.{ℤ, refl, arith}
 use Rattle.std.specs.Prelude.{None}
 use Rattle.rr_model.specs.declared.rule.Rule.{Rule}
 use Rattle.rr_fold.proofs.YearWalkLemmas.{none_kept}

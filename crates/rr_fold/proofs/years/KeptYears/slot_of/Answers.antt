@@ -1,4 +1,4 @@
-use Rattle.std.proofs.Common.{◌≡◌, ℕ, ◌+◌, ◌*◌, ◌%◌, ◌<◌, ap, ◌∙◌, pos, arith, to_z-of_z}
+use Rattle.std.proofs.Common.{ℕ, ◌+◌, ◌*◌, ◌%◌, ◌<◌, ap, ◌∙◌, pos, arith, to_z-of_z}
 use Rattle.rr_expand.specs.Years.{mask_key}
 use Rattle.rr_model.proofs.WholeLemmas.{floor_mod_below}
 use Rattle.rr_fold.proofs.years.KeptYears.slot_of.Goals as goal
