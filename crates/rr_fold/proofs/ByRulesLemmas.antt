@@ -84,7 +84,8 @@ no_plus series first none d s = sym (ap (λ b. b || stands_at (members_of_rules 
     (none_among series.kind first d s series.plus none))
 
 -- without an excluded rule all that is given is kept
-pub no_excluded : (series : Series) (first : ℤ) → series.excluded ≡ [] → (d : ℤ) (s : ℕ) → stands_at (given_from series first) d s ≡ stands_at (kept_from series first) d s
+pub no_excluded : (series : Series) (first : ℤ) → series.excluded ≡ [] → (d : ℤ) (s : ℕ)
+    → stands_at (given_from series first) d s ≡ stands_at (kept_from series first) d s
 no_excluded series first none d s = rw none (sym (and-true (stands_at (given_from series first) d s)))
 
 module _ (series : Series) (first end : ℤ) (sound : IsSound series) (has : HasRules series first end) (early : HasNoneBefore (tree_of series) first) where
@@ -95,7 +96,8 @@ module _ (series : Series) (first end : ℤ) (sound : IsSound series) (has : Has
       let b = rules_early series.kind series.start series.rules d s (omega (arith, ints, l, has.begun)) in
       let none = early d s l in
       none ∙ sym (ap (λ x. ((x || some_stands_at (members_of_all series.kind series.start series.rules) d s)
-      && not (some_stands_at (members_of_all series.kind series.start series.excluded) d s)) && not (is_among series.kind (dates_from series.kind first series.minus) d s)) a
+      && not (some_stands_at (members_of_all series.kind series.start series.excluded) d s))
+      && not (is_among series.kind (dates_from series.kind first series.minus) d s)) a
       ∙ ap (λ x. (x && not (some_stands_at (members_of_all series.kind series.start series.excluded) d s))
       && not (is_among series.kind (dates_from series.kind first series.minus) d s)) b)
 

@@ -12,5 +12,6 @@ returns-in-Never-clause-folded c =
     let rule = c.args.rule.now in
     let kind = c.args.kind in
     let start = c.args.start in
-    subst (λ e. IfOk c.days_chosen.result (λ (days : FoldedDays). IsFoldedTo (ended kind e (chosen_of rule kind start)) (day_part kind start) c.args.end days.shapes days.numbers))
+    subst (λ e. IfOk c.days_chosen.result (λ (days : FoldedDays).
+    IsFoldedTo (ended kind e (chosen_of rule kind start)) (day_part kind start) c.args.end days.shapes days.numbers))
     (sym c.in-Never.is) (rw (to_z-of_z c.ranges.start, to_z-of_z c.ranges.end) at c.days_chosen.ensures.folded)
