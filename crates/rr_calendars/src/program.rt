@@ -35,9 +35,7 @@ pub fn run<S: Source, K: Sink, W: Watch>(
     ensures complete { S.failed source.new ≡ S.failed source.old → (RoseOrIsLast (K.faults sink.old) (K.faults sink.new) → ⊥)
         → IfSome (contents (asked_of (words_of words.now)) (S.held source.old)) (λ files. (result.status ≡ Status.NoMemory) ⊎ ((answer : Answer) × IsAnswer (asked_of (words_of words.now)) files answer × (result.status ≡ answer.status))) }
 {
-    let worked_out = outcome_of(alloc, words, source, watch);
-    watch.ended();
-    match worked_out {
+    match outcome_of(alloc, words, source, watch) {
         Err(FetchError::Failed) => Ended {
             status: Status::ReadFault,
             in_utc: 0,

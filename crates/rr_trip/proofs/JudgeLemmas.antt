@@ -42,9 +42,9 @@ module _ (series checked : Series) (same : checked ≡ series) (sound : first_re
   }
 
   -- a limit refuses it, or memory was wanting
-  pub not_folded : {X : Type 0} (f : Fault) → IsJudged {X = X} checked (Err f) → IsFaultOf series f
-  not_folded (Refused r) judged = rw sound (subst (λ (s : Series). IsLimitRefusal all_limits s (Some r)) same judged)
-  not_folded NoMemory judged = tt
+  pub not_folded : (X : Type 0) (f : Fault) → IsJudged {X = X} checked (Err f) → IsFaultOf series f
+  not_folded X (Refused r) judged = rw sound (subst (λ (s : Series). IsLimitRefusal all_limits s (Some r)) same judged)
+  not_folded X NoMemory judged = tt
 
 -- ---- the events of a key
 

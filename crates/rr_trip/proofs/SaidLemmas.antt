@@ -94,13 +94,16 @@ both_stated offset (x ∷ xs) (y ∷ ys) s u line zones (Refused A refusal) na n
 both_stated offset (x ∷ xs) (y ∷ ys) s u line zones (Refused B refusal) na nb first stated z h =
     record { series = s; first = first; refused = refusal_stated offset (y ∷ ys) line u stated refusal h }
 both_stated offset (x ∷ xs) (y ∷ ys) s u line zones (Refused Both refusal) na nb first stated z h = absurd h
-both_stated offset (x ∷ xs) (y ∷ ys) s u line zones (Compared v one_zone) na nb first stated z h = (record {
-  series_a = s;
-  series_b = u;
-  first = first;
-  second = record { states = stated.states; unrefused = h.0 };
-  is_verdict = h.1;
-}, h.2 ∙ z)
+both_stated offset (x ∷ xs) (y ∷ ys) s u line zones (Compared v one_zone) na nb first stated z h = (
+  record {
+    series_a = s;
+    series_b = u;
+    first = first;
+    second = record { states = stated.states; unrefused = h.0 };
+    is_verdict = h.1;
+  },
+  h.2 ∙ z,
+)
 
 -- ---- a calendar without events of the key
 

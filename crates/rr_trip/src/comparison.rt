@@ -70,12 +70,8 @@ fn lines_of<W: Watch>(
     Ok(lines)
 }
 
-/// Compares two calendar files: each key of either has one line, in the order of the keys, which says what is so of its
-/// events. The offset is local time less UTC in seconds; see `rr_rrule::read`. The watch is told of each key that is judged.
-///
-/// A file is refused as a whole as `TooLong`, `NoEvents` or `BadLine`; then nothing is said of keys, and nothing of B where A is
-/// refused.
-pub fn compare<W: Watch>(
+// The report of two calendar files.
+fn report_of<W: Watch>(
     alloc: Global,
     offset: Option<i32>,
     old: &[u8],
@@ -90,4 +86,24 @@ pub fn compare<W: Watch>(
     Ok(Report {
         lines: lines_of(alloc, offset, &entries, watch)?,
     })
+}
+
+/// Compares two calendar files: each key of either has one line, in the order of the keys, which says what is so of its
+/// events. The offset is local time less UTC in seconds; see `rr_rrule::read`. The watch is told of each key that is judged, and
+/// that the comparison has ended.
+///
+/// A file is refused as a whole as `TooLong`, `NoEvents` or `BadLine`; then nothing is said of keys, and nothing of B where A is
+/// refused.
+pub fn compare<W: Watch>(
+    alloc: Global,
+    offset: Option<i32>,
+    old: &[u8],
+    new: &[u8],
+    watch: &mut W,
+) -> Result<Report, TripFault>
+    ensures { AnswersTrip offset old.now new.now result }
+{
+    let answered = report_of(alloc, offset, old, new, watch);
+    watch.ended();
+    answered
 }

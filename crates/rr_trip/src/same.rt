@@ -62,10 +62,7 @@ fn has_same_times(a: &Rule, b: &Rule) -> bool
 fn has_same_steps(a: &Rule, b: &Rule) -> bool
     ensures { result ≡ true → HasSameSteps a.now b.now }
 {
-    a.freq == b.freq
-        && a.interval == b.interval
-        && a.week_start == b.week_start
-        && a.end == b.end
+    a.freq == b.freq && a.interval == b.interval && a.week_start == b.week_start && a.end == b.end
 }
 
 // Whether two rules are the same.

@@ -1,11 +1,11 @@
 // What is told while calendars are compared.
 
-/// Is told how far a comparison is. What it does with that changes nothing else.
+/// Is told how far a comparison is, and when it has ended. What it does with that changes nothing else.
 pub trait Watch {
     /// So many keys are judged, of so many.
     fn judged(&mut self, keys: usize, of: usize);
 
-    /// Nothing more is judged.
+    /// The comparison has ended, with a report or without.
     fn ended(&mut self);
 }
 

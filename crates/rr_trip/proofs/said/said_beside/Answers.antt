@@ -29,13 +29,13 @@ returns-in-Ok-clause-printable c =
     printable c.args.a.now.series c.in-Ok.b.series (sketch c.args.a.now.days) (sketch c.in-Ok.b.days) c.requires.folded c.in-Ok.ensures.accepted.2 _
     c.verdict_on.result c.verdict_on.ensures
 
-pub returns-clause-said : goal.returns-clause-said
-returns-clause-said c =
+pub returns-in-Err-clause-said : goal.returns-in-Err-clause-said
+returns-in-Err-clause-said c =
     IfOk-weaker c.refusal_on.result _ _
     (λ x e. refused_beside c.args.a.now.series c.args.b.line c.args.b.series (have_one_zone (c.args.a.now.zones.items ++ c.args.b.zones.items)) c.in-Err.fault x
     c.in-Err.ensures.refused e)
     c.refusal_on.ensures
 
-pub returns-clause-printable : goal.returns-clause-printable
-returns-clause-printable c =
+pub returns-in-Err-clause-printable : goal.returns-in-Err-clause-printable
+returns-in-Err-clause-printable c =
     IfOk-weaker c.refusal_on.result _ _ (λ x e. refused-printable B c.in-Err.fault x e) c.refusal_on.ensures

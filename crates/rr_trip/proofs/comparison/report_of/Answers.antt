@@ -5,7 +5,7 @@ use Rattle.rr_trip.specs.Entries.{IsSortedOf, entries_of}
 use Rattle.rr_trip.specs.Report.{AreLinesOf}
 use Rattle.rr_trip.proofs.FaultLemmas.{refused_a, refused_b}
 use Rattle.rr_trip.proofs.ReportLemmas.{is_report}
-use Rattle.rr_trip.proofs.comparison.compare.Goals as goal
+use Rattle.rr_trip.proofs.comparison.report_of.Goals as goal
 
 pub returns : goal.returns
 returns g c =
