@@ -13,7 +13,7 @@ mod work;
 
 use exit::{NotRun, exit_number};
 pub use program::run;
-pub use progress::Progress;
+use progress::Progress;
 use rr_io::{HostSink, HostSource};
 pub use status::{Ended, Status};
 use std::env;

@@ -38,7 +38,7 @@ impl Display for Grouped {
 /// Tells on standard error how many events are compared, from a second after it was made on. A clock that can't be read tells
 /// nothing, and what can't be written is left out.
 #[derive(Drop)]
-pub struct Progress<R: Clock + Eprint + Drop> {
+pub(crate) struct Progress<R: Clock + Eprint + Drop> {
     rt: R,
     // When it was made, if it tells anything.
     begun: Option<Instant>,
@@ -49,7 +49,7 @@ pub struct Progress<R: Clock + Eprint + Drop> {
 
 impl<R: Clock + Eprint + Drop> Progress<R> {
     /// Nothing is told yet, and nothing will be where standard error is no terminal.
-    pub fn new(rt: R, is_terminal: bool) -> Self {
+    pub(crate) fn new(rt: R, is_terminal: bool) -> Self {
         let begun = if is_terminal {
             Instant::now(&rt).ok()
         } else {
