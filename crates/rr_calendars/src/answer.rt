@@ -8,7 +8,7 @@ ghost use Rattle.rr_trip.specs.Said.{IsPrintableSaid};
 use crate::status::Status;
 use crate::words::Request;
 use rr_model::NoMemory;
-use rr_trip::{Report, Said, TripFault, compare, is_in_utc, print, print_refusal, show};
+use rr_trip::{Report, Said, TripFault, Watch, compare, is_in_utc, print, print_refusal, show};
 use std::alloc::Global;
 
 /// What is to be put, and how the run then ends.
@@ -51,10 +51,16 @@ fn report_outcome(
 }
 
 // What is said of the report of two files.
-fn reported(alloc: Global, request: Request, old: &[u8], new: &[u8]) -> Result<Outcome, TripFault>
+fn reported<W: Watch>(
+    alloc: Global,
+    request: Request,
+    old: &[u8],
+    new: &[u8],
+    watch: &mut W,
+) -> Result<Outcome, TripFault>
     ensures { AnswersFiles (λ x. IsReported (request_in request.entry) old.now new.now (outcome_is x)) old.now new.now result }
 {
-    match compare(alloc, request.offset, old, new) {
+    match compare(alloc, request.offset, old, new, watch) {
         Ok(report) => Ok(report_outcome(alloc, request.only_differences, &report)?),
         Err(fault) => Err(fault),
     }
@@ -89,25 +95,32 @@ fn named(
 }
 
 // What is said of two files that are not refused.
-fn answer_of_both(
+fn answer_of_both<W: Watch>(
     alloc: Global,
     request: Request,
     old: &[u8],
     new: &[u8],
+    watch: &mut W,
 ) -> Result<Outcome, TripFault>
     ensures { AnswersFiles (λ x. IsOfBoth (request_in request.entry).show (request_in request.entry) old.now new.now (outcome_is x)) old.now new.now result }
 {
     match request.show {
-        None => reported(alloc, request, old, new),
+        None => reported(alloc, request, old, new, watch),
         Some(name) => named(alloc, request.offset, name, old, new),
     }
 }
 
 /// What is said of two files.
-pub fn answer(alloc: Global, request: Request, old: &[u8], new: &[u8]) -> Result<Outcome, NoMemory>
+pub fn answer<W: Watch>(
+    alloc: Global,
+    request: Request,
+    old: &[u8],
+    new: &[u8],
+    watch: &mut W,
+) -> Result<Outcome, NoMemory>
     ensures { IfOk result (λ x. IsCompared (request_in request.entry) (old.now, new.now) (outcome_is x)) }
 {
-    match answer_of_both(alloc, request, old, new) {
+    match answer_of_both(alloc, request, old, new, watch) {
         Ok(outcome) => Ok(outcome),
         Err(TripFault::Refused { side, refusal }) => Ok(Outcome {
             status: Status::Refused,

@@ -4,6 +4,7 @@
 mod answer;
 mod exit;
 mod program;
+mod progress;
 mod status;
 #[cfg(test)]
 mod tests;
@@ -12,9 +13,11 @@ mod work;
 
 use exit::{NotRun, exit_number};
 pub use program::run;
+use progress::Progress;
 use rr_io::{HostSink, HostSource};
 pub use status::{Ended, Status};
 use std::env;
+use std::io::IsTerminal;
 use std::process::ExitCode;
 
 // Runs the words of the system over its files and standard streams.
@@ -30,7 +33,14 @@ fn run_on_host(rt: &HostRuntime) -> Result<Ended, NotRun> {
     }
     let mut source = HostSource::new(alloc, rt);
     let mut sink = HostSink::new(rt);
-    Ok(run(alloc, texts.as_slice(), &mut source, &mut sink))
+    let mut progress = Progress::new(rt, rt.stderr().is_terminal());
+    Ok(run(
+        alloc,
+        texts.as_slice(),
+        &mut source,
+        &mut sink,
+        &mut progress,
+    ))
 }
 
 // Notes on standard error how many events were not compared for want of an offset; a note that can't be written is left out.

@@ -8,12 +8,19 @@ ghost use Rattle.rr_calendars.specs.Words.{asked_of};
 use crate::status::{Ended, Status};
 use crate::work::outcome_of;
 use rr_io::{FetchError, PutError, Sink, Source};
+use rr_trip::Watch;
 use std::alloc::Global;
 
 /// Does what the words ask: fetches the two files, compares them, and puts the whole report at once.
 ///
-/// A fetch that fails ends the run with `ReadFault`, a put that fails with `WriteFault`. `NoMemory` may come at any time.
-pub fn run<S: Source, K: Sink>(alloc: Global, words: &[&str], source: &mut S, sink: &mut K) -> Ended
+/// The watch is told how far the comparison is, and that it has ended before anything is put. A fetch that fails ends the run with `ReadFault`, a put that fails with `WriteFault`. `NoMemory` may come at any time.
+pub fn run<S: Source, K: Sink, W: Watch>(
+    alloc: Global,
+    words: &[&str],
+    source: &mut S,
+    sink: &mut K,
+    watch: &mut W,
+) -> Ended
     // What is put is the answer to the words over the bytes that the source holds, and the status is the answer's.
     ensures answer { IfSome (contents (asked_of (words_of words.now)) (S.held source.old)) (λ files. Ends result.status (IsAnswer (asked_of (words_of words.now)) files) (K.written sink.old) (K.written sink.new)) }
 
@@ -28,7 +35,7 @@ pub fn run<S: Source, K: Sink>(alloc: Global, words: &[&str], source: &mut S, si
     ensures complete { S.failed source.new ≡ S.failed source.old → (RoseOrIsLast (K.faults sink.old) (K.faults sink.new) → ⊥)
         → IfSome (contents (asked_of (words_of words.now)) (S.held source.old)) (λ files. (result.status ≡ Status.NoMemory) ⊎ ((answer : Answer) × IsAnswer (asked_of (words_of words.now)) files answer × (result.status ≡ answer.status))) }
 {
-    match outcome_of(alloc, words, source) {
+    match outcome_of(alloc, words, source, watch) {
         Err(FetchError::Failed) => Ended {
             status: Status::ReadFault,
             in_utc: 0,

@@ -1,7 +1,7 @@
 // Files that are no calendars or are too long, and what is shown of one event.
 use crate::run;
 use rr_io::{MemorySink, MemorySource};
-use rr_trip::MAX_FILE;
+use rr_trip::{MAX_FILE, Unwatched};
 use std::alloc::Global;
 use std::test::*;
 
@@ -91,7 +91,13 @@ fn said(alloc: Global, words: &str, a: &[u8], b: &[u8]) -> Result<String, Fail> 
     source.hold("b", b).ok().ok_or("memory")?;
     source.hold("-", a).ok().ok_or("memory")?;
     let mut sink = MemorySink::new(alloc);
-    let ended = run(alloc, list.as_slice(), &mut source, &mut sink);
+    let ended = run(
+        alloc,
+        list.as_slice(),
+        &mut source,
+        &mut sink,
+        &mut Unwatched,
+    );
     let text = std::str::from_utf8(sink.bytes())
         .ok()
         .ok_or("the output is text")?;

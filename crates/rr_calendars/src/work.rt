@@ -11,7 +11,7 @@ use crate::status::Status;
 use crate::words::{Asked, Request, parse};
 use rr_io::{FetchError, Source};
 use rr_model::NoMemory;
-use rr_trip::MAX_FILE;
+use rr_trip::{MAX_FILE, Watch};
 use std::alloc::Global;
 
 /// What is said of words that ask nothing.
@@ -34,7 +34,7 @@ Events are found again by their UID. There is a line for each, in the order of t
 
 Behind it stands zone where TZID parameters differ: local times are compared, and zones are not.
 --differences leaves out the lines of equal events. --offset states local time less UTC, for moments of UTC beside local time.
-The last line counts them all.
+The last line counts them all. On a terminal a comparison of more than a second says how far it is.
 
 --show UID prints the line of this event alone, the UID as it is printed here, and below it, where it differs, the month of the
 first difference and the two after it, Monday first: = for a day with the same times in both, x for one with others, A and B
@@ -79,10 +79,11 @@ fn fetch_both<S: Source>(
 }
 
 // Fetches both files, and says what is to be said of them.
-fn work_out<S: Source>(
+fn work_out<S: Source, W: Watch>(
     alloc: Global,
     request: Request,
     source: &mut S,
+    watch: &mut W,
 ) -> Result<Outcome, FetchError>
     ensures answer { IfOk result (λ x. IfSome (contents (Some (comparison (request_in request.entry))) (S.held source.old)) (λ files. IsCompared (request_in request.entry) files (outcome_is x))) }
     ensures ending { IfOk result (λ x. IsEnding (Some (comparison (request_in request.entry))) x.status) }
@@ -90,7 +91,13 @@ fn work_out<S: Source>(
     ensures kept { (IsErrOf result FetchError.Failed → ⊥) → S.failed source.new ≡ S.failed source.old }
 {
     let files = fetch_both(alloc, request, source)?;
-    Ok(answer(alloc, request, files.old.as_slice(), files.new.as_slice())?)
+    Ok(answer(
+        alloc,
+        request,
+        files.old.as_slice(),
+        files.new.as_slice(),
+        watch,
+    )?)
 }
 
 // A text of the program's own.
@@ -105,10 +112,11 @@ fn told(alloc: Global, text: &[u8], status: Status) -> Result<Outcome, NoMemory>
 }
 
 /// What the words ask, worked out over the files, which are fetched in order.
-pub fn outcome_of<S: Source>(
+pub fn outcome_of<S: Source, W: Watch>(
     alloc: Global,
     words: &[&str],
     source: &mut S,
+    watch: &mut W,
 ) -> Result<Outcome, FetchError>
     ensures answer { IfOk result (λ x. IfSome (contents (asked_of (words_of words.now)) (S.held source.old)) (λ files. IsAnswer (asked_of (words_of words.now)) files (outcome_is x))) }
     ensures ending { IfOk result (λ x. IsEnding (asked_of (words_of words.now)) x.status) }
@@ -118,6 +126,6 @@ pub fn outcome_of<S: Source>(
     match parse(words) {
         None => Ok(told(alloc, USAGE, Status::Usage)?),
         Some(Asked::Help) => Ok(told(alloc, HELP, Status::Equal)?),
-        Some(Asked::Comparison(request)) => work_out(alloc, request, source),
+        Some(Asked::Comparison(request)) => work_out(alloc, request, source, watch),
     }
 }

@@ -1,6 +1,5 @@
 -- What is judged of the series of a key.
-use Rattle.std.proofs.Common.{◌≡◌, ℕ, ◌<◌, inl, List, ℤ, Option, None, Some, Result, Ok, Err, refl, subst, ap}
-use Rattle.std.specs.Prelude.{IfErr, IfOk}
+use Rattle.std.proofs.Common.{◌≡◌, ℕ, ◌<◌, inl, List, ℤ, Option, None, Some, Result, Ok, Err, refl, subst, sym, ap}
 use Rattle.rr_fold.specs.Judged.{IsJudged, all_limits}
 use Rattle.rr_model.specs.Series.Cycle.{series_cycle}
 use Rattle.rr_model.specs.Series.FirstRefusal.{IsFirstRefusal, IsLimitRefusal}
@@ -16,10 +15,11 @@ use Rattle.rr_model.specs.declared.refusal.Refusal.TheVariants.{CycleTooLong}
 use Rattle.rr_model.specs.declared.rule.Series.{Series}
 use Rattle.rr_model.specs.declared.sketch.Sketch.{Sketch}
 use Rattle.rr_trip.specs.Edited.{AnswersKey, KeyEvents, edited_by, fault_at}
-use Rattle.rr_trip.specs.Judged.{IsFaultOf, IsFoldOf, IsKeyDays, IsKeyFault, first_of, key_events, key_zones, zones_in}
+use Rattle.rr_trip.specs.Judged.{IsFaultBy, IsFaultOf, IsFoldOf, IsKeyFault, IsKeyRefusal, IsRefusalBy, IsStated, first_of, key_events, key_zones, line_of, zones_in}
 use Rattle.rr_trip.specs.declared.event.Event.{Event}
 use Rattle.rr_trip.specs.declared.gather.KeyFault.{KeyFault}
 use Rattle.rr_trip.specs.declared.gather.KeyFault.TheVariants as key_fault
+use Rattle.rr_trip.specs.declared.gather.KeyRefusal.{KeyRefusal}
 use Rattle.rr_trip.proofs.YearOneLemmas.{occurs_from_year_one}
 
 -- a rule does not fit the start
@@ -33,20 +33,18 @@ module _ (series checked : Series) (same : checked ≡ series) (sound : first_re
       let long : MAX_CYCLE_DAYS < series_cycle series = subst (λ (s : Series). MAX_CYCLE_DAYS < series_cycle s) same h.1 in
       rw sound (inl ((refl, long), ap Some h.0))
 
-  module _ {X : Type 0} (of : X → Sketch) (valid : IsValidSeries series) where
-    pub folded : (result : Result X Fault) → IfOk result (λ f. StandsFor (of f) (Occurs checked)) → IsJudged checked result
-        → IfOk result (λ f. IsFoldOf series (of f))
-    folded (Err fault) stands judged = tt
-    folded (Ok f) stands judged = record {
-      unrefused = rw sound (subst (λ (s : Series). IsLimitRefusal all_limits s None) same judged);
-      from_year_one = λ k t h. occurs_from_year_one series k t valid h;
-      stands = subst (λ (s : Series). StandsFor (of f) (Occurs s)) same stands;
-    }
+  -- its days are worked out
+  pub folded : (sketch : Sketch) → IsValidSeries series → StandsFor sketch (Occurs checked) → IsLimitRefusal all_limits checked None → IsFoldOf series sketch
+  folded sketch valid stands judged = record {
+    unrefused = rw sound (subst (λ (s : Series). IsLimitRefusal all_limits s None) same judged);
+    from_year_one = λ k t h. occurs_from_year_one series k t valid h;
+    stands = subst (λ (s : Series). StandsFor sketch (Occurs s)) same stands;
+  }
 
-  pub not_folded : {X : Type 0} (result : Result X Fault) → IsJudged checked result → IfErr result (IsFaultOf series)
-  not_folded (Ok f) judged = tt
-  not_folded (Err (Refused r)) judged = rw sound (subst (λ (s : Series). IsLimitRefusal all_limits s (Some r)) same judged)
-  not_folded (Err NoMemory) judged = tt
+  -- a limit refuses it, or memory was wanting
+  pub not_folded : (X : Type 0) (f : Fault) → IsJudged {X = X} checked (Err f) → IsFaultOf series f
+  not_folded X (Refused r) judged = rw sound (subst (λ (s : Series). IsLimitRefusal all_limits s (Some r)) same judged)
+  not_folded X NoMemory judged = tt
 
 -- ---- the events of a key
 
@@ -64,9 +62,23 @@ module _ (offset : Option ℤ) (events : List Event) where
     not_edited key_fault.NoMemory h = tt
 
     module _ (series : Series) (states : edited_by offset all.series all.instances ≡ Ok series) where
-      pub key_fault-is : (f : Fault) → IsFaultOf series f → IsKeyFault offset events (fault_at (first_of all.series all.instances) f)
-      key_fault-is (Refused r) h = rw (is, states) (refl, h)
-      key_fault-is NoMemory h = tt
+      pub stated : (line : ℕ) → line ≡ first_of all.series all.instances → IsValidSeries series → IsStated offset events line series
+      stated line at valid = record { states = rw is states; valid = valid; at = rw is at }
 
-      pub key_days-are : (sketch : Sketch) → IsFoldOf series sketch → IsKeyDays offset events sketch
-      key_days-are sketch h = record { series = series; states = rw is states; fold = h }
+-- ---- the series of a key by the limits
+
+pub fault_by : (line : ℕ) (series : Series) (f : Fault) → IsFaultOf series f → IsFaultBy line series (fault_at line f)
+fault_by line series (Refused r) h = (refl, h)
+fault_by line series NoMemory h = tt
+
+-- its refusal is that of the key
+pub refusal_stated : (offset : Option ℤ) (events : List Event) (line : ℕ) (series : Series) → IsStated offset events line series → (r : KeyRefusal)
+    → IsRefusalBy line (Ok series) r → IsKeyRefusal offset events r
+refusal_stated offset events line series stated r h =
+    subst (λ (e : Result Series KeyRefusal). IsRefusalBy (line_of (key_events events)) e r) (sym stated.states)
+    (subst (λ (n : ℕ). IsRefusalBy n (Ok series) r) stated.at h)
+
+pub fault_stated : (offset : Option ℤ) (events : List Event) (line : ℕ) (series : Series) → IsStated offset events line series → (f : KeyFault)
+    → IsFaultBy line series f → IsKeyFault offset events f
+fault_stated offset events line series stated (key_fault.Refused r) h = refusal_stated offset events line series stated r h
+fault_stated offset events line series stated key_fault.NoMemory h = tt

@@ -1,5 +1,5 @@
 -- What is said of a key where both calendars state days.
-use Rattle.std.proofs.Common.{◌≡◌, ℕ, Bool, List, [], ◌∷◌, ◌++◌, ℤ, Option, length, refl, ap, subst, arith}
+use Rattle.std.proofs.Common.{◌≡◌, ℕ, Bool, List, [], ◌∷◌, ◌++◌, ℤ, Option, length, refl, subst, ◌∙◌, arith}
 use Rattle.std.specs.Prelude.{◌↔◌}
 use Rattle.std.proofs.lemmas.Int.{ints}
 use Rattle.rr_decide.specs.Occurrence.{NamesUpToMaxDay}
@@ -9,6 +9,7 @@ use Rattle.rr_model.specs.Series.Occurrences.{Occurs}
 use Rattle.rr_model.specs.Sets.Sketch.{StandsIn}
 use Rattle.rr_model.specs.Sets.Verdict.{HaveEqualOccurrences, HoldsOnlyOf, IsEqualVerdict}
 use Rattle.rr_model.specs.declared.kind.Kind.{Kind}
+use Rattle.rr_model.specs.declared.rule.Series.{Series}
 use Rattle.rr_model.specs.declared.sketch.Sketch.{Sketch}
 use Rattle.rr_model.specs.declared.verdict.Side.{Side}
 use Rattle.rr_model.specs.declared.verdict.Side.TheVariants.{A, B, Both}
@@ -16,14 +17,15 @@ use Rattle.rr_model.specs.declared.verdict.Verdict.{Verdict}
 use Rattle.rr_model.specs.declared.verdict.Verdict.TheVariants.{Yes, No}
 use Rattle.rr_model.proofs.YearLemmas.{from_year_one}
 use Rattle.rr_trip.specs.Entries.{events_in}
-use Rattle.rr_trip.specs.Judged.{IsKeyDays, IsKeyFault, key_zones}
-use Rattle.rr_trip.specs.Said.{IsCompared, IsComparison, IsFaultSaid, IsPrintable, IsPrintableSaid, IsSaid, have_one_zone}
+use Rattle.rr_trip.specs.Judged.{IsFaultBy, IsFoldOf, IsKeyFault, IsKeySeries, IsStated, key_zones}
+use Rattle.rr_trip.specs.Said.{IsCompared, IsFaultSaid, IsPrintable, IsPrintableSaid, IsSaid, IsSaidBeside, have_one_zone}
 use Rattle.rr_trip.specs.declared.entry.Entry.{Entry}
 use Rattle.rr_trip.specs.declared.event.Event.{Event}
 use Rattle.rr_trip.specs.declared.gather.KeyFault.{KeyFault}
 use Rattle.rr_trip.specs.declared.gather.KeyFault.TheVariants as key_fault
 use Rattle.rr_trip.specs.declared.said.Said.{Said}
 use Rattle.rr_trip.specs.declared.said.Said.TheVariants.{Only, Refused, Compared}
+use Rattle.rr_trip.proofs.JudgeLemmas.{refusal_stated}
 
 -- ---- equal sets have the same verdict
 
@@ -44,19 +46,10 @@ verdict_kept P P' Q Q' f g (No k t side) h = (
 
 -- ---- both state days
 
-module _ (offset : Option ℤ) (a b : List Event) (s u : Sketch) (da : IsKeyDays offset a s) (db : IsKeyDays offset b u) where
-  comparison : (v : Verdict) → IsEqualVerdict (StandsIn s) (StandsIn u) v → IsComparison offset a b v
-  comparison v h = record {
-    series_a = da.series;
-    series_b = db.series;
-    first = record { states = da.states; unrefused = da.fold.unrefused };
-    second = record { states = db.states; unrefused = db.fold.unrefused };
-    is_verdict = verdict_kept (StandsIn s) (Occurs da.series) (StandsIn u) (Occurs db.series) da.fold.stands db.fold.stands v h;
-  }
-
+module _ (a b : Series) (s u : Sketch) (fa : IsFoldOf a s) (fb : IsFoldOf b u) where
   holds_from_year_one : (side : Side) (k : Kind) (t : ℤ) → HoldsOnlyOf side (StandsIn s k t) (StandsIn u k t) → IsFromYearOne (day_part k t)
-  holds_from_year_one A k t h = da.fold.from_year_one k t ((da.fold.stands k t).0 h.0)
-  holds_from_year_one B k t h = db.fold.from_year_one k t ((db.fold.stands k t).0 h.0)
+  holds_from_year_one A k t h = fa.from_year_one k t ((fa.stands k t).0 h.0)
+  holds_from_year_one B k t h = fb.from_year_one k t ((fb.stands k t).0 h.0)
   holds_from_year_one Both k t h = absurd h
 
   printable_verdict : (v : Verdict) → IsEqualVerdict (StandsIn s) (StandsIn u) v → NamesUpToMaxDay v → IsPrintable v
@@ -71,21 +64,46 @@ module _ (offset : Option ℤ) (a b : List Event) (s u : Sketch) (da : IsKeyDays
   printable zones (Refused side refusal) h = tt
   printable zones (Compared v one_zone) h = printable_verdict v h.0 h.1
 
--- what is said where both calendars have events of the key
-pub both_said : (offset : Option ℤ) (a b : List Event) (s u : Sketch) (said : Said) → (a ≡ [] → ⊥) → (b ≡ [] → ⊥) → IsKeyDays offset a s → IsKeyDays offset b u
-    → IsCompared s u (have_one_zone (key_zones a ++ key_zones b)) said → IsSaid offset a b said
-both_said offset a [] s u said na nb da db h = absurd (nb refl)
-both_said offset [] (y ∷ ys) s u said na nb da db h = absurd (na refl)
-both_said offset (x ∷ xs) (y ∷ ys) s u (Only side) na nb da db h = absurd h
-both_said offset (x ∷ xs) (y ∷ ys) s u (Refused side refusal) na nb da db h = absurd h
-both_said offset (x ∷ xs) (y ∷ ys) s u (Compared v one_zone) na nb da db h = (comparison offset (x ∷ xs) (y ∷ ys) s u da db v h.0, h.2)
+  -- what is said by their days
+  pub compared : (line : ℕ) (zones : Bool) (said : Said) → IsCompared s u zones said → IsSaidBeside a line b zones said
+  compared line zones (Only side) h = absurd h
+  compared line zones (Refused side refusal) h = absurd h
+  compared line zones (Compared v one_zone) h =
+      (fb.unrefused, verdict_kept (StandsIn s) (Occurs a) (StandsIn u) (Occurs b) fa.stands fb.stands v h.0, h.2)
 
--- the same by the zones that were read
-pub both_compared : (offset : Option ℤ) (a b : List Event) (s u : Sketch) (said : Said) (za zb : List (List ℕ)) → za ≡ key_zones a → zb ≡ key_zones b
-    → (a ≡ [] → ⊥) → (b ≡ [] → ⊥) → IsKeyDays offset a s → IsKeyDays offset b u → IsCompared s u (have_one_zone (za ++ zb)) said → IsSaid offset a b said
-both_compared offset a b s u said za zb ea eb na nb da db h =
-    let same : za ++ zb ≡ key_zones a ++ key_zones b = cc in
-    both_said offset a b s u said na nb da db (subst (λ (zones : Bool). IsCompared s u zones said) (ap have_one_zone same) h)
+-- the same series has the same occurrences
+pub same_compared : (a b : Series) (s : Sketch) (line : ℕ) (zones one_zone : Bool) → IsFoldOf a s → a ≡ b → one_zone ≡ zones
+    → IsSaidBeside a line b zones (Compared Yes one_zone)
+same_compared a b s line zones one_zone fa e same =
+    subst (λ (x : Series). IsSaidBeside a line x zones (Compared Yes one_zone)) e (fa.unrefused, (λ k t. ((λ o. o), (λ o. o))), same)
+
+-- a limit refuses the series of B
+pub refused_beside : (a : Series) (line : ℕ) (b : Series) (zones : Bool) (fault : KeyFault) (said : Said) → IsFaultBy line b fault → IsFaultSaid B fault said
+    → IsSaidBeside a line b zones said
+refused_beside a line b zones (key_fault.Refused r) said is h = rw h is
+refused_beside a line b zones key_fault.NoMemory said is h = absurd h
+
+-- what is said where both calendars have events of the key, which state these series
+pub both_stated : (offset : Option ℤ) (a b : List Event) (s u : Series) (line : ℕ) (zones : Bool) (said : Said) → (a ≡ [] → ⊥) → (b ≡ [] → ⊥)
+    → IsKeySeries offset a s → IsStated offset b line u → zones ≡ have_one_zone (key_zones a ++ key_zones b) → IsSaidBeside s line u zones said
+    → IsSaid offset a b said
+both_stated offset a [] s u line zones said na nb first stated z h = absurd (nb refl)
+both_stated offset [] (y ∷ ys) s u line zones said na nb first stated z h = absurd (na refl)
+both_stated offset (x ∷ xs) (y ∷ ys) s u line zones (Only side) na nb first stated z h = absurd h
+both_stated offset (x ∷ xs) (y ∷ ys) s u line zones (Refused A refusal) na nb first stated z h = absurd h
+both_stated offset (x ∷ xs) (y ∷ ys) s u line zones (Refused B refusal) na nb first stated z h =
+    record { series = s; first = first; refused = refusal_stated offset (y ∷ ys) line u stated refusal h }
+both_stated offset (x ∷ xs) (y ∷ ys) s u line zones (Refused Both refusal) na nb first stated z h = absurd h
+both_stated offset (x ∷ xs) (y ∷ ys) s u line zones (Compared v one_zone) na nb first stated z h = (
+  record {
+    series_a = s;
+    series_b = u;
+    first = first;
+    second = record { states = stated.states; unrefused = h.0 };
+    is_verdict = h.1;
+  },
+  h.2 ∙ z,
+)
 
 -- ---- a calendar without events of the key
 
@@ -114,12 +132,12 @@ first_refused offset [] (y ∷ ys) fault said na nb is h = absurd (na refl)
 first_refused offset (x ∷ xs) (y ∷ ys) (key_fault.Refused r) said na nb is h = rw h is
 first_refused offset (x ∷ xs) (y ∷ ys) key_fault.NoMemory said na nb is h = absurd h
 
-pub second_refused : (offset : Option ℤ) (a b : List Event) (s : Sketch) (fault : KeyFault) (said : Said) → (a ≡ [] → ⊥) → (b ≡ [] → ⊥) → IsKeyDays offset a s
+pub second_refused : (offset : Option ℤ) (a b : List Event) (s : Series) (fault : KeyFault) (said : Said) → (a ≡ [] → ⊥) → (b ≡ [] → ⊥) → IsKeySeries offset a s
     → IsKeyFault offset b fault → IsFaultSaid B fault said → IsSaid offset a b said
 second_refused offset a [] s fault said na nb da is h = absurd (nb refl)
 second_refused offset [] (y ∷ ys) s fault said na nb da is h = absurd (na refl)
 second_refused offset (x ∷ xs) (y ∷ ys) s (key_fault.Refused r) said na nb da is h =
-    rw h (record { series = da.series; first = record { states = da.states; unrefused = da.fold.unrefused }; refused = is })
+    rw h (record { series = s; first = da; refused = is })
 second_refused offset (x ∷ xs) (y ∷ ys) s key_fault.NoMemory said na nb da is h = absurd h
 
 pub refused-printable : (side : Side) (fault : KeyFault) (said : Said) → IsFaultSaid side fault said → IsPrintableSaid said

@@ -5,6 +5,7 @@ use Rattle.rr_model.specs.Moment.{Occurrences, day_part}
 use Rattle.rr_model.specs.Moment.Years.{IsFromYearOne}
 use Rattle.rr_model.specs.Series.FirstRefusal.{IsFirstRefusal}
 use Rattle.rr_model.specs.Series.Occurrences.{Occurs}
+use Rattle.rr_model.specs.Series.Validity.{IsValidSeries}
 use Rattle.rr_model.specs.Sets.Sketch.{StandsFor}
 use Rattle.rr_model.specs.declared.kind.Kind.{Kind}
 use Rattle.rr_model.specs.declared.refusal.Fault.{Fault}
@@ -73,11 +74,16 @@ pub record IsKeySeries (offset : Option ℤ) (events : List Event) (series : Ser
   pub states : edited offset events ≡ Ok series
   pub unrefused : IsFirstRefusal all_limits series None
 
--- the sketch stands for the occurrences of the events of a key, which are not refused
-pub record IsKeyDays (offset : Option ℤ) (events : List Event) (sketch : Sketch) : Type 0 where
-  pub series : Series
+-- the events of a key state this valid series, which limits refuse at this line
+pub record IsStated (offset : Option ℤ) (events : List Event) (line : ℕ) (series : Series) : Type 0 where
   pub states : edited offset events ≡ Ok series
-  pub fold : IsFoldOf series sketch
+  pub valid : IsValidSeries series
+  pub at : line ≡ line_of (key_events events)
+
+-- a fault is the refusal of a series by a limit, at this line, or out of memory
+abbrev pub IsFaultBy : ℕ → Series → KeyFault → Type 0
+IsFaultBy line series (key_fault.Refused r) = IsRefusalBy line (Ok series) r
+IsFaultBy line series key_fault.NoMemory = ⊤
 
 -- ---- zones
 

@@ -5,6 +5,7 @@ pub mod Entries
 pub mod Edited
 pub mod Instances
 pub mod Judged
+pub mod Same
 pub mod Said
 pub mod Files
 pub mod Report

@@ -1,9 +1,11 @@
 -- What is said of a key.
-use Rattle.std.specs.Prelude.{◌≡◌, ℕ, Bool, true, ℤ, List, [], ◌∷◌, ◌++◌, Option, ⊤, bytes_eq}
+use Rattle.std.specs.Prelude.{◌≡◌, ℕ, Bool, true, ℤ, List, [], ◌∷◌, ◌++◌, Option, None, Ok, ⊤, bytes_eq}
 use Rattle.std.specs.List.{list_all}
 use Rattle.rr_model.specs.Calendar.{IsDayWithin}
 use Rattle.rr_model.specs.Moment.{day_part}
 use Rattle.rr_model.specs.Moment.Years.{IsFromYearOne}
+use Rattle.rr_fold.specs.Judged.{all_limits}
+use Rattle.rr_model.specs.Series.FirstRefusal.{IsFirstRefusal}
 use Rattle.rr_model.specs.Series.Occurrences.{Occurs}
 use Rattle.rr_decide.specs.Occurrence.{NamesUpToMaxDay}
 use Rattle.rr_model.specs.Sets.Sketch.{StandsIn}
@@ -14,7 +16,7 @@ use Rattle.rr_model.specs.declared.verdict.Side.{Side}
 use Rattle.rr_model.specs.declared.verdict.Side.TheVariants.{A, B, Both}
 use Rattle.rr_model.specs.declared.verdict.Verdict.{Verdict}
 use Rattle.rr_model.specs.declared.verdict.Verdict.TheVariants.{Yes, No}
-use Rattle.rr_trip.specs.Judged.{IsKeyRefusal, IsKeySeries, key_zones}
+use Rattle.rr_trip.specs.Judged.{IsKeyRefusal, IsKeySeries, IsRefusalBy, key_zones}
 use Rattle.rr_trip.specs.declared.event.Event.{Event}
 use Rattle.rr_trip.specs.declared.gather.KeyFault.{KeyFault}
 use Rattle.rr_trip.specs.declared.gather.KeyFault.TheVariants as key_fault
@@ -56,6 +58,16 @@ IsSaid offset (x ∷ xs) (y ∷ ys) (Only side) = ⊥
 IsSaid offset (x ∷ xs) (y ∷ ys) (Refused side refusal) = IsRefusedOn side offset (x ∷ xs) (y ∷ ys) refusal
 IsSaid offset (x ∷ xs) (y ∷ ys) (Compared verdict one_zone) =
     IsComparison offset (x ∷ xs) (y ∷ ys) verdict × (one_zone ≡ have_one_zone (key_zones (x ∷ xs) ++ key_zones (y ∷ ys)))
+
+-- What is said where A states one series and B another, which limits refuse at this line: the refusal of B's, or the verdict on their
+-- equality, over all whole numbers, and whether the zones are the same.
+abbrev pub IsSaidBeside : Series → ℕ → Series → Bool → Said → Type 0
+IsSaidBeside a line b zones (Only side) = ⊥
+IsSaidBeside a line b zones (Refused A refusal) = ⊥
+IsSaidBeside a line b zones (Refused B refusal) = IsRefusalBy line (Ok b) refusal
+IsSaidBeside a line b zones (Refused Both refusal) = ⊥
+IsSaidBeside a line b zones (Compared verdict one_zone) =
+    IsFirstRefusal all_limits b None × IsEqualVerdict (Occurs a) (Occurs b) verdict × (one_zone ≡ zones)
 
 -- what a fault of a key is said as; of out of memory nothing is said
 abbrev pub IsFaultSaid : Side → KeyFault → Said → Type 0

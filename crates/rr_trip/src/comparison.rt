@@ -3,11 +3,12 @@ ghost use Rattle.std.specs.Prelude.{◌≡◌, [], All, IfOk, MatchOption};
 ghost use Rattle.rr_trip.specs.Entries.{IsNumbered};
 ghost use Rattle.rr_trip.specs.Report.{AnswersTrip, AreLinesOf, IsLineOf, IsRunAt};
 
-use crate::entry::{Entry, count_of_a, count_of_key, sorted_entries};
+use crate::entry::{Entry, count_keys, count_of_a, count_of_key, sorted_entries};
 use crate::file::{TripFault, read_file};
 use crate::key::{Key, copy_key};
 use crate::report::{Report, ReportLine};
 use crate::said::said_of;
+use crate::watch::Watch;
 use rr_model::{NoMemory, Side};
 use std::alloc::Global;
 
@@ -49,33 +50,33 @@ fn line_of(
 }
 
 // What is said of each key of sorted entries.
-fn lines_of(
+fn lines_of<W: Watch>(
     alloc: Global,
     offset: Option<i32>,
     entries: &[Entry],
+    watch: &mut W,
 ) -> Result<Vec<ReportLine>, NoMemory>
     requires { All IsNumbered entries.now }
     ensures { IfOk result (λ lines. AreLinesOf offset entries.now lines.items) }
 {
+    let keys = count_keys(entries);
     let mut lines = Vec::new(alloc);
     let mut start = 0;
     while let Some(run) = first_run(&entries[start..]) {
         lines.push(line_of(alloc, offset, &run.first.key, run.entries)?)?;
         start += run.entries.len();
+        watch.judged(lines.len(), keys);
     }
     Ok(lines)
 }
 
-/// Compares two calendar files: each key of either has one line, in the order of the keys, which says what is so of its
-/// events. The offset is local time less UTC in seconds; see `rr_rrule::read`.
-///
-/// A file is refused as a whole as `TooLong`, `NoEvents` or `BadLine`; then nothing is said of keys, and nothing of B where A is
-/// refused.
-pub fn compare(
+// The report of two calendar files.
+fn report_of<W: Watch>(
     alloc: Global,
     offset: Option<i32>,
     old: &[u8],
     new: &[u8],
+    watch: &mut W,
 ) -> Result<Report, TripFault>
     ensures { AnswersTrip offset old.now new.now result }
 {
@@ -83,6 +84,26 @@ pub fn compare(
     let b = read_file(alloc, Side::B, new)?;
     let entries = sorted_entries(alloc, &a, &b)?;
     Ok(Report {
-        lines: lines_of(alloc, offset, &entries)?,
+        lines: lines_of(alloc, offset, &entries, watch)?,
     })
+}
+
+/// Compares two calendar files: each key of either has one line, in the order of the keys, which says what is so of its
+/// events. The offset is local time less UTC in seconds; see `rr_rrule::read`. The watch is told of each key that is judged, and
+/// that the comparison has ended.
+///
+/// A file is refused as a whole as `TooLong`, `NoEvents` or `BadLine`; then nothing is said of keys, and nothing of B where A is
+/// refused.
+pub fn compare<W: Watch>(
+    alloc: Global,
+    offset: Option<i32>,
+    old: &[u8],
+    new: &[u8],
+    watch: &mut W,
+) -> Result<Report, TripFault>
+    ensures { AnswersTrip offset old.now new.now result }
+{
+    let answered = report_of(alloc, offset, old, new, watch);
+    watch.ended();
+    answered
 }

@@ -1,34 +1,58 @@
 // A series of a key as days.
-ghost use Rattle.std.specs.Prelude.{◌≡◌, ◌++◌, All, IfErr, IfOk, OnOk, map};
+ghost use Rattle.std.specs.Prelude.{◌≡◌, ◌++◌, All, IfErr, IfOk, Ok, OnOk, map};
 ghost use Rattle.rr_model.specs.Series.Validity.{IsValidSeries};
-ghost use Rattle.rr_trip.specs.Judged.{IsFaultOf, IsFoldOf, IsKeyDays, IsKeyFault, first_of, key_zones, zones_in, zones_of, zones_of_all};
+ghost use Rattle.rr_trip.specs.Judged.{IsFaultBy, IsFaultOf, IsFoldOf, IsKeyFault, IsStated, first_of, key_zones, zones_in, zones_of, zones_of_all};
+ghost use Rattle.rr_trip.specs.Edited.{edited};
 ghost use Rattle.rr_trip.specs.Entries.{IsNumbered, events_in};
 
 use crate::edit::series_with_instances;
 use crate::entry::Entry;
 use crate::event::Event;
 use crate::gather::{Gathered, KeyFault, at_event, gather};
-use rr_check::{admit, check};
+use rr_check::{Checked, admit, check};
 use rr_days::Folded;
 use rr_fold::fold;
 use rr_model::{Bytes, Fault, NoMemory, Series};
 use rr_word::DaySeq;
 use std::alloc::Global;
 
+// A series that no limit refuses, and its days.
+#[derive(Drop)]
+struct SeriesDays {
+    series: Checked,
+    days: Folded,
+}
+
 // The days of a series. The refusal is the first by all limits.
-fn days_of(alloc: Global, series: Series) -> Result<Folded, Fault>
+fn days_of(alloc: Global, series: Series) -> Result<SeriesDays, Fault>
     requires { IsValidSeries series }
-    ensures accepted { IfOk result (λ f. IsFoldOf series (⟦<Folded as DaySeq>⟧.sketch f)) }
+    ensures accepted { IfOk result (λ made. (made.series ≡ series) × IsFoldOf made.series (⟦<Folded as DaySeq>⟧.sketch made.days)) }
     ensures refused { IfErr result (IsFaultOf series) }
 {
     let series = check(series)?;
     admit(&series)?;
-    fold(alloc, &series)
+    match fold(alloc, &series) {
+        Ok(days) => Ok(SeriesDays { series, days }),
+        Err(fault) => Err(fault),
+    }
 }
 
-/// The days of a key in one calendar, and the TZID parameters of its events.
+/// What the events of a key state in one calendar.
+#[derive(Drop)]
+pub struct KeySeries {
+    /// Their series.
+    pub series: Series,
+    /// The TZID parameters without the quotes around them, empty where there is none.
+    pub zones: Vec<Bytes>,
+    /// The number of the line that a refusal by a limit is reported at.
+    pub line: u64,
+}
+
+/// What the events of a key state in one calendar, and the days of that.
 #[derive(Drop)]
 pub struct KeyDays {
+    /// Their series, which no limit refuses.
+    pub series: Checked,
     /// The days.
     pub days: Folded,
     /// The TZID parameters without the quotes around them, empty where there is none.
@@ -81,18 +105,53 @@ fn first_of(events: &Gathered) -> u64
     }
 }
 
-/// The days of the events of a key in one calendar. The refusal is that of the edited series, else the first by all limits.
-pub fn key_days(alloc: Global, offset: Option<i32>, entries: &[Entry]) -> Result<KeyDays, KeyFault>
+/// What the events of a key state in one calendar. The refusal is that of the edited series.
+pub fn key_series(
+    alloc: Global,
+    offset: Option<i32>,
+    entries: &[Entry],
+) -> Result<KeySeries, KeyFault>
     requires { All IsNumbered entries.now }
-    ensures accepted { IfOk result (λ key. IsKeyDays offset (events_in entries.now) (⟦<Folded as DaySeq>⟧.sketch key.days)) }
+    ensures accepted { IfOk result (λ key. IsStated offset (events_in entries.now) key.line key.series) }
     ensures zones { IfOk result (λ key. key.zones.items ≡ key_zones (events_in entries.now)) }
     ensures refused { IfErr result (IsKeyFault offset (events_in entries.now)) }
 {
     let events = gather(alloc, entries)?;
     let zones = zones_of(alloc, &events)?;
     let series = series_with_instances(alloc, offset, &events)?;
-    match days_of(alloc, series) {
-        Ok(days) => Ok(KeyDays { days, zones }),
-        Err(fault) => Err(at_event(first_of(&events), fault)),
+    Ok(KeySeries {
+        series,
+        zones,
+        line: first_of(&events),
+    })
+}
+
+/// The days of what the events of a key state. The refusal is the first by all limits.
+pub fn days_of_key(alloc: Global, key: KeySeries) -> Result<KeyDays, KeyFault>
+    requires { IsValidSeries key.series }
+    ensures accepted { IfOk result (λ made. (made.series ≡ key.series) × (made.zones.items ≡ key.zones.items) × IsFoldOf made.series (⟦<Folded as DaySeq>⟧.sketch made.days)) }
+    ensures refused { IfErr result (IsFaultBy key.line key.series) }
+{
+    match days_of(alloc, key.series) {
+        Ok(made) => Ok(KeyDays {
+            series: made.series,
+            days: made.days,
+            zones: key.zones,
+        }),
+        Err(fault) => Err(at_event(key.line, fault)),
+    }
+}
+
+/// The days of the events of a key in one calendar. The refusal is that of the edited series, else the first by all limits.
+pub fn key_days(alloc: Global, offset: Option<i32>, entries: &[Entry]) -> Result<KeyDays, KeyFault>
+    requires { All IsNumbered entries.now }
+    ensures states { IfOk result (λ key. edited offset (events_in entries.now) ≡ Ok key.series) }
+    ensures folded { IfOk result (λ key. IsFoldOf key.series (⟦<Folded as DaySeq>⟧.sketch key.days)) }
+    ensures zones { IfOk result (λ key. key.zones.items ≡ key_zones (events_in entries.now)) }
+    ensures refused { IfErr result (IsKeyFault offset (events_in entries.now)) }
+{
+    match key_series(alloc, offset, entries) {
+        Ok(key) => days_of_key(alloc, key),
+        Err(fault) => Err(fault),
     }
 }

@@ -16,7 +16,9 @@ mod parameter;
 mod printing;
 mod report;
 mod said;
+mod same;
 mod shown;
+mod watch;
 
 pub use comparison::compare;
 pub use file::{FileRefusal, MAX_FILE, TripFault};
@@ -27,3 +29,4 @@ pub use printing::{print, print_refusal};
 pub use report::{Counts, Report, ReportLine, Status, is_in_utc};
 pub use said::Said;
 pub use shown::{Shown, show};
+pub use watch::{Unwatched, Watch};

@@ -1,12 +1,15 @@
 // What is said of a key.
 ghost use Rattle.std.specs.Prelude.{◌≡◌, ◌++◌, All, IfOk, bytes_eq};
 ghost use Rattle.std.specs.List.{list_all};
+ghost use Rattle.rr_model.specs.Series.Validity.{IsValidSeries};
 ghost use Rattle.rr_trip.specs.Entries.{IsNumbered, events_in};
-ghost use Rattle.rr_trip.specs.Said.{IsCompared, IsFaultSaid, IsPrintableSaid, IsSaid, have_one_zone};
+ghost use Rattle.rr_trip.specs.Judged.{IsFoldOf};
+ghost use Rattle.rr_trip.specs.Said.{IsCompared, IsFaultSaid, IsPrintableSaid, IsSaid, IsSaidBeside, have_one_zone};
 
 use crate::entry::Entry;
 use crate::gather::{KeyFault, KeyRefusal};
-use crate::judge::{KeyDays, key_days};
+use crate::judge::{KeyDays, KeySeries, days_of_key, key_days, key_series};
+use crate::same::is_same_series;
 use rr_days::Folded;
 use rr_decide::equal;
 use rr_model::{Bytes, NoMemory, Side, Verdict};
@@ -78,6 +81,25 @@ fn verdict_on(a: &KeyDays, b: &KeyDays) -> Said
     }
 }
 
+// What is said of what B states beside the days of A. The same series has the same days, which are then not worked out again.
+fn said_beside(alloc: Global, a: &KeyDays, b: KeySeries) -> Result<Said, NoMemory>
+    requires folded { IsFoldOf a.now.series (⟦<Folded as DaySeq>⟧.sketch a.now.days) }
+    requires valid { IsValidSeries b.series }
+    ensures said { IfOk result (IsSaidBeside a.now.series b.line b.series (have_one_zone (a.now.zones.items ++ b.zones.items))) }
+    ensures printable { IfOk result IsPrintableSaid }
+{
+    if is_same_series(a.series.series(), &b.series) {
+        return Ok(Said::Compared {
+            verdict: Verdict::Yes,
+            one_zone: have_one_zone(&a.zones, &b.zones),
+        });
+    }
+    match days_of_key(alloc, b) {
+        Ok(b) => Ok(verdict_on(a, &b)),
+        Err(fault) => refusal_on(Side::B, fault),
+    }
+}
+
 /// What is said of a key with these events in A and in B: that one calendar alone has some, else the refusal of A, else that
 /// of B, else the verdict. Nothing of B is read where A is refused.
 pub fn said_of(
@@ -101,8 +123,8 @@ pub fn said_of(
         Ok(days) => days,
         Err(fault) => return refusal_on(Side::A, fault),
     };
-    match key_days(alloc, offset, b) {
-        Ok(b) => Ok(verdict_on(&a, &b)),
+    match key_series(alloc, offset, b) {
+        Ok(b) => said_beside(alloc, &a, b),
         Err(fault) => refusal_on(Side::B, fault),
     }
 }

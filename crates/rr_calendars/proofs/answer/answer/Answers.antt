@@ -4,10 +4,10 @@ use Rattle.rr_calendars.specs.declared.status.Status.TheVariants.{Refused}
 use Rattle.rr_calendars.proofs.answer.answer.Goals as goal
 
 pub returns-in-Ok : goal.returns-in-Ok
-returns-in-Ok c = inl c.in-Ok.ensures
+returns-in-Ok g c = inl c.in-Ok.ensures
 
 pub returns-in_ok-print_refusal-in-Err-Refused : goal.returns-in_ok-print_refusal-in-Err-Refused
-returns-in_ok-print_refusal-in-Err-Refused c =
+returns-in_ok-print_refusal-in-Err-Refused g c =
     let refused = rw c.in-Err-Refused.field-0-is at c.in-Err-Refused.ensures in
     let answered : List ℕ → Answer = λ (b : List ℕ). record { status = Refused; bytes = b } in
     inr (record {

@@ -4,11 +4,11 @@ use Rattle.rr_calendars.proofs.AnswerLemmas.{none_of_both, some_of_both}
 use Rattle.rr_calendars.proofs.answer.answer_of_both.Goals as goal
 
 pub returns-in-None : goal.returns-in-None
-returns-in-None c =
+returns-in-None g c =
     none_of_both (request_in c.args.request).show (request_in c.args.request) c.args.old.now c.args.new.now c.reported.result
     (ap word_in c.in-None.is) c.reported.ensures
 
 pub returns-in-Some : goal.returns-in-Some
-returns-in-Some c =
+returns-in-Some g c =
     some_of_both (request_in c.args.request).show c.in-Some.name.now (request_in c.args.request) c.args.old.now c.args.new.now c.named.result
     (ap word_in c.in-Some.is) c.named.ensures

@@ -5,10 +5,10 @@ use Rattle.rr_trip.proofs.ReportLemmas.{IsUpTo, IsUpTo-end, IsUpTo-next, IsUpTo-
 use Rattle.rr_trip.proofs.comparison.lines_of.Goals as goal
 
 pub loop-run-init : goal.loop-run-init
-loop-run-init c = IsUpTo-start c.args.offset c.args.entries.now _ c.new-lines.ensures.items
+loop-run-init g c = IsUpTo-start c.args.offset c.args.entries.now _ c.new-lines.ensures.items
 
 pub loop-run-preserved : goal.loop-run-preserved
-loop-run-preserved c =
+loop-run-preserved g c =
     let entries = c.args.entries.now in
     let start = c.loop-run.start in
     let run = c.in-Some.run'.entries.now in
@@ -18,7 +18,7 @@ loop-run-preserved c =
     c.loop-run.invariant)
 
 pub loop-run-smaller : goal.loop-run-smaller
-loop-run-smaller c =
+loop-run-smaller g c =
     let entries = c.args.entries.now in
     let start = c.loop-run.start in
     let run = c.in-Some.run'.entries.now in
@@ -26,7 +26,7 @@ loop-run-smaller c =
     omega (arith, run_length (drop start entries) c.in-Some.run'.first.now run at, length-drop start entries, c.loop-run.invariant.within)
 
 pub line_of-requires : goal.line_of-requires
-line_of-requires c =
+line_of-requires g c =
     let entries = c.args.entries.now in
     let start = c.loop-run.start in
     let run = c.in-Some.run'.entries.now in
@@ -34,7 +34,7 @@ line_of-requires c =
     run_numbered entries start c.in-Some.run'.first.now run at c.requires
 
 pub returns : goal.returns
-returns c =
+returns g c =
     let entries = c.args.entries.now in
     let start = c.loop-run.start in
     IsUpTo-end c.args.offset entries c.loop-run.lines.items start c.loop-run.invariant

@@ -1,6 +1,9 @@
-use Rattle.std.proofs.Common.{arith}
+use Rattle.std.proofs.Common.{subst, sym, arith}
 use Rattle.std.proofs.lemmas.Result.{err_from_is_err_and}
 use Rattle.rr_days.specs.Sequence.{sketch}
+use Rattle.rr_days.specs.declared.folded.Folded.{Folded}
+use Rattle.rr_model.specs.declared.rule.Series.{Series}
+use Rattle.rr_trip.specs.Judged.{IsFoldOf}
 use Rattle.rr_trip.proofs.JudgeLemmas.{folded, not_folded, too_long, unsound}
 use Rattle.rr_trip.proofs.judge.days_of.Goals as goal
 
@@ -31,12 +34,15 @@ returns-in_err-admit-clause-refused c =
 pub fold-requires : goal.fold-requires
 fold-requires c = record { few = omega (arith, c.in_ok-admit.ensures.admitted) }
 
-pub returns-clause-accepted : goal.returns-clause-accepted
-returns-clause-accepted c =
-    let accepted = c.in_ok-series.ensures.accepted in
-    folded c.args.series c.in_ok-series.series accepted.0 accepted.1 sketch c.requires c.fold.result c.fold.ensures.stands c.fold.ensures.judged
+pub returns-in-Ok-clause-accepted : goal.returns-in-Ok-clause-accepted
+returns-in-Ok-clause-accepted c =
+    let accepted = c.in_ok-series.ensures.accepted in (
+      accepted.0,
+      subst (λ (s : Series). IsFoldOf s (sketch c.in-Ok.days)) (sym accepted.0)
+          (folded c.args.series c.in_ok-series.series accepted.0 accepted.1 (sketch c.in-Ok.days) c.requires c.in-Ok.ensures.stands c.in-Ok.ensures.judged),
+    )
 
-pub returns-clause-refused : goal.returns-clause-refused
-returns-clause-refused c =
+pub returns-in-Err-clause-refused : goal.returns-in-Err-clause-refused
+returns-in-Err-clause-refused c =
     let accepted = c.in_ok-series.ensures.accepted in
-    not_folded c.args.series c.in_ok-series.series accepted.0 accepted.1 c.fold.result c.fold.ensures.judged
+    not_folded c.args.series c.in_ok-series.series accepted.0 accepted.1 Folded c.in-Err.fault c.in-Err.ensures.judged

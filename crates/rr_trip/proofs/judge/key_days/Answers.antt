@@ -1,62 +1,21 @@
-use Rattle.std.proofs.lemmas.Result.{err_from_is_err_and}
-use Rattle.rr_days.specs.Sequence.{sketch}
+use Rattle.std.proofs.Common.{Ok, ap, sym, ◌∙◌}
+use Rattle.std.proofs.lemmas.Result.{IfErr-weaker, IfOk-weaker}
 use Rattle.rr_trip.specs.Entries.{events_in}
-use Rattle.rr_trip.proofs.EditedLemmas.{edited-valid}
-use Rattle.rr_trip.proofs.JudgeLemmas.{key_days-are, key_fault-is, not_edited, not_gathered, zones_are}
+use Rattle.rr_trip.proofs.JudgeLemmas.{fault_stated}
 use Rattle.rr_trip.proofs.judge.key_days.Goals as goal
 
-pub returns-in_err-events-clause-accepted : goal.returns-in_err-events-clause-accepted
-returns-in_err-events-clause-accepted c = let p = err_from_is_err_and c.from_residual.result c.from_residual.ensures.1 in rw p.1 tt
+pub returns-in-Ok-clause-states : goal.returns-in-Ok-clause-states
+returns-in-Ok-clause-states c =
+    IfOk-weaker c.days_of_key.result _ _ (λ made h. c.in-Ok.ensures.accepted.states ∙ ap Ok (sym h.0)) c.days_of_key.ensures.accepted
 
-pub returns-in_err-events-clause-zones : goal.returns-in_err-events-clause-zones
-returns-in_err-events-clause-zones c = let p = err_from_is_err_and c.from_residual.result c.from_residual.ensures.1 in rw p.1 tt
-
-pub returns-in_err-events-clause-refused : goal.returns-in_err-events-clause-refused
-returns-in_err-events-clause-refused c =
-    let p = err_from_is_err_and c.from_residual.result c.from_residual.ensures.1 in
-    rw (p.1, p.2) (not_gathered c.args.offset (events_in c.args.entries.now) c.in_err-events.field-0.0 c.in_err-events.ensures)
-
-pub returns-in_err-zones-clause-accepted : goal.returns-in_err-zones-clause-accepted
-returns-in_err-zones-clause-accepted c =
-    let p = err_from_is_err_and c.from_residual-in_err-zones.result c.from_residual-in_err-zones.ensures.1 in rw p.1 tt
-
-pub returns-in_err-zones-clause-zones : goal.returns-in_err-zones-clause-zones
-returns-in_err-zones-clause-zones c =
-    let p = err_from_is_err_and c.from_residual-in_err-zones.result c.from_residual-in_err-zones.ensures.1 in rw p.1 tt
-
-pub returns-in_err-zones-clause-refused : goal.returns-in_err-zones-clause-refused
-returns-in_err-zones-clause-refused c =
-    let p = err_from_is_err_and c.from_residual-in_err-zones.result c.from_residual-in_err-zones.ensures.1 in
-    rw (p.1, p.2) tt
-
-pub returns-in_err-series-clause-accepted : goal.returns-in_err-series-clause-accepted
-returns-in_err-series-clause-accepted c =
-    let p = err_from_is_err_and c.from_residual-in_err-series.result c.from_residual-in_err-series.ensures.1 in rw p.1 tt
-
-pub returns-in_err-series-clause-zones : goal.returns-in_err-series-clause-zones
-returns-in_err-series-clause-zones c =
-    let p = err_from_is_err_and c.from_residual-in_err-series.result c.from_residual-in_err-series.ensures.1 in rw p.1 tt
-
-pub returns-in_err-series-clause-refused : goal.returns-in_err-series-clause-refused
-returns-in_err-series-clause-refused c =
-    let p = err_from_is_err_and c.from_residual-in_err-series.result c.from_residual-in_err-series.ensures.1 in
-    rw (p.1, p.2) (not_edited c.args.offset (events_in c.args.entries.now) c.in_ok-events.events c.in_ok-events.ensures c.in_err-series.field-0.0
-    c.in_err-series.ensures)
-
-pub days_of-requires : goal.days_of-requires
-days_of-requires c =
-    edited-valid c.args.offset c.in_ok-events.events.series c.in_ok-events.events.instances c.in_ok-series.series c.in_ok-series.ensures
-
-pub returns-in-Ok-clause-accepted : goal.returns-in-Ok-clause-accepted
-returns-in-Ok-clause-accepted c =
-    key_days-are c.args.offset (events_in c.args.entries.now) c.in_ok-events.events c.in_ok-events.ensures c.in_ok-series.series c.in_ok-series.ensures
-    (sketch c.in-Ok.days) c.in-Ok.ensures.accepted
+pub returns-in-Ok-clause-folded : goal.returns-in-Ok-clause-folded
+returns-in-Ok-clause-folded c = IfOk-weaker c.days_of_key.result _ _ (λ made h. h.2) c.days_of_key.ensures.accepted
 
 pub returns-in-Ok-clause-zones : goal.returns-in-Ok-clause-zones
-returns-in-Ok-clause-zones c =
-    zones_are c.args.offset (events_in c.args.entries.now) c.in_ok-events.events c.in_ok-events.ensures c.in_ok-zones.zones.items c.in_ok-zones.ensures
+returns-in-Ok-clause-zones c = IfOk-weaker c.days_of_key.result _ _ (λ made h. h.1 ∙ c.in-Ok.ensures.zones) c.days_of_key.ensures.accepted
 
-pub returns-clause-refused : goal.returns-clause-refused
-returns-clause-refused c =
-    rw (c.at_event.ensures, c.first_of.ensures) (key_fault-is c.args.offset (events_in c.args.entries.now) c.in_ok-events.events c.in_ok-events.ensures
-    c.in_ok-series.series c.in_ok-series.ensures c.in-Err.fault c.in-Err.ensures.refused)
+pub returns-in-Ok-clause-refused : goal.returns-in-Ok-clause-refused
+returns-in-Ok-clause-refused c =
+    IfErr-weaker c.days_of_key.result _ _
+    (λ f h. fault_stated c.args.offset (events_in c.args.entries.now) c.in-Ok.key.line c.in-Ok.key.series c.in-Ok.ensures.accepted f h)
+    c.days_of_key.ensures.refused

@@ -5,10 +5,10 @@ use Rattle.rr_trip.specs.Entries.{IsSortedOf, entries_of}
 use Rattle.rr_trip.specs.Report.{AreLinesOf}
 use Rattle.rr_trip.proofs.FaultLemmas.{refused_a, refused_b}
 use Rattle.rr_trip.proofs.ReportLemmas.{is_report}
-use Rattle.rr_trip.proofs.comparison.compare.Goals as goal
+use Rattle.rr_trip.proofs.comparison.report_of.Goals as goal
 
 pub returns : goal.returns
-returns c =
+returns g c =
     let sorted : IsSortedOf (entries_of c.in_ok-a.a.items c.in_ok-b.b.items) c.in_ok-entries.entries.items = search rules in
     let lined : AreLinesOf c.args.offset c.in_ok-entries.entries.items c.in_ok-lines_of.field-0.items = search rules in
     record {
@@ -20,11 +20,11 @@ returns c =
     }
 
 pub returns-in_err-a : goal.returns-in_err-a
-returns-in_err-a c =
+returns-in_err-a g c =
     let p = err_from_is_err_and c.from_residual.result c.from_residual.ensures.1 in
     rw (p.1, p.2) (refused_a c.args.offset c.args.old.now c.args.new.now c.in_err-a.field-0.0 c.in_err-a.ensures.answers)
 
 pub returns-in_err-b : goal.returns-in_err-b
-returns-in_err-b c =
+returns-in_err-b g c =
     let p = err_from_is_err_and c.from_residual-in_err-b.result c.from_residual-in_err-b.ensures.1 in
     rw (p.1, p.2) (refused_b c.args.offset c.args.old.now c.args.new.now c.in_err-b.field-0.0 _ c.in_ok-a.ensures.answers c.in_err-b.ensures.answers)
