@@ -228,7 +228,8 @@ module _ {R : Type 0} (language : Language R) where
       beside-more values next value same =
           ap (values_beside (rule_beside start) offset start nothing_beside) (sym same)
           ∙ in_turn-append (value_beside (rule_beside start) offset start) nothing_beside values (value ∷ [])
-          ∙ step_same (values_beside (rule_beside start) offset start nothing_beside values) _ _ (λ b. sym (step_done (value_beside (rule_beside start) offset start b value)))
+          ∙ step_same (values_beside (rule_beside start) offset start nothing_beside values) _ _
+          (λ b. sym (step_done (value_beside (rule_beside start) offset start b value)))
 
       date-followed : (line : ℕ) (is_plus : Bool) (read : ReadLines R) (text : List ℕ) (next : ReadLines R) → kept_date line is_plus read text ≡ Ok next
           → beside_of next ≡ (beside_of read >>= λ b. with_date offset start line is_plus b text)
@@ -239,7 +240,8 @@ module _ {R : Type 0} (language : Language R) where
           (λ (b : Beside R). ap (λ (m : Result Stamp Refusal). m >>= λ s. date_beside offset start line s >>= λ at. Ok (put_date is_plus b at))
           (sym kept.1))
 
-      rule-followed : (line : ℕ) (is_given : Bool) (read : ReadLines R) (text : List ℕ) (next : ReadLines R) → kept_rule language line is_given read text ≡ Ok next
+      rule-followed : (line : ℕ) (is_given : Bool) (read : ReadLines R) (text : List ℕ) (next : ReadLines R)
+          → kept_rule language line is_given read text ≡ Ok next
           → beside_of next ≡ (beside_of read >>= λ b. with_rule language (rule_beside start) line is_given b text)
       rule-followed line is_given read text next h =
           let kept = kept_rule-ok line is_given read text next h in
@@ -254,9 +256,11 @@ module _ {R : Type 0} (language : Language R) where
           ap (values_beside (rule_beside start) offset start nothing_beside) (sym (kept_start-ok line read text next h)) ∙ step_done (beside_of read)
       line-followed line Rrule read text next h = rule-followed line true read text next h
       line-followed line Rdate read text next h =
-          in_turn-followed (kept_date line true) (with_date offset start line true) beside_of (date-followed line true) read (slice_split language.is_separator text) next h
+          in_turn-followed (kept_date line true) (with_date offset start line true) beside_of (date-followed line true) read
+          (slice_split language.is_separator text) next h
       line-followed line Exdate read text next h =
-          in_turn-followed (kept_date line false) (with_date offset start line false) beside_of (date-followed line false) read (slice_split language.is_separator text) next h
+          in_turn-followed (kept_date line false) (with_date offset start line false) beside_of (date-followed line false) read
+          (slice_split language.is_separator text) next h
       line-followed line Exrule read text next h = rule-followed line false read text next h
 
       -- the values beside the start are what the second pass reads
