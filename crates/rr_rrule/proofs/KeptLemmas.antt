@@ -1,15 +1,14 @@
 -- Each value is read once: what is kept of the lines and then put beside the start is what both passes read.
 use Rattle.std.proofs.Common.{◌≡◌, ℕ, ◌+◌, ◌++◌, ◌&&◌, nat_le, Bool, true, false, if◌then◌else◌, List, [], ◌∷◌, Result, Ok, Err, Option, None, Some}
-use Rattle.std.proofs.Common.{refl, sym, ap, ◌∙◌, subst, ℤ}
+use Rattle.std.proofs.Common.{refl, sym, ap, ◌∙◌, subst, arith, ℤ}
 use Rattle.std.specs.Prelude.{All, ok_or}
 use Rattle.std.specs.List.{slice_split}
 use Rattle.std.specs.Option.{IfSome}
 use Rattle.std.proofs.lemmas.List.Elements.{All-nil, All-cons, All-append}
 use Rattle.rr_model.specs.Answers.{Answers}
 use Rattle.rr_model.specs.Moment.Years.{IsInYears}
-use Rattle.rr_model.specs.Text.Calendars.{calendar_scan, is_comma, rrule_language, rule_beside, series_of_event, stated_rule}
-use Rattle.rr_model.specs.Text.Passes.{Beside, Event, Stated, date_beside, date_value, first_pass, has_slash, judged_date, judged_line, judged_rule, judged_start}
-use Rattle.rr_model.specs.Text.Passes.{nothing_beside, passes, put_date, put_rule, second_pass, unless_stopped, with_date, with_line, with_rule}
+use Rattle.rr_model.specs.Text.Passes.{Beside, Event, Language, Stated, date_beside, date_value, first_pass, has_slash, judged_date, judged_line, judged_rule, judged_start}
+use Rattle.rr_model.specs.Text.Passes.{nothing_beside, nothing_read, passes, put_date, put_rule, second_pass, unless_stopped, with_date, with_line, with_rule}
 use Rattle.rr_model.specs.Text.RuleValues.{◌>>=◌}
 use Rattle.rr_model.specs.Text.Steps.{in_turn}
 use Rattle.rr_model.specs.declared.pass.FirstPass.{FirstPass}
@@ -17,22 +16,21 @@ use Rattle.rr_model.specs.declared.refusal.Fault.{Fault}
 use Rattle.rr_model.specs.declared.refusal.Fault.TheVariants.{Refused, NoMemory}
 use Rattle.rr_model.specs.declared.refusal.Refusal.{Refusal}
 use Rattle.rr_model.specs.declared.refusal.Refusal.TheVariants.{NoStart, PeriodValue, TooManyParts}
-use Rattle.rr_model.specs.declared.rule.Rule.{Rule}
 use Rattle.rr_model.specs.declared.stamp.Stamp.{Stamp}
 use Rattle.rr_model.specs.declared.used.LineName.{LineName}
 use Rattle.rr_model.specs.declared.used.LineName.TheVariants.{Dtstart, Rrule, Rdate, Exdate, Exrule}
 use Rattle.rr_model.specs.declared.used.Scan.{Scan}
 use Rattle.rr_model.specs.declared.used.UsedLine.{UsedLine}
 use Rattle.rr_ical.specs.Steps.{Becomes}
-use Rattle.rr_rrule.specs.Kept.{IsValueInYears, kept_date, kept_dates, kept_event, kept_line, kept_lines, kept_rule, kept_series, kept_start, next_date, next_rule}
+use Rattle.rr_rrule.specs.Kept.{IsValueInYears, kept_date, kept_dates, kept_event, kept_line, kept_lines, kept_rule, kept_start, next_date, next_rule}
 use Rattle.rr_rrule.specs.Kept.{nothing_kept, value_beside, values_beside}
 use Rattle.rr_rrule.specs.declared.kept.LineValue.{LineValue}
 use Rattle.rr_rrule.specs.declared.kept.LineValue.TheVariants.{OneDate, OneRule}
 use Rattle.rr_rrule.specs.declared.kept.ReadLines.{ReadLines}
 use Rattle.rr_rrule.proofs.BesideLemmas.{date_value-stamp}
-use Rattle.rr_rrule.proofs.PassLemmas.{in_turn-keeps}
+use Rattle.rr_rrule.proofs.InYearsLemmas.{IsStamp}
+use Rattle.rr_rrule.proofs.PassLemmas.{first_pass-sound, in_turn-keeps}
 use Rattle.rr_rrule.proofs.StepLemmas.{and_then_ok, not_refused}
-use Rattle.rr_rrule.proofs.ValidityLemmas.{FitsUntil, stated_rule-valid}
 use Rattle.rr_rrule.proofs.WrittenPassLemmas.{in_turn-append}
 
 -- ---- steps
@@ -100,208 +98,210 @@ date-next line is_plus pass text = by (nat_le 10_000 pass.date_count) (is_plus &
     by false true = refl
     by false false = refl
 
-rule-next : (line : ℕ) (pass : FirstPass) (text : List ℕ)
-    → judged_rule rrule_language line pass text
-    ≡ (next_rule line pass.rule_count text >>= λ stated. Ok (record pass { rule_count = pass.rule_count + 1 }))
-rule-next line pass text = by (nat_le 16 pass.rule_count)
-  where
-    by : (full : Bool)
-        → (if full then Err TooManyParts else (stated_rule line text >>= λ stated. Ok (record pass { rule_count = pass.rule_count + 1 })))
-        ≡ ((if full then Err TooManyParts else stated_rule line text) >>= λ stated. Ok (record pass { rule_count = pass.rule_count + 1 }))
-    by true = refl
-    by false = refl
+module _ {R : Type 0} (language : Language R) where
+  rule-next : (line : ℕ) (pass : FirstPass) (text : List ℕ)
+      → judged_rule language line pass text
+      ≡ (next_rule language line pass.rule_count text >>= λ stated. Ok (record pass { rule_count = pass.rule_count + 1 }))
+  rule-next line pass text = by (nat_le 16 pass.rule_count)
+    where
+      by : (full : Bool)
+          → (if full then Err TooManyParts else (language.stated line text >>= λ stated. Ok (record pass { rule_count = pass.rule_count + 1 })))
+          ≡ ((if full then Err TooManyParts else language.stated line text) >>= λ stated. Ok (record pass { rule_count = pass.rule_count + 1 }))
+      by true = refl
+      by false = refl
 
--- the pass that is seen of what is read
-abbrev seen : Result ReadLines Refusal → Result FirstPass Refusal
-seen m = m >>= λ (read : ReadLines). Ok read.pass
+  -- the pass that is seen of what is read
+  abbrev seen : Result (ReadLines R) Refusal → Result FirstPass Refusal
+  seen m = m >>= λ (read : ReadLines R). Ok read.pass
 
-date-seen : (line : ℕ) (is_plus : Bool) (read : ReadLines) (text : List ℕ)
-    → seen (kept_date line is_plus read text) ≡ judged_date line is_plus read.pass text
-date-seen line is_plus read text =
-    step_again (next_date line is_plus read.pass.date_count text) _ _ ∙ sym (date-next line is_plus read.pass text)
+  date-seen : (line : ℕ) (is_plus : Bool) (read : ReadLines R) (text : List ℕ)
+      → seen (kept_date line is_plus read text) ≡ judged_date line is_plus read.pass text
+  date-seen line is_plus read text =
+      step_again (next_date line is_plus read.pass.date_count text) _ _ ∙ sym (date-next line is_plus read.pass text)
 
-rule-seen : (line : ℕ) (is_given : Bool) (read : ReadLines) (text : List ℕ)
-    → seen (kept_rule line is_given read text) ≡ judged_rule rrule_language line read.pass text
-rule-seen line is_given read text = step_again (next_rule line read.pass.rule_count text) _ _ ∙ sym (rule-next line read.pass text)
+  rule-seen : (line : ℕ) (is_given : Bool) (read : ReadLines R) (text : List ℕ)
+      → seen (kept_rule language line is_given read text) ≡ judged_rule language line read.pass text
+  rule-seen line is_given read text = step_again (next_rule language line read.pass.rule_count text) _ _ ∙ sym (rule-next line read.pass text)
 
-dates-seen : (line : ℕ) (is_plus : Bool) (read : ReadLines) (texts : List (List ℕ))
-    → seen (kept_dates line is_plus read texts) ≡ in_turn (judged_date line is_plus) read.pass texts
-dates-seen line is_plus =
-    in_turn-seen (λ (read : ReadLines). read.pass) (kept_date line is_plus) (judged_date line is_plus) (date-seen line is_plus)
+  dates-seen : (line : ℕ) (is_plus : Bool) (read : ReadLines R) (texts : List (List ℕ))
+      → seen (kept_dates line is_plus read texts) ≡ in_turn (judged_date line is_plus) read.pass texts
+  dates-seen line is_plus =
+      in_turn-seen (λ (read : ReadLines R). read.pass) (kept_date line is_plus) (judged_date line is_plus) (date-seen line is_plus)
 
-line-seen : (line : ℕ) (name : LineName) (read : ReadLines) (text : List ℕ)
-    → seen (kept_line line name read text) ≡ judged_line rrule_language line name read.pass text
-line-seen line Dtstart read text = step_again (judged_start line read.pass text) _ _ ∙ sym (step_done (judged_start line read.pass text))
-line-seen line Rrule read text = rule-seen line true read text
-line-seen line Rdate read text = dates-seen line true read (slice_split is_comma text)
-line-seen line Exdate read text = dates-seen line false read (slice_split is_comma text)
-line-seen line Exrule read text = rule-seen line false read text
+  line-seen : (line : ℕ) (name : LineName) (read : ReadLines R) (text : List ℕ)
+      → seen (kept_line language line name read text) ≡ judged_line language line name read.pass text
+  line-seen line Dtstart read text = step_again (judged_start line read.pass text) _ _ ∙ sym (step_done (judged_start line read.pass text))
+  line-seen line Rrule read text = rule-seen line true read text
+  line-seen line Rdate read text = dates-seen line true read (slice_split language.is_separator text)
+  line-seen line Exdate read text = dates-seen line false read (slice_split language.is_separator text)
+  line-seen line Exrule read text = rule-seen line false read text
 
--- the pass is that of the first pass
-pub lines-seen : (read : ReadLines) (lines : List UsedLine) → seen (kept_lines read lines) ≡ first_pass rrule_language read.pass lines
-lines-seen =
-    in_turn-seen (λ (read : ReadLines). read.pass) (λ r (line : UsedLine). kept_line line.number line.name r line.value)
-    (λ p (line : UsedLine). judged_line rrule_language line.number line.name p line.value)
-    (λ r line. line-seen line.number line.name r line.value)
+  -- the pass is that of the first pass
+  pub lines-seen : (read : ReadLines R) (lines : List UsedLine) → seen (kept_lines language read lines) ≡ first_pass language read.pass lines
+  lines-seen =
+      in_turn-seen (λ (read : ReadLines R). read.pass) (λ r (line : UsedLine). kept_line language line.number line.name r line.value)
+      (λ p (line : UsedLine). judged_line language line.number line.name p line.value)
+      (λ r line. line-seen line.number line.name r line.value)
 
--- ---- years
+  -- ---- years
 
-kept_date-ok : (line : ℕ) (is_plus : Bool) (read : ReadLines) (text : List ℕ) (next : ReadLines) → kept_date line is_plus read text ≡ Ok next
-    → (stamp : Stamp) × (date_value line text ≡ Ok stamp) × (read.values ++ OneDate line is_plus stamp ∷ [] ≡ next.values)
-kept_date-ok line is_plus read text next h =
-    let value = and_then_ok (next_date line is_plus read.pass.date_count text) _ next h in
-    let room = not_refused (nat_le 10_000 read.pass.date_count) TooManyParts _ value.0 value.1 in
-    let whole = not_refused (is_plus && has_slash text) PeriodValue _ value.0 room.1 in
-    let same : record { pass = record read.pass { date_count = read.pass.date_count + 1 }; values = read.values ++ OneDate line is_plus value.0 ∷ [] } ≡ next = cc in
-    (value.0, whole.1, ap (λ (r : ReadLines). r.values) same)
+  kept_date-ok : (line : ℕ) (is_plus : Bool) (read : ReadLines R) (text : List ℕ) (next : ReadLines R) → kept_date line is_plus read text ≡ Ok next
+      → (stamp : Stamp) × (date_value line text ≡ Ok stamp) × (read.values ++ OneDate line is_plus stamp ∷ [] ≡ next.values)
+  kept_date-ok line is_plus read text next h =
+      let value = and_then_ok (next_date line is_plus read.pass.date_count text) _ next h in
+      let room = not_refused (nat_le 10_000 read.pass.date_count) TooManyParts _ value.0 value.1 in
+      let whole = not_refused (is_plus && has_slash text) PeriodValue _ value.0 room.1 in
+      let same : record { pass = record read.pass { date_count = read.pass.date_count + 1 }; values = read.values ++ OneDate line is_plus value.0 ∷ [] } ≡ next = cc in
+      (value.0, whole.1, ap (λ (r : ReadLines R). r.values) same)
 
-kept_rule-ok : (line : ℕ) (is_given : Bool) (read : ReadLines) (text : List ℕ) (next : ReadLines) → kept_rule line is_given read text ≡ Ok next
-    → (stated : Stated Rule) × (stated_rule line text ≡ Ok stated) × (read.values ++ OneRule line is_given stated ∷ [] ≡ next.values)
-kept_rule-ok line is_given read text next h =
-    let value = and_then_ok (next_rule line read.pass.rule_count text) _ next h in
-    let room = not_refused (nat_le 16 read.pass.rule_count) TooManyParts _ value.0 value.1 in
-    let same : record { pass = record read.pass { rule_count = read.pass.rule_count + 1 }; values = read.values ++ OneRule line is_given value.0 ∷ [] } ≡ next = cc in
-    (value.0, room.1, ap (λ (r : ReadLines). r.values) same)
+  kept_rule-ok : (line : ℕ) (is_given : Bool) (read : ReadLines R) (text : List ℕ) (next : ReadLines R) → kept_rule language line is_given read text ≡ Ok next
+      → (stated : Stated R) × (language.stated line text ≡ Ok stated) × (read.values ++ OneRule line is_given stated ∷ [] ≡ next.values)
+  kept_rule-ok line is_given read text next h =
+      let value = and_then_ok (next_rule language line read.pass.rule_count text) _ next h in
+      let room = not_refused (nat_le 16 read.pass.rule_count) TooManyParts _ value.0 value.1 in
+      let same : record { pass = record read.pass { rule_count = read.pass.rule_count + 1 }; values = read.values ++ OneRule line is_given value.0 ∷ [] } ≡ next = cc in
+      (value.0, room.1, ap (λ (r : ReadLines R). r.values) same)
 
-kept_start-ok : (line : ℕ) (read : ReadLines) (text : List ℕ) (next : ReadLines) → kept_start line read text ≡ Ok next → read.values ≡ next.values
-kept_start-ok line read text next h =
-    let pass = and_then_ok (judged_start line read.pass text) _ next h in
-    let same : record read { pass = pass.0 } ≡ next = cc in
-    ap (λ (r : ReadLines). r.values) same
+  kept_start-ok : (line : ℕ) (read : ReadLines R) (text : List ℕ) (next : ReadLines R) → kept_start line read text ≡ Ok next → read.values ≡ next.values
+  kept_start-ok line read text next h =
+      let pass = and_then_ok (judged_start line read.pass text) _ next h in
+      let same : record read { pass = pass.0 } ≡ next = cc in
+      ap (λ (r : ReadLines R). r.values) same
 
--- each value that is read lies in the years 1 to 9999
-abbrev AreInYears : ReadLines → Type 0
-AreInYears read = All IsValueInYears read.values
+  -- each value that is read lies in the years 1 to 9999
+  abbrev AreInYears : ReadLines R → Type 0
+  AreInYears read = All IsValueInYears read.values
 
-one_more : (values next : List LineValue) (value : LineValue) → values ++ value ∷ [] ≡ next → All IsValueInYears values → IsValueInYears value
-    → All IsValueInYears next
-one_more values next value same all one =
-    subst (All IsValueInYears) same (All-append IsValueInYears values (value ∷ []) all (All-cons IsValueInYears value [] one (All-nil _)))
+  one_more : (values next : List (LineValue R)) (value : LineValue R) → values ++ value ∷ [] ≡ next → All IsValueInYears values → IsValueInYears value
+      → All IsValueInYears next
+  one_more values next value same all one =
+      subst (All IsValueInYears) same (All-append IsValueInYears values (value ∷ []) all (All-cons IsValueInYears value [] one (All-nil _)))
 
-date-in_years : (line : ℕ) (is_plus : Bool) (read : ReadLines) (text : List ℕ) (next : ReadLines) → AreInYears read
-    → kept_date line is_plus read text ≡ Ok next → AreInYears next
-date-in_years line is_plus read text next all h =
-    let kept = kept_date-ok line is_plus read text next h in
-    one_more read.values next.values (OneDate line is_plus kept.0) kept.2 all (date_value-stamp line text kept.0 kept.1).0
-
-until-in_years : (stated : Stated Rule) → FitsUntil stated.until stated.rule.end → IfSome stated.until (λ stamp. IsInYears stamp.kind stamp.at)
-until-in_years stated fits = by stated.until fits
-  where
-    by : (until : Option Stamp) → FitsUntil until stated.rule.end → IfSome until (λ stamp. IsInYears stamp.kind stamp.at)
-    by None f = tt
-    by (Some stamp) f = f.0.0
-
-rule-in_years : (line : ℕ) (is_given : Bool) (read : ReadLines) (text : List ℕ) (next : ReadLines) → AreInYears read
-    → kept_rule line is_given read text ≡ Ok next → AreInYears next
-rule-in_years line is_given read text next all h =
-    let kept = kept_rule-ok line is_given read text next h in
-    one_more read.values next.values (OneRule line is_given kept.0) kept.2 all (until-in_years kept.0 (stated_rule-valid line text kept.0 kept.1).1)
-
-line-in_years : (line : ℕ) (name : LineName) (read : ReadLines) (text : List ℕ) (next : ReadLines) → AreInYears read
-    → kept_line line name read text ≡ Ok next → AreInYears next
-line-in_years line Dtstart read text next all h = subst (All IsValueInYears) (kept_start-ok line read text next h) all
-line-in_years line Rrule read text next all h = rule-in_years line true read text next all h
-line-in_years line Rdate read text next all h =
-    in_turn-keeps (kept_date line true) AreInYears (date-in_years line true) read (slice_split is_comma text) next all h
-line-in_years line Exdate read text next all h =
-    in_turn-keeps (kept_date line false) AreInYears (date-in_years line false) read (slice_split is_comma text) next all h
-line-in_years line Exrule read text next all h = rule-in_years line false read text next all h
-
-pub lines-in_years : (lines : List UsedLine) (read : ReadLines) → kept_lines nothing_kept lines ≡ Ok read → All IsValueInYears read.values
-lines-in_years lines read h =
-    in_turn-keeps (λ r (line : UsedLine). kept_line line.number line.name r line.value) AreInYears
-    (λ r line z all e. line-in_years line.number line.name r line.value z all e) nothing_kept lines read (All-nil _) h
-
--- ---- what the second pass reads
-
-module _ (offset : Option ℤ) (start : Stamp) where
-  -- what the values that are read are beside the start
-  abbrev beside_of : ReadLines → Result (Beside Rule) Refusal
-  beside_of read = values_beside offset start nothing_beside read.values
-
-  -- with one value more
-  beside-more : (values next : List LineValue) (value : LineValue) → values ++ value ∷ [] ≡ next
-      → values_beside offset start nothing_beside next
-      ≡ (values_beside offset start nothing_beside values >>= λ b. value_beside offset start b value)
-  beside-more values next value same =
-      ap (values_beside offset start nothing_beside) (sym same)
-      ∙ in_turn-append (value_beside offset start) nothing_beside values (value ∷ [])
-      ∙ step_same (values_beside offset start nothing_beside values) _ _ (λ b. sym (step_done (value_beside offset start b value)))
-
-  date-followed : (line : ℕ) (is_plus : Bool) (read : ReadLines) (text : List ℕ) (next : ReadLines) → kept_date line is_plus read text ≡ Ok next
-      → beside_of next ≡ (beside_of read >>= λ b. with_date offset start line is_plus b text)
-  date-followed line is_plus read text next h =
+  date-in_years : (line : ℕ) (is_plus : Bool) (read : ReadLines R) (text : List ℕ) (next : ReadLines R) → AreInYears read
+      → kept_date line is_plus read text ≡ Ok next → AreInYears next
+  date-in_years line is_plus read text next all h =
       let kept = kept_date-ok line is_plus read text next h in
-      beside-more read.values next.values (OneDate line is_plus kept.0) kept.2
-      ∙ step_same (beside_of read) _ _
-      (λ (b : Beside Rule). ap (λ (m : Result Stamp Refusal). m >>= λ s. date_beside offset start line s >>= λ at. Ok (put_date is_plus b at))
-      (sym kept.1))
+      one_more read.values next.values (OneDate line is_plus kept.0) kept.2 all (date_value-stamp line text kept.0 kept.1).0
 
-  rule-followed : (line : ℕ) (is_given : Bool) (read : ReadLines) (text : List ℕ) (next : ReadLines) → kept_rule line is_given read text ≡ Ok next
-      → beside_of next ≡ (beside_of read >>= λ b. with_rule rrule_language (rule_beside offset start) line is_given b text)
-  rule-followed line is_given read text next h =
+  rule-in_years : (line : ℕ) (is_given : Bool) (read : ReadLines R) (text : List ℕ) (next : ReadLines R) → AreInYears read
+      → kept_rule language line is_given read text ≡ Ok next → AreInYears next
+  rule-in_years line is_given read text next all h =
       let kept = kept_rule-ok line is_given read text next h in
-      beside-more read.values next.values (OneRule line is_given kept.0) kept.2
-      ∙ step_same (beside_of read) _ _
-      (λ (b : Beside Rule). ap (λ (m : Result (Stated Rule) Refusal). m >>= λ s. rule_beside offset start line s >>= λ rule. Ok (put_rule is_given b rule))
-      (sym kept.1))
+      one_more read.values next.values (OneRule line is_given kept.0) kept.2 all tt
 
-  line-followed : (line : ℕ) (name : LineName) (read : ReadLines) (text : List ℕ) (next : ReadLines) → kept_line line name read text ≡ Ok next
-      → beside_of next ≡ (beside_of read >>= λ b. with_line rrule_language (rule_beside offset start) offset start line name b text)
-  line-followed line Dtstart read text next h =
-      ap (values_beside offset start nothing_beside) (sym (kept_start-ok line read text next h)) ∙ step_done (beside_of read)
-  line-followed line Rrule read text next h = rule-followed line true read text next h
-  line-followed line Rdate read text next h =
-      in_turn-followed (kept_date line true) (with_date offset start line true) beside_of (date-followed line true) read (slice_split is_comma text) next h
-  line-followed line Exdate read text next h =
-      in_turn-followed (kept_date line false) (with_date offset start line false) beside_of (date-followed line false) read (slice_split is_comma text) next h
-  line-followed line Exrule read text next h = rule-followed line false read text next h
+  line-in_years : (line : ℕ) (name : LineName) (read : ReadLines R) (text : List ℕ) (next : ReadLines R) → AreInYears read
+      → kept_line language line name read text ≡ Ok next → AreInYears next
+  line-in_years line Dtstart read text next all h = subst (All IsValueInYears) (kept_start-ok line read text next h) all
+  line-in_years line Rrule read text next all h = rule-in_years line true read text next all h
+  line-in_years line Rdate read text next all h =
+      in_turn-keeps (kept_date line true) AreInYears (date-in_years line true) read (slice_split language.is_separator text) next all h
+  line-in_years line Exdate read text next all h =
+      in_turn-keeps (kept_date line false) AreInYears (date-in_years line false) read (slice_split language.is_separator text) next all h
+  line-in_years line Exrule read text next all h = rule-in_years line false read text next all h
 
-  -- the values beside the start are what the second pass reads
-  pub lines-followed : (lines : List UsedLine) (read : ReadLines) → kept_lines nothing_kept lines ≡ Ok read
-      → values_beside offset start nothing_beside read.values
-      ≡ second_pass rrule_language (rule_beside offset start) offset start nothing_beside lines
-  lines-followed =
-      in_turn-followed (λ r (line : UsedLine). kept_line line.number line.name r line.value)
-      (λ b (line : UsedLine). with_line rrule_language (rule_beside offset start) offset start line.number line.name b line.value) beside_of
-      (λ r line next e. line-followed line.number line.name r line.value next e) nothing_kept
+  pub lines-in_years : (lines : List UsedLine) (read : ReadLines R) → kept_lines language nothing_kept lines ≡ Ok read → All IsValueInYears read.values
+  lines-in_years lines read h =
+      in_turn-keeps (λ r (line : UsedLine). kept_line language line.number line.name r line.value) AreInYears
+      (λ r line z all e. line-in_years line.number line.name r line.value z all e) nothing_kept lines read (All-nil _) h
 
--- ---- the event
+  -- the start lies there too
+  pub start-in_years : (lines : List UsedLine) (read : ReadLines R) (start : Stamp) → kept_lines language nothing_kept lines ≡ Ok read
+      → read.pass.start ≡ Some start → IsInYears start.kind start.at
+  start-in_years lines read start h is =
+      let first : first_pass language nothing_read lines ≡ Ok read.pass = sym (lines-seen nothing_kept lines) ∙ ap seen h in
+      let sound =
+      first_pass-sound language nothing_read lines read.pass (record { start = tt; few_rules = omega arith; few_dates = omega arith }) first in
+      (subst (λ (s : Option Stamp). IfSome s IsStamp) is sound.start).0
 
-abbrev event_at : Stamp → Beside Rule → Result (Event Rule) Refusal
-event_at start beside = Ok (record { start = start; beside = beside })
+  -- ---- what the second pass reads
 
-module _ (offset : Option ℤ) (used : List UsedLine) where
-  abbrev by_values : ReadLines → Stamp → Result (Event Rule) Refusal
-  by_values read start = values_beside offset start nothing_beside read.values >>= event_at start
+  module _ (rule_beside : Stamp → ℕ → Stated R → Result R Refusal) where
+    module _ (offset : Option ℤ) (start : Stamp) where
+      -- what the values that are read are beside the start
+      abbrev beside_of : ReadLines R → Result (Beside R) Refusal
+      beside_of read = values_beside (rule_beside start) offset start nothing_beside read.values
 
-  abbrev by_lines : Stamp → Result (Event Rule) Refusal
-  by_lines start = second_pass rrule_language (rule_beside offset start) offset start nothing_beside used >>= event_at start
+      -- with one value more
+      beside-more : (values next : List (LineValue R)) (value : LineValue R) → values ++ value ∷ [] ≡ next
+          → values_beside (rule_beside start) offset start nothing_beside next
+          ≡ (values_beside (rule_beside start) offset start nothing_beside values >>= λ b. value_beside (rule_beside start) offset start b value)
+      beside-more values next value same =
+          ap (values_beside (rule_beside start) offset start nothing_beside) (sym same)
+          ∙ in_turn-append (value_beside (rule_beside start) offset start) nothing_beside values (value ∷ [])
+          ∙ step_same (values_beside (rule_beside start) offset start nothing_beside values) _ _
+          (λ b. sym (step_done (value_beside (rule_beside start) offset start b value)))
 
-  started : (read : ReadLines) → kept_lines nothing_kept used ≡ Ok read → (start : Option Stamp)
-      → (ok_or start NoStart >>= by_values read) ≡ (ok_or start NoStart >>= by_lines)
-  started read h None = refl
-  started read h (Some start) = ap (λ (m : Result (Beside Rule) Refusal). m >>= event_at start) (lines-followed offset start used read h)
+      date-followed : (line : ℕ) (is_plus : Bool) (read : ReadLines R) (text : List ℕ) (next : ReadLines R) → kept_date line is_plus read text ≡ Ok next
+          → beside_of next ≡ (beside_of read >>= λ b. with_date offset start line is_plus b text)
+      date-followed line is_plus read text next h =
+          let kept = kept_date-ok line is_plus read text next h in
+          beside-more read.values next.values (OneDate line is_plus kept.0) kept.2
+          ∙ step_same (beside_of read) _ _
+          (λ (b : Beside R). ap (λ (m : Result Stamp Refusal). m >>= λ s. date_beside offset start line s >>= λ at. Ok (put_date is_plus b at))
+          (sym kept.1))
 
-  stopped : (read : ReadLines) → kept_lines nothing_kept used ≡ Ok read → (stop : Option Refusal)
-      → (unless_stopped stop read >>= λ (r : ReadLines). ok_or r.pass.start NoStart >>= by_values r)
-      ≡ (unless_stopped stop read.pass >>= λ (p : FirstPass). ok_or p.start NoStart >>= by_lines)
-  stopped read h None = started read h read.pass.start
-  stopped read h (Some refusal) = refl
+      rule-followed : (line : ℕ) (is_given : Bool) (read : ReadLines R) (text : List ℕ) (next : ReadLines R)
+          → kept_rule language line is_given read text ≡ Ok next
+          → beside_of next ≡ (beside_of read >>= λ b. with_rule language (rule_beside start) line is_given b text)
+      rule-followed line is_given read text next h =
+          let kept = kept_rule-ok line is_given read text next h in
+          beside-more read.values next.values (OneRule line is_given kept.0) kept.2
+          ∙ step_same (beside_of read) _ _
+          (λ (b : Beside R). ap (λ (m : Result (Stated R) Refusal). m >>= λ s. rule_beside start line s >>= λ rule. Ok (put_rule is_given b rule))
+          (sym kept.1))
 
-  read_once : (stop : Option Refusal) (m : Result ReadLines Refusal) → kept_lines nothing_kept used ≡ m
-      → (m >>= λ (r : ReadLines). unless_stopped stop r >>= λ (r : ReadLines). ok_or r.pass.start NoStart >>= by_values r)
-      ≡ (seen m >>= λ (p : FirstPass). unless_stopped stop p >>= λ (p : FirstPass). ok_or p.start NoStart >>= by_lines)
-  read_once stop (Ok read) h = stopped read h stop
-  read_once stop (Err refusal) h = refl
+      line-followed : (line : ℕ) (name : LineName) (read : ReadLines R) (text : List ℕ) (next : ReadLines R) → kept_line language line name read text ≡ Ok next
+          → beside_of next ≡ (beside_of read >>= λ b. with_line language (rule_beside start) offset start line name b text)
+      line-followed line Dtstart read text next h =
+          ap (values_beside (rule_beside start) offset start nothing_beside) (sym (kept_start-ok line read text next h)) ∙ step_done (beside_of read)
+      line-followed line Rrule read text next h = rule-followed line true read text next h
+      line-followed line Rdate read text next h =
+          in_turn-followed (kept_date line true) (with_date offset start line true) beside_of (date-followed line true) read
+          (slice_split language.is_separator text) next h
+      line-followed line Exdate read text next h =
+          in_turn-followed (kept_date line false) (with_date offset start line false) beside_of (date-followed line false) read
+          (slice_split language.is_separator text) next h
+      line-followed line Exrule read text next h = rule-followed line false read text next h
 
--- the event of each value read once is the event of both passes
-pub event-kept : (offset : Option ℤ) (scan : Scan) → kept_event offset scan ≡ passes rrule_language (rule_beside offset) offset scan
-event-kept offset scan =
-    read_once offset scan.used scan.stop (kept_lines nothing_kept scan.used) refl
-    ∙ ap (λ (m : Result FirstPass Refusal). m >>= λ (p : FirstPass). unless_stopped scan.stop p
-    >>= λ (p : FirstPass). ok_or p.start NoStart >>= by_lines offset scan.used) (lines-seen nothing_kept scan.used)
+      -- the values beside the start are what the second pass reads
+      pub lines-followed : (lines : List UsedLine) (read : ReadLines R) → kept_lines language nothing_kept lines ≡ Ok read
+          → values_beside (rule_beside start) offset start nothing_beside read.values
+          ≡ second_pass language (rule_beside start) offset start nothing_beside lines
+      lines-followed =
+          in_turn-followed (λ r (line : UsedLine). kept_line language line.number line.name r line.value)
+          (λ b (line : UsedLine). with_line language (rule_beside start) offset start line.number line.name b line.value) beside_of
+          (λ r line next e. line-followed line.number line.name r line.value next e) nothing_kept
 
--- so is the series
-pub series-kept : (offset : Option ℤ) (scan : Scan) → kept_series offset scan ≡ calendar_scan offset scan
-series-kept offset scan = ap (λ (m : Result (Event Rule) Refusal). m >>= λ event. Ok (series_of_event event)) (event-kept offset scan)
+    abbrev event_at : Stamp → Beside R → Result (Event R) Refusal
+    event_at start beside = Ok (record { start = start; beside = beside })
+
+    module _ (offset : Option ℤ) (used : List UsedLine) where
+      abbrev by_values : ReadLines R → Stamp → Result (Event R) Refusal
+      by_values read start = values_beside (rule_beside start) offset start nothing_beside read.values >>= event_at start
+
+      abbrev by_lines : Stamp → Result (Event R) Refusal
+      by_lines start = second_pass language (rule_beside start) offset start nothing_beside used >>= event_at start
+
+      started : (read : ReadLines R) → kept_lines language nothing_kept used ≡ Ok read → (start : Option Stamp)
+          → (ok_or start NoStart >>= by_values read) ≡ (ok_or start NoStart >>= by_lines)
+      started read h None = refl
+      started read h (Some start) = ap (λ (m : Result (Beside R) Refusal). m >>= event_at start) (lines-followed offset start used read h)
+
+      stopped : (read : ReadLines R) → kept_lines language nothing_kept used ≡ Ok read → (stop : Option Refusal)
+          → (unless_stopped stop read >>= λ (r : ReadLines R). ok_or r.pass.start NoStart >>= by_values r)
+          ≡ (unless_stopped stop read.pass >>= λ (p : FirstPass). ok_or p.start NoStart >>= by_lines)
+      stopped read h None = started read h read.pass.start
+      stopped read h (Some refusal) = refl
+
+      read_once : (stop : Option Refusal) (m : Result (ReadLines R) Refusal) → kept_lines language nothing_kept used ≡ m
+          → (m >>= λ (r : ReadLines R). unless_stopped stop r >>= λ (r : ReadLines R). ok_or r.pass.start NoStart >>= by_values r)
+          ≡ (seen m >>= λ (p : FirstPass). unless_stopped stop p >>= λ (p : FirstPass). ok_or p.start NoStart >>= by_lines)
+      read_once stop (Ok read) h = stopped read h stop
+      read_once stop (Err refusal) h = refl
+
+    -- the event of each value read once is the event of both passes
+    pub event-kept : (offset : Option ℤ) (scan : Scan) → kept_event language rule_beside offset scan ≡ passes language rule_beside offset scan
+    event-kept offset scan =
+        read_once offset scan.used scan.stop (kept_lines language nothing_kept scan.used) refl
+        ∙ ap (λ (m : Result FirstPass Refusal). m >>= λ (p : FirstPass). unless_stopped scan.stop p
+        >>= λ (p : FirstPass). ok_or p.start NoStart >>= by_lines offset scan.used) (lines-seen nothing_kept scan.used)

@@ -13,7 +13,7 @@ mod PartOrderLemmas
 mod TextExamples
 pub mod PassLemmas
 pub mod BesideLemmas
-mod KeptLemmas
+pub mod KeptLemmas
 mod LineEndProofs
 mod ScanLemmas
 mod CaseLemmas

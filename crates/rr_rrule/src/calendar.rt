@@ -1,52 +1,113 @@
 // Reads an iCalendar text (RFC 5545, sections 3.4 and 3.8.5).
 ghost use Rattle.std.specs.Prelude.{◌≡◌, IfOk};
+ghost use Rattle.std.specs.List.{slice_split};
+ghost use Rattle.rr_ical.specs.Steps.{Becomes};
+ghost use Rattle.rr_rrule.specs.Kept.{kept_dates};
 ghost use Rattle.rr_model.specs.Answers.{Answers};
+ghost use Rattle.rr_model.specs.Moment.Years.{IsInYears};
 ghost use Rattle.rr_model.specs.Series.Validity.{IsValidSeries};
-ghost use Rattle.rr_model.specs.Text.Calendars.{series_of_event, calendar_scan, calendar_text, reads_calendar};
-ghost use Rattle.rr_rrule.specs.Kept.{kept_series};
+ghost use Rattle.rr_model.specs.Text.Calendars.{is_comma, series_of_event, calendar_scan, calendar_text, reads_calendar};
 
-use crate::first::first_pass;
-use crate::second::{Nearby, Setting, second_pass};
+use crate::event::{ReadEvent, event_of};
+use crate::first::keep_date;
+use crate::kept::ReadLines;
+use crate::language::{RuleLanguage, StatedRule};
+use crate::second::Setting;
+use crate::stated::{rule_beside, stated_rule};
 use rr_ical::event_lines;
-use rr_model::{Fault, Refusal, Scan, Series, Stamp};
+use rr_model::{Fault, NoMemory, Refusal, Rule, Rules, Scan, Series};
 use rr_text::{is_text, without_mark};
 use std::alloc::Global;
 
-// The series of a start, which counts, and what stands beside it.
-fn series_of(start: Stamp, beside: Nearby) -> Series
-    ensures { result ≡ series_of_event (record { start = start; beside = beside }) }
+// The values of RDATE or EXDATE from left to right.
+fn keep_dates(
+    line: u64,
+    is_plus: bool,
+    read: &mut ReadLines<Rule>,
+    text: &[u8],
+) -> Result<(), Fault>
+    ensures { Becomes (kept_dates line is_plus read.old (slice_split is_comma text.now)) read.new result }
 {
-    Series {
-        kind: start.kind,
-        start: start.at,
-        start_counts: true,
-        rules: beside.rules,
-        excluded: beside.excluded,
-        plus: beside.plus,
-        minus: beside.minus,
+    for piece in text.split(|b| *b == b',') {
+        keep_date(line, is_plus, read, piece)?;
+    }
+    Ok(())
+}
+
+// How rules of RFC 5545 are read.
+struct RruleLanguage;
+
+impl RuleLanguage<Rule> for RruleLanguage {
+    ghost use Rattle.rr_model.specs.Text.Calendars.{rrule_language, rule_beside};
+
+    ghost language = { rrule_language };
+
+    ghost beside = { rule_beside };
+
+    fn keep_dates(
+        &self,
+        line: u64,
+        is_plus: bool,
+        read: &mut ReadLines<Rule>,
+        text: &[u8],
+    ) -> Result<(), Fault>
+        ensures { Becomes (kept_dates line is_plus read.old (slice_split is_comma text.now)) read.new result }
+    {
+        keep_dates(line, is_plus, read, text)
+    }
+
+    fn stated(&self, alloc: Global, line: u64, text: &[u8]) -> Result<StatedRule<Rule>, Fault> {
+        stated_rule(alloc, line, text)
+    }
+
+    fn rule_beside(
+        &self,
+        _alloc: Global,
+        setting: Setting,
+        line: u64,
+        stated: StatedRule<Rule>,
+    ) -> Result<Rule, Fault>
+        requires { IsInYears setting.start.kind setting.start.at }
+        ensures { Answers (rule_beside setting.offset setting.start line stated) result }
+    {
+        Ok(rule_beside(setting.offset, setting.start, line, stated)?)
     }
 }
 
-// The series of the used lines, each value read once.
-fn kept_series(alloc: Global, offset: Option<i32>, scan: &Scan) -> Result<Series, Fault>
-    ensures { Answers (kept_series offset scan.now) result }
+// The rules as a series holds them.
+fn rules_of(alloc: Global, items: Vec<Rule>) -> Result<Rules, NoMemory>
+    ensures { IfOk result (λ rules. rules ≡ items.items) }
 {
-    let read = first_pass(alloc, scan.used.as_slice())?;
-    if let Some(refusal) = scan.stop {
-        return Err(Fault::Refused(refusal));
+    let mut rules = Rules::new(alloc);
+    for rule in items {
+        rules.put(rule)?;
     }
-    let Some(start) = read.pass.start else {
-        return Err(Fault::Refused(Refusal::NoStart));
-    };
-    let beside = second_pass(alloc, Setting { offset, start }, read.values)?;
-    Ok(series_of(start, beside))
+    Ok(rules)
+}
+
+// The series of an event; its start counts.
+fn series_of(alloc: Global, event: ReadEvent<Rule>) -> Result<Series, NoMemory>
+    ensures { IfOk result (λ series. series ≡ series_of_event event) }
+{
+    let start = event.start;
+    let beside = event.beside;
+    Ok(Series {
+        kind: start.kind,
+        start: start.at,
+        start_counts: true,
+        rules: rules_of(alloc, beside.rules)?,
+        excluded: rules_of(alloc, beside.excluded)?,
+        plus: beside.plus,
+        minus: beside.minus,
+    })
 }
 
 /// The series that the used lines of one event state; see `read`, which refuses in the same order.
 pub fn read_scan(alloc: Global, offset: Option<i32>, scan: &Scan) -> Result<Series, Fault>
     ensures { Answers (calendar_scan offset scan.now) result }
 {
-    kept_series(alloc, offset, scan)
+    let event = event_of(&RruleLanguage, alloc, offset, scan)?;
+    Ok(series_of(alloc, event)?)
 }
 
 #[tactic(auto, unfolding(rr_model::specs::Text::Calendars::calendar_text))]

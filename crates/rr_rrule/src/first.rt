@@ -1,15 +1,13 @@
 // The first pass over the used lines of an event judges each line alone (RFC 5545, section 3.8).
 ghost use Rattle.std.specs.Prelude.{◌≡◌, ◌<◌, IfOk};
-ghost use Rattle.std.specs.List.{slice_split};
 ghost use Rattle.rr_model.specs.Answers.{Answers};
 ghost use Rattle.rr_model.specs.Moment.Years.{IsInYears};
 ghost use Rattle.rr_model.specs.Text.Passes.{judged_start, has_slash, date_value, judged_date};
-ghost use Rattle.rr_model.specs.Text.Calendars.{is_comma};
 ghost use Rattle.rr_ical.specs.Steps.{Becomes};
-ghost use Rattle.rr_rrule.specs.Kept.{kept_date, kept_dates, kept_line, kept_lines, kept_rule, kept_start, next_date, next_rule, nothing_kept};
+ghost use Rattle.rr_rrule.specs.Kept.{kept_date, kept_line, kept_lines, kept_rule, kept_start, next_date, next_rule, nothing_kept};
 
 use crate::kept::{LineValue, LineValues, ReadLines};
-use crate::stated::{StatedRule, stated_rule};
+use crate::language::{RuleLanguage, StatedRule};
 use rr_model::{Fault, FirstPass, LineName, MAX_DATES, MAX_RULES, Refusal, Stamp, UsedLine};
 use rr_text::{basic, trim};
 use std::alloc::Global;
@@ -84,8 +82,13 @@ pub fn judged_date(
     })
 }
 
-// One value of RDATE or EXDATE is kept.
-fn keep_date(line: u64, is_plus: bool, read: &mut ReadLines, text: &[u8]) -> Result<(), Fault>
+/// Keeps one value of RDATE or EXDATE; see `judged_date`.
+pub fn keep_date<R: Drop>(
+    line: u64,
+    is_plus: bool,
+    read: &mut ReadLines<R>,
+    text: &[u8],
+) -> Result<(), Fault>
     ensures { Becomes (kept_date line is_plus read.old text.now) read.new result }
 {
     let stamp = next_date(line, is_plus, read.pass.date_count, text)?;
@@ -98,38 +101,35 @@ fn keep_date(line: u64, is_plus: bool, read: &mut ReadLines, text: &[u8]) -> Res
     Ok(())
 }
 
-// The values of RDATE or EXDATE from left to right.
-fn keep_dates(line: u64, is_plus: bool, read: &mut ReadLines, text: &[u8]) -> Result<(), Fault>
-    ensures { Becomes (kept_dates line is_plus read.old (slice_split is_comma text.now)) read.new result }
-{
-    for piece in text.split(|b| *b == b',') {
-        keep_date(line, is_plus, read, piece)?;
-    }
-    Ok(())
-}
-
 // One more rule, where so many are read; it is read only where there is room for it.
-fn next_rule(alloc: Global, line: u64, rule_count: usize, text: &[u8]) -> Result<StatedRule, Fault>
-    ensures answer { Answers (next_rule line rule_count text.now) result }
+fn next_rule<R: Drop, L: RuleLanguage<R>>(
+    language: &L,
+    alloc: Global,
+    line: u64,
+    rule_count: usize,
+    text: &[u8],
+) -> Result<StatedRule<R>, Fault>
+    ensures answer { Answers (next_rule L.language line rule_count text.now) result }
     ensures room { IfOk result (λ stated. rule_count < 16) }
 {
     if rule_count >= MAX_RULES {
         return Err(Fault::Refused(Refusal::TooManyParts));
     }
-    stated_rule(alloc, line, text)
+    language.stated(alloc, line, text)
 }
 
 // The rule of RRULE or EXRULE is kept.
-fn keep_rule(
+fn keep_rule<R: Drop, L: RuleLanguage<R>>(
+    language: &L,
     alloc: Global,
     line: u64,
     is_given: bool,
-    read: &mut ReadLines,
+    read: &mut ReadLines<R>,
     text: &[u8],
 ) -> Result<(), Fault>
-    ensures { Becomes (kept_rule line is_given read.old text.now) read.new result }
+    ensures { Becomes (kept_rule L.language line is_given read.old text.now) read.new result }
 {
-    let stated = next_rule(alloc, line, read.pass.rule_count, text)?;
+    let stated = next_rule(language, alloc, line, read.pass.rule_count, text)?;
     read.pass.rule_count += 1;
     read.values.put(LineValue::OneRule {
         line,
@@ -140,7 +140,7 @@ fn keep_rule(
 }
 
 // The start is kept.
-fn keep_start(line: u64, read: &mut ReadLines, text: &[u8]) -> Result<(), Fault>
+fn keep_start<R: Drop>(line: u64, read: &mut ReadLines<R>, text: &[u8]) -> Result<(), Fault>
     ensures { Becomes (kept_start line read.old text.now) read.new result }
 {
     read.pass = judged_start(line, read.pass, text)?;
@@ -148,27 +148,32 @@ fn keep_start(line: u64, read: &mut ReadLines, text: &[u8]) -> Result<(), Fault>
 }
 
 // One used line.
-fn keep_line(
+fn keep_line<R: Drop, L: RuleLanguage<R>>(
+    language: &L,
     alloc: Global,
-    line: u64,
-    name: LineName,
-    read: &mut ReadLines,
-    text: &[u8],
+    read: &mut ReadLines<R>,
+    line: &UsedLine,
 ) -> Result<(), Fault>
-    ensures { Becomes (kept_line line name read.old text.now) read.new result }
+    ensures { Becomes (kept_line L.language line.now.number line.now.name read.old line.now.value) read.new result }
 {
-    match name {
-        LineName::Dtstart => keep_start(line, read, text),
-        LineName::Rrule => keep_rule(alloc, line, true, read, text),
-        LineName::Exrule => keep_rule(alloc, line, false, read, text),
-        LineName::Rdate => keep_dates(line, true, read, text),
-        LineName::Exdate => keep_dates(line, false, read, text),
+    let number = line.number;
+    let text = line.value.as_slice();
+    match line.name {
+        LineName::Dtstart => keep_start(number, read, text),
+        LineName::Rrule => keep_rule(language, alloc, number, true, read, text),
+        LineName::Exrule => keep_rule(language, alloc, number, false, read, text),
+        LineName::Rdate => language.keep_dates(number, true, read, text),
+        LineName::Exdate => language.keep_dates(number, false, read, text),
     }
 }
 
 /// The first pass: the start, and each rule and date value as its line states it.
-pub(crate) fn first_pass(alloc: Global, lines: &[UsedLine]) -> Result<ReadLines, Fault>
-    ensures { Answers (kept_lines nothing_kept lines.now) result }
+pub(crate) fn first_pass<R: Drop, L: RuleLanguage<R>>(
+    language: &L,
+    alloc: Global,
+    lines: &[UsedLine],
+) -> Result<ReadLines<R>, Fault>
+    ensures { Answers (kept_lines L.language nothing_kept lines.now) result }
 {
     let mut read = ReadLines {
         pass: FirstPass {
@@ -179,13 +184,7 @@ pub(crate) fn first_pass(alloc: Global, lines: &[UsedLine]) -> Result<ReadLines,
         values: LineValues::new(alloc),
     };
     for line in lines {
-        keep_line(
-            alloc,
-            line.number,
-            line.name,
-            &mut read,
-            line.value.as_slice(),
-        )?;
+        keep_line(language, alloc, &mut read, line)?;
     }
     Ok(read)
 }

@@ -1,14 +1,14 @@
 // What the lines of an event state, each value read once (RFC 5545, section 3.8).
 ghost use Rattle.std.specs.Prelude.{◌≡◌, [], ◌∷◌, ◌++◌, OnOk};
 
-use crate::stated::StatedRule;
+use crate::language::StatedRule;
 use rr_model::{FirstPass, NoMemory, Stamp};
 use std::alloc::Global;
 use std::marker::Model;
 
 /// A value of a line, as it states it alone.
 #[derive(Drop)]
-pub(crate) enum LineValue {
+pub enum LineValue<R> {
     /// A value of RDATE or EXDATE.
     OneDate {
         /// The number of its line.
@@ -25,28 +25,28 @@ pub(crate) enum LineValue {
         /// Whether it is the rule of RRULE.
         is_given: bool,
         /// What it states.
-        stated: StatedRule,
+        stated: StatedRule<R>,
     },
 }
 
 /// Values, in the order in which they were put.
 #[derive(Drop)]
-pub(crate) struct LineValues {
-    items: Vec<LineValue>,
+pub struct LineValues<R> {
+    items: Vec<LineValue<R>>,
 }
 
-impl Model for LineValues {
+impl<R> Model for LineValues<R> {
     ghost use Rattle.std.specs.Prelude.{List};
     ghost use Rattle.rr_rrule.specs.declared.kept.LineValue.{LineValue};
 
-    ghost Value = { List LineValue };
+    ghost Value = { List (LineValue R) };
 
     ghost view = { λ l. l.items.items };
 }
 
-impl LineValues {
+impl<R: Drop> LineValues<R> {
     /// The empty list; it takes no memory.
-    pub(crate) fn new(alloc: Global) -> Self
+    pub fn new(alloc: Global) -> Self
         ensures { result ≡ [] }
     {
         LineValues {
@@ -55,7 +55,7 @@ impl LineValues {
     }
 
     /// Puts a value at the end.
-    pub(crate) fn put(&mut self, value: LineValue) -> Result<(), NoMemory>
+    pub fn put(&mut self, value: LineValue<R>) -> Result<(), NoMemory>
         ensures { OnOk result (self.new ≡ self.old ++ value ∷ []) }
     {
         self.items.push(value)?;
@@ -63,7 +63,7 @@ impl LineValues {
     }
 
     /// The values in order.
-    pub(crate) fn into_items(self) -> Vec<LineValue>
+    pub fn into_items(self) -> Vec<LineValue<R>>
         ensures { result.items ≡ self }
     {
         self.items
@@ -72,9 +72,9 @@ impl LineValues {
 
 /// What the first pass reads.
 #[derive(Drop)]
-pub(crate) struct ReadLines {
+pub struct ReadLines<R> {
     /// The start, and how many rules and dates there are.
-    pub(crate) pass: FirstPass,
+    pub pass: FirstPass,
     /// The rules and dates.
-    pub(crate) values: LineValues,
+    pub values: LineValues<R>,
 }

@@ -2,8 +2,10 @@
 #![tactic(auto)]
 
 mod calendar;
+mod event;
 mod first;
 mod kept;
+mod language;
 mod laws;
 mod lists;
 mod numbers;
@@ -19,7 +21,10 @@ mod write_line;
 mod write_series;
 
 pub use calendar::{read, read_scan};
-pub use first::{date_value, judged_date, judged_start};
+pub use event::{ReadEvent, event_of};
+pub use first::{date_value, judged_date, judged_start, keep_date};
+pub use kept::{LineValue, LineValues, ReadLines};
+pub use language::{RuleLanguage, StatedRule};
 pub use laws::{
     calendar_is_read_back, case_does_not_matter, folding_does_not_matter, line_ends_do_not_matter,
     order_does_not_matter,
@@ -32,7 +37,7 @@ pub use parts::{
     without_last_semicolon,
 };
 pub use rule::{end_of, rule_with};
-pub use second::{Setting, date_beside};
+pub use second::{Nearby, Setting, date_beside};
 pub use stated::end_beside;
 pub use values::{line_value, split_once};
 pub use words::{is_word, part_named, weekday_named};

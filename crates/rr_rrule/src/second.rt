@@ -8,27 +8,31 @@ ghost use Rattle.rr_ical.specs.Steps.{Becomes};
 ghost use Rattle.rr_rrule.specs.Kept.{IsValueInYears, value_beside, values_beside};
 
 use crate::kept::{LineValue, LineValues};
-use crate::stated::{moment_beside, rule_beside};
-use rr_model::{Dates, Fault, Kind, NoMemory, Refusal, Rule, Rules, Stamp};
+use crate::language::RuleLanguage;
+use crate::stated::moment_beside;
+use rr_model::{Dates, Fault, Kind, NoMemory, Refusal, Stamp};
 use std::alloc::Global;
 use std::marker::Model;
 
 /// Rules, excluded rules and dates beside a start.
 #[derive(Drop)]
-pub(crate) struct Nearby {
-    pub(crate) rules: Rules,
-    pub(crate) excluded: Rules,
-    pub(crate) plus: Dates,
-    pub(crate) minus: Dates,
+pub struct Nearby<R> {
+    /// The rules of RRULE.
+    pub rules: Vec<R>,
+    /// The rules of EXRULE.
+    pub excluded: Vec<R>,
+    /// The values of RDATE.
+    pub plus: Dates,
+    /// The values of EXDATE.
+    pub minus: Dates,
 }
 
-impl Model for Nearby {
-    ghost use Rattle.rr_model.specs.declared.rule.Rule.{Rule};
+impl<R> Model for Nearby<R> {
     ghost use Rattle.rr_model.specs.Text.Passes.{Beside};
 
-    ghost Value = { Beside Rule };
+    ghost Value = { Beside R };
 
-    ghost view = { λ n. record { rules = n.rules; excluded = n.excluded; plus = n.plus; minus = n.minus } };
+    ghost view = { λ n. record { rules = n.rules.items; excluded = n.excluded.items; plus = n.plus; minus = n.minus } };
 }
 
 /// What the values of an event stand beside.
@@ -64,7 +68,7 @@ pub fn date_beside(setting: Setting, line: u64, stamp: Stamp) -> Result<i64, Ref
 }
 
 // With one date more.
-fn put_date(is_plus: bool, beside: &mut Nearby, at: i64) -> Result<(), NoMemory>
+fn put_date<R: Drop>(is_plus: bool, beside: &mut Nearby<R>, at: i64) -> Result<(), NoMemory>
     ensures { OnOk result (beside.new ≡ put_date is_plus beside.old at) }
 {
     if is_plus {
@@ -76,21 +80,28 @@ fn put_date(is_plus: bool, beside: &mut Nearby, at: i64) -> Result<(), NoMemory>
 }
 
 // With one rule more, of RRULE or EXRULE.
-fn put_rule(is_given: bool, beside: &mut Nearby, rule: Rule) -> Result<(), NoMemory>
+fn put_rule<R: Drop>(is_given: bool, beside: &mut Nearby<R>, rule: R) -> Result<(), NoMemory>
     ensures { OnOk result (beside.new ≡ put_rule is_given beside.old rule) }
 {
     if is_given {
-        beside.rules.put(rule)?;
+        beside.rules.push(rule)?;
     } else {
-        beside.excluded.put(rule)?;
+        beside.excluded.push(rule)?;
     }
     Ok(())
 }
 
 // One value beside the start.
-fn put_value(setting: Setting, beside: &mut Nearby, value: LineValue) -> Result<(), Fault>
-    requires { IsValueInYears value }
-    ensures { Becomes (value_beside setting.offset setting.start beside.old value) beside.new result }
+fn put_value<R: Drop, L: RuleLanguage<R>>(
+    language: &L,
+    alloc: Global,
+    setting: Setting,
+    beside: &mut Nearby<R>,
+    value: LineValue<R>,
+) -> Result<(), Fault>
+    requires start { IsInYears setting.start.kind setting.start.at }
+    requires value { IsValueInYears value }
+    ensures { Becomes (value_beside (L.beside setting.offset setting.start) setting.offset setting.start beside.old value) beside.new result }
 {
     match value {
         LineValue::OneDate {
@@ -106,36 +117,38 @@ fn put_value(setting: Setting, beside: &mut Nearby, value: LineValue) -> Result<
             is_given,
             stated,
         } => {
-            let rule = rule_beside(setting.offset, setting.start, line, stated)?;
+            let rule = language.rule_beside(alloc, setting, line, stated)?;
             put_rule(is_given, beside, rule)?;
         }
     }
     Ok(())
 }
 
-fn nothing_beside(alloc: Global) -> Nearby
+fn nothing_beside<R: Drop>(alloc: Global) -> Nearby<R>
     ensures { result ≡ nothing_beside }
 {
     Nearby {
-        rules: Rules::new(alloc),
-        excluded: Rules::new(alloc),
+        rules: Vec::new(alloc),
+        excluded: Vec::new(alloc),
         plus: Dates::new(alloc),
         minus: Dates::new(alloc),
     }
 }
 
 /// The second pass: the rules and dates of the lines, judged beside the start.
-pub(crate) fn second_pass(
+pub(crate) fn second_pass<R: Drop, L: RuleLanguage<R>>(
+    language: &L,
     alloc: Global,
     setting: Setting,
-    values: LineValues,
-) -> Result<Nearby, Fault>
-    requires { All IsValueInYears values }
-    ensures { Answers (values_beside setting.offset setting.start nothing_beside values) result }
+    values: LineValues<R>,
+) -> Result<Nearby<R>, Fault>
+    requires start { IsInYears setting.start.kind setting.start.at }
+    requires values { All IsValueInYears values }
+    ensures { Answers (values_beside (L.beside setting.offset setting.start) setting.offset setting.start nothing_beside values) result }
 {
     let mut beside = nothing_beside(alloc);
     for value in values.into_items() {
-        put_value(setting, &mut beside, value)?;
+        put_value(language, alloc, setting, &mut beside, value)?;
     }
     Ok(beside)
 }

@@ -1,5 +1,5 @@
 // The rule that a line states, and what it becomes beside the start (RFC 5545, section 3.3.10).
-ghost use Rattle.std.specs.Prelude.{◌≡◌, ◌+ℤ◌, ◌≤ℤ◌, ◌<ℤ◌, neg_ℤ, pos, IfSome, IfOk};
+ghost use Rattle.std.specs.Prelude.{◌≡◌, ◌+ℤ◌, ◌≤ℤ◌, ◌<ℤ◌, neg_ℤ, pos, IfSome};
 ghost use Rattle.rr_model.specs.Answers.{Answers};
 ghost use Rattle.rr_model.specs.Moment.Years.{IsInYears, is_in_years};
 ghost use Rattle.rr_model.specs.Text.Passes.{turned, moment_beside};
@@ -7,30 +7,12 @@ ghost use Rattle.rr_model.specs.Text.Calendars.{stated_rule, end_at, end_beside,
 ghost use Rattle.rr_model.specs.Text.Rules.{has_time, rule_parts};
 ghost use Rattle.rr_model.specs.declared.kind.Kind.TheVariants.{Moments};
 
+use crate::language::StatedRule;
 use crate::parts::parts_of;
 use crate::rule::{rule_of, takes_start};
 use crate::values::line_value;
-use rr_model::{End, Fault, Kind, NoMemory, Refusal, Rule, RuleParts, Stamp};
+use rr_model::{End, Fault, Kind, Refusal, Rule, RuleParts, Stamp};
 use std::alloc::Global;
-use std::marker::Model;
-
-/// A rule as its line states it.
-#[derive(Drop)]
-pub(crate) struct StatedRule {
-    /// The rule.
-    pub(crate) rule: Box<Rule>,
-    /// Its UNTIL, which is its end too.
-    pub(crate) until: Option<Stamp>,
-}
-
-impl Model for StatedRule {
-    ghost use Rattle.rr_model.specs.declared.rule.Rule.{Rule};
-    ghost use Rattle.rr_model.specs.Text.Passes.{Stated};
-
-    ghost Value = { Stated Rule };
-
-    ghost view = { λ s. record { rule = s.rule.value; until = s.until } };
-}
 
 #[tactic(auto, unfolding(rr_model::specs::Text::Rules::rule_parts))]
 fn rule_parts(alloc: Global, line: u64, text: &[u8]) -> Result<RuleParts, Fault>
@@ -40,23 +22,15 @@ fn rule_parts(alloc: Global, line: u64, text: &[u8]) -> Result<RuleParts, Fault>
     parts_of(alloc, line, &value)
 }
 
-// A rule in memory of its own.
-fn boxed(alloc: Global, rule: Rule) -> Result<Box<Rule>, NoMemory>
-    ensures { IfOk result (λ kept. kept.value ≡ rule) }
-{
-    Ok(Box::new(alloc, rule)?)
-}
-
 /// The rule that the value of a line states.
 #[tactic(auto, unfolding(rr_model::specs::Text::Calendars::stated_rule))]
-pub(crate) fn stated_rule(alloc: Global, line: u64, text: &[u8]) -> Result<StatedRule, Fault>
-    ensures answer { Answers (stated_rule line text.now) result }
-    ensures years { IfOk result (λ stated. IfSome stated.until (λ stamp. IsInYears stamp.kind stamp.at)) }
+pub(crate) fn stated_rule(alloc: Global, line: u64, text: &[u8]) -> Result<StatedRule<Rule>, Fault>
+    ensures { Answers (stated_rule line text.now) result }
 {
     let parts = rule_parts(alloc, line, text)?;
     let until = parts.until;
-    let rule = boxed(alloc, rule_of(line, parts)?)?;
-    Ok(StatedRule { rule, until })
+    let rule = rule_of(line, parts)?;
+    Ok(StatedRule::new(alloc, rule, until)?)
 }
 
 // Whether a moment lies in the years 1 to 9999.
@@ -156,13 +130,13 @@ pub(crate) fn rule_beside(
     offset: Option<i32>,
     start: Stamp,
     line: u64,
-    stated: StatedRule,
+    stated: StatedRule<Rule>,
 ) -> Result<Rule, Refusal>
-    requires { IfSome stated.until (λ stamp. IsInYears stamp.kind stamp.at) }
     ensures { result ≡ rule_beside offset start line stated }
 {
-    let end = end_beside(offset, start, line, stated.until, stated.rule.end)?;
-    let mut rule = Box::into_inner(stated.rule);
+    let until = stated.until();
+    let mut rule = stated.into_rule();
+    let end = end_beside(offset, start, line, until, rule.end)?;
     if !takes_start(rule.freq, start.kind) {
         return Err(Refusal::NotAllowed);
     }

@@ -1,6 +1,6 @@
 -- Worked cases of the order of items, and of counted members of vCalendar rules.
 use Rattle.std.proofs.Common.{◌≡◌, [], ◌∷◌, pos, neg_ℤ, true, Less, Greater, refl}
-use Rattle.rr_model.specs.Vcal.Items.{item_lt, item_key, item_cmp, item_eq, group_of}
+use Rattle.rr_model.specs.Vcal.Items.{item_lt, item_cmp, item_eq, group_of}
 use Rattle.rr_model.specs.Vcal.Members.{is_vcal_candidate, vcal_members_to}
 use Rattle.rr_model.specs.Whole.Count.{count_from}
 use Rattle.rr_model.specs.declared.item.Item.TheVariants.{Every, MonthDay, Place}

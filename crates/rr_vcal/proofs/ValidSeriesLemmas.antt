@@ -10,7 +10,7 @@ use Rattle.rr_model.specs.Series.Validity.{IsValidSeries}
 use Rattle.rr_model.specs.Vcal.Counterpart.{rule_of_vrule, rules_of_vrules}
 use Rattle.rr_model.specs.Vcal.Validity.{IsValidVRule, IsValidVSeries}
 use Rattle.rr_model.specs.declared.kind.Kind.{Kind}
-use Rattle.rr_model.specs.declared.limits.TheConstants.{MAX_RULES, MAX_DATES}
+use Rattle.rr_model.specs.declared.limits.TheConstants.{MAX_DATES}
 use Rattle.rr_model.specs.declared.rule.Rule.{Rule}
 use Rattle.rr_model.specs.declared.vcal.VRule.{VRule}
 use Rattle.rr_model.specs.declared.vcal.VSeries.{VSeries}

@@ -1,14 +1,13 @@
 // A rule beside the start of its series.
-ghost use Rattle.std.specs.Prelude.{◌≡◌, ◌≤◌, IfOk, IfSome, pos};
+ghost use Rattle.std.specs.Prelude.{◌≡◌, ◌≤◌, IfOk, pos};
 ghost use Rattle.rr_model.specs.Answers.{Answers};
 ghost use Rattle.rr_model.specs.Calendar.{IsDayWithin};
 ghost use Rattle.rr_model.specs.Moment.Years.{IsInYears};
 ghost use Rattle.rr_model.specs.Vcal.Reading.{own_items, filled_items, vrule_beside};
 
-use crate::rule::StatedVRule;
 use rr_cal::{date_of, day_of_year, weekday};
 use rr_model::{FamilyKind, Fault, Item, Items, NoMemory, VRule, day_part};
-use rr_rrule::{Setting, end_beside};
+use rr_rrule::{Setting, StatedRule, end_beside};
 use std::alloc::Global;
 
 // The item of a day, for a rule that lists none.
@@ -60,15 +59,15 @@ pub(crate) fn vrule_beside(
     alloc: Global,
     setting: Setting,
     line: u64,
-    stated: StatedVRule,
+    stated: StatedRule<VRule>,
 ) -> Result<VRule, Fault>
-    requires start { IsInYears setting.start.kind setting.start.at }
-    requires until { IfSome stated.until (λ stamp. IsInYears stamp.kind stamp.at) }
+    requires { IsInYears setting.start.kind setting.start.at }
     ensures { Answers (vrule_beside setting.offset setting.start line stated) result }
 {
     let start = setting.start;
-    let end = end_beside(setting.offset, start, line, stated.until, stated.rule.end)?;
-    let mut rule = stated.rule;
+    let until = stated.until();
+    let mut rule = stated.into_rule();
+    let end = end_beside(setting.offset, start, line, until, rule.end)?;
     rule.items = filled_items(
         alloc,
         rule.family,

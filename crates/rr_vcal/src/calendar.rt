@@ -5,42 +5,46 @@ ghost use Rattle.rr_model.specs.Vcal.Reading.{vseries_of_event, reads_vcal};
 ghost use Rattle.rr_model.specs.Vcal.Validity.{IsValidVSeries};
 ghost use Rattle.rr_vcal.specs.Scans.{vcal_scan};
 
-use crate::first::first_pass;
-use crate::second::{Nearby, second_pass};
+use crate::language::VcalLanguage;
 use rr_ical::event_lines;
-use rr_model::{Fault, Refusal, Scan, Stamp, VSeries};
-use rr_rrule::Setting;
+use rr_model::{Fault, NoMemory, Scan, VRule, VRules, VSeries};
+use rr_rrule::{ReadEvent, event_of};
 use rr_text::without_mark;
 use std::alloc::Global;
 
-// The series of a start, which counts, and what stands beside it.
-fn vseries_of(start: Stamp, beside: Nearby) -> VSeries
-    ensures { result ≡ vseries_of_event (record { start = start; beside = beside }) }
+// The rules as a series holds them.
+fn rules_of(alloc: Global, items: Vec<VRule>) -> Result<VRules, NoMemory>
+    ensures { IfOk result (λ rules. rules ≡ items.items) }
 {
-    VSeries {
+    let mut rules = VRules::new(alloc);
+    for rule in items {
+        rules.put(rule)?;
+    }
+    Ok(rules)
+}
+
+// The series of an event; its start counts.
+fn vseries_of(alloc: Global, event: ReadEvent<VRule>) -> Result<VSeries, NoMemory>
+    ensures { IfOk result (λ series. series ≡ vseries_of_event event) }
+{
+    let start = event.start;
+    let beside = event.beside;
+    Ok(VSeries {
         kind: start.kind,
         start: start.at,
-        rules: beside.rules,
-        excluded: beside.excluded,
+        rules: rules_of(alloc, beside.rules)?,
+        excluded: rules_of(alloc, beside.excluded)?,
         plus: beside.plus,
         minus: beside.minus,
-    }
+    })
 }
 
 // Both passes over the used lines of an event.
 fn read_scan(alloc: Global, offset: Option<i32>, scan: &Scan) -> Result<VSeries, Fault>
     ensures { Answers (vcal_scan offset scan.now) result }
 {
-    let lines = scan.used.as_slice();
-    let pass = first_pass(alloc, lines)?;
-    if let Some(refusal) = scan.stop {
-        return Err(Fault::Refused(refusal));
-    }
-    let Some(start) = pass.start else {
-        return Err(Fault::Refused(Refusal::NoStart));
-    };
-    let beside = second_pass(alloc, Setting { offset, start }, lines)?;
-    Ok(vseries_of(start, beside))
+    let event = event_of(&VcalLanguage, alloc, offset, scan)?;
+    Ok(vseries_of(alloc, event)?)
 }
 
 #[tactic(auto, unfolding(rr_model::specs::Vcal::Reading::reads_vcal))]

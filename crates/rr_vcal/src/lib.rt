@@ -4,14 +4,13 @@
 mod beside;
 mod calendar;
 mod counterpart;
-mod first;
 mod heads;
 mod items;
+mod language;
 mod laws;
 mod numbers;
 mod rule;
 mod rule_text;
-mod second;
 mod series;
 mod words;
 mod written;

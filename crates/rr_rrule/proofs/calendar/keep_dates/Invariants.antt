@@ -2,7 +2,7 @@ use Rattle.std.proofs.Common.{◌≡◌, length, drop}
 use Rattle.std.specs.List.{slice_split}
 use Rattle.rr_model.specs.Text.Calendars.{is_comma}
 use Rattle.rr_rrule.specs.Kept.{kept_dates}
-use Rattle.rr_rrule.proofs.first.keep_dates.Given as goal
+use Rattle.rr_rrule.proofs.calendar.keep_dates.Given as goal
 
 abbrev pub invariant-loop-piece : goal.invariant-loop-piece
 invariant-loop-piece l =

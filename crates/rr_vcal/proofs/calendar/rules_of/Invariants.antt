@@ -1,0 +1,5 @@
+use Rattle.std.proofs.Common.{◌≡◌, ◌++◌, length, drop}
+use Rattle.rr_vcal.proofs.calendar.rules_of.Given as goal
+
+abbrev pub invariant-loop-rule : goal.invariant-loop-rule
+invariant-loop-rule l = l.rules ++ drop (length l.yielded) l.fn.items.items ≡ l.fn.items.items
