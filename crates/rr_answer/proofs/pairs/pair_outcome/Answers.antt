@@ -33,9 +33,9 @@ returns-then-asks_of_itself c =
     let itself = c.asks_of_itself.ensures c.if-asks_of_itself.true in
     IfOk-weaker c.said.result _ _
     (λ x e. subst (IsPairAnswer c.args.inquiry (IsSubjectRead (operand_in c.args.a) c.args.text_a.now) (IsSubjectRead (operand_in c.args.b) c.args.text_b.now)) (sym e)
-        (subst (λ i. IsPairAnswer i (IsSubjectRead (operand_in c.args.a) c.args.text_a.now) (IsSubjectRead (operand_in c.args.b) c.args.text_b.now) (said Yes))
-            (sym itself.0)
-            (said_of_one_text (operand_in c.args.a) (operand_in c.args.b) c.args.text_a.now c.args.text_b.now itself.1 of_a.subject of_a.judged)))
+    (subst (λ i. IsPairAnswer i (IsSubjectRead (operand_in c.args.a) c.args.text_a.now) (IsSubjectRead (operand_in c.args.b) c.args.text_b.now) (said Yes))
+    (sym itself.0)
+    (said_of_one_text (operand_in c.args.a) (operand_in c.args.b) c.args.text_a.now c.args.text_b.now itself.1 of_a.subject of_a.judged)))
     c.said.ensures
 
 pub returns-in-Ok-read_folded : goal.returns-in-Ok-read_folded
