@@ -15,7 +15,7 @@ use Rattle.rr_model.proofs.WholeLemmas.{floor_whole}
 use Rattle.rr_model.proofs.FloorLemmas.{floor_mod-add}
 use Rattle.rr_model.proofs.CalendarLemmas.{year_of_is, days_into_year_is, days_into_year_below, IsDate-year_of, first_day_of_year-next}
 use Rattle.rr_model.proofs.CalendarLemmas.{weekday_of_below, kind_of_year_below}
-use Rattle.rr_setpos.proofs.RankLemmas.{rank_from_front_is, rank_from_back_is}
+use Rattle.rr_parts.proofs.RankLemmas.{rank_from_front_is, rank_from_back_is}
 use Rattle.rr_expand.specs.Years.{mask_key}
 
 -- ---- what a key tells

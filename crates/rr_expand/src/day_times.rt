@@ -8,7 +8,7 @@ ghost use Rattle.rr_model.specs.Moment.Units.{is_whole_days};
 use crate::spread::push_hours;
 use crate::time_parts::allowed;
 use rr_model::{Kind, NoMemory, Rule};
-use rr_setpos::time_of;
+use rr_parts::time_of;
 use rr_times::TimeSet;
 use std::alloc::Global;
 

@@ -12,7 +12,7 @@ use crate::finer_units::{first_fit, first_unit, push_unit, unit_of, units_of_day
 use crate::unit_times::UnitTimes;
 use rr_cal::Day;
 use rr_model::{Kind, NoMemory, Rule, day_part};
-use rr_setpos::date_parts_hold;
+use rr_parts::date_parts_hold;
 use rr_times::TimeSet;
 use std::alloc::{AllocError, Global};
 

@@ -11,7 +11,7 @@ ghost use Rattle.rr_expand.specs.Spread.{of_hour_number, of_minute_number, of_se
 
 use crate::spread::{push_hour, push_minute};
 use rr_model::{Freq, Rule};
-use rr_setpos::allows;
+use rr_parts::allows;
 use std::alloc::AllocError;
 
 /// How many units a day has.

@@ -11,7 +11,7 @@ ghost use Rattle.rr_expand.specs.Years.{allows_day};
 
 use rr_cal::Day;
 use rr_model::{DayItem, Freq, Numbers, Rule};
-use rr_setpos::{allows, allows_filled};
+use rr_parts::{allows, allows_filled};
 
 // How many days to go on from a day: none of those between is allowed.
 pub(crate) fn days_on(rule: &Rule, start: &Day, day: &Day) -> u8

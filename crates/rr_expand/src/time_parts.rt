@@ -5,7 +5,7 @@ ghost use Rattle.rr_model.specs.Rule.Filled.{filled_part};
 ghost use Rattle.rr_model.specs.Rising.Sets.{IsSetOf};
 
 use rr_model::Numbers;
-use rr_setpos::allows_filled;
+use rr_parts::allows_filled;
 use std::alloc::{AllocError, Global};
 
 // The numbers below `count` that the part allows, where it is filled with the start's own number if absent and wanted.

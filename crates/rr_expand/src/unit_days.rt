@@ -10,7 +10,7 @@ ghost use Rattle.rr_expand.specs.Expansion.{IsAllowedDay};
 
 use rr_cal::{Day, days_in_unit, first_day_of_unit};
 use rr_model::{Dates, NoMemory, Rule};
-use rr_setpos::{date_parts_hold, fits};
+use rr_parts::{date_parts_hold, fits};
 use std::alloc::Global;
 
 /// The days of a unit of a rule, DAILY or coarser, at which its date parts hold, filled from the start's day, and the

@@ -4,7 +4,7 @@ ghost use Rattle.rr_expand.specs.UnitTimes.{AreNumbersOfUnit, AreUnitTimes};
 
 use crate::time_parts::allowed;
 use rr_model::{Numbers, Rule};
-use rr_setpos::{time_of, wants_minute, wants_second};
+use rr_parts::{time_of, wants_minute, wants_second};
 use std::alloc::{AllocError, Global};
 
 /// The minutes and seconds that the time parts of a rule allow in a unit that is shorter than a day, filled from its start

@@ -6,7 +6,7 @@ ghost use Rattle.rr_expand.specs.Years.{IsFirstBit, IsYearMask, allows_day, is_b
 use crate::left_out::{days_on, later};
 use rr_cal::{Date, Day, day_of, days_in_year, year_kind};
 use rr_model::Rule;
-use rr_setpos::date_parts_hold;
+use rr_parts::date_parts_hold;
 
 /// The days of a year that the date parts of a rule allow (RFC 5545, section 3.3.10), a bit for each: bit `k`, counted
 /// from the lowest bit of the first word, is that of day `k` of the year, where 1 January is day 0.

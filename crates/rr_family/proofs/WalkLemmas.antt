@@ -15,7 +15,7 @@ use Rattle.rr_model.specs.declared.kind.Kind.{Kind}
 use Rattle.rr_model.specs.declared.sketch.Sketch.{Sketch}
 use Rattle.rr_model.proofs.CountLemmas.{one, count_from-suc}
 use Rattle.rr_graph.proofs.DayCountLemmas.{count_from-none}
-use Rattle.rr_setpos.proofs.ProductLemmas.{count_from-split}
+use Rattle.rr_parts.proofs.CountLemmas.{count_from-split}
 use Rattle.rr_word.specs.Stretches.{AreFree}
 use Rattle.rr_word.proofs.OneLeastLemmas.{parts_of_moment}
 use Rattle.rr_word.proofs.SketchLemmas.{repeats_from, second_fits}

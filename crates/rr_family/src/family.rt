@@ -6,7 +6,7 @@ ghost use Rattle.rr_model.specs.declared.vcal.FamilyKind.{FamilyKind};
 
 use crate::items::{item_at, many_items};
 use rr_model::{FamilyKind, Item};
-use rr_setpos::is_congruent;
+use rr_num::is_congruent;
 
 /// A kind of vCalendar rule with its interval, for a series that starts on some day.
 ///

@@ -10,7 +10,8 @@ use crate::family::Family;
 use crate::items::from_both_ends;
 use rr_cal::{Day, month_number};
 use rr_model::FamilyKind;
-use rr_setpos::{is_congruent, is_in_place};
+use rr_num::is_congruent;
+use rr_parts::is_in_place;
 
 /// Days of each n months, counted from the front or from the back: the kind MD.
 #[derive(Clone, Copy, Debug)]

@@ -8,7 +8,7 @@ ghost use Rattle.rr_model.specs.declared.vcal.FamilyKind.TheVariants.{YM};
 
 use rr_cal::{Day, month_number, week_index};
 use rr_model::FamilyKind;
-use rr_setpos::is_congruent;
+use rr_num::is_congruent;
 
 /// How many sorts of days a kind of rule tells apart.
 ///

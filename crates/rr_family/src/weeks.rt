@@ -5,7 +5,7 @@ ghost use Rattle.rr_model.specs.Calendar.{IsDayWithin};
 use crate::family::Family;
 use rr_cal::{week_index, weekday};
 use rr_model::FamilyKind;
-use rr_setpos::is_congruent;
+use rr_num::is_congruent;
 
 /// Weekdays of each n weeks, which begin on Monday: the kind W.
 #[derive(Clone, Copy, Debug)]

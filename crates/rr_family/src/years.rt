@@ -5,7 +5,7 @@ ghost use Rattle.rr_model.specs.Calendar.{IsDayWithin};
 use crate::family::Family;
 use rr_cal::Day;
 use rr_model::FamilyKind;
-use rr_setpos::is_congruent;
+use rr_num::is_congruent;
 
 /// The start's day of the month in months of each n years: the kind YM.
 #[derive(Clone, Copy, Debug)]

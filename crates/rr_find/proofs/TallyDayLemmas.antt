@@ -13,7 +13,7 @@ use Rattle.rr_family.specs.Tally.{sort_passes, days_of_sort}
 use Rattle.rr_family.proofs.SortLemmas.{kinds_have_sorts}
 use Rattle.rr_family.proofs.TakingLemmas.{in_window}
 use Rattle.rr_family.proofs.DaySetLemmas.{more_days}
-use Rattle.rr_setpos.proofs.ProductLemmas.{count_from-le}
+use Rattle.rr_parts.proofs.CountLemmas.{count_from-le}
 use Rattle.rr_find.specs.Counted.{IsCountedOn, IsDayResult, AreCounts, HasUnsorted, HasMixed, IsTallied, IsNothingCounted, HasFewDays, has_some_sort}
 
 abbrev pub zeros : ℕ → List ℕ

@@ -22,7 +22,7 @@ use Rattle.rr_model.specs.declared.rule.Freq.TheVariants as freq
 use Rattle.rr_model.specs.declared.rule.Rule.{Rule}
 use Rattle.rr_model.proofs.CountLemmas.{one, count_from-zero, count_from-suc}
 use Rattle.rr_model.proofs.CalendarLemmas.{IsDate-year_of, days_in_month_bounds}
-use Rattle.rr_setpos.proofs.ChoiceLemmas.{is_chosen-plain}
+use Rattle.rr_parts.proofs.ChoiceLemmas.{is_chosen-plain}
 use Rattle.rr_graph.proofs.WholeDayLemmas.{IsDayRule, candidate_is_day}
 use Rattle.rr_model.specs.Rule.DaysAndTimes.{day_holds}
 use Rattle.rr_model.specs.Graph.Occurrences.{is_day_in, is_day_number, rank_in_month, rank_from_month_end, has_index, is_indexed_day}
@@ -32,7 +32,7 @@ use Rattle.rr_graph.proofs.PatternParts.{pattern_of, SamePatternDaysOf, PatternC
 use Rattle.rr_model.specs.declared.graph.Form.{Form}
 use Rattle.rr_model.specs.declared.graph.Form.TheVariants as form
 use Rattle.rr_graph.proofs.FilledLemmas.{rule_of, names_days, filled_same}
-use Rattle.rr_setpos.proofs.ProductLemmas.{count_from-same}
+use Rattle.rr_parts.proofs.CountLemmas.{count_from-same}
 use Rattle.rr_graph.proofs.MonthLemmas.{month_begin, length_of_month, in_same_month, same_month}
 use Rattle.rr_graph.proofs.PlaceLemmas.{front_in_month, back_in_month}
 use Rattle.rr_graph.proofs.PartLemmas.{any_in_sum, some_in_sum, one_day, days_up_to}

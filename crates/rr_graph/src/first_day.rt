@@ -9,7 +9,7 @@ ghost use Rattle.rr_model.specs.Graph.Occurrences.{first_repeat_day, form_holds,
 
 use rr_cal::{Day, month_number, week_index, weekday};
 use rr_model::{Form, Pattern, Range, RangeEnd};
-use rr_setpos::is_congruent;
+use rr_num::is_congruent;
 
 // 9999-12-31.
 const LAST_DAY: i64 = 2_932_896;

@@ -23,7 +23,7 @@ use Rattle.rr_model.proofs.CountLemmas.{count_from-first, one}
 use Rattle.rr_model.proofs.YearLemmas.{four_digit_bounds}
 use Rattle.rr_check.proofs.RuleCycleLemmas.{interval_cycle_some}
 use Rattle.rr_graph.proofs.FirstDayLemmas.{search_found}
-use Rattle.rr_setpos.proofs.ProductLemmas.{count_from-le}
+use Rattle.rr_parts.proofs.CountLemmas.{count_from-le}
 use Rattle.rr_word.proofs.OneLeastLemmas.{one_first, parts_of_moment}
 use Rattle.rr_word.proofs.SketchLemmas.{second_fits}
 use Rattle.rr_family.specs.DaySets.{IsOneSecond, window_days}

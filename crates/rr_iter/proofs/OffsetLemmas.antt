@@ -27,9 +27,10 @@ use Rattle.rr_model.proofs.MomentLemmas.{second_part-moment_at}
 use Rattle.rr_model.proofs.RisingSetLemmas.{rising_at, set_empty, set_push, set_same}
 use Rattle.rr_times.proofs.SplitLemmas.{rising_le}
 use Rattle.rr_setpos.specs.Ranks.{times_before, number_allowed, hour_second_allowed, day_second_allowed, begin_in_day, rank_by_parts, size_by_parts}
-use Rattle.rr_setpos.proofs.ChoiceLemmas.{is_chosen-plain}
-use Rattle.rr_setpos.proofs.ProductLemmas.{count_seconds-same, count_seconds-zero, count_turns}
-use Rattle.rr_setpos.proofs.TimeCountLemmas.{times_of_day, and_assoc, below_more}
+use Rattle.rr_parts.proofs.ChoiceLemmas.{is_chosen-plain}
+use Rattle.rr_parts.proofs.CountLemmas.{count_seconds-same, count_seconds-zero, below_more}
+use Rattle.rr_setpos.proofs.ProductLemmas.{count_turns}
+use Rattle.rr_setpos.proofs.TimeCountLemmas.{times_of_day, and_assoc}
 use Rattle.rr_setpos.proofs.PositionLemmas.{candidate_parts, chosen_candidate, chosen_no_candidate, second_part-below}
 use Rattle.rr_expand.specs.Expansion.{IsCandidateSecond}
 use Rattle.rr_lazy.proofs.TreeLemmas.{and_left}

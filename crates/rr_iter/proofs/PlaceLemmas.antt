@@ -18,7 +18,7 @@ use Rattle.rr_model.proofs.RisingSetLemmas.{Contains-head, Contains-tail, Contai
 use Rattle.rr_model.specs.Rule.DaysAndTimes.{IsCandidateDay}
 use Rattle.rr_setpos.specs.Ranks.{days_before, days_of_unit, first_of_unit, next_of_unit}
 use Rattle.rr_lazy.proofs.TreeLemmas.{and_left, and_right}
-use Rattle.rr_setpos.proofs.ProductLemmas.{count_from-split}
+use Rattle.rr_parts.proofs.CountLemmas.{count_from-split}
 
 count_none : (g : ℤ → Bool) (q : ℤ) (n : ℕ) → ((t : ℤ) → q ≤ℤ t → t <ℤ (q +ℤ pos n) → g t ≡ false) → count_from g q n ≡ 0
 count_none g q zero none = count_from-zero g q

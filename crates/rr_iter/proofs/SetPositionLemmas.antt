@@ -34,10 +34,9 @@ use Rattle.rr_model.proofs.DaysAndTimesLemmas.{candidates_are_days_and_times}
 use Rattle.rr_cal.proofs.DayUnitLemmas.{unit_length}
 use Rattle.rr_setpos.specs.Ranks.{times_before, days_before, days_of_unit, first_of_unit, next_of_unit, rank_by_parts, size_by_parts, is_rank_listed}
 use Rattle.rr_setpos.specs.Nth.{IsPlaceOf, IsRankOf}
-use Rattle.rr_setpos.proofs.ChoiceLemmas.{is_chosen-plain}
+use Rattle.rr_parts.proofs.ChoiceLemmas.{is_chosen-plain}
 use Rattle.rr_setpos.proofs.PositionLemmas.{chosen_candidate, chosen_no_candidate, day_at, second_at}
-use Rattle.rr_setpos.proofs.ProductLemmas.{count_from-le, count_from-split, count_seconds-same}
-use Rattle.rr_setpos.proofs.TimeCountLemmas.{below_more}
+use Rattle.rr_parts.proofs.CountLemmas.{count_from-le, count_from-split, count_seconds-same, below_more}
 use Rattle.rr_setpos.proofs.UnitDayLemmas.{in_unit}
 use Rattle.rr_lazy.proofs.CountingLemmas.{seconds_to, seconds_whole}
 use Rattle.rr_lazy.proofs.TreeLemmas.{and_left, and_right}

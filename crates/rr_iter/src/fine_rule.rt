@@ -24,7 +24,7 @@ use rr_expand::{
 };
 use rr_lazy::OccupiedDay;
 use rr_model::{Kind, NoMemory, Rule, day_part, second_part};
-use rr_setpos::seconds_of_unit;
+use rr_parts::seconds_of_unit;
 use rr_shapes::SetTable;
 use rr_times::TimeSet;
 use std::alloc::Global;

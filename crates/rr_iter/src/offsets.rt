@@ -10,7 +10,7 @@ ghost use Rattle.rr_iter.specs.SetPositions.{IsAtOffset, IsChosenOffset, offset_
 
 use crate::set_positions::times_at_positions;
 use rr_model::{Freq, NoMemory, Rule};
-use rr_setpos::{Time, allows_filled, seconds_of_unit, time_of, wants_minute, wants_second};
+use rr_parts::{Time, allows_filled, seconds_of_unit, time_of, wants_minute, wants_second};
 use rr_times::TimeSet;
 use std::alloc::Global;
 

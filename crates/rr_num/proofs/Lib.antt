@@ -1,3 +1,4 @@
+mod CongruenceLemmas
 mod DivisionLemmas
 pub mod DivisorLemmas
 mod PartsLemmas

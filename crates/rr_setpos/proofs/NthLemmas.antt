@@ -22,8 +22,7 @@ use Rattle.rr_model.proofs.DaysAndTimesLemmas.{time_parts_hold-at, and_true, can
 use Rattle.rr_model.proofs.MomentLemmas.{second_part-moment_at, day_part-moment_at}
 use Rattle.rr_setpos.specs.Ranks.{times_before, days_among, first_of_unit, next_of_unit, rank_in_unit, size_of_unit, begin_in_day}
 use Rattle.rr_setpos.specs.Nth.{IsPlaceOf, IsRankOf, IsNthOfUnit}
-use Rattle.rr_setpos.proofs.ProductLemmas.{count_seconds-mono}
-use Rattle.rr_setpos.proofs.TimeCountLemmas.{below_more}
+use Rattle.rr_parts.proofs.CountLemmas.{count_seconds-mono, below_more}
 use Rattle.rr_setpos.proofs.PositionLemmas.{day_at, second_at, positions_are_ranks, within_unit, unit_of_day, second_part-below, moment_is, coarse_rank}
 use Rattle.rr_setpos.proofs.PositionLemmas.{coarse_size, candidate_parts, of_moments, fine_begin, fine_next, begin_bounds}
 

@@ -25,8 +25,8 @@ use Rattle.rr_model.proofs.MomentLemmas.{day_part-moment_at, second_part-moment_
 use Rattle.rr_model.specs.Sets.Counting.{count_seconds}
 use Rattle.rr_setpos.specs.Ranks.{times_before, days_among, first_of_unit, next_of_unit, days_before, days_of_unit, rank_in_unit, size_of_unit}
 use Rattle.rr_setpos.specs.Ranks.{begin_in_day, rank_by_parts, size_by_parts, is_rank_listed, PositionsAreByParts, SetPositionsAreByParts}
-use Rattle.rr_setpos.proofs.ProductLemmas.{IsProduct, count_product, count_from-split, count_from-same, count_seconds-zero, count_seconds-suc}
-use Rattle.rr_setpos.proofs.ProductLemmas.{count_seconds-split}
+use Rattle.rr_parts.proofs.CountLemmas.{count_from-split, count_from-same, count_seconds-zero, count_seconds-suc, count_seconds-split}
+use Rattle.rr_setpos.proofs.ProductLemmas.{IsProduct, count_product}
 
 -- ---- positions are ranks: from the front one more, from the back what is left
 

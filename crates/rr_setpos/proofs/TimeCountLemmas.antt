@@ -1,28 +1,14 @@
 -- Times counted as products of hours, minutes and seconds.
-use Rattle.std.proofs.Common.{◌≡◌, ℕ, zero, suc, ◌+◌, ◌*◌, ◌/◌, ◌%◌, ◌≤◌, Bool, true, false, cond, ◌&&◌, ℤ, pos, ◌+ℤ◌, refl, sym, ap, ◌∙◌, arith}
-use Rattle.rr_model.specs.Whole.Count.{count_from}
+use Rattle.std.proofs.Common.{◌≡◌, ℕ, zero, suc, ◌+◌, ◌*◌, ◌/◌, ◌%◌, ◌≤◌, Bool, true, false, cond, ◌&&◌, ℤ, pos, refl, ap, ◌∙◌, arith}
 use Rattle.rr_model.specs.Rule.Filled.{filled, hour_of, minute_of, second_of, wants_hour, wants_minute, wants_second}
 use Rattle.rr_model.specs.declared.kind.Kind.TheVariants.{Days, Moments}
 use Rattle.rr_model.specs.declared.rule.Rule.{Rule}
-use Rattle.rr_model.proofs.CountLemmas.{count_from-suc}
 use Rattle.rr_model.specs.Rule.DaysAndTimes.{time_holds}
 use Rattle.rr_model.proofs.DaysAndTimesLemmas.{time_parts_hold-at}
 use Rattle.rr_model.specs.Sets.Counting.{count_seconds}
 use Rattle.rr_setpos.specs.Ranks.{times_before, number_allowed, hour_second_allowed, day_second_allowed}
-use Rattle.rr_setpos.proofs.ProductLemmas.{count_seconds-zero, count_seconds-suc, count_seconds-same, count_turns}
-
--- one more number, which passes or does not
-pub below_more : (f : ℕ → Bool) (n : ℕ) → f n ≡ true → count_seconds f (n + 1) ≡ count_seconds f n + 1
-below_more f n passes = let e : n + 1 ≡ suc n = omega arith in ap (count_seconds f) e ∙ count_seconds-suc f n ∙ rw passes refl
-
-pub below_same : (f : ℕ → Bool) (n : ℕ) → f n ≡ false → count_seconds f (n + 1) ≡ count_seconds f n
-below_same f n fails = let e : n + 1 ≡ suc n = omega arith in ap (count_seconds f) e ∙ count_seconds-suc f n ∙ rw fails (omega arith)
-
-pub from_more : (f : ℤ → Bool) (q : ℤ) (n : ℕ) (x : ℤ) → x ≡ q +ℤ pos n → f x ≡ true → count_from f q (n + 1) ≡ count_from f q n + 1
-from_more f q n x at passes = let e : n + 1 ≡ suc n = omega arith in ap (count_from f q) e ∙ count_from-suc f q n ∙ rw (ap f (sym at) ∙ passes) refl
-
-pub from_same : (f : ℤ → Bool) (q : ℤ) (n : ℕ) (x : ℤ) → x ≡ q +ℤ pos n → f x ≡ false → count_from f q (n + 1) ≡ count_from f q n
-from_same f q n x at fails = let e : n + 1 ≡ suc n = omega arith in ap (count_from f q) e ∙ count_from-suc f q n ∙ rw (ap f (sym at) ∙ fails) (omega arith)
+use Rattle.rr_parts.proofs.CountLemmas.{count_seconds-zero, count_seconds-suc, count_seconds-same}
+use Rattle.rr_setpos.proofs.ProductLemmas.{count_turns}
 
 -- where all pass
 below_all : (f : ℕ → Bool) (n : ℕ) → ((k : ℕ) → f k ≡ true) → count_seconds f n ≡ n

@@ -8,13 +8,10 @@ ghost use Rattle.rr_model.specs.Moment.{day_part};
 ghost use Rattle.rr_model.specs.Moment.Years.{IsInYears};
 ghost use Rattle.rr_model.specs.Rule.Validity.{IsValidRule};
 
-use crate::dates::date_parts_hold;
-use crate::moment::Moment;
 use crate::set_positions::set_positions_hold;
-use crate::times::time_parts_hold;
-use crate::units::interval_holds;
 use rr_cal::Day;
 use rr_model::{Kind, Rule};
+use rr_parts::{Moment, date_parts_hold, interval_holds, time_parts_hold};
 
 /// Whether the rule with this start chooses a moment (RFC 5545, section 3.3.10), which may lie before the start.
 ///

@@ -4,9 +4,9 @@ ghost use Rattle.rr_model.specs.Calendar.{IsDayWithin};
 ghost use Rattle.rr_model.specs.Moment.Units.{is_whole_days};
 ghost use Rattle.rr_setpos.specs.Ranks.{days_among, days_before, days_of_unit, first_of_unit, next_of_unit};
 
-use crate::dates::date_parts_hold;
 use rr_cal::{Day, days_in_unit, first_day_of_unit, unit_of_day};
 use rr_model::Rule;
+use rr_parts::date_parts_hold;
 
 // How many of `count` days from the first on the date parts allow.
 pub(crate) fn days_among(rule: &Rule, start: &Day, first: i64, count: u16) -> u32

@@ -2,20 +2,19 @@
 ghost use Rattle.std.specs.Prelude.{◌≡◌, ◌≤◌, ◌+ℤ◌, IsTrue, false, pos};
 ghost use Rattle.rr_model.specs.Calendar.{IsDayWithin};
 ghost use Rattle.rr_model.specs.Moment.{day_part};
-ghost use Rattle.rr_model.specs.Moment.Units.{is_whole_days, unit_seconds, unit_start};
+ghost use Rattle.rr_model.specs.Moment.Units.{is_whole_days, unit_start};
 ghost use Rattle.rr_model.specs.Moment.Years.{IsInYears};
 ghost use Rattle.rr_model.specs.Rule.Validity.{IsValidRule};
 ghost use Rattle.rr_model.specs.declared.kind.Kind.TheVariants.{Days, Moments};
 ghost use Rattle.rr_setpos.specs.Nth.{IsNthOfUnit, IsRankOf};
 
-use crate::dates::date_parts_hold;
 use crate::day_counts::days_among;
-use crate::moment::Moment;
 use crate::select::{nth_day, nth_time};
 use crate::time_counts::{seconds_of, times_before};
-use crate::units::{fits, is_congruent, unit_number};
 use rr_cal::{days_in_unit, first_day_of_unit};
 use rr_model::{Freq, Kind, Rule, moment_at, second_part};
+use rr_num::is_congruent;
+use rr_parts::{Moment, date_parts_hold, fits, seconds_of_unit, unit_number};
 
 /// The candidate of a unit at a place, from 1 from the front, or negative from the back; none exactly where there is none
 /// (RFC 5545, section 3.3.10, BYSETPOS).
@@ -117,18 +116,5 @@ fn begin_of_unit(freq: Freq, unit: i64) -> i64
         Freq::Hourly => 3_600 * unit,
         Freq::Minutely => 60 * unit,
         _ => unit,
-    }
-}
-
-/// How many seconds an hour, a minute or a second has.
-pub fn seconds_of_unit(freq: Freq) -> u32
-    requires { is_whole_days freq ≡ false }
-    ensures value { result ≡ unit_seconds freq }
-    ensures few { result ≤ 3_600 }
-{
-    match freq {
-        Freq::Hourly => 3_600,
-        Freq::Minutely => 60,
-        _ => 1,
     }
 }

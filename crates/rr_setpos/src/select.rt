@@ -8,14 +8,12 @@ ghost use Rattle.rr_model.specs.Sets.Counting.{count_seconds};
 ghost use Rattle.rr_model.specs.declared.kind.Kind.TheVariants.{Days};
 ghost use Rattle.rr_setpos.specs.Ranks.{day_second_allowed, days_among, hour_second_allowed, number_allowed, times_before};
 
-use crate::dates::date_parts_hold;
-use crate::filled::{wants_hour, wants_minute, wants_second};
-use crate::moment::Moment;
-use crate::numbers::allows_filled;
 use crate::time_counts::{before_in_hour, before_in_minute};
-use crate::times::{Time, time_of};
 use rr_cal::Day;
 use rr_model::{Kind, Numbers, Rule};
+use rr_parts::{
+    Moment, Time, allows_filled, date_parts_hold, time_of, wants_hour, wants_minute, wants_second,
+};
 
 // The second of a day of this rank among those that the time parts allow.
 pub(crate) fn nth_time(rule: &Rule, start: &Moment, rank: u32) -> u32

@@ -9,10 +9,9 @@ ghost use Rattle.rr_model.specs.declared.kind.Kind.TheVariants.{Moments};
 ghost use Rattle.rr_setpos.specs.Ranks.{begin_in_day, days_before, days_of_unit, is_rank_listed, rank_by_parts, size_by_parts, times_before};
 
 use crate::day_counts::{days_before, days_of_unit};
-use crate::moment::Moment;
-use crate::numbers::lists_number;
 use crate::time_counts::{seconds_of, times_before};
 use rr_model::{Freq, Rule, second_part};
+use rr_parts::{Moment, lists_number};
 
 // How many candidates of its unit come before one, and how many the unit has.
 #[derive(Clone, Copy)]

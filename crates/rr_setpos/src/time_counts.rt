@@ -6,11 +6,8 @@ ghost use Rattle.rr_model.specs.Rule.Filled.{wants_second};
 ghost use Rattle.rr_model.specs.Sets.Counting.{count_seconds};
 ghost use Rattle.rr_setpos.specs.Ranks.{day_second_allowed, hour_second_allowed, number_allowed, times_before};
 
-use crate::filled::{wants_hour, wants_minute, wants_second};
-use crate::moment::Moment;
-use crate::numbers::allows_filled;
-use crate::times::{Time, time_of};
 use rr_model::{Kind, Numbers, Rule};
+use rr_parts::{Moment, Time, allows_filled, time_of, wants_hour, wants_minute, wants_second};
 
 // How many seconds a day of the kind has: a date has midnight alone.
 pub(crate) fn seconds_of(kind: Kind) -> u32

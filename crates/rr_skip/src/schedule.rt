@@ -2,14 +2,15 @@
 ghost use Rattle.std.specs.Prelude.{◌≡◌, ◌≤◌, IfOk, pos};
 ghost use Rattle.std.specs.List.{list_any};
 ghost use Rattle.rr_model.specs.Calendar.{IsDayWithin};
-ghost use Rattle.rr_model.specs.Rule.Filled.{filled_part, wants_month, wants_month_day};
+ghost use Rattle.rr_model.specs.Rule.Filled.{filled_part};
 ghost use Rattle.rr_skip.specs.Months.{falls_at, is_due, is_place_of_lacking, month_of_year, schedule_of, some_falls_on, unit_of_month};
 
 use crate::months::Month;
 use crate::{Skip, SkipRule};
 use rr_cal::{Day, month_number};
-use rr_model::{Freq, NoMemory, Numbers, Rule};
-use rr_setpos::{allows, is_congruent};
+use rr_model::{Freq, NoMemory, Numbers};
+use rr_num::is_congruent;
+use rr_parts::{allows, wants_month, wants_month_day};
 use std::alloc::Global;
 
 /// Which months a rule asks for, and which of their days.
@@ -44,29 +45,6 @@ fn month_of_year(month: i64) -> i16
     ensures { result ≡ pos (month_of_year month) }
 {
     month.rem_euclid(12) as i16 + 1
-}
-
-// Whether BYMONTHDAY is taken from the start: no part of the rule names the day of its month or year.
-fn wants_month_day(rule: &Rule) -> bool
-    ensures { result ≡ wants_month_day rule.now.freq rule.now }
-{
-    match rule.freq {
-        Freq::Monthly => rule.by_day.is_empty(),
-        Freq::Yearly => {
-            rule.by_week_no.is_empty() && rule.by_year_day.is_empty() && rule.by_day.is_empty()
-        }
-        _ => false,
-    }
-}
-
-// Whether BYMONTH is taken from the start: no part of a yearly rule names the day.
-fn wants_month(rule: &Rule) -> bool
-    ensures { result ≡ wants_month rule.now.freq rule.now }
-{
-    match rule.freq {
-        Freq::Yearly => rule.by_month_day.is_empty() && wants_month_day(rule),
-        _ => false,
-    }
 }
 
 // A part of a rule; where it is absent and wanted, the start's own number alone.

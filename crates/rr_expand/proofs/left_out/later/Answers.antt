@@ -1,5 +1,5 @@
 use Rattle.std.proofs.Common.{arith}
-use Rattle.rr_setpos.proofs.DayLemmas.{in_month}
+use Rattle.rr_parts.proofs.DayLemmas.{in_month}
 use Rattle.rr_expand.proofs.left_out.later.Goals as goal
 
 pub overflow_sub-day : goal.overflow_sub-day

@@ -2,7 +2,7 @@ use Rattle.std.proofs.Common.{arith, rules, ◌≡◌, ◌<◌, ◌+◌, ◌%◌
 use Rattle.std.proofs.lemmas.Int.{ints}
 use Rattle.rr_model.specs.Calendar.{days_in_year, weekday_of}
 use Rattle.rr_model.proofs.CalendarLemmas.{days_in_month_bounds, weekday_of_below}
-use Rattle.rr_setpos.proofs.DayLemmas.{in_year}
+use Rattle.rr_parts.proofs.DayLemmas.{in_year}
 use Rattle.rr_expand.proofs.LeftOutLemmas.{in_month, day_of_year-later, weekday_of-later}
 use Rattle.rr_expand.proofs.left_out.later_in_month.Goals as goal
 

@@ -1,5 +1,5 @@
 use Rattle.std.proofs.Common.{arith}
-use Rattle.rr_setpos.proofs.DayLemmas.{in_year}
+use Rattle.rr_parts.proofs.DayLemmas.{in_year}
 use Rattle.rr_family.proofs.sorts.year_day_sort.Goals as goal
 
 pub overflow_sub-result : goal.overflow_sub-result

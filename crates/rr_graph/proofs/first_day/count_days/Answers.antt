@@ -1,6 +1,6 @@
 use Rattle.std.proofs.Common.{arith, sym, ap, ◌∙◌, ◌≡◌, refl, ◌+◌, pos, ◌+ℤ◌, w64, to_z, of_z}
 use Rattle.std.proofs.lemmas.Int.{ints}
-use Rattle.rr_setpos.proofs.TimeCountLemmas.{from_more, from_same}
+use Rattle.rr_parts.proofs.CountLemmas.{from_more, from_same}
 use Rattle.rr_model.proofs.CountLemmas.{count_from-zero}
 use Rattle.rr_model.specs.Graph.Occurrences.{is_day_in}
 use Rattle.rr_model.specs.Graph.Counterpart.{has_weekday}

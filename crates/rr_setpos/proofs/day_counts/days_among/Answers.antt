@@ -4,8 +4,7 @@ use Rattle.rr_model.specs.Rule.Candidate.{date_parts_hold}
 use Rattle.rr_model.specs.Rule.Filled.{filled}
 use Rattle.rr_model.specs.declared.kind.Kind.TheVariants.{Days}
 use Rattle.rr_model.proofs.CountLemmas.{count_from-zero}
-use Rattle.rr_setpos.proofs.ProductLemmas.{count_from-le}
-use Rattle.rr_setpos.proofs.TimeCountLemmas.{from_more, from_same}
+use Rattle.rr_parts.proofs.CountLemmas.{count_from-le, from_more, from_same}
 use Rattle.rr_setpos.proofs.day_counts.days_among.Goals as goal
 use Rattle.rr_setpos.proofs.day_counts.days_among.Goals.{then-date_parts_hold, else-date_parts_hold}
 

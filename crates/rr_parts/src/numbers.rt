@@ -12,8 +12,8 @@ fn lists(numbers: &Numbers, n: i16) -> bool
     numbers.as_slice().contains(&n)
 }
 
-// Whether the list has the number, which may be none of a part.
-pub(crate) fn lists_number(numbers: &Numbers, n: i64) -> bool
+/// Whether the list has the number, which may be one that no BY part can list.
+pub fn lists_number(numbers: &Numbers, n: i64) -> bool
     ensures { result ≡ lists numbers.now n }
 {
     numbers.as_slice().iter().any(|x| i64::from(*x) == n)

@@ -1,6 +1,6 @@
 use Rattle.std.proofs.Common.{arith}
-use Rattle.rr_setpos.proofs.DayLemmas.{in_month, in_year}
-use Rattle.rr_setpos.proofs.places.is_in_place.Goals as goal
+use Rattle.rr_parts.proofs.DayLemmas.{in_month, in_year}
+use Rattle.rr_parts.proofs.places.is_in_place.Goals as goal
 
 pub is_weekday_place-requires-clause-first : goal.is_weekday_place-requires-clause-first
 is_weekday_place-requires-clause-first c = let day = c.args.day.now in (in_year day.number _ _ day.of_day_of_year day.of_days_in_year).0

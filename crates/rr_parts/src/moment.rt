@@ -7,18 +7,21 @@ ghost use Rattle.rr_model.specs.declared.kind.Kind.{Kind};
 use rr_cal::Day;
 use rr_model::{Kind, day_part};
 
-// A moment and its day.
+/// A date or a moment beside its day.
 #[derive(Clone, Copy)]
-pub(crate) struct Moment {
-    pub(crate) kind: Kind,
-    pub(crate) at: i64,
-    pub(crate) day: Day,
+pub struct Moment {
+    /// Whether it is a date or a moment.
+    pub kind: Kind,
+    /// The day number in kind `Days`, and in kind `Moments` 86,400 times that plus the second of the day.
+    pub at: i64,
+    /// The day on which it lies.
+    pub day: Day,
     ghost of_day: { day.number ≡ day_part kind at },
 }
 
 impl Moment {
-    // The date or the moment of this number.
-    pub(crate) fn new(kind: Kind, at: i64) -> Self
+    /// The date or the moment of this number.
+    pub fn new(kind: Kind, at: i64) -> Self
         requires near { IsDayWithin 1000 (day_part kind at) }
         ensures kind { result.kind ≡ kind }
         ensures at { result.at ≡ at }

@@ -1,13 +1,10 @@
--- Which numbers fit an interval.
-use Rattle.std.proofs.Common.{◌≡◌, ℕ, ◌≤◌, ◌<◌, ◌==◌, inl, inr, ℤ, pos, neg_ℤ, ◌+ℤ◌, ◌-ℤ◌, ◌*ℤ◌, ◌≤ℤ◌, sym, ap, ◌∙◌, refl, negsuc, w64, of_z, arith}
-use Rattle.std.specs.Int.{int_rem_euclid}
+-- Two numbers differ by whole intervals where they leave one remainder.
+use Rattle.std.proofs.Common.{◌≡◌, ℕ, ◌≤◌, ◌==◌, inl, inr, ℤ, pos, ◌+ℤ◌, ◌-ℤ◌, ◌*ℤ◌, sym, ap, ◌∙◌, arith}
 use Rattle.std.proofs.lemmas.Int.{ints}
 use Rattle.std.proofs.lemmas.Bool.{cases_eq, eq-eqb, ne_eqb}
 use Rattle.rr_model.specs.Whole.{floor_div, floor_mod, divides}
-use Rattle.rr_model.specs.Calendar.{IsDayWithin, year_of}
-use Rattle.rr_model.proofs.WholeLemmas.{floor_only, floor_whole, floor_mod_below}
+use Rattle.rr_model.proofs.WholeLemmas.{floor_only, floor_whole}
 use Rattle.rr_model.proofs.FloorLemmas.{*ℤ-add, floor_mod-add}
-use Rattle.rr_model.proofs.CalendarLemmas.{IsInYear-year_of, first_day_of_year_bounds}
 
 -- two numbers with one remainder differ by whole turns
 turns_between : (a b : ℤ) (n : ℕ) → 1 ≤ n → floor_mod a n ≡ floor_mod b n → floor_mod (b -ℤ a) n ≡ 0

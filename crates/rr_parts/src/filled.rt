@@ -4,8 +4,8 @@ ghost use Rattle.rr_model.specs.Rule.Filled.{wants_day, wants_hour, wants_minute
 
 use rr_model::{Freq, Rule};
 
-// A day or a longer unit holds many hours.
-pub(crate) fn wants_hour(freq: Freq) -> bool
+/// Whether a rule without the part takes its hour from the start (RFC 5545, section 3.3.10): a day or a longer unit holds many hours.
+pub fn wants_hour(freq: Freq) -> bool
     ensures { result ≡ wants_hour freq }
 {
     match freq {
@@ -49,8 +49,9 @@ pub(crate) fn wants_day(rule: &Rule) -> bool
     }
 }
 
-// A month or a year in which no part names the day.
-pub(crate) fn wants_month_day(rule: &Rule) -> bool
+/// Whether a rule without BYMONTHDAY takes it from the start (RFC 5545, section 3.3.10): it counts months or years, and no
+/// other part names the day.
+pub fn wants_month_day(rule: &Rule) -> bool
     ensures { result ≡ wants_month_day rule.now.freq rule.now }
 {
     match rule.freq {
@@ -62,8 +63,8 @@ pub(crate) fn wants_month_day(rule: &Rule) -> bool
     }
 }
 
-// A year in which no part names the day.
-pub(crate) fn wants_month(rule: &Rule) -> bool
+/// Whether a rule without BYMONTH takes it from the start (RFC 5545, section 3.3.10): it counts years, and no part names the day.
+pub fn wants_month(rule: &Rule) -> bool
     ensures { result ≡ wants_month rule.now.freq rule.now }
 {
     match rule.freq {

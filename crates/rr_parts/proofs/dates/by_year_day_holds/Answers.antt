@@ -1,6 +1,6 @@
 use Rattle.std.proofs.Common.{arith}
-use Rattle.rr_setpos.proofs.DayLemmas.{in_year}
-use Rattle.rr_setpos.proofs.dates.by_year_day_holds.Goals as goal
+use Rattle.rr_parts.proofs.DayLemmas.{in_year}
+use Rattle.rr_parts.proofs.dates.by_year_day_holds.Goals as goal
 
 pub allows_place-requires-clause-place : goal.allows_place-requires-clause-place
 allows_place-requires-clause-place c =

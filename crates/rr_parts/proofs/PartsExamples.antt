@@ -1,7 +1,7 @@
 -- Worked cases of candidate days and candidate seconds of a day (RFC 5545, section 3.3.10).
 use Rattle.std.proofs.Common.{◌≡◌, true, false, [], ◌∷◌, pos, refl}
 use Rattle.rr_model.specs.Rule.DaysAndTimes.{time_holds, day_holds}
-use Rattle.rr_model.specs.declared.kind.Kind.TheVariants.{Days, Moments}
+use Rattle.rr_model.specs.declared.kind.Kind.TheVariants.{Moments}
 use Rattle.rr_model.specs.declared.rule.End.TheVariants.{Never}
 use Rattle.rr_model.specs.declared.rule.Freq.TheVariants.{Daily}
 use Rattle.rr_model.specs.declared.rule.Rule.{Rule}

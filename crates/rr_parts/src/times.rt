@@ -17,8 +17,9 @@ pub struct Time {
     pub second: u8,
 }
 
-// Whether each time part of the rule, filled from its start, holds of the moment. A date has no time.
-pub(crate) fn time_parts_hold(rule: &Rule, start: &Moment, moment: &Moment) -> bool
+/// Whether each time part of the rule, filled from its start, holds of the moment (RFC 5545, section 3.3.10). A date has no
+/// time, and they hold of it.
+pub fn time_parts_hold(rule: &Rule, start: &Moment, moment: &Moment) -> bool
     requires kind { start.now.kind ≡ moment.now.kind }
     ensures { result ≡ time_parts_hold (filled rule.now start.now.kind start.now.at) moment.now.kind moment.now.at }
 {

@@ -1,16 +1,17 @@
 // Units of a frequency and the interval between them (RFC 5545, section 3.3.10, FREQ, INTERVAL and WKST).
-ghost use Rattle.std.specs.Prelude.{◌≡◌, ◌≤◌, ◌-ℤ◌, IsTrue};
+ghost use Rattle.std.specs.Prelude.{◌≡◌, ◌≤◌, ◌-ℤ◌, IsTrue, false};
 ghost use Rattle.rr_model.specs.Rule.Candidate.{interval_holds};
-ghost use Rattle.rr_model.specs.Moment.Units.{is_whole_days, unit_number};
+ghost use Rattle.rr_model.specs.Moment.Units.{is_whole_days, unit_number, unit_seconds};
 ghost use Rattle.rr_model.specs.Whole.{divides};
 ghost use Rattle.rr_model.specs.declared.kind.Kind.TheVariants.{Days};
 
 use crate::moment::Moment;
 use rr_cal::{Day, unit_of_day};
 use rr_model::{Freq, Rule};
+use rr_num::is_congruent;
 
-// Whether the moment's unit is a whole number of intervals from the start's.
-pub(crate) fn interval_holds(rule: &Rule, start: &Moment, moment: &Moment) -> bool
+/// Whether the moment's unit is a whole number of intervals from the start's (RFC 5545, section 3.3.10, INTERVAL).
+pub fn interval_holds(rule: &Rule, start: &Moment, moment: &Moment) -> bool
     requires kind { start.now.kind ≡ moment.now.kind }
     requires interval { 1 ≤ rule.now.interval }
     ensures { result ≡ interval_holds rule.now start.now.kind start.now.at moment.now.at }
@@ -20,8 +21,9 @@ pub(crate) fn interval_holds(rule: &Rule, start: &Moment, moment: &Moment) -> bo
     is_congruent(from, to, rule.interval)
 }
 
-// The number of the unit in which the moment lies.
-pub(crate) fn unit_number(rule: &Rule, moment: &Moment) -> i64
+/// The number of the unit of the rule's frequency in which the moment lies: seconds, minutes and hours since
+/// 1970-01-01T00:00:00, and days, weeks, months and years as `rr_cal::unit_of_day` numbers them.
+pub fn unit_number(rule: &Rule, moment: &Moment) -> i64
     ensures { result ≡ unit_number rule.now.freq rule.now.week_start moment.now.kind moment.now.at }
 {
     match rule.freq {
@@ -48,11 +50,15 @@ pub fn fits(rule: &Rule, start: &Day, unit: i64) -> bool
     )
 }
 
-/// Whether two numbers differ by a multiple of the interval.
-pub fn is_congruent(from: i64, to: i64, interval: u32) -> bool
-    requires { 1 ≤ interval }
-    ensures { result ≡ divides interval (to -ℤ from) }
+/// How many seconds an hour, a minute or a second has.
+pub fn seconds_of_unit(freq: Freq) -> u32
+    requires { is_whole_days freq ≡ false }
+    ensures value { result ≡ unit_seconds freq }
+    ensures few { result ≤ 3_600 }
 {
-    let interval = i64::from(interval);
-    from.rem_euclid(interval) == to.rem_euclid(interval)
+    match freq {
+        Freq::Hourly => 3_600,
+        Freq::Minutely => 60,
+        _ => 1,
+    }
 }

@@ -1,8 +1,8 @@
 use Rattle.std.proofs.Common.{arith, ◌≡◌, ◌<◌, pos, w64, to_z, of_z, to_z-of_z}
 use Rattle.std.proofs.lemmas.Int.{ints}
 use Rattle.rr_model.proofs.FloorLemmas.{rest_is}
-use Rattle.rr_setpos.proofs.UnitLemmas.{congruent}
-use Rattle.rr_setpos.proofs.units.is_congruent.Goals as goal
+use Rattle.rr_num.proofs.CongruenceLemmas.{congruent}
+use Rattle.rr_num.proofs.congruence.is_congruent.Goals as goal
 
 pub returns : goal.returns
 returns c =

@@ -1,0 +1,5 @@
+mod PartsExamples
+pub mod ChoiceLemmas
+pub mod CountLemmas
+pub mod DayLemmas
+pub mod RankLemmas

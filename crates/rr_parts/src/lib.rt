@@ -1,0 +1,19 @@
+//! What the parts of a rule say of one day, of one time and of one unit, where the start fills those that it lacks (RFC 5545,
+//! section 3.3.10).
+#![tactic(auto)]
+
+mod dates;
+mod filled;
+mod moment;
+mod numbers;
+mod places;
+mod times;
+mod units;
+
+pub use dates::date_parts_hold;
+pub use filled::{wants_hour, wants_minute, wants_month, wants_month_day, wants_second};
+pub use moment::Moment;
+pub use numbers::{allows, allows_filled, lists_number};
+pub use places::is_in_place;
+pub use times::{Time, time_of, time_parts_hold};
+pub use units::{fits, interval_holds, seconds_of_unit, unit_number};
