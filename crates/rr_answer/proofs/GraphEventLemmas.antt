@@ -39,7 +39,7 @@ use Rattle.rr_model.proofs.CalendarLemmas.{is_date_is}
 use Rattle.rr_model.proofs.MomentLemmas.{day_part-moment_at}
 use Rattle.rr_model.proofs.YearLemmas.{years_are_tested}
 use Rattle.rr_text.proofs.MomentTextLemmas.{day_number_bounds, is_digits_means, number_at_below}
-use Rattle.rr_rrule.proofs.StepLemmas.{and_then_ok, ok_or_ok, passed, stated}
+use Rattle.rr_text.proofs.StepLemmas.{and_then_ok, ok_or_ok, passed, stated}
 use Rattle.rr_graph.proofs.ReadPatternLemmas.{pattern_of-valid}
 
 -- ---- steps

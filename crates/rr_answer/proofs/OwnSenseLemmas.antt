@@ -19,7 +19,7 @@ use Rattle.rr_model.specs.declared.refusal.Refusal.{Refusal}
 use Rattle.rr_model.specs.declared.rule.Series.{Series}
 use Rattle.rr_model.specs.declared.vcal.VSeries.{VSeries}
 use Rattle.rr_graph.proofs.OccurrenceLemmas.{counterpart_has_occurrences as graph_counterpart}
-use Rattle.rr_rrule.proofs.StepLemmas.{and_then_ok}
+use Rattle.rr_text.proofs.StepLemmas.{and_then_ok}
 use Rattle.rr_vcal.proofs.OccurrenceLemmas.{counterpart_has_occurrences as vcal_counterpart}
 use Rattle.rr_vcal.proofs.ValidReadLemmas.{answer-valid}
 use Rattle.rr_answer.specs.OperandReading.{IsDescriptorRead, IsStatedIn, IsSubjectRead}

@@ -19,7 +19,6 @@ pub mod SoundLemmas
 pub mod FirstOccurrenceLemmas
 pub mod JsonLemmas
 pub mod ReadingLemmas
-pub mod YearLemmas
 pub mod ReadPatternLemmas
 pub mod WrittenDayLemmas
 pub mod JsonTextLemmas

@@ -1,16 +1,16 @@
 // The start of an event (Microsoft Graph, event, dateTimeTimeZone).
-ghost use Rattle.std.specs.Prelude.{◌≡◌, ◌≤◌, ◌&&◌, ◌||◌, ◌+ℤ◌, ◌≤ℤ◌, ◌<ℤ◌, neg_ℤ, pos, not, codes, option_and_then, IfOk, IfSome};
+ghost use Rattle.std.specs.Prelude.{◌≡◌, ◌&&◌, ◌||◌, not, codes, option_and_then, IfOk, IfSome};
 ghost use Rattle.serde_json.specs.View.{view};
 ghost use Rattle.rr_model.specs.Graph.Members.{member_of, text_in};
 ghost use Rattle.rr_model.specs.Graph.Reading.{graph_moment, is_all_day, is_flag_or_missing, is_named_utc, is_text_or_missing, must, start_moment, turned_start};
-ghost use Rattle.rr_model.specs.Moment.Years.{IsInYears, is_in_years};
+ghost use Rattle.rr_model.specs.Moment.Years.{IsInYears};
 ghost use Rattle.rr_model.specs.declared.kind.Kind.TheVariants.{Moments};
 ghost use Rattle.rr_model.specs.declared.refusal.Member.TheVariants.{IsAllDay, TimeZone};
 ghost use Rattle.rr_model.specs.declared.refusal.Refusal.TheVariants.{BadMember};
 
 use crate::members::{find_member, is_named, text_in};
 use rr_model::{Kind, Member, Refusal, Stamp};
-use rr_text::extended;
+use rr_text::{extended, later_in_years};
 use serde_json::Value;
 
 /// Whether an event is all day.
@@ -34,22 +34,6 @@ fn is_named_utc(start: &Value) -> bool
     }
 }
 
-// Whether a moment lies in the years 1 to 9999.
-fn is_in_years(at: i64) -> bool
-    ensures { result ≡ is_in_years Moments at }
-{
-    at >= -62_135_596_800 && at < 253_402_300_800
-}
-
-// A moment later by an offset.
-fn later(at: i64, offset: i32) -> i64
-    requires low { neg_ℤ (pos 62_135_596_800) ≤ℤ at }
-    requires high { at <ℤ pos 253_402_300_800 }
-    ensures { result ≡ at +ℤ offset }
-{
-    at + i64::from(offset)
-}
-
 // A moment of UTC turned by the offset; without one, and in local time, it is taken as it stands.
 fn turned_start(is_utc: bool, offset: Option<i32>, at: i64) -> Option<i64>
     requires { IsInYears Moments at }
@@ -57,14 +41,7 @@ fn turned_start(is_utc: bool, offset: Option<i32>, at: i64) -> Option<i64>
     ensures years { IfSome result (IsInYears Moments) }
 {
     match offset {
-        Some(offset) if is_utc => {
-            let local = later(at, offset);
-            if is_in_years(local) {
-                Some(local)
-            } else {
-                None
-            }
-        }
+        Some(offset) if is_utc => later_in_years(at, offset),
         _ => Some(at),
     }
 }

@@ -5,3 +5,7 @@ pub mod ColonLemmas
 pub mod FoldingLemmas
 pub mod LineEndLemmas
 pub mod WrittenLineLemmas
+pub mod PassLemmas
+pub mod KeptLemmas
+pub mod DateCutLemmas
+pub mod BesideLemmas

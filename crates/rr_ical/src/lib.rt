@@ -1,15 +1,27 @@
-//! The used lines of a calendar text's event, and lists of dates or moments.
+//! The event of a calendar text: its used lines, and what they state over any language of rules; and lists of dates or moments.
 #![tactic(auto)]
 
+mod beside;
 mod components;
+mod dates;
 mod event;
+mod first;
+mod kept;
+mod language;
 mod laws;
 mod list;
 mod names;
+mod passes;
+mod second;
 mod value;
 
+pub use beside::end_beside;
 pub use event::{event_lines, scan_lines};
+pub use first::date_value;
+pub use language::{RuleLanguage, StatedRule};
 pub use laws::{folding_does_not_matter, line_ends_do_not_matter};
 pub use list::read_list;
 pub use names::{is_event, is_named, is_same_name, line_kind};
+pub use passes::{ReadEvent, event_of};
+pub use second::{Nearby, Setting, date_beside};
 pub use value::{after_colon, name_and_rest, value_of_line};

@@ -1,6 +1,5 @@
 // Reads a list, value by value.
 ghost use Rattle.std.specs.Prelude.{◌≡◌, ◌<◌, IfOk, IfSome};
-ghost use Rattle.rr_model.specs.Moment.{is_same_kind};
 ghost use Rattle.rr_model.specs.Text.Lists.{empty_list, with_next, with_list_value, with_trimmed, with_list_line, with_list_lines, series_of_list, list_text, reads_list};
 ghost use Rattle.rr_model.specs.Text.Lines.{physical_lines};
 ghost use Rattle.rr_model.specs.Moment.Years.{IsInYears};
@@ -8,6 +7,7 @@ ghost use Rattle.rr_model.specs.Series.Validity.{IsValidSeries};
 ghost use Rattle.rr_ical.specs.Listed.{IsValidListed};
 ghost use Rattle.rr_model.specs.Answers.{Answers};
 
+use crate::second::is_same_kind;
 use rr_model::{Dates, Fault, Kind, ListedDates, MAX_DATES, Refusal, Rules, Series, Stamp};
 use rr_text::{is_text, plain_extended, take_line, trim, without_mark};
 use std::alloc::Global;
@@ -22,15 +22,6 @@ fn empty_list(alloc: Global) -> ListedDates
         last: 0,
         count: 0,
         plus: Dates::new(alloc),
-    }
-}
-
-fn is_same_kind(kind: Kind, other: Kind) -> bool
-    ensures { result ≡ is_same_kind kind other }
-{
-    match (kind, other) {
-        (Kind::Days, Kind::Days) | (Kind::Moments, Kind::Moments) => true,
-        _ => false,
     }
 }
 

@@ -1,5 +1,5 @@
 -- The values of a part lie within its bounds.
-use Rattle.std.proofs.Common.{◌≡◌, ℕ, ◌<◌, ◌≤◌, ◌&&◌, Bool, true, false, cond, Some, List, [], ◌∷◌, Result, Ok, ℤ, pos, nat_abs, neg_ℤ, ◌≤ℤ◌, refl, sym}
+use Rattle.std.proofs.Common.{◌≡◌, ℕ, ◌≤◌, ◌&&◌, Bool, true, false, cond, List, [], ◌∷◌, Result, Ok, ℤ, pos, nat_abs, neg_ℤ, ◌≤ℤ◌, refl, sym}
 use Rattle.std.proofs.Common.{subst, ◌∙◌, arith}
 use Rattle.std.specs.Prelude.{All, nat_le, int_lt, ok_or}
 use Rattle.std.specs.List.{list_all}
@@ -7,9 +7,8 @@ use Rattle.std.specs.Str.Parse.{starts_with_minus, signed_digits_value}
 use Rattle.std.proofs.lemmas.Bool.Decides.{nat_tests}
 use Rattle.std.proofs.lemmas.Int.{ints}
 use Rattle.std.proofs.lemmas.List.Elements.{All-nil}
-use Rattle.rr_model.specs.Text.Digits.{digits_value}
 use Rattle.rr_model.specs.Rising.{with_value, day_item_lt}
-use Rattle.rr_model.specs.Text.RuleValues.{is_number, weekday_named, up_to, number_up_to, placed, pieces, list_of, signed, has_number_form, magnitude}
+use Rattle.rr_model.specs.Text.RuleValues.{is_number, weekday_named, placed, pieces, list_of, signed, has_number_form, magnitude}
 use Rattle.rr_model.specs.Text.RuleValues.{number_within, numbers_of, is_day_item, place_text, weekday_text, place_within, day_item_within, day_items_of}
 use Rattle.rr_model.specs.Rule.Validity.{LieFrom, CountUpTo, IsDayItem}
 use Rattle.rr_model.specs.declared.refusal.Refusal.{Refusal}
@@ -17,7 +16,8 @@ use Rattle.rr_model.specs.declared.refusal.Refusal.TheVariants.{BadRule}
 use Rattle.rr_model.specs.declared.rule.DayItem.{DayItem}
 use Rattle.rr_model.specs.declared.rule_parts.NumberBounds.{NumberBounds}
 use Rattle.rr_model.proofs.RisingLemmas.{All-with_value}
-use Rattle.rr_rrule.proofs.StepLemmas.{and_then_ok, ok_or_ok, step_keeps, passed}
+use Rattle.rr_text.proofs.StepLemmas.{and_then_ok, ok_or_ok, step_keeps, passed}
+use Rattle.rr_text.proofs.WordLemmas.{weekday_named-below}
 
 -- ---- lists
 
@@ -89,19 +89,7 @@ numbers_of-lie line low high has_leap text =
     All-list_of (λ n. (pos low ≤ℤ n) × (n ≤ℤ pos high)) int_lt (number_within line bounds) (number_within-lies line low high has_leap) line
     (has_number_form bounds) text
 
-pub number_up_to-lies : (line most : ℕ) (text : List ℕ) (n : ℕ) → number_up_to line most text ≡ Ok n → (1 ≤ n) × (n ≤ most)
-unfolding number_up_to
-number_up_to-lies line most text n h =
-    let form = passed (is_number text) (up_to line most (digits_value text)) _ n h in
-    let size = passed (nat_le 1 (digits_value text) && nat_le (digits_value text) most) (Ok (digits_value text)) _ n form.1 in
-    let value : digits_value text ≡ n = cc in
-    (grind (arith, nat_tests, size.0, value), grind (arith, nat_tests, size.0, value))
-
 -- ---- days
-
-pub weekday_named-below : (text : List ℕ) (d : ℕ) → weekday_named text ≡ Some d → d < 7
-unfolding weekday_named
-weekday_named-below text d h = grind (arith, nat_tests)
 
 place_within-counts : (line : ℕ) (text : List ℕ) (place : ℤ) → place_within line text ≡ Ok place → nat_abs place ≤ 53
 place_within-counts line [] place h =

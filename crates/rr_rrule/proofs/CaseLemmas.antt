@@ -36,7 +36,7 @@ use Rattle.rr_model.specs.declared.used.LineName.TheVariants.{Dtstart, Rrule, Rd
 use Rattle.rr_model.specs.declared.used.Scan.{Scan}
 use Rattle.rr_model.specs.declared.used.UsedLine.{UsedLine}
 use Rattle.rr_rrule.specs.TextLaws.{CaseDoesNotMatter}
-use Rattle.rr_rrule.proofs.BlankLemmas.{trim-mapped}
+use Rattle.rr_text.proofs.BlankLemmas.{trim-mapped}
 use Rattle.rr_rrule.proofs.ScanLemmas.{after_same, scan_by_passes}
 
 -- ---- bytes

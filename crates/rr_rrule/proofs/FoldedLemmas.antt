@@ -29,7 +29,7 @@ use Rattle.rr_ical.specs.LineLaws.{line_texts}
 use Rattle.rr_ical.proofs.FoldingLemmas.{folding_does_not_matter as folded_alike}
 use Rattle.rr_rrule.specs.TextLaws.{HasNoMark, FoldingDoesNotMatter}
 use Rattle.rr_rrule.proofs.GivesLemmas.{Gives, gives-same, gives-err, gives-then, gives-ok_or, judged_line-gives, with_line-gives}
-use Rattle.rr_rrule.proofs.StepLemmas.{and_then_ok}
+use Rattle.rr_text.proofs.StepLemmas.{and_then_ok}
 
 -- ---- what a line leaves, under another number
 

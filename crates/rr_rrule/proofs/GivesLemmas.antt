@@ -31,7 +31,7 @@ use Rattle.rr_model.specs.declared.rule_parts.RuleParts.{RuleParts}
 use Rattle.rr_model.specs.declared.stamp.Stamp.{Stamp}
 use Rattle.rr_model.specs.declared.used.LineName.{LineName}
 use Rattle.rr_model.specs.declared.used.LineName.TheVariants.{Dtstart, Rrule, Rdate, Exdate, Exrule}
-use Rattle.rr_rrule.proofs.StepLemmas.{and_then_ok}
+use Rattle.rr_text.proofs.StepLemmas.{and_then_ok}
 
 -- where the first ends well, the second ends alike
 abbrev pub Gives : {A : Type 0} → Result A Refusal → Result A Refusal → Type 0

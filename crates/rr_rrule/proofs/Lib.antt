@@ -1,9 +1,5 @@
-mod NumberLemmas
-mod BlankLemmas
 pub mod PlacedLemmas
 mod PartsLemmas
-pub mod StepLemmas
-pub mod InYearsLemmas
 pub mod BoundsLemmas
 pub mod ValidPartsLemmas
 pub mod ValidityLemmas
@@ -11,9 +7,7 @@ pub mod ValidRisingLemmas
 mod RulePartLemmas
 mod PartOrderLemmas
 mod TextExamples
-pub mod PassLemmas
 pub mod BesideLemmas
-pub mod KeptLemmas
 mod LineEndProofs
 mod ScanLemmas
 mod CaseLemmas

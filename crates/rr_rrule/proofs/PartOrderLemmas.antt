@@ -30,7 +30,7 @@ use Rattle.rr_model.specs.declared.used.UsedLine.{UsedLine}
 use Rattle.rr_rrule.specs.TextLaws.{is_part_byte, is_part, AreParts, OrderDoesNotMatter}
 use Rattle.rr_rrule.proofs.RulePartLemmas.{bind_ok, exchanged}
 use Rattle.rr_rrule.proofs.ScanLemmas.{after_same, scan_by_passes}
-use Rattle.rr_rrule.proofs.StepLemmas.{and_then_ok, not_refused}
+use Rattle.rr_text.proofs.StepLemmas.{and_then_ok, not_refused}
 
 -- ---- lists of parts
 

@@ -8,7 +8,7 @@ use Rattle.rr_model.specs.declared.refusal.Refusal.{Refusal}
 use Rattle.rr_model.specs.declared.rule.DayItem.{DayItem}
 use Rattle.rr_model.specs.declared.rule_parts.NumberBounds.{NumberBounds}
 use Rattle.rr_model.proofs.RisingLemmas.{Rises-with_value}
-use Rattle.rr_rrule.proofs.StepLemmas.{and_then_ok, passed}
+use Rattle.rr_text.proofs.StepLemmas.{and_then_ok, passed}
 
 module _ {X : Type 0} (below : X → X → Bool) (judged : List ℕ → Result X Refusal) where
   Rises-placed : (list : List X) (texts : List (List ℕ)) (all : List X) → Rises below list → placed below judged list texts ≡ Ok all → Rises below all

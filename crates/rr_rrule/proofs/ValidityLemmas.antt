@@ -2,7 +2,6 @@
 use Rattle.std.proofs.Common.{◌≡◌, ℕ, ◌<◌, ◌≤◌, Option, None, Some, List, Ok, subst, sym, arith}
 use Rattle.std.specs.Prelude.{IsTrue, unwrap_or, ok_or}
 use Rattle.std.specs.Option.{IfSome}
-use Rattle.rr_model.specs.Moment.Years.{IsInYears}
 use Rattle.rr_model.specs.Text.Passes.{Stated}
 use Rattle.rr_model.specs.Text.Calendars.{stated_rule}
 use Rattle.rr_model.specs.Text.Rules.{end_of, rule_with, rule_of, rule_parts}
@@ -15,8 +14,8 @@ use Rattle.rr_model.specs.declared.rule.Freq.{Freq}
 use Rattle.rr_model.specs.declared.rule.Rule.{Rule}
 use Rattle.rr_model.specs.declared.rule_parts.RuleParts.{RuleParts}
 use Rattle.rr_model.specs.declared.stamp.Stamp.{Stamp}
-use Rattle.rr_rrule.proofs.StepLemmas.{and_then_ok, passed, unwrap_or-keeps}
-use Rattle.rr_rrule.proofs.InYearsLemmas.{IsStamp}
+use Rattle.rr_text.proofs.StepLemmas.{and_then_ok, passed, unwrap_or-keeps}
+use Rattle.rr_text.proofs.InYearsLemmas.{IsStamp}
 use Rattle.rr_rrule.proofs.ValidPartsLemmas.{ArePartsValid, rule_parts-valid}
 
 -- ---- the rule
@@ -86,14 +85,6 @@ rule_of-valid line parts rule v h =
     subst IsValidBeside same (rule_with-valid freq.0 end.0 parts v (end_of-valid parts.until parts.count end.0 v.until v.count end.1) allowed.0)
 
 -- ---- the rule as its line states it
-
-pub until-in_years : (until : Option Stamp) → IfSome until IsStamp → IfSome until (λ stamp. IsInYears stamp.kind stamp.at)
-until-in_years None h = tt
-until-in_years (Some stamp) h = h.0
-
-pub parts-in_years : (line : ℕ) (text : List ℕ) (parts : RuleParts) → rule_parts line text ≡ Ok parts
-    → IfSome parts.until (λ stamp. IsInYears stamp.kind stamp.at)
-parts-in_years line text parts h = until-in_years parts.until (rule_parts-valid line text parts h).until
 
 -- a moment of UNTIL is the rule's end
 abbrev pub FitsUntil : Option Stamp → End → Type 0

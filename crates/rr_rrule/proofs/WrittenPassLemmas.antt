@@ -1,5 +1,5 @@
 -- Both passes over written lines (RFC 5545, sections 3.8.2.4, 3.8.5.1, 3.8.5.2 and 3.8.5.3).
-use Rattle.std.proofs.Common.{◌≡◌, ℕ, ◌+◌, ◌<◌, ◌≤◌, Bool, true, false, ℤ, List, [], ◌∷◌, ◌++◌, length, map, None, Some, Result, Ok, Err}
+use Rattle.std.proofs.Common.{◌≡◌, ℕ, ◌+◌, ◌<◌, ◌≤◌, Bool, true, false, ℤ, List, [], ◌∷◌, ◌++◌, length, map, None, Some, Result, Ok}
 use Rattle.std.proofs.Common.{append_assoc, append-nil, refl, sym, ap, ◌∙◌, arith}
 use Rattle.std.specs.Prelude.{◌==◌, ◌&&◌, not, nat_le, codes, int_lt, ok_or}
 use Rattle.std.specs.List.{list_all, list_any, AllByRecursion, slice_split}
@@ -40,20 +40,10 @@ use Rattle.rr_text.proofs.WrittenLemmas.{basic-written}
 use Rattle.rr_text.proofs.WrittenListLemmas.{pieces-none, with_value-last, IsAbove, IsAbove-next}
 use Rattle.rr_text.proofs.WrittenValueLemmas.{int_lt-transitive}
 use Rattle.rr_ical.proofs.WrittenLineLemmas.{WrittenLine, used_from, number_behind, used_from-append, date_front}
+use Rattle.rr_ical.proofs.PassLemmas.{in_turn-append}
 use Rattle.rr_rrule.proofs.WrittenRuleLemmas.{until_of, stated_rule-written}
 
 -- ---- lines in turn
-
--- first some things, then others
-pub in_turn-append : {X Y : Type 0} (step : X → Y → Result X Refusal) (x : X) (ys zs : List Y)
-    → in_turn step x (ys ++ zs) ≡ (in_turn step x ys >>= λ next. in_turn step next zs)
-in_turn-append step x [] zs = refl
-in_turn-append step x (y ∷ ys) zs = by (step x y) (λ next. in_turn-append step next ys zs)
-  where
-    by : (r : Result _ Refusal) → ((next : _) → in_turn step next (ys ++ zs) ≡ (in_turn step next ys >>= λ n. in_turn step n zs))
-        → (r >>= λ next. in_turn step next (ys ++ zs)) ≡ ((r >>= λ next. in_turn step next ys) >>= λ n. in_turn step n zs)
-    by (Ok next) later = later next
-    by (Err refusal) later = refl
 
 module _ {X : Type 0} (step : X → UsedLine → Result X Refusal) where
   -- lines before others

@@ -1,38 +1,15 @@
 // Reads an iCalendar text (RFC 5545, sections 3.4 and 3.8.5).
 ghost use Rattle.std.specs.Prelude.{◌≡◌, IfOk};
-ghost use Rattle.std.specs.List.{slice_split};
-ghost use Rattle.rr_ical.specs.Steps.{Becomes};
-ghost use Rattle.rr_rrule.specs.Kept.{kept_dates};
 ghost use Rattle.rr_model.specs.Answers.{Answers};
 ghost use Rattle.rr_model.specs.Moment.Years.{IsInYears};
 ghost use Rattle.rr_model.specs.Series.Validity.{IsValidSeries};
-ghost use Rattle.rr_model.specs.Text.Calendars.{is_comma, series_of_event, calendar_scan, calendar_text, reads_calendar};
+ghost use Rattle.rr_model.specs.Text.Calendars.{series_of_event, calendar_scan, calendar_text, reads_calendar};
 
-use crate::event::{ReadEvent, event_of};
-use crate::first::keep_date;
-use crate::kept::ReadLines;
-use crate::language::{RuleLanguage, StatedRule};
-use crate::second::Setting;
 use crate::stated::{rule_beside, stated_rule};
-use rr_ical::event_lines;
+use rr_ical::{ReadEvent, RuleLanguage, Setting, StatedRule, event_lines, event_of};
 use rr_model::{Fault, NoMemory, Refusal, Rule, Rules, Scan, Series};
 use rr_text::{is_text, without_mark};
 use std::alloc::Global;
-
-// The values of RDATE or EXDATE from left to right.
-fn keep_dates(
-    line: u64,
-    is_plus: bool,
-    read: &mut ReadLines<Rule>,
-    text: &[u8],
-) -> Result<(), Fault>
-    ensures { Becomes (kept_dates line is_plus read.old (slice_split is_comma text.now)) read.new result }
-{
-    for piece in text.split(|b| *b == b',') {
-        keep_date(line, is_plus, read, piece)?;
-    }
-    Ok(())
-}
 
 // How rules of RFC 5545 are read.
 struct RruleLanguage;
@@ -44,16 +21,8 @@ impl RuleLanguage<Rule> for RruleLanguage {
 
     ghost beside = { rule_beside };
 
-    fn keep_dates(
-        &self,
-        line: u64,
-        is_plus: bool,
-        read: &mut ReadLines<Rule>,
-        text: &[u8],
-    ) -> Result<(), Fault>
-        ensures { Becomes (kept_dates line is_plus read.old (slice_split is_comma text.now)) read.new result }
-    {
-        keep_dates(line, is_plus, read, text)
+    fn takes_semicolons(&self) -> bool {
+        false
     }
 
     fn stated(&self, alloc: Global, line: u64, text: &[u8]) -> Result<StatedRule<Rule>, Fault> {

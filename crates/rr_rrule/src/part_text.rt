@@ -7,7 +7,7 @@ ghost use Rattle.rr_model.specs.Text.WriteLaws.{IsOneEnd};
 ghost use Rattle.rr_model.specs.Text.Written.{day_item_text, end_text, freq_text, list_part, part_unless, weekday_text};
 
 use rr_model::{DayItem, End, Freq, NoMemory};
-use rr_text::{push_basic, push_number, push_unsigned};
+use rr_text::{push_basic, push_number, push_unsigned, weekday_text};
 
 #[tactic(auto, unfolding(rr_model::specs::Text::Written::freq_text))]
 pub(crate) fn freq_text(freq: Freq) -> &'static [u8]
@@ -21,22 +21,6 @@ pub(crate) fn freq_text(freq: Freq) -> &'static [u8]
         Freq::Weekly => b"WEEKLY",
         Freq::Monthly => b"MONTHLY",
         Freq::Yearly => b"YEARLY",
-    }
-}
-
-/// The two letters of a weekday, from 0 for Monday to 6 for Sunday.
-#[tactic(auto, unfolding(rr_model::specs::Text::Written::weekday_text))]
-pub fn weekday_text(weekday: u8) -> &'static [u8]
-    ensures { result.now ≡ weekday_text weekday }
-{
-    match weekday {
-        0 => b"MO",
-        1 => b"TU",
-        2 => b"WE",
-        3 => b"TH",
-        4 => b"FR",
-        5 => b"SA",
-        _ => b"SU",
     }
 }
 

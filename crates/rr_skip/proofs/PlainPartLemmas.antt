@@ -12,7 +12,7 @@ use Rattle.rr_model.specs.declared.refusal.Refusal.TheVariants.{BadRule, PartTwi
 use Rattle.rr_model.specs.declared.rule_parts.PartName.{PartName}
 use Rattle.rr_model.specs.declared.rule_parts.PartName.TheVariants as part
 use Rattle.rr_model.specs.declared.rule_parts.RuleParts.{RuleParts}
-use Rattle.rr_rrule.proofs.StepLemmas.{and_then_ok, ok_or_ok, passed, not_refused}
+use Rattle.rr_text.proofs.StepLemmas.{and_then_ok, ok_or_ok, passed, not_refused}
 use Rattle.rr_skip.specs.Parts.{is_taken, taken, scale_part_named, has_scale_part, with_scale, is_scale_name, skip_named, front_day, front_days, with_taken_value, with_scale_value}
 use Rattle.rr_skip.specs.Parts.{with_scale_part, no_scale_parts, scale_parts_of, scale_parts}
 use Rattle.rr_skip.specs.TextLaws.{is_plain_name, is_plain_part, IsWithoutScale}

@@ -34,8 +34,8 @@ use Rattle.rr_model.specs.declared.used.LineName.{LineName}
 use Rattle.rr_model.specs.declared.used.LineName.TheVariants.{Dtstart, Rrule, Rdate, Exdate, Exrule}
 use Rattle.rr_model.specs.declared.used.Scan.{Scan}
 use Rattle.rr_model.specs.declared.used.UsedLine.{UsedLine}
-use Rattle.rr_rrule.proofs.StepLemmas.{and_then_ok, passed, not_refused}
-use Rattle.rr_rrule.proofs.WrittenPassLemmas.{in_turn-append}
+use Rattle.rr_text.proofs.StepLemmas.{and_then_ok, passed, not_refused}
+use Rattle.rr_ical.proofs.PassLemmas.{in_turn-append}
 use Rattle.rr_skip.specs.Members.{IsSkipMember, IsGivenBy, OccursSkipping, skip_members_to}
 use Rattle.rr_skip.specs.Months.{is_skip_chosen}
 use Rattle.rr_skip.specs.Parts.{is_scaled, skip_rule_of, scale_parts}

@@ -40,9 +40,9 @@ use Rattle.rr_model.specs.declared.used.UsedLine.{UsedLine}
 use Rattle.rr_check.proofs.SoundnessLemmas.{end_fits}
 use Rattle.rr_rrule.proofs.BesideLemmas.{end_beside-valid, with_end-valid}
 use Rattle.rr_rrule.proofs.BoundsLemmas.{All-list_of, number_within-counts}
-use Rattle.rr_rrule.proofs.InYearsLemmas.{IsStamp, basic-stamp}
-use Rattle.rr_rrule.proofs.PassLemmas.{in_turn-keeps}
-use Rattle.rr_rrule.proofs.StepLemmas.{and_then_ok, ok_or_ok, step_keeps, passed, not_refused}
+use Rattle.rr_text.proofs.InYearsLemmas.{IsStamp, basic-stamp}
+use Rattle.rr_ical.proofs.PassLemmas.{in_turn-keeps}
+use Rattle.rr_text.proofs.StepLemmas.{and_then_ok, ok_or_ok, step_keeps, passed, not_refused}
 use Rattle.rr_rrule.proofs.ValidPartsLemmas.{ArePartsValid, no_parts-valid, with_part_value-valid}
 use Rattle.rr_rrule.proofs.ValidRisingLemmas.{Rises-list_of}
 use Rattle.rr_rrule.proofs.ValidityLemmas.{IsValidBeside, FitsUntil, end_of-valid, rule_with-valid, end_of-fits}

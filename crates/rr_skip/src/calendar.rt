@@ -14,9 +14,8 @@ use crate::schedule::Schedule;
 use crate::turn::Turn;
 use crate::{SkipRule, SkipSeries};
 use rr_check::end_refusal;
-use rr_ical::event_lines;
+use rr_ical::{end_beside, event_lines};
 use rr_model::{Fault, Kind, NoMemory, Refusal, Scan, Stamp};
-use rr_rrule::end_beside;
 use rr_text::{is_text, without_mark};
 use std::alloc::Global;
 

@@ -11,9 +11,10 @@ ghost use Rattle.rr_skip.specs.Parts.{scale_parts, scale_parts_of, skip_named, w
 use crate::Skip;
 use rr_model::{Fault, NumberBounds, Numbers, PartName, Refusal, RuleParts};
 use rr_rrule::{
-    have_number_form, is_present, is_word, line_value, no_parts, number_within, part_named,
-    split_once, with_part_value, without_last_semicolon,
+    have_number_form, is_present, no_parts, number_within, part_named, with_part_value,
+    without_last_semicolon,
 };
+use rr_text::{is_word, line_value, split_once};
 use std::alloc::Global;
 
 /// The name of a part of such a rule.

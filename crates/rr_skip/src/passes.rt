@@ -9,7 +9,8 @@ ghost use Rattle.rr_skip.specs.Validity.{takes_skip};
 use crate::parts::{ScaledParts, scale_parts};
 use crate::{Skip, SkipRule};
 use rr_model::{Fault, Freq, LineName, Refusal, Stamp, UsedLine};
-use rr_rrule::{end_of, moment_of, rule_with};
+use rr_rrule::{end_of, rule_with};
+use rr_text::moment_of;
 use std::alloc::Global;
 
 /// A rule as its line states it.

@@ -15,3 +15,9 @@ pub mod WrittenValueLemmas
 pub mod PlainTextLemmas
 pub mod WrittenExtendedLemmas
 mod Utf8Lemmas
+pub mod StepLemmas
+pub mod InYearsLemmas
+pub mod NumberLemmas
+pub mod BlankLemmas
+pub mod WordLemmas
+pub mod YearLemmas

@@ -1,4 +1,4 @@
-//! Numbers, dates and moments as text: what a text states, and what is printed.
+//! Numbers, words, dates and moments as text: what a text states, and what is printed.
 #![tactic(auto)]
 
 mod blanks;
@@ -10,12 +10,16 @@ mod physical;
 mod plain;
 mod print;
 mod unfold;
+mod values;
+mod whole_numbers;
+mod words;
+mod years;
 
 pub use blanks::trim;
 pub use digits::{Digits, number};
 pub use extended_text::{extended, plain_extended};
 pub use laws::printed_texts_differ;
-pub use moment::basic;
+pub use moment::{all_digits, basic};
 pub use physical::take_line;
 pub use plain::{is_text, without_mark};
 pub use print::{
@@ -23,3 +27,7 @@ pub use print::{
 };
 pub use rr_model::Stamp;
 pub use unfold::{begins_blank, lines, lines_from};
+pub use values::{line_value, moment_of, split_once};
+pub use whole_numbers::{interval_of, is_number, number_up_to, whole_number};
+pub use words::{is_word, weekday_named, weekday_of, weekday_text};
+pub use years::later_in_years;

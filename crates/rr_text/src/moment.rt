@@ -11,7 +11,8 @@ use crate::digits::value_of;
 use rr_cal::{Date, day_of, valid};
 use rr_model::{Kind, Stamp, moment_at};
 
-fn all_digits(text: &[u8]) -> bool
+/// Whether each byte is a digit.
+pub fn all_digits(text: &[u8]) -> bool
     ensures { result ≡ list_all is_digit text.now }
 {
     text.iter().all(|b| b.is_ascii_digit())

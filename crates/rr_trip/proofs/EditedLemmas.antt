@@ -26,8 +26,9 @@ use Rattle.rr_model.specs.declared.used.Scan.{Scan}
 use Rattle.rr_model.specs.declared.used.UsedLine.{UsedLine}
 use Rattle.rr_model.proofs.RisingLemmas.{All-with_value}
 use Rattle.rr_model.proofs.YearLemmas.{four_digit_year}
-use Rattle.rr_rrule.proofs.BesideLemmas.{date_beside-in_years, date_value-stamp, scan-valid}
-use Rattle.rr_rrule.proofs.StepLemmas.{and_then_ok, step_keeps}
+use Rattle.rr_ical.proofs.BesideLemmas.{date_beside-in_years, date_value-stamp}
+use Rattle.rr_rrule.proofs.BesideLemmas.{scan-valid}
+use Rattle.rr_text.proofs.StepLemmas.{and_then_ok, step_keeps}
 use Rattle.rr_trip.specs.Edited.{◌>=>◌, Shifts, at_event, edited_alone, edited_by, edited_event, edited_series, edited_with_series, moment_of, no_shifts, recurrence_stamp}
 use Rattle.rr_trip.specs.Edited.{series_of_starts, shifts_of, stamp_on, start_beside, start_line, start_of, start_on, unless_at_fault, values_outside, with_instance}
 use Rattle.rr_trip.specs.Edited.{with_instance_by, with_moment, with_shifts, with_start, with_values, within_dates}

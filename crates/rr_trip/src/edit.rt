@@ -9,11 +9,12 @@ ghost use Rattle.rr_trip.specs.Edited.{AnswersKey, edited_alone, edited_by, edit
 use crate::date_set::DateSet;
 use crate::event::{Event, Recurrence};
 use crate::gather::{Gathered, KeyFault, KeyRefusal, at_event};
+use rr_ical::{Setting, date_beside, date_value};
 use rr_model::{
     Dates, Fault, Kind, LineName, MAX_DATES, NoMemory, Refusal, Rules, Scan, Series, Stamp,
     UsedLine,
 };
-use rr_rrule::{Setting, date_beside, date_value, read_scan};
+use rr_rrule::read_scan;
 use std::alloc::Global;
 use std::marker::Model;
 

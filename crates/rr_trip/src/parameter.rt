@@ -5,7 +5,7 @@ ghost use Rattle.rr_model.specs.Text.Rules.{split_once};
 ghost use Rattle.rr_trip.specs.Parameters.{parameter_of, parameters_of, value_named, without_first_quote, without_last_quote, without_quotes};
 
 use rr_ical::{after_colon, is_same_name, name_and_rest};
-use rr_rrule::split_once;
+use rr_text::split_once;
 
 // What stands between the name of a line and the colon of its value.
 fn parameters_of(text: &[u8]) -> &[u8]

@@ -27,9 +27,9 @@ use Rattle.rr_model.specs.declared.vcal.FamilyKind.{FamilyKind}
 use Rattle.rr_model.specs.declared.vcal.FamilyKind.TheVariants as family
 use Rattle.rr_model.specs.declared.vcal.VRuleParts.{VRuleParts}
 use Rattle.rr_model.proofs.RisingLemmas.{All-with_value}
-use Rattle.rr_rrule.proofs.StepLemmas.{and_then_ok, ok_or_ok, step_keeps, passed, not_refused}
-use Rattle.rr_rrule.proofs.BoundsLemmas.{number_up_to-lies, weekday_named-below}
-use Rattle.rr_rrule.proofs.InYearsLemmas.{basic-stamp}
+use Rattle.rr_text.proofs.StepLemmas.{and_then_ok, ok_or_ok, step_keeps, passed, not_refused}
+use Rattle.rr_text.proofs.WordLemmas.{number_up_to-lies, weekday_named-below}
+use Rattle.rr_text.proofs.InYearsLemmas.{basic-stamp}
 use Rattle.rr_vcal.specs.Parts.{IsPlace, IsValidParts}
 
 -- ---- the head

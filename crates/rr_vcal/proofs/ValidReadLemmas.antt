@@ -1,21 +1,20 @@
 -- What is read of a vCalendar 1.0 text is a valid series.
-use Rattle.std.proofs.Common.{◌≡◌, ◌++◌, ℕ, ◌≤◌, ◌==◌, not, Bool, true, false, if◌then◌else◌, List, [], ◌∷◌, length, Option, None, Some, Result, Ok, Err, ℤ, pos}
-use Rattle.std.proofs.Common.{refl, sym, ap, ◌∙◌, subst, arith}
-use Rattle.std.specs.Prelude.{All, IfOk, int_lt, ok_or}
+use Rattle.std.proofs.Common.{◌≡◌, ℕ, ◌≤◌, ◌==◌, not, Bool, true, false, if◌then◌else◌, List, [], ◌∷◌, length, Option, None, Some, Result, Ok, Err, ℤ, pos}
+use Rattle.std.proofs.Common.{refl, sym, subst, arith}
+use Rattle.std.specs.Prelude.{All, IfOk}
 use Rattle.std.specs.List.{slice_split}
 use Rattle.std.specs.Option.{IfSome}
 use Rattle.std.proofs.lemmas.Bool.{and_parts}
 use Rattle.std.proofs.lemmas.Bool.Decides.{nat_tests}
 use Rattle.std.proofs.lemmas.Int.{ints}
-use Rattle.std.proofs.lemmas.List.Elements.{All-nil, All-cons, All-append}
+use Rattle.std.proofs.lemmas.List.Elements.{All-nil, All-cons, All-weaker}
 use Rattle.rr_model.specs.Answers.{Answers}
 use Rattle.rr_model.specs.Calendar.{weekday_of, day_of_month, month_of, year_of, day_of_year}
 use Rattle.rr_model.specs.Moment.{day_part}
 use Rattle.rr_model.specs.Moment.Years.{IsInYears}
 use Rattle.rr_model.specs.Rule.Validity.{is_absent, HasCountInRange, EndsInYears}
 use Rattle.rr_model.specs.Text.Calendars.{end_at, end_beside}
-use Rattle.rr_model.specs.Text.Passes.{Stated, Beside, Event, nothing_read, nothing_beside, moment_beside, put_date, put_rule, with_date, with_line, with_rule}
-use Rattle.rr_model.specs.Text.Passes.{first_pass, second_pass, unless_stopped, passes}
+use Rattle.rr_model.specs.Text.Passes.{Stated, Event, moment_beside, passes}
 use Rattle.rr_model.specs.Text.Event.{event_scan}
 use Rattle.rr_model.specs.Text.Lines.{without_mark}
 use Rattle.rr_model.specs.Text.Rules.{is_blank, line_value}
@@ -26,27 +25,20 @@ use Rattle.rr_model.specs.Vcal.Validity.{IsItemOf, IsValidVRule, IsValidVSeries}
 use Rattle.rr_model.specs.declared.item.Item.{Item}
 use Rattle.rr_model.specs.declared.item.Item.TheVariants.{Every, Weekday, MonthDay, Month, YearDay}
 use Rattle.rr_model.specs.declared.kind.Kind.{Kind}
-use Rattle.rr_model.specs.declared.pass.FirstPass.{FirstPass}
 use Rattle.rr_model.specs.declared.refusal.Fault.{Fault}
-use Rattle.rr_model.specs.declared.refusal.Refusal.TheVariants.{NoStart}
 use Rattle.rr_model.specs.declared.rule.End.{End}
 use Rattle.rr_model.specs.declared.rule.End.TheVariants.{Never, Until, Count, Both}
 use Rattle.rr_model.specs.declared.stamp.Stamp.{Stamp}
-use Rattle.rr_model.specs.declared.used.LineName.{LineName}
-use Rattle.rr_model.specs.declared.used.LineName.TheVariants.{Dtstart, Rrule, Rdate, Exdate, Exrule}
 use Rattle.rr_model.specs.declared.used.Scan.{Scan}
-use Rattle.rr_model.specs.declared.used.UsedLine.{UsedLine}
 use Rattle.rr_model.specs.declared.vcal.FamilyKind.{FamilyKind}
 use Rattle.rr_model.specs.declared.vcal.FamilyKind.TheVariants as family
 use Rattle.rr_model.specs.declared.vcal.VRule.{VRule}
 use Rattle.rr_model.specs.declared.vcal.VRuleParts.{VRuleParts}
 use Rattle.rr_model.specs.declared.vcal.VSeries.{VSeries}
 use Rattle.rr_model.proofs.CalendarLemmas.{IsDate-year_of, days_in_month_bounds, weekday_of_below, days_into_year_below, days_in_year_bounds}
-use Rattle.rr_model.proofs.RisingLemmas.{All-with_value}
-use Rattle.rr_rrule.proofs.InYearsLemmas.{IsStamp}
-use Rattle.rr_rrule.proofs.BesideLemmas.{date_value-stamp, moment_beside-in_years, date_beside-in_years, not_stopped}
-use Rattle.rr_rrule.proofs.PassLemmas.{in_turn-keeps, first_pass-sound, first_pass-counts, second_pass-bounded, date-put, rule-put}
-use Rattle.rr_rrule.proofs.StepLemmas.{and_then_ok, ok_or_ok}
+use Rattle.rr_text.proofs.StepLemmas.{and_then_ok}
+use Rattle.rr_ical.proofs.BesideLemmas.{moment_beside-in_years, IsReadEvent, passes-valid}
+use Rattle.rr_ical.proofs.PassLemmas.{in_turn-keeps}
 use Rattle.rr_vcal.specs.Parts.{IsEndMoment, IsValidParts}
 use Rattle.rr_vcal.specs.Scans.{vcal_scan}
 use Rattle.rr_vcal.proofs.ValidPartsLemmas.{piece-valid, finished-valid}
@@ -130,14 +122,6 @@ stated_vrule-valid line text stated h =
     let same : stated_parts parts.0 ≡ stated = cc in
     subst IsValidStated same (stated_parts-valid parts.0 valid.0 valid.1)
 
-until-in_years : (until : Option Stamp) (end : End) → FitsUntil until end → IfSome until (λ stamp. IsInYears stamp.kind stamp.at)
-until-in_years None end h = tt
-until-in_years (Some stamp) end h = h.0.0
-
-pub stated_vrule-in_years : (line : ℕ) (text : List ℕ) (stated : Stated VRule) → stated_vrule line text ≡ Ok stated
-    → IfSome stated.until (λ stamp. IsInYears stamp.kind stamp.at)
-stated_vrule-in_years line text stated h = until-in_years stated.until stated.rule.end (stated_vrule-valid line text stated h).until
-
 -- ---- the rule beside its start
 
 own_items-valid : (f : FamilyKind) (d : ℤ) → (f ≡ family.MP → ⊥) → All (IsItemOf f) (own_items f d) × (1 ≤ length (own_items f d))
@@ -197,129 +181,36 @@ module _ (offset : Option ℤ) (start : Stamp) where
       subst (λ (r : VRule). IsValidVRule r × EndsInYears r.end) same
       (record { interval_low = v.interval_low; interval_high = v.interval_high; items = filled.0; some_item = filled.1; count = ends.0 }, ends.1)
 
-  -- ---- rules and dates
+-- ---- the series
 
-  -- the rules and dates are valid beside the start
-  record AreValid (beside : Beside VRule) : Type 0 where
-    rules : All IsValidVRule beside.rules
-    ends : All (λ (rule : VRule). EndsInYears rule.end) beside.rules
-    excluded : All IsValidVRule beside.excluded
-    excluded_ends : All (λ (rule : VRule). EndsInYears rule.end) beside.excluded
-    plus : All (IsInYears start.kind) beside.plus
-    minus : All (IsInYears start.kind) beside.minus
+-- a rule of a series is valid, and its end lies in the years 1 to 9999
+abbrev IsGoodRule : Kind → VRule → Type 0
+IsGoodRule kind rule = IsValidVRule rule × EndsInYears rule.end
 
-  nothing-valid : AreValid nothing_beside
-  nothing-valid = record { rules = All-nil _; ends = All-nil _; excluded = All-nil _; excluded_ends = All-nil _; plus = All-nil _; minus = All-nil _ }
-
-  put_date-valid : (is_plus : Bool) (beside : Beside VRule) (at : ℤ) → AreValid beside → IsInYears start.kind at → AreValid (put_date is_plus beside at)
-  put_date-valid true beside at v in_years = record {
-    rules = v.rules;
-    ends = v.ends;
-    excluded = v.excluded;
-    excluded_ends = v.excluded_ends;
-    plus = All-with_value (IsInYears start.kind) int_lt beside.plus at v.plus in_years;
-    minus = v.minus;
-  }
-  put_date-valid false beside at v in_years = record {
-    rules = v.rules;
-    ends = v.ends;
-    excluded = v.excluded;
-    excluded_ends = v.excluded_ends;
-    plus = v.plus;
-    minus = All-with_value (IsInYears start.kind) int_lt beside.minus at v.minus in_years;
-  }
-
-  with_date-valid : (line : ℕ) (is_plus : Bool) (beside : Beside VRule) (text : List ℕ) (next : Beside VRule) → AreValid beside
-      → with_date offset start line is_plus beside text ≡ Ok next → AreValid next
-  with_date-valid line is_plus beside text next v h =
-      let put = date-put offset start line is_plus beside text next h in
-      let in_years = date_beside-in_years offset start line put.0 put.2 (date_value-stamp line text put.0 put.1) put.3 in
-      subst AreValid put.4 (put_date-valid is_plus beside put.2 v in_years)
-
-  -- one valid rule more
-  one_more : (rules : List VRule) (rule : VRule) → All IsValidVRule rules → All (λ (r : VRule). EndsInYears r.end) rules
-      → IsValidVRule rule × EndsInYears rule.end → All IsValidVRule (rules ++ rule ∷ []) × All (λ (r : VRule). EndsInYears r.end) (rules ++ rule ∷ [])
-  one_more rules rule v e one = (
-    All-append IsValidVRule rules (rule ∷ []) v (All-cons IsValidVRule rule [] one.0 (All-nil _)),
-    All-append (λ (r : VRule). EndsInYears r.end) rules (rule ∷ []) e (All-cons (λ (r : VRule). EndsInYears r.end) rule [] one.1 (All-nil _)),
-  )
-
-  put_rule-valid : (is_given : Bool) (beside : Beside VRule) (rule : VRule) → AreValid beside → IsValidVRule rule × EndsInYears rule.end
-      → AreValid (put_rule is_given beside rule)
-  put_rule-valid true beside rule v one =
-      let more = one_more beside.rules rule v.rules v.ends one in
-      record { rules = more.0; ends = more.1; excluded = v.excluded; excluded_ends = v.excluded_ends; plus = v.plus; minus = v.minus }
-  put_rule-valid false beside rule v one =
-      let more = one_more beside.excluded rule v.excluded v.excluded_ends one in
-      record { rules = v.rules; ends = v.ends; excluded = more.0; excluded_ends = more.1; plus = v.plus; minus = v.minus }
-
-  with_rule-valid : (line : ℕ) (is_given : Bool) (beside : Beside VRule) (text : List ℕ) (next : Beside VRule) → AreValid beside
-      → with_rule vcal_language (vrule_beside offset start) line is_given beside text ≡ Ok next → AreValid next
-  with_rule-valid line is_given beside text next v h =
-      let put = rule-put vcal_language (vrule_beside offset start) line is_given beside text next h in
-      let valid = vrule_beside-valid line put.0 put.2 (stated_vrule-valid line text put.0 put.1) put.3 in
-      subst AreValid put.4 (put_rule-valid is_given beside put.2 v valid)
-
-  with_line-valid : (line : ℕ) (name : LineName) (beside : Beside VRule) (text : List ℕ) (next : Beside VRule) → AreValid beside
-      → with_line vcal_language (vrule_beside offset start) offset start line name beside text ≡ Ok next → AreValid next
-  with_line-valid line Dtstart beside text next v h =
-      let same : beside ≡ next = cc in
-      subst AreValid same v
-  with_line-valid line Rrule beside text next v h = with_rule-valid line true beside text next v h
-  with_line-valid line Rdate beside text next v h =
-      in_turn-keeps (with_date offset start line true) AreValid (with_date-valid line true) beside (slice_split vcal_language.is_separator text) next v h
-  with_line-valid line Exdate beside text next v h =
-      in_turn-keeps (with_date offset start line false) AreValid (with_date-valid line false) beside (slice_split vcal_language.is_separator text) next v h
-  with_line-valid line Exrule beside text next v h = with_rule-valid line false beside text next v h
-
-  second_pass-valid : (lines : List UsedLine) (beside : Beside VRule)
-      → second_pass vcal_language (vrule_beside offset start) offset start nothing_beside lines ≡ Ok beside → AreValid beside
-  second_pass-valid lines beside =
-      in_turn-keeps (λ b (line : UsedLine). with_line vcal_language (vrule_beside offset start) offset start line.number line.name b line.value) AreValid
-      (λ b line z v h. with_line-valid line.number line.name b line.value z v h) nothing_beside lines beside nothing-valid
-
-  -- ---- the series
-
-  event-valid : (lines : List UsedLine) (pass : FirstPass) (beside : Beside VRule) (series : VSeries) → first_pass vcal_language nothing_read lines ≡ Ok pass
-      → pass.start ≡ Some start
-      → second_pass vcal_language (vrule_beside offset start) offset start nothing_beside lines ≡ Ok beside
-      → vseries_of_event (record { start = start; beside = beside }) ≡ series → IsValidVSeries series
-  event-valid lines pass beside series first is second same =
-      let sound = first_pass-sound vcal_language nothing_read lines pass (record { start = tt; few_rules = omega arith; few_dates = omega arith }) first in
-      let in_years : IsStamp start = subst (λ (s : Option Stamp). IfSome s IsStamp) is sound.start in
-      let counts = first_pass-counts vcal_language nothing_read lines pass first in
-      let bounded = second_pass-bounded vcal_language (vrule_beside offset start) offset start nothing_beside lines beside second in
-      let v = second_pass-valid lines beside second in
-      subst IsValidVSeries same (record {
-        start = in_years.0;
-        rules = v.rules;
-        few_rules = omega (arith, bounded.0, counts.0, sound.few_rules);
-        ends = v.ends;
-        excluded = v.excluded;
-        excluded_ends = v.excluded_ends;
-        plus = v.plus;
-        minus = v.minus;
-        few_dates = omega (arith, bounded.1, counts.1, sound.few_dates);
-      })
-
--- the start of a first pass lies in the years 1 to 9999
-pub start-in_years : (lines : List UsedLine) (pass : FirstPass) (start : Stamp) → first_pass vcal_language nothing_read lines ≡ Ok pass
-    → pass.start ≡ Some start → IsInYears start.kind start.at
-start-in_years lines pass start h is =
-    let sound = first_pass-sound vcal_language nothing_read lines pass (record { start = tt; few_rules = omega arith; few_dates = omega arith }) h in
-    let in_years : IsStamp start = subst (λ (s : Option Stamp). IfSome s IsStamp) is sound.start in
-    in_years.0
+series-valid : (event : Event VRule) → IsReadEvent IsGoodRule event → IsValidVSeries (vseries_of_event event)
+series-valid event v =
+    let valid : (rule : VRule) → IsGoodRule event.start.kind rule → IsValidVRule rule = λ rule good. good.0 in
+    let ends : (rule : VRule) → IsGoodRule event.start.kind rule → EndsInYears rule.end = λ rule good. good.1 in
+    record {
+      start = v.start;
+      rules = All-weaker _ _ valid event.beside.rules v.beside.rules;
+      excluded = All-weaker _ _ valid event.beside.excluded v.beside.excluded;
+      few_rules = v.few_rules;
+      ends = All-weaker _ _ ends event.beside.rules v.beside.rules;
+      excluded_ends = All-weaker _ _ ends event.beside.excluded v.beside.excluded;
+      plus = v.beside.plus;
+      minus = v.beside.minus;
+      few_dates = v.few_dates;
+    }
 
 scan-valid : (offset : Option ℤ) (scan : Scan) (series : VSeries) → vcal_scan offset scan ≡ Ok series → IsValidVSeries series
 scan-valid offset scan series h =
     let event = and_then_ok (passes vcal_language (vrule_beside offset) offset scan) (λ (e : Event VRule). Ok (vseries_of_event e)) series h in
-    let read = and_then_ok (first_pass vcal_language nothing_read scan.used) _ event.0 event.1 in
-    let pass = and_then_ok (unless_stopped scan.stop read.0) _ event.0 read.2 in
-    let start = and_then_ok (ok_or pass.0.start NoStart) _ event.0 pass.2 in
-    let beside = and_then_ok (second_pass vcal_language (vrule_beside offset start.0) offset start.0 nothing_beside scan.used) _ event.0 start.2 in
-    let same : vseries_of_event (record { start = start.0; beside = beside.0 }) ≡ series = cc in
-    let first : first_pass vcal_language nothing_read scan.used ≡ Ok pass.0 = read.1 ∙ ap Ok (not_stopped scan.stop read.0 pass.0 pass.1) in
-    event-valid offset start.0 scan.used pass.0 beside.0 series first (ok_or_ok pass.0.start NoStart start.0 start.1) beside.1 same
+    let read = passes-valid vcal_language (vrule_beside offset) IsGoodRule
+    (λ start line text stated rule s r. vrule_beside-valid offset start line stated rule (stated_vrule-valid line text stated s) r) offset scan
+    event.0 event.1 in
+    let same : vseries_of_event event.0 ≡ series = cc in
+    subst IsValidVSeries same (series-valid event.0 read)
 
 reading-valid : (offset : Option ℤ) (bytes : List ℕ) (series : VSeries) → reads_vcal offset bytes ≡ Ok series → IsValidVSeries series
 unfolding reads_vcal

@@ -6,8 +6,8 @@ ghost use Rattle.rr_model.specs.Moment.Years.{IsInYears};
 ghost use Rattle.rr_model.specs.Vcal.Reading.{own_items, filled_items, vrule_beside};
 
 use rr_cal::{date_of, day_of_year, weekday};
+use rr_ical::{Setting, StatedRule, end_beside};
 use rr_model::{FamilyKind, Fault, Item, Items, NoMemory, VRule, day_part};
-use rr_rrule::{Setting, StatedRule, end_beside};
 use std::alloc::Global;
 
 // The item of a day, for a rule that lists none.

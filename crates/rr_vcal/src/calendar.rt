@@ -6,9 +6,8 @@ ghost use Rattle.rr_model.specs.Vcal.Validity.{IsValidVSeries};
 ghost use Rattle.rr_vcal.specs.Scans.{vcal_scan};
 
 use crate::language::VcalLanguage;
-use rr_ical::event_lines;
+use rr_ical::{ReadEvent, event_lines, event_of};
 use rr_model::{Fault, NoMemory, Scan, VRule, VRules, VSeries};
-use rr_rrule::{ReadEvent, event_of};
 use rr_text::without_mark;
 use std::alloc::Global;
 

@@ -5,7 +5,7 @@ ghost use Rattle.rr_model.specs.Text.Rules.{text_after};
 ghost use Rattle.rr_model.specs.Vcal.Rule.{Head, head_of, first_items, parts_of_head};
 
 use rr_model::{FamilyKind, Fault, Item, Items, NoMemory, Numbers, Refusal, VRuleParts};
-use rr_rrule::interval_of;
+use rr_text::interval_of;
 use std::alloc::Global;
 
 /// What follows letters at the front of a text.

@@ -8,7 +8,7 @@ ghost use Rattle.rr_vcal.specs.Parts.{IsPlace, IsValidParts};
 
 use crate::numbers::{marked_place, month_day_of, number_of};
 use rr_model::{FamilyKind, Fault, Item, Items, NoMemory, Numbers, Refusal, VRuleParts};
-use rr_rrule::{weekday_named, weekday_of};
+use rr_text::{weekday_named, weekday_of};
 use std::alloc::Global;
 
 // A place of a weekday as an item holds it.

@@ -1,12 +1,11 @@
 // The short numbers of a rule's list, and those that count from the back.
 ghost use Rattle.std.specs.Prelude.{◌≡◌, ◌≤◌, IfOk, IfSome, if◌then◌else◌, min, pos, neg_ℤ};
 ghost use Rattle.std.specs.Option.{is_some};
-ghost use Rattle.std.specs.Str.{bytes_eq};
 ghost use Rattle.rr_model.specs.Text.Digits.{digits_value};
 ghost use Rattle.rr_model.specs.Vcal.Rule.{is_short_number, place_of, number_of, marked_place, month_day_of};
 
 use rr_model::Refusal;
-use rr_rrule::whole_number;
+use rr_text::{is_word, whole_number};
 
 // The number that one to three digits write.
 fn short_number(text: &[u8]) -> Option<u64>
@@ -62,13 +61,6 @@ pub(crate) fn marked_place(line: u64, most: u16, text: &[u8]) -> Result<i8, Refu
         Some(front) => place_of(line, most, true, front),
         None => Err(Refusal::BadRule(line)),
     }
-}
-
-// Whether a text is a word.
-fn is_word(text: &[u8], word: &[u8]) -> bool
-    ensures { result ≡ bytes_eq text.now word.now }
-{
-    text == word
 }
 
 /// A day of the month; `LD` is the last, and a day without a mark counts from the front.

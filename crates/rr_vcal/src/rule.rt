@@ -1,5 +1,5 @@
 // The rule that a line states.
-ghost use Rattle.std.specs.Prelude.{◌≡◌, ◌==◌, if◌then◌else◌, IfSome, None};
+ghost use Rattle.std.specs.Prelude.{◌≡◌, ◌==◌, if◌then◌else◌, IfOk, IfSome, None};
 ghost use Rattle.std.specs.List.{slice_split};
 ghost use Rattle.rr_model.specs.Answers.{Answers};
 ghost use Rattle.rr_model.specs.Text.Rules.{is_blank};
@@ -10,28 +10,10 @@ ghost use Rattle.rr_vcal.specs.Parts.{IsValidParts};
 
 use crate::heads::parts_of_head;
 use crate::words::{is_list_whole, with_word};
-use rr_model::{End, Fault, Refusal, Stamp, VRule, VRuleParts};
-use rr_rrule::line_value;
+use rr_ical::StatedRule;
+use rr_model::{End, Fault, NoMemory, Refusal, Stamp, VRule, VRuleParts};
+use rr_text::line_value;
 use std::alloc::Global;
-use std::marker::Model;
-
-/// A rule as its line states it.
-#[derive(Drop)]
-pub(crate) struct StatedVRule {
-    /// The rule; a bare one has no items yet.
-    pub(crate) rule: VRule,
-    /// Its end moment.
-    pub(crate) until: Option<Stamp>,
-}
-
-impl Model for StatedVRule {
-    ghost use Rattle.rr_model.specs.declared.vcal.VRule.{VRule};
-    ghost use Rattle.rr_model.specs.Text.Passes.{Stated};
-
-    ghost Value = { Stated VRule };
-
-    ghost view = { λ s. record { rule = s.rule; until = s.until } };
-}
 
 // A piece between blanks: an empty one is passed over, and the first other one is the head.
 fn with_piece(
@@ -124,28 +106,29 @@ fn end_of_words(count: Option<u64>, until: Option<Stamp>) -> End
     }
 }
 
-fn stated_parts(parts: VRuleParts) -> StatedVRule
-    ensures { result ≡ stated_parts parts }
+fn stated_parts(alloc: Global, parts: VRuleParts) -> Result<StatedRule<VRule>, NoMemory>
+    ensures { IfOk result (λ stated. stated ≡ stated_parts parts) }
 {
-    let end = end_of_words(parts.count, parts.until);
-    StatedVRule {
-        until: parts.until,
-        rule: VRule {
-            family: parts.family,
-            interval: parts.interval,
-            items: parts.items,
-            end,
-        },
-    }
+    let rule = VRule {
+        family: parts.family,
+        interval: parts.interval,
+        items: parts.items,
+        end: end_of_words(parts.count, parts.until),
+    };
+    StatedRule::new(alloc, rule, parts.until)
 }
 
 /// The rule that the value of a line states; a bare one has no items yet.
 #[tactic(auto, unfolding(rr_model::specs::Vcal::Rule::stated_vrule))]
-pub(crate) fn stated_vrule(alloc: Global, line: u64, text: &[u8]) -> Result<StatedVRule, Fault>
+pub(crate) fn stated_vrule(
+    alloc: Global,
+    line: u64,
+    text: &[u8],
+) -> Result<StatedRule<VRule>, Fault>
     ensures { Answers (stated_vrule line text.now) result }
 {
     let value = line_value(alloc, text)?;
     let pieces = with_pieces(alloc, line, &value)?;
     let parts = finished(line, pieces)?;
-    Ok(stated_parts(parts))
+    Ok(stated_parts(alloc, parts)?)
 }

@@ -8,8 +8,7 @@ ghost use Rattle.rr_model.specs.Moment.Years.{IsInYears};
 ghost use Rattle.rr_vcal.specs.Writing.{place_of_item, item_text};
 
 use rr_model::{End, FamilyKind, Item, Kind, NoMemory, VRule};
-use rr_rrule::weekday_text;
-use rr_text::{push_basic, push_unsigned};
+use rr_text::{push_basic, push_unsigned, weekday_text};
 
 // The letters of a kind.
 #[tactic(auto, unfolding(rr_model::specs::Vcal::Written::family_text))]

@@ -1,8 +1,6 @@
 // The words of a rule after its head.
 ghost use Rattle.std.specs.Prelude.{◌≡◌};
 ghost use Rattle.rr_model.specs.Answers.{Answers};
-ghost use Rattle.std.specs.List.{list_all};
-ghost use Rattle.rr_model.specs.Text.Digits.{is_digit};
 ghost use Rattle.rr_model.specs.Text.Moments.{is_letter_t};
 ghost use Rattle.rr_model.specs.Vcal.Rule.{is_list_whole, is_moment_word, with_end_moment, with_count, within_list, with_word};
 ghost use Rattle.rr_vcal.specs.Parts.{IsValidParts};
@@ -10,7 +8,7 @@ ghost use Rattle.rr_vcal.specs.Parts.{IsValidParts};
 use crate::heads::text_after;
 use crate::items::with_list_word;
 use rr_model::{FamilyKind, Fault, Refusal, VRuleParts};
-use rr_rrule::{moment_of, whole_number};
+use rr_text::{all_digits, moment_of, whole_number};
 use std::alloc::Global;
 
 /// Whether the list can end here: in a rule by places there is a group, whose last place has a weekday after it.
@@ -29,17 +27,11 @@ fn is_letter_t(byte: u8) -> bool
     byte == b'T' || byte == b't'
 }
 
-fn are_digits(text: &[u8]) -> bool
-    ensures { result ≡ list_all is_digit text.now }
-{
-    text.iter().all(|b| b.is_ascii_digit())
-}
-
 // Whether a word is eight digits, or has T after them.
 fn is_moment_word(text: &[u8]) -> bool
     ensures { result ≡ is_moment_word text.now }
 {
-    text.len() >= 8 && are_digits(&text[..8]) && (text.len() == 8 || is_letter_t(text[8]))
+    text.len() >= 8 && all_digits(&text[..8]) && (text.len() == 8 || is_letter_t(text[8]))
 }
 
 // An end moment: first its form, then whether one stood before.

@@ -1,0 +1,152 @@
+// The second pass over the used lines of an event puts rules and dates beside the start (RFC 5545, section 3.8.5).
+ghost use Rattle.std.specs.Prelude.{◌≡◌, OnOk};
+ghost use Rattle.rr_model.specs.Answers.{Answers};
+ghost use Rattle.rr_model.specs.Moment.{is_same_kind};
+ghost use Rattle.rr_model.specs.Moment.Years.{IsInYears};
+ghost use Rattle.rr_model.specs.Text.Passes.{nothing_beside, put_date, put_rule, date_beside};
+ghost use Rattle.rr_ical.specs.Steps.{Becomes};
+ghost use Rattle.rr_ical.specs.Kept.{value_beside, values_beside};
+
+use crate::beside::moment_beside;
+use crate::kept::{LineValue, LineValues};
+use crate::language::RuleLanguage;
+use rr_model::{Dates, Fault, Kind, NoMemory, Refusal, Stamp};
+use std::alloc::Global;
+use std::marker::Model;
+
+/// Rules, excluded rules and dates beside a start.
+#[derive(Drop)]
+pub struct Nearby<R> {
+    /// The rules of RRULE.
+    pub rules: Vec<R>,
+    /// The rules of EXRULE.
+    pub excluded: Vec<R>,
+    /// The values of RDATE.
+    pub plus: Dates,
+    /// The values of EXDATE.
+    pub minus: Dates,
+}
+
+impl<R> Model for Nearby<R> {
+    ghost use Rattle.rr_model.specs.Text.Passes.{Beside};
+
+    ghost Value = { Beside R };
+
+    ghost view = { λ n. record { rules = n.rules.items; excluded = n.excluded.items; plus = n.plus; minus = n.minus } };
+}
+
+/// What the values of an event stand beside.
+#[derive(Clone, Copy, Debug, PartialEq, Eq)]
+pub struct Setting {
+    /// The stated offset, local time less UTC, in seconds.
+    pub offset: Option<i32>,
+    /// The start.
+    pub start: Stamp,
+}
+
+/// Whether both are dates or both are moments.
+pub(crate) fn is_same_kind(kind: Kind, other: Kind) -> bool
+    ensures { result ≡ is_same_kind kind other }
+{
+    match (kind, other) {
+        (Kind::Days, Kind::Days) | (Kind::Moments, Kind::Moments) => true,
+        _ => false,
+    }
+}
+
+/// A date value beside the start.
+///
+/// `MixedKinds` comes for another kind than the start's; then what `end_beside` refuses.
+pub fn date_beside(setting: Setting, line: u64, stamp: Stamp) -> Result<i64, Refusal>
+    ensures { result ≡ date_beside setting.offset setting.start line stamp }
+{
+    if is_same_kind(setting.start.kind, stamp.kind) {
+        moment_beside(setting.offset, setting.start, line, stamp)
+    } else {
+        Err(Refusal::MixedKinds(line))
+    }
+}
+
+// With one date more.
+fn put_date<R: Drop>(is_plus: bool, beside: &mut Nearby<R>, at: i64) -> Result<(), NoMemory>
+    ensures { OnOk result (beside.new ≡ put_date is_plus beside.old at) }
+{
+    if is_plus {
+        beside.plus.put(at)?;
+    } else {
+        beside.minus.put(at)?;
+    }
+    Ok(())
+}
+
+// With one rule more, of RRULE or EXRULE.
+fn put_rule<R: Drop>(is_given: bool, beside: &mut Nearby<R>, rule: R) -> Result<(), NoMemory>
+    ensures { OnOk result (beside.new ≡ put_rule is_given beside.old rule) }
+{
+    if is_given {
+        beside.rules.push(rule)?;
+    } else {
+        beside.excluded.push(rule)?;
+    }
+    Ok(())
+}
+
+// One value beside the start.
+fn put_value<R: Drop, L: RuleLanguage<R>>(
+    language: &L,
+    alloc: Global,
+    setting: Setting,
+    beside: &mut Nearby<R>,
+    value: LineValue<R>,
+) -> Result<(), Fault>
+    requires { IsInYears setting.start.kind setting.start.at }
+    ensures { Becomes (value_beside (L.beside setting.offset setting.start) setting.offset setting.start beside.old value) beside.new result }
+{
+    match value {
+        LineValue::OneDate {
+            line,
+            is_plus,
+            stamp,
+        } => {
+            let at = date_beside(setting, line, stamp)?;
+            put_date(is_plus, beside, at)?;
+        }
+        LineValue::OneRule {
+            line,
+            is_given,
+            stated,
+        } => {
+            let rule = language.rule_beside(alloc, setting, line, stated)?;
+            put_rule(is_given, beside, rule)?;
+        }
+    }
+    Ok(())
+}
+
+fn nothing_beside<R: Drop>(alloc: Global) -> Nearby<R>
+    ensures { result ≡ nothing_beside }
+{
+    Nearby {
+        rules: Vec::new(alloc),
+        excluded: Vec::new(alloc),
+        plus: Dates::new(alloc),
+        minus: Dates::new(alloc),
+    }
+}
+
+/// The second pass: the rules and dates of the lines, judged beside the start.
+pub(crate) fn second_pass<R: Drop, L: RuleLanguage<R>>(
+    language: &L,
+    alloc: Global,
+    setting: Setting,
+    values: LineValues<R>,
+) -> Result<Nearby<R>, Fault>
+    requires { IsInYears setting.start.kind setting.start.at }
+    ensures { Answers (values_beside (L.beside setting.offset setting.start) setting.offset setting.start nothing_beside values) result }
+{
+    let mut beside = nothing_beside(alloc);
+    for value in values.into_items() {
+        put_value(language, alloc, setting, &mut beside, value)?;
+    }
+    Ok(beside)
+}

@@ -1,7 +1,0 @@
-use Rattle.std.proofs.Common.{sym, ◌∙◌}
-use Rattle.rr_rrule.proofs.NumberLemmas.{is_number-run}
-use Rattle.rr_rrule.proofs.numbers.is_whole.Goals as goal
-
-pub returns-then-not-is_empty : goal.returns-then-not-is_empty
-returns-then-not-is_empty c =
-    is_number-run c.args.text.now c.args.run c.requires (sym c.is_empty.ensures ∙ c.if-not-is_empty.true)

@@ -1,0 +1,39 @@
+// The value of a line, a text cut in two, and a date or moment that is asked for.
+ghost use Rattle.std.specs.Prelude.{◌≡◌, ◌==◌, ok_or, option_map, position, IfOk};
+ghost use Rattle.rr_model.specs.Text.Moments.{basic};
+ghost use Rattle.rr_model.specs.Text.Rules.{split_once, line_value};
+ghost use Rattle.rr_model.specs.declared.refusal.Refusal.TheVariants.{BadMoment};
+
+use crate::blanks::trim;
+use crate::moment::basic;
+use rr_model::{NoMemory, Refusal, Stamp};
+use std::alloc::Global;
+
+// The place of the first such byte.
+fn place_of(text: &[u8], byte: u8) -> Option<usize>
+    ensures { result ≡ position (λ b. b == byte) text.now }
+{
+    text.iter().position(|b| *b == byte)
+}
+
+/// What stands before the first such byte, and what after it.
+pub fn split_once(text: &[u8], byte: u8) -> Option<(&[u8], &[u8])>
+    ensures { option_map (λ sides. (sides.0.now, sides.1.now)) result ≡ split_once byte text.now }
+{
+    let place = place_of(text, byte)?;
+    Some((&text[..place], &text[place + 1..]))
+}
+
+/// The value of a line: in capitals, without the blanks and tabs around it.
+pub fn line_value(alloc: Global, text: &[u8]) -> Result<Vec<u8>, NoMemory>
+    ensures { IfOk result (λ value. value.items ≡ line_value text.now) }
+{
+    Ok(trim(text).to_ascii_uppercase(alloc)?)
+}
+
+/// The date or moment that a text states; `BadMoment` comes where it states none.
+pub fn moment_of(line: u64, text: &[u8]) -> Result<Stamp, Refusal>
+    ensures { result ≡ ok_or (basic text.now) (BadMoment line) }
+{
+    basic(text).ok_or(Refusal::BadMoment(line))
+}
