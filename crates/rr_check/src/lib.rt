@@ -4,8 +4,6 @@
 mod cycle;
 mod refusals;
 mod soundness;
-#[cfg(test)]
-mod tests;
 
 pub use cycle::{admit, chosen_repeats};
 pub use refusals::end_refusal;

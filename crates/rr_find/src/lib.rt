@@ -6,8 +6,6 @@ mod found;
 mod lists;
 mod search;
 mod tallies;
-#[cfg(test)]
-mod tests;
 
 pub use found::Found;
 pub use search::find;

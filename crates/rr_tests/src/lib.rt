@@ -8,6 +8,8 @@ mod algebra_tests;
 #[cfg(test)]
 mod cal_tests;
 #[cfg(test)]
+mod check_tests;
+#[cfg(test)]
 mod drill_tests;
 #[cfg(test)]
 mod events_tests;

@@ -36,19 +36,28 @@ pub fn push_unsigned(out: &mut Vec<u8>, value: u64) -> Result<(), NoMemory>
     Ok(())
 }
 
+// The two digits of each number below 100, in a row.
+static PAIRS: [u8; 200] =
+    *b"00010203040506070809101112131415161718192021222324252627282930313233343536373839404142434445464748495051525354555657585960616263646566676869707172737475767778798081828384858687888990919293949596979899";
+
 // The tens of a number of two digits, as a digit.
+#[inline]
+#[tactic(auto, using(crate::proofs::PrintLemmas::tens_digit))]
 fn tens(value: u8) -> u8
     requires { value < 100 }
     ensures { result ≡ 48 + value / 10 }
 {
-    b'0' + value / 10
+    PAIRS[2 * value as usize]
 }
 
 // Its ones.
+#[inline]
+#[tactic(auto, using(crate::proofs::PrintLemmas::ones_digit))]
 fn ones(value: u8) -> u8
+    requires { value < 100 }
     ensures { result ≡ 48 + value % 10 }
 {
-    b'0' + value % 10
+    PAIRS[2 * value as usize + 1]
 }
 
 // The year, month and day of a day from 0001-01-01 on.
