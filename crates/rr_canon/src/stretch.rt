@@ -157,7 +157,7 @@ fn free_ahead<A: DaySeq>(
     empty: Option<u32>,
 ) -> u64
     requires low { neg_ℤ (pos 1_000_000_000) ≤ℤ day }
-    requires high { (day +ℤ pos most) ≤ℤ pos 2_000_000_000 }
+    requires end { (day +ℤ pos most) ≤ℤ pos 2_000_000_000 }
     requires rest { AreNumbersFrom (A.sets seq.now) (A.sketch seq.now) day rest.now }
     requires empty { IfSome empty (IsEmptyOne (A.sets seq.now)) }
     ensures most { result ≤ most }
@@ -227,19 +227,14 @@ pub fn number_days<A: DaySeq>(
     let mut known = OwnNumbers::new(alloc);
     let mut days = NumberedDays::new(alloc);
     let mut rest: &[u32] = &[];
-    let mut k = 0;
+    let mut k = free_ahead(seq, from, count, rest, None);
     while k < count {
-        let free = free_ahead(seq, from + k as i64, count - k, rest, known.empty);
-        rest = left_after(rest, free);
-        k += free;
-        if k == count {
-            break;
-        }
         let day = from + k as i64;
         let stretch = next_stretch(seq, day, rest);
         put_day(alloc, seq, day, stretch.first, &mut known, sets, &mut days)?;
-        rest = stretch.rest;
-        k += 1;
+        let free = free_ahead(seq, day + 1, count - k - 1, stretch.rest, known.empty);
+        rest = left_after(stretch.rest, free);
+        k += 1 + free;
     }
     Ok(days)
 }
