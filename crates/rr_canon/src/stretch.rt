@@ -149,13 +149,7 @@ fn count_empty(numbers: &[u32], empty: Option<u32>) -> usize
 }
 
 // How many days from one on, of at most `most`, are known at once to be free, where the numbers of the first ones may have been read.
-fn free_ahead<A: DaySeq>(
-    seq: &A,
-    day: i64,
-    most: u64,
-    rest: &[u32],
-    empty: Option<u32>,
-) -> u64
+fn free_ahead<A: DaySeq>(seq: &A, day: i64, most: u64, rest: &[u32], empty: Option<u32>) -> u64
     requires low { neg_ℤ (pos 1_000_000_000) ≤ℤ day }
     requires end { (day +ℤ pos most) ≤ℤ pos 2_000_000_000 }
     requires rest { AreNumbersFrom (A.sets seq.now) (A.sketch seq.now) day rest.now }

@@ -15,7 +15,7 @@ pub struct NumberedDay {
     pub number: u32,
 }
 
-/// Occupied days with the numbers of their time sets, in the order in which they were put.
+/// Occupied days with the numbers of their time sets, in the order in which they were put, eight bytes for each.
 #[derive(Drop)]
 pub struct NumberedDays {
     items: Vec<NumberedDay>,

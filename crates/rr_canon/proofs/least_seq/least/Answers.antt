@@ -65,10 +65,11 @@ number_days-requires-2-clause-room g c =
 
 -- ---- what is kept
 
-kept : (g : Over) (c : After-kind g) → Started g (goal.at.returns-clause-least g c).After-least_start-settled
+kept : (g : Over) (c : After-kind g)
     → IsKeptLeast (g.A.DaySeq.sketch c.args.seq.now) c.kind.result c.number_days-2.new.sets c.in_ok-before.before
     (to_z w64 (of_z w64 c.least_start-settled.result)) c.least_period-period.result c.in_ok-cycle.cycle (Some (to_z w64 (of_z w64 c.in-Some.first)))
-kept g c f =
+kept g c =
+    let f = started g (goal.at.invariant_of-result g c).After-least_start-settled in
     let s = g.A.DaySeq.sketch c.args.seq.now in
     let first = c.in-Some.first in
     let settled = c.least_start-settled.result in
@@ -82,11 +83,10 @@ kept g c f =
 
 pub invariant_of-result : goal.invariant_of-result
 invariant_of-result g c =
-    let facts = kept g c (started g (goal.at.invariant_of-result g c).After-least_start-settled) in
-    record { bounded = facts.bounded; first_is = facts.first_is; in_order = facts.in_order; least = ∣ facts.least ∣₁ }
+    let k = kept g c in record { bounded = k.bounded; first_is = k.first_is; in_order = k.in_order; least = ∣ k.least ∣₁ }
 
 pub returns-clause-least : goal.returns-clause-least
-returns-clause-least g c = (kept g c (started g (goal.at.returns-clause-least g c).After-least_start-settled)).least
+returns-clause-least g c = (kept g (goal.at.returns-clause-least g c).After-kind).least
 
 pub returns-clause-same : goal.returns-clause-same
-returns-clause-same g c = (kept g c (started g (goal.at.returns-clause-same g c).After-least_start-settled)).same
+returns-clause-same g c = (kept g (goal.at.returns-clause-same g c).After-kind).same
