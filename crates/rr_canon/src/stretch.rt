@@ -203,8 +203,8 @@ fn put_day<A: DaySeq>(
 
 /// The occupied ones of the `count` days from `from` on, with the numbers of their time sets, which are added where they are new.
 ///
-/// The seconds of each of the sequence's own sets are read once, and not on each day; so are the numbers of days in a row. Days
-/// that are known to be free are passed over, at once where the sequence knows of them.
+/// The seconds of each of the sequence's own sets are read once, and not on each day; so are the numbers of days in a row. Free
+/// days are passed over: those of a row by their numbers, and others as far as the sequence knows of them.
 pub fn number_days<A: DaySeq>(
     alloc: Global,
     seq: &A,
