@@ -1,6 +1,7 @@
 -- Adding the days of a stretch one after another.
-use Rattle.std.proofs.Common.{◌≡◌, ℕ, zero, suc, ◌+◌, ◌<◌, ◌≤◌, List, [], ◌++◌, length, ℤ, pos, ◌+ℤ◌, inl, inr, refl, sym, ap, subst, ◌∙◌, arith}
+use Rattle.std.proofs.Common.{◌≡◌, ℕ, zero, suc, ◌+◌, ◌-◌, ◌<◌, ◌≤◌, List, [], ◌++◌, length, ℤ, pos, ◌+ℤ◌, inl, inr, refl, sym, ap, subst, ◌∙◌, arith}
 use Rattle.std.specs.List.{All}
+use Rattle.std.proofs.lemmas.Bool.{cases_lt}
 use Rattle.std.proofs.lemmas.Int.{ints}
 use Rattle.std.proofs.lemmas.List.{append-nil}
 use Rattle.std.proofs.lemmas.List.Elements.{All-nil, All-cons}
@@ -48,6 +49,17 @@ one_more_day s from from' day k times old sets sets' days days' ef ed et stretch
       sets = new_sets ∙ ap (with_sets_of old) here;
       numbers = new_days ∙ ap (numbered sets') here;
     }
+
+-- days that are free, and free days after them
+pub both_free : (s : Sketch) (day later : ℤ) (here more free : ℕ) → later ≡ day +ℤ pos here → more ≤ free → AreFree s day here → AreFree s later free
+    → AreFree s day (here + more)
+both_free s day later here more free e few first second = λ k l.
+    elim (cases_lt k here) [
+      | inl early ↦ first k early
+      | inr late ↦ (
+          let at : later +ℤ pos (k - here) ≡ day +ℤ pos k = omega (arith, ints, e, late) in
+          ap (times_on s) (sym at) ∙ second (k - here) (omega (arith, l, late, few)))
+    ]
 
 -- free days add nothing
 occupied_free : (s : Sketch) (q : ℤ) (k n : ℕ) → AreFree s (q +ℤ pos k) n → occupied s q (k + n) ≡ occupied s q k

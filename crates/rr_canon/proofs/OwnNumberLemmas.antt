@@ -1,14 +1,16 @@
 -- What is known of a sequence's own time sets.
-use Rattle.std.proofs.Common.{◌≡◌, ◌≢◌, ℕ, ◌+◌, ◌<◌, List, [], drop, get_or, length, ℤ, pos, ◌+ℤ◌, sym, ap, subst, ◌∙◌, inl, inr, arith}
-use Rattle.std.specs.Prelude.{Option, Some, Result, Ok, Err, OnOk, slice_get}
+use Rattle.std.proofs.Common.{◌≡◌, ◌≢◌, ℕ, ◌+◌, ◌<◌, cond, List, [], ◌∷◌, ◌++◌, drop, get_or, length, ℤ, pos, ◌+ℤ◌, refl, sym, ap, subst, ◌∙◌, inl, inr}
+use Rattle.std.proofs.Common.{arith}
+use Rattle.std.specs.Prelude.{◌≤◌, Option, Some, None, IfSome, Result, Ok, Err, OnOk, slice_get}
 use Rattle.std.proofs.lemmas.Int.{ints}
 use Rattle.std.proofs.lemmas.List.{get_or-drop, length-drop}
-use Rattle.std.proofs.lemmas.Option.{get_or_from_slice_get}
+use Rattle.std.proofs.lemmas.Option.{get_or_from_slice_get, same_Some}
 use Rattle.rr_model.specs.Sets.Descriptor.{number_of}
 use Rattle.rr_word.proofs.SetNumberLemmas.{known_new, known_stays, number_stays}
 use Rattle.rr_model.specs.declared.sketch.Sketch.{Sketch}
-use Rattle.rr_word.specs.Stretches.{IsNumberOn, IsStretch}
-use Rattle.rr_canon.specs.Kept.{AreKnown, AreNumbersFrom, IsPutNumber}
+use Rattle.rr_word.specs.Stretches.{AreFree, IsNumberOn, IsStretch}
+use Rattle.rr_word.specs.declared.numbered.NumberedDay.{NumberedDay}
+use Rattle.rr_canon.specs.Kept.{AreKnown, AreNumbersFrom, IsEmptyOne, IsKnownNumber, IsPutDay, IsPutNumber}
 use Rattle.rr_canon.specs.Placed.{IsNumbered}
 
 -- nothing is known
@@ -37,6 +39,23 @@ known_put own sets sets' known known' place number times at some numbered put is
           }))
     ]
 
+-- a day whose set is there under this number
+put_some : (times : List ℕ) (sets : List (List ℕ)) (number : ℕ) (day : ℤ) (old new : List NumberedDay) → IsKnownNumber sets times number
+    → new ≡ old ++ record { day = day; number = number } ∷ [] → IsPutDay day times sets sets old new
+put_some [] sets number day old new known is = absurd (known.some refl)
+put_some (t ∷ ts) sets number day old new known is = record {
+  sets = ap (λ b. cond b sets (sets ++ (t ∷ ts) ∷ [])) (sym known.among);
+  numbers = is ∙ ap (λ n. old ++ record { day = day; number = n } ∷ []) known.number_is;
+}
+
+-- a day whose set is known by its own number
+pub put_known : (own sets : List (List ℕ)) (known : List (Option ℕ)) (place number : ℕ) (day : ℤ) (times : List ℕ) (old new : List NumberedDay)
+    → AreKnown own sets known → get_or known place None ≡ Some number → slice_get own place ≡ Some times
+    → new ≡ old ++ record { day = day; number = number } ∷ [] → IsPutDay day times sets sets old new
+put_known own sets known place number day times old new are e at is =
+    let here : get_or own place [] ≡ times = get_or_from_slice_get own place times [] at in
+    put_some times sets number day old new (subst (λ t. IsKnownNumber sets t number) here (are place number e)) is
+
 -- ---- the numbers of days in a row
 
 -- none are left
@@ -62,6 +81,29 @@ first_left own s day numbers first rest some ef er h =
           subst (λ n. IsNumberOn own s ((day +ℤ pos 1) +ℤ pos k) (Some n)) number
           (subst (λ d. IsNumberOn own s d (Some (get_or numbers (1 + k) 0))) later (h (1 + k) (omega (arith, l, many))));
     }
+
+-- those that are left once days are passed over
+pub left_later : (own : List (List ℕ)) (s : Sketch) (day next : ℤ) (n : ℕ) (numbers rest : List ℕ) → next ≡ day +ℤ pos n → rest ≡ drop n numbers
+    → AreNumbersFrom own s day numbers → AreNumbersFrom own s next rest
+left_later own s day next n numbers rest ed er h = λ k l.
+    let within : n + k < length numbers = omega (arith, l, ap length er, length-drop n numbers) in
+    let later : day +ℤ pos (n + k) ≡ next +ℤ pos k = omega (arith, ints, ed) in
+    let number : get_or numbers (n + k) 0 ≡ get_or rest k 0 = sym (ap (λ t. get_or t k 0) er ∙ get_or-drop n numbers k 0) in
+    subst (λ m. IsNumberOn own s (next +ℤ pos k) (Some m)) number
+    (subst (λ d. IsNumberOn own s d (Some (get_or numbers (n + k) 0))) later (h (n + k) within))
+
+-- ---- the empty set
+
+-- it has no number yet, or this one
+pub none_empty : (own : List (List ℕ)) (empty : Option ℕ) → empty ≡ None → IfSome empty (IsEmptyOne own)
+none_empty own empty e = subst (λ o. IfSome o (IsEmptyOne own)) (sym e) tt
+
+-- days with the number of the empty set are free
+pub free_by_number : (own : List (List ℕ)) (s : Sketch) (day : ℤ) (numbers : List ℕ) (empty : Option ℕ) (n : ℕ) → n ≤ length numbers
+    → IfSome empty (IsEmptyOne own) → ((k : ℕ) → k < n → Some (get_or numbers k 0) ≡ empty) → AreNumbersFrom own s day numbers → AreFree s day n
+free_by_number own s day numbers empty n few is same h = λ k l.
+    let here : slice_get own (get_or numbers k 0) ≡ Some [] = subst (λ e. IfSome e (IsEmptyOne own)) (sym (same k l)) is in
+    same_Some _ _ (sym (h k (omega (arith, l, few))) ∙ here)
 
 -- what holds anyway holds of an answer
 pub on_ok : {X E : Type 0} (result : Result X E) (P : Type 0) → P → OnOk result P

@@ -1,5 +1,6 @@
 -- The parts of a least sketch as they are kept: days with numbers, and the sets of these numbers.
-use Rattle.std.specs.Prelude.{◌≡◌, ◌≢◌, ◌⊎◌, ℕ, ◌<◌, true, List, [], ◌++◌, get_or, length, ℤ, pos, ◌+ℤ◌, ◌-ℤ◌, int_lt, Option, Some, None, if◌then◌else◌}
+use Rattle.std.specs.Prelude.{◌≡◌, ◌≢◌, ◌⊎◌, ℕ, ◌<◌, true, List, [], ◌++◌, get_or, length, slice_get, Option, Some, None, if◌then◌else◌}
+use Rattle.std.specs.Prelude.{ℤ, pos, neg_ℤ, ◌+ℤ◌, ◌-ℤ◌, ◌≤ℤ◌, int_lt}
 use Rattle.std.specs.List.{list_any}
 use Rattle.rr_model.specs.Whole.{floor_mod}
 use Rattle.rr_model.specs.declared.kind.Kind.{Kind}
@@ -41,7 +42,15 @@ pub record IsPutDay (day : ℤ) (times : List ℕ) (old_sets new_sets : List (Li
   pub sets : new_sets ≡ with_sets_of old_sets (shape_if_some day times)
   pub numbers : new ≡ old ++ numbered new_sets (shape_if_some day times)
 
+-- a day within 2,000,000,000 either way
+abbrev pub IsKeptDay : ℤ → Type 0
+IsKeptDay d = (neg_ℤ (pos 2_000_000_000) ≤ℤ d) × (d ≤ℤ pos 2_000_000_000)
+
 -- ---- the numbers of a sequence's own sets
+
+-- the empty set is that of this number
+abbrev pub IsEmptyOne : List (List ℕ) → ℕ → Type 0
+IsEmptyOne own number = slice_get own number ≡ Some []
 
 -- these are the numbers of the day's set and of those of the days after it, one after another
 abbrev pub AreNumbersFrom : List (List ℕ) → Sketch → ℤ → List ℕ → Type 0

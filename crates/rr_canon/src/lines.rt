@@ -9,9 +9,8 @@ ghost use Rattle.rr_canon.specs.Versions.{set_line_of};
 ghost use Rattle.rr_model.specs.Sets.Printable.{IsPrintedDay};
 
 use crate::version::Version;
-use itoa::Buffer;
 use rr_model::{Kind, NoMemory};
-use rr_text::push_extended;
+use rr_text::{push_extended, push_unsigned};
 use rr_times::{Stretch, TimeSet};
 
 /// As many equal steps in a row.
@@ -39,10 +38,8 @@ pub fn push_line(out: &mut Vec<u8>, line: &[u8]) -> Result<(), NoMemory>
 fn push_field(out: &mut Vec<u8>, number: u64) -> Result<(), NoMemory>
     ensures { OnOk result (out.new.items ≡ out.old.items ++ (32 ∷ decimal number)) }
 {
-    let mut buffer = Buffer::new();
     out.push(b' ')?;
-    out.extend_from_slice(buffer.format(number).as_bytes())?;
-    Ok(())
+    push_unsigned(out, number)
 }
 
 /// A letter, the gap, the number of the set and the count.
@@ -73,10 +70,8 @@ pub fn push_seconds(out: &mut Vec<u8>, times: &[u32]) -> Result<(), NoMemory>
 fn push_part(out: &mut Vec<u8>, before: u8, number: u32) -> Result<(), NoMemory>
     ensures { OnOk result (out.new.items ≡ out.old.items ++ (before ∷ decimal number)) }
 {
-    let mut buffer = Buffer::new();
     out.push(before)?;
-    out.extend_from_slice(buffer.format(number).as_bytes())?;
-    Ok(())
+    push_unsigned(out, u64::from(number))
 }
 
 // A blank, and a second alone or a row of seconds.

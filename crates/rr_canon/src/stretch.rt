@@ -1,29 +1,32 @@
 // The occupied days of a stretch, with the numbers of their time sets.
-ghost use Rattle.std.specs.Prelude.{◌≡◌, ◌<◌, ◌≤◌, IfOk, IfSome, OnOk, ◌++◌, ◌∷◌, None, Some, ℕ, [], get_or, slice_get, length, neg_ℤ, pos, ◌+ℤ◌, ◌≤ℤ◌};
+ghost use Rattle.std.specs.Prelude.{◌≡◌, ◌<◌, ◌≤◌, IfOk, IfSome, OnOk, ◌++◌, ◌∷◌, None, Some, ℕ, [], drop, get_or, slice_get, length, neg_ℤ, pos, ◌+ℤ◌, ◌≤ℤ◌};
 ghost use Rattle.rr_model.specs.Rising.Sets.{IsSecondsOfDay};
 ghost use Rattle.rr_model.specs.Sets.Sketch.{IsNearDay, times_on};
 ghost use Rattle.rr_word.specs.Stretches.{AreFree, IsNumberOn, IsStretch};
-ghost use Rattle.rr_canon.specs.Kept.{AreKnown, AreNumbersFrom, AreStretchOf, IsKnownNumber, IsPutDay, IsPutNumber};
+ghost use Rattle.rr_canon.specs.Kept.{AreKnown, AreNumbersFrom, AreStretchOf, IsEmptyOne, IsKeptDay, IsKnownNumber, IsPutDay, IsPutNumber};
 
 use crate::sets::TimeSets;
 use rr_model::NoMemory;
 use rr_word::{DaySeq, NumberedDay, NumberedDays, Stretch};
 use std::alloc::Global;
 
-// What is known of the time sets of a sequence: by its own number for a set, the number of the set among those that are kept. So
-// the seconds of each of its sets are read once, and not on each day.
+// What is known of the time sets of a sequence: by its own number for a set, the number of the set among those that are kept, and
+// which own number the empty set has. So the seconds of each of its sets are read once, and not on each day.
 #[derive(Drop)]
 struct OwnNumbers {
     known: Vec<Option<u32>>,
+    empty: Option<u32>,
 }
 
 impl OwnNumbers {
     // Nothing is known; it takes no memory.
     fn new(alloc: Global) -> OwnNumbers
-        ensures { result.known.items ≡ [] }
+        ensures known { result.known.items ≡ [] }
+        ensures empty { result.empty ≡ None }
     {
         OwnNumbers {
             known: Vec::new(alloc),
+            empty: None,
         }
     }
 
@@ -41,6 +44,7 @@ impl OwnNumbers {
     fn make_room(&mut self, count: usize) -> Result<(), NoMemory>
         ensures same { OnOk result ((k : ℕ) → get_or self.new.known.items k None ≡ get_or self.old.known.items k None) }
         ensures room { OnOk result (count ≤ length self.new.known.items) }
+        ensures empty { self.new.empty ≡ self.old.empty }
     {
         if self.known.len() < count {
             self.known.resize(count, None)?;
@@ -50,7 +54,8 @@ impl OwnNumbers {
 
     // Keeps the number of the set with this own number.
     fn put(&mut self, own: u32, number: u32) -> Result<(), NoMemory>
-        ensures { OnOk result (IsPutNumber own number self.old.known.items self.new.known.items) }
+        ensures put { OnOk result (IsPutNumber own number self.old.known.items self.new.known.items) }
+        ensures empty { self.new.empty ≡ self.old.empty }
     {
         let place = own as usize;
         self.make_room(place + 1)?;
@@ -61,9 +66,13 @@ impl OwnNumbers {
 
 // Adds a day whose set has a number.
 fn put_numbered(day: i64, number: u32, days: &mut NumberedDays) -> Result<(), NoMemory>
+    requires { IsKeptDay day }
     ensures { OnOk result (days.new ≡ days.old ++ record { day = day; number = number } ∷ []) }
 {
-    days.put(NumberedDay { day, number })
+    days.put(NumberedDay {
+        day: day as i32,
+        number,
+    })
 }
 
 // Adds a day, where it has seconds, by the sequence's own number for its set.
@@ -76,18 +85,22 @@ fn put_own<A: DaySeq>(
     sets: &mut TimeSets,
     days: &mut NumberedDays,
 ) -> Result<(), NoMemory>
+    requires near { IsKeptDay day }
     requires own { slice_get (A.sets seq.now) own ≡ Some (times_on (A.sketch seq.now) day) }
     requires of_day { IsSecondsOfDay (times_on (A.sketch seq.now) day) }
     requires few { length sets.old < 4_294_967_295 }
     requires known { AreKnown (A.sets seq.now) sets.old known.old.known.items }
+    requires empty { IfSome known.old.empty (IsEmptyOne (A.sets seq.now)) }
     ensures put { OnOk result (IsPutDay day (times_on (A.sketch seq.now) day) sets.old sets.new days.old days.new) }
     ensures known { OnOk result (AreKnown (A.sets seq.now) sets.new known.new.known.items) }
+    ensures empty { OnOk result (IfSome known.new.empty (IsEmptyOne (A.sets seq.now))) }
 {
     if let Some(number) = known.number(own) {
         return put_numbered(day, number, days);
     }
     let times = seq.times(own);
     if times.is_empty() {
+        known.empty = Some(own);
         return Ok(());
     }
     let number = sets.place(alloc, times)?;
@@ -111,17 +124,55 @@ fn next_stretch<'a, A: DaySeq>(seq: &'a A, day: i64, rest: &'a [u32]) -> Stretch
     }
 }
 
-// For how many days from one on it is known at once that none is occupied; 0 where numbers that were read are left.
-fn free_ahead<A: DaySeq>(seq: &A, day: i64, rest: &[u32]) -> u64
-    requires low { neg_ℤ (pos 3_000_000_000_000) ≤ℤ day }
-    requires high { day ≤ℤ pos 3_000_000_000_000 }
-    ensures free { AreFree (A.sketch seq.now) day result }
-    ensures none_left { 1 ≤ result → length rest.now ≡ 0 }
+// How many of the first numbers are this one.
+fn count_of(numbers: &[u32], number: u32) -> usize
+    ensures most { result ≤ length numbers.now }
+    ensures same { (k : ℕ) → k < result → get_or numbers.now k 0 ≡ number }
 {
-    if rest.is_empty() {
-        seq.free_days(day)
+    for place in 0..numbers.len() {
+        if numbers[place] != number {
+            return place;
+        }
+    }
+    numbers.len()
+}
+
+// How many of the first numbers are that of the empty set, as far as this is known.
+fn count_empty(numbers: &[u32], empty: Option<u32>) -> usize
+    ensures most { result ≤ length numbers.now }
+    ensures same { (k : ℕ) → k < result → Some (get_or numbers.now k 0) ≡ empty }
+{
+    match empty {
+        None => 0,
+        Some(number) => count_of(numbers, number),
+    }
+}
+
+// How many days from one on, of at most `most`, are known at once to be free, where the numbers of the first ones may have been read.
+fn free_ahead<A: DaySeq>(seq: &A, day: i64, most: u64, rest: &[u32], empty: Option<u32>) -> u64
+    requires low { neg_ℤ (pos 1_000_000_000) ≤ℤ day }
+    requires end { (day +ℤ pos most) ≤ℤ pos 2_000_000_000 }
+    requires rest { AreNumbersFrom (A.sets seq.now) (A.sketch seq.now) day rest.now }
+    requires empty { IfSome empty (IsEmptyOne (A.sets seq.now)) }
+    ensures most { result ≤ most }
+    ensures free { AreFree (A.sketch seq.now) day result }
+{
+    let read = count_empty(rest, empty);
+    let here = most.min(read as u64);
+    if read < rest.len() {
+        return here;
+    }
+    here + seq.free_days(day + here as i64).min(most - here)
+}
+
+// What is left of numbers of days in a row once so many days are passed over.
+fn left_after(rest: &[u32], passed: u64) -> &[u32]
+    ensures { result.now ≡ drop passed rest.now }
+{
+    if passed < rest.len() as u64 {
+        &rest[passed as usize..]
     } else {
-        0
+        &[]
     }
 }
 
@@ -135,11 +186,14 @@ fn put_day<A: DaySeq>(
     sets: &mut TimeSets,
     days: &mut NumberedDays,
 ) -> Result<(), NoMemory>
+    requires near { IsKeptDay day }
     requires own { IsNumberOn (A.sets seq.now) (A.sketch seq.now) day own }
     requires few { length sets.old < 4_294_967_295 }
     requires known { AreKnown (A.sets seq.now) sets.old known.old.known.items }
+    requires empty { IfSome known.old.empty (IsEmptyOne (A.sets seq.now)) }
     ensures put { OnOk result (IsPutDay day (times_on (A.sketch seq.now) day) sets.old sets.new days.old days.new) }
     ensures known { OnOk result (AreKnown (A.sets seq.now) sets.new known.new.known.items) }
+    ensures empty { OnOk result (IfSome known.new.empty (IsEmptyOne (A.sets seq.now))) }
 {
     match own {
         None => Ok(()),
@@ -149,8 +203,8 @@ fn put_day<A: DaySeq>(
 
 /// The occupied ones of the `count` days from `from` on, with the numbers of their time sets, which are added where they are new.
 ///
-/// The seconds of each of the sequence's own sets are read once, and not on each day; so are the numbers of days in a row. Days
-/// that are known to be free are passed over.
+/// The seconds of each of the sequence's own sets are read once, and not on each day; so are the numbers of days in a row. Free
+/// days are passed over: those of a row by their numbers, and others as far as the sequence knows of them.
 pub fn number_days<A: DaySeq>(
     alloc: Global,
     seq: &A,
@@ -160,24 +214,21 @@ pub fn number_days<A: DaySeq>(
 ) -> Result<NumberedDays, NoMemory>
     requires near { IsNearDay from }
     requires few { count ≤ 2_000_000_000 }
+    requires end { (from +ℤ pos count) ≤ℤ pos 2_000_000_000 }
     requires room { length sets.old ≤ 2_000_000_000 }
     ensures { IfOk result (λ d. AreStretchOf (A.sketch seq.now) from count sets.old sets.new d) }
 {
     let mut known = OwnNumbers::new(alloc);
     let mut days = NumberedDays::new(alloc);
     let mut rest: &[u32] = &[];
-    let mut k = 0;
+    let mut k = free_ahead(seq, from, count, rest, None);
     while k < count {
         let day = from + k as i64;
-        let free = free_ahead(seq, day, rest).min(count - k);
-        if free > 0 {
-            k += free;
-            continue;
-        }
         let stretch = next_stretch(seq, day, rest);
         put_day(alloc, seq, day, stretch.first, &mut known, sets, &mut days)?;
-        rest = stretch.rest;
-        k += 1;
+        let free = free_ahead(seq, day + 1, count - k - 1, stretch.rest, known.empty);
+        rest = left_after(stretch.rest, free);
+        k += 1 + free;
     }
     Ok(days)
 }

@@ -61,8 +61,9 @@ fn push_more_runs(
     let mut current = run;
     let mut last = from;
     for day in days {
-        current = next_run(out, letter, current, day.day.abs_diff(last), day.number)?;
-        last = day.day;
+        let at = i64::from(day.day);
+        current = next_run(out, letter, current, at.abs_diff(last), day.number)?;
+        last = at;
     }
     push_run(out, letter, current)
 }
@@ -75,12 +76,13 @@ fn push_runs(out: &mut Vec<u8>, letter: u8, from: i64, days: &[NumberedDay]) -> 
         return Ok(());
     }
     let first = days[0];
+    let at = i64::from(first.day);
     let run = OpenRun {
-        gap: first.day.abs_diff(from),
+        gap: at.abs_diff(from),
         set: first.number,
         count: 1,
     };
-    push_more_runs(out, letter, run, first.day, &days[1..])
+    push_more_runs(out, letter, run, at, &days[1..])
 }
 
 // The lines of all time sets.
@@ -130,10 +132,10 @@ fn first_day(before: &[NumberedDay], cycle: &[NumberedDay]) -> Option<i64>
     ensures { result ≡ first_in (before.now ++ cycle.now) }
 {
     if let [day, ..] = before {
-        return Some(day.day);
+        return Some(i64::from(day.day));
     }
     if let [day, ..] = cycle {
-        return Some(day.day);
+        return Some(i64::from(day.day));
     }
     None
 }

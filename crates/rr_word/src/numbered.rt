@@ -10,12 +10,12 @@ use std::marker::Model;
 #[derive(Clone, Copy)]
 pub struct NumberedDay {
     /// The day number.
-    pub day: i64,
+    pub day: i32,
     /// The number of its time set.
     pub number: u32,
 }
 
-/// Occupied days with the numbers of their time sets, in the order in which they were put.
+/// Occupied days with the numbers of their time sets, in the order in which they were put, eight bytes for each.
 #[derive(Drop)]
 pub struct NumberedDays {
     items: Vec<NumberedDay>,
@@ -71,7 +71,7 @@ fn number_on_day(days: &[NumberedDay], day: i64) -> Option<u32>
     ensures { result ≡ number_in days.now day }
 {
     for item in days {
-        if item.day == day {
+        if i64::from(item.day) == day {
             return Some(item.number);
         }
     }

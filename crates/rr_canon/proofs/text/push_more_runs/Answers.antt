@@ -1,4 +1,4 @@
-use Rattle.std.proofs.Common.{w64, to_z, of_z, pos, ◌++◌, get_or, drop, [], ◌≡◌, ap, refl, ◌∙◌, rules, arith}
+use Rattle.std.proofs.Common.{w32, w64, to_z, of_z, pos, ◌++◌, get_or, drop, [], ◌≡◌, ap, refl, ◌∙◌, rules, arith}
 use Rattle.std.specs.Prelude.{FitsSigned, nat_abs, ◌-ℤ◌}
 use Rattle.std.proofs.lemmas.Int.{to_z-of_z}
 use Rattle.std.proofs.lemmas.List.{drop_all}
@@ -14,14 +14,15 @@ loop-day-preserved c =
     let none : NumberedDay = record { day = pos 0; number = 0 } in
     let k = c.loop-day.day-index in
     let day = get_or c.args.days.now k none in
-    let fits : FitsSigned w64 day.day = search rules in
-    let back = to_z-of_z w64 day.day fits in
+    let fits : FitsSigned w64 c.from-at.result = search rules in
+    let small : FitsSigned w32 day.day = search rules in
+    let back = to_z-of_z w64 c.from-at.result fits ∙ c.from-at.ensures ∙ to_z-of_z w32 day.day small in
     let run : Run = record { gap = c.loop-day.current.gap; set = c.loop-day.current.set; count = c.loop-day.current.count } in
     let next : Run = record { gap = c.in_ok-current.current.gap; set = c.in_ok-current.current.set; count = c.in_ok-current.current.count } in
     let gap = c.abs_diff.ensures ∙ ap (λ d. nat_abs (d -ℤ to_z w64 c.loop-day.last-bits)) back in
     let longer = c.in_ok-current.ensures.longer in (
       one_more_run c.args.letter run next (to_z w64 c.loop-day.last-bits)
-          (to_z w64 (of_z w64 day.day)) c.abs_diff.result day.number k day c.args.days.now _ c.loop-day.out.items c.next_run.new.out.items
+          (to_z w64 (of_z w64 c.from-at.result)) c.abs_diff.result day.number k day c.args.days.now _ c.loop-day.out.items c.next_run.new.out.items
           (next_of_drop c.args.days.now k none (omega (arith, c.loop-day-test.true))) gap refl back c.in_ok-current.ensures c.loop-day.invariant.0,
       omega (arith, longer, c.loop-day.invariant.1),
     )

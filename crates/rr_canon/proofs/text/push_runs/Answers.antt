@@ -1,4 +1,4 @@
-use Rattle.std.proofs.Common.{w64, to_z, of_z, pos, ◌++◌, get_or, ap, refl, ◌∙◌, rules}
+use Rattle.std.proofs.Common.{w32, w64, to_z, of_z, pos, ◌++◌, get_or, ap, refl, ◌∙◌, rules}
 use Rattle.std.specs.Prelude.{FitsSigned, nat_abs, ◌-ℤ◌}
 use Rattle.std.proofs.lemmas.Int.{to_z-of_z}
 use Rattle.std.proofs.lemmas.Result.{on_ok_weaker}
@@ -16,8 +16,9 @@ returns c =
     let some = some_from_test c.args.days.now c.is_empty.result c.if-is_empty.false c.is_empty.ensures in
     let none : NumberedDay = record { day = pos 0; number = 0 } in
     let day = get_or c.args.days.now 0 none in
-    let fits : FitsSigned w64 day.day = search rules in
-    let back = to_z-of_z w64 day.day fits in
+    let fits : FitsSigned w64 c.from-at.result = search rules in
+    let small : FitsSigned w32 day.day = search rules in
+    let back = to_z-of_z w64 c.from-at.result fits ∙ c.from-at.ensures ∙ to_z-of_z w32 day.day small in
     let from = to_z-of_z w64 c.args.from c.ranges.from in
     let gap = c.abs_diff.ensures ∙ ap (λ d. nat_abs (d -ℤ to_z w64 (of_z w64 c.args.from))) back ∙ ap (λ f. nat_abs (day.day -ℤ f)) from in
     on_ok_weaker c.push_more_runs.result (λ e. e
