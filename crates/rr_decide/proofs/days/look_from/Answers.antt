@@ -9,8 +9,8 @@ pub returns-then-free-ge-FREE_DAYS-clause-look : goal.returns-then-free-ge-FREE_
 returns-then-free-ge-FREE_DAYS-clause-look g c = (
   omega (arith, c.min.ensures, c.requires.some, c.if-free-ge-FREE_DAYS.true),
   omega (arith, c.min.ensures),
-  none_while_free (shown_by c.args.question) (g.A.DaySeq.sketch c.args.a.now) (g.B.DaySeq.sketch c.args.b.now) c.args.day (to_z w64 (of_z w64 c.args.day)) c.free_days.result c.free_days-2.result c.days_without-free.result c.min.result
-      (omega (arith, ints)) c.days_without-free.ensures c.free_days.ensures c.free_days-2.ensures (omega (arith, c.min.ensures)),
+  none_while_free (shown_by c.args.question) (g.A.DaySeq.sketch c.args.a.now) (g.B.DaySeq.sketch c.args.b.now) c.args.day (to_z w64 (of_z w64 c.args.day)) c.free_days-free_a.result c.free_days_if-free_b.result c.days_without-free.result c.min.result
+      (omega (arith, ints)) c.days_without-free.ensures c.free_days-free_a.ensures c.free_days_if-free_b.ensures (omega (arith, c.min.ensures)),
 )
 
 pub returns-in-None-clause-look : goal.returns-in-None-clause-look
