@@ -13,7 +13,8 @@ use Rattle.rr_model.specs.declared.verdict.Side.{Side}
 use Rattle.rr_model.proofs.PeriodicLemmas.{offset}
 use Rattle.rr_word.specs.Stretches.{IsNumberOn, IsStretch}
 use Rattle.rr_decide.specs.Question.{ShowsNone, ShowsNoneWithin, shown_by}
-use Rattle.rr_decide.specs.Quiet.{AreRemembered, HasPair, IsAlike, IsPair, IsPlaced, IsQuiet, IsRecent, ShowNothing, ShowNothingBelow, ShowNothingTogether, WereThere, WereThereOr}
+use Rattle.rr_decide.specs.Quiet.{AreRemembered, HasPair, IsAlike, IsPair, IsPlaced, IsQuiet, IsRecent, WereThere, WereThereOr}
+use Rattle.rr_decide.specs.Quiet.{ShowNothing, ShowNothingBelow, ShowNothingTogether}
 use Rattle.rr_decide.specs.declared.quiet.Pair.{Pair}
 use Rattle.rr_decide.specs.declared.quiet.Quiet.{Quiet}
 use Rattle.rr_decide.specs.declared.quiet.Recent.{Recent}
