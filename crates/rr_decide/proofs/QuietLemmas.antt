@@ -1,8 +1,9 @@
 -- Numbers of time sets that together show nothing, and the days that have them.
 use Rattle.std.proofs.Common.{◌≡◌, ◌⊎◌, inl, inr, ℕ, ◌+◌, ◌<◌, ◌≤◌, Bool, List, [], length, get_or, ℤ, pos, nat_abs, ◌+ℤ◌, ◌-ℤ◌, sym, ap, subst, ◌∙◌, arith}
-use Rattle.std.specs.Prelude.{MatchOption, IfSome, Option, None, Some, slice_get, unwrap_or}
+use Rattle.std.specs.Prelude.{MatchOption, IfSome, IsTrue, Option, None, Some, nat_lt, slice_get, unwrap_or}
 use Rattle.std.proofs.lemmas.Int.{ints, by_lt_z}
 use Rattle.std.proofs.lemmas.Bool.{cases_lt}
+use Rattle.std.proofs.lemmas.Bool.Decides.{nat_tests}
 use Rattle.std.proofs.lemmas.List.{get_or-replicate, length-replicate}
 use Rattle.std.proofs.lemmas.Option.{slice_get_within}
 use Rattle.std.proofs.Math.ListN.{replicate}
@@ -11,10 +12,14 @@ use Rattle.rr_model.specs.declared.sketch.Sketch.{Sketch}
 use Rattle.rr_model.specs.declared.verdict.Side.{Side}
 use Rattle.rr_model.proofs.PeriodicLemmas.{offset}
 use Rattle.rr_word.specs.Stretches.{IsNumberOn, IsStretch}
-use Rattle.rr_decide.specs.Question.{ShowsNone, ShowsNoneWithin}
-use Rattle.rr_decide.specs.Quiet.{AreRemembered, HasPair, IsPair, IsPlaced, IsQuiet, IsRecent, ShowNothing, WereThere}
+use Rattle.rr_decide.specs.Question.{ShowsNone, ShowsNoneWithin, shown_by}
+use Rattle.rr_decide.specs.Quiet.{AreRemembered, HasPair, IsAlike, IsPair, IsPlaced, IsQuiet, IsRecent, WereThere, WereThereOr}
+use Rattle.rr_decide.specs.Quiet.{ShowNothing, ShowNothingBelow, ShowNothingTogether}
 use Rattle.rr_decide.specs.declared.quiet.Pair.{Pair}
 use Rattle.rr_decide.specs.declared.quiet.Quiet.{Quiet}
+use Rattle.rr_decide.specs.declared.quiet.Recent.{Recent}
+use Rattle.rr_decide.specs.declared.question.Question.TheVariants.{Equal}
+use Rattle.rr_decide.proofs.WindowLemmas.{one_shows_none}
 
 -- ---- one day
 
@@ -46,15 +51,10 @@ module _ (shows : Side → Bool) (sets_a sets_b : List (List ℕ)) (s u : Sketch
       let y : times_on u d ≡ ys = one_set (times_on u d) ys (sym on_b ∙ ey) in
       rw (x, y) at none
 
-  pub quiet_after : (d : ℤ) (q r : Quiet) (a b : Option ℕ) → IsNumberOn sets_a s d a → IsNumberOn sets_b u d b → IsQuiet shows sets_a sets_b q
-      → ShowsNone shows (times_on s d) (times_on u d) → ((x y : ℕ) → HasPair r x y → HasPair q x y ⊎ ((a ≡ Some x) × (b ≡ Some y)))
-      → IsQuiet shows sets_a sets_b r
-  quiet_after d q r a b on_a on_b quiet none from x y known =
-      elim (from x y known) [
-        | inl before ↦ quiet x y before
-        | inr new ↦
-            numbers_of_day d x y (subst (IsNumberOn sets_a s d) new.0 on_a) (subst (IsNumberOn sets_b u d) new.1 on_b) none
-      ]
+  pub numbers_show_nothing : (d : ℤ) (a b : Option ℕ) → IsNumberOn sets_a s d a → IsNumberOn sets_b u d b → ShowsNone shows (times_on s d) (times_on u d)
+      → ShowNothingTogether shows sets_a sets_b a b
+  numbers_show_nothing d a b on_a on_b none x y ex ey =
+      numbers_of_day d x y (subst (IsNumberOn sets_a s d) ex on_a) (subst (IsNumberOn sets_b u d) ey on_b) none
 
   -- ---- a day and those after it
 
@@ -81,16 +81,65 @@ nothing_is_no_pair : (p : Pair) (o : Option Pair) → o ≡ None → o ≡ Some 
 nothing_is_no_pair p o e f = cc
 
 -- no pair is at any of `n` empty places
-pub none_there : (n a b : ℕ) → IsPlaced (replicate n None) a b → ⊥
+pub none_there : (n a b : ℕ) → IsPlaced (Some (replicate n None)) a b → ⊥
 none_there n a b h =
     nothing_is_no_pair (record { a = a; b = b }) (get_or (replicate n None) h.0 None)
     (get_or-replicate n h.0 None None (omega (arith, h.1, length-replicate {A = Option Pair} n None))) h.2
 
 -- a remembered pair that becomes the last one
-pub brought_forward : (q r : Quiet) (p : Pair) → r.slots ≡ q.slots → ((a b : ℕ) → IsRecent r.recent a b → IsRecent q.recent a b ⊎ IsPair p a b)
-    → HasPair q p.a p.b → WereThere q r
-brought_forward q r p same recent has a b (inl h) = elim (recent a b h) [ inl old ↦ inl old | inr is ↦ rw (is.0, is.1) has ]
-brought_forward q r p same recent has a b (inr h) = inr (subst (λ (l : List (Option Pair)). IsPlaced l a b) same h)
+pub brought_forward : (q r : Quiet) (p : Pair) → r.alike ≡ q.alike → r.slots ≡ q.slots
+    → ((a b : ℕ) → IsRecent r.recent a b → IsRecent q.recent a b ⊎ IsPair p a b) → HasPair q p.a p.b → WereThere q r
+brought_forward q r p alike slots recent has a b (inl h) = inl (subst (λ (o : Option ℕ). IsAlike o a b) alike h)
+brought_forward q r p alike slots recent has a b (inr (inl h)) =
+    elim (recent a b h) [ inl old ↦ inr (inl old) | inr is ↦ rw (is.0, is.1) has ]
+brought_forward q r p alike slots recent has a b (inr (inr h)) = inr (inr (subst (λ (l : Option (List (Option Pair))). IsPlaced l a b) slots h))
+
+-- a pair that is put into the table and becomes the last one
+pub put_last : (q m r : Quiet) (p : Pair) → WereThere q m → r.alike ≡ m.alike
+    → ((a b : ℕ) → IsRecent r.recent a b → IsRecent m.recent a b ⊎ IsPair p a b)
+    → ((a b : ℕ) → IsPlaced r.slots a b → IsPlaced m.slots a b ⊎ IsPair p a b) → WereThereOr q r p
+put_last q m r p kept alike recent placed a b (inl h) = inl (kept a b (inl (subst (λ (o : Option ℕ). IsAlike o a b) alike h)))
+put_last q m r p kept alike recent placed a b (inr (inl h)) =
+    elim (recent a b h) [ inl old ↦ inl (kept a b (inr (inl old))) | inr new ↦ inr new ]
+put_last q m r p kept alike recent placed a b (inr (inr h)) =
+    elim (placed a b h) [ inl old ↦ inl (kept a b (inr (inr old))) | inr new ↦ inr new ]
+
+-- the last two pairs in a table of their own
+pub both_placed : (q r : Quiet) (two : Recent) → q.recent ≡ Some two → r.alike ≡ q.alike → r.recent ≡ q.recent
+    → ((a b : ℕ) → IsPlaced r.slots a b → IsPair two.earlier a b ⊎ IsPair two.last a b) → WereThere q r
+both_placed q r two is alike recent placed a b (inl h) = inl (subst (λ (o : Option ℕ). IsAlike o a b) alike h)
+both_placed q r two is alike recent placed a b (inr (inl h)) = inr (inl (subst (λ (o : Option Recent). IsRecent o a b) recent h))
+both_placed q r two is alike recent placed a b (inr (inr h)) =
+    let here : IsRecent (Some two) a b = elim (placed a b h) [ inl e ↦ inr e | inr l ↦ inl l ] in
+    inr (inl (subst (λ (o : Option Recent). IsRecent o a b) (sym is) here))
+
+-- ---- numbers below which sets of one number show nothing
+
+-- one number more, whose sets are equal
+pub alike_more : (sets_a sets_b : List (List ℕ)) (k : ℕ) (us vs : List ℕ) → ShowNothingBelow (shown_by Equal) sets_a sets_b (Some k)
+    → slice_get sets_a k ≡ Some us → slice_get sets_b k ≡ Some vs → us ≡ vs → ShowNothingBelow (shown_by Equal) sets_a sets_b (Some (k + 1))
+alike_more sets_a sets_b k us vs before of_a of_b same a b h xs ys ex ey =
+    elim (cases_lt a k) [
+      | inl l ↦ before a b (h.0, l) xs ys ex ey
+      | inr g ↦
+          (let i : a ≡ k = omega (arith, h.1) in
+          let j : b ≡ k = sym h.0 ∙ i in
+          let x : xs ≡ us = one_set xs us (sym (rw i at ex) ∙ of_a) in
+          let y : ys ≡ vs = one_set ys vs (sym (rw j at ey) ∙ of_b) in
+          one_shows_none xs ys (x ∙ same ∙ sym y))
+    ]
+
+-- equal rows without a number that is too great
+pub equal_below : (xs ys : List ℕ) (from to greatest below : ℕ) → ((k : ℕ) → from ≤ k → k < to → get_or xs k 0 ≡ get_or ys k 0)
+    → ((k : ℕ) → from ≤ k → k < to → get_or xs k 0 ≤ greatest) → IsTrue (nat_lt greatest below) → (k : ℕ) → from ≤ k → k < to
+    → IsAlike (Some below) (get_or xs k 0) (get_or ys k 0)
+equal_below xs ys from to greatest below equal most less k low high =
+    let l : greatest < below = grind (arith, nat_tests, less) in (equal k low high, omega (arith, l, most k low high))
+
+-- fewer numbers
+pub alike_fewer : (shows : Side → Bool) (sets_a sets_b : List (List ℕ)) (k n : ℕ) → n ≤ k → ShowNothingBelow shows sets_a sets_b (Some k)
+    → ShowNothingBelow shows sets_a sets_b (Some n)
+alike_fewer shows sets_a sets_b k n le before a b h = before a b (h.0, omega (arith, h.1))
 
 -- the pairs of one place more
 pub has_more : (q r : Quiet) (xs ys : List ℕ) (from i x y : ℕ) → ((k : ℕ) → from ≤ k → k < i → HasPair q (get_or xs k 0) (get_or ys k 0))
@@ -101,10 +150,10 @@ has_more q r xs ys from i x y before kept ex ey here k low high =
       | inr g ↦ (let e : k ≡ i = omega arith in rw e (kept (get_or xs i 0) (get_or ys i 0) (rw (← ex, ← ey) here)))
     ]
 
--- the last two pairs up to a place, and any from it on
-pub has_either : (q : Quiet) (xs ys : List ℕ) (i m j : ℕ) → ((k : ℕ) → i ≤ k → k < m → IsRecent q.recent (get_or xs k 0) (get_or ys k 0))
+-- the pairs up to a place, and those from it on
+pub has_either : (q : Quiet) (xs ys : List ℕ) (i m j : ℕ) → ((k : ℕ) → i ≤ k → k < m → HasPair q (get_or xs k 0) (get_or ys k 0))
     → ((k : ℕ) → m ≤ k → k < j → HasPair q (get_or xs k 0) (get_or ys k 0)) → (k : ℕ) → i ≤ k → k < j → HasPair q (get_or xs k 0) (get_or ys k 0)
-has_either q xs ys i m j recent more k low high = elim (cases_lt k m) [ inl l ↦ inl (recent k low l) | inr g ↦ more k g high ]
+has_either q xs ys i m j before more k low high = elim (cases_lt k m) [ inl l ↦ before k low l | inr g ↦ more k g high ]
 
 -- the pairs of more places
 pub has_joined : (q r : Quiet) (xs ys : List ℕ) (i j : ℕ) → ((k : ℕ) → k < i → HasPair q (get_or xs k 0) (get_or ys k 0)) → WereThere q r

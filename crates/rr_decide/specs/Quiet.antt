@@ -6,9 +6,22 @@ use Rattle.rr_decide.specs.declared.quiet.Pair.{Pair}
 use Rattle.rr_decide.specs.declared.quiet.Quiet.{Quiet}
 use Rattle.rr_decide.specs.declared.quiet.Recent.{Recent}
 
+-- both are one number, below the one that is given
+abbrev pub IsAlike : Option ℕ → ℕ → ℕ → Type 0
+IsAlike None a b = ⊥
+IsAlike (Some below) a b = (a ≡ b) × (a < below)
+
 -- the sets of the two numbers show nothing
 abbrev pub ShowNothing : (Side → Bool) → List (List ℕ) → List (List ℕ) → ℕ → ℕ → Type 0
 ShowNothing shows sets_a sets_b a b = (xs ys : List ℕ) → slice_get sets_a a ≡ Some xs → slice_get sets_b b ≡ Some ys → ShowsNone shows xs ys
+
+-- the sets of the two numbers show nothing, where both are there
+abbrev pub ShowNothingTogether : (Side → Bool) → List (List ℕ) → List (List ℕ) → Option ℕ → Option ℕ → Type 0
+ShowNothingTogether shows sets_a sets_b a b = (x y : ℕ) → a ≡ Some x → b ≡ Some y → ShowNothing shows sets_a sets_b x y
+
+-- below this number the sets of one number show nothing
+abbrev pub ShowNothingBelow : (Side → Bool) → List (List ℕ) → List (List ℕ) → Option ℕ → Type 0
+ShowNothingBelow shows sets_a sets_b alike = (a b : ℕ) → IsAlike alike a b → ShowNothing shows sets_a sets_b a b
 
 -- these are the pair's numbers
 abbrev pub IsPair : Pair → ℕ → ℕ → Type 0
@@ -19,13 +32,14 @@ abbrev pub IsRecent : Option Recent → ℕ → ℕ → Type 0
 IsRecent None a b = ⊥
 IsRecent (Some r) a b = IsPair r.last a b ⊎ IsPair r.earlier a b
 
--- the pair is at some place
-abbrev pub IsPlaced : List (Option Pair) → ℕ → ℕ → Type 0
-IsPlaced slots a b = (k : ℕ) × (k < length slots) × (slice_index_or slots k None ≡ Some (record { a = a; b = b }))
+-- the pair is at some place of the table
+abbrev pub IsPlaced : Option (List (Option Pair)) → ℕ → ℕ → Type 0
+IsPlaced None a b = ⊥
+IsPlaced (Some slots) a b = (k : ℕ) × (k < length slots) × (slice_index_or slots k None ≡ Some (record { a = a; b = b }))
 
 -- the pair is remembered
 abbrev pub HasPair : Quiet → ℕ → ℕ → Type 0
-HasPair q a b = IsRecent q.recent a b ⊎ IsPlaced q.slots a b
+HasPair q a b = IsAlike q.alike a b ⊎ (IsRecent q.recent a b ⊎ IsPlaced q.slots a b)
 
 -- each pair was there
 abbrev pub WereThere : Quiet → Quiet → Type 0

@@ -1,19 +1,17 @@
 // A walk over the days of two sequences.
 ghost use Rattle.std.specs.Prelude.{◌≡◌, ◌<◌, ◌≤◌, [], IfSome, IfNone, MatchOption, Some, length, slice_get, pos, neg_ℤ, ◌+ℤ◌, ◌≤ℤ◌};
 ghost use Rattle.rr_model.specs.Sets.Sketch.{IsNearDay, StandsIn};
-ghost use Rattle.rr_word.specs.Stretches.{IsNumberOn};
+ghost use Rattle.rr_word.specs.Stretches.{AreFree, IsNumberOn};
 ghost use Rattle.rr_decide.specs.Look.{IsFirstOn, IsLook};
 ghost use Rattle.rr_decide.specs.Question.{AreApart, HasNoneBefore, IsFirstDayShown, ShowsNoneWithin, shown_by};
-ghost use Rattle.rr_decide.specs.Quiet.{IsQuiet};
+ghost use Rattle.rr_decide.specs.Quiet.{IsQuiet, ShowNothingBelow, ShowNothingTogether};
+ghost use Rattle.rr_decide.specs.declared.question.Question.TheVariants.{Equal};
 
-use crate::merge::first_shown;
-use crate::question::Question;
-use crate::quiet::{Quiet, are_remembered, remember};
+use crate::merge::{are_equal, first_shown};
+use crate::question::{FREE_DAYS, Question};
+use crate::quiet::{Pair, Quiet, are_remembered};
 use rr_model::Side;
 use rr_word::DaySeq;
-
-// How many free days in a row are passed over at once. Fewer are compared in blocks with the days about them, which costs less.
-const FREE_DAYS: u64 = 64;
 
 /// A second of a day that shows that the answer is no.
 #[derive(Clone, Copy)]
@@ -77,7 +75,9 @@ fn look_from<A: DaySeq, B: DaySeq>(
     ensures look { IsLook (shown_by question) (A.sketch a.now) (B.sketch b.now) day most result }
     ensures quiet { IsQuiet (shown_by question) (A.sets a.now) (B.sets b.now) quiet.new }
 {
-    let free = question.days_without(a.free_days(day), b.free_days(day));
+    let free_a = a.free_days(day);
+    let free_b = free_days_if(question.asks_second(free_a), b, day);
+    let free = question.days_without(free_a, free_b);
     if free >= FREE_DAYS {
         return Look::Quiet(free.min(most));
     }
@@ -87,6 +87,15 @@ fn look_from<A: DaySeq, B: DaySeq>(
         Some(shown) => Look::Shows(shown),
         None => Look::Quiet(1 + quiet.count(of_a.rest, of_b.rest, (most - 1) as usize) as u64),
     }
+}
+
+// For how many days in a row from one on it is known that none is occupied, where that is asked; else 0, which tells nothing.
+fn free_days_if<S: DaySeq>(asked: bool, seq: &S, day: i64) -> u64
+    requires low { neg_ℤ (pos 3_000_000_000_000) ≤ℤ day }
+    requires high { day ≤ℤ pos 3_000_000_000_000 }
+    ensures { AreFree (S.sketch seq.now) day result }
+{
+    if asked { seq.free_days(day) } else { 0 }
 }
 
 // What a day shows, by the numbers of its sets.
@@ -111,10 +120,73 @@ fn look_at_day<A: DaySeq, B: DaySeq>(
     match shown_on_day(question, a, b, day, of_a, of_b) {
         Some(shown) => Some(shown),
         None => {
-            remember(quiet, of_a, of_b);
+            remember(question, a, b, of_a, of_b, quiet);
             None
         }
     }
+}
+
+// Remembers the numbers of a day that shows nothing, where both are there.
+fn remember<A: DaySeq, B: DaySeq>(
+    question: Question,
+    a: &A,
+    b: &B,
+    of_a: Option<u32>,
+    of_b: Option<u32>,
+    quiet: &mut Quiet,
+)
+    requires first { IfSome of_a (λ n. n < length (A.sets a.now)) }
+    requires second { IfSome of_b (λ n. n < length (B.sets b.now)) }
+    requires pair { ShowNothingTogether (shown_by question) (A.sets a.now) (B.sets b.now) of_a of_b }
+    requires quiet { IsQuiet (shown_by question) (A.sets a.now) (B.sets b.now) quiet.old }
+    ensures { IsQuiet (shown_by question) (A.sets a.now) (B.sets b.now) quiet.new }
+{
+    if let (Some(of_a), Some(of_b)) = (of_a, of_b) {
+        let alike = alike_after(question, a, b, of_a, of_b, quiet.alike());
+        quiet.learn(Pair { a: of_a, b: of_b }, alike);
+    }
+}
+
+// Below which number sets of one number show nothing, after a day with these numbers. None once another set of one number differs
+// or a day has two numbers, since the two then number their sets each in its own way; and for any question but equality.
+fn alike_after<A: DaySeq, B: DaySeq>(
+    question: Question,
+    a: &A,
+    b: &B,
+    of_a: u32,
+    of_b: u32,
+    alike: Option<u32>,
+) -> Option<u32>
+    requires first { of_a < length (A.sets a.now) }
+    requires second { of_b < length (B.sets b.now) }
+    requires alike { ShowNothingBelow (shown_by question) (A.sets a.now) (B.sets b.now) alike }
+    ensures { ShowNothingBelow (shown_by question) (A.sets a.now) (B.sets b.now) result }
+{
+    match (question, alike) {
+        (Question::Equal, Some(below)) if of_a == of_b => alike_up_to(a, b, below, of_a),
+        _ => None,
+    }
+}
+
+// The number after this one, where each set from `below` on up to this one is equal to that of the same number in the other
+// sequence; else none.
+fn alike_up_to<A: DaySeq, B: DaySeq>(a: &A, b: &B, below: u32, number: u32) -> Option<u32>
+    requires first { number < length (A.sets a.now) }
+    requires second { number < length (B.sets b.now) }
+    requires below { ShowNothingBelow (shown_by Equal) (A.sets a.now) (B.sets b.now) (Some below) }
+    ensures { ShowNothingBelow (shown_by Equal) (A.sets a.now) (B.sets b.now) result }
+{
+    if number == u32::MAX {
+        return None;
+    }
+    for k in below..number + 1 {
+        let of_a = a.times(k);
+        let of_b = b.times(k);
+        if !are_equal(of_a, of_b) {
+            return None;
+        }
+    }
+    Some(number + 1)
 }
 
 // The first second of a day that shows that the answer is no, by the numbers of its sets.

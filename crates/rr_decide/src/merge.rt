@@ -7,7 +7,8 @@ use crate::question::Question;
 use rr_model::Side;
 use rr_word::next_second;
 
-fn are_equal(xs: &[u32], ys: &[u32]) -> bool
+/// Whether two lists are equal.
+pub fn are_equal(xs: &[u32], ys: &[u32]) -> bool
     ensures { IsTrue result ↔ (xs.now ≡ ys.now) }
 {
     xs == ys

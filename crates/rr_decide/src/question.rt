@@ -4,6 +4,9 @@ ghost use Rattle.rr_decide.specs.Question.{ShowsNoneBelow, shown_by};
 
 use rr_model::Side;
 
+/// How many free days in a row are passed over at once. Fewer are compared in blocks with the days about them, which costs less.
+pub const FREE_DAYS: u64 = 64;
+
 /// What is asked of two sets of occurrences.
 #[derive(Clone, Copy)]
 pub enum Question {
@@ -24,6 +27,15 @@ impl Question {
             Question::Equal => side != Side::Both,
             Question::Within => side == Side::A,
             Question::Disjoint => side == Side::Both,
+        }
+    }
+
+    /// Whether it matters on how many days the second set has no occurrence, where the first has none on `of_a` days.
+    pub fn asks_second(self, of_a: u64) -> bool {
+        match self {
+            Question::Equal => of_a >= FREE_DAYS,
+            Question::Within => false,
+            Question::Disjoint => of_a < FREE_DAYS,
         }
     }
 

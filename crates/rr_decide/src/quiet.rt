@@ -1,9 +1,12 @@
 // Pairs of time sets that showed nothing, by their numbers.
 ghost use Rattle.std.specs.Prelude.{◌≡◌, ◌+◌, ◌⊎◌, ◌<◌, ◌≤◌, ℕ, IsTrue, Some, length, get_or};
-ghost use Rattle.rr_decide.specs.Quiet.{AreRemembered, HasPair, IsPair, IsPlaced, IsRecent, WereThere, WereThereOr};
+ghost use Rattle.rr_decide.specs.Quiet.{AreRemembered, HasPair, IsAlike, IsPair, IsPlaced, IsRecent, WereThere, WereThereOr};
 
 // How many places make a block.
 const BLOCK: usize = 16;
+
+// How many places of two rows are compared with one another at once.
+const ROW: usize = 512;
 
 // At how many places pairs are remembered.
 const PLACES: usize = 1_024;
@@ -27,6 +30,11 @@ struct Recent {
 }
 
 impl Recent {
+    // Whether they are two pairs.
+    fn are_two(self) -> bool {
+        self.last.a != self.earlier.a || self.last.b != self.earlier.b
+    }
+
     // Whether a pair is one of the two.
     fn has(self, a: u32, b: u32) -> bool
         ensures { IsTrue result → IsRecent (Some self) a b }
@@ -68,11 +76,16 @@ impl Recent {
     }
 }
 
-/// Pairs that showed nothing: the last two, and the last one of each place of a table.
+/// Pairs that showed nothing: the numbers below one with themselves, the last two pairs, and the last one of each place of a table.
+///
+/// The table is there once more than two pairs were put, so that few pairs cost no clearing of it.
 #[derive(Drop)]
 pub struct Quiet {
+    // Below this number a set and the one of the same number in the other sequence show nothing; none where that is not asked for
+    // any more.
+    alike: Option<u32>,
     recent: Option<Recent>,
-    slots: [Option<Pair>; 1_024],
+    slots: Option<[Option<Pair>; 1_024]>,
 }
 
 impl Quiet {
@@ -81,9 +94,18 @@ impl Quiet {
         ensures { (a b : ℕ) → HasPair result a b → ⊥ }
     {
         Quiet {
+            alike: Some(0),
             recent: None,
-            slots: [None; PLACES],
+            slots: None,
         }
+    }
+
+    /// Below which number a set and the one of the same number in the other sequence show nothing; none where that is not asked
+    /// for any more.
+    pub fn alike(&self) -> Option<u32>
+        ensures { result ≡ self.now.alike }
+    {
+        self.alike
     }
 
     // Whether a pair is one of the last two.
@@ -96,13 +118,23 @@ impl Quiet {
         }
     }
 
+    // Whether a pair is one number twice, below which sets of one number show nothing.
+    fn is_alike(&self, pair: Pair) -> bool
+        ensures { IsTrue result → IsAlike self.now.alike pair.a pair.b }
+    {
+        match self.alike {
+            None => false,
+            Some(below) => pair.a == pair.b && pair.a < below,
+        }
+    }
+
     // Whether a pair is in the table.
     fn is_placed(&self, pair: Pair) -> bool
         ensures { IsTrue result → IsPlaced self.now.slots pair.a pair.b }
     {
-        match self.slots[place_of(pair)] {
+        match &self.slots {
             None => false,
-            Some(other) => other.a == pair.a && other.b == pair.b,
+            Some(slots) => is_in(slots, pair),
         }
     }
 
@@ -114,12 +146,12 @@ impl Quiet {
         self.recent = Some(after(self.recent, pair));
     }
 
-    /// Whether a pair is remembered. One that is becomes the last one.
+    /// Whether a pair is remembered. One of the table becomes the last one.
     pub fn recall(&mut self, pair: Pair) -> bool
         ensures has { IsTrue result → HasPair self.old pair.a pair.b }
         ensures kept { WereThere self.old self.new }
     {
-        if self.is_recent(pair) {
+        if self.is_recent(pair) || self.is_alike(pair) {
             return true;
         }
         if !self.is_placed(pair) {
@@ -129,25 +161,57 @@ impl Quiet {
         true
     }
 
-    /// Remembers a pair, in place of the last one of its place.
-    pub fn put(&mut self, pair: Pair)
+    /// Remembers a pair, and that below `alike` sets of one number show nothing: all pairs of one number are then remembered by that
+    /// alone. None where that is not asked for any more, and then the pair is put in place of the last one of its place.
+    pub fn learn(&mut self, pair: Pair, alike: Option<u32>)
+        ensures { (a b : ℕ) → HasPair self.new a b → HasPair self.old a b ⊎ (IsPair pair a b ⊎ IsAlike alike a b) }
+    {
+        self.alike = alike;
+        if alike.is_none() {
+            self.put(pair);
+        }
+    }
+
+    // Remembers a pair, in place of the last one of its place.
+    fn put(&mut self, pair: Pair)
         ensures { WereThereOr self.old self.new pair }
     {
+        self.make_table();
         self.place(pair);
         self.recent = Some(after(self.recent, pair));
     }
 
-    // Puts a pair into the table.
+    // Makes the table, where it is not there yet and two pairs are, and puts these into it.
+    fn make_table(&mut self)
+        ensures { WereThere self.old self.new }
+    {
+        if self.slots.is_some() {
+            return;
+        }
+        if let Some(recent) = self.recent {
+            if recent.are_two() {
+                self.slots = Some([None; PLACES]);
+                self.place(recent.earlier);
+                self.place(recent.last);
+            }
+        }
+    }
+
+    // Puts a pair into the table, where it is there.
     fn place(&mut self, pair: Pair)
         ensures recent { self.new.recent ≡ self.old.recent }
+        ensures alike { self.new.alike ≡ self.old.alike }
         ensures placed { (a b : ℕ) → IsPlaced self.new.slots a b → IsPlaced self.old.slots a b ⊎ IsPair pair a b }
     {
-        self.slots[place_of(pair)] = Some(pair);
+        if let Some(slots) = &mut self.slots {
+            slots[place_of(pair)] = Some(pair);
+        }
     }
 
     /// At how many places from the first one on, of at most `most`, two rows have a remembered pair.
     ///
-    /// Whole blocks of places are compared with the last two pairs at a time, and place by place only where a block has another.
+    /// Where sets of one number show nothing, whole stretches of both rows are compared with one another; else blocks of places with
+    /// the last two pairs at a time, and place by place only where a block has another.
     pub fn count(&mut self, xs: &[u32], ys: &[u32], most: usize) -> usize
         ensures first { result ≤ length xs.now }
         ensures second { result ≤ length ys.now }
@@ -195,21 +259,74 @@ impl Quiet {
         end
     }
 
-    // The end of the whole blocks from one place on, and up to an end, at each place of which two rows have one of the last two
-    // pairs.
+    // The end of the stretches and whole blocks from one place on, and up to an end, at each place of which two rows have a
+    // remembered pair of one number or one of the last two pairs.
     fn pass_blocks(&self, xs: &[u32], ys: &[u32], from: usize, end: usize) -> usize
         requires first { end ≤ length xs.now }
         requires second { end ≤ length ys.now }
         requires order { from ≤ end }
         ensures least { from ≤ result }
         ensures most { result ≤ end }
-        ensures has { (k : ℕ) → from ≤ k → k < result → IsRecent self.now.recent (get_or xs.now k 0) (get_or ys.now k 0) }
+        ensures has { (k : ℕ) → from ≤ k → k < result → HasPair self.now (get_or xs.now k 0) (get_or ys.now k 0) }
     {
+        let alike = pass_alike(self.alike, xs, ys, from, end);
         match self.recent {
-            None => from,
-            Some(recent) => recent.pass_blocks(xs, ys, from, end),
+            None => alike,
+            Some(recent) => recent.pass_blocks(xs, ys, alike, end),
         }
     }
+}
+
+// The end of the stretches from one place on, and up to an end, at each place of which two rows have one number below another.
+fn pass_alike(alike: Option<u32>, xs: &[u32], ys: &[u32], from: usize, end: usize) -> usize
+    requires first { end ≤ length xs.now }
+    requires second { end ≤ length ys.now }
+    requires order { from ≤ end }
+    ensures least { from ≤ result }
+    ensures most { result ≤ end }
+    ensures has { (k : ℕ) → from ≤ k → k < result → IsAlike alike (get_or xs.now k 0) (get_or ys.now k 0) }
+{
+    match alike {
+        None => from,
+        Some(below) => pass_equal(xs, ys, from, end, below),
+    }
+}
+
+// The end of the stretches from one place on, and up to an end, at each place of which two rows have one number below another.
+fn pass_equal(xs: &[u32], ys: &[u32], from: usize, end: usize, below: u32) -> usize
+    requires first { end ≤ length xs.now }
+    requires second { end ≤ length ys.now }
+    requires order { from ≤ end }
+    ensures least { from ≤ result }
+    ensures most { result ≤ end }
+    ensures has { (k : ℕ) → from ≤ k → k < result → IsAlike (Some below) (get_or xs.now k 0) (get_or ys.now k 0) }
+{
+    let mut at = from;
+    while at < end {
+        let next = end.min(at + ROW);
+        if !are_equal_below(xs, ys, at, next, below) {
+            return at;
+        }
+        at = next;
+    }
+    at
+}
+
+// Whether two rows have one number, below another, at each place from one on and before an end. No place is left out, so that
+// several are compared at once.
+fn are_equal_below(xs: &[u32], ys: &[u32], from: usize, to: usize, below: u32) -> bool
+    requires first { to ≤ length xs.now }
+    requires second { to ≤ length ys.now }
+    requires order { from ≤ to }
+    ensures { IsTrue result → (k : ℕ) → from ≤ k → k < to → IsAlike (Some below) (get_or xs.now k 0) (get_or ys.now k 0) }
+{
+    let mut equal = true;
+    let mut greatest = 0;
+    for place in from..to {
+        equal = (xs[place] == ys[place]) & equal;
+        greatest = xs[place].max(greatest);
+    }
+    equal && greatest < below
 }
 
 // The last two pairs after one more.
@@ -226,11 +343,21 @@ fn after(recent: Option<Recent>, pair: Pair) -> Recent
     }
 }
 
-// The place of a pair.
+// Whether a pair is in a table.
+fn is_in(slots: &[Option<Pair>; 1_024], pair: Pair) -> bool
+    ensures { IsTrue result → IsPlaced (Some slots.now) pair.a pair.b }
+{
+    match slots[place_of(pair)] {
+        None => false,
+        Some(other) => other.a == pair.a && other.b == pair.b,
+    }
+}
+
+// The place of a pair. Pairs of one number have places of their own, as long as there are as many.
 fn place_of(pair: Pair) -> usize
     ensures { result < 1_024 }
 {
-    ((u64::from(pair.a) + 31 * u64::from(pair.b)) % 1_024) as usize
+    ((u64::from(pair.a) + 30 * u64::from(pair.b)) % 1_024) as usize
 }
 
 /// Whether both numbers are there, and their pair is remembered.
@@ -241,14 +368,5 @@ pub fn are_remembered(quiet: &mut Quiet, a: Option<u32>, b: Option<u32>) -> bool
     match (a, b) {
         (Some(a), Some(b)) => quiet.recall(Pair { a, b }),
         _ => false,
-    }
-}
-
-/// Remembers the pair of two numbers, where both are there.
-pub fn remember(quiet: &mut Quiet, a: Option<u32>, b: Option<u32>)
-    ensures { (x y : ℕ) → HasPair quiet.new x y → HasPair quiet.old x y ⊎ ((a ≡ Some x) × (b ≡ Some y)) }
-{
-    if let (Some(a), Some(b)) = (a, b) {
-        quiet.put(Pair { a, b });
     }
 }

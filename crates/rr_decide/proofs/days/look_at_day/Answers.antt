@@ -1,7 +1,7 @@
 use Rattle.std.proofs.Common.{w64}
 use Rattle.std.proofs.lemmas.Int.{to_z-of_z}
 use Rattle.rr_decide.specs.Question.{shown_by}
-use Rattle.rr_decide.proofs.QuietLemmas.{quiet_after, remembered_day}
+use Rattle.rr_decide.proofs.QuietLemmas.{numbers_show_nothing, remembered_day}
 use Rattle.rr_decide.proofs.days.look_at_day.Goals as goal
 
 pub returns-then-are_remembered-clause-shown : goal.returns-then-are_remembered-clause-shown
@@ -19,9 +19,11 @@ returns-in-Some-clause-quiet g c = λ x y h. c.requires.quiet x y (c.are_remembe
 pub returns-in-None-clause-shown : goal.returns-in-None-clause-shown
 returns-in-None-clause-shown g c = rw (to_z-of_z w64 c.args.day c.ranges.day) at c.in-None.ensures
 
-pub returns-in-None-clause-quiet : goal.returns-in-None-clause-quiet
-returns-in-None-clause-quiet g c =
+pub remember-requires-clause-pair : goal.remember-requires-clause-pair
+remember-requires-clause-pair g c =
     let none = rw (to_z-of_z w64 c.args.day c.ranges.day) at c.in-None.ensures in
-    quiet_after (shown_by c.args.question) (g.A.DaySeq.sets c.args.a.now) (g.B.DaySeq.sets c.args.b.now) (g.A.DaySeq.sketch c.args.a.now)
-    (g.B.DaySeq.sketch c.args.b.now) c.args.day c.are_remembered.new.quiet c.remember.new.quiet c.args.of_a c.args.of_b c.requires.first c.requires.second
-    (λ x y h. c.requires.quiet x y (c.are_remembered.ensures.kept x y h)) none c.remember.ensures
+    numbers_show_nothing (shown_by c.args.question) (g.A.DaySeq.sets c.args.a.now) (g.B.DaySeq.sets c.args.b.now) (g.A.DaySeq.sketch c.args.a.now)
+    (g.B.DaySeq.sketch c.args.b.now) c.args.day c.args.of_a c.args.of_b c.requires.first c.requires.second none
+
+pub remember-requires-clause-quiet : goal.remember-requires-clause-quiet
+remember-requires-clause-quiet g c = λ x y h. c.requires.quiet x y (c.are_remembered.ensures.kept x y h)

@@ -4,4 +4,5 @@ use Rattle.rr_decide.proofs.quiet.Quiet.bring_forward.Goals as goal
 
 pub returns : goal.returns
 returns c =
-    brought_forward c.args.self.now (record { recent = Some c.after.result; slots = c.args.self.now.slots }) c.args.pair refl c.after.ensures c.requires
+    let self = c.args.self.now in
+    brought_forward self (record { alike = self.alike; recent = Some c.after.result; slots = self.slots }) c.args.pair refl refl c.after.ensures c.requires

@@ -1,9 +1,11 @@
-use Rattle.std.proofs.Common.{inl, inr}
+use Rattle.std.proofs.Common.{inl, inr, Some}
+use Rattle.rr_decide.proofs.QuietLemmas.{put_last}
 use Rattle.rr_decide.proofs.quiet.Quiet.put.Goals as goal
 
 pub returns : goal.returns
-returns c = λ a b h.
-    elim h [
-      | inl r ↦ elim (c.after.ensures a b r) [ inl old ↦ inl (inl (rw c.place.ensures.recent at old)) | inr new ↦ inr new ]
-      | inr p ↦ elim (c.place.ensures.placed a b p) [ inl old ↦ inl (inr old) | inr new ↦ inr new ]
-    ]
+returns c =
+    let made = c.make_table.new.self in
+    let placed = c.place.new.self in
+    put_last c.args.self.now made (record { alike = placed.alike; recent = Some c.after.result; slots = placed.slots }) c.args.pair c.make_table.ensures
+    c.place.ensures.alike
+    (λ a b h. elim (c.after.ensures a b h) [ inl old ↦ inl (rw c.place.ensures.recent at old) | inr new ↦ inr new ]) c.place.ensures.placed
