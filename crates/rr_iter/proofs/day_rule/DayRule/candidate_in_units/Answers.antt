@@ -22,8 +22,8 @@ known : (c : goal.After-first_unit-unit)
 known c = let v = c.self.invariant.valid.valid in rw (← c.self.view_is) (c.self.invariant.freq, v.interval_low, v.interval_high, omega (arith, v.week_start))
 
 -- the last unit
-last_is : (c : goal.After-first_unit-unit) → c.unit_of-last.result ≡ unit_number c.args.self.now.rule.freq c.args.self.now.rule.week_start Days c.args.to
-last_is c = rw (← c.self.view_is) (rw (to_z-of_z c.ranges.to) at c.unit_of-last.ensures)
+last_is : (c : goal.After-first_unit-unit) → c.last_unit-last.result ≡ unit_number c.args.self.now.rule.freq c.args.self.now.rule.week_start Days c.args.to
+last_is c = rw (to_z-of_z c.ranges.to) at c.last_unit-last.ensures.unit
 
 module _ (c : goal.After-candidate_in-arg-1) where
   abbrev unit : ℤ
@@ -34,7 +34,7 @@ module _ (c : goal.After-candidate_in-arg-1) where
 
   pub not_after : unit ≤ℤ unit_number c.args.self.now.rule.freq c.args.self.now.rule.week_start Days c.args.to
   not_after =
-      let fits : FitsSigned w64 c.unit_of-last.result = search rules in
+      let fits : FitsSigned w64 c.last_unit-last.result = search rules in
       omega (arith, ints, c.loop-unit-test.true, to_z-of_z fits, last_is c.before.before.before)
 
 pub candidate_in-requires-clause-first : goal.candidate_in-requires-clause-first
@@ -96,6 +96,6 @@ returns-clause-first c =
     let r = c.args.self.now in
     let b = c.before.before in
     let u : ℤ = to_z w64 c.loop-unit.unit-bits in
-    let fits : FitsSigned w64 c.unit_of-last.result = search rules in
+    let fits : FitsSigned w64 c.last_unit-last.result = search rules in
     let at = rw (to_z-of_z c.ranges.from, to_z-of_z c.ranges.to) at c.loop-unit.invariant.1 in
     looked_all r (known b).0 c.args.from c.args.to u at (omega (arith, ints, c.loop-unit-test.false, to_z-of_z fits, last_is b))

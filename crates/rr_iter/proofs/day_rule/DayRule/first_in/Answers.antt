@@ -1,4 +1,4 @@
-use Rattle.std.proofs.Common.{rules, FitsSigned, ◌≡◌, true, refl, ◌∷◌, [], arith, w64, to_z, to_z-of_z, sym, ap, ◌∙◌}
+use Rattle.std.proofs.Common.{rules, FitsSigned, ◌≡◌, true, refl, ◌∷◌, [], arith, w64, to_z, to_z-of_z, sym, ap, ◌∙◌, pos, ◌+ℤ◌}
 use Rattle.std.specs.Prelude.{int_lt}
 use Rattle.std.proofs.lemmas.Bool.{eqb-true, false≢true}
 use Rattle.std.proofs.lemmas.Int.{ints}
@@ -12,42 +12,45 @@ use Rattle.rr_iter.specs.Ruling.{IsUnrolled, Ruling, keeps_more}
 use Rattle.rr_iter.specs.Walk.{IsDayWith, IsFirstInIn, IsFirstOfIn}
 use Rattle.rr_iter.proofs.AlonePlaceLemmas.{first_with}
 use Rattle.rr_iter.proofs.PositionDayLemmas.{first_in_unit, held_unrolled}
+use Rattle.rr_iter.proofs.WholeUnitLemmas.{count_is, first_is}
 use Rattle.rr_iter.proofs.day_rule.DayRule.first_in.Goals as goal
 use Rattle.rr_iter.proofs.day_rule.DayRule.first_in.Goals.{then-not-self-unit+in_ok-list, else-not-self-unit, then-self, else-self}
 
-pub first_day_of_unit-first-requires-clause-near : goal.first_day_of_unit-first-requires-clause-near
-first_day_of_unit-first-requires-clause-near c =
+pub whole_unit-requires-clause-near : goal.whole_unit-requires-clause-near
+whole_unit-requires-clause-near c =
     let near = rw (sym c.self.view_is) at c.requires.first in
-    rw (to_z-of_z c.ranges.unit) (omega (arith, ints, near.0), omega (arith, ints, near.1))
+    rw (to_z-of_z c.ranges.unit) (omega (arith, ints, near.0, near.1))
 
 -- the unit's days are held
 held : (c : goal.After-as_slice) → (let s = c.if-not-self-unit.self-inside in
     let r : Ruling = record { rule = s.rule; kind = s.kind; start = s.start; kept = s.number ∷ [] } in
-    IsUnrolled r s.start_day s.start_second s.times s.allowed s.is_held s.unit s.days.items × (s.is_held ≡ true) × (s.unit ≡ c.args.unit) × (r ≡ c.args.self.now))
+    IsUnrolled r s.start_day s.start_second s.times s.allowed s.own_unit s.last s.unit s.is_held s.days.items × (s.is_held ≡ true)
+    × (s.unit.number ≡ c.args.unit) × (r ≡ c.args.self.now))
 held c = elim c.if-not-self-unit.branch [
   | then-not-self-unit+in_ok-list w ↦ (
       let i = c.self.inside in
       let r : Ruling = record { rule = i.rule; kind = i.kind; start = i.start; kept = i.number ∷ [] } in
-      let unit = to_z-of_z c.ranges.unit in
-      let first = w.first_day_of_unit-first.result in
-      let fits : FitsSigned w64 w.first_day_of_unit-first.result = search rules in
-      let begins = rw unit at w.first_day_of_unit-first.ensures in
-      let ends = rw unit at (w.days_in_unit.ensures.next i.rule.week_start) in
-      let listed = rw (c.self.invariant.of_allowed, to_z-of_z fits) at w.in_ok-list.ensures.listed in
+      let made = w.whole_unit.result in
+      let at = w.whole_unit.ensures.unit in
+      let number : made.number ≡ c.args.unit = w.whole_unit.ensures.number ∙ to_z-of_z c.ranges.unit in
+      let begins = rw number at at.of_first in
+      let count = count_is i.rule.freq i.rule.week_start made c.self.invariant.freq at in
+      let ends = rw number at (sym at.of_next ∙ sym count) in
+      let listed = rw (c.self.invariant.of_allowed, first_is i.rule.freq i.rule.week_start made c.self.invariant.freq at) at w.in_ok-list.ensures.listed in
       let fit = rw (sym c.self.view_is) at c.requires.fits in
-      let made = candidate_days i.rule (day_part i.kind i.start) c.args.unit first w.days_in_unit.result w.list.new.days.items c.self.invariant.freq begins ends
-      fit listed in
-      rw (w.self-inside-is, unit) (
-        held_unrolled r i.start_day i.start_second i.times i.allowed w.list.new.self i.is_held i.unit c.args.unit i.days.items w.list.new.days.items
-            c.self.invariant w.list.ensures.same made,
+      let days = candidate_days i.rule (day_part i.kind i.start) c.args.unit made.first _ w.list.new.days.items c.self.invariant.freq begins
+      (ends ∙ ap (λ z. z +ℤ pos _) begins) fit listed in
+      rw w.self-inside-is (
+        held_unrolled r i.start_day i.start_second i.times i.allowed w.list.new.self i.own_unit i.last i.unit made i.is_held i.days.items w.list.new.days.items
+            c.self.invariant w.list.ensures.same at (rw number days),
         refl,
-        refl,
+        number,
         c.self.view_is,
       ))
   | else-not-self-unit w ↦ elim c.if-self.branch [
     | then-self v ↦ (
-        let fits : FitsSigned w64 c.self.inside.unit = search rules in
-        let e : c.self.inside.unit ≡ c.args.unit =
+        let fits : FitsSigned w64 c.self.inside.unit.number = search rules in
+        let e : c.self.inside.unit.number ≡ c.args.unit =
         sym (to_z-of_z fits) ∙ ap (to_z w64) (eqb-true _ _ (sym v.value-is ∙ w.if-not-self-unit.false)) ∙ to_z-of_z c.ranges.unit in
         rw w.self-inside-is (c.self.invariant, v.if-self.true, e, c.self.view_is))
     | else-self v ↦ absurd (false≢true (sym v.if-self.false ∙ sym v.value-is ∙ w.if-not-self-unit.false))
@@ -61,7 +64,7 @@ pub invariant_of-self-2 : goal.invariant_of-self-2
 invariant_of-self-2 c = (held c).0
 
 pub first_alone-requires-clause-days : goal.first_alone-requires-clause-days
-first_alone-requires-clause-days c = let h = held c in (c.if-not-self-unit.self-inside.unit, rw c.as_slice.ensures.value (h.0.held h.1))
+first_alone-requires-clause-days c = let h = held c in (c.if-not-self-unit.self-inside.unit.number, rw c.as_slice.ensures.value (h.0.held h.1))
 
 -- none is found at once
 pub invariant_of-self-in-None : goal.invariant_of-self-in-None
@@ -70,7 +73,7 @@ invariant_of-self-in-None c = (held c.before.before.before.before).0
 pub first_of-requires-clause-days : goal.first_of-requires-clause-days
 first_of-requires-clause-days c =
     let h = held c.before.before.before.before in
-    (c.if-not-self-unit.self-inside.unit, rw c.as_slice-in-None.ensures.value (h.0.held h.1))
+    (c.if-not-self-unit.self-inside.unit.number, rw c.as_slice-in-None.ensures.value (h.0.held h.1))
 
 pub invariant_of-self-in-None-2 : goal.invariant_of-self-in-None-2
 invariant_of-self-in-None-2 c = (held c.before.before.before.before.before).0
