@@ -11,7 +11,8 @@ pub returns-clause-unit : goal.returns-clause-unit
 returns-clause-unit c =
     let near = c.requires.near in
     let number = to_z-of_z c.ranges.number in
-    let begins : c.first_day_of_unit-first.result ≡ unit_start c.args.freq c.args.week_start Days c.args.number = rw number at c.first_day_of_unit-first.ensures in
+    let begins : c.first_day_of_unit-first.result ≡ unit_start c.args.freq c.args.week_start Days c.args.number =
+    rw number at c.first_day_of_unit-first.ensures in
     let ends = rw number at (c.days_in_unit.ensures.next c.args.week_start) in
     let first : to_z w64 (of_z w64 c.first_day_of_unit-first.result) ≡ c.first_day_of_unit-first.result = omega (arith, ints, begins, near.0, near.1) in
     let next : to_z w64 (of_z w64 (to_z w64 (of_z w64 c.first_day_of_unit-first.result) +ℤ to_z w64 (of_z w64 c.from.result)))

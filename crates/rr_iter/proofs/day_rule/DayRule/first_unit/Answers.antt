@@ -23,7 +23,8 @@ pub first_fit-requires-clause-start : goal.first_fit-requires-clause-start
 first_fit-requires-clause-start c =
     let i = c.self.inside in
     let low : i.rule.week_start ≤ 255 = omega (arith, c.self.invariant.valid.valid.week_start) in
-    let u = own_near i.rule.freq i.rule.week_start i.kind i.start i.own_unit c.self.invariant.freq low c.self.invariant.valid.in_years c.self.invariant.of_own in
+    let u = own_near i.rule.freq i.rule.week_start i.kind i.start i.own_unit c.self.invariant.freq low c.self.invariant.valid.in_years
+    c.self.invariant.of_own in
     (omega (arith, ints, u.0, u.1), omega (arith, ints, u.0, u.1))
 
 fit_is : (c : goal.After-first_fit) → (c.first_fit.result ≤ 4_294_967_295) × (to_z w64 c.first_fit.result ≡ pos c.first_fit.result)
