@@ -195,7 +195,8 @@ module _ (r : Ruling) (coarse : is_whole_days r.rule.freq ≡ true) (stands : is
 
 -- another day and its unit are kept
 pub asked_unrolled : (r : Ruling) (start_day : ℤ) (start_second : ℕ) (times : List ℕ) (allowed : Filling) (own_unit : ℤ)
-    (last next : DayInUnit) (unit : WholeUnit) (is_held : Bool) (days : List ℤ) → IsUnrolled r start_day start_second times allowed own_unit last unit is_held days
+    (last next : DayInUnit) (unit : WholeUnit) (is_held : Bool) (days : List ℤ)
+    → IsUnrolled r start_day start_second times allowed own_unit last unit is_held days
     → next.unit ≡ unit_number r.rule.freq r.rule.week_start Days next.day
     → IsUnrolled r start_day start_second times allowed own_unit next unit is_held days
 asked_unrolled r start_day start_second times allowed own_unit last next unit is_held days u e = record {
@@ -213,8 +214,8 @@ asked_unrolled r start_day start_second times allowed own_unit last next unit is
 
 -- another unit is entered
 pub entered_unrolled : (r : Ruling) (start_day : ℤ) (start_second : ℕ) (times : List ℕ) (allowed listed : Filling) (own_unit : ℤ)
-    (last : DayInUnit) (unit next : WholeUnit) (is_held : Bool) (days made : List ℤ) → IsUnrolled r start_day start_second times allowed own_unit last unit is_held days → listed ≡ allowed
-    → IsWholeUnit r.rule.freq r.rule.week_start next
+    (last : DayInUnit) (unit next : WholeUnit) (is_held : Bool) (days made : List ℤ)
+    → IsUnrolled r start_day start_second times allowed own_unit last unit is_held days → listed ≡ allowed → IsWholeUnit r.rule.freq r.rule.week_start next
     → IsUnrolled r start_day start_second times listed own_unit last next false made
 entered_unrolled r start_day start_second times allowed listed own_unit last unit next is_held days made u e at = record {
   freq = u.freq;
@@ -231,8 +232,8 @@ entered_unrolled r start_day start_second times allowed listed own_unit last uni
 
 -- its days are put in place of those of another
 pub held_unrolled : (r : Ruling) (start_day : ℤ) (start_second : ℕ) (times : List ℕ) (allowed listed : Filling) (own_unit : ℤ)
-    (last : DayInUnit) (unit next : WholeUnit) (is_held : Bool) (days made : List ℤ) → IsUnrolled r start_day start_second times allowed own_unit last unit is_held days → listed ≡ allowed
-    → IsWholeUnit r.rule.freq r.rule.week_start next → IsSetOf int_lt made (IsCandidateDay r.rule (day_part r.kind r.start) next.number)
+    (last : DayInUnit) (unit next : WholeUnit) (is_held : Bool) (days made : List ℤ)
+    → IsUnrolled r start_day start_second times allowed own_unit last unit is_held days → listed ≡ allowed → IsWholeUnit r.rule.freq r.rule.week_start next → IsSetOf int_lt made (IsCandidateDay r.rule (day_part r.kind r.start) next.number)
     → IsUnrolled r start_day start_second times listed own_unit last next true made
 held_unrolled r start_day start_second times allowed listed own_unit last unit next is_held days made u e at set = record {
   freq = u.freq;
