@@ -233,7 +233,9 @@ entered_unrolled r start_day start_second times allowed listed own_unit last uni
 -- its days are put in place of those of another
 pub held_unrolled : (r : Ruling) (start_day : ℤ) (start_second : ℕ) (times : List ℕ) (allowed listed : Filling) (own_unit : ℤ)
     (last : DayInUnit) (unit next : WholeUnit) (is_held : Bool) (days made : List ℤ)
-    → IsUnrolled r start_day start_second times allowed own_unit last unit is_held days → listed ≡ allowed → IsWholeUnit r.rule.freq r.rule.week_start next → IsSetOf int_lt made (IsCandidateDay r.rule (day_part r.kind r.start) next.number)
+    → IsUnrolled r start_day start_second times allowed own_unit last unit is_held days → listed ≡ allowed
+    → IsWholeUnit r.rule.freq r.rule.week_start next
+    → IsSetOf int_lt made (IsCandidateDay r.rule (day_part r.kind r.start) next.number)
     → IsUnrolled r start_day start_second times listed own_unit last next true made
 held_unrolled r start_day start_second times allowed listed own_unit last unit next is_held days made u e at set = record {
   freq = u.freq;
