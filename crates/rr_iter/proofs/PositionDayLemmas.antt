@@ -193,6 +193,17 @@ module _ (r : Ruling) (coarse : is_whole_days r.rule.freq ≡ true) (stands : is
 
 -- ---- the unit that is held
 
+-- the days that are allowed are the same
+pub allowed_unrolled : (r : Ruling) (start_day : ℤ) (start_second : ℕ) (times : List ℕ) (allowed other : Filling) (own_unit : ℤ) (last : DayInUnit)
+    (unit : WholeUnit) (is_held : Bool) (days : List ℤ) → IsUnrolled r start_day start_second times allowed own_unit last unit is_held days
+    → other ≡ allowed → IsUnrolled r start_day start_second times other own_unit last unit is_held days
+allowed_unrolled r start_day start_second times allowed other own_unit last unit is_held days u e =
+    subst (λ a. IsUnrolled r start_day start_second times a own_unit last unit is_held days) (sym e) u
+
+-- a rule is the same as itself
+pub same_is : (new old : Ruling) → new ≡ old → IsSameRuling new old
+same_is new old e = record { rule = ap (λ r. r.rule) e; kind = ap (λ r. r.kind) e; start = ap (λ r. r.start) e }
+
 -- another day and its unit are kept
 pub asked_unrolled : (r : Ruling) (start_day : ℤ) (start_second : ℕ) (times : List ℕ) (allowed : Filling) (own_unit : ℤ)
     (last next : DayInUnit) (unit : WholeUnit) (is_held : Bool) (days : List ℤ)

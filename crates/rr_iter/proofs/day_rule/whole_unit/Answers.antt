@@ -18,4 +18,4 @@ returns-clause-unit c =
     let next : to_z w64 (of_z w64 (to_z w64 (of_z w64 c.first_day_of_unit-first.result) +ℤ to_z w64 (of_z w64 c.from.result)))
     ≡ unit_start c.args.freq c.args.week_start Days (c.args.number +ℤ pos 1) =
     omega (arith, ints, first, begins, ends, c.from.ensures, c.days_in_unit.ensures.few, near.0, near.1) in
-    rw (number, first, next) (record { near = rw begins near; of_first = begins; of_next = refl })
+    rw (number, next, first) (record { near = rw begins near; of_first = begins; of_next = refl })

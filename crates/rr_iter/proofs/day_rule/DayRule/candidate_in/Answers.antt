@@ -6,11 +6,11 @@ use Rattle.rr_model.specs.Moment.Units.{unit_start}
 use Rattle.rr_model.specs.declared.kind.Kind.TheVariants.{Days}
 use Rattle.rr_iter.specs.Ruling.{IsUnrolled, IsWholeUnit, Ruling}
 use Rattle.rr_iter.proofs.PlainLemmas.{candidate_of_unit}
-use Rattle.rr_iter.proofs.PositionDayLemmas.{entered_unrolled}
+use Rattle.rr_iter.proofs.PositionDayLemmas.{allowed_unrolled, entered_unrolled}
 use Rattle.rr_iter.proofs.WholeUnitLemmas.{first_is, next_is}
 use Rattle.rr_iter.proofs.StepLemmas.{earlier_is, later_is}
 use Rattle.rr_iter.proofs.day_rule.DayRule.candidate_in.Goals as goal
-use Rattle.rr_iter.proofs.day_rule.DayRule.candidate_in.Goals.{then-self-unit, else-self-unit}
+use Rattle.rr_iter.proofs.day_rule.DayRule.candidate_in.Goals.{After-max, then-self-unit, else-self-unit}
 
 low_is : (begin from low : ℤ) → low ≡ int_max begin from → (begin ≤ℤ low) × (from ≤ℤ low) × ((low ≡ begin) ⊎ (low ≡ from))
 low_is begin from low e = (omega (arith, ints, clamps, e), omega (arith, ints, clamps, e), later_is begin from low e)
@@ -19,7 +19,7 @@ high_is : (next to high : ℤ) → high ≡ int_min next to → (high ≤ℤ nex
 high_is next to high e = (omega (arith, ints, clamps, e), omega (arith, ints, clamps, e), earlier_is next to high e)
 
 -- the unit is entered
-entered : (c : goal.After-max) → (let s = c.if-self-unit.self-inside in
+entered : (c : After-max) → (let s = c.if-self-unit.self-inside in
     let r : Ruling = record { rule = s.rule; kind = s.kind; start = s.start; kept = s.number ∷ [] } in
     IsUnrolled r s.start_day s.start_second s.times s.allowed s.own_unit s.last s.unit s.is_held s.days.items × (s.unit.number ≡ c.args.unit)
     × (r ≡ c.args.self.now))
@@ -27,10 +27,10 @@ entered c = elim c.if-self-unit.branch [
   | then-self-unit w ↦ (
       let i = c.self.inside in
       let r : Ruling = record { rule = i.rule; kind = i.kind; start = i.start; kept = i.number ∷ [] } in
-      let number : w.whole_unit.result.number ≡ c.args.unit = w.whole_unit.ensures.number ∙ to_z-of_z c.ranges.unit in
+      let number : w.whole_unit-self-inside.result.number ≡ c.args.unit = w.whole_unit-self-inside.ensures.number ∙ to_z-of_z c.ranges.unit in
       rw w.self-inside-is (
-        entered_unrolled r i.start_day i.start_second i.times i.allowed i.allowed i.own_unit i.last i.unit w.whole_unit.result i.is_held i.days.items
-            i.days.items c.self.invariant refl w.whole_unit.ensures.unit,
+        entered_unrolled r i.start_day i.start_second i.times i.allowed i.allowed i.own_unit i.last i.unit w.whole_unit-self-inside.result i.is_held i.days.items
+            i.days.items c.self.invariant refl w.whole_unit-self-inside.ensures.unit,
         number,
         c.self.view_is,
       ))
@@ -89,8 +89,8 @@ module _ (c : goal.After-min) where
     omega (arith, ints, of_high.1, c.requires.to.1),
   )
 
-pub whole_unit-requires-clause-near : goal.whole_unit-requires-clause-near
-whole_unit-requires-clause-near c =
+pub whole_unit-self-inside-requires-clause-near : goal.whole_unit-self-inside-requires-clause-near
+whole_unit-self-inside-requires-clause-near c =
     let near = rw (sym c.self.view_is) at c.requires.first in
     rw (to_z-of_z c.ranges.unit) near
 
@@ -108,3 +108,10 @@ returns-clause-first c =
     let high : to_z w64 (of_z w64 c.min.result) ≡ c.min.result = omega (arith, ints, (high_near b).0, (high_near b).1) in
     candidate_of_unit c.args.self.now c.args.from c.args.to c.args.unit (begin b) (next b) c.max.result c.min.result refl refl (of_low b) (of_high b)
     c.first_from.result c.requires.fits (rw (low, high, u) at c.first_from.ensures.first)
+
+pub invariant_of-self : goal.invariant_of-self
+invariant_of-self c =
+    let s = c.if-self-unit.self-inside in
+    let r : Ruling = record { rule = s.rule; kind = s.kind; start = s.start; kept = s.number ∷ [] } in
+    allowed_unrolled r s.start_day s.start_second s.times s.allowed c.first_from.new.self s.own_unit s.last s.unit s.is_held s.days.items
+    (entered c.before.before).0 c.first_from.ensures.same

@@ -3,9 +3,22 @@ use Rattle.std.proofs.lemmas.Int.{ints}
 use Rattle.rr_model.specs.Moment.Units.{unit_number}
 use Rattle.rr_model.specs.declared.kind.Kind.TheVariants.{Days}
 use Rattle.rr_lazy.specs.Next.{with_set}
-use Rattle.rr_iter.proofs.PositionDayLemmas.{same_ruling}
+use Rattle.rr_iter.proofs.PositionDayLemmas.{same_is, same_ruling}
 use Rattle.rr_iter.proofs.WalkLemmas.{unit_bounds, between_near, walked_more, walked_found, walked_past, walked_all}
 use Rattle.rr_iter.proofs.day_rule.DayRule.first_at_positions.Goals as goal
+
+pub loop-unit-init : goal.loop-unit-init
+loop-unit-init c =
+    let fits : FitsSigned w64 c.first_unit-unit.result = search rules in
+    let same = c.last_unit-last.ensures.same in
+    let w = rw (to_z-of_z c.ranges.from, same) at c.first_unit-unit.ensures.walked in
+    rw (to_z-of_z c.ranges.from, to_z-of_z fits) (
+      same_is c.last_unit-last.new.self c.args.self.now same,
+      rw same c.requires.knows,
+      (λ n t e. e),
+      w,
+      c.first_unit-unit.ensures.near,
+    )
 
 pub first_in-requires-clause-positions : goal.first_in-requires-clause-positions
 first_in-requires-clause-positions c = rw c.loop-unit.invariant.0.rule c.requires.positions
@@ -13,7 +26,7 @@ first_in-requires-clause-positions c = rw c.loop-unit.invariant.0.rule c.require
 pub first_in-requires-clause-first : goal.first_in-requires-clause-first
 first_in-requires-clause-first c =
     let r = c.args.self.now in
-    let known = rw c.self.view_is at c.self.invariant in
+    let known = rw (c.self.view_is, c.last_unit-last.ensures.same) at c.self.invariant in
     let fits : FitsSigned w64 c.last_unit-last.result = search rules in
     let w = rw (to_z-of_z c.ranges.from) at c.loop-unit.invariant.3 in
     let last : c.last_unit-last.result ≡ unit_number c.args.self.now.rule.freq c.args.self.now.rule.week_start Days c.args.to =
@@ -25,7 +38,7 @@ first_in-requires-clause-first c =
 pub first_in-requires-clause-next : goal.first_in-requires-clause-next
 first_in-requires-clause-next c =
     let r = c.args.self.now in
-    let known = rw c.self.view_is at c.self.invariant in
+    let known = rw (c.self.view_is, c.last_unit-last.ensures.same) at c.self.invariant in
     let fits : FitsSigned w64 c.last_unit-last.result = search rules in
     let w = rw (to_z-of_z c.ranges.from) at c.loop-unit.invariant.3 in
     let last : c.last_unit-last.result ≡ unit_number c.args.self.now.rule.freq c.args.self.now.rule.week_start Days c.args.to =
@@ -54,7 +67,7 @@ returns-in-Some-clause-kept c n t e = c.first_in.ensures.kept n t (c.loop-unit.i
 pub returns-in-Some-clause-found : goal.returns-in-Some-clause-found
 returns-in-Some-clause-found c =
     let r = c.args.self.now in
-    let known = rw c.self.view_is at c.self.invariant in
+    let known = rw (c.self.view_is, c.last_unit-last.ensures.same) at c.self.invariant in
     let u : ℤ = to_z w64 c.loop-unit.unit-bits in
     let from = to_z-of_z c.ranges.from in
     let same = c.loop-unit.invariant.0 in
@@ -70,14 +83,14 @@ returns-in-Some-clause-found c =
 pub loop-unit-preserved : goal.loop-unit-preserved
 loop-unit-preserved c =
     let r = c.args.self.now in
-    let known = rw c.self.view_is at c.self.invariant in
+    let known = rw (c.self.view_is, c.last_unit-last.ensures.same) at c.self.invariant in
     let valid = known.valid.valid in
     let low : r.rule.week_start ≤ 255 = omega (arith, valid.week_start) in
     let u : ℤ = to_z w64 c.loop-unit.unit-bits in
     let from = to_z-of_z c.ranges.from in
     let same = c.loop-unit.invariant.0 in
     let fits : FitsSigned w64 c.last_unit-last.result = search rules in
-    let made : c.from-step.result ≡ pos c.args.self.now.rule.interval = rw (← c.self.view_is) c.from-step.ensures in
+    let made : c.from-step.result ≡ pos c.args.self.now.rule.interval = rw (← c.last_unit-last.ensures.same, ← c.self.view_is) c.from-step.ensures in
     let step : to_z w64 (of_z w64 c.from-step.result) ≡ pos r.rule.interval = omega (arith, ints, made, valid.interval_high) in
     let last : c.last_unit-last.result ≡ unit_number c.args.self.now.rule.freq c.args.self.now.rule.week_start Days c.args.to =
     rw (to_z-of_z c.ranges.to) at c.last_unit-last.ensures.unit in
@@ -105,7 +118,7 @@ loop-unit-preserved c =
 pub returns-clause-found : goal.returns-clause-found
 returns-clause-found c =
     let r = c.args.self.now in
-    let known = rw c.self.view_is at c.self.invariant in
+    let known = rw (c.self.view_is, c.last_unit-last.ensures.same) at c.self.invariant in
     let u : ℤ = to_z w64 c.loop-unit.unit-bits in
     let fits : FitsSigned w64 c.last_unit-last.result = search rules in
     let last : c.last_unit-last.result ≡ unit_number c.args.self.now.rule.freq c.args.self.now.rule.week_start Days c.args.to =

@@ -11,15 +11,69 @@ use Rattle.rr_expand.proofs.CandidateDays.{candidate_days}
 use Rattle.rr_iter.specs.Ruling.{IsUnrolled, Ruling, keeps_more}
 use Rattle.rr_iter.specs.Walk.{IsDayWith, IsFirstInIn, IsFirstOfIn}
 use Rattle.rr_iter.proofs.AlonePlaceLemmas.{first_with}
-use Rattle.rr_iter.proofs.PositionDayLemmas.{first_in_unit, held_unrolled}
-use Rattle.rr_iter.proofs.WholeUnitLemmas.{count_is, first_is}
+use Rattle.rr_iter.proofs.PositionDayLemmas.{entered_unrolled, first_in_unit, held_unrolled, same_is, same_ruling}
+use Rattle.rr_iter.proofs.WholeUnitLemmas.{count_is, few_days, first_is, next_is, some_days}
 use Rattle.rr_iter.proofs.day_rule.DayRule.first_in.Goals as goal
 use Rattle.rr_iter.proofs.day_rule.DayRule.first_in.Goals.{then-not-self-unit+in_ok-list, else-not-self-unit, then-self, else-self}
 
-pub whole_unit-requires-clause-near : goal.whole_unit-requires-clause-near
-whole_unit-requires-clause-near c =
+pub whole_unit-self-inside-requires-clause-near : goal.whole_unit-self-inside-requires-clause-near
+whole_unit-self-inside-requires-clause-near c =
     let near = rw (sym c.self.view_is) at c.requires.first in
     rw (to_z-of_z c.ranges.unit) (omega (arith, ints, near.0, near.1))
+
+pub overflow_sub-count : goal.overflow_sub-count
+overflow_sub-count c =
+    let i = c.self.inside in
+    let made = c.whole_unit-self-inside.result in
+    let at = c.whole_unit-self-inside.ensures.unit in
+    let coarse = c.self.invariant.freq in
+    let first = first_is i.rule.freq i.rule.week_start made coarse at in
+    let next = next_is i.rule.freq i.rule.week_start made coarse at in
+    let some = some_days i.rule.freq i.rule.week_start made coarse at in
+    let few = few_days i.rule.freq i.rule.week_start made coarse at in
+    omega (arith, ints, first, next, some, few)
+
+pub overflow_cast-count : goal.overflow_cast-count
+overflow_cast-count c =
+    let i = c.self.inside in
+    let made = c.whole_unit-self-inside.result in
+    let at = c.whole_unit-self-inside.ensures.unit in
+    let coarse = c.self.invariant.freq in
+    let first = first_is i.rule.freq i.rule.week_start made coarse at in
+    let next = next_is i.rule.freq i.rule.week_start made coarse at in
+    let some = some_days i.rule.freq i.rule.week_start made coarse at in
+    let few = few_days i.rule.freq i.rule.week_start made coarse at in
+    omega (arith, ints, first, next, some, few)
+
+pub list-requires-clause-first : goal.list-requires-clause-first
+list-requires-clause-first c =
+    let i = c.self.inside in
+    let made = c.whole_unit-self-inside.result in
+    let at = c.whole_unit-self-inside.ensures.unit in
+    let number : made.number ≡ c.args.unit = c.whole_unit-self-inside.ensures.number ∙ to_z-of_z c.ranges.unit in
+    let begins = rw number at at.of_first in
+    let first = first_is i.rule.freq i.rule.week_start made c.self.invariant.freq at in
+    let near = rw (sym c.self.view_is) at c.requires.first in
+    (omega (arith, ints, first, begins, near.0), omega (arith, ints, first, begins, near.1))
+
+pub list-requires-clause-last : goal.list-requires-clause-last
+list-requires-clause-last c =
+    let i = c.self.inside in
+    let made = c.whole_unit-self-inside.result in
+    let at = c.whole_unit-self-inside.ensures.unit in
+    let number : made.number ≡ c.args.unit = c.whole_unit-self-inside.ensures.number ∙ to_z-of_z c.ranges.unit in
+    let ends = rw number at at.of_next in
+    let first = first_is i.rule.freq i.rule.week_start made c.self.invariant.freq at in
+    let count = count_is i.rule.freq i.rule.week_start made c.self.invariant.freq at in
+    let near = rw (sym c.self.view_is) at c.requires.next in
+    (omega (arith, ints, first, count, ends, near.0), omega (arith, ints, first, count, ends, near.1))
+
+pub invariant_of-self : goal.invariant_of-self
+invariant_of-self c =
+    let i = c.self.inside in
+    let r : Ruling = record { rule = i.rule; kind = i.kind; start = i.start; kept = i.number ∷ [] } in
+    entered_unrolled r i.start_day i.start_second i.times i.allowed c.list.new.self i.own_unit i.last i.unit c.whole_unit-self-inside.result i.is_held
+    i.days.items c.list.new.days.items c.self.invariant c.list.ensures.same c.whole_unit-self-inside.ensures.unit
 
 -- the unit's days are held
 held : (c : goal.After-as_slice) → (let s = c.if-not-self-unit.self-inside in
@@ -30,9 +84,9 @@ held c = elim c.if-not-self-unit.branch [
   | then-not-self-unit+in_ok-list w ↦ (
       let i = c.self.inside in
       let r : Ruling = record { rule = i.rule; kind = i.kind; start = i.start; kept = i.number ∷ [] } in
-      let made = w.whole_unit.result in
-      let at = w.whole_unit.ensures.unit in
-      let number : made.number ≡ c.args.unit = w.whole_unit.ensures.number ∙ to_z-of_z c.ranges.unit in
+      let made = w.whole_unit-self-inside.result in
+      let at = w.whole_unit-self-inside.ensures.unit in
+      let number : made.number ≡ c.args.unit = w.whole_unit-self-inside.ensures.number ∙ to_z-of_z c.ranges.unit in
       let begins = rw number at at.of_first in
       let count = count_is i.rule.freq i.rule.week_start made c.self.invariant.freq at in
       let ends = rw number at (sym at.of_next ∙ sym count) in
@@ -78,6 +132,12 @@ first_of-requires-clause-days c =
 pub invariant_of-self-in-None-2 : goal.invariant_of-self-in-None-2
 invariant_of-self-in-None-2 c = (held c.before.before.before.before.before).0
 
+pub returns-in-None-clause-same : goal.returns-in-None-clause-same
+returns-in-None-clause-same c =
+    let s = c.if-not-self-unit.self-inside in
+    let r : Ruling = record { rule = s.rule; kind = s.kind; start = s.start; kept = s.number ∷ [] } in
+    same_is r c.args.self.now (held c.before.before.before.before.before).3
+
 pub returns-in-None-clause-knows : goal.returns-in-None-clause-knows
 returns-in-None-clause-knows c =
     let s = c.if-not-self-unit.self-inside in
@@ -104,6 +164,12 @@ invariant_of-self-in-Some c = (held c.before.before).0
 
 pub with_times-requires : goal.with_times-requires
 with_times-requires c = let h = held c.before.before.before.before in record { knows = rw (← h.3) at c.requires.knows }
+
+pub returns-in-Some-clause-same : goal.returns-in-Some-clause-same
+returns-in-Some-clause-same c =
+    let s = c.if-not-self-unit.self-inside in
+    let r : Ruling = record { rule = s.rule; kind = s.kind; start = s.start; kept = s.number ∷ [] } in
+    same_ruling c.with_times.new.self r c.args.self.now c.with_times.ensures.same (same_is r c.args.self.now (held c.before.before.before.before.before).3)
 
 pub returns-in-Some-clause-found : goal.returns-in-Some-clause-found
 returns-in-Some-clause-found c =
