@@ -20,7 +20,9 @@ loop-unit-init c =
 known : (c : goal.After-first_unit-unit)
     → (is_whole_days c.args.self.now.rule.freq ≡ true) × (1 ≤ c.args.self.now.rule.interval) × (c.args.self.now.rule.interval ≤ 4_294_967_295)
     × (c.args.self.now.rule.week_start ≤ 255)
-known c = let v = c.self.invariant.valid.valid in rw (← c.last_unit-last.ensures.same, ← c.self.view_is) (c.self.invariant.freq, v.interval_low, v.interval_high, omega (arith, v.week_start))
+known c =
+    let v = c.self.invariant.valid.valid in
+    rw (← c.last_unit-last.ensures.same, ← c.self.view_is) (c.self.invariant.freq, v.interval_low, v.interval_high, omega (arith, v.week_start))
 
 -- the last unit
 last_is : (c : goal.After-first_unit-unit) → c.last_unit-last.result ≡ unit_number c.args.self.now.rule.freq c.args.self.now.rule.week_start Days c.args.to

@@ -1,4 +1,4 @@
-use Rattle.std.proofs.Common.{◌≡◌, true, false, ℤ, pos, ◌≤ℤ◌, ◌∷◌, [], refl, sym, subst, arith, rules, get_or, length, w64, to_z, of_z, to_z-of_z, FitsSigned}
+use Rattle.std.proofs.Common.{◌≡◌, true, false, ℤ, pos, ◌≤ℤ◌, ◌<ℤ◌, ◌∷◌, [], refl, sym, subst, arith, rules, get_or, length, w64, to_z, of_z, to_z-of_z, FitsSigned}
 use Rattle.std.specs.Prelude.{int_lt, nat_lt}
 use Rattle.std.proofs.lemmas.Int.{ints}
 use Rattle.std.proofs.lemmas.List.Sorted.{IsPartitionPoint-from_clause}
