@@ -29,8 +29,8 @@ entered c = elim c.if-self-unit.branch [
       let r : Ruling = record { rule = i.rule; kind = i.kind; start = i.start; kept = i.number ∷ [] } in
       let number : w.whole_unit-self-inside.result.number ≡ c.args.unit = w.whole_unit-self-inside.ensures.number ∙ to_z-of_z c.ranges.unit in
       rw w.self-inside-is (
-        entered_unrolled r i.start_day i.start_second i.times i.allowed i.allowed i.own_unit i.last i.unit w.whole_unit-self-inside.result i.is_held i.days.items
-            i.days.items c.self.invariant refl w.whole_unit-self-inside.ensures.unit,
+        entered_unrolled r i.start_day i.start_second i.times i.allowed i.allowed i.own_unit i.last i.unit w.whole_unit-self-inside.result i.is_held
+            i.days.items i.days.items c.self.invariant refl w.whole_unit-self-inside.ensures.unit,
         number,
         c.self.view_is,
       ))
@@ -48,16 +48,16 @@ module _ (c : goal.After-min) where
   next = unit_start c.args.self.now.rule.freq c.args.self.now.rule.week_start Days (c.args.unit +ℤ pos 1)
 
   whole : IsWholeUnit c.if-self-unit.self-inside.rule.freq c.if-self-unit.self-inside.rule.week_start c.if-self-unit.self-inside.unit
-  whole = (entered c.before).0.of_unit
+  whole = (entered c.before.before).0.of_unit
 
   begin_is : to_z w64 (of_z w64 c.if-self-unit.self-inside.unit.first) ≡ begin
   begin_is =
-      let e = entered c.before in
+      let e = entered c.before.before in
       rw (sym e.2, sym e.1) (first_is _ _ c.if-self-unit.self-inside.unit e.0.freq whole ∙ whole.of_first)
 
   end_is : to_z w64 (of_z w64 c.if-self-unit.self-inside.unit.next) ≡ next
   end_is =
-      let e = entered c.before in
+      let e = entered c.before.before in
       rw (sym e.2, sym e.1) (next_is _ _ c.if-self-unit.self-inside.unit e.0.freq whole ∙ whole.of_next)
 
   pub of_low : (begin ≤ℤ c.max.result) × (c.args.from ≤ℤ c.max.result) × ((c.max.result ≡ begin) ⊎ (c.max.result ≡ c.args.from))
@@ -103,7 +103,7 @@ first_from-requires-clause-end c = let n = high_near c in (omega (arith, ints, n
 pub returns-clause-first : goal.returns-clause-first
 returns-clause-first c =
     let b = c.before in
-    let u = rw (entered b.before).2 at (entered b.before).0.of_allowed in
+    let u = rw (entered b.before.before).2 at (entered b.before.before).0.of_allowed in
     let low : to_z w64 (of_z w64 c.max.result) ≡ c.max.result = omega (arith, ints, (low_near b).0, (low_near b).1) in
     let high : to_z w64 (of_z w64 c.min.result) ≡ c.min.result = omega (arith, ints, (high_near b).0, (high_near b).1) in
     candidate_of_unit c.args.self.now c.args.from c.args.to c.args.unit (begin b) (next b) c.max.result c.min.result refl refl (of_low b) (of_high b)
@@ -114,4 +114,4 @@ invariant_of-self c =
     let s = c.if-self-unit.self-inside in
     let r : Ruling = record { rule = s.rule; kind = s.kind; start = s.start; kept = s.number ∷ [] } in
     allowed_unrolled r s.start_day s.start_second s.times s.allowed c.first_from.new.self s.own_unit s.last s.unit s.is_held s.days.items
-    (entered c.before.before).0 c.first_from.ensures.same
+    (entered c.before.before.before).0 c.first_from.ensures.same

@@ -1,4 +1,4 @@
-use Rattle.std.proofs.Common.{rules, FitsSigned, ◌≡◌, true, refl, ◌∷◌, [], arith, w64, to_z, to_z-of_z, sym, ap, ◌∙◌, pos, ◌+ℤ◌}
+use Rattle.std.proofs.Common.{rules, FitsSigned, ◌≡◌, true, refl, ◌∷◌, [], arith, w64, to_z, of_z, to_z-of_z, sym, ap, ◌∙◌, ℕ, ℤ, pos, nat_abs, ◌+ℤ◌, ◌-ℤ◌}
 use Rattle.std.specs.Prelude.{int_lt}
 use Rattle.std.proofs.lemmas.Bool.{eqb-true, false≢true}
 use Rattle.std.proofs.lemmas.Int.{ints}
@@ -88,12 +88,13 @@ held c = elim c.if-not-self-unit.branch [
       let at = w.whole_unit-self-inside.ensures.unit in
       let number : made.number ≡ c.args.unit = w.whole_unit-self-inside.ensures.number ∙ to_z-of_z c.ranges.unit in
       let begins = rw number at at.of_first in
-      let count = count_is i.rule.freq i.rule.week_start made c.self.invariant.freq at in
+      let many : ℕ = nat_abs (to_z w64 (of_z w64 (to_z w64 (of_z w64 made.next) -ℤ to_z w64 (of_z w64 made.first)))) in
+      let count : made.first +ℤ pos many ≡ made.next = count_is i.rule.freq i.rule.week_start made c.self.invariant.freq at in
       let ends = rw number at (sym at.of_next ∙ sym count) in
       let listed = rw (c.self.invariant.of_allowed, first_is i.rule.freq i.rule.week_start made c.self.invariant.freq at) at w.in_ok-list.ensures.listed in
       let fit = rw (sym c.self.view_is) at c.requires.fits in
-      let days = candidate_days i.rule (day_part i.kind i.start) c.args.unit made.first _ w.list.new.days.items c.self.invariant.freq begins
-      (ends ∙ ap (λ z. z +ℤ pos _) begins) fit listed in
+      let days = candidate_days i.rule (day_part i.kind i.start) c.args.unit made.first many w.list.new.days.items c.self.invariant.freq begins
+      (ends ∙ ap (λ z. z +ℤ pos many) begins) fit listed in
       rw w.self-inside-is (
         held_unrolled r i.start_day i.start_second i.times i.allowed w.list.new.self i.own_unit i.last i.unit made i.is_held i.days.items w.list.new.days.items
             c.self.invariant w.list.ensures.same at (rw number days),
