@@ -103,11 +103,12 @@ first_from-requires-clause-end c = let n = high_near c in (omega (arith, ints, n
 pub returns-clause-first : goal.returns-clause-first
 returns-clause-first c =
     let b = c.before in
-    let u = rw (entered b.before.before).2 at (entered b.before.before).0.of_allowed in
+    let e = entered b.before.before in
+    let u = rw e.2 at e.0 in
     let low : to_z w64 (of_z w64 c.max.result) ≡ c.max.result = omega (arith, ints, (low_near b).0, (low_near b).1) in
     let high : to_z w64 (of_z w64 c.min.result) ≡ c.min.result = omega (arith, ints, (high_near b).0, (high_near b).1) in
     candidate_of_unit c.args.self.now c.args.from c.args.to c.args.unit (begin b) (next b) c.max.result c.min.result refl refl (of_low b) (of_high b)
-    c.first_from.result c.requires.fits (rw (low, high, u) at c.first_from.ensures.first)
+    c.first_from.result c.requires.fits (rw (low, high, u.of_allowed) at c.first_from.ensures.first)
 
 pub invariant_of-self : goal.invariant_of-self
 invariant_of-self c =
