@@ -94,8 +94,8 @@ held c = elim c.if-not-self-unit.branch [
       let first : to_z w64 (of_z w64 made.first) ≡ made.first = first_is i.rule.freq i.rule.week_start made c.self.invariant.freq at in
       let listed = rw c.self.invariant.of_allowed at w.in_ok-list.ensures.listed in
       let fit = rw (sym c.self.view_is) at c.requires.fits in
-      let days = candidate_days i.rule (day_part i.kind i.start) c.args.unit (to_z w64 (of_z w64 made.first)) many w.list.new.days.items c.self.invariant.freq (first ∙ begins)
-      (ends ∙ ap (λ z. z +ℤ pos many) begins) fit listed in
+      let days = candidate_days i.rule (day_part i.kind i.start) c.args.unit (to_z w64 (of_z w64 made.first)) many w.list.new.days.items
+      c.self.invariant.freq (first ∙ begins) (ends ∙ ap (λ z. z +ℤ pos many) begins) fit listed in
       rw w.self-inside-is (
         held_unrolled r i.start_day i.start_second i.times i.allowed w.list.new.self i.own_unit i.last i.unit made i.is_held i.days.items w.list.new.days.items
             c.self.invariant w.list.ensures.same at (rw number days),
