@@ -382,6 +382,19 @@ take_pages pool (p ∷ pages) (suc count) stand =
 pages_of_rest : (pool pages : List ℕ) (i : ℕ) → ArePages pool pages → ArePages pool (drop i pages)
 pages_of_rest pool pages i stand k h = let at = get_or-drop i pages k 0 in omega (arith, at, stand (i + k) (omega (arith, length-drop i pages)))
 
+-- whole pages of one number, and more of it after them
+pub same_pages_and_rest : (pool pool' pages pages' rest rest' numbers : List ℕ) (number count left most : ℕ) → paged pool pages ++ rest ≡ numbers → rest ≡ []
+    → paged pool' pages' ≡ paged pool pages ++ replicate (count * 63) number → rest' ≡ rest ++ replicate left number → most ≡ count * 63 + left
+    → paged pool' pages' ++ rest' ≡ numbers ++ replicate most number
+same_pages_and_rest pool pool' pages pages' rest rest' numbers number count left most view none ep er em =
+    let bare : paged pool pages ≡ numbers = sym (append-nil (paged pool pages)) ∙ ap (λ (l : List ℕ). paged pool pages ++ l) (sym none) ∙ view in
+    let after : rest' ≡ replicate left number = er ∙ ap (λ (l : List ℕ). l ++ replicate left number) none in
+    ap (λ (l : List ℕ). l ++ rest') (ep ∙ ap (λ (l : List ℕ). l ++ replicate (count * 63) number) bare)
+    ∙ ap (λ (l : List ℕ). (numbers ++ replicate (count * 63) number) ++ l) after
+    ∙ append_assoc numbers (replicate (count * 63) number) (replicate left number)
+    ∙ ap (λ (l : List ℕ). numbers ++ l) (replicate-append-replicate (count * 63) left number)
+    ∙ ap (λ n. numbers ++ replicate n number) (sym em)
+
 -- whole pages from a place on stand once more at the end
 pub pages_again : (pool pages pages' rest numbers : List ℕ) (place count : ℕ) → IsPaged pool pages rest → paged pool pages ++ rest ≡ numbers → rest ≡ []
     → place % 63 ≡ 0 → pages' ≡ pages ++ take count (drop (place / 63) pages)

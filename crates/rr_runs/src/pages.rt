@@ -186,7 +186,7 @@ impl Pages {
         Ok(())
     }
 
-    // Puts some of `most` equal numbers at the end, one at least: whole pages where no number follows the last page.
+    // Puts some of `most` equal numbers at the end, one at least: all of them where whole pages may follow the last page.
     fn push_some_same(&mut self, number: u32, most: usize) -> Result<usize, NoMemory>
         requires { 1 ≤ most }
         ensures { IfOk result (λ count. (1 ≤ count) × (count ≤ most) × (self.new ≡ self.old ++ replicate count number)) }
@@ -210,7 +210,8 @@ impl Pages {
             number,
             pages,
         )?;
-        Ok(pages * PAGE)
+        put_same(&mut self.rest, number, most % PAGE)?;
+        Ok(most)
     }
 
     // Puts some of the `most` numbers from a place on once more at the end, one at least: as many as are kept as they are, or
@@ -575,6 +576,9 @@ fn close(
     ensures same { paged pool.new.items pages.new.items ++ rest.new.items ≡ paged pool.old.items pages.old.items ++ rest.old.items }
     ensures none { OnOk result (rest.new.items ≡ []) }
 {
+    if rest.len() == PAGE {
+        return close_page(pool, pages, rest, remembered);
+    }
     let before = pages.len();
     if before + rest.len() / PAGE > MOST_PAGES {
         return Err(NoMemory);
@@ -589,6 +593,28 @@ fn close(
             Err(fault)
         }
     }
+}
+
+// Makes a page of the numbers after the last page, which fill one.
+#[inline(always)]
+fn close_page(
+    pool: &mut Vec<u32>,
+    pages: &mut Vec<u32>,
+    rest: &mut Vec<u32>,
+    remembered: &mut Vec<u32>,
+) -> Result<(), NoMemory>
+    requires paged { IsPaged pool.old.items pages.old.items rest.old.items }
+    requires page { length rest.old.items ≡ 63 }
+    ensures paged { IsPaged pool.new.items pages.new.items rest.new.items }
+    ensures same { paged pool.new.items pages.new.items ++ rest.new.items ≡ paged pool.old.items pages.old.items ++ rest.old.items }
+    ensures none { OnOk result (rest.new.items ≡ []) }
+{
+    if pages.len() >= MOST_PAGES {
+        return Err(NoMemory);
+    }
+    put_page(pool, pages, remembered, rest.as_slice())?;
+    rest.clear();
+    Ok(())
 }
 
 // Takes all numbers away, and their room where it is more than a page needs.
@@ -639,6 +665,7 @@ fn put_page(
     ensures stand { ArePages pool.new.items pages.new.items }
     ensures value { OnOk result (paged pool.new.items pages.new.items ≡ paged pool.old.items pages.old.items ++ numbers.now) }
     ensures many { OnOk result (length pages.new.items ≡ length pages.old.items + 1) }
+    ensures err { OnErr result (pages.new.items ≡ pages.old.items) }
 {
     let page = page_for(pool, pages.as_slice(), remembered, numbers)?;
     pages.push(page)?;
