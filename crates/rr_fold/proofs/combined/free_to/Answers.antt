@@ -1,11 +1,6 @@
-use Rattle.std.proofs.Common.{arith}
-use Rattle.rr_fold.proofs.CombinedLemmas.{fewer_free}
-use Rattle.rr_fold.proofs.combined.free_in_both.Goals as goal
+use Rattle.std.proofs.Common.{refl}
+use Rattle.rr_fold.proofs.CombinedLemmas.{free_found}
+use Rattle.rr_fold.proofs.combined.free_to.Goals as goal
 
-pub returns-clause-one : goal.returns-clause-one
-returns-clause-one c =
-    fewer_free c.args.one.now c.args.place c.zeros_from.result _ (omega (arith, c.min.ensures)) c.zeros_from.ensures
-
-pub returns-clause-other : goal.returns-clause-other
-returns-clause-other c =
-    fewer_free c.args.other.now c.args.place c.zeros_from-2.result _ (omega (arith, c.min.ensures)) c.zeros_from-2.ensures
+pub returns-clause-free : goal.returns-clause-free
+returns-clause-free c = free_found c.args.numbers.now c.args.place c.zeros_from.result _ refl c.zeros_from.ensures
