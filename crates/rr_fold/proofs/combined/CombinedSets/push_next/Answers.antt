@@ -1,5 +1,4 @@
 use Rattle.std.proofs.Common.{ℕ, ◌-◌, sym, arith}
-use Rattle.rr_runs.specs.Pages.{IsZeroFrom}
 use Rattle.rr_fold.proofs.CombinedLemmas.{combined_on_free, fewer_free, longer_free}
 use Rattle.rr_fold.proofs.combined.CombinedSets.push_next.Goals as goal
 
