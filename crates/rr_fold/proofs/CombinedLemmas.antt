@@ -16,7 +16,7 @@ use Rattle.rr_shapes.specs.declared.unions.Pair.{Pair}
 use Rattle.rr_lazy.specs.Tables.{same_set}
 use Rattle.rr_days.specs.Growing.{IsGrown}
 use Rattle.rr_runs.specs.Pages.{IsZeroFrom}
-use Rattle.rr_fold.specs.Combined.{AreCombinationsOf, AreCombined, AreCombinedTo, AreLists, AreShapes, AreUsed, Has, IsCombinationOf, IsCombinedTo}
+use Rattle.rr_fold.specs.Combined.{AreCombinationsOf, AreCombined, AreCombinedTo, AreLists, AreShapes, AreUsed, Has, IsCombinationOf, IsCombinedTo, IsFreeTo}
 use Rattle.rr_fold.specs.declared.combined.Op.{Op}
 use Rattle.rr_fold.specs.declared.combined.Op.TheVariants.{Union, Minus}
 
@@ -77,6 +77,25 @@ fewer_free numbers place count few l free = record {
   within = omega (arith, free.within, l);
   zeros = λ k m. free.zeros k (omega (arith, m, l));
 }
+
+-- what is free up to an end is so from a later place on
+pub free_later : (numbers : List ℕ) (place later end : ℕ) → place ≤ later → later ≤ length numbers → IsFreeTo numbers place end → IsFreeTo numbers later end
+free_later numbers place later end l high free = record {
+  within = omega (arith, free.within, l, high);
+  zeros = λ k m.
+      let at : later + k ≡ place + ((later - place) + k) = omega (arith, l) in
+      ap (λ n. get_or numbers n 0) at ∙ free.zeros ((later - place) + k) (omega (arith, m, l));
+}
+
+-- so many free days end there
+pub free_found : (numbers : List ℕ) (place count end : ℕ) → end ≡ place + count → IsZeroFrom numbers place count → IsFreeTo numbers place end
+free_found numbers place count end e free =
+    let same : end - place ≡ count = omega arith in
+    subst (λ n. IsZeroFrom numbers place n) (sym same) free
+
+-- nothing is known to be free yet
+pub none_free : (numbers : List ℕ) (place : ℕ) → place ≤ length numbers → IsFreeTo numbers place 0
+none_free numbers place l = record { within = omega (arith, l); zeros = λ k m. absurd (omega (arith, m)) }
 
 -- the one set of this list is empty
 only_empty : (m : ℕ) → get_or {A = List ℕ} ([] ∷ []) m [] ≡ []

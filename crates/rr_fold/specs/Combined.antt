@@ -1,9 +1,11 @@
 -- Two lists of days that are combined day by day.
-use Rattle.std.specs.Prelude.{◌≡◌, ◌≢◌, ◌⊎◌, ℕ, ◌<◌, ◌≤◌, Bool, not, ◌&&◌, ◌||◌, List, [], All, Contains, get_or, length, nat_lt}
+use Rattle.std.specs.Prelude.{◌≡◌, ◌≢◌, ◌⊎◌, ℕ, ◌-◌, ◌<◌, ◌≤◌, Bool, not, ◌&&◌, ◌||◌, List, [], All, Contains, get_or, length, nat_lt}
 use Rattle.rr_model.specs.Rising.Sets.{IsSetOf}
 use Rattle.rr_model.specs.Sets.Sizes.{total_size}
 use Rattle.rr_model.specs.declared.limits.TheConstants.{MAX_SECONDS}
+use Rattle.rr_runs.specs.Pages.{IsZeroFrom}
 use Rattle.rr_shapes.specs.declared.unions.Pair.{Pair}
+use Rattle.rr_fold.specs.declared.combined.FreeTo.{FreeTo}
 use Rattle.rr_fold.specs.declared.combined.Op.{Op}
 use Rattle.rr_fold.specs.declared.combined.Op.TheVariants.{Union, Minus}
 
@@ -63,3 +65,12 @@ pub record AreCombined (op : Op) (one : List (List ℕ)) (ones : List ℕ) (othe
   pub shapes : AreShapes sets
   pub combined : AreCombinedTo op (length ones) one ones other others sets numbers
   pub used : AreUsed (length ones) sets numbers
+
+-- from a place on the list is free up to an end, if that lies after the place
+abbrev pub IsFreeTo : List ℕ → ℕ → ℕ → Type 0
+IsFreeTo numbers place end = IsZeroFrom numbers place (end - place)
+
+-- from a place on each of two lists is free up to an end of its own
+pub record AreFreeTo (ones others : List ℕ) (place : ℕ) (free : FreeTo) : Type 0 where
+  pub one : IsFreeTo ones place free.one
+  pub other : IsFreeTo others place free.other

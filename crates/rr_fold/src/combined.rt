@@ -2,8 +2,7 @@
 ghost use Rattle.std.specs.Prelude.{◌≡◌, ◌<◌, ◌≤◌, ◌∷◌, [], All, IfOk, OnOk, get_or, length, nat_lt};
 ghost use Rattle.rr_model.specs.Rising.Sets.{IsSetOf};
 ghost use Rattle.rr_days.specs.Growing.{IsGrown};
-ghost use Rattle.rr_runs.specs.Pages.{IsZeroFrom};
-ghost use Rattle.rr_fold.specs.Combined.{AreCombinationsOf, AreCombined, AreLists, AreShapes, Has, IsCombinationOf, IsCombinedTo};
+ghost use Rattle.rr_fold.specs.Combined.{AreCombinationsOf, AreCombined, AreFreeTo, AreLists, AreShapes, Has, IsCombinationOf, IsCombinedTo, IsFreeTo};
 
 use crate::fill::FoldedDays;
 use rr_model::{Fault, NoMemory};
@@ -11,6 +10,9 @@ use rr_runs::Pages;
 use rr_shapes::{Pair, Shapes, Unions};
 use rr_times::TimeSet;
 use std::alloc::Global;
+
+// Where the first of these days is occupied and so many after it are free, it is combined alone.
+const MANY_FREE: usize = 16;
 
 /// What two sets of seconds are combined into.
 #[derive(Clone, Copy)]
@@ -27,6 +29,13 @@ struct CombinedPair {
     a: u32,
     b: u32,
     number: u32,
+}
+
+// Up to which place each of two lists is known to be free.
+#[derive(Clone, Copy)]
+struct FreeTo {
+    one: usize,
+    other: usize,
 }
 
 // The sets of combined days, and which of them is made of which two.
@@ -56,9 +65,11 @@ pub fn combined(
     let mut sets = CombinedSets::new(alloc)?;
     let mut numbers = Pages::new(alloc);
     let end = one.numbers.len();
+    numbers.reserve(end)?;
+    let mut free = FreeTo { one: 0, other: 0 };
     let mut place = 0;
     while place < end {
-        sets.push_next(alloc, op, one, other, &mut numbers)?;
+        sets.push_next(alloc, op, one, other, &mut numbers, &mut free)?;
         place = numbers.len();
     }
     Ok(FoldedDays {
@@ -67,14 +78,63 @@ pub fn combined(
     })
 }
 
-// How many days from a place on are surely free in both lists.
-fn free_in_both(one: &Pages, other: &Pages, place: usize) -> usize
+// Up to which places two lists are surely free from a place on, by what is known of each, or is found out.
+fn free_from(known: FreeTo, one: &Pages, other: &Pages, place: usize) -> FreeTo
     requires one { place < length one.now }
     requires other { place < length other.now }
-    ensures one { IsZeroFrom one.now place result }
-    ensures other { IsZeroFrom other.now place result }
+    requires known { AreFreeTo one.now other.now place known }
+    ensures free { AreFreeTo one.now other.now place result }
+    ensures one { place ≤ result.one }
+    ensures other { place ≤ result.other }
 {
-    one.zeros_from(place).min(other.zeros_from(place))
+    FreeTo {
+        one: free_to(known.one, one, place),
+        other: free_to(known.other, other, place),
+    }
+}
+
+// The same of one list.
+fn free_to(known: usize, numbers: &Pages, place: usize) -> usize
+    requires within { place < length numbers.now }
+    requires known { IsFreeTo numbers.now place known }
+    ensures free { IsFreeTo numbers.now place result }
+    ensures order { place ≤ result }
+{
+    if place < known {
+        return known;
+    }
+    let _bounded = numbers.len();
+    place + numbers.zeros_from(place)
+}
+
+// How many of these days, of each list in a row, are combined one by one.
+fn stretch_len(ones: &[u32], others: &[u32]) -> usize
+    requires ones { 0 < length ones.now }
+    requires others { 0 < length others.now }
+    ensures some { 1 ≤ result }
+    ensures ones { result ≤ length ones.now }
+    ensures others { result ≤ length others.now }
+{
+    let both = ones.len().min(others.len());
+    if both <= MANY_FREE {
+        return both;
+    }
+    if is_first_alone(ones) && is_first_alone(others) {
+        return 1;
+    }
+    both
+}
+
+// Whether the days after the first one are free. No day is left out, so that several are looked at at once.
+#[inline(always)]
+fn is_first_alone(numbers: &[u32]) -> bool
+    requires { 16 < length numbers.now }
+{
+    let mut all = true;
+    for k in 0..MANY_FREE {
+        all = (numbers[k + 1] == 0) & all;
+    }
+    all
 }
 
 impl CombinedSets {
@@ -98,19 +158,25 @@ impl CombinedSets {
         one: &FoldedDays,
         other: &FoldedDays,
         numbers: &mut Pages,
+        free: &mut FreeTo,
     ) -> Result<(), Fault>
         requires lists { AreLists one.now.shapes one.now.numbers other.now.shapes other.now.numbers }
         requires within { length numbers.old < length one.now.numbers }
+        requires free { AreFreeTo one.now.numbers other.now.numbers (length numbers.old) free.old }
         requires so_far { IsCombinedTo op one.now.shapes one.now.numbers other.now.shapes other.now.numbers self.old.shapes self.old.known numbers.old }
         ensures so_far { OnOk result (IsCombinedTo op one.now.shapes one.now.numbers other.now.shapes other.now.numbers self.new.shapes self.new.known numbers.new) }
+        ensures free { AreFreeTo one.now.numbers other.now.numbers (length numbers.old) free.new }
         ensures more { OnOk result (length numbers.old < length numbers.new) }
         ensures within { OnOk result (length numbers.new ≤ length one.now.numbers) }
     {
-        let free = free_in_both(&one.numbers, &other.numbers, numbers.len());
-        if free == 0 {
+        let place = numbers.len();
+        let now = free_from(*free, &one.numbers, &other.numbers, place);
+        *free = now;
+        let count = now.one.min(now.other) - place;
+        if count == 0 {
             return self.push_stretch(alloc, op, one, other, numbers);
         }
-        numbers.push_same(0, free)?;
+        numbers.push_same(0, count)?;
         Ok(())
     }
 
@@ -138,7 +204,7 @@ impl CombinedSets {
             b: 0,
             number: 0,
         };
-        for k in 0..ones.len().min(others.len()) {
+        for k in 0..stretch_len(ones, others) {
             let (a, b) = (ones[k], others[k]);
             if last.a != a || last.b != b {
                 match self.number_of(alloc, op, a, b, &one.shapes, &other.shapes) {

@@ -65,6 +65,7 @@ pub fn led_by_free(alloc: Global, days: FoldedDays, free: usize) -> Result<Folde
         return Ok(days);
     }
     let mut numbers = Pages::new(alloc);
+    numbers.reserve(free.saturating_add(days.numbers.len()))?;
     numbers.push_same(0, free)?;
     numbers.push_from(&days.numbers, 0, days.numbers.len())?;
     Ok(FoldedDays {

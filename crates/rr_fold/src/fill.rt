@@ -83,7 +83,7 @@ pub(crate) fn collected<L: Lazy + Drop>(
     ensures refused { RefusedExactlyWhere (HasTooManyMoments (L.tree lazy) end) TooManyMoments result }
 {
     let mut lazy = lazy;
-    let mut walk = Walk::new(alloc)?;
+    let mut walk = Walk::new(alloc, days_between(first, end))?;
     match walk.walk_to(alloc, &mut lazy, first, end) {
         Ok(()) => Ok(walk.days),
         Err(fault) => Err(fault),

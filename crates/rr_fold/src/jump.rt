@@ -178,6 +178,7 @@ fn spliced(alloc: Global, numbers: &Pages, cycle: usize, cycles: usize) -> Resul
     ensures { IfOk result (IsSpliced numbers.now cycle cycles) }
 {
     let mut new = Pages::new(alloc);
+    new.reserve(numbers.len() + cycles * cycle)?;
     new.push_from(numbers, 0, cycle + 1)?;
     let end = cycles * cycle + cycle;
     let mut done = cycle;

@@ -23,17 +23,16 @@ pub(crate) struct Walk {
 }
 
 impl Walk {
-    // Nothing is walked yet.
-    pub(crate) fn new(alloc: Global) -> Result<Walk, NoMemory>
+    // Nothing is walked yet; there is room for so many days, as far as they are kept one by one.
+    pub(crate) fn new(alloc: Global, days: usize) -> Result<Walk, NoMemory>
         ensures { IfOk result IsNewWalk }
     {
         let shapes = Shapes::with_empty_set(alloc)?;
+        let mut numbers = Pages::new(alloc);
+        numbers.reserve(days)?;
         Ok(Walk {
             numbering: Numbering::new(alloc),
-            days: FoldedDays {
-                numbers: Pages::new(alloc),
-                shapes,
-            },
+            days: FoldedDays { numbers, shapes },
         })
     }
 

@@ -108,7 +108,7 @@ pub fn days_by_years(
 {
     let first = day_part(kind, start);
     let mut lazy = RuleLazy::new(alloc, rule, kind, start)?;
-    let mut walk = Walk::new(alloc)?;
+    let mut walk = Walk::new(alloc, days_between(first, end))?;
     match walk_by_years(alloc, rule, period, &mut lazy, &mut walk, first, end) {
         Ok(()) => Ok(walk.days),
         Err(fault) => Err(fault),

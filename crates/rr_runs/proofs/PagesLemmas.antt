@@ -382,6 +382,19 @@ take_pages pool (p ∷ pages) (suc count) stand =
 pages_of_rest : (pool pages : List ℕ) (i : ℕ) → ArePages pool pages → ArePages pool (drop i pages)
 pages_of_rest pool pages i stand k h = let at = get_or-drop i pages k 0 in omega (arith, at, stand (i + k) (omega (arith, length-drop i pages)))
 
+-- whole pages of one number, and more of it after them
+pub same_pages_and_rest : (pool pool' pages pages' rest rest' numbers : List ℕ) (number count left most : ℕ) → paged pool pages ++ rest ≡ numbers → rest ≡ []
+    → paged pool' pages' ≡ paged pool pages ++ replicate (count * 63) number → rest' ≡ rest ++ replicate left number → most ≡ count * 63 + left
+    → paged pool' pages' ++ rest' ≡ numbers ++ replicate most number
+same_pages_and_rest pool pool' pages pages' rest rest' numbers number count left most view none ep er em =
+    let bare : paged pool pages ≡ numbers = sym (append-nil (paged pool pages)) ∙ ap (λ (l : List ℕ). paged pool pages ++ l) (sym none) ∙ view in
+    let after : rest' ≡ replicate left number = er ∙ ap (λ (l : List ℕ). l ++ replicate left number) none in
+    ap (λ (l : List ℕ). l ++ rest') (ep ∙ ap (λ (l : List ℕ). l ++ replicate (count * 63) number) bare)
+    ∙ ap (λ (l : List ℕ). (numbers ++ replicate (count * 63) number) ++ l) after
+    ∙ append_assoc numbers (replicate (count * 63) number) (replicate left number)
+    ∙ ap (λ (l : List ℕ). numbers ++ l) (replicate-append-replicate (count * 63) left number)
+    ∙ ap (λ n. numbers ++ replicate n number) (sym em)
+
 -- whole pages from a place on stand once more at the end
 pub pages_again : (pool pages pages' rest numbers : List ℕ) (place count : ℕ) → IsPaged pool pages rest → paged pool pages ++ rest ≡ numbers → rest ≡ []
     → place % 63 ≡ 0 → pages' ≡ pages ++ take count (drop (place / 63) pages)
@@ -437,14 +450,66 @@ pages_of_part pool pages row from most stand er k h =
     ap (λ (xs : List ℕ). get_or xs k 0) er ∙ get_or-take most (drop from pages) k 0 low ∙ get_or-drop from pages k 0 in
     omega (arith, at, stand (from + k) (omega (arith, many, h)))
 
--- ---- zeros
+-- ---- numbers that are compared by blocks
 
-pub zeros_of_page : (pool : List ℕ) (page count : ℕ) (row : List ℕ) → row ≡ take (63 - 0) (drop (page + 0) pool) → count ≡ 63
-    → ((k : ℕ) → k < count → get_or row k 0 ≡ 0) → IsZeroPage pool page
-zeros_of_page pool page count row e all free k h =
-    let start : page + 0 ≡ page = omega arith in
-    sym (page_at pool page k h) ∙ ap (λ n. get_or (take 63 (drop n pool)) k 0) (sym start) ∙ ap (λ (xs : List ℕ). get_or xs k 0) (sym e)
-    ∙ free k (omega (arith, all))
+-- two halves that overlap are a page
+pub equal_by_halves : (xs ys : List ℕ) → length xs ≡ 63 → length ys ≡ 63 → ((k : ℕ) → 0 ≤ k → k < 0 + 32 → get_or xs k 0 ≡ get_or ys k 0)
+    → ((k : ℕ) → 31 ≤ k → k < 31 + 32 → get_or xs k 0 ≡ get_or ys k 0) → xs ≡ ys
+equal_by_halves xs ys ex ey one other =
+    ext_get_or 0 xs ys (ex ∙ sym ey)
+    (λ k h. elim (cases_lt k 32) [
+      | inl l ↦ one k (omega arith) (omega arith)
+      | inr g ↦ other k (omega arith) (omega (arith, ex, h))
+    ])
+
+pub zero_by_halves : (pool : List ℕ) (page middle : ℕ) → middle ≡ page + 31 → ((k : ℕ) → page ≤ k → k < page + 32 → get_or pool k 0 ≡ 0)
+    → ((k : ℕ) → middle ≤ k → k < middle + 32 → get_or pool k 0 ≡ 0) → IsZeroPage pool page
+zero_by_halves pool page middle e one other k h =
+    elim (cases_lt k 32) [
+      | inl l ↦ one (page + k) (omega arith) (omega (arith, l))
+      | inr g ↦ other (page + k) (omega (arith, e, g)) (omega (arith, e, h))
+    ]
+
+-- a page of one number
+pub same_by_halves : (pool : List ℕ) (page middle number : ℕ) → page + 63 ≤ length pool → middle ≡ page + 31
+    → ((k : ℕ) → page ≤ k → k < page + 32 → get_or pool k 0 ≡ number) → ((k : ℕ) → middle ≤ k → k < middle + 32 → get_or pool k 0 ≡ number)
+    → IsPageOf pool (replicate 63 number) page
+same_by_halves pool page middle number within e one other = record {
+  within = within;
+  same =
+      let many : length (page_numbers pool page) ≡ length (replicate 63 number) = length_page pool page within ∙ sym (length-replicate 63 number) in
+      ext_get_or 0 (page_numbers pool page) (replicate 63 number) many
+      (λ k h.
+      let low : k < 63 = omega (arith, h, length_page pool page within) in
+      let here : get_or pool (page + k) 0 ≡ number = elim (cases_lt k 32) [
+        | inl l ↦ one (page + k) (omega arith) (omega (arith, l))
+        | inr g ↦ other (page + k) (omega (arith, e, g)) (omega (arith, e, low))
+      ] in
+      page_at pool page k low ∙ here ∙ sym (get_or-replicate 63 k number 0 low));
+}
+
+-- a page of zeros, and pages that are the same
+pub more_zero_pages : (pool pages rest : List ℕ) (count more page : ℕ) → ((k : ℕ) → k < count → IsZeroPage pool (get_or pages k 0))
+    → page ≡ get_or pages count 0 → IsZeroPage pool page → rest ≡ drop (count + 1) pages → ((k : ℕ) → k < more → get_or rest k 0 ≡ page)
+    → (k : ℕ) → k < count + (1 + more) → IsZeroPage pool (get_or pages k 0)
+more_zero_pages pool pages rest count more page before ep free er same k h =
+    elim (cases_lt k count) [
+      | inl l ↦ before k l
+      | inr g ↦
+          (let at : get_or pages k 0 ≡ page = elim (cases_lt count k) [
+            | inl l ↦
+                (let j : ℕ = k - (count + 1) in
+                let sum : k ≡ (count + 1) + j = omega (arith, l) in
+                ap (λ n. get_or pages n 0) sum
+                ∙ sym (get_or-drop (count + 1) pages j 0)
+                ∙ ap (λ (xs : List ℕ). get_or xs j 0) (sym er)
+                ∙ same j (omega (arith, l, h)))
+            | inr e ↦ (let here : k ≡ count = omega (arith, e, g) in ap (λ n. get_or pages n 0) here ∙ sym ep)
+          ] in
+          subst (λ p. IsZeroPage pool p) (sym at) free)
+    ]
+
+-- ---- zeros
 
 pub zeros_of_pages : (pool pages rest numbers row : List ℕ) (place count most : ℕ) → IsPaged pool pages rest → numbers ≡ paged pool pages ++ rest
     → place % 63 ≡ 0 → place / 63 ≤ length pages → row ≡ take most (drop (place / 63) pages) → count ≤ length row

@@ -19,10 +19,13 @@ const MOST_PAGES: usize = 100_000_000;
 const LOOKED_AT: usize = 64;
 
 // How many numbers of one stretch are looked at for 0 in one call.
-const COUNTED: usize = 1_008;
+const COUNTED: usize = 1_024;
 
-// How many numbers are compared with 0 at once.
-const BLOCK: usize = 16;
+// How many numbers are compared at once: half a page, so that two blocks are a page, and a number is in both.
+const BLOCK: usize = 32;
+
+// How many numbers are compared at once where fewer than a block are left.
+const SMALL_BLOCK: usize = 8;
 
 // How many pages that were kept last are remembered.
 const REMEMBERED: usize = 4_096;
@@ -74,6 +77,17 @@ impl Pages {
         ensures few { result ≤ 6_300_000_063 }
     {
         self.pages.len() * PAGE + self.rest.len()
+    }
+
+    /// Makes room for `count` more numbers, as far as these are kept as they are. It only saves time.
+    pub fn reserve(&mut self, count: usize) -> Result<(), NoMemory>
+        ensures { self.new ≡ self.old }
+    {
+        if self.pages.is_empty() {
+            let room = room_left(&self.pages, &self.rest);
+            self.rest.reserve_exact(count.min(room))?;
+        }
+        Ok(())
     }
 
     /// Puts a number at the end.
@@ -172,7 +186,7 @@ impl Pages {
         Ok(())
     }
 
-    // Puts some of `most` equal numbers at the end, one at least: whole pages where no number follows the last page.
+    // Puts some of `most` equal numbers at the end, one at least: all of them where whole pages may follow the last page.
     fn push_some_same(&mut self, number: u32, most: usize) -> Result<usize, NoMemory>
         requires { 1 ≤ most }
         ensures { IfOk result (λ count. (1 ≤ count) × (count ≤ most) × (self.new ≡ self.old ++ replicate count number)) }
@@ -196,7 +210,8 @@ impl Pages {
             number,
             pages,
         )?;
-        Ok(pages * PAGE)
+        put_same(&mut self.rest, number, most % PAGE)?;
+        Ok(most)
     }
 
     // Puts some of the `most` numbers from a place on once more at the end, one at least: as many as are kept as they are, or
@@ -362,7 +377,7 @@ impl Pages {
         requires { place < length self.now }
         ensures { IsZeroFrom self.now place result }
     {
-        leading_zeros(self.piece(place))
+        leading_same(self.piece(place), 0)
     }
 
     // How many pages from a place on have 0 alone, as far as these are looked at.
@@ -387,78 +402,83 @@ fn zero_pages(pool: &[u32], pages: &[u32]) -> usize
     ensures few { result ≤ length pages.now }
     ensures zeros { (k : ℕ) → k < result → IsZeroPage pool.now (get_or pages.now k 0) }
 {
-    let mut known = None;
-    for k in 0..pages.len() {
-        if !is_zero_page(pool, pages[k], known) {
-            return k;
+    let mut count = 0;
+    while count < pages.len() {
+        let page = pages[count];
+        if !is_zero_page(pool, page) {
+            return count;
         }
-        known = Some(pages[k]);
+        count += 1 + leading_same(rest_from(pages, count + 1), page);
     }
-    pages.len()
+    count
 }
 
-// Whether a page of the pool has 0 alone, as one that is known has.
-fn is_zero_page(pool: &[u32], page: u32, known: Option<u32>) -> bool
-    requires page { page + 63 ≤ length pool.now }
-    requires known { IfSome known (IsZeroPage pool.now) }
+// Whether a page of the pool has 0 alone.
+#[inline(always)]
+fn is_zero_page(pool: &[u32], page: u32) -> bool
+    requires { page + 63 ≤ length pool.now }
     ensures { IsTrue result → IsZeroPage pool.now page }
 {
-    if let Some(known) = known {
-        if known == page {
-            return true;
-        }
-    }
-    leading_zeros(rest_of_page(pool, page as usize, 0)) == PAGE
+    let from = page as usize;
+    is_block_of::<BLOCK>(pool, from, 0) && is_block_of::<BLOCK>(pool, from + PAGE - BLOCK, 0)
 }
 
-// How many of the first numbers are 0, as far as these are looked at.
-fn leading_zeros(numbers: &[u32]) -> usize
+// How many of the first numbers are this one, as far as these are looked at.
+#[inline(always)]
+fn leading_same(numbers: &[u32], number: u32) -> usize
     ensures few { result ≤ length numbers.now }
-    ensures zeros { (k : ℕ) → k < result → get_or numbers.now k 0 ≡ 0 }
+    ensures same { (k : ℕ) → k < result → get_or numbers.now k 0 ≡ number }
 {
     let end = numbers.len().min(COUNTED);
-    let blocks = zero_blocks(numbers, end);
-    zeros_before(numbers, blocks, end)
+    let blocks = same_blocks::<BLOCK>(numbers, number, 0, end);
+    let small = same_blocks::<SMALL_BLOCK>(numbers, number, blocks, end);
+    same_before(numbers, number, small, end)
 }
 
-// The end of the whole blocks of zeros from the first number on and up to an end.
-fn zero_blocks(numbers: &[u32], end: usize) -> usize
-    requires { end ≤ length numbers.now }
+// The end of the whole blocks of this number from a place on, before which all have it, and up to an end.
+#[inline(always)]
+fn same_blocks<const N: usize>(numbers: &[u32], number: u32, from: usize, end: usize) -> usize
+    requires order { from ≤ end }
+    requires within { end ≤ length numbers.now }
+    requires same { (k : ℕ) → k < from → get_or numbers.now k 0 ≡ number }
+    requires some { 0 < N }
     ensures most { result ≤ end }
-    ensures zeros { (k : ℕ) → k < result → get_or numbers.now k 0 ≡ 0 }
+    ensures same { (k : ℕ) → k < result → get_or numbers.now k 0 ≡ number }
 {
-    let mut at = 0;
-    while end - at >= BLOCK {
-        if !is_zero_block(numbers, at) {
+    let mut at = from;
+    while end - at >= N {
+        if !is_block_of::<N>(numbers, at, number) {
             return at;
         }
-        at += BLOCK;
+        at += N;
     }
     at
 }
 
-// Whether the numbers of the block that begins at a place are 0. No place is left out, so that several are compared at once.
-fn is_zero_block(numbers: &[u32], from: usize) -> bool
-    requires { from + 16 ≤ length numbers.now }
-    ensures { IsTrue result → (k : ℕ) → from ≤ k → k < from + 16 → get_or numbers.now k 0 ≡ 0 }
+// Whether each number of the block that begins at a place is this one. No place is left out, so that several are compared at once.
+#[inline(always)]
+fn is_block_of<const N: usize>(numbers: &[u32], from: usize, number: u32) -> bool
+    requires { from + N ≤ length numbers.now }
+    ensures { IsTrue result → (k : ℕ) → from ≤ k → k < from + N → get_or numbers.now k 0 ≡ number }
 {
     let mut all = true;
-    for place in from..from + BLOCK {
-        all = (numbers[place] == 0) & all;
+    for k in 0..N {
+        all = (numbers[from + k] == number) & all;
     }
     all
 }
 
-// The first place from one on, and before an end, that has another number than 0; the end where there is none.
-fn zeros_before(numbers: &[u32], from: usize, end: usize) -> usize
+// The first place from one on, and before an end, that has another number than this one; the end where there is none.
+#[inline(always)]
+fn same_before(numbers: &[u32], number: u32, from: usize, end: usize) -> usize
     requires order { from ≤ end }
     requires within { end ≤ length numbers.now }
-    requires zeros { (k : ℕ) → k < from → get_or numbers.now k 0 ≡ 0 }
+    requires same { (k : ℕ) → k < from → get_or numbers.now k 0 ≡ number }
     ensures most { result ≤ end }
-    ensures zeros { (k : ℕ) → k < result → get_or numbers.now k 0 ≡ 0 }
+    ensures same { (k : ℕ) → k < result → get_or numbers.now k 0 ≡ number }
 {
     for k in from..end {
-        if numbers[k] != 0 {
+        if numbers[k] != number {
             return k;
         }
     }
@@ -556,6 +576,9 @@ fn close(
     ensures same { paged pool.new.items pages.new.items ++ rest.new.items ≡ paged pool.old.items pages.old.items ++ rest.old.items }
     ensures none { OnOk result (rest.new.items ≡ []) }
 {
+    if rest.len() == PAGE {
+        return close_page(pool, pages, rest, remembered);
+    }
     let before = pages.len();
     if before + rest.len() / PAGE > MOST_PAGES {
         return Err(NoMemory);
@@ -570,6 +593,28 @@ fn close(
             Err(fault)
         }
     }
+}
+
+// Makes a page of the numbers after the last page, which fill one.
+#[inline(always)]
+fn close_page(
+    pool: &mut Vec<u32>,
+    pages: &mut Vec<u32>,
+    rest: &mut Vec<u32>,
+    remembered: &mut Vec<u32>,
+) -> Result<(), NoMemory>
+    requires paged { IsPaged pool.old.items pages.old.items rest.old.items }
+    requires page { length rest.old.items ≡ 63 }
+    ensures paged { IsPaged pool.new.items pages.new.items rest.new.items }
+    ensures same { paged pool.new.items pages.new.items ++ rest.new.items ≡ paged pool.old.items pages.old.items ++ rest.old.items }
+    ensures none { OnOk result (rest.new.items ≡ []) }
+{
+    if pages.len() >= MOST_PAGES {
+        return Err(NoMemory);
+    }
+    put_page(pool, pages, remembered, rest.as_slice())?;
+    rest.clear();
+    Ok(())
 }
 
 // Takes all numbers away, and their room where it is more than a page needs.
@@ -620,6 +665,7 @@ fn put_page(
     ensures stand { ArePages pool.new.items pages.new.items }
     ensures value { OnOk result (paged pool.new.items pages.new.items ≡ paged pool.old.items pages.old.items ++ numbers.now) }
     ensures many { OnOk result (length pages.new.items ≡ length pages.old.items + 1) }
+    ensures err { OnErr result (pages.new.items ≡ pages.old.items) }
 {
     let page = page_for(pool, pages.as_slice(), remembered, numbers)?;
     pages.push(page)?;
@@ -645,7 +691,7 @@ fn put_pages_of(
     if count > MOST_PAGES - pages.len() {
         return Err(NoMemory);
     }
-    let page = page_of(pool, remembered, &[number; PAGE])?;
+    let page = page_of_same(pool, remembered, number)?;
     put_same(pages, page, count)?;
     Ok(())
 }
@@ -686,7 +732,7 @@ fn copy_on(numbers: &mut [u32], place: usize, count: usize, to: usize)
     back.copy_from_slice(&front[place..place + count]);
 }
 
-// A page of the pool that has these numbers: the one that was put last, where it has them.
+// A page of the pool that has these numbers: the one that was put last, where that was put twice and has them.
 fn page_for(
     pool: &mut Vec<u32>,
     pages: &[u32],
@@ -703,12 +749,15 @@ fn page_for(
     }
 }
 
-// The page that was put last, where it has these numbers.
+// The page that was put last, where it was put twice in a row and has these numbers.
 fn last_page(pool: &[u32], pages: &[u32], numbers: &[u32]) -> Option<u32>
+    requires { length numbers.now ≡ 63 }
     ensures { IfSome result (IsPageOf pool.now numbers.now) }
 {
     match pages {
-        [.., page] if is_page(pool, *page as usize, numbers) => Some(*page),
+        [.., before, page] if before == page && is_page(pool, *page as usize, numbers) => {
+            Some(*page)
+        }
         _ => None,
     }
 }
@@ -730,8 +779,37 @@ fn page_of(pool: &mut Vec<u32>, remembered: &mut Vec<u32>, numbers: &[u32]) -> R
     Ok(page)
 }
 
+// The same for a page of one number.
+fn page_of_same(
+    pool: &mut Vec<u32>,
+    remembered: &mut Vec<u32>,
+    number: u32,
+) -> Result<u32, NoMemory>
+    ensures grown { IsGrown pool.old.items pool.new.items }
+    ensures page { IfOk result (IsPageOf pool.new.items (replicate 63 number)) }
+{
+    if let Some(guess) = remembered.get(place_of_same(number)) {
+        if is_page_of_same(pool.as_slice(), *guess as usize, number) {
+            return Ok(*guess);
+        }
+    }
+    page_of(pool, remembered, &[number; PAGE])
+}
+
+// Whether this is the one number of the page that begins at a place of the pool.
+fn is_page_of_same(pool: &[u32], page: usize, number: u32) -> bool
+    ensures { IsTrue result → IsPageOf pool.now (replicate 63 number) page }
+{
+    if pool.len() < PAGE || page > pool.len() - PAGE {
+        return false;
+    }
+    is_block_of::<BLOCK>(pool, page, number)
+        && is_block_of::<BLOCK>(pool, page + PAGE - BLOCK, number)
+}
+
 // Whether these are the numbers of the page that begins at a place of the pool.
 fn is_page(pool: &[u32], page: usize, numbers: &[u32]) -> bool
+    requires { length numbers.now ≡ 63 }
     ensures { IsTrue result → IsPageOf pool.now numbers.now page }
 {
     if pool.len() < PAGE || page > pool.len() - PAGE {
@@ -740,10 +818,28 @@ fn is_page(pool: &[u32], page: usize, numbers: &[u32]) -> bool
     are_equal(&pool[page..page + PAGE], numbers)
 }
 
+// Whether two pages have the same numbers.
+#[inline(always)]
 fn are_equal(xs: &[u32], ys: &[u32]) -> bool
-    ensures { IsTrue result ↔ (xs.now ≡ ys.now) }
+    requires xs { length xs.now ≡ 63 }
+    requires ys { length ys.now ≡ 63 }
+    ensures { IsTrue result → xs.now ≡ ys.now }
 {
-    xs == ys
+    is_same_block(xs, ys, 0) && is_same_block(xs, ys, PAGE - BLOCK)
+}
+
+// Whether the numbers of the block that begins at a place are the same. No place is left out, so that several are compared at once.
+#[inline(always)]
+fn is_same_block(xs: &[u32], ys: &[u32], from: usize) -> bool
+    requires xs { from + 32 ≤ length xs.now }
+    requires ys { from + 32 ≤ length ys.now }
+    ensures { IsTrue result → (k : ℕ) → from ≤ k → k < from + 32 → get_or xs.now k 0 ≡ get_or ys.now k 0 }
+{
+    let mut all = true;
+    for k in 0..BLOCK {
+        all = (xs[from + k] == ys[from + k]) & all;
+    }
+    all
 }
 
 // Puts a page at the end of the pool.
@@ -769,6 +865,21 @@ fn remembered_place(numbers: &[u32]) -> usize
         sum = sum.wrapping_add(numbers[k].wrapping_mul(weight(k as u32)));
     }
     (sum >> 20) as usize
+}
+
+// Where a page of one number is remembered.
+fn place_of_same(number: u32) -> usize {
+    (number.wrapping_mul(sum_of_weights()) >> 20) as usize
+}
+
+// The sum of the weights of all places.
+#[inline(always)]
+fn sum_of_weights() -> u32 {
+    let mut sum: u32 = 0;
+    for k in 0..PAGE {
+        sum = sum.wrapping_add(weight(k as u32));
+    }
+    sum
 }
 
 // A weight for each place of a page.

@@ -1,5 +1,6 @@
-use Rattle.std.proofs.Common.{◌≡◌, length, arith, refl}
-use Rattle.rr_fold.proofs.CombinedLemmas.{all_combined, combined_none}
+use Rattle.std.proofs.Common.{◌≡◌, ◌≤◌, ◌∙◌, ℕ, length, arith, refl}
+use Rattle.rr_fold.specs.Combined.{AreFreeTo}
+use Rattle.rr_fold.proofs.CombinedLemmas.{all_combined, combined_none, free_later, none_free}
 use Rattle.rr_fold.proofs.combined.combined.Goals as goal
 
 pub loop-place-init : goal.loop-place-init
@@ -7,7 +8,12 @@ loop-place-init c =
     let sets = c.in_ok-sets.sets in
     let none = combined_none c.args.op c.args.one.now.shapes c.args.one.now.numbers c.args.other.now.shapes c.args.other.now.numbers sets.known sets.shapes
     c.in_ok-sets.ensures.known c.in_ok-sets.ensures.shapes in
-    rw c.new-numbers.ensures (none, refl, omega arith)
+    let e = c.reserve.ensures ∙ c.new-numbers.ensures in
+    let free : AreFreeTo c.args.one.now.numbers c.args.other.now.numbers 0 (record { one = 0; other = 0 }) = record {
+      one = none_free c.args.one.now.numbers 0 (omega arith);
+      other = none_free c.args.other.now.numbers 0 (omega arith);
+    } in
+    rw e (none, refl, omega arith, free)
 
 pub push_next-requires-clause-lists : goal.push_next-requires-clause-lists
 push_next-requires-clause-lists c = record {
@@ -18,15 +24,29 @@ push_next-requires-clause-lists c = record {
   other_within = c.requires.others;
 }
 
+pub push_next-requires-clause-free : goal.push_next-requires-clause-free
+push_next-requires-clause-free c = rw c.loop-place.invariant.1 at c.loop-place.invariant.3
+
 pub push_next-requires-clause-within : goal.push_next-requires-clause-within
 push_next-requires-clause-within c = omega (arith, c.loop-place-test.true, c.loop-place.invariant.1, c.len-end.ensures.value)
 
 pub loop-place-preserved : goal.loop-place-preserved
-loop-place-preserved c = (
-  c.in_ok-push_next.ensures.so_far,
-  c.len-place.ensures.value,
-  omega (arith, c.len-place.ensures.value, c.in_ok-push_next.ensures.within),
-)
+loop-place-preserved c =
+    let one = c.args.one.now.numbers in
+    let other = c.args.other.now.numbers in
+    let old = c.loop-place.numbers in
+    let place : ℕ = c.len-place.result in
+    let later : length old ≤ place = omega (arith, c.len-place.ensures.value, c.in_ok-push_next.ensures.more) in
+    let high : place ≤ length one = omega (arith, c.len-place.ensures.value, c.in_ok-push_next.ensures.within) in
+    let free = c.push_next.ensures.free in (
+      c.in_ok-push_next.ensures.so_far,
+      c.len-place.ensures.value,
+      high,
+      record {
+        one = free_later one (length old) place _ later high free.one;
+        other = free_later other (length old) place _ later (omega (arith, high, c.requires.long)) free.other;
+      },
+    )
 
 pub loop-place-smaller : goal.loop-place-smaller
 loop-place-smaller c =

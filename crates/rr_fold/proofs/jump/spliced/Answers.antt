@@ -1,14 +1,15 @@
-use Rattle.std.proofs.Common.{◌≡◌, ◌≤◌, ℕ, ◌+◌, ◌-◌, ◌*◌, length, refl, ap, arith}
+use Rattle.std.proofs.Common.{◌≡◌, ◌≤◌, ℕ, ◌+◌, ◌-◌, ◌*◌, length, refl, ap, ◌∙◌, arith}
 use Rattle.rr_fold.proofs.SplicedLemmas.{all_spliced, length_put, more_cycles, one_cycle}
 use Rattle.rr_fold.proofs.jump.spliced.Goals as goal
 
 pub loop-done-init : goal.loop-done-init
 loop-done-init c =
     let numbers = c.args.numbers.now in
-    let none = ap length c.new-new.ensures in
+    let empty = c.reserve.ensures ∙ c.new-new.ensures in
+    let none = ap length empty in
     let room = c.requires.long in
-    let size = length_put c.new-new.result numbers c.push_from.new.self 0 (c.args.cycle + 1) (omega (arith, room)) c.in_ok-push_from.ensures in (
-      one_cycle numbers c.args.cycle c.requires.some c.new-new.result c.push_from.new.self room c.new-new.ensures c.in_ok-push_from.ensures,
+    let size = length_put c.reserve.new.self numbers c.push_from.new.self 0 (c.args.cycle + 1) (omega (arith, room)) c.in_ok-push_from.ensures in (
+      one_cycle numbers c.args.cycle c.requires.some c.reserve.new.self c.push_from.new.self room empty c.in_ok-push_from.ensures,
       omega (arith, size, none),
       omega arith,
       omega arith,
@@ -39,4 +40,4 @@ returns c =
     let n : ℕ = length c.args.numbers.now - c.args.cycle - 1 in
     let size : length c.loop-done.new ≡ c.args.cycles * c.args.cycle + c.args.cycle + 1 = omega (arith, i.1, i.2, c.loop-done-test.false) in
     all_spliced c.args.numbers.now c.args.cycle c.requires.some c.args.cycles c.loop-done.new c.push_from-2.new.self n c.requires.long i.0 size refl
-    (rw c.len.ensures.value at c.in_ok-push_from-2.ensures)
+    (rw c.len-2.ensures.value at c.in_ok-push_from-2.ensures)

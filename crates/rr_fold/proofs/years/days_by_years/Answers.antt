@@ -12,6 +12,17 @@ use Rattle.rr_fold.proofs.FineYearLemmas.{equal_slots_have_equal_days}
 use Rattle.rr_fold.proofs.WalkLemmas.{nothing_walked}
 use Rattle.rr_fold.proofs.years.days_by_years.Goals as goal
 
+pub days_between-requires-clause-order : goal.days_between-requires-clause-order
+days_between-requires-clause-order c =
+    let day = day_back c.args.kind c.args.start c.day_part-first.result c.requires.in_years c.day_part-first.ensures in
+    omega (arith, ints, day, c.requires.order)
+
+pub days_between-requires-clause-first : goal.days_between-requires-clause-first
+days_between-requires-clause-first c =
+    let day = day_back c.args.kind c.args.start c.day_part-first.result c.requires.in_years c.day_part-first.ensures in
+    let bounds = four_digit_bounds (day_part c.args.kind c.args.start) c.requires.in_years in
+    omega (arith, ints, day, bounds.0)
+
 pub walk_by_years-requires-clause-low : goal.walk_by_years-requires-clause-low
 walk_by_years-requires-clause-low c =
     let day = day_back c.args.kind c.args.start c.day_part-first.result c.requires.in_years c.day_part-first.ensures in

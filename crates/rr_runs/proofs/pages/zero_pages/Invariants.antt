@@ -1,8 +1,10 @@
-use Rattle.std.proofs.Common.{◌<◌, ℕ, get_or}
-use Rattle.std.specs.Prelude.{IfSome}
+use Rattle.std.proofs.Common.{◌<◌, ◌≤◌, ◌-◌, ℕ, get_or, length}
 use Rattle.rr_runs.specs.Pages.{IsZeroPage}
 use Rattle.rr_runs.proofs.pages.zero_pages.Given as goal
 
--- the pages so far have 0 alone, and the one that is known
-abbrev pub invariant-loop-k : goal.invariant-loop-k
-invariant-loop-k l = ((i : ℕ) → i < l.k → IsZeroPage l.pool (get_or l.pages i 0)) × IfSome l.known (IsZeroPage l.pool)
+-- so many pages have 0 alone
+abbrev pub invariant-loop-count : goal.invariant-loop-count
+invariant-loop-count l = (l.count ≤ length l.pages) × ((k : ℕ) → k < l.count → IsZeroPage l.pool (get_or l.pages k 0))
+
+abbrev pub decreases-loop-count : goal.decreases-loop-count
+decreases-loop-count l = length l.pages - l.count

@@ -29,8 +29,8 @@ loop-k-preserved c =
     let new = c.push.new.self in
     let so_far = c.loop-k.invariant.0 in
     let at = c.loop-k.invariant.2 in
-    let in_ones : k < length c.piece-ones.result.now = omega (arith, c.loop-k-test.true, c.min-k-end.ensures) in
-    let in_others : k < length c.piece-others.result.now = omega (arith, c.loop-k-test.true, c.min-k-end.ensures) in
+    let in_ones : k < length c.piece-ones.result.now = omega (arith, c.loop-k-test.true, c.stretch_len-k-end.ensures.ones) in
+    let in_others : k < length c.piece-others.result.now = omega (arith, c.loop-k-test.true, c.stretch_len-k-end.ensures.others) in
     let a : get_or c.piece-ones.result.now k 0 ≡ get_or one.numbers n 0 = c.piece-ones.ensures.same k in_ones in
     let b : get_or c.piece-others.result.now k 0 ≡ get_or other.numbers n 0 = c.piece-others.ensures.same k in_others in
     elim c.if-last-a.branch [
