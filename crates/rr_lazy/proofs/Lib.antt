@@ -4,6 +4,7 @@ pub mod CountingLemmas
 pub mod TreeLemmas
 pub mod FirstLemmas
 pub mod AheadLemmas
+mod PositionLemmas
 mod UptoLemmas
 pub mod StretchLemmas
 mod ManyLemmas
