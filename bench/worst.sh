@@ -26,6 +26,10 @@ series dense-later 20240101T000100 "FREQ=MINUTELY;INTERVAL=113;$months"
 series dense-years 20240101 "FREQ=YEARLY;INTERVAL=113;$months;$every_day"
 series last-workdays 20240131 'FREQ=MONTHLY;INTERVAL=113;BYDAY=MO,TU,WE,TH,FR;BYSETPOS=-1'
 several beside 20240101 'FREQ=MONTHLY;INTERVAL=113' 'FREQ=DAILY'
+# another time set on each of 16.5 million days, whose canonical texts have 132 to 200 megabytes
+several hours 20240101T000000 'FREQ=MONTHLY;INTERVAL=113' 'FREQ=HOURLY;INTERVAL=7'
+several minutes 20240101T000000 "FREQ=SECONDLY;INTERVAL=113;$months" 'FREQ=MONTHLY;INTERVAL=113'
+series counted-seconds 20240101T000000 'FREQ=SECONDLY;INTERVAL=86399;COUNT=16777000'
 # the sets of seconds of a day: many, large, and in turns
 series seconds 20240101T000000 'FREQ=SECONDLY;INTERVAL=86399'
 series january 20240101T000000 'FREQ=SECONDLY;BYMONTH=1'
@@ -52,6 +56,9 @@ measure 10 1 'canon, a long and a daily rule' canon "rrule:$scratch/beside"
 measure 10 1 'equal, each 86,399 seconds' equal "rrule:$scratch/seconds" "rrule:$scratch/seconds"
 measure 10 1 'equal, each second of January' equal "rrule:$scratch/january" "rrule:$scratch/january"
 measure 10 1 'canon, 113 sets that take turns' canon "rrule:$scratch/turns"
+measure 10 1 'canon, seven hours beside a long rule' canon "rrule:$scratch/hours"
+measure 10 1 'canon, 113 seconds beside a long rule' canon "rrule:$scratch/minutes"
+measure 10 1 'canon, a text of 200 megabytes' canon "rrule:$scratch/counted-seconds"
 measure 10 1 'equal, counted rules and 10,000 dates' equal "rrule:$scratch/sixteen" "rrule:$scratch/sixteen"
 measure 10 1 'infer, 582 leap days and a date' infer "rrule:$scratch/leap-days"
 { echo DTSTART:20240101; yes RDATE:20240102 | head -n 10000; yes "X-NOTE:$numbers" | head -n 4900; } >"$scratch/megabyte"
