@@ -30,9 +30,9 @@ use Rattle.rr_model.specs.declared.vcal.FamilyKind.{FamilyKind}
 use Rattle.rr_model.specs.declared.vcal.FamilyKind.TheVariants as family
 use Rattle.rr_model.specs.declared.item.Item.{Item}
 use Rattle.rr_model.specs.declared.vcal.VRule.{VRule}
-use Rattle.rr_counterparts.proofs.CounterpartProofs.{same_choices}
-use Rattle.rr_counterparts.proofs.MemberLemmas.{AreItemsOf, items_by_recursion, values-none, every-none, weekday-none}
-use Rattle.rr_counterparts.proofs.ValidRuleLemmas.{counterpart_is_valid}
+use Rattle.rr_vcal_laws.proofs.CounterpartProofs.{same_choices}
+use Rattle.rr_vcal_laws.proofs.MemberLemmas.{AreItemsOf, items_by_recursion, values-none, every-none, weekday-none}
+use Rattle.rr_vcal_laws.proofs.ValidRuleLemmas.{counterpart_is_valid}
 use Rattle.rr_graph.proofs.ValidRuleLemmas.{pattern_counterpart_is_valid}
 use Rattle.rr_graph.proofs.PatternLemmas.{pattern_chooses}
 use Rattle.rr_graph.proofs.ValidPatternLemmas.{used_members}

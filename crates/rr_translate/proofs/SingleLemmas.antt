@@ -27,7 +27,7 @@ use Rattle.rr_model.specs.declared.rule.Rule.{Rule}
 use Rattle.rr_model.specs.declared.vcal.VRule.{VRule}
 use Rattle.rr_model.specs.declared.vcal.VSeries.{VSeries}
 use Rattle.rr_model.proofs.RisingSetLemmas.{Contains-none}
-use Rattle.rr_counterparts.proofs.CounterpartProofs.{counterpart_has_members}
+use Rattle.rr_vcal_laws.proofs.CounterpartProofs.{counterpart_has_members}
 use Rattle.rr_rrule.proofs.WrittenSeriesLemmas.{calendar_is_read_back}
 use Rattle.rr_vcal.proofs.OccurrenceLemmas.{counterpart_has_occurrences}
 use Rattle.rr_vcal.proofs.ReadBackProofs.{vcal_read_back}

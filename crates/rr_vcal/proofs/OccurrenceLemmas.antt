@@ -9,7 +9,7 @@ use Rattle.rr_model.specs.Vcal.Members.{IsVcalMemberOfSome}
 use Rattle.rr_model.specs.Vcal.Validity.{IsValidVRule}
 use Rattle.rr_model.specs.declared.kind.Kind.{Kind}
 use Rattle.rr_model.specs.declared.vcal.VRule.{VRule}
-use Rattle.rr_counterparts.proofs.CounterpartProofs.{counterpart_has_members}
+use Rattle.rr_vcal_laws.proofs.CounterpartProofs.{counterpart_has_members}
 
 module _ (kind : Kind) (start t : ℤ) where
   some_member : (rules : List VRule) → AllByRecursion IsValidVRule rules → IsVcalMemberOfSome kind start t rules

@@ -18,7 +18,7 @@ use Rattle.std.proofs.lemmas.Int.{ints, to_z-of_z}
 use Rattle.rr_model.specs.declared.kind.Kind.TheVariants.{Days, Moments}
 use Rattle.rr_model.proofs.WholeLemmas.{floor_whole, floor_mod_below}
 use Rattle.rr_model.proofs.YearLemmas.{year_1, year_10000}
-use Rattle.rr_counterparts.proofs.ValidRuleLemmas.{counterpart_is_valid}
+use Rattle.rr_vcal_laws.proofs.ValidRuleLemmas.{counterpart_is_valid}
 
 abbrev EndIsInYears : Rule → Type 0
 EndIsInYears rule = EndsInYears rule.end

@@ -6,7 +6,7 @@ ghost use Rattle.rr_model.specs.Rising.{day_item_lt};
 ghost use Rattle.rr_model.specs.Rule.Validity.{IsValidRule};
 ghost use Rattle.rr_model.specs.Vcal.Counterpart.{family_freq, values_of, day_of_item, month_of_item, month_day_of_item, year_day_of_item, month_days_of, rule_of_vrule};
 ghost use Rattle.rr_model.specs.Vcal.Validity.{IsValidVRule};
-ghost use Rattle.rr_counterparts.specs.Numbers.{HasDayOfYear};
+ghost use Rattle.rr_vcal_laws.specs.Numbers.{HasDayOfYear};
 
 use rr_cal::date_of;
 use rr_model::{

@@ -1,5 +1,5 @@
 use Rattle.rr_model.specs.Rule.Validity.{IsValidRule}
-use Rattle.rr_counterparts.proofs.ValidRuleLemmas.{counterpart_is_valid, IfOk-of_value}
+use Rattle.rr_vcal_laws.proofs.ValidRuleLemmas.{counterpart_is_valid, IfOk-of_value}
 use Rattle.rr_vcal.proofs.counterpart.to_rule.Goals as goal
 
 pub returns-clause-valid : goal.returns-clause-valid

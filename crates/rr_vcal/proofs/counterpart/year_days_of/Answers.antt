@@ -1,6 +1,6 @@
 use Rattle.std.proofs.Common.{subst}
 use Rattle.rr_model.specs.declared.item.Item.TheVariants.{Every}
-use Rattle.rr_counterparts.specs.Numbers.{HasDayOfYear}
+use Rattle.rr_vcal_laws.specs.Numbers.{HasDayOfYear}
 use Rattle.rr_vcal.proofs.counterpart.year_days_of.Goals as goal
 
 pub as_number-requires : goal.as_number-requires

@@ -1,4 +1,4 @@
-use Rattle.rr_counterparts.proofs.CounterpartProofs.{counterpart_is_synchronised as law}
+use Rattle.rr_vcal_laws.proofs.CounterpartProofs.{counterpart_is_synchronised as law}
 use Rattle.rr_vcal.proofs.laws.counterpart_is_synchronised.Goals as goal
 
 pub returns : goal.returns

@@ -18,9 +18,9 @@ use Rattle.rr_model.specs.declared.vcal.FamilyKind.{FamilyKind}
 use Rattle.rr_model.specs.declared.vcal.FamilyKind.TheVariants as family
 use Rattle.rr_model.specs.declared.item.Item.{Item}
 use Rattle.rr_model.specs.declared.vcal.VRule.{VRule}
-use Rattle.rr_counterparts.proofs.MemberLemmas.{AreItemsOf, items_by_recursion, daily_choice, weekly_choice}
-use Rattle.rr_counterparts.proofs.MonthlyLemmas.{by_day_choice, by_position_choice}
-use Rattle.rr_counterparts.proofs.YearlyLemmas.{by_month_choice, by_year_day_choice}
+use Rattle.rr_vcal_laws.proofs.MemberLemmas.{AreItemsOf, items_by_recursion, daily_choice, weekly_choice}
+use Rattle.rr_vcal_laws.proofs.MonthlyLemmas.{by_day_choice, by_position_choice}
+use Rattle.rr_vcal_laws.proofs.YearlyLemmas.{by_month_choice, by_year_day_choice}
 
 abbrev rule_with : FamilyKind → ℕ → List Item → End → VRule
 rule_with f interval items end = record { family = f; interval = interval; items = items; end = end }

@@ -27,7 +27,7 @@ use Rattle.rr_model.specs.declared.vcal.FamilyKind.TheVariants as family
 use Rattle.rr_model.specs.declared.item.Item.{Item}
 use Rattle.rr_model.specs.declared.item.Item.TheVariants.{Every, Weekday, MonthDay, Place, Month, YearDay}
 use Rattle.rr_model.specs.declared.vcal.VRule.{VRule}
-use Rattle.rr_counterparts.proofs.CounterpartLemmas.{holds_of, time_parts, any-values_of}
+use Rattle.rr_vcal_laws.proofs.CounterpartLemmas.{holds_of, time_parts, any-values_of}
 
 -- ---- the parts of the two tests
 

@@ -23,10 +23,10 @@ use Rattle.rr_model.specs.declared.vcal.FamilyKind.TheVariants as family
 use Rattle.rr_model.specs.declared.vcal.VRule.{VRule}
 use Rattle.rr_model.proofs.CalendarLemmas.{IsDate-year_of, days_in_month_bounds}
 use Rattle.rr_model.proofs.RisingLemmas.{All-with_value, Rises-with_value}
-use Rattle.rr_counterparts.specs.Numbers.{HasDayOfYear}
-use Rattle.rr_counterparts.proofs.CounterpartLemmas.{holds_of, any-values_of}
-use Rattle.rr_counterparts.proofs.MemberLemmas.{AreItemsOf, values-none, every-none, weekday-none, day_item-same, items_by_recursion}
-use Rattle.rr_counterparts.proofs.MonthlyLemmas.{month_day-none, place-none}
+use Rattle.rr_vcal_laws.specs.Numbers.{HasDayOfYear}
+use Rattle.rr_vcal_laws.proofs.CounterpartLemmas.{holds_of, any-values_of}
+use Rattle.rr_vcal_laws.proofs.MemberLemmas.{AreItemsOf, values-none, every-none, weekday-none, day_item-same, items_by_recursion}
+use Rattle.rr_vcal_laws.proofs.MonthlyLemmas.{month_day-none, place-none}
 
 -- ---- the numbers of items
 

@@ -21,9 +21,9 @@ use Rattle.rr_model.specs.declared.vcal.FamilyKind.TheVariants as family
 use Rattle.rr_model.specs.declared.item.Item.{Item}
 use Rattle.rr_model.specs.declared.item.Item.TheVariants.{Every, Weekday, MonthDay, Place, Month, YearDay}
 use Rattle.rr_model.specs.declared.vcal.VRule.{VRule}
-use Rattle.rr_counterparts.proofs.CounterpartLemmas.{holds_of, int_eq-pos, or_none}
-use Rattle.rr_counterparts.proofs.MemberLemmas.{same_choice, AreItemsOf, GivesNone, and_true, values-none, present-values_of}
-use Rattle.rr_counterparts.proofs.MonthlyLemmas.{lists-values, from_back}
+use Rattle.rr_vcal_laws.proofs.CounterpartLemmas.{holds_of, int_eq-pos, or_none}
+use Rattle.rr_vcal_laws.proofs.MemberLemmas.{same_choice, AreItemsOf, GivesNone, and_true, values-none, present-values_of}
+use Rattle.rr_vcal_laws.proofs.MonthlyLemmas.{lists-values, from_back}
 
 -- a number counted from the front is none counted from the back
 never_back : (n : ℕ) (b : ℤ) → b <ℤ pos 0 → int_eq (pos n) b ≡ false
