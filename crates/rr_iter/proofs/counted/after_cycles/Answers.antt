@@ -4,10 +4,8 @@ use Rattle.rr_model.specs.Moment.{day_part}
 use Rattle.rr_model.specs.Moment.Years.{IsFromYearOne}
 use Rattle.rr_model.specs.Rule.Cycle.{rule_cycle}
 use Rattle.rr_model.specs.Sets.Tree.{chosen_of}
-use Rattle.rr_model.specs.declared.kind.Kind.{Kind}
-use Rattle.rr_model.specs.declared.rule.Rule.{Rule}
 use Rattle.rr_model.proofs.YearLemmas.{year_1}
-use Rattle.rr_iter.specs.Ends.{HasNumberOn, IsSoundRule}
+use Rattle.rr_iter.specs.Ends.{HasNumberOn}
 use Rattle.rr_iter.proofs.CountedLemmas.{rule_number_moved, rule_number_beyond, rule_number_after, start_bounds, cycle_some, days_within}
 use Rattle.rr_iter.proofs.CountedLemmas.{days_beyond}
 use Rattle.rr_iter.proofs.counted.after_cycles.Goals.{After-day_part, In-On}
