@@ -1,4 +1,4 @@
-use Rattle.std.proofs.Common.{rules, ◌≡◌, ◌+ℤ◌, pos, Ok, Some, arith, to_z-of_z}
+use Rattle.std.proofs.Common.{rules, ◌+ℤ◌, pos, Ok, Some, arith, to_z-of_z}
 use Rattle.std.proofs.lemmas.Int.{ints}
 use Rattle.rr_model.specs.Sets.Tree.{without}
 use Rattle.rr_lazy.specs.Next.{HasNone, IsNextIn}

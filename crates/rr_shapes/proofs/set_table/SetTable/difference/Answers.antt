@@ -1,4 +1,4 @@
-use Rattle.std.proofs.Common.{◌≡◌, ◌<◌, Some, length, slice_get, sym, subst}
+use Rattle.std.proofs.Common.{◌≡◌, Some, slice_get, sym, subst}
 use Rattle.std.proofs.lemmas.List.Elements.{All-contains}
 use Rattle.std.proofs.lemmas.Option.{slice_get_within}
 use Rattle.rr_shapes.specs.Tables.{Extends, IsDifference, IsTable}
@@ -34,7 +34,8 @@ pub invariant_of-self-3 : goal.invariant_of-self-3
 invariant_of-self-3 c = table (goal.at.invariant_of-self-3 c).After-put
 
 pub returns-clause-within : goal.returns-clause-within
-returns-clause-within c = slice_get_within c.self-2.inside.sets.keys c.in_ok-number.number c.in_ok-left.left (placed (goal.at.returns-clause-within c).After-put)
+returns-clause-within c =
+    slice_get_within c.self-2.inside.sets.keys c.in_ok-number.number c.in_ok-left.left (placed (goal.at.returns-clause-within c).After-put)
 
 pub returns-clause-difference : goal.returns-clause-difference
 returns-clause-difference c =

@@ -38,7 +38,8 @@ pub invariant_of-self-3 : goal.invariant_of-self-3
 invariant_of-self-3 c = table (goal.at.invariant_of-self-3 c).After-put
 
 pub returns-clause-within : goal.returns-clause-within
-returns-clause-within c = slice_get_within c.self-2.inside.sets.keys c.in_ok-number.number c.in_ok-both.both (placed (goal.at.returns-clause-within c).After-put)
+returns-clause-within c =
+    slice_get_within c.self-2.inside.sets.keys c.in_ok-number.number c.in_ok-both.both (placed (goal.at.returns-clause-within c).After-put)
 
 pub returns-clause-union : goal.returns-clause-union
 returns-clause-union c =
