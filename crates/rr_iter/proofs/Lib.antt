@@ -1,4 +1,5 @@
 pub mod WalkLemmas
+mod WholeUnitLemmas
 pub mod DayListLemmas
 pub mod StepLemmas
 pub mod FineLemmas

@@ -2,11 +2,11 @@
 use Rattle.std.proofs.Common.{◌≡◌, ℕ, suc, ◌+◌, ◌*◌, ◌/◌, ◌%◌, ◌<◌, ◌≤◌, Bool, true, false, List, [], length, get_or, ℤ, pos, ◌≤ℤ◌, ◌<ℤ◌, refl, sym, ap, ◌∙◌, subst, inl, inr, arith}
 use Rattle.std.specs.Prelude.{◌⊎◌, Option, Some, None, int_lt, nat_lt}
 use Rattle.std.specs.Option.{is_some}
-use Rattle.std.proofs.lemmas.Bool.{cases_lt}
+use Rattle.std.proofs.lemmas.Bool.{cases_lt, false≢true}
 use Rattle.std.proofs.lemmas.Int.{ints}
 use Rattle.std.proofs.Math.Nat.{suc-mul, mul-zero, mul-le-mul_right, mod-add-div, mul_comm}
 use Rattle.rr_model.specs.Moment.{day_part, moment_at}
-use Rattle.rr_model.specs.Moment.Units.{is_whole_days}
+use Rattle.rr_model.specs.Moment.Units.{is_whole_days, unit_number}
 use Rattle.rr_model.specs.Rising.{Rises}
 use Rattle.rr_model.specs.Rising.Sets.{IsSetOf}
 use Rattle.rr_model.specs.Rule.Chosen.{is_chosen}
@@ -14,13 +14,16 @@ use Rattle.rr_model.specs.Rule.DaysAndTimes.{IsCandidateDay, IsCandidateTime}
 use Rattle.rr_model.specs.Rule.Validity.{is_absent}
 use Rattle.rr_model.specs.Sets.Tree.{Tree, chosen_of, stands_at}
 use Rattle.rr_model.specs.declared.kind.Kind.{Kind}
+use Rattle.rr_model.specs.declared.kind.Kind.TheVariants.{Days}
 use Rattle.rr_model.specs.declared.rule.Rule.{Rule}
 use Rattle.rr_model.proofs.RisingSetLemmas.{Contains-none, set_empty}
 use Rattle.rr_setpos.specs.Nth.{IsPlaceOf, IsRankOf}
 use Rattle.rr_expand.specs.Years.{Filling}
 use Rattle.rr_lazy.specs.Next.{with_set}
 use Rattle.rr_lazy.specs.declared.occupied_day.OccupiedDay.{OccupiedDay}
-use Rattle.rr_iter.specs.Ruling.{AreUnitDays, IsSameRuling, IsUnrolled, Ruling}
+use Rattle.rr_iter.specs.Ruling.{AreUnitDays, IsSameRuling, IsUnrolled, IsWholeUnit, Ruling}
+use Rattle.rr_iter.specs.declared.day_rule.DayInUnit.{DayInUnit}
+use Rattle.rr_iter.specs.declared.day_rule.WholeUnit.{WholeUnit}
 use Rattle.rr_iter.specs.SetPositions.{HasOneOn, HasPositionOn, IsAtSome, IsDayOfPosition, IsNextPlace, IsPositionOn}
 use Rattle.rr_iter.specs.Walk.{IsFirstInIn, IsFirstOf, IsFirstOfIn, IsOnDay, IsOnDayIn}
 use Rattle.rr_iter.proofs.DayListLemmas.{PassedDays, passed_all, passed_found}
@@ -190,17 +193,71 @@ module _ (r : Ruling) (coarse : is_whole_days r.rule.freq ≡ true) (stands : is
 
 -- ---- the unit that is held
 
--- its days are put in place of those of another
-pub held_unrolled : (r : Ruling) (start_day : ℤ) (start_second : ℕ) (times : List ℕ) (allowed listed : Filling) (is_held : Bool) (unit next : ℤ) (days made : List ℤ)
-    → IsUnrolled r start_day start_second times allowed is_held unit days → listed ≡ allowed
-    → IsSetOf int_lt made (IsCandidateDay r.rule (day_part r.kind r.start) next) → IsUnrolled r start_day start_second times listed true next made
-held_unrolled r start_day start_second times allowed listed is_held unit next days made u e set = record {
+-- the days that are allowed are the same
+pub allowed_unrolled : (r : Ruling) (start_day : ℤ) (start_second : ℕ) (times : List ℕ) (allowed other : Filling) (own_unit : ℤ) (last : DayInUnit)
+    (unit : WholeUnit) (is_held : Bool) (days : List ℤ) → IsUnrolled r start_day start_second times allowed own_unit last unit is_held days
+    → other ≡ allowed → IsUnrolled r start_day start_second times other own_unit last unit is_held days
+allowed_unrolled r start_day start_second times allowed other own_unit last unit is_held days u e =
+    subst (λ a. IsUnrolled r start_day start_second times a own_unit last unit is_held days) (sym e) u
+
+-- a rule is the same as itself
+pub same_is : (new old : Ruling) → new ≡ old → IsSameRuling new old
+same_is new old e = record { rule = ap (λ r. r.rule) e; kind = ap (λ r. r.kind) e; start = ap (λ r. r.start) e }
+
+-- another day and its unit are kept
+pub asked_unrolled : (r : Ruling) (start_day : ℤ) (start_second : ℕ) (times : List ℕ) (allowed : Filling) (own_unit : ℤ)
+    (last next : DayInUnit) (unit : WholeUnit) (is_held : Bool) (days : List ℤ)
+    → IsUnrolled r start_day start_second times allowed own_unit last unit is_held days
+    → next.unit ≡ unit_number r.rule.freq r.rule.week_start Days next.day
+    → IsUnrolled r start_day start_second times allowed own_unit next unit is_held days
+asked_unrolled r start_day start_second times allowed own_unit last next unit is_held days u e = record {
+  freq = u.freq;
+  valid = u.valid;
+  of_day = u.of_day;
+  of_second = u.of_second;
+  of_times = u.of_times;
+  of_allowed = u.of_allowed;
+  of_own = u.of_own;
+  of_last = e;
+  of_unit = u.of_unit;
+  held = u.held;
+}
+
+-- another unit is entered
+pub entered_unrolled : (r : Ruling) (start_day : ℤ) (start_second : ℕ) (times : List ℕ) (allowed listed : Filling) (own_unit : ℤ)
+    (last : DayInUnit) (unit next : WholeUnit) (is_held : Bool) (days made : List ℤ)
+    → IsUnrolled r start_day start_second times allowed own_unit last unit is_held days → listed ≡ allowed → IsWholeUnit r.rule.freq r.rule.week_start next
+    → IsUnrolled r start_day start_second times listed own_unit last next false made
+entered_unrolled r start_day start_second times allowed listed own_unit last unit next is_held days made u e at = record {
   freq = u.freq;
   valid = u.valid;
   of_day = u.of_day;
   of_second = u.of_second;
   of_times = u.of_times;
   of_allowed = e ∙ u.of_allowed;
+  of_own = u.of_own;
+  of_last = u.of_last;
+  of_unit = at;
+  held = λ h. absurd (false≢true h);
+}
+
+-- its days are put in place of those of another
+pub held_unrolled : (r : Ruling) (start_day : ℤ) (start_second : ℕ) (times : List ℕ) (allowed listed : Filling) (own_unit : ℤ)
+    (last : DayInUnit) (unit next : WholeUnit) (is_held : Bool) (days made : List ℤ)
+    → IsUnrolled r start_day start_second times allowed own_unit last unit is_held days → listed ≡ allowed
+    → IsWholeUnit r.rule.freq r.rule.week_start next
+    → IsSetOf int_lt made (IsCandidateDay r.rule (day_part r.kind r.start) next.number)
+    → IsUnrolled r start_day start_second times listed own_unit last next true made
+held_unrolled r start_day start_second times allowed listed own_unit last unit next is_held days made u e at set = record {
+  freq = u.freq;
+  valid = u.valid;
+  of_day = u.of_day;
+  of_second = u.of_second;
+  of_times = u.of_times;
+  of_allowed = e ∙ u.of_allowed;
+  of_own = u.of_own;
+  of_last = u.of_last;
+  of_unit = at;
   held = λ h. set;
 }
 

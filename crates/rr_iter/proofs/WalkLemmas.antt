@@ -42,7 +42,7 @@ start_near kind start day e y = (omega (arith, ints, e, y.0), omega (arith, ints
 -- ---- units
 
 -- each unit of days has a day
-unit_some : (freq : Freq) (w : ℕ) (u : ℤ) → is_whole_days freq ≡ true → unit_start freq w Days u <ℤ unit_start freq w Days (u +ℤ pos 1)
+pub unit_some : (freq : Freq) (w : ℕ) (u : ℤ) → is_whole_days freq ≡ true → unit_start freq w Days u <ℤ unit_start freq w Days (u +ℤ pos 1)
 unit_some Secondly w u coarse = absurd (false≢true coarse)
 unit_some Minutely w u coarse = absurd (false≢true coarse)
 unit_some Hourly w u coarse = absurd (false≢true coarse)

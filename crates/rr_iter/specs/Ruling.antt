@@ -1,10 +1,10 @@
 -- A rule beside its start, and what is kept to walk it.
 use Rattle.std.specs.Prelude.{◌≡◌, ℕ, ◌<◌, Bool, true, false, IsTrue, List, [], length, get_or, slice_get}
-use Rattle.std.specs.Prelude.{Option, Some, None, nat_lt, int_lt, ℤ, ◌-ℤ◌, ◌≤ℤ◌, ◌<ℤ◌}
+use Rattle.std.specs.Prelude.{Option, Some, None, nat_lt, int_lt, ℤ, pos, ◌+ℤ◌, ◌-ℤ◌, ◌≤ℤ◌, ◌<ℤ◌}
 use Rattle.std.proofs.Props.{props}
 use Rattle.rr_model.specs.Calendar.{IsDayWithin}
 use Rattle.rr_model.specs.Moment.{day_part, moment_at, second_part}
-use Rattle.rr_model.specs.Moment.Units.{unit_number}
+use Rattle.rr_model.specs.Moment.Units.{unit_number, unit_start}
 use Rattle.rr_model.specs.Rule.Candidate.{date_parts_hold}
 use Rattle.rr_model.specs.Rule.Chosen.{is_chosen}
 use Rattle.rr_model.specs.Rule.Filled.{filled}
@@ -19,12 +19,15 @@ use Rattle.rr_model.specs.Rule.Validity.{IsValidRule, is_absent}
 use Rattle.rr_model.specs.Moment.Years.{IsInYears}
 use Rattle.rr_model.specs.declared.kind.Kind.{Kind}
 use Rattle.rr_model.specs.declared.kind.Kind.TheVariants.{Days, Moments}
+use Rattle.rr_model.specs.declared.rule.Freq.{Freq}
 use Rattle.rr_model.specs.declared.rule.Rule.{Rule}
 use Rattle.rr_model.proofs.ValidityProps.{IsValidRule-prop}
 use Rattle.rr_model.specs.Rule.DaysAndTimes.{IsCandidateDay, IsCandidateTime, day_holds}
 use Rattle.rr_model.specs.Moment.Units.{is_whole_days}
 use Rattle.rr_setpos.specs.Ranks.{days_before, days_of_unit}
 use Rattle.rr_iter.specs.SetPositions.{IsChosenOffset}
+use Rattle.rr_iter.specs.declared.day_rule.DayInUnit.{DayInUnit}
+use Rattle.rr_iter.specs.declared.day_rule.WholeUnit.{WholeUnit}
 
 -- a rule with the start that it is filled from, and the numbers of the sets that are kept for its days: of a rule of whole days one, that
 -- of the times of each candidate day; of a finer rule one for each place of the first unit of a day that fits the interval
@@ -83,17 +86,26 @@ pub record IsValidRuling (r : Ruling) : Type 0 where
 pub places_more : (r : Ruling) (old new : List (List ℕ)) → Extends old new → KnowsPlaces r old → KnowsPlaces r new
 places_more r old new more k day near allowed = keeps_more r (first_place r day) _ old new more (k day near allowed)
 
--- of a rule of whole days: the start's day and second, the seconds of each candidate day, the days that its date parts allow, and the
--- candidate days of a unit
-pub record IsUnrolled (r : Ruling) (start_day : ℤ) (start_second : ℕ) (times : List ℕ) (allowed : Filling) (is_held : Bool) (unit : ℤ)
-    (days : List ℤ) : Type 0 where
+-- the days from the first one on and before the next unit's are those of the unit of this number, near enough for the calls
+pub record IsWholeUnit (freq : Freq) (week_start : ℕ) (unit : WholeUnit) : Type 0 where
+  pub near : IsDayWithin 1000 unit.first
+  pub of_first : unit.first ≡ unit_start freq week_start Days unit.number
+  pub of_next : unit.next ≡ unit_start freq week_start Days (unit.number +ℤ pos 1)
+
+-- of a rule of whole days: the start's day and second, the seconds of each candidate day, the days that its date parts allow, the start's
+-- unit, a day and its unit, and a unit with its candidate days, if they are held
+pub record IsUnrolled (r : Ruling) (start_day : ℤ) (start_second : ℕ) (times : List ℕ) (allowed : Filling) (own_unit : ℤ) (last : DayInUnit)
+    (unit : WholeUnit) (is_held : Bool) (days : List ℤ) : Type 0 where
   pub freq : is_whole_days r.rule.freq ≡ true
   pub valid : IsValidRuling r
   pub of_day : start_day ≡ day_part r.kind r.start
   pub of_second : start_second ≡ second_part r.kind r.start
   pub of_times : IsSetOf nat_lt times (IsCandidateTime r.rule r.kind r.start)
   pub of_allowed : allowed ≡ record { rule = r.rule; start_day = day_part r.kind r.start }
-  pub held : is_held ≡ true → IsSetOf int_lt days (IsCandidateDay r.rule (day_part r.kind r.start) unit)
+  pub of_own : own_unit ≡ unit_number r.rule.freq r.rule.week_start Days (day_part r.kind r.start)
+  pub of_last : last.unit ≡ unit_number r.rule.freq r.rule.week_start Days last.day
+  pub of_unit : IsWholeUnit r.rule.freq r.rule.week_start unit
+  pub held : is_held ≡ true → IsSetOf int_lt days (IsCandidateDay r.rule (day_part r.kind r.start) unit.number)
 
 -- there is one proof of it
 pub IsValidRuling-prop : (r : Ruling) → IsProp (IsValidRuling r)

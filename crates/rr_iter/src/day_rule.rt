@@ -11,7 +11,7 @@ ghost use Rattle.rr_model.specs.Sets.Tree.{chosen_of};
 ghost use Rattle.rr_model.specs.declared.kind.Kind.TheVariants.{Days};
 ghost use Rattle.rr_shapes.specs.Tables.{Extends};
 ghost use Rattle.rr_lazy.specs.Next.{IsNextIn};
-ghost use Rattle.rr_iter.specs.Ruling.{IsFirstCandidate, IsFirstCandidateIn, IsFittingUnit, IsPassed, IsSameRuling, KnowsTimes};
+ghost use Rattle.rr_iter.specs.Ruling.{IsFirstCandidate, IsFirstCandidateIn, IsFittingUnit, IsPassed, IsSameRuling, IsWholeUnit, KnowsTimes};
 ghost use Rattle.rr_iter.specs.Steps.{HasBegun};
 ghost use Rattle.rr_iter.specs.Walk.{IsDayWith, IsFirstSecond, IsFirstUpToIn, IsOnDayIn, IsPlacedDay, IsWalked};
 
@@ -26,8 +26,24 @@ use std::marker::Model;
 
 pub(crate) const SECONDS_OF_DAY: u32 = 86_400;
 
+// A day and the number of its unit.
+#[derive(Clone, Copy)]
+struct DayInUnit {
+    day: i64,
+    unit: i64,
+}
+
+// A unit by its number, and its days, from its first one on and before the next unit's.
+#[derive(Clone, Copy)]
+pub(crate) struct WholeUnit {
+    pub(crate) number: i64,
+    pub(crate) first: i64,
+    pub(crate) next: i64,
+}
+
 // A rule of whole days beside its start, with the seconds of each candidate day and their number in the table of sets, and
-// the days that the date parts allow; with BYSETPOS also the candidate days of one unit.
+// the days that the date parts allow; the start's unit, the last day that was asked for, and the unit entered last, with
+// BYSETPOS also its candidate days, if they are held.
 #[derive(Drop)]
 pub(crate) struct DayRule {
     pub(crate) rule: Rule,
@@ -38,8 +54,10 @@ pub(crate) struct DayRule {
     pub(crate) times: TimeSet,
     number: Option<usize>,
     pub(crate) allowed: AllowedDays,
+    own_unit: i64,
+    last: DayInUnit,
+    pub(crate) unit: WholeUnit,
     pub(crate) is_held: bool,
-    pub(crate) unit: i64,
     pub(crate) days: Vec<i64>,
 }
 
@@ -52,7 +70,7 @@ impl Model for DayRule {
     ghost view = { λ s. record { rule = s.rule; kind = s.kind; start = s.start; kept = s.number ∷ [] } };
 
     ghost invariant = { λ s. IsUnrolled (record { rule = s.rule; kind = s.kind; start = s.start; kept = s.number ∷ [] })
-        s.start_day s.start_second s.times s.allowed s.is_held s.unit s.days.items };
+        s.start_day s.start_second s.times s.allowed s.own_unit s.last s.unit s.is_held s.days.items };
 }
 
 impl DayRule {
@@ -66,6 +84,7 @@ impl DayRule {
         let times = times(alloc, rule, kind, start)?;
         let start_day = day_part(kind, start);
         let allowed = AllowedDays::new(alloc, rule, start_day)?;
+        let own_unit = unit_of(rule.freq, rule.week_start, start_day);
         Ok(DayRule {
             rule: rule.copy(alloc)?,
             kind,
@@ -75,8 +94,13 @@ impl DayRule {
             times,
             number: None,
             allowed,
+            own_unit,
+            last: DayInUnit {
+                day: start_day,
+                unit: own_unit,
+            },
+            unit: whole_unit(rule.freq, rule.week_start, own_unit),
             is_held: false,
-            unit: 0,
             days: Vec::new(alloc),
         })
     }
@@ -194,7 +218,7 @@ impl DayRule {
         ensures same { self.new ≡ self.old }
         ensures first { IsFirstCandidate self.old from to result }
     {
-        let last = unit_of(self.rule.freq, self.rule.week_start, to);
+        let last = self.last_unit(to);
         let step = i64::from(self.rule.interval);
         let mut unit = self.first_unit(from);
         while unit <= last {
@@ -217,9 +241,12 @@ impl DayRule {
         ensures same { self.new ≡ self.old }
         ensures first { IsFirstCandidateIn self.old unit from to result }
     {
-        let first = first_day_of_unit(self.rule.freq, self.rule.week_start, unit);
-        let next = first + i64::from(days_in_unit(self.rule.freq, unit));
-        self.allowed.first_from(first.max(from), next.min(to + 1))
+        if self.unit.number != unit {
+            self.unit = whole_unit(self.rule.freq, self.rule.week_start, unit);
+            self.is_held = false;
+        }
+        self.allowed
+            .first_from(self.unit.first.max(from), self.unit.next.min(to + 1))
     }
 
     // A candidate day of a rule without BYSETPOS, if it is occupied: all days after the start's have the same seconds.
@@ -305,9 +332,52 @@ impl DayRule {
         ensures walked { IsWalked self.now.rule (chosen_of self.now.rule self.now.kind self.now.start) (day_part self.now.kind self.now.start) from result }
         ensures passed { IsPassed self.now from result }
     {
-        let unit = unit_of(self.rule.freq, self.rule.week_start, from);
-        let own = unit_of(self.rule.freq, self.rule.week_start, self.start_day);
-        unit + first_fit(unit, own, self.rule.interval) as i64
+        let unit = self.unit_at(from);
+        unit + first_fit(unit, self.own_unit, self.rule.interval) as i64
+    }
+
+    // The unit of a day. No date is computed where the unit entered last has the day, or ends with the day before.
+    fn unit_at(&self, day: i64) -> i64
+        requires near { IsDayWithin 0 day }
+        ensures { result ≡ unit_number self.now.rule.freq self.now.rule.week_start Days day }
+    {
+        if self.unit.first <= day && day < self.unit.next {
+            self.unit.number
+        } else if day == self.unit.next {
+            self.unit.number + 1
+        } else {
+            unit_of(self.rule.freq, self.rule.week_start, day)
+        }
+    }
+
+    // The unit of the day up to which is looked, which is that of the call before for most calls.
+    pub(crate) fn last_unit(&mut self, to: i64) -> i64
+        requires near { IsDayWithin 0 to }
+        ensures same { self.new ≡ self.old }
+        ensures unit { result ≡ unit_number self.old.rule.freq self.old.rule.week_start Days to }
+    {
+        if self.last.day != to {
+            self.last = DayInUnit {
+                day: to,
+                unit: unit_of(self.rule.freq, self.rule.week_start, to),
+            };
+        }
+        self.last.unit
+    }
+}
+
+// The unit of a number.
+pub(crate) fn whole_unit(freq: Freq, week_start: u8, number: i64) -> WholeUnit
+    requires freq { IsTrue (is_whole_days freq) }
+    requires near { IsDayWithin 1000 (unit_start freq week_start Days number) }
+    ensures number { result.number ≡ number }
+    ensures unit { IsWholeUnit freq week_start result }
+{
+    let first = first_day_of_unit(freq, week_start, number);
+    WholeUnit {
+        number,
+        first,
+        next: first + i64::from(days_in_unit(freq, number)),
     }
 }
 
@@ -329,7 +399,7 @@ pub(crate) fn placed(
 }
 
 // The number of the unit in which a day lies.
-pub(crate) fn unit_of(freq: Freq, week_start: u8, day: i64) -> i64
+fn unit_of(freq: Freq, week_start: u8, day: i64) -> i64
     requires freq { IsTrue (is_whole_days freq) }
     requires near { IsDayWithin 1000 day }
     ensures { result ≡ unit_number freq week_start Days day }

@@ -11,9 +11,8 @@ ghost use Rattle.rr_shapes.specs.Tables.{Extends};
 ghost use Rattle.rr_iter.specs.Ruling.{AreUnitDays, IsCandidateAt, IsFittingUnit, IsSameRuling, KnowsTimes};
 ghost use Rattle.rr_iter.specs.Walk.{IsFirstInIn, IsFirstOf, IsFirstOfIn, IsFirstUpToIn, IsOnDayIn};
 
-use crate::day_rule::{DayRule, SECONDS_OF_DAY, placed, unit_of};
+use crate::day_rule::{DayRule, SECONDS_OF_DAY, placed, whole_unit};
 use crate::set_positions::{next_place, times_at_positions};
-use rr_cal::{days_in_unit, first_day_of_unit};
 use rr_lazy::OccupiedDay;
 use rr_model::NoMemory;
 use rr_shapes::SetTable;
@@ -38,7 +37,7 @@ impl DayRule {
         ensures kept { Extends sets.old sets.new }
         ensures found { IfOk result (IsFirstUpToIn sets.new (chosen_of self.old.rule self.old.kind self.old.start) from to) }
     {
-        let last = unit_of(self.rule.freq, self.rule.week_start, to);
+        let last = self.last_unit(to);
         let step = i64::from(self.rule.interval);
         let mut unit = self.first_unit(from);
         while unit <= last {
@@ -70,12 +69,11 @@ impl DayRule {
         ensures kept { Extends sets.old sets.new }
         ensures found { IfOk result (IsFirstInIn sets.new (chosen_of self.old.rule self.old.kind self.old.start) self.old.rule unit from) }
     {
-        if !(self.is_held && self.unit == unit) {
-            let first = first_day_of_unit(self.rule.freq, self.rule.week_start, unit);
+        if !(self.is_held && self.unit.number == unit) {
+            self.unit = whole_unit(self.rule.freq, self.rule.week_start, unit);
             self.is_held = false;
-            self.allowed
-                .list(first, days_in_unit(self.rule.freq, unit), &mut self.days)?;
-            self.unit = unit;
+            let count = (self.unit.next - self.unit.first) as u16;
+            self.allowed.list(self.unit.first, count, &mut self.days)?;
             self.is_held = true;
         }
         match self.first_alone(self.days.as_slice(), from) {

@@ -10,20 +10,23 @@ use Rattle.rr_iter.proofs.day_rule.DayRule.candidate_in_units.Goals as goal
 pub loop-unit-init : goal.loop-unit-init
 loop-unit-init c =
     let fits : FitsSigned w64 c.first_unit-unit.result = search rules in
-    let w = rw (to_z-of_z c.ranges.from) at c.first_unit-unit.ensures.walked in
-    let p = rw (to_z-of_z c.ranges.from) at c.first_unit-unit.ensures.passed in
+    let same = c.last_unit-last.ensures.same in
+    let w = rw (to_z-of_z c.ranges.from, same) at c.first_unit-unit.ensures.walked in
+    let p = rw (to_z-of_z c.ranges.from, same) at c.first_unit-unit.ensures.passed in
     rw (to_z-of_z c.ranges.from, to_z-of_z c.ranges.to, to_z-of_z fits)
-    (refl, record { begun = w.begun; fitting = w.fits; none = λ d g h l. p d g l }, c.first_unit-unit.ensures.near)
+    (same, record { begun = w.begun; fitting = w.fits; none = λ d g h l. p d g l }, c.first_unit-unit.ensures.near)
 
 -- what is known of the rule beside its start
 known : (c : goal.After-first_unit-unit)
     → (is_whole_days c.args.self.now.rule.freq ≡ true) × (1 ≤ c.args.self.now.rule.interval) × (c.args.self.now.rule.interval ≤ 4_294_967_295)
     × (c.args.self.now.rule.week_start ≤ 255)
-known c = let v = c.self.invariant.valid.valid in rw (← c.self.view_is) (c.self.invariant.freq, v.interval_low, v.interval_high, omega (arith, v.week_start))
+known c =
+    let v = c.self.invariant.valid.valid in
+    rw (← c.last_unit-last.ensures.same, ← c.self.view_is) (c.self.invariant.freq, v.interval_low, v.interval_high, omega (arith, v.week_start))
 
 -- the last unit
-last_is : (c : goal.After-first_unit-unit) → c.unit_of-last.result ≡ unit_number c.args.self.now.rule.freq c.args.self.now.rule.week_start Days c.args.to
-last_is c = rw (← c.self.view_is) (rw (to_z-of_z c.ranges.to) at c.unit_of-last.ensures)
+last_is : (c : goal.After-first_unit-unit) → c.last_unit-last.result ≡ unit_number c.args.self.now.rule.freq c.args.self.now.rule.week_start Days c.args.to
+last_is c = rw (to_z-of_z c.ranges.to) at c.last_unit-last.ensures.unit
 
 module _ (c : goal.After-candidate_in-arg-1) where
   abbrev unit : ℤ
@@ -34,7 +37,7 @@ module _ (c : goal.After-candidate_in-arg-1) where
 
   pub not_after : unit ≤ℤ unit_number c.args.self.now.rule.freq c.args.self.now.rule.week_start Days c.args.to
   not_after =
-      let fits : FitsSigned w64 c.unit_of-last.result = search rules in
+      let fits : FitsSigned w64 c.last_unit-last.result = search rules in
       omega (arith, ints, c.loop-unit-test.true, to_z-of_z fits, last_is c.before.before.before)
 
 pub candidate_in-requires-clause-first : goal.candidate_in-requires-clause-first
@@ -66,7 +69,7 @@ loop-unit-preserved c =
     let at = looked b in
     let k = known b.before.before.before in
     let u : ℤ = to_z w64 c.loop-unit.unit-bits in
-    let made : c.from-step.result ≡ pos r.rule.interval = rw (← c.self.view_is) c.from-step.ensures in
+    let made : c.from-step.result ≡ pos r.rule.interval = rw (← c.last_unit-last.ensures.same, ← c.self.view_is) c.from-step.ensures in
     let step : to_z w64 (of_z w64 c.from-step.result) ≡ pos r.rule.interval = omega (arith, ints, made, k.2) in
     let first_near = unit_bounds r.rule.freq r.rule.week_start k.0 c.args.from k.3 (
       omega (arith, ints, c.requires.from.0),
@@ -96,6 +99,6 @@ returns-clause-first c =
     let r = c.args.self.now in
     let b = c.before.before in
     let u : ℤ = to_z w64 c.loop-unit.unit-bits in
-    let fits : FitsSigned w64 c.unit_of-last.result = search rules in
+    let fits : FitsSigned w64 c.last_unit-last.result = search rules in
     let at = rw (to_z-of_z c.ranges.from, to_z-of_z c.ranges.to) at c.loop-unit.invariant.1 in
     looked_all r (known b).0 c.args.from c.args.to u at (omega (arith, ints, c.loop-unit-test.false, to_z-of_z fits, last_is b))

@@ -1,4 +1,4 @@
-use Rattle.std.proofs.Common.{◌≡◌, true, false, ℤ, pos, ◌≤ℤ◌, ◌∷◌, [], refl, sym, subst, arith, rules, get_or, length, w64, to_z, of_z, to_z-of_z, FitsSigned}
+use Rattle.std.proofs.Common.{◌≡◌, true, false, ℤ, pos, ◌≤ℤ◌, ◌<ℤ◌, ◌∷◌, [], refl, sym, subst, arith, rules, get_or, length, w64, to_z, of_z, to_z-of_z, FitsSigned}
 use Rattle.std.specs.Prelude.{int_lt, nat_lt}
 use Rattle.std.proofs.lemmas.Int.{ints}
 use Rattle.std.proofs.lemmas.List.Sorted.{IsPartitionPoint-from_clause}
@@ -14,6 +14,12 @@ use Rattle.rr_iter.proofs.SetPositionLemmas.{candidate_at}
 use Rattle.rr_iter.proofs.PositionDayLemmas.{few_days, first_on_day, none_on_day, passed_next, passed_parted, passed_rest}
 use Rattle.rr_iter.proofs.day_rule.DayRule.first_of.Goals as goal
 
+before_is : (d from : ℤ) → int_lt d from ≡ true → d <ℤ from
+before_is d from e = omega (arith, ints, e)
+
+not_before : (d from : ℤ) → int_lt d from ≡ false → from ≤ℤ d
+not_before d from e = omega (arith, ints, e)
+
 pub loop-found-init : goal.loop-found-init
 loop-found-init c =
     let days = c.args.days.now in
@@ -25,8 +31,8 @@ loop-found-init c =
     rw (to_z-of_z c.ranges.from) (
       (λ n t e. e),
       passed_parted (chosen_of r.rule r.kind r.start) days from place
-          (λ k l. (let e : int_lt (get_or days k (pos 0)) from ≡ true = point.0 k (pos 0) (omega arith) l in grind (arith, ints))),
-      (λ k g l. (let e : int_lt (get_or days k (pos 0)) from ≡ false = point.1 k (pos 0) g l in grind (arith, ints))),
+          (λ k l. before_is (get_or days k (pos 0)) from (point.0 k (pos 0) (omega arith) l)),
+      (λ k g l. not_before (get_or days k (pos 0)) from (point.1 k (pos 0) g l)),
     )
 
 pub next_place-requires-clause-each : goal.next_place-requires-clause-each
