@@ -36,6 +36,19 @@ year_reaches d near =
       omega (arith, ints, i.not_over, next),
     )
 
+-- a year by one of its first 365 days
+pub year_follows : (d y : ℤ) → IsDayWithin 400 d → first_day_of_year y ≤ℤ d → d <ℤ (first_day_of_year y +ℤ pos 365)
+    → IsDayWithin 0 y × IsDayWithin 1000 (first_day_of_year y) × IsDayWithin 1000 (first_day_of_year (y +ℤ pos 1)) × (d <ℤ first_day_of_year (y +ℤ pos 1))
+year_follows d y near begun below =
+    let next = first_day_of_year-next y in
+    let long = days_in_year_bounds y in
+    let first : IsDayWithin 1000 (first_day_of_year y) = (omega (arith, ints, near.0, below), omega (arith, ints, near.1, begun)) in (
+      year_near y first,
+      first,
+      (omega (arith, ints, near.0, begun, next, below, long.0), omega (arith, ints, near.1, begun, next, long.1)),
+      omega (arith, ints, below, next, long.0),
+    )
+
 -- ---- masks that are kept
 
 none_more : {X : Type 0} (xs : List (Option X)) → ((k : ℕ) → get_or xs k None ≡ None) → (k : ℕ) → get_or (xs ++ None ∷ []) k None ≡ None
@@ -83,24 +96,38 @@ masks_more f kept year mask key at low is are = record {
 
 -- ---- one year
 
+epoch : first_day_of_year (pos 1_970) ≡ pos 0
+unfolding first_day_of_year
+epoch = refl
+
 -- no year is looked at yet
 pub no_year : (f : Filling) (kept : Vec (Option YearMask) Global) → AreMasks f kept.items
-    → AreKeptMasks f (record { kept = kept; year = record { first = pos 0; next = pos 0; mask = record { bits = 0 ∷ 0 ∷ 0 ∷ 0 ∷ 0 ∷ 0 ∷ [] } } })
+    → AreKeptMasks f (record { kept = kept; year = record { number = pos 1_969; first = pos 0; next = pos 0; mask = record { bits = 0 ∷ 0 ∷ 0 ∷ 0 ∷ 0 ∷ 0 ∷ [] } } })
 no_year f kept are = record {
   kept = are;
-  year = record { near = (omega (arith, ints), omega (arith, ints)); ordered = omega (arith, ints); short = omega (arith, ints) };
+  year = record {
+    near = (omega (arith, ints), omega (arith, ints));
+    ordered = omega (arith, ints);
+    short = omega (arith, ints);
+    of_next = sym epoch;
+  };
   marked = λ d low high. absurd (omega (arith, ints, low, high));
 }
 
 -- the year of a mask is looked at
-pub year_known : (f : Filling) (y : ℤ) (masks : KeptMasks) → masks.year.first ≡ first_day_of_year y
+pub year_known : (f : Filling) (y : ℤ) (masks : KeptMasks) → masks.year.number ≡ y → masks.year.first ≡ first_day_of_year y
     → masks.year.next ≡ first_day_of_year y +ℤ pos (days_in_year y) → IsDayWithin 1000 (first_day_of_year y) → AreMasks f masks.kept.items
     → IsYearMask f y masks.year.mask.bits → AreKeptMasks f masks
-year_known f y masks begins ends near are is =
+year_known f y masks number begins ends near are is =
     let long = days_in_year_bounds y in
     record {
       kept = are;
-      year = record { near = rw begins near; ordered = omega (arith, ints, begins, ends); short = omega (arith, ints, begins, ends, long.1) };
+      year = record {
+        near = rw begins near;
+        ordered = omega (arith, ints, begins, ends);
+        short = omega (arith, ints, begins, ends, long.1);
+        of_next = rw number (ends ∙ sym (first_day_of_year-next y));
+      };
       marked = λ d low high. (
           let k : ℕ = nat_abs (d -ℤ masks.year.first) in
           let place : k < days_in_year y = omega (arith, ints, begins, ends, low, high) in

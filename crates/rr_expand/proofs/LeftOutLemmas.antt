@@ -1,5 +1,6 @@
 -- Days that one date part alone leaves out, and days later in the same month.
-use Rattle.std.proofs.Common.{◌≡◌, ◌≢◌, ℕ, ◌+◌, ◌-◌, ◌/◌, ◌%◌, ◌<◌, ◌≤◌, Bool, true, false, ◌&&◌, List, [], ◌∷◌, ℤ, pos, ◌+ℤ◌, ◌-ℤ◌, refl, sym, ap, subst, ◌∙◌, inl, inr, arith}
+use Rattle.std.proofs.Common.{◌≡◌, ◌≢◌, ℕ, zero, suc, ◌+◌, ◌-◌, ◌/◌, ◌%◌, ◌<◌, ◌≤◌, Bool, true, false, ◌&&◌, List, [], ◌∷◌}
+use Rattle.std.proofs.Common.{ℤ, pos, ◌+ℤ◌, ◌-ℤ◌, refl, sym, ap, subst, ◌∙◌, inl, inr, arith}
 use Rattle.std.specs.Prelude.{◌||◌, ◌==◌, not}
 use Rattle.std.specs.List.{list_any}
 use Rattle.std.specs.Ordering.{int_eq}
@@ -9,16 +10,18 @@ use Rattle.std.proofs.lemmas.Int.{ints}
 use Rattle.rr_model.specs.Whole.{floor_div, floor_mod}
 use Rattle.rr_model.specs.Calendar.{day_number, year_of, month_of, day_of_month, day_of_year, weekday_of, days_in_month}
 use Rattle.rr_model.specs.Calendar.Laws.{HasDateOf}
-use Rattle.rr_model.specs.Rule.Candidate.{allows_place, lists, date_parts_hold, day_item_holds}
+use Rattle.rr_model.specs.Rule.Candidate.{allows, allows_place, lists, date_parts_hold, day_item_holds, is_in_place}
 use Rattle.rr_model.specs.Rule.Candidate.{by_month_holds, by_week_no_holds, by_year_day_holds, by_month_day_holds, by_day_holds, counts_in_year}
-use Rattle.rr_model.specs.Rule.Filled.{day_item_of, filled, filled_part, wants_day, wants_month_day}
+use Rattle.rr_model.specs.Rule.Filled.{day_item_of, filled, filled_part, wants_day, wants_month, wants_month_day}
 use Rattle.rr_model.specs.Rule.Validity.{is_absent}
 use Rattle.rr_model.specs.declared.kind.Kind.TheVariants.{Days}
 use Rattle.rr_model.specs.declared.rule.DayItem.{DayItem}
+use Rattle.rr_model.specs.declared.rule.Freq.{Freq}
+use Rattle.rr_model.specs.declared.rule.Freq.TheVariants.{Secondly, Minutely, Hourly, Daily, Weekly, Monthly, Yearly}
 use Rattle.rr_model.specs.declared.rule.Rule.{Rule}
 use Rattle.rr_model.proofs.WholeLemmas.{floor_only, floor_whole}
 use Rattle.rr_model.proofs.CalendarLemmas.{date_only, day_number_is, day_number-year_of, days_into_year_is, IsDate-year_of}
-use Rattle.rr_expand.specs.LeftOut.{IsNextIn, has_weekday}
+use Rattle.rr_expand.specs.LeftOut.{IsGap, IsNextIn, has_place, has_weekday, names_weekdays_alone}
 
 -- ---- days later in the same month
 
@@ -105,17 +108,17 @@ own_place own i many ne within =
     let back : int_eq (pos own) ((pos i -ℤ pos many) -ℤ pos 1) ≡ false = grind (arith, nat_tests, ints) in
     rw (front, back) refl
 
+neither : (a b : Bool) → (a || b) ≡ false → (a ≡ false) × (b ≡ false)
+neither true b h = absurd (cc)
+neither false true h = absurd (cc)
+neither false false h = (refl, refl)
+
 -- an item that has another weekday does not hold
 not_held : (in_year : Bool) (d : ℤ) (items : List DayItem) → list_any (has_weekday (weekday_of d)) items ≡ false → list_any (day_item_holds in_year d) items ≡ false
 not_held in_year d [] e = refl
 not_held in_year d (item ∷ items) e =
     let parts = neither (item.weekday == weekday_of d) (list_any (has_weekday (weekday_of d)) items) e in
     rw (parts.0, not_held in_year d items parts.1) refl
-  where
-    neither : (a b : Bool) → (a || b) ≡ false → (a ≡ false) × (b ≡ false)
-    neither true b h = absurd (cc)
-    neither false true h = absurd (cc)
-    neither false false h = (refl, refl)
 
 -- ---- a day of the month, some days after d
 
@@ -149,14 +152,100 @@ module _ (rule : Rule) (start d : ℤ) (k many i : ℕ) (at : k ≡ day_of_month
       (ap (λ xs. allows_place xs (pos i) (pos many))
       (filled_own (wants_month_day rule.freq rule) rule.by_month_day (pos (day_of_month start)) absent wants) ∙ rw is at none))
 
-  pub other_weekday : (weekday : ℕ) → weekday ≡ weekday_of d → is_absent rule.by_day ≡ false
-      → list_any (has_weekday ((weekday + (i - k)) % 7)) rule.by_day ≡ false → date_parts_hold (filled rule Days start) day ≡ false
-  other_weekday weekday is present none =
-      let same : (weekday + (i - k)) % 7 ≡ weekday_of day = ap (λ w. (w + (i - k)) % 7) is ∙ sym (weekday_of-later d (i - k)) in
-      let held = not_held (counts_in_year rule.freq (filled rule Days start).by_month) day rule.by_day (rw same at none) in
-      not_on_weekday (filled rule Days start) day
-      (ap (λ (xs : List DayItem). is_absent xs || list_any (day_item_holds (counts_in_year rule.freq (filled rule Days start).by_month) day) xs)
-      (filled_present (wants_day rule.freq rule) rule.by_day (day_item_of start) present) ∙ rw (present, held) refl)
+-- some days after a day whose weekday is known
+pub other_weekday : (rule : Rule) (start d : ℤ) (weekday j : ℕ) → weekday ≡ weekday_of d → is_absent rule.by_day ≡ false
+    → list_any (has_weekday ((weekday + j) % 7)) rule.by_day ≡ false → date_parts_hold (filled rule Days start) (d +ℤ pos j) ≡ false
+other_weekday rule start d weekday j is present none =
+    let same : (weekday + j) % 7 ≡ weekday_of (d +ℤ pos j) = ap (λ w. (w + j) % 7) is ∙ sym (weekday_of-later d j) in
+    let held = not_held (counts_in_year rule.freq (filled rule Days start).by_month) (d +ℤ pos j) rule.by_day (rw same at none) in
+    not_on_weekday (filled rule Days start) (d +ℤ pos j)
+    (ap (λ (xs : List DayItem). is_absent xs || list_any (day_item_holds (counts_in_year rule.freq (filled rule Days start).by_month) (d +ℤ pos j)) xs)
+    (filled_present (wants_day rule.freq rule) rule.by_day (day_item_of start) present) ∙ rw (present, held) refl)
+
+-- ---- weekdays alone
+
+no_place : (item : DayItem) → has_place item ≡ false → int_eq item.place (pos 0) ≡ true
+no_place item e = not_not (int_eq item.place (pos 0)) e
+  where
+    not_not : (b : Bool) → not b ≡ false → b ≡ true
+    not_not true h = refl
+    not_not false h = absurd (cc)
+
+and_true : (a : Bool) → (a && true) ≡ a
+and_true true = refl
+and_true false = refl
+
+-- an item without a place holds on each day of its weekday
+plain_items : (in_year : Bool) (d : ℤ) (items : List DayItem) → list_any has_place items ≡ false
+    → list_any (day_item_holds in_year d) items ≡ list_any (has_weekday (weekday_of d)) items
+plain_items in_year d [] e = refl
+plain_items in_year d (item ∷ items) e =
+    let parts = neither (has_place item) (list_any has_place items) e in
+    ap (λ p. ((item.weekday == weekday_of d) && (p || is_in_place item.place in_year d)) || list_any (day_item_holds in_year d) items)
+    (no_place item parts.0)
+    ∙ ap (λ q. q || list_any (day_item_holds in_year d) items) (and_true (item.weekday == weekday_of d))
+    ∙ ap (λ q. (item.weekday == weekday_of d) || q) (plain_items in_year d items parts.1)
+
+not_filled : {X : Type 0} (is_wanted : Bool) (xs : List X) (own : X) → is_wanted ≡ false → filled_part is_wanted xs own ≡ xs
+not_filled is_wanted xs own e = rw e refl
+
+all_five : (a b c d e f : Bool) → a ≡ true → b ≡ true → c ≡ true → d ≡ true → e ≡ f → (a && b && c && d && e) ≡ f
+all_five a b c d e f p q r s t = rw (p, q, r, s) t
+
+module _ (rule : Rule) (no_month : is_absent rule.by_month ≡ true) (no_week : is_absent rule.by_week_no ≡ true)
+    (no_year_day : is_absent rule.by_year_day ≡ true) (no_month_day : is_absent rule.by_month_day ≡ true) (present : is_absent rule.by_day ≡ false)
+    (plain : list_any has_place rule.by_day ≡ false) where
+  month_unwanted : (freq : Freq) → wants_month freq rule ≡ false
+  month_unwanted Secondly = refl
+  month_unwanted Minutely = refl
+  month_unwanted Hourly = refl
+  month_unwanted Daily = refl
+  month_unwanted Weekly = refl
+  month_unwanted Monthly = refl
+  month_unwanted Yearly = rw (no_week, no_year_day, no_month_day, present) refl
+
+  month_day_unwanted : (freq : Freq) → wants_month_day freq rule ≡ false
+  month_day_unwanted Secondly = refl
+  month_day_unwanted Minutely = refl
+  month_day_unwanted Hourly = refl
+  month_day_unwanted Daily = refl
+  month_day_unwanted Weekly = refl
+  month_day_unwanted Monthly = present
+  month_day_unwanted Yearly = rw (no_week, no_year_day, present) refl
+
+  -- a day is allowed where an item has its weekday
+  on_weekday : (start d : ℤ) → date_parts_hold (filled rule Days start) d ≡ list_any (has_weekday (weekday_of d)) rule.by_day
+  on_weekday start d =
+      let r = filled rule Days start in
+      let months = not_filled (wants_month rule.freq rule) rule.by_month (pos (month_of start)) (month_unwanted rule.freq) in
+      let month_days = not_filled (wants_month_day rule.freq rule) rule.by_month_day (pos (day_of_month start)) (month_day_unwanted rule.freq) in
+      let in_year : Bool = counts_in_year rule.freq r.by_month in
+      all_five (by_month_holds r d) (by_week_no_holds r d) (by_year_day_holds r d) (by_month_day_holds r d) (by_day_holds r d)
+      (list_any (has_weekday (weekday_of d)) rule.by_day)
+      (ap (λ xs. allows xs (pos (month_of d))) months ∙ rw no_month refl)
+      (rw no_week refl)
+      (rw no_year_day refl)
+      (ap (λ xs. allows_place xs (pos (day_of_month d)) (pos (days_in_month (year_of d) (month_of d)))) month_days ∙ rw no_month_day refl)
+      (ap (λ (xs : List DayItem). is_absent xs || list_any (day_item_holds in_year d) xs)
+      (filled_present (wants_day rule.freq rule) rule.by_day (day_item_of start) present)
+      ∙ rw (present, plain_items in_year d rule.by_day plain) refl)
+
+all_six : (a b c d e f : Bool) → (a && b && c && d && not e && not f) ≡ true
+    → (a ≡ true) × (b ≡ true) × (c ≡ true) × (d ≡ true) × (e ≡ false) × (f ≡ false)
+all_six true true true true false false h = (refl, refl, refl, refl, refl, refl)
+all_six true true true true false true h = absurd (cc)
+all_six true true true true true f h = absurd (cc)
+all_six true true true false e f h = absurd (cc)
+all_six true true false d e f h = absurd (cc)
+all_six true false c d e f h = absurd (cc)
+all_six false b c d e f h = absurd (cc)
+
+pub weekdays_alone : (rule : Rule) (start d : ℤ) → names_weekdays_alone rule ≡ true
+    → date_parts_hold (filled rule Days start) d ≡ list_any (has_weekday (weekday_of d)) rule.by_day
+weekdays_alone rule start d e =
+    let parts = all_six (is_absent rule.by_month) (is_absent rule.by_week_no) (is_absent rule.by_year_day) (is_absent rule.by_month_day)
+    (is_absent rule.by_day) (list_any has_place rule.by_day) e in
+    on_weekday rule parts.0 parts.1 parts.2 parts.3 parts.4 parts.5 start d
 
 -- ---- one day after another of a month
 
@@ -179,6 +268,26 @@ next_more test k many n l fails next = record {
 
 pub next_all : (test : ℕ → Bool) (k many n : ℕ) → many ≤ n → IsNextIn test k many n → IsNextIn test k many many
 next_all test k many n l next = (let e : n ≡ many = omega (arith, l, next.within) in subst (IsNextIn test k many) e next)
+
+-- the next weekday of an item
+pub gap_is : (rule : Rule) (w n : ℕ) → is_absent rule.by_day ≡ false → IsNextIn (λ i. list_any (has_weekday ((w + i) % 7)) rule.by_day) 0 7 n
+    → IsGap rule w n
+gap_is rule w n present next = record {
+  some = omega (arith, next.later);
+  few = next.within;
+  none = λ j some below. (present, next.none j (omega (arith, some)) below);
+}
+
+-- what holds of each of seven holds of each number below 7
+pub seven : (P : ℕ → Type 0) → P 0 → P 1 → P 2 → P 3 → P 4 → P 5 → P 6 → (w : ℕ) → w < 7 → P w
+seven P a b c d e f g zero low = a
+seven P a b c d e f g (suc zero) low = b
+seven P a b c d e f g (suc (suc zero)) low = c
+seven P a b c d e f g (suc (suc (suc zero))) low = d
+seven P a b c d e f g (suc (suc (suc (suc zero)))) low = e
+seven P a b c d e f g (suc (suc (suc (suc (suc zero))))) low = f
+seven P a b c d e f g (suc (suc (suc (suc (suc (suc zero)))))) low = g
+seven P a b c d e f g (suc (suc (suc (suc (suc (suc (suc n))))))) low = absurd (omega (arith, low))
 
 -- what fails for one test fails for another
 pub next_same : (test other : ℕ → Bool) (k many n : ℕ) → ((i : ℕ) → k < i → i ≤ many → test i ≡ false → other i ≡ false)

@@ -1,6 +1,6 @@
 -- Masks of years that are kept, and the year in which the last day lay that was asked for.
 use Rattle.std.specs.Prelude.{◌≡◌, Bool, true, false, IsTrue, not, ◌&&◌, List, length, get_or, Option, Some, None, int_lt, ℤ, pos, nat_abs, ◌+ℤ◌, ◌-ℤ◌, ◌≤ℤ◌, ◌<ℤ◌}
-use Rattle.rr_model.specs.Calendar.{IsDayWithin}
+use Rattle.rr_model.specs.Calendar.{IsDayWithin, first_day_of_year}
 use Rattle.rr_model.specs.Rising.Sets.{IsSetOf}
 use Rattle.rr_model.specs.Rule.Validity.{is_absent}
 use Rattle.rr_model.specs.declared.rule.Rule.{Rule}
@@ -16,11 +16,12 @@ pub record AreMasks (f : Filling) (kept : List (Option YearMask)) : Type 0 where
 
 -- ---- one year
 
--- at most as many days as a year has, near enough for the calls
+-- at most as many days as a year has, near enough for the calls, up to the first one of the next year
 pub record IsMaskedYear (year : MaskedYear) : Type 0 where
   pub near : IsDayWithin 1000 year.first
   pub ordered : year.first ≤ℤ year.next
   pub short : year.next ≤ℤ (year.first +ℤ pos 366)
+  pub of_next : year.next ≡ first_day_of_year (year.number +ℤ pos 1)
 
 -- the bit of a day of the year is set
 abbrev pub is_marked : MaskedYear → ℤ → Bool

@@ -44,9 +44,10 @@ struct KeptMasks {
     year: MaskedYear,
 }
 
-// The days of a year, from its first one on and before the next year's, and its mask. At first it has no day.
+// A year by its number, its days, from its first one on and before the next year's, and its mask. At first it has no day.
 #[derive(Clone, Copy)]
 struct MaskedYear {
+    number: i64,
     first: i64,
     next: i64,
     mask: YearMask,
@@ -107,6 +108,7 @@ impl KeptMasks {
         Ok(KeptMasks {
             kept,
             year: MaskedYear {
+                number: 1969,
                 first: 0,
                 next: 0,
                 mask: YearMask { bits: [0; 6] },
@@ -162,7 +164,7 @@ impl KeptMasks {
         Ok(())
     }
 
-    // Turns to the year of a day.
+    // Turns to the year of a day. No date is computed for the year after the one looked at, which begins where that one ends.
     fn enter_year_of(&mut self, rule: &Rule, start_day: i64, day: i64)
         requires start { IsDayWithin 1000 start_day }
         requires near { IsDayWithin 400 day }
@@ -174,16 +176,37 @@ impl KeptMasks {
         if self.year.first <= day && day < self.year.next {
             return;
         }
-        let year = date_of(day).year;
-        let first = day_of(Date {
-            year,
-            month: 1,
-            day: 1,
-        });
-        let mask = mask_of(&mut self.kept, rule, start_day, year);
+        if self.year.next <= day && day < self.year.next + 365 {
+            let number = self.year.number + 1;
+            let first = self.year.next;
+            self.enter_year(rule, start_day, number, first);
+        } else {
+            let number = date_of(day).year;
+            let first = day_of(Date {
+                year: number,
+                month: 1,
+                day: 1,
+            });
+            self.enter_year(rule, start_day, number, first);
+        }
+    }
+
+    // Turns to the year of this number and first day.
+    fn enter_year(&mut self, rule: &Rule, start_day: i64, number: i64, first: i64)
+        requires start { IsDayWithin 1000 start_day }
+        requires first { first ≡ first_day_of_year number }
+        requires near { IsDayWithin 1000 (first_day_of_year number) }
+        requires next { IsDayWithin 1000 (first_day_of_year (number +ℤ pos 1)) }
+        requires known { AreKeptMasks (record { rule = rule.now; start_day = start_day }) self.old }
+        ensures known { AreKeptMasks (record { rule = rule.now; start_day = start_day }) self.new }
+        ensures first { self.new.year.first ≡ first }
+        ensures next { self.new.year.next ≡ first_day_of_year (number +ℤ pos 1) }
+    {
+        let mask = mask_of(&mut self.kept, rule, start_day, number);
         self.year = MaskedYear {
+            number,
             first,
-            next: first + i64::from(days_in_year(year)),
+            next: first + i64::from(days_in_year(number)),
             mask,
         };
     }

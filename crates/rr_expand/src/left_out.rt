@@ -6,15 +6,59 @@ ghost use Rattle.rr_model.specs.Rule.Candidate.{allows_place, by_month_holds};
 ghost use Rattle.rr_model.specs.Rule.Filled.{filled, wants_month, wants_month_day};
 ghost use Rattle.rr_model.specs.Rule.Validity.{is_absent};
 ghost use Rattle.rr_model.specs.declared.kind.Kind.TheVariants.{Days};
-ghost use Rattle.rr_expand.specs.LeftOut.{IsNextIn, has_weekday};
+ghost use Rattle.rr_expand.specs.LeftOut.{AreGaps, IsNextIn, has_place, has_weekday, names_weekdays_alone};
 ghost use Rattle.rr_expand.specs.Years.{allows_day};
 
 use rr_cal::Day;
 use rr_model::{DayItem, Freq, Numbers, Rule};
 use rr_parts::{allows, allows_filled};
 
+// How many days to go on from a day of each weekday, from Monday: none of those between has a weekday of BYDAY, where it is
+// present.
+pub(crate) fn gaps(rule: &Rule) -> [u8; 7]
+    ensures { AreGaps rule.now result }
+{
+    if rule.by_day.is_empty() {
+        return [1; 7];
+    }
+    let items = rule.by_day.as_slice();
+    [
+        gap(items, 0),
+        gap(items, 1),
+        gap(items, 2),
+        gap(items, 3),
+        gap(items, 4),
+        gap(items, 5),
+        gap(items, 6),
+    ]
+}
+
+// How many days to go on from a day of a weekday: none of those between has the weekday of an item.
+fn gap(items: &[DayItem], weekday: u8) -> u8
+    requires { weekday < 7 }
+    ensures { IsNextIn (λ i. list_any (has_weekday ((weekday + i) % 7)) items.now) 0 7 result }
+{
+    for days in 1..7 {
+        if lists_weekday(items, (weekday + days) % 7) {
+            return days;
+        }
+    }
+    7
+}
+
 // How many days to go on from a day: none of those between is allowed.
-pub(crate) fn days_on(rule: &Rule, start: &Day, day: &Day) -> u8
+pub(crate) fn days_on(rule: &Rule, start: &Day, gaps: &[u8; 7], day: &Day) -> u8
+    requires { AreGaps rule.now gaps.now }
+    ensures some { 1 ≤ result }
+    ensures few { result ≤ 31 }
+    ensures none { (j : ℕ) → 1 ≤ j → j < result
+        → allows_day (record { rule = rule.now; start_day = start.now.number }) (day.now.number +ℤ pos j) ≡ false }
+{
+    days_on_in_month(rule, start, day).max(gaps[usize::from(day.weekday)])
+}
+
+// The same by the months and the days of the month, at most up to the month's last day, and from there to the next day.
+fn days_on_in_month(rule: &Rule, start: &Day, day: &Day) -> u8
     ensures some { 1 ≤ result }
     ensures few { result ≤ 31 }
     ensures none { (j : ℕ) → 1 ≤ j → j < result
@@ -37,8 +81,6 @@ fn next_in_month(rule: &Rule, start: &Day, day: &Day) -> u8
         day.days_in_month
     } else if !rule.by_month_day.is_empty() {
         next_listed(&rule.by_month_day, day.day_of_month, day.days_in_month)
-    } else if !rule.by_day.is_empty() {
-        next_weekday(rule.by_day.as_slice(), day)
     } else if fills_month_day(rule) {
         next_own(start.day_of_month, day.day_of_month, day.days_in_month)
     } else {
@@ -80,22 +122,34 @@ fn place_from_back(k: u8, many: u8) -> i16
     i16::from(k) - i16::from(many) - 1
 }
 
-// Of the later days of the month the first that has the weekday of an item; else the last.
-fn next_weekday(items: &[DayItem], day: &Day) -> u8
-    requires { day.now.day_of_month < day.now.days_in_month }
-    ensures { IsNextIn (λ i. list_any (has_weekday ((day.now.weekday + (i - day.now.day_of_month)) % 7)) items.now)
-        day.now.day_of_month day.now.days_in_month result }
+// Whether BYDAY alone tells which days are allowed, by weekdays without places.
+pub(crate) fn names_weekdays_alone(rule: &Rule) -> bool
+    ensures { result ≡ names_weekdays_alone rule.now }
 {
-    for next in day.day_of_month + 1..day.days_in_month {
-        if lists_weekday(items, (day.weekday + (next - day.day_of_month)) % 7) {
-            return next;
-        }
-    }
-    day.days_in_month
+    rule.by_month.is_empty()
+        && rule.by_week_no.is_empty()
+        && rule.by_year_day.is_empty()
+        && rule.by_month_day.is_empty()
+        && !rule.by_day.is_empty()
+        && !has_places(rule.by_day.as_slice())
+}
+
+// Whether an item has a place in the month or the year.
+fn has_places(items: &[DayItem]) -> bool
+    ensures { result ≡ list_any has_place items.now }
+{
+    items.iter().any(|item| has_place(*item))
+}
+
+// Whether the item has a place.
+fn has_place(item: DayItem) -> bool
+    ensures { result ≡ has_place item }
+{
+    item.place != 0
 }
 
 // Whether an item has the weekday.
-fn lists_weekday(items: &[DayItem], weekday: u8) -> bool
+pub(crate) fn lists_weekday(items: &[DayItem], weekday: u8) -> bool
     ensures { result ≡ list_any (has_weekday weekday) items.now }
 {
     items.iter().any(|item| has_weekday(*item, weekday))

@@ -1,9 +1,11 @@
 // The days of a year that the date parts of a rule allow, as bits.
-ghost use Rattle.std.specs.Prelude.{◌≡◌, ◌≢◌, ℕ, ◌+◌, ◌*◌, ◌/◌, ◌<◌, ◌≤◌, ◌+ℤ◌, ◌&&◌, nat_lt, pos, true, if◌then◌else◌};
+ghost use Rattle.std.specs.Prelude.{◌≡◌, ◌≢◌, ℕ, ◌+◌, ◌*◌, ◌/◌, ◌%◌, ◌<◌, ◌≤◌, ◌+ℤ◌, ◌&&◌, nat_lt, pos, true, if◌then◌else◌};
+ghost use Rattle.std.specs.List.{list_any};
 ghost use Rattle.rr_model.specs.Calendar.{IsDayWithin, first_day_of_year, is_leap};
+ghost use Rattle.rr_expand.specs.LeftOut.{has_weekday};
 ghost use Rattle.rr_expand.specs.Years.{IsFirstBit, IsYearMask, allows_day, is_bit_set, mask_key};
 
-use crate::left_out::{days_on, later};
+use crate::left_out::{days_on, gaps, later, lists_weekday, names_weekdays_alone};
 use rr_cal::{Date, Day, day_of, days_in_year, year_kind};
 use rr_model::Rule;
 use rr_parts::date_parts_hold;
@@ -64,12 +66,34 @@ pub fn year_mask(rule: &Rule, start_day: i64, year: i64) -> YearMask
     requires next { IsDayWithin 1000 (first_day_of_year (year +ℤ pos 1)) }
     ensures { IsYearMask (record { rule = rule.now; start_day = start_day }) year result.bits }
 {
-    mask_from(
-        rule,
-        &Day::new(start_day),
-        new_year(year),
-        days_in_year(year),
-    )
+    let first = new_year(year);
+    let count = days_in_year(year);
+    if names_weekdays_alone(rule) {
+        weekday_mask(rule, first.weekday, count)
+    } else {
+        mask_from(rule, &Day::new(start_day), first, count)
+    }
+}
+
+// The mask of `count` days from one of a weekday on: those that have a weekday of BYDAY.
+fn weekday_mask(rule: &Rule, weekday: u8, count: u16) -> YearMask
+    requires weekday { weekday < 7 }
+    requires count { count ≤ 384 }
+    ensures { (k : ℕ) → k < 384 → is_bit_set result.bits k ≡ (nat_lt k count && list_any (has_weekday ((weekday + k) % 7)) rule.now.by_day) }
+{
+    let gaps = gaps(rule);
+    let mut mask = YearMask { bits: [0; 6] };
+    let mut day = weekday;
+    let mut place = 0;
+    while place < count {
+        if lists_weekday(rule.by_day.as_slice(), day) {
+            mask.set(place);
+        }
+        let step = u16::from(gaps[usize::from(day)]).min(count - place);
+        day = (day + step as u8) % 7;
+        place += step;
+    }
+    mask
 }
 
 // The mask of `count` days from the first on. Days that a month, a day of the month or a weekday leaves out are stepped over.
@@ -79,6 +103,7 @@ fn mask_from(rule: &Rule, start: &Day, first: Day, count: u16) -> YearMask
     ensures { (k : ℕ) → k < 384
         → is_bit_set result.bits k ≡ (nat_lt k count && allows_day (record { rule = rule.now; start_day = start.now.number }) (first.number +ℤ pos k)) }
 {
+    let gaps = gaps(rule);
     let mut mask = YearMask { bits: [0; 6] };
     let mut day = first;
     let mut place = 0;
@@ -86,7 +111,7 @@ fn mask_from(rule: &Rule, start: &Day, first: Day, count: u16) -> YearMask
         if date_parts_hold(rule, start, &day) {
             mask.set(place);
         }
-        let step = u16::from(days_on(rule, start, &day)).min(count - place);
+        let step = u16::from(days_on(rule, start, &gaps, &day)).min(count - place);
         day = later(&day, step as u8);
         place += step;
     }

@@ -5,7 +5,7 @@ use Rattle.rr_model.specs.Rule.Filled.{filled}
 use Rattle.rr_model.specs.declared.kind.Kind.TheVariants.{Days}
 use Rattle.rr_expand.specs.LeftOut.{has_weekday}
 use Rattle.rr_expand.specs.Years.{allows_day}
-use Rattle.rr_expand.proofs.LeftOutLemmas.{month_same, not_in_month, not_own, next_first, next_same, other_weekday, unlisted}
+use Rattle.rr_expand.proofs.LeftOutLemmas.{month_same, not_in_month, not_own, next_first, next_same, unlisted}
 use Rattle.rr_expand.proofs.left_out.next_in_month.Goals as goal
 
 pub returns-then-leaves_out_month : goal.returns-then-leaves_out_month
@@ -31,17 +31,6 @@ returns-then-not-is_empty c =
     (λ i a b none. unlisted rule start day.number day.day_of_month day.days_in_month i day.of_day_of_month day.of_days_in_month a b
     (sym c.is_empty.ensures ∙ c.if-not-is_empty.true) none)
     c.next_listed.ensures
-
-pub returns-then-not-is_empty-2 : goal.returns-then-not-is_empty-2
-returns-then-not-is_empty-2 c =
-    let day = c.args.day.now in
-    let rule = c.args.rule.now in
-    let start = c.args.start.now.number in
-    next_same (λ i. list_any (has_weekday ((day.weekday + (i - day.day_of_month)) % 7)) rule.by_day)
-    (λ i. allows_day (record { rule = rule; start_day = start }) (day.number +ℤ pos (i - day.day_of_month))) day.day_of_month day.days_in_month _
-    (λ i a b none. other_weekday rule start day.number day.day_of_month day.days_in_month i day.of_day_of_month day.of_days_in_month a b
-    day.weekday day.of_weekday (sym c.is_empty-else-not-is_empty.ensures ∙ c.if-not-is_empty-2.true) none)
-    (rw c.as_slice.ensures.value at c.next_weekday.ensures)
 
 pub returns-then-fills_month_day : goal.returns-then-fills_month_day
 returns-then-fills_month_day c =

@@ -1,19 +1,40 @@
-use Rattle.std.proofs.Common.{◌≡◌, ◌∙◌, to_z-of_z, ap}
-use Rattle.rr_model.specs.Calendar.{days_in_year, first_day_of_year}
-use Rattle.rr_model.proofs.CalendarLemmas.{first_day_of_year-next}
+use Rattle.std.proofs.Common.{◌≡◌, ◌∙◌, ◌+◌, ◌%◌, ◌&&◌, pos, ◌+ℤ◌, sym, to_z-of_z, ap}
+use Rattle.std.specs.Prelude.{nat_lt}
+use Rattle.std.specs.List.{list_any}
+use Rattle.rr_model.specs.Calendar.{days_in_year, first_day_of_year, weekday_of}
+use Rattle.rr_model.proofs.CalendarLemmas.{first_day_of_year-next, weekday_of_below}
+use Rattle.rr_expand.specs.LeftOut.{has_weekday}
+use Rattle.rr_expand.proofs.LeftOutLemmas.{weekday_of-later, weekdays_alone}
 use Rattle.rr_expand.proofs.year_masks.year_mask.Goals as goal
+
+pub weekday_mask-requires-clause-weekday : goal.weekday_mask-requires-clause-weekday
+weekday_mask-requires-clause-weekday c = rw c.new_year-first.result.of_weekday (weekday_of_below c.new_year-first.result.number)
 
 pub mask_from-requires-clause-last : goal.mask_from-requires-clause-last
 mask_from-requires-clause-last c =
     let year = to_z-of_z c.ranges.year in
-    let first : c.new_year.result.number ≡ first_day_of_year c.args.year = c.new_year.ensures ∙ ap first_day_of_year year in
-    let count : c.days_in_year.result ≡ days_in_year c.args.year = c.days_in_year.ensures ∙ ap days_in_year year in
+    let first : c.new_year-first.result.number ≡ first_day_of_year c.args.year = c.new_year-first.ensures ∙ ap first_day_of_year year in
+    let count : c.days_in_year-count.result ≡ days_in_year c.args.year = c.days_in_year-count.ensures ∙ ap days_in_year year in
     rw (first, count) (rw first_day_of_year-next at c.requires.next)
 
-pub returns : goal.returns
-returns c =
+pub returns-then-names_weekdays_alone : goal.returns-then-names_weekdays_alone
+returns-then-names_weekdays_alone c k low =
+    let rule = c.args.rule.now in
     let year = to_z-of_z c.ranges.year in
-    let first : c.new_year.result.number ≡ first_day_of_year c.args.year = c.new_year.ensures ∙ ap first_day_of_year year in
-    let count : c.days_in_year.result ≡ days_in_year c.args.year = c.days_in_year.ensures ∙ ap days_in_year year in
+    let first = c.new_year-first.result in
+    let number : first.number ≡ first_day_of_year c.args.year = c.new_year-first.ensures ∙ ap first_day_of_year year in
+    let count : c.days_in_year-count.result ≡ days_in_year c.args.year = c.days_in_year-count.ensures ∙ ap days_in_year year in
+    let alone = weekdays_alone rule c.args.start_day (first_day_of_year c.args.year +ℤ pos k)
+    (sym c.names_weekdays_alone.ensures ∙ c.if-names_weekdays_alone.true) in
+    let weekday : (first.weekday + k) % 7 ≡ weekday_of (first_day_of_year c.args.year +ℤ pos k) =
+    ap (λ w. (w + k) % 7) (first.of_weekday ∙ ap weekday_of number) ∙ sym (weekday_of-later (first_day_of_year c.args.year) k) in
+    c.weekday_mask.ensures k low ∙ ap (λ n. nat_lt k n && list_any (has_weekday ((first.weekday + k) % 7)) rule.by_day) count
+    ∙ ap (λ b. nat_lt k (days_in_year c.args.year) && b) (ap (λ w. list_any (has_weekday w) rule.by_day) weekday ∙ sym alone)
+
+pub returns-else-names_weekdays_alone : goal.returns-else-names_weekdays_alone
+returns-else-names_weekdays_alone c =
+    let year = to_z-of_z c.ranges.year in
+    let first : c.new_year-first.result.number ≡ first_day_of_year c.args.year = c.new_year-first.ensures ∙ ap first_day_of_year year in
+    let count : c.days_in_year-count.result ≡ days_in_year c.args.year = c.days_in_year-count.ensures ∙ ap days_in_year year in
     let start : c.new.result.number ≡ c.args.start_day = c.new.ensures ∙ to_z-of_z c.ranges.start_day in
     rw (first, count, start) at c.mask_from.ensures
