@@ -34,7 +34,7 @@ pub fn combined_outcome(alloc: Global, op: Op, a: &Folded, b: &Folded) -> Result
         Err(fault) => refused_for(alloc, Side::Both, fault),
         Ok(days) => Ok(Outcome {
             conclusion: Conclusion::Yes,
-            text: canonical_text(alloc, Version::Second, &days)?,
+            text: canonical_text(alloc, Version::Second, days)?,
         }),
     }
 }
