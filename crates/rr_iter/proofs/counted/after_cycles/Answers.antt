@@ -90,8 +90,8 @@ overflow_add-to c =
     let k : ℕ = (c.args.left - 1) / c.args.each in
     rw value (to_fits c.args.kind c.args.start c.args.rule.now c.requires.sound k few c.day_part.result day)
 
-pub find-requires-clause-low : goal.find-requires-clause-low
-find-requires-clause-low c =
+pub day_of_nth-requires-clause-low : goal.day_of_nth-requires-clause-low
+day_of_nth-requires-clause-low c =
     let rule = c.args.rule.now in
     let value = c.day_cycle-cycle.ensures.value in
     let day = rw (to_z-of_z c.ranges.start) at c.day_part.ensures in
@@ -101,8 +101,8 @@ find-requires-clause-low c =
     let bounds = start_bounds c.args.kind c.args.start rule c.requires.sound in
     rw (value, to_is c.args.kind c.args.start rule c.requires.sound k few c.day_part.result day) (omega (arith, ints, bounds.0, fits, year_1))
 
-pub find-requires-clause-high : goal.find-requires-clause-high
-find-requires-clause-high c =
+pub day_of_nth-requires-clause-high : goal.day_of_nth-requires-clause-high
+day_of_nth-requires-clause-high c =
     let rule = c.args.rule.now in
     let value = c.day_cycle-cycle.ensures.value in
     let day = rw (to_z-of_z c.ranges.start) at c.day_part.ensures in

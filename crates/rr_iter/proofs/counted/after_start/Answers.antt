@@ -44,8 +44,8 @@ overflow_add-to c =
     let t = to_is c.day_part.result first cycle day bounds.0 bounds.1 within in
     to_fits c.day_part.result first cycle day bounds.0 bounds.1 within
 
-pub find-requires-clause-low : goal.find-requires-clause-low
-find-requires-clause-low c =
+pub day_of_nth-requires-clause-low : goal.day_of_nth-requires-clause-low
+day_of_nth-requires-clause-low c =
     let kind = c.args.kind in
     let start = c.args.start in
     let first : ℤ = day_part kind start in
@@ -56,8 +56,8 @@ find-requires-clause-low c =
     let t = to_is c.day_part.result first cycle day bounds.0 bounds.1 within in
     rw t (omega (arith, ints, bounds.0, year_1))
 
-pub find-requires-clause-high : goal.find-requires-clause-high
-find-requires-clause-high c =
+pub day_of_nth-requires-clause-high : goal.day_of_nth-requires-clause-high
+day_of_nth-requires-clause-high c =
     let kind = c.args.kind in
     let start = c.args.start in
     let first : ℤ = day_part kind start in
