@@ -5,8 +5,8 @@ use Rattle.rr_model.specs.declared.kind.Kind.TheVariants.{Moments}
 use Rattle.rr_model.specs.Moment.Years.{IsInYears}
 use Rattle.rr_model.specs.Rule.Validity.{IsValidRule}
 use Rattle.rr_model.specs.Moment.{day_part, second_part}
+use Rattle.rr_model.proofs.DaysAndTimesLemmas.{only_moments}
 use Rattle.rr_iter.proofs.WalkLemmas.{start_near}
-use Rattle.rr_iter.proofs.FineLemmas.{only_moments}
 use Rattle.rr_iter.proofs.PlaceOfDayLemmas.{knows_none}
 use Rattle.rr_iter.proofs.fine_rule.FineRule.new.Goals as goal
 
