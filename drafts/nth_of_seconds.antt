@@ -1,0 +1,116 @@
+use Rattle.std.proofs.Common.{◌≡◌, ◌+◌, ◌∙◌, sym, ap, subst, rules, FitsSigned, w64, to_z, of_z, to_z-of_z, Some, arith}
+use Rattle.rr_model.specs.Moment.{day_part, second_part, moment_at}
+use Rattle.rr_model.specs.Moment.Units.{unit_number, unit_seconds, unit_start}
+use Rattle.rr_model.specs.declared.kind.Kind.TheVariants.{Moments}
+use Rattle.rr_setpos.specs.Nth.{IsNthOfUnit}
+use Rattle.rr_setpos.specs.Ranks.{times_before}
+use Rattle.rr_setpos.proofs.NthLemmas.{nth_some, nth_none, none_unfit, none_on_day, unit_within, rank_in_day, size_in_day, in_fine_unit, candidate_in_fine}
+use Rattle.rr_setpos.proofs.NthLemmas.{rank_in_fine, unit_begins, unit_counts}
+use Rattle.rr_setpos.proofs.nth.nth_of_seconds.Goals.{@B@, @C@}
+use Rattle.rr_setpos.proofs.nth.nth_of_seconds.Goals as goal
+use Rattle.rr_setpos.proofs.nth.nth_of_seconds.Goals.{then-not-is_congruent-via-then-not-is_congruent}
+use Rattle.rr_setpos.proofs.nth.nth_of_seconds.Goals.{then-not-is_congruent-via-else-not-is_congruent+then-not-date_parts_hold}
+
+pub overflow_add-second : goal.overflow_add-second
+overflow_add-second c = omega (arith, c.second_part-second.ensures.below, c.seconds_of_unit.ensures.few)
+
+-- ---- where the unit begins
+
+begun : (c : @B@) → let begin = unit_start c.args.rule.now.freq c.args.rule.now.week_start Moments c.args.unit in
+    (c.new-begin.result.at ≡ begin) × (c.new-begin.result.day.number ≡ day_part Moments begin)
+begun c =
+    let rule = c.args.rule.now in
+    let made = c.new-begin in
+    let fits : FitsSigned w64 c.begin_of_unit.result = search rules in
+    unit_begins rule made.result.kind c.args.unit c.begin_of_unit.result made.result.at made.result.day.number c.requires.freq
+    (rw (to_z-of_z c.ranges.unit) at c.begin_of_unit.ensures) (made.ensures.at ∙ to_z-of_z fits) made.ensures.kind made.result.of_day
+
+-- the start's day and the number of its unit
+own : (c : @B@) → c.args.start.now.day.number ≡ day_part Moments c.args.start.now.at
+own c = c.args.start.now.of_day ∙ ap (λ k. day_part k c.args.start.now.at) c.requires.kind
+
+start_unit : (c : @B@) → to_z w64 (of_z w64 c.unit_number.result)
+    ≡ unit_number c.args.rule.now.freq c.args.rule.now.week_start Moments c.args.start.now.at
+start_unit c =
+    let rule = c.args.rule.now in
+    let fits : FitsSigned w64 c.unit_number.result = search rules in
+    to_z-of_z fits ∙ c.unit_number.ensures ∙ ap (λ k. unit_number rule.freq rule.week_start k c.args.start.now.at) c.requires.kind
+
+pub returns-then-not-is_congruent : goal.returns-then-not-is_congruent
+returns-then-not-is_congruent c =
+    let b = (goal.at.returns-then-not-is_congruent c).@B@ in
+    let rule = c.args.rule.now in
+    let start = c.args.start.now in
+    elim c.then-not-is_congruent.branch [
+      | then-not-is_congruent-via-then-not-is_congruent w ↦
+          none_unfit rule Moments start.at c.args.unit c.args.place
+          (rw (to_z-of_z c.ranges.unit, start_unit b) at (sym c.is_congruent.ensures ∙ w.if-not-is_congruent.true))
+      | then-not-is_congruent-via-else-not-is_congruent+then-not-date_parts_hold w ↦
+          none_on_day rule start.at c.args.unit c.requires.freq c.args.place
+          (rw (own b, (begun b).1) at (sym w.date_parts_hold.ensures ∙ w.if-not-date_parts_hold.true))
+    ]
+
+pub times_before-end-requires : goal.times_before-end-requires
+times_before-end-requires c =
+    let made = c.new-begin in
+    let fits : FitsSigned w64 made.result.at = search rules in
+    let second = c.second_part-second.ensures.value ∙ ap (second_part Moments) (to_z-of_z fits ∙ (begun (goal.at.times_before-end-requires c).@B@).0) in
+    rw (c.requires.kind, second, c.seconds_of_unit.ensures.value) (unit_within c.args.rule.now c.args.start.now.at c.args.unit c.requires.freq)
+
+-- ---- the times of its day that come before it and before the next unit
+
+counts : (c : @C@) → let start = c.args.start.now in
+    let second = second_part Moments (unit_start c.args.rule.now.freq c.args.rule.now.week_start Moments c.args.unit) in
+    (c.second_part-second.result ≡ second) × (c.times_before-before.result ≡ times_before c.args.rule.now Moments start.at second)
+    × (c.times_before-end.result ≡ times_before c.args.rule.now Moments start.at (second + unit_seconds c.args.rule.now.freq))
+counts c =
+    let start = c.args.start.now in
+    let made = c.new-begin in
+    let fits : FitsSigned w64 made.result.at = search rules in
+    let second = c.second_part-second.ensures.value ∙ ap (second_part Moments) (to_z-of_z fits) in
+    let of_unit = c.seconds_of_unit in
+    let before = c.times_before-before in
+    let end = c.times_before-end in
+    unit_counts c.args.rule.now start.kind start.at c.args.unit made.result.at c.second_part-second.result of_unit.result before.result end.result
+    c.requires.kind (begun (goal.at.rank_of-requires c).@B@).0 second of_unit.ensures.value before.ensures.value end.ensures.value
+
+pub nth_time-requires : goal.nth_time-requires
+nth_time-requires c =
+    let counts = counts (goal.at.nth_time-requires c).@C@ in
+    let ranked = rw (c.in-Some.is, c.saturating_sub.ensures, counts.2, counts.1) at c.rank_of.ensures in
+    rw (c.requires.kind, counts.1) (rank_in_day c.args.rule.now c.args.start.now.at c.args.unit c.requires.freq c.in-Some.rank ranked.0)
+
+pub returns-in-None : goal.returns-in-None
+returns-in-None c =
+    let rule = c.args.rule.now in
+    let start = c.args.start.now in
+    let counts = counts (goal.at.returns-in-None c).@C@ in
+    nth_none rule Moments start.at c.args.unit c.args.place _ (λ t in_it passes. size_in_day rule start.at c.args.unit c.requires.freq t in_it passes)
+    (rw (c.in-None.is, c.saturating_sub.ensures, counts.2, counts.1, to_z-of_z c.ranges.place) at c.rank_of.ensures)
+
+pub returns-in-Some : goal.returns-in-Some
+returns-in-Some c =
+    let rule = c.args.rule.now in
+    let start = c.args.start.now in
+    let made = c.new-begin in
+    let b = (goal.at.returns-in-Some c).@B@ in
+    let begin = begun b in
+    let counts = counts (goal.at.returns-in-Some c).@C@ in
+    let ranked = rw (c.in-Some.is, c.saturating_sub.ensures, counts.2, counts.1, to_z-of_z c.ranges.place) at c.rank_of.ensures in
+    let s = c.nth_time.result in
+    let low = rw c.requires.kind at c.nth_time.ensures.within in
+    let holds = rw c.requires.kind at c.nth_time.ensures.holds in
+    let rank = rw (c.requires.kind, counts.1) at c.nth_time.ensures.rank in
+    let fit = rw (to_z-of_z c.ranges.unit, start_unit b) at (sym c.is_congruent.ensures ∙ c.if-not-is_congruent.false) in
+    let dates = rw (own b, begin.1) at (sym c.date_parts_hold.ensures ∙ c.if-not-date_parts_hold.false) in
+    let there : FitsSigned w64 c.moment_at.result = search rules in
+    let fits_day : FitsSigned w64 made.result.day.number = search rules in
+    let at : to_z w64 (of_z w64 c.moment_at.result) ≡ moment_at Moments (day_part Moments (unit_start rule.freq rule.week_start Moments c.args.unit)) s =
+    to_z-of_z there ∙ c.moment_at.ensures.value ∙ ap (λ d. moment_at Moments d s) (to_z-of_z fits_day ∙ begin.1) in
+    let in_it = in_fine_unit rule start.at c.args.unit c.requires.freq s c.in-Some.rank low fit dates holds ranked.0 rank in
+    let passes = candidate_in_fine rule start.at c.args.unit c.requires.freq s c.in-Some.rank low fit dates holds ranked.0 rank in
+    subst (λ z. IsNthOfUnit rule Moments start.at c.args.unit c.args.place (Some z)) (sym at)
+    (nth_some rule Moments start.at c.args.unit c.args.place _ c.in-Some.rank _ in_it passes
+    (rank_in_fine rule start.at c.args.unit c.requires.freq s c.in-Some.rank low fit dates holds ranked.0 rank)
+    (size_in_day rule start.at c.args.unit c.requires.freq _ in_it passes)
+    ranked.1)
