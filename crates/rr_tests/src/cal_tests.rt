@@ -4,8 +4,8 @@ use rr_cal::*;
 const FARTHEST: i64 = 3_000_000_001_000;
 
 #[test]
-fn dates_of_days(rt: HostRuntime) {
-    for (number, year, month, day) in [
+fn known_days_weeks_and_years(rt: HostRuntime) {
+    let dates = [
         (-3_000_000_000_000, -8_213_719_051, 1, 13),
         (-719_162, 1, 1, 1),
         (0, 1970, 1, 1),
@@ -13,7 +13,8 @@ fn dates_of_days(rt: HostRuntime) {
         (47_540, 2100, 2, 28),
         (2_932_896, 9999, 12, 31),
         (3_000_000_000_000, 8_213_722_990, 12, 19),
-    ] {
+    ];
+    for (number, year, month, day) in dates {
         assert!(rt; -FARTHEST <= number && number <= FARTHEST);
         let date = date_of(number);
         assert_eq!(rt; date, Date { year, month, day });
@@ -23,12 +24,8 @@ fn dates_of_days(rt: HostRuntime) {
     for (year, month, day) in [(1900, 2, 29), (2023, 13, 1), (2023, 4, 31), (2023, 1, 0)] {
         assert!(rt; !valid(year, month, day));
     }
-}
-
-// The last or first day of a year, its weekday, and its week where weeks begin on Monday and on Sunday.
-#[test]
-fn weeks_of_days(rt: HostRuntime) {
-    for (day, of_week, from_monday, from_sunday) in [
+    // the last or first day of a year, its weekday, and its week where weeks begin on Monday and on Sunday
+    let weeks = [
         (10_226, 2, (1998, 1, 53), (1997, 53, 53)),
         (12_418, 3, (2004, 1, 53), (2003, 53, 53)),
         (12_784, 5, (2004, 53, 53), (2004, 52, 52)),
@@ -36,7 +33,8 @@ fn weeks_of_days(rt: HostRuntime) {
         (14_974, 4, (2010, 52, 52), (2010, 52, 52)),
         (18_262, 2, (2020, 1, 53), (2020, 1, 53)),
         (18_628, 4, (2020, 53, 53), (2020, 53, 53)),
-    ] {
+    ];
+    for (day, of_week, from_monday, from_sunday) in weeks {
         assert!(rt; -FARTHEST <= day && day <= FARTHEST);
         assert_eq!(rt; weekday(day), of_week);
         let week = week_of(day, 0);
@@ -44,30 +42,29 @@ fn weeks_of_days(rt: HostRuntime) {
         let week = week_of(day, 6);
         assert_eq!(rt; (week.year, week.number, week.last), from_sunday);
     }
-}
-
-// The days after the last day of a year, 28 and 29 February; then the days of the month, the day and the days of the year, the weekday.
-#[test]
-fn days_after_others(rt: HostRuntime) {
-    for (number, date, rest) in [
+    // the day after the last day of a year, of 28 and of 29 February
+    let next_days = [
         (19_722, (2024, 1, 1), (31, 1, 366, 0)),
         (19_781, (2024, 2, 29), (29, 60, 366, 3)),
         (19_782, (2024, 3, 1), (31, 61, 366, 4)),
-    ] {
+    ];
+    for (number, date, rest) in next_days {
         assert!(rt; -FARTHEST <= number && number < FARTHEST);
         let day = Day::new(number).next();
-        assert_eq!(rt; day.number, number + 1);
-        assert_eq!(rt; (day.year, day.month, day.day_of_month), date);
-        let of_month = day.days_in_month;
         assert_eq!(rt;
-            (of_month, day.day_of_year, day.days_in_year, day.weekday),
+            (day.number, (day.year, day.month, day.day_of_month)),
+            (number + 1, date)
+        );
+        assert_eq!(rt;
+            (
+                day.days_in_month,
+                day.day_of_year,
+                day.days_in_year,
+                day.weekday
+            ),
             rest
         );
     }
-}
-
-#[test]
-fn kinds_of_years(rt: HostRuntime) {
     for (year, kind) in [(2023, 6), (2024, 7), (2000, 12), (1900, 0), (-400, 12)] {
         assert_eq!(rt; year_kind(year), kind);
     }
