@@ -9,7 +9,7 @@ ghost use Rattle.rr_fold.specs.Folding.{IsFoldedTo};
 ghost use Rattle.rr_fold.specs.Jump.{AreWholeCycles, IsCountedJump, IsJump, IsSpliced};
 
 use crate::fill::{FoldedDays, collected, days_between};
-use rr_iter::{EndedLazy, Place, RuleLazy, find};
+use rr_iter::{EndedLazy, Place, RuleLazy, day_of_nth};
 use rr_lazy::FirstN;
 use rr_model::{Fault, Kind, NoMemory, Rule, day_part};
 use rr_num::day_cycle;
@@ -147,10 +147,11 @@ fn counted_jump(
     ensures { IfOk result (λ r. IfSome r (IsCountedJump rule.now kind start count days)) }
 {
     let day = day_part(kind, start);
-    let Place::Beyond(left) = find(alloc, rule, kind, start, count, day)? else {
+    let Place::Beyond(left) = day_of_nth(alloc, rule, kind, start, count, day)? else {
         return Ok(None);
     };
-    let Place::Beyond(after) = find(alloc, rule, kind, start, count, day + cycle as i64)? else {
+    let Place::Beyond(after) = day_of_nth(alloc, rule, kind, start, count, day + cycle as i64)?
+    else {
         return Ok(None);
     };
     let each = left - after;

@@ -5,7 +5,7 @@ ghost use Rattle.rr_model.specs.Rule.Cycle.{rule_cycle};
 ghost use Rattle.rr_model.specs.Sets.Tree.{chosen_of};
 ghost use Rattle.rr_iter.specs.Ends.{AnswersDayOf, IsSoundRule, before_day};
 
-use crate::place::{Place, find};
+use crate::place::{Place, day_of_nth};
 use rr_model::{Fault, Kind, MAX_SPAN_DAYS, Refusal, Rule, day_part};
 use rr_num::day_cycle;
 use std::alloc::Global;
@@ -28,7 +28,7 @@ pub(crate) fn last_counted(
     if count > MOST_MOMENTS {
         return Err(Fault::Refused(Refusal::CountedTooFar));
     }
-    match find(alloc, rule, kind, start, count, day_part(kind, start))? {
+    match day_of_nth(alloc, rule, kind, start, count, day_part(kind, start))? {
         Place::On(day) => Ok(day),
         Place::Beyond(left) => after_start(alloc, rule, kind, start, count, left),
     }
@@ -51,7 +51,7 @@ fn after_start(
 {
     let cycle = cycle_within_span(rule);
     let to = day_part(kind, start) + cycle as i64;
-    match find(alloc, rule, kind, start, count, to)? {
+    match day_of_nth(alloc, rule, kind, start, count, to)? {
         Place::On(day) => Ok(day),
         Place::Beyond(after) => {
             if cycle == MAX_SPAN_DAYS {
@@ -90,7 +90,7 @@ fn after_cycles(
     }
     let days = (cycles * cycle) as i64;
     let to = day_part(kind, start) + (MAX_SPAN_DAYS as i64 - days);
-    match find(alloc, rule, kind, start, count - cycles * each, to)? {
+    match day_of_nth(alloc, rule, kind, start, count - cycles * each, to)? {
         Place::On(day) => Ok(day + days),
         Place::Beyond(_) => Err(Fault::Refused(Refusal::CountedTooFar)),
     }

@@ -5,29 +5,19 @@ ghost use Rattle.rr_model.specs.Rule.Validity.{IsValidRule};
 ghost use Rattle.rr_lazy.specs.Next.{IsUnasked};
 ghost use Rattle.rr_model.specs.Sets.Tree.{chosen_of};
 
-use crate::{DayLazy, HourLazy, MinuteLazy, MonthLazy, SecondLazy, WeekLazy, YearLazy};
+use crate::{FineUnits, WholeDays};
 use rr_lazy::{Lazy, OccupiedDay};
-use rr_model::{Freq, Kind, NoMemory, Rule};
+use rr_model::{Kind, NoMemory, Rule};
 use rr_shapes::SetTable;
 use std::alloc::Global;
 
 /// The chosen moments of a rule from its start on.
 #[derive(Drop)]
 pub enum RuleLazy {
-    /// Of a rule in seconds.
-    Second(SecondLazy),
-    /// Of a rule in minutes.
-    Minute(MinuteLazy),
-    /// Of a rule in hours.
-    Hour(HourLazy),
-    /// Of a rule in days.
-    Day(DayLazy),
-    /// Of a rule in weeks.
-    Week(WeekLazy),
-    /// Of a rule in months.
-    Month(MonthLazy),
-    /// Of a rule in years.
-    Year(YearLazy),
+    /// Of a rule in days, weeks, months or years.
+    WholeDays(WholeDays),
+    /// Of a rule in hours, minutes or seconds.
+    FineUnits(FineUnits),
 }
 
 impl RuleLazy {
@@ -39,15 +29,11 @@ impl RuleLazy {
         ensures unasked { IfOk result (λ l. IsUnasked (⟦<RuleLazy as Lazy>⟧.position l)) }
         ensures knows { IfOk result (λ l. (sets : List (List ℕ)) → ⟦<RuleLazy as Lazy>⟧.knows l sets) }
     {
-        Ok(match rule.freq {
-            Freq::Secondly => RuleLazy::Second(SecondLazy::new(alloc, rule, kind, start)?),
-            Freq::Minutely => RuleLazy::Minute(MinuteLazy::new(alloc, rule, kind, start)?),
-            Freq::Hourly => RuleLazy::Hour(HourLazy::new(alloc, rule, kind, start)?),
-            Freq::Daily => RuleLazy::Day(DayLazy::new(alloc, rule, kind, start)?),
-            Freq::Weekly => RuleLazy::Week(WeekLazy::new(alloc, rule, kind, start)?),
-            Freq::Monthly => RuleLazy::Month(MonthLazy::new(alloc, rule, kind, start)?),
-            Freq::Yearly => RuleLazy::Year(YearLazy::new(alloc, rule, kind, start)?),
-        })
+        if rule.freq.is_whole_days() {
+            Ok(RuleLazy::WholeDays(WholeDays::new(alloc, rule, kind, start)?))
+        } else {
+            Ok(RuleLazy::FineUnits(FineUnits::new(alloc, rule, kind, start)?))
+        }
     }
 
     /// Goes on from a day, in days since 1970-01-01: the days before it are passed over.
@@ -58,13 +44,8 @@ impl RuleLazy {
         ensures knows { (sets : List (List ℕ)) → ⟦<RuleLazy as Lazy>⟧.knows self.old sets → ⟦<RuleLazy as Lazy>⟧.knows self.new sets }
     {
         match self {
-            RuleLazy::Second(lazy) => lazy.skip_to(day),
-            RuleLazy::Minute(lazy) => lazy.skip_to(day),
-            RuleLazy::Hour(lazy) => lazy.skip_to(day),
-            RuleLazy::Day(lazy) => lazy.skip_to(day),
-            RuleLazy::Week(lazy) => lazy.skip_to(day),
-            RuleLazy::Month(lazy) => lazy.skip_to(day),
-            RuleLazy::Year(lazy) => lazy.skip_to(day),
+            RuleLazy::WholeDays(lazy) => lazy.skip_to(day),
+            RuleLazy::FineUnits(lazy) => lazy.skip_to(day),
         }
     }
 }
@@ -89,13 +70,8 @@ impl Lazy for RuleLazy {
         to: i64,
     ) -> Result<Option<OccupiedDay>, NoMemory> {
         match self {
-            RuleLazy::Second(lazy) => lazy.next(alloc, sets, to),
-            RuleLazy::Minute(lazy) => lazy.next(alloc, sets, to),
-            RuleLazy::Hour(lazy) => lazy.next(alloc, sets, to),
-            RuleLazy::Day(lazy) => lazy.next(alloc, sets, to),
-            RuleLazy::Week(lazy) => lazy.next(alloc, sets, to),
-            RuleLazy::Month(lazy) => lazy.next(alloc, sets, to),
-            RuleLazy::Year(lazy) => lazy.next(alloc, sets, to),
+            RuleLazy::WholeDays(lazy) => lazy.next(alloc, sets, to),
+            RuleLazy::FineUnits(lazy) => lazy.next(alloc, sets, to),
         }
     }
 }

@@ -6,8 +6,8 @@ use Rattle.rr_days.proofs.BackLemmas.{back, days_back, sum_back}
 use Rattle.rr_fold.proofs.CountedJumpLemmas.{falls, some_days, fewer, counted_is}
 use Rattle.rr_fold.proofs.jump.counted_jump.Goals as goal
 
-pub find-requires-clause-high : goal.find-requires-clause-high
-find-requires-clause-high c =
+pub day_of_nth-requires-clause-high : goal.day_of_nth-requires-clause-high
+day_of_nth-requires-clause-high c =
     let start = to_z-of_z c.ranges.start in
     let day : c.day_part-day.result ≡ day_part c.args.kind c.args.start = c.day_part-day.ensures ∙ ap (day_part c.args.kind) start in
     let b = four_digit_bounds (day_part c.args.kind c.args.start) c.requires.sound.in_years in
@@ -28,8 +28,8 @@ overflow_add-day c =
     let high' : (c.day_part-day.result +ℤ pos c.args.cycle) ≤ℤ pos 4_000_000_000 = omega (arith, ints, b.1, day, few) in
     search rules)
 
-pub find-requires-2-clause-low : goal.find-requires-2-clause-low
-find-requires-2-clause-low c =
+pub day_of_nth-requires-2-clause-low : goal.day_of_nth-requires-2-clause-low
+day_of_nth-requires-2-clause-low c =
     let start = to_z-of_z c.ranges.start in
     let day : c.day_part-day.result ≡ day_part c.args.kind c.args.start = c.day_part-day.ensures ∙ ap (day_part c.args.kind) start in
     let b = four_digit_bounds (day_part c.args.kind c.args.start) c.requires.sound.in_years in
@@ -39,8 +39,8 @@ find-requires-2-clause-low c =
     (omega (arith, ints, b.1, day)) few in
     rw to (omega (arith, ints, c.requires.sound.in_years.0, day))
 
-pub find-requires-2-clause-high : goal.find-requires-2-clause-high
-find-requires-2-clause-high c =
+pub day_of_nth-requires-2-clause-high : goal.day_of_nth-requires-2-clause-high
+day_of_nth-requires-2-clause-high c =
     let start = to_z-of_z c.ranges.start in
     let day : c.day_part-day.result ≡ day_part c.args.kind c.args.start = c.day_part-day.ensures ∙ ap (day_part c.args.kind) start in
     let b = four_digit_bounds (day_part c.args.kind c.args.start) c.requires.sound.in_years in

@@ -72,13 +72,13 @@ overflow_sub-to c = rw c.day_cycle-cycle.ensures.value (span c).rest_fits
 pub overflow_add-to : goal.overflow_add-to
 overflow_add-to c = rw c.day_cycle-cycle.ensures.value (span c).to_fits
 
-pub find-requires-clause-low : goal.find-requires-clause-low
-find-requires-clause-low c =
+pub day_of_nth-requires-clause-low : goal.day_of_nth-requires-clause-low
+day_of_nth-requires-clause-low c =
     let s = span c in
     rw (c.day_cycle-cycle.ensures.value, s.to) (omega (arith, ints, s.low, year_1))
 
-pub find-requires-clause-high : goal.find-requires-clause-high
-find-requires-clause-high c =
+pub day_of_nth-requires-clause-high : goal.day_of_nth-requires-clause-high
+day_of_nth-requires-clause-high c =
     let s = span c in
     rw (c.day_cycle-cycle.ensures.value, s.to) s.high
 

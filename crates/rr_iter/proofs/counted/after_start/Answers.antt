@@ -63,13 +63,13 @@ overflow_add-to c =
     let s = span c in
     to_fits c.day_part.result (day_part c.args.kind c.args.start) c.cycle_within_span-cycle.result s.day s.low s.high s.within
 
-pub find-requires-clause-low : goal.find-requires-clause-low
-find-requires-clause-low c =
+pub day_of_nth-requires-clause-low : goal.day_of_nth-requires-clause-low
+day_of_nth-requires-clause-low c =
     let s = span c in
     rw s.to (omega (arith, ints, s.low, year_1))
 
-pub find-requires-clause-high : goal.find-requires-clause-high
-find-requires-clause-high c =
+pub day_of_nth-requires-clause-high : goal.day_of_nth-requires-clause-high
+day_of_nth-requires-clause-high c =
     let s = span c in
     rw s.to (omega (arith, ints, s.high, s.within))
 

@@ -9,8 +9,8 @@ pub returns-then-count-gt-MOST_MOMENTS : goal.returns-then-count-gt-MOST_MOMENTS
 returns-then-count-gt-MOST_MOMENTS c =
     (refl, omega (arith, span_most c.args.kind c.args.start c.args.rule.now c.requires.sound, c.if-count-gt-MOST_MOMENTS.true))
 
-pub find-requires-clause-high : goal.find-requires-clause-high
-find-requires-clause-high c =
+pub day_of_nth-requires-clause-high : goal.day_of_nth-requires-clause-high
+day_of_nth-requires-clause-high c =
     let bounds = start_bounds c.args.kind c.args.start c.args.rule.now c.requires.sound in
     let day = rw (to_z-of_z c.ranges.start) at c.day_part.ensures in
     omega (arith, ints, day, bounds.0, bounds.1)

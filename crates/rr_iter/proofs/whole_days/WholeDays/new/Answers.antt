@@ -1,7 +1,7 @@
 use Rattle.std.proofs.Common.{to_z-of_z, sym, arith}
 use Rattle.std.proofs.lemmas.Int.{ints}
 use Rattle.rr_lazy.proofs.FirstLemmas.{first_day_is}
-use Rattle.rr_iter.proofs.year_lazy.YearLazy.new.Goals as goal
+use Rattle.rr_iter.proofs.whole_days.WholeDays.new.Goals as goal
 
 pub invariant_of-result : goal.invariant_of-result
 invariant_of-result c =

@@ -1,8 +1,8 @@
-// The chosen moments of a rule in days.
-ghost use Rattle.std.specs.Prelude.{◌≡◌, ◌≤ℤ◌, IfOk, List, ℕ};
+// The chosen moments of a rule of whole days: days, weeks, months or years.
+ghost use Rattle.std.specs.Prelude.{◌≡◌, ◌≤ℤ◌, IfOk, List, true, ℕ};
 ghost use Rattle.rr_model.specs.Moment.Years.{IsInYears};
 ghost use Rattle.rr_model.specs.Rule.Validity.{IsValidRule};
-ghost use Rattle.rr_model.specs.declared.rule.Freq.TheVariants.{Daily};
+ghost use Rattle.rr_model.specs.Moment.Units.{is_whole_days};
 ghost use Rattle.rr_lazy.specs.Next.{IsUnasked};
 ghost use Rattle.rr_iter.specs.Ruling.{IsValidRuling, IsValidRuling-prop};
 ghost use Rattle.rr_iter.specs.Steps.{HasBegun};
@@ -13,29 +13,41 @@ use rr_model::{Kind, NoMemory, Rule};
 use rr_shapes::SetTable;
 use std::alloc::Global;
 
-/// The chosen moments of a rule with FREQ=DAILY from its start on.
+/// The chosen moments of a rule with FREQ=DAILY, WEEKLY, MONTHLY or YEARLY from its start on.
 #[derive(Drop)]
-pub struct DayLazy {
+pub struct WholeDays {
     rule: DayRule,
     position: i64,
     ghost valid: { IsValidRuling rule } by { IsValidRuling-prop rule },
     ghost begun: { HasBegun position },
 }
 
-impl DayLazy {
+/// The chosen moments of a rule with FREQ=DAILY.
+pub type DayLazy = WholeDays;
+
+/// The chosen moments of a rule with FREQ=WEEKLY.
+pub type WeekLazy = WholeDays;
+
+/// The chosen moments of a rule with FREQ=MONTHLY.
+pub type MonthLazy = WholeDays;
+
+/// The chosen moments of a rule with FREQ=YEARLY.
+pub type YearLazy = WholeDays;
+
+impl WholeDays {
     ghost use Rattle.rr_model.specs.Sets.Tree.{chosen_of};
 
     /// The chosen moments of a rule from its start on, in years 1 to 9999. The rule's end is not asked.
-    pub fn new(alloc: Global, rule: &Rule, kind: Kind, start: i64) -> Result<DayLazy, NoMemory>
+    pub fn new(alloc: Global, rule: &Rule, kind: Kind, start: i64) -> Result<WholeDays, NoMemory>
         requires valid { IsValidRule kind rule.now }
-        requires freq { rule.now.freq ≡ Daily }
+        requires freq { is_whole_days rule.now.freq ≡ true }
         requires in_years { IsInYears kind start }
-        ensures tree { IfOk result (λ l. ⟦<DayLazy as Lazy>⟧.tree l ≡ chosen_of rule.now kind start) }
-        ensures unasked { IfOk result (λ l. IsUnasked (⟦<DayLazy as Lazy>⟧.position l)) }
-        ensures knows { IfOk result (λ l. (sets : List (List ℕ)) → ⟦<DayLazy as Lazy>⟧.knows l sets) }
+        ensures tree { IfOk result (λ l. ⟦<WholeDays as Lazy>⟧.tree l ≡ chosen_of rule.now kind start) }
+        ensures unasked { IfOk result (λ l. IsUnasked (⟦<WholeDays as Lazy>⟧.position l)) }
+        ensures knows { IfOk result (λ l. (sets : List (List ℕ)) → ⟦<WholeDays as Lazy>⟧.knows l sets) }
     {
         let rule = DayRule::new(alloc, rule, kind, start)?;
-        Ok(DayLazy {
+        Ok(WholeDays {
             rule,
             position: -719_162,
         })
@@ -43,16 +55,16 @@ impl DayLazy {
 
     // Goes on from a day: the days before it are passed over.
     pub(crate) fn skip_to(&mut self, day: i64)
-        requires { ⟦<DayLazy as Lazy>⟧.position self.old ≤ℤ day }
-        ensures tree { ⟦<DayLazy as Lazy>⟧.tree self.new ≡ ⟦<DayLazy as Lazy>⟧.tree self.old }
-        ensures position { ⟦<DayLazy as Lazy>⟧.position self.new ≡ day }
-        ensures knows { (sets : List (List ℕ)) → ⟦<DayLazy as Lazy>⟧.knows self.old sets → ⟦<DayLazy as Lazy>⟧.knows self.new sets }
+        requires { ⟦<WholeDays as Lazy>⟧.position self.old ≤ℤ day }
+        ensures tree { ⟦<WholeDays as Lazy>⟧.tree self.new ≡ ⟦<WholeDays as Lazy>⟧.tree self.old }
+        ensures position { ⟦<WholeDays as Lazy>⟧.position self.new ≡ day }
+        ensures knows { (sets : List (List ℕ)) → ⟦<WholeDays as Lazy>⟧.knows self.old sets → ⟦<WholeDays as Lazy>⟧.knows self.new sets }
     {
         self.position = day;
     }
 }
 
-impl Lazy for DayLazy {
+impl Lazy for WholeDays {
     ghost use Rattle.rr_model.specs.Sets.Tree.{chosen_of};
     ghost use Rattle.rr_iter.specs.Ruling.{KnowsTimes, keeps_more};
     ghost use Rattle.rr_iter.specs.Steps.{sound_ruling};

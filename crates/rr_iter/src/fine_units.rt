@@ -1,8 +1,8 @@
-// The chosen moments of a rule in seconds.
-ghost use Rattle.std.specs.Prelude.{◌≡◌, ◌≤ℤ◌, IfOk, List, ℕ};
+// The chosen moments of a rule of units shorter than a day: hours, minutes or seconds.
+ghost use Rattle.std.specs.Prelude.{◌≡◌, ◌≤ℤ◌, IfOk, List, false, ℕ};
 ghost use Rattle.rr_model.specs.Moment.Years.{IsInYears};
 ghost use Rattle.rr_model.specs.Rule.Validity.{IsValidRule};
-ghost use Rattle.rr_model.specs.declared.rule.Freq.TheVariants.{Secondly};
+ghost use Rattle.rr_model.specs.Moment.Units.{is_whole_days};
 ghost use Rattle.rr_lazy.specs.Next.{IsUnasked};
 ghost use Rattle.rr_iter.specs.Ruling.{IsValidRuling, IsValidRuling-prop, at_moments};
 ghost use Rattle.rr_iter.specs.Steps.{HasBegun};
@@ -13,29 +13,38 @@ use rr_model::{Kind, NoMemory, Rule};
 use rr_shapes::SetTable;
 use std::alloc::Global;
 
-/// The chosen moments of a rule with FREQ=SECONDLY from its start on.
+/// The chosen moments of a rule with FREQ=HOURLY, MINUTELY or SECONDLY from its start on.
 #[derive(Drop)]
-pub struct SecondLazy {
+pub struct FineUnits {
     rule: FineRule,
     position: i64,
     ghost valid: { IsValidRuling (at_moments rule) } by { IsValidRuling-prop (at_moments rule) },
     ghost begun: { HasBegun position },
 }
 
-impl SecondLazy {
+/// The chosen moments of a rule with FREQ=HOURLY.
+pub type HourLazy = FineUnits;
+
+/// The chosen moments of a rule with FREQ=MINUTELY.
+pub type MinuteLazy = FineUnits;
+
+/// The chosen moments of a rule with FREQ=SECONDLY.
+pub type SecondLazy = FineUnits;
+
+impl FineUnits {
     ghost use Rattle.rr_model.specs.Sets.Tree.{chosen_of};
 
     /// The chosen moments of a rule from its start on, in years 1 to 9999. The rule's end is not asked.
-    pub fn new(alloc: Global, rule: &Rule, kind: Kind, start: i64) -> Result<SecondLazy, NoMemory>
+    pub fn new(alloc: Global, rule: &Rule, kind: Kind, start: i64) -> Result<FineUnits, NoMemory>
         requires valid { IsValidRule kind rule.now }
-        requires freq { rule.now.freq ≡ Secondly }
+        requires freq { is_whole_days rule.now.freq ≡ false }
         requires in_years { IsInYears kind start }
-        ensures tree { IfOk result (λ l. ⟦<SecondLazy as Lazy>⟧.tree l ≡ chosen_of rule.now kind start) }
-        ensures unasked { IfOk result (λ l. IsUnasked (⟦<SecondLazy as Lazy>⟧.position l)) }
-        ensures knows { IfOk result (λ l. (sets : List (List ℕ)) → ⟦<SecondLazy as Lazy>⟧.knows l sets) }
+        ensures tree { IfOk result (λ l. ⟦<FineUnits as Lazy>⟧.tree l ≡ chosen_of rule.now kind start) }
+        ensures unasked { IfOk result (λ l. IsUnasked (⟦<FineUnits as Lazy>⟧.position l)) }
+        ensures knows { IfOk result (λ l. (sets : List (List ℕ)) → ⟦<FineUnits as Lazy>⟧.knows l sets) }
     {
         let rule = FineRule::new(alloc, rule, kind, start)?;
-        Ok(SecondLazy {
+        Ok(FineUnits {
             rule,
             position: -719_162,
         })
@@ -43,16 +52,16 @@ impl SecondLazy {
 
     // Goes on from a day: the days before it are passed over.
     pub(crate) fn skip_to(&mut self, day: i64)
-        requires { ⟦<SecondLazy as Lazy>⟧.position self.old ≤ℤ day }
-        ensures tree { ⟦<SecondLazy as Lazy>⟧.tree self.new ≡ ⟦<SecondLazy as Lazy>⟧.tree self.old }
-        ensures position { ⟦<SecondLazy as Lazy>⟧.position self.new ≡ day }
-        ensures knows { (sets : List (List ℕ)) → ⟦<SecondLazy as Lazy>⟧.knows self.old sets → ⟦<SecondLazy as Lazy>⟧.knows self.new sets }
+        requires { ⟦<FineUnits as Lazy>⟧.position self.old ≤ℤ day }
+        ensures tree { ⟦<FineUnits as Lazy>⟧.tree self.new ≡ ⟦<FineUnits as Lazy>⟧.tree self.old }
+        ensures position { ⟦<FineUnits as Lazy>⟧.position self.new ≡ day }
+        ensures knows { (sets : List (List ℕ)) → ⟦<FineUnits as Lazy>⟧.knows self.old sets → ⟦<FineUnits as Lazy>⟧.knows self.new sets }
     {
         self.position = day;
     }
 }
 
-impl Lazy for SecondLazy {
+impl Lazy for FineUnits {
     ghost use Rattle.rr_model.specs.Sets.Tree.{chosen_of};
     ghost use Rattle.rr_iter.specs.Steps.{sound_ruling};
     ghost use Rattle.rr_iter.specs.Ruling.{KnowsPlaces, at_moments, places_more};

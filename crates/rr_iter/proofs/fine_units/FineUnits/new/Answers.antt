@@ -3,7 +3,7 @@ use Rattle.std.proofs.lemmas.Int.{ints}
 use Rattle.rr_model.specs.Moment.Years.{IsInYears}
 use Rattle.rr_model.specs.Rule.Validity.{IsValidRule}
 use Rattle.rr_lazy.proofs.FirstLemmas.{first_day_is}
-use Rattle.rr_iter.proofs.minute_lazy.MinuteLazy.new.Goals as goal
+use Rattle.rr_iter.proofs.fine_units.FineUnits.new.Goals as goal
 
 pub invariant_of-result : goal.invariant_of-result
 invariant_of-result c =

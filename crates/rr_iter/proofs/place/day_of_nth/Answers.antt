@@ -1,6 +1,6 @@
 use Rattle.std.proofs.Common.{IfOk, to_z-of_z, subst}
 use Rattle.rr_iter.specs.Ends.{IsPlaceOf}
-use Rattle.rr_iter.proofs.place.find.Goals as goal
+use Rattle.rr_iter.proofs.place.day_of_nth.Goals as goal
 
 pub returns : goal.returns
 returns c =
