@@ -4,7 +4,7 @@ use Rattle.std.proofs.Math.Bool.{and-true, or-false, or_assoc}
 use Rattle.std.proofs.lemmas.Bool.{and_parts, or_from, or_left}
 use Rattle.std.proofs.lemmas.Int.{by_lt_z, ints}
 use Rattle.rr_iter.proofs.AloneLemmas.{start_stands}
-use Rattle.rr_iter.proofs.StepLemmas.{before_start}
+use Rattle.rr_walk.proofs.StepLemmas.{before_start}
 use Rattle.rr_lazy.proofs.StretchLemmas.{listed, moment_day, moment_second}
 use Rattle.rr_model.proofs.RisingSetLemmas.{Contains-cons_cases, Contains-none}
 use Rattle.rr_model.specs.Moment.{day_part, moment_at}

@@ -6,7 +6,7 @@ use Rattle.std.proofs.lemmas.Int.{ints}
 use Rattle.std.proofs.lemmas.Nat.Gcd.{dvd_refl}
 use Rattle.rr_check.proofs.SeriesCycleLemmas.{rule_cycle_some}
 use Rattle.rr_iter.proofs.RepeatLemmas.{chosen_later}
-use Rattle.rr_iter.proofs.StepLemmas.{before_start}
+use Rattle.rr_walk.proofs.StepLemmas.{before_start}
 use Rattle.rr_iter.specs.Ends.{IsSoundRule}
 use Rattle.rr_model.proofs.YearLemmas.{four_digit_bounds}
 use Rattle.rr_model.specs.Moment.{day_part}

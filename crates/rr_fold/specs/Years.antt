@@ -1,8 +1,8 @@
 -- Rules whose days are the same in each year of one key.
 use Rattle.std.specs.Prelude.{◌≡◌, ◌⊎◌, ℕ, ◌+◌, ◌*◌, ◌%◌, ◌<◌, ◌≤◌, true, false, List, length, get_or, slice_get, nat_abs, Option, Some, ℤ, pos, ◌+ℤ◌, ◌-ℤ◌, ◌≤ℤ◌, ◌<ℤ◌}
 use Rattle.rr_expand.specs.Years.{mask_key}
-use Rattle.rr_iter.specs.Lazies.{knows_rule, position_of_rule, tree_of_rule}
-use Rattle.rr_iter.specs.declared.rule_lazy.RuleLazy.{RuleLazy}
+use Rattle.rr_walk.specs.Lazies.{knows_rule, position_of_rule, tree_of_rule}
+use Rattle.rr_walk.specs.declared.rule_lazy.RuleLazy.{RuleLazy}
 use Rattle.rr_model.specs.Calendar.{days_in_year, first_day_of_year}
 use Rattle.rr_model.specs.Moment.{day_part}
 use Rattle.rr_model.specs.Moment.Units.{is_whole_days}

@@ -20,7 +20,7 @@ use Rattle.rr_lazy.proofs.CountingLemmas.{count_seconds-suc, count_seconds-zero,
 use Rattle.rr_lazy.proofs.CycleCountLemmas.{cycles_and_days, days_split}
 use Rattle.rr_lazy.proofs.TreeLemmas.{stands_below}
 use Rattle.rr_iter.specs.Ends.{HasNumberOn, IsSoundRule, before_day}
-use Rattle.rr_iter.proofs.StepLemmas.{before_start}
+use Rattle.rr_walk.proofs.StepLemmas.{before_start}
 use Rattle.rr_iter.proofs.RepeatLemmas.{chosen_later}
 
 many_cycles : (k c : ℕ) → 1 ≤ c → k ≤ k * c

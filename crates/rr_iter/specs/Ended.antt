@@ -5,7 +5,7 @@ use Rattle.rr_lazy.specs.Next.{IsSoundLazy}
 use Rattle.rr_lazy.specs.Upto.{sound_upto}
 use Rattle.rr_lazy.specs.FirstN.{sound_first}
 use Rattle.rr_shapes.specs.Tables.{Extends}
-use Rattle.rr_iter.specs.Lazies.{knows_rule, knows_rule_more, position_of_rule, sound_rule, tree_of_rule}
+use Rattle.rr_walk.specs.Lazies.{knows_rule, knows_rule_more, position_of_rule, sound_rule, tree_of_rule}
 use Rattle.rr_iter.specs.declared.upto_rule.UptoRule.{UptoRule}
 use Rattle.rr_iter.specs.declared.ended_lazy.EndedLazy.{EndedLazy}
 use Rattle.rr_iter.specs.declared.ended_lazy.EndedLazy.TheVariants.{Never, Until, Count, Both}

@@ -31,7 +31,7 @@ impl UptoRule {
 }
 
 impl Lazy for UptoRule {
-    ghost use Rattle.rr_iter.specs.Lazies.{knows_rule_more};
+    ghost use Rattle.rr_walk.specs.Lazies.{knows_rule_more};
     ghost use Rattle.rr_lazy.specs.Upto.{sound_upto};
 
     ghost tree = { λ s. ⟦<Upto<RuleLazy> as Lazy>⟧.tree s.lazy };

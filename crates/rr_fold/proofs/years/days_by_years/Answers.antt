@@ -1,7 +1,7 @@
 use Rattle.std.proofs.Common.{ℤ, sym, subst, ap, ◌∙◌, arith, w64, to_z, of_z, to_z-of_z}
 use Rattle.std.proofs.lemmas.Int.{ints}
-use Rattle.rr_iter.proofs.StepLemmas.{before_start}
-use Rattle.rr_iter.specs.Lazies.{position_of_rule, tree_of_rule}
+use Rattle.rr_walk.proofs.StepLemmas.{before_start}
+use Rattle.rr_walk.specs.Lazies.{position_of_rule, tree_of_rule}
 use Rattle.rr_model.proofs.YearLemmas.{four_digit_bounds, year_1}
 use Rattle.rr_model.specs.Moment.{day_part}
 use Rattle.rr_model.specs.Sets.Tree.{chosen_of}

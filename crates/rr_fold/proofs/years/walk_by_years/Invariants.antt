@@ -1,5 +1,5 @@
 use Rattle.std.proofs.Common.{◌≡◌, ◌≤ℤ◌, ◌<ℤ◌, ◌-ℤ◌, length, nat_abs}
-use Rattle.rr_iter.specs.Lazies.{tree_of_rule}
+use Rattle.rr_walk.specs.Lazies.{tree_of_rule}
 use Rattle.rr_model.specs.Calendar.{first_day_of_year}
 use Rattle.rr_fold.specs.Years.{AreKeptYears, IsYearWalk}
 use Rattle.rr_fold.proofs.years.walk_by_years.Given as goal

@@ -1,6 +1,6 @@
 use Rattle.std.proofs.Common.{◌≡◌, ℕ, ◌-◌, ◌≤◌, length, pos, ◌+ℤ◌, sym, ap, ◌∙◌, arith, to_z-of_z}
 use Rattle.std.proofs.lemmas.Int.{ints}
-use Rattle.rr_iter.specs.Lazies.{tree_of_rule}
+use Rattle.rr_walk.specs.Lazies.{tree_of_rule}
 use Rattle.rr_model.specs.Calendar.{days_in_year, first_day_of_year}
 use Rattle.rr_model.proofs.CalendarLemmas.{first_day_of_year-next}
 use Rattle.rr_fold.proofs.YearWalkLemmas.{copied_again, folded_copied, grown, kept_alike, kept_longer, kept_read, kept_within, one_kept, slot_is, year_reached}

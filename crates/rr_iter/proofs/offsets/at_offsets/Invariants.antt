@@ -1,7 +1,0 @@
-use Rattle.std.specs.Prelude.{nat_lt}
-use Rattle.rr_model.specs.Rising.Sets.{IsSetOf}
-use Rattle.rr_iter.proofs.OffsetLemmas.{KeptTo}
-use Rattle.rr_iter.proofs.offsets.at_offsets.Given as goal
-
-abbrev pub invariant-loop-second : goal.invariant-loop-second
-invariant-loop-second l = IsSetOf nat_lt l.chosen.items (KeptTo l.second-items l.listed l.unit l.second-index)

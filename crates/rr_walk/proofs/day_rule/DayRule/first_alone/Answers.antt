@@ -1,0 +1,58 @@
+use Rattle.std.proofs.Common.{◌≡◌, ◌≤◌, true, false, ℤ, pos, ◌≤ℤ◌, ◌∷◌, [], refl, sym, ◌∙◌, arith, rules, get_or, length, w64, to_z, of_z, to_z-of_z, FitsSigned}
+use Rattle.std.specs.Prelude.{Some, int_lt, nat_lt}
+use Rattle.std.proofs.lemmas.Int.{ints}
+use Rattle.std.proofs.lemmas.List.Sorted.{IsPartitionPoint-from_clause}
+use Rattle.rr_model.specs.Rising.Sets.{IsSetOf}
+use Rattle.rr_model.specs.Rule.DaysAndTimes.{IsCandidateTime}
+use Rattle.rr_model.specs.Sets.Tree.{chosen_of}
+use Rattle.rr_model.specs.declared.kind.Kind.TheVariants.{Days}
+use Rattle.rr_model.proofs.RisingSetLemmas.{one_list_of_seconds}
+use Rattle.rr_lazy.proofs.StretchLemmas.{parted}
+use Rattle.rr_walk.specs.Ruling.{Ruling}
+use Rattle.rr_walk.specs.SetPositions.{IsNextPlace}
+use Rattle.rr_walk.proofs.AlonePlaceLemmas.{on_chosen}
+use Rattle.rr_walk.proofs.DayListLemmas.{passed_found}
+use Rattle.rr_walk.proofs.PositionDayLemmas.{few_days, passed_next, passed_parted}
+use Rattle.rr_walk.proofs.day_rule.DayRule.first_alone.Goals as goal
+
+pub next_place-requires-clause-count : goal.next_place-requires-clause-count
+next_place-requires-clause-count c =
+    let u = rw c.self.view_is at c.self.invariant in
+    few_days c.args.self.now c.args.days.now u.freq c.requires.days
+
+some_is : (x y : ℤ) → Some x ≡ Some y → x ≡ y
+some_is x y e = cc
+
+pub returns : goal.returns
+returns c shown times is set =
+    let i = c.self.inside in
+    let r : Ruling = record { rule = i.rule; kind = i.kind; start = i.start; kept = i.number ∷ [] } in
+    let known = c.self.invariant in
+    let days = c.args.days.now in
+    let from = c.args.from in
+    let place = c.partition_point-place.result in
+    let found = c.in_ok-found.found in
+    let x : ℤ = get_or days found (pos 0) in
+    let fits : FitsSigned w64 x = search rules in
+    let day : ℤ = to_z w64 (of_z w64 x) in
+    let said : day ≡ shown = some_is day shown is in
+    let unit_days = rw (sym c.self.view_is) at c.requires.days in
+    let stands = rw (sym c.self.view_is) at c.requires.positions in
+    let own : IsSetOf nat_lt times (IsCandidateTime i.rule i.kind i.start) = rw (sym c.self.view_is) at set in
+    let same : c.as_slice-times.result.now ≡ times =
+    c.as_slice-times.ensures.same ∙ one_list_of_seconds (IsCandidateTime i.rule i.kind i.start) i.times times known.of_times own in
+    let one : length times ≡ 1 = rw same at c.if-times-ne1.false in
+    let late : c.first_second.result ≤ get_or times 0 0 = rw same at c.if-first_second-times.false in
+    let at : IsNextPlace i.rule.by_set_pos (length times) (length days) place (Some found) = rw one c.in_ok-found.ensures in
+    let point = IsPartitionPoint-from_clause (λ d. int_lt d from) days place c.partition_point-place.ensures.partitioned
+    (parted Days days from unit_days.1.rises) (λ a r q k. search rules) in
+    let before = passed_parted (chosen_of i.rule i.kind i.start) days from place
+    (λ k l. (let e : int_lt (get_or days k (pos 0)) from ≡ true = point.0 k (pos 0) (omega arith) l in grind (arith, ints))) in
+    let after : from ≤ℤ x = (let e : int_lt (get_or days found (pos 0)) from ≡ false = point.1 found (pos 0) at.0 at.1 in grind (arith, ints)) in
+    let passed = passed_next r known.freq stands times own days unit_days from place before found at in
+    let first = rw (sym c.self.view_is) at c.first_second.ensures in
+    let on = on_chosen r known.freq stands times own one (get_or times 0 0) refl days unit_days found at.1 at.2 day (to_z-of_z fits) c.first_second.result
+    first late in
+    rw (← said, ← c.self.view_is)
+    (passed_found (chosen_of i.rule i.kind i.start) days from found day (record { day = day; times = times }) unit_days.1.rises at.1 (to_z-of_z fits)
+    (omega (arith, ints, after, to_z-of_z fits)) on passed)

@@ -1,0 +1,97 @@
+-- How the units of a rule of whole days are walked.
+use Rattle.std.specs.Prelude.{◌≡◌, ℕ, ◌<◌, true, false, IsTrue, Option, Some, None, List, nat_le, nat_lt, [], int_le, ℤ, pos, ◌+ℤ◌, ◌-ℤ◌, ◌≤ℤ◌, ◌<ℤ◌}
+use Rattle.std.specs.List.{Contains}
+use Rattle.rr_model.specs.Whole.{divides}
+use Rattle.rr_model.specs.Moment.{day_part, moment_at}
+use Rattle.rr_model.specs.Moment.Units.{unit_number}
+use Rattle.rr_model.specs.Rising.Sets.{IsSetOf}
+use Rattle.rr_model.specs.declared.kind.Kind.{Kind}
+use Rattle.rr_model.specs.declared.kind.Kind.TheVariants.{Days, Moments}
+use Rattle.rr_model.specs.declared.rule.Rule.{Rule}
+use Rattle.rr_model.specs.Rule.DaysAndTimes.{seconds_of}
+use Rattle.rr_model.specs.Rule.Candidate.{date_parts_hold}
+use Rattle.rr_model.specs.Rule.Filled.{filled}
+use Rattle.rr_model.specs.Sets.Tree.{Tree, chosen_of, stands_at}
+use Rattle.rr_walk.specs.Ruling.{Ruling}
+use Rattle.rr_lazy.specs.declared.occupied_day.OccupiedDay.{OccupiedDay}
+use Rattle.rr_lazy.specs.Next.{HasNone, IsFirstOccupied, IsWithin, with_set}
+use Rattle.rr_lazy.specs.DayTimes.{DayTimes}
+
+-- the seconds of a day that are not before the start are those from this one on
+abbrev pub IsFirstSecond : Kind → ℤ → ℤ → ℕ → Type 0
+IsFirstSecond kind start day from = (s : ℕ) → s < seconds_of kind → int_le start (moment_at kind day s) ≡ nat_le from s
+
+-- the first occupied day from one on and not after another, None where there is none
+abbrev pub IsFirstUpTo : Tree → ℤ → ℤ → Option DayTimes → Type 0
+IsFirstUpTo tree from to None = HasNone tree from (to +ℤ pos 1)
+IsFirstUpTo tree from to (Some found) = IsFirstOccupied tree from found.day found.times × (found.day ≤ℤ to)
+
+-- no day from one on, of those that a list has, is occupied
+abbrev pub HasNoneOf : Tree → List ℤ → ℤ → Type 0
+HasNoneOf tree days from = (day : ℤ) (second : ℕ) → Contains days day → from ≤ℤ day → stands_at tree day second ≡ false
+
+-- the day, if it is occupied, with all its seconds
+abbrev pub IsOnDay : Tree → ℤ → Option DayTimes → Type 0
+IsOnDay tree day None = (second : ℕ) → stands_at tree day second ≡ false
+IsOnDay tree day (Some found) = (found.day ≡ day) × (found.times ≡ [] → ⊥) × IsSetOf nat_lt found.times (λ s. IsTrue (stands_at tree day s))
+
+-- the first occupied day from one on, of those that a list has, None where there is none
+abbrev pub IsFirstOf : Tree → List ℤ → ℤ → Option DayTimes → Type 0
+IsFirstOf tree days from None = HasNoneOf tree days from
+IsFirstOf tree days from (Some found) =
+    Contains days found.day × (from ≤ℤ found.day) × (found.times ≡ [] → ⊥) × IsSetOf nat_lt found.times (λ s. IsTrue (stands_at tree found.day s))
+    × ((day : ℤ) (second : ℕ) → Contains days day → from ≤ℤ day → day <ℤ found.day → stands_at tree day second ≡ false)
+
+-- ---- the same of days whose seconds are told by a number
+
+-- the first occupied day from one on and not after another
+abbrev pub IsFirstUpToIn : List (List ℕ) → Tree → ℤ → ℤ → Option OccupiedDay → Type 0
+IsFirstUpToIn sets tree from to None = IsFirstUpTo tree from to None
+IsFirstUpToIn sets tree from to (Some found) = IsWithin sets found × IsFirstUpTo tree from to (Some (with_set sets found))
+
+-- the day, if it is occupied
+abbrev pub IsOnDayIn : List (List ℕ) → Tree → ℤ → Option OccupiedDay → Type 0
+IsOnDayIn sets tree day None = IsOnDay tree day None
+IsOnDayIn sets tree day (Some found) = IsWithin sets found × IsOnDay tree day (Some (with_set sets found))
+
+-- the first occupied day from one on, of those that a list has
+abbrev pub IsFirstOfIn : List (List ℕ) → Tree → List ℤ → ℤ → Option OccupiedDay → Type 0
+IsFirstOfIn sets tree days from None = IsFirstOf tree days from None
+IsFirstOfIn sets tree days from (Some found) = IsWithin sets found × IsFirstOf tree days from (Some (with_set sets found))
+
+-- a day with these seconds, None where there are none
+abbrev pub IsPlacedDay : List (List ℕ) → ℤ → List ℕ → Option OccupiedDay → Type 0
+IsPlacedDay sets day times None = times ≡ []
+IsPlacedDay sets day times (Some found) = (found.day ≡ day) × (times ≡ [] → ⊥) × IsWithin sets found × ((with_set sets found).times ≡ times)
+
+-- the day with a set of seconds
+abbrev pub IsDayWith : List (List ℕ) → (ℕ → Type 0) → ℤ → Option OccupiedDay → Type 0
+IsDayWith sets P day None = ⊥
+IsDayWith sets P day (Some found) = (found.day ≡ day) × IsWithin sets found × IsSetOf nat_lt (with_set sets found).times P
+
+-- no candidate of a finer rule lies on a day from one on up to another, or this is the first day on which one can lie: it is allowed
+abbrev pub IsFirstFine : Ruling → ℤ → ℤ → Option ℤ → Type 0
+IsFirstFine r from to None = HasNone (chosen_of r.rule Moments r.start) from (to +ℤ pos 1)
+IsFirstFine r from to (Some day) =
+    (from ≤ℤ day) × (day ≤ℤ to) × HasNone (chosen_of r.rule Moments r.start) from day
+    × IsTrue (date_parts_hold (filled r.rule Days (day_part Moments r.start)) day)
+
+-- the first occupied day of a unit from a day on, None where there is none
+abbrev pub IsFirstIn : Tree → Rule → ℤ → ℤ → Option DayTimes → Type 0
+IsFirstIn tree rule unit from None = (day : ℤ) (second : ℕ) → unit_number rule.freq rule.week_start Days day ≡ unit → from ≤ℤ day
+    → stands_at tree day second ≡ false
+IsFirstIn tree rule unit from (Some found) =
+    (unit_number rule.freq rule.week_start Days found.day ≡ unit) × (from ≤ℤ found.day) × (found.times ≡ [] → ⊥)
+    × IsSetOf nat_lt found.times (λ s. IsTrue (stands_at tree found.day s))
+    × ((day : ℤ) (second : ℕ) → unit_number rule.freq rule.week_start Days day ≡ unit → from ≤ℤ day → day <ℤ found.day → stands_at tree day second ≡ false)
+
+-- the same of a day whose seconds are told by a number
+abbrev pub IsFirstInIn : List (List ℕ) → Tree → Rule → ℤ → ℤ → Option OccupiedDay → Type 0
+IsFirstInIn sets tree rule unit from None = IsFirstIn tree rule unit from None
+IsFirstInIn sets tree rule unit from (Some found) = IsWithin sets found × IsFirstIn tree rule unit from (Some (with_set sets found))
+
+-- the units before this one, which fits the interval, hold no occupied day from the given one on
+pub record IsWalked (rule : Rule) (tree : Tree) (start_day from unit : ℤ) : Type 0 where
+  pub begun : unit_number rule.freq rule.week_start Days from ≤ℤ unit
+  pub fits : divides rule.interval (unit -ℤ unit_number rule.freq rule.week_start Days start_day) ≡ true
+  pub none : (day : ℤ) (second : ℕ) → from ≤ℤ day → unit_number rule.freq rule.week_start Days day <ℤ unit → stands_at tree day second ≡ false

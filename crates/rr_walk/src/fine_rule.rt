@@ -1,0 +1,287 @@
+// A rule whose units are shorter than a day, walked day by day.
+ghost use Rattle.std.specs.Prelude.{◌≡◌, ◌<◌, IfOk, IsTrue, List, Some, ℕ, false, get_or, length, nat_lt, slice_get, pos, neg_ℤ, ◌≤ℤ◌, ◌+ℤ◌, []};
+ghost use Rattle.std.proofs.Math.ListN.{set};
+ghost use Rattle.rr_model.specs.Calendar.{IsDayWithin};
+ghost use Rattle.rr_model.specs.Moment.{day_part};
+ghost use Rattle.rr_model.specs.Moment.Units.{is_whole_days};
+ghost use Rattle.rr_model.specs.Moment.Years.{IsInYears};
+ghost use Rattle.rr_model.specs.Rising.Sets.{IsSetOf};
+ghost use Rattle.rr_model.specs.Rule.Candidate.{date_parts_hold};
+ghost use Rattle.rr_model.specs.Rule.Filled.{filled};
+ghost use Rattle.rr_model.specs.Rule.Validity.{IsValidRule};
+ghost use Rattle.rr_model.specs.Sets.Tree.{chosen_of};
+ghost use Rattle.rr_model.specs.declared.kind.Kind.TheVariants.{Days, Moments};
+ghost use Rattle.rr_shapes.specs.Tables.{Extends};
+ghost use Rattle.rr_lazy.specs.Next.{HasNone, IsNextIn};
+ghost use Rattle.rr_walk.specs.Ruling.{IsChosenSecond, IsSameRuling, KnowsPlaces, first_place};
+ghost use Rattle.rr_walk.specs.Steps.{HasBegun};
+ghost use Rattle.rr_walk.specs.Walk.{IsFirstFine, IsFirstSecond, IsFirstUpToIn, IsOnDayIn};
+
+use crate::day_rule::{SECONDS_OF_DAY, placed};
+use crate::offsets::{at_offsets, chosen_offsets};
+use rr_expand::{
+    AllowedDays, UnitTimes, first_fit, first_unit, fitting_seconds_by, unit_of, units_of_day,
+};
+use rr_lazy::OccupiedDay;
+use rr_model::{Kind, NoMemory, Rule, day_part, second_part};
+use rr_parts::seconds_of_unit;
+use rr_shapes::SetTable;
+use rr_times::TimeSet;
+use std::alloc::Global;
+use std::marker::Model;
+
+// A rule of hours, minutes or seconds beside its start, with the seconds of each unit that BYSETPOS chooses, the minutes and
+// seconds that the time parts allow in a unit, the days that the date parts allow, and the numbers of the sets of its days in the table. What is chosen on an allowed day depends on nothing
+// but the place of the day's first unit that fits the interval: the numbers are kept by that place.
+#[derive(Drop)]
+pub(crate) struct FineRule {
+    rule: Rule,
+    start: i64,
+    start_day: i64,
+    start_second: u32,
+    offsets: TimeSet,
+    times: UnitTimes,
+    allowed: AllowedDays,
+    numbers: Vec<Option<usize>>,
+}
+
+impl Model for FineRule {
+    ghost use Rattle.rr_model.specs.declared.kind.Kind.TheVariants.{Moments};
+    ghost use Rattle.rr_walk.specs.Ruling.{IsFine, Ruling};
+
+    ghost Value = { Ruling };
+
+    ghost view = { λ s. record { rule = s.rule; kind = Moments; start = s.start; kept = s.numbers.items } };
+
+    ghost invariant = { λ s. IsFine (record { rule = s.rule; kind = Moments; start = s.start; kept = s.numbers.items }) s.start_day s.start_second s.offsets s.times s.allowed };
+}
+
+impl FineRule {
+    // The rule beside its start; no number is kept yet.
+    pub(crate) fn new(alloc: Global, rule: &Rule, kind: Kind, start: i64) -> Result<Self, NoMemory>
+        requires valid { IsValidRule kind rule.now }
+        requires freq { is_whole_days rule.now.freq ≡ false }
+        requires in_years { IsInYears kind start }
+        ensures kind { kind ≡ Moments }
+        ensures rule { IfOk result (λ r. IsSameRuling r (record { rule = rule.now; kind = Moments; start = start; kept = [] })) }
+        ensures knows { IfOk result (λ r. (sets : List (List ℕ)) → KnowsPlaces r sets) }
+    {
+        let start_day = day_part(kind, start);
+        let places = units_of_day(rule.freq).min(u64::from(rule.interval)) as usize;
+        let mut numbers = Vec::new(alloc);
+        numbers.resize(places, None)?;
+        let times = UnitTimes::new(alloc, rule, start)?;
+        Ok(FineRule {
+            rule: rule.copy(alloc)?,
+            start,
+            start_day,
+            start_second: second_part(kind, start),
+            offsets: chosen_offsets(alloc, rule, start)?,
+            times,
+            allowed: AllowedDays::new(alloc, rule, start_day)?,
+            numbers,
+        })
+    }
+
+    // The first occupied day from a position up to a day, and where the next call begins.
+    pub(crate) fn step(
+        &mut self,
+        alloc: Global,
+        sets: &mut SetTable,
+        position: &mut i64,
+        to: i64,
+    ) -> Result<Option<OccupiedDay>, NoMemory>
+        requires begun { HasBegun position.old }
+        requires low { neg_ℤ (pos 2_999_999_999_000) ≤ℤ to }
+        requires high { to ≤ℤ pos 2_999_999_999_000 }
+        requires knows { KnowsPlaces self.old sets.old }
+        ensures same { IsSameRuling self.new self.old }
+        ensures knows { KnowsPlaces self.new sets.new }
+        ensures kept { Extends sets.old sets.new }
+        ensures next { IsNextIn sets.new (chosen_of self.old.rule Moments self.old.start) position.old to result position.new }
+        ensures later { position.old ≤ℤ position.new }
+    {
+        if *position > to {
+            return Ok(None);
+        }
+        let from = (*position).max(self.start_day);
+        match self.first_up_to(alloc, sets, from, to)? {
+            None => {
+                *position = to + 1;
+                Ok(None)
+            }
+            Some(found) => {
+                *position = found.day + 1;
+                Ok(Some(found))
+            }
+        }
+    }
+
+    // The first occupied day from a day on and not after another.
+    fn first_up_to(
+        &mut self,
+        alloc: Global,
+        sets: &mut SetTable,
+        from: i64,
+        to: i64,
+    ) -> Result<Option<OccupiedDay>, NoMemory>
+        requires from { IsDayWithin 0 from }
+        requires to { IsDayWithin 0 (to +ℤ pos 1) }
+        requires knows { KnowsPlaces self.old sets.old }
+        ensures same { IsSameRuling self.new self.old }
+        ensures knows { KnowsPlaces self.new sets.new }
+        ensures kept { Extends sets.old sets.new }
+        ensures found { IfOk result (IsFirstUpToIn sets.new (chosen_of self.old.rule Moments self.old.start) from to) }
+    {
+        let mut day = from;
+        while let Some(candidate) = self.candidate_from(day, to) {
+            match self.on_day(alloc, sets, candidate)? {
+                None => {}
+                Some(found) => return Ok(Some(found)),
+            }
+            day = candidate + 1;
+        }
+        Ok(None)
+    }
+
+    // The first allowed day, from a day on and not after another, that has a unit which fits the interval.
+    fn candidate_from(&mut self, from: i64, to: i64) -> Option<i64>
+        requires from { IsDayWithin 0 from }
+        requires to { IsDayWithin 0 (to +ℤ pos 1) }
+        ensures same { self.new ≡ self.old }
+        ensures first { IsFirstFine self.old from to result }
+    {
+        let mut day = self.fitting_day(from);
+        while day <= to {
+            let allowed = self.allowed.first_from(day, to + 1)?;
+            if allowed <= day {
+                return Some(day);
+            }
+            day = self.fitting_day(allowed);
+        }
+        None
+    }
+
+    // The first day from this one on that has a unit which fits the interval.
+    fn fitting_day(&self, day: i64) -> i64
+        requires { IsDayWithin 1000 day }
+        ensures late { day ≤ℤ result }
+        ensures near { result ≤ℤ (day +ℤ pos 4_294_967_295) }
+        ensures none { HasNone (chosen_of self.now.rule Moments self.now.start) day result }
+    {
+        if self.rule.interval == 1 {
+            return day;
+        }
+        day + (self.first_place(day) / units_of_day(self.rule.freq)) as i64
+    }
+
+    // How many units after the first one of a day the first comes that fits the interval.
+    fn first_place(&self, day: i64) -> u64
+        requires { IsDayWithin 1000 day }
+        ensures { result ≡ first_place self.now day }
+    {
+        if self.rule.interval == 1 {
+            return 0;
+        }
+        let own = unit_of(self.rule.freq, self.start);
+        first_fit(first_unit(self.rule.freq, day), own, self.rule.interval)
+    }
+
+    // An allowed day, if it is occupied.
+    fn on_day(
+        &mut self,
+        alloc: Global,
+        sets: &mut SetTable,
+        day: i64,
+    ) -> Result<Option<OccupiedDay>, NoMemory>
+        requires near { IsDayWithin 1000 day }
+        requires allowed { IsTrue (date_parts_hold (filled self.old.rule Days (day_part Moments self.old.start)) day) }
+        requires knows { KnowsPlaces self.old sets.old }
+        ensures same { IsSameRuling self.new self.old }
+        ensures knows { KnowsPlaces self.new sets.new }
+        ensures kept { Extends sets.old sets.new }
+        ensures found { IfOk result (IsOnDayIn sets.new (chosen_of self.old.rule Moments self.old.start) day) }
+    {
+        let number = self.number_on(alloc, sets, day)?;
+        let chosen = sets.times(number);
+        let first = self.first_second(day);
+        if first > 0 {
+            let times = TimeSet::cut(alloc, chosen, first, SECONDS_OF_DAY)?;
+            return placed(sets, day, times);
+        }
+        let count = chosen.as_slice().len();
+        if count == 0 {
+            return Ok(None);
+        }
+        Ok(Some(OccupiedDay { day, number, count }))
+    }
+
+    // The number of the seconds that the rule chooses on an allowed day, also before its start.
+    fn number_on(&mut self, alloc: Global, sets: &mut SetTable, day: i64) -> Result<usize, NoMemory>
+        requires near { IsDayWithin 1000 day }
+        requires allowed { IsTrue (date_parts_hold (filled self.old.rule Days (day_part Moments self.old.start)) day) }
+        requires knows { KnowsPlaces self.old sets.old }
+        ensures same { IsSameRuling self.new self.old }
+        ensures knows { KnowsPlaces self.new sets.new }
+        ensures kept { Extends sets.old sets.new }
+        ensures within { IfOk result (λ n. n < length sets.new) }
+        ensures number { IfOk result (λ n. IsSetOf nat_lt (get_or sets.new n []) (IsChosenSecond self.old day)) }
+    {
+        let place = self.first_place(day) as usize;
+        if let Some(number) = kept_at(&self.numbers, place) {
+            return Ok(number);
+        }
+        let chosen = self.chosen_on(alloc, day)?;
+        let number = sets.place(chosen)?;
+        self.keep(place, number);
+        Ok(number)
+    }
+
+    // Keeps a number at a place, if there is one.
+    fn keep(&mut self, place: usize, number: usize)
+        ensures same { IsSameRuling self.new self.old }
+        ensures kept { self.new.kept ≡ set self.old.kept place (Some number) }
+    {
+        if place < self.numbers.len() {
+            self.numbers[place] = Some(number);
+        }
+    }
+
+    // The seconds of an allowed day that the rule chooses, also before its start.
+    fn chosen_on(&self, alloc: Global, day: i64) -> Result<TimeSet, NoMemory>
+        requires near { IsDayWithin 1000 day }
+        requires allowed { IsTrue (date_parts_hold (filled self.now.rule Days (day_part Moments self.now.start)) day) }
+        ensures { IfOk result (λ t. IsSetOf nat_lt t (IsChosenSecond self.now day)) }
+    {
+        let fitting = fitting_seconds_by(alloc, &self.rule, self.start, &self.times, day)?;
+        if self.rule.by_set_pos.is_empty() {
+            return Ok(fitting);
+        }
+        let unit = seconds_of_unit(self.rule.freq);
+        at_offsets(alloc, &fitting, unit, &self.offsets)
+    }
+
+    // The first second of a day that is not before the start; 86,400 where there is none.
+    fn first_second(&self, day: i64) -> u32
+        ensures { IsFirstSecond Moments self.now.start day result }
+    {
+        if day > self.start_day {
+            0
+        } else if day == self.start_day {
+            self.start_second
+        } else {
+            SECONDS_OF_DAY
+        }
+    }
+}
+
+// The number that is kept at a place.
+fn kept_at(numbers: &[Option<usize>], place: usize) -> Option<usize>
+    ensures { (n : ℕ) → result ≡ Some n → slice_get numbers.now place ≡ Some (Some n) }
+{
+    if place < numbers.len() {
+        numbers[place]
+    } else {
+        None
+    }
+}

@@ -1,0 +1,174 @@
+// A rule of whole days with BYSETPOS, walked unit by unit (RFC 5545, section 3.3.10, BYSETPOS).
+ghost use Rattle.std.specs.Prelude.{◌≡◌, ◌⊎◌, Some, None, IfOk, IsTrue, List, false, nat_lt, pos, ◌+ℤ◌, ◌≤ℤ◌, ◌<ℤ◌, ℕ, ℤ};
+ghost use Rattle.rr_model.specs.Calendar.{IsDayWithin};
+ghost use Rattle.rr_model.specs.Moment.Units.{unit_start};
+ghost use Rattle.rr_model.specs.Rising.Sets.{IsSetOf};
+ghost use Rattle.rr_model.specs.Rule.DaysAndTimes.{IsCandidateTime};
+ghost use Rattle.rr_model.specs.Rule.Validity.{is_absent};
+ghost use Rattle.rr_model.specs.Sets.Tree.{chosen_of, stands_at};
+ghost use Rattle.rr_model.specs.declared.kind.Kind.TheVariants.{Days};
+ghost use Rattle.rr_shapes.specs.Tables.{Extends};
+ghost use Rattle.rr_walk.specs.Ruling.{AreUnitDays, IsCandidateAt, IsFittingUnit, IsSameRuling, KnowsTimes};
+ghost use Rattle.rr_walk.specs.Walk.{IsFirstInIn, IsFirstOf, IsFirstOfIn, IsFirstUpToIn, IsOnDayIn};
+
+use crate::day_rule::{DayRule, SECONDS_OF_DAY, placed, whole_unit};
+use crate::set_positions::{next_place, times_at_positions};
+use rr_lazy::OccupiedDay;
+use rr_model::NoMemory;
+use rr_shapes::SetTable;
+use rr_times::TimeSet;
+use std::alloc::Global;
+
+impl DayRule {
+    // The first occupied day from a day on and not after another.
+    pub(crate) fn first_at_positions(
+        &mut self,
+        alloc: Global,
+        sets: &mut SetTable,
+        from: i64,
+        to: i64,
+    ) -> Result<Option<OccupiedDay>, NoMemory>
+        requires positions { is_absent self.old.rule.by_set_pos ≡ false }
+        requires from { IsDayWithin 0 from }
+        requires to { IsDayWithin 0 to }
+        requires knows { KnowsTimes self.old sets.old }
+        ensures same { IsSameRuling self.new self.old }
+        ensures knows { KnowsTimes self.new sets.new }
+        ensures kept { Extends sets.old sets.new }
+        ensures found { IfOk result (IsFirstUpToIn sets.new (chosen_of self.old.rule self.old.kind self.old.start) from to) }
+    {
+        let last = self.last_unit(to);
+        let step = i64::from(self.rule.interval);
+        let mut unit = self.first_unit(from);
+        while unit <= last {
+            match self.first_in(alloc, sets, unit, from)? {
+                None => {}
+                Some(found) => return Ok(up_to(found, to)),
+            }
+            unit += step;
+        }
+        Ok(None)
+    }
+
+    // The first occupied day of a unit that fits the interval, from a day on. The unit's candidate days are held for the next
+    // call.
+    fn first_in(
+        &mut self,
+        alloc: Global,
+        sets: &mut SetTable,
+        unit: i64,
+        from: i64,
+    ) -> Result<Option<OccupiedDay>, NoMemory>
+        requires positions { is_absent self.old.rule.by_set_pos ≡ false }
+        requires first { IsDayWithin 400 (unit_start self.old.rule.freq self.old.rule.week_start Days unit) }
+        requires next { IsDayWithin 400 (unit_start self.old.rule.freq self.old.rule.week_start Days (unit +ℤ pos 1)) }
+        requires fits { IsFittingUnit self.old unit }
+        requires knows { KnowsTimes self.old sets.old }
+        ensures same { IsSameRuling self.new self.old }
+        ensures knows { KnowsTimes self.new sets.new }
+        ensures kept { Extends sets.old sets.new }
+        ensures found { IfOk result (IsFirstInIn sets.new (chosen_of self.old.rule self.old.kind self.old.start) self.old.rule unit from) }
+    {
+        if !(self.is_held && self.unit.number == unit) {
+            self.unit = whole_unit(self.rule.freq, self.rule.week_start, unit);
+            self.is_held = false;
+            let count = (self.unit.next - self.unit.first) as u16;
+            self.allowed.list(self.unit.first, count, &mut self.days)?;
+            self.is_held = true;
+        }
+        match self.first_alone(self.days.as_slice(), from) {
+            None => self.first_of(alloc, sets, self.days.as_slice(), from),
+            Some(day) => self.with_times(alloc, sets, day),
+        }
+    }
+
+    // Of the candidate days of a unit the first occupied one from a day on, where each has one time: a day on which a position
+    // is has that time. None where the days have other numbers of times, and where the position lies before the start.
+    fn first_alone(&self, days: &[i64], from: i64) -> Option<i64>
+        requires positions { is_absent self.now.rule.by_set_pos ≡ false }
+        requires days { AreUnitDays self.now days.now }
+        ensures { (day : ℤ) (times : List ℕ) → result ≡ Some day → IsSetOf nat_lt times (IsCandidateTime self.now.rule self.now.kind self.now.start)
+            → IsFirstOf (chosen_of self.now.rule self.now.kind self.now.start) days.now from (Some (record { day = day; times = times })) }
+    {
+        let times = self.times.as_slice();
+        if times.len() != 1 {
+            return None;
+        }
+        let place = days.partition_point(|day| *day < from);
+        let found = next_place(&self.rule.by_set_pos, 1, days.len(), place)?;
+        if self.first_second(days[found]) > times[0] {
+            return None;
+        }
+        Some(days[found])
+    }
+
+    // Of the candidate days of a unit the first occupied one from a day on. Days at which no position is are passed over.
+    fn first_of(
+        &self,
+        alloc: Global,
+        sets: &mut SetTable,
+        days: &[i64],
+        from: i64,
+    ) -> Result<Option<OccupiedDay>, NoMemory>
+        requires positions { is_absent self.now.rule.by_set_pos ≡ false }
+        requires days { AreUnitDays self.now days.now }
+        ensures kept { Extends sets.old sets.new }
+        ensures found { IfOk result (IsFirstOfIn sets.new (chosen_of self.now.rule self.now.kind self.now.start) days.now from) }
+    {
+        let count = days.len();
+        let each = self.times.as_slice().len();
+        let mut place = days.partition_point(|day| *day < from);
+        while let Some(found) = next_place(&self.rule.by_set_pos, each, count, place) {
+            let occupied = self.on_day(alloc, sets, days[found], found, count)?;
+            if occupied.is_some() {
+                return Ok(occupied);
+            }
+            place = found + 1;
+        }
+        Ok(None)
+    }
+
+    // A candidate day, if it is occupied: of its unit's `count` candidate days `place` come before it.
+    fn on_day(
+        &self,
+        alloc: Global,
+        sets: &mut SetTable,
+        day: i64,
+        place: usize,
+        count: usize,
+    ) -> Result<Option<OccupiedDay>, NoMemory>
+        requires positions { is_absent self.now.rule.by_set_pos ≡ false }
+        requires candidate { IsCandidateAt self.now day place count }
+        ensures kept { Extends sets.old sets.new }
+        ensures found { IfOk result (IsOnDayIn sets.new (chosen_of self.now.rule self.now.kind self.now.start) day) }
+    {
+        let times = self.seconds_of(alloc, day, place, count)?;
+        placed(sets, day, times)
+    }
+
+    // The seconds of a candidate day that the rule chooses from its start on: of its unit's `count` candidate
+    // days `place` come before it.
+    fn seconds_of(
+        &self,
+        alloc: Global,
+        day: i64,
+        place: usize,
+        count: usize,
+    ) -> Result<TimeSet, NoMemory>
+        requires positions { is_absent self.now.rule.by_set_pos ≡ false }
+        requires candidate { IsCandidateAt self.now day place count }
+        ensures { IfOk result (λ t. IsSetOf nat_lt t (λ s. IsTrue (stands_at (chosen_of self.now.rule self.now.kind self.now.start) day s))) }
+    {
+        let from = self.first_second(day);
+        let positions = &self.rule.by_set_pos;
+        let chosen = times_at_positions(alloc, &self.times, place, count, positions)?;
+        TimeSet::cut(alloc, &chosen, from, SECONDS_OF_DAY)
+    }
+}
+
+// An occupied day, if it is not after a day.
+fn up_to(found: OccupiedDay, to: i64) -> Option<OccupiedDay>
+    ensures { ((result ≡ Some found) × (found.day ≤ℤ to)) ⊎ ((result ≡ None) × (to <ℤ found.day)) }
+{
+    if found.day <= to { Some(found) } else { None }
+}

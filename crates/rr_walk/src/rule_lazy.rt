@@ -1,0 +1,77 @@
+// The chosen moments of a rule.
+ghost use Rattle.std.specs.Prelude.{◌≡◌, ◌≤ℤ◌, IfOk, List, ℕ};
+ghost use Rattle.rr_model.specs.Moment.Years.{IsInYears};
+ghost use Rattle.rr_model.specs.Rule.Validity.{IsValidRule};
+ghost use Rattle.rr_lazy.specs.Next.{IsUnasked};
+ghost use Rattle.rr_model.specs.Sets.Tree.{chosen_of};
+
+use crate::{FineUnits, WholeDays};
+use rr_lazy::{Lazy, OccupiedDay};
+use rr_model::{Kind, NoMemory, Rule};
+use rr_shapes::SetTable;
+use std::alloc::Global;
+
+/// The chosen moments of a rule from its start on.
+#[derive(Drop)]
+pub enum RuleLazy {
+    /// Of a rule in days, weeks, months or years.
+    WholeDays(WholeDays),
+    /// Of a rule in hours, minutes or seconds.
+    FineUnits(FineUnits),
+}
+
+impl RuleLazy {
+    /// The chosen moments of a rule from its start on, in years 1 to 9999. The rule's end is not asked.
+    pub fn new(alloc: Global, rule: &Rule, kind: Kind, start: i64) -> Result<RuleLazy, NoMemory>
+        requires valid { IsValidRule kind rule.now }
+        requires in_years { IsInYears kind start }
+        ensures tree { IfOk result (λ l. ⟦<RuleLazy as Lazy>⟧.tree l ≡ chosen_of rule.now kind start) }
+        ensures unasked { IfOk result (λ l. IsUnasked (⟦<RuleLazy as Lazy>⟧.position l)) }
+        ensures knows { IfOk result (λ l. (sets : List (List ℕ)) → ⟦<RuleLazy as Lazy>⟧.knows l sets) }
+    {
+        if rule.freq.is_whole_days() {
+            Ok(RuleLazy::WholeDays(WholeDays::new(alloc, rule, kind, start)?))
+        } else {
+            Ok(RuleLazy::FineUnits(FineUnits::new(alloc, rule, kind, start)?))
+        }
+    }
+
+    /// Goes on from a day, in days since 1970-01-01: the days before it are passed over.
+    pub fn skip_to(&mut self, day: i64)
+        requires { ⟦<RuleLazy as Lazy>⟧.position self.old ≤ℤ day }
+        ensures tree { ⟦<RuleLazy as Lazy>⟧.tree self.new ≡ ⟦<RuleLazy as Lazy>⟧.tree self.old }
+        ensures position { ⟦<RuleLazy as Lazy>⟧.position self.new ≡ day }
+        ensures knows { (sets : List (List ℕ)) → ⟦<RuleLazy as Lazy>⟧.knows self.old sets → ⟦<RuleLazy as Lazy>⟧.knows self.new sets }
+    {
+        match self {
+            RuleLazy::WholeDays(lazy) => lazy.skip_to(day),
+            RuleLazy::FineUnits(lazy) => lazy.skip_to(day),
+        }
+    }
+}
+
+impl Lazy for RuleLazy {
+    ghost use Rattle.rr_walk.specs.Lazies.{knows_rule, knows_rule_more, position_of_rule, sound_rule, tree_of_rule};
+
+    ghost tree = { tree_of_rule };
+
+    ghost position = { position_of_rule };
+
+    ghost knows = { knows_rule };
+
+    ghost knows_more = { knows_rule_more };
+
+    ghost sound = { sound_rule };
+
+    fn next(
+        &mut self,
+        alloc: Global,
+        sets: &mut SetTable,
+        to: i64,
+    ) -> Result<Option<OccupiedDay>, NoMemory> {
+        match self {
+            RuleLazy::WholeDays(lazy) => lazy.next(alloc, sets, to),
+            RuleLazy::FineUnits(lazy) => lazy.next(alloc, sets, to),
+        }
+    }
+}

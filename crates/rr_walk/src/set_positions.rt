@@ -1,0 +1,108 @@
+// The times of a day that BYSETPOS chooses (RFC 5545, section 3.3.10, BYSETPOS): one step for each listed position.
+ghost use Rattle.std.specs.Prelude.{◌≡◌, ◌≤◌, ◌<◌, ◌+◌, ◌*◌, IfOk, length, nat_lt, pos};
+ghost use Rattle.rr_model.specs.Rising.Sets.{IsSetOf};
+ghost use Rattle.rr_model.specs.Rule.Validity.{CountUpTo};
+ghost use Rattle.rr_walk.specs.SetPositions.{IsAtSome, IsDayOfPosition, IsNextPlace, IsTimeAt};
+
+use rr_model::{NoMemory, Numbers, Seconds};
+use rr_setpos::rank_of;
+use rr_times::TimeSet;
+use std::alloc::Global;
+
+// Of the times that each day of a unit has, those that the positions choose on the day at this place, from 0.
+pub(crate) fn times_at_positions(
+    alloc: Global,
+    times: &TimeSet,
+    place: usize,
+    count: usize,
+    positions: &Numbers,
+) -> Result<TimeSet, NoMemory>
+    requires place { place < count }
+    requires count { count ≤ 366 }
+    requires positions { CountUpTo 366 positions.now }
+    ensures { IfOk result (λ t. IsSetOf nat_lt t (IsAtSome times.now (place * length times.now) (count * length times.now) positions.now (length positions.now))) }
+{
+    let times = times.as_slice();
+    let before = place * times.len();
+    let size = count * times.len();
+    let chosen = seconds_at_places(alloc, times, before as u32, size as u32, positions)?;
+    TimeSet::of(alloc, chosen.as_slice())
+}
+
+// The first place, from one on, among `count` days of a unit, at which one of the positions is, where each day has `each` times.
+pub(crate) fn next_place(
+    positions: &Numbers,
+    each: usize,
+    count: usize,
+    from: usize,
+) -> Option<usize>
+    requires each { each ≤ 86_400 }
+    requires count { count ≤ 366 }
+    requires positions { CountUpTo 366 positions.now }
+    ensures { IsNextPlace positions.now each count from result }
+{
+    // No position is on the days from that one on and before this one.
+    let mut end = count;
+    for position in positions.as_slice() {
+        if let Some(place) = day_of_position(i64::from(*position), each, count) {
+            if from <= place && place < end {
+                end = place;
+            }
+        }
+    }
+    if end < count { Some(end) } else { None }
+}
+
+// The place of the day on which a position is, among `count` days of a unit that have `each` times each.
+fn day_of_position(position: i64, each: usize, count: usize) -> Option<usize>
+    requires position { position ≡ pos 0 → ⊥ }
+    requires each { each ≤ 86_400 }
+    requires count { count ≤ 366 }
+    ensures { IsDayOfPosition position each count result }
+{
+    let size = count * each;
+    match rank_of(position, size as u32) {
+        None => None,
+        Some(rank) => Some(rank as usize / each),
+    }
+}
+
+// Of the times of a day those at the listed places, where `before` candidates of the unit come before them.
+fn seconds_at_places(
+    alloc: Global,
+    times: &[u32],
+    before: u32,
+    size: u32,
+    places: &Numbers,
+) -> Result<Seconds, NoMemory>
+    requires room { before + length times.now ≤ size }
+    requires places { CountUpTo 366 places.now }
+    ensures { IfOk result (λ t. IsSetOf nat_lt t (IsAtSome times.now before size places.now (length places.now))) }
+{
+    let mut seconds = Seconds::new(alloc);
+    for place in places.as_slice() {
+        match time_at(times, before, size, i64::from(*place)) {
+            None => {}
+            Some(second) => seconds.put(second)?,
+        }
+    }
+    Ok(seconds)
+}
+
+// The time at a place of the unit, if it is one of these.
+fn time_at(times: &[u32], before: u32, size: u32, place: i64) -> Option<u32>
+    requires room { before + length times.now ≤ size }
+    requires place { place ≡ pos 0 → ⊥ }
+    ensures { IsTimeAt times.now before size place result }
+{
+    match rank_of(place, size) {
+        None => None,
+        Some(rank) => {
+            if before <= rank && ((rank - before) as usize) < times.len() {
+                Some(times[(rank - before) as usize])
+            } else {
+                None
+            }
+        }
+    }
+}
