@@ -9,11 +9,12 @@ ghost use Rattle.rr_fold.specs.Folding.{IsFoldedTo};
 ghost use Rattle.rr_fold.specs.Jump.{AreWholeCycles, IsCountedJump, IsJump, IsSpliced};
 
 use crate::fill::{FoldedDays, collected, days_between};
-use rr_iter::{EndedLazy, Place, RuleLazy, day_of_nth};
+use rr_iter::{EndedLazy, Place, day_of_nth};
 use rr_lazy::FirstN;
 use rr_model::{Fault, Kind, NoMemory, Rule, day_part};
 use rr_num::day_cycle;
 use rr_runs::Pages;
+use rr_walk::RuleLazy;
 use std::alloc::Global;
 
 // How many numbers stand on a page: numbers that repeat by a multiple of it are kept once.

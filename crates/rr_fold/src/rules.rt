@@ -16,8 +16,8 @@ use crate::fill::{FoldedDays, collected, days_between};
 use crate::jump::{days_counted, days_ended};
 use crate::years::{days_by_years, year_period};
 use rr_check::Checked;
-use rr_iter::RuleLazy;
 use rr_model::{End, Fault, Kind, Rule, Series, day_part};
+use rr_walk::RuleLazy;
 use std::alloc::Global;
 
 // A series with dates, or with several rules some of which end, is folded rule by rule where it has more days than these.

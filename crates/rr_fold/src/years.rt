@@ -16,10 +16,10 @@ use crate::fill::{FoldedDays, days_between};
 use crate::walk::Walk;
 use rr_cal::{Date, date_of, day_of, days_in_year};
 use rr_expand::mask_key;
-use rr_iter::RuleLazy;
 use rr_lazy::Lazy;
 use rr_model::{Fault, Freq, Kind, NoMemory, Rule, day_part};
 use rr_num::interval_cycle;
+use rr_walk::RuleLazy;
 use std::alloc::Global;
 
 // How many keys of years there are: each `mask_key` is below.

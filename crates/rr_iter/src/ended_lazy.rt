@@ -6,10 +6,11 @@ ghost use Rattle.rr_model.specs.Series.Soundness.{EndsNotBefore};
 ghost use Rattle.rr_model.specs.Series.Tree.{members_of};
 ghost use Rattle.rr_lazy.specs.Next.{IsUnasked};
 
-use crate::{RuleLazy, UptoRule};
+use crate::UptoRule;
 use rr_lazy::{FirstN, Lazy, OccupiedDay};
 use rr_model::{End, Kind, NoMemory, Rule};
 use rr_shapes::SetTable;
+use rr_walk::RuleLazy;
 use std::alloc::Global;
 
 /// The members of a rule: its chosen moments from its start on, up to its end.

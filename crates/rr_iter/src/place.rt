@@ -5,10 +5,10 @@ ghost use Rattle.rr_model.specs.Sets.Tree.{chosen_of};
 ghost use Rattle.rr_lazy.specs.Next.{IsUnasked};
 ghost use Rattle.rr_iter.specs.Ends.{IsPlaceOf, IsSoundRule};
 
-use crate::RuleLazy;
 use rr_lazy::Lazy;
 use rr_model::{Kind, NoMemory, Rule};
 use rr_shapes::SetTable;
+use rr_walk::RuleLazy;
 use std::alloc::Global;
 
 /// Where an occurrence lies, looked for up to a day.

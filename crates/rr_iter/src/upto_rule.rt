@@ -3,10 +3,10 @@ ghost use Rattle.std.specs.Prelude.{◌≡◌, List, ℕ};
 ghost use Rattle.rr_model.specs.Sets.Tree.{IsOfOneKind, upto};
 ghost use Rattle.rr_lazy.specs.Next.{IsUnasked};
 
-use crate::RuleLazy;
 use rr_lazy::{Lazy, OccupiedDay, Upto};
 use rr_model::{Kind, NoMemory};
 use rr_shapes::SetTable;
+use rr_walk::RuleLazy;
 use std::alloc::Global;
 
 /// The chosen moments of a rule from its start on that are not after a moment.

@@ -6,8 +6,9 @@ ghost use Rattle.rr_model.specs.Rule.Member.{members_to};
 ghost use Rattle.rr_model.specs.Series.Soundness.{IsSound};
 ghost use Rattle.rr_translate.specs.OneEnd.{one_end, with_one_end, with_one_ends};
 
-use rr_iter::{Place, RuleLazy, Upto, place_of};
+use rr_iter::{Place, Upto, place_of};
 use rr_model::{End, Kind, NoMemory, Rule, Rules, Series, day_part};
+use rr_walk::RuleLazy;
 use std::alloc::Global;
 
 // Whether a rule chooses `count` moments, at least one, from its start up to a moment of its kind.

@@ -15,6 +15,7 @@ ghost use Rattle.rr_walk.specs.Ruling.{IsFirstCandidate, IsFirstCandidateIn, IsF
 ghost use Rattle.rr_walk.specs.Steps.{HasBegun};
 ghost use Rattle.rr_walk.specs.Walk.{IsDayWith, IsFirstSecond, IsFirstUpToIn, IsOnDayIn, IsPlacedDay, IsWalked};
 
+use crate::rule_walk::RuleWalk;
 use rr_cal::{Day, days_in_unit, first_day_of_unit, unit_of_day, week_index};
 use rr_expand::{AllowedDays, first_fit, times};
 use rr_lazy::OccupiedDay;
@@ -41,11 +42,13 @@ pub(crate) struct WholeUnit {
     pub(crate) next: i64,
 }
 
-// A rule of whole days beside its start, with the seconds of each candidate day and their number in the table of sets, and
-// the days that the date parts allow; the start's unit, the last day that was asked for, and the unit entered last, with
-// BYSETPOS also its candidate days, if they are held.
+/// The walk over the days of a rule of whole days beside its start.
+///
+/// It keeps the seconds of each candidate day and their number in the table of sets, the days that the date parts allow, the
+/// start's unit, the last day that was asked for, and the unit entered last, with BYSETPOS also its candidate days, if they are
+/// held.
 #[derive(Drop)]
-pub(crate) struct DayRule {
+pub struct DayRule {
     pub(crate) rule: Rule,
     kind: Kind,
     start: i64,
@@ -73,14 +76,17 @@ impl Model for DayRule {
         s.start_day s.start_second s.times s.allowed s.own_unit s.last s.unit s.is_held s.days.items };
 }
 
-impl DayRule {
-    // The rule beside its start; nothing is kept yet.
-    pub(crate) fn new(alloc: Global, rule: &Rule, kind: Kind, start: i64) -> Result<Self, NoMemory>
-        requires valid { IsValidRule kind rule.now }
-        requires freq { is_whole_days rule.now.freq ≡ true }
-        requires in_years { IsInYears kind start }
-        ensures { IfOk result (λ r. r ≡ record { rule = rule.now; kind = kind; start = start; kept = None ∷ [] }) }
-    {
+impl RuleWalk for DayRule {
+    ghost use Rattle.std.specs.Prelude.{true};
+    ghost use Rattle.rr_walk.specs.Ruling.{KnowsTimes, keeps_more};
+
+    ghost ruling = { λ s. s };
+
+    ghost keeps = { λ s sets. KnowsTimes s sets };
+
+    ghost of_whole_days = { true };
+
+    fn new(alloc: Global, rule: &Rule, kind: Kind, start: i64) -> Result<DayRule, NoMemory> {
         let times = times(alloc, rule, kind, start)?;
         let start_day = day_part(kind, start);
         let allowed = AllowedDays::new(alloc, rule, start_day)?;
@@ -105,57 +111,17 @@ impl DayRule {
         })
     }
 
-    // The first occupied day from a position up to a day, and where the next call begins.
-    pub(crate) fn step(
-        &mut self,
-        alloc: Global,
-        sets: &mut SetTable,
-        position: &mut i64,
-        to: i64,
-    ) -> Result<Option<OccupiedDay>, NoMemory>
-        requires begun { HasBegun position.old }
-        requires low { neg_ℤ (pos 2_999_999_999_000) ≤ℤ to }
-        requires high { to ≤ℤ pos 2_999_999_999_000 }
-        requires knows { KnowsTimes self.old sets.old }
-        ensures same { IsSameRuling self.new self.old }
-        ensures knows { KnowsTimes self.new sets.new }
-        ensures kept { Extends sets.old sets.new }
-        ensures next { IsNextIn sets.new (chosen_of self.old.rule self.old.kind self.old.start) position.old to result position.new }
-        ensures later { position.old ≤ℤ position.new }
-    {
-        if *position > to {
-            return Ok(None);
-        }
-        let from = (*position).max(self.start_day);
-        match self.first_up_to(alloc, sets, from, to)? {
-            None => {
-                *position = to + 1;
-                Ok(None)
-            }
-            Some(found) => {
-                *position = found.day + 1;
-                Ok(Some(found))
-            }
-        }
+    fn start_day(&self) -> i64 {
+        self.start_day
     }
 
-    // The first occupied day from a day on and not after another.
     fn first_up_to(
         &mut self,
         alloc: Global,
         sets: &mut SetTable,
         from: i64,
         to: i64,
-    ) -> Result<Option<OccupiedDay>, NoMemory>
-        requires from { IsDayWithin 0 from }
-        requires to { IsDayWithin 0 to }
-        requires next { IsDayWithin 0 (to +ℤ pos 1) }
-        requires knows { KnowsTimes self.old sets.old }
-        ensures same { IsSameRuling self.new self.old }
-        ensures knows { KnowsTimes self.new sets.new }
-        ensures kept { Extends sets.old sets.new }
-        ensures found { IfOk result (IsFirstUpToIn sets.new (chosen_of self.old.rule self.old.kind self.old.start) from to) }
-    {
+    ) -> Result<Option<OccupiedDay>, NoMemory> {
         if self.rule.by_set_pos.is_empty() {
             self.first_plain(alloc, sets, from, to)
         } else {
@@ -163,7 +129,11 @@ impl DayRule {
         }
     }
 
-    // The same of a rule without BYSETPOS.
+    ghost more = { λ s old new more k. keeps_more s 0 _ old new more k };
+}
+
+impl DayRule {
+    // The first occupied day of a rule without BYSETPOS, from a day on and not after another.
     fn first_plain(
         &mut self,
         alloc: Global,
@@ -316,13 +286,7 @@ impl DayRule {
     pub(crate) fn first_second(&self, day: i64) -> u32
         ensures { IsFirstSecond self.now.kind self.now.start day result }
     {
-        if day > self.start_day {
-            0
-        } else if day == self.start_day {
-            self.start_second
-        } else {
-            SECONDS_OF_DAY
-        }
+        first_second(day, self.start_day, self.start_second)
     }
 
     // The first unit that fits the interval from the start's, from the unit of a day on.
@@ -396,6 +360,20 @@ pub(crate) fn placed(
     }
     let number = sets.place(times)?;
     Ok(Some(OccupiedDay { day, number, count }))
+}
+
+// The first second of a day that is not before a start, which lies on the day `start_day` at `start_second`; 86,400 where
+// there is none.
+pub(crate) fn first_second(day: i64, start_day: i64, start_second: u32) -> u32
+    ensures { (kind : Kind) (start : ℤ) → start_day ≡ day_part kind start → start_second ≡ second_part kind start → IsFirstSecond kind start day result }
+{
+    if day > start_day {
+        0
+    } else if day == start_day {
+        start_second
+    } else {
+        SECONDS_OF_DAY
+    }
 }
 
 // The number of the unit in which a day lies.

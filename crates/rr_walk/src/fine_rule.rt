@@ -17,8 +17,9 @@ ghost use Rattle.rr_walk.specs.Ruling.{IsChosenSecond, IsSameRuling, KnowsPlaces
 ghost use Rattle.rr_walk.specs.Steps.{HasBegun};
 ghost use Rattle.rr_walk.specs.Walk.{IsFirstFine, IsFirstSecond, IsFirstUpToIn, IsOnDayIn};
 
-use crate::day_rule::{SECONDS_OF_DAY, placed};
+use crate::day_rule::{SECONDS_OF_DAY, first_second, placed};
 use crate::offsets::{at_offsets, chosen_offsets};
+use crate::rule_walk::RuleWalk;
 use rr_expand::{
     AllowedDays, UnitTimes, first_fit, first_unit, fitting_seconds_by, unit_of, units_of_day,
 };
@@ -30,11 +31,13 @@ use rr_times::TimeSet;
 use std::alloc::Global;
 use std::marker::Model;
 
-// A rule of hours, minutes or seconds beside its start, with the seconds of each unit that BYSETPOS chooses, the minutes and
-// seconds that the time parts allow in a unit, the days that the date parts allow, and the numbers of the sets of its days in the table. What is chosen on an allowed day depends on nothing
-// but the place of the day's first unit that fits the interval: the numbers are kept by that place.
+/// The walk over the days of a rule of hours, minutes or seconds beside its start.
+///
+/// It keeps the seconds of each unit that BYSETPOS chooses, the minutes and seconds that the time parts allow in a unit, the
+/// days that the date parts allow, and the numbers of the sets of its days in the table. What is chosen on an allowed day
+/// depends on nothing but the place of the day's first unit that fits the interval: the numbers are kept by that place.
 #[derive(Drop)]
-pub(crate) struct FineRule {
+pub struct FineRule {
     rule: Rule,
     start: i64,
     start_day: i64,
@@ -56,16 +59,17 @@ impl Model for FineRule {
     ghost invariant = { λ s. IsFine (record { rule = s.rule; kind = Moments; start = s.start; kept = s.numbers.items }) s.start_day s.start_second s.offsets s.times s.allowed };
 }
 
-impl FineRule {
-    // The rule beside its start; no number is kept yet.
-    pub(crate) fn new(alloc: Global, rule: &Rule, kind: Kind, start: i64) -> Result<Self, NoMemory>
-        requires valid { IsValidRule kind rule.now }
-        requires freq { is_whole_days rule.now.freq ≡ false }
-        requires in_years { IsInYears kind start }
-        ensures kind { kind ≡ Moments }
-        ensures rule { IfOk result (λ r. IsSameRuling r (record { rule = rule.now; kind = Moments; start = start; kept = [] })) }
-        ensures knows { IfOk result (λ r. (sets : List (List ℕ)) → KnowsPlaces r sets) }
-    {
+impl RuleWalk for FineRule {
+    ghost use Rattle.std.specs.Prelude.{false};
+    ghost use Rattle.rr_walk.specs.Ruling.{KnowsPlaces, places_more};
+
+    ghost ruling = { λ s. s };
+
+    ghost keeps = { λ s sets. KnowsPlaces s sets };
+
+    ghost of_whole_days = { false };
+
+    fn new(alloc: Global, rule: &Rule, kind: Kind, start: i64) -> Result<FineRule, NoMemory> {
         let start_day = day_part(kind, start);
         let places = units_of_day(rule.freq).min(u64::from(rule.interval)) as usize;
         let mut numbers = Vec::new(alloc);
@@ -83,56 +87,17 @@ impl FineRule {
         })
     }
 
-    // The first occupied day from a position up to a day, and where the next call begins.
-    pub(crate) fn step(
-        &mut self,
-        alloc: Global,
-        sets: &mut SetTable,
-        position: &mut i64,
-        to: i64,
-    ) -> Result<Option<OccupiedDay>, NoMemory>
-        requires begun { HasBegun position.old }
-        requires low { neg_ℤ (pos 2_999_999_999_000) ≤ℤ to }
-        requires high { to ≤ℤ pos 2_999_999_999_000 }
-        requires knows { KnowsPlaces self.old sets.old }
-        ensures same { IsSameRuling self.new self.old }
-        ensures knows { KnowsPlaces self.new sets.new }
-        ensures kept { Extends sets.old sets.new }
-        ensures next { IsNextIn sets.new (chosen_of self.old.rule Moments self.old.start) position.old to result position.new }
-        ensures later { position.old ≤ℤ position.new }
-    {
-        if *position > to {
-            return Ok(None);
-        }
-        let from = (*position).max(self.start_day);
-        match self.first_up_to(alloc, sets, from, to)? {
-            None => {
-                *position = to + 1;
-                Ok(None)
-            }
-            Some(found) => {
-                *position = found.day + 1;
-                Ok(Some(found))
-            }
-        }
+    fn start_day(&self) -> i64 {
+        self.start_day
     }
 
-    // The first occupied day from a day on and not after another.
     fn first_up_to(
         &mut self,
         alloc: Global,
         sets: &mut SetTable,
         from: i64,
         to: i64,
-    ) -> Result<Option<OccupiedDay>, NoMemory>
-        requires from { IsDayWithin 0 from }
-        requires to { IsDayWithin 0 (to +ℤ pos 1) }
-        requires knows { KnowsPlaces self.old sets.old }
-        ensures same { IsSameRuling self.new self.old }
-        ensures knows { KnowsPlaces self.new sets.new }
-        ensures kept { Extends sets.old sets.new }
-        ensures found { IfOk result (IsFirstUpToIn sets.new (chosen_of self.old.rule Moments self.old.start) from to) }
-    {
+    ) -> Result<Option<OccupiedDay>, NoMemory> {
         let mut day = from;
         while let Some(candidate) = self.candidate_from(day, to) {
             match self.on_day(alloc, sets, candidate)? {
@@ -144,6 +109,10 @@ impl FineRule {
         Ok(None)
     }
 
+    ghost more = { λ s old new more k. places_more s old new more k };
+}
+
+impl FineRule {
     // The first allowed day, from a day on and not after another, that has a unit which fits the interval.
     fn candidate_from(&mut self, from: i64, to: i64) -> Option<i64>
         requires from { IsDayWithin 0 from }
@@ -265,13 +234,7 @@ impl FineRule {
     fn first_second(&self, day: i64) -> u32
         ensures { IsFirstSecond Moments self.now.start day result }
     {
-        if day > self.start_day {
-            0
-        } else if day == self.start_day {
-            self.start_second
-        } else {
-            SECONDS_OF_DAY
-        }
+        first_second(day, self.start_day, self.start_second)
     }
 }
 

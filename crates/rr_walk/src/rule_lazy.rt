@@ -5,7 +5,9 @@ ghost use Rattle.rr_model.specs.Rule.Validity.{IsValidRule};
 ghost use Rattle.rr_lazy.specs.Next.{IsUnasked};
 ghost use Rattle.rr_model.specs.Sets.Tree.{chosen_of};
 
-use crate::{FineUnits, WholeDays};
+use crate::chosen::Chosen;
+use crate::day_rule::DayRule;
+use crate::fine_rule::FineRule;
 use rr_lazy::{Lazy, OccupiedDay};
 use rr_model::{Kind, NoMemory, Rule};
 use rr_shapes::SetTable;
@@ -15,9 +17,9 @@ use std::alloc::Global;
 #[derive(Drop)]
 pub enum RuleLazy {
     /// Of a rule in days, weeks, months or years.
-    WholeDays(WholeDays),
+    WholeDays(Chosen<DayRule>),
     /// Of a rule in hours, minutes or seconds.
-    FineUnits(FineUnits),
+    FineUnits(Chosen<FineRule>),
 }
 
 impl RuleLazy {
@@ -30,9 +32,9 @@ impl RuleLazy {
         ensures knows { IfOk result (λ l. (sets : List (List ℕ)) → ⟦<RuleLazy as Lazy>⟧.knows l sets) }
     {
         if rule.freq.is_whole_days() {
-            Ok(RuleLazy::WholeDays(WholeDays::new(alloc, rule, kind, start)?))
+            Ok(RuleLazy::WholeDays(Chosen::new(alloc, rule, kind, start)?))
         } else {
-            Ok(RuleLazy::FineUnits(FineUnits::new(alloc, rule, kind, start)?))
+            Ok(RuleLazy::FineUnits(Chosen::new(alloc, rule, kind, start)?))
         }
     }
 

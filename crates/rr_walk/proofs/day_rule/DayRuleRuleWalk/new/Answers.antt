@@ -7,7 +7,7 @@ use Rattle.rr_model.specs.Moment.Units.{unit_number}
 use Rattle.rr_model.specs.declared.kind.Kind.TheVariants.{Days}
 use Rattle.rr_cal.proofs.DayUnitLemmas.{unit_near}
 use Rattle.rr_walk.proofs.WalkLemmas.{start_near}
-use Rattle.rr_walk.proofs.day_rule.DayRule.new.Goals as goal
+use Rattle.rr_walk.proofs.day_rule.DayRuleRuleWalk.new.Goals as goal
 
 pub new-requires : goal.new-requires
 new-requires c =
@@ -52,3 +52,6 @@ invariant_of-result c =
       of_unit = c.whole_unit.ensures.unit;
       held = λ h. absurd (false≢true h);
     })
+
+pub returns-clause-keeps : goal.returns-clause-keeps
+returns-clause-keeps c sets n e = absurd (none≢some (ap get e))

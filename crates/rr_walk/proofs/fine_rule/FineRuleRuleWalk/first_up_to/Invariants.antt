@@ -4,7 +4,7 @@ use Rattle.rr_model.specs.Sets.Tree.{chosen_of}
 use Rattle.rr_shapes.specs.Tables.{Extends}
 use Rattle.rr_lazy.specs.Next.{HasNone}
 use Rattle.rr_walk.specs.Ruling.{IsSameRuling, KnowsPlaces}
-use Rattle.rr_walk.proofs.fine_rule.FineRule.first_up_to.Given as goal
+use Rattle.rr_walk.proofs.fine_rule.FineRuleRuleWalk.first_up_to.Given as goal
 
 abbrev pub invariant-loop-candidate : goal.invariant-loop-candidate
 invariant-loop-candidate l =

@@ -4,7 +4,7 @@ use Rattle.rr_model.specs.declared.kind.Kind.TheVariants.{Moments}
 use Rattle.rr_model.specs.Sets.Tree.{chosen_of}
 use Rattle.rr_walk.specs.Ruling.{KnowsPlaces}
 use Rattle.rr_walk.proofs.FineLemmas.{found_first, none_on, none_past}
-use Rattle.rr_walk.proofs.fine_rule.FineRule.first_up_to.Goals as goal
+use Rattle.rr_walk.proofs.fine_rule.FineRuleRuleWalk.first_up_to.Goals as goal
 
 pub on_day-requires-clause-knows : goal.on_day-requires-clause-knows
 on_day-requires-clause-knows c =
@@ -30,7 +30,7 @@ returns-in-Some-2-clause-found c =
     let first = rw (s.rule, s.start, to) at c.in-Some.ensures.first in
     let k = c.in-Some.candidate in
     let low : c.args.from ≤ℤ k = omega (arith, ints, first.0, c.loop-candidate.invariant.3, from) in
-    let back : to_z w64 (of_z w64 k) ≡ k = omega (arith, ints, low, first.1, c.requires.from.0, c.requires.to.1) in
+    let back : to_z w64 (of_z w64 k) ≡ k = omega (arith, ints, low, first.1, c.requires.from.0, c.requires.next.1) in
     let none = none_on tree c.args.from (to_z w64 c.loop-candidate.day-bits) k (rw from at c.loop-candidate.invariant.5) first.2 in
     let rule = ap (λ q. q.rule) c.candidate_from.ensures.same ∙ s.rule in
     let start = ap (λ q. q.start) c.candidate_from.ensures.same ∙ s.start in
@@ -47,7 +47,7 @@ loop-candidate-preserved c =
     let first = rw (s.rule, s.start, to) at c.in-Some.ensures.first in
     let k = c.in-Some.candidate in
     let low : c.args.from ≤ℤ k = omega (arith, ints, first.0, c.loop-candidate.invariant.3, from) in
-    let back : to_z w64 (of_z w64 k) ≡ k = omega (arith, ints, low, first.1, c.requires.from.0, c.requires.to.1) in
+    let back : to_z w64 (of_z w64 k) ≡ k = omega (arith, ints, low, first.1, c.requires.from.0, c.requires.next.1) in
     let none = none_on tree (to_z w64 (of_z w64 c.args.from)) (to_z w64 c.loop-candidate.day-bits) k c.loop-candidate.invariant.5 first.2 in
     let rule = ap (λ q. q.rule) c.candidate_from.ensures.same ∙ s.rule in
     let kind = ap (λ q. q.kind) c.candidate_from.ensures.same ∙ s.kind in
@@ -55,12 +55,12 @@ loop-candidate-preserved c =
     let same = c.on_day.ensures.same in
     let on = rw (rule, start, back) at (rw c.in-None.is at c.in_ok-on_day.ensures.found) in
     let next : to_z w64 (of_z w64 (to_z w64 (of_z w64 k) +ℤ pos 1)) ≡ k +ℤ pos 1 =
-    omega (arith, ints, back, low, first.1, c.requires.from.0, c.requires.to.1) in
+    omega (arith, ints, back, low, first.1, c.requires.from.0, c.requires.next.1) in
     rw next (
       record { rule = same.rule ∙ rule; kind = same.kind ∙ kind; start = same.start ∙ start },
       c.on_day.ensures.knows,
       λ n t e. c.on_day.ensures.kept n t (c.loop-candidate.invariant.2 n t e),
       omega (arith, ints, low, from),
-      omega (arith, ints, first.1, c.requires.to.1),
+      omega (arith, ints, first.1, c.requires.next.1),
       none_past tree (to_z w64 (of_z w64 c.args.from)) k none on,
     )
