@@ -1,13 +1,14 @@
 // A rule of whole days, walked over its candidate days.
-ghost use Rattle.std.specs.Prelude.{◌≡◌, ◌<◌, ◌≤◌, ◌∷◌, [], IfOk, IsTrue, None, length, get_or, nat_lt, true, pos, neg_ℤ, ◌≤ℤ◌, ◌+ℤ◌};
+ghost use Rattle.std.specs.Prelude.{◌≡◌, ◌<◌, [], IfOk, IsTrue, length, get_or, nat_lt, true, pos, ◌≤ℤ◌, ◌+ℤ◌, ℤ};
 ghost use Rattle.rr_model.specs.Calendar.{IsDayWithin};
-ghost use Rattle.rr_model.specs.Moment.{day_part};
+ghost use Rattle.rr_model.specs.Moment.{day_part, second_part};
 ghost use Rattle.rr_model.specs.Moment.Units.{is_whole_days, unit_number, unit_start};
 ghost use Rattle.rr_model.specs.Moment.Years.{IsInYears};
 ghost use Rattle.rr_model.specs.Rising.Sets.{IsSetOf};
 ghost use Rattle.rr_model.specs.Rule.DaysAndTimes.{IsCandidateTime, day_holds};
 ghost use Rattle.rr_model.specs.Rule.Validity.{IsValidRule, is_absent};
 ghost use Rattle.rr_model.specs.Sets.Tree.{chosen_of};
+ghost use Rattle.rr_model.specs.declared.kind.Kind.{Kind};
 ghost use Rattle.rr_model.specs.declared.kind.Kind.TheVariants.{Days};
 ghost use Rattle.rr_shapes.specs.Tables.{Extends};
 ghost use Rattle.rr_lazy.specs.Next.{IsNextIn};

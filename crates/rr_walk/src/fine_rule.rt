@@ -118,6 +118,7 @@ impl FineRule {
         requires from { IsDayWithin 0 from }
         requires to { IsDayWithin 0 (to +ℤ pos 1) }
         ensures same { self.new ≡ self.old }
+        ensures kind { self.old.kind ≡ Moments }
         ensures first { IsFirstFine self.old from to result }
     {
         let mut day = self.fitting_day(from);
@@ -134,6 +135,7 @@ impl FineRule {
     // The first day from this one on that has a unit which fits the interval.
     fn fitting_day(&self, day: i64) -> i64
         requires { IsDayWithin 1000 day }
+        ensures kind { self.now.kind ≡ Moments }
         ensures late { day ≤ℤ result }
         ensures near { result ≤ℤ (day +ℤ pos 4_294_967_295) }
         ensures none { HasNone (chosen_of self.now.rule Moments self.now.start) day result }

@@ -1,4 +1,4 @@
-use Rattle.std.proofs.Common.{rules, ◌≡◌, ◌⊎◌, ℤ, pos, ◌+ℤ◌, ◌≤ℤ◌, refl, inl, inr, arith, w64, to_z, of_z, to_z-of_z, ◌∙◌, FitsSigned}
+use Rattle.std.proofs.Common.{◌≡◌, ◌⊎◌, ℤ, pos, ◌+ℤ◌, ◌≤ℤ◌, refl, inl, inr, arith, w64, to_z, of_z, to_z-of_z, ◌∙◌}
 use Rattle.std.proofs.lemmas.Int.{ints}
 use Rattle.rr_model.specs.Calendar.{IsDayWithin}
 use Rattle.rr_model.specs.Moment.{day_part}

@@ -1,4 +1,4 @@
-use Rattle.std.proofs.Common.{◌≡◌, pos, nat_abs, ◌-ℤ◌, ◌≤ℤ◌}
+use Rattle.std.proofs.Common.{pos, nat_abs, ◌-ℤ◌, ◌≤ℤ◌}
 use Rattle.rr_model.specs.Moment.{day_part}
 use Rattle.rr_model.specs.Sets.Tree.{chosen_of}
 use Rattle.rr_shapes.specs.Tables.{Extends}

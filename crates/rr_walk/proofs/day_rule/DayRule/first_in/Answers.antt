@@ -1,4 +1,4 @@
-use Rattle.std.proofs.Common.{rules, FitsSigned, ◌≡◌, true, refl, ◌∷◌, [], arith, w64, to_z, of_z, to_z-of_z, sym, ap, ◌∙◌, ℕ, ℤ, pos, nat_abs, ◌+ℤ◌, ◌-ℤ◌}
+use Rattle.std.proofs.Common.{rules, FitsSigned, ◌≡◌, true, refl, ◌∷◌, [], arith, w64, to_z, of_z, to_z-of_z, sym, ap, ◌∙◌, ℕ, pos, nat_abs, ◌+ℤ◌, ◌-ℤ◌}
 use Rattle.std.specs.Prelude.{int_lt}
 use Rattle.std.proofs.lemmas.Bool.{eqb-true, false≢true}
 use Rattle.std.proofs.lemmas.Int.{ints}

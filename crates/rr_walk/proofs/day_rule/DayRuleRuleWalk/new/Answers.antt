@@ -1,4 +1,4 @@
-use Rattle.std.proofs.Common.{rules, ◌≡◌, ◌∙◌, refl, false, arith, FitsSigned, w64, to_z, of_z, to_z-of_z}
+use Rattle.std.proofs.Common.{rules, ◌≡◌, ◌∙◌, refl, arith, FitsSigned, w64, to_z, of_z, to_z-of_z}
 use Rattle.std.proofs.lemmas.Bool.{false≢true}
 use Rattle.std.proofs.lemmas.Int.{ints}
 use Rattle.rr_model.specs.Calendar.{IsDayWithin}
@@ -52,6 +52,3 @@ invariant_of-result c =
       of_unit = c.whole_unit.ensures.unit;
       held = λ h. absurd (false≢true h);
     })
-
-pub returns-clause-keeps : goal.returns-clause-keeps
-returns-clause-keeps c sets n e = absurd (none≢some (ap get e))

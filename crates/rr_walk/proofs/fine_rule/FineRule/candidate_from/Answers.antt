@@ -77,3 +77,6 @@ loop-day-preserved c =
       fine_more r c.self.inside.allowed u.of_allowed (to_z w64 (of_z w64 c.args.from)) (to_z w64 c.loop-day.day-bits) c.args.to c.loop-day.invariant.3
           c.in_ok-allowed.allowed c.fitting_day-day-in-loop-day.result first none,
     )
+
+pub returns-clause-kind : goal.returns-clause-kind
+returns-clause-kind c = c.fitting_day-day.ensures.kind

@@ -1,4 +1,4 @@
-use Rattle.std.proofs.Common.{◌≡◌, pos, ◌+ℤ◌, ◌≤ℤ◌, arith, ap, sym, subst, ◌∙◌, w64, to_z, of_z, to_z-of_z}
+use Rattle.std.proofs.Common.{rules, ◌≡◌, pos, ◌+ℤ◌, ◌≤ℤ◌, arith, ap, sym, subst, ◌∙◌, w64, to_z, of_z, to_z-of_z}
 use Rattle.std.proofs.lemmas.Int.{ints}
 use Rattle.rr_model.specs.declared.kind.Kind.TheVariants.{Moments}
 use Rattle.rr_model.specs.Sets.Tree.{chosen_of}
@@ -20,8 +20,14 @@ pub returns-clause-knows : goal.returns-clause-knows
 returns-clause-knows c =
     subst (λ q. KnowsPlaces q c.loop-candidate.sets) (sym c.candidate_from.ensures.same) c.loop-candidate.invariant.1
 
+pub returns-clause-found : goal.returns-clause-found
+returns-clause-found c =
+    let moments : c.args.self.now.kind ≡ Moments = sym c.loop-candidate.invariant.0.kind ∙ c.candidate_from.ensures.kind in
+    rw moments (search rules)
+
 pub returns-in-Some-2-clause-found : goal.returns-in-Some-2-clause-found
 returns-in-Some-2-clause-found c =
+    let moments : c.args.self.now.kind ≡ Moments = sym c.loop-candidate.invariant.0.kind ∙ c.candidate_from.ensures.kind in
     let r = c.args.self.now in
     let tree = chosen_of r.rule Moments r.start in
     let s = c.loop-candidate.invariant.0 in
@@ -35,7 +41,7 @@ returns-in-Some-2-clause-found c =
     let rule = ap (λ q. q.rule) c.candidate_from.ensures.same ∙ s.rule in
     let start = ap (λ q. q.start) c.candidate_from.ensures.same ∙ s.start in
     let on = rw (rule, start, back) at (rw c.in-Some-2.is at c.in_ok-on_day.ensures.found) in
-    found_first c.on_day.new.sets tree c.args.from k c.args.to c.in-Some-2.found low first.1 none on
+    rw moments (found_first c.on_day.new.sets tree c.args.from k c.args.to c.in-Some-2.found low first.1 none on)
 
 pub loop-candidate-preserved : goal.loop-candidate-preserved
 loop-candidate-preserved c =
