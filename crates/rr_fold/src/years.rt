@@ -107,9 +107,12 @@ pub fn days_by_years(
     ensures whole { IfOk result (λ days. end ≡ day_part kind start +ℤ pos (length days.numbers)) }
 {
     let first = day_part(kind, start);
-    let mut lazy = RuleLazy::new(alloc, rule, kind, start)?;
     let mut walk = Walk::new(alloc, days_between(first, end))?;
-    match walk_by_years(alloc, rule, period, &mut lazy, &mut walk, first, end) {
+    let mut lazy = RuleLazy::new(alloc, rule, kind, start)?;
+    let walked = walk_by_years(alloc, rule, period, &mut lazy, &mut walk, first, end);
+    // By a call, or else the proof follows the drop into each list that the iterator holds.
+    drop(lazy);
+    match walked {
         Ok(()) => Ok(walk.days),
         Err(fault) => Err(fault),
     }

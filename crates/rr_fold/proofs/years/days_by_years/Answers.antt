@@ -23,14 +23,14 @@ days_between-requires-clause-first c =
     let bounds = four_digit_bounds (day_part c.args.kind c.args.start) c.requires.in_years in
     omega (arith, ints, day, bounds.0)
 
-pub walk_by_years-requires-clause-low : goal.walk_by_years-requires-clause-low
-walk_by_years-requires-clause-low c =
+pub walk_by_years-walked-requires-clause-low : goal.walk_by_years-walked-requires-clause-low
+walk_by_years-walked-requires-clause-low c =
     let day = day_back c.args.kind c.args.start c.day_part-first.result c.requires.in_years c.day_part-first.ensures in
     let bounds = four_digit_bounds (day_part c.args.kind c.args.start) c.requires.in_years in
     omega (arith, ints, day, bounds.0)
 
-pub walk_by_years-requires-clause-equal : goal.walk_by_years-requires-clause-equal
-walk_by_years-requires-clause-equal c =
+pub walk_by_years-walked-requires-clause-equal : goal.walk_by_years-walked-requires-clause-equal
+walk_by_years-walked-requires-clause-equal c =
     let day = day_back c.args.kind c.args.start c.day_part-first.result c.requires.in_years c.day_part-first.ensures in
     let tree = c.in_ok-lazy.ensures.tree ∙ ap (chosen_of c.args.rule.now c.args.kind) (to_z-of_z c.ranges.start) in
     let first : ℤ = to_z w64 (of_z w64 c.day_part-first.result) in
@@ -38,18 +38,18 @@ walk_by_years-requires-clause-equal c =
     (subst (λ d. HasEqualYears c.args.rule.now c.args.period (chosen_of c.args.rule.now c.args.kind c.args.start) d) (sym day)
     (equal_slots_have_equal_days c.args.rule.now c.args.kind c.args.start c.args.period c.requires.valid c.requires.in_years c.requires.repeats))
 
-pub walk_by_years-requires-clause-position : goal.walk_by_years-requires-clause-position
-walk_by_years-requires-clause-position c =
+pub walk_by_years-walked-requires-clause-position : goal.walk_by_years-walked-requires-clause-position
+walk_by_years-walked-requires-clause-position c =
     let day = day_back c.args.kind c.args.start c.day_part-first.result c.requires.in_years c.day_part-first.ensures in
     let bounds = four_digit_bounds (day_part c.args.kind c.args.start) c.requires.in_years in
     omega (arith, ints, c.in_ok-lazy.ensures.unasked, year_1, day, bounds.0)
 
-pub walk_by_years-requires-clause-knows : goal.walk_by_years-requires-clause-knows
-walk_by_years-requires-clause-knows c =
+pub walk_by_years-walked-requires-clause-knows : goal.walk_by_years-walked-requires-clause-knows
+walk_by_years-walked-requires-clause-knows c =
     c.in_ok-lazy.ensures.knows c.in_ok-walk.walk.numbering.sets
 
-pub walk_by_years-requires-clause-walk : goal.walk_by_years-requires-clause-walk
-walk_by_years-requires-clause-walk c =
+pub walk_by_years-walked-requires-clause-walk : goal.walk_by_years-walked-requires-clause-walk
+walk_by_years-walked-requires-clause-walk c =
     let day = day_back c.args.kind c.args.start c.day_part-first.result c.requires.in_years c.day_part-first.ensures in
     let bounds = four_digit_bounds (day_part c.args.kind c.args.start) c.requires.in_years in
     let tree = c.in_ok-lazy.ensures.tree ∙ ap (chosen_of c.args.rule.now c.args.kind) (to_z-of_z c.ranges.start) in
