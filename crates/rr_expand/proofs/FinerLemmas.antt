@@ -23,7 +23,7 @@ use Rattle.rr_model.specs.Moment.Units.{is_whole_days, unit_seconds}
 use Rattle.rr_expand.specs.Expansion.{IsFittingSecond, IsCandidateSecond}
 use Rattle.rr_expand.specs.Spread.{of_unit}
 use Rattle.rr_expand.specs.UnitTimes.{AreUnitTimes}
-use Rattle.rr_model.proofs.DaysAndTimesLemmas.{time_parts_hold-at, and_true, and_parts}
+use Rattle.rr_model.proofs.DaysAndTimesLemmas.{time_parts_hold-at, and_true, and_parts, unit_some}
 use Rattle.rr_expand.proofs.FitLemmas.{fits_at, first_fits, none_before, next_fits, none_between}
 use Rattle.rr_expand.proofs.StepSets.{Before, At, before_first, one_more, all_before}
 use Rattle.rr_expand.proofs.UnitSets.{unit_set}
@@ -45,15 +45,6 @@ unit_at Daily w d s fine = absurd (cc)
 unit_at Weekly w d s fine = absurd (cc)
 unit_at Monthly w d s fine = absurd (cc)
 unit_at Yearly w d s fine = absurd (cc)
-
-unit_some : (freq : Freq) → 0 < unit_seconds freq
-unit_some Secondly = omega arith
-unit_some Minutely = omega arith
-unit_some Hourly = omega arith
-unit_some Daily = omega arith
-unit_some Weekly = omega arith
-unit_some Monthly = omega arith
-unit_some Yearly = omega arith
 
 -- a later unit has later seconds
 later : (n : ℕ) → 0 < n → (s t : ℕ) → s / n < t / n → s < t

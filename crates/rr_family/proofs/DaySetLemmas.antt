@@ -13,14 +13,13 @@ use Rattle.rr_model.specs.Sets.Sketch.{IsValidSketch, StandsIn, times_on}
 use Rattle.rr_model.specs.Sets.Verdict.{HaveEqualOccurrences}
 use Rattle.rr_model.specs.declared.kind.Kind.{Kind}
 use Rattle.rr_model.specs.declared.sketch.Sketch.{Sketch}
-use Rattle.rr_model.proofs.CountLemmas.{one, count_from-suc}
+use Rattle.rr_model.proofs.CountLemmas.{one, count_from-suc, count_from-split, count_from-same}
 use Rattle.rr_model.proofs.RisingSetLemmas.{Contains-head, Contains-tail, Contains-none}
 use Rattle.rr_model.proofs.SecondsLemmas.{first_below}
 use Rattle.rr_word.proofs.SketchLemmas.{rising_on, second_fits}
 use Rattle.rr_word.proofs.OneLeastLemmas.{parts_of_moment}
 use Rattle.rr_model.specs.declared.graph.RangeEnd.{RangeEnd}
 use Rattle.rr_model.specs.declared.graph.RangeEnd.TheVariants.{NoEnd, EndDate, Numbered}
-use Rattle.rr_parts.proofs.CountLemmas.{count_from-split, count_from-same}
 use Rattle.rr_graph.proofs.RepeatLemmas.{at_day, at_time}
 use Rattle.rr_family.specs.DaySets.{window_days, IsWithin, OccursOnDays, IsOneSecond, IsLastDay, SetOfTest, TestOfEndless, TestOfFinite}
 use Rattle.rr_family.specs.Lasting.{is_occupied, at_second}

@@ -4,7 +4,7 @@ use Rattle.std.proofs.Common.{pos, negsuc, nat_abs, ◌+ℤ◌, ◌-ℤ◌, ◌�
 use Rattle.std.specs.Prelude.{Some, nat_lt, map, All}
 use Rattle.std.specs.List.{Contains, list_any, AllByRecursion}
 use Rattle.std.proofs.lemmas.Int.{ints, by_lt_z}
-use Rattle.std.proofs.lemmas.Bool.{and_parts, cases_Bool, cases_lt, cases_eq, eq-eqb, eqb-true, false≢true}
+use Rattle.std.proofs.lemmas.Bool.{and_parts, cases_Bool, cases_lt, cases_eq, eq-eqb, eqb-true, false≢true, and_from}
 use Rattle.std.proofs.lemmas.Bool.Decides.{nat_tests}
 use Rattle.std.proofs.lemmas.List.Elements.{recursion_from_All, All-cons}
 use Rattle.std.proofs.lemmas.Map.Views.{any-filter_same}
@@ -35,7 +35,6 @@ use Rattle.rr_model.specs.declared.item.Item.{Item}
 use Rattle.rr_model.specs.declared.item.Item.TheVariants.{Every, Weekday, MonthDay, Place, Month, YearDay}
 use Rattle.rr_model.specs.declared.vcal.VRule.{VRule}
 use Rattle.rr_graph.proofs.DayCountLemmas.{at_start_second, count_between}
-use Rattle.rr_graph.proofs.RepeatLemmas.{both}
 use Rattle.rr_family.specs.DaySets.{window_days, IsWithin, OccursOnDays, IsOneSecond, IsLastDay}
 use Rattle.rr_family.specs.Lasting.{is_occupied, at_second, HasCycle}
 use Rattle.rr_family.specs.Places.{many_items, from_both_ends, item_at, place_has_day}
@@ -96,7 +95,7 @@ members_on_days rule kind start t l profile = (
     o.same_kind,
     (
         let late = (later_day kind start t o.same_second).0 o.not_before in record {
-          candidate = candidate_is rule kind start t ∙ both _ _ (eq-eqb (second_part kind t) (second_part kind start) o.same_second) o.on_day;
+          candidate = candidate_is rule kind start t ∙ and_from _ _ (eq-eqb (second_part kind t) (second_part kind start) o.same_second) o.on_day;
           not_before = late;
           within_end = (ends rule kind start t rule.end profile _ (number_is rule kind start t o.same_second late)).1 o.within;
         }),

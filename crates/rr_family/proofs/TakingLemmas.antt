@@ -9,9 +9,8 @@ use Rattle.std.proofs.lemmas.Bool.Decides.{nat_tests}
 use Rattle.std.proofs.lemmas.List.Elements.{recursion_from_All}
 use Rattle.std.proofs.lemmas.Map.Views.{any-filter_same}
 use Rattle.rr_model.specs.Whole.Count.{count_from}
-use Rattle.rr_model.proofs.CountLemmas.{one, count_from-zero, count_from-suc}
+use Rattle.rr_model.proofs.CountLemmas.{one, count_from-zero, count_from-suc, count_from-le}
 use Rattle.rr_graph.proofs.DayCountLemmas.{count_from-none}
-use Rattle.rr_parts.proofs.CountLemmas.{count_from-le}
 use Rattle.rr_family.specs.Taking.{some_gives, AgreeWithin, is_sound, sound_places, further_days, first_greatest, taken_within, taken_places}
 use Rattle.rr_family.specs.Taking.{AreAmong, TakingLosesNone, TakingIsSound}
 

@@ -13,9 +13,8 @@ use Rattle.rr_model.specs.Sets.Sketch.{IsFirstDay, IsValidSketch, times_on}
 use Rattle.rr_model.specs.Whole.Count.{count_from}
 use Rattle.rr_model.specs.declared.kind.Kind.{Kind}
 use Rattle.rr_model.specs.declared.sketch.Sketch.{Sketch}
-use Rattle.rr_model.proofs.CountLemmas.{one, count_from-suc}
+use Rattle.rr_model.proofs.CountLemmas.{one, count_from-suc, count_from-split}
 use Rattle.rr_graph.proofs.DayCountLemmas.{count_from-none}
-use Rattle.rr_parts.proofs.CountLemmas.{count_from-split}
 use Rattle.rr_word.specs.Stretches.{AreFree}
 use Rattle.rr_word.proofs.OneLeastLemmas.{parts_of_moment}
 use Rattle.rr_word.proofs.SketchLemmas.{repeats_from, second_fits}

@@ -6,8 +6,8 @@ use Rattle.std.proofs.lemmas.Int.{ints}
 use Rattle.std.proofs.lemmas.Bool.{cases_Bool, cases_eq, eq-eqb, eqb-true, false≢true}
 use Rattle.std.proofs.lemmas.Bool.Decides.{nat_tests}
 use Rattle.rr_model.specs.declared.vcal.FamilyKind.{FamilyKind}
+use Rattle.rr_model.proofs.CountLemmas.{count_from-le}
 use Rattle.rr_graph.proofs.DayCountLemmas.{count_from-none}
-use Rattle.rr_parts.proofs.CountLemmas.{count_from-le}
 use Rattle.rr_family.specs.Places.{many_items, place_has_day}
 use Rattle.rr_family.specs.Profile.{all_places}
 use Rattle.rr_family.specs.Sorts.{many_sorts, sort_of_day, has_sort}

@@ -6,14 +6,13 @@ use Rattle.std.proofs.lemmas.Int.{ints}
 use Rattle.std.proofs.lemmas.Bool.{cases_eq, cases_lt, false≢true}
 use Rattle.std.proofs.Math.ListN.{replicate}
 use Rattle.std.proofs.lemmas.List.{get_or-replicate, get_or_past, length-replicate}
-use Rattle.rr_model.proofs.CountLemmas.{count_from-zero, count_from-suc}
+use Rattle.rr_model.proofs.CountLemmas.{count_from-zero, count_from-suc, count_from-le}
 use Rattle.rr_model.specs.declared.vcal.FamilyKind.{FamilyKind}
 use Rattle.rr_family.specs.Sorts.{many_sorts, sort_of_day}
 use Rattle.rr_family.specs.Tally.{sort_passes, days_of_sort}
 use Rattle.rr_family.proofs.SortLemmas.{kinds_have_sorts}
 use Rattle.rr_family.proofs.TakingLemmas.{in_window}
 use Rattle.rr_family.proofs.DaySetLemmas.{more_days}
-use Rattle.rr_parts.proofs.CountLemmas.{count_from-le}
 use Rattle.rr_find.specs.Counted.{IsCountedOn, IsDayResult, AreCounts, HasUnsorted, HasMixed, IsTallied, IsNothingCounted, HasFewDays, has_some_sort}
 
 abbrev pub zeros : ℕ → List ℕ

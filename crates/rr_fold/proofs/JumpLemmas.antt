@@ -1,12 +1,12 @@
 -- Whole cycles of a counted rule that are not walked.
-use Rattle.std.proofs.Common.{◌≡◌, ◌≢◌, ℕ, zero, suc, ◌+◌, ◌-◌, ◌*◌, ◌/◌, ◌%◌, ◌<◌, ◌≤◌, Bool, true, false, ◌&&◌, List, [], length, get_or, ℤ, pos}
+use Rattle.std.proofs.Common.{◌≡◌, ◌≢◌, ℕ, zero, suc, ◌+◌, ◌-◌, ◌*◌, ◌/◌, ◌%◌, ◌<◌, ◌≤◌, true, false, ◌&&◌, List, [], length, get_or, ℤ, pos}
 use Rattle.std.proofs.Common.{◌+ℤ◌, ◌≤ℤ◌, ◌<ℤ◌, refl, sym, ap, ◌∙◌, inl, inr, arith}
 use Rattle.std.specs.Prelude.{IsTrue, nat_lt, nat_le}
 use Rattle.std.proofs.lemmas.Int.{ints, by_lt_z}
 use Rattle.std.proofs.lemmas.Nat.{div-add-mod'}
 use Rattle.std.proofs.lemmas.Bool.{cases_lt}
 use Rattle.std.proofs.lemmas.Bool.Decides.{nat_tests}
-use Rattle.rr_lazy.proofs.CountingLemmas.{before_grows, before_next, count_seconds-suc, to_is}
+use Rattle.rr_lazy.proofs.CountingLemmas.{before_grows, before_next, to_is}
 use Rattle.rr_lazy.proofs.CycleCountLemmas.{seconds_alike}
 use Rattle.rr_lazy.proofs.TreeLemmas.{stands_below}
 use Rattle.rr_iter.specs.Ends.{before_day}
@@ -16,17 +16,12 @@ use Rattle.rr_model.proofs.WholeLemmas.{floor_mod_below}
 use Rattle.rr_model.specs.Moment.Years.{IsFromYearOne}
 use Rattle.rr_model.specs.Rising.Sets.{IsSetOf}
 use Rattle.rr_model.specs.Series.Limits.{IsTimeSetBefore, HasTooManyMoments}
-use Rattle.rr_model.specs.Sets.Counting.{count_seconds, count_to}
+use Rattle.rr_model.specs.Sets.Counting.{count_to}
 use Rattle.rr_model.specs.Sets.Tree.{Tree, first_n, stands_at}
+use Rattle.rr_model.proofs.CountLemmas.{count_seconds-mono}
 use Rattle.rr_fold.specs.Folding.{IsNumbered, HasNoneBefore, IsFoldedTo}
 use Rattle.rr_fold.specs.Jump.{IsSpliced}
 use Rattle.rr_fold.proofs.FoldLemmas.{no_second}
-
-seconds_grow : (f : ℕ → Bool) (n k : ℕ) → count_seconds f n ≤ count_seconds f (n + k)
-seconds_grow f n zero = let e : n + 0 ≡ n = omega arith in rw e (omega arith)
-seconds_grow f n (suc k) =
-    let e : n + suc k ≡ suc (n + k) = omega arith in
-    rw e (omega (arith, count_seconds-suc f (n + k), seconds_grow f n k))
 
 -- where no more lie up to the end of a day, none of its occurrences is left out
 all_early : (a : Tree) (n : ℕ) (d : ℤ) (s : ℕ) → IsFromYearOne d → before_day a (d +ℤ pos 1) ≤ n → stands_at (first_n a n) d s ≡ stands_at a d s
@@ -36,7 +31,7 @@ all_early a n d s begun few = elim (stands_at a d s) as (λ b. stands_at a d s �
       let below = stands_below a d s e in
       let k : ℕ = 86_400 - (s + 1) in
       let same : (s + 1) + k ≡ 86_400 = omega (arith, below) in
-      let grown = rw same at (seconds_grow (stands_at a d) (s + 1) k) in
+      let grown = rw same at (count_seconds-mono (stands_at a d) (s + 1) k) in
       let within : count_to (λ x y. stands_at a x y) d s ≤ n =
       omega (arith, to_is (λ x y. stands_at a x y) d s, grown, before_next (λ x y. stands_at a x y) d begun, few) in
       grind (arith, nat_tests))

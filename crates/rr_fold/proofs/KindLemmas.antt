@@ -2,11 +2,11 @@
 use Rattle.std.proofs.Common.{◌≡◌, ◌≢◌, ℕ, ◌<◌, Bool, true, false, ◌||◌, List, [], ◌∷◌, get_or, All, Contains, ℤ, ◌≤ℤ◌, refl, sym, ap, subst, inl, inr, arith}
 use Rattle.std.specs.Prelude.{IsTrue, nat_lt, int_lt, slice_get, None, Some}
 use Rattle.std.proofs.lemmas.Int.{ints}
-use Rattle.std.proofs.lemmas.Bool.{false≢true}
+use Rattle.std.proofs.lemmas.Bool.{false≢true, and_parts}
 use Rattle.std.proofs.lemmas.Bool.Decides.{nat_tests}
 use Rattle.std.proofs.lemmas.List.Elements.{Contains-get_or}
 use Rattle.rr_lazy.proofs.StretchLemmas.{day_mono, moment_day, moment_second}
-use Rattle.rr_lazy.proofs.TreeLemmas.{and_left, has_second_below}
+use Rattle.rr_lazy.proofs.TreeLemmas.{has_second_below}
 use Rattle.rr_iter.proofs.RulesLemmas.{whole_one_kind}
 use Rattle.rr_model.proofs.RisingSetLemmas.{Contains-head, Contains-tail, Contains-none, Contains-cons_cases, below_rest}
 use Rattle.rr_model.specs.Moment.{day_part, second_part, moment_at}
@@ -31,17 +31,17 @@ of_kind k kind s e h = subst (λ x. has_second x s ≡ true) e h
 mutual
   -- only seconds of the tree's kind stand
   pub stands_second : (k : Kind) (tree : Tree) (d : ℤ) (s : ℕ) → IsOfKind k tree → stands_at tree d s ≡ true → has_second k s ≡ true
-  stands_second k (chosen_of rule kind start) d s o e = of_kind k kind s o.0 (and_left _ _ e)
-  stands_second k (dates_of kind dates) d s o e = of_kind k kind s o.0 (and_left _ _ e)
+  stands_second k (chosen_of rule kind start) d s o e = of_kind k kind s o.0 (and_parts _ _ e).0
+  stands_second k (dates_of kind dates) d s o e = of_kind k kind s o.0 (and_parts _ _ e).0
   stands_second k (union a b) d s o e = elim (stands_at a d s) as (λ x. stands_at a d s ≡ x → (x || stands_at b d s) ≡ true → has_second k s ≡ true) [
     | true ↦ λ f u. stands_second k a d s o.0 f
     | false ↦ λ f u. stands_second k b d s o.1 u
   ] refl e
   stands_second k (many parts) d s o e = some_second k parts d s o e
-  stands_second k (upto a kind at) d s o e = stands_second k a d s o.2 (and_left _ _ e)
-  stands_second k (first_n a n) d s o e = stands_second k a d s o (and_left _ _ e)
-  stands_second k (without a kind dates) d s o e = stands_second k a d s o.2 (and_left _ _ e)
-  stands_second k (except a b) d s o e = stands_second k a d s o.0 (and_left _ _ e)
+  stands_second k (upto a kind at) d s o e = stands_second k a d s o.2 (and_parts _ _ e).0
+  stands_second k (first_n a n) d s o e = stands_second k a d s o (and_parts _ _ e).0
+  stands_second k (without a kind dates) d s o e = stands_second k a d s o.2 (and_parts _ _ e).0
+  stands_second k (except a b) d s o e = stands_second k a d s o.0 (and_parts _ _ e).0
 
   some_second : (k : Kind) (parts : Forest) (d : ℤ) (s : ℕ) → AreOfKind k parts → some_stands_at parts d s ≡ true → has_second k s ≡ true
   some_second k nothing d s o e = absurd (false≢true e)

@@ -24,10 +24,10 @@ use Rattle.rr_model.specs.declared.rule.Rule.{Rule}
 use Rattle.rr_model.proofs.WholeLemmas.{floor_whole, floor_mod_below}
 use Rattle.rr_model.proofs.CountLemmas.{one, count_from-zero, count_from-suc}
 use Rattle.rr_model.proofs.CalendarLemmas.{year_of_is, first_day_of_year-next, days_of_months-all, days_of_months_mono, IsDate-year_of}
-use Rattle.rr_model.proofs.DaysAndTimesLemmas.{candidates_are_days_and_times}
+use Rattle.rr_model.proofs.DaysAndTimesLemmas.{candidates_are_days_and_times, day_at, second_at}
 use Rattle.rr_cal.proofs.StretchLemmas.{month_start, month_end, units_are_stretches}
 use Rattle.rr_setpos.specs.Ranks.{first_of_unit, next_of_unit, days_before, days_of_unit, rank_by_parts, size_by_parts, is_rank_listed}
-use Rattle.rr_setpos.proofs.PositionLemmas.{chosen_candidate, chosen_no_candidate, day_at, second_at}
+use Rattle.rr_setpos.proofs.PositionLemmas.{chosen_candidate, chosen_no_candidate}
 use Rattle.rr_expand.specs.Years.{Filling, allows_day, mask_key}
 use Rattle.rr_expand.proofs.KeyLemmas.{told_by_keys, days_in_year-alike}
 use Rattle.rr_expand.proofs.KeyWeekLemmas.{equal_keys_have_equal_masks}

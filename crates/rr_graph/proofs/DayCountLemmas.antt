@@ -7,8 +7,7 @@ use Rattle.rr_model.specs.Whole.Count.{count_from}
 use Rattle.rr_model.specs.Moment.{day_part, second_part, moment_at}
 use Rattle.rr_model.specs.declared.kind.Kind.{Kind}
 use Rattle.rr_model.specs.declared.kind.Kind.TheVariants.{Days, Moments}
-use Rattle.rr_model.proofs.CountLemmas.{one, count_from-zero, count_from-suc, count_from-first}
-use Rattle.rr_parts.proofs.CountLemmas.{count_from-split}
+use Rattle.rr_model.proofs.CountLemmas.{one, count_from-zero, count_from-suc, count_from-first, count_from-split}
 use Rattle.rr_model.proofs.WholeLemmas.{floor_only, floor_whole, floor_mod_below}
 
 -- a stretch where none passes

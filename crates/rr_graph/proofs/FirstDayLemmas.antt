@@ -3,7 +3,7 @@ use Rattle.std.proofs.Common.{◌≡◌, ℕ, zero, suc, ◌≤◌, Bool, true, 
 use Rattle.std.proofs.Common.{◌*ℤ◌, ◌≤ℤ◌, ◌<ℤ◌, inl, inr, refl, sym, ap, ◌∙◌, arith, Some, None, Option}
 use Rattle.std.specs.Prelude.{◌⊎◌}
 use Rattle.std.proofs.lemmas.Int.{ints}
-use Rattle.std.proofs.lemmas.Bool.{cases_eq, eqb-true, cases_lt, false≢true}
+use Rattle.std.proofs.lemmas.Bool.{cases_eq, eqb-true, cases_lt, false≢true, and_parts}
 use Rattle.rr_model.specs.Calendar.{first_day_of_year}
 use Rattle.rr_model.specs.Whole.Count.{count_from}
 use Rattle.rr_model.specs.Whole.{floor_div, floor_mod, divides}
@@ -33,16 +33,12 @@ divides_from n a b x some e =
     let far : x -ℤ a ≡ (x -ℤ b) +ℤ (k *ℤ pos n) = omega (arith, ints, floor_whole (b -ℤ a) n some, none) in
     sym (ap (divides n) far ∙ divides-add n (x -ℤ b) k some)
 
-both_left : (a b : Bool) → (a && b) ≡ true → a ≡ true
-both_left true b e = refl
-both_left false b e = absurd (cc)
-
 pub same_from_first : SameFromFirst
 unfolding is_pattern_day
 same_from_first pattern start first d some e =
     ap (λ b. b && form_holds pattern.form pattern d)
     (divides_from pattern.interval (period_of pattern.form pattern.first_day start) (period_of pattern.form pattern.first_day first)
-    (period_of pattern.form pattern.first_day d) some (both_left _ _ e))
+    (period_of pattern.form pattern.first_day d) some (and_parts _ _ e).0)
 
 -- ---- the first of a stretch
 

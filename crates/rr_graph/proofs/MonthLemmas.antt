@@ -11,8 +11,8 @@ use Rattle.rr_model.specs.declared.rule.Freq.TheVariants.{Monthly}
 use Rattle.rr_model.proofs.WholeLemmas.{floor_only}
 use Rattle.rr_cal.proofs.StretchLemmas.{units_are_stretches}
 use Rattle.rr_model.proofs.CalendarLemmas.{IsDate-year_of, day_number-year_of, day_number_is}
+use Rattle.rr_model.proofs.CountLemmas.{count_from-split, count_from-same}
 use Rattle.rr_cal.proofs.DayUnitLemmas.{month_next}
-use Rattle.rr_parts.proofs.CountLemmas.{count_from-split, count_from-same}
 use Rattle.rr_graph.proofs.DayCountLemmas.{count_from-none}
 
 -- ---- a day's month

@@ -2,7 +2,7 @@
 use Rattle.std.proofs.Common.{◌≡◌, ◌↔◌, [], ℤ, inl, inr, refl, sym, ap, ◌∙◌, subst, arith}
 use Rattle.std.specs.Prelude.{unwrap_or}
 use Rattle.std.specs.List.{Contains}
-use Rattle.std.proofs.lemmas.Bool.{eq-eqb}
+use Rattle.std.proofs.lemmas.Bool.{eq-eqb, and_from}
 use Rattle.rr_model.specs.Moment.{day_part, second_part, moment_at}
 use Rattle.rr_model.specs.declared.kind.Kind.{Kind}
 use Rattle.rr_model.specs.declared.rule.Series.{Series}
@@ -18,7 +18,7 @@ use Rattle.rr_graph.specs.Moved.{repeat_from, MovingStartKeepsOccurrences}
 use Rattle.rr_graph.proofs.PatternParts.{PatternIsSynchronised}
 use Rattle.rr_graph.proofs.PatternLemmas.{pattern_chooses}
 use Rattle.rr_graph.proofs.FirstDayLemmas.{found_is_first, same_from_first}
-use Rattle.rr_graph.proofs.RepeatLemmas.{same_occurrences, at_day, at_time, both}
+use Rattle.rr_graph.proofs.RepeatLemmas.{same_occurrences, at_day, at_time}
 use Rattle.rr_graph.proofs.MovedStartLemmas.{moved_days}
 use Rattle.rr_graph.proofs.ValidPatternLemmas.{used_members, counted_range}
 
@@ -27,7 +27,7 @@ pattern_is_synchronised pattern range end kind start first valid good found =
     let at = moment_at kind first (second_part kind start) in
     let f = found_is_first pattern range first good found in
     pattern_chooses pattern end kind at at valid
-    ∙ both _ _ (eq-eqb (second_part kind at) (second_part kind at) refl)
+    ∙ and_from _ _ (eq-eqb (second_part kind at) (second_part kind at) refl)
     (ap (λ d. is_pattern_day pattern d d) (at_day kind start first) ∙ same_from_first pattern range.start_day first first valid.0 f.has_it.in_pattern
     ∙ f.has_it.in_pattern)
 

@@ -6,6 +6,7 @@ use Rattle.std.specs.Ordering.{int_eq}
 use Rattle.std.proofs.lemmas.Int.{ints}
 use Rattle.std.proofs.lemmas.Bool.{cases_eq, eq-eqb, ne_eqb, eqb-false, cases_Bool}
 use Rattle.std.proofs.lemmas.Bool.Decides.{nat_tests}
+use Rattle.std.proofs.Math.Bool.{and-true}
 use Rattle.rr_model.specs.Calendar.{weekday_of}
 use Rattle.rr_model.specs.Rule.Candidate.{lists, day_item_holds}
 use Rattle.rr_model.specs.Rule.Validity.{is_absent}
@@ -14,10 +15,6 @@ use Rattle.rr_model.proofs.CalendarLemmas.{weekday_of_below}
 use Rattle.rr_model.specs.Vcal.Counterpart.{day_item}
 use Rattle.rr_model.specs.Graph.Occurrences.{is_day_in}
 use Rattle.rr_model.specs.Graph.Counterpart.{has_weekday, days_of_sum, month_days_up_to}
-
-and_true : (b : Bool) → (b && true) ≡ b
-and_true true = refl
-and_true false = refl
 
 -- ---- the weekdays of a sum
 
@@ -55,7 +52,7 @@ every_weekday : (w : ℕ) → w < 7 → list_any (λ x. x == w) all_weekdays ≡
 every_weekday w l = grind (arith, nat_tests)
 
 weekday_test : (w x : ℕ) → (x == w && (true || false)) ≡ (x == w)
-weekday_test w x = and_true (x == w)
+weekday_test w x = and-true (x == w)
 
 sum_has : (days w : ℕ) → w < 7 → list_any (λ item. item.weekday == w) (days_of_sum days) ≡ has_weekday days w
 sum_has days w l = any_mapped (λ (item : DayItem). item.weekday == w) (λ weekday. day_item (pos 0) weekday) (has_weekday days) all_weekdays
@@ -66,7 +63,7 @@ pub any_in_sum : (in_year : Bool) (days : ℕ) (d : ℤ) → list_any (day_item_
 any_in_sum in_year days d =
     let w = weekday_of d in
     any_mapped (day_item_holds in_year d) (λ weekday. day_item (pos 0) weekday) (has_weekday days) all_weekdays
-    ∙ any_weekday (has_weekday days) (λ x. day_item_holds in_year d (day_item (pos 0) x)) w all_weekdays (λ x. and_true (x == w))
+    ∙ any_weekday (has_weekday days) (λ x. day_item_holds in_year d (day_item (pos 0) x)) w all_weekdays (λ x. and-true (x == w))
     ∙ ap (λ b. b && has_weekday days w) (every_weekday w (weekday_of_below d))
 
 nothing : (items : List DayItem) (p : DayItem → Bool) → is_absent items ≡ true → list_any p items ≡ false

@@ -5,6 +5,7 @@ use Rattle.std.specs.Ordering.{int_eq}
 use Rattle.std.proofs.lemmas.Int.{ints}
 use Rattle.std.proofs.lemmas.Bool.{cases_eq, eq-eqb, ne_eqb, eqb-true, cases_lt, lt-leb, le-leb}
 use Rattle.std.proofs.lemmas.Bool.Decides.{nat_tests}
+use Rattle.std.proofs.Math.Bool.{and-true}
 use Rattle.rr_model.specs.Calendar.{year_of, month_of, day_of_month}
 use Rattle.rr_model.specs.Whole.Count.{count_from}
 use Rattle.rr_model.specs.Whole.{divides}
@@ -20,9 +21,9 @@ use Rattle.rr_model.specs.declared.rule.End.{End}
 use Rattle.rr_model.specs.declared.rule.Freq.{Freq}
 use Rattle.rr_model.specs.declared.rule.Freq.TheVariants as freq
 use Rattle.rr_model.specs.declared.rule.Rule.{Rule}
-use Rattle.rr_model.proofs.CountLemmas.{one, count_from-zero, count_from-suc}
+use Rattle.rr_model.proofs.CountLemmas.{one, count_from-zero, count_from-suc, count_from-same}
 use Rattle.rr_model.proofs.CalendarLemmas.{IsDate-year_of, days_in_month_bounds}
-use Rattle.rr_parts.proofs.ChoiceLemmas.{is_chosen-plain}
+use Rattle.rr_model.proofs.ChoiceLemmas.{is_chosen-plain}
 use Rattle.rr_graph.proofs.WholeDayLemmas.{IsDayRule, candidate_is_day}
 use Rattle.rr_model.specs.Rule.DaysAndTimes.{day_holds}
 use Rattle.rr_model.specs.Graph.Occurrences.{is_day_in, is_day_number, rank_in_month, rank_from_month_end, has_index, is_indexed_day}
@@ -32,14 +33,9 @@ use Rattle.rr_graph.proofs.PatternParts.{pattern_of, SamePatternDaysOf, PatternC
 use Rattle.rr_model.specs.declared.graph.Form.{Form}
 use Rattle.rr_model.specs.declared.graph.Form.TheVariants as form
 use Rattle.rr_graph.proofs.FilledLemmas.{rule_of, names_days, filled_same}
-use Rattle.rr_parts.proofs.CountLemmas.{count_from-same}
 use Rattle.rr_graph.proofs.MonthLemmas.{month_begin, length_of_month, in_same_month, same_month}
 use Rattle.rr_graph.proofs.PlaceLemmas.{front_in_month, back_in_month}
 use Rattle.rr_graph.proofs.PartLemmas.{any_in_sum, some_in_sum, one_day, days_up_to}
-
-and_true : (b : Bool) → (b && true) ≡ b
-and_true true = refl
-and_true false = refl
 
 -- ---- set positions
 
@@ -235,13 +231,13 @@ small_day n d few = let long = days_in_month_bounds (year_of d) (month_of d) in 
 small_parts : (f : Freq) (interval n : ℕ) (end : End) (d : ℤ) → n ≤ 28
     → date_parts_hold (rule_of f interval [] [] (pos n ∷ []) [] [] 0 end) d ≡ is_day_number n d
 small_parts f interval n end d few =
-    rw (one_day n (day_of_month d) (length_of_month d) (IsDate-year_of d).3) (and_true (day_of_month d == n)) ∙ small_day n d few
+    rw (one_day n (day_of_month d) (length_of_month d) (IsDate-year_of d).3) (and-true (day_of_month d == n)) ∙ small_day n d few
 
 large_parts : (f : Freq) (interval n : ℕ) (end : End) (e : ℤ) → 29 ≤ n → n ≤ 31 → is_absent (month_days_up_to n) ≡ false
     → date_parts_hold (rule_of f interval [] [] (month_days_up_to n) [] (negsuc 0 ∷ []) 0 end) e ≡ (nat_le 28 (day_of_month e) && nat_le (day_of_month e) n)
 large_parts f interval n end e low high stands =
     rw (stands, days_up_to n (day_of_month e) (length_of_month e) low high (IsDate-year_of e).3)
-    (and_true (nat_le 28 (day_of_month e) && nat_le (day_of_month e) n))
+    (and-true (nat_le 28 (day_of_month e) && nat_le (day_of_month e) n))
 
 pub stands_up_to : (n : ℕ) → 29 ≤ n → n ≤ 31 → is_absent (month_days_up_to n) ≡ false
 stands_up_to n low high =

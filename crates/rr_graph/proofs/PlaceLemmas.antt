@@ -16,7 +16,8 @@ use Rattle.rr_model.specs.declared.rule.Rule.{Rule}
 use Rattle.rr_cal.proofs.StretchLemmas.{units_are_stretches}
 use Rattle.rr_model.proofs.CalendarLemmas.{IsDate-year_of}
 use Rattle.rr_model.specs.Rule.DaysAndTimes.{day_holds}
-use Rattle.rr_graph.proofs.WholeDayLemmas.{IsDayRule, unit_of_day, candidate_is_day}
+use Rattle.rr_model.proofs.DaysAndTimesLemmas.{unit_of_day}
+use Rattle.rr_graph.proofs.WholeDayLemmas.{IsDayRule, candidate_is_day}
 use Rattle.rr_graph.proofs.DayCountLemmas.{at_start_second, count_to_moment, count_from_moment}
 use Rattle.rr_graph.proofs.MonthLemmas.{month_begin, length_of_month, in_same_month, same_month, narrow_front, narrow_back}
 

@@ -1,9 +1,9 @@
 -- A Graph pattern and range have the occurrences of their counterpart, which starts at their first day.
-use Rattle.std.proofs.Common.{◌≡◌, ◌↔◌, ℕ, ◌==◌, Bool, true, false, ◌&&◌, ℤ, pos, nat_abs, ◌+ℤ◌, ◌-ℤ◌}
+use Rattle.std.proofs.Common.{◌≡◌, ◌↔◌, ℕ, ◌==◌, Bool, false, ◌&&◌, ℤ, pos, nat_abs, ◌+ℤ◌, ◌-ℤ◌}
 use Rattle.std.proofs.Common.{◌≤ℤ◌, ◌<ℤ◌, refl, sym, ap, ◌∙◌, subst, arith, Some}
 use Rattle.std.specs.Prelude.{unwrap_or}
 use Rattle.std.proofs.lemmas.Int.{ints}
-use Rattle.std.proofs.lemmas.Bool.{eq-eqb, eqb-true}
+use Rattle.std.proofs.lemmas.Bool.{eq-eqb, eqb-true, and_parts, and_from}
 use Rattle.rr_model.specs.Whole.Count.{count_from}
 use Rattle.rr_model.specs.Moment.{day_part, second_part, moment_at}
 use Rattle.rr_model.specs.Rule.Chosen.{is_chosen}
@@ -47,18 +47,6 @@ pub not_after : (kind : Kind) (start t day : ℤ) → second_part kind t ≡ sec
     → (day_part kind t ≤ℤ day) ↔ (t ≤ℤ moment_at kind day (second_part kind start))
 not_after Days start t day e = (λ h. h, λ h. h)
 not_after Moments start t day e = let w = floor_whole t 86_400 (omega arith) in (λ h. omega (arith, ints, w, e, h), λ h. omega (arith, ints, w, e, h))
-
-pub both : (a b : Bool) → a ≡ true → b ≡ true → (a && b) ≡ true
-both true b e f = f
-both false b e f = absurd (cc)
-
-left : (a b : Bool) → (a && b) ≡ true → a ≡ true
-left true b e = refl
-left false b e = absurd (cc)
-
-right : (a b : Bool) → (a && b) ≡ true → b ≡ true
-right true b e = e
-right false b e = absurd (cc)
 
 pub rule_end : (pattern : Pattern) (end : End) → (rule_of_pattern pattern end).end ≡ end
 unfolding rule_of_pattern
@@ -122,7 +110,7 @@ module _ (pattern : Pattern) (range : Range) (kind : Kind) (start first : ℤ) (
   to_member : (t : ℤ) → second_part kind t ≡ second → IsRepeatDay pattern range (day_part kind t) → IsMember rule kind at_first t
   to_member t e h =
       let l = is_first.none_before (day_part kind t) h in record {
-        chosen = chosen_is t ∙ both _ _ (eq-eqb (second_part kind t) second e) h.in_pattern;
+        chosen = chosen_is t ∙ and_from _ _ (eq-eqb (second_part kind t) second e) h.in_pattern;
         not_before = (not_before kind start t first e).0 l;
         within_end = subst (λ (X : Type 0). X) (sym (of_rule t)) ((within range.end t e l (same_count t e l)).0 h.within_range);
       }
@@ -130,11 +118,11 @@ module _ (pattern : Pattern) (range : Range) (kind : Kind) (start first : ℤ) (
   from_member : (t : ℤ) → IsMember rule kind at_first t → (second_part kind t ≡ second) × IsRepeatDay pattern range (day_part kind t)
   from_member t m =
       let c = sym (chosen_is t) ∙ m.chosen in
-      let e = eqb-true (second_part kind t) second (left _ _ c) in
+      let e = eqb-true (second_part kind t) second (and_parts _ _ c).0 in
       let l = (not_before kind start t first e).1 m.not_before in (
         e,
         record {
-          in_pattern = right _ _ c;
+          in_pattern = (and_parts _ _ c).1;
           not_before = omega (arith, ints, is_first.has_it.not_before, l);
           within_range = (within range.end t e l (same_count t e l)).1 (subst (λ (X : Type 0). X) (of_rule t) m.within_end);
         },

@@ -1,11 +1,12 @@
 -- The counterpart of a valid Graph pattern is a valid rule.
-use Rattle.std.proofs.Common.{◌≡◌, ℕ, ◌≤◌, ◌<◌, Bool, true, false, cond, ◌||◌, List, [], ◌∷◌, map, ℤ, pos, negsuc, nat_abs, nat_le}
+use Rattle.std.proofs.Common.{◌≡◌, ℕ, ◌≤◌, ◌<◌, Bool, true, false, cond, List, [], ◌∷◌, map, ℤ, pos, negsuc, nat_abs, nat_le}
 use Rattle.std.proofs.Common.{◌≤ℤ◌, inl, inr, refl, arith}
 use Rattle.std.specs.Prelude.{All, int_lt}
 use Rattle.std.specs.List.{filter, AllByRecursion}
 use Rattle.std.proofs.lemmas.Int.{ints}
 use Rattle.std.proofs.lemmas.Bool.{cases_lt, cases_eq, le-leb, lt-ltb}
 use Rattle.std.proofs.lemmas.List.Elements.{All-cons, All-from_recursion}
+use Rattle.std.proofs.Math.Bool.{or-true}
 use Rattle.rr_model.specs.Rule.Validity.{has_place, is_allowed, IsDayItem, HasCountInRange, IsValidRule, takes_start}
 use Rattle.rr_model.specs.declared.kind.Kind.{Kind}
 use Rattle.rr_model.specs.declared.rule.End.{End}
@@ -19,10 +20,6 @@ use Rattle.rr_model.specs.declared.graph.Form.TheVariants as form
 use Rattle.rr_model.specs.declared.graph.Pattern.{Pattern}
 use Rattle.rr_graph.proofs.PartLemmas.{some_in_sum}
 use Rattle.rr_graph.proofs.PatternLemmas.{stands_up_to}
-
-or_true : (b : Bool) → (b || true) ≡ true
-or_true true = refl
-or_true false = refl
 
 -- ---- weekdays
 
@@ -196,7 +193,7 @@ module _ (interval n month days first : ℕ) (index : ℤ) where
   allowed : (f : Form) (end : End) → IsPatternOf f (of f) → is_allowed (rule_of_pattern (of f) end) ≡ true
   unfolding rule_of_pattern
   allowed form.Daily end h = refl
-  allowed form.Weekly end h = rw (no_place (has_weekday days) (0 ∷ 1 ∷ 2 ∷ 3 ∷ 4 ∷ 5 ∷ 6 ∷ [])) (or_true _)
+  allowed form.Weekly end h = rw (no_place (has_weekday days) (0 ∷ 1 ∷ 2 ∷ 3 ∷ 4 ∷ 5 ∷ 6 ∷ [])) (or-true _)
   allowed form.AbsoluteMonthly end h =
       elim (cases_lt 28 n) [
         | inr few ↦ rw (le-leb n 28 few) refl

@@ -4,15 +4,13 @@ use Rattle.std.specs.Ordering.{int_eq}
 use Rattle.std.proofs.lemmas.Int.{ints}
 use Rattle.std.proofs.lemmas.Bool.Decides.{nat_tests}
 use Rattle.rr_model.specs.Moment.{day_part, second_part}
-use Rattle.rr_model.specs.Moment.Units.{unit_number, is_whole_days}
+use Rattle.rr_model.specs.Moment.Units.{is_whole_days}
 use Rattle.rr_model.specs.Rule.Filled.{filled}
 use Rattle.rr_model.specs.Rule.Candidate.{date_parts_hold, time_parts_hold, interval_holds, is_candidate}
 use Rattle.rr_model.specs.declared.kind.Kind.{Kind}
 use Rattle.rr_model.specs.declared.kind.Kind.TheVariants.{Days, Moments}
-use Rattle.rr_model.specs.declared.rule.Freq.{Freq}
-use Rattle.rr_model.specs.declared.rule.Freq.TheVariants.{Secondly, Minutely, Hourly, Daily, Weekly, Monthly, Yearly}
 use Rattle.rr_model.specs.declared.rule.Rule.{Rule}
-use Rattle.rr_model.proofs.DaysAndTimesLemmas.{date_parts_hold-day, fills_times}
+use Rattle.rr_model.proofs.DaysAndTimesLemmas.{date_parts_hold-day, fills_times, unit_of_day}
 use Rattle.rr_model.specs.Rule.DaysAndTimes.{day_holds}
 
 -- a rule of whole days with no time part
@@ -21,17 +19,6 @@ pub record IsDayRule (rule : Rule) : Type 0 where
   pub no_hours : rule.by_hour ≡ []
   pub no_minutes : rule.by_minute ≡ []
   pub no_seconds : rule.by_second ≡ []
-
--- the unit of a moment is that of its day
-pub unit_of_day : (freq : Freq) (w : ℕ) (kind : Kind) (t : ℤ) → is_whole_days freq ≡ true
-    → unit_number freq w kind t ≡ unit_number freq w Days (day_part kind t)
-unit_of_day Secondly w kind t e = absurd (cc)
-unit_of_day Minutely w kind t e = absurd (cc)
-unit_of_day Hourly w kind t e = absurd (cc)
-unit_of_day Daily w kind t e = refl
-unit_of_day Weekly w kind t e = refl
-unit_of_day Monthly w kind t e = refl
-unit_of_day Yearly w kind t e = refl
 
 -- one hour, one minute and one second of the hour are one second of the day
 one_time : (a b : ℕ)

@@ -19,11 +19,10 @@ use Rattle.rr_model.specs.declared.graph.RangeEnd.{RangeEnd}
 use Rattle.rr_model.specs.declared.graph.RangeEnd.TheVariants.{NoEnd, Numbered}
 use Rattle.rr_model.specs.declared.kind.Kind.{Kind}
 use Rattle.rr_model.specs.declared.sketch.Sketch.{Sketch}
-use Rattle.rr_model.proofs.CountLemmas.{count_from-first, one}
+use Rattle.rr_model.proofs.CountLemmas.{count_from-first, one, count_from-le}
 use Rattle.rr_model.proofs.YearLemmas.{four_digit_bounds}
 use Rattle.rr_check.proofs.RuleCycleLemmas.{interval_cycle_some}
 use Rattle.rr_graph.proofs.FirstDayLemmas.{search_found}
-use Rattle.rr_parts.proofs.CountLemmas.{count_from-le}
 use Rattle.rr_word.proofs.OneLeastLemmas.{one_first, parts_of_moment}
 use Rattle.rr_word.proofs.SketchLemmas.{second_fits}
 use Rattle.rr_family.specs.DaySets.{IsOneSecond, window_days}

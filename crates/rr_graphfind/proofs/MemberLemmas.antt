@@ -1,8 +1,8 @@
 -- The members of valid patterns, and what is known of a pattern that has all members of another.
 use Rattle.std.proofs.Common.{◌≡◌, inl, ℕ, ◌+◌, ◌%◌, ◌≤◌, ◌==◌, Bool, true}
-use Rattle.std.proofs.Common.{false, ◌&&◌, ℤ, pos, negsuc, ◌≤ℤ◌, refl, sym, ap, subst, ◌∙◌, arith, drop, if◌then◌else◌, w8, to_z, of_z}
+use Rattle.std.proofs.Common.{false, ℤ, pos, negsuc, ◌≤ℤ◌, refl, sym, ap, subst, ◌∙◌, arith, drop, if◌then◌else◌, w8, to_z, of_z}
 use Rattle.std.proofs.lemmas.Int.{ints}
-use Rattle.std.proofs.lemmas.Bool.{false≢true}
+use Rattle.std.proofs.lemmas.Bool.{false≢true, and_parts}
 use Rattle.std.proofs.lemmas.Nat.{div-add-mod'}
 use Rattle.rr_model.specs.Calendar.{month_of}
 use Rattle.rr_model.specs.Graph.Occurrences.{form_holds, is_pattern_day}
@@ -172,26 +172,18 @@ same_pattern p q vp vq h =
 
 -- ---- patterns that one day rules out
 
-both_left : (a b : Bool) → (a && b) ≡ true → a ≡ true
-both_left true b h = refl
-both_left false b h = absurd (false≢true h)
-
-both_right : (a b : Bool) → (a && b) ≡ true → b ≡ true
-both_right true b h = h
-both_right false b h = absurd (false≢true h)
-
 month_of_form : (f : Form) (p : Pattern) (d : ℤ) → uses_month f ≡ true → form_holds f p d ≡ true → (month_of d == p.month) ≡ true
 month_of_form form.Daily p d uses h = absurd (false≢true uses)
 month_of_form form.Weekly p d uses h = absurd (false≢true uses)
 month_of_form form.AbsoluteMonthly p d uses h = absurd (false≢true uses)
 month_of_form form.RelativeMonthly p d uses h = absurd (false≢true uses)
-month_of_form form.AbsoluteYearly p d uses h = both_left _ _ h
-month_of_form form.RelativeYearly p d uses h = both_left _ _ h
+month_of_form form.AbsoluteYearly p d uses h = (and_parts _ _ h).0
+month_of_form form.RelativeYearly p d uses h = (and_parts _ _ h).0
 
 pub counts_in : (p : Pattern) (first d : ℤ) → is_pattern_day p first d ≡ true → counts_on p first d ≡ true
 unfolding is_pattern_day
-counts_in p first d h = both_left _ _ h
+counts_in p first d h = (and_parts _ _ h).0
 
 pub month_in : (p : Pattern) (first d : ℤ) → uses_month p.form ≡ true → is_pattern_day p first d ≡ true → (month_of d == p.month) ≡ true
 unfolding is_pattern_day
-month_in p first d uses h = month_of_form p.form p d uses (both_right _ _ h)
+month_in p first d uses h = month_of_form p.form p d uses (and_parts _ _ h).1

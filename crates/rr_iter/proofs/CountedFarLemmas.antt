@@ -17,10 +17,11 @@ use Rattle.rr_model.specs.declared.kind.Kind.TheVariants.{Days, Moments}
 use Rattle.rr_model.specs.declared.limits.TheConstants.{MAX_SPAN_DAYS}
 use Rattle.rr_model.specs.declared.rule.End.TheVariants.{Count, Both}
 use Rattle.rr_model.specs.declared.rule.Rule.{Rule}
+use Rattle.rr_model.proofs.CountLemmas.{count_seconds-zero}
 use Rattle.rr_lazy.proofs.AgreeLemmas.{members_agree}
 use Rattle.rr_lazy.proofs.PastLemmas.{first_from_on, few_before}
 use Rattle.rr_lazy.proofs.StretchLemmas.{moment_day, moment_second}
-use Rattle.rr_lazy.proofs.CountingLemmas.{before_next, count_seconds-zero, count_seconds_no, seconds_skip, to_is}
+use Rattle.rr_lazy.proofs.CountingLemmas.{before_next, count_seconds_no, seconds_skip, to_is}
 use Rattle.rr_lazy.proofs.MemberCountLemmas.{count_is}
 use Rattle.rr_iter.specs.Ends.{HasNumberOn}
 use Rattle.rr_iter.proofs.RepeatLemmas.{before_later_day, member_at}

@@ -1,5 +1,5 @@
 -- Numbers of occurrences in a tree that repeats after a day.
-use Rattle.std.proofs.Common.{◌≡◌, ℕ, zero, suc, ◌+◌, ◌*◌, ◌-◌, ◌/◌, ◌<◌, ◌≤◌, Bool, true, false, ℤ, pos, nat_abs, ◌+ℤ◌, ◌-ℤ◌, neg_ℤ, ◌≤ℤ◌, ◌<ℤ◌, refl, ap}
+use Rattle.std.proofs.Common.{◌≡◌, ℕ, zero, suc, ◌+◌, ◌*◌, ◌-◌, ◌/◌, ◌<◌, ◌≤◌, Bool, ℤ, pos, nat_abs, ◌+ℤ◌, ◌-ℤ◌, neg_ℤ, ◌≤ℤ◌, ◌<ℤ◌, refl, ap}
 use Rattle.std.proofs.Common.{inl, inr, arith}
 use Rattle.std.proofs.lemmas.Int.{ints, by_lt_z}
 use Rattle.std.proofs.lemmas.Bool.{cases_lt}
@@ -9,14 +9,14 @@ use Rattle.rr_model.specs.Calendar.{first_day_of_year}
 use Rattle.rr_model.specs.Moment.{day_part}
 use Rattle.rr_model.specs.Moment.Years.{IsFromYearOne}
 use Rattle.rr_model.specs.Rule.Cycle.{rule_cycle}
-use Rattle.rr_model.specs.Sets.Counting.{count_days, count_seconds}
+use Rattle.rr_model.specs.Sets.Counting.{count_days}
 use Rattle.rr_model.specs.Sets.Tree.{Tree, chosen_of, stands_at}
 use Rattle.rr_model.specs.declared.kind.Kind.{Kind}
 use Rattle.rr_model.specs.declared.rule.Rule.{Rule}
 use Rattle.rr_model.proofs.YearLemmas.{four_digit_bounds}
+use Rattle.rr_model.proofs.CountLemmas.{count_seconds-le}
 use Rattle.rr_check.proofs.SeriesCycleLemmas.{rule_cycle_some}
 use Rattle.rr_lazy.proofs.CountingLemmas.{before_as, before_grows, before_next, before_none, before_skip, count_days-suc, count_days-zero}
-use Rattle.rr_lazy.proofs.CountingLemmas.{count_seconds-suc, count_seconds-zero, count_seconds_no, count_seconds_yes}
 use Rattle.rr_lazy.proofs.CycleCountLemmas.{cycles_and_days, days_split}
 use Rattle.rr_lazy.proofs.TreeLemmas.{stands_below}
 use Rattle.rr_iter.specs.Ends.{HasNumberOn, IsSoundRule, before_day}
@@ -29,16 +29,9 @@ many_cycles k (suc c) l = omega arith
 
 -- ---- a number of days
 
-seconds_most : (test : ℕ → Bool) (n : ℕ) → count_seconds test n ≤ n
-seconds_most test zero = omega (arith, count_seconds-zero test)
-seconds_most test (suc n) = elim (test n) as (λ b. test n ≡ b → count_seconds test (suc n) ≤ suc n) [
-  | true ↦ λ e. omega (arith, count_seconds_yes test n e, seconds_most test n)
-  | false ↦ λ e. omega (arith, count_seconds_no test n e, seconds_most test n)
-] refl
-
 days_most : (test : ℤ → ℕ → Bool) (q : ℤ) (n : ℕ) → count_days test q n ≤ n * 86_400
 days_most test q zero = omega (arith, count_days-zero test q)
-days_most test q (suc n) = omega (arith, count_days-suc test q n, days_most test q n, seconds_most (test (q +ℤ pos n)) 86_400)
+days_most test q (suc n) = omega (arith, count_days-suc test q n, days_most test q n, count_seconds-le (test (q +ℤ pos n)) 86_400)
 
 -- the occurrences before a day, and those of the days that follow
 after_days : (tree : Tree) (from : ℤ) → IsFromYearOne from → (n : ℕ)

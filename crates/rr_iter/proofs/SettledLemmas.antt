@@ -8,7 +8,7 @@ use Rattle.std.proofs.lemmas.List.{get_or_default}
 use Rattle.std.specs.List.{slice_get}
 use Rattle.std.proofs.lemmas.Option.{get_or_from_slice_get}
 use Rattle.rr_model.specs.Rising.{Rises}
-use Rattle.rr_lazy.proofs.StretchLemmas.{day_mono, rising_dates}
+use Rattle.rr_lazy.proofs.StretchLemmas.{day_mono}
 use Rattle.rr_model.specs.Answers.{RefusedExactlyWhere}
 use Rattle.rr_model.specs.Calendar.{first_day_of_year}
 use Rattle.rr_model.specs.Moment.{day_part}
@@ -24,6 +24,7 @@ use Rattle.rr_model.specs.declared.rule.End.TheVariants.{Never, Until, Count, Bo
 use Rattle.rr_model.specs.declared.rule.Rule.{Rule}
 use Rattle.rr_model.specs.declared.rule.Series.{Series}
 use Rattle.rr_model.proofs.YearLemmas.{year_1, year_10000}
+use Rattle.rr_model.proofs.RisingSetLemmas.{rising_dates}
 use Rattle.rr_iter.specs.Ends.{HaveEnded, IsLastDay, IsLastOfRules, IsSoundRule}
 
 -- a rule that has ended has ended on each later day

@@ -1,5 +1,5 @@
 -- Counts of seconds of days.
-use Rattle.std.proofs.Common.{◌≡◌, ℕ, zero, suc, ◌+◌, ◌-◌, ◌<◌, ◌≤◌, Bool, true, false, cond, List, length, get_or, Contains, All, ℤ, pos, nat_abs, ◌+ℤ◌}
+use Rattle.std.proofs.Common.{◌≡◌, ℕ, zero, suc, ◌+◌, ◌-◌, ◌<◌, ◌≤◌, Bool, true, false, List, length, get_or, Contains, All, ℤ, pos, nat_abs, ◌+ℤ◌}
 use Rattle.std.proofs.Common.{◌-ℤ◌, ◌≤ℤ◌, ◌<ℤ◌, refl, sym, ap, ◌∙◌, inl, inr, arith}
 use Rattle.std.specs.Prelude.{IsTrue, nat_lt}
 use Rattle.std.proofs.lemmas.Int.{ints}
@@ -11,16 +11,9 @@ use Rattle.rr_model.specs.Calendar.{first_day_of_year}
 use Rattle.rr_model.specs.Rising.Sets.{IsSetOf}
 use Rattle.rr_model.proofs.RisingSetLemmas.{rising_at}
 use Rattle.rr_model.specs.Sets.Counting.{count_seconds, count_days, count_before, count_to}
+use Rattle.rr_model.proofs.CountLemmas.{count_seconds-zero}
 
 -- ---- one more
-
-pub count_seconds-zero : (test : ℕ → Bool) → count_seconds test 0 ≡ 0
-unfolding count_seconds
-count_seconds-zero test = refl
-
-pub count_seconds-suc : (test : ℕ → Bool) (n : ℕ) → count_seconds test (suc n) ≡ count_seconds test n + cond (test n) 1 0
-unfolding count_seconds
-count_seconds-suc test n = refl
 
 pub count_seconds_yes : (test : ℕ → Bool) (n : ℕ) → test n ≡ true → count_seconds test (suc n) ≡ count_seconds test n + 1
 unfolding count_seconds

@@ -2,7 +2,8 @@
 use Rattle.std.proofs.Common.{◌≡◌, ℕ, zero, suc, ◌+◌, ◌*◌, Bool, ℤ, pos, ◌+ℤ◌, ◌≤ℤ◌, sym, ap, ◌∙◌, arith}
 use Rattle.std.proofs.lemmas.Int.{ints}
 use Rattle.rr_model.specs.Sets.Counting.{count_seconds, count_days}
-use Rattle.rr_lazy.proofs.CountingLemmas.{count_days-zero, count_days-suc, count_seconds-zero, count_seconds-suc}
+use Rattle.rr_model.proofs.CountLemmas.{count_seconds-zero, count_seconds-suc}
+use Rattle.rr_lazy.proofs.CountingLemmas.{count_days-zero, count_days-suc}
 
 pub seconds_alike : (f g : ℕ → Bool) (n : ℕ) → ((s : ℕ) → f s ≡ g s) → count_seconds f n ≡ count_seconds g n
 seconds_alike f g zero same = count_seconds-zero f ∙ sym (count_seconds-zero g)

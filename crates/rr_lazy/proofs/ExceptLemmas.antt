@@ -4,7 +4,7 @@ use Rattle.std.proofs.Common.{◌+ℤ◌, ◌-ℤ◌, ◌≤ℤ◌, ◌<ℤ◌, 
 use Rattle.std.specs.Prelude.{IsTrue, IfOk, Result, Ok, Err, IsErr, is_some, not, nat_lt}
 use Rattle.std.specs.Option.{ForSome, ForNone}
 use Rattle.std.proofs.lemmas.Int.{ints, by_lt_z}
-use Rattle.std.proofs.lemmas.Bool.{false≢true}
+use Rattle.std.proofs.lemmas.Bool.{false≢true, and_parts}
 use Rattle.std.proofs.Math.Seq.{take-length}
 use Rattle.rr_model.specs.Rising.{Rises}
 use Rattle.rr_model.specs.Rising.Sets.{IsSetOf}
@@ -20,7 +20,6 @@ use Rattle.rr_lazy.specs.Tables.{ahead_more, same_day}
 use Rattle.rr_lazy.proofs.AheadLemmas.{advance, on_day}
 use Rattle.rr_lazy.proofs.AheadLemmas.{seen_none as none_seen}
 use Rattle.rr_lazy.proofs.WithoutLemmas.{next_day, seen_some, nothing_ahead, given_later}
-use Rattle.rr_lazy.proofs.TreeLemmas.{and_left, and_right}
 
 not_so : (b : Bool) → not b ≡ true → b ≡ false
 not_so true e = absurd (false≢true e)
@@ -200,7 +199,7 @@ module _ (tree out : Tree) where
       → ((s : ℕ) → Contains left s ↔ (Contains times s × (stands_at out d s ≡ false))) → (s : ℕ) → Contains left s ↔ IsTrue (stands_at (except tree out) d s)
   left_stands d times left set outs s = (
     λ c. (let p = (outs s).0 c in rw ((set.exact s).0 p.0, p.1) refl),
-    λ h. (outs s).1 ((set.exact s).1 (and_left _ _ h), not_so (stands_at out d s) (and_right (stands_at tree d s) _ h)),
+    λ h. (outs s).1 ((set.exact s).1 (and_parts _ _ h).0, not_so (stands_at out d s) (and_parts (stands_at tree d s) _ h).1),
   )
 
   -- a day of which nothing is left

@@ -18,41 +18,14 @@ use Rattle.rr_model.specs.Sets.Tree.{chosen_of, stands_at}
 use Rattle.rr_model.specs.declared.kind.Kind.{Kind}
 use Rattle.rr_model.specs.declared.kind.Kind.TheVariants.{Days, Moments}
 use Rattle.rr_model.specs.declared.rule.Rule.{Rule}
-use Rattle.rr_model.proofs.CountLemmas.{one, count_from-zero, count_from-suc}
+use Rattle.rr_model.proofs.CountLemmas.{one, count_from-zero, count_from-suc, count_from-split, count_from-empty, count_from-same, count_seconds-same}
+use Rattle.rr_model.proofs.CountLemmas.{count_seconds-zero, count_seconds-suc}
 use Rattle.rr_model.proofs.WholeLemmas.{floor_whole, floor_mod_below}
-use Rattle.rr_lazy.proofs.CountingLemmas.{count_seconds-zero, count_seconds-suc, seconds_skip, count_days-zero, count_days-suc, to_is, before_as}
+use Rattle.rr_lazy.proofs.CountingLemmas.{seconds_skip, count_days-zero, count_days-suc, to_is, before_as}
 
 -- ---- counts of numbers
 
-pub count_split : (g : ℤ → Bool) (q : ℤ) (n m : ℕ) → count_from g q (n + m) ≡ count_from g q n + count_from g (q +ℤ pos n) m
-count_split g q n zero = let e : n + 0 ≡ n = omega arith in rw e (omega (arith, count_from-zero g (q +ℤ pos n)))
-count_split g q n (suc m) =
-    let e : n + suc m ≡ suc (n + m) = omega arith in
-    let at : q +ℤ pos (n + m) ≡ (q +ℤ pos n) +ℤ pos m = omega (arith, ints) in
-    let last = ap (λ z. one (g z)) at in
-    rw e (omega (arith, count_from-suc g q (n + m), count_split g q n m, count_from-suc g (q +ℤ pos n) m, last))
-
-pub count_none : (g : ℤ → Bool) (q : ℤ) (n : ℕ) → ((t : ℤ) → q ≤ℤ t → t <ℤ (q +ℤ pos n) → g t ≡ false) → count_from g q n ≡ 0
-count_none g q zero none = count_from-zero g q
-count_none g q (suc n) none =
-    let here : g (q +ℤ pos n) ≡ false = none (q +ℤ pos n) (omega (arith, ints)) (omega (arith, ints)) in
-    let last : count_from g q (suc n) ≡ count_from g q n = count_from-suc g q n ∙ (rw here (omega arith)) in
-    last ∙ count_none g q n (λ t l h. none t l (omega (arith, ints, h)))
-
-pub count_same : (g h : ℤ → Bool) (q : ℤ) (n : ℕ) → ((t : ℤ) → q ≤ℤ t → t <ℤ (q +ℤ pos n) → g t ≡ h t) → count_from g q n ≡ count_from h q n
-count_same g h q zero same = count_from-zero g q ∙ sym (count_from-zero h q)
-count_same g h q (suc n) same =
-    let here : g (q +ℤ pos n) ≡ h (q +ℤ pos n) = same (q +ℤ pos n) (omega (arith, ints)) (omega (arith, ints)) in
-    let rest = count_same g h q n (λ t l m. same t l (omega (arith, ints, m))) in
-    count_from-suc g q n ∙ (rw (here, rest) (sym (count_from-suc h q n)))
-
 -- ---- tests that agree count alike
-
-seconds_same : (f g : ℕ → Bool) (n : ℕ) → ((s : ℕ) → s < n → f s ≡ g s) → count_seconds f n ≡ count_seconds g n
-seconds_same f g zero same = count_seconds-zero f ∙ sym (count_seconds-zero g)
-seconds_same f g (suc n) same =
-    let rest = seconds_same f g n (λ s l. same s (omega arith)) in
-    count_seconds-suc f n ∙ (rw (same n (omega arith), rest) (sym (count_seconds-suc g n)))
 
 -- the n days from one on pass the same at each second
 abbrev AreAlike : (ℤ → ℕ → Bool) → (ℤ → ℕ → Bool) → ℤ → ℕ → Type 0
@@ -62,7 +35,7 @@ days_same : (f g : ℤ → ℕ → Bool) (q : ℤ) (n : ℕ) → AreAlike f g q 
 days_same f g q zero same = count_days-zero f q ∙ sym (count_days-zero g q)
 days_same f g q (suc n) same =
     let d = q +ℤ pos n in
-    let here = seconds_same (f d) (g d) 86_400 (λ s l. same d s (omega (arith, ints)) (omega (arith, ints)) l) in
+    let here = count_seconds-same (f d) (g d) 86_400 (λ s l. same d s (omega (arith, ints)) (omega (arith, ints)) l) in
     let rest = days_same f g q n (λ d s l h m. same d s l (omega (arith, ints, h)) m) in
     count_days-suc f q n ∙ (rw (here, rest) (sym (count_days-suc g q n)))
 
@@ -73,7 +46,7 @@ to_same f g d s low before here =
     let n : ℕ = nat_abs (d -ℤ q) in
     let e : d ≡ q +ℤ pos n = omega (arith, ints, low) in
     let days : count_days f q n ≡ count_days g q n = days_same f g q n (λ x r l h m. before x r (omega (arith, ints, h, e)) m) in
-    omega (arith, to_is f d s, to_is g d s, before_as f d n e, before_as g d n e, days, seconds_same (f d) (g d) (s + 1) here)
+    omega (arith, to_is f d s, to_is g d s, before_as f d n e, before_as g d n e, days, count_seconds-same (f d) (g d) (s + 1) here)
 
 -- ---- moments: a day has 86,400 numbers
 
@@ -97,7 +70,7 @@ module _ (g : ℤ → Bool) where
       let e : suc n * 86_400 ≡ n * 86_400 + 86_400 = omega arith in
       let at : (q +ℤ pos n) *ℤ pos 86_400 ≡ (q *ℤ pos 86_400) +ℤ pos (n * 86_400) = omega (arith, ints) in
       let day = seconds_of_moments (q +ℤ pos n) 86_400 (omega arith) ∙ ap (λ z. count_from g z 86_400) at in
-      rw e (omega (arith, count_days-suc at_moments q n, days_of_moments q n, day, count_split g (q *ℤ pos 86_400) (n * 86_400) 86_400))
+      rw e (omega (arith, count_days-suc at_moments q n, days_of_moments q n, day, count_from-split g (q *ℤ pos 86_400) (n * 86_400) 86_400))
 
   to_of_moments : (q d : ℤ) (n s : ℕ) → q ≡ first_day_of_year (pos 1) → d ≡ q +ℤ pos n → s < 86_400
       → count_to at_moments d s ≡ count_from g (q *ℤ pos 86_400) (n * 86_400 + (s + 1))
@@ -105,7 +78,7 @@ module _ (g : ℤ → Bool) where
       let at : d *ℤ pos 86_400 ≡ (q *ℤ pos 86_400) +ℤ pos (n * 86_400) = omega (arith, ints, e) in
       let before : count_before at_moments d ≡ count_days at_moments q n = rw f (before_as at_moments d n (e ∙ ap (λ z. z +ℤ pos n) f)) in
       let day = seconds_of_moments d (s + 1) (omega (arith, l)) ∙ ap (λ z. count_from g z (s + 1)) at in
-      omega (arith, to_is at_moments d s, before, days_of_moments q n, day, count_split g (q *ℤ pos 86_400) (n * 86_400) (s + 1))
+      omega (arith, to_is at_moments d s, before, days_of_moments q n, day, count_from-split g (q *ℤ pos 86_400) (n * 86_400) (s + 1))
 
   -- ---- dates: a day has one number
 
@@ -151,10 +124,10 @@ module _ (rule : Rule) (kind : Kind) (start : ℤ) where
       let k : ℕ = nat_abs ((t -ℤ start) +ℤ pos 1) in
       let f : b +ℤ pos m ≡ start = omega (arith, ints, l) in
       let g : n ≡ m + k = omega (arith, ints, l, h, e) in
-      let early : count_from stands b m ≡ 0 = count_none stands b m (λ u p q. before_start u (omega (arith, ints, f, q))) in
+      let early : count_from stands b m ≡ 0 = count_from-empty stands b m (λ u p q. before_start u (omega (arith, ints, f, q))) in
       let rest : count_from stands start k ≡ members_to rule kind start t =
-      count_same stands (is_chosen rule kind start) start k (λ u p q. from_start u p) in
-      rw g (omega (arith, count_split stands b m k, early, rest, ap (λ z. count_from stands z k) f))
+      count_from-same stands (is_chosen rule kind start) start k (λ u p q. from_start u p) in
+      rw g (omega (arith, count_from-split stands b m k, early, rest, ap (λ z. count_from stands z k) f))
 
 -- 0001-01-01
 abbrev first : ℤ

@@ -3,14 +3,15 @@ use Rattle.std.proofs.Common.{◌≡◌, ◌⊎◌, ℕ, zero, suc, ◌+◌, ◌
 use Rattle.std.proofs.Common.{arith}
 use Rattle.std.specs.Prelude.{nat_le}
 use Rattle.std.proofs.lemmas.Int.{ints, by_lt_z}
-use Rattle.std.proofs.lemmas.Bool.{cases_lt, false≢true}
+use Rattle.std.proofs.lemmas.Bool.{cases_lt, false≢true, and_parts}
 use Rattle.std.proofs.lemmas.Bool.Decides.{nat_tests}
 use Rattle.rr_model.specs.Calendar.{first_day_of_year}
 use Rattle.rr_model.specs.Sets.Counting.{count_seconds, count_before, count_to}
 use Rattle.rr_model.specs.Sets.Tree.{Tree, first_n, stands_at}
+use Rattle.rr_model.proofs.CountLemmas.{count_seconds-zero}
 use Rattle.rr_lazy.specs.Next.{HasNone}
-use Rattle.rr_lazy.proofs.TreeLemmas.{stands_below, and_left, and_right}
-use Rattle.rr_lazy.proofs.CountingLemmas.{before_skip, before_grows, to_is, count_seconds-zero, count_seconds_yes, seconds_skip}
+use Rattle.rr_lazy.proofs.TreeLemmas.{stands_below}
+use Rattle.rr_lazy.proofs.CountingLemmas.{before_skip, before_grows, to_is, count_seconds_yes, seconds_skip}
 
 -- ---- the first of what stands from a day on
 
@@ -95,7 +96,7 @@ module _ (tree : Tree) (count : ℕ) (from : ℤ) (begun : first_day_of_year (po
   -- and the other way round: one of the first stands from the day on only where fewer lie before it
   pub few_before : (d : ℤ) (s : ℕ) → from ≤ℤ d → stands_at (first_n tree count) d s ≡ true → count_before stands from < count
   few_before d s l t =
-      let here : stands_at tree d s ≡ true = and_left _ _ t in
-      let within : nat_le (count_to stands d s) count ≡ true = and_right (stands_at tree d s) _ t in
+      let here : stands_at tree d s ≡ true = (and_parts _ _ t).0 in
+      let within : nat_le (count_to stands d s) count ≡ true = (and_parts (stands_at tree d s) _ t).1 in
       let le : count_to stands d s ≤ count = grind (arith, nat_tests) in
       omega (arith, to_is stands d s, before_grows stands from d begun l, one_more d s here, le)

@@ -1,16 +1,15 @@
 -- The dates of one day in a rising list.
-use Rattle.std.proofs.Common.{◌≡◌, ◌≢◌, ◌⊎◌, ◌↔◌, ℕ, zero, suc, ◌+◌, ◌<◌, ◌≤◌, true, false, ◌||◌, List, [], ◌∷◌, ◌++◌, length, get_or, Contains, ℤ}
+use Rattle.std.proofs.Common.{◌≡◌, ◌≢◌, ◌⊎◌, ◌↔◌, ℕ, ◌+◌, ◌<◌, ◌≤◌, true, false, ◌||◌, List, [], ◌∷◌, ◌++◌, length, get_or, Contains, ℤ}
 use Rattle.std.proofs.Common.{pos, ◌+ℤ◌, ◌≤ℤ◌, ◌<ℤ◌, w64, to_z, of_z, refl, sym, ap, subst, ◌∙◌, inl, inr, arith}
 use Rattle.std.specs.Prelude.{IsTrue, int_lt, nat_lt}
 use Rattle.std.specs.List.{list_any}
 use Rattle.std.specs.List.Sorted.{IsPartitionedBy, IsPartitionPoint}
 use Rattle.std.specs.Ordering.{int_eq}
 use Rattle.std.proofs.lemmas.Int.{ints}
-use Rattle.std.proofs.lemmas.Bool.{cases_lt, false≢true}
+use Rattle.std.proofs.lemmas.Bool.{cases_lt, false≢true, and_parts}
 use Rattle.std.proofs.lemmas.Bool.Decides.{nat_tests}
 use Rattle.std.proofs.lemmas.List.{get_or_default, take_all}
 use Rattle.std.proofs.lemmas.Option.{get_or_from_slice_get, slice_get_within}
-use Rattle.std.proofs.lemmas.List.Elements.{Contains-get_or}
 use Rattle.rr_model.specs.Whole.{floor_mod}
 use Rattle.rr_model.specs.Moment.{day_part, second_part, moment_at}
 use Rattle.rr_model.specs.Rule.Candidate.{lists}
@@ -20,27 +19,16 @@ use Rattle.rr_model.specs.declared.kind.Kind.{Kind}
 use Rattle.rr_model.specs.declared.kind.Kind.TheVariants.{Days, Moments}
 use Rattle.rr_model.proofs.WholeLemmas.{floor_whole, floor_mod_below}
 use Rattle.rr_model.proofs.MomentLemmas.{day_part-moment_at, second_part-moment_at}
-use Rattle.rr_model.proofs.RisingSetLemmas.{set_same, set_push, set_empty, below_rest, Rises-tail, Contains-head, Contains-tail, Contains-none}
+use Rattle.rr_model.proofs.RisingSetLemmas.{set_same, set_push, set_empty, Contains-head, Contains-tail, Contains-none, rising_dates}
 use Rattle.rr_model.proofs.RisingSetLemmas.{Contains-cons_cases}
 use Rattle.rr_model.specs.Sets.Tree.{has_second, is_among}
 use Rattle.std.specs.Prelude.{Some, None, slice_get}
 use Rattle.rr_model.specs.Sets.Tree.{dates_of}
 use Rattle.rr_lazy.specs.Next.{HasNone, IsFirstOccupied, IsWithin, with_set}
 use Rattle.rr_lazy.specs.Stretch.{IsFirstFrom, IsFirstDate}
-use Rattle.rr_lazy.proofs.TreeLemmas.{has_second_below, and_left, and_right}
+use Rattle.rr_lazy.proofs.TreeLemmas.{has_second_below}
 
 -- ---- rising dates by place
-
-pub rising_dates : (xs : List ℤ) → Rises int_lt xs → (i j : ℕ) → i < j → j < length xs → get_or xs i (pos 0) <ℤ get_or xs j (pos 0)
-rising_dates [] r i j l h = absurd (omega arith)
-rising_dates (x ∷ xs) r zero zero l h = absurd (omega arith)
-rising_dates (x ∷ xs) r zero (suc j) l h =
-    let t : int_lt x (get_or xs j (pos 0)) ≡ true =
-    below_rest int_lt (λ y m. grind (arith, ints)) (λ y z w m n. grind (arith, ints)) x xs r (get_or xs j (pos 0))
-    (Contains-get_or xs j (pos 0) (omega arith)) in
-    grind (arith, ints)
-rising_dates (x ∷ xs) r (suc i) zero l h = absurd (omega arith)
-rising_dates (x ∷ xs) r (suc i) (suc j) l h = rising_dates xs (Rises-tail int_lt x xs r) i j (omega arith) (omega arith)
 
 -- a later date or moment has no earlier day
 pub day_mono : (kind : Kind) (t u : ℤ) → t ≤ℤ u → day_part kind t ≤ℤ day_part kind u
@@ -168,8 +156,8 @@ module _ (kind : Kind) (dates : List ℤ) (day : ℤ) where
     pub all_stand : last ≤ place → (s : ℕ) → StandsFirst place s ↔ IsTrue (is_among kind dates day s)
     all_stand l s = (
       λ x. rw x.4 ((listed dates (moment_at kind day s)).1 (x.0, x.2, get_or_default dates x.0 (moment_at kind day s) (pos 0) x.2 ∙ x.3)),
-      λ t. (let h : has_second kind s ≡ true = and_left _ _ t in
-          let c = (listed dates (moment_at kind day s)).0 (and_right (has_second kind s) _ t) in
+      λ t. (let h : has_second kind s ≡ true = (and_parts _ _ t).0 in
+          let c = (listed dates (moment_at kind day s)).0 (and_parts (has_second kind s) _ t).1 in
           let e : get_or dates c.0 (pos 0) ≡ moment_at kind day s = get_or_default dates c.0 (pos 0) (moment_at kind day s) c.1 ∙ c.2 in
           let d : day_part kind (get_or dates c.0 (pos 0)) ≡ day = ap (day_part kind) e ∙ moment_day kind day s h in
           let m : c.0 < last = elim (cases_lt c.0 last) [ inl n ↦ n | inr n ↦ absurd (omega (arith, ints, g.from c.0 n c.1, d)) ] in
@@ -218,7 +206,7 @@ pub seconds_begin : (kind : Kind) (dates : List ℤ) (day : ℤ) (first : ℕ) �
 seconds_begin kind dates day first f = set_empty nat_lt (StandsFirst kind dates day first) (none_yet kind dates day first f)
 
 pub below_a_day : (kind : Kind) (dates : List ℤ) (day : ℤ) (s : ℕ) → IsTrue (is_among kind dates day s) → s < 86_400
-below_a_day kind dates day s p = has_second_below kind s (and_left _ _ p)
+below_a_day kind dates day s p = has_second_below kind s (and_parts _ _ p).0
 
 pub day_after_is : (day : ℤ) → to_z w64 (of_z w64 day) ≡ day → day ≤ℤ pos 2_999_999_999_000
     → to_z w64 (of_z w64 (to_z w64 (of_z w64 day) +ℤ pos 1)) ≡ day +ℤ pos 1
@@ -230,8 +218,8 @@ module _ (kind : Kind) (dates : List ℤ) (rises : Rises int_lt dates) (from to 
   -- a day with a date is not before the day of the first
   not_early : (d : ℤ) (s : ℕ) → from ≤ℤ d → is_among kind dates d s ≡ true → (place < length dates) × (day_part kind (get_or dates place (pos 0)) ≤ℤ d)
   not_early d s l t =
-      let h : has_second kind s ≡ true = and_left _ _ t in
-      let c = (listed dates (moment_at kind d s)).0 (and_right (has_second kind s) _ t) in
+      let h : has_second kind s ≡ true = (and_parts _ _ t).0 in
+      let c = (listed dates (moment_at kind d s)).0 (and_parts (has_second kind s) _ t).1 in
       let e : get_or dates c.0 (pos 0) ≡ moment_at kind d s = get_or_default dates c.0 (pos 0) (moment_at kind d s) c.1 ∙ c.2 in
       let day : day_part kind (get_or dates c.0 (pos 0)) ≡ d = ap (day_part kind) e ∙ moment_day kind d s h in
       let k : place ≤ c.0 = elim (cases_lt c.0 place) [ inl m ↦ absurd (omega (arith, ints, f.below c.0 m, day, l)) | inr m ↦ m ] in (

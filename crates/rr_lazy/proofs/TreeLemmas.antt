@@ -1,7 +1,7 @@
 -- What stands in a tree.
-use Rattle.std.proofs.Common.{◌≡◌, ℕ, ◌<◌, Bool, true, false, ◌&&◌, ◌||◌, List, get_or, ℤ, refl, arith}
+use Rattle.std.proofs.Common.{◌≡◌, ℕ, ◌<◌, true, false, ◌||◌, List, get_or, ℤ, refl, arith}
 use Rattle.std.proofs.lemmas.Bool.Decides.{nat_tests}
-use Rattle.std.proofs.lemmas.Bool.{false≢true}
+use Rattle.std.proofs.lemmas.Bool.{false≢true, and_parts}
 use Rattle.std.proofs.lemmas.List.Elements.{Contains-get_or}
 use Rattle.rr_model.specs.Rising.Sets.{IsSecondsOfDay}
 use Rattle.rr_model.specs.declared.kind.Kind.{Kind}
@@ -10,14 +10,6 @@ use Rattle.rr_model.specs.Sets.Tree.{Tree, Forest, chosen_of, dates_of, union, m
 use Rattle.rr_model.specs.Sets.Tree.{some_stands_at}
 use Rattle.rr_lazy.specs.Next.{IsFirstOccupied}
 
-pub and_left : (a b : Bool) → (a && b) ≡ true → a ≡ true
-and_left true b e = refl
-and_left false b e = absurd (false≢true e)
-
-pub and_right : (a b : Bool) → (a && b) ≡ true → b ≡ true
-and_right true b e = e
-and_right false b e = absurd (false≢true e)
-
 pub has_second_below : (kind : Kind) (s : ℕ) → has_second kind s ≡ true → s < 86_400
 has_second_below Days s e = grind (arith, nat_tests)
 has_second_below Moments s e = grind (arith, nat_tests)
@@ -25,17 +17,17 @@ has_second_below Moments s e = grind (arith, nat_tests)
 mutual
   -- only seconds of a day stand
   pub stands_below : (tree : Tree) (d : ℤ) (s : ℕ) → stands_at tree d s ≡ true → s < 86_400
-  stands_below (chosen_of rule kind start) d s e = has_second_below kind s (and_left _ _ e)
-  stands_below (dates_of kind dates) d s e = has_second_below kind s (and_left _ _ e)
+  stands_below (chosen_of rule kind start) d s e = has_second_below kind s (and_parts _ _ e).0
+  stands_below (dates_of kind dates) d s e = has_second_below kind s (and_parts _ _ e).0
   stands_below (union a b) d s e = elim (stands_at a d s) as (λ x. stands_at a d s ≡ x → (x || stands_at b d s) ≡ true → s < 86_400) [
     | true ↦ λ f u. stands_below a d s f
     | false ↦ λ f u. stands_below b d s u
   ] refl e
   stands_below (many parts) d s e = some_below parts d s e
-  stands_below (upto a kind at) d s e = stands_below a d s (and_left _ _ e)
-  stands_below (first_n a n) d s e = stands_below a d s (and_left _ _ e)
-  stands_below (without a kind dates) d s e = stands_below a d s (and_left _ _ e)
-  stands_below (except a b) d s e = stands_below a d s (and_left _ _ e)
+  stands_below (upto a kind at) d s e = stands_below a d s (and_parts _ _ e).0
+  stands_below (first_n a n) d s e = stands_below a d s (and_parts _ _ e).0
+  stands_below (without a kind dates) d s e = stands_below a d s (and_parts _ _ e).0
+  stands_below (except a b) d s e = stands_below a d s (and_parts _ _ e).0
 
   some_below : (parts : Forest) (d : ℤ) (s : ℕ) → some_stands_at parts d s ≡ true → s < 86_400
   some_below nothing d s e = absurd (false≢true e)

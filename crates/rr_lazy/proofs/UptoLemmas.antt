@@ -7,6 +7,7 @@ use Rattle.std.proofs.lemmas.Int.{ints, clamps, by_lt_z}
 use Rattle.std.specs.Int.{int_min}
 use Rattle.std.proofs.lemmas.List.{length-take-le}
 use Rattle.std.proofs.lemmas.Bool.Decides.{nat_tests}
+use Rattle.std.proofs.lemmas.Bool.{and_parts}
 use Rattle.rr_model.specs.Whole.{floor_div, floor_mod}
 use Rattle.rr_model.specs.Moment.{day_part, moment_at}
 use Rattle.rr_model.specs.Rising.Sets.{IsSetOf, IsSecondsOfDay}
@@ -20,7 +21,7 @@ use Rattle.rr_model.specs.Sets.Tree.{Tree, upto, stands_at}
 use Rattle.rr_lazy.specs.Next.{HasNone, IsFirstOccupied, IsNext}
 use Rattle.rr_lazy.specs.Upto.{IsSecondsTo, IsUpTo}
 use Rattle.rr_lazy.specs.DayTimes.{DayTimes}
-use Rattle.rr_lazy.proofs.TreeLemmas.{stands_below, and_left, and_right}
+use Rattle.rr_lazy.proofs.TreeLemmas.{stands_below}
 
 -- ---- the seconds of a day up to a moment
 
@@ -96,7 +97,7 @@ module _ (tree : Tree) (kind : Kind) (at : ℤ) where
   day_kept d times kept set cut =
       set_same nat_lt (λ s. Contains times s × IsTrue (int_le (moment_at kind d s) at)) (λ s. IsTrue (stands_at (upto tree kind at) d s)) kept cut (λ s. (
         (λ h. (let e : stands_at tree d s ≡ true = (set.exact s).0 h.0 in rw e h.1)),
-        (λ h. ((set.exact s).1 (and_left _ _ h), and_right (stands_at tree d s) _ h)),
+        (λ h. ((set.exact s).1 (and_parts _ _ h).0, (and_parts (stands_at tree d s) _ h).1)),
       ))
 
   none_of_empty : (P : ℕ → Type 0) (xs : List ℕ) → xs ≡ [] → IsSetOf nat_lt xs P → (s : ℕ) → P s → ⊥

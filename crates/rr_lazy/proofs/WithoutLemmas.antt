@@ -5,7 +5,7 @@ use Rattle.std.proofs.Common.{refl, sym, subst, ◌∙◌, arith}
 use Rattle.std.specs.Prelude.{IsTrue, Result, Ok, Err, IsErr, is_some, not, nat_lt}
 use Rattle.std.specs.Option.{ForSome, ForNone}
 use Rattle.std.proofs.lemmas.Int.{ints, by_lt_z}
-use Rattle.std.proofs.lemmas.Bool.{false≢true}
+use Rattle.std.proofs.lemmas.Bool.{false≢true, and_parts}
 use Rattle.rr_model.specs.Rising.Sets.{IsSetOf}
 use Rattle.rr_model.specs.Sets.Tree.{Tree, without, is_among, stands_at}
 use Rattle.rr_model.specs.declared.kind.Kind.{Kind}
@@ -16,7 +16,6 @@ use Rattle.rr_lazy.specs.Next.{HasNone, IsFirstOccupied, IsNextIn, with_set}
 use Rattle.rr_lazy.specs.Ahead.{IsGiven, IsAheadIn, IsGivenOn, seen}
 use Rattle.rr_lazy.specs.Stretch.{IsLeftOf, IsNextLeft, KnowsPart}
 use Rattle.rr_lazy.proofs.AheadLemmas.{advance}
-use Rattle.rr_lazy.proofs.TreeLemmas.{and_left, and_right}
 
 -- the first day of which something may be left
 abbrev pub next_day : Option OccupiedDay → ℤ → ℤ
@@ -65,7 +64,7 @@ module _ (tree : Tree) (kind : Kind) (dates : List ℤ) where
       → Contains left s ↔ IsTrue (stands_at (without tree kind dates) d s)
   left_stands d times left set out s = (
     λ c. (let p = (out s).0 c in rw ((set.exact s).0 p.0, p.1) refl),
-    λ h. (out s).1 ((set.exact s).1 (and_left _ _ h), not_so (is_among kind dates d s) (and_right (stands_at tree d s) _ h)),
+    λ h. (out s).1 ((set.exact s).1 (and_parts _ _ h).0, not_so (is_among kind dates d s) (and_parts (stands_at tree d s) _ h).1),
   )
     where
       not_so : (b : Bool) → not b ≡ true → b ≡ false

@@ -1,8 +1,9 @@
 -- Candidates by their days and by their seconds of a day.
-use Rattle.std.proofs.Common.{◌≡◌, ℕ, ◌/◌, ◌%◌, ◌<◌, Bool, true, false, ◌&&◌, ℤ, pos, refl, sym, ap, ◌∙◌}
+use Rattle.std.proofs.Common.{◌≡◌, ℕ, ◌/◌, ◌%◌, ◌<◌, Bool, true, false, ◌&&◌, ℤ, pos, refl, sym, ap, ◌∙◌, arith}
+use Rattle.std.proofs.lemmas.Bool.{false≢true}
 use Rattle.std.specs.Prelude.{IsTrue}
-use Rattle.rr_model.specs.Moment.{day_part, moment_at}
-use Rattle.rr_model.specs.Moment.Units.{unit_number, is_whole_days}
+use Rattle.rr_model.specs.Moment.{day_part, second_part, moment_at}
+use Rattle.rr_model.specs.Moment.Units.{unit_number, unit_seconds, is_whole_days}
 use Rattle.rr_model.specs.Rule.Validity.{takes_start}
 use Rattle.rr_model.specs.Rule.Filled.{wants_hour, wants_minute, wants_second, filled}
 use Rattle.rr_model.specs.Rule.Candidate.{allows, date_parts_hold, time_parts_hold, is_candidate}
@@ -12,6 +13,7 @@ use Rattle.rr_model.specs.declared.kind.Kind.TheVariants.{Days, Moments}
 use Rattle.rr_model.specs.declared.rule.Freq.{Freq}
 use Rattle.rr_model.specs.declared.rule.Freq.TheVariants.{Secondly, Minutely, Hourly, Daily, Weekly, Monthly, Yearly}
 use Rattle.rr_model.specs.declared.rule.Rule.{Rule}
+use Rattle.rr_model.proofs.WholeLemmas.{floor_whole, floor_mod_below}
 use Rattle.rr_model.proofs.MomentLemmas.{day_part-moment_at, second_part-moment_at}
 
 -- three tests hold together where each does
@@ -48,7 +50,8 @@ date_parts_hold-day rule Days start d = refl
 date_parts_hold-day rule Moments start d = refl
 
 -- the unit of a moment is that of its day
-unit_of_day : (freq : Freq) (w : ℕ) (kind : Kind) (t : ℤ) → is_whole_days freq ≡ true → unit_number freq w kind t ≡ unit_number freq w Days (day_part kind t)
+pub unit_of_day : (freq : Freq) (w : ℕ) (kind : Kind) (t : ℤ) → is_whole_days freq ≡ true
+    → unit_number freq w kind t ≡ unit_number freq w Days (day_part kind t)
 unit_of_day Secondly w kind t e = absurd (cc)
 unit_of_day Minutely w kind t e = absurd (cc)
 unit_of_day Hourly w kind t e = absurd (cc)
@@ -57,7 +60,7 @@ unit_of_day Weekly w kind t e = refl
 unit_of_day Monthly w kind t e = refl
 unit_of_day Yearly w kind t e = refl
 
-day_at : (kind : Kind) (d : ℤ) (s : ℕ) → s < seconds_of kind → day_part kind (moment_at kind d s) ≡ d
+pub day_at : (kind : Kind) (d : ℤ) (s : ℕ) → s < seconds_of kind → day_part kind (moment_at kind d s) ≡ d
 day_at Days d s low = refl
 day_at Moments d s low = day_part-moment_at d s low
 
@@ -82,3 +85,31 @@ takes_start-days Daily = refl
 takes_start-days Weekly = refl
 takes_start-days Monthly = refl
 takes_start-days Yearly = refl
+
+pub second_at : (kind : Kind) (d : ℤ) (s : ℕ) → s < seconds_of kind → second_part kind (moment_at kind d s) ≡ s
+second_at Days d s low = omega (arith, low)
+second_at Moments d s low = second_part-moment_at d s low
+
+pub second_part-below : (kind : Kind) (t : ℤ) → second_part kind t < seconds_of kind
+second_part-below Days t = omega arith
+second_part-below Moments t = floor_mod_below t 86_400 (omega arith)
+
+-- a moment is the second of a day
+pub moment_is : (kind : Kind) (t : ℤ) → t ≡ moment_at kind (day_part kind t) (second_part kind t)
+moment_is Days t = refl
+moment_is Moments t = floor_whole t 86_400 (omega arith)
+
+-- a valid rule whose units are shorter than a day chooses moments
+pub only_moments : (freq : Freq) (kind : Kind) → IsTrue (takes_start freq kind) → is_whole_days freq ≡ false → kind ≡ Moments
+only_moments freq Moments t f = refl
+only_moments freq Days t f = absurd (false≢true (sym f ∙ sym (takes_start-days freq) ∙ t))
+
+-- each unit has some seconds
+pub unit_some : (freq : Freq) → 0 < unit_seconds freq
+unit_some Secondly = omega arith
+unit_some Minutely = omega arith
+unit_some Hourly = omega arith
+unit_some Daily = omega arith
+unit_some Weekly = omega arith
+unit_some Monthly = omega arith
+unit_some Yearly = omega arith

@@ -32,3 +32,4 @@ mod CounterpartExamples
 mod MomentExamples
 mod WrittenExamples
 pub mod DaysAndTimesLemmas
+pub mod ChoiceLemmas

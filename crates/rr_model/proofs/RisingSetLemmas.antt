@@ -1,6 +1,6 @@
 -- Sets as rising lists: how one grows, and that its members determine it.
 use Rattle.std.proofs.Common.{◌≡◌, ℕ, zero, suc, ◌<◌, ◌≤◌, ℤ, Bool, true, List, [], ◌∷◌, ◌++◌, length, get_or, All, Contains, inl, inr, refl, sym, ◌∙◌}
-use Rattle.std.proofs.Common.{subst, arith}
+use Rattle.std.proofs.Common.{pos, ◌<ℤ◌, subst, arith}
 use Rattle.std.specs.Prelude.{◌⊎◌, ◌↔◌, IsTrue, nat_lt, int_lt}
 use Rattle.std.proofs.lemmas.Int.{ints}
 use Rattle.std.proofs.lemmas.Bool.Decides.{nat_tests}
@@ -146,3 +146,14 @@ length-le_bound [] n r h = omega arith
 length-le_bound (x ∷ xs) n r h =
     let last : get_or (x ∷ xs) (length xs) 0 < n = h (length xs) 0 (omega arith) in
     omega (arith, place-le (x ∷ xs) r (length xs) (omega arith))
+
+pub rising_dates : (xs : List ℤ) → Rises int_lt xs → (i j : ℕ) → i < j → j < length xs → get_or xs i (pos 0) <ℤ get_or xs j (pos 0)
+rising_dates [] r i j l h = absurd (omega arith)
+rising_dates (x ∷ xs) r zero zero l h = absurd (omega arith)
+rising_dates (x ∷ xs) r zero (suc j) l h =
+    let t : int_lt x (get_or xs j (pos 0)) ≡ true =
+    below_rest int_lt (λ y m. grind (arith, ints)) (λ y z w m n. grind (arith, ints)) x xs r (get_or xs j (pos 0))
+    (Contains-get_or xs j (pos 0) (omega arith)) in
+    grind (arith, ints)
+rising_dates (x ∷ xs) r (suc i) zero l h = absurd (omega arith)
+rising_dates (x ∷ xs) r (suc i) (suc j) l h = rising_dates xs (Rises-tail int_lt x xs r) i j (omega arith) (omega arith)

@@ -16,14 +16,14 @@ use Rattle.rr_model.specs.declared.rule.Freq.{Freq}
 use Rattle.rr_model.specs.declared.rule.Freq.TheVariants.{Secondly, Minutely, Hourly, Daily, Weekly, Monthly, Yearly}
 use Rattle.rr_model.specs.declared.rule.Rule.{Rule}
 use Rattle.rr_cal.proofs.StretchLemmas.{units_are_stretches}
-use Rattle.rr_model.proofs.CountLemmas.{one, count_from-first}
+use Rattle.rr_model.proofs.CountLemmas.{one, count_from-first, count_seconds-mono, below_more}
 use Rattle.rr_model.specs.Rule.DaysAndTimes.{seconds_of, time_holds}
 use Rattle.rr_model.proofs.DaysAndTimesLemmas.{time_parts_hold-at, and_true, candidates_are_days_and_times}
+use Rattle.rr_model.proofs.DaysAndTimesLemmas.{day_at, second_at, unit_of_day, second_part-below, moment_is}
 use Rattle.rr_model.proofs.MomentLemmas.{second_part-moment_at, day_part-moment_at}
 use Rattle.rr_setpos.specs.Ranks.{times_before, days_among, first_of_unit, next_of_unit, rank_in_unit, size_of_unit, begin_in_day}
 use Rattle.rr_setpos.specs.Nth.{IsPlaceOf, IsRankOf, IsNthOfUnit}
-use Rattle.rr_parts.proofs.CountLemmas.{count_seconds-mono, below_more}
-use Rattle.rr_setpos.proofs.PositionLemmas.{day_at, second_at, positions_are_ranks, within_unit, unit_of_day, second_part-below, moment_is, coarse_rank}
+use Rattle.rr_setpos.proofs.PositionLemmas.{positions_are_ranks, within_unit, coarse_rank}
 use Rattle.rr_setpos.proofs.PositionLemmas.{coarse_size, candidate_parts, of_moments, fine_begin, fine_next, begin_bounds}
 
 -- ---- places and positions

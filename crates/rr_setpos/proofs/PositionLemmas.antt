@@ -1,8 +1,9 @@
 -- The positions of a candidate among those of its unit, counted over days and times.
-use Rattle.std.proofs.Common.{◌≡◌, ℕ, zero, suc, ◌+◌, ◌-◌, ◌*◌, ◌/◌, ◌%◌, ◌<◌, ◌≤◌, Bool, true, false, cond, ◌&&◌, ℤ, pos, nat_abs, ◌+ℤ◌, ◌-ℤ◌, ◌*ℤ◌, ◌≤ℤ◌}
+use Rattle.std.proofs.Common.{◌≡◌, ℕ, zero, suc, ◌+◌, ◌-◌, ◌*◌, ◌/◌, ◌%◌, ◌<◌, ◌≤◌, Bool, true, false, cond, ℤ, pos, nat_abs, ◌+ℤ◌, ◌-ℤ◌, ◌*ℤ◌, ◌≤ℤ◌}
 use Rattle.std.proofs.Common.{◌<ℤ◌, refl, sym, ap, ◌∙◌, arith}
 use Rattle.std.specs.Prelude.{IsTrue}
 use Rattle.std.proofs.lemmas.Int.{ints}
+use Rattle.std.proofs.lemmas.Bool.{and_parts}
 use Rattle.rr_model.specs.Whole.{divides}
 use Rattle.rr_model.specs.Whole.Count.{count_from}
 use Rattle.rr_model.specs.Moment.{day_part, second_part, moment_at}
@@ -16,16 +17,17 @@ use Rattle.rr_model.specs.declared.kind.Kind.TheVariants.{Days, Moments}
 use Rattle.rr_model.specs.declared.rule.Freq.{Freq}
 use Rattle.rr_model.specs.declared.rule.Freq.TheVariants.{Secondly, Minutely, Hourly, Daily, Weekly, Monthly, Yearly}
 use Rattle.rr_model.specs.declared.rule.Rule.{Rule}
-use Rattle.rr_model.proofs.WholeLemmas.{floor_only, floor_whole, floor_mod_below}
+use Rattle.rr_model.proofs.WholeLemmas.{floor_only, floor_whole}
 use Rattle.rr_cal.proofs.StretchLemmas.{units_are_stretches}
 use Rattle.rr_model.proofs.CountLemmas.{count_from-zero, count_from-suc}
+use Rattle.rr_model.proofs.CountLemmas.{count_from-split, count_from-same, count_seconds-zero, count_seconds-suc, count_seconds-split}
 use Rattle.rr_model.specs.Rule.DaysAndTimes.{seconds_of, time_holds, day_holds}
 use Rattle.rr_model.proofs.DaysAndTimesLemmas.{time_parts_hold-at, and_parts, candidates_are_days_and_times}
-use Rattle.rr_model.proofs.MomentLemmas.{day_part-moment_at, second_part-moment_at}
+use Rattle.rr_model.proofs.DaysAndTimesLemmas.{second_part-below, moment_is, unit_of_day, only_moments}
+use Rattle.rr_model.proofs.MomentLemmas.{day_part-moment_at}
 use Rattle.rr_model.specs.Sets.Counting.{count_seconds}
 use Rattle.rr_setpos.specs.Ranks.{times_before, days_among, first_of_unit, next_of_unit, days_before, days_of_unit, rank_in_unit, size_of_unit}
 use Rattle.rr_setpos.specs.Ranks.{begin_in_day, rank_by_parts, size_by_parts, is_rank_listed, PositionsAreByParts, SetPositionsAreByParts}
-use Rattle.rr_parts.proofs.CountLemmas.{count_from-split, count_from-same, count_seconds-zero, count_seconds-suc, count_seconds-split}
 use Rattle.rr_setpos.proofs.ProductLemmas.{IsProduct, count_product}
 
 -- ---- positions are ranks: from the front one more, from the back what is left
@@ -61,17 +63,6 @@ positions_are_ranks rule kind start t passes =
 
 -- ---- units of whole days
 
--- the unit of a moment is that of its day
-pub unit_of_day : (freq : Freq) (w : ℕ) (kind : Kind) (t : ℤ) → is_whole_days freq ≡ true
-    → unit_number freq w kind t ≡ unit_number freq w Days (day_part kind t)
-unit_of_day Secondly w kind t e = absurd (cc)
-unit_of_day Minutely w kind t e = absurd (cc)
-unit_of_day Hourly w kind t e = absurd (cc)
-unit_of_day Daily w kind t e = refl
-unit_of_day Weekly w kind t e = refl
-unit_of_day Monthly w kind t e = refl
-unit_of_day Yearly w kind t e = refl
-
 midnight : (kind : Kind) (d : ℤ) → moment_at kind d 0 ≡ d *ℤ pos (seconds_of kind)
 midnight Days d = omega (arith, ints)
 midnight Moments d = omega (arith, ints)
@@ -87,27 +78,9 @@ start_of_days Weekly w kind u e = midnight kind _
 start_of_days Monthly w kind u e = midnight kind _
 start_of_days Yearly w kind u e = midnight kind _
 
-pub second_part-below : (kind : Kind) (t : ℤ) → second_part kind t < seconds_of kind
-second_part-below Days t = omega arith
-second_part-below Moments t = floor_mod_below t 86_400 (omega arith)
-
--- a moment is the second of a day
-pub moment_is : (kind : Kind) (t : ℤ) → t ≡ moment_at kind (day_part kind t) (second_part kind t)
-moment_is Days t = refl
-moment_is Moments t = floor_whole t 86_400 (omega arith)
-
 at_second : (kind : Kind) (d : ℤ) (s : ℕ) → s < seconds_of kind → moment_at kind d s ≡ (d *ℤ pos (seconds_of kind)) +ℤ pos s
 at_second Days d s low = omega (arith, ints, low)
 at_second Moments d s low = refl
-
--- the day and the second of a moment at a second of a day
-pub day_at : (kind : Kind) (d : ℤ) (s : ℕ) → s < seconds_of kind → day_part kind (moment_at kind d s) ≡ d
-day_at Days d s low = refl
-day_at Moments d s low = day_part-moment_at d s low
-
-pub second_at : (kind : Kind) (d : ℤ) (s : ℕ) → s < seconds_of kind → second_part kind (moment_at kind d s) ≡ s
-second_at Days d s low = omega (arith, low)
-second_at Moments d s low = second_part-moment_at d s low
 
 -- how far a moment lies from the midnight of a day
 place_in_days : (kind : Kind) (t first : ℤ) → first ≤ℤ day_part kind t
@@ -119,10 +92,6 @@ days_between : (kind : Kind) (first next : ℤ) → first ≤ℤ next → nat_ab
     ≡ nat_abs (next -ℤ first) * seconds_of kind + 0
 days_between Days first next low = omega (arith, ints, low)
 days_between Moments first next low = omega (arith, ints, low)
-
-pub and_left : (a b : Bool) → (a && b) ≡ true → a ≡ true
-and_left true b e = refl
-and_left false b e = absurd (cc)
 
 -- of nothing
 pub some_zero : (b : Bool) (n : ℕ) → n ≡ 0 → cond b n 0 ≡ 0
@@ -156,16 +125,16 @@ module _ (rule : Rule) (kind : Kind) (start : ℤ) (coarse : is_whole_days rule.
     -- its own day holds
     pub own_day : day_holds rule (day_part kind start) own ≡ true
     own_day =
-        and_left (day own) (time (second_part kind t))
+        (and_parts (day own) (time (second_part kind t))
         (sym (candidates_are_days_and_times rule kind start own (second_part kind t) coarse (second_part-below kind t))
-        ∙ ap (is_candidate rule kind start) (sym (moment_is kind t)) ∙ passes)
+        ∙ ap (is_candidate rule kind start) (sym (moment_is kind t)) ∙ passes)).0
 
     -- on its unit's days the date parts decide
     day_of_unit : (d : ℤ) → first ≤ℤ d → d <ℤ next → day d ≡ date_parts_hold (filled rule Days (day_part kind start)) d
     day_of_unit d low high =
         let same : unit_number rule.freq rule.week_start Days d ≡ unit_number rule.freq rule.week_start Days own =
         (units_are_stretches rule.freq rule.week_start Days d _).1 (low, high) in
-        let fits : interval_holds rule Days (day_part kind start) own ≡ true = and_left _ _ own_day in
+        let fits : interval_holds rule Days (day_part kind start) own ≡ true = (and_parts _ _ own_day).0 in
         let here : interval_holds rule Days (day_part kind start) d ≡ true =
         ap (λ u. divides rule.interval (u -ℤ unit_number rule.freq rule.week_start Days (day_part kind start))) same ∙ fits in
         rw here refl
@@ -215,17 +184,6 @@ module _ (rule : Rule) (kind : Kind) (start : ℤ) (coarse : is_whole_days rule.
 below_is : (p : ℤ → Bool) (f : ℕ → Bool) (q : ℤ) (n : ℕ) → ((j : ℕ) → j < n → p (q +ℤ pos j) ≡ f j) → count_from p q n ≡ count_seconds f n
 below_is p f q zero same = count_from-zero p q ∙ sym (count_seconds-zero f)
 below_is p f q (suc n) same = count_from-suc p q n ∙ (rw (same n (omega arith), below_is p f q n (λ j l. same j (omega arith))) (sym (count_seconds-suc f n)))
-
--- they are units of moments
-pub fine_kind : (freq : Freq) (kind : Kind) → IsTrue (takes_start freq kind) → is_whole_days freq ≡ false → kind ≡ Moments
-fine_kind Secondly Days taken fine = absurd (cc)
-fine_kind Minutely Days taken fine = absurd (cc)
-fine_kind Hourly Days taken fine = absurd (cc)
-fine_kind Daily Days taken fine = absurd (cc)
-fine_kind Weekly Days taken fine = absurd (cc)
-fine_kind Monthly Days taken fine = absurd (cc)
-fine_kind Yearly Days taken fine = absurd (cc)
-fine_kind freq Moments taken fine = refl
 
 -- where the unit of a second of a day begins and ends
 pub fine_begin : (freq : Freq) (w : ℕ) (d : ℤ) (s : ℕ) → is_whole_days freq ≡ false
@@ -361,9 +319,9 @@ pub ranks_are_by_parts : (rule : Rule) (kind : Kind) (start t : ℤ) → IsTrue 
     → (rank_in_unit rule kind start t ≡ rank_by_parts rule kind start t) × (size_of_unit rule kind start t ≡ size_by_parts rule kind start t)
 ranks_are_by_parts rule kind start t taken passes = (
   cases_of (is_whole_days rule.freq) _ _ _ (λ e. coarse_rank rule kind start e t passes)
-      (λ e. (of_kind rule kind start t (fine_kind rule.freq kind taken e) e passes).0),
+      (λ e. (of_kind rule kind start t (only_moments rule.freq kind taken e) e passes).0),
   cases_of (is_whole_days rule.freq) _ _ _ (λ e. coarse_size rule kind start e t passes)
-      (λ e. (of_kind rule kind start t (fine_kind rule.freq kind taken e) e passes).1),
+      (λ e. (of_kind rule kind start t (only_moments rule.freq kind taken e) e passes).1),
 )
 
 pub positions_are_by_parts : PositionsAreByParts

@@ -1,10 +1,9 @@
 -- Counts over products.
 use Rattle.std.proofs.Common.{◌≡◌, ℕ, zero, suc, ◌+◌, ◌*◌, ◌<◌, ◌≤◌, Bool, true, false, cond, ◌&&◌, ℤ, pos, ◌+ℤ◌, ◌*ℤ◌, refl, sym, ap, ◌∙◌, arith}
 use Rattle.rr_model.specs.Whole.Count.{count_from}
-use Rattle.rr_model.proofs.CountLemmas.{one, count_from-zero, count_from-suc}
+use Rattle.rr_model.proofs.CountLemmas.{one, count_from-zero, count_from-suc, count_from-split, count_seconds-split, count_seconds-suc, count_seconds-zero}
 use Rattle.rr_model.proofs.FloorLemmas.{*ℤ-add}
 use Rattle.rr_model.specs.Sets.Counting.{count_seconds}
-use Rattle.rr_parts.proofs.CountLemmas.{count_from-split, count_seconds-split, count_seconds-suc, count_seconds-zero}
 
 -- a number, or 0
 abbrev pub part : Bool → ℕ → ℕ

@@ -14,11 +14,10 @@ use Rattle.rr_model.specs.declared.kind.Kind.{Kind}
 use Rattle.rr_model.specs.declared.kind.Kind.TheVariants.{Days, Moments}
 use Rattle.rr_model.specs.declared.rule.End.{End}
 use Rattle.rr_model.specs.declared.rule.End.TheVariants.{Never, Until, Count, Both}
-use Rattle.rr_model.proofs.CountLemmas.{one, count_from-zero, count_from-suc}
+use Rattle.rr_model.proofs.CountLemmas.{one, count_from-zero, count_from-suc, count_from-split, count_from-empty, count_from-same}
 use Rattle.rr_model.proofs.MemberLemmas.{same_kind_is}
 use Rattle.rr_model.proofs.WholeLemmas.{floor_only, floor_whole, floor_mod_below}
 use Rattle.rr_lazy.proofs.AgreeLemmas.{moment_is}
-use Rattle.rr_lazy.proofs.MemberCountLemmas.{count_split, count_none, count_same}
 use Rattle.rr_skip.specs.Folding.{chosen_days, days_to, is_member_day}
 use Rattle.rr_skip.specs.Members.{IsSkipMember, skip_members_to}
 use Rattle.rr_skip.specs.Months.{is_skip_chosen}
@@ -100,7 +99,7 @@ module _ (rule : SkipRule) (start : ℤ) where
       let v = floor_whole start 86_400 (omega arith) in
       let w = floor_mod_below start 86_400 (omega arith) in
       let none : count_from g from 86_399 ≡ 0 =
-      count_none g from 86_399 (λ t l h. not_at rule Moments start t (λ e. (let u = floor_whole t 86_400 (omega arith) in
+      count_from-empty g from 86_399 (λ t l h. not_at rule Moments start t (λ e. (let u = floor_whole t 86_400 (omega arith) in
       omega (arith, ints, u, v, e, l, h)))) in
       let last = from +ℤ pos 86_399 in
       let at : last ≡ start +ℤ (pos (suc n) *ℤ pos 86_400) = omega (arith, ints) in
@@ -109,7 +108,7 @@ module _ (rule : SkipRule) (start : ℤ) where
       let more : suc n + 1 ≡ suc (suc n) = omega arith in
       let so_far : suc n ≡ n + 1 = omega arith in
       let last_one = ap one own in
-      let a = ap (count_from g start) all ∙ count_split g start (n * 86_400 + 1) (suc 86_399) in
+      let a = ap (count_from g start) all ∙ count_from-split g start (n * 86_400 + 1) (suc 86_399) in
       let b = count_from-suc g from 86_399 in
       let c = ap (count_from p sd) more ∙ count_from-suc p sd (suc n) in
       let d = ap (count_from p sd) so_far in
@@ -118,7 +117,8 @@ module _ (rule : SkipRule) (start : ℤ) where
 pub members_are_days : (rule : SkipRule) (kind : Kind) (start t : ℤ) → second_part kind t ≡ second_part kind start → start ≤ℤ t
     → skip_members_to rule kind start t ≡ days_to rule kind start (day_part kind t)
 members_are_days rule Days start t e l =
-    count_same (is_skip_chosen rule Days start) (chosen_days rule Days start) start (nat_abs ((t -ℤ start) +ℤ pos 1)) (λ u a b. chosen_at rule Days start u refl)
+    count_from-same (is_skip_chosen rule Days start) (chosen_days rule Days start) start
+    (nat_abs ((t -ℤ start) +ℤ pos 1)) (λ u a b. chosen_at rule Days start u refl)
 members_are_days rule Moments start t e l =
     let w = floor_whole t 86_400 (omega arith) in
     let v = floor_whole start 86_400 (omega arith) in

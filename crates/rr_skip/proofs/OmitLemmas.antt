@@ -27,7 +27,7 @@ use Rattle.rr_model.specs.declared.rule.Freq.TheVariants.{Secondly, Minutely, Ho
 use Rattle.rr_model.specs.declared.rule.Rule.{Rule}
 use Rattle.rr_model.proofs.CalendarLemmas.{IsDate-year_of}
 use Rattle.rr_model.proofs.DaysAndTimesLemmas.{date_parts_hold-day}
-use Rattle.rr_lazy.proofs.MemberCountLemmas.{count_same}
+use Rattle.rr_model.proofs.CountLemmas.{count_from-same}
 use Rattle.rr_skip.specs.Laws.{OmittingIsPlain}
 use Rattle.rr_skip.specs.Members.{skip_members_to}
 use Rattle.rr_skip.specs.Months.{unit_of_month, length_of_month, schedule_of, is_due, falls_at, some_falls_on, is_day_chosen}
@@ -267,7 +267,7 @@ omitting_is_plain rule kind start t taken alone front =
     let same = λ (u : ℤ). chosen_same rule kind start u taken alone front in
     let plain : SkipRule = record { skip = Omit; rule = rule } in
     let count : skip_members_to plain kind start t ≡ members_to rule kind start t =
-    count_same (is_skip_chosen plain kind start) (is_chosen rule kind start) start (nat_abs ((t -ℤ start) +ℤ pos 1)) (λ u l h. same u) in (
+    count_from-same (is_skip_chosen plain kind start) (is_chosen rule kind start) start (nat_abs ((t -ℤ start) +ℤ pos 1)) (λ u l h. same u) in (
       λ m. record {
         chosen = sym (same t) ∙ m.chosen;
         not_before = m.not_before;

@@ -18,12 +18,11 @@ use Rattle.rr_model.specs.declared.kind.Kind.{Kind}
 use Rattle.rr_model.specs.declared.kind.Kind.TheVariants.{Days, Moments}
 use Rattle.rr_model.specs.declared.limits.TheConstants.{MAX_SPAN_DAYS}
 use Rattle.rr_model.specs.declared.rule.End.TheVariants.{Never, Until, Count}
-use Rattle.rr_model.proofs.CountLemmas.{one, count_from-zero, count_from-suc, count_from-first}
+use Rattle.rr_model.proofs.CountLemmas.{one, count_from-zero, count_from-suc, count_from-first, count_from-split}
 use Rattle.rr_model.proofs.MemberLemmas.{same_kind_is}
 use Rattle.rr_model.proofs.MomentLemmas.{day_part-moment_at, second_part-moment_at}
 use Rattle.rr_model.proofs.WholeLemmas.{floor_mod_below}
 use Rattle.rr_check.proofs.SeriesCycleLemmas.{rule_cycle_some}
-use Rattle.rr_lazy.proofs.MemberCountLemmas.{count_split}
 use Rattle.rr_skip.specs.Folding.{chosen_days, days_to, is_member_day, AreSkipDays, IsDaysUntil, IsUpToWalk}
 use Rattle.rr_skip.specs.Members.{HasCount, SkipsTooFar}
 use Rattle.rr_skip.specs.Validity.{FitsSkipping, takes_skip}
@@ -47,7 +46,7 @@ module _ (p : ℤ → Bool) (q : ℤ) where
       ]
 
   count_mono : (n k : ℕ) → count_from p q n ≤ count_from p q (n + k)
-  count_mono n k = omega (arith, count_split p q n k)
+  count_mono n k = omega (arith, count_from-split p q n k)
 
   count_next : (n : ℕ) → p (q +ℤ pos n) ≡ true → count_from p q (n + 1) ≡ count_from p q n + 1
   count_next n e =
@@ -281,5 +280,5 @@ module _ (rule : SkipRule) (kind : Kind) (start : ℤ) where
         let same : far +ℤ pos f.0 ≡ first +ℤ pos (span + f.0) = omega (arith, ints) in
         let passes : chosen (first +ℤ pos (span + f.0)) ≡ true = subst (λ d. chosen d ≡ true) same f.1 in
         let next = count_next chosen first (span + f.0) passes in
-        let split = count_split chosen first span f.0 in
+        let split = count_from-split chosen first span f.0 in
         member_far (span + f.0) (omega arith) passes (omega (arith, next, split, f.2, few))

@@ -26,8 +26,7 @@ use Rattle.rr_model.specs.declared.rule.End.{End}
 use Rattle.rr_model.specs.declared.rule.End.TheVariants.{Never, Until, Count, Both}
 use Rattle.rr_model.specs.declared.rule.Rule.{Rule}
 use Rattle.rr_model.specs.declared.rule.Series.{Series}
-use Rattle.rr_model.proofs.CountLemmas.{one, count_from-suc}
-use Rattle.rr_lazy.proofs.MemberCountLemmas.{count_split}
+use Rattle.rr_model.proofs.CountLemmas.{one, count_from-suc, count_from-split}
 use Rattle.rr_translate.specs.OneEnd.{one_end, with_one_end, with_one_ends}
 
 -- ---- one rule
@@ -63,7 +62,7 @@ module _ (rule : Rule) (kind : Kind) (start : ℤ) where
       let n : ℕ = nat_abs ((t -ℤ start) +ℤ pos 1) in
       let m : ℕ = nat_abs (u -ℤ t) in
       let e : nat_abs ((u -ℤ start) +ℤ pos 1) ≡ n + m = omega (arith, ints, l, h) in
-      rw e (omega (arith, count_split (is_chosen rule kind start) start n m))
+      rw e (omega (arith, count_from-split (is_chosen rule kind start) start n m))
 
   -- a chosen moment is one more than those up to an earlier one
   counts_more : (t u : ℤ) → start ≤ℤ t → t <ℤ u → is_chosen rule kind start u ≡ true → members_to rule kind start t < members_to rule kind start u

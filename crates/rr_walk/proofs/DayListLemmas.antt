@@ -1,5 +1,5 @@
 -- Rising days by place.
-use Rattle.std.proofs.Common.{◌≡◌, ℕ, zero, suc, ◌+◌, ◌<◌, ◌≤◌, Bool, true, false, List, [], ◌∷◌, length, get_or, Contains, ℤ, pos, ◌≤ℤ◌, ◌<ℤ◌, refl}
+use Rattle.std.proofs.Common.{◌≡◌, ℕ, ◌+◌, ◌<◌, ◌≤◌, Bool, true, false, List, [], length, get_or, Contains, ℤ, pos, ◌≤ℤ◌, refl}
 use Rattle.std.proofs.Common.{sym, ap, ◌∙◌, subst, inl, inr, arith}
 use Rattle.std.specs.Prelude.{IsTrue, nat_lt, int_lt, Option, Some, None}
 use Rattle.std.proofs.lemmas.Int.{ints}
@@ -8,22 +8,11 @@ use Rattle.std.proofs.lemmas.List.{get_or_default}
 use Rattle.std.proofs.lemmas.List.Elements.{Contains-get_or}
 use Rattle.rr_model.specs.Rising.{Rises}
 use Rattle.rr_model.specs.Rising.Sets.{IsSetOf}
-use Rattle.rr_model.proofs.RisingSetLemmas.{below_rest, Rises-tail}
+use Rattle.rr_model.proofs.RisingSetLemmas.{rising_dates}
 use Rattle.rr_model.specs.Sets.Tree.{Tree, stands_at}
 use Rattle.rr_lazy.specs.DayTimes.{DayTimes}
 use Rattle.rr_lazy.specs.declared.occupied_day.OccupiedDay.{OccupiedDay}
 use Rattle.rr_walk.specs.Walk.{IsFirstOf, IsOnDay, IsOnDayIn, IsPlacedDay}
-
-pub rising_days : (xs : List ℤ) → Rises int_lt xs → (i j : ℕ) → i < j → j < length xs → get_or xs i (pos 0) <ℤ get_or xs j (pos 0)
-rising_days [] r i j l h = absurd (omega arith)
-rising_days (x ∷ xs) r zero zero l h = absurd (omega arith)
-rising_days (x ∷ xs) r zero (suc j) l h =
-    let t : int_lt x (get_or xs j (pos 0)) ≡ true =
-    below_rest int_lt (λ y m. grind (arith, ints)) (λ y z w m n. grind (arith, ints)) x xs r (get_or xs j (pos 0))
-    (Contains-get_or xs j (pos 0) (omega arith)) in
-    grind (arith, ints)
-rising_days (x ∷ xs) r (suc i) zero l h = absurd (omega arith)
-rising_days (x ∷ xs) r (suc i) (suc j) l h = rising_days xs (Rises-tail int_lt x xs r) i j (omega arith) (omega arith)
 
 -- an empty set has nothing
 pub nothing_in : (test : ℕ → Bool) (times : List ℕ) → IsSetOf nat_lt times (λ s. IsTrue (test s)) → times ≡ [] → (s : ℕ) → test s ≡ false
@@ -67,7 +56,7 @@ module _ (tree : Tree) (days : List ℤ) (from : ℤ) where
             elim (cases_lt c.0 i) [
               | inl n ↦ subst (λ x. stands_at tree x s ≡ false) p (passed c.0 s n (omega (arith, ints, p)))
               | inr n ↦ absurd (elim (cases_lt i c.0) [
-                | inl o ↦ omega (arith, ints, p, same, rising_days days rises i c.0 o c.1)
+                | inl o ↦ omega (arith, ints, p, same, rising_dates days rises i c.0 o c.1)
                 | inr o ↦
                     (let q : c.0 ≡ i = omega arith in omega (arith, ints, p, same, ap (λ n. get_or days n (pos 0)) q))
               ])

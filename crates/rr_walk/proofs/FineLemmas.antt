@@ -6,17 +6,15 @@ use Rattle.std.proofs.Math.Seq.{take-length}
 use Rattle.std.proofs.lemmas.Option.{get_or_from_slice_get, slice_get_within}
 use Rattle.std.specs.Prelude.{Bool, slice_get, IsTrue, nat_lt, nat_le, int_le, Some, None, [], length, get_or, take, ◌<ℤ◌, ◌≤ℤ◌}
 use Rattle.std.proofs.lemmas.Int.{ints, by_lt_z}
-use Rattle.std.proofs.lemmas.Bool.{cases_lt, false≢true}
+use Rattle.std.proofs.lemmas.Bool.{cases_lt, false≢true, and_parts}
 use Rattle.std.proofs.lemmas.Bool.Decides.{nat_tests}
 use Rattle.rr_model.specs.Whole.{floor_mod}
 use Rattle.rr_model.specs.Moment.{day_part, moment_at}
 use Rattle.rr_model.specs.Moment.Units.{unit_number}
-use Rattle.rr_model.specs.Rule.Validity.{takes_start}
 use Rattle.rr_model.specs.Rising.Sets.{IsSetOf}
 use Rattle.rr_model.specs.Rule.Chosen.{is_chosen}
 use Rattle.rr_model.specs.Rule.Candidate.{date_parts_hold, is_candidate, interval_holds}
 use Rattle.rr_model.specs.Rule.Filled.{filled}
-use Rattle.rr_model.specs.declared.kind.Kind.{Kind}
 use Rattle.rr_model.specs.declared.kind.Kind.TheVariants.{Days, Moments}
 use Rattle.rr_model.specs.declared.rule.Freq.{Freq}
 use Rattle.rr_model.specs.declared.rule.Freq.TheVariants.{Secondly, Minutely, Hourly, Daily, Weekly, Monthly, Yearly}
@@ -26,21 +24,15 @@ use Rattle.rr_model.proofs.MomentLemmas.{day_part-moment_at}
 use Rattle.rr_model.proofs.RisingSetLemmas.{set_same}
 use Rattle.rr_model.specs.Moment.Units.{is_whole_days, unit_seconds}
 use Rattle.rr_setpos.proofs.PositionLemmas.{chosen_no_candidate}
-use Rattle.rr_model.proofs.DaysAndTimesLemmas.{takes_start-days}
 use Rattle.rr_expand.proofs.FinerLemmas.{unit_at}
 use Rattle.rr_expand.proofs.FitLemmas.{none_before}
 use Rattle.rr_model.specs.Sets.Tree.{Tree, chosen_of, stands_at}
 use Rattle.rr_lazy.specs.declared.occupied_day.OccupiedDay.{OccupiedDay}
 use Rattle.rr_lazy.specs.Next.{HasNone}
-use Rattle.rr_lazy.proofs.TreeLemmas.{and_left, and_right, stands_below}
+use Rattle.rr_lazy.proofs.TreeLemmas.{stands_below}
 use Rattle.rr_expand.specs.Years.{Filling, IsFirstAllowed, allows_day}
 use Rattle.rr_walk.specs.Ruling.{Ruling}
 use Rattle.rr_walk.specs.Walk.{IsFirstFine, IsFirstSecond, IsFirstUpToIn, IsOnDay, IsOnDayIn}
-
--- a valid rule whose units are shorter than a day chooses moments
-pub only_moments : (freq : Freq) (kind : Kind) → IsTrue (takes_start freq kind) → is_whole_days freq ≡ false → kind ≡ Moments
-only_moments freq Moments t f = refl
-only_moments freq Days t f = absurd (false≢true (sym f ∙ sym (takes_start-days freq) ∙ t))
 
 -- how many units a day has
 abbrev per_day : Freq → ℕ
@@ -111,8 +103,8 @@ module _ (rule : Rule) (start : ℤ) where
       back s h =
           let l = stands_below tree d s h in
           let e = sym (at s l) ∙ h in
-          let late : nat_le from s ≡ true = and_right (is_chosen rule Moments start (moment_at Moments d s)) (nat_le from s) e in
-          ((set.exact s).1 (l, and_left _ _ e), grind (arith, nat_tests), l)
+          let late : nat_le from s ≡ true = (and_parts (is_chosen rule Moments start (moment_at Moments d s)) (nat_le from s) e).1 in
+          ((set.exact s).1 (l, (and_parts _ _ e).0), grind (arith, nat_tests), l)
 
   -- no day before the one in which the first unit that fits lies
   pub none_unfit : (day : ℤ) (k : ℕ) (q : ℤ) → is_whole_days rule.freq ≡ false → 1 ≤ rule.interval

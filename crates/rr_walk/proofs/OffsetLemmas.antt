@@ -3,7 +3,7 @@ use Rattle.std.proofs.Common.{◌≡◌, ℕ, ◌+◌, ◌*◌, ◌/◌, ◌%◌
 use Rattle.std.proofs.Common.{nat_cmp, inl, inr, ℤ, refl, sym, ap, subst, ◌∙◌, arith}
 use Rattle.std.specs.Prelude.{◌⊎◌, ◌↔◌, IsTrue, Result, Ok, Err, nat_lt}
 use Rattle.std.specs.List.Sorted.{IsBinarySearchResult}
-use Rattle.std.proofs.lemmas.Bool.{cases_lt}
+use Rattle.std.proofs.lemmas.Bool.{cases_lt, and_parts}
 use Rattle.std.proofs.lemmas.Bool.Decides.{nat_tests}
 use Rattle.std.proofs.lemmas.List.{get_or_default}
 use Rattle.std.proofs.lemmas.List.Elements.{All-contains, Contains-get_or}
@@ -25,15 +25,15 @@ use Rattle.rr_model.specs.declared.rule.Freq.TheVariants.{Secondly, Minutely, Ho
 use Rattle.rr_model.specs.declared.rule.Rule.{Rule}
 use Rattle.rr_model.proofs.MomentLemmas.{second_part-moment_at}
 use Rattle.rr_model.proofs.RisingSetLemmas.{rising_at, set_empty, set_push, set_same}
+use Rattle.rr_model.proofs.CountLemmas.{count_seconds-same, count_seconds-zero, below_more}
+use Rattle.rr_model.proofs.DaysAndTimesLemmas.{second_part-below, unit_some}
 use Rattle.rr_times.proofs.SplitLemmas.{rising_le}
 use Rattle.rr_setpos.specs.Ranks.{times_before, number_allowed, hour_second_allowed, day_second_allowed, begin_in_day, rank_by_parts, size_by_parts}
-use Rattle.rr_parts.proofs.ChoiceLemmas.{is_chosen-plain}
-use Rattle.rr_parts.proofs.CountLemmas.{count_seconds-same, count_seconds-zero, below_more}
+use Rattle.rr_model.proofs.ChoiceLemmas.{is_chosen-plain}
 use Rattle.rr_setpos.proofs.ProductLemmas.{count_turns}
 use Rattle.rr_setpos.proofs.TimeCountLemmas.{times_of_day, and_assoc}
-use Rattle.rr_setpos.proofs.PositionLemmas.{candidate_parts, chosen_candidate, chosen_no_candidate, second_part-below}
+use Rattle.rr_setpos.proofs.PositionLemmas.{candidate_parts, chosen_candidate, chosen_no_candidate}
 use Rattle.rr_expand.specs.Expansion.{IsCandidateSecond}
-use Rattle.rr_lazy.proofs.TreeLemmas.{and_left}
 use Rattle.rr_walk.specs.SetPositions.{IsAtOffset, IsAtSome, IsChosenOffset, offset_allowed, offset_holds}
 use Rattle.rr_walk.proofs.SetPositionLemmas.{at_some_is, count_is_length}
 
@@ -86,10 +86,10 @@ module _ (rule : Rule) (start t : ℤ) (passes : is_candidate rule Moments start
 
   -- its hour, and its minute of the day
   hour_allowed : hours (second_part Moments t / 3_600) ≡ true
-  hour_allowed = and_left _ (minutes (own / 60 % 60)) (and_left _ (seconds (own % 60)) allowed)
+  hour_allowed = (and_parts _ (minutes (own / 60 % 60)) (and_parts _ (seconds (own % 60)) allowed).0).0
 
   minute_allowed : (hours (second_part Moments t / 3_600) && minutes (second_part Moments t / 60 % 60)) ≡ true
-  minute_allowed = and_left _ (seconds (own % 60)) allowed
+  minute_allowed = (and_parts _ (seconds (own % 60)) allowed).0
 
   -- the day in hours, and in minutes
   in_its_hour : (s : ℕ) → s ≤ 3_600 → count_seconds in_day (own / 3_600 * 3_600 + s)
@@ -216,16 +216,6 @@ module _ (rule : Rule) (start t : ℤ) (passes : is_candidate rule Moments start
   place_in_unit Yearly e fine = absurd (cc)
 
 -- ---- the chosen seconds of a day
-
--- how many seconds a unit has
-unit_some : (freq : Freq) → 0 < unit_seconds freq
-unit_some Secondly = omega arith
-unit_some Minutely = omega arith
-unit_some Hourly = omega arith
-unit_some Daily = omega arith
-unit_some Weekly = omega arith
-unit_some Monthly = omega arith
-unit_some Yearly = omega arith
 
 module _ (rule : Rule) (start d : ℤ) (fine : is_whole_days rule.freq ≡ false) where
   -- a candidate is chosen exactly where its place in its unit is

@@ -1,9 +1,10 @@
 -- The place of a day in the list of its unit's candidate days is a count.
-use Rattle.std.proofs.Common.{◌≡◌, ℕ, zero, suc, ◌+◌, ◌<◌, Bool, true, false, ◌&&◌, List, [], ◌∷◌, length, get_or, Contains, inl, inr, ℤ, pos, nat_abs}
+use Rattle.std.proofs.Common.{◌≡◌, ℕ, zero, suc, ◌+◌, ◌<◌, Bool, true, false, List, [], ◌∷◌, length, get_or, Contains, inl, inr, ℤ, pos, nat_abs}
 use Rattle.std.proofs.Common.{◌+ℤ◌, ◌-ℤ◌, ◌≤ℤ◌, ◌<ℤ◌, refl, sym, ap, ◌∙◌, arith}
 use Rattle.std.specs.Prelude.{int_lt}
 use Rattle.std.proofs.lemmas.Int.{ints}
 use Rattle.std.proofs.lemmas.List.Elements.{Contains-get_or}
+use Rattle.std.proofs.lemmas.Bool.{and_parts, and_from}
 use Rattle.rr_model.specs.Whole.{divides}
 use Rattle.rr_model.specs.Whole.Count.{count_from}
 use Rattle.rr_model.specs.Moment.Units.{unit_number}
@@ -12,20 +13,11 @@ use Rattle.rr_model.specs.Rule.Candidate.{interval_holds, date_parts_hold}
 use Rattle.rr_model.specs.Rising.Sets.{IsSetOf}
 use Rattle.rr_model.specs.declared.kind.Kind.TheVariants.{Days}
 use Rattle.rr_model.specs.declared.rule.Rule.{Rule}
-use Rattle.rr_model.proofs.CountLemmas.{one, count_from-zero, count_from-suc, count_from-first}
+use Rattle.rr_model.proofs.CountLemmas.{one, count_from-first, count_from-split, count_from-empty}
 use Rattle.rr_cal.proofs.StretchLemmas.{units_are_stretches}
 use Rattle.rr_model.proofs.RisingSetLemmas.{Contains-head, Contains-tail, Contains-none, Contains-cons_cases, Rises-tail, below_rest, set_same}
 use Rattle.rr_model.specs.Rule.DaysAndTimes.{IsCandidateDay}
 use Rattle.rr_setpos.specs.Ranks.{days_before, days_of_unit, first_of_unit, next_of_unit}
-use Rattle.rr_lazy.proofs.TreeLemmas.{and_left, and_right}
-use Rattle.rr_parts.proofs.CountLemmas.{count_from-split}
-
-count_none : (g : ℤ → Bool) (q : ℤ) (n : ℕ) → ((t : ℤ) → q ≤ℤ t → t <ℤ (q +ℤ pos n) → g t ≡ false) → count_from g q n ≡ 0
-count_none g q zero none = count_from-zero g q
-count_none g q (suc n) none =
-    let here : g (q +ℤ pos n) ≡ false = none (q +ℤ pos n) (omega (arith, ints)) (omega (arith, ints)) in
-    let last : count_from g q (suc n) ≡ count_from g q n = count_from-suc g q n ∙ (rw here (omega arith)) in
-    last ∙ count_none g q n (λ t l h. none t l (omega (arith, ints, h)))
 
 module _ (test : ℤ → Bool) where
   -- of n whole numbers from one on, those that pass
@@ -62,7 +54,7 @@ module _ (test : ℤ → Bool) where
     }
 
     none_before : count_from test q (nat_abs (x -ℤ q)) ≡ 0
-    none_before = count_none test q (nat_abs (x -ℤ q)) (λ d l h. elim (test d) as (λ b. test d ≡ b → test d ≡ false) [
+    none_before = count_from-empty test q (nat_abs (x -ℤ q)) (λ d l h. elim (test d) as (λ b. test d ≡ b → test d ≡ false) [
       | false ↦ λ e. e
       | true ↦ λ e. absurd (elim (Contains-cons_cases x xs d ((set.exact d).1 (l, omega (arith, ints, h, head_is.0, head_is.1), e))) [
         | inl f ↦ omega
@@ -92,7 +84,7 @@ module _ (test : ℤ → Bool) where
       ∙ omega (arith, place_is xs (x +ℤ pos 1) (after_head x xs q n set) (rest_set x xs q n set) i (omega (arith, low)))
 
   pub length_is : (xs : List ℤ) (q : ℤ) (n : ℕ) → IsSetOf int_lt xs (PassedFrom q n) → count_from test q n ≡ length xs
-  length_is [] q n set = count_none test q n (λ d l h. elim (test d) as (λ b. test d ≡ b → test d ≡ false) [
+  length_is [] q n set = count_from-empty test q n (λ d l h. elim (test d) as (λ b. test d ≡ b → test d ≡ false) [
     | false ↦ λ e. e
     | true ↦ λ e. absurd (Contains-none d ((set.exact d).1 (l, h, e)))
   ] refl)
@@ -109,9 +101,6 @@ module _ (test : ℤ → Bool) where
 
 -- ---- candidate days
 
-both : (a b : Bool) → a ≡ true → b ≡ true → (a && b) ≡ true
-both a b e f = rw (e, f) refl
-
 -- the place of a candidate day in the list of its unit's is the count of those before it, and the list's length the count of all
 pub places_are_counts : (rule : Rule) (start_day unit : ℤ) (days : List ℤ) (i : ℕ) → IsSetOf int_lt days (IsCandidateDay rule start_day unit) → i < length days
     → (days_before rule start_day (get_or days i (pos 0)) ≡ i) × (days_of_unit rule start_day (get_or days i (pos 0)) ≡ length days)
@@ -123,15 +112,15 @@ places_are_counts rule start_day unit days i set low =
     let next = next_of_unit rule d in
     let n : ℕ = nat_abs (next -ℤ first) in
     let within = (units_are_stretches rule.freq rule.week_start Days d (unit_number rule.freq rule.week_start Days d)).0 refl in
-    let fits : interval_holds rule Days start_day d ≡ true = and_left (interval_holds rule Days start_day d) (test d) own.1 in
+    let fits : interval_holds rule Days start_day d ≡ true = (and_parts (interval_holds rule Days start_day d) (test d) own.1).0 in
     let passed : IsSetOf int_lt days (PassedFrom test first n) =
     set_same int_lt (IsCandidateDay rule start_day unit) (PassedFrom test first n) days set
     (λ e. (let stretch = units_are_stretches rule.freq rule.week_start Days e (unit_number rule.freq rule.week_start Days d) in (
       (λ h. (let s = stretch.0 (h.0 ∙ sym own.0) in
-          (s.0, omega (arith, ints, s.1, within.0, within.1), and_right (interval_holds rule Days start_day e) (test e) h.1))),
+          (s.0, omega (arith, ints, s.1, within.0, within.1), (and_parts (interval_holds rule Days start_day e) (test e) h.1).1))),
       (λ h. (let same = stretch.1 (h.0, omega (arith, ints, h.1, within.0, within.1)) in (
         same ∙ own.0,
-        both (interval_holds rule Days start_day e) (test e)
+        and_from (interval_holds rule Days start_day e) (test e)
             (ap (λ u. divides rule.interval (u -ℤ unit_number rule.freq rule.week_start Days start_day)) same ∙ fits) h.2,
       ))),
     ))) in

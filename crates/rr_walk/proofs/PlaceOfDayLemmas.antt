@@ -8,6 +8,7 @@ use Rattle.std.proofs.lemmas.List.{get_or-set_other, length-set}
 use Rattle.std.proofs.lemmas.Option.{get_or_from_slice_get, slice_get-get_or, slice_get_within}
 use Rattle.std.proofs.Math.ListN.{set}
 use Rattle.std.proofs.lemmas.Int.{ints}
+use Rattle.std.proofs.Math.Bool.{and-true}
 use Rattle.rr_model.specs.Whole.{divides, floor_div, floor_mod}
 use Rattle.rr_model.specs.Moment.{day_part, moment_at, second_part}
 use Rattle.rr_model.specs.Moment.Units.{is_whole_days, unit_number, unit_seconds}
@@ -53,10 +54,6 @@ fits_alike n a other b k some e =
 abbrev Allowed : Rule → ℤ → ℤ → Type 0
 Allowed rule start day = IsTrue (date_parts_hold (filled rule Days (day_part Moments start)) day)
 
-and_true : (a : Bool) → (a && true) ≡ a
-and_true true = refl
-and_true false = refl
-
 -- there the interval and the time parts decide
 on_allowed : (rule : Rule) (start day : ℤ) (s : ℕ) → s < 86_400 → Allowed rule start day
     → is_candidate rule Moments start (moment_at Moments day s)
@@ -67,7 +64,7 @@ on_allowed rule start day s low allowed =
     let dates : date_parts_hold (filled rule Moments start) (day_part Moments (moment_at Moments day s)) ≡ true =
     ap (date_parts_hold (filled rule Moments start)) (day_part-moment_at day s low) ∙ allowed in
     ap (λ b. fits && b && time_parts_hold (filled rule Moments start) Moments (moment_at Moments day s)) dates
-    ∙ ap (λ b. b && time_parts_hold (filled rule Moments start) Moments (moment_at Moments day s)) (and_true fits)
+    ∙ ap (λ b. b && time_parts_hold (filled rule Moments start) Moments (moment_at Moments day s)) (and-true fits)
     ∙ ap (λ b. fits && b) (time_parts_hold-at (filled rule Moments start) day s low ∙ sym (time_parts_hold-at (filled rule Moments start) (pos 0) s low))
 
 -- set positions ask the second of the day alone

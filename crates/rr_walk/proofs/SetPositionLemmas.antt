@@ -5,7 +5,7 @@ use Rattle.std.specs.Prelude.{◌⊎◌, ◌↔◌, ◌||◌, IsTrue, nat_lt}
 use Rattle.std.specs.List.{list_any}
 use Rattle.std.specs.Ordering.{int_eq}
 use Rattle.std.proofs.lemmas.Int.{ints}
-use Rattle.std.proofs.lemmas.Bool.{cases_lt, false≢true}
+use Rattle.std.proofs.lemmas.Bool.{cases_lt, false≢true, and_parts}
 use Rattle.std.proofs.lemmas.Bool.Decides.{nat_tests}
 use Rattle.std.proofs.lemmas.List.{get_or_default}
 use Rattle.std.proofs.lemmas.List.Elements.{Contains-get_or}
@@ -26,20 +26,18 @@ use Rattle.rr_model.specs.declared.kind.Kind.TheVariants.{Days}
 use Rattle.rr_model.specs.declared.rule.Freq.{Freq}
 use Rattle.rr_model.specs.declared.rule.Freq.TheVariants.{Secondly, Minutely, Hourly, Daily, Weekly, Monthly, Yearly}
 use Rattle.rr_model.specs.declared.rule.Rule.{Rule}
-use Rattle.rr_model.proofs.CountLemmas.{one, count_from-first}
+use Rattle.rr_model.proofs.CountLemmas.{one, count_from-first, count_from-le, count_from-split, count_seconds-same, below_more}
 use Rattle.rr_model.proofs.RisingLemmas.{Rises-with_value, All-with_value}
 use Rattle.rr_model.proofs.RisingSetLemmas.{Contains-head, Contains-tail, Contains-none, Contains-cons_cases, length-le_bound, set_same, set_empty}
 use Rattle.std.proofs.Math.Nat.{mul-le-mul_right}
-use Rattle.rr_model.proofs.DaysAndTimesLemmas.{candidates_are_days_and_times}
+use Rattle.rr_model.proofs.DaysAndTimesLemmas.{candidates_are_days_and_times, day_at, second_at}
 use Rattle.rr_cal.proofs.DayUnitLemmas.{unit_length}
 use Rattle.rr_setpos.specs.Ranks.{times_before, days_before, days_of_unit, first_of_unit, next_of_unit, rank_by_parts, size_by_parts, is_rank_listed}
 use Rattle.rr_setpos.specs.Nth.{IsPlaceOf, IsRankOf}
-use Rattle.rr_parts.proofs.ChoiceLemmas.{is_chosen-plain}
-use Rattle.rr_setpos.proofs.PositionLemmas.{chosen_candidate, chosen_no_candidate, day_at, second_at}
-use Rattle.rr_parts.proofs.CountLemmas.{count_from-le, count_from-split, count_seconds-same, below_more}
+use Rattle.rr_model.proofs.ChoiceLemmas.{is_chosen-plain}
+use Rattle.rr_setpos.proofs.PositionLemmas.{chosen_candidate, chosen_no_candidate}
 use Rattle.rr_setpos.proofs.UnitDayLemmas.{in_unit}
 use Rattle.rr_lazy.proofs.CountingLemmas.{seconds_to, seconds_whole}
-use Rattle.rr_lazy.proofs.TreeLemmas.{and_left, and_right}
 use Rattle.rr_walk.specs.Ruling.{Ruling, AreUnitDays, IsCandidateAt}
 use Rattle.rr_walk.specs.SetPositions.{IsAtPlace, IsTimeAt, IsAtSome}
 use Rattle.rr_walk.proofs.PlaceLemmas.{places_are_counts}
@@ -223,7 +221,7 @@ module _ (times : List ℕ) (test : ℕ → Bool) (bound : ℕ) (set : IsSetOf n
   bounded_set = set_same nat_lt (λ s. (s < bound) × IsTrue (test s)) (λ s. IsTrue (nat_lt s bound && test s)) times set
       (λ s. (
         (λ h. (let e : nat_lt s bound ≡ true = (let l = h.0 in grind (arith, nat_tests)) in rw (e, h.1) refl)),
-        (λ h. (let e : nat_lt s bound ≡ true = and_left (nat_lt s bound) (test s) h in (grind (arith, nat_tests), and_right (nat_lt s bound) (test s) h))),
+        (λ h. (let both = and_parts (nat_lt s bound) (test s) h in let e = both.0 in (grind (arith, nat_tests), both.1))),
       ))
 
   counts_same : (n : ℕ) → n ≤ bound → count_seconds (λ s. nat_lt s bound && test s) n ≡ count_seconds test n
@@ -299,8 +297,8 @@ module _ (rule : Rule) (kind : Kind) (start d : ℤ) (coarse : is_whole_days rul
       let next = next_of_unit rule d in
       let within = in_unit rule d coarse in
       let test : ℤ → Bool = λ z. date_parts_hold (filled rule Days (day_part kind start)) z in
-      let holds : test d ≡ true = and_right (interval_holds rule Days (day_part kind start) d)
-      (date_parts_hold (filled rule Days (day_part kind start)) d) candidate in
+      let holds : test d ≡ true =
+      (and_parts (interval_holds rule Days (day_part kind start) d) (date_parts_hold (filled rule Days (day_part kind start)) d) candidate).1 in
       let n : ℕ = nat_abs (d -ℤ first) in
       let m : ℕ = nat_abs (next -ℤ d) - 1 in
       let e : nat_abs (next -ℤ first) ≡ n + suc m = omega (arith, ints, within.0, within.1) in

@@ -3,7 +3,7 @@ use Rattle.std.proofs.Common.{◌≡◌, ℕ, zero, suc, ◌+◌, ◌<◌, ◌�
 use Rattle.std.proofs.Common.{sym, ap, subst, ◌∙◌, inl, inr, arith}
 use Rattle.std.specs.Prelude.{Option, Some, None, IsTrue, nat_lt, nat_le, int_le, int_lt}
 use Rattle.std.proofs.lemmas.Int.{ints, by_lt_z}
-use Rattle.std.proofs.lemmas.Bool.{cases_lt, false≢true}
+use Rattle.std.proofs.lemmas.Bool.{cases_lt, false≢true, and_parts}
 use Rattle.std.proofs.lemmas.Bool.Decides.{nat_tests}
 use Rattle.rr_lazy.specs.DayTimes.{DayTimes}
 use Rattle.rr_model.specs.Whole.{divides, floor_div, floor_mod}
@@ -31,7 +31,7 @@ use Rattle.rr_expand.proofs.UnitLemmas.{unit_start_near}
 use Rattle.rr_expand.proofs.FitLemmas.{fits_at, first_fits, none_before, next_fits, none_between}
 use Rattle.rr_model.specs.Sets.Tree.{Tree, chosen_of, has_second, stands_at}
 use Rattle.rr_lazy.specs.Next.{IsFirstOccupied}
-use Rattle.rr_lazy.proofs.TreeLemmas.{and_left, and_right, stands_below}
+use Rattle.rr_lazy.proofs.TreeLemmas.{stands_below}
 use Rattle.rr_walk.specs.Walk.{IsFirstSecond, HasNoneOf, IsFirstIn, IsFirstOf, IsFirstUpTo, IsWalked}
 
 -- the start's day is near
@@ -177,8 +177,8 @@ module _ (rule : Rule) (kind : Kind) (start : ℤ) (coarse : is_whole_days rule.
       back : (s : ℕ) → IsTrue (stands_at tree d s) → Contains all s × (from ≤ s) × (s < 86_400)
       back s h = elim (cases_lt s (seconds_of kind)) [
         | inl l ↦ (let e = sym (at s l) ∙ h in
-            let chosen : is_chosen rule kind start (moment_at kind d s) ≡ true = and_left _ _ e in
-            let late : nat_le from s ≡ true = and_right (is_chosen rule kind start (moment_at kind d s)) (nat_le from s) e in
+            let chosen : is_chosen rule kind start (moment_at kind d s) ≡ true = (and_parts _ _ e).0 in
+            let late : nat_le from s ≡ true = (and_parts (is_chosen rule kind start (moment_at kind d s)) (nat_le from s) e).1 in
             ((set.exact s).1 (l, chosen), grind (arith, nat_tests), stands_below tree d s h))
         | inr g ↦ absurd (false≢true (sym (rw (has_second_not kind s g) refl) ∙ h))
       ]

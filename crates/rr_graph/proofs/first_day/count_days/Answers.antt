@@ -1,7 +1,6 @@
 use Rattle.std.proofs.Common.{arith, sym, ap, ◌∙◌, ◌≡◌, refl, ◌+◌, pos, ◌+ℤ◌, w64, to_z, of_z}
 use Rattle.std.proofs.lemmas.Int.{ints}
-use Rattle.rr_parts.proofs.CountLemmas.{from_more, from_same}
-use Rattle.rr_model.proofs.CountLemmas.{count_from-zero}
+use Rattle.rr_model.proofs.CountLemmas.{count_from-zero, from_more, from_same}
 use Rattle.rr_model.specs.Graph.Occurrences.{is_day_in}
 use Rattle.rr_model.specs.Graph.Counterpart.{has_weekday}
 use Rattle.rr_graph.proofs.first_day.count_days.Goals.{then-is_day_in, else-is_day_in}

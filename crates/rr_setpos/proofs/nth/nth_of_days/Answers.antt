@@ -6,9 +6,9 @@ use Rattle.rr_model.specs.Moment.{day_part, moment_at}
 use Rattle.rr_model.specs.Moment.Units.{unit_number, unit_start}
 use Rattle.rr_model.specs.declared.kind.Kind.TheVariants.{Days}
 use Rattle.rr_model.specs.Rule.DaysAndTimes.{seconds_of}
+use Rattle.rr_model.proofs.DaysAndTimesLemmas.{unit_of_day}
 use Rattle.rr_setpos.specs.Ranks.{days_among, times_before}
 use Rattle.rr_setpos.specs.Nth.{IsNthOfUnit}
-use Rattle.rr_setpos.proofs.PositionLemmas.{unit_of_day}
 use Rattle.rr_setpos.proofs.NthLemmas.{nth_some, nth_none, none_unfit, size_by_days, in_unit_there, candidate_there, rank_there}
 use Rattle.rr_setpos.proofs.FitLemmas.{day_rank, product_fits, same_within, some_times, time_rank}
 use Rattle.rr_setpos.proofs.nth.nth_of_days.Goals as goal

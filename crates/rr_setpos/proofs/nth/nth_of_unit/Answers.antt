@@ -4,7 +4,7 @@ use Rattle.rr_model.specs.Moment.Units.{unit_start}
 use Rattle.rr_model.specs.declared.kind.Kind.TheVariants.{Days, Moments}
 use Rattle.rr_setpos.specs.Nth.{IsNthOfUnit}
 use Rattle.rr_model.proofs.StartLemmas.{IsDayWithin-start}
-use Rattle.rr_setpos.proofs.PositionLemmas.{fine_kind}
+use Rattle.rr_model.proofs.DaysAndTimesLemmas.{only_moments}
 use Rattle.rr_setpos.proofs.NthLemmas.{begin_day}
 use Rattle.rr_setpos.proofs.nth.nth_of_unit.Goals as goal
 
@@ -32,6 +32,6 @@ returns-then-is_whole_days c = rw
 pub returns-else-is_whole_days : goal.returns-else-is_whole_days
 returns-else-is_whole_days c =
     let fine = sym c.is_whole_days.ensures ∙ c.if-is_whole_days.false in
-    let kind : c.args.kind ≡ Moments = fine_kind c.args.rule.now.freq c.args.kind c.requires.rule.start fine in
+    let kind : c.args.kind ≡ Moments = only_moments c.args.rule.now.freq c.args.kind c.requires.rule.start fine in
     subst (λ k. IsNthOfUnit c.args.rule.now k c.args.start c.args.unit c.args.place c.nth_of_seconds.result) (sym kind)
     (rw (c.new-start.ensures.at, to_z-of_z c.ranges.start, to_z-of_z c.ranges.unit, to_z-of_z c.ranges.place) at c.nth_of_seconds.ensures)

@@ -3,8 +3,7 @@ use Rattle.std.proofs.lemmas.Int.{ints}
 use Rattle.rr_model.specs.Rule.Candidate.{date_parts_hold}
 use Rattle.rr_model.specs.Rule.Filled.{filled}
 use Rattle.rr_model.specs.declared.kind.Kind.TheVariants.{Days}
-use Rattle.rr_model.proofs.CountLemmas.{count_from-zero}
-use Rattle.rr_parts.proofs.CountLemmas.{from_more, from_same}
+use Rattle.rr_model.proofs.CountLemmas.{count_from-zero, from_more, from_same}
 use Rattle.rr_setpos.proofs.select.nth_day.Goals as goal
 use Rattle.rr_setpos.proofs.select.nth_day.Goals.{then-date_parts_hold+else-left-eq0, else-date_parts_hold}
 

@@ -5,8 +5,8 @@ use Rattle.rr_model.specs.declared.kind.Kind.TheVariants.{Moments}
 use Rattle.rr_model.specs.Moment.Years.{IsInYears}
 use Rattle.rr_model.specs.Rule.Validity.{IsValidRule}
 use Rattle.rr_model.specs.Moment.{day_part, second_part}
+use Rattle.rr_model.proofs.DaysAndTimesLemmas.{only_moments}
 use Rattle.rr_walk.proofs.WalkLemmas.{start_near}
-use Rattle.rr_walk.proofs.FineLemmas.{only_moments}
 use Rattle.rr_walk.proofs.PlaceOfDayLemmas.{knows_none}
 use Rattle.rr_walk.proofs.fine_rule.FineRuleRuleWalk.new.Goals as goal
 
