@@ -1,10 +1,11 @@
 -- The sequence of numbered days is the one that a descriptor states.
 use Rattle.std.proofs.Common.{◌≡◌, ◌≢◌, ℕ, zero, suc, ◌+◌, ◌-◌, ◌<◌, ◌≤◌, List, [], ◌∷◌, ◌++◌, All, length, get_or, take, drop, replicate, nat_abs, append_assoc, length-append}
-use Rattle.std.proofs.Common.{ℤ, pos, neg_ℤ, ◌+ℤ◌, ◌-ℤ◌, ◌≤ℤ◌, refl, sym, ap, subst, ◌∙◌, arith}
+use Rattle.std.proofs.Common.{ℤ, pos, ◌+ℤ◌, ◌-ℤ◌, ◌≤ℤ◌, refl, sym, ap, subst, ◌∙◌, arith}
 use Rattle.std.specs.Prelude.{Some, None}
 use Rattle.std.proofs.lemmas.Int.{ints}
 use Rattle.std.proofs.lemmas.List.{append-nil, length-replicate, take_at, drop_at, get_or-drop}
 use Rattle.std.proofs.lemmas.List.Elements.{All-nil, All-cons, All-append}
+use Rattle.rr_model.specs.Bounds.{first_day_of_all}
 use Rattle.rr_model.specs.Sets.Descriptor.{Run, Step, Ending}
 use Rattle.rr_model.specs.Sets.Reading.{days_from, day_after, sketch_with, steps_of_runs}
 use Rattle.rr_model.specs.declared.kind.Kind.{Kind}
@@ -140,7 +141,7 @@ module _ (kind : Kind) (count : ℕ) (shapes : List (List ℕ)) (has : HasSets k
   at_first : first +ℤ pos 0 ≡ first
   at_first = omega (arith, ints)
 
-  low_first : neg_ℤ (pos 719_162) ≤ℤ first
+  low_first : first_day_of_all ≤ℤ first
   low_first = (from_year_one first).0 read.from
 
   front_days : (end : ℕ) → AreSteps end (count - 1) 0 0 steps → shapes_from shapes first front ≡ days_from (drop 1 shapes) first steps

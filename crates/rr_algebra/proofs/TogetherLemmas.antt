@@ -1,5 +1,5 @@
 -- Two sequences together have on each day what holds of both.
-use Rattle.std.proofs.Common.{◌≡◌, ◌≢◌, ◌⊎◌, ℕ, ◌+◌, ◌*◌, ◌/◌, ◌%◌, ◌<◌, ◌≤◌, List, [], Contains, get_or, length, nat_lt, nat_abs, inl, inr, ℤ, pos, neg_ℤ, ◌+ℤ◌, ◌-ℤ◌, ◌≤ℤ◌, ◌<ℤ◌}
+use Rattle.std.proofs.Common.{◌≡◌, ◌≢◌, ◌⊎◌, ℕ, ◌+◌, ◌*◌, ◌/◌, ◌%◌, ◌<◌, ◌≤◌, List, [], Contains, get_or, length, nat_lt, nat_abs, inl, inr, ℤ, pos, ◌+ℤ◌, ◌-ℤ◌, ◌≤ℤ◌, ◌<ℤ◌}
 use Rattle.std.proofs.Common.{sym, ap, subst, ◌∙◌, arith}
 use Rattle.std.specs.Prelude.{IfOk, IfSome, None, Option, Some, Result, Ok, Err, false}
 use Rattle.std.specs.Option.{is_some}
@@ -15,6 +15,7 @@ use Rattle.rr_model.specs.Moment.{day_part, second_part}
 use Rattle.rr_model.specs.Whole.Divisors.{IsLcm, lcm}
 use Rattle.rr_num.proofs.DivisorLemmas.{lcm_is, lcm_some}
 use Rattle.std.proofs.lemmas.Nat.Gcd.{le_of_dvd}
+use Rattle.rr_model.specs.Bounds.{earliest_near, latest_near, longest_period}
 use Rattle.rr_model.specs.Sets.Sizes.{total_size}
 use Rattle.rr_model.specs.declared.limits.TheConstants.{MAX_SECONDS}
 use Rattle.rr_model.specs.Sets.Sketch.{IsFirstDay, IsValidSketch, StandsFor, StandsIn, times_on}
@@ -128,7 +129,7 @@ module _ (op : Op) (s u : Sketch) (vs : IsValidSketch s) (vu : IsValidSketch u) 
             (λ x there some. made_among x some (subst (IsMadeOnDay op s u) there.2 (many.made there.0 x there.1 (λ e. some (sym there.2 ∙ e))))),
       )
 
-  pub together_whole : AreDaySets kind sets → neg_ℤ (pos 1_000_000_000) ≤ℤ begin → (settled +ℤ pos period) ≤ℤ pos 1_000_000_000 → period ≤ 1_000_000_000
+  pub together_whole : AreDaySets kind sets → earliest_near ≤ℤ begin → (settled +ℤ pos period) ≤ℤ latest_near → period ≤ longest_period
       → IsWholeFold kind sets numbers begin settled period
   together_whole days low high few = record {
     order = t.order;

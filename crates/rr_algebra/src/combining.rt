@@ -1,5 +1,6 @@
 // Unions, common parts and differences of two sequences of days.
 ghost use Rattle.std.specs.Prelude.{◌≡◌, ◌≢◌, ◌↔◌, ◌⊎◌, ◌≤◌, ◌<◌, ◌++◌, ◌+ℤ◌, ◌≤ℤ◌, ◌∷◌, [], IfOk, IfSome, IsTrue, OnOk, ℤ, get_or, length, neg_ℤ, pos};
+ghost use Rattle.rr_model.specs.Bounds.{earliest_near, latest_near, longest_period};
 ghost use Rattle.rr_model.specs.Rising.Sets.{IsSecondsOfDay};
 ghost use Rattle.rr_model.specs.Answers.{RefusedExactlyWhere};
 ghost use Rattle.rr_model.specs.Sets.Sizes.{total_size};
@@ -90,8 +91,8 @@ impl CombinedSets {
         other: &B,
         day: i64,
     ) -> Result<u32, Fault>
-        requires low { neg_ℤ (pos 1_000_000_000) ≤ℤ day }
-        requires high { day ≤ℤ pos 1_000_000_000 }
+        requires low { earliest_near ≤ℤ day }
+        requires high { day ≤ℤ latest_near }
         requires sets { AreDaySets kind self.old.shapes }
         requires known { AreKnown op (table (A.sets one.now)) (table (B.sets other.now)) self.old.shapes self.old.known }
         requires made { AreMadeOnDays op (A.sketch one.now) (B.sketch other.now) self.old.shapes }
@@ -141,8 +142,8 @@ fn numbers_of_days<A: DaySeq, B: DaySeq>(
     begin: i64,
     days: u64,
 ) -> Result<CombinedDays, Fault>
-    requires low { neg_ℤ (pos 1_000_000_000) ≤ℤ begin }
-    requires high { (begin +ℤ pos days) ≤ℤ pos 1_000_000_000 }
+    requires low { earliest_near ≤ℤ begin }
+    requires high { (begin +ℤ pos days) ≤ℤ latest_near }
     requires first { (d : ℤ) → IsDaySet kind (times_on (A.sketch one.now) d) }
     requires second { (d : ℤ) → IsDaySet kind (times_on (B.sketch other.now) d) }
     ensures whole { IfOk result (λ c. length c.numbers.items ≡ days) }
@@ -176,8 +177,8 @@ fn push_number(numbers: &mut Vec<u32>, number: u32) -> Result<(), NoMemory>
 
 // How many days lie from one day to another.
 fn days_until(begin: i64, settled: i64) -> u64
-    requires low { neg_ℤ (pos 1_000_000_000) ≤ℤ begin }
-    requires high { settled ≤ℤ pos 1_000_000_000 }
+    requires low { earliest_near ≤ℤ begin }
+    requires high { settled ≤ℤ latest_near }
     requires order { begin ≤ℤ settled }
     ensures value { settled ≡ begin +ℤ pos result }
     ensures few { result ≤ 2_000_000_000 }
@@ -197,9 +198,9 @@ fn combined_days<A: DaySeq, B: DaySeq>(
     period: u64,
 ) -> Result<Folded, Fault>
     requires together { AreTogether (A.sketch one.now) (B.sketch other.now) begin settled period }
-    requires low { neg_ℤ (pos 1_000_000_000) ≤ℤ begin }
-    requires high { (settled +ℤ pos period) ≤ℤ pos 1_000_000_000 }
-    requires few { period ≤ 1_000_000_000 }
+    requires low { earliest_near ≤ℤ begin }
+    requires high { (settled +ℤ pos period) ≤ℤ latest_near }
+    requires few { period ≤ longest_period }
     requires first { (d : ℤ) → IsDaySet kind (times_on (A.sketch one.now) d) }
     requires second { (d : ℤ) → IsDaySet kind (times_on (B.sketch other.now) d) }
     ensures kind { IfOk result (λ f. (sketch f).kind ≡ kind) }
@@ -258,9 +259,9 @@ fn sequence_of_both<A: DaySeq, B: DaySeq>(
     one: &A,
     other: &B,
 ) -> Result<Folded, Fault>
-    requires cycle { lcm (A.sketch one.now).period (B.sketch other.now).period ≤ 16_777_216 }
-    requires one_near { ((A.sketch one.now).settled +ℤ pos (lcm (A.sketch one.now).period (B.sketch other.now).period)) ≤ℤ pos 1_000_000_000 }
-    requires other_near { ((B.sketch other.now).settled +ℤ pos (lcm (A.sketch one.now).period (B.sketch other.now).period)) ≤ℤ pos 1_000_000_000 }
+    requires cycle { lcm (A.sketch one.now).period (B.sketch other.now).period ≤ MAX_CYCLE_DAYS }
+    requires one_near { ((A.sketch one.now).settled +ℤ pos (lcm (A.sketch one.now).period (B.sketch other.now).period)) ≤ℤ latest_near }
+    requires other_near { ((B.sketch other.now).settled +ℤ pos (lcm (A.sketch one.now).period (B.sketch other.now).period)) ≤ℤ latest_near }
     requires first { (d : ℤ) → IsDaySet kind (times_on (A.sketch one.now) d) }
     requires second { (d : ℤ) → IsDaySet kind (times_on (B.sketch other.now) d) }
     ensures kind { IfOk result (λ f. (sketch f).kind ≡ kind) }
@@ -285,8 +286,8 @@ fn is_one_kind(kind: Kind, other: Kind) -> bool
 
 // What is made of a set and itself: the same set, or nothing.
 fn with_itself<A: DaySeq>(alloc: Global, op: Op, one: &A) -> Result<Folded, Fault>
-    requires cycle { (A.sketch one.now).period ≤ 16_777_216 }
-    requires near { ((A.sketch one.now).settled +ℤ pos (A.sketch one.now).period) ≤ℤ pos 1_000_000_000 }
+    requires cycle { (A.sketch one.now).period ≤ MAX_CYCLE_DAYS }
+    requires near { ((A.sketch one.now).settled +ℤ pos (A.sketch one.now).period) ≤ℤ latest_near }
     ensures stands { IfOk result (λ c. StandsFor (sketch c) (combined op (StandsIn (A.sketch one.now)) (StandsIn (A.sketch one.now)))) }
     ensures refused { RefusedExactlyWhere (HasTooManyMade op (A.sketch one.now) (A.sketch one.now)) TooManyMoments result }
 {
@@ -296,10 +297,10 @@ fn with_itself<A: DaySeq>(alloc: Global, op: Op, one: &A) -> Result<Folded, Faul
 // The union of two sets of different kinds: the one that is not empty.
 fn union_apart<A: DaySeq, B: DaySeq>(alloc: Global, one: &A, other: &B) -> Result<Folded, Fault>
     requires apart { (A.sketch one.now).kind ≢ (B.sketch other.now).kind }
-    requires cycle { (A.sketch one.now).period ≤ 16_777_216 }
-    requires near { ((A.sketch one.now).settled +ℤ pos (A.sketch one.now).period) ≤ℤ pos 1_000_000_000 }
-    requires other_cycle { (B.sketch other.now).period ≤ 16_777_216 }
-    requires other_near { ((B.sketch other.now).settled +ℤ pos (B.sketch other.now).period) ≤ℤ pos 1_000_000_000 }
+    requires cycle { (A.sketch one.now).period ≤ MAX_CYCLE_DAYS }
+    requires near { ((A.sketch one.now).settled +ℤ pos (A.sketch one.now).period) ≤ℤ latest_near }
+    requires other_cycle { (B.sketch other.now).period ≤ MAX_CYCLE_DAYS }
+    requires other_near { ((B.sketch other.now).settled +ℤ pos (B.sketch other.now).period) ≤ℤ latest_near }
     ensures stands { IfOk result (λ c. StandsFor (sketch c) (combined Op.Union (StandsIn (A.sketch one.now)) (StandsIn (B.sketch other.now)))) }
     ensures judged { IsCombinedJudged MixedSets TooManyMoments Op.Union (A.sketch one.now) (B.sketch other.now) result }
 {
@@ -326,9 +327,9 @@ pub fn combine<A: DaySeq, B: DaySeq>(
     one: &A,
     other: &B,
 ) -> Result<Combined, Fault>
-    requires cycle { lcm (A.sketch one.now).period (B.sketch other.now).period ≤ 16_777_216 }
-    requires one_near { ((A.sketch one.now).settled +ℤ pos (lcm (A.sketch one.now).period (B.sketch other.now).period)) ≤ℤ pos 1_000_000_000 }
-    requires other_near { ((B.sketch other.now).settled +ℤ pos (lcm (A.sketch one.now).period (B.sketch other.now).period)) ≤ℤ pos 1_000_000_000 }
+    requires cycle { lcm (A.sketch one.now).period (B.sketch other.now).period ≤ MAX_CYCLE_DAYS }
+    requires one_near { ((A.sketch one.now).settled +ℤ pos (lcm (A.sketch one.now).period (B.sketch other.now).period)) ≤ℤ latest_near }
+    requires other_near { ((B.sketch other.now).settled +ℤ pos (lcm (A.sketch one.now).period (B.sketch other.now).period)) ≤ℤ latest_near }
     ensures stands { IfOk result (λ c. StandsFor (sketch c) (combined op (StandsIn (A.sketch one.now)) (StandsIn (B.sketch other.now)))) }
     ensures judged { IsCombinedJudged MixedSets TooManyMoments op (A.sketch one.now) (B.sketch other.now) result }
 {

@@ -1,5 +1,6 @@
 // The days that a descriptor states, as a sequence.
-ghost use Rattle.std.specs.Prelude.{◌≡◌, ◌↔◌, ◌≤◌, ◌-◌, ◌++◌, ◌+ℤ◌, ◌≤ℤ◌, IfOk, IsTrue, OnOk, length, neg_ℤ, replicate, pos};
+ghost use Rattle.std.specs.Prelude.{◌≡◌, ◌↔◌, ◌≤◌, ◌-◌, ◌++◌, ◌+ℤ◌, ◌≤ℤ◌, IfOk, IsTrue, OnOk, length, replicate, pos};
+ghost use Rattle.rr_model.specs.Bounds.{first_day_of_all};
 ghost use Rattle.rr_days.specs.Sequence.{sketch};
 ghost use Rattle.rr_algebra.specs.Found.{IsReadDay, run_in};
 ghost use Rattle.rr_algebra.specs.Parts.{ending_in, parts_in};
@@ -9,12 +10,9 @@ use crate::dense::numbers_of;
 use crate::parts::{EndingRead, PartsRead};
 use crate::runs::Run;
 use rr_days::{Folded, sequence_of_numbers};
-use rr_model::{Fault, Kind, MAX_CYCLE_DAYS, NoMemory, Refusal};
+use rr_model::{FIRST_DAY, Fault, Kind, MAX_CYCLE_DAYS, NoMemory, Refusal};
 use rr_shapes::Shapes;
 use std::alloc::Global;
-
-// Day number of 0001-01-01.
-const FIRST_DAY: i64 = -719_162;
 
 /// The last day that is read.
 pub const LAST_DAY: i64 = 40_000_000;
@@ -28,7 +26,7 @@ pub fn is_read_day(day: i64) -> bool
 
 // How many days lie from one day to another.
 fn days_between(from: i64, to: i64) -> usize
-    requires from { neg_ℤ (pos 719_162) ≤ℤ from }
+    requires from { first_day_of_all ≤ℤ from }
     requires to { to ≤ℤ pos 40_000_000 }
     requires order { from ≤ℤ to }
     ensures { to ≡ from +ℤ pos result }

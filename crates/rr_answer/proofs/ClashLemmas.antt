@@ -10,6 +10,7 @@ use Rattle.rr_model.specs.declared.kind.Kind.TheVariants.{Days, Moments}
 use Rattle.rr_model.specs.declared.refusal.Refusal.TheVariants.{CycleTooLong}
 use Rattle.rr_model.specs.declared.sketch.Sketch.{Sketch}
 use Rattle.rr_model.specs.declared.verdict.Side.TheVariants.{Both}
+use Rattle.rr_model.specs.declared.limits.TheConstants.{MAX_CYCLE_DAYS}
 use Rattle.rr_model.proofs.WholeLemmas.{floor_mod_below, floor_whole}
 use Rattle.rr_model.proofs.YearLemmas.{from_year_one}
 use Rattle.rr_overlap.specs.Running.{IsClashVerdict, NamesUpToMaxDay}
@@ -41,14 +42,14 @@ module _ (s u : Subject) (of_s of_u : Sketch) (fold : IsFoldOf s of_s) (fold' : 
         is_said = is ∙ ap (λ (x : Kind). clash_said x l clash) (ek ∙ fold.kind) ∙ ap (λ (x : Kind). clash_said (kind_of s) x clash) (el ∙ fold'.kind);
       }
 
-  pub clash_of_both : (d e : ℕ) (answer : Answer) → lcm of_s.period of_u.period ≤ 16_777_216 → IsClashSaid d e s u answer
+  pub clash_of_both : (d e : ℕ) (answer : Answer) → lcm of_s.period of_u.period ≤ MAX_CYCLE_DAYS → IsClashSaid d e s u answer
       → IsSaidOfBoth (AskClash d e) s u answer
   clash_of_both d e answer few h =
       let early : IsTooLate (AskClash d e) (lcm of_s.period of_u.period) → ⊥ = λ late. omega (arith, late, few) in
       inr (subst (λ (days : ℕ). IsTooLate (AskClash d e) days → ⊥) (periods s u of_s of_u fold fold') early, h)
 
   pub clash_too_late :
-      (d e : ℕ) (answer : Answer) → (lcm of_s.period of_u.period ≤ 16_777_216 → ⊥) → answer ≡ refused Both CycleTooLong
+      (d e : ℕ) (answer : Answer) → (lcm of_s.period of_u.period ≤ MAX_CYCLE_DAYS → ⊥) → answer ≡ refused Both CycleTooLong
       → IsSaidOfBoth (AskClash d e) s u answer
   clash_too_late d e answer many is =
       let late : IsTooLate (AskClash d e) (lcm of_s.period of_u.period) =

@@ -1,11 +1,12 @@
 -- The parts that are kept make the least sketch.
-use Rattle.std.proofs.Common.{◌≡◌, ℕ, ◌<◌, true, false, cond, List, [], ◌∷◌, ◌++◌, length, ℤ, pos, neg_ℤ, ◌+ℤ◌, ◌-ℤ◌, ◌≤ℤ◌, inl, refl, sym, ap, subst, ◌∙◌}
+use Rattle.std.proofs.Common.{◌≡◌, ℕ, ◌<◌, true, false, cond, List, [], ◌∷◌, ◌++◌, length, ℤ, pos, ◌+ℤ◌, ◌-ℤ◌, ◌≤ℤ◌, inl, refl, sym, ap, subst, ◌∙◌}
 use Rattle.std.proofs.Common.{arith}
 use Rattle.std.specs.Prelude.{Option, Some, None, IfSome, int_lt}
 use Rattle.std.specs.List.{All}
 use Rattle.std.proofs.lemmas.Int.{ints}
 use Rattle.std.proofs.lemmas.List.Elements.{All-nil}
 use Rattle.std.proofs.lemmas.Option.{slice_get-get_or}
+use Rattle.rr_model.specs.Bounds.{earliest_near}
 use Rattle.rr_model.specs.Moment.{day_part, second_part}
 use Rattle.rr_model.specs.Sets.Sketch.{HasRisingDays, IsDaySequence, IsEmptySketch, IsFirstDay, IsTimeSet, StandsIn, times_in, times_on}
 use Rattle.rr_model.specs.Sets.Verdict.{HaveEqualOccurrences}
@@ -87,7 +88,7 @@ rises_lower : (low' low high : ℤ) (ss : List DayShape) → low' ≤ℤ low →
 rises_lower low' low high [] l r = tt
 rises_lower low' low high (s ∷ ss) l r = let a = r.0 in (omega (arith, ints), r.1, r.2)
 
-bounded_of : (u : Sketch) → IsDaySequence u → HasRisingDays (neg_ℤ (pos 1_000_000_000)) u.settled u.before → IsBounded u
+bounded_of : (u : Sketch) → IsDaySequence u → HasRisingDays earliest_near u.settled u.before → IsBounded u
 bounded_of u b rises = record {
   some = b.valid.period;
   few = b.period;
@@ -156,7 +157,7 @@ module _ (s : Sketch) (first : ℤ) (n : ℕ) (p : ℕ) (sets sets' : List (List
       let near = bounded.first first is_first in
       let u = sketch_from s first n p in
       let of_u = bounded_of u (sketch_from_bounded s bounded first n p is_first least start)
-      (rises_lower (neg_ℤ (pos 1_000_000_000)) first (first +ℤ pos n) (occupied s first n) near.0 (occupied_rises s bounded.valid first n)) in
+      (rises_lower earliest_near first (first +ℤ pos n) (occupied s first n) near.0 (occupied_rises s bounded.valid first n)) in
       record {
         bounded = subst IsBounded sketch_is_from of_u;
         first_is = subst (λ z. IsFirstDay z (Some first)) sketch_is_from (sketch_from_first s bounded first n p is_first least start);

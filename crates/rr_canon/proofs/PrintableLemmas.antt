@@ -5,6 +5,7 @@ use Rattle.std.specs.Prelude.{codes}
 use Rattle.std.specs.List.{All, list_any}
 use Rattle.std.proofs.lemmas.Int.{ints}
 use Rattle.std.proofs.lemmas.List.Elements.{All-nil, All-cons, All-head, All-tail, All-append, All-from_recursion}
+use Rattle.rr_model.specs.Bounds.{longest_period}
 use Rattle.rr_model.specs.Moment.Years.{IsFromYearOne}
 use Rattle.rr_model.specs.Rising.Sets.{IsSecondsOfDay}
 use Rattle.rr_model.specs.Sets.Sketch.{HasRisingDays, IsValidSketch, IsNearDay, IsTimeSet, StandsIn, times_in, times_on}
@@ -181,7 +182,7 @@ module _ (s : Sketch) (d : IsDescribable s) where
       let c = d.bounded.period in
       rising_fair s.settled (s.settled +ℤ pos s.period) s.cycle (omega (arith, ints)) (omega (arith, ints)) valid.cycle
 
-  few_cycle : length s.cycle ≤ 1_000_000_000
+  few_cycle : length s.cycle ≤ longest_period
   few_cycle =
       let c = d.bounded.period in
       let few = rising_few s.settled (s.settled +ℤ pos s.period) s.cycle s.period valid.cycle (omega (arith, ints)) in
@@ -255,7 +256,7 @@ module _ (s : Sketch) (d : IsDescribable s) where
   fair_settled : IsFairDay s.settled
   fair_settled = let a = d.bounded.settled.0 in let b = d.bounded.settled.1 in (omega (arith, ints), omega (arith, ints))
 
-  ending_printed : (cs : List DayShape) → IsFromYearOne s.settled → length cs ≤ 1_000_000_000 → All (λ x. IsFairDay x.day) cs
+  ending_printed : (cs : List DayShape) → IsFromYearOne s.settled → length cs ≤ longest_period → All (λ x. IsFairDay x.day) cs
       → All (λ x. IsKnown (sets_of s) x.times) cs → IsPrintedIfSome (ending_of s cs)
   ending_printed [] from few fair known = tt
   ending_printed (c ∷ cs) from few fair known = record {

@@ -1,5 +1,6 @@
 // The least sketch of a set, as a sequence of days.
 ghost use Rattle.std.specs.Prelude.{◌≡◌, ◌≤◌, IfOk, Option, pos, ◌+ℤ◌, ◌-ℤ◌, ◌≤ℤ◌};
+ghost use Rattle.rr_model.specs.Bounds.{longest_period};
 ghost use Rattle.rr_model.specs.Sets.Sketch.{IsFirstDay, IsNearDay, StandsIn};
 ghost use Rattle.rr_model.specs.Sets.Verdict.{HaveEqualOccurrences};
 ghost use Rattle.rr_model.specs.Whole.{floor_mod};
@@ -116,7 +117,7 @@ impl LeastSeq {
 fn day_in_cycle(settled: i64, period: u64, day: i64) -> i64
     requires settled { IsNearDay settled }
     requires some { 1 ≤ period }
-    requires few { period ≤ 1_000_000_000 }
+    requires few { period ≤ longest_period }
     requires from { settled ≤ℤ day }
     requires high { day ≤ℤ pos 3_000_000_000_000 }
     ensures { result ≡ settled +ℤ pos (floor_mod (day -ℤ settled) period) }

@@ -1,5 +1,6 @@
 // The occupied days of a stretch, with the numbers of their time sets.
 ghost use Rattle.std.specs.Prelude.{◌≡◌, ◌<◌, ◌≤◌, IfOk, IfSome, OnOk, ◌++◌, ◌∷◌, None, Some, ℕ, [], drop, get_or, slice_get, length, neg_ℤ, pos, ◌+ℤ◌, ◌≤ℤ◌};
+ghost use Rattle.rr_model.specs.Bounds.{earliest_near};
 ghost use Rattle.rr_model.specs.Rising.Sets.{IsSecondsOfDay};
 ghost use Rattle.rr_model.specs.Sets.Sketch.{IsNearDay, times_on};
 ghost use Rattle.rr_word.specs.Stretches.{AreFree, IsNumberOn, IsStretch};
@@ -150,7 +151,7 @@ fn count_empty(numbers: &[u32], empty: Option<u32>) -> usize
 
 // How many days from one on, of at most `most`, are known at once to be free, where the numbers of the first ones may have been read.
 fn free_ahead<A: DaySeq>(seq: &A, day: i64, most: u64, rest: &[u32], empty: Option<u32>) -> u64
-    requires low { neg_ℤ (pos 1_000_000_000) ≤ℤ day }
+    requires low { earliest_near ≤ℤ day }
     requires end { (day +ℤ pos most) ≤ℤ pos 2_000_000_000 }
     requires rest { AreNumbersFrom (A.sets seq.now) (A.sketch seq.now) day rest.now }
     requires empty { IfSome empty (IsEmptyOne (A.sets seq.now)) }

@@ -13,6 +13,7 @@ use Rattle.rr_model.specs.Series.Cycle.{endless_cycle, rules_cycle}
 use Rattle.rr_model.specs.declared.rule.End.{End}
 use Rattle.rr_model.specs.declared.rule.End.TheVariants.{Never, Until, Count, Both}
 use Rattle.rr_model.specs.declared.rule.Rule.{Rule}
+use Rattle.rr_model.specs.declared.limits.TheConstants.{MAX_CYCLE_DAYS}
 use Rattle.rr_num.proofs.DivisorLemmas.{lcm_is, lcm_some}
 use Rattle.rr_check.proofs.RuleCycleLemmas.{interval_cycle_some}
 
@@ -92,14 +93,14 @@ joined-first n rule rules h valid =
 
 -- ---- two lists of rules
 
-over : (n : ℕ) → (n ≤ 16_777_216 → ⊥) → 16_777_216 < n
+over : (n : ℕ) → (n ≤ MAX_CYCLE_DAYS → ⊥) → MAX_CYCLE_DAYS < n
 over n h = elim (cases_lt 16_777_216 n) [ inl l ↦ l | inr g ↦ absurd (h (omega (arith, g))) ]
 
 -- a cycle that is too long makes the whole too long
-pub over_first : (a b : ℕ) → 1 ≤ a → 1 ≤ b → (a ≤ 16_777_216 → ⊥) → 16_777_216 < lcm a b
+pub over_first : (a b : ℕ) → 1 ≤ a → 1 ≤ b → (a ≤ MAX_CYCLE_DAYS → ⊥) → MAX_CYCLE_DAYS < lcm a b
 over_first a b ha hb h = omega (arith, over a h, (lcm_above a b ha hb).0)
 
-pub over_second : (a b : ℕ) → 1 ≤ a → 1 ≤ b → (b ≤ 16_777_216 → ⊥) → 16_777_216 < lcm a b
+pub over_second : (a b : ℕ) → 1 ≤ a → 1 ≤ b → (b ≤ MAX_CYCLE_DAYS → ⊥) → MAX_CYCLE_DAYS < lcm a b
 over_second a b ha hb h = omega (arith, over b h, (lcm_above a b ha hb).1)
 
 -- the rules of a series have intervals from 1

@@ -1,10 +1,11 @@
 -- The sketch of folded days is a day sequence.
-use Rattle.std.proofs.Common.{◌≡◌, ◌≢◌, ℕ, zero, suc, ◌+◌, ◌-◌, ◌%◌, ◌<◌, ◌≤◌, List, [], ◌∷◌, length, get_or, take, drop, All, ℤ, pos, nat_abs, neg_ℤ, ◌+ℤ◌}
+use Rattle.std.proofs.Common.{◌≡◌, ◌≢◌, ℕ, zero, suc, ◌+◌, ◌-◌, ◌%◌, ◌<◌, ◌≤◌, List, [], ◌∷◌, length, get_or, take, drop, All, ℤ, pos, nat_abs, ◌+ℤ◌}
 use Rattle.std.proofs.Common.{◌-ℤ◌, ◌≤ℤ◌, ◌<ℤ◌, refl, sym, ap, subst, ◌∙◌, inl, inr, arith}
 use Rattle.std.specs.Prelude.{Option, Some, None}
 use Rattle.std.proofs.lemmas.Int.{ints, by_lt_z}
 use Rattle.std.proofs.lemmas.Bool.{cases_lt}
 use Rattle.std.proofs.lemmas.List.{length-take-le}
+use Rattle.rr_model.specs.Bounds.{earliest_near}
 use Rattle.rr_model.specs.Sets.Sketch.{HasRisingDays, IsTimeSet, IsNearDay, IsFirstDay, times_on}
 use Rattle.rr_model.specs.declared.kind.Kind.{Kind}
 use Rattle.rr_model.specs.declared.sketch.DayShape.{DayShape}
@@ -148,7 +149,7 @@ module _ (kind : Kind) (sets : List (List ℕ)) (numbers : List ℕ) (first sett
         some = w.some;
         few = w.few;
         settled = (omega (arith, ints, w.low, w.order), omega (arith, ints, w.high));
-        before = rising_from (neg_ℤ (pos 1_000_000_000)) first settled (shapes_from sets first (take days numbers)) (omega (arith, ints, w.low))
+        before = rising_from earliest_near first settled (shapes_from sets first (take days numbers)) (omega (arith, ints, w.low))
             (shapes_rise sets (take days numbers) first settled (omega (arith, ints, t, from_first)));
         cycle = shapes_rise sets (drop days numbers) settled (settled +ℤ pos period) (omega (arith, ints, u, w.whole));
         before_times = shapes_all (λ x. IsTimeSet kind x.times) sets (take days numbers) first

@@ -1,5 +1,6 @@
 // Days, each by the number of its time set, as a sequence that repeats.
 ghost use Rattle.std.specs.Prelude.{◌≡◌, ◌<◌, ◌≤◌, ◌+◌, ◌++◌, ◌%◌, [], All, IfOk, drop, get_or, length, min, nat_abs, take, pos, neg_ℤ, ◌+ℤ◌, ◌-ℤ◌, ◌≤ℤ◌};
+ghost use Rattle.rr_model.specs.Bounds.{earliest_near, latest_near, longest_period};
 ghost use Rattle.rr_model.specs.Sets.Sketch.{IsFirstDay};
 ghost use Rattle.rr_runs.specs.Runs.{IsFarDay};
 ghost use Rattle.rr_word.specs.Bounded.{IsBounded, IsBounded-prop, IsFirstDay-prop};
@@ -34,7 +35,7 @@ pub struct Folded {
     ghost empty: { HasEmptyFirst shapes },
     ghost before_within: { AreWithin shapes before },
     ghost cycle_within: { AreWithin shapes cycle },
-    ghost before_rises: { AreRising (neg_ℤ (pos 1_000_000_000)) before } by { AreRising-prop (neg_ℤ (pos 1_000_000_000)) before },
+    ghost before_rises: { AreRising earliest_near before } by { AreRising-prop earliest_near before },
     ghost cycle_rises: { AreRising settled cycle } by { AreRising-prop settled cycle },
 }
 
@@ -146,8 +147,8 @@ fn first_occupied(
     shapes: &Shapes,
     first: i64,
 ) -> Option<i64>
-    requires low { neg_ℤ (pos 1_000_000_000) ≤ℤ first }
-    requires high { first ≤ℤ pos 1_000_000_000 }
+    requires low { earliest_near ≤ℤ first }
+    requires high { first ≤ℤ latest_near }
     requires skipped { skipped ≤ length row.now }
     requires within { All (λ n. n < length shapes.now) (before.now ++ drop skipped row.now) }
     ensures { IsFirstFilled shapes.now (before.now ++ drop skipped row.now) first result }
@@ -282,9 +283,9 @@ fn days_between(from: i64, to: i64) -> usize
 
 // The day so many days after another.
 fn day_after(day: i64, days: usize) -> i64
-    requires low { neg_ℤ (pos 1_000_000_000) ≤ℤ day }
-    requires high { day ≤ℤ pos 1_000_000_000 }
-    requires few { days ≤ 1_000_000_000 }
+    requires low { earliest_near ≤ℤ day }
+    requires high { day ≤ℤ latest_near }
+    requires few { days ≤ longest_period }
     ensures { result ≡ day +ℤ pos days }
 {
     day + days as i64

@@ -1,5 +1,6 @@
 // A walk over the days of two sequences.
 ghost use Rattle.std.specs.Prelude.{◌≡◌, ◌<◌, ◌≤◌, [], IfSome, IfNone, MatchOption, Some, length, slice_get, pos, neg_ℤ, ◌+ℤ◌, ◌≤ℤ◌};
+ghost use Rattle.rr_model.specs.Bounds.{earliest_near};
 ghost use Rattle.rr_model.specs.Sets.Sketch.{IsNearDay, StandsIn};
 ghost use Rattle.rr_word.specs.Stretches.{AreFree, IsNumberOn};
 ghost use Rattle.rr_decide.specs.Look.{IsFirstOn, IsLook};
@@ -67,7 +68,7 @@ fn look_from<A: DaySeq, B: DaySeq>(
     most: u64,
     quiet: &mut Quiet,
 ) -> Look
-    requires low { neg_ℤ (pos 1_000_000_000) ≤ℤ day }
+    requires low { earliest_near ≤ℤ day }
     requires high { day ≤ℤ pos 6_000_000_000 }
     requires some { 1 ≤ most }
     requires few { most ≤ 5_000_000_000 }

@@ -30,7 +30,7 @@ pub fn equal<A: DaySeq, B: DaySeq>(a: &A, b: &B) -> Verdict
 /// It reads the days from the first occupied day of both to that many days past the later settled day.
 /// It takes no memory.
 pub fn within<A: DaySeq, B: DaySeq>(a: &A, b: &B) -> Verdict
-    requires { lcm (A.sketch a.now).period (B.sketch b.now).period ≤ 16_777_216 }
+    requires { lcm (A.sketch a.now).period (B.sketch b.now).period ≤ MAX_CYCLE_DAYS }
     ensures verdict { IsWithinVerdict (StandsIn (A.sketch a.now)) (StandsIn (B.sketch b.now)) result }
     ensures day { NamesUpToMaxDay result }
 {
@@ -44,7 +44,7 @@ pub fn within<A: DaySeq, B: DaySeq>(a: &A, b: &B) -> Verdict
 /// It reads the days from the first occupied day of both to that many days past the later settled day.
 /// It takes no memory.
 pub fn disjoint<A: DaySeq, B: DaySeq>(a: &A, b: &B) -> Verdict
-    requires { lcm (A.sketch a.now).period (B.sketch b.now).period ≤ 16_777_216 }
+    requires { lcm (A.sketch a.now).period (B.sketch b.now).period ≤ MAX_CYCLE_DAYS }
     ensures verdict { IsDisjointVerdict (StandsIn (A.sketch a.now)) (StandsIn (B.sketch b.now)) result }
     ensures day { NamesUpToMaxDay result }
 {
@@ -71,7 +71,7 @@ pub(crate) fn equal_days(p: u64, r: u64) -> u64
 fn common_cycle(p: u64, r: u64) -> u64
     requires first { 1 ≤ p }
     requires second { 1 ≤ r }
-    requires few { lcm p r ≤ 16_777_216 }
+    requires few { lcm p r ≤ MAX_CYCLE_DAYS }
     ensures { result ≡ lcm p r }
 {
     lcm_within(p, r, MAX_CYCLE_DAYS).unwrap()

@@ -1,5 +1,6 @@
 // Equality of two sequences whatever their common cycle is, by days that are read in counted steps.
-ghost use Rattle.std.specs.Prelude.{◌≡◌, ◌⊎◌, ◌+◌, ◌-◌, ◌*◌, ◌<◌, ◌≤◌, ℕ, [], IfSome, IfNone, IsTrue, MatchOption, Some, get_or, length, slice_get, pos, neg_ℤ, ◌+ℤ◌, ◌≤ℤ◌};
+ghost use Rattle.std.specs.Prelude.{◌≡◌, ◌⊎◌, ◌+◌, ◌-◌, ◌*◌, ◌<◌, ◌≤◌, ℕ, [], IfSome, IfNone, IsTrue, MatchOption, Some, get_or, length, slice_get, pos, ◌+ℤ◌, ◌≤ℤ◌};
+ghost use Rattle.rr_model.specs.Bounds.{earliest_near};
 ghost use Rattle.rr_model.specs.Sets.Sketch.{IsEmptySketch, IsNearDay, StandsIn};
 ghost use Rattle.rr_model.specs.Sets.Verdict.{IsEqualVerdict};
 ghost use Rattle.rr_word.specs.Stretches.{AreNumbersAfter, IsNumberOn};
@@ -177,7 +178,7 @@ fn compare_from<A: DaySeq + Drop, B: DaySeq + Drop, L: Ledger>(
     alike: AlikeNumbers,
     steps: &mut Steps<L>,
 ) -> Run
-    requires low { neg_ℤ (pos 1_000_000_000) ≤ℤ day }
+    requires low { earliest_near ≤ℤ day }
     requires high { day ≤ℤ pos 6_000_000_000 }
     requires some { 1 ≤ most }
     requires few_days { most ≤ 5_000_000_000 }
@@ -210,7 +211,7 @@ fn compare_row<A: DaySeq + Drop, B: DaySeq + Drop, L: Ledger>(
     alike: AlikeNumbers,
     steps: &mut Steps<L>,
 ) -> Run
-    requires low { neg_ℤ (pos 1_000_000_000) ≤ℤ day }
+    requires low { earliest_near ≤ℤ day }
     requires high { day ≤ℤ pos 6_000_000_000 }
     requires some { 1 ≤ most }
     requires few_days { most ≤ 5_000_000_000 }
@@ -235,7 +236,7 @@ fn compare_later<A: DaySeq + Drop, B: DaySeq + Drop, L: Ledger>(
     alike: AlikeNumbers,
     steps: &mut Steps<L>,
 ) -> Run
-    requires low { neg_ℤ (pos 1_000_000_000) ≤ℤ day }
+    requires low { earliest_near ≤ℤ day }
     requires high { day ≤ℤ pos 6_000_000_000 }
     requires some { 1 ≤ most }
     requires few_days { most ≤ 5_000_000_000 }
@@ -269,7 +270,7 @@ fn compare_numbers<A: DaySeq + Drop, B: DaySeq + Drop>(
     of_b: &[u32],
     alike: AlikeNumbers,
 ) -> Comparison
-    requires low { neg_ℤ (pos 1_000_000_000) ≤ℤ day }
+    requires low { earliest_near ≤ℤ day }
     requires high { day ≤ℤ pos 6_000_000_000 }
     requires few_days { length of_a.now ≤ 5_000_000_000 }
     requires one_length { length of_a.now ≡ length of_b.now }
@@ -305,7 +306,7 @@ fn compare_places<A: DaySeq + Drop, B: DaySeq + Drop>(
     to: usize,
     alike: AlikeNumbers,
 ) -> Comparison
-    requires low { neg_ℤ (pos 1_000_000_000) ≤ℤ day }
+    requires low { earliest_near ≤ℤ day }
     requires high { day ≤ℤ pos 6_000_000_000 }
     requires few_days { to ≤ 5_000_000_000 }
     requires order { from ≤ to }

@@ -14,6 +14,7 @@ use Rattle.rr_model.specs.Series.Cycle.{rules_cycle, series_cycle}
 use Rattle.rr_model.specs.Whole.Divisors.{gcd_within, gcd, lcm}
 use Rattle.rr_model.specs.declared.rule.Freq.{Freq}
 use Rattle.rr_model.specs.declared.rule.Freq.TheVariants.{Secondly, Minutely, Hourly, Daily, Weekly, Monthly, Yearly}
+use Rattle.rr_model.specs.declared.limits.TheConstants.{MAX_CYCLE_DAYS}
 use Rattle.rr_drill.specs.Cycles.{cycles, is_drawn_cycle}
 use Rattle.rr_drill.specs.Draws.{next_state, draw, draw_below, intervals, drawn_freq, series_from}
 
@@ -34,7 +35,7 @@ listed test (x ∷ xs) n all e = elim (x == n) as (λ b. (x == n) ≡ b → (b |
 all_short : list_all (λ n. nat_le n 16_777_216) cycles ≡ true
 all_short = refl
 
-pub cycle_short : (n : ℕ) → is_drawn_cycle n ≡ true → n ≤ 16_777_216
+pub cycle_short : (n : ℕ) → is_drawn_cycle n ≡ true → n ≤ MAX_CYCLE_DAYS
 unfolding is_drawn_cycle
 cycle_short n e = let t : nat_le n 16_777_216 ≡ true = listed (λ m. nat_le m 16_777_216) cycles n all_short e in grind (arith, nat_tests, t)
 
@@ -64,7 +65,7 @@ each_some = refl
 cycle_some : (n : ℕ) → list_any (λ m. m == n) cycles ≡ true → 1 ≤ n
 cycle_some n e = let t : nat_lt 0 n ≡ true = listed (λ m. nat_lt 0 m) cycles n each_some e in grind (arith, nat_tests, t)
 
-lcm_within : (a b n : ℕ) → 1 ≤ a → 1 ≤ b → is_within n ≡ true → is_multiple a b n ≡ true → lcm a b ≤ 16_777_216
+lcm_within : (a b n : ℕ) → 1 ≤ a → 1 ≤ b → is_within n ≡ true → is_multiple a b n ≡ true → lcm a b ≤ MAX_CYCLE_DAYS
 lcm_within a b n f g within multiple =
     let w = both (nat_lt 0 n) (nat_le n 16_777_216) within in
     let m = both (n % a == 0) (n % b == 0) multiple in
@@ -74,17 +75,17 @@ lcm_within a b n f g within multiple =
     let of_b : n % b ≡ 0 = grind (arith, nat_tests, m.1) in
     omega (arith, le_of_dvd some ((lcm_is a b f g).2 n (dvd_of_mod-eq-zero a of_a) (dvd_of_mod-eq-zero b of_b)), few)
 
-some_within : (a b : ℕ) (ns : List ℕ) → 1 ≤ a → 1 ≤ b → list_all is_within ns ≡ true → list_any (is_multiple a b) ns ≡ true → lcm a b ≤ 16_777_216
+some_within : (a b : ℕ) (ns : List ℕ) → 1 ≤ a → 1 ≤ b → list_all is_within ns ≡ true → list_any (is_multiple a b) ns ≡ true → lcm a b ≤ MAX_CYCLE_DAYS
 some_within a b [] f g all e = absurd (false≢true e)
 some_within a b (n ∷ ns) f g all e =
     let w = both (is_within n) (list_all is_within ns) all in
-    elim (is_multiple a b n) as (λ c. is_multiple a b n ≡ c → (c || list_any (is_multiple a b) ns) ≡ true → lcm a b ≤ 16_777_216) [
+    elim (is_multiple a b n) as (λ c. is_multiple a b n ≡ c → (c || list_any (is_multiple a b) ns) ≡ true → lcm a b ≤ MAX_CYCLE_DAYS) [
       | true ↦ λ h u. lcm_within a b n f g w.0 h
       | false ↦ λ h u. some_within a b ns f g w.1 u
     ] refl e
 
 -- the greatest is 110 times 400 years
-pub common_short : (a b : ℕ) → is_drawn_cycle a ≡ true → is_drawn_cycle b ≡ true → lcm a b ≤ 16_777_216
+pub common_short : (a b : ℕ) → is_drawn_cycle a ≡ true → is_drawn_cycle b ≡ true → lcm a b ≤ MAX_CYCLE_DAYS
 unfolding is_drawn_cycle
 common_short a b d e =
     let row = listed (λ m. list_all (λ n. have_multiple m n) cycles) cycles a each_have_multiple d in

@@ -12,6 +12,7 @@ use Rattle.rr_model.specs.Sets.Tree.{Tree, IsOfKind, stands_at}
 use Rattle.rr_model.specs.declared.kind.Kind.TheVariants.{Days}
 use Rattle.rr_model.specs.declared.refusal.Refusal.{Refusal}
 use Rattle.rr_model.specs.declared.rule.Rule.{Rule}
+use Rattle.rr_model.specs.declared.limits.TheConstants.{MAX_CYCLE_DAYS}
 use Rattle.rr_drill.specs.Draws.{drawn_start, series_from}
 use Rattle.rr_drill.proofs.CycleLemmas.{cycle_short, series_cycle_drawn}
 use Rattle.rr_drill.proofs.SeriesLemmas.{drawn_sound}
@@ -56,7 +57,7 @@ few_moments tree end kind many =
 
 -- ---- the limits
 
-cycle_within : (x : ℕ) → series_cycle (series_from x) ≤ 16_777_216
+cycle_within : (x : ℕ) → series_cycle (series_from x) ≤ MAX_CYCLE_DAYS
 cycle_within x = cycle_short _ (series_cycle_drawn x)
 
 none_counted : (x : ℕ) → IsCountedTooFar (series_from x) → ⊥

@@ -1,5 +1,6 @@
 -- What walks over the days of a set find, and how far they reach.
 use Rattle.std.specs.Prelude.{◌≡◌, ℕ, ◌≤◌, Bool, true, false, ⊤, Option, Some, None, ℤ, pos, ◌+ℤ◌, ◌≤ℤ◌, ◌<ℤ◌}
+use Rattle.rr_model.specs.Bounds.{longest_period}
 use Rattle.rr_family.specs.DaySets.{IsOneSecond}
 use Rattle.rr_family.specs.Lasting.{at_second, is_occupied}
 use Rattle.rr_family.specs.declared.window.Window.{Window}
@@ -26,7 +27,7 @@ IsSecondOf s first (Some second) = IsOneSecond s s.kind second first
 -- the last day of a finite set is near, and a period is at most 1,000,000,000
 abbrev pub IsNearEnd : WindowEnd → Type 0
 IsNearEnd (Last day many) = IsNearDay day
-IsNearEnd (Cycle period start) = (1 ≤ period) × (period ≤ 1_000_000_000)
+IsNearEnd (Cycle period start) = (1 ≤ period) × (period ≤ longest_period)
 
 -- the day, if there is one, lies within 3,000,000,000,000
 abbrev pub IsNearNext : Option ℤ → Type 0

@@ -10,7 +10,7 @@ ghost use Rattle.rr_model.specs.Sets.Least.{IsEndless};
 ghost use Rattle.rr_model.specs.Sets.Sketch.{IsFirstDay, IsNearDay, times_on};
 ghost use Rattle.rr_model.specs.Whole.Count.{count_from};
 
-use rr_model::Kind;
+use rr_model::{FIRST_DAY, Kind};
 use rr_word::{DaySeq, least_period, least_start};
 
 /// Where a set ends, or how it repeats.
@@ -83,7 +83,7 @@ pub fn is_occupied<A: DaySeq>(seq: &A, day: i64) -> bool
 fn is_in_years(day: i64) -> bool
     ensures { result ≡ has_four_digit_year day }
 {
-    day >= -719_162 && day < 2_932_897
+    day >= FIRST_DAY && day < 2_932_897
 }
 
 // The second that each occupied day has alone, if there is one.

@@ -1,8 +1,9 @@
 -- What the folded days of a series meet, and how the series is judged by them.
-use Rattle.std.proofs.Common.{◌≡◌, ℕ, ◌<◌, ◌≤◌, List, length, get_or, ℤ, pos, neg_ℤ, ◌+ℤ◌, ◌≤ℤ◌, refl, ap, subst, inl, inr, arith}
+use Rattle.std.proofs.Common.{◌≡◌, ℕ, ◌<◌, ◌≤◌, List, length, get_or, ℤ, pos, ◌+ℤ◌, ◌≤ℤ◌, refl, ap, subst, inl, inr, arith}
 use Rattle.std.specs.Prelude.{Some, Result, Ok, Err}
 use Rattle.std.proofs.lemmas.Int.{ints}
 use Rattle.std.proofs.lemmas.List.{get_or_default}
+use Rattle.rr_model.specs.Bounds.{first_day_of_all}
 use Rattle.rr_model.specs.Answers.{RefusedExactlyWhere}
 use Rattle.rr_model.specs.Moment.{day_part}
 use Rattle.rr_model.specs.Series.Cycle.{rules_cycle, series_cycle}
@@ -15,6 +16,7 @@ use Rattle.rr_model.specs.declared.refusal.Fault.{Fault}
 use Rattle.rr_model.specs.declared.refusal.Fault.TheVariants.{Refused, NoMemory}
 use Rattle.rr_model.specs.declared.refusal.Refusal.TheVariants.{CountedTooFar, TooManyMoments}
 use Rattle.rr_model.specs.declared.rule.Series.{Series}
+use Rattle.rr_model.specs.declared.limits.TheConstants.{MAX_CYCLE_DAYS}
 use Rattle.rr_model.proofs.YearLemmas.{four_digit_bounds}
 use Rattle.rr_num.proofs.DivisorLemmas.{lcm_some}
 use Rattle.rr_check.proofs.SeriesCycleLemmas.{have_intervals, rules_cycle_some}
@@ -27,7 +29,7 @@ use Rattle.rr_fold.proofs.KindLemmas.{is_time_set, stands_second, tree_of_kind}
 
 pub whole_fold : (series : Series) (sets : List (List ℕ)) (numbers : List ℕ) (first settled end : ℤ) (period : ℕ) → IsSound series → IsSettledDay series settled
     → IsFoldedTo (tree_of series) first end sets numbers → end ≡ first +ℤ pos (length numbers) → end ≡ settled +ℤ pos period
-    → 1 ≤ period → period ≤ 16_777_216 → neg_ℤ (pos 719_162) ≤ℤ first → first ≤ℤ day_part series.kind series.start → settled ≤ℤ pos 20_000_000
+    → 1 ≤ period → period ≤ MAX_CYCLE_DAYS → first_day_of_all ≤ℤ first → first ≤ℤ day_part series.kind series.start → settled ≤ℤ pos 20_000_000
     → IsWholeFold series.kind sets numbers first settled period
 whole_fold series sets numbers first settled end period sound settled_is folded whole end_is some few low order high =
     let late = settled_is.past.start in
@@ -51,14 +53,14 @@ cycle_some series sound =
     lcm_some (rules_cycle series.rules) (rules_cycle series.excluded) given out
 
 -- the settled day lies after 0001-01-01, and the first day before it
-pub settled_low : (series : Series) (settled : ℤ) → IsSound series → IsSettledDay series settled → neg_ℤ (pos 719_162) ≤ℤ settled
+pub settled_low : (series : Series) (settled : ℤ) → IsSound series → IsSettledDay series settled → first_day_of_all ≤ℤ settled
 settled_low series settled sound is =
     let b = four_digit_bounds (day_part series.kind series.start) sound.valid.start in
     omega (arith, ints, b.0, is.past.start)
 
 -- ---- how the series is judged
 
-module _ (series : Series) (few : series_cycle series ≤ 16_777_216) where
+module _ (series : Series) (few : series_cycle series ≤ MAX_CYCLE_DAYS) where
   within_cycle : IsCycleOver all_limits series → ⊥
   within_cycle over = omega (arith, few, over.1)
 

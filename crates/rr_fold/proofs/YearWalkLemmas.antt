@@ -9,6 +9,7 @@ use Rattle.std.proofs.lemmas.Grind.{get_or-set_at}
 use Rattle.std.proofs.lemmas.Int.{clamps, ints}
 use Rattle.std.proofs.lemmas.List.{get_or-set_other, length-set}
 use Rattle.std.proofs.lemmas.Option.{get_or_from_slice_get, slice_get-get_or, slice_get_within}
+use Rattle.rr_model.specs.Bounds.{first_day_of_all}
 use Rattle.rr_model.proofs.CalendarLemmas.{IsInYear-year_of, days_in_year_bounds, first_day_of_year_bounds, first_day_of_year-next}
 use Rattle.rr_model.proofs.RisingSetLemmas.{set_same}
 use Rattle.rr_model.specs.Calendar.{days_in_year, first_day_of_year, year_of}
@@ -152,7 +153,7 @@ kept_within rule period first year days place count kept l =
 -- ---- how far years reach
 
 -- a year whose first day is near enough is near enough itself
-pub year_reached : (year : ℤ) → neg_ℤ (pos 719_162) ≤ℤ first_day_of_year year → first_day_of_year year ≤ℤ pos 40_000_366
+pub year_reached : (year : ℤ) → first_day_of_all ≤ℤ first_day_of_year year → first_day_of_year year ≤ℤ pos 40_000_366
     → (neg_ℤ (pos 1_000_000) ≤ℤ year) × (year ≤ℤ pos 1_000_000)
 year_reached year low high = let b = first_day_of_year_bounds year in (omega (arith, ints, low, b.1), omega (arith, ints, high, b.0))
 
@@ -185,7 +186,7 @@ year_fits year (low, high) = search rules
 
 -- the lesser of a day n days on and the end, as it is stored
 pub least_step : (from end end' to more : ℤ) (days : ℕ) → to ≡ int_min (to_z w64 (of_z w64 (from +ℤ to_z w64 (of_z w64 more)))) end' → more ≡ pos days
-    → days ≤ 366 → end' ≡ end → neg_ℤ (pos 719_162) ≤ℤ from → from ≤ℤ end → end ≤ℤ pos 40_000_000
+    → days ≤ 366 → end' ≡ end → first_day_of_all ≤ℤ from → from ≤ℤ end → end ≤ℤ pos 40_000_000
     → to_z w64 (of_z w64 to) ≡ int_min (from +ℤ pos days) end'
 least_step from end end' to more days is m few e low within high =
     let more_back : to_z w64 (of_z w64 more) ≡ pos days = back more (omega (arith, ints, m)) (omega (arith, ints, m, few)) ∙ m in
@@ -195,7 +196,7 @@ least_step from end end' to more days is m few e low within high =
     back to (omega (arith, ints, clamps, least, e, low, within)) (omega (arith, ints, clamps, least, e, high)) ∙ least
 
 -- the year after that of a day, as it is stored
-pub next_year : (first year : ℤ) → neg_ℤ (pos 719_162) ≤ℤ first → first ≤ℤ pos 40_000_000 → year ≡ year_of first
+pub next_year : (first year : ℤ) → first_day_of_all ≤ℤ first → first ≤ℤ pos 40_000_000 → year ≡ year_of first
     → FitsSigned w64 (to_z w64 (of_z w64 year) +ℤ pos 1) × (to_z w64 (of_z w64 (to_z w64 (of_z w64 year) +ℤ pos 1)) ≡ year_of first +ℤ pos 1)
 next_year first year low high is =
     let a = year_after first in
@@ -205,8 +206,8 @@ next_year first year low high is =
     rw own (fits, to_z-of_z fits)
 
 -- the lesser of a day and the end, as it is stored
-pub least_first : (day end end' from : ℤ) → from ≡ int_min (to_z w64 (of_z w64 day)) end' → end' ≡ end → neg_ℤ (pos 719_162) ≤ℤ day → day ≤ℤ pos 40_000_366
-    → neg_ℤ (pos 719_162) ≤ℤ end → end ≤ℤ pos 40_000_000 → to_z w64 (of_z w64 from) ≡ int_min day end'
+pub least_first : (day end end' from : ℤ) → from ≡ int_min (to_z w64 (of_z w64 day)) end' → end' ≡ end → first_day_of_all ≤ℤ day → day ≤ℤ pos 40_000_366
+    → first_day_of_all ≤ℤ end → end ≤ℤ pos 40_000_000 → to_z w64 (of_z w64 from) ≡ int_min day end'
 least_first day end end' from is e low high above below =
     let d : to_z w64 (of_z w64 day) ≡ day = back day (omega (arith, ints, low)) (omega (arith, ints, high)) in
     let least : from ≡ int_min day end' = rw d at is in

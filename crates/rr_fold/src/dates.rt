@@ -1,5 +1,6 @@
 // The days of dates, and days with free ones before them.
-ghost use Rattle.std.specs.Prelude.{◌≡◌, ◌++◌, ◌≤◌, ◌≤ℤ◌, ◌<ℤ◌, ◌+ℤ◌, All, IfOk, OnOk, if◌then◌else◌, int_le, int_lt, length, neg_ℤ, pos, replicate};
+ghost use Rattle.std.specs.Prelude.{◌≡◌, ◌++◌, ◌≤◌, ◌≤ℤ◌, ◌<ℤ◌, ◌+ℤ◌, All, IfOk, OnOk, if◌then◌else◌, int_le, int_lt, length, pos, replicate};
+ghost use Rattle.rr_model.specs.Bounds.{first_day_of_all};
 ghost use Rattle.rr_model.specs.Moment.{day_part};
 ghost use Rattle.rr_model.specs.Moment.Years.{IsInYears};
 ghost use Rattle.rr_model.specs.Rising.{with_value};
@@ -23,7 +24,7 @@ pub fn days_of_dates(
     end: i64,
 ) -> Result<FoldedDays, Fault>
     requires in_years { All (IsInYears kind) dates.now }
-    requires low { neg_ℤ (pos 719_162) ≤ℤ first }
+    requires low { first_day_of_all ≤ℤ first }
     requires order { first <ℤ end }
     requires high { end ≤ℤ pos 40_000_000 }
     ensures folded { IfOk result (λ days. IsFoldedTo (dates_of kind (dates_from kind first dates.now)) first end days.shapes days.numbers) }

@@ -1,5 +1,6 @@
 // The days of a series, folded into numbers of time sets.
 ghost use Rattle.std.specs.Prelude.{◌≡◌, ◌+◌, ◌≤◌, IfOk, OnOk, List, ℕ, length, pos, neg_ℤ, ◌≤ℤ◌, ◌<ℤ◌, ◌+ℤ◌};
+ghost use Rattle.rr_model.specs.Bounds.{first_day_of_all};
 ghost use Rattle.rr_model.specs.Answers.{RefusedExactlyWhere};
 ghost use Rattle.rr_model.specs.Series.Limits.{HasTooManyMoments};
 ghost use Rattle.rr_model.specs.Series.Tree.{tree_of};
@@ -35,7 +36,7 @@ pub fn folded_days(
     first: i64,
     end: i64,
 ) -> Result<FoldedDays, Fault>
-    requires low { neg_ℤ (pos 719_162) ≤ℤ first }
+    requires low { first_day_of_all ≤ℤ first }
     requires order { first <ℤ end }
     requires high { end ≤ℤ pos 40_000_000 }
     requires early { HasNoneBefore (tree_of series.now) first }
@@ -53,7 +54,7 @@ pub fn folded_days(
 
 // The days, each walked.
 fn walked(alloc: Global, series: &Checked, first: i64, end: i64) -> Result<FoldedDays, Fault>
-    requires low { neg_ℤ (pos 719_162) ≤ℤ first }
+    requires low { first_day_of_all ≤ℤ first }
     requires order { first <ℤ end }
     requires high { end ≤ℤ pos 40_000_000 }
     requires early { HasNoneBefore (tree_of series.now) first }
@@ -72,7 +73,7 @@ pub(crate) fn collected<L: Lazy + Drop>(
     first: i64,
     end: i64,
 ) -> Result<FoldedDays, Fault>
-    requires low { neg_ℤ (pos 719_162) ≤ℤ first }
+    requires low { first_day_of_all ≤ℤ first }
     requires order { first <ℤ end }
     requires high { end ≤ℤ pos 40_000_000 }
     requires unasked { IsUnasked (L.position lazy) }

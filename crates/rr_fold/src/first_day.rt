@@ -1,5 +1,6 @@
 // The first day of a series.
-ghost use Rattle.std.specs.Prelude.{◌≤ℤ◌, neg_ℤ, pos};
+ghost use Rattle.std.specs.Prelude.{◌≤ℤ◌};
+ghost use Rattle.rr_model.specs.Bounds.{first_day_of_all};
 ghost use Rattle.rr_model.specs.Moment.{day_part};
 ghost use Rattle.rr_model.specs.Series.Soundness.{IsSound};
 ghost use Rattle.rr_model.specs.Series.Tree.{tree_of};
@@ -11,7 +12,7 @@ use rr_model::{Series, day_part};
 pub fn first_day(series: &Series) -> i64
     requires { IsSound series.now }
     ensures early { HasNoneBefore (tree_of series.now) result }
-    ensures low { neg_ℤ (pos 719_162) ≤ℤ result }
+    ensures low { first_day_of_all ≤ℤ result }
     ensures order { result ≤ℤ day_part series.now.kind series.now.start }
 {
     let day = day_part(series.kind, series.start);

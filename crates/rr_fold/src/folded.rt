@@ -7,6 +7,7 @@ ghost use Rattle.rr_model.specs.Series.Occurrences.{Occurs};
 ghost use Rattle.rr_model.specs.Series.Settled.{IsSettledDay};
 ghost use Rattle.rr_model.specs.Sets.Sketch.{StandsFor};
 ghost use Rattle.rr_model.specs.declared.refusal.Refusal.TheVariants.{TooManyMoments};
+ghost use Rattle.rr_model.specs.declared.limits.TheConstants.{MAX_CYCLE_DAYS};
 ghost use Rattle.rr_fold.specs.Judged.{IsJudged};
 
 use crate::fill::folded_days;
@@ -31,7 +32,7 @@ use std::alloc::Global;
 /// whole days that leave no unit out, and of rules of hours, minutes or seconds, whose years also differ by the place of their
 /// first day in the rule's period. The others are copied.
 pub fn fold(alloc: Global, series: &Checked) -> Result<Folded, Fault>
-    requires few { series_cycle series.now ≤ 16_777_216 }
+    requires few { series_cycle series.now ≤ MAX_CYCLE_DAYS }
     ensures stands { IfOk result (λ f. StandsFor (⟦<Folded as DaySeq>⟧.sketch f) (Occurs series.now)) }
     ensures kind { IfOk result (λ f. (⟦<Folded as DaySeq>⟧.sketch f).kind ≡ series.now.kind) }
     ensures settled { IfOk result (λ f. IsSettledDay series.now (⟦<Folded as DaySeq>⟧.sketch f).settled) }
@@ -47,7 +48,7 @@ pub fn fold(alloc: Global, series: &Checked) -> Result<Folded, Fault>
 
 // The series folded up to a cycle past its settled day.
 fn folded_to(alloc: Global, series: &Checked, settled: i64) -> Result<Folded, Fault>
-    requires few { series_cycle series.now ≤ 16_777_216 }
+    requires few { series_cycle series.now ≤ MAX_CYCLE_DAYS }
     requires settled { IsSettledDay series.now settled }
     requires high { settled ≤ℤ pos 20_000_000 }
     ensures stands { IfOk result (λ f. StandsFor (⟦<Folded as DaySeq>⟧.sketch f) (Occurs series.now)) }

@@ -1,5 +1,6 @@
 // The days of a series, rule by rule.
-ghost use Rattle.std.specs.Prelude.{◌≡◌, ◌≢◌, ◌<ℤ◌, ◌≤ℤ◌, ◌+ℤ◌, [], All, IfOk, length, neg_ℤ, pos, true};
+ghost use Rattle.std.specs.Prelude.{◌≡◌, ◌≢◌, ◌<ℤ◌, ◌≤ℤ◌, ◌+ℤ◌, [], All, IfOk, length, pos, true};
+ghost use Rattle.rr_model.specs.Bounds.{first_day_of_all};
 ghost use Rattle.rr_model.specs.Moment.{day_part};
 ghost use Rattle.rr_model.specs.Moment.Years.{IsInYears};
 ghost use Rattle.rr_model.specs.Rule.Validity.{IsValidRule};
@@ -27,7 +28,7 @@ const MANY_DAYS: i64 = 200_000;
 /// among them; and it has many days, or no dates and either one rule alone or endless rules alone. Any other series goes day by day.
 pub fn goes_by_rules(series: &Series, first: i64, end: i64) -> bool
     requires sound { IsSound series.now }
-    requires low { neg_ℤ (pos 719_162) ≤ℤ first }
+    requires low { first_day_of_all ≤ℤ first }
     requires order { first <ℤ end }
     requires high { end ≤ℤ pos 40_000_000 }
     ensures { result ≡ true → HasRules series.now first end }
@@ -37,7 +38,7 @@ pub fn goes_by_rules(series: &Series, first: i64, end: i64) -> bool
 
 // Whether so many days are folded, or such a series, that it takes less time rule by rule.
 fn pays(series: &Series, first: i64, end: i64) -> bool
-    requires low { neg_ℤ (pos 719_162) ≤ℤ first }
+    requires low { first_day_of_all ≤ℤ first }
     requires order { first <ℤ end }
     requires high { end ≤ℤ pos 40_000_000 }
 {
@@ -95,7 +96,7 @@ pub fn days_by_rules(
     end: i64,
 ) -> Result<FoldedDays, Fault>
     requires rules { HasRules series.now first end }
-    requires low { neg_ℤ (pos 719_162) ≤ℤ first }
+    requires low { first_day_of_all ≤ℤ first }
     requires high { end ≤ℤ pos 40_000_000 }
     requires early { HasNoneBefore (tree_of series.now) first }
     ensures folded { IfOk result (λ days. IsFoldedTo (tree_of series.now) first end days.shapes days.numbers) }
@@ -114,7 +115,7 @@ pub fn days_by_rules(
 fn kept_days(alloc: Global, series: &Series, first: i64, end: i64) -> Result<FoldedDays, Fault>
     requires sound { IsSound series.now }
     requires rules { HasRules series.now first end }
-    requires low { neg_ℤ (pos 719_162) ≤ℤ first }
+    requires low { first_day_of_all ≤ℤ first }
     requires high { end ≤ℤ pos 40_000_000 }
     ensures folded { IfOk result (λ days. IsFoldedTo (kept_from series.now first) first end days.shapes days.numbers) }
     ensures whole { IfOk result (λ days. end ≡ first +ℤ pos (length days.numbers)) }
@@ -132,7 +133,7 @@ fn kept_days(alloc: Global, series: &Series, first: i64, end: i64) -> Result<Fol
 fn given_days(alloc: Global, series: &Series, first: i64, end: i64) -> Result<FoldedDays, Fault>
     requires sound { IsSound series.now }
     requires rules { HasRules series.now first end }
-    requires low { neg_ℤ (pos 719_162) ≤ℤ first }
+    requires low { first_day_of_all ≤ℤ first }
     requires high { end ≤ℤ pos 40_000_000 }
     ensures folded { IfOk result (λ days. IsFoldedTo (given_from series.now first) first end days.shapes days.numbers) }
     ensures whole { IfOk result (λ days. end ≡ first +ℤ pos (length days.numbers)) }
@@ -158,7 +159,7 @@ fn days_of_rules(
     requires some { rules.now ≢ [] }
     requires sound { All (IsSoundRule kind start) rules.now }
     requires in_years { IsInYears kind start }
-    requires low { neg_ℤ (pos 719_162) ≤ℤ first }
+    requires low { first_day_of_all ≤ℤ first }
     requires begun { first ≤ℤ day_part kind start }
     requires order { day_part kind start <ℤ end }
     requires high { end ≤ℤ pos 40_000_000 }

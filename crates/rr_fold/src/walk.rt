@@ -1,5 +1,6 @@
 // The days of an iterator, folded up to its position.
-ghost use Rattle.std.specs.Prelude.{◌≡◌, ◌+◌, ◌≤◌, IfOk, OnOk, length, pos, neg_ℤ, ◌≤ℤ◌, ◌<ℤ◌, ◌+ℤ◌};
+ghost use Rattle.std.specs.Prelude.{◌≡◌, ◌+◌, ◌≤◌, IfOk, OnOk, length, pos, ◌≤ℤ◌, ◌<ℤ◌, ◌+ℤ◌};
+ghost use Rattle.rr_model.specs.Bounds.{earliest_day, first_day_of_all, latest_day};
 ghost use Rattle.rr_model.specs.Answers.{RefusedExactlyWhere};
 ghost use Rattle.rr_model.specs.Series.Limits.{HasTooManyMoments};
 ghost use Rattle.rr_model.specs.declared.refusal.Refusal.TheVariants.{TooManyMoments};
@@ -44,7 +45,7 @@ impl Walk {
         first: i64,
         end: i64,
     ) -> Result<(), Fault>
-        requires low { neg_ℤ (pos 719_162) ≤ℤ first }
+        requires low { first_day_of_all ≤ℤ first }
         requires order { first <ℤ end }
         requires high { end ≤ℤ pos 40_000_000 }
         requires position { L.position lazy.old ≤ℤ end }
@@ -84,10 +85,10 @@ fn fill<L: Lazy>(
     shapes: &mut Shapes,
     numbers: &mut Pages,
 ) -> Result<(), Fault>
-    requires low { neg_ℤ (pos 2_999_999_999_000) ≤ℤ to }
-    requires high { to ≤ℤ pos 2_999_999_999_000 }
+    requires low { earliest_day ≤ℤ to }
+    requires high { to ≤ℤ latest_day }
     requires first { first ≤ℤ to }
-    requires begun { neg_ℤ (pos 2_999_999_999_000) ≤ℤ first }
+    requires begun { earliest_day ≤ℤ first }
     requires position { L.position lazy.old ≤ℤ (to +ℤ pos 1) }
     requires knows { L.knows lazy.old numbering.old.sets }
     requires known { IsKnown numbering.old.sets shapes.old numbering.old.known.items }

@@ -1,5 +1,6 @@
 // The days of a rule whose years repeat.
-ghost use Rattle.std.specs.Prelude.{◌≡◌, ◌+◌, ◌*◌, ◌%◌, ◌<◌, ◌≤◌, ◌<ℤ◌, ◌≤ℤ◌, ◌+ℤ◌, IfOk, IfSome, OnOk, length, pos, neg_ℤ, true, false, ℤ};
+ghost use Rattle.std.specs.Prelude.{◌≡◌, ◌+◌, ◌*◌, ◌%◌, ◌<◌, ◌≤◌, ◌<ℤ◌, ◌≤ℤ◌, ◌+ℤ◌, IfOk, IfSome, OnOk, length, pos, true, false, ℤ};
+ghost use Rattle.rr_model.specs.Bounds.{first_day_of_all};
 ghost use Rattle.rr_expand.specs.Years.{mask_key};
 ghost use Rattle.rr_model.specs.Calendar.{IsDayWithin, first_day_of_year};
 ghost use Rattle.rr_model.specs.Moment.{day_part};
@@ -128,7 +129,7 @@ fn walk_by_years(
     first: i64,
     end: i64,
 ) -> Result<(), Fault>
-    requires low { neg_ℤ (pos 719_162) ≤ℤ first }
+    requires low { first_day_of_all ≤ℤ first }
     requires order { first <ℤ end }
     requires high { end ≤ℤ pos 40_000_000 }
     requires some { 1 ≤ period }
@@ -195,7 +196,7 @@ impl KeptYears {
     ) -> Result<(), Fault>
         requires some { 1 ≤ self.old.period }
         requires few { self.old.period ≤ 1_000 }
-        requires low { neg_ℤ (pos 719_162) ≤ℤ first }
+        requires low { first_day_of_all ≤ℤ first }
         requires high { to ≤ℤ pos 40_000_000 }
         requires year { IsYearUpTo first year to }
         requires equal { HasEqualYears rule.now self.old.period (⟦<RuleLazy as Lazy>⟧.tree lazy.old) first }

@@ -1,10 +1,11 @@
 -- Numbers of occurrences in a tree that repeats after a day.
-use Rattle.std.proofs.Common.{◌≡◌, ℕ, zero, suc, ◌+◌, ◌*◌, ◌-◌, ◌/◌, ◌<◌, ◌≤◌, Bool, ℤ, pos, nat_abs, ◌+ℤ◌, ◌-ℤ◌, neg_ℤ, ◌≤ℤ◌, ◌<ℤ◌, refl, ap}
+use Rattle.std.proofs.Common.{◌≡◌, ℕ, zero, suc, ◌+◌, ◌*◌, ◌-◌, ◌/◌, ◌<◌, ◌≤◌, Bool, ℤ, pos, nat_abs, ◌+ℤ◌, ◌-ℤ◌, ◌≤ℤ◌, ◌<ℤ◌, refl, ap}
 use Rattle.std.proofs.Common.{inl, inr, arith}
 use Rattle.std.proofs.lemmas.Int.{ints, by_lt_z}
 use Rattle.std.proofs.lemmas.Bool.{cases_lt}
 use Rattle.std.proofs.Math.Nat.{div-mul-le_self, le-div_iff_mul-le, div-lt_iff_lt-mul}
 use Rattle.std.proofs.lemmas.Nat.Gcd.{dvd_refl}
+use Rattle.rr_model.specs.Bounds.{first_day_of_all}
 use Rattle.rr_model.specs.Calendar.{first_day_of_year}
 use Rattle.rr_model.specs.Moment.{day_part}
 use Rattle.rr_model.specs.Moment.Years.{IsFromYearOne}
@@ -13,6 +14,7 @@ use Rattle.rr_model.specs.Sets.Counting.{count_days}
 use Rattle.rr_model.specs.Sets.Tree.{Tree, chosen_of, stands_at}
 use Rattle.rr_model.specs.declared.kind.Kind.{Kind}
 use Rattle.rr_model.specs.declared.rule.Rule.{Rule}
+use Rattle.rr_model.specs.declared.limits.TheConstants.{MAX_SPAN_DAYS}
 use Rattle.rr_model.proofs.YearLemmas.{four_digit_bounds}
 use Rattle.rr_model.proofs.CountLemmas.{count_seconds-le}
 use Rattle.rr_check.proofs.SeriesCycleLemmas.{rule_cycle_some}
@@ -130,7 +132,7 @@ module _ (kind : Kind) (start : ℤ) (rule : Rule) (sound : IsSoundRule kind sta
   pub start_begun : IsFromYearOne (day_part kind start)
   start_begun = sound.in_years.0
 
-  pub start_bounds : (neg_ℤ (pos 719_162) ≤ℤ day_part kind start) × (day_part kind start ≤ℤ pos 2_932_896)
+  pub start_bounds : (first_day_of_all ≤ℤ day_part kind start) × (day_part kind start ≤ℤ pos 2_932_896)
   start_bounds = four_digit_bounds (day_part kind start) sound.in_years
 
   pub repeats : (d : ℤ) (s : ℕ) → (day_part kind start +ℤ pos 1) ≤ℤ d
@@ -167,7 +169,7 @@ module _ (kind : Kind) (start : ℤ) (rule : Rule) (sound : IsSoundRule kind sta
           number_moved (chosen_of rule kind start) (day_part kind start) (rule_cycle rule) each start_begun repeats one
           cycles days (cycles * each) count left refl refl counted (passed_less left each some)
 
-      pub rule_number_beyond : (rest : ℕ) → days ≤ 16_777_216 → 1 ≤ rest
+      pub rule_number_beyond : (rest : ℕ) → days ≤ MAX_SPAN_DAYS → 1 ≤ rest
           → before_day (chosen_of rule kind start) ((day_part kind start +ℤ (pos 16_777_216 -ℤ pos days)) +ℤ pos 1) + rest ≡ count - cycles * each
           → before_day (chosen_of rule kind start) (day_part kind start +ℤ pos 16_777_217) < count
       rule_number_beyond rest within =
@@ -176,7 +178,7 @@ module _ (kind : Kind) (start : ℤ) (rule : Rule) (sound : IsSoundRule kind sta
           (day_part kind start +ℤ (pos 16_777_216 -ℤ pos days)) (day_part kind start +ℤ pos 16_777_217)
           rest (omega (arith, ints, within)) (omega (arith, ints))
 
-      pub rule_number_after : 16_777_216 < days → before_day (chosen_of rule kind start) (day_part kind start +ℤ pos 16_777_217) < count
+      pub rule_number_after : MAX_SPAN_DAYS < days → before_day (chosen_of rule kind start) (day_part kind start +ℤ pos 16_777_217) < count
       rule_number_after far =
           number_after (chosen_of rule kind start) (day_part kind start) (rule_cycle rule) each start_begun repeats one
           cycles days (cycles * each) count left refl refl counted (passed_less left each some)

@@ -1,5 +1,5 @@
 -- The settled day, gathered from the start, the dates and the rules.
-use Rattle.std.proofs.Common.{◌≡◌, ℕ, ◌+◌, ◌-◌, ◌<◌, ◌≤◌, List, length, get_or, All, ℤ, pos, neg_ℤ, ◌+ℤ◌, ◌≤ℤ◌, ◌<ℤ◌, sym, ap, subst, ◌∙◌, inl, inr, arith}
+use Rattle.std.proofs.Common.{◌≡◌, ℕ, ◌+◌, ◌-◌, ◌<◌, ◌≤◌, List, length, get_or, All, ℤ, pos, ◌+ℤ◌, ◌≤ℤ◌, ◌<ℤ◌, sym, ap, subst, ◌∙◌, inl, inr, arith}
 use Rattle.std.specs.Prelude.{Err, Some, int_lt}
 use Rattle.std.specs.Int.{int_max}
 use Rattle.std.proofs.lemmas.Int.{ints, clamps}
@@ -7,6 +7,7 @@ use Rattle.std.proofs.lemmas.Bool.{cases_lt}
 use Rattle.std.proofs.lemmas.List.{get_or_default}
 use Rattle.std.specs.List.{slice_get}
 use Rattle.std.proofs.lemmas.Option.{get_or_from_slice_get}
+use Rattle.rr_model.specs.Bounds.{first_day_of_all}
 use Rattle.rr_model.specs.Rising.{Rises}
 use Rattle.rr_lazy.proofs.StretchLemmas.{day_mono}
 use Rattle.rr_model.specs.Answers.{RefusedExactlyWhere}
@@ -140,7 +141,7 @@ module _ (series : Series) (sound : IsSound series) (day plus dates : ℤ) (e : 
     (late2 : plus ≤ℤ dates) (past2 : LieBefore series.kind (dates +ℤ pos 1) series.minus)
     (least2 : (settled : ℤ) → plus <ℤ settled → LieBefore series.kind settled series.minus → dates <ℤ settled) where
   -- the days of the dates are those of years 1 to 9999
-  pub dates_near : (neg_ℤ (pos 719_162) ≤ℤ dates) × (day_part series.kind series.start ≤ℤ dates) × (dates ≤ℤ pos 19_710_112)
+  pub dates_near : (first_day_of_all ≤ℤ dates) × (day_part series.kind series.start ≤ℤ dates) × (dates ≤ℤ pos 19_710_112)
   dates_near =
       let start = sound.valid.start in
       let end : ℤ = first_day_of_year (pos 10_000) in

@@ -1,5 +1,6 @@
 // The last day of a rule that ends.
 ghost use Rattle.std.specs.Prelude.{◌≡◌, ◌≤◌, ◌≤ℤ◌, IfOk, List, ℕ, pos};
+ghost use Rattle.rr_model.specs.Bounds.{latest_day};
 ghost use Rattle.rr_model.specs.Answers.{RefusedExactlyWhere};
 ghost use Rattle.rr_model.specs.Moment.{day_part};
 ghost use Rattle.rr_model.specs.Moment.Years.{IsFromYearOne};
@@ -35,7 +36,7 @@ pub(crate) fn last_day(alloc: Global, rule: &Rule, kind: Kind, start: i64) -> Re
 fn last_member(alloc: Global, rule: &Rule, kind: Kind, start: i64, to: i64) -> Result<i64, NoMemory>
     requires sound { IsSoundRule kind start rule.now }
     requires low { IsFromYearOne to }
-    requires high { to ≤ℤ pos 2_999_999_999_000 }
+    requires high { to ≤ℤ latest_day }
     ensures { IfOk result (IsLastUpTo (members_of kind start rule.now) (day_part kind start) to) }
 {
     let members = EndedLazy::new(alloc, rule, kind, start)?;
@@ -53,7 +54,7 @@ fn last_occupied<A: Lazy + Drop>(
     requires knows { (sets : List (List ℕ)) → A.knows lazy sets }
     requires given { IsFromYearOne given }
     requires low { IsFromYearOne to }
-    requires high { to ≤ℤ pos 2_999_999_999_000 }
+    requires high { to ≤ℤ latest_day }
     ensures { IfOk result (IsLastUpTo (A.tree lazy) given to) }
 {
     let mut sets = SetTable::new(alloc);

@@ -1,5 +1,6 @@
 // Where the chosen moment of a number lies.
-ghost use Rattle.std.specs.Prelude.{◌≡◌, ◌≤◌, ◌≤ℤ◌, IfOk, List, ℕ, pos};
+ghost use Rattle.std.specs.Prelude.{◌≡◌, ◌≤◌, ◌≤ℤ◌, IfOk, List, ℕ};
+ghost use Rattle.rr_model.specs.Bounds.{latest_day};
 ghost use Rattle.rr_model.specs.Moment.Years.{IsFromYearOne};
 ghost use Rattle.rr_model.specs.Sets.Tree.{chosen_of};
 ghost use Rattle.rr_lazy.specs.Next.{IsUnasked};
@@ -34,7 +35,7 @@ pub fn day_of_nth(
     requires sound { IsSoundRule kind start rule.now }
     requires some { 1 ≤ number }
     requires low { IsFromYearOne to }
-    requires high { to ≤ℤ pos 2_999_999_999_000 }
+    requires high { to ≤ℤ latest_day }
     ensures { IfOk result (IsPlaceOf (chosen_of rule.now kind start) number to) }
 {
     let chosen = RuleLazy::new(alloc, rule, kind, start)?;
@@ -53,7 +54,7 @@ pub fn place_of<A: Lazy + Drop>(
     requires knows { (sets : List (List ℕ)) → A.knows lazy sets }
     requires some { 1 ≤ number }
     requires low { IsFromYearOne to }
-    requires high { to ≤ℤ pos 2_999_999_999_000 }
+    requires high { to ≤ℤ latest_day }
     ensures { IfOk result (IsPlaceOf (A.tree lazy) number to) }
 {
     let mut sets = SetTable::new(alloc);

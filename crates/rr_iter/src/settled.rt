@@ -1,5 +1,6 @@
 // The settled day of a series.
-ghost use Rattle.std.specs.Prelude.{◌≡◌, ◌+ℤ◌, ◌≤ℤ◌, ◌<ℤ◌, ℤ, All, IfOk, int_lt, neg_ℤ, pos};
+ghost use Rattle.std.specs.Prelude.{◌≡◌, ◌+ℤ◌, ◌≤ℤ◌, ◌<ℤ◌, ℤ, All, IfOk, int_lt, pos};
+ghost use Rattle.rr_model.specs.Bounds.{first_day_of_all};
 ghost use Rattle.rr_iter.specs.Ends.{IsLastOfRules, IsSoundRule};
 ghost use Rattle.rr_model.specs.Moment.{day_part};
 ghost use Rattle.rr_model.specs.Answers.{RefusedExactlyWhere};
@@ -19,7 +20,7 @@ use std::alloc::Global;
 /// `CountedTooFar` exactly where a rule with a COUNT has fewer members than it counts up to `MAX_SPAN_DAYS` days after the start's day.
 pub fn ends(alloc: Global, series: &Checked) -> Result<i64, Fault>
     ensures settled { IfOk result (IsSettledDay series.now) }
-    ensures near { IfOk result (λ day. (neg_ℤ (pos 719_162) <ℤ day) × (day ≤ℤ pos 19_710_113)) }
+    ensures near { IfOk result (λ day. (first_day_of_all <ℤ day) × (day ≤ℤ pos 19_710_113)) }
     ensures refused { RefusedExactlyWhere (IsCountedTooFar series.now) CountedTooFar result }
 {
     let given = series.series();
@@ -57,7 +58,7 @@ fn last_of_rules(
     day: i64,
 ) -> Result<i64, Fault>
     requires sound { All (IsSoundRule kind start) rules.now }
-    requires low { neg_ℤ (pos 719_162) ≤ℤ day }
+    requires low { first_day_of_all ≤ℤ day }
     requires late { day_part kind start ≤ℤ day }
     requires near { day ≤ℤ pos 19_710_112 }
     ensures last { IfOk result (IsLastOfRules kind start rules.now day) }

@@ -6,6 +6,7 @@ use Rattle.std.proofs.lemmas.Int.{ints, by_lt_z}
 use Rattle.std.specs.Option.{ForSome, ForNone}
 use Rattle.std.proofs.lemmas.Bool.{false≢true}
 use Rattle.std.proofs.Math.Seq.{take-length}
+use Rattle.rr_model.specs.Bounds.{first_day_of_all, latest_day}
 use Rattle.rr_model.proofs.RisingSetLemmas.{set_itself, set_same, Contains-head, Contains-none}
 use Rattle.rr_model.specs.Rising.Sets.{IsSetOf}
 use Rattle.rr_model.specs.Calendar.{first_day_of_year}
@@ -180,7 +181,7 @@ side_given t own from d q (Some f) left k l some none (inr w) e =
     below d x l n = by_lt_z {P = (d +ℤ pos 1) ≤ℤ x} d x (λ m. omega (arith, ints, m)) (λ g. absurd (n (omega (arith, ints, l, g))))
 
 -- a day that is given, and the day after it, are numbers of the code
-pub day_fits : (from day to : ℤ) → negsuc 719_161 ≤ℤ from → from ≤ℤ day → day ≤ℤ to → to ≤ℤ pos 2_999_999_999_000
+pub day_fits : (from day to : ℤ) → first_day_of_all ≤ℤ from → from ≤ℤ day → day ≤ℤ to → to ≤ℤ latest_day
     → (to_z w64 (of_z w64 day) ≡ day) × (to_z w64 (of_z w64 (day +ℤ pos 1)) ≡ day +ℤ pos 1)
 day_fits from day to a b c d = (omega (arith, ints, a, b, c, d), omega (arith, ints, a, b, c, d))
 
@@ -225,7 +226,7 @@ module _ (sets : List (List ℕ)) (t u : Tree) (own_t own_u from d to : ℤ) (a 
       late t u own_t own_u from d to (seen sets a) (seen sets b) ka.known kb.known first (before own_t a na) (before own_u b nb)
 
   -- the day is not before the position, and is a number of the code, as is the day after it
-  pub union_day : first_day_of_year (pos 1) ≤ℤ from → to ≤ℤ pos 2_999_999_999_000
+  pub union_day : first_day_of_year (pos 1) ≤ℤ from → to ≤ℤ latest_day
       → (from ≤ℤ d) × (to_z w64 (of_z w64 d) ≡ d) × (to_z w64 (of_z w64 (to_z w64 (of_z w64 d) +ℤ pos 1)) ≡ d +ℤ pos 1)
   union_day begun high =
       let fits = day_fits from d to (rw first_day_is at begun) not_before first.0 high in

@@ -1,6 +1,7 @@
 -- Where an iterator goes on, by the integers that are stored.
 use Rattle.std.proofs.Common.{◌≡◌, ◌⊎◌, ℤ, pos, ◌+ℤ◌, ◌≤ℤ◌, ◌<ℤ◌, w64, to_z, of_z, to_z-of_z, FitsSigned, arith}
 use Rattle.std.proofs.lemmas.Int.{ints}
+use Rattle.rr_model.specs.Bounds.{latest_day}
 use Rattle.rr_model.specs.Calendar.{first_day_of_year}
 use Rattle.rr_lazy.proofs.FirstLemmas.{first_day_is}
 use Rattle.rr_lazy.proofs.AheadLemmas.{day_fits}
@@ -29,7 +30,7 @@ pub record IsAfterDay (day : ℤ) : Type 0 where
   pub next : to_z w64 (of_z w64 (to_z w64 (of_z w64 day) +ℤ pos 1)) ≡ day +ℤ pos 1
   pub begun : first_day_of_year (pos 1) ≤ℤ to_z w64 (of_z w64 (to_z w64 (of_z w64 day) +ℤ pos 1))
 
-pub after_day : (position day to : ℤ) → first_day_of_year (pos 1) ≤ℤ position → position ≤ℤ day → day ≤ℤ to → to ≤ℤ pos 2_999_999_999_000
+pub after_day : (position day to : ℤ) → first_day_of_year (pos 1) ≤ℤ position → position ≤ℤ day → day ≤ℤ to → to ≤ℤ latest_day
     → IsAfterDay day
 after_day position day to begun late within high =
     let fits = day_fits position day to (rw first_day_is at begun) late within high in

@@ -23,6 +23,7 @@ use Rattle.rr_model.proofs.RisingSetLemmas.{set_same, set_push, set_empty, Conta
 use Rattle.rr_model.proofs.RisingSetLemmas.{Contains-cons_cases}
 use Rattle.rr_model.specs.Sets.Tree.{has_second, is_among}
 use Rattle.std.specs.Prelude.{Some, None, slice_get}
+use Rattle.rr_model.specs.Bounds.{latest_day}
 use Rattle.rr_model.specs.Sets.Tree.{dates_of}
 use Rattle.rr_lazy.specs.Next.{HasNone, IsFirstOccupied, IsWithin, with_set}
 use Rattle.rr_lazy.specs.Stretch.{IsFirstFrom, IsFirstDate}
@@ -208,7 +209,7 @@ seconds_begin kind dates day first f = set_empty nat_lt (StandsFirst kind dates 
 pub below_a_day : (kind : Kind) (dates : List ℤ) (day : ℤ) (s : ℕ) → IsTrue (is_among kind dates day s) → s < 86_400
 below_a_day kind dates day s p = has_second_below kind s (and_parts _ _ p).0
 
-pub day_after_is : (day : ℤ) → to_z w64 (of_z w64 day) ≡ day → day ≤ℤ pos 2_999_999_999_000
+pub day_after_is : (day : ℤ) → to_z w64 (of_z w64 day) ≡ day → day ≤ℤ latest_day
     → to_z w64 (of_z w64 (to_z w64 (of_z w64 day) +ℤ pos 1)) ≡ day +ℤ pos 1
 day_after_is day e h = omega (arith, ints, e, h)
 

@@ -1,6 +1,7 @@
 // A part of a combinator, and the day that it gave and that was not passed on yet.
-ghost use Rattle.std.specs.Prelude.{◌≡◌, ◌↔◌, ◌⊎◌, IfOk, IsTrue, OnOk, List, ℕ, ℤ, pos, neg_ℤ, ◌≤ℤ◌, ◌<ℤ◌};
+ghost use Rattle.std.specs.Prelude.{◌≡◌, ◌↔◌, ◌⊎◌, IfOk, IsTrue, OnOk, List, ℕ, ℤ, pos, ◌≤ℤ◌, ◌<ℤ◌};
 ghost use Rattle.std.specs.Option.{ForNone, ForSome};
+ghost use Rattle.rr_model.specs.Bounds.{earliest_day, latest_day};
 ghost use Rattle.rr_model.specs.Calendar.{first_day_of_year};
 ghost use Rattle.rr_model.proofs.TreeLemmas.{IsOfOneKind-prop};
 ghost use Rattle.rr_model.specs.Sets.Tree.{IsOfOneKind, union};
@@ -10,7 +11,7 @@ ghost use Rattle.rr_lazy.specs.Ahead.{GaveDay, IsAheadIn, IsFirstOfBoth, IsGiven
 
 use crate::position::past;
 use crate::{Lazy, OccupiedDay};
-use rr_model::NoMemory;
+use rr_model::{FIRST_DAY, NoMemory};
 use rr_shapes::SetTable;
 use std::alloc::Global;
 
@@ -39,7 +40,7 @@ impl<A: Lazy + Drop, B: Lazy + Drop> Union<A, B> {
         Union {
             a,
             b,
-            position: -719_162,
+            position: FIRST_DAY,
             ahead_a: None,
             ahead_b: None,
         }
@@ -47,8 +48,8 @@ impl<A: Lazy + Drop, B: Lazy + Drop> Union<A, B> {
 
     // Asks the parts of which no day is known for their first day up to `to`.
     fn fill_both(&mut self, alloc: Global, sets: &mut SetTable, to: i64) -> Result<(), NoMemory>
-        requires low { neg_ℤ (pos 2_999_999_999_000) ≤ℤ to }
-        requires high { to ≤ℤ pos 2_999_999_999_000 }
+        requires low { earliest_day ≤ℤ to }
+        requires high { to ≤ℤ latest_day }
         requires knows { ⟦<Union<A, B> as Lazy>⟧.knows self.old sets.old }
         ensures tree_a { A.tree self.new.a ≡ A.tree self.old.a }
         ensures tree_b { B.tree self.new.b ≡ B.tree self.old.b }
@@ -109,8 +110,8 @@ pub(crate) fn fill<L: Lazy>(
     ahead: &mut Option<OccupiedDay>,
     to: i64,
 ) -> Result<(), NoMemory>
-    requires low { neg_ℤ (pos 2_999_999_999_000) ≤ℤ to }
-    requires high { to ≤ℤ pos 2_999_999_999_000 }
+    requires low { earliest_day ≤ℤ to }
+    requires high { to ≤ℤ latest_day }
     requires knows { L.knows lazy.old sets.old }
     ensures tree { L.tree lazy.new ≡ L.tree lazy.old }
     ensures knows { L.knows lazy.new sets.new }

@@ -7,7 +7,7 @@ ghost use Rattle.rr_lazy.specs.Next.{IsUnasked};
 use crate::position::past;
 use crate::stretch::{first_date, seconds_on};
 use crate::{Lazy, OccupiedDay};
-use rr_model::{Dates, Kind, NoMemory};
+use rr_model::{Dates, FIRST_DAY, Kind, NoMemory};
 use rr_shapes::SetTable;
 use std::alloc::Global;
 
@@ -34,7 +34,7 @@ impl DatesLazy {
         DatesLazy {
             kind,
             dates,
-            position: -719_162,
+            position: FIRST_DAY,
         }
     }
 }

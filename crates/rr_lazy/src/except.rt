@@ -1,6 +1,7 @@
 // The occurrences of one part that another lacks.
-ghost use Rattle.std.specs.Prelude.{◌≡◌, ◌≢◌, ◌≤ℤ◌, ◌<ℤ◌, [], IfOk, OnOk, List, ℕ, ℤ, neg_ℤ, pos};
+ghost use Rattle.std.specs.Prelude.{◌≡◌, ◌≢◌, ◌≤ℤ◌, ◌<ℤ◌, [], IfOk, OnOk, List, ℕ, ℤ, pos};
 ghost use Rattle.std.specs.Option.{ForNone, ForSome};
+ghost use Rattle.rr_model.specs.Bounds.{earliest_day, latest_day};
 ghost use Rattle.rr_model.specs.Calendar.{first_day_of_year};
 ghost use Rattle.rr_model.proofs.TreeLemmas.{IsOfOneKind-prop};
 ghost use Rattle.rr_model.specs.Sets.Tree.{IsOfOneKind, except};
@@ -12,7 +13,7 @@ ghost use Rattle.rr_lazy.specs.Next.{IsUnasked, with_set};
 use crate::ahead::{fill, of_day};
 use crate::position::past;
 use crate::{Lazy, OccupiedDay};
-use rr_model::NoMemory;
+use rr_model::{FIRST_DAY, NoMemory};
 use rr_shapes::SetTable;
 use std::alloc::Global;
 
@@ -41,7 +42,7 @@ impl<A: Lazy + Drop, B: Lazy + Drop> Except<A, B> {
         Except {
             a,
             b,
-            position: -719_162,
+            position: FIRST_DAY,
             ahead_a: None,
             ahead_b: None,
         }
@@ -100,8 +101,8 @@ fn next_of_both<A: Lazy, B: Lazy>(
     ahead_b: &mut Option<OccupiedDay>,
     to: i64,
 ) -> Result<Option<OccupiedDay>, NoMemory>
-    requires low { neg_ℤ (pos 2_999_999_999_000) ≤ℤ to }
-    requires high { to ≤ℤ pos 2_999_999_999_000 }
+    requires low { earliest_day ≤ℤ to }
+    requires high { to ≤ℤ latest_day }
     requires knows_a { A.knows a.old sets.old }
     requires knows_b { B.knows b.old sets.old }
     requires known { (position : ℤ) × (first_day_of_year (pos 1) ≤ℤ position) × KnowsBoth sets.old (part_of (A.tree a.old) (A.position a.old) ahead_a.old) (part_of (B.tree b.old) (B.position b.old) ahead_b.old) position }
@@ -137,8 +138,8 @@ fn left_of<B: Lazy>(
     ahead: &mut Option<OccupiedDay>,
     found: OccupiedDay,
 ) -> Result<Option<OccupiedDay>, NoMemory>
-    requires low { neg_ℤ (pos 2_999_999_999_000) ≤ℤ found.day }
-    requires high { found.day ≤ℤ pos 2_999_999_999_000 }
+    requires low { earliest_day ≤ℤ found.day }
+    requires high { found.day ≤ℤ latest_day }
     requires knows { B.knows lazy.old sets.old }
     requires known { IsAheadUpTo sets.old (part_of (B.tree lazy.old) (B.position lazy.old) ahead.old) found.day }
     requires given { IsGivenOn sets.old found }
@@ -164,8 +165,8 @@ fn pass_to<B: Lazy>(
     ahead: &mut Option<OccupiedDay>,
     day: i64,
 ) -> Result<(), NoMemory>
-    requires low { neg_ℤ (pos 2_999_999_999_000) ≤ℤ day }
-    requires high { day ≤ℤ pos 2_999_999_999_000 }
+    requires low { earliest_day ≤ℤ day }
+    requires high { day ≤ℤ latest_day }
     requires knows { B.knows lazy.old sets.old }
     requires known { IsAheadUpTo sets.old (part_of (B.tree lazy.old) (B.position lazy.old) ahead.old) day }
     ensures tree { B.tree lazy.new ≡ B.tree lazy.old }

@@ -5,7 +5,7 @@ ghost use Rattle.rr_lazy.specs.Next.{IsUnasked};
 
 use crate::position::past;
 use crate::{Lazy, OccupiedDay};
-use rr_model::NoMemory;
+use rr_model::{FIRST_DAY, NoMemory};
 use rr_shapes::SetTable;
 use std::alloc::Global;
 
@@ -33,7 +33,7 @@ impl<A: Lazy + Drop> FirstN<A> {
             lazy,
             count,
             left: count,
-            position: -719_162,
+            position: FIRST_DAY,
         }
     }
 }

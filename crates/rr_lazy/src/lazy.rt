@@ -1,5 +1,6 @@
 // Occupied days one after another.
-ghost use Rattle.std.specs.Prelude.{◌≡◌, List, ℕ, ℤ, pos, neg_ℤ, ◌≤ℤ◌};
+ghost use Rattle.std.specs.Prelude.{◌≡◌, List, ℕ, ℤ, ◌≤ℤ◌};
+ghost use Rattle.rr_model.specs.Bounds.{earliest_day, latest_day};
 ghost use Rattle.rr_lazy.specs.Next.{IsNextIn, IsSoundLazy};
 ghost use Rattle.rr_model.specs.Sets.Tree.{Tree};
 ghost use Rattle.rr_shapes.specs.Tables.{Extends};
@@ -33,8 +34,8 @@ pub trait Lazy {
         sets: &mut SetTable,
         to: i64,
     ) -> Result<Option<OccupiedDay>, NoMemory>
-        requires low { neg_ℤ (pos 2_999_999_999_000) ≤ℤ to }
-        requires high { to ≤ℤ pos 2_999_999_999_000 }
+        requires low { earliest_day ≤ℤ to }
+        requires high { to ≤ℤ latest_day }
         requires knows { knows self.old sets.old }
         ensures tree { tree self.new ≡ tree self.old }
         ensures knows { knows self.new sets.new }

@@ -1,6 +1,7 @@
 // The occurrences of several parts.
-ghost use Rattle.std.specs.Prelude.{◌≡◌, ◌⊎◌, ◌≤◌, ◌<◌, All, IfOk, IsTrue, OnOk, OnErr, List, ℕ, length, nat_lt, neg_ℤ, pos, ◌+ℤ◌, ◌≤ℤ◌, ◌<ℤ◌, []};
+ghost use Rattle.std.specs.Prelude.{◌≡◌, ◌⊎◌, ◌≤◌, ◌<◌, All, IfOk, IsTrue, OnOk, OnErr, List, ℕ, length, nat_lt, pos, ◌+ℤ◌, ◌≤ℤ◌, ◌<ℤ◌, []};
 ghost use Rattle.std.specs.Option.{ForNone, ForSome};
+ghost use Rattle.rr_model.specs.Bounds.{earliest_day, latest_day};
 ghost use Rattle.rr_model.specs.Calendar.{first_day_of_year};
 ghost use Rattle.rr_model.specs.Rising.Sets.{IsSetOf};
 ghost use Rattle.rr_model.proofs.TreeLemmas.{IsOfOneKind-prop};
@@ -14,7 +15,7 @@ ghost use Rattle.rr_lazy.specs.PassedOn.{IsOneAtRest};
 use crate::ahead::{fill, forget, on_day};
 use crate::position::{after, past};
 use crate::{Lazy, OccupiedDay};
-use rr_model::NoMemory;
+use rr_model::{FIRST_DAY, NoMemory};
 use rr_shapes::SetTable;
 use std::alloc::Global;
 
@@ -46,7 +47,7 @@ impl<A: Lazy + Drop> Many<A> {
     {
         Many {
             parts: Vec::new(alloc),
-            position: -719_162,
+            position: FIRST_DAY,
         }
     }
 
@@ -78,8 +79,8 @@ impl<A: Lazy + Drop> Many<A> {
         to: i64,
     ) -> Result<Option<OccupiedDay>, NoMemory>
         requires one { IsOneAtRest (λ p. p.ahead) self.old.parts.items }
-        requires low { neg_ℤ (pos 2_999_999_999_000) ≤ℤ to }
-        requires high { to ≤ℤ pos 2_999_999_999_000 }
+        requires low { earliest_day ≤ℤ to }
+        requires high { to ≤ℤ latest_day }
         requires knows { ⟦<Many<A> as Lazy>⟧.knows self.old sets.old }
         ensures tree { ⟦<Many<A> as Lazy>⟧.tree self.new ≡ ⟦<Many<A> as Lazy>⟧.tree self.old }
         ensures knows { ⟦<Many<A> as Lazy>⟧.knows self.new sets.new }
@@ -98,8 +99,8 @@ impl<A: Lazy + Drop> Many<A> {
         sets: &mut SetTable,
         to: i64,
     ) -> Result<Option<OccupiedDay>, NoMemory>
-        requires low { neg_ℤ (pos 2_999_999_999_000) ≤ℤ to }
-        requires high { to ≤ℤ pos 2_999_999_999_000 }
+        requires low { earliest_day ≤ℤ to }
+        requires high { to ≤ℤ latest_day }
         requires knows { ⟦<Many<A> as Lazy>⟧.knows self.old sets.old }
         ensures tree { ⟦<Many<A> as Lazy>⟧.tree self.new ≡ ⟦<Many<A> as Lazy>⟧.tree self.old }
         ensures knows { ⟦<Many<A> as Lazy>⟧.knows self.new sets.new }
@@ -158,8 +159,8 @@ fn ask_all<A: Lazy + Drop>(
     to: i64,
 ) -> Result<(), NoMemory>
     requires known { All (λ p. A.knows p.lazy sets.old × IsAheadIn sets.old (A.tree p.lazy) (A.position p.lazy) from p.ahead) parts.old.items }
-    requires low { neg_ℤ (pos 2_999_999_999_000) ≤ℤ to }
-    requires high { to ≤ℤ pos 2_999_999_999_000 }
+    requires low { earliest_day ≤ℤ to }
+    requires high { to ≤ℤ latest_day }
     ensures tree { forest_of (λ p. A.tree p.lazy) parts.new.items ≡ forest_of (λ p. A.tree p.lazy) parts.old.items }
     ensures kept { Extends sets.old sets.new }
     ensures known { All (λ p. A.knows p.lazy sets.new × IsAheadIn sets.new (A.tree p.lazy) (A.position p.lazy) from p.ahead) parts.new.items }
@@ -183,8 +184,8 @@ fn ask<A: Lazy + Drop>(
 ) -> Result<(), NoMemory>
     requires knows { A.knows part.old.lazy sets.old }
     requires known { IsAheadIn sets.old (A.tree part.old.lazy) (A.position part.old.lazy) from part.old.ahead }
-    requires low { neg_ℤ (pos 2_999_999_999_000) ≤ℤ to }
-    requires high { to ≤ℤ pos 2_999_999_999_000 }
+    requires low { earliest_day ≤ℤ to }
+    requires high { to ≤ℤ latest_day }
     ensures tree { A.tree part.new.lazy ≡ A.tree part.old.lazy }
     ensures kept { Extends sets.old sets.new }
     ensures knows { A.knows part.new.lazy sets.new }

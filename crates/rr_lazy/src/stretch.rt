@@ -1,5 +1,6 @@
 // The dates of one day in a rising list.
-ghost use Rattle.std.specs.Prelude.{◌≡◌, ◌↔◌, ◌≤ℤ◌, ℕ, Contains, IfOk, IsTrue, false, int_lt, nat_lt, pos};
+ghost use Rattle.std.specs.Prelude.{◌≡◌, ◌↔◌, ◌≤ℤ◌, ℕ, Contains, IfOk, IsTrue, false, int_lt, nat_lt};
+ghost use Rattle.rr_model.specs.Bounds.{latest_day};
 ghost use Rattle.rr_model.specs.Rising.{Rises};
 ghost use Rattle.rr_model.specs.Rising.Sets.{IsSetOf};
 ghost use Rattle.rr_lazy.specs.Stretch.{IsFirstDate, IsFirstFrom};
@@ -50,7 +51,7 @@ pub(crate) fn seconds_on(
     day: i64,
 ) -> Result<TimeSet, NoMemory>
     requires rises { Rises int_lt dates.now }
-    requires high { day ≤ℤ pos 2_999_999_999_000 }
+    requires high { day ≤ℤ latest_day }
     ensures { IfOk result (λ t. IsSetOf nat_lt t (λ s. IsTrue (is_among kind dates.now day s))) }
 {
     let first = first_from(kind, dates, day);
@@ -67,7 +68,7 @@ pub(crate) fn seconds_on(
 // Takes the dates of a day out of its seconds; it takes no memory.
 pub(crate) fn take_out(times: &mut TimeSet, kind: Kind, dates: &[i64], day: i64)
     requires rises { Rises int_lt dates.now }
-    requires high { day ≤ℤ pos 2_999_999_999_000 }
+    requires high { day ≤ℤ latest_day }
     ensures { (s : ℕ) → Contains times.new s ↔ (Contains times.old s × (is_among kind dates.now day s ≡ false)) }
 {
     let first = first_from(kind, dates, day);

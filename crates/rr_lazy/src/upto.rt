@@ -10,7 +10,7 @@ ghost use Rattle.rr_lazy.specs.Upto.{IsSecondsTo, IsUpTo};
 
 use crate::position::past;
 use crate::{Lazy, OccupiedDay};
-use rr_model::{Kind, NoMemory, day_part, second_part};
+use rr_model::{FIRST_DAY, Kind, NoMemory, day_part, second_part};
 use rr_shapes::SetTable;
 use std::alloc::Global;
 
@@ -43,7 +43,7 @@ impl<A: Lazy + Drop> Upto<A> {
             kind,
             at,
             last_day,
-            position: -719_162,
+            position: FIRST_DAY,
         }
     }
 }

@@ -1,5 +1,6 @@
 // The occurrences that are not among dates.
-ghost use Rattle.std.specs.Prelude.{◌≡◌, ◌≢◌, ◌≤ℤ◌, [], IfOk, List, ℕ, ℤ, int_lt, neg_ℤ, pos};
+ghost use Rattle.std.specs.Prelude.{◌≡◌, ◌≢◌, ◌≤ℤ◌, [], IfOk, List, ℕ, ℤ, int_lt, pos};
+ghost use Rattle.rr_model.specs.Bounds.{earliest_day, latest_day};
 ghost use Rattle.rr_model.specs.Calendar.{first_day_of_year};
 ghost use Rattle.rr_model.specs.Rising.{Rises};
 ghost use Rattle.rr_model.proofs.TreeLemmas.{IsOfOneKind-prop};
@@ -13,7 +14,7 @@ use crate::ahead::fill;
 use crate::position::past;
 use crate::stretch::{dates_on, take_out};
 use crate::{Lazy, OccupiedDay};
-use rr_model::{Dates, Kind, NoMemory};
+use rr_model::{Dates, FIRST_DAY, Kind, NoMemory};
 use rr_shapes::SetTable;
 use rr_times::TimeSet;
 use std::alloc::Global;
@@ -43,7 +44,7 @@ impl<A: Lazy + Drop> Without<A> {
             lazy,
             kind,
             dates,
-            position: -719_162,
+            position: FIRST_DAY,
             ahead: None,
         }
     }
@@ -104,8 +105,8 @@ fn next_left<A: Lazy>(
     to: i64,
 ) -> Result<Option<OccupiedDay>, NoMemory>
     requires rises { Rises int_lt dates.now }
-    requires low { neg_ℤ (pos 2_999_999_999_000) ≤ℤ to }
-    requires high { to ≤ℤ pos 2_999_999_999_000 }
+    requires low { earliest_day ≤ℤ to }
+    requires high { to ≤ℤ latest_day }
     requires knows { A.knows lazy.old sets.old }
     requires known { (position : ℤ) × KnowsPart sets.old (A.tree lazy.old) (A.position lazy.old) kind dates.now position ahead.old }
     ensures tree { A.tree lazy.new ≡ A.tree lazy.old }
@@ -138,7 +139,7 @@ fn left_of(
     found: OccupiedDay,
 ) -> Result<Option<OccupiedDay>, NoMemory>
     requires rises { Rises int_lt dates.now }
-    requires high { found.day ≤ℤ pos 2_999_999_999_000 }
+    requires high { found.day ≤ℤ latest_day }
     requires given { IsGivenOn sets.old found }
     requires some { (with_set sets.old found).times ≢ [] }
     ensures kept { Extends sets.old sets.new }

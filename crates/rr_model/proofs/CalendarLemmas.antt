@@ -5,6 +5,7 @@ use Rattle.std.specs.Prelude.{int_lt, int_le}
 use Rattle.std.proofs.lemmas.Int.{ints, by_lt_z}
 use Rattle.std.proofs.lemmas.Bool.{cases_lt, cases_order}
 use Rattle.std.proofs.lemmas.Bool.Decides.{nat_tests}
+use Rattle.rr_model.specs.Bounds.{days_before_1970}
 use Rattle.rr_model.specs.Whole.{floor_div, floor_mod}
 use Rattle.rr_model.specs.Calendar.{days_in_year, days_in_month, days_of_months, first_day_of_year, day_number, IsDate, is_date, IsInYear, year_near}
 use Rattle.rr_model.specs.Calendar.{year_of, days_into_year, months_over, month_of, day_of_month, weekday_of, kind_of_year}
@@ -53,8 +54,8 @@ pub days_in_year_bounds : (y : ℤ) → (365 ≤ days_in_year y) × (days_in_yea
 days_in_year_bounds y = grind arith
 
 -- 400 years are 146,097 days, but for the leap days that are still to come or have come early
-pub first_day_of_year_bounds : (y : ℤ) → ((pos 146_097 *ℤ (y -ℤ pos 1)) ≤ℤ (((first_day_of_year y +ℤ pos 719_162) *ℤ pos 400) +ℤ pos 699))
-    × (((first_day_of_year y +ℤ pos 719_162) *ℤ pos 400) ≤ℤ ((pos 146_097 *ℤ (y -ℤ pos 1)) +ℤ pos 396))
+pub first_day_of_year_bounds : (y : ℤ) → ((pos 146_097 *ℤ (y -ℤ pos 1)) ≤ℤ (((first_day_of_year y +ℤ pos days_before_1970) *ℤ pos 400) +ℤ pos 699))
+    × (((first_day_of_year y +ℤ pos days_before_1970) *ℤ pos 400) ≤ℤ ((pos 146_097 *ℤ (y -ℤ pos 1)) +ℤ pos 396))
 unfolding first_day_of_year
 first_day_of_year_bounds y =
     let a = floor_whole (y -ℤ pos 1) 4 (omega arith) in
@@ -82,7 +83,7 @@ first_day_of_year_mono x y h =
 -- `year_near` is wrong by one year at most
 year_near_is : (d : ℤ) → (first_day_of_year (year_near d -ℤ pos 1) ≤ℤ d) × (d <ℤ first_day_of_year ((year_near d +ℤ pos 1) +ℤ pos 1))
 year_near_is d =
-    let z = (d +ℤ pos 719_162) *ℤ pos 400 in
+    let z = (d +ℤ pos days_before_1970) *ℤ pos 400 in
     let w = floor_whole z 146_097 (omega arith) in
     let b = floor_mod_below z 146_097 (omega arith) in
     let n = first_day_of_year_bounds (year_near d -ℤ pos 1) in

@@ -2,13 +2,14 @@
 use Rattle.std.proofs.Common.{◌≡◌, ◌↔◌, ◌&&◌, ℤ, pos, neg_ℤ, ◌≤ℤ◌, ◌<ℤ◌, refl, arith}
 use Rattle.std.specs.Prelude.{IsTrue, int_le, int_lt}
 use Rattle.std.proofs.lemmas.Int.{ints}
+use Rattle.rr_model.specs.Bounds.{first_day_of_all}
 use Rattle.rr_model.specs.Calendar.{first_day_of_year}
 use Rattle.rr_model.specs.Moment.{day_part}
 use Rattle.rr_model.specs.Moment.Years.{IsFromYearOne, HasFourDigitYear, is_in_years, YearsAreTested}
 use Rattle.rr_model.specs.declared.kind.Kind.TheVariants.{Moments}
 use Rattle.rr_model.proofs.WholeLemmas.{floor_whole, floor_mod_below}
 
-pub year_1 : first_day_of_year (pos 1) ≡ neg_ℤ (pos 719_162)
+pub year_1 : first_day_of_year (pos 1) ≡ first_day_of_all
 unfolding first_day_of_year
 year_1 = refl
 
@@ -18,16 +19,16 @@ year_10000 = refl
 
 -- ---- as day numbers
 
-pub from_year_one : (d : ℤ) → IsFromYearOne d ↔ (neg_ℤ (pos 719_162) ≤ℤ d)
+pub from_year_one : (d : ℤ) → IsFromYearOne d ↔ (first_day_of_all ≤ℤ d)
 from_year_one d = (λ h. omega (arith, ints, h, year_1), λ h. omega (arith, ints, h, year_1))
 
-pub four_digit_year : (d : ℤ) → HasFourDigitYear d ↔ ((neg_ℤ (pos 719_162) ≤ℤ d) × (d ≤ℤ pos 2_932_896))
+pub four_digit_year : (d : ℤ) → HasFourDigitYear d ↔ ((first_day_of_all ≤ℤ d) × (d ≤ℤ pos 2_932_896))
 four_digit_year d = (
   λ h. (omega (arith, ints, h.0, year_1), omega (arith, ints, h.1, year_10000)),
   λ h. (omega (arith, ints, h.0, year_1), omega (arith, ints, h.1, year_10000)),
 )
 
-pub four_digit_bounds : (d : ℤ) → HasFourDigitYear d → (neg_ℤ (pos 719_162) ≤ℤ d) × (d ≤ℤ pos 2_932_896)
+pub four_digit_bounds : (d : ℤ) → HasFourDigitYear d → (first_day_of_all ≤ℤ d) × (d ≤ℤ pos 2_932_896)
 four_digit_bounds d h = (four_digit_year d).0 h
 
 -- ---- as tests

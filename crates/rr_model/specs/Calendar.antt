@@ -3,6 +3,7 @@ pub mod Laws
 pub mod Week
 use Rattle.std.specs.Prelude.{ℕ, zero, suc, ◌+◌, ◌-◌, ◌≤◌, Bool, not, ◌&&◌, ◌||◌, ◌==◌, nat_le, if◌then◌else◌, ℤ, pos, neg_ℤ, nat_abs, ◌+ℤ◌, ◌-ℤ◌, ◌*ℤ◌}
 use Rattle.std.specs.Prelude.{◌≤ℤ◌, ◌<ℤ◌, int_lt, int_le}
+use Rattle.rr_model.specs.Bounds.{days_before_1970}
 use Rattle.rr_model.specs.Whole.{floor_div, floor_mod, divides}
 
 -- 4 divides the year and 100 does not, or 400 divides it
@@ -27,7 +28,7 @@ days_of_months y (suc n) = days_of_months y n + days_in_month y (suc n)
 -- the day number of 1 January
 unfoldable pub first_day_of_year : ℤ → ℤ
 first_day_of_year y =
-    ((((pos 365 *ℤ (y -ℤ pos 1)) +ℤ floor_div (y -ℤ pos 1) 4) -ℤ floor_div (y -ℤ pos 1) 100) +ℤ floor_div (y -ℤ pos 1) 400) -ℤ pos 719_162
+    ((((pos 365 *ℤ (y -ℤ pos 1)) +ℤ floor_div (y -ℤ pos 1) 4) -ℤ floor_div (y -ℤ pos 1) 100) +ℤ floor_div (y -ℤ pos 1) 400) -ℤ pos days_before_1970
 
 -- the day number of the day k of the month m of the year y
 unfoldable pub day_number : ℤ → ℕ → ℕ → ℤ
@@ -50,7 +51,7 @@ pub record IsInYear (d y : ℤ) : Type 0 where
 
 -- the day's year, or one beside it: 400 years have 146,097 days
 abbrev pub year_near : ℤ → ℤ
-year_near d = floor_div ((d +ℤ pos 719_162) *ℤ pos 400) 146_097 +ℤ pos 1
+year_near d = floor_div ((d +ℤ pos days_before_1970) *ℤ pos 400) 146_097 +ℤ pos 1
 
 -- the year in which a day lies
 unfoldable pub year_of : ℤ → ℤ

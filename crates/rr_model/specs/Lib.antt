@@ -1,4 +1,5 @@
 pub mod Answers
+pub mod Bounds
 pub mod Calendar
 pub mod Graph
 pub mod Moment

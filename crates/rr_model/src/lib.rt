@@ -37,7 +37,7 @@ pub use laws::{
     settled_day_is_one,
 };
 pub use limits::{
-    MAX_CYCLE_DAYS, MAX_DATES, MAX_DAY, MAX_INPUT, MAX_RULES, MAX_SECONDS, MAX_SPAN_DAYS,
+    FIRST_DAY, MAX_CYCLE_DAYS, MAX_DATES, MAX_DAY, MAX_INPUT, MAX_RULES, MAX_SECONDS, MAX_SPAN_DAYS,
 };
 pub use line::{Line, LineList};
 pub use listed::ListedDates;

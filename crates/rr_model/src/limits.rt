@@ -20,3 +20,6 @@ pub const MAX_SECONDS: usize = 16_777_216;
 
 /// The greatest absolute day number that a call takes.
 pub const MAX_DAY: i64 = 3_000_000_000_000;
+
+/// The day number of 0001-01-01, the first day of all years, in days since 1970-01-01.
+pub const FIRST_DAY: i64 = -719_162;

@@ -1,13 +1,14 @@
 // Trial division.
 ghost use Rattle.std.specs.Prelude.{◌≤◌};
+ghost use Rattle.rr_model.specs.Bounds.{longest_period};
 ghost use Rattle.rr_model.specs.Sets.DividingOut.{HasNoFactorBelow, IsLeastFactor};
 
 /// The least divisor above 1 of a number, of which no number below `from` is one.
 pub fn least_factor(number: u64, from: u64) -> u64
     requires some { 2 ≤ number }
-    requires few { number ≤ 1_000_000_000 }
+    requires few { number ≤ longest_period }
     requires low { 2 ≤ from }
-    requires high { from ≤ 1_000_000_000 }
+    requires high { from ≤ longest_period }
     requires tried { HasNoFactorBelow number from }
     ensures { IsLeastFactor number result }
 {

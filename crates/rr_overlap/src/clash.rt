@@ -42,7 +42,7 @@ pub enum Clash {
 pub fn clear<A: DaySeq, B: DaySeq>(a: &A, duration_a: u32, b: &B, duration_b: u32) -> Clash
     requires first { IsDuration duration_a }
     requires second { IsDuration duration_b }
-    requires cycle { lcm (A.sketch a.now).period (B.sketch b.now).period ≤ 16_777_216 }
+    requires cycle { lcm (A.sketch a.now).period (B.sketch b.now).period ≤ MAX_CYCLE_DAYS }
     ensures verdict { IsClashVerdict (StandsIn (A.sketch a.now)) duration_a (StandsIn (B.sketch b.now)) duration_b (A.sketch a.now).kind (B.sketch b.now).kind result }
     ensures day { NamesUpToMaxDay result }
 {
@@ -96,7 +96,7 @@ fn days_between(from: i64, to: i64) -> u64
 fn common_cycle(p: u64, r: u64) -> u64
     requires first { 1 ≤ p }
     requires second { 1 ≤ r }
-    requires few { lcm p r ≤ 16_777_216 }
+    requires few { lcm p r ≤ MAX_CYCLE_DAYS }
     ensures { result ≡ lcm p r }
 {
     lcm_within(p, r, MAX_CYCLE_DAYS).unwrap()

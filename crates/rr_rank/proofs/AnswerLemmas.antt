@@ -1,11 +1,12 @@
 -- The answers, as the code has them.
-use Rattle.std.proofs.Common.{◌≡◌, ◌⊎◌, ◌↔◌, inl, inr, ℕ, zero, suc, ◌+◌, ◌-◌, ◌*◌, ◌%◌, ◌/◌, ◌<◌, ◌≤◌, List, [], ◌∷◌, get_or, length, ℤ, pos, neg_ℤ}
+use Rattle.std.proofs.Common.{◌≡◌, ◌⊎◌, ◌↔◌, inl, inr, ℕ, zero, suc, ◌+◌, ◌-◌, ◌*◌, ◌%◌, ◌/◌, ◌<◌, ◌≤◌, List, [], ◌∷◌, get_or, length, ℤ, pos}
 use Rattle.std.proofs.Common.{◌+ℤ◌, ◌-ℤ◌, ◌≤ℤ◌, ◌<ℤ◌, nat_abs, refl, sym, ap, subst, ◌∙◌, arith}
 use Rattle.std.specs.Prelude.{int_lt, nat_lt}
 use Rattle.std.specs.List.{Contains}
 use Rattle.std.proofs.lemmas.Int.{ints, by_lt_z}
 use Rattle.std.proofs.lemmas.Nat.{mod_below, div-add-mod'}
 use Rattle.std.proofs.Math.Nat.{mul-le-mul_left, mul_assoc}
+use Rattle.rr_model.specs.Bounds.{latest_near}
 use Rattle.rr_model.specs.Moment.{day_part, second_part, moment_at}
 use Rattle.rr_model.specs.Rising.{Rises}
 use Rattle.rr_model.specs.Sets.Sketch.{IsDaySequence, IsNearDay, IsValidSketch, StandsIn, times_on}
@@ -156,7 +157,7 @@ module _ (s : Sketch) (bounded : IsDaySequence s) (q : ℤ) (head total : ℕ) (
 
       module _ (up_to bound : ℕ) (split : SplitsAt seconds up_to bound) where
         -- all of them are few
-        pub few_in_all : IsNearDay q → day_part k t ≤ℤ pos 1_000_000_000 → before + up_to + turned_by * (total - head) ≤ 1_000_000_000_000_000
+        pub few_in_all : IsNearDay q → day_part k t ≤ℤ latest_near → before + up_to + turned_by * (total - head) ≤ 1_000_000_000_000_000
         few_in_all near high =
             let a = count-most s v q read.days in
             let is = read.is_before in

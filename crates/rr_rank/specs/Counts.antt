@@ -1,5 +1,6 @@
 -- The occurrences of days in a row, counted day by day.
-use Rattle.std.specs.Prelude.{◌≡◌, ℕ, zero, suc, ◌+◌, ◌<◌, ◌≤◌, List, [], ◌∷◌, ◌++◌, length, map, ℤ, pos, nat_abs, neg_ℤ, ◌+ℤ◌, ◌-ℤ◌, ◌≤ℤ◌, ◌<ℤ◌}
+use Rattle.std.specs.Prelude.{◌≡◌, ℕ, zero, suc, ◌+◌, ◌<◌, ◌≤◌, List, [], ◌∷◌, ◌++◌, length, map, ℤ, pos, nat_abs, ◌+ℤ◌, ◌-ℤ◌, ◌≤ℤ◌, ◌<ℤ◌}
+use Rattle.rr_model.specs.Bounds.{earliest_near}
 use Rattle.rr_model.specs.Moment.{moment_at}
 use Rattle.rr_model.specs.Sets.Sketch.{times_on}
 use Rattle.rr_model.specs.declared.sketch.Sketch.{Sketch}
@@ -42,7 +43,7 @@ occupied_days s = length s.before + length s.cycle
 
 -- q lies not after the settled day, and no day before it is occupied
 pub record IsBegin (s : Sketch) (q : ℤ) : Type 0 where
-  pub low : neg_ℤ (pos 1_000_000_000) ≤ℤ q
+  pub low : earliest_near ≤ℤ q
   pub not_after : q ≤ℤ s.settled
   pub early : (d : ℤ) → d <ℤ q → times_on s d ≡ []
 

@@ -1,5 +1,6 @@
 // Counts and days, brought back to the first period past the settled day.
-ghost use Rattle.std.specs.Prelude.{◌≡◌, ◌+◌, ◌*◌, ◌<◌, ◌≤◌, MatchOption, pos, neg_ℤ, ◌+ℤ◌, ◌≤ℤ◌};
+ghost use Rattle.std.specs.Prelude.{◌≡◌, ◌+◌, ◌*◌, ◌<◌, ◌≤◌, MatchOption, pos, ◌+ℤ◌, ◌≤ℤ◌};
+ghost use Rattle.rr_model.specs.Bounds.{earliest_near, longest_period};
 ghost use Rattle.rr_model.specs.Sets.Sketch.{IsNearDay};
 ghost use Rattle.rr_rank.specs.Turns.{IsDayLater, IsTurnedCount, IsTurnedDay, seconds_up_to};
 
@@ -52,7 +53,7 @@ pub fn turned_day(day: i64, settled: i64, period: u64) -> TurnedDay
     requires near { IsNearDay day }
     requires settled_near { IsNearDay settled }
     requires some { 1 ≤ period }
-    requires few { period ≤ 1_000_000_000 }
+    requires few { period ≤ longest_period }
     ensures { IsTurnedDay settled period day result.day result.turns }
 {
     if day < settled {
@@ -67,7 +68,7 @@ pub fn turned_day(day: i64, settled: i64, period: u64) -> TurnedDay
 
 /// The day `turns` periods later, None where it is past `MAX_DAY`.
 pub fn day_later(day: i64, turns: u64, period: u64) -> Option<i64>
-    requires low { neg_ℤ (pos 1_000_000_000) ≤ℤ day }
+    requires low { earliest_near ≤ℤ day }
     requires high { day ≤ℤ pos 2_000_000_000 }
     ensures { IsDayLater day turns period result }
 {

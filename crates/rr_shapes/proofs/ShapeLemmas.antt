@@ -15,6 +15,7 @@ use Rattle.std.specs.List.{list_any, AllByRecursion, IsDistinct}
 use Rattle.indexmap.specs.IndexSet.{insert_key}
 use Rattle.rr_model.specs.Rising.Sets.{IsSecondsOfDay}
 use Rattle.rr_model.specs.Sets.Sizes.{total_size}
+use Rattle.rr_model.specs.declared.limits.TheConstants.{MAX_SECONDS}
 use Rattle.rr_shapes.specs.Numbering.{IsNumbering, IsCounted}
 use Rattle.rr_shapes.specs.Placing.{IsPlaced, IsTooMany}
 
@@ -71,12 +72,12 @@ few sets size counts =
     let bound = distinct_bound sets (IsDistinct-from_AllPairs bytes_decides sets counts.numbering.distinct) in
     omega (arith, counts.sum, counts.within, bound)
 
-pub number_few : (sets : List (List ℕ)) (size number : ℕ) (times : List ℕ) → IsCounted sets size → slice_get sets number ≡ Some times → number ≤ 16_777_216
+pub number_few : (sets : List (List ℕ)) (size number : ℕ) (times : List ℕ) → IsCounted sets size → slice_get sets number ≡ Some times → number ≤ MAX_SECONDS
 number_few sets size number times counts e = omega (arith, few sets size counts, slice_get_within sets number times e)
 
 module _ (sets : List (List ℕ)) (size : ℕ) (times : List ℕ) (counts : IsCounted sets size) (fresh : list_any (same times) sets ≡ false) where
   -- a new set that does not fit
-  pub too_many : (more : ℕ) → more ≡ length times → 16_777_216 < size + more → IsTooMany times sets
+  pub too_many : (more : ℕ) → more ≡ length times → MAX_SECONDS < size + more → IsTooMany times sets
   too_many more e above = record { fresh = absent sets times fresh; above = omega (arith, counts.sum) }
 
   -- a new set that fits goes last
@@ -109,7 +110,7 @@ module _ (sets : List (List ℕ)) (size : ℕ) (times : List ℕ) (counts : IsCo
 
   -- and is counted
   pub new_counted : (new : List (List ℕ)) (more : ℕ) → new ≡ insert_key same sets times → IsDistinct same new → IsSecondsOfDay times → more ≡ length times
-      → size + more ≤ 16_777_216 → IsCounted new (size + more)
+      → size + more ≤ MAX_SECONDS → IsCounted new (size + more)
   new_counted new more e distinct day sized room =
       let last = inserted new e in
       let total : total_size new ≡ total_size sets + length times = ap total_size last ∙ sum_by_push length sets times in

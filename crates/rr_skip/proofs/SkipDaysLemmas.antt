@@ -16,7 +16,7 @@ use Rattle.rr_model.specs.Rule.Cycle.{rule_cycle}
 use Rattle.rr_model.specs.Rule.Member.{is_within_end}
 use Rattle.rr_model.specs.declared.kind.Kind.{Kind}
 use Rattle.rr_model.specs.declared.kind.Kind.TheVariants.{Days, Moments}
-use Rattle.rr_model.specs.declared.limits.TheConstants.{MAX_SPAN_DAYS}
+use Rattle.rr_model.specs.declared.limits.TheConstants.{MAX_CYCLE_DAYS, MAX_SPAN_DAYS}
 use Rattle.rr_model.specs.declared.rule.End.TheVariants.{Never, Until, Count}
 use Rattle.rr_model.proofs.CountLemmas.{one, count_from-zero, count_from-suc, count_from-first, count_from-split}
 use Rattle.rr_model.proofs.MemberLemmas.{same_kind_is}
@@ -115,7 +115,7 @@ module _ (rule : SkipRule) (kind : Kind) (start : ℤ) where
   endless_within e d = rw e refl
 
   pub endless_days : rule.rule.end ≡ Never → (days : SkipDays) (most : ℕ) (walk : Walk) → 1 ≤ rule.rule.interval → IsTrue (takes_skip rule.rule.freq)
-      → first ≤ℤ pos 2_932_896 → rule_cycle rule.rule ≤ 16_777_216 → 20_000_000 < most
+      → first ≤ℤ pos 2_932_896 → rule_cycle rule.rule ≤ MAX_CYCLE_DAYS → 20_000_000 < most
       → IsWalked chosen first (rule_cycle rule.rule + 1) most walk
       → days.settled ≡ first +ℤ pos 1 → days.period ≡ rule_cycle rule.rule → days.numbers.items ≡ walk.numbers.items
       → AreSkipDays test first days

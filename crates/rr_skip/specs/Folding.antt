@@ -1,6 +1,7 @@
 -- The days of a series whose rule has SKIP, folded into numbers.
-use Rattle.std.specs.Prelude.{◌≡◌, ℕ, ◌+◌, ◌<◌, ◌≤◌, Bool, true, false, ◌&&◌, List, [], ◌∷◌, ◌++◌, All, length, get_or, neg_ℤ, ℤ, pos, nat_abs, ◌+ℤ◌, ◌-ℤ◌, ◌≤ℤ◌, ◌<ℤ◌, int_le, Option, None, Some}
+use Rattle.std.specs.Prelude.{◌≡◌, ℕ, ◌+◌, ◌<◌, ◌≤◌, Bool, true, false, ◌&&◌, List, [], ◌∷◌, ◌++◌, All, length, get_or, ℤ, pos, nat_abs, ◌+ℤ◌, ◌-ℤ◌, ◌≤ℤ◌, ◌<ℤ◌, int_le, Option, None, Some}
 use Rattle.std.specs.Ordering.{int_eq}
+use Rattle.rr_model.specs.Bounds.{first_day_of_all}
 use Rattle.rr_model.specs.Moment.{day_part, second_part, moment_at}
 use Rattle.rr_model.specs.Rule.Member.{is_within_end}
 use Rattle.rr_model.specs.Sets.Tree.{has_second}
@@ -10,6 +11,7 @@ use Rattle.rr_skip.specs.Months.{schedule_of, is_day_chosen}
 use Rattle.rr_skip.specs.Walks.{AreTested}
 use Rattle.rr_skip.specs.declared.fold.SkipDays.{SkipDays}
 use Rattle.rr_model.specs.declared.sketch.Sketch.{Sketch}
+use Rattle.rr_model.specs.declared.limits.TheConstants.{MAX_CYCLE_DAYS}
 use Rattle.rr_days.specs.Sketched.{sketch_of}
 use Rattle.rr_skip.specs.declared.walk.Walk.{Walk}
 use Rattle.rr_skip.specs.declared.series.SkipRule.{SkipRule}
@@ -38,7 +40,7 @@ pub record AreSkipDays (test : ℤ → Bool) (first : ℤ) (days : SkipDays) : T
   pub order : first ≤ℤ days.settled
   pub high : days.settled ≤ℤ pos 20_000_000
   pub some : 1 ≤ days.period
-  pub few : days.period ≤ 16_777_216
+  pub few : days.period ≤ MAX_CYCLE_DAYS
   pub whole : length days.numbers.items ≡ nat_abs (days.settled -ℤ first) + days.period
   pub tested : AreTested test first days.numbers.items
   pub early : (d : ℤ) → d <ℤ first → test d ≡ false
@@ -46,7 +48,7 @@ pub record AreSkipDays (test : ℤ → Bool) (first : ℤ) (days : SkipDays) : T
 
 -- an UNTIL of the years up to 9999 that is not before a second of the first day
 pub record IsUntilDay (kind : Kind) (first : ℤ) (second : ℕ) (at : ℤ) : Type 0 where
-  pub low : neg_ℤ (pos 719_162) ≤ℤ first
+  pub low : first_day_of_all ≤ℤ first
   pub of_day : has_second kind second ≡ true
   pub late : moment_at kind first second ≤ℤ at
   pub high : day_part kind at ≤ℤ pos 2_932_896
@@ -85,6 +87,6 @@ pub record IsFolding (kind : Kind) (start : ℤ) (days : SkipDays) : Type 0 wher
   pub order : day_part kind start ≤ℤ days.settled
   pub high : days.settled ≤ℤ pos 20_000_000
   pub some : 1 ≤ days.period
-  pub few : days.period ≤ 16_777_216
+  pub few : days.period ≤ MAX_CYCLE_DAYS
   pub whole : length days.numbers.items ≡ nat_abs (days.settled -ℤ day_part kind start) + days.period
   pub small : All (λ n. n < 2) days.numbers.items

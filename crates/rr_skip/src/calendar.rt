@@ -1,5 +1,6 @@
 // Reads a calendar text whose rule has RSCALE (RFC 7529, section 4; RFC 5545, section 3.8.5).
-ghost use Rattle.std.specs.Prelude.{◌≡◌, ◌≤◌, ◌≤ℤ◌, IfOk, IfSome, neg_ℤ, pos};
+ghost use Rattle.std.specs.Prelude.{◌≡◌, ◌≤◌, ◌≤ℤ◌, IfOk, IfSome, pos};
+ghost use Rattle.rr_model.specs.Bounds.{first_day_of_all};
 ghost use Rattle.rr_model.specs.Answers.{Answers};
 ghost use Rattle.rr_model.specs.Moment.Years.{IsInYears};
 ghost use Rattle.rr_model.specs.Series.Soundness.{end_refusal};
@@ -21,7 +22,7 @@ use std::alloc::Global;
 
 // Whether a rule with this start day, of the years 1 to 9999, chooses it.
 fn chooses_day(alloc: Global, rule: &SkipRule, day: i64) -> Result<bool, NoMemory>
-    requires low { neg_ℤ (pos 719_162) ≤ℤ day }
+    requires low { first_day_of_all ≤ℤ day }
     requires high { day ≤ℤ pos 2_932_896 }
     requires some { 1 ≤ rule.now.rule.interval }
     ensures { IfOk result (λ chosen. chosen ≡ is_day_chosen (schedule_of rule.now day) day) }

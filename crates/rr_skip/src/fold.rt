@@ -1,6 +1,7 @@
 // A series whose rule has SKIP, folded into numbered days.
-ghost use Rattle.std.specs.Prelude.{◌≡◌, ◌<◌, ◌≤◌, ◌+ℤ◌, ◌≤ℤ◌, ◌∷◌, [], IfOk, length, neg_ℤ, pos, Some};
+ghost use Rattle.std.specs.Prelude.{◌≡◌, ◌<◌, ◌≤◌, ◌+ℤ◌, ◌≤ℤ◌, ◌∷◌, [], IfOk, length, pos, Some};
 ghost use Rattle.std.specs.Ordering.{int_eq};
+ghost use Rattle.rr_model.specs.Bounds.{first_day_of_all};
 ghost use Rattle.rr_model.specs.Answers.{RefusedExactlyWhere};
 ghost use Rattle.rr_model.specs.Moment.{day_part, second_part};
 ghost use Rattle.rr_model.specs.Rule.Cycle.{rule_cycle};
@@ -9,6 +10,7 @@ ghost use Rattle.rr_model.specs.Series.Cycle.{endless_cycle};
 ghost use Rattle.rr_model.specs.Sets.Sketch.{StandsFor};
 ghost use Rattle.rr_model.specs.declared.refusal.Refusal.TheVariants.{CountedTooFar};
 ghost use Rattle.rr_model.specs.declared.rule.End.TheVariants.{Never, Until, Count};
+ghost use Rattle.rr_model.specs.declared.limits.TheConstants.{MAX_CYCLE_DAYS};
 ghost use Rattle.rr_skip.specs.Folding.{AreSkipDays, IsDaysUntil, IsFolding, IsUntilDay, IsUpToUntil, IsUpToWalk, chosen_days, is_member_day, is_occupied, skip_sketch};
 ghost use Rattle.rr_skip.specs.Members.{IsSkippedTooFar, OccursSkipping, SkipsTooFar, skip_cycle};
 ghost use Rattle.rr_skip.specs.Walks.{IsWalked};
@@ -39,7 +41,7 @@ pub(crate) struct SkipDays {
 pub(crate) fn day_in_years(kind: Kind, at: i64) -> i64
     requires { IsInYears kind at }
     ensures value { result ≡ day_part kind at }
-    ensures low { neg_ℤ (pos 719_162) ≤ℤ result }
+    ensures low { first_day_of_all ≤ℤ result }
     ensures high { result ≤ℤ pos 2_932_896 }
 {
     day_part(kind, at)
@@ -48,7 +50,7 @@ pub(crate) fn day_in_years(kind: Kind, at: i64) -> i64
 // How many days lie from one day to another.
 fn days_between(first: i64, day: i64) -> usize
     requires order { first ≤ℤ day }
-    requires low { neg_ℤ (pos 719_162) ≤ℤ first }
+    requires low { first_day_of_all ≤ℤ first }
     requires high { day ≤ℤ pos 2_932_896 }
     ensures { day ≡ first +ℤ pos result }
 {
@@ -84,7 +86,7 @@ fn endless_days(
     requires start { IsInYears kind start }
     requires fits { FitsSkipping kind start rule.now }
     requires endless { rule.now.rule.end ≡ Never }
-    requires few { rule_cycle rule.now.rule ≤ 16_777_216 }
+    requires few { rule_cycle rule.now.rule ≤ MAX_CYCLE_DAYS }
     ensures days { IfOk result (AreSkipDays (is_member_day rule.now kind start) (day_part kind start)) }
     ensures period { IfOk result (λ days. days.period ≡ rule_cycle rule.now.rule) }
 {
@@ -116,7 +118,7 @@ fn days_until(kind: Kind, first: i64, second: u32, at: i64) -> usize
 // The days of a walk, up to the day after an UNTIL's.
 fn up_to_until(first: i64, last: i64, walk: Walk) -> Result<SkipDays, NoMemory>
     requires order { first ≤ℤ last }
-    requires low { neg_ℤ (pos 719_162) ≤ℤ first }
+    requires low { first_day_of_all ≤ℤ first }
     requires high { last ≤ℤ pos 2_932_896 }
     requires few { (first +ℤ pos (length walk.numbers.items)) ≤ℤ (last +ℤ pos 1) }
     ensures { IfOk result (IsUpToUntil first last walk) }
@@ -153,7 +155,7 @@ fn days_to_until(
 
 // The days of a walk, after which none is occupied.
 fn up_to_walk(first: i64, walk: Walk) -> Result<SkipDays, NoMemory>
-    requires low { neg_ℤ (pos 719_162) ≤ℤ first }
+    requires low { first_day_of_all ≤ℤ first }
     requires high { (first +ℤ pos (length walk.numbers.items)) ≤ℤ pos 20_000_000 }
     ensures { IfOk result (IsUpToWalk first walk) }
 {
@@ -194,7 +196,7 @@ fn days_to_count(
 fn days_of_rule(alloc: Global, rule: &SkipRule, kind: Kind, start: i64) -> Result<SkipDays, Fault>
     requires start { IsInYears kind start }
     requires fits { FitsSkipping kind start rule.now }
-    requires few { endless_cycle rule.now.rule.end rule.now.rule ≤ 16_777_216 }
+    requires few { endless_cycle rule.now.rule.end rule.now.rule ≤ MAX_CYCLE_DAYS }
     ensures days { IfOk result (AreSkipDays (is_member_day rule.now kind start) (day_part kind start)) }
     ensures period { IfOk result (λ days. days.period ≡ endless_cycle rule.now.rule.end rule.now.rule) }
     ensures refused { RefusedExactlyWhere (SkipsTooFar (Some rule.now) kind start) CountedTooFar result }
@@ -209,7 +211,7 @@ fn days_of_rule(alloc: Global, rule: &SkipRule, kind: Kind, start: i64) -> Resul
 
 // The day of a start alone.
 fn day_of_start(alloc: Global, first: i64) -> Result<SkipDays, NoMemory>
-    requires low { neg_ℤ (pos 719_162) ≤ℤ first }
+    requires low { first_day_of_all ≤ℤ first }
     requires high { first ≤ℤ pos 2_932_896 }
     ensures days { IfOk result (AreSkipDays (λ d. int_eq d first) first) }
     ensures period { IfOk result (λ days. days.period ≡ 1) }
@@ -227,7 +229,7 @@ fn day_of_start(alloc: Global, first: i64) -> Result<SkipDays, NoMemory>
 // The days of a rule, or of the start alone.
 fn days_of(alloc: Global, series: &SkipSeries) -> Result<SkipDays, Fault>
     requires sound { IsSoundSkipping series.now }
-    requires few { skip_cycle series.now ≤ 16_777_216 }
+    requires few { skip_cycle series.now ≤ MAX_CYCLE_DAYS }
     ensures days { IfOk result (AreSkipDays (is_occupied series.now.rule series.now.kind series.now.start) (day_part series.now.kind series.now.start)) }
     ensures period { IfOk result (λ days. days.period ≡ skip_cycle series.now) }
     ensures refused { RefusedExactlyWhere (IsSkippedTooFar series.now) CountedTooFar result }
@@ -257,7 +259,7 @@ fn sets_of(alloc: Global, second: u32) -> Result<Shapes, NoMemory>
 /// four bytes for each day from the start's on, up to a cycle past the settled day.
 pub fn fold_skip(alloc: Global, series: &SkipSeries) -> Result<Folded, Fault>
     requires sound { IsSoundSkipping series.now }
-    requires few { skip_cycle series.now ≤ 16_777_216 }
+    requires few { skip_cycle series.now ≤ MAX_CYCLE_DAYS }
     ensures stands { IfOk result (λ f. StandsFor (⟦<Folded as DaySeq>⟧.sketch f) (OccursSkipping series.now)) }
     ensures kind { IfOk result (λ f. (⟦<Folded as DaySeq>⟧.sketch f).kind ≡ series.now.kind) }
     ensures near { IfOk result (λ f. (⟦<Folded as DaySeq>⟧.sketch f).settled ≤ℤ pos 20_000_000) }

@@ -1,5 +1,6 @@
 // A walk over days that tells of each whether it is chosen.
-ghost use Rattle.std.specs.Prelude.{◌≡◌, ◌≤◌, ◌≤ℤ◌, ◌+ℤ◌, IfOk, OnOk, neg_ℤ, pos};
+ghost use Rattle.std.specs.Prelude.{◌≡◌, ◌≤◌, ◌≤ℤ◌, ◌+ℤ◌, IfOk, OnOk, pos};
+ghost use Rattle.rr_model.specs.Bounds.{first_day_of_all};
 ghost use Rattle.rr_skip.specs.Months.{is_day_chosen};
 ghost use Rattle.rr_skip.specs.Walks.{IsStepped, IsWalked};
 
@@ -35,7 +36,7 @@ impl Walk {
 
 /// The day `place` days after the first.
 pub(crate) fn day_at(first: i64, place: usize) -> i64
-    requires low { neg_ℤ (pos 719_162) ≤ℤ first }
+    requires low { first_day_of_all ≤ℤ first }
     requires high { (first +ℤ pos place) ≤ℤ pos 40_000_000 }
     ensures { result ≡ first +ℤ pos place }
 {
@@ -51,7 +52,7 @@ pub(crate) fn walked(
     most: u64,
 ) -> Result<Walk, NoMemory>
     requires some { 1 ≤ schedule.now.interval }
-    requires low { neg_ℤ (pos 719_162) ≤ℤ first }
+    requires low { first_day_of_all ≤ℤ first }
     requires high { (first +ℤ pos end) ≤ℤ pos 40_000_000 }
     ensures { IfOk result (IsWalked (is_day_chosen schedule.now) first end most) }
 {

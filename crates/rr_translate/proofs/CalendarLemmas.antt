@@ -17,6 +17,7 @@ use Rattle.rr_model.specs.declared.kind.Kind.{Kind}
 use Rattle.rr_model.specs.declared.kind.Kind.TheVariants.{Days}
 use Rattle.rr_model.specs.declared.lang.Lang.TheVariants.{Rrule}
 use Rattle.rr_model.specs.declared.rule.Series.{Series}
+use Rattle.rr_model.specs.declared.limits.TheConstants.{MAX_CYCLE_DAYS}
 use Rattle.rr_model.proofs.RisingSetLemmas.{Contains-head, Contains-none}
 use Rattle.rr_rrule.proofs.WrittenSeriesLemmas.{calendar_is_read_back}
 use Rattle.rr_translate.specs.OneEnd.{with_one_ends}
@@ -107,11 +108,11 @@ empty_states = record {
 }
 
 -- the text that is written for a sound series whose cycle is within the limit
-pub is_calendar_text : (series : Series) → IsSound series → series_cycle series ≤ 16_777_216
+pub is_calendar_text : (series : Series) → IsSound series → series_cycle series ≤ MAX_CYCLE_DAYS
     → IsCalendarText series (calendar_written (with_one_ends series))
 is_calendar_text series s few = record {
   written = refl;
-  few = subst (λ n. n ≤ 16_777_216) (sym (same_series_cycle series)) few;
+  few = subst (λ n. n ≤ MAX_CYCLE_DAYS) (sym (same_series_cycle series)) few;
   states = elim series.start_counts as (λ b. series.start_counts ≡ b → States Rrule (Occurs series) (calendar_written (with_one_ends series))) [
     | true ↦ λ e. written_states series s e
     | false ↦ λ e. subst (λ x. States Rrule (Occurs x) (calendar_written (with_one_ends x))) (sym (is_none series e (s.valid.start_counts e))) empty_states

@@ -4,6 +4,7 @@ ghost use Rattle.rr_fold.specs.Judged.{all_limits};
 ghost use Rattle.rr_model.specs.Series.Cycle.{series_cycle};
 ghost use Rattle.rr_model.specs.Series.Occurrences.{Occurs};
 ghost use Rattle.rr_model.specs.Sets.Sketch.{StandsIn};
+ghost use Rattle.rr_model.specs.declared.limits.TheConstants.{MAX_CYCLE_DAYS};
 ghost use Rattle.rr_translate.specs.Translated.{HasNoPattern, IsAnswered, IsGraphText, IsSaid};
 
 use rr_check::Checked;
@@ -26,7 +27,7 @@ pub fn graph_of_days<A: DaySeq>(alloc: Global, days: &A) -> Result<Vec<u8>, Faul
 
 /// The text of the first pattern and range that have the occurrences of a series.
 pub(crate) fn graph_text(alloc: Global, series: &Checked) -> Result<Vec<u8>, Fault>
-    requires few { series_cycle series.now ≤ 16_777_216 }
+    requires few { series_cycle series.now ≤ MAX_CYCLE_DAYS }
     ensures { IsAnswered all_limits series.now (λ text. IsGraphText (Occurs series.now) text.items) (HasNoPattern (Occurs series.now)) result }
 {
     let days = fold(alloc, series)?;

@@ -3,6 +3,7 @@ ghost use Rattle.std.specs.Prelude.{◌≡◌, ◌≤◌, IfOk};
 ghost use Rattle.rr_fold.specs.Judged.{all_limits};
 ghost use Rattle.rr_model.specs.Series.Cycle.{series_cycle};
 ghost use Rattle.rr_model.specs.Series.Occurrences.{Occurs};
+ghost use Rattle.rr_model.specs.declared.limits.TheConstants.{MAX_CYCLE_DAYS};
 ghost use Rattle.rr_translate.specs.Single.{IsFirstSeries};
 ghost use Rattle.rr_translate.specs.Translated.{HasNoRule, IsAnswered, IsInferredText, IsVcalText, vseries_of};
 
@@ -30,7 +31,7 @@ fn series_of(alloc: Global, found: Found) -> Result<VSeries, NoMemory>
 
 // The first single rule that has the occurrences of a series.
 fn first_series(alloc: Global, series: &Checked) -> Result<VSeries, Fault>
-    requires few { series_cycle series.now ≤ 16_777_216 }
+    requires few { series_cycle series.now ≤ MAX_CYCLE_DAYS }
     ensures { IsAnswered all_limits series.now (IsFirstSeries (Occurs series.now)) (HasNoRule (Occurs series.now)) result }
 {
     let days = fold(alloc, series)?;
@@ -42,7 +43,7 @@ fn first_series(alloc: Global, series: &Checked) -> Result<VSeries, Fault>
 
 /// The vCalendar 1.0 text of the first single rule.
 pub(crate) fn vcal_text(alloc: Global, series: &Checked) -> Result<Vec<u8>, Fault>
-    requires few { series_cycle series.now ≤ 16_777_216 }
+    requires few { series_cycle series.now ≤ MAX_CYCLE_DAYS }
     ensures { IsAnswered all_limits series.now (λ text. IsVcalText (Occurs series.now) text.items) (HasNoRule (Occurs series.now)) result }
 {
     let first = first_series(alloc, series)?;
@@ -51,7 +52,7 @@ pub(crate) fn vcal_text(alloc: Global, series: &Checked) -> Result<Vec<u8>, Faul
 
 /// The text of RFC 5545 with the same rule.
 pub(crate) fn inferred_text(alloc: Global, series: &Checked) -> Result<Vec<u8>, Fault>
-    requires few { series_cycle series.now ≤ 16_777_216 }
+    requires few { series_cycle series.now ≤ MAX_CYCLE_DAYS }
     ensures { IsAnswered all_limits series.now (λ text. IsInferredText (Occurs series.now) text.items) (HasNoRule (Occurs series.now)) result }
 {
     let first = first_series(alloc, series)?;

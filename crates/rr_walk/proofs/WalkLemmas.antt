@@ -5,6 +5,7 @@ use Rattle.std.specs.Prelude.{Option, Some, None, IsTrue, nat_lt, nat_le, int_le
 use Rattle.std.proofs.lemmas.Int.{ints, by_lt_z}
 use Rattle.std.proofs.lemmas.Bool.{cases_lt, false≢true, and_parts}
 use Rattle.std.proofs.lemmas.Bool.Decides.{nat_tests}
+use Rattle.rr_model.specs.Bounds.{first_day_of_all}
 use Rattle.rr_lazy.specs.DayTimes.{DayTimes}
 use Rattle.rr_model.specs.Whole.{divides, floor_div, floor_mod}
 use Rattle.rr_model.specs.Calendar.{IsDayWithin, first_day_of_year}
@@ -35,7 +36,7 @@ use Rattle.rr_lazy.proofs.TreeLemmas.{stands_below}
 use Rattle.rr_walk.specs.Walk.{IsFirstSecond, HasNoneOf, IsFirstIn, IsFirstOf, IsFirstUpTo, IsWalked}
 
 -- the start's day is near
-pub start_near : (kind : Kind) (start day : ℤ) → day ≡ day_part kind start → IsInYears kind start → (negsuc 719_161 ≤ℤ day) × (day ≤ℤ pos 2_932_896)
+pub start_near : (kind : Kind) (start day : ℤ) → day ≡ day_part kind start → IsInYears kind start → (first_day_of_all ≤ℤ day) × (day ≤ℤ pos 2_932_896)
 unfolding first_day_of_year
 start_near kind start day e y = (omega (arith, ints, e, y.0), omega (arith, ints, e, y.1))
 

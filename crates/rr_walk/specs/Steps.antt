@@ -2,6 +2,7 @@
 use Rattle.std.specs.Prelude.{◌≡◌, ℤ, pos, negsuc, ◌≤ℤ◌, refl}
 use Rattle.std.proofs.Common.{arith}
 use Rattle.std.proofs.lemmas.Int.{ints}
+use Rattle.rr_model.specs.Bounds.{first_day_of_all}
 use Rattle.rr_model.specs.Calendar.{first_day_of_year}
 use Rattle.rr_model.specs.Sets.Tree.{Tree, chosen_of}
 use Rattle.rr_lazy.specs.Next.{IsSoundLazy}
@@ -13,7 +14,7 @@ tree_of_ruling r = chosen_of r.rule r.kind r.start
 
 -- not before 0001-01-01
 abbrev pub HasBegun : ℤ → Type 0
-HasBegun position = negsuc 719_161 ≤ℤ position
+HasBegun position = first_day_of_all ≤ℤ position
 
 first_day_is : first_day_of_year (pos 1) ≡ negsuc 719_161
 unfolding first_day_of_year

@@ -1,5 +1,6 @@
 // The chosen moments of a rule from its start on, day after day.
-ghost use Rattle.std.specs.Prelude.{◌≡◌, ◌≤ℤ◌, IfOk, List, neg_ℤ, pos, ℕ};
+ghost use Rattle.std.specs.Prelude.{◌≡◌, ◌≤ℤ◌, IfOk, List, ℕ};
+ghost use Rattle.rr_model.specs.Bounds.{earliest_day, latest_day};
 ghost use Rattle.rr_model.specs.Moment.Units.{is_whole_days};
 ghost use Rattle.rr_model.specs.Moment.Years.{IsInYears};
 ghost use Rattle.rr_model.specs.Rule.Validity.{IsValidRule};
@@ -13,7 +14,7 @@ use crate::day_rule::DayRule;
 use crate::fine_rule::FineRule;
 use crate::rule_walk::RuleWalk;
 use rr_lazy::{Lazy, OccupiedDay};
-use rr_model::{Kind, NoMemory, Rule};
+use rr_model::{FIRST_DAY, Kind, NoMemory, Rule};
 use rr_shapes::SetTable;
 use std::alloc::Global;
 
@@ -60,7 +61,7 @@ impl<W: RuleWalk + Drop> Chosen<W> {
         let walk = W::new(alloc, rule, kind, start)?;
         Ok(Chosen {
             walk,
-            position: -719_162,
+            position: FIRST_DAY,
         })
     }
 
@@ -108,8 +109,8 @@ fn step<W: RuleWalk>(
 ) -> Result<Option<OccupiedDay>, NoMemory>
     requires valid { IsValidRuling (W.ruling walk.old) }
     requires begun { HasBegun position.old }
-    requires low { neg_ℤ (pos 2_999_999_999_000) ≤ℤ to }
-    requires high { to ≤ℤ pos 2_999_999_999_000 }
+    requires low { earliest_day ≤ℤ to }
+    requires high { to ≤ℤ latest_day }
     requires knows { W.keeps walk.old sets.old }
     ensures same { IsSameRuling (W.ruling walk.new) (W.ruling walk.old) }
     ensures knows { W.keeps walk.new sets.new }

@@ -1,5 +1,5 @@
 -- The occupied days of a set up to its least start, and of its least period from there on, are its least sketch.
-use Rattle.std.proofs.Common.{◌≡◌, ◌⊎◌, ℕ, zero, suc, ◌/◌, ◌*◌, ◌%◌, ◌≤◌, false, cond, List, [], ◌∷◌, ◌++◌, length, length-append, ℤ, pos, neg_ℤ, nat_abs}
+use Rattle.std.proofs.Common.{◌≡◌, ◌⊎◌, ℕ, zero, suc, ◌/◌, ◌*◌, ◌%◌, ◌≤◌, false, cond, List, [], ◌∷◌, ◌++◌, length, length-append, ℤ, pos, nat_abs}
 use Rattle.std.proofs.Common.{◌+ℤ◌, ◌-ℤ◌, ◌≤ℤ◌, ◌<ℤ◌, inl, inr, refl, sym, ap, subst, ◌∙◌, arith}
 use Rattle.std.specs.Prelude.{Some}
 use Rattle.std.specs.Int.{int_max}
@@ -9,6 +9,7 @@ use Rattle.std.proofs.lemmas.Int.{ints, clamps, by_lt_z}
 use Rattle.std.proofs.lemmas.Nat.{mod_below, div-add-mod'}
 use Rattle.std.proofs.lemmas.List.{append-nil}
 use Rattle.std.proofs.lemmas.List.Elements.{All-nil, All-cons, All-head, All-append}
+use Rattle.rr_model.specs.Bounds.{earliest_near, latest_near}
 use Rattle.rr_model.specs.Moment.{day_part}
 use Rattle.rr_model.specs.Whole.Periodic.{RepeatsFrom}
 use Rattle.rr_model.specs.Sets.Sketch.{HasRisingDays, IsValidSketch, IsDaySequence, IsFirstDay, IsNearDay, IsTimeSet, StandsIn, day_in_cycle, times_in}
@@ -93,7 +94,7 @@ module _ (s : Sketch) (v : IsValidSketch s) (q : ℤ) where
           All-cons (λ (x : DayShape). IsTimeSet s.kind x.times) (record { day = q +ℤ pos n; times = x ∷ xs }) [] set
           (All-nil (λ (x : DayShape). IsTimeSet s.kind x.times))
 
-rising_near : (low high : ℤ) (ss : List DayShape) → neg_ℤ (pos 1_000_000_000) ≤ℤ low → high ≤ℤ pos 1_000_000_000 → HasRisingDays low high ss
+rising_near : (low high : ℤ) (ss : List DayShape) → earliest_near ≤ℤ low → high ≤ℤ latest_near → HasRisingDays low high ss
     → All (λ s. IsNearDay s.day) ss
 rising_near low high [] l h r = All-nil (λ (s : DayShape). IsNearDay s.day)
 rising_near low high (s ∷ ss) l h r =
@@ -171,7 +172,7 @@ module _ (s : Sketch) (bounded : IsDaySequence s) (first : ℤ) (n p : ℕ) (is_
       let a = near.0 in
       let b = near.1 in
       let c = bounded.settled.1 in
-      let high : (first +ℤ pos n) ≤ℤ pos 1_000_000_000 = omega (arith, ints, clamps, start_within) in
+      let high : (first +ℤ pos n) ≤ℤ latest_near = omega (arith, ints, clamps, start_within) in
       let fewer : p ≤ s.period = least.least s.period (s.settled, record { some = v.period; repeats = repeats s v }) in
       record {
         valid = sketch_from_valid;

@@ -1,7 +1,8 @@
 -- A bounded sketch, as a fact that has one proof at most, so that a struct can keep it.
-use Rattle.std.specs.Prelude.{ℕ, ◌≤◌, List, [], ◌∷◌, Option, Some, None, ℤ, pos, neg_ℤ, ◌+ℤ◌, nat_lt}
+use Rattle.std.specs.Prelude.{ℕ, ◌≤◌, List, [], ◌∷◌, Option, Some, None, ℤ, pos, ◌+ℤ◌, nat_lt}
 use Rattle.std.proofs.Props.{props}
 use Rattle.std.specs.List.{All}
+use Rattle.rr_model.specs.Bounds.{earliest_near, longest_period}
 use Rattle.rr_model.specs.Rising.{Rises}
 use Rattle.rr_model.specs.Sets.Sketch.{HasRisingDays, IsTimeSet, IsNearDay, IsFirstDay, IsDaySequence}
 use Rattle.rr_model.specs.declared.kind.Kind.{Kind}
@@ -12,9 +13,9 @@ use Rattle.rr_model.specs.declared.sketch.Sketch.{Sketch}
 -- what the sketch of a day sequence meets
 pub record IsBounded (s : Sketch) : Type 0 where
   pub some : 1 ≤ s.period
-  pub few : s.period ≤ 1_000_000_000
+  pub few : s.period ≤ longest_period
   pub settled : IsNearDay s.settled
-  pub before : HasRisingDays (neg_ℤ (pos 1_000_000_000)) s.settled s.before
+  pub before : HasRisingDays earliest_near s.settled s.before
   pub cycle : HasRisingDays s.settled (s.settled +ℤ pos s.period) s.cycle
   pub before_times : All (λ x. IsTimeSet s.kind x.times) s.before
   pub cycle_times : All (λ x. IsTimeSet s.kind x.times) s.cycle
@@ -48,7 +49,7 @@ pub IsDaySequence-bounded : (s : Sketch) → IsBounded s → IsDaySequence s
 IsDaySequence-bounded s b = record {
   valid = record {
     period = b.some;
-    before = (neg_ℤ (pos 1_000_000_000), b.before);
+    before = (earliest_near, b.before);
     cycle = b.cycle;
     before_times = b.before_times;
     cycle_times =

@@ -1,5 +1,6 @@
 // A sequence of days that is read in steps.
 ghost use Rattle.std.specs.Prelude.{◌≡◌, ◌+◌, ◌<◌, ◌≤◌, min, IfSome, Some, get_or, length, take, pos, neg_ℤ, ◌≤ℤ◌, slice_get};
+ghost use Rattle.rr_model.specs.Bounds.{longest_period};
 ghost use Rattle.rr_model.specs.Sets.Sketch.{IsFirstDay, IsNearDay, times_on};
 ghost use Rattle.rr_word.specs.Stretches.{AreFree, AreNumbersAfter, IsNumberOn};
 
@@ -60,7 +61,7 @@ impl<A: DaySeq + Drop> Counted<A> {
     pub fn period(&self) -> u64
         ensures value { result ≡ (A.sketch self.now).period }
         ensures some { 1 ≤ result }
-        ensures most { result ≤ 1_000_000_000 }
+        ensures most { result ≤ longest_period }
     {
         self.seq.period()
     }

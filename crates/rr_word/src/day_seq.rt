@@ -1,5 +1,6 @@
 // A set of occurrences, read day by day.
 ghost use Rattle.std.specs.Prelude.{◌≡◌, ◌<◌, ◌≤◌, ℕ, List, Some, length, pos, neg_ℤ, ◌≤ℤ◌, IfSome, slice_get};
+ghost use Rattle.rr_model.specs.Bounds.{longest_period};
 ghost use Rattle.rr_model.specs.Sets.Sketch.{IsDaySequence, IsFirstDay, IsNearDay, times_on};
 ghost use Rattle.rr_model.specs.declared.sketch.Sketch.{Sketch};
 ghost use Rattle.rr_word.specs.Stretches.{AreFree, IsStretch};
@@ -46,7 +47,7 @@ pub trait DaySeq {
     fn period(&self) -> u64
         ensures value { result ≡ (sketch self.now).period }
         ensures some { 1 ≤ result }
-        ensures most { result ≤ 1_000_000_000 };
+        ensures most { result ≤ longest_period };
 
     /// The seconds of a day within 3,000,000,000,000 either way, rising: 0 alone for an occupied day of dates,
     /// and none for an unoccupied day.

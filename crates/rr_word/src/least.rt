@@ -1,5 +1,6 @@
 // The least period and the least start.
-ghost use Rattle.std.specs.Prelude.{◌≡◌, ◌≤◌, ℤ, Some, pos, ◌≤ℤ◌};
+ghost use Rattle.std.specs.Prelude.{◌≡◌, ◌≤◌, ℤ, Some, ◌≤ℤ◌};
+ghost use Rattle.rr_model.specs.Bounds.{latest_near, longest_period};
 ghost use Rattle.rr_model.specs.Whole.Periodic.{RepeatsFrom};
 ghost use Rattle.rr_model.specs.Sets.Sketch.{IsFirstDay, IsNearDay, times_on};
 ghost use Rattle.rr_model.specs.Sets.Least.{HasPeriodFrom, IsEventualPeriod, IsLeastPeriod, IsLeastStart};
@@ -12,7 +13,7 @@ use rr_num::least_factor;
 // The period over the factor where the sequence repeats after that many days too, and else the period.
 fn divided_once<A: DaySeq>(seq: &A, period: u64, factor: u64) -> u64
     requires period { HasPeriodFrom (times_on (A.sketch seq.now)) (A.sketch seq.now).settled period }
-    requires few { period ≤ 1_000_000_000 }
+    requires few { period ≤ longest_period }
     requires factor { 1 ≤ factor }
     ensures { IsDividedOnce (times_on (A.sketch seq.now)) (A.sketch seq.now).settled period factor result }
 {
@@ -30,7 +31,7 @@ fn divided_once<A: DaySeq>(seq: &A, period: u64, factor: u64) -> u64
 /// It takes no memory.
 pub fn least_period<A: DaySeq>(seq: &A) -> u64
     ensures least { IsLeastPeriod (times_on (A.sketch seq.now)) result }
-    ensures few { result ≤ 1_000_000_000 }
+    ensures few { result ≤ longest_period }
 {
     let mut period = seq.period();
     let mut rest = period;
@@ -50,8 +51,8 @@ const BLOCK: u64 = 1_024;
 fn start_by_blocks<A: DaySeq>(seq: &A, first: i64, from: i64, period: u64) -> i64
     requires near { IsNearDay first }
     requires order { first ≤ℤ from }
-    requires high { from ≤ℤ pos 1_000_000_000 }
-    requires few { period ≤ 1_000_000_000 }
+    requires high { from ≤ℤ latest_near }
+    requires few { period ≤ longest_period }
     requires repeats { RepeatsFrom (times_on (A.sketch seq.now)) from period }
     ensures not_before { first ≤ℤ result }
     ensures not_after { result ≤ℤ from }

@@ -1,5 +1,6 @@
 // Whether days of a sequence have the same seconds.
-ghost use Rattle.std.specs.Prelude.{◌≡◌, ◌↔◌, ◌<◌, ◌≤◌, ℕ, IsTrue, length, get_or, pos, neg_ℤ, ◌+ℤ◌, ◌≤ℤ◌};
+ghost use Rattle.std.specs.Prelude.{◌≡◌, ◌↔◌, ◌<◌, ◌≤◌, ℕ, IsTrue, length, get_or, pos, ◌+ℤ◌, ◌≤ℤ◌};
+ghost use Rattle.rr_model.specs.Bounds.{earliest_near, longest_period};
 ghost use Rattle.rr_model.specs.Calendar.{IsDayWithin};
 ghost use Rattle.rr_model.specs.Whole.Periodic.{RepeatsFrom};
 ghost use Rattle.rr_model.specs.Sets.Sketch.{IsNearDay, times_on};
@@ -72,9 +73,9 @@ fn count_equal(xs: &[u32], ys: &[u32], most: usize) -> usize
 // How many days from one on, of at most `most`, are seen at once to have the seconds of the days `later` days later; 0 only where
 // the first has not.
 fn count_same<A: DaySeq>(seq: &A, day: i64, later: u64, most: u64) -> u64
-    requires low { neg_ℤ (pos 1_000_000_000) ≤ℤ day }
+    requires low { earliest_near ≤ℤ day }
     requires high { day ≤ℤ pos 2_000_000_000 }
-    requires few { later ≤ 1_000_000_000 }
+    requires few { later ≤ longest_period }
     requires some { 1 ≤ most }
     ensures most { result ≤ most }
     ensures none { result ≡ 0 → times_on (A.sketch seq.now) (day +ℤ pos later) ≡ times_on (A.sketch seq.now) day → ⊥ }
@@ -96,8 +97,8 @@ fn count_same<A: DaySeq>(seq: &A, day: i64, later: u64, most: u64) -> u64
 /// Whether `days` days from one on have the seconds of the days `later` days later.
 pub fn are_same<A: DaySeq>(seq: &A, from: i64, later: u64, days: u64) -> bool
     requires near { IsNearDay from }
-    requires few { later ≤ 1_000_000_000 }
-    requires few_days { days ≤ 1_000_000_000 }
+    requires few { later ≤ longest_period }
+    requires few_days { days ≤ longest_period }
     ensures { IsTrue result ↔ SameAfter (A.sketch seq.now) from days later }
 {
     let mut k = 0;
@@ -116,8 +117,8 @@ pub fn are_same<A: DaySeq>(seq: &A, from: i64, later: u64, days: u64) -> bool
 /// The days of one period that it has from there are compared, each with the day `days` later.
 pub fn repeats_after<A: DaySeq>(seq: &A, period: u64, days: u64) -> bool
     requires period { HasPeriodFrom (times_on (A.sketch seq.now)) (A.sketch seq.now).settled period }
-    requires few { period ≤ 1_000_000_000 }
-    requires few_days { days ≤ 1_000_000_000 }
+    requires few { period ≤ longest_period }
+    requires few_days { days ≤ longest_period }
     ensures { IsTrue result ↔ RepeatsFrom (times_on (A.sketch seq.now)) (A.sketch seq.now).settled days }
 {
     are_same(seq, seq.settled(), days, period)

@@ -1,7 +1,8 @@
 -- A set of occurrences that repeats from some day on: its occupied days, each with the seconds of its occurrences.
-use Rattle.std.specs.Prelude.{◌≡◌, ◌↔◌, ℕ, ◌<◌, ◌≤◌, if◌then◌else◌, Option, Some, None, List, [], ◌∷◌, nat_lt, ⊤, ℤ, pos, neg_ℤ, ◌+ℤ◌, ◌-ℤ◌, ◌≤ℤ◌, ◌<ℤ◌, int_lt}
+use Rattle.std.specs.Prelude.{◌≡◌, ◌↔◌, ℕ, ◌<◌, ◌≤◌, if◌then◌else◌, Option, Some, None, List, [], ◌∷◌, nat_lt, ⊤, ℤ, pos, ◌+ℤ◌, ◌-ℤ◌, ◌≤ℤ◌, ◌<ℤ◌, int_lt}
 use Rattle.std.specs.List.{All, Contains}
 use Rattle.std.specs.Ordering.{int_eq}
+use Rattle.rr_model.specs.Bounds.{earliest_near, latest_near, longest_period}
 use Rattle.rr_model.specs.Whole.{floor_mod}
 use Rattle.rr_model.specs.Moment.{Occurrences, day_part, second_part}
 use Rattle.rr_model.specs.Rising.{Rises}
@@ -69,7 +70,7 @@ IsFirstDay s (Some first) = (times_on s first ≡ [] → ⊥) × ((d : ℤ) → 
 
 -- a day within 1,000,000,000 of day 0
 abbrev pub IsNearDay : ℤ → Type 0
-IsNearDay d = (neg_ℤ (pos 1_000_000_000) ≤ℤ d) × (d ≤ℤ pos 1_000_000_000)
+IsNearDay d = (earliest_near ≤ℤ d) × (d ≤ℤ latest_near)
 
 -- what the sketch of every day sequence meets
 pub record IsDaySequence (s : Sketch) : Type 0 where
@@ -77,4 +78,4 @@ pub record IsDaySequence (s : Sketch) : Type 0 where
   pub settled : IsNearDay s.settled
   pub before : All (λ x. IsNearDay x.day) s.before
   pub first : (d : ℤ) → IsFirstDay s (Some d) → IsNearDay d
-  pub period : s.period ≤ 1_000_000_000
+  pub period : s.period ≤ longest_period

@@ -1,4 +1,5 @@
-use Rattle.std.proofs.Common.{pos, neg_ℤ, to_z-of_z, drop, sym}
+use Rattle.std.proofs.Common.{to_z-of_z, drop, sym}
+use Rattle.rr_model.specs.Bounds.{earliest_near}
 use Rattle.rr_runs.specs.Runs.{days_of}
 use Rattle.rr_days.proofs.RowLemmas.{before_within, cycle_within, parts_bounded, parts_empty, parts_first, parts_sketch, rises_from, row_rises}
 use Rattle.rr_days.proofs.folded.sequence_of_rest.Goals as goal
@@ -20,7 +21,7 @@ invariant_of-result c =
       empty = parts_empty a.kind a.shapes a.before (drop a.skipped a.row) a.first a.settled a.period w n none;
       before_within = rw early (before_within a.kind a.shapes a.before (drop a.skipped a.row) a.first a.settled a.period w n none);
       cycle_within = rw later (cycle_within a.kind a.shapes a.before (drop a.skipped a.row) a.first a.settled a.period w n none);
-      before_rises = rw early (rises_from (neg_ℤ (pos 1_000_000_000)) a.first (days_of a.first a.before) w.low (row_rises a.first a.before));
+      before_rises = rw early (rises_from earliest_near a.first (days_of a.first a.before) w.low (row_rises a.first a.before));
       cycle_rises = rw (s, later) (row_rises a.settled (drop a.skipped a.row));
     }
 

@@ -4,14 +4,14 @@ use Rattle.std.proofs.lemmas.Int.{to_z-of_z}
 use Rattle.rr_model.proofs.YearLemmas.{year_1, year_10000}
 use Rattle.rr_family.proofs.window.is_in_years.Goals as goal
 
-pub returns-then-day-geminus719162 : goal.returns-then-day-geminus719162
-returns-then-day-geminus719162 c =
+pub returns-then-day-ge-FIRST_DAY : goal.returns-then-day-ge-FIRST_DAY
+returns-then-day-ge-FIRST_DAY c =
     let back = to_z-of_z w64 c.args.day c.ranges.day in
-    let low : int_le (neg_ℤ (pos 719_162)) c.args.day ≡ true = rw back at c.if-day-geminus719162.true in
+    let low : int_le (neg_ℤ (pos 719_162)) c.args.day ≡ true = rw back at c.if-day-ge-FIRST_DAY.true in
     rw (year_1, year_10000, back, low) refl
 
-pub returns-else-day-geminus719162 : goal.returns-else-day-geminus719162
-returns-else-day-geminus719162 c =
+pub returns-else-day-ge-FIRST_DAY : goal.returns-else-day-ge-FIRST_DAY
+returns-else-day-ge-FIRST_DAY c =
     let back = to_z-of_z w64 c.args.day c.ranges.day in
-    let low : int_le (neg_ℤ (pos 719_162)) c.args.day ≡ false = rw back at c.if-day-geminus719162.false in
+    let low : int_le (neg_ℤ (pos 719_162)) c.args.day ≡ false = rw back at c.if-day-ge-FIRST_DAY.false in
     rw (year_1, year_10000, back, low) refl

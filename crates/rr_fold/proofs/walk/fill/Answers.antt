@@ -1,5 +1,6 @@
-use Rattle.std.proofs.Common.{ℕ, refl, ◌≡◌, ◌≤ℤ◌, ℤ, pos, ◌+ℤ◌, neg_ℤ, sym, ◌∙◌, arith, rules, w64, to_z, of_z, to_z-of_z, FitsSigned}
+use Rattle.std.proofs.Common.{ℕ, refl, ◌≡◌, ◌≤ℤ◌, ℤ, pos, ◌+ℤ◌, sym, ◌∙◌, arith, rules, w64, to_z, of_z, to_z-of_z, FitsSigned}
 use Rattle.std.proofs.lemmas.Int.{ints}
+use Rattle.rr_model.specs.Bounds.{earliest_day, latest_day}
 use Rattle.rr_model.specs.Series.Limits.{HasTooManyMoments}
 use Rattle.rr_lazy.specs.Next.{with_set}
 use Rattle.rr_fold.specs.Folding.{IsFoldedTo}
@@ -10,7 +11,7 @@ use Rattle.rr_fold.proofs.NumberingLemmas.{known_of_table, next_at}
 use Rattle.rr_fold.proofs.walk.fill.Goals as goal
 
 -- a day near enough keeps its number
-day_back : (first day to : ℤ) → neg_ℤ (pos 2_999_999_999_000) ≤ℤ first → first ≤ℤ day → day ≤ℤ to → to ≤ℤ pos 2_999_999_999_000 → to_z w64 (of_z w64 day) ≡ day
+day_back : (first day to : ℤ) → earliest_day ≤ℤ first → first ≤ℤ day → day ≤ℤ to → to ≤ℤ latest_day → to_z w64 (of_z w64 day) ≡ day
 day_back first day to a b c d = let fits : FitsSigned w64 day = search rules in to_z-of_z fits
 
 pub returns-in-None-clause-folded : goal.returns-in-None-clause-folded

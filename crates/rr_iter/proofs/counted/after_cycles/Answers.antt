@@ -1,9 +1,11 @@
 use Rattle.std.proofs.Common.{◌≡◌, ℕ, ◌*◌, ◌-◌, ◌/◌, ◌≤◌, ℤ, pos, neg_ℤ, ◌+ℤ◌, ◌-ℤ◌, ◌≤ℤ◌, w64, to_z, of_z, FitsSigned, to_z-of_z, refl, arith}
 use Rattle.std.proofs.lemmas.Int.{ints}
+use Rattle.rr_model.specs.Bounds.{first_day_of_all}
 use Rattle.rr_model.specs.Moment.{day_part}
 use Rattle.rr_model.specs.Moment.Years.{IsFromYearOne}
 use Rattle.rr_model.specs.Rule.Cycle.{rule_cycle}
 use Rattle.rr_model.specs.Sets.Tree.{chosen_of}
+use Rattle.rr_model.specs.declared.limits.TheConstants.{MAX_SPAN_DAYS}
 use Rattle.rr_model.proofs.YearLemmas.{year_1}
 use Rattle.rr_iter.specs.Ends.{HasNumberOn}
 use Rattle.rr_iter.proofs.CountedLemmas.{rule_number_moved, rule_number_beyond, rule_number_after, start_bounds, cycle_some, days_within}
@@ -14,7 +16,7 @@ use Rattle.rr_iter.proofs.counted.after_cycles.Goals as goal
 -- ---- k cycles, so that a span has them; the start's day is `r`, and `to` the last day to be looked at
 
 record Span (first : ℤ) (days : ℕ) (r : ℤ) : Type 0 where
-  within : days ≤ 16_777_216
+  within : days ≤ MAX_SPAN_DAYS
   low : neg_ℤ (pos 719_162) ≤ℤ (first +ℤ (pos 16_777_216 -ℤ pos days))
   high : (first +ℤ (pos 16_777_216 -ℤ pos days)) ≤ℤ pos 2_999_999_999_000
   rest_fits : FitsSigned w64 (pos 16_777_216 -ℤ to_z w64 days)
@@ -24,7 +26,7 @@ record Span (first : ℤ) (days : ℕ) (r : ℤ) : Type 0 where
   later : (day : ℤ) → IsFromYearOne day → day ≤ℤ (first +ℤ (pos 16_777_216 -ℤ pos days))
       → FitsSigned w64 (to_z w64 (of_z w64 day) +ℤ to_z w64 days) × (to_z w64 (of_z w64 (to_z w64 (of_z w64 day) +ℤ to_z w64 days)) ≡ day +ℤ pos days)
 
-span_is : (first : ℤ) (days : ℕ) (r : ℤ) → neg_ℤ (pos 719_162) ≤ℤ first → first ≤ℤ pos 2_932_896 → days ≤ 16_777_216 → r ≡ first → Span first days r
+span_is : (first : ℤ) (days : ℕ) (r : ℤ) → first_day_of_all ≤ℤ first → first ≤ℤ pos 2_932_896 → days ≤ MAX_SPAN_DAYS → r ≡ first → Span first days r
 span_is first days r low high within e =
     let days_is : to_z w64 days ≡ pos days = omega (arith, ints, within) in
     let first_is : to_z w64 (of_z w64 r) ≡ first = omega (arith, ints, e, low, high) in

@@ -1,9 +1,11 @@
-use Rattle.std.proofs.Common.{◌≡◌, ℕ, ◌+◌, ◌≤◌, ℤ, pos, neg_ℤ, ◌+ℤ◌, ◌≤ℤ◌, w64, to_z, of_z, FitsSigned, to_z-of_z, refl, ap, arith}
+use Rattle.std.proofs.Common.{◌≡◌, ℕ, ◌+◌, ◌≤◌, ℤ, pos, ◌+ℤ◌, ◌≤ℤ◌, w64, to_z, of_z, FitsSigned, to_z-of_z, refl, ap, arith}
 use Rattle.std.proofs.lemmas.Int.{ints}
+use Rattle.rr_model.specs.Bounds.{first_day_of_all}
 use Rattle.rr_model.specs.Moment.{day_part}
 use Rattle.rr_model.specs.Moment.Years.{IsFromYearOne}
 use Rattle.rr_model.specs.Rule.Cycle.{rule_cycle}
 use Rattle.rr_model.specs.Sets.Tree.{Tree, chosen_of, stands_at}
+use Rattle.rr_model.specs.declared.limits.TheConstants.{MAX_SPAN_DAYS}
 use Rattle.rr_model.proofs.YearLemmas.{year_1}
 use Rattle.rr_lazy.proofs.CountingLemmas.{before_grows}
 use Rattle.rr_iter.specs.Ends.{before_day}
@@ -11,7 +13,7 @@ use Rattle.rr_iter.proofs.CountedLemmas.{rule_number_never, start_begun, start_b
 use Rattle.rr_iter.proofs.counted.after_start.Goals.{After-day_part, Else-after-left}
 use Rattle.rr_iter.proofs.counted.after_start.Goals as goal
 
-to_fits : (r first : ℤ) (days : ℕ) → r ≡ first → neg_ℤ (pos 719_162) ≤ℤ first → first ≤ℤ pos 2_932_896 → days ≤ 16_777_216
+to_fits : (r first : ℤ) (days : ℕ) → r ≡ first → first_day_of_all ≤ℤ first → first ≤ℤ pos 2_932_896 → days ≤ MAX_SPAN_DAYS
     → FitsSigned w64 (to_z w64 (of_z w64 r) +ℤ to_z w64 days)
 to_fits r first days e l h d =
     let a : to_z w64 days ≡ pos days = omega (arith, ints, d) in
@@ -19,7 +21,7 @@ to_fits r first days e l h d =
     rw (a, b) (omega (arith, ints, l, h, d))
 
 -- the last day to be looked at
-to_is : (r first : ℤ) (days : ℕ) → r ≡ first → neg_ℤ (pos 719_162) ≤ℤ first → first ≤ℤ pos 2_932_896 → days ≤ 16_777_216
+to_is : (r first : ℤ) (days : ℕ) → r ≡ first → first_day_of_all ≤ℤ first → first ≤ℤ pos 2_932_896 → days ≤ MAX_SPAN_DAYS
     → to_z w64 (of_z w64 (to_z w64 (of_z w64 r) +ℤ to_z w64 days)) ≡ first +ℤ pos days
 to_is r first days e l h d =
     let a : to_z w64 days ≡ pos days = omega (arith, ints, d) in
@@ -36,8 +38,8 @@ left_falls tree first days count left after begun l a =
 -- ---- a cycle after the start's day, or the most days of a span
 
 record Span (c : After-day_part) : Type 0 where
-  within : c.cycle_within_span-cycle.result ≤ 16_777_216
-  low : neg_ℤ (pos 719_162) ≤ℤ day_part c.args.kind c.args.start
+  within : c.cycle_within_span-cycle.result ≤ MAX_SPAN_DAYS
+  low : first_day_of_all ≤ℤ day_part c.args.kind c.args.start
   high : day_part c.args.kind c.args.start ≤ℤ pos 2_932_896
   day : c.day_part.result ≡ day_part c.args.kind c.args.start
   to : to_z w64 (of_z w64 (to_z w64 (of_z w64 c.day_part.result) +ℤ to_z w64 c.cycle_within_span-cycle.result))
@@ -47,7 +49,7 @@ span : (c : After-day_part) → Span c
 span c =
     let first : ℤ = day_part c.args.kind c.args.start in
     let cycle : ℕ = c.cycle_within_span-cycle.result in
-    let within : cycle ≤ 16_777_216 = omega (arith, c.cycle_within_span-cycle.ensures) in
+    let within : cycle ≤ MAX_SPAN_DAYS = omega (arith, c.cycle_within_span-cycle.ensures) in
     let bounds = start_bounds c.args.kind c.args.start c.args.rule.now c.requires.sound in
     let day = rw (to_z-of_z c.ranges.start) at c.day_part.ensures in
     record {
@@ -145,6 +147,6 @@ pub returns-in-On : goal.returns-in-On
 returns-in-On c =
     let s = span (goal.at.returns-in-On c).After-day_part in
     let place = rw (c.in-On.is, to_z-of_z c.ranges.start, s.to) at c.in_ok-day.ensures in
-    let low : neg_ℤ (pos 719_162) ≤ℤ c.in-On.day = omega (arith, ints, place.1.begun, year_1) in
+    let low : first_day_of_all ≤ℤ c.in-On.day = omega (arith, ints, place.1.begun, year_1) in
     let same : to_z w64 (of_z w64 c.in-On.day) ≡ c.in-On.day = omega (arith, ints, low, place.0, s.high, s.within) in
     rw same (omega (arith, ints, place.0, s.within), place.1)

@@ -1,5 +1,6 @@
-use Rattle.std.proofs.Common.{◌≡◌, ℤ, pos, neg_ℤ, ◌≤ℤ◌, w64, to_z, of_z, to_z-of_z, refl, arith}
+use Rattle.std.proofs.Common.{◌≡◌, ℤ, ◌≤ℤ◌, w64, to_z, of_z, to_z-of_z, refl, arith}
 use Rattle.std.proofs.lemmas.Int.{ints}
+use Rattle.rr_model.specs.Bounds.{first_day_of_all}
 use Rattle.rr_model.specs.Moment.{day_part}
 use Rattle.rr_model.proofs.YearLemmas.{year_1}
 use Rattle.rr_iter.proofs.CountedLemmas.{span_most, start_bounds}
@@ -22,6 +23,6 @@ returns-in-On c =
     let day = rw (to_z-of_z c.ranges.start) at c.day_part.ensures in
     let t : to_z w64 (of_z w64 c.day_part.result) ≡ first = omega (arith, ints, day, bounds.0, bounds.1) in
     let place = rw (c.in-On.is, to_z-of_z c.ranges.start, t) at c.in_ok-day.ensures in
-    let low : neg_ℤ (pos 719_162) ≤ℤ c.in-On.day = omega (arith, ints, place.1.begun, year_1) in
+    let low : first_day_of_all ≤ℤ c.in-On.day = omega (arith, ints, place.1.begun, year_1) in
     let same : to_z w64 (of_z w64 c.in-On.day) ≡ c.in-On.day = omega (arith, ints, low, place.0, bounds.1) in
     rw same (omega (arith, ints, place.0), place.1)

@@ -1,6 +1,7 @@
-use Rattle.std.proofs.Common.{rules, ◌≡◌, pos, neg_ℤ, ◌+ℤ◌, ◌≤ℤ◌, ℤ, w64, to_z, of_z, FitsSigned, to_z-of_z, subst, arith}
+use Rattle.std.proofs.Common.{rules, ◌≡◌, pos, ◌+ℤ◌, ◌≤ℤ◌, ℤ, w64, to_z, of_z, FitsSigned, to_z-of_z, subst, arith}
 use Rattle.std.specs.Prelude.{Err}
 use Rattle.std.proofs.lemmas.Int.{ints}
+use Rattle.rr_model.specs.Bounds.{first_day_of_all}
 use Rattle.rr_model.specs.Answers.{RefusedExactlyWhere}
 use Rattle.rr_model.specs.Moment.{day_part}
 use Rattle.rr_model.specs.Series.Limits.{CountSomeTooFar, IsCountedTooFar}
@@ -16,7 +17,7 @@ use Rattle.rr_iter.proofs.settled.ends.Goals as goal
 record Dates (c : After-as_slice) : Type 0 where
   start : to_z w64 (of_z w64 c.series-given.result.now.start) ≡ c.series-given.result.now.start
   same : to_z w64 (of_z w64 c.last_of-with_dates.result) ≡ c.last_of-with_dates.result
-  low : neg_ℤ (pos 719_162) ≤ℤ c.last_of-with_dates.result
+  low : first_day_of_all ≤ℤ c.last_of-with_dates.result
   late : day_part c.series-given.result.now.kind c.series-given.result.now.start ≤ℤ c.last_of-with_dates.result
   high : c.last_of-with_dates.result ≤ℤ pos 19_710_112
   settled : (rules last : ℤ)
@@ -81,7 +82,7 @@ returns-in-Err-clause-refused c =
 record Rules (c : After-as_slice-2) : Type 0 where
   last : IsLastOfRules c.series-given.result.now.kind c.series-given.result.now.start c.series-given.result.now.rules c.last_of-with_dates.result c.in-Ok.day
   same : to_z w64 (of_z w64 c.in-Ok.day) ≡ c.in-Ok.day
-  low : neg_ℤ (pos 719_162) ≤ℤ c.in-Ok.day
+  low : first_day_of_all ≤ℤ c.in-Ok.day
   late : day_part c.series-given.result.now.kind c.series-given.result.now.start ≤ℤ c.in-Ok.day
 
 by_rules : (c : After-as_slice-2) → Rules c
@@ -117,7 +118,7 @@ last_of_rules-requires-2-clause-near c = rw (by_rules c).same c.in-Ok.ensures.ne
 record Whole (c : In-Ok-last_of_rules) : Type 0 where
   last : IsLastOfRules c.series-given.result.now.kind c.series-given.result.now.start c.series-given.result.now.excluded c.in-Ok.day
       c.in-Ok-last_of_rules.day
-  low : neg_ℤ (pos 719_162) ≤ℤ c.in-Ok-last_of_rules.day
+  low : first_day_of_all ≤ℤ c.in-Ok-last_of_rules.day
   next : to_z w64 (of_z w64 (to_z w64 (of_z w64 c.in-Ok-last_of_rules.day) +ℤ pos 1)) ≡ c.in-Ok-last_of_rules.day +ℤ pos 1
 
 by_all : (c : In-Ok-last_of_rules) → Whole c
@@ -125,7 +126,7 @@ by_all c =
     let at = goal.at.returns-in-Ok-last_of_rules-clause-settled c in
     let r = by_rules at.After-as_slice-2 in
     let last = rw ((dates at.After-as_slice).start, r.same, c.as_slice-2.ensures) at c.in-Ok-last_of_rules.ensures.last in
-    let low : neg_ℤ (pos 719_162) ≤ℤ c.in-Ok-last_of_rules.day = omega (arith, ints, last.late, r.low) in
+    let low : first_day_of_all ≤ℤ c.in-Ok-last_of_rules.day = omega (arith, ints, last.late, r.low) in
     let same : to_z w64 (of_z w64 c.in-Ok-last_of_rules.day) ≡ c.in-Ok-last_of_rules.day = omega (arith, ints, low, c.in-Ok-last_of_rules.ensures.near) in
     record { last = last; low = low; next = rw same (omega (arith, ints, low, c.in-Ok-last_of_rules.ensures.near)) }
 

@@ -1,4 +1,5 @@
 use Rattle.std.proofs.Common.{arith, subst, sym}
+use Rattle.rr_model.specs.Bounds.{longest_period}
 use Rattle.rr_model.specs.Sets.Sketch.{times_on}
 use Rattle.rr_word.proofs.SketchLemmas.{repeats}
 use Rattle.rr_model.specs.Sets.DividingOut.{IsPeriodSoFar}
@@ -36,7 +37,7 @@ loop-rest-preserved g c =
       none_below_left (times_on s) s.settled c.loop-rest.period c.loop-rest.rest k known.0 factor,
       factor.some,
       omega (arith, small.1, known.5),
-      divided_within (times_on s) s.settled c.loop-rest.period k c.divided_once-period.result 1_000_000_000 known.4 c.divided_once-period.ensures,
+      divided_within (times_on s) s.settled c.loop-rest.period k c.divided_once-period.result longest_period known.4 c.divided_once-period.ensures,
       omega (arith, small.0, known.5),
     )
 

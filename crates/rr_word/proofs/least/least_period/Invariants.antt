@@ -1,4 +1,5 @@
 use Rattle.std.specs.Prelude.{◌≤◌}
+use Rattle.rr_model.specs.Bounds.{longest_period}
 use Rattle.rr_model.specs.Sets.Sketch.{times_on}
 use Rattle.rr_model.specs.Sets.DividingOut.{HasNoFactorBelow, IsPeriodSoFar}
 use Rattle.rr_word.proofs.least.least_period.Given as goal
@@ -9,9 +10,9 @@ invariant-loop-rest g l =
     IsPeriodSoFar (times_on (g.A.DaySeq.sketch l.seq)) (g.A.DaySeq.sketch l.seq).settled l.period l.rest
     × HasNoFactorBelow l.rest l.factor
     × (2 ≤ l.factor)
-    × (l.factor ≤ 1_000_000_000)
-    × (l.period ≤ 1_000_000_000)
-    × (l.rest ≤ 1_000_000_000)
+    × (l.factor ≤ longest_period)
+    × (l.period ≤ longest_period)
+    × (l.rest ≤ longest_period)
 
 abbrev pub decreases-loop-rest : goal.decreases-loop-rest
 decreases-loop-rest g l = l.rest

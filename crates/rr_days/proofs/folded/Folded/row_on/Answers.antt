@@ -1,6 +1,7 @@
-use Rattle.std.proofs.Common.{◌≡◌, ◌-◌, ◌%◌, ◌<◌, pos, neg_ℤ, ◌+ℤ◌, to_z, of_z, w64, to_z-of_z, arith}
+use Rattle.std.proofs.Common.{◌≡◌, ◌-◌, ◌%◌, ◌<◌, pos, ◌+ℤ◌, to_z, of_z, w64, to_z-of_z, arith}
 use Rattle.std.proofs.lemmas.Int.{ints}
 use Rattle.std.proofs.lemmas.Nat.{mod_below}
+use Rattle.rr_model.specs.Bounds.{earliest_near}
 use Rattle.rr_days.proofs.RowLemmas.{row_before, row_of_cycle}
 use Rattle.rr_days.proofs.folded.Folded.row_on.Goals as goal
 
@@ -9,7 +10,7 @@ returns-then-day-self c =
     let f = c.args.self.now in
     let d = to_z-of_z c.ranges.day in
     let s : to_z w64 (of_z w64 f.settled) ≡ f.settled = omega (arith, ints, f.bounded.settled.0, f.bounded.settled.1) in
-    row_before f.kind f.shapes f.before f.cycle f.settled f.period f.empty (neg_ℤ (pos 1_000_000_000)) f.before_rises f.cycle_rises c.args.day
+    row_before f.kind f.shapes f.before f.cycle f.settled f.period f.empty earliest_near f.before_rises f.cycle_rises c.args.day
     c.row_from.result.now c.first_of_row.result.now c.days_between.result
     c.first_of_row.ensures f.before_within (rw d at c.row_from.ensures.row) (rw d at c.row_from.ensures.none) (omega (arith, ints, d, s))
     (omega (arith, ints, d, s))
@@ -25,7 +26,7 @@ returns c =
     let below : place < f.period = omega (arith, turned, mod_below past f.period f.bounded.some) in
     let r : c.day_after.result ≡ f.settled +ℤ pos place = rw s at c.day_after.ensures in
     let back : to_z w64 (of_z w64 c.day_after.result) ≡ c.day_after.result = omega (arith, ints, r, f.bounded.settled.0, f.bounded.settled.1, f.bounded.few, below) in
-    row_of_cycle f.kind f.shapes f.before f.cycle f.settled f.period f.empty (neg_ℤ (pos 1_000_000_000)) f.before_rises f.cycle_rises c.args.day
+    row_of_cycle f.kind f.shapes f.before f.cycle f.settled f.period f.empty earliest_near f.before_rises f.cycle_rises c.args.day
     c.row_from-2.result.now c.first_of_row-2.result.now
     (f.period - place) c.first_of_row-2.ensures past place
     f.cycle_within (rw (back, r) at c.row_from-2.ensures.row) (rw (back, r) at c.row_from-2.ensures.none) f.bounded.some (omega (arith, ints, d, s)) turned

@@ -1,6 +1,7 @@
-use Rattle.std.proofs.Common.{◌≡◌, ℤ, pos, neg_ℤ, ◌<ℤ◌, rules, subst, FitsSigned, ◌-ℤ◌, ◌+ℤ◌, ◌≤ℤ◌, sym, ◌∙◌, arith, w64, to_z, of_z}
+use Rattle.std.proofs.Common.{◌≡◌, ℤ, pos, ◌<ℤ◌, rules, subst, FitsSigned, ◌-ℤ◌, ◌+ℤ◌, ◌≤ℤ◌, sym, ◌∙◌, arith, w64, to_z, of_z}
 use Rattle.std.proofs.Common.{to_z-of_z}
 use Rattle.std.proofs.lemmas.Int.{ints}
+use Rattle.rr_model.specs.Bounds.{first_day_of_all}
 use Rattle.rr_model.specs.Series.Limits.{HasTooManyMoments}
 use Rattle.rr_fold.specs.Folding.{IsFoldedTo}
 use Rattle.rr_fold.proofs.DistinctLemmas.{not_too_many}
@@ -8,7 +9,7 @@ use Rattle.rr_fold.proofs.FoldLemmas.{filled_up, list_within, refused_so}
 use Rattle.rr_fold.proofs.walk.Walk.walk_to.Goals as goal
 
 -- the day before the end keeps its number, and so does the end
-end_back : (first end : ℤ) → first <ℤ end → neg_ℤ (pos 719_162) ≤ℤ first → end ≤ℤ pos 40_000_000
+end_back : (first end : ℤ) → first <ℤ end → first_day_of_all ≤ℤ first → end ≤ℤ pos 40_000_000
     → to_z w64 (of_z w64 (to_z w64 (of_z w64 end) -ℤ pos 1)) +ℤ pos 1 ≡ end
 end_back first end order low high =
     let fits : FitsSigned w64 end = search rules in

@@ -1,4 +1,5 @@
 use Rattle.std.proofs.Common.{◌+◌, ◌≤◌, ◌<◌, length, Some, refl, sym, ap, ◌∙◌, arith}
+use Rattle.rr_model.specs.declared.limits.TheConstants.{MAX_SECONDS}
 use Rattle.rr_shapes.proofs.ShapeLemmas.{few, number_few, known_placed, known_in, found_placed, found_in, too_many, new_placed, new_counted}
 use Rattle.rr_shapes.proofs.shapes.Shapes.place.Goals as goal
 
@@ -32,7 +33,7 @@ returns-in-Some-clause-refused c =
 
 pub returns-then-more-self-clause-refused : goal.returns-then-more-self-clause-refused
 returns-then-more-self-clause-refused c =
-    let above : 16_777_216 < c.self.inside.size + length c.as_slice-more.result.now = omega (arith, c.self.invariant.within, c.if-more-self.true) in
+    let above : MAX_SECONDS < c.self.inside.size + length c.as_slice-more.result.now = omega (arith, c.self.invariant.within, c.if-more-self.true) in
     rw (← c.self.view_is) (
       refl,
       too_many c.self.inside.sets.keys c.self.inside.size c.args.times c.self.invariant (sym c.in_default.ensures.found)
@@ -41,7 +42,7 @@ returns-then-more-self-clause-refused c =
 
 pub invariant_of-self-2 : goal.invariant_of-self-2
 invariant_of-self-2 c =
-    let room : c.self.inside.size + length c.as_slice-more.result.now ≤ 16_777_216 = omega (arith, c.self.invariant.within, c.if-more-self.false) in
+    let room : c.self.inside.size + length c.as_slice-more.result.now ≤ MAX_SECONDS = omega (arith, c.self.invariant.within, c.if-more-self.false) in
     new_counted c.self.inside.sets.keys c.self.inside.size c.args.times c.self.invariant (sym c.in_default.ensures.found) c.insert_full.new.self.keys
     (length c.as_slice-more.result.now)
     c.in-Ok.ensures.keys c.insert_full.ensures.unique c.as_slice-more.ensures.of_day (ap length c.as_slice-more.ensures.same) room
