@@ -299,10 +299,10 @@ module _ (offset : Option ℤ) (before after : List UsedLine) (number : ℕ) (va
 
   scan_plain : IsWithoutScale value plain → IsRead offset (scan_with value) series → IsSoundSkipping series → IsReadPlain offset (scan_with plain) series
   scan_plain without r sound =
-      let none = all_read (scan_with value) (first_unread false 0 (with_rule_line before number value after)) r.event offset r.passed in
+      let none = all_read (scan_with value) (first_unread false 0 (with_rule_line before number value after)) r.event offset r.both in
       let are = starts_around 0 before after number value none in
       let whole : passes skip_language (skip_rule_beside offset) offset (scan_with value) ≡ Ok r.event =
-      subst (λ u. passes skip_language (skip_rule_beside offset) offset (lines_until (scan_with value) u) ≡ Ok r.event) none r.passed in
+      subst (λ u. passes skip_language (skip_rule_beside offset) offset (lines_until (scan_with value) u) ≡ Ok r.event) none r.both in
       let read = and_then_ok (first_pass skip_language nothing_read (with_rule_line before number value after)) _ r.event whole in
       let pass = and_then_ok (unless_stopped stop read.0) _ r.event read.2 in
       let start = and_then_ok (ok_or pass.0.start NoStart) _ r.event pass.2 in

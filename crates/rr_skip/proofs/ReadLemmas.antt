@@ -397,7 +397,7 @@ if_some-fits kind start (Some rule) judged r =
 pub record IsRead (offset : Option ℤ) (scan : Scan) (series : SkipSeries) : Type 0 where
   pub event : Event SkipRule
   pub rule : Option SkipRule
-  pub passed : passes skip_language (skip_rule_beside offset) offset (lines_read scan) ≡ Ok event
+  pub both : passes skip_language (skip_rule_beside offset) offset (lines_read scan) ≡ Ok event
   pub judged : judged_if_some event.start.kind event.start.at (slice_get event.beside.rules 0) ≡ Ok rule
   pub is : record { kind = event.start.kind; start = event.start.at; rule = rule } ≡ series
 
@@ -406,11 +406,11 @@ unfolding skip_scan
 scan_is offset scan series h =
     let event = and_then_ok (passes skip_language (skip_rule_beside offset) offset (lines_read scan)) _ series h in
     let rule = and_then_ok (judged_if_some event.0.start.kind event.0.start.at (slice_get event.0.beside.rules 0)) _ series event.2 in
-    record { event = event.0; rule = rule.0; passed = event.1; judged = rule.1; is = cc }
+    record { event = event.0; rule = rule.0; both = event.1; judged = rule.1; is = cc }
 
 pub scan-sound : (offset : Option ℤ) (scan : Scan) (series : SkipSeries) → IsRead offset scan series → IsSoundSkipping series
 scan-sound offset scan series r =
-    let e = event-read offset (lines_read scan) r.event r.passed in
+    let e = event-read offset (lines_read scan) r.event r.both in
     subst IsSoundSkipping r.is (record {
       start = e.start;
       rule = if_some-fits r.event.start.kind r.event.start.at (slice_get r.event.beside.rules 0) r.rule (first-read r.event e) r.judged;
