@@ -1,29 +1,28 @@
 -- What is read of a text whose rule has RSCALE is sound.
 use Rattle.std.proofs.Common.{◌≡◌, ℕ, ◌≤◌, Bool, true, false, if◌then◌else◌, List, [], All, Option, None, Some, Result, Ok, Err, ℤ, pos, nat_abs, ◌≤ℤ◌, refl, sym, subst, ◌∙◌, arith}
-use Rattle.std.specs.Prelude.{int_lt, ok_or, unwrap_or}
-use Rattle.std.specs.Option.{IfSome, is_some}
+use Rattle.std.specs.Prelude.{int_lt, ok_or, slice_get, unwrap_or}
+use Rattle.std.specs.Option.{IfSome}
 use Rattle.std.specs.Result.{IfOk}
 use Rattle.std.proofs.lemmas.Bool.{false≢true, and_parts}
 use Rattle.std.proofs.lemmas.Int.{ints}
 use Rattle.std.proofs.Math.Bool.{or-true}
-use Rattle.std.proofs.lemmas.List.Elements.{All-nil}
+use Rattle.std.proofs.lemmas.List.Elements.{All-head, All-nil}
 use Rattle.rr_model.specs.Answers.{Answers}
-use Rattle.rr_model.specs.Moment.Years.{IsInYears}
 use Rattle.rr_model.specs.Rising.{Rises}
-use Rattle.rr_model.specs.Rule.Validity.{CountUpTo, is_allowed, takes_start}
+use Rattle.rr_model.specs.Rule.Validity.{CountUpTo, EndsInYears, IsValidRule, is_allowed, takes_start}
 use Rattle.rr_model.specs.Series.Soundness.{end_refusal}
 use Rattle.rr_model.specs.Text.Calendars.{end_at, end_beside}
 use Rattle.rr_model.specs.Text.Event.{event_scan}
 use Rattle.rr_model.specs.Text.Lines.{without_mark}
 use Rattle.rr_model.specs.Text.Moments.{basic}
-use Rattle.rr_model.specs.Text.Passes.{unless_stopped, moment_beside}
+use Rattle.rr_model.specs.Text.Passes.{Event, Stated, moment_beside, passes}
 use Rattle.rr_model.specs.Text.RuleValues.{pieces, freq_named, weekday_named, number_up_to, numbers_of, number_within, unsigned, signed, has_number_form}
 use Rattle.rr_model.specs.Text.Rules.{split_once, part_named, no_parts, without_last_semicolon, line_value, end_of, rule_with}
 use Rattle.rr_model.specs.Text.WriteLaws.{IsOneEnd}
 use Rattle.rr_model.specs.declared.kind.Kind.{Kind}
 use Rattle.rr_model.specs.declared.kind.Kind.TheVariants.{Days, Moments}
 use Rattle.rr_model.specs.declared.refusal.Refusal.{Refusal}
-use Rattle.rr_model.specs.declared.refusal.Refusal.TheVariants.{NoStart, BadMoment, BadRule, PartTwice, Extended, TooManyParts, NotSynchronised}
+use Rattle.rr_model.specs.declared.refusal.Refusal.TheVariants.{BadMoment, BadRule, PartTwice, Extended, NotSynchronised}
 use Rattle.rr_model.specs.declared.refusal.Fault.{Fault}
 use Rattle.rr_model.specs.declared.rule.End.{End}
 use Rattle.rr_model.specs.declared.rule.End.TheVariants.{Never, Until, Count, Both}
@@ -33,31 +32,25 @@ use Rattle.rr_model.specs.declared.rule_parts.PartName.{PartName}
 use Rattle.rr_model.specs.declared.rule_parts.PartName.TheVariants as part
 use Rattle.rr_model.specs.declared.rule_parts.RuleParts.{RuleParts}
 use Rattle.rr_model.specs.declared.stamp.Stamp.{Stamp}
-use Rattle.rr_model.specs.declared.used.LineName.{LineName}
-use Rattle.rr_model.specs.declared.used.LineName.TheVariants.{Dtstart, Rrule, Rdate, Exdate, Exrule}
 use Rattle.rr_model.specs.declared.used.Scan.{Scan}
-use Rattle.rr_model.specs.declared.used.UsedLine.{UsedLine}
 use Rattle.rr_check.proofs.SoundnessLemmas.{end_fits}
 use Rattle.rr_rrule.proofs.BesideLemmas.{end_beside-valid, with_end-valid}
 use Rattle.rr_rrule.proofs.BoundsLemmas.{All-list_of, number_within-counts}
-use Rattle.rr_text.proofs.InYearsLemmas.{IsStamp, basic-stamp}
+use Rattle.rr_ical.proofs.BesideLemmas.{IsReadEvent, passes-valid}
 use Rattle.rr_ical.proofs.PassLemmas.{in_turn-keeps}
-use Rattle.rr_text.proofs.StepLemmas.{and_then_ok, ok_or_ok, step_keeps, passed, not_refused}
+use Rattle.rr_text.proofs.StepLemmas.{and_then_ok, step_keeps, passed, not_refused}
 use Rattle.rr_rrule.proofs.ValidPartsLemmas.{ArePartsValid, no_parts-valid, with_part_value-valid}
 use Rattle.rr_rrule.proofs.ValidRisingLemmas.{Rises-list_of}
 use Rattle.rr_rrule.proofs.ValidityLemmas.{IsValidBeside, FitsUntil, end_of-valid, rule_with-valid, end_of-fits}
 use Rattle.rr_skip.specs.Months.{is_skip_chosen}
 use Rattle.rr_skip.specs.Parts.{is_taken, taken, scale_part_named, has_scale_part, with_scale, is_scale_name, skip_named, front_day, front_days, with_taken_value, with_scale_value}
 use Rattle.rr_skip.specs.Parts.{with_scale_part, no_scale_parts, scale_parts_of, is_scaled, skip_rule_of, scale_parts}
-use Rattle.rr_skip.specs.Reading.{stated_skip, nothing_stated, with_skip_line, skip_pass, unless_refused, start_refusal, skip_rule_beside}
-use Rattle.rr_skip.specs.Reading.{skip_beside, skip_scan, skip_text}
-use Rattle.rr_skip.specs.Stated.{IsReadStated}
+use Rattle.rr_skip.specs.Reading.{stated_skip, skip_language, skip_rule_beside, unless_refused, start_refusal, judged_skip, judged_if_some}
+use Rattle.rr_skip.specs.Reading.{lines_read, skip_scan, skip_text}
 use Rattle.rr_skip.specs.Validity.{HasMonthPartsAlone, FitsSkipping, FitsIfSome, IsSoundSkipping, takes_skip}
 use Rattle.rr_skip.specs.declared.parts.ScalePart.{ScalePart}
 use Rattle.rr_skip.specs.declared.parts.ScalePart.TheVariants.{Scale, Skipping, Of}
 use Rattle.rr_skip.specs.declared.parts.ScaledParts.{ScaledParts}
-use Rattle.rr_skip.specs.declared.passes.StatedSkip.{StatedSkip}
-use Rattle.rr_skip.specs.declared.passes.SkipPass.{SkipPass}
 use Rattle.rr_skip.specs.declared.series.Skip.TheVariants.{Omit}
 use Rattle.rr_skip.specs.declared.series.SkipRule.{SkipRule}
 use Rattle.rr_skip.specs.declared.series.SkipSeries.{SkipSeries}
@@ -223,7 +216,7 @@ scale_parts-valid line text parts =
 -- ---- the rule
 
 -- a rule as its line states it
-pub record IsReadRule (stated : StatedSkip) : Type 0 where
+pub record IsReadRule (stated : Stated SkipRule) : Type 0 where
   pub valid : IsValidBeside stated.rule.rule
   pub freq : takes_skip stated.rule.rule.freq ≡ true
   pub parts : HasMonthPartsAlone stated.rule.rule
@@ -258,7 +251,7 @@ end_of-one None (Some n) end h = (let e : Count n ≡ end = cc in subst IsOneEnd
 end_of-one (Some stamp) None end h = (let e : Until stamp.kind stamp.at ≡ end = cc in subst IsOneEnd e tt)
 end_of-one (Some stamp) (Some n) end h = absurd (cc)
 
-pub stated-read : (line : ℕ) (text : List ℕ) (stated : StatedSkip) → stated_skip line text ≡ Ok stated → IsReadRule stated
+stated-read : (line : ℕ) (text : List ℕ) (stated : Stated SkipRule) → stated_skip line text ≡ Ok stated → IsReadRule stated
 unfolding stated_skip skip_rule_of
 stated-read line text stated h =
     let parts = and_then_ok (scale_parts line text) _ stated h in
@@ -270,7 +263,7 @@ stated-read line text stated h =
     let scaled = passed (is_scaled parts.0 freq.0) (Ok (record { skip = unwrap_or parts.0.skip Omit; rule = rule_with freq.0 end.0 p })) Extended rule.0
     end.2 in
     let taken : takes_skip freq.0 ≡ true = (and_parts parts.0.has_scale (takes_skip freq.0) scaled.0).1 in
-    let same : record { line = line; rule = record { skip = unwrap_or parts.0.skip Omit; rule = rule_with freq.0 end.0 p }; until = p.until } ≡ stated = cc in
+    let same : record { rule = record { skip = unwrap_or parts.0.skip Omit; rule = rule_with freq.0 end.0 p }; until = p.until } ≡ stated = cc in
     subst IsReadRule same (record {
       valid = rule_with-valid freq.0 end.0 p v.valid (end_of-valid p.until p.count end.0 v.valid.until v.valid.count end.1)
           (allowed freq.0 end.0 p taken v.front);
@@ -288,41 +281,6 @@ stated-read line text stated h =
       until = end_of-fits p.until p.count end.0 v.valid.until end.1;
       one_end = end_of-one p.until p.count end.0 end.1;
     })
-
-fits-in_years : (until : Option Stamp) (end : End) → FitsUntil until end → IfSome until (λ stamp. IsInYears stamp.kind stamp.at)
-fits-in_years None end f = tt
-fits-in_years (Some stamp) end f = f.0.0
-
-pub read-stated : (stated : StatedSkip) → IsReadRule stated → IsReadStated stated
-read-stated stated r = record {
-  some = (r.valid.0 Days (starts stated.rule.rule.freq Days r.freq)).interval_low;
-  until = fits-in_years stated.until stated.rule.rule.end r.until;
-}
-
--- ---- the first pass
-
-pub record IsReadPass (pass : SkipPass) : Type 0 where
-  pub start : IfSome pass.start IsStamp
-  pub stated : IfSome pass.stated IsReadRule
-
-line-read : (line : UsedLine) (pass next : SkipPass) → IsReadPass pass → (name : LineName) → with_skip_line line.number name pass line.value ≡ Ok next
-    → IsReadPass next
-line-read line pass next r Dtstart h =
-    let p = not_refused (is_some pass.start) (PartTwice line.number) _ next h in
-    step_keeps IsReadPass (ok_or (basic line.value) (BadMoment line.number)) (λ stamp. record pass { start = Some stamp }) next
-    (λ stamp e. record { start = basic-stamp line.value stamp (ok_or_ok (basic line.value) (BadMoment line.number) stamp e); stated = r.stated }) p.1
-line-read line pass next r Rrule h =
-    let p = not_refused (is_some pass.stated) TooManyParts _ next h in
-    step_keeps IsReadPass (stated_skip line.number line.value) (λ stated. record pass { stated = Some stated }) next
-    (λ stated e. record { start = r.start; stated = stated-read line.number line.value stated e }) p.1
-line-read line pass next r Rdate h = absurd (cc)
-line-read line pass next r Exdate h = absurd (cc)
-line-read line pass next r Exrule h = absurd (cc)
-
-pub pass-read : (lines : List UsedLine) (pass : SkipPass) → skip_pass nothing_stated lines ≡ Ok pass → IsReadPass pass
-pass-read lines pass =
-    in_turn-keeps (λ (p : SkipPass) (line : UsedLine). with_skip_line line.number line.name p line.value) IsReadPass
-    (λ p line next r h. line-read line p next r line.name h) nothing_stated lines pass (record { start = tt; stated = tt })
 
 -- ---- the rule beside the start
 
@@ -350,22 +308,25 @@ beside-one offset start line None end next o = λ h. (let same : end ≡ next = 
 beside-one offset start line (Some stamp) end next o =
     step_keeps IsOneEnd (moment_beside offset start line stamp) (λ at. end_at end at) next (λ at e. end_at-one end at o)
 
-rule-fits : (offset : Option ℤ) (start : Stamp) (stated : StatedSkip) (rule : SkipRule) → IsReadRule stated → skip_rule_beside offset start stated ≡ Ok rule
-    → FitsSkipping start.kind start.at rule
+-- a rule beside the start, before it is judged there
+pub record IsReadBeside (kind : Kind) (rule : SkipRule) : Type 0 where
+  pub valid : IsValidRule kind rule.rule
+  pub freq : takes_skip rule.rule.freq ≡ true
+  pub parts : HasMonthPartsAlone rule.rule
+  pub from_front : All (λ k. pos 1 ≤ℤ k) rule.rule.by_month_day
+  pub one_end : IsOneEnd rule.rule.end
+  pub ends_in_years : EndsInYears rule.rule.end
+
+beside-read : (offset : Option ℤ) (start : Stamp) (line : ℕ) (stated : Stated SkipRule) (rule : SkipRule) → IsReadRule stated
+    → skip_rule_beside offset start line stated ≡ Ok rule → IsReadBeside start.kind rule
 unfolding skip_rule_beside
-rule-fits offset start stated rule r h =
-    let end = and_then_ok (end_beside offset start stated.line stated.until stated.rule.rule.end) _ rule h in
-    let placed : SkipRule = record stated.rule { rule = record stated.rule.rule { end = end.0 } } in
-    let two = and_then_ok (unless_refused (end_refusal start.kind start.at end.0) placed) _ rule end.2 in
-    let ended = unrefused (end_refusal start.kind start.at end.0) placed two.0 two.1 in
-    let chosen = unrefused (start_refusal start.kind start.at two.0) two.0 rule two.2 in
-    let ends = end_beside-valid offset start stated.line stated.until stated.rule.rule.end end.0 r.until
-    ((r.valid.0 start.kind (starts stated.rule.rule.freq start.kind r.freq)).count, r.valid.1) end.1 in
-    let same : placed ≡ rule = ended.1 ∙ chosen.1 in
-    let synchronised : is_skip_chosen placed start.kind start.at start.at ≡ true =
-    subst (λ x. is_skip_chosen x start.kind start.at start.at ≡ true) (sym ended.1) (chooses start.kind start.at two.0 chosen.0) in
-    subst (FitsSkipping start.kind start.at) same (record {
-      valid = with_end-valid offset start start.kind stated.rule.rule end.0 (r.valid.0 start.kind (starts stated.rule.rule.freq start.kind r.freq)) ends.0;
+beside-read offset start line stated rule r h =
+    let end = and_then_ok (end_beside offset start line stated.until stated.rule.rule.end) _ rule h in
+    let valid = r.valid.0 start.kind (starts stated.rule.rule.freq start.kind r.freq) in
+    let ends = end_beside-valid offset start line stated.until stated.rule.rule.end end.0 r.until (valid.count, r.valid.1) end.1 in
+    let same : record stated.rule { rule = record stated.rule.rule { end = end.0 } } ≡ rule = cc in
+    subst (IsReadBeside start.kind) same (record {
+      valid = with_end-valid offset start start.kind stated.rule.rule end.0 valid ends.0;
       freq = r.freq;
       parts = record {
         week_numbers = r.parts.week_numbers;
@@ -377,63 +338,82 @@ rule-fits offset start stated rule r h =
         set_positions = r.parts.set_positions;
       };
       from_front = r.from_front;
-      one_end = beside-one offset start stated.line stated.until stated.rule.rule.end end.0 r.one_end end.1;
+      one_end = beside-one offset start line stated.until stated.rule.rule.end end.0 r.one_end end.1;
       ends_in_years = ends.1;
-      ends_not_before = end_fits start.kind start.at end.0 ended.0;
-      synchronised = synchronised;
     })
 
-beside-fits : (offset : Option ℤ) (start : Stamp) (stated : Option StatedSkip) (rule : Option SkipRule) → IfSome stated IsReadRule
-    → skip_beside offset start stated ≡ Ok rule → FitsIfSome start.kind start.at rule
-beside-fits offset start None rule r = λ h. (let same : None ≡ rule = cc in subst (FitsIfSome start.kind start.at) same tt)
-beside-fits offset start (Some stated) rule r =
-    step_keeps (FitsIfSome start.kind start.at) (skip_rule_beside offset start stated) (λ x. Some x) rule (λ x e. rule-fits offset start stated x r e)
+pub event-read : (offset : Option ℤ) (scan : Scan) (event : Event SkipRule) → passes skip_language (skip_rule_beside offset) offset scan ≡ Ok event
+    → IsReadEvent IsReadBeside event
+event-read offset =
+    passes-valid skip_language (skip_rule_beside offset) IsReadBeside
+    (λ start line text stated rule s r. beside-read offset start line stated rule (stated-read line text stated s) r) offset
+
+-- what holds of each rule holds of the first
+first-keeps : {A : Type 0} (P : A → Type 0) (xs : List A) → All P xs → IfSome (slice_get xs 0) P
+first-keeps P [] all = tt
+first-keeps P (x ∷ xs) all = All-head P x xs all
+
+pub first-read : (event : Event SkipRule) → IsReadEvent IsReadBeside event → IfSome (slice_get event.beside.rules 0) (IsReadBeside event.start.kind)
+first-read event r = first-keeps (IsReadBeside event.start.kind) event.beside.rules r.beside.rules
+
+pub interval-some : (kind : Kind) (rule : Option SkipRule) → IfSome rule (IsReadBeside kind) → IfSome rule (λ r. 1 ≤ r.rule.interval)
+interval-some kind None r = tt
+interval-some kind (Some rule) r = r.valid.interval_low
+
+-- ---- the rule judged beside the start
+
+pub judged-unrefused : (kind : Kind) (start : ℤ) (rule judged : SkipRule) → judged_skip kind start rule ≡ Ok judged
+    → (end_refusal kind start rule.rule.end ≡ None) × ((start_refusal kind start rule ≡ None) × (rule ≡ judged))
+judged-unrefused kind start rule judged h =
+    let ended = and_then_ok (unless_refused (end_refusal kind start rule.rule.end) rule) (λ (e : SkipRule). unless_refused (start_refusal kind start e) e) judged h in
+    let own = unrefused (end_refusal kind start rule.rule.end) rule ended.0 ended.1 in
+    let chosen = unrefused (start_refusal kind start ended.0) ended.0 judged ended.2 in
+    (own.0, (subst (λ r. start_refusal kind start r ≡ None) (sym own.1) chosen.0, own.1 ∙ chosen.1))
+
+judged-fits : (kind : Kind) (start : ℤ) (rule judged : SkipRule) → IsReadBeside kind rule → judged_skip kind start rule ≡ Ok judged
+    → FitsSkipping kind start judged
+judged-fits kind start rule judged r h =
+    let free = judged-unrefused kind start rule judged h in
+    subst (FitsSkipping kind start) free.1.1 (record {
+      valid = r.valid;
+      freq = r.freq;
+      parts = r.parts;
+      from_front = r.from_front;
+      one_end = r.one_end;
+      ends_in_years = r.ends_in_years;
+      ends_not_before = end_fits kind start rule.rule.end free.0;
+      synchronised = chooses kind start rule free.1.0;
+    })
+
+if_some-fits : (kind : Kind) (start : ℤ) (rule judged : Option SkipRule) → IfSome rule (IsReadBeside kind) → judged_if_some kind start rule ≡ Ok judged
+    → FitsIfSome kind start judged
+if_some-fits kind start None judged r = λ h. (let same : None ≡ judged = cc in subst (FitsIfSome kind start) same tt)
+if_some-fits kind start (Some rule) judged r =
+    step_keeps (FitsIfSome kind start) (judged_skip kind start rule) (λ x. Some x) judged (λ x e. judged-fits kind start rule x r e)
 
 -- ---- the series
 
-kept_pass : (stop : Option Refusal) (read pass : SkipPass) → unless_stopped stop read ≡ Ok pass → read ≡ pass
-kept_pass None read pass h = cc
-kept_pass (Some r) read pass h = absurd (cc)
-
-pub start-stamp : (pass : SkipPass) (start : Stamp) → IsReadPass pass → pass.start ≡ Some start → IsStamp start
-start-stamp pass start r e = subst (λ o. IfSome o IsStamp) e r.start
-
 -- a scan as it is read
 pub record IsRead (offset : Option ℤ) (scan : Scan) (series : SkipSeries) : Type 0 where
-  pub pass : SkipPass
-  pub start : Stamp
+  pub event : Event SkipRule
   pub rule : Option SkipRule
-  pub first : skip_pass nothing_stated scan.used ≡ Ok pass
-  pub free : unless_stopped scan.stop pass ≡ Ok pass
-  pub has_start : pass.start ≡ Some start
-  pub beside : skip_beside offset start pass.stated ≡ Ok rule
-  pub is : record { kind = start.kind; start = start.at; rule = rule } ≡ series
+  pub both : passes skip_language (skip_rule_beside offset) offset (lines_read scan) ≡ Ok event
+  pub judged : judged_if_some event.start.kind event.start.at (slice_get event.beside.rules 0) ≡ Ok rule
+  pub is : record { kind = event.start.kind; start = event.start.at; rule = rule } ≡ series
 
 pub scan_is : (offset : Option ℤ) (scan : Scan) (series : SkipSeries) → skip_scan offset scan ≡ Ok series → IsRead offset scan series
 unfolding skip_scan
 scan_is offset scan series h =
-    let read = and_then_ok (skip_pass nothing_stated scan.used) _ series h in
-    let pass = and_then_ok (unless_stopped scan.stop read.0) _ series read.2 in
-    let start = and_then_ok (ok_or pass.0.start NoStart) _ series pass.2 in
-    let rule = and_then_ok (skip_beside offset start.0 pass.0.stated) _ series start.2 in
-    let kept : read.0 ≡ pass.0 = kept_pass scan.stop read.0 pass.0 pass.1 in
-    record {
-      pass = pass.0;
-      start = start.0;
-      rule = rule.0;
-      first = subst (λ p. skip_pass nothing_stated scan.used ≡ Ok p) kept read.1;
-      free = subst (λ p. unless_stopped scan.stop p ≡ Ok pass.0) kept pass.1;
-      has_start = ok_or_ok pass.0.start NoStart start.0 start.1;
-      beside = rule.1;
-      is = cc;
-    }
+    let event = and_then_ok (passes skip_language (skip_rule_beside offset) offset (lines_read scan)) _ series h in
+    let rule = and_then_ok (judged_if_some event.0.start.kind event.0.start.at (slice_get event.0.beside.rules 0)) _ series event.2 in
+    record { event = event.0; rule = rule.0; both = event.1; judged = rule.1; is = cc }
 
 pub scan-sound : (offset : Option ℤ) (scan : Scan) (series : SkipSeries) → IsRead offset scan series → IsSoundSkipping series
 scan-sound offset scan series r =
-    let p = pass-read scan.used r.pass r.first in
+    let e = event-read offset (lines_read scan) r.event r.both in
     subst IsSoundSkipping r.is (record {
-      start = (start-stamp r.pass r.start p r.has_start).0;
-      rule = beside-fits offset r.start r.pass.stated r.rule p.stated r.beside;
+      start = e.start;
+      rule = if_some-fits r.event.start.kind r.event.start.at (slice_get r.event.beside.rules 0) r.rule (first-read r.event e) r.judged;
     })
 
 pub text-sound : (offset : Option ℤ) (text : List ℕ) (result : Result SkipSeries Fault) → Answers (skip_text offset text) result → IfOk result IsSoundSkipping
@@ -442,7 +422,3 @@ text-sound offset text (Ok series) h =
     let scan = event_scan false (without_mark text) in
     scan-sound offset scan series (scan_is offset scan series h)
 text-sound offset text (Err fault) h = tt
-
-pub stated-of-pass : (stated : Option StatedSkip) → IfSome stated IsReadRule → IfSome stated IsReadStated
-stated-of-pass None h = tt
-stated-of-pass (Some stated) h = read-stated stated h

@@ -1,22 +1,22 @@
 // Reads a calendar text whose rule has RSCALE (RFC 7529, section 4; RFC 5545, section 3.8.5).
-ghost use Rattle.std.specs.Prelude.{◌≡◌, ◌≤◌, ◌≤ℤ◌, IfOk, IfSome, pos};
+ghost use Rattle.std.specs.Prelude.{◌≡◌, ◌≤◌, ◌≤ℤ◌, IfOk, IfSome, pos, slice_get};
 ghost use Rattle.rr_model.specs.Bounds.{first_day_of_all};
 ghost use Rattle.rr_model.specs.Answers.{Answers};
 ghost use Rattle.rr_model.specs.Moment.Years.{IsInYears};
 ghost use Rattle.rr_model.specs.Series.Soundness.{end_refusal};
 ghost use Rattle.rr_skip.specs.Months.{is_day_chosen, is_skip_chosen, schedule_of};
-ghost use Rattle.rr_skip.specs.Reading.{reads_rscale, skip_beside, skip_rule_beside, skip_scan, skip_text, start_refusal, unless_refused};
-ghost use Rattle.rr_skip.specs.Stated.{IsReadStated};
+ghost use Rattle.rr_skip.specs.Reading.{judged_if_some, judged_skip, reads_rscale, skip_scan, skip_text, start_refusal, unless_refused};
 ghost use Rattle.rr_skip.specs.Validity.{IsSoundSkipping};
 
 use crate::fold::day_in_years;
-use crate::passes::{StatedSkip, skip_pass};
+use crate::language::SkipLanguage;
+use crate::lines::lines_read;
 use crate::schedule::Schedule;
 use crate::turn::Turn;
 use crate::{SkipRule, SkipSeries};
 use rr_check::end_refusal;
-use rr_ical::{end_beside, event_lines};
-use rr_model::{Fault, Kind, NoMemory, Refusal, Scan, Stamp};
+use rr_ical::{event_lines, event_of};
+use rr_model::{Fault, Kind, NoMemory, Refusal, Scan};
 use rr_text::{is_text, without_mark};
 use std::alloc::Global;
 
@@ -59,64 +59,52 @@ fn unless_unsynchronised(
     }
 }
 
-// The rule with its end beside the start, judged there.
-#[tactic(auto, unfolding(crate::specs::Reading::skip_rule_beside))]
-fn skip_rule_beside(
-    alloc: Global,
-    offset: Option<i32>,
-    start: Stamp,
-    stated: StatedSkip,
-) -> Result<SkipRule, Fault>
-    requires until { IfSome stated.until (λ stamp. IsInYears stamp.kind stamp.at) }
-    requires start { IsInYears start.kind start.at }
-    requires some { 1 ≤ stated.rule.rule.interval }
-    ensures { Answers (skip_rule_beside offset start stated) result }
+// The rule, judged beside the start: its end, and then whether it chooses the start.
+fn judged_skip(alloc: Global, kind: Kind, start: i64, rule: SkipRule) -> Result<SkipRule, Fault>
+    requires start { IsInYears kind start }
+    requires some { 1 ≤ rule.rule.interval }
+    ensures { Answers (judged_skip kind start rule) result }
 {
-    let end = end_beside(
-        offset,
-        start,
-        stated.line,
-        stated.until,
-        stated.rule.rule.end,
-    )?;
-    if let Some(refusal) = end_refusal(start.kind, start.at, end) {
+    if let Some(refusal) = end_refusal(kind, start, rule.rule.end) {
         return Err(Fault::Refused(refusal));
     }
-    let mut rule = stated.rule;
-    rule.rule.end = end;
-    unless_unsynchronised(alloc, start.kind, start.at, rule)
+    unless_unsynchronised(alloc, kind, start, rule)
 }
 
-// The rule that is stated, if one is.
-fn skip_beside(
+// The rule, if there is one.
+fn judged_if_some(
     alloc: Global,
-    offset: Option<i32>,
-    start: Stamp,
-    stated: Option<StatedSkip>,
+    kind: Kind,
+    start: i64,
+    rule: Option<SkipRule>,
 ) -> Result<Option<SkipRule>, Fault>
-    requires start { IsInYears start.kind start.at }
-    requires stated { IfSome stated IsReadStated }
-    ensures { Answers (skip_beside offset start stated) result }
+    requires start { IsInYears kind start }
+    requires some { IfSome rule (λ r. 1 ≤ r.rule.interval) }
+    ensures { Answers (judged_if_some kind start rule) result }
 {
-    match stated {
+    match rule {
         None => Ok(None),
-        Some(stated) => Ok(Some(skip_rule_beside(alloc, offset, start, stated)?)),
+        Some(rule) => Ok(Some(judged_skip(alloc, kind, start, rule)?)),
     }
 }
 
-// Both passes over the used lines of an event.
-#[tactic(auto, unfolding(crate::specs::Reading::skip_scan))]
-fn read_scan(alloc: Global, offset: Option<i32>, scan: &Scan) -> Result<SkipSeries, Fault>
-    ensures { Answers (skip_scan offset scan.now) result }
+// The first of the rules.
+fn first_of(rules: Vec<SkipRule>) -> Option<SkipRule>
+    ensures { result ≡ slice_get rules.items 0 }
 {
-    let pass = skip_pass(alloc, scan.used.as_slice())?;
-    if let Some(refusal) = scan.stop {
-        return Err(Fault::Refused(refusal));
-    }
-    let Some(start) = pass.start else {
-        return Err(Fault::Refused(Refusal::NoStart));
-    };
-    let rule = skip_beside(alloc, offset, start, pass.stated)?;
+    rules.into_iter().next()
+}
+
+// Both passes over the lines of an event that are read, and then the judgement of its one rule.
+#[tactic(auto, unfolding(crate::specs::Reading::skip_scan))]
+fn read_scan(alloc: Global, offset: Option<i32>, scan: Scan) -> Result<SkipSeries, Fault>
+    ensures { Answers (skip_scan offset scan) result }
+{
+    let scan = lines_read(alloc, scan)?;
+    let event = event_of(&SkipLanguage, alloc, offset, &scan)?;
+    let start = event.start;
+    let beside = event.beside;
+    let rule = judged_if_some(alloc, start.kind, start.at, first_of(beside.rules))?;
     Ok(SkipSeries {
         kind: start.kind,
         start: start.at,
@@ -129,7 +117,7 @@ fn read_text(alloc: Global, offset: Option<i32>, text: &[u8]) -> Result<SkipSeri
     ensures { Answers (skip_text offset text.now) result }
 {
     let scan = event_lines(alloc, without_mark(text), false)?;
-    read_scan(alloc, offset, &scan)
+    read_scan(alloc, offset, scan)
 }
 
 /// Reads the series of the one event of a calendar text whose rule has RSCALE, or of a text without components (RFC 7529,

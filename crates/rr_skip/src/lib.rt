@@ -5,12 +5,14 @@ mod admit;
 mod calendar;
 mod fold;
 mod judged;
+mod language;
 mod laws;
+mod lines;
 mod months;
 mod parts;
-mod passes;
 mod schedule;
 mod series;
+mod stated;
 mod turn;
 mod walk;
 
