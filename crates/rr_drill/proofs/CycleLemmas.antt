@@ -14,6 +14,9 @@ use Rattle.rr_model.specs.Series.Cycle.{rules_cycle, series_cycle}
 use Rattle.rr_model.specs.Whole.Divisors.{gcd_within, gcd, lcm}
 use Rattle.rr_model.specs.declared.rule.Freq.{Freq}
 use Rattle.rr_model.specs.declared.rule.Freq.TheVariants.{Secondly, Minutely, Hourly, Daily, Weekly, Monthly, Yearly}
+use Rattle.rr_decide.specs.Question.{IsTooLateFor}
+use Rattle.rr_decide.specs.declared.question.Question.{Question}
+use Rattle.rr_decide.specs.declared.question.Question.TheVariants.{Equal, Within, Disjoint}
 use Rattle.rr_drill.specs.Cycles.{cycles, is_drawn_cycle}
 use Rattle.rr_drill.specs.Draws.{next_state, draw, draw_below, intervals, drawn_freq, series_from}
 
@@ -84,12 +87,18 @@ some_within a b (n ∷ ns) f g all e =
     ] refl e
 
 -- the greatest is 110 times 400 years
-pub common_short : (a b : ℕ) → is_drawn_cycle a ≡ true → is_drawn_cycle b ≡ true → lcm a b ≤ 16_777_216
+common_short : (a b : ℕ) → is_drawn_cycle a ≡ true → is_drawn_cycle b ≡ true → lcm a b ≤ 16_777_216
 unfolding is_drawn_cycle
 common_short a b d e =
     let row = listed (λ m. list_all (λ n. have_multiple m n) cycles) cycles a each_have_multiple d in
     let have : have_multiple a b ≡ true = listed (λ n. have_multiple a n) cycles b row e in
     some_within a b multiples (cycle_some a d) (cycle_some b e) each_within have
+
+-- so no question is asked too late of two
+pub in_time : (question : Question) (a b : ℕ) → is_drawn_cycle a ≡ true → is_drawn_cycle b ≡ true → IsTooLateFor question (lcm a b) → ⊥
+in_time Equal a b d e late = late
+in_time Within a b d e late = omega (arith, late, common_short a b d e)
+in_time Disjoint a b d e late = omega (arith, late, common_short a b d e)
 
 -- ---- the cycle of a drawn series
 
