@@ -1,14 +1,13 @@
 -- What each question asks of two sketches.
-use Rattle.std.proofs.Common.{◌≡◌, ◌↔◌, ◌⊎◌, ℕ, ◌<◌, ◌≤◌, inl, inr, refl, subst}
-use Rattle.std.proofs.lemmas.Bool.{cases_lt, false≢true}
+use Rattle.std.proofs.Common.{◌↔◌, ◌⊎◌, inl, inr, refl}
+use Rattle.std.proofs.lemmas.Bool.{false≢true}
 use Rattle.rr_model.specs.Sets.Sketch.{StandsIn}
 use Rattle.rr_model.specs.Sets.Verdict.{IsEqualVerdict, IsWithinVerdict, IsDisjointVerdict}
 use Rattle.rr_model.specs.declared.sketch.Sketch.{Sketch}
 use Rattle.rr_model.specs.declared.verdict.Side.TheVariants.{A, B, Both}
 use Rattle.rr_model.specs.declared.verdict.Verdict.{Verdict}
 use Rattle.rr_model.specs.declared.verdict.Verdict.TheVariants.{Yes, No}
-use Rattle.rr_decide.specs.Question.{IsShown, IsTooLateFor, IsVerdictBy, shown_by}
-use Rattle.rr_decide.specs.declared.question.Question.{Question}
+use Rattle.rr_decide.specs.Question.{IsShown, IsVerdictBy, shown_by}
 use Rattle.rr_decide.specs.declared.question.Question.TheVariants.{Equal, Within, Disjoint}
 use Rattle.rr_decide.proofs.StandsLemmas.{stands_or_not}
 
@@ -42,14 +41,3 @@ module _ (s u : Sketch) where
   disjoint_verdict (No k t A) (shown, h, first) = absurd (false≢true shown)
   disjoint_verdict (No k t B) (shown, h, first) = absurd (false≢true shown)
   disjoint_verdict (No k t Both) (shown, h, first) = (refl, h.0, h.1, λ l v b p q. first l v b (Both, refl, (p, q)))
-
--- ---- sets that do not repeat together too late do so within the limit
-
-not_above : (days : ℕ) → (16_777_216 < days → ⊥) → days ≤ 16_777_216
-not_above days in_time = elim (cases_lt 16_777_216 days) [ inl late ↦ absurd (in_time late) | inr few ↦ few ]
-
-pub within_in_time : (question : Question) (days : ℕ) → question ≡ Within → (IsTooLateFor question days → ⊥) → days ≤ 16_777_216
-within_in_time question days e in_time = not_above days (subst (λ (q : Question). IsTooLateFor q days → ⊥) e in_time)
-
-pub disjoint_in_time : (question : Question) (days : ℕ) → question ≡ Disjoint → (IsTooLateFor question days → ⊥) → days ≤ 16_777_216
-disjoint_in_time question days e in_time = not_above days (subst (λ (q : Question). IsTooLateFor q days → ⊥) e in_time)

@@ -1,5 +1,5 @@
 -- A question about two sets: its verdict, and the sides on which an occurrence shows that the answer is no.
-use Rattle.std.specs.Prelude.{Bool, true, false, IsTrue, ℕ, ◌<◌, ℤ, pos, ◌+ℤ◌, ◌≤ℤ◌, ◌<ℤ◌, List, [], ◌≡◌}
+use Rattle.std.specs.Prelude.{⊤, Bool, true, false, IsTrue, ℕ, ◌<◌, ◌≤◌, ℤ, pos, ◌+ℤ◌, ◌≤ℤ◌, ◌<ℤ◌, List, [], ◌≡◌}
 use Rattle.std.specs.List.{Contains}
 use Rattle.rr_model.specs.Moment.{Before, Occurrences}
 use Rattle.rr_model.specs.Sets.Sketch.{StandsIn, times_on}
@@ -20,11 +20,11 @@ IsVerdictTo Equal P Q verdict = IsEqualVerdict P Q verdict
 IsVerdictTo Within P Q verdict = IsWithinVerdict P Q verdict
 IsVerdictTo Disjoint P Q verdict = IsDisjointVerdict P Q verdict
 
--- sets that repeat together after so many days do so too late for the question; for equality none do
-abbrev pub IsTooLateFor : Question → ℕ → Type 0
-IsTooLateFor Equal days = ⊥
-IsTooLateFor Within days = MAX_CYCLE_DAYS < days
-IsTooLateFor Disjoint days = MAX_CYCLE_DAYS < days
+-- sets that repeat together after so many days do so soon enough for the question; for equality all do
+abbrev pub IsSoonEnough : Question → ℕ → Type 0
+IsSoonEnough Equal days = ⊤
+IsSoonEnough Within days = days ≤ MAX_CYCLE_DAYS
+IsSoonEnough Disjoint days = days ≤ MAX_CYCLE_DAYS
 
 -- an occurrence on this side shows that the answer is no
 abbrev pub shown_by : Question → Side → Bool

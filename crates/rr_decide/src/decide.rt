@@ -4,7 +4,7 @@ ghost use Rattle.rr_model.specs.Whole.Divisors.{lcm};
 ghost use Rattle.rr_model.specs.Sets.Sketch.{StandsIn};
 ghost use Rattle.rr_model.specs.Sets.Verdict.{IsDisjointVerdict, IsEqualVerdict, IsWithinVerdict};
 ghost use Rattle.rr_decide.specs.Occurrence.{NamesUpToMaxDay};
-ghost use Rattle.rr_decide.specs.Question.{IsTooLateFor, IsVerdictTo};
+ghost use Rattle.rr_decide.specs.Question.{IsSoonEnough, IsVerdictTo};
 
 use crate::question::Question;
 use crate::verdicts::verdict_by_walk;
@@ -62,7 +62,7 @@ pub fn disjoint<A: DaySeq, B: DaySeq>(a: &A, b: &B) -> Verdict
 /// For all but equality the least common multiple of the periods must be at most `MAX_CYCLE_DAYS`.
 /// A no names an occurrence up to the greatest day, 3,000,000,000,000. It takes no memory.
 pub fn verdict<A: DaySeq, B: DaySeq>(question: Question, a: &A, b: &B) -> Verdict
-    requires { ¬ IsTooLateFor question (lcm (A.sketch a.now).period (B.sketch b.now).period) }
+    requires { IsSoonEnough question (lcm (A.sketch a.now).period (B.sketch b.now).period) }
     ensures verdict { IsVerdictTo question (StandsIn (A.sketch a.now)) (StandsIn (B.sketch b.now)) result }
     ensures day { NamesUpToMaxDay result }
 {

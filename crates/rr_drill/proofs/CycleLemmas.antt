@@ -14,7 +14,7 @@ use Rattle.rr_model.specs.Series.Cycle.{rules_cycle, series_cycle}
 use Rattle.rr_model.specs.Whole.Divisors.{gcd_within, gcd, lcm}
 use Rattle.rr_model.specs.declared.rule.Freq.{Freq}
 use Rattle.rr_model.specs.declared.rule.Freq.TheVariants.{Secondly, Minutely, Hourly, Daily, Weekly, Monthly, Yearly}
-use Rattle.rr_decide.specs.Question.{IsTooLateFor}
+use Rattle.rr_decide.specs.Question.{IsSoonEnough}
 use Rattle.rr_decide.specs.declared.question.Question.{Question}
 use Rattle.rr_decide.specs.declared.question.Question.TheVariants.{Equal, Within, Disjoint}
 use Rattle.rr_drill.specs.Cycles.{cycles, is_drawn_cycle}
@@ -94,11 +94,11 @@ common_short a b d e =
     let have : have_multiple a b ≡ true = listed (λ n. have_multiple a n) cycles b row e in
     some_within a b multiples (cycle_some a d) (cycle_some b e) each_within have
 
--- so no question is asked too late of two
-pub in_time : (question : Question) (a b : ℕ) → is_drawn_cycle a ≡ true → is_drawn_cycle b ≡ true → IsTooLateFor question (lcm a b) → ⊥
-in_time Equal a b d e late = late
-in_time Within a b d e late = omega (arith, late, common_short a b d e)
-in_time Disjoint a b d e late = omega (arith, late, common_short a b d e)
+-- so they repeat together soon enough for each question
+pub soon_enough : (question : Question) (a b : ℕ) → is_drawn_cycle a ≡ true → is_drawn_cycle b ≡ true → IsSoonEnough question (lcm a b)
+soon_enough Equal a b d e = tt
+soon_enough Within a b d e = common_short a b d e
+soon_enough Disjoint a b d e = common_short a b d e
 
 -- ---- the cycle of a drawn series
 
