@@ -1,5 +1,6 @@
 // What is said of two operands.
 ghost use Rattle.std.specs.Prelude.{◌≡◌, IfOk, IsTrue, ◌≤ℤ◌, pos};
+ghost use Rattle.rr_decide.specs.declared.question.Question.TheVariants.{Equal};
 ghost use Rattle.rr_answer.specs.Answer.{IsPairAnswer};
 ghost use Rattle.rr_answer.specs.Command.{HasDurations};
 ghost use Rattle.rr_answer.specs.Folding.{IsFoldOf, IsFromYearOneOn};
@@ -9,15 +10,15 @@ ghost use Rattle.rr_answer.specs.Parsed.{operand_in};
 ghost use Rattle.rr_answer.specs.Subjects.{Subject};
 ghost use Rattle.rr_answer.specs.Verdicts.{IsSaidOfBoth};
 ghost use Rattle.rr_answer.specs.declared.command.Inquiry.TheVariants.{Verdict as Ask};
-ghost use Rattle.rr_answer.specs.declared.command.Question.TheVariants.{Equal};
 
 use crate::clashes::clash_outcome;
 use crate::combining::combined_outcome;
-use crate::command::{Inquiry, Operand, Question};
+use crate::command::{Inquiry, Operand};
 use crate::folding::read_folded;
 use crate::outcome::{Outcome, refused_for, said};
 use crate::verdicts::verdict_outcome;
 use rr_days::Folded;
+use rr_decide::Question;
 use rr_model::{NoMemory, Side, Verdict};
 use rr_word::DaySeq;
 use std::alloc::Global;

@@ -1,10 +1,11 @@
--- A question about two sets, as the sides on which an occurrence shows that the answer is no.
-use Rattle.std.specs.Prelude.{Bool, true, false, IsTrue, ℕ, ◌<◌, ℤ, pos, ◌+ℤ◌, ◌≤ℤ◌, ◌<ℤ◌, List, [], ◌≡◌}
+-- A question about two sets: its verdict, and the sides on which an occurrence shows that the answer is no.
+use Rattle.std.specs.Prelude.{⊤, Bool, true, false, IsTrue, ℕ, ◌<◌, ◌≤◌, ℤ, pos, ◌+ℤ◌, ◌≤ℤ◌, ◌<ℤ◌, List, [], ◌≡◌}
 use Rattle.std.specs.List.{Contains}
 use Rattle.rr_model.specs.Moment.{Before, Occurrences}
 use Rattle.rr_model.specs.Sets.Sketch.{StandsIn, times_on}
-use Rattle.rr_model.specs.Sets.Verdict.{HoldsOn}
+use Rattle.rr_model.specs.Sets.Verdict.{HoldsOn, IsDisjointVerdict, IsEqualVerdict, IsWithinVerdict}
 use Rattle.rr_model.specs.declared.kind.Kind.{Kind}
+use Rattle.rr_model.specs.declared.limits.TheConstants.{MAX_CYCLE_DAYS}
 use Rattle.rr_model.specs.declared.sketch.Sketch.{Sketch}
 use Rattle.rr_model.specs.declared.verdict.Side.{Side}
 use Rattle.rr_model.specs.declared.verdict.Side.TheVariants.{A, B, Both}
@@ -12,6 +13,18 @@ use Rattle.rr_model.specs.declared.verdict.Verdict.{Verdict}
 use Rattle.rr_model.specs.declared.verdict.Verdict.TheVariants.{Yes, No}
 use Rattle.rr_decide.specs.declared.question.Question.{Question}
 use Rattle.rr_decide.specs.declared.question.Question.TheVariants.{Equal, Within, Disjoint}
+
+-- the verdict that is asked for
+abbrev pub IsVerdictTo : Question → Occurrences → Occurrences → Verdict → Type 0
+IsVerdictTo Equal P Q verdict = IsEqualVerdict P Q verdict
+IsVerdictTo Within P Q verdict = IsWithinVerdict P Q verdict
+IsVerdictTo Disjoint P Q verdict = IsDisjointVerdict P Q verdict
+
+-- sets that repeat together after so many days do so soon enough for the question; for equality all do
+abbrev pub IsSoonEnough : Question → ℕ → Type 0
+IsSoonEnough Equal days = ⊤
+IsSoonEnough Within days = days ≤ MAX_CYCLE_DAYS
+IsSoonEnough Disjoint days = days ≤ MAX_CYCLE_DAYS
 
 -- an occurrence on this side shows that the answer is no
 abbrev pub shown_by : Question → Side → Bool

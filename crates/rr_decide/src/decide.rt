@@ -1,12 +1,13 @@
-// The three verdicts on two sequences.
+// The verdicts on two sequences.
 ghost use Rattle.std.specs.Prelude.{◌≡◌, ◌≤◌, ◌+◌, min};
 ghost use Rattle.rr_model.specs.Whole.Divisors.{lcm};
 ghost use Rattle.rr_model.specs.Sets.Sketch.{StandsIn};
 ghost use Rattle.rr_model.specs.Sets.Verdict.{IsDisjointVerdict, IsEqualVerdict, IsWithinVerdict};
 ghost use Rattle.rr_decide.specs.Occurrence.{NamesUpToMaxDay};
+ghost use Rattle.rr_decide.specs.Question.{IsSoonEnough, IsVerdictTo};
 
 use crate::question::Question;
-use crate::verdicts::verdict;
+use crate::verdicts::verdict_by_walk;
 use rr_model::{MAX_CYCLE_DAYS, Verdict};
 use rr_num::lcm_within;
 use rr_word::DaySeq;
@@ -20,7 +21,7 @@ pub fn equal<A: DaySeq, B: DaySeq>(a: &A, b: &B) -> Verdict
     ensures verdict { IsEqualVerdict (StandsIn (A.sketch a.now)) (StandsIn (B.sketch b.now)) result }
     ensures day { NamesUpToMaxDay result }
 {
-    verdict(Question::Equal, a, b, equal_days(a.period(), b.period()))
+    verdict_by_walk(Question::Equal, a, b, equal_days(a.period(), b.period()))
 }
 
 /// Whether each occurrence of the first set is one of the second; else the first that the second lacks, on side A.
@@ -34,7 +35,7 @@ pub fn within<A: DaySeq, B: DaySeq>(a: &A, b: &B) -> Verdict
     ensures verdict { IsWithinVerdict (StandsIn (A.sketch a.now)) (StandsIn (B.sketch b.now)) result }
     ensures day { NamesUpToMaxDay result }
 {
-    verdict(Question::Within, a, b, common_cycle(a.period(), b.period()))
+    verdict_by_walk(Question::Within, a, b, common_cycle(a.period(), b.period()))
 }
 
 /// Whether two sets have no occurrence in common; else the first, on side Both.
@@ -48,12 +49,28 @@ pub fn disjoint<A: DaySeq, B: DaySeq>(a: &A, b: &B) -> Verdict
     ensures verdict { IsDisjointVerdict (StandsIn (A.sketch a.now)) (StandsIn (B.sketch b.now)) result }
     ensures day { NamesUpToMaxDay result }
 {
-    verdict(
+    verdict_by_walk(
         Question::Disjoint,
         a,
         b,
         common_cycle(a.period(), b.period()),
     )
+}
+
+/// The verdict that is asked for: that of `equal`, `within` or `disjoint`.
+///
+/// For all but equality the least common multiple of the periods must be at most `MAX_CYCLE_DAYS`.
+/// A no names an occurrence up to the greatest day, 3,000,000,000,000. It takes no memory.
+pub fn verdict<A: DaySeq, B: DaySeq>(question: Question, a: &A, b: &B) -> Verdict
+    requires { IsSoonEnough question (lcm (A.sketch a.now).period (B.sketch b.now).period) }
+    ensures verdict { IsVerdictTo question (StandsIn (A.sketch a.now)) (StandsIn (B.sketch b.now)) result }
+    ensures day { NamesUpToMaxDay result }
+{
+    match question {
+        Question::Equal => equal(a, b),
+        Question::Within => within(a, b),
+        Question::Disjoint => disjoint(a, b),
+    }
 }
 
 // For how many days two sequences are to be equal, past both settled days, to be so for ever.

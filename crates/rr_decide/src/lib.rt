@@ -10,8 +10,9 @@ mod question;
 mod quiet;
 mod verdicts;
 
-pub use decide::{disjoint, equal, within};
+pub use decide::{disjoint, equal, verdict, within};
 pub use long::equal_long;
+pub use question::Question;
 
 #[cfg(test)]
 mod tests;

@@ -7,7 +7,7 @@ use rr_model::Side;
 /// How many free days in a row are passed over at once. Fewer are compared in blocks with the days about them, which costs less.
 pub const FREE_DAYS: u64 = 64;
 
-/// What is asked of two sets of occurrences.
+/// What is asked of two sets of occurrences, for all years to come.
 #[derive(Clone, Copy)]
 pub enum Question {
     /// Whether they are equal.
@@ -20,7 +20,7 @@ pub enum Question {
 
 impl Question {
     /// Whether an occurrence on this side shows that the answer is no.
-    pub fn is_shown_by(self, side: Side) -> bool
+    pub(crate) fn is_shown_by(self, side: Side) -> bool
         ensures { result ≡ shown_by self side }
     {
         match self {
@@ -31,7 +31,7 @@ impl Question {
     }
 
     /// Whether it matters on how many days the second set has no occurrence, where the first has none on `of_a` days.
-    pub fn asks_second(self, of_a: u64) -> bool {
+    pub(crate) fn asks_second(self, of_a: u64) -> bool {
         match self {
             Question::Equal => of_a >= FREE_DAYS,
             Question::Within => false,
@@ -41,7 +41,7 @@ impl Question {
 
     /// On how many days no occurrence shows that the answer is no, where the first set has none on `a` days and the second none
     /// on `b`.
-    pub fn days_without(self, a: u64, b: u64) -> u64
+    pub(crate) fn days_without(self, a: u64, b: u64) -> u64
         ensures { ShowsNoneBelow (shown_by self) a b result }
     {
         match self {

@@ -11,7 +11,12 @@ use rr_model::{Side, Verdict};
 use rr_word::DaySeq;
 
 /// The verdict, where `window` days past both settled days tell of all later days.
-pub fn verdict<A: DaySeq, B: DaySeq>(question: Question, a: &A, b: &B, window: u64) -> Verdict
+pub fn verdict_by_walk<A: DaySeq, B: DaySeq>(
+    question: Question,
+    a: &A,
+    b: &B,
+    window: u64,
+) -> Verdict
     requires window { IsWindow (shown_by question) (A.sketch a.now) (B.sketch b.now) window }
     requires few { window ≤ 2_000_000_000 }
     ensures verdict { IsVerdictBy (shown_by question) (StandsIn (A.sketch a.now)) (StandsIn (B.sketch b.now)) result }

@@ -15,6 +15,9 @@ use Rattle.rr_model.specs.Whole.Divisors.{gcd_within, gcd, lcm}
 use Rattle.rr_model.specs.declared.rule.Freq.{Freq}
 use Rattle.rr_model.specs.declared.rule.Freq.TheVariants.{Secondly, Minutely, Hourly, Daily, Weekly, Monthly, Yearly}
 use Rattle.rr_model.specs.declared.limits.TheConstants.{MAX_CYCLE_DAYS}
+use Rattle.rr_decide.specs.Question.{IsSoonEnough}
+use Rattle.rr_decide.specs.declared.question.Question.{Question}
+use Rattle.rr_decide.specs.declared.question.Question.TheVariants.{Equal, Within, Disjoint}
 use Rattle.rr_drill.specs.Cycles.{cycles, is_drawn_cycle}
 use Rattle.rr_drill.specs.Draws.{next_state, draw, draw_below, intervals, drawn_freq, series_from}
 
@@ -85,12 +88,18 @@ some_within a b (n ∷ ns) f g all e =
     ] refl e
 
 -- the greatest is 110 times 400 years
-pub common_short : (a b : ℕ) → is_drawn_cycle a ≡ true → is_drawn_cycle b ≡ true → lcm a b ≤ MAX_CYCLE_DAYS
+common_short : (a b : ℕ) → is_drawn_cycle a ≡ true → is_drawn_cycle b ≡ true → lcm a b ≤ MAX_CYCLE_DAYS
 unfolding is_drawn_cycle
 common_short a b d e =
     let row = listed (λ m. list_all (λ n. have_multiple m n) cycles) cycles a each_have_multiple d in
     let have : have_multiple a b ≡ true = listed (λ n. have_multiple a n) cycles b row e in
     some_within a b multiples (cycle_some a d) (cycle_some b e) each_within have
+
+-- so they repeat together soon enough for each question
+pub soon_enough : (question : Question) (a b : ℕ) → is_drawn_cycle a ≡ true → is_drawn_cycle b ≡ true → IsSoonEnough question (lcm a b)
+soon_enough Equal a b d e = tt
+soon_enough Within a b d e = common_short a b d e
+soon_enough Disjoint a b d e = common_short a b d e
 
 -- ---- the cycle of a drawn series
 

@@ -8,27 +8,34 @@ use Rattle.rr_model.specs.declared.kind.Kind.{Kind}
 use Rattle.rr_model.specs.declared.rule.Series.{Series}
 use Rattle.rr_model.specs.declared.verdict.Side.{Side}
 use Rattle.rr_model.specs.declared.verdict.Side.TheVariants.{A, B, Both}
-use Rattle.rr_model.specs.declared.verdict.Verdict.TheVariants.{No}
+use Rattle.rr_model.specs.declared.verdict.Verdict.TheVariants.{Yes, No}
+use Rattle.rr_decide.specs.Question.{IsVerdictTo}
+use Rattle.rr_decide.specs.declared.question.Question.{Question}
+use Rattle.rr_decide.specs.declared.question.Question.TheVariants.{Equal, Within, Disjoint}
+use Rattle.rr_drill.specs.Asked.{IsVerdictOn, IsYes}
 use Rattle.rr_drill.specs.Counting.{IsOneWhere, IsCountOf, IsCountOfPairs}
 use Rattle.rr_drill.specs.Draws.{series_from, after_series, series_list, drawn_series}
 use Rattle.rr_drill.specs.Folds.{stands, IsFoldOf, AreFoldsOf}
-use Rattle.rr_drill.specs.Question.{IsVerdictTo, IsYes}
 use Rattle.rr_drill.specs.Summary.{IsSummaryOf, IsSummary}
+use Rattle.rr_drill.specs.declared.asked.Asked.{Asked}
+use Rattle.rr_drill.specs.declared.asked.Asked.TheVariants.{Forth, Back}
 use Rattle.rr_drill.specs.declared.drawn_days.DrawnDays.{DrawnDays}
-use Rattle.rr_drill.specs.declared.question.Question.{Question}
-use Rattle.rr_drill.specs.declared.question.Question.TheVariants.{Equal, Within, Around, Disjoint}
 use Rattle.rr_drill.specs.declared.summary.Summary.{Summary}
 
 -- ---- verdicts
 
 -- a verdict that is no is not yes
-pub not_yes : (question : Question) (P Q : Occurrences) (k : Kind) (t : ℤ) (side : Side) → IsVerdictTo question P Q (No k t side) → IsYes question P Q → ⊥
-not_yes Equal P Q k t A against h = against.0.1 ((h k t).0 against.0.0)
-not_yes Equal P Q k t B against h = against.0.1 ((h k t).1 against.0.0)
-not_yes Equal P Q k t Both against h = absurd against.0
-not_yes Within P Q k t side against h = against.2 (h k t against.1)
-not_yes Around P Q k t side against h = against.2 (h k t against.1)
-not_yes Disjoint P Q k t side against h = h k t against.1 against.2
+no_or_yes : (question : Question) (P Q : Occurrences) (k : Kind) (t : ℤ) (side : Side) → IsVerdictTo question P Q (No k t side)
+    → IsVerdictTo question P Q Yes → ⊥
+no_or_yes Equal P Q k t A against h = against.0.1 ((h k t).0 against.0.0)
+no_or_yes Equal P Q k t B against h = against.0.1 ((h k t).1 against.0.0)
+no_or_yes Equal P Q k t Both against h = absurd against.0
+no_or_yes Within P Q k t side against h = against.2 (h k t against.1)
+no_or_yes Disjoint P Q k t side against h = h k t against.1 against.2
+
+pub not_yes : (asked : Asked) (P Q : Occurrences) (k : Kind) (t : ℤ) (side : Side) → IsVerdictOn asked P Q (No k t side) → IsYes asked P Q → ⊥
+not_yes (Forth question) P Q = no_or_yes question P Q
+not_yes (Back question) P Q = no_or_yes question Q P
 
 -- the two have the same occurrences
 abbrev Same : Occurrences → Occurrences → Type 0
@@ -37,17 +44,20 @@ Same P Q = (k : Kind) (t : ℤ) → P k t ↔ Q k t
 other_way : (P Q : Occurrences) → Same P Q → Same Q P
 other_way P Q s = λ k t. ((s k t).1, (s k t).0)
 
-yes_of : (question : Question) (P Q P' Q' : Occurrences) → Same P P' → Same Q Q' → IsYes question P Q → IsYes question P' Q'
+yes_of : (question : Question) (P Q P' Q' : Occurrences) → Same P P' → Same Q Q' → IsVerdictTo question P Q Yes → IsVerdictTo question P' Q' Yes
 yes_of Equal P Q P' Q' p q all = λ k t. ((λ h. (q k t).0 ((all k t).0 ((p k t).1 h))), (λ h. (p k t).0 ((all k t).1 ((q k t).1 h))))
 yes_of Within P Q P' Q' p q all = λ k t h. (q k t).0 (all k t ((p k t).1 h))
-yes_of Around P Q P' Q' p q all = λ k t h. (p k t).0 (all k t ((q k t).1 h))
 yes_of Disjoint P Q P' Q' p q all = λ k t h g. all k t ((p k t).1 h) ((q k t).1 g)
 
-yes_alike : (question : Question) (a b : DrawnDays) (s u : Series) → IsFoldOf a s → IsFoldOf b u
-    → IsYes question (stands a) (stands b) ↔ IsYes question (Occurs s) (Occurs u)
-yes_alike question a b s u f g = (
-  yes_of question (stands a) (stands b) (Occurs s) (Occurs u) f g,
-  yes_of question (Occurs s) (Occurs u) (stands a) (stands b) (other_way (stands a) (Occurs s) f) (other_way (stands b) (Occurs u) g),
+yes_asked : (asked : Asked) (P Q P' Q' : Occurrences) → Same P P' → Same Q Q' → IsYes asked P Q → IsYes asked P' Q'
+yes_asked (Forth question) P Q P' Q' p q = yes_of question P Q P' Q' p q
+yes_asked (Back question) P Q P' Q' p q = yes_of question Q P Q' P' q p
+
+yes_alike : (asked : Asked) (a b : DrawnDays) (s u : Series) → IsFoldOf a s → IsFoldOf b u
+    → IsYes asked (stands a) (stands b) ↔ IsYes asked (Occurs s) (Occurs u)
+yes_alike asked a b s u f g = (
+  yes_asked asked (stands a) (stands b) (Occurs s) (Occurs u) f g,
+  yes_asked asked (Occurs s) (Occurs u) (stands a) (stands b) (other_way (stands a) (Occurs s) f) (other_way (stands b) (Occurs u) g),
 )
 
 -- ---- counts
@@ -83,10 +93,10 @@ pairs_of R T alike (days ∷ list) (s ∷ others) n folds (first, rest, row, cou
   sum,
 )
 
-yes_pairs : (question : Question) (list : List DrawnDays) (others : List Series) (n : ℕ) → AreFoldsOf list others
-    → IsCountOfPairs (λ a b. IsYes question (stands a) (stands b)) list n → IsCountOfPairs (λ s u. IsYes question (Occurs s) (Occurs u)) others n
-yes_pairs question list others n folds count =
-    pairs_of (λ a b. IsYes question (stands a) (stands b)) (λ s u. IsYes question (Occurs s) (Occurs u)) (yes_alike question) list others n folds count
+yes_pairs : (asked : Asked) (list : List DrawnDays) (others : List Series) (n : ℕ) → AreFoldsOf list others
+    → IsCountOfPairs (λ a b. IsYes asked (stands a) (stands b)) list n → IsCountOfPairs (λ s u. IsYes asked (Occurs s) (Occurs u)) others n
+yes_pairs asked list others n folds count =
+    pairs_of (λ a b. IsYes asked (stands a) (stands b)) (λ s u. IsYes asked (Occurs s) (Occurs u)) (yes_alike asked) list others n folds count
 
 folds_length : (list : List DrawnDays) (others : List Series) → AreFoldsOf list others → length list ≡ length others
 folds_length [] [] folds = refl
@@ -109,10 +119,10 @@ summary_of list others summary folds s =
     record {
       series = s.series ∙ size;
       pairs = subst (λ n. summary.pairs ≡ n * (n - 1) / 2) size s.pairs;
-      equal = yes_pairs Equal list others _ folds s.equal;
+      equal = yes_pairs (Forth Equal) list others _ folds s.equal;
       within =
-          (s.within.0, s.within.1, yes_pairs Within list others _ folds s.within.2, yes_pairs Around list others _ folds s.within.3, s.within.4);
-      disjoint = yes_pairs Disjoint list others _ folds s.disjoint;
+          (s.within.0, s.within.1, yes_pairs (Forth Within) list others _ folds s.within.2, yes_pairs (Back Within) list others _ folds s.within.3, s.within.4);
+      disjoint = yes_pairs (Forth Disjoint) list others _ folds s.disjoint;
     }
 
 -- ---- one series after the other

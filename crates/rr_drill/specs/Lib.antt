@@ -1,6 +1,6 @@
+pub mod Asked
 pub mod Counting
 pub mod Cycles
 pub mod Draws
 pub mod Folds
-pub mod Question
 pub mod Summary

@@ -1,61 +1,59 @@
 // How many verdicts on the pairs of series are yes.
 ghost use Rattle.std.specs.Prelude.{◌≡◌, ◌≤◌, ◌*◌, ◌-◌, ◌/◌, length};
+ghost use Rattle.rr_drill.specs.Asked.{IsVerdictOn, IsYes};
 ghost use Rattle.rr_drill.specs.Counting.{IsCountOf, IsCountOfPairs, IsOneWhere};
 ghost use Rattle.rr_drill.specs.Folds.{stands};
-ghost use Rattle.rr_drill.specs.Question.{IsVerdictTo, IsYes};
 ghost use Rattle.rr_drill.specs.Summary.{IsSummaryOf};
 
 use crate::Summary;
+use crate::asked::Asked;
 use crate::drawn_days::DrawnDays;
-use crate::question::Question;
-use rr_decide::{disjoint, equal, within};
+use rr_decide::{Question, verdict};
 use rr_model::Verdict;
 
 // The verdict on two series.
-fn verdict(question: Question, a: &DrawnDays, b: &DrawnDays) -> Verdict
-    ensures { IsVerdictTo question (stands a.now) (stands b.now) result }
+fn verdict_on(asked: Asked, a: &DrawnDays, b: &DrawnDays) -> Verdict
+    ensures { IsVerdictOn asked (stands a.now) (stands b.now) result }
 {
-    match question {
-        Question::Equal => equal(&a.folded, &b.folded),
-        Question::Within => within(&a.folded, &b.folded),
-        Question::Around => within(&b.folded, &a.folded),
-        Question::Disjoint => disjoint(&a.folded, &b.folded),
+    match asked {
+        Asked::Forth(question) => verdict(question, &a.folded, &b.folded),
+        Asked::Back(question) => verdict(question, &b.folded, &a.folded),
     }
 }
 
 // One where the verdict on two series is yes, else none.
-fn one_where_yes(question: Question, a: &DrawnDays, b: &DrawnDays) -> u32
-    ensures count { IsOneWhere (IsYes question (stands a.now) (stands b.now)) result }
+fn one_where_yes(asked: Asked, a: &DrawnDays, b: &DrawnDays) -> u32
+    ensures count { IsOneWhere (IsYes asked (stands a.now) (stands b.now)) result }
     ensures few { result ≤ 1 }
 {
-    match verdict(question, a, b) {
+    match verdict_on(asked, a, b) {
         Verdict::Yes => 1,
         Verdict::No { .. } => 0,
     }
 }
 
 // How many verdicts on a series and each of others are yes.
-fn yes_in_row(question: Question, first: &DrawnDays, others: &[DrawnDays]) -> u32
+fn yes_in_row(asked: Asked, first: &DrawnDays, others: &[DrawnDays]) -> u32
     requires { length others.now ≤ 100 }
-    ensures count { IsCountOf (λ days. IsYes question (stands first.now) (stands days)) others.now result }
+    ensures count { IsCountOf (λ days. IsYes asked (stands first.now) (stands days)) others.now result }
     ensures few { result ≤ length others.now }
 {
     let mut count = 0;
     for days in others {
-        count += one_where_yes(question, first, days);
+        count += one_where_yes(asked, first, days);
     }
     count
 }
 
 // How many verdicts on a series and a later one are yes.
-fn yes_in_pairs(question: Question, list: &[DrawnDays]) -> u32
+fn yes_in_pairs(asked: Asked, list: &[DrawnDays]) -> u32
     requires { length list.now ≤ 100 }
-    ensures count { IsCountOfPairs (λ a b. IsYes question (stands a) (stands b)) list.now result }
+    ensures count { IsCountOfPairs (λ a b. IsYes asked (stands a) (stands b)) list.now result }
     ensures few { result ≤ 10_000 }
 {
     let mut count = 0;
     for place in 0..list.len() {
-        count += yes_in_row(question, &list[place], &list[place + 1..]);
+        count += yes_in_row(asked, &list[place], &list[place + 1..]);
     }
     count
 }
@@ -79,8 +77,9 @@ pub fn summary_of(list: &[DrawnDays]) -> Summary
     Summary {
         series,
         pairs: pairs_of(series),
-        equal: yes_in_pairs(Question::Equal, list),
-        within: yes_in_pairs(Question::Within, list) + yes_in_pairs(Question::Around, list),
-        disjoint: yes_in_pairs(Question::Disjoint, list),
+        equal: yes_in_pairs(Asked::Forth(Question::Equal), list),
+        within: yes_in_pairs(Asked::Forth(Question::Within), list)
+            + yes_in_pairs(Asked::Back(Question::Within), list),
+        disjoint: yes_in_pairs(Asked::Forth(Question::Disjoint), list),
     }
 }

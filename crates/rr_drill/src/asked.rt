@@ -1,0 +1,11 @@
+// What is asked of a series and a later one.
+use rr_decide::Question;
+
+/// A question about a series and a later one.
+#[derive(Clone, Copy)]
+pub enum Asked {
+    /// Of the two in their order.
+    Forth(Question),
+    /// Of the two exchanged.
+    Back(Question),
+}
