@@ -1,4 +1,4 @@
-// Failing fetches and puts, texts that are cut, lines that are folded, and greatest numbers.
+// Failing fetches and puts, texts whole and cut, lines that are folded, and greatest numbers.
 use crate::case_tests::said;
 use crate::{Status, run};
 use rr_io::{MemorySink, MemorySource};
@@ -29,6 +29,10 @@ list 2 rrule:a|[4]|2024-01-01~2024-01-02~[0]|[5]|2[5]|20[5]|2024-01-01~2024-01-0
 // An event of Microsoft Graph.
 const EVENT: &str =
     "{\"subject\":\"Review\",\"isAllDay\":false,\"start\":{\"dateTime\":\"2024-01-02T09:30:00.0000000\",\"timeZone\":\"Pacific Standard Time\"},\"recurrence\":{\"pattern\":{\"type\":\"weekly\",\"interval\":2,\"month\":0,\"dayOfMonth\":0,\"daysOfWeek\":[\"tuesday\",\"thursday\"],\"firstDayOfWeek\":\"sunday\",\"index\":\"first\"},\"range\":{\"type\":\"endDate\",\"startDate\":\"2024-01-02\",\"endDate\":\"2024-06-30\",\"recurrenceTimeZone\":\"Pacific Standard Time\",\"numberOfOccurrences\":0}}}";
+
+// It in the language of RFC 5545.
+const TRANSLATED: &str =
+    "DTSTART:20240102T093000\r~RRULE:FREQ=WEEKLY;UNTIL=20240630T093000;INTERVAL=2;WKST=SU;BYDAY=TU,TH\r [0]";
 
 // A calendar whose event has a rule on two lines.
 const CALENDAR: &str =
@@ -169,6 +173,16 @@ fn missing_b_beside_bad_a(rt: HostRuntime) -> Result<(), Fail> {
     );
     assert_eq!(rt; status, Status::ReadFault);
     assert_eq!(rt; sink.bytes(), b"".as_slice());
+    Ok(())
+}
+
+#[test]
+fn whole_texts(rt: HostRuntime) -> Result<(), Fail> {
+    let alloc = rt.alloc();
+    let event = said(alloc, "translate rrule graph:a", EVENT.as_bytes(), b"")?;
+    assert_eq!(rt; event.as_str(), TRANSLATED);
+    let calendar = said(alloc, "list 9 rrule:a", CALENDAR.as_bytes(), b"")?;
+    assert_eq!(rt; calendar.as_str(), UNFOLDED);
     Ok(())
 }
 
