@@ -59,12 +59,10 @@ check rrule:a|DTSTART:20240101~RRULE:FREQ=DAILY;INTERVAL=16777216~RRULE:FREQ=DAI
 check rrule:a|DTSTART:20240101~RRULE:FREQ=DAILY;FREQ=DAILY||refused A PartTwice 2 [2]
 ";
 
-// Occurrences of whole calendar files and events, of rules of vCalendar 1.0, and with an offset. Of two ends of a vCalendar rule the
-// earlier counts.
+// Occurrences of events, of rules of vCalendar 1.0, and with an offset. Of two ends of a vCalendar rule the earlier counts.
 const LISTED: &str = "\
 list 9 vcal:a|DTSTART:20240101T090000~RRULE:D4||2024-01-01T09:00:00~2024-01-05T09:00:00 [0]
 list 9 vcal:a|DTSTART:20240329~RRULE:MP1 5+ FR #3||2024-03-29~2024-05-31~2024-08-30 [0]
-list 9 rrule:a|BEGIN:VCALENDAR\r~VERSION:2.0\r~BEGIN:VTIMEZONE\r~TZID:Europe/Berlin\r~BEGIN:STANDARD\r~DTSTART:19701025T030000\r~RRULE:FREQ=YEARLY;BYMONTH=10;BYDAY=-1SU\r~END:STANDARD\r~END:VTIMEZONE\r~BEGIN:VEVENT\r~DTSTART;TZID=Europe/Berlin:20240103T100000\r~RRULE:FREQ=WEEKLY;WKST=MO;COUNT=4;\r~ BYDAY=WE\r~EXDATE;TZID=Europe/Berlin:20240110T100000\r~SUMMARY:Status\r~BEGIN:VALARM\r~TRIGGER:-P0DT0H10M0S\r~END:VALARM\r~END:VEVENT\r~END:VCALENDAR\r~||2024-01-03T10:00:00~2024-01-17T10:00:00~2024-01-24T10:00:00 [0]
 list 9 rrule:a|DTSTART;TZID=Europe/Berlin:20240101T093000~RRULE:FREQ=DAILY;UNTIL=20240103T083000Z||refused A UtcMoment [2]
 list 9 rrule@+01:00:a|DTSTART;TZID=Europe/Berlin:20240101T093000~RRULE:FREQ=DAILY;UNTIL=20240103T083000Z||2024-01-01T09:30:00~2024-01-02T09:30:00~2024-01-03T09:30:00 [0]
 list 1 graph:a|{\"start\":{\"dateTime\":\"2024-01-02T04:00:00.0000000\",\"timeZone\":\"UTC\"},\"recurrence\":{\"pattern\":{\"type\":\"weekly\",\"interval\":1,\"daysOfWeek\":[\"monday\"]},\"range\":{\"type\":\"noEnd\",\"startDate\":\"2024-01-01\"}}}||refused A StartDiffers [2]
@@ -313,7 +311,7 @@ const USAGE: &str =
     "usage: rr equal A B | within A B | disjoint A B | canon A | translate LANG A | infer A | list N A | check A | drill SEED N | canon1 A | union A B | common A B | minus A B | clear D A E B | nth N A | rank MOMENT A [3]";
 
 // What was put, with `~` for a line break; each output that is not empty ends with one more.
-pub(crate) fn shown(alloc: Global, bytes: &[u8]) -> Result<String, Fail> {
+fn shown(alloc: Global, bytes: &[u8]) -> Result<String, Fail> {
     let text = std::str::from_utf8(bytes).ok().ok_or("the output is text")?;
     if text.is_empty() {
         return Ok(String::new(alloc));
@@ -340,7 +338,7 @@ pub(crate) fn said(alloc: Global, words: &str, a: &[u8], b: &[u8]) -> Result<Str
 }
 
 // A row `WORDS|A|B|OUTPUT [STATUS]` holds.
-pub(crate) fn row_holds(rt: &impl Abort, alloc: Global, row: &str) -> Result<(), Fail> {
+fn row_holds(rt: &impl Abort, alloc: Global, row: &str) -> Result<(), Fail> {
     let (given, wanted) = row.rsplit_once('|').ok_or("a row has an output")?;
     let (given, b) = given.rsplit_once('|').ok_or("a row has a text of b")?;
     let (words, a) = given.rsplit_once('|').ok_or("a row has a text of a")?;
@@ -348,6 +346,14 @@ pub(crate) fn row_holds(rt: &impl Abort, alloc: Global, row: &str) -> Result<(),
     let b = b.replace(alloc, "~", "\n")?;
     let said = said(alloc, words, a.as_bytes(), b.as_bytes())?;
     assert_eq!(rt; said.as_str(), wanted, "{row}");
+    Ok(())
+}
+
+// Each row of a table holds.
+pub(crate) fn rows_hold(rt: &impl Abort, alloc: Global, table: &str) -> Result<(), Fail> {
+    for row in table.lines() {
+        row_holds(rt, alloc, row)?;
+    }
     Ok(())
 }
 
@@ -363,19 +369,14 @@ fn cases(rt: HostRuntime) -> Result<(), Fail> {
         COMBINED,
         DAYS_THAT_MONTHS_LACK,
     ] {
-        for row in table.lines() {
-            row_holds(&rt, rt.alloc(), row)?;
-        }
+        rows_hold(&rt, rt.alloc(), table)?;
     }
     Ok(())
 }
 
 #[test]
 fn long_series(rt: HostRuntime) -> Result<(), Fail> {
-    for row in LONG.lines() {
-        row_holds(&rt, rt.alloc(), row)?;
-    }
-    Ok(())
+    rows_hold(&rt, rt.alloc(), LONG)
 }
 
 #[test]

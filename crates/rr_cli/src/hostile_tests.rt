@@ -1,8 +1,7 @@
-// Failing fetches and puts, texts that are cut, lines that are folded, and greatest numbers.
+// Failing fetches and puts, texts whole and cut, lines that are folded, and greatest numbers.
 use crate::case_tests::said;
 use crate::{Status, run};
 use rr_io::{MemorySink, MemorySource};
-use rr_model::MAX_INPUT;
 use std::alloc::Global;
 use std::process::Abort;
 use std::test::*;
@@ -31,6 +30,10 @@ list 2 rrule:a|[4]|2024-01-01~2024-01-02~[0]|[5]|2[5]|20[5]|2024-01-01~2024-01-0
 const EVENT: &str =
     "{\"subject\":\"Review\",\"isAllDay\":false,\"start\":{\"dateTime\":\"2024-01-02T09:30:00.0000000\",\"timeZone\":\"Pacific Standard Time\"},\"recurrence\":{\"pattern\":{\"type\":\"weekly\",\"interval\":2,\"month\":0,\"dayOfMonth\":0,\"daysOfWeek\":[\"tuesday\",\"thursday\"],\"firstDayOfWeek\":\"sunday\",\"index\":\"first\"},\"range\":{\"type\":\"endDate\",\"startDate\":\"2024-01-02\",\"endDate\":\"2024-06-30\",\"recurrenceTimeZone\":\"Pacific Standard Time\",\"numberOfOccurrences\":0}}}";
 
+// It in the language of RFC 5545.
+const TRANSLATED: &str =
+    "DTSTART:20240102T093000\r~RRULE:FREQ=WEEKLY;UNTIL=20240630T093000;INTERVAL=2;WKST=SU;BYDAY=TU,TH\r [0]";
+
 // A calendar whose event has a rule on two lines.
 const CALENDAR: &str =
     "BEGIN:VCALENDAR\r\nVERSION:2.0\r\nBEGIN:VTIMEZONE\r\nTZID:Europe/Berlin\r\nBEGIN:STANDARD\r\nDTSTART:19701025T030000\r\nRRULE:FREQ=YEARLY;BYMONTH=10;BYDAY=-1SU\r\nEND:STANDARD\r\nEND:VTIMEZONE\r\nBEGIN:VEVENT\r\nDTSTART;TZID=Europe/Berlin:20240103T100000\r\nRRULE:FREQ=WEEKLY;WKST=MO;COUNT=4;\r\n BYDAY=WE\r\nEXDATE;TZID=Europe/Berlin:20240110T100000\r\nSUMMARY:Status\r\nBEGIN:VALARM\r\nTRIGGER:-P0DT0H10M0S\r\nEND:VALARM\r\nEND:VEVENT\r\nEND:VCALENDAR\r\n";
@@ -41,70 +44,22 @@ const RULE_LINES: [&str; 2] = ["RRULE:FREQ=WEEKLY;WKST=MO;COUNT=4;", " BYDAY=WE"
 // What is put of that calendar.
 const UNFOLDED: &str = "2024-01-03T10:00:00~2024-01-17T10:00:00~2024-01-24T10:00:00 [0]";
 
-// A word, the head of a text, a line that follows so many times, and what `check` says.
-const REPEATED: [(&str, &str, &str, usize, &str); 13] = [
-    (
-        "rrule:a",
-        "",
-        "BEGIN:X\n",
-        131_072,
-        "refused A BadLine 131072 [2]",
-    ),
-    ("rrule:a", "", "\n", MAX_INPUT, "refused A NoStart [2]"),
-    ("list:a", "", "\n", MAX_INPUT, "cycle 1 [0]"),
-    ("list:a", "", "\n", MAX_INPUT + 1, "refused A TooLong [2]"),
-    ("rrule:a", DAILY, "RRULE:FREQ=DAILY\n", 15, "cycle 1 [0]"),
-    ("rrule:a", DAILY, "RDATE:20240101\n", 10_000, "cycle 1 [0]"),
-    (
-        "rrule:a",
-        DAILY,
-        "RDATE:20240101\n",
-        10_001,
-        "refused A TooManyParts [2]",
-    ),
-    (
-        "rrule:a",
-        DAILY,
-        "EXDATE:20240102\n",
-        10_001,
-        "refused A TooManyParts [2]",
-    ),
-    (
-        "vcal:a",
-        "DTSTART:20240101\n",
-        "RRULE:D1\n",
-        16,
-        "cycle 1 [0]",
-    ),
-    (
-        "vcal:a",
-        "DTSTART:20240101\n",
-        "RRULE:D1\n",
-        17,
-        "refused A TooManyParts [2]",
-    ),
-    (
-        "vcal:a",
-        "DTSTART:20240101\n",
-        "RDATE:20240101\n",
-        10_000,
-        "cycle 1 [0]",
-    ),
-    (
-        "vcal:a",
-        "DTSTART:20240101\n",
-        "RDATE:20240101\n",
-        10_001,
-        "refused A TooManyParts [2]",
-    ),
-    (
-        "vcal:a",
-        "DTSTART:20240101\n",
-        "EXDATE:20240102\n",
-        10_001,
-        "refused A TooManyParts [2]",
-    ),
-];
+// A word, the head of a text, a line that follows so many times, and what `check` says. A text has at most 1,048,576 bytes.
+const REPEATED: &str = "\
+rrule:a||BEGIN:X|131072|refused A BadLine 131072 [2]
+rrule:a|||1048576|refused A NoStart [2]
+list:a|||1048576|cycle 1 [0]
+list:a|||1048577|refused A TooLong [2]
+rrule:a|DTSTART:20240101~RRULE:FREQ=DAILY~|RRULE:FREQ=DAILY|15|cycle 1 [0]
+rrule:a|DTSTART:20240101~RRULE:FREQ=DAILY~|RDATE:20240101|10000|cycle 1 [0]
+rrule:a|DTSTART:20240101~RRULE:FREQ=DAILY~|RDATE:20240101|10001|refused A TooManyParts [2]
+rrule:a|DTSTART:20240101~RRULE:FREQ=DAILY~|EXDATE:20240102|10001|refused A TooManyParts [2]
+vcal:a|DTSTART:20240101~|RRULE:D1|16|cycle 1 [0]
+vcal:a|DTSTART:20240101~|RRULE:D1|17|refused A TooManyParts [2]
+vcal:a|DTSTART:20240101~|RDATE:20240101|10000|cycle 1 [0]
+vcal:a|DTSTART:20240101~|RDATE:20240101|10001|refused A TooManyParts [2]
+vcal:a|DTSTART:20240101~|EXDATE:20240102|10001|refused A TooManyParts [2]
+";
 
 // A recurrence of Microsoft Graph with a further member of 126 arrays in one another, the most that JSON is read with here, and of 127.
 const NESTED: [(usize, &str); 2] = [(126, "cycle 14 [0]"), (127, "refused A BadJson [2]")];
@@ -166,20 +121,21 @@ fn folds_hold(rt: &impl Abort, alloc: Global, line: &str) -> Result<(), Fail> {
     Ok(())
 }
 
-// What `check` says of a head and so many lines.
-fn said_of_repeated(
-    alloc: Global,
-    word: &str,
-    head: &str,
-    line: &str,
-    count: usize,
-) -> Result<String, Fail> {
-    let mut text = Vec::from_slice(alloc, head.as_bytes())?;
-    for _ in 0..count {
-        text.extend_from_slice(line.as_bytes())?;
-    }
+// A row `WORD|HEAD|LINE|COUNT|OUTPUT [STATUS]` holds.
+fn repeated_holds(rt: &impl Abort, alloc: Global, row: &str) -> Result<(), Fail> {
+    let (given, wanted) = row.rsplit_once('|').ok_or("a row has an output")?;
+    let (given, count) = given.rsplit_once('|').ok_or("a row has a count")?;
+    let (given, line) = given.rsplit_once('|').ok_or("a row has a line")?;
+    let (word, head) = given.split_once('|').ok_or("a row has a head")?;
     let words = format!(in alloc; "check {word}")?;
-    said(alloc, words.as_str(), text.as_slice(), b"")
+    let line = format!(in alloc; "{line}\n")?;
+    let mut text = head.replace(alloc, "~", "\n")?;
+    for _ in 0..count.parse::<u32>().ok().ok_or("a count is a number")? {
+        text.push_str(line.as_str())?;
+    }
+    let said = said(alloc, words.as_str(), text.as_bytes(), b"")?;
+    assert_eq!(rt; said.as_str(), wanted, "{row}");
+    Ok(())
 }
 
 // A recurrence with so many arrays in one another.
@@ -221,6 +177,16 @@ fn missing_b_beside_bad_a(rt: HostRuntime) -> Result<(), Fail> {
 }
 
 #[test]
+fn whole_texts(rt: HostRuntime) -> Result<(), Fail> {
+    let alloc = rt.alloc();
+    let event = said(alloc, "translate rrule graph:a", EVENT.as_bytes(), b"")?;
+    assert_eq!(rt; event.as_str(), TRANSLATED);
+    let calendar = said(alloc, "list 9 rrule:a", CALENDAR.as_bytes(), b"")?;
+    assert_eq!(rt; calendar.as_str(), UNFOLDED);
+    Ok(())
+}
+
+#[test]
 fn cut_events(rt: HostRuntime) -> Result<(), Fail> {
     let text = EVENT.as_bytes();
     for (length, _) in text.iter().enumerate() {
@@ -252,9 +218,8 @@ fn folded_lines(rt: HostRuntime) -> Result<(), Fail> {
 #[test]
 fn greatest_numbers(rt: HostRuntime) -> Result<(), Fail> {
     let alloc = rt.alloc();
-    for (word, head, line, count, wanted) in REPEATED {
-        let said = said_of_repeated(alloc, word, head, line, count)?;
-        assert_eq!(rt; said.as_str(), wanted, "{word} {line} {count}");
+    for row in REPEATED.lines() {
+        repeated_holds(&rt, alloc, row)?;
     }
     for (depth, wanted) in NESTED {
         let text = nested(alloc, depth)?;

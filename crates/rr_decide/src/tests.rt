@@ -3,8 +3,44 @@ ghost use Rattle.std.specs.Prelude.{◌≤◌};
 ghost use Rattle.rr_model.specs.Sets.Sketch.{IsNearDay};
 
 use crate::{disjoint, equal, within};
-use rr_model::{Kind, Side, Verdict};
+use rr_model::{Kind, Verdict};
 use rr_word::{DaySeq, Stretch};
+use std::alloc::Global;
+use std::process::Abort;
+use std::test::*;
+
+// Which verdict, on which sets, and what it says. A set has a kind, its first day, and every how many days it has one. A no has the
+// kind, the day or the second, and the side.
+const VERDICTS: &str = "\
+equal|Days 0 7|Days 0 7|yes
+equal|Days 0 2|Days 0 3|no Days 2 A
+equal|Days 0 4|Days 0 2|no Days 2 B
+equal|Days -3 6|Days 3 6|no Days -3 A
+equal|none|none|yes
+equal|none|Days 5 2|no Days 5 B
+equal|Days 5 2|none|no Days 5 A
+equal|Days 1 1|Moments 1 1|no Days 1 A
+equal|Moments 1 1|Days 1 1|no Days 1 B
+equal|Moments 1 1|Days 2 1|no Moments 86400 A
+within|Days 0 6|Days 0 6|yes
+within|Days 0 6|Days 0 3|yes
+within|Days 0 3|Days 0 6|no Days 3 A
+within|Days 0 4|Days 0 3|no Days 4 A
+within|none|none|yes
+within|none|Days 5 2|yes
+within|Days 5 2|none|no Days 5 A
+within|Days 1 1|Moments 1 1|no Days 1 A
+within|Moments 2 3|Days 1 1|no Moments 172800 A
+disjoint|Days 0 2|Days 1 2|yes
+disjoint|Days 0 2|Days 1 4|yes
+disjoint|Days 0 3|Days 0 6|no Days 0 Both
+disjoint|Days 0 4|Days 3 5|no Days 8 Both
+disjoint|Days 0 7|Days 1 11|no Days 56 Both
+disjoint|none|none|yes
+disjoint|Days 5 2|none|yes
+disjoint|Days 1 1|Moments 1 1|yes
+disjoint|Moments 0 2|Moments 4 3|no Moments 345600 Both
+";
 
 // Every n days from a start, each at second 0, or nothing.
 #[derive(Clone, Copy)]
@@ -90,59 +126,37 @@ impl Every {
     }
 }
 
-// Every n days from a day on, as dates.
-fn dates(start: i64, step: u64) -> Every
-    requires near { IsNearDay start }
-    requires steps { 1 ≤ step }
-    requires few { step ≤ 1_000 }
-{
-    Every {
-        kind: Kind::Days,
+// A set as a row says it.
+fn set_of(text: &str) -> Result<Every, Fail> {
+    if text == "none" {
+        return Ok(Every {
+            kind: Kind::Days,
+            start: 0,
+            step: 1,
+            some: false,
+        });
+    }
+    let (kind, numbers) = text.split_once(' ').ok_or("a set has a first day")?;
+    let (start, step) = numbers.split_once(' ').ok_or("a set has a step")?;
+    let start = start.parse::<i64>().ok().ok_or("a day is a number")?;
+    let step = step.parse::<u64>().ok().ok_or("a step is a number")?;
+    if start < -1_000 || start > 1_000 || step < 1 || step > 1_000 {
+        return Err("a set is near and its step is small".into());
+    }
+    Ok(Every {
+        kind: kind_of(kind)?,
         start,
         step,
         some: true,
-    }
+    })
 }
 
-// Every n days from a day on, as moments at midnight.
-fn midnights(start: i64, step: u64) -> Every
-    requires near { IsNearDay start }
-    requires steps { 1 ≤ step }
-    requires few { step ≤ 1_000 }
-{
-    Every {
-        kind: Kind::Moments,
-        start,
-        step,
-        some: true,
-    }
-}
-
-// The empty set.
-fn nothing() -> Every {
-    Every {
-        kind: Kind::Days,
-        start: 0,
-        step: 1,
-        some: false,
-    }
-}
-
-// No, by a date.
-fn no(at: i64, side: Side) -> Verdict {
-    Verdict::No {
-        kind: Kind::Days,
-        at,
-        side,
-    }
-}
-
-// No, by the midnight of a day.
-fn no_at_midnight(at: i64, side: Side) -> Verdict {
-    Verdict::No {
-        kind: Kind::Moments,
-        at,
-        side,
+// A kind by its name.
+fn kind_of(name: &str) -> Result<Kind, Fail> {
+    match name {
+        "Days" => Ok(Kind::Days),
+        "Moments" => Ok(Kind::Moments),
+        _ => Err("a kind has a name".into()),
     }
 }
 
@@ -155,69 +169,38 @@ fn disjoint_of_small(a: &Every, b: &Every) -> Verdict {
     disjoint(a, b)
 }
 
-#[test]
-fn tells_equal_sets(rt: HostRuntime) {
-    let table = [
-        (dates(0, 7), dates(0, 7), Verdict::Yes),
-        (dates(0, 2), dates(0, 3), no(2, Side::A)),
-        (dates(0, 4), dates(0, 2), no(2, Side::B)),
-        (dates(-3, 6), dates(3, 6), no(-3, Side::A)),
-        (nothing(), nothing(), Verdict::Yes),
-        (nothing(), dates(5, 2), no(5, Side::B)),
-        (dates(5, 2), nothing(), no(5, Side::A)),
-        (dates(1, 1), midnights(1, 1), no(1, Side::A)),
-        (midnights(1, 1), dates(1, 1), no(1, Side::B)),
-        (
-            midnights(1, 1),
-            dates(2, 1),
-            no_at_midnight(86_400, Side::A),
-        ),
-    ];
-    for (a, b, want) in table {
-        assert_eq!(rt; equal(&a, &b), want);
+// The verdict of this name.
+fn verdict_of(name: &str, a: &Every, b: &Every) -> Result<Verdict, Fail> {
+    match name {
+        "equal" => Ok(equal(a, b)),
+        "within" => Ok(within_of_small(a, b)),
+        "disjoint" => Ok(disjoint_of_small(a, b)),
+        _ => Err("a verdict has a name".into()),
     }
 }
 
-#[test]
-fn tells_sets_within_others(rt: HostRuntime) {
-    let table = [
-        (dates(0, 6), dates(0, 6), Verdict::Yes),
-        (dates(0, 6), dates(0, 3), Verdict::Yes),
-        (dates(0, 3), dates(0, 6), no(3, Side::A)),
-        (dates(0, 4), dates(0, 3), no(4, Side::A)),
-        (nothing(), nothing(), Verdict::Yes),
-        (nothing(), dates(5, 2), Verdict::Yes),
-        (dates(5, 2), nothing(), no(5, Side::A)),
-        (dates(1, 1), midnights(1, 1), no(1, Side::A)),
-        (
-            midnights(2, 3),
-            dates(1, 1),
-            no_at_midnight(172_800, Side::A),
-        ),
-    ];
-    for (a, b, want) in table {
-        assert_eq!(rt; within_of_small(&a, &b), want);
+// A verdict as a row says it.
+fn said(alloc: Global, verdict: Verdict) -> Result<String, Fail> {
+    match verdict {
+        Verdict::Yes => Ok(String::from_str(alloc, "yes")?),
+        Verdict::No { kind, at, side } => Ok(format!(in alloc; "no {kind:?} {at} {side:?}")?),
     }
 }
 
+// A row `NAME|A|B|VERDICT` holds.
+fn row_holds(rt: &impl Abort, alloc: Global, row: &str) -> Result<(), Fail> {
+    let (given, wanted) = row.rsplit_once('|').ok_or("a row has a verdict")?;
+    let (given, b) = given.rsplit_once('|').ok_or("a row has a set B")?;
+    let (name, a) = given.split_once('|').ok_or("a row has a set A")?;
+    let verdict = verdict_of(name, &set_of(a)?, &set_of(b)?)?;
+    assert_eq!(rt; said(alloc, verdict)?.as_str(), wanted, "{row}");
+    Ok(())
+}
+
 #[test]
-fn tells_disjoint_sets(rt: HostRuntime) {
-    let table = [
-        (dates(0, 2), dates(1, 2), Verdict::Yes),
-        (dates(0, 2), dates(1, 4), Verdict::Yes),
-        (dates(0, 3), dates(0, 6), no(0, Side::Both)),
-        (dates(0, 4), dates(3, 5), no(8, Side::Both)),
-        (dates(0, 7), dates(1, 11), no(56, Side::Both)),
-        (nothing(), nothing(), Verdict::Yes),
-        (dates(5, 2), nothing(), Verdict::Yes),
-        (dates(1, 1), midnights(1, 1), Verdict::Yes),
-        (
-            midnights(0, 2),
-            midnights(4, 3),
-            no_at_midnight(345_600, Side::Both),
-        ),
-    ];
-    for (a, b, want) in table {
-        assert_eq!(rt; disjoint_of_small(&a, &b), want);
+fn verdicts(rt: HostRuntime) -> Result<(), Fail> {
+    for row in VERDICTS.lines() {
+        row_holds(&rt, rt.alloc(), row)?;
     }
+    Ok(())
 }
