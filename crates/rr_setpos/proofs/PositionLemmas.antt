@@ -22,7 +22,7 @@ use Rattle.rr_cal.proofs.StretchLemmas.{units_are_stretches}
 use Rattle.rr_model.proofs.CountLemmas.{count_from-zero, count_from-suc}
 use Rattle.rr_model.proofs.CountLemmas.{count_from-split, count_from-same, count_seconds-zero, count_seconds-suc, count_seconds-split}
 use Rattle.rr_model.specs.Rule.DaysAndTimes.{seconds_of, time_holds, day_holds}
-use Rattle.rr_model.proofs.DaysAndTimesLemmas.{time_parts_hold-at, and_parts, candidates_are_days_and_times}
+use Rattle.rr_model.proofs.DaysAndTimesLemmas.{time_parts_hold-at, and_parts as all_parts, candidates_are_days_and_times}
 use Rattle.rr_model.proofs.DaysAndTimesLemmas.{second_part-below, moment_is, unit_of_day, only_moments}
 use Rattle.rr_model.proofs.MomentLemmas.{day_part-moment_at}
 use Rattle.rr_model.specs.Sets.Counting.{count_seconds}
@@ -224,7 +224,7 @@ begin_bounds Yearly s low = (omega (arith, low), omega (arith, low), omega (arit
 pub candidate_parts : (rule : Rule) (kind : Kind) (start t : ℤ) → is_candidate rule kind start t ≡ true → (interval_holds rule kind start t ≡ true)
     × (date_parts_hold (filled rule kind start) (day_part kind t) ≡ true) × (time_parts_hold (filled rule kind start) kind t ≡ true)
 unfolding is_candidate
-candidate_parts rule kind start t e = and_parts _ _ _ e
+candidate_parts rule kind start t e = all_parts _ _ _ e
 
 -- in its unit the time parts decide
 candidate_beside : (rule : Rule) (start d : ℤ) (s r : ℕ) → s < 86_400 → r < 86_400 → is_candidate rule Moments start (moment_at Moments d s) ≡ true
