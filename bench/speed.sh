@@ -33,22 +33,22 @@ pair() {
 }
 
 echo 'instructions a printed line'
-lines 750 'each day' 20240101 'FREQ=DAILY'
-lines 860 'each day at 09:30' 20240101T093000 'FREQ=DAILY'
-lines 880 'each week' 20240101 'FREQ=WEEKLY'
-lines 870 'three days a week' 20240101 'FREQ=WEEKLY;BYDAY=MO,WE,FR'
-lines 900 'each month' 20240115 'FREQ=MONTHLY'
-lines 910 'the second Tuesday of each month' 20240109 'FREQ=MONTHLY;BYDAY=2TU'
-lines 1480 'each year' 20240115 'FREQ=YEARLY'
-lines 1560 'Monday of each twentieth week' 20240513 'FREQ=YEARLY;BYWEEKNO=20;BYDAY=MO'
-lines 290 'each hour' 20240101T090000 'FREQ=HOURLY'
-lines 620 'each seventh hour' 20240101T090000 'FREQ=HOURLY;INTERVAL=7'
-lines 240 'each minute' 20240101T090000 'FREQ=MINUTELY'
-lines 330 'each second' 20240101T090000 'FREQ=SECONDLY'
-lines 3550 'by place, the last workday of each month' 20240131 'FREQ=MONTHLY;BYDAY=MO,TU,WE,TH,FR;BYSETPOS=-1'
+lines 700 'each day' 20240101 'FREQ=DAILY'
+lines 780 'each day at 09:30' 20240101T093000 'FREQ=DAILY'
+lines 790 'each week' 20240101 'FREQ=WEEKLY'
+lines 770 'three days a week' 20240101 'FREQ=WEEKLY;BYDAY=MO,WE,FR'
+lines 800 'each month' 20240115 'FREQ=MONTHLY'
+lines 810 'the second Tuesday of each month' 20240109 'FREQ=MONTHLY;BYDAY=2TU'
+lines 1250 'each year' 20240115 'FREQ=YEARLY'
+lines 1320 'Monday of each twentieth week' 20240513 'FREQ=YEARLY;BYWEEKNO=20;BYDAY=MO'
+lines 240 'each hour' 20240101T090000 'FREQ=HOURLY'
+lines 450 'each seventh hour' 20240101T090000 'FREQ=HOURLY;INTERVAL=7'
+lines 210 'each minute' 20240101T090000 'FREQ=MINUTELY'
+lines 300 'each second' 20240101T090000 'FREQ=SECONDLY'
+lines 2870 'by place, the last workday of each month' 20240131 'FREQ=MONTHLY;BYDAY=MO,TU,WE,TH,FR;BYSETPOS=-1'
 series working 20240101 'FREQ=DAILY'
 printf 'EXRULE:FREQ=WEEKLY;BYDAY=SA,SU\n' >>"$scratch/working"
-counted 2560 100000 'each day but Saturdays and Sundays' list 100000 "rrule:$scratch/working"
+counted 2450 100000 'each day but Saturdays and Sundays' list 100000 "rrule:$scratch/working"
 
 series weekdays 20240101 'FREQ=WEEKLY;BYDAY=MO,WE,FR'
 series weekdays-other 20240101 'FREQ=DAILY;BYDAY=MO,WE,FR'
@@ -61,11 +61,11 @@ series far 20240229 'FREQ=YEARLY;BYMONTH=2;BYMONTHDAY=29'
 series far-other 20240229 'FREQ=YEARLY;INTERVAL=4;BYMONTH=2;BYMONTHDAY=-1'
 echo 'instructions of an everyday verdict'
 series working-other 20240101 'FREQ=WEEKLY;BYDAY=MO,TU,WE,TH,FR'
-pair 370000 weekdays
-pair 4400000 second-tuesday
-pair 2300000 leap-day
-pair 2800000 far
-pair 420000 working
+pair 190000 weekdays
+pair 2320000 second-tuesday
+pair 1680000 leap-day
+pair 2260000 far
+pair 240000 working
 
 series each-113th-month 20240101T093000 'FREQ=MONTHLY;INTERVAL=113'
 series each-113th-month-other 20240101T093000 'FREQ=MONTHLY;INTERVAL=113;BYMONTHDAY=1'
@@ -74,23 +74,23 @@ printf 'EXDATE:20240205\n' >>"$scratch/course"
 series two-years 20240101 'FREQ=WEEKLY;COUNT=208;BYDAY=MO,TU'
 printf 'EXDATE:20240205\n' >>"$scratch/two-years"
 echo 'instructions of long cycles and of searches'
-pair 75000000 each-113th-month
+pair 48000000 each-113th-month
 months=BYMONTH=1,2,3,4,5,6,7,8,9,10,11,12
 series month-in-113 20240101 'FREQ=MONTHLY;INTERVAL=113'
 series dense-years 20240101 "FREQ=YEARLY;INTERVAL=113;$months;BYDAY=MO,TU,WE,TH,FR,SA,SU"
 series day-in-113 20240101 "FREQ=DAILY;INTERVAL=113;$months"
 series counted-days 20240101 'FREQ=DAILY;COUNT=16777217'
 series 86399-seconds 20240101T000000 'FREQ=SECONDLY;INTERVAL=86399'
-long 25000000 75000000 month-in-113
-long 280000000 600000000 dense-years
-long 350000000 1400000000 day-in-113
-long 200000000 800000000 counted-days
-long 340000000 780000000 86399-seconds
-counted 46000000 1 'canon, month-in-113' canon "rrule:$scratch/month-in-113"
-counted 3400000 1 'translate graph, a course with a date out' translate graph "rrule:$scratch/course"
-counted 3700000 1 'translate graph, one of two years' translate graph "rrule:$scratch/two-years"
-counted 1500000 1 'infer, the same course' infer "rrule:$scratch/two-years"
-counted 4700000000 1 'drill 1 100' drill 1 100
+long 17000000 48000000 month-in-113
+long 103000000 218000000 dense-years
+long 261000000 845000000 day-in-113
+long 170000000 576000000 counted-days
+long 334000000 766000000 86399-seconds
+counted 27000000 1 'canon, month-in-113' canon "rrule:$scratch/month-in-113"
+counted 3100000 1 'translate graph, a course with a date out' translate graph "rrule:$scratch/course"
+counted 3400000 1 'translate graph, one of two years' translate graph "rrule:$scratch/two-years"
+counted 1200000 1 'infer, the same course' infer "rrule:$scratch/two-years"
+counted 3740000000 1 'drill 1 100' drill 1 100
 
 series long 20240101 'FREQ=MONTHLY;INTERVAL=113'
 several beside 20240101 'FREQ=MONTHLY;INTERVAL=113' 'FREQ=DAILY'
@@ -102,12 +102,12 @@ rare 'once in 400 years' 20000229 'FREQ=YEARLY;INTERVAL=400;BYMONTH=2;BYMONTHDAY
 rare 'every 146,097 days' 20000229 'FREQ=DAILY;INTERVAL=146097'
 several sevens 20240101 'FREQ=MONTHLY;INTERVAL=7' 'FREQ=MONTHLY;INTERVAL=91'
 several elevens 20240101 'FREQ=MONTHLY;INTERVAL=7' 'FREQ=MONTHLY;INTERVAL=77'
-measure 0.5 3 'equal, months 7 and 91, and 7 and 77' equal "rrule:$scratch/sevens" "rrule:$scratch/elevens"
+measure 0.3 3 'equal, months 7 and 91, and 7 and 77' equal "rrule:$scratch/sevens" "rrule:$scratch/elevens"
 measure 0.3 3 'equal, a cycle of 16,508,961 days' equal "rrule:$scratch/long" "rrule:$scratch/long"
-measure 1 3 'equal, that cycle beside a daily rule' equal "rrule:$scratch/beside" "rrule:$scratch/beside"
+measure 0.3 3 'equal, that cycle beside a daily rule' equal "rrule:$scratch/beside" "rrule:$scratch/beside"
 series thinned 20240101 'FREQ=MONTHLY;INTERVAL=113'
 printf 'EXRULE:FREQ=DAILY\n' >>"$scratch/thinned"
-measure 1 3 'canon, that cycle less a daily rule' canon "rrule:$scratch/thinned"
+measure 0.7 3 'canon, that cycle less a daily rule' canon "rrule:$scratch/thinned"
 measure 2 3 'equal, each second of January' equal "rrule:$scratch/january" "rrule:$scratch/january"
-measure 2 3 'equal, minutes in 16,508,961 days' equal "rrule:$scratch/dense" "rrule:$scratch/dense"
-measure 2 3 'canon, minutes in 16,508,961 days' canon "rrule:$scratch/dense"
+measure 0.3 3 'equal, minutes in 16,508,961 days' equal "rrule:$scratch/dense" "rrule:$scratch/dense"
+measure 0.3 3 'canon, minutes in 16,508,961 days' canon "rrule:$scratch/dense"
