@@ -1,5 +1,5 @@
 -- A text whose rule leaves out the days which a month lacks states what it states without RSCALE and SKIP.
-use Rattle.std.proofs.Common.{◌≡◌, ◌⊎◌, inl, inr, ◌↔◌, ℕ, ◌+◌, nat_le, true, false, take, List, [], ◌∷◌, ◌++◌, Option, None, Some, Result, Ok, ℤ, pos, nat_abs, ◌+ℤ◌, ◌-ℤ◌, refl, sym, ap, subst, ◌∙◌, arith}
+use Rattle.std.proofs.Common.{◌≡◌, ◌⊎◌, inl, inr, ◌↔◌, ℕ, ◌+◌, nat_le, true, false, take, List, [], ◌∷◌, ◌++◌, Option, None, Some, Result, Ok, Err, ℤ, pos, nat_abs, ◌+ℤ◌, ◌-ℤ◌, refl, sym, ap, subst, ◌∙◌, arith}
 use Rattle.std.specs.Prelude.{ok_or, slice_get, unwrap_or}
 use Rattle.std.specs.List.{Contains}
 use Rattle.std.specs.Option.{option_or}
@@ -220,6 +220,16 @@ module _ {R : Type 0} (language : Language R) where
 abbrev alone : Rule → Beside Rule
 alone rule = record { rules = rule ∷ []; excluded = []; plus = []; minus = [] }
 
+-- with one rule more
+abbrev one_more : FirstPass → Result FirstPass Refusal
+one_more pass = Ok (record pass { rule_count = pass.rule_count + 1 })
+
+-- a rule without SKIP is judged alike in the first pass
+judged_plain : (number : ℕ) (plain : List ℕ) (pass own : FirstPass) (stated : Stated Rule) → nat_le MAX_RULES pass.rule_count ≡ false
+    → stated_rule number plain ≡ Ok stated → one_more pass ≡ Ok own
+    → judged_rule rrule_language number pass plain ≡ Ok own
+judged_plain number plain pass own stated room read rest = rw (room, read) rest
+
 module _ (offset : Option ℤ) (before after : List UsedLine) (number : ℕ) (value plain : List ℕ) (without : IsWithoutScale value plain)
     (are_before : AreStarts before) (are_after : AreStarts after) where
   -- the first pass without SKIP reads what the first pass reads
@@ -232,7 +242,8 @@ module _ (offset : Option ℤ) (before after : List UsedLine) (number : ℕ) (va
       let room = not_refused (nat_le MAX_RULES front.0.rule_count) TooManyParts _ own.0 own.1 in
       let stated = and_then_ok (stated_skip number value) (λ s. Ok (record front.0 { rule_count = front.0.rule_count + 1 })) own.0 room.1 in
       let read = stated_both number value plain stated.0 without stated.1 in
-      let same : judged_rule rrule_language number front.0 plain ≡ Ok own.0 = rw (room.0, read) stated.2 in
+      let same : judged_rule rrule_language number front.0 plain ≡ Ok own.0 =
+      judged_plain number plain front.0 own.0 (as_stated stated.0) room.0 read stated.2 in
       first_around rrule_language before after number plain nothing_read are_before are_after
       ∙ ap (λ (r : Result FirstPass Refusal). r >>= λ f. judged_rule rrule_language number f plain >>= λ o. in_turn start_step o after) front.1
       ∙ ap (λ (r : Result FirstPass Refusal). r >>= λ o. in_turn start_step o after) same
@@ -268,21 +279,47 @@ plain_series series rule = record {
   minus = [];
 }
 
+-- the series of an event without SKIP
+abbrev plain_of_event : Event Rule → Series
+plain_of_event event = record {
+  kind = event.start.kind;
+  start = event.start.at;
+  start_counts = true;
+  rules = event.beside.rules;
+  excluded = event.beside.excluded;
+  plus = event.beside.plus;
+  minus = event.beside.minus;
+}
+
 -- it is read of the other lines
 record IsReadPlain (offset : Option ℤ) (scan : Scan) (series : SkipSeries) : Type 0 where
   rule : SkipRule
   has : series.rule ≡ Some rule
   read : calendar_scan offset scan ≡ Ok (plain_series series rule)
 
+-- both passes behind the first
+abbrev behind_first : Option ℤ → Scan → FirstPass → Result (Event SkipRule) Refusal
+behind_first offset scan read =
+    unless_stopped scan.stop read >>= λ pass. ok_or pass.start NoStart >>= λ start.
+    second_pass skip_language (skip_rule_beside offset start) offset start nothing_beside scan.used >>= λ beside.
+    Ok (record { start = start; beside = beside })
+
 -- where both passes end well each line is read
 all_read : (scan : Scan) (unread : Option Unread) (event : Event SkipRule) (offset : Option ℤ)
     → passes skip_language (skip_rule_beside offset) offset (lines_until scan unread) ≡ Ok event → unread ≡ None
 all_read scan None event offset h = refl
 all_read scan (Some unread) event offset h =
-    let read = and_then_ok (first_pass skip_language nothing_read (take unread.place scan.used)) _ event h in
-    let pass = and_then_ok (unless_stopped (Some unread.refusal) read.0) _ event read.2 in
-    let never : Err unread.refusal ≡ Ok pass.0 = pass.1 in
+    let read = and_then_ok (first_pass skip_language nothing_read (take unread.place scan.used))
+    (behind_first offset (lines_until scan (Some unread))) event h in
+    let never : ◌≡◌ {A = Result (Event SkipRule) Refusal} (Err unread.refusal) (Ok event) = read.2 in
     absurd (cc)
+
+-- both passes from what each of them reads
+passes_plain : (offset : Option ℤ) (scan : Scan) (pass own : FirstPass) (start : Stamp) (beside : Beside Rule)
+    → first_pass rrule_language nothing_read scan.used ≡ Ok pass → unless_stopped scan.stop pass ≡ Ok own → ok_or own.start NoStart ≡ Ok start
+    → second_pass rrule_language (rule_beside offset start) offset start nothing_beside scan.used ≡ Ok beside
+    → passes rrule_language (rule_beside offset) offset scan ≡ Ok (record { start = start; beside = beside })
+passes_plain offset scan pass own start beside first stopped begins second = rw (first, stopped, begins, second) refl
 
 -- the one rule is judged, and stays as it is
 judged_one : (kind : Kind) (start : ℤ) (rules : List SkipRule) (rule : SkipRule) (judged : Option SkipRule) → rules ≡ rule ∷ []
@@ -321,7 +358,9 @@ module _ (offset : Option ℤ) (before after : List UsedLine) (number : ℕ) (va
         rule = one.0;
         has = has;
         read =
-            rw (first, pass.1, start.1, one.2 fits.freq) (ap (λ (s : SkipSeries). Ok (plain_series s one.0)) at);
+            ap (λ (r : Result (Event Rule) Refusal). r >>= λ e. Ok (plain_of_event e))
+            (passes_plain offset (scan_with plain) read.0 pass.0 start.0 (alone one.0.rule) first pass.1 start.1 (one.2 fits.freq))
+            ∙ ap (λ (s : SkipSeries). Ok (plain_series s one.0)) at;
       }
 
 -- ---- what occurs
