@@ -279,18 +279,6 @@ plain_series series rule = record {
   minus = [];
 }
 
--- the series of an event without SKIP
-abbrev plain_of_event : Event Rule → Series
-plain_of_event event = record {
-  kind = event.start.kind;
-  start = event.start.at;
-  start_counts = true;
-  rules = event.beside.rules;
-  excluded = event.beside.excluded;
-  plus = event.beside.plus;
-  minus = event.beside.minus;
-}
-
 -- it is read of the other lines
 record IsReadPlain (offset : Option ℤ) (scan : Scan) (series : SkipSeries) : Type 0 where
   rule : SkipRule
@@ -314,12 +302,14 @@ all_read scan (Some unread) event offset h =
     let never : ◌≡◌ {A = Result (Event SkipRule) Refusal} (Err unread.refusal) (Ok event) = read.2 in
     absurd (cc)
 
--- both passes from what each of them reads
-passes_plain : (offset : Option ℤ) (scan : Scan) (pass own : FirstPass) (start : Stamp) (beside : Beside Rule)
+-- the series of what both passes read
+calendar_plain : (offset : Option ℤ) (scan : Scan) (series : SkipSeries) (rule : SkipRule) (judged : Option SkipRule) (pass own : FirstPass) (start : Stamp)
     → first_pass rrule_language nothing_read scan.used ≡ Ok pass → unless_stopped scan.stop pass ≡ Ok own → ok_or own.start NoStart ≡ Ok start
-    → second_pass rrule_language (rule_beside offset start) offset start nothing_beside scan.used ≡ Ok beside
-    → passes rrule_language (rule_beside offset) offset scan ≡ Ok (record { start = start; beside = beside })
-passes_plain offset scan pass own start beside first stopped begins second = rw (first, stopped, begins, second) refl
+    → second_pass rrule_language (rule_beside offset start) offset start nothing_beside scan.used ≡ Ok (alone rule.rule)
+    → record { kind = start.kind; start = start.at; rule = judged } ≡ series
+    → calendar_scan offset scan ≡ Ok (plain_series series rule)
+calendar_plain offset scan series rule judged pass own start first stopped begins second at =
+    rw (first, stopped, begins, second) (ap (λ (s : SkipSeries). Ok (plain_series s rule)) at)
 
 -- the one rule is judged, and stays as it is
 judged_one : (kind : Kind) (start : ℤ) (rules : List SkipRule) (rule : SkipRule) (judged : Option SkipRule) → rules ≡ rule ∷ []
@@ -358,9 +348,7 @@ module _ (offset : Option ℤ) (before after : List UsedLine) (number : ℕ) (va
         rule = one.0;
         has = has;
         read =
-            ap (λ (r : Result (Event Rule) Refusal). r >>= λ e. Ok (plain_of_event e))
-            (passes_plain offset (scan_with plain) read.0 pass.0 start.0 (alone one.0.rule) first pass.1 start.1 (one.2 fits.freq))
-            ∙ ap (λ (s : SkipSeries). Ok (plain_series s one.0)) at;
+            calendar_plain offset (scan_with plain) series one.0 r.rule read.0 pass.0 start.0 first pass.1 start.1 (one.2 fits.freq) at;
       }
 
 -- ---- what occurs
