@@ -302,6 +302,32 @@ all_read scan (Some unread) event offset h =
     let never : ◌≡◌ {A = Result (Event SkipRule) Refusal} (Err unread.refusal) (Ok event) = read.2 in
     absurd (cc)
 
+-- what both passes read
+record ArePassed (offset : Option ℤ) (scan : Scan) (event : Event SkipRule) : Type 0 where
+  pass : FirstPass
+  own : FirstPass
+  first : first_pass skip_language nothing_read scan.used ≡ Ok pass
+  stopped : unless_stopped scan.stop pass ≡ Ok own
+  begins : ok_or own.start NoStart ≡ Ok event.start
+  second : second_pass skip_language (skip_rule_beside offset event.start) offset event.start nothing_beside scan.used ≡ Ok event.beside
+
+are_passed : (offset : Option ℤ) (scan : Scan) (event : Event SkipRule) → passes skip_language (skip_rule_beside offset) offset scan ≡ Ok event
+    → ArePassed offset scan event
+are_passed offset scan event h =
+    let first = and_then_ok (first_pass skip_language nothing_read scan.used) _ event h in
+    let own = and_then_ok (unless_stopped scan.stop first.0) _ event first.2 in
+    let start = and_then_ok (ok_or own.0.start NoStart) _ event own.2 in
+    let beside = and_then_ok (second_pass skip_language (skip_rule_beside offset start.0) offset start.0 nothing_beside scan.used) _ event start.2 in
+    let same : record { start = start.0; beside = beside.0 } ≡ event = cc in
+    subst (ArePassed offset scan) same (record {
+      pass = first.0;
+      own = own.0;
+      first = first.1;
+      stopped = own.1;
+      begins = start.1;
+      second = beside.1;
+    })
+
 -- the series of what both passes read
 calendar_plain : (offset : Option ℤ) (scan : Scan) (series : SkipSeries) (rule : SkipRule) (judged : Option SkipRule) (pass own : FirstPass) (start : Stamp)
     → first_pass rrule_language nothing_read scan.used ≡ Ok pass → unless_stopped scan.stop pass ≡ Ok own → ok_or own.start NoStart ≡ Ok start
@@ -330,25 +356,16 @@ module _ (offset : Option ℤ) (before after : List UsedLine) (number : ℕ) (va
       let are = starts_around 0 before after number value none in
       let whole : passes skip_language (skip_rule_beside offset) offset (scan_with value) ≡ Ok r.event =
       subst (λ u. passes skip_language (skip_rule_beside offset) offset (lines_until (scan_with value) u) ≡ Ok r.event) none r.both in
-      let read = and_then_ok (first_pass skip_language nothing_read (with_rule_line before number value after)) _ r.event whole in
-      let pass = and_then_ok (unless_stopped stop read.0) _ r.event read.2 in
-      let start = and_then_ok (ok_or pass.0.start NoStart) _ r.event pass.2 in
-      let beside = and_then_ok (second_pass skip_language (skip_rule_beside offset start.0) offset start.0 nothing_beside
-      (with_rule_line before number value after)) _ r.event start.2 in
-      let event : record { start = start.0; beside = beside.0 } ≡ r.event = cc in
-      let one = second_plain offset before after number value plain without are.0 are.1 start.0 beside.0 beside.1 in
-      let rules : r.event.beside.rules ≡ one.0 ∷ [] = ap (λ (e : Event SkipRule). e.beside.rules) (sym event) ∙ one.1 in
+      let p = are_passed offset (scan_with value) r.event whole in
+      let one = second_plain offset before after number value plain without are.0 are.1 r.event.start r.event.beside p.second in
       let has : series.rule ≡ Some one.0 =
-      ap (λ (s : SkipSeries). s.rule) (sym r.is) ∙ judged_one r.event.start.kind r.event.start.at r.event.beside.rules one.0 r.rule rules r.judged in
+      ap (λ (s : SkipSeries). s.rule) (sym r.is) ∙ judged_one r.event.start.kind r.event.start.at r.event.beside.rules one.0 r.rule one.1 r.judged in
       let fits : FitsSkipping series.kind series.start one.0 = subst (FitsIfSome series.kind series.start) has sound.rule in
-      let first = first_plain offset before after number value plain without are.0 are.1 read.0 read.1 in
-      let at : record { kind = start.0.kind; start = start.0.at; rule = r.rule } ≡ series =
-      ap (λ (e : Event SkipRule). record { kind = e.start.kind; start = e.start.at; rule = r.rule }) event ∙ r.is in
+      let first = first_plain offset before after number value plain without are.0 are.1 p.pass p.first in
       record {
         rule = one.0;
         has = has;
-        read =
-            calendar_plain offset (scan_with plain) series one.0 r.rule read.0 pass.0 start.0 first pass.1 start.1 (one.2 fits.freq) at;
+        read = calendar_plain offset (scan_with plain) series one.0 r.rule p.pass p.own r.event.start first p.stopped p.begins (one.2 fits.freq) r.is;
       }
 
 -- ---- what occurs
