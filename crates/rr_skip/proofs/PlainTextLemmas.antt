@@ -1,5 +1,5 @@
 -- A text whose rule leaves out the days which a month lacks states what it states without RSCALE and SKIP.
-use Rattle.std.proofs.Common.{◌≡◌, ◌⊎◌, inl, inr, ◌↔◌, ℕ, ◌+◌, nat_le, true, false, take, List, [], ◌∷◌, ◌++◌, Option, None, Some, Result, Ok, ℤ, pos, nat_abs, ◌+ℤ◌, ◌-ℤ◌, refl, sym, ap, subst, ◌∙◌, arith}
+use Rattle.std.proofs.Common.{◌≡◌, ◌⊎◌, inl, inr, ◌↔◌, ℕ, ◌+◌, nat_le, true, false, take, List, [], ◌∷◌, ◌++◌, Option, None, Some, Result, Ok, Err, ℤ, pos, nat_abs, ◌+ℤ◌, ◌-ℤ◌, refl, sym, ap, subst, ◌∙◌, arith}
 use Rattle.std.specs.Prelude.{ok_or, slice_get, unwrap_or}
 use Rattle.std.specs.List.{Contains}
 use Rattle.std.specs.Option.{option_or}
@@ -220,6 +220,16 @@ module _ {R : Type 0} (language : Language R) where
 abbrev alone : Rule → Beside Rule
 alone rule = record { rules = rule ∷ []; excluded = []; plus = []; minus = [] }
 
+-- with one rule more
+abbrev one_more : FirstPass → Result FirstPass Refusal
+one_more pass = Ok (record pass { rule_count = pass.rule_count + 1 })
+
+-- a rule without SKIP is judged alike in the first pass
+judged_plain : (number : ℕ) (plain : List ℕ) (pass own : FirstPass) (stated : Stated Rule) → nat_le MAX_RULES pass.rule_count ≡ false
+    → stated_rule number plain ≡ Ok stated → one_more pass ≡ Ok own
+    → judged_rule rrule_language number pass plain ≡ Ok own
+judged_plain number plain pass own stated room read rest = rw (room, read) rest
+
 module _ (offset : Option ℤ) (before after : List UsedLine) (number : ℕ) (value plain : List ℕ) (without : IsWithoutScale value plain)
     (are_before : AreStarts before) (are_after : AreStarts after) where
   -- the first pass without SKIP reads what the first pass reads
@@ -232,7 +242,8 @@ module _ (offset : Option ℤ) (before after : List UsedLine) (number : ℕ) (va
       let room = not_refused (nat_le MAX_RULES front.0.rule_count) TooManyParts _ own.0 own.1 in
       let stated = and_then_ok (stated_skip number value) (λ s. Ok (record front.0 { rule_count = front.0.rule_count + 1 })) own.0 room.1 in
       let read = stated_both number value plain stated.0 without stated.1 in
-      let same : judged_rule rrule_language number front.0 plain ≡ Ok own.0 = rw (room.0, read) stated.2 in
+      let same : judged_rule rrule_language number front.0 plain ≡ Ok own.0 =
+      judged_plain number plain front.0 own.0 (as_stated stated.0) room.0 read stated.2 in
       first_around rrule_language before after number plain nothing_read are_before are_after
       ∙ ap (λ (r : Result FirstPass Refusal). r >>= λ f. judged_rule rrule_language number f plain >>= λ o. in_turn start_step o after) front.1
       ∙ ap (λ (r : Result FirstPass Refusal). r >>= λ o. in_turn start_step o after) same
@@ -274,15 +285,57 @@ record IsReadPlain (offset : Option ℤ) (scan : Scan) (series : SkipSeries) : T
   has : series.rule ≡ Some rule
   read : calendar_scan offset scan ≡ Ok (plain_series series rule)
 
+-- both passes behind the first
+abbrev behind_first : Option ℤ → Scan → FirstPass → Result (Event SkipRule) Refusal
+behind_first offset scan read =
+    unless_stopped scan.stop read >>= λ pass. ok_or pass.start NoStart >>= λ start.
+    second_pass skip_language (skip_rule_beside offset start) offset start nothing_beside scan.used >>= λ beside.
+    Ok (record { start = start; beside = beside })
+
 -- where both passes end well each line is read
 all_read : (scan : Scan) (unread : Option Unread) (event : Event SkipRule) (offset : Option ℤ)
     → passes skip_language (skip_rule_beside offset) offset (lines_until scan unread) ≡ Ok event → unread ≡ None
 all_read scan None event offset h = refl
 all_read scan (Some unread) event offset h =
-    let read = and_then_ok (first_pass skip_language nothing_read (take unread.place scan.used)) _ event h in
-    let pass = and_then_ok (unless_stopped (Some unread.refusal) read.0) _ event read.2 in
-    let never : Err unread.refusal ≡ Ok pass.0 = pass.1 in
+    let read = and_then_ok (first_pass skip_language nothing_read (take unread.place scan.used))
+    (behind_first offset (lines_until scan (Some unread))) event h in
+    let never : ◌≡◌ {A = Result (Event SkipRule) Refusal} (Err unread.refusal) (Ok event) = read.2 in
     absurd (cc)
+
+-- what both passes read
+record ArePassed (offset : Option ℤ) (scan : Scan) (event : Event SkipRule) : Type 0 where
+  pass : FirstPass
+  own : FirstPass
+  first : first_pass skip_language nothing_read scan.used ≡ Ok pass
+  stopped : unless_stopped scan.stop pass ≡ Ok own
+  begins : ok_or own.start NoStart ≡ Ok event.start
+  second : second_pass skip_language (skip_rule_beside offset event.start) offset event.start nothing_beside scan.used ≡ Ok event.beside
+
+are_passed : (offset : Option ℤ) (scan : Scan) (event : Event SkipRule) → passes skip_language (skip_rule_beside offset) offset scan ≡ Ok event
+    → ArePassed offset scan event
+are_passed offset scan event h =
+    let first = and_then_ok (first_pass skip_language nothing_read scan.used) _ event h in
+    let own = and_then_ok (unless_stopped scan.stop first.0) _ event first.2 in
+    let start = and_then_ok (ok_or own.0.start NoStart) _ event own.2 in
+    let beside = and_then_ok (second_pass skip_language (skip_rule_beside offset start.0) offset start.0 nothing_beside scan.used) _ event start.2 in
+    let same : record { start = start.0; beside = beside.0 } ≡ event = cc in
+    subst (ArePassed offset scan) same (record {
+      pass = first.0;
+      own = own.0;
+      first = first.1;
+      stopped = own.1;
+      begins = start.1;
+      second = beside.1;
+    })
+
+-- the series of what both passes read
+calendar_plain : (offset : Option ℤ) (scan : Scan) (series : SkipSeries) (rule : SkipRule) (judged : Option SkipRule) (pass own : FirstPass) (start : Stamp)
+    → first_pass rrule_language nothing_read scan.used ≡ Ok pass → unless_stopped scan.stop pass ≡ Ok own → ok_or own.start NoStart ≡ Ok start
+    → second_pass rrule_language (rule_beside offset start) offset start nothing_beside scan.used ≡ Ok (alone rule.rule)
+    → record { kind = start.kind; start = start.at; rule = judged } ≡ series
+    → calendar_scan offset scan ≡ Ok (plain_series series rule)
+calendar_plain offset scan series rule judged pass own start first stopped begins second at =
+    rw (first, stopped, begins, second) (ap (λ (s : SkipSeries). Ok (plain_series s rule)) at)
 
 -- the one rule is judged, and stays as it is
 judged_one : (kind : Kind) (start : ℤ) (rules : List SkipRule) (rule : SkipRule) (judged : Option SkipRule) → rules ≡ rule ∷ []
@@ -303,25 +356,16 @@ module _ (offset : Option ℤ) (before after : List UsedLine) (number : ℕ) (va
       let are = starts_around 0 before after number value none in
       let whole : passes skip_language (skip_rule_beside offset) offset (scan_with value) ≡ Ok r.event =
       subst (λ u. passes skip_language (skip_rule_beside offset) offset (lines_until (scan_with value) u) ≡ Ok r.event) none r.both in
-      let read = and_then_ok (first_pass skip_language nothing_read (with_rule_line before number value after)) _ r.event whole in
-      let pass = and_then_ok (unless_stopped stop read.0) _ r.event read.2 in
-      let start = and_then_ok (ok_or pass.0.start NoStart) _ r.event pass.2 in
-      let beside = and_then_ok (second_pass skip_language (skip_rule_beside offset start.0) offset start.0 nothing_beside
-      (with_rule_line before number value after)) _ r.event start.2 in
-      let event : record { start = start.0; beside = beside.0 } ≡ r.event = cc in
-      let one = second_plain offset before after number value plain without are.0 are.1 start.0 beside.0 beside.1 in
-      let rules : r.event.beside.rules ≡ one.0 ∷ [] = ap (λ (e : Event SkipRule). e.beside.rules) (sym event) ∙ one.1 in
+      let p = are_passed offset (scan_with value) r.event whole in
+      let one = second_plain offset before after number value plain without are.0 are.1 r.event.start r.event.beside p.second in
       let has : series.rule ≡ Some one.0 =
-      ap (λ (s : SkipSeries). s.rule) (sym r.is) ∙ judged_one r.event.start.kind r.event.start.at r.event.beside.rules one.0 r.rule rules r.judged in
+      ap (λ (s : SkipSeries). s.rule) (sym r.is) ∙ judged_one r.event.start.kind r.event.start.at r.event.beside.rules one.0 r.rule one.1 r.judged in
       let fits : FitsSkipping series.kind series.start one.0 = subst (FitsIfSome series.kind series.start) has sound.rule in
-      let first = first_plain offset before after number value plain without are.0 are.1 read.0 read.1 in
-      let at : record { kind = start.0.kind; start = start.0.at; rule = r.rule } ≡ series =
-      ap (λ (e : Event SkipRule). record { kind = e.start.kind; start = e.start.at; rule = r.rule }) event ∙ r.is in
+      let first = first_plain offset before after number value plain without are.0 are.1 p.pass p.first in
       record {
         rule = one.0;
         has = has;
-        read =
-            rw (first, pass.1, start.1, one.2 fits.freq) (ap (λ (s : SkipSeries). Ok (plain_series s one.0)) at);
+        read = calendar_plain offset (scan_with plain) series one.0 r.rule p.pass p.own r.event.start first p.stopped p.begins (one.2 fits.freq) r.is;
       }
 
 -- ---- what occurs

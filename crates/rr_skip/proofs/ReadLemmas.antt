@@ -1,5 +1,5 @@
 -- What is read of a text whose rule has RSCALE is sound.
-use Rattle.std.proofs.Common.{◌≡◌, ℕ, ◌≤◌, Bool, true, false, if◌then◌else◌, List, [], All, Option, None, Some, Result, Ok, Err, ℤ, pos, nat_abs, ◌≤ℤ◌, refl, sym, subst, ◌∙◌, arith}
+use Rattle.std.proofs.Common.{◌≡◌, ℕ, ◌≤◌, Bool, true, false, if◌then◌else◌, List, [], ◌∷◌, All, Option, None, Some, Result, Ok, Err, ℤ, pos, nat_abs, ◌≤ℤ◌, refl, sym, subst, ◌∙◌, arith}
 use Rattle.std.specs.Prelude.{int_lt, ok_or, slice_get, unwrap_or}
 use Rattle.std.specs.Option.{IfSome}
 use Rattle.std.specs.Result.{IfOk}
