@@ -30,7 +30,8 @@ pub struct Day {
     ghost of_year: { year ≡ year_of number },
     ghost of_month: { month ≡ month_of number },
     ghost of_day_of_month: { day_of_month ≡ calendar.day_of_month number },
-    ghost of_days_in_month: { days_in_month ≡ calendar.days_in_month (year_of number) (month_of number) },
+    ghost of_days_in_month: { days_in_month
+        ≡ calendar.days_in_month (year_of number) (month_of number) },
     ghost of_day_of_year: { day_of_year ≡ calendar.day_of_year number },
     ghost of_days_in_year: { days_in_year ≡ calendar.days_in_year (year_of number) },
     ghost of_weekday: { weekday ≡ weekday_of number },

@@ -81,7 +81,8 @@ fn month_of_year(month: i64) -> u8
 /// How many days the unit of this number has: 1, 7, 28 to 31, or 365 or 366.
 pub fn days_in_unit(freq: Freq, unit: i64) -> u16
     requires { IsTrue (is_whole_days freq) }
-    ensures next { (w : ℕ) → unit_start freq w Days (unit +ℤ pos 1) ≡ unit_start freq w Days unit +ℤ pos result }
+    ensures next { (w : ℕ)
+        → unit_start freq w Days (unit +ℤ pos 1) ≡ unit_start freq w Days unit +ℤ pos result }
     ensures few { result ≤ 366 }
 {
     match freq {

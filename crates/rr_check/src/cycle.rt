@@ -14,8 +14,10 @@ use rr_num::{day_cycle, lcm_within};
 ///
 /// `CycleTooLong` exactly where it is above `MAX_CYCLE_DAYS`.
 pub fn admit(checked: &Checked) -> Result<u64, Refusal>
-    ensures admitted { IfOk result (λ days. (days ≡ series_cycle checked.now) × (days ≤ MAX_CYCLE_DAYS)) }
-    ensures refused { IfErr result (λ refusal. (refusal ≡ CycleTooLong) × (MAX_CYCLE_DAYS < series_cycle checked.now)) }
+    ensures admitted { IfOk result (λ days. (days ≡ series_cycle checked.now)
+        × (days ≤ MAX_CYCLE_DAYS)) }
+    ensures refused { IfErr result (λ refusal. (refusal ≡ CycleTooLong)
+        × (MAX_CYCLE_DAYS < series_cycle checked.now)) }
 {
     let series = checked.series();
     let Some(rules) = cycle_of(series.rules.as_slice()) else {
@@ -37,7 +39,7 @@ fn cycle_of(rules: &[Rule]) -> Option<u64>
 {
     let mut cycle = 1;
     for rule in rules {
-        let Some(joined) = joined(cycle, endless_cycle(rule)) else {
+        let Some(joined) = join_cycles(cycle, endless_cycle(rule)) else {
             return None;
         };
         cycle = joined;
@@ -58,7 +60,7 @@ fn endless_cycle(rule: &Rule) -> u128
 }
 
 // The least common multiple of a cycle and another; `None` where it is above `MAX_CYCLE_DAYS`.
-pub(crate) fn joined(cycle: u64, days: u128) -> Option<u64>
+pub(crate) fn join_cycles(cycle: u64, days: u128) -> Option<u64>
     requires some { 1 ≤ cycle }
     requires some_days { 1 ≤ days }
     ensures { SomeIff result (lcm cycle days ≤ MAX_CYCLE_DAYS) (lcm cycle days) }

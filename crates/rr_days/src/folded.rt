@@ -30,12 +30,17 @@ pub struct Folded {
     before: RunDays,
     cycle: RunDays,
     shapes: Shapes,
-    ghost bounded: { IsBounded (sketch_of_runs kind shapes before cycle settled period) } by { IsBounded-prop (sketch_of_runs kind shapes before cycle settled period) },
-    ghost first_is: { IsFirstDay (sketch_of_runs kind shapes before cycle settled period) occupied } by { IsFirstDay-prop (sketch_of_runs kind shapes before cycle settled period) occupied },
+    ghost bounded: { IsBounded
+        (sketch_of_runs kind shapes before cycle settled period) } by { IsBounded-prop
+            (sketch_of_runs kind shapes before cycle settled period) },
+    ghost first_is: { IsFirstDay
+        (sketch_of_runs kind shapes before cycle settled period) occupied } by { IsFirstDay-prop
+            (sketch_of_runs kind shapes before cycle settled period) occupied },
     ghost empty: { HasEmptyFirst shapes },
     ghost before_within: { AreWithin shapes before },
     ghost cycle_within: { AreWithin shapes cycle },
-    ghost before_rises: { AreRising earliest_near before } by { AreRising-prop earliest_near before },
+    ghost before_rises: { AreRising earliest_near before } by { AreRising-prop
+        earliest_near before },
     ghost cycle_rises: { AreRising settled cycle } by { AreRising-prop settled cycle },
 }
 
@@ -56,7 +61,8 @@ pub fn sequence(
 ) -> Result<Folded, NoMemory>
     requires whole { IsWholeFold kind shapes numbers first settled period }
     requires empty { get_or shapes 0 [] ≡ [] }
-    ensures { IfOk result (λ f. ⟦<Folded as DaySeq>⟧.sketch f ≡ sketch_of kind shapes numbers first settled period) }
+    ensures { IfOk result (λ f. ⟦<Folded as DaySeq>⟧.sketch f
+        ≡ sketch_of kind shapes numbers first settled period) }
 {
     let days = days_between(first, settled);
     let mut before = Pages::new(alloc);
@@ -77,7 +83,8 @@ pub fn sequence_of_numbers(
 ) -> Result<Folded, NoMemory>
     requires whole { IsWholeFold kind shapes numbers.items first settled period }
     requires empty { get_or shapes 0 [] ≡ [] }
-    ensures { IfOk result (λ f. ⟦<Folded as DaySeq>⟧.sketch f ≡ sketch_of kind shapes numbers.items first settled period) }
+    ensures { IfOk result (λ f. ⟦<Folded as DaySeq>⟧.sketch f
+        ≡ sketch_of kind shapes numbers.items first settled period) }
 {
     let days = days_between(first, settled);
     let mut before = Pages::new(alloc);
@@ -102,7 +109,8 @@ pub fn sequence_in_parts(
     requires whole { IsWholeFold kind shapes (before ++ cycle) first settled period }
     requires parts { length before ≡ nat_abs (settled -ℤ first) }
     requires empty { get_or shapes 0 [] ≡ [] }
-    ensures { ⟦<Folded as DaySeq>⟧.sketch result ≡ sketch_of kind shapes (before ++ cycle) first settled period }
+    ensures { ⟦<Folded as DaySeq>⟧.sketch result
+        ≡ sketch_of kind shapes (before ++ cycle) first settled period }
 {
     sequence_of_rest(kind, first, settled, period, before, cycle, 0, shapes)
 }
@@ -123,7 +131,8 @@ fn sequence_of_rest(
     requires parts { length before ≡ nat_abs (settled -ℤ first) }
     requires within { skipped ≤ length row }
     requires empty { get_or shapes 0 [] ≡ [] }
-    ensures { ⟦<Folded as DaySeq>⟧.sketch result ≡ sketch_of kind shapes (before ++ drop skipped row) first settled period }
+    ensures { ⟦<Folded as DaySeq>⟧.sketch result
+        ≡ sketch_of kind shapes (before ++ drop skipped row) first settled period }
 {
     let occupied = first_occupied(&before, &row, skipped, &shapes, first);
     let early = RunDays::of_row(first, before);

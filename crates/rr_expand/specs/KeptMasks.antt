@@ -1,5 +1,5 @@
 -- Masks of years that are kept, and the year in which the last day lay that was asked for.
-use Rattle.std.specs.Prelude.{◌≡◌, Bool, true, false, IsTrue, not, ◌&&◌, List, length, get_or, Option, Some, None, int_lt, ℤ, pos, nat_abs, ◌+ℤ◌, ◌-ℤ◌, ◌≤ℤ◌, ◌<ℤ◌}
+use Rattle.std.specs.Prelude.{◌≡◌, ℕ, Bool, true, false, IsTrue, not, ◌&&◌, List, length, get_or, Option, Some, None, int_lt, ℤ, pos, nat_abs, ◌+ℤ◌, ◌-ℤ◌, ◌≤ℤ◌, ◌<ℤ◌}
 use Rattle.rr_model.specs.Calendar.{IsDayWithin, first_day_of_year}
 use Rattle.rr_model.specs.Rising.Sets.{IsSetOf}
 use Rattle.rr_model.specs.Rule.Validity.{is_absent}
@@ -42,6 +42,10 @@ TellsYear f year = (d : ℤ) → year.first ≤ℤ d → d <ℤ year.next → is
 -- the days are those from a first one on and before another that are allowed
 abbrev pub ListAllowed : Filling → ℤ → ℤ → List ℤ → Type 0
 ListAllowed f first end days = IsSetOf int_lt days (λ d. (first ≤ℤ d) × (d <ℤ end) × IsTrue (allows_day f d))
+
+-- the days are those, of `count` from the first one on, that are allowed
+abbrev pub AreAllowedDays : Filling → ℤ → ℕ → List ℤ → Type 0
+AreAllowedDays f first count days = ListAllowed f first (first +ℤ pos count) days
 
 -- the masks that are kept are those of the rule's years, and so is that of the year looked at
 pub record AreKeptMasks (f : Filling) (masks : KeptMasks) : Type 0 where

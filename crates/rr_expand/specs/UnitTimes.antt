@@ -1,14 +1,18 @@
 -- The minutes and seconds that the time parts allow in a unit that is shorter than a day.
-use Rattle.std.specs.Prelude.{◌≡◌, ℕ, ◌<◌, Bool, true, false, IsTrue, List, [], nat_lt, ℤ, pos}
+use Rattle.std.specs.Prelude.{◌≡◌, ℕ, ◌<◌, Bool, true, false, IsTrue, List, [], nat_lt, ℤ}
 use Rattle.rr_model.specs.Rising.Sets.{IsSetOf}
-use Rattle.rr_model.specs.Rule.Candidate.{allows}
-use Rattle.rr_model.specs.Rule.Filled.{filled_part, minute_of, second_of, wants_minute, wants_second}
+use Rattle.rr_model.specs.Rule.Filled.{minute_of, second_of, wants_minute, wants_second}
 use Rattle.rr_model.specs.declared.kind.Kind.TheVariants.{Moments}
 use Rattle.rr_model.specs.declared.rule.Rule.{Rule}
+use Rattle.rr_parts.specs.Numbers.{number_allowed}
+
+-- the numbers below `count` that a part allows, where it is filled with the start's own number if absent and wanted
+abbrev pub AreAllowedNumbers : Bool → List ℤ → ℕ → ℕ → List ℕ → Type 0
+AreAllowedNumbers is_wanted part own count numbers = IsSetOf nat_lt numbers (λ n. (n < count) × IsTrue (number_allowed is_wanted part own n))
 
 -- of a unit that holds many, the numbers below 60 that a part allows, filled with the start's own number; else none
 abbrev pub AreNumbersOfUnit : Bool → List ℤ → ℕ → List ℕ → Type 0
-AreNumbersOfUnit true part own numbers = IsSetOf nat_lt numbers (λ n. (n < 60) × IsTrue (allows (filled_part true part (pos own)) (pos n)))
+AreNumbersOfUnit true part own numbers = AreAllowedNumbers true part own 60 numbers
 AreNumbersOfUnit false part own numbers = numbers ≡ []
 
 -- an hour holds many minutes, and an hour and a minute hold many seconds

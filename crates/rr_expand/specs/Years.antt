@@ -12,9 +12,21 @@ pub record Filling : Type 0 where
   pub rule : Rule
   pub start_day : ℤ
 
+-- this rule, filled from a start on this day
+abbrev pub filling_of : Rule → ℤ → Filling
+filling_of rule start_day = record { rule = rule; start_day = start_day }
+
 -- each date part of the filled rule holds of the day (RFC 5545, section 3.3.10)
 abbrev pub allows_day : Filling → ℤ → Bool
 allows_day f d = date_parts_hold (filled f.rule Days f.start_day) d
+
+-- every day is allowed
+abbrev pub AllowsEveryDay : Filling → Type 0
+AllowsEveryDay f = (d : ℤ) → allows_day f d ≡ true
+
+-- none of the days that come after a day, and fewer than so many days after it, is allowed
+abbrev pub LeavesOutNext : Filling → ℤ → ℕ → Type 0
+LeavesOutNext f day days = (j : ℕ) → 1 ≤ j → j < days → allows_day f (day +ℤ pos j) ≡ false
 
 -- day k of the year, from 0, lies in the year and is allowed
 abbrev pub allows_place : Filling → ℤ → ℕ → Bool
@@ -27,6 +39,10 @@ is_bit_set words k = (get_or words (k / 64) 0 / 2 ^ (k % 64) % 2) == 1
 -- the bits are those of the allowed days of the year
 abbrev pub IsYearMask : Filling → ℤ → List ℕ → Type 0
 IsYearMask f year words = (k : ℕ) → k < 384 → is_bit_set words k ≡ allows_place f year k
+
+-- the bits are those of the allowed days, of `count` from the first one on
+abbrev pub MarksAllowed : Filling → ℤ → ℕ → List ℕ → Type 0
+MarksAllowed f first count words = (k : ℕ) → k < 384 → is_bit_set words k ≡ (nat_lt k count && allows_day f (first +ℤ pos k))
 
 -- of places from one on and below another the first whose bit is set
 abbrev pub IsFirstBit : List ℕ → ℕ → ℕ → Option ℕ → Type 0

@@ -1,10 +1,8 @@
 // The days that the date parts of a rule allow, found by masks of years.
-ghost use Rattle.std.specs.Prelude.{◌≡◌, IfOk, OnOk, [], false, int_lt, pos, true, ◌+ℤ◌, ◌≤ℤ◌, ◌<ℤ◌, ℤ};
+ghost use Rattle.std.specs.Prelude.{◌≡◌, IfOk, OnOk, [], false, pos, true, ◌+ℤ◌, ◌≤ℤ◌, ◌<ℤ◌, ℤ};
 ghost use Rattle.rr_model.specs.Calendar.{IsDayWithin, first_day_of_year};
-ghost use Rattle.rr_model.specs.Rising.Sets.{IsSetOf};
-ghost use Rattle.rr_expand.specs.Expansion.{IsAllowedDay};
-ghost use Rattle.rr_expand.specs.Years.{Filling, IsFirstAllowed, IsYearMask, allows_day};
-ghost use Rattle.rr_expand.specs.KeptMasks.{AreMasks, AreKeptMasks, IsFirstMarked, IsMaskedYear, ListAllowed, TellDays, TellsYear, has_date_part};
+ghost use Rattle.rr_expand.specs.Years.{AllowsEveryDay, Filling, IsFirstAllowed, IsYearMask, allows_day, filling_of};
+ghost use Rattle.rr_expand.specs.KeptMasks.{AreAllowedDays, AreMasks, AreKeptMasks, IsFirstMarked, IsMaskedYear, ListAllowed, TellDays, TellsYear, has_date_part};
 
 use crate::year_masks::{YearMask, mask_key, year_mask};
 use rr_cal::{Date, date_of, day_of, days_in_year};
@@ -27,14 +25,14 @@ pub struct AllowedDays {
 }
 
 impl Model for AllowedDays {
-    ghost use Rattle.rr_expand.specs.Years.{Filling};
+    ghost use Rattle.rr_expand.specs.Years.{Filling, filling_of};
     ghost use Rattle.rr_expand.specs.KeptMasks.{AreMasksOf};
 
     ghost Value = { Filling };
 
-    ghost view = { λ s. record { rule = s.rule; start_day = s.start_day } };
+    ghost view = { λ s. filling_of s.rule s.start_day };
 
-    ghost invariant = { λ s. AreMasksOf (record { rule = s.rule; start_day = s.start_day }) s.masks };
+    ghost invariant = { λ s. AreMasksOf (filling_of s.rule s.start_day) s.masks };
 }
 
 // Masks of years, at the place of each key, and the year in which the last day lay that was asked for.
@@ -57,7 +55,7 @@ impl AllowedDays {
     /// Of a rule beside the day of its start, in days since 1970-01-01. No mask is made yet.
     pub fn new(alloc: Global, rule: &Rule, start_day: i64) -> Result<Self, NoMemory>
         requires { IsDayWithin 1000 start_day }
-        ensures { IfOk result (λ a. a ≡ record { rule = rule.now; start_day = start_day }) }
+        ensures { IfOk result (λ a. a ≡ filling_of rule.now start_day) }
     {
         let rule = rule.copy(alloc)?;
         let masks = masks_for(alloc, &rule)?;
@@ -86,7 +84,7 @@ impl AllowedDays {
         requires first { IsDayWithin 400 first }
         requires last { IsDayWithin 400 (first +ℤ pos count) }
         ensures same { self.new ≡ self.old }
-        ensures listed { OnOk result (IsSetOf int_lt days.new.items (IsAllowedDay self.old.rule self.old.start_day first count)) }
+        ensures listed { OnOk result (AreAllowedDays self.old first count days.new.items) }
     {
         days.clear();
         match &mut self.masks {
@@ -121,9 +119,9 @@ impl KeptMasks {
         requires start { IsDayWithin 1000 start_day }
         requires from { IsDayWithin 400 from }
         requires end { IsDayWithin 400 end }
-        requires known { AreKeptMasks (record { rule = rule.now; start_day = start_day }) self.old }
-        ensures known { AreKeptMasks (record { rule = rule.now; start_day = start_day }) self.new }
-        ensures first { IsFirstAllowed (record { rule = rule.now; start_day = start_day }) from end result }
+        requires known { AreKeptMasks (filling_of rule.now start_day) self.old }
+        ensures known { AreKeptMasks (filling_of rule.now start_day) self.new }
+        ensures first { IsFirstAllowed (filling_of rule.now start_day) from end result }
     {
         let mut day = from;
         while day < end {
@@ -149,9 +147,10 @@ impl KeptMasks {
         requires first { IsDayWithin 400 first }
         requires last { IsDayWithin 400 (first +ℤ pos count) }
         requires empty { days.old.items ≡ [] }
-        requires known { AreKeptMasks (record { rule = rule.now; start_day = start_day }) self.old }
-        ensures known { AreKeptMasks (record { rule = rule.now; start_day = start_day }) self.new }
-        ensures listed { OnOk result (ListAllowed (record { rule = rule.now; start_day = start_day }) first (first +ℤ pos count) days.new.items) }
+        requires known { AreKeptMasks (filling_of rule.now start_day) self.old }
+        ensures known { AreKeptMasks (filling_of rule.now start_day) self.new }
+        ensures listed { OnOk result
+            (AreAllowedDays (filling_of rule.now start_day) first count days.new.items) }
     {
         let end = first + i64::from(count);
         let mut day = first;
@@ -168,8 +167,8 @@ impl KeptMasks {
     fn enter_year_of(&mut self, rule: &Rule, start_day: i64, day: i64)
         requires start { IsDayWithin 1000 start_day }
         requires near { IsDayWithin 400 day }
-        requires known { AreKeptMasks (record { rule = rule.now; start_day = start_day }) self.old }
-        ensures known { AreKeptMasks (record { rule = rule.now; start_day = start_day }) self.new }
+        requires known { AreKeptMasks (filling_of rule.now start_day) self.old }
+        ensures known { AreKeptMasks (filling_of rule.now start_day) self.new }
         ensures begun { self.new.year.first ≤ℤ day }
         ensures not_over { day <ℤ self.new.year.next }
     {
@@ -197,8 +196,8 @@ impl KeptMasks {
         requires first { first ≡ first_day_of_year number }
         requires near { IsDayWithin 1000 (first_day_of_year number) }
         requires next { IsDayWithin 1000 (first_day_of_year (number +ℤ pos 1)) }
-        requires known { AreKeptMasks (record { rule = rule.now; start_day = start_day }) self.old }
-        ensures known { AreKeptMasks (record { rule = rule.now; start_day = start_day }) self.new }
+        requires known { AreKeptMasks (filling_of rule.now start_day) self.old }
+        ensures known { AreKeptMasks (filling_of rule.now start_day) self.new }
         ensures first { self.new.year.first ≡ first }
         ensures next { self.new.year.next ≡ first_day_of_year (number +ℤ pos 1) }
     {
@@ -234,7 +233,8 @@ impl MaskedYear {
         requires begun { self.now.first ≤ℤ from }
         requires some { from ≤ℤ end }
         requires not_over { end ≤ℤ self.now.next }
-        ensures { (f : Filling) (first : ℤ) → first ≤ℤ from → TellsYear f self.now → ListAllowed f first from days.old.items
+        ensures { (f : Filling) (first : ℤ) → first ≤ℤ from → TellsYear f self.now
+            → ListAllowed f first from days.old.items
             → OnOk result (ListAllowed f first end days.new.items) }
     {
         let last = (end - self.first) as u16;
@@ -252,9 +252,9 @@ fn mask_of(kept: &mut Vec<Option<YearMask>>, rule: &Rule, start_day: i64, year: 
     requires start { IsDayWithin 1000 start_day }
     requires first { IsDayWithin 1000 (first_day_of_year year) }
     requires next { IsDayWithin 1000 (first_day_of_year (year +ℤ pos 1)) }
-    requires kept { AreMasks (record { rule = rule.now; start_day = start_day }) kept.old.items }
-    ensures kept { AreMasks (record { rule = rule.now; start_day = start_day }) kept.new.items }
-    ensures mask { IsYearMask (record { rule = rule.now; start_day = start_day }) year result.bits }
+    requires kept { AreMasks (filling_of rule.now start_day) kept.old.items }
+    ensures kept { AreMasks (filling_of rule.now start_day) kept.new.items }
+    ensures mask { IsYearMask (filling_of rule.now start_day) year result.bits }
 {
     let key = usize::from(mask_key(rule, year));
     if let Some(mask) = kept[key] {
@@ -267,7 +267,7 @@ fn mask_of(kept: &mut Vec<Option<YearMask>>, rule: &Rule, start_day: i64, year: 
 
 // Masks for the rule, or none where it allows every day.
 fn masks_for(alloc: Global, rule: &Rule) -> Result<Option<KeptMasks>, AllocError>
-    ensures { IfOk result (λ m. (start : ℤ) → TellDays (record { rule = rule.now; start_day = start }) m) }
+    ensures { IfOk result (λ m. (start : ℤ) → TellDays (filling_of rule.now start) m) }
 {
     if restricts_days(rule) {
         Ok(Some(KeptMasks::new(alloc)?))
@@ -278,7 +278,7 @@ fn masks_for(alloc: Global, rule: &Rule) -> Result<Option<KeptMasks>, AllocError
 
 // Whether a date part of the rule is present, or filled from its start: that of a week, a month or a year always is.
 fn restricts_days(rule: &Rule) -> bool
-    ensures { (start d : ℤ) → result ≡ false → allows_day (record { rule = rule.now; start_day = start }) d ≡ true }
+    ensures { (start d : ℤ) → result ≡ false → allows_day (filling_of rule.now start) d ≡ true }
 {
     match rule.freq {
         Freq::Weekly | Freq::Monthly | Freq::Yearly => true,
@@ -299,7 +299,7 @@ fn has_date_part(rule: &Rule) -> bool
 
 // The first day from one on and before another.
 fn first_of_all(from: i64, end: i64) -> Option<i64>
-    ensures { (f : Filling) → ((d : ℤ) → allows_day f d ≡ true) → IsFirstAllowed f from end result }
+    ensures { (f : Filling) → AllowsEveryDay f → IsFirstAllowed f from end result }
 {
     if from < end { Some(from) } else { None }
 }
@@ -309,7 +309,8 @@ fn list_all(first: i64, count: u16, days: &mut Vec<i64>) -> Result<(), NoMemory>
     requires first { IsDayWithin 400 first }
     requires last { IsDayWithin 400 (first +ℤ pos count) }
     requires empty { days.old.items ≡ [] }
-    ensures { (f : Filling) → ((d : ℤ) → allows_day f d ≡ true) → OnOk result (ListAllowed f first (first +ℤ pos count) days.new.items) }
+    ensures { (f : Filling) → AllowsEveryDay f
+        → OnOk result (AreAllowedDays f first count days.new.items) }
 {
     for k in 0..count {
         days.push(first + i64::from(k))?;

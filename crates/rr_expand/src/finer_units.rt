@@ -76,7 +76,8 @@ pub(crate) fn push_unit(
     requires within { unit < 86_400 / unit_seconds rule.now.freq }
     requires minutes { All (λ m. m < 60) minutes.now }
     requires seconds { All (λ s. s < 60) seconds.now }
-    ensures { OnOk result (out.new.items ≡ out.old.items ++ of_unit rule.now.freq rule.now unit minutes.now seconds.now) }
+    ensures { OnOk result (out.new.items
+        ≡ out.old.items ++ of_unit rule.now.freq rule.now unit minutes.now seconds.now) }
 {
     match rule.freq {
         Freq::Hourly => push_hour_number(out, rule, unit, minutes, seconds),
@@ -96,7 +97,8 @@ fn push_hour_number(
     requires within { hour < 24 }
     requires minutes { All (λ m. m < 60) minutes.now }
     requires seconds { All (λ s. s < 60) seconds.now }
-    ensures { OnOk result (out.new.items ≡ out.old.items ++ of_hour_number rule.now hour minutes.now seconds.now) }
+    ensures { OnOk result (out.new.items
+        ≡ out.old.items ++ of_hour_number rule.now hour minutes.now seconds.now) }
 {
     if allows(&rule.by_hour, hour as i16) {
         push_hour(out, 3_600 * hour, minutes, seconds)?;
@@ -113,7 +115,8 @@ fn push_minute_number(
 ) -> Result<(), AllocError>
     requires within { minute < 1_440 }
     requires seconds { All (λ s. s < 60) seconds.now }
-    ensures { OnOk result (out.new.items ≡ out.old.items ++ of_minute_number rule.now minute seconds.now) }
+    ensures { OnOk result (out.new.items
+        ≡ out.old.items ++ of_minute_number rule.now minute seconds.now) }
 {
     if allows(&rule.by_hour, (minute / 60) as i16)
         && allows(&rule.by_minute, (minute % 60) as i16)

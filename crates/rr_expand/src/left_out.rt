@@ -1,13 +1,11 @@
 // Days that the months, the days of the month or the weekdays of a rule leave out, passed over without a test of each part.
-ghost use Rattle.std.specs.Prelude.{◌≡◌, ℕ, ◌∷◌, [], ◌+◌, ◌-◌, ◌%◌, ◌<◌, ◌≤◌, ◌&&◌, false, true, pos, ◌+ℤ◌, ◌-ℤ◌, ℤ};
+ghost use Rattle.std.specs.Prelude.{◌≡◌, ◌∷◌, [], ◌+◌, ◌%◌, ◌<◌, ◌≤◌, true, pos, ◌+ℤ◌, ◌-ℤ◌};
 ghost use Rattle.std.specs.List.{list_any};
-ghost use Rattle.rr_model.specs.Calendar.{IsDayWithin, month_of};
-ghost use Rattle.rr_model.specs.Rule.Candidate.{allows_place, by_month_holds};
-ghost use Rattle.rr_model.specs.Rule.Filled.{filled, wants_month, wants_month_day};
-ghost use Rattle.rr_model.specs.Rule.Validity.{is_absent};
-ghost use Rattle.rr_model.specs.declared.kind.Kind.TheVariants.{Days};
-ghost use Rattle.rr_expand.specs.LeftOut.{AreGaps, IsNextIn, has_place, has_weekday, names_weekdays_alone};
-ghost use Rattle.rr_expand.specs.Years.{allows_day};
+ghost use Rattle.rr_model.specs.Calendar.{IsDayWithin};
+ghost use Rattle.rr_model.specs.Rule.Candidate.{allows_place};
+ghost use Rattle.rr_model.specs.Rule.Filled.{wants_month};
+ghost use Rattle.rr_expand.specs.LeftOut.{AreGaps, FillsMonthDay, IsNextIn, IsNextInMonth, LeavesOutMonth, has_place, has_weekday, names_no_day, names_weekdays_alone};
+ghost use Rattle.rr_expand.specs.Years.{LeavesOutNext, filling_of};
 
 use rr_cal::Day;
 use rr_model::{DayItem, Freq, Numbers, Rule};
@@ -51,8 +49,7 @@ pub(crate) fn days_on(rule: &Rule, start: &Day, gaps: &[u8; 7], day: &Day) -> u8
     requires { AreGaps rule.now gaps.now }
     ensures some { 1 ≤ result }
     ensures few { result ≤ 31 }
-    ensures none { (j : ℕ) → 1 ≤ j → j < result
-        → allows_day (record { rule = rule.now; start_day = start.now.number }) (day.now.number +ℤ pos j) ≡ false }
+    ensures none { LeavesOutNext (filling_of rule.now start.now.number) day.now.number result }
 {
     days_on_in_month(rule, start, day).max(gaps[usize::from(day.weekday)])
 }
@@ -61,8 +58,7 @@ pub(crate) fn days_on(rule: &Rule, start: &Day, gaps: &[u8; 7], day: &Day) -> u8
 fn days_on_in_month(rule: &Rule, start: &Day, day: &Day) -> u8
     ensures some { 1 ≤ result }
     ensures few { result ≤ 31 }
-    ensures none { (j : ℕ) → 1 ≤ j → j < result
-        → allows_day (record { rule = rule.now; start_day = start.now.number }) (day.now.number +ℤ pos j) ≡ false }
+    ensures none { LeavesOutNext (filling_of rule.now start.now.number) day.now.number result }
 {
     if day.day_of_month < day.days_in_month {
         next_in_month(rule, start, day) - day.day_of_month
@@ -74,8 +70,7 @@ fn days_on_in_month(rule: &Rule, start: &Day, day: &Day) -> u8
 // A later day of the month, by its number there: none of the days between is allowed.
 fn next_in_month(rule: &Rule, start: &Day, day: &Day) -> u8
     requires { day.now.day_of_month < day.now.days_in_month }
-    ensures { IsNextIn (λ i. allows_day (record { rule = rule.now; start_day = start.now.number }) (day.now.number +ℤ pos (i - day.now.day_of_month)))
-        day.now.day_of_month day.now.days_in_month result }
+    ensures { IsNextInMonth (filling_of rule.now start.now.number) day.now result }
 {
     if leaves_out_month(rule, start, day) {
         day.days_in_month
@@ -90,7 +85,7 @@ fn next_in_month(rule: &Rule, start: &Day, day: &Day) -> u8
 
 // Whether BYMONTH, filled from the start, leaves out the month of a day.
 fn leaves_out_month(rule: &Rule, start: &Day, day: &Day) -> bool
-    ensures { result ≡ true → (d : ℤ) → month_of d ≡ month_of day.now.number → by_month_holds (filled rule.now Days start.now.number) d ≡ false }
+    ensures { result ≡ true → LeavesOutMonth (filling_of rule.now start.now.number) day.now.number }
 {
     !allows_filled(&rule.by_month, fills_month(rule), start.month, day.month)
 }
@@ -182,7 +177,7 @@ fn fills_month(rule: &Rule) -> bool
 
 // Whether the rule names no day and takes the day of the month from its start.
 fn fills_month_day(rule: &Rule) -> bool
-    ensures { result ≡ true → (is_absent rule.now.by_month_day ≡ true) × (wants_month_day rule.now.freq rule.now ≡ true) }
+    ensures { result ≡ true → FillsMonthDay rule.now }
 {
     match rule.freq {
         Freq::Monthly | Freq::Yearly => names_no_day(rule),
@@ -192,7 +187,7 @@ fn fills_month_day(rule: &Rule) -> bool
 
 // Whether no part of the rule names a day of the year, of the month or of the week, and none a week.
 fn names_no_day(rule: &Rule) -> bool
-    ensures { result ≡ (is_absent rule.now.by_week_no && is_absent rule.now.by_year_day && is_absent rule.now.by_month_day && is_absent rule.now.by_day) }
+    ensures { result ≡ names_no_day rule.now }
 {
     rule.by_week_no.is_empty()
         && rule.by_year_day.is_empty()

@@ -26,7 +26,8 @@ pub(crate) fn push_hour(
     requires base { base ≤ 82_800 }
     requires minutes { All (λ m. m < 60) minutes.now }
     requires seconds { All (λ s. s < 60) seconds.now }
-    ensures { OnOk result (out.new.items ≡ out.old.items ++ of_hour base minutes.now seconds.now) }
+    ensures { OnOk result (out.new.items
+        ≡ out.old.items ++ of_hour base minutes.now seconds.now) }
 {
     for minute in minutes {
         push_minute(out, base + 60 * *minute, seconds)?;
@@ -44,7 +45,8 @@ pub(crate) fn push_hours(
     requires hours { All (λ h. h < 24) hours.now }
     requires minutes { All (λ m. m < 60) minutes.now }
     requires seconds { All (λ s. s < 60) seconds.now }
-    ensures { OnOk result (out.new.items ≡ out.old.items ++ of_day hours.now minutes.now seconds.now) }
+    ensures { OnOk result (out.new.items
+        ≡ out.old.items ++ of_day hours.now minutes.now seconds.now) }
 {
     for hour in hours {
         push_hour(out, 3_600 * *hour, minutes, seconds)?;

@@ -1,8 +1,6 @@
 // The time parts of a rule, filled from its start (RFC 5545, section 3.3.10).
-ghost use Rattle.std.specs.Prelude.{◌≡◌, ◌<◌, ◌≤◌, IfOk, IsTrue, nat_lt, pos};
-ghost use Rattle.rr_model.specs.Rule.Candidate.{allows};
-ghost use Rattle.rr_model.specs.Rule.Filled.{filled_part};
-ghost use Rattle.rr_model.specs.Rising.Sets.{IsSetOf};
+ghost use Rattle.std.specs.Prelude.{IfOk};
+ghost use Rattle.rr_expand.specs.UnitTimes.{AreAllowedNumbers};
 
 use rr_model::Numbers;
 use rr_parts::allows_filled;
@@ -16,7 +14,7 @@ pub(crate) fn allowed(
     own: u8,
     count: u8,
 ) -> Result<Vec<u32>, AllocError>
-    ensures { IfOk result (λ v. IsSetOf nat_lt v.items (λ n. (n < count) × IsTrue (allows (filled_part is_wanted part.now (pos own)) (pos n)))) }
+    ensures { IfOk result (λ v. AreAllowedNumbers is_wanted part.now own count v.items) }
 {
     let mut numbers = Vec::new(alloc);
     for n in 0..count {

@@ -2,11 +2,12 @@
 ghost use Rattle.std.specs.Prelude.{◌≤◌, ◌+ℤ◌, IfOk, IsTrue, int_lt, pos};
 ghost use Rattle.rr_model.specs.Calendar.{IsDayWithin};
 ghost use Rattle.rr_model.specs.Rising.Sets.{IsSetOf};
-ghost use Rattle.rr_model.specs.Moment.Units.{unit_start};
 ghost use Rattle.rr_model.specs.declared.kind.Kind.TheVariants.{Days};
 ghost use Rattle.rr_model.specs.Rule.DaysAndTimes.{IsCandidateDay};
 ghost use Rattle.rr_model.specs.Moment.Units.{is_whole_days};
-ghost use Rattle.rr_expand.specs.Expansion.{IsAllowedDay};
+ghost use Rattle.rr_parts.specs.Units.{start_of_unit};
+ghost use Rattle.rr_expand.specs.KeptMasks.{AreAllowedDays};
+ghost use Rattle.rr_expand.specs.Years.{filling_of};
 
 use rr_cal::{Day, days_in_unit, first_day_of_unit};
 use rr_model::{Dates, NoMemory, Rule};
@@ -23,8 +24,8 @@ pub fn days(alloc: Global, rule: &Rule, start_day: i64, unit: i64) -> Result<Dat
     requires freq { IsTrue (is_whole_days rule.now.freq) }
     requires interval { 1 ≤ rule.now.interval }
     requires start { IsDayWithin 1000 start_day }
-    requires first { IsDayWithin 1000 (unit_start rule.now.freq rule.now.week_start Days unit) }
-    requires next { IsDayWithin 1000 (unit_start rule.now.freq rule.now.week_start Days (unit +ℤ pos 1)) }
+    requires first { IsDayWithin 1000 (start_of_unit rule.now Days unit) }
+    requires next { IsDayWithin 1000 (start_of_unit rule.now Days (unit +ℤ pos 1)) }
     ensures { IfOk result (λ days. IsSetOf int_lt days (IsCandidateDay rule.now start_day unit)) }
 {
     let start = Day::new(start_day);
@@ -45,7 +46,7 @@ fn days_from(
 ) -> Result<Dates, NoMemory>
     requires first { IsDayWithin 1000 first }
     requires last { IsDayWithin 1000 (first +ℤ pos count) }
-    ensures { IfOk result (λ days. IsSetOf int_lt days (IsAllowedDay rule.now start.now.number first count)) }
+    ensures { IfOk result (AreAllowedDays (filling_of rule.now start.now.number) first count) }
 {
     let mut days = Dates::new(alloc);
     for k in 0..count {

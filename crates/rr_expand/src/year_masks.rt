@@ -1,9 +1,8 @@
 // The days of a year that the date parts of a rule allow, as bits.
-ghost use Rattle.std.specs.Prelude.{◌≡◌, ◌≢◌, ℕ, ◌+◌, ◌*◌, ◌/◌, ◌%◌, ◌<◌, ◌≤◌, ◌+ℤ◌, ◌&&◌, nat_lt, pos, true, if◌then◌else◌};
-ghost use Rattle.std.specs.List.{list_any};
+ghost use Rattle.std.specs.Prelude.{◌≡◌, ◌≢◌, ℕ, ◌+◌, ◌*◌, ◌/◌, ◌<◌, ◌≤◌, ◌+ℤ◌, pos, true, if◌then◌else◌};
 ghost use Rattle.rr_model.specs.Calendar.{IsDayWithin, first_day_of_year, is_leap};
-ghost use Rattle.rr_expand.specs.LeftOut.{has_weekday};
-ghost use Rattle.rr_expand.specs.Years.{IsFirstBit, IsYearMask, allows_day, is_bit_set, mask_key};
+ghost use Rattle.rr_expand.specs.LeftOut.{MarksWeekdays};
+ghost use Rattle.rr_expand.specs.Years.{IsFirstBit, IsYearMask, MarksAllowed, filling_of, is_bit_set, mask_key};
 
 use crate::left_out::{days_on, gaps, later, lists_weekday, names_weekdays_alone};
 use rr_cal::{Date, Day, day_of, days_in_year, year_kind};
@@ -52,7 +51,8 @@ impl YearMask {
     fn set(&mut self, place: u16)
         requires { place < 384 }
         ensures same { is_bit_set self.new.bits place ≡ true }
-        ensures other { (k : ℕ) → k ≢ place → is_bit_set self.new.bits k ≡ is_bit_set self.old.bits k }
+        ensures other { (k : ℕ) → k ≢ place
+            → is_bit_set self.new.bits k ≡ is_bit_set self.old.bits k }
     {
         self.bits[usize::from(place / 64)] |= 1 << (place % 64);
     }
@@ -64,7 +64,7 @@ pub fn year_mask(rule: &Rule, start_day: i64, year: i64) -> YearMask
     requires start { IsDayWithin 1000 start_day }
     requires first { IsDayWithin 1000 (first_day_of_year year) }
     requires next { IsDayWithin 1000 (first_day_of_year (year +ℤ pos 1)) }
-    ensures { IsYearMask (record { rule = rule.now; start_day = start_day }) year result.bits }
+    ensures { IsYearMask (filling_of rule.now start_day) year result.bits }
 {
     let first = new_year(year);
     let count = days_in_year(year);
@@ -79,7 +79,7 @@ pub fn year_mask(rule: &Rule, start_day: i64, year: i64) -> YearMask
 fn weekday_mask(rule: &Rule, weekday: u8, count: u16) -> YearMask
     requires weekday { weekday < 7 }
     requires count { count ≤ 384 }
-    ensures { (k : ℕ) → k < 384 → is_bit_set result.bits k ≡ (nat_lt k count && list_any (has_weekday ((weekday + k) % 7)) rule.now.by_day) }
+    ensures { MarksWeekdays rule.now weekday count result.bits }
 {
     let gaps = gaps(rule);
     let mut mask = YearMask { bits: [0; 6] };
@@ -100,8 +100,7 @@ fn weekday_mask(rule: &Rule, weekday: u8, count: u16) -> YearMask
 fn mask_from(rule: &Rule, start: &Day, first: Day, count: u16) -> YearMask
     requires count { count ≤ 384 }
     requires last { IsDayWithin 1000 (first.number +ℤ pos count) }
-    ensures { (k : ℕ) → k < 384
-        → is_bit_set result.bits k ≡ (nat_lt k count && allows_day (record { rule = rule.now; start_day = start.now.number }) (first.number +ℤ pos k)) }
+    ensures { MarksAllowed (filling_of rule.now start.now.number) first.number count result.bits }
 {
     let gaps = gaps(rule);
     let mut mask = YearMask { bits: [0; 6] };

@@ -3,6 +3,7 @@ use Rattle.std.specs.Prelude.{◌≡◌, ◌⊎◌, ℕ, List, ◌++◌, take, O
 use Rattle.std.specs.List.{list_any}
 use Rattle.std.specs.Map.{lookup}
 use Rattle.rr_io.specs.Names.{bytes_at}
+use Rattle.rr_io.specs.Outside.{failed_after, faults_after, next_number}
 use Rattle.rr_io.specs.declared.source.FetchError.{FetchError}
 use Rattle.rr_io.specs.declared.source.FetchError.TheVariants as fetch
 use Rattle.rr_io.specs.declared.sink.PutError.{PutError}
@@ -26,6 +27,14 @@ pub record Puts : Type 0 where
 abbrev pub IsToFail : Fetches → ℕ → List ℕ → Type 0
 IsToFail s number name = IsTrue (list_any (λ n. nat_eq n number) s.failing) ⊎ IsNone (bytes_at s.names name)
 
+-- the next fetch is to fail where it asks for this name
+abbrev pub IsNextToFail : Fetches → List ℕ → Type 0
+IsNextToFail s name = IsToFail s (next_number s.fetches) name
+
+-- the source after one more fetch of this name
+abbrev pub fetches_after : {T : Type 0} → Result T FetchError → List ℕ → Fetches → Fetches
+fetches_after result name s = record s { fetches = next_number s.fetches; failed = failed_after result name s.failed }
+
 -- a fetch fails exactly where it is to fail, unless out of memory
 abbrev pub FailsExactly : {T : Type 0} → Result T FetchError → Type 0 → Type 0
 FailsExactly (Ok v) to_fail = to_fail → ⊥
@@ -35,6 +44,14 @@ FailsExactly (Err fetch.NoMemory) to_fail = Unit {0}
 -- how many bytes the put of this number appends first, where it is to fail: the earliest entry counts
 abbrev pub first_of : List (ℕ × ℕ) → ℕ → Option ℕ
 first_of failing number = lookup (λ n. nat_eq n number) failing
+
+-- how many bytes the next put appends first, where it is to fail
+abbrev pub next_first : Puts → Option ℕ
+next_first s = first_of s.failing (next_number s.puts)
+
+-- the sink after one more put, beside its bytes
+abbrev pub IsPutCounted : {T : Type 0} → Result T PutError → Puts → Puts → Type 0
+IsPutCounted result old new = new ≡ record old { bytes = new.bytes; puts = next_number old.puts; faults = faults_after result old.faults }
 
 -- a put that is to fail appends its first bytes and fails, and any other appends all; without memory nothing is appended
 abbrev pub PutsAs : {T : Type 0} → Option ℕ → Result T PutError → List ℕ → List ℕ → List ℕ → Type 0

@@ -1,5 +1,5 @@
 -- Names with bytes.
-use Rattle.std.specs.Prelude.{◌≡◌, ℕ, List, map, Option, Some, String, string_bytes, Vec, bytes_eq, if◌then◌else◌}
+use Rattle.std.specs.Prelude.{◌≡◌, ℕ, List, map, Option, Some, String, string_bytes, Vec, bytes_eq, [], unwrap_or, if◌then◌else◌}
 use Rattle.std.specs.declared.alloc.Global.{Global}
 use Rattle.std.specs.BTreeMap.{BTreeMap}
 use Rattle.std.specs.Map.{lookup}
@@ -11,6 +11,10 @@ entries_of m = map (λ (e : String Global × Vec ℕ Global). (string_bytes e.0,
 -- the bytes under a name
 abbrev pub bytes_at : List (List ℕ × List ℕ) → List ℕ → Option (List ℕ)
 bytes_at entries name = lookup (bytes_eq name) entries
+
+-- the bytes under a name, none of them where it is not there
+abbrev pub bytes_or_none : List (List ℕ × List ℕ) → List ℕ → List ℕ
+bytes_or_none entries name = unwrap_or (bytes_at entries name) []
 
 -- one name has these bytes, and every other what it had
 abbrev pub Sets : List (List ℕ × List ℕ) → List (List ℕ × List ℕ) → List ℕ → List ℕ → Type 0

@@ -1,5 +1,6 @@
 -- What a fetch and a put do to a source and a sink.
-use Rattle.std.specs.Prelude.{◌≡◌, ◌⊎◌, ℕ, ◌+◌, ◌<◌, ◌≤◌, min, List, [], ◌∷◌, ◌++◌, take, Option, option_map, Result, Ok, Err}
+use Rattle.std.specs.Prelude.{◌≡◌, ◌⊎◌, ℕ, ◌+◌, ◌<◌, ◌≤◌, min, List, [], ◌∷◌, ◌++◌, take, Option, option_map, Result, Ok, Err, Vec, IfOk, IfSome}
+use Rattle.std.specs.declared.alloc.Global.{Global}
 use Rattle.rr_io.specs.declared.source.FetchError.{FetchError}
 use Rattle.rr_io.specs.declared.source.FetchError.TheVariants as fetch
 use Rattle.rr_io.specs.declared.sink.PutError.{PutError}
@@ -8,6 +9,14 @@ use Rattle.rr_io.specs.declared.sink.PutError.TheVariants as put
 -- a source keeps what it holds
 abbrev pub KeepsHeld : (List ℕ → Option (List ℕ)) → (List ℕ → Option (List ℕ)) → Type 0
 KeepsHeld old new = (name : List ℕ) → new name ≡ old name
+
+-- what was had are the bytes, cut after one more than the limit
+abbrev pub IsFrontOf : {E : Type 0} → ℕ → List ℕ → Result (Vec ℕ Global) E → Type 0
+IsFrontOf limit bytes result = IfOk result (λ v. v.items ≡ take (limit + 1) bytes)
+
+-- the same of bytes that may be told or not
+abbrev pub IsFrontIfTold : {E : Type 0} → ℕ → Option (List ℕ) → Result (Vec ℕ Global) E → Type 0
+IsFrontIfTold limit told result = IfOk result (λ v. IfSome told (λ bytes. v.items ≡ take (limit + 1) bytes))
 
 -- the names whose fetch has failed, after one more fetch of this name
 abbrev pub failed_after : {T : Type 0} → Result T FetchError → List ℕ → List (List ℕ) → List (List ℕ)

@@ -1,6 +1,6 @@
 // Files, standard input and standard output.
-ghost use Rattle.std.specs.Prelude.{◌≡◌, ◌<◌, ◌≤◌, ◌+◌, ◌^◌, [], take, IfOk, IfSome};
-ghost use Rattle.rr_io.specs.Outside.{failed_after, faults_after};
+ghost use Rattle.std.specs.Prelude.{◌≡◌, ◌<◌, ◌≤◌, ◌^◌, []};
+ghost use Rattle.rr_io.specs.Outside.{IsFrontIfTold, failed_after, faults_after};
 
 use crate::{FetchError, PutError, Sink, Source};
 use rr_model::MAX_INPUT;
@@ -44,7 +44,7 @@ impl<R: Print + Drop> Model for HostSink<R> {
 // What a reader gives, up to `limit + 1` bytes. A read that a signal interrupts is tried again.
 fn read_front<F: Read + Drop>(alloc: Global, reader: F, limit: usize) -> io::Result<Vec<u8>>
     requires { limit < 2 ^ 62 }
-    ensures { IfOk result (λ v. IfSome (F.remaining reader) (λ bytes. v.items ≡ take (limit + 1) bytes)) }
+    ensures { IsFrontIfTold limit (F.remaining reader) result }
 {
     let mut bytes = Vec::new(alloc);
     reader.take(limit as u64 + 1).read_to_end(&mut bytes)?;

@@ -1,8 +1,8 @@
 // A source and a sink in memory whose failures are listed.
-ghost use Rattle.std.specs.Prelude.{◌≡◌, ◌^◌, ◌<◌, ◌≤◌, ◌++◌, ◌+◌, [], ◌∷◌, Some, IfOk, IfSome, OnOk, OnErr, take};
+ghost use Rattle.std.specs.Prelude.{◌≡◌, ◌^◌, ◌<◌, ◌≤◌, ◌++◌, [], ◌∷◌, Some, OnOk, OnErr};
 ghost use Rattle.rr_io.specs.Names.{bytes_at, Sets};
-ghost use Rattle.rr_io.specs.Outside.{KeepsHeld, failed_after, faults_after, next_number, IsPut};
-ghost use Rattle.rr_io.specs.Memory.{IsToFail, FailsExactly, first_of, PutsAs};
+ghost use Rattle.rr_io.specs.Outside.{IsFrontIfTold, KeepsHeld, IsPut};
+ghost use Rattle.rr_io.specs.Memory.{FailsExactly, IsNextToFail, IsPutCounted, PutsAs, fetches_after, first_of, next_first};
 
 use crate::names::{Names, front};
 use crate::{FetchError, PutError, Sink, Source};
@@ -28,7 +28,12 @@ impl Model for MemorySource {
 
     ghost Value = { Fetches };
 
-    ghost view = { λ s. record { names = s.names; failing = s.failing.items; fetches = s.fetches; failed = map string_bytes s.failed.items } };
+    ghost view = { λ s. record {
+      names = s.names;
+      failing = s.failing.items;
+      fetches = s.fetches;
+      failed = map string_bytes s.failed.items;
+    } };
 }
 
 /// Bytes, and which puts are to fail after how many bytes.
@@ -47,7 +52,12 @@ impl Model for MemorySink {
 
     ghost Value = { Puts };
 
-    ghost view = { λ s. record { bytes = s.bytes.items; failing = s.failing.items; puts = s.puts; faults = s.faults } };
+    ghost view = { λ s. record {
+      bytes = s.bytes.items;
+      failing = s.failing.items;
+      puts = s.puts;
+      faults = s.faults;
+    } };
 }
 
 impl MemorySource {
@@ -75,7 +85,8 @@ impl MemorySource {
 
     /// Lets the fetch of this number fail. The first fetch has number 1.
     pub fn fail(&mut self, fetch: u64) -> Result<(), NoMemory>
-        ensures ok { OnOk result (self.new ≡ record self.old { failing = self.old.failing ++ fetch ∷ [] }) }
+        ensures ok { OnOk result
+            (self.new ≡ record self.old { failing = self.old.failing ++ fetch ∷ [] }) }
         ensures err { OnErr result (self.new ≡ self.old) }
     {
         self.failing.push(fetch)?;
@@ -84,7 +95,8 @@ impl MemorySource {
 
     // Notes that a fetch of this name failed.
     fn note(&mut self, name: &str) -> Result<(), NoMemory>
-        ensures ok { OnOk result (self.new ≡ record self.old { failed = self.old.failed ++ name.now ∷ [] }) }
+        ensures ok { OnOk result
+            (self.new ≡ record self.old { failed = self.old.failed ++ name.now ∷ [] }) }
         ensures err { OnErr result (self.new ≡ self.old) }
     {
         let noted = String::from_str(self.alloc, name)?;
@@ -101,9 +113,9 @@ impl Source for MemorySource {
     ghost failed = { λ s. s.failed };
 
     fn fetch(&mut self, alloc: Global, name: &str) -> Result<Vec<u8>, FetchError>
-        ensures bytes { IfOk result (λ v. IfSome (bytes_at self.old.names name.now) (λ bytes. v.items ≡ take (MAX_INPUT + 1) bytes)) }
-        ensures fails { FailsExactly result (IsToFail self.old (next_number self.old.fetches) name.now) }
-        ensures rest { self.new ≡ record self.old { fetches = next_number self.old.fetches; failed = failed_after result name.now self.old.failed } }
+        ensures bytes { IsFrontIfTold MAX_INPUT (bytes_at self.old.names name.now) result }
+        ensures fails { FailsExactly result (IsNextToFail self.old name.now) }
+        ensures rest { self.new ≡ fetches_after result name.now self.old }
     {
         self.fetch_within(alloc, name, MAX_INPUT)
     }
@@ -115,9 +127,9 @@ impl Source for MemorySource {
         limit: usize,
     ) -> Result<Vec<u8>, FetchError>
         requires { limit < 2 ^ 62 }
-        ensures bytes { IfOk result (λ v. IfSome (bytes_at self.old.names name.now) (λ bytes. v.items ≡ take (limit + 1) bytes)) }
-        ensures fails { FailsExactly result (IsToFail self.old (next_number self.old.fetches) name.now) }
-        ensures rest { self.new ≡ record self.old { fetches = next_number self.old.fetches; failed = failed_after result name.now self.old.failed } }
+        ensures bytes { IsFrontIfTold limit (bytes_at self.old.names name.now) result }
+        ensures fails { FailsExactly result (IsNextToFail self.old name.now) }
+        ensures rest { self.new ≡ fetches_after result name.now self.old }
     {
         self.fetches = self.fetches.saturating_add(1);
         if self.failing.contains(&self.fetches) {
@@ -133,7 +145,7 @@ impl Source for MemorySource {
 }
 
 // How many bytes the put of this number appends before it fails, where it is to fail.
-fn listed(failing: &[(u64, usize)], put: u64) -> Option<usize>
+fn first_of(failing: &[(u64, usize)], put: u64) -> Option<usize>
     ensures { result ≡ first_of failing.now put }
 {
     for &(number, first) in failing {
@@ -161,7 +173,8 @@ impl MemorySink {
     ///
     /// The first put has number 1. Where one put is listed twice, the earlier entry counts.
     pub fn fail(&mut self, put: u64, first: usize) -> Result<(), NoMemory>
-        ensures ok { OnOk result (self.new ≡ record self.old { failing = self.old.failing ++ (put, first) ∷ [] }) }
+        ensures ok { OnOk result
+            (self.new ≡ record self.old { failing = self.old.failing ++ (put, first) ∷ [] }) }
         ensures err { OnErr result (self.new ≡ self.old) }
     {
         self.failing.push((put, first))?;
@@ -184,12 +197,12 @@ impl Sink for MemorySink {
     ghost faults = { λ s. s.faults };
 
     fn put(&mut self, bytes: &[u8]) -> Result<(), PutError>
-        ensures puts { PutsAs (first_of self.old.failing (next_number self.old.puts)) result bytes.now self.old.bytes self.new.bytes }
+        ensures puts { PutsAs (next_first self.old) result bytes.now self.old.bytes self.new.bytes }
         ensures never_falls { self.old.faults ≤ self.new.faults }
-        ensures rest { self.new ≡ record self.old { bytes = self.new.bytes; puts = next_number self.old.puts; faults = faults_after result self.old.faults } }
+        ensures rest { IsPutCounted result self.old self.new }
     {
         self.puts = self.puts.saturating_add(1);
-        match listed(&self.failing, self.puts) {
+        match first_of(&self.failing, self.puts) {
             None => {
                 self.bytes.extend_from_slice(bytes)?;
                 Ok(())

@@ -1,6 +1,7 @@
 // Names with bytes, which the sources in memory hold.
-ghost use Rattle.std.specs.Prelude.{◌≡◌, ◌<◌, ◌+◌, ◌^◌, [], take, option_map, IfOk, OnOk, OnErr};
+ghost use Rattle.std.specs.Prelude.{◌≡◌, ◌<◌, ◌^◌, [], option_map, OnOk, OnErr};
 ghost use Rattle.rr_io.specs.Names.{bytes_at, Sets};
+ghost use Rattle.rr_io.specs.Outside.{IsFrontOf};
 
 use rr_model::NoMemory;
 use std::alloc::{AllocError, Global};
@@ -60,7 +61,7 @@ impl Names {
 /// A copy of the bytes, cut after `limit + 1`.
 pub fn front(alloc: Global, bytes: &[u8], limit: usize) -> Result<Vec<u8>, AllocError>
     requires { limit < 2 ^ 62 }
-    ensures { IfOk result (λ v. v.items ≡ take (limit + 1) bytes.now) }
+    ensures { IsFrontOf limit bytes.now result }
 {
     bytes[..(limit + 1).min(bytes.len())].to_vec(alloc)
 }

@@ -37,6 +37,7 @@ pub trait Sink {
     ///
     /// `Failed` comes only where `faults` rises or stands at its last value, and then a first part of the bytes may stand in the sink.
     fn put(&mut self, bytes: &[u8]) -> Result<(), PutError>
-        ensures put { IsPut result bytes.now (written self.old) (written self.new) (faults self.old) (faults self.new) }
+        ensures put { IsPut result bytes.now (written self.old) (written self.new)
+            (faults self.old) (faults self.new) }
         ensures never_falls { faults self.old ≤ faults self.new };
 }

@@ -1,5 +1,5 @@
 // Where operands come from.
-ghost use Rattle.std.specs.Prelude.{◌≡◌, ◌<◌, ◌+◌, ◌^◌, ℕ, List, Option, take, IfOk, IfSome};
+ghost use Rattle.std.specs.Prelude.{◌≡◌, ◌<◌, ◌^◌, ℕ, List, Option};
 
 use rr_model::{MAX_INPUT, NoMemory};
 use std::alloc::{AllocError, AllocFailed, Global};
@@ -48,7 +48,7 @@ impl From<NoMemory> for FetchError {
 
 /// Named bytes that can be fetched.
 pub trait Source {
-    ghost use Rattle.rr_io.specs.Outside.{KeepsHeld, failed_after};
+    ghost use Rattle.rr_io.specs.Outside.{IsFrontIfTold, KeepsHeld, failed_after};
 
     /// The bytes under a name, where the source tells them.
     ghost held: { Self → List ℕ → Option (List ℕ) };
@@ -60,7 +60,7 @@ pub trait Source {
     ///
     /// `Failed` comes only with the name at the end of those that have failed. `NoMemory` leaves these names as they were.
     fn fetch(&mut self, alloc: Global, name: &str) -> Result<Vec<u8>, FetchError>
-        ensures bytes { IfOk result (λ v. IfSome (held self.old name.now) (λ bytes. v.items ≡ take (MAX_INPUT + 1) bytes)) }
+        ensures bytes { IsFrontIfTold MAX_INPUT (held self.old name.now) result }
         ensures failed { failed self.new ≡ failed_after result name.now (failed self.old) }
         ensures held { KeepsHeld (held self.old) (held self.new) };
 
@@ -72,7 +72,7 @@ pub trait Source {
         limit: usize,
     ) -> Result<Vec<u8>, FetchError>
         requires { limit < 2 ^ 62 }
-        ensures bytes { IfOk result (λ v. IfSome (held self.old name.now) (λ bytes. v.items ≡ take (limit + 1) bytes)) }
+        ensures bytes { IsFrontIfTold limit (held self.old name.now) result }
         ensures failed { failed self.new ≡ failed_after result name.now (failed self.old) }
         ensures held { KeepsHeld (held self.old) (held self.new) };
 }

@@ -1,7 +1,7 @@
 // A source and a sink in memory that never fail.
-ghost use Rattle.std.specs.Prelude.{◌≡◌, ◌^◌, ◌<◌, ◌++◌, ◌+◌, [], Some, take, unwrap_or, OnOk, OnErr, IfOk, IsErrOf};
-ghost use Rattle.rr_io.specs.Names.{bytes_at, Sets};
-ghost use Rattle.rr_io.specs.Outside.{IsPut};
+ghost use Rattle.std.specs.Prelude.{◌≡◌, ◌^◌, ◌<◌, ◌++◌, [], Some, OnOk, OnErr, IsErrOf};
+ghost use Rattle.rr_io.specs.Names.{bytes_or_none, Sets};
+ghost use Rattle.rr_io.specs.Outside.{IsFrontOf, IsPut};
 
 use crate::names::{Names, front};
 use crate::{FetchError, PutError, Sink, Source};
@@ -57,15 +57,15 @@ impl SteadySource {
 }
 
 impl Source for SteadySource {
-    ghost use Rattle.std.specs.Prelude.{[], Some, unwrap_or};
-    ghost use Rattle.rr_io.specs.Names.{bytes_at};
+    ghost use Rattle.std.specs.Prelude.{[], Some};
+    ghost use Rattle.rr_io.specs.Names.{bytes_or_none};
 
-    ghost held = { λ s name. Some (unwrap_or (bytes_at s name) []) };
+    ghost held = { λ s name. Some (bytes_or_none s name) };
 
     ghost failed = { λ _. [] };
 
     fn fetch(&mut self, alloc: Global, name: &str) -> Result<Vec<u8>, FetchError>
-        ensures bytes { IfOk result (λ v. v.items ≡ take (MAX_INPUT + 1) (unwrap_or (bytes_at self.old name.now) [])) }
+        ensures bytes { IsFrontOf MAX_INPUT (bytes_or_none self.old name.now) result }
         ensures steady { IsErrOf result FetchError.Failed → ⊥ }
         ensures same { self.new ≡ self.old }
     {
@@ -79,7 +79,7 @@ impl Source for SteadySource {
         limit: usize,
     ) -> Result<Vec<u8>, FetchError>
         requires { limit < 2 ^ 62 }
-        ensures bytes { IfOk result (λ v. v.items ≡ take (limit + 1) (unwrap_or (bytes_at self.old name.now) [])) }
+        ensures bytes { IsFrontOf limit (bytes_or_none self.old name.now) result }
         ensures steady { IsErrOf result FetchError.Failed → ⊥ }
         ensures same { self.new ≡ self.old }
     {

@@ -104,7 +104,8 @@ impl Ord for Item {
 impl PartialOrd for Item {
     ghost partial_cmp = { as_partial_cmp item_cmp };
 
-    ghost laws = { partial_order_from_agreeing_total item_cmp item_total (λ x y. refl) (λ x y. refl) };
+    ghost laws = { partial_order_from_agreeing_total item_cmp item_total
+        (λ x y. refl) (λ x y. refl) };
 
     fn partial_cmp(&self, other: &Item) -> Option<Ordering> {
         Some(self.cmp(other))

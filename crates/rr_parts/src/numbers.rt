@@ -63,7 +63,8 @@ pub(crate) fn allows_place_filled(
     k: u8,
     many: u8,
 ) -> bool
-    ensures { result ≡ allows_place (filled_part is_wanted numbers.now (pos own)) (pos k) (pos many) }
+    ensures { result ≡ allows_place (filled_part is_wanted numbers.now (pos own))
+        (pos k) (pos many) }
 {
     if is_wanted && numbers.is_empty() {
         own == k || i16::from(own) == place_from_back(u16::from(k), u16::from(many))

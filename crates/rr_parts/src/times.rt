@@ -1,8 +1,9 @@
 // The time parts of a rule, as tests of one moment (RFC 5545, section 3.3.10).
-ghost use Rattle.std.specs.Prelude.{◌≡◌, pos, ◌&&◌};
-ghost use Rattle.rr_model.specs.Rule.Candidate.{allows, time_parts_hold};
-ghost use Rattle.rr_model.specs.Rule.Filled.{filled, filled_part, hour_of, minute_of, second_of, wants_hour, wants_minute, wants_second};
+ghost use Rattle.std.specs.Prelude.{◌≡◌, ◌&&◌};
+ghost use Rattle.rr_model.specs.Rule.Candidate.{time_parts_hold};
+ghost use Rattle.rr_model.specs.Rule.Filled.{filled, hour_of, minute_of, second_of, wants_hour, wants_minute, wants_second};
 ghost use Rattle.rr_model.specs.declared.kind.Kind.TheVariants.{Moments};
+ghost use Rattle.rr_parts.specs.Numbers.{number_allowed};
 
 use crate::filled::{wants_hour, wants_minute, wants_second};
 use crate::moment::Moment;
@@ -21,7 +22,8 @@ pub struct Time {
 /// time, and they hold of it.
 pub fn time_parts_hold(rule: &Rule, start: &Moment, moment: &Moment) -> bool
     requires kind { start.now.kind ≡ moment.now.kind }
-    ensures { result ≡ time_parts_hold (filled rule.now start.now.kind start.now.at) moment.now.kind moment.now.at }
+    ensures { result ≡ time_parts_hold (filled rule.now start.now.kind start.now.at)
+        moment.now.kind moment.now.at }
 {
     match moment.kind {
         Kind::Days => true,
@@ -31,10 +33,10 @@ pub fn time_parts_hold(rule: &Rule, start: &Moment, moment: &Moment) -> bool
 
 // Whether each time part, filled from the start's time where it is absent and wanted, lists the time's number.
 fn allows_time(rule: &Rule, own: Time, time: Time) -> bool
-    ensures { result ≡
-        (allows (filled_part (wants_hour rule.now.freq) rule.now.by_hour (pos own.hour)) (pos time.hour)
-        && allows (filled_part (wants_minute rule.now.freq) rule.now.by_minute (pos own.minute)) (pos time.minute)
-        && allows (filled_part (wants_second rule.now.freq) rule.now.by_second (pos own.second)) (pos time.second)) }
+    ensures { result
+        ≡ (number_allowed (wants_hour rule.now.freq) rule.now.by_hour own.hour time.hour
+        && number_allowed (wants_minute rule.now.freq) rule.now.by_minute own.minute time.minute
+        && number_allowed (wants_second rule.now.freq) rule.now.by_second own.second time.second) }
 {
     allows_filled(&rule.by_hour, wants_hour(rule.freq), own.hour, time.hour)
         && allows_filled(

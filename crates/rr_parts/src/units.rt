@@ -1,9 +1,10 @@
 // Units of a frequency and the interval between them (RFC 5545, section 3.3.10, FREQ, INTERVAL and WKST).
 ghost use Rattle.std.specs.Prelude.{◌≡◌, ◌≤◌, ◌-ℤ◌, IsTrue, false};
 ghost use Rattle.rr_model.specs.Rule.Candidate.{interval_holds};
-ghost use Rattle.rr_model.specs.Moment.Units.{is_whole_days, unit_number, unit_seconds};
+ghost use Rattle.rr_model.specs.Moment.Units.{is_whole_days, unit_seconds};
 ghost use Rattle.rr_model.specs.Whole.{divides};
 ghost use Rattle.rr_model.specs.declared.kind.Kind.TheVariants.{Days};
+ghost use Rattle.rr_parts.specs.Units.{unit_of};
 
 use crate::moment::Moment;
 use rr_cal::{Day, unit_of_day};
@@ -24,7 +25,7 @@ pub fn interval_holds(rule: &Rule, start: &Moment, moment: &Moment) -> bool
 /// The number of the unit of the rule's frequency in which the moment lies: seconds, minutes and hours since
 /// 1970-01-01T00:00:00, and days, weeks, months and years as `rr_cal::unit_of_day` numbers them.
 pub fn unit_number(rule: &Rule, moment: &Moment) -> i64
-    ensures { result ≡ unit_number rule.now.freq rule.now.week_start moment.now.kind moment.now.at }
+    ensures { result ≡ unit_of rule.now moment.now.kind moment.now.at }
 {
     match rule.freq {
         Freq::Secondly => moment.at,
@@ -41,7 +42,7 @@ pub fn unit_number(rule: &Rule, moment: &Moment) -> i64
 pub fn fits(rule: &Rule, start: &Day, unit: i64) -> bool
     requires freq { IsTrue (is_whole_days rule.now.freq) }
     requires interval { 1 ≤ rule.now.interval }
-    ensures { result ≡ divides rule.now.interval (unit -ℤ unit_number rule.now.freq rule.now.week_start Days start.now.number) }
+    ensures { result ≡ divides rule.now.interval (unit -ℤ unit_of rule.now Days start.now.number) }
 {
     is_congruent(
         unit_of_day(rule.freq, rule.week_start, start),

@@ -10,6 +10,14 @@ abbrev pub paged : List ℕ → List ℕ → List ℕ
 paged pool [] = []
 paged pool (page ∷ pages) = page_numbers pool page ++ paged pool pages
 
+-- the list that is kept: the numbers of pages, and those after the last page
+abbrev pub kept_list : List ℕ → List ℕ → List ℕ → List ℕ
+kept_list pool pages rest = paged pool pages ++ rest
+
+-- the first numbers of a list were put at the end, so many of them: one at least, and at most as many as may be
+abbrev pub PutsSome : List ℕ → List ℕ → ℕ → List ℕ → ℕ → Type 0
+PutsSome old new most numbers count = (1 ≤ count) × (count ≤ most) × (new ≡ old ++ take count numbers)
+
 -- each page is one of the pool
 abbrev pub ArePages : List ℕ → List ℕ → Type 0
 ArePages pool pages = (k : ℕ) → k < length pages → get_or pages k 0 + 63 ≤ length pool

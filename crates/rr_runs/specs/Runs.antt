@@ -1,5 +1,5 @@
 -- Days with numbers as a row of numbers, and how many runs they have.
-use Rattle.std.specs.Prelude.{◌≡◌, ℕ, zero, suc, ◌+◌, ◌<◌, ◌==◌, ◌&&◌, if◌then◌else◌, List, [], ◌∷◌, length, get_or, nat_abs, Option, Some, None, ℤ, pos, neg_ℤ, ◌+ℤ◌, ◌-ℤ◌, ◌≤ℤ◌}
+use Rattle.std.specs.Prelude.{◌≡◌, ℕ, zero, suc, ◌+◌, ◌<◌, ◌==◌, ◌&&◌, if◌then◌else◌, List, [], ◌∷◌, ◌++◌, length, drop, get_or, nat_abs, Option, Some, None, ℤ, pos, neg_ℤ, ◌+ℤ◌, ◌-ℤ◌, ◌≤ℤ◌}
 use Rattle.rr_word.specs.Numbered.{number_in}
 use Rattle.rr_word.specs.declared.numbered.NumberedDay.{NumberedDay}
 use Rattle.rr_runs.specs.declared.run_days.RunCount.{RunCount}
@@ -24,6 +24,15 @@ number_told (suc number) = Some number
 -- the row tells the numbers of this day and the days after it
 abbrev pub IsRowOf : List NumberedDay → ℤ → List ℕ → Type 0
 IsRowOf days day row = (k : ℕ) → k < length row → number_in days (day +ℤ pos k) ≡ number_told (get_or row k 0)
+
+-- whatever day two rows begin on, they have the same days after so many places
+abbrev pub SameDays : List ℕ → List ℕ → ℕ → Type 0
+SameDays old new skipped = (day : ℤ) → days_of day (drop skipped new) ≡ days_of day (drop skipped old)
+
+-- whatever day the rows begin on, the new one has the days of the old one, and then the day of this place with this number
+abbrev pub PutsDayAt : List ℕ → List ℕ → ℕ → ℕ → ℕ → Type 0
+PutsDayAt old new skipped place number =
+    (day : ℤ) → days_of day (drop skipped new) ≡ days_of day (drop skipped old) ++ record { day = day +ℤ pos place; number = number } ∷ []
 
 -- ---- runs
 
@@ -68,6 +77,10 @@ IsCountOf [] count = count.runs ≡ 0
 IsCountOf (x ∷ xs) count =
     (count.runs ≡ 1 + changes (first_reached x) xs)
     × (reached (first_reached x) xs ≡ record { day = count.last; gap = count.gap; number = count.number })
+
+-- whatever days the old count is of, the new one is of them and these more
+abbrev pub CountsMore : RunCount → List NumberedDay → RunCount → Type 0
+CountsMore old more new = (days : List NumberedDay) → IsCountOf days old → IsCountOf (days ++ more) new
 
 -- a day within 3,000,000,000,000 either way
 abbrev pub IsFarDay : ℤ → Type 0

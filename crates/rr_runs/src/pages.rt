@@ -1,6 +1,6 @@
 // A list of numbers, kept as they are or in pages.
 ghost use Rattle.std.specs.Prelude.{◌≡◌, ◌↔◌, ◌<◌, ◌≤◌, ◌∷◌, ◌++◌, [], ℕ, IfOk, IfSome, IsTrue, OnErr, OnOk, length, get_or, take, drop, replicate, ◌+◌, ◌-◌, ◌*◌, ◌/◌, ◌%◌, min};
-ghost use Rattle.rr_runs.specs.Pages.{ArePages, HasRoom, IsGrown, IsPageOf, IsPaged, IsPiece, IsZeroFrom, IsZeroPage, paged};
+ghost use Rattle.rr_runs.specs.Pages.{ArePages, HasRoom, IsGrown, IsPageOf, IsPaged, IsPiece, IsZeroFrom, IsZeroPage, PutsSome, kept_list, paged};
 
 use rr_model::NoMemory;
 use std::alloc::Global;
@@ -161,7 +161,7 @@ impl Pages {
     // Puts as many of the numbers at the end as there is room for after the last page, one at least.
     fn push_some(&mut self, numbers: &[u32]) -> Result<usize, NoMemory>
         requires { 0 < length numbers.now }
-        ensures { IfOk result (λ count. (1 ≤ count) × (count ≤ length numbers.now) × (self.new ≡ self.old ++ take count numbers.now)) }
+        ensures { IfOk result (PutsSome self.old self.new (length numbers.now) numbers.now) }
     {
         make_room(
             &mut self.pool,
@@ -189,7 +189,8 @@ impl Pages {
     // Puts some of `most` equal numbers at the end, one at least: all of them where whole pages may follow the last page.
     fn push_some_same(&mut self, number: u32, most: usize) -> Result<usize, NoMemory>
         requires { 1 ≤ most }
-        ensures { IfOk result (λ count. (1 ≤ count) × (count ≤ most) × (self.new ≡ self.old ++ replicate count number)) }
+        ensures { IfOk result (λ count. (1 ≤ count) × (count ≤ most)
+            × (self.new ≡ self.old ++ replicate count number)) }
     {
         make_room(
             &mut self.pool,
@@ -219,7 +220,7 @@ impl Pages {
     fn push_some_again(&mut self, place: usize, most: usize) -> Result<usize, NoMemory>
         requires some { 1 ≤ most }
         requires within { place + most ≤ length self.old }
-        ensures { IfOk result (λ count. (1 ≤ count) × (count ≤ most) × (self.new ≡ self.old ++ take count (drop place self.old))) }
+        ensures { IfOk result (PutsSome self.old self.new most (drop place self.old)) }
     {
         if self.pages.is_empty() && self.rest.len() < OPEN {
             let count = (OPEN - self.rest.len()).min(most);
@@ -237,7 +238,7 @@ impl Pages {
     fn push_block_again(&mut self, place: usize, most: usize) -> Result<usize, NoMemory>
         requires some { 1 ≤ most }
         requires within { place + most ≤ length self.old }
-        ensures { IfOk result (λ count. (1 ≤ count) × (count ≤ most) × (self.new ≡ self.old ++ take count (drop place self.old))) }
+        ensures { IfOk result (PutsSome self.old self.new most (drop place self.old)) }
     {
         let mut block = [0; PAGE];
         let count = self.read_into(&mut block, place, most);
@@ -250,7 +251,7 @@ impl Pages {
     fn push_some_of(&mut self, other: &Pages, place: usize, most: usize) -> Result<usize, NoMemory>
         requires some { 1 ≤ most }
         requires within { place + most ≤ length other.now }
-        ensures { IfOk result (λ count. (1 ≤ count) × (count ≤ most) × (self.new ≡ self.old ++ take count (drop place other.now))) }
+        ensures { IfOk result (PutsSome self.old self.new most (drop place other.now)) }
     {
         if other.pages.is_empty() {
             return self.push_piece_of(other, place, most);
@@ -267,7 +268,7 @@ impl Pages {
     fn push_piece_of(&mut self, other: &Pages, place: usize, most: usize) -> Result<usize, NoMemory>
         requires some { 1 ≤ most }
         requires within { place + most ≤ length other.now }
-        ensures { IfOk result (λ count. (1 ≤ count) × (count ≤ most) × (self.new ≡ self.old ++ take count (drop place other.now))) }
+        ensures { IfOk result (PutsSome self.old self.new most (drop place other.now)) }
     {
         let piece = other.piece_within(place, most);
         self.push_all(piece)?;
@@ -278,7 +279,8 @@ impl Pages {
     // where no page begins there, or none may begin at the end.
     fn push_pages_again(&mut self, place: usize, most: usize) -> Result<usize, NoMemory>
         requires { place + most ≤ length self.old }
-        ensures { IfOk result (λ pages. (pages * 63 ≤ most) × (self.new ≡ self.old ++ take (pages * 63) (drop place self.old))) }
+        ensures { IfOk result (λ pages. (pages * 63 ≤ most)
+            × (self.new ≡ self.old ++ take (pages * 63) (drop place self.old))) }
     {
         make_room(
             &mut self.pool,
@@ -507,7 +509,8 @@ fn rest_from(numbers: &[u32], from: usize) -> &[u32]
 // Whether so many pages may be put after the pages that there are.
 fn has_room(pages: &Vec<u32>, rest: &Vec<u32>, count: usize) -> bool
     requires { length pages.now.items ≤ 100_000_000 }
-    ensures { IsTrue result → (rest.now.items ≡ []) × (length pages.now.items + count ≤ 100_000_000) }
+    ensures { IsTrue result → (rest.now.items ≡ [])
+        × (length pages.now.items + count ≤ 100_000_000) }
 {
     rest.is_empty() && count <= MOST_PAGES - pages.len()
 }
@@ -553,7 +556,8 @@ fn make_room(
 ) -> Result<(), NoMemory>
     requires { IsPaged pool.old.items pages.old.items rest.old.items }
     ensures paged { IsPaged pool.new.items pages.new.items rest.new.items }
-    ensures same { paged pool.new.items pages.new.items ++ rest.new.items ≡ paged pool.old.items pages.old.items ++ rest.old.items }
+    ensures same { kept_list pool.new.items pages.new.items rest.new.items
+        ≡ kept_list pool.old.items pages.old.items rest.old.items }
     ensures room { OnOk result (HasRoom pages.new.items rest.new.items 1) }
 {
     if room_left(pages, rest) > 0 {
@@ -573,7 +577,8 @@ fn close(
     requires paged { IsPaged pool.old.items pages.old.items rest.old.items }
     requires whole { length rest.old.items % 63 ≡ 0 }
     ensures paged { IsPaged pool.new.items pages.new.items rest.new.items }
-    ensures same { paged pool.new.items pages.new.items ++ rest.new.items ≡ paged pool.old.items pages.old.items ++ rest.old.items }
+    ensures same { kept_list pool.new.items pages.new.items rest.new.items
+        ≡ kept_list pool.old.items pages.old.items rest.old.items }
     ensures none { OnOk result (rest.new.items ≡ []) }
 {
     if rest.len() == PAGE {
@@ -606,7 +611,8 @@ fn close_page(
     requires paged { IsPaged pool.old.items pages.old.items rest.old.items }
     requires page { length rest.old.items ≡ 63 }
     ensures paged { IsPaged pool.new.items pages.new.items rest.new.items }
-    ensures same { paged pool.new.items pages.new.items ++ rest.new.items ≡ paged pool.old.items pages.old.items ++ rest.old.items }
+    ensures same { kept_list pool.new.items pages.new.items rest.new.items
+        ≡ kept_list pool.old.items pages.old.items rest.old.items }
     ensures none { OnOk result (rest.new.items ≡ []) }
 {
     if pages.len() >= MOST_PAGES {
@@ -640,8 +646,10 @@ fn put_pages(
     ensures grown { IsGrown pool.old.items pool.new.items }
     ensures more { IsGrown pages.old.items pages.new.items }
     ensures stand { ArePages pool.new.items pages.new.items }
-    ensures value { OnOk result (paged pool.new.items pages.new.items ≡ paged pool.old.items pages.old.items ++ numbers.now) }
-    ensures many { OnOk result (length pages.new.items ≡ length pages.old.items + length numbers.now / 63) }
+    ensures value { OnOk result (paged pool.new.items pages.new.items
+        ≡ paged pool.old.items pages.old.items ++ numbers.now) }
+    ensures many { OnOk result (length pages.new.items
+        ≡ length pages.old.items + length numbers.now / 63) }
 {
     let mut left = numbers;
     while left.len() >= PAGE {
@@ -663,7 +671,8 @@ fn put_page(
     ensures grown { IsGrown pool.old.items pool.new.items }
     ensures more { IsGrown pages.old.items pages.new.items }
     ensures stand { ArePages pool.new.items pages.new.items }
-    ensures value { OnOk result (paged pool.new.items pages.new.items ≡ paged pool.old.items pages.old.items ++ numbers.now) }
+    ensures value { OnOk result (paged pool.new.items pages.new.items
+        ≡ paged pool.old.items pages.old.items ++ numbers.now) }
     ensures many { OnOk result (length pages.new.items ≡ length pages.old.items + 1) }
     ensures err { OnErr result (pages.new.items ≡ pages.old.items) }
 {
@@ -686,7 +695,8 @@ fn put_pages_of(
     ensures stand { ArePages pool.new.items pages.new.items }
     ensures few { length pages.new.items ≤ 100_000_000 }
     ensures some { length pages.old.items ≤ length pages.new.items }
-    ensures value { OnOk result (paged pool.new.items pages.new.items ≡ paged pool.old.items pages.old.items ++ replicate (count * 63) number) }
+    ensures value { OnOk result (paged pool.new.items pages.new.items
+        ≡ paged pool.old.items pages.old.items ++ replicate (count * 63) number) }
 {
     if count > MOST_PAGES - pages.len() {
         return Err(NoMemory);
@@ -713,7 +723,8 @@ fn put_same(numbers: &mut Vec<u32>, number: u32, count: usize) -> Result<(), NoM
 fn put_again(numbers: &mut Vec<u32>, place: usize, count: usize) -> Result<(), NoMemory>
     requires within { place + count ≤ length numbers.old.items }
     requires few { length numbers.old.items ≤ 100_000_000 }
-    ensures value { OnOk result (numbers.new.items ≡ numbers.old.items ++ take count (drop place numbers.old.items)) }
+    ensures value { OnOk result (numbers.new.items
+        ≡ numbers.old.items ++ take count (drop place numbers.old.items)) }
     ensures err { OnErr result (numbers.new.items ≡ numbers.old.items) }
 {
     let end = numbers.len();
@@ -833,7 +844,8 @@ fn are_equal(xs: &[u32], ys: &[u32]) -> bool
 fn is_same_block(xs: &[u32], ys: &[u32], from: usize) -> bool
     requires xs { from + 32 ≤ length xs.now }
     requires ys { from + 32 ≤ length ys.now }
-    ensures { IsTrue result → (k : ℕ) → from ≤ k → k < from + 32 → get_or xs.now k 0 ≡ get_or ys.now k 0 }
+    ensures { IsTrue result → (k : ℕ) → from ≤ k → k < from + 32
+        → get_or xs.now k 0 ≡ get_or ys.now k 0 }
 {
     let mut all = true;
     for k in 0..BLOCK {

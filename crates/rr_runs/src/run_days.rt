@@ -1,9 +1,8 @@
 // Occupied days with the numbers of their time sets, in little room.
-ghost use Rattle.std.specs.Prelude.{◌≡◌, ◌≢◌, ◌⊎◌, ℕ, ◌<◌, ◌≤◌, ◌∷◌, ◌++◌, ◌+◌, [], ℤ, List, None, OnErr, OnOk, drop, length, pos, neg_ℤ, ◌+ℤ◌, ◌≤ℤ◌, ◌<ℤ◌};
+ghost use Rattle.std.specs.Prelude.{◌≡◌, ◌≢◌, ◌⊎◌, ℕ, ◌<◌, ◌≤◌, ◌∷◌, ◌++◌, ◌+◌, [], None, OnErr, OnOk, drop, length, pos, neg_ℤ, ◌+ℤ◌, ◌≤ℤ◌, ◌<ℤ◌};
 ghost use Rattle.std.specs.List.{All};
 ghost use Rattle.rr_word.specs.Numbered.{number_in};
-ghost use Rattle.rr_word.specs.declared.numbered.NumberedDay.{NumberedDay};
-ghost use Rattle.rr_runs.specs.Runs.{IsCountOf, IsCountedDay, IsFarDay, IsRowOf, change, days_of, number_told, run_count};
+ghost use Rattle.rr_runs.specs.Runs.{CountsMore, IsCountedDay, IsFarDay, IsRowOf, PutsDayAt, SameDays, change, days_of, number_told, run_count};
 
 use crate::pages::Pages;
 use rr_model::NoMemory;
@@ -84,7 +83,8 @@ impl RunDays {
     pub fn put(&mut self, day: i64, number: u32) -> Result<(), NoMemory>
         requires after { All (λ x. x.day <ℤ day) self.old }
         requires far { IsFarDay day }
-        ensures ok { OnOk result (self.new ≡ self.old ++ record { day = day; number = number } ∷ []) }
+        ensures ok { OnOk result (self.new
+            ≡ self.old ++ record { day = day; number = number } ∷ []) }
         ensures err { OnErr result (self.new ≡ self.old) }
     {
         let first = first_of(self.row.len() - self.skipped, self.first, day);
@@ -200,24 +200,24 @@ fn count_told(count: RunCount, day: i64, told: u32) -> RunCount
     requires near { IsCountedDay day }
     requires last_near { IsCountedDay count.last }
     requires few { count.runs < 18_446_744_073_709_551_615 }
-    ensures counted { (days : List NumberedDay) → IsCountOf days count → IsCountOf (days ++ days_of day (told ∷ [])) result }
+    ensures counted { CountsMore count (days_of day (told ∷ [])) result }
     ensures last { result.runs ≢ 0 → result.last ≤ℤ day }
     ensures near { IsCountedDay result.last }
     ensures few { result.runs ≤ count.runs + 1 }
 {
     match number_of(told) {
         None => count,
-        Some(number) => counted(count, day, number),
+        Some(number) => count_day(count, day, number),
     }
 }
 
 // The runs and the last item, after a day with a number.
-fn counted(count: RunCount, day: i64, number: u32) -> RunCount
+fn count_day(count: RunCount, day: i64, number: u32) -> RunCount
     requires some { count.runs ≢ 0 → count.last <ℤ day }
     requires near { IsCountedDay day }
     requires last_near { IsCountedDay count.last }
     requires few { count.runs < 18_446_744_073_709_551_615 }
-    ensures counted { (days : List NumberedDay) → IsCountOf days count → IsCountOf (days ++ record { day = day; number = number } ∷ []) result }
+    ensures counted { CountsMore count (record { day = day; number = number } ∷ []) result }
     ensures last { result.last ≡ day }
     ensures few { result.runs ≤ count.runs + 1 }
 {
@@ -254,8 +254,8 @@ fn change(gap: u64, number: u32, count: RunCount) -> usize
 fn put_at(row: &mut Pages, skipped: usize, place: usize, number: u32) -> Result<(), NoMemory>
     requires within { skipped ≤ length row.old }
     requires near { place ≤ 6_000_000_000_000 }
-    ensures ok { OnOk result ((day : ℤ) → days_of day (drop skipped row.new) ≡ days_of day (drop skipped row.old) ++ record { day = day +ℤ pos place; number = number } ∷ []) }
-    ensures err { OnErr result ((day : ℤ) → days_of day (drop skipped row.new) ≡ days_of day (drop skipped row.old)) }
+    ensures ok { OnOk result (PutsDayAt row.old row.new skipped place number) }
+    ensures err { OnErr result (SameDays row.old row.new skipped) }
     ensures within { skipped ≤ length row.new }
 {
     let end = row.len();
@@ -271,7 +271,7 @@ fn put_at(row: &mut Pages, skipped: usize, place: usize, number: u32) -> Result<
 fn fill(row: &mut Pages, skipped: usize, place: usize) -> Result<(), NoMemory>
     requires within { skipped ≤ length row.old }
     requires order { length row.old ≤ place }
-    ensures same { (day : ℤ) → days_of day (drop skipped row.new) ≡ days_of day (drop skipped row.old) }
+    ensures same { SameDays row.old row.new skipped }
     ensures more { length row.old ≤ length row.new }
     ensures whole { OnOk result (length row.new ≡ place) }
 {

@@ -264,14 +264,3 @@ pub unit_begins : (rule : Rule) (kind : Kind) (unit made at day : ℤ) → is_wh
 unit_begins rule kind unit made at day fine is same moments of_day =
     let there = same ∙ is ∙ fine_start rule.freq rule.week_start unit fine in
     (there, of_day ∙ ap (λ k. day_part k at) moments ∙ ap (day_part Moments) there)
-
--- the second of its day at which it begins, and how many times of the day come before it and before the next unit
-pub unit_counts : (rule : Rule) (kind : Kind) (start unit at : ℤ) (second seconds before end : ℕ) → kind ≡ Moments
-    → at ≡ unit_start rule.freq rule.week_start Moments unit → second ≡ second_part Moments at → seconds ≡ unit_seconds rule.freq
-    → before ≡ times_before rule kind start second → end ≡ times_before rule kind start (second + seconds)
-    → (second ≡ second_part Moments (unit_start rule.freq rule.week_start Moments unit))
-    × (before ≡ times_before rule Moments start (second_part Moments (unit_start rule.freq rule.week_start Moments unit)))
-    × (end ≡ times_before rule Moments start (second_part Moments (unit_start rule.freq rule.week_start Moments unit) + unit_seconds rule.freq))
-unit_counts rule kind start unit at second seconds before end moments there own long counted all =
-    let s = own ∙ ap (second_part Moments) there in
-    (s, rw (moments, s) at counted, rw (moments, s, long) at all)

@@ -8,7 +8,8 @@ use Rattle.rr_model.specs.Rule.DaysAndTimes.{time_holds}
 use Rattle.rr_model.proofs.DaysAndTimesLemmas.{time_parts_hold-at}
 use Rattle.rr_model.specs.Sets.Counting.{count_seconds}
 use Rattle.rr_model.proofs.CountLemmas.{count_seconds-zero}
-use Rattle.rr_setpos.specs.Ranks.{number_allowed, hour_second_allowed, day_second_allowed}
+use Rattle.rr_parts.specs.Numbers.{number_allowed}
+use Rattle.rr_setpos.specs.Ranks.{hour_second_allowed, day_second_allowed}
 use Rattle.rr_setpos.proofs.PositionLemmas.{some_zero}
 use Rattle.rr_setpos.proofs.TimeCountLemmas.{hour_turns, day_turns}
 

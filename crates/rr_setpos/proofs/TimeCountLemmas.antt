@@ -7,7 +7,8 @@ use Rattle.rr_model.specs.Rule.DaysAndTimes.{time_holds}
 use Rattle.rr_model.proofs.DaysAndTimesLemmas.{time_parts_hold-at}
 use Rattle.rr_model.specs.Sets.Counting.{count_seconds}
 use Rattle.rr_model.proofs.CountLemmas.{count_seconds-zero, count_seconds-suc, count_seconds-same}
-use Rattle.rr_setpos.specs.Ranks.{times_before, number_allowed, hour_second_allowed, day_second_allowed}
+use Rattle.rr_parts.specs.Numbers.{number_allowed}
+use Rattle.rr_setpos.specs.Ranks.{times_before, hour_second_allowed, day_second_allowed}
 use Rattle.rr_setpos.proofs.ProductLemmas.{count_turns}
 
 -- where all pass

@@ -43,7 +43,8 @@ pub(crate) fn is_candidate(rule: &Rule, start: &Moment, moment: &Moment) -> bool
 
 // Whether each date part of the rule, filled from its start, holds of the day.
 fn dates_hold(rule: &Rule, start: &Moment, day: &Day) -> bool
-    ensures { result ≡ date_parts_hold (filled rule.now start.now.kind start.now.at) day.now.number }
+    ensures { result
+        ≡ date_parts_hold (filled rule.now start.now.kind start.now.at) day.now.number }
 {
     date_parts_hold(rule, &start.day, day)
 }

@@ -63,7 +63,8 @@ fn first_of_unit(rule: &Rule, day: &Day) -> i64
 fn length_of_unit(rule: &Rule, day: &Day) -> u16
     requires freq { IsTrue (is_whole_days rule.now.freq) }
     requires near { IsDayWithin 0 day.now.number }
-    ensures next { next_of_unit rule.now day.now.number ≡ first_of_unit rule.now day.now.number +ℤ pos result }
+    ensures next { next_of_unit rule.now day.now.number
+        ≡ first_of_unit rule.now day.now.number +ℤ pos result }
     ensures few { result ≤ 366 }
     ensures near { IsDayWithin 1000 (first_of_unit rule.now day.now.number +ℤ pos result) }
 {

@@ -6,6 +6,7 @@ ghost use Rattle.rr_model.specs.Moment.Units.{is_whole_days, unit_start};
 ghost use Rattle.rr_model.specs.Moment.Years.{IsInYears};
 ghost use Rattle.rr_model.specs.Rule.Validity.{IsValidRule};
 ghost use Rattle.rr_model.specs.declared.kind.Kind.TheVariants.{Days, Moments};
+ghost use Rattle.rr_parts.specs.Units.{start_of_unit};
 ghost use Rattle.rr_setpos.specs.Nth.{IsNthOfUnit, IsRankOf};
 
 use crate::day_counts::days_among;
@@ -24,8 +25,8 @@ use rr_parts::{Moment, date_parts_hold, fits, seconds_of_unit, unit_number};
 pub fn nth_of_unit(rule: &Rule, kind: Kind, start: i64, unit: i64, place: i64) -> Option<i64>
     requires rule { IsValidRule kind rule.now }
     requires start { IsInYears kind start }
-    requires first { IsDayWithin 1000 (day_part kind (unit_start rule.now.freq rule.now.week_start kind unit)) }
-    requires next { IsDayWithin 1000 (day_part kind (unit_start rule.now.freq rule.now.week_start kind (unit +ℤ pos 1))) }
+    requires first { IsDayWithin 1000 (day_part kind (start_of_unit rule.now kind unit)) }
+    requires next { IsDayWithin 1000 (day_part kind (start_of_unit rule.now kind (unit +ℤ pos 1))) }
     requires place { place ≡ pos 0 → ⊥ }
     ensures { IsNthOfUnit rule.now kind start unit place result }
 {
@@ -41,8 +42,8 @@ pub fn nth_of_unit(rule: &Rule, kind: Kind, start: i64, unit: i64, place: i64) -
 fn nth_of_days(rule: &Rule, start: &Moment, unit: i64, place: i64) -> Option<i64>
     requires freq { IsTrue (is_whole_days rule.now.freq) }
     requires interval { 1 ≤ rule.now.interval }
-    requires first { IsDayWithin 1000 (unit_start rule.now.freq rule.now.week_start Days unit) }
-    requires next { IsDayWithin 1000 (unit_start rule.now.freq rule.now.week_start Days (unit +ℤ pos 1)) }
+    requires first { IsDayWithin 1000 (start_of_unit rule.now Days unit) }
+    requires next { IsDayWithin 1000 (start_of_unit rule.now Days (unit +ℤ pos 1)) }
     requires place { place ≡ pos 0 → ⊥ }
     ensures { IsNthOfUnit rule.now start.now.kind start.now.at unit place result }
 {
@@ -67,7 +68,7 @@ fn nth_of_seconds(rule: &Rule, start: &Moment, unit: i64, place: i64) -> Option<
     requires kind { start.now.kind ≡ Moments }
     requires freq { is_whole_days rule.now.freq ≡ false }
     requires interval { 1 ≤ rule.now.interval }
-    requires near { IsDayWithin 1000 (day_part Moments (unit_start rule.now.freq rule.now.week_start Moments unit)) }
+    requires near { IsDayWithin 1000 (day_part Moments (start_of_unit rule.now Moments unit)) }
     requires place { place ≡ pos 0 → ⊥ }
     ensures { IsNthOfUnit rule.now Moments start.now.at unit place result }
 {

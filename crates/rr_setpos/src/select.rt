@@ -6,7 +6,8 @@ ghost use Rattle.rr_model.specs.Rule.DaysAndTimes.{seconds_of, time_holds};
 ghost use Rattle.rr_model.specs.Rule.Filled.{filled};
 ghost use Rattle.rr_model.specs.Sets.Counting.{count_seconds};
 ghost use Rattle.rr_model.specs.declared.kind.Kind.TheVariants.{Days};
-ghost use Rattle.rr_setpos.specs.Ranks.{day_second_allowed, days_among, hour_second_allowed, number_allowed, times_before};
+ghost use Rattle.rr_parts.specs.Numbers.{number_allowed};
+ghost use Rattle.rr_setpos.specs.Ranks.{before_in_day, before_in_hour, day_second_allowed, days_among, hour_second_allowed, times_before, times_per_day};
 
 use crate::time_counts::{before_in_hour, before_in_minute};
 use rr_cal::Day;
@@ -17,7 +18,7 @@ use rr_parts::{
 
 // The second of a day of this rank among those that the time parts allow.
 pub(crate) fn nth_time(rule: &Rule, start: &Moment, rank: u32) -> u32
-    requires { rank < times_before rule.now start.now.kind start.now.at (seconds_of start.now.kind) }
+    requires { rank < times_per_day rule.now start.now.kind start.now.at }
     ensures within { result < seconds_of start.now.kind }
     ensures holds { time_holds rule.now start.now.kind start.now.at result ≡ true }
     ensures rank { times_before rule.now start.now.kind start.now.at result ≡ rank }
@@ -30,10 +31,10 @@ pub(crate) fn nth_time(rule: &Rule, start: &Moment, rank: u32) -> u32
 
 // The same in kind `Moments`, where the start's own time fills the parts.
 fn nth_in_day(rule: &Rule, own: Time, rank: u32) -> u32
-    requires { rank < count_seconds (λ s. day_second_allowed rule.now own.hour own.minute own.second s) 86_400 }
+    requires { rank < before_in_day rule.now own 86_400 }
     ensures within { result < 86_400 }
     ensures holds { day_second_allowed rule.now own.hour own.minute own.second result ≡ true }
-    ensures rank { count_seconds (λ s. day_second_allowed rule.now own.hour own.minute own.second s) result ≡ rank }
+    ensures rank { before_in_day rule.now own result ≡ rank }
 {
     let each = before_in_hour(rule, own, 3_600);
     let hour = nth_allowed(
@@ -48,10 +49,10 @@ fn nth_in_day(rule: &Rule, own: Time, rank: u32) -> u32
 
 // The second of an hour of this rank among those whose minute and second are allowed.
 fn nth_in_hour(rule: &Rule, own: Time, rank: u32) -> u32
-    requires { rank < count_seconds (λ s. hour_second_allowed rule.now own.minute own.second s) 3_600 }
+    requires { rank < before_in_hour rule.now own 3_600 }
     ensures within { result < 3_600 }
     ensures holds { hour_second_allowed rule.now own.minute own.second result ≡ true }
-    ensures rank { count_seconds (λ s. hour_second_allowed rule.now own.minute own.second s) result ≡ rank }
+    ensures rank { before_in_hour rule.now own result ≡ rank }
 {
     let each = before_in_minute(rule, own, 60);
     let minute = nth_allowed(
@@ -96,7 +97,8 @@ pub(crate) fn nth_day(rule: &Rule, start: &Day, first: i64, count: u16, rank: u3
     requires last { IsDayWithin 1000 (first +ℤ pos count) }
     requires rank { rank < days_among rule.now start.now.number first count }
     ensures within { result < count }
-    ensures holds { date_parts_hold (filled rule.now Days start.now.number) (first +ℤ pos result) ≡ true }
+    ensures holds { date_parts_hold (filled rule.now Days start.now.number) (first +ℤ pos result)
+        ≡ true }
     ensures rank { days_among rule.now start.now.number first result ≡ rank }
 {
     let mut left = rank;

@@ -1,12 +1,10 @@
 // The place of a candidate among those of its unit, and what BYSETPOS lists (RFC 5545, section 3.3.10, BYSETPOS).
-ghost use Rattle.std.specs.Prelude.{◌≡◌, ◌≤◌, ◌+◌, ◌-◌, ◌*◌, IsTrue, false};
+ghost use Rattle.std.specs.Prelude.{◌≡◌, IsTrue, false};
 ghost use Rattle.rr_model.specs.Calendar.{IsDayWithin};
-ghost use Rattle.rr_model.specs.Moment.{second_part};
 ghost use Rattle.rr_model.specs.Moment.Units.{is_whole_days, unit_seconds};
-ghost use Rattle.rr_model.specs.Rule.DaysAndTimes.{seconds_of};
 ghost use Rattle.rr_model.specs.Rule.Validity.{takes_start};
 ghost use Rattle.rr_model.specs.declared.kind.Kind.TheVariants.{Moments};
-ghost use Rattle.rr_setpos.specs.Ranks.{begin_in_day, days_before, days_of_unit, is_rank_listed, rank_by_parts, size_by_parts, times_before};
+ghost use Rattle.rr_setpos.specs.Ranks.{rank_by_parts, rank_over_days, rank_within_day, set_positions_hold, size_by_parts, size_over_days, size_within_day};
 
 use crate::day_counts::{days_before, days_of_unit};
 use crate::time_counts::{seconds_of, times_before};
@@ -25,7 +23,7 @@ pub(crate) fn set_positions_hold(rule: &Rule, start: &Moment, moment: &Moment) -
     requires kind { start.now.kind ≡ moment.now.kind }
     requires start { IsTrue (takes_start rule.now.freq moment.now.kind) }
     requires near { IsDayWithin 0 moment.now.day.number }
-    ensures { result ≡ is_rank_listed rule.now (rank_by_parts rule.now start.now.kind start.now.at moment.now.at) (size_by_parts rule.now start.now.kind start.now.at moment.now.at) }
+    ensures { result ≡ set_positions_hold rule.now start.now.kind start.now.at moment.now.at }
 {
     if rule.by_set_pos.is_empty() {
         return true;
@@ -43,8 +41,10 @@ fn rank_in_unit(rule: &Rule, start: &Moment, moment: &Moment) -> Standing
     requires kind { start.now.kind ≡ moment.now.kind }
     requires start { IsTrue (takes_start rule.now.freq moment.now.kind) }
     requires near { IsDayWithin 0 moment.now.day.number }
-    ensures rank { result.rank ≡ rank_by_parts rule.now start.now.kind start.now.at moment.now.at }
-    ensures size { result.size ≡ size_by_parts rule.now start.now.kind start.now.at moment.now.at }
+    ensures rank { result.rank
+        ≡ rank_by_parts rule.now start.now.kind start.now.at moment.now.at }
+    ensures size { result.size
+        ≡ size_by_parts rule.now start.now.kind start.now.at moment.now.at }
 {
     match rule.freq {
         Freq::Secondly => rank_in_day(rule, start, moment, 1),
@@ -61,8 +61,8 @@ fn rank_by_days(rule: &Rule, start: &Moment, moment: &Moment) -> Standing
     requires kind { start.now.kind ≡ moment.now.kind }
     requires freq { IsTrue (is_whole_days rule.now.freq) }
     requires near { IsDayWithin 0 moment.now.day.number }
-    ensures rank { result.rank ≡ days_before rule.now start.now.day.number moment.now.day.number * times_before rule.now start.now.kind start.now.at (seconds_of start.now.kind) + times_before rule.now start.now.kind start.now.at (second_part moment.now.kind moment.now.at) }
-    ensures size { result.size ≡ days_of_unit rule.now start.now.day.number moment.now.day.number * times_before rule.now start.now.kind start.now.at (seconds_of start.now.kind) }
+    ensures rank { result.rank ≡ rank_over_days rule.now start.now moment.now }
+    ensures size { result.size ≡ size_over_days rule.now start.now moment.now }
 {
     let before = days_before(rule, &start.day, &moment.day);
     let days = days_of_unit(rule, &start.day, &moment.day);
@@ -80,8 +80,8 @@ fn rank_in_day(rule: &Rule, start: &Moment, moment: &Moment, seconds: u32) -> St
     requires moments { moment.now.kind ≡ Moments }
     requires freq { is_whole_days rule.now.freq ≡ false }
     requires seconds { seconds ≡ unit_seconds rule.now.freq }
-    ensures rank { result.rank ≡ times_before rule.now start.now.kind start.now.at (second_part moment.now.kind moment.now.at) - times_before rule.now start.now.kind start.now.at (begin_in_day rule.now (second_part moment.now.kind moment.now.at)) }
-    ensures size { result.size ≡ times_before rule.now start.now.kind start.now.at (begin_in_day rule.now (second_part moment.now.kind moment.now.at) + unit_seconds rule.now.freq) - times_before rule.now start.now.kind start.now.at (begin_in_day rule.now (second_part moment.now.kind moment.now.at)) }
+    ensures rank { result.rank ≡ rank_within_day rule.now start.now moment.now }
+    ensures size { result.size ≡ size_within_day rule.now start.now moment.now }
 {
     let second = second_part(moment.kind, moment.at);
     let begin = second / seconds * seconds;

@@ -2,9 +2,9 @@
 // is visited.
 ghost use Rattle.std.specs.Prelude.{◌≡◌, ◌≤◌, if◌then◌else◌};
 ghost use Rattle.rr_model.specs.Rule.DaysAndTimes.{seconds_of};
-ghost use Rattle.rr_model.specs.Rule.Filled.{wants_second};
 ghost use Rattle.rr_model.specs.Sets.Counting.{count_seconds};
-ghost use Rattle.rr_setpos.specs.Ranks.{day_second_allowed, hour_second_allowed, number_allowed, times_before};
+ghost use Rattle.rr_parts.specs.Numbers.{number_allowed};
+ghost use Rattle.rr_setpos.specs.Ranks.{before_in_day, before_in_hour, before_in_minute, times_before};
 
 use rr_model::{Kind, Numbers, Rule};
 use rr_parts::{Moment, Time, allows_filled, time_of, wants_hour, wants_minute, wants_second};
@@ -34,7 +34,7 @@ pub(crate) fn times_before(rule: &Rule, start: &Moment, second: u32) -> u32
 // The same in kind `Moments`, where the start's own time fills the parts.
 fn before_in_day(rule: &Rule, own: Time, second: u32) -> u32
     requires { second ≤ 86_400 }
-    ensures value { result ≡ count_seconds (λ s. day_second_allowed rule.now own.hour own.minute own.second s) second }
+    ensures value { result ≡ before_in_day rule.now own second }
     ensures few { result ≤ second }
 {
     let hour = (second / 3_600) as u8;
@@ -49,7 +49,7 @@ fn before_in_day(rule: &Rule, own: Time, second: u32) -> u32
 // How many seconds of an hour before this one have a minute and a second that are allowed.
 pub(crate) fn before_in_hour(rule: &Rule, own: Time, second: u32) -> u32
     requires { second ≤ 3_600 }
-    ensures value { result ≡ count_seconds (λ s. hour_second_allowed rule.now own.minute own.second s) second }
+    ensures value { result ≡ before_in_hour rule.now own second }
     ensures few { result ≤ second }
 {
     let minute = (second / 60) as u8;
@@ -63,7 +63,7 @@ pub(crate) fn before_in_hour(rule: &Rule, own: Time, second: u32) -> u32
 
 // How many seconds of a minute before this one are allowed.
 pub(crate) fn before_in_minute(rule: &Rule, own: Time, second: u8) -> u32
-    ensures value { result ≡ count_seconds (λ s. number_allowed (wants_second rule.now.freq) rule.now.by_second own.second s) second }
+    ensures value { result ≡ before_in_minute rule.now own second }
     ensures few { result ≤ second }
 {
     count_allowed(&rule.by_second, wants_second(rule.freq), own.second, second)

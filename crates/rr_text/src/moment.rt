@@ -26,7 +26,7 @@ fn is_digits(text: &[u8], count: usize) -> bool
     text.len() == count && all_digits(text)
 }
 
-// The number that a few digits write, from a place on.
+// The number that a few digits write, from an index on.
 fn number_at(digits: &[u8], start: usize, count: usize) -> u16
     requires few { count ≤ 4 }
     requires within { start + count ≤ length digits.now }

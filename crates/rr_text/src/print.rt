@@ -7,6 +7,7 @@ ghost use Rattle.rr_model.specs.Moment.Years.{HasFourDigitYear, IsFromYearOne, I
 ghost use Rattle.rr_model.specs.Text.Moments.{padded, extended_date, extended_date_text, extended_time_text, extended_text};
 ghost use Rattle.rr_model.specs.Text.Written.{basic_date_text, basic_time_text, basic_text};
 ghost use Rattle.rr_model.specs.declared.kind.Kind.TheVariants.{Moments};
+ghost use Rattle.rr_text.specs.Appending.{Appends};
 
 use itoa::Buffer;
 use rr_cal::date_of;
@@ -14,7 +15,7 @@ use rr_model::{Kind, NoMemory, day_part, second_part};
 
 /// Appends the number in decimal digits, with `-` before them where it is below 0.
 pub fn push_number(out: &mut Vec<u8>, value: i64) -> Result<(), NoMemory>
-    ensures ok { OnOk result (out.new.items ≡ out.old.items ++ signed_decimal value) }
+    ensures ok { OnOk result (Appends out.old out.new (signed_decimal value)) }
     ensures err { OnErr result (out.new.items ≡ out.old.items) }
 {
     let mut buffer = Buffer::new();
@@ -24,7 +25,7 @@ pub fn push_number(out: &mut Vec<u8>, value: i64) -> Result<(), NoMemory>
 
 /// Appends the number in decimal digits.
 pub fn push_unsigned(out: &mut Vec<u8>, value: u64) -> Result<(), NoMemory>
-    ensures ok { OnOk result (out.new.items ≡ out.old.items ++ decimal value) }
+    ensures ok { OnOk result (Appends out.old out.new (decimal value)) }
     ensures err { OnErr result (out.new.items ≡ out.old.items) }
 {
     if value < 10 {
@@ -110,7 +111,8 @@ fn extended_bytes(date: DateParts) -> [u8; 10]
 fn push_long_date(out: &mut Vec<u8>, date: DateParts) -> Result<(), NoMemory>
     requires year { 10_000 ≤ date.year }
     requires two { (date.month < 100) × (date.day < 100) }
-    ensures ok { OnOk result (out.new.items ≡ out.old.items ++ extended_date date.year date.month date.day) }
+    ensures ok { OnOk result
+        (Appends out.old out.new (extended_date date.year date.month date.day)) }
     ensures err { OnErr result (out.new.items ≡ out.old.items) }
 {
     let before = out.len();
@@ -134,7 +136,7 @@ fn push_long_date(out: &mut Vec<u8>, date: DateParts) -> Result<(), NoMemory>
 pub fn push_extended_date(out: &mut Vec<u8>, day: i64) -> Result<(), NoMemory>
     requires from { IsFromYearOne day }
     requires near { IsDayWithin 0 day }
-    ensures ok { OnOk result (out.new.items ≡ out.old.items ++ extended_date_text day) }
+    ensures ok { OnOk result (Appends out.old out.new (extended_date_text day)) }
     ensures err { OnErr result (out.new.items ≡ out.old.items) }
 {
     let date = date_parts(day);
@@ -149,7 +151,7 @@ pub fn push_extended_date(out: &mut Vec<u8>, day: i64) -> Result<(), NoMemory>
 #[tactic(auto, using(crate::proofs::PrintLemmas::padded_two), unfolding(rr_model::specs::Text::Moments::extended_time_text))]
 pub fn push_extended_time(out: &mut Vec<u8>, second: u32) -> Result<(), NoMemory>
     requires { second < 86_400 }
-    ensures ok { OnOk result (out.new.items ≡ out.old.items ++ (codes "T" ++ extended_time_text second)) }
+    ensures ok { OnOk result (Appends out.old out.new (codes "T" ++ extended_time_text second)) }
     ensures err { OnErr result (out.new.items ≡ out.old.items) }
 {
     let hour = (second / 3_600) as u8;
@@ -175,7 +177,7 @@ pub fn push_extended_time(out: &mut Vec<u8>, second: u32) -> Result<(), NoMemory
 fn push_moment(out: &mut Vec<u8>, at: i64) -> Result<(), NoMemory>
     requires from { IsFromYearOne (day_part Moments at) }
     requires near { IsDayWithin 0 (day_part Moments at) }
-    ensures ok { OnOk result (out.new.items ≡ out.old.items ++ extended_text Moments at) }
+    ensures ok { OnOk result (Appends out.old out.new (extended_text Moments at)) }
     ensures err { OnErr result (out.new.items ≡ out.old.items) }
 {
     let before = out.len();
@@ -197,7 +199,7 @@ fn push_moment(out: &mut Vec<u8>, at: i64) -> Result<(), NoMemory>
 pub fn push_extended(out: &mut Vec<u8>, kind: Kind, at: i64) -> Result<(), NoMemory>
     requires from { IsFromYearOne (day_part kind at) }
     requires near { IsDayWithin 0 (day_part kind at) }
-    ensures ok { OnOk result (out.new.items ≡ out.old.items ++ extended_text kind at) }
+    ensures ok { OnOk result (Appends out.old out.new (extended_text kind at)) }
     ensures err { OnErr result (out.new.items ≡ out.old.items) }
 {
     match kind {
@@ -230,7 +232,7 @@ fn basic_bytes(date: DateParts) -> [u8; 8]
 
 fn push_basic_date(out: &mut Vec<u8>, day: i64) -> Result<(), NoMemory>
     requires { HasFourDigitYear day }
-    ensures ok { OnOk result (out.new.items ≡ out.old.items ++ basic_date_text day) }
+    ensures ok { OnOk result (Appends out.old out.new (basic_date_text day)) }
     ensures err { OnErr result (out.new.items ≡ out.old.items) }
 {
     out.extend_from_slice(&basic_bytes(date_parts(day)))?;
@@ -240,7 +242,7 @@ fn push_basic_date(out: &mut Vec<u8>, day: i64) -> Result<(), NoMemory>
 #[tactic(auto, using(crate::proofs::PrintLemmas::padded_two), unfolding(rr_model::specs::Text::Written::basic_time_text))]
 fn push_basic_time(out: &mut Vec<u8>, second: u32) -> Result<(), NoMemory>
     requires { second < 86_400 }
-    ensures ok { OnOk result (out.new.items ≡ out.old.items ++ (codes "T" ++ basic_time_text second)) }
+    ensures ok { OnOk result (Appends out.old out.new (codes "T" ++ basic_time_text second)) }
     ensures err { OnErr result (out.new.items ≡ out.old.items) }
 {
     let hour = (second / 3_600) as u8;
@@ -262,7 +264,7 @@ fn push_basic_time(out: &mut Vec<u8>, second: u32) -> Result<(), NoMemory>
 #[tactic(auto, unfolding(rr_model::specs::Text::Written::basic_text))]
 fn push_basic_moment(out: &mut Vec<u8>, at: i64) -> Result<(), NoMemory>
     requires { IsInYears Moments at }
-    ensures ok { OnOk result (out.new.items ≡ out.old.items ++ basic_text Moments at) }
+    ensures ok { OnOk result (Appends out.old out.new (basic_text Moments at)) }
     ensures err { OnErr result (out.new.items ≡ out.old.items) }
 {
     let before = out.len();
@@ -282,7 +284,7 @@ fn push_basic_moment(out: &mut Vec<u8>, at: i64) -> Result<(), NoMemory>
 #[tactic(auto, unfolding(rr_model::specs::Text::Written::basic_text))]
 pub fn push_basic(out: &mut Vec<u8>, kind: Kind, at: i64) -> Result<(), NoMemory>
     requires { IsInYears kind at }
-    ensures ok { OnOk result (out.new.items ≡ out.old.items ++ basic_text kind at) }
+    ensures ok { OnOk result (Appends out.old out.new (basic_text kind at)) }
     ensures err { OnErr result (out.new.items ≡ out.old.items) }
 {
     match kind {

@@ -43,7 +43,9 @@ fn take_in(
     last: &mut Line,
     text: &[u8],
 ) -> Result<(), NoMemory>
-    ensures { OnOk result (done.new ++ last.new ∷ [] ≡ with_physical_line keep_blank number (done.old ++ last.old ∷ []) text.now) }
+    ensures { OnOk result
+        (done.new ++ last.new ∷ []
+        ≡ with_physical_line keep_blank number (done.old ++ last.old ∷ []) text.now) }
 {
     if begins_blank(text) {
         last.text.append(continuation(keep_blank, text))
@@ -65,7 +67,8 @@ pub fn lines_from(
     first: u64,
 ) -> Result<LineList, NoMemory>
     requires { first + length bytes.now < 2 ^ 64 }
-    ensures { IfOk result (λ lines. lines ≡ with_physical_lines keep_blank first [] (physical_lines bytes.now)) }
+    ensures { IfOk result
+        (λ lines. lines ≡ with_physical_lines keep_blank first [] (physical_lines bytes.now)) }
 {
     let mut done = LineList::new(alloc);
     let Some((text, after)) = take_line(bytes) else {

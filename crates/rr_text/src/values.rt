@@ -9,8 +9,8 @@ use crate::moment::basic;
 use rr_model::{NoMemory, Refusal, Stamp};
 use std::alloc::Global;
 
-// The place of the first such byte.
-fn place_of(text: &[u8], byte: u8) -> Option<usize>
+// The index of the first such byte.
+fn index_of(text: &[u8], byte: u8) -> Option<usize>
     ensures { result ≡ position (λ b. b == byte) text.now }
 {
     text.iter().position(|b| *b == byte)
@@ -18,10 +18,11 @@ fn place_of(text: &[u8], byte: u8) -> Option<usize>
 
 /// What stands before the first such byte, and what after it.
 pub fn split_once(text: &[u8], byte: u8) -> Option<(&[u8], &[u8])>
-    ensures { option_map (λ sides. (sides.0.now, sides.1.now)) result ≡ split_once byte text.now }
+    ensures { option_map (λ sides. (sides.0.now, sides.1.now)) result
+        ≡ split_once byte text.now }
 {
-    let place = place_of(text, byte)?;
-    Some((&text[..place], &text[place + 1..]))
+    let index = index_of(text, byte)?;
+    Some((&text[..index], &text[index + 1..]))
 }
 
 /// The value of a line: in capitals, without the blanks and tabs around it.

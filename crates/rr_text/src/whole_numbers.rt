@@ -1,8 +1,9 @@
 // Numbers of digits alone.
-ghost use Rattle.std.specs.Prelude.{◌≡◌, ◌↔◌, ◌<◌, ◌≤◌, IsTrue, IfOk, IfSome, length, min};
+ghost use Rattle.std.specs.Prelude.{◌≡◌, ◌↔◌, ◌≤◌, IsTrue, IfOk, IfSome, length};
 ghost use Rattle.std.specs.Option.{is_some};
 ghost use Rattle.rr_model.specs.Text.Digits.{digits_value, leading_digits};
 ghost use Rattle.rr_model.specs.Text.RuleValues.{is_number, up_to, number_up_to};
+ghost use Rattle.rr_text.specs.Numbers.{ExceedsU64, saturated_u64};
 
 use crate::digits::{Digits, number};
 use crate::moment::all_digits;
@@ -26,8 +27,8 @@ fn is_whole(text: &[u8], run: usize) -> bool
 /// The number that a text of one or more digits writes, at most `u64::MAX`; no other text writes one.
 pub fn whole_number(text: &[u8]) -> Option<Digits>
     ensures form { is_some result ≡ is_number text.now }
-    ensures value { IfSome result (λ n. n.value ≡ min (digits_value text.now) 18446744073709551615) }
-    ensures over { IfSome result (λ n. IsTrue n.over ↔ (18446744073709551615 < digits_value text.now)) }
+    ensures value { IfSome result (λ n. n.value ≡ saturated_u64 (digits_value text.now)) }
+    ensures over { IfSome result (λ n. IsTrue n.over ↔ ExceedsU64 (digits_value text.now)) }
 {
     let digits = number(text, 0);
     if is_whole(text, digits.next) {

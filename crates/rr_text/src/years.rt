@@ -12,7 +12,8 @@ fn is_in_years(at: i64) -> bool
 
 /// The second number that is later by an offset in seconds, where it lies in the years 1 to 9999.
 pub fn later_in_years(at: i64, offset: i32) -> Option<i64>
-    ensures value { result ≡ (if is_in_years Moments (at +ℤ offset) then Some (at +ℤ offset) else None) }
+    ensures value { result
+        ≡ (if is_in_years Moments (at +ℤ offset) then Some (at +ℤ offset) else None) }
     ensures years { IfSome result (IsInYears Moments) }
 {
     let later = at.checked_add(i64::from(offset))?;

@@ -1,2 +1,3 @@
-pub mod Split
+pub mod Combined
 pub mod Items
+pub mod Split

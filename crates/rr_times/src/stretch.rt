@@ -1,8 +1,8 @@
 // The items in which a canonical text of version 2 writes a time set: single seconds, and rows of equal steps.
 ghost use Rattle.std.specs.Prelude.{◌≡◌, ◌<◌, ◌≤◌, ◌+◌, length, get_or, drop};
 ghost use Rattle.rr_model.specs.Rising.Sets.{IsSecondsOfDay};
-ghost use Rattle.rr_model.specs.Sets.Stretches.{first_stretch, row_after};
-ghost use Rattle.rr_times.specs.Items.{stretch_of};
+ghost use Rattle.rr_model.specs.Sets.Stretches.{row_after};
+ghost use Rattle.rr_times.specs.Items.{item_at, stretch_of};
 
 /// Seconds of a day in a row, each a step above the one before it.
 #[derive(Clone, Copy, Debug, PartialEq, Eq)]
@@ -15,7 +15,7 @@ pub struct Stretch {
     pub count: u32,
 }
 
-// The place after the row of seconds, each a step above the one before it, that begins at a place.
+// The index after the row of seconds, each a step above the one before it, that begins at an index.
 fn row_end(seconds: &[u32], from: usize, step: u32) -> usize
     requires of_day { IsSecondsOfDay seconds.now }
     requires within { from < length seconds.now }
@@ -43,11 +43,11 @@ fn single(start: u32) -> Stretch
     }
 }
 
-// The item that begins at this place of a time set.
+// The item that begins at this index of a time set.
 pub(crate) fn first_stretch(seconds: &[u32], from: usize) -> Stretch
     requires of_day { IsSecondsOfDay seconds.now }
     requires within { from < length seconds.now }
-    ensures item { stretch_of result ≡ first_stretch (get_or seconds.now from 0) (drop (from + 1) seconds.now) }
+    ensures item { stretch_of result ≡ item_at seconds.now from }
     ensures some { 1 ≤ result.count }
     ensures few { from + result.count ≤ length seconds.now }
 {

@@ -1,5 +1,5 @@
 // A set of seconds of a day, and the operations on such sets.
-ghost use Rattle.std.specs.Prelude.{◌≡◌, ◌≢◌, ◌⊎◌, ◌<◌, ◌≤◌, ◌+◌, Contains, IfOk, count_by, drop, get_or, length, nat_eq, nat_lt, slice_get};
+ghost use Rattle.std.specs.Prelude.{◌≡◌, ◌≢◌, ◌<◌, ◌≤◌, ◌+◌, Contains, IfOk, count_by, length, nat_eq, nat_lt, slice_get};
 ghost use Rattle.std.proofs.Common.{rules};
 ghost use Rattle.std.specs.Cmp.Lexicographic.{pointwise};
 ghost use Rattle.std.proofs.lemmas.Cmp.{nat_list_eq_equiv};
@@ -7,8 +7,8 @@ ghost use Rattle.std.specs.Cmp.{partial_equiv_from_equiv};
 ghost use Rattle.std.specs.Cmp.Rules.{hashing};
 ghost use Rattle.std.specs.Hash as fed;
 ghost use Rattle.rr_model.specs.Rising.Sets.{IsSetOf, IsSecondsOfDay};
-ghost use Rattle.rr_model.specs.Sets.Stretches.{first_stretch};
-ghost use Rattle.rr_times.specs.Items.{stretch_of};
+ghost use Rattle.rr_times.specs.Combined.{IsDifferenceOf, IsUnionOf};
+ghost use Rattle.rr_times.specs.Items.{item_at, stretch_of};
 
 use crate::merge::{difference_of, union_of};
 use crate::rank::count_below;
@@ -51,7 +51,7 @@ impl TimeSet {
 
     /// The seconds of either set.
     pub fn union(alloc: Global, a: &TimeSet, b: &TimeSet) -> Result<TimeSet, NoMemory>
-        ensures { IfOk result (λ t. IsSetOf nat_lt t (λ s. Contains a.now s ⊎ Contains b.now s)) }
+        ensures { IfOk result (λ t. IsUnionOf a.now b.now t) }
     {
         Ok(TimeSet {
             seconds: union_of(alloc, a.as_slice(), b.as_slice())?,
@@ -60,7 +60,7 @@ impl TimeSet {
 
     /// The seconds of `a` that `b` lacks.
     pub fn without(alloc: Global, a: &TimeSet, b: &TimeSet) -> Result<TimeSet, NoMemory>
-        ensures { IfOk result (λ t. IsSetOf nat_lt t (λ s. Contains a.now s × ¬ Contains b.now s)) }
+        ensures { IfOk result (λ t. IsDifferenceOf a.now b.now t) }
     {
         Ok(TimeSet {
             seconds: difference_of(alloc, a.as_slice(), b.as_slice())?,
@@ -93,11 +93,11 @@ impl TimeSet {
         self.seconds.as_slice().get(place as usize).copied()
     }
 
-    /// The item that begins at the place `from`, counted from 0: a row of three or more seconds with equal steps from
+    /// The item that begins at the index `from`, counted from 0: a row of three or more seconds with equal steps from
     /// there on, or the second alone. It takes no memory.
     pub fn stretch(&self, from: usize) -> Stretch
         requires within { from < length self.now }
-        ensures item { stretch_of result ≡ first_stretch (get_or self.now from 0) (drop (from + 1) self.now) }
+        ensures item { stretch_of result ≡ item_at self.now from }
         ensures some { 1 ≤ result.count }
         ensures few { from + result.count ≤ length self.now }
     {

@@ -21,6 +21,10 @@ AreNumbersAfter sets s day numbers = (k : ℕ) → k < length numbers → IsNumb
 abbrev pub AreFree : Sketch → ℤ → ℕ → Type 0
 AreFree s day days = (k : ℕ) → k < days → times_on s (day +ℤ pos k) ≡ []
 
+-- two days have the same seconds
+abbrev pub SameOn : Sketch → ℤ → ℤ → Type 0
+SameOn s day other = times_on s day ≡ times_on s other
+
 -- n days from a day on have the seconds of the day that many later
 abbrev pub SameAfter : Sketch → ℤ → ℕ → ℕ → Type 0
 SameAfter s q n later = (d : ℤ) → q ≤ℤ d → d <ℤ (q +ℤ pos n) → times_on s (d +ℤ pos later) ≡ times_on s d

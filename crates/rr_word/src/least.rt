@@ -12,10 +12,12 @@ use rr_num::least_factor;
 
 // The period over the factor where the sequence repeats after that many days too, and else the period.
 fn divided_once<A: DaySeq>(seq: &A, period: u64, factor: u64) -> u64
-    requires period { HasPeriodFrom (times_on (A.sketch seq.now)) (A.sketch seq.now).settled period }
+    requires period { HasPeriodFrom (times_on (A.sketch seq.now))
+        (A.sketch seq.now).settled period }
     requires few { period ≤ longest_period }
     requires factor { 1 ≤ factor }
-    ensures { IsDividedOnce (times_on (A.sketch seq.now)) (A.sketch seq.now).settled period factor result }
+    ensures { IsDividedOnce (times_on (A.sketch seq.now))
+        (A.sketch seq.now).settled period factor result }
 {
     let divided = period / factor;
     if repeats_after(seq, period, divided) {
@@ -75,7 +77,8 @@ fn start_by_blocks<A: DaySeq>(seq: &A, first: i64, from: i64, period: u64) -> i6
 /// It takes no memory.
 pub fn least_start<A: DaySeq>(seq: &A, period: u64) -> i64
     requires { IsEventualPeriod (times_on (A.sketch seq.now)) period }
-    ensures { (first : ℤ) → IsFirstDay (A.sketch seq.now) (Some first) → IsLeastStart (times_on (A.sketch seq.now)) first period result }
+    ensures { (first : ℤ) → IsFirstDay (A.sketch seq.now) (Some first)
+        → IsLeastStart (times_on (A.sketch seq.now)) first period result }
 {
     let step = period.min(seq.period());
     let Some(first) = seq.first() else {

@@ -33,7 +33,8 @@ fn is_ahead(xs: &[u32], ys: &[u32]) -> bool
 pub fn next_second<'a>(xs: &'a [u32], ys: &'a [u32]) -> Option<NextSecond<'a>>
     requires xs { Rises nat_lt xs.now }
     requires ys { Rises nat_lt ys.now }
-    ensures { MatchOption result ((xs.now ≡ []) × (ys.now ≡ [])) (λ n. IsNextSecond xs.now ys.now n.second n.side n.xs.now n.ys.now) }
+    ensures { MatchOption result ((xs.now ≡ []) × (ys.now ≡ []))
+        (λ n. IsNextSecond xs.now ys.now n.second n.side n.xs.now n.ys.now) }
 {
     if is_ahead(xs, ys) {
         return Some(NextSecond {

@@ -5,7 +5,7 @@ ghost use Rattle.rr_model.specs.Calendar.{IsDayWithin};
 ghost use Rattle.rr_model.specs.Whole.Periodic.{RepeatsFrom};
 ghost use Rattle.rr_model.specs.Sets.Sketch.{IsNearDay, times_on};
 ghost use Rattle.rr_model.specs.Sets.Least.{HasPeriodFrom};
-ghost use Rattle.rr_word.specs.Stretches.{IsNumberOn, SameAfter};
+ghost use Rattle.rr_word.specs.Stretches.{IsNumberOn, SameAfter, SameOn};
 
 use crate::DaySeq;
 
@@ -13,7 +13,7 @@ use crate::DaySeq;
 pub fn same_on<A: DaySeq>(seq: &A, day: i64, other: i64) -> bool
     requires near { IsDayWithin 0 day }
     requires other_near { IsDayWithin 0 other }
-    ensures { IsTrue result ↔ (times_on (A.sketch seq.now) day ≡ times_on (A.sketch seq.now) other) }
+    ensures { IsTrue result ↔ SameOn (A.sketch seq.now) day other }
 {
     have_same(
         seq,
@@ -36,7 +36,7 @@ fn have_same<A: DaySeq>(
     requires other_near { IsDayWithin 0 other }
     requires number { IsNumberOn (A.sets seq.now) (A.sketch seq.now) day of_day }
     requires other_number { IsNumberOn (A.sets seq.now) (A.sketch seq.now) other of_other }
-    ensures { IsTrue result ↔ (times_on (A.sketch seq.now) day ≡ times_on (A.sketch seq.now) other) }
+    ensures { IsTrue result ↔ SameOn (A.sketch seq.now) day other }
 {
     if is_one_number(of_day, of_other) {
         return true;
@@ -54,7 +54,7 @@ fn is_one_number(one: Option<u32>, other: Option<u32>) -> bool
     }
 }
 
-// At how many places from the first one on, of at most `most`, two rows have the same number.
+// At how many indices from the first one on, of at most `most`, two rows have the same number.
 fn count_equal(xs: &[u32], ys: &[u32], most: usize) -> usize
     ensures first { result ≤ length xs.now }
     ensures second { result ≤ length ys.now }
@@ -62,9 +62,9 @@ fn count_equal(xs: &[u32], ys: &[u32], most: usize) -> usize
     ensures equal { (k : ℕ) → k < result → get_or xs.now k 0 ≡ get_or ys.now k 0 }
 {
     let end = xs.len().min(ys.len()).min(most);
-    for place in 0..end {
-        if xs[place] != ys[place] {
-            return place;
+    for index in 0..end {
+        if xs[index] != ys[index] {
+            return index;
         }
     }
     end
@@ -78,7 +78,7 @@ fn count_same<A: DaySeq>(seq: &A, day: i64, later: u64, most: u64) -> u64
     requires few { later ≤ longest_period }
     requires some { 1 ≤ most }
     ensures most { result ≤ most }
-    ensures none { result ≡ 0 → times_on (A.sketch seq.now) (day +ℤ pos later) ≡ times_on (A.sketch seq.now) day → ⊥ }
+    ensures none { result ≡ 0 → SameOn (A.sketch seq.now) (day +ℤ pos later) day → ⊥ }
     ensures same { SameAfter (A.sketch seq.now) day result later }
 {
     let other = day + later as i64;
@@ -116,10 +116,12 @@ pub fn are_same<A: DaySeq>(seq: &A, from: i64, later: u64, days: u64) -> bool
 ///
 /// The days of one period that it has from there are compared, each with the day `days` later.
 pub fn repeats_after<A: DaySeq>(seq: &A, period: u64, days: u64) -> bool
-    requires period { HasPeriodFrom (times_on (A.sketch seq.now)) (A.sketch seq.now).settled period }
+    requires period { HasPeriodFrom (times_on (A.sketch seq.now))
+        (A.sketch seq.now).settled period }
     requires few { period ≤ longest_period }
     requires few_days { days ≤ longest_period }
-    ensures { IsTrue result ↔ RepeatsFrom (times_on (A.sketch seq.now)) (A.sketch seq.now).settled days }
+    ensures { IsTrue result ↔ RepeatsFrom (times_on (A.sketch seq.now))
+        (A.sketch seq.now).settled days }
 {
     are_same(seq, seq.settled(), days, period)
 }

@@ -8,7 +8,8 @@ use std::cmp::Ordering;
 // Whether the value is above the last item, and so above each; a list without items has none to be above.
 fn is_above_last<T: Ord + Copy>(items: &[T], value: T) -> bool
     requires { Rises (below_by T.cmp) items.now }
-    ensures { result ≡ true → with_value (below_by T.cmp) items.now value ≡ items.now ++ (value ∷ []) }
+    ensures { result ≡ true
+        → with_value (below_by T.cmp) items.now value ≡ items.now ++ (value ∷ []) }
 {
     match items.last() {
         Some(last) => matches!(last.cmp(&value), Ordering::Less),

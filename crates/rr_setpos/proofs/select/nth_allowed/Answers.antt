@@ -1,6 +1,6 @@
 use Rattle.std.proofs.Common.{◌∙◌, sym, ℕ, Bool, arith}
 use Rattle.rr_model.proofs.CountLemmas.{count_seconds-zero, below_more, below_same}
-use Rattle.rr_setpos.specs.Ranks.{number_allowed}
+use Rattle.rr_parts.specs.Numbers.{number_allowed}
 use Rattle.rr_setpos.proofs.select.nth_allowed.Goals as goal
 use Rattle.rr_setpos.proofs.select.nth_allowed.Goals.{then-allows_filled+else-left-eq0, else-allows_filled}
 

@@ -1,6 +1,6 @@
 use Rattle.std.proofs.Common.{◌∙◌, sym, ℕ, Bool, arith}
 use Rattle.rr_model.proofs.CountLemmas.{count_seconds-zero, count_seconds-le, below_more, below_same}
-use Rattle.rr_setpos.specs.Ranks.{number_allowed}
+use Rattle.rr_parts.specs.Numbers.{number_allowed}
 use Rattle.rr_setpos.proofs.time_counts.count_allowed.Goals as goal
 use Rattle.rr_setpos.proofs.time_counts.count_allowed.Goals.{then-allows_filled, else-allows_filled}
 

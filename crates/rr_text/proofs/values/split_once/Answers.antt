@@ -5,4 +5,4 @@ use Rattle.rr_text.proofs.values.split_once.Goals as goal
 pub returns : goal.returns
 returns c =
     let text = c.args.text.now in
-    rw take_rest (ap (option_map (λ (i : ℕ). (take i text, drop (i + 1) text))) c.in_ok-place.ensures)
+    rw take_rest (ap (option_map (λ (i : ℕ). (take i text, drop (i + 1) text))) c.in_ok-index.ensures)

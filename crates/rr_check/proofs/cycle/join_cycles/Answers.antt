@@ -1,6 +1,6 @@
 use Rattle.std.proofs.Common.{arith}
 use Rattle.rr_check.proofs.SeriesCycleLemmas.{lcm_above}
-use Rattle.rr_check.proofs.cycle.joined.Goals as goal
+use Rattle.rr_check.proofs.cycle.join_cycles.Goals as goal
 
 pub returns-then-days : goal.returns-then-days
 returns-then-days c within =

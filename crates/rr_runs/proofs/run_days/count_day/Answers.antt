@@ -2,7 +2,7 @@ use Rattle.std.proofs.Common.{◌+◌, ap, ◌∙◌, arith, refl}
 use Rattle.std.proofs.lemmas.Int.{ints}
 use Rattle.rr_runs.specs.Runs.{change}
 use Rattle.rr_runs.proofs.RunLemmas.{count_more}
-use Rattle.rr_runs.proofs.run_days.counted.Goals as goal
+use Rattle.rr_runs.proofs.run_days.count_day.Goals as goal
 
 pub returns-clause-counted : goal.returns-clause-counted
 returns-clause-counted c = λ days is.

@@ -4,7 +4,7 @@ use Rattle.std.proofs.lemmas.Bool.{false_from_ne_true}
 use Rattle.std.proofs.lemmas.Bool.Decides.{nat_tests}
 use Rattle.std.proofs.lemmas.List.Sums.{position_or_len_is}
 use Rattle.memchr.specs.Find.{IsFirstByte, is_byte}
-use Rattle.rr_text.proofs.physical.feed_place.Goals as goal
+use Rattle.rr_text.proofs.physical.feed_index.Goals as goal
 
 abbrev is_feed : ℕ → Bool
 is_feed b = b == 10
