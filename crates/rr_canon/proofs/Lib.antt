@@ -16,3 +16,4 @@ pub mod NumberedStretchLemmas
 pub mod YearOneLemmas
 pub mod ItemLemmas
 pub mod OwnNumberLemmas
+pub mod SetNumberLemmas

@@ -62,6 +62,10 @@ pub record IsKnownNumber (sets : List (List ℕ)) (times : List ℕ) (number : �
   pub among : list_any (is_same_set times) sets ≡ true
   pub number_is : number ≡ number_of sets times
 
+-- the same numbers are known
+abbrev pub SameNumbers : List (Option ℕ) → List (Option ℕ) → Type 0
+SameNumbers old new = (k : ℕ) → get_or new k None ≡ get_or old k None
+
 -- each number that is known, by the sequence's own number for a set, is that of this set
 abbrev pub AreKnown : List (List ℕ) → List (List ℕ) → List (Option ℕ) → Type 0
 AreKnown own sets known = (k n : ℕ) → get_or known k None ≡ Some n → IsKnownNumber sets (get_or own k []) n

@@ -10,10 +10,14 @@ abbrev pub steps_by_number : ℤ → List NumberedDay → List Step
 steps_by_number from [] = []
 steps_by_number from (x ∷ xs) = record { gap = nat_abs (x.day -ℤ from); set = x.number } ∷ steps_by_number x.day xs
 
+-- the runs of these steps
+abbrev pub runs_by_number : ℤ → List NumberedDay → List Run
+runs_by_number from days = runs_of (steps_by_number from days)
+
 -- where days repeat: the settled day, the period and the runs of the first period
 abbrev pub ending_said : ℤ → ℕ → List NumberedDay → Option Ending
 ending_said settled period [] = None
-ending_said settled period (x ∷ xs) = Some (record { settled = settled; period = period; cycle = runs_of (steps_by_number settled (x ∷ xs)) })
+ending_said settled period (x ∷ xs) = Some (record { settled = settled; period = period; cycle = runs_by_number settled (x ∷ xs) })
 
 -- the first day of all, where there is one
 abbrev pub first_in : List NumberedDay → Option ℤ
@@ -28,7 +32,7 @@ said_of kind sets before settled period cycle (Some first) =
       kind = kind;
       sets = sets;
       first = first;
-      before = runs_of (steps_by_number first before);
+      before = runs_by_number first before;
       ending = ending_said settled period cycle;
     })
 

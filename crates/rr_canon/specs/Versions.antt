@@ -1,8 +1,8 @@
 -- The two versions of a descriptor: their first lines, and how they write a time set.
-use Rattle.std.specs.Prelude.{◌≡◌, ◌↔◌, ℕ, List, codes}
+use Rattle.std.specs.Prelude.{◌≡◌, ◌↔◌, ℕ, List, Option, codes}
 use Rattle.rr_model.specs.Series.Occurrences.{Occurs}
-use Rattle.rr_model.specs.Sets.Descriptor.{descriptor}
-use Rattle.rr_model.specs.Sets.DescriptorText.{seconds_line, text_of}
+use Rattle.rr_model.specs.Sets.Descriptor.{Described, descriptor}
+use Rattle.rr_model.specs.Sets.DescriptorText.{lines_of, seconds_line, text_of}
 use Rattle.rr_model.specs.Sets.Printable.{IsTextOf}
 use Rattle.rr_model.specs.Sets.Stretches.{stretches_line}
 use Rattle.rr_model.specs.Sets.Verdict.{HaveEqualOccurrences}
@@ -20,6 +20,10 @@ title_of Second = codes "rrcanon 2"
 abbrev pub set_line_of : Version → List ℕ → List ℕ
 set_line_of First times = seconds_line times
 set_line_of Second times = stretches_line times
+
+-- the lines after the first of what is said
+abbrev pub lines_in : Version → Option Described → List (List ℕ)
+lines_in version said = lines_of (set_line_of version) said
 
 -- the descriptor of a least sketch
 abbrev pub text_in : Version → Sketch → List ℕ

@@ -8,9 +8,9 @@ ghost use Rattle.rr_model.specs.Sets.Least.{IsLeastOfNone, IsLeastSketch};
 ghost use Rattle.rr_word.specs.Bounded.{IsBounded, IsBounded-prop, IsFirstDay-prop};
 ghost use Rattle.rr_canon.specs.Kept.{IsKept, sketch_of};
 
-use crate::sets::TimeSets;
 use crate::stretch::{days_between, number_days};
 use rr_model::{Kind, NoMemory};
+use rr_shapes::TimeSets;
 use rr_word::{DaySeq, NumberedDays, Stretch, least_period, least_start};
 use std::alloc::Global;
 
@@ -24,15 +24,20 @@ pub struct LeastSeq {
     pub(crate) before: NumberedDays,
     pub(crate) cycle: NumberedDays,
     pub(crate) sets: TimeSets,
-    ghost bounded: { IsBounded (sketch_of kind sets before settled period cycle) } by { IsBounded-prop (sketch_of kind sets before settled period cycle) },
-    ghost first_is: { IsFirstDay (sketch_of kind sets before settled period cycle) first } by { IsFirstDay-prop (sketch_of kind sets before settled period cycle) first },
+    ghost bounded: { IsBounded
+        (sketch_of kind sets before settled period cycle) } by { IsBounded-prop
+            (sketch_of kind sets before settled period cycle) },
+    ghost first_is: { IsFirstDay
+        (sketch_of kind sets before settled period cycle) first } by { IsFirstDay-prop
+            (sketch_of kind sets before settled period cycle) first },
     ghost in_order: { IsKept sets before cycle },
     ghost least: { ∥ IsLeastSketch (sketch_of kind sets before settled period cycle) ∥₁ },
 }
 
 // The least sketch of the empty set.
 fn nothing(alloc: Global) -> LeastSeq
-    ensures { IsLeastOfNone (sketch_of result.kind result.sets result.before result.settled result.period result.cycle) }
+    ensures { IsLeastOfNone (sketch_of result.kind result.sets
+        result.before result.settled result.period result.cycle) }
 {
     LeastSeq {
         kind: Kind::Days,
@@ -74,7 +79,7 @@ impl DaySeq for LeastSeq {
     fn at(&self, day: i64) -> &[u32] {
         match self.number_on(day) {
             None => &[],
-            Some(number) => self.sets.times(number),
+            Some(number) => self.sets.times(number as usize).as_slice(),
         }
     }
 
@@ -90,26 +95,26 @@ impl DaySeq for LeastSeq {
     }
 
     fn times(&self, number: u32) -> &[u32] {
-        self.sets.times(number)
+        self.sets.times(number as usize).as_slice()
     }
 }
 
 impl LeastSeq {
     ghost use Rattle.std.specs.Prelude.{IfSome, ◌<◌, length, pos, neg_ℤ};
-    ghost use Rattle.rr_canon.specs.Kept.{number_kept};
+    ghost use Rattle.rr_canon.specs.Least.{least_number};
 
     // The number of the time set of a day.
     fn number_on(&self, day: i64) -> Option<u32>
         requires low { neg_ℤ (pos 3_000_000_000_000) ≤ℤ day }
         requires high { day ≤ℤ pos 3_000_000_000_000 }
-        ensures number { result ≡ number_kept self.now.before self.now.settled self.now.period self.now.cycle day }
+        ensures number { result ≡ least_number self.now day }
         ensures within { IfSome result (λ n. n < length self.now.sets) }
     {
         if day < self.settled {
             return self.before.number_on(day);
         }
-        let place = day_in_cycle(self.settled, self.period, day);
-        self.cycle.number_on(place)
+        let same_day = day_in_cycle(self.settled, self.period, day);
+        self.cycle.number_on(same_day)
     }
 }
 
@@ -122,8 +127,8 @@ fn day_in_cycle(settled: i64, period: u64, day: i64) -> i64
     requires high { day ≤ℤ pos 3_000_000_000_000 }
     ensures { result ≡ settled +ℤ pos (floor_mod (day -ℤ settled) period) }
 {
-    let turned = (day - settled) as u64 % period;
-    settled + turned as i64
+    let into_period = (day - settled) as u64 % period;
+    settled + into_period as i64
 }
 
 /// The least sketch of a set of occurrences.
@@ -131,8 +136,10 @@ fn day_in_cycle(settled: i64, period: u64, day: i64) -> i64
 /// It reads the days from the first occupied one to a period past the least start, each once, beside what
 /// `least_period` and `least_start` read. It keeps the occupied ones, each with the number of its time set.
 pub fn least<A: DaySeq>(alloc: Global, seq: &A) -> Result<LeastSeq, NoMemory>
-    ensures least { IfOk result (λ l. IsLeastSketch (sketch_of l.kind l.sets l.before l.settled l.period l.cycle)) }
-    ensures same { IfOk result (λ l. HaveEqualOccurrences (StandsIn (A.sketch seq.now)) (StandsIn (sketch_of l.kind l.sets l.before l.settled l.period l.cycle))) }
+    ensures least { IfOk result (λ l. IsLeastSketch
+        (sketch_of l.kind l.sets l.before l.settled l.period l.cycle)) }
+    ensures same { IfOk result (λ l. HaveEqualOccurrences (StandsIn (A.sketch seq.now))
+        (StandsIn (sketch_of l.kind l.sets l.before l.settled l.period l.cycle))) }
 {
     let Some(first) = seq.first() else {
         return Ok(nothing(alloc));

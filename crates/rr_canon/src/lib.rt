@@ -4,7 +4,6 @@
 mod laws;
 mod least_seq;
 mod lines;
-mod sets;
 mod stretch;
 mod text;
 mod version;

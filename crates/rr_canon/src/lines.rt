@@ -2,10 +2,11 @@
 ghost use Rattle.std.specs.Prelude.{◌≡◌, ◌+◌, ◌≤◌, ◌∷◌, [], ◌++◌, OnOk, OnErr, codes, map, neg_ℤ, pos, ◌≤ℤ◌};
 ghost use Rattle.std.specs.Fmt.{decimal};
 ghost use Rattle.rr_model.specs.Text.Moments.{extended_date_text};
-ghost use Rattle.rr_model.specs.Sets.DescriptorText.{text_of_lines, fields, kind_line, seconds_line, first_line, run_line};
+ghost use Rattle.rr_model.specs.Sets.DescriptorText.{kind_line, seconds_line, first_line, run_line};
 ghost use Rattle.rr_model.specs.Sets.Stretches.{item_text, stretches_line};
 ghost use Rattle.rr_times.specs.Items.{stretch_of};
 ghost use Rattle.rr_canon.specs.Versions.{set_line_of};
+ghost use Rattle.rr_canon.specs.Written.{AddsLine, run_so_far, settled_line_of};
 ghost use Rattle.rr_model.specs.Sets.Printable.{IsPrintedDay};
 
 use crate::version::Version;
@@ -27,7 +28,7 @@ pub struct OpenRun {
 /// A line, and a line feed.
 #[tactic(auto, unfolding(rr_model::specs::Sets::DescriptorText::text_of_lines))]
 pub fn push_line(out: &mut Vec<u8>, line: &[u8]) -> Result<(), NoMemory>
-    ensures { OnOk result (out.new.items ≡ out.old.items ++ text_of_lines (line.now ∷ [])) }
+    ensures { OnOk result (AddsLine out.old.items out.new.items line.now) }
 {
     out.extend_from_slice(line)?;
     out.push(b'\n')?;
@@ -44,7 +45,8 @@ fn push_field(out: &mut Vec<u8>, number: u64) -> Result<(), NoMemory>
 
 /// A letter, the gap, the number of the set and the count.
 pub fn push_run(out: &mut Vec<u8>, letter: u8, run: OpenRun) -> Result<(), NoMemory>
-    ensures { OnOk result (out.new.items ≡ out.old.items ++ text_of_lines (run_line letter (record { gap = run.gap; set = run.set; count = run.count }) ∷ [])) }
+    ensures { OnOk result (AddsLine out.old.items out.new.items
+        (run_line letter (run_so_far run))) }
 {
     out.push(letter)?;
     push_field(out, run.gap)?;
@@ -56,7 +58,7 @@ pub fn push_run(out: &mut Vec<u8>, letter: u8, run: OpenRun) -> Result<(), NoMem
 
 /// `t` and the seconds of a time set.
 pub fn push_seconds(out: &mut Vec<u8>, times: &[u32]) -> Result<(), NoMemory>
-    ensures { OnOk result (out.new.items ≡ out.old.items ++ text_of_lines (seconds_line times.now ∷ [])) }
+    ensures { OnOk result (AddsLine out.old.items out.new.items (seconds_line times.now)) }
 {
     out.push(b't')?;
     for second in times {
@@ -88,7 +90,7 @@ fn push_item(out: &mut Vec<u8>, item: Stretch) -> Result<(), NoMemory>
 
 /// `t` and the items of a time set, single seconds and rows of equal steps: a line of version 2.
 pub fn push_stretches(out: &mut Vec<u8>, times: &TimeSet) -> Result<(), NoMemory>
-    ensures { OnOk result (out.new.items ≡ out.old.items ++ text_of_lines (stretches_line times.now ∷ [])) }
+    ensures { OnOk result (AddsLine out.old.items out.new.items (stretches_line times.now)) }
 {
     let count = times.as_slice().len();
     out.push(b't')?;
@@ -104,7 +106,7 @@ pub fn push_stretches(out: &mut Vec<u8>, times: &TimeSet) -> Result<(), NoMemory
 
 /// The line of a time set in this version.
 pub fn push_set(out: &mut Vec<u8>, version: Version, times: &TimeSet) -> Result<(), NoMemory>
-    ensures { OnOk result (out.new.items ≡ out.old.items ++ text_of_lines (set_line_of version times.now ∷ [])) }
+    ensures { OnOk result (AddsLine out.old.items out.new.items (set_line_of version times.now)) }
 {
     match version {
         Version::First => push_seconds(out, times.as_slice()),
@@ -114,7 +116,7 @@ pub fn push_set(out: &mut Vec<u8>, version: Version, times: &TimeSet) -> Result<
 
 /// The kind.
 pub fn push_kind(out: &mut Vec<u8>, kind: Kind) -> Result<(), NoMemory>
-    ensures { OnOk result (out.new.items ≡ out.old.items ++ text_of_lines (kind_line kind ∷ [])) }
+    ensures { OnOk result (AddsLine out.old.items out.new.items (kind_line kind)) }
 {
     match kind {
         Kind::Days => push_line(out, b"days"),
@@ -126,7 +128,8 @@ pub fn push_kind(out: &mut Vec<u8>, kind: Kind) -> Result<(), NoMemory>
 #[tactic(auto, unfolding(rr_model::specs::Text::Moments::extended_text))]
 fn push_day(out: &mut Vec<u8>, letter: u8, day: i64) -> Result<(), NoMemory>
     requires { IsPrintedDay day }
-    ensures { OnOk result (out.new.items ≡ out.old.items ++ (letter ∷ 32 ∷ extended_date_text day)) }
+    ensures { OnOk result (out.new.items
+        ≡ out.old.items ++ (letter ∷ 32 ∷ extended_date_text day)) }
 {
     out.push(letter)?;
     out.push(b' ')?;
@@ -137,7 +140,7 @@ fn push_day(out: &mut Vec<u8>, letter: u8, day: i64) -> Result<(), NoMemory>
 #[tactic(auto, unfolding(rr_model::specs::Sets::DescriptorText::text_of_lines))]
 pub fn push_first(out: &mut Vec<u8>, day: i64) -> Result<(), NoMemory>
     requires { IsPrintedDay day }
-    ensures { OnOk result (out.new.items ≡ out.old.items ++ text_of_lines (first_line day ∷ [])) }
+    ensures { OnOk result (AddsLine out.old.items out.new.items (first_line day)) }
 {
     push_day(out, b'f', day)?;
     out.push(b'\n')?;
@@ -147,7 +150,7 @@ pub fn push_first(out: &mut Vec<u8>, day: i64) -> Result<(), NoMemory>
 /// `q`, the settled day and the period.
 pub fn push_settled(out: &mut Vec<u8>, day: i64, period: u64) -> Result<(), NoMemory>
     requires { IsPrintedDay day }
-    ensures { OnOk result (out.new.items ≡ out.old.items ++ text_of_lines ((113 ∷ 32 ∷ extended_date_text day ++ fields (period ∷ [])) ∷ [])) }
+    ensures { OnOk result (AddsLine out.old.items out.new.items (settled_line_of day period)) }
 {
     push_day(out, b'q', day)?;
     push_field(out, period)?;

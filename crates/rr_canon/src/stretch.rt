@@ -1,13 +1,15 @@
 // The occupied days of a stretch, with the numbers of their time sets.
-ghost use Rattle.std.specs.Prelude.{◌≡◌, ◌<◌, ◌≤◌, IfOk, IfSome, OnOk, ◌++◌, ◌∷◌, None, Some, ℕ, [], drop, get_or, slice_get, length, neg_ℤ, pos, ◌+ℤ◌, ◌≤ℤ◌};
+ghost use Rattle.std.specs.Prelude.{◌≡◌, ◌<◌, ◌≤◌, IfOk, IfSome, OnErr, OnOk, ◌++◌, ◌∷◌, None, Some, ℕ, [], drop, get_or, slice_get, length, neg_ℤ, pos, ◌+ℤ◌, ◌≤ℤ◌};
 ghost use Rattle.rr_model.specs.Bounds.{earliest_near};
 ghost use Rattle.rr_model.specs.Rising.Sets.{IsSecondsOfDay};
 ghost use Rattle.rr_model.specs.Sets.Sketch.{IsNearDay, times_on};
 ghost use Rattle.rr_word.specs.Stretches.{AreFree, IsNumberOn, IsStretch};
-ghost use Rattle.rr_canon.specs.Kept.{AreKnown, AreNumbersFrom, AreStretchOf, IsEmptyOne, IsKeptDay, IsKnownNumber, IsPutDay, IsPutNumber};
+ghost use Rattle.rr_canon.specs.Kept.{AreKnown, AreNumbersFrom, AreStretchOf, IsEmptyOne, IsKeptDay, IsKnownNumber, IsPutDay, IsPutNumber, SameNumbers};
+ghost use Rattle.rr_canon.specs.Placed.{IsNumbered};
 
-use crate::sets::TimeSets;
 use rr_model::NoMemory;
+use rr_shapes::TimeSets;
+use rr_times::TimeSet;
 use rr_word::{DaySeq, NumberedDay, NumberedDays, Stretch};
 use std::alloc::Global;
 
@@ -43,7 +45,7 @@ impl OwnNumbers {
 
     // Room for the numbers of the first sets.
     fn make_room(&mut self, count: usize) -> Result<(), NoMemory>
-        ensures same { OnOk result ((k : ℕ) → get_or self.new.known.items k None ≡ get_or self.old.known.items k None) }
+        ensures same { OnOk result (SameNumbers self.old.known.items self.new.known.items) }
         ensures room { OnOk result (count ≤ length self.new.known.items) }
         ensures empty { self.new.empty ≡ self.old.empty }
     {
@@ -55,12 +57,13 @@ impl OwnNumbers {
 
     // Keeps the number of the set with this own number.
     fn put(&mut self, own: u32, number: u32) -> Result<(), NoMemory>
-        ensures put { OnOk result (IsPutNumber own number self.old.known.items self.new.known.items) }
+        ensures put { OnOk result (IsPutNumber own number
+            self.old.known.items self.new.known.items) }
         ensures empty { self.new.empty ≡ self.old.empty }
     {
-        let place = own as usize;
-        self.make_room(place + 1)?;
-        self.known[place] = Some(number);
+        let index = own as usize;
+        self.make_room(index + 1)?;
+        self.known[index] = Some(number);
         Ok(())
     }
 }
@@ -74,6 +77,18 @@ fn put_numbered(day: i64, number: u32, days: &mut NumberedDays) -> Result<(), No
         day: day as i32,
         number,
     })
+}
+
+// The number of the set of these seconds, which is added where it is new.
+fn add_set(alloc: Global, times: &[u32], sets: &mut TimeSets) -> Result<u32, NoMemory>
+    requires of_day { IsSecondsOfDay times.now }
+    requires few { length sets.old < 4_294_967_295 }
+    ensures placed { IfOk result (IsNumbered times.now sets.old sets.new) }
+    ensures unchanged { OnErr result (sets.new ≡ sets.old) }
+{
+    let set = TimeSet::of(alloc, times)?;
+    let number = sets.insert(set)?;
+    Ok(number as u32)
 }
 
 // Adds a day, where it has seconds, by the sequence's own number for its set.
@@ -92,7 +107,8 @@ fn put_own<A: DaySeq>(
     requires few { length sets.old < 4_294_967_295 }
     requires known { AreKnown (A.sets seq.now) sets.old known.old.known.items }
     requires empty { IfSome known.old.empty (IsEmptyOne (A.sets seq.now)) }
-    ensures put { OnOk result (IsPutDay day (times_on (A.sketch seq.now) day) sets.old sets.new days.old days.new) }
+    ensures put { OnOk result (IsPutDay day (times_on (A.sketch seq.now) day)
+        sets.old sets.new days.old days.new) }
     ensures known { OnOk result (AreKnown (A.sets seq.now) sets.new known.new.known.items) }
     ensures empty { OnOk result (IfSome known.new.empty (IsEmptyOne (A.sets seq.now))) }
 {
@@ -104,7 +120,7 @@ fn put_own<A: DaySeq>(
         known.empty = Some(own);
         return Ok(());
     }
-    let number = sets.place(alloc, times)?;
+    let number = add_set(alloc, times, sets)?;
     known.put(own, number)?;
     put_numbered(day, number, days)
 }
@@ -130,9 +146,9 @@ fn count_of(numbers: &[u32], number: u32) -> usize
     ensures most { result ≤ length numbers.now }
     ensures same { (k : ℕ) → k < result → get_or numbers.now k 0 ≡ number }
 {
-    for place in 0..numbers.len() {
-        if numbers[place] != number {
-            return place;
+    for index in 0..numbers.len() {
+        if numbers[index] != number {
+            return index;
         }
     }
     numbers.len()
@@ -192,7 +208,8 @@ fn put_day<A: DaySeq>(
     requires few { length sets.old < 4_294_967_295 }
     requires known { AreKnown (A.sets seq.now) sets.old known.old.known.items }
     requires empty { IfSome known.old.empty (IsEmptyOne (A.sets seq.now)) }
-    ensures put { OnOk result (IsPutDay day (times_on (A.sketch seq.now) day) sets.old sets.new days.old days.new) }
+    ensures put { OnOk result (IsPutDay day (times_on (A.sketch seq.now) day)
+        sets.old sets.new days.old days.new) }
     ensures known { OnOk result (AreKnown (A.sets seq.now) sets.new known.new.known.items) }
     ensures empty { OnOk result (IfSome known.new.empty (IsEmptyOne (A.sets seq.now))) }
 {

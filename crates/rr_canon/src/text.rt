@@ -1,19 +1,20 @@
 // The descriptor of a least sketch.
 ghost use Rattle.std.specs.Prelude.{◌≡◌, ◌↔◌, ◌<◌, ◌≤◌, ◌++◌, [], IfOk, IsTrue, OnOk, Some, map};
 ghost use Rattle.rr_model.specs.declared.kind.Kind.{Kind};
-ghost use Rattle.rr_model.specs.Sets.Descriptor.{descriptor, runs_of};
-ghost use Rattle.rr_model.specs.Sets.DescriptorText.{descriptor_text, ending_lines, lines_of, run_line, set_lines, text_of_lines};
+ghost use Rattle.rr_model.specs.Sets.Descriptor.{descriptor};
+ghost use Rattle.rr_model.specs.Sets.DescriptorText.{descriptor_text, ending_lines, set_lines};
 ghost use Rattle.rr_model.specs.Sets.Printable.{HasNoneBeforeYearOne, IsPrintedDay};
 ghost use Rattle.rr_model.specs.Sets.Stretches.{second_descriptor_text};
-ghost use Rattle.rr_canon.specs.Least.{least_sketch};
-ghost use Rattle.rr_canon.specs.Said.{IsNextRun, ending_said, first_in, said_of, steps_by_number, text_of_runs, with_run};
-ghost use Rattle.rr_canon.specs.Versions.{set_line_of, text_in, title_of};
+ghost use Rattle.rr_canon.specs.Least.{least_said, least_sketch};
+ghost use Rattle.rr_canon.specs.Said.{IsNextRun, ending_said, first_in, runs_by_number, with_run};
+ghost use Rattle.rr_canon.specs.Versions.{lines_in, set_line_of, text_in, title_of};
+ghost use Rattle.rr_canon.specs.Written.{AddsLines, AddsRuns, run_so_far};
 
 use crate::least_seq::LeastSeq;
 use crate::lines::{OpenRun, push_first, push_kind, push_line, push_run, push_set, push_settled};
-use crate::sets::TimeSets;
 use crate::version::Version;
 use rr_model::{Kind, NoMemory};
+use rr_shapes::TimeSets;
 use rr_word::NumberedDay;
 use std::alloc::Global;
 
@@ -33,7 +34,8 @@ fn next_run(
     set: u32,
 ) -> Result<OpenRun, NoMemory>
     requires { run.count < 18_446_744_073_709_551_615 }
-    ensures { IfOk result (λ r. IsNextRun letter (record { gap = run.gap; set = run.set; count = run.count }) (record { gap = gap; set = set }) out.old.items out.new.items (record { gap = r.gap; set = r.set; count = r.count })) }
+    ensures { IfOk result (λ r. IsNextRun letter (run_so_far run) (record { gap = gap; set = set })
+        out.old.items out.new.items (run_so_far r)) }
 {
     let same = goes_on(run, gap, set);
     if same {
@@ -56,7 +58,8 @@ fn push_more_runs(
     days: &[NumberedDay],
 ) -> Result<(), NoMemory>
     requires { run.count ≤ 1 }
-    ensures { OnOk result (out.new.items ≡ out.old.items ++ text_of_runs letter (with_run (record { gap = run.gap; set = run.set; count = run.count }) (runs_of (steps_by_number from days.now)))) }
+    ensures { OnOk result (AddsRuns out.old.items out.new.items letter
+        (with_run (run_so_far run) (runs_by_number from days.now))) }
 {
     let mut current = run;
     let mut last = from;
@@ -70,7 +73,8 @@ fn push_more_runs(
 
 // The runs over these days.
 fn push_runs(out: &mut Vec<u8>, letter: u8, from: i64, days: &[NumberedDay]) -> Result<(), NoMemory>
-    ensures { OnOk result (out.new.items ≡ out.old.items ++ text_of_runs letter (runs_of (steps_by_number from days.now))) }
+    ensures { OnOk result (AddsRuns out.old.items out.new.items letter
+        (runs_by_number from days.now)) }
 {
     if days.is_empty() {
         return Ok(());
@@ -87,10 +91,11 @@ fn push_runs(out: &mut Vec<u8>, letter: u8, from: i64, days: &[NumberedDay]) -> 
 
 // The lines of all time sets.
 fn push_all_sets(out: &mut Vec<u8>, version: Version, sets: &TimeSets) -> Result<(), NoMemory>
-    ensures { OnOk result (out.new.items ≡ out.old.items ++ text_of_lines (map (set_line_of version) sets.now)) }
+    ensures { OnOk result (AddsLines out.old.items out.new.items
+        (map (set_line_of version) sets.now)) }
 {
-    for place in 0..sets.count() {
-        push_set(out, version, sets.at(place))?;
+    for number in 0..sets.count() {
+        push_set(out, version, sets.times(number))?;
     }
     Ok(())
 }
@@ -102,7 +107,8 @@ fn push_sets(
     kind: Kind,
     sets: &TimeSets,
 ) -> Result<(), NoMemory>
-    ensures { OnOk result (out.new.items ≡ out.old.items ++ text_of_lines (set_lines (set_line_of version) kind sets.now)) }
+    ensures { OnOk result (AddsLines out.old.items out.new.items
+        (set_lines (set_line_of version) kind sets.now)) }
 {
     match kind {
         Kind::Days => Ok(()),
@@ -118,7 +124,8 @@ fn push_ending(
     cycle: &[NumberedDay],
 ) -> Result<(), NoMemory>
     requires { (cycle.now ≡ [] → ⊥) → IsPrintedDay settled }
-    ensures { OnOk result (out.new.items ≡ out.old.items ++ text_of_lines (ending_lines (ending_said settled period cycle.now))) }
+    ensures { OnOk result (AddsLines out.old.items out.new.items
+        (ending_lines (ending_said settled period cycle.now))) }
 {
     if cycle.is_empty() {
         return Ok(());
@@ -149,7 +156,8 @@ fn push_days(
 ) -> Result<(), NoMemory>
     requires first { IsPrintedDay first }
     requires settled { (least.now.cycle ≡ [] → ⊥) → IsPrintedDay least.now.settled }
-    ensures { OnOk result (out.new.items ≡ out.old.items ++ text_of_lines (lines_of (set_line_of version) (said_of least.now.kind least.now.sets least.now.before least.now.settled least.now.period least.now.cycle (Some first)))) }
+    ensures { OnOk result (AddsLines out.old.items out.new.items
+        (lines_in version (least_said least.now (Some first)))) }
 {
     push_kind(out, least.kind)?;
     push_sets(out, version, least.kind, &least.sets)?;
@@ -161,7 +169,8 @@ fn push_days(
 // All lines but the first.
 fn push_said(out: &mut Vec<u8>, version: Version, least: &LeastSeq) -> Result<(), NoMemory>
     requires { HasNoneBeforeYearOne (least_sketch least.now) }
-    ensures { OnOk result (out.new.items ≡ out.old.items ++ text_of_lines (lines_of (set_line_of version) (descriptor (least_sketch least.now)))) }
+    ensures { OnOk result (AddsLines out.old.items out.new.items
+        (lines_in version (descriptor (least_sketch least.now)))) }
 {
     match first_day(least.before.as_slice(), least.cycle.as_slice()) {
         None => push_line(out, b"none"),

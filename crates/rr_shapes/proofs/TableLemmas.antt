@@ -1,39 +1,12 @@
 -- Tables of time sets that grow, and what is known of their unions.
-use Rattle.std.proofs.Common.{◌≡◌, ℕ, ◌<◌, Bool, true, false, cond, List, [], ◌∷◌, ◌++◌, length, nat_lt, Some, slice_get, get_or, All, Contains, inl, inr, refl, sym, ◌∙◌, subst, arith}
+use Rattle.std.proofs.Common.{◌≡◌, ℕ, ◌<◌, List, [], length, nat_lt, Some, slice_get, get_or, All, Contains, inl, inr, subst}
 use Rattle.std.specs.Prelude.{◌⊎◌}
-use Rattle.std.specs.List.{list_any}
-use Rattle.std.proofs.lemmas.List.{get_or_append_left, length-append}
-use Rattle.std.proofs.lemmas.List.Elements.{All-push, All-contains, All-contains_itself}
-use Rattle.std.proofs.lemmas.Option.{slice_get_read, slice_get_within, slice_get-get_or, get_or_from_slice_get}
-use Rattle.indexmap.specs.IndexSet.{insert_key}
+use Rattle.std.proofs.lemmas.List.Elements.{All-contains, All-contains_itself}
+use Rattle.std.proofs.lemmas.Option.{slice_get_within, slice_get-get_or, get_or_from_slice_get}
 use Rattle.rr_model.specs.Rising.Sets.{IsSetOf, IsSecondsOfDay}
 use Rattle.rr_model.proofs.RisingSetLemmas.{set_itself, set_same}
 use Rattle.rr_shapes.specs.Tables.{Extends, IsUnion, IsDifference, IsTable}
 use Rattle.rr_shapes.specs.declared.unions.Pair.{Pair}
-use Rattle.rr_shapes.proofs.ShapeLemmas.{same}
-
--- a set that goes last leaves the others where they are
-push_extends : (sets : List (List ℕ)) (times : List ℕ) → Extends sets (sets ++ times ∷ [])
-push_extends sets times number set e =
-    let within = slice_get_within sets number set e in
-    let read = sym (get_or_append_left sets (times ∷ []) set number within ∙ get_or_from_slice_get sets number set set e) in
-    slice_get_read (sets ++ times ∷ []) (length (sets ++ times ∷ [])) number set refl (omega (arith, length-append sets (times ∷ []))) read
-
--- and so does one that is inserted where it is not there yet
-pub insert_extends : (sets new : List (List ℕ)) (times : List ℕ) → new ≡ insert_key same sets times → Extends sets new
-insert_extends sets new times e = subst (Extends sets) (sym e) (by (list_any (same times) sets))
-  where
-    by : (b : Bool) → Extends sets (cond b sets (sets ++ times ∷ []))
-    by true = λ number set at. at
-    by false = push_extends sets times
-
-pub insert_of_day : (sets new : List (List ℕ)) (times : List ℕ) → new ≡ insert_key same sets times → All IsSecondsOfDay sets → IsSecondsOfDay times
-    → All IsSecondsOfDay new
-insert_of_day sets new times e were day = subst (All IsSecondsOfDay) (sym e) (by (list_any (same times) sets))
-  where
-    by : (b : Bool) → All IsSecondsOfDay (cond b sets (sets ++ times ∷ []))
-    by true = were
-    by false = All-push IsSecondsOfDay sets times were day
 
 module _ (old new : List (List ℕ)) (grows : Extends old new) (number : ℕ) (within : number < length old) where
   -- a number keeps its set
@@ -61,13 +34,13 @@ kept_difference old new known grows less = record {
   difference = rw (kept_set old new grows known.0.a less.a, kept_set old new grows known.0.b less.b, kept_set old new grows known.1 less.number) less.difference;
 }
 
--- a table with one set inserted
-pub table_with_set : (sets new : List (List ℕ)) (unions less : List (Pair × ℕ)) (times : List ℕ) → IsTable sets unions less
-    → new ≡ insert_key same sets times → IsSecondsOfDay times → IsTable new unions less
-table_with_set sets new unions less times table e day = record {
-  of_day = insert_of_day sets new times e table.of_day day;
-  unions = λ k d l. kept_union sets new _ (insert_extends sets new times e) (table.unions k d l);
-  differences = λ k d l. kept_difference sets new _ (insert_extends sets new times e) (table.differences k d l);
+-- a table of which the sets grow
+pub table_with_sets : (sets new : List (List ℕ)) (unions less : List (Pair × ℕ)) → IsTable sets unions less → Extends sets new → All IsSecondsOfDay new
+    → IsTable new unions less
+table_with_sets sets new unions less table grows of_day = record {
+  of_day = of_day;
+  unions = λ k d l. kept_union sets new _ grows (table.unions k d l);
+  differences = λ k d l. kept_difference sets new _ grows (table.differences k d l);
 }
 
 -- a table of which at most one more union is known

@@ -1,6 +1,7 @@
 -- A table of time sets that grows: sets that are there keep their numbers.
-use Rattle.std.specs.Prelude.{◌≡◌, ◌⊎◌, ℕ, ◌<◌, List, [], All, Contains, get_or, length, nat_lt, slice_get, Some}
-use Rattle.rr_model.specs.Rising.Sets.{IsSetOf, IsSecondsOfDay}
+use Rattle.std.specs.Prelude.{◌≡◌, ℕ, ◌<◌, List, [], All, get_or, length, slice_get, Some}
+use Rattle.rr_model.specs.Rising.Sets.{IsSecondsOfDay}
+use Rattle.rr_times.specs.Combined.{IsDifferenceOf, IsUnionOf}
 use Rattle.rr_shapes.specs.declared.unions.Pair.{Pair}
 
 -- each set of the old table has the same number in the new one
@@ -12,14 +13,14 @@ pub record IsUnion (sets : List (List ℕ)) (known : Pair × ℕ) : Type 0 where
   pub a : known.0.a < length sets
   pub b : known.0.b < length sets
   pub number : known.1 < length sets
-  pub union : IsSetOf nat_lt (get_or sets known.1 []) (λ s. Contains (get_or sets known.0.a []) s ⊎ Contains (get_or sets known.0.b []) s)
+  pub union : IsUnionOf (get_or sets known.0.a []) (get_or sets known.0.b []) (get_or sets known.1 [])
 
 -- the set of one number has the seconds of a first set that a second one lacks
 pub record IsDifference (sets : List (List ℕ)) (known : Pair × ℕ) : Type 0 where
   pub a : known.0.a < length sets
   pub b : known.0.b < length sets
   pub number : known.1 < length sets
-  pub difference : IsSetOf nat_lt (get_or sets known.1 []) (λ s. Contains (get_or sets known.0.a []) s × ¬ Contains (get_or sets known.0.b []) s)
+  pub difference : IsDifferenceOf (get_or sets known.0.a []) (get_or sets known.0.b []) (get_or sets known.1 [])
 
 -- sets of seconds of a day, and unions and differences that are known
 pub record IsTable (sets : List (List ℕ)) (known known_less : List (Pair × ℕ)) : Type 0 where

@@ -4,9 +4,11 @@
 mod residues;
 mod set_table;
 mod shapes;
+mod time_sets;
 mod unions;
 
 pub use residues::Residues;
 pub use set_table::SetTable;
-pub use shapes::Shapes;
-pub use unions::{Pair, Unions};
+pub use shapes::{FoldedSetId, Shapes};
+pub use time_sets::TimeSets;
+pub use unions::{Pair, SetId, Unions};

@@ -42,7 +42,8 @@ impl Residues {
 
     /// Sets the number of a residue; all others stay.
     pub fn put(&mut self, residue: u64, number: u32) -> Result<(), NoMemory>
-        ensures ok { OnOk result ((r : ℕ) → lookup (nat_eq r) self.new ≡ (if nat_eq r residue then Some number else lookup (nat_eq r) self.old)) }
+        ensures ok { OnOk result ((r : ℕ) → lookup (nat_eq r) self.new
+            ≡ (if nat_eq r residue then Some number else lookup (nat_eq r) self.old)) }
         ensures err { OnErr result (self.new ≡ self.old) }
     {
         match self.known.insert(residue, number) {

@@ -1,11 +1,10 @@
 // A table of time sets, on which several iterators draw.
-ghost use Rattle.std.specs.Prelude.{◌≡◌, ◌⊎◌, ◌<◌, [], Contains, IfOk, Some, get_or, length, nat_lt, slice_get, take};
-ghost use Rattle.rr_model.specs.Rising.Sets.{IsSetOf};
+ghost use Rattle.std.specs.Prelude.{◌≡◌, ◌<◌, [], IfOk, Some, get_or, length, slice_get, take};
+ghost use Rattle.rr_times.specs.Combined.{IsDifferenceOf, IsUnionOf};
 ghost use Rattle.rr_shapes.specs.Tables.{Extends};
 
-use crate::shapes::is_at;
-use crate::unions::{Pair, Unions};
-use indexmap::IndexSet;
+use crate::time_sets::TimeSets;
+use crate::unions::{Pair, SetId, Unions};
 use rr_model::NoMemory;
 use rr_times::TimeSet;
 use std::alloc::Global;
@@ -17,9 +16,7 @@ use std::marker::Model;
 /// Contracts see it as the list of the sets, each a rising list, at its number.
 #[derive(Drop)]
 pub struct SetTable {
-    sets: IndexSet<TimeSet>,
-    // The number that was given last; days in a row mostly have the same set.
-    last: usize,
+    sets: TimeSets,
     unions: Unions,
     // The same of what a second set leaves of a first.
     differences: Unions,
@@ -31,9 +28,9 @@ impl Model for SetTable {
 
     ghost Value = { List (List ℕ) };
 
-    ghost view = { λ s. s.sets.keys };
+    ghost view = { λ s. s.sets };
 
-    ghost invariant = { λ s. IsTable s.sets.keys s.unions s.differences };
+    ghost invariant = { λ s. IsTable s.sets s.unions s.differences };
 }
 
 impl SetTable {
@@ -42,43 +39,36 @@ impl SetTable {
         ensures { result ≡ [] }
     {
         SetTable {
-            sets: IndexSet::new(alloc),
-            last: 0,
+            sets: TimeSets::new(alloc),
             unions: Unions::new(alloc),
             differences: Unions::new(alloc),
         }
     }
 
     /// The number of a set; one that has none yet gets the next number.
-    pub fn place(&mut self, times: TimeSet) -> Result<usize, NoMemory>
+    pub fn place(&mut self, times: TimeSet) -> Result<SetId, NoMemory>
         ensures placed { IfOk result (λ n. slice_get self.new n ≡ Some times) }
         ensures kept { Extends self.old self.new }
     {
-        if is_at(&self.sets, self.last, times.as_slice()) {
-            return Ok(self.last);
-        }
-        let Ok((number, _)) = self.sets.insert_full(times) else {
-            return Err(NoMemory);
-        };
-        self.last = number;
-        Ok(number)
+        self.sets.intern(times)
     }
 
     /// The set of a number.
-    pub fn times(&self, number: usize) -> &TimeSet
+    pub fn times(&self, number: SetId) -> &TimeSet
         requires { number < length self.now }
         ensures { slice_get self.now number ≡ Some result.now }
     {
-        &self.sets[number]
+        self.sets.times(number)
     }
 
     /// The number of the first `count` seconds of a set; of the set itself where it has no more.
-    pub fn prefix(&mut self, alloc: Global, number: usize, count: usize) -> Result<usize, NoMemory>
+    pub fn prefix(&mut self, alloc: Global, number: SetId, count: usize) -> Result<SetId, NoMemory>
         requires { number < length self.old }
-        ensures placed { IfOk result (λ n. slice_get self.new n ≡ Some (take count (get_or self.old number []))) }
+        ensures placed { IfOk result (λ n. slice_get self.new n
+            ≡ Some (take count (get_or self.old number []))) }
         ensures kept { Extends self.old self.new }
     {
-        let seconds = self.sets[number].as_slice();
+        let seconds = self.sets.times(number).as_slice();
         if seconds.len() <= count {
             return Ok(number);
         }
@@ -88,11 +78,12 @@ impl SetTable {
 
     /// The number of the union of two sets. It is made at the first question for the two, and the pair that was asked for
     /// last is looked for nowhere else.
-    pub fn union(&mut self, alloc: Global, a: usize, b: usize) -> Result<usize, NoMemory>
+    pub fn union(&mut self, alloc: Global, a: SetId, b: SetId) -> Result<SetId, NoMemory>
         requires a { a < length self.old }
         requires b { b < length self.old }
         ensures within { IfOk result (λ n. n < length self.new) }
-        ensures union { IfOk result (λ n. IsSetOf nat_lt (get_or self.new n []) (λ s. Contains (get_or self.old a []) s ⊎ Contains (get_or self.old b []) s)) }
+        ensures union { IfOk result (λ n. IsUnionOf
+            (get_or self.old a []) (get_or self.old b []) (get_or self.new n [])) }
         ensures kept { Extends self.old self.new }
     {
         let sets = &self.sets;
@@ -103,7 +94,7 @@ impl SetTable {
         if let Some(number) = self.unions.get(pair) {
             return Ok(number);
         }
-        let both = TimeSet::union(alloc, &sets[a], &sets[b])?;
+        let both = TimeSet::union(alloc, sets.times(a), sets.times(b))?;
         let number = self.place(both)?;
         self.unions.put(pair, number)?;
         Ok(number)
@@ -111,11 +102,12 @@ impl SetTable {
 
     /// The number of the seconds of one set that another lacks. It is made at the first question for the two, and the pair
     /// that was asked for last is looked for nowhere else.
-    pub fn difference(&mut self, alloc: Global, a: usize, b: usize) -> Result<usize, NoMemory>
+    pub fn difference(&mut self, alloc: Global, a: SetId, b: SetId) -> Result<SetId, NoMemory>
         requires a { a < length self.old }
         requires b { b < length self.old }
         ensures within { IfOk result (λ n. n < length self.new) }
-        ensures difference { IfOk result (λ n. IsSetOf nat_lt (get_or self.new n []) (λ s. Contains (get_or self.old a []) s × ¬ Contains (get_or self.old b []) s)) }
+        ensures difference { IfOk result (λ n. IsDifferenceOf
+            (get_or self.old a []) (get_or self.old b []) (get_or self.new n [])) }
         ensures kept { Extends self.old self.new }
     {
         let sets = &self.sets;
@@ -123,7 +115,7 @@ impl SetTable {
         if let Some(number) = self.differences.get(pair) {
             return Ok(number);
         }
-        let left = TimeSet::without(alloc, &sets[a], &sets[b])?;
+        let left = TimeSet::without(alloc, sets.times(a), sets.times(b))?;
         let number = self.place(left)?;
         self.differences.put(pair, number)?;
         Ok(number)

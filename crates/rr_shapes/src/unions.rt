@@ -7,20 +7,23 @@ use rr_model::NoMemory;
 use std::alloc::Global;
 use std::marker::Model;
 
+/// The number of a set in a `SetTable`.
+pub type SetId = usize;
+
 /// The numbers of two sets, in the order of the question.
 #[derive(Clone, Copy, PartialEq, Eq, Hash)]
 pub struct Pair {
     /// The number of the first set.
-    pub a: usize,
+    pub a: SetId,
     /// The number of the second set.
-    pub b: usize,
+    pub b: SetId,
 }
 
 /// The numbers of unions by the numbers of the two sets. Contracts see it as the list of the pairs with their unions.
 #[derive(Drop)]
 pub struct Unions {
-    known: IndexMap<Pair, usize>,
-    // The place of the pair that was asked for last.
+    known: IndexMap<Pair, SetId>,
+    // The index of the pair that was asked for last.
     last: usize,
 }
 
@@ -45,7 +48,7 @@ impl Unions {
     }
 
     /// The union of a pair, where it is known. The pair that was asked for last is looked for nowhere else.
-    pub fn get(&mut self, pair: Pair) -> Option<usize>
+    pub fn get(&mut self, pair: Pair) -> Option<SetId>
         ensures known { IfSome result (λ n. Contains self.old (pair, n)) }
         ensures unchanged { self.new ≡ self.old }
     {
@@ -54,21 +57,22 @@ impl Unions {
                 return Some(*number);
             }
         }
-        let (place, _, number) = self.known.get_full(&pair)?;
+        let (index, _, number) = self.known.get_full(&pair)?;
         let number = *number;
-        self.last = place;
+        self.last = index;
         Some(number)
     }
 
     /// Remembers the union of a pair, which becomes the pair that was asked for last.
-    pub fn put(&mut self, pair: Pair, number: usize) -> Result<(), NoMemory>
+    pub fn put(&mut self, pair: Pair, number: SetId) -> Result<(), NoMemory>
         ensures there { OnOk result (Contains self.new (pair, number)) }
-        ensures nothing_else { (known : Pair × ℕ) → Contains self.new known → Contains self.old known ⊎ ((pair, number) ≡ known) }
+        ensures nothing_else { (known : Pair × ℕ) → Contains self.new known
+            → Contains self.old known ⊎ ((pair, number) ≡ known) }
     {
-        let Ok((place, _)) = self.known.insert_full(pair, number) else {
+        let Ok((index, _)) = self.known.insert_full(pair, number) else {
             return Err(NoMemory);
         };
-        self.last = place;
+        self.last = index;
         Ok(())
     }
 }

@@ -24,6 +24,6 @@ returns-clause-known g c =
     let own = g.A.DaySeq.sets c.args.seq.now in
     let times = c.times-times.result.now in
     let some : times ≢ [] = search rules in
-    on_ok c.put_numbered-2.result (AreKnown own c.place.new.self c.put.new.self.known.items)
-    (known_put own c.args.sets.now c.place.new.self c.args.known.now.known.items c.put.new.self.known.items c.args.own c.in_ok-number.number times
+    on_ok c.put_numbered-2.result (AreKnown own c.add_set.new.sets c.put.new.self.known.items)
+    (known_put own c.args.sets.now c.add_set.new.sets c.args.known.now.known.items c.put.new.self.known.items c.args.own c.in_ok-number.number times
     c.times-times.ensures some c.in_ok-number.ensures.placed c.in_ok-put.ensures.put c.requires.known)

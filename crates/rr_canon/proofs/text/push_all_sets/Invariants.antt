@@ -4,5 +4,5 @@ use Rattle.rr_canon.specs.Versions.{set_line_of}
 use Rattle.rr_canon.proofs.text.push_all_sets.Given as goal
 
 -- the sets so far were added
-abbrev pub invariant-loop-place : goal.invariant-loop-place
-invariant-loop-place l = l.out.items ≡ l.fn.out.items ++ text_of_lines (map (set_line_of l.version) (take l.place l.sets))
+abbrev pub invariant-loop-number : goal.invariant-loop-number
+invariant-loop-number l = l.out.items ≡ l.fn.out.items ++ text_of_lines (map (set_line_of l.version) (take l.number l.sets))

@@ -11,15 +11,15 @@ returns-then-eq-clause-known c =
 
 pub returns-clause-known : goal.returns-clause-known
 returns-clause-known c =
-    let k = c.in_ok-place.field-0-1.now in
+    let k = c.in_ok-index.field-0-1.now in
     let entries = c.match-get_index.self-inside.known.entries in
-    let passes = lookup_key_passes (same_pair c.args.pair) entries k (sym c.in_ok-place.ensures.key) in
+    let passes = lookup_key_passes (same_pair c.args.pair) entries k (sym c.in_ok-index.ensures.key) in
     let stays : entries ≡ c.self.inside.known.entries =
     elim c.match-get_index.branch [
       | in-Some+else-eq w ↦ ap (λ u. u.known.entries) w.self-inside-is
       | in_default w ↦ ap (λ u. u.known.entries) w.self-inside-is
     ] in
-    subst (λ p. Contains c.args.self.now (p, c.in_ok-place.number.now)) (sym (one_pair c.args.pair k passes)) (
-    subst (λ l. Contains l (k, c.in_ok-place.number.now)) (stays ∙ c.self.view_is)
-    (there entries c.in_ok-place.place (k, c.in_ok-place.number.now) c.in_ok-place.ensures.entry)
+    subst (λ p. Contains c.args.self.now (p, c.in_ok-index.number.now)) (sym (one_pair c.args.pair k passes)) (
+    subst (λ l. Contains l (k, c.in_ok-index.number.now)) (stays ∙ c.self.view_is)
+    (there entries c.in_ok-index.index (k, c.in_ok-index.number.now) c.in_ok-index.ensures.entry)
     )
