@@ -20,7 +20,8 @@ pub struct Cut<'a> {
 
 // What the first physical line adds to the line before it, and what follows, where it continues that line.
 fn take_continuation(text: &[u8]) -> Option<(&[u8], &[u8])>
-    ensures { MatchOption result (begins_blank text.now ≡ false) (λ sides. IsContinued text.now sides.0.now sides.1.now) }
+    ensures { MatchOption result (begins_blank text.now ≡ false)
+        (λ sides. IsContinued text.now sides.0.now sides.1.now) }
 {
     if !begins_blank(text) {
         return None;
@@ -36,7 +37,8 @@ fn take_continuation(text: &[u8]) -> Option<(&[u8], &[u8])>
 /// It is the first of `rr_text::lines_from`, without the blanks behind its line breaks.
 pub fn cut_line<'a>(alloc: Global, text: &'a [u8], number: u64) -> Result<Option<Cut<'a>>, NoMemory>
     requires { number + length text.now < 2 ^ 64 }
-    ensures { IfOk result (λ cut. MatchOption cut (text.now ≡ []) (λ cut. IsCut number text.now cut.line cut.after.now cut.next)) }
+    ensures { IfOk result (λ cut. MatchOption cut (text.now ≡ [])
+        (λ cut. IsCut number text.now cut.line cut.after.now cut.next)) }
 {
     let Some((first, after)) = take_line(text) else {
         return Ok(None);

@@ -29,7 +29,8 @@ pub fn own_lines<'a>(alloc: Global, lines: &'a [Line]) -> Result<Vec<&'a Line>, 
 
 /// The first line of this name.
 pub fn first_named<'a>(word: &[u8], lines: &[&'a Line]) -> Option<&'a Line>
-    ensures { option_map (λ line. line.now) result ≡ first_named word.now (map (λ line. line.now) lines.now) }
+    ensures { option_map (λ line. line.now) result
+        ≡ first_named word.now (map (λ line. line.now) lines.now) }
 {
     for line in lines {
         if is_named(line.text.as_slice(), word) {

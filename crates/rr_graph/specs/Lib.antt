@@ -4,3 +4,4 @@ pub mod FirstOccurrence
 pub mod Ranges
 pub mod Moved
 pub mod Written
+pub mod PatternJson

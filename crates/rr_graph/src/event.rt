@@ -33,7 +33,11 @@ fn repeat_in(day: i64, event: &Value) -> Result<Repeat, Refusal>
 fn event_from(all_day: bool, at: i64, repeat: Repeat) -> GraphEvent
     requires years { IsInYears Moments at }
     requires repeat { IsRepeatFrom (day_part Moments at) repeat }
-    ensures value { result ≡ record { kind = (event_start all_day at).0; start = (event_start all_day at).1; repeat = repeat } }
+    ensures value { result ≡ record {
+      kind = (event_start all_day at).0;
+      start = (event_start all_day at).1;
+      repeat = repeat;
+    } }
     ensures valid { IsValidGraphEvent result }
 {
     if all_day {
@@ -86,7 +90,8 @@ fn bare_in(value: &Value) -> Result<GraphEvent, Refusal>
 
 /// What an object states: a bare recurrence where it has a pattern, and else an event.
 pub(crate) fn value_in(offset: Option<i32>, value: &Value) -> Result<GraphEvent, Refusal>
-    ensures value { result ≡ by_pattern offset (member_of (codes "pattern") (view value.now)) (view value.now) }
+    ensures value { result
+        ≡ by_pattern offset (member_of (codes "pattern") (view value.now)) (view value.now) }
     ensures valid { IfOk result IsValidGraphEvent }
 {
     match find_member(value, "pattern") {

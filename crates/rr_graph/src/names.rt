@@ -43,7 +43,8 @@ pub(crate) fn index_name(index: i8) -> &'static str
 
 /// The names of the weekdays of a sum of days, from Sunday to Saturday.
 pub(crate) fn day_names(alloc: Global, days: u8) -> Result<Vec<Value>, AllocError>
-    ensures { IfOk result (λ names. items_view names.items ≡ items_of (map string (day_names days))) }
+    ensures { IfOk result
+        (λ names. items_view names.items ≡ items_of (map string (day_names days))) }
 {
     let mut names = Vec::new(alloc);
     for weekday in WEEKDAYS {

@@ -205,7 +205,8 @@ fn small_number(pattern: &Value, member: Member, name: &str, most: u8) -> Result
 }
 
 fn day_of_month_in(form: Form, pattern: &Value) -> Result<u8, Refusal>
-    ensures { result ≡ if_used (uses_day_of_month form) 0 (within DayOfMonth 1 31 (number_in (codes "dayOfMonth") (view pattern.now))) }
+    ensures { result ≡ if_used (uses_day_of_month form) 0
+        (within DayOfMonth 1 31 (number_in (codes "dayOfMonth") (view pattern.now))) }
 {
     match form {
         Form::AbsoluteMonthly | Form::AbsoluteYearly => {
@@ -216,7 +217,8 @@ fn day_of_month_in(form: Form, pattern: &Value) -> Result<u8, Refusal>
 }
 
 fn month_in(form: Form, pattern: &Value) -> Result<u8, Refusal>
-    ensures { result ≡ if_used (uses_month form) 0 (within Month 1 12 (number_in (codes "month") (view pattern.now))) }
+    ensures { result ≡ if_used (uses_month form) 0
+        (within Month 1 12 (number_in (codes "month") (view pattern.now))) }
 {
     match form {
         Form::AbsoluteYearly | Form::RelativeYearly => {

@@ -43,7 +43,8 @@ fn form_freq(form: Form) -> Freq
 
 // The month of a yearly pattern.
 fn months_of(alloc: Global, pattern: &Pattern) -> Result<Numbers, NoMemory>
-    ensures { IfOk result (λ months. months ≡ if_part (uses_month pattern.now.form) (pos pattern.now.month ∷ [])) }
+    ensures { IfOk result (λ months. months
+        ≡ if_part (uses_month pattern.now.form) (pos pattern.now.month ∷ [])) }
 {
     let mut months = Numbers::new(alloc);
     match pattern.form {
@@ -55,7 +56,8 @@ fn months_of(alloc: Global, pattern: &Pattern) -> Result<Numbers, NoMemory>
 
 // The days of the month of an absolute pattern.
 fn month_days_of(alloc: Global, pattern: &Pattern) -> Result<Numbers, NoMemory>
-    ensures { IfOk result (λ days. days ≡ if_part (uses_day_of_month pattern.now.form) (month_days_up_to pattern.now.day_of_month)) }
+    ensures { IfOk result (λ days. days ≡ if_part (uses_day_of_month pattern.now.form)
+        (month_days_up_to pattern.now.day_of_month)) }
 {
     match pattern.form {
         Form::AbsoluteMonthly | Form::AbsoluteYearly => {
@@ -89,7 +91,8 @@ fn month_days_up_to(alloc: Global, day: u8) -> Result<Numbers, NoMemory>
 
 // The weekdays of a weekly or relative pattern.
 fn days_of(alloc: Global, pattern: &Pattern) -> Result<DayItems, NoMemory>
-    ensures { IfOk result (λ days. days ≡ if_part (uses_days pattern.now.form) (days_of_sum pattern.now.days)) }
+    ensures { IfOk result (λ days. days
+        ≡ if_part (uses_days pattern.now.form) (days_of_sum pattern.now.days)) }
 {
     match pattern.form {
         Form::Weekly | Form::RelativeMonthly | Form::RelativeYearly => {

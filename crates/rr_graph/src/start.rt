@@ -60,7 +60,8 @@ fn graph_moment(text: &str) -> Option<Stamp>
 
 // The moment that the start states.
 fn stated_moment(start: &Value) -> Option<Stamp>
-    ensures value { result ≡ option_and_then graph_moment (text_in (codes "dateTime") (view start.now)) }
+    ensures value { result
+        ≡ option_and_then graph_moment (text_in (codes "dateTime") (view start.now)) }
     ensures years { IfSome result (λ stamp. IsInYears Moments stamp.at) }
 {
     let text = text_in(start, "dateTime")?;
@@ -87,7 +88,8 @@ pub(crate) fn start_moment(
 /// The zone's name is a text, where it stands.
 #[tactic(auto, using(crate::proofs::JsonLemmas::is_text_some))]
 pub(crate) fn judge_zone(start: &Value) -> Result<(), Refusal>
-    ensures { result ≡ must (is_text_or_missing (member_of (codes "timeZone") (view start.now))) (BadMember TimeZone) }
+    ensures { result ≡ must (is_text_or_missing (member_of (codes "timeZone") (view start.now)))
+        (BadMember TimeZone) }
 {
     match find_member(start, "timeZone") {
         Some(zone) if !zone.is_string() => Err(Refusal::BadMember(Member::TimeZone)),
@@ -98,7 +100,8 @@ pub(crate) fn judge_zone(start: &Value) -> Result<(), Refusal>
 /// `isAllDay` is true or false, where it stands.
 #[tactic(auto, using(crate::proofs::JsonLemmas::is_flag_some))]
 pub(crate) fn judge_flag(event: &Value) -> Result<(), Refusal>
-    ensures { result ≡ must (is_flag_or_missing (member_of (codes "isAllDay") (view event.now))) (BadMember IsAllDay) }
+    ensures { result ≡ must (is_flag_or_missing (member_of (codes "isAllDay") (view event.now)))
+        (BadMember IsAllDay) }
 {
     match find_member(event, "isAllDay") {
         Some(flag) if !flag.is_boolean() => Err(Refusal::BadMember(Member::IsAllDay)),

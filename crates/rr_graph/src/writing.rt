@@ -10,7 +10,7 @@ use rr_model::{GraphEvent, Kind, NoMemory, Pattern, Range, Repeat};
 use std::alloc::Global;
 
 // One line of compact JSON.
-fn written(
+fn text_of(
     alloc: Global,
     kind: Kind,
     start: i64,
@@ -38,12 +38,13 @@ fn written(
 pub fn write(alloc: Global, event: &GraphEvent) -> Result<Vec<u8>, NoMemory>
     requires valid { IsValidGraphEvent event.now }
     requires repeats { HasPattern event.now.repeat }
-    ensures text { IfOk result (λ text. IsWrittenText event.now.kind event.now.start event.now.repeat text.items) }
+    ensures text { IfOk result
+        (λ text. IsWrittenText event.now.kind event.now.start event.now.repeat text.items) }
 {
     match event.repeat {
         Repeat::Once => unreachable!(),
         Repeat::Pattern { pattern, range } => {
-            written(alloc, event.kind, event.start, &pattern, &range)
+            text_of(alloc, event.kind, event.start, &pattern, &range)
         }
     }
 }

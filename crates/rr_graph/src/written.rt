@@ -1,8 +1,9 @@
 // The JSON of patterns and ranges (Microsoft Graph, recurrencePattern and recurrenceRange).
-ghost use Rattle.std.specs.Prelude.{◌≡◌, codes, false, map, IfOk};
-ghost use Rattle.serde_json.specs.Data.{array, boolean, member, no_members, number, object, string, unsigned};
-ghost use Rattle.serde_json.specs.View.{items_of, view};
-ghost use Rattle.rr_model.specs.Graph.Text.{day_names, day_text, event_data, index_text, pattern_data, range_data, recurrence_data};
+ghost use Rattle.std.specs.Prelude.{◌≡◌, IfOk};
+ghost use Rattle.serde_json.specs.Data.{string};
+ghost use Rattle.serde_json.specs.View.{view};
+ghost use Rattle.rr_graph.specs.PatternJson.{absolute_monthly_json, absolute_yearly_json, daily_json, end_date_json, event_json, no_end_json, numbered_json, recurrence_json, relative_monthly_json, relative_yearly_json, start_json, weekly_json};
+ghost use Rattle.rr_model.specs.Graph.Text.{event_data, pattern_data, range_data, recurrence_data};
 ghost use Rattle.rr_model.specs.Graph.Validity.{IsRangeEnd};
 ghost use Rattle.rr_model.specs.Moment.Years.{HasFourDigitYear, IsInYears};
 ghost use Rattle.rr_model.specs.Text.Moments.{extended_date_text, extended_text};
@@ -15,41 +16,33 @@ use serde_json::{Value, json};
 use std::alloc::{AllocError, Global};
 
 fn daily(alloc: Global, interval: u32) -> Result<Value, AllocError>
-    ensures { IfOk result (λ value. view value ≡ object (member (codes "interval") (number (unsigned interval))
-        (member (codes "type") (string (codes "daily")) no_members))) }
+    ensures { IfOk result (λ value. view value ≡ daily_json interval) }
 {
     json!(in alloc; {"interval": interval, "type": "daily"})
 }
 
 fn weekly(alloc: Global, interval: u32, days: u8, first_day: u8) -> Result<Value, AllocError>
-    ensures { IfOk result (λ value. view value ≡ object (member (codes "daysOfWeek") (array (items_of (map string (day_names days))))
-        (member (codes "firstDayOfWeek") (string (day_text first_day)) (member (codes "interval") (number (unsigned interval))
-        (member (codes "type") (string (codes "weekly")) no_members))))) }
+    ensures { IfOk result (λ value. view value ≡ weekly_json interval days first_day) }
 {
     let names = day_names(alloc, days)?;
     json!(in alloc; {"daysOfWeek": names, "firstDayOfWeek": day_name(first_day), "interval": interval, "type": "weekly"})
 }
 
 fn absolute_monthly(alloc: Global, interval: u32, day: u8) -> Result<Value, AllocError>
-    ensures { IfOk result (λ value. view value ≡ object (member (codes "dayOfMonth") (number (unsigned day))
-        (member (codes "interval") (number (unsigned interval)) (member (codes "type") (string (codes "absoluteMonthly")) no_members)))) }
+    ensures { IfOk result (λ value. view value ≡ absolute_monthly_json interval day) }
 {
     json!(in alloc; {"dayOfMonth": day, "interval": interval, "type": "absoluteMonthly"})
 }
 
 fn relative_monthly(alloc: Global, interval: u32, days: u8, index: i8) -> Result<Value, AllocError>
-    ensures { IfOk result (λ value. view value ≡ object (member (codes "daysOfWeek") (array (items_of (map string (day_names days))))
-        (member (codes "index") (string (index_text index)) (member (codes "interval") (number (unsigned interval))
-        (member (codes "type") (string (codes "relativeMonthly")) no_members))))) }
+    ensures { IfOk result (λ value. view value ≡ relative_monthly_json interval days index) }
 {
     let names = day_names(alloc, days)?;
     json!(in alloc; {"daysOfWeek": names, "index": index_name(index), "interval": interval, "type": "relativeMonthly"})
 }
 
 fn absolute_yearly(alloc: Global, interval: u32, day: u8, month: u8) -> Result<Value, AllocError>
-    ensures { IfOk result (λ value. view value ≡ object (member (codes "dayOfMonth") (number (unsigned day))
-        (member (codes "interval") (number (unsigned interval)) (member (codes "month") (number (unsigned month))
-        (member (codes "type") (string (codes "absoluteYearly")) no_members))))) }
+    ensures { IfOk result (λ value. view value ≡ absolute_yearly_json interval day month) }
 {
     json!(in alloc; {"dayOfMonth": day, "interval": interval, "month": month, "type": "absoluteYearly"})
 }
@@ -61,9 +54,7 @@ fn relative_yearly(
     index: i8,
     month: u8,
 ) -> Result<Value, AllocError>
-    ensures { IfOk result (λ value. view value ≡ object (member (codes "daysOfWeek") (array (items_of (map string (day_names days))))
-        (member (codes "index") (string (index_text index)) (member (codes "interval") (number (unsigned interval))
-        (member (codes "month") (number (unsigned month)) (member (codes "type") (string (codes "relativeYearly")) no_members)))))) }
+    ensures { IfOk result (λ value. view value ≡ relative_yearly_json interval days index month) }
 {
     let names = day_names(alloc, days)?;
     json!(in alloc; {"daysOfWeek": names, "index": index_name(index), "interval": interval, "month": month, "type": "relativeYearly"})
@@ -115,22 +106,19 @@ fn date_value(alloc: Global, day: i64) -> Result<Value, NoMemory>
 }
 
 fn no_end(alloc: Global, start: Value) -> Result<Value, AllocError>
-    ensures { IfOk result (λ value. view value ≡ object (member (codes "startDate") (view start)
-        (member (codes "type") (string (codes "noEnd")) no_members))) }
+    ensures { IfOk result (λ value. view value ≡ no_end_json (view start)) }
 {
     json!(in alloc; {"startDate": start, "type": "noEnd"})
 }
 
 fn end_date(alloc: Global, start: Value, last: Value) -> Result<Value, AllocError>
-    ensures { IfOk result (λ value. view value ≡ object (member (codes "endDate") (view last) (member (codes "startDate") (view start)
-        (member (codes "type") (string (codes "endDate")) no_members)))) }
+    ensures { IfOk result (λ value. view value ≡ end_date_json (view start) (view last)) }
 {
     json!(in alloc; {"endDate": last, "startDate": start, "type": "endDate"})
 }
 
 fn numbered(alloc: Global, start: Value, count: u64) -> Result<Value, AllocError>
-    ensures { IfOk result (λ value. view value ≡ object (member (codes "numberOfOccurrences") (number (unsigned count))
-        (member (codes "startDate") (view start) (member (codes "type") (string (codes "numbered")) no_members)))) }
+    ensures { IfOk result (λ value. view value ≡ numbered_json (view start) count) }
 {
     json!(in alloc; {"numberOfOccurrences": count, "startDate": start, "type": "numbered"})
 }
@@ -153,7 +141,7 @@ fn range_value(alloc: Global, range: &Range) -> Result<Value, NoMemory>
 }
 
 fn recurrence(alloc: Global, pattern: Value, range: Value) -> Result<Value, AllocError>
-    ensures { IfOk result (λ value. view value ≡ object (member (codes "pattern") (view pattern) (member (codes "range") (view range) no_members))) }
+    ensures { IfOk result (λ value. view value ≡ recurrence_json (view pattern) (view range)) }
 {
     json!(in alloc; {"pattern": pattern, "range": range})
 }
@@ -171,14 +159,13 @@ fn recurrence_value(alloc: Global, pattern: &Pattern, range: &Range) -> Result<V
 
 // The start of an event.
 fn start(alloc: Global, moment: Value) -> Result<Value, AllocError>
-    ensures { IfOk result (λ value. view value ≡ object (member (codes "dateTime") (view moment) no_members)) }
+    ensures { IfOk result (λ value. view value ≡ start_json (view moment)) }
 {
     json!(in alloc; {"dateTime": moment})
 }
 
 fn event(alloc: Global, recurrence: Value, start: Value) -> Result<Value, AllocError>
-    ensures { IfOk result (λ value. view value ≡ object (member (codes "isAllDay") (boolean false)
-        (member (codes "recurrence") (view recurrence) (member (codes "start") (view start) no_members)))) }
+    ensures { IfOk result (λ value. view value ≡ event_json (view recurrence) (view start)) }
 {
     json!(in alloc; {"isAllDay": false, "recurrence": recurrence, "start": start})
 }
@@ -186,7 +173,7 @@ fn event(alloc: Global, recurrence: Value, start: Value) -> Result<Value, AllocE
 // The start of an event of moments.
 fn start_value(alloc: Global, at: i64) -> Result<Value, NoMemory>
     requires { IsInYears Moments at }
-    ensures { IfOk result (λ value. view value ≡ object (member (codes "dateTime") (string (extended_text Moments at)) no_members)) }
+    ensures { IfOk result (λ value. view value ≡ start_json (string (extended_text Moments at))) }
 {
     let moment = time_value(alloc, Kind::Moments, at)?;
     Ok(start(alloc, moment)?)

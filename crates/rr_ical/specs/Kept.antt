@@ -18,6 +18,7 @@ use Rattle.rr_model.specs.declared.used.UsedLine.{UsedLine}
 use Rattle.rr_ical.specs.declared.kept.LineValue.{LineValue}
 use Rattle.rr_ical.specs.declared.kept.LineValue.TheVariants.{OneDate, OneRule}
 use Rattle.rr_ical.specs.declared.kept.ReadLines.{ReadLines}
+use Rattle.rr_ical.specs.declared.second.Setting.{Setting}
 
 -- ---- each line alone
 
@@ -25,9 +26,13 @@ use Rattle.rr_ical.specs.declared.kept.ReadLines.{ReadLines}
 abbrev pub is_date_separator : Bool → ℕ → Bool
 is_date_separator takes_semicolons = if takes_semicolons then is_comma_or_semicolon else is_comma
 
+-- the date values of a text, between their separators
+abbrev pub date_values : Bool → List ℕ → List (List ℕ)
+date_values takes_semicolons text = slice_split (is_date_separator takes_semicolons) text
+
 -- the date values of a text are the first one and those of the rest, which is shorter
 pub record IsDateCut (takes_semicolons : Bool) (text first rest : List ℕ) : Type 0 where
-  pub values : slice_split (is_date_separator takes_semicolons) text ≡ first ∷ slice_split (is_date_separator takes_semicolons) rest
+  pub values : date_values takes_semicolons text ≡ first ∷ date_values takes_semicolons rest
   pub shorter : length rest < length text
 
 -- one more date value, where so many are read: TooManyParts, PeriodValue in RDATE (true), and what the value states
@@ -85,6 +90,14 @@ value_beside rule_beside offset start beside (OneRule line is_given stated) = ru
 -- the values in order
 abbrev pub values_beside : {R : Type 0} → (ℕ → Stated R → Result R Refusal) → Option ℤ → Stamp → Beside R → List (LineValue R) → Result (Beside R) Refusal
 values_beside rule_beside offset start beside values = in_turn (value_beside rule_beside offset start) beside values
+
+-- one value beside what is set: the stated offset and the start
+abbrev pub value_in : {R : Type 0} → (Option ℤ → Stamp → ℕ → Stated R → Result R Refusal) → Setting → Beside R → LineValue R → Result (Beside R) Refusal
+value_in rule_beside setting beside value = value_beside (rule_beside setting.offset setting.start) setting.offset setting.start beside value
+
+-- the values in order, beside what is set
+abbrev pub values_in : {R : Type 0} → (Option ℤ → Stamp → ℕ → Stated R → Result R Refusal) → Setting → List (LineValue R) → Result (Beside R) Refusal
+values_in rule_beside setting values = values_beside (rule_beside setting.offset setting.start) setting.offset setting.start nothing_beside values
 
 -- the start of the used lines with the rules and dates beside it, each value read once
 abbrev pub kept_event : {R : Type 0} → Language R → (Stamp → ℕ → Stated R → Result R Refusal) → Option ℤ → Scan → Result (Event R) Refusal

@@ -1,10 +1,14 @@
 -- What a step leaves that changes the open components (RFC 5545, section 3.6).
-use Rattle.std.specs.Prelude.{◌≡◌, ⊤, Result, Ok, Err, Option}
+use Rattle.std.specs.Prelude.{◌≡◌, ℕ, Bool, ◌||◌, List, ◌∷◌, ⊤, Result, Ok, Err, Option}
 use Rattle.rr_model.specs.Text.Event.{Components, Left, left}
 use Rattle.rr_model.specs.declared.refusal.Fault.{Fault}
 use Rattle.rr_model.specs.declared.refusal.Fault.TheVariants.{Refused, NoMemory}
 use Rattle.rr_model.specs.declared.refusal.Refusal.{Refusal}
 use Rattle.rr_model.specs.declared.used.UsedLine.{UsedLine}
+
+-- the components with one more open inside the others, which is an event or not
+abbrev pub with_component : Components → List ℕ → Bool → Components
+with_component components name event = record { open_names = name ∷ components.open_names; had_event = event || components.had_event }
 
 -- The value becomes what is wanted, or the refusal is answered, or it is out of memory.
 abbrev pub Becomes : {A : Type 0} → Result A Refusal → A → Result (Unit {0}) Fault → Type 0

@@ -8,7 +8,7 @@ use rr_model::{End, Kind, Refusal, Stamp};
 use rr_text::later_in_years;
 
 // A moment of UTC as local time.
-fn turned(line: u64, offset: Option<i32>, at: i64) -> Result<i64, Refusal>
+fn local_moment(line: u64, offset: Option<i32>, at: i64) -> Result<i64, Refusal>
     ensures { result ≡ turned line offset at }
 {
     let Some(offset) = offset else {
@@ -36,7 +36,7 @@ pub(crate) fn moment_beside(
     ensures { result ≡ moment_beside offset start line stamp }
 {
     if stamp.utc && !start.utc && has_time(start.kind) {
-        turned(line, offset, stamp.at)
+        local_moment(line, offset, stamp.at)
     } else {
         Ok(stamp.at)
     }

@@ -1,7 +1,7 @@
 // The components that are open (RFC 5545, section 3.6).
-ghost use Rattle.std.specs.Prelude.{◌≡◌, ◌∷◌, ◌||◌, Result, OnOk};
+ghost use Rattle.std.specs.Prelude.{◌≡◌, Result, OnOk};
 ghost use Rattle.rr_model.specs.Text.Event.{Components, no_components, is_event, is_in_event, begun, ended, stop_at_end};
-ghost use Rattle.rr_ical.specs.Steps.{Becomes};
+ghost use Rattle.rr_ical.specs.Steps.{Becomes, with_component};
 
 use crate::names::{is_event, is_same_name};
 use rr_model::{Bytes, Fault, NoMemory, Refusal};
@@ -58,7 +58,7 @@ impl Nesting {
 
     // A component more is open.
     fn nest(&mut self, name: Bytes, event: bool) -> Result<(), NoMemory>
-        ensures { OnOk result (self.new ≡ record { open_names = name ∷ self.old.open_names; had_event = event || self.old.had_event }) }
+        ensures { OnOk result (self.new ≡ with_component self.old name event) }
     {
         self.names.push(name)?;
         self.had_event |= event;

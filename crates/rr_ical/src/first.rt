@@ -1,11 +1,10 @@
 // The first pass over the used lines of an event judges each line alone (RFC 5545, section 3.8).
 ghost use Rattle.std.specs.Prelude.{◌≡◌, ◌<◌, IfOk};
-ghost use Rattle.std.specs.List.{slice_split};
 ghost use Rattle.rr_model.specs.Answers.{Answers};
 ghost use Rattle.rr_model.specs.Moment.Years.{IsInYears};
 ghost use Rattle.rr_model.specs.Text.Passes.{judged_start, has_slash, date_value};
 ghost use Rattle.rr_ical.specs.Steps.{Becomes};
-ghost use Rattle.rr_ical.specs.Kept.{is_date_separator, kept_date, kept_dates, kept_line, kept_lines, kept_rule, kept_start, next_date, next_rule, nothing_kept};
+ghost use Rattle.rr_ical.specs.Kept.{date_values, kept_date, kept_dates, kept_line, kept_lines, kept_rule, kept_start, next_date, next_rule, nothing_kept};
 
 use crate::dates::cut_date;
 use crate::kept::{LineValue, LineValues, ReadLines};
@@ -89,7 +88,8 @@ fn keep_dates<R: Drop>(
     read: &mut ReadLines<R>,
     text: &[u8],
 ) -> Result<(), Fault>
-    ensures { Becomes (kept_dates line is_plus read.old (slice_split (is_date_separator takes_semicolons) text.now)) read.new result }
+    ensures { Becomes (kept_dates line is_plus read.old (date_values takes_semicolons text.now))
+        read.new result }
 {
     let mut rest = text;
     while let Some((piece, after)) = cut_date(takes_semicolons, rest) {
@@ -152,7 +152,8 @@ fn keep_line<R: Drop, L: RuleLanguage<R>>(
     read: &mut ReadLines<R>,
     line: &UsedLine,
 ) -> Result<(), Fault>
-    ensures { Becomes (kept_line L.language line.now.number line.now.name read.old line.now.value) read.new result }
+    ensures { Becomes (kept_line L.language line.now.number line.now.name read.old line.now.value)
+        read.new result }
 {
     let number = line.number;
     let text = line.value.as_slice();

@@ -5,7 +5,7 @@ ghost use Rattle.rr_model.specs.Moment.{is_same_kind};
 ghost use Rattle.rr_model.specs.Moment.Years.{IsInYears};
 ghost use Rattle.rr_model.specs.Text.Passes.{nothing_beside, put_date, put_rule, date_beside};
 ghost use Rattle.rr_ical.specs.Steps.{Becomes};
-ghost use Rattle.rr_ical.specs.Kept.{value_beside, values_beside};
+ghost use Rattle.rr_ical.specs.Kept.{value_in, values_in};
 
 use crate::beside::moment_beside;
 use crate::kept::{LineValue, LineValues};
@@ -32,7 +32,12 @@ impl<R> Model for Nearby<R> {
 
     ghost Value = { Beside R };
 
-    ghost view = { λ n. record { rules = n.rules.items; excluded = n.excluded.items; plus = n.plus; minus = n.minus } };
+    ghost view = { λ n. record {
+      rules = n.rules.items;
+      excluded = n.excluded.items;
+      plus = n.plus;
+      minus = n.minus;
+    } };
 }
 
 /// What the values of an event stand beside.
@@ -100,7 +105,7 @@ fn put_value<R: Drop, L: RuleLanguage<R>>(
     value: LineValue<R>,
 ) -> Result<(), Fault>
     requires { IsInYears setting.start.kind setting.start.at }
-    ensures { Becomes (value_beside (L.beside setting.offset setting.start) setting.offset setting.start beside.old value) beside.new result }
+    ensures { Becomes (value_in L.beside setting beside.old value) beside.new result }
 {
     match value {
         LineValue::OneDate {
@@ -142,7 +147,7 @@ pub(crate) fn second_pass<R: Drop, L: RuleLanguage<R>>(
     values: LineValues<R>,
 ) -> Result<Nearby<R>, Fault>
     requires { IsInYears setting.start.kind setting.start.at }
-    ensures { Answers (values_beside (L.beside setting.offset setting.start) setting.offset setting.start nothing_beside values) result }
+    ensures { Answers (values_in L.beside setting values) result }
 {
     let mut beside = nothing_beside(alloc);
     for value in values.into_items() {

@@ -31,7 +31,7 @@ fn has_quote(text: &[u8]) -> bool
     text.iter().any(|b| *b == b'"')
 }
 
-// Whether a place after a byte lies between two quotes.
+// Whether an index after a byte lies between two quotes.
 fn is_quoted_after(is_quoted: bool, byte: u8, rest: &[u8]) -> bool
     ensures { result ≡ is_quoted_after is_quoted byte rest.now }
 {
@@ -49,12 +49,12 @@ fn ends_parameters(is_quoted: bool, byte: u8) -> bool
     byte == b':' && !is_quoted
 }
 
-// What stands after a place.
-fn after_place(text: &[u8], place: usize) -> &[u8]
-    requires { place < length text.now }
-    ensures { result.now ≡ drop (place + 1) text.now }
+// What stands after an index.
+fn after_index(text: &[u8], index: usize) -> &[u8]
+    requires { index < length text.now }
+    ensures { result.now ≡ drop (index + 1) text.now }
 {
-    &text[place + 1..]
+    &text[index + 1..]
 }
 
 /// What stands after the first colon that is not between two quotes (RFC 5545, section 3.1).
@@ -63,9 +63,9 @@ pub fn after_colon(text: &[u8]) -> Option<&[u8]>
 {
     let mut is_quoted = false;
     let mut rest = text;
-    while let Some(place) = memchr2(b':', b'"', rest) {
-        let byte = rest[place];
-        rest = after_place(rest, place);
+    while let Some(index) = memchr2(b':', b'"', rest) {
+        let byte = rest[index];
+        rest = after_index(rest, index);
         if ends_parameters(is_quoted, byte) {
             return Some(rest);
         }

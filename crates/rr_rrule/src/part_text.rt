@@ -1,10 +1,11 @@
 // The parts of a recurrence rule as they are written, each after a semicolon (RFC 5545, section 3.3.10).
-ghost use Rattle.std.specs.Prelude.{◌≡◌, ◌==◌, ◌∷◌, ◌++◌, codes, map, OnOk};
-ghost use Rattle.std.specs.Fmt.{decimal, signed_decimal};
-ghost use Rattle.std.specs.List.{join_with_byte};
+ghost use Rattle.std.specs.Prelude.{◌≡◌, ◌∷◌, ◌++◌, codes, OnOk};
+ghost use Rattle.std.specs.Fmt.{signed_decimal};
 ghost use Rattle.rr_model.specs.Rule.Validity.{EndsInYears};
 ghost use Rattle.rr_model.specs.Text.WriteLaws.{IsOneEnd};
-ghost use Rattle.rr_model.specs.Text.Written.{day_item_text, end_text, freq_text, list_part, part_unless, weekday_text};
+ghost use Rattle.rr_model.specs.Text.Written.{day_item_text, end_text, freq_text, list_part, weekday_text};
+ghost use Rattle.rr_rrule.specs.RuleTexts.{comma_list, interval_part, week_start_part};
+ghost use Rattle.rr_text.specs.Appending.{Appends};
 
 use rr_model::{DayItem, End, Freq, NoMemory};
 use rr_text::{push_basic, push_number, push_unsigned, weekday_text};
@@ -26,7 +27,7 @@ pub(crate) fn freq_text(freq: Freq) -> &'static [u8]
 
 // A semicolon, the name and an equals sign.
 fn push_name(line: &mut Vec<u8>, name: &[u8]) -> Result<(), NoMemory>
-    ensures { OnOk result (line.new.items ≡ line.old.items ++ (codes ";" ++ name.now ++ codes "=")) }
+    ensures { OnOk result (Appends line.old line.new (codes ";" ++ name.now ++ codes "=")) }
 {
     line.push(b';')?;
     line.extend_from_slice(name)?;
@@ -38,7 +39,7 @@ fn push_name(line: &mut Vec<u8>, name: &[u8]) -> Result<(), NoMemory>
 pub(crate) fn push_end(line: &mut Vec<u8>, end: End) -> Result<(), NoMemory>
     requires years { EndsInYears end }
     requires one { IsOneEnd end }
-    ensures { OnOk result (line.new.items ≡ line.old.items ++ end_text end) }
+    ensures { OnOk result (Appends line.old line.new (end_text end)) }
 {
     match end {
         End::Never => Ok(()),
@@ -56,7 +57,7 @@ pub(crate) fn push_end(line: &mut Vec<u8>, end: End) -> Result<(), NoMemory>
 
 // INTERVAL, unless it is 1.
 pub(crate) fn push_interval(line: &mut Vec<u8>, interval: u32) -> Result<(), NoMemory>
-    ensures { OnOk result (line.new.items ≡ line.old.items ++ part_unless (interval == 1) (codes "INTERVAL") (decimal interval)) }
+    ensures { OnOk result (Appends line.old line.new (interval_part interval)) }
 {
     if interval == 1 {
         return Ok(());
@@ -67,7 +68,7 @@ pub(crate) fn push_interval(line: &mut Vec<u8>, interval: u32) -> Result<(), NoM
 
 // WKST, unless it is Monday.
 pub(crate) fn push_week_start(line: &mut Vec<u8>, week_start: u8) -> Result<(), NoMemory>
-    ensures { OnOk result (line.new.items ≡ line.old.items ++ part_unless (week_start == 0) (codes "WKST") (weekday_text week_start)) }
+    ensures { OnOk result (Appends line.old line.new (week_start_part week_start)) }
 {
     if week_start == 0 {
         return Ok(());
@@ -81,7 +82,8 @@ pub(crate) fn push_week_start(line: &mut Vec<u8>, week_start: u8) -> Result<(), 
 
 // Numbers, with commas between them.
 fn push_numbers(line: &mut Vec<u8>, first: i16, others: &[i16]) -> Result<(), NoMemory>
-    ensures { OnOk result (line.new.items ≡ line.old.items ++ join_with_byte 44 (map signed_decimal (first ∷ others.now))) }
+    ensures { OnOk result
+        (Appends line.old line.new (comma_list signed_decimal (first ∷ others.now))) }
 {
     push_number(line, i64::from(first))?;
     for other in others {
@@ -97,7 +99,8 @@ pub(crate) fn push_number_part(
     name: &[u8],
     values: &[i16],
 ) -> Result<(), NoMemory>
-    ensures { OnOk result (line.new.items ≡ line.old.items ++ list_part name.now signed_decimal values.now) }
+    ensures { OnOk result
+        (Appends line.old line.new (list_part name.now signed_decimal values.now)) }
 {
     let Some((first, others)) = values.split_first() else {
         return Ok(());
@@ -108,7 +111,7 @@ pub(crate) fn push_number_part(
 
 // A value of BYDAY.
 fn push_day_item(line: &mut Vec<u8>, item: DayItem) -> Result<(), NoMemory>
-    ensures { OnOk result (line.new.items ≡ line.old.items ++ day_item_text item) }
+    ensures { OnOk result (Appends line.old line.new (day_item_text item)) }
 {
     if item.place != 0 {
         push_number(line, i64::from(item.place))?;
@@ -119,7 +122,8 @@ fn push_day_item(line: &mut Vec<u8>, item: DayItem) -> Result<(), NoMemory>
 
 // Values of BYDAY, with commas between them.
 fn push_day_items(line: &mut Vec<u8>, first: DayItem, others: &[DayItem]) -> Result<(), NoMemory>
-    ensures { OnOk result (line.new.items ≡ line.old.items ++ join_with_byte 44 (map day_item_text (first ∷ others.now))) }
+    ensures { OnOk result
+        (Appends line.old line.new (comma_list day_item_text (first ∷ others.now))) }
 {
     push_day_item(line, first)?;
     for other in others {
@@ -131,7 +135,8 @@ fn push_day_items(line: &mut Vec<u8>, first: DayItem, others: &[DayItem]) -> Res
 
 // BYDAY, unless it is absent.
 pub(crate) fn push_day_part(line: &mut Vec<u8>, values: &[DayItem]) -> Result<(), NoMemory>
-    ensures { OnOk result (line.new.items ≡ line.old.items ++ list_part (codes "BYDAY") day_item_text values.now) }
+    ensures { OnOk result
+        (Appends line.old line.new (list_part (codes "BYDAY") day_item_text values.now)) }
 {
     let Some((first, others)) = values.split_first() else {
         return Ok(());

@@ -1,9 +1,10 @@
 // Writes lines: each is folded after 75 bytes and ends with CR LF (RFC 5545, section 3.1).
-ghost use Rattle.std.specs.Prelude.{◌≡◌, ◌++◌, length, OnOk};
+ghost use Rattle.std.specs.Prelude.{◌≡◌, length, OnOk};
 ghost use Rattle.rr_model.specs.Moment.Years.{IsInYears};
 ghost use Rattle.rr_model.specs.Rule.Validity.{EndsInYears};
 ghost use Rattle.rr_model.specs.Text.WriteLaws.{IsOneEnd};
 ghost use Rattle.rr_model.specs.Text.Written.{date_line, folded_line, folded_rest, rule_line, value_type};
+ghost use Rattle.rr_text.specs.Appending.{Appends};
 
 use crate::rule_text::push_rule;
 use rr_model::{Kind, NoMemory, Rule};
@@ -17,7 +18,7 @@ const FURTHER_BYTES: usize = 74;
 
 // The bytes after the first line, on further lines.
 fn push_further(out: &mut Vec<u8>, text: &[u8]) -> Result<(), NoMemory>
-    ensures { OnOk result (out.new.items ≡ out.old.items ++ folded_rest (length text.now) text.now) }
+    ensures { OnOk result (Appends out.old out.new (folded_rest (length text.now) text.now)) }
 {
     let mut rest = text;
     while !rest.is_empty() {
@@ -31,7 +32,7 @@ fn push_further(out: &mut Vec<u8>, text: &[u8]) -> Result<(), NoMemory>
 
 // A line, folded and ended.
 fn push_folded(out: &mut Vec<u8>, line: &[u8]) -> Result<(), NoMemory>
-    ensures { OnOk result (out.new.items ≡ out.old.items ++ folded_line line.now) }
+    ensures { OnOk result (Appends out.old out.new (folded_line line.now)) }
 {
     let (first, others) = line.split_at(FIRST_BYTES.min(line.len()));
     out.extend_from_slice(first)?;
@@ -59,7 +60,7 @@ pub(crate) fn push_date_line(
     at: i64,
 ) -> Result<(), NoMemory>
     requires { IsInYears kind at }
-    ensures { OnOk result (out.new.items ≡ out.old.items ++ date_line name.now kind at) }
+    ensures { OnOk result (Appends out.old out.new (date_line name.now kind at)) }
 {
     line.clear();
     line.extend_from_slice(name)?;
@@ -78,7 +79,7 @@ pub(crate) fn push_rule_line(
 ) -> Result<(), NoMemory>
     requires years { EndsInYears rule.now.end }
     requires one { IsOneEnd rule.now.end }
-    ensures { OnOk result (out.new.items ≡ out.old.items ++ rule_line name.now rule.now) }
+    ensures { OnOk result (Appends out.old out.new (rule_line name.now rule.now)) }
 {
     line.clear();
     line.extend_from_slice(name)?;

@@ -1,10 +1,11 @@
 // Writes a calendar text (RFC 5545, section 3.8.5).
-ghost use Rattle.std.specs.Prelude.{◌≡◌, ◌++◌, All, IfOk, OnOk};
+ghost use Rattle.std.specs.Prelude.{◌≡◌, All, IfOk, OnOk};
 ghost use Rattle.rr_model.specs.Moment.Years.{IsInYears};
 ghost use Rattle.rr_model.specs.Rule.Validity.{EndsInYears};
 ghost use Rattle.rr_model.specs.Series.Validity.{IsValidSeries};
 ghost use Rattle.rr_model.specs.Text.WriteLaws.{IsOneEnd};
 ghost use Rattle.rr_model.specs.Text.Written.{calendar_written, date_line, dates_out, lines_of, rule_line};
+ghost use Rattle.rr_text.specs.Appending.{Appends};
 
 use crate::write_line::{push_date_line, push_rule_line};
 use rr_model::{Dates, Kind, NoMemory, Rule, Series};
@@ -19,7 +20,7 @@ fn push_rules(
 ) -> Result<(), NoMemory>
     requires years { All (λ rule. EndsInYears rule.end) rules.now }
     requires one { All (λ rule. IsOneEnd rule.end) rules.now }
-    ensures { OnOk result (out.new.items ≡ out.old.items ++ lines_of (rule_line name.now) rules.now) }
+    ensures { OnOk result (Appends out.old out.new (lines_of (rule_line name.now) rules.now)) }
 {
     for rule in rules {
         push_rule_line(out, line, name, rule)?;
@@ -36,7 +37,7 @@ fn push_dates(
     dates: &[i64],
 ) -> Result<(), NoMemory>
     requires { All (IsInYears kind) dates.now }
-    ensures { OnOk result (out.new.items ≡ out.old.items ++ lines_of (date_line name.now kind) dates.now) }
+    ensures { OnOk result (Appends out.old out.new (lines_of (date_line name.now kind) dates.now)) }
 {
     for at in dates {
         push_date_line(out, line, name, kind, *at)?;

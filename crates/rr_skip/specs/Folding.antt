@@ -15,6 +15,7 @@ use Rattle.rr_model.specs.declared.limits.TheConstants.{MAX_CYCLE_DAYS}
 use Rattle.rr_days.specs.Sketched.{sketch_of}
 use Rattle.rr_skip.specs.declared.walk.Walk.{Walk}
 use Rattle.rr_skip.specs.declared.series.SkipRule.{SkipRule}
+use Rattle.rr_skip.specs.declared.series.SkipSeries.{SkipSeries}
 
 -- the days that the rule chooses
 abbrev pub chosen_days : SkipRule → Kind → ℤ → ℤ → Bool
@@ -45,6 +46,14 @@ pub record AreSkipDays (test : ℤ → Bool) (first : ℤ) (days : SkipDays) : T
   pub tested : AreTested test first days.numbers.items
   pub early : (d : ℤ) → d <ℤ first → test d ≡ false
   pub repeats : (d : ℤ) → days.settled ≤ℤ d → test (d +ℤ pos days.period) ≡ test d
+
+-- the days are those on which the rule with this start has a member
+abbrev pub AreRuleDays : SkipRule → Kind → ℤ → SkipDays → Type 0
+AreRuleDays rule kind start days = AreSkipDays (is_member_day rule kind start) (day_part kind start) days
+
+-- the days are those of the occurrences of the series
+abbrev pub AreSeriesDays : SkipSeries → SkipDays → Type 0
+AreSeriesDays series days = AreSkipDays (is_occupied series.rule series.kind series.start) (day_part series.kind series.start) days
 
 -- an UNTIL of the years up to 9999 that is not before a second of the first day
 pub record IsUntilDay (kind : Kind) (first : ℤ) (second : ℕ) (at : ℤ) : Type 0 where

@@ -7,6 +7,10 @@ use Rattle.rr_skip.specs.declared.schedule.Schedule.{Schedule}
 use Rattle.rr_skip.specs.declared.turn.Turn.{Turn}
 use Rattle.rr_skip.specs.declared.walk.Walk.{Walk}
 
+-- the day lies in the month, or is the first one after it
+abbrev pub IsReachedIn : ℤ → ℤ → Type 0
+IsReachedIn month day = (month_number day ≡ month) ⊎ (day ≡ first_day_of_month (month +ℤ pos 1))
+
 -- the two months follow one another, and it is known of each whether it is due
 pub record IsTurn (schedule : Schedule) (turn : Turn) : Type 0 where
   pub after : turn.month.number ≡ turn.before.number +ℤ pos 1
@@ -42,4 +46,4 @@ pub record IsReached (schedule : Schedule) (first : ℤ) (place most : ℕ) (tur
   pub is_walk : IsWalk (is_day_chosen schedule) first most walk
   pub whole : length walk.numbers.items ≡ place
   pub turn_is : IsTurn schedule turn
-  pub day : (month_number (first +ℤ pos place) ≡ turn.month.number) ⊎ (first +ℤ pos place ≡ first_day_of_month (turn.month.number +ℤ pos 1))
+  pub day : IsReachedIn turn.month.number (first +ℤ pos place)

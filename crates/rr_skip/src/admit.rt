@@ -28,8 +28,10 @@ impl SkipSeries {
     /// `CycleTooLong` exactly where it is above `MAX_CYCLE_DAYS`.
     pub fn admit(&self) -> Result<u64, Refusal>
         requires { IsSoundSkipping self.now }
-        ensures admitted { IfOk result (λ days. (days ≡ skip_cycle self.now) × (days ≤ MAX_CYCLE_DAYS)) }
-        ensures refused { IfErr result (λ refusal. (refusal ≡ CycleTooLong) × (MAX_CYCLE_DAYS < skip_cycle self.now)) }
+        ensures admitted { IfOk result
+            (λ days. (days ≡ skip_cycle self.now) × (days ≤ MAX_CYCLE_DAYS)) }
+        ensures refused { IfErr result
+            (λ refusal. (refusal ≡ CycleTooLong) × (MAX_CYCLE_DAYS < skip_cycle self.now)) }
     {
         match &self.rule {
             None => Ok(1),
@@ -41,7 +43,8 @@ impl SkipSeries {
 // The cycle, where it is at most `MAX_CYCLE_DAYS`.
 fn within_limit(cycle: u128) -> Result<u64, Refusal>
     ensures admitted { IfOk result (λ days. (days ≡ cycle) × (days ≤ MAX_CYCLE_DAYS)) }
-    ensures refused { IfErr result (λ refusal. (refusal ≡ CycleTooLong) × (MAX_CYCLE_DAYS < cycle)) }
+    ensures refused { IfErr result
+        (λ refusal. (refusal ≡ CycleTooLong) × (MAX_CYCLE_DAYS < cycle)) }
 {
     if cycle > MAX_CYCLE_DAYS as u128 {
         Err(Refusal::CycleTooLong)

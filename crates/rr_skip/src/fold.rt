@@ -11,7 +11,7 @@ ghost use Rattle.rr_model.specs.Sets.Sketch.{StandsFor};
 ghost use Rattle.rr_model.specs.declared.refusal.Refusal.TheVariants.{CountedTooFar};
 ghost use Rattle.rr_model.specs.declared.rule.End.TheVariants.{Never, Until, Count};
 ghost use Rattle.rr_model.specs.declared.limits.TheConstants.{MAX_CYCLE_DAYS};
-ghost use Rattle.rr_skip.specs.Folding.{AreSkipDays, IsDaysUntil, IsFolding, IsUntilDay, IsUpToUntil, IsUpToWalk, chosen_days, is_member_day, is_occupied, skip_sketch};
+ghost use Rattle.rr_skip.specs.Folding.{AreRuleDays, AreSeriesDays, AreSkipDays, IsDaysUntil, IsFolding, IsUntilDay, IsUpToUntil, IsUpToWalk, chosen_days, skip_sketch};
 ghost use Rattle.rr_skip.specs.Members.{IsSkippedTooFar, OccursSkipping, SkipsTooFar, skip_cycle};
 ghost use Rattle.rr_skip.specs.Walks.{IsWalked};
 ghost use Rattle.rr_skip.specs.Validity.{FitsSkipping, IsSoundSkipping};
@@ -69,7 +69,8 @@ fn walk_of(
     requires start { IsInYears kind start }
     requires some { 1 ≤ rule.now.rule.interval }
     requires few { end ≤ 30_000_000 }
-    ensures { IfOk result (IsWalked (chosen_days rule.now kind start) (day_part kind start) end most) }
+    ensures { IfOk result
+        (IsWalked (chosen_days rule.now kind start) (day_part kind start) end most) }
 {
     let first = day_in_years(kind, start);
     let schedule = Schedule::new(alloc, rule, first)?;
@@ -87,7 +88,7 @@ fn endless_days(
     requires fits { FitsSkipping kind start rule.now }
     requires endless { rule.now.rule.end ≡ Never }
     requires few { rule_cycle rule.now.rule ≤ MAX_CYCLE_DAYS }
-    ensures days { IfOk result (AreSkipDays (is_member_day rule.now kind start) (day_part kind start)) }
+    ensures days { IfOk result (AreRuleDays rule.now kind start) }
     ensures period { IfOk result (λ days. days.period ≡ rule_cycle rule.now.rule) }
 {
     let first = day_in_years(kind, start);
@@ -144,7 +145,7 @@ fn days_to_until(
     requires start { IsInYears kind start }
     requires fits { FitsSkipping kind start rule.now }
     requires until { rule.now.rule.end ≡ Until kind at }
-    ensures days { IfOk result (AreSkipDays (is_member_day rule.now kind start) (day_part kind start)) }
+    ensures days { IfOk result (AreRuleDays rule.now kind start) }
     ensures period { IfOk result (λ days. days.period ≡ 1) }
 {
     let first = day_in_years(kind, start);
@@ -180,9 +181,10 @@ fn days_to_count(
     requires start { IsInYears kind start }
     requires fits { FitsSkipping kind start rule.now }
     requires count { rule.now.rule.end ≡ Count count }
-    ensures days { IfOk result (AreSkipDays (is_member_day rule.now kind start) (day_part kind start)) }
+    ensures days { IfOk result (AreRuleDays rule.now kind start) }
     ensures period { IfOk result (λ days. days.period ≡ 1) }
-    ensures refused { RefusedExactlyWhere (SkipsTooFar (Some rule.now) kind start) CountedTooFar result }
+    ensures refused { RefusedExactlyWhere (SkipsTooFar (Some rule.now) kind start)
+        CountedTooFar result }
 {
     let first = day_in_years(kind, start);
     let walk = walk_of(alloc, rule, kind, start, MAX_SPAN_DAYS as usize + 1, count)?;
@@ -197,9 +199,11 @@ fn days_of_rule(alloc: Global, rule: &SkipRule, kind: Kind, start: i64) -> Resul
     requires start { IsInYears kind start }
     requires fits { FitsSkipping kind start rule.now }
     requires few { endless_cycle rule.now.rule.end rule.now.rule ≤ MAX_CYCLE_DAYS }
-    ensures days { IfOk result (AreSkipDays (is_member_day rule.now kind start) (day_part kind start)) }
-    ensures period { IfOk result (λ days. days.period ≡ endless_cycle rule.now.rule.end rule.now.rule) }
-    ensures refused { RefusedExactlyWhere (SkipsTooFar (Some rule.now) kind start) CountedTooFar result }
+    ensures days { IfOk result (AreRuleDays rule.now kind start) }
+    ensures period { IfOk result
+        (λ days. days.period ≡ endless_cycle rule.now.rule.end rule.now.rule) }
+    ensures refused { RefusedExactlyWhere (SkipsTooFar (Some rule.now) kind start)
+        CountedTooFar result }
 {
     match rule.rule.end {
         End::Never => Ok(endless_days(alloc, rule, kind, start)?),
@@ -230,7 +234,7 @@ fn day_of_start(alloc: Global, first: i64) -> Result<SkipDays, NoMemory>
 fn days_of(alloc: Global, series: &SkipSeries) -> Result<SkipDays, Fault>
     requires sound { IsSoundSkipping series.now }
     requires few { skip_cycle series.now ≤ MAX_CYCLE_DAYS }
-    ensures days { IfOk result (AreSkipDays (is_occupied series.now.rule series.now.kind series.now.start) (day_part series.now.kind series.now.start)) }
+    ensures days { IfOk result (AreSeriesDays series.now) }
     ensures period { IfOk result (λ days. days.period ≡ skip_cycle series.now) }
     ensures refused { RefusedExactlyWhere (IsSkippedTooFar series.now) CountedTooFar result }
 {
@@ -260,10 +264,12 @@ fn sets_of(alloc: Global, second: u32) -> Result<Shapes, NoMemory>
 pub fn fold_skip(alloc: Global, series: &SkipSeries) -> Result<Folded, Fault>
     requires sound { IsSoundSkipping series.now }
     requires few { skip_cycle series.now ≤ MAX_CYCLE_DAYS }
-    ensures stands { IfOk result (λ f. StandsFor (⟦<Folded as DaySeq>⟧.sketch f) (OccursSkipping series.now)) }
+    ensures stands { IfOk result
+        (λ f. StandsFor (⟦<Folded as DaySeq>⟧.sketch f) (OccursSkipping series.now)) }
     ensures kind { IfOk result (λ f. (⟦<Folded as DaySeq>⟧.sketch f).kind ≡ series.now.kind) }
     ensures near { IfOk result (λ f. (⟦<Folded as DaySeq>⟧.sketch f).settled ≤ℤ pos 20_000_000) }
-    ensures period { IfOk result (λ f. (⟦<Folded as DaySeq>⟧.sketch f).period ≡ skip_cycle series.now) }
+    ensures period { IfOk result
+        (λ f. (⟦<Folded as DaySeq>⟧.sketch f).period ≡ skip_cycle series.now) }
     ensures refused { RefusedExactlyWhere (IsSkippedTooFar series.now) CountedTooFar result }
 {
     match days_of(alloc, series) {

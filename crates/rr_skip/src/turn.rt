@@ -1,11 +1,11 @@
 // A month and the month before it: only these two can give a day of the month.
-ghost use Rattle.std.specs.Prelude.{◌≡◌, ◌≤◌, ◌⊎◌, ◌+ℤ◌, ◌-ℤ◌, pos};
+ghost use Rattle.std.specs.Prelude.{◌≡◌, ◌≤◌, ◌+ℤ◌, ◌-ℤ◌, pos};
 ghost use Rattle.rr_model.specs.Calendar.{IsDayWithin};
-ghost use Rattle.rr_model.specs.Moment.Units.{first_day_of_month, month_number};
+ghost use Rattle.rr_model.specs.Moment.Units.{month_number};
 ghost use Rattle.rr_skip.specs.Months;
 ghost use Rattle.rr_skip.specs.Months.{gives_day, is_day_chosen};
 ghost use Rattle.rr_skip.specs.NearMonths.{IsNearMonth};
-ghost use Rattle.rr_skip.specs.Walks.{IsTurn};
+ghost use Rattle.rr_skip.specs.Walks.{IsReachedIn, IsTurn};
 
 use crate::months::Month;
 use crate::schedule::Schedule;
@@ -63,7 +63,7 @@ impl Turn {
         requires some { 1 ≤ schedule.now.interval }
         requires near { IsNearMonth (month_number day) }
         requires turn { IsTurn schedule.now self }
-        requires day { (month_number day ≡ self.month.number) ⊎ (day ≡ first_day_of_month (self.month.number +ℤ pos 1)) }
+        requires day { IsReachedIn self.month.number day }
         ensures turn { IsTurn schedule.now result }
         ensures of_day { result.month.number ≡ month_number day }
     {

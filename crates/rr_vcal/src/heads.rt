@@ -18,7 +18,8 @@ pub(crate) fn text_after<'a>(letters: &[u8], text: &'a [u8]) -> Option<&'a [u8]>
 // The kind by its letters, and what follows them.
 #[tactic(auto, unfolding(rr_model::specs::Vcal::Rule::head_of))]
 fn head_of(text: &[u8]) -> Option<(FamilyKind, &[u8])>
-    ensures { option_map (λ head. record { family = head.0; rest = head.1.now }) result ≡ head_of text.now }
+    ensures { option_map (λ head. record { family = head.0; rest = head.1.now }) result
+        ≡ head_of text.now }
 {
     if let Some(rest) = text_after(b"MD", text) {
         return Some((FamilyKind::MD, rest));

@@ -1,8 +1,9 @@
 // The short numbers of a rule's list, and those that count from the back.
-ghost use Rattle.std.specs.Prelude.{◌≡◌, ◌≤◌, IfOk, IfSome, if◌then◌else◌, min, pos, neg_ℤ};
+ghost use Rattle.std.specs.Prelude.{◌≡◌, ◌≤◌, IfOk, IfSome, if◌then◌else◌, pos, neg_ℤ};
 ghost use Rattle.std.specs.Option.{is_some};
 ghost use Rattle.rr_model.specs.Text.Digits.{digits_value};
 ghost use Rattle.rr_model.specs.Vcal.Rule.{is_short_number, place_of, number_of, marked_place, month_day_of};
+ghost use Rattle.rr_text.specs.Numbers.{saturated_u64};
 
 use rr_model::Refusal;
 use rr_text::{is_word, whole_number};
@@ -10,7 +11,7 @@ use rr_text::{is_word, whole_number};
 // The number that one to three digits write.
 fn short_number(text: &[u8]) -> Option<u64>
     ensures form { is_some result ≡ is_short_number text.now }
-    ensures value { IfSome result (λ n. n ≡ min (digits_value text.now) 18446744073709551615) }
+    ensures value { IfSome result (λ n. n ≡ saturated_u64 (digits_value text.now)) }
 {
     if text.len() > 3 {
         return None;

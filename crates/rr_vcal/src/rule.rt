@@ -82,7 +82,8 @@ fn counted(count: u64) -> End
 
 // Both, where the number of events is not 0: the earlier end holds.
 fn counted_up_to(count: u64, until: Stamp) -> End
-    ensures { result ≡ (if count == 0 then Until until.kind until.at else Both until.kind until.at count) }
+    ensures { result
+        ≡ (if count == 0 then Until until.kind until.at else Both until.kind until.at count) }
 {
     if count == 0 {
         return up_to(until);

@@ -6,6 +6,7 @@ ghost use Rattle.rr_model.specs.Text.Written.{basic_text, weekday_text};
 ghost use Rattle.rr_model.specs.Vcal.Written.{family_text, marked_text, month_day_text, place_text, items_text, vcal_end_text, vrule_text};
 ghost use Rattle.rr_model.specs.Moment.Years.{IsInYears};
 ghost use Rattle.rr_vcal.specs.Writing.{place_of_item, item_text};
+ghost use Rattle.rr_text.specs.Appending.{Appends};
 
 use rr_model::{End, FamilyKind, Item, Kind, NoMemory, VRule};
 use rr_text::{push_basic, push_unsigned, weekday_text};
@@ -27,7 +28,7 @@ fn family_letters(family: FamilyKind) -> &'static [u8]
 
 // A weekday after a blank.
 fn push_weekday(out: &mut Vec<u8>, weekday: u8) -> Result<(), NoMemory>
-    ensures { OnOk result (out.new.items ≡ out.old.items ++ codes " " ++ weekday_text weekday) }
+    ensures { OnOk result (Appends out.old out.new (codes " " ++ weekday_text weekday)) }
 {
     out.push(b' ')?;
     out.extend_from_slice(weekday_text(weekday))?;
@@ -36,7 +37,7 @@ fn push_weekday(out: &mut Vec<u8>, weekday: u8) -> Result<(), NoMemory>
 
 // A number after a blank.
 fn push_number(out: &mut Vec<u8>, number: u16) -> Result<(), NoMemory>
-    ensures { OnOk result (out.new.items ≡ out.old.items ++ codes " " ++ decimal number) }
+    ensures { OnOk result (Appends out.old out.new (codes " " ++ decimal number)) }
 {
     out.push(b' ')?;
     push_unsigned(out, u64::from(number))
@@ -44,7 +45,7 @@ fn push_number(out: &mut Vec<u8>, number: u16) -> Result<(), NoMemory>
 
 // A place from the front with `+`, from the back with `-`.
 fn push_marked(out: &mut Vec<u8>, place: i8) -> Result<(), NoMemory>
-    ensures { OnOk result (out.new.items ≡ out.old.items ++ marked_text place) }
+    ensures { OnOk result (Appends out.old out.new (marked_text place)) }
 {
     push_unsigned(out, u64::from(place.unsigned_abs()))?;
     out.push(if place < 0 { b'-' } else { b'+' })?;
@@ -53,7 +54,7 @@ fn push_marked(out: &mut Vec<u8>, place: i8) -> Result<(), NoMemory>
 
 // A day of the month; the last is LD.
 fn push_month_day(out: &mut Vec<u8>, day: i8) -> Result<(), NoMemory>
-    ensures { OnOk result (out.new.items ≡ out.old.items ++ month_day_text day) }
+    ensures { OnOk result (Appends out.old out.new (month_day_text day)) }
 {
     if day == -1 {
         out.extend_from_slice(b"LD")?;
@@ -67,7 +68,7 @@ fn push_month_day(out: &mut Vec<u8>, day: i8) -> Result<(), NoMemory>
 
 // A place, where it is not the one before it.
 fn push_place(out: &mut Vec<u8>, before: Option<i8>, place: i8) -> Result<(), NoMemory>
-    ensures { OnOk result (out.new.items ≡ out.old.items ++ place_text before place) }
+    ensures { OnOk result (Appends out.old out.new (place_text before place)) }
 {
     if before == Some(place) {
         return Ok(());
@@ -78,7 +79,7 @@ fn push_place(out: &mut Vec<u8>, before: Option<i8>, place: i8) -> Result<(), No
 
 // An item after the place of the one before it.
 fn push_item(out: &mut Vec<u8>, before: Option<i8>, item: Item) -> Result<(), NoMemory>
-    ensures { OnOk result (out.new.items ≡ out.old.items ++ item_text before item) }
+    ensures { OnOk result (Appends out.old out.new (item_text before item)) }
 {
     match item {
         Item::Every => Ok(()),
@@ -109,7 +110,7 @@ fn place_of_item(item: Item) -> Option<i8>
 
 // The items, each after a blank.
 fn push_items(out: &mut Vec<u8>, items: &[Item]) -> Result<(), NoMemory>
-    ensures { OnOk result (out.new.items ≡ out.old.items ++ items_text None items.now) }
+    ensures { OnOk result (Appends out.old out.new (items_text None items.now)) }
 {
     let mut before = None;
     for item in items {
@@ -121,7 +122,7 @@ fn push_items(out: &mut Vec<u8>, items: &[Item]) -> Result<(), NoMemory>
 
 // A number of events after a blank.
 fn push_count(out: &mut Vec<u8>, count: u64) -> Result<(), NoMemory>
-    ensures { OnOk result (out.new.items ≡ out.old.items ++ codes " #" ++ decimal count) }
+    ensures { OnOk result (Appends out.old out.new (codes " #" ++ decimal count)) }
 {
     out.extend_from_slice(b" #")?;
     push_unsigned(out, count)
@@ -130,7 +131,7 @@ fn push_count(out: &mut Vec<u8>, count: u64) -> Result<(), NoMemory>
 // An end moment after a blank.
 fn push_until(out: &mut Vec<u8>, kind: Kind, at: i64) -> Result<(), NoMemory>
     requires { IsInYears kind at }
-    ensures { OnOk result (out.new.items ≡ out.old.items ++ codes " " ++ basic_text kind at) }
+    ensures { OnOk result (Appends out.old out.new (codes " " ++ basic_text kind at)) }
 {
     out.push(b' ')?;
     push_basic(out, kind, at)
@@ -139,7 +140,7 @@ fn push_until(out: &mut Vec<u8>, kind: Kind, at: i64) -> Result<(), NoMemory>
 // The end of a rule.
 fn push_end(out: &mut Vec<u8>, end: End) -> Result<(), NoMemory>
     requires { EndsInYears end }
-    ensures { OnOk result (out.new.items ≡ out.old.items ++ vcal_end_text end) }
+    ensures { OnOk result (Appends out.old out.new (vcal_end_text end)) }
 {
     match end {
         End::Never => {
@@ -159,7 +160,7 @@ fn push_end(out: &mut Vec<u8>, end: End) -> Result<(), NoMemory>
 #[tactic(auto, unfolding(rr_model::specs::Vcal::Written::vrule_text))]
 pub(crate) fn push_rule(out: &mut Vec<u8>, rule: &VRule) -> Result<(), NoMemory>
     requires { EndsInYears rule.now.end }
-    ensures { OnOk result (out.new.items ≡ out.old.items ++ vrule_text rule.now) }
+    ensures { OnOk result (Appends out.old out.new (vrule_text rule.now)) }
 {
     out.extend_from_slice(family_letters(rule.family))?;
     push_unsigned(out, u64::from(rule.interval))?;

@@ -1,10 +1,12 @@
 // Writes a series.
-ghost use Rattle.std.specs.Prelude.{◌≡◌, ◌++◌, All, IfOk, OnOk};
+ghost use Rattle.std.specs.Prelude.{◌≡◌, All, IfOk, OnOk};
 ghost use Rattle.rr_model.specs.Moment.Years.{IsInYears};
 ghost use Rattle.rr_model.specs.Rule.Validity.{EndsInYears};
-ghost use Rattle.rr_model.specs.Text.Written.{basic_text, line_break, lines_of};
+ghost use Rattle.rr_model.specs.Text.Written.{line_break, lines_of};
 ghost use Rattle.rr_model.specs.Vcal.Validity.{IsValidVSeries};
-ghost use Rattle.rr_model.specs.Vcal.Written.{vcal_line, vrule_text, vcal_written};
+ghost use Rattle.rr_model.specs.Vcal.Written.{vcal_written};
+ghost use Rattle.rr_text.specs.Appending.{Appends};
+ghost use Rattle.rr_vcal.specs.Writing.{vcal_date_line, vcal_rule_line};
 
 use crate::rule_text::push_rule;
 use rr_model::{Kind, NoMemory, VRule, VSeries};
@@ -13,7 +15,7 @@ use std::alloc::Global;
 
 // The end of a line.
 fn end_line(out: &mut Vec<u8>) -> Result<(), NoMemory>
-    ensures { OnOk result (out.new.items ≡ out.old.items ++ line_break) }
+    ensures { OnOk result (Appends out.old out.new line_break) }
 {
     out.extend_from_slice(b"\r\n")?;
     Ok(())
@@ -22,7 +24,7 @@ fn end_line(out: &mut Vec<u8>) -> Result<(), NoMemory>
 // A line of a name and a date or a moment.
 fn push_date(out: &mut Vec<u8>, name: &[u8], kind: Kind, at: i64) -> Result<(), NoMemory>
     requires { IsInYears kind at }
-    ensures { OnOk result (out.new.items ≡ out.old.items ++ vcal_line name.now (basic_text kind at)) }
+    ensures { OnOk result (Appends out.old out.new (vcal_date_line name.now kind at)) }
 {
     out.extend_from_slice(name)?;
     out.push(b':')?;
@@ -33,7 +35,8 @@ fn push_date(out: &mut Vec<u8>, name: &[u8], kind: Kind, at: i64) -> Result<(), 
 // A line for each date.
 fn push_dates(out: &mut Vec<u8>, name: &[u8], kind: Kind, dates: &[i64]) -> Result<(), NoMemory>
     requires { All (IsInYears kind) dates.now }
-    ensures { OnOk result (out.new.items ≡ out.old.items ++ lines_of (λ at. vcal_line name.now (basic_text kind at)) dates.now) }
+    ensures { OnOk result
+        (Appends out.old out.new (lines_of (vcal_date_line name.now kind) dates.now)) }
 {
     for date in dates {
         push_date(out, name, kind, *date)?;
@@ -44,7 +47,7 @@ fn push_dates(out: &mut Vec<u8>, name: &[u8], kind: Kind, dates: &[i64]) -> Resu
 // The line of a rule.
 fn push_rule_line(out: &mut Vec<u8>, name: &[u8], rule: &VRule) -> Result<(), NoMemory>
     requires { EndsInYears rule.now.end }
-    ensures { OnOk result (out.new.items ≡ out.old.items ++ vcal_line name.now (vrule_text rule.now)) }
+    ensures { OnOk result (Appends out.old out.new (vcal_rule_line name.now rule.now)) }
 {
     out.extend_from_slice(name)?;
     out.push(b':')?;
@@ -55,7 +58,7 @@ fn push_rule_line(out: &mut Vec<u8>, name: &[u8], rule: &VRule) -> Result<(), No
 // A line for each rule.
 fn push_rules(out: &mut Vec<u8>, name: &[u8], rules: &[VRule]) -> Result<(), NoMemory>
     requires { All (λ rule. EndsInYears rule.end) rules.now }
-    ensures { OnOk result (out.new.items ≡ out.old.items ++ lines_of (λ rule. vcal_line name.now (vrule_text rule)) rules.now) }
+    ensures { OnOk result (Appends out.old out.new (lines_of (vcal_rule_line name.now) rules.now)) }
 {
     for rule in rules {
         push_rule_line(out, name, rule)?;

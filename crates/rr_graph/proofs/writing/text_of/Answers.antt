@@ -2,7 +2,7 @@ use Rattle.std.proofs.Common.{◌++◌, ◌∷◌, [], List, ℕ, ℤ, ap, ◌�
 use Rattle.serde_json.specs.Written.{compact_text, has_float}
 use Rattle.rr_model.specs.Graph.Text.{event_data, graph_written}
 use Rattle.rr_graph.proofs.WrittenDataLemmas.{has_float-event_data}
-use Rattle.rr_graph.proofs.writing.written.Goals as goal
+use Rattle.rr_graph.proofs.writing.text_of.Goals as goal
 
 pub returns : goal.returns
 unfolding graph_written
