@@ -72,37 +72,37 @@ none_combined op one other sets e f shapes = record {
 }
 
 -- fewer days are free, too
-pub fewer_free : (numbers : List ℕ) (place count few : ℕ) → few ≤ count → IsZeroFrom numbers place count → IsZeroFrom numbers place few
-fewer_free numbers place count few l free = record {
+pub fewer_free : (numbers : List ℕ) (index count few : ℕ) → few ≤ count → IsZeroFrom numbers index count → IsZeroFrom numbers index few
+fewer_free numbers index count few l free = record {
   within = omega (arith, free.within, l);
   zeros = λ k m. free.zeros k (omega (arith, m, l));
 }
 
--- what is free up to an end is so from a later place on
-pub free_later : (numbers : List ℕ) (place later end : ℕ) → place ≤ later → later ≤ length numbers → IsFreeTo numbers place end → IsFreeTo numbers later end
-free_later numbers place later end l high free = record {
+-- what is free up to an end is so from a later index on
+pub free_later : (numbers : List ℕ) (index later end : ℕ) → index ≤ later → later ≤ length numbers → IsFreeTo numbers index end → IsFreeTo numbers later end
+free_later numbers index later end l high free = record {
   within = omega (arith, free.within, l, high);
   zeros = λ k m.
-      let at : later + k ≡ place + ((later - place) + k) = omega (arith, l) in
-      ap (λ n. get_or numbers n 0) at ∙ free.zeros ((later - place) + k) (omega (arith, m, l));
+      let at : later + k ≡ index + ((later - index) + k) = omega (arith, l) in
+      ap (λ n. get_or numbers n 0) at ∙ free.zeros ((later - index) + k) (omega (arith, m, l));
 }
 
 -- so many free days end there
-pub free_found : (numbers : List ℕ) (place count end : ℕ) → end ≡ place + count → IsZeroFrom numbers place count → IsFreeTo numbers place end
-free_found numbers place count end e free =
-    let same : end - place ≡ count = omega arith in
-    subst (λ n. IsZeroFrom numbers place n) (sym same) free
+pub free_found : (numbers : List ℕ) (index count end : ℕ) → end ≡ index + count → IsZeroFrom numbers index count → IsFreeTo numbers index end
+free_found numbers index count end e free =
+    let same : end - index ≡ count = omega arith in
+    subst (λ n. IsZeroFrom numbers index n) (sym same) free
 
 -- nothing is known to be free yet
-pub none_free : (numbers : List ℕ) (place : ℕ) → place ≤ length numbers → IsFreeTo numbers place 0
-none_free numbers place l = record { within = omega (arith, l); zeros = λ k m. absurd (omega (arith, m)) }
+pub none_free : (numbers : List ℕ) (index : ℕ) → index ≤ length numbers → IsFreeTo numbers index 0
+none_free numbers index l = record { within = omega (arith, l); zeros = λ k m. absurd (omega (arith, m)) }
 
 -- the one set of this list is empty
 only_empty : (m : ℕ) → get_or {A = List ℕ} ([] ∷ []) m [] ≡ []
 only_empty zero = refl
 only_empty (suc m) = refl
 
--- ---- place by place
+-- ---- day by day
 
 module _ (op : Op) (one : List (List ℕ)) (ones : List ℕ) (other : List (List ℕ)) (others : List ℕ) where
   -- one more number

@@ -59,33 +59,33 @@ module _ (tree : Tree) (first position : ℤ) (sets : List (List ℕ)) (numbers 
     sets_of_days = λ k d h n. (let t = folded.sets_of_days k d h n in record { day = t.day; early = omega (arith, ints, t.early, l); all = t.all });
   }
 
-  -- an occupied day is not before the first, and its place is not before the end of the list
+  -- an occupied day is not before the first, and its index is not before the end of the list
   pub not_early : (day : ℤ) (times : List ℕ) → IsFirstOccupied tree position day times → first ≤ℤ day
   not_early day times found =
       by_lt_z {P = first ≤ℤ day} day first (λ l. absurd (found.some (no_second (stands_at tree day) times found.all (λ s. folded.early day s l)))) (λ g. g)
 
-  pub not_listed : (day : ℤ) (times : List ℕ) (place : ℕ) → IsFirstOccupied tree position day times → day ≡ first +ℤ pos place → length numbers ≤ place
-  not_listed day times place found at = elim (cases_lt 0 (length numbers)) [
+  pub not_listed : (day : ℤ) (times : List ℕ) (index : ℕ) → IsFirstOccupied tree position day times → day ≡ first +ℤ pos index → length numbers ≤ index
+  not_listed day times index found at = elim (cases_lt 0 (length numbers)) [
     | inl l ↦ omega (arith, ints, folded.reached l, found.late, at)
     | inr g ↦ omega (arith, g)
   ]
 
-  module _ (day : ℤ) (times : List ℕ) (sets' : List (List ℕ)) (number place : ℕ) (numbers' : List ℕ) (found : IsFirstOccupied tree position day times)
-      (placed : IsPlaced times sets sets' number) (room : total_size sets' ≤ MAX_SECONDS) (at : day ≡ first +ℤ pos place)
-      (put : IsPut numbers place number numbers') where
+  module _ (day : ℤ) (times : List ℕ) (sets' : List (List ℕ)) (number index : ℕ) (numbers' : List ℕ) (found : IsFirstOccupied tree position day times)
+      (placed : IsPlaced times sets sets' number) (room : total_size sets' ≤ MAX_SECONDS) (at : day ≡ first +ℤ pos index)
+      (put : IsPut numbers index number numbers') where
     -- a day between the last one and this one
-    between : (k : ℕ) → length numbers ≤ k → k < place → (s : ℕ) → stands_at tree (first +ℤ pos k) s ≡ false
+    between : (k : ℕ) → length numbers ≤ k → k < index → (s : ℕ) → stands_at tree (first +ℤ pos k) s ≡ false
     between k l h s = by_lt_z {P = stands_at tree (first +ℤ pos k) s ≡ false} (first +ℤ pos k) position
         (λ m. folded.rest (first +ℤ pos k) s (omega (arith, ints, l)) m) (λ g. found.before (first +ℤ pos k) s g (omega (arith, ints, h, at)))
 
     numbered : AreNumbered tree first sets' numbers'
     numbered k l = elim (cases_lt k (length numbers)) [
       | inl m ↦ rw (put.kept k m) (numbered_still times sets sets' number placed (get_or numbers k 0) (stands_at tree (first +ℤ pos k)) (folded.numbered k m))
-      | inr g ↦ elim (cases_lt k place) [
+      | inr g ↦ elim (cases_lt k index) [
         | inl m ↦ rw (put.between k g m)
             (numbered_still times sets sets' number placed 0 (stands_at tree (first +ℤ pos k)) (empty_numbered (first +ℤ pos k) (between k g m)))
         | inr h ↦ (
-            let e : k ≡ place = omega (arith, l, put.whole, h) in
+            let e : k ≡ index = omega (arith, l, put.whole, h) in
             let n = at_number times sets sets' number placed in
             rw (e, put.last, sym at) (record { within = n.0; all = rw n.1 found.all }))
       ]
@@ -165,14 +165,14 @@ filled_up tree first end sets numbers numbers' days folded at whole kept rest = 
 -- ---- a call of the iterator
 
 -- it gave a day
-pub found_on : (tree tree' : Tree) (first position to to' position' : ℤ) (number place : ℕ) (sets sets' : List (List ℕ)) (numbers numbers' : List ℕ)
+pub found_on : (tree tree' : Tree) (first position to to' position' : ℤ) (number index : ℕ) (sets sets' : List (List ℕ)) (numbers numbers' : List ℕ)
     (found : DayTimes)
     → IsFoldedTo tree first position sets numbers → IsNext tree' position to' (Ok (Some found)) position' → tree' ≡ tree → to' ≡ to
-    → IsPlaced found.times sets sets' number → total_size sets' ≤ MAX_SECONDS → found.day ≡ first +ℤ pos place → IsPut numbers place number numbers'
+    → IsPlaced found.times sets sets' number → total_size sets' ≤ MAX_SECONDS → found.day ≡ first +ℤ pos index → IsPut numbers index number numbers'
     → IsFoldedTo tree first position' sets' numbers' × (position' ≤ℤ (to +ℤ pos 1))
-found_on tree tree' first position to to' position' number place sets sets' numbers numbers' found folded next e f placed room at put =
+found_on tree tree' first position to to' position' number index sets sets' numbers numbers' found folded next e f placed room at put =
     let n = rw e at next in (
-      rw n.2 (folded_day tree first position sets numbers folded found.day found.times sets' number place numbers' n.0 placed room at put),
+      rw n.2 (folded_day tree first position sets numbers folded found.day found.times sets' number index numbers' n.0 placed room at put),
       omega (arith, ints, n.2, n.1, f),
     )
 

@@ -10,19 +10,19 @@ use Rattle.rr_fold.specs.Jump.{AreWholeCycles, IsSpliced}
 
 -- ---- a stretch of one list at the end of another
 
-module _ (old other new : List ℕ) (place count : ℕ) (room : place + count ≤ length other) (put : new ≡ old ++ take count (drop place other)) where
+module _ (old other new : List ℕ) (index count : ℕ) (room : index + count ≤ length other) (put : new ≡ old ++ take count (drop index other)) where
   pub length_put : length new ≡ length old + count
   length_put =
-      ap length put ∙ length-append old (take count (drop place other))
-      ∙ ap (λ (n : ℕ). length old + n) (length-take-le count (drop place other) (omega (arith, length-drop place other, room)))
+      ap length put ∙ length-append old (take count (drop index other))
+      ∙ ap (λ (n : ℕ). length old + n) (length-take-le count (drop index other) (omega (arith, length-drop index other, room)))
 
   pub kept_put : (k : ℕ) → k < length old → get_or new k 0 ≡ get_or old k 0
-  kept_put k l = ap (λ (xs : List ℕ). get_or xs k 0) put ∙ get_or-append old (take count (drop place other)) 0 k l
+  kept_put k l = ap (λ (xs : List ℕ). get_or xs k 0) put ∙ get_or-append old (take count (drop index other)) 0 k l
 
-  pub put_at : (k j : ℕ) → k ≡ length old + j → j < count → get_or new k 0 ≡ get_or other (place + j) 0
+  pub put_at : (k j : ℕ) → k ≡ length old + j → j < count → get_or new k 0 ≡ get_or other (index + j) 0
   put_at k j e l =
       ap (λ (i : ℕ). get_or new i 0) e ∙ ap (λ (xs : List ℕ). get_or xs (length old + j) 0) put
-      ∙ get_or-append-add old (take count (drop place other)) j 0 ∙ get_or-take count (drop place other) j 0 l ∙ get_or-drop place other j 0
+      ∙ get_or-append-add old (take count (drop index other)) j 0 ∙ get_or-take count (drop index other) j 0 l ∙ get_or-drop index other j 0
 
 -- ---- cycles
 
@@ -47,26 +47,26 @@ module _ (numbers : List ℕ) (cycle : ℕ) (some : 1 ≤ cycle) where
             at (k + 1) (omega (arith, l, whole, size)) ∙ ap (λ (i : ℕ). get_or numbers (i + 1) 0) (sym (mod-eq_of_lt short));
       }
 
-  pub more_cycles : (old new : List ℕ) (place back count : ℕ) → HasCycles numbers cycle old → AreWholeCycles cycle back → back + 1 ≤ length old
-      → place + back ≡ length old → count ≤ back → new ≡ old ++ take count (drop place old) → HasCycles numbers cycle new
-  more_cycles old new place back count so_far whole room at few put =
-      let within : place + count ≤ length old = omega (arith, at, few) in
-      let longer = length_put old old new place count within put in
+  pub more_cycles : (old new : List ℕ) (index back count : ℕ) → HasCycles numbers cycle old → AreWholeCycles cycle back → back + 1 ≤ length old
+      → index + back ≡ length old → count ≤ back → new ≡ old ++ take count (drop index old) → HasCycles numbers cycle new
+  more_cycles old new index back count so_far whole room at few put =
+      let within : index + count ≤ length old = omega (arith, at, few) in
+      let longer = length_put old old new index count within put in
       record {
         some = omega (arith, longer, so_far.some);
-        first = kept_put old old new place count within put 0 (omega (arith, room)) ∙ so_far.first;
+        first = kept_put old old new index count within put 0 (omega (arith, room)) ∙ so_far.first;
         later = λ k l. elim (cases_lt (k + 1) (length old)) [
-          | inl m ↦ kept_put old old new place count within put (k + 1) m ∙ so_far.later k m
+          | inl m ↦ kept_put old old new index count within put (k + 1) m ∙ so_far.later k m
           | inr g ↦ (
               let j : ℕ = k + 1 - length old in
               let k_is : k + 1 ≡ length old + j = omega (arith, g) in
               let short : j < count = omega (arith, l, longer, k_is) in
               let i : ℕ = k - back in
               let turned : k ≡ i + back = omega (arith, g, room) in
-              let source : place + j ≡ i + 1 = omega (arith, k_is, at, turned) in
+              let source : index + j ≡ i + 1 = omega (arith, k_is, at, turned) in
               let same : k % cycle ≡ i % cycle =
               ap (λ (n : ℕ). n % cycle) (turned ∙ ap (λ (n : ℕ). i + n) whole.whole) ∙ add-mul-mod_self_right i whole.cycles cycle in
-              put_at old old new place count within put (k + 1) j k_is short ∙ ap (λ (n : ℕ). get_or old n 0) source
+              put_at old old new index count within put (k + 1) j k_is short ∙ ap (λ (n : ℕ). get_or old n 0) source
               ∙ so_far.later i (omega (arith, source, short, at, few)) ∙ ap (λ (n : ℕ). get_or numbers (n + 1) 0) (sym same))
         ];
       }

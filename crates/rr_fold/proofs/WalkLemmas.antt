@@ -26,10 +26,10 @@ nothing_walked tree first position walk new early l = record {
 
 -- ---- days without occurrences
 
--- 0 at each place before this one
-pub filled_to : (old new : List ℕ) (place count : ℕ) → length old ≤ place → count ≡ place - length old → new ≡ old ++ replicate count 0
-    → IsFilledUp old place new
-filled_to old new place count order many put =
+-- 0 at each index before this one
+pub filled_to : (old new : List ℕ) (index count : ℕ) → length old ≤ index → count ≡ index - length old → new ≡ old ++ replicate count 0
+    → IsFilledUp old index new
+filled_to old new index count order many put =
     let size : length new ≡ length old + count = omega (arith, ap length put, length-append old (replicate count 0), length-replicate {A = ℕ} count 0) in
     record {
       whole = omega (arith, size, many, order);
@@ -42,10 +42,10 @@ filled_to old new place count order many put =
     }
 
 -- and a number at it
-pub put_after : (old mid new : List ℕ) (place number : ℕ) → IsFilledUp old place mid → new ≡ mid ++ number ∷ [] → length old ≤ place
-    → IsPut old place number new
-put_after old mid new place number filled put order =
-    let before : (k : ℕ) → k < place → get_or new k 0 ≡ get_or mid k 0 =
+pub put_after : (old mid new : List ℕ) (index number : ℕ) → IsFilledUp old index mid → new ≡ mid ++ number ∷ [] → length old ≤ index
+    → IsPut old index number new
+put_after old mid new index number filled put order =
+    let before : (k : ℕ) → k < index → get_or new k 0 ≡ get_or mid k 0 =
     λ k l. ap (λ (xs : List ℕ). get_or xs k 0) put ∙ get_or-append mid (number ∷ []) 0 k (omega (arith, l, filled.whole)) in
     record {
       whole = omega (arith, ap length put, length-append mid (number ∷ []), filled.whole);

@@ -39,19 +39,19 @@ pub grown : (old new more : List ℕ) → new ≡ old ++ more → length old ≤
 grown old new more put = omega (arith, ap length put, length-append old more)
 
 -- numbers that stand once more at the end
-pub copied_again : (old new : List ℕ) (place count : ℕ) → place + count ≤ length old → new ≡ old ++ take count (drop place old) → IsCopied old place count new
-copied_again old new place count room put = record {
-  whole = length_put old old new place count room put;
-  kept = kept_put old old new place count room put;
-  again = λ k l. put_at old old new place count room put (length old + k) k refl l;
+pub copied_again : (old new : List ℕ) (index count : ℕ) → index + count ≤ length old → new ≡ old ++ take count (drop index old) → IsCopied old index count new
+copied_again old new index count room put = record {
+  whole = length_put old old new index count room put;
+  kept = kept_put old old new index count room put;
+  again = λ k l. put_at old old new index count room put (length old + k) k refl l;
 }
 
 -- n days more are folded by the numbers of days that have the same seconds
-pub folded_copied : (tree : Tree) (first from : ℤ) (sets : List (List ℕ)) (old new : List ℕ) (place count : ℕ) → IsFoldedTo tree first from sets old
-    → from ≡ first +ℤ pos (length old) → IsCopied old place count new → place + count ≤ length old
-    → ((k s : ℕ) → k < count → stands_at tree (first +ℤ pos (place + k)) s ≡ stands_at tree (from +ℤ pos k) s)
+pub folded_copied : (tree : Tree) (first from : ℤ) (sets : List (List ℕ)) (old new : List ℕ) (index count : ℕ) → IsFoldedTo tree first from sets old
+    → from ≡ first +ℤ pos (length old) → IsCopied old index count new → index + count ≤ length old
+    → ((k s : ℕ) → k < count → stands_at tree (first +ℤ pos (index + k)) s ≡ stands_at tree (from +ℤ pos k) s)
     → IsFoldedTo tree first (from +ℤ pos count) sets new
-folded_copied tree first from sets old new place count folded at copied room same = record {
+folded_copied tree first from sets old new index count folded at copied room same = record {
   within = folded.within;
   empty = folded.empty;
   few = folded.few;
@@ -64,8 +64,8 @@ folded_copied tree first from sets old new place count folded at copied room sam
         let within : j < count = omega (arith, l, copied.whole, k_is) in
         let day : first +ℤ pos (length old + j) ≡ from +ℤ pos j = omega (arith, ints, at) in
         rw (k_is, copied.again j within, day)
-        (numbered_alike tree (first +ℤ pos (place + j)) (from +ℤ pos j) sets (get_or old (place + j) 0) (λ s. same j s within)
-        (folded.numbered (place + j) (omega (arith, within, room)))))
+        (numbered_alike tree (first +ℤ pos (index + j)) (from +ℤ pos j) sets (get_or old (index + j) 0) (λ s. same j s within)
+        (folded.numbered (index + j) (omega (arith, within, room)))))
   ];
   reached = λ some. omega (arith, ints, at, copied.whole);
   rest = λ d s a b. absurd (omega (arith, ints, at, copied.whole, a, b));
@@ -74,11 +74,11 @@ folded_copied tree first from sets old new place count folded at copied room sam
 
 -- ---- places of years
 
--- the slot of a year whose first day has a place
-pub slot_is : (rule : Rule) (period : ℕ) (first year : ℤ) (place slot : ℕ) → first_day_of_year year ≡ first +ℤ pos place
-    → slot ≡ mask_key rule year + 56 * (place % period) → slot ≡ year_slot rule period first year
-slot_is rule period first year place slot at e =
-    let same : place ≡ nat_abs (first_day_of_year year -ℤ first) = omega (arith, ints, at) in
+-- the slot of a year whose first day has an index
+pub slot_is : (rule : Rule) (period : ℕ) (first year : ℤ) (index slot : ℕ) → first_day_of_year year ≡ first +ℤ pos index
+    → slot ≡ mask_key rule year + 56 * (index % period) → slot ≡ year_slot rule period first year
+slot_is rule period first year index slot at e =
+    let same : index ≡ nat_abs (first_day_of_year year -ℤ first) = omega (arith, ints, at) in
     e ∙ ap (λ (n : ℕ). mask_key rule year + 56 * (n % period)) same
 
 -- a kept year stays where it is as days are added
@@ -86,18 +86,18 @@ pub kept_longer : (rule : Rule) (period : ℕ) (first : ℤ) (days days' : ℕ) 
     → AreKeptYears rule period first days' kept
 kept_longer rule period first days days' kept more are = record {
   places = are.places;
-  years = λ key place e. (let y = are.years key place e in
+  years = λ key index e. (let y = are.years key index e in
       record { year = y.year; of_slot = y.of_slot; after = y.after; begins = y.begins; ends = omega (arith, y.ends, more) });
 }
 
--- no year is kept where there is nothing at each place
+-- no year is kept where there is nothing at each index
 pub none_kept : (rule : Rule) (period : ℕ) (first : ℤ) (days : ℕ) (kept : List (Option ℕ)) → length kept ≡ 56 * period → ((k : ℕ) → k < 56 * period → get_or kept k None ≡ None)
     → AreKeptYears rule period first days kept
 none_kept rule period first days kept whole none = record {
   places = whole;
-  years = λ key place e.
-      (let l = slice_get_within kept key (Some place) e in
-      let here : get_or kept key None ≡ Some place = get_or_from_slice_get kept key (Some place) None e in
+  years = λ key index e.
+      (let l = slice_get_within kept key (Some index) e in
+      let here : get_or kept key None ≡ Some index = get_or_from_slice_get kept key (Some index) None e in
       let nothing : get_or kept key None ≡ None = none key (omega (arith, l, whole)) in
       absurd (cc));
 }
@@ -106,48 +106,48 @@ some_place : (a b : ℕ) → Some a ≡ Some b → a ≡ b
 some_place a b e = cc
 
 -- a year that is over is kept at its slot
-pub one_kept : (rule : Rule) (period : ℕ) (first year : ℤ) (days days' place : ℕ) (kept : List (Option ℕ)) → days ≤ days' → AreKeptYears rule period first days kept
-    → year_slot rule period first year < 56 * period → first <ℤ first_day_of_year year → first_day_of_year year ≡ first +ℤ pos place → place + days_in_year year ≤ days'
-    → AreKeptYears rule period first days' (slice_set kept (year_slot rule period first year) (Some place))
-one_kept rule period first year days days' place kept more are low after begins ends =
+pub one_kept : (rule : Rule) (period : ℕ) (first year : ℤ) (days days' index : ℕ) (kept : List (Option ℕ)) → days ≤ days' → AreKeptYears rule period first days kept
+    → year_slot rule period first year < 56 * period → first <ℤ first_day_of_year year → first_day_of_year year ≡ first +ℤ pos index → index + days_in_year year ≤ days'
+    → AreKeptYears rule period first days' (slice_set kept (year_slot rule period first year) (Some index))
+one_kept rule period first year days days' index kept more are low after begins ends =
     let key : ℕ = year_slot rule period first year in
-    let new : List (Option ℕ) = slice_set kept key (Some place) in
+    let new : List (Option ℕ) = slice_set kept key (Some index) in
     let long = kept_longer rule period first days days' kept more are in
     record {
-      places = length-set kept key (Some place) ∙ are.places;
+      places = length-set kept key (Some index) ∙ are.places;
       years = λ n p e. (
           let here : get_or new n None ≡ Some p = get_or_from_slice_get new n (Some p) None e in
           elim (cases_eq n key) [
             | inl same ↦ (
-                let found : place ≡ p =
-                some_place place p (sym (get_or-set_at kept key n (Some place) None same (omega (arith, low, are.places))) ∙ here) in
+                let found : index ≡ p =
+                some_place index p (sym (get_or-set_at kept key n (Some index) None same (omega (arith, low, are.places))) ∙ here) in
                 record { year = year; of_slot = sym same; after = after; begins = rw (sym found) begins; ends = rw (sym found) ends })
             | inr other ↦ (
-                let m : n < length kept = omega (arith, length-set kept key (Some place), slice_get_within new n (Some p) e) in
-                let before : get_or kept n None ≡ Some p = sym (get_or-set_other kept key n (Some place) None other) ∙ here in
+                let m : n < length kept = omega (arith, length-set kept key (Some index), slice_get_within new n (Some p) e) in
+                let before : get_or kept n None ≡ Some p = sym (get_or-set_other kept key n (Some index) None other) ∙ here in
                 long.years n p (slice_get-get_or kept n None m ∙ ap (λ (x : Option ℕ). Some x) before))
           ]);
     }
 
--- the year whose place is read at its slot
-pub kept_read : (rule : Rule) (period : ℕ) (first year : ℤ) (days key place : ℕ) (kept : List (Option ℕ)) (found : Option ℕ) → AreKeptYears rule period first days kept
-    → key < 56 * period → key ≡ year_slot rule period first year → found ≡ get_or kept key found → found ≡ Some place → IsKeptYear rule period first days (year_slot rule period first year) place
-kept_read rule period first year days key place kept found are low of_key read is =
-    subst (λ n. IsKeptYear rule period first days n place) of_key
-    (are.years key place (slice_get-get_or kept key found (omega (arith, low, are.places)) ∙ ap (λ (x : Option ℕ). Some x) (sym read ∙ is)))
+-- the year whose index is read at its slot
+pub kept_read : (rule : Rule) (period : ℕ) (first year : ℤ) (days key index : ℕ) (kept : List (Option ℕ)) (found : Option ℕ) → AreKeptYears rule period first days kept
+    → key < 56 * period → key ≡ year_slot rule period first year → found ≡ get_or kept key found → found ≡ Some index → IsKeptYear rule period first days (year_slot rule period first year) index
+kept_read rule period first year days key index kept found are low of_key read is =
+    subst (λ n. IsKeptYear rule period first days n index) of_key
+    (are.years key index (slice_get-get_or kept key found (omega (arith, low, are.places)) ∙ ap (λ (x : Option ℕ). Some x) (sym read ∙ is)))
 
 -- the days of a kept year have the seconds of those of a year of its slot
-pub kept_alike : (rule : Rule) (period : ℕ) (tree : Tree) (first year : ℤ) (days place k s : ℕ) → HasEqualYears rule period tree first
-    → IsKeptYear rule period first days (year_slot rule period first year) place → first <ℤ first_day_of_year year → k < days_in_year year
-    → stands_at tree (first +ℤ pos (place + k)) s ≡ stands_at tree (first_day_of_year year +ℤ pos k) s
-kept_alike rule period tree first year days place k s equal kept after l =
-    let day : first +ℤ pos (place + k) ≡ first_day_of_year kept.year +ℤ pos k = omega (arith, ints, kept.begins) in
+pub kept_alike : (rule : Rule) (period : ℕ) (tree : Tree) (first year : ℤ) (days index k s : ℕ) → HasEqualYears rule period tree first
+    → IsKeptYear rule period first days (year_slot rule period first year) index → first <ℤ first_day_of_year year → k < days_in_year year
+    → stands_at tree (first +ℤ pos (index + k)) s ≡ stands_at tree (first_day_of_year year +ℤ pos k) s
+kept_alike rule period tree first year days index k s equal kept after l =
+    let day : first +ℤ pos (index + k) ≡ first_day_of_year kept.year +ℤ pos k = omega (arith, ints, kept.begins) in
     ap (λ d. stands_at tree d s) day ∙ sym (equal year kept.year after kept.after (sym kept.of_slot) k s l)
 
 -- as many days of a kept year as a year of its slot has are within the days
-pub kept_within : (rule : Rule) (period : ℕ) (first year : ℤ) (days place count : ℕ)
-    → IsKeptYear rule period first days (year_slot rule period first year) place → count ≤ days_in_year year → place + count ≤ days
-kept_within rule period first year days place count kept l =
+pub kept_within : (rule : Rule) (period : ℕ) (first year : ℤ) (days index count : ℕ)
+    → IsKeptYear rule period first days (year_slot rule period first year) index → count ≤ days_in_year year → index + count ≤ days
+kept_within rule period first year days index count kept l =
     omega (arith, kept.ends, equal_keys_have_equal_lengths rule year kept.year (slot_keys rule period first year kept.year (sym kept.of_slot)), l)
 
 -- ---- how far years reach

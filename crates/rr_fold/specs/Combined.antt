@@ -5,9 +5,11 @@ use Rattle.rr_model.specs.Sets.Sizes.{total_size}
 use Rattle.rr_model.specs.declared.limits.TheConstants.{MAX_SECONDS}
 use Rattle.rr_runs.specs.Pages.{IsZeroFrom}
 use Rattle.rr_shapes.specs.declared.unions.Pair.{Pair}
+use Rattle.rr_fold.specs.declared.combined.CombinedSets.{CombinedSets}
 use Rattle.rr_fold.specs.declared.combined.FreeTo.{FreeTo}
 use Rattle.rr_fold.specs.declared.combined.Op.{Op}
 use Rattle.rr_fold.specs.declared.combined.Op.TheVariants.{Union, Minus}
+use Rattle.rr_fold.specs.declared.folded_days.FoldedDays.{FoldedDays}
 
 -- a second is in what two sets are combined into: in either, or in the first and not in the second
 abbrev pub Has : Op → List ℕ → List ℕ → ℕ → Type 0
@@ -34,7 +36,7 @@ pub record AreShapes (sets : List (List ℕ)) : Type 0 where
 abbrev pub AreCombinationsOf : Op → List (List ℕ) → List (List ℕ) → List (List ℕ) → List (Pair × ℕ) → Type 0
 AreCombinationsOf op one other sets known = All (λ k. (k.1 ≤ 4_294_967_295) × IsCombinationOf op one other sets k.0.a k.0.b k.1) known
 
--- each number is that of the combination of the sets of both numbers at its place
+-- each number is that of the combination of the sets of both numbers at its index
 abbrev pub AreCombinedTo : Op → ℕ → List (List ℕ) → List ℕ → List (List ℕ) → List ℕ → List (List ℕ) → List ℕ → Type 0
 AreCombinedTo op n one ones other others sets numbers = (k : ℕ) → k < n → IsCombinationOf op one other sets (get_or ones k 0) (get_or others k 0) (get_or numbers k 0)
 
@@ -66,11 +68,23 @@ pub record AreCombined (op : Op) (one : List (List ℕ)) (ones : List ℕ) (othe
   pub combined : AreCombinedTo op (length ones) one ones other others sets numbers
   pub used : AreUsed (length ones) sets numbers
 
--- from a place on the list is free up to an end, if that lies after the place
-abbrev pub IsFreeTo : List ℕ → ℕ → ℕ → Type 0
-IsFreeTo numbers place end = IsZeroFrom numbers place (end - place)
+-- two lists of days that can be combined: they are equally long, and each has numbers of its sets, of which the first one is empty
+abbrev pub AreAlike : FoldedDays → FoldedDays → Type 0
+AreAlike one other = AreLists one.shapes one.numbers other.shapes other.numbers
 
--- from a place on each of two lists is free up to an end of its own
-pub record AreFreeTo (ones others : List ℕ) (place : ℕ) (free : FreeTo) : Type 0 where
-  pub one : IsFreeTo ones place free.one
-  pub other : IsFreeTo others place free.other
+-- the numbers so far are those of the combinations of two lists of days, and these are their sets
+abbrev pub AreCombinedSoFar : Op → FoldedDays → FoldedDays → CombinedSets → List ℕ → Type 0
+AreCombinedSoFar op one other sets numbers = IsCombinedTo op one.shapes one.numbers other.shapes other.numbers sets.shapes sets.known numbers
+
+-- the days of two lists are combined into these
+abbrev pub AreCombinedDays : Op → FoldedDays → FoldedDays → FoldedDays → Type 0
+AreCombinedDays op one other days = AreCombined op one.shapes one.numbers other.shapes other.numbers days.shapes days.numbers
+
+-- from an index on the list is free up to an end, if that lies after the index
+abbrev pub IsFreeTo : List ℕ → ℕ → ℕ → Type 0
+IsFreeTo numbers index end = IsZeroFrom numbers index (end - index)
+
+-- from an index on each of two lists is free up to an end of its own
+pub record AreFreeTo (ones others : List ℕ) (index : ℕ) (free : FreeTo) : Type 0 where
+  pub one : IsFreeTo ones index free.one
+  pub other : IsFreeTo others index free.other

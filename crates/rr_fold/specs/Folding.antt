@@ -1,11 +1,15 @@
 -- Days that are folded into numbers of time sets.
-use Rattle.std.specs.Prelude.{◌≡◌, ◌≢◌, ℕ, ◌+◌, ◌<◌, ◌≤◌, Bool, false, IsTrue, List, [], All, length, get_or, nat_lt, ℤ, pos, ◌+ℤ◌, ◌≤ℤ◌, ◌<ℤ◌}
+use Rattle.std.specs.Prelude.{◌≡◌, ◌≢◌, ℕ, ◌+◌, ◌<◌, ◌≤◌, Bool, false, IsTrue, Result, List, [], All, length, get_or, nat_lt, ℤ, pos, ◌+ℤ◌, ◌≤ℤ◌, ◌<ℤ◌}
 use Rattle.rr_lazy.specs.Next.{HasNone}
 use Rattle.rr_model.specs.Rising.Sets.{IsSetOf}
-use Rattle.rr_model.specs.Series.Limits.{IsTimeSetBefore}
+use Rattle.rr_model.specs.Answers.{RefusedExactlyWhere}
+use Rattle.rr_model.specs.Series.Limits.{HasTooManyMoments, IsTimeSetBefore}
 use Rattle.rr_model.specs.Sets.Sizes.{total_size}
 use Rattle.rr_model.specs.Sets.Tree.{Tree, stands_at}
 use Rattle.rr_model.specs.declared.limits.TheConstants.{MAX_SECONDS}
+use Rattle.rr_model.specs.declared.refusal.Fault.{Fault}
+use Rattle.rr_model.specs.declared.refusal.Refusal.TheVariants.{TooManyMoments}
+use Rattle.rr_fold.specs.declared.folded_days.FoldedDays.{FoldedDays}
 
 -- the set of this number has exactly the seconds that pass
 pub record IsNumbered (sets : List (List ℕ)) (number : ℕ) (test : ℕ → Bool) : Type 0 where
@@ -32,15 +36,23 @@ pub record IsFoldedTo (tree : Tree) (first position : ℤ) (sets : List (List �
   pub rest : HasNone tree (first +ℤ pos (length numbers)) position
   pub sets_of_days : All (λ times. times ≢ [] → IsTimeSetBefore tree position times) sets
 
--- the list goes on with 0 up to the place, which has this number
-pub record IsPut (old : List ℕ) (place number : ℕ) (new : List ℕ) : Type 0 where
-  pub whole : length new ≡ place + 1
-  pub kept : (k : ℕ) → k < length old → get_or new k 0 ≡ get_or old k 0
-  pub between : (k : ℕ) → length old ≤ k → k < place → get_or new k 0 ≡ 0
-  pub last : get_or new place 0 ≡ number
+-- These are the days of a tree, folded from the first one on and below the end.
+abbrev pub AreDaysOf : Tree → ℤ → ℤ → FoldedDays → Type 0
+AreDaysOf tree first end days = IsFoldedTo tree first end days.shapes days.numbers
 
--- the list goes on with 0 up to the place
-pub record IsFilledUp (old : List ℕ) (place : ℕ) (new : List ℕ) : Type 0 where
-  pub whole : length new ≡ place
+-- too many moments exactly where the days of a tree before the end have them, or out of memory
+abbrev pub RefusesTooMany : {X : Type 0} → Tree → ℤ → Result X Fault → Type 0
+RefusesTooMany tree end result = RefusedExactlyWhere (HasTooManyMoments tree end) TooManyMoments result
+
+-- the list goes on with 0 up to the index, which has this number
+pub record IsPut (old : List ℕ) (index number : ℕ) (new : List ℕ) : Type 0 where
+  pub whole : length new ≡ index + 1
   pub kept : (k : ℕ) → k < length old → get_or new k 0 ≡ get_or old k 0
-  pub zeros : (k : ℕ) → length old ≤ k → k < place → get_or new k 0 ≡ 0
+  pub between : (k : ℕ) → length old ≤ k → k < index → get_or new k 0 ≡ 0
+  pub last : get_or new index 0 ≡ number
+
+-- the list goes on with 0 up to the index
+pub record IsFilledUp (old : List ℕ) (index : ℕ) (new : List ℕ) : Type 0 where
+  pub whole : length new ≡ index
+  pub kept : (k : ℕ) → k < length old → get_or new k 0 ≡ get_or old k 0
+  pub zeros : (k : ℕ) → length old ≤ k → k < index → get_or new k 0 ≡ 0

@@ -2,6 +2,7 @@
 use Rattle.std.specs.Prelude.{◌≡◌, ℕ, ◌<◌, List, [], length, get_or, slice_get, take, Option, Some}
 use Rattle.rr_shapes.specs.Numbering.{IsNumbering}
 use Rattle.rr_shapes.specs.Placing.{IsTooMany}
+use Rattle.rr_lazy.specs.Next.{with_set}
 use Rattle.rr_lazy.specs.declared.occupied_day.OccupiedDay.{OccupiedDay}
 use Rattle.rr_fold.specs.declared.numbering.Known.{Known}
 
@@ -13,6 +14,10 @@ IsKnown table sets known =
 -- the number is known of a day's seconds
 abbrev pub IsKnownFor : List (Option Known) → OccupiedDay → ℕ → Type 0
 IsKnownFor known found number = slice_get known found.number ≡ Some (Some (record { count = found.count; number = number }))
+
+-- the seconds of a day, which its number and its count tell in the table of sets
+abbrev pub times_of : List (List ℕ) → OccupiedDay → List ℕ
+times_of sets found = (with_set sets found).times
 
 -- nothing is known that was not known before, and nothing is forgotten
 abbrev pub IsWidened : List (Option Known) → List (Option Known) → Type 0

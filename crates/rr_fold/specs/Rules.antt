@@ -1,12 +1,14 @@
 -- Series that are folded rule by rule.
 use Rattle.std.specs.Prelude.{◌≡◌, ◌≢◌, List, [], All, filter, int_le, ℤ, ◌≤ℤ◌, ◌<ℤ◌}
 use Rattle.rr_model.specs.Moment.{day_part}
-use Rattle.rr_model.specs.Series.Tree.{members_of_all}
-use Rattle.rr_model.specs.Sets.Tree.{Tree, dates_of, except, many, union}
+use Rattle.rr_model.specs.Series.Tree.{members_of, members_of_all}
+use Rattle.rr_model.specs.Sets.Tree.{Tree, chosen_of, dates_of, except, many, union}
 use Rattle.rr_model.specs.declared.kind.Kind.{Kind}
 use Rattle.rr_model.specs.declared.rule.End.TheVariants.{Never}
 use Rattle.rr_model.specs.declared.rule.Rule.{Rule}
 use Rattle.rr_model.specs.declared.rule.Series.{Series}
+use Rattle.rr_fold.specs.Folding.{AreDaysOf}
+use Rattle.rr_fold.specs.declared.folded_days.FoldedDays.{FoldedDays}
 
 -- no rule has an end
 abbrev pub AreEndless : List Rule → Type 0
@@ -21,6 +23,14 @@ pub record HasRules (series : Series) (first end : ℤ) : Type 0 where
 -- the members of each rule
 abbrev pub members_of_rules : Kind → ℤ → List Rule → Tree
 members_of_rules kind start rules = many (members_of_all kind start rules)
+
+-- These are the days of a rule's members, folded from its start's day on and below the end.
+abbrev pub AreDaysOfRule : Kind → ℤ → Rule → ℤ → FoldedDays → Type 0
+AreDaysOfRule kind start rule end days = AreDaysOf (members_of kind start rule) (day_part kind start) end days
+
+-- These are the days that a rule chooses, folded from its start's day on and below the end.
+abbrev pub AreDaysChosen : Kind → ℤ → Rule → ℤ → FoldedDays → Type 0
+AreDaysChosen kind start rule end days = AreDaysOf (chosen_of rule kind start) (day_part kind start) end days
 
 -- the dates on a day or after it
 abbrev pub dates_from : Kind → ℤ → List ℤ → List ℤ

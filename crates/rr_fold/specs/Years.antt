@@ -15,12 +15,17 @@ use Rattle.rr_model.specs.declared.rule.Freq.TheVariants.{Monthly, Yearly}
 use Rattle.rr_model.specs.declared.rule.Rule.{Rule}
 use Rattle.rr_fold.specs.Walks.{IsWalk}
 use Rattle.rr_fold.specs.declared.walk.Walk.{Walk}
+use Rattle.rr_fold.specs.declared.years.KeptYears.{KeptYears}
 
 -- A rule of whole days that leaves no unit out, and whose set positions, if it has some, are counted within units that lie in one year.
 pub record LeavesNoUnitOut (rule : Rule) : Type 0 where
   pub freq : is_whole_days rule.freq ≡ true
   pub interval : rule.interval ≡ 1
   pub positions : (is_absent rule.by_set_pos ≡ true) ⊎ ((rule.freq ≡ Monthly) ⊎ (rule.freq ≡ Yearly))
+
+-- A rule finer than whole days and without set positions.
+abbrev pub IsFinerThanDays : Rule → Type 0
+IsFinerThanDays rule = (is_whole_days rule.freq ≡ false) × (is_absent rule.by_set_pos ≡ true)
 
 -- A rule finer than whole days and without set positions, whose n-th units begin at the same second of a day again after this many days.
 pub record IsFiner (rule : Rule) (period : ℕ) : Type 0 where
@@ -58,18 +63,26 @@ HasEqualYears rule period tree first =
     (year other : ℤ) → first <ℤ first_day_of_year year → first <ℤ first_day_of_year other → year_slot rule period first year ≡ year_slot rule period first other
     → (k s : ℕ) → k < days_in_year year → stands_at tree (first_day_of_year year +ℤ pos k) s ≡ stands_at tree (first_day_of_year other +ℤ pos k) s
 
--- a year of this slot begins after the first day, at the place counted from there, and ends within n days
-pub record IsKeptYear (rule : Rule) (period : ℕ) (first : ℤ) (days slot place : ℕ) : Type 0 where
+-- a year of this slot begins after the first day, at the index counted from there, and ends within n days
+pub record IsKeptYear (rule : Rule) (period : ℕ) (first : ℤ) (days slot index : ℕ) : Type 0 where
   pub year : ℤ
   pub of_slot : year_slot rule period first year ≡ slot
   pub after : first <ℤ first_day_of_year year
-  pub begins : first_day_of_year year ≡ first +ℤ pos place
-  pub ends : place + days_in_year year ≤ days
+  pub begins : first_day_of_year year ≡ first +ℤ pos index
+  pub ends : index + days_in_year year ≤ days
 
 -- there is a place for each slot, and a year of that slot begins where it is known
 pub record AreKeptYears (rule : Rule) (period : ℕ) (first : ℤ) (days : ℕ) (kept : List (Option ℕ)) : Type 0 where
   pub places : length kept ≡ 56 * period
-  pub years : (slot place : ℕ) → slice_get kept slot ≡ Some (Some place) → IsKeptYear rule period first days slot place
+  pub years : (slot index : ℕ) → slice_get kept slot ≡ Some (Some index) → IsKeptYear rule period first days slot index
+
+-- the years that are kept are those of the days so far
+abbrev pub KeepsYears : Rule → ℤ → Walk → KeptYears → Type 0
+KeepsYears rule first walk kept = AreKeptYears rule kept.period first (length walk.days.numbers) kept.places.items
+
+-- no year is kept, of whichever rule
+abbrev pub KeepsNoYear : KeptYears → Type 0
+KeepsNoYear kept = (rule : Rule) (first : ℤ) → AreKeptYears rule kept.period first 0 kept.places.items
 
 -- The iterator stands at this position, and each day before it, from the first one on, has its number.
 pub record IsYearWalk (tree : Tree) (first position : ℤ) (lazy : RuleLazy) (walk : Walk) : Type 0 where
@@ -85,8 +98,8 @@ pub record IsYearUpTo (first year to : ℤ) : Type 0 where
   pub begun : first_day_of_year year <ℤ to
   pub within : to ≤ℤ first_day_of_year (year +ℤ pos 1)
 
--- n numbers from a place on stand once more at the end
-pub record IsCopied (old : List ℕ) (place count : ℕ) (new : List ℕ) : Type 0 where
+-- n numbers from an index on stand once more at the end
+pub record IsCopied (old : List ℕ) (index count : ℕ) (new : List ℕ) : Type 0 where
   pub whole : length new ≡ length old + count
   pub kept : (k : ℕ) → k < length old → get_or new k 0 ≡ get_or old k 0
-  pub again : (k : ℕ) → k < count → get_or new (length old + k) 0 ≡ get_or old (place + k) 0
+  pub again : (k : ℕ) → k < count → get_or new (length old + k) 0 ≡ get_or old (index + k) 0

@@ -2,9 +2,9 @@
 ghost use Rattle.std.specs.Prelude.{◌≡◌, ◌<◌, ◌≤◌, ◌∷◌, [], All, IfOk, OnOk, get_or, length, nat_lt};
 ghost use Rattle.rr_model.specs.Rising.Sets.{IsSetOf};
 ghost use Rattle.rr_days.specs.Growing.{IsGrown};
-ghost use Rattle.rr_fold.specs.Combined.{AreCombinationsOf, AreCombined, AreFreeTo, AreLists, AreShapes, Has, IsCombinationOf, IsCombinedTo, IsFreeTo};
+ghost use Rattle.rr_fold.specs.Combined.{AreAlike, AreCombinationsOf, AreCombinedDays, AreCombinedSoFar, AreFreeTo, AreShapes, Has, IsCombinationOf, IsFreeTo};
 
-use crate::fill::FoldedDays;
+use crate::folded_days::FoldedDays;
 use rr_model::{Fault, NoMemory};
 use rr_runs::Pages;
 use rr_shapes::{Pair, Shapes, Unions};
@@ -31,7 +31,7 @@ struct CombinedPair {
     number: u32,
 }
 
-// Up to which place each of two lists is known to be free.
+// Up to which index each of two lists is known to be free.
 #[derive(Clone, Copy)]
 struct FreeTo {
     one: usize,
@@ -60,17 +60,17 @@ pub fn combined(
     requires empty { (get_or one.now.shapes 0 [] ≡ []) × (get_or other.now.shapes 0 [] ≡ []) }
     requires ones { All (λ n. n < length one.now.shapes) one.now.numbers }
     requires others { All (λ n. n < length other.now.shapes) other.now.numbers }
-    ensures { IfOk result (λ days. AreCombined op one.now.shapes one.now.numbers other.now.shapes other.now.numbers days.shapes days.numbers) }
+    ensures { IfOk result (AreCombinedDays op one.now other.now) }
 {
     let mut sets = CombinedSets::new(alloc)?;
     let mut numbers = Pages::new(alloc);
     let end = one.numbers.len();
     numbers.reserve(end)?;
     let mut free = FreeTo { one: 0, other: 0 };
-    let mut place = 0;
-    while place < end {
+    let mut index = 0;
+    while index < end {
         sets.push_next(alloc, op, one, other, &mut numbers, &mut free)?;
-        place = numbers.len();
+        index = numbers.len();
     }
     Ok(FoldedDays {
         numbers,
@@ -78,33 +78,33 @@ pub fn combined(
     })
 }
 
-// Up to which places two lists are surely free from a place on, by what is known of each, or is found out.
-fn free_from(known: FreeTo, one: &Pages, other: &Pages, place: usize) -> FreeTo
-    requires one { place < length one.now }
-    requires other { place < length other.now }
-    requires known { AreFreeTo one.now other.now place known }
-    ensures free { AreFreeTo one.now other.now place result }
-    ensures one { place ≤ result.one }
-    ensures other { place ≤ result.other }
+// Up to which places two lists are surely free from an index on, by what is known of each, or is found out.
+fn free_from(known: FreeTo, one: &Pages, other: &Pages, index: usize) -> FreeTo
+    requires one { index < length one.now }
+    requires other { index < length other.now }
+    requires known { AreFreeTo one.now other.now index known }
+    ensures free { AreFreeTo one.now other.now index result }
+    ensures one { index ≤ result.one }
+    ensures other { index ≤ result.other }
 {
     FreeTo {
-        one: free_to(known.one, one, place),
-        other: free_to(known.other, other, place),
+        one: free_to(known.one, one, index),
+        other: free_to(known.other, other, index),
     }
 }
 
 // The same of one list.
-fn free_to(known: usize, numbers: &Pages, place: usize) -> usize
-    requires within { place < length numbers.now }
-    requires known { IsFreeTo numbers.now place known }
-    ensures free { IsFreeTo numbers.now place result }
-    ensures order { place ≤ result }
+fn free_to(known: usize, numbers: &Pages, index: usize) -> usize
+    requires within { index < length numbers.now }
+    requires known { IsFreeTo numbers.now index known }
+    ensures free { IsFreeTo numbers.now index result }
+    ensures order { index ≤ result }
 {
-    if place < known {
+    if index < known {
         return known;
     }
     let _bounded = numbers.len();
-    place + numbers.zeros_from(place)
+    index + numbers.zeros_from(index)
 }
 
 // How many of these days, of each list in a row, are combined one by one.
@@ -160,19 +160,19 @@ impl CombinedSets {
         numbers: &mut Pages,
         free: &mut FreeTo,
     ) -> Result<(), Fault>
-        requires lists { AreLists one.now.shapes one.now.numbers other.now.shapes other.now.numbers }
+        requires lists { AreAlike one.now other.now }
         requires within { length numbers.old < length one.now.numbers }
         requires free { AreFreeTo one.now.numbers other.now.numbers (length numbers.old) free.old }
-        requires so_far { IsCombinedTo op one.now.shapes one.now.numbers other.now.shapes other.now.numbers self.old.shapes self.old.known numbers.old }
-        ensures so_far { OnOk result (IsCombinedTo op one.now.shapes one.now.numbers other.now.shapes other.now.numbers self.new.shapes self.new.known numbers.new) }
+        requires so_far { AreCombinedSoFar op one.now other.now self.old numbers.old }
+        ensures so_far { OnOk result (AreCombinedSoFar op one.now other.now self.new numbers.new) }
         ensures free { AreFreeTo one.now.numbers other.now.numbers (length numbers.old) free.new }
         ensures more { OnOk result (length numbers.old < length numbers.new) }
         ensures within { OnOk result (length numbers.new ≤ length one.now.numbers) }
     {
-        let place = numbers.len();
-        let now = free_from(*free, &one.numbers, &other.numbers, place);
+        let index = numbers.len();
+        let now = free_from(*free, &one.numbers, &other.numbers, index);
         *free = now;
-        let count = now.one.min(now.other) - place;
+        let count = now.one.min(now.other) - index;
         if count == 0 {
             return self.push_stretch(alloc, op, one, other, numbers);
         }
@@ -189,16 +189,16 @@ impl CombinedSets {
         other: &FoldedDays,
         numbers: &mut Pages,
     ) -> Result<(), Fault>
-        requires lists { AreLists one.now.shapes one.now.numbers other.now.shapes other.now.numbers }
+        requires lists { AreAlike one.now other.now }
         requires within { length numbers.old < length one.now.numbers }
-        requires so_far { IsCombinedTo op one.now.shapes one.now.numbers other.now.shapes other.now.numbers self.old.shapes self.old.known numbers.old }
-        ensures so_far { OnOk result (IsCombinedTo op one.now.shapes one.now.numbers other.now.shapes other.now.numbers self.new.shapes self.new.known numbers.new) }
+        requires so_far { AreCombinedSoFar op one.now other.now self.old numbers.old }
+        ensures so_far { OnOk result (AreCombinedSoFar op one.now other.now self.new numbers.new) }
         ensures more { OnOk result (length numbers.old < length numbers.new) }
         ensures within { OnOk result (length numbers.new ≤ length one.now.numbers) }
     {
-        let place = numbers.len();
-        let ones = one.numbers.piece(place);
-        let others = other.numbers.piece(place);
+        let index = numbers.len();
+        let ones = one.numbers.piece(index);
+        let others = other.numbers.piece(index);
         let mut last = CombinedPair {
             a: 0,
             b: 0,
@@ -232,9 +232,11 @@ impl CombinedSets {
         requires shapes { AreShapes self.old.shapes }
         requires known { AreCombinationsOf op one.now other.now self.old.shapes self.old.known }
         ensures shapes { IfOk result (λ n. AreShapes self.new.shapes) }
-        ensures known { IfOk result (λ n. AreCombinationsOf op one.now other.now self.new.shapes self.new.known) }
+        ensures known { IfOk result (λ n.
+            AreCombinationsOf op one.now other.now self.new.shapes self.new.known) }
         ensures grown { IfOk result (IsGrown self.old.shapes self.new.shapes) }
-        ensures combination { IfOk result (IsCombinationOf op one.now other.now self.new.shapes a b) }
+        ensures combination { IfOk result
+            (IsCombinationOf op one.now other.now self.new.shapes a b) }
     {
         let pair = Pair {
             a: a as usize,

@@ -5,10 +5,10 @@ ghost use Rattle.rr_model.specs.Moment.{day_part};
 ghost use Rattle.rr_model.specs.Moment.Years.{IsInYears};
 ghost use Rattle.rr_model.specs.Rising.{with_value};
 ghost use Rattle.rr_model.specs.Sets.Tree.{dates_of};
-ghost use Rattle.rr_fold.specs.Folding.{IsFoldedTo};
+ghost use Rattle.rr_fold.specs.Folding.{AreDaysOf};
 ghost use Rattle.rr_fold.specs.Rules.{dates_from};
 
-use crate::fill::{FoldedDays, collected};
+use crate::folded_days::{FoldedDays, days_of_lazy};
 use rr_lazy::DatesLazy;
 use rr_model::{Dates, Fault, Kind, NoMemory, day_part};
 use rr_runs::Pages;
@@ -27,12 +27,13 @@ pub fn days_of_dates(
     requires low { first_day_of_all ≤ℤ first }
     requires order { first <ℤ end }
     requires high { end ≤ℤ pos 40_000_000 }
-    ensures folded { IfOk result (λ days. IsFoldedTo (dates_of kind (dates_from kind first dates.now)) first end days.shapes days.numbers) }
+    ensures folded { IfOk result
+        (AreDaysOf (dates_of kind (dates_from kind first dates.now)) first end) }
     ensures whole { IfOk result (λ days. end ≡ first +ℤ pos (length days.numbers)) }
 {
     let later = dates_from(alloc, kind, dates, first)?;
     let lazy = DatesLazy::new(kind, later);
-    collected(alloc, lazy, first, end)
+    days_of_lazy(alloc, lazy, first, end)
 }
 
 // The dates that lie on a day or after it.
@@ -49,7 +50,8 @@ fn dates_from(alloc: Global, kind: Kind, dates: &Dates, first: i64) -> Result<Da
 
 // Puts a date that lies on a day or after it.
 fn put_from(later: &mut Dates, kind: Kind, date: i64, first: i64) -> Result<(), NoMemory>
-    ensures { OnOk result (later.new ≡ (if int_le first (day_part kind date) then with_value int_lt later.old date else later.old)) }
+    ensures { OnOk result (later.new ≡ (if int_le first (day_part kind date)
+        then with_value int_lt later.old date else later.old)) }
 {
     if day_part(kind, date) < first {
         return Ok(());

@@ -10,8 +10,8 @@ ghost use Rattle.rr_model.specs.declared.refusal.Refusal.TheVariants.{TooManyMom
 ghost use Rattle.rr_model.specs.declared.limits.TheConstants.{MAX_CYCLE_DAYS};
 ghost use Rattle.rr_fold.specs.Judged.{IsJudged};
 
-use crate::fill::folded_days;
 use crate::first_day::first_day;
+use crate::folded_days::folded_days;
 use rr_check::{Checked, admit};
 use rr_days::{Folded, sequence};
 use rr_iter::ends;
@@ -33,11 +33,14 @@ use std::alloc::Global;
 /// first day in the rule's period. The others are copied.
 pub fn fold(alloc: Global, series: &Checked) -> Result<Folded, Fault>
     requires few { series_cycle series.now ≤ MAX_CYCLE_DAYS }
-    ensures stands { IfOk result (λ f. StandsFor (⟦<Folded as DaySeq>⟧.sketch f) (Occurs series.now)) }
+    ensures stands { IfOk result (λ f.
+        StandsFor (⟦<Folded as DaySeq>⟧.sketch f) (Occurs series.now)) }
     ensures kind { IfOk result (λ f. (⟦<Folded as DaySeq>⟧.sketch f).kind ≡ series.now.kind) }
-    ensures settled { IfOk result (λ f. IsSettledDay series.now (⟦<Folded as DaySeq>⟧.sketch f).settled) }
+    ensures settled { IfOk result (λ f.
+        IsSettledDay series.now (⟦<Folded as DaySeq>⟧.sketch f).settled) }
     ensures near { IfOk result (λ f. (⟦<Folded as DaySeq>⟧.sketch f).settled ≤ℤ pos 20_000_000) }
-    ensures period { IfOk result (λ f. (⟦<Folded as DaySeq>⟧.sketch f).period ≡ series_cycle series.now) }
+    ensures period { IfOk result (λ f.
+        (⟦<Folded as DaySeq>⟧.sketch f).period ≡ series_cycle series.now) }
     ensures judged { IsJudged series.now result }
 {
     match ends(alloc, series) {
@@ -51,11 +54,14 @@ fn folded_to(alloc: Global, series: &Checked, settled: i64) -> Result<Folded, Fa
     requires few { series_cycle series.now ≤ MAX_CYCLE_DAYS }
     requires settled { IsSettledDay series.now settled }
     requires high { settled ≤ℤ pos 20_000_000 }
-    ensures stands { IfOk result (λ f. StandsFor (⟦<Folded as DaySeq>⟧.sketch f) (Occurs series.now)) }
+    ensures stands { IfOk result (λ f.
+        StandsFor (⟦<Folded as DaySeq>⟧.sketch f) (Occurs series.now)) }
     ensures kind { IfOk result (λ f. (⟦<Folded as DaySeq>⟧.sketch f).kind ≡ series.now.kind) }
     ensures settled { IfOk result (λ f. (⟦<Folded as DaySeq>⟧.sketch f).settled ≡ settled) }
-    ensures period { IfOk result (λ f. (⟦<Folded as DaySeq>⟧.sketch f).period ≡ series_cycle series.now) }
-    ensures refused { RefusedExactlyWhere (IsTooManyMoments series.now settled) TooManyMoments result }
+    ensures period { IfOk result (λ f.
+        (⟦<Folded as DaySeq>⟧.sketch f).period ≡ series_cycle series.now) }
+    ensures refused { RefusedExactlyWhere (IsTooManyMoments series.now settled)
+        TooManyMoments result }
 {
     let given = series.series();
     let period = admit(series).unwrap();

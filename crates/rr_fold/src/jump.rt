@@ -2,14 +2,13 @@
 ghost use Rattle.std.specs.Prelude.{◌≡◌, ◌+◌, ◌*◌, ◌<◌, ◌≤◌, ◌≤ℤ◌, ◌<ℤ◌, ◌+ℤ◌, IfOk, IfSome, length, pos};
 ghost use Rattle.rr_model.specs.Moment.{day_part};
 ghost use Rattle.rr_model.specs.Rule.Cycle.{rule_cycle};
-ghost use Rattle.rr_model.specs.Series.Tree.{members_of};
 ghost use Rattle.rr_model.specs.declared.rule.End.TheVariants.{Count};
 ghost use Rattle.rr_iter.specs.Ends.{IsSoundRule};
-ghost use Rattle.rr_fold.specs.Folding.{IsFoldedTo};
 ghost use Rattle.rr_fold.specs.Jump.{AreWholeCycles, IsCountedJump, IsJump, IsSpliced};
+ghost use Rattle.rr_fold.specs.Rules.{AreDaysOfRule};
 
-use crate::fill::{FoldedDays, collected, days_between};
-use rr_iter::{EndedLazy, Place, day_of_nth};
+use crate::folded_days::{FoldedDays, days_between, days_of_lazy};
+use rr_iter::{EndedLazy, Nth, day_of_nth};
 use rr_lazy::FirstN;
 use rr_model::{Fault, Kind, NoMemory, Rule, day_part};
 use rr_num::day_cycle;
@@ -46,11 +45,11 @@ pub fn days_counted(
     requires ends { rule.now.end ≡ Count count }
     requires order { day_part kind start <ℤ end }
     requires high { end ≤ℤ pos 40_000_000 }
-    ensures folded { IfOk result (λ days. IsFoldedTo (members_of kind start rule.now) (day_part kind start) end days.shapes days.numbers) }
+    ensures folded { IfOk result (AreDaysOfRule kind start rule.now end) }
     ensures whole { IfOk result (λ days. end ≡ day_part kind start +ℤ pos (length days.numbers)) }
 {
     match jump_of(alloc, rule, kind, start, count, end)? {
-        Some(jump) => jumped(alloc, rule, kind, start, end, jump),
+        Some(jump) => days_by_jump(alloc, rule, kind, start, end, jump),
         None => days_ended(alloc, rule, kind, start, end),
     }
 }
@@ -66,15 +65,15 @@ pub(crate) fn days_ended(
     requires sound { IsSoundRule kind start rule.now }
     requires order { day_part kind start <ℤ end }
     requires high { end ≤ℤ pos 40_000_000 }
-    ensures folded { IfOk result (λ days. IsFoldedTo (members_of kind start rule.now) (day_part kind start) end days.shapes days.numbers) }
+    ensures folded { IfOk result (AreDaysOfRule kind start rule.now end) }
     ensures whole { IfOk result (λ days. end ≡ day_part kind start +ℤ pos (length days.numbers)) }
 {
     let lazy = EndedLazy::new(alloc, rule, kind, start)?;
-    collected(alloc, lazy, day_part(kind, start), end)
+    days_of_lazy(alloc, lazy, day_part(kind, start), end)
 }
 
 // The days of a rule with COUNT, of which whole cycles are copied.
-fn jumped(
+fn days_by_jump(
     alloc: Global,
     rule: &Rule,
     kind: Kind,
@@ -86,14 +85,14 @@ fn jumped(
     requires order { day_part kind start <ℤ end }
     requires high { end ≤ℤ pos 40_000_000 }
     requires jump { IsJump rule.now kind start end jump }
-    ensures folded { IfOk result (λ days. IsFoldedTo (members_of kind start rule.now) (day_part kind start) end days.shapes days.numbers) }
+    ensures folded { IfOk result (AreDaysOfRule kind start rule.now end) }
     ensures whole { IfOk result (λ days. end ≡ day_part kind start +ℤ pos (length days.numbers)) }
 {
     let first = day_part(kind, start);
     let chosen = RuleLazy::new(alloc, rule, kind, start)?;
     let lazy = FirstN::new(chosen, jump.count);
-    let days = collected(alloc, lazy, first, end - days_left_out(jump))?;
-    let numbers = spliced(
+    let days = days_of_lazy(alloc, lazy, first, end - days_left_out(jump))?;
+    let numbers = with_cycles(
         alloc,
         &days.numbers,
         jump.cycle as usize,
@@ -148,11 +147,10 @@ fn counted_jump(
     ensures { IfOk result (λ r. IfSome r (IsCountedJump rule.now kind start count days)) }
 {
     let day = day_part(kind, start);
-    let Place::Beyond(left) = day_of_nth(alloc, rule, kind, start, count, day)? else {
+    let Nth::Beyond(left) = day_of_nth(alloc, rule, kind, start, count, day)? else {
         return Ok(None);
     };
-    let Place::Beyond(after) = day_of_nth(alloc, rule, kind, start, count, day + cycle as i64)?
-    else {
+    let Nth::Beyond(after) = day_of_nth(alloc, rule, kind, start, count, day + cycle as i64)? else {
         return Ok(None);
     };
     let each = left - after;
@@ -173,7 +171,12 @@ fn days_left_out(jump: Jump) -> i64
 }
 
 // The numbers with the `cycle` numbers that follow the first one put in after it `cycles` times more.
-fn spliced(alloc: Global, numbers: &Pages, cycle: usize, cycles: usize) -> Result<Pages, NoMemory>
+fn with_cycles(
+    alloc: Global,
+    numbers: &Pages,
+    cycle: usize,
+    cycles: usize,
+) -> Result<Pages, NoMemory>
     requires some { 1 ≤ cycle }
     requires long { cycle + 1 ≤ length numbers.now }
     requires few { length numbers.now + cycles * cycle ≤ 100_000_000 }

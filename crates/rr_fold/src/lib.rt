@@ -3,9 +3,9 @@
 
 mod combined;
 mod dates;
-mod fill;
 mod first_day;
 mod folded;
+mod folded_days;
 mod jump;
 mod numbering;
 mod rules;

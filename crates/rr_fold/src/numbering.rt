@@ -4,9 +4,9 @@ ghost use Rattle.rr_model.specs.Answers.{RefusedExactlyWhere};
 ghost use Rattle.rr_model.specs.Sets.Sizes.{total_size};
 ghost use Rattle.rr_model.specs.declared.limits.TheConstants.{MAX_SECONDS};
 ghost use Rattle.rr_model.specs.declared.refusal.Refusal.TheVariants.{TooManyMoments};
-ghost use Rattle.rr_lazy.specs.Next.{IsWithin, with_set};
+ghost use Rattle.rr_lazy.specs.Next.{IsWithin};
 ghost use Rattle.rr_shapes.specs.Placing.{IsPlaced};
-ghost use Rattle.rr_fold.specs.Numbering.{IsKnown, IsKnownFor, IsOneTooMany, IsWidened};
+ghost use Rattle.rr_fold.specs.Numbering.{IsKnown, IsKnownFor, IsOneTooMany, IsWidened, times_of};
 
 use rr_lazy::OccupiedDay;
 use rr_model::{Fault, NoMemory};
@@ -51,9 +51,11 @@ impl Numbering {
         requires known { IsKnown self.old.sets shapes.old self.old.known.items }
         ensures same { self.new.sets ≡ self.old.sets }
         ensures known { IsKnown self.new.sets shapes.new self.new.known.items }
-        ensures placed { IfOk result (IsPlaced ((with_set self.old.sets found).times) shapes.old shapes.new) }
+        ensures placed { IfOk result
+            (IsPlaced (times_of self.old.sets found) shapes.old shapes.new) }
         ensures room { total_size shapes.old ≤ MAX_SECONDS → total_size shapes.new ≤ MAX_SECONDS }
-        ensures refused { RefusedExactlyWhere (IsOneTooMany ((with_set self.old.sets found).times) shapes.old) TooManyMoments result }
+        ensures refused { RefusedExactlyWhere
+            (IsOneTooMany (times_of self.old.sets found) shapes.old) TooManyMoments result }
     {
         if let Some(number) = self.number_known(found) {
             return Ok(number);

@@ -5,15 +5,14 @@ ghost use Rattle.rr_model.specs.Moment.{day_part};
 ghost use Rattle.rr_model.specs.Moment.Years.{IsInYears};
 ghost use Rattle.rr_model.specs.Rule.Validity.{IsValidRule};
 ghost use Rattle.rr_model.specs.Series.Soundness.{IsSound};
-ghost use Rattle.rr_model.specs.Series.Tree.{members_of, tree_of};
-ghost use Rattle.rr_model.specs.Sets.Tree.{chosen_of};
+ghost use Rattle.rr_model.specs.Series.Tree.{tree_of};
 ghost use Rattle.rr_iter.specs.Ends.{IsSoundRule};
-ghost use Rattle.rr_fold.specs.Folding.{HasNoneBefore, IsFoldedTo};
-ghost use Rattle.rr_fold.specs.Rules.{AreEndless, HasRules, given_from, kept_from, members_of_rules};
+ghost use Rattle.rr_fold.specs.Folding.{AreDaysOf, HasNoneBefore};
+ghost use Rattle.rr_fold.specs.Rules.{AreDaysChosen, AreDaysOfRule, AreEndless, HasRules, given_from, kept_from, members_of_rules};
 
 use crate::combined::{Op, combined};
 use crate::dates::{days_of_dates, led_by_free};
-use crate::fill::{FoldedDays, collected, days_between};
+use crate::folded_days::{FoldedDays, days_between, days_of_lazy};
 use crate::jump::{days_counted, days_ended};
 use crate::years::{days_by_years, year_period};
 use rr_check::Checked;
@@ -99,7 +98,7 @@ pub fn days_by_rules(
     requires low { first_day_of_all ≤ℤ first }
     requires high { end ≤ℤ pos 40_000_000 }
     requires early { HasNoneBefore (tree_of series.now) first }
-    ensures folded { IfOk result (λ days. IsFoldedTo (tree_of series.now) first end days.shapes days.numbers) }
+    ensures folded { IfOk result (AreDaysOf (tree_of series.now) first end) }
     ensures whole { IfOk result (λ days. end ≡ first +ℤ pos (length days.numbers)) }
 {
     let given = series.series();
@@ -117,7 +116,7 @@ fn kept_days(alloc: Global, series: &Series, first: i64, end: i64) -> Result<Fol
     requires rules { HasRules series.now first end }
     requires low { first_day_of_all ≤ℤ first }
     requires high { end ≤ℤ pos 40_000_000 }
-    ensures folded { IfOk result (λ days. IsFoldedTo (kept_from series.now first) first end days.shapes days.numbers) }
+    ensures folded { IfOk result (AreDaysOf (kept_from series.now first) first end) }
     ensures whole { IfOk result (λ days. end ≡ first +ℤ pos (length days.numbers)) }
 {
     let days = given_days(alloc, series, first, end)?;
@@ -135,7 +134,7 @@ fn given_days(alloc: Global, series: &Series, first: i64, end: i64) -> Result<Fo
     requires rules { HasRules series.now first end }
     requires low { first_day_of_all ≤ℤ first }
     requires high { end ≤ℤ pos 40_000_000 }
-    ensures folded { IfOk result (λ days. IsFoldedTo (given_from series.now first) first end days.shapes days.numbers) }
+    ensures folded { IfOk result (AreDaysOf (given_from series.now first) first end) }
     ensures whole { IfOk result (λ days. end ≡ first +ℤ pos (length days.numbers)) }
 {
     let rules = series.rules.as_slice();
@@ -163,7 +162,7 @@ fn days_of_rules(
     requires begun { first ≤ℤ day_part kind start }
     requires order { day_part kind start <ℤ end }
     requires high { end ≤ℤ pos 40_000_000 }
-    ensures folded { IfOk result (λ days. IsFoldedTo (members_of_rules kind start rules.now) first end days.shapes days.numbers) }
+    ensures folded { IfOk result (AreDaysOf (members_of_rules kind start rules.now) first end) }
     ensures whole { IfOk result (λ days. end ≡ first +ℤ pos (length days.numbers)) }
 {
     let days = days_from_start(alloc, kind, start, rules, end)?;
@@ -185,7 +184,8 @@ fn days_from_start(
     requires in_years { IsInYears kind start }
     requires order { day_part kind start <ℤ end }
     requires high { end ≤ℤ pos 40_000_000 }
-    ensures folded { IfOk result (λ days. IsFoldedTo (members_of_rules kind start rules.now) (day_part kind start) end days.shapes days.numbers) }
+    ensures folded { IfOk result
+        (AreDaysOf (members_of_rules kind start rules.now) (day_part kind start) end) }
     ensures whole { IfOk result (λ days. end ≡ day_part kind start +ℤ pos (length days.numbers)) }
 {
     let mut days = days_of_rule(alloc, &rules[0], kind, start, end)?;
@@ -207,7 +207,7 @@ fn days_of_rule(
     requires sound { IsSoundRule kind start rule.now }
     requires order { day_part kind start <ℤ end }
     requires high { end ≤ℤ pos 40_000_000 }
-    ensures folded { IfOk result (λ days. IsFoldedTo (members_of kind start rule.now) (day_part kind start) end days.shapes days.numbers) }
+    ensures folded { IfOk result (AreDaysOfRule kind start rule.now end) }
     ensures whole { IfOk result (λ days. end ≡ day_part kind start +ℤ pos (length days.numbers)) }
 {
     match rule.end {
@@ -229,12 +229,12 @@ fn days_chosen(
     requires in_years { IsInYears kind start }
     requires order { day_part kind start <ℤ end }
     requires high { end ≤ℤ pos 40_000_000 }
-    ensures folded { IfOk result (λ days. IsFoldedTo (chosen_of rule.now kind start) (day_part kind start) end days.shapes days.numbers) }
+    ensures folded { IfOk result (AreDaysChosen kind start rule.now end) }
     ensures whole { IfOk result (λ days. end ≡ day_part kind start +ℤ pos (length days.numbers)) }
 {
     if let Some(period) = year_period(rule) {
         return days_by_years(alloc, rule, period, kind, start, end);
     }
     let lazy = RuleLazy::new(alloc, rule, kind, start)?;
-    collected(alloc, lazy, day_part(kind, start), end)
+    days_of_lazy(alloc, lazy, day_part(kind, start), end)
 }

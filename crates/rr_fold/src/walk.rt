@@ -1,14 +1,11 @@
 // The days of an iterator, folded up to its position.
 ghost use Rattle.std.specs.Prelude.{◌≡◌, ◌+◌, ◌≤◌, IfOk, OnOk, length, pos, ◌≤ℤ◌, ◌<ℤ◌, ◌+ℤ◌};
 ghost use Rattle.rr_model.specs.Bounds.{earliest_day, first_day_of_all, latest_day};
-ghost use Rattle.rr_model.specs.Answers.{RefusedExactlyWhere};
-ghost use Rattle.rr_model.specs.Series.Limits.{HasTooManyMoments};
-ghost use Rattle.rr_model.specs.declared.refusal.Refusal.TheVariants.{TooManyMoments};
-ghost use Rattle.rr_fold.specs.Folding.{IsFilledUp, IsFoldedTo, IsPut};
+ghost use Rattle.rr_fold.specs.Folding.{IsFilledUp, IsFoldedTo, IsPut, RefusesTooMany};
 ghost use Rattle.rr_fold.specs.Numbering.{IsKnown};
 ghost use Rattle.rr_fold.specs.Walks.{IsNewWalk, IsWalk};
 
-use crate::fill::{FoldedDays, days_between};
+use crate::folded_days::{FoldedDays, days_between};
 use crate::numbering::Numbering;
 use rr_lazy::Lazy;
 use rr_model::{Fault, NoMemory};
@@ -56,7 +53,7 @@ impl Walk {
         ensures knows { OnOk result (L.knows lazy.new self.new.numbering.sets) }
         ensures walk { OnOk result (IsWalk (L.tree lazy.old) first end self.new) }
         ensures whole { OnOk result (end ≡ first +ℤ pos (length self.new.days.numbers)) }
-        ensures refused { RefusedExactlyWhere (HasTooManyMoments (L.tree lazy.old) end) TooManyMoments result }
+        ensures refused { RefusesTooMany (L.tree lazy.old) end result }
     {
         match fill(
             alloc,
@@ -92,21 +89,23 @@ fn fill<L: Lazy>(
     requires position { L.position lazy.old ≤ℤ (to +ℤ pos 1) }
     requires knows { L.knows lazy.old numbering.old.sets }
     requires known { IsKnown numbering.old.sets shapes.old numbering.old.known.items }
-    requires folded { IsFoldedTo (L.tree lazy.old) first (L.position lazy.old) shapes.old numbers.old }
-    ensures folded { OnOk result (IsFoldedTo (L.tree lazy.old) first (to +ℤ pos 1) shapes.new numbers.new) }
+    requires folded { IsFoldedTo (L.tree lazy.old) first (L.position lazy.old)
+        shapes.old numbers.old }
+    ensures folded { OnOk result
+        (IsFoldedTo (L.tree lazy.old) first (to +ℤ pos 1) shapes.new numbers.new) }
     ensures same { OnOk result (L.tree lazy.new ≡ L.tree lazy.old) }
     ensures position { OnOk result (L.position lazy.new ≡ to +ℤ pos 1) }
     ensures knows { OnOk result (L.knows lazy.new numbering.new.sets) }
     ensures known { OnOk result (IsKnown numbering.new.sets shapes.new numbering.new.known.items) }
-    ensures refused { RefusedExactlyWhere (HasTooManyMoments (L.tree lazy.old) (to +ℤ pos 1)) TooManyMoments result }
+    ensures refused { RefusesTooMany (L.tree lazy.old) (to +ℤ pos 1) result }
 {
     'days: loop {
         match lazy.next(alloc, &mut numbering.sets, to)? {
             None => return Ok(()),
             Some(found) => {
-                let place = days_between(first, found.day);
+                let index = days_between(first, found.day);
                 match numbering.number_of(alloc, found, shapes) {
-                    Ok(number) => put(numbers, place, number)?,
+                    Ok(number) => put(numbers, index, number)?,
                     Err(fault) => return Err(fault),
                 }
             }
@@ -114,22 +113,22 @@ fn fill<L: Lazy>(
     }
 }
 
-// Puts a number at its place, and 0, the number of the empty set, at each place before it that has none yet.
-fn put(numbers: &mut Pages, place: usize, number: u32) -> Result<(), NoMemory>
-    requires { length numbers.old ≤ place }
-    ensures { OnOk result (IsPut numbers.old place number numbers.new) }
+// Puts a number at its index, and 0, the number of the empty set, at each index before it that has none yet.
+fn put(numbers: &mut Pages, index: usize, number: u32) -> Result<(), NoMemory>
+    requires { length numbers.old ≤ index }
+    ensures { OnOk result (IsPut numbers.old index number numbers.new) }
 {
-    fill_to(numbers, place)?;
+    fill_to(numbers, index)?;
     numbers.push(number)?;
     Ok(())
 }
 
-// Puts 0, the number of the empty set, at each place before this one that has none yet.
-fn fill_to(numbers: &mut Pages, place: usize) -> Result<(), NoMemory>
-    requires { length numbers.old ≤ place }
-    ensures { OnOk result (IsFilledUp numbers.old place numbers.new) }
+// Puts 0, the number of the empty set, at each index before this one that has none yet.
+fn fill_to(numbers: &mut Pages, index: usize) -> Result<(), NoMemory>
+    requires { length numbers.old ≤ index }
+    ensures { OnOk result (IsFilledUp numbers.old index numbers.new) }
 {
-    let count = place - numbers.len();
+    let count = index - numbers.len();
     numbers.push_same(0, count)?;
     Ok(())
 }

@@ -2,18 +2,17 @@
 ghost use Rattle.std.specs.Prelude.{◌≡◌, ◌+◌, ◌*◌, ◌%◌, ◌<◌, ◌≤◌, ◌<ℤ◌, ◌≤ℤ◌, ◌+ℤ◌, IfOk, IfSome, OnOk, length, pos, true, false, ℤ};
 ghost use Rattle.rr_model.specs.Bounds.{first_day_of_all};
 ghost use Rattle.rr_expand.specs.Years.{mask_key};
+ghost use Rattle.rr_walk.specs.Lazies.{knows_rule, position_of_rule, tree_of_rule};
 ghost use Rattle.rr_model.specs.Calendar.{IsDayWithin, first_day_of_year};
 ghost use Rattle.rr_model.specs.Moment.{day_part};
 ghost use Rattle.rr_model.specs.Moment.Years.{IsInYears};
-ghost use Rattle.rr_model.specs.Moment.Units.{is_whole_days};
-ghost use Rattle.rr_model.specs.Rule.Validity.{IsValidRule, is_absent};
-ghost use Rattle.rr_model.specs.Sets.Tree.{chosen_of};
+ghost use Rattle.rr_model.specs.Rule.Validity.{IsValidRule};
 ghost use Rattle.rr_model.specs.declared.rule.Rule.{Rule};
-ghost use Rattle.rr_fold.specs.Folding.{IsFoldedTo};
+ghost use Rattle.rr_fold.specs.Rules.{AreDaysChosen};
 ghost use Rattle.rr_fold.specs.Walks.{IsWalk};
-ghost use Rattle.rr_fold.specs.Years.{AreKeptYears, HasEqualYears, IsYearUpTo, IsYearWalk, LeavesNoUnitOut, RepeatsByYears};
+ghost use Rattle.rr_fold.specs.Years.{HasEqualYears, IsFinerThanDays, IsYearUpTo, IsYearWalk, KeepsNoYear, KeepsYears, LeavesNoUnitOut, RepeatsByYears};
 
-use crate::fill::{FoldedDays, days_between};
+use crate::folded_days::{FoldedDays, days_between};
 use crate::walk::Walk;
 use rr_cal::{Date, date_of, day_of, days_in_year};
 use rr_expand::mask_key;
@@ -51,7 +50,7 @@ pub fn year_period(rule: &Rule) -> Option<usize>
 // The period of a rule that is finer than whole days and has no set positions.
 fn finer_period(rule: &Rule) -> Option<usize>
     requires low { 1 ≤ rule.now.interval }
-    requires finer { (is_whole_days rule.now.freq ≡ false) × (is_absent rule.now.by_set_pos ≡ true) }
+    requires finer { IsFinerThanDays rule.now }
     ensures repeats { IfSome result (RepeatsByYears rule.now) }
     ensures some { IfSome result (λ p. 1 ≤ p) }
     ensures few { IfSome result (λ p. p ≤ 1_000) }
@@ -79,7 +78,7 @@ fn leaves_no_unit_out(rule: &Rule) -> bool
 
 // Whether a rule is finer than whole days and has no set positions.
 fn is_finer(rule: &Rule) -> bool
-    ensures { result ≡ true → (is_whole_days rule.now.freq ≡ false) × (is_absent rule.now.by_set_pos ≡ true) }
+    ensures { result ≡ true → IsFinerThanDays rule.now }
 {
     match rule.freq {
         Freq::Hourly | Freq::Minutely | Freq::Secondly => rule.by_set_pos.is_empty(),
@@ -104,7 +103,7 @@ pub fn days_by_years(
     requires few { period ≤ 1_000 }
     requires order { day_part kind start <ℤ end }
     requires high { end ≤ℤ pos 40_000_000 }
-    ensures folded { IfOk result (λ days. IsFoldedTo (chosen_of rule.now kind start) (day_part kind start) end days.shapes days.numbers) }
+    ensures folded { IfOk result (AreDaysChosen kind start rule.now end) }
     ensures whole { IfOk result (λ days. end ≡ day_part kind start +ℤ pos (length days.numbers)) }
 {
     let first = day_part(kind, start);
@@ -134,11 +133,11 @@ fn walk_by_years(
     requires high { end ≤ℤ pos 40_000_000 }
     requires some { 1 ≤ period }
     requires few { period ≤ 1_000 }
-    requires equal { HasEqualYears rule.now period (⟦<RuleLazy as Lazy>⟧.tree lazy.old) first }
-    requires position { ⟦<RuleLazy as Lazy>⟧.position lazy.old ≤ℤ first }
-    requires knows { ⟦<RuleLazy as Lazy>⟧.knows lazy.old walk.old.numbering.sets }
-    requires walk { IsWalk (⟦<RuleLazy as Lazy>⟧.tree lazy.old) first (⟦<RuleLazy as Lazy>⟧.position lazy.old) walk.old }
-    ensures { OnOk result (IsYearWalk (⟦<RuleLazy as Lazy>⟧.tree lazy.old) first end lazy.new walk.new) }
+    requires equal { HasEqualYears rule.now period (tree_of_rule lazy.old) first }
+    requires position { position_of_rule lazy.old ≤ℤ first }
+    requires knows { knows_rule lazy.old walk.old.numbering.sets }
+    requires walk { IsWalk (tree_of_rule lazy.old) first (position_of_rule lazy.old) walk.old }
+    ensures { OnOk result (IsYearWalk (tree_of_rule lazy.old) first end lazy.new walk.new) }
 {
     let mut kept = KeptYears::new(alloc, period)?;
     let mut year = date_of(first).year + 1;
@@ -153,7 +152,7 @@ fn walk_by_years(
     Ok(())
 }
 
-// For each key of years, and each place in a period, the place of the first day of a year that has both.
+// For each key of years, and each place in a period, the index of the first day of a year that has both.
 #[derive(Drop)]
 struct KeptYears {
     period: usize,
@@ -165,22 +164,22 @@ impl KeptYears {
     fn new(alloc: Global, period: usize) -> Result<KeptYears, NoMemory>
         requires { period ≤ 1_000 }
         ensures period { IfOk result (λ kept. kept.period ≡ period) }
-        ensures kept { IfOk result (λ kept. (rule : Rule) (first : ℤ) → AreKeptYears rule kept.period first 0 kept.places.items) }
+        ensures kept { IfOk result KeepsNoYear }
     {
         let mut places = Vec::new(alloc);
         places.resize(KEYS * period, None)?;
         Ok(KeptYears { period, places })
     }
 
-    // The slot of a year whose first day has this place.
-    fn slot_of(&self, rule: &Rule, year: i64, place: usize) -> usize
+    // The slot of a year whose first day has this index.
+    fn slot_of(&self, rule: &Rule, year: i64, index: usize) -> usize
         requires year { IsDayWithin 0 year }
         requires some { 1 ≤ self.now.period }
         requires few { self.now.period ≤ 1_000 }
-        ensures value { result ≡ mask_key rule.now year + 56 * (place % self.now.period) }
+        ensures value { result ≡ mask_key rule.now year + 56 * (index % self.now.period) }
         ensures below { result < 56 * self.now.period }
     {
-        usize::from(mask_key(rule, year)) + KEYS * (place % self.period)
+        usize::from(mask_key(rule, year)) + KEYS * (index % self.period)
     }
 
     // Goes on with the days of a year below another day: those of a year of its slot are copied, or else they are walked.
@@ -199,23 +198,26 @@ impl KeptYears {
         requires low { first_day_of_all ≤ℤ first }
         requires high { to ≤ℤ pos 40_000_000 }
         requires year { IsYearUpTo first year to }
-        requires equal { HasEqualYears rule.now self.old.period (⟦<RuleLazy as Lazy>⟧.tree lazy.old) first }
-        requires walked { IsYearWalk (⟦<RuleLazy as Lazy>⟧.tree lazy.old) first (first_day_of_year year) lazy.old walk.old }
-        requires kept { AreKeptYears rule.now self.old.period first (length walk.old.days.numbers) self.old.places.items }
+        requires equal { HasEqualYears rule.now self.old.period (tree_of_rule lazy.old) first }
+        requires walked { IsYearWalk (tree_of_rule lazy.old) first (first_day_of_year year)
+            lazy.old walk.old }
+        requires kept { KeepsYears rule.now first walk.old self.old }
         ensures same { OnOk result (self.new.period ≡ self.old.period) }
-        ensures walked { OnOk result (IsYearWalk (⟦<RuleLazy as Lazy>⟧.tree lazy.old) first to lazy.new walk.new) }
-        ensures kept { OnOk result (to ≡ first_day_of_year (year +ℤ pos 1) → AreKeptYears rule.now self.new.period first (length walk.new.days.numbers) self.new.places.items) }
+        ensures walked { OnOk result
+            (IsYearWalk (tree_of_rule lazy.old) first to lazy.new walk.new) }
+        ensures kept { OnOk result (to ≡ first_day_of_year (year +ℤ pos 1)
+            → KeepsYears rule.now first walk.new self.new) }
     {
-        let place = walk.days.numbers.len();
-        let slot = self.slot_of(rule, year, place);
+        let index = walk.days.numbers.len();
+        let slot = self.slot_of(rule, year, index);
         if let Some(from) = self.places[slot] {
-            let count = days_between(first, to) - place;
+            let count = days_between(first, to) - index;
             walk.days.numbers.push_again(from, count)?;
             lazy.skip_to(to);
             return Ok(());
         }
         walk.walk_to(alloc, lazy, first, to)?;
-        self.places[slot] = Some(place);
+        self.places[slot] = Some(index);
         Ok(())
     }
 }

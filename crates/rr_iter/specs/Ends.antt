@@ -2,11 +2,12 @@
 use Rattle.std.specs.Prelude.{◌≡◌, ◌⊎◌, ℕ, ◌+◌, ◌<◌, ◌≤◌, true, ⊤, List, All, Result, Ok, Err, ℤ, pos, ◌+ℤ◌, ◌≤ℤ◌, ◌<ℤ◌}
 use Rattle.rr_model.specs.Moment.{day_part}
 use Rattle.rr_model.specs.Moment.Years.{IsFromYearOne, IsInYears}
+use Rattle.rr_model.specs.Rule.Cycle.{rule_cycle}
 use Rattle.rr_model.specs.Rule.Validity.{EndsInYears, IsValidRule}
 use Rattle.rr_model.specs.Series.Settled.{EndsBefore}
 use Rattle.rr_model.specs.Series.Soundness.{EndsNotBefore}
 use Rattle.rr_model.specs.Sets.Counting.{count_before}
-use Rattle.rr_model.specs.Sets.Tree.{Tree, stands_at}
+use Rattle.rr_model.specs.Sets.Tree.{Tree, chosen_of, stands_at}
 use Rattle.rr_model.specs.declared.kind.Kind.{Kind}
 use Rattle.rr_model.specs.declared.limits.TheConstants.{MAX_SPAN_DAYS}
 use Rattle.rr_model.specs.declared.refusal.Fault.{Fault}
@@ -14,8 +15,8 @@ use Rattle.rr_model.specs.declared.refusal.Fault.TheVariants.{Refused, NoMemory}
 use Rattle.rr_model.specs.declared.refusal.Refusal.TheVariants.{CountedTooFar}
 use Rattle.rr_model.specs.declared.rule.Rule.{Rule}
 use Rattle.rr_lazy.specs.Next.{HasNone}
-use Rattle.rr_iter.specs.declared.place.Place.{Place}
-use Rattle.rr_iter.specs.declared.place.Place.TheVariants.{On, Beyond}
+use Rattle.rr_iter.specs.declared.nth.Nth.{Nth}
+use Rattle.rr_iter.specs.declared.nth.Nth.TheVariants.{On, Beyond}
 
 -- a rule or an excluded rule of a sound series, beside its start, which it need not choose
 pub record IsSoundRule (kind : Kind) (start : ℤ) (rule : Rule) : Type 0 where
@@ -51,6 +52,14 @@ pub record IsLastUpTo (tree : Tree) (given to day : ℤ) : Type 0 where
 abbrev pub before_day : Tree → ℤ → ℕ
 before_day tree day = count_before (λ d s. stands_at tree d s) day
 
+-- how many moments a rule chooses up to its start's day
+abbrev pub up_to_start : Rule → Kind → ℤ → ℕ
+up_to_start rule kind start = before_day (chosen_of rule kind start) (day_part kind start +ℤ pos 1)
+
+-- how many it chooses up to the end of the first cycle after that day
+abbrev pub up_to_cycle : Rule → Kind → ℤ → ℕ
+up_to_cycle rule kind start = before_day (chosen_of rule kind start) ((day_part kind start +ℤ pos (rule_cycle rule)) +ℤ pos 1)
+
 -- the occurrence of this number lies on the day
 pub record HasNumberOn (tree : Tree) (number : ℕ) (day : ℤ) : Type 0 where
   pub begun : IsFromYearOne day
@@ -58,9 +67,9 @@ pub record HasNumberOn (tree : Tree) (number : ℕ) (day : ℤ) : Type 0 where
   pub within : number ≤ before_day tree (day +ℤ pos 1)
 
 -- where it lies up to a day, or how many occurrences after that day lead to it
-abbrev pub IsPlaceOf : Tree → ℕ → ℤ → Place → Type 0
-IsPlaceOf tree number to (On day) = (day ≤ℤ to) × HasNumberOn tree number day
-IsPlaceOf tree number to (Beyond left) = (1 ≤ left) × (before_day tree (to +ℤ pos 1) + left ≡ number)
+abbrev pub IsNthOf : Tree → ℕ → ℤ → Nth → Type 0
+IsNthOf tree number to (On day) = (day ≤ℤ to) × HasNumberOn tree number day
+IsNthOf tree number to (Beyond left) = (1 ≤ left) × (before_day tree (to +ℤ pos 1) + left ≡ number)
 
 -- the day of the occurrence of this number, refused where it lies more days after a day than the most of a span
 abbrev pub AnswersDayOf : Tree → ℤ → ℕ → Result ℤ Fault → Type 0

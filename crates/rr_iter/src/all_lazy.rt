@@ -1,7 +1,7 @@
 // The dates that are added to a series, and the members of its rules.
 ghost use Rattle.std.specs.Prelude.{◌≡◌, IfOk, List, ℕ};
 ghost use Rattle.rr_model.specs.Series.Soundness.{IsSound};
-ghost use Rattle.rr_model.specs.Series.Tree.{dates_with_start, members_of_all};
+ghost use Rattle.rr_model.specs.Series.Tree.{dates_with_start, tree_of_given};
 ghost use Rattle.rr_lazy.specs.Next.{IsUnasked};
 
 use crate::RulesLazy;
@@ -17,14 +17,13 @@ pub struct AllLazy {
 }
 
 impl AllLazy {
-    ghost use Rattle.rr_model.specs.Sets.Tree.{dates_of, many, union};
-
     /// The dates of a series, its start among them where it counts, and the members of its rules.
     pub(crate) fn new(alloc: Global, series: &Series) -> Result<AllLazy, NoMemory>
         requires sound { IsSound series.now }
-        ensures tree { IfOk result (λ l. ⟦<AllLazy as Lazy>⟧.tree l ≡ union (dates_of series.now.kind (dates_with_start series.now)) (many (members_of_all series.now.kind series.now.start series.now.rules))) }
+        ensures tree { IfOk result (λ l. ⟦<AllLazy as Lazy>⟧.tree l ≡ tree_of_given series.now) }
         ensures unasked { IfOk result (λ l. IsUnasked (⟦<AllLazy as Lazy>⟧.position l)) }
-        ensures knows { IfOk result (λ l. (sets : List (List ℕ)) → ⟦<AllLazy as Lazy>⟧.knows l sets) }
+        ensures knows { IfOk result (λ l. (sets : List (List ℕ))
+            → ⟦<AllLazy as Lazy>⟧.knows l sets) }
     {
         let dates = DatesLazy::new(series.kind, dates_with_start(alloc, series)?);
         let rules = RulesLazy::new(alloc, series.kind, series.start, series.rules.as_slice())?;
@@ -57,7 +56,9 @@ impl Lazy for AllLazy {
 
     ghost knows_more = { knows_all_more };
 
-    ghost sound = { λ s. sound_union (⟦<DatesLazy as Lazy>⟧.tree s.lazy.a) (⟦<RulesLazy as Lazy>⟧.tree s.lazy.b) s.lazy.position s.lazy.one_kind s.lazy.begun };
+    ghost sound = { λ s. sound_union (⟦<DatesLazy as Lazy>⟧.tree s.lazy.a)
+        (⟦<RulesLazy as Lazy>⟧.tree s.lazy.b)
+        s.lazy.position s.lazy.one_kind s.lazy.begun };
 
     fn next(
         &mut self,

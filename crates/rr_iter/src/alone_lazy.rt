@@ -21,7 +21,9 @@ pub struct AloneLazy {
     pub(crate) members: EndedLazy,
     pub(crate) kind: Kind,
     pub(crate) start: i64,
-    ghost one_kind: { IsOfOneKind (tree_alone kind start (tree_of_ended members)) } by { IsOfOneKind-prop (tree_alone kind start (tree_of_ended members)) },
+    ghost one_kind: { IsOfOneKind
+        (tree_alone kind start (tree_of_ended members)) } by { IsOfOneKind-prop
+            (tree_alone kind start (tree_of_ended members)) },
     ghost has_start: { stands_in (tree_of_ended members) kind start ≡ true },
 }
 
@@ -32,7 +34,8 @@ impl AloneLazy {
         requires alone { IsAlone series.now }
         ensures tree { IfOk result (λ l. ⟦<AloneLazy as Lazy>⟧.tree l ≡ tree_of series.now) }
         ensures unasked { IfOk result (λ l. IsUnasked (⟦<AloneLazy as Lazy>⟧.position l)) }
-        ensures knows { IfOk result (λ l. (sets : List (List ℕ)) → ⟦<AloneLazy as Lazy>⟧.knows l sets) }
+        ensures knows { IfOk result (λ l. (sets : List (List ℕ))
+            → ⟦<AloneLazy as Lazy>⟧.knows l sets) }
     {
         let rule = &series.rules.as_slice()[0];
         let members = EndedLazy::new(alloc, rule, series.kind, series.start)?;

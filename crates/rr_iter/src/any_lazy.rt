@@ -33,16 +33,17 @@ pub fn occurrences(alloc: Global, series: &Checked) -> Result<AnyLazy, NoMemory>
         let alone = AloneLazy::new(alloc, given)?;
         return Ok(AnyLazy::Alone(alone));
     }
-    let whole = whole(alloc, given)?;
+    let whole = whole_lazy(alloc, given)?;
     Ok(AnyLazy::Whole(whole))
 }
 
 // The occurrences of a series, whatever it has.
-fn whole(alloc: Global, series: &Series) -> Result<Without<KeptLazy>, NoMemory>
+fn whole_lazy(alloc: Global, series: &Series) -> Result<Without<KeptLazy>, NoMemory>
     requires sound { IsSound series.now }
     ensures tree { IfOk result (λ l. ⟦<Without<KeptLazy> as Lazy>⟧.tree l ≡ tree_of series.now) }
     ensures unasked { IfOk result (λ l. IsUnasked (⟦<Without<KeptLazy> as Lazy>⟧.position l)) }
-    ensures knows { IfOk result (λ l. (sets : List (List ℕ)) → ⟦<Without<KeptLazy> as Lazy>⟧.knows l sets) }
+    ensures knows { IfOk result (λ l. (sets : List (List ℕ))
+        → ⟦<Without<KeptLazy> as Lazy>⟧.knows l sets) }
 {
     let kept = KeptLazy::new(alloc, series)?;
     let minus = series.minus.copy(alloc)?;

@@ -1,11 +1,11 @@
 // The last member of a rule with COUNT.
-ghost use Rattle.std.specs.Prelude.{◌≡◌, ◌+◌, ◌<◌, ◌≤◌, ◌+ℤ◌, min, pos};
+ghost use Rattle.std.specs.Prelude.{◌≡◌, ◌+◌, ◌<◌, ◌≤◌, min};
 ghost use Rattle.rr_model.specs.Moment.{day_part};
 ghost use Rattle.rr_model.specs.Rule.Cycle.{rule_cycle};
 ghost use Rattle.rr_model.specs.Sets.Tree.{chosen_of};
-ghost use Rattle.rr_iter.specs.Ends.{AnswersDayOf, IsSoundRule, before_day};
+ghost use Rattle.rr_iter.specs.Ends.{AnswersDayOf, IsSoundRule, up_to_cycle, up_to_start};
 
-use crate::place::{Place, day_of_nth};
+use crate::nth::{Nth, day_of_nth};
 use rr_model::{Fault, Kind, MAX_SPAN_DAYS, Refusal, Rule, day_part};
 use rr_num::day_cycle;
 use std::alloc::Global;
@@ -29,8 +29,8 @@ pub(crate) fn last_counted(
         return Err(Fault::Refused(Refusal::CountedTooFar));
     }
     match day_of_nth(alloc, rule, kind, start, count, day_part(kind, start))? {
-        Place::On(day) => Ok(day),
-        Place::Beyond(left) => after_start(alloc, rule, kind, start, count, left),
+        Nth::On(day) => Ok(day),
+        Nth::Beyond(left) => after_start(alloc, rule, kind, start, count, left),
     }
 }
 
@@ -46,14 +46,14 @@ fn after_start(
 ) -> Result<i64, Fault>
     requires sound { IsSoundRule kind start rule.now }
     requires some { 1 ≤ left }
-    requires left { before_day (chosen_of rule.now kind start) (day_part kind start +ℤ pos 1) + left ≡ count }
+    requires left { up_to_start rule.now kind start + left ≡ count }
     ensures { AnswersDayOf (chosen_of rule.now kind start) (day_part kind start) count result }
 {
     let cycle = cycle_within_span(rule);
     let to = day_part(kind, start) + cycle as i64;
     match day_of_nth(alloc, rule, kind, start, count, to)? {
-        Place::On(day) => Ok(day),
-        Place::Beyond(after) => {
+        Nth::On(day) => Ok(day),
+        Nth::Beyond(after) => {
             if cycle == MAX_SPAN_DAYS {
                 return Err(Fault::Refused(Refusal::CountedTooFar));
             }
@@ -77,10 +77,10 @@ fn after_cycles(
 ) -> Result<i64, Fault>
     requires sound { IsSoundRule kind start rule.now }
     requires some { 1 ≤ left }
-    requires left { before_day (chosen_of rule.now kind start) (day_part kind start +ℤ pos 1) + left ≡ count }
+    requires left { up_to_start rule.now kind start + left ≡ count }
     requires cycle { rule_cycle rule.now < MAX_SPAN_DAYS }
     requires some_each { 1 ≤ each }
-    requires each { before_day (chosen_of rule.now kind start) ((day_part kind start +ℤ pos (rule_cycle rule.now)) +ℤ pos 1) ≡ before_day (chosen_of rule.now kind start) (day_part kind start +ℤ pos 1) + each }
+    requires each { up_to_cycle rule.now kind start ≡ up_to_start rule.now kind start + each }
     ensures { AnswersDayOf (chosen_of rule.now kind start) (day_part kind start) count result }
 {
     let cycle = day_cycle(rule) as u64;
@@ -91,8 +91,8 @@ fn after_cycles(
     let days = (cycles * cycle) as i64;
     let to = day_part(kind, start) + (MAX_SPAN_DAYS as i64 - days);
     match day_of_nth(alloc, rule, kind, start, count - cycles * each, to)? {
-        Place::On(day) => Ok(day + days),
-        Place::Beyond(_) => Err(Fault::Refused(Refusal::CountedTooFar)),
+        Nth::On(day) => Ok(day + days),
+        Nth::Beyond(_) => Err(Fault::Refused(Refusal::CountedTooFar)),
     }
 }
 

@@ -34,9 +34,11 @@ impl EndedLazy {
         requires in_years { IsInYears kind start }
         requires ends_in_years { EndsInYears rule.now.end }
         requires ends_not_before { EndsNotBefore kind start rule.now.end }
-        ensures tree { IfOk result (λ l. ⟦<EndedLazy as Lazy>⟧.tree l ≡ members_of kind start rule.now) }
+        ensures tree { IfOk result (λ l.
+            ⟦<EndedLazy as Lazy>⟧.tree l ≡ members_of kind start rule.now) }
         ensures unasked { IfOk result (λ l. IsUnasked (⟦<EndedLazy as Lazy>⟧.position l)) }
-        ensures knows { IfOk result (λ l. (sets : List (List ℕ)) → ⟦<EndedLazy as Lazy>⟧.knows l sets) }
+        ensures knows { IfOk result (λ l. (sets : List (List ℕ))
+            → ⟦<EndedLazy as Lazy>⟧.knows l sets) }
     {
         let chosen = RuleLazy::new(alloc, rule, kind, start)?;
         Ok(match rule.end {

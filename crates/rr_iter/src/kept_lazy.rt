@@ -1,8 +1,8 @@
 // What is left of a series once the members of its excluded rules are taken out.
 ghost use Rattle.std.specs.Prelude.{◌≡◌, IfOk, List, ℕ};
 ghost use Rattle.rr_model.specs.Series.Soundness.{IsSound};
-ghost use Rattle.rr_model.specs.Series.Tree.{members_of_all, tree_of_given};
 ghost use Rattle.rr_lazy.specs.Next.{IsUnasked};
+ghost use Rattle.rr_iter.specs.Left.{tree_of_left};
 
 use crate::{AllLazy, RulesLazy};
 use rr_lazy::{Except, Lazy, OccupiedDay};
@@ -17,14 +17,13 @@ pub struct KeptLazy {
 }
 
 impl KeptLazy {
-    ghost use Rattle.rr_model.specs.Sets.Tree.{except, many};
-
     /// The dates of a series, its start among them where it counts, and the members of its rules that no excluded rule has.
     pub(crate) fn new(alloc: Global, series: &Series) -> Result<KeptLazy, NoMemory>
         requires sound { IsSound series.now }
-        ensures tree { IfOk result (λ l. ⟦<KeptLazy as Lazy>⟧.tree l ≡ except (tree_of_given series.now) (many (members_of_all series.now.kind series.now.start series.now.excluded))) }
+        ensures tree { IfOk result (λ l. ⟦<KeptLazy as Lazy>⟧.tree l ≡ tree_of_left series.now) }
         ensures unasked { IfOk result (λ l. IsUnasked (⟦<KeptLazy as Lazy>⟧.position l)) }
-        ensures knows { IfOk result (λ l. (sets : List (List ℕ)) → ⟦<KeptLazy as Lazy>⟧.knows l sets) }
+        ensures knows { IfOk result (λ l. (sets : List (List ℕ))
+            → ⟦<KeptLazy as Lazy>⟧.knows l sets) }
     {
         let all = AllLazy::new(alloc, series)?;
         let excluded = RulesLazy::new(
@@ -51,7 +50,9 @@ impl Lazy for KeptLazy {
 
     ghost knows_more = { knows_kept_more };
 
-    ghost sound = { λ s. sound_except (⟦<AllLazy as Lazy>⟧.tree s.lazy.a) (⟦<RulesLazy as Lazy>⟧.tree s.lazy.b) s.lazy.position s.lazy.one_kind s.lazy.begun };
+    ghost sound = { λ s. sound_except (⟦<AllLazy as Lazy>⟧.tree s.lazy.a)
+        (⟦<RulesLazy as Lazy>⟧.tree s.lazy.b)
+        s.lazy.position s.lazy.one_kind s.lazy.begun };
 
     fn next(
         &mut self,

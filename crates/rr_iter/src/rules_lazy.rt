@@ -27,9 +27,11 @@ impl RulesLazy {
         rules: &[Rule],
     ) -> Result<RulesLazy, NoMemory>
         requires sound { All (IsSoundRule kind start) rules.now }
-        ensures tree { IfOk result (λ l. ⟦<RulesLazy as Lazy>⟧.tree l ≡ many (members_of_all kind start rules.now)) }
+        ensures tree { IfOk result (λ l.
+            ⟦<RulesLazy as Lazy>⟧.tree l ≡ many (members_of_all kind start rules.now)) }
         ensures unasked { IfOk result (λ l. IsUnasked (⟦<RulesLazy as Lazy>⟧.position l)) }
-        ensures knows { IfOk result (λ l. (sets : List (List ℕ)) → ⟦<RulesLazy as Lazy>⟧.knows l sets) }
+        ensures knows { IfOk result (λ l. (sets : List (List ℕ))
+            → ⟦<RulesLazy as Lazy>⟧.knows l sets) }
     {
         let mut lazy = Many::new(alloc);
         for rule in rules {
@@ -52,7 +54,9 @@ impl Lazy for RulesLazy {
 
     ghost knows_more = { knows_rules_more };
 
-    ghost sound = { λ s. sound_many (forest_of (λ p. ⟦<EndedLazy as Lazy>⟧.tree p.lazy) s.lazy.parts.items) s.lazy.position s.lazy.one_kind s.lazy.begun };
+    ghost sound = { λ s. sound_many
+        (forest_of (λ p. ⟦<EndedLazy as Lazy>⟧.tree p.lazy) s.lazy.parts.items)
+        s.lazy.position s.lazy.one_kind s.lazy.begun };
 
     fn next(
         &mut self,

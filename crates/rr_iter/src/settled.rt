@@ -63,7 +63,8 @@ fn last_of_rules(
     requires near { day ≤ℤ pos 19_710_112 }
     ensures last { IfOk result (IsLastOfRules kind start rules.now day) }
     ensures near { IfOk result (λ last. last ≤ℤ pos 19_710_112) }
-    ensures refused { RefusedExactlyWhere (CountSomeTooFar kind start rules.now) CountedTooFar result }
+    ensures refused { RefusedExactlyWhere (CountSomeTooFar kind start rules.now)
+        CountedTooFar result }
 {
     let mut last = day;
     for rule in rules {
@@ -79,7 +80,8 @@ fn last_of_rules(
 fn last_of(kind: Kind, dates: &Dates, day: i64) -> i64
     ensures late { day ≤ℤ result }
     ensures past { LieBefore kind (result +ℤ pos 1) dates.now }
-    ensures least { (settled : ℤ) → day <ℤ settled → LieBefore kind settled dates.now → result <ℤ settled }
+    ensures least { (settled : ℤ) → day <ℤ settled → LieBefore kind settled dates.now
+        → result <ℤ settled }
 {
     match dates.as_slice().last() {
         None => day,

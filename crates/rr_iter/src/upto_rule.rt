@@ -20,9 +20,11 @@ impl UptoRule {
     pub(crate) fn new(lazy: RuleLazy, kind: Kind, at: i64) -> UptoRule
         requires one_kind { IsOfOneKind (upto (⟦<RuleLazy as Lazy>⟧.tree lazy) kind at) }
         requires unasked { IsUnasked (⟦<RuleLazy as Lazy>⟧.position lazy) }
-        ensures tree { ⟦<UptoRule as Lazy>⟧.tree result ≡ upto (⟦<RuleLazy as Lazy>⟧.tree lazy) kind at }
+        ensures tree { ⟦<UptoRule as Lazy>⟧.tree result
+            ≡ upto (⟦<RuleLazy as Lazy>⟧.tree lazy) kind at }
         ensures unasked { IsUnasked (⟦<UptoRule as Lazy>⟧.position result) }
-        ensures knows { (sets : List (List ℕ)) → ⟦<RuleLazy as Lazy>⟧.knows lazy sets → ⟦<UptoRule as Lazy>⟧.knows result sets }
+        ensures knows { (sets : List (List ℕ)) → ⟦<RuleLazy as Lazy>⟧.knows lazy sets
+            → ⟦<UptoRule as Lazy>⟧.knows result sets }
     {
         UptoRule {
             lazy: Upto::new(lazy, kind, at),
@@ -42,7 +44,8 @@ impl Lazy for UptoRule {
 
     ghost knows_more = { λ s old new more k. knows_rule_more s.lazy.lazy old new more k };
 
-    ghost sound = { λ s. sound_upto (⟦<RuleLazy as Lazy>⟧.tree s.lazy.lazy) s.lazy.kind s.lazy.at s.lazy.position s.lazy.one_kind s.lazy.begun };
+    ghost sound = { λ s. sound_upto (⟦<RuleLazy as Lazy>⟧.tree s.lazy.lazy)
+        s.lazy.kind s.lazy.at s.lazy.position s.lazy.one_kind s.lazy.begun };
 
     fn next(
         &mut self,

@@ -53,6 +53,14 @@ abbrev pub IsLeft : Option DayTimes → ℤ → Option DayTimes → Type 0
 IsLeft None day r = r ≡ None
 IsLeft (Some f) day r = ((f.day ≡ day) × (r ≡ None)) ⊎ ((f.day ≢ day) × (r ≡ Some f))
 
+-- the same by each table of sets
+abbrev pub HasForgotten : Option OccupiedDay → ℤ → Option OccupiedDay → Type 0
+HasForgotten old day new = (sets : List (List ℕ)) → IsLeft (seen sets old) day (seen sets new)
+
+-- what a part gave, where it is this day, and nothing where it is none or another day
+abbrev pub IsOfDay : Option OccupiedDay → ℤ → Option OccupiedDay → Type 0
+IsOfDay ahead day result = ((result ≡ ahead) × ForSome ahead (λ f. f.day ≡ day)) ⊎ ((result ≡ None) × ForSome ahead (λ f. f.day ≡ day → ⊥))
+
 -- it is within the table, and its seconds rise
 pub record IsGivenOn (sets : List (List ℕ)) (found : OccupiedDay) : Type 0 where
   pub within : IsWithin sets found

@@ -35,6 +35,10 @@ pub record KnowsBoth (sets : List (List ℕ)) (a b : Part) (position : ℤ) : Ty
   pub known : IsAheadIn sets a.tree a.own from a.ahead
   pub out : IsAheadUpTo sets b from
 
+-- the same from some position on that is not before 0001-01-01
+abbrev pub KnowsBothFromSome : List (List ℕ) → Part → Part → Type 0
+KnowsBothFromSome sets a b = (position : ℤ) × (first_day_of_year (pos 1) ≤ℤ position) × KnowsBoth sets a b position
+
 -- the seconds of a day that one part gave and another, which gave the day too, lacks; None where it lacks none
 abbrev pub IsLacking : List (List ℕ) → OccupiedDay → OccupiedDay → List (List ℕ) → Option OccupiedDay → Type 0
 IsLacking old a b new None = (s : ℕ) → Contains ((with_set old a).times) s → ¬ ¬ Contains ((with_set old b).times) s

@@ -1,11 +1,13 @@
 -- Several parts of a combinator, and what each gave.
 use Rattle.std.specs.Prelude.{◌≡◌, ℕ, ◌<◌, ◌≤◌, List, [], ◌∷◌, length, get_or, nat_lt, Option, Some, None, ℤ, pos, ◌≤ℤ◌}
+use Rattle.std.specs.List.{All}
+use Rattle.std.specs.Option.{ForSome}
 use Rattle.rr_model.specs.Calendar.{first_day_of_year}
 use Rattle.rr_lazy.specs.DayTimes.{DayTimes}
 use Rattle.rr_model.specs.Sets.Tree.{Tree, Forest, nothing, part, many, IsOfOneKind}
 use Rattle.rr_model.specs.Rising.Sets.{IsSetOf}
 use Rattle.rr_lazy.specs.declared.occupied_day.OccupiedDay.{OccupiedDay}
-use Rattle.rr_lazy.specs.Next.{IsSoundLazy, with_set}
+use Rattle.rr_lazy.specs.Next.{IsSoundLazy, IsWithin, with_set}
 use Rattle.rr_lazy.specs.Ahead.{HasOn, GaveDay, IsGivenOn, IsLeft, seen}
 
 -- the trees of the parts of a list
@@ -38,12 +40,21 @@ IsGivenBySome {X} old ahead parts place day new (Some found) =
     (found.day ≡ day) × IsGivenOn new found
     × IsSetOf nat_lt ((with_set new found).times) (HasOnSome (λ p. seen old (ahead p)) parts place day)
 
+-- what each part gave stays within every table that held what each gave
+abbrev pub StayWithin : {X : Type 0} → (X → Option OccupiedDay) → List X → List X → Type 0
+StayWithin {X} ahead old new =
+    (sets : List (List ℕ)) → All (λ p. ForSome (ahead p) (IsWithin sets)) old → All (λ p. ForSome (ahead p) (IsWithin sets)) new
+
 -- the first n parts have forgotten the day; nothing else has changed
 pub record IsLeftBy {X L : Type 0} (ahead : X → Option DayTimes) (lazy : X → L) (old : List X) (day : ℤ) (place : ℕ) (new : List X) : Type 0 where
   pub many : length new ≡ length old
   pub lazies : (k : ℕ) (d : X) → k < length old → lazy (get_or new k d) ≡ lazy (get_or old k d)
   pub left : (k : ℕ) (d : X) → k < place → k < length old → IsLeft (ahead (get_or old k d)) day (ahead (get_or new k d))
   pub rest : (k : ℕ) (d : X) → place ≤ k → k < length old → ahead (get_or new k d) ≡ ahead (get_or old k d)
+
+-- by each table of sets, all parts have forgotten the day; nothing else has changed
+abbrev pub HaveForgotten : {X L : Type 0} → (X → Option OccupiedDay) → (X → L) → List X → ℤ → List X → Type 0
+HaveForgotten {X} {L} ahead lazy old day new = (sets : List (List ℕ)) → IsLeftBy (λ p. seen sets (ahead p)) lazy old day (length old) new
 
 pub sound_many : (parts : Forest) (position : ℤ) → IsOfOneKind (many parts) → first_day_of_year (pos 1) ≤ℤ position → IsSoundLazy (many parts) position
 sound_many parts position k b = record { of_kind = k; in_years = b }

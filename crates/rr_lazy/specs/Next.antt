@@ -48,3 +48,17 @@ pub record IsSoundLazy (tree : Tree) (position : ℤ) : Type 0 where
 -- it has not been asked: its position is 0001-01-01
 abbrev pub IsUnasked : ℤ → Type 0
 IsUnasked position = position ≡ first_day_of_year (pos 1)
+
+-- ---- what several iterators know of a table of sets
+
+-- every table of sets is known
+abbrev pub KnowsEach : (List (List ℕ) → Type 0) → Type 0
+KnowsEach knows = (sets : List (List ℕ)) → knows sets
+
+-- a table that a part knows is known
+abbrev pub KnowsIf : (List (List ℕ) → Type 0) → (List (List ℕ) → Type 0) → Type 0
+KnowsIf part knows = (sets : List (List ℕ)) → part sets → knows sets
+
+-- a table that both parts know is known
+abbrev pub KnowsIfBoth : (List (List ℕ) → Type 0) → (List (List ℕ) → Type 0) → (List (List ℕ) → Type 0) → Type 0
+KnowsIfBoth a b knows = (sets : List (List ℕ)) → a sets → b sets → knows sets

@@ -43,6 +43,14 @@ pub record KnowsPart (sets : List (List ℕ)) (tree : Tree) (own : ℤ) (kind : 
   pub passed : HasNone (without tree kind dates) position from
   pub known : IsAheadIn sets tree own from ahead
 
+-- the same from some position on
+abbrev pub KnowsPartFromSome : List (List ℕ) → Tree → ℤ → Kind → List ℤ → Option OccupiedDay → Type 0
+KnowsPartFromSome sets tree own kind dates ahead = (position : ℤ) × KnowsPart sets tree own kind dates position ahead
+
+-- the dates of the day are taken out of these seconds
+abbrev pub LosesDates : Kind → List ℤ → ℤ → List ℕ → List ℕ → Type 0
+LosesDates kind dates day old new = (s : ℕ) → Contains new s ↔ (Contains old s × (is_among kind dates day s ≡ false))
+
 -- What a part gives up to a day once dates are taken out, by what was known of it before and is known of it after: a day of which
 -- something is left, and no such day was passed over; or nothing, where what is known of it after lies past the day.
 abbrev pub IsNextLeft : List (List ℕ) → List (List ℕ) → Tree → Kind → List ℤ → ℤ → ℤ → Option OccupiedDay → Option OccupiedDay → ℤ

@@ -1,106 +1,14 @@
 // A part of a combinator, and the day that it gave and that was not passed on yet.
-ghost use Rattle.std.specs.Prelude.{◌≡◌, ◌↔◌, ◌⊎◌, IfOk, IsTrue, OnOk, List, ℕ, ℤ, pos, ◌≤ℤ◌, ◌<ℤ◌};
+ghost use Rattle.std.specs.Prelude.{◌≡◌, ◌↔◌, IfOk, IsTrue, OnOk, List, ℕ, ℤ, ◌≤ℤ◌, ◌<ℤ◌};
 ghost use Rattle.std.specs.Option.{ForNone, ForSome};
 ghost use Rattle.rr_model.specs.Bounds.{earliest_day, latest_day};
-ghost use Rattle.rr_model.specs.Calendar.{first_day_of_year};
-ghost use Rattle.rr_model.proofs.TreeLemmas.{IsOfOneKind-prop};
-ghost use Rattle.rr_model.specs.Sets.Tree.{IsOfOneKind, union};
 ghost use Rattle.rr_shapes.specs.Tables.{Extends};
-ghost use Rattle.rr_lazy.specs.Next.{IsUnasked};
-ghost use Rattle.rr_lazy.specs.Ahead.{GaveDay, IsAheadIn, IsFirstOfBoth, IsGivenOn, IsGivenByBoth, IsLeft, seen};
+ghost use Rattle.rr_lazy.specs.Ahead.{GaveDay, HasForgotten, IsAheadIn, IsGivenOn, IsGivenByBoth, IsOfDay, seen};
 
-use crate::position::past;
 use crate::{Lazy, OccupiedDay};
-use rr_model::{FIRST_DAY, NoMemory};
+use rr_model::NoMemory;
 use rr_shapes::SetTable;
 use std::alloc::Global;
-
-/// The days of two parts.
-#[derive(Drop)]
-pub struct Union<A: Lazy + Drop, B: Lazy + Drop> {
-    a: A,
-    b: B,
-    position: i64,
-    ahead_a: Option<OccupiedDay>,
-    ahead_b: Option<OccupiedDay>,
-    ghost begun: { first_day_of_year (pos 1) ≤ℤ position },
-    ghost one_kind: { IsOfOneKind (union (A.tree a) (B.tree b)) } by { IsOfOneKind-prop (union (A.tree a) (B.tree b)) },
-}
-
-impl<A: Lazy + Drop, B: Lazy + Drop> Union<A, B> {
-    /// The days of two parts of one kind that have not been asked.
-    pub fn new(a: A, b: B) -> Union<A, B>
-        requires one_kind { IsOfOneKind (union (A.tree a) (B.tree b)) }
-        requires a { IsUnasked (A.position a) }
-        requires b { IsUnasked (B.position b) }
-        ensures tree { ⟦<Union<A, B> as Lazy>⟧.tree result ≡ union (A.tree a) (B.tree b) }
-        ensures unasked { IsUnasked (⟦<Union<A, B> as Lazy>⟧.position result) }
-        ensures knows { (sets : List (List ℕ)) → A.knows a sets → B.knows b sets → ⟦<Union<A, B> as Lazy>⟧.knows result sets }
-    {
-        Union {
-            a,
-            b,
-            position: FIRST_DAY,
-            ahead_a: None,
-            ahead_b: None,
-        }
-    }
-
-    // Asks the parts of which no day is known for their first day up to `to`.
-    fn fill_both(&mut self, alloc: Global, sets: &mut SetTable, to: i64) -> Result<(), NoMemory>
-        requires low { earliest_day ≤ℤ to }
-        requires high { to ≤ℤ latest_day }
-        requires knows { ⟦<Union<A, B> as Lazy>⟧.knows self.old sets.old }
-        ensures tree_a { A.tree self.new.a ≡ A.tree self.old.a }
-        ensures tree_b { B.tree self.new.b ≡ B.tree self.old.b }
-        ensures position { self.new.position ≡ self.old.position }
-        ensures knows { ⟦<Union<A, B> as Lazy>⟧.knows self.new sets.new }
-        ensures kept { Extends sets.old sets.new }
-        ensures none_a { OnOk result (ForNone self.new.ahead_a (to <ℤ A.position self.new.a)) }
-        ensures none_b { OnOk result (ForNone self.new.ahead_b (to <ℤ B.position self.new.b)) }
-    {
-        fill(alloc, sets, &mut self.a, &mut self.ahead_a, to)?;
-        fill(alloc, sets, &mut self.b, &mut self.ahead_b, to)
-    }
-}
-
-impl<A: Lazy + Drop, B: Lazy + Drop> Lazy for Union<A, B> {
-    ghost use Rattle.rr_model.specs.Sets.Tree.{union};
-    ghost use Rattle.rr_lazy.specs.Ahead.{IsAheadIn, sound_union};
-    ghost use Rattle.rr_lazy.specs.Tables.{ahead_more};
-
-    ghost tree = { λ s. union (A.tree s.a) (B.tree s.b) };
-
-    ghost position = { λ s. s.position };
-
-    ghost knows = { λ s sets. A.knows s.a sets × B.knows s.b sets × IsAheadIn sets (A.tree s.a) (A.position s.a) s.position s.ahead_a × IsAheadIn sets (B.tree s.b) (B.position s.b) s.position s.ahead_b };
-
-    ghost knows_more = { λ s old new more k. (A.knows_more s.a old new more k.0, B.knows_more s.b old new more k.1, ahead_more old new _ _ _ _ more k.2, ahead_more old new _ _ _ _ more k.3) };
-
-    ghost sound = { λ s. sound_union (A.tree s.a) (B.tree s.b) s.position s.one_kind s.begun };
-
-    fn next(
-        &mut self,
-        alloc: Global,
-        sets: &mut SetTable,
-        to: i64,
-    ) -> Result<Option<OccupiedDay>, NoMemory> {
-        self.fill_both(alloc, sets, to)?;
-        match first_of_both(self.ahead_a, self.ahead_b, to) {
-            None => {
-                self.position = past(self.position, to);
-                Ok(None)
-            }
-            Some(day) => {
-                let found = on_day(alloc, sets, self.ahead_a, self.ahead_b, day)?;
-                forget(&mut self.ahead_a, day);
-                forget(&mut self.ahead_b, day);
-                self.position = day + 1;
-                Ok(found)
-            }
-        }
-    }
-}
 
 // Asks a part for its first day up to `to`, unless it is known.
 pub(crate) fn fill<L: Lazy>(
@@ -116,26 +24,15 @@ pub(crate) fn fill<L: Lazy>(
     ensures tree { L.tree lazy.new ≡ L.tree lazy.old }
     ensures knows { L.knows lazy.new sets.new }
     ensures kept { Extends sets.old sets.new }
-    ensures known { (from : ℤ) → IsAheadIn sets.old (L.tree lazy.old) (L.position lazy.old) from ahead.old → IsAheadIn sets.new (L.tree lazy.old) (L.position lazy.new) from ahead.new }
+    ensures known { (from : ℤ)
+        → IsAheadIn sets.old (L.tree lazy.old) (L.position lazy.old) from ahead.old
+        → IsAheadIn sets.new (L.tree lazy.old) (L.position lazy.new) from ahead.new }
     ensures none { OnOk result (ForNone ahead.new (to <ℤ L.position lazy.new)) }
 {
     if ahead.is_none() {
         *ahead = lazy.next(alloc, sets, to)?;
     }
     Ok(())
-}
-
-// The lesser of the days that two parts gave, where it is not after `to`.
-fn first_of_both(a: Option<OccupiedDay>, b: Option<OccupiedDay>, to: i64) -> Option<i64>
-    ensures { (sets : List (List ℕ)) → IsFirstOfBoth (seen sets a) (seen sets b) to result }
-{
-    let first = match (a, b) {
-        (None, None) => return None,
-        (Some(x), None) => x.day,
-        (None, Some(y)) => y.day,
-        (Some(x), Some(y)) => x.day.min(y.day),
-    };
-    if first <= to { Some(first) } else { None }
 }
 
 // The seconds that two parts gave for a day; none where neither gave it. Where one alone gave it, its own number stands.
@@ -152,7 +49,7 @@ pub(crate) fn on_day(
     ensures given { IfOk result (IsGivenByBoth sets.old a b day sets.new) }
 {
     match (of_day(a, day), of_day(b, day)) {
-        (Some(x), Some(y)) => Ok(Some(joined(alloc, sets, x, y)?)),
+        (Some(x), Some(y)) => Ok(Some(union_of(alloc, sets, x, y)?)),
         (Some(x), None) => Ok(Some(x)),
         (None, y) => Ok(y),
     }
@@ -160,7 +57,7 @@ pub(crate) fn on_day(
 
 // What a part gave, if it is this day.
 pub(crate) fn of_day(ahead: Option<OccupiedDay>, day: i64) -> Option<OccupiedDay>
-    ensures { ((result ≡ ahead) × ForSome ahead (λ f. f.day ≡ day)) ⊎ ((result ≡ None) × ForSome ahead (λ f. f.day ≡ day → ⊥)) }
+    ensures { IsOfDay ahead day result }
 {
     match ahead {
         Some(found) if found.day == day => ahead,
@@ -169,7 +66,7 @@ pub(crate) fn of_day(ahead: Option<OccupiedDay>, day: i64) -> Option<OccupiedDay
 }
 
 // The seconds of a day that two parts gave.
-fn joined(
+fn union_of(
     alloc: Global,
     sets: &mut SetTable,
     a: OccupiedDay,
@@ -179,7 +76,8 @@ fn joined(
     requires b { IsGivenOn sets.old b }
     requires day { a.day ≡ b.day }
     ensures kept { Extends sets.old sets.new }
-    ensures given { IfOk result (λ f. IsGivenByBoth sets.old (Some a) (Some b) a.day sets.new (Some f)) }
+    ensures given { IfOk result
+        (λ f. IsGivenByBoth sets.old (Some a) (Some b) a.day sets.new (Some f)) }
 {
     let of_a = sets.prefix(alloc, a.number, a.count)?;
     let of_b = sets.prefix(alloc, b.number, b.count)?;
@@ -193,7 +91,7 @@ fn joined(
 
 // Forgets what a part gave for a day.
 pub(crate) fn forget(ahead: &mut Option<OccupiedDay>, day: i64)
-    ensures left { (sets : List (List ℕ)) → IsLeft (seen sets ahead.old) day (seen sets ahead.new) }
+    ensures left { HasForgotten ahead.old day ahead.new }
     ensures within { ForSome ahead.new (λ f. ahead.old ≡ Some f) }
 {
     if is_on(*ahead, day) {

@@ -1,8 +1,8 @@
 // Dates that are listed.
-ghost use Rattle.std.specs.Prelude.{◌≡◌, ◌≤ℤ◌, All, List, ℕ, pos};
+ghost use Rattle.std.specs.Prelude.{◌≡◌, ◌≤ℤ◌, All, pos};
 ghost use Rattle.rr_model.specs.Calendar.{first_day_of_year};
 ghost use Rattle.rr_model.specs.Moment.Years.{IsInYears};
-ghost use Rattle.rr_lazy.specs.Next.{IsUnasked};
+ghost use Rattle.rr_lazy.specs.Next.{IsUnasked, KnowsEach};
 
 use crate::position::past;
 use crate::stretch::{first_date, seconds_on};
@@ -29,7 +29,7 @@ impl DatesLazy {
         requires in_years { All (IsInYears kind) dates }
         ensures tree { ⟦<DatesLazy as Lazy>⟧.tree result ≡ dates_of kind dates }
         ensures unasked { IsUnasked (⟦<DatesLazy as Lazy>⟧.position result) }
-        ensures knows { (sets : List (List ℕ)) → ⟦<DatesLazy as Lazy>⟧.knows result sets }
+        ensures knows { KnowsEach (⟦<DatesLazy as Lazy>⟧.knows result) }
     {
         DatesLazy {
             kind,

@@ -1,5 +1,5 @@
 // The occurrences of one part that another lacks.
-ghost use Rattle.std.specs.Prelude.{◌≡◌, ◌≢◌, ◌≤ℤ◌, ◌<ℤ◌, [], IfOk, OnOk, List, ℕ, ℤ, pos};
+ghost use Rattle.std.specs.Prelude.{◌≡◌, ◌≢◌, ◌≤ℤ◌, ◌<ℤ◌, [], IfOk, OnOk, pos};
 ghost use Rattle.std.specs.Option.{ForNone, ForSome};
 ghost use Rattle.rr_model.specs.Bounds.{earliest_day, latest_day};
 ghost use Rattle.rr_model.specs.Calendar.{first_day_of_year};
@@ -7,8 +7,8 @@ ghost use Rattle.rr_model.proofs.TreeLemmas.{IsOfOneKind-prop};
 ghost use Rattle.rr_model.specs.Sets.Tree.{IsOfOneKind, except};
 ghost use Rattle.rr_shapes.specs.Tables.{Extends};
 ghost use Rattle.rr_lazy.specs.Ahead.{IsGivenOn};
-ghost use Rattle.rr_lazy.specs.Except.{IsAheadUpTo, IsLacking, IsLeftBy, IsNextOfBoth, KnowsBoth, part_of};
-ghost use Rattle.rr_lazy.specs.Next.{IsUnasked, with_set};
+ghost use Rattle.rr_lazy.specs.Except.{IsAheadUpTo, IsLacking, IsLeftBy, IsNextOfBoth, KnowsBothFromSome, part_of};
+ghost use Rattle.rr_lazy.specs.Next.{IsUnasked, KnowsIfBoth, with_set};
 
 use crate::ahead::{fill, of_day};
 use crate::position::past;
@@ -26,7 +26,8 @@ pub struct Except<A: Lazy + Drop, B: Lazy + Drop> {
     ahead_a: Option<OccupiedDay>,
     ahead_b: Option<OccupiedDay>,
     ghost begun: { first_day_of_year (pos 1) ≤ℤ position },
-    ghost one_kind: { IsOfOneKind (except (A.tree a) (B.tree b)) } by { IsOfOneKind-prop (except (A.tree a) (B.tree b)) },
+    ghost one_kind: { IsOfOneKind (except (A.tree a) (B.tree b)) } by { IsOfOneKind-prop
+        (except (A.tree a) (B.tree b)) },
 }
 
 impl<A: Lazy + Drop, B: Lazy + Drop> Except<A, B> {
@@ -37,7 +38,8 @@ impl<A: Lazy + Drop, B: Lazy + Drop> Except<A, B> {
         requires b { IsUnasked (B.position b) }
         ensures tree { ⟦<Except<A, B> as Lazy>⟧.tree result ≡ except (A.tree a) (B.tree b) }
         ensures unasked { IsUnasked (⟦<Except<A, B> as Lazy>⟧.position result) }
-        ensures knows { (sets : List (List ℕ)) → A.knows a sets → B.knows b sets → ⟦<Except<A, B> as Lazy>⟧.knows result sets }
+        ensures knows { KnowsIfBoth (A.knows a) (B.knows b)
+            (⟦<Except<A, B> as Lazy>⟧.knows result) }
     {
         Except {
             a,
@@ -57,9 +59,15 @@ impl<A: Lazy + Drop, B: Lazy + Drop> Lazy for Except<A, B> {
 
     ghost position = { λ s. s.position };
 
-    ghost knows = { λ s sets. A.knows s.a sets × B.knows s.b sets × KnowsBoth sets (part_of (A.tree s.a) (A.position s.a) s.ahead_a) (part_of (B.tree s.b) (B.position s.b) s.ahead_b) s.position };
+    ghost knows = { λ s sets. A.knows s.a sets × B.knows s.b sets
+        × KnowsBoth sets (part_of (A.tree s.a) (A.position s.a) s.ahead_a)
+        (part_of (B.tree s.b) (B.position s.b) s.ahead_b) s.position };
 
-    ghost knows_more = { λ s old new more k. (A.knows_more s.a old new more k.0, B.knows_more s.b old new more k.1, knows_both_more old new _ _ _ more k.2) };
+    ghost knows_more = { λ s old new more k. (
+      A.knows_more s.a old new more k.0,
+      B.knows_more s.b old new more k.1,
+      knows_both_more old new _ _ _ more k.2,
+    ) };
 
     ghost sound = { λ s. sound_except (A.tree s.a) (B.tree s.b) s.position s.one_kind s.begun };
 
@@ -105,13 +113,20 @@ fn next_of_both<A: Lazy, B: Lazy>(
     requires high { to ≤ℤ latest_day }
     requires knows_a { A.knows a.old sets.old }
     requires knows_b { B.knows b.old sets.old }
-    requires known { (position : ℤ) × (first_day_of_year (pos 1) ≤ℤ position) × KnowsBoth sets.old (part_of (A.tree a.old) (A.position a.old) ahead_a.old) (part_of (B.tree b.old) (B.position b.old) ahead_b.old) position }
+    requires known { KnowsBothFromSome sets.old
+        (part_of (A.tree a.old) (A.position a.old) ahead_a.old)
+        (part_of (B.tree b.old) (B.position b.old) ahead_b.old) }
     ensures tree_a { A.tree a.new ≡ A.tree a.old }
     ensures tree_b { B.tree b.new ≡ B.tree b.old }
     ensures knows_a { A.knows a.new sets.new }
     ensures knows_b { B.knows b.new sets.new }
     ensures kept { Extends sets.old sets.new }
-    ensures next { IsNextOfBoth sets.old sets.new (part_of (A.tree a.old) (A.position a.old) ahead_a.old) (part_of (A.tree a.old) (A.position a.new) ahead_a.new) (part_of (B.tree b.old) (B.position b.old) ahead_b.old) (part_of (B.tree b.old) (B.position b.new) ahead_b.new) to result }
+    ensures next { IsNextOfBoth sets.old sets.new
+        (part_of (A.tree a.old) (A.position a.old) ahead_a.old)
+        (part_of (A.tree a.old) (A.position a.new) ahead_a.new)
+        (part_of (B.tree b.old) (B.position b.old) ahead_b.old)
+        (part_of (B.tree b.old) (B.position b.new) ahead_b.new)
+        to result }
 {
     'days: loop {
         fill(alloc, sets, a, ahead_a, to)?;
@@ -141,13 +156,15 @@ fn left_of<B: Lazy>(
     requires low { earliest_day ≤ℤ found.day }
     requires high { found.day ≤ℤ latest_day }
     requires knows { B.knows lazy.old sets.old }
-    requires known { IsAheadUpTo sets.old (part_of (B.tree lazy.old) (B.position lazy.old) ahead.old) found.day }
+    requires known { IsAheadUpTo sets.old
+        (part_of (B.tree lazy.old) (B.position lazy.old) ahead.old) found.day }
     requires given { IsGivenOn sets.old found }
     requires some { (with_set sets.old found).times ≢ [] }
     ensures tree { B.tree lazy.new ≡ B.tree lazy.old }
     ensures knows { B.knows lazy.new sets.new }
     ensures kept { Extends sets.old sets.new }
-    ensures known { IsAheadUpTo sets.new (part_of (B.tree lazy.old) (B.position lazy.new) ahead.new) found.day }
+    ensures known { IsAheadUpTo sets.new
+        (part_of (B.tree lazy.old) (B.position lazy.new) ahead.new) found.day }
     ensures left { IfOk result (IsLeftBy sets.old (B.tree lazy.old) found sets.new) }
 {
     pass_to(alloc, sets, lazy, ahead, found.day)?;
@@ -168,11 +185,13 @@ fn pass_to<B: Lazy>(
     requires low { earliest_day ≤ℤ day }
     requires high { day ≤ℤ latest_day }
     requires knows { B.knows lazy.old sets.old }
-    requires known { IsAheadUpTo sets.old (part_of (B.tree lazy.old) (B.position lazy.old) ahead.old) day }
+    requires known { IsAheadUpTo sets.old
+        (part_of (B.tree lazy.old) (B.position lazy.old) ahead.old) day }
     ensures tree { B.tree lazy.new ≡ B.tree lazy.old }
     ensures knows { B.knows lazy.new sets.new }
     ensures kept { Extends sets.old sets.new }
-    ensures known { IsAheadUpTo sets.new (part_of (B.tree lazy.old) (B.position lazy.new) ahead.new) day }
+    ensures known { IsAheadUpTo sets.new
+        (part_of (B.tree lazy.old) (B.position lazy.new) ahead.new) day }
     ensures some { OnOk result (ForSome ahead.new (λ f. day ≤ℤ f.day)) }
     ensures none { OnOk result (ForNone ahead.new (day <ℤ B.position lazy.new)) }
 {

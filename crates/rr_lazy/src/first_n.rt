@@ -1,7 +1,7 @@
 // The first n occurrences.
-ghost use Rattle.std.specs.Prelude.{◌≡◌, List, ℕ};
+ghost use Rattle.std.specs.Prelude.{◌≡◌};
 ghost use Rattle.rr_lazy.specs.FirstN.{IsCounting};
-ghost use Rattle.rr_lazy.specs.Next.{IsUnasked};
+ghost use Rattle.rr_lazy.specs.Next.{IsUnasked, KnowsIf};
 
 use crate::position::past;
 use crate::{Lazy, OccupiedDay};
@@ -27,7 +27,7 @@ impl<A: Lazy + Drop> FirstN<A> {
         requires { IsUnasked (A.position lazy) }
         ensures tree { ⟦<FirstN<A> as Lazy>⟧.tree result ≡ first_n (A.tree lazy) count }
         ensures unasked { IsUnasked (⟦<FirstN<A> as Lazy>⟧.position result) }
-        ensures knows { (sets : List (List ℕ)) → A.knows lazy sets → ⟦<FirstN<A> as Lazy>⟧.knows result sets }
+        ensures knows { KnowsIf (A.knows lazy) (⟦<FirstN<A> as Lazy>⟧.knows result) }
     {
         FirstN {
             lazy,
@@ -46,7 +46,8 @@ impl<A: Lazy + Drop> Lazy for FirstN<A> {
 
     ghost position = { λ s. s.position };
 
-    ghost sound = { λ s. sound_first (A.tree s.lazy) (A.position s.lazy) s.position s.count s.left (A.sound s.lazy) s.counting };
+    ghost sound = { λ s. sound_first (A.tree s.lazy) (A.position s.lazy) s.position s.count s.left
+        (A.sound s.lazy) s.counting };
 
     ghost knows = { λ s sets. A.knows s.lazy sets };
 

@@ -40,10 +40,12 @@ pub trait Lazy {
         ensures tree { tree self.new ≡ tree self.old }
         ensures knows { knows self.new sets.new }
         ensures kept { Extends sets.old sets.new }
-        ensures next { IsNextIn sets.new (tree self.old) (position self.old) to result (position self.new) };
+        ensures next { IsNextIn sets.new (tree self.old) (position self.old)
+            to result (position self.new) };
 
     /// What it knows of a table it knows of one that goes on.
-    ghost knows_more: { (s : Self) (old new : List (List ℕ)) → Extends old new → knows s old → knows s new };
+    ghost knows_more: { (s : Self) (old new : List (List ℕ)) → Extends old new
+        → knows s old → knows s new };
 
     /// The tree is of one kind, and the position is not before 0001-01-01.
     ghost sound: { (s : Self) → IsSoundLazy (tree s) (position s) };

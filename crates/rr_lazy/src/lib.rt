@@ -10,15 +10,16 @@ mod many;
 mod occupied_day;
 mod position;
 mod stretch;
+mod union;
 mod upto;
 mod without;
 
-pub use ahead::Union;
 pub use dates_lazy::DatesLazy;
 pub use except::Except;
 pub use first_n::FirstN;
 pub use lazy::Lazy;
 pub use many::Many;
 pub use occupied_day::OccupiedDay;
+pub use union::Union;
 pub use upto::Upto;
 pub use without::Without;

@@ -1,15 +1,15 @@
 // The occurrences of several parts.
-ghost use Rattle.std.specs.Prelude.{◌≡◌, ◌⊎◌, ◌≤◌, ◌<◌, All, IfOk, IsTrue, OnOk, OnErr, List, ℕ, length, nat_lt, pos, ◌+ℤ◌, ◌≤ℤ◌, ◌<ℤ◌, []};
+ghost use Rattle.std.specs.Prelude.{◌≡◌, ◌⊎◌, ◌≤◌, ◌<◌, All, IfOk, IsTrue, OnOk, OnErr, length, nat_lt, pos, ◌+ℤ◌, ◌≤ℤ◌, ◌<ℤ◌, []};
 ghost use Rattle.std.specs.Option.{ForNone, ForSome};
 ghost use Rattle.rr_model.specs.Bounds.{earliest_day, latest_day};
 ghost use Rattle.rr_model.specs.Calendar.{first_day_of_year};
 ghost use Rattle.rr_model.specs.Rising.Sets.{IsSetOf};
 ghost use Rattle.rr_model.proofs.TreeLemmas.{IsOfOneKind-prop};
 ghost use Rattle.rr_model.specs.Sets.Tree.{IsOfOneKind, many};
-ghost use Rattle.rr_lazy.specs.Next.{IsNextIn, IsUnasked, IsWithin};
+ghost use Rattle.rr_lazy.specs.Next.{IsNextIn, IsUnasked, KnowsEach, KnowsIfBoth};
 ghost use Rattle.rr_shapes.specs.Tables.{Extends};
 ghost use Rattle.rr_lazy.specs.Ahead.{GaveDay, IsAheadIn, IsGivenOn, seen};
-ghost use Rattle.rr_lazy.specs.Many.{forest_of, IsGivenBySome, GaveDaySome, IsLeftBy};
+ghost use Rattle.rr_lazy.specs.Many.{forest_of, HaveForgotten, IsGivenBySome, GaveDaySome, StayWithin};
 ghost use Rattle.rr_lazy.specs.PassedOn.{IsOneAtRest};
 
 use crate::ahead::{fill, forget, on_day};
@@ -32,7 +32,9 @@ pub struct Many<A: Lazy + Drop> {
     parts: Vec<Asked<A>>,
     position: i64,
     ghost begun: { first_day_of_year (pos 1) ≤ℤ position },
-    ghost one_kind: { IsOfOneKind (many (forest_of (λ p. A.tree p.lazy) parts.items)) } by { IsOfOneKind-prop (many (forest_of (λ p. A.tree p.lazy) parts.items)) },
+    ghost one_kind: { IsOfOneKind
+        (many (forest_of (λ p. A.tree p.lazy) parts.items)) } by { IsOfOneKind-prop
+            (many (forest_of (λ p. A.tree p.lazy) parts.items)) },
 }
 
 impl<A: Lazy + Drop> Many<A> {
@@ -43,7 +45,7 @@ impl<A: Lazy + Drop> Many<A> {
     pub fn new(alloc: Global) -> Many<A>
         ensures tree { ⟦<Many<A> as Lazy>⟧.tree result ≡ many nothing }
         ensures unasked { IsUnasked (⟦<Many<A> as Lazy>⟧.position result) }
-        ensures knows { (sets : List (List ℕ)) → ⟦<Many<A> as Lazy>⟧.knows result sets }
+        ensures knows { KnowsEach (⟦<Many<A> as Lazy>⟧.knows result) }
     {
         Many {
             parts: Vec::new(alloc),
@@ -56,9 +58,11 @@ impl<A: Lazy + Drop> Many<A> {
         requires one_kind { IsOfOneKind (joined (⟦<Many<A> as Lazy>⟧.tree self.old) (A.tree lazy)) }
         requires unasked { IsUnasked (⟦<Many<A> as Lazy>⟧.position self.old) }
         requires part_unasked { IsUnasked (A.position lazy) }
-        ensures tree { OnOk result (⟦<Many<A> as Lazy>⟧.tree self.new ≡ joined (⟦<Many<A> as Lazy>⟧.tree self.old) (A.tree lazy)) }
+        ensures tree { OnOk result (⟦<Many<A> as Lazy>⟧.tree self.new
+            ≡ joined (⟦<Many<A> as Lazy>⟧.tree self.old) (A.tree lazy)) }
         ensures unasked { IsUnasked (⟦<Many<A> as Lazy>⟧.position self.new) }
-        ensures knows { (sets : List (List ℕ)) → ⟦<Many<A> as Lazy>⟧.knows self.old sets → A.knows lazy sets → ⟦<Many<A> as Lazy>⟧.knows self.new sets }
+        ensures knows { KnowsIfBoth (⟦<Many<A> as Lazy>⟧.knows self.old) (A.knows lazy)
+            (⟦<Many<A> as Lazy>⟧.knows self.new) }
     {
         self.parts.push(Asked { lazy, ahead: None })?;
         Ok(())
@@ -85,7 +89,8 @@ impl<A: Lazy + Drop> Many<A> {
         ensures tree { ⟦<Many<A> as Lazy>⟧.tree self.new ≡ ⟦<Many<A> as Lazy>⟧.tree self.old }
         ensures knows { ⟦<Many<A> as Lazy>⟧.knows self.new sets.new }
         ensures kept { Extends sets.old sets.new }
-        ensures next { IsNextIn sets.new (⟦<Many<A> as Lazy>⟧.tree self.old) (⟦<Many<A> as Lazy>⟧.position self.old) to result (⟦<Many<A> as Lazy>⟧.position self.new) }
+        ensures next { IsNextIn sets.new (⟦<Many<A> as Lazy>⟧.tree self.old) self.old.position
+            to result self.new.position }
     {
         let found = self.parts[0].lazy.next(alloc, sets, to)?;
         self.position = after(found, self.position, to);
@@ -105,7 +110,8 @@ impl<A: Lazy + Drop> Many<A> {
         ensures tree { ⟦<Many<A> as Lazy>⟧.tree self.new ≡ ⟦<Many<A> as Lazy>⟧.tree self.old }
         ensures knows { ⟦<Many<A> as Lazy>⟧.knows self.new sets.new }
         ensures kept { Extends sets.old sets.new }
-        ensures next { IsNextIn sets.new (⟦<Many<A> as Lazy>⟧.tree self.old) (⟦<Many<A> as Lazy>⟧.position self.old) to result (⟦<Many<A> as Lazy>⟧.position self.new) }
+        ensures next { IsNextIn sets.new (⟦<Many<A> as Lazy>⟧.tree self.old) self.old.position
+            to result self.new.position }
     {
         ask_all(alloc, sets, &mut self.parts, self.position, to)?;
         let day = first_of_all(&self.parts, to + 1);
@@ -130,11 +136,14 @@ impl<A: Lazy + Drop> Lazy for Many<A> {
 
     ghost position = { λ s. s.position };
 
-    ghost knows = { λ s sets. All (λ p. A.knows p.lazy sets × IsAheadIn sets (A.tree p.lazy) (A.position p.lazy) s.position p.ahead) s.parts.items };
+    ghost knows = { λ s sets. All (λ p. A.knows p.lazy sets
+        × IsAheadIn sets (A.tree p.lazy) (A.position p.lazy) s.position p.ahead) s.parts.items };
 
-    ghost knows_more = { λ s old new more k. all_more A.knows A.tree A.position A.knows_more s.position (λ p. p.lazy) (λ p. p.ahead) s.parts.items old new more k };
+    ghost knows_more = { λ s old new more k. all_more A.knows A.tree A.position A.knows_more
+        s.position (λ p. p.lazy) (λ p. p.ahead) s.parts.items old new more k };
 
-    ghost sound = { λ s. sound_many (forest_of (λ p. A.tree p.lazy) s.parts.items) s.position s.one_kind s.begun };
+    ghost sound = { λ s. sound_many (forest_of (λ p. A.tree p.lazy) s.parts.items)
+        s.position s.one_kind s.begun };
 
     fn next(
         &mut self,
@@ -158,13 +167,17 @@ fn ask_all<A: Lazy + Drop>(
     from: i64,
     to: i64,
 ) -> Result<(), NoMemory>
-    requires known { All (λ p. A.knows p.lazy sets.old × IsAheadIn sets.old (A.tree p.lazy) (A.position p.lazy) from p.ahead) parts.old.items }
+    requires known { All (λ p. A.knows p.lazy sets.old
+        × IsAheadIn sets.old (A.tree p.lazy) (A.position p.lazy) from p.ahead) parts.old.items }
     requires low { earliest_day ≤ℤ to }
     requires high { to ≤ℤ latest_day }
-    ensures tree { forest_of (λ p. A.tree p.lazy) parts.new.items ≡ forest_of (λ p. A.tree p.lazy) parts.old.items }
+    ensures tree { forest_of (λ p. A.tree p.lazy) parts.new.items
+        ≡ forest_of (λ p. A.tree p.lazy) parts.old.items }
     ensures kept { Extends sets.old sets.new }
-    ensures known { All (λ p. A.knows p.lazy sets.new × IsAheadIn sets.new (A.tree p.lazy) (A.position p.lazy) from p.ahead) parts.new.items }
-    ensures none { OnOk result (All (λ p. ForNone p.ahead (to <ℤ A.position p.lazy)) parts.new.items) }
+    ensures known { All (λ p. A.knows p.lazy sets.new
+        × IsAheadIn sets.new (A.tree p.lazy) (A.position p.lazy) from p.ahead) parts.new.items }
+    ensures none { OnOk result
+        (All (λ p. ForNone p.ahead (to <ℤ A.position p.lazy)) parts.new.items) }
 {
     let mut place = 0;
     while place < parts.len() {
@@ -183,13 +196,15 @@ fn ask<A: Lazy + Drop>(
     to: i64,
 ) -> Result<(), NoMemory>
     requires knows { A.knows part.old.lazy sets.old }
-    requires known { IsAheadIn sets.old (A.tree part.old.lazy) (A.position part.old.lazy) from part.old.ahead }
+    requires known { IsAheadIn sets.old (A.tree part.old.lazy) (A.position part.old.lazy)
+        from part.old.ahead }
     requires low { earliest_day ≤ℤ to }
     requires high { to ≤ℤ latest_day }
     ensures tree { A.tree part.new.lazy ≡ A.tree part.old.lazy }
     ensures kept { Extends sets.old sets.new }
     ensures knows { A.knows part.new.lazy sets.new }
-    ensures known { IsAheadIn sets.new (A.tree part.new.lazy) (A.position part.new.lazy) from part.new.ahead }
+    ensures known { IsAheadIn sets.new (A.tree part.new.lazy) (A.position part.new.lazy)
+        from part.new.ahead }
     ensures none { OnOk result (ForNone part.new.ahead (to <ℤ A.position part.new.lazy)) }
 {
     fill(alloc, sets, &mut part.lazy, &mut part.ahead, to)
@@ -231,7 +246,8 @@ fn all_on<A: Lazy + Drop>(
 ) -> Result<Option<OccupiedDay>, NoMemory>
     requires { All (λ p. ForSome p.ahead (IsGivenOn sets.old)) parts.now }
     ensures kept { Extends sets.old sets.new }
-    ensures given { IfOk result (IsGivenBySome sets.old (λ p. p.ahead) parts.now (length parts.now) day sets.new) }
+    ensures given { IfOk result
+        (IsGivenBySome sets.old (λ p. p.ahead) parts.now (length parts.now) day sets.new) }
 {
     let mut given = None;
     let mut place = 0;
@@ -244,8 +260,8 @@ fn all_on<A: Lazy + Drop>(
 
 // Forgets what parts gave for a day.
 fn forget_all<A: Lazy + Drop>(parts: &mut Vec<Asked<A>>, day: i64)
-    ensures left { (sets : List (List ℕ)) → IsLeftBy (λ p. seen sets p.ahead) (λ p. p.lazy) parts.old.items day (length parts.old.items) parts.new.items }
-    ensures within { (sets : List (List ℕ)) → All (λ p. ForSome p.ahead (IsWithin sets)) parts.old.items → All (λ p. ForSome p.ahead (IsWithin sets)) parts.new.items }
+    ensures left { HaveForgotten (λ p. p.ahead) (λ p. p.lazy) parts.old.items day parts.new.items }
+    ensures within { StayWithin (λ p. p.ahead) parts.old.items parts.new.items }
 {
     let mut place = 0;
     while place < parts.len() {

@@ -1,9 +1,9 @@
 // The dates of one day in a rising list.
-ghost use Rattle.std.specs.Prelude.{◌≡◌, ◌↔◌, ◌≤ℤ◌, ℕ, Contains, IfOk, IsTrue, false, int_lt, nat_lt};
+ghost use Rattle.std.specs.Prelude.{◌≡◌, ◌≤ℤ◌, ℕ, IfOk, IsTrue, false, int_lt, nat_lt};
 ghost use Rattle.rr_model.specs.Bounds.{latest_day};
 ghost use Rattle.rr_model.specs.Rising.{Rises};
 ghost use Rattle.rr_model.specs.Rising.Sets.{IsSetOf};
-ghost use Rattle.rr_lazy.specs.Stretch.{IsFirstDate, IsFirstFrom};
+ghost use Rattle.rr_lazy.specs.Stretch.{IsFirstDate, IsFirstFrom, LosesDates};
 ghost use Rattle.rr_model.specs.Sets.Tree.{is_among};
 
 use rr_model::{Kind, NoMemory, day_part, second_part};
@@ -69,7 +69,7 @@ pub(crate) fn seconds_on(
 pub(crate) fn take_out(times: &mut TimeSet, kind: Kind, dates: &[i64], day: i64)
     requires rises { Rises int_lt dates.now }
     requires high { day ≤ℤ latest_day }
-    ensures { (s : ℕ) → Contains times.new s ↔ (Contains times.old s × (is_among kind dates.now day s ≡ false)) }
+    ensures { LosesDates kind dates.now day times.old times.new }
 {
     let first = first_from(kind, dates, day);
     let last = first_from(kind, dates, day + 1);

@@ -1,11 +1,11 @@
 // The occurrences up to a moment.
-ghost use Rattle.std.specs.Prelude.{◌≡◌, ◌≤◌, ◌≤ℤ◌, [], List, ℕ, get_or, pos, take};
+ghost use Rattle.std.specs.Prelude.{◌≡◌, ◌≤◌, ◌≤ℤ◌, [], get_or, pos, take};
 ghost use Rattle.rr_model.specs.Calendar.{first_day_of_year};
 ghost use Rattle.rr_model.specs.Moment.{day_part};
 ghost use Rattle.rr_model.proofs.TreeLemmas.{IsOfOneKind-prop};
 ghost use Rattle.rr_model.specs.Sets.Tree.{IsOfOneKind, upto};
 ghost use Rattle.rr_model.specs.Rising.Sets.{IsSecondsOfDay};
-ghost use Rattle.rr_lazy.specs.Next.{IsUnasked, IsWithin, with_set};
+ghost use Rattle.rr_lazy.specs.Next.{IsUnasked, IsWithin, KnowsIf, with_set};
 ghost use Rattle.rr_lazy.specs.Upto.{IsSecondsTo, IsUpTo};
 
 use crate::position::past;
@@ -23,7 +23,8 @@ pub struct Upto<A: Lazy + Drop> {
     last_day: i64,
     position: i64,
     ghost begun: { first_day_of_year (pos 1) ≤ℤ position },
-    ghost one_kind: { IsOfOneKind (upto (A.tree lazy) kind at) } by { IsOfOneKind-prop (upto (A.tree lazy) kind at) },
+    ghost one_kind: { IsOfOneKind (upto (A.tree lazy) kind at) } by { IsOfOneKind-prop
+        (upto (A.tree lazy) kind at) },
     ghost of_day: { last_day ≡ day_part kind at },
     ghost together: { position ≤ℤ last_day → A.position lazy ≡ position },
 }
@@ -35,7 +36,7 @@ impl<A: Lazy + Drop> Upto<A> {
         requires unasked { IsUnasked (A.position lazy) }
         ensures tree { ⟦<Upto<A> as Lazy>⟧.tree result ≡ upto (A.tree lazy) kind at }
         ensures unasked { IsUnasked (⟦<Upto<A> as Lazy>⟧.position result) }
-        ensures knows { (sets : List (List ℕ)) → A.knows lazy sets → ⟦<Upto<A> as Lazy>⟧.knows result sets }
+        ensures knows { KnowsIf (A.knows lazy) (⟦<Upto<A> as Lazy>⟧.knows result) }
     {
         let last_day = day_part(kind, at);
         Upto {
@@ -95,7 +96,8 @@ fn count_to(sets: &SetTable, kind: Kind, at: i64, found: OccupiedDay) -> usize
     requires within { IsWithin sets.now found }
     requires of_day { IsSecondsOfDay ((with_set sets.now found).times) }
     ensures few { result ≤ found.count }
-    ensures seconds { IsUpTo kind at found.day ((with_set sets.now found).times) (take result (get_or sets.now found.number [])) }
+    ensures seconds { IsUpTo kind at found.day ((with_set sets.now found).times)
+        (take result (get_or sets.now found.number [])) }
 {
     if found.day < day_part(kind, at) {
         return found.count;

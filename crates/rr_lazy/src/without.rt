@@ -1,5 +1,5 @@
 // The occurrences that are not among dates.
-ghost use Rattle.std.specs.Prelude.{◌≡◌, ◌≢◌, ◌≤ℤ◌, [], IfOk, List, ℕ, ℤ, int_lt, pos};
+ghost use Rattle.std.specs.Prelude.{◌≡◌, ◌≢◌, ◌≤ℤ◌, [], IfOk, int_lt, pos};
 ghost use Rattle.rr_model.specs.Bounds.{earliest_day, latest_day};
 ghost use Rattle.rr_model.specs.Calendar.{first_day_of_year};
 ghost use Rattle.rr_model.specs.Rising.{Rises};
@@ -7,8 +7,8 @@ ghost use Rattle.rr_model.proofs.TreeLemmas.{IsOfOneKind-prop};
 ghost use Rattle.rr_model.specs.Sets.Tree.{IsOfOneKind, without};
 ghost use Rattle.rr_shapes.specs.Tables.{Extends};
 ghost use Rattle.rr_lazy.specs.Ahead.{IsGivenOn};
-ghost use Rattle.rr_lazy.specs.Next.{IsUnasked, with_set};
-ghost use Rattle.rr_lazy.specs.Stretch.{IsLeftOf, IsNextLeft, KnowsPart};
+ghost use Rattle.rr_lazy.specs.Next.{IsUnasked, KnowsIf, with_set};
+ghost use Rattle.rr_lazy.specs.Stretch.{IsLeftOf, IsNextLeft, KnowsPartFromSome};
 
 use crate::ahead::fill;
 use crate::position::past;
@@ -28,7 +28,8 @@ pub struct Without<A: Lazy + Drop> {
     position: i64,
     ahead: Option<OccupiedDay>,
     ghost begun: { first_day_of_year (pos 1) ≤ℤ position },
-    ghost one_kind: { IsOfOneKind (without (A.tree lazy) kind dates) } by { IsOfOneKind-prop (without (A.tree lazy) kind dates) },
+    ghost one_kind: { IsOfOneKind (without (A.tree lazy) kind dates) } by { IsOfOneKind-prop
+        (without (A.tree lazy) kind dates) },
 }
 
 impl<A: Lazy + Drop> Without<A> {
@@ -38,7 +39,7 @@ impl<A: Lazy + Drop> Without<A> {
         requires unasked { IsUnasked (A.position lazy) }
         ensures tree { ⟦<Without<A> as Lazy>⟧.tree result ≡ without (A.tree lazy) kind dates }
         ensures unasked { IsUnasked (⟦<Without<A> as Lazy>⟧.position result) }
-        ensures knows { (sets : List (List ℕ)) → A.knows lazy sets → ⟦<Without<A> as Lazy>⟧.knows result sets }
+        ensures knows { KnowsIf (A.knows lazy) (⟦<Without<A> as Lazy>⟧.knows result) }
     {
         Without {
             lazy,
@@ -59,11 +60,16 @@ impl<A: Lazy + Drop> Lazy for Without<A> {
 
     ghost position = { λ s. s.position };
 
-    ghost knows = { λ s sets. A.knows s.lazy sets × KnowsPart sets (A.tree s.lazy) (A.position s.lazy) s.kind s.dates s.position s.ahead };
+    ghost knows = { λ s sets. A.knows s.lazy sets
+        × KnowsPart sets (A.tree s.lazy) (A.position s.lazy) s.kind s.dates s.position s.ahead };
 
-    ghost knows_more = { λ s old new more k. (A.knows_more s.lazy old new more k.0, knows_part_more old new _ _ _ _ _ _ more k.1) };
+    ghost knows_more = { λ s old new more k. (
+      A.knows_more s.lazy old new more k.0,
+      knows_part_more old new _ _ _ _ _ _ more k.1,
+    ) };
 
-    ghost sound = { λ s. sound_without (A.tree s.lazy) s.kind s.dates s.position s.one_kind s.begun };
+    ghost sound = { λ s. sound_without (A.tree s.lazy) s.kind s.dates
+        s.position s.one_kind s.begun };
 
     fn next(
         &mut self,
@@ -108,11 +114,13 @@ fn next_left<A: Lazy>(
     requires low { earliest_day ≤ℤ to }
     requires high { to ≤ℤ latest_day }
     requires knows { A.knows lazy.old sets.old }
-    requires known { (position : ℤ) × KnowsPart sets.old (A.tree lazy.old) (A.position lazy.old) kind dates.now position ahead.old }
+    requires known { KnowsPartFromSome sets.old (A.tree lazy.old) (A.position lazy.old)
+        kind dates.now ahead.old }
     ensures tree { A.tree lazy.new ≡ A.tree lazy.old }
     ensures knows { A.knows lazy.new sets.new }
     ensures kept { Extends sets.old sets.new }
-    ensures next { IsNextLeft sets.old sets.new (A.tree lazy.old) kind dates.now (A.position lazy.old) (A.position lazy.new) ahead.old ahead.new to result }
+    ensures next { IsNextLeft sets.old sets.new (A.tree lazy.old) kind dates.now
+        (A.position lazy.old) (A.position lazy.new) ahead.old ahead.new to result }
 {
     'days: loop {
         fill(alloc, sets, lazy, ahead, to)?;

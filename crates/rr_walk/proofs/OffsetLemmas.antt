@@ -28,7 +28,8 @@ use Rattle.rr_model.proofs.RisingSetLemmas.{rising_at, set_empty, set_push, set_
 use Rattle.rr_model.proofs.CountLemmas.{count_seconds-same, count_seconds-zero, below_more}
 use Rattle.rr_model.proofs.DaysAndTimesLemmas.{second_part-below, unit_some}
 use Rattle.rr_times.proofs.SplitLemmas.{rising_le}
-use Rattle.rr_setpos.specs.Ranks.{times_before, number_allowed, hour_second_allowed, day_second_allowed, begin_in_day, rank_by_parts, size_by_parts}
+use Rattle.rr_parts.specs.Numbers.{number_allowed}
+use Rattle.rr_setpos.specs.Ranks.{times_before, hour_second_allowed, day_second_allowed, begin_in_day, rank_by_parts, size_by_parts}
 use Rattle.rr_model.proofs.ChoiceLemmas.{is_chosen-plain}
 use Rattle.rr_setpos.proofs.ProductLemmas.{count_turns}
 use Rattle.rr_setpos.proofs.TimeCountLemmas.{times_of_day, and_assoc}

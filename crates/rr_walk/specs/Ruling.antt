@@ -15,7 +15,7 @@ use Rattle.rr_expand.specs.declared.unit_times.UnitTimes.{UnitTimes}
 use Rattle.rr_shapes.specs.Tables.{Extends}
 use Rattle.rr_lazy.specs.Tables.{same_set}
 use Rattle.rr_model.specs.Rising.Sets.{IsSetOf}
-use Rattle.rr_model.specs.Rule.Validity.{IsValidRule, is_absent}
+use Rattle.rr_model.specs.Rule.Validity.{IsValidRule}
 use Rattle.rr_model.specs.Moment.Years.{IsInYears}
 use Rattle.rr_model.specs.declared.kind.Kind.{Kind}
 use Rattle.rr_model.specs.declared.kind.Kind.TheVariants.{Days, Moments}
@@ -25,7 +25,7 @@ use Rattle.rr_model.proofs.ValidityProps.{IsValidRule-prop}
 use Rattle.rr_model.specs.Rule.DaysAndTimes.{IsCandidateDay, IsCandidateTime, day_holds}
 use Rattle.rr_model.specs.Moment.Units.{is_whole_days}
 use Rattle.rr_setpos.specs.Ranks.{days_before, days_of_unit}
-use Rattle.rr_walk.specs.SetPositions.{IsChosenOffset}
+use Rattle.rr_walk.specs.SetPositions.{AreChosenOffsets}
 use Rattle.rr_walk.specs.declared.day_rule.DayInUnit.{DayInUnit}
 use Rattle.rr_walk.specs.declared.day_rule.WholeUnit.{WholeUnit}
 
@@ -37,9 +37,29 @@ pub record Ruling : Type 0 where
   pub start : ℤ
   pub kept : List (Option ℕ)
 
+-- this rule beside this start, with these numbers
+abbrev pub ruling_of : Rule → Kind → ℤ → List (Option ℕ) → Ruling
+ruling_of rule kind start kept = record { rule = rule; kind = kind; start = start; kept = kept }
+
 -- the same rule in kind Moments
 abbrev pub at_moments : Ruling → Ruling
 at_moments r = record { rule = r.rule; kind = Moments; start = r.start; kept = r.kept }
+
+-- of a rule of whole days: a second of each candidate day
+abbrev pub IsTimeOf : Ruling → ℕ → Type 0
+IsTimeOf r second = IsCandidateTime r.rule r.kind r.start second
+
+-- the interval and the date parts of the rule, filled from its start, allow the day
+abbrev pub is_candidate_day : Ruling → ℤ → Bool
+is_candidate_day r day = day_holds r.rule (day_part r.kind r.start) day
+
+-- the date parts of a finer rule, filled from its start, allow the day
+abbrev pub AllowsDay : Ruling → ℤ → Type 0
+AllowsDay r day = IsTrue (date_parts_hold (filled r.rule Days (day_part Moments r.start)) day)
+
+-- the set of this number has exactly the seconds that hold
+abbrev pub IsSetAt : List (List ℕ) → (ℕ → Type 0) → ℕ → Type 0
+IsSetAt sets P number = IsSetOf nat_lt (get_or sets number []) P
 
 -- the same rule beside the same start
 pub record IsSameRuling (new old : Ruling) : Type 0 where
@@ -49,7 +69,7 @@ pub record IsSameRuling (new old : Ruling) : Type 0 where
 
 -- the number that is kept at a place is that of a set with exactly the seconds that hold
 abbrev pub KeepsAt : List (List ℕ) → Ruling → ℕ → (ℕ → Type 0) → Type 0
-KeepsAt sets r place P = (n : ℕ) → slice_get r.kept place ≡ Some (Some n) → (n < length sets) × IsSetOf nat_lt (get_or sets n []) P
+KeepsAt sets r place P = (n : ℕ) → slice_get r.kept place ≡ Some (Some n) → (n < length sets) × IsSetAt sets P n
 
 -- in a table that goes on it is so too
 pub keeps_more : (r : Ruling) (place : ℕ) (P : ℕ → Type 0) (old new : List (List ℕ)) → Extends old new → KeepsAt old r place P → KeepsAt new r place P
@@ -60,7 +80,7 @@ keeps_more r place P old new more k n at =
 
 -- of a rule of whole days: the number that is kept is that of the times of its candidate days
 abbrev pub KnowsTimes : Ruling → List (List ℕ) → Type 0
-KnowsTimes r sets = KeepsAt sets r 0 (IsCandidateTime r.rule r.kind r.start)
+KnowsTimes r sets = KeepsAt sets r 0 (IsTimeOf r)
 
 -- how many units after the first one of a day the first comes that is a whole number of intervals from the start's
 abbrev pub first_place : Ruling → ℤ → ℕ
@@ -75,7 +95,7 @@ IsChosenSecond r day s = (s < 86_400) × IsTrue (is_chosen r.rule Moments r.star
 -- of a finer rule: the number at a place is that of what is chosen on each allowed day whose first unit that fits has this place
 abbrev pub KnowsPlaces : Ruling → List (List ℕ) → Type 0
 KnowsPlaces r sets =
-    (day : ℤ) → IsDayWithin 1000 day → IsTrue (date_parts_hold (filled r.rule Days (day_part Moments r.start)) day)
+    (day : ℤ) → IsDayWithin 1000 day → AllowsDay r day
     → KeepsAt sets r (first_place r day) (IsChosenSecond r day)
 
 -- the rule is valid beside its start, which lies in the years 1 to 9999
@@ -100,7 +120,7 @@ pub record IsUnrolled (r : Ruling) (start_day : ℤ) (start_second : ℕ) (times
   pub valid : IsValidRuling r
   pub of_day : start_day ≡ day_part r.kind r.start
   pub of_second : start_second ≡ second_part r.kind r.start
-  pub of_times : IsSetOf nat_lt times (IsCandidateTime r.rule r.kind r.start)
+  pub of_times : IsSetOf nat_lt times (IsTimeOf r)
   pub of_allowed : allowed ≡ record { rule = r.rule; start_day = day_part r.kind r.start }
   pub of_own : own_unit ≡ unit_number r.rule.freq r.rule.week_start Days (day_part r.kind r.start)
   pub of_last : last.unit ≡ unit_number r.rule.freq r.rule.week_start Days last.day
@@ -118,7 +138,7 @@ pub record IsFine (r : Ruling) (start_day : ℤ) (start_second : ℕ) (offsets :
   pub valid : IsValidRuling r
   pub of_day : start_day ≡ day_part r.kind r.start
   pub of_second : start_second ≡ second_part r.kind r.start
-  pub of_offsets : is_absent r.rule.by_set_pos ≡ false → IsSetOf nat_lt offsets (IsChosenOffset r.rule r.start)
+  pub of_offsets : AreChosenOffsets r.rule r.start offsets
   pub of_times : AreUnitTimes r.rule r.start times.minutes.items times.seconds.items
   pub of_allowed : allowed ≡ record { rule = r.rule; start_day = day_part Moments r.start }
 
@@ -128,7 +148,7 @@ AreUnitDays r days = (unit : ℤ) × IsSetOf int_lt days (IsCandidateDay r.rule 
 
 -- a candidate day, how many of its unit's candidate days lie before it, and how many there are
 pub record IsCandidateAt (r : Ruling) (day : ℤ) (place count : ℕ) : Type 0 where
-  pub candidate : IsTrue (day_holds r.rule (day_part r.kind r.start) day)
+  pub candidate : IsTrue (is_candidate_day r day)
   pub before : place ≡ days_before r.rule (day_part r.kind r.start) day
   pub all : count ≡ days_of_unit r.rule (day_part r.kind r.start) day
 

@@ -1,6 +1,8 @@
 -- The seconds that set positions choose, in the order in which a unit is walked (RFC 5545, section 3.3.10, BYSETPOS).
-use Rattle.std.specs.Prelude.{◌≡◌, ℕ, ◌+◌, ◌*◌, ◌%◌, ◌<◌, ◌≤◌, Bool, true, IsTrue, Option, Some, None, List, Contains, get_or, length, ℤ, pos}
+use Rattle.std.specs.Prelude.{◌≡◌, ℕ, ◌+◌, ◌*◌, ◌%◌, ◌<◌, ◌≤◌, Bool, true, false, IsTrue, Option, Some, None, List, Contains, get_or, length, nat_lt, ℤ, pos}
 use Rattle.rr_model.specs.Moment.Units.{unit_seconds}
+use Rattle.rr_model.specs.Rising.Sets.{IsSetOf}
+use Rattle.rr_model.specs.Rule.Validity.{is_absent}
 use Rattle.rr_model.specs.Rule.Filled.{minute_of, second_of, wants_second}
 use Rattle.rr_model.specs.Sets.Counting.{count_seconds}
 use Rattle.rr_model.specs.declared.kind.Kind.TheVariants.{Moments}
@@ -8,7 +10,8 @@ use Rattle.rr_model.specs.declared.rule.Freq.{Freq}
 use Rattle.rr_model.specs.declared.rule.Freq.TheVariants.{Minutely, Hourly}
 use Rattle.rr_model.specs.declared.rule.Rule.{Rule}
 use Rattle.rr_setpos.specs.Nth.{IsPlaceOf}
-use Rattle.rr_setpos.specs.Ranks.{hour_second_allowed, is_rank_listed, number_allowed}
+use Rattle.rr_parts.specs.Numbers.{number_allowed}
+use Rattle.rr_setpos.specs.Ranks.{hour_second_allowed, is_rank_listed}
 
 -- ---- the times of one day of a unit
 
@@ -60,11 +63,19 @@ offset_allowed freq rule minute second s = true
 abbrev pub offset_holds : Rule → ℤ → ℕ → Bool
 offset_holds rule start s = offset_allowed rule.freq rule (minute_of Moments start) (second_of Moments start) s
 
+-- a second of such a unit that the time parts of the rule, filled from its start, allow
+abbrev pub IsAllowedOffset : Rule → ℤ → ℕ → Type 0
+IsAllowedOffset rule start s = (s < unit_seconds rule.freq) × IsTrue (offset_holds rule start s)
+
 -- a second of such a unit that set positions choose
 abbrev pub IsChosenOffset : Rule → ℤ → ℕ → Type 0
 IsChosenOffset rule start s =
     (s < unit_seconds rule.freq) × IsTrue (offset_holds rule start s)
     × IsTrue (is_rank_listed rule (count_seconds (offset_holds rule start) s) (count_seconds (offset_holds rule start) (unit_seconds rule.freq)))
+
+-- these are all of them, in order, where set positions are present
+abbrev pub AreChosenOffsets : Rule → ℤ → List ℕ → Type 0
+AreChosenOffsets rule start offsets = is_absent rule.by_set_pos ≡ false → IsSetOf nat_lt offsets (IsChosenOffset rule start)
 
 -- a second of a day that lies at one of these seconds of its unit
 abbrev pub IsAtOffset : ℕ → List ℕ → List ℕ → ℕ → Type 0

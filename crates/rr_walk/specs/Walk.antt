@@ -2,17 +2,15 @@
 use Rattle.std.specs.Prelude.{◌≡◌, ℕ, ◌<◌, true, false, IsTrue, Option, Some, None, List, nat_le, nat_lt, [], int_le, ℤ, pos, ◌+ℤ◌, ◌-ℤ◌, ◌≤ℤ◌, ◌<ℤ◌}
 use Rattle.std.specs.List.{Contains}
 use Rattle.rr_model.specs.Whole.{divides}
-use Rattle.rr_model.specs.Moment.{day_part, moment_at}
+use Rattle.rr_model.specs.Moment.{moment_at}
 use Rattle.rr_model.specs.Moment.Units.{unit_number}
 use Rattle.rr_model.specs.Rising.Sets.{IsSetOf}
 use Rattle.rr_model.specs.declared.kind.Kind.{Kind}
 use Rattle.rr_model.specs.declared.kind.Kind.TheVariants.{Days, Moments}
 use Rattle.rr_model.specs.declared.rule.Rule.{Rule}
 use Rattle.rr_model.specs.Rule.DaysAndTimes.{seconds_of}
-use Rattle.rr_model.specs.Rule.Candidate.{date_parts_hold}
-use Rattle.rr_model.specs.Rule.Filled.{filled}
 use Rattle.rr_model.specs.Sets.Tree.{Tree, chosen_of, stands_at}
-use Rattle.rr_walk.specs.Ruling.{Ruling}
+use Rattle.rr_walk.specs.Ruling.{AllowsDay, Ruling}
 use Rattle.rr_lazy.specs.declared.occupied_day.OccupiedDay.{OccupiedDay}
 use Rattle.rr_lazy.specs.Next.{HasNone, IsFirstOccupied, IsWithin, with_set}
 use Rattle.rr_lazy.specs.DayTimes.{DayTimes}
@@ -20,6 +18,10 @@ use Rattle.rr_lazy.specs.DayTimes.{DayTimes}
 -- the seconds of a day that are not before the start are those from this one on
 abbrev pub IsFirstSecond : Kind → ℤ → ℤ → ℕ → Type 0
 IsFirstSecond kind start day from = (s : ℕ) → s < seconds_of kind → int_le start (moment_at kind day s) ≡ nat_le from s
+
+-- the seconds, in order, of all occurrences on a day
+abbrev pub AreSecondsOn : Tree → ℤ → List ℕ → Type 0
+AreSecondsOn tree day times = IsSetOf nat_lt times (λ s. IsTrue (stands_at tree day s))
 
 -- the first occupied day from one on and not after another, None where there is none
 abbrev pub IsFirstUpTo : Tree → ℤ → ℤ → Option DayTimes → Type 0
@@ -33,13 +35,13 @@ HasNoneOf tree days from = (day : ℤ) (second : ℕ) → Contains days day → 
 -- the day, if it is occupied, with all its seconds
 abbrev pub IsOnDay : Tree → ℤ → Option DayTimes → Type 0
 IsOnDay tree day None = (second : ℕ) → stands_at tree day second ≡ false
-IsOnDay tree day (Some found) = (found.day ≡ day) × (found.times ≡ [] → ⊥) × IsSetOf nat_lt found.times (λ s. IsTrue (stands_at tree day s))
+IsOnDay tree day (Some found) = (found.day ≡ day) × (found.times ≡ [] → ⊥) × AreSecondsOn tree day found.times
 
 -- the first occupied day from one on, of those that a list has, None where there is none
 abbrev pub IsFirstOf : Tree → List ℤ → ℤ → Option DayTimes → Type 0
 IsFirstOf tree days from None = HasNoneOf tree days from
 IsFirstOf tree days from (Some found) =
-    Contains days found.day × (from ≤ℤ found.day) × (found.times ≡ [] → ⊥) × IsSetOf nat_lt found.times (λ s. IsTrue (stands_at tree found.day s))
+    Contains days found.day × (from ≤ℤ found.day) × (found.times ≡ [] → ⊥) × AreSecondsOn tree found.day found.times
     × ((day : ℤ) (second : ℕ) → Contains days day → from ≤ℤ day → day <ℤ found.day → stands_at tree day second ≡ false)
 
 -- ---- the same of days whose seconds are told by a number
@@ -74,7 +76,7 @@ abbrev pub IsFirstFine : Ruling → ℤ → ℤ → Option ℤ → Type 0
 IsFirstFine r from to None = HasNone (chosen_of r.rule Moments r.start) from (to +ℤ pos 1)
 IsFirstFine r from to (Some day) =
     (from ≤ℤ day) × (day ≤ℤ to) × HasNone (chosen_of r.rule Moments r.start) from day
-    × IsTrue (date_parts_hold (filled r.rule Days (day_part Moments r.start)) day)
+    × AllowsDay r day
 
 -- the first occupied day of a unit from a day on, None where there is none
 abbrev pub IsFirstIn : Tree → Rule → ℤ → ℤ → Option DayTimes → Type 0
@@ -82,7 +84,7 @@ IsFirstIn tree rule unit from None = (day : ℤ) (second : ℕ) → unit_number 
     → stands_at tree day second ≡ false
 IsFirstIn tree rule unit from (Some found) =
     (unit_number rule.freq rule.week_start Days found.day ≡ unit) × (from ≤ℤ found.day) × (found.times ≡ [] → ⊥)
-    × IsSetOf nat_lt found.times (λ s. IsTrue (stands_at tree found.day s))
+    × AreSecondsOn tree found.day found.times
     × ((day : ℤ) (second : ℕ) → unit_number rule.freq rule.week_start Days day ≡ unit → from ≤ℤ day → day <ℤ found.day → stands_at tree day second ≡ false)
 
 -- the same of a day whose seconds are told by a number

@@ -1,12 +1,12 @@
 // The chosen moments of a rule from its start on, day after day.
-ghost use Rattle.std.specs.Prelude.{◌≡◌, ◌≤ℤ◌, IfOk, List, ℕ};
+ghost use Rattle.std.specs.Prelude.{◌≡◌, ◌≤ℤ◌, IfOk};
 ghost use Rattle.rr_model.specs.Bounds.{earliest_day, latest_day};
 ghost use Rattle.rr_model.specs.Moment.Units.{is_whole_days};
 ghost use Rattle.rr_model.specs.Moment.Years.{IsInYears};
 ghost use Rattle.rr_model.specs.Rule.Validity.{IsValidRule};
 ghost use Rattle.rr_model.specs.Sets.Tree.{chosen_of};
 ghost use Rattle.rr_shapes.specs.Tables.{Extends};
-ghost use Rattle.rr_lazy.specs.Next.{IsNextIn, IsUnasked};
+ghost use Rattle.rr_lazy.specs.Next.{IsNextIn, IsUnasked, KnowsEach, KnowsIf};
 ghost use Rattle.rr_walk.specs.Ruling.{IsSameRuling, IsValidRuling, IsValidRuling-prop};
 ghost use Rattle.rr_walk.specs.Steps.{HasBegun, tree_of_ruling};
 
@@ -54,9 +54,10 @@ impl<W: RuleWalk + Drop> Chosen<W> {
         requires valid { IsValidRule kind rule.now }
         requires freq { is_whole_days rule.now.freq ≡ W.of_whole_days }
         requires in_years { IsInYears kind start }
-        ensures tree { IfOk result (λ l. ⟦<Chosen<W> as Lazy>⟧.tree l ≡ chosen_of rule.now kind start) }
+        ensures tree { IfOk result
+            (λ l. ⟦<Chosen<W> as Lazy>⟧.tree l ≡ chosen_of rule.now kind start) }
         ensures unasked { IfOk result (λ l. IsUnasked (⟦<Chosen<W> as Lazy>⟧.position l)) }
-        ensures knows { IfOk result (λ l. (sets : List (List ℕ)) → ⟦<Chosen<W> as Lazy>⟧.knows l sets) }
+        ensures knows { IfOk result (λ l. KnowsEach (⟦<Chosen<W> as Lazy>⟧.knows l)) }
     {
         let walk = W::new(alloc, rule, kind, start)?;
         Ok(Chosen {
@@ -68,9 +69,11 @@ impl<W: RuleWalk + Drop> Chosen<W> {
     // Goes on from a day: the days before it are passed over.
     pub(crate) fn skip_to(&mut self, day: i64)
         requires { ⟦<Chosen<W> as Lazy>⟧.position self.old ≤ℤ day }
-        ensures tree { ⟦<Chosen<W> as Lazy>⟧.tree self.new ≡ ⟦<Chosen<W> as Lazy>⟧.tree self.old }
+        ensures tree { ⟦<Chosen<W> as Lazy>⟧.tree self.new
+            ≡ ⟦<Chosen<W> as Lazy>⟧.tree self.old }
         ensures position { ⟦<Chosen<W> as Lazy>⟧.position self.new ≡ day }
-        ensures knows { (sets : List (List ℕ)) → ⟦<Chosen<W> as Lazy>⟧.knows self.old sets → ⟦<Chosen<W> as Lazy>⟧.knows self.new sets }
+        ensures knows { KnowsIf (⟦<Chosen<W> as Lazy>⟧.knows self.old)
+            (⟦<Chosen<W> as Lazy>⟧.knows self.new) }
     {
         self.position = day;
     }
@@ -115,7 +118,8 @@ fn step<W: RuleWalk>(
     ensures same { IsSameRuling (W.ruling walk.new) (W.ruling walk.old) }
     ensures knows { W.keeps walk.new sets.new }
     ensures kept { Extends sets.old sets.new }
-    ensures next { IsNextIn sets.new (tree_of_ruling (W.ruling walk.old)) position.old to result position.new }
+    ensures next { IsNextIn sets.new (tree_of_ruling (W.ruling walk.old)) position.old
+        to result position.new }
     ensures later { position.old ≤ℤ position.new }
 {
     if *position > to {

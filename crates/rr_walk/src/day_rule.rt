@@ -1,19 +1,17 @@
 // A rule of whole days, walked over its candidate days.
-ghost use Rattle.std.specs.Prelude.{◌≡◌, ◌<◌, [], IfOk, IsTrue, length, get_or, nat_lt, true, pos, ◌≤ℤ◌, ◌+ℤ◌, ℤ};
+ghost use Rattle.std.specs.Prelude.{◌≡◌, ◌<◌, IfOk, IsTrue, length, true, pos, ◌≤ℤ◌, ◌+ℤ◌, ℤ};
 ghost use Rattle.rr_model.specs.Calendar.{IsDayWithin};
 ghost use Rattle.rr_model.specs.Moment.{day_part, second_part};
 ghost use Rattle.rr_model.specs.Moment.Units.{is_whole_days, unit_number, unit_start};
 ghost use Rattle.rr_model.specs.Moment.Years.{IsInYears};
-ghost use Rattle.rr_model.specs.Rising.Sets.{IsSetOf};
-ghost use Rattle.rr_model.specs.Rule.DaysAndTimes.{IsCandidateTime, day_holds};
 ghost use Rattle.rr_model.specs.Rule.Validity.{IsValidRule, is_absent};
-ghost use Rattle.rr_model.specs.Sets.Tree.{chosen_of};
 ghost use Rattle.rr_model.specs.declared.kind.Kind.{Kind};
 ghost use Rattle.rr_model.specs.declared.kind.Kind.TheVariants.{Days};
 ghost use Rattle.rr_shapes.specs.Tables.{Extends};
 ghost use Rattle.rr_lazy.specs.Next.{IsNextIn};
-ghost use Rattle.rr_walk.specs.Ruling.{IsFirstCandidate, IsFirstCandidateIn, IsFittingUnit, IsPassed, IsSameRuling, IsWholeUnit, KnowsTimes};
-ghost use Rattle.rr_walk.specs.Steps.{HasBegun};
+ghost use Rattle.rr_parts.specs.Units.{start_of_unit};
+ghost use Rattle.rr_walk.specs.Ruling.{IsFirstCandidate, IsFirstCandidateIn, IsFittingUnit, IsPassed, IsSameRuling, IsSetAt, IsTimeOf, IsWholeUnit, KnowsTimes, is_candidate_day};
+ghost use Rattle.rr_walk.specs.Steps.{HasBegun, tree_of_ruling};
 ghost use Rattle.rr_walk.specs.Walk.{IsDayWith, IsFirstSecond, IsFirstUpToIn, IsOnDayIn, IsPlacedDay, IsWalked};
 
 use crate::rule_walk::RuleWalk;
@@ -67,14 +65,15 @@ pub struct DayRule {
 
 impl Model for DayRule {
     ghost use Rattle.std.specs.Prelude.{[], ◌∷◌};
-    ghost use Rattle.rr_walk.specs.Ruling.{IsUnrolled, Ruling};
+    ghost use Rattle.rr_walk.specs.Ruling.{IsUnrolled, Ruling, ruling_of};
 
     ghost Value = { Ruling };
 
-    ghost view = { λ s. record { rule = s.rule; kind = s.kind; start = s.start; kept = s.number ∷ [] } };
+    ghost view = { λ s. ruling_of s.rule s.kind s.start (s.number ∷ []) };
 
-    ghost invariant = { λ s. IsUnrolled (record { rule = s.rule; kind = s.kind; start = s.start; kept = s.number ∷ [] })
-        s.start_day s.start_second s.times s.allowed s.own_unit s.last s.unit s.is_held s.days.items };
+    ghost invariant = { λ s. IsUnrolled (ruling_of s.rule s.kind s.start (s.number ∷ []))
+        s.start_day s.start_second s.times s.allowed s.own_unit s.last s.unit
+        s.is_held s.days.items };
 }
 
 impl RuleWalk for DayRule {
@@ -151,7 +150,7 @@ impl DayRule {
         ensures same { IsSameRuling self.new self.old }
         ensures knows { KnowsTimes self.new sets.new }
         ensures kept { Extends sets.old sets.new }
-        ensures found { IfOk result (IsFirstUpToIn sets.new (chosen_of self.old.rule self.old.kind self.old.start) from to) }
+        ensures found { IfOk result (IsFirstUpToIn sets.new (tree_of_ruling self.old) from to) }
     {
         let mut day = from;
         while let Some(candidate) = self.candidate_from(day, to) {
@@ -205,9 +204,9 @@ impl DayRule {
     fn candidate_in(&mut self, unit: i64, from: i64, to: i64) -> Option<i64>
         requires from { IsDayWithin 0 from }
         requires to { IsDayWithin 0 (to +ℤ pos 1) }
-        requires first { IsDayWithin 1000 (unit_start self.old.rule.freq self.old.rule.week_start Days unit) }
-        requires begun { unit_start self.old.rule.freq self.old.rule.week_start Days unit ≤ℤ to }
-        requires over { from ≤ℤ unit_start self.old.rule.freq self.old.rule.week_start Days (unit +ℤ pos 1) }
+        requires first { IsDayWithin 1000 (start_of_unit self.old.rule Days unit) }
+        requires begun { start_of_unit self.old.rule Days unit ≤ℤ to }
+        requires over { from ≤ℤ start_of_unit self.old.rule Days (unit +ℤ pos 1) }
         requires fits { IsFittingUnit self.old unit }
         ensures same { self.new ≡ self.old }
         ensures first { IsFirstCandidateIn self.old unit from to result }
@@ -228,12 +227,12 @@ impl DayRule {
         day: i64,
     ) -> Result<Option<OccupiedDay>, NoMemory>
         requires plain { is_absent self.old.rule.by_set_pos ≡ true }
-        requires candidate { IsTrue (day_holds self.old.rule (day_part self.old.kind self.old.start) day) }
+        requires candidate { IsTrue (is_candidate_day self.old day) }
         requires knows { KnowsTimes self.old sets.old }
         ensures same { IsSameRuling self.new self.old }
         ensures knows { KnowsTimes self.new sets.new }
         ensures kept { Extends sets.old sets.new }
-        ensures found { IfOk result (IsOnDayIn sets.new (chosen_of self.old.rule self.old.kind self.old.start) day) }
+        ensures found { IfOk result (IsOnDayIn sets.new (tree_of_ruling self.old) day) }
     {
         let first = self.first_second(day);
         if first > 0 {
@@ -259,7 +258,7 @@ impl DayRule {
         ensures same { IsSameRuling self.new self.old }
         ensures knows { KnowsTimes self.new sets.new }
         ensures kept { Extends sets.old sets.new }
-        ensures found { IfOk result (IsDayWith sets.new (IsCandidateTime self.old.rule self.old.kind self.old.start) day) }
+        ensures found { IfOk result (IsDayWith sets.new (IsTimeOf self.old) day) }
     {
         let count = self.times.as_slice().len();
         let number = self.number_of_times(alloc, sets)?;
@@ -273,7 +272,7 @@ impl DayRule {
         ensures knows { KnowsTimes self.new sets.new }
         ensures kept { Extends sets.old sets.new }
         ensures within { IfOk result (λ n. n < length sets.new) }
-        ensures number { IfOk result (λ n. IsSetOf nat_lt (get_or sets.new n []) (IsCandidateTime self.old.rule self.old.kind self.old.start)) }
+        ensures number { IfOk result (IsSetAt sets.new (IsTimeOf self.old)) }
     {
         if let Some(number) = self.number {
             return Ok(number);
@@ -294,7 +293,8 @@ impl DayRule {
     pub(crate) fn first_unit(&self, from: i64) -> i64
         requires { IsDayWithin 0 from }
         ensures near { result ≤ℤ pos 8_000_000_000_000 }
-        ensures walked { IsWalked self.now.rule (chosen_of self.now.rule self.now.kind self.now.start) (day_part self.now.kind self.now.start) from result }
+        ensures walked { IsWalked self.now.rule (tree_of_ruling self.now)
+            (day_part self.now.kind self.now.start) from result }
         ensures passed { IsPassed self.now from result }
     {
         let unit = self.unit_at(from);
@@ -366,7 +366,8 @@ pub(crate) fn placed(
 // The first second of a day that is not before a start, which lies on the day `start_day` at `start_second`; 86,400 where
 // there is none.
 pub(crate) fn first_second(day: i64, start_day: i64, start_second: u32) -> u32
-    ensures { (kind : Kind) (start : ℤ) → start_day ≡ day_part kind start → start_second ≡ second_part kind start → IsFirstSecond kind start day result }
+    ensures { (kind : Kind) (start : ℤ) → start_day ≡ day_part kind start
+        → start_second ≡ second_part kind start → IsFirstSecond kind start day result }
 {
     if day > start_day {
         0

@@ -1,20 +1,16 @@
 // A rule whose units are shorter than a day, walked day by day.
-ghost use Rattle.std.specs.Prelude.{◌≡◌, ◌<◌, IfOk, IsTrue, List, Some, ℕ, false, get_or, length, nat_lt, slice_get, pos, neg_ℤ, ◌≤ℤ◌, ◌+ℤ◌, []};
+ghost use Rattle.std.specs.Prelude.{◌≡◌, ◌<◌, IfOk, List, Some, ℕ, false, length, nat_lt, slice_get, pos, neg_ℤ, ◌≤ℤ◌, ◌+ℤ◌};
 ghost use Rattle.std.proofs.Math.ListN.{set};
 ghost use Rattle.rr_model.specs.Calendar.{IsDayWithin};
-ghost use Rattle.rr_model.specs.Moment.{day_part};
 ghost use Rattle.rr_model.specs.Moment.Units.{is_whole_days};
 ghost use Rattle.rr_model.specs.Moment.Years.{IsInYears};
 ghost use Rattle.rr_model.specs.Rising.Sets.{IsSetOf};
-ghost use Rattle.rr_model.specs.Rule.Candidate.{date_parts_hold};
-ghost use Rattle.rr_model.specs.Rule.Filled.{filled};
 ghost use Rattle.rr_model.specs.Rule.Validity.{IsValidRule};
-ghost use Rattle.rr_model.specs.Sets.Tree.{chosen_of};
-ghost use Rattle.rr_model.specs.declared.kind.Kind.TheVariants.{Days, Moments};
+ghost use Rattle.rr_model.specs.declared.kind.Kind.TheVariants.{Moments};
 ghost use Rattle.rr_shapes.specs.Tables.{Extends};
 ghost use Rattle.rr_lazy.specs.Next.{HasNone, IsNextIn};
-ghost use Rattle.rr_walk.specs.Ruling.{IsChosenSecond, IsSameRuling, KnowsPlaces, first_place};
-ghost use Rattle.rr_walk.specs.Steps.{HasBegun};
+ghost use Rattle.rr_walk.specs.Ruling.{AllowsDay, IsChosenSecond, IsSameRuling, IsSetAt, KnowsPlaces, at_moments, first_place};
+ghost use Rattle.rr_walk.specs.Steps.{HasBegun, tree_of_ruling};
 ghost use Rattle.rr_walk.specs.Walk.{IsFirstFine, IsFirstSecond, IsFirstUpToIn, IsOnDayIn};
 
 use crate::day_rule::{SECONDS_OF_DAY, first_second, placed};
@@ -50,13 +46,14 @@ pub struct FineRule {
 
 impl Model for FineRule {
     ghost use Rattle.rr_model.specs.declared.kind.Kind.TheVariants.{Moments};
-    ghost use Rattle.rr_walk.specs.Ruling.{IsFine, Ruling};
+    ghost use Rattle.rr_walk.specs.Ruling.{IsFine, Ruling, ruling_of};
 
     ghost Value = { Ruling };
 
-    ghost view = { λ s. record { rule = s.rule; kind = Moments; start = s.start; kept = s.numbers.items } };
+    ghost view = { λ s. ruling_of s.rule Moments s.start s.numbers.items };
 
-    ghost invariant = { λ s. IsFine (record { rule = s.rule; kind = Moments; start = s.start; kept = s.numbers.items }) s.start_day s.start_second s.offsets s.times s.allowed };
+    ghost invariant = { λ s. IsFine (ruling_of s.rule Moments s.start s.numbers.items)
+        s.start_day s.start_second s.offsets s.times s.allowed };
 }
 
 impl RuleWalk for FineRule {
@@ -138,7 +135,7 @@ impl FineRule {
         ensures kind { self.now.kind ≡ Moments }
         ensures late { day ≤ℤ result }
         ensures near { result ≤ℤ (day +ℤ pos 4_294_967_295) }
-        ensures none { HasNone (chosen_of self.now.rule Moments self.now.start) day result }
+        ensures none { HasNone (tree_of_ruling (at_moments self.now)) day result }
     {
         if self.rule.interval == 1 {
             return day;
@@ -166,12 +163,13 @@ impl FineRule {
         day: i64,
     ) -> Result<Option<OccupiedDay>, NoMemory>
         requires near { IsDayWithin 1000 day }
-        requires allowed { IsTrue (date_parts_hold (filled self.old.rule Days (day_part Moments self.old.start)) day) }
+        requires allowed { AllowsDay self.old day }
         requires knows { KnowsPlaces self.old sets.old }
         ensures same { IsSameRuling self.new self.old }
         ensures knows { KnowsPlaces self.new sets.new }
         ensures kept { Extends sets.old sets.new }
-        ensures found { IfOk result (IsOnDayIn sets.new (chosen_of self.old.rule Moments self.old.start) day) }
+        ensures found { IfOk result
+            (IsOnDayIn sets.new (tree_of_ruling (at_moments self.old)) day) }
     {
         let number = self.number_on(alloc, sets, day)?;
         let chosen = sets.times(number);
@@ -190,13 +188,13 @@ impl FineRule {
     // The number of the seconds that the rule chooses on an allowed day, also before its start.
     fn number_on(&mut self, alloc: Global, sets: &mut SetTable, day: i64) -> Result<usize, NoMemory>
         requires near { IsDayWithin 1000 day }
-        requires allowed { IsTrue (date_parts_hold (filled self.old.rule Days (day_part Moments self.old.start)) day) }
+        requires allowed { AllowsDay self.old day }
         requires knows { KnowsPlaces self.old sets.old }
         ensures same { IsSameRuling self.new self.old }
         ensures knows { KnowsPlaces self.new sets.new }
         ensures kept { Extends sets.old sets.new }
         ensures within { IfOk result (λ n. n < length sets.new) }
-        ensures number { IfOk result (λ n. IsSetOf nat_lt (get_or sets.new n []) (IsChosenSecond self.old day)) }
+        ensures number { IfOk result (IsSetAt sets.new (IsChosenSecond self.old day)) }
     {
         let place = self.first_place(day) as usize;
         if let Some(number) = kept_at(&self.numbers, place) {
@@ -221,7 +219,7 @@ impl FineRule {
     // The seconds of an allowed day that the rule chooses, also before its start.
     fn chosen_on(&self, alloc: Global, day: i64) -> Result<TimeSet, NoMemory>
         requires near { IsDayWithin 1000 day }
-        requires allowed { IsTrue (date_parts_hold (filled self.now.rule Days (day_part Moments self.now.start)) day) }
+        requires allowed { AllowsDay self.now day }
         ensures { IfOk result (λ t. IsSetOf nat_lt t (IsChosenSecond self.now day)) }
     {
         let fitting = fitting_seconds_by(alloc, &self.rule, self.start, &self.times, day)?;

@@ -1,12 +1,12 @@
 // Units shorter than a day: the seconds from a unit's begin that BYSETPOS chooses, which are the same in each unit
 // (RFC 5545, section 3.3.10, BYSETPOS).
-ghost use Rattle.std.specs.Prelude.{◌≡◌, ◌<◌, IfOk, IsTrue, false, nat_lt};
+ghost use Rattle.std.specs.Prelude.{◌≡◌, ◌<◌, IfOk, false, nat_lt};
 ghost use Rattle.rr_model.specs.Moment.Units.{is_whole_days, unit_seconds};
 ghost use Rattle.rr_model.specs.Rising.Sets.{IsSetOf};
 ghost use Rattle.rr_model.specs.Rule.Filled.{wants_minute, wants_second};
-ghost use Rattle.rr_model.specs.Rule.Validity.{CountUpTo, is_absent};
-ghost use Rattle.rr_setpos.specs.Ranks.{number_allowed};
-ghost use Rattle.rr_walk.specs.SetPositions.{IsAtOffset, IsChosenOffset, offset_allowed, offset_holds};
+ghost use Rattle.rr_model.specs.Rule.Validity.{CountUpTo};
+ghost use Rattle.rr_parts.specs.Numbers.{number_allowed};
+ghost use Rattle.rr_walk.specs.SetPositions.{AreChosenOffsets, IsAllowedOffset, IsAtOffset, offset_allowed};
 
 use crate::set_positions::times_at_positions;
 use rr_model::{Freq, NoMemory, Rule};
@@ -18,7 +18,7 @@ use std::alloc::Global;
 pub(crate) fn chosen_offsets(alloc: Global, rule: &Rule, start: i64) -> Result<TimeSet, NoMemory>
     requires freq { is_whole_days rule.now.freq ≡ false }
     requires positions { CountUpTo 366 rule.now.by_set_pos }
-    ensures { IfOk result (λ t. is_absent rule.now.by_set_pos ≡ false → IsSetOf nat_lt t (IsChosenOffset rule.now start)) }
+    ensures { IfOk result (AreChosenOffsets rule.now start) }
 {
     if rule.by_set_pos.is_empty() {
         return TimeSet::of(alloc, &[]);
@@ -30,7 +30,7 @@ pub(crate) fn chosen_offsets(alloc: Global, rule: &Rule, start: i64) -> Result<T
 // The seconds from a unit's begin that the time parts allow.
 fn allowed_offsets(alloc: Global, rule: &Rule, start: i64) -> Result<TimeSet, NoMemory>
     requires freq { is_whole_days rule.now.freq ≡ false }
-    ensures { IfOk result (λ t. IsSetOf nat_lt t (λ s. (s < unit_seconds rule.now.freq) × IsTrue (offset_holds rule.now start s))) }
+    ensures { IfOk result (λ t. IsSetOf nat_lt t (IsAllowedOffset rule.now start)) }
 {
     let own = time_of(start);
     let mut offsets = Vec::new(alloc);
@@ -59,14 +59,16 @@ fn allows_offset(rule: &Rule, own: Time, offset: u32) -> bool
 
 // Whether BYMINUTE, filled from the start's time, allows a minute.
 fn allows_minute(rule: &Rule, own: Time, minute: u8) -> bool
-    ensures { result ≡ number_allowed (wants_minute rule.now.freq) rule.now.by_minute own.minute minute }
+    ensures { result
+        ≡ number_allowed (wants_minute rule.now.freq) rule.now.by_minute own.minute minute }
 {
     allows_filled(&rule.by_minute, wants_minute(rule.freq), own.minute, minute)
 }
 
 // Whether BYSECOND, filled from the start's time, allows a second.
 fn allows_second(rule: &Rule, own: Time, second: u8) -> bool
-    ensures { result ≡ number_allowed (wants_second rule.now.freq) rule.now.by_second own.second second }
+    ensures { result
+        ≡ number_allowed (wants_second rule.now.freq) rule.now.by_second own.second second }
 {
     allows_filled(&rule.by_second, wants_second(rule.freq), own.second, second)
 }

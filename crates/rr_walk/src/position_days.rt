@@ -1,15 +1,14 @@
 // A rule of whole days with BYSETPOS, walked unit by unit (RFC 5545, section 3.3.10, BYSETPOS).
-ghost use Rattle.std.specs.Prelude.{◌≡◌, ◌⊎◌, Some, None, IfOk, IsTrue, List, false, nat_lt, pos, ◌+ℤ◌, ◌≤ℤ◌, ◌<ℤ◌, ℕ, ℤ};
+ghost use Rattle.std.specs.Prelude.{◌≡◌, ◌⊎◌, Some, None, IfOk, List, false, nat_lt, pos, ◌+ℤ◌, ◌≤ℤ◌, ◌<ℤ◌, ℕ, ℤ};
 ghost use Rattle.rr_model.specs.Calendar.{IsDayWithin};
-ghost use Rattle.rr_model.specs.Moment.Units.{unit_start};
 ghost use Rattle.rr_model.specs.Rising.Sets.{IsSetOf};
-ghost use Rattle.rr_model.specs.Rule.DaysAndTimes.{IsCandidateTime};
 ghost use Rattle.rr_model.specs.Rule.Validity.{is_absent};
-ghost use Rattle.rr_model.specs.Sets.Tree.{chosen_of, stands_at};
 ghost use Rattle.rr_model.specs.declared.kind.Kind.TheVariants.{Days};
 ghost use Rattle.rr_shapes.specs.Tables.{Extends};
-ghost use Rattle.rr_walk.specs.Ruling.{AreUnitDays, IsCandidateAt, IsFittingUnit, IsSameRuling, KnowsTimes};
-ghost use Rattle.rr_walk.specs.Walk.{IsFirstInIn, IsFirstOf, IsFirstOfIn, IsFirstUpToIn, IsOnDayIn};
+ghost use Rattle.rr_parts.specs.Units.{start_of_unit};
+ghost use Rattle.rr_walk.specs.Ruling.{AreUnitDays, IsCandidateAt, IsFittingUnit, IsSameRuling, IsTimeOf, KnowsTimes};
+ghost use Rattle.rr_walk.specs.Steps.{tree_of_ruling};
+ghost use Rattle.rr_walk.specs.Walk.{AreSecondsOn, IsFirstInIn, IsFirstOf, IsFirstOfIn, IsFirstUpToIn, IsOnDayIn};
 
 use crate::day_rule::{DayRule, SECONDS_OF_DAY, placed, whole_unit};
 use crate::set_positions::{next_place, times_at_positions};
@@ -35,7 +34,7 @@ impl DayRule {
         ensures same { IsSameRuling self.new self.old }
         ensures knows { KnowsTimes self.new sets.new }
         ensures kept { Extends sets.old sets.new }
-        ensures found { IfOk result (IsFirstUpToIn sets.new (chosen_of self.old.rule self.old.kind self.old.start) from to) }
+        ensures found { IfOk result (IsFirstUpToIn sets.new (tree_of_ruling self.old) from to) }
     {
         let last = self.last_unit(to);
         let step = i64::from(self.rule.interval);
@@ -60,14 +59,15 @@ impl DayRule {
         from: i64,
     ) -> Result<Option<OccupiedDay>, NoMemory>
         requires positions { is_absent self.old.rule.by_set_pos ≡ false }
-        requires first { IsDayWithin 400 (unit_start self.old.rule.freq self.old.rule.week_start Days unit) }
-        requires next { IsDayWithin 400 (unit_start self.old.rule.freq self.old.rule.week_start Days (unit +ℤ pos 1)) }
+        requires first { IsDayWithin 400 (start_of_unit self.old.rule Days unit) }
+        requires next { IsDayWithin 400 (start_of_unit self.old.rule Days (unit +ℤ pos 1)) }
         requires fits { IsFittingUnit self.old unit }
         requires knows { KnowsTimes self.old sets.old }
         ensures same { IsSameRuling self.new self.old }
         ensures knows { KnowsTimes self.new sets.new }
         ensures kept { Extends sets.old sets.new }
-        ensures found { IfOk result (IsFirstInIn sets.new (chosen_of self.old.rule self.old.kind self.old.start) self.old.rule unit from) }
+        ensures found { IfOk result
+            (IsFirstInIn sets.new (tree_of_ruling self.old) self.old.rule unit from) }
     {
         if !(self.is_held && self.unit.number == unit) {
             self.unit = whole_unit(self.rule.freq, self.rule.week_start, unit);
@@ -87,8 +87,10 @@ impl DayRule {
     fn first_alone(&self, days: &[i64], from: i64) -> Option<i64>
         requires positions { is_absent self.now.rule.by_set_pos ≡ false }
         requires days { AreUnitDays self.now days.now }
-        ensures { (day : ℤ) (times : List ℕ) → result ≡ Some day → IsSetOf nat_lt times (IsCandidateTime self.now.rule self.now.kind self.now.start)
-            → IsFirstOf (chosen_of self.now.rule self.now.kind self.now.start) days.now from (Some (record { day = day; times = times })) }
+        ensures { (day : ℤ) (times : List ℕ) → result ≡ Some day
+            → IsSetOf nat_lt times (IsTimeOf self.now)
+            → IsFirstOf (tree_of_ruling self.now) days.now from
+            (Some (record { day = day; times = times })) }
     {
         let times = self.times.as_slice();
         if times.len() != 1 {
@@ -113,7 +115,7 @@ impl DayRule {
         requires positions { is_absent self.now.rule.by_set_pos ≡ false }
         requires days { AreUnitDays self.now days.now }
         ensures kept { Extends sets.old sets.new }
-        ensures found { IfOk result (IsFirstOfIn sets.new (chosen_of self.now.rule self.now.kind self.now.start) days.now from) }
+        ensures found { IfOk result (IsFirstOfIn sets.new (tree_of_ruling self.now) days.now from) }
     {
         let count = days.len();
         let each = self.times.as_slice().len();
@@ -140,7 +142,7 @@ impl DayRule {
         requires positions { is_absent self.now.rule.by_set_pos ≡ false }
         requires candidate { IsCandidateAt self.now day place count }
         ensures kept { Extends sets.old sets.new }
-        ensures found { IfOk result (IsOnDayIn sets.new (chosen_of self.now.rule self.now.kind self.now.start) day) }
+        ensures found { IfOk result (IsOnDayIn sets.new (tree_of_ruling self.now) day) }
     {
         let times = self.seconds_of(alloc, day, place, count)?;
         placed(sets, day, times)
@@ -157,7 +159,7 @@ impl DayRule {
     ) -> Result<TimeSet, NoMemory>
         requires positions { is_absent self.now.rule.by_set_pos ≡ false }
         requires candidate { IsCandidateAt self.now day place count }
-        ensures { IfOk result (λ t. IsSetOf nat_lt t (λ s. IsTrue (stands_at (chosen_of self.now.rule self.now.kind self.now.start) day s))) }
+        ensures { IfOk result (λ t. AreSecondsOn (tree_of_ruling self.now) day t) }
     {
         let from = self.first_second(day);
         let positions = &self.rule.by_set_pos;
@@ -168,7 +170,8 @@ impl DayRule {
 
 // An occupied day, if it is not after a day.
 fn up_to(found: OccupiedDay, to: i64) -> Option<OccupiedDay>
-    ensures { ((result ≡ Some found) × (found.day ≤ℤ to)) ⊎ ((result ≡ None) × (to <ℤ found.day)) }
+    ensures { ((result ≡ Some found) × (found.day ≤ℤ to))
+        ⊎ ((result ≡ None) × (to <ℤ found.day)) }
 {
     if found.day <= to { Some(found) } else { None }
 }

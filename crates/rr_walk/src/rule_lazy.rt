@@ -1,8 +1,8 @@
 // The chosen moments of a rule.
-ghost use Rattle.std.specs.Prelude.{◌≡◌, ◌≤ℤ◌, IfOk, List, ℕ};
+ghost use Rattle.std.specs.Prelude.{◌≡◌, ◌≤ℤ◌, IfOk};
 ghost use Rattle.rr_model.specs.Moment.Years.{IsInYears};
 ghost use Rattle.rr_model.specs.Rule.Validity.{IsValidRule};
-ghost use Rattle.rr_lazy.specs.Next.{IsUnasked};
+ghost use Rattle.rr_lazy.specs.Next.{IsUnasked, KnowsEach, KnowsIf};
 ghost use Rattle.rr_model.specs.Sets.Tree.{chosen_of};
 
 use crate::chosen::Chosen;
@@ -27,9 +27,10 @@ impl RuleLazy {
     pub fn new(alloc: Global, rule: &Rule, kind: Kind, start: i64) -> Result<RuleLazy, NoMemory>
         requires valid { IsValidRule kind rule.now }
         requires in_years { IsInYears kind start }
-        ensures tree { IfOk result (λ l. ⟦<RuleLazy as Lazy>⟧.tree l ≡ chosen_of rule.now kind start) }
+        ensures tree { IfOk result
+            (λ l. ⟦<RuleLazy as Lazy>⟧.tree l ≡ chosen_of rule.now kind start) }
         ensures unasked { IfOk result (λ l. IsUnasked (⟦<RuleLazy as Lazy>⟧.position l)) }
-        ensures knows { IfOk result (λ l. (sets : List (List ℕ)) → ⟦<RuleLazy as Lazy>⟧.knows l sets) }
+        ensures knows { IfOk result (λ l. KnowsEach (⟦<RuleLazy as Lazy>⟧.knows l)) }
     {
         if rule.freq.is_whole_days() {
             Ok(RuleLazy::WholeDays(Chosen::new(alloc, rule, kind, start)?))
@@ -41,9 +42,11 @@ impl RuleLazy {
     /// Goes on from a day, in days since 1970-01-01: the days before it are passed over.
     pub fn skip_to(&mut self, day: i64)
         requires { ⟦<RuleLazy as Lazy>⟧.position self.old ≤ℤ day }
-        ensures tree { ⟦<RuleLazy as Lazy>⟧.tree self.new ≡ ⟦<RuleLazy as Lazy>⟧.tree self.old }
+        ensures tree { ⟦<RuleLazy as Lazy>⟧.tree self.new
+            ≡ ⟦<RuleLazy as Lazy>⟧.tree self.old }
         ensures position { ⟦<RuleLazy as Lazy>⟧.position self.new ≡ day }
-        ensures knows { (sets : List (List ℕ)) → ⟦<RuleLazy as Lazy>⟧.knows self.old sets → ⟦<RuleLazy as Lazy>⟧.knows self.new sets }
+        ensures knows { KnowsIf (⟦<RuleLazy as Lazy>⟧.knows self.old)
+            (⟦<RuleLazy as Lazy>⟧.knows self.new) }
     {
         match self {
             RuleLazy::WholeDays(lazy) => lazy.skip_to(day),

@@ -6,7 +6,8 @@ ghost use Rattle.rr_model.specs.Moment.Units.{is_whole_days};
 ghost use Rattle.rr_model.specs.Moment.Years.{IsInYears};
 ghost use Rattle.rr_model.specs.Rule.Validity.{IsValidRule};
 ghost use Rattle.rr_shapes.specs.Tables.{Extends};
-ghost use Rattle.rr_walk.specs.Ruling.{IsSameRuling, Ruling};
+ghost use Rattle.rr_lazy.specs.Next.{KnowsEach};
+ghost use Rattle.rr_walk.specs.Ruling.{IsSameRuling, Ruling, ruling_of};
 ghost use Rattle.rr_walk.specs.Steps.{tree_of_ruling};
 ghost use Rattle.rr_walk.specs.Walk.{IsFirstUpToIn};
 
@@ -31,8 +32,9 @@ pub trait RuleWalk: Sized {
         requires valid { IsValidRule kind rule.now }
         requires freq { is_whole_days rule.now.freq ≡ of_whole_days }
         requires in_years { IsInYears kind start }
-        ensures same { IfOk result (λ w. IsSameRuling (ruling w) (record { rule = rule.now; kind = kind; start = start; kept = [] })) }
-        ensures keeps { IfOk result (λ w. (sets : List (List ℕ)) → keeps w sets) };
+        ensures same { IfOk result
+            (λ w. IsSameRuling (ruling w) (ruling_of rule.now kind start [])) }
+        ensures keeps { IfOk result (λ w. KnowsEach (keeps w)) };
 
     /// The day of the start, in days since 1970-01-01.
     fn start_day(&self) -> i64
@@ -53,8 +55,10 @@ pub trait RuleWalk: Sized {
         ensures same { IsSameRuling (ruling self.new) (ruling self.old) }
         ensures knows { keeps self.new sets.new }
         ensures kept { Extends sets.old sets.new }
-        ensures found { IfOk result (IsFirstUpToIn sets.new (tree_of_ruling (ruling self.old)) from to) };
+        ensures found { IfOk result
+            (IsFirstUpToIn sets.new (tree_of_ruling (ruling self.old)) from to) };
 
     /// What it keeps of a table it keeps of one that goes on.
-    ghost more: { (s : Self) (old new : List (List ℕ)) → Extends old new → keeps s old → keeps s new };
+    ghost more: { (s : Self) (old new : List (List ℕ)) → Extends old new
+        → keeps s old → keeps s new };
 }

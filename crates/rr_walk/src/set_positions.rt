@@ -20,7 +20,8 @@ pub(crate) fn times_at_positions(
     requires place { place < count }
     requires count { count ≤ 366 }
     requires positions { CountUpTo 366 positions.now }
-    ensures { IfOk result (λ t. IsSetOf nat_lt t (IsAtSome times.now (place * length times.now) (count * length times.now) positions.now (length positions.now))) }
+    ensures { IfOk result (λ t. IsSetOf nat_lt t (IsAtSome times.now (place * length times.now)
+        (count * length times.now) positions.now (length positions.now))) }
 {
     let times = times.as_slice();
     let before = place * times.len();
@@ -77,7 +78,8 @@ fn seconds_at_places(
 ) -> Result<Seconds, NoMemory>
     requires room { before + length times.now ≤ size }
     requires places { CountUpTo 366 places.now }
-    ensures { IfOk result (λ t. IsSetOf nat_lt t (IsAtSome times.now before size places.now (length places.now))) }
+    ensures { IfOk result (λ t. IsSetOf nat_lt t
+        (IsAtSome times.now before size places.now (length places.now))) }
 {
     let mut seconds = Seconds::new(alloc);
     for place in places.as_slice() {

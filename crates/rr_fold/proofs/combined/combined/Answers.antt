@@ -3,8 +3,8 @@ use Rattle.rr_fold.specs.Combined.{AreFreeTo}
 use Rattle.rr_fold.proofs.CombinedLemmas.{all_combined, combined_none, free_later, none_free}
 use Rattle.rr_fold.proofs.combined.combined.Goals as goal
 
-pub loop-place-init : goal.loop-place-init
-loop-place-init c =
+pub loop-index-init : goal.loop-index-init
+loop-index-init c =
     let sets = c.in_ok-sets.sets in
     let none = combined_none c.args.op c.args.one.now.shapes c.args.one.now.numbers c.args.other.now.shapes c.args.other.now.numbers sets.known sets.shapes
     c.in_ok-sets.ensures.known c.in_ok-sets.ensures.shapes in
@@ -25,36 +25,36 @@ push_next-requires-clause-lists c = record {
 }
 
 pub push_next-requires-clause-free : goal.push_next-requires-clause-free
-push_next-requires-clause-free c = rw c.loop-place.invariant.1 at c.loop-place.invariant.3
+push_next-requires-clause-free c = rw c.loop-index.invariant.1 at c.loop-index.invariant.3
 
 pub push_next-requires-clause-within : goal.push_next-requires-clause-within
-push_next-requires-clause-within c = omega (arith, c.loop-place-test.true, c.loop-place.invariant.1, c.len-end.ensures.value)
+push_next-requires-clause-within c = omega (arith, c.loop-index-test.true, c.loop-index.invariant.1, c.len-end.ensures.value)
 
-pub loop-place-preserved : goal.loop-place-preserved
-loop-place-preserved c =
+pub loop-index-preserved : goal.loop-index-preserved
+loop-index-preserved c =
     let one = c.args.one.now.numbers in
     let other = c.args.other.now.numbers in
-    let old = c.loop-place.numbers in
-    let place : ℕ = c.len-place.result in
-    let later : length old ≤ place = omega (arith, c.len-place.ensures.value, c.in_ok-push_next.ensures.more) in
-    let high : place ≤ length one = omega (arith, c.len-place.ensures.value, c.in_ok-push_next.ensures.within) in
+    let old = c.loop-index.numbers in
+    let index : ℕ = c.len-index.result in
+    let later : length old ≤ index = omega (arith, c.len-index.ensures.value, c.in_ok-push_next.ensures.more) in
+    let high : index ≤ length one = omega (arith, c.len-index.ensures.value, c.in_ok-push_next.ensures.within) in
     let free = c.push_next.ensures.free in (
       c.in_ok-push_next.ensures.so_far,
-      c.len-place.ensures.value,
+      c.len-index.ensures.value,
       high,
       record {
-        one = free_later one (length old) place _ later high free.one;
-        other = free_later other (length old) place _ later (omega (arith, high, c.requires.long)) free.other;
+        one = free_later one (length old) index _ later high free.one;
+        other = free_later other (length old) index _ later (omega (arith, high, c.requires.long)) free.other;
       },
     )
 
-pub loop-place-smaller : goal.loop-place-smaller
-loop-place-smaller c =
-    omega (arith, c.len-place.ensures.value, c.in_ok-push_next.ensures.more, c.in_ok-push_next.ensures.within, c.loop-place.invariant.1)
+pub loop-index-smaller : goal.loop-index-smaller
+loop-index-smaller c =
+    omega (arith, c.len-index.ensures.value, c.in_ok-push_next.ensures.more, c.in_ok-push_next.ensures.within, c.loop-index.invariant.1)
 
 pub returns : goal.returns
 returns c =
-    let whole : length c.loop-place.numbers ≡ length c.args.one.now.numbers =
-    omega (arith, c.loop-place.invariant.1, c.loop-place.invariant.2, c.loop-place-test.false, c.len-end.ensures.value) in
+    let whole : length c.loop-index.numbers ≡ length c.args.one.now.numbers =
+    omega (arith, c.loop-index.invariant.1, c.loop-index.invariant.2, c.loop-index-test.false, c.len-end.ensures.value) in
     all_combined c.args.op c.args.one.now.shapes c.args.one.now.numbers c.args.other.now.shapes c.args.other.now.numbers
-    c.loop-place.sets.shapes c.loop-place.sets.known c.loop-place.numbers whole c.loop-place.invariant.0
+    c.loop-index.sets.shapes c.loop-index.sets.known c.loop-index.numbers whole c.loop-index.invariant.0

@@ -3,10 +3,10 @@ use Rattle.rr_fold.specs.Combined.{AreFreeTo, IsCombinedTo}
 use Rattle.rr_fold.proofs.combined.combined.Given as goal
 
 -- the numbers so far are those of combinations, and what is known to be free is so
-abbrev pub invariant-loop-place : goal.invariant-loop-place
-invariant-loop-place l =
+abbrev pub invariant-loop-index : goal.invariant-loop-index
+invariant-loop-index l =
     IsCombinedTo l.op l.one.shapes l.one.numbers l.other.shapes l.other.numbers l.sets.shapes l.sets.known l.numbers
-    × (l.place ≡ length l.numbers) × (l.place ≤ length l.one.numbers) × AreFreeTo l.one.numbers l.other.numbers l.place l.free
+    × (l.index ≡ length l.numbers) × (l.index ≤ length l.one.numbers) × AreFreeTo l.one.numbers l.other.numbers l.index l.free
 
-abbrev pub decreases-loop-place : goal.decreases-loop-place
-decreases-loop-place l = length l.one.numbers - l.place
+abbrev pub decreases-loop-index : goal.decreases-loop-index
+decreases-loop-index l = length l.one.numbers - l.index

@@ -3,4 +3,4 @@ use Rattle.rr_fold.proofs.CombinedLemmas.{free_found}
 use Rattle.rr_fold.proofs.combined.free_to.Goals as goal
 
 pub returns-clause-free : goal.returns-clause-free
-returns-clause-free c = free_found c.args.numbers.now c.args.place c.zeros_from.result _ refl c.zeros_from.ensures
+returns-clause-free c = free_found c.args.numbers.now c.args.index c.zeros_from.result _ refl c.zeros_from.ensures

@@ -17,8 +17,8 @@ new-lazy-requires c =
           (All-filter (λ t. int_le first (day_part kind t)) (IsInYears kind) c.args.dates.now c.requires.in_years);
     }
 
-pub collected-requires-clause-early : goal.collected-requires-clause-early
-collected-requires-clause-early c =
+pub days_of_lazy-requires-clause-early : goal.days_of_lazy-requires-clause-early
+days_of_lazy-requires-clause-early c =
     let kind = c.args.kind in
     let first : ℤ = to_z w64 (of_z w64 c.args.first) in
     let tree = c.new-lazy.ensures.tree ∙ ap (dates_of kind) c.in_ok-later.ensures in

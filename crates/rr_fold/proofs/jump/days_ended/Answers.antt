@@ -7,14 +7,14 @@ use Rattle.rr_days.proofs.BackLemmas.{day_back}
 use Rattle.rr_fold.proofs.ByRulesLemmas.{members_early}
 use Rattle.rr_fold.proofs.jump.days_ended.Goals as goal
 
-pub collected-requires-clause-low : goal.collected-requires-clause-low
-collected-requires-clause-low c =
+pub days_of_lazy-requires-clause-low : goal.days_of_lazy-requires-clause-low
+days_of_lazy-requires-clause-low c =
     let years = c.requires.sound.in_years in
     let day = day_back c.args.kind c.args.start c.day_part.result years c.day_part.ensures in
     omega (arith, ints, day, (four_digit_bounds (day_part c.args.kind c.args.start) years).0)
 
-pub collected-requires-clause-early : goal.collected-requires-clause-early
-collected-requires-clause-early c =
+pub days_of_lazy-requires-clause-early : goal.days_of_lazy-requires-clause-early
+days_of_lazy-requires-clause-early c =
     let day = day_back c.args.kind c.args.start c.day_part.result c.requires.sound.in_years c.day_part.ensures in
     let tree = c.in_ok-lazy.ensures.tree ∙ (λ i. members_of c.args.kind (to_z-of_z c.ranges.start i) c.args.rule.now) in
     rw (tree, day) (members_early c.args.kind c.args.start c.args.rule.now)
@@ -23,9 +23,9 @@ pub returns-clause-folded : goal.returns-clause-folded
 returns-clause-folded c =
     let day = day_back c.args.kind c.args.start c.day_part.result c.requires.sound.in_years c.day_part.ensures in
     let tree = c.in_ok-lazy.ensures.tree ∙ (λ i. members_of c.args.kind (to_z-of_z c.ranges.start i) c.args.rule.now) in
-    rw (tree, day, to_z-of_z c.ranges.end) at c.collected.ensures.folded
+    rw (tree, day, to_z-of_z c.ranges.end) at c.days_of_lazy.ensures.folded
 
 pub returns-clause-whole : goal.returns-clause-whole
 returns-clause-whole c =
     let day = day_back c.args.kind c.args.start c.day_part.result c.requires.sound.in_years c.day_part.ensures in
-    rw (day, to_z-of_z c.ranges.end) at c.collected.ensures.whole
+    rw (day, to_z-of_z c.ranges.end) at c.days_of_lazy.ensures.whole

@@ -8,13 +8,13 @@ use Rattle.rr_fold.specs.Folding.{HasNoneBefore}
 use Rattle.rr_days.proofs.BackLemmas.{day_back}
 use Rattle.rr_fold.proofs.rules.days_chosen.Goals as goal
 
-pub collected-requires-clause-low : goal.collected-requires-clause-low
-collected-requires-clause-low c =
+pub days_of_lazy-requires-clause-low : goal.days_of_lazy-requires-clause-low
+days_of_lazy-requires-clause-low c =
     let day = day_back c.args.kind c.args.start c.day_part.result c.requires.in_years c.day_part.ensures in
     omega (arith, ints, day, (four_digit_bounds (day_part c.args.kind c.args.start) c.requires.in_years).0)
 
-pub collected-requires-clause-early : goal.collected-requires-clause-early
-collected-requires-clause-early c =
+pub days_of_lazy-requires-clause-early : goal.days_of_lazy-requires-clause-early
+days_of_lazy-requires-clause-early c =
     let day = day_back c.args.kind c.args.start c.day_part.result c.requires.in_years c.day_part.ensures in
     let tree = c.in_ok-lazy.ensures.tree ∙ ap (chosen_of c.args.rule.now c.args.kind) (to_z-of_z c.ranges.start) in
     subst (λ t. HasNoneBefore t (to_z w64 (of_z w64 c.day_part.result))) (sym tree)
@@ -24,9 +24,9 @@ pub returns-clause-folded : goal.returns-clause-folded
 returns-clause-folded c =
     let day = day_back c.args.kind c.args.start c.day_part.result c.requires.in_years c.day_part.ensures in
     let tree = c.in_ok-lazy.ensures.tree ∙ ap (chosen_of c.args.rule.now c.args.kind) (to_z-of_z c.ranges.start) in
-    rw (tree, day, to_z-of_z c.ranges.end) at c.collected.ensures.folded
+    rw (tree, day, to_z-of_z c.ranges.end) at c.days_of_lazy.ensures.folded
 
 pub returns-clause-whole : goal.returns-clause-whole
 returns-clause-whole c =
     let day = day_back c.args.kind c.args.start c.day_part.result c.requires.in_years c.day_part.ensures in
-    rw (day, to_z-of_z c.ranges.end) at c.collected.ensures.whole
+    rw (day, to_z-of_z c.ranges.end) at c.days_of_lazy.ensures.whole

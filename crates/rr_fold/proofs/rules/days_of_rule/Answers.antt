@@ -4,7 +4,7 @@ use Rattle.rr_model.specs.Moment.{day_part}
 use Rattle.rr_model.specs.Series.Tree.{ended}
 use Rattle.rr_model.specs.Sets.Tree.{chosen_of}
 use Rattle.rr_fold.specs.Folding.{IsFoldedTo}
-use Rattle.rr_fold.specs.declared.fill.FoldedDays.{FoldedDays}
+use Rattle.rr_fold.specs.declared.folded_days.FoldedDays.{FoldedDays}
 use Rattle.rr_fold.proofs.rules.days_of_rule.Goals as goal
 
 pub returns-in-Never-clause-folded : goal.returns-in-Never-clause-folded

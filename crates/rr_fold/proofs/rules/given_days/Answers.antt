@@ -8,7 +8,7 @@ use Rattle.rr_fold.specs.Combined.{AreCombined}
 use Rattle.rr_fold.specs.Folding.{IsFoldedTo}
 use Rattle.rr_fold.specs.Rules.{dates_from, given_from, members_of_rules}
 use Rattle.rr_fold.specs.declared.combined.Op.TheVariants.{Union}
-use Rattle.rr_fold.specs.declared.fill.FoldedDays.{FoldedDays}
+use Rattle.rr_fold.specs.declared.folded_days.FoldedDays.{FoldedDays}
 use Rattle.rr_fold.proofs.ByRulesLemmas.{no_plus}
 use Rattle.rr_fold.proofs.CombinedFoldLemmas.{combined_folded, numbers_within}
 use Rattle.rr_fold.proofs.RulesFoldLemmas.{if_ok_map}

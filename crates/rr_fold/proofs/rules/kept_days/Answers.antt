@@ -6,7 +6,7 @@ use Rattle.rr_fold.specs.Combined.{AreCombined}
 use Rattle.rr_fold.specs.Folding.{IsFoldedTo}
 use Rattle.rr_fold.specs.Rules.{given_from, kept_from, members_of_rules}
 use Rattle.rr_fold.specs.declared.combined.Op.TheVariants.{Minus}
-use Rattle.rr_fold.specs.declared.fill.FoldedDays.{FoldedDays}
+use Rattle.rr_fold.specs.declared.folded_days.FoldedDays.{FoldedDays}
 use Rattle.rr_fold.proofs.ByRulesLemmas.{no_excluded}
 use Rattle.rr_fold.proofs.CombinedFoldLemmas.{combined_folded, numbers_within}
 use Rattle.rr_fold.proofs.RulesFoldLemmas.{if_ok_map, none_listed, some_listed}

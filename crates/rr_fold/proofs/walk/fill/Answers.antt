@@ -40,8 +40,8 @@ pub returns-in-None-clause-refused : goal.returns-in-None-clause-refused
 returns-in-None-clause-refused g c =
     not_too_many (g.L.Lazy.tree c.args.lazy.now) c.args.first (c.args.to +ℤ pos 1) c.days.shapes c.days.numbers (returns-in-None-clause-folded g c)
 
-pub days_between-place-requires-clause-order : goal.days_between-place-requires-clause-order
-days_between-place-requires-clause-order g c =
+pub days_between-index-requires-clause-order : goal.days_between-index-requires-clause-order
+days_between-index-requires-clause-order g c =
     let n = next_at c.next.new.sets (g.L.Lazy.tree c.days.lazy) (g.L.Lazy.position c.days.lazy) (to_z w64 (of_z w64 c.args.to))
     (g.L.Lazy.position c.next.new.self) c.in-Some.found (rw c.in-Some.is at c.in_ok-next.ensures.next) in
     let first : ℤ = to_z w64 (of_z w64 c.args.first) in
@@ -67,11 +67,11 @@ days-preserved g c =
     let order = not_early (g.L.Lazy.tree c.args.lazy.now) first (g.L.Lazy.position c.days.lazy) c.days.shapes c.days.numbers c.days.invariant.2
     c.in-Some.found.day (with_set c.next.new.sets c.in-Some.found).times found in
     let day = day_back first c.in-Some.found.day c.args.to (omega (arith, ints, f, c.requires.begun)) order (omega (arith, ints, n.1, t)) c.requires.high in
-    let at : c.in-Some.found.day ≡ to_z w64 (of_z w64 c.args.first) +ℤ pos c.days_between-place.result = sym day ∙ c.days_between-place.ensures in
+    let at : c.in-Some.found.day ≡ to_z w64 (of_z w64 c.args.first) +ℤ pos c.days_between-index.result = sym day ∙ c.days_between-index.ensures in
     let o = c.in-Ok.ensures in
     let r = found_on (g.L.Lazy.tree c.args.lazy.now) (g.L.Lazy.tree c.days.lazy) (to_z w64 (of_z w64 c.args.first)) (g.L.Lazy.position c.days.lazy)
     (to_z w64 (of_z w64 c.args.to)) (to_z w64 (of_z w64 c.args.to))
-    (g.L.Lazy.position c.next.new.self) c.in-Ok.number c.days_between-place.result c.days.shapes c.number_of.new.shapes c.days.numbers
+    (g.L.Lazy.position c.next.new.self) c.in-Ok.number c.days_between-index.result c.days.shapes c.number_of.new.shapes c.days.numbers
     c.put.new.numbers (with_set c.next.new.sets c.in-Some.found)
     c.days.invariant.2 n c.days.invariant.0 refl o.placed (o.room c.days.invariant.2.few) at c.in_ok-put-in-Ok.ensures in
     (c.in_ok-next.ensures.tree ∙ c.days.invariant.0, r.1, r.0, rw o.same c.in_ok-next.ensures.knows, o.known)

@@ -4,5 +4,5 @@ use Rattle.rr_fold.proofs.walk.fill_to.Goals as goal
 
 pub returns : goal.returns
 returns c =
-    filled_to c.args.numbers.now c.push_same.new.self c.args.place (c.args.place - c.len.result) c.requires (omega (arith, c.len.ensures.value))
+    filled_to c.args.numbers.now c.push_same.new.self c.args.index (c.args.index - c.len.result) c.requires (omega (arith, c.len.ensures.value))
     c.in_ok-push_same.ensures

@@ -1,12 +1,8 @@
-use Rattle.std.proofs.Common.{◌≡◌, ◌⊎◌, inl, inr, List, ℕ, ℤ, Option, Some, None, refl, sym, ◌∙◌, to_z-of_z}
-use Rattle.std.specs.Option.{ForSome}
+use Rattle.std.proofs.Common.{◌≡◌, inl, inr, List, ℕ, ℤ, Option, Some, None, refl, sym, ◌∙◌, to_z-of_z}
 use Rattle.rr_lazy.specs.declared.occupied_day.OccupiedDay.{OccupiedDay}
-use Rattle.rr_lazy.specs.Ahead.{GaveDay, seen}
+use Rattle.rr_lazy.specs.Ahead.{GaveDay, IsOfDay, seen}
 use Rattle.rr_lazy.proofs.AheadLemmas.{given_first}
 use Rattle.rr_lazy.proofs.ahead.on_day.Goals as goal
-
-abbrev IsOfDay : Option OccupiedDay → ℤ → Option OccupiedDay → Type 0
-IsOfDay ahead day result = ((result ≡ ahead) × ForSome ahead (λ f. f.day ≡ day)) ⊎ ((result ≡ None) × ForSome ahead (λ f. f.day ≡ day → ⊥))
 
 this_day : (ahead result : Option OccupiedDay) (day : ℤ) (found : OccupiedDay) → result ≡ Some found → IsOfDay ahead day result
     → (ahead ≡ Some found) × (found.day ≡ day)
@@ -21,11 +17,11 @@ other_day : (sets : List (List ℕ)) (ahead result : Option OccupiedDay) (day : 
 other_day sets None result day e w g = g
 other_day sets (Some f) result day e w g = elim w [ inl m ↦ absurd (cc) | inr m ↦ m.1 f refl g ]
 
-pub joined-requires-clause-a : goal.joined-requires-clause-a
-joined-requires-clause-a c = c.requires.a c.in-Some-Some.x (this_day c.args.a c.of_day.result _ c.in-Some-Some.x c.in-Some-Some.is-0 c.of_day.ensures).0
+pub union_of-requires-clause-a : goal.union_of-requires-clause-a
+union_of-requires-clause-a c = c.requires.a c.in-Some-Some.x (this_day c.args.a c.of_day.result _ c.in-Some-Some.x c.in-Some-Some.is-0 c.of_day.ensures).0
 
-pub joined-requires-clause-b : goal.joined-requires-clause-b
-joined-requires-clause-b c = c.requires.b c.in-Some-Some.y (this_day c.args.b c.of_day-2.result _ c.in-Some-Some.y c.in-Some-Some.is-1 c.of_day-2.ensures).0
+pub union_of-requires-clause-b : goal.union_of-requires-clause-b
+union_of-requires-clause-b c = c.requires.b c.in-Some-Some.y (this_day c.args.b c.of_day-2.result _ c.in-Some-Some.y c.in-Some-Some.is-1 c.of_day-2.ensures).0
 
 pub returns-in-Some-None-clause-given : goal.returns-in-Some-None-clause-given
 returns-in-Some-None-clause-given c =

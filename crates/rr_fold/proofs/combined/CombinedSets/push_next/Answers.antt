@@ -3,51 +3,51 @@ use Rattle.rr_fold.proofs.CombinedLemmas.{combined_on_free, fewer_free, longer_f
 use Rattle.rr_fold.proofs.combined.CombinedSets.push_next.Goals as goal
 
 pub free_from-now-requires-clause-one : goal.free_from-now-requires-clause-one
-free_from-now-requires-clause-one c = omega (arith, c.len-place.ensures.value, c.requires.within)
+free_from-now-requires-clause-one c = omega (arith, c.len-index.ensures.value, c.requires.within)
 
 pub free_from-now-requires-clause-other : goal.free_from-now-requires-clause-other
-free_from-now-requires-clause-other c = omega (arith, c.len-place.ensures.value, c.requires.within, c.requires.lists.long)
+free_from-now-requires-clause-other c = omega (arith, c.len-index.ensures.value, c.requires.within, c.requires.lists.long)
 
 pub returns-clause-so_far : goal.returns-clause-so_far
 returns-clause-so_far c =
     let one = c.args.one.now in
     let other = c.args.other.now in
-    let place : ℕ = c.len-place.result in
-    let count : ℕ = c.min.result - place in
+    let index : ℕ = c.len-index.result in
+    let count : ℕ = c.min.result - index in
     let now = c.free_from-now.result in
     let f = c.free_from-now.ensures.free in
-    let free = fewer_free one.numbers place (now.one - place) count (omega (arith, c.min.ensures)) f.one in
-    let other_free = fewer_free other.numbers place (now.other - place) count (omega (arith, c.min.ensures)) f.other in
-    combined_on_free c.args.op one.shapes one.numbers other.shapes other.numbers place count c.args.self.now.shapes
-    c.args.self.now.known c.args.numbers.now c.push_same.new.self c.requires.so_far (sym c.len-place.ensures.value) c.requires.lists free other_free
+    let free = fewer_free one.numbers index (now.one - index) count (omega (arith, c.min.ensures)) f.one in
+    let other_free = fewer_free other.numbers index (now.other - index) count (omega (arith, c.min.ensures)) f.other in
+    combined_on_free c.args.op one.shapes one.numbers other.shapes other.numbers index count c.args.self.now.shapes
+    c.args.self.now.known c.args.numbers.now c.push_same.new.self c.requires.so_far (sym c.len-index.ensures.value) c.requires.lists free other_free
     c.in_ok-push_same.ensures
 
 pub returns-clause-more : goal.returns-clause-more
 returns-clause-more c =
     let one = c.args.one.now in
     let other = c.args.other.now in
-    let place : ℕ = c.len-place.result in
-    let count : ℕ = c.min.result - place in
+    let index : ℕ = c.len-index.result in
+    let count : ℕ = c.min.result - index in
     let now = c.free_from-now.result in
     let f = c.free_from-now.ensures.free in
-    let free = fewer_free one.numbers place (now.one - place) count (omega (arith, c.min.ensures)) f.one in
-    let other_free = fewer_free other.numbers place (now.other - place) count (omega (arith, c.min.ensures)) f.other in
-    let longer = longer_free c.args.op one.shapes one.numbers other.shapes other.numbers place count c.args.self.now.shapes
-    c.args.self.now.known c.args.numbers.now c.push_same.new.self c.requires.so_far (sym c.len-place.ensures.value) c.requires.lists free other_free
+    let free = fewer_free one.numbers index (now.one - index) count (omega (arith, c.min.ensures)) f.one in
+    let other_free = fewer_free other.numbers index (now.other - index) count (omega (arith, c.min.ensures)) f.other in
+    let longer = longer_free c.args.op one.shapes one.numbers other.shapes other.numbers index count c.args.self.now.shapes
+    c.args.self.now.known c.args.numbers.now c.push_same.new.self c.requires.so_far (sym c.len-index.ensures.value) c.requires.lists free other_free
     c.in_ok-push_same.ensures in
-    omega (arith, longer, c.len-place.ensures.value, c.if-count-eq0.false)
+    omega (arith, longer, c.len-index.ensures.value, c.if-count-eq0.false)
 
 pub returns-clause-within : goal.returns-clause-within
 returns-clause-within c =
     let one = c.args.one.now in
     let other = c.args.other.now in
-    let place : ℕ = c.len-place.result in
-    let count : ℕ = c.min.result - place in
+    let index : ℕ = c.len-index.result in
+    let count : ℕ = c.min.result - index in
     let now = c.free_from-now.result in
     let f = c.free_from-now.ensures.free in
-    let free = fewer_free one.numbers place (now.one - place) count (omega (arith, c.min.ensures)) f.one in
-    let other_free = fewer_free other.numbers place (now.other - place) count (omega (arith, c.min.ensures)) f.other in
-    let longer = longer_free c.args.op one.shapes one.numbers other.shapes other.numbers place count c.args.self.now.shapes
-    c.args.self.now.known c.args.numbers.now c.push_same.new.self c.requires.so_far (sym c.len-place.ensures.value) c.requires.lists free other_free
+    let free = fewer_free one.numbers index (now.one - index) count (omega (arith, c.min.ensures)) f.one in
+    let other_free = fewer_free other.numbers index (now.other - index) count (omega (arith, c.min.ensures)) f.other in
+    let longer = longer_free c.args.op one.shapes one.numbers other.shapes other.numbers index count c.args.self.now.shapes
+    c.args.self.now.known c.args.numbers.now c.push_same.new.self c.requires.so_far (sym c.len-index.ensures.value) c.requires.lists free other_free
     c.in_ok-push_same.ensures in
     omega (arith, longer, free.within)

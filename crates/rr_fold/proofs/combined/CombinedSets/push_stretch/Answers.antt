@@ -6,17 +6,17 @@ use Rattle.rr_fold.proofs.combined.CombinedSets.push_stretch.Goals as goal
 use Rattle.rr_fold.proofs.combined.CombinedSets.push_stretch.Goals.{then-last-a+in-Ok, else-last-a+else-last-b}
 
 pub piece-ones-requires : goal.piece-ones-requires
-piece-ones-requires c = omega (arith, c.len-place.ensures.value, c.requires.within)
+piece-ones-requires c = omega (arith, c.len-index.ensures.value, c.requires.within)
 
 pub piece-others-requires : goal.piece-others-requires
-piece-others-requires c = omega (arith, c.len-place.ensures.value, c.requires.within, c.requires.lists.long)
+piece-others-requires c = omega (arith, c.len-index.ensures.value, c.requires.within, c.requires.lists.long)
 
 pub loop-k-init : goal.loop-k-init
 loop-k-init c =
     let lists = c.requires.lists in (
       c.requires.so_far,
       none_combined c.args.op c.args.one.now.shapes c.args.other.now.shapes c.args.self.now.shapes lists.one_empty lists.other_empty c.requires.so_far.shapes,
-      omega (arith, c.len-place.ensures.value),
+      omega (arith, c.len-index.ensures.value),
     )
 
 pub loop-k-preserved : goal.loop-k-preserved
@@ -24,7 +24,7 @@ loop-k-preserved c =
     let one = c.args.one.now in
     let other = c.args.other.now in
     let k = c.loop-k.k in
-    let n : ℕ = c.len-place.result + k in
+    let n : ℕ = c.len-index.result + k in
     let old = c.loop-k.numbers in
     let new = c.push.new.self in
     let so_far = c.loop-k.invariant.0 in

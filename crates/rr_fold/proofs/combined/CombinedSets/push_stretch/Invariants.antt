@@ -7,4 +7,4 @@ abbrev pub invariant-loop-k : goal.invariant-loop-k
 invariant-loop-k l =
     IsCombinedTo l.op l.one.shapes l.one.numbers l.other.shapes l.other.numbers l.self.shapes l.self.known l.numbers
     × IsCombinationOf l.op l.one.shapes l.other.shapes l.self.shapes l.last.a l.last.b l.last.number
-    × (length l.numbers ≡ l.place + l.k)
+    × (length l.numbers ≡ l.index + l.k)

@@ -16,34 +16,34 @@ pub push_again-requires : goal.push_again-requires
 push_again-requires c =
     let y = c.requires.year in
     let period = c.args.self.now.period in
-    let slot = slot_is c.args.rule.now period c.args.first c.args.year c.len-place.result c.slot_of-slot.result
-    (omega (arith, ints, c.requires.walked.whole, c.len-place.ensures.value)) (rw (to_z-of_z c.ranges.year) at c.slot_of-slot.ensures.value) in
+    let slot = slot_is c.args.rule.now period c.args.first c.args.year c.len-index.result c.slot_of-slot.result
+    (omega (arith, ints, c.requires.walked.whole, c.len-index.ensures.value)) (rw (to_z-of_z c.ranges.year) at c.slot_of-slot.ensures.value) in
     let days : ℕ = length c.args.walk.now.days.numbers in
     let kept = kept_read c.args.rule.now period c.args.first c.args.year days c.slot_of-slot.result c.in-Some.from c.args.self.now.places.items c.index.result.now
     c.requires.kept c.slot_of-slot.ensures.below slot c.index.ensures c.in-Some.is in
-    let place : c.len-place.result ≡ days = c.len-place.ensures.value in
+    let index : c.len-index.result ≡ days = c.len-index.ensures.value in
     let to : c.args.to ≡ c.args.first +ℤ pos c.days_between.result =
     sym (to_z-of_z c.ranges.to) ∙ c.days_between.ensures ∙ ap (λ z. z +ℤ pos c.days_between.result) (to_z-of_z c.ranges.first) in
-    kept_within c.args.rule.now period c.args.first c.args.year days c.in-Some.from (c.days_between.result - c.len-place.result) kept
-    (omega (arith, ints, place, to, y.within, first_day_of_year-next c.args.year, c.requires.walked.whole))
+    kept_within c.args.rule.now period c.args.first c.args.year days c.in-Some.from (c.days_between.result - c.len-index.result) kept
+    (omega (arith, ints, index, to, y.within, first_day_of_year-next c.args.year, c.requires.walked.whole))
 
 pub returns-in-Some-clause-walked : goal.returns-in-Some-clause-walked
 returns-in-Some-clause-walked c =
     let y = c.requires.year in
     let w = c.requires.walked in
     let period = c.args.self.now.period in
-    let slot = slot_is c.args.rule.now period c.args.first c.args.year c.len-place.result c.slot_of-slot.result
-    (omega (arith, ints, c.requires.walked.whole, c.len-place.ensures.value)) (rw (to_z-of_z c.ranges.year) at c.slot_of-slot.ensures.value) in
+    let slot = slot_is c.args.rule.now period c.args.first c.args.year c.len-index.result c.slot_of-slot.result
+    (omega (arith, ints, c.requires.walked.whole, c.len-index.ensures.value)) (rw (to_z-of_z c.ranges.year) at c.slot_of-slot.ensures.value) in
     let days : ℕ = length c.args.walk.now.days.numbers in
     let kept = kept_read c.args.rule.now period c.args.first c.args.year days c.slot_of-slot.result c.in-Some.from c.args.self.now.places.items c.index.result.now
     c.requires.kept c.slot_of-slot.ensures.below slot c.index.ensures c.in-Some.is in
-    let place : c.len-place.result ≡ days = c.len-place.ensures.value in
+    let index : c.len-index.result ≡ days = c.len-index.ensures.value in
     let to : c.args.to ≡ c.args.first +ℤ pos c.days_between.result =
     sym (to_z-of_z c.ranges.to) ∙ c.days_between.ensures ∙ ap (λ z. z +ℤ pos c.days_between.result) (to_z-of_z c.ranges.first) in
-    let count : ℕ = c.days_between.result - c.len-place.result in
-    let few : count ≤ days_in_year c.args.year = omega (arith, ints, place, to, y.within, first_day_of_year-next c.args.year, w.whole) in
+    let count : ℕ = c.days_between.result - c.len-index.result in
+    let few : count ≤ days_in_year c.args.year = omega (arith, ints, index, to, y.within, first_day_of_year-next c.args.year, w.whole) in
     let tree = tree_of_rule c.args.lazy.now in
-    let end : first_day_of_year c.args.year +ℤ pos count ≡ c.args.to = omega (arith, ints, place, to, y.begun, w.whole) in
+    let end : first_day_of_year c.args.year +ℤ pos count ≡ c.args.to = omega (arith, ints, index, to, y.begun, w.whole) in
     let room = kept_within c.args.rule.now period c.args.first c.args.year days c.in-Some.from count kept few in
     let copied = copied_again c.args.walk.now.days.numbers c.push_again.new.self c.in-Some.from count room c.in_ok-push_again.ensures in
     let folded = folded_copied tree c.args.first (first_day_of_year c.args.year) c.args.walk.now.days.shapes
@@ -67,14 +67,14 @@ returns-clause-kept c = λ over.
     let y = c.requires.year in
     let w = c.requires.walked in
     let period = c.args.self.now.period in
-    let slot = slot_is c.args.rule.now period c.args.first c.args.year c.len-place.result c.slot_of-slot.result
-    (omega (arith, ints, c.requires.walked.whole, c.len-place.ensures.value)) (rw (to_z-of_z c.ranges.year) at c.slot_of-slot.ensures.value) in
+    let slot = slot_is c.args.rule.now period c.args.first c.args.year c.len-index.result c.slot_of-slot.result
+    (omega (arith, ints, c.requires.walked.whole, c.len-index.ensures.value)) (rw (to_z-of_z c.ranges.year) at c.slot_of-slot.ensures.value) in
     let days : ℕ = length c.args.walk.now.days.numbers in
     let new : ℕ = length c.walk_to.new.self.days.numbers in
-    let place : c.len-place.result ≡ days = c.len-place.ensures.value in
+    let index : c.len-index.result ≡ days = c.len-index.ensures.value in
     let to : c.args.to ≡ c.args.first +ℤ pos new =
     sym (to_z-of_z c.ranges.to) ∙ c.in_ok-walk_to.ensures.whole ∙ ap (λ z. z +ℤ pos new) (to_z-of_z c.ranges.first) in
-    rw (slot, place)
+    rw (slot, index)
     (one_kept c.args.rule.now period c.args.first c.args.year days new days c.args.self.now.places.items (omega (arith, ints, to, w.whole, y.begun)) c.requires.kept
     (omega (arith, sym slot, c.slot_of-slot.ensures.below)) y.after w.whole
     (omega (arith, ints, to, over, w.whole, first_day_of_year-next c.args.year)))

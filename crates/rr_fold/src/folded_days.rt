@@ -1,0 +1,98 @@
+// The days of a series, folded into numbers of time sets.
+ghost use Rattle.std.specs.Prelude.{◌≡◌, ◌+◌, ◌≤◌, IfOk, List, ℕ, length, pos, neg_ℤ, ◌≤ℤ◌, ◌<ℤ◌, ◌+ℤ◌};
+ghost use Rattle.rr_model.specs.Bounds.{first_day_of_all};
+ghost use Rattle.rr_model.specs.Series.Tree.{tree_of};
+ghost use Rattle.rr_lazy.specs.Next.{IsUnasked};
+ghost use Rattle.rr_fold.specs.Folding.{AreDaysOf, HasNoneBefore, RefusesTooMany};
+
+use crate::rules::{days_by_rules, goes_by_rules};
+use crate::walk::Walk;
+use rr_check::Checked;
+use rr_iter::occurrences;
+use rr_lazy::Lazy;
+use rr_model::Fault;
+use rr_runs::Pages;
+use rr_shapes::Shapes;
+use std::alloc::Global;
+
+/// Days in a row from a first one on, each as the number of its time set; the empty set has number 0.
+#[derive(Drop)]
+pub struct FoldedDays {
+    /// The number of each day.
+    pub numbers: Pages,
+    /// The sets of these numbers.
+    pub shapes: Shapes,
+}
+
+/// The days of a series from one on and below another, where no day before the first is occupied: rule by rule where that pays,
+/// and day by day else, or where a rule, or some of them together, ask for too much.
+pub fn folded_days(
+    alloc: Global,
+    series: &Checked,
+    first: i64,
+    end: i64,
+) -> Result<FoldedDays, Fault>
+    requires low { first_day_of_all ≤ℤ first }
+    requires order { first <ℤ end }
+    requires high { end ≤ℤ pos 40_000_000 }
+    requires early { HasNoneBefore (tree_of series.now) first }
+    ensures folded { IfOk result (AreDaysOf (tree_of series.now) first end) }
+    ensures whole { IfOk result (λ days. end ≡ first +ℤ pos (length days.numbers)) }
+    ensures refused { RefusesTooMany (tree_of series.now) end result }
+{
+    if goes_by_rules(series.series(), first, end) {
+        if let Ok(days) = days_by_rules(alloc, series, first, end) {
+            return Ok(days);
+        }
+    }
+    days_by_walk(alloc, series, first, end)
+}
+
+// The days, each walked.
+fn days_by_walk(alloc: Global, series: &Checked, first: i64, end: i64) -> Result<FoldedDays, Fault>
+    requires low { first_day_of_all ≤ℤ first }
+    requires order { first <ℤ end }
+    requires high { end ≤ℤ pos 40_000_000 }
+    requires early { HasNoneBefore (tree_of series.now) first }
+    ensures folded { IfOk result (AreDaysOf (tree_of series.now) first end) }
+    ensures whole { IfOk result (λ days. end ≡ first +ℤ pos (length days.numbers)) }
+    ensures refused { RefusesTooMany (tree_of series.now) end result }
+{
+    let lazy = occurrences(alloc, series)?;
+    days_of_lazy(alloc, lazy, first, end)
+}
+
+// The days of an iterator that was not asked yet, from one on and below another.
+pub(crate) fn days_of_lazy<L: Lazy + Drop>(
+    alloc: Global,
+    lazy: L,
+    first: i64,
+    end: i64,
+) -> Result<FoldedDays, Fault>
+    requires low { first_day_of_all ≤ℤ first }
+    requires order { first <ℤ end }
+    requires high { end ≤ℤ pos 40_000_000 }
+    requires unasked { IsUnasked (L.position lazy) }
+    requires knows { (sets : List (List ℕ)) → L.knows lazy sets }
+    requires early { HasNoneBefore (L.tree lazy) first }
+    ensures folded { IfOk result (AreDaysOf (L.tree lazy) first end) }
+    ensures whole { IfOk result (λ days. end ≡ first +ℤ pos (length days.numbers)) }
+    ensures refused { RefusesTooMany (L.tree lazy) end result }
+{
+    let mut lazy = lazy;
+    let mut walk = Walk::new(alloc, days_between(first, end))?;
+    match walk.walk_to(alloc, &mut lazy, first, end) {
+        Ok(()) => Ok(walk.days),
+        Err(fault) => Err(fault),
+    }
+}
+
+// How many days lie from one day to another.
+pub(crate) fn days_between(first: i64, day: i64) -> usize
+    requires order { first ≤ℤ day }
+    requires first { neg_ℤ (pos 3_000_000_000_000) ≤ℤ first }
+    requires day { day ≤ℤ pos 3_000_000_000_000 }
+    ensures { day ≡ first +ℤ pos result }
+{
+    (day - first) as usize
+}
