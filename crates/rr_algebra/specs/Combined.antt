@@ -1,9 +1,11 @@
 -- Unions, common parts and differences of sets of occurrences.
-use Rattle.std.specs.Prelude.{◌≡◌, ◌≢◌, ◌⊎◌, ℕ, ◌<◌, if◌then◌else◌, List, [], All, AllPairs, Contains, nat_lt, ⊤, Result, Ok, Err, ℤ}
+use Rattle.std.specs.Prelude.{◌≡◌, ◌≢◌, ◌⊎◌, ℕ, ◌<◌, if◌then◌else◌, List, [], All, AllPairs, Contains, nat_lt, ⊤, Result, Ok, Err, ℤ, pos, ◌+ℤ◌, ◌≤ℤ◌}
+use Rattle.rr_model.specs.Bounds.{latest_near}
 use Rattle.rr_model.specs.Moment.{Occurrences, is_same_kind}
 use Rattle.rr_model.specs.Rising.Sets.{IsSetOf}
 use Rattle.rr_model.specs.Sets.Sizes.{total_size}
-use Rattle.rr_model.specs.Sets.Sketch.{IsEmptySketch, times_on}
+use Rattle.rr_model.specs.Sets.Sketch.{IsEmptySketch, StandsFor, StandsIn, times_on}
+use Rattle.rr_model.specs.Whole.Divisors.{lcm}
 use Rattle.rr_model.specs.declared.limits.TheConstants.{MAX_SECONDS}
 use Rattle.rr_model.specs.declared.refusal.Fault.{Fault}
 use Rattle.rr_model.specs.declared.refusal.Fault.TheVariants.{Refused, NoMemory}
@@ -23,6 +25,14 @@ HoldsFor Minus P Q = P × (Q → ⊥)
 -- an occurrence is in the union, the common part or the difference of two sets
 abbrev pub combined : Op → Occurrences → Occurrences → Occurrences
 combined op P Q k t = HoldsFor op (P k t) (Q k t)
+
+-- exactly the occurrences of the union, the common part or the difference of two sets stand in the third
+abbrev pub StandsForBoth : Op → Sketch → Sketch → Sketch → Type 0
+StandsForBoth op s u c = StandsFor c (combined op (StandsIn s) (StandsIn u))
+
+-- one common period of both sets from this day on ends no later than the latest day of a day sequence
+abbrev pub EndsNear : Sketch → Sketch → ℤ → Type 0
+EndsNear s u day = (day +ℤ pos (lcm s.period u.period)) ≤ℤ latest_near
 
 -- ---- when there is none
 

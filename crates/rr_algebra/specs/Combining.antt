@@ -1,6 +1,7 @@
 -- The days of two sequences together, by the numbers of their time sets.
 use Rattle.std.specs.Prelude.{◌≡◌, ◌≢◌, ◌⊎◌, ℕ, ◌<◌, ◌≤◌, List, [], ◌∷◌, All, AllPairs, Contains, get_or, length, nat_lt, ⊤, Result, Ok, Err, ℤ, pos, ◌+ℤ◌, ◌≤ℤ◌, ◌<ℤ◌}
 use Rattle.std.specs.Int.{◌∣◌}
+use Rattle.rr_model.specs.Answers.{RefusedExactlyWhere}
 use Rattle.rr_model.specs.Rising.Sets.{IsSetOf}
 use Rattle.rr_model.specs.Sets.Sketch.{IsTimeSet, times_on}
 use Rattle.rr_model.specs.Sets.Sizes.{total_size}
@@ -14,6 +15,7 @@ use Rattle.rr_shapes.specs.Numbering.{IsNumbering}
 use Rattle.rr_shapes.specs.Placing.{IsTooMany}
 use Rattle.rr_shapes.specs.declared.unions.Pair.{Pair}
 use Rattle.rr_algebra.specs.Combined.{HoldsFor}
+use Rattle.rr_algebra.specs.declared.combining.CombinedSets.{CombinedSets}
 use Rattle.rr_algebra.specs.declared.op.Op.{Op}
 
 -- ---- the set of a day
@@ -36,6 +38,14 @@ abbrev pub AreKnown : Op → List (List ℕ) → List (List ℕ) → List (List 
 AreKnown op one other sets known =
     All (λ k. (k.1 ≤ 4_294_967_295) × IsNumberOf op (get_or one k.0.a []) (get_or other k.0.b []) sets k.1) known
 
+-- of each pair of numbers that is known here the set is made of those of both numbers
+abbrev pub KnowsPairs : Op → List (List ℕ) → List (List ℕ) → CombinedSets → Type 0
+KnowsPairs op one other sets = AreKnown op (table one) (table other) sets.shapes sets.known
+
+-- the set of this number is made of those of both sequences on a day
+abbrev pub IsNumberOfDay : Op → Sketch → Sketch → ℤ → List (List ℕ) → ℕ → Type 0
+IsNumberOfDay op s u day sets number = IsNumberOf op (times_on s day) (times_on u day) sets number
+
 -- a day has no seconds, or those of a day of this kind
 abbrev pub IsDaySet : Kind → List ℕ → Type 0
 IsDaySet kind times = (times ≡ []) ⊎ IsTimeSet kind times
@@ -49,7 +59,7 @@ pub record AreDaySets (kind : Kind) (sets : List (List ℕ)) : Type 0 where
 -- each number is that of its day, from the first one on
 abbrev pub AreDayNumbers : Op → Sketch → Sketch → ℤ → List (List ℕ) → List ℕ → Type 0
 AreDayNumbers op s u begin sets numbers =
-    (k : ℕ) → k < length numbers → IsNumberOf op (times_on s (begin +ℤ pos k)) (times_on u (begin +ℤ pos k)) sets (get_or numbers k 0)
+    (k : ℕ) → k < length numbers → IsNumberOfDay op s u (begin +ℤ pos k) sets (get_or numbers k 0)
 
 -- ---- all days
 
@@ -93,8 +103,16 @@ pub record IsOneTooMany (op : Op) (xs ys : List ℕ) (sets : List (List ℕ)) : 
   pub many : IsTooMany times sets
   pub numbering : IsNumbering sets
 
+-- beside these distinct sets the one that is made of both sequences on a day would be too many
+abbrev pub IsDayTooMany : Op → Sketch → Sketch → ℤ → List (List ℕ) → Type 0
+IsDayTooMany op s u day sets = IsOneTooMany op (times_on s day) (times_on u day) sets
+
 -- too many moments are refused only where this holds
 abbrev pub RefusedOnlyWhere : {X : Type 0} → Type 0 → Result X Fault → Type 0
 RefusedOnlyWhere P (Ok x) = ⊤
 RefusedOnlyWhere P (Err (Refused refusal)) = (refusal ≡ TooManyMoments) × P
 RefusedOnlyWhere P (Err NoMemory) = ⊤
+
+-- too many moments are refused exactly where the distinct sets of the days have more
+abbrev pub RefusedWhereTooMany : {X : Type 0} → Op → Sketch → Sketch → Result X Fault → Type 0
+RefusedWhereTooMany op s u result = RefusedExactlyWhere (HasTooManyMade op s u) TooManyMoments result

@@ -9,7 +9,7 @@ use Rattle.rr_model.specs.declared.refusal.Refusal.TheVariants.{NotCanonical}
 use Rattle.rr_algebra.specs.Found.{run_in}
 use Rattle.rr_algebra.specs.declared.runs.Run.{Run as RunRead}
 
--- the numbers of further steps, where `days` days have a number and the last occupied one has the place `last`
+-- the numbers of further steps, where `days` days have a number and the last occupied one has the index `last`
 abbrev pub dense : ℕ → ℕ → List Step → List ℕ
 dense days last [] = []
 dense days last (step ∷ steps) =
@@ -29,10 +29,10 @@ AreSteps end sets days last (step ∷ steps) =
 abbrev pub steps_in : RunRead → List Step
 steps_in run = replicate run.count (record { gap = run.gap; set = run.set })
 
--- the steps were put, and the last one has this place, whatever follows
-pub record IsPutBy (end sets : ℕ) (old : List ℕ) (last : ℕ) (steps : List Step) (new : List ℕ) (place : ℕ) : Type 0 where
-  pub same : (rest : List Step) → new ++ dense (length new) place rest ≡ old ++ dense (length old) last (steps ++ rest)
-  pub fits : (rest : List Step) → AreSteps end sets (length new) place rest ↔ AreSteps end sets (length old) last (steps ++ rest)
+-- the steps were put, and the last one has this index, whatever follows
+pub record IsPutBy (end sets : ℕ) (old : List ℕ) (last : ℕ) (steps : List Step) (new : List ℕ) (index : ℕ) : Type 0 where
+  pub same : (rest : List Step) → new ++ dense (length new) index rest ≡ old ++ dense (length old) last (steps ++ rest)
+  pub fits : (rest : List Step) → AreSteps end sets (length new) index rest ↔ AreSteps end sets (length old) last (steps ++ rest)
 
 -- it is refused only where these steps do not fit, whatever follows
 abbrev pub RefusedWhereNone : {X : Type 0} → ℕ → ℕ → ℕ → ℕ → List Step → Result X Fault → Type 0

@@ -2,16 +2,15 @@
 ghost use Rattle.std.specs.Prelude.{◌≡◌, ◌≢◌, ◌↔◌, ◌⊎◌, ◌≤◌, ◌<◌, ◌++◌, ◌+ℤ◌, ◌≤ℤ◌, ◌∷◌, [], IfOk, IfSome, IsTrue, OnOk, ℤ, get_or, length, neg_ℤ, pos};
 ghost use Rattle.rr_model.specs.Bounds.{earliest_near, latest_near, longest_period};
 ghost use Rattle.rr_model.specs.Rising.Sets.{IsSecondsOfDay};
-ghost use Rattle.rr_model.specs.Answers.{RefusedExactlyWhere};
 ghost use Rattle.rr_model.specs.Sets.Sizes.{total_size};
 ghost use Rattle.rr_model.specs.declared.limits.TheConstants.{MAX_SECONDS};
 ghost use Rattle.rr_model.specs.declared.refusal.Refusal.TheVariants.{MixedSets, TooManyMoments};
-ghost use Rattle.rr_model.specs.Sets.Sketch.{IsNearDay, StandsFor, StandsIn, times_on};
+ghost use Rattle.rr_model.specs.Sets.Sketch.{IsNearDay, times_on};
 ghost use Rattle.rr_model.specs.Whole.Divisors.{lcm};
 ghost use Rattle.rr_shapes.specs.Tables.{Extends};
 ghost use Rattle.rr_days.specs.Sequence.{sketch};
-ghost use Rattle.rr_algebra.specs.Combined.{IsCombinedJudged, combined};
-ghost use Rattle.rr_algebra.specs.Combining.{AreDayNumbers, AreDaySets, AreKnown, AreMadeOnDays, AreTogether, HasDaysOf, HasTooManyMade, IsDaySet, IsMadeOf, IsNumberOf, IsOneTooMany, RefusedOnlyWhere, table};
+ghost use Rattle.rr_algebra.specs.Combined.{EndsNear, IsCombinedJudged, StandsForBoth};
+ghost use Rattle.rr_algebra.specs.Combining.{AreDayNumbers, AreDaySets, AreMadeOnDays, AreTogether, HasDaysOf, HasTooManyMade, IsDaySet, IsDayTooMany, IsMadeOf, IsNumberOfDay, KnowsPairs, RefusedOnlyWhere, RefusedWhereTooMany, table};
 
 use crate::known_pairs::KnownPairs;
 use crate::op::Op;
@@ -94,18 +93,22 @@ impl CombinedSets {
         requires low { earliest_near ≤ℤ day }
         requires high { day ≤ℤ latest_near }
         requires sets { AreDaySets kind self.old.shapes }
-        requires known { AreKnown op (table (A.sets one.now)) (table (B.sets other.now)) self.old.shapes self.old.known }
+        requires known { KnowsPairs op (A.sets one.now) (B.sets other.now) self.old }
         requires made { AreMadeOnDays op (A.sketch one.now) (B.sketch other.now) self.old.shapes }
         requires room { total_size self.old.shapes ≤ MAX_SECONDS }
         requires first { IsDaySet kind (times_on (A.sketch one.now) day) }
         requires second { IsDaySet kind (times_on (B.sketch other.now) day) }
         ensures sets { IfOk result (λ n. AreDaySets kind self.new.shapes) }
-        ensures known { IfOk result (λ n. AreKnown op (table (A.sets one.now)) (table (B.sets other.now)) self.new.shapes self.new.known) }
-        ensures made { IfOk result (λ n. AreMadeOnDays op (A.sketch one.now) (B.sketch other.now) self.new.shapes) }
+        ensures known { IfOk result
+            (λ n. KnowsPairs op (A.sets one.now) (B.sets other.now) self.new) }
+        ensures made { IfOk result
+            (λ n. AreMadeOnDays op (A.sketch one.now) (B.sketch other.now) self.new.shapes) }
         ensures room { IfOk result (λ n. total_size self.new.shapes ≤ MAX_SECONDS) }
         ensures grown { IfOk result (λ n. Extends self.old.shapes self.new.shapes) }
-        ensures number { IfOk result (IsNumberOf op (times_on (A.sketch one.now) day) (times_on (B.sketch other.now) day) self.new.shapes) }
-        ensures refused { RefusedOnlyWhere (IsOneTooMany op (times_on (A.sketch one.now) day) (times_on (B.sketch other.now) day) self.old.shapes) result }
+        ensures number { IfOk result
+            (IsNumberOfDay op (A.sketch one.now) (B.sketch other.now) day self.new.shapes) }
+        ensures refused { RefusedOnlyWhere
+            (IsDayTooMany op (A.sketch one.now) (B.sketch other.now) day self.old.shapes) result }
     {
         let pair = Pair {
             a: number_on(one, day),
@@ -148,9 +151,11 @@ fn numbers_of_days<A: DaySeq, B: DaySeq>(
     requires second { (d : ℤ) → IsDaySet kind (times_on (B.sketch other.now) d) }
     ensures whole { IfOk result (λ c. length c.numbers.items ≡ days) }
     ensures sets { IfOk result (λ c. AreDaySets kind c.shapes) }
-    ensures numbers { IfOk result (λ c. AreDayNumbers op (A.sketch one.now) (B.sketch other.now) begin c.shapes c.numbers.items) }
+    ensures numbers { IfOk result (λ c. AreDayNumbers op (A.sketch one.now) (B.sketch other.now)
+        begin c.shapes c.numbers.items) }
     ensures room { IfOk result (λ c. total_size c.shapes ≤ MAX_SECONDS) }
-    ensures refused { RefusedOnlyWhere (HasTooManyMade op (A.sketch one.now) (B.sketch other.now)) result }
+    ensures refused { RefusedOnlyWhere
+        (HasTooManyMade op (A.sketch one.now) (B.sketch other.now)) result }
 {
     let mut sets = CombinedSets::new(alloc)?;
     let mut numbers = Vec::new(alloc);
@@ -204,8 +209,9 @@ fn combined_days<A: DaySeq, B: DaySeq>(
     requires first { (d : ℤ) → IsDaySet kind (times_on (A.sketch one.now) d) }
     requires second { (d : ℤ) → IsDaySet kind (times_on (B.sketch other.now) d) }
     ensures kind { IfOk result (λ f. (sketch f).kind ≡ kind) }
-    ensures days { IfOk result (λ f. HasDaysOf op (A.sketch one.now) (B.sketch other.now) (sketch f)) }
-    ensures refused { RefusedExactlyWhere (HasTooManyMade op (A.sketch one.now) (B.sketch other.now)) TooManyMoments result }
+    ensures days { IfOk result
+        (λ f. HasDaysOf op (A.sketch one.now) (B.sketch other.now) (sketch f)) }
+    ensures refused { RefusedWhereTooMany op (A.sketch one.now) (B.sketch other.now) result }
 {
     let days = days_until(begin, settled) + period;
     match numbers_of_days(alloc, op, kind, one, other, begin, days) {
@@ -260,13 +266,16 @@ fn sequence_of_both<A: DaySeq, B: DaySeq>(
     other: &B,
 ) -> Result<Folded, Fault>
     requires cycle { lcm (A.sketch one.now).period (B.sketch other.now).period ≤ MAX_CYCLE_DAYS }
-    requires one_near { ((A.sketch one.now).settled +ℤ pos (lcm (A.sketch one.now).period (B.sketch other.now).period)) ≤ℤ latest_near }
-    requires other_near { ((B.sketch other.now).settled +ℤ pos (lcm (A.sketch one.now).period (B.sketch other.now).period)) ≤ℤ latest_near }
+    requires one_near { EndsNear (A.sketch one.now) (B.sketch other.now)
+        (A.sketch one.now).settled }
+    requires other_near { EndsNear (A.sketch one.now) (B.sketch other.now)
+        (B.sketch other.now).settled }
     requires first { (d : ℤ) → IsDaySet kind (times_on (A.sketch one.now) d) }
     requires second { (d : ℤ) → IsDaySet kind (times_on (B.sketch other.now) d) }
     ensures kind { IfOk result (λ f. (sketch f).kind ≡ kind) }
-    ensures days { IfOk result (λ f. HasDaysOf op (A.sketch one.now) (B.sketch other.now) (sketch f)) }
-    ensures refused { RefusedExactlyWhere (HasTooManyMade op (A.sketch one.now) (B.sketch other.now)) TooManyMoments result }
+    ensures days { IfOk result
+        (λ f. HasDaysOf op (A.sketch one.now) (B.sketch other.now) (sketch f)) }
+    ensures refused { RefusedWhereTooMany op (A.sketch one.now) (B.sketch other.now) result }
 {
     let settled = later_day(one.settled(), other.settled());
     let begin = earlier_day(one.first(), earlier_day(other.first(), settled));
@@ -288,8 +297,9 @@ fn is_one_kind(kind: Kind, other: Kind) -> bool
 fn with_itself<A: DaySeq>(alloc: Global, op: Op, one: &A) -> Result<Folded, Fault>
     requires cycle { (A.sketch one.now).period ≤ MAX_CYCLE_DAYS }
     requires near { ((A.sketch one.now).settled +ℤ pos (A.sketch one.now).period) ≤ℤ latest_near }
-    ensures stands { IfOk result (λ c. StandsFor (sketch c) (combined op (StandsIn (A.sketch one.now)) (StandsIn (A.sketch one.now)))) }
-    ensures refused { RefusedExactlyWhere (HasTooManyMade op (A.sketch one.now) (A.sketch one.now)) TooManyMoments result }
+    ensures stands { IfOk result
+        (λ c. StandsForBoth op (A.sketch one.now) (A.sketch one.now) (sketch c)) }
+    ensures refused { RefusedWhereTooMany op (A.sketch one.now) (A.sketch one.now) result }
 {
     sequence_of_both(alloc, op, one.kind(), one, one)
 }
@@ -300,9 +310,12 @@ fn union_apart<A: DaySeq, B: DaySeq>(alloc: Global, one: &A, other: &B) -> Resul
     requires cycle { (A.sketch one.now).period ≤ MAX_CYCLE_DAYS }
     requires near { ((A.sketch one.now).settled +ℤ pos (A.sketch one.now).period) ≤ℤ latest_near }
     requires other_cycle { (B.sketch other.now).period ≤ MAX_CYCLE_DAYS }
-    requires other_near { ((B.sketch other.now).settled +ℤ pos (B.sketch other.now).period) ≤ℤ latest_near }
-    ensures stands { IfOk result (λ c. StandsFor (sketch c) (combined Op.Union (StandsIn (A.sketch one.now)) (StandsIn (B.sketch other.now)))) }
-    ensures judged { IsCombinedJudged MixedSets TooManyMoments Op.Union (A.sketch one.now) (B.sketch other.now) result }
+    requires other_near { ((B.sketch other.now).settled +ℤ pos (B.sketch other.now).period)
+        ≤ℤ latest_near }
+    ensures stands { IfOk result
+        (λ c. StandsForBoth Op.Union (A.sketch one.now) (B.sketch other.now) (sketch c)) }
+    ensures judged { IsCombinedJudged MixedSets TooManyMoments Op.Union
+        (A.sketch one.now) (B.sketch other.now) result }
 {
     if one.first().is_none() {
         return with_itself(alloc, Op::Union, other);
@@ -328,10 +341,14 @@ pub fn combine<A: DaySeq, B: DaySeq>(
     other: &B,
 ) -> Result<Combined, Fault>
     requires cycle { lcm (A.sketch one.now).period (B.sketch other.now).period ≤ MAX_CYCLE_DAYS }
-    requires one_near { ((A.sketch one.now).settled +ℤ pos (lcm (A.sketch one.now).period (B.sketch other.now).period)) ≤ℤ latest_near }
-    requires other_near { ((B.sketch other.now).settled +ℤ pos (lcm (A.sketch one.now).period (B.sketch other.now).period)) ≤ℤ latest_near }
-    ensures stands { IfOk result (λ c. StandsFor (sketch c) (combined op (StandsIn (A.sketch one.now)) (StandsIn (B.sketch other.now)))) }
-    ensures judged { IsCombinedJudged MixedSets TooManyMoments op (A.sketch one.now) (B.sketch other.now) result }
+    requires one_near { EndsNear (A.sketch one.now) (B.sketch other.now)
+        (A.sketch one.now).settled }
+    requires other_near { EndsNear (A.sketch one.now) (B.sketch other.now)
+        (B.sketch other.now).settled }
+    ensures stands { IfOk result
+        (λ c. StandsForBoth op (A.sketch one.now) (B.sketch other.now) (sketch c)) }
+    ensures judged { IsCombinedJudged MixedSets TooManyMoments op
+        (A.sketch one.now) (B.sketch other.now) result }
 {
     let kind = one.kind();
     let same = is_one_kind(kind, other.kind());

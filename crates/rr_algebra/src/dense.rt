@@ -6,16 +6,17 @@ use crate::runs::Run;
 use rr_model::{Fault, NoMemory, Refusal};
 use std::alloc::Global;
 
-// The place that lies `gap` days after the last one, where it has no number yet and lies before the end.
-fn next_place(days: usize, last: usize, gap: u64, end: usize) -> Option<usize>
+// The index that lies `gap` after the last one, where it has no number yet and lies before the end.
+fn next_index(days: usize, last: usize, gap: u64, end: usize) -> Option<usize>
     requires { last ≤ end }
-    ensures { MatchOption result (IsStepTo days last gap end → ⊥) (λ place. (place ≡ last + gap) × IsStepTo days last gap end) }
+    ensures { MatchOption result (IsStepTo days last gap end → ⊥)
+        (λ index. (index ≡ last + gap) × IsStepTo days last gap end) }
 {
     if gap >= (end - last) as u64 {
         return None;
     }
-    let place = last + gap as usize;
-    if place < days { None } else { Some(place) }
+    let index = last + gap as usize;
+    if index < days { None } else { Some(index) }
 }
 
 // Whether a run that has days has its last one at the end or past it, so that it can't be put.
@@ -32,17 +33,18 @@ fn runs_past(last: usize, run: Run, end: usize) -> bool
     }
 }
 
-// Puts a number at its place, and 0 at each place before it that has none yet.
-fn put(numbers: &mut Vec<u32>, place: usize, number: u32) -> Result<(), NoMemory>
-    requires { length numbers.old.items ≤ place }
-    ensures { OnOk result (numbers.new.items ≡ numbers.old.items ++ replicate (place - length numbers.old.items) 0 ++ number ∷ []) }
+// Puts a number at its index, and 0 at each index before it that has none yet.
+fn put(numbers: &mut Vec<u32>, index: usize, number: u32) -> Result<(), NoMemory>
+    requires { length numbers.old.items ≤ index }
+    ensures { OnOk result (numbers.new.items
+        ≡ numbers.old.items ++ replicate (index - length numbers.old.items) 0 ++ number ∷ []) }
 {
-    numbers.resize(place, 0)?;
+    numbers.resize(index, 0)?;
     numbers.push(number)?;
     Ok(())
 }
 
-// Puts the days of a run, and gives the place of the last one.
+// Puts the days of a run, and gives the index of the last one.
 fn put_run(
     numbers: &mut Vec<u32>,
     last: usize,
@@ -53,9 +55,11 @@ fn put_run(
     requires last { last ≤ end }
     requires few { end ≤ 100_000_000 }
     requires sets { sets ≤ 100_000_000 }
-    ensures put { IfOk result (IsPutBy end sets numbers.old.items last (steps_in run) numbers.new.items) }
-    ensures within { IfOk result (λ place. place ≤ end) }
-    ensures refused { RefusedWhereNone end sets (length numbers.old.items) last (steps_in run) result }
+    ensures put { IfOk result
+        (IsPutBy end sets numbers.old.items last (steps_in run) numbers.new.items) }
+    ensures within { IfOk result (λ index. index ≤ end) }
+    ensures refused { RefusedWhereNone end sets (length numbers.old.items) last (steps_in run)
+        result }
 {
     let past = runs_past(last, run, end);
     if past {
@@ -66,11 +70,11 @@ fn put_run(
         if run.set >= sets as u64 {
             return Err(Fault::Refused(Refusal::NotCanonical));
         }
-        let Some(place) = next_place(numbers.len(), last, run.gap, end) else {
+        let Some(index) = next_index(numbers.len(), last, run.gap, end) else {
             return Err(Fault::Refused(Refusal::NotCanonical));
         };
-        put(numbers, place, run.set as u32 + 1)?;
-        last = place;
+        put(numbers, index, run.set as u32 + 1)?;
+        last = index;
     }
     Ok(last)
 }
@@ -86,7 +90,7 @@ pub fn numbers_of(alloc: Global, runs: &[Run], end: usize, sets: usize) -> Resul
     let mut last = 0;
     for run in runs {
         match put_run(&mut numbers, last, *run, end, sets) {
-            Ok(place) => last = place,
+            Ok(index) => last = index,
             Err(fault) => return Err(fault),
         }
     }

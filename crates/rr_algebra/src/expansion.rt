@@ -1,10 +1,10 @@
 // The days that a descriptor states, as a sequence.
-ghost use Rattle.std.specs.Prelude.{◌≡◌, ◌↔◌, ◌≤◌, ◌-◌, ◌++◌, ◌+ℤ◌, ◌≤ℤ◌, IfOk, IsTrue, OnOk, length, replicate, pos};
+ghost use Rattle.std.specs.Prelude.{◌≡◌, ◌↔◌, ◌≤◌, ◌-◌, ◌++◌, ◌+ℤ◌, ◌≤ℤ◌, IfOk, IsTrue, OnOk, length, pos};
 ghost use Rattle.rr_model.specs.Bounds.{first_day_of_all};
 ghost use Rattle.rr_days.specs.Sequence.{sketch};
 ghost use Rattle.rr_algebra.specs.Found.{IsReadDay, run_in};
 ghost use Rattle.rr_algebra.specs.Parts.{ending_in, parts_in};
-ghost use Rattle.rr_algebra.specs.Expanded.{HasSets, IsEndlessExpanded, IsExpanded, IsFiniteExpanded, IsReadPeriod, NumbersEndless, RefusedWhereNotEndless, RefusedWhereNotFinite, RefusedWhereNotExpandable};
+ghost use Rattle.rr_algebra.specs.Expanded.{HasSets, IsEndlessExpanded, IsExpanded, IsFiniteExpanded, IsReadPeriod, NumbersEndless, RefusedWhereNotEndless, RefusedWhereNotFinite, RefusedWhereNotExpandable, padded_to};
 
 use crate::dense::numbers_of;
 use crate::parts::{EndingRead, PartsRead};
@@ -46,7 +46,7 @@ fn day_after(from: i64, days: usize) -> i64
 /// Puts 0 up to a length, where there are fewer numbers.
 pub fn fill_up(numbers: &mut Vec<u32>, days: usize) -> Result<(), NoMemory>
     requires { length numbers.old.items ≤ days }
-    ensures { OnOk result (numbers.new.items ≡ numbers.old.items ++ replicate (days - length numbers.old.items) 0) }
+    ensures { OnOk result (numbers.new.items ≡ padded_to days numbers.old.items) }
 {
     numbers.resize(days, 0)?;
     Ok(())
@@ -63,7 +63,8 @@ fn finite_sequence(
 ) -> Result<Folded, Fault>
     requires first { IsReadDay first }
     requires sets { HasSets kind count shapes }
-    ensures expanded { IfOk result (λ f. IsFiniteExpanded kind count shapes first before.now (sketch f)) }
+    ensures expanded { IfOk result
+        (λ f. IsFiniteExpanded kind count shapes first before.now (sketch f)) }
     ensures refused { RefusedWhereNotFinite count first before.now result }
 {
     let end = days_between(first, LAST_DAY);
@@ -147,7 +148,8 @@ fn endless_sequence(
 ) -> Result<Folded, Fault>
     requires first { IsReadDay first }
     requires sets { HasSets kind count shapes }
-    ensures expanded { IfOk result (λ f. IsEndlessExpanded kind count shapes first before.now (ending_in ending.now) (sketch f)) }
+    ensures expanded { IfOk result (λ f. IsEndlessExpanded kind count shapes first before.now
+        (ending_in ending.now) (sketch f)) }
     ensures refused { RefusedWhereNotEndless count first before.now (ending_in ending.now) result }
 {
     let within = can_repeat(first, ending.settled, ending.period);
@@ -187,7 +189,8 @@ pub fn sequence_of_parts(
     parts: &PartsRead,
 ) -> Result<Folded, Fault>
     requires sets { HasSets kind count shapes }
-    ensures expanded { IfOk result (λ f. IsExpanded kind count shapes (parts_in parts.now) (sketch f)) }
+    ensures expanded { IfOk result
+        (λ f. IsExpanded kind count shapes (parts_in parts.now) (sketch f)) }
     ensures refused { RefusedWhereNotExpandable count (parts_in parts.now) result }
 {
     let first = is_read_day(parts.first);

@@ -27,15 +27,16 @@ impl Model for KnownPairs {
     ghost view = { λ k. k.all ++ k.recent.items };
 }
 
-// Keeps a pair with its number at the place that the number of the first set gives.
+// Keeps a pair with its number at the index that the number of the first set gives.
 fn keep(recent: &mut Vec<(Pair, usize)>, pair: Pair, number: usize) -> Result<(), NoMemory>
-    ensures { OnOk result (All (λ known. Contains recent.old.items known ⊎ ((pair, number) ≡ known)) recent.new.items) }
+    ensures { OnOk result (All (λ known. Contains recent.old.items known
+        ⊎ ((pair, number) ≡ known)) recent.new.items) }
 {
-    let place = pair.a % RECENT;
-    if recent.len() <= place {
-        recent.resize(place + 1, (pair, number))?;
+    let index = pair.a % RECENT;
+    if recent.len() <= index {
+        recent.resize(index + 1, (pair, number))?;
     }
-    recent[place] = (pair, number);
+    recent[index] = (pair, number);
     Ok(())
 }
 
@@ -65,7 +66,8 @@ impl KnownPairs {
 
     /// Remembers the number of the set that is made of a pair.
     pub fn put(&mut self, pair: Pair, number: usize) -> Result<(), NoMemory>
-        ensures { OnOk result ((known : Pair × ℕ) → Contains self.new known → Contains self.old known ⊎ ((pair, number) ≡ known)) }
+        ensures { OnOk result ((known : Pair × ℕ) → Contains self.new known
+            → Contains self.old known ⊎ ((pair, number) ≡ known)) }
     {
         self.all.put(pair, number)?;
         keep(&mut self.recent, pair, number)?;

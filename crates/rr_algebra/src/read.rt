@@ -170,7 +170,8 @@ fn read_text(alloc: Global, text: &[u8]) -> Result<Described, Fault>
 /// period past the settled day, and four bytes for each of these days, beside what `least` keeps.
 pub fn read_descriptor(alloc: Global, bytes: &[u8]) -> Result<Described, Fault>
     ensures described { IfOk result (λ d. IsDescriptor (without_mark bytes.now) (sketch d)) }
-    ensures refused { RefusedExactlyWhere (HasNoDescriptor (without_mark bytes.now)) NotCanonical result }
+    ensures refused { RefusedExactlyWhere (HasNoDescriptor (without_mark bytes.now))
+        NotCanonical result }
 {
     read_text(alloc, without_mark(bytes))
 }

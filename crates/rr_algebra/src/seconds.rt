@@ -44,7 +44,8 @@ fn push_second(seconds: &mut Vec<u32>, second: u64) -> Result<(), Fault>
 // Adds a row of seconds. No more are added than a day has.
 fn push_row(seconds: &mut Vec<u32>, start: u64, step: u64, count: u64) -> Result<(), Fault>
     requires { IsSecondsOfDay seconds.old.items }
-    ensures added { OnOk result (seconds.new.items ≡ seconds.old.items ++ seconds_from start step count) }
+    ensures added { OnOk result
+        (seconds.new.items ≡ seconds.old.items ++ seconds_from start step count) }
     ensures of_day { OnOk result (IsSecondsOfDay seconds.new.items) }
     ensures refused { RefusedWhereNoRow seconds.old.items start step count result }
 {
@@ -64,9 +65,11 @@ fn push_row(seconds: &mut Vec<u32>, start: u64, step: u64, count: u64) -> Result
 // Adds the seconds of the item after the first byte, and gives what follows it.
 fn take_item<'a>(text: &'a [u8], seconds: &mut Vec<u32>) -> Result<&'a [u8], Fault>
     requires { IsSecondsOfDay seconds.old.items }
-    ensures found { IfOk result (λ after. FindsItem text.now seconds.old.items after.now seconds.new.items) }
+    ensures found { IfOk result
+        (λ after. FindsItem text.now seconds.old.items after.now seconds.new.items) }
     ensures of_day { OnOk result (IsSecondsOfDay seconds.new.items) }
-    ensures shorter { IfOk result (λ after. 0 < length text.now → length after.now < length text.now) }
+    ensures shorter { IfOk result
+        (λ after. 0 < length text.now → length after.now < length text.now) }
     ensures refused { RefusedWhereNoItem text.now seconds.old.items result }
 {
     let (start, rest) = take_number(text);

@@ -1,9 +1,10 @@
 -- Numbers under which two tables have the same set.
-use Rattle.std.specs.Prelude.{◌≡◌, ◌⊎◌, ℕ, ◌<◌, ◌≤◌, List, Option, Some, get_or, slice_get, ℤ, pos, ◌+ℤ◌, ◌≤ℤ◌}
+use Rattle.std.specs.Prelude.{◌≡◌, ◌⊎◌, ℕ, ◌<◌, ◌≤◌, List, Option, Some, get_or, slice_get, ℤ, pos, ◌≤ℤ◌}
 use Rattle.rr_model.specs.Sets.Sketch.{times_on}
 use Rattle.rr_model.specs.declared.sketch.Sketch.{Sketch}
-use Rattle.rr_decide.specs.Look.{IsShownOn}
-use Rattle.rr_decide.specs.Question.{IsFirstDayShown, ShowsNone, ShowsNoneWithin, shown_by}
+use Rattle.rr_decide.specs.Look.{IsFirstFrom, IsShownOn}
+use Rattle.rr_decide.specs.Question.{ShowsNone, ShowsNoneFor, shown_by}
+use Rattle.rr_decide.specs.Rows.{EachPair}
 use Rattle.rr_decide.specs.declared.question.Question.TheVariants.{Equal}
 use Rattle.rr_decide.specs.declared.long.AlikeNumbers.{AlikeNumbers}
 use Rattle.rr_decide.specs.declared.long.Comparison.{Comparison}
@@ -25,7 +26,7 @@ AreOf alike xs from to = (k : ℕ) → from ≤ k → k < to → (alike.from ≤
 
 -- at each place from one on and below another both rows have one number of the stretch
 abbrev pub HaveOneAt : List ℕ → List ℕ → AlikeNumbers → ℕ → ℕ → Type 0
-HaveOneAt xs ys alike from to = (k : ℕ) → from ≤ k → k < to → HaveOneOf (Some (get_or xs k 0)) (Some (get_or ys k 0)) alike
+HaveOneAt xs ys alike from to = EachPair (λ x y. HaveOneOf (Some x) (Some y) alike) xs ys from to
 
 -- no number comes that both days do not have
 abbrev pub IsNextAlike : Option ℕ → Option ℕ → AlikeNumbers → AlikeNumbers → Type 0
@@ -41,16 +42,16 @@ IsCompared sets_a sets_b s u day (Alike numbers) = ShowsNone (shown_by Equal) (t
 -- numbers
 abbrev pub AreCompared : List (List ℕ) → List (List ℕ) → Sketch → Sketch → ℤ → ℕ → Comparison → Type 0
 AreCompared sets_a sets_b s u day n (Unlike r) =
-    IsFirstDayShown (shown_by Equal) s u day r.day r.second r.side × (r.day ≤ℤ pos 3_000_000_000_000)
-AreCompared sets_a sets_b s u day n (Alike numbers) = ShowsNoneWithin (shown_by Equal) s u day (day +ℤ pos n) × AreAlike sets_a sets_b numbers
+    IsFirstFrom Equal s u day r × (r.day ≤ℤ pos 3_000_000_000_000)
+AreCompared sets_a sets_b s u day n (Alike numbers) = ShowsNoneFor Equal s u day n × AreAlike sets_a sets_b numbers
 
 -- the first day from this one on that differs, by its first second; else so many of at most `most` days are alike, and so are the
 -- sets of these numbers
 abbrev pub IsRun : List (List ℕ) → List (List ℕ) → Sketch → Sketch → ℤ → ℕ → Run → Type 0
 IsRun sets_a sets_b s u day most (Differs r) =
-    IsFirstDayShown (shown_by Equal) s u day r.day r.second r.side × (r.day ≤ℤ pos 3_000_000_000_000)
+    IsFirstFrom Equal s u day r × (r.day ≤ℤ pos 3_000_000_000_000)
 IsRun sets_a sets_b s u day most (Agrees n numbers) =
-    (1 ≤ n) × (n ≤ most) × ShowsNoneWithin (shown_by Equal) s u day (day +ℤ pos n) × AreAlike sets_a sets_b numbers
+    (1 ≤ n) × (n ≤ most) × ShowsNoneFor Equal s u day n × AreAlike sets_a sets_b numbers
 
 -- how many days were compared, at most
 abbrev pub days_of : ℕ → Run → ℕ

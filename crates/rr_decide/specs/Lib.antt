@@ -5,3 +5,4 @@ pub mod Occurrence
 pub mod Question
 pub mod Quiet
 pub mod Reading
+pub mod Rows

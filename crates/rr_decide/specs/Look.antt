@@ -3,10 +3,11 @@ use Rattle.std.specs.Prelude.{◌≡◌, ◌≤◌, Bool, ℕ, ℤ, pos, ◌+ℤ
 use Rattle.rr_model.specs.Sets.Sketch.{times_on}
 use Rattle.rr_model.specs.declared.sketch.Sketch.{Sketch}
 use Rattle.rr_model.specs.declared.verdict.Side.{Side}
-use Rattle.rr_decide.specs.Question.{IsFirstShown, ShowsNone, ShowsNoneWithin}
+use Rattle.rr_decide.specs.Question.{IsFirstDayShown, IsFirstShown, ShowsNone, ShowsNoneWithin, shown_by}
 use Rattle.rr_decide.specs.declared.days.Look.{Look}
 use Rattle.rr_decide.specs.declared.days.Look.TheVariants.{Shows, Quiet}
 use Rattle.rr_decide.specs.declared.days.Shown.{Shown}
+use Rattle.rr_decide.specs.declared.question.Question.{Question}
 
 -- it is of this day, and the first second there that shows it
 abbrev pub IsShownOn : (Side → Bool) → Sketch → Sketch → ℤ → Shown → Type 0
@@ -16,6 +17,10 @@ IsShownOn shows s u day r = (r.day ≡ day) × IsFirstShown shows (times_on s da
 abbrev pub IsFirstOn : (Side → Bool) → Sketch → Sketch → ℤ → Option Shown → Type 0
 IsFirstOn shows s u day None = ShowsNone shows (times_on s day) (times_on u day)
 IsFirstOn shows s u day (Some r) = IsShownOn shows s u day r
+
+-- from one day on it is the first that shows it: its day, the second there, and the side
+abbrev pub IsFirstFrom : Question → Sketch → Sketch → ℤ → Shown → Type 0
+IsFirstFrom question s u from r = IsFirstDayShown (shown_by question) s u from r.day r.second r.side
 
 -- what the days from this one on show, of at most so many
 abbrev pub IsLook : (Side → Bool) → Sketch → Sketch → ℤ → ℕ → Look → Type 0

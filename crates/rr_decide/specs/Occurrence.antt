@@ -1,9 +1,12 @@
 -- Occurrences that are not far from day 0.
-use Rattle.std.specs.Prelude.{⊤, ℤ, pos, neg_ℤ, ◌≤ℤ◌}
+use Rattle.std.specs.Prelude.{⊤, Bool, IsTrue, Option, MatchOption, ℤ, pos, neg_ℤ, ◌≤ℤ◌}
 use Rattle.rr_model.specs.Moment.{day_part}
+use Rattle.rr_model.specs.Sets.Sketch.{IsEmptySketch}
 use Rattle.rr_model.specs.declared.kind.Kind.{Kind}
+use Rattle.rr_model.specs.declared.sketch.Sketch.{Sketch}
 use Rattle.rr_model.specs.declared.verdict.Verdict.{Verdict}
 use Rattle.rr_model.specs.declared.verdict.Verdict.TheVariants.{Yes, No}
+use Rattle.rr_decide.specs.Question.{IsFirstOccurrence}
 use Rattle.rr_decide.specs.declared.occurrence.Occurrence.{Occurrence}
 
 -- its instant can be compared: the number lies within 100,000,000,000,000 of 0
@@ -18,3 +21,11 @@ IsUpToMaxDay kind at = day_part kind at ≤ℤ pos 3_000_000_000_000
 abbrev pub NamesUpToMaxDay : Verdict → Type 0
 NamesUpToMaxDay Yes = ⊤
 NamesUpToMaxDay (No kind at side) = IsUpToMaxDay kind at
+
+-- the first occurrence of the sketch; none where it has none
+abbrev pub IsFirstOrNone : Sketch → Option Occurrence → Type 0
+IsFirstOrNone s first = MatchOption first (IsEmptySketch s) (λ o. IsFirstOccurrence s o.kind o.at)
+
+-- the same where it is asked for, and none where it is not
+abbrev pub IsFirstIf : Bool → Sketch → Option Occurrence → Type 0
+IsFirstIf asked s first = MatchOption first (IsTrue asked → IsEmptySketch s) (λ o. IsTrue asked × IsFirstOccurrence s o.kind o.at)

@@ -1,5 +1,5 @@
 -- A question about two sets: its verdict, and the sides on which an occurrence shows that the answer is no.
-use Rattle.std.specs.Prelude.{⊤, Bool, true, false, IsTrue, ℕ, ◌<◌, ◌≤◌, ℤ, pos, ◌+ℤ◌, ◌≤ℤ◌, ◌<ℤ◌, List, [], ◌≡◌}
+use Rattle.std.specs.Prelude.{⊤, Bool, true, false, IsTrue, ℕ, ◌<◌, ◌≤◌, ℤ, pos, ◌+ℤ◌, ◌≤ℤ◌, ◌<ℤ◌, List, [], ◌≡◌, Option, MatchOption}
 use Rattle.std.specs.List.{Contains}
 use Rattle.rr_model.specs.Moment.{Before, Occurrences}
 use Rattle.rr_model.specs.Sets.Sketch.{StandsIn, times_on}
@@ -48,6 +48,10 @@ IsVerdictBy shows P Q Yes = (k : Kind) (t : ℤ) → IsShown shows (P k t) (Q k 
 IsVerdictBy shows P Q (No k t side) =
     IsTrue (shows side) × HoldsOn side (P k t) (Q k t) × ((l : Kind) (u : ℤ) → Before l u k t → IsShown shows (P l u) (Q l u) → ⊥)
 
+-- the verdict on two sketches: no by the first occurrence that shows it for the question
+abbrev pub IsVerdictOn : Question → Sketch → Sketch → Verdict → Type 0
+IsVerdictOn question s u verdict = IsVerdictBy (shown_by question) (StandsIn s) (StandsIn u) verdict
+
 -- ---- on one day
 
 -- no second of the two lists shows it
@@ -64,11 +68,20 @@ pub record IsFirstShown (shows : Side → Bool) (xs ys : List ℕ) (second : ℕ
   pub holds : HoldsOn side (Contains xs second) (Contains ys second)
   pub none_below : (w : ℕ) → w < second → IsShown shows (Contains xs w) (Contains ys w) → ⊥
 
+-- the first second of the two lists that shows it, with its side; none where no second does
+abbrev pub IsFirstSecondShown : Question → List ℕ → List ℕ → Option (ℕ × Side) → Type 0
+IsFirstSecondShown question xs ys first =
+    MatchOption first (ShowsNone (shown_by question) xs ys) (λ r. IsFirstShown (shown_by question) xs ys r.0 r.1)
+
 -- ---- on many days
 
 -- no day from one on and below another shows it
 abbrev pub ShowsNoneWithin : (Side → Bool) → Sketch → Sketch → ℤ → ℤ → Type 0
 ShowsNoneWithin shows s u from to = (d : ℤ) → from ≤ℤ d → d <ℤ to → ShowsNone shows (times_on s d) (times_on u d)
+
+-- none of so many days from this one on shows it
+abbrev pub ShowsNoneFor : Question → Sketch → Sketch → ℤ → ℕ → Type 0
+ShowsNoneFor question s u from days = ShowsNoneWithin (shown_by question) s u from (from +ℤ pos days)
 
 -- from one day on this day is the first that shows it, by this second on this side
 pub record IsFirstDayShown (shows : Side → Bool) (s u : Sketch) (from day : ℤ) (second : ℕ) (side : Side) : Type 0 where
@@ -95,3 +108,7 @@ pub record IsFirstOccurrence (s : Sketch) (k : Kind) (t : ℤ) : Type 0 where
 -- the two have no common occurrence
 abbrev pub AreApart : Occurrences → Occurrences → Type 0
 AreApart P Q = (k : Kind) (t : ℤ) → P k t → Q k t → ⊥
+
+-- the two sketches have no common occurrence
+abbrev pub ShareNothing : Sketch → Sketch → Type 0
+ShareNothing s u = AreApart (StandsIn s) (StandsIn u)

@@ -1,10 +1,10 @@
 // A walk over the days of two sequences.
 ghost use Rattle.std.specs.Prelude.{◌≡◌, ◌<◌, ◌≤◌, [], IfSome, IfNone, MatchOption, Some, length, slice_get, pos, neg_ℤ, ◌+ℤ◌, ◌≤ℤ◌};
 ghost use Rattle.rr_model.specs.Bounds.{earliest_near};
-ghost use Rattle.rr_model.specs.Sets.Sketch.{IsNearDay, StandsIn};
+ghost use Rattle.rr_model.specs.Sets.Sketch.{IsNearDay};
 ghost use Rattle.rr_word.specs.Stretches.{AreFree, IsNumberOn};
-ghost use Rattle.rr_decide.specs.Look.{IsFirstOn, IsLook};
-ghost use Rattle.rr_decide.specs.Question.{AreApart, HasNoneBefore, IsFirstDayShown, ShowsNoneWithin, shown_by};
+ghost use Rattle.rr_decide.specs.Look.{IsFirstFrom, IsFirstOn, IsLook};
+ghost use Rattle.rr_decide.specs.Question.{HasNoneBefore, ShareNothing, ShowsNoneFor, shown_by};
 ghost use Rattle.rr_decide.specs.Quiet.{IsQuiet, ShowNothingBelow, ShowNothingTogether};
 ghost use Rattle.rr_decide.specs.declared.question.Question.TheVariants.{Equal};
 
@@ -35,8 +35,9 @@ pub fn first_day_shown<A: DaySeq, B: DaySeq>(
 ) -> Option<Shown>
     requires near { IsNearDay from }
     requires few { days ≤ 5_000_000_000 }
-    ensures none { IfNone result (ShowsNoneWithin (shown_by question) (A.sketch a.now) (B.sketch b.now) from (from +ℤ pos days)) }
-    ensures some { IfSome result (λ r. IsFirstDayShown (shown_by question) (A.sketch a.now) (B.sketch b.now) from r.day r.second r.side) }
+    ensures none { IfNone result
+        (ShowsNoneFor question (A.sketch a.now) (B.sketch b.now) from days) }
+    ensures some { IfSome result (IsFirstFrom question (A.sketch a.now) (B.sketch b.now) from) }
     ensures high { IfSome result (λ r. r.day ≤ℤ pos 3_000_000_000_000) }
 {
     let mut quiet = Quiet::new();
@@ -138,7 +139,8 @@ fn remember<A: DaySeq, B: DaySeq>(
 )
     requires first { IfSome of_a (λ n. n < length (A.sets a.now)) }
     requires second { IfSome of_b (λ n. n < length (B.sets b.now)) }
-    requires pair { ShowNothingTogether (shown_by question) (A.sets a.now) (B.sets b.now) of_a of_b }
+    requires pair { ShowNothingTogether (shown_by question) (A.sets a.now) (B.sets b.now)
+        of_a of_b }
     requires quiet { IsQuiet (shown_by question) (A.sets a.now) (B.sets b.now) quiet.old }
     ensures { IsQuiet (shown_by question) (A.sets a.now) (B.sets b.now) quiet.new }
 {
@@ -212,7 +214,8 @@ fn shown_on_day<A: DaySeq, B: DaySeq>(
 // The seconds of the time set of a number; none without a number.
 fn seconds<S: DaySeq>(seq: &S, number: Option<u32>) -> &[u32]
     requires { IfSome number (λ n. n < length (S.sets seq.now)) }
-    ensures { MatchOption number (result.now ≡ []) (λ n. slice_get (S.sets seq.now) n ≡ Some result.now) }
+    ensures { MatchOption number (result.now ≡ [])
+        (λ n. slice_get (S.sets seq.now) n ≡ Some result.now) }
 {
     match number {
         None => &[],
@@ -234,7 +237,7 @@ pub fn days_between(from: i64, to: i64) -> u64
 /// The first occupied day of two sequences of one kind.
 /// None where they are of two kinds or one of them is empty, so that they have nothing in common.
 pub fn first_day<A: DaySeq, B: DaySeq>(a: &A, b: &B) -> Option<i64>
-    ensures none { IfNone result (AreApart (StandsIn (A.sketch a.now)) (StandsIn (B.sketch b.now))) }
+    ensures none { IfNone result (ShareNothing (A.sketch a.now) (B.sketch b.now)) }
     ensures kind { IfSome result (λ d. (A.sketch a.now).kind ≡ (B.sketch b.now).kind) }
     ensures first_of_a { IfSome result (HasNoneBefore (A.sketch a.now)) }
     ensures first_of_b { IfSome result (HasNoneBefore (B.sketch b.now)) }

@@ -18,7 +18,8 @@ use rr_word::DaySeq;
 /// It reads no more days of each than there are from the first occupied day of both to the later settled day,
 /// and then both periods together, or the least common multiple of the periods where that is less. It takes no memory.
 pub fn equal<A: DaySeq, B: DaySeq>(a: &A, b: &B) -> Verdict
-    ensures verdict { IsEqualVerdict (StandsIn (A.sketch a.now)) (StandsIn (B.sketch b.now)) result }
+    ensures verdict { IsEqualVerdict
+        (StandsIn (A.sketch a.now)) (StandsIn (B.sketch b.now)) result }
     ensures day { NamesUpToMaxDay result }
 {
     verdict_by_walk(Question::Equal, a, b, equal_days(a.period(), b.period()))
@@ -32,7 +33,8 @@ pub fn equal<A: DaySeq, B: DaySeq>(a: &A, b: &B) -> Verdict
 /// It takes no memory.
 pub fn within<A: DaySeq, B: DaySeq>(a: &A, b: &B) -> Verdict
     requires { lcm (A.sketch a.now).period (B.sketch b.now).period ≤ MAX_CYCLE_DAYS }
-    ensures verdict { IsWithinVerdict (StandsIn (A.sketch a.now)) (StandsIn (B.sketch b.now)) result }
+    ensures verdict { IsWithinVerdict
+        (StandsIn (A.sketch a.now)) (StandsIn (B.sketch b.now)) result }
     ensures day { NamesUpToMaxDay result }
 {
     verdict_by_walk(Question::Within, a, b, common_cycle(a.period(), b.period()))
@@ -46,7 +48,8 @@ pub fn within<A: DaySeq, B: DaySeq>(a: &A, b: &B) -> Verdict
 /// It takes no memory.
 pub fn disjoint<A: DaySeq, B: DaySeq>(a: &A, b: &B) -> Verdict
     requires { lcm (A.sketch a.now).period (B.sketch b.now).period ≤ MAX_CYCLE_DAYS }
-    ensures verdict { IsDisjointVerdict (StandsIn (A.sketch a.now)) (StandsIn (B.sketch b.now)) result }
+    ensures verdict { IsDisjointVerdict
+        (StandsIn (A.sketch a.now)) (StandsIn (B.sketch b.now)) result }
     ensures day { NamesUpToMaxDay result }
 {
     verdict_by_walk(
@@ -63,7 +66,8 @@ pub fn disjoint<A: DaySeq, B: DaySeq>(a: &A, b: &B) -> Verdict
 /// A no names an occurrence up to the greatest day, 3,000,000,000,000. It takes no memory.
 pub fn verdict<A: DaySeq, B: DaySeq>(question: Question, a: &A, b: &B) -> Verdict
     requires { IsSoonEnough question (lcm (A.sketch a.now).period (B.sketch b.now).period) }
-    ensures verdict { IsVerdictTo question (StandsIn (A.sketch a.now)) (StandsIn (B.sketch b.now)) result }
+    ensures verdict { IsVerdictTo question
+        (StandsIn (A.sketch a.now)) (StandsIn (B.sketch b.now)) result }
     ensures day { NamesUpToMaxDay result }
 {
     match question {

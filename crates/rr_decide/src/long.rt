@@ -1,14 +1,15 @@
 // Equality of two sequences whatever their common cycle is, by days that are read in counted steps.
-ghost use Rattle.std.specs.Prelude.{◌≡◌, ◌⊎◌, ◌+◌, ◌-◌, ◌*◌, ◌<◌, ◌≤◌, ℕ, [], IfSome, IfNone, IsTrue, MatchOption, Some, get_or, length, slice_get, pos, ◌+ℤ◌, ◌≤ℤ◌};
+ghost use Rattle.std.specs.Prelude.{◌≡◌, ◌⊎◌, ◌+◌, ◌-◌, ◌*◌, ◌<◌, ◌≤◌, ℕ, [], IfSome, IfNone, IsTrue, MatchOption, Some, length, slice_get, pos, ◌≤ℤ◌};
 ghost use Rattle.rr_model.specs.Bounds.{earliest_near};
 ghost use Rattle.rr_model.specs.Sets.Sketch.{IsEmptySketch, IsNearDay, StandsIn};
 ghost use Rattle.rr_model.specs.Sets.Verdict.{IsEqualVerdict};
 ghost use Rattle.rr_word.specs.Stretches.{AreNumbersAfter, IsNumberOn};
 ghost use Rattle.rr_decide.specs.Alike.{AreAlike, AreCompared, AreOf, HaveOneAt, HaveOneOf, IsCompared, IsNextAlike, IsRun, days_of};
-ghost use Rattle.rr_decide.specs.Look.{IsFirstOn};
-ghost use Rattle.rr_decide.specs.Occurrence.{IsNearOccurrence, IsUpToMaxDay, NamesUpToMaxDay};
-ghost use Rattle.rr_decide.specs.Question.{AreApart, HasNoneBefore, IsFirstDayShown, IsFirstOccurrence, IsVerdictBy, ShowsNoneWithin, shown_by};
+ghost use Rattle.rr_decide.specs.Look.{IsFirstFrom, IsFirstOn};
+ghost use Rattle.rr_decide.specs.Occurrence.{IsFirstOrNone, IsNearOccurrence, IsUpToMaxDay, NamesUpToMaxDay};
+ghost use Rattle.rr_decide.specs.Question.{HasNoneBefore, IsVerdictOn, ShareNothing, ShowsNoneFor, shown_by};
 ghost use Rattle.rr_decide.specs.Reading.{IsFirstOfBoth, IsReadInFew, steps_from};
+ghost use Rattle.rr_decide.specs.Rows.{AreEqualRows, AreUpTo};
 ghost use Rattle.rr_decide.specs.declared.question.Question.TheVariants.{Equal};
 
 use crate::days::{Shown, days_between};
@@ -33,24 +34,26 @@ pub fn equal_long<A: DaySeq + Drop, B: DaySeq + Drop, L: Ledger>(
     b: &Counted<B>,
     steps: &mut Steps<L>,
 ) -> Verdict
-    ensures verdict { IsEqualVerdict (StandsIn (A.sketch a.now)) (StandsIn (B.sketch b.now)) result }
+    ensures verdict { IsEqualVerdict
+        (StandsIn (A.sketch a.now)) (StandsIn (B.sketch b.now)) result }
     ensures day { NamesUpToMaxDay result }
     ensures steps { IsReadInFew (A.sketch a.now) (B.sketch b.now) (steps.new - steps.old) }
 {
     match first_of_both(a, b) {
-        None => apart_long(a, b, steps),
-        Some(from) => walked(a, b, from, steps),
+        None => verdict_apart_long(a, b, steps),
+        Some(from) => walk_from(a, b, from, steps),
     }
 }
 
 // The first occupied day of two sequences of one kind; none where they are of two kinds or one of them is empty.
 fn first_of_both<A: DaySeq + Drop, B: DaySeq + Drop>(a: &Counted<A>, b: &Counted<B>) -> Option<i64>
-    ensures none { IfNone result (AreApart (StandsIn (A.sketch a.now)) (StandsIn (B.sketch b.now))) }
+    ensures none { IfNone result (ShareNothing (A.sketch a.now) (B.sketch b.now)) }
     ensures kind { IfSome result (λ d. (A.sketch a.now).kind ≡ (B.sketch b.now).kind) }
     ensures first_of_a { IfSome result (HasNoneBefore (A.sketch a.now)) }
     ensures first_of_b { IfSome result (HasNoneBefore (B.sketch b.now)) }
     ensures near { IfSome result IsNearDay }
-    ensures some { IfSome result (λ d. IsEmptySketch (A.sketch a.now) ⊎ IsEmptySketch (B.sketch b.now) → ⊥) }
+    ensures some { IfSome result
+        (λ d. IsEmptySketch (A.sketch a.now) ⊎ IsEmptySketch (B.sketch b.now) → ⊥) }
     ensures first { IfSome result (IsFirstOfBoth (A.sketch a.now) (B.sketch b.now)) }
 {
     let Some(of_a) = a.first() else {
@@ -70,7 +73,7 @@ fn read_first<S: DaySeq + Drop, L: Ledger>(
     seq: &Counted<S>,
     steps: &mut Steps<L>,
 ) -> Option<Occurrence>
-    ensures first { MatchOption result (IsEmptySketch (S.sketch seq.now)) (λ o. IsFirstOccurrence (S.sketch seq.now) o.kind o.at) }
+    ensures first { IsFirstOrNone (S.sketch seq.now) result }
     ensures near { IfSome result IsNearOccurrence }
     ensures day { IfSome result (λ o. IsUpToMaxDay o.kind o.at) }
     ensures few { steps.new ≤ steps.old + 1 }
@@ -82,13 +85,13 @@ fn read_first<S: DaySeq + Drop, L: Ledger>(
 }
 
 // The verdict on two sequences with nothing in common: the lesser of the first occurrences.
-fn apart_long<A: DaySeq + Drop, B: DaySeq + Drop, L: Ledger>(
+fn verdict_apart_long<A: DaySeq + Drop, B: DaySeq + Drop, L: Ledger>(
     a: &Counted<A>,
     b: &Counted<B>,
     steps: &mut Steps<L>,
 ) -> Verdict
-    requires { AreApart (StandsIn (A.sketch a.now)) (StandsIn (B.sketch b.now)) }
-    ensures verdict { IsVerdictBy (shown_by Equal) (StandsIn (A.sketch a.now)) (StandsIn (B.sketch b.now)) result }
+    requires { ShareNothing (A.sketch a.now) (B.sketch b.now) }
+    ensures verdict { IsVerdictOn Equal (A.sketch a.now) (B.sketch b.now) result }
     ensures day { NamesUpToMaxDay result }
     ensures few { steps.new ≤ steps.old + 2 }
 {
@@ -109,7 +112,7 @@ fn apart_long<A: DaySeq + Drop, B: DaySeq + Drop, L: Ledger>(
 }
 
 // The verdict on two sequences of one kind, by a walk from their first occupied day on.
-fn walked<A: DaySeq + Drop, B: DaySeq + Drop, L: Ledger>(
+fn walk_from<A: DaySeq + Drop, B: DaySeq + Drop, L: Ledger>(
     a: &Counted<A>,
     b: &Counted<B>,
     from: i64,
@@ -119,7 +122,7 @@ fn walked<A: DaySeq + Drop, B: DaySeq + Drop, L: Ledger>(
     requires first_of_a { HasNoneBefore (A.sketch a.now) from }
     requires first_of_b { HasNoneBefore (B.sketch b.now) from }
     requires near { IsNearDay from }
-    ensures verdict { IsVerdictBy (shown_by Equal) (StandsIn (A.sketch a.now)) (StandsIn (B.sketch b.now)) result }
+    ensures verdict { IsVerdictOn Equal (A.sketch a.now) (B.sketch b.now) result }
     ensures day { NamesUpToMaxDay result }
     ensures few { steps.new ≤ steps.old + steps_from (A.sketch a.now) (B.sketch b.now) from }
 {
@@ -141,8 +144,8 @@ fn first_day_unlike<A: DaySeq + Drop, B: DaySeq + Drop, L: Ledger>(
 ) -> Option<Shown>
     requires near { IsNearDay from }
     requires most { days ≤ 5_000_000_000 }
-    ensures none { IfNone result (ShowsNoneWithin (shown_by Equal) (A.sketch a.now) (B.sketch b.now) from (from +ℤ pos days)) }
-    ensures some { IfSome result (λ r. IsFirstDayShown (shown_by Equal) (A.sketch a.now) (B.sketch b.now) from r.day r.second r.side) }
+    ensures none { IfNone result (ShowsNoneFor Equal (A.sketch a.now) (B.sketch b.now) from days) }
+    ensures some { IfSome result (IsFirstFrom Equal (A.sketch a.now) (B.sketch b.now) from) }
     ensures high { IfSome result (λ r. r.day ≤ℤ pos 3_000_000_000_000) }
     ensures few { steps.new ≤ steps.old + 2 * days }
 {
@@ -183,7 +186,8 @@ fn compare_from<A: DaySeq + Drop, B: DaySeq + Drop, L: Ledger>(
     requires some { 1 ≤ most }
     requires few_days { most ≤ 5_000_000_000 }
     requires alike { AreAlike (A.sets a.now) (B.sets b.now) alike }
-    ensures run { IsRun (A.sets a.now) (B.sets b.now) (A.sketch a.now) (B.sketch b.now) day most result }
+    ensures run { IsRun (A.sets a.now) (B.sets b.now) (A.sketch a.now) (B.sketch b.now)
+        day most result }
     ensures few { steps.new ≤ steps.old + 2 * days_of most result }
 {
     let free_a = a.read_free(day, steps);
@@ -218,7 +222,8 @@ fn compare_row<A: DaySeq + Drop, B: DaySeq + Drop, L: Ledger>(
     requires first { IsNumberOn (A.sets a.now) (A.sketch a.now) day of_a }
     requires second { IsNumberOn (B.sets b.now) (B.sketch b.now) day of_b }
     requires alike { AreAlike (A.sets a.now) (B.sets b.now) alike }
-    ensures run { IsRun (A.sets a.now) (B.sets b.now) (A.sketch a.now) (B.sketch b.now) day most result }
+    ensures run { IsRun (A.sets a.now) (B.sets b.now) (A.sketch a.now) (B.sketch b.now)
+        day most result }
     ensures few { steps.new + 2 ≤ steps.old + 2 * days_of most result }
 {
     match compare_days(a, b, day, of_a, of_b, alike) {
@@ -240,9 +245,10 @@ fn compare_later<A: DaySeq + Drop, B: DaySeq + Drop, L: Ledger>(
     requires high { day ≤ℤ pos 6_000_000_000 }
     requires some { 1 ≤ most }
     requires few_days { most ≤ 5_000_000_000 }
-    requires first { ShowsNoneWithin (shown_by Equal) (A.sketch a.now) (B.sketch b.now) day (day +ℤ pos 1) }
+    requires first { ShowsNoneFor Equal (A.sketch a.now) (B.sketch b.now) day 1 }
     requires alike { AreAlike (A.sets a.now) (B.sets b.now) alike }
-    ensures run { IsRun (A.sets a.now) (B.sets b.now) (A.sketch a.now) (B.sketch b.now) day most result }
+    ensures run { IsRun (A.sets a.now) (B.sets b.now) (A.sketch a.now) (B.sketch b.now)
+        day most result }
     ensures few { steps.new + 2 ≤ steps.old + 2 * days_of most result }
 {
     let later_a = a.later(day);
@@ -276,9 +282,10 @@ fn compare_numbers<A: DaySeq + Drop, B: DaySeq + Drop>(
     requires one_length { length of_a.now ≡ length of_b.now }
     requires numbers_of_a { AreNumbersAfter (A.sets a.now) (A.sketch a.now) day of_a.now }
     requires numbers_of_b { AreNumbersAfter (B.sets b.now) (B.sketch b.now) day of_b.now }
-    requires first { ShowsNoneWithin (shown_by Equal) (A.sketch a.now) (B.sketch b.now) day (day +ℤ pos 1) }
+    requires first { ShowsNoneFor Equal (A.sketch a.now) (B.sketch b.now) day 1 }
     requires alike { AreAlike (A.sets a.now) (B.sets b.now) alike }
-    ensures { AreCompared (A.sets a.now) (B.sets b.now) (A.sketch a.now) (B.sketch b.now) day (length of_a.now + 1) result }
+    ensures { AreCompared (A.sets a.now) (B.sets b.now) (A.sketch a.now) (B.sketch b.now)
+        day (length of_a.now + 1) result }
 {
     let end = of_a.len();
     let mut alike = alike;
@@ -286,7 +293,7 @@ fn compare_numbers<A: DaySeq + Drop, B: DaySeq + Drop>(
     while from < end {
         let block = alike.pass_blocks(of_a, of_b, from, end);
         let stop = end.min(block + BLOCK);
-        match compare_places(a, b, day, of_a, of_b, block, stop, alike) {
+        match compare_each(a, b, day, of_a, of_b, block, stop, alike) {
             Comparison::Unlike(shown) => return Comparison::Unlike(shown),
             Comparison::Alike(more) => alike = more,
         }
@@ -295,8 +302,8 @@ fn compare_numbers<A: DaySeq + Drop, B: DaySeq + Drop>(
     Comparison::Alike(alike)
 }
 
-// The days at places of two rows of numbers compared one by one, where both are alike on each day before them.
-fn compare_places<A: DaySeq + Drop, B: DaySeq + Drop>(
+// The days at indexes of two rows of numbers compared one by one, where both are alike on each day before them.
+fn compare_each<A: DaySeq + Drop, B: DaySeq + Drop>(
     a: &Counted<A>,
     b: &Counted<B>,
     day: i64,
@@ -314,9 +321,10 @@ fn compare_places<A: DaySeq + Drop, B: DaySeq + Drop>(
     requires within_b { to ≤ length of_b.now }
     requires numbers_of_a { AreNumbersAfter (A.sets a.now) (A.sketch a.now) day of_a.now }
     requires numbers_of_b { AreNumbersAfter (B.sets b.now) (B.sketch b.now) day of_b.now }
-    requires before { ShowsNoneWithin (shown_by Equal) (A.sketch a.now) (B.sketch b.now) day (day +ℤ pos (from + 1)) }
+    requires before { ShowsNoneFor Equal (A.sketch a.now) (B.sketch b.now) day (from + 1) }
     requires alike { AreAlike (A.sets a.now) (B.sets b.now) alike }
-    ensures { AreCompared (A.sets a.now) (B.sets b.now) (A.sketch a.now) (B.sketch b.now) day (to + 1) result }
+    ensures { AreCompared (A.sets a.now) (B.sets b.now) (A.sketch a.now) (B.sketch b.now)
+        day (to + 1) result }
 {
     let mut alike = alike;
     for k in from..to {
@@ -346,7 +354,7 @@ struct AlikeNumbers {
 }
 
 impl AlikeNumbers {
-    // The end of the whole blocks from one place on, and up to an end, at each place of which two rows have one number of the stretch.
+    // The end of the whole blocks from one index on, and up to an end, at each index of which two rows have one number of the stretch.
     fn pass_blocks(self, xs: &[u32], ys: &[u32], from: usize, end: usize) -> usize
         requires first { end ≤ length xs.now }
         requires second { end ≤ length ys.now }
@@ -365,7 +373,7 @@ impl AlikeNumbers {
         at
     }
 
-    // Whether two rows have one number of the stretch at each place of the block that begins at one. Its first place is asked alone,
+    // Whether two rows have one number of the stretch at each index of the block that begins at one. Its first index is asked alone,
     // so that little is lost where each day has another number.
     fn has_block(self, xs: &[u32], ys: &[u32], from: usize) -> bool
         requires first { from + 64 ≤ length xs.now }
@@ -381,10 +389,10 @@ impl AlikeNumbers {
         }
     }
 
-    // Whether the numbers of a row at each place of the block that begins at one, none of them above `greatest`, are of the stretch.
+    // Whether the numbers of a row at each index of the block that begins at one, none of them above `greatest`, are of the stretch.
     fn has_numbers(self, xs: &[u32], from: usize, greatest: u32) -> bool
         requires within { from + 64 ≤ length xs.now }
-        requires most { (k : ℕ) → from ≤ k → k < from + 64 → get_or xs.now k 0 ≤ greatest }
+        requires most { AreUpTo greatest xs.now from (from + 64) }
         ensures { IsTrue result → AreOf self xs.now from (from + 64) }
     {
         if self.from == 0 && greatest < self.end {
@@ -393,33 +401,33 @@ impl AlikeNumbers {
         self.has_each(xs, from)
     }
 
-    // Whether the numbers of a row at each place of the block that begins at one are of the stretch. No place is left out, so that
+    // Whether the numbers of a row at each index of the block that begins at one are of the stretch. No index is left out, so that
     // several are compared at once.
     fn has_each(self, xs: &[u32], from: usize) -> bool
         requires { from + 64 ≤ length xs.now }
         ensures { IsTrue result → AreOf self xs.now from (from + 64) }
     {
         let mut all = true;
-        for place in from..from + BLOCK {
-            all = (self.from <= xs[place]) & (xs[place] < self.end) & all;
+        for index in from..from + BLOCK {
+            all = (self.from <= xs[index]) & (xs[index] < self.end) & all;
         }
         all
     }
 }
 
-// The greatest of the numbers at the places of the block that begins at one; none unless two rows are equal there. No place is
+// The greatest of the numbers at the indexes of the block that begins at one; none unless two rows are equal there. No index is
 // left out, so that several are compared at once.
 fn greatest_of_equal(xs: &[u32], ys: &[u32], from: usize) -> Option<u32>
     requires first { from + 64 ≤ length xs.now }
     requires second { from + 64 ≤ length ys.now }
-    ensures equal { IfSome result (λ greatest. (k : ℕ) → from ≤ k → k < from + 64 → get_or xs.now k 0 ≡ get_or ys.now k 0) }
-    ensures most { IfSome result (λ greatest. (k : ℕ) → from ≤ k → k < from + 64 → get_or xs.now k 0 ≤ greatest) }
+    ensures equal { IfSome result (λ greatest. AreEqualRows xs.now ys.now from (from + 64)) }
+    ensures most { IfSome result (λ greatest. AreUpTo greatest xs.now from (from + 64)) }
 {
     let mut equal = true;
     let mut greatest = 0;
-    for place in from..from + BLOCK {
-        equal = (xs[place] == ys[place]) & equal;
-        greatest = xs[place].max(greatest);
+    for index in from..from + BLOCK {
+        equal = (xs[index] == ys[index]) & equal;
+        greatest = xs[index].max(greatest);
     }
     if equal { Some(greatest) } else { None }
 }
@@ -447,7 +455,8 @@ fn compare_days<A: DaySeq + Drop, B: DaySeq + Drop>(
     requires first { IsNumberOn (A.sets a.now) (A.sketch a.now) day of_a }
     requires second { IsNumberOn (B.sets b.now) (B.sketch b.now) day of_b }
     requires alike { AreAlike (A.sets a.now) (B.sets b.now) alike }
-    ensures { IsCompared (A.sets a.now) (B.sets b.now) (A.sketch a.now) (B.sketch b.now) day result }
+    ensures { IsCompared (A.sets a.now) (B.sets b.now) (A.sketch a.now) (B.sketch b.now)
+        day result }
 {
     if have_one_of(of_a, of_b, alike) {
         return Comparison::Alike(alike);
@@ -480,7 +489,8 @@ fn next_alike(a: Option<u32>, b: Option<u32>, alike: AlikeNumbers) -> AlikeNumbe
 
 // The numbers with one more, where it comes next to them or they are none.
 fn with_number(alike: AlikeNumbers, number: u32) -> AlikeNumbers
-    ensures { (k : ℕ) → result.from ≤ k → k < result.end → ((alike.from ≤ k) × (k < alike.end)) ⊎ (k ≡ number) }
+    ensures { (k : ℕ) → result.from ≤ k → k < result.end
+        → ((alike.from ≤ k) × (k < alike.end)) ⊎ (k ≡ number) }
 {
     let AlikeNumbers { from, end } = alike;
     if number == u32::MAX {
@@ -522,7 +532,8 @@ fn unlike_on_day<A: DaySeq + Drop, B: DaySeq + Drop>(
 // The seconds of the time set of a number; none without a number.
 fn seconds_of<S: DaySeq + Drop>(seq: &Counted<S>, number: Option<u32>) -> &[u32]
     requires { IfSome number (λ n. n < length (S.sets seq.now)) }
-    ensures { MatchOption number (result.now ≡ []) (λ n. slice_get (S.sets seq.now) n ≡ Some result.now) }
+    ensures { MatchOption number (result.now ≡ [])
+        (λ n. slice_get (S.sets seq.now) n ≡ Some result.now) }
 {
     match number {
         None => &[],

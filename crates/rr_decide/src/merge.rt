@@ -1,7 +1,7 @@
 // The seconds of one day of two sets, in order.
-ghost use Rattle.std.specs.Prelude.{◌≡◌, ◌↔◌, IsTrue, MatchOption, nat_lt};
+ghost use Rattle.std.specs.Prelude.{◌≡◌, ◌↔◌, IsTrue, nat_lt};
 ghost use Rattle.rr_model.specs.Rising.{Rises};
-ghost use Rattle.rr_decide.specs.Question.{IsFirstShown, ShowsNone, shown_by};
+ghost use Rattle.rr_decide.specs.Question.{IsFirstSecondShown, ShowsNone, shown_by};
 
 use crate::question::Question;
 use rr_model::Side;
@@ -27,7 +27,7 @@ fn are_alike(question: Question, xs: &[u32], ys: &[u32]) -> bool
 pub fn first_shown(question: Question, xs: &[u32], ys: &[u32]) -> Option<(u32, Side)>
     requires xs { Rises nat_lt xs.now }
     requires ys { Rises nat_lt ys.now }
-    ensures { MatchOption result (ShowsNone (shown_by question) xs.now ys.now) (λ r. IsFirstShown (shown_by question) xs.now ys.now r.0 r.1) }
+    ensures { IsFirstSecondShown question xs.now ys.now result }
 {
     let alike = are_alike(question, xs, ys);
     if alike {

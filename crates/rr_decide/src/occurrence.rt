@@ -1,10 +1,8 @@
 // Occurrences of both kinds in one order.
-ghost use Rattle.std.specs.Prelude.{◌≡◌, ◌↔◌, IsTrue, IfSome, MatchOption, pos, neg_ℤ, ◌≤ℤ◌};
+ghost use Rattle.std.specs.Prelude.{◌≡◌, ◌↔◌, IsTrue, IfSome, pos, neg_ℤ, ◌≤ℤ◌};
 ghost use Rattle.rr_model.specs.Moment.{Before, moment_at};
-ghost use Rattle.rr_model.specs.Sets.Sketch.{IsEmptySketch};
 ghost use Rattle.rr_model.specs.declared.verdict.Verdict.TheVariants.{No};
-ghost use Rattle.rr_decide.specs.Occurrence.{IsNearOccurrence, IsUpToMaxDay};
-ghost use Rattle.rr_decide.specs.Question.{IsFirstOccurrence};
+ghost use Rattle.rr_decide.specs.Occurrence.{IsFirstOrNone, IsNearOccurrence, IsUpToMaxDay};
 
 use rr_model::{Kind, SECONDS_OF_DAY, Side, Verdict, moment_at};
 use rr_word::DaySeq;
@@ -59,7 +57,7 @@ impl Occurrence {
 
 /// The first occurrence of a sequence.
 pub fn first_occurrence<S: DaySeq>(seq: &S) -> Option<Occurrence>
-    ensures first { MatchOption result (IsEmptySketch (S.sketch seq.now)) (λ o. IsFirstOccurrence (S.sketch seq.now) o.kind o.at) }
+    ensures first { IsFirstOrNone (S.sketch seq.now) result }
     ensures near { IfSome result IsNearOccurrence }
     ensures day { IfSome result (λ o. IsUpToMaxDay o.kind o.at) }
 {

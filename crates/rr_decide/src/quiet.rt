@@ -1,11 +1,12 @@
 // Pairs of time sets that showed nothing, by their numbers.
 ghost use Rattle.std.specs.Prelude.{◌≡◌, ◌+◌, ◌⊎◌, ◌<◌, ◌≤◌, ℕ, IsTrue, Some, length, get_or};
 ghost use Rattle.rr_decide.specs.Quiet.{AreRemembered, HasPair, IsAlike, IsPair, IsPlaced, IsRecent, WereThere, WereThereOr};
+ghost use Rattle.rr_decide.specs.Rows.{EachPair};
 
-// How many places make a block.
+// How many indexes make a block.
 const BLOCK: usize = 16;
 
-// How many places of two rows are compared with one another at once.
+// How many indexes of two rows are compared with one another at once.
 const ROW: usize = 512;
 
 // At how many places pairs are remembered.
@@ -42,28 +43,28 @@ impl Recent {
         (a == self.last.a && b == self.last.b) || (a == self.earlier.a && b == self.earlier.b)
     }
 
-    // Whether two rows have one of the pairs at each place of the block that begins at one. No place is left out, so that several
+    // Whether two rows have one of the pairs at each index of the block that begins at one. No index is left out, so that several
     // are compared at once.
     fn has_block(self, xs: &[u32], ys: &[u32], from: usize) -> bool
         requires first { from + 16 ≤ length xs.now }
         requires second { from + 16 ≤ length ys.now }
-        ensures { IsTrue result → (k : ℕ) → from ≤ k → k < from + 16 → IsRecent (Some self) (get_or xs.now k 0) (get_or ys.now k 0) }
+        ensures { IsTrue result → EachPair (IsRecent (Some self)) xs.now ys.now from (from + 16) }
     {
         let mut all = true;
-        for place in from..from + BLOCK {
-            all = self.has(xs[place], ys[place]) & all;
+        for index in from..from + BLOCK {
+            all = self.has(xs[index], ys[index]) & all;
         }
         all
     }
 
-    // The end of the whole blocks from one place on, and up to an end, at each place of which two rows have one of the pairs.
+    // The end of the whole blocks from one index on, and up to an end, at each index of which two rows have one of the pairs.
     fn pass_blocks(self, xs: &[u32], ys: &[u32], from: usize, end: usize) -> usize
         requires first { end ≤ length xs.now }
         requires second { end ≤ length ys.now }
         requires order { from ≤ end }
         ensures least { from ≤ result }
         ensures most { result ≤ end }
-        ensures has { (k : ℕ) → from ≤ k → k < result → IsRecent (Some self) (get_or xs.now k 0) (get_or ys.now k 0) }
+        ensures has { EachPair (IsRecent (Some self)) xs.now ys.now from result }
     {
         let mut at = from;
         while end - at >= BLOCK {
@@ -164,7 +165,8 @@ impl Quiet {
     /// Remembers a pair, and that below `alike` sets of one number show nothing: all pairs of one number are then remembered by that
     /// alone. None where that is not asked for any more, and then the pair is put in place of the last one of its place.
     pub fn learn(&mut self, pair: Pair, alike: Option<u32>)
-        ensures { (a b : ℕ) → HasPair self.new a b → HasPair self.old a b ⊎ (IsPair pair a b ⊎ IsAlike alike a b) }
+        ensures { (a b : ℕ) → HasPair self.new a b
+            → HasPair self.old a b ⊎ (IsPair pair a b ⊎ IsAlike alike a b) }
     {
         self.alike = alike;
         if alike.is_none() {
@@ -201,22 +203,24 @@ impl Quiet {
     fn place(&mut self, pair: Pair)
         ensures recent { self.new.recent ≡ self.old.recent }
         ensures alike { self.new.alike ≡ self.old.alike }
-        ensures placed { (a b : ℕ) → IsPlaced self.new.slots a b → IsPlaced self.old.slots a b ⊎ IsPair pair a b }
+        ensures placed { (a b : ℕ) → IsPlaced self.new.slots a b
+            → IsPlaced self.old.slots a b ⊎ IsPair pair a b }
     {
         if let Some(slots) = &mut self.slots {
-            slots[place_of(pair)] = Some(pair);
+            slots[index_of(pair)] = Some(pair);
         }
     }
 
-    /// At how many places from the first one on, of at most `most`, two rows have a remembered pair.
+    /// At how many indexes from the first one on, of at most `most`, two rows have a remembered pair.
     ///
-    /// Where sets of one number show nothing, whole stretches of both rows are compared with one another; else blocks of places with
-    /// the last two pairs at a time, and place by place only where a block has another.
+    /// Where sets of one number show nothing, whole stretches of both rows are compared with one another; else blocks of indexes with
+    /// the last two pairs at a time, and index by index only where a block has another.
     pub fn count(&mut self, xs: &[u32], ys: &[u32], most: usize) -> usize
         ensures first { result ≤ length xs.now }
         ensures second { result ≤ length ys.now }
         ensures most { result ≤ most }
-        ensures has { (k : ℕ) → k < result → HasPair self.old (get_or xs.now k 0) (get_or ys.now k 0) }
+        ensures has { (k : ℕ) → k < result
+            → HasPair self.old (get_or xs.now k 0) (get_or ys.now k 0) }
         ensures kept { WereThere self.old self.new }
     {
         let end = xs.len().min(ys.len()).min(most);
@@ -237,29 +241,29 @@ impl Quiet {
         from
     }
 
-    // The first place from one on, and before an end, at which two rows have no remembered pair; the end where there is none.
+    // The first index from one on, and before an end, at which two rows have no remembered pair; the end where there is none.
     fn count_from(&mut self, xs: &[u32], ys: &[u32], from: usize, end: usize) -> usize
         requires first { end ≤ length xs.now }
         requires second { end ≤ length ys.now }
         requires order { from ≤ end }
         ensures least { from ≤ result }
         ensures most { result ≤ end }
-        ensures has { (k : ℕ) → from ≤ k → k < result → HasPair self.old (get_or xs.now k 0) (get_or ys.now k 0) }
+        ensures has { EachPair (HasPair self.old) xs.now ys.now from result }
         ensures kept { WereThere self.old self.new }
     {
-        for place in from..end {
+        for index in from..end {
             let pair = Pair {
-                a: xs[place],
-                b: ys[place],
+                a: xs[index],
+                b: ys[index],
             };
             if !self.recall(pair) {
-                return place;
+                return index;
             }
         }
         end
     }
 
-    // The end of the stretches and whole blocks from one place on, and up to an end, at each place of which two rows have a
+    // The end of the stretches and whole blocks from one index on, and up to an end, at each index of which two rows have a
     // remembered pair of one number or one of the last two pairs.
     fn pass_blocks(&self, xs: &[u32], ys: &[u32], from: usize, end: usize) -> usize
         requires first { end ≤ length xs.now }
@@ -267,7 +271,7 @@ impl Quiet {
         requires order { from ≤ end }
         ensures least { from ≤ result }
         ensures most { result ≤ end }
-        ensures has { (k : ℕ) → from ≤ k → k < result → HasPair self.now (get_or xs.now k 0) (get_or ys.now k 0) }
+        ensures has { EachPair (HasPair self.now) xs.now ys.now from result }
     {
         let alike = pass_alike(self.alike, xs, ys, from, end);
         match self.recent {
@@ -277,14 +281,14 @@ impl Quiet {
     }
 }
 
-// The end of the stretches from one place on, and up to an end, at each place of which two rows have one number below another.
+// The end of the stretches from one index on, and up to an end, at each index of which two rows have one number below another.
 fn pass_alike(alike: Option<u32>, xs: &[u32], ys: &[u32], from: usize, end: usize) -> usize
     requires first { end ≤ length xs.now }
     requires second { end ≤ length ys.now }
     requires order { from ≤ end }
     ensures least { from ≤ result }
     ensures most { result ≤ end }
-    ensures has { (k : ℕ) → from ≤ k → k < result → IsAlike alike (get_or xs.now k 0) (get_or ys.now k 0) }
+    ensures has { EachPair (IsAlike alike) xs.now ys.now from result }
 {
     match alike {
         None => from,
@@ -292,14 +296,14 @@ fn pass_alike(alike: Option<u32>, xs: &[u32], ys: &[u32], from: usize, end: usiz
     }
 }
 
-// The end of the stretches from one place on, and up to an end, at each place of which two rows have one number below another.
+// The end of the stretches from one index on, and up to an end, at each index of which two rows have one number below another.
 fn pass_equal(xs: &[u32], ys: &[u32], from: usize, end: usize, below: u32) -> usize
     requires first { end ≤ length xs.now }
     requires second { end ≤ length ys.now }
     requires order { from ≤ end }
     ensures least { from ≤ result }
     ensures most { result ≤ end }
-    ensures has { (k : ℕ) → from ≤ k → k < result → IsAlike (Some below) (get_or xs.now k 0) (get_or ys.now k 0) }
+    ensures has { EachPair (IsAlike (Some below)) xs.now ys.now from result }
 {
     let mut at = from;
     while at < end {
@@ -312,19 +316,19 @@ fn pass_equal(xs: &[u32], ys: &[u32], from: usize, end: usize, below: u32) -> us
     at
 }
 
-// Whether two rows have one number, below another, at each place from one on and before an end. No place is left out, so that
+// Whether two rows have one number, below another, at each index from one on and before an end. No index is left out, so that
 // several are compared at once.
 fn are_equal_below(xs: &[u32], ys: &[u32], from: usize, to: usize, below: u32) -> bool
     requires first { to ≤ length xs.now }
     requires second { to ≤ length ys.now }
     requires order { from ≤ to }
-    ensures { IsTrue result → (k : ℕ) → from ≤ k → k < to → IsAlike (Some below) (get_or xs.now k 0) (get_or ys.now k 0) }
+    ensures { IsTrue result → EachPair (IsAlike (Some below)) xs.now ys.now from to }
 {
     let mut equal = true;
     let mut greatest = 0;
-    for place in from..to {
-        equal = (xs[place] == ys[place]) & equal;
-        greatest = xs[place].max(greatest);
+    for index in from..to {
+        equal = (xs[index] == ys[index]) & equal;
+        greatest = xs[index].max(greatest);
     }
     equal && greatest < below
 }
@@ -347,14 +351,14 @@ fn after(recent: Option<Recent>, pair: Pair) -> Recent
 fn is_in(slots: &[Option<Pair>; 1_024], pair: Pair) -> bool
     ensures { IsTrue result → IsPlaced (Some slots.now) pair.a pair.b }
 {
-    match slots[place_of(pair)] {
+    match slots[index_of(pair)] {
         None => false,
         Some(other) => other.a == pair.a && other.b == pair.b,
     }
 }
 
-// The place of a pair. Pairs of one number have places of their own, as long as there are as many.
-fn place_of(pair: Pair) -> usize
+// The index of a pair in the table. Pairs of one number have indexes of their own, as long as there are as many.
+fn index_of(pair: Pair) -> usize
     ensures { result < 1_024 }
 {
     ((u64::from(pair.a) + 30 * u64::from(pair.b)) % 1_024) as usize

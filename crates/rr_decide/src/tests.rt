@@ -117,7 +117,8 @@ impl Every {
     fn number_on(&self, day: i64) -> Option<u32>
         requires low { neg_ℤ (pos 3_000_000_000_000) ≤ℤ day }
         requires high { day ≤ℤ pos 3_000_000_000_000 }
-        ensures { IsNumberOn ((0 ∷ []) ∷ []) (every self.now.kind self.now.start self.now.step self.now.some) day result }
+        ensures { IsNumberOn ((0 ∷ []) ∷ [])
+            (every self.now.kind self.now.start self.now.step self.now.some) day result }
     {
         if self.some && day >= self.start && (day - self.start) as u64 % self.step == 0 {
             return Some(0);
@@ -180,7 +181,7 @@ fn verdict_of(name: &str, a: &Every, b: &Every) -> Result<Verdict, Fail> {
 }
 
 // A verdict as a row says it.
-fn said(alloc: Global, verdict: Verdict) -> Result<String, Fail> {
+fn text_of(alloc: Global, verdict: Verdict) -> Result<String, Fail> {
     match verdict {
         Verdict::Yes => Ok(String::from_str(alloc, "yes")?),
         Verdict::No { kind, at, side } => Ok(format!(in alloc; "no {kind:?} {at} {side:?}")?),
@@ -193,7 +194,7 @@ fn row_holds(rt: &impl Abort, alloc: Global, row: &str) -> Result<(), Fail> {
     let (given, b) = given.rsplit_once('|').ok_or("a row has a set B")?;
     let (name, a) = given.split_once('|').ok_or("a row has a set A")?;
     let verdict = verdict_of(name, &set_of(a)?, &set_of(b)?)?;
-    assert_eq!(rt; said(alloc, verdict)?.as_str(), wanted, "{row}");
+    assert_eq!(rt; text_of(alloc, verdict)?.as_str(), wanted, "{row}");
     Ok(())
 }
 

@@ -1,8 +1,8 @@
 // The verdict on two sequences, for one question.
-ghost use Rattle.std.specs.Prelude.{◌≡◌, ◌≤◌, IsTrue, IfSome, MatchOption};
-ghost use Rattle.rr_model.specs.Sets.Sketch.{IsEmptySketch, IsNearDay, StandsIn};
-ghost use Rattle.rr_decide.specs.Occurrence.{IsNearOccurrence, IsUpToMaxDay, NamesUpToMaxDay};
-ghost use Rattle.rr_decide.specs.Question.{AreApart, HasNoneBefore, IsFirstOccurrence, IsVerdictBy, IsWindow, shown_by};
+ghost use Rattle.std.specs.Prelude.{◌≡◌, ◌≤◌, IfSome};
+ghost use Rattle.rr_model.specs.Sets.Sketch.{IsNearDay};
+ghost use Rattle.rr_decide.specs.Occurrence.{IsFirstIf, IsNearOccurrence, IsUpToMaxDay, NamesUpToMaxDay};
+ghost use Rattle.rr_decide.specs.Question.{HasNoneBefore, IsVerdictOn, IsWindow, ShareNothing, shown_by};
 
 use crate::days::{days_between, first_day, first_day_shown};
 use crate::occurrence::{Occurrence, first_occurrence};
@@ -19,11 +19,11 @@ pub fn verdict_by_walk<A: DaySeq, B: DaySeq>(
 ) -> Verdict
     requires window { IsWindow (shown_by question) (A.sketch a.now) (B.sketch b.now) window }
     requires few { window ≤ 2_000_000_000 }
-    ensures verdict { IsVerdictBy (shown_by question) (StandsIn (A.sketch a.now)) (StandsIn (B.sketch b.now)) result }
+    ensures verdict { IsVerdictOn question (A.sketch a.now) (B.sketch b.now) result }
     ensures day { NamesUpToMaxDay result }
 {
     match first_day(a, b) {
-        None => apart(question, a, b),
+        None => verdict_apart(question, a, b),
         Some(from) => of_one_kind(question, a, b, from, window),
     }
 }
@@ -42,7 +42,7 @@ fn of_one_kind<A: DaySeq, B: DaySeq>(
     requires near { IsNearDay from }
     requires window { IsWindow (shown_by question) (A.sketch a.now) (B.sketch b.now) window }
     requires few { window ≤ 2_000_000_000 }
-    ensures verdict { IsVerdictBy (shown_by question) (StandsIn (A.sketch a.now)) (StandsIn (B.sketch b.now)) result }
+    ensures verdict { IsVerdictOn question (A.sketch a.now) (B.sketch b.now) result }
     ensures day { NamesUpToMaxDay result }
 {
     let last = from.max(a.settled()).max(b.settled());
@@ -55,7 +55,7 @@ fn of_one_kind<A: DaySeq, B: DaySeq>(
 
 // The first occurrence, where it is asked for.
 fn first_if<S: DaySeq>(asked: bool, seq: &S) -> Option<Occurrence>
-    ensures first { MatchOption result (IsTrue asked → IsEmptySketch (S.sketch seq.now)) (λ o. IsTrue asked × IsFirstOccurrence (S.sketch seq.now) o.kind o.at) }
+    ensures first { IsFirstIf asked (S.sketch seq.now) result }
     ensures near { IfSome result IsNearOccurrence }
     ensures day { IfSome result (λ o. IsUpToMaxDay o.kind o.at) }
 {
@@ -63,9 +63,9 @@ fn first_if<S: DaySeq>(asked: bool, seq: &S) -> Option<Occurrence>
 }
 
 // The verdict on two sequences with nothing in common: the lesser of the first occurrences that show no.
-fn apart<A: DaySeq, B: DaySeq>(question: Question, a: &A, b: &B) -> Verdict
-    requires { AreApart (StandsIn (A.sketch a.now)) (StandsIn (B.sketch b.now)) }
-    ensures verdict { IsVerdictBy (shown_by question) (StandsIn (A.sketch a.now)) (StandsIn (B.sketch b.now)) result }
+fn verdict_apart<A: DaySeq, B: DaySeq>(question: Question, a: &A, b: &B) -> Verdict
+    requires { ShareNothing (A.sketch a.now) (B.sketch b.now) }
+    ensures verdict { IsVerdictOn question (A.sketch a.now) (B.sketch b.now) result }
     ensures day { NamesUpToMaxDay result }
 {
     let shows_a = question.is_shown_by(Side::A);

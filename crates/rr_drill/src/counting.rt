@@ -35,7 +35,8 @@ fn one_where_yes(asked: Asked, a: &DrawnDays, b: &DrawnDays) -> u32
 // How many verdicts on a series and each of others are yes.
 fn yes_in_row(asked: Asked, first: &DrawnDays, others: &[DrawnDays]) -> u32
     requires { length others.now ≤ 100 }
-    ensures count { IsCountOf (λ days. IsYes asked (stands first.now) (stands days)) others.now result }
+    ensures count { IsCountOf (λ days. IsYes asked (stands first.now) (stands days))
+        others.now result }
     ensures few { result ≤ length others.now }
 {
     let mut count = 0;

@@ -1,6 +1,6 @@
 -- What walks over the days of a set find.
 use Rattle.std.proofs.Common.{◌≡◌, ◌↔◌, ℕ, suc, ◌+◌, ◌-◌, ◌<◌, ◌≤◌, ◌==◌, Bool, true, false, not, List, []}
-use Rattle.std.proofs.Common.{◌∷◌, length, get_or, ℤ, pos, nat_abs, ◌+ℤ◌, ◌-ℤ◌, ◌≤ℤ◌, ◌<ℤ◌, refl, sym, ap, subst, ◌∙◌, arith}
+use Rattle.std.proofs.Common.{◌∷◌, length, get_or, ℤ, pos, nat_abs, ◌+ℤ◌, ◌-ℤ◌, ◌≤ℤ◌, ◌<ℤ◌, refl, sym, ap, subst, ◌∙◌, w64, to_z, of_z, arith}
 use Rattle.std.specs.Prelude.{IsTrue, Option, Some, None}
 use Rattle.std.specs.List.{Contains}
 use Rattle.std.proofs.lemmas.Int.{ints, by_lt_z}
@@ -9,7 +9,7 @@ use Rattle.rr_model.specs.Moment.{day_part, second_part, moment_at}
 use Rattle.rr_model.specs.Moment.Years.{IsInYears, HasFourDigitYear}
 use Rattle.rr_model.specs.Rule.Validity.{is_absent}
 use Rattle.rr_model.specs.Sets.Least.{IsEndless}
-use Rattle.rr_model.specs.Sets.Sketch.{IsFirstDay, IsValidSketch, times_on}
+use Rattle.rr_model.specs.Sets.Sketch.{IsFirstDay, IsNearDay, IsValidSketch, times_on}
 use Rattle.rr_model.specs.Whole.Count.{count_from}
 use Rattle.rr_model.specs.declared.kind.Kind.{Kind}
 use Rattle.rr_model.specs.declared.sketch.Sketch.{Sketch}
@@ -176,6 +176,13 @@ first_before s first after is_first none =
     by_lt_z {P = first <ℤ after} first after (λ l. l) (λ l. absurd (is_first.0 (none first l)))
 
 -- ---- counting
+
+-- the day after so many days, as it is stored
+pub day_after_read : (first after : ℤ) (read days : ℕ) → IsNearDay first → days ≤ 3_000_000_000 → read ≤ days → after ≡ to_z w64 (of_z w64 first) +ℤ pos read
+    → to_z w64 (of_z w64 after) ≡ first +ℤ pos read
+day_after_read first after read days near few less is =
+    let back : to_z w64 (of_z w64 first) ≡ first = omega (arith, ints, near.0, near.1) in
+    omega (arith, ints, near.0, near.1, few, less, is, back)
 
 -- free days count nothing
 pub counted_free : (p : ℤ → Bool) (q : ℤ) (k n : ℕ) → k ≤ n → ((d : ℤ) → (q +ℤ pos k) ≤ℤ d → d <ℤ (q +ℤ pos n) → p d ≡ false)

@@ -43,10 +43,14 @@ abbrev pub AreDivisors : Divisors → (ℤ → Bool) → ℤ → ℕ → Type 0
 AreDivisors divisors occupied first days =
     EachUnit (λ freq w. IsDivisor (divisor_of divisors freq w) (unit_number freq w Days) occupied first days)
 
+-- one more occupied day enters the divisor of a frequency and a first weekday
+abbrev pub IsJoinedAt : Divisors → Freq → ℕ → ℤ → ℤ → ℕ → Type 0
+IsJoinedAt old freq w first d divisor = IsGcd (divisor_of old freq w) (units_apart (unit_number freq w Days) first d) divisor
+
 -- one more occupied day enters
 abbrev pub IsJoined : Divisors → ℤ → ℤ → Divisors → Type 0
 IsJoined old first d new =
-    EachUnit (λ freq w. IsGcd (divisor_of old freq w) (units_apart (unit_number freq w Days) first d) (divisor_of new freq w))
+    EachUnit (λ freq w. IsJoinedAt old freq w first d (divisor_of new freq w))
 
 -- all days of a finite set
 abbrev pub ReachesEnd : ℤ → WindowEnd → ℕ → Type 0

@@ -17,6 +17,10 @@ many_sorts family.MP = 175
 many_sorts family.YM = 12
 many_sorts family.YD = 366
 
+-- how many days the month of a day has
+abbrev pub days_in_month_of : ℤ → ℕ
+days_in_month_of d = days_in_month (year_of d) (month_of d)
+
 -- the sort of the k-th day of a month of n days: k and the month's length
 abbrev pub month_day_sort : ℕ → ℕ → ℕ
 month_day_sort k many = (k - 1) * 4 + (many - 28)
@@ -29,8 +33,8 @@ place_sort k many weekday = ((k - 1) / 7 * 5 + (many - k) / 7) * 7 + weekday
 abbrev pub sort_in_unit : FamilyKind → ℤ → ℤ → Option ℕ
 sort_in_unit family.D start d = Some 0
 sort_in_unit family.W start d = Some (weekday_of d)
-sort_in_unit family.MD start d = Some (month_day_sort (day_of_month d) (days_in_month (year_of d) (month_of d)))
-sort_in_unit family.MP start d = Some (place_sort (day_of_month d) (days_in_month (year_of d) (month_of d)) (weekday_of d))
+sort_in_unit family.MD start d = Some (month_day_sort (day_of_month d) (days_in_month_of d))
+sort_in_unit family.MP start d = Some (place_sort (day_of_month d) (days_in_month_of d) (weekday_of d))
 sort_in_unit family.YM start d = if day_of_month d == day_of_month start then Some (month_of d - 1) else None
 sort_in_unit family.YD start d = Some (day_of_year d - 1)
 

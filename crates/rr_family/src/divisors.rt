@@ -1,7 +1,7 @@
 // By multiples of which numbers the occupied units of a set lie apart, which tells the intervals that a rule of it can have.
 ghost use Rattle.std.specs.Prelude.{◌≡◌, ◌≤◌, ◌<◌, IsTrue, get_or, ℕ, pos, ◌+ℤ◌, ◌≤ℤ◌};
 ghost use Rattle.std.specs.Int.{IsGcd};
-ghost use Rattle.rr_family.specs.Divisors.{AreDivisors, HasDivisors, IsFinite, IsJoined, IsLeftOut, ReachesEnd, divisor_of, units_apart};
+ghost use Rattle.rr_family.specs.Divisors.{AreDivisors, HasDivisors, IsFinite, IsJoined, IsJoinedAt, IsLeftOut, ReachesEnd, divisor_of, units_apart};
 ghost use Rattle.rr_family.specs.Lasting.{is_occupied};
 ghost use Rattle.rr_family.specs.Walks.{IsNearWindow};
 ghost use Rattle.rr_model.specs.Moment.Units.{is_whole_days, unit_number};
@@ -136,7 +136,8 @@ impl Divisors {
 
     // Those of weeks.
     fn joined_weeks(&self, start: &Day, day: &Day) -> [u64; 7]
-        ensures { (w : ℕ) → w < 7 → IsGcd (divisor_of self.now Weekly w) (units_apart (unit_number Weekly w Days) start.now.number day.now.number) (get_or result w 0) }
+        ensures { (w : ℕ) → w < 7
+            → IsJoinedAt self.now Weekly w start.now.number day.now.number (get_or result w 0) }
     {
         [
             self.joined_unit(Freq::Weekly, 0, start, day),
@@ -153,7 +154,7 @@ impl Divisors {
     fn joined_unit(&self, freq: Freq, week_start: u8, start: &Day, day: &Day) -> u64
         requires whole { IsTrue (is_whole_days freq) }
         requires week { week_start < 7 }
-        ensures { IsGcd (divisor_of self.now freq week_start) (units_apart (unit_number freq week_start Days) start.now.number day.now.number) result }
+        ensures { IsJoinedAt self.now freq week_start start.now.number day.now.number result }
     {
         let divisor = self.of_unit(freq, week_start);
         if divisor == 1 {
@@ -173,7 +174,8 @@ impl Divisors {
 // How many units of a frequency the two days lie apart.
 fn units_apart(freq: Freq, week_start: u8, start: &Day, day: &Day) -> u64
     requires { IsTrue (is_whole_days freq) }
-    ensures { result ≡ units_apart (unit_number freq week_start Days) start.now.number day.now.number }
+    ensures { result
+        ≡ units_apart (unit_number freq week_start Days) start.now.number day.now.number }
 {
     unit_of_day(freq, week_start, day).abs_diff(unit_of_day(freq, week_start, start))
 }

@@ -54,7 +54,8 @@ pub trait Family {
         requires place { place < many_items (of_kind self.now) }
         requires near { IsDayWithin 0 day }
         requires late { start self.now ≤ℤ day }
-        ensures { result ≡ place_has_day (of_kind self.now) (every self.now) (start self.now) place day };
+        ensures { result
+            ≡ place_has_day (of_kind self.now) (every self.now) (start self.now) place day };
 }
 
 /// Each n days: the kind D.

@@ -1,7 +1,7 @@
 // The sorts of days that each kind of rule tells apart.
 ghost use Rattle.std.specs.Prelude.{◌≡◌, ◌≤◌, ◌<◌, ◌+◌, ◌-◌, ◌/◌, ◌%◌, ◌-ℤ◌};
-ghost use Rattle.rr_family.specs.Sorts.{has_sort, many_sorts, month_day_sort, place_sort, sort_in_unit, sort_of_day};
-ghost use Rattle.rr_model.specs.Calendar.{day_of_month, day_of_year, days_in_month, month_of, weekday_of, year_of};
+ghost use Rattle.rr_family.specs.Sorts.{days_in_month_of, has_sort, many_sorts, month_day_sort, place_sort, sort_in_unit, sort_of_day};
+ghost use Rattle.rr_model.specs.Calendar.{day_of_month, day_of_year, days_in_month, weekday_of};
 ghost use Rattle.rr_model.specs.Vcal.Members.{family_unit};
 ghost use Rattle.rr_model.specs.Whole.{divides};
 ghost use Rattle.rr_model.specs.declared.vcal.FamilyKind.TheVariants.{YM};
@@ -46,7 +46,8 @@ pub fn sort_of_day(kind: FamilyKind, interval: u32, start: &Day, day: &Day) -> O
 // Whether the unit of a day counts; at interval 1 each does, and no unit is computed.
 fn counts(kind: FamilyKind, interval: u32, start: &Day, day: &Day) -> bool
     requires { 1 ≤ interval }
-    ensures { result ≡ divides interval (family_unit kind day.now.number -ℤ family_unit kind start.now.number) }
+    ensures { result
+        ≡ divides interval (family_unit kind day.now.number -ℤ family_unit kind start.now.number) }
 {
     if interval == 1 {
         return true;
@@ -82,7 +83,8 @@ fn sort_in_unit(kind: FamilyKind, start: &Day, day: &Day) -> Option<u16>
 
 // The day's number in its month and the month's length.
 fn month_day_sort(day: &Day) -> u16
-    ensures { result ≡ month_day_sort (day_of_month day.now.number) (days_in_month (year_of day.now.number) (month_of day.now.number)) }
+    ensures { result
+        ≡ month_day_sort (day_of_month day.now.number) (days_in_month_of day.now.number) }
 {
     month_day_sort_of(u16::from(day.day_of_month), u16::from(day.days_in_month))
 }
@@ -99,7 +101,9 @@ fn month_day_sort_of(k: u16, many: u16) -> u16
 
 // Its weekday's rank in the month from the front and from the back, and the weekday.
 fn place_sort(day: &Day) -> u16
-    ensures { result ≡ place_sort (day_of_month day.now.number) (days_in_month (year_of day.now.number) (month_of day.now.number)) (weekday_of day.now.number) }
+    ensures { result
+        ≡ place_sort (day_of_month day.now.number) (days_in_month_of day.now.number)
+        (weekday_of day.now.number) }
 {
     place_sort_of(
         u16::from(day.day_of_month),

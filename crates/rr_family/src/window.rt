@@ -115,7 +115,8 @@ fn only_second(times: &[u32]) -> Option<u32>
 pub(crate) fn days_known<A: DaySeq>(seq: &A, first: i64) -> u64
     requires near { IsNearDay first }
     ensures few { result ≤ 3_000_000_000 }
-    ensures settled { ((A.sketch seq.now).settled +ℤ pos (A.sketch seq.now).period) ≤ℤ (first +ℤ pos result) }
+    ensures settled { ((A.sketch seq.now).settled +ℤ pos (A.sketch seq.now).period)
+        ≤ℤ (first +ℤ pos result) }
     ensures some { (A.sketch seq.now).period ≤ result }
 {
     let settled = seq.settled().max(first);
@@ -126,7 +127,9 @@ pub(crate) fn days_known<A: DaySeq>(seq: &A, first: i64) -> u64
 fn has_one_second<A: DaySeq>(seq: &A, second: u32, first: i64, days: u64) -> bool
     requires near { IsNearDay first }
     requires few { days ≤ 3_000_000_000 }
-    ensures { IsTrue result ↔ ((d : ℤ) → first ≤ℤ d → d <ℤ (first +ℤ pos days) → IsAtSecond (A.sketch seq.now) second d) }
+    ensures { IsTrue result
+        ↔ ((d : ℤ) → first ≤ℤ d → d <ℤ (first +ℤ pos days)
+        → IsAtSecond (A.sketch seq.now) second d) }
 {
     let mut read = 0;
     while read < days {
@@ -179,7 +182,8 @@ fn free_from<A: DaySeq>(seq: &A, day: i64, most: u64) -> u64
     requires some { 1 ≤ most }
     ensures some { 1 ≤ result }
     ensures most { result ≤ most }
-    ensures free { (d : ℤ) → day ≤ℤ d → d <ℤ (day +ℤ pos result) → is_occupied (A.sketch seq.now) d ≡ false }
+    ensures free { (d : ℤ) → day ≤ℤ d → d <ℤ (day +ℤ pos result)
+        → is_occupied (A.sketch seq.now) d ≡ false }
 {
     within(seq.free_days(day), most)
 }
@@ -243,7 +247,8 @@ fn end_of<A: DaySeq>(seq: &A, first: i64) -> WindowEnd
 // How an endless set repeats.
 fn cycle_of<A: DaySeq>(seq: &A) -> WindowEnd
     requires { IsEndless (A.sketch seq.now) }
-    ensures end { (first : ℤ) → IsFirstDay (A.sketch seq.now) (Some first) → IsWindowEnd (A.sketch seq.now) first result }
+    ensures end { (first : ℤ) → IsFirstDay (A.sketch seq.now) (Some first)
+        → IsWindowEnd (A.sketch seq.now) first result }
     ensures near { IsNearEnd result }
 {
     let period = least_period(seq);

@@ -3,6 +3,10 @@ use Rattle.std.specs.Prelude.{◌≡◌, ◌⊎◌, ℕ, ◌+◌, ◌≤◌, ◌
 use Rattle.rr_family.specs.Tally.{sort_passes, days_of_sort}
 use Rattle.rr_find.specs.declared.tallies.Counts.{Counts}
 
+-- the count of each sort, 0 for a sort that has none
+abbrev pub count_in : List ℕ → ℕ → ℕ
+count_in counts = λ sort. get_or counts sort 0
+
 -- 1 for true
 abbrev pub one_if : Bool → ℕ
 one_if b = if b then 1 else 0

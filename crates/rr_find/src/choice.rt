@@ -3,7 +3,7 @@ ghost use Rattle.std.specs.Prelude.{◌≡◌, ◌==◌, ◌↔◌, ◌≤◌, �
 ghost use Rattle.rr_family.specs.Places.{many_items};
 ghost use Rattle.rr_family.specs.Sorts.{has_sort, many_sorts};
 ghost use Rattle.rr_find.specs.ByCounts.{AreTaken, IsClear, IsTakenFrom, best_place, days_of_place, gain_of_place};
-ghost use Rattle.rr_find.specs.Counted.{HasFewDays};
+ghost use Rattle.rr_find.specs.Counted.{HasFewDays, count_in};
 
 use crate::tallies::Counts;
 use rr_family::{has_sort, item_at, many_items, many_sorts};
@@ -21,7 +21,8 @@ pub(crate) fn taken_items(
 ) -> Result<Option<Items>, NoMemory>
     requires few { HasFewDays counts.now.occupied }
     requires free_few { HasFewDays counts.now.free }
-    ensures { IfOk result (AreTaken kind (λ sort. get_or counts.now.occupied sort 0) (λ sort. get_or counts.now.free sort 0)) }
+    ensures { IfOk result
+        (AreTaken kind (count_in counts.now.occupied) (count_in counts.now.free)) }
 {
     let mut left = counts.occupied;
     let mut items = Items::new(alloc);
@@ -42,7 +43,7 @@ fn best_place(kind: FamilyKind, left: &[u64], free: &[u64]) -> Option<u16>
     requires free_sorts { many_sorts kind ≤ length free.now }
     requires few { HasFewDays left.now }
     requires free_few { HasFewDays free.now }
-    ensures { result ≡ best_place kind (λ sort. get_or left.now sort 0) (λ sort. get_or free.now sort 0) }
+    ensures { result ≡ best_place kind (count_in left.now) (count_in free.now) }
 {
     let mut best = None;
     let mut most = 0;
@@ -63,7 +64,7 @@ fn gain_of_place(kind: FamilyKind, left: &[u64], free: &[u64], place: u16) -> u6
     requires free_sorts { many_sorts kind ≤ length free.now }
     requires few { HasFewDays left.now }
     requires free_few { HasFewDays free.now }
-    ensures { result ≡ gain_of_place kind (λ sort. get_or left.now sort 0) (λ sort. get_or free.now sort 0) place }
+    ensures { result ≡ gain_of_place kind (count_in left.now) (count_in free.now) place }
 {
     if days_of_place(kind, free, place) == 0 {
         days_of_place(kind, left, place)
@@ -77,7 +78,7 @@ fn days_of_place(kind: FamilyKind, counts: &[u64], place: u16) -> u64
     requires place { place < 366 }
     requires sorts { many_sorts kind ≤ length counts.now }
     requires few { HasFewDays counts.now }
-    ensures { result ≡ days_of_place kind (λ sort. get_or counts.now sort 0) place }
+    ensures { result ≡ days_of_place kind (count_in counts.now) place }
 {
     if tells_places(kind) {
         return days_of_own_sort(kind, counts, place);
@@ -96,7 +97,7 @@ fn tells_places(kind: FamilyKind) -> bool
 fn days_of_own_sort(kind: FamilyKind, counts: &[u64], place: u16) -> u64
     requires own { (sort place : ℕ) → has_sort kind sort place ≡ (place == sort) }
     requires sorts { many_sorts kind ≤ length counts.now }
-    ensures { result ≡ days_of_place kind (λ sort. get_or counts.now sort 0) place }
+    ensures { result ≡ days_of_place kind (count_in counts.now) place }
 {
     if place < many_sorts(kind) {
         counts[usize::from(place)]
@@ -110,7 +111,7 @@ fn days_of_sorts(kind: FamilyKind, counts: &[u64], place: u16) -> u64
     requires place { place < 366 }
     requires sorts { many_sorts kind ≤ length counts.now }
     requires few { HasFewDays counts.now }
-    ensures { result ≡ days_of_place kind (λ sort. get_or counts.now sort 0) place }
+    ensures { result ≡ days_of_place kind (count_in counts.now) place }
 {
     let mut days = 0;
     for sort in 0..many_sorts(kind) {
@@ -139,7 +140,7 @@ fn take_place(kind: FamilyKind, place: u16, left: &mut [u64])
     requires sorts { many_sorts kind ≤ length left.old }
     requires few { HasFewDays left.old }
     ensures length { length left.new ≡ length left.old }
-    ensures taken { IsTakenFrom kind place (λ sort. get_or left.old sort 0) (λ sort. get_or left.new sort 0) }
+    ensures taken { IsTakenFrom kind place (count_in left.old) (count_in left.new) }
     ensures few { HasFewDays left.new }
 {
     for sort in 0..many_sorts(kind) {
@@ -152,7 +153,7 @@ fn take_place(kind: FamilyKind, place: u16, left: &mut [u64])
 // Whether no sort has a day left.
 fn is_clear(kind: FamilyKind, left: &[u64]) -> bool
     requires sorts { many_sorts kind ≤ length left.now }
-    ensures { IsTrue result ↔ IsClear kind (λ sort. get_or left.now sort 0) }
+    ensures { IsTrue result ↔ IsClear kind (count_in left.now) }
 {
     for sort in 0..many_sorts(kind) {
         if left[usize::from(sort)] != 0 {

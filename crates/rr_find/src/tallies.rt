@@ -34,7 +34,8 @@ pub(crate) fn tally<A: DaySeq>(
     requires some { 1 ≤ interval }
     requires near { IsNearDay first }
     requires few { days ≤ 4_000_000_000 }
-    ensures { IsTally (sort_of_day kind interval first) (is_occupied (A.sketch seq.now)) first days result }
+    ensures { IsTally (sort_of_day kind interval first) (is_occupied (A.sketch seq.now))
+        first days result }
 {
     let mut occupied = no_days();
     let mut free = no_days();
@@ -69,7 +70,8 @@ fn count_days<A: DaySeq>(
     requires free_sorts { many_sorts kind ≤ length free.old }
     requires clear { IsNothingCounted occupied.old }
     requires free_clear { IsNothingCounted free.old }
-    ensures { IsWalked result occupied.new free.new (sort_of_day kind interval first) (is_occupied (A.sketch seq.now)) first days }
+    ensures { IsWalked result occupied.new free.new
+        (sort_of_day kind interval first) (is_occupied (A.sketch seq.now)) first days }
 {
     let start = Day::new(first);
     let mut day = start;
@@ -99,9 +101,15 @@ fn count_day<A: DaySeq>(
     requires free_sorts { many_sorts kind ≤ length free.old }
     requires room { (k : ℕ) → get_or occupied.old k 0 < 18_446_744_073_709_551_615 }
     requires free_room { (k : ℕ) → get_or free.old k 0 < 18_446_744_073_709_551_615 }
-    ensures occupied { IsCountedOn occupied.old occupied.new (sort_of_day kind interval start.now.number day.now.number) (is_occupied (A.sketch seq.now) day.now.number) }
-    ensures free { IsCountedOn free.old free.new (sort_of_day kind interval start.now.number day.now.number) (not (is_occupied (A.sketch seq.now) day.now.number)) }
-    ensures goes_on { IsDayResult result occupied.new free.new (sort_of_day kind interval start.now.number day.now.number) (is_occupied (A.sketch seq.now) day.now.number) }
+    ensures occupied { IsCountedOn occupied.old occupied.new
+        (sort_of_day kind interval start.now.number day.now.number)
+        (is_occupied (A.sketch seq.now) day.now.number) }
+    ensures free { IsCountedOn free.old free.new
+        (sort_of_day kind interval start.now.number day.now.number)
+        (not (is_occupied (A.sketch seq.now) day.now.number)) }
+    ensures goes_on { IsDayResult result occupied.new free.new
+        (sort_of_day kind interval start.now.number day.now.number)
+        (is_occupied (A.sketch seq.now) day.now.number) }
 {
     let taken = is_occupied(seq, day.number);
     match sort_of_day(kind, interval, start, day) {
@@ -142,7 +150,8 @@ fn count_one(counts: &mut [u64], sort: u16)
 fn is_mixed(occupied: &[u64], free: &[u64], sort: u16) -> bool
     requires place { sort < length occupied.now }
     requires free_place { sort < length free.now }
-    ensures { result ≡ (nat_lt 0 (get_or occupied.now sort 0) && nat_lt 0 (get_or free.now sort 0)) }
+    ensures { result
+        ≡ (nat_lt 0 (get_or occupied.now sort 0) && nat_lt 0 (get_or free.now sort 0)) }
 {
     0 < occupied[usize::from(sort)] && 0 < free[usize::from(sort)]
 }

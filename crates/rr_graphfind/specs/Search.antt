@@ -5,15 +5,14 @@ use Rattle.rr_family.specs.Divisors.{IsLeftOut, divisor_of}
 use Rattle.rr_family.specs.declared.divisors.Divisors.{Divisors}
 use Rattle.rr_model.specs.Graph.Counterpart.{form_freq}
 use Rattle.rr_family.specs.DaySets.{window_days}
-use Rattle.rr_family.specs.Lasting.{is_occupied}
 use Rattle.rr_family.specs.GraphProfile.{event_of, range_from}
 use Rattle.rr_family.specs.Shift.{form_cycle}
-use Rattle.rr_family.specs.Taking.{AgreeWithin}
 use Rattle.rr_family.specs.declared.window.Window.{Window}
 use Rattle.rr_family.specs.declared.window.WindowEnd.{WindowEnd}
 use Rattle.rr_family.specs.declared.window.WindowEnd.TheVariants.{Last, Cycle}
+use Rattle.rr_graphfind.specs.PatternDays.{HasPatternDays}
 use Rattle.rr_graphfind.specs.declared.agreement.Stretch.{Stretch}
-use Rattle.rr_model.specs.Graph.Occurrences.{is_pattern_day, period_of}
+use Rattle.rr_model.specs.Graph.Occurrences.{period_of}
 use Rattle.rr_model.specs.Graph.Validity.{IsValidPattern}
 use Rattle.rr_model.specs.Moment.{moment_at}
 use Rattle.rr_model.specs.Whole.{divides}
@@ -26,7 +25,7 @@ use Rattle.rr_model.specs.declared.sketch.Sketch.{Sketch}
 -- The pattern is valid, and its days, counted from the first day, are the occupied ones of n days.
 pub record Agrees (s : Sketch) (first : ℤ) (days : ℕ) (pattern : Pattern) : Type 0 where
   pub valid : IsValidPattern pattern
-  pub agree : AgreeWithin (is_pattern_day pattern first) (is_occupied s) first days
+  pub agree : HasPatternDays s pattern first days
 
 -- the period of the day counts from that of the first day on
 abbrev pub counts_on : Pattern → ℤ → ℤ → Bool

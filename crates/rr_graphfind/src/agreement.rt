@@ -1,7 +1,7 @@
 // Whether the days of a pattern are the occupied days of a set, on as many days as tell it for ever.
 ghost use Rattle.std.specs.Prelude.{◌≡◌, ◌↔◌, ◌≤◌, IsTrue, pos, ◌+ℤ◌, ◌≤ℤ◌, ◌<ℤ◌};
 ghost use Rattle.rr_family.specs.Lasting.{is_occupied};
-ghost use Rattle.rr_family.specs.Taking.{AgreeWithin};
+ghost use Rattle.rr_graphfind.specs.PatternDays.{HasPatternDays};
 ghost use Rattle.rr_model.specs.Calendar.{IsDayWithin};
 ghost use Rattle.rr_model.specs.Graph.Occurrences.{is_pattern_day};
 ghost use Rattle.rr_model.specs.Sets.Sketch.{IsNearDay};
@@ -32,7 +32,8 @@ pub(crate) struct Stretch {
 /// It is given up at the first day on which the two differ.
 pub(crate) fn agrees<A: DaySeq>(seq: &A, pattern: &Pattern, stretch: &Stretch) -> bool
     requires interval { 1 ≤ pattern.now.interval }
-    ensures { IsTrue result ↔ AgreeWithin (is_pattern_day pattern.now stretch.now.start.number) (is_occupied (A.sketch seq.now)) stretch.now.start.number stretch.now.days }
+    ensures { IsTrue result
+        ↔ HasPatternDays (A.sketch seq.now) pattern.now stretch.now.start.number stretch.now.days }
 {
     let start = &stretch.start;
     if !is_alike(seq, pattern, start, start) || !is_alike(seq, pattern, start, &stretch.probe) {
@@ -46,7 +47,8 @@ fn agrees_throughout<A: DaySeq>(seq: &A, pattern: &Pattern, start: &Day, days: u
     requires interval { 1 ≤ pattern.now.interval }
     requires near { IsNearDay start.now.number }
     requires few { days ≤ 4_000_000_000 }
-    ensures { IsTrue result ↔ AgreeWithin (is_pattern_day pattern.now start.now.number) (is_occupied (A.sketch seq.now)) start.now.number days }
+    ensures { IsTrue result
+        ↔ HasPatternDays (A.sketch seq.now) pattern.now start.now.number days }
 {
     let mut day = *start;
     for k in 0..days {
@@ -62,7 +64,9 @@ fn agrees_throughout<A: DaySeq>(seq: &A, pattern: &Pattern, start: &Day, days: u
 fn is_alike<A: DaySeq>(seq: &A, pattern: &Pattern, start: &Day, day: &Day) -> bool
     requires interval { 1 ≤ pattern.now.interval }
     requires near { IsDayWithin 0 day.now.number }
-    ensures { IsTrue result ↔ (is_pattern_day pattern.now start.now.number day.now.number ≡ is_occupied (A.sketch seq.now) day.now.number) }
+    ensures { IsTrue result
+        ↔ (is_pattern_day pattern.now start.now.number day.now.number
+        ≡ is_occupied (A.sketch seq.now) day.now.number) }
 {
     is_pattern_day(pattern, start, day) == is_occupied(seq, day.number)
 }

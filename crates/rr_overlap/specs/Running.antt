@@ -39,6 +39,10 @@ abbrev pub IsClashVerdict : Occurrences → ℕ → Occurrences → ℕ → Kind
 IsClashVerdict P duration Q other k l Yes = (x : ℤ) → IsShared P duration Q other x → ⊥
 IsClashVerdict P duration Q other k l (No x t u) = IsFirstClash P duration Q other k l x t u
 
+-- the verdict on the occurrences of two sketches
+abbrev pub IsClashVerdictOn : Sketch → ℕ → Sketch → ℕ → Clash → Type 0
+IsClashVerdictOn s duration u other clash = IsClashVerdict (StandsIn s) duration (StandsIn u) other s.kind u.kind clash
+
 -- from 1 second to 366 days
 abbrev pub IsDuration : ℕ → Type 0
 IsDuration d = (1 ≤ d) × (d ≤ 31_622_400)

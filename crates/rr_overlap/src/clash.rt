@@ -1,10 +1,10 @@
 // Whether two sets of occurrences that last ever clash.
 ghost use Rattle.std.specs.Prelude.{◌≡◌, ◌≤◌, ◌+◌, ◌⊎◌, IfSome, IfNone, None, pos, ◌+ℤ◌, ◌≤ℤ◌};
 ghost use Rattle.rr_model.specs.Whole.Divisors.{lcm};
-ghost use Rattle.rr_model.specs.Sets.Sketch.{IsEmptySketch, IsNearDay, StandsIn, times_on};
+ghost use Rattle.rr_model.specs.Sets.Sketch.{IsEmptySketch, IsNearDay, times_on};
 ghost use Rattle.rr_overlap.specs.Apart.{IsLastBefore};
 ghost use Rattle.rr_overlap.specs.Days.{midnight};
-ghost use Rattle.rr_overlap.specs.Running.{IsClashVerdict, IsDuration, NamesUpToMaxDay, occurrence_at};
+ghost use Rattle.rr_overlap.specs.Running.{IsClashVerdictOn, IsDuration, NamesUpToMaxDay, occurrence_at};
 
 use crate::begun::Durations;
 use crate::days::first_meeting;
@@ -43,7 +43,8 @@ pub fn clear<A: DaySeq, B: DaySeq>(a: &A, duration_a: u32, b: &B, duration_b: u3
     requires first { IsDuration duration_a }
     requires second { IsDuration duration_b }
     requires cycle { lcm (A.sketch a.now).period (B.sketch b.now).period ≤ MAX_CYCLE_DAYS }
-    ensures verdict { IsClashVerdict (StandsIn (A.sketch a.now)) duration_a (StandsIn (B.sketch b.now)) duration_b (A.sketch a.now).kind (B.sketch b.now).kind result }
+    ensures verdict { IsClashVerdictOn (A.sketch a.now) duration_a (B.sketch b.now) duration_b
+        result }
     ensures day { NamesUpToMaxDay result }
 {
     let Some(from) = first_day(a, b) else {

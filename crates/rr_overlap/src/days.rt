@@ -2,8 +2,8 @@
 ghost use Rattle.std.specs.Prelude.{◌≡◌, ◌<◌, ◌≤◌, [], IsTrue, IfSome, IfNone, MatchOption, None, Some, length, slice_get, pos, neg_ℤ, ◌+ℤ◌, ◌*ℤ◌, ◌≤ℤ◌};
 ghost use Rattle.rr_model.specs.Sets.Sketch.{IsNearDay, times_on};
 ghost use Rattle.rr_word.specs.Stretches.{IsNumberOn};
-ghost use Rattle.rr_overlap.specs.Apart.{AreApartBefore, IsFound, IsLastBefore, IsNear, IsNearMidnight, IsNearSecond, IsWalked};
-ghost use Rattle.rr_overlap.specs.Days.{IsDayEnd, IsQuietDay, midnight};
+ghost use Rattle.rr_overlap.specs.Apart.{IsLastBefore, IsNear, IsNearMidnight, IsNearSecond};
+ghost use Rattle.rr_overlap.specs.Days.{AreApartUpTo, IsDayEnd, IsFirstMeeting, IsQuietDay, IsWalkedTo, midnight};
 ghost use Rattle.rr_overlap.specs.Pairs.{AreQuiet, IsKnown};
 ghost use Rattle.rr_overlap.specs.Running.{IsDuration};
 
@@ -23,7 +23,8 @@ pub enum DayEnd {
 // The seconds of the time set of a number; none without a number.
 fn seconds<S: DaySeq>(seq: &S, number: Option<u32>) -> &[u32]
     requires { IfSome number (λ n. n < length (S.sets seq.now)) }
-    ensures { MatchOption number (result.now ≡ []) (λ n. slice_get (S.sets seq.now) n ≡ Some result.now) }
+    ensures { MatchOption number (result.now ≡ [])
+        (λ n. slice_get (S.sets seq.now) n ≡ Some result.now) }
 {
     match number {
         None => &[],
@@ -43,9 +44,10 @@ fn walk_seconds<A: DaySeq, B: DaySeq>(
     requires second { IsDuration durations.second }
     requires low { neg_ℤ (pos 1_100_000_000) ≤ℤ day }
     requires high { day ≤ℤ pos 1_100_000_000 }
-    requires walked { IsWalked (A.sketch a.now) durations.first (B.sketch b.now) durations.second (midnight day) begun }
+    requires walked { IsWalkedTo (A.sketch a.now) (B.sketch b.now) durations day begun }
     requires near { IsNear begun }
-    ensures { IsDayEnd (A.sketch a.now) durations.first (B.sketch b.now) durations.second day result }
+    ensures { IsDayEnd (A.sketch a.now) durations.first (B.sketch b.now) durations.second
+        day result }
 {
     let midnight = midnight_of(day);
     let mut rest_a = a.at(day);
@@ -75,7 +77,8 @@ fn is_quiet(
 ) -> bool
     requires midnight { IsNearMidnight midnight }
     requires near { IsNear begun }
-    ensures { IsTrue result → IsQuietDay known durations.first durations.second midnight xs.now ys.now begun }
+    ensures { IsTrue result
+        → IsQuietDay known durations.first durations.second midnight xs.now ys.now begun }
 {
     let apart = known || xs.is_empty() || ys.is_empty();
     apart
@@ -98,11 +101,14 @@ fn walk_day<A: DaySeq, B: DaySeq>(
     requires second { IsDuration durations.second }
     requires low { neg_ℤ (pos 1_100_000_000) ≤ℤ day }
     requires high { day ≤ℤ pos 1_100_000_000 }
-    requires walked { IsWalked (A.sketch a.now) durations.first (B.sketch b.now) durations.second (midnight day) begun }
+    requires walked { IsWalkedTo (A.sketch a.now) (B.sketch b.now) durations day begun }
     requires near { IsNear begun }
-    requires quiet { AreQuiet durations.first durations.second (A.sets a.now) (B.sets b.now) pairs.old.slots }
-    ensures day { IsDayEnd (A.sketch a.now) durations.first (B.sketch b.now) durations.second day result }
-    ensures quiet { AreQuiet durations.first durations.second (A.sets a.now) (B.sets b.now) pairs.new.slots }
+    requires quiet { AreQuiet durations.first durations.second (A.sets a.now) (B.sets b.now)
+        pairs.old.slots }
+    ensures day { IsDayEnd (A.sketch a.now) durations.first (B.sketch b.now) durations.second
+        day result }
+    ensures quiet { AreQuiet durations.first durations.second (A.sets a.now) (B.sets b.now)
+        pairs.new.slots }
 {
     let of_a = a.stretch(day).first;
     let of_b = b.stretch(day).first;
@@ -146,8 +152,9 @@ pub fn first_meeting<A: DaySeq, B: DaySeq>(
     requires high { (from +ℤ pos days) ≤ℤ pos 1_100_000_000 }
     requires first_of_a { IsLastBefore (A.sketch a.now) (midnight from) None }
     requires first_of_b { IsLastBefore (B.sketch b.now) (midnight from) None }
-    ensures none { IfNone result (AreApartBefore (A.sketch a.now) durations.first (B.sketch b.now) durations.second (midnight (from +ℤ pos days))) }
-    ensures some { IfSome result (λ m. IsFound (A.sketch a.now) durations.first (B.sketch b.now) durations.second m.at m.first m.second) }
+    ensures none { IfNone result
+        (AreApartUpTo (A.sketch a.now) (B.sketch b.now) durations (from +ℤ pos days)) }
+    ensures some { IfSome result (IsFirstMeeting (A.sketch a.now) (B.sketch b.now) durations) }
     ensures near { IfSome result (λ m. IsNearSecond m.at) }
 {
     let mut pairs = Pairs::new();

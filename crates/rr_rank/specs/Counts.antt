@@ -37,6 +37,10 @@ sums_of s q n = entries_of s q n ++ record { day = q +ℤ pos n; before = count_
 abbrev pub days_before : Sketch → ℤ → ℕ
 days_before s q = nat_abs (s.settled -ℤ q)
 
+-- how many days from q on lie before a period past the settled day
+abbrev pub counted_days : Sketch → ℤ → ℕ
+counted_days s q = days_before s q + s.period
+
 -- how many days before a period past the settled day are occupied
 abbrev pub occupied_days : Sketch → ℕ
 occupied_days s = length s.before + length s.cycle
@@ -56,15 +60,15 @@ with_day entries day before (suc n) = entries ++ record { day = day; before = be
 -- before a period past it
 pub record IsRanked (s : Sketch) (from : ℤ) (head total : ℕ) (entries : List Entry) : Type 0 where
   pub begin : IsBegin s from
-  pub are_sums : entries ≡ sums_of s from (days_before s from + s.period)
+  pub are_sums : entries ≡ sums_of s from (counted_days s from)
   pub is_head : head ≡ count_on s from (days_before s from)
-  pub is_total : total ≡ count_on s from (days_before s from + s.period)
+  pub is_total : total ≡ count_on s from (counted_days s from)
 
 -- a day, with its seconds and how many occurrences come before it, has the occurrence of this number; it lies `days` days
 -- after the first
 pub record IsDayOfNumber (s : Sketch) (from : ℤ) (number : ℕ) (day : ℤ) (before : ℕ) (seconds : List ℕ) : Type 0 where
   pub days : ℕ
-  pub few : days < days_before s from + s.period
+  pub few : days < counted_days s from
   pub is_day : day ≡ from +ℤ pos days
   pub is_before : before ≡ count_on s from days
   pub are_seconds : seconds ≡ times_on s day
@@ -74,7 +78,7 @@ pub record IsDayOfNumber (s : Sketch) (from : ℤ) (number : ℕ) (day : ℤ) (b
 -- a day, with its seconds and how many occurrences come before it; it lies `days` days after the first
 pub record IsDayCounted (s : Sketch) (from day : ℤ) (before : ℕ) (seconds : List ℕ) : Type 0 where
   pub days : ℕ
-  pub few : days < days_before s from + s.period
+  pub few : days < counted_days s from
   pub is_day : day ≡ from +ℤ pos days
   pub is_before : before ≡ count_on s from days
   pub are_seconds : seconds ≡ times_on s day

@@ -1,10 +1,10 @@
 // Days, each read with how many occurrences come before it.
 ghost use Rattle.std.specs.Prelude.{◌≡◌, ◌-◌, ◌+◌, ◌<◌, ◌≤◌, pos, ◌+ℤ◌, ◌≤ℤ◌, ◌<ℤ◌};
 ghost use Rattle.rr_model.specs.Sets.Sketch.{IsNearDay};
-ghost use Rattle.rr_rank.specs.Counts.{IsDayCounted, IsDayOfNumber, IsRanked, days_before, occupied_days};
+ghost use Rattle.rr_rank.specs.Counts.{IsDayCounted, IsDayOfNumber, IsRanked, counted_days, occupied_days};
 ghost use Rattle.rr_rank.specs.Rank.{AreFewSteps};
 
-use crate::search::{Key, first_place};
+use crate::search::{Key, first_index};
 use rr_steps::Steps;
 use rr_sums::Sums;
 use rr_word::{Counted, DaySeq};
@@ -44,11 +44,12 @@ pub fn day_of_number<'a, A: DaySeq + Drop, L: Ledger>(
     requires near { IsNearDay totals.from }
     requires some { 1 ≤ number }
     requires most { number ≤ totals.total }
-    ensures day { IsDayOfNumber (A.sketch seq.now) totals.from number result.day result.before result.seconds.now }
+    ensures day { IsDayOfNumber (A.sketch seq.now) totals.from number
+        result.day result.before result.seconds.now }
     ensures steps { AreFewSteps (occupied_days (A.sketch seq.now)) (steps.new - steps.old) }
 {
-    let place = first_place(sums, Key::Before(number), steps);
-    let entry = sums.read(place - 1, steps);
+    let index = first_index(sums, Key::Before(number), steps);
+    let entry = sums.read(index - 1, steps);
     DayRead {
         day: entry.day,
         before: entry.before,
@@ -67,13 +68,14 @@ pub fn day_counted<'a, A: DaySeq + Drop, L: Ledger>(
     requires kept { IsRanked (A.sketch seq.now) totals.from totals.head totals.total sums.now }
     requires near { IsNearDay totals.from }
     requires low { totals.from ≤ℤ day }
-    requires high { day <ℤ (totals.from +ℤ pos (days_before (A.sketch seq.now) totals.from + (A.sketch seq.now).period)) }
+    requires high { day <ℤ (totals.from +ℤ pos (counted_days (A.sketch seq.now) totals.from)) }
     ensures same { result.day ≡ day }
-    ensures day { IsDayCounted (A.sketch seq.now) totals.from result.day result.before result.seconds.now }
+    ensures day { IsDayCounted (A.sketch seq.now) totals.from
+        result.day result.before result.seconds.now }
     ensures steps { AreFewSteps (occupied_days (A.sketch seq.now)) (steps.new - steps.old) }
 {
-    let place = first_place(sums, Key::Day(day), steps);
-    let entry = sums.read(place, steps);
+    let index = first_index(sums, Key::Day(day), steps);
+    let entry = sums.read(index, steps);
     DayRead {
         day,
         before: entry.before,

@@ -39,7 +39,8 @@ impl<'a, A: DaySeq + Drop> Model for Ranked<'a, A> {
 
     ghost view = { λ r. r.seq.now };
 
-    ghost invariant = { λ r. IsRanked (A.sketch r.seq.now) r.totals.from r.totals.head r.totals.total r.sums × IsNearDay r.totals.from };
+    ghost invariant = { λ r. IsRanked (A.sketch r.seq.now)
+        r.totals.from r.totals.head r.totals.total r.sums × IsNearDay r.totals.from };
 }
 
 impl<'a, A: DaySeq + Drop> Ranked<'a, A> {

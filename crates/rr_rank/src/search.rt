@@ -27,13 +27,14 @@ impl Key {
     }
 }
 
-/// The first place whose entry does not come before what is sought, or the number of entries where there is none.
-pub fn first_place<L: Ledger>(sums: &Sums, key: Key, steps: &mut Steps<L>) -> u64
+/// The first index whose entry does not come before what is sought, or the number of entries where there is none.
+pub fn first_index<L: Ledger>(sums: &Sums, key: Key, steps: &mut Steps<L>) -> u64
     requires some { 1 ≤ length sums.now }
     requires sorted { IsSortedBy key sums.now }
     ensures within { result ≤ length sums.now }
     ensures below { (i : ℕ) → i < result → is_below key (entry_at sums.now i) ≡ true }
-    ensures from { (i : ℕ) → result ≤ i → i < length sums.now → is_below key (entry_at sums.now i) ≡ false }
+    ensures from { (i : ℕ) → result ≤ i → i < length sums.now
+        → is_below key (entry_at sums.now i) ≡ false }
     ensures cost { 2 ^ (steps.new - steps.old) ≤ 2 * length sums.now }
     ensures more { steps.old ≤ steps.new }
 {

@@ -29,7 +29,8 @@ pub struct TurnedDay {
 pub fn turned_count(n: u64, head: u64, total: u64) -> Option<TurnedCount>
     requires some { 1 ≤ n }
     requires order { head ≤ total }
-    ensures { MatchOption result ((total < n) × (total ≡ head)) (λ r. IsTurnedCount head total n r.number r.turns) }
+    ensures { MatchOption result ((total < n) × (total ≡ head))
+        (λ r. IsTurnedCount head total n r.number r.turns) }
 {
     if n <= total {
         return Some(TurnedCount {

@@ -17,7 +17,8 @@ use std::alloc::Global;
 
 /// The text of the first pattern and range that have the occurrences of a set of days; `NotSayable` where there is none.
 pub fn graph_of_days<A: DaySeq>(alloc: Global, days: &A) -> Result<Vec<u8>, Fault>
-    ensures { IsSaid (λ text. IsGraphText (StandsIn (A.sketch days.now)) text.items) (HasNoPattern (StandsIn (A.sketch days.now))) result }
+    ensures { IsSaid (λ text. IsGraphText (StandsIn (A.sketch days.now)) text.items)
+        (HasNoPattern (StandsIn (A.sketch days.now))) result }
 {
     match graph_of(days) {
         None => Err(Fault::Refused(Refusal::NotSayable)),
@@ -28,7 +29,8 @@ pub fn graph_of_days<A: DaySeq>(alloc: Global, days: &A) -> Result<Vec<u8>, Faul
 /// The text of the first pattern and range that have the occurrences of a series.
 pub(crate) fn graph_text(alloc: Global, series: &Checked) -> Result<Vec<u8>, Fault>
     requires few { series_cycle series.now ≤ MAX_CYCLE_DAYS }
-    ensures { IsAnswered all_limits series.now (λ text. IsGraphText (Occurs series.now) text.items) (HasNoPattern (Occurs series.now)) result }
+    ensures { IsAnswered all_limits series.now (λ text. IsGraphText (Occurs series.now) text.items)
+        (HasNoPattern (Occurs series.now)) result }
 {
     let days = fold(alloc, series)?;
     graph_of_days(alloc, &days)

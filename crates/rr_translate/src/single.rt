@@ -32,7 +32,8 @@ fn series_of(alloc: Global, found: Found) -> Result<VSeries, NoMemory>
 // The first single rule that has the occurrences of a series.
 fn first_series(alloc: Global, series: &Checked) -> Result<VSeries, Fault>
     requires few { series_cycle series.now ≤ MAX_CYCLE_DAYS }
-    ensures { IsAnswered all_limits series.now (IsFirstSeries (Occurs series.now)) (HasNoRule (Occurs series.now)) result }
+    ensures { IsAnswered all_limits series.now (IsFirstSeries (Occurs series.now))
+        (HasNoRule (Occurs series.now)) result }
 {
     let days = fold(alloc, series)?;
     match find(alloc, &days)? {
@@ -44,7 +45,8 @@ fn first_series(alloc: Global, series: &Checked) -> Result<VSeries, Fault>
 /// The vCalendar 1.0 text of the first single rule.
 pub(crate) fn vcal_text(alloc: Global, series: &Checked) -> Result<Vec<u8>, Fault>
     requires few { series_cycle series.now ≤ MAX_CYCLE_DAYS }
-    ensures { IsAnswered all_limits series.now (λ text. IsVcalText (Occurs series.now) text.items) (HasNoRule (Occurs series.now)) result }
+    ensures { IsAnswered all_limits series.now (λ text. IsVcalText (Occurs series.now) text.items)
+        (HasNoRule (Occurs series.now)) result }
 {
     let first = first_series(alloc, series)?;
     Ok(rr_vcal::write(alloc, &first)?)
@@ -53,7 +55,9 @@ pub(crate) fn vcal_text(alloc: Global, series: &Checked) -> Result<Vec<u8>, Faul
 /// The text of RFC 5545 with the same rule.
 pub(crate) fn inferred_text(alloc: Global, series: &Checked) -> Result<Vec<u8>, Fault>
     requires few { series_cycle series.now ≤ MAX_CYCLE_DAYS }
-    ensures { IsAnswered all_limits series.now (λ text. IsInferredText (Occurs series.now) text.items) (HasNoRule (Occurs series.now)) result }
+    ensures { IsAnswered all_limits series.now
+        (λ text. IsInferredText (Occurs series.now) text.items)
+        (HasNoRule (Occurs series.now)) result }
 {
     let first = first_series(alloc, series)?;
     let counterpart = rr_vcal::to_series(alloc, &first)?;

@@ -21,7 +21,9 @@ use std::alloc::Global;
 /// `fold`, and then `NotSayable` where there is none.
 pub fn translate(alloc: Global, series: &Checked, target: Lang) -> Result<Vec<u8>, Fault>
     requires few { series_cycle series.now ≤ MAX_CYCLE_DAYS }
-    ensures { IsAnswered (limits_of target) series.now (λ text. IsTranslation target series.now text.items) (HasNoWords target (Occurs series.now)) result }
+    ensures { IsAnswered (limits_of target) series.now
+        (λ text. IsTranslation target series.now text.items)
+        (HasNoWords target (Occurs series.now)) result }
 {
     match target {
         Lang::Rrule => Ok(calendar_text(alloc, series)?),
@@ -36,7 +38,9 @@ pub fn translate(alloc: Global, series: &Checked, target: Lang) -> Result<Vec<u8
 /// `CountedTooFar`, then `TooManyMoments`, as for `fold`, and then `NotSayable` where no such rule has the occurrences.
 pub fn infer(alloc: Global, series: &Checked) -> Result<Vec<u8>, Fault>
     requires few { series_cycle series.now ≤ MAX_CYCLE_DAYS }
-    ensures { IsAnswered all_limits series.now (λ text. IsInferredText (Occurs series.now) text.items) (HasNoRule (Occurs series.now)) result }
+    ensures { IsAnswered all_limits series.now
+        (λ text. IsInferredText (Occurs series.now) text.items)
+        (HasNoRule (Occurs series.now)) result }
 {
     inferred_text(alloc, series)
 }

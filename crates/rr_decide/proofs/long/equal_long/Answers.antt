@@ -5,16 +5,16 @@ use Rattle.rr_decide.specs.Reading.{steps_from}
 use Rattle.rr_decide.proofs.QuestionLemmas.{equal_verdict}
 use Rattle.rr_decide.proofs.long.equal_long.Goals as goal
 
-pub walked-requires-clause-first_of_b : goal.walked-requires-clause-first_of_b
-walked-requires-clause-first_of_b g c = λ d l. c.in-Some.ensures.first_of_b d (omega (arith, ints))
+pub walk_from-requires-clause-first_of_b : goal.walk_from-requires-clause-first_of_b
+walk_from-requires-clause-first_of_b g c = λ d l. c.in-Some.ensures.first_of_b d (omega (arith, ints))
 
 pub returns-in-None-clause-verdict : goal.returns-in-None-clause-verdict
 returns-in-None-clause-verdict g c =
-    equal_verdict (g.A.DaySeq.sketch c.args.a.now) (g.B.DaySeq.sketch c.args.b.now) c.apart_long.result c.apart_long.ensures.verdict
+    equal_verdict (g.A.DaySeq.sketch c.args.a.now) (g.B.DaySeq.sketch c.args.b.now) c.verdict_apart_long.result c.verdict_apart_long.ensures.verdict
 
 pub returns-in-Some-clause-verdict : goal.returns-in-Some-clause-verdict
 returns-in-Some-clause-verdict g c =
-    equal_verdict (g.A.DaySeq.sketch c.args.a.now) (g.B.DaySeq.sketch c.args.b.now) c.walked.result c.walked.ensures.verdict
+    equal_verdict (g.A.DaySeq.sketch c.args.a.now) (g.B.DaySeq.sketch c.args.b.now) c.walk_from.result c.walk_from.ensures.verdict
 
 pub returns-in-Some-clause-steps : goal.returns-in-Some-clause-steps
 returns-in-Some-clause-steps g c =
@@ -25,7 +25,7 @@ returns-in-Some-clause-steps g c =
       some = λ first other fa fb.
           let first_is : c.in-Some.from ≡ int_min first other = c.in-Some.ensures.first first other fa fb in
           let from_is : to_z w64 (of_z w64 c.in-Some.from) ≡ c.in-Some.from = omega (arith, ints) in
-          let few : c.walked.new.steps ≤ c.args.steps.now + steps_from s u (int_min first other) =
-          subst (λ (x : ℤ). c.walked.new.steps ≤ c.args.steps.now + steps_from s u x) (from_is ∙ first_is) c.walked.ensures.few in
+          let few : c.walk_from.new.steps ≤ c.args.steps.now + steps_from s u (int_min first other) =
+          subst (λ (x : ℤ). c.walk_from.new.steps ≤ c.args.steps.now + steps_from s u x) (from_is ∙ first_is) c.walk_from.ensures.few in
           omega (arith, few);
     }

@@ -2,7 +2,7 @@ use Rattle.std.proofs.Common.{◌≡◌, pos, ◌+ℤ◌, arith, refl, sym, subs
 use Rattle.std.proofs.lemmas.Bool.{false≢true}
 use Rattle.std.proofs.lemmas.Int.{ints, by_lt_z, to_z-of_z}
 use Rattle.rr_family.specs.Walks.{IsAtSecond}
-use Rattle.rr_family.proofs.WalkLemmas.{free_at_second}
+use Rattle.rr_family.proofs.WalkLemmas.{day_after_read, free_at_second}
 use Rattle.rr_family.proofs.window.has_one_second.Goals as goal
 
 pub loop-read-init : goal.loop-read-init
@@ -10,12 +10,9 @@ loop-read-init g c = (omega arith, λ d l h. absurd (omega (arith, ints, l, h)))
 
 pub returns-in_default : goal.returns-in_default
 returns-in_default g c =
-    let back : to_z w64 (of_z w64 c.args.first) ≡ c.args.first = to_z-of_z w64 c.args.first c.ranges.first in
-    let near = c.requires.near in
+    let back = to_z-of_z w64 c.args.first c.ranges.first in
     let less = c.loop-read.invariant.0 in
-    let few = c.requires.few in
-    let at = c.day_after.ensures in
-    let from : to_z w64 (of_z w64 c.day_after.result) ≡ c.args.first +ℤ pos c.loop-read.read = omega (arith, ints, at, back, near.0, near.1, less, few) in
+    let from = day_after_read c.args.first c.day_after.result c.loop-read.read c.args.days c.requires.near c.requires.few less c.day_after.ensures in
     let s = g.A.DaySeq.sketch c.args.seq.now in (
       λ t. λ d l h. by_lt_z {P = IsAtSecond s c.args.second d} d (c.args.first +ℤ pos c.loop-read.read)
           (λ m. c.loop-read.invariant.1 d (omega (arith, ints, l, back)) (omega (arith, ints, m, back)))
@@ -25,15 +22,12 @@ returns-in_default g c =
 
 pub returns-then-not-is_at_second : goal.returns-then-not-is_at_second
 returns-then-not-is_at_second g c =
-    let back : to_z w64 (of_z w64 c.args.first) ≡ c.args.first = to_z-of_z w64 c.args.first c.ranges.first in
-    let near = c.requires.near in
+    let back = to_z-of_z w64 c.args.first c.ranges.first in
     let less = c.loop-read.invariant.0 in
-    let few = c.requires.few in
-    let at = c.day_after.ensures in
-    let from : to_z w64 (of_z w64 c.day_after.result) ≡ c.args.first +ℤ pos c.loop-read.read = omega (arith, ints, at, back, near.0, near.1, less, few) in
+    let from = day_after_read c.args.first c.day_after.result c.loop-read.read c.args.days c.requires.near c.requires.few less c.day_after.ensures in
     let low = c.in-Some.ensures.0 in
     let high = c.in-Some.ensures.1 in
-    let same : to_z w64 (of_z w64 c.in-Some.day) ≡ c.in-Some.day = omega (arith, ints, low, high, from, near.0, near.1, few, less) in (
+    let same : to_z w64 (of_z w64 c.in-Some.day) ≡ c.in-Some.day = omega (arith, ints, low, high, from, c.requires.near.0, c.requires.near.1, c.requires.few, less) in (
       λ t. absurd (false≢true t),
       λ all. absurd (false≢true (sym c.if-not-is_at_second.true ∙ c.is_at_second.ensures.1
           (all _ (omega (arith, ints, same, low, from)) (omega (arith, ints, same, high, from, less))))),
@@ -41,17 +35,13 @@ returns-then-not-is_at_second g c =
 
 pub loop-read-preserved : goal.loop-read-preserved
 loop-read-preserved g c =
-    let back : to_z w64 (of_z w64 c.args.first) ≡ c.args.first = to_z-of_z w64 c.args.first c.ranges.first in
-    let near = c.requires.near in
+    let back = to_z-of_z w64 c.args.first c.ranges.first in
     let less = c.loop-read.invariant.0 in
-    let few = c.requires.few in
-    let at = c.day_after.ensures in
-    let from : to_z w64 (of_z w64 c.day_after.result) ≡ c.args.first +ℤ pos c.loop-read.read = omega (arith, ints, at, back, near.0, near.1, less, few) in
+    let from = day_after_read c.args.first c.day_after.result c.loop-read.read c.args.days c.requires.near c.requires.few less c.day_after.ensures in
     let low = c.in-Some.ensures.0 in
     let high = c.in-Some.ensures.1 in
-    let same : to_z w64 (of_z w64 c.in-Some.day) ≡ c.in-Some.day = omega (arith, ints, low, high, from, near.0, near.1, few, less) in
-    let through = c.days_through-read.ensures in
-    let next : (c.args.first +ℤ pos c.days_through-read.result) ≡ c.in-Some.day +ℤ pos 1 = omega (arith, ints, through, back, same) in
+    let same : to_z w64 (of_z w64 c.in-Some.day) ≡ c.in-Some.day = omega (arith, ints, low, high, from, c.requires.near.0, c.requires.near.1, c.requires.few, less) in
+    let next : (c.args.first +ℤ pos c.days_through-read.result) ≡ c.in-Some.day +ℤ pos 1 = omega (arith, ints, c.days_through-read.ensures, back, same) in
     let s = g.A.DaySeq.sketch c.args.seq.now in (
       omega (arith, ints, next, high, from, less),
       λ d l h. by_lt_z {P = IsAtSecond s c.args.second d} d (c.args.first +ℤ pos c.loop-read.read)
@@ -65,5 +55,5 @@ loop-read-preserved g c =
 
 pub returns : goal.returns
 returns g c =
-    let back : to_z w64 (of_z w64 c.args.first) ≡ c.args.first = to_z-of_z w64 c.args.first c.ranges.first in
+    let back = to_z-of_z w64 c.args.first c.ranges.first in
     (λ t. λ d l h. c.loop-read.invariant.1 d (omega (arith, ints, l, back)) (omega (arith, ints, h, back, c.loop-read-test.false)), λ h. refl)

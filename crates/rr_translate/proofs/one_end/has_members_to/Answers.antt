@@ -14,8 +14,8 @@ day_is kind at day years e =
     let fits : FitsSigned w64 day = omega (arith, ints, e, bounds.0, bounds.1) in
     to_z-of_z fits ∙ e
 
-pub place_of-requires-clause-high : goal.place_of-requires-clause-high
-place_of-requires-clause-high c =
+pub nth_of-requires-clause-high : goal.nth_of-requires-clause-high
+nth_of-requires-clause-high c =
     let day = rw (to_z-of_z c.ranges.at) at c.day_part.ensures in
     let same = day_is c.args.kind c.args.at c.day_part.result c.requires.in_years day in
     let bounds = four_digit_bounds (day_part c.args.kind c.args.at) c.requires.in_years in
@@ -25,7 +25,7 @@ pub returns-in-On : goal.returns-in-On
 returns-in-On c =
     let day = rw (to_z-of_z c.ranges.at) at c.day_part.ensures in
     let same = day_is c.args.kind c.args.at c.day_part.result c.requires.in_years day in
-    let tree = rw (c.new-members.ensures.tree, c.in_ok-chosen.ensures.tree, c.in-On.is) at c.in_ok-place.ensures in
+    let tree = rw (c.new-members.ensures.tree, c.in_ok-chosen.ensures.tree, c.in-On.is) at c.in_ok-nth.ensures in
     let place = rw (to_z-of_z c.ranges.start, to_z-of_z c.ranges.at, same) at tree in
     is_placed c.args.rule.now c.args.kind c.args.start c.args.at c.requires.sound.in_years c.requires.late c.args.count c.in-On.field-0 place
 
@@ -33,6 +33,6 @@ pub returns-in_default : goal.returns-in_default
 returns-in_default c =
     let day = rw (to_z-of_z c.ranges.at) at c.day_part.ensures in
     let same = day_is c.args.kind c.args.at c.day_part.result c.requires.in_years day in
-    let tree = rw (c.new-members.ensures.tree, c.in_ok-chosen.ensures.tree, c.in_default.is) at c.in_ok-place.ensures in
+    let tree = rw (c.new-members.ensures.tree, c.in_ok-chosen.ensures.tree, c.in_default.is) at c.in_ok-nth.ensures in
     let place = rw (to_z-of_z c.ranges.start, to_z-of_z c.ranges.at, same) at tree in
     is_beyond c.args.rule.now c.args.kind c.args.start c.args.at c.requires.sound.in_years c.requires.late c.args.count c.in_default.field-0 place

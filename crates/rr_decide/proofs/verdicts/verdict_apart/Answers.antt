@@ -3,7 +3,7 @@ use Rattle.std.proofs.lemmas.Bool.{false≢true}
 use Rattle.rr_model.specs.Moment.{day_part}
 use Rattle.rr_decide.specs.Question.{shown_by}
 use Rattle.rr_decide.proofs.StandsLemmas.{no_on_first, no_on_lesser_first, no_on_lesser_second, nothing_stands, yes_apart}
-use Rattle.rr_decide.proofs.verdicts.apart.Goals as goal
+use Rattle.rr_decide.proofs.verdicts.verdict_apart.Goals as goal
 
 pub returns-in-None-None-clause-verdict : goal.returns-in-None-None-clause-verdict
 returns-in-None-None-clause-verdict g c =

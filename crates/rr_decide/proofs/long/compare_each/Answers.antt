@@ -4,7 +4,7 @@ use Rattle.rr_decide.specs.Question.{shown_by}
 use Rattle.rr_decide.specs.declared.question.Question.TheVariants.{Equal}
 use Rattle.rr_decide.proofs.AlikeLemmas.{none_more, number_at}
 use Rattle.rr_decide.proofs.WindowLemmas.{first_one}
-use Rattle.rr_decide.proofs.long.compare_places.Goals as goal
+use Rattle.rr_decide.proofs.long.compare_each.Goals as goal
 
 pub loop-k-init : goal.loop-k-init
 loop-k-init g c = ((λ d low high. c.requires.before d (omega (arith, ints)) (omega (arith, ints))), c.requires.alike)

@@ -4,7 +4,7 @@ use Rattle.rr_decide.specs.Question.{shown_by}
 use Rattle.rr_decide.specs.declared.question.Question.TheVariants.{Equal}
 use Rattle.rr_decide.proofs.StandsLemmas.{no_at, no_at_day, yes_by_days}
 use Rattle.rr_decide.proofs.WindowLemmas.{every_day, least_equal_window, none_to_end}
-use Rattle.rr_decide.proofs.long.walked.Goals as goal
+use Rattle.rr_decide.proofs.long.walk_from.Goals as goal
 
 pub days_between-requires-clause-to_near : goal.days_between-requires-clause-to_near
 days_between-requires-clause-to_near g c = (

@@ -3,7 +3,7 @@ use Rattle.std.proofs.lemmas.Bool.{false≢true}
 use Rattle.rr_decide.specs.Question.{shown_by}
 use Rattle.rr_decide.specs.declared.question.Question.TheVariants.{Equal}
 use Rattle.rr_decide.proofs.StandsLemmas.{no_on_lesser_first, no_on_lesser_second}
-use Rattle.rr_decide.proofs.long.apart_long.Goals as goal
+use Rattle.rr_decide.proofs.long.verdict_apart_long.Goals as goal
 
 pub returns-then-comes_before-clause-verdict : goal.returns-then-comes_before-clause-verdict
 returns-then-comes_before-clause-verdict g c =
