@@ -3,11 +3,10 @@ ghost use Rattle.std.specs.Prelude.{◌≡◌, IfOk};
 ghost use Rattle.rr_model.specs.declared.kind.Kind.TheVariants.{Moments};
 ghost use Rattle.rr_overlap.specs.Running.{IsDuration};
 ghost use Rattle.rr_answer.specs.Clashes.{IsPrintableClash, clash_said, clash_text};
-ghost use Rattle.rr_answer.specs.Folding.{IsFoldOf, IsFromYearOneOn};
+ghost use Rattle.rr_answer.specs.Folding.{IsFromYearOneOn};
 ghost use Rattle.rr_answer.specs.Outcome.{answer_of};
 ghost use Rattle.rr_answer.specs.Printable.{IsPrintableAt};
-ghost use Rattle.rr_answer.specs.Verdicts.{IsSaidOfBoth};
-ghost use Rattle.rr_answer.specs.Subjects.{Subject};
+ghost use Rattle.rr_answer.specs.Verdicts.{IsSaidOfFolds};
 ghost use Rattle.rr_answer.specs.declared.command.Inquiry.TheVariants.{Clash as AskClash};
 
 use crate::conclusion::Conclusion;
@@ -74,7 +73,8 @@ pub fn clash_outcome(
     requires second { IsDuration duration_b }
     requires a { IsFromYearOneOn (⟦<Folded as DaySeq>⟧.sketch a.now) }
     requires b { IsFromYearOneOn (⟦<Folded as DaySeq>⟧.sketch b.now) }
-    ensures { IfOk result (λ x. (s u : Subject) → IsFoldOf s (⟦<Folded as DaySeq>⟧.sketch a.now) → IsFoldOf u (⟦<Folded as DaySeq>⟧.sketch b.now) → IsSaidOfBoth (AskClash duration_a duration_b) s u (answer_of x)) }
+    ensures { IfOk result (λ x. IsSaidOfFolds (AskClash duration_a duration_b)
+        (⟦<Folded as DaySeq>⟧.sketch a.now) (⟦<Folded as DaySeq>⟧.sketch b.now) (answer_of x)) }
 {
     let together = repeat_together(a, b);
     if !together {

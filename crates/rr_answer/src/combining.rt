@@ -1,9 +1,8 @@
 // What `union`, `common` and `minus` say of two operands.
 ghost use Rattle.std.specs.Prelude.{IfOk, ◌≤ℤ◌, pos};
-ghost use Rattle.rr_answer.specs.Folding.{IsFoldOf, IsFromYearOneOn};
+ghost use Rattle.rr_answer.specs.Folding.{IsFromYearOneOn};
 ghost use Rattle.rr_answer.specs.Outcome.{answer_of};
-ghost use Rattle.rr_answer.specs.Subjects.{Subject};
-ghost use Rattle.rr_answer.specs.Verdicts.{IsSaidOfBoth};
+ghost use Rattle.rr_answer.specs.Verdicts.{IsSaidOfFolds};
 ghost use Rattle.rr_answer.specs.declared.command.Inquiry.TheVariants.{Combine};
 
 use crate::canon::canonical_text;
@@ -24,7 +23,8 @@ pub fn combined_outcome(alloc: Global, op: Op, a: &Folded, b: &Folded) -> Result
     requires b { IsFromYearOneOn (⟦<Folded as DaySeq>⟧.sketch b.now) }
     requires near_a { (⟦<Folded as DaySeq>⟧.sketch a.now).settled ≤ℤ pos 40_000_000 }
     requires near_b { (⟦<Folded as DaySeq>⟧.sketch b.now).settled ≤ℤ pos 40_000_000 }
-    ensures { IfOk result (λ x. (s u : Subject) → IsFoldOf s (⟦<Folded as DaySeq>⟧.sketch a.now) → IsFoldOf u (⟦<Folded as DaySeq>⟧.sketch b.now) → IsSaidOfBoth (Combine op) s u (answer_of x)) }
+    ensures { IfOk result (λ x. IsSaidOfFolds (Combine op) (⟦<Folded as DaySeq>⟧.sketch a.now)
+        (⟦<Folded as DaySeq>⟧.sketch b.now) (answer_of x)) }
 {
     let together = repeat_together(a, b);
     if !together {

@@ -1,15 +1,12 @@
 // What `nth` and `rank` say of an operand.
 ghost use Rattle.std.specs.Prelude.{◌≡◌, ◌<◌, ◌≤◌, IfOk};
-ghost use Rattle.rr_fold.specs.Judged.{all_limits};
 ghost use Rattle.rr_model.specs.Moment.Years.{IsInYears};
 ghost use Rattle.rr_model.specs.Sets.Sketch.{StandsIn};
-ghost use Rattle.rr_model.specs.declared.verdict.Side.TheVariants.{A};
 ghost use Rattle.rr_rank.specs.Rank.{IsNthOf, IsRank};
-ghost use Rattle.rr_answer.specs.Numbers.{IsNthSaid, IsPrintableNth, IsRankSaid, nth_said, rank_said};
-ghost use Rattle.rr_answer.specs.OperandReading.{IsSubjectRead};
+ghost use Rattle.rr_answer.specs.Numbers.{IsPrintableNth, nth_said, rank_said};
 ghost use Rattle.rr_answer.specs.Outcome.{answer_of};
-ghost use Rattle.rr_answer.specs.Parsed.{operand_in};
-ghost use Rattle.rr_answer.specs.Said.{IsSaidWithin};
+ghost use Rattle.rr_answer.specs.Tasks.{AnswersTask};
+ghost use Rattle.rr_answer.specs.declared.command.Task.TheVariants.{Nth as AskNth, Rank as AskRank};
 
 use crate::command::Operand;
 use crate::conclusion::Conclusion;
@@ -92,7 +89,7 @@ pub fn nth_outcome(
 ) -> Result<Outcome, NoMemory>
     requires some { 1 ≤ n }
     requires most { n ≤ 1_125_899_906_842_624 }
-    ensures { IfOk result (λ x. IsSaidWithin A all_limits (IsSubjectRead (operand_in operand.entry) bytes.now) (IsNthSaid n) (answer_of x)) }
+    ensures { IfOk result (AnswersTask (AskNth n) operand.entry bytes.now) }
 {
     match read_folded(alloc, operand, bytes) {
         Err(fault) => refused_for(alloc, Side::A, fault),
@@ -120,7 +117,7 @@ pub fn rank_outcome(
     at: i64,
 ) -> Result<Outcome, NoMemory>
     requires { IsInYears kind at }
-    ensures { IfOk result (λ x. IsSaidWithin A all_limits (IsSubjectRead (operand_in operand.entry) bytes.now) (IsRankSaid kind at) (answer_of x)) }
+    ensures { IfOk result (AnswersTask (AskRank kind at) operand.entry bytes.now) }
 {
     match read_folded(alloc, operand, bytes) {
         Err(fault) => refused_for(alloc, Side::A, fault),

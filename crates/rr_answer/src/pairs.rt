@@ -3,12 +3,11 @@ ghost use Rattle.std.specs.Prelude.{◌≡◌, IfOk, IsTrue, ◌≤ℤ◌, pos};
 ghost use Rattle.rr_decide.specs.declared.question.Question.TheVariants.{Equal};
 ghost use Rattle.rr_answer.specs.Answer.{IsPairAnswer};
 ghost use Rattle.rr_answer.specs.Command.{HasDurations};
-ghost use Rattle.rr_answer.specs.Folding.{IsFoldOf, IsFromYearOneOn};
-ghost use Rattle.rr_answer.specs.OperandReading.{HaveOneText, IsSubjectRead};
+ghost use Rattle.rr_answer.specs.Folding.{IsFromYearOneOn};
+ghost use Rattle.rr_answer.specs.OperandReading.{HaveOneText};
 ghost use Rattle.rr_answer.specs.Outcome.{answer_of};
-ghost use Rattle.rr_answer.specs.Parsed.{operand_in};
-ghost use Rattle.rr_answer.specs.Subjects.{Subject};
-ghost use Rattle.rr_answer.specs.Verdicts.{IsSaidOfBoth};
+ghost use Rattle.rr_answer.specs.Parsed.{IsReadOf, operand_in};
+ghost use Rattle.rr_answer.specs.Verdicts.{IsSaidOfFolds};
 ghost use Rattle.rr_answer.specs.declared.command.Inquiry.TheVariants.{Verdict as Ask};
 
 use crate::clashes::clash_outcome;
@@ -31,7 +30,8 @@ fn said_of_both(alloc: Global, inquiry: Inquiry, a: Folded, b: Folded) -> Result
     requires b { IsFromYearOneOn (⟦<Folded as DaySeq>⟧.sketch b) }
     requires near_a { (⟦<Folded as DaySeq>⟧.sketch a).settled ≤ℤ pos 40_000_000 }
     requires near_b { (⟦<Folded as DaySeq>⟧.sketch b).settled ≤ℤ pos 40_000_000 }
-    ensures { IfOk result (λ x. (s u : Subject) → IsFoldOf s (⟦<Folded as DaySeq>⟧.sketch a) → IsFoldOf u (⟦<Folded as DaySeq>⟧.sketch b) → IsSaidOfBoth inquiry s u (answer_of x)) }
+    ensures { IfOk result (λ x. IsSaidOfFolds inquiry (⟦<Folded as DaySeq>⟧.sketch a)
+        (⟦<Folded as DaySeq>⟧.sketch b) (answer_of x)) }
 {
     match inquiry {
         Inquiry::Verdict(question) => verdict_outcome(alloc, question, a, b),
@@ -45,14 +45,16 @@ fn said_of_both(alloc: Global, inquiry: Inquiry, a: Folded, b: Folded) -> Result
 
 // Whether two operands are one text in one language with one offset, so that they state the same.
 fn is_one_text(a: Operand, text_a: &[u8], b: Operand, text_b: &[u8]) -> bool
-    ensures { IsTrue result → HaveOneText (operand_in a.entry) text_a.now (operand_in b.entry) text_b.now }
+    ensures { IsTrue result
+        → HaveOneText (operand_in a.entry) text_a.now (operand_in b.entry) text_b.now }
 {
     a.language == b.language && a.offset == b.offset && text_a == text_b
 }
 
 // Whether it is asked if one text has the same occurrences as itself.
 fn asks_of_itself(inquiry: Inquiry, a: Operand, text_a: &[u8], b: Operand, text_b: &[u8]) -> bool
-    ensures { IsTrue result → (inquiry ≡ Ask Equal) × HaveOneText (operand_in a.entry) text_a.now (operand_in b.entry) text_b.now }
+    ensures { IsTrue result → (inquiry ≡ Ask Equal)
+        × HaveOneText (operand_in a.entry) text_a.now (operand_in b.entry) text_b.now }
 {
     match inquiry {
         Inquiry::Verdict(Question::Equal) => is_one_text(a, text_a, b, text_b),
@@ -73,7 +75,8 @@ pub fn pair_outcome(
     text_b: &[u8],
 ) -> Result<Outcome, NoMemory>
     requires { HasDurations inquiry }
-    ensures { IfOk result (λ x. IsPairAnswer inquiry (IsSubjectRead (operand_in a.entry) text_a.now) (IsSubjectRead (operand_in b.entry) text_b.now) (answer_of x)) }
+    ensures { IfOk result (λ x. IsPairAnswer inquiry (IsReadOf a.entry text_a.now)
+        (IsReadOf b.entry text_b.now) (answer_of x)) }
 {
     let of_a = match read_folded(alloc, a, text_a) {
         Err(fault) => return refused_for(alloc, Side::A, fault),

@@ -4,7 +4,7 @@ use Rattle.std.specs.Prelude.{IfOk, Result}
 use Rattle.rr_io.specs.declared.source.FetchError.{FetchError}
 use Rattle.rr_io.specs.Outside.{Appended, AppendedPart}
 use Rattle.rr_calendars.specs.Outcomes.{outcome_is}
-use Rattle.rr_calendars.specs.Run.{Answer, Ends, HasCause, IsAnswer, IsEnding, contents}
+use Rattle.rr_calendars.specs.Run.{Answer, Ends, HasCause, IsAnswer, IsAnswerTo, IsEnding, contents}
 use Rattle.rr_calendars.specs.Words.{Asked}
 use Rattle.rr_calendars.specs.declared.answer.Outcome.{Outcome}
 use Rattle.rr_calendars.specs.declared.status.Status.{Status}
@@ -17,10 +17,6 @@ of_all (Some x) f = f x
 pub of_some : {T : Type 0} {P Q : T → Type 0} (o : Option T) → IfSome o P → ((x : T) → P x → Q x) → IfSome o Q
 of_some None h f = tt
 of_some (Some x) h f = f x h
-
--- it is the answer to what is asked, over what is held
-abbrev pub IsAnswerTo : Option Asked → (List ℕ → Option (List ℕ)) → Answer → Type 0
-IsAnswerTo asked held x = IfSome (contents asked held) (λ files. IsAnswer asked files x)
 
 -- ---- what the words ask
 

@@ -1,5 +1,5 @@
 -- What a run answers, and what it leaves, by its status.
-use Rattle.std.specs.Prelude.{◌≡◌, ◌⊎◌, ℕ, ◌+◌, Bool, ℤ, List, [], ◌∷◌, ◌++◌, take, Option, None, Some, option_map, option_and_then, ⊤}
+use Rattle.std.specs.Prelude.{◌≡◌, ◌⊎◌, ℕ, ◌+◌, Bool, ℤ, List, [], ◌∷◌, ◌++◌, take, Option, None, Some, option_map, option_and_then, ⊤, IfSome}
 use Rattle.rr_io.specs.Outside.{Appended, AppendedPart, RoseOrIsLast}
 use Rattle.rr_model.specs.declared.verdict.Side.{Side}
 use Rattle.rr_trip.specs.Counts.{counts_of, status_of}
@@ -102,6 +102,10 @@ contents (Some help) held = Some ([], [])
 contents (Some (comparison request)) held =
     option_and_then (λ old. option_map (λ new. (old, new)) (content held request.new)) (content held request.old)
 
+-- it is the answer to what is asked over what the source holds, where that tells it
+abbrev pub IsAnswerTo : Option Asked → (List ℕ → Option (List ℕ)) → Answer → Type 0
+IsAnswerTo asked held answer = IfSome (contents asked held) (λ files. IsAnswer asked files answer)
+
 -- it is the name of a file that is asked for
 abbrev pub IsFileOf : Option Asked → List ℕ → Type 0
 IsFileOf None name = ⊥
@@ -117,6 +121,15 @@ Ends ReadFault is old new = new ≡ old
 Ends NoMemory is old new = new ≡ old
 Ends WriteFault is old new = (answer : Answer) × is answer × AppendedPart old answer.bytes new
 Ends status is old new = (answer : Answer) × is answer × (status ≡ answer.status) × Appended old answer.bytes new
+
+-- the sink ends so with the answer to what is asked over what the source holds, where that tells it
+abbrev pub EndsAnswered : Status → Option Asked → (List ℕ → Option (List ℕ)) → Option (List ℕ) → Option (List ℕ) → Type 0
+EndsAnswered status asked held old new = IfSome (contents asked held) (λ files. Ends status (IsAnswer asked files) old new)
+
+-- the status is out of memory, or that of the answer to what is asked over what the source holds, where that tells it
+abbrev pub HasAnswerStatus : Status → Option Asked → (List ℕ → Option (List ℕ)) → Type 0
+HasAnswerStatus status asked held =
+    IfSome (contents asked held) (λ files. (status ≡ NoMemory) ⊎ ((answer : Answer) × IsAnswer asked files answer × (status ≡ answer.status)))
 
 -- the names of failed fetches gained that of a file
 abbrev pub GainsFile : Option Asked → List (List ℕ) → List (List ℕ) → Type 0

@@ -44,13 +44,13 @@ two_digits limit tens ones =
     if is_digit tens && (is_digit ones && nat_lt (two_digits_value tens ones) limit) then Some (two_digits_value tens ones) else None
 
 -- a number of seconds, after a plus or a minus
-abbrev pub signed : ℕ → ℕ → Option ℤ
-signed sign seconds = if sign == 43 then Some (pos seconds) else if sign == 45 then Some (neg_ℤ (pos seconds)) else None
+abbrev pub with_sign : ℕ → ℕ → Option ℤ
+with_sign sign seconds = if sign == 43 then Some (pos seconds) else if sign == 45 then Some (neg_ℤ (pos seconds)) else None
 
 -- an offset from UTC: a sign with hours below 24, a colon, and minutes below 60
 abbrev pub offset_in : List ℕ → Option ℤ
 offset_in text =
-    if slice_index text 3 == 58 then option_and_then (λ hours. option_and_then (λ minutes. signed (slice_index text 0) (hours * 3600 + minutes * 60))
+    if slice_index text 3 == 58 then option_and_then (λ hours. option_and_then (λ minutes. with_sign (slice_index text 0) (hours * 3600 + minutes * 60))
     (two_digits 60 (slice_index text 4) (slice_index text 5))) (two_digits 24 (slice_index text 1) (slice_index text 2)) else None
 
 -- the same of a text of any length

@@ -40,7 +40,8 @@ fn report_outcome(
     report: &Report,
 ) -> Result<Outcome, NoMemory>
     requires { All (λ line. IsPrintableSaid line.said) report.now.lines.items }
-    ensures answer { IfOk result (λ x. outcome_is x ≡ report_answer only_differences report.now.lines.items) }
+    ensures answer { IfOk result (λ x. outcome_is x
+        ≡ report_answer only_differences report.now.lines.items) }
 {
     let text = print(alloc, only_differences, report)?;
     Ok(Outcome {
@@ -51,14 +52,15 @@ fn report_outcome(
 }
 
 // What is said of the report of two files.
-fn reported<W: Watch>(
+fn comparison_outcome<W: Watch>(
     alloc: Global,
     request: Request,
     old: &[u8],
     new: &[u8],
     watch: &mut W,
 ) -> Result<Outcome, TripFault>
-    ensures { AnswersFiles (λ x. IsReported (request_in request.entry) old.now new.now (outcome_is x)) old.now new.now result }
+    ensures { AnswersFiles (λ x. IsReported (request_in request.entry) old.now new.now
+        (outcome_is x)) old.now new.now result }
 {
     match compare(alloc, request.offset, old, new, watch) {
         Ok(report) => Ok(report_outcome(alloc, request.only_differences, &report)?),
@@ -75,14 +77,15 @@ fn in_utc_count(said: Option<Said>) -> usize {
 }
 
 // What is said of one name in two files.
-fn named(
+fn name_outcome(
     alloc: Global,
     offset: Option<i32>,
     name: &str,
     old: &[u8],
     new: &[u8],
 ) -> Result<Outcome, TripFault>
-    ensures { AnswersFiles (λ x. IsNamed offset name.now old.now new.now (outcome_is x)) old.now new.now result }
+    ensures { AnswersFiles (λ x. IsNamed offset name.now old.now new.now (outcome_is x))
+        old.now new.now result }
 {
     match show(alloc, offset, old, new, name.as_bytes()) {
         Ok(shown) => Ok(Outcome {
@@ -102,11 +105,12 @@ fn answer_of_both<W: Watch>(
     new: &[u8],
     watch: &mut W,
 ) -> Result<Outcome, TripFault>
-    ensures { AnswersFiles (λ x. IsOfBoth (request_in request.entry).show (request_in request.entry) old.now new.now (outcome_is x)) old.now new.now result }
+    ensures { AnswersFiles (λ x. IsOfBoth (request_in request.entry).show
+        (request_in request.entry) old.now new.now (outcome_is x)) old.now new.now result }
 {
     match request.show {
-        None => reported(alloc, request, old, new, watch),
-        Some(name) => named(alloc, request.offset, name, old, new),
+        None => comparison_outcome(alloc, request, old, new, watch),
+        Some(name) => name_outcome(alloc, request.offset, name, old, new),
     }
 }
 
@@ -118,7 +122,8 @@ pub fn answer<W: Watch>(
     new: &[u8],
     watch: &mut W,
 ) -> Result<Outcome, NoMemory>
-    ensures { IfOk result (λ x. IsCompared (request_in request.entry) (old.now, new.now) (outcome_is x)) }
+    ensures { IfOk result (λ x. IsCompared (request_in request.entry) (old.now, new.now)
+        (outcome_is x)) }
 {
     match answer_of_both(alloc, request, old, new, watch) {
         Ok(outcome) => Ok(outcome),

@@ -1,9 +1,8 @@
 // The top call.
-ghost use Rattle.std.specs.Prelude.{◌≡◌, ◌⊎◌, IfSome, IsNone};
+ghost use Rattle.std.specs.Prelude.{◌≡◌, ◌⊎◌, IsNone};
 ghost use Rattle.rr_io.specs.Outside.{RoseOrIsLast};
-ghost use Rattle.rr_calendars.specs.Parsed.{words_of};
-ghost use Rattle.rr_calendars.specs.Run.{Answer, Ends, HasCause, IsAnswer, contents};
-ghost use Rattle.rr_calendars.specs.Words.{asked_of};
+ghost use Rattle.rr_calendars.specs.Parsed.{asked_of_words};
+ghost use Rattle.rr_calendars.specs.Run.{EndsAnswered, HasAnswerStatus, HasCause};
 
 use crate::status::{Ended, Status};
 use crate::work::outcome_of;
@@ -13,7 +12,8 @@ use std::alloc::Global;
 
 /// Does what the words ask: fetches the two files, compares them, and puts the whole report at once.
 ///
-/// The watch is told how far the comparison is, and that it has ended before anything is put. A fetch that fails ends the run with `ReadFault`, a put that fails with `WriteFault`. `NoMemory` may come at any time.
+/// The watch is told how far the comparison is, and that it has ended before anything is put. A fetch that fails ends the
+/// run with `ReadFault`, a put that fails with `WriteFault`. `NoMemory` may come at any time.
 pub fn run<S: Source, K: Sink, W: Watch>(
     alloc: Global,
     words: &[&str],
@@ -22,18 +22,22 @@ pub fn run<S: Source, K: Sink, W: Watch>(
     watch: &mut W,
 ) -> Ended
     // What is put is the answer to the words over the bytes that the source holds, and the status is the answer's.
-    ensures answer { IfSome (contents (asked_of (words_of words.now)) (S.held source.old)) (λ files. Ends result.status (IsAnswer (asked_of (words_of words.now)) files) (K.written sink.old) (K.written sink.new)) }
+    ensures answer { EndsAnswered result.status (asked_of_words words.now) (S.held source.old)
+        (K.written sink.old) (K.written sink.new) }
 
     // A fault is answered only where the fetch of a file or the put has failed, and then that alone.
-    ensures cause { HasCause result.status (asked_of (words_of words.now)) (S.failed source.old) (S.failed source.new) (K.faults sink.old) (K.faults sink.new) }
+    ensures cause { HasCause result.status (asked_of_words words.now) (S.failed source.old)
+        (S.failed source.new) (K.faults sink.old) (K.faults sink.new) }
 
     // The same over a source that does not tell what it holds.
-    ensures usage { result.status ≡ Status.Usage → IsNone (asked_of (words_of words.now)) }
-    ensures quiet { (result.status ≡ Status.ReadFault) ⊎ (result.status ≡ Status.NoMemory) → K.written sink.new ≡ K.written sink.old }
+    ensures usage { result.status ≡ Status.Usage → IsNone (asked_of_words words.now) }
+    ensures quiet { (result.status ≡ Status.ReadFault) ⊎ (result.status ≡ Status.NoMemory)
+        → K.written sink.new ≡ K.written sink.old }
 
     // Where nothing failed the answer comes, unless out of memory.
-    ensures complete { S.failed source.new ≡ S.failed source.old → (RoseOrIsLast (K.faults sink.old) (K.faults sink.new) → ⊥)
-        → IfSome (contents (asked_of (words_of words.now)) (S.held source.old)) (λ files. (result.status ≡ Status.NoMemory) ⊎ ((answer : Answer) × IsAnswer (asked_of (words_of words.now)) files answer × (result.status ≡ answer.status))) }
+    ensures complete { S.failed source.new ≡ S.failed source.old
+        → (RoseOrIsLast (K.faults sink.old) (K.faults sink.new) → ⊥)
+        → HasAnswerStatus result.status (asked_of_words words.now) (S.held source.old) }
 {
     match outcome_of(alloc, words, source, watch) {
         Err(FetchError::Failed) => Ended {

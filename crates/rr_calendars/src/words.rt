@@ -1,7 +1,7 @@
 // The words of the command line.
 ghost use Rattle.std.specs.Prelude.{◌≡◌, ◌<◌, ◌≤◌, length, option_map, IfSome};
-ghost use Rattle.rr_calendars.specs.Words.{are_input, asked_of, given_of, is_help, is_word, offset_in, offset_of, request_of, signed, two_digits, with_file, with_name, with_offset, with_option, with_word};
-ghost use Rattle.rr_calendars.specs.Parsed.{asked_in, given_in, request_in, words_of};
+ghost use Rattle.rr_calendars.specs.Words.{are_input, given_of, is_help, is_word, offset_in, offset_of, request_of, with_sign, two_digits, with_file, with_name, with_offset, with_option, with_word};
+ghost use Rattle.rr_calendars.specs.Parsed.{asked_in, asked_of_words, given_in, request_in, words_of};
 
 /// What is asked of two files.
 #[derive(Clone, Copy)]
@@ -63,9 +63,9 @@ fn two_digits(limit: u64, tens: u8, ones: u8) -> Option<u64>
 }
 
 // A number of seconds, after a plus or a minus.
-fn signed(sign: u8, seconds: u64) -> Option<i32>
+fn with_sign(sign: u8, seconds: u64) -> Option<i32>
     requires { seconds < 86_400 }
-    ensures { result ≡ signed sign seconds }
+    ensures { result ≡ with_sign sign seconds }
 {
     match sign {
         b'+' => Some(seconds as i32),
@@ -84,7 +84,7 @@ fn offset_in(text: &[u8]) -> Option<i32>
     }
     let hours = two_digits(24, text[1], text[2])?;
     let minutes = two_digits(60, text[4], text[5])?;
-    signed(text[0], hours * 3_600 + minutes * 60)
+    with_sign(text[0], hours * 3_600 + minutes * 60)
 }
 
 // The same of a text of any length.
@@ -242,7 +242,7 @@ fn is_help(words: &[&str]) -> bool
 /// at any place.
 #[tactic(auto, unfolding(crate::specs::Words::asked_of))]
 pub fn parse<'a>(words: &[&'a str]) -> Option<Asked<'a>>
-    ensures { option_map asked_in result ≡ asked_of (words_of words.now) }
+    ensures { option_map asked_in result ≡ asked_of_words words.now }
 {
     if is_help(words) {
         return Some(Asked::Help);

@@ -1,10 +1,9 @@
 // What the words ask, worked out over the files.
-ghost use Rattle.std.specs.Prelude.{◌≡◌, ◌++◌, ◌∷◌, [], IfOk, IfSome, IsErrOf, Some};
+ghost use Rattle.std.specs.Prelude.{◌≡◌, ◌++◌, ◌∷◌, [], IfOk, IfSome, IsErrOf};
 ghost use Rattle.rr_io.specs.Outside.{KeepsHeld};
 ghost use Rattle.rr_calendars.specs.Outcomes.{outcome_is};
-ghost use Rattle.rr_calendars.specs.Parsed.{request_in, words_of};
-ghost use Rattle.rr_calendars.specs.Run.{GainsFile, IsAnswer, IsCompared, IsEnding, content, contents};
-ghost use Rattle.rr_calendars.specs.Words.{asked_of, comparison};
+ghost use Rattle.rr_calendars.specs.Parsed.{asked_of_words, comparison_in};
+ghost use Rattle.rr_calendars.specs.Run.{GainsFile, IsAnswerTo, IsEnding, content, contents};
 
 use crate::answer::{Outcome, answer};
 use crate::status::Status;
@@ -48,9 +47,12 @@ no text in UTF-8.
 
 // The bytes of a file.
 fn fetch<S: Source>(alloc: Global, name: &str, source: &mut S) -> Result<Vec<u8>, FetchError>
-    ensures bytes { IfOk result (λ v. IfSome (content (S.held source.old) name.now) (λ bytes. v.items ≡ bytes)) }
-    ensures failed { IsErrOf result FetchError.Failed → S.failed source.new ≡ S.failed source.old ++ name.now ∷ [] }
-    ensures kept { (IsErrOf result FetchError.Failed → ⊥) → S.failed source.new ≡ S.failed source.old }
+    ensures bytes { IfOk result (λ v. IfSome (content (S.held source.old) name.now)
+        (λ bytes. v.items ≡ bytes)) }
+    ensures failed { IsErrOf result FetchError.Failed
+        → S.failed source.new ≡ S.failed source.old ++ name.now ∷ [] }
+    ensures kept { (IsErrOf result FetchError.Failed → ⊥)
+        → S.failed source.new ≡ S.failed source.old }
     ensures held { KeepsHeld (S.held source.old) (S.held source.new) }
 {
     source.fetch_within(alloc, name, MAX_FILE)
@@ -69,9 +71,13 @@ fn fetch_both<S: Source>(
     request: Request,
     source: &mut S,
 ) -> Result<Files, FetchError>
-    ensures files { IfOk result (λ f. IfSome (contents (Some (comparison (request_in request.entry))) (S.held source.old)) (λ files. (f.old.items, f.new.items) ≡ files)) }
-    ensures failed { IsErrOf result FetchError.Failed → GainsFile (Some (comparison (request_in request.entry))) (S.failed source.old) (S.failed source.new) }
-    ensures kept { (IsErrOf result FetchError.Failed → ⊥) → S.failed source.new ≡ S.failed source.old }
+    ensures files { IfOk result (λ f. IfSome
+        (contents (comparison_in request.entry) (S.held source.old))
+        (λ files. (f.old.items, f.new.items) ≡ files)) }
+    ensures failed { IsErrOf result FetchError.Failed
+        → GainsFile (comparison_in request.entry) (S.failed source.old) (S.failed source.new) }
+    ensures kept { (IsErrOf result FetchError.Failed → ⊥)
+        → S.failed source.new ≡ S.failed source.old }
 {
     let old = fetch(alloc, request.old, source)?;
     let new = fetch(alloc, request.new, source)?;
@@ -85,10 +91,13 @@ fn work_out<S: Source, W: Watch>(
     source: &mut S,
     watch: &mut W,
 ) -> Result<Outcome, FetchError>
-    ensures answer { IfOk result (λ x. IfSome (contents (Some (comparison (request_in request.entry))) (S.held source.old)) (λ files. IsCompared (request_in request.entry) files (outcome_is x))) }
-    ensures ending { IfOk result (λ x. IsEnding (Some (comparison (request_in request.entry))) x.status) }
-    ensures failed { IsErrOf result FetchError.Failed → GainsFile (Some (comparison (request_in request.entry))) (S.failed source.old) (S.failed source.new) }
-    ensures kept { (IsErrOf result FetchError.Failed → ⊥) → S.failed source.new ≡ S.failed source.old }
+    ensures answer { IfOk result (λ x. IsAnswerTo (comparison_in request.entry) (S.held source.old)
+        (outcome_is x)) }
+    ensures ending { IfOk result (λ x. IsEnding (comparison_in request.entry) x.status) }
+    ensures failed { IsErrOf result FetchError.Failed
+        → GainsFile (comparison_in request.entry) (S.failed source.old) (S.failed source.new) }
+    ensures kept { (IsErrOf result FetchError.Failed → ⊥)
+        → S.failed source.new ≡ S.failed source.old }
 {
     let files = fetch_both(alloc, request, source)?;
     Ok(answer(
@@ -101,7 +110,7 @@ fn work_out<S: Source, W: Watch>(
 }
 
 // A text of the program's own.
-fn told(alloc: Global, text: &[u8], status: Status) -> Result<Outcome, NoMemory>
+fn text_outcome(alloc: Global, text: &[u8], status: Status) -> Result<Outcome, NoMemory>
     ensures { IfOk result (λ x. outcome_is x ≡ record { status = status; bytes = text.now }) }
 {
     Ok(Outcome {
@@ -118,14 +127,17 @@ pub fn outcome_of<S: Source, W: Watch>(
     source: &mut S,
     watch: &mut W,
 ) -> Result<Outcome, FetchError>
-    ensures answer { IfOk result (λ x. IfSome (contents (asked_of (words_of words.now)) (S.held source.old)) (λ files. IsAnswer (asked_of (words_of words.now)) files (outcome_is x))) }
-    ensures ending { IfOk result (λ x. IsEnding (asked_of (words_of words.now)) x.status) }
-    ensures failed { IsErrOf result FetchError.Failed → GainsFile (asked_of (words_of words.now)) (S.failed source.old) (S.failed source.new) }
-    ensures kept { (IsErrOf result FetchError.Failed → ⊥) → S.failed source.new ≡ S.failed source.old }
+    ensures answer { IfOk result (λ x. IsAnswerTo (asked_of_words words.now) (S.held source.old)
+        (outcome_is x)) }
+    ensures ending { IfOk result (λ x. IsEnding (asked_of_words words.now) x.status) }
+    ensures failed { IsErrOf result FetchError.Failed
+        → GainsFile (asked_of_words words.now) (S.failed source.old) (S.failed source.new) }
+    ensures kept { (IsErrOf result FetchError.Failed → ⊥)
+        → S.failed source.new ≡ S.failed source.old }
 {
     match parse(words) {
-        None => Ok(told(alloc, USAGE, Status::Usage)?),
-        Some(Asked::Help) => Ok(told(alloc, HELP, Status::Equal)?),
+        None => Ok(text_outcome(alloc, USAGE, Status::Usage)?),
+        Some(Asked::Help) => Ok(text_outcome(alloc, HELP, Status::Equal)?),
         Some(Asked::Comparison(request)) => work_out(alloc, request, source, watch),
     }
 }

@@ -21,7 +21,8 @@ struct Run<'a, 'b> {
 
 // The first run of sorted entries.
 fn first_run<'a, 'b>(entries: &'b [Entry<'a>]) -> Option<Run<'a, 'b>>
-    ensures { MatchOption result (entries.now ≡ []) (λ run. IsRunAt entries.now run.first.now run.entries.now) }
+    ensures { MatchOption result (entries.now ≡ [])
+        (λ run. IsRunAt entries.now run.first.now run.entries.now) }
 {
     let first = entries.first()?;
     let count = count_of_key(&first.key, entries);

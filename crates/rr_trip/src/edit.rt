@@ -187,7 +187,8 @@ fn has_date(dates: &Dates, at: i64) -> bool
 
 // Puts the dates that are not among the starts.
 fn put_outside(dates: &mut DateSet, starts: &Dates, values: &[i64]) -> Result<(), NoMemory>
-    ensures { OnOk result (dates.new ≡ with_values dates.old (values_outside starts.now values.now)) }
+    ensures { OnOk result (dates.new
+        ≡ with_values dates.old (values_outside starts.now values.now)) }
 {
     for at in values {
         if !has_date(starts, *at) {

@@ -26,7 +26,8 @@ fn put_entries<'a>(
     entries: &mut Vec<Entry<'a>>,
 ) -> Result<(), NoMemory>
     requires { All IsNumberedPiece pieces.now }
-    ensures { OnOk result (entries.new.items ≡ entries.old.items ++ map (entry_of side) pieces.now) }
+    ensures { OnOk result (entries.new.items
+        ≡ entries.old.items ++ map (entry_of side) pieces.now) }
 {
     for piece in pieces {
         let piece = *piece;

@@ -66,7 +66,8 @@ fn recurrence_on(alloc: Global, line: &Line) -> Result<Recurrence, NoMemory>
 
 // The RECURRENCE-ID among the lines of an event.
 fn recurrence_of(alloc: Global, own: &[&Line]) -> Result<Option<Recurrence>, NoMemory>
-    ensures { IfOk result (λ recurrence. recurrence ≡ recurrence_of (map (λ line. line.now) own.now)) }
+    ensures { IfOk result (λ recurrence. recurrence
+        ≡ recurrence_of (map (λ line. line.now) own.now)) }
 {
     match first_named(b"RECURRENCE-ID", own) {
         None => Ok(None),

@@ -50,7 +50,8 @@ fn push_cell<A: DaySeq, B: DaySeq>(
     day: i64,
 ) -> Result<(), NoMemory>
     requires { IsDayWithin 0 day }
-    ensures { OnOk result (out.new.items ≡ out.old.items ++ cell_text (A.sketch a.now) (B.sketch b.now) day) }
+    ensures { OnOk result (out.new.items
+        ≡ out.old.items ++ cell_text (A.sketch a.now) (B.sketch b.now) day) }
 {
     if weekday(day) == 0 {
         push(out, b"\n")?;
@@ -76,7 +77,8 @@ fn push_cells<A: DaySeq, B: DaySeq>(
     days: u8,
 ) -> Result<(), NoMemory>
     requires { IsPainted first }
-    ensures { OnOk result (out.new.items ≡ out.old.items ++ cells_text (A.sketch a.now) (B.sketch b.now) first days) }
+    ensures { OnOk result (out.new.items
+        ≡ out.old.items ++ cells_text (A.sketch a.now) (B.sketch b.now) first days) }
 {
     for i in 0..days {
         push_cell(out, a, b, day_after(first, i))?;

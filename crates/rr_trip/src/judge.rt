@@ -26,7 +26,8 @@ struct SeriesDays {
 // The days of a series. The refusal is the first by all limits.
 fn days_of(alloc: Global, series: Series) -> Result<SeriesDays, Fault>
     requires { IsValidSeries series }
-    ensures accepted { IfOk result (λ made. (made.series ≡ series) × IsFoldOf made.series (⟦<Folded as DaySeq>⟧.sketch made.days)) }
+    ensures accepted { IfOk result (λ made. (made.series ≡ series)
+        × IsFoldOf made.series (⟦<Folded as DaySeq>⟧.sketch made.days)) }
     ensures refused { IfErr result (IsFaultOf series) }
 {
     let series = check(series)?;
@@ -112,7 +113,8 @@ pub fn key_series(
     entries: &[Entry],
 ) -> Result<KeySeries, KeyFault>
     requires { All IsNumbered entries.now }
-    ensures accepted { IfOk result (λ key. IsStated offset (events_in entries.now) key.line key.series) }
+    ensures accepted { IfOk result (λ key. IsStated offset (events_in entries.now)
+        key.line key.series) }
     ensures zones { IfOk result (λ key. key.zones.items ≡ key_zones (events_in entries.now)) }
     ensures refused { IfErr result (IsKeyFault offset (events_in entries.now)) }
 {
@@ -129,7 +131,9 @@ pub fn key_series(
 /// The days of what the events of a key state. The refusal is the first by all limits.
 pub fn days_of_key(alloc: Global, key: KeySeries) -> Result<KeyDays, KeyFault>
     requires { IsValidSeries key.series }
-    ensures accepted { IfOk result (λ made. (made.series ≡ key.series) × (made.zones.items ≡ key.zones.items) × IsFoldOf made.series (⟦<Folded as DaySeq>⟧.sketch made.days)) }
+    ensures accepted { IfOk result (λ made. (made.series ≡ key.series)
+        × (made.zones.items ≡ key.zones.items)
+        × IsFoldOf made.series (⟦<Folded as DaySeq>⟧.sketch made.days)) }
     ensures refused { IfErr result (IsFaultBy key.line key.series) }
 {
     match days_of(alloc, key.series) {
@@ -146,7 +150,8 @@ pub fn days_of_key(alloc: Global, key: KeySeries) -> Result<KeyDays, KeyFault>
 pub fn key_days(alloc: Global, offset: Option<i32>, entries: &[Entry]) -> Result<KeyDays, KeyFault>
     requires { All IsNumbered entries.now }
     ensures states { IfOk result (λ key. edited offset (events_in entries.now) ≡ Ok key.series) }
-    ensures folded { IfOk result (λ key. IsFoldOf key.series (⟦<Folded as DaySeq>⟧.sketch key.days)) }
+    ensures folded { IfOk result (λ key. IsFoldOf key.series
+        (⟦<Folded as DaySeq>⟧.sketch key.days)) }
     ensures zones { IfOk result (λ key. key.zones.items ≡ key_zones (events_in entries.now)) }
     ensures refused { IfErr result (IsKeyFault offset (events_in entries.now)) }
 {

@@ -44,7 +44,8 @@ fn without_quotes(text: &[u8]) -> &[u8]
 
 // The value of one parameter, where it has this name.
 fn value_named<'a>(word: &[u8], text: &'a [u8]) -> Option<&'a [u8]>
-    ensures { option_map (λ value. value.now) result ≡ value_named word.now (split_once 61 text.now) }
+    ensures { option_map (λ value. value.now) result
+        ≡ value_named word.now (split_once 61 text.now) }
 {
     let (name, value) = split_once(text, b'=')?;
     if is_same_name(name, word) {

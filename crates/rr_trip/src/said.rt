@@ -73,7 +73,9 @@ fn refusal_on(side: Side, fault: KeyFault) -> Result<Said, NoMemory>
 
 // The verdict on both calendars.
 fn verdict_on(a: &KeyDays, b: &KeyDays) -> Said
-    ensures { IsCompared (⟦<Folded as DaySeq>⟧.sketch a.now.days) (⟦<Folded as DaySeq>⟧.sketch b.now.days) (have_one_zone (a.now.zones.items ++ b.now.zones.items)) result }
+    ensures { IsCompared (⟦<Folded as DaySeq>⟧.sketch a.now.days)
+        (⟦<Folded as DaySeq>⟧.sketch b.now.days)
+        (have_one_zone (a.now.zones.items ++ b.now.zones.items)) result }
 {
     Said::Compared {
         verdict: equal(&a.days, &b.days),
@@ -85,7 +87,8 @@ fn verdict_on(a: &KeyDays, b: &KeyDays) -> Said
 fn said_beside(alloc: Global, a: &KeyDays, b: KeySeries) -> Result<Said, NoMemory>
     requires folded { IsFoldOf a.now.series (⟦<Folded as DaySeq>⟧.sketch a.now.days) }
     requires valid { IsValidSeries b.series }
-    ensures said { IfOk result (IsSaidBeside a.now.series b.line b.series (have_one_zone (a.now.zones.items ++ b.zones.items))) }
+    ensures said { IfOk result (IsSaidBeside a.now.series b.line b.series
+        (have_one_zone (a.now.zones.items ++ b.zones.items))) }
     ensures printable { IfOk result IsPrintableSaid }
 {
     if is_same_series(a.series.series(), &b.series) {

@@ -9,7 +9,7 @@ use crate::entry::Entry;
 use crate::file::{TripFault, read_file};
 use crate::gather::KeyFault;
 use crate::grid::picture;
-use crate::judge::key_days;
+use crate::judge::{KeyDays, key_days};
 use crate::key::{Key, key_of};
 use crate::printing::{push, push_key, push_said};
 use crate::report::Status;
@@ -45,7 +45,8 @@ fn put_named<'a>(
     entry: Entry<'a>,
     name: &[u8],
 ) -> Result<(), NoMemory>
-    ensures { OnOk result (entries.new.items ≡ entries.old.items ++ named_part name.now entry.entry) }
+    ensures { OnOk result (entries.new.items
+        ≡ entries.old.items ++ named_part name.now entry.entry) }
 {
     if !is_named(alloc, &entry.key, name)? {
         return Ok(());
@@ -62,7 +63,8 @@ fn entries_named<'a>(
     name: &[u8],
 ) -> Result<Vec<Entry<'a>>, NoMemory>
     requires { All IsNumberedPiece pieces.now }
-    ensures named { IfOk result (λ entries. entries.items ≡ filter (is_entry_named name.now) (map (entry_of side) pieces.now)) }
+    ensures named { IfOk result (λ entries. entries.items
+        ≡ filter (is_entry_named name.now) (map (entry_of side) pieces.now)) }
     ensures numbered { IfOk result (λ entries. All IsNumbered entries.items) }
 {
     let mut entries = Vec::new(alloc);
@@ -88,6 +90,37 @@ fn said_status(said: Said) -> Status
     }
 }
 
+// The days of the events of a key, where these are not refused.
+fn days_unless_refused(
+    alloc: Global,
+    offset: Option<i32>,
+    entries: &[Entry],
+) -> Result<Option<KeyDays>, NoMemory>
+    requires { All IsNumbered entries.now }
+{
+    match key_days(alloc, offset, entries) {
+        Ok(days) => Ok(Some(days)),
+        Err(KeyFault::Refused(_)) => Ok(None),
+        Err(KeyFault::NoMemory) => Err(NoMemory),
+    }
+}
+
+// The picture of the months from a day on, beside the days of A.
+fn picture_beside(
+    alloc: Global,
+    offset: Option<i32>,
+    a: &KeyDays,
+    b: &[Entry],
+    day: i64,
+) -> Result<Vec<u8>, NoMemory>
+    requires { All IsNumbered b.now }
+{
+    match days_unless_refused(alloc, offset, b)? {
+        Some(b) => picture(alloc, &a.days, &b.days, day),
+        None => Ok(Vec::new(alloc)),
+    }
+}
+
 // The picture of the months from a day on.
 fn picture_from(
     alloc: Global,
@@ -99,12 +132,9 @@ fn picture_from(
     requires a { All IsNumbered a.now }
     requires b { All IsNumbered b.now }
 {
-    let a = key_days(alloc, offset, a);
-    let b = key_days(alloc, offset, b);
-    match (a, b) {
-        (Ok(a), Ok(b)) => picture(alloc, &a.days, &b.days, day),
-        (Err(KeyFault::NoMemory), _) | (_, Err(KeyFault::NoMemory)) => Err(NoMemory),
-        _ => Ok(Vec::new(alloc)),
+    match days_unless_refused(alloc, offset, a)? {
+        Some(a) => picture_beside(alloc, offset, &a, b, day),
+        None => Ok(Vec::new(alloc)),
     }
 }
 
@@ -129,7 +159,7 @@ fn picture_of(
 }
 
 // No event is printed so.
-fn unknown(alloc: Global, name: &[u8]) -> Result<Shown, NoMemory>
+fn unknown_name(alloc: Global, name: &[u8]) -> Result<Shown, NoMemory>
     ensures { IfOk result (IsUnknown name.now) }
 {
     let mut text = Vec::new(alloc);
@@ -191,7 +221,7 @@ fn shown_of(
     ensures { IfOk result (IsShownOf offset (events_in a.now) (events_in b.now) name.now) }
 {
     if are_none(a, b) {
-        return unknown(alloc, name);
+        return unknown_name(alloc, name);
     }
     shown_said(alloc, offset, a, b, name)
 }

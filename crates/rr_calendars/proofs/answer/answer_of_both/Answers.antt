@@ -5,10 +5,10 @@ use Rattle.rr_calendars.proofs.answer.answer_of_both.Goals as goal
 
 pub returns-in-None : goal.returns-in-None
 returns-in-None g c =
-    none_of_both (request_in c.args.request).show (request_in c.args.request) c.args.old.now c.args.new.now c.reported.result
-    (ap word_in c.in-None.is) c.reported.ensures
+    none_of_both (request_in c.args.request).show (request_in c.args.request) c.args.old.now c.args.new.now c.comparison_outcome.result
+    (ap word_in c.in-None.is) c.comparison_outcome.ensures
 
 pub returns-in-Some : goal.returns-in-Some
 returns-in-Some g c =
-    some_of_both (request_in c.args.request).show c.in-Some.name.now (request_in c.args.request) c.args.old.now c.args.new.now c.named.result
-    (ap word_in c.in-Some.is) c.named.ensures
+    some_of_both (request_in c.args.request).show c.in-Some.name.now (request_in c.args.request) c.args.old.now c.args.new.now c.name_outcome.result
+    (ap word_in c.in-Some.is) c.name_outcome.ensures

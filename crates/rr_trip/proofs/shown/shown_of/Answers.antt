@@ -4,7 +4,7 @@ use Rattle.rr_trip.proofs.shown.shown_of.Goals as goal
 
 pub returns-then-are_none : goal.returns-then-are_none
 returns-then-are_none c =
-    ok_each c.unknown.result c.unknown.ensures (λ shown h. shown_unknown c.args.offset c.args.name.now shown c.args.a.now c.args.b.now
+    ok_each c.unknown_name.result c.unknown_name.ensures (λ shown h. shown_unknown c.args.offset c.args.name.now shown c.args.a.now c.args.b.now
     (sym c.are_none.ensures ∙ c.if-are_none.true) h)
 
 pub returns : goal.returns

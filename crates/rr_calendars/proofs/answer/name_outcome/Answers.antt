@@ -5,7 +5,7 @@ use Rattle.rr_calendars.specs.declared.answer.Outcome.{Outcome}
 use Rattle.rr_calendars.specs.declared.status.Status.{Status}
 use Rattle.rr_calendars.proofs.AnswerLemmas.{show_fault}
 use Rattle.rr_trip.specs.Shown.{IsShownIn}
-use Rattle.rr_calendars.proofs.answer.named.Goals as goal
+use Rattle.rr_calendars.proofs.answer.name_outcome.Goals as goal
 
 pub returns-in-Ok : goal.returns-in-Ok
 returns-in-Ok c = record {

@@ -3,7 +3,7 @@ use Rattle.rr_calendars.specs.Parsed.{request_in}
 use Rattle.rr_calendars.specs.Run.{IsReported}
 use Rattle.rr_calendars.specs.declared.answer.Outcome.{Outcome}
 use Rattle.rr_calendars.proofs.AnswerLemmas.{trip_fault}
-use Rattle.rr_calendars.proofs.answer.reported.Goals as goal
+use Rattle.rr_calendars.proofs.answer.comparison_outcome.Goals as goal
 
 pub returns-in_ok-report_outcome-in-Ok : goal.returns-in_ok-report_outcome-in-Ok
 returns-in_ok-report_outcome-in-Ok g c = record {
