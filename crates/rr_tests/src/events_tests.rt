@@ -1,28 +1,25 @@
+// Which events are found in a text.
+use crate::rows::text_of;
 use rr_events::*;
 use rr_model::{Fault, Refusal};
 use rr_text::lines_from;
 use std::alloc::Global;
+use std::process::Abort;
 use std::test::*;
 
 // Texts, and the first lines, lengths and UIDs of their events, or the line of the fault.
-const TEXTS: [(&str, &str); 9] = [
-    ("", ""),
-    ("X:y\n BEGIN:VEVENT\n", ""),
-    (
-        "BEGIN:VCALENDAR\r\nBEGIN:VE\r\n VENT\r\nBEGIN:VALARM\r\nUID:b\r\nEND:VALARM\r\nuid;X=y: a \r\nEND:VE\r\n\tVENT\r\n\
-        BEGIN:VEVENT\r\nEND:VEVENT\r\nEND:VCALENDAR\r\n",
-        "2 78 a|10 26 |",
-    ),
-    ("begin:vevent\nUID:\n a\n b\nUID:c\nend:vevent", "1 40 ab|"),
-    (
-        "BEGIN:VTODO\nBEGIN:VEVENT\nUID:a\nBEGIN:VEVENT\nUID:b\nEND:VEVENT\nEND:VEVENT\nEND:VTODO\n",
-        "2 60 a|",
-    ),
-    ("BEGIN:VEVENT\nEND:VEVENT\n\n\nBEGIN:A\n\n", "line 6"),
-    ("END:VEVENT\n", "line 1"),
-    ("BEGIN:A\nBEGIN\n", "line 2"),
-    ("BEGIN:A\nBEGIN:VEVENT\nEND:A\n", "line 3"),
-];
+const TEXTS: &str = "\
+|
+X:y~ BEGIN:VEVENT~|
+BEGIN:VCALENDAR\r~BEGIN:VE\r~ VENT\r~BEGIN:VALARM\r~UID:b\r~END:VALARM\r~uid;X=y: a \r~END:VE\r~\tVENT\r~\
+BEGIN:VEVENT\r~END:VEVENT\r~END:VCALENDAR\r~|2 78 a|10 26 |
+begin:vevent~UID:~ a~ b~UID:c~end:vevent|1 40 ab|
+BEGIN:VTODO~BEGIN:VEVENT~UID:a~BEGIN:VEVENT~UID:b~END:VEVENT~END:VEVENT~END:VTODO~|2 60 a|
+BEGIN:VEVENT~END:VEVENT~~~BEGIN:A~~|line 6
+END:VEVENT~|line 1
+BEGIN:A~BEGIN~|line 2
+BEGIN:A~BEGIN:VEVENT~END:A~|line 3
+";
 
 // The events that are found, as the table writes them.
 fn told(alloc: Global, text: &str) -> Result<String, Fail> {
@@ -48,11 +45,17 @@ fn told(alloc: Global, text: &str) -> Result<String, Fail> {
     Ok(told)
 }
 
+// A row `TEXT|EVENTS` holds.
+fn events_hold(rt: &impl Abort, alloc: Global, row: &str) -> Result<(), Fail> {
+    let (text, wanted) = text_of(alloc, row)?;
+    assert_eq!(rt; told(alloc, text.as_str())?.as_str(), wanted, "{row}");
+    Ok(())
+}
+
 #[test]
 fn events_are_found(rt: HostRuntime) -> Result<(), Fail> {
-    let alloc = rt.alloc();
-    for (text, want) in TEXTS {
-        assert_eq!(rt; told(alloc, text)?.as_str(), want, "{text}");
+    for row in TEXTS.lines() {
+        events_hold(&rt, rt.alloc(), row)?;
     }
     Ok(())
 }

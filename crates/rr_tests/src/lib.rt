@@ -28,6 +28,8 @@ mod model_tests;
 #[cfg(test)]
 mod num_tests;
 #[cfg(test)]
+mod rows;
+#[cfg(test)]
 mod rrule_tests;
 #[cfg(test)]
 mod runs_tests;

@@ -1,72 +1,111 @@
+// Cycles of rules, and multiples of numbers.
 ghost use Rattle.std.specs.Prelude.{◌≡◌, IfOk};
 
-use rr_model::{DayItem, Freq, NoMemory, Rule};
+use rr_model::{Freq, NoMemory, Rule, Series};
 use rr_num::{day_cycle, gcd, lcm_within};
+use rr_rrule::read;
 use std::alloc::Global;
-use std::test::Fail;
+use std::process::Abort;
+use std::test::*;
 
-// A rule with the 29 February, with Mondays, with both or with neither.
-fn rule(
-    alloc: Global,
-    freq: Freq,
-    interval: u32,
-    february: bool,
-    mondays: bool,
-) -> Result<Rule, NoMemory>
-    ensures { IfOk result (λ r. r.interval ≡ interval) }
-{
-    let mut rule = Rule::new(alloc, freq, interval);
-    if february {
-        rule.by_month.put(2)?;
-        rule.by_month_day.put(29)?;
+// Rules, and their cycles in days.
+const CYCLES: &str = "\
+FREQ=YEARLY;INTERVAL=4;BYMONTH=2;BYMONTHDAY=29|146097
+FREQ=HOURLY;INTERVAL=7;BYDAY=MO|7
+FREQ=SECONDLY;INTERVAL=4294967295|286331153
+FREQ=MONTHLY;INTERVAL=113|16508961
+FREQ=MONTHLY;INTERVAL=113;BYMONTH=2;BYMONTHDAY=29;BYDAY=MO|16508961
+FREQ=MINUTELY;INTERVAL=90|1
+FREQ=DAILY;INTERVAL=3;BYDAY=MO|21
+";
+
+// Two numbers, a third one, and their least common multiple where it is not above that.
+const MULTIPLES: &str = "\
+4|6|12|Some(12)
+4|6|11|None
+7|146097|146097|Some(146097)
+4294967296|4294967296|4294967296|Some(4294967296)
+18446744073709551615|18446744073709551614|18446744073709551615|None
+";
+
+// The cycle of the only rule of a series.
+fn cycle_of(series: &Series) -> Result<u128, Fail> {
+    match series.rules.as_slice() {
+        [rule] if rule.interval > 0 => Ok(day_cycle(rule)),
+        _ => Err("a row has one rule".into()),
     }
-    if mondays {
-        rule.by_day.put(DayItem {
-            place: 0,
-            weekday: 0,
-        })?;
+}
+
+// The cycle of the rule that a text states.
+fn cycle_of_text(alloc: Global, text: &str) -> Result<u128, Fail> {
+    match read(alloc, text.as_bytes(), None) {
+        Ok(series) => cycle_of(&series),
+        Err(_) => Err("a rule is read".into()),
     }
-    Ok(rule)
+}
+
+// A row `RULE|CYCLE` holds.
+fn cycle_holds(rt: &impl Abort, alloc: Global, row: &str) -> Result<(), Fail> {
+    let (rule, wanted) = row.split_once('|').ok_or("a row has a cycle")?;
+    let text = format!(in alloc; "DTSTART:20240101T000000\nRRULE:{rule}\n")?;
+    let cycle = cycle_of_text(alloc, text.as_str())?;
+    let said = format!(in alloc; "{cycle}")?;
+    assert_eq!(rt; said.as_str(), wanted, "{row}");
+    Ok(())
 }
 
 #[test]
 fn worked_cycles(rt: HostRuntime) -> Result<(), Fail> {
-    let alloc = rt.alloc();
-    for (freq, interval, february, mondays, cycle) in [
-        (Freq::Yearly, 4, true, false, 146_097),
-        (Freq::Hourly, 7, false, true, 7),
-        (Freq::Secondly, 4_294_967_295, false, false, 286_331_153),
-        (Freq::Monthly, 113, false, false, 16_508_961),
-        (Freq::Monthly, 113, true, true, 16_508_961),
-        (Freq::Minutely, 90, false, false, 1),
-        (Freq::Daily, 3, false, true, 21),
-        (Freq::Weekly, 2, true, false, 292_194),
-    ] {
-        assert!(rt; interval > 0);
-        let rule = rule(alloc, freq, interval, february, mondays)?;
-        assert_eq!(rt; day_cycle(&rule), cycle, "every {interval}");
+    for row in CYCLES.lines() {
+        cycle_holds(&rt, rt.alloc(), row)?;
     }
-    for (a, b, most, want) in [
-        (4, 6, 12, Some(12)),
-        (4, 6, 11, None),
-        (7, 146_097, 146_097, Some(146_097)),
-        (
-            4_294_967_296,
-            4_294_967_296,
-            4_294_967_296,
-            Some(4_294_967_296),
-        ),
-        (
-            18_446_744_073_709_551_615,
-            18_446_744_073_709_551_614,
-            18_446_744_073_709_551_615,
-            None,
-        ),
-    ] {
-        assert!(rt; a > 0 && b > 0);
-        assert_eq!(rt; lcm_within(a, b, most), want, "{a} and {b}");
+    Ok(())
+}
+
+// Every second week on 29 February, which no text states.
+fn weekly_rule(alloc: Global) -> Result<Rule, NoMemory>
+    ensures { IfOk result (λ rule. rule.interval ≡ 2) }
+{
+    let mut rule = Rule::new(alloc, Freq::Weekly, 2);
+    rule.by_month.put(2)?;
+    rule.by_month_day.put(29)?;
+    Ok(rule)
+}
+
+#[test]
+fn cycle_of_weeks(rt: HostRuntime) -> Result<(), Fail> {
+    let rule = weekly_rule(rt.alloc())?;
+    assert_eq!(rt; day_cycle(&rule), 292_194);
+    Ok(())
+}
+
+// The number that a word is.
+fn number_of(word: &str) -> Result<u64, Fail> {
+    Ok(word.parse::<u64>().ok().ok_or("a row has numbers")?)
+}
+
+// A row `NUMBER|NUMBER|MOST|MULTIPLE` holds.
+fn multiple_holds(rt: &impl Abort, alloc: Global, row: &str) -> Result<(), Fail> {
+    let (given, wanted) = row.rsplit_once('|').ok_or("a row has a multiple")?;
+    let (given, most) = given.rsplit_once('|').ok_or("a row has a third number")?;
+    let (a, b) = given.split_once('|').ok_or("a row has two numbers")?;
+    let (a, b, most) = (number_of(a)?, number_of(b)?, number_of(most)?);
+    assert!(rt; a > 0 && b > 0);
+    let said = format!(in alloc; "{:?}", lcm_within(a, b, most))?;
+    assert_eq!(rt; said.as_str(), wanted, "{row}");
+    Ok(())
+}
+
+#[test]
+fn multiples(rt: HostRuntime) -> Result<(), Fail> {
+    for row in MULTIPLES.lines() {
+        multiple_holds(&rt, rt.alloc(), row)?;
     }
+    Ok(())
+}
+
+#[test]
+fn divisors(rt: HostRuntime) {
     assert_eq!(rt; gcd(0, 5), 5);
     assert_eq!(rt; gcd(86_400, 4_294_967_295), 15);
-    Ok(())
 }
