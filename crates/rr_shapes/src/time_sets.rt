@@ -45,6 +45,7 @@ impl TimeSets {
     }
 
     /// The number that was given last, where its set has these seconds. Nothing is hashed.
+    #[inline(always)]
     pub fn last_number(&self, times: &[u32]) -> Option<usize>
         ensures { IfSome result (λ n. slice_get self.now n ≡ Some times.now) }
     {
@@ -57,6 +58,7 @@ impl TimeSets {
     /// The number of a set; None exactly where it has none yet. It takes no memory.
     ///
     /// A set equal to the one that was given its number last is looked for nowhere else.
+    #[inline(always)]
     pub fn find(&mut self, times: &TimeSet) -> Option<usize>
         ensures found { IfSome result (λ n. slice_get self.old n ≡ Some times.now) }
         ensures absent { IfNone result (¬ Contains self.old times.now) }
@@ -73,6 +75,7 @@ impl TimeSets {
     /// The number of a set; one that has none yet gets the next number. After an error all is as it was.
     ///
     /// A set equal to the one that was given its number last is looked for nowhere else.
+    #[inline(always)]
     pub fn intern(&mut self, times: TimeSet) -> Result<usize, NoMemory>
         ensures placed { IfOk result (IsPlaced times self.old self.new) }
         ensures unchanged { OnErr result (self.new ≡ self.old) }
@@ -115,6 +118,7 @@ impl TimeSets {
 }
 
 // Whether the set of this number has these seconds.
+#[inline(always)]
 fn is_at(sets: &IndexSet<TimeSet>, number: usize, times: &[u32]) -> bool
     ensures { IsTrue result → slice_get sets.now.keys number ≡ Some times.now }
 {
