@@ -11,10 +11,10 @@ mod tests;
 mod words;
 mod work;
 
-use exit::{NotRun, exit_number};
+use exit::exit_number;
 pub use program::run;
 use progress::Progress;
-use rr_io::{HostSink, HostSource};
+use rr_io::{HostSink, HostSource, NotRun};
 pub use status::{Ended, Status};
 use std::env;
 use std::io::IsTerminal;

@@ -4,12 +4,14 @@
 mod host;
 mod memory;
 mod names;
+mod not_run;
 mod sink;
 mod source;
 mod steady;
 
 pub use host::{HostSink, HostSource};
 pub use memory::{MemorySink, MemorySource};
+pub use not_run::NotRun;
 pub use sink::{PutError, Sink};
 pub use source::{FetchError, Source};
 pub use steady::{SteadySink, SteadySource};
