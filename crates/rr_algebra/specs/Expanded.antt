@@ -84,7 +84,7 @@ RefusedWhereNotEndless count first before e result = RefusedWhereNot (AreEndless
 abbrev pub RefusedWhereNotExpandable : {X : Type 0} → ℕ → Parts → Result X Fault → Type 0
 RefusedWhereNotExpandable count p result = RefusedWhereNot (AreExpandable count p) result
 
--- the numbers, and 0 for each further one of so many days
+-- the numbers, and 0 for each further one of `days` days
 abbrev pub padded_to : ℕ → List ℕ → List ℕ
 padded_to days numbers = numbers ++ replicate (days - length numbers) 0
 

@@ -182,7 +182,7 @@ fn free_ahead<A: DaySeq>(seq: &A, day: i64, most: u64, rest: &[u32], empty: Opti
     here + seq.free_days(day + here as i64).min(most - here)
 }
 
-// What is left of numbers of days in a row once so many days are passed over.
+// What is left of the numbers of days in a row after the first `passed` days.
 fn left_after(rest: &[u32], passed: u64) -> &[u32]
     ensures { result.now ≡ drop passed rest.now }
 {

@@ -290,7 +290,7 @@ fn days_between(from: i64, to: i64) -> usize
     (to - from) as usize
 }
 
-// The day so many days after another.
+// The day that lies `days` days after another.
 fn day_after(day: i64, days: usize) -> i64
     requires low { earliest_near ≤ℤ day }
     requires high { day ≤ℤ latest_near }
@@ -300,7 +300,7 @@ fn day_after(day: i64, days: usize) -> i64
     day + days as i64
 }
 
-// The first numbers of a row, at most so many.
+// The first numbers of a row, at most `most`.
 fn first_of_row(row: &[u32], most: usize) -> &[u32]
     ensures { result.now ≡ take (min (length row.now) most) row.now }
 {

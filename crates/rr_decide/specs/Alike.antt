@@ -38,15 +38,14 @@ abbrev pub IsCompared : List (List ℕ) → List (List ℕ) → Sketch → Sketc
 IsCompared sets_a sets_b s u day (Unlike r) = IsShownOn (shown_by Equal) s u day r
 IsCompared sets_a sets_b s u day (Alike numbers) = ShowsNone (shown_by Equal) (times_on s day) (times_on u day) × AreAlike sets_a sets_b numbers
 
--- the first day from this one on that differs, by its first second; else so many days are alike, and so are the sets of these
--- numbers
+-- the first day from this one on that differs, by its first second; else the n days are alike, and so are the sets of these numbers
 abbrev pub AreCompared : List (List ℕ) → List (List ℕ) → Sketch → Sketch → ℤ → ℕ → Comparison → Type 0
 AreCompared sets_a sets_b s u day n (Unlike r) =
     IsFirstFrom Equal s u day r × (r.day ≤ℤ pos 3_000_000_000_000)
 AreCompared sets_a sets_b s u day n (Alike numbers) = ShowsNoneFor Equal s u day n × AreAlike sets_a sets_b numbers
 
--- the first day from this one on that differs, by its first second; else so many of at most `most` days are alike, and so are the
--- sets of these numbers
+-- the first day from this one on that differs, by its first second; else some days, at most `most`, are alike, and so are the sets
+-- of these numbers
 abbrev pub IsRun : List (List ℕ) → List (List ℕ) → Sketch → Sketch → ℤ → ℕ → Run → Type 0
 IsRun sets_a sets_b s u day most (Differs r) =
     IsFirstFrom Equal s u day r × (r.day ≤ℤ pos 3_000_000_000_000)

@@ -22,7 +22,7 @@ IsFirstOn shows s u day (Some r) = IsShownOn shows s u day r
 abbrev pub IsFirstFrom : Question → Sketch → Sketch → ℤ → Shown → Type 0
 IsFirstFrom question s u from r = IsFirstDayShown (shown_by question) s u from r.day r.second r.side
 
--- what the days from this one on show, of at most so many
+-- what the days from this one on show, of at most `most` days
 abbrev pub IsLook : (Side → Bool) → Sketch → Sketch → ℤ → ℕ → Look → Type 0
 IsLook shows s u day most (Shows r) = IsShownOn shows s u day r
 IsLook shows s u day most (Quiet n) = (1 ≤ n) × (n ≤ most) × ShowsNoneWithin shows s u day (day +ℤ pos n)

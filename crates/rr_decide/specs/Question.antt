@@ -20,7 +20,7 @@ IsVerdictTo Equal P Q verdict = IsEqualVerdict P Q verdict
 IsVerdictTo Within P Q verdict = IsWithinVerdict P Q verdict
 IsVerdictTo Disjoint P Q verdict = IsDisjointVerdict P Q verdict
 
--- sets that repeat together after so many days do so soon enough for the question; for equality all do
+-- sets that repeat together after `days` days do so soon enough for the question; for equality all do
 abbrev pub IsSoonEnough : Question → ℕ → Type 0
 IsSoonEnough Equal days = ⊤
 IsSoonEnough Within days = days ≤ MAX_CYCLE_DAYS
@@ -79,7 +79,7 @@ IsFirstSecondShown question xs ys first =
 abbrev pub ShowsNoneWithin : (Side → Bool) → Sketch → Sketch → ℤ → ℤ → Type 0
 ShowsNoneWithin shows s u from to = (d : ℤ) → from ≤ℤ d → d <ℤ to → ShowsNone shows (times_on s d) (times_on u d)
 
--- none of so many days from this one on shows it
+-- none of the next `days` days, this one among them, shows it
 abbrev pub ShowsNoneFor : Question → Sketch → Sketch → ℤ → ℕ → Type 0
 ShowsNoneFor question s u from days = ShowsNoneWithin (shown_by question) s u from (from +ℤ pos days)
 

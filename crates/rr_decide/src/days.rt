@@ -55,7 +55,7 @@ pub fn first_day_shown<A: DaySeq, B: DaySeq>(
 enum Look {
     // The first second of the first day that shows that the answer is no.
     Shows(Shown),
-    // So many days show nothing.
+    // This number of days show nothing.
     Quiet(u64),
 }
 

@@ -167,7 +167,7 @@ fn first_day_unlike<A: DaySeq + Drop, B: DaySeq + Drop, L: Ledger>(
 enum Run {
     // The first second in which the first of them that differ do.
     Differs(Shown),
-    // So many of them are alike, and so are the sets of these numbers.
+    // This number of them are alike, and so are the sets of these numbers.
     Agrees(u64, AlikeNumbers),
 }
 

@@ -64,7 +64,7 @@ pub trait Source {
         ensures failed { failed self.new ≡ failed_after result name.now (failed self.old) }
         ensures held { KeepsHeld (held self.old) (held self.new) };
 
-    /// The bytes under a name, cut after `limit + 1` bytes: who gets so many knows that there are too many. See `fetch`.
+    /// The bytes under a name, cut after `limit + 1` bytes: where `limit + 1` come, there are more than `limit`. See `fetch`.
     fn fetch_within(
         &mut self,
         alloc: Global,
