@@ -1,11 +1,11 @@
--- The items of a time set, place by place.
+-- The items of a time set, index by index.
 use Rattle.std.proofs.Common.{◌≡◌, ℕ, zero, suc, ◌+◌, ◌-◌, ◌<◌, ◌≤◌, ◌==◌, true, false, cond, List, [], ◌∷◌, length, get_or, drop, refl, sym, ap, ◌∙◌, arith}
 use Rattle.std.specs.Prelude.{nat_le}
 use Rattle.std.proofs.lemmas.Bool.Decides.{nat_tests}
 use Rattle.std.proofs.Math.Seq.{drop-cons}
 use Rattle.rr_model.specs.Sets.Stretches.{row_after, single, first_stretch, stretch_or_single}
 
--- what follows a place
+-- what follows an index
 pub rest_of : (xs : List ℕ) (k : ℕ) → k < length xs → drop k xs ≡ get_or xs k 0 ∷ drop (k + 1) xs
 rest_of xs k l = let e : k + 1 ≡ suc k = omega arith in drop-cons xs k 0 l ∙ ap (λ n. get_or xs k 0 ∷ drop n xs) (sym e)
 
@@ -35,7 +35,7 @@ row_ends xs k step l e =
 pub row_over : (xs : List ℕ) (k step : ℕ) → length xs ≤ k + 1 → row_after (get_or xs k 0) step (drop (k + 1) xs) ≡ 0
 row_over xs k step l = ap (row_after (get_or xs k 0) step) (nothing_left xs (k + 1) l)
 
--- ---- the item at a place
+-- ---- the item at an index
 
 -- fewer than two seconds follow
 pub alone_at_end : (xs : List ℕ) (k : ℕ) → k < length xs → length xs < k + 3 → first_stretch (get_or xs k 0) (drop (k + 1) xs) ≡ single (get_or xs k 0)

@@ -74,7 +74,7 @@ module _ (xs : List ℕ) (r : Rises nat_lt xs) (i : ℕ) (h : i < length xs) whe
               let q : suc j ≡ j + 1 = omega arith in
               (j, k, get_or_default (remove xs i) j s 0 k ∙ get_or-remove_above xs i 0 j g h ∙ sym (ap (λ n. get_or xs n 0) q) ∙ at)
 
--- a second that does not stand at its place is none of them
+-- a second that does not stand at its index is none of them
 pub without_none : (xs : List ℕ) (i x : ℕ) → Rises nat_lt xs → SplitsAt xs i x → (i < length xs → get_or xs i 0 ≢ x)
     → IsSetOf nat_lt xs (λ s. Contains xs s × (s ≢ x))
 without_none xs i x r split other =

@@ -17,9 +17,9 @@ use Rattle.rr_times.specs.Split.{SplitsAt}
 abbrev counted : Bool → ℕ
 counted b = cond b 1 0
 
--- the place is the number of those below
-pub split_counts : (xs : List ℕ) (place bound : ℕ) → SplitsAt xs place bound → place ≡ count_by (λ s. nat_lt s bound) xs
-split_counts [] place bound s = let h = s.within in omega arith
+-- the index is the number of those below
+pub split_counts : (xs : List ℕ) (index bound : ℕ) → SplitsAt xs index bound → index ≡ count_by (λ s. nat_lt s bound) xs
+split_counts [] index bound s = let h = s.within in omega arith
 split_counts (x ∷ xs) zero bound s =
     let above : bound ≤ x = s.from 0 (omega arith) (omega arith) in
     let test : nat_lt x bound ≡ false = grind (arith, nat_tests) in
@@ -31,10 +31,10 @@ split_counts (x ∷ xs) zero bound s =
     }) in
     let head : counted (nat_lt x bound) ≡ counted false = ap counted test in
     omega (arith, sum_by-cons (λ s. counted (nat_lt s bound)) x xs, rest, head)
-split_counts (x ∷ xs) (suc place) bound s =
+split_counts (x ∷ xs) (suc index) bound s =
     let below : x < bound = s.below 0 (omega arith) in
     let test : nat_lt x bound ≡ true = grind (arith, nat_tests) in
-    let rest = split_counts xs place bound (record {
+    let rest = split_counts xs index bound (record {
       within = omega (arith, s.within);
       below = λ k h. s.below (suc k) (omega arith);
       from =
@@ -43,9 +43,9 @@ split_counts (x ∷ xs) (suc place) bound s =
     let head : counted (nat_lt x bound) ≡ counted true = ap counted test in
     omega (arith, sum_by-cons (λ s. counted (nat_lt s bound)) x xs, rest, head)
 
--- a place in the seconds of a day fits its type
-pub split_fits : (xs : List ℕ) (place bound : ℕ) → SplitsAt xs place bound → IsSecondsOfDay xs → place ≤ 86_400
-split_fits xs place bound s day = omega (arith, s.within, length-le_bound xs 86_400 day.rises day.below_a_day)
+-- an index in the seconds of a day fits its type
+pub split_fits : (xs : List ℕ) (index bound : ℕ) → SplitsAt xs index bound → IsSecondsOfDay xs → index ≤ 86_400
+split_fits xs index bound s day = omega (arith, s.within, length-le_bound xs 86_400 day.rises day.below_a_day)
 
 -- a set of some of the seconds of a day holds seconds of a day
 pub some_seconds : (P : ℕ → Type 0) (out : List ℕ) → IsSetOf nat_lt out P → ((s : ℕ) → P s → s < 86_400) → IsSecondsOfDay out
@@ -64,11 +64,11 @@ module _ (xs : List ℕ) (i j : ℕ) where
   at_range : (k : ℕ) → k < j - i → get_or (slice_range xs i j) k 0 ≡ get_or xs (i + k) 0
   at_range k h = get_or-take (j - i) (drop i xs) k 0 h ∙ get_or-drop i xs k 0
 
--- the greater of two places
+-- the greater of two indices
 pub reach : (last start end : ℕ) → end ≡ max last start → (last ≤ end) × (start ≤ end) × ((end ≡ last) ⊎ (end ≡ start))
 reach last start end e = (omega arith, omega arith, elim (cases_lt last start) [ inl l ↦ inr (omega arith) | inr l ↦ inl (omega arith) ])
 
--- the part between the two places
+-- the part between the two indices
 module _ (xs : List ℕ) (r : Rises nat_lt xs) (from to start last end : ℕ) (at_start : SplitsAt xs start from) (at_last : SplitsAt xs last to)
     (reached : (last ≤ end) × (start ≤ end) × ((end ≡ last) ⊎ (end ≡ start))) where
   within : end ≤ length xs
@@ -80,9 +80,9 @@ module _ (xs : List ℕ) (r : Rises nat_lt xs) (from to start last end : ℕ) (a
       let at : get_or xs k 0 ≡ s = get_or_default xs k 0 s l ∙ e in
       let from_start : start ≤ k = elim (cases_lt k start) [ inl m ↦ absurd (omega (arith, at_start.below k m)) | inr m ↦ m ] in
       let to_end : k < end = elim (cases_lt k last) [ inl m ↦ omega arith | inr m ↦ absurd (omega (arith, at_last.from k m l)) ] in
-      let place : k - start < end - start = omega arith in
+      let inside : k - start < end - start = omega arith in
       let same : start + (k - start) ≡ k = omega arith in
-      let here : get_or (slice_range xs start end) (k - start) 0 ≡ s = at_range xs start end (k - start) place ∙ ap (λ n. get_or xs n 0) same ∙ at in
+      let here : get_or (slice_range xs start end) (k - start) 0 ≡ s = at_range xs start end (k - start) inside ∙ ap (λ n. get_or xs n 0) same ∙ at in
       subst (λ z. Contains (slice_range xs start end) z) here
       (Contains-get_or (slice_range xs start end) (k - start) 0 (omega (arith, length_range xs start end within)))
 
@@ -99,8 +99,8 @@ module _ (xs : List ℕ) (r : Rises nat_lt xs) (from to start last end : ℕ) (a
             ));
         exact = λ s. (
           (λ (k, l, e).
-              let place : k < end - start = omega arith in
-              let at : get_or xs (start + k) 0 ≡ s = sym (at_range xs start end k place) ∙ get_or_default (slice_range xs start end) k 0 s l ∙ e in
+              let inside : k < end - start = omega arith in
+              let at : get_or xs (start + k) 0 ≡ s = sym (at_range xs start end k inside) ∙ get_or_default (slice_range xs start end) k 0 s l ∙ e in
               let here : start + k < length xs = omega (arith, within) in (
                 subst (λ z. Contains xs z) at (Contains-get_or xs (start + k) 0 here),
                 omega (arith, at_start.from (start + k) (omega arith) here),

@@ -1,8 +1,7 @@
 // The items in which a canonical text of version 2 writes a time set: single seconds, and rows of equal steps.
-ghost use Rattle.std.specs.Prelude.{◌≡◌, ◌<◌, ◌≤◌, ◌+◌, length, get_or, drop};
+ghost use Rattle.std.specs.Prelude.{◌≡◌, ◌<◌, ◌≤◌, ◌+◌, length};
 ghost use Rattle.rr_model.specs.Rising.Sets.{IsSecondsOfDay};
-ghost use Rattle.rr_model.specs.Sets.Stretches.{row_after};
-ghost use Rattle.rr_times.specs.Items.{item_at, stretch_of};
+ghost use Rattle.rr_times.specs.Items.{item_at, row_end, stretch_of};
 
 /// Seconds of a day in a row, each a step above the one before it.
 #[derive(Clone, Copy, Debug, PartialEq, Eq)]
@@ -19,7 +18,7 @@ pub struct Stretch {
 fn row_end(seconds: &[u32], from: usize, step: u32) -> usize
     requires of_day { IsSecondsOfDay seconds.now }
     requires within { from < length seconds.now }
-    ensures row { result ≡ from + 1 + row_after (get_or seconds.now from 0) step (drop (from + 1) seconds.now) }
+    ensures row { result ≡ row_end seconds.now from step }
     ensures few { result ≤ length seconds.now }
 {
     let mut last = from;

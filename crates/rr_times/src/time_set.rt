@@ -7,7 +7,7 @@ ghost use Rattle.std.specs.Cmp.{partial_equiv_from_equiv};
 ghost use Rattle.std.specs.Cmp.Rules.{hashing};
 ghost use Rattle.std.specs.Hash as fed;
 ghost use Rattle.rr_model.specs.Rising.Sets.{IsSetOf, IsSecondsOfDay};
-ghost use Rattle.rr_times.specs.Combined.{IsDifferenceOf, IsUnionOf};
+ghost use Rattle.rr_times.specs.Combined.{IsCutOf, IsDifferenceOf, IsUnionOf};
 ghost use Rattle.rr_times.specs.Items.{item_at, stretch_of};
 
 use crate::merge::{difference_of, union_of};
@@ -69,7 +69,7 @@ impl TimeSet {
 
     /// The seconds of `a` from `from` on and below `to`; none where `to` is not above `from`.
     pub fn cut(alloc: Global, a: &TimeSet, from: u32, to: u32) -> Result<TimeSet, NoMemory>
-        ensures { IfOk result (λ t. IsSetOf nat_lt t (λ s. Contains a.now s × (from ≤ s) × (s < to))) }
+        ensures { IfOk result (λ t. IsCutOf a.now from to t) }
     {
         let seconds = a.as_slice();
         let start = count_below(seconds, from);
@@ -86,7 +86,7 @@ impl TimeSet {
         count_below(self.as_slice(), second) as u32
     }
 
-    /// The second at `place`, counted from 0; none exactly where there are at most `place`.
+    /// The second of rank `place`, counted from 0; none exactly where there are at most `place`.
     pub fn select(&self, place: u32) -> Option<u32>
         ensures { result ≡ slice_get self.now place }
     {
@@ -108,9 +108,9 @@ impl TimeSet {
     pub fn remove(&mut self, second: u32)
         ensures { IsSetOf nat_lt self.new (λ s. Contains self.old s × (s ≢ second)) }
     {
-        let place = count_below(self.seconds.as_slice(), second);
-        if place < self.seconds.len() && self.seconds[place] == second {
-            self.seconds.remove(place);
+        let index = count_below(self.seconds.as_slice(), second);
+        if index < self.seconds.len() && self.seconds[index] == second {
+            self.seconds.remove(index);
         }
     }
 
