@@ -74,9 +74,9 @@ module _ (pool pages rest numbers : List ℕ) (view : numbers ≡ paged pool pag
   length_numbers = ap length view ∙ length-append (paged pool pages) rest ∙ ap (λ (n : ℕ). n + length rest) (length_paged pool pages is.stand)
 
   -- the rest of a page of the pool
-  pub piece_of_page : (place page i r : ℕ) (row : List ℕ) → place ≡ i * 63 + r → r < 63 → i < length pages → page ≡ get_or pages i 0
-      → row ≡ take (63 - r) (drop (page + r) pool) → IsPiece numbers place row
-  piece_of_page place page i r row at s l e er =
+  pub piece_of_page : (index page i r : ℕ) (row : List ℕ) → index ≡ i * 63 + r → r < 63 → i < length pages → page ≡ get_or pages i 0
+      → row ≡ take (63 - r) (drop (page + r) pool) → IsPiece numbers index row
+  piece_of_page index page i r row at s l e er =
       let stands : page + 63 ≤ length pool = rw e (is.stand i l) in
       let many : length row ≡ 63 - r = ap length er ∙ simp (length-take, length-drop) (omega arith) in
       record {
@@ -84,7 +84,7 @@ module _ (pool pages rest numbers : List ℕ) (view : numbers ≡ paged pool pag
         within = omega (arith, many, length_numbers);
         same = λ k h.
             let left : k < 63 - r = omega (arith, many) in
-            let in_list : place + k ≡ i * 63 + (r + k) = omega arith in
+            let in_list : index + k ≡ i * 63 + (r + k) = omega arith in
             let before : i * 63 + (r + k) < length (paged pool pages) = omega (arith, length_paged pool pages is.stand) in
             let sum : (page + r) + k ≡ page + (r + k) = omega arith in
             ap (λ (xs : List ℕ). get_or xs k 0) er
@@ -99,8 +99,8 @@ module _ (pool pages rest numbers : List ℕ) (view : numbers ≡ paged pool pag
       }
 
   -- the numbers after the last page
-  pub piece_of_rest : (place j : ℕ) (row : List ℕ) → place ≡ length pages * 63 + j → place < length numbers → row ≡ drop j rest → IsPiece numbers place row
-  piece_of_rest place j row at l er =
+  pub piece_of_rest : (index j : ℕ) (row : List ℕ) → index ≡ length pages * 63 + j → index < length numbers → row ≡ drop j rest → IsPiece numbers index row
+  piece_of_rest index j row at l er =
       let many : length row ≡ length rest - j = ap length er ∙ length-drop j rest in
       let all = length_numbers in
       let whole = length_paged pool pages is.stand in
@@ -108,7 +108,7 @@ module _ (pool pages rest numbers : List ℕ) (view : numbers ≡ paged pool pag
         some = omega (arith, many, all);
         within = omega (arith, many, all);
         same = λ k h.
-            let in_list : place + k ≡ length (paged pool pages) + (j + k) = omega (arith, whole) in
+            let in_list : index + k ≡ length (paged pool pages) + (j + k) = omega (arith, whole) in
             ap (λ (xs : List ℕ). get_or xs k 0) er
             ∙ get_or-drop j rest k 0
             ∙ sym (get_or-append-add (paged pool pages) rest (j + k) 0)
@@ -213,52 +213,52 @@ page_goes_on all part left left' now now' l ep el en e =
 -- ---- stretches
 
 -- the first numbers of a piece
-pub cut_piece : (numbers : List ℕ) (place : ℕ) (row cut : List ℕ) (most : ℕ) → IsPiece numbers place row → cut ≡ take (min (length row) most) row
-    → cut ≡ take (length cut) (drop place numbers)
-cut_piece numbers place row cut most is e =
+pub cut_piece : (numbers : List ℕ) (index : ℕ) (row cut : List ℕ) (most : ℕ) → IsPiece numbers index row → cut ≡ take (min (length row) most) row
+    → cut ≡ take (length cut) (drop index numbers)
+cut_piece numbers index row cut most is e =
     let many : length cut ≡ min (length row) most = ap length e ∙ length-take-le (min (length row) most) row (omega arith) in
-    let fits : length cut ≤ length (drop place numbers) = omega (arith, many, length-drop place numbers, is.within) in
-    ext_get_or 0 cut (take (length cut) (drop place numbers)) (sym (length-take-le (length cut) (drop place numbers) fits))
+    let fits : length cut ≤ length (drop index numbers) = omega (arith, many, length-drop index numbers, is.within) in
+    ext_get_or 0 cut (take (length cut) (drop index numbers)) (sym (length-take-le (length cut) (drop index numbers) fits))
     (λ k h.
     let low : k < min (length row) most = omega (arith, many) in
     ap (λ (xs : List ℕ). get_or xs k 0) e
     ∙ get_or-take (min (length row) most) row k 0 low
     ∙ is.same k (omega (arith, low))
-    ∙ sym (get_or-drop place numbers k 0)
-    ∙ sym (get_or-take (length cut) (drop place numbers) k 0 h))
+    ∙ sym (get_or-drop index numbers k 0)
+    ∙ sym (get_or-take (length cut) (drop index numbers) k 0 h))
 
-pub piece_is_stretch : (numbers : List ℕ) (place : ℕ) (row : List ℕ) → IsPiece numbers place row → row ≡ take (length row) (drop place numbers)
-piece_is_stretch numbers place row is =
+pub piece_is_stretch : (numbers : List ℕ) (index : ℕ) (row : List ℕ) → IsPiece numbers index row → row ≡ take (length row) (drop index numbers)
+piece_is_stretch numbers index row is =
     let most : length row ≤ min (length row) (length row) = omega arith in
-    cut_piece numbers place row row (length row) is (sym (take_all (min (length row) (length row)) row most))
+    cut_piece numbers index row row (length row) is (sym (take_all (min (length row) (length row)) row most))
 
--- zeros that stand in the list from a place on
-pub zeros_are : (numbers : List ℕ) (place count put : ℕ) → IsZeroFrom numbers place count → put ≤ count → 0 < put → replicate put 0 ≡ take put (drop place numbers)
-zeros_are numbers place count put are few some =
+-- zeros that stand in the list from an index on
+pub zeros_are : (numbers : List ℕ) (index count put : ℕ) → IsZeroFrom numbers index count → put ≤ count → 0 < put → replicate put 0 ≡ take put (drop index numbers)
+zeros_are numbers index count put are few some =
     let long : length (replicate put 0) ≡ put = length-replicate put 0 in
-    piece_is_stretch numbers place (replicate put 0) (record {
+    piece_is_stretch numbers index (replicate put 0) (record {
       some = omega (arith, long, some);
       within = omega (arith, long, few, are.within);
       same = λ k h. (let below : k < put = omega (arith, long, h) in get_or-replicate put k 0 0 below ∙ sym (are.zeros k (omega (arith, below, few))));
-    }) ∙ ap (λ n. take n (drop place numbers)) long
+    }) ∙ ap (λ n. take n (drop index numbers)) long
 
 -- a stretch that is put in two parts
-pub stretch_goes_on : (numbers old new new' : List ℕ) (place done more : ℕ) → new ≡ old ++ take done (drop place numbers)
-    → new' ≡ new ++ take more (drop (place + done) numbers) → new' ≡ old ++ take (done + more) (drop place numbers)
-stretch_goes_on numbers old new new' place done more e e' =
+pub stretch_goes_on : (numbers old new new' : List ℕ) (index done more : ℕ) → new ≡ old ++ take done (drop index numbers)
+    → new' ≡ new ++ take more (drop (index + done) numbers) → new' ≡ old ++ take (done + more) (drop index numbers)
+stretch_goes_on numbers old new new' index done more e e' =
     e'
-    ∙ ap (λ (xs : List ℕ). xs ++ take more (drop (place + done) numbers)) e
-    ∙ append_assoc old (take done (drop place numbers)) (take more (drop (place + done) numbers))
-    ∙ ap (λ (xs : List ℕ). old ++ (take done (drop place numbers) ++ take more xs)) (sym (drop-drop done place numbers))
-    ∙ ap (λ (xs : List ℕ). old ++ xs) (sym (take-add done more (drop place numbers)))
+    ∙ ap (λ (xs : List ℕ). xs ++ take more (drop (index + done) numbers)) e
+    ∙ append_assoc old (take done (drop index numbers)) (take more (drop (index + done) numbers))
+    ∙ ap (λ (xs : List ℕ). old ++ (take done (drop index numbers) ++ take more xs)) (sym (drop-drop done index numbers))
+    ∙ ap (λ (xs : List ℕ). old ++ xs) (sym (take-add done more (drop index numbers)))
 
 -- a stretch of a list that has grown
-pub stretch_stays : (old new added : List ℕ) (place count : ℕ) → new ≡ old ++ added → place + count ≤ length old
-    → take count (drop place new) ≡ take count (drop place old)
-stretch_stays old new added place count e l =
-    ap (λ (xs : List ℕ). take count (drop place xs)) e
-    ∙ ap (take count) (drop-append-le place old added (omega arith))
-    ∙ take-append-le count (drop place old) added (omega (arith, length-drop place old))
+pub stretch_stays : (old new added : List ℕ) (index count : ℕ) → new ≡ old ++ added → index + count ≤ length old
+    → take count (drop index new) ≡ take count (drop index old)
+stretch_stays old new added index count e l =
+    ap (λ (xs : List ℕ). take count (drop index xs)) e
+    ∙ ap (take count) (drop-append-le index old added (omega arith))
+    ∙ take-append-le count (drop index old) added (omega (arith, length-drop index old))
 
 -- equal numbers that are put in two parts
 pub same_go_on : (old new new' : List ℕ) (number done more : ℕ) → new ≡ old ++ replicate done number → new' ≡ new ++ replicate more number
@@ -318,11 +318,11 @@ same_pages_stand pool pages pages' page count stand within ep k h =
           (let at : get_or pages' k 0 ≡ get_or pages k 0 = ap (λ (xs : List ℕ). get_or xs k 0) ep ∙ get_or-append pages (replicate count page) 0 k l in
           omega (arith, at, stand k l))
       | inr g ↦
-          (let place : k ≡ length pages + (k - length pages) = omega (arith, g) in
+          (let index : k ≡ length pages + (k - length pages) = omega (arith, g) in
           let low : k - length pages < count = omega (arith, many, h, g) in
           let at : get_or pages' k 0 ≡ page =
           ap (λ (xs : List ℕ). get_or xs k 0) ep
-          ∙ ap (λ j. get_or (pages ++ replicate count page) j 0) place
+          ∙ ap (λ j. get_or (pages ++ replicate count page) j 0) index
           ∙ get_or-append-add pages (replicate count page) (k - length pages) 0
           ∙ get_or-replicate count (k - length pages) page 0 low in
           omega (arith, at, within))
@@ -339,12 +339,12 @@ pages_stand_again pool pages pages' i count stand ep k h =
           omega (arith, at, stand k l))
       | inr g ↦
           (let j : ℕ = k - length pages in
-          let place : k ≡ length pages + j = omega (arith, g) in
+          let index : k ≡ length pages + j = omega (arith, g) in
           let short : length part ≤ length pages - i = omega (arith, length-take count (drop i pages), length-drop i pages) in
           let low : j < count = omega (arith, many, h, g, length-take count (drop i pages)) in
           let at : get_or pages' k 0 ≡ get_or pages (i + j) 0 =
           ap (λ (xs : List ℕ). get_or xs k 0) ep
-          ∙ ap (λ n. get_or (pages ++ part) n 0) place
+          ∙ ap (λ n. get_or (pages ++ part) n 0) index
           ∙ get_or-append-add pages part j 0
           ∙ get_or-take count (drop i pages) j 0 low
           ∙ get_or-drop i pages j 0 in
@@ -395,19 +395,19 @@ same_pages_and_rest pool pool' pages pages' rest rest' numbers number count left
     ∙ ap (λ (l : List ℕ). numbers ++ l) (replicate-append-replicate (count * 63) left number)
     ∙ ap (λ n. numbers ++ replicate n number) (sym em)
 
--- whole pages from a place on stand once more at the end
-pub pages_again : (pool pages pages' rest numbers : List ℕ) (place count : ℕ) → IsPaged pool pages rest → paged pool pages ++ rest ≡ numbers → rest ≡ []
-    → place % 63 ≡ 0 → pages' ≡ pages ++ take count (drop (place / 63) pages)
-    → paged pool pages' ++ rest ≡ numbers ++ take (count * 63) (drop place numbers)
-pages_again pool pages pages' rest numbers place count is view none whole ep =
-    let i : ℕ = place / 63 in
-    let at : place ≡ i * 63 = omega (arith, whole) in
+-- whole pages from an index on stand once more at the end
+pub pages_again : (pool pages pages' rest numbers : List ℕ) (index count : ℕ) → IsPaged pool pages rest → paged pool pages ++ rest ≡ numbers → rest ≡ []
+    → index % 63 ≡ 0 → pages' ≡ pages ++ take count (drop (index / 63) pages)
+    → paged pool pages' ++ rest ≡ numbers ++ take (count * 63) (drop index numbers)
+pages_again pool pages pages' rest numbers index count is view none whole ep =
+    let i : ℕ = index / 63 in
+    let at : index ≡ i * 63 = omega (arith, whole) in
     let bare : paged pool pages ≡ numbers = sym (append-nil (paged pool pages)) ∙ ap (λ (l : List ℕ). paged pool pages ++ l) (sym none) ∙ view in
-    let part : paged pool (take count (drop i pages)) ≡ take (count * 63) (drop place numbers) =
+    let part : paged pool (take count (drop i pages)) ≡ take (count * 63) (drop index numbers) =
     sym (take_pages pool (drop i pages) count (pages_of_rest pool pages i is.stand))
     ∙ ap (take (count * 63)) (sym (drop_pages pool pages i is.stand))
     ∙ ap (λ n. take (count * 63) (drop n (paged pool pages))) (sym at)
-    ∙ ap (λ (l : List ℕ). take (count * 63) (drop place l)) bare in
+    ∙ ap (λ (l : List ℕ). take (count * 63) (drop index l)) bare in
     ap (λ (l : List ℕ). paged pool pages' ++ l) none
     ∙ append-nil (paged pool pages')
     ∙ ap (paged pool) ep
@@ -422,10 +422,10 @@ take_part [] (suc put) (suc count) l = refl
 take_part (x ∷ xs) (suc put) (suc count) l = ap (λ (ys : List ℕ). x ∷ ys) (take_part xs put count (omega arith))
 
 -- some numbers that were read into a block and put
-pub block_put : (old same new block part : List ℕ) (place most count put : ℕ) → same ≡ old → length block ≡ 63 → count ≤ 63 → count ≤ most
-    → take count block ≡ take count (drop place same) → part ≡ take (min (length block) count) block
-    → (1 ≤ put) × (put ≤ length part) × (new ≡ same ++ take put part) → (1 ≤ put) × (put ≤ most) × (new ≡ old ++ take put (drop place old))
-block_put old same new block part place most count put es room few low eb ep is =
+pub block_put : (old same new block part : List ℕ) (index most count put : ℕ) → same ≡ old → length block ≡ 63 → count ≤ 63 → count ≤ most
+    → take count block ≡ take count (drop index same) → part ≡ take (min (length block) count) block
+    → (1 ≤ put) × (put ≤ length part) × (new ≡ same ++ take put part) → (1 ≤ put) × (put ≤ most) × (new ≡ old ++ take put (drop index old))
+block_put old same new block part index most count put es room few low eb ep is =
     let n : min (length block) count ≡ count = omega (arith, room, few) in
     let part_is : part ≡ take count block = ep ∙ ap (λ k. take k block) n in
     let many : length part ≡ count = ap length part_is ∙ length-take-le count block (omega (arith, room, few)) in
@@ -434,8 +434,8 @@ block_put old same new block part place most count put es room few low eb ep is 
       omega (arith, within, low),
       is.2
           ∙ ap (λ (l : List ℕ). l ++ take put part) es
-          ∙ ap (λ (l : List ℕ). old ++ take put l) (part_is ∙ eb ∙ ap (λ (l : List ℕ). take count (drop place l)) es)
-          ∙ ap (λ (l : List ℕ). old ++ l) (take_part (drop place old) put count within),
+          ∙ ap (λ (l : List ℕ). old ++ take put l) (part_is ∙ eb ∙ ap (λ (l : List ℕ). take count (drop index l)) es)
+          ∙ ap (λ (l : List ℕ). old ++ l) (take_part (drop index old) put count within),
     )
 
 pub none_left : (xs : List ℕ) → length xs ≡ 0 → xs ≡ []
@@ -511,27 +511,27 @@ more_zero_pages pool pages rest count more page before ep free er same k h =
 
 -- ---- zeros
 
-pub zeros_of_pages : (pool pages rest numbers row : List ℕ) (place count most : ℕ) → IsPaged pool pages rest → numbers ≡ paged pool pages ++ rest
-    → place % 63 ≡ 0 → place / 63 ≤ length pages → row ≡ take most (drop (place / 63) pages) → count ≤ length row
-    → ((k : ℕ) → k < count → IsZeroPage pool (get_or row k 0)) → IsZeroFrom numbers place (count * 63)
-zeros_of_pages pool pages rest numbers row place count most is view whole below er few free =
+pub zeros_of_pages : (pool pages rest numbers row : List ℕ) (index count most : ℕ) → IsPaged pool pages rest → numbers ≡ paged pool pages ++ rest
+    → index % 63 ≡ 0 → index / 63 ≤ length pages → row ≡ take most (drop (index / 63) pages) → count ≤ length row
+    → ((k : ℕ) → k < count → IsZeroPage pool (get_or row k 0)) → IsZeroFrom numbers index (count * 63)
+zeros_of_pages pool pages rest numbers row index count most is view whole below er few free =
     let all = length_numbers pool pages rest numbers view is in
-    let many : length row ≤ length pages - place / 63 = omega (arith, ap length er, length-take most (drop (place / 63) pages), length-drop (place / 63) pages) in
-    let short : length row ≤ most = omega (arith, ap length er, length-take most (drop (place / 63) pages)) in
+    let many : length row ≤ length pages - index / 63 = omega (arith, ap length er, length-take most (drop (index / 63) pages), length-drop (index / 63) pages) in
+    let short : length row ≤ most = omega (arith, ap length er, length-take most (drop (index / 63) pages)) in
     record {
       within = omega (arith, all, many, few, whole, below);
       zeros = λ k h.
-          let i : ℕ = place / 63 in
+          let i : ℕ = index / 63 in
           let j : ℕ = k / 63 in
           let low : j < count = omega (arith, h) in
-          let at : place + k ≡ (i + j) * 63 + k % 63 = omega (arith, whole) in
+          let at : index + k ≡ (i + j) * 63 + k % 63 = omega (arith, whole) in
           let stands : i + j < length pages = omega (arith, low, few, many, below) in
           let before : (i + j) * 63 + k % 63 < length (paged pool pages) = omega (arith, length_paged pool pages is.stand, stands) in
           let page : get_or row j 0 ≡ get_or pages (i + j) 0 =
           ap (λ (xs : List ℕ). get_or xs j 0) er
           ∙ get_or-take most (drop i pages) j 0 (omega (arith, low, few, short))
           ∙ get_or-drop i pages j 0 in
-          ap (λ (xs : List ℕ). get_or xs (place + k) 0) view
+          ap (λ (xs : List ℕ). get_or xs (index + k) 0) view
           ∙ ap (λ n. get_or (paged pool pages ++ rest) n 0) at
           ∙ get_or-append (paged pool pages) rest 0 ((i + j) * 63 + k % 63) before
           ∙ paged_at pool pages is.stand (i + j) (k % 63) stands (omega arith)
@@ -539,21 +539,21 @@ zeros_of_pages pool pages rest numbers row place count most is view whole below 
           ∙ free j low (k % 63) (omega arith);
     }
 
-pub zeros_in_piece : (numbers row : List ℕ) (place count : ℕ) → IsPiece numbers place row → count ≤ length row
-    → ((k : ℕ) → k < count → get_or row k 0 ≡ 0) → IsZeroFrom numbers place count
-zeros_in_piece numbers row place count is few free = record {
+pub zeros_in_piece : (numbers row : List ℕ) (index count : ℕ) → IsPiece numbers index row → count ≤ length row
+    → ((k : ℕ) → k < count → get_or row k 0 ≡ 0) → IsZeroFrom numbers index count
+zeros_in_piece numbers row index count is few free = record {
   within = omega (arith, is.within);
   zeros = λ k h. sym (is.same k (omega (arith, few))) ∙ free k h;
 }
 
-pub zeros_go_on : (numbers : List ℕ) (place count more : ℕ) → IsZeroFrom numbers place count → IsZeroFrom numbers (place + count) more
-    → IsZeroFrom numbers place (count + more)
-zeros_go_on numbers place count more one other = record {
+pub zeros_go_on : (numbers : List ℕ) (index count more : ℕ) → IsZeroFrom numbers index count → IsZeroFrom numbers (index + count) more
+    → IsZeroFrom numbers index (count + more)
+zeros_go_on numbers index count more one other = record {
   within = omega (arith, other.within);
   zeros = λ k h. elim (cases_lt k count) [
     | inl l ↦ one.zeros k l
     | inr g ↦
-        (let at : place + k ≡ (place + count) + (k - count) = omega (arith, g) in
+        (let at : index + k ≡ (index + count) + (k - count) = omega (arith, g) in
         ap (λ n. get_or numbers n 0) at ∙ other.zeros (k - count) (omega (arith, g)))
   ];
 }

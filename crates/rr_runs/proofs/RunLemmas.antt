@@ -21,14 +21,14 @@ days_of-append day (suc n ∷ xs) ys =
     ap (λ (l : List NumberedDay). record { day = day; number = n } ∷ l)
     (days_of-append (day +ℤ pos 1) xs ys ∙ ap (λ d. days_of (day +ℤ pos 1) xs ++ days_of d ys) e)
 
--- one place more without a number
+-- one day more without a number
 pub none_put : (day : ℤ) (row row' : List ℕ) → row' ≡ row ++ 0 ∷ [] → days_of day row' ≡ days_of day row
 none_put day row row' e = ap (days_of day) e ∙ days_of-append day row (0 ∷ []) ∙ append-nil (days_of day row)
 
--- one place more with a number
-pub number_put : (day : ℤ) (row row' : List ℕ) (place number told : ℕ) → row' ≡ row ++ told ∷ [] → told ≡ number + 1 → length row ≡ place
-    → days_of day row' ≡ days_of day row ++ record { day = day +ℤ pos place; number = number } ∷ []
-number_put day row row' place number told e et el =
+-- one day more with a number
+pub number_put : (day : ℤ) (row row' : List ℕ) (index number told : ℕ) → row' ≡ row ++ told ∷ [] → told ≡ number + 1 → length row ≡ index
+    → days_of day row' ≡ days_of day row ++ record { day = day +ℤ pos index; number = number } ∷ []
+number_put day row row' index number told e et el =
     let t : told ≡ suc number = omega arith in
     ap (days_of day) e
     ∙ days_of-append day row (told ∷ [])
@@ -93,20 +93,20 @@ pub count_is : (days : List NumberedDay) (count : RunCount) → IsCountOf days c
 count_is [] count is = is
 count_is (x ∷ xs) count is = is.0
 
--- one place more
-pub place_more : (first day : ℤ) (row : List ℕ) (place told : ℕ) (old new : RunCount) → place < length row → told ≡ get_or row place 0
-    → day ≡ first +ℤ pos place → ((days : List NumberedDay) → IsCountOf days old → IsCountOf (days ++ days_of day (told ∷ [])) new)
-    → IsCountOf (days_of first (take place row)) old → IsCountOf (days_of first (take (place + 1) row)) new
-place_more first day row place told old new l e at step is =
-    let many : length (take place row) ≡ place = length-take-le place row (omega arith) in
-    let more : take (place + 1) row ≡ take place row ++ get_or row place 0 ∷ [] = take_more row place 0 l in
-    let where_is : day ≡ first +ℤ pos (length (take place row)) = at ∙ ap (λ n. first +ℤ pos n) (sym many) in
-    let days : days_of first (take (place + 1) row) ≡ days_of first (take place row) ++ days_of day (told ∷ []) =
+-- one day more
+pub day_more : (first day : ℤ) (row : List ℕ) (index told : ℕ) (old new : RunCount) → index < length row → told ≡ get_or row index 0
+    → day ≡ first +ℤ pos index → ((days : List NumberedDay) → IsCountOf days old → IsCountOf (days ++ days_of day (told ∷ [])) new)
+    → IsCountOf (days_of first (take index row)) old → IsCountOf (days_of first (take (index + 1) row)) new
+day_more first day row index told old new l e at step is =
+    let many : length (take index row) ≡ index = length-take-le index row (omega arith) in
+    let more : take (index + 1) row ≡ take index row ++ get_or row index 0 ∷ [] = take_more row index 0 l in
+    let where_is : day ≡ first +ℤ pos (length (take index row)) = at ∙ ap (λ n. first +ℤ pos n) (sym many) in
+    let days : days_of first (take (index + 1) row) ≡ days_of first (take index row) ++ days_of day (told ∷ []) =
     ap (days_of first) more
-    ∙ days_of-append first (take place row) (get_or row place 0 ∷ [])
-    ∙ ap (λ d. days_of first (take place row) ++ days_of d (get_or row place 0 ∷ [])) (sym where_is)
-    ∙ ap (λ n. days_of first (take place row) ++ days_of day (n ∷ [])) (sym e) in
-    subst (λ (l : List NumberedDay). IsCountOf l new) (sym days) (step (days_of first (take place row)) is)
+    ∙ days_of-append first (take index row) (get_or row index 0 ∷ [])
+    ∙ ap (λ d. days_of first (take index row) ++ days_of d (get_or row index 0 ∷ [])) (sym where_is)
+    ∙ ap (λ n. days_of first (take index row) ++ days_of day (n ∷ [])) (sym e) in
+    subst (λ (l : List NumberedDay). IsCountOf l new) (sym days) (step (days_of first (take index row)) is)
 
 pub nothing_told : (days : List NumberedDay) (day : ℤ) (told : ℕ) (count : RunCount) → number_told told ≡ None → IsCountOf days count
     → IsCountOf (days ++ days_of day (told ∷ [])) count
@@ -127,11 +127,11 @@ no_days [] day e = refl
 no_days (n ∷ ns) day e = absurd (omega arith)
 
 -- the days once a day is put
-pub put_days : (first first' first'' day : ℤ) (row row' : List ℕ) (place number places : ℕ) → places ≡ length row → first'' ≡ first'
-    → ((places ≡ 0) × (first' ≡ day)) ⊎ ((places ≢ 0) × (first' ≡ first)) → day ≡ first' +ℤ pos place
-    → ((d : ℤ) → days_of d row' ≡ days_of d row ++ record { day = d +ℤ pos place; number = number } ∷ [])
+pub put_days : (first first' first'' day : ℤ) (row row' : List ℕ) (index number count : ℕ) → count ≡ length row → first'' ≡ first'
+    → ((count ≡ 0) × (first' ≡ day)) ⊎ ((count ≢ 0) × (first' ≡ first)) → day ≡ first' +ℤ pos index
+    → ((d : ℤ) → days_of d row' ≡ days_of d row ++ record { day = d +ℤ pos index; number = number } ∷ [])
     → days_of first'' row' ≡ days_of first row ++ record { day = day; number = number } ∷ []
-put_days first first' first'' day row row' place number places many e is at put =
+put_days first first' first'' day row row' index number count many e is at put =
     let same : days_of first' row ≡ days_of first row =
     elim is [
       | inl new ↦ no_days row first' (sym many ∙ new.0) ∙ sym (no_days row first (sym many ∙ new.0))
@@ -139,5 +139,5 @@ put_days first first' first'' day row row' place number places many e is at put 
     ] in
     ap (λ d. days_of d row') e
     ∙ put first'
-    ∙ ap (λ (l : List NumberedDay). l ++ record { day = first' +ℤ pos place; number = number } ∷ []) same
+    ∙ ap (λ (l : List NumberedDay). l ++ record { day = first' +ℤ pos index; number = number } ∷ []) same
     ∙ ap (λ d. days_of first row ++ record { day = d; number = number } ∷ []) (sym at)

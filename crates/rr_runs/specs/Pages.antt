@@ -1,7 +1,7 @@
 -- A list of numbers that is kept in pages, of which equal ones are kept once.
 use Rattle.std.specs.Prelude.{◌≡◌, ℕ, ◌+◌, ◌<◌, ◌≤◌, List, [], ◌∷◌, ◌++◌, length, take, drop, get_or}
 
--- the numbers of a page, which begins at this place of the pool
+-- the numbers of a page, which begins at this index in the pool
 abbrev pub page_numbers : List ℕ → ℕ → List ℕ
 page_numbers pool page = take 63 (drop page pool)
 
@@ -43,16 +43,16 @@ pub record IsPaged (pool pages rest : List ℕ) : Type 0 where
   pub few : length pages ≤ 100_000_000
   pub room : HasRoom pages rest 0
 
--- the numbers of this row are those of the list from this place on, one at least
-pub record IsPiece (numbers : List ℕ) (place : ℕ) (row : List ℕ) : Type 0 where
+-- the numbers of this row are those of the list from this index on, one at least
+pub record IsPiece (numbers : List ℕ) (index : ℕ) (row : List ℕ) : Type 0 where
   pub some : 0 < length row
-  pub within : place + length row ≤ length numbers
-  pub same : (k : ℕ) → k < length row → get_or row k 0 ≡ get_or numbers (place + k) 0
+  pub within : index + length row ≤ length numbers
+  pub same : (k : ℕ) → k < length row → get_or row k 0 ≡ get_or numbers (index + k) 0
 
--- so many numbers of the list from this place on are 0
-pub record IsZeroFrom (numbers : List ℕ) (place count : ℕ) : Type 0 where
-  pub within : place + count ≤ length numbers
-  pub zeros : (k : ℕ) → k < count → get_or numbers (place + k) 0 ≡ 0
+-- `count` numbers of the list from this index on are 0
+pub record IsZeroFrom (numbers : List ℕ) (index count : ℕ) : Type 0 where
+  pub within : index + count ≤ length numbers
+  pub zeros : (k : ℕ) → k < count → get_or numbers (index + k) 0 ≡ 0
 
 -- a page of the pool has 0 alone
 abbrev pub IsZeroPage : List ℕ → ℕ → Type 0

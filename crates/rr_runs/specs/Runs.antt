@@ -6,7 +6,7 @@ use Rattle.rr_runs.specs.declared.run_days.RunCount.{RunCount}
 
 -- ---- a row of numbers, one for each day
 
--- a day with one number less than its place in the row has; with 0 it has none
+-- a day with one number less than its index in the row has; with 0 it has none
 abbrev pub with_day : ℤ → ℕ → List NumberedDay → List NumberedDay
 with_day day zero days = days
 with_day day (suc number) days = record { day = day; number = number } ∷ days
@@ -16,7 +16,7 @@ abbrev pub days_of : ℤ → List ℕ → List NumberedDay
 days_of day [] = []
 days_of day (n ∷ ns) = with_day day n (days_of (day +ℤ pos 1) ns)
 
--- the number that a place of the row tells
+-- the number of a day by what the row tells of it
 abbrev pub number_told : ℕ → Option ℕ
 number_told zero = None
 number_told (suc number) = Some number
@@ -25,14 +25,14 @@ number_told (suc number) = Some number
 abbrev pub IsRowOf : List NumberedDay → ℤ → List ℕ → Type 0
 IsRowOf days day row = (k : ℕ) → k < length row → number_in days (day +ℤ pos k) ≡ number_told (get_or row k 0)
 
--- whatever day two rows begin on, they have the same days after so many places
+-- whatever day two rows begin on, they have the same days after as many numbers
 abbrev pub SameDays : List ℕ → List ℕ → ℕ → Type 0
 SameDays old new skipped = (day : ℤ) → days_of day (drop skipped new) ≡ days_of day (drop skipped old)
 
--- whatever day the rows begin on, the new one has the days of the old one, and then the day of this place with this number
+-- whatever day the rows begin on, the new one has the days of the old one, and then the day at this index with this number
 abbrev pub PutsDayAt : List ℕ → List ℕ → ℕ → ℕ → ℕ → Type 0
-PutsDayAt old new skipped place number =
-    (day : ℤ) → days_of day (drop skipped new) ≡ days_of day (drop skipped old) ++ record { day = day +ℤ pos place; number = number } ∷ []
+PutsDayAt old new skipped index number =
+    (day : ℤ) → days_of day (drop skipped new) ≡ days_of day (drop skipped old) ++ record { day = day +ℤ pos index; number = number } ∷ []
 
 -- ---- runs
 

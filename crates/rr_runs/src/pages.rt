@@ -38,7 +38,7 @@ const REMEMBERED: usize = 4_096;
 pub struct Pages {
     // The numbers of the distinct pages, one after another.
     pool: Vec<u32>,
-    // The pages of the list, each by its place in the pool.
+    // The pages of the list, each by its index in the pool.
     pages: Vec<u32>,
     // The numbers after the last page.
     rest: Vec<u32>,
@@ -118,7 +118,7 @@ impl Pages {
         Ok(())
     }
 
-    /// Puts `count` equal numbers at the end. A whole page of them costs its place alone once there are pages.
+    /// Puts `count` equal numbers at the end. A whole page of them costs four bytes once there are pages.
     #[inline(always)]
     pub fn push_same(&mut self, number: u32, count: usize) -> Result<(), NoMemory>
         ensures { OnOk result (self.new ≡ self.old ++ replicate count number) }
@@ -129,30 +129,30 @@ impl Pages {
         put_same(&mut self.rest, number, count)
     }
 
-    /// Puts the `count` numbers from a place on once more at the end. Once there are pages, a whole page costs its place alone
-    /// where the place lies a multiple of 63 places before the end.
-    pub fn push_again(&mut self, place: usize, count: usize) -> Result<(), NoMemory>
-        requires { place + count ≤ length self.old }
-        ensures { OnOk result (self.new ≡ self.old ++ take count (drop place self.old)) }
+    /// Puts the `count` numbers from an index on once more at the end. Once there are pages, a whole page costs four bytes
+    /// where the index is a multiple of 63 below the length.
+    pub fn push_again(&mut self, index: usize, count: usize) -> Result<(), NoMemory>
+        requires { index + count ≤ length self.old }
+        ensures { OnOk result (self.new ≡ self.old ++ take count (drop index self.old)) }
     {
         let _bounded = self.len();
         let mut done = 0;
         while done < count {
-            let more = self.push_some_again(place + done, count - done)?;
+            let more = self.push_some_again(index + done, count - done)?;
             done += more;
         }
         Ok(())
     }
 
-    /// Puts the `count` numbers of another list from a place on at the end. Whole pages of zeros cost their places alone.
-    pub fn push_from(&mut self, other: &Pages, place: usize, count: usize) -> Result<(), NoMemory>
-        requires { place + count ≤ length other.now }
-        ensures { OnOk result (self.new ≡ self.old ++ take count (drop place other.now)) }
+    /// Puts the `count` numbers of another list from an index on at the end. A whole page of zeros costs four bytes.
+    pub fn push_from(&mut self, other: &Pages, index: usize, count: usize) -> Result<(), NoMemory>
+        requires { index + count ≤ length other.now }
+        ensures { OnOk result (self.new ≡ self.old ++ take count (drop index other.now)) }
     {
         let _bounded = other.len();
         let mut done = 0;
         while done < count {
-            let more = self.push_some_of(other, place + done, count - done)?;
+            let more = self.push_some_of(other, index + done, count - done)?;
             done += more;
         }
         Ok(())
@@ -215,72 +215,72 @@ impl Pages {
         Ok(most)
     }
 
-    // Puts some of the `most` numbers from a place on once more at the end, one at least: as many as are kept as they are, or
+    // Puts some of the `most` numbers from an index on once more at the end, one at least: as many as are kept as they are, or
     // whole pages where both are aligned.
-    fn push_some_again(&mut self, place: usize, most: usize) -> Result<usize, NoMemory>
+    fn push_some_again(&mut self, index: usize, most: usize) -> Result<usize, NoMemory>
         requires some { 1 ≤ most }
-        requires within { place + most ≤ length self.old }
-        ensures { IfOk result (PutsSome self.old self.new most (drop place self.old)) }
+        requires within { index + most ≤ length self.old }
+        ensures { IfOk result (PutsSome self.old self.new most (drop index self.old)) }
     {
         if self.pages.is_empty() && self.rest.len() < OPEN {
             let count = (OPEN - self.rest.len()).min(most);
-            put_again(&mut self.rest, place, count)?;
+            put_again(&mut self.rest, index, count)?;
             return Ok(count);
         }
-        let pages = self.push_pages_again(place, most)?;
+        let pages = self.push_pages_again(index, most)?;
         if pages > 0 {
             return Ok(pages * PAGE);
         }
-        self.push_block_again(place, most)
+        self.push_block_again(index, most)
     }
 
-    // Puts the numbers of a block from a place on once more at the end, one at least.
-    fn push_block_again(&mut self, place: usize, most: usize) -> Result<usize, NoMemory>
+    // Puts the numbers of a block from an index on once more at the end, one at least.
+    fn push_block_again(&mut self, index: usize, most: usize) -> Result<usize, NoMemory>
         requires some { 1 ≤ most }
-        requires within { place + most ≤ length self.old }
-        ensures { IfOk result (PutsSome self.old self.new most (drop place self.old)) }
+        requires within { index + most ≤ length self.old }
+        ensures { IfOk result (PutsSome self.old self.new most (drop index self.old)) }
     {
         let mut block = [0; PAGE];
-        let count = self.read_into(&mut block, place, most);
+        let count = self.read_into(&mut block, index, most);
         let put = self.push_some(first_numbers(&block, count))?;
         Ok(put)
     }
 
-    // Puts some of the `most` numbers of another list from a place on at the end, one at least: the zeros that begin there where
+    // Puts some of the `most` numbers of another list from an index on at the end, one at least: the zeros that begin there where
     // they fill a page.
-    fn push_some_of(&mut self, other: &Pages, place: usize, most: usize) -> Result<usize, NoMemory>
+    fn push_some_of(&mut self, other: &Pages, index: usize, most: usize) -> Result<usize, NoMemory>
         requires some { 1 ≤ most }
-        requires within { place + most ≤ length other.now }
-        ensures { IfOk result (PutsSome self.old self.new most (drop place other.now)) }
+        requires within { index + most ≤ length other.now }
+        ensures { IfOk result (PutsSome self.old self.new most (drop index other.now)) }
     {
         if other.pages.is_empty() {
-            return self.push_piece_of(other, place, most);
+            return self.push_piece_of(other, index, most);
         }
-        let zeros = other.zeros_from(place).min(most);
+        let zeros = other.zeros_from(index).min(most);
         if zeros < PAGE {
-            return self.push_piece_of(other, place, most);
+            return self.push_piece_of(other, index, most);
         }
         self.push_same(0, zeros)?;
         Ok(zeros)
     }
 
-    // Puts some of the `most` numbers of another list from a place on at the end, one at least.
-    fn push_piece_of(&mut self, other: &Pages, place: usize, most: usize) -> Result<usize, NoMemory>
+    // Puts some of the `most` numbers of another list from an index on at the end, one at least.
+    fn push_piece_of(&mut self, other: &Pages, index: usize, most: usize) -> Result<usize, NoMemory>
         requires some { 1 ≤ most }
-        requires within { place + most ≤ length other.now }
-        ensures { IfOk result (PutsSome self.old self.new most (drop place other.now)) }
+        requires within { index + most ≤ length other.now }
+        ensures { IfOk result (PutsSome self.old self.new most (drop index other.now)) }
     {
-        let piece = other.piece_within(place, most);
+        let piece = other.piece_within(index, most);
         self.push_all(piece)?;
         Ok(piece.len())
     }
 
-    // Puts the pages that begin at a place once more at the end, as many as have at most so many numbers, and tells how many; 0
+    // Puts the pages that begin at an index once more at the end, as many as have at most `most` numbers, and tells how many; 0
     // where no page begins there, or none may begin at the end.
-    fn push_pages_again(&mut self, place: usize, most: usize) -> Result<usize, NoMemory>
-        requires { place + most ≤ length self.old }
+    fn push_pages_again(&mut self, index: usize, most: usize) -> Result<usize, NoMemory>
+        requires { index + most ≤ length self.old }
         ensures { IfOk result (λ pages. (pages * 63 ≤ most)
-            × (self.new ≡ self.old ++ take (pages * 63) (drop place self.old))) }
+            × (self.new ≡ self.old ++ take (pages * 63) (drop index self.old))) }
     {
         make_room(
             &mut self.pool,
@@ -289,84 +289,84 @@ impl Pages {
             &mut self.remembered,
         )?;
         let count = most / PAGE;
-        if place % PAGE != 0 || !has_room(&self.pages, &self.rest, count) {
+        if index % PAGE != 0 || !has_room(&self.pages, &self.rest, count) {
             return Ok(0);
         }
-        put_again(&mut self.pages, place / PAGE, count)?;
+        put_again(&mut self.pages, index / PAGE, count)?;
         Ok(count)
     }
 
-    // Copies some numbers from a place on to the start of a block, one at least and at most so many, and tells how many.
-    fn read_into(&self, block: &mut [u32], place: usize, most: usize) -> usize
+    // Copies some numbers from an index on to the start of a block, one at least and at most `most`, and tells how many.
+    fn read_into(&self, block: &mut [u32], index: usize, most: usize) -> usize
         requires some { 1 ≤ most }
-        requires within { place + most ≤ length self.now }
+        requires within { index + most ≤ length self.now }
         requires room { length block.old ≡ 63 }
         ensures some { 1 ≤ result }
         ensures most { result ≤ most }
         ensures few { result ≤ 63 }
         ensures room { length block.new ≡ 63 }
-        ensures value { take result block.new ≡ take result (drop place self.now) }
+        ensures value { take result block.new ≡ take result (drop index self.now) }
     {
-        let piece = self.piece_within(place, most.min(PAGE));
+        let piece = self.piece_within(index, most.min(PAGE));
         copy_to_start(block, piece);
         piece.len()
     }
 
-    // The numbers from a place on, as far as they are kept in a row, at most so many.
-    fn piece_within(&self, place: usize, most: usize) -> &[u32]
+    // The numbers from an index on, as far as they are kept in a row, at most `most`.
+    fn piece_within(&self, index: usize, most: usize) -> &[u32]
         requires some { 1 ≤ most }
-        requires within { place + most ≤ length self.now }
+        requires within { index + most ≤ length self.now }
         ensures some { 1 ≤ length result.now }
         ensures most { length result.now ≤ most }
-        ensures value { result.now ≡ take (length result.now) (drop place self.now) }
+        ensures value { result.now ≡ take (length result.now) (drop index self.now) }
     {
-        first_numbers(self.piece(place), most)
+        first_numbers(self.piece(index), most)
     }
 
-    /// The number at a place.
+    /// The number at an index.
     #[inline(always)]
-    pub fn number_at(&self, place: usize) -> u32
-        requires { place < length self.now }
-        ensures { result ≡ get_or self.now place 0 }
+    pub fn number_at(&self, index: usize) -> u32
+        requires { index < length self.now }
+        ensures { result ≡ get_or self.now index 0 }
     {
-        self.piece(place)[0]
+        self.piece(index)[0]
     }
 
-    /// The numbers from a place on, as far as they are kept in a row.
+    /// The numbers from an index on, as far as they are kept in a row.
     #[inline(always)]
-    pub fn piece(&self, place: usize) -> &[u32]
-        requires { place < length self.now }
-        ensures { IsPiece self.now place result.now }
+    pub fn piece(&self, index: usize) -> &[u32]
+        requires { index < length self.now }
+        ensures { IsPiece self.now index result.now }
     {
         let paged = self.pages.len() * PAGE;
-        if place >= paged {
-            return rest_from(&self.rest, place - paged);
+        if index >= paged {
+            return rest_from(&self.rest, index - paged);
         }
-        let page = place / PAGE;
-        rest_of_page(&self.pool, self.pages[page] as usize, place % PAGE)
+        let page = index / PAGE;
+        rest_of_page(&self.pool, self.pages[page] as usize, index % PAGE)
     }
 
-    /// How many numbers from a place on are surely 0: 0 where the number itself is not. All up to the first other number are
+    /// How many numbers from an index on are surely 0: 0 where the number itself is not. All up to the first other number are
     /// counted, but for what follows after some 1,000.
     #[inline(always)]
-    pub fn zeros_from(&self, place: usize) -> usize
-        requires { place < length self.now }
-        ensures { IsZeroFrom self.now place result }
+    pub fn zeros_from(&self, index: usize) -> usize
+        requires { index < length self.now }
+        ensures { IsZeroFrom self.now index result }
     {
-        if self.number_at(place) != 0 {
+        if self.number_at(index) != 0 {
             return 0;
         }
-        self.count_zeros(place)
+        self.count_zeros(index)
     }
 
-    // How many numbers from a place on are 0, as far as these are looked at.
-    fn count_zeros(&self, place: usize) -> usize
-        requires { place < length self.now }
-        ensures { IsZeroFrom self.now place result }
+    // How many numbers from an index on are 0, as far as these are looked at.
+    fn count_zeros(&self, index: usize) -> usize
+        requires { index < length self.now }
+        ensures { IsZeroFrom self.now index result }
     {
         let end = self.len();
-        let here = self.zeros_in_piece(place);
-        let next = place + here;
+        let here = self.zeros_in_piece(index);
+        let next = index + here;
         let pages = self.zero_pages_from(next) * PAGE;
         if pages == 0 || next + pages >= end {
             return here + pages;
@@ -374,21 +374,21 @@ impl Pages {
         here + pages + self.zeros_in_piece(next + pages)
     }
 
-    // How many numbers from a place on are 0, as far as they are kept in a row.
-    fn zeros_in_piece(&self, place: usize) -> usize
-        requires { place < length self.now }
-        ensures { IsZeroFrom self.now place result }
+    // How many numbers from an index on are 0, as far as they are kept in a row.
+    fn zeros_in_piece(&self, index: usize) -> usize
+        requires { index < length self.now }
+        ensures { IsZeroFrom self.now index result }
     {
-        leading_same(self.piece(place), 0)
+        leading_same(self.piece(index), 0)
     }
 
-    // How many pages from a place on have 0 alone, as far as these are looked at.
-    fn zero_pages_from(&self, place: usize) -> usize
-        requires { place ≤ length self.now }
-        ensures { IsZeroFrom self.now place (result * 63) }
+    // How many pages from an index on have 0 alone, as far as these are looked at.
+    fn zero_pages_from(&self, index: usize) -> usize
+        requires { index ≤ length self.now }
+        ensures { IsZeroFrom self.now index (result * 63) }
     {
-        let page = place / PAGE;
-        if place % PAGE != 0 || page >= self.pages.len() {
+        let page = index / PAGE;
+        if index % PAGE != 0 || page >= self.pages.len() {
             return 0;
         }
         zero_pages(
@@ -437,7 +437,7 @@ fn leading_same(numbers: &[u32], number: u32) -> usize
     same_before(numbers, number, small, end)
 }
 
-// The end of the whole blocks of this number from a place on, before which all have it, and up to an end.
+// The end of the whole blocks of this number from an index on, before which all have it, and up to an end.
 #[inline(always)]
 fn same_blocks<const N: usize>(numbers: &[u32], number: u32, from: usize, end: usize) -> usize
     requires order { from ≤ end }
@@ -457,7 +457,7 @@ fn same_blocks<const N: usize>(numbers: &[u32], number: u32, from: usize, end: u
     at
 }
 
-// Whether each number of the block that begins at a place is this one. No place is left out, so that several are compared at once.
+// Whether each number of the block that begins at an index is this one. No index is left out, so that several are compared at once.
 #[inline(always)]
 fn is_block_of<const N: usize>(numbers: &[u32], from: usize, number: u32) -> bool
     requires { from + N ≤ length numbers.now }
@@ -470,7 +470,7 @@ fn is_block_of<const N: usize>(numbers: &[u32], from: usize, number: u32) -> boo
     all
 }
 
-// The first place from one on, and before an end, that has another number than this one; the end where there is none.
+// The first index from one on, and before an end, that has another number than this one; the end where there is none.
 #[inline(always)]
 fn same_before(numbers: &[u32], number: u32, from: usize, end: usize) -> usize
     requires order { from ≤ end }
@@ -497,7 +497,7 @@ fn rest_of_page(pool: &[u32], page: usize, from: usize) -> &[u32]
     &pool[page + from..page + PAGE]
 }
 
-// The numbers from a place on.
+// The numbers from an index on.
 #[inline(always)]
 fn rest_from(numbers: &[u32], from: usize) -> &[u32]
     requires { from ≤ length numbers.now }
@@ -719,28 +719,28 @@ fn put_same(numbers: &mut Vec<u32>, number: u32, count: usize) -> Result<(), NoM
     Ok(())
 }
 
-// Puts the numbers of a list from a place on once more at its end.
-fn put_again(numbers: &mut Vec<u32>, place: usize, count: usize) -> Result<(), NoMemory>
-    requires within { place + count ≤ length numbers.old.items }
+// Puts the numbers of a list from an index on once more at its end.
+fn put_again(numbers: &mut Vec<u32>, index: usize, count: usize) -> Result<(), NoMemory>
+    requires within { index + count ≤ length numbers.old.items }
     requires few { length numbers.old.items ≤ 100_000_000 }
     ensures value { OnOk result (numbers.new.items
-        ≡ numbers.old.items ++ take count (drop place numbers.old.items)) }
+        ≡ numbers.old.items ++ take count (drop index numbers.old.items)) }
     ensures err { OnErr result (numbers.new.items ≡ numbers.old.items) }
 {
     let end = numbers.len();
     put_same(numbers, 0, count)?;
-    copy_on(numbers.as_mut_slice(), place, count, end);
+    copy_on(numbers.as_mut_slice(), index, count, end);
     Ok(())
 }
 
-// Copies the numbers from a place on over those from another one on up to the end.
-fn copy_on(numbers: &mut [u32], place: usize, count: usize, to: usize)
-    requires before { place + count ≤ to }
+// Copies the numbers from an index on over those from another one on up to the end.
+fn copy_on(numbers: &mut [u32], index: usize, count: usize, to: usize)
+    requires before { index + count ≤ to }
     requires whole { to + count ≡ length numbers.old }
-    ensures { numbers.new ≡ take to numbers.old ++ take count (drop place numbers.old) }
+    ensures { numbers.new ≡ take to numbers.old ++ take count (drop index numbers.old) }
 {
     let (front, back) = numbers.split_at_mut(to);
-    back.copy_from_slice(&front[place..place + count]);
+    back.copy_from_slice(&front[index..index + count]);
 }
 
 // A page of the pool that has these numbers: the one that was put last, where that was put twice and has them.
@@ -779,14 +779,14 @@ fn page_of(pool: &mut Vec<u32>, remembered: &mut Vec<u32>, numbers: &[u32]) -> R
     ensures grown { IsGrown pool.old.items pool.new.items }
     ensures page { IfOk result (IsPageOf pool.new.items numbers.now) }
 {
-    let place = remembered_place(numbers);
-    if let Some(guess) = remembered.get(place) {
+    let index = remembered_index(numbers);
+    if let Some(guess) = remembered.get(index) {
         if is_page(pool.as_slice(), *guess as usize, numbers) {
             return Ok(*guess);
         }
     }
     let page = new_page(pool, numbers)?;
-    remember(remembered, place, page)?;
+    remember(remembered, index, page)?;
     Ok(page)
 }
 
@@ -799,7 +799,7 @@ fn page_of_same(
     ensures grown { IsGrown pool.old.items pool.new.items }
     ensures page { IfOk result (IsPageOf pool.new.items (replicate 63 number)) }
 {
-    if let Some(guess) = remembered.get(place_of_same(number)) {
+    if let Some(guess) = remembered.get(index_of_same(number)) {
         if is_page_of_same(pool.as_slice(), *guess as usize, number) {
             return Ok(*guess);
         }
@@ -807,7 +807,7 @@ fn page_of_same(
     page_of(pool, remembered, &[number; PAGE])
 }
 
-// Whether this is the one number of the page that begins at a place of the pool.
+// Whether this is the one number of the page that begins at an index in the pool.
 fn is_page_of_same(pool: &[u32], page: usize, number: u32) -> bool
     ensures { IsTrue result → IsPageOf pool.now (replicate 63 number) page }
 {
@@ -818,7 +818,7 @@ fn is_page_of_same(pool: &[u32], page: usize, number: u32) -> bool
         && is_block_of::<BLOCK>(pool, page + PAGE - BLOCK, number)
 }
 
-// Whether these are the numbers of the page that begins at a place of the pool.
+// Whether these are the numbers of the page that begins at an index in the pool.
 fn is_page(pool: &[u32], page: usize, numbers: &[u32]) -> bool
     requires { length numbers.now ≡ 63 }
     ensures { IsTrue result → IsPageOf pool.now numbers.now page }
@@ -839,7 +839,7 @@ fn are_equal(xs: &[u32], ys: &[u32]) -> bool
     is_same_block(xs, ys, 0) && is_same_block(xs, ys, PAGE - BLOCK)
 }
 
-// Whether the numbers of the block that begins at a place are the same. No place is left out, so that several are compared at once.
+// Whether the numbers of the block that begins at an index are the same. No index is left out, so that several are compared at once.
 #[inline(always)]
 fn is_same_block(xs: &[u32], ys: &[u32], from: usize) -> bool
     requires xs { from + 32 ≤ length xs.now }
@@ -868,8 +868,8 @@ fn new_page(pool: &mut Vec<u32>, numbers: &[u32]) -> Result<u32, NoMemory>
     Ok(page as u32)
 }
 
-// Where a page with these numbers is remembered: by the sum of the numbers, each times a weight of its place.
-fn remembered_place(numbers: &[u32]) -> usize
+// Where a page with these numbers is remembered: by the sum of the numbers, each times a weight of its index.
+fn remembered_index(numbers: &[u32]) -> usize
     requires { length numbers.now ≡ 63 }
 {
     let mut sum: u32 = 0;
@@ -880,11 +880,11 @@ fn remembered_place(numbers: &[u32]) -> usize
 }
 
 // Where a page of one number is remembered.
-fn place_of_same(number: u32) -> usize {
+fn index_of_same(number: u32) -> usize {
     (number.wrapping_mul(sum_of_weights()) >> 20) as usize
 }
 
-// The sum of the weights of all places.
+// The sum of the weights of all indices.
 #[inline(always)]
 fn sum_of_weights() -> u32 {
     let mut sum: u32 = 0;
@@ -894,20 +894,20 @@ fn sum_of_weights() -> u32 {
     sum
 }
 
-// A weight for each place of a page.
+// A weight for each index of a page.
 #[inline(always)]
-fn weight(place: u32) -> u32 {
-    let number = place.wrapping_add(1);
+fn weight(index: u32) -> u32 {
+    let number = index.wrapping_add(1);
     number.wrapping_mul(0x9e37_79b1) ^ number.wrapping_mul(number).wrapping_mul(0x85eb_ca6b)
 }
 
 // Remembers a page.
-fn remember(remembered: &mut Vec<u32>, place: usize, page: u32) -> Result<(), NoMemory> {
+fn remember(remembered: &mut Vec<u32>, index: usize, page: u32) -> Result<(), NoMemory> {
     if remembered.is_empty() {
         remembered.resize(REMEMBERED, 0)?;
     }
-    if place < remembered.len() {
-        remembered[place] = page;
+    if index < remembered.len() {
+        remembered[index] = page;
     }
     Ok(())
 }

@@ -24,11 +24,11 @@ struct RunCount {
 /// less where these are more than 200,025 and much repeats.
 #[derive(Drop)]
 pub struct RunDays {
-    // The day of the first place of the row that counts.
+    // The day of the first number of the row that counts.
     first: i64,
     // A number for each day: 0 for a day without one, and else one more than its number.
     row: Pages,
-    // How many places of the row come before those of the days.
+    // How many numbers of the row come before those of the days.
     skipped: usize,
 }
 
@@ -91,7 +91,7 @@ impl RunDays {
         if day < first {
             return Err(NoMemory);
         }
-        put_at(&mut self.row, self.skipped, place_of(first, day), number)?;
+        put_at(&mut self.row, self.skipped, index_of(first, day), number)?;
         self.first = first;
         Ok(())
     }
@@ -125,11 +125,11 @@ impl RunDays {
             return &[];
         }
         let end = self.row.len();
-        let place = (day - self.first) as usize + self.skipped;
-        if place >= end {
+        let index = (day - self.first) as usize + self.skipped;
+        if index >= end {
             return &[];
         }
-        self.row.piece(place)
+        self.row.piece(index)
     }
 
     /// How many days from a day on surely have no number: 0 where the day has one.
@@ -141,33 +141,33 @@ impl RunDays {
             return (self.first - day) as u64;
         }
         let end = self.row.len();
-        let place = (day - self.first) as usize + self.skipped;
-        if place >= end {
+        let index = (day - self.first) as usize + self.skipped;
+        if index >= end {
             return u64::MAX;
         }
-        self.row.zeros_from(place) as u64
+        self.row.zeros_from(index) as u64
     }
 }
 
-// The number that a place of a row tells.
+// The number of a day by what a row tells.
 fn number_of(told: u32) -> Option<u32>
     ensures { result ≡ number_told told }
 {
     if told == 0 { None } else { Some(told - 1) }
 }
 
-// The day of the first place of a row with so many places, once a day is put.
-fn first_of(places: usize, first: i64, day: i64) -> i64
+// The day of the first of a row of `count` numbers, once a day is put.
+fn first_of(count: usize, first: i64, day: i64) -> i64
     requires first_far { IsFarDay first }
     requires far { IsFarDay day }
-    ensures value { ((places ≡ 0) × (result ≡ day)) ⊎ ((places ≢ 0) × (result ≡ first)) }
+    ensures value { ((count ≡ 0) × (result ≡ day)) ⊎ ((count ≢ 0) × (result ≡ first)) }
     ensures far { IsFarDay result }
 {
-    if places == 0 { day } else { first }
+    if count == 0 { day } else { first }
 }
 
-// The place of a day in a row that begins on a day.
-fn place_of(first: i64, day: i64) -> usize
+// The index of a day in a row whose first day is `first`.
+fn index_of(first: i64, day: i64) -> usize
     requires order { first ≤ℤ day }
     requires first_far { IsFarDay first }
     requires far { IsFarDay day }
@@ -176,7 +176,7 @@ fn place_of(first: i64, day: i64) -> usize
     (day - first) as usize
 }
 
-// How many runs the days of a row have whose first places are passed over.
+// How many runs the days of a row have whose first `skipped` numbers are passed over.
 fn count_runs(first: i64, row: &Pages, skipped: usize) -> usize
     requires far { IsFarDay first }
     requires within { skipped ≤ length row.now }
@@ -188,13 +188,13 @@ fn count_runs(first: i64, row: &Pages, skipped: usize) -> usize
         gap: 0,
         number: 0,
     };
-    for place in 0..row.len() - skipped {
-        count = count_told(count, first + place as i64, row.number_at(skipped + place));
+    for index in 0..row.len() - skipped {
+        count = count_told(count, first + index as i64, row.number_at(skipped + index));
     }
     count.runs
 }
 
-// The runs and the last item after a place of a row.
+// The runs and the last item, after what a row tells of a day.
 fn count_told(count: RunCount, day: i64, told: u32) -> RunCount
     requires some { count.runs ≢ 0 → count.last <ℤ day }
     requires near { IsCountedDay day }
@@ -250,32 +250,32 @@ fn change(gap: u64, number: u32, count: RunCount) -> usize
     }
 }
 
-// Puts a number at a place of a row whose first places are passed over, after the places that are there.
-fn put_at(row: &mut Pages, skipped: usize, place: usize, number: u32) -> Result<(), NoMemory>
+// Puts a number at an index of a row whose first `skipped` numbers are passed over, after the numbers that are there.
+fn put_at(row: &mut Pages, skipped: usize, index: usize, number: u32) -> Result<(), NoMemory>
     requires within { skipped ≤ length row.old }
-    requires near { place ≤ 6_000_000_000_000 }
-    ensures ok { OnOk result (PutsDayAt row.old row.new skipped place number) }
+    requires near { index ≤ 6_000_000_000_000 }
+    ensures ok { OnOk result (PutsDayAt row.old row.new skipped index number) }
     ensures err { OnErr result (SameDays row.old row.new skipped) }
     ensures within { skipped ≤ length row.new }
 {
     let end = row.len();
-    if number == u32::MAX || skipped + place < end {
+    if number == u32::MAX || skipped + index < end {
         return Err(NoMemory);
     }
-    fill(row, skipped, skipped + place)?;
+    fill(row, skipped, skipped + index)?;
     row.push(number + 1)?;
     Ok(())
 }
 
-// Puts 0 at each place before this one that is not there yet.
-fn fill(row: &mut Pages, skipped: usize, place: usize) -> Result<(), NoMemory>
+// Puts 0 at each index below this one that is not there yet.
+fn fill(row: &mut Pages, skipped: usize, index: usize) -> Result<(), NoMemory>
     requires within { skipped ≤ length row.old }
-    requires order { length row.old ≤ place }
+    requires order { length row.old ≤ index }
     ensures same { SameDays row.old row.new skipped }
     ensures more { length row.old ≤ length row.new }
-    ensures whole { OnOk result (length row.new ≡ place) }
+    ensures whole { OnOk result (length row.new ≡ index) }
 {
-    for k in row.len()..place {
+    for k in row.len()..index {
         row.push(0)?;
     }
     Ok(())

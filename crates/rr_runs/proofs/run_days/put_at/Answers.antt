@@ -9,9 +9,9 @@ returns-clause-ok c = λ day.
     let skipped = c.args.skipped in
     let row = c.fill.new.row in
     let told : ℕ = c.args.number + 1 in
-    let whole : length row ≡ skipped + c.args.place = c.in_ok-fill.ensures.whole in
-    let long : length (drop skipped row) ≡ c.args.place = omega (arith, length-drop skipped row, whole) in
+    let whole : length row ≡ skipped + c.args.index = c.in_ok-fill.ensures.whole in
+    let long : length (drop skipped row) ≡ c.args.index = omega (arith, length-drop skipped row, whole) in
     let put : drop skipped c.push.new.self ≡ drop skipped row ++ told ∷ [] =
     ap (drop skipped) c.in_ok-push.ensures.ok ∙ drop-append-le skipped row (told ∷ []) (omega (arith, whole)) in
-    number_put day (drop skipped row) (drop skipped c.push.new.self) c.args.place c.args.number told put (omega arith) long
-    ∙ ap (λ (l : List NumberedDay). l ++ record { day = day +ℤ pos c.args.place; number = c.args.number } ∷ []) (c.in_ok-fill.ensures.same day)
+    number_put day (drop skipped row) (drop skipped c.push.new.self) c.args.index c.args.number told put (omega arith) long
+    ∙ ap (λ (l : List NumberedDay). l ++ record { day = day +ℤ pos c.args.index; number = c.args.number } ∷ []) (c.in_ok-fill.ensures.same day)

@@ -10,15 +10,15 @@ rest_from-requires c =
     c.self.invariant in
     omega (arith, all)
 
-pub returns-then-place-paged : goal.returns-then-place-paged
-returns-then-place-paged c =
+pub returns-then-index-paged : goal.returns-then-index-paged
+returns-then-index-paged c =
     piece_of_rest c.self.inside.pool.items c.self.inside.pages.items c.self.inside.rest.items c.args.self.now (sym c.self.view_is) c.self.invariant
-    c.args.place (c.args.place - c.len-paged.result * 63) c.rest_from.result.now (omega arith) c.requires (rw c.deref.ensures.value at c.rest_from.ensures)
+    c.args.index (c.args.index - c.len-paged.result * 63) c.rest_from.result.now (omega arith) c.requires (rw c.deref.ensures.value at c.rest_from.ensures)
 
 pub returns : goal.returns
 returns c =
-    let stands : c.args.place / 63 < length c.self.inside.pages.items = omega arith in
+    let stands : c.args.index / 63 < length c.self.inside.pages.items = omega arith in
     piece_of_page c.self.inside.pool.items c.self.inside.pages.items c.self.inside.rest.items c.args.self.now (sym c.self.view_is) c.self.invariant
-    c.args.place c.index.result.now (c.args.place / 63) (c.args.place % 63) c.rest_of_page.result.now (omega arith) (omega arith) stands
-    (c.index.ensures ∙ get_or_default_zero c.self.inside.pages.items (c.args.place / 63) c.index.result.now stands)
+    c.args.index c.index.result.now (c.args.index / 63) (c.args.index % 63) c.rest_of_page.result.now (omega arith) (omega arith) stands
+    (c.index.ensures ∙ get_or_default_zero c.self.inside.pages.items (c.args.index / 63) c.index.result.now stands)
     (rw c.deref-2.ensures.value at c.rest_of_page.ensures)

@@ -3,7 +3,7 @@ use Rattle.rr_runs.proofs.pages.Pages.push_again.Given as goal
 
 -- so many numbers are put
 abbrev pub invariant-loop-done : goal.invariant-loop-done
-invariant-loop-done l = (l.done ≤ l.count) × (l.self ≡ l.initial.self ++ take l.done (drop l.place l.initial.self))
+invariant-loop-done l = (l.done ≤ l.count) × (l.self ≡ l.initial.self ++ take l.done (drop l.index l.initial.self))
 
 abbrev pub decreases-loop-done : goal.decreases-loop-done
 decreases-loop-done l = l.count - l.done

@@ -13,7 +13,7 @@ put_again-requires-clause-within c =
 pub invariant_of-self-2 : goal.invariant_of-self-2
 invariant_of-self-2 c =
     let room = c.if-not-has_room.ensures refl in
-    again_is_paged c.make_room.new.pool.items c.make_room.new.pages.items c.put_again.new.numbers.items c.make_room.new.rest.items (c.args.place / 63)
+    again_is_paged c.make_room.new.pool.items c.make_room.new.pages.items c.put_again.new.numbers.items c.make_room.new.rest.items (c.args.index / 63)
     (c.args.most / 63) c.in_ok-make_room.ensures.paged room.0 room.1 c.in_ok-put_again.ensures.value
 
 pub returns : goal.returns
@@ -21,6 +21,6 @@ returns c =
     let room = c.if-not-has_room.ensures refl in (
       omega arith,
       pages_again c.make_room.new.pool.items c.make_room.new.pages.items c.put_again.new.numbers.items c.make_room.new.rest.items c.args.self.now
-          c.args.place (c.args.most / 63) c.in_ok-make_room.ensures.paged (c.in_ok-make_room.ensures.same ∙ c.self.view_is) room.0 (omega arith)
+          c.args.index (c.args.most / 63) c.in_ok-make_room.ensures.paged (c.in_ok-make_room.ensures.same ∙ c.self.view_is) room.0 (omega arith)
           c.in_ok-put_again.ensures.value,
     )

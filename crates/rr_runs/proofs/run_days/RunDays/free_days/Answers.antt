@@ -12,20 +12,20 @@ returns-then-day-self c = λ k h.
     ap (λ (days : List NumberedDay). number_in days (c.args.day +ℤ pos k)) (sym c.self.view_is)
     ∙ none_before c.self.inside.first (c.args.day +ℤ pos k) (drop c.self.inside.skipped c.self.inside.row) (omega (arith, ints))
 
-pub returns-then-place-end : goal.returns-then-place-end
-returns-then-place-end c = λ k h.
+pub returns-then-index-end : goal.returns-then-index-end
+returns-then-index-end c = λ k h.
     let skipped = c.self.inside.skipped in
     let row = c.self.inside.row in
-    let place = nat_abs (c.args.day -ℤ c.self.inside.first) in
+    let index = nat_abs (c.args.day -ℤ c.self.inside.first) in
     ap (λ (days : List NumberedDay). number_in days (c.args.day +ℤ pos k)) (sym c.self.view_is)
-    ∙ number_at c.self.inside.first (c.args.day +ℤ pos k) (place + k) (drop skipped row) (omega (arith, ints))
-    ∙ ap number_told (get_or-drop skipped row (place + k) 0 ∙ get_or_past row (skipped + (place + k)) 0 (omega (arith, ints, c.len-end.ensures.value)))
+    ∙ number_at c.self.inside.first (c.args.day +ℤ pos k) (index + k) (drop skipped row) (omega (arith, ints))
+    ∙ ap number_told (get_or-drop skipped row (index + k) 0 ∙ get_or_past row (skipped + (index + k)) 0 (omega (arith, ints, c.len-end.ensures.value)))
 
 pub returns : goal.returns
 returns c = λ k h.
     let skipped = c.self.inside.skipped in
     let row = c.self.inside.row in
-    let place = nat_abs (c.args.day -ℤ c.self.inside.first) in
+    let index = nat_abs (c.args.day -ℤ c.self.inside.first) in
     ap (λ (days : List NumberedDay). number_in days (c.args.day +ℤ pos k)) (sym c.self.view_is)
-    ∙ number_at c.self.inside.first (c.args.day +ℤ pos k) (place + k) (drop skipped row) (omega (arith, ints))
-    ∙ ap number_told (get_or-drop skipped row (place + k) 0 ∙ ap (λ p. get_or row p 0) (omega (arith, ints)) ∙ c.zeros_from.ensures.zeros k h)
+    ∙ number_at c.self.inside.first (c.args.day +ℤ pos k) (index + k) (drop skipped row) (omega (arith, ints))
+    ∙ ap number_told (get_or-drop skipped row (index + k) 0 ∙ ap (λ p. get_or row p 0) (omega (arith, ints)) ∙ c.zeros_from.ensures.zeros k h)

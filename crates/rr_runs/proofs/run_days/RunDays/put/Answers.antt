@@ -10,7 +10,7 @@ returns-clause-ok c =
     let row = c.self.inside.row in
     let first : to_z w64 (of_z w64 c.self.inside.first) ≡ c.self.inside.first = omega (arith, ints) in
     put_days c.self.inside.first c.first_of-first.result (to_z w64 (of_z w64 c.first_of-first.result)) c.args.day (drop skipped row)
-    (drop skipped c.put_at.new.row) c.place_of.result c.args.number (c.len.result - skipped)
+    (drop skipped c.put_at.new.row) c.index_of.result c.args.number (c.len.result - skipped)
     (omega (arith, c.len.ensures.value, length-drop skipped row)) (omega (arith, ints))
     (rw (to_z-of_z w64 c.args.day c.ranges.day, first) at c.first_of-first.ensures.value) (omega (arith, ints)) c.in_ok-put_at.ensures.ok
     ∙ ap (λ (l : List NumberedDay). l ++ record { day = c.args.day; number = c.args.number } ∷ []) c.self.view_is

@@ -12,20 +12,20 @@ returns-then-day-self-clause-none c = λ e.
     ap (λ (days : List NumberedDay). number_in days c.args.day) (sym c.self.view_is)
     ∙ none_before c.self.inside.first c.args.day (drop c.self.inside.skipped c.self.inside.row) (omega (arith, ints))
 
-pub returns-then-place-end-clause-none : goal.returns-then-place-end-clause-none
-returns-then-place-end-clause-none c = λ e.
+pub returns-then-index-end-clause-none : goal.returns-then-index-end-clause-none
+returns-then-index-end-clause-none c = λ e.
     let skipped = c.self.inside.skipped in
     let row = c.self.inside.row in
-    let place = nat_abs (c.args.day -ℤ c.self.inside.first) in
+    let index = nat_abs (c.args.day -ℤ c.self.inside.first) in
     ap (λ (days : List NumberedDay). number_in days c.args.day) (sym c.self.view_is)
-    ∙ number_at c.self.inside.first c.args.day place (drop skipped row) (omega (arith, ints))
-    ∙ ap number_told (get_or-drop skipped row place 0 ∙ get_or_past row (skipped + place) 0 (omega (arith, ints, c.len-end.ensures.value)))
+    ∙ number_at c.self.inside.first c.args.day index (drop skipped row) (omega (arith, ints))
+    ∙ ap number_told (get_or-drop skipped row index 0 ∙ get_or_past row (skipped + index) 0 (omega (arith, ints, c.len-end.ensures.value)))
 
 pub returns-clause-row : goal.returns-clause-row
 returns-clause-row c = λ k h.
     let skipped = c.self.inside.skipped in
     let row = c.self.inside.row in
-    let place = nat_abs (c.args.day -ℤ c.self.inside.first) in
+    let index = nat_abs (c.args.day -ℤ c.self.inside.first) in
     ap (λ (days : List NumberedDay). number_in days (c.args.day +ℤ pos k)) (sym c.self.view_is)
-    ∙ number_at c.self.inside.first (c.args.day +ℤ pos k) (place + k) (drop skipped row) (omega (arith, ints))
-    ∙ ap number_told (get_or-drop skipped row (place + k) 0 ∙ ap (λ p. get_or row p 0) (omega (arith, ints)) ∙ sym (c.piece.ensures.same k h))
+    ∙ number_at c.self.inside.first (c.args.day +ℤ pos k) (index + k) (drop skipped row) (omega (arith, ints))
+    ∙ ap number_told (get_or-drop skipped row (index + k) 0 ∙ ap (λ p. get_or row p 0) (omega (arith, ints)) ∙ sym (c.piece.ensures.same k h))
