@@ -28,16 +28,16 @@ pub fn allows(numbers: &Numbers, n: i16) -> bool
 
 // Whether the part is absent, or lists the k-th of `many`, from the front or from the back.
 pub(crate) fn allows_place(numbers: &Numbers, k: u16, many: u16) -> bool
-    requires place { k ≤ 366 }
+    requires number { k ≤ 366 }
     requires most { many ≤ 366 }
     ensures { result ≡ allows_place numbers.now (pos k) (pos many) }
 {
-    numbers.is_empty() || lists(numbers, k as i16) || lists(numbers, place_from_back(k, many))
+    numbers.is_empty() || lists(numbers, k as i16) || lists(numbers, number_from_back(k, many))
 }
 
-// The place of the k-th of `many`, from the back as a negative number.
-fn place_from_back(k: u16, many: u16) -> i16
-    requires place { k ≤ 366 }
+// The number of the k-th of `many`, from the back as a negative number.
+fn number_from_back(k: u16, many: u16) -> i16
+    requires number { k ≤ 366 }
     requires most { many ≤ 366 }
     ensures { result ≡ (pos k -ℤ pos many) -ℤ pos 1 }
 {
@@ -67,7 +67,7 @@ pub(crate) fn allows_place_filled(
         (pos k) (pos many) }
 {
     if is_wanted && numbers.is_empty() {
-        own == k || i16::from(own) == place_from_back(u16::from(k), u16::from(many))
+        own == k || i16::from(own) == number_from_back(u16::from(k), u16::from(many))
     } else {
         allows_place(numbers, u16::from(k), u16::from(many))
     }

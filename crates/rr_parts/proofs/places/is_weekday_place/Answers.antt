@@ -5,4 +5,4 @@ use Rattle.rr_parts.proofs.places.is_weekday_place.Goals as goal
 pub returns : goal.returns
 returns c d =
     rw (rank_from_front_is d c.args.k c.requires.first, rank_from_back_is d c.args.k c.args.many c.requires.within)
-    (rw (to_z-of_z c.ranges.place) at c.has_rank.ensures)
+    (rw (to_z-of_z c.ranges.ordinal) at c.has_rank.ensures)
