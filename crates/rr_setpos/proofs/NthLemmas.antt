@@ -1,4 +1,4 @@
--- The candidate at a place of its unit.
+-- The candidate at a position of its unit.
 use Rattle.std.proofs.Common.{◌≡◌, ℕ, suc, ◌+◌, ◌-◌, ◌*◌, ◌<◌, ◌≤◌, Bool, true, false, Some, None, inl, inr, ℤ, pos, neg_ℤ, nat_abs, ◌+ℤ◌, ◌-ℤ◌, ◌<ℤ◌, refl}
 use Rattle.std.proofs.Common.{sym, ap, ◌∙◌, arith}
 use Rattle.std.proofs.lemmas.Int.{ints}
@@ -22,11 +22,11 @@ use Rattle.rr_model.proofs.DaysAndTimesLemmas.{time_parts_hold-at, and_true, can
 use Rattle.rr_model.proofs.DaysAndTimesLemmas.{day_at, second_at, unit_of_day, second_part-below, moment_is}
 use Rattle.rr_model.proofs.MomentLemmas.{second_part-moment_at, day_part-moment_at}
 use Rattle.rr_setpos.specs.Ranks.{times_before, days_among, first_of_unit, next_of_unit, rank_in_unit, size_of_unit, begin_in_day}
-use Rattle.rr_setpos.specs.Nth.{IsPlaceOf, IsRankOf, IsNthOfUnit}
+use Rattle.rr_setpos.specs.Nth.{IsPositionOf, IsRankOf, IsNthOfUnit}
 use Rattle.rr_setpos.proofs.PositionLemmas.{positions_are_ranks, within_unit, coarse_rank}
 use Rattle.rr_setpos.proofs.PositionLemmas.{coarse_size, candidate_parts, of_moments, fine_begin, fine_next, begin_bounds}
 
--- ---- places and positions
+-- ---- ranks and positions
 
 some_from : (p : ℤ → Bool) (t end : ℤ) → t <ℤ end → p t ≡ true → 1 ≤ count_from p t (nat_abs (end -ℤ t))
 some_from p t end low passes =
@@ -44,15 +44,15 @@ module _ (rule : Rule) (kind : Kind) (start : ℤ) where
         (unit_end rule kind t) (within_unit rule kind t).1 passes,
   )
 
-  module _ (unit place : ℤ) where
+  module _ (unit position : ℤ) where
     pub nth_some : (t : ℤ) (rank size : ℕ) → unit_number rule.freq rule.week_start kind t ≡ unit → is_candidate rule kind start t ≡ true
-        → rank_in_unit rule kind start t ≡ rank → size_of_unit rule kind start t ≡ size → IsPlaceOf place size rank
-        → IsNthOfUnit rule kind start unit place (Some t)
-    nth_some t rank size in_it passes same_rank same_size is_place =
+        → rank_in_unit rule kind start t ≡ rank → size_of_unit rule kind start t ≡ size → IsPositionOf position size rank
+        → IsNthOfUnit rule kind start unit position (Some t)
+    nth_some t rank size in_it passes same_rank same_size is_position =
         let p = positions_are_ranks rule kind start t passes in (
           in_it,
           passes,
-          elim is_place [
+          elim is_position [
             | inl e ↦ inl (e ∙ ap pos (ap (λ n. n + 1) (sym same_rank) ∙ sym p.0))
             | inr e ↦ inr (e ∙ ap (λ n. neg_ℤ (pos n)) (omega (arith, same_rank, same_size, p.1)))
           ],
@@ -60,7 +60,7 @@ module _ (rule : Rule) (kind : Kind) (start : ℤ) where
 
     pub nth_none : (size : ℕ) → ((t : ℤ) → unit_number rule.freq rule.week_start kind t ≡ unit → is_candidate rule kind start t ≡ true
         → size_of_unit rule kind start t ≡ size)
-        → IsRankOf place size None → IsNthOfUnit rule kind start unit place None
+        → IsRankOf position size None → IsNthOfUnit rule kind start unit position None
     nth_none size sizes none = λ t in_it passes has.
         let p = positions_are_ranks rule kind start t passes in
         let e = sizes t in_it passes in
@@ -70,7 +70,7 @@ module _ (rule : Rule) (kind : Kind) (start : ℤ) where
         ])
 
     -- a unit that does not fit the interval has no candidate
-    pub none_unfit : divides rule.interval (unit -ℤ unit_number rule.freq rule.week_start kind start) ≡ false → IsNthOfUnit rule kind start unit place None
+    pub none_unfit : divides rule.interval (unit -ℤ unit_number rule.freq rule.week_start kind start) ≡ false → IsNthOfUnit rule kind start unit position None
     none_unfit unfit = λ t in_it passes has.
         false≢true (sym unfit ∙ ap (λ u. divides rule.interval (u -ℤ unit_number rule.freq rule.week_start kind start)) (sym in_it)
         ∙ (candidate_parts rule kind start t passes).0)
@@ -134,10 +134,10 @@ module _ (rule : Rule) (start unit : ℤ) (fine : is_whole_days rule.freq ≡ fa
   begin = unit_start rule.freq rule.week_start Moments unit
 
   -- a moment of the unit lies on the unit's day, and the unit begins there
-  pub unit_place : (t : ℤ) → unit_number rule.freq rule.week_start Moments t ≡ unit
+  pub begin_on_day : (t : ℤ) → unit_number rule.freq rule.week_start Moments t ≡ unit
       → (day_part Moments (unit_start rule.freq rule.week_start Moments unit) ≡ day_part Moments t)
       × (second_part Moments (unit_start rule.freq rule.week_start Moments unit) ≡ begin_in_day rule (second_part Moments t))
-  unit_place t in_it =
+  begin_on_day t in_it =
       let d = day_part Moments t in
       let s = second_part Moments t in
       let bounds = begin_bounds rule.freq s (second_part-below Moments t) in
@@ -156,18 +156,18 @@ module _ (rule : Rule) (start unit : ℤ) (fine : is_whole_days rule.freq ≡ fa
 
   -- the unit ends on its day
   pub unit_within : second_part Moments (unit_start rule.freq rule.week_start Moments unit) + unit_seconds rule.freq ≤ 86_400
-  unit_within = omega (arith, (unit_place begin begin_in_unit).1, (begin_bounds rule.freq (second_part Moments begin) (second_part-below Moments begin)).2)
+  unit_within = omega (arith, (begin_on_day begin begin_in_unit).1, (begin_bounds rule.freq (second_part Moments begin) (second_part-below Moments begin)).2)
 
-  pub none_on_day : (place : ℤ) → date_parts_hold (filled rule Days (day_part Moments start))
-      (day_part Moments (unit_start rule.freq rule.week_start Moments unit)) ≡ false → IsNthOfUnit rule Moments start unit place None
-  none_on_day place fails = λ t in_it passes has.
-      false≢true (sym fails ∙ ap (date_parts_hold (filled rule Moments start)) (unit_place t in_it).0 ∙ (candidate_parts rule Moments start t passes).1)
+  pub none_on_day : (position : ℤ) → date_parts_hold (filled rule Days (day_part Moments start))
+      (day_part Moments (unit_start rule.freq rule.week_start Moments unit)) ≡ false → IsNthOfUnit rule Moments start unit position None
+  none_on_day position fails = λ t in_it passes has.
+      false≢true (sym fails ∙ ap (date_parts_hold (filled rule Moments start)) (begin_on_day t in_it).0 ∙ (candidate_parts rule Moments start t passes).1)
 
   pub size_in_day : (t : ℤ) → unit_number rule.freq rule.week_start Moments t ≡ unit → is_candidate rule Moments start t ≡ true
       → size_of_unit rule Moments start t ≡ times_before rule Moments start
       (second_part Moments (unit_start rule.freq rule.week_start Moments unit) + unit_seconds rule.freq) - times_before rule Moments start
       (second_part Moments (unit_start rule.freq rule.week_start Moments unit))
-  size_in_day t in_it passes = (of_moments rule start t fine passes).1 ∙ rw (unit_place t in_it).1 refl
+  size_in_day t in_it passes = (of_moments rule start t fine passes).1 ∙ rw (begin_on_day t in_it).1 refl
 
   before_all : (m n : ℕ) → m ≤ n → times_before rule Moments start m ≤ times_before rule Moments start n
   before_all m n l =
@@ -230,8 +230,8 @@ module _ (rule : Rule) (start unit : ℤ) (fine : is_whole_days rule.freq ≡ fa
     pub rank_in_fine : rank_in_unit rule Moments start (moment_at Moments (day_part Moments (unit_start rule.freq rule.week_start Moments unit)) s) ≡ rank
     rank_in_fine =
         let t = moment_at Moments (day_part Moments begin) s in
-        let place = (unit_place t in_fine_unit).1 in
-        (of_moments rule start t fine candidate_in_fine).0 ∙ rw (sym place, second_part-moment_at (day_part Moments begin) s low) (omega (arith, at_rank))
+        let begun = (begin_on_day t in_fine_unit).1 in
+        (of_moments rule start t fine candidate_in_fine).0 ∙ rw (sym begun, second_part-moment_at (day_part Moments begin) s low) (omega (arith, at_rank))
 
 some_seconds : (kind : Kind) → 0 < seconds_of kind
 some_seconds Days = omega arith

@@ -83,10 +83,10 @@ at_second Days d s low = omega (arith, ints, low)
 at_second Moments d s low = refl
 
 -- how far a moment lies from the midnight of a day
-place_in_days : (kind : Kind) (t first : ℤ) → first ≤ℤ day_part kind t
+offset_in_days : (kind : Kind) (t first : ℤ) → first ≤ℤ day_part kind t
     → nat_abs (t -ℤ (first *ℤ pos (seconds_of kind))) ≡ nat_abs (day_part kind t -ℤ first) * seconds_of kind + second_part kind t
-place_in_days Days t first low = omega (arith, ints, low)
-place_in_days Moments t first low = omega (arith, ints, low, floor_whole t 86_400 (omega arith))
+offset_in_days Days t first low = omega (arith, ints, low)
+offset_in_days Moments t first low = omega (arith, ints, low, floor_whole t 86_400 (omega arith))
 
 days_between : (kind : Kind) (first next : ℤ) → first ≤ℤ next → nat_abs ((next *ℤ pos (seconds_of kind)) -ℤ (first *ℤ pos (seconds_of kind)))
     ≡ nat_abs (next -ℤ first) * seconds_of kind + 0
@@ -162,20 +162,20 @@ module _ (rule : Rule) (kind : Kind) (start : ℤ) (coarse : is_whole_days rule.
         let n : ℕ = nat_abs (own -ℤ first) in
         let at : first +ℤ pos n ≡ own = omega (arith, ints, in_days.0) in
         let low = second_part-below kind t in
-        let place : nat_abs (t -ℤ unit_begin rule kind t) ≡ n * seconds_of kind + second_part kind t = ap (λ z. nat_abs (t -ℤ z)) begin_is
-        ∙ place_in_days kind t first in_days.0 in
+        let offset : nat_abs (t -ℤ unit_begin rule kind t) ≡ n * seconds_of kind + second_part kind t = ap (λ z. nat_abs (t -ℤ z)) begin_is
+        ∙ offset_in_days kind t first in_days.0 in
         ap (λ z. count_from (is_candidate rule kind start) z (nat_abs (t -ℤ unit_begin rule kind t))) begin_is
-        ∙ ap (count_from (is_candidate rule kind start) (first *ℤ pos (seconds_of kind))) place
+        ∙ ap (count_from (is_candidate rule kind start) (first *ℤ pos (seconds_of kind))) offset
         ∙ counted n (second_part kind t) (omega (arith, ints, in_days.0, in_days.1)) (omega (arith, low))
         ∙ rw (at, own_day) refl
 
     pub coarse_size : size_of_unit rule kind start t ≡ days_of_unit rule (day_part kind start) own * times_before rule kind start (seconds_of kind)
     coarse_size =
         let n : ℕ = nat_abs (next -ℤ first) in
-        let place : nat_abs (unit_end rule kind t -ℤ unit_begin rule kind t) ≡ n * seconds_of kind + 0 =
+        let offset : nat_abs (unit_end rule kind t -ℤ unit_begin rule kind t) ≡ n * seconds_of kind + 0 =
         rw (begin_is, end_is) (days_between kind first next (omega (arith, ints, in_days.0, in_days.1))) in
         ap (λ z. count_from (is_candidate rule kind start) z (nat_abs (unit_end rule kind t -ℤ unit_begin rule kind t))) begin_is
-        ∙ ap (count_from (is_candidate rule kind start) (first *ℤ pos (seconds_of kind))) place
+        ∙ ap (count_from (is_candidate rule kind start) (first *ℤ pos (seconds_of kind))) offset
         ∙ counted n 0 (omega arith) (omega arith)
         ∙ omega (arith, some_zero (day (first +ℤ pos n)) (times_before rule kind start 0) (count_seconds-zero time))
 
@@ -273,18 +273,18 @@ module _ (rule : Rule) (start d : ℤ) (s : ℕ) (fine : is_whole_days rule.freq
   fine_rank =
       let bounds = begin_bounds rule.freq s low in
       let n : ℕ = s - begin_in_day rule s in
-      let place : nat_abs (moment_at Moments d s -ℤ unit_begin rule Moments (moment_at Moments d s)) ≡ n = omega (arith, ints, at_begin, bounds.0) in
+      let offset : nat_abs (moment_at Moments d s -ℤ unit_begin rule Moments (moment_at Moments d s)) ≡ n = omega (arith, ints, at_begin, bounds.0) in
       let back : begin_in_day rule s + n ≡ s = omega (arith, bounds.0) in
-      ap (count_from (is_candidate rule Moments start) (unit_begin rule Moments (moment_at Moments d s))) place
+      ap (count_from (is_candidate rule Moments start) (unit_begin rule Moments (moment_at Moments d s))) offset
       ∙ first_of_it n (omega (arith, bounds.1)) ∙ ap (λ z. times_before rule Moments start z - times_before rule Moments start (begin_in_day rule s)) back
 
   pub fine_size : size_of_unit rule Moments start (moment_at Moments d s)
       ≡ times_before rule Moments start (begin_in_day rule s + unit_seconds rule.freq) - times_before rule Moments start (begin_in_day rule s)
   fine_size =
       let n : ℕ = unit_seconds rule.freq in
-      let place : nat_abs (unit_end rule Moments (moment_at Moments d s) -ℤ unit_begin rule Moments (moment_at Moments d s)) ≡ n =
+      let offset : nat_abs (unit_end rule Moments (moment_at Moments d s) -ℤ unit_begin rule Moments (moment_at Moments d s)) ≡ n =
       omega (arith, ints, at_begin, at_end) in
-      ap (count_from (is_candidate rule Moments start) (unit_begin rule Moments (moment_at Moments d s))) place ∙ first_of_it n (omega arith)
+      ap (count_from (is_candidate rule Moments start) (unit_begin rule Moments (moment_at Moments d s))) offset ∙ first_of_it n (omega arith)
 
 -- ---- all frequencies
 

@@ -1,4 +1,4 @@
--- The place of a moment among the candidates of its unit, counted over days and times (RFC 5545, section 3.3.10, BYSETPOS).
+-- The rank of a moment among the candidates of its unit, counted over days and times (RFC 5545, section 3.3.10, BYSETPOS).
 use Rattle.std.specs.Prelude.{◌≡◌, ℕ, ◌+◌, ◌-◌, ◌*◌, ◌/◌, ◌%◌, Bool, true, ◌&&◌, ◌||◌, IsTrue, if◌then◌else◌, ℤ, pos, neg_ℤ, nat_abs, ◌+ℤ◌, ◌-ℤ◌}
 use Rattle.rr_model.specs.Whole.Count.{count_from}
 use Rattle.rr_model.specs.Moment.{day_part, second_part}
@@ -72,7 +72,7 @@ size_by_parts rule kind start t =
     else times_before rule kind start (begin_in_day rule (second_part kind t) + unit_seconds rule.freq) - times_before rule kind start
     (begin_in_day rule (second_part kind t))
 
--- the second place of n, the rank among them, is listed from the front or from the back
+-- of n candidates the position of this rank is listed from the front or from the back
 abbrev pub is_rank_listed : Rule → ℕ → ℕ → Bool
 is_rank_listed rule rank size = is_absent rule.by_set_pos || lists rule.by_set_pos (pos (rank + 1)) || lists rule.by_set_pos (neg_ℤ (pos (size - rank)))
 

@@ -1,4 +1,4 @@
-// The candidate at a place of its unit (RFC 5545, section 3.3.10, BYSETPOS).
+// The candidate at a position of its unit (RFC 5545, section 3.3.10, BYSETPOS).
 ghost use Rattle.std.specs.Prelude.{◌≡◌, ◌≤◌, ◌+ℤ◌, IsTrue, false, pos};
 ghost use Rattle.rr_model.specs.Calendar.{IsDayWithin};
 ghost use Rattle.rr_model.specs.Moment.{day_part};
@@ -17,8 +17,8 @@ use rr_model::{Freq, Kind, Rule, moment_at, second_part};
 use rr_num::is_congruent;
 use rr_parts::{Moment, date_parts_hold, fits, seconds_of_unit, unit_number};
 
-/// The candidate of a unit at a place, from 1 from the front, or negative from the back; none exactly where there is none
-/// (RFC 5545, section 3.3.10, BYSETPOS).
+/// The candidate of a unit at the position `place`, from 1 from the front, or negative from the back; none exactly where there
+/// is none (RFC 5545, section 3.3.10, BYSETPOS).
 ///
 /// Units are numbered as those of the rule's frequency, the start and the candidate as in `chosen`. The candidate may
 /// lie before the start. It takes no memory, and visits the days of the unit and the numbers of the lists, but no seconds.
@@ -39,13 +39,13 @@ pub fn nth_of_unit(rule: &Rule, kind: Kind, start: i64, unit: i64, place: i64) -
 }
 
 // The same where units are whole days.
-fn nth_of_days(rule: &Rule, start: &Moment, unit: i64, place: i64) -> Option<i64>
+fn nth_of_days(rule: &Rule, start: &Moment, unit: i64, position: i64) -> Option<i64>
     requires freq { IsTrue (is_whole_days rule.now.freq) }
     requires interval { 1 ≤ rule.now.interval }
     requires first { IsDayWithin 1000 (start_of_unit rule.now Days unit) }
     requires next { IsDayWithin 1000 (start_of_unit rule.now Days (unit +ℤ pos 1)) }
-    requires place { place ≡ pos 0 → ⊥ }
-    ensures { IsNthOfUnit rule.now start.now.kind start.now.at unit place result }
+    requires position { position ≡ pos 0 → ⊥ }
+    ensures { IsNthOfUnit rule.now start.now.kind start.now.at unit position result }
 {
     if !fits(rule, &start.day, unit) {
         return None;
@@ -54,7 +54,7 @@ fn nth_of_days(rule: &Rule, start: &Moment, unit: i64, place: i64) -> Option<i64
     let count = days_in_unit(rule.freq, unit);
     let days = days_among(rule, &start.day, first, count);
     let times = times_before(rule, start, seconds_of(start.kind));
-    match rank_of(place, days * times) {
+    match rank_of(position, days * times) {
         None => None,
         Some(rank) => {
             let day = first + i64::from(nth_day(rule, &start.day, first, count, rank / times));
@@ -64,13 +64,13 @@ fn nth_of_days(rule: &Rule, start: &Moment, unit: i64, place: i64) -> Option<i64
 }
 
 // The same where units are shorter than a day.
-fn nth_of_seconds(rule: &Rule, start: &Moment, unit: i64, place: i64) -> Option<i64>
+fn nth_of_seconds(rule: &Rule, start: &Moment, unit: i64, position: i64) -> Option<i64>
     requires kind { start.now.kind ≡ Moments }
     requires freq { is_whole_days rule.now.freq ≡ false }
     requires interval { 1 ≤ rule.now.interval }
     requires near { IsDayWithin 1000 (day_part Moments (start_of_unit rule.now Moments unit)) }
-    requires place { place ≡ pos 0 → ⊥ }
-    ensures { IsNthOfUnit rule.now Moments start.now.at unit place result }
+    requires position { position ≡ pos 0 → ⊥ }
+    ensures { IsNthOfUnit rule.now Moments start.now.at unit position result }
 {
     let begin = Moment::new(Kind::Moments, begin_of_unit(rule.freq, unit));
     if !is_congruent(unit_number(rule, start), unit, rule.interval)
@@ -81,7 +81,7 @@ fn nth_of_seconds(rule: &Rule, start: &Moment, unit: i64, place: i64) -> Option<
     let second = second_part(Kind::Moments, begin.at);
     let before = times_before(rule, start, second);
     let end = times_before(rule, start, second + seconds_of_unit(rule.freq));
-    match rank_of(place, end.saturating_sub(before)) {
+    match rank_of(position, end.saturating_sub(before)) {
         None => None,
         Some(rank) => Some(moment_at(
             Kind::Moments,
@@ -91,18 +91,18 @@ fn nth_of_seconds(rule: &Rule, start: &Moment, unit: i64, place: i64) -> Option<
     }
 }
 
-/// The rank, from 0, of a place among `size`: a place from 1 from the front, or negative from the back; none exactly
+/// The rank, from 0, of a position among `size`: from 1 from the front, or negative from the back; none exactly
 /// where there is none (RFC 5545, section 3.3.10, BYSETPOS).
-pub fn rank_of(place: i64, size: u32) -> Option<u32>
-    requires { place ≡ pos 0 → ⊥ }
-    ensures { IsRankOf place size result }
+pub fn rank_of(position: i64, size: u32) -> Option<u32>
+    requires { position ≡ pos 0 → ⊥ }
+    ensures { IsRankOf position size result }
 {
     let size = i64::from(size);
-    if 1 <= place && place <= size {
-        return Some((place - 1) as u32);
+    if 1 <= position && position <= size {
+        return Some((position - 1) as u32);
     }
-    if place < 0 && -size <= place {
-        return Some((size + place) as u32);
+    if position < 0 && -size <= position {
+        return Some((size + position) as u32);
     }
     None
 }

@@ -1,4 +1,4 @@
-// The place of a candidate among those of its unit, and what BYSETPOS lists (RFC 5545, section 3.3.10, BYSETPOS).
+// The rank of a candidate among those of its unit, and what BYSETPOS lists (RFC 5545, section 3.3.10, BYSETPOS).
 ghost use Rattle.std.specs.Prelude.{◌≡◌, IsTrue, false};
 ghost use Rattle.rr_model.specs.Calendar.{IsDayWithin};
 ghost use Rattle.rr_model.specs.Moment.Units.{is_whole_days, unit_seconds};
@@ -18,7 +18,7 @@ pub(crate) struct Standing {
     pub(crate) size: u32,
 }
 
-// Whether BYSETPOS is absent, or lists a candidate's place in its unit, from the front or from the back.
+// Whether BYSETPOS is absent, or lists a candidate's position in its unit, from the front or from the back.
 pub(crate) fn set_positions_hold(rule: &Rule, start: &Moment, moment: &Moment) -> bool
     requires kind { start.now.kind ≡ moment.now.kind }
     requires start { IsTrue (takes_start rule.now.freq moment.now.kind) }
@@ -28,15 +28,15 @@ pub(crate) fn set_positions_hold(rule: &Rule, start: &Moment, moment: &Moment) -
     if rule.by_set_pos.is_empty() {
         return true;
     }
-    let place = rank_in_unit(rule, start, moment);
-    lists_number(&rule.by_set_pos, i64::from(place.rank) + 1)
+    let standing = rank_in_unit(rule, start, moment);
+    lists_number(&rule.by_set_pos, i64::from(standing.rank) + 1)
         || lists_number(
             &rule.by_set_pos,
-            -i64::from(place.size.saturating_sub(place.rank)),
+            -i64::from(standing.size.saturating_sub(standing.rank)),
         )
 }
 
-// The place of a moment whose unit fits the interval.
+// The standing of a moment whose unit fits the interval.
 fn rank_in_unit(rule: &Rule, start: &Moment, moment: &Moment) -> Standing
     requires kind { start.now.kind ≡ moment.now.kind }
     requires start { IsTrue (takes_start rule.now.freq moment.now.kind) }
@@ -56,7 +56,7 @@ fn rank_in_unit(rule: &Rule, start: &Moment, moment: &Moment) -> Standing
     }
 }
 
-// The place in a unit of whole days: the days before, each with all times, and the times before on its own day.
+// The standing in a unit of whole days: the days before, each with all times, and the times before on its own day.
 fn rank_by_days(rule: &Rule, start: &Moment, moment: &Moment) -> Standing
     requires kind { start.now.kind ≡ moment.now.kind }
     requires freq { IsTrue (is_whole_days rule.now.freq) }
@@ -74,7 +74,7 @@ fn rank_by_days(rule: &Rule, start: &Moment, moment: &Moment) -> Standing
     }
 }
 
-// The place in a unit of seconds, which lies in one day.
+// The standing in a unit of seconds, which lies in one day.
 fn rank_in_day(rule: &Rule, start: &Moment, moment: &Moment, seconds: u32) -> Standing
     requires kind { start.now.kind ≡ moment.now.kind }
     requires moments { moment.now.kind ≡ Moments }

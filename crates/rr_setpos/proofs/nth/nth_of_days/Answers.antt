@@ -21,7 +21,7 @@ returns-then-not-fits c =
     let rule = c.args.rule.now in
     let start = c.args.start.now in
     let own = ap (unit_number rule.freq rule.week_start Days) start.of_day ∙ sym (unit_of_day rule.freq rule.week_start start.kind start.at c.requires.freq) in
-    none_unfit rule start.kind start.at c.args.unit c.args.place
+    none_unfit rule start.kind start.at c.args.unit c.args.position
     (ap (λ u. divides rule.interval (c.args.unit -ℤ u)) (sym own) ∙ rw (to_z-of_z c.ranges.unit) at (sym c.fits.ensures ∙ c.if-not-fits.true))
 
 pub moment_at-requires : goal.moment_at-requires
@@ -47,9 +47,9 @@ returns-in-None c =
     sym (rw c.seconds_of.ensures at c.times_before-times.ensures.value) in
     let many : days_among rule (day_part start.kind start.at) (unit_start rule.freq rule.week_start Days c.args.unit) c.days_in_unit-count.result
     ≡ c.days_among-days.result = sym (rw (begins, start.of_day) at c.days_among-days.ensures.value) in
-    nth_none rule start.kind start.at c.args.unit c.args.place (c.days_among-days.result * c.times_before-times.result)
+    nth_none rule start.kind start.at c.args.unit c.args.position (c.days_among-days.result * c.times_before-times.result)
     (λ t in_it passes. size_by_days rule start.kind start.at c.args.unit c.requires.freq c.days_in_unit-count.result ends t in_it passes ∙ rw (each, many) refl)
-    (rw (c.in-None.is, to_z-of_z c.ranges.place) at c.rank_of.ensures)
+    (rw (c.in-None.is, to_z-of_z c.ranges.position) at c.rank_of.ensures)
 
 pub returns-in-Some : goal.returns-in-Some
 returns-in-Some c =
@@ -72,7 +72,7 @@ returns-in-Some c =
     ≡ c.in-Some.rank / c.times_before-times.result = rw (begins, start.of_day) at c.nth_day.ensures.rank in
     let own = ap (unit_number rule.freq rule.week_start Days) start.of_day ∙ sym (unit_of_day rule.freq rule.week_start start.kind start.at c.requires.freq) in
     let fit = ap (λ u. divides rule.interval (c.args.unit -ℤ u)) (sym own) ∙ rw unit at (sym c.fits.ensures ∙ c.if-not-fits.false) in
-    let ranked = rw (c.in-Some.is, to_z-of_z c.ranges.place) at c.rank_of.ensures in
+    let ranked = rw (c.in-Some.is, to_z-of_z c.ranges.position) at c.rank_of.ensures in
     let day : to_z w64 (of_z w64 (to_z w64 (of_z w64 c.first_day_of_unit-first.result) +ℤ to_z w64 (of_z w64 c.from.result)))
     ≡ unit_start rule.freq rule.week_start Days c.args.unit +ℤ pos k =
     omega (arith, ints, begins, ends, c.requires.first, c.requires.next, c.from.ensures, c.nth_day.ensures.within) in
@@ -85,8 +85,8 @@ returns-in-Some c =
     let in_it = in_unit_there rule start.kind start.at c.args.unit c.requires.freq count ends k s near low fit holds held in
     let passes = candidate_there rule start.kind start.at c.args.unit c.requires.freq count ends k s near low fit holds held in
     let ranked_there = rank_there rule start.kind start.at c.args.unit c.requires.freq count ends k s near low fit holds held in
-    subst (λ z. IsNthOfUnit rule start.kind start.at c.args.unit c.args.place (Some z)) (sym at)
-    (nth_some rule start.kind start.at c.args.unit c.args.place
+    subst (λ z. IsNthOfUnit rule start.kind start.at c.args.unit c.args.position (Some z)) (sym at)
+    (nth_some rule start.kind start.at c.args.unit c.args.position
     (moment_at start.kind (unit_start rule.freq rule.week_start Days c.args.unit +ℤ pos k) s) c.in-Some.rank
     (c.days_among-days.result * c.times_before-times.result) in_it passes
     (ranked_there ∙ rw (before, each, c.nth_time.ensures.rank) (div-add-mod' c.in-Some.rank c.times_before-times.result))
@@ -116,7 +116,7 @@ overflow_mul-days c =
     c.times_before-times.ensures.few c.seconds_of.ensures
 
 pub rank_of-requires : goal.rank_of-requires
-rank_of-requires c = rw (to_z-of_z c.ranges.place) c.requires.place
+rank_of-requires c = rw (to_z-of_z c.ranges.position) c.requires.position
 
 pub nonzero_div-rank : goal.nonzero_div-rank
 nonzero_div-rank c = some_times c.in-Some.rank c.days_among-days.result _ (rw c.in-Some.is at c.rank_of.ensures).0

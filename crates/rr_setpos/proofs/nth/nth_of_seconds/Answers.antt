@@ -55,10 +55,10 @@ returns-then-not-is_congruent c =
     let b = begun (goal.at.returns-then-not-is_congruent c).After-unit_number in
     elim c.then-not-is_congruent.branch [
       | then-not-is_congruent-via-then-not-is_congruent w ↦
-          none_unfit rule Moments start.at c.args.unit c.args.place
+          none_unfit rule Moments start.at c.args.unit c.args.position
           (rw (to_z-of_z c.ranges.unit, b.start_unit) at (sym c.is_congruent.ensures ∙ w.if-not-is_congruent.true))
       | then-not-is_congruent-via-else-not-is_congruent+then-not-date_parts_hold w ↦
-          none_on_day rule start.at c.args.unit c.requires.freq c.args.place
+          none_on_day rule start.at c.args.unit c.requires.freq c.args.position
           (rw (b.start_day, b.day) at (sym w.date_parts_hold.ensures ∙ w.if-not-date_parts_hold.true))
     ]
 
@@ -82,8 +82,8 @@ returns-in-None c =
     let second = second_is (goal.at.returns-in-None c).After-seconds_of_unit in
     let before = rw (c.requires.kind, second) at c.times_before-before.ensures.value in
     let end = rw (c.requires.kind, second, c.seconds_of_unit.ensures.value) at c.times_before-end.ensures.value in
-    nth_none rule Moments start.at c.args.unit c.args.place _ (λ t in_it passes. size_in_day rule start.at c.args.unit c.requires.freq t in_it passes)
-    (rw (c.in-None.is, c.saturating_sub.ensures, end, before, to_z-of_z c.ranges.place) at c.rank_of.ensures)
+    nth_none rule Moments start.at c.args.unit c.args.position _ (λ t in_it passes. size_in_day rule start.at c.args.unit c.requires.freq t in_it passes)
+    (rw (c.in-None.is, c.saturating_sub.ensures, end, before, to_z-of_z c.ranges.position) at c.rank_of.ensures)
 
 pub returns-in-Some : goal.returns-in-Some
 returns-in-Some c =
@@ -93,7 +93,7 @@ returns-in-Some c =
     let second = second_is (goal.at.returns-in-Some c).After-seconds_of_unit in
     let before = rw (c.requires.kind, second) at c.times_before-before.ensures.value in
     let end = rw (c.requires.kind, second, c.seconds_of_unit.ensures.value) at c.times_before-end.ensures.value in
-    let ranked = rw (c.in-Some.is, c.saturating_sub.ensures, end, before, to_z-of_z c.ranges.place) at c.rank_of.ensures in
+    let ranked = rw (c.in-Some.is, c.saturating_sub.ensures, end, before, to_z-of_z c.ranges.position) at c.rank_of.ensures in
     let s = c.nth_time.result in
     let low = rw c.requires.kind at c.nth_time.ensures.within in
     let holds = rw c.requires.kind at c.nth_time.ensures.holds in
@@ -106,8 +106,8 @@ returns-in-Some c =
     to_z-of_z there ∙ c.moment_at.ensures.value ∙ ap (λ d. moment_at Moments d s) (to_z-of_z fits_day ∙ b.day) in
     let in_it = in_fine_unit rule start.at c.args.unit c.requires.freq s c.in-Some.rank low fit dates holds ranked.0 rank in
     let passes = candidate_in_fine rule start.at c.args.unit c.requires.freq s c.in-Some.rank low fit dates holds ranked.0 rank in
-    subst (λ z. IsNthOfUnit rule Moments start.at c.args.unit c.args.place (Some z)) (sym at)
-    (nth_some rule Moments start.at c.args.unit c.args.place _ c.in-Some.rank _ in_it passes
+    subst (λ z. IsNthOfUnit rule Moments start.at c.args.unit c.args.position (Some z)) (sym at)
+    (nth_some rule Moments start.at c.args.unit c.args.position _ c.in-Some.rank _ in_it passes
     (rank_in_fine rule start.at c.args.unit c.requires.freq s c.in-Some.rank low fit dates holds ranked.0 rank)
     (size_in_day rule start.at c.args.unit c.requires.freq _ in_it passes)
     ranked.1)
