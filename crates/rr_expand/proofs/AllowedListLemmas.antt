@@ -71,6 +71,6 @@ module _ (f : Filling) (year : MaskedYear) (from end : ℤ) (begun : year.first 
     pub none_allowed : IsFirstBit year.mask.bits i j None → IsFirstAllowed f from end None
     none_allowed none = first_allowed None (none_marked year from end end i j at till (λ d h l. h) none)
 
-    pub one_allowed : (place : ℕ) (day : ℤ) → day ≡ year.first +ℤ pos place → IsFirstBit year.mask.bits i j (Some place) → IsFirstAllowed f from end (Some day)
-    one_allowed place day is found =
-        first_allowed (Some day) (one_marked year from end end i j at till place day (omega (arith, ints)) not_over is found)
+    pub one_allowed : (bit : ℕ) (day : ℤ) → day ≡ year.first +ℤ pos bit → IsFirstBit year.mask.bits i j (Some bit) → IsFirstAllowed f from end (Some day)
+    one_allowed bit day is found =
+        first_allowed (Some day) (one_marked year from end end i j at till bit day (omega (arith, ints)) not_over is found)

@@ -57,20 +57,20 @@ none_more [] none (suc k) = refl
 none_more (x ∷ xs) none zero = none 0
 none_more (x ∷ xs) none (suc k) = none_more xs (λ j. none (suc j)) k
 
--- n places and no mask
-pub record ArePlaces (count : ℕ) (kept : List (Option YearMask)) : Type 0 where
-  pub places : length kept ≡ count
+-- n keys and no mask
+pub record AreKeys (count : ℕ) (kept : List (Option YearMask)) : Type 0 where
+  pub keys : length kept ≡ count
   pub none : (k : ℕ) → get_or kept k None ≡ None
 
-pub no_places : (kept : List (Option YearMask)) → kept ≡ [] → ArePlaces 0 kept
-no_places kept e = rw e (record { places = refl; none = λ k. refl })
+pub no_keys : (kept : List (Option YearMask)) → kept ≡ [] → AreKeys 0 kept
+no_keys kept e = rw e (record { keys = refl; none = λ k. refl })
 
-pub places_more : (kept more : List (Option YearMask)) (count : ℕ) → more ≡ kept ++ None ∷ [] → ArePlaces count kept → ArePlaces (count + 1) more
-places_more kept more count e are = rw e (record { places = simp length-append (omega (arith, are.places)); none = none_more kept are.none })
+pub keys_more : (kept more : List (Option YearMask)) (count : ℕ) → more ≡ kept ++ None ∷ [] → AreKeys count kept → AreKeys (count + 1) more
+keys_more kept more count e are = rw e (record { keys = simp length-append (omega (arith, are.keys)); none = none_more kept are.none })
 
-pub no_masks : (f : Filling) (kept : List (Option YearMask)) → ArePlaces 56 kept → AreMasks f kept
+pub no_masks : (f : Filling) (kept : List (Option YearMask)) → AreKeys 56 kept → AreMasks f kept
 no_masks f kept are = record {
-  places = are.places;
+  keys = are.keys;
   masks = λ year mask e. (let none = are.none (mask_key f.rule year) in absurd (cc));
 }
 
@@ -83,11 +83,11 @@ same_key f year other words e is k low = is k low ∙ equal_keys_have_equal_mask
 pub masks_more : (f : Filling) (kept : List (Option YearMask)) (year : ℤ) (mask : YearMask) (key : ℕ) → key ≡ mask_key f.rule year
     → key < 56 → IsYearMask f year mask.bits → AreMasks f kept → AreMasks f (set kept key (Some mask))
 masks_more f kept year mask key at low is are = record {
-  places = length-set kept key (Some mask) ∙ are.places;
+  keys = length-set kept key (Some mask) ∙ are.keys;
   masks = λ other m e. elim (cases_eq (mask_key f.rule other) key) [
     | inl same ↦
         (let put : get_or (set kept key (Some mask)) (mask_key f.rule other) None ≡ Some mask =
-        rw same (get_or-set_same kept key (Some mask) None (omega (arith, low, are.places))) in
+        rw same (get_or-set_same kept key (Some mask) None (omega (arith, low, are.keys))) in
         let one : mask ≡ m = cc in
         subst (λ n. IsYearMask f other n.bits) one (same_key f year other mask.bits (sym at ∙ sym same) is))
     | inr apart ↦ are.masks other m (sym (get_or-set_other kept key (mask_key f.rule other) (Some mask) None apart) ∙ e)
@@ -130,7 +130,7 @@ year_known f y masks number begins ends near are is =
       };
       marked = λ d low high. (
           let k : ℕ = nat_abs (d -ℤ masks.year.first) in
-          let place : k < days_in_year y = omega (arith, ints, begins, ends, low, high) in
+          let inside : k < days_in_year y = omega (arith, ints, begins, ends, low, high) in
           let within : nat_lt k (days_in_year y) ≡ true = grind (arith, nat_tests) in
           let day : first_day_of_year y +ℤ pos k ≡ d = omega (arith, ints, begins, low) in
           is k (omega (arith, ints, begins, ends, low, high, long.1)) ∙ rw (within, day) refl);
@@ -143,10 +143,10 @@ module _ (year : MaskedYear) (from end last : ℤ) (i j : ℕ) (at : year.first 
   none_marked within none d low below before =
       none (nat_abs (d -ℤ year.first)) (omega (arith, ints, at, low)) (omega (arith, ints, at, low, till, within d below before))
 
-  pub one_marked : (place : ℕ) (day : ℤ) → last ≤ℤ end → last ≤ℤ year.next → day ≡ year.first +ℤ pos place → IsFirstBit year.mask.bits i j (Some place)
+  pub one_marked : (bit : ℕ) (day : ℤ) → last ≤ℤ end → last ≤ℤ year.next → day ≡ year.first +ℤ pos bit → IsFirstBit year.mask.bits i j (Some bit)
       → IsFirstMarked year from end (Some day)
-  one_marked place day early before is found =
-      let same : nat_abs (day -ℤ year.first) ≡ place = omega (arith, ints, is) in (
+  one_marked bit day early before is found =
+      let same : nat_abs (day -ℤ year.first) ≡ bit = omega (arith, ints, is) in (
         omega (arith, ints, at, is, found.0),
         omega (arith, ints, till, is, found.1, early),
         omega (arith, ints, till, is, found.1, before),

@@ -1,4 +1,4 @@
--- Years of equal keys are alike, and alike years have, place by place, the same dates but for the year, on the same weekdays.
+-- Years of equal keys are alike, and alike years have, day by day, the same dates but for the year, on the same weekdays.
 use Rattle.std.proofs.Common.{◌≡◌, ℕ, zero, suc, ◌+◌, ◌-◌, ◌<◌, ◌≤◌, ◌||◌, Bool, true, false, cond, ℤ, pos, neg_ℤ, ◌+ℤ◌, ◌-ℤ◌, ◌*ℤ◌, refl, sym, ap, ◌∙◌, arith}
 use Rattle.std.specs.List.{list_any}
 use Rattle.std.specs.Ordering.{int_eq}
@@ -111,50 +111,50 @@ module _ (y z : ℤ) (leap : is_leap y ≡ is_leap z) where
   months_over-alike p zero = refl
   months_over-alike p (suc n) = rw (months_over-alike p n, days_of_months-alike (suc n)) refl
 
--- ---- days at one place of alike years
+-- ---- days with one number in alike years
 
 -- days with as many days before them in alike years
-pub record AreAtOnePlace (d e : ℤ) : Type 0 where
+pub record HaveOneDayOfYear (d e : ℤ) : Type 0 where
   pub alike : AreAlike (year_of d) (year_of e)
-  pub place : days_into_year d ≡ days_into_year e
+  pub days : days_into_year d ≡ days_into_year e
 
 -- the day with k days of the year before it
 module _ (y : ℤ) (k : ℕ) (low : k < days_in_year y) where
-  year_of-place : year_of (first_day_of_year y +ℤ pos k) ≡ y
-  year_of-place = year_of_is (first_day_of_year y +ℤ pos k) y (record {
+  year_of-bit : year_of (first_day_of_year y +ℤ pos k) ≡ y
+  year_of-bit = year_of_is (first_day_of_year y +ℤ pos k) y (record {
     begun = omega (arith, ints);
     not_over = omega (arith, ints, first_day_of_year-next y, low);
   })
 
-  days_into_year-place : days_into_year (first_day_of_year y +ℤ pos k) ≡ k
-  days_into_year-place =
-      let there = rw year_of-place at (days_into_year_is (first_day_of_year y +ℤ pos k)) in
+  days_into_year-bit : days_into_year (first_day_of_year y +ℤ pos k) ≡ k
+  days_into_year-bit =
+      let there = rw year_of-bit at (days_into_year_is (first_day_of_year y +ℤ pos k)) in
       omega (arith, ints, there)
 
-pub at_one_place : (y z : ℤ) (k : ℕ) → AreAlike y z → k < days_in_year y → AreAtOnePlace (first_day_of_year y +ℤ pos k) (first_day_of_year z +ℤ pos k)
-at_one_place y z k alike low =
+pub on_one_day_of_year : (y z : ℤ) (k : ℕ) → AreAlike y z → k < days_in_year y → HaveOneDayOfYear (first_day_of_year y +ℤ pos k) (first_day_of_year z +ℤ pos k)
+on_one_day_of_year y z k alike low =
     let high : k < days_in_year z = rw (days_in_year-alike y z alike.leap) at low in
     record {
-      alike = rw (year_of-place y k low, year_of-place z k high) alike;
-      place = days_into_year-place y k low ∙ sym (days_into_year-place z k high);
+      alike = rw (year_of-bit y k low, year_of-bit z k high) alike;
+      days = days_into_year-bit y k low ∙ sym (days_into_year-bit z k high);
     }
 
-module _ (d e : ℤ) (same : AreAtOnePlace d e) where
+module _ (d e : ℤ) (same : HaveOneDayOfYear d e) where
   year-same : days_in_year (year_of d) ≡ days_in_year (year_of e)
   year-same = days_in_year-alike (year_of d) (year_of e) same.alike.leap
 
   day_of_year-same : day_of_year d ≡ day_of_year e
   unfolding day_of_year
-  day_of_year-same = ap (λ k. k + 1) same.place
+  day_of_year-same = ap (λ k. k + 1) same.days
 
   month_of-same : month_of d ≡ month_of e
   unfolding month_of
-  month_of-same = rw (months_over-alike (year_of d) (year_of e) same.alike.leap (days_into_year d) 11, same.place) refl
+  month_of-same = rw (months_over-alike (year_of d) (year_of e) same.alike.leap (days_into_year d) 11, same.days) refl
 
   day_of_month-same : day_of_month d ≡ day_of_month e
   unfolding day_of_month
   day_of_month-same =
-      rw (days_of_months-alike (year_of d) (year_of e) same.alike.leap (month_of d - 1), same.place, month_of-same) refl
+      rw (days_of_months-alike (year_of d) (year_of e) same.alike.leap (month_of d - 1), same.days, month_of-same) refl
 
   month-same : days_in_month (year_of d) (month_of d) ≡ days_in_month (year_of e) (month_of e)
   month-same =
@@ -163,7 +163,7 @@ module _ (d e : ℤ) (same : AreAtOnePlace d e) where
   weekday_of-same : weekday_of d ≡ weekday_of e
   weekday_of-same =
       let n = pos (days_into_year d) in
-      let there : first_day_of_year (year_of e) +ℤ n ≡ e = omega (arith, ints, days_into_year_is e, same.place) in
+      let there : first_day_of_year (year_of e) +ℤ n ≡ e = omega (arith, ints, days_into_year_is e, same.days) in
       ap weekday_of (days_into_year_is d)
       ∙ weekday_of-later (first_day_of_year (year_of d)) (first_day_of_year (year_of e)) n same.alike.weekday
       ∙ ap weekday_of there

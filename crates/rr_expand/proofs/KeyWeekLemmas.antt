@@ -1,4 +1,4 @@
--- Weeks at one place of alike years have one number, and alike years one last week: so years of equal keys have the same mask.
+-- Weeks that lie alike in alike years have one number, and alike years one last week: so years of equal keys have the same mask.
 use Rattle.std.proofs.Common.{◌≡◌, ℕ, ◌+◌, ◌/◌, ◌<◌, ◌&&◌, Bool, true, false, List, [], ◌∷◌, ℤ, pos, neg_ℤ, unsigned_abs, ◌+ℤ◌, ◌-ℤ◌, ◌≤ℤ◌, ◌<ℤ◌}
 use Rattle.std.proofs.Common.{refl, sym, ap, ◌∙◌, arith}
 use Rattle.std.specs.Prelude.{nat_lt}
@@ -15,7 +15,7 @@ use Rattle.rr_model.specs.declared.rule.Rule.{Rule}
 use Rattle.rr_model.proofs.CalendarLemmas.{IsInYear-year_of, year_of_is, days_in_year_bounds, first_day_of_year-next}
 use Rattle.rr_model.proofs.WeekLemmas.{fourth_day_near, week_index_is, day_number-december_28, week_year-december_28, week_number_is}
 use Rattle.rr_expand.specs.Years.{allows_day, EqualKeysHaveEqualMasks}
-use Rattle.rr_expand.proofs.KeyLemmas.{AreAlike, AreAlikeBeside, IsToldBy, told_by_keys, weeks_apart, weekday_of-later, days_in_year-alike, at_one_place}
+use Rattle.rr_expand.proofs.KeyLemmas.{AreAlike, AreAlikeBeside, IsToldBy, told_by_keys, weeks_apart, weekday_of-later, days_in_year-alike, on_one_day_of_year}
 use Rattle.rr_expand.proofs.KeyLemmas.{by_month-same, by_year_day-same, by_month_day-same, by_day-same}
 
 -- the weeks of two days of one weekday have their fourth days as far apart as the days are
@@ -30,12 +30,12 @@ fourth_day-same d e w same =
     week_index_is e (week_index d w +ℤ q) w (omega (arith, ints, near.0, apart)) (omega (arith, ints, near.1, apart)) in
     omega (arith, ints, there, apart)
 
--- ---- weeks at one place of alike years
+-- ---- weeks that lie alike in alike years
 
--- the week i belongs to the year y, and its fourth day is there at the place that the fourth day of the week j has in the year z
-pub record AreWeeksAtOnePlace (y z i j : ℤ) (w : ℕ) : Type 0 where
+-- the week i belongs to the year y, and its fourth day has the number there that the fourth day of the week j has in the year z
+pub record AreAlikeWeeks (y z i j : ℤ) (w : ℕ) : Type 0 where
   pub within : IsInYear (fourth_day i w) y
-  pub place : fourth_day j w -ℤ first_day_of_year z ≡ fourth_day i w -ℤ first_day_of_year y
+  pub day : fourth_day j w -ℤ first_day_of_year z ≡ fourth_day i w -ℤ first_day_of_year y
 
 -- the fourth day lies in the week's year
 in_week_year : (y i : ℤ) (w : ℕ) → week_year i w ≡ y → IsInYear (fourth_day i w) y
@@ -51,7 +51,7 @@ module _ (y z : ℤ) (alike : AreAlike y z) where
       let e = first_day_of_year z +ℤ s in
       omega (arith, ints, fourth_day-same d e w (weekday_of-later (first_day_of_year y) (first_day_of_year z) s alike.weekday))
 
-  module _ (i j : ℤ) (w : ℕ) (weeks : AreWeeksAtOnePlace y z i j w) where
+  module _ (i j : ℤ) (w : ℕ) (weeks : AreAlikeWeeks y z i j w) where
     week_year_first : week_year i w ≡ y
     unfolding week_year
     week_year_first = year_of_is (fourth_day i w) y weeks.within
@@ -61,15 +61,15 @@ module _ (y z : ℤ) (alike : AreAlike y z) where
     week_year_second =
         let same = days_in_year-alike y z alike.leap in
         year_of_is (fourth_day j w) z (record {
-          begun = omega (arith, ints, weeks.place, weeks.within.begun);
-          not_over = omega (arith, ints, weeks.place, weeks.within.not_over, first_day_of_year-next y, first_day_of_year-next z, same);
+          begun = omega (arith, ints, weeks.day, weeks.within.begun);
+          not_over = omega (arith, ints, weeks.day, weeks.within.not_over, first_day_of_year-next y, first_day_of_year-next z, same);
         })
 
     week_number-alike : week_number i w ≡ week_number j w
     week_number-alike =
-        week_number_is y i w week_year_first ∙ ap (λ n. unsigned_abs n / 7 + 1) (sym weeks.place) ∙ sym (week_number_is z j w week_year_second)
+        week_number_is y i w week_year_first ∙ ap (λ n. unsigned_abs n / 7 + 1) (sym weeks.day) ∙ sym (week_number_is z j w week_year_second)
 
-  -- 28 December is at one place of both years
+  -- 28 December has one number in both years
   december_28-alike : day_number z 12 28 -ℤ first_day_of_year z ≡ day_number y 12 28 -ℤ first_day_of_year y
   december_28-alike =
       omega (
@@ -90,10 +90,10 @@ module _ (y z : ℤ) (alike : AreAlike y z) where
       let e : first_day_of_year z +ℤ s ≡ day_number z 12 28 = omega (arith, ints, december_28-alike) in
       week_number-alike (week_index (day_number y 12 28) w) (week_index (day_number z 12 28) w) w (record {
         within = in_week_year y (week_index (day_number y 12 28) w) w (week_year-december_28 y w);
-        place = rw (d, e) at (fourth_days-alike s w);
+        day = rw (d, e) at (fourth_days-alike s w);
       })
 
-  is_week_listed-alike : (numbers : List ℤ) (i j : ℤ) (w : ℕ) → AreWeeksAtOnePlace y z i j w → is_week_listed numbers w i ≡ is_week_listed numbers w j
+  is_week_listed-alike : (numbers : List ℤ) (i j : ℤ) (w : ℕ) → AreAlikeWeeks y z i j w → is_week_listed numbers w i ≡ is_week_listed numbers w j
   is_week_listed-alike numbers i j w weeks =
       rw (week_number-alike i j w weeks, week_year_first i j w weeks, week_year_second i j w weeks, last_week-alike w) refl
 
@@ -135,7 +135,7 @@ module _ (y z : ℤ) (alike : AreAlike y z) (beside : AreAlikeBeside y z) (k : �
   abbrev second : ℤ
   second = week_index (first_day_of_year z +ℤ pos k) w
 
-  week_before : fourth_day first w <ℤ first_day_of_year y → AreWeeksAtOnePlace (y -ℤ pos 1) (z -ℤ pos 1) first second w
+  week_before : fourth_day first w <ℤ first_day_of_year y → AreAlikeWeeks (y -ℤ pos 1) (z -ℤ pos 1) first second w
   week_before h =
       let near = fourth_day_near (first_day_of_year y +ℤ pos k) w in
       let back : (y -ℤ pos 1) +ℤ pos 1 ≡ y = omega (arith, ints) in
@@ -144,14 +144,14 @@ module _ (y z : ℤ) (alike : AreAlike y z) (beside : AreAlikeBeside y z) (k : �
       let same = days_in_year-alike (y -ℤ pos 1) (z -ℤ pos 1) beside.before in
       record {
         within = record { begun = omega (arith, ints, a, near.1, days_in_year_bounds (y -ℤ pos 1)); not_over = rw back h };
-        place = omega (arith, ints, a, b, same, fourth_days-alike y z alike (pos k) w);
+        day = omega (arith, ints, a, b, same, fourth_days-alike y z alike (pos k) w);
       }
 
   week_within : first_day_of_year y ≤ℤ fourth_day first w → fourth_day first w <ℤ first_day_of_year (y +ℤ pos 1)
-      → AreWeeksAtOnePlace y z first second w
-  week_within h g = record { within = record { begun = h; not_over = g }; place = fourth_days-alike y z alike (pos k) w }
+      → AreAlikeWeeks y z first second w
+  week_within h g = record { within = record { begun = h; not_over = g }; day = fourth_days-alike y z alike (pos k) w }
 
-  week_after : first_day_of_year (y +ℤ pos 1) ≤ℤ fourth_day first w → AreWeeksAtOnePlace (y +ℤ pos 1) (z +ℤ pos 1) first second w
+  week_after : first_day_of_year (y +ℤ pos 1) ≤ℤ fourth_day first w → AreAlikeWeeks (y +ℤ pos 1) (z +ℤ pos 1) first second w
   week_after h =
       let near = fourth_day_near (first_day_of_year y +ℤ pos k) w in
       let a = first_day_of_year-next y in
@@ -160,7 +160,7 @@ module _ (y z : ℤ) (alike : AreAlike y z) (beside : AreAlikeBeside y z) (k : �
       let same = days_in_year-alike y z alike.leap in
       record {
         within = record { begun = h; not_over = omega (arith, ints, a, c, near.0, low, days_in_year_bounds (y +ℤ pos 1)) };
-        place = omega (arith, ints, a, b, same, fourth_days-alike y z alike (pos k) w);
+        day = omega (arith, ints, a, b, same, fourth_days-alike y z alike (pos k) w);
       }
 
   is_week_listed-same : (numbers : List ℤ) → is_week_listed numbers w first ≡ is_week_listed numbers w second
@@ -180,13 +180,13 @@ listed-same : (numbers : List ℤ) (w : ℕ) (y z : ℤ) (k : ℕ) → IsToldBy 
 listed-same [] w y z k told low = refl
 listed-same (n ∷ ns) w y z k told low = is_week_listed-same y z told.alike (told.beside refl) k low w (n ∷ ns)
 
--- the date parts of a rule hold of a day of a year as of the day at its place in a year of the same key
+-- the date parts of a rule hold of a day of a year as of the day with its number in a year of the same key
 date_parts-same : (rule : Rule) (y z : ℤ) (k : ℕ) → IsToldBy (is_absent rule.by_week_no) y z → k < days_in_year y
     → date_parts_hold rule (first_day_of_year y +ℤ pos k) ≡ date_parts_hold rule (first_day_of_year z +ℤ pos k)
 date_parts-same rule y z k told low =
     let d = first_day_of_year y +ℤ pos k in
     let e = first_day_of_year z +ℤ pos k in
-    let same = at_one_place y z k told.alike low in
+    let same = on_one_day_of_year y z k told.alike low in
     let week : by_week_no_holds rule d ≡ by_week_no_holds rule e = listed-same rule.by_week_no rule.week_start y z k told low in
     rw (by_month-same d e same rule, week, by_year_day-same d e same rule, by_month_day-same d e same rule, by_day-same d e same rule) refl
 

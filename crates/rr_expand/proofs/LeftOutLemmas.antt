@@ -21,7 +21,7 @@ use Rattle.rr_model.specs.declared.rule.Freq.TheVariants.{Secondly, Minutely, Ho
 use Rattle.rr_model.specs.declared.rule.Rule.{Rule}
 use Rattle.rr_model.proofs.WholeLemmas.{floor_only, floor_whole}
 use Rattle.rr_model.proofs.CalendarLemmas.{date_only, day_number_is, day_number-year_of, days_into_year_is, IsDate-year_of}
-use Rattle.rr_expand.specs.LeftOut.{IsGap, IsNextIn, has_place, has_weekday, names_weekdays_alone}
+use Rattle.rr_expand.specs.LeftOut.{IsGap, IsNextIn, has_ordinal, has_weekday, names_weekdays_alone}
 
 -- ---- days later in the same month
 
@@ -84,11 +84,11 @@ module _ (r : Rule) (d : ℤ) where
   not_on_weekday e =
       fifth_false (by_month_holds r d) (by_week_no_holds r d) (by_year_day_holds r d) (by_month_day_holds r d) (by_day_holds r d) e
 
--- ---- lists of places
+-- ---- lists of numbers
 
-pub either_place : (a l m : Bool) → ((a || l) || (a || m)) ≡ (a || l || m)
-either_place true l m = refl
-either_place false l m = refl
+pub either_number : (a l m : Bool) → ((a || l) || (a || m)) ≡ (a || l || m)
+either_number true l m = refl
+either_number false l m = refl
 
 -- a part that is present is not filled
 filled_present : {X : Type 0} (is_wanted : Bool) (xs : List X) (own : X) → is_absent xs ≡ false → filled_part is_wanted xs own ≡ xs
@@ -102,8 +102,8 @@ filled_own true [] own e w = refl
 filled_own true (x ∷ xs) own e w = absurd (cc)
 filled_own false xs own e w = absurd (cc)
 
-pub own_place : (own i many : ℕ) → own ≢ i → i ≤ many → allows_place (pos own ∷ []) (pos i) (pos many) ≡ false
-own_place own i many ne within =
+pub own_number : (own i many : ℕ) → own ≢ i → i ≤ many → allows_place (pos own ∷ []) (pos i) (pos many) ≡ false
+own_number own i many ne within =
     let front : int_eq (pos own) (pos i) ≡ false = grind (arith, nat_tests, ints) in
     let back : int_eq (pos own) ((pos i -ℤ pos many) -ℤ pos 1) ≡ false = grind (arith, nat_tests, ints) in
     rw (front, back) refl
@@ -164,8 +164,8 @@ other_weekday rule start d weekday j is present none =
 
 -- ---- weekdays alone
 
-no_place : (item : DayItem) → has_place item ≡ false → int_eq item.place (pos 0) ≡ true
-no_place item e = not_not (int_eq item.place (pos 0)) e
+no_ordinal : (item : DayItem) → has_ordinal item ≡ false → int_eq item.place (pos 0) ≡ true
+no_ordinal item e = not_not (int_eq item.place (pos 0)) e
   where
     not_not : (b : Bool) → not b ≡ false → b ≡ true
     not_not true h = refl
@@ -175,14 +175,14 @@ and_true : (a : Bool) → (a && true) ≡ a
 and_true true = refl
 and_true false = refl
 
--- an item without a place holds on each day of its weekday
-plain_items : (in_year : Bool) (d : ℤ) (items : List DayItem) → list_any has_place items ≡ false
+-- an item without an ordinal holds on each day of its weekday
+plain_items : (in_year : Bool) (d : ℤ) (items : List DayItem) → list_any has_ordinal items ≡ false
     → list_any (day_item_holds in_year d) items ≡ list_any (has_weekday (weekday_of d)) items
 plain_items in_year d [] e = refl
 plain_items in_year d (item ∷ items) e =
-    let parts = neither (has_place item) (list_any has_place items) e in
+    let parts = neither (has_ordinal item) (list_any has_ordinal items) e in
     ap (λ p. ((item.weekday == weekday_of d) && (p || is_in_place item.place in_year d)) || list_any (day_item_holds in_year d) items)
-    (no_place item parts.0)
+    (no_ordinal item parts.0)
     ∙ ap (λ q. q || list_any (day_item_holds in_year d) items) (and_true (item.weekday == weekday_of d))
     ∙ ap (λ q. (item.weekday == weekday_of d) || q) (plain_items in_year d items parts.1)
 
@@ -194,7 +194,7 @@ all_five a b c d e f p q r s t = rw (p, q, r, s) t
 
 module _ (rule : Rule) (no_month : is_absent rule.by_month ≡ true) (no_week : is_absent rule.by_week_no ≡ true)
     (no_year_day : is_absent rule.by_year_day ≡ true) (no_month_day : is_absent rule.by_month_day ≡ true) (present : is_absent rule.by_day ≡ false)
-    (plain : list_any has_place rule.by_day ≡ false) where
+    (plain : list_any has_ordinal rule.by_day ≡ false) where
   month_unwanted : (freq : Freq) → wants_month freq rule ≡ false
   month_unwanted Secondly = refl
   month_unwanted Minutely = refl
@@ -244,7 +244,7 @@ pub weekdays_alone : (rule : Rule) (start d : ℤ) → names_weekdays_alone rule
     → date_parts_hold (filled rule Days start) d ≡ list_any (has_weekday (weekday_of d)) rule.by_day
 weekdays_alone rule start d e =
     let parts = all_six (is_absent rule.by_month) (is_absent rule.by_week_no) (is_absent rule.by_year_day) (is_absent rule.by_month_day)
-    (is_absent rule.by_day) (list_any has_place rule.by_day) e in
+    (is_absent rule.by_day) (list_any has_ordinal rule.by_day) e in
     on_weekday rule parts.0 parts.1 parts.2 parts.3 parts.4 parts.5 start d
 
 -- ---- one day after another of a month

@@ -15,15 +15,15 @@ pub bit_at_shr : (n j i : ℕ) → bit_at (n / 2 ^ j) i ≡ bit_at n (j + i)
 bit_at_shr n j i = ap (λ m. m % 2) (div-div-eq-div-mul n (2 ^ j) (2 ^ i) ∙ ap (λ m. n / m) (sym (pow-add 2 j i)))
 
 module _ (words : List ℕ) (from i : ℕ) (word : i ≡ from / 64) where
-  -- what is left of the word of a place without the bits below the place's
+  -- what is left of the word of a bit without the bits below it
   abbrev pub rest_of_word : ℕ
   rest_of_word = get_or words i 0 / 2 ^ (from % 64)
 
   at_rest : (k : ℕ) → from ≤ k → k < (from / 64 + 1) * 64 → is_bit_set words k ≡ (bit_at rest_of_word (k - from) == 1)
   at_rest k low high =
       let same : k / 64 ≡ i = omega arith in
-      let place : k % 64 ≡ from % 64 + (k - from) = omega arith in
-      rw (same, place) (ap (λ b. b == 1) (sym (bit_at_shr (get_or words i 0) (from % 64) (k - from))))
+      let bit : k % 64 ≡ from % 64 + (k - from) = omega arith in
+      rw (same, bit) (ap (λ b. b == 1) (sym (bit_at_shr (get_or words i 0) (from % 64) (k - from))))
 
   -- where nothing is left no bit is set
   pub no_bit_in_word : rest_of_word ≡ 0 → IsFirstBit words from ((from / 64 + 1) * 64) None
@@ -49,24 +49,24 @@ module _ (words : List ℕ) (from i : ℕ) (word : i ≡ from / 64) where
         (λ k least below. at_rest k least (omega arith) ∙ ap (λ b. b == 1) (lowest.2 (k - from) (omega arith))),
       )
 
-module _ (words : List ℕ) (place i : ℕ) (word : i ≡ place / 64) (within : i < length words) where
-  -- the words after `words[i] |= 1 << (place % 64)`
+module _ (words : List ℕ) (bit i : ℕ) (word : i ≡ bit / 64) (within : i < length words) where
+  -- the words after `words[i] |= 1 << (bit % 64)`
   abbrev pub with_bit : List ℕ
-  with_bit = slice_set words i (bit_or (get_or words i 0) (1 * 2 ^ (place % 64) % 2 ^ 64))
+  with_bit = slice_set words i (bit_or (get_or words i 0) (1 * 2 ^ (bit % 64) % 2 ^ 64))
 
-  below : place % 64 < 64
+  below : bit % 64 < 64
   below = omega arith
 
-  pub is_bit_set-with_bit : is_bit_set with_bit place ≡ true
+  pub is_bit_set-with_bit : is_bit_set with_bit bit ≡ true
   is_bit_set-with_bit =
-      let e : place / 64 ≡ i = sym word in
-      rw (e, get_or-set_same) (ap (λ b. b == 1) (bit_at_set_same w64 (get_or words i 0) (place % 64) below))
+      let e : bit / 64 ≡ i = sym word in
+      rw (e, get_or-set_same) (ap (λ b. b == 1) (bit_at_set_same w64 (get_or words i 0) (bit % 64) below))
 
-  pub is_bit_set-with_other : (k : ℕ) → k ≢ place → is_bit_set with_bit k ≡ is_bit_set words k
+  pub is_bit_set-with_other : (k : ℕ) → k ≢ bit → is_bit_set with_bit k ≡ is_bit_set words k
   is_bit_set-with_other k ne = elim (cases_eq (k / 64) i) [
     | inl e ↦
-        (let apart : k % 64 ≢ place % 64 = λ s. ne (omega arith) in
-        rw (e, get_or-set_same) (ap (λ b. b == 1) (bit_at_set_other w64 (get_or words i 0) (place % 64) below (k % 64) apart)))
+        (let apart : k % 64 ≢ bit % 64 = λ s. ne (omega arith) in
+        rw (e, get_or-set_same) (ap (λ b. b == 1) (bit_at_set_other w64 (get_or words i 0) (bit % 64) below (k % 64) apart)))
     | inr n ↦ rw get_or-set_other refl
   ]
 

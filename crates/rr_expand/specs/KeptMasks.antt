@@ -9,9 +9,9 @@ use Rattle.rr_expand.specs.declared.allowed_days.MaskedYear.{MaskedYear}
 use Rattle.rr_expand.specs.declared.allowed_days.KeptMasks.{KeptMasks}
 use Rattle.rr_expand.specs.declared.year_masks.YearMask.{YearMask}
 
--- a place for each key, where a mask that is kept is that of every year of its key
+-- an entry for each key, where a mask that is kept is that of every year of its key
 pub record AreMasks (f : Filling) (kept : List (Option YearMask)) : Type 0 where
-  pub places : length kept ≡ 56
+  pub keys : length kept ≡ 56
   pub masks : (year : ℤ) (mask : YearMask) → get_or kept (mask_key f.rule year) None ≡ Some mask → IsYearMask f year mask.bits
 
 -- ---- one year

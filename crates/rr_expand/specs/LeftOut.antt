@@ -16,15 +16,15 @@ use Rattle.rr_expand.specs.Years.{Filling, allows_day, is_bit_set}
 abbrev pub has_weekday : ℕ → DayItem → Bool
 has_weekday weekday item = item.weekday == weekday
 
--- the item has a place in the month or the year
-abbrev pub has_place : DayItem → Bool
-has_place item = not (int_eq item.place (pos 0))
+-- the item has an ordinal in the month or the year
+abbrev pub has_ordinal : DayItem → Bool
+has_ordinal item = not (int_eq item.place (pos 0))
 
--- BYDAY is present, no item has a place, and no other date part is present
+-- BYDAY is present, no item has an ordinal, and no other date part is present
 abbrev pub names_weekdays_alone : Rule → Bool
 names_weekdays_alone rule =
     is_absent rule.by_month && is_absent rule.by_week_no && is_absent rule.by_year_day && is_absent rule.by_month_day && not (is_absent rule.by_day)
-    && not (list_any has_place rule.by_day)
+    && not (list_any has_ordinal rule.by_day)
 
 -- A day of the month after the day k and not after the last, of which there are `many`; the test fails at each one between.
 pub record IsNextIn (test : ℕ → Bool) (k many next : ℕ) : Type 0 where

@@ -29,26 +29,26 @@ abbrev pub LeavesOutNext : Filling → ℤ → ℕ → Type 0
 LeavesOutNext f day days = (j : ℕ) → 1 ≤ j → j < days → allows_day f (day +ℤ pos j) ≡ false
 
 -- day k of the year, from 0, lies in the year and is allowed
-abbrev pub allows_place : Filling → ℤ → ℕ → Bool
-allows_place f year k = nat_lt k (days_in_year year) && allows_day f (first_day_of_year year +ℤ pos k)
+abbrev pub allows_day_of_year : Filling → ℤ → ℕ → Bool
+allows_day_of_year f year k = nat_lt k (days_in_year year) && allows_day f (first_day_of_year year +ℤ pos k)
 
--- the bit of a place, counted from the lowest bit of the first of words of 64 bits
+-- the bit of a number, counted from the lowest bit of the first of words of 64 bits
 abbrev pub is_bit_set : List ℕ → ℕ → Bool
 is_bit_set words k = (get_or words (k / 64) 0 / 2 ^ (k % 64) % 2) == 1
 
 -- the bits are those of the allowed days of the year
 abbrev pub IsYearMask : Filling → ℤ → List ℕ → Type 0
-IsYearMask f year words = (k : ℕ) → k < 384 → is_bit_set words k ≡ allows_place f year k
+IsYearMask f year words = (k : ℕ) → k < 384 → is_bit_set words k ≡ allows_day_of_year f year k
 
 -- the bits are those of the allowed days, of `count` from the first one on
 abbrev pub MarksAllowed : Filling → ℤ → ℕ → List ℕ → Type 0
 MarksAllowed f first count words = (k : ℕ) → k < 384 → is_bit_set words k ≡ (nat_lt k count && allows_day f (first +ℤ pos k))
 
--- of places from one on and below another the first whose bit is set
+-- of bits from one on and below another the first whose bit is set
 abbrev pub IsFirstBit : List ℕ → ℕ → ℕ → Option ℕ → Type 0
 IsFirstBit words from end None = (k : ℕ) → from ≤ k → k < end → is_bit_set words k ≡ false
-IsFirstBit words from end (Some place) =
-    (from ≤ place) × (place < end) × (is_bit_set words place ≡ true) × ((k : ℕ) → from ≤ k → k < place → is_bit_set words k ≡ false)
+IsFirstBit words from end (Some bit) =
+    (from ≤ bit) × (bit < end) × (is_bit_set words bit ≡ true) × ((k : ℕ) → from ≤ k → k < bit → is_bit_set words k ≡ false)
 
 -- What a year's mask depends on: its kind, of which there are 14, and, where BYWEEKNO is present, whether the years before and
 -- after it are leap, since a week at either end of a year can belong to the year beside it.
@@ -61,7 +61,7 @@ mask_key rule year =
 -- Years of equal keys have the same days allowed.
 abbrev pub EqualKeysHaveEqualMasks : Type 0
 EqualKeysHaveEqualMasks =
-    (f : Filling) (year other : ℤ) → mask_key f.rule year ≡ mask_key f.rule other → (k : ℕ) → allows_place f year k ≡ allows_place f other k
+    (f : Filling) (year other : ℤ) → mask_key f.rule year ≡ mask_key f.rule other → (k : ℕ) → allows_day_of_year f year k ≡ allows_day_of_year f other k
 
 -- of the days from one on and before another the first that is allowed
 abbrev pub IsFirstAllowed : Filling → ℤ → ℤ → Option ℤ → Type 0

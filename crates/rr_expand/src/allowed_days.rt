@@ -35,7 +35,7 @@ impl Model for AllowedDays {
     ghost invariant = { λ s. AreMasksOf (filling_of s.rule s.start_day) s.masks };
 }
 
-// Masks of years, at the place of each key, and the year in which the last day lay that was asked for.
+// Masks of years, each at the index of its key, and the year in which the last day lay that was asked for.
 #[derive(Drop)]
 struct KeptMasks {
     kept: Vec<Option<YearMask>>,
@@ -95,7 +95,7 @@ impl AllowedDays {
 }
 
 impl KeptMasks {
-    // A place for each key, and no mask.
+    // An entry for each key, and no mask.
     fn new(alloc: Global) -> Result<Self, AllocError>
         ensures { IfOk result (λ m. (f : Filling) → AreKeptMasks f m) }
     {
@@ -221,10 +221,10 @@ impl MaskedYear {
         ensures { IsFirstMarked self.now from end result }
     {
         let end = end.min(self.next);
-        let place = self
+        let bit = self
             .mask
             .first_from((from - self.first) as u16, (end - self.first) as u16)?;
-        Some(self.first + i64::from(place))
+        Some(self.first + i64::from(bit))
     }
 
     // Puts the year's days from one on and before another whose bit is set after those of a list.
@@ -238,10 +238,10 @@ impl MaskedYear {
             → OnOk result (ListAllowed f first end days.new.items) }
     {
         let last = (end - self.first) as u16;
-        let mut place = (from - self.first) as u16;
-        while let Some(found) = self.mask.first_from(place, last) {
+        let mut bit = (from - self.first) as u16;
+        while let Some(found) = self.mask.first_from(bit, last) {
             days.push(self.first + i64::from(found))?;
-            place = found + 1;
+            bit = found + 1;
         }
         Ok(())
     }

@@ -6,7 +6,7 @@ ghost use Rattle.rr_model.specs.Rule.DaysAndTimes.{IsCandidateTime};
 ghost use Rattle.rr_model.specs.Moment.Units.{is_whole_days};
 
 use crate::spread::push_hours;
-use crate::time_parts::allowed;
+use crate::time_parts::allowed_numbers;
 use rr_model::{Kind, NoMemory, Rule};
 use rr_parts::time_of;
 use rr_times::TimeSet;
@@ -33,9 +33,9 @@ fn times_of_day(alloc: Global, rule: &Rule, start: i64) -> Result<TimeSet, NoMem
     ensures { IfOk result (λ t. IsSetOf nat_lt t (IsCandidateTime rule.now Moments start)) }
 {
     let own = time_of(start);
-    let hours = allowed(alloc, &rule.by_hour, true, own.hour, 24)?;
-    let minutes = allowed(alloc, &rule.by_minute, true, own.minute, 60)?;
-    let seconds = allowed(alloc, &rule.by_second, true, own.second, 60)?;
+    let hours = allowed_numbers(alloc, &rule.by_hour, true, own.hour, 24)?;
+    let minutes = allowed_numbers(alloc, &rule.by_minute, true, own.minute, 60)?;
+    let seconds = allowed_numbers(alloc, &rule.by_second, true, own.second, 60)?;
     let mut times = Vec::new(alloc);
     push_hours(&mut times, &hours, &minutes, &seconds)?;
     TimeSet::of(alloc, times.as_slice())

@@ -4,7 +4,7 @@ ghost use Rattle.std.specs.List.{list_any};
 ghost use Rattle.rr_model.specs.Calendar.{IsDayWithin};
 ghost use Rattle.rr_model.specs.Rule.Candidate.{allows_place};
 ghost use Rattle.rr_model.specs.Rule.Filled.{wants_month};
-ghost use Rattle.rr_expand.specs.LeftOut.{AreGaps, FillsMonthDay, IsNextIn, IsNextInMonth, LeavesOutMonth, has_place, has_weekday, names_no_day, names_weekdays_alone};
+ghost use Rattle.rr_expand.specs.LeftOut.{AreGaps, FillsMonthDay, IsNextIn, IsNextInMonth, LeavesOutMonth, has_ordinal, has_weekday, names_no_day, names_weekdays_alone};
 ghost use Rattle.rr_expand.specs.Years.{LeavesOutNext, filling_of};
 
 use rr_cal::Day;
@@ -96,7 +96,7 @@ fn next_listed(numbers: &Numbers, k: u8, many: u8) -> u8
     ensures { IsNextIn (λ i. allows_place numbers.now (pos i) (pos many)) k many result }
 {
     for next in k + 1..many {
-        if lists_place(numbers, next, many) {
+        if allows_kth(numbers, next, many) {
             return next;
         }
     }
@@ -104,20 +104,20 @@ fn next_listed(numbers: &Numbers, k: u8, many: u8) -> u8
 }
 
 // Whether the part is absent, or lists the k-th day of a month of `many` days, from the front or from the back.
-fn lists_place(numbers: &Numbers, k: u8, many: u8) -> bool
+fn allows_kth(numbers: &Numbers, k: u8, many: u8) -> bool
     ensures { result ≡ allows_place numbers.now (pos k) (pos many) }
 {
-    allows(numbers, i16::from(k)) || allows(numbers, place_from_back(k, many))
+    allows(numbers, i16::from(k)) || allows(numbers, number_from_back(k, many))
 }
 
-// The place of the k-th day of `many`, from the back as a negative number.
-fn place_from_back(k: u8, many: u8) -> i16
+// The number of the k-th day of `many`, from the back as a negative number.
+fn number_from_back(k: u8, many: u8) -> i16
     ensures { result ≡ (pos k -ℤ pos many) -ℤ pos 1 }
 {
     i16::from(k) - i16::from(many) - 1
 }
 
-// Whether BYDAY alone tells which days are allowed, by weekdays without places.
+// Whether BYDAY alone tells which days are allowed, by weekdays without ordinals.
 pub(crate) fn names_weekdays_alone(rule: &Rule) -> bool
     ensures { result ≡ names_weekdays_alone rule.now }
 {
@@ -126,19 +126,19 @@ pub(crate) fn names_weekdays_alone(rule: &Rule) -> bool
         && rule.by_year_day.is_empty()
         && rule.by_month_day.is_empty()
         && !rule.by_day.is_empty()
-        && !has_places(rule.by_day.as_slice())
+        && !has_ordinals(rule.by_day.as_slice())
 }
 
-// Whether an item has a place in the month or the year.
-fn has_places(items: &[DayItem]) -> bool
-    ensures { result ≡ list_any has_place items.now }
+// Whether an item has an ordinal in the month or the year.
+fn has_ordinals(items: &[DayItem]) -> bool
+    ensures { result ≡ list_any has_ordinal items.now }
 {
-    items.iter().any(|item| has_place(*item))
+    items.iter().any(|item| has_ordinal(*item))
 }
 
-// Whether the item has a place.
-fn has_place(item: DayItem) -> bool
-    ensures { result ≡ has_place item }
+// Whether the item has an ordinal.
+fn has_ordinal(item: DayItem) -> bool
+    ensures { result ≡ has_ordinal item }
 {
     item.place != 0
 }
@@ -195,22 +195,22 @@ fn names_no_day(rule: &Rule) -> bool
         && rule.by_day.is_empty()
 }
 
-// So many days after a day.
-pub(crate) fn later(day: &Day, days: u8) -> Day
+// The day that comes `days` days after one.
+pub(crate) fn day_after(day: &Day, days: u8) -> Day
     requires near { IsDayWithin 1000 (day.now.number +ℤ pos days) }
     ensures { result.number ≡ day.now.number +ℤ pos days }
 {
     if days == 1 {
         day.next()
     } else if days <= day.days_in_month - day.day_of_month {
-        later_in_month(day, days)
+        day_after_in_month(day, days)
     } else {
         Day::new(day.number + i64::from(days))
     }
 }
 
 // The same in one month.
-fn later_in_month(day: &Day, days: u8) -> Day
+fn day_after_in_month(day: &Day, days: u8) -> Day
     requires near { IsDayWithin 1000 (day.now.number +ℤ pos days) }
     requires inside { day.now.day_of_month + days ≤ day.now.days_in_month }
     ensures { result.number ≡ day.now.number +ℤ pos days }

@@ -2,7 +2,7 @@
 ghost use Rattle.std.specs.Prelude.{IfOk};
 ghost use Rattle.rr_expand.specs.UnitTimes.{AreNumbersOfUnit, AreUnitTimes};
 
-use crate::time_parts::allowed;
+use crate::time_parts::allowed_numbers;
 use rr_model::{Numbers, Rule};
 use rr_parts::{time_of, wants_minute, wants_second};
 use std::alloc::{AllocError, Global};
@@ -42,7 +42,7 @@ fn numbers_of_unit(
     ensures { IfOk result (λ v. AreNumbersOfUnit holds_many part.now own v.items) }
 {
     if holds_many {
-        allowed(alloc, part, true, own, 60)
+        allowed_numbers(alloc, part, true, own, 60)
     } else {
         Ok(Vec::new(alloc))
     }

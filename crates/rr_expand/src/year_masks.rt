@@ -4,7 +4,7 @@ ghost use Rattle.rr_model.specs.Calendar.{IsDayWithin, first_day_of_year, is_lea
 ghost use Rattle.rr_expand.specs.LeftOut.{MarksWeekdays};
 ghost use Rattle.rr_expand.specs.Years.{IsFirstBit, IsYearMask, MarksAllowed, filling_of, is_bit_set, mask_key};
 
-use crate::left_out::{days_on, gaps, later, lists_weekday, names_weekdays_alone};
+use crate::left_out::{day_after, days_on, gaps, lists_weekday, names_weekdays_alone};
 use rr_cal::{Date, Day, day_of, days_in_year, year_kind};
 use rr_model::Rule;
 use rr_parts::date_parts_hold;
@@ -26,8 +26,8 @@ impl YearMask {
     {
         let mut next = from;
         while next < end {
-            if let Some(place) = self.first_in_word(next) {
-                return if place < end { Some(place) } else { None };
+            if let Some(bit) = self.first_in_word(next) {
+                return if bit < end { Some(bit) } else { None };
             }
             next = (next / 64 + 1) * 64;
         }
@@ -48,13 +48,13 @@ impl YearMask {
     }
 
     // Sets the bit of a day, counted in the year from 0.
-    fn set(&mut self, place: u16)
-        requires { place < 384 }
-        ensures same { is_bit_set self.new.bits place ≡ true }
-        ensures other { (k : ℕ) → k ≢ place
+    fn set(&mut self, bit: u16)
+        requires { bit < 384 }
+        ensures same { is_bit_set self.new.bits bit ≡ true }
+        ensures other { (k : ℕ) → k ≢ bit
             → is_bit_set self.new.bits k ≡ is_bit_set self.old.bits k }
     {
-        self.bits[usize::from(place / 64)] |= 1 << (place % 64);
+        self.bits[usize::from(bit / 64)] |= 1 << (bit % 64);
     }
 }
 
@@ -84,14 +84,14 @@ fn weekday_mask(rule: &Rule, weekday: u8, count: u16) -> YearMask
     let gaps = gaps(rule);
     let mut mask = YearMask { bits: [0; 6] };
     let mut day = weekday;
-    let mut place = 0;
-    while place < count {
+    let mut bit = 0;
+    while bit < count {
         if lists_weekday(rule.by_day.as_slice(), day) {
-            mask.set(place);
+            mask.set(bit);
         }
-        let step = u16::from(gaps[usize::from(day)]).min(count - place);
+        let step = u16::from(gaps[usize::from(day)]).min(count - bit);
         day = (day + step as u8) % 7;
-        place += step;
+        bit += step;
     }
     mask
 }
@@ -105,14 +105,14 @@ fn mask_from(rule: &Rule, start: &Day, first: Day, count: u16) -> YearMask
     let gaps = gaps(rule);
     let mut mask = YearMask { bits: [0; 6] };
     let mut day = first;
-    let mut place = 0;
-    while place < count {
+    let mut bit = 0;
+    while bit < count {
         if date_parts_hold(rule, start, &day) {
-            mask.set(place);
+            mask.set(bit);
         }
-        let step = u16::from(days_on(rule, start, &gaps, &day)).min(count - place);
-        day = later(&day, step as u8);
-        place += step;
+        let step = u16::from(days_on(rule, start, &gaps, &day)).min(count - bit);
+        day = day_after(&day, step as u8);
+        bit += step;
     }
     mask
 }

@@ -4,7 +4,7 @@ use Rattle.rr_model.specs.Calendar.{days_in_year, weekday_of}
 use Rattle.rr_model.proofs.CalendarLemmas.{days_in_month_bounds, weekday_of_below}
 use Rattle.rr_parts.proofs.DayLemmas.{in_year}
 use Rattle.rr_expand.proofs.LeftOutLemmas.{in_month, day_of_year-later, weekday_of-later}
-use Rattle.rr_expand.proofs.left_out.later_in_month.Goals as goal
+use Rattle.rr_expand.proofs.left_out.day_after_in_month.Goals as goal
 
 pub overflow_add-result-3 : goal.overflow_add-result-3
 overflow_add-result-3 c =

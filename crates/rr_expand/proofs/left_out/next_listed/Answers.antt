@@ -9,7 +9,7 @@ loop-next-init c = next_first (λ i. allows_place c.args.numbers.now (pos i) (po
 pub loop-next-preserved : goal.loop-next-preserved
 loop-next-preserved c =
     next_more (λ i. allows_place c.args.numbers.now (pos i) (pos c.args.many)) c.args.k c.args.many c.loop-next.next (omega (arith, c.loop-next-test.true))
-    (sym c.lists_place.ensures ∙ c.if-lists_place.false) c.loop-next.invariant
+    (sym c.allows_kth.ensures ∙ c.if-allows_kth.false) c.loop-next.invariant
 
 pub returns : goal.returns
 returns c =

@@ -4,8 +4,8 @@ use Rattle.rr_model.specs.Rule.Candidate.{allows}
 use Rattle.rr_model.specs.Rule.Filled.{filled_part}
 use Rattle.rr_model.specs.Rising.Sets.{IsSetOf}
 use Rattle.rr_expand.proofs.SetLemmas.{Passed, passed_more, passed_same}
-use Rattle.rr_expand.proofs.time_parts.allowed.Goals as goal
-use Rattle.rr_expand.proofs.time_parts.allowed.Goals.{then-allows_filled+in_ok-push, else-allows_filled}
+use Rattle.rr_expand.proofs.time_parts.allowed_numbers.Goals as goal
+use Rattle.rr_expand.proofs.time_parts.allowed_numbers.Goals.{then-allows_filled+in_ok-push, else-allows_filled}
 
 pub loop-n-preserved : goal.loop-n-preserved
 loop-n-preserved c =

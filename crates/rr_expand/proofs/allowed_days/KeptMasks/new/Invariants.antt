@@ -1,5 +1,5 @@
-use Rattle.rr_expand.proofs.KeptMaskLemmas.{ArePlaces}
+use Rattle.rr_expand.proofs.KeptMaskLemmas.{AreKeys}
 use Rattle.rr_expand.proofs.allowed_days.KeptMasks.new.Given as goal
 
 abbrev pub invariant-loop : goal.invariant-loop
-invariant-loop l = ArePlaces l.counter l.kept.items
+invariant-loop l = AreKeys l.counter l.kept.items

@@ -13,7 +13,7 @@ module _ (c : goal.After-first_from-arg-2-1) where
   last_is : to_z w64 (of_z w64 c.min-end.result) ≡ c.min-end.result
   last_is = let fits : FitsSigned w64 c.min-end.result = search rules in to_z-of_z fits
 
-  -- the place of the first day, and of the last
+  -- the bit of the first day, and of the last
   from_is : c.args.self.now.first +ℤ pos (nat_abs (to_z w64 (of_z w64 (to_z w64 (of_z w64 c.args.from) -ℤ to_z w64 (of_z w64 c.args.self.now.first)))))
       ≡ c.args.from
   from_is =
@@ -51,18 +51,18 @@ overflow_cast-end c =
 pub first_from-requires : goal.first_from-requires
 first_from-requires c = let y = c.requires.year in omega (arith, ints, till_is c, within c, y.short)
 
-pub returns-in_err-place : goal.returns-in_err-place
-returns-in_err-place c =
+pub returns-in_err-bit : goal.returns-in_err-bit
+returns-in_err-bit c =
     let b = c.before.before.before.before in
     rw c.from_residual.ensures
-    (none_marked c.args.self.now c.args.from c.args.end c.min-end.result _ _ (from_is b) (till_is b) (below_both b) c.in_err-place.ensures)
+    (none_marked c.args.self.now c.args.from c.args.end c.min-end.result _ _ (from_is b) (till_is b) (below_both b) c.in_err-bit.ensures)
 
 pub returns : goal.returns
 returns c =
     let b = c.before.before.before.before.before in
     let y = c.requires.year in
-    let found = c.in_ok-place.ensures in
+    let found = c.in_ok-bit.ensures in
     let day : to_z w64 (of_z w64 (to_z w64 (of_z w64 c.args.self.now.first) +ℤ to_z w64 (of_z w64 c.from.result)))
-    ≡ c.args.self.now.first +ℤ pos c.in_ok-place.place =
+    ≡ c.args.self.now.first +ℤ pos c.in_ok-bit.bit =
     omega (arith, ints, first_is b, c.from.ensures, y.near.0, y.near.1, y.short, within b, till_is b, found.1) in
-    one_marked c.args.self.now c.args.from c.args.end c.min-end.result _ _ (from_is b) (till_is b) c.in_ok-place.place _ (early b) (within b) day found
+    one_marked c.args.self.now c.args.from c.args.end c.min-end.result _ _ (from_is b) (till_is b) c.in_ok-bit.bit _ (early b) (within b) day found

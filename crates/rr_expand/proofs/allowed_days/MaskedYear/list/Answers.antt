@@ -5,12 +5,12 @@ use Rattle.rr_expand.specs.declared.allowed_days.MaskedYear.{MaskedYear}
 use Rattle.rr_expand.proofs.AllowedListLemmas.{listed_all, listed_more, none_allowed, one_allowed}
 use Rattle.rr_expand.proofs.allowed_days.MaskedYear.list.Goals as goal
 
--- the place of a day in its year
-abbrev place_of : MaskedYear → ℤ → ℕ
-place_of year d = nat_abs (to_z w64 (of_z w64 (to_z w64 (of_z w64 d) -ℤ to_z w64 (of_z w64 year.first))))
+-- the bit of a day in its year
+abbrev bit_of : MaskedYear → ℤ → ℕ
+bit_of year d = nat_abs (to_z w64 (of_z w64 (to_z w64 (of_z w64 d) -ℤ to_z w64 (of_z w64 year.first))))
 
-place_is : (year : MaskedYear) (d : ℤ) → IsMaskedYear year → year.first ≤ℤ d → d ≤ℤ year.next → year.first +ℤ pos (place_of year d) ≡ d
-place_is year d y low high = omega (arith, ints, y.near.0, y.near.1, y.ordered, y.short, low, high)
+bit_is : (year : MaskedYear) (d : ℤ) → IsMaskedYear year → year.first ≤ℤ d → d ≤ℤ year.next → year.first +ℤ pos (bit_of year d) ≡ d
+bit_is year d y low high = omega (arith, ints, y.near.0, y.near.1, y.ordered, y.short, low, high)
 
 pub loop-found-init : goal.loop-found-init
 loop-found-init c =
@@ -18,10 +18,10 @@ loop-found-init c =
     let begun = c.requires.begun in
     let some = c.requires.some in
     let over = c.requires.not_over in
-    let at = place_is year c.args.from c.requires.year begun (omega (arith, ints, some, over)) in
-    let till = place_is year c.args.end c.requires.year (omega (arith, ints, begun, some)) over in
+    let at = bit_is year c.args.from c.requires.year begun (omega (arith, ints, some, over)) in
+    let till = bit_is year c.args.end c.requires.year (omega (arith, ints, begun, some)) over in
     let same = to_z-of_z c.ranges.from in
-    let is : year.first +ℤ pos (place_of year c.args.from) ≡ to_z w64 (of_z w64 c.args.from) = at ∙ sym same in
+    let is : year.first +ℤ pos (bit_of year c.args.from) ≡ to_z w64 (of_z w64 c.args.from) = at ∙ sym same in
     (omega (arith, ints, at, till, some), omega (arith, ints, is), λ f first low tells listed. rw is listed)
 
 pub loop-found-preserved : goal.loop-found-preserved
@@ -32,7 +32,7 @@ loop-found-preserved c =
     let begun = c.requires.begun in
     let some = c.requires.some in
     let inv = c.loop-found.invariant in
-    let till = place_is year c.args.end y (omega (arith, ints, begun, some)) over in
+    let till = bit_is year c.args.end y (omega (arith, ints, begun, some)) over in
     let bits = c.in-Some.ensures in
     let found = c.in-Some.found in
     let day : ℤ = year.first +ℤ pos found in
@@ -41,9 +41,9 @@ loop-found-preserved c =
     let more : c.push.new.self.items ≡ c.loop-found.days.items ++ day ∷ [] = rw is at c.in_ok-push.ensures.items in (
       omega (arith, bits.1),
       omega (arith, ints, inv.1, bits.0),
-      λ f first low tells listed. listed_more f first c.args.end (year.first +ℤ pos c.loop-found.place) day
+      λ f first low tells listed. listed_more f first c.args.end (year.first +ℤ pos c.loop-found.bit) day
           (year.first +ℤ pos (found + 1)) c.loop-found.days.items c.push.new.self.items (omega (arith, ints, low, inv.1)) (omega (arith, ints))
-          (one_allowed f year (year.first +ℤ pos c.loop-found.place) c.args.end (omega (arith, ints)) over tells c.loop-found.place (place_of year c.args.end)
+          (one_allowed f year (year.first +ℤ pos c.loop-found.bit) c.args.end (omega (arith, ints)) over tells c.loop-found.bit (bit_of year c.args.end)
           refl till found day refl bits) more (inv.2 f first low tells listed),
     )
 
@@ -53,7 +53,7 @@ returns c f first low tells listed =
     let over = c.requires.not_over in
     let inv = c.loop-found.invariant in
     let same = to_z-of_z c.ranges.from in
-    let till = place_is year c.args.end c.requires.year (omega (arith, ints, c.requires.begun, c.requires.some)) over in
-    listed_all f first c.args.end (year.first +ℤ pos c.loop-found.place) c.loop-found.days.items (omega (arith, ints, inv.0, till))
-    (none_allowed f year (year.first +ℤ pos c.loop-found.place) c.args.end (omega (arith, ints)) over tells c.loop-found.place (place_of year c.args.end)
+    let till = bit_is year c.args.end c.requires.year (omega (arith, ints, c.requires.begun, c.requires.some)) over in
+    listed_all f first c.args.end (year.first +ℤ pos c.loop-found.bit) c.loop-found.days.items (omega (arith, ints, inv.0, till))
+    (none_allowed f year (year.first +ℤ pos c.loop-found.bit) c.args.end (omega (arith, ints)) over tells c.loop-found.bit (bit_of year c.args.end)
     refl till c.in_default.ensures) (inv.2 f first (omega (arith, ints, low, same)) tells (rw same listed))

@@ -3,7 +3,7 @@ use Rattle.rr_expand.proofs.MaskLemmas.{is_bit_set-with_bit, is_bit_set-with_oth
 use Rattle.rr_expand.proofs.year_masks.YearMask.set.Goals as goal
 
 pub returns-clause-same : goal.returns-clause-same
-returns-clause-same c = is_bit_set-with_bit c.args.self.now.bits c.args.place c.from.result c.from.ensures (search rules)
+returns-clause-same c = is_bit_set-with_bit c.args.self.now.bits c.args.bit c.from.result c.from.ensures (search rules)
 
 pub returns-clause-other : goal.returns-clause-other
-returns-clause-other c = is_bit_set-with_other c.args.self.now.bits c.args.place c.from.result c.from.ensures (search rules)
+returns-clause-other c = is_bit_set-with_other c.args.self.now.bits c.args.bit c.from.result c.from.ensures (search rules)
