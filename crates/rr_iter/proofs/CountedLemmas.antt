@@ -1,8 +1,7 @@
 -- Numbers of occurrences in a tree that repeats after a day.
 use Rattle.std.proofs.Common.{◌≡◌, ℕ, zero, suc, ◌+◌, ◌*◌, ◌-◌, ◌/◌, ◌<◌, ◌≤◌, Bool, ℤ, pos, nat_abs, ◌+ℤ◌, ◌-ℤ◌, ◌≤ℤ◌, ◌<ℤ◌, refl, ap}
-use Rattle.std.proofs.Common.{inl, inr, arith}
+use Rattle.std.proofs.Common.{arith}
 use Rattle.std.proofs.lemmas.Int.{ints, by_lt_z}
-use Rattle.std.proofs.lemmas.Bool.{cases_lt}
 use Rattle.std.proofs.Math.Nat.{div-mul-le_self, le-div_iff_mul-le, div-lt_iff_lt-mul}
 use Rattle.std.proofs.lemmas.Nat.Gcd.{dvd_refl}
 use Rattle.rr_model.specs.Bounds.{first_day_of_all}
@@ -18,9 +17,8 @@ use Rattle.rr_model.specs.declared.limits.TheConstants.{MAX_SPAN_DAYS}
 use Rattle.rr_model.proofs.YearLemmas.{four_digit_bounds}
 use Rattle.rr_model.proofs.CountLemmas.{count_seconds-le}
 use Rattle.rr_check.proofs.SeriesCycleLemmas.{rule_cycle_some}
-use Rattle.rr_lazy.proofs.CountingLemmas.{before_as, before_grows, before_next, before_none, before_skip, count_days-suc, count_days-zero}
+use Rattle.rr_lazy.proofs.CountingLemmas.{before_as, before_grows, before_none, before_skip, count_days-suc, count_days-zero}
 use Rattle.rr_lazy.proofs.CycleCountLemmas.{cycles_and_days, days_split}
-use Rattle.rr_lazy.proofs.TreeLemmas.{stands_below}
 use Rattle.rr_iter.specs.Ends.{HasNumberOn, IsSoundRule, before_day}
 use Rattle.rr_walk.proofs.StepLemmas.{before_start}
 use Rattle.rr_iter.proofs.RepeatLemmas.{chosen_later}

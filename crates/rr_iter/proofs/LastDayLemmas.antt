@@ -1,8 +1,9 @@
 -- The last day of a rule that ends.
 use Rattle.std.proofs.Common.{◌≡◌, ◌↔◌, ◌⊎◌, ℕ, ◌<◌, true, List, get_or, ℤ, pos, ◌+ℤ◌, ◌≤ℤ◌, ◌<ℤ◌, sym, subst, ◌∙◌, inl, inr, arith}
-use Rattle.std.specs.Prelude.{Result, Ok, Err, IfOk}
+use Rattle.std.specs.Prelude.{Result, Ok, Err, IfOk, IfSome}
 use Rattle.std.proofs.lemmas.Int.{ints, by_lt_z}
 use Rattle.std.proofs.lemmas.Bool.{false≢true}
+use Rattle.std.proofs.lemmas.Option.{IfSome_then}
 use Rattle.rr_model.specs.Answers.{RefusedExactlyWhere}
 use Rattle.rr_model.specs.Moment.{day_part, second_part, moment_at}
 use Rattle.rr_model.specs.Moment.Years.{IsInYears, IsFromYearOne}
@@ -24,7 +25,9 @@ use Rattle.rr_model.proofs.YearLemmas.{year_10000}
 use Rattle.rr_lazy.specs.Next.{HasNone, IsFirstOccupied}
 use Rattle.rr_lazy.proofs.AgreeLemmas.{members_agree}
 use Rattle.rr_lazy.proofs.StretchLemmas.{day_mono}
+use Rattle.rr_iter.specs.Counts.{IsCounted, IsCountOf, day_alone}
 use Rattle.rr_iter.specs.Ends.{AnswersDayOf, HasNumberOn, IsLastDay, IsLastUpTo, IsSoundRule, before_day}
+use Rattle.rr_iter.specs.declared.counts.LastDay.{LastDay}
 use Rattle.rr_iter.proofs.CountedFarLemmas.{counted_from_on, counts_too_far, second_on}
 use Rattle.rr_iter.proofs.CountedLemmas.{not_after}
 use Rattle.rr_iter.proofs.RepeatLemmas.{member_at}
@@ -42,9 +45,9 @@ second_found tree from day times f =
     (s, (f.all.exact s).0 (first_of_some times f.some))
 
 -- a day within the span of a day in the years 1 to 9999
-pub day_near : (tree : Tree) (first : ℤ) (number : ℕ) (result : Result ℤ Fault) → first ≤ℤ pos 2_932_896 → AnswersDayOf tree first number result
-    → IfOk result (λ day. day ≤ℤ pos 19_710_112)
-day_near tree first number (Ok day) l a = omega (arith, ints, a.0, l)
+pub day_near : (tree : Tree) (first : ℤ) (number : ℕ) (result : Result LastDay Fault) → first ≤ℤ pos 2_932_896
+    → AnswersDayOf tree first number (day_alone result) → IfOk result (λ last. last.day ≤ℤ pos 19_710_112)
+day_near tree first number (Ok last) l a = omega (arith, ints, a.0, l)
 day_near tree first number (Err fault) l a = tt
 
 -- ---- a rule beside its start
@@ -98,18 +101,25 @@ module _ (kind : Kind) (start : ℤ) (rule : Rule) where
       }
 
   module _ (count : ℕ) (e : rule.end ≡ Count count) (sound : IsSoundRule kind start rule) where
-    pub count_answered : (result : Result ℤ Fault) → AnswersDayOf (chosen_of rule kind start) (day_part kind start) count result
-        → IfOk result (IsLastDay kind start rule)
-    count_answered (Ok day) a = count_last count day e sound.in_years a.1
+    pub count_answered : (result : Result LastDay Fault) → AnswersDayOf (chosen_of rule kind start) (day_part kind start) count (day_alone result)
+        → IfOk result (λ last. IsLastDay kind start rule last.day)
+    count_answered (Ok last) a = count_last count last.day e sound.in_years a.1
     count_answered (Err fault) a = tt
 
     few : CountsTooFar kind start rule ↔ (before_day (chosen_of rule kind start) (day_part kind start +ℤ pos 16_777_217) < count)
     few = counts_too_far rule kind start sound.in_years count e
 
-    pub count_refused : (result : Result ℤ Fault) → AnswersDayOf (chosen_of rule kind start) (day_part kind start) count result
+    -- what was counted for this number was counted of the rule
+    pub count_given : (result : Result LastDay Fault) → IfOk result (λ last. IfSome last.counted (IsCounted rule kind start count))
+        → IfOk result (λ last. IfSome last.counted (IsCountOf kind start rule))
+    count_given (Ok last) h = IfSome_then last.counted h
+        (λ counted known other f. (let same : other ≡ count = cc in subst (λ n. IsCounted rule kind start n counted) (sym same) known))
+    count_given (Err fault) h = tt
+
+    pub count_refused : (result : Result LastDay Fault) → AnswersDayOf (chosen_of rule kind start) (day_part kind start) count (day_alone result)
         → RefusedExactlyWhere (CountsTooFar kind start rule) CountedTooFar result
-    count_refused (Ok day) a = λ far.
-        not_after (chosen_of rule kind start) count day _ a.1 (omega (arith, ints, a.0)) (few.0 far)
+    count_refused (Ok last) a = λ far.
+        not_after (chosen_of rule kind start) count last.day _ a.1 (omega (arith, ints, a.0)) (few.0 far)
     count_refused (Err (Refused refusal)) a = (a.0, few.1 a.1)
     count_refused (Err NoMemory) a = tt
 

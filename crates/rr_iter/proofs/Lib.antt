@@ -9,4 +9,5 @@ pub mod NumberLemmas
 pub mod CountedLemmas
 pub mod LastDayLemmas
 pub mod SettledLemmas
+pub mod CountsLemmas
 pub mod AloneLemmas

@@ -14,7 +14,7 @@ use Rattle.rr_model.specs.Answers.{RefusedExactlyWhere}
 use Rattle.rr_model.specs.Calendar.{first_day_of_year}
 use Rattle.rr_model.specs.Moment.{day_part}
 use Rattle.rr_model.specs.Series.Limits.{CountsTooFar, CountSomeTooFar, IsCountedTooFar}
-use Rattle.rr_model.specs.Series.Settled.{EndsBefore, LieBefore, IsPast, IsSettledDay}
+use Rattle.rr_model.specs.Series.Settled.{EndsBefore, LieBefore, IsSettledDay}
 use Rattle.rr_model.specs.Series.Soundness.{IsSound}
 use Rattle.rr_model.specs.declared.kind.Kind.{Kind}
 use Rattle.rr_model.specs.declared.refusal.Fault.{Fault}
@@ -108,12 +108,18 @@ module _ (kind : Kind) (start : ℤ) (rules : List Rule) (day : ℤ) where
     pub none_too_far : length rules ≤ asked → CountSomeTooFar kind start rules → ⊥
     none_too_far l (k, rule, h, e, far) = g.near k rule (omega arith) h (subst (CountsTooFar kind start) (sym e) far)
 
+-- a call is refused as one that it makes
+pub refused_as : (X Y : Type 0) (fault : Fault) (P Q : Type 0) → (P → Q) → RefusedExactlyWhere {X = X} P CountedTooFar (Err fault)
+    → RefusedExactlyWhere {X = Y} Q CountedTooFar (Err fault)
+refused_as X Y (Refused other) P Q f r = (r.0, f r.1)
+refused_as X Y NoMemory P Q f r = tt
+
 -- a rule that is refused
-pub one_too_far : (kind : Kind) (start : ℤ) (rules : List Rule) (k : ℕ) (rule : Rule) (fault : Fault) → k < length rules → get_or rules k rule ≡ rule
-    → RefusedExactlyWhere {X = ℤ} (CountsTooFar kind start rule) CountedTooFar (Err fault)
-    → RefusedExactlyWhere {X = ℤ} (CountSomeTooFar kind start rules) CountedTooFar (Err fault)
-one_too_far kind start rules k rule (Refused other) l e r = (r.0, (k, rule, l, e, r.1))
-one_too_far kind start rules k rule NoMemory l e r = tt
+pub one_too_far : (X Y : Type 0) (kind : Kind) (start : ℤ) (rules : List Rule) (k : ℕ) (rule : Rule) (fault : Fault) → k < length rules
+    → get_or rules k rule ≡ rule → RefusedExactlyWhere {X = X} (CountsTooFar kind start rule) CountedTooFar (Err fault)
+    → RefusedExactlyWhere {X = Y} (CountSomeTooFar kind start rules) CountedTooFar (Err fault)
+one_too_far X Y kind start rules k rule fault l e =
+    refused_as X Y fault (CountsTooFar kind start rule) (CountSomeTooFar kind start rules) (λ far. (k, rule, l, e, far))
 
 -- ---- the series
 
@@ -168,17 +174,14 @@ module _ (series : Series) (sound : IsSound series) (day plus dates : ℤ) (e : 
   }
 
 -- refused for a rule, or else for an excluded one
-pub rule_too_far : (series : Series) (fault : Fault)
-    → RefusedExactlyWhere {X = ℤ} (CountSomeTooFar series.kind series.start series.rules) CountedTooFar (Err fault)
-    → RefusedExactlyWhere {X = ℤ} (IsCountedTooFar series) CountedTooFar (Err fault)
-rule_too_far series (Refused other) r = (r.0, inl r.1)
-rule_too_far series NoMemory r = tt
+module _ (X Y : Type 0) (series : Series) (fault : Fault) where
+  pub rule_too_far : RefusedExactlyWhere {X = X} (CountSomeTooFar series.kind series.start series.rules) CountedTooFar (Err fault)
+      → RefusedExactlyWhere {X = Y} (IsCountedTooFar series) CountedTooFar (Err fault)
+  rule_too_far = refused_as X Y fault (CountSomeTooFar series.kind series.start series.rules) (IsCountedTooFar series) (λ far. inl far)
 
-pub excluded_too_far : (series : Series) (fault : Fault)
-    → RefusedExactlyWhere {X = ℤ} (CountSomeTooFar series.kind series.start series.excluded) CountedTooFar (Err fault)
-    → RefusedExactlyWhere {X = ℤ} (IsCountedTooFar series) CountedTooFar (Err fault)
-excluded_too_far series (Refused other) r = (r.0, inr r.1)
-excluded_too_far series NoMemory r = tt
+  pub excluded_too_far : RefusedExactlyWhere {X = X} (CountSomeTooFar series.kind series.start series.excluded) CountedTooFar (Err fault)
+      → RefusedExactlyWhere {X = Y} (IsCountedTooFar series) CountedTooFar (Err fault)
+  excluded_too_far = refused_as X Y fault (CountSomeTooFar series.kind series.start series.excluded) (IsCountedTooFar series) (λ far. inr far)
 
 pub neither_too_far : (series : Series) → (CountSomeTooFar series.kind series.start series.rules → ⊥)
     → (CountSomeTooFar series.kind series.start series.excluded → ⊥) → IsCountedTooFar series → ⊥

@@ -1,10 +1,12 @@
 // The last member of a rule with COUNT.
-ghost use Rattle.std.specs.Prelude.{◌≡◌, ◌+◌, ◌<◌, ◌≤◌, min};
+ghost use Rattle.std.specs.Prelude.{◌≡◌, ◌+◌, ◌<◌, ◌≤◌, IfOk, IfSome, min};
 ghost use Rattle.rr_model.specs.Moment.{day_part};
 ghost use Rattle.rr_model.specs.Rule.Cycle.{rule_cycle};
 ghost use Rattle.rr_model.specs.Sets.Tree.{chosen_of};
+ghost use Rattle.rr_iter.specs.Counts.{IsCounted, day_alone};
 ghost use Rattle.rr_iter.specs.Ends.{AnswersDayOf, IsSoundRule, up_to_cycle, up_to_start};
 
+use crate::counts::{Counted, LastDay};
 use crate::nth::{Nth, day_of_nth};
 use rr_model::{Fault, Kind, MAX_SPAN_DAYS, Refusal, Rule, day_part};
 use rr_num::day_cycle;
@@ -13,23 +15,27 @@ use std::alloc::Global;
 // The seconds of a span, of which a rule chooses at most all.
 const MOST_MOMENTS: u64 = 86_400 * (MAX_SPAN_DAYS + 1);
 
-// The day of the chosen moment of a number; refused where it lies more than `MAX_SPAN_DAYS` days after the start's.
+// The day of the chosen moment of a number, and what was counted where it lies after the first cycle; refused where it lies more
+// than `MAX_SPAN_DAYS` days after the start's.
 pub(crate) fn last_counted(
     alloc: Global,
     rule: &Rule,
     kind: Kind,
     start: i64,
     count: u64,
-) -> Result<i64, Fault>
+) -> Result<LastDay, Fault>
     requires sound { IsSoundRule kind start rule.now }
     requires some { 1 ≤ count }
-    ensures { AnswersDayOf (chosen_of rule.now kind start) (day_part kind start) count result }
+    ensures day { AnswersDayOf (chosen_of rule.now kind start) (day_part kind start) count
+        (day_alone result) }
+    ensures counted { IfOk result (λ last.
+        IfSome last.counted (IsCounted rule.now kind start count)) }
 {
     if count > MOST_MOMENTS {
         return Err(Fault::Refused(Refusal::CountedTooFar));
     }
     match day_of_nth(alloc, rule, kind, start, count, day_part(kind, start))? {
-        Nth::On(day) => Ok(day),
+        Nth::On(day) => Ok(LastDay { day, counted: None }),
         Nth::Beyond(left) => after_start(alloc, rule, kind, start, count, left),
     }
 }
@@ -43,16 +49,19 @@ fn after_start(
     start: i64,
     count: u64,
     left: u64,
-) -> Result<i64, Fault>
+) -> Result<LastDay, Fault>
     requires sound { IsSoundRule kind start rule.now }
     requires some { 1 ≤ left }
     requires left { up_to_start rule.now kind start + left ≡ count }
-    ensures { AnswersDayOf (chosen_of rule.now kind start) (day_part kind start) count result }
+    ensures day { AnswersDayOf (chosen_of rule.now kind start) (day_part kind start) count
+        (day_alone result) }
+    ensures counted { IfOk result (λ last.
+        IfSome last.counted (IsCounted rule.now kind start count)) }
 {
     let cycle = cycle_within_span(rule);
     let to = day_part(kind, start) + cycle as i64;
     match day_of_nth(alloc, rule, kind, start, count, to)? {
-        Nth::On(day) => Ok(day),
+        Nth::On(day) => Ok(LastDay { day, counted: None }),
         Nth::Beyond(after) => {
             if cycle == MAX_SPAN_DAYS {
                 return Err(Fault::Refused(Refusal::CountedTooFar));
@@ -60,7 +69,14 @@ fn after_start(
             if after == left {
                 return Err(Fault::Refused(Refusal::CountedTooFar));
             }
-            after_cycles(alloc, rule, kind, start, count, left, left - after)
+            let each = left - after;
+            match after_cycles(alloc, rule, kind, start, count, left, each) {
+                Ok(day) => Ok(LastDay {
+                    day,
+                    counted: Some(Counted { each, after }),
+                }),
+                Err(fault) => Err(fault),
+            }
         }
     }
 }

@@ -1,5 +1,5 @@
 // The last day of a rule that ends.
-ghost use Rattle.std.specs.Prelude.{◌≡◌, ◌≤◌, ◌≤ℤ◌, IfOk, List, ℕ, pos};
+ghost use Rattle.std.specs.Prelude.{◌≡◌, ◌≤◌, ◌≤ℤ◌, IfOk, IfSome, List, ℕ, pos};
 ghost use Rattle.rr_model.specs.Bounds.{latest_day};
 ghost use Rattle.rr_model.specs.Answers.{RefusedExactlyWhere};
 ghost use Rattle.rr_model.specs.Moment.{day_part};
@@ -8,27 +8,39 @@ ghost use Rattle.rr_model.specs.Series.Limits.{CountsTooFar};
 ghost use Rattle.rr_model.specs.Series.Tree.{members_of};
 ghost use Rattle.rr_model.specs.declared.refusal.Refusal.TheVariants.{CountedTooFar};
 ghost use Rattle.rr_lazy.specs.Next.{IsUnasked};
+ghost use Rattle.rr_iter.specs.Counts.{IsCountOf};
 ghost use Rattle.rr_iter.specs.Ends.{IsLastDay, IsLastUpTo, IsSoundRule};
 
 use crate::EndedLazy;
 use crate::counted::last_counted;
+use crate::counts::LastDay;
 use rr_lazy::Lazy;
 use rr_model::{End, Fault, Kind, NoMemory, Rule, day_part};
 use rr_shapes::SetTable;
 use std::alloc::Global;
 
-// The last day of a rule's UNTIL or members; the start's day for an endless rule.
-pub(crate) fn last_day(alloc: Global, rule: &Rule, kind: Kind, start: i64) -> Result<i64, Fault>
+// The last day of a rule's UNTIL or members, and what was counted to find it; the start's day for an endless rule.
+pub(crate) fn last_day(alloc: Global, rule: &Rule, kind: Kind, start: i64) -> Result<LastDay, Fault>
     requires sound { IsSoundRule kind start rule.now }
-    ensures day { IfOk result (IsLastDay kind start rule.now) }
-    ensures near { IfOk result (λ day. day ≤ℤ pos 19_710_112) }
+    ensures day { IfOk result (λ last. IsLastDay kind start rule.now last.day) }
+    ensures near { IfOk result (λ last. last.day ≤ℤ pos 19_710_112) }
+    ensures counted { IfOk result (λ last. IfSome last.counted (IsCountOf kind start rule.now)) }
     ensures refused { RefusedExactlyWhere (CountsTooFar kind start rule.now) CountedTooFar result }
 {
     match rule.end {
-        End::Never => Ok(day_part(kind, start)),
-        End::Until { at, .. } => Ok(day_part(kind, at)),
+        End::Never => Ok(LastDay {
+            day: day_part(kind, start),
+            counted: None,
+        }),
+        End::Until { at, .. } => Ok(LastDay {
+            day: day_part(kind, at),
+            counted: None,
+        }),
         End::Count(count) => last_counted(alloc, rule, kind, start, count),
-        End::Both { at, .. } => Ok(last_member(alloc, rule, kind, start, day_part(kind, at))?),
+        End::Both { at, .. } => Ok(LastDay {
+            day: last_member(alloc, rule, kind, start, day_part(kind, at))?,
+            counted: None,
+        }),
     }
 }
 

@@ -1,4 +1,4 @@
-use Rattle.std.proofs.Common.{◌≡◌, true, false, [], sym, ◌∙◌}
+use Rattle.std.proofs.Common.{◌≡◌, true, [], sym, ◌∙◌}
 use Rattle.std.proofs.lemmas.Bool.{eqb-true, false≢true}
 use Rattle.rr_iter.proofs.AloneLemmas.{none_is, one_rule}
 use Rattle.rr_iter.proofs.alone_lazy.is_alone.Goals.{then-len-eq1, else-len-eq1, then-series, else-series, then-is_empty, else-is_empty}

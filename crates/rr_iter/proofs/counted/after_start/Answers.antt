@@ -1,4 +1,4 @@
-use Rattle.std.proofs.Common.{◌≡◌, ℕ, ◌+◌, ◌≤◌, ℤ, pos, ◌+ℤ◌, ◌≤ℤ◌, w64, to_z, of_z, FitsSigned, to_z-of_z, refl, ap, arith}
+use Rattle.std.proofs.Common.{◌≡◌, ℕ, ◌+◌, ◌-◌, ◌≤◌, ℤ, pos, ◌+ℤ◌, ◌≤ℤ◌, w64, to_z, of_z, FitsSigned, to_z-of_z, refl, ap, arith}
 use Rattle.std.proofs.lemmas.Int.{ints}
 use Rattle.rr_model.specs.Bounds.{first_day_of_all}
 use Rattle.rr_model.specs.Moment.{day_part}
@@ -8,6 +8,7 @@ use Rattle.rr_model.specs.Sets.Tree.{Tree, chosen_of, stands_at}
 use Rattle.rr_model.specs.declared.limits.TheConstants.{MAX_SPAN_DAYS}
 use Rattle.rr_model.proofs.YearLemmas.{year_1}
 use Rattle.rr_lazy.proofs.CountingLemmas.{before_grows}
+use Rattle.rr_iter.specs.Counts.{IsCounted}
 use Rattle.rr_iter.specs.Ends.{before_day}
 use Rattle.rr_iter.proofs.CountedLemmas.{rule_number_never, start_begun, start_bounds}
 use Rattle.rr_iter.proofs.counted.after_start.Goals.{After-day_part, Else-after-left}
@@ -82,9 +83,9 @@ same_days : (tree : Tree) (first : ℤ) (days whole : ℕ) → days ≡ whole
     → before_day tree ((first +ℤ pos days) +ℤ pos 1) ≡ before_day tree ((first +ℤ pos whole) +ℤ pos 1)
 same_days tree first days whole e = ap (λ n. before_day tree ((first +ℤ pos n) +ℤ pos 1)) e
 
-pub returns-then-cycle-eq-MAX_SPAN_DAYS : goal.returns-then-cycle-eq-MAX_SPAN_DAYS
-returns-then-cycle-eq-MAX_SPAN_DAYS c =
-    let s = span (goal.at.returns-then-cycle-eq-MAX_SPAN_DAYS c).After-day_part in
+pub returns-then-cycle-eq-MAX_SPAN_DAYS-clause-day : goal.returns-then-cycle-eq-MAX_SPAN_DAYS-clause-day
+returns-then-cycle-eq-MAX_SPAN_DAYS-clause-day c =
+    let s = span (goal.at.returns-then-cycle-eq-MAX_SPAN_DAYS-clause-day c).After-day_part in
     let place = rw (c.in-Beyond.is, to_z-of_z c.ranges.start, s.to) at c.in_ok-day.ensures in
     let first : ℤ = day_part c.args.kind c.args.start in
     let cycle : ℕ = c.cycle_within_span-cycle.result in
@@ -92,9 +93,9 @@ returns-then-cycle-eq-MAX_SPAN_DAYS c =
     let end : (first +ℤ pos cycle) +ℤ pos 1 ≡ first +ℤ pos 16_777_217 = omega (arith, ints, whole) in
     (refl, omega (arith, ap (before_day (chosen_of c.args.rule.now c.args.kind c.args.start)) end, place.0, place.1))
 
-pub returns-then-after-left : goal.returns-then-after-left
-returns-then-after-left c =
-    let s = span (goal.at.returns-then-after-left c).After-day_part in
+pub returns-then-after-left-clause-day : goal.returns-then-after-left-clause-day
+returns-then-after-left-clause-day c =
+    let s = span (goal.at.returns-then-after-left-clause-day c).After-day_part in
     let place = rw (c.in-Beyond.is, to_z-of_z c.ranges.start, s.to) at c.in_ok-day.ensures in
     let rule = c.args.rule.now in
     let kind = c.args.kind in
@@ -107,45 +108,58 @@ returns-then-after-left c =
     omega (arith, same_days tree first _ _ whole, same, c.requires.left, place.1) in
     (refl, rule_number_never kind start rule c.requires.sound 0 one c.args.count c.args.left c.requires.left c.requires.some refl)
 
+-- what was counted then
 record Beyond (c : Else-after-left) : Type 0 where
-  count : before_day (chosen_of c.args.rule.now c.args.kind c.args.start)
-      ((day_part c.args.kind c.args.start +ℤ pos c.cycle_within_span-cycle.result) +ℤ pos 1) + c.in-Beyond.after ≡ c.args.count
   falls : c.in-Beyond.after ≤ c.args.left
+  known : IsCounted c.args.rule.now c.args.kind c.args.start c.args.count (record { each = c.args.left - c.in-Beyond.after; after = c.in-Beyond.after })
 
 beyond : (c : Else-after-left) → Beyond c
 beyond c =
     let kind = c.args.kind in
     let start = c.args.start in
     let rule = c.args.rule.now in
-    let s = span (goal.at.overflow_sub-left c).After-day_part in
+    let tree : Tree = chosen_of rule kind start in
+    let s = span (goal.at.overflow_sub-each c).After-day_part in
     let place = rw (c.in-Beyond.is, to_z-of_z c.ranges.start, s.to) at c.in_ok-day.ensures in
+    let falls = left_falls tree (day_part kind start) c.cycle_within_span-cycle.result c.args.count c.args.left c.in-Beyond.after
+    (start_begun kind start rule c.requires.sound) c.requires.left place.1 in
+    let whole : c.cycle_within_span-cycle.result ≡ rule_cycle rule = omega (arith, c.cycle_within_span-cycle.ensures, c.if-cycle-eq-MAX_SPAN_DAYS.false) in
+    let same = same_days tree (day_part kind start) c.cycle_within_span-cycle.result (rule_cycle rule) whole in
     record {
-      count = place.1;
-      falls = left_falls (chosen_of rule kind start) (day_part kind start) c.cycle_within_span-cycle.result c.args.count c.args.left c.in-Beyond.after
-          (start_begun kind start rule c.requires.sound) c.requires.left place.1;
+      falls = falls;
+      known = record {
+        some_each = omega (arith, falls, c.if-after-left.false);
+        each = omega (arith, same, falls, c.requires.left, place.1);
+        some_after = place.0;
+        after = omega (arith, same, place.1);
+      };
     }
 
-pub overflow_sub-left : goal.overflow_sub-left
-overflow_sub-left c = (beyond c).falls
+pub overflow_sub-each : goal.overflow_sub-each
+overflow_sub-each c = (beyond c).falls
 
 pub after_cycles-requires-clause-each : goal.after_cycles-requires-clause-each
-after_cycles-requires-clause-each c =
-    let b = beyond c in
-    let rule = c.args.rule.now in
-    let tree : Tree = chosen_of rule c.args.kind c.args.start in
-    let whole : c.cycle_within_span-cycle.result ≡ rule_cycle rule = omega (arith, c.cycle_within_span-cycle.ensures, c.if-cycle-eq-MAX_SPAN_DAYS.false) in
-    rw (to_z-of_z c.ranges.start)
-    (omega (arith, same_days tree (day_part c.args.kind c.args.start) _ _ whole, b.falls, c.requires.left, b.count))
+after_cycles-requires-clause-each c = rw (to_z-of_z c.ranges.start) (beyond c).known.each
 
 pub after_cycles-requires-clause-some_each : goal.after_cycles-requires-clause-some_each
-after_cycles-requires-clause-some_each c =
-    omega (arith, (beyond c).falls, c.if-after-left.false)
+after_cycles-requires-clause-some_each c = (beyond c).known.some_each
+
+pub returns-in-Ok-clause-counted : goal.returns-in-Ok-clause-counted
+returns-in-Ok-clause-counted c = (beyond (goal.at.returns-in-Ok-clause-counted c).Else-after-left).known
+
+pub returns-in-Ok-clause-day : goal.returns-in-Ok-clause-day
+returns-in-Ok-clause-day c =
+    let s = span (goal.at.returns-in-Ok-clause-day c).After-day_part in
+    let place = rw (to_z-of_z c.ranges.start) at c.in-Ok.ensures in
+    let low : first_day_of_all ≤ℤ c.in-Ok.day = omega (arith, ints, place.1.begun, year_1) in
+    let same : to_z w64 (of_z w64 c.in-Ok.day) ≡ c.in-Ok.day = omega (arith, ints, low, place.0, s.high) in
+    rw same place
 
 -- ---- where it lies up to it
 
-pub returns-in-On : goal.returns-in-On
-returns-in-On c =
-    let s = span (goal.at.returns-in-On c).After-day_part in
+pub returns-in-On-clause-day : goal.returns-in-On-clause-day
+returns-in-On-clause-day c =
+    let s = span (goal.at.returns-in-On-clause-day c).After-day_part in
     let place = rw (c.in-On.is, to_z-of_z c.ranges.start, s.to) at c.in_ok-day.ensures in
     let low : first_day_of_all ≤ℤ c.in-On.day = omega (arith, ints, place.1.begun, year_1) in
     let same : to_z w64 (of_z w64 c.in-On.day) ≡ c.in-On.day = omega (arith, ints, low, place.0, s.high, s.within) in

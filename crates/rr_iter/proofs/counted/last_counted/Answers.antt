@@ -6,8 +6,8 @@ use Rattle.rr_model.proofs.YearLemmas.{year_1}
 use Rattle.rr_iter.proofs.CountedLemmas.{span_most, start_bounds}
 use Rattle.rr_iter.proofs.counted.last_counted.Goals as goal
 
-pub returns-then-count-gt-MOST_MOMENTS : goal.returns-then-count-gt-MOST_MOMENTS
-returns-then-count-gt-MOST_MOMENTS c =
+pub returns-then-count-gt-MOST_MOMENTS-clause-day : goal.returns-then-count-gt-MOST_MOMENTS-clause-day
+returns-then-count-gt-MOST_MOMENTS-clause-day c =
     (refl, omega (arith, span_most c.args.kind c.args.start c.args.rule.now c.requires.sound, c.if-count-gt-MOST_MOMENTS.true))
 
 pub day_of_nth-requires-clause-high : goal.day_of_nth-requires-clause-high
@@ -16,8 +16,8 @@ day_of_nth-requires-clause-high c =
     let day = rw (to_z-of_z c.ranges.start) at c.day_part.ensures in
     omega (arith, ints, day, bounds.0, bounds.1)
 
-pub returns-in-On : goal.returns-in-On
-returns-in-On c =
+pub returns-in-On-clause-day : goal.returns-in-On-clause-day
+returns-in-On-clause-day c =
     let first : ℤ = day_part c.args.kind c.args.start in
     let bounds = start_bounds c.args.kind c.args.start c.args.rule.now c.requires.sound in
     let day = rw (to_z-of_z c.ranges.start) at c.day_part.ensures in

@@ -5,7 +5,7 @@ use Rattle.rr_model.specs.Sets.Tree.{chosen_of}
 use Rattle.rr_model.proofs.YearLemmas.{four_digit_bounds}
 use Rattle.rr_iter.proofs.CountedFarLemmas.{both_not_far}
 use Rattle.rr_iter.proofs.CountedLemmas.{start_bounds}
-use Rattle.rr_iter.proofs.LastDayLemmas.{both_in_years, both_last, both_near, count_answered, count_refused, day_near, until_near}
+use Rattle.rr_iter.proofs.LastDayLemmas.{both_in_years, both_last, both_near, count_answered, count_given, count_refused, day_near, until_near}
 use Rattle.rr_iter.proofs.last_day.last_day.Goals as goal
 
 pub returns-in-Never-clause-near : goal.returns-in-Never-clause-near
@@ -27,19 +27,24 @@ returns-in-Until-clause-near c =
 pub returns-in-Count-clause-day : goal.returns-in-Count-clause-day
 returns-in-Count-clause-day c =
     let sound = c.requires.sound in
-    let answer = rw (to_z-of_z c.ranges.start) at c.last_counted.ensures in
+    let answer = rw (to_z-of_z c.ranges.start) at c.last_counted.ensures.day in
     count_answered c.args.kind c.args.start c.args.rule.now c.in-Count.count c.in-Count.is sound c.last_counted.result answer
 
 pub returns-in-Count-clause-near : goal.returns-in-Count-clause-near
 returns-in-Count-clause-near c =
     let bounds = start_bounds c.args.kind c.args.start c.args.rule.now c.requires.sound in
-    let answer = rw (to_z-of_z c.ranges.start) at c.last_counted.ensures in
+    let answer = rw (to_z-of_z c.ranges.start) at c.last_counted.ensures.day in
     day_near (chosen_of c.args.rule.now c.args.kind c.args.start) (day_part c.args.kind c.args.start) c.in-Count.count c.last_counted.result bounds.1 answer
 
 pub returns-in-Count-clause-refused : goal.returns-in-Count-clause-refused
 returns-in-Count-clause-refused c =
-    let answer = rw (to_z-of_z c.ranges.start) at c.last_counted.ensures in
+    let answer = rw (to_z-of_z c.ranges.start) at c.last_counted.ensures.day in
     count_refused c.args.kind c.args.start c.args.rule.now c.in-Count.count c.in-Count.is c.requires.sound c.last_counted.result answer
+
+pub returns-in-Count-clause-counted : goal.returns-in-Count-clause-counted
+returns-in-Count-clause-counted c =
+    let counted = rw (to_z-of_z c.ranges.start) at c.last_counted.ensures.counted in
+    count_given c.args.kind c.args.start c.args.rule.now c.in-Count.count c.in-Count.is c.requires.sound c.last_counted.result counted
 
 pub last_member-requires-clause-high : goal.last_member-requires-clause-high
 last_member-requires-clause-high c =

@@ -1,9 +1,9 @@
-use Rattle.std.proofs.Common.{rules, ◌≡◌, true, w64, to_z, of_z, to_z-of_z, FitsSigned, ap, sym, subst, ◌∙◌}
-use Rattle.rr_model.specs.Series.Tree.{members_of, tree_of}
+use Rattle.std.proofs.Common.{rules, ◌≡◌, true, w64, to_z-of_z, FitsSigned, ap, sym, subst, ◌∙◌}
+use Rattle.rr_model.specs.Series.Tree.{members_of}
 use Rattle.rr_model.specs.Sets.Tree.{IsOfOneKind, stands_in}
 use Rattle.rr_iter.specs.Alone.{tree_alone}
 use Rattle.rr_iter.specs.Ended.{tree_of_ended}
-use Rattle.rr_iter.proofs.AloneLemmas.{has_start, of_one_kind, tree_is}
+use Rattle.rr_iter.proofs.AloneLemmas.{has_start, of_one_kind}
 use Rattle.rr_iter.proofs.alone_lazy.AloneLazy.new.Goals as goal
 
 pub invariant_of-result : goal.invariant_of-result
