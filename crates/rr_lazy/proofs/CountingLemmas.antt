@@ -124,7 +124,7 @@ module _ (test : ℕ → Bool) (xs : List ℕ) (set : IsSetOf nat_lt xs (λ s. I
     ])
   ] refl
 
-  -- the seconds up to the one at a place are as many as the place says
+  -- the seconds up to the one at an index are as many as the index says
   pub seconds_to : (k : ℕ) → k < length xs → count_seconds test (get_or xs k 0 + 1) ≡ k + 1
   seconds_to k l =
       let x : ℕ = get_or xs k 0 in

@@ -77,7 +77,7 @@ module _ (tree : Tree) (own position : ℤ) (count left : ℕ) (k : IsCounting t
     skipped : count_before (λ d s. stands_at tree d s) day ≡ count_before (λ d s. stands_at tree d s) position
     skipped = before_skip (λ d s. stands_at tree d s) position day k.begun late (rw (k.together h) at f.before)
 
-    -- the second at a place of the day is the next but n
+    -- the second at an index of the day is the next but n
     number_at : (i : ℕ) → i < length times → count_to (λ d s. stands_at tree d s) day (get_or times i 0) + left ≡ count + (i + 1)
     number_at i l = omega (
       arith,

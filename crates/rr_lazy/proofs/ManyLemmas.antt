@@ -112,7 +112,7 @@ module _ {X : Type 0} (tree : X → Tree) (own : X → ℤ) (ahead : X
       some = λ z. (let m =
           has_some (tree (get_or xs gave.0 e)) (own (get_or xs gave.0 e)) from d (ahead (get_or xs gave.0 e)) (known gave.0 e gave.1) (gave.2 e) in
           let t : some_stands_at (forest_of tree xs) d m.0 ≡ true =
-          some_true tree xs d m.0 gave.0 gave.1 (λ x. same_place gave.0 gave.1 x m.0 ((on gave.0 e gave.1 m.0).1 m.1)) in
+          some_true tree xs d m.0 gave.0 gave.1 (λ x. same_index gave.0 gave.1 x m.0 ((on gave.0 e gave.1 m.0).1 m.1)) in
           Contains-none m.0 (subst (λ x. Contains x m.0) z ((set.exact m.0).1 (has m.0 t))));
       all = set_same nat_lt (HasOnSome ahead xs (length xs) d) (λ s. IsTrue (stands_at (many (forest_of tree xs)) d s)) times set (λ s. (
         λ h. some_true tree xs d s h.0 h.2 (λ x. (on h.0 x h.2 s).1 (h.3 x)),
@@ -120,8 +120,8 @@ module _ {X : Type 0} (tree : X → Tree) (own : X → ℤ) (ahead : X
       ));
     }
       where
-        same_place : (k : ℕ) → k < length xs → (x : X) (s : ℕ) → stands_at (tree (get_or xs k e)) d s ≡ true → stands_at (tree (get_or xs k x)) d s ≡ true
-        same_place k l x s t = subst (λ y. stands_at (tree y) d s ≡ true) (get_or_default xs k e x l) t
+        same_index : (k : ℕ) → k < length xs → (x : X) (s : ℕ) → stands_at (tree (get_or xs k e)) d s ≡ true → stands_at (tree (get_or xs k x)) d s ≡ true
+        same_index k l x s t = subst (λ y. stands_at (tree y) d s ≡ true) (get_or_default xs k e x l) t
 
         has : (s : ℕ) → some_stands_at (forest_of tree xs) d s ≡ true → HasOnSome ahead xs (length xs) d s
         has s t = (let w = some_which tree xs d s t in (w.0, w.1, w.1, λ x. (on w.0 x w.1 s).0 (w.2 x)))
@@ -132,20 +132,20 @@ module _ {X : Type 0} (ahead : X → Option DayTimes) (xs : List X) (d : ℤ) wh
   pub none_yet_on : (s : ℕ) → HasOnSome ahead xs 0 d s → ⊥
   none_yet_on s h = absurd (omega (arith, h.1))
 
-  pub one_more_on : (place s : ℕ) (x : X) → place < length xs → x ≡ get_or xs place x
-      → (HasOnSome ahead xs place d s ⊎ HasOn (ahead x) d s) ↔ HasOnSome ahead xs (place + 1) d s
-  one_more_on place s x l e = (
+  pub one_more_on : (index s : ℕ) (x : X) → index < length xs → x ≡ get_or xs index x
+      → (HasOnSome ahead xs index d s ⊎ HasOn (ahead x) d s) ↔ HasOnSome ahead xs (index + 1) d s
+  one_more_on index s x l e = (
     λ h. elim h [
       | inl y ↦ (y.0, omega (arith, y.1), y.2, y.3)
-      | inr y ↦ (place, omega arith, l, λ z. subst (λ w. HasOn (ahead w) d s) (e ∙ get_or_default xs place x z l) y)
+      | inr y ↦ (index, omega arith, l, λ z. subst (λ w. HasOn (ahead w) d s) (e ∙ get_or_default xs index x z l) y)
     ],
     λ h. which h.0 h.1 h.2 h.3,
   )
     where
-      which : (k : ℕ) → k < place + 1 → k < length xs → ((z : X) → HasOn (ahead (get_or xs k z)) d s) → HasOnSome ahead xs place d s ⊎ HasOn (ahead x) d s
-      which k m n h = elim (cases_lt k place) [
+      which : (k : ℕ) → k < index + 1 → k < length xs → ((z : X) → HasOn (ahead (get_or xs k z)) d s) → HasOnSome ahead xs index d s ⊎ HasOn (ahead x) d s
+      which k m n h = elim (cases_lt k index) [
         | inl p ↦ inl (k, p, n, h)
-        | inr p ↦ (let q : place ≡ k = omega arith in
+        | inr p ↦ (let q : index ≡ k = omega arith in
             inr (subst (λ w. HasOn (ahead w) d s) (sym e) (subst (λ j. HasOn (ahead (get_or xs j x)) d s) (sym q) (h x))))
       ]
 
@@ -162,27 +162,27 @@ given_is old new a b d None g f e = absurd (cc)
 given_is old new a b d (Some found) g f e = (let i : f ≡ found = cc in rw i g.1)
 
 -- the seconds of one more part join those that were given
-module _ {X : Type 0} (start old new : List (List ℕ)) (ahead : X → Option OccupiedDay) (xs : List X) (d : ℤ) (place : ℕ) (x : X) (l : place < length xs)
-    (e : x ≡ get_or xs place x) (more : Extends start old) (within : ForSome (ahead x) (IsWithin start)) where
-  none_more : IsGivenBySome start ahead xs place d old None → (GaveDay (seen old (ahead x)) d → ⊥) → IsGivenBySome start ahead xs (place + 1) d new None
-  none_more by not k m n z g = elim (cases_lt k place) [
+module _ {X : Type 0} (start old new : List (List ℕ)) (ahead : X → Option OccupiedDay) (xs : List X) (d : ℤ) (index : ℕ) (x : X) (l : index < length xs)
+    (e : x ≡ get_or xs index x) (more : Extends start old) (within : ForSome (ahead x) (IsWithin start)) where
+  none_more : IsGivenBySome start ahead xs index d old None → (GaveDay (seen old (ahead x)) d → ⊥) → IsGivenBySome start ahead xs (index + 1) d new None
+  none_more by not k m n z g = elim (cases_lt k index) [
     | inl p ↦ by k p n z g
-    | inr p ↦ (let q : place ≡ k = omega arith in
+    | inr p ↦ (let q : index ≡ k = omega arith in
         let here : GaveDay (seen start (ahead x)) d =
-        subst (λ y. GaveDay (seen start (ahead y)) d) (sym (e ∙ get_or_default xs place x z l)) (subst (λ j. GaveDay (seen start (ahead (get_or xs j z))) d) (sym q) g) in
+        subst (λ y. GaveDay (seen start (ahead y)) d) (sym (e ∙ get_or_default xs index x z l)) (subst (λ j. GaveDay (seen start (ahead (get_or xs j z))) d) (sym q) g) in
         not (subst (λ y. GaveDay y d) (sym (same_seen start old (ahead x) more within).1) here))
   ]
 
-  pub more_given : (given found : Option OccupiedDay) → IsGivenBySome start ahead xs place d old given → IsGivenByBoth old given (ahead x) d new found
-      → IsGivenBySome start ahead xs (place + 1) d new found
+  pub more_given : (given found : Option OccupiedDay) → IsGivenBySome start ahead xs index d old given → IsGivenByBoth old given (ahead x) d new found
+      → IsGivenBySome start ahead xs (index + 1) d new found
   more_given None None by both = none_more by both.1
   more_given (Some f) None by both = absurd (both.0 by.0)
   more_given None (Some g) by both = (
     both.0,
     both.1,
-    set_same nat_lt (λ s. HasOn (seen old None) d s ⊎ HasOn (seen old (ahead x)) d s) (HasOnSome (λ p. seen start (ahead p)) xs (place + 1) d)
+    set_same nat_lt (λ s. HasOn (seen old None) d s ⊎ HasOn (seen old (ahead x)) d s) (HasOnSome (λ p. seen start (ahead p)) xs (index + 1) d)
         ((with_set new g).times) both.3 (λ s. (
-        let one = one_more_on (λ p. seen start (ahead p)) xs d place s x l e in
+        let one = one_more_on (λ p. seen start (ahead p)) xs d index s x l e in
         let same = (same_seen start old (ahead x) more within).1 in (
           λ h. elim h [ inl y ↦ absurd y | inr y ↦ one.0 (inr (subst (λ w. HasOn w d s) same y)) ],
           λ h. elim (one.1 h) [
@@ -192,7 +192,7 @@ module _ {X : Type 0} (start old new : List (List ℕ)) (ahead : X → Option Oc
         ))),
   )
     where
-      gave_of : (s : ℕ) → HasOnSome (λ p. seen start (ahead p)) xs place d s → ⊥
+      gave_of : (s : ℕ) → HasOnSome (λ p. seen start (ahead p)) xs index d s → ⊥
       gave_of s h = by h.0 h.1 h.2 x (day_of (seen start (ahead (get_or xs h.0 x))) (h.3 x))
         where
           day_of : (a : Option DayTimes) → HasOn a d s → GaveDay a d
@@ -201,9 +201,9 @@ module _ {X : Type 0} (start old new : List (List ℕ)) (ahead : X → Option Oc
   more_given (Some f) (Some g) by both = (
     both.0,
     both.1,
-    set_same nat_lt (λ s. HasOn (seen old (Some f)) d s ⊎ HasOn (seen old (ahead x)) d s) (HasOnSome (λ p. seen start (ahead p)) xs (place + 1) d)
+    set_same nat_lt (λ s. HasOn (seen old (Some f)) d s ⊎ HasOn (seen old (ahead x)) d s) (HasOnSome (λ p. seen start (ahead p)) xs (index + 1) d)
         ((with_set new g).times) both.3 (λ s. (
-        let one = one_more_on (λ p. seen start (ahead p)) xs d place s x l e in
+        let one = one_more_on (λ p. seen start (ahead p)) xs d index s x l e in
         let same = (same_seen start old (ahead x) more within).1 in (
           λ h. elim h [ inl y ↦ one.0 (inl ((by.2.exact s).0 y.1)) | inr y ↦ one.0 (inr (subst (λ w. HasOn w d s) same y)) ],
           λ h. elim (one.1 h) [
@@ -215,23 +215,23 @@ module _ {X : Type 0} (start old new : List (List ℕ)) (ahead : X → Option Oc
 
 -- ---- the least day
 
-module _ {X : Type 0} (ahead : X → Option DayTimes) (xs : List X) (place : ℕ) (first next : ℤ) where
-  pub least_more : (x : X) → place < length xs → x ≡ get_or xs place x
-      → ((k : ℕ) (d : X) → k < place → k < length xs → ForSome (ahead (get_or xs k d)) (λ f. first ≤ℤ f.day)) → next ≤ℤ first
+module _ {X : Type 0} (ahead : X → Option DayTimes) (xs : List X) (index : ℕ) (first next : ℤ) where
+  pub least_more : (x : X) → index < length xs → x ≡ get_or xs index x
+      → ((k : ℕ) (d : X) → k < index → k < length xs → ForSome (ahead (get_or xs k d)) (λ f. first ≤ℤ f.day)) → next ≤ℤ first
       → ForSome (ahead x) (λ f. next ≤ℤ f.day)
-      → (k : ℕ) (d : X) → k < place + 1 → k < length xs → ForSome (ahead (get_or xs k d)) (λ f. next ≤ℤ f.day)
-  least_more x l e all bound here k d m n = elim (cases_lt k place) [
+      → (k : ℕ) (d : X) → k < index + 1 → k < length xs → ForSome (ahead (get_or xs k d)) (λ f. next ≤ℤ f.day)
+  least_more x l e all bound here k d m n = elim (cases_lt k index) [
     | inl p ↦ (λ f h. omega (arith, ints, all k d p n f h, bound))
-    | inr p ↦ (let q : place ≡ k = omega arith in
+    | inr p ↦ (let q : index ≡ k = omega arith in
         subst (λ j. ForSome (ahead (get_or xs j d)) (λ f. next ≤ℤ f.day)) q
-        (subst (λ y. ForSome (ahead y) (λ f. next ≤ℤ f.day)) (e ∙ get_or_default xs place x d l) here))
+        (subst (λ y. ForSome (ahead y) (λ f. next ≤ℤ f.day)) (e ∙ get_or_default xs index x d l) here))
   ]
 
-  pub gave_more : (from : ℤ) (x : X) → place < length xs → x ≡ get_or xs place x → (first ≡ from) ⊎ GaveDaySome ahead xs first
+  pub gave_more : (from : ℤ) (x : X) → index < length xs → x ≡ get_or xs index x → (first ≡ from) ⊎ GaveDaySome ahead xs first
       → (next ≡ first) ⊎ GaveDay (ahead x) next → (next ≡ from) ⊎ GaveDaySome ahead xs next
   gave_more from x l e (inl a) (inl b) = inl (b ∙ a)
   gave_more from x l e (inr a) (inl b) = inr (subst (λ y. GaveDaySome ahead xs y) (sym b) a)
-  gave_more from x l e a (inr b) = inr (place, l, λ d. subst (λ y. GaveDay (ahead y) next) (e ∙ get_or_default xs place x d l) b)
+  gave_more from x l e a (inr b) = inr (index, l, λ d. subst (λ y. GaveDay (ahead y) next) (e ∙ get_or_default xs index x d l) b)
 
 -- what a part gave is the day by every table
 module _ (sets : List (List ℕ)) where
@@ -328,35 +328,35 @@ next_given tree position to day next sets new ahead xs (Some found) given gave x
 )
 
 -- one more part has forgotten the day
-module _ {X L : Type 0} (ahead : X → Option DayTimes) (lazy : X → L) (old mid : List X) (d : ℤ) (place : ℕ) (y : X) (l : place < length mid)
-    (left : IsLeftBy ahead lazy old d place mid) (same : (z : X) → lazy y ≡ lazy (get_or mid place z))
-    (here : (z : X) → IsLeft (ahead (get_or mid place z)) d (ahead y)) where
-  lazies_more : (k : ℕ) (z : X) → k < length old → lazy (get_or (slice_set mid place y) k z) ≡ lazy (get_or old k z)
-  lazies_more k z m = elim (cases_lt k place) [
-    | inl p ↦ rw (other_set mid place k y z (λ e. absurd (omega (arith, e, p)))) (left.lazies k z m)
+module _ {X L : Type 0} (ahead : X → Option DayTimes) (lazy : X → L) (old mid : List X) (d : ℤ) (index : ℕ) (y : X) (l : index < length mid)
+    (left : IsLeftBy ahead lazy old d index mid) (same : (z : X) → lazy y ≡ lazy (get_or mid index z))
+    (here : (z : X) → IsLeft (ahead (get_or mid index z)) d (ahead y)) where
+  lazies_more : (k : ℕ) (z : X) → k < length old → lazy (get_or (slice_set mid index y) k z) ≡ lazy (get_or old k z)
+  lazies_more k z m = elim (cases_lt k index) [
+    | inl p ↦ rw (other_set mid index k y z (λ e. absurd (omega (arith, e, p)))) (left.lazies k z m)
     | inr p ↦
-        elim (cases_lt place k) [
-          | inl q ↦ rw (other_set mid place k y z (λ e. absurd (omega (arith, e, q)))) (left.lazies k z m)
-          | inr q ↦ (let e : place ≡ k = omega (arith, p, q) in
-              subst (λ j. lazy (get_or (slice_set mid place y) j z) ≡ lazy (get_or old j z)) e
-              (rw (same_set mid place y z l) (same z ∙ left.lazies place z (omega (arith, left.many, l)))))
+        elim (cases_lt index k) [
+          | inl q ↦ rw (other_set mid index k y z (λ e. absurd (omega (arith, e, q)))) (left.lazies k z m)
+          | inr q ↦ (let e : index ≡ k = omega (arith, p, q) in
+              subst (λ j. lazy (get_or (slice_set mid index y) j z) ≡ lazy (get_or old j z)) e
+              (rw (same_set mid index y z l) (same z ∙ left.lazies index z (omega (arith, left.many, l)))))
         ]
   ]
 
-  left_on : (k : ℕ) (z : X) → k < place + 1 → k < length old → IsLeft (ahead (get_or old k z)) d (ahead (get_or (slice_set mid place y) k z))
-  left_on k z n m = elim (cases_lt k place) [
-    | inl p ↦ rw (other_set mid place k y z (λ e. absurd (omega (arith, e, p)))) (left.left k z p m)
-    | inr p ↦ (let e : place ≡ k = omega (arith, p, n) in
-        subst (λ j. IsLeft (ahead (get_or old j z)) d (ahead (get_or (slice_set mid place y) j z))) e
-        (rw (same_set mid place y z l, sym (left.rest place z (omega arith) (omega (arith, left.many, l)))) (here z)))
+  left_on : (k : ℕ) (z : X) → k < index + 1 → k < length old → IsLeft (ahead (get_or old k z)) d (ahead (get_or (slice_set mid index y) k z))
+  left_on k z n m = elim (cases_lt k index) [
+    | inl p ↦ rw (other_set mid index k y z (λ e. absurd (omega (arith, e, p)))) (left.left k z p m)
+    | inr p ↦ (let e : index ≡ k = omega (arith, p, n) in
+        subst (λ j. IsLeft (ahead (get_or old j z)) d (ahead (get_or (slice_set mid index y) j z))) e
+        (rw (same_set mid index y z l, sym (left.rest index z (omega arith) (omega (arith, left.many, l)))) (here z)))
   ]
 
-  pub left_more : IsLeftBy ahead lazy old d (place + 1) (slice_set mid place y)
+  pub left_more : IsLeftBy ahead lazy old d (index + 1) (slice_set mid index y)
   left_more = record {
-    many = length_set mid place y ∙ left.many;
+    many = length_set mid index y ∙ left.many;
     lazies = lazies_more;
     left = left_on;
-    rest = λ k z n m. rw (other_set mid place k y z (λ e. absurd (omega (arith, e, n)))) (left.rest k z (omega (arith, n)) m);
+    rest = λ k z n m. rw (other_set mid index k y z (λ e. absurd (omega (arith, e, n)))) (left.rest k z (omega (arith, n)) m);
   }
 
 -- the day that was given is not the bound
@@ -365,7 +365,7 @@ pub gave_it : {X : Type 0} (ahead : X → Option DayTimes) (xs : List X) (day to
 gave_it ahead xs day to l (inl e) = absurd (omega (arith, ints, l, e))
 gave_it ahead xs day to l (inr g) = g
 
--- a list with a place has an element
+-- a list with an index has an element
 pub part_exists : {X : Type 0} (xs : List X) (k : ℕ) → k < length xs → X
 part_exists [] k l = absurd (omega arith)
 part_exists (x ∷ xs) k l = x

@@ -29,7 +29,7 @@ use Rattle.rr_lazy.specs.Next.{HasNone, IsFirstOccupied, IsWithin, with_set}
 use Rattle.rr_lazy.specs.Stretch.{IsFirstFrom, IsFirstDate}
 use Rattle.rr_lazy.proofs.TreeLemmas.{has_second_below}
 
--- ---- rising dates by place
+-- ---- rising dates by index
 
 -- a later date or moment has no earlier day
 pub day_mono : (kind : Kind) (t u : ℤ) → t ≤ℤ u → day_part kind t ≤ℤ day_part kind u
@@ -47,7 +47,7 @@ rising_to xs r i j l h =
           (let e : i ≡ j = omega arith in omega (arith, ints, ap (λ n. get_or xs n (pos 0)) e))
     ]
 
--- ---- the place of the first date from a day on
+-- ---- the index of the first date from a day on
 
 pub parted : (kind : Kind) (dates : List ℤ) (day : ℤ) → Rises int_lt dates → IsPartitionedBy (λ t. int_lt (day_part kind t) day) dates
 parted kind dates day r i j d le lt e =
@@ -57,9 +57,9 @@ parted kind dates day r i j d le lt e =
     day_mono kind (get_or dates i d) (get_or dates j d) (omega (arith, ints, a, b, rising_to dates r i j le lt)) in
     grind (arith, ints)
 
-pub first_place : (kind : Kind) (dates : List ℤ) (day : ℤ) (place : ℕ) → place ≤ length dates
-    → IsPartitionPoint (λ t. int_lt (day_part kind t) day ≡ true) (λ t. int_lt (day_part kind t) day ≡ false) dates place → IsFirstFrom kind dates day place
-first_place kind dates day place l p = record {
+pub first_index : (kind : Kind) (dates : List ℤ) (day : ℤ) (index : ℕ) → index ≤ length dates
+    → IsPartitionPoint (λ t. int_lt (day_part kind t) day ≡ true) (λ t. int_lt (day_part kind t) day ≡ false) dates index → IsFirstFrom kind dates day index
+first_index kind dates day index l p = record {
   within = l;
   below = λ k h. (let t : int_lt (day_part kind (get_or dates k (pos 0))) day ≡ true = p.0 k (pos 0) (omega arith) h in grind (arith, ints));
   from = λ k h m. (let t : int_lt (day_part kind (get_or dates k (pos 0))) day ≡ false = p.1 k (pos 0) h m in grind (arith, ints));
@@ -108,53 +108,53 @@ listed (x ∷ xs) t = (
 module _ (kind : Kind) (dates : List ℤ) (day : ℤ) where
   -- this second is among the first n dates
   abbrev pub StandsFirst : ℕ → ℕ → Type 0
-  StandsFirst place s = (k : ℕ) × (k < place) × (k < length dates) × (get_or dates k (pos 0) ≡ moment_at kind day s) × (has_second kind s ≡ true)
+  StandsFirst index s = (k : ℕ) × (k < index) × (k < length dates) × (get_or dates k (pos 0) ≡ moment_at kind day s) × (has_second kind s ≡ true)
 
   pub none_yet : (first : ℕ) → IsFirstFrom kind dates day first → (s : ℕ) → StandsFirst first s → ⊥
   none_yet first f s (k, l, m, e, h) =
       let d : day_part kind (get_or dates k (pos 0)) ≡ day = ap (day_part kind) e ∙ moment_day kind day s h in
       omega (arith, ints, f.below k l, d)
 
-  module _ (rises : Rises int_lt dates) (first last place : ℕ) (f : IsFirstFrom kind dates day first) (g : IsFirstFrom kind dates (day +ℤ pos 1) last)
-      (from : first ≤ place) where
-    pub on_the_day : place < last → day_part kind (get_or dates place (pos 0)) ≡ day
+  module _ (rises : Rises int_lt dates) (first last index : ℕ) (f : IsFirstFrom kind dates day first) (g : IsFirstFrom kind dates (day +ℤ pos 1) last)
+      (from : first ≤ index) where
+    pub on_the_day : index < last → day_part kind (get_or dates index (pos 0)) ≡ day
     on_the_day l =
-        let a = g.below place l in
-        let b = f.from place from (omega (arith, g.within)) in
+        let a = g.below index l in
+        let b = f.from index from (omega (arith, g.within)) in
         omega (arith, ints, a, b)
 
-    pub next_stands : place < last → (s : ℕ) → StandsFirst (place + 1) s ↔ (StandsFirst place s ⊎ (second_part kind (get_or dates place (pos 0)) ≡ s))
+    pub next_stands : index < last → (s : ℕ) → StandsFirst (index + 1) s ↔ (StandsFirst index s ⊎ (second_part kind (get_or dates index (pos 0)) ≡ s))
     next_stands l s =
-        let o = of_day kind (get_or dates place (pos 0)) day (on_the_day l) in (
+        let o = of_day kind (get_or dates index (pos 0)) day (on_the_day l) in (
           λ x. one x.0 x.1 x.2 x.3 x.4,
           λ x. elim x [
             | inl y ↦ (y.0, omega (arith, y.1), y.2, y.3, y.4)
             | inr e ↦ (
-              place,
+              index,
               omega arith,
               omega (arith, g.within),
-              subst (λ z. get_or dates place (pos 0) ≡ moment_at kind day z) e o.0,
+              subst (λ z. get_or dates index (pos 0) ≡ moment_at kind day z) e o.0,
               subst (λ z. has_second kind z ≡ true) e o.1,
             )
           ],
         )
       where
-        one : (k : ℕ) → k < place + 1 → k < length dates → get_or dates k (pos 0) ≡ moment_at kind day s → has_second kind s ≡ true
-            → StandsFirst place s ⊎ (second_part kind (get_or dates place (pos 0)) ≡ s)
-        one k m n e h = elim (cases_lt k place) [
+        one : (k : ℕ) → k < index + 1 → k < length dates → get_or dates k (pos 0) ≡ moment_at kind day s → has_second kind s ≡ true
+            → StandsFirst index s ⊎ (second_part kind (get_or dates index (pos 0)) ≡ s)
+        one k m n e h = elim (cases_lt k index) [
           | inl p ↦ inl (k, p, n, e, h)
-          | inr p ↦ (let q : place ≡ k = omega arith in
+          | inr p ↦ (let q : index ≡ k = omega arith in
               inr (ap (λ z. second_part kind (get_or dates z (pos 0))) q ∙ ap (second_part kind) e ∙ moment_second kind day s h))
         ]
 
-    pub above_first : place < last → (s : ℕ) → StandsFirst place s → IsTrue (nat_lt s (second_part kind (get_or dates place (pos 0))))
+    pub above_first : index < last → (s : ℕ) → StandsFirst index s → IsTrue (nat_lt s (second_part kind (get_or dates index (pos 0))))
     above_first l s (k, m, n, e, h) =
-        let u = get_or dates place (pos 0) in
-        let b : moment_at kind day s <ℤ u = omega (arith, ints, sym e, rising_dates dates rises k place m (omega (arith, g.within))) in
+        let u = get_or dates index (pos 0) in
+        let b : moment_at kind day s <ℤ u = omega (arith, ints, sym e, rising_dates dates rises k index m (omega (arith, g.within))) in
         let x : s < second_part kind u = second_before kind day u s h (on_the_day l) b in
         grind (arith, nat_tests)
 
-    pub all_stand : last ≤ place → (s : ℕ) → StandsFirst place s ↔ IsTrue (is_among kind dates day s)
+    pub all_stand : last ≤ index → (s : ℕ) → StandsFirst index s ↔ IsTrue (is_among kind dates day s)
     all_stand l s = (
       λ x. rw x.4 ((listed dates (moment_at kind day s)).1 (x.0, x.2, get_or_default dates x.0 (moment_at kind day s) (pos 0) x.2 ∙ x.3)),
       λ t. (let h : has_second kind s ≡ true = (and_parts _ _ t).0 in
@@ -166,27 +166,27 @@ module _ (kind : Kind) (dates : List ℤ) (day : ℤ) where
     )
 
     -- one more second is pushed
-    pub seconds_more : place < last → (seconds pushed : List ℕ) (x : ℕ) → IsSetOf nat_lt seconds (StandsFirst place)
-        → x ≡ second_part kind (get_or dates place (pos 0)) → pushed ≡ seconds ++ x ∷ [] → IsSetOf nat_lt pushed (StandsFirst (place + 1))
+    pub seconds_more : index < last → (seconds pushed : List ℕ) (x : ℕ) → IsSetOf nat_lt seconds (StandsFirst index)
+        → x ≡ second_part kind (get_or dates index (pos 0)) → pushed ≡ seconds ++ x ∷ [] → IsSetOf nat_lt pushed (StandsFirst (index + 1))
     seconds_more l seconds pushed x set e p =
-        let y : ℕ = second_part kind (get_or dates place (pos 0)) in
-        rw (p, e) (set_same nat_lt (λ s. StandsFirst place s ⊎ (y ≡ s)) (StandsFirst (place + 1)) (seconds ++ y ∷ [])
-        (set_push nat_lt (StandsFirst place) seconds y set (above_first l)) (λ s. ((next_stands l s).1, (next_stands l s).0)))
+        let y : ℕ = second_part kind (get_or dates index (pos 0)) in
+        rw (p, e) (set_same nat_lt (λ s. StandsFirst index s ⊎ (y ≡ s)) (StandsFirst (index + 1)) (seconds ++ y ∷ [])
+        (set_push nat_lt (StandsFirst index) seconds y set (above_first l)) (λ s. ((next_stands l s).1, (next_stands l s).0)))
 
-    pub seconds_all : last ≤ place → (seconds : List ℕ) → IsSetOf nat_lt seconds (StandsFirst place)
+    pub seconds_all : last ≤ index → (seconds : List ℕ) → IsSetOf nat_lt seconds (StandsFirst index)
         → IsSetOf nat_lt seconds (λ s. IsTrue (is_among kind dates day s))
-    seconds_all l seconds set = set_same nat_lt (StandsFirst place) (λ s. IsTrue (is_among kind dates day s)) seconds set (all_stand l)
+    seconds_all l seconds set = set_same nat_lt (StandsFirst index) (λ s. IsTrue (is_among kind dates day s)) seconds set (all_stand l)
 
     -- one more second is taken out
-    pub left_more : place < last → (old times left : List ℕ) (x : ℕ) → ((s : ℕ) → Contains times s ↔ (Contains old s × (StandsFirst place s → ⊥)))
-        → x ≡ second_part kind (get_or dates place (pos 0)) → IsSetOf nat_lt left (λ s. Contains times s × (s ≢ x))
-        → (s : ℕ) → Contains left s ↔ (Contains old s × (StandsFirst (place + 1) s → ⊥))
+    pub left_more : index < last → (old times left : List ℕ) (x : ℕ) → ((s : ℕ) → Contains times s ↔ (Contains old s × (StandsFirst index s → ⊥)))
+        → x ≡ second_part kind (get_or dates index (pos 0)) → IsSetOf nat_lt left (λ s. Contains times s × (s ≢ x))
+        → (s : ℕ) → Contains left s ↔ (Contains old s × (StandsFirst (index + 1) s → ⊥))
     left_more l old times left x set e out s = (
       λ c. (let p = (out.exact s).0 c in let o = (set s).0 p.0 in (o.0, λ q. elim ((next_stands l s).0 q) [ inl y ↦ o.1 y | inr f ↦ p.1 (sym f ∙ sym e) ])),
       λ p. (out.exact s).1 ((set s).1 (p.0, λ q. p.1 ((next_stands l s).1 (inl q))), λ f. p.1 ((next_stands l s).1 (inr (sym e ∙ sym f)))),
     )
 
-    pub left_all : last ≤ place → (old times : List ℕ) → ((s : ℕ) → Contains times s ↔ (Contains old s × (StandsFirst place s → ⊥))) → (s : ℕ)
+    pub left_all : last ≤ index → (old times : List ℕ) → ((s : ℕ) → Contains times s ↔ (Contains old s × (StandsFirst index s → ⊥))) → (s : ℕ)
         → Contains times s ↔ (Contains old s × (is_among kind dates day s ≡ false))
     left_all l old times set s = (
       λ c. (let p = (set s).0 c in (
@@ -215,48 +215,48 @@ day_after_is day e h = omega (arith, ints, e, h)
 
 -- ---- an iterator over dates
 
-module _ (kind : Kind) (dates : List ℤ) (rises : Rises int_lt dates) (from to : ℤ) (place : ℕ) (f : IsFirstFrom kind dates from place) where
+module _ (kind : Kind) (dates : List ℤ) (rises : Rises int_lt dates) (from to : ℤ) (index : ℕ) (f : IsFirstFrom kind dates from index) where
   -- a day with a date is not before the day of the first
-  not_early : (d : ℤ) (s : ℕ) → from ≤ℤ d → is_among kind dates d s ≡ true → (place < length dates) × (day_part kind (get_or dates place (pos 0)) ≤ℤ d)
+  not_early : (d : ℤ) (s : ℕ) → from ≤ℤ d → is_among kind dates d s ≡ true → (index < length dates) × (day_part kind (get_or dates index (pos 0)) ≤ℤ d)
   not_early d s l t =
       let h : has_second kind s ≡ true = (and_parts _ _ t).0 in
       let c = (listed dates (moment_at kind d s)).0 (and_parts (has_second kind s) _ t).1 in
       let e : get_or dates c.0 (pos 0) ≡ moment_at kind d s = get_or_default dates c.0 (pos 0) (moment_at kind d s) c.1 ∙ c.2 in
       let day : day_part kind (get_or dates c.0 (pos 0)) ≡ d = ap (day_part kind) e ∙ moment_day kind d s h in
-      let k : place ≤ c.0 = elim (cases_lt c.0 place) [ inl m ↦ absurd (omega (arith, ints, f.below c.0 m, day, l)) | inr m ↦ m ] in (
+      let k : index ≤ c.0 = elim (cases_lt c.0 index) [ inl m ↦ absurd (omega (arith, ints, f.below c.0 m, day, l)) | inr m ↦ m ] in (
         omega (arith, k, c.1),
-        omega (arith, ints, day, day_mono kind (get_or dates place (pos 0)) (get_or dates c.0 (pos 0)) (rising_to dates rises place c.0 k c.1)),
+        omega (arith, ints, day, day_mono kind (get_or dates index (pos 0)) (get_or dates c.0 (pos 0)) (rising_to dates rises index c.0 k c.1)),
       )
 
   none_of : (d : ℤ) (s : ℕ) → (is_among kind dates d s ≡ true → ⊥) → is_among kind dates d s ≡ false
   none_of d s n = elim (is_among kind dates d s) as (λ b. is_among kind dates d s ≡ b → b ≡ false) [ false ↦ λ e. refl | true ↦ λ e. absurd (n e) ] refl
 
-  pub date_none : (place < length dates → to <ℤ day_part kind (get_or dates place (pos 0))) → IsFirstDate kind dates from to None
+  pub date_none : (index < length dates → to <ℤ day_part kind (get_or dates index (pos 0))) → IsFirstDate kind dates from to None
   date_none later d s l h = none_of d s (λ t. (let n = not_early d s l t in omega (arith, ints, later n.0, n.1, h)))
 
-  pub date_some : (day : ℤ) → place < length dates → day ≡ day_part kind (get_or dates place (pos 0)) → day ≤ℤ to → IsFirstDate kind dates from to (Some day)
+  pub date_some : (day : ℤ) → index < length dates → day ≡ day_part kind (get_or dates index (pos 0)) → day ≤ℤ to → IsFirstDate kind dates from to (Some day)
   date_some day l e h =
-      let u = get_or dates place (pos 0) in
+      let u = get_or dates index (pos 0) in
       let o = of_day kind u day (sym e) in (
-        omega (arith, ints, f.from place (omega arith) l, e),
+        omega (arith, ints, f.from index (omega arith) l, e),
         h,
         λ d s a b. none_of d s (λ t. (let n = not_early d s a t in omega (arith, ints, n.1, b, e))),
         (
           second_part kind u,
           rw o.1 ((listed dates (moment_at kind day (second_part kind u))).1 (
-            place,
+            index,
             l,
-            get_or_default dates place (moment_at kind day (second_part kind u)) (pos 0) l ∙ o.0,
+            get_or_default dates index (moment_at kind day (second_part kind u)) (pos 0) l ∙ o.0,
           )),
         ),
       )
 
 -- no date lies on a day that is not that of the first date from it on
-pub none_on : (kind : Kind) (dates : List ℤ) → Rises int_lt dates → (day : ℤ) (place : ℕ) → IsFirstFrom kind dates day place
-    → (place < length dates → day_part kind (get_or dates place (pos 0)) ≡ day → ⊥) → (s : ℕ) → is_among kind dates day s ≡ false
-none_on kind dates rises day place f other s = none_of kind dates rises day day place f day s
-    (λ t. (let n = not_early kind dates rises day day place f day s (omega (arith, ints)) t in
-    other n.0 (omega (arith, ints, n.1, f.from place (omega arith) n.0))))
+pub none_on : (kind : Kind) (dates : List ℤ) → Rises int_lt dates → (day : ℤ) (index : ℕ) → IsFirstFrom kind dates day index
+    → (index < length dates → day_part kind (get_or dates index (pos 0)) ≡ day → ⊥) → (s : ℕ) → is_among kind dates day s ≡ false
+none_on kind dates rises day index f other s = none_of kind dates rises day day index f day s
+    (λ t. (let n = not_early kind dates rises day day index f day s (omega (arith, ints)) t in
+    other n.0 (omega (arith, ints, n.1, f.from index (omega arith) n.0))))
 
 pub dates_none : (kind : Kind) (dates : List ℤ) (position to q : ℤ) → IsFirstDate kind dates position to None → (q ≡ to +ℤ pos 1) ⊎ (q ≡ position)
     → HasNone (dates_of kind dates) position q

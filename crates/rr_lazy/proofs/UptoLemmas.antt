@@ -73,9 +73,9 @@ module _ (kind : Kind) (at day : ℤ) (times : List ℕ) (of_day : IsSecondsOfDa
       (record { rises = of_day.rises; exact = λ s. ((λ c. (c, subst (λ x. x < 86_400) c.2 (of_day.below_a_day c.0 s c.1))), (λ p. p.0)) })
 
   -- the first ones, below the bound
-  pub cut_to : (bound place : ℕ) → IsSecondsTo kind at day bound → SplitsAt times place bound
-      → IsUpTo kind at day times (take place times)
-  cut_to bound place until split = cut_same (take place times) bound until (first_below times place bound of_day.rises split)
+  pub cut_to : (bound index : ℕ) → IsSecondsTo kind at day bound → SplitsAt times index bound
+      → IsUpTo kind at day times (take index times)
+  cut_to bound index until split = cut_same (take index times) bound until (first_below times index bound of_day.rises split)
 
 -- ---- what stands up to it
 

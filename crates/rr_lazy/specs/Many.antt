@@ -31,14 +31,14 @@ GaveDaySome {X} ahead parts day = (k : ℕ) × (k < length parts) × ((d : X) �
 
 -- one of the first n parts gave this day with this second
 abbrev pub HasOnSome : {X : Type 0} → (X → Option DayTimes) → List X → ℕ → ℤ → ℕ → Type 0
-HasOnSome {X} ahead parts place day s = (k : ℕ) × (k < place) × (k < length parts) × ((d : X) → HasOn (ahead (get_or parts k d)) day s)
+HasOnSome {X} ahead parts count day s = (k : ℕ) × (k < count) × (k < length parts) × ((d : X) → HasOn (ahead (get_or parts k d)) day s)
 
 -- What the first n parts gave for a day: all seconds of those that gave it, and nothing where none did.
 abbrev pub IsGivenBySome : {X : Type 0} → List (List ℕ) → (X → Option OccupiedDay) → List X → ℕ → ℤ → List (List ℕ) → Option OccupiedDay → Type 0
-IsGivenBySome {X} old ahead parts place day new None = (k : ℕ) → k < place → k < length parts → (d : X) → GaveDay (seen old (ahead (get_or parts k d))) day → ⊥
-IsGivenBySome {X} old ahead parts place day new (Some found) =
+IsGivenBySome {X} old ahead parts count day new None = (k : ℕ) → k < count → k < length parts → (d : X) → GaveDay (seen old (ahead (get_or parts k d))) day → ⊥
+IsGivenBySome {X} old ahead parts count day new (Some found) =
     (found.day ≡ day) × IsGivenOn new found
-    × IsSetOf nat_lt ((with_set new found).times) (HasOnSome (λ p. seen old (ahead p)) parts place day)
+    × IsSetOf nat_lt ((with_set new found).times) (HasOnSome (λ p. seen old (ahead p)) parts count day)
 
 -- what each part gave stays within every table that held what each gave
 abbrev pub StayWithin : {X : Type 0} → (X → Option OccupiedDay) → List X → List X → Type 0
@@ -46,11 +46,11 @@ StayWithin {X} ahead old new =
     (sets : List (List ℕ)) → All (λ p. ForSome (ahead p) (IsWithin sets)) old → All (λ p. ForSome (ahead p) (IsWithin sets)) new
 
 -- the first n parts have forgotten the day; nothing else has changed
-pub record IsLeftBy {X L : Type 0} (ahead : X → Option DayTimes) (lazy : X → L) (old : List X) (day : ℤ) (place : ℕ) (new : List X) : Type 0 where
+pub record IsLeftBy {X L : Type 0} (ahead : X → Option DayTimes) (lazy : X → L) (old : List X) (day : ℤ) (count : ℕ) (new : List X) : Type 0 where
   pub many : length new ≡ length old
   pub lazies : (k : ℕ) (d : X) → k < length old → lazy (get_or new k d) ≡ lazy (get_or old k d)
-  pub left : (k : ℕ) (d : X) → k < place → k < length old → IsLeft (ahead (get_or old k d)) day (ahead (get_or new k d))
-  pub rest : (k : ℕ) (d : X) → place ≤ k → k < length old → ahead (get_or new k d) ≡ ahead (get_or old k d)
+  pub left : (k : ℕ) (d : X) → k < count → k < length old → IsLeft (ahead (get_or old k d)) day (ahead (get_or new k d))
+  pub rest : (k : ℕ) (d : X) → count ≤ k → k < length old → ahead (get_or new k d) ≡ ahead (get_or old k d)
 
 -- by each table of sets, all parts have forgotten the day; nothing else has changed
 abbrev pub HaveForgotten : {X L : Type 0} → (X → Option OccupiedDay) → (X → L) → List X → ℤ → List X → Type 0

@@ -12,11 +12,11 @@ use Rattle.rr_lazy.specs.declared.occupied_day.OccupiedDay.{OccupiedDay}
 use Rattle.rr_lazy.specs.Next.{HasNone, IsNextIn, IsSoundLazy, with_set}
 use Rattle.rr_lazy.specs.Ahead.{IsAheadIn, IsGivenOn}
 
--- the dates before the place lie before the day, and the others do not
-pub record IsFirstFrom (kind : Kind) (dates : List ℤ) (day : ℤ) (place : ℕ) : Type 0 where
-  pub within : place ≤ length dates
-  pub below : (k : ℕ) → k < place → day_part kind (get_or dates k (pos 0)) <ℤ day
-  pub from : (k : ℕ) → place ≤ k → k < length dates → day ≤ℤ day_part kind (get_or dates k (pos 0))
+-- the dates before the index lie before the day, and the others do not
+pub record IsFirstFrom (kind : Kind) (dates : List ℤ) (day : ℤ) (index : ℕ) : Type 0 where
+  pub within : index ≤ length dates
+  pub below : (k : ℕ) → k < index → day_part kind (get_or dates k (pos 0)) <ℤ day
+  pub from : (k : ℕ) → index ≤ k → k < length dates → day ≤ℤ day_part kind (get_or dates k (pos 0))
 
 -- of the days from one on up to another the first with a date; none where none has
 abbrev pub IsFirstDate : Kind → List ℤ → ℤ → ℤ → Option ℤ → Type 0

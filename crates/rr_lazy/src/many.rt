@@ -179,10 +179,10 @@ fn ask_all<A: Lazy + Drop>(
     ensures none { OnOk result
         (All (λ p. ForNone p.ahead (to <ℤ A.position p.lazy)) parts.new.items) }
 {
-    let mut place = 0;
-    while place < parts.len() {
-        ask(alloc, sets, &mut parts[place], from, to)?;
-        place += 1;
+    let mut index = 0;
+    while index < parts.len() {
+        ask(alloc, sets, &mut parts[index], from, to)?;
+        index += 1;
     }
     Ok(())
 }
@@ -217,10 +217,10 @@ fn first_of_all<A: Lazy + Drop>(parts: &[Asked<A>], from: i64) -> i64
     ensures one { (result ≡ from) ⊎ GaveDaySome (λ p. seen [] p.ahead) parts.now result }
 {
     let mut first = from;
-    let mut place = 0;
-    while place < parts.len() {
-        first = lesser(first, parts[place].ahead);
-        place += 1;
+    let mut index = 0;
+    while index < parts.len() {
+        first = lesser(first, parts[index].ahead);
+        index += 1;
     }
     first
 }
@@ -250,10 +250,10 @@ fn all_on<A: Lazy + Drop>(
         (IsGivenBySome sets.old (λ p. p.ahead) parts.now (length parts.now) day sets.new) }
 {
     let mut given = None;
-    let mut place = 0;
-    while place < parts.len() {
-        given = on_day(alloc, sets, given, parts[place].ahead, day)?;
-        place += 1;
+    let mut index = 0;
+    while index < parts.len() {
+        given = on_day(alloc, sets, given, parts[index].ahead, day)?;
+        index += 1;
     }
     Ok(given)
 }
@@ -263,9 +263,9 @@ fn forget_all<A: Lazy + Drop>(parts: &mut Vec<Asked<A>>, day: i64)
     ensures left { HaveForgotten (λ p. p.ahead) (λ p. p.lazy) parts.old.items day parts.new.items }
     ensures within { StayWithin (λ p. p.ahead) parts.old.items parts.new.items }
 {
-    let mut place = 0;
-    while place < parts.len() {
-        forget(&mut parts[place].ahead, day);
-        place += 1;
+    let mut index = 0;
+    while index < parts.len() {
+        forget(&mut parts[index].ahead, day);
+        index += 1;
     }
 }

@@ -10,7 +10,7 @@ use rr_model::{Kind, NoMemory, day_part, second_part};
 use rr_times::TimeSet;
 use std::alloc::Global;
 
-// The place of the first date that is not before a day.
+// The index of the first date that is not before a day.
 pub(crate) fn first_from(kind: Kind, dates: &[i64], day: i64) -> usize
     requires { Rises int_lt dates.now }
     ensures { IsFirstFrom kind dates.now day result }
@@ -23,11 +23,11 @@ pub(crate) fn first_date(kind: Kind, dates: &[i64], from: i64, to: i64) -> Optio
     requires { Rises int_lt dates.now }
     ensures { IsFirstDate kind dates.now from to result }
 {
-    let place = first_from(kind, dates, from);
-    if place >= dates.len() {
+    let index = first_from(kind, dates, from);
+    if index >= dates.len() {
         return None;
     }
-    let day = day_part(kind, dates[place]);
+    let day = day_part(kind, dates[index]);
     if day > to {
         return None;
     }
@@ -39,8 +39,8 @@ pub(crate) fn dates_on(kind: Kind, dates: &[i64], day: i64) -> bool
     requires { Rises int_lt dates.now }
     ensures { result ≡ false → (s : ℕ) → is_among kind dates.now day s ≡ false }
 {
-    let place = first_from(kind, dates, day);
-    place < dates.len() && day_part(kind, dates[place]) == day
+    let index = first_from(kind, dates, day);
+    index < dates.len() && day_part(kind, dates[index]) == day
 }
 
 // The seconds of the dates on a day.
@@ -57,10 +57,10 @@ pub(crate) fn seconds_on(
     let first = first_from(kind, dates, day);
     let last = first_from(kind, dates, day + 1);
     let mut seconds = Vec::new(alloc);
-    let mut place = first;
-    while place < last {
-        seconds.push(second_part(kind, dates[place]))?;
-        place += 1;
+    let mut index = first;
+    while index < last {
+        seconds.push(second_part(kind, dates[index]))?;
+        index += 1;
     }
     TimeSet::of(alloc, &seconds)
 }
@@ -73,9 +73,9 @@ pub(crate) fn take_out(times: &mut TimeSet, kind: Kind, dates: &[i64], day: i64)
 {
     let first = first_from(kind, dates, day);
     let last = first_from(kind, dates, day + 1);
-    let mut place = first;
-    while place < last {
-        times.remove(second_part(kind, dates[place]));
-        place += 1;
+    let mut index = first;
+    while index < last {
+        times.remove(second_part(kind, dates[index]));
+        index += 1;
     }
 }

@@ -5,18 +5,18 @@ use Rattle.rr_lazy.specs.Ahead.{seen}
 use Rattle.rr_lazy.proofs.ManyLemmas.{least_more, gave_more}
 use Rattle.rr_lazy.proofs.many.first_of_all.Goals as goal
 
-pub loop-place-preserved : goal.loop-place-preserved
-loop-place-preserved g c =
+pub loop-index-preserved : goal.loop-index-preserved
+loop-index-preserved g c =
     let fits : FitsSigned w64 c.lesser-first.result = record { sfits = c.lesser-first.type_inv } in
     let f = to_z-of_z fits in
     let e = c.lesser-first.ensures in
-    let i = c.loop-place.invariant in
+    let i = c.loop-index.invariant in
     let xs = c.args.parts.now in
-    let at = get_or_default xs c.loop-place.place c.index-parts-place.result (get_or xs c.loop-place.place c.index-parts-place.result) c.loop-place-test.true in
+    let at = get_or_default xs c.loop-index.index c.index-parts-index.result (get_or xs c.loop-index.index c.index-parts-index.result) c.loop-index-test.true in
     rw f (
       omega (arith, ints, e.bound, i.0),
-      least_more (λ p. seen [] p.ahead) xs c.loop-place.place (to_z w64 c.loop-place.first-bits) c.lesser-first.result
-          (get_or xs c.loop-place.place c.index-parts-place.result) c.loop-place-test.true at i.1 e.bound e.least,
-      gave_more (λ p. seen [] p.ahead) xs c.loop-place.place (to_z w64 c.loop-place.first-bits) c.lesser-first.result (to_z w64 (of_z w64 c.args.from))
-          (get_or xs c.loop-place.place c.index-parts-place.result) c.loop-place-test.true at i.2 e.one,
+      least_more (λ p. seen [] p.ahead) xs c.loop-index.index (to_z w64 c.loop-index.first-bits) c.lesser-first.result
+          (get_or xs c.loop-index.index c.index-parts-index.result) c.loop-index-test.true at i.1 e.bound e.least,
+      gave_more (λ p. seen [] p.ahead) xs c.loop-index.index (to_z w64 c.loop-index.first-bits) c.lesser-first.result (to_z w64 (of_z w64 c.args.from))
+          (get_or xs c.loop-index.index c.index-parts-index.result) c.loop-index-test.true at i.2 e.one,
     )

@@ -4,10 +4,10 @@ use Rattle.rr_lazy.specs.Ahead.{seen}
 use Rattle.rr_lazy.specs.Many.{GaveDaySome}
 use Rattle.rr_lazy.proofs.many.first_of_all.Given as goal
 
-abbrev pub invariant-loop-place : goal.invariant-loop-place
-invariant-loop-place g l = (l.first ≤ℤ l.from)
-    × ((k : ℕ) (d : _) → k < l.place → k < length l.parts → ForSome (seen [] (get_or l.parts k d).ahead) (λ f. l.first ≤ℤ f.day))
+abbrev pub invariant-loop-index : goal.invariant-loop-index
+invariant-loop-index g l = (l.first ≤ℤ l.from)
+    × ((k : ℕ) (d : _) → k < l.index → k < length l.parts → ForSome (seen [] (get_or l.parts k d).ahead) (λ f. l.first ≤ℤ f.day))
     × ((l.first ≡ l.from) ⊎ GaveDaySome (λ p. seen [] p.ahead) l.parts l.first)
 
-abbrev pub decreases-loop-place : goal.decreases-loop-place
-decreases-loop-place g l = length l.parts - l.place
+abbrev pub decreases-loop-index : goal.decreases-loop-index
+decreases-loop-index g l = length l.parts - l.index

@@ -6,15 +6,15 @@ use Rattle.rr_lazy.specs.Stretch.{IsFirstFrom}
 use Rattle.rr_lazy.proofs.StretchLemmas.{none_on}
 use Rattle.rr_lazy.proofs.stretch.dates_on.Goals as goal
 
-pub returns-then-place-dates : goal.returns-then-place-dates
-returns-then-place-dates c =
-    let f : IsFirstFrom c.args.kind c.args.dates.now c.args.day c.first_from-place.result = rw (to_z-of_z c.ranges.day) at c.first_from-place.ensures in
-    let e : c.day_part.result ≡ day_part c.args.kind (get_or c.args.dates.now c.first_from-place.result (pos 0)) = search rules in
-    λ h. none_on c.args.kind c.args.dates.now c.requires c.args.day c.first_from-place.result f (λ l x.
+pub returns-then-index-dates : goal.returns-then-index-dates
+returns-then-index-dates c =
+    let f : IsFirstFrom c.args.kind c.args.dates.now c.args.day c.first_from-index.result = rw (to_z-of_z c.ranges.day) at c.first_from-index.ensures in
+    let e : c.day_part.result ≡ day_part c.args.kind (get_or c.args.dates.now c.first_from-index.result (pos 0)) = search rules in
+    λ h. none_on c.args.kind c.args.dates.now c.requires c.args.day c.first_from-index.result f (λ l x.
     (let same : nat_eq (of_z w64 c.args.day) (of_z w64 c.args.day) ≡ true = grind (arith, nat_tests) in
     false≢true (sym (rw (e ∙ x) at h) ∙ same)))
 
-pub returns-else-place-dates : goal.returns-else-place-dates
-returns-else-place-dates c =
-    let f : IsFirstFrom c.args.kind c.args.dates.now c.args.day c.first_from-place.result = rw (to_z-of_z c.ranges.day) at c.first_from-place.ensures in
-    λ h. none_on c.args.kind c.args.dates.now c.requires c.args.day c.first_from-place.result f (λ l x. omega (arith, l, c.if-place-dates.false))
+pub returns-else-index-dates : goal.returns-else-index-dates
+returns-else-index-dates c =
+    let f : IsFirstFrom c.args.kind c.args.dates.now c.args.day c.first_from-index.result = rw (to_z-of_z c.ranges.day) at c.first_from-index.ensures in
+    λ h. none_on c.args.kind c.args.dates.now c.requires c.args.day c.first_from-index.result f (λ l x. omega (arith, l, c.if-index-dates.false))

@@ -8,18 +8,18 @@ use Rattle.std.proofs.lemmas.Result.{IfOk-weaker}
 use Rattle.rr_lazy.proofs.StretchLemmas.{day_after_is, seconds_more, seconds_all, below_a_day}
 use Rattle.rr_lazy.proofs.stretch.seconds_on.Goals as goal
 
-pub loop-place-preserved : goal.loop-place-preserved
-loop-place-preserved c =
+pub loop-index-preserved : goal.loop-index-preserved
+loop-index-preserved c =
     let t = to_z-of_z c.ranges.day in
     let f : IsFirstFrom c.args.kind c.args.dates.now c.args.day c.first_from-first.result = rw t at c.first_from-first.ensures in
     let e : to_z w64 (of_z w64 (to_z w64 (of_z w64 c.args.day) +ℤ pos 1)) ≡ c.args.day +ℤ pos 1 = day_after_is c.args.day t c.requires.high in
     let l : IsFirstFrom c.args.kind c.args.dates.now (c.args.day +ℤ pos 1) c.first_from-last.result = rw e at c.first_from-last.ensures in
-    let i = rw t at c.loop-place.invariant in
-    let x : c.second_part.result ≡ second_part c.args.kind (get_or c.args.dates.now c.loop-place.place (pos 0)) = search rules in
+    let i = rw t at c.loop-index.invariant in
+    let x : c.second_part.result ≡ second_part c.args.kind (get_or c.args.dates.now c.loop-index.index (pos 0)) = search rules in
     rw t (
       omega (arith, i.0),
-      seconds_more c.args.kind c.args.dates.now c.args.day c.requires.rises c.first_from-first.result c.first_from-last.result c.loop-place.place f l i.0
-          c.loop-place-test.true c.loop-place.seconds.items c.push.new.self.items c.second_part.result i.1 x c.in_ok-push.ensures.items,
+      seconds_more c.args.kind c.args.dates.now c.args.day c.requires.rises c.first_from-first.result c.first_from-last.result c.loop-index.index f l i.0
+          c.loop-index-test.true c.loop-index.seconds.items c.push.new.self.items c.second_part.result i.1 x c.in_ok-push.ensures.items,
     )
 
 set_is : (c : goal.After-deref) → IsSetOf nat_lt c.deref.result.now (λ s. IsTrue (is_among c.args.kind c.args.dates.now c.args.day s))
@@ -28,11 +28,11 @@ set_is c =
     let f : IsFirstFrom c.args.kind c.args.dates.now c.args.day c.first_from-first.result = rw t at c.first_from-first.ensures in
     let e : to_z w64 (of_z w64 (to_z w64 (of_z w64 c.args.day) +ℤ pos 1)) ≡ c.args.day +ℤ pos 1 = day_after_is c.args.day t c.requires.high in
     let l : IsFirstFrom c.args.kind c.args.dates.now (c.args.day +ℤ pos 1) c.first_from-last.result = rw e at c.first_from-last.ensures in
-    let i = rw t at c.loop-place.invariant in
-    let m : c.first_from-last.result ≤ c.loop-place.place = omega (arith, c.loop-place-test.false) in
+    let i = rw t at c.loop-index.invariant in
+    let m : c.first_from-last.result ≤ c.loop-index.index = omega (arith, c.loop-index-test.false) in
     rw c.deref.ensures.value
-    (seconds_all c.args.kind c.args.dates.now c.args.day c.requires.rises c.first_from-first.result c.first_from-last.result c.loop-place.place f l i.0
-    m c.loop-place.seconds.items i.1)
+    (seconds_all c.args.kind c.args.dates.now c.args.day c.requires.rises c.first_from-first.result c.first_from-last.result c.loop-index.index f l i.0
+    m c.loop-index.seconds.items i.1)
 
 pub of-requires : goal.of-requires
 of-requires c = some_seconds (λ s. IsTrue (is_among c.args.kind c.args.dates.now c.args.day s)) c.deref.result.now (set_is c)

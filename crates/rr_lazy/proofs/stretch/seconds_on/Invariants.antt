@@ -3,8 +3,8 @@ use Rattle.rr_model.specs.Rising.Sets.{IsSetOf}
 use Rattle.rr_lazy.proofs.StretchLemmas.{StandsFirst}
 use Rattle.rr_lazy.proofs.stretch.seconds_on.Given as goal
 
-abbrev pub invariant-loop-place : goal.invariant-loop-place
-invariant-loop-place l = (l.first ≤ l.place) × IsSetOf nat_lt l.seconds.items (StandsFirst l.kind l.dates l.day l.place)
+abbrev pub invariant-loop-index : goal.invariant-loop-index
+invariant-loop-index l = (l.first ≤ l.index) × IsSetOf nat_lt l.seconds.items (StandsFirst l.kind l.dates l.day l.index)
 
-abbrev pub decreases-loop-place : goal.decreases-loop-place
-decreases-loop-place l = l.last - l.place
+abbrev pub decreases-loop-index : goal.decreases-loop-index
+decreases-loop-index l = l.last - l.index

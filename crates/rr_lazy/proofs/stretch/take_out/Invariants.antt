@@ -2,8 +2,8 @@ use Rattle.std.proofs.Common.{◌≤◌, ◌-◌, ◌↔◌, ℕ, Contains}
 use Rattle.rr_lazy.proofs.StretchLemmas.{StandsFirst}
 use Rattle.rr_lazy.proofs.stretch.take_out.Given as goal
 
-abbrev pub invariant-loop-place : goal.invariant-loop-place
-invariant-loop-place l = (l.first ≤ l.place) × ((s : ℕ) → Contains l.times s ↔ (Contains l.fn.times s × (StandsFirst l.kind l.dates l.day l.place s → ⊥)))
+abbrev pub invariant-loop-index : goal.invariant-loop-index
+invariant-loop-index l = (l.first ≤ l.index) × ((s : ℕ) → Contains l.times s ↔ (Contains l.fn.times s × (StandsFirst l.kind l.dates l.day l.index s → ⊥)))
 
-abbrev pub decreases-loop-place : goal.decreases-loop-place
-decreases-loop-place l = l.last - l.place
+abbrev pub decreases-loop-index : goal.decreases-loop-index
+decreases-loop-index l = l.last - l.index

@@ -42,14 +42,14 @@ answer g c =
     let own = g.A.Lazy.position asked.lazy in
     let own_next = g.A.Lazy.position c.next.new.self in
     let of_part = subst (λ x. IsNextIn c.next.new.sets t own x (Ok found) own_next) to c.in_ok-found.ensures.next in
-    let place_after = subst (λ x. IsAfter found x c.args.to c.after-self.result) (to_z-of_z position)
+    let index_after = subst (λ x. IsAfter found x c.args.to c.after-self.result) (to_z-of_z position)
     (subst (λ x. IsAfter found (to_z w64 (of_z w64 s.position)) x c.after-self.result) to c.after-self.ensures) in
     record {
       same = same;
       rest = rest;
       new = to_z-of_z next;
       both = passed_on c.args.sets.now c.next.new.sets t (many (part t nothing)) own own_next s.position c.args.to c.after-self.result found
-          (of_one t) (rw rest at known.1) of_part place_after;
+          (of_one t) (rw rest at known.1) of_part index_after;
     }
 
 pub returns-clause-knows : goal.returns-clause-knows
