@@ -9,7 +9,7 @@ ghost use Rattle.rr_model.specs.Moment.Years.{IsInYears};
 ghost use Rattle.rr_model.specs.declared.kind.Kind.TheVariants.{Moments};
 
 use crate::members::{find_member, object_or};
-use crate::recurrence::{recurrence_in, repeating, repeating_from};
+use crate::recurrence::{recurrence_in, to_repeat, to_repeat_from};
 use crate::start::{is_all_day, judge_flag, judge_zone, start_moment};
 use rr_model::{GraphEvent, Kind, Member, Refusal, Repeat, day_part};
 use serde_json::Value;
@@ -24,7 +24,7 @@ fn repeat_in(day: i64, event: &Value) -> Result<Repeat, Refusal>
         Some(found) => {
             let object = object_or(found, Refusal::BadMember(Member::Recurrence))?;
             let recurrence = recurrence_in(object)?;
-            repeating_from(day, &recurrence)
+            to_repeat_from(day, &recurrence)
         }
     }
 }
@@ -75,12 +75,12 @@ fn event_in(offset: Option<i32>, event: &Value) -> Result<GraphEvent, Refusal>
 
 // What a bare recurrence states: a series of dates from its startDate.
 #[tactic(auto, unfolding(rr_model::specs::Graph::Reading::bare_of))]
-fn bare_in(value: &Value) -> Result<GraphEvent, Refusal>
+fn bare_event_in(value: &Value) -> Result<GraphEvent, Refusal>
     ensures value { result ≡ bare_of (view value.now) }
     ensures valid { IfOk result IsValidGraphEvent }
 {
     let recurrence = recurrence_in(value)?;
-    let repeat = repeating(&recurrence)?;
+    let repeat = to_repeat(&recurrence)?;
     Ok(GraphEvent {
         kind: Kind::Days,
         start: recurrence.range.start_day,
@@ -96,6 +96,6 @@ pub(crate) fn value_in(offset: Option<i32>, value: &Value) -> Result<GraphEvent,
 {
     match find_member(value, "pattern") {
         None => event_in(offset, value),
-        Some(_) => bare_in(value),
+        Some(_) => bare_event_in(value),
     }
 }

@@ -1,7 +1,7 @@
 // JSON texts and the members of their objects (RFC 8259).
-ghost use Rattle.std.specs.Prelude.{◌≡◌, ◌≤◌, codes, option_map, IfOk, Ok, Err};
+ghost use Rattle.std.specs.Prelude.{◌≡◌, ◌≤◌, option_map, IfOk, Ok, Err};
 ghost use Rattle.std.specs.Result.{MatchResult};
-ghost use Rattle.std.specs.Str.{IsUtf8, is_utf8, str_eq_ignore_ascii_case};
+ghost use Rattle.std.specs.Str.{IsUtf8, str_eq_ignore_ascii_case};
 ghost use Rattle.serde_json.specs.View.{view};
 ghost use Rattle.rr_model.specs.Graph.Members.{json_object, member_of, number_in, object_in, object_or, text_in, within};
 ghost use Rattle.rr_graph.specs.Answers.{AnswersValue};

@@ -1,12 +1,12 @@
 // The members of a pattern (Microsoft Graph, recurrencePattern).
-ghost use Rattle.std.specs.Prelude.{◌≡◌, ◌≤◌, ◌<◌, codes, pos, option_and_then, ok_or, IfOk, IfSome};
+ghost use Rattle.std.specs.Prelude.{◌≡◌, ◌≤◌, ◌<◌, codes, pos, option_and_then, IfOk, IfSome};
 ghost use Rattle.serde_json.specs.Find.{as_array, as_str};
 ghost use Rattle.serde_json.specs.View.{items_view, view};
-ghost use Rattle.rr_model.specs.Graph.Members.{day_named, form_named, index_named, member_of, number_in, within};
+ghost use Rattle.rr_model.specs.Graph.Members.{day_named, form_named, index_named, number_in, within};
 ghost use Rattle.rr_model.specs.Graph.Reading.{days_in, days_of_names, first_day_in, form_in, if_used, index_in, interval_in, pattern_of};
 ghost use Rattle.rr_model.specs.Graph.Uses.{bit_of, most_interval, uses_day_of_month, uses_days, uses_first_day, uses_index, uses_month};
 ghost use Rattle.rr_model.specs.Graph.Validity.{IsValidPattern};
-ghost use Rattle.rr_model.specs.declared.refusal.Member.TheVariants.{DayOfMonth, DaysOfWeek, Month};
+ghost use Rattle.rr_model.specs.declared.refusal.Member.TheVariants.{DayOfMonth, Month};
 
 use crate::members::{find_member, is_named, number_in, number_within, text_in};
 use rr_model::{Form, Member, Pattern, Refusal};

@@ -1,5 +1,5 @@
 // The members of a range (Microsoft Graph, recurrenceRange).
-ghost use Rattle.std.specs.Prelude.{◌≡◌, ◌≤◌, option_map, IfOk, IfSome, Ok, Err};
+ghost use Rattle.std.specs.Prelude.{◌≡◌, option_map, IfOk, IfSome, Ok, Err};
 ghost use Rattle.std.specs.Result.{MatchResult};
 ghost use Rattle.serde_json.specs.View.{view};
 ghost use Rattle.rr_model.specs.Graph.Reading.{date_in, end_in, end_type_named, range_of};

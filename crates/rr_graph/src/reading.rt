@@ -1,5 +1,5 @@
 // Reads the JSON of an event or of a bare recurrence (Microsoft Graph, event, patternedRecurrence).
-ghost use Rattle.std.specs.Prelude.{◌≡◌, IfOk};
+ghost use Rattle.std.specs.Prelude.{IfOk};
 ghost use Rattle.rr_model.specs.Answers.{Answers};
 ghost use Rattle.rr_model.specs.Graph.Reading.{graph_text, reads_graph};
 ghost use Rattle.rr_model.specs.Graph.Validity.{IsValidGraphEvent};

@@ -45,7 +45,7 @@ pub(crate) fn recurrence_in(value: &Value) -> Result<Recurrence, Refusal>
 }
 
 /// The recurrence, where it has an occurrence in the years 1 to 9999.
-pub(crate) fn repeating(recurrence: &Recurrence) -> Result<Repeat, Refusal>
+pub(crate) fn to_repeat(recurrence: &Recurrence) -> Result<Repeat, Refusal>
     requires pattern { IsValidPattern recurrence.now.pattern }
     requires range { IsValidRange recurrence.now.range }
     ensures value { result ≡ repeating recurrence.now }
@@ -60,7 +60,7 @@ pub(crate) fn repeating(recurrence: &Recurrence) -> Result<Repeat, Refusal>
 }
 
 /// The recurrence, where its range begins on the start's day.
-pub(crate) fn repeating_from(day: i64, recurrence: &Recurrence) -> Result<Repeat, Refusal>
+pub(crate) fn to_repeat_from(day: i64, recurrence: &Recurrence) -> Result<Repeat, Refusal>
     requires pattern { IsValidPattern recurrence.now.pattern }
     requires range { IsValidRange recurrence.now.range }
     ensures value { result ≡ repeating_from day recurrence.now }
@@ -69,5 +69,5 @@ pub(crate) fn repeating_from(day: i64, recurrence: &Recurrence) -> Result<Repeat
     if recurrence.range.start_day != day {
         return Err(Refusal::StartDiffers);
     }
-    repeating(recurrence)
+    to_repeat(recurrence)
 }

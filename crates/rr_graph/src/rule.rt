@@ -1,7 +1,7 @@
 // The rule of RFC 5545 that has the days of a pattern (Microsoft Graph, recurrencePattern).
-ghost use Rattle.std.specs.Prelude.{◌≡◌, ◌≤◌, ◌<◌, [], ◌∷◌, IfOk, pos};
+ghost use Rattle.std.specs.Prelude.{◌≡◌, [], ◌∷◌, IfOk, pos};
 ghost use Rattle.rr_model.specs.Graph.Counterpart.{days_of_sum, form_freq, if_part, month_days_up_to, rule_of_pattern, set_positions_of, week_start_of};
-ghost use Rattle.rr_model.specs.Graph.Uses.{uses_day_of_month, uses_days, uses_index, uses_month};
+ghost use Rattle.rr_model.specs.Graph.Uses.{uses_day_of_month, uses_days, uses_month};
 
 use crate::first_day::is_day_in;
 use rr_model::{DayItem, DayItems, End, Form, Freq, NoMemory, Numbers, Pattern, Rule};

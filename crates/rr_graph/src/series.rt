@@ -1,5 +1,5 @@
 // The series of RFC 5545 that has the occurrences of an event (Microsoft Graph, event).
-ghost use Rattle.std.specs.Prelude.{◌≡◌, ◌≤◌, ◌<◌, [], ◌∷◌, IfOk};
+ghost use Rattle.std.specs.Prelude.{◌≡◌, ◌≤◌, [], ◌∷◌, IfOk};
 ghost use Rattle.std.specs.Option.{unwrap_or};
 ghost use Rattle.rr_model.specs.Moment.Years.{IsInYears};
 ghost use Rattle.rr_model.specs.declared.kind.Kind.TheVariants.{Days};

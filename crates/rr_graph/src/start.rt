@@ -1,5 +1,5 @@
 // The start of an event (Microsoft Graph, event, dateTimeTimeZone).
-ghost use Rattle.std.specs.Prelude.{◌≡◌, ◌&&◌, ◌||◌, not, codes, option_and_then, IfOk, IfSome};
+ghost use Rattle.std.specs.Prelude.{◌≡◌, codes, option_and_then, IfOk, IfSome};
 ghost use Rattle.serde_json.specs.View.{view};
 ghost use Rattle.rr_model.specs.Graph.Members.{member_of, text_in};
 ghost use Rattle.rr_model.specs.Graph.Reading.{graph_moment, is_all_day, is_flag_or_missing, is_named_utc, is_text_or_missing, must, start_moment, turned_start};

@@ -15,39 +15,49 @@ use rr_text::push_extended;
 use serde_json::{Value, json};
 use std::alloc::{AllocError, Global};
 
-fn daily(alloc: Global, interval: u32) -> Result<Value, AllocError>
+fn daily_json(alloc: Global, interval: u32) -> Result<Value, AllocError>
     ensures { IfOk result (λ value. view value ≡ daily_json interval) }
 {
     json!(in alloc; {"interval": interval, "type": "daily"})
 }
 
-fn weekly(alloc: Global, interval: u32, days: u8, first_day: u8) -> Result<Value, AllocError>
+fn weekly_json(alloc: Global, interval: u32, days: u8, first_day: u8) -> Result<Value, AllocError>
     ensures { IfOk result (λ value. view value ≡ weekly_json interval days first_day) }
 {
     let names = day_names(alloc, days)?;
     json!(in alloc; {"daysOfWeek": names, "firstDayOfWeek": day_name(first_day), "interval": interval, "type": "weekly"})
 }
 
-fn absolute_monthly(alloc: Global, interval: u32, day: u8) -> Result<Value, AllocError>
+fn absolute_monthly_json(alloc: Global, interval: u32, day: u8) -> Result<Value, AllocError>
     ensures { IfOk result (λ value. view value ≡ absolute_monthly_json interval day) }
 {
     json!(in alloc; {"dayOfMonth": day, "interval": interval, "type": "absoluteMonthly"})
 }
 
-fn relative_monthly(alloc: Global, interval: u32, days: u8, index: i8) -> Result<Value, AllocError>
+fn relative_monthly_json(
+    alloc: Global,
+    interval: u32,
+    days: u8,
+    index: i8,
+) -> Result<Value, AllocError>
     ensures { IfOk result (λ value. view value ≡ relative_monthly_json interval days index) }
 {
     let names = day_names(alloc, days)?;
     json!(in alloc; {"daysOfWeek": names, "index": index_name(index), "interval": interval, "type": "relativeMonthly"})
 }
 
-fn absolute_yearly(alloc: Global, interval: u32, day: u8, month: u8) -> Result<Value, AllocError>
+fn absolute_yearly_json(
+    alloc: Global,
+    interval: u32,
+    day: u8,
+    month: u8,
+) -> Result<Value, AllocError>
     ensures { IfOk result (λ value. view value ≡ absolute_yearly_json interval day month) }
 {
     json!(in alloc; {"dayOfMonth": day, "interval": interval, "month": month, "type": "absoluteYearly"})
 }
 
-fn relative_yearly(
+fn relative_yearly_json(
     alloc: Global,
     interval: u32,
     days: u8,
@@ -75,12 +85,12 @@ fn pattern_value(alloc: Global, pattern: &Pattern) -> Result<Value, AllocError>
         index,
     } = *pattern;
     match form {
-        Form::Daily => daily(alloc, interval),
-        Form::Weekly => weekly(alloc, interval, days, first_day),
-        Form::AbsoluteMonthly => absolute_monthly(alloc, interval, day_of_month),
-        Form::RelativeMonthly => relative_monthly(alloc, interval, days, index),
-        Form::AbsoluteYearly => absolute_yearly(alloc, interval, day_of_month, month),
-        Form::RelativeYearly => relative_yearly(alloc, interval, days, index, month),
+        Form::Daily => daily_json(alloc, interval),
+        Form::Weekly => weekly_json(alloc, interval, days, first_day),
+        Form::AbsoluteMonthly => absolute_monthly_json(alloc, interval, day_of_month),
+        Form::RelativeMonthly => relative_monthly_json(alloc, interval, days, index),
+        Form::AbsoluteYearly => absolute_yearly_json(alloc, interval, day_of_month, month),
+        Form::RelativeYearly => relative_yearly_json(alloc, interval, days, index, month),
     }
 }
 
@@ -105,19 +115,19 @@ fn date_value(alloc: Global, day: i64) -> Result<Value, NoMemory>
     time_value(alloc, Kind::Days, day)
 }
 
-fn no_end(alloc: Global, start: Value) -> Result<Value, AllocError>
+fn no_end_json(alloc: Global, start: Value) -> Result<Value, AllocError>
     ensures { IfOk result (λ value. view value ≡ no_end_json (view start)) }
 {
     json!(in alloc; {"startDate": start, "type": "noEnd"})
 }
 
-fn end_date(alloc: Global, start: Value, last: Value) -> Result<Value, AllocError>
+fn end_date_json(alloc: Global, start: Value, last: Value) -> Result<Value, AllocError>
     ensures { IfOk result (λ value. view value ≡ end_date_json (view start) (view last)) }
 {
     json!(in alloc; {"endDate": last, "startDate": start, "type": "endDate"})
 }
 
-fn numbered(alloc: Global, start: Value, count: u64) -> Result<Value, AllocError>
+fn numbered_json(alloc: Global, start: Value, count: u64) -> Result<Value, AllocError>
     ensures { IfOk result (λ value. view value ≡ numbered_json (view start) count) }
 {
     json!(in alloc; {"numberOfOccurrences": count, "startDate": start, "type": "numbered"})
@@ -131,16 +141,16 @@ fn range_value(alloc: Global, range: &Range) -> Result<Value, NoMemory>
 {
     let start = date_value(alloc, range.start_day)?;
     match range.end {
-        RangeEnd::NoEnd => Ok(no_end(alloc, start)?),
+        RangeEnd::NoEnd => Ok(no_end_json(alloc, start)?),
         RangeEnd::EndDate(day) => {
             let last = date_value(alloc, day)?;
-            Ok(end_date(alloc, start, last)?)
+            Ok(end_date_json(alloc, start, last)?)
         }
-        RangeEnd::Numbered(count) => Ok(numbered(alloc, start, count)?),
+        RangeEnd::Numbered(count) => Ok(numbered_json(alloc, start, count)?),
     }
 }
 
-fn recurrence(alloc: Global, pattern: Value, range: Value) -> Result<Value, AllocError>
+fn recurrence_json(alloc: Global, pattern: Value, range: Value) -> Result<Value, AllocError>
     ensures { IfOk result (λ value. view value ≡ recurrence_json (view pattern) (view range)) }
 {
     json!(in alloc; {"pattern": pattern, "range": range})
@@ -154,17 +164,17 @@ fn recurrence_value(alloc: Global, pattern: &Pattern, range: &Range) -> Result<V
 {
     let pattern = pattern_value(alloc, pattern)?;
     let range = range_value(alloc, range)?;
-    Ok(recurrence(alloc, pattern, range)?)
+    Ok(recurrence_json(alloc, pattern, range)?)
 }
 
 // The start of an event.
-fn start(alloc: Global, moment: Value) -> Result<Value, AllocError>
+fn start_json(alloc: Global, moment: Value) -> Result<Value, AllocError>
     ensures { IfOk result (λ value. view value ≡ start_json (view moment)) }
 {
     json!(in alloc; {"dateTime": moment})
 }
 
-fn event(alloc: Global, recurrence: Value, start: Value) -> Result<Value, AllocError>
+fn event_json(alloc: Global, recurrence: Value, start: Value) -> Result<Value, AllocError>
     ensures { IfOk result (λ value. view value ≡ event_json (view recurrence) (view start)) }
 {
     json!(in alloc; {"isAllDay": false, "recurrence": recurrence, "start": start})
@@ -176,7 +186,7 @@ fn start_value(alloc: Global, at: i64) -> Result<Value, NoMemory>
     ensures { IfOk result (λ value. view value ≡ start_json (string (extended_text Moments at))) }
 {
     let moment = time_value(alloc, Kind::Moments, at)?;
-    Ok(start(alloc, moment)?)
+    Ok(start_json(alloc, moment)?)
 }
 
 /// A series of dates as a bare recurrence, and one of moments as an event.
@@ -197,7 +207,7 @@ pub(crate) fn event_value(
         Kind::Days => Ok(recurrence),
         Kind::Moments => {
             let start = start_value(alloc, at)?;
-            Ok(event(alloc, recurrence, start)?)
+            Ok(event_json(alloc, recurrence, start)?)
         }
     }
 }
