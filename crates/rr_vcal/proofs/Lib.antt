@@ -8,6 +8,7 @@ mod TrimLemmas
 mod WordLemmas
 mod RuleTextLemmas
 mod RuleReadLemmas
+mod PushLemmas
 mod WrittenLineLemmas
 mod WrittenPassLemmas
 pub mod ReadBackProofs

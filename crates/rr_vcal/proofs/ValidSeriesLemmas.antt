@@ -7,7 +7,7 @@ use Rattle.rr_model.specs.Moment.Years.{IsInYears}
 use Rattle.rr_model.specs.Rising.{Rises}
 use Rattle.rr_model.specs.Rule.Validity.{IsValidRule, EndsInYears}
 use Rattle.rr_model.specs.Series.Validity.{IsValidSeries}
-use Rattle.rr_model.specs.Vcal.Counterpart.{rule_of_vrule, rules_of_vrules}
+use Rattle.rr_model.specs.Vcal.Counterpart.{rule_of_vrule, rules_of_vrules, series_of_vseries}
 use Rattle.rr_model.specs.Vcal.Validity.{IsValidVRule, IsValidVSeries}
 use Rattle.rr_model.specs.declared.kind.Kind.{Kind}
 use Rattle.rr_model.specs.declared.limits.TheConstants.{MAX_DATES}
@@ -43,7 +43,17 @@ module _ (kind : Kind) (start : ℤ) where
   same_length [] = refl
   same_length (rule ∷ rules) = ap (λ (n : ℕ). suc n) (same_length rules)
 
--- the series with the parts of the counterpart
+-- a series with the parts of the counterpart is the counterpart
+pub series_is : (series : VSeries) (start : ℤ) (rules excluded : List Rule) (plus minus : List ℤ) → start ≡ series.start
+    → rules ≡ rules_of_vrules series.kind series.start series.rules → excluded ≡ rules_of_vrules series.kind series.start series.excluded
+    → plus ≡ series.plus → minus ≡ series.minus
+    → series_of_vseries series
+    ≡ record { kind = series.kind; start = start; start_counts = true; rules = rules; excluded = excluded; plus = plus; minus = minus }
+unfolding series_of_vseries
+series_is series start rules excluded plus minus same made out added taken =
+    sym (λ i. record { kind = series.kind; start = same i; start_counts = true; rules = made i; excluded = out i; plus = added i; minus = taken i })
+
+-- and it is valid
 pub series_is_valid : (series : VSeries) (start : ℤ) (rules excluded : List Rule) (plus minus : List ℤ) → start ≡ series.start
     → rules ≡ rules_of_vrules series.kind series.start series.rules → excluded ≡ rules_of_vrules series.kind series.start series.excluded
     → plus ≡ series.plus → minus ≡ series.minus → Rises int_lt plus → Rises int_lt minus

@@ -35,7 +35,7 @@ pub(crate) fn number_of(line: u64, most: u16, text: &[u8]) -> Result<u16, Refusa
 }
 
 // A place, counted from the front or from the back.
-fn placed(from_back: bool, n: u16) -> i8
+fn signed_place(from_back: bool, n: u16) -> i8
     requires { n ≤ 31 }
     ensures { result ≡ (if from_back then neg_ℤ (pos n) else pos n) }
 {
@@ -47,7 +47,7 @@ fn place_of(line: u64, most: u16, from_back: bool, text: &[u8]) -> Result<i8, Re
     ensures { result ≡ place_of line most from_back text.now }
 {
     let n = number_of(line, most, text)?;
-    Ok(placed(from_back, n))
+    Ok(signed_place(from_back, n))
 }
 
 /// A place with `+` or `-` after it.

@@ -46,7 +46,7 @@ fn with_pieces(alloc: Global, line: u64, text: &[u8]) -> Result<Option<VRulePart
 }
 
 // After the last word there is a head, and the list is whole.
-fn finished(line: u64, parts: Option<VRuleParts>) -> Result<VRuleParts, Refusal>
+fn finish(line: u64, parts: Option<VRuleParts>) -> Result<VRuleParts, Refusal>
     ensures { result ≡ finished line parts }
 {
     let Some(parts) = parts else {
@@ -60,7 +60,7 @@ fn finished(line: u64, parts: Option<VRuleParts>) -> Result<VRuleParts, Refusal>
 }
 
 // An end moment alone.
-fn up_to(until: Stamp) -> End
+fn end_by_moment(until: Stamp) -> End
     ensures { result ≡ Until until.kind until.at }
 {
     End::Until {
@@ -70,7 +70,7 @@ fn up_to(until: Stamp) -> End
 }
 
 // A number of events alone, 0 for no end.
-fn counted(count: u64) -> End
+fn end_by_count(count: u64) -> End
     ensures { result ≡ (if count == 0 then Never else Count count) }
 {
     if count == 0 {
@@ -81,12 +81,12 @@ fn counted(count: u64) -> End
 }
 
 // Both, where the number of events is not 0: the earlier end holds.
-fn counted_up_to(count: u64, until: Stamp) -> End
+fn end_by_both(count: u64, until: Stamp) -> End
     ensures { result
         ≡ (if count == 0 then Until until.kind until.at else Both until.kind until.at count) }
 {
     if count == 0 {
-        return up_to(until);
+        return end_by_moment(until);
     }
     End::Both {
         kind: until.kind,
@@ -101,9 +101,9 @@ fn end_of_words(count: Option<u64>, until: Option<Stamp>) -> End
 {
     match (count, until) {
         (None, None) => End::Count(2),
-        (Some(count), None) => counted(count),
-        (None, Some(until)) => up_to(until),
-        (Some(count), Some(until)) => counted_up_to(count, until),
+        (Some(count), None) => end_by_count(count),
+        (None, Some(until)) => end_by_moment(until),
+        (Some(count), Some(until)) => end_by_both(count, until),
     }
 }
 
@@ -130,6 +130,6 @@ pub(crate) fn stated_vrule(
 {
     let value = line_value(alloc, text)?;
     let pieces = with_pieces(alloc, line, &value)?;
-    let parts = finished(line, pieces)?;
+    let parts = finish(line, pieces)?;
     Ok(stated_parts(alloc, parts)?)
 }
