@@ -18,7 +18,7 @@ use Rattle.rr_walk.specs.Ruling.{AreUnitDays, Ruling}
 use Rattle.rr_walk.specs.SetPositions.{HasPositionOn, IsAtSome}
 use Rattle.rr_walk.specs.Walk.{IsDayWith, IsFirstOf, IsFirstOfIn, IsFirstSecond, IsOnDay}
 use Rattle.rr_walk.proofs.PlainLemmas.{few_seconds}
-use Rattle.rr_walk.proofs.SetPositionLemmas.{candidate_at, chosen_at_places}
+use Rattle.rr_walk.proofs.SetPositionLemmas.{candidate_at, chosen_at_positions}
 use Rattle.rr_walk.proofs.WalkLemmas.{seconds_of_day}
 
 -- a day with the number of a set has that set
@@ -68,7 +68,7 @@ module _ (r : Ruling) (coarse : is_whole_days r.rule.freq ≡ true) (stands : is
     all_chosen =
         let day : ℤ = get_or days k (pos 0) in
         let at = candidate_at r days day k k (length days) unit_days low refl refl refl in
-        chosen_at_places r.rule r.kind r.start day coarse at.candidate times times k (length days) stands set at.before at.all at_some
+        chosen_at_positions r.rule r.kind r.start day coarse at.candidate times times k (length days) stands set at.before at.all at_some
 
     module _ (day : ℤ) (at : day ≡ get_or days k (pos 0)) (from : ℕ) (first : IsFirstSecond r.kind r.start day from) where
       stands_of : (cut : List ℕ) → IsSetOf nat_lt cut (λ s. Contains times s × (from ≤ s) × (s < 86_400))

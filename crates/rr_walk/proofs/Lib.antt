@@ -4,9 +4,9 @@ pub mod DayListLemmas
 pub mod StepLemmas
 pub mod FineLemmas
 pub mod OffsetLemmas
-pub mod PlaceOfDayLemmas
-pub mod PlaceLemmas
+pub mod UnitOffsetLemmas
+pub mod RankLemmas
 pub mod SetPositionLemmas
 pub mod PositionDayLemmas
 pub mod PlainLemmas
-pub mod AlonePlaceLemmas
+pub mod AloneRankLemmas

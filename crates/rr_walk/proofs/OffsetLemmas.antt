@@ -116,10 +116,10 @@ module _ (rule : Rule) (start t : ℤ) (passes : is_candidate rule Moments start
   counts : (n : ℕ) → n ≤ 86_400 → times_before rule Moments start n ≡ count_seconds in_day n
   counts n few = times_of_day rule start n few
 
-  -- HOURLY: the place among the minutes and seconds of the hour
-  pub place_in_hour : rule.freq ≡ Hourly → (rank_by_parts rule Moments start t ≡ count_seconds in_hour (second_part Moments t % 3_600))
+  -- HOURLY: the rank among the minutes and seconds of the hour
+  pub rank_within_hour : rule.freq ≡ Hourly → (rank_by_parts rule Moments start t ≡ count_seconds in_hour (second_part Moments t % 3_600))
       × (size_by_parts rule Moments start t ≡ count_seconds in_hour 3_600)
-  place_in_hour e =
+  rank_within_hour e =
       let n : unit_seconds rule.freq ≡ 3_600 = ap unit_seconds e in
       let fine : is_whole_days rule.freq ≡ false = ap is_whole_days e in
       let b : begin_in_day rule own ≡ own / 3_600 * 3_600 + 0 = ap (λ k. own / k * k) n ∙ omega arith in
@@ -134,10 +134,10 @@ module _ (rule : Rule) (start t : ℤ) (passes : is_candidate rule Moments start
             (is_whole_days rule.freq) _ _ fine ∙ (omega (arith, at_begin, at_end, count_seconds-zero in_hour)),
       )
 
-  -- MINUTELY: the place among the seconds of the minute
-  pub place_in_minute : rule.freq ≡ Minutely → (rank_by_parts rule Moments start t ≡ count_seconds seconds (second_part Moments t % 60))
+  -- MINUTELY: the rank among the seconds of the minute
+  pub rank_within_minute : rule.freq ≡ Minutely → (rank_by_parts rule Moments start t ≡ count_seconds seconds (second_part Moments t % 60))
       × (size_by_parts rule Moments start t ≡ count_seconds seconds 60)
-  place_in_minute e =
+  rank_within_minute e =
       let n : unit_seconds rule.freq ≡ 60 = ap unit_seconds e in
       let fine : is_whole_days rule.freq ≡ false = ap is_whole_days e in
       let b : begin_in_day rule own ≡ own / 60 * 60 + 0 = ap (λ k. own / k * k) n ∙ omega arith in
@@ -153,8 +153,8 @@ module _ (rule : Rule) (start t : ℤ) (passes : is_candidate rule Moments start
       )
 
   -- SECONDLY: the only one
-  pub place_in_second : rule.freq ≡ Secondly → (rank_by_parts rule Moments start t ≡ 0) × (size_by_parts rule Moments start t ≡ 1)
-  place_in_second e =
+  pub rank_within_second : rule.freq ≡ Secondly → (rank_by_parts rule Moments start t ≡ 0) × (size_by_parts rule Moments start t ≡ 1)
+  rank_within_second e =
       let n : unit_seconds rule.freq ≡ 1 = ap unit_seconds e in
       let fine : is_whole_days rule.freq ≡ false = ap is_whole_days e in
       let b : begin_in_day rule own ≡ own = ap (λ k. own / k * k) n ∙ omega arith in
@@ -167,7 +167,7 @@ module _ (rule : Rule) (start t : ℤ) (passes : is_candidate rule Moments start
             ∙ (omega (arith, at_begin, at_own, at_end)),
       )
 
-  -- its own place in its unit is allowed
+  -- its own offset in its unit is allowed
   offset_in_hour : rule.freq ≡ Hourly → hour_second_allowed rule (minute_of Moments start) (second_of Moments start) (second_part Moments t % 3_600) ≡ true
   offset_in_hour e =
       let a : own % 3_600 / 60 ≡ own / 60 % 60 = omega arith in
@@ -177,13 +177,13 @@ module _ (rule : Rule) (start t : ℤ) (passes : is_candidate rule Moments start
   offset_in_minute : number_allowed (wants_second rule.freq) rule.by_second (second_of Moments start) (second_part Moments t % 60) ≡ true
   offset_in_minute = last_holds (hours (own / 3_600)) (minutes (own / 60 % 60)) (seconds (own % 60)) allowed
 
-  -- in each unit shorter than a day: the place among the seconds from the unit's begin
-  pub place_in_unit : (freq : Freq) → rule.freq ≡ freq → is_whole_days freq ≡ false
+  -- in each unit shorter than a day: the rank among the seconds from the unit's begin
+  pub rank_within_unit : (freq : Freq) → rule.freq ≡ freq → is_whole_days freq ≡ false
       → (rank_by_parts rule Moments start t ≡ count_seconds (offset_holds rule start) (second_part Moments t % unit_seconds rule.freq))
       × (size_by_parts rule Moments start t ≡ count_seconds (offset_holds rule start) (unit_seconds rule.freq))
       × (offset_holds rule start (second_part Moments t % unit_seconds rule.freq) ≡ true)
-  place_in_unit Hourly e fine =
-      let p = place_in_hour e in
+  rank_within_unit Hourly e fine =
+      let p = rank_within_hour e in
       let same : (o : ℕ) → offset_holds rule start o ≡ in_hour o = λ o. ap
       (λ f. offset_allowed f rule (minute_of Moments start) (second_of Moments start) o) e in
       let u : unit_seconds rule.freq ≡ 3_600 = ap unit_seconds e in (
@@ -191,8 +191,8 @@ module _ (rule : Rule) (start t : ℤ) (passes : is_candidate rule Moments start
         p.1 ∙ rw u (sym (count_seconds-same (offset_holds rule start) in_hour 3_600 (λ o l. same o))),
         same (own % unit_seconds rule.freq) ∙ ap (λ n. in_hour (own % n)) u ∙ offset_in_hour e,
       )
-  place_in_unit Minutely e fine =
-      let p = place_in_minute e in
+  rank_within_unit Minutely e fine =
+      let p = rank_within_minute e in
       let same : (o : ℕ) → offset_holds rule start o ≡ seconds o = λ o. ap
       (λ f. offset_allowed f rule (minute_of Moments start) (second_of Moments start) o) e in
       let u : unit_seconds rule.freq ≡ 60 = ap unit_seconds e in (
@@ -200,8 +200,8 @@ module _ (rule : Rule) (start t : ℤ) (passes : is_candidate rule Moments start
         p.1 ∙ rw u (sym (count_seconds-same (offset_holds rule start) seconds 60 (λ o l. same o))),
         same (own % unit_seconds rule.freq) ∙ ap (λ n. seconds (own % n)) u ∙ offset_in_minute,
       )
-  place_in_unit Secondly e fine =
-      let p = place_in_second e in
+  rank_within_unit Secondly e fine =
+      let p = rank_within_second e in
       let same : (o : ℕ) → offset_holds rule start o ≡ true = λ o. ap (λ f. offset_allowed f rule (minute_of Moments start) (second_of Moments start) o) e in
       let u : unit_seconds rule.freq ≡ 1 = ap unit_seconds e in
       let none : own % 1 ≡ 0 = omega arith in
@@ -211,20 +211,20 @@ module _ (rule : Rule) (start t : ℤ) (passes : is_candidate rule Moments start
         p.1 ∙ rw u (sym all),
         same (own % unit_seconds rule.freq),
       )
-  place_in_unit Daily e fine = absurd (cc)
-  place_in_unit Weekly e fine = absurd (cc)
-  place_in_unit Monthly e fine = absurd (cc)
-  place_in_unit Yearly e fine = absurd (cc)
+  rank_within_unit Daily e fine = absurd (cc)
+  rank_within_unit Weekly e fine = absurd (cc)
+  rank_within_unit Monthly e fine = absurd (cc)
+  rank_within_unit Yearly e fine = absurd (cc)
 
 -- ---- the chosen seconds of a day
 
 module _ (rule : Rule) (start d : ℤ) (fine : is_whole_days rule.freq ≡ false) where
-  -- a candidate is chosen exactly where its place in its unit is
+  -- a candidate is chosen exactly where its offset in its unit is
   chosen_is_offset : (s : ℕ) → s < 86_400 → is_candidate rule Moments start (moment_at Moments d s) ≡ true
       → IsChosenOffset rule start (s % unit_seconds rule.freq) ↔ IsTrue (is_chosen rule Moments start (moment_at Moments d s))
   chosen_is_offset s low passes =
       let at : second_part Moments (moment_at Moments d s) ≡ s = second_part-moment_at d s low in
-      let p = place_in_unit rule start (moment_at Moments d s) passes rule.freq refl fine in
+      let p = rank_within_unit rule start (moment_at Moments d s) passes rule.freq refl fine in
       let chosen = chosen_candidate rule Moments start (moment_at Moments d s) (fine_taken rule.freq) passes in
       let rank = p.0 ∙ ap (λ n. count_seconds (offset_holds rule start) (n % unit_seconds rule.freq)) at in
       let holds = ap (λ n. offset_holds rule start (n % unit_seconds rule.freq)) (sym at) ∙ p.2 in (

@@ -17,17 +17,17 @@ use Rattle.rr_model.specs.declared.kind.Kind.{Kind}
 use Rattle.rr_model.specs.declared.kind.Kind.TheVariants.{Days}
 use Rattle.rr_model.specs.declared.rule.Rule.{Rule}
 use Rattle.rr_model.proofs.RisingSetLemmas.{Contains-none, set_empty}
-use Rattle.rr_setpos.specs.Nth.{IsPlaceOf, IsRankOf}
+use Rattle.rr_setpos.specs.Nth.{IsPositionOf, IsRankOf}
 use Rattle.rr_expand.specs.Years.{Filling}
 use Rattle.rr_lazy.specs.Next.{with_set}
 use Rattle.rr_lazy.specs.declared.occupied_day.OccupiedDay.{OccupiedDay}
 use Rattle.rr_walk.specs.Ruling.{AreUnitDays, IsSameRuling, IsUnrolled, IsWholeUnit, Ruling}
 use Rattle.rr_walk.specs.declared.day_rule.DayInUnit.{DayInUnit}
 use Rattle.rr_walk.specs.declared.day_rule.WholeUnit.{WholeUnit}
-use Rattle.rr_walk.specs.SetPositions.{HasOneOn, HasPositionOn, IsAtSome, IsDayOfPosition, IsNextPlace, IsPositionOn}
+use Rattle.rr_walk.specs.SetPositions.{HasOneOn, HasPositionOn, IsAtSome, IsDayOfPosition, IsNextRank, IsPositionOn}
 use Rattle.rr_walk.specs.Walk.{IsFirstInIn, IsFirstOf, IsFirstOfIn, IsOnDay, IsOnDayIn}
 use Rattle.rr_walk.proofs.DayListLemmas.{PassedDays, passed_all, passed_found}
-use Rattle.rr_walk.proofs.SetPositionLemmas.{candidate_at, chosen_at_places, few_of_unit, one_rank}
+use Rattle.rr_walk.proofs.SetPositionLemmas.{candidate_at, chosen_at_positions, few_of_unit, one_rank}
 use Rattle.rr_walk.proofs.WalkLemmas.{first_of_unit, none_chosen}
 
 module _ (each count : ℕ) where
@@ -65,7 +65,7 @@ module _ (each count : ℕ) where
           | inl l ↦ l
           | inr g ↦ absurd (omega (arith, e, at.0, mul-le-mul_right each g))
         ],
-        (rank % each, (omega (arith, some), subst (IsPlaceOf position (count * each)) e at.1)),
+        (rank % each, (omega (arith, some), subst (IsPositionOf position (count * each)) e at.1)),
       )
 
 -- Of the days from one on and before another none has one of the first i positions, and the day at the end has one, unless it is past all.
@@ -105,27 +105,27 @@ module _ (positions : List ℤ) (each count from : ℕ) where
     searched_nowhere none = searched_more (λ k g l h. none k (omega (arith, l, at.within)) h)
 
     -- one that is on a day
-    pub searched_other : (place : ℕ) → IsDayOfPosition position each count (Some place) → (from ≤ place → place < end → ⊥)
+    pub searched_other : (rank : ℕ) → IsDayOfPosition position each count (Some rank) → (from ≤ rank → rank < end → ⊥)
         → IsSearched positions each count from (i + 1) end
-    searched_other place on other = searched_more (λ k g l h. (
-        let e = one_day each count position place k on.0 (omega (arith, l, at.within)) on.1 h in other (omega (arith, e, g)) (omega (arith, e, l))))
+    searched_other rank on other = searched_more (λ k g l h. (
+        let e = one_day each count position rank k on.0 (omega (arith, l, at.within)) on.1 h in other (omega (arith, e, g)) (omega (arith, e, l))))
 
-    pub searched_found : (place : ℕ) → IsDayOfPosition position each count (Some place) → from ≤ place → place < end
-        → IsSearched positions each count from (i + 1) place
-    searched_found place on late low = record {
+    pub searched_found : (rank : ℕ) → IsDayOfPosition position each count (Some rank) → from ≤ rank → rank < end
+        → IsSearched positions each count from (i + 1) rank
+    searched_found rank on late low = record {
       within = omega (arith, on.0);
-      some = λ l. (late, (i, (omega arith, subst (λ p. IsPositionOn p each count place) is on.1)));
+      some = λ l. (late, (i, (omega arith, subst (λ p. IsPositionOn p each count rank) is on.1)));
       none = λ k g l h. elim (one_more k h) [
         | inl m ↦ at.none k g (omega (arith, l, low)) m
-        | inr m ↦ (let e = one_day each count position place k on.0 (omega (arith, l, low, at.within)) on.1 m in omega (arith, e, l))
+        | inr m ↦ (let e = one_day each count position rank k on.0 (omega (arith, l, low, at.within)) on.1 m in omega (arith, e, l))
       ];
     }
 
   module _ (i end : ℕ) (last : i ≡ length positions) (at : IsSearched positions each count from i end) where
-    pub searched_some : end < count → IsNextPlace positions each count from (Some end)
+    pub searched_some : end < count → IsNextRank positions each count from (Some end)
     searched_some l = let s = (rw last at at).some l in (s.0, l, s.1, (rw last at at).none)
 
-    pub searched_all : count ≤ end → IsNextPlace positions each count from None
+    pub searched_all : count ≤ end → IsNextRank positions each count from None
     searched_all g k h l one = (rw last at at).none k h (omega (arith, l, g)) one
 
 -- ---- the days of a unit, walked from position to position
@@ -168,7 +168,7 @@ module _ (r : Ruling) (coarse : is_whole_days r.rule.freq ≡ true) (stands : is
   none_on k s low off =
       let day : ℤ = get_or days k (pos 0) in
       let at = candidate_at r days day k k (length days) unit_days low refl refl refl in
-      let empty = chosen_at_places r.rule r.kind r.start day coarse at.candidate times [] k (length days) stands set at.before at.all
+      let empty = chosen_at_positions r.rule r.kind r.start day coarse at.candidate times [] k (length days) stands set at.before at.all
       (set_empty nat_lt (IsAtSome times (k * length times) (length days * length times) positions (length positions))
       (λ t h. off (h.0, (h.1.0, (h.1.1.0, (h.1.1.1.0, h.1.1.1.2)))))) in
       none_chosen r.rule r.kind r.start coarse day s
@@ -178,17 +178,17 @@ module _ (r : Ruling) (coarse : is_whole_days r.rule.freq ≡ true) (stands : is
         | false ↦ λ e. e
       ] refl)
 
-  module _ (from : ℤ) (place : ℕ) (passed : PassedDays tree days from place) where
+  module _ (from : ℤ) (rank : ℕ) (passed : PassedDays tree days from rank) where
     -- up to the next day on which one is
     passed_over : (next : ℕ) → next ≤ length days
-        → ((k : ℕ) → place ≤ k → k < next → HasPositionOn positions (length times) (length days) k → ⊥) → PassedDays tree days from next
-    passed_over next low none k s l h = elim (cases_lt k place) [ inl m ↦ passed k s m h | inr g ↦ none_on k s (omega (arith, l, low)) (none k g l) ]
+        → ((k : ℕ) → rank ≤ k → k < next → HasPositionOn positions (length times) (length days) k → ⊥) → PassedDays tree days from next
+    passed_over next low none k s l h = elim (cases_lt k rank) [ inl m ↦ passed k s m h | inr g ↦ none_on k s (omega (arith, l, low)) (none k g l) ]
 
-    pub passed_next : (found : ℕ) → IsNextPlace positions (length times) (length days) place (Some found) → PassedDays tree days from found
+    pub passed_next : (found : ℕ) → IsNextRank positions (length times) (length days) rank (Some found) → PassedDays tree days from found
     passed_next found n = passed_over found (omega (arith, n.1)) n.3
 
     -- none is on a day that is left
-    pub passed_rest : IsNextPlace positions (length times) (length days) place None → IsFirstOf tree days from None
+    pub passed_rest : IsNextRank positions (length times) (length days) rank None → IsFirstOf tree days from None
     passed_rest n = passed_all tree days from (length days) (omega arith) (passed_over (length days) (omega arith) n)
 
 -- ---- the unit that is held

@@ -1,4 +1,4 @@
--- The place of a day in the list of its unit's candidate days is a count.
+-- The rank of a day in the list of its unit's candidate days is a count.
 use Rattle.std.proofs.Common.{◌≡◌, ℕ, zero, suc, ◌+◌, ◌<◌, Bool, true, false, List, [], ◌∷◌, length, get_or, Contains, inl, inr, ℤ, pos, nat_abs}
 use Rattle.std.proofs.Common.{◌+ℤ◌, ◌-ℤ◌, ◌≤ℤ◌, ◌<ℤ◌, refl, sym, ap, ◌∙◌, arith}
 use Rattle.std.specs.Prelude.{int_lt}
@@ -73,15 +73,15 @@ module _ (test : ℤ → Bool) where
         ap (count_from test q) e ∙ count_from-split test q m (suc k) ∙ omega
         (arith, none_before, ap (λ z. count_from test z (suc k)) at, count_from-first test x k, ap one head_is.2)
 
-  -- the place of each, and the length
-  pub place_is : (xs : List ℤ) (q : ℤ) (n : ℕ) → IsSetOf int_lt xs (PassedFrom q n) → (i : ℕ) → i < length xs
+  -- the rank of each, and the length
+  pub rank_is : (xs : List ℤ) (q : ℤ) (n : ℕ) → IsSetOf int_lt xs (PassedFrom q n) → (i : ℕ) → i < length xs
       → count_from test q (nat_abs (get_or xs i (pos 0) -ℤ q)) ≡ i
-  place_is [] q n set i low = absurd (omega (arith, low))
-  place_is (x ∷ xs) q n set zero low = none_before x xs q n set
-  place_is (x ∷ xs) q n set (suc i) low =
+  rank_is [] q n set i low = absurd (omega (arith, low))
+  rank_is (x ∷ xs) q n set zero low = none_before x xs q n set
+  rank_is (x ∷ xs) q n set (suc i) low =
       let d = get_or xs i (pos 0) in
       up_to x xs q n set d (above_head x xs q n set d (Contains-get_or xs i (pos 0) (omega (arith, low))))
-      ∙ omega (arith, place_is xs (x +ℤ pos 1) (after_head x xs q n set) (rest_set x xs q n set) i (omega (arith, low)))
+      ∙ omega (arith, rank_is xs (x +ℤ pos 1) (after_head x xs q n set) (rest_set x xs q n set) i (omega (arith, low)))
 
   pub length_is : (xs : List ℤ) (q : ℤ) (n : ℕ) → IsSetOf int_lt xs (PassedFrom q n) → count_from test q n ≡ length xs
   length_is [] q n set = count_from-empty test q n (λ d l h. elim (test d) as (λ b. test d ≡ b → test d ≡ false) [
@@ -101,10 +101,10 @@ module _ (test : ℤ → Bool) where
 
 -- ---- candidate days
 
--- the place of a candidate day in the list of its unit's is the count of those before it, and the list's length the count of all
-pub places_are_counts : (rule : Rule) (start_day unit : ℤ) (days : List ℤ) (i : ℕ) → IsSetOf int_lt days (IsCandidateDay rule start_day unit) → i < length days
+-- the rank of a candidate day in the list of its unit's is the count of those before it, and the list's length the count of all
+pub ranks_are_counts : (rule : Rule) (start_day unit : ℤ) (days : List ℤ) (i : ℕ) → IsSetOf int_lt days (IsCandidateDay rule start_day unit) → i < length days
     → (days_before rule start_day (get_or days i (pos 0)) ≡ i) × (days_of_unit rule start_day (get_or days i (pos 0)) ≡ length days)
-places_are_counts rule start_day unit days i set low =
+ranks_are_counts rule start_day unit days i set low =
     let d = get_or days i (pos 0) in
     let own = (set.exact d).0 (Contains-get_or days i (pos 0) low) in
     let test : ℤ → Bool = λ z. date_parts_hold (filled rule Days start_day) z in
@@ -124,4 +124,4 @@ places_are_counts rule start_day unit days i set low =
             (ap (λ u. divides rule.interval (u -ℤ unit_number rule.freq rule.week_start Days start_day)) same ∙ fits) h.2,
       ))),
     ))) in
-    (place_is test days first n passed i low, length_is test days first n passed)
+    (rank_is test days first n passed i low, length_is test days first n passed)

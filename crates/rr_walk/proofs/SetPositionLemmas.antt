@@ -33,14 +33,14 @@ use Rattle.std.proofs.Math.Nat.{mul-le-mul_right}
 use Rattle.rr_model.proofs.DaysAndTimesLemmas.{candidates_are_days_and_times, day_at, second_at}
 use Rattle.rr_cal.proofs.DayUnitLemmas.{unit_length}
 use Rattle.rr_setpos.specs.Ranks.{times_before, days_before, days_of_unit, first_of_unit, next_of_unit, rank_by_parts, size_by_parts, is_rank_listed}
-use Rattle.rr_setpos.specs.Nth.{IsPlaceOf, IsRankOf}
+use Rattle.rr_setpos.specs.Nth.{IsPositionOf, IsRankOf}
 use Rattle.rr_model.proofs.ChoiceLemmas.{is_chosen-plain}
 use Rattle.rr_setpos.proofs.PositionLemmas.{chosen_candidate, chosen_no_candidate}
 use Rattle.rr_setpos.proofs.UnitDayLemmas.{in_unit}
 use Rattle.rr_lazy.proofs.CountingLemmas.{seconds_to, seconds_whole}
 use Rattle.rr_walk.specs.Ruling.{Ruling, AreUnitDays, IsCandidateAt}
-use Rattle.rr_walk.specs.SetPositions.{IsAtPlace, IsTimeAt, IsAtSome}
-use Rattle.rr_walk.proofs.PlaceLemmas.{places_are_counts}
+use Rattle.rr_walk.specs.SetPositions.{IsAtPosition, IsTimeAt, IsAtSome}
+use Rattle.rr_walk.proofs.RankLemmas.{ranks_are_counts}
 
 -- ---- a value put into a set
 
@@ -80,16 +80,16 @@ module _ (v : ℕ) where
     );
   }
 
--- ---- places
+-- ---- positions and ranks
 
--- a place is that of one rank
-pub one_rank : (place : ℤ) (size m n : ℕ) → m < size → n < size → IsPlaceOf place size m → IsPlaceOf place size n → m ≡ n
-one_rank place size m n low few p q = elim p [
+-- a position is that of one rank
+pub one_rank : (position : ℤ) (size m n : ℕ) → m < size → n < size → IsPositionOf position size m → IsPositionOf position size n → m ≡ n
+one_rank position size m n low few p q = elim p [
   | inl e ↦ elim q [ inl f ↦ omega (arith, ints, e, f) | inr f ↦ absurd (omega (arith, ints, e, f, few)) ]
   | inr e ↦ elim q [ inl f ↦ absurd (omega (arith, ints, e, f, low)) | inr f ↦ omega (arith, ints, e, f, low, few) ]
 ]
 
--- a list that has an element which passes has it at a place
+-- a list that has an element which passes has it at an index
 any_at : {X : Type 0} (p : X → Bool) (xs : List X) (d : X) → list_any p xs ≡ true → (i : ℕ) × ((i < length xs) × (p (get_or xs i d) ≡ true))
 any_at p [] d e = absurd (false≢true e)
 any_at p (x ∷ xs) d e = elim (p x) as (λ b. p x ≡ b → (i : ℕ) × ((i < length (x ∷ xs)) × (p (get_or (x ∷ xs) i d) ≡ true))) [
@@ -116,95 +116,95 @@ or_right true b c e = refl
 or_right false true c e = refl
 or_right false false c e = e
 
--- a rank is listed exactly where one of the places is its own
+-- a rank is listed exactly where one of the positions is its own
 pub listed_is : (rule : Rule) (rank size : ℕ) → is_absent rule.by_set_pos ≡ false
-    → (is_rank_listed rule rank size ≡ true) ↔ ((i : ℕ) × ((i < length rule.by_set_pos) × IsPlaceOf (get_or rule.by_set_pos i (pos 0)) size rank))
+    → (is_rank_listed rule rank size ≡ true) ↔ ((i : ℕ) × ((i < length rule.by_set_pos) × IsPositionOf (get_or rule.by_set_pos i (pos 0)) size rank))
 listed_is rule rank size stands =
-    let places = rule.by_set_pos in (
-      λ e. elim (or_cases (is_absent places || lists places (pos (rank + 1))) (lists places (neg_ℤ (pos (size - rank)))) e) [
-        | inl f ↦ elim (or_cases (is_absent places) (lists places (pos (rank + 1))) f) [
+    let positions = rule.by_set_pos in (
+      λ e. elim (or_cases (is_absent positions || lists positions (pos (rank + 1))) (lists positions (neg_ℤ (pos (size - rank)))) e) [
+        | inl f ↦ elim (or_cases (is_absent positions) (lists positions (pos (rank + 1))) f) [
           | inl g ↦ absurd (false≢true (sym stands ∙ g))
-          | inr g ↦ (let r = any_at (λ x. int_eq x (pos (rank + 1))) places (pos 0) g in (r.0, (r.1.0, inl (number_same _ _ r.1.1))))
+          | inr g ↦ (let r = any_at (λ x. int_eq x (pos (rank + 1))) positions (pos 0) g in (r.0, (r.1.0, inl (number_same _ _ r.1.1))))
         ]
-        | inr f ↦ (let r = any_at (λ x. int_eq x (neg_ℤ (pos (size - rank)))) places (pos 0) f in (r.0, (r.1.0, inr (number_same _ _ r.1.1))))
+        | inr f ↦ (let r = any_at (λ x. int_eq x (neg_ℤ (pos (size - rank)))) positions (pos 0) f in (r.0, (r.1.0, inr (number_same _ _ r.1.1))))
       ],
       λ h. elim h.1.1 [
-        | inl e ↦ or_left (is_absent places) (lists places (pos (rank + 1))) (lists places (neg_ℤ (pos (size - rank))))
-            (list_any_at (λ x. int_eq x (pos (rank + 1))) places h.0 (pos 0) h.1.0 (same_number _ _ e))
-        | inr e ↦ or_right (is_absent places) (lists places (pos (rank + 1))) (lists places (neg_ℤ (pos (size - rank))))
-            (list_any_at (λ x. int_eq x (neg_ℤ (pos (size - rank)))) places h.0 (pos 0) h.1.0 (same_number _ _ e))
+        | inl e ↦ or_left (is_absent positions) (lists positions (pos (rank + 1))) (lists positions (neg_ℤ (pos (size - rank))))
+            (list_any_at (λ x. int_eq x (pos (rank + 1))) positions h.0 (pos 0) h.1.0 (same_number _ _ e))
+        | inr e ↦ or_right (is_absent positions) (lists positions (pos (rank + 1))) (lists positions (neg_ℤ (pos (size - rank))))
+            (list_any_at (λ x. int_eq x (neg_ℤ (pos (size - rank)))) positions h.0 (pos 0) h.1.0 (same_number _ _ e))
       ],
     )
 
 module _ (times : List ℕ) (before size : ℕ) (room : before + length times ≤ size) where
-  -- the place is none of the unit
-  pub time_at_none : (place : ℤ) → IsRankOf place size None → IsTimeAt times before size place None
-  time_at_none place none = λ s h. none (before + h.0) (omega (arith, h.1.0, room)) h.1.2
+  -- the position is none of the unit
+  pub time_at_none : (position : ℤ) → IsRankOf position size None → IsTimeAt times before size position None
+  time_at_none position none = λ s h. none (before + h.0) (omega (arith, h.1.0, room)) h.1.2
 
   -- it is one of another day
-  pub time_at_other : (place : ℤ) (rank : ℕ) → rank < size → IsPlaceOf place size rank → (before ≤ rank → rank - before < length times → ⊥)
-      → IsTimeAt times before size place None
-  time_at_other place rank few is other = λ s h.
-      let e : rank ≡ before + h.0 = one_rank place size rank (before + h.0) few (omega (arith, h.1.0, room)) is h.1.2 in
+  pub time_at_other : (position : ℤ) (rank : ℕ) → rank < size → IsPositionOf position size rank → (before ≤ rank → rank - before < length times → ⊥)
+      → IsTimeAt times before size position None
+  time_at_other position rank few is other = λ s h.
+      let e : rank ≡ before + h.0 = one_rank position size rank (before + h.0) few (omega (arith, h.1.0, room)) is h.1.2 in
       other (omega (arith, e)) (omega (arith, e, h.1.0))
 
   -- it is this day's
-  pub time_at_some : (place : ℤ) (rank s : ℕ) → before ≤ rank → rank - before < length times → IsPlaceOf place size rank
-      → s ≡ get_or times (rank - before) 0 → IsTimeAt times before size place (Some s)
-  time_at_some place rank s late low is at =
+  pub time_at_some : (position : ℤ) (rank s : ℕ) → before ≤ rank → rank - before < length times → IsPositionOf position size rank
+      → s ≡ get_or times (rank - before) 0 → IsTimeAt times before size position (Some s)
+  time_at_some position rank s late low is at =
       let e : rank ≡ before + (rank - before) = omega (arith, late) in
-      (rank - before, (low, sym at, subst (IsPlaceOf place size) e is))
+      (rank - before, (low, sym at, subst (IsPositionOf position size) e is))
 
-  -- ---- the list's places, one after another
+  -- ---- the list's positions, one after another
 
-  pub none_yet : (places : List ℤ) (xs : List ℕ) → xs ≡ [] → IsSetOf nat_lt xs (IsAtSome times before size places 0)
-  none_yet places xs e = subst (λ ys. IsSetOf nat_lt ys (IsAtSome times before size places 0)) (sym e)
-      (set_empty nat_lt (IsAtSome times before size places 0) (λ s h. omega (arith, h.1.0)))
+  pub none_yet : (positions : List ℤ) (xs : List ℕ) → xs ≡ [] → IsSetOf nat_lt xs (IsAtSome times before size positions 0)
+  none_yet positions xs e = subst (λ ys. IsSetOf nat_lt ys (IsAtSome times before size positions 0)) (sym e)
+      (set_empty nat_lt (IsAtSome times before size positions 0) (λ s h. omega (arith, h.1.0)))
 
-  more : (places : List ℤ) (k s : ℕ) → IsAtSome times before size places (k + 1) s
-      → IsAtSome times before size places k s ⊎ IsAtPlace times before size (get_or places k (pos 0)) s
-  more places k s h = elim (cases_lt h.0 k) [
+  more : (positions : List ℤ) (k s : ℕ) → IsAtSome times before size positions (k + 1) s
+      → IsAtSome times before size positions k s ⊎ IsAtPosition times before size (get_or positions k (pos 0)) s
+  more positions k s h = elim (cases_lt h.0 k) [
     | inl l ↦ inl (h.0, (l, h.1.1))
-    | inr g ↦ (let e : h.0 ≡ k = omega (arith, g, h.1.0) in inr (subst (λ i. IsAtPlace times before size (get_or places i (pos 0)) s) e h.1.1))
+    | inr g ↦ (let e : h.0 ≡ k = omega (arith, g, h.1.0) in inr (subst (λ i. IsAtPosition times before size (get_or positions i (pos 0)) s) e h.1.1))
   ]
 
-  pub one_more_none : (places : List ℤ) (k : ℕ) (place : ℤ) (xs : List ℕ) → place ≡ get_or places k (pos 0) → IsTimeAt times before size place None
-      → IsSetOf nat_lt xs (IsAtSome times before size places k) → IsSetOf nat_lt xs (IsAtSome times before size places (k + 1))
-  one_more_none places k place xs is none set =
-      set_same nat_lt (IsAtSome times before size places k) (IsAtSome times before size places (k + 1)) xs set
+  pub one_more_none : (positions : List ℤ) (k : ℕ) (position : ℤ) (xs : List ℕ) → position ≡ get_or positions k (pos 0) → IsTimeAt times before size position None
+      → IsSetOf nat_lt xs (IsAtSome times before size positions k) → IsSetOf nat_lt xs (IsAtSome times before size positions (k + 1))
+  one_more_none positions k position xs is none set =
+      set_same nat_lt (IsAtSome times before size positions k) (IsAtSome times before size positions (k + 1)) xs set
       (λ s. (
         (λ h. (h.0, (omega (arith, h.1.0), h.1.1))),
-        (λ h. elim (more places k s h) [ inl m ↦ m | inr m ↦ absurd (none s (subst (λ p. IsAtPlace times before size p s) (sym is) m)) ]),
+        (λ h. elim (more positions k s h) [ inl m ↦ m | inr m ↦ absurd (none s (subst (λ p. IsAtPosition times before size p s) (sym is) m)) ]),
       ))
 
-  -- a place has one time
-  one_time : (place : ℤ) (v s : ℕ) → IsAtPlace times before size place v → IsAtPlace times before size place s → v ≡ s
-  one_time place v s a b =
-      let e = one_rank place size (before + a.0) (before + b.0) (omega (arith, a.1.0, room)) (omega (arith, b.1.0, room)) a.1.2 b.1.2 in
+  -- a position has one time
+  one_time : (position : ℤ) (v s : ℕ) → IsAtPosition times before size position v → IsAtPosition times before size position s → v ≡ s
+  one_time position v s a b =
+      let e = one_rank position size (before + a.0) (before + b.0) (omega (arith, a.1.0, room)) (omega (arith, b.1.0, room)) a.1.2 b.1.2 in
       let f : a.0 ≡ b.0 = omega (arith, e) in
       sym a.1.1 ∙ ap (λ r. get_or times r 0) f ∙ b.1.1
 
-  pub one_more_some : (places : List ℤ) (k : ℕ) (place : ℤ) (xs ys : List ℕ) (v : ℕ) → place ≡ get_or places k (pos 0)
-      → IsTimeAt times before size place (Some v) → ys ≡ with_value nat_lt xs v
-      → IsSetOf nat_lt xs (IsAtSome times before size places k) → IsSetOf nat_lt ys (IsAtSome times before size places (k + 1))
-  one_more_some places k place xs ys v is at made set =
-      let own = subst (λ p. IsAtPlace times before size p v) is at in
-      subst (λ zs. IsSetOf nat_lt zs (IsAtSome times before size places (k + 1))) (sym made)
-      (set_same nat_lt (λ s. IsAtSome times before size places k s ⊎ (v ≡ s)) (IsAtSome times before size places (k + 1)) (with_value nat_lt xs v)
-      (set_with_value v (IsAtSome times before size places k) xs set)
+  pub one_more_some : (positions : List ℤ) (k : ℕ) (position : ℤ) (xs ys : List ℕ) (v : ℕ) → position ≡ get_or positions k (pos 0)
+      → IsTimeAt times before size position (Some v) → ys ≡ with_value nat_lt xs v
+      → IsSetOf nat_lt xs (IsAtSome times before size positions k) → IsSetOf nat_lt ys (IsAtSome times before size positions (k + 1))
+  one_more_some positions k position xs ys v is at made set =
+      let own = subst (λ p. IsAtPosition times before size p v) is at in
+      subst (λ zs. IsSetOf nat_lt zs (IsAtSome times before size positions (k + 1))) (sym made)
+      (set_same nat_lt (λ s. IsAtSome times before size positions k s ⊎ (v ≡ s)) (IsAtSome times before size positions (k + 1)) (with_value nat_lt xs v)
+      (set_with_value v (IsAtSome times before size positions k) xs set)
       (λ s. (
         (λ p. elim p [
           | inl h ↦ (h.0, (omega (arith, h.1.0), h.1.1))
           | inr e ↦
-              (k, (omega arith, subst (IsAtPlace times before size (get_or places k (pos 0))) e own))
+              (k, (omega arith, subst (IsAtPosition times before size (get_or positions k (pos 0))) e own))
         ]),
-        (λ h. elim (more places k s h) [ inl m ↦ inl m | inr m ↦ inr (one_time (get_or places k (pos 0)) v s own m) ]),
+        (λ h. elim (more positions k s h) [ inl m ↦ inl m | inr m ↦ inr (one_time (get_or positions k (pos 0)) v s own m) ]),
       )))
 
--- what stands at places of seconds of a day are seconds of a day
-pub places_of_day : (times xs : List ℕ) (before size : ℕ) (places : List ℤ) (k : ℕ) → IsSecondsOfDay times
-    → IsSetOf nat_lt xs (IsAtSome times before size places k) → IsSecondsOfDay xs
-places_of_day times xs before size places k day set = record {
+-- what seconds of a day have at positions are seconds of a day
+pub positions_of_day : (times xs : List ℕ) (before size : ℕ) (positions : List ℤ) (k : ℕ) → IsSecondsOfDay times
+    → IsSetOf nat_lt xs (IsAtSome times before size positions k) → IsSecondsOfDay xs
+positions_of_day times xs before size positions k day set = record {
   rises = set.rises;
   below_a_day = λ i d l. (let h = (set.exact (get_or xs i d)).0 (Contains-get_or xs i d l) in
       subst (λ s. s < 86_400) h.1.1.1.1 (day.below_a_day h.1.1.0 0 h.1.1.1.0));
@@ -228,7 +228,7 @@ module _ (times : List ℕ) (test : ℕ → Bool) (bound : ℕ) (set : IsSetOf n
   counts_same n few = count_seconds-same (λ s. nat_lt s bound && test s) test n
       (λ s l. (let m : s < bound = omega (arith, l, few) in let e : nat_lt s bound ≡ true = grind (arith, nat_tests) in rw e refl))
 
-  -- the place of a time is its rank
+  -- the index of a time is its rank
   pub rank_at : (r : ℕ) → r < length times → (get_or times r 0 < bound) × IsTrue (test (get_or times r 0)) × (count_seconds test (get_or times r 0) ≡ r)
   rank_at r low =
       let x : ℕ = get_or times r 0 in
@@ -240,7 +240,7 @@ module _ (times : List ℕ) (test : ℕ → Bool) (bound : ℕ) (set : IsSetOf n
   count_is_length = sym (counts_same bound (omega arith)) ∙ seconds_whole (λ s. nat_lt s bound && test s) times bounded_set bound
       (λ k d l. ((set.exact (get_or times k d)).0 (Contains-get_or times k d l)).0)
 
-  -- the times at the listed places are those whose rank is listed
+  -- the times at the listed positions are those whose rank is listed
   pub at_some_is : (rule : Rule) (before size : ℕ) → is_absent rule.by_set_pos ≡ false → (s : ℕ)
       → IsAtSome times before size rule.by_set_pos (length rule.by_set_pos) s
       ↔ ((s < bound) × IsTrue (test s) × IsTrue (is_rank_listed rule (before + count_seconds test s) size))
@@ -335,15 +335,15 @@ module _ (rule : Rule) (kind : Kind) (start d : ℤ) (coarse : is_whole_days rul
         λ h. chosen_candidate rule kind start (moment_at kind d s) (coarse_taken rule.freq kind coarse) (candidate_is s low ∙ h.0) ∙ rw (parts.0, parts.1) h.1,
       )
 
-  -- so the times of each day of its unit at the listed places are its chosen seconds
-  pub chosen_at_places : (times chosen : List ℕ) (place count : ℕ) → is_absent rule.by_set_pos ≡ false → IsSetOf nat_lt times (IsCandidateTime rule kind start)
-      → place ≡ days_before rule (day_part kind start) d → count ≡ days_of_unit rule (day_part kind start) d
-      → IsSetOf nat_lt chosen (IsAtSome times (place * length times) (count * length times) rule.by_set_pos (length rule.by_set_pos))
+  -- so the times of each day of its unit at the listed positions are its chosen seconds
+  pub chosen_at_positions : (times chosen : List ℕ) (rank count : ℕ) → is_absent rule.by_set_pos ≡ false → IsSetOf nat_lt times (IsCandidateTime rule kind start)
+      → rank ≡ days_before rule (day_part kind start) d → count ≡ days_of_unit rule (day_part kind start) d
+      → IsSetOf nat_lt chosen (IsAtSome times (rank * length times) (count * length times) rule.by_set_pos (length rule.by_set_pos))
       → IsSetOf nat_lt chosen (λ s. (s < seconds_of kind) × IsTrue (is_chosen rule kind start (moment_at kind d s)))
-  chosen_at_places times chosen place count stands set before all at =
+  chosen_at_positions times chosen rank count stands set before all at =
       let each : times_before rule kind start (seconds_of kind) ≡ length times = count_is_length times (time_holds rule kind start) (seconds_of kind) set in
       set_same nat_lt _ (λ s. (s < seconds_of kind) × IsTrue (is_chosen rule kind start (moment_at kind d s))) chosen at
-      (λ s. (let is = at_some_is times (time_holds rule kind start) (seconds_of kind) set rule (place * length times) (count * length times) stands s in (
+      (λ s. (let is = at_some_is times (time_holds rule kind start) (seconds_of kind) set rule (rank * length times) (count * length times) stands s in (
         (λ h. (let m = is.0 h in (m.0, (chosen_is_listed s m.0).1 (m.1, rw (each, sym before, sym all) m.2)))),
         (λ h. (let m = (chosen_is_listed s h.0).0 h.1 in is.1 (h.0, m.0, rw (each, sym before, sym all) at m.1))),
       )))
@@ -358,12 +358,12 @@ module _ (rule : Rule) (kind : Kind) (start d : ℤ) (coarse : is_whole_days rul
         (λ h. (h.0, sym (candidate_is s h.0) ∙ sym (is_chosen-plain rule kind start (moment_at kind d s) plain) ∙ h.1)),
       ))
 
--- ---- the days of a unit by their places
+-- ---- the days of a unit by their ranks
 
-pub candidate_at : (r : Ruling) (days : List ℤ) (day : ℤ) (i place count : ℕ) → AreUnitDays r days → i < length days → day ≡ get_or days i (pos 0)
-    → place ≡ i → count ≡ length days → IsCandidateAt r day place count
-candidate_at r days day i place count u low at same all =
-    let p = places_are_counts r.rule (day_part r.kind r.start) u.0 days i u.1 low in
+pub candidate_at : (r : Ruling) (days : List ℤ) (day : ℤ) (i rank count : ℕ) → AreUnitDays r days → i < length days → day ≡ get_or days i (pos 0)
+    → rank ≡ i → count ≡ length days → IsCandidateAt r day rank count
+candidate_at r days day i rank count u low at same all =
+    let p = ranks_are_counts r.rule (day_part r.kind r.start) u.0 days i u.1 low in
     rw at (record {
       candidate = ((u.1.exact (get_or days i (pos 0))).0 (Contains-get_or days i (pos 0) low)).1;
       before = same ∙ sym p.0;
@@ -385,8 +385,8 @@ few_of_unit rule start_day d coarse =
     )
 
 -- a day comes among those of its unit
-pub place_low : (r : Ruling) (day : ℤ) (place count : ℕ) → is_whole_days r.rule.freq ≡ true → IsCandidateAt r day place count → (place < count) × (count ≤ 366)
-place_low r day place count coarse at = (
+pub rank_low : (r : Ruling) (day : ℤ) (rank count : ℕ) → is_whole_days r.rule.freq ≡ true → IsCandidateAt r day rank count → (rank < count) × (count ≤ 366)
+rank_low r day rank count coarse at = (
   omega (arith, at.before, at.all, more_on_day r.rule r.kind r.start day coarse at.candidate),
   omega
       (arith, at.all, few_of_unit r.rule (day_part r.kind r.start) day coarse),

@@ -29,7 +29,7 @@ use Rattle.rr_setpos.proofs.PositionLemmas.{chosen_candidate, chosen_no_candidat
 use Rattle.rr_expand.proofs.FinerLemmas.{unit_at}
 use Rattle.rr_expand.proofs.FitLemmas.{fits_at}
 use Rattle.rr_shapes.specs.Tables.{Extends}
-use Rattle.rr_walk.specs.Ruling.{IsSameRuling, KnowsPlaces, Ruling, first_place, keeps_more}
+use Rattle.rr_walk.specs.Ruling.{IsSameRuling, KnowsUnitOffsets, Ruling, unit_offset, keeps_more}
 use Rattle.rr_walk.proofs.OffsetLemmas.{fine_taken, if_not}
 
 -- numbers from which on the first that fits the interval is as far away fit it alike
@@ -84,7 +84,7 @@ ranks_alike rule start day other s low fine =
 
 module _ (r : Ruling) (day other : ℤ) (fine : is_whole_days r.rule.freq ≡ false) (some : 1 ≤ r.rule.interval)
     (allowed : IsTrue (date_parts_hold (filled r.rule Days (day_part Moments r.start)) day))
-    (other_allowed : IsTrue (date_parts_hold (filled r.rule Days (day_part Moments r.start)) other)) (same : first_place r day ≡ first_place r other) where
+    (other_allowed : IsTrue (date_parts_hold (filled r.rule Days (day_part Moments r.start)) other)) (same : unit_offset r day ≡ unit_offset r other) where
   interval_alike : (s : ℕ) → interval_holds r.rule Moments r.start (moment_at Moments day s) ≡ interval_holds r.rule Moments r.start (moment_at Moments other s)
   interval_alike s =
       let own = unit_number r.rule.freq r.rule.week_start Moments r.start in
@@ -123,11 +123,11 @@ module _ (r : Ruling) (day other : ℤ) (fine : is_whole_days r.rule.freq ≡ fa
 -- ---- the numbers that are kept
 
 -- nothing
-pub knows_none : (r : Ruling) (sets : List (List ℕ)) → ((k : ℕ) → k < length r.kept → get_or r.kept k None ≡ None) → KnowsPlaces r sets
+pub knows_none : (r : Ruling) (sets : List (List ℕ)) → ((k : ℕ) → k < length r.kept → get_or r.kept k None ≡ None) → KnowsUnitOffsets r sets
 knows_none r sets none day near allowed n at =
-    let place : ℕ = first_place r day in
-    let low : place < length r.kept = slice_get_within r.kept place (Some n) at in
-    let e : Some n ≡ None = sym (get_or_from_slice_get r.kept place (Some n) None at) ∙ none place low in
+    let offset : ℕ = unit_offset r day in
+    let low : offset < length r.kept = slice_get_within r.kept offset (Some n) at in
+    let e : Some n ≡ None = sym (get_or_from_slice_get r.kept offset (Some n) None at) ∙ none offset low in
     absurd (cc)
 
 module _ (r : Ruling) (old new : List (List ℕ)) (day : ℤ) (number : ℕ) (times : List ℕ) (fine : is_whole_days r.rule.freq ≡ false) (some : 1 ≤ r.rule.interval)
@@ -138,30 +138,30 @@ module _ (r : Ruling) (old new : List (List ℕ)) (day : ℤ) (number : ℕ) (ti
       × IsTrue (is_chosen r.rule Moments r.start (moment_at Moments day s)))
   number_of = (slice_get_within new number times at, rw (get_or_from_slice_get new number times [] at) chosen)
 
-  kept_there : (kept : List (Option ℕ)) → kept ≡ set r.kept (first_place r day) (Some number) → KnowsPlaces r old → Extends old new
-      → KnowsPlaces (record { rule = r.rule; kind = r.kind; start = r.start; kept = kept }) new
+  kept_there : (kept : List (Option ℕ)) → kept ≡ set r.kept (unit_offset r day) (Some number) → KnowsUnitOffsets r old → Extends old new
+      → KnowsUnitOffsets (record { rule = r.rule; kind = r.kind; start = r.start; kept = kept }) new
   kept_there kept e known more other near other_allowed n here =
-      let place : ℕ = first_place r day in
-      let p : ℕ = first_place r other in
-      let low : p < length r.kept = omega (arith, slice_get_within kept p (Some n) here, ap length e, length-set r.kept place (Some number)) in
-      let held : get_or (set r.kept place (Some number)) p None ≡ Some n =
+      let offset : ℕ = unit_offset r day in
+      let p : ℕ = unit_offset r other in
+      let low : p < length r.kept = omega (arith, slice_get_within kept p (Some n) here, ap length e, length-set r.kept offset (Some number)) in
+      let held : get_or (set r.kept offset (Some number)) p None ≡ Some n =
       ap (λ xs. get_or xs p None) (sym e) ∙ get_or_from_slice_get kept p (Some n) None here in
-      elim (cases_eq p place) [
+      elim (cases_eq p offset) [
         | inl same ↦ (
-            let own : get_or (set r.kept place (Some number)) p None ≡ Some number =
-            get_or-set_at r.kept place p (Some number) None same (omega (arith, low, same)) in
+            let own : get_or (set r.kept offset (Some number)) p None ≡ Some number =
+            get_or-set_at r.kept offset p (Some number) None same (omega (arith, low, same)) in
             let i : n ≡ number = cc in
             rw i (number_of.0, set_alike r day other fine some allowed other_allowed (sym same) (get_or new number []) number_of.1))
         | inr differ ↦ (
             let is : slice_get r.kept p ≡ Some (Some n) =
-            slice_get-get_or r.kept p None low ∙ ap (λ x. Some x) (sym (get_or-set_other r.kept place p (Some number) None differ) ∙ held) in
+            slice_get-get_or r.kept p None low ∙ ap (λ x. Some x) (sym (get_or-set_other r.kept offset p (Some number) None differ) ∙ held) in
             keeps_more r p _ old new more (known other near other_allowed) n is)
       ]
 
-  -- kept at the place of its day
-  pub knows_put : (q : Ruling) → IsSameRuling q r → q.kept ≡ set r.kept (first_place r day) (Some number) → KnowsPlaces r old → Extends old new
-      → KnowsPlaces q new
+  -- kept at the offset of its day
+  pub knows_put : (q : Ruling) → IsSameRuling q r → q.kept ≡ set r.kept (unit_offset r day) (Some number) → KnowsUnitOffsets r old → Extends old new
+      → KnowsUnitOffsets q new
   knows_put q same e known more =
       let is : record { rule = r.rule; kind = r.kind; start = r.start; kept = q.kept } ≡ q =
       λ i. record { rule = sym same.rule i; kind = sym same.kind i; start = sym same.start i; kept = q.kept } in
-      subst (λ x. KnowsPlaces x new) is (kept_there q.kept e known more)
+      subst (λ x. KnowsUnitOffsets x new) is (kept_there q.kept e known more)

@@ -3,7 +3,7 @@ use Rattle.std.specs.Prelude.{ℕ, List, ℤ}
 use Rattle.rr_model.specs.Sets.Tree.{Tree}
 use Rattle.rr_lazy.specs.Next.{IsSoundLazy}
 use Rattle.rr_shapes.specs.Tables.{Extends}
-use Rattle.rr_walk.specs.Ruling.{KnowsPlaces, KnowsTimes, keeps_more, places_more}
+use Rattle.rr_walk.specs.Ruling.{KnowsUnitOffsets, KnowsTimes, keeps_more, unit_offsets_more}
 use Rattle.rr_walk.specs.Steps.{sound_ruling, tree_of_ruling}
 use Rattle.rr_walk.specs.declared.rule_lazy.RuleLazy.{RuleLazy}
 use Rattle.rr_walk.specs.declared.rule_lazy.RuleLazy.TheVariants.{FineUnits, WholeDays}
@@ -20,11 +20,11 @@ position_of_rule (WholeDays a) = a.position
 
 -- what it knows of a table of sets
 abbrev pub knows_rule : RuleLazy → List (List ℕ) → Type 0
-knows_rule (FineUnits a) sets = KnowsPlaces a.walk sets
+knows_rule (FineUnits a) sets = KnowsUnitOffsets a.walk sets
 knows_rule (WholeDays a) sets = KnowsTimes a.walk sets
 
 pub knows_rule_more : (s : RuleLazy) (old new : List (List ℕ)) → Extends old new → knows_rule s old → knows_rule s new
-knows_rule_more (FineUnits a) old new more k = places_more a.walk old new more k
+knows_rule_more (FineUnits a) old new more k = unit_offsets_more a.walk old new more k
 knows_rule_more (WholeDays a) old new more k = keeps_more a.walk 0 _ old new more k
 
 pub sound_rule : (s : RuleLazy) → IsSoundLazy (tree_of_rule s) (position_of_rule s)

@@ -30,7 +30,7 @@ use Rattle.rr_walk.specs.declared.day_rule.DayInUnit.{DayInUnit}
 use Rattle.rr_walk.specs.declared.day_rule.WholeUnit.{WholeUnit}
 
 -- a rule with the start that it is filled from, and the numbers of the sets that are kept for its days: of a rule of whole days one, that
--- of the times of each candidate day; of a finer rule one for each place of the first unit of a day that fits the interval
+-- of the times of each candidate day; of a finer rule one for each offset of the first unit of a day that fits the interval
 pub record Ruling : Type 0 where
   pub rule : Rule
   pub kind : Kind
@@ -67,13 +67,13 @@ pub record IsSameRuling (new old : Ruling) : Type 0 where
   pub kind : new.kind ≡ old.kind
   pub start : new.start ≡ old.start
 
--- the number that is kept at a place is that of a set with exactly the seconds that hold
+-- the number that is kept at an index is that of a set with exactly the seconds that hold
 abbrev pub KeepsAt : List (List ℕ) → Ruling → ℕ → (ℕ → Type 0) → Type 0
-KeepsAt sets r place P = (n : ℕ) → slice_get r.kept place ≡ Some (Some n) → (n < length sets) × IsSetAt sets P n
+KeepsAt sets r index P = (n : ℕ) → slice_get r.kept index ≡ Some (Some n) → (n < length sets) × IsSetAt sets P n
 
 -- in a table that goes on it is so too
-pub keeps_more : (r : Ruling) (place : ℕ) (P : ℕ → Type 0) (old new : List (List ℕ)) → Extends old new → KeepsAt old r place P → KeepsAt new r place P
-keeps_more r place P old new more k n at =
+pub keeps_more : (r : Ruling) (index : ℕ) (P : ℕ → Type 0) (old new : List (List ℕ)) → Extends old new → KeepsAt old r index P → KeepsAt new r index P
+keeps_more r index P old new more k n at =
     let known = k n at in
     let same = same_set old new n more known.0 in
     (same.0, rw same.1 known.1)
@@ -83,8 +83,8 @@ abbrev pub KnowsTimes : Ruling → List (List ℕ) → Type 0
 KnowsTimes r sets = KeepsAt sets r 0 (IsTimeOf r)
 
 -- how many units after the first one of a day the first comes that is a whole number of intervals from the start's
-abbrev pub first_place : Ruling → ℤ → ℕ
-first_place r day =
+abbrev pub unit_offset : Ruling → ℤ → ℕ
+unit_offset r day =
     floor_mod (unit_number r.rule.freq r.rule.week_start Moments r.start
     -ℤ unit_number r.rule.freq r.rule.week_start Moments (moment_at Moments day 0)) r.rule.interval
 
@@ -92,19 +92,19 @@ first_place r day =
 abbrev pub IsChosenSecond : Ruling → ℤ → ℕ → Type 0
 IsChosenSecond r day s = (s < 86_400) × IsTrue (is_chosen r.rule Moments r.start (moment_at Moments day s))
 
--- of a finer rule: the number at a place is that of what is chosen on each allowed day whose first unit that fits has this place
-abbrev pub KnowsPlaces : Ruling → List (List ℕ) → Type 0
-KnowsPlaces r sets =
+-- of a finer rule: the number at an offset is that of what is chosen on each allowed day whose first unit that fits has this offset
+abbrev pub KnowsUnitOffsets : Ruling → List (List ℕ) → Type 0
+KnowsUnitOffsets r sets =
     (day : ℤ) → IsDayWithin 1000 day → AllowsDay r day
-    → KeepsAt sets r (first_place r day) (IsChosenSecond r day)
+    → KeepsAt sets r (unit_offset r day) (IsChosenSecond r day)
 
 -- the rule is valid beside its start, which lies in the years 1 to 9999
 pub record IsValidRuling (r : Ruling) : Type 0 where
   pub valid : IsValidRule r.kind r.rule
   pub in_years : IsInYears r.kind r.start
 
-pub places_more : (r : Ruling) (old new : List (List ℕ)) → Extends old new → KnowsPlaces r old → KnowsPlaces r new
-places_more r old new more k day near allowed = keeps_more r (first_place r day) _ old new more (k day near allowed)
+pub unit_offsets_more : (r : Ruling) (old new : List (List ℕ)) → Extends old new → KnowsUnitOffsets r old → KnowsUnitOffsets r new
+unit_offsets_more r old new more k day near allowed = keeps_more r (unit_offset r day) _ old new more (k day near allowed)
 
 -- the days from the first one on and before the next unit's are those of the unit of this number, near enough for the calls
 pub record IsWholeUnit (freq : Freq) (week_start : ℕ) (unit : WholeUnit) : Type 0 where
@@ -147,9 +147,9 @@ abbrev pub AreUnitDays : Ruling → List ℤ → Type 0
 AreUnitDays r days = (unit : ℤ) × IsSetOf int_lt days (IsCandidateDay r.rule (day_part r.kind r.start) unit)
 
 -- a candidate day, how many of its unit's candidate days lie before it, and how many there are
-pub record IsCandidateAt (r : Ruling) (day : ℤ) (place count : ℕ) : Type 0 where
+pub record IsCandidateAt (r : Ruling) (day : ℤ) (rank count : ℕ) : Type 0 where
   pub candidate : IsTrue (is_candidate_day r day)
-  pub before : place ≡ days_before r.rule (day_part r.kind r.start) day
+  pub before : rank ≡ days_before r.rule (day_part r.kind r.start) day
   pub all : count ≡ days_of_unit r.rule (day_part r.kind r.start) day
 
 -- of the days from one on up to another the first that is a candidate day, None where none is

@@ -9,47 +9,47 @@ use Rattle.rr_model.specs.declared.kind.Kind.TheVariants.{Moments}
 use Rattle.rr_model.specs.declared.rule.Freq.{Freq}
 use Rattle.rr_model.specs.declared.rule.Freq.TheVariants.{Minutely, Hourly}
 use Rattle.rr_model.specs.declared.rule.Rule.{Rule}
-use Rattle.rr_setpos.specs.Nth.{IsPlaceOf}
+use Rattle.rr_setpos.specs.Nth.{IsPositionOf}
 use Rattle.rr_parts.specs.Numbers.{number_allowed}
 use Rattle.rr_setpos.specs.Ranks.{hour_second_allowed, is_rank_listed}
 
 -- ---- the times of one day of a unit
 
--- One of the times has the place in its unit, where n of the unit's m candidates come before these times.
-abbrev pub IsAtPlace : List ℕ → ℕ → ℕ → ℤ → ℕ → Type 0
-IsAtPlace times before size place s = (r : ℕ) × ((r < length times) × (get_or times r 0 ≡ s) × IsPlaceOf place size (before + r))
+-- One of the times has the position in its unit, where n of the unit's m candidates come before these times.
+abbrev pub IsAtPosition : List ℕ → ℕ → ℕ → ℤ → ℕ → Type 0
+IsAtPosition times before size position s = (r : ℕ) × ((r < length times) × (get_or times r 0 ≡ s) × IsPositionOf position size (before + r))
 
--- the time at a place, None where the place is no one's of these
+-- the time at a position, None where none of these has it
 abbrev pub IsTimeAt : List ℕ → ℕ → ℕ → ℤ → Option ℕ → Type 0
-IsTimeAt times before size place None = (s : ℕ) → IsAtPlace times before size place s → ⊥
-IsTimeAt times before size place (Some s) = IsAtPlace times before size place s
+IsTimeAt times before size position None = (s : ℕ) → IsAtPosition times before size position s → ⊥
+IsTimeAt times before size position (Some s) = IsAtPosition times before size position s
 
--- the time has one of the first k places
+-- the time has one of the first k positions
 abbrev pub IsAtSome : List ℕ → ℕ → ℕ → List ℤ → ℕ → ℕ → Type 0
-IsAtSome times before size places k s = (i : ℕ) × ((i < k) × IsAtPlace times before size (get_or places i (pos 0)) s)
+IsAtSome times before size positions k s = (i : ℕ) × ((i < k) × IsAtPosition times before size (get_or positions i (pos 0)) s)
 
--- the position is that of a time of the day at this place, where each of n days has m times
+-- the position is that of a time of the day of this rank, where each of n days has m times
 abbrev pub IsPositionOn : ℤ → ℕ → ℕ → ℕ → Type 0
-IsPositionOn position each count place = (r : ℕ) × ((r < each) × IsPlaceOf position (count * each) (place * each + r))
+IsPositionOn position each count rank = (r : ℕ) × ((r < each) × IsPositionOf position (count * each) (rank * each + r))
 
--- the place of the day on which a position is, None where it is on none
+-- the rank of the day on which a position is, None where it is on none
 abbrev pub IsDayOfPosition : ℤ → ℕ → ℕ → Option ℕ → Type 0
 IsDayOfPosition position each count None = (k : ℕ) → k < count → IsPositionOn position each count k → ⊥
-IsDayOfPosition position each count (Some place) = (place < count) × IsPositionOn position each count place
+IsDayOfPosition position each count (Some rank) = (rank < count) × IsPositionOn position each count rank
 
--- one of the first k positions is that of a time of the day at this place
+-- one of the first k positions is that of a time of the day of this rank
 abbrev pub HasOneOn : List ℤ → ℕ → ℕ → ℕ → ℕ → Type 0
-HasOneOn positions k each count place = (i : ℕ) × ((i < k) × IsPositionOn (get_or positions i (pos 0)) each count place)
+HasOneOn positions k each count rank = (i : ℕ) × ((i < k) × IsPositionOn (get_or positions i (pos 0)) each count rank)
 
 -- one of all positions is
 abbrev pub HasPositionOn : List ℤ → ℕ → ℕ → ℕ → Type 0
-HasPositionOn positions each count place = HasOneOn positions (length positions) each count place
+HasPositionOn positions each count rank = HasOneOn positions (length positions) each count rank
 
--- the first such place from one on, None where there is none
-abbrev pub IsNextPlace : List ℤ → ℕ → ℕ → ℕ → Option ℕ → Type 0
-IsNextPlace positions each count from None = (k : ℕ) → from ≤ k → k < count → HasPositionOn positions each count k → ⊥
-IsNextPlace positions each count from (Some place) =
-    (from ≤ place) × (place < count) × HasPositionOn positions each count place × ((k : ℕ) → from ≤ k → k < place → HasPositionOn positions each count k → ⊥)
+-- the first such rank from one on, None where there is none
+abbrev pub IsNextRank : List ℤ → ℕ → ℕ → ℕ → Option ℕ → Type 0
+IsNextRank positions each count from None = (k : ℕ) → from ≤ k → k < count → HasPositionOn positions each count k → ⊥
+IsNextRank positions each count from (Some rank) =
+    (from ≤ rank) × (rank < count) × HasPositionOn positions each count rank × ((k : ℕ) → from ≤ k → k < rank → HasPositionOn positions each count k → ⊥)
 
 -- ---- units shorter than a day
 

@@ -62,9 +62,9 @@ IsFirstOfIn sets tree days from None = IsFirstOf tree days from None
 IsFirstOfIn sets tree days from (Some found) = IsWithin sets found × IsFirstOf tree days from (Some (with_set sets found))
 
 -- a day with these seconds, None where there are none
-abbrev pub IsPlacedDay : List (List ℕ) → ℤ → List ℕ → Option OccupiedDay → Type 0
-IsPlacedDay sets day times None = times ≡ []
-IsPlacedDay sets day times (Some found) = (found.day ≡ day) × (times ≡ [] → ⊥) × IsWithin sets found × ((with_set sets found).times ≡ times)
+abbrev pub IsDayOfTimes : List (List ℕ) → ℤ → List ℕ → Option OccupiedDay → Type 0
+IsDayOfTimes sets day times None = times ≡ []
+IsDayOfTimes sets day times (Some found) = (found.day ≡ day) × (times ≡ [] → ⊥) × IsWithin sets found × ((with_set sets found).times ≡ times)
 
 -- the day with a set of seconds
 abbrev pub IsDayWith : List (List ℕ) → (ℕ → Type 0) → ℤ → Option OccupiedDay → Type 0

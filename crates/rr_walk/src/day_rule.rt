@@ -12,7 +12,7 @@ ghost use Rattle.rr_lazy.specs.Next.{IsNextIn};
 ghost use Rattle.rr_parts.specs.Units.{start_of_unit};
 ghost use Rattle.rr_walk.specs.Ruling.{IsFirstCandidate, IsFirstCandidateIn, IsFittingUnit, IsPassed, IsSameRuling, IsSetAt, IsTimeOf, IsWholeUnit, KnowsTimes, is_candidate_day};
 ghost use Rattle.rr_walk.specs.Steps.{HasBegun, tree_of_ruling};
-ghost use Rattle.rr_walk.specs.Walk.{IsDayWith, IsFirstSecond, IsFirstUpToIn, IsOnDayIn, IsPlacedDay, IsWalked};
+ghost use Rattle.rr_walk.specs.Walk.{IsDayWith, IsFirstSecond, IsFirstUpToIn, IsOnDayIn, IsDayOfTimes, IsWalked};
 
 use crate::rule_walk::RuleWalk;
 use rr_cal::{Day, days_in_unit, first_day_of_unit, unit_of_day, week_index};
@@ -237,7 +237,7 @@ impl DayRule {
         let first = self.first_second(day);
         if first > 0 {
             let times = TimeSet::cut(alloc, &self.times, first, SECONDS_OF_DAY)?;
-            return placed(sets, day, times);
+            return day_of_times(sets, day, times);
         }
         let count = self.times.as_slice().len();
         if count == 0 {
@@ -347,13 +347,13 @@ pub(crate) fn whole_unit(freq: Freq, week_start: u8, number: i64) -> WholeUnit
 }
 
 // A day with its seconds, if it has some.
-pub(crate) fn placed(
+pub(crate) fn day_of_times(
     sets: &mut SetTable,
     day: i64,
     times: TimeSet,
 ) -> Result<Option<OccupiedDay>, NoMemory>
     ensures kept { Extends sets.old sets.new }
-    ensures placed { IfOk result (IsPlacedDay sets.new day times) }
+    ensures day { IfOk result (IsDayOfTimes sets.new day times) }
 {
     let count = times.as_slice().len();
     if count == 0 {

@@ -9,11 +9,11 @@ ghost use Rattle.rr_model.specs.Rule.Validity.{IsValidRule};
 ghost use Rattle.rr_model.specs.declared.kind.Kind.TheVariants.{Moments};
 ghost use Rattle.rr_shapes.specs.Tables.{Extends};
 ghost use Rattle.rr_lazy.specs.Next.{HasNone, IsNextIn};
-ghost use Rattle.rr_walk.specs.Ruling.{AllowsDay, IsChosenSecond, IsSameRuling, IsSetAt, KnowsPlaces, at_moments, first_place};
+ghost use Rattle.rr_walk.specs.Ruling.{AllowsDay, IsChosenSecond, IsSameRuling, IsSetAt, KnowsUnitOffsets, at_moments, unit_offset};
 ghost use Rattle.rr_walk.specs.Steps.{HasBegun, tree_of_ruling};
 ghost use Rattle.rr_walk.specs.Walk.{IsFirstFine, IsFirstSecond, IsFirstUpToIn, IsOnDayIn};
 
-use crate::day_rule::{SECONDS_OF_DAY, first_second, placed};
+use crate::day_rule::{SECONDS_OF_DAY, day_of_times, first_second};
 use crate::offsets::{at_offsets, chosen_offsets};
 use crate::rule_walk::RuleWalk;
 use rr_expand::{
@@ -31,7 +31,7 @@ use std::marker::Model;
 ///
 /// It keeps the seconds of each unit that BYSETPOS chooses, the minutes and seconds that the time parts allow in a unit, the
 /// days that the date parts allow, and the numbers of the sets of its days in the table. What is chosen on an allowed day
-/// depends on nothing but the place of the day's first unit that fits the interval: the numbers are kept by that place.
+/// depends on nothing but the offset of the day's first unit that fits the interval: the numbers are kept by that offset.
 #[derive(Drop)]
 pub struct FineRule {
     rule: Rule,
@@ -58,19 +58,19 @@ impl Model for FineRule {
 
 impl RuleWalk for FineRule {
     ghost use Rattle.std.specs.Prelude.{false};
-    ghost use Rattle.rr_walk.specs.Ruling.{KnowsPlaces, places_more};
+    ghost use Rattle.rr_walk.specs.Ruling.{KnowsUnitOffsets, unit_offsets_more};
 
     ghost ruling = { λ s. s };
 
-    ghost keeps = { λ s sets. KnowsPlaces s sets };
+    ghost keeps = { λ s sets. KnowsUnitOffsets s sets };
 
     ghost of_whole_days = { false };
 
     fn new(alloc: Global, rule: &Rule, kind: Kind, start: i64) -> Result<FineRule, NoMemory> {
         let start_day = day_part(kind, start);
-        let places = units_of_day(rule.freq).min(u64::from(rule.interval)) as usize;
+        let count = units_of_day(rule.freq).min(u64::from(rule.interval)) as usize;
         let mut numbers = Vec::new(alloc);
-        numbers.resize(places, None)?;
+        numbers.resize(count, None)?;
         let times = UnitTimes::new(alloc, rule, start)?;
         Ok(FineRule {
             rule: rule.copy(alloc)?,
@@ -106,7 +106,7 @@ impl RuleWalk for FineRule {
         Ok(None)
     }
 
-    ghost more = { λ s old new more k. places_more s old new more k };
+    ghost more = { λ s old new more k. unit_offsets_more s old new more k };
 }
 
 impl FineRule {
@@ -140,13 +140,13 @@ impl FineRule {
         if self.rule.interval == 1 {
             return day;
         }
-        day + (self.first_place(day) / units_of_day(self.rule.freq)) as i64
+        day + (self.unit_offset(day) / units_of_day(self.rule.freq)) as i64
     }
 
     // How many units after the first one of a day the first comes that fits the interval.
-    fn first_place(&self, day: i64) -> u64
+    fn unit_offset(&self, day: i64) -> u64
         requires { IsDayWithin 1000 day }
-        ensures { result ≡ first_place self.now day }
+        ensures { result ≡ unit_offset self.now day }
     {
         if self.rule.interval == 1 {
             return 0;
@@ -164,9 +164,9 @@ impl FineRule {
     ) -> Result<Option<OccupiedDay>, NoMemory>
         requires near { IsDayWithin 1000 day }
         requires allowed { AllowsDay self.old day }
-        requires knows { KnowsPlaces self.old sets.old }
+        requires knows { KnowsUnitOffsets self.old sets.old }
         ensures same { IsSameRuling self.new self.old }
-        ensures knows { KnowsPlaces self.new sets.new }
+        ensures knows { KnowsUnitOffsets self.new sets.new }
         ensures kept { Extends sets.old sets.new }
         ensures found { IfOk result
             (IsOnDayIn sets.new (tree_of_ruling (at_moments self.old)) day) }
@@ -176,7 +176,7 @@ impl FineRule {
         let first = self.first_second(day);
         if first > 0 {
             let times = TimeSet::cut(alloc, chosen, first, SECONDS_OF_DAY)?;
-            return placed(sets, day, times);
+            return day_of_times(sets, day, times);
         }
         let count = chosen.as_slice().len();
         if count == 0 {
@@ -189,30 +189,30 @@ impl FineRule {
     fn number_on(&mut self, alloc: Global, sets: &mut SetTable, day: i64) -> Result<usize, NoMemory>
         requires near { IsDayWithin 1000 day }
         requires allowed { AllowsDay self.old day }
-        requires knows { KnowsPlaces self.old sets.old }
+        requires knows { KnowsUnitOffsets self.old sets.old }
         ensures same { IsSameRuling self.new self.old }
-        ensures knows { KnowsPlaces self.new sets.new }
+        ensures knows { KnowsUnitOffsets self.new sets.new }
         ensures kept { Extends sets.old sets.new }
         ensures within { IfOk result (λ n. n < length sets.new) }
         ensures number { IfOk result (IsSetAt sets.new (IsChosenSecond self.old day)) }
     {
-        let place = self.first_place(day) as usize;
-        if let Some(number) = kept_at(&self.numbers, place) {
+        let offset = self.unit_offset(day) as usize;
+        if let Some(number) = kept_at(&self.numbers, offset) {
             return Ok(number);
         }
         let chosen = self.chosen_on(alloc, day)?;
         let number = sets.place(chosen)?;
-        self.keep(place, number);
+        self.keep(offset, number);
         Ok(number)
     }
 
-    // Keeps a number at a place, if there is one.
-    fn keep(&mut self, place: usize, number: usize)
+    // Keeps a number at an index, if there is one.
+    fn keep(&mut self, index: usize, number: usize)
         ensures same { IsSameRuling self.new self.old }
-        ensures kept { self.new.kept ≡ set self.old.kept place (Some number) }
+        ensures kept { self.new.kept ≡ set self.old.kept index (Some number) }
     {
-        if place < self.numbers.len() {
-            self.numbers[place] = Some(number);
+        if index < self.numbers.len() {
+            self.numbers[index] = Some(number);
         }
     }
 
@@ -238,12 +238,12 @@ impl FineRule {
     }
 }
 
-// The number that is kept at a place.
-fn kept_at(numbers: &[Option<usize>], place: usize) -> Option<usize>
-    ensures { (n : ℕ) → result ≡ Some n → slice_get numbers.now place ≡ Some (Some n) }
+// The number that is kept at an index.
+fn kept_at(numbers: &[Option<usize>], index: usize) -> Option<usize>
+    ensures { (n : ℕ) → result ≡ Some n → slice_get numbers.now index ≡ Some (Some n) }
 {
-    if place < numbers.len() {
-        numbers[place]
+    if index < numbers.len() {
+        numbers[index]
     } else {
         None
     }

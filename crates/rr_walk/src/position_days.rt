@@ -10,8 +10,8 @@ ghost use Rattle.rr_walk.specs.Ruling.{AreUnitDays, IsCandidateAt, IsFittingUnit
 ghost use Rattle.rr_walk.specs.Steps.{tree_of_ruling};
 ghost use Rattle.rr_walk.specs.Walk.{AreSecondsOn, IsFirstInIn, IsFirstOf, IsFirstOfIn, IsFirstUpToIn, IsOnDayIn};
 
-use crate::day_rule::{DayRule, SECONDS_OF_DAY, placed, whole_unit};
-use crate::set_positions::{next_place, times_at_positions};
+use crate::day_rule::{DayRule, SECONDS_OF_DAY, day_of_times, whole_unit};
+use crate::set_positions::{next_rank, times_at_positions};
 use rr_lazy::OccupiedDay;
 use rr_model::NoMemory;
 use rr_shapes::SetTable;
@@ -96,8 +96,8 @@ impl DayRule {
         if times.len() != 1 {
             return None;
         }
-        let place = days.partition_point(|day| *day < from);
-        let found = next_place(&self.rule.by_set_pos, 1, days.len(), place)?;
+        let rank = days.partition_point(|day| *day < from);
+        let found = next_rank(&self.rule.by_set_pos, 1, days.len(), rank)?;
         if self.first_second(days[found]) > times[0] {
             return None;
         }
@@ -119,51 +119,51 @@ impl DayRule {
     {
         let count = days.len();
         let each = self.times.as_slice().len();
-        let mut place = days.partition_point(|day| *day < from);
-        while let Some(found) = next_place(&self.rule.by_set_pos, each, count, place) {
+        let mut rank = days.partition_point(|day| *day < from);
+        while let Some(found) = next_rank(&self.rule.by_set_pos, each, count, rank) {
             let occupied = self.on_day(alloc, sets, days[found], found, count)?;
             if occupied.is_some() {
                 return Ok(occupied);
             }
-            place = found + 1;
+            rank = found + 1;
         }
         Ok(None)
     }
 
-    // A candidate day, if it is occupied: of its unit's `count` candidate days `place` come before it.
+    // A candidate day, if it is occupied: of its unit's `count` candidate days `rank` come before it.
     fn on_day(
         &self,
         alloc: Global,
         sets: &mut SetTable,
         day: i64,
-        place: usize,
+        rank: usize,
         count: usize,
     ) -> Result<Option<OccupiedDay>, NoMemory>
         requires positions { is_absent self.now.rule.by_set_pos ≡ false }
-        requires candidate { IsCandidateAt self.now day place count }
+        requires candidate { IsCandidateAt self.now day rank count }
         ensures kept { Extends sets.old sets.new }
         ensures found { IfOk result (IsOnDayIn sets.new (tree_of_ruling self.now) day) }
     {
-        let times = self.seconds_of(alloc, day, place, count)?;
-        placed(sets, day, times)
+        let times = self.seconds_of(alloc, day, rank, count)?;
+        day_of_times(sets, day, times)
     }
 
     // The seconds of a candidate day that the rule chooses from its start on: of its unit's `count` candidate
-    // days `place` come before it.
+    // days `rank` come before it.
     fn seconds_of(
         &self,
         alloc: Global,
         day: i64,
-        place: usize,
+        rank: usize,
         count: usize,
     ) -> Result<TimeSet, NoMemory>
         requires positions { is_absent self.now.rule.by_set_pos ≡ false }
-        requires candidate { IsCandidateAt self.now day place count }
+        requires candidate { IsCandidateAt self.now day rank count }
         ensures { IfOk result (λ t. AreSecondsOn (tree_of_ruling self.now) day t) }
     {
         let from = self.first_second(day);
         let positions = &self.rule.by_set_pos;
-        let chosen = times_at_positions(alloc, &self.times, place, count, positions)?;
+        let chosen = times_at_positions(alloc, &self.times, rank, count, positions)?;
         TimeSet::cut(alloc, &chosen, from, SECONDS_OF_DAY)
     }
 }

@@ -2,36 +2,37 @@
 ghost use Rattle.std.specs.Prelude.{◌≡◌, ◌≤◌, ◌<◌, ◌+◌, ◌*◌, IfOk, length, nat_lt, pos};
 ghost use Rattle.rr_model.specs.Rising.Sets.{IsSetOf};
 ghost use Rattle.rr_model.specs.Rule.Validity.{CountUpTo};
-ghost use Rattle.rr_walk.specs.SetPositions.{IsAtSome, IsDayOfPosition, IsNextPlace, IsTimeAt};
+ghost use Rattle.rr_walk.specs.SetPositions.{IsAtSome, IsDayOfPosition, IsNextRank, IsTimeAt};
 
 use rr_model::{NoMemory, Numbers, Seconds};
 use rr_setpos::rank_of;
 use rr_times::TimeSet;
 use std::alloc::Global;
 
-// Of the times that each day of a unit has, those that the positions choose on the day at this place, from 0.
+// Of the times that each day of a unit has, those that the positions choose on the candidate day of this rank, from 0.
 pub(crate) fn times_at_positions(
     alloc: Global,
     times: &TimeSet,
-    place: usize,
+    rank: usize,
     count: usize,
     positions: &Numbers,
 ) -> Result<TimeSet, NoMemory>
-    requires place { place < count }
+    requires rank { rank < count }
     requires count { count ≤ 366 }
     requires positions { CountUpTo 366 positions.now }
-    ensures { IfOk result (λ t. IsSetOf nat_lt t (IsAtSome times.now (place * length times.now)
+    ensures { IfOk result (λ t. IsSetOf nat_lt t (IsAtSome times.now (rank * length times.now)
         (count * length times.now) positions.now (length positions.now))) }
 {
     let times = times.as_slice();
-    let before = place * times.len();
+    let before = rank * times.len();
     let size = count * times.len();
-    let chosen = seconds_at_places(alloc, times, before as u32, size as u32, positions)?;
+    let chosen = seconds_at_positions(alloc, times, before as u32, size as u32, positions)?;
     TimeSet::of(alloc, chosen.as_slice())
 }
 
-// The first place, from one on, among `count` days of a unit, at which one of the positions is, where each day has `each` times.
-pub(crate) fn next_place(
+// The first rank, from one on, among the `count` candidate days of a unit, whose day one of the positions is on, where each
+// day has `each` times.
+pub(crate) fn next_rank(
     positions: &Numbers,
     each: usize,
     count: usize,
@@ -40,21 +41,21 @@ pub(crate) fn next_place(
     requires each { each ≤ 86_400 }
     requires count { count ≤ 366 }
     requires positions { CountUpTo 366 positions.now }
-    ensures { IsNextPlace positions.now each count from result }
+    ensures { IsNextRank positions.now each count from result }
 {
     // No position is on the days from that one on and before this one.
     let mut end = count;
     for position in positions.as_slice() {
-        if let Some(place) = day_of_position(i64::from(*position), each, count) {
-            if from <= place && place < end {
-                end = place;
+        if let Some(rank) = day_of_position(i64::from(*position), each, count) {
+            if from <= rank && rank < end {
+                end = rank;
             }
         }
     }
     if end < count { Some(end) } else { None }
 }
 
-// The place of the day on which a position is, among `count` days of a unit that have `each` times each.
+// The rank of the day on which a position is, among `count` days of a unit that have `each` times each.
 fn day_of_position(position: i64, each: usize, count: usize) -> Option<usize>
     requires position { position ≡ pos 0 → ⊥ }
     requires each { each ≤ 86_400 }
@@ -68,22 +69,22 @@ fn day_of_position(position: i64, each: usize, count: usize) -> Option<usize>
     }
 }
 
-// Of the times of a day those at the listed places, where `before` candidates of the unit come before them.
-fn seconds_at_places(
+// Of the times of a day those at the listed positions, where `before` candidates of the unit come before them.
+fn seconds_at_positions(
     alloc: Global,
     times: &[u32],
     before: u32,
     size: u32,
-    places: &Numbers,
+    positions: &Numbers,
 ) -> Result<Seconds, NoMemory>
     requires room { before + length times.now ≤ size }
-    requires places { CountUpTo 366 places.now }
+    requires positions { CountUpTo 366 positions.now }
     ensures { IfOk result (λ t. IsSetOf nat_lt t
-        (IsAtSome times.now before size places.now (length places.now))) }
+        (IsAtSome times.now before size positions.now (length positions.now))) }
 {
     let mut seconds = Seconds::new(alloc);
-    for place in places.as_slice() {
-        match time_at(times, before, size, i64::from(*place)) {
+    for position in positions.as_slice() {
+        match time_at(times, before, size, i64::from(*position)) {
             None => {}
             Some(second) => seconds.put(second)?,
         }
@@ -91,13 +92,13 @@ fn seconds_at_places(
     Ok(seconds)
 }
 
-// The time at a place of the unit, if it is one of these.
-fn time_at(times: &[u32], before: u32, size: u32, place: i64) -> Option<u32>
+// The time at a position of the unit, if it is one of these.
+fn time_at(times: &[u32], before: u32, size: u32, position: i64) -> Option<u32>
     requires room { before + length times.now ≤ size }
-    requires place { place ≡ pos 0 → ⊥ }
-    ensures { IsTimeAt times.now before size place result }
+    requires position { position ≡ pos 0 → ⊥ }
+    ensures { IsTimeAt times.now before size position result }
 {
-    match rank_of(place, size) {
+    match rank_of(position, size) {
         None => None,
         Some(rank) => {
             if before <= rank && ((rank - before) as usize) < times.len() {

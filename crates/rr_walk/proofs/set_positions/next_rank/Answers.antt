@@ -1,8 +1,8 @@
 use Rattle.std.proofs.Common.{◌≡◌, ◌∙◌, length, get_or, ap, rules, FitsSigned, w64, w16, to_z, of_z, to_z-of_z, pos, arith}
 use Rattle.rr_walk.proofs.PositionDayLemmas.{searched_nowhere, searched_other, searched_found, searched_some, searched_all}
-use Rattle.rr_walk.proofs.set_positions.next_place.Goals as goal
-use Rattle.rr_walk.proofs.set_positions.next_place.Goals.{in-Some+then-from-place+then-place-end, in-Some+else-from-place, in_default}
-use Rattle.rr_walk.proofs.set_positions.next_place.Goals.{else-from-place-via-then-from-place+else-place-end, else-from-place-via-else-from-place}
+use Rattle.rr_walk.proofs.set_positions.next_rank.Goals as goal
+use Rattle.rr_walk.proofs.set_positions.next_rank.Goals.{in-Some+then-from-rank+then-rank-end, in-Some+else-from-rank, in_default}
+use Rattle.rr_walk.proofs.set_positions.next_rank.Goals.{else-from-rank-via-then-from-rank+else-rank-end, else-from-rank-via-else-from-rank}
 
 pub loop-position-preserved : goal.loop-position-preserved
 loop-position-preserved c =
@@ -14,15 +14,15 @@ loop-position-preserved c =
     let is : to_z w64 (of_z w64 c.from.result) ≡ get_or positions i (pos 0) = to_z-of_z fits ∙ c.from.ensures ∙ to_z-of_z small
     ∙ ap (λ l. get_or l i (pos 0)) c.as_slice-position-items.ensures.value in
     elim c.match-day_of_position.branch [
-      | in-Some+then-from-place+then-place-end w ↦ rw w.end-is
-          (searched_found positions c.args.each c.args.count c.args.from i c.loop-position.end position is c.loop-position.invariant w.in-Some.place
-          (rw w.in-Some.is at c.day_of_position.ensures) w.if-from-place.true w.if-place-end.true)
-      | in-Some+else-from-place w ↦ rw w.end-is
-          (searched_other positions c.args.each c.args.count c.args.from i c.loop-position.end position is c.loop-position.invariant w.in-Some.place
+      | in-Some+then-from-rank+then-rank-end w ↦ rw w.end-is
+          (searched_found positions c.args.each c.args.count c.args.from i c.loop-position.end position is c.loop-position.invariant w.in-Some.rank
+          (rw w.in-Some.is at c.day_of_position.ensures) w.if-from-rank.true w.if-rank-end.true)
+      | in-Some+else-from-rank w ↦ rw w.end-is
+          (searched_other positions c.args.each c.args.count c.args.from i c.loop-position.end position is c.loop-position.invariant w.in-Some.rank
           (rw w.in-Some.is at c.day_of_position.ensures)
-          (λ late low. elim w.else-from-place.branch [
-            | else-from-place-via-then-from-place+else-place-end v ↦ omega (arith, v.if-place-end.false, low)
-            | else-from-place-via-else-from-place v ↦ omega (arith, v.if-from-place.false, late)
+          (λ late low. elim w.else-from-rank.branch [
+            | else-from-rank-via-then-from-rank+else-rank-end v ↦ omega (arith, v.if-rank-end.false, low)
+            | else-from-rank-via-else-from-rank v ↦ omega (arith, v.if-from-rank.false, late)
           ]))
       | in_default w ↦ rw w.end-is
           (searched_nowhere positions c.args.each c.args.count c.args.from i c.loop-position.end position is c.loop-position.invariant

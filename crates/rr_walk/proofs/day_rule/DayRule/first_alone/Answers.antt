@@ -9,14 +9,14 @@ use Rattle.rr_model.specs.declared.kind.Kind.TheVariants.{Days}
 use Rattle.rr_model.proofs.RisingSetLemmas.{one_list_of_seconds}
 use Rattle.rr_lazy.proofs.StretchLemmas.{parted}
 use Rattle.rr_walk.specs.Ruling.{Ruling}
-use Rattle.rr_walk.specs.SetPositions.{IsNextPlace}
-use Rattle.rr_walk.proofs.AlonePlaceLemmas.{on_chosen}
+use Rattle.rr_walk.specs.SetPositions.{IsNextRank}
+use Rattle.rr_walk.proofs.AloneRankLemmas.{on_chosen}
 use Rattle.rr_walk.proofs.DayListLemmas.{passed_found}
 use Rattle.rr_walk.proofs.PositionDayLemmas.{few_days, passed_next, passed_parted}
 use Rattle.rr_walk.proofs.day_rule.DayRule.first_alone.Goals as goal
 
-pub next_place-requires-clause-count : goal.next_place-requires-clause-count
-next_place-requires-clause-count c =
+pub next_rank-requires-clause-count : goal.next_rank-requires-clause-count
+next_rank-requires-clause-count c =
     let u = rw c.self.view_is at c.self.invariant in
     few_days c.args.self.now c.args.days.now u.freq c.requires.days
 
@@ -30,7 +30,7 @@ returns c shown times is set =
     let known = c.self.invariant in
     let days = c.args.days.now in
     let from = c.args.from in
-    let place = c.partition_point-place.result in
+    let rank = c.partition_point-rank.result in
     let found = c.in_ok-found.found in
     let x : ℤ = get_or days found (pos 0) in
     let fits : FitsSigned w64 x = search rules in
@@ -43,13 +43,13 @@ returns c shown times is set =
     c.as_slice-times.ensures.same ∙ one_list_of_seconds (IsCandidateTime i.rule i.kind i.start) i.times times known.of_times own in
     let one : length times ≡ 1 = rw same at c.if-times-ne1.false in
     let late : c.first_second.result ≤ get_or times 0 0 = rw same at c.if-first_second-times.false in
-    let at : IsNextPlace i.rule.by_set_pos (length times) (length days) place (Some found) = rw one c.in_ok-found.ensures in
-    let point = IsPartitionPoint-from_clause (λ d. int_lt d from) days place c.partition_point-place.ensures.partitioned
+    let at : IsNextRank i.rule.by_set_pos (length times) (length days) rank (Some found) = rw one c.in_ok-found.ensures in
+    let point = IsPartitionPoint-from_clause (λ d. int_lt d from) days rank c.partition_point-rank.ensures.partitioned
     (parted Days days from unit_days.1.rises) (λ a r q k. search rules) in
-    let before = passed_parted (chosen_of i.rule i.kind i.start) days from place
+    let before = passed_parted (chosen_of i.rule i.kind i.start) days from rank
     (λ k l. (let e : int_lt (get_or days k (pos 0)) from ≡ true = point.0 k (pos 0) (omega arith) l in grind (arith, ints))) in
     let after : from ≤ℤ x = (let e : int_lt (get_or days found (pos 0)) from ≡ false = point.1 found (pos 0) at.0 at.1 in grind (arith, ints)) in
-    let passed = passed_next r known.freq stands times own days unit_days from place before found at in
+    let passed = passed_next r known.freq stands times own days unit_days from rank before found at in
     let first = rw (sym c.self.view_is) at c.first_second.ensures in
     let on = on_chosen r known.freq stands times own one (get_or times 0 0) refl days unit_days found at.1 at.2 day (to_z-of_z fits) c.first_second.result
     first late in

@@ -10,7 +10,7 @@ use Rattle.rr_model.specs.Sets.Tree.{chosen_of}
 use Rattle.rr_expand.proofs.CandidateDays.{candidate_days}
 use Rattle.rr_walk.specs.Ruling.{IsUnrolled, Ruling, keeps_more}
 use Rattle.rr_walk.specs.Walk.{IsDayWith, IsFirstInIn, IsFirstOfIn}
-use Rattle.rr_walk.proofs.AlonePlaceLemmas.{first_with}
+use Rattle.rr_walk.proofs.AloneRankLemmas.{first_with}
 use Rattle.rr_walk.proofs.PositionDayLemmas.{entered_unrolled, first_in_unit, held_unrolled, same_is, same_ruling}
 use Rattle.rr_walk.proofs.WholeUnitLemmas.{count_is, few_days, first_is, next_is, some_days}
 use Rattle.rr_walk.proofs.day_rule.DayRule.first_in.Goals as goal

@@ -25,23 +25,23 @@ loop-found-init c =
     let days = c.args.days.now in
     let from = c.args.from in
     let r = c.args.self.now in
-    let place = c.partition_point-place.result in
-    let point = IsPartitionPoint-from_clause (λ d. int_lt d from) days place c.partition_point-place.ensures.partitioned
+    let rank = c.partition_point-rank.result in
+    let point = IsPartitionPoint-from_clause (λ d. int_lt d from) days rank c.partition_point-rank.ensures.partitioned
     (parted Days days from c.requires.days.1.rises) (λ a r q k. search rules) in
     rw (to_z-of_z c.ranges.from) (
       (λ n t e. e),
-      passed_parted (chosen_of r.rule r.kind r.start) days from place
+      passed_parted (chosen_of r.rule r.kind r.start) days from rank
           (λ k l. before_is (get_or days k (pos 0)) from (point.0 k (pos 0) (omega arith) l)),
       (λ k g l. not_before (get_or days k (pos 0)) from (point.1 k (pos 0) g l)),
     )
 
-pub next_place-requires-clause-each : goal.next_place-requires-clause-each
-next_place-requires-clause-each c =
+pub next_rank-requires-clause-each : goal.next_rank-requires-clause-each
+next_rank-requires-clause-each c =
     let day = rw (sym c.as_slice-each.ensures.same) at c.as_slice-each.ensures.of_day in
     length-le_bound c.as_slice-each.result.now 86_400 day.rises day.below_a_day
 
-pub next_place-requires-clause-count : goal.next_place-requires-clause-count
-next_place-requires-clause-count c =
+pub next_rank-requires-clause-count : goal.next_rank-requires-clause-count
+next_rank-requires-clause-count c =
     let u = rw c.self.view_is at c.self.invariant in
     few_days c.args.self.now c.args.days.now u.freq c.requires.days
 
@@ -50,7 +50,7 @@ on_day-requires-clause-candidate c =
     let days = c.args.days.now in
     let x : ℤ = get_or days c.in-Some.found (pos 0) in
     let fits : FitsSigned w64 x = search rules in
-    let next = rw c.in-Some.is at c.next_place.ensures in
+    let next = rw c.in-Some.is at c.next_rank.ensures in
     candidate_at c.args.self.now days (to_z w64 (of_z w64 x)) c.in-Some.found c.in-Some.found (length days) c.requires.days next.1 (to_z-of_z fits) refl refl
 
 pub returns-in_err-occupied-clause-kept : goal.returns-in_err-occupied-clause-kept
@@ -72,8 +72,8 @@ returns-then-is_some-clause-found c =
     let stands = rw (sym c.self.view_is) at c.requires.positions in
     let inv = rw (sym c.self.view_is, to_z-of_z c.ranges.from) at c.loop-found.invariant in
     let set = subst (λ t. IsSetOf nat_lt t (IsCandidateTime i.rule i.kind i.start)) (sym c.as_slice-each.ensures.same) c.self.invariant.of_times in
-    let next = rw c.in-Some.is at c.next_place.ensures in
-    let passed = passed_next r c.self.invariant.freq stands c.as_slice-each.result.now set days unit_days c.args.from c.loop-found.place inv.1 found next in
+    let next = rw c.in-Some.is at c.next_rank.ensures in
+    let passed = passed_next r c.self.invariant.freq stands c.as_slice-each.result.now set days unit_days c.args.from c.loop-found.rank inv.1 found next in
     let on = rw (sym c.self.view_is) at c.in_ok-occupied.ensures.found in
     let late : c.args.from ≤ℤ to_z w64 (of_z w64 x) = omega (arith, ints, inv.2 found next.0 next.1, to_z-of_z fits) in
     rw (← c.self.view_is) (first_on_day c.on_day.new.sets tree days c.args.from found (to_z w64 (of_z w64 x)) c.in_ok-occupied.occupied
@@ -92,8 +92,8 @@ loop-found-preserved c =
     let stands = rw (sym c.self.view_is) at c.requires.positions in
     let inv = rw (sym c.self.view_is, to_z-of_z c.ranges.from) at c.loop-found.invariant in
     let set = subst (λ t. IsSetOf nat_lt t (IsCandidateTime i.rule i.kind i.start)) (sym c.as_slice-each.ensures.same) c.self.invariant.of_times in
-    let next = rw c.in-Some.is at c.next_place.ensures in
-    let passed = passed_next r c.self.invariant.freq stands c.as_slice-each.result.now set days unit_days c.args.from c.loop-found.place inv.1 found next in
+    let next = rw c.in-Some.is at c.next_rank.ensures in
+    let passed = passed_next r c.self.invariant.freq stands c.as_slice-each.result.now set days unit_days c.args.from c.loop-found.rank inv.1 found next in
     let on = rw (sym c.self.view_is) at c.in_ok-occupied.ensures.found in
     let none = none_on_day c.on_day.new.sets tree (to_z w64 (of_z w64 x)) c.in_ok-occupied.occupied (sym c.if-is_some.ensures) on in
     rw (← c.self.view_is, to_z-of_z c.ranges.from) (
@@ -110,5 +110,5 @@ returns-clause-found c =
     let stands = rw (sym c.self.view_is) at c.requires.positions in
     let inv = rw (sym c.self.view_is, to_z-of_z c.ranges.from) at c.loop-found.invariant in
     let set = subst (λ t. IsSetOf nat_lt t (IsCandidateTime i.rule i.kind i.start)) (sym c.as_slice-each.ensures.same) c.self.invariant.of_times in
-    rw (← c.self.view_is) (passed_rest r c.self.invariant.freq stands c.as_slice-each.result.now set c.args.days.now unit_days c.args.from c.loop-found.place inv.1
-    (rw c.in_default.is at c.next_place.ensures))
+    rw (← c.self.view_is) (passed_rest r c.self.invariant.freq stands c.as_slice-each.result.now set c.args.days.now unit_days c.args.from c.loop-found.rank inv.1
+    (rw c.in_default.is at c.next_rank.ensures))

@@ -5,8 +5,8 @@ use Rattle.rr_walk.proofs.DayListLemmas.{PassedDays}
 use Rattle.rr_walk.proofs.day_rule.DayRule.first_of.Given as goal
 
 abbrev pub invariant-loop-found : goal.invariant-loop-found
-invariant-loop-found l = Extends l.fn.sets l.sets × PassedDays (chosen_of l.self.rule l.self.kind l.self.start) l.fn.days l.fn.from l.place
-    × ((k : ℕ) → l.place ≤ k → k < length l.fn.days → l.fn.from ≤ℤ get_or l.fn.days k (pos 0))
+invariant-loop-found l = Extends l.fn.sets l.sets × PassedDays (chosen_of l.self.rule l.self.kind l.self.start) l.fn.days l.fn.from l.rank
+    × ((k : ℕ) → l.rank ≤ k → k < length l.fn.days → l.fn.from ≤ℤ get_or l.fn.days k (pos 0))
 
 abbrev pub decreases-loop-found : goal.decreases-loop-found
-decreases-loop-found l = length l.fn.days - l.place
+decreases-loop-found l = length l.fn.days - l.rank

@@ -2,14 +2,14 @@ use Rattle.std.proofs.Common.{◌≡◌, ◌∙◌, ℕ, List, [], ◌∷◌, le
 use Rattle.std.proofs.lemmas.Result.{IfOk-weaker}
 use Rattle.rr_model.specs.Sets.Tree.{chosen_of}
 use Rattle.rr_walk.specs.Ruling.{keeps_more}
-use Rattle.rr_walk.specs.Walk.{IsOnDayIn, IsPlacedDay}
-use Rattle.rr_walk.proofs.DayListLemmas.{placed_on}
+use Rattle.rr_walk.specs.Walk.{IsOnDayIn, IsDayOfTimes}
+use Rattle.rr_walk.proofs.DayListLemmas.{occupied_on}
 use Rattle.rr_walk.proofs.PlainLemmas.{plain_none, plain_on, plain_seconds}
 use Rattle.rr_walk.proofs.SetPositionLemmas.{absent_is}
 use Rattle.rr_walk.proofs.day_rule.DayRule.plain_day.Goals as goal
 
 pub returns-then-first-gt0-clause-knows : goal.returns-then-first-gt0-clause-knows
-returns-then-first-gt0-clause-knows c = keeps_more c.args.self.now 0 _ c.args.sets.now c.placed.new.sets c.placed.ensures.kept c.requires.knows
+returns-then-first-gt0-clause-knows c = keeps_more c.args.self.now 0 _ c.args.sets.now c.day_of_times.new.sets c.day_of_times.ensures.kept c.requires.knows
 
 pub returns-then-first-gt0-clause-found : goal.returns-then-first-gt0-clause-found
 returns-then-first-gt0-clause-found c =
@@ -20,8 +20,8 @@ returns-then-first-gt0-clause-found c =
     let set = plain_seconds r.rule r.kind r.start c.args.day u.freq
     (absent_is r.rule.by_set_pos c.requires.plain) c.requires.candidate c.self.inside.times u.of_times
     c.first_second-first.result c.in_ok-times.times first c.in_ok-times.ensures in
-    IfOk-weaker c.placed.result (IsPlacedDay c.placed.new.sets c.args.day c.in_ok-times.times) (IsOnDayIn c.placed.new.sets tree c.args.day)
-    (λ found p. placed_on c.placed.new.sets tree c.args.day c.in_ok-times.times found set p) (rw (to_z-of_z c.ranges.day) at c.placed.ensures.placed)
+    IfOk-weaker c.day_of_times.result (IsDayOfTimes c.day_of_times.new.sets c.args.day c.in_ok-times.times) (IsOnDayIn c.day_of_times.new.sets tree c.args.day)
+    (λ found p. occupied_on c.day_of_times.new.sets tree c.args.day c.in_ok-times.times found set p) (rw (to_z-of_z c.ranges.day) at c.day_of_times.ensures.day)
 
 nothing : (xs : List ℕ) → length xs ≡ 0 → xs ≡ []
 nothing [] e = refl

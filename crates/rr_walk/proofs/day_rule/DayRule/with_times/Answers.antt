@@ -1,6 +1,6 @@
 use Rattle.std.proofs.Common.{ap, length, to_z-of_z}
 use Rattle.rr_model.specs.Rule.DaysAndTimes.{IsCandidateTime}
-use Rattle.rr_walk.proofs.AlonePlaceLemmas.{numbered}
+use Rattle.rr_walk.proofs.AloneRankLemmas.{numbered}
 use Rattle.rr_walk.proofs.day_rule.DayRule.with_times.Goals as goal
 
 pub returns-clause-found : goal.returns-clause-found

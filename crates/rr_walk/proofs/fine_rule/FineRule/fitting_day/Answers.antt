@@ -10,19 +10,19 @@ use Rattle.rr_walk.proofs.fine_rule.FineRule.fitting_day.Goals as goal
 
 -- the day that is answered, and how far away it is
 bounds : (c : goal.After-units_of_day)
-    → (to_z w64 (of_z w64 (to_z w64 (of_z w64 c.args.day) +ℤ to_z w64 (c.first_place.result / c.units_of_day.result)))
-    ≡ c.args.day +ℤ pos (c.first_place.result / c.units_of_day.result)) × (c.first_place.result / c.units_of_day.result ≤ 4_294_967_295)
+    → (to_z w64 (of_z w64 (to_z w64 (of_z w64 c.args.day) +ℤ to_z w64 (c.unit_offset.result / c.units_of_day.result)))
+    ≡ c.args.day +ℤ pos (c.unit_offset.result / c.units_of_day.result)) × (c.unit_offset.result / c.units_of_day.result ≤ 4_294_967_295)
 bounds c =
     let i = c.self.inside in
-    let place = rw (sym c.self.view_is, to_z-of_z c.ranges.day) at c.first_place.ensures in
+    let offset = rw (sym c.self.view_is, to_z-of_z c.ranges.day) at c.unit_offset.ensures in
     let below : floor_mod (unit_number i.rule.freq i.rule.week_start Moments i.start -ℤ unit_number i.rule.freq i.rule.week_start Moments
     (moment_at Moments c.args.day 0)) i.rule.interval < i.rule.interval = floor_mod_below _ i.rule.interval c.self.invariant.valid.valid.interval_low in
-    let n : ℕ = c.first_place.result / c.units_of_day.result in
+    let n : ℕ = c.unit_offset.result / c.units_of_day.result in
     let small : n ≤ 4_294_967_295 =
     omega (
       arith,
-      few_days i.rule.freq c.first_place.result c.units_of_day.result c.self.invariant.freq c.units_of_day.ensures,
-      place,
+      few_days i.rule.freq c.unit_offset.result c.units_of_day.result c.self.invariant.freq c.units_of_day.ensures,
+      offset,
       below,
       c.self.invariant.valid.valid.interval_high,
     ) in
@@ -31,10 +31,10 @@ bounds c =
 pub returns-clause-none : goal.returns-clause-none
 returns-clause-none c =
     let i = c.self.inside in
-    let place = rw (sym c.self.view_is, to_z-of_z c.ranges.day) at c.first_place.ensures in
+    let offset = rw (sym c.self.view_is, to_z-of_z c.ranges.day) at c.unit_offset.ensures in
     rw (← c.self.view_is)
-    (none_unfit i.rule i.start c.args.day c.first_place.result _ c.self.invariant.freq c.self.invariant.valid.valid.interval_low place ((bounds c).0
-    ∙ ap (λ m. c.args.day +ℤ pos (c.first_place.result / m)) c.units_of_day.ensures))
+    (none_unfit i.rule i.start c.args.day c.unit_offset.result _ c.self.invariant.freq c.self.invariant.valid.valid.interval_low offset ((bounds c).0
+    ∙ ap (λ m. c.args.day +ℤ pos (c.unit_offset.result / m)) c.units_of_day.ensures))
 
 pub returns-clause-late : goal.returns-clause-late
 returns-clause-late c =

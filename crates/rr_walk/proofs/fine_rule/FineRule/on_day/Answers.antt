@@ -5,15 +5,15 @@ use Rattle.std.proofs.lemmas.Option.{get_or_from_slice_get}
 use Rattle.std.proofs.lemmas.Result.{IfOk-weaker}
 use Rattle.rr_model.specs.Sets.Tree.{chosen_of, stands_at}
 use Rattle.rr_model.specs.declared.kind.Kind.TheVariants.{Moments}
-use Rattle.rr_walk.specs.Ruling.{places_more}
-use Rattle.rr_walk.specs.Walk.{IsOnDayIn, IsPlacedDay}
-use Rattle.rr_walk.proofs.DayListLemmas.{nothing_in, placed_on}
+use Rattle.rr_walk.specs.Ruling.{unit_offsets_more}
+use Rattle.rr_walk.specs.Walk.{IsOnDayIn, IsDayOfTimes}
+use Rattle.rr_walk.proofs.DayListLemmas.{nothing_in, occupied_on}
 use Rattle.rr_walk.proofs.FineLemmas.{on_whole, seconds_of_day, whole_day}
 use Rattle.rr_walk.proofs.fine_rule.FineRule.on_day.Goals as goal
 
 pub returns-then-first-gt0-clause-knows : goal.returns-then-first-gt0-clause-knows
 returns-then-first-gt0-clause-knows c =
-    places_more c.number_on.new.self c.number_on.new.sets c.placed.new.sets c.placed.ensures.kept c.number_on.ensures.knows
+    unit_offsets_more c.number_on.new.self c.number_on.new.sets c.day_of_times.new.sets c.day_of_times.ensures.kept c.number_on.ensures.knows
 
 pub returns-then-first-gt0-clause-found : goal.returns-then-first-gt0-clause-found
 returns-then-first-gt0-clause-found c =
@@ -25,8 +25,8 @@ returns-then-first-gt0-clause-found c =
     let chosen = rw (is, day) at c.in_ok-number.ensures.number in
     let first = rw (c.number_on.ensures.same.start, day) at c.first_second-first.ensures in
     let set = seconds_of_day r.rule r.start c.args.day c.first_second-first.result all c.in_ok-times.times first chosen c.in_ok-times.ensures in
-    IfOk-weaker c.placed.result (IsPlacedDay c.placed.new.sets c.args.day c.in_ok-times.times) (IsOnDayIn c.placed.new.sets tree c.args.day)
-    (λ x p. placed_on c.placed.new.sets tree c.args.day c.in_ok-times.times x set p) (rw day at c.placed.ensures.placed)
+    IfOk-weaker c.day_of_times.result (IsDayOfTimes c.day_of_times.new.sets c.args.day c.in_ok-times.times) (IsOnDayIn c.day_of_times.new.sets tree c.args.day)
+    (λ x p. occupied_on c.day_of_times.new.sets tree c.args.day c.in_ok-times.times x set p) (rw day at c.day_of_times.ensures.day)
 
 pub returns-then-count-eq0-clause-found : goal.returns-then-count-eq0-clause-found
 returns-then-count-eq0-clause-found c =

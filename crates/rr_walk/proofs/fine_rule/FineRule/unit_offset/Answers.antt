@@ -2,7 +2,7 @@ use Rattle.std.proofs.Common.{◌≡◌, arith, rules, w64, to_z, of_z, to_z-of_
 use Rattle.std.proofs.lemmas.Int.{ints}
 use Rattle.rr_model.specs.declared.kind.Kind.TheVariants.{Moments}
 use Rattle.rr_walk.proofs.WalkLemmas.{start_near}
-use Rattle.rr_walk.proofs.fine_rule.FineRule.first_place.Goals as goal
+use Rattle.rr_walk.proofs.fine_rule.FineRule.unit_offset.Goals as goal
 
 pub unit_of-own-requires-clause-near : goal.unit_of-own-requires-clause-near
 unit_of-own-requires-clause-near c =

@@ -2,13 +2,13 @@ use Rattle.std.proofs.Common.{rules, ◌≡◌, pos, ◌+ℤ◌, ◌≤ℤ◌, a
 use Rattle.std.proofs.lemmas.Int.{ints}
 use Rattle.rr_model.specs.declared.kind.Kind.TheVariants.{Moments}
 use Rattle.rr_model.specs.Sets.Tree.{chosen_of}
-use Rattle.rr_walk.specs.Ruling.{KnowsPlaces}
+use Rattle.rr_walk.specs.Ruling.{KnowsUnitOffsets}
 use Rattle.rr_walk.proofs.FineLemmas.{found_first, none_on, none_past}
 use Rattle.rr_walk.proofs.fine_rule.FineRuleRuleWalk.first_up_to.Goals as goal
 
 pub on_day-requires-clause-knows : goal.on_day-requires-clause-knows
 on_day-requires-clause-knows c =
-    subst (λ q. KnowsPlaces q c.loop-candidate.sets) (sym c.candidate_from.ensures.same) c.loop-candidate.invariant.1
+    subst (λ q. KnowsUnitOffsets q c.loop-candidate.sets) (sym c.candidate_from.ensures.same) c.loop-candidate.invariant.1
 
 pub returns-in_err-on_day-clause-kept : goal.returns-in_err-on_day-clause-kept
 returns-in_err-on_day-clause-kept c = λ n t e. c.on_day.ensures.kept n t (c.loop-candidate.invariant.2 n t e)
@@ -18,7 +18,7 @@ returns-in-Some-2-clause-kept c = λ n t e. c.on_day.ensures.kept n t (c.loop-ca
 
 pub returns-clause-knows : goal.returns-clause-knows
 returns-clause-knows c =
-    subst (λ q. KnowsPlaces q c.loop-candidate.sets) (sym c.candidate_from.ensures.same) c.loop-candidate.invariant.1
+    subst (λ q. KnowsUnitOffsets q c.loop-candidate.sets) (sym c.candidate_from.ensures.same) c.loop-candidate.invariant.1
 
 pub returns-clause-found : goal.returns-clause-found
 returns-clause-found c =

@@ -3,12 +3,12 @@ use Rattle.rr_model.specs.declared.kind.Kind.TheVariants.{Moments}
 use Rattle.rr_model.specs.Sets.Tree.{chosen_of}
 use Rattle.rr_shapes.specs.Tables.{Extends}
 use Rattle.rr_lazy.specs.Next.{HasNone}
-use Rattle.rr_walk.specs.Ruling.{IsSameRuling, KnowsPlaces}
+use Rattle.rr_walk.specs.Ruling.{IsSameRuling, KnowsUnitOffsets}
 use Rattle.rr_walk.proofs.fine_rule.FineRuleRuleWalk.first_up_to.Given as goal
 
 abbrev pub invariant-loop-candidate : goal.invariant-loop-candidate
 invariant-loop-candidate l =
-    IsSameRuling l.self l.fn.self × KnowsPlaces l.self l.sets × Extends l.fn.sets l.sets × (l.from ≤ℤ l.day) × (l.day ≤ℤ pos 3_000_000_000_000)
+    IsSameRuling l.self l.fn.self × KnowsUnitOffsets l.self l.sets × Extends l.fn.sets l.sets × (l.from ≤ℤ l.day) × (l.day ≤ℤ pos 3_000_000_000_000)
     × HasNone (chosen_of l.fn.self.rule Moments l.fn.self.start) l.from l.day
 
 abbrev pub decreases-loop-candidate : goal.decreases-loop-candidate

@@ -7,7 +7,7 @@ use Rattle.rr_model.specs.Rule.Validity.{IsValidRule}
 use Rattle.rr_model.specs.Moment.{day_part, second_part}
 use Rattle.rr_model.proofs.DaysAndTimesLemmas.{only_moments}
 use Rattle.rr_walk.proofs.WalkLemmas.{start_near}
-use Rattle.rr_walk.proofs.PlaceOfDayLemmas.{knows_none}
+use Rattle.rr_walk.proofs.UnitOffsetLemmas.{knows_none}
 use Rattle.rr_walk.proofs.fine_rule.FineRuleRuleWalk.new.Goals as goal
 
 pub new-requires-2 : goal.new-requires-2
