@@ -1,18 +1,17 @@
 -- A set has one first rule and one first pattern at most.
-use Rattle.std.proofs.Common.{◌≡◌, ℕ, zero, suc, ◌+◌, ◌%◌, ◌≤◌, ◌==◌, Bool, true, false, not, List, [], ◌∷◌, ℤ, pos, negsuc, nat_abs, ◌+ℤ◌, ◌-ℤ◌, ◌≤ℤ◌}
-use Rattle.std.proofs.Common.{inl, inr, refl, sym, ap, subst, ◌∙◌, arith}
+use Rattle.std.proofs.Common.{◌≡◌, ℕ, ◌+◌, ◌≤◌, ◌==◌, Bool, false, not, List, [], ◌∷◌, ℤ, pos, nat_abs, ◌+ℤ◌, ◌-ℤ◌, ◌≤ℤ◌}
+use Rattle.std.proofs.Common.{refl, sym, ap, subst, ◌∙◌, arith}
 use Rattle.std.specs.Prelude.{◌||◌, ◌&&◌, nat_lt, map, length, get_or}
 use Rattle.std.proofs.lemmas.Int.{ints, by_lt_z}
 use Rattle.std.proofs.lemmas.Bool.Decides.{nat_tests}
 use Rattle.rr_model.specs.Graph.Occurrences.{is_pattern_day, IsRepeatDay, IsWithinRange}
 use Rattle.rr_model.specs.Graph.Uses.{uses_first_day, uses_index}
-use Rattle.rr_model.specs.Graph.Validity.{LiesIfUsed, IsIndex, IsRangeEnd, IsValidPattern}
+use Rattle.rr_model.specs.Graph.Validity.{IsRangeEnd, IsValidPattern}
 use Rattle.rr_model.specs.Moment.{Occurrences, day_part}
 use Rattle.rr_model.specs.Rule.Validity.{is_absent}
 use Rattle.rr_model.specs.Sets.Least.{IsEndless}
 use Rattle.rr_model.specs.Sets.Sketch.{IsValidSketch, StandsFor, StandsIn, times_on}
 use Rattle.rr_model.specs.Whole.Count.{count_from}
-use Rattle.rr_model.specs.declared.graph.Form.{Form}
 use Rattle.rr_model.specs.declared.graph.Form.TheVariants as form
 use Rattle.rr_model.specs.declared.graph.Pattern.{Pattern}
 use Rattle.rr_model.specs.declared.graph.Range.{Range}
@@ -29,13 +28,14 @@ use Rattle.rr_model.specs.declared.vcal.VRule.{VRule}
 use Rattle.rr_model.proofs.CountLemmas.{count_from-le}
 use Rattle.rr_word.proofs.OneLeastLemmas.{same_times}
 use Rattle.rr_family.specs.DaySets.{IsNumbered, IsLastDay, window_days}
-use Rattle.rr_family.specs.GraphProfile.{event_of, form_place, index_place, pattern_key, key_lt, EndsAs, IsFirstPattern, FirstPatternIsOne}
+use Rattle.rr_family.specs.GraphProfile.{event_of, pattern_key, key_lt, EndsAs, IsFirstPattern, FirstPatternIsOne}
 use Rattle.rr_family.specs.Lasting.{is_occupied}
 use Rattle.rr_family.specs.Places.{item_at, place_has_day}
 use Rattle.rr_family.specs.Profile.{kind_place, all_places, in_order, IsWindow, EndsWith, IsFirstRule, FirstRuleIsOne}
 use Rattle.rr_family.specs.Shift.{family_cycle}
 use Rattle.rr_family.specs.Taking.{taken_places}
 use Rattle.rr_family.proofs.DaySetLemmas.{not_empty}
+use Rattle.rr_family.proofs.PlaceLemmas.{one_form, one_index, one_kind, one_weekday, weekday_most}
 use Rattle.rr_family.proofs.ProfileLemmas.{later_day}
 
 -- ---- the first occurrence
@@ -99,23 +99,6 @@ rule_begins P rule kind start a = (
   λ k t h. (let o = (a.is_rule.equal k t).1 h in (o.0, o.1.not_before)),
 )
 
-kind_of : ℕ → FamilyKind
-kind_of zero = family.D
-kind_of (suc zero) = family.W
-kind_of (suc (suc zero)) = family.MD
-kind_of (suc (suc (suc zero))) = family.MP
-kind_of (suc (suc (suc (suc zero)))) = family.YM
-kind_of (suc (suc (suc (suc (suc n))))) = family.YD
-
-kind_of_place : (f : FamilyKind) → kind_of (kind_place f) ≡ f
-unfolding kind_of
-kind_of_place family.D = refl
-kind_of_place family.W = refl
-kind_of_place family.MD = refl
-kind_of_place family.MP = refl
-kind_of_place family.YM = refl
-kind_of_place family.YD = refl
-
 -- of two numbers with a further one neither of which comes before
 same_places : (n m j k : ℕ) → (nat_lt n m || ((n == m) && nat_lt j k)) ≡ false → (nat_lt m n || ((m == n) && nat_lt k j)) ≡ false → (n ≡ m) × (j ≡ k)
 same_places n m j k a b = (grind (arith, nat_tests, a, b), grind (arith, nat_tests, a, b))
@@ -145,7 +128,7 @@ one_first_rule P rule rule' kind kind' start start' a b =
     let places = same_places rule.interval rule'.interval (kind_place rule.family) (kind_place rule'.family)
     (b.none_before rule kind start a.is_rule) (a.none_before rule' kind' start' b.is_rule) in
     let n : rule.interval ≡ rule'.interval = places.0 in
-    let f : rule.family ≡ rule'.family = sym (kind_of_place rule.family) ∙ ap kind_of places.1 ∙ kind_of_place rule'.family in
+    let f : rule.family ≡ rule'.family = one_kind rule.family rule'.family places.1 in
     let same = sketches_same P a.sketch b.sketch a.valid b.valid a.stands b.stands in
     let first : day_part kind start ≡ day_part kind' start' = λ i. day_part (begin.0 i) (begin.1 i) in
     let c : family_cycle rule.family rule.interval ≡ family_cycle rule'.family rule'.interval = λ i. family_cycle (f i) (n i) in
@@ -178,52 +161,16 @@ keys_same (x ∷ xs) (y ∷ ys) e a b =
     by : (c d : Bool) → (nat_lt x y || ((x == y) && c)) ≡ false → (nat_lt y x || ((y == x) && d)) ≡ false → (x ≡ y) × (c ≡ false) × (d ≡ false)
     by c d h k = (grind (arith, nat_tests, h, k), grind (arith, nat_tests, h, k), grind (arith, nat_tests, h, k))
 
-form_of : ℕ → Form
-form_of zero = form.Daily
-form_of (suc zero) = form.Weekly
-form_of (suc (suc zero)) = form.AbsoluteMonthly
-form_of (suc (suc (suc zero))) = form.RelativeMonthly
-form_of (suc (suc (suc (suc zero)))) = form.AbsoluteYearly
-form_of (suc (suc (suc (suc (suc n))))) = form.RelativeYearly
-
-form_of_place : (f : Form) → form_of (form_place f) ≡ f
-unfolding form_of
-form_of_place form.Daily = refl
-form_of_place form.Weekly = refl
-form_of_place form.AbsoluteMonthly = refl
-form_of_place form.RelativeMonthly = refl
-form_of_place form.AbsoluteYearly = refl
-form_of_place form.RelativeYearly = refl
-
--- weekdays are 0 to 6, used or not
-day_below : (b : Bool) (n : ℕ) → LiesIfUsed b 0 6 6 n → n ≤ 6
-day_below true n h = h.1
-day_below false n h = omega (arith, h)
-
-weekday_same : (x y : ℕ) → x ≤ 6 → y ≤ 6 → (x + 1) % 7 ≡ (y + 1) % 7 → x ≡ y
-weekday_same x y l h e = omega (arith, l, h, e)
-
-index_below : (b : Bool) (n : ℕ) → IsIndex b (pos n) → n ≤ 4
-index_below true n (inl h) = omega (arith, ints, h.1)
-index_below true n (inr e) = absurd (omega (arith, ints, e))
-index_below false n e = omega (arith, ints, e)
-
-index_same : (b c : Bool) (x y : ℤ) → IsIndex b x → IsIndex c y → index_place x ≡ index_place y → x ≡ y
-index_same b c (pos n) (pos m) h k e = ap pos e
-index_same b c (pos n) (negsuc m) h k e = absurd (let l = index_below b n h in omega (arith, l, e))
-index_same b c (negsuc n) (pos m) h k e = absurd (let l = index_below c m k in omega (arith, l, e))
-index_same b c (negsuc n) (negsuc m) h k e = ap negsuc (omega (arith, e))
-
 pattern_same : (p q : Pattern) → IsValidPattern p → IsValidPattern q → key_lt (pattern_key p) (pattern_key q) ≡ false
     → key_lt (pattern_key q) (pattern_key p) ≡ false → p ≡ q
 pattern_same p q vp vq a b =
     let keys : pattern_key p ≡ pattern_key q = keys_same (pattern_key p) (pattern_key q) refl a b in
     let member = λ (k : ℕ). ap (λ (key : List ℕ). get_or key k 0) keys in
-    let f : p.form ≡ q.form = sym (form_of_place p.form) ∙ ap form_of (member 1) ∙ form_of_place q.form in
+    let f : p.form ≡ q.form = one_form p.form q.form (member 1) in
     let begins : p.first_day ≡ q.first_day =
-    weekday_same p.first_day q.first_day (day_below (uses_first_day p.form) p.first_day vp.first_day)
-    (day_below (uses_first_day q.form) q.first_day vq.first_day) (member 2) in
-    let index : p.index ≡ q.index = index_same (uses_index p.form) (uses_index q.form) p.index q.index vp.index vq.index (member 5) in
+    one_weekday p.first_day q.first_day (weekday_most (uses_first_day p.form) p.first_day vp.first_day)
+    (weekday_most (uses_first_day q.form) q.first_day vq.first_day) (member 2) in
+    let index : p.index ≡ q.index = one_index (uses_index p.form) (uses_index q.form) p.index q.index vp.index vq.index (member 5) in
     λ i. record {
       form = f i;
       interval = member 0 i;

@@ -7,6 +7,7 @@ pub mod LastingLemmas
 pub mod DaySetLemmas
 pub mod ProfileLemmas
 pub mod OrderLemmas
+pub mod PlaceLemmas
 pub mod FirstLemmas
 pub mod GraphProfileLemmas
 pub mod WalkLemmas

@@ -17,16 +17,16 @@ many_items family.YD = 366
 
 -- 1 up to the most, then -1 down to the most from the back
 abbrev pub from_both_ends : ℕ → ℕ → ℤ
-from_both_ends most place = if nat_lt place most then pos (place + 1) else neg_ℤ (pos (place - most + 1))
+from_both_ends most index = if nat_lt index most then pos (index + 1) else neg_ℤ (pos (index - most + 1))
 
--- the item of a place
+-- the item at an index
 abbrev pub item_at : FamilyKind → ℕ → Item
-item_at family.D place = Every
-item_at family.W place = Weekday place
-item_at family.MD place = MonthDay (from_both_ends 31 place)
-item_at family.MP place = Place (from_both_ends 5 (place / 7)) (place % 7)
-item_at family.YM place = Month (place + 1)
-item_at family.YD place = YearDay (place + 1)
+item_at family.D index = Every
+item_at family.W index = Weekday index
+item_at family.MD index = MonthDay (from_both_ends 31 index)
+item_at family.MP index = Place (from_both_ends 5 (index / 7)) (index % 7)
+item_at family.YM index = Month (index + 1)
+item_at family.YD index = YearDay (index + 1)
 
 -- the item of a place has the day
 abbrev pub place_has_day : FamilyKind → ℕ → ℤ → ℕ → ℤ → Bool

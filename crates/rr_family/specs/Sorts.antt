@@ -42,14 +42,14 @@ sort_in_unit family.YD start d = Some (day_of_year d - 1)
 abbrev pub sort_of_day : FamilyKind → ℕ → ℤ → ℤ → Option ℕ
 sort_of_day f interval start d = if divides interval (family_unit f d -ℤ family_unit f start) then sort_in_unit f start d else None
 
--- the place's item has the days of the sort
+-- the item at the index has the days of the sort
 abbrev pub has_sort : FamilyKind → ℕ → ℕ → Bool
-has_sort family.D sort place = true
-has_sort family.W sort place = place == sort
-has_sort family.MD sort place = (place == sort / 4) || (place == 31 + (sort % 4 + 27 - sort / 4))
-has_sort family.MP sort place = (place % 7 == sort % 7) && ((place / 7 == sort / 35) || (place / 7 == 5 + sort / 7 % 5))
-has_sort family.YM sort place = place == sort
-has_sort family.YD sort place = place == sort
+has_sort family.D sort index = true
+has_sort family.W sort index = index == sort
+has_sort family.MD sort index = (index == sort / 4) || (index == 31 + (sort % 4 + 27 - sort / 4))
+has_sort family.MP sort index = (index % 7 == sort % 7) && ((index / 7 == sort / 35) || (index / 7 == 5 + sort / 7 % 5))
+has_sort family.YM sort index = index == sort
+has_sort family.YD sort index = index == sort
 
 -- These are the sorts of the kind.
 abbrev pub KindsHaveSorts : Type 0

@@ -1,5 +1,5 @@
 // By multiples of which numbers the occupied units of a set lie apart, which tells the intervals that a rule of it can have.
-ghost use Rattle.std.specs.Prelude.{◌≡◌, ◌≤◌, ◌<◌, IsTrue, get_or, ℕ, pos, ◌+ℤ◌, ◌≤ℤ◌};
+ghost use Rattle.std.specs.Prelude.{◌≡◌, ◌≤◌, ◌<◌, IsTrue, get_or, ℕ};
 ghost use Rattle.std.specs.Int.{IsGcd};
 ghost use Rattle.rr_family.specs.Divisors.{AreDivisors, HasDivisors, IsFinite, IsJoined, IsJoinedAt, IsLeftOut, ReachesEnd, divisor_of, units_apart};
 ghost use Rattle.rr_family.specs.Lasting.{is_occupied};
@@ -43,7 +43,7 @@ pub fn divisors_of<A: DaySeq>(seq: &A, window: &Window) -> Divisors
     requires { IsNearWindow window.now }
     ensures { HasDivisors (A.sketch seq.now) window.now result }
 {
-    divisors_within(seq, window.first, days_joined(seq, window))
+    divisors_within(seq, window.first, days_to_read(seq, window))
 }
 
 // The divisors of `days` days from the first one on.
@@ -59,7 +59,7 @@ fn divisors_within<A: DaySeq>(seq: &A, first: i64, days: u64) -> Divisors
         let Some(number) = next_occupied(seq, day_after(first, read), days - read) else {
             return divisors;
         };
-        divisors = divisors.joined(&start, &Day::new(number));
+        divisors = divisors.with_day(&start, &Day::new(number));
         if divisors.are_one() {
             return divisors;
         }
@@ -69,7 +69,7 @@ fn divisors_within<A: DaySeq>(seq: &A, first: i64, days: u64) -> Divisors
 }
 
 // How many days from the first one on are read.
-fn days_joined<A: DaySeq>(seq: &A, window: &Window) -> u64
+fn days_to_read<A: DaySeq>(seq: &A, window: &Window) -> u64
     requires { IsNearWindow window.now }
     ensures all { ReachesEnd window.now.first window.now.end result }
     ensures few { result ≤ 3_000_000_366 }
@@ -119,13 +119,13 @@ impl Divisors {
     }
 
     // Those of one more occupied day.
-    fn joined(&self, start: &Day, day: &Day) -> Self
+    fn with_day(&self, start: &Day, day: &Day) -> Self
         ensures { IsJoined self.now start.now.number day.now.number result }
     {
-        let days = self.joined_unit(Freq::Daily, 0, start, day);
-        let weeks = self.joined_weeks(start, day);
-        let months = self.joined_unit(Freq::Monthly, 0, start, day);
-        let years = self.joined_unit(Freq::Yearly, 0, start, day);
+        let days = self.divisor_with_day(Freq::Daily, 0, start, day);
+        let weeks = self.weeks_with_day(start, day);
+        let months = self.divisor_with_day(Freq::Monthly, 0, start, day);
+        let years = self.divisor_with_day(Freq::Yearly, 0, start, day);
         Divisors {
             days,
             weeks,
@@ -135,23 +135,23 @@ impl Divisors {
     }
 
     // Those of weeks.
-    fn joined_weeks(&self, start: &Day, day: &Day) -> [u64; 7]
+    fn weeks_with_day(&self, start: &Day, day: &Day) -> [u64; 7]
         ensures { (w : ℕ) → w < 7
             → IsJoinedAt self.now Weekly w start.now.number day.now.number (get_or result w 0) }
     {
         [
-            self.joined_unit(Freq::Weekly, 0, start, day),
-            self.joined_unit(Freq::Weekly, 1, start, day),
-            self.joined_unit(Freq::Weekly, 2, start, day),
-            self.joined_unit(Freq::Weekly, 3, start, day),
-            self.joined_unit(Freq::Weekly, 4, start, day),
-            self.joined_unit(Freq::Weekly, 5, start, day),
-            self.joined_unit(Freq::Weekly, 6, start, day),
+            self.divisor_with_day(Freq::Weekly, 0, start, day),
+            self.divisor_with_day(Freq::Weekly, 1, start, day),
+            self.divisor_with_day(Freq::Weekly, 2, start, day),
+            self.divisor_with_day(Freq::Weekly, 3, start, day),
+            self.divisor_with_day(Freq::Weekly, 4, start, day),
+            self.divisor_with_day(Freq::Weekly, 5, start, day),
+            self.divisor_with_day(Freq::Weekly, 6, start, day),
         ]
     }
 
     // That of the units of a frequency.
-    fn joined_unit(&self, freq: Freq, week_start: u8, start: &Day, day: &Day) -> u64
+    fn divisor_with_day(&self, freq: Freq, week_start: u8, start: &Day, day: &Day) -> u64
         requires whole { IsTrue (is_whole_days freq) }
         requires week { week_start < 7 }
         ensures { IsJoinedAt self.now freq week_start start.now.number day.now.number result }

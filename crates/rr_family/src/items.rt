@@ -19,36 +19,36 @@ pub fn many_items(kind: FamilyKind) -> u16
     }
 }
 
-/// The item of a place, which counts from 0.
+/// The item at an index, from 0.
 ///
 /// Weekdays begin with Monday. Days and places in a month are 1 and up from the front, and then -1 and down from the
 /// back; the items of a place are in the order of their weekdays.
-pub fn item_at(kind: FamilyKind, place: u16) -> Item
-    requires { place < many_items kind }
-    ensures { result ≡ item_at kind place }
+pub fn item_at(kind: FamilyKind, index: u16) -> Item
+    requires { index < many_items kind }
+    ensures { result ≡ item_at kind index }
 {
     match kind {
         FamilyKind::D => Item::Every,
-        FamilyKind::W => Item::Weekday(place as u8),
-        FamilyKind::MD => Item::MonthDay(from_both_ends(31, place)),
+        FamilyKind::W => Item::Weekday(index as u8),
+        FamilyKind::MD => Item::MonthDay(from_both_ends(31, index)),
         FamilyKind::MP => Item::Place {
-            place: from_both_ends(5, place / 7),
-            weekday: (place % 7) as u8,
+            place: from_both_ends(5, index / 7),
+            weekday: (index % 7) as u8,
         },
-        FamilyKind::YM => Item::Month(place as u8 + 1),
-        FamilyKind::YD => Item::YearDay(place + 1),
+        FamilyKind::YM => Item::Month(index as u8 + 1),
+        FamilyKind::YD => Item::YearDay(index + 1),
     }
 }
 
-// The numbers 1 up to the most, then -1 down to the most from the back, by place.
-pub(crate) fn from_both_ends(most: u16, place: u16) -> i8
+// The numbers 1 up to the most, then -1 down to the most from the back, by their index.
+pub(crate) fn from_both_ends(most: u16, index: u16) -> i8
     requires few { most ≤ 31 }
-    requires within { place < most + most }
-    ensures { result ≡ from_both_ends most place }
+    requires within { index < most + most }
+    ensures { result ≡ from_both_ends most index }
 {
-    if place < most {
-        place as i8 + 1
+    if index < most {
+        index as i8 + 1
     } else {
-        -((place - most) as i8 + 1)
+        -((index - most) as i8 + 1)
     }
 }

@@ -1,7 +1,7 @@
 // The sorts of days that each kind of rule tells apart.
 ghost use Rattle.std.specs.Prelude.{◌≡◌, ◌≤◌, ◌<◌, ◌+◌, ◌-◌, ◌/◌, ◌%◌, ◌-ℤ◌};
 ghost use Rattle.rr_family.specs.Sorts.{days_in_month_of, has_sort, many_sorts, month_day_sort, place_sort, sort_in_unit, sort_of_day};
-ghost use Rattle.rr_model.specs.Calendar.{day_of_month, day_of_year, days_in_month, weekday_of};
+ghost use Rattle.rr_model.specs.Calendar.{day_of_month, day_of_year, weekday_of};
 ghost use Rattle.rr_model.specs.Vcal.Members.{family_unit};
 ghost use Rattle.rr_model.specs.Whole.{divides};
 ghost use Rattle.rr_model.specs.declared.vcal.FamilyKind.TheVariants.{YM};
@@ -36,7 +36,7 @@ pub fn sort_of_day(kind: FamilyKind, interval: u32, start: &Day, day: &Day) -> O
     requires some { 1 ≤ interval }
     ensures { result ≡ sort_of_day kind interval start.now.number day.now.number }
 {
-    if counts(kind, interval, start, day) {
+    if unit_counts(kind, interval, start, day) {
         sort_in_unit(kind, start, day)
     } else {
         None
@@ -44,7 +44,7 @@ pub fn sort_of_day(kind: FamilyKind, interval: u32, start: &Day, day: &Day) -> O
 }
 
 // Whether the unit of a day counts; at interval 1 each does, and no unit is computed.
-fn counts(kind: FamilyKind, interval: u32, start: &Day, day: &Day) -> bool
+fn unit_counts(kind: FamilyKind, interval: u32, start: &Day, day: &Day) -> bool
     requires { 1 ≤ interval }
     ensures { result
         ≡ divides interval (family_unit kind day.now.number -ℤ family_unit kind start.now.number) }
@@ -133,25 +133,25 @@ fn month_sort(start: &Day, day: &Day) -> Option<u16>
     }
 }
 
-// The day's place in its year, from 0.
+// The day's index in its year, from 0.
 fn year_day_sort(day: &Day) -> u16
     ensures { result ≡ day_of_year day.now.number - 1 }
 {
     day.day_of_year - 1
 }
 
-/// Whether the item of a place has the days of a sort.
-pub fn has_sort(kind: FamilyKind, sort: u16, place: u16) -> bool
+/// Whether the item at an index has the days of a sort.
+pub fn has_sort(kind: FamilyKind, sort: u16, index: u16) -> bool
     requires sort { sort < many_sorts kind }
-    requires place { place < 366 }
-    ensures { result ≡ has_sort kind sort place }
+    requires index { index < 366 }
+    ensures { result ≡ has_sort kind sort index }
 {
     match kind {
         FamilyKind::D => true,
-        FamilyKind::W | FamilyKind::YM | FamilyKind::YD => place == sort,
-        FamilyKind::MD => place == sort / 4 || place == 31 + month_rest(sort),
+        FamilyKind::W | FamilyKind::YM | FamilyKind::YD => index == sort,
+        FamilyKind::MD => index == sort / 4 || index == 31 + month_rest(sort),
         FamilyKind::MP => {
-            place % 7 == sort % 7 && (place / 7 == sort / 35 || place / 7 == 5 + sort / 7 % 5)
+            index % 7 == sort % 7 && (index / 7 == sort / 35 || index / 7 == 5 + sort / 7 % 5)
         }
     }
 }

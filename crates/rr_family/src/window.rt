@@ -1,9 +1,9 @@
 // What the searches for a rule or a pattern know of a set of occurrences.
-ghost use Rattle.std.specs.Prelude.{◌≡◌, ◌↔◌, ◌<◌, ◌≤◌, true, false, IfSome, IsTrue, Some, None, ℤ, ℕ, pos, ◌+ℤ◌, ◌-ℤ◌, ◌≤ℤ◌, ◌<ℤ◌, []};
-ghost use Rattle.rr_family.specs.DaySets.{IsLastDay, IsOneSecond};
+ghost use Rattle.std.specs.Prelude.{◌≡◌, ◌↔◌, ◌<◌, ◌≤◌, true, false, IfSome, IsTrue, Some, None, ℤ, ℕ, pos, ◌+ℤ◌, ◌≤ℤ◌, ◌<ℤ◌, []};
+ghost use Rattle.rr_family.specs.DaySets.{IsLastDay};
 ghost use Rattle.rr_family.specs.Lasting.{at_second, is_occupied};
 ghost use Rattle.rr_family.specs.Walks.{IsAtSecond, IsNearEnd, IsNearWindow, IsNextWithin, IsSecondOf};
-ghost use Rattle.rr_family.specs.Windows.{HasWindow, IsSecondDay, IsWindowEnd, IsWindowOf};
+ghost use Rattle.rr_family.specs.Windows.{IsSecondDay, IsWindowEnd, IsWindowOf};
 ghost use Rattle.rr_model.specs.Calendar.{IsDayWithin};
 ghost use Rattle.rr_model.specs.Moment.Years.{has_four_digit_year};
 ghost use Rattle.rr_model.specs.Sets.Least.{IsEndless};
@@ -169,14 +169,14 @@ pub(crate) fn next_occupied<A: DaySeq>(seq: &A, from: i64, days: u64) -> Option<
         if is_occupied(seq, day) {
             return Some(day);
         }
-        let free = free_from(seq, day, days - passed);
+        let free = free_days_from(seq, day, days - passed);
         passed += free;
     }
     None
 }
 
 // How many of at most `most` days from a free one on are known to be free, itself the first of them.
-fn free_from<A: DaySeq>(seq: &A, day: i64, most: u64) -> u64
+fn free_days_from<A: DaySeq>(seq: &A, day: i64, most: u64) -> u64
     requires near { IsDayWithin 0 day }
     requires free { is_occupied (A.sketch seq.now) day ≡ false }
     requires some { 1 ≤ most }
@@ -185,11 +185,11 @@ fn free_from<A: DaySeq>(seq: &A, day: i64, most: u64) -> u64
     ensures free { (d : ℤ) → day ≤ℤ d → d <ℤ (day +ℤ pos result)
         → is_occupied (A.sketch seq.now) d ≡ false }
 {
-    within(seq.free_days(day), most)
+    clamp_from_one(seq.free_days(day), most)
 }
 
 // The number, but at least 1 and at most `most`.
-fn within(number: u64, most: u64) -> u64
+fn clamp_from_one(number: u64, most: u64) -> u64
     requires { 1 ≤ most }
     ensures some { 1 ≤ result }
     ensures most { result ≤ most }

@@ -10,7 +10,7 @@ returns g c =
     let near = c.requires.first in
     let back : to_z w64 (of_z w64 first) ≡ first = omega (arith, ints, near.0, near.1) in
     record {
-      days = c.days_joined.result;
-      reaches_end = c.days_joined.ensures.all;
-      are = subst (λ d. AreDivisors c.divisors_within.result (is_occupied (g.A.DaySeq.sketch c.args.seq.now)) d c.days_joined.result) back c.divisors_within.ensures;
+      days = c.days_to_read.result;
+      reaches_end = c.days_to_read.ensures.all;
+      are = subst (λ d. AreDivisors c.divisors_within.result (is_occupied (g.A.DaySeq.sketch c.args.seq.now)) d c.days_to_read.result) back c.divisors_within.ensures;
     }

@@ -37,11 +37,11 @@ returns-then-are_one g c =
     let same : c.in-Some.number ≡ c.new.result.number = omega (arith, ints, c.new.ensures, low, high, from, near.0, near.1, few, less) in
     let day = c.new.result.number in
     let n = nat_abs (day -ℤ c.args.first) + 1 in
-    divisors_stay occupied c.args.first c.joined-divisors.result n c.args.days (c.are_one.ensures c.if-are_one.true)
+    divisors_stay occupied c.args.first c.with_day-divisors.result n c.args.days (c.are_one.ensures c.if-are_one.true)
     (omega (arith, ints, same, low, high, from, less))
-    (divisors_next occupied c.args.first c.loop-read.divisors c.joined-divisors.result c.loop-read.read n c.new-start.result.number day start
+    (divisors_next occupied c.args.first c.loop-read.divisors c.with_day-divisors.result c.loop-read.read n c.new-start.result.number day start
     (omega (arith, ints, same, low, from)) (omega (arith, ints, same, low, from)) (λ d l h. c.in-Some.ensures.3 d (omega (arith, ints, l, from)) (omega (arith, ints, h, same)))
-    (sym (ap occupied same) ∙ c.in-Some.ensures.2) c.joined-divisors.ensures
+    (sym (ap occupied same) ∙ c.in-Some.ensures.2) c.with_day-divisors.ensures
     (subst (λ z. AreDivisors c.loop-read.divisors occupied z c.loop-read.read) back c.loop-read.invariant.1))
 
 pub loop-read-preserved : goal.loop-read-preserved
@@ -62,10 +62,10 @@ loop-read-preserved g c =
     let next : (to_z w64 (of_z w64 c.args.first) +ℤ pos c.days_through-read.result) ≡ c.new.result.number +ℤ pos 1 =
     omega (arith, ints, through, same, back, low, high, from, near.0, near.1, few, less) in (
       omega (arith, ints, next, same, high, from, back, less),
-      divisors_next occupied first c.loop-read.divisors c.joined-divisors.result c.loop-read.read c.days_through-read.result c.new-start.result.number
+      divisors_next occupied first c.loop-read.divisors c.with_day-divisors.result c.loop-read.read c.days_through-read.result c.new-start.result.number
           c.new.result.number start next (omega (arith, ints, same, low, from, back))
           (λ d l h. c.in-Some.ensures.3 d (omega (arith, ints, l, from, back)) (omega (arith, ints, h, same)))
-          (sym (ap occupied same) ∙ c.in-Some.ensures.2) c.joined-divisors.ensures c.loop-read.invariant.1,
+          (sym (ap occupied same) ∙ c.in-Some.ensures.2) c.with_day-divisors.ensures c.loop-read.invariant.1,
     )
 
 pub returns : goal.returns

@@ -1,6 +1,6 @@
 use Rattle.std.proofs.Common.{◌-ℤ◌, sym, ap, ◌∙◌}
 use Rattle.rr_family.proofs.DivisorLemmas.{one_divides}
-use Rattle.rr_family.proofs.sorts.counts.Goals as goal
+use Rattle.rr_family.proofs.sorts.unit_counts.Goals as goal
 use Rattle.rr_model.specs.Vcal.Members.{family_unit}
 use Rattle.rr_model.specs.Whole.{divides}
 

@@ -7,10 +7,10 @@ use Rattle.rr_family.proofs.window.next_occupied.Goals as goal
 pub loop-passed-preserved : goal.loop-passed-preserved
 loop-passed-preserved g c =
     let less = c.loop-passed.invariant.0 in
-    let most = c.free_from-free.ensures.most in (
+    let most = c.free_days_from-free.ensures.most in (
       omega (arith, less, most),
-      free_next (is_occupied (g.A.DaySeq.sketch c.args.seq.now)) (to_z w64 (of_z w64 c.args.from)) c.loop-passed.passed c.free_from-free.result _
-          (omega (arith, ints)) c.free_from-free.ensures.free c.loop-passed.invariant.1,
+      free_next (is_occupied (g.A.DaySeq.sketch c.args.seq.now)) (to_z w64 (of_z w64 c.args.from)) c.loop-passed.passed c.free_days_from-free.result _
+          (omega (arith, ints)) c.free_days_from-free.ensures.free c.loop-passed.invariant.1,
     )
 
 pub returns-then-is_occupied : goal.returns-then-is_occupied

@@ -4,7 +4,7 @@ use Rattle.rr_family.specs.Divisors.{units_apart}
 use Rattle.rr_model.specs.Moment.Units.{unit_number}
 use Rattle.rr_model.specs.declared.kind.Kind.TheVariants.{Days}
 use Rattle.rr_family.proofs.DivisorLemmas.{gcd_of_one}
-use Rattle.rr_family.proofs.divisors.Divisors.joined_unit.Goals as goal
+use Rattle.rr_family.proofs.divisors.Divisors.divisor_with_day.Goals as goal
 
 pub returns-then-divisor-eq1 : goal.returns-then-divisor-eq1
 returns-then-divisor-eq1 c = gcd_of_one _ _ (sym c.of_unit-divisor.ensures ∙ c.if-divisor-eq1.true)
