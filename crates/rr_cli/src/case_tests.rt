@@ -252,9 +252,8 @@ check rrule:@||DTSTART:20240101|cycle 1~[0]
 check rrule:-||DTSTART:20240101|cycle 1~[0]
 ";
 
-// Words that are no command, after no words at all.
+// Words that are no command, and no words at all.
 const NO_COMMANDS: &str = "\
-
 equal rrule:- rrule:-
 equal list:- rrule@+01:00:-
 list 0 rrule:x
@@ -318,6 +317,7 @@ translate vcal rscale:a
 union canon:- canon:-
 union canon:a
 canon1 canon:a canon:b
+
 ";
 
 // What is put where the words are no command.
