@@ -1,11 +1,10 @@
 // Which events are found in a text.
-use crate::rows::text_of;
+use crate::rows::rows_hold;
 use rr_events::*;
 use rr_model::{Fault, Refusal};
 use rr_text::lines_from;
 use std::alloc::Global;
-use std::process::Abort;
-use std::test::*;
+use std::fmt::Write;
 
 // Texts, and the first lines, lengths and UIDs of their events, or the line of the fault.
 const TEXTS: &str = "\
@@ -21,41 +20,35 @@ BEGIN:A~BEGIN~|line 2
 BEGIN:A~BEGIN:VEVENT~END:A~|line 3
 ";
 
-// The events that are found, as the table writes them.
-fn told(alloc: Global, text: &str) -> Result<String, Fail> {
-    let mut told = String::new(alloc);
-    let bytes = text.as_bytes();
-    if bytes.len() > 1000 {
-        return Err("a long text".into());
+// Says an event after others.
+fn say_piece(alloc: Global, said: &mut String, piece: &Piece) -> Option<()> {
+    if piece.first > 1000 || piece.text.len() > 1000 {
+        return None;
     }
-    let pieces = match find_events(alloc, bytes) {
-        Ok(pieces) => pieces,
-        Err(Fault::Refused(Refusal::BadLine(line))) => return Ok(format!(in alloc; "line {line}")?),
-        Err(_) => return Err("another fault".into()),
-    };
-    for piece in &pieces {
-        if piece.first > 1000 {
-            return Err("a line too far".into());
-        }
-        let lines = lines_from(alloc, piece.text, false, piece.first)?;
-        let own = own_lines(alloc, lines.as_slice())?;
-        let uid = str::from_utf8(first_value(b"UID", &own))?;
-        told = format!(in alloc; "{told}{} {} {uid}|", piece.first, piece.text.len())?;
-    }
-    Ok(told)
+    let lines = lines_from(alloc, piece.text, false, piece.first).ok()?;
+    let own = own_lines(alloc, lines.as_slice()).ok()?;
+    let uid = str::from_utf8(first_value(b"UID", &own)).ok()?;
+    write!(said, "{} {} {uid}|", piece.first, piece.text.len()).ok()
 }
 
-// A row `TEXT|EVENTS` holds.
-fn events_hold(rt: &impl Abort, alloc: Global, row: &str) -> Result<(), Fail> {
-    let (text, wanted) = text_of(alloc, row)?;
-    assert_eq!(rt; told(alloc, text.as_str())?.as_str(), wanted, "{row}");
-    Ok(())
+// The events that are found, as the table writes them.
+fn events_said(alloc: Global, text: &str) -> Option<String> {
+    if text.len() > 1000 {
+        return None;
+    }
+    let pieces = match find_events(alloc, text.as_bytes()) {
+        Ok(pieces) => pieces,
+        Err(Fault::Refused(Refusal::BadLine(line))) => return format!(in alloc; "line {line}").ok(),
+        Err(_) => return None,
+    };
+    let mut said = String::new(alloc);
+    for piece in &pieces {
+        say_piece(alloc, &mut said, piece)?;
+    }
+    Some(said)
 }
 
 #[test]
-fn events_are_found(rt: HostRuntime) -> Result<(), Fail> {
-    for row in TEXTS.lines() {
-        events_hold(&rt, rt.alloc(), row)?;
-    }
-    Ok(())
+fn events_are_found(rt: HostRuntime) {
+    rows_hold(&rt, rt.alloc(), events_said, TEXTS);
 }

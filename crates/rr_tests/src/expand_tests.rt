@@ -1,75 +1,75 @@
+// Days and seconds of rules from known starts on.
+use crate::rows::{only_rule, printed, rows_hold, series_of};
 use rr_expand::{days, seconds_on, times, year_mask};
-use rr_model::{Freq, Kind, Rule};
-use std::test::Fail;
+use rr_model::{Freq, Kind};
+use std::alloc::Global;
 
-#[test]
-fn days_of_a_unit(rt: HostRuntime) -> Result<(), Fail> {
-    let alloc = rt.alloc();
-    let mut rule = Rule::new(alloc, Freq::Daily, 1);
-    rule.by_month_day.put(-1)?;
-    // 2024-02-29, from 2024-01-01 on
-    assert_eq!(rt;
-        days(alloc, &rule, 19_723, 19_782)?.as_slice(),
-        [19_782].as_slice()
-    );
-    Ok(())
-}
+// 2024-01-01.
+const FIRST: i64 = 19_723;
 
-#[test]
-fn times_of_days(rt: HostRuntime) -> Result<(), Fail> {
-    let alloc = rt.alloc();
-    // 1997-09-02T09:00:00
-    let start = 873_190_800;
-    let mut rule = Rule::new(alloc, Freq::Daily, 1);
-    assert_eq!(rt;
-        times(alloc, &rule, Kind::Moments, start)?.as_slice(),
-        [32_400].as_slice()
-    );
-    rule.by_hour.put(23)?;
-    rule.by_minute.put(59)?;
-    rule.by_second.put(5)?;
-    assert_eq!(rt;
-        times(alloc, &rule, Kind::Moments, start)?.as_slice(),
-        [86_345].as_slice()
-    );
-    Ok(())
-}
+// 1997-09-02T09:00:00.
+const START: i64 = 873_190_800;
 
-#[test]
-fn seconds_of_a_day(rt: HostRuntime) -> Result<(), Fail> {
-    let alloc = rt.alloc();
-    // every seventh hour from 1997-09-02T09:00:00 on: at 02:00, 09:00, 16:00 and 23:00
-    let rule = Rule::new(alloc, Freq::Hourly, 7);
-    assert_eq!(rt;
-        seconds_on(alloc, &rule, 873_190_800, 10_106)?.as_slice(),
-        [7_200, 32_400, 57_600, 82_800].as_slice()
-    );
-    Ok(())
-}
+// Rules, and the day 2024-02-29 where they have it.
+const DAYS: &str = "\
+FREQ=DAILY;BYMONTHDAY=-1|[19782]
+";
 
-#[test]
-#[tactic(auto, unfolding(rr_model::specs::Calendar::first_day_of_year))]
-fn mask_of_a_year(rt: HostRuntime) -> Result<(), Fail> {
-    let mut rule = Rule::new(rt.alloc(), Freq::Daily, 1);
-    rule.by_month_day.put(-1)?;
-    let mask = year_mask(&rule, 19_723, 2024);
-    let last_days = [
-        (0, Some(30)),
-        (31, Some(59)),
-        (60, Some(90)),
-        (91, Some(120)),
-        (121, Some(151)),
-        (152, Some(181)),
-        (182, Some(212)),
-        (213, Some(243)),
-        (244, Some(273)),
-        (274, Some(304)),
-        (305, Some(334)),
-        (335, Some(365)),
-        (366, None),
-    ];
-    for (from, last_day) in last_days {
-        assert_eq!(rt; mask.first_from(from, 384), last_day);
+fn days_said(alloc: Global, rule: &str) -> Option<String> {
+    let series = series_of(alloc, "20240101", rule)?;
+    let rule = only_rule(&series)?;
+    if rule.freq != Freq::Daily {
+        return None;
     }
-    Ok(())
+    printed(alloc, &days(alloc, rule, FIRST, 19_782).ok()?.as_slice())
+}
+
+// Rules, and the seconds of each of their days, or of 1997-09-02 where these differ.
+const TIMES: &str = "\
+FREQ=DAILY|[32400]
+FREQ=DAILY;BYHOUR=23;BYMINUTE=59;BYSECOND=5|[86345]
+FREQ=HOURLY;INTERVAL=7|[7200, 32400, 57600, 82800]
+";
+
+fn times_said(alloc: Global, rule: &str) -> Option<String> {
+    let series = series_of(alloc, "19970902T090000", rule)?;
+    let rule = only_rule(&series)?;
+    let seconds = if rule.freq.is_whole_days() {
+        times(alloc, rule, Kind::Moments, START).ok()?
+    } else {
+        seconds_on(alloc, rule, START, 10_106).ok()?
+    };
+    printed(alloc, &seconds.as_slice())
+}
+
+// Days of 2024 from 0, and the first last days of months from there on.
+const LAST_DAYS: &str = "\
+0|Some(30)
+31|Some(59)
+60|Some(90)
+91|Some(120)
+121|Some(151)
+152|Some(181)
+182|Some(212)
+213|Some(243)
+244|Some(273)
+274|Some(304)
+305|Some(334)
+335|Some(365)
+366|None
+";
+
+#[tactic(auto, unfolding(rr_model::specs::Calendar::first_day_of_year))]
+fn last_day_said(alloc: Global, given: &str) -> Option<String> {
+    let series = series_of(alloc, "20240101", "FREQ=DAILY;BYMONTHDAY=-1")?;
+    let mask = year_mask(only_rule(&series)?, FIRST, 2024);
+    let from = given.parse::<u16>().ok()?;
+    printed(alloc, &mask.first_from(from, 384))
+}
+
+#[test]
+fn days_and_times(rt: HostRuntime) {
+    rows_hold(&rt, rt.alloc(), days_said, DAYS);
+    rows_hold(&rt, rt.alloc(), times_said, TIMES);
+    rows_hold(&rt, rt.alloc(), last_day_said, LAST_DAYS);
 }

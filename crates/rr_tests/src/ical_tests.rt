@@ -1,10 +1,9 @@
 // The lines of an event, and the series of lists.
-use crate::rows::text_of;
+use crate::rows::{printed, rows_hold};
 use rr_ical::*;
 use rr_model::Fault;
 use std::alloc::Global;
-use std::process::Abort;
-use std::test::*;
+use std::fmt::Write;
 
 // Texts, and their used lines with what stops the scan. The first has a time zone and an alarm, whose lines are not the event's.
 const SCANS: &str = "\
@@ -27,40 +26,22 @@ BEGIN:VEVENT~DTSTART:x~END:VEVENT~Begin:Vevent~|2 Dtstart x|Some(SeveralEvents)
 ";
 
 // The used lines of a text, and what stops the scan.
-fn scan_text(alloc: Global, text: &str) -> Result<String, Fail> {
-    let scan = event_lines(alloc, text.as_bytes(), false)
-        .ok()
-        .ok_or("there is memory")?;
-    let mut out = String::new(alloc);
+fn scan_said(alloc: Global, text: &str) -> Option<String> {
+    let scan = event_lines(alloc, text.as_bytes(), false).ok()?;
+    let mut said = String::new(alloc);
     for line in scan.used.as_slice() {
-        let value = std::str::from_utf8(line.value.as_slice())
-            .ok()
-            .ok_or("a value is text")?;
-        out = format!(in alloc; "{out}{} {:?} {value}|", line.number, line.name)?;
+        let value = str::from_utf8(line.value.as_slice()).ok()?;
+        write!(said, "{} {:?} {value}|", line.number, line.name).ok()?;
     }
-    Ok(format!(in alloc; "{out}{:?}", scan.stop)?)
-}
-
-// A row `TEXT|LINES` holds.
-fn scan_holds(rt: &impl Abort, alloc: Global, row: &str) -> Result<(), Fail> {
-    let (text, wanted) = text_of(alloc, row)?;
-    assert_eq!(rt; scan_text(alloc, text.as_str())?.as_str(), wanted, "{row}");
-    Ok(())
-}
-
-#[test]
-fn scans(rt: HostRuntime) -> Result<(), Fail> {
-    for row in SCANS.lines() {
-        scan_holds(&rt, rt.alloc(), row)?;
-    }
-    Ok(())
+    write!(said, "{:?}", scan.stop).ok()?;
+    Some(said)
 }
 
 // Lists, and the series that they state, or the refusal.
 const LISTS: &str = "\
-|Days 0 false []
-\u{FEFF}1970-01-02\r~~ 1970-01-04\t~1971-01-01|Days 1 true [3, 365]
-1970-01-01T00:00:01~1970-01-01t00:00:02|Moments 1 true [2]
+|(Days, 0, false, [])
+\u{FEFF}1970-01-02\r~~ 1970-01-04\t~1971-01-01|(Days, 1, true, [3, 365])
+1970-01-01T00:00:01~1970-01-01t00:00:02|(Moments, 1, true, [2])
 1970-01-02~~1970-01-02|NotRising 3
 1970-01-02~1970-01-01T00:00:00|MixedKinds 2
 1970-01-01T00:00:00Z|BadMoment 1
@@ -70,31 +51,22 @@ const LISTS: &str = "\
 ";
 
 // The series of a list, or the refusal.
-fn list_text(alloc: Global, text: &str) -> Result<String, Fail> {
+fn list_said(alloc: Global, text: &str) -> Option<String> {
     match read_list(alloc, text.as_bytes()) {
-        Ok(series) => Ok(format!(in alloc;
-            "{:?} {} {} {:?}",
-            series.kind,
-            series.start,
-            series.start_counts,
-            series.plus.as_slice()
-        )?),
-        Err(Fault::Refused(refusal)) => Ok(format!(in alloc; "{refusal}")?),
-        Err(Fault::NoMemory) => Err("out of memory".into()),
+        Ok(series) => {
+            let dates = series.plus.as_slice();
+            printed(
+                alloc,
+                &(series.kind, series.start, series.start_counts, dates),
+            )
+        }
+        Err(Fault::Refused(refusal)) => format!(in alloc; "{refusal}").ok(),
+        Err(Fault::NoMemory) => None,
     }
-}
-
-// A row `TEXT|SERIES` holds.
-fn list_holds(rt: &impl Abort, alloc: Global, row: &str) -> Result<(), Fail> {
-    let (text, wanted) = text_of(alloc, row)?;
-    assert_eq!(rt; list_text(alloc, text.as_str())?.as_str(), wanted, "{row}");
-    Ok(())
 }
 
 #[test]
-fn lists(rt: HostRuntime) -> Result<(), Fail> {
-    for row in LISTS.lines() {
-        list_holds(&rt, rt.alloc(), row)?;
-    }
-    Ok(())
+fn scans_and_lists(rt: HostRuntime) {
+    rows_hold(&rt, rt.alloc(), scan_said, SCANS);
+    rows_hold(&rt, rt.alloc(), list_said, LISTS);
 }

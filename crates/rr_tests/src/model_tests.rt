@@ -1,244 +1,276 @@
+// Lists of the data, moments taken apart, and refusals as they are printed.
+use crate::family_tests::item_of;
+use crate::rows::{is_said, kind_and_number, only_rule, printed, rows_hold, series_of};
 use rr_model::{
-    Bytes, Dates, DayItem, DayItems, DayShape, DayShapes, End, FamilyKind, Freq, Item, Items, Kind,
-    Line, LineList, LineName, Member, Numbers, Refusal, Rule, Rules, Seconds, Used, UsedLine,
-    VRule, VRules, day_part, moment_at, second_part,
+    Bytes, Dates, DayItem, DayItems, DayShape, DayShapes, End, FamilyKind, Freq, Items, Line,
+    LineList, LineName, Member, Numbers, Refusal, Rule, Rules, Seconds, Used, UsedLine, VRule,
+    VRules, day_part, moment_at, second_part,
 };
-use std::test::Fail;
+use std::alloc::Global;
 
-#[test]
-fn lists_put_values_at_their_place(rt: HostRuntime) -> Result<(), Fail> {
-    let alloc = rt.alloc();
+fn numbers_said(alloc: Global, given: &str) -> Option<String> {
     let mut numbers = Numbers::new(alloc);
-    for n in [3, -1, 3, 1] {
-        numbers.put(n)?;
+    for word in given.split(' ') {
+        numbers.put(word.parse::<i16>().ok()?).ok()?;
     }
-    assert_eq!(rt; numbers.as_slice(), [-1, 1, 3].as_slice());
+    printed(alloc, &numbers.as_slice())
+}
+
+fn dates_said(alloc: Global, given: &str) -> Option<String> {
     let mut dates = Dates::new(alloc);
-    for day in [20_000, -5, 20_000] {
-        dates.put(day)?;
+    for word in given.split(' ') {
+        dates.put(word.parse::<i64>().ok()?).ok()?;
     }
-    assert_eq!(rt; dates.as_slice(), [-5, 20_000].as_slice());
+    printed(alloc, &dates.copy(alloc).ok()?.as_slice())
+}
+
+fn seconds_said(alloc: Global, given: &str) -> Option<String> {
     let mut seconds = Seconds::new(alloc);
-    for second in [43_200, 0] {
-        seconds.put(second)?;
+    for word in given.split(' ') {
+        seconds.put(word.parse::<u32>().ok()?).ok()?;
     }
-    assert_eq!(rt; seconds.as_slice(), [0, 43_200].as_slice());
-    let monday = DayItem {
-        place: 0,
-        weekday: 0,
-    };
-    let friday = DayItem {
-        place: 0,
-        weekday: 4,
-    };
-    let last_monday = DayItem {
-        place: -1,
-        weekday: 0,
-    };
+    printed(alloc, &seconds.as_slice())
+}
+
+// Places of weekdays, both in digits.
+fn day_items_said(alloc: Global, given: &str) -> Option<String> {
     let mut items = DayItems::new(alloc);
-    for item in [friday, monday, last_monday, friday] {
-        items.put(item)?;
+    for word in given.split(' ') {
+        let (place, weekday) = word.split_once(':')?;
+        items
+            .put(DayItem {
+                place: place.parse::<i8>().ok()?,
+                weekday: weekday.parse::<u8>().ok()?,
+            })
+            .ok()?;
     }
-    assert_eq!(rt; items.as_slice(), [last_monday, monday, friday].as_slice());
-    Ok(())
+    printed(alloc, &items.as_slice())
 }
 
+// Kinds of rules with places of their items.
+fn items_said(alloc: Global, given: &str) -> Option<String> {
+    let mut items = Items::new(alloc);
+    for word in given.split(", ") {
+        items.put(item_of(word)?).ok()?;
+    }
+    printed(alloc, &items.as_slice())
+}
+
+// Each Friday, each Monday, the last Monday and each Friday again.
+const DAY_ITEMS: &str = "\
+0:4 0:0 -1:0 0:4|[DayItem { place: -1, weekday: 0 }, DayItem { place: 0, weekday: 0 }, DayItem { place: 0, weekday: 4 }]
+";
+
+// Items by variant, by number and by weekday, and the same backwards and twice.
+const ITEMS: &str = "\
+D 0, W 0, W 6, MD 0, MD 30, MD 31, MD 61, MP 2, MP 4, MP 28, MP 41, MP 63, YM 0, YM 11, YD 0, YD 365|\
+[Every, Weekday(0), Weekday(6), MonthDay(1), MonthDay(31), MonthDay(-1), MonthDay(-31), Place { place: 1, weekday: 2 }, \
+Place { place: 1, weekday: 4 }, Place { place: 5, weekday: 0 }, Place { place: -1, weekday: 6 }, Place { place: -5, weekday: 0 }, \
+Month(1), Month(12), YearDay(1), YearDay(366)]
+YD 365, YD 365, YD 0, YD 0, YM 11, YM 11, YM 0, YM 0, MP 63, MP 63, MP 41, MP 41, MP 28, MP 28, MP 4, MP 4, MP 2, MP 2, \
+MD 61, MD 61, MD 31, MD 31, MD 30, MD 30, MD 0, MD 0, W 6, W 6, W 0, W 0, D 0, D 0|\
+[Every, Weekday(0), Weekday(6), MonthDay(1), MonthDay(31), MonthDay(-1), MonthDay(-31), Place { place: 1, weekday: 2 }, \
+Place { place: 1, weekday: 4 }, Place { place: 5, weekday: 0 }, Place { place: -1, weekday: 6 }, Place { place: -5, weekday: 0 }, \
+Month(1), Month(12), YearDay(1), YearDay(366)]
+";
+
 #[test]
-fn lists_put_values_at_the_end(rt: HostRuntime) -> Result<(), Fail> {
-    let alloc = rt.alloc();
+fn lists_put_values_at_their_place(rt: HostRuntime) {
+    rows_hold(&rt, rt.alloc(), numbers_said, "3 -1 3 1|[-1, 1, 3]");
+    rows_hold(
+        &rt,
+        rt.alloc(),
+        dates_said,
+        "20000 -5 20000|[-5, 20000]\n-5|[-5]",
+    );
+    rows_hold(&rt, rt.alloc(), seconds_said, "43200 0|[0, 43200]");
+    rows_hold(&rt, rt.alloc(), day_items_said, DAY_ITEMS);
+    rows_hold(&rt, rt.alloc(), items_said, ITEMS);
+}
+
+fn shape_of(alloc: Global, day: i64) -> DayShape {
+    DayShape {
+        day,
+        times: Seconds::new(alloc),
+    }
+}
+
+fn shapes_said(alloc: Global) -> Option<String> {
     let mut shapes = DayShapes::new(alloc);
-    for day in [5, 3] {
-        shapes.put(DayShape {
-            day,
-            times: Seconds::new(alloc),
-        })?;
+    shapes.put(shape_of(alloc, 5)).ok()?;
+    shapes.put(shape_of(alloc, 3)).ok()?;
+    match shapes.as_slice() {
+        [first, second] => printed(alloc, &(first.day, second.day)),
+        _ => None,
     }
-    assert!(rt; matches!(shapes.as_slice(), [first, second] if first.day == 5 && second.day == 3));
+}
+
+fn rules_said(alloc: Global) -> Option<String> {
     let mut rules = Rules::new(alloc);
-    for (freq, interval) in [(Freq::Weekly, 2), (Freq::Daily, 1)] {
-        rules.put(Rule::new(alloc, freq, interval))?;
+    rules.put(Rule::new(alloc, Freq::Weekly, 2)).ok()?;
+    rules.put(Rule::new(alloc, Freq::Daily, 1)).ok()?;
+    match rules.as_slice() {
+        [first, second] => printed(alloc, &(first.interval, second.interval)),
+        _ => None,
     }
-    assert!(rt;
-        matches!(rules.as_slice(), [first, second] if first.interval == 2 && second.interval == 1)
-    );
-    Ok(())
+}
+
+fn bytes_said(alloc: Global) -> Option<String> {
+    let mut text = Bytes::of(alloc, b"RR").ok()?;
+    text.append(b"ULE").ok()?;
+    text.put(b':').ok()?;
+    str::from_utf8(text.as_slice()).ok()?.to_string(alloc).ok()
+}
+
+fn line_of(alloc: Global, number: u64) -> Line {
+    Line {
+        number,
+        text: Bytes::new(alloc),
+    }
+}
+
+fn lines_said(alloc: Global) -> Option<String> {
+    let mut lines = LineList::new(alloc);
+    lines.put(line_of(alloc, 3)).ok()?;
+    lines.put(line_of(alloc, 1)).ok()?;
+    match lines.as_slice() {
+        [first, second] => printed(alloc, &(first.number, second.number)),
+        _ => None,
+    }
+}
+
+fn used_line_of(alloc: Global, name: LineName) -> UsedLine {
+    UsedLine {
+        number: 1,
+        name,
+        value: Bytes::new(alloc),
+    }
+}
+
+fn used_said(alloc: Global) -> Option<String> {
+    let mut used = Used::new(alloc);
+    used.put(used_line_of(alloc, LineName::Rrule)).ok()?;
+    used.put(used_line_of(alloc, LineName::Dtstart)).ok()?;
+    match used.as_slice() {
+        [first, second] => printed(alloc, &(first.name, second.name)),
+        _ => None,
+    }
+}
+
+fn vrule_of(alloc: Global, interval: u32) -> VRule {
+    VRule {
+        family: FamilyKind::W,
+        interval,
+        items: Items::new(alloc),
+        end: End::Never,
+    }
+}
+
+fn vrules_said(alloc: Global) -> Option<String> {
+    let mut rules = VRules::new(alloc);
+    rules.put(vrule_of(alloc, 2)).ok()?;
+    rules.put(vrule_of(alloc, 1)).ok()?;
+    match rules.as_slice() {
+        [first, second] => printed(alloc, &(first.interval, second.interval)),
+        _ => None,
+    }
 }
 
 #[test]
-fn lists_are_copied(rt: HostRuntime) -> Result<(), Fail> {
-    let alloc = rt.alloc();
-    let mut rule = Rule::new(alloc, Freq::Yearly, 4);
-    assert!(rt; rule.by_month.is_empty() && rule.by_day.is_empty());
-    rule.by_month.put(2)?;
-    rule.by_month_day.put(29)?;
-    rule.by_day.put(DayItem {
-        place: 0,
-        weekday: 3,
-    })?;
-    let copy = rule.copy(alloc)?;
-    rule.by_month.put(3)?;
-    assert_eq!(rt; rule.by_month.len(), 2);
-    assert_eq!(rt; copy.by_month.as_slice(), [2].as_slice());
-    assert_eq!(rt; copy.by_month_day.as_slice(), [29].as_slice());
-    assert_eq!(rt; copy.by_day.as_slice(), rule.by_day.as_slice());
-    assert!(rt; copy.freq == Freq::Yearly && copy.interval == 4 && copy.by_hour.is_empty());
-    let mut rules = Rules::new(alloc);
-    rules.put(rule)?;
-    rules.put(copy)?;
-    let rules = rules.copy(alloc)?;
-    assert!(rt;
-        matches!(rules.as_slice(), [first, second] if first.by_month.len() == 2 && second.by_month.len() == 1)
+fn lists_put_values_at_the_end(rt: HostRuntime) {
+    is_said(&rt, shapes_said(rt.alloc()), "(5, 3)", "shapes");
+    is_said(&rt, rules_said(rt.alloc()), "(2, 1)", "rules");
+    is_said(&rt, bytes_said(rt.alloc()), "RRULE:", "bytes");
+    is_said(&rt, lines_said(rt.alloc()), "(3, 1)", "lines");
+    is_said(&rt, used_said(rt.alloc()), "(Rrule, Dtstart)", "used lines");
+    is_said(&rt, vrules_said(rt.alloc()), "(2, 1)", "rules of vCalendar");
+}
+
+// A rule whose copy then gets one more month: what the copy has, and the months that the rule keeps.
+const COPIED: &str = "\
+FREQ=YEARLY;INTERVAL=4;BYMONTH=2;BYMONTHDAY=29;BYDAY=TH|\
+((Yearly, 4, true), [2, 3], [29], [DayItem { place: 0, weekday: 3 }], [2])
+";
+
+fn copy_said(alloc: Global, given: &str) -> Option<String> {
+    let series = series_of(alloc, "20240229", given)?;
+    let rule = only_rule(&series)?;
+    let mut copy = rule.copy(alloc).ok()?;
+    copy.by_month.put(3).ok()?;
+    let lists = (
+        (copy.freq, copy.interval, copy.by_hour.is_empty()),
+        copy.by_month.as_slice(),
+        copy.by_month_day.as_slice(),
+        copy.by_day.as_slice(),
+        rule.by_month.as_slice(),
     );
-    let mut dates = Dates::new(alloc);
-    dates.put(-5)?;
-    assert_eq!(rt; dates.copy(alloc)?.as_slice(), [-5].as_slice());
-    Ok(())
+    printed(alloc, &lists)
+}
+
+// How many months each of two rules has that are copied together.
+fn copies_said(alloc: Global, given: &str) -> Option<String> {
+    let series = series_of(alloc, "20240229", given)?;
+    let rules = series.rules.copy(alloc).ok()?;
+    match rules.as_slice() {
+        [first, second] => printed(alloc, &(first.by_month.len(), second.by_month.len())),
+        _ => None,
+    }
+}
+
+#[test]
+fn rules_are_copied(rt: HostRuntime) {
+    rows_hold(&rt, rt.alloc(), copy_said, COPIED);
+    let two = "FREQ=YEARLY;BYMONTH=2,3~RRULE:FREQ=YEARLY;BYMONTH=2|(2, 1)";
+    rows_hold(&rt, rt.alloc(), copies_said, two);
 }
 
 // Occurrences with their days and seconds: 2024-01-01 and 09:00:00 on it, 1970-01-01 and the day before.
-const MOMENTS: [(Kind, i64, i64, u32); 6] = [
-    (Kind::Days, 19_723, 19_723, 0),
-    (Kind::Moments, 1_704_099_600, 19_723, 32_400),
-    (Kind::Moments, 0, 0, 0),
-    (Kind::Moments, -1, -1, 86_399),
-    (Kind::Moments, -86_400, -1, 0),
-    (Kind::Days, -1, -1, 0),
-];
+const MOMENTS: &str = "\
+Days 19723|(19723, 0, 19723)
+Moments 1704099600|(19723, 32400, 1704099600)
+Moments 0|(0, 0, 0)
+Moments -1|(-1, 86399, -1)
+Moments -86400|(-1, 0, -86400)
+Days -1|(-1, 0, -1)
+";
 
-#[test]
-fn moments_are_days_and_seconds(rt: HostRuntime) -> Result<(), Fail> {
-    for (kind, at, day, second) in MOMENTS {
-        assert!(rt; day >= -1 && day <= 19_723);
-        assert_eq!(rt; day_part(kind, at), day);
-        assert_eq!(rt; second_part(kind, at), second);
-        assert_eq!(rt; moment_at(kind, day, second), at);
+// The day and the second of an occurrence, and the occurrence that they make.
+fn moment_said(alloc: Global, given: &str) -> Option<String> {
+    let (kind, at) = kind_and_number(given)?;
+    let day = day_part(kind, at);
+    if day < -1 || day > 19_723 {
+        return None;
     }
-    for (freq, is_whole_days) in [
-        (Freq::Secondly, false),
-        (Freq::Hourly, false),
-        (Freq::Daily, true),
-        (Freq::Yearly, true),
-    ] {
-        assert_eq!(rt; freq.is_whole_days(), is_whole_days);
-    }
-    Ok(())
+    let second = second_part(kind, at);
+    printed(alloc, &(day, second, moment_at(kind, day, second)))
 }
 
-// A refusal of each form, with its name and what is printed.
-const REFUSALS: [(Refusal, &str, &str); 4] = [
-    (Refusal::NotSayable, "NotSayable", "NotSayable"),
-    (Refusal::BadRule(2), "BadRule", "BadRule 2"),
-    (
-        Refusal::NotSynchronised(16),
+#[test]
+fn moments_are_days_and_seconds(rt: HostRuntime) {
+    rows_hold(&rt, rt.alloc(), moment_said, MOMENTS);
+    assert!(rt; !Freq::Secondly.is_whole_days() && !Freq::Hourly.is_whole_days());
+    assert!(rt; Freq::Daily.is_whole_days() && Freq::Yearly.is_whole_days());
+}
+
+// The name of a refusal, and what is printed.
+fn refusal_said(alloc: Global, refusal: Refusal) -> Option<String> {
+    format!(in alloc; "{}, {refusal}", refusal.name()).ok()
+}
+
+#[test]
+fn refusals_are_printed_with_their_line_or_rule(rt: HostRuntime) {
+    let alloc = rt.alloc();
+    let said = refusal_said(alloc, Refusal::NotSayable);
+    is_said(&rt, said, "NotSayable, NotSayable", "NotSayable");
+    let said = refusal_said(alloc, Refusal::BadRule(2));
+    is_said(&rt, said, "BadRule, BadRule 2", "BadRule");
+    let said = refusal_said(alloc, Refusal::NotSynchronised(16));
+    is_said(
+        &rt,
+        said,
+        "NotSynchronised, NotSynchronised 16",
         "NotSynchronised",
-        "NotSynchronised 16",
-    ),
-    (
-        Refusal::BadMember(Member::PatternType),
-        "BadMember",
-        "BadMember pattern.type",
-    ),
-];
-
-#[test]
-fn refusals_are_printed_with_their_line_or_rule(rt: HostRuntime) -> Result<(), Fail> {
-    let alloc = rt.alloc();
-    for (refusal, name, text) in REFUSALS {
-        assert_eq!(rt; refusal.name(), name);
-        assert_eq!(rt; format!(in alloc; "{refusal}")?.as_str(), text);
-    }
-    Ok(())
-}
-
-const RISING_ITEMS: [Item; 16] = [
-    Item::Every,
-    Item::Weekday(0),
-    Item::Weekday(6),
-    Item::MonthDay(1),
-    Item::MonthDay(31),
-    Item::MonthDay(-1),
-    Item::MonthDay(-31),
-    Item::Place {
-        place: 1,
-        weekday: 2,
-    },
-    Item::Place {
-        place: 1,
-        weekday: 4,
-    },
-    Item::Place {
-        place: 5,
-        weekday: 0,
-    },
-    Item::Place {
-        place: -1,
-        weekday: 6,
-    },
-    Item::Place {
-        place: -5,
-        weekday: 0,
-    },
-    Item::Month(1),
-    Item::Month(12),
-    Item::YearDay(1),
-    Item::YearDay(366),
-];
-
-#[test]
-fn items_rise_by_variant_number_and_weekday(rt: HostRuntime) -> Result<(), Fail> {
-    let mut items = Items::new(rt.alloc());
-    for item in RISING_ITEMS {
-        items.put(item)?;
-    }
-    assert_eq!(rt; items.as_slice(), RISING_ITEMS.as_slice());
-    let mut backwards = Items::new(rt.alloc());
-    for item in RISING_ITEMS.into_iter().rev() {
-        backwards.put(item)?;
-        backwards.put(item)?;
-    }
-    assert_eq!(rt; backwards.as_slice(), RISING_ITEMS.as_slice());
-    Ok(())
-}
-
-#[test]
-fn lines_and_rules_are_put_at_the_end(rt: HostRuntime) -> Result<(), Fail> {
-    let alloc = rt.alloc();
-    let mut text = Bytes::of(alloc, b"RR")?;
-    text.append(b"ULE")?;
-    text.put(b':')?;
-    assert_eq!(rt; text.as_slice(), b"RRULE:".as_slice());
-    let mut lines = LineList::new(alloc);
-    for number in [3, 1] {
-        lines.put(Line {
-            number,
-            text: Bytes::new(alloc),
-        })?;
-    }
-    assert!(rt;
-        matches!(lines.as_slice(), [first, second] if first.number == 3 && second.number == 1)
     );
-    let mut used = Used::new(alloc);
-    for name in [LineName::Rrule, LineName::Dtstart] {
-        used.put(UsedLine {
-            number: 1,
-            name,
-            value: Bytes::new(alloc),
-        })?;
-    }
-    assert!(rt;
-        matches!(used.as_slice(), [first, second] if first.name == LineName::Rrule && second.name == LineName::Dtstart)
-    );
-    let mut rules = VRules::new(alloc);
-    for interval in [2, 1] {
-        rules.put(VRule {
-            family: FamilyKind::W,
-            interval,
-            items: Items::new(alloc),
-            end: End::Never,
-        })?;
-    }
-    assert!(rt;
-        matches!(rules.as_slice(), [first, second] if first.interval == 2 && second.interval == 1)
-    );
-    Ok(())
+    let said = refusal_said(alloc, Refusal::BadMember(Member::PatternType));
+    is_said(&rt, said, "BadMember, BadMember pattern.type", "BadMember");
 }

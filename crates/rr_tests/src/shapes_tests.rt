@@ -1,44 +1,48 @@
-use rr_model::{Fault, NoMemory, Refusal};
-use rr_shapes::*;
+use crate::rows::{is_said, printed};
+use rr_expand::seconds_on;
+use rr_model::{Freq, Rule};
+use rr_shapes::Shapes;
 use rr_times::TimeSet;
 use std::alloc::Global;
-use std::test::Fail;
 
 // Each second of a day.
-fn whole_day(alloc: Global) -> Result<TimeSet, NoMemory> {
-    let mut seconds = Vec::new(alloc);
-    for second in 0..86_400 {
-        seconds.push(second)?;
-    }
-    TimeSet::of(alloc, seconds.as_slice())
+fn whole_day(alloc: Global) -> Option<TimeSet> {
+    let rule = Rule::new(alloc, Freq::Secondly, 1);
+    seconds_on(alloc, &rule, 0, 0).ok()
 }
 
 // Each second of the day but this one.
-fn all_but(alloc: Global, day: &TimeSet, second: u8) -> Result<TimeSet, NoMemory> {
-    TimeSet::without(alloc, day, &TimeSet::of(alloc, &[u32::from(second)])?)
+fn all_but(alloc: Global, day: &TimeSet, second: u8) -> Option<TimeSet> {
+    let one = TimeSet::of(alloc, &[u32::from(second)]).ok()?;
+    TimeSet::without(alloc, day, &one).ok()
+}
+
+// The numbers of days that each lack one of the first seconds; none where the number is not the second.
+fn numbered(alloc: Global, day: &TimeSet) -> Option<Shapes> {
+    let mut shapes = Shapes::new(alloc);
+    for second in 0..194 {
+        let number = shapes.place(all_but(alloc, day, second)?).ok()?;
+        if number != u32::from(second) {
+            return None;
+        }
+    }
+    Some(shapes)
+}
+
+// What comes after these: one more such day, a part of the day that fits, and one of these again with its number of seconds.
+fn last_numbers(alloc: Global) -> Option<String> {
+    let day = whole_day(alloc)?;
+    let mut shapes = numbered(alloc, &day)?;
+    let refused = shapes.place(all_but(alloc, &day, 194)?);
+    let fits = shapes.place(TimeSet::cut(alloc, &day, 0, 15_810).ok()?);
+    let Ok(known) = shapes.place(all_but(alloc, &day, 7)?) else {
+        return None;
+    };
+    printed(alloc, &(refused, fits, known, shapes.times(known).len()))
 }
 
 #[test]
-fn numbers_up_to_the_limit(rt: HostRuntime) -> Result<(), Fail> {
-    let alloc = rt.alloc();
-    let day = whole_day(alloc)?;
-    let mut shapes = Shapes::new(alloc);
-    for second in 0..194 {
-        assert_eq!(rt;
-            shapes.place(all_but(alloc, &day, second)?),
-            Ok(u32::from(second))
-        );
-    }
-    assert_eq!(rt;
-        shapes.place(all_but(alloc, &day, 194)?),
-        Err(Fault::Refused(Refusal::TooManyMoments))
-    );
-    assert_eq!(rt;
-        shapes.place(TimeSet::cut(alloc, &day, 0, 15_810)?),
-        Ok(194)
-    );
-    let known = shapes.place(all_but(alloc, &day, 7)?)?;
-    assert_eq!(rt; known, 7);
-    assert_eq!(rt; shapes.times(known).len(), 86_399);
-    Ok(())
+fn numbers_up_to_the_limit(rt: HostRuntime) {
+    let wanted = "(Err(Refused(TooManyMoments)), Ok(194), 7, 86399)";
+    is_said(&rt, last_numbers(rt.alloc()), wanted, "the last numbers");
 }

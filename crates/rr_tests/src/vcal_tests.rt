@@ -1,42 +1,45 @@
-use rr_model::{DayItem, End, Fault, Freq, Kind, Series};
+// What rules of vCalendar 1.0 are in RFC 5545, and their text.
+use crate::rows::{printed, rows_hold};
 use rr_vcal::*;
 use std::alloc::Global;
-use std::test::Fail;
 
-// The series of RFC 5545 that a text states.
-fn counterpart(alloc: Global, text: &str) -> Result<Series, Fault> {
-    let series = read(alloc, text.as_bytes(), None)?;
-    Ok(to_series(alloc, &series)?)
-}
+// The fifth Fridays of months from one on, and the kind and the start of the counterpart with the frequency, BYDAY and the end of its rule.
+const COUNTERPARTS: &str = "\
+DTSTART:20240329\r~RRULE:MP1 5+ FR #3\r~|(Days, 19811, Monthly, [DayItem { place: 5, weekday: 4 }], Count(3))
+";
 
-#[test]
-fn fifth_fridays(rt: HostRuntime) -> Result<(), Fail> {
-    let series = counterpart(rt.alloc(), "DTSTART:20240329\r\nRRULE:MP1 5+ FR #3\r\n")
-        .ok()
-        .ok_or("it is read")?;
-    assert_eq!(rt; series.kind, Kind::Days);
-    assert_eq!(rt; series.start, 19_811);
-    assert_eq!(rt; series.rules.len(), 1);
-    for rule in series.rules.as_slice() {
-        assert_eq!(rt; rule.freq, Freq::Monthly);
-        let fifth = DayItem {
-            place: 5,
-            weekday: 4,
-        };
-        assert_eq!(rt; rule.by_day.as_slice(), [fifth].as_slice());
-        assert_eq!(rt; rule.end, End::Count(3));
+fn counterpart_said(alloc: Global, text: &str) -> Option<String> {
+    let series = read(alloc, text.as_bytes(), None).ok()?;
+    let series = to_series(alloc, &series).ok()?;
+    match series.rules.as_slice() {
+        [rule] => {
+            let days = rule.by_day.as_slice();
+            printed(
+                alloc,
+                &(series.kind, series.start, rule.freq, days, rule.end),
+            )
+        }
+        _ => None,
     }
-    Ok(())
+}
+
+// A text, and the same as it is written, with `~` for each line end.
+const WRITTEN: &str = "\
+DTSTART:20240131\r~RRULE:MD1 1 LD 2- #0\r~RRULE:MP2 1+ MO WE 1- FR #5 20240203\r~EXDATE:20240203\r~|\
+DTSTART:20240131~RRULE:MD1 1 LD 2- #0~RRULE:MP2 1+ MO WE 1- FR #5 20240203~EXDATE:20240203~
+";
+
+fn written_said(alloc: Global, text: &str) -> Option<String> {
+    let series = read(alloc, text.as_bytes(), None).ok()?;
+    let text = write(alloc, &series).ok()?;
+    str::from_utf8(text.as_slice())
+        .ok()?
+        .replace(alloc, "\r\n", "~")
+        .ok()
 }
 
 #[test]
-fn written(rt: HostRuntime) -> Result<(), Fail> {
-    let text =
-        "DTSTART:20240131\r\nRRULE:MD1 1 LD 2- #0\r\nRRULE:MP2 1+ MO WE 1- FR #5 20240203\r\nEXDATE:20240203\r\n";
-    let series = read(rt.alloc(), text.as_bytes(), None)
-        .ok()
-        .ok_or("it is read")?;
-    let out = write(rt.alloc(), &series).ok().ok_or("there is memory")?;
-    assert_eq!(rt; out.as_slice(), text.as_bytes());
-    Ok(())
+fn counterparts_and_texts(rt: HostRuntime) {
+    rows_hold(&rt, rt.alloc(), counterpart_said, COUNTERPARTS);
+    rows_hold(&rt, rt.alloc(), written_said, WRITTEN);
 }

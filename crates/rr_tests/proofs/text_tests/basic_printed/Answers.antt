@@ -1,10 +1,10 @@
-use Rattle.std.proofs.Common.{arith}
+use Rattle.std.proofs.Common.{◌∙◌, rules, w64, FitsSigned, to_z-of_z, arith}
 use Rattle.std.proofs.lemmas.Int.{ints}
 use Rattle.rr_model.proofs.YearLemmas.{year_1, year_10000}
 use Rattle.rr_tests.proofs.text_tests.basic_printed.Goals as goal
 
 pub push_basic-requires : goal.push_basic-requires
-push_basic-requires c = λ _. (omega (arith, ints, year_1), omega (arith, ints, year_10000))
-
-pub push_basic-requires-2 : goal.push_basic-requires-2
-push_basic-requires-2 c = λ _. (omega (arith, ints, year_1), omega (arith, ints, year_10000))
+push_basic-requires c =
+    let fits : FitsSigned w64 c.day_part-day.result = search rules in
+    let is = to_z-of_z fits ∙ c.day_part-day.ensures in
+    (omega (arith, ints, year_1, c.if-day-lt0.false, is), omega (arith, ints, year_10000, c.if-day-gt2000000.false, is))
