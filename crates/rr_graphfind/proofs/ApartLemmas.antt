@@ -32,11 +32,12 @@ use Rattle.rr_family.specs.declared.window.WindowEnd.{WindowEnd}
 use Rattle.rr_family.specs.declared.window.WindowEnd.TheVariants.{Last, Cycle}
 use Rattle.rr_family.proofs.DivisorLemmas.{divides_none, interval_divides, one_divides, one_unit}
 use Rattle.rr_family.proofs.LastingLemmas.{agreement_on_cycle_lasts}
+use Rattle.rr_family.proofs.PlaceLemmas.{one_form, one_weekday, weekday_most}
 use Rattle.rr_family.proofs.ProfileLemmas.{last_is_late}
 use Rattle.rr_family.proofs.ShiftLemmas.{pattern_repeats}
 use Rattle.rr_graphfind.specs.Order.{NoneBefore, NoneWith}
 use Rattle.rr_graphfind.specs.Search.{EndsAfter, FitsEnd, Matches, days_compared}
-use Rattle.rr_graphfind.proofs.MemberLemmas.{counts_in, day_most, form_is, one_week_day}
+use Rattle.rr_graphfind.proofs.MemberLemmas.{counts_in}
 use Rattle.rr_graphfind.proofs.OrderLemmas.{less_first, less_rest, type_bounds}
 
 -- ---- periods
@@ -130,7 +131,7 @@ module _ (s : Sketch) (w : Window) (has : HasWindow s w) (p : Pattern) (m : Matc
       ∙ counts_in p w.first d (on_pattern d l o)
 
   week_start : p.first_day < 7
-  week_start = (let most = day_most (uses_first_day p.form) p.first_day m.agrees.valid.first_day in omega (arith, most))
+  week_start = (let most = weekday_most (uses_first_day p.form) p.first_day m.agrees.valid.first_day in omega (arith, most))
 
   -- with the first day of the week that comes first, where each week counts
   abbrev from_sunday : Pattern
@@ -217,11 +218,11 @@ module _ (s : Sketch) (w : Window) (p : Pattern) (has : HasWindow s w) (valid : 
   none_left_out divisors freq known is out q same m = by_case out
     where
       same_form : q.form ≡ p.form
-      same_form = form_is q.form p.form same.1.0
+      same_form = one_form q.form p.form same.1.0
 
       same_week : q.first_day ≡ p.first_day
-      same_week = one_week_day q.first_day p.first_day (day_most (uses_first_day q.form) q.first_day m.agrees.valid.first_day)
-          (day_most (uses_first_day p.form) p.first_day valid.first_day) same.1.1.0
+      same_week = one_weekday q.first_day p.first_day (weekday_most (uses_first_day q.form) q.first_day m.agrees.valid.first_day)
+          (weekday_most (uses_first_day p.form) p.first_day valid.first_day) same.1.1.0
 
       same_divisor : divisor_of divisors (form_freq q.form) q.first_day ≡ divisor_of divisors freq p.first_day
       same_divisor = ap (λ f. divisor_of divisors (form_freq f) q.first_day) same_form ∙ ap (divisor_of divisors (form_freq p.form)) same_week
@@ -250,6 +251,6 @@ module _ (s : Sketch) (w : Window) (p : Pattern) (has : HasWindow s w) (valid : 
       some_place : 0 < (p.first_day + 1) % 7
       some_place =
           elim (cases_eq ((p.first_day + 1) % 7) 0) [
-            | inl e ↦ absurd (other (one_week_day p.first_day 6 (day_most (uses_first_day p.form) p.first_day valid.first_day) (omega arith) e))
+            | inl e ↦ absurd (other (one_weekday p.first_day 6 (weekday_most (uses_first_day p.form) p.first_day valid.first_day) (omega arith) e))
             | inr differ ↦ omega (arith, differ)
           ]

@@ -1,9 +1,8 @@
 -- The members of valid patterns, and what is known of a pattern that has all members of another.
-use Rattle.std.proofs.Common.{◌≡◌, inl, ℕ, ◌+◌, ◌%◌, ◌≤◌, ◌==◌, Bool, true}
-use Rattle.std.proofs.Common.{false, ℤ, pos, negsuc, ◌≤ℤ◌, refl, sym, ap, subst, ◌∙◌, arith, drop, if◌then◌else◌, w8, to_z, of_z}
+use Rattle.std.proofs.Common.{◌≡◌, inl, ℕ, ◌≤◌, ◌==◌, Bool, true}
+use Rattle.std.proofs.Common.{false, ℤ, pos, refl, sym, ap, subst, ◌∙◌, arith, drop, w8, to_z, of_z}
 use Rattle.std.proofs.lemmas.Int.{ints}
 use Rattle.std.proofs.lemmas.Bool.{false≢true, and_parts}
-use Rattle.std.proofs.lemmas.Nat.{div-add-mod'}
 use Rattle.rr_model.specs.Calendar.{month_of}
 use Rattle.rr_model.specs.Graph.Occurrences.{form_holds, is_pattern_day}
 use Rattle.rr_model.specs.Graph.Uses.{most_interval, uses_day_of_month, uses_days, uses_first_day, uses_index, uses_month}
@@ -11,56 +10,18 @@ use Rattle.rr_model.specs.Graph.Validity.{IsIndex, IsValidPattern, LiesIfUsed}
 use Rattle.rr_model.specs.declared.graph.Form.{Form}
 use Rattle.rr_model.specs.declared.graph.Form.TheVariants as form
 use Rattle.rr_model.specs.declared.graph.Pattern.{Pattern}
-use Rattle.rr_family.specs.GraphProfile.{form_place, index_place, pattern_key}
+use Rattle.rr_family.specs.GraphProfile.{form_place, pattern_key}
+use Rattle.rr_family.proofs.PlaceLemmas.{one_form, one_index, one_weekday, weekday_most}
 use Rattle.rr_graphfind.specs.Order.{SameMembers, least_pattern, one_if_used}
 use Rattle.rr_graphfind.specs.Search.{counts_on}
 use Rattle.rr_graphfind.proofs.OrderLemmas.{NoneLess, index_bounds}
 
 -- ---- types
 
--- the type at a place
-type_at : ℕ → Form
-type_at n =
-    if n == 0 then form.Daily
-    else (if n == 1 then form.Weekly
-    else (if n == 2 then form.AbsoluteMonthly
-    else (if n == 3 then form.RelativeMonthly
-    else (if n == 4 then form.AbsoluteYearly else form.RelativeYearly))))
-
-type_back : (f : Form) → type_at (form_place f) ≡ f
-unfolding type_at
-type_back form.Daily = refl
-type_back form.Weekly = refl
-type_back form.AbsoluteMonthly = refl
-type_back form.RelativeMonthly = refl
-type_back form.AbsoluteYearly = refl
-type_back form.RelativeYearly = refl
-
-pub form_is : (f g : Form) → form_place f ≡ form_place g → f ≡ g
-form_is f g e = sym (type_back f) ∙ ap type_at e ∙ type_back g
-
 -- what a type asks of a member, another of the same place asks too
 pub same_use : (uses : Form → Bool) (MayStand : Bool → Type 0) (f g : Form) (used : Bool) → form_place f ≡ form_place g → used ≡ uses g
     → MayStand (uses f) → MayStand used
-same_use uses MayStand f g used same is may = subst MayStand (ap uses (form_is f g same) ∙ sym is) may
-
--- ---- the first day of the week
-
-pub one_week_day : (m n : ℕ) → m ≤ 6 → n ≤ 6 → (m + 1) % 7 ≡ (n + 1) % 7 → m ≡ n
-one_week_day m n l h e =
-    let a = div-add-mod' (m + 1) 7 in
-    let b = div-add-mod' (n + 1) 7 in
-    omega (arith, a, b, l, h, e)
-
-pub day_most : (used : Bool) (n : ℕ) → LiesIfUsed used 0 6 6 n → n ≤ 6
-day_most true n h = h.1
-day_most false n h = omega (arith, h)
-
-pub one_index : (i j : ℤ) → i ≤ℤ pos 4 → j ≤ℤ pos 4 → index_place i ≡ index_place j → i ≡ j
-one_index (pos m) (pos n) l h e = ap pos e
-one_index (pos m) (negsuc n) l h e = absurd (omega (arith, ints, l, e))
-one_index (negsuc m) (pos n) l h e = absurd (omega (arith, ints, h, e))
-one_index (negsuc m) (negsuc n) l h e = (let z : m ≡ n = omega (arith, e) in ap negsuc z)
+same_use uses MayStand f g used same is may = subst MayStand (ap uses (one_form f g same) ∙ sym is) may
 
 -- ---- the least members
 
@@ -95,7 +56,7 @@ least_valid f interval l h = record {
 pub rest_of_type : (f : Form) (interval : ℕ) (other : Pattern) → IsValidPattern other → form_place other.form ≡ form_place f
     → NoneLess (drop 2 (pattern_key other)) (drop 2 (pattern_key (least_pattern f interval)))
 rest_of_type f interval other v same =
-    let e : other.form ≡ f = form_is other.form f same in (
+    let e : other.form ≡ f = one_form other.form f same in (
       omega arith,
       (
         subst (λ g. one_if_used (uses_day_of_month g) ≤ other.day_of_month) e (at_least (uses_day_of_month other.form) 31 other.day_of_month v.day_of_month),
@@ -152,14 +113,12 @@ index_as_read used index is = (let bounds = index_bounds used index is in let lo
 pub same_pattern : (p q : Pattern) → IsValidPattern p → IsValidPattern q → SameMembers 7 p q → p ≡ q
 same_pattern p q vp vq h =
     let after_type = h.1.1 in
-    let f = form_is p.form q.form h.1.0 in
-    let p_day = day_most (uses_first_day p.form) p.first_day vp.first_day in
-    let q_day = day_most (uses_first_day q.form) q.first_day vq.first_day in
-    let d = one_week_day p.first_day q.first_day p_day q_day after_type.0 in
+    let f = one_form p.form q.form h.1.0 in
+    let p_day = weekday_most (uses_first_day p.form) p.first_day vp.first_day in
+    let q_day = weekday_most (uses_first_day q.form) q.first_day vq.first_day in
+    let d = one_weekday p.first_day q.first_day p_day q_day after_type.0 in
     let after_month = after_type.1.1.1 in
-    let p_index = (index_bounds (uses_index p.form) p.index vp.index).1 in
-    let q_index = (index_bounds (uses_index q.form) q.index vq.index).1 in
-    let x = one_index p.index q.index p_index q_index after_month.0 in
+    let x = one_index (uses_index p.form) (uses_index q.form) p.index q.index vp.index vq.index after_month.0 in
     λ i. record {
       form = f i;
       interval = h.0 i;

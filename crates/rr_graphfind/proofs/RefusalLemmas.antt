@@ -16,14 +16,15 @@ use Rattle.rr_family.specs.Lasting.{is_occupied}
 use Rattle.rr_family.specs.Shift.{form_cycle}
 use Rattle.rr_family.specs.Taking.{AgreeWithin}
 use Rattle.rr_family.specs.declared.window.Window.{Window}
+use Rattle.rr_family.proofs.PlaceLemmas.{one_form}
 use Rattle.rr_graphfind.specs.Order.{IsRefusal, NoneWith, SameMembers}
 use Rattle.rr_graphfind.specs.declared.next.Group.TheVariants as group
 use Rattle.rr_graphfind.specs.Search.{FitsEnd, Matches, days_compared}
-use Rattle.rr_graphfind.proofs.MemberLemmas.{form_is, month_in, same_pattern}
+use Rattle.rr_graphfind.proofs.MemberLemmas.{month_in, same_pattern}
 
 module _ (s : Sketch) (w : Window) (p : Pattern) (cycle : ℕ) (e : cycle ≡ form_cycle p.form p.interval) where
   cycle_is : (q : Pattern) → SameMembers 2 q p → form_cycle q.form q.interval ≡ cycle
-  cycle_is q h = ap (λ z. form_cycle z q.interval) (form_is q.form p.form h.1.0) ∙ ap (form_cycle p.form) h.0 ∙ sym e
+  cycle_is q h = ap (λ z. form_cycle z q.interval) (one_form q.form p.form h.1.0) ∙ ap (form_cycle p.form) h.0 ∙ sym e
 
   -- where the cycle does not fit, none matches
   pub none_unfit : (FitsEnd w.end w.first cycle → ⊥) → NoneWith 3 p (Matches s w)
@@ -59,7 +60,7 @@ module _ (s : Sketch) (w : Window) (p : Pattern) (cycle : ℕ) (e : cycle ≡ fo
     pub none_out_of_month : (d : ℤ) → first ≤ℤ d → d <ℤ (first +ℤ pos days) → is_occupied s d ≡ true → uses_month p.form ≡ true
         → (month_of d == p.month) ≡ false → NoneWith 5 p (Matches s w)
     none_out_of_month d low high occupied uses out q h m =
-        let same_form : q.form ≡ p.form = form_is q.form p.form h.1.0 in
+        let same_form : q.form ≡ p.form = one_form q.form p.form h.1.0 in
         let agree = agrees_if q (h.0, (h.1.0, tt)) m in
         let in_month = month_in q first d (subst (λ f. uses_month f ≡ true) (sym same_form) uses) (agree d low high ∙ occupied) in
         false≢true (sym out ∙ subst (λ n. (month_of d == n) ≡ true) h.1.1.1.1.0 in_month)

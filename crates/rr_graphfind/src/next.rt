@@ -20,7 +20,7 @@ pub(crate) enum Group {
 }
 
 /// The first pattern after all those of a group, in which this one is.
-pub(crate) fn after(pattern: Pattern, group: Group) -> Option<Pattern>
+pub(crate) fn pattern_after(pattern: Pattern, group: Group) -> Option<Pattern>
     requires { IsValidPattern pattern }
     ensures { IsFirstThat (IsLater (members_of group) pattern) result }
 {

@@ -12,7 +12,6 @@ ghost use Rattle.rr_model.specs.Calendar.{IsDayWithin, month_of};
 ghost use Rattle.rr_model.specs.Graph.Counterpart.{form_freq};
 ghost use Rattle.rr_model.specs.Graph.Uses.{uses_month};
 ghost use Rattle.rr_model.specs.Graph.Validity.{IsValidPattern};
-ghost use Rattle.rr_model.specs.Sets.Sketch.{IsNearDay};
 
 use crate::agreement::{Stretch, agrees};
 use crate::next::{Group, uses_month};

@@ -8,7 +8,7 @@ ghost use Rattle.rr_graphfind.specs.Order.{IsFirstThat};
 ghost use Rattle.rr_graphfind.specs.Search.{Matches, event_of_window};
 ghost use Rattle.rr_model.specs.Sets.Sketch.{StandsIn};
 
-use crate::next::{after, least_pattern};
+use crate::next::{least_pattern, pattern_after};
 use crate::refusal::{FirstDays, refusal};
 use rr_family::{Divisors, Window, WindowEnd, divisors_of, window_of};
 use rr_model::{Form, GraphEvent, Pattern, Range, RangeEnd, Repeat, moment_at};
@@ -62,7 +62,7 @@ fn first_pattern<A: DaySeq>(seq: &A, window: &Window, divisors: &Divisors) -> Op
     let first_days = FirstDays::of(window);
     let mut pattern = least_pattern(Form::Daily, 1);
     while let Some(group) = refusal(seq, window, divisors, &first_days, &pattern) {
-        pattern = after(pattern, group)?;
+        pattern = pattern_after(pattern, group)?;
     }
     Some(pattern)
 }

@@ -4,7 +4,7 @@ use Rattle.rr_graphfind.specs.Order.{IsRefusal}
 use Rattle.rr_graphfind.specs.Search.{Matches}
 use Rattle.rr_graphfind.proofs.ApartLemmas.{ends_after, none_from_other_days, none_left_out}
 use Rattle.rr_graphfind.proofs.OrderLemmas.{type_bounds}
-use Rattle.rr_graphfind.proofs.MemberLemmas.{day_most}
+use Rattle.rr_family.proofs.PlaceLemmas.{weekday_most}
 use Rattle.rr_graphfind.proofs.RefusalLemmas.{none_out_of_month, none_unfit, refused_if}
 use Rattle.std.proofs.lemmas.Int.{ints}
 use Rattle.rr_graphfind.proofs.refusal.refusal.Goals as goal
@@ -12,7 +12,7 @@ use Rattle.rr_graphfind.proofs.refusal.refusal.Goals as goal
 pub is_passed_over-requires-clause-week : goal.is_passed_over-requires-clause-week
 is_passed_over-requires-clause-week g c =
     let p = c.args.pattern.now in
-    let most = day_most (uses_first_day p.form) p.first_day c.requires.valid.first_day in
+    let most = weekday_most (uses_first_day p.form) p.first_day c.requires.valid.first_day in
     omega (arith, most)
 
 pub is_passed_over-requires-clause-interval : goal.is_passed_over-requires-clause-interval
