@@ -1,72 +1,41 @@
 -- What is read beside the start is valid.
-use Rattle.std.proofs.Common.{◌≡◌, ℕ, false, List, Result, Ok, Err, Option, None, Some, sym, ap, ◌∙◌, subst, ℤ}
+use Rattle.std.proofs.Common.{◌≡◌, ℕ, false, List, Result, Ok, Err, Option, subst, ℤ}
 use Rattle.std.specs.Result.{IfOk}
 use Rattle.std.proofs.lemmas.List.Elements.{All-weaker}
 use Rattle.rr_model.specs.Answers.{Answers}
-use Rattle.rr_model.specs.Rule.Validity.{HasCountInRange, takes_start, IsValidRule, EndsInYears}
+use Rattle.rr_model.specs.Rule.Validity.{takes_start, IsValidRule, EndsInYears}
 use Rattle.rr_model.specs.Series.Validity.{IsValidSeries}
-use Rattle.rr_model.specs.Text.Calendars.{end_at, end_beside, rule_beside, rrule_language, series_of_event, calendar_scan, calendar_text}
+use Rattle.rr_model.specs.Text.Calendars.{end_beside, stated_rule, rule_beside, rrule_language, series_of_event, calendar_scan, calendar_text}
 use Rattle.rr_model.specs.Text.Event.{event_scan}
 use Rattle.rr_model.specs.Text.Lines.{without_mark}
-use Rattle.rr_model.specs.Text.Passes.{Stated, Event, moment_beside, passes}
+use Rattle.rr_model.specs.Text.Passes.{Stated, Event, passes}
+use Rattle.rr_model.specs.Text.Rules.{rule_of, rule_parts}
 use Rattle.rr_model.specs.declared.kind.Kind.{Kind}
 use Rattle.rr_model.specs.declared.refusal.Fault.{Fault}
 use Rattle.rr_model.specs.declared.refusal.Refusal.TheVariants.{NotAllowed}
-use Rattle.rr_model.specs.declared.rule.End.{End}
-use Rattle.rr_model.specs.declared.rule.End.TheVariants.{Until}
 use Rattle.rr_model.specs.declared.rule.Rule.{Rule}
 use Rattle.rr_model.specs.declared.rule.Series.{Series}
 use Rattle.rr_model.specs.declared.stamp.Stamp.{Stamp}
 use Rattle.rr_model.specs.declared.used.Scan.{Scan}
 use Rattle.rr_text.proofs.StepLemmas.{and_then_ok, passed}
-use Rattle.rr_ical.proofs.BesideLemmas.{moment_beside-in_years, IsReadEvent, passes-valid}
-use Rattle.rr_rrule.proofs.ValidityLemmas.{IsValidBeside, FitsUntil, stated_rule-valid}
+use Rattle.rr_ical.proofs.BesideLemmas.{IsReadEvent, passes-valid}
+use Rattle.rr_rule_parts.proofs.ValidPartsLemmas.{rule_parts-valid}
+use Rattle.rr_rule_parts.proofs.ValidityLemmas.{IsValidBeside, FitsUntil, rule_of-valid, rule_of-fits, end_beside-valid, with_end-valid}
 
 -- ---- rules
 
+stated_rule-valid : (line : ℕ) (text : List ℕ) (stated : Stated Rule) → stated_rule line text ≡ Ok stated
+    → IsValidBeside stated.rule × FitsUntil stated.until stated.rule.end
+unfolding stated_rule
+stated_rule-valid line text stated h =
+    let parts = and_then_ok (rule_parts line text) _ stated h in
+    let rule = and_then_ok (rule_of line parts.0) _ stated parts.2 in
+    let valid = rule_parts-valid line text parts.0 parts.1 in
+    let same : record { rule = rule.0; until = parts.0.until } ≡ stated = cc in
+    subst (λ (s : Stated Rule). IsValidBeside s.rule × FitsUntil s.until s.rule.end) same
+    (rule_of-valid line parts.0 rule.0 valid rule.1, rule_of-fits line parts.0 rule.0 valid.until rule.1)
+
 module _ (offset : Option ℤ) (start : Stamp) where
-  pub end_beside-valid : (line : ℕ) (until : Option Stamp) (end next : End) → FitsUntil until end → HasCountInRange end × EndsInYears end
-      → end_beside offset start line until end ≡ Ok next
-      → HasCountInRange next × EndsInYears next
-  end_beside-valid line None end next fits v h =
-      let same : end ≡ next = cc in
-      subst (λ (x : End). HasCountInRange x × EndsInYears x) same v
-  end_beside-valid line (Some stamp) end next fits v h =
-      let moment = and_then_ok (moment_beside offset start line stamp) (λ (at : ℤ). Ok (end_at end at)) next h in
-      let at : end_at end moment.0 ≡ next = cc in
-      let same : Until stamp.kind moment.0 ≡ next = ap (λ (x : End). end_at x moment.0) (sym fits.1) ∙ at in
-      subst (λ (x : End). HasCountInRange x × EndsInYears x) same (tt, moment_beside-in_years offset start line stamp moment.0 fits.0 moment.1)
-
-  pub with_end-valid : (kind : Kind) (rule : Rule) (end : End) → IsValidRule kind rule → HasCountInRange end → IsValidRule kind (record rule { end = end })
-  with_end-valid kind rule end v count = record {
-    interval_low = v.interval_low;
-    interval_high = v.interval_high;
-    months = v.months;
-    week_numbers = v.week_numbers;
-    year_days = v.year_days;
-    month_days = v.month_days;
-    days = v.days;
-    hours = v.hours;
-    minutes = v.minutes;
-    seconds = v.seconds;
-    set_positions = v.set_positions;
-    week_start = v.week_start;
-    count = count;
-    rising = record {
-      months = v.rising.months;
-      week_numbers = v.rising.week_numbers;
-      year_days = v.rising.year_days;
-      month_days = v.rising.month_days;
-      days = v.rising.days;
-      hours = v.rising.hours;
-      minutes = v.rising.minutes;
-      seconds = v.rising.seconds;
-      set_positions = v.rising.set_positions;
-    };
-    parts = v.parts;
-    start = v.start;
-  }
-
   rule_beside-valid : (line : ℕ) (stated : Stated Rule) (rule : Rule) → IsValidBeside stated.rule × FitsUntil stated.until stated.rule.end
       → rule_beside offset start line stated ≡ Ok rule
       → IsValidRule start.kind rule × EndsInYears rule.end
@@ -76,7 +45,7 @@ module _ (offset : Option ℤ) (start : Stamp) where
       let taken = passed (takes_start stated.rule.freq start.kind) (Ok (record stated.rule { end = end.0 })) NotAllowed rule end.2 in
       let same : record stated.rule { end = end.0 } ≡ rule = cc in
       let valid = v.0.0 start.kind taken.0 in
-      let ends = end_beside-valid line stated.until stated.rule.end end.0 v.1 (valid.count, v.0.1) end.1 in
+      let ends = end_beside-valid offset start line stated.until stated.rule.end end.0 v.1 (valid.count, v.0.1) end.1 in
       subst (λ (r : Rule). IsValidRule start.kind r × EndsInYears r.end) same (with_end-valid start.kind stated.rule end.0 valid ends.0, ends.1)
 
 -- ---- the series

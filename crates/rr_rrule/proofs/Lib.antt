@@ -1,9 +1,3 @@
-pub mod PlacedLemmas
-mod PartsLemmas
-pub mod BoundsLemmas
-pub mod ValidPartsLemmas
-pub mod ValidityLemmas
-pub mod ValidRisingLemmas
 mod RulePartLemmas
 mod PartOrderLemmas
 mod TextExamples

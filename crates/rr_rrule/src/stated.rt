@@ -4,10 +4,9 @@ ghost use Rattle.rr_model.specs.Answers.{Answers};
 ghost use Rattle.rr_model.specs.Text.Calendars.{stated_rule, rule_beside};
 ghost use Rattle.rr_model.specs.Text.Rules.{rule_parts};
 
-use crate::parts::parts_of;
-use crate::rule::{rule_of, takes_start};
 use rr_ical::{StatedRule, end_beside};
 use rr_model::{Fault, Refusal, Rule, RuleParts, Stamp};
+use rr_rule_parts::{parts_of, rule_of, takes_start};
 use rr_text::line_value;
 use std::alloc::Global;
 

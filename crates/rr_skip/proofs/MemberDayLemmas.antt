@@ -17,7 +17,7 @@ use Rattle.rr_model.specs.declared.rule.End.TheVariants.{Never, Until, Count, Bo
 use Rattle.rr_model.proofs.CountLemmas.{one, count_from-zero, count_from-suc, count_from-split, count_from-empty, count_from-same}
 use Rattle.rr_model.proofs.MemberLemmas.{same_kind_is}
 use Rattle.rr_model.proofs.WholeLemmas.{floor_only, floor_whole, floor_mod_below}
-use Rattle.rr_lazy.proofs.AgreeLemmas.{moment_is}
+use Rattle.rr_model.proofs.DaysAndTimesLemmas.{moment_is}
 use Rattle.rr_skip.specs.Folding.{chosen_days, days_to, is_member_day}
 use Rattle.rr_skip.specs.Members.{IsSkipMember, skip_members_to}
 use Rattle.rr_skip.specs.Months.{is_skip_chosen}
@@ -139,7 +139,7 @@ module _ (rule : SkipRule) (kind : Kind) (start t : ℤ) where
   d = day_part kind t
 
   at_own : second_part kind t ≡ second_part kind start → moment_at kind d (second_part kind start) ≡ t
-  at_own e = ap (moment_at kind d) (sym e) ∙ (moment_is kind t).1
+  at_own e = ap (moment_at kind d) (sym e) ∙ sym (moment_is kind t)
 
   pub member_day : IsSkipMember rule kind start t → (second_part kind t ≡ second_part kind start) × (is_member_day rule kind start d ≡ true)
   member_day m =

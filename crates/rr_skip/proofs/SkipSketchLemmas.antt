@@ -18,7 +18,7 @@ use Rattle.rr_model.proofs.WholeLemmas.{floor_mod_below}
 use Rattle.rr_model.proofs.YearLemmas.{four_digit_bounds}
 use Rattle.rr_days.proofs.SketchedLemmas.{times_early, times_before, times_after}
 use Rattle.rr_days.specs.Sketched.{IsWholeFold}
-use Rattle.rr_lazy.proofs.AgreeLemmas.{moment_is}
+use Rattle.rr_model.proofs.DaysAndTimesLemmas.{moment_is}
 use Rattle.rr_skip.specs.Folding.{is_occupied, sets_of, skip_sketch, AreSkipDays, IsFolding}
 use Rattle.rr_skip.specs.Members.{IsGivenBy, OccursSkipping}
 use Rattle.rr_skip.specs.Walks.{one_if}
@@ -101,8 +101,8 @@ given_is None kind start t = (
   λ e. (ap (second_part kind) e, (Decides-int_eq (day_part kind t) (day_part kind start)).1 (ap (day_part kind) e)),
   λ h. (
       let d = (Decides-int_eq (day_part kind t) (day_part kind start)).0 h.1 in
-      sym (moment_is kind t).1 ∙ ap (λ x. moment_at kind x (second_part kind t)) d ∙ ap (moment_at kind (day_part kind start)) h.0
-      ∙ (moment_is kind start).1),
+      moment_is kind t ∙ ap (λ x. moment_at kind x (second_part kind t)) d ∙ ap (moment_at kind (day_part kind start)) h.0
+      ∙ sym (moment_is kind start)),
 )
 given_is (Some rule) kind start t = (member_day rule kind start t, λ h. day_member rule kind start t h.0 h.1)
 

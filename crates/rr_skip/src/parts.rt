@@ -10,7 +10,7 @@ ghost use Rattle.rr_skip.specs.Parts.{scale_parts, scale_parts_of, skip_named, w
 
 use crate::Skip;
 use rr_model::{Fault, NumberBounds, Numbers, PartName, Refusal, RuleParts};
-use rr_rrule::{
+use rr_rule_parts::{
     have_number_form, is_present, no_parts, number_within, part_named, with_part_value,
     without_last_semicolon,
 };

@@ -9,7 +9,7 @@ use crate::parts::{ScaledParts, scale_parts};
 use crate::{Skip, SkipRule};
 use rr_ical::{Setting, StatedRule, end_beside};
 use rr_model::{Fault, Freq, Refusal};
-use rr_rrule::{end_of, rule_with};
+use rr_rule_parts::{end_of, rule_with};
 use std::alloc::Global;
 
 // Whether a rule of the frequency is read.

@@ -4,8 +4,8 @@ use Rattle.std.proofs.lemmas.Iterator.Splits.{YieldsList-from_slice_split}
 use Rattle.std.proofs.lemmas.List.{length_push}
 use Rattle.std.proofs.lemmas.Result.{err_from_is_err_and}
 use Rattle.rr_model.specs.Text.RuleValues.{pieces}
-use Rattle.rr_rrule.proofs.PartsLemmas.{with_parts-goes_on, with_parts-ends, with_parts-done}
-use Rattle.rr_rrule.proofs.parts.parts_between.Goals as goal
+use Rattle.rr_rule_parts.proofs.PartsLemmas.{with_parts-goes_on, with_parts-ends, with_parts-done}
+use Rattle.rr_rule_parts.proofs.parts.parts_between.Goals as goal
 
 pub returns-in_err-parts : goal.returns-in_err-parts
 returns-in_err-parts c =

@@ -61,8 +61,8 @@ fn is_allowed(rule: &Rule) -> bool
         && (has_part(rule) || rule.by_set_pos.is_empty())
 }
 
-/// Whether a start of this kind takes a rule of the frequency.
-pub(crate) fn takes_start(freq: Freq, kind: Kind) -> bool
+/// Whether a start of this kind takes a rule of the frequency: a date takes none finer than DAILY.
+pub fn takes_start(freq: Freq, kind: Kind) -> bool
     ensures { result ≡ takes_start freq kind }
 {
     match (freq, kind) {
@@ -107,9 +107,10 @@ pub fn rule_with(freq: Freq, end: End, parts: RuleParts) -> Rule
     }
 }
 
-/// The rule of these parts, judged after its last part.
+/// The rule of these parts, judged after its last part: `BadRule` without FREQ, `UntilAndCount` for UNTIL beside COUNT,
+/// `NotAllowed` for parts that may not stand together.
 #[tactic(auto, unfolding(rr_model::specs::Text::Rules::rule_of))]
-pub(crate) fn rule_of(line: u64, parts: RuleParts) -> Result<Rule, Refusal>
+pub fn rule_of(line: u64, parts: RuleParts) -> Result<Rule, Refusal>
     ensures { result ≡ rule_of line parts }
 {
     let freq = parts.freq.ok_or(Refusal::BadRule(line))?;

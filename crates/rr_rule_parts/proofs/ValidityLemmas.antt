@@ -1,11 +1,11 @@
 -- A rule that is read is valid beside a start that it takes.
-use Rattle.std.proofs.Common.{◌≡◌, ℕ, ◌<◌, ◌≤◌, Option, None, Some, List, Ok, subst, sym, arith}
+use Rattle.std.proofs.Common.{◌≡◌, ℕ, ◌<◌, ◌≤◌, Option, None, Some, Ok, ℤ, subst, sym, ap, ◌∙◌, arith}
 use Rattle.std.specs.Prelude.{IsTrue, unwrap_or, ok_or}
 use Rattle.std.specs.Option.{IfSome}
-use Rattle.rr_model.specs.Text.Passes.{Stated}
-use Rattle.rr_model.specs.Text.Calendars.{stated_rule}
-use Rattle.rr_model.specs.Text.Rules.{end_of, rule_with, rule_of, rule_parts}
 use Rattle.rr_model.specs.Rule.Validity.{IsCount, HasCountInRange, is_allowed, takes_start, IsValidRule, EndsInYears}
+use Rattle.rr_model.specs.Text.Calendars.{end_at, end_beside}
+use Rattle.rr_model.specs.Text.Passes.{moment_beside}
+use Rattle.rr_model.specs.Text.Rules.{end_of, rule_with, rule_of}
 use Rattle.rr_model.specs.declared.kind.Kind.{Kind}
 use Rattle.rr_model.specs.declared.refusal.Refusal.TheVariants.{BadRule, NotAllowed}
 use Rattle.rr_model.specs.declared.rule.End.{End}
@@ -16,7 +16,8 @@ use Rattle.rr_model.specs.declared.rule_parts.RuleParts.{RuleParts}
 use Rattle.rr_model.specs.declared.stamp.Stamp.{Stamp}
 use Rattle.rr_text.proofs.StepLemmas.{and_then_ok, passed, unwrap_or-keeps}
 use Rattle.rr_text.proofs.InYearsLemmas.{IsStamp}
-use Rattle.rr_rrule.proofs.ValidPartsLemmas.{ArePartsValid, rule_parts-valid}
+use Rattle.rr_ical.proofs.BesideLemmas.{moment_beside-in_years}
+use Rattle.rr_rule_parts.proofs.ValidPartsLemmas.{ArePartsValid}
 
 -- ---- the rule
 
@@ -75,7 +76,7 @@ rule_with-valid freq end parts v ends allowed = (
     interval : (1 ≤ unwrap_or parts.interval 1) × (unwrap_or parts.interval 1 ≤ 4_294_967_295)
     interval = unwrap_or-keeps (λ n. (1 ≤ n) × (n ≤ 4_294_967_295)) parts.interval 1 (omega arith, omega arith) v.interval
 
-rule_of-valid : (line : ℕ) (parts : RuleParts) (rule : Rule) → ArePartsValid parts → rule_of line parts ≡ Ok rule → IsValidBeside rule
+pub rule_of-valid : (line : ℕ) (parts : RuleParts) (rule : Rule) → ArePartsValid parts → rule_of line parts ≡ Ok rule → IsValidBeside rule
 unfolding rule_of
 rule_of-valid line parts rule v h =
     let freq = and_then_ok (ok_or parts.freq (BadRule line)) _ rule h in
@@ -84,7 +85,7 @@ rule_of-valid line parts rule v h =
     let same : rule_with freq.0 end.0 parts ≡ rule = cc in
     subst IsValidBeside same (rule_with-valid freq.0 end.0 parts v (end_of-valid parts.until parts.count end.0 v.until v.count end.1) allowed.0)
 
--- ---- the rule as its line states it
+-- ---- the end as UNTIL states it
 
 -- a moment of UNTIL is the rule's end
 abbrev pub FitsUntil : Option Stamp → End → Type 0
@@ -98,7 +99,7 @@ end_of-fits (Some stamp) None end u h =
     (u, sym e)
 end_of-fits (Some stamp) (Some n) end u h = absurd (cc)
 
-rule_of-fits : (line : ℕ) (parts : RuleParts) (rule : Rule) → IfSome parts.until IsStamp → rule_of line parts ≡ Ok rule → FitsUntil parts.until rule.end
+pub rule_of-fits : (line : ℕ) (parts : RuleParts) (rule : Rule) → IfSome parts.until IsStamp → rule_of line parts ≡ Ok rule → FitsUntil parts.until rule.end
 unfolding rule_of
 rule_of-fits line parts rule u h =
     let freq = and_then_ok (ok_or parts.freq (BadRule line)) _ rule h in
@@ -107,13 +108,48 @@ rule_of-fits line parts rule u h =
     let same : rule_with freq.0 end.0 parts ≡ rule = cc in
     subst (λ (r : Rule). FitsUntil parts.until r.end) same (end_of-fits parts.until parts.count end.0 u end.1)
 
-pub stated_rule-valid : (line : ℕ) (text : List ℕ) (stated : Stated Rule) → stated_rule line text ≡ Ok stated
-    → IsValidBeside stated.rule × FitsUntil stated.until stated.rule.end
-unfolding stated_rule
-stated_rule-valid line text stated h =
-    let parts = and_then_ok (rule_parts line text) _ stated h in
-    let rule = and_then_ok (rule_of line parts.0) _ stated parts.2 in
-    let valid = rule_parts-valid line text parts.0 parts.1 in
-    let same : record { rule = rule.0; until = parts.0.until } ≡ stated = cc in
-    subst (λ (s : Stated Rule). IsValidBeside s.rule × FitsUntil s.until s.rule.end) same
-    (rule_of-valid line parts.0 rule.0 valid rule.1, rule_of-fits line parts.0 rule.0 valid.until rule.1)
+-- ---- the end beside the start
+
+module _ (offset : Option ℤ) (start : Stamp) where
+  pub end_beside-valid : (line : ℕ) (until : Option Stamp) (end next : End) → FitsUntil until end → HasCountInRange end × EndsInYears end
+      → end_beside offset start line until end ≡ Ok next
+      → HasCountInRange next × EndsInYears next
+  end_beside-valid line None end next fits v h =
+      let same : end ≡ next = cc in
+      subst (λ (x : End). HasCountInRange x × EndsInYears x) same v
+  end_beside-valid line (Some stamp) end next fits v h =
+      let moment = and_then_ok (moment_beside offset start line stamp) (λ (at : ℤ). Ok (end_at end at)) next h in
+      let at : end_at end moment.0 ≡ next = cc in
+      let same : Until stamp.kind moment.0 ≡ next = ap (λ (x : End). end_at x moment.0) (sym fits.1) ∙ at in
+      subst (λ (x : End). HasCountInRange x × EndsInYears x) same (tt, moment_beside-in_years offset start line stamp moment.0 fits.0 moment.1)
+
+-- another end with a COUNT in its range keeps a rule valid
+pub with_end-valid : (kind : Kind) (rule : Rule) (end : End) → IsValidRule kind rule → HasCountInRange end → IsValidRule kind (record rule { end = end })
+with_end-valid kind rule end v count = record {
+  interval_low = v.interval_low;
+  interval_high = v.interval_high;
+  months = v.months;
+  week_numbers = v.week_numbers;
+  year_days = v.year_days;
+  month_days = v.month_days;
+  days = v.days;
+  hours = v.hours;
+  minutes = v.minutes;
+  seconds = v.seconds;
+  set_positions = v.set_positions;
+  week_start = v.week_start;
+  count = count;
+  rising = record {
+    months = v.rising.months;
+    week_numbers = v.rising.week_numbers;
+    year_days = v.rising.year_days;
+    month_days = v.rising.month_days;
+    days = v.rising.days;
+    hours = v.rising.hours;
+    minutes = v.rising.minutes;
+    seconds = v.rising.seconds;
+    set_positions = v.rising.set_positions;
+  };
+  parts = v.parts;
+  start = v.start;
+}
