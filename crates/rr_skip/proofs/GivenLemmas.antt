@@ -8,29 +8,29 @@ use Rattle.std.proofs.lemmas.Bool.Decides.{Decides-int_eq}
 use Rattle.std.proofs.lemmas.List.Folds.{Any-from_list_any}
 use Rattle.rr_model.specs.Moment.Units.{month_number, first_day_of_month}
 use Rattle.rr_skip.specs.Laws.{ChosenIsGiven, SomeMonthGives}
-use Rattle.rr_skip.specs.Months.{length_of_month, is_due, is_place_of_lacking, falls_at, some_falls_on, gives_day, is_day_chosen}
+use Rattle.rr_skip.specs.Months.{length_of_month, is_due, is_offset_of_lacking, falls_at, some_falls_on, gives_day, is_day_chosen}
 use Rattle.rr_skip.specs.declared.schedule.Schedule.{Schedule}
 use Rattle.rr_skip.specs.declared.series.Skip.{Skip}
 use Rattle.rr_skip.specs.declared.series.Skip.TheVariants.{Omit, Backward, Forward}
 use Rattle.rr_skip.proofs.MonthLemmas.{month_ends, length_bounds, in_month}
 
--- ---- a place on which a day falls lies in the month, or is the first after it
+-- ---- a day falls in the month, or on the first day after it
 
-lacking_within : (skip : Skip) (size : ℕ) (place : ℤ) → 1 ≤ size → is_place_of_lacking skip size place ≡ true → (pos 0 ≤ℤ place) × (place ≤ℤ pos size)
-lacking_within Omit size place some h = absurd (false≢true h)
-lacking_within Backward size place some h =
-    let e = (Decides-int_eq (place +ℤ pos 1) (pos size)).0 h in (omega (arith, ints, e), omega (arith, ints, e))
-lacking_within Forward size place some h =
-    let e = (Decides-int_eq place (pos size)).0 h in (omega (arith, ints, e), omega (arith, ints, e))
+lacking_within : (skip : Skip) (size : ℕ) (offset : ℤ) → 1 ≤ size → is_offset_of_lacking skip size offset ≡ true → (pos 0 ≤ℤ offset) × (offset ≤ℤ pos size)
+lacking_within Omit size offset some h = absurd (false≢true h)
+lacking_within Backward size offset some h =
+    let e = (Decides-int_eq (offset +ℤ pos 1) (pos size)).0 h in (omega (arith, ints, e), omega (arith, ints, e))
+lacking_within Forward size offset some h =
+    let e = (Decides-int_eq offset (pos size)).0 h in (omega (arith, ints, e), omega (arith, ints, e))
 
-pub falls_within : (skip : Skip) (size : ℕ) (place k : ℤ) → 1 ≤ size → pos 1 ≤ℤ k → falls_at skip size place k ≡ true
-    → (pos 0 ≤ℤ place) × (place ≤ℤ pos size)
-falls_within skip size place k some front h = by (int_le k (pos size)) refl h
+pub falls_within : (skip : Skip) (size : ℕ) (offset k : ℤ) → 1 ≤ size → pos 1 ≤ℤ k → falls_at skip size offset k ≡ true
+    → (pos 0 ≤ℤ offset) × (offset ≤ℤ pos size)
+falls_within skip size offset k some front h = by (int_le k (pos size)) refl h
   where
-    by : (b : Bool) → int_le k (pos size) ≡ b → cond b (int_eq (place +ℤ pos 1) k) (is_place_of_lacking skip size place) ≡ true
-        → (pos 0 ≤ℤ place) × (place ≤ℤ pos size)
-    by true low e = let f = (Decides-int_eq (place +ℤ pos 1) k).0 e in (omega (arith, ints, f), omega (arith, ints, f, low))
-    by false low e = lacking_within skip size place some e
+    by : (b : Bool) → int_le k (pos size) ≡ b → cond b (int_eq (offset +ℤ pos 1) k) (is_offset_of_lacking skip size offset) ≡ true
+        → (pos 0 ≤ℤ offset) × (offset ≤ℤ pos size)
+    by true low e = let f = (Decides-int_eq (offset +ℤ pos 1) k).0 e in (omega (arith, ints, f), omega (arith, ints, f, low))
+    by false low e = lacking_within skip size offset some e
 
 -- ---- the month that gives a day
 
@@ -38,10 +38,10 @@ module _ (schedule : Schedule) (d : ℤ) (front : All (λ k. pos 1 ≤ℤ k) sch
   given_near : (n : ℤ) → gives_day schedule n d ≡ true → (first_day_of_month n ≤ℤ d) × (d ≤ℤ first_day_of_month (n +ℤ pos 1))
   given_near n h =
       let p = and_parts (is_due schedule n) (some_falls_on schedule n d) h in
-      let place : ℤ = d -ℤ first_day_of_month n in
-      let any = Any-from_list_any (λ k. falls_at schedule.skip (length_of_month n) place k) schedule.days p.1 in
+      let offset : ℤ = d -ℤ first_day_of_month n in
+      let any = Any-from_list_any (λ k. falls_at schedule.skip (length_of_month n) offset k) schedule.days p.1 in
       let own : pos 1 ≤ℤ any.1 = subst (λ z. pos 1 ≤ℤ z) any.3 (front any.0 any.1 any.2) in
-      let w = falls_within schedule.skip (length_of_month n) place any.1 (omega (arith, length_bounds n)) own any.4 in
+      let w = falls_within schedule.skip (length_of_month n) offset any.1 (omega (arith, length_bounds n)) own any.4 in
       (omega (arith, ints, w.0), omega (arith, ints, w.1, month_ends n))
 
   month_of_given : (n : ℤ) → gives_day schedule n d ≡ true → (n ≡ month_number d) ⊎ (n ≡ month_number d -ℤ pos 1)

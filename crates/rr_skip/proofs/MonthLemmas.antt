@@ -57,7 +57,7 @@ in_month d n = units_are_stretches Monthly 0 Days d n
 pub first_in_month : (n : ℤ) → month_number (first_day_of_month n) ≡ n
 first_in_month n = (in_month (first_day_of_month n) n).1 (omega (arith, ints), omega (arith, ints, month_ends n, length_bounds n))
 
--- a month's year, its number there, and a day's place in it
+-- a month's year, its number there, and a day's offset in it
 pub year_of_month : (d : ℤ) → floor_div (month_number d) 12 ≡ year_of d
 year_of_month d =
     let date = IsDate-year_of d in
@@ -73,8 +73,8 @@ pub length_of_own : (d : ℤ) → length_of_month (month_number d) ≡ days_in_m
 length_of_own d = rw (year_of_month d, month_in_year d) refl
 
 -- how many days the day lies after the first of its month
-pub place_in_month : (d : ℤ) → (d -ℤ first_day_of_month (month_number d)) +ℤ pos 1 ≡ pos (day_of_month d)
-place_in_month d =
+pub offset_in_month : (d : ℤ) → (d -ℤ first_day_of_month (month_number d)) +ℤ pos 1 ≡ pos (day_of_month d)
+offset_in_month d =
     let date = IsDate-year_of d in
     let y = year_of d in
     let p = month_of d - 1 in

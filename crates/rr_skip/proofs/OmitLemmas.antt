@@ -36,7 +36,7 @@ use Rattle.rr_skip.specs.Validity.{HasMonthPartsAlone, takes_skip}
 use Rattle.rr_skip.specs.declared.schedule.Schedule.{Schedule}
 use Rattle.rr_skip.specs.declared.series.Skip.TheVariants.{Omit}
 use Rattle.rr_skip.specs.declared.series.SkipRule.{SkipRule}
-use Rattle.rr_skip.proofs.MonthLemmas.{month_ends, in_month, year_of_month, month_in_year, length_of_own, place_in_month}
+use Rattle.rr_skip.proofs.MonthLemmas.{month_ends, in_month, year_of_month, month_in_year, length_of_own, offset_in_month}
 
 -- ---- lists
 
@@ -96,19 +96,19 @@ unit_same Hourly w kind t taken = absurd (false≢true taken)
 unit_same Daily w kind t taken = absurd (false≢true taken)
 unit_same Weekly w kind t taken = absurd (false≢true taken)
 
--- a day of a month falls at its own place alone
-falls_own : (many : ℕ) (place k : ℤ) (dom : ℕ) → place +ℤ pos 1 ≡ pos dom → dom ≤ many → falls_at Omit many place k ≡ int_eq k (pos dom)
-falls_own many place k dom e low = by (int_le k (pos many)) refl
+-- a day of a month falls at its own offset alone
+falls_own : (many : ℕ) (offset k : ℤ) (dom : ℕ) → offset +ℤ pos 1 ≡ pos dom → dom ≤ many → falls_at Omit many offset k ≡ int_eq k (pos dom)
+falls_own many offset k dom e low = by (int_le k (pos many)) refl
   where
-    by : (b : Bool) → int_le k (pos many) ≡ b → cond b (int_eq (place +ℤ pos 1) k) false ≡ int_eq k (pos dom)
+    by : (b : Bool) → int_le k (pos many) ≡ b → cond b (int_eq (offset +ℤ pos 1) k) false ≡ int_eq k (pos dom)
     by true l = grind (arith, ints, e)
     by false l = grind (arith, ints)
 
 -- and at none past its month
-falls_past : (many : ℕ) (place k : ℤ) → pos many ≤ℤ place → falls_at Omit many place k ≡ false
-falls_past many place k past = by (int_le k (pos many)) refl
+falls_past : (many : ℕ) (offset k : ℤ) → pos many ≤ℤ offset → falls_at Omit many offset k ≡ false
+falls_past many offset k past = by (int_le k (pos many)) refl
   where
-    by : (b : Bool) → int_le k (pos many) ≡ b → cond b (int_eq (place +ℤ pos 1) k) false ≡ false
+    by : (b : Bool) → int_le k (pos many) ≡ b → cond b (int_eq (offset +ℤ pos 1) k) false ≡ false
     by true l = grind (arith, ints)
     by false l = refl
 
@@ -217,7 +217,7 @@ module _ (rule : Rule) (kind : Kind) (start t : ℤ) (taken : IsTrue (takes_skip
       let n = month_number day in
       let low : day_of_month day ≤ length_of_month n = omega (arith, (IsDate-year_of day).3, length_of_own day) in
       any_same (falls_at Omit (length_of_month n) (day -ℤ first_day_of_month n)) (λ k. int_eq k (pos (day_of_month day))) full.by_month_day
-      (λ i x l. falls_own (length_of_month n) (day -ℤ first_day_of_month n) _ (day_of_month day) (place_in_month day) low)
+      (λ i x l. falls_own (length_of_month n) (day -ℤ first_day_of_month n) _ (day_of_month day) (offset_in_month day) low)
 
   some_past : some_falls_on schedule (month_number day -ℤ pos 1) day ≡ false
   some_past =

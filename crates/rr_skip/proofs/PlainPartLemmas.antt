@@ -13,7 +13,7 @@ use Rattle.rr_model.specs.declared.rule_parts.PartName.{PartName}
 use Rattle.rr_model.specs.declared.rule_parts.PartName.TheVariants as part
 use Rattle.rr_model.specs.declared.rule_parts.RuleParts.{RuleParts}
 use Rattle.rr_text.proofs.StepLemmas.{and_then_ok, ok_or_ok, passed, not_refused}
-use Rattle.rr_skip.specs.Parts.{is_taken, taken, scale_part_named, has_scale_part, with_scale, is_scale_name, skip_named, front_day, front_days, with_taken_value, with_scale_value}
+use Rattle.rr_skip.specs.Parts.{is_taken, taken_part, scale_part_named, has_scale_part, with_scale, is_scale_name, skip_named, front_day, front_days, with_taken_value, with_scale_value}
 use Rattle.rr_skip.specs.Parts.{with_scale_part, no_scale_parts, scale_parts_of, scale_parts}
 use Rattle.rr_skip.specs.TextLaws.{is_plain_name, is_plain_part, IsWithoutScale}
 use Rattle.rr_skip.specs.declared.parts.ScalePart.{ScalePart}
@@ -81,18 +81,18 @@ abbrev IsNamedBy : Bool → Result PartName Refusal → ScalePart → Type 0
 IsNamedBy true named y = IsScale y
 IsNamedBy false named y = (name : PartName) × (named ≡ Ok name) × (y ≡ Of name)
 
-taken-same : (name : PartName) (y : ScalePart) → taken name ≡ Ok y → y ≡ Of name
-taken-same name y h =
+taken_part-same : (name : PartName) (y : ScalePart) → taken_part name ≡ Ok y → y ≡ Of name
+taken_part-same name y h =
     let p = passed (is_taken name) (Ok (Of name)) Extended y h in
     cc
 
-by_name : (a b : Bool) (named : Result PartName Refusal) (y : ScalePart) → (if a then Ok Scale else (if b then Ok Skipping else (named >>= taken))) ≡ Ok y
+by_name : (a b : Bool) (named : Result PartName Refusal) (y : ScalePart) → (if a then Ok Scale else (if b then Ok Skipping else (named >>= taken_part))) ≡ Ok y
     → IsNamedBy (a || b) named y
 by_name true b named y h = (let e : Scale ≡ y = cc in subst IsScale e tt)
 by_name false true named y h = (let e : Skipping ≡ y = cc in subst IsScale e tt)
 by_name false false named y h =
-    let name = and_then_ok named taken y h in
-    (name.0, name.1, taken-same name.0 y name.2)
+    let name = and_then_ok named taken_part y h in
+    (name.0, name.1, taken_part-same name.0 y name.2)
 
 named-by : (line : ℕ) (name : List ℕ) (y : ScalePart) → scale_part_named line name ≡ Ok y
     → IsNamedBy (is_extension name) (ok_or (part_named name) (BadRule line)) y

@@ -109,10 +109,10 @@ AreStarts (line ∷ lines) = (line.name ≡ Dtstart) × AreStarts lines
 abbrev with_rule_line : List UsedLine → ℕ → List ℕ → List UsedLine → List UsedLine
 with_rule_line before number value after = before ++ used_line number Rrule value ∷ after
 
-unread_none : (place : ℕ) (refusal : Option Refusal) (rest : Option Unread) → option_or (unread_at place refusal) rest ≡ None
+unread_none : (index : ℕ) (refusal : Option Refusal) (rest : Option Unread) → option_or (unread_at index refusal) rest ≡ None
     → (refusal ≡ None) × (rest ≡ None)
-unread_none place None rest h = (refl, h)
-unread_none place (Some refusal) rest h = absurd (cc)
+unread_none index None rest h = (refl, h)
+unread_none index (Some refusal) rest h = absurd (cc)
 
 start_behind : (name : LineName) → line_refusal true name ≡ None → name ≡ Dtstart
 start_behind Dtstart h = refl
@@ -122,37 +122,37 @@ start_behind Exdate h = absurd (cc)
 start_behind Exrule h = absurd (cc)
 
 -- behind a rule each line that is read is a start
-starts_behind : (place : ℕ) (lines : List UsedLine) → first_unread true place lines ≡ None → AreStarts lines
-starts_behind place [] h = tt
-starts_behind place (line ∷ lines) h =
-    let one = unread_none place (line_refusal true line.name) _ h in
-    (start_behind line.name one.0, starts_behind (place + 1) lines one.1)
+starts_behind : (index : ℕ) (lines : List UsedLine) → first_unread true index lines ≡ None → AreStarts lines
+starts_behind index [] h = tt
+starts_behind index (line ∷ lines) h =
+    let one = unread_none index (line_refusal true line.name) _ h in
+    (start_behind line.name one.0, starts_behind (index + 1) lines one.1)
 
 no_rule_line : (before after : List UsedLine) (number : ℕ) (value : List ℕ) → AreStarts (with_rule_line before number value after) → Rrule ≡ Dtstart
 no_rule_line [] after number value are = are.0
 no_rule_line (line ∷ before) after number value are = no_rule_line before after number value are.1
 
 -- a line before a rule, where each line is read
-start_before : (place : ℕ) (name : LineName) (before after : List UsedLine) (number : ℕ) (value : List ℕ)
-    → (first_unread false (place + 1) (with_rule_line before number value after) ≡ None → AreStarts before × AreStarts after)
-    → line_refusal false name ≡ None → first_unread (is_rule name) (place + 1) (with_rule_line before number value after) ≡ None
+start_before : (index : ℕ) (name : LineName) (before after : List UsedLine) (number : ℕ) (value : List ℕ)
+    → (first_unread false (index + 1) (with_rule_line before number value after) ≡ None → AreStarts before × AreStarts after)
+    → line_refusal false name ≡ None → first_unread (is_rule name) (index + 1) (with_rule_line before number value after) ≡ None
     → ((name ≡ Dtstart) × AreStarts before) × AreStarts after
-start_before place Dtstart before after number value later free rest = ((refl, (later rest).0), (later rest).1)
-start_before place Rrule before after number value later free rest =
-    let never : Rrule ≡ Dtstart = no_rule_line before after number value (starts_behind (place + 1) (with_rule_line before number value after) rest) in
+start_before index Dtstart before after number value later free rest = ((refl, (later rest).0), (later rest).1)
+start_before index Rrule before after number value later free rest =
+    let never : Rrule ≡ Dtstart = no_rule_line before after number value (starts_behind (index + 1) (with_rule_line before number value after) rest) in
     absurd (cc)
-start_before place Rdate before after number value later free rest = absurd (cc)
-start_before place Exdate before after number value later free rest = absurd (cc)
-start_before place Exrule before after number value later free rest = absurd (cc)
+start_before index Rdate before after number value later free rest = absurd (cc)
+start_before index Exdate before after number value later free rest = absurd (cc)
+start_before index Exrule before after number value later free rest = absurd (cc)
 
 -- and so is each one before it
-starts_around : (place : ℕ) (before after : List UsedLine) (number : ℕ) (value : List ℕ)
-    → first_unread false place (with_rule_line before number value after) ≡ None → AreStarts before × AreStarts after
-starts_around place [] after number value h =
-    (tt, starts_behind (place + 1) after (unread_none place None _ h).1)
-starts_around place (line ∷ before) after number value h =
-    let one = unread_none place (line_refusal false line.name) _ h in
-    start_before place line.name before after number value (starts_around (place + 1) before after number value) one.0 one.1
+starts_around : (index : ℕ) (before after : List UsedLine) (number : ℕ) (value : List ℕ)
+    → first_unread false index (with_rule_line before number value after) ≡ None → AreStarts before × AreStarts after
+starts_around index [] after number value h =
+    (tt, starts_behind (index + 1) after (unread_none index None _ h).1)
+starts_around index (line ∷ before) after number value h =
+    let one = unread_none index (line_refusal false line.name) _ h in
+    start_before index line.name before after number value (starts_around (index + 1) before after number value) one.0 one.1
 
 -- ---- both passes, in a language of rules
 
@@ -297,7 +297,7 @@ all_read : (scan : Scan) (unread : Option Unread) (event : Event SkipRule) (offs
     → passes skip_language (skip_rule_beside offset) offset (lines_until scan unread) ≡ Ok event → unread ≡ None
 all_read scan None event offset h = refl
 all_read scan (Some unread) event offset h =
-    let read = and_then_ok (first_pass skip_language nothing_read (take unread.place scan.used))
+    let read = and_then_ok (first_pass skip_language nothing_read (take unread.index scan.used))
     (behind_first offset (lines_until scan (Some unread))) event h in
     let never : ◌≡◌ {A = Result (Event SkipRule) Refusal} (Err unread.refusal) (Ok event) = read.2 in
     absurd (cc)

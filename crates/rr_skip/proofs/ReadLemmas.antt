@@ -42,7 +42,7 @@ use Rattle.rr_rule_parts.proofs.ValidPartsLemmas.{ArePartsValid, no_parts-valid,
 use Rattle.rr_rule_parts.proofs.ValidRisingLemmas.{Rises-list_of}
 use Rattle.rr_rule_parts.proofs.ValidityLemmas.{IsValidBeside, FitsUntil, end_of-valid, rule_with-valid, end_of-fits, end_beside-valid, with_end-valid}
 use Rattle.rr_skip.specs.Months.{is_skip_chosen}
-use Rattle.rr_skip.specs.Parts.{is_taken, taken, scale_part_named, has_scale_part, with_scale, is_scale_name, skip_named, front_day, front_days, with_taken_value, with_scale_value}
+use Rattle.rr_skip.specs.Parts.{is_taken, taken_part, scale_part_named, has_scale_part, with_scale, is_scale_name, skip_named, front_day, front_days, with_taken_value, with_scale_value}
 use Rattle.rr_skip.specs.Parts.{with_scale_part, no_scale_parts, scale_parts_of, is_scaled, skip_rule_of, scale_parts}
 use Rattle.rr_skip.specs.Reading.{stated_skip, skip_language, skip_rule_beside, unless_refused, start_refusal, judged_skip, judged_if_some}
 use Rattle.rr_skip.specs.Reading.{lines_read, skip_scan, skip_text}
@@ -164,8 +164,8 @@ either_taken : (a : Bool) (x y : ScalePart) (m : Result ScalePart Refusal) → I
 either_taken true x y m t f h = let same : x ≡ y = cc in subst IsTakenPart same t
 either_taken false x y m t f h = f h
 
-taken-taken : (name : PartName) (y : ScalePart) → taken name ≡ Ok y → IsTakenPart y
-taken-taken name y h =
+taken_part-taken : (name : PartName) (y : ScalePart) → taken_part name ≡ Ok y → IsTakenPart y
+taken_part-taken name y h =
     let p = passed (is_taken name) (Ok (Of name)) Extended y h in
     let same : Of name ≡ y = cc in
     subst IsTakenPart same p.0
@@ -173,8 +173,8 @@ taken-taken name y h =
 named-taken : (line : ℕ) (name : List ℕ) (y : ScalePart) → scale_part_named line name ≡ Ok y → IsTakenPart y
 unfolding scale_part_named
 named-taken line name y =
-    either_taken _ Scale y _ tt (either_taken _ Skipping y _ tt (λ h. (let p = and_then_ok (ok_or (part_named name) (BadRule line)) taken y h in
-    taken-taken p.0 y p.2)))
+    either_taken _ Scale y _ tt (either_taken _ Skipping y _ tt (λ h. (let p = and_then_ok (ok_or (part_named name) (BadRule line)) taken_part y h in
+    taken_part-taken p.0 y p.2)))
 
 -- ---- the parts, one after the other
 

@@ -41,11 +41,11 @@ module _ (n c : ℤ) where
   year-cycle : floor_div (n +ℤ (pos 4_800 *ℤ c)) 12 ≡ floor_div n 12 +ℤ (pos 400 *ℤ c)
   year-cycle = ap (λ z. floor_div z 12) as_years ∙ floor_div-add n (pos 400 *ℤ c) 12 (omega arith)
 
-  place-cycle : month_of_year (n +ℤ (pos 4_800 *ℤ c)) ≡ month_of_year n
-  place-cycle = ap (λ z. floor_mod z 12 + 1) as_years ∙ ap (λ z. z + 1) (floor_mod-add n (pos 400 *ℤ c) 12 (omega arith))
+  number-cycle : month_of_year (n +ℤ (pos 4_800 *ℤ c)) ≡ month_of_year n
+  number-cycle = ap (λ z. floor_mod z 12 + 1) as_years ∙ ap (λ z. z + 1) (floor_mod-add n (pos 400 *ℤ c) 12 (omega arith))
 
   length-cycle : length_of_month (n +ℤ (pos 4_800 *ℤ c)) ≡ length_of_month n
-  length-cycle = rw (place-cycle, year-cycle) ((calendar_repeats.years c (floor_div n 12)).days_in_months (month_of_year n))
+  length-cycle = rw (number-cycle, year-cycle) ((calendar_repeats.years c (floor_div n 12)).days_in_months (month_of_year n))
 
   first-cycle : first_day_of_month (n +ℤ (pos 4_800 *ℤ c)) ≡ first_day_of_month n +ℤ (pos 146_097 *ℤ c)
   first-cycle = unit_start-shift Monthly 0 Days (pos 146_097 *ℤ c) (pos 4_800 *ℤ c) (c, (refl, refl)) n
@@ -62,8 +62,8 @@ KeepsDue schedule c = (n : ℤ) → is_due schedule (n +ℤ (pos 4_800 *ℤ c)) 
 module _ (schedule : Schedule) (c : ℤ) (keeps : KeepsDue schedule c) where
   gives-cycle : (n d : ℤ) → gives_day schedule (n +ℤ (pos 4_800 *ℤ c)) (d +ℤ (pos 146_097 *ℤ c)) ≡ gives_day schedule n d
   gives-cycle n d =
-      let place : (d +ℤ (pos 146_097 *ℤ c)) -ℤ first_day_of_month (n +ℤ (pos 4_800 *ℤ c)) ≡ d -ℤ first_day_of_month n = omega (arith, ints, first-cycle n c) in
-      rw (keeps n, length-cycle n c, place) refl
+      let offset : (d +ℤ (pos 146_097 *ℤ c)) -ℤ first_day_of_month (n +ℤ (pos 4_800 *ℤ c)) ≡ d -ℤ first_day_of_month n = omega (arith, ints, first-cycle n c) in
+      rw (keeps n, length-cycle n c, offset) refl
 
   pub day-cycle : (d : ℤ) → is_day_chosen schedule (d +ℤ (pos 146_097 *ℤ c)) ≡ is_day_chosen schedule d
   unfolding is_day_chosen
@@ -110,7 +110,7 @@ module _ (schedule : Schedule) (days : ℕ) (some : 1 ≤ schedule.interval) (wh
       let u = unit_of_month schedule.freq n in
       let e : unit_of_month schedule.freq (n +ℤ (pos 4_800 *ℤ whole.cycles)) -ℤ schedule.start_unit
       ≡ (u -ℤ schedule.start_unit) +ℤ (whole.intervals *ℤ pos schedule.interval) = omega (arith, ints, whole.of_units n) in
-      rw (e, divides-add schedule.interval (u -ℤ schedule.start_unit) whole.intervals some, place-cycle n whole.cycles) refl
+      rw (e, divides-add schedule.interval (u -ℤ schedule.start_unit) whole.intervals some, number-cycle n whole.cycles) refl
 
   pub days_repeat : (d : ℤ) → is_day_chosen schedule (d +ℤ pos days) ≡ is_day_chosen schedule d
   days_repeat d = ap (λ z. is_day_chosen schedule (d +ℤ z)) whole.of_days ∙ day-cycle schedule whole.cycles keeps_due d

@@ -49,17 +49,17 @@ schedule_of rule start_day = record {
 abbrev pub is_due : Schedule → ℤ → Bool
 is_due schedule n = divides schedule.interval (unit_of_month schedule.freq n -ℤ schedule.start_unit) && allows schedule.months (pos (month_of_year n))
 
--- ---- days of a month, by their places from 0 at its first day
+-- ---- days of a month, by their offsets from its first day
 
--- a listed day that a month of `size` days lacks falls at the place
-abbrev pub is_place_of_lacking : Skip → ℕ → ℤ → Bool
-is_place_of_lacking Omit size place = false
-is_place_of_lacking Backward size place = int_eq (place +ℤ pos 1) (pos size)
-is_place_of_lacking Forward size place = int_eq place (pos size)
+-- a listed day that a month of `size` days lacks falls at the offset
+abbrev pub is_offset_of_lacking : Skip → ℕ → ℤ → Bool
+is_offset_of_lacking Omit size offset = false
+is_offset_of_lacking Backward size offset = int_eq (offset +ℤ pos 1) (pos size)
+is_offset_of_lacking Forward size offset = int_eq offset (pos size)
 
--- the k-th day of a month of `size` days falls at the place
+-- the k-th day of a month of `size` days falls at the offset
 abbrev pub falls_at : Skip → ℕ → ℤ → ℤ → Bool
-falls_at skip size place k = if int_le k (pos size) then int_eq (place +ℤ pos 1) k else is_place_of_lacking skip size place
+falls_at skip size offset k = if int_le k (pos size) then int_eq (offset +ℤ pos 1) k else is_offset_of_lacking skip size offset
 
 -- some listed day of the month falls on d
 abbrev pub some_falls_on : Schedule → ℤ → ℤ → Bool

@@ -36,14 +36,14 @@ is_taken part.ByMonth = true
 is_taken name = false
 
 -- a part of RFC 5545, where it is read
-abbrev pub taken : PartName → Result ScalePart Refusal
-taken name = if is_taken name then Ok (Of name) else Err Extended
+abbrev pub taken_part : PartName → Result ScalePart Refusal
+taken_part name = if is_taken name then Ok (Of name) else Err Extended
 
 -- the part of a name
 unfoldable pub scale_part_named : ℕ → List ℕ → Result ScalePart Refusal
 scale_part_named line name =
     if bytes_eq name (codes "RSCALE") then Ok Scale
-    else (if bytes_eq name (codes "SKIP") then Ok Skipping else (ok_or (part_named name) (BadRule line) >>= λ part. taken part))
+    else (if bytes_eq name (codes "SKIP") then Ok Skipping else (ok_or (part_named name) (BadRule line) >>= λ part. taken_part part))
 
 -- the part is present
 abbrev pub has_scale_part : ScaledParts → ScalePart → Bool

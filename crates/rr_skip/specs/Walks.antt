@@ -41,9 +41,9 @@ pub record IsWalked (test : ℤ → Bool) (first : ℤ) (end most : ℕ) (walk :
   pub few : length walk.numbers.items ≤ end
   pub done : (walk.left ≡ 0) ⊎ (length walk.numbers.items ≡ end)
 
--- `place` days are walked, and the day after them lies in the month of the turn, or is the first one after it
-pub record IsReached (schedule : Schedule) (first : ℤ) (place most : ℕ) (turn : Turn) (walk : Walk) : Type 0 where
+-- the days before that of this index are walked, and that day lies in the month of the turn, or is the first one after it
+pub record IsReached (schedule : Schedule) (first : ℤ) (index most : ℕ) (turn : Turn) (walk : Walk) : Type 0 where
   pub is_walk : IsWalk (is_day_chosen schedule) first most walk
-  pub whole : length walk.numbers.items ≡ place
+  pub whole : length walk.numbers.items ≡ index
   pub turn_is : IsTurn schedule turn
-  pub day : IsReachedIn turn.month.number (first +ℤ pos place)
+  pub day : IsReachedIn turn.month.number (first +ℤ pos index)

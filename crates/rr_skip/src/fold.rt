@@ -5,7 +5,7 @@ ghost use Rattle.rr_model.specs.Bounds.{first_day_of_all};
 ghost use Rattle.rr_model.specs.Answers.{RefusedExactlyWhere};
 ghost use Rattle.rr_model.specs.Moment.{day_part, second_part};
 ghost use Rattle.rr_model.specs.Rule.Cycle.{rule_cycle};
-ghost use Rattle.rr_model.specs.Moment.Years.{HasFourDigitYear, IsInYears};
+ghost use Rattle.rr_model.specs.Moment.Years.{IsInYears};
 ghost use Rattle.rr_model.specs.Series.Cycle.{endless_cycle};
 ghost use Rattle.rr_model.specs.Sets.Sketch.{StandsFor};
 ghost use Rattle.rr_model.specs.declared.refusal.Refusal.TheVariants.{CountedTooFar};
@@ -17,7 +17,7 @@ ghost use Rattle.rr_skip.specs.Walks.{IsWalked};
 ghost use Rattle.rr_skip.specs.Validity.{FitsSkipping, IsSoundSkipping};
 
 use crate::schedule::Schedule;
-use crate::walk::{Walk, day_at, walked};
+use crate::walk::{Walk, day_at, walk_days};
 use crate::{SkipRule, SkipSeries};
 use rr_days::{Folded, sequence_of_numbers};
 use rr_model::{End, Fault, Kind, MAX_SPAN_DAYS, NoMemory, Refusal, day_part, second_part};
@@ -74,7 +74,7 @@ fn walk_of(
 {
     let first = day_in_years(kind, start);
     let schedule = Schedule::new(alloc, rule, first)?;
-    walked(alloc, &schedule, first, end, most)
+    walk_days(alloc, &schedule, first, end, most)
 }
 
 // The days of an endless rule: the start's, and those of one cycle after it.
@@ -273,13 +273,13 @@ pub fn fold_skip(alloc: Global, series: &SkipSeries) -> Result<Folded, Fault>
     ensures refused { RefusedExactlyWhere (IsSkippedTooFar series.now) CountedTooFar result }
 {
     match days_of(alloc, series) {
-        Ok(days) => Ok(folded(alloc, series.kind, series.start, days)?),
+        Ok(days) => Ok(fold_of_days(alloc, series.kind, series.start, days)?),
         Err(fault) => Err(fault),
     }
 }
 
 // The numbered days with the start's second on each that is occupied.
-fn folded(alloc: Global, kind: Kind, start: i64, days: SkipDays) -> Result<Folded, NoMemory>
+fn fold_of_days(alloc: Global, kind: Kind, start: i64, days: SkipDays) -> Result<Folded, NoMemory>
     requires start { IsInYears kind start }
     requires days { IsFolding kind start days }
     ensures { IfOk result (λ f. ⟦<Folded as DaySeq>⟧.sketch f ≡ skip_sketch kind start days) }

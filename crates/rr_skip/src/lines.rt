@@ -9,7 +9,7 @@ use std::alloc::Global;
 #[derive(Clone, Copy, Debug, PartialEq, Eq)]
 pub(crate) struct Unread {
     /// How many lines stand before it.
-    pub(crate) place: usize,
+    pub(crate) index: usize,
     /// Why it is not.
     pub(crate) refusal: Refusal,
 }
@@ -41,22 +41,22 @@ fn has_rule_behind(has_rule: bool, name: LineName) -> bool
 // The first line that is not read.
 fn first_unread(lines: &[UsedLine]) -> Option<Unread>
     ensures value { result ≡ first_unread false 0 lines.now }
-    ensures within { IfSome result (λ unread. unread.place ≤ length lines.now) }
+    ensures within { IfSome result (λ unread. unread.index ≤ length lines.now) }
 {
     let mut has_rule = false;
-    let mut place = 0usize;
+    let mut index = 0usize;
     for line in lines {
         if let Some(refusal) = line_refusal(has_rule, line.name) {
-            return Some(Unread { place, refusal });
+            return Some(Unread { index, refusal });
         }
         has_rule = has_rule_behind(has_rule, line.name);
-        place += 1;
+        index += 1;
     }
     None
 }
 
 // A copy of lines.
-fn copied(alloc: Global, lines: &[UsedLine]) -> Result<Used, NoMemory>
+fn copy_of(alloc: Global, lines: &[UsedLine]) -> Result<Used, NoMemory>
     ensures { IfOk result (λ used. used ≡ lines.now) }
 {
     let mut used = Used::new(alloc);
@@ -77,7 +77,7 @@ pub(crate) fn lines_read(alloc: Global, scan: Scan) -> Result<Scan, NoMemory>
     match first_unread(scan.used.as_slice()) {
         None => Ok(scan),
         Some(unread) => Ok(Scan {
-            used: copied(alloc, &scan.used.as_slice()[..unread.place])?,
+            used: copy_of(alloc, &scan.used.as_slice()[..unread.index])?,
             stop: Some(unread.refusal),
         }),
     }

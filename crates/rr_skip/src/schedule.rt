@@ -3,7 +3,7 @@ ghost use Rattle.std.specs.Prelude.{◌≡◌, ◌≤◌, IfOk, pos};
 ghost use Rattle.std.specs.List.{list_any};
 ghost use Rattle.rr_model.specs.Calendar.{IsDayWithin};
 ghost use Rattle.rr_model.specs.Rule.Filled.{filled_part};
-ghost use Rattle.rr_skip.specs.Months.{falls_at, is_due, is_place_of_lacking, month_of_year, schedule_of, some_falls_on, unit_of_month};
+ghost use Rattle.rr_skip.specs.Months.{falls_at, is_due, is_offset_of_lacking, month_of_year, schedule_of, some_falls_on, unit_of_month};
 
 use crate::months::Month;
 use crate::{Skip, SkipRule};
@@ -64,26 +64,26 @@ fn filled_part(
     values.copy(alloc)
 }
 
-// Whether a listed day that a month of this length lacks falls at a place, counted from 0 at the month's first day.
-fn is_place_of_lacking(skip: Skip, length: u16, place: i64) -> bool
-    ensures { result ≡ is_place_of_lacking skip length place }
+// Whether a listed day that a month of this length lacks falls `offset` days after the month's first.
+fn is_offset_of_lacking(skip: Skip, length: u16, offset: i64) -> bool
+    ensures { result ≡ is_offset_of_lacking skip length offset }
 {
     match skip {
         Skip::Omit => false,
-        Skip::Backward => place == i64::from(length) - 1,
-        Skip::Forward => place == i64::from(length),
+        Skip::Backward => offset == i64::from(length) - 1,
+        Skip::Forward => offset == i64::from(length),
     }
 }
 
-// Whether the k-th day of a month of this length falls at a place.
-fn falls_at(skip: Skip, length: u16, place: i64, k: i16) -> bool
-    ensures { result ≡ falls_at skip length place k }
+// Whether the k-th day of a month of this length falls `offset` days after its first.
+fn falls_at(skip: Skip, length: u16, offset: i64, k: i16) -> bool
+    ensures { result ≡ falls_at skip length offset k }
 {
     let k = i64::from(k);
     if k <= i64::from(length) {
-        place == k - 1
+        offset == k - 1
     } else {
-        is_place_of_lacking(skip, length, place)
+        is_offset_of_lacking(skip, length, offset)
     }
 }
 
@@ -127,17 +127,17 @@ impl Schedule {
         requires { IsDayWithin 1000 day }
         ensures { result ≡ some_falls_on self.now month.now.number day }
     {
-        self.some_falls_at(month.length, month.place_of(day))
+        self.some_falls_at(month.length, month.offset_of(day))
     }
 
-    // Whether some listed day of a month of this length falls at a place.
-    fn some_falls_at(&self, length: u16, place: i64) -> bool
-        ensures { result ≡ list_any (λ k. falls_at self.now.skip length place k) self.now.days }
+    // Whether some listed day of a month of this length falls `offset` days after its first.
+    fn some_falls_at(&self, length: u16, offset: i64) -> bool
+        ensures { result ≡ list_any (λ k. falls_at self.now.skip length offset k) self.now.days }
     {
         let skip = self.skip;
         self.days
             .as_slice()
             .iter()
-            .any(|k| falls_at(skip, length, place, *k))
+            .any(|k| falls_at(skip, length, offset, *k))
     }
 }

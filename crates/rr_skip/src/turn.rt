@@ -59,7 +59,7 @@ impl Turn {
     }
 
     /// The month of a day that lies in this month, or is the first day after it.
-    pub(crate) fn reaching(self, schedule: &Schedule, day: i64) -> Turn
+    pub(crate) fn advance_to(self, schedule: &Schedule, day: i64) -> Turn
         requires some { 1 ≤ schedule.now.interval }
         requires near { IsNearMonth (month_number day) }
         requires turn { IsTurn schedule.now self }

@@ -34,17 +34,17 @@ impl Walk {
     }
 }
 
-/// The day `place` days after the first.
-pub(crate) fn day_at(first: i64, place: usize) -> i64
+/// The day `index` days after the first.
+pub(crate) fn day_at(first: i64, index: usize) -> i64
     requires low { first_day_of_all ≤ℤ first }
-    requires high { (first +ℤ pos place) ≤ℤ pos 40_000_000 }
-    ensures { result ≡ first +ℤ pos place }
+    requires high { (first +ℤ pos index) ≤ℤ pos 40_000_000 }
+    ensures { result ≡ first +ℤ pos index }
 {
-    first + place as i64
+    first + index as i64
 }
 
 /// Walks `end` days from the first one on; where the chosen day of number `most`, counted from 1, comes before, up to that one only.
-pub(crate) fn walked(
+pub(crate) fn walk_days(
     alloc: Global,
     schedule: &Schedule,
     first: i64,
@@ -61,12 +61,12 @@ pub(crate) fn walked(
         left: most,
     };
     let mut turn = Turn::at(schedule, first);
-    for place in 0..end {
+    for index in 0..end {
         if walk.left == 0 {
             return Ok(walk);
         }
-        let day = day_at(first, place);
-        turn = turn.reaching(schedule, day);
+        let day = day_at(first, index);
+        turn = turn.advance_to(schedule, day);
         walk.put(turn.chooses(schedule, day))?;
     }
     Ok(walk)

@@ -7,19 +7,19 @@ use Rattle.rr_skip.specs.Members.{OccursSkipping}
 use Rattle.rr_skip.proofs.SkipSketchLemmas.{is_folding, skip_stands}
 use Rattle.rr_skip.proofs.fold.fold_skip.Goals as goal
 
-pub folded-requires-clause-days : goal.folded-requires-clause-days
-folded-requires-clause-days c =
+pub fold_of_days-requires-clause-days : goal.fold_of_days-requires-clause-days
+fold_of_days-requires-clause-days c =
     let series = c.args.series.now in
     let s = moment_back series.kind series.start c.requires.sound.start in
     rw s (is_folding series.kind series.start (is_occupied series.rule series.kind series.start) c.in-Ok.days c.in-Ok.ensures.days)
 
-pub returns-in_ok-folded-in-Ok-clause-stands : goal.returns-in_ok-folded-in-Ok-clause-stands
-returns-in_ok-folded-in-Ok-clause-stands c =
+pub returns-in_ok-fold_of_days-in-Ok-clause-stands : goal.returns-in_ok-fold_of_days-in-Ok-clause-stands
+returns-in_ok-fold_of_days-in-Ok-clause-stands c =
     let series = c.args.series.now in
     let s = moment_back series.kind series.start c.requires.sound.start in
-    let same = rw s at c.in_ok-folded-in-Ok.ensures in
+    let same = rw s at c.in_ok-fold_of_days-in-Ok.ensures in
     subst (λ x. StandsFor x (OccursSkipping series)) (sym same) (skip_stands series c.in-Ok.days c.in-Ok.ensures.days)
 
-pub returns-in_ok-folded-in-Ok-clause-near : goal.returns-in_ok-folded-in-Ok-clause-near
-returns-in_ok-folded-in-Ok-clause-near c =
-    subst (λ (x : Sketch). x.settled ≤ℤ pos 20_000_000) (sym c.in_ok-folded-in-Ok.ensures) c.in-Ok.ensures.days.high
+pub returns-in_ok-fold_of_days-in-Ok-clause-near : goal.returns-in_ok-fold_of_days-in-Ok-clause-near
+returns-in_ok-fold_of_days-in-Ok-clause-near c =
+    subst (λ (x : Sketch). x.settled ≤ℤ pos 20_000_000) (sym c.in_ok-fold_of_days-in-Ok.ensures) c.in-Ok.ensures.days.high

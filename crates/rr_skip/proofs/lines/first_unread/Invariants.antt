@@ -4,4 +4,4 @@ use Rattle.rr_skip.proofs.lines.first_unread.Given as goal
 
 abbrev pub invariant-loop-line : goal.invariant-loop-line
 invariant-loop-line l =
-    (l.place ≡ l.line-index) × (first_unread l.has_rule l.place (drop l.line-index l.lines) ≡ first_unread false 0 l.lines)
+    (l.index ≡ l.line-index) × (first_unread l.has_rule l.index (drop l.line-index l.lines) ≡ first_unread false 0 l.lines)

@@ -2,7 +2,7 @@ use Rattle.std.proofs.Common.{rules, pos, neg_ℤ, ◌-ℤ◌, ◌≤ℤ◌, ari
 use Rattle.std.proofs.lemmas.Int.{ints}
 use Rattle.rr_days.proofs.BackLemmas.{back}
 use Rattle.rr_skip.proofs.MonthLemmas.{near_first}
-use Rattle.rr_skip.proofs.months.Month.place_of.Goals as goal
+use Rattle.rr_skip.proofs.months.Month.offset_of.Goals as goal
 
 pub overflow_sub-result : goal.overflow_sub-result
 overflow_sub-result c =

@@ -4,7 +4,7 @@ use Rattle.rr_days.proofs.BackLemmas.{back}
 use Rattle.rr_model.specs.Moment.{day_part, second_part}
 use Rattle.rr_model.proofs.YearLemmas.{four_digit_bounds}
 use Rattle.rr_skip.proofs.SkipSketchLemmas.{whole_fold}
-use Rattle.rr_skip.proofs.fold.folded.Goals as goal
+use Rattle.rr_skip.proofs.fold.fold_of_days.Goals as goal
 
 pub sequence_of_numbers-requires-clause-whole : goal.sequence_of_numbers-requires-clause-whole
 sequence_of_numbers-requires-clause-whole c =
