@@ -1,7 +1,6 @@
 -- The days of a rule with COUNT, of which whole cycles are copied.
 use Prim.Native.Nat.{◌∣◌}
 use Rattle.std.proofs.Common.{◌≡◌, ◌≤◌, ◌+◌, ◌*◌, ℕ, List, length, ℤ, pos, ◌+ℤ◌, ◌-ℤ◌, ◌≤ℤ◌, refl, sym, ap, subst, arith, w64, to_z, of_z}
-use Rattle.std.specs.Prelude.{Result, Ok, Err, Option, Some, None, IfOk, IfSome}
 use Rattle.std.proofs.lemmas.Int.{ints}
 use Rattle.std.proofs.lemmas.Nat.Gcd.{dvd_refl}
 use Rattle.rr_check.proofs.SeriesCycleLemmas.{rule_cycle_some}
@@ -14,7 +13,6 @@ use Rattle.rr_model.specs.Rule.Cycle.{rule_cycle}
 use Rattle.rr_model.specs.Series.Tree.{ended, members_of}
 use Rattle.rr_model.specs.Sets.Tree.{chosen_of, first_n, stands_at}
 use Rattle.rr_model.specs.declared.kind.Kind.{Kind}
-use Rattle.rr_model.specs.declared.refusal.NoMemory.{NoMemory}
 use Rattle.rr_model.specs.declared.rule.Rule.{Rule}
 use Rattle.rr_fold.specs.Folding.{HasNoneBefore, IsFoldedTo}
 use Rattle.rr_fold.specs.Jump.{IsJump, IsSpliced}
@@ -71,9 +69,3 @@ module _ (rule : Rule) (kind : Kind) (start end : ℤ) (jump : Jump) (sound : Is
   spliced_few to numbers at whole =
       let b = four_digit_bounds (day_part kind start) sound.in_years in
       omega (arith, ints, at, whole, b.0, high)
-
--- what a call gives
-pub jump_map : (r : Result (Option Jump) NoMemory) (P Q : Jump → Type 0) → ((j : Jump) → P j → Q j) → IfOk r (λ o. IfSome o P) → IfOk r (λ o. IfSome o Q)
-jump_map (Ok (Some j)) P Q f h = f j h
-jump_map (Ok None) P Q f h = tt
-jump_map (Err e) P Q f h = tt

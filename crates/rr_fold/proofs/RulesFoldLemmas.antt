@@ -1,11 +1,12 @@
 -- The days of rules, one rule after another.
-use Rattle.std.proofs.Common.{◌≡◌, ◌≢◌, ℕ, ◌+◌, ◌-◌, ◌<◌, ◌≤◌, List, [], ◌∷◌, ◌++◌, length, get_or, take, drop, All, ℤ, pos, ◌+ℤ◌, refl, sym}
+use Rattle.std.proofs.Common.{◌≡◌, ◌≢◌, ℕ, ◌+◌, ◌<◌, ◌≤◌, List, [], ◌∷◌, ◌++◌, length, get_or, take, All, ℤ, pos, ◌+ℤ◌, refl, sym}
 use Rattle.std.proofs.Common.{ap, subst, ◌∙◌, arith}
-use Rattle.std.specs.Prelude.{Result, Ok, Err, IfOk, true, false}
+use Rattle.std.specs.Prelude.{Result, Ok, Err, Option, None, IfOk, IfSome, true, false}
 use Rattle.std.proofs.lemmas.Bool.{false≢true}
 use Rattle.rr_model.specs.Rule.Validity.{is_absent}
-use Rattle.std.proofs.lemmas.Grind.{get_or_after_one}
-use Rattle.std.proofs.lemmas.List.{length-drop, take_all, take_more}
+use Rattle.std.proofs.lemmas.List.{get_or_default, take_all, take_more}
+use Rattle.rr_iter.specs.Counts.{AreCounts, IsCountOf}
+use Rattle.rr_iter.specs.declared.counts.Counted.{Counted}
 use Rattle.rr_model.specs.Series.Tree.{members_of}
 use Rattle.rr_model.specs.declared.kind.Kind.{Kind}
 use Rattle.rr_model.specs.declared.rule.Rule.{Rule}
@@ -23,25 +24,17 @@ pub some_rule : (rules : List Rule) → rules ≢ [] → 0 < length rules
 some_rule [] some = absurd (some refl)
 some_rule (rule ∷ rules) some = omega arith
 
--- those after the first
-after_first : (rules : List Rule) → take (length rules - 1) (drop 1 rules) ≡ drop 1 rules
-after_first rules = take_all (length rules - 1) (drop 1 rules) (omega (arith, length-drop 1 rules))
-
-pub later_rule : (rules : List Rule) (i : ℕ) (rule : Rule) → i < length (take (length rules - 1) (drop 1 rules))
-    → rule ≡ get_or (take (length rules - 1) (drop 1 rules)) i rule → (i + 1 < length rules) × (rule ≡ get_or rules (i + 1) rule)
-later_rule rules i rule l e =
-    let same = after_first rules in (
-      omega (arith, l, ap length same, length-drop 1 rules),
-      e ∙ ap (λ xs. get_or xs i rule) same ∙ get_or_after_one rules i rule ∙ ap (λ n. get_or rules n rule) (let n : 1 + i ≡ i + 1 = omega arith in n),
-    )
-
--- the end is reached
-pub no_later_rule : (rules : List Rule) (i : ℕ) → length (take (length rules - 1) (drop 1 rules)) ≤ i → length rules ≤ i + 1
-no_later_rule rules i l = omega (arith, l, ap length (after_first rules), length-drop 1 rules)
-
 -- what holds of each holds of one
 pub rule_at : (P : Rule → Type 0) (rules xs : List Rule) (i : ℕ) (rule : Rule) → xs ≡ rules → All P rules → i < length xs → rule ≡ get_or xs i rule → P rule
 rule_at P rules xs i rule is all l at = subst P (sym at) ((subst (All P) (sym is) all) i rule l)
+
+-- what was counted of a rule stands at its place
+pub count_at : (kind : Kind) (start : ℤ) (rules : List Rule) (counts : List (Option Counted)) → AreCounts kind start rules counts
+    → (k : ℕ) (rule : Rule) (d : Option Counted) → k < length rules → rule ≡ get_or rules k rule → IfSome (get_or counts k d) (IsCountOf kind start rule)
+count_at kind start rules counts are k rule d l at =
+    let same : get_or counts k None ≡ get_or counts k d = get_or_default counts k None d (omega (arith, l, are.whole)) in
+    subst (λ o. IfSome o (IsCountOf kind start rule)) same
+    (subst (λ r. IfSome (get_or counts k None) (IsCountOf kind start r)) (sym at) (are.each k rule l))
 
 -- ---- their days
 

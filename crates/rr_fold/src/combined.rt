@@ -78,7 +78,7 @@ pub fn combined(
     })
 }
 
-// Up to which places two lists are surely free from an index on, by what is known of each, or is found out.
+// Up to which indexes two lists are surely free from an index on, by what is known of each, or is found out.
 fn free_from(known: FreeTo, one: &Pages, other: &Pages, index: usize) -> FreeTo
     requires one { index < length one.now }
     requires other { index < length other.now }

@@ -8,13 +8,14 @@ ghost use Rattle.rr_model.specs.Series.Settled.{IsSettledDay};
 ghost use Rattle.rr_model.specs.Sets.Sketch.{StandsFor};
 ghost use Rattle.rr_model.specs.declared.refusal.Refusal.TheVariants.{TooManyMoments};
 ghost use Rattle.rr_model.specs.declared.limits.TheConstants.{MAX_CYCLE_DAYS};
+ghost use Rattle.rr_iter.specs.Counts.{AreCountsOf};
 ghost use Rattle.rr_fold.specs.Judged.{IsJudged};
 
 use crate::first_day::first_day;
 use crate::folded_days::folded_days;
 use rr_check::{Checked, admit};
 use rr_days::{Folded, sequence};
-use rr_iter::ends;
+use rr_iter::{Counts, settled_day_and_counts};
 use rr_model::Fault;
 use rr_word::DaySeq;
 use std::alloc::Global;
@@ -43,17 +44,23 @@ pub fn fold(alloc: Global, series: &Checked) -> Result<Folded, Fault>
         (⟦<Folded as DaySeq>⟧.sketch f).period ≡ series_cycle series.now) }
     ensures judged { IsJudged series.now result }
 {
-    match ends(alloc, series) {
-        Ok(settled) => folded_to(alloc, series, settled),
+    match settled_day_and_counts(alloc, series) {
+        Ok(settled) => folded_to(alloc, series, settled.day, &settled.counts),
         Err(fault) => Err(fault),
     }
 }
 
-// The series folded up to a cycle past its settled day.
-fn folded_to(alloc: Global, series: &Checked, settled: i64) -> Result<Folded, Fault>
+// The series folded up to a cycle past its settled day, by what was counted of its rules.
+fn folded_to(
+    alloc: Global,
+    series: &Checked,
+    settled: i64,
+    counts: &Counts,
+) -> Result<Folded, Fault>
     requires few { series_cycle series.now ≤ MAX_CYCLE_DAYS }
     requires settled { IsSettledDay series.now settled }
     requires high { settled ≤ℤ pos 20_000_000 }
+    requires counts { AreCountsOf series.now counts.now }
     ensures stands { IfOk result (λ f.
         StandsFor (⟦<Folded as DaySeq>⟧.sketch f) (Occurs series.now)) }
     ensures kind { IfOk result (λ f. (⟦<Folded as DaySeq>⟧.sketch f).kind ≡ series.now.kind) }
@@ -66,7 +73,7 @@ fn folded_to(alloc: Global, series: &Checked, settled: i64) -> Result<Folded, Fa
     let given = series.series();
     let period = admit(series).unwrap();
     let first = first_day(given);
-    match folded_days(alloc, series, first, settled + period as i64) {
+    match folded_days(alloc, series, counts, first, settled + period as i64) {
         Ok(days) => Ok(sequence(
             alloc,
             given.kind,

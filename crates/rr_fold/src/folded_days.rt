@@ -2,13 +2,14 @@
 ghost use Rattle.std.specs.Prelude.{◌≡◌, ◌+◌, ◌≤◌, IfOk, List, ℕ, length, pos, neg_ℤ, ◌≤ℤ◌, ◌<ℤ◌, ◌+ℤ◌};
 ghost use Rattle.rr_model.specs.Bounds.{first_day_of_all};
 ghost use Rattle.rr_model.specs.Series.Tree.{tree_of};
+ghost use Rattle.rr_iter.specs.Counts.{AreCountsOf};
 ghost use Rattle.rr_lazy.specs.Next.{IsUnasked};
 ghost use Rattle.rr_fold.specs.Folding.{AreDaysOf, HasNoneBefore, RefusesTooMany};
 
 use crate::rules::{days_by_rules, goes_by_rules};
 use crate::walk::Walk;
 use rr_check::Checked;
-use rr_iter::occurrences;
+use rr_iter::{Counts, occurrences};
 use rr_lazy::Lazy;
 use rr_model::Fault;
 use rr_runs::Pages;
@@ -25,13 +26,15 @@ pub struct FoldedDays {
 }
 
 /// The days of a series from one on and below another, where no day before the first is occupied: rule by rule where that pays,
-/// and day by day else, or where a rule, or some of them together, ask for too much.
+/// and day by day else, or where a rule, or some of them together, ask for too much. What was counted of the rules is taken as given.
 pub fn folded_days(
     alloc: Global,
     series: &Checked,
+    counts: &Counts,
     first: i64,
     end: i64,
 ) -> Result<FoldedDays, Fault>
+    requires counts { AreCountsOf series.now counts.now }
     requires low { first_day_of_all ≤ℤ first }
     requires order { first <ℤ end }
     requires high { end ≤ℤ pos 40_000_000 }
@@ -41,7 +44,7 @@ pub fn folded_days(
     ensures refused { RefusesTooMany (tree_of series.now) end result }
 {
     if goes_by_rules(series.series(), first, end) {
-        if let Ok(days) = days_by_rules(alloc, series, first, end) {
+        if let Ok(days) = days_by_rules(alloc, series, counts, first, end) {
             return Ok(days);
         }
     }

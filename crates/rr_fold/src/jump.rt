@@ -1,14 +1,14 @@
 // The days of a rule with COUNT.
-ghost use Rattle.std.specs.Prelude.{◌≡◌, ◌+◌, ◌*◌, ◌<◌, ◌≤◌, ◌≤ℤ◌, ◌<ℤ◌, ◌+ℤ◌, IfOk, IfSome, length, pos};
+ghost use Rattle.std.specs.Prelude.{◌≡◌, ◌+◌, ◌*◌, ◌≤◌, ◌≤ℤ◌, ◌<ℤ◌, ◌+ℤ◌, IfOk, IfSome, length, pos};
 ghost use Rattle.rr_model.specs.Moment.{day_part};
-ghost use Rattle.rr_model.specs.Rule.Cycle.{rule_cycle};
 ghost use Rattle.rr_model.specs.declared.rule.End.TheVariants.{Count};
+ghost use Rattle.rr_iter.specs.Counts.{IsCounted, IsCountOf};
 ghost use Rattle.rr_iter.specs.Ends.{IsSoundRule};
-ghost use Rattle.rr_fold.specs.Jump.{AreWholeCycles, IsCountedJump, IsJump, IsSpliced};
+ghost use Rattle.rr_fold.specs.Jump.{AreWholeCycles, IsJump, IsSpliced};
 ghost use Rattle.rr_fold.specs.Rules.{AreDaysOfRule};
 
 use crate::folded_days::{FoldedDays, days_between, days_of_lazy};
-use rr_iter::{EndedLazy, Nth, day_of_nth};
+use rr_iter::{Counted, EndedLazy};
 use rr_lazy::FirstN;
 use rr_model::{Fault, Kind, NoMemory, Rule, day_part};
 use rr_num::day_cycle;
@@ -31,24 +31,29 @@ struct Jump {
 }
 
 /// The days of a rule with COUNT, from its start's day on and below another: of whole cycles after the first one, which hold the
-/// same days again, the days are copied, and those of the others are walked. `TooManyMoments` where the distinct sets of the days
-/// that are walked have together more than `MAX_SECONDS` seconds.
+/// same days again, the days are copied, and those of the others are walked. Where nothing was counted, all are walked.
+/// `TooManyMoments` where the distinct sets of the days that are walked have together more than `MAX_SECONDS` seconds.
 pub fn days_counted(
     alloc: Global,
     rule: &Rule,
     kind: Kind,
     start: i64,
     count: u64,
+    counted: Option<Counted>,
     end: i64,
 ) -> Result<FoldedDays, Fault>
     requires sound { IsSoundRule kind start rule.now }
     requires ends { rule.now.end ≡ Count count }
+    requires counted { IfSome counted (IsCountOf kind start rule.now) }
     requires order { day_part kind start <ℤ end }
     requires high { end ≤ℤ pos 40_000_000 }
     ensures folded { IfOk result (AreDaysOfRule kind start rule.now end) }
     ensures whole { IfOk result (λ days. end ≡ day_part kind start +ℤ pos (length days.numbers)) }
 {
-    match jump_of(alloc, rule, kind, start, count, end)? {
+    let Some(counted) = counted else {
+        return days_ended(alloc, rule, kind, start, end);
+    };
+    match jump_of(rule, kind, start, count, counted, end) {
         Some(jump) => days_by_jump(alloc, rule, kind, start, end, jump),
         None => days_ended(alloc, rule, kind, start, end),
     }
@@ -104,62 +109,34 @@ fn days_by_jump(
     })
 }
 
-// The whole cycles of a rule with COUNT that can be left out of the days from its start's on and below another. None where its
-// days or its count end within the first cycle.
+// The whole cycles of a rule with COUNT that can be left out of the days from its start's on and below another, by the members that
+// were counted in a cycle and after the first one. None where the days end within the first cycle.
 fn jump_of(
-    alloc: Global,
     rule: &Rule,
     kind: Kind,
     start: i64,
     count: u64,
+    counted: Counted,
     end: i64,
-) -> Result<Option<Jump>, NoMemory>
+) -> Option<Jump>
     requires sound { IsSoundRule kind start rule.now }
     requires ends { rule.now.end ≡ Count count }
+    requires counted { IsCounted rule.now kind start count counted }
     requires order { day_part kind start <ℤ end }
     requires high { end ≤ℤ pos 40_000_000 }
-    ensures { IfOk result (λ r. IfSome r (IsJump rule.now kind start end)) }
+    ensures { IfSome result (IsJump rule.now kind start end) }
 {
     let days = days_between(day_part(kind, start), end) as u64;
     let cycle = day_cycle(rule).min(100_000_000) as u64;
     if cycle >= days {
-        return Ok(None);
+        return None;
     }
-    counted_jump(alloc, rule, kind, start, count, cycle, days)
-}
-
-// The cycles of a rule with COUNT that can be left out of the `days` days from its start's on; none where the count ends
-// within the first cycle.
-fn counted_jump(
-    alloc: Global,
-    rule: &Rule,
-    kind: Kind,
-    start: i64,
-    count: u64,
-    cycle: u64,
-    days: u64,
-) -> Result<Option<Jump>, NoMemory>
-    requires sound { IsSoundRule kind start rule.now }
-    requires some { 1 ≤ count }
-    requires cycle { cycle ≡ rule_cycle rule.now }
-    requires longer { cycle < days }
-    requires few { days ≤ 100_000_000 }
-    ensures { IfOk result (λ r. IfSome r (IsCountedJump rule.now kind start count days)) }
-{
-    let day = day_part(kind, start);
-    let Nth::Beyond(left) = day_of_nth(alloc, rule, kind, start, count, day)? else {
-        return Ok(None);
-    };
-    let Nth::Beyond(after) = day_of_nth(alloc, rule, kind, start, count, day + cycle as i64)? else {
-        return Ok(None);
-    };
-    let each = left - after;
-    let cycles = (after / each.max(1)).min((days - cycle - 1) / cycle);
-    Ok(Some(Jump {
+    let cycles = (counted.after / counted.each).min((days - cycle - 1) / cycle);
+    Some(Jump {
         cycle,
         cycles,
-        count: count - cycles * each,
-    }))
+        count: count - cycles * counted.each,
+    })
 }
 
 // How many days are left out: `cycles` times `cycle`.

@@ -1,11 +1,12 @@
 // The days of a series, rule by rule.
-ghost use Rattle.std.specs.Prelude.{◌≡◌, ◌≢◌, ◌<ℤ◌, ◌≤ℤ◌, ◌+ℤ◌, [], All, IfOk, length, pos, true};
+ghost use Rattle.std.specs.Prelude.{◌≡◌, ◌≢◌, ◌<ℤ◌, ◌≤ℤ◌, ◌+ℤ◌, [], All, IfOk, IfSome, length, pos, true};
 ghost use Rattle.rr_model.specs.Bounds.{first_day_of_all};
 ghost use Rattle.rr_model.specs.Moment.{day_part};
 ghost use Rattle.rr_model.specs.Moment.Years.{IsInYears};
 ghost use Rattle.rr_model.specs.Rule.Validity.{IsValidRule};
 ghost use Rattle.rr_model.specs.Series.Soundness.{IsSound};
 ghost use Rattle.rr_model.specs.Series.Tree.{tree_of};
+ghost use Rattle.rr_iter.specs.Counts.{AreCounts, AreCountsOf, IsCountOf};
 ghost use Rattle.rr_iter.specs.Ends.{IsSoundRule};
 ghost use Rattle.rr_fold.specs.Folding.{AreDaysOf, HasNoneBefore};
 ghost use Rattle.rr_fold.specs.Rules.{AreDaysChosen, AreDaysOfRule, AreEndless, HasRules, given_from, kept_from, members_of_rules};
@@ -16,6 +17,7 @@ use crate::folded_days::{FoldedDays, days_between, days_of_lazy};
 use crate::jump::{days_counted, days_ended};
 use crate::years::{days_by_years, year_period};
 use rr_check::Checked;
+use rr_iter::{Counted, Counts};
 use rr_model::{End, Fault, Kind, Rule, Series, day_part};
 use rr_walk::RuleLazy;
 use std::alloc::Global;
@@ -84,16 +86,19 @@ fn are_endless(rules: &[Rule]) -> bool
 }
 
 /// The days of a series from one on, before which none is occupied, and below another: those of its rules and of the dates added,
-/// without those of its excluded rules and of the dates taken out.
+/// without those of its excluded rules and of the dates taken out. Cycles that were counted to find the settled day are not counted
+/// again.
 ///
 /// `TooManyMoments` where the days of one rule, of some rules together, of dates or of the excluded rules have too many seconds.
 /// The days of the series itself may have fewer: whether it is refused is told by walking it.
 pub fn days_by_rules(
     alloc: Global,
     series: &Checked,
+    counts: &Counts,
     first: i64,
     end: i64,
 ) -> Result<FoldedDays, Fault>
+    requires counts { AreCountsOf series.now counts.now }
     requires rules { HasRules series.now first end }
     requires low { first_day_of_all ≤ℤ first }
     requires high { end ≤ℤ pos 40_000_000 }
@@ -102,7 +107,7 @@ pub fn days_by_rules(
     ensures whole { IfOk result (λ days. end ≡ first +ℤ pos (length days.numbers)) }
 {
     let given = series.series();
-    let days = kept_days(alloc, given, first, end)?;
+    let days = kept_days(alloc, given, counts, first, end)?;
     if given.minus.is_empty() {
         return Ok(days);
     }
@@ -111,26 +116,49 @@ pub fn days_by_rules(
 }
 
 // The days of the rules and of the dates added from one on and below another, without those of the excluded rules.
-fn kept_days(alloc: Global, series: &Series, first: i64, end: i64) -> Result<FoldedDays, Fault>
+fn kept_days(
+    alloc: Global,
+    series: &Series,
+    counts: &Counts,
+    first: i64,
+    end: i64,
+) -> Result<FoldedDays, Fault>
     requires sound { IsSound series.now }
+    requires counts { AreCountsOf series.now counts.now }
     requires rules { HasRules series.now first end }
     requires low { first_day_of_all ≤ℤ first }
     requires high { end ≤ℤ pos 40_000_000 }
     ensures folded { IfOk result (AreDaysOf (kept_from series.now first) first end) }
     ensures whole { IfOk result (λ days. end ≡ first +ℤ pos (length days.numbers)) }
 {
-    let days = given_days(alloc, series, first, end)?;
+    let days = given_days(alloc, series, counts, first, end)?;
     if series.excluded.is_empty() {
         return Ok(days);
     }
     let excluded = series.excluded.as_slice();
-    let out = days_of_rules(alloc, series.kind, series.start, excluded, first, end)?;
+    let counted = counts.excluded.as_slice();
+    let out = days_of_rules(
+        alloc,
+        series.kind,
+        series.start,
+        excluded,
+        counted,
+        first,
+        end,
+    )?;
     combined(alloc, Op::Minus, &days, &out)
 }
 
 // The days of the rules and of the dates added, from one on and below another.
-fn given_days(alloc: Global, series: &Series, first: i64, end: i64) -> Result<FoldedDays, Fault>
+fn given_days(
+    alloc: Global,
+    series: &Series,
+    counts: &Counts,
+    first: i64,
+    end: i64,
+) -> Result<FoldedDays, Fault>
     requires sound { IsSound series.now }
+    requires counts { AreCountsOf series.now counts.now }
     requires rules { HasRules series.now first end }
     requires low { first_day_of_all ≤ℤ first }
     requires high { end ≤ℤ pos 40_000_000 }
@@ -138,7 +166,8 @@ fn given_days(alloc: Global, series: &Series, first: i64, end: i64) -> Result<Fo
     ensures whole { IfOk result (λ days. end ≡ first +ℤ pos (length days.numbers)) }
 {
     let rules = series.rules.as_slice();
-    let days = days_of_rules(alloc, series.kind, series.start, rules, first, end)?;
+    let counted = counts.rules.as_slice();
+    let days = days_of_rules(alloc, series.kind, series.start, rules, counted, first, end)?;
     if series.plus.is_empty() {
         return Ok(days);
     }
@@ -146,17 +175,19 @@ fn given_days(alloc: Global, series: &Series, first: i64, end: i64) -> Result<Fo
     combined(alloc, Op::Union, &dates, &days)
 }
 
-// The days of rules together, from one on that is not after their start's and below another.
+// The days of rules together, of each of which this was counted, from one on that is not after their start's and below another.
 fn days_of_rules(
     alloc: Global,
     kind: Kind,
     start: i64,
     rules: &[Rule],
+    counted: &[Option<Counted>],
     first: i64,
     end: i64,
 ) -> Result<FoldedDays, Fault>
     requires some { rules.now ≢ [] }
     requires sound { All (IsSoundRule kind start) rules.now }
+    requires counted { AreCounts kind start rules.now counted.now }
     requires in_years { IsInYears kind start }
     requires low { first_day_of_all ≤ℤ first }
     requires begun { first ≤ℤ day_part kind start }
@@ -165,7 +196,7 @@ fn days_of_rules(
     ensures folded { IfOk result (AreDaysOf (members_of_rules kind start rules.now) first end) }
     ensures whole { IfOk result (λ days. end ≡ first +ℤ pos (length days.numbers)) }
 {
-    let days = days_from_start(alloc, kind, start, rules, end)?;
+    let days = days_from_start(alloc, kind, start, rules, counted, end)?;
     let free = days_between(first, day_part(kind, start));
     let led = led_by_free(alloc, days, free)?;
     Ok(led)
@@ -177,10 +208,12 @@ fn days_from_start(
     kind: Kind,
     start: i64,
     rules: &[Rule],
+    counted: &[Option<Counted>],
     end: i64,
 ) -> Result<FoldedDays, Fault>
     requires some { rules.now ≢ [] }
     requires sound { All (IsSoundRule kind start) rules.now }
+    requires counted { AreCounts kind start rules.now counted.now }
     requires in_years { IsInYears kind start }
     requires order { day_part kind start <ℤ end }
     requires high { end ≤ℤ pos 40_000_000 }
@@ -188,9 +221,9 @@ fn days_from_start(
         (AreDaysOf (members_of_rules kind start rules.now) (day_part kind start) end) }
     ensures whole { IfOk result (λ days. end ≡ day_part kind start +ℤ pos (length days.numbers)) }
 {
-    let mut days = days_of_rule(alloc, &rules[0], kind, start, end)?;
-    for rule in &rules[1..] {
-        let more = days_of_rule(alloc, rule, kind, start, end)?;
+    let mut days = days_of_rule(alloc, &rules[0], counted[0], kind, start, end)?;
+    for index in 1..rules.len() {
+        let more = days_of_rule(alloc, &rules[index], counted[index], kind, start, end)?;
         days = combined(alloc, Op::Union, &days, &more)?;
     }
     Ok(days)
@@ -200,11 +233,13 @@ fn days_from_start(
 fn days_of_rule(
     alloc: Global,
     rule: &Rule,
+    counted: Option<Counted>,
     kind: Kind,
     start: i64,
     end: i64,
 ) -> Result<FoldedDays, Fault>
     requires sound { IsSoundRule kind start rule.now }
+    requires counted { IfSome counted (IsCountOf kind start rule.now) }
     requires order { day_part kind start <ℤ end }
     requires high { end ≤ℤ pos 40_000_000 }
     ensures folded { IfOk result (AreDaysOfRule kind start rule.now end) }
@@ -212,7 +247,7 @@ fn days_of_rule(
 {
     match rule.end {
         End::Never => days_chosen(alloc, rule, kind, start, end),
-        End::Count(count) => days_counted(alloc, rule, kind, start, count, end),
+        End::Count(count) => days_counted(alloc, rule, kind, start, count, counted, end),
         _ => days_ended(alloc, rule, kind, start, end),
     }
 }

@@ -49,13 +49,3 @@ module _ (kind : Kind) (start : ℤ) (rules : List Rule) where
     -- all rules
     pub counted_all : length rules ≤ asked → AreCounts kind start rules counts
     counted_all l = record { whole = omega (arith, l, g.within, g.whole); each = g.each }
-
--- what stands at the place of a rule was counted of it
-pub count_at : (kind : Kind) (start : ℤ) (rules : List Rule) (counts : List (Option Counted)) → AreCounts kind start rules counts
-    → (k : ℕ) (rule : Rule) (own : Option Counted) → k < length rules → rule ≡ get_or rules k rule → own ≡ get_or counts k own
-    → IfSome own (IsCountOf kind start rule)
-count_at kind start rules counts are k rule own l at own_at =
-    let here : get_or counts k None ≡ own = get_or_default counts k None own (omega (arith, l, are.whole)) ∙ sym own_at in
-    let known : IfSome own (IsCountOf kind start (get_or rules k rule)) =
-    subst (λ o. IfSome o (IsCountOf kind start (get_or rules k rule))) here (are.each k rule l) in
-    subst (λ r. IfSome own (IsCountOf kind start r)) (sym at) known

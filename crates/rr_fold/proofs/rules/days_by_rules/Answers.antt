@@ -19,6 +19,9 @@ pub kept_days-requires-clause-rules : goal.kept_days-requires-clause-rules
 kept_days-requires-clause-rules c =
     rw (c.series-given.ensures.value, to_z-of_z c.ranges.first, to_z-of_z c.ranges.end) c.requires.rules
 
+pub kept_days-requires-clause-counts : goal.kept_days-requires-clause-counts
+kept_days-requires-clause-counts c = rw c.series-given.ensures.value c.requires.counts
+
 pub returns-then-is_empty-clause-folded : goal.returns-then-is_empty-clause-folded
 returns-then-is_empty-clause-folded c =
     let s = c.args.series.now in

@@ -1,10 +1,10 @@
-use Rattle.std.proofs.Common.{◌≡◌, ◌+◌, ◌+ℤ◌, length, pos, take}
+use Rattle.std.proofs.Common.{◌≡◌, ◌+ℤ◌, length, pos, take}
 use Rattle.rr_model.specs.Moment.{day_part}
 use Rattle.rr_fold.specs.Folding.{IsFoldedTo}
 use Rattle.rr_fold.specs.Rules.{members_of_rules}
 use Rattle.rr_fold.proofs.rules.days_from_start.Given as goal
 
-abbrev pub invariant-loop-rule : goal.invariant-loop-rule
-invariant-loop-rule l =
-    IsFoldedTo (members_of_rules l.kind l.start (take (l.rule-index + 1) l.rules)) (day_part l.kind l.start) l.end l.days.shapes l.days.numbers
+abbrev pub invariant-loop-index : goal.invariant-loop-index
+invariant-loop-index l =
+    IsFoldedTo (members_of_rules l.kind l.start (take l.index l.rules)) (day_part l.kind l.start) l.end l.days.shapes l.days.numbers
     × (l.end ≡ day_part l.kind l.start +ℤ pos (length l.days.numbers))

@@ -23,6 +23,11 @@ days_of_rules-requires-clause-sound c =
     let s = c.args.series.now in
     rw (c.as_slice-rules.ensures, moment_back s.kind s.start c.requires.sound.valid.start) (rules_are_sound s c.requires.sound)
 
+pub days_of_rules-requires-clause-counted : goal.days_of_rules-requires-clause-counted
+days_of_rules-requires-clause-counted c =
+    let s = c.args.series.now in
+    rw (c.as_slice-rules.ensures, c.as_slice-counted.ensures.value, moment_back s.kind s.start c.requires.sound.valid.start) c.requires.counts.rules
+
 pub returns-then-is_empty-clause-folded : goal.returns-then-is_empty-clause-folded
 returns-then-is_empty-clause-folded c =
     let s = c.args.series.now in

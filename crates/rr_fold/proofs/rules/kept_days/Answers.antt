@@ -30,6 +30,11 @@ days_of_rules-requires-clause-sound c =
     let s = c.args.series.now in
     rw (c.as_slice-excluded.ensures, moment_back s.kind s.start c.requires.sound.valid.start) (excluded_are_sound s c.requires.sound)
 
+pub days_of_rules-requires-clause-counted : goal.days_of_rules-requires-clause-counted
+days_of_rules-requires-clause-counted c =
+    let s = c.args.series.now in
+    rw (c.as_slice-excluded.ensures, c.as_slice-counted.ensures.value, moment_back s.kind s.start c.requires.sound.valid.start) c.requires.counts.excluded
+
 pub combined-requires-clause-long : goal.combined-requires-clause-long
 combined-requires-clause-long c = omega (arith, ints, c.in_ok-days.ensures.whole, c.in_ok-out.ensures.whole)
 
