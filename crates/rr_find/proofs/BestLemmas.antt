@@ -1,4 +1,4 @@
--- Of the first n places the one with the greatest number.
+-- Of the first n items the one with the greatest number.
 use Rattle.std.proofs.Common.{◌≡◌, ℕ, zero, suc, ◌+◌, ◌<◌, ◌≤◌, ◌==◌, Bool, true, false, cond, List, [], ◌∷◌, ◌++◌, Option, None, Some, inl, inr, refl, sym, ap, ◌∙◌, arith}
 use Rattle.std.specs.Prelude.{nat_lt}
 use Rattle.std.specs.List.{filter}
@@ -17,21 +17,21 @@ pub best_suc : (number : ℕ → ℕ) (n : ℕ) → best_below number (suc n) �
 unfolding best_below
 best_suc number n = refl
 
--- the place lies among them and adds a day
-pub best_some : (number : ℕ → ℕ) (n place : ℕ) → best_below number n ≡ Some place → (place < n) × (1 ≤ number place)
-best_some number zero place e = absurd (none_some (sym (best_zero number) ∙ e))
+-- the item lies among them and adds a day
+pub best_some : (number : ℕ → ℕ) (n index : ℕ) → best_below number n ≡ Some index → (index < n) × (1 ≤ number index)
+best_some number zero index e = absurd (none_some (sym (best_zero number) ∙ e))
   where
     none_some : {p : ℕ} → None ≡ Some p → ⊥
     none_some h = cc
-best_some number (suc n) place e =
+best_some number (suc n) index e =
     elim (cases_Bool (nat_lt (number_at number (best_below number n)) (number n))) [
       | inl more ↦ (
-          let s : Some n ≡ Some place = sym (ap (λ b. cond b (Some n) (best_below number n)) more) ∙ sym (best_suc number n) ∙ e in
-          let same : n ≡ place = some_is n place s in
+          let s : Some n ≡ Some index = sym (ap (λ b. cond b (Some n) (best_below number n)) more) ∙ sym (best_suc number n) ∙ e in
+          let same : n ≡ index = some_is n index s in
           let l : number_at number (best_below number n) < number n = grind (arith, nat_tests) in
           (omega (arith, same), omega (arith, ap number same, l)))
       | inr not_more ↦ (
-          let b = best_some number n place (sym (ap (λ b. cond b (Some n) (best_below number n)) not_more) ∙ sym (best_suc number n) ∙ e) in
+          let b = best_some number n index (sym (ap (λ b. cond b (Some n) (best_below number n)) not_more) ∙ sym (best_suc number n) ∙ e) in
           (omega (arith, b.0), b.1))
     ]
   where
@@ -100,10 +100,10 @@ filter_snoc p (x ∷ xs) y =
       | false ↦ filter_snoc p xs y
     ]
 
--- the best of the places whose number is 0 where they do not pass is the one that is chosen of those that pass
+-- the best of the items whose number is 0 where they do not pass is the one that is chosen of those that pass
 pub best_is_chosen : (number : ℕ → ℕ) (passes : ℕ → Bool) (n : ℕ)
-    → best_below (λ place. cond (passes place) (number place) 0) n ≡ chosen number (filter passes (places_from 0 n))
-best_is_chosen number passes zero = best_zero (λ place. cond (passes place) (number place) 0)
+    → best_below (λ index. cond (passes index) (number index) 0) n ≡ chosen number (filter passes (places_from 0 n))
+best_is_chosen number passes zero = best_zero (λ index. cond (passes index) (number index) 0)
 best_is_chosen number passes (suc n) =
     let before = filter passes (places_from 0 n) in
     best_suc tested_of n
@@ -125,19 +125,19 @@ best_is_chosen number passes (suc n) =
     zero_more = omega arith
 
     tested_of : ℕ → ℕ
-    tested_of place = cond (passes place) (number place) 0
+    tested_of index = cond (passes index) (number index) 0
 
     -- the best one passes
-    best_passes : (place : ℕ) → 1 ≤ tested_of place → tested_of place ≡ number place
-    best_passes place l =
-        elim (passes place) as (λ b. 1 ≤ cond b (number place) 0 → cond b (number place) 0 ≡ number place) [
+    best_passes : (index : ℕ) → 1 ≤ tested_of index → tested_of index ≡ number index
+    best_passes index l =
+        elim (passes index) as (λ b. 1 ≤ cond b (number index) 0 → cond b (number index) 0 ≡ number index) [
           | true ↦ λ h. refl
           | false ↦ λ h. absurd (omega (arith, h))
         ] l
 
-    number_same : (best : Option ℕ) → ((place : ℕ) → best ≡ Some place → 1 ≤ tested_of place) → number_at tested_of best ≡ number_at number best
+    number_same : (best : Option ℕ) → ((index : ℕ) → best ≡ Some index → 1 ≤ tested_of index) → number_at tested_of best ≡ number_at number best
     number_same None h = refl
-    number_same (Some place) h = best_passes place (h place refl)
+    number_same (Some index) h = best_passes index (h index refl)
 
     same_number : (m : ℕ) → number_at tested_of (best_below tested_of m) ≡ number_at number (best_below tested_of m)
-    same_number m = number_same (best_below tested_of m) (λ place e. (best_some tested_of m place e).1)
+    same_number m = number_same (best_below tested_of m) (λ index e. (best_some tested_of m index e).1)

@@ -1,4 +1,4 @@
--- The items of a kind rise with their places, and what is put one by one stands in their order.
+-- The items of a kind rise with their indexes, and what is put one by one stands in their order.
 use Rattle.std.proofs.Common.{◌≡◌, ℕ, zero, suc, ◌+◌, ◌-◌, ◌/◌, ◌<◌, ◌≤◌, ◌==◌, Bool, true, false, cond, ◌||◌, List, [], ◌∷◌, pos, inl, inr, refl, sym, ap, ◌∙◌, arith}
 use Rattle.std.specs.Prelude.{nat_lt, map, negsuc}
 use Rattle.std.specs.List.{list_any, filter}
@@ -16,7 +16,7 @@ use Rattle.rr_model.specs.declared.item.Item.{Item}
 use Rattle.rr_model.specs.declared.vcal.FamilyKind.{FamilyKind}
 use Rattle.rr_model.specs.declared.vcal.FamilyKind.TheVariants as family
 
--- ---- the order of places
+-- ---- the order of items
 
 -- a number from the front, or from the back
 end_front : (most p : ℕ) → p < most → from_both_ends most p ≡ pos (p + 1)
@@ -79,7 +79,7 @@ module _ (f : FamilyKind) where
   items : (ℕ → Bool) → ℕ → ℕ → List Item
   items test k n = map (item_at f) (filter test (places_from k n))
 
-  -- the item of an earlier place comes first
+  -- the item at an earlier index comes first
   put_first : (test : ℕ → Bool) (p k n : ℕ) → p < k → k + n ≤ many_items f
       → with_value item_lt (items test k n) (item_at f p) ≡ item_at f p ∷ items test k n
   unfolding items
@@ -95,15 +95,15 @@ module _ (f : FamilyKind) where
         | false ↦ put_first test p (suc k) n (omega (arith, l)) (omega (arith, m))
       ]
 
-  -- a later list has nothing of an earlier place
-  same_after : (test : ℕ → Bool) (p k n : ℕ) → p < k → filter (λ place. (place == p) || test place) (places_from k n) ≡ filter test (places_from k n)
+  -- a later list has nothing of an earlier index
+  same_after : (test : ℕ → Bool) (p k n : ℕ) → p < k → filter (λ index. (index == p) || test index) (places_from k n) ≡ filter test (places_from k n)
   same_after test p k zero l = refl
   same_after test p k (suc n) l =
       let other : (k == p) ≡ false = ne_eqb k p (λ e. omega (arith, e, l)) in
       rw (other, same_after test p (suc k) n (omega (arith, l))) refl
 
   put_in : (test : ℕ → Bool) (p k n : ℕ) → k ≤ p → p < k + n → k + n ≤ many_items f
-      → with_value item_lt (items test k n) (item_at f p) ≡ items (λ place. (place == p) || test place) k n
+      → with_value item_lt (items test k n) (item_at f p) ≡ items (λ index. (index == p) || test index) k n
   unfolding items
   put_in test p k zero l h m = absurd (omega (arith, l, h))
   put_in test p k (suc n) l h m =
@@ -127,25 +127,25 @@ module _ (f : FamilyKind) where
             let more = put_in test p (suc k) n (omega (arith, l, other)) (omega (arith, h)) (omega (arith, m)) in
             rw not_here
             (elim (test k) as (λ b. with_value item_lt (map item (cond b (k ∷ rest) rest)) (item p)
-            ≡ map item (cond b (k ∷ filter (λ place. (place == p) || test place) (places_from (suc k) n)) (filter (λ place. (place == p) || test
-            place) (places_from (suc k) n)))) [
+            ≡ map item (cond b (k ∷ filter (λ index. (index == p) || test index) (places_from (suc k) n)) (filter (λ index. (index == p) || test
+            index) (places_from (suc k) n)))) [
               | true ↦ rw less (ap (λ zs. item k ∷ zs) more)
               | false ↦ more
             ]))
       ]
 
-  none_kept : (k n : ℕ) → filter (λ place. false) (places_from k n) ≡ []
+  none_kept : (k n : ℕ) → filter (λ index. false) (places_from k n) ≡ []
   none_kept k zero = refl
   none_kept k (suc n) = none_kept (suc k) n
 
-  pub items_are : (taken : List ℕ) → ((place : ℕ) → list_any (λ other. place == other) taken ≡ true → place < many_items f)
+  pub items_are : (taken : List ℕ) → ((index : ℕ) → list_any (λ other. index == other) taken ≡ true → index < many_items f)
       → items_of f taken ≡ map (item_at f) (in_order (all_places f) taken)
   unfolding items
   items_are [] h = sym (ap (map (item_at f)) (none_kept 0 (many_items f)))
   items_are (p ∷ taken) h =
-      ap (λ zs. with_value item_lt zs (item_at f p)) (items_are taken (λ place e. h place (either (place == p) (list_any (λ other. place == other)
+      ap (λ zs. with_value item_lt zs (item_at f p)) (items_are taken (λ index e. h index (either (index == p) (list_any (λ other. index == other)
       taken) e)))
-      ∙ put_in (λ place. list_any (λ other. place == other) taken) p 0 (many_items f) (omega arith) (omega (arith, h p (here p))) (omega arith)
+      ∙ put_in (λ index. list_any (λ other. index == other) taken) p 0 (many_items f) (omega arith) (omega (arith, h p (here p))) (omega arith)
     where
       either : (a b : Bool) → b ≡ true → (a || b) ≡ true
       either true b e = refl

@@ -37,13 +37,13 @@ module _ (s : Sketch) (w : Window) (f : FamilyKind) (interval days : ℕ) (valid
       all_taken = taken_is f interval w.first (is_occupied s) days (λ sort. get_or oc sort 0) (λ sort. get_or fc sort 0) tally.of_occupied
           tally.of_free t.taken t.in_turn t.none_left
 
-      -- the written list has the days of the taken places
+      -- the written list has the days of the taken items
       same_days : (d : ℤ) → some_gives (place_has_day f interval w.first) (list_places s f interval w.first days) d
           ≡ some_gives (place_has_day f interval w.first) t.taken d
-      same_days d = list_is_taken s f interval w.first days d ∙ ap (λ places. some_gives (place_has_day f interval w.first) places d) all_taken
+      same_days d = list_is_taken s f interval w.first days d ∙ ap (λ indexes. some_gives (place_has_day f interval w.first) indexes d) all_taken
 
       same_items : list_items s f interval w.first days ≡ items_of f t.taken
-      same_items = ap (λ places. map (item_at f) (in_order (all_places f) places)) all_taken
+      same_items = ap (λ indexes. map (item_at f) (in_order (all_places f) indexes)) all_taken
           ∙ sym (items_are f t.taken (in_range f (λ sort. get_or oc sort 0) (λ sort. get_or fc sort 0) t.taken t.in_turn))
 
       of_answer : (answer : Option (List Item)) → IsAnswerOf f (λ sort. get_or oc sort 0) t.taken answer → IsListOf s w f interval answer

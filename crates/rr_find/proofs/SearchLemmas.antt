@@ -1,10 +1,11 @@
 -- What the search over intervals and kinds has found so far.
-use Rattle.std.proofs.Common.{◌≡◌, ℕ, zero, suc, ◌+◌, ◌<◌, ◌≤◌, ◌==◌, Bool, true, false, ◌&&◌, ◌||◌, Option, None, Some, ℤ, inl, inr, refl, sym, ap, ◌∙◌, arith}
+use Rattle.std.proofs.Common.{◌≡◌, ℕ, ◌+◌, ◌<◌, ◌≤◌, ◌==◌, Bool, true, false, ◌&&◌, ◌||◌, Option, None, Some, ℤ, inl, inr, refl, sym, ap, ◌∙◌, arith}
 use Rattle.std.specs.Prelude.{is_some, nat_lt}
 use Rattle.std.proofs.lemmas.Bool.{cases_Bool, cases_eq, false≢true}
 use Rattle.std.proofs.lemmas.Bool.Decides.{nat_tests}
 use Rattle.rr_family.specs.Profile.{IsRuleOf, comes_before, kind_place, most_family_interval}
 use Rattle.rr_family.specs.Windows.{IsWindowOf}
+use Rattle.rr_family.proofs.PlaceLemmas.{one_kind}
 use Rattle.rr_find.specs.Found.{HasNoRule, HasNoRuleBefore, HasNoRuleBelow, IsFound, IsFoundAt, IsFoundOf}
 use Rattle.rr_find.specs.declared.found.Found.{Found}
 use Rattle.rr_find.proofs.RuleLemmas.{rule_days}
@@ -16,26 +17,6 @@ use Rattle.rr_model.specs.declared.vcal.FamilyKind.TheVariants as family
 use Rattle.rr_model.specs.declared.vcal.VRule.{VRule}
 
 -- ---- kinds
-
-kind_at : ℕ → FamilyKind
-kind_at zero = family.D
-kind_at (suc zero) = family.W
-kind_at (suc (suc zero)) = family.MD
-kind_at (suc (suc (suc zero))) = family.MP
-kind_at (suc (suc (suc (suc zero)))) = family.YM
-kind_at (suc (suc (suc (suc (suc place))))) = family.YD
-
-kind_at_place : (f : FamilyKind) → kind_at (kind_place f) ≡ f
-unfolding kind_at
-kind_at_place family.D = refl
-kind_at_place family.W = refl
-kind_at_place family.MD = refl
-kind_at_place family.MP = refl
-kind_at_place family.YM = refl
-kind_at_place family.YD = refl
-
-one_kind : (f g : FamilyKind) → kind_place f ≡ kind_place g → f ≡ g
-one_kind f g e = sym (kind_at_place f) ∙ ap kind_at e ∙ kind_at_place g
 
 six_kinds : (f : FamilyKind) → kind_place f < 6
 six_kinds family.D = omega arith

@@ -16,7 +16,7 @@ use Rattle.rr_family.specs.Tally.{sum_below, sort_passes, days_of_sort}
 use Rattle.rr_family.proofs.SortLemmas.{kinds_have_sorts}
 use Rattle.rr_family.proofs.TakingLemmas.{giver, taker, same_truth, in_window, count_from-none_at, taking_is_sound}
 use Rattle.rr_family.proofs.TallyLemmas.{sound_by_sorts, further_by_sorts, count_by_sorts}
-use Rattle.rr_find.specs.ByCounts.{days_of_place, gain_of_place, best_below, best_place, days_left, IsTakenInTurn, IsClear}
+use Rattle.rr_find.specs.ByCounts.{days_of_item, gain_of_item, best_below, best_index, days_left, IsTakenInTurn, IsClear}
 use Rattle.rr_find.specs.Counted.{has_some_sort, AreSorted}
 use Rattle.rr_find.proofs.BestLemmas.{best_some, best_is_chosen, chosen}
 
@@ -53,42 +53,42 @@ sum_parts (suc n) number passes =
     one_of true x = omega arith
     one_of false x = omega arith
 
--- ---- one place more
+-- ---- one item more
 
-pub left_after : (f : FamilyKind) (occupied : ℕ → ℕ) (taken : List ℕ) (place k : ℕ)
-    → days_left f occupied (place ∷ taken) k ≡ cond (has_sort f k place) 0 (days_left f occupied taken k)
-left_after f occupied taken place k =
-    elim (has_sort f k place) as
+pub left_after : (f : FamilyKind) (occupied : ℕ → ℕ) (taken : List ℕ) (index k : ℕ)
+    → days_left f occupied (index ∷ taken) k ≡ cond (has_sort f k index) 0 (days_left f occupied taken k)
+left_after f occupied taken index k =
+    elim (has_sort f k index) as
     (λ b. cond (b || list_any (λ other. has_sort f k other) taken) 0 (occupied k) ≡ cond b 0 (days_left f occupied taken k)) [ true ↦ refl | false ↦ refl ]
 
-pub fewer_left : (f : FamilyKind) (occupied : ℕ → ℕ) (taken : List ℕ) (place : ℕ)
-    → sum_below (many_sorts f) (days_left f occupied (place ∷ taken)) + days_of_place f (days_left f occupied taken) place
+pub fewer_left : (f : FamilyKind) (occupied : ℕ → ℕ) (taken : List ℕ) (index : ℕ)
+    → sum_below (many_sorts f) (days_left f occupied (index ∷ taken)) + days_of_item f (days_left f occupied taken) index
     ≡ sum_below (many_sorts f) (days_left f occupied taken)
-fewer_left f occupied taken place =
-    ap (λ z. z + days_of_place f (days_left f occupied taken) place)
-    (sum_same (many_sorts f) (days_left f occupied (place ∷ taken)) (λ k. cond (has_sort f k place) 0 (days_left f occupied taken k))
-    (λ k l. left_after f occupied taken place k))
-    ∙ sum_parts (many_sorts f) (days_left f occupied taken) (λ k. has_sort f k place)
+fewer_left f occupied taken index =
+    ap (λ z. z + days_of_item f (days_left f occupied taken) index)
+    (sum_same (many_sorts f) (days_left f occupied (index ∷ taken)) (λ k. cond (has_sort f k index) 0 (days_left f occupied taken k))
+    (λ k l. left_after f occupied taken index k))
+    ∙ sum_parts (many_sorts f) (days_left f occupied taken) (λ k. has_sort f k index)
 
--- a place that adds a day has one
-pub some_days : (f : FamilyKind) (left free : ℕ → ℕ) (place : ℕ) → best_place f left free ≡ Some place
-    → (place < many_items f) × (1 ≤ days_of_place f left place)
-some_days f left free place e =
-    let b = best_some (gain_of_place f left free) (many_items f) place e in
-    (b.0, of_gain (days_of_place f free place == 0) (days_of_place f left place) b.1)
+-- an item that adds a day has one
+pub some_days : (f : FamilyKind) (left free : ℕ → ℕ) (index : ℕ) → best_index f left free ≡ Some index
+    → (index < many_items f) × (1 ≤ days_of_item f left index)
+some_days f left free index e =
+    let b = best_some (gain_of_item f left free) (many_items f) index e in
+    (b.0, of_gain (days_of_item f free index == 0) (days_of_item f left index) b.1)
   where
     of_gain : (b : Bool) (x : ℕ) → 1 ≤ cond b x 0 → 1 ≤ x
     of_gain true x l = l
     of_gain false x l = absurd (omega (arith, l))
 
--- the places that are taken are places of the kind
+-- the items that are taken are items of the kind
 pub in_range : (f : FamilyKind) (occupied free : ℕ → ℕ) (taken : List ℕ) → IsTakenInTurn f occupied free taken
-    → (place : ℕ) → list_any (λ other. place == other) taken ≡ true → place < many_items f
-in_range f occupied free [] turn place h = absurd (false≢true h)
-in_range f occupied free (x ∷ taken) turn place h =
-    elim (cases_eq place x) [
+    → (index : ℕ) → list_any (λ other. index == other) taken ≡ true → index < many_items f
+in_range f occupied free [] turn index h = absurd (false≢true h)
+in_range f occupied free (x ∷ taken) turn index h =
+    elim (cases_eq index x) [
       | inl same ↦ omega (arith, same, (some_days f (days_left f occupied taken) free x turn.1).0)
-      | inr other ↦ in_range f occupied free taken turn.0 place (later (place == x) (list_any (λ z. place == z) taken) h (grind (arith, nat_tests)))
+      | inr other ↦ in_range f occupied free taken turn.0 index (later (index == x) (list_any (λ z. index == z) taken) h (grind (arith, nat_tests)))
     ]
   where
     later : (a b : Bool) → (a || b) ≡ true → a ≡ false → b ≡ true
@@ -108,44 +108,44 @@ module _ (f : FamilyKind) (interval : ℕ) (first : ℤ) (occupied : ℤ → Boo
   abbrev sound : List ℕ
   sound = sound_places gives occupied first days (all_places f)
 
-  sound_is : (place : ℕ) → is_sound gives occupied first days place ≡ (days_of_place f fc place == 0)
-  sound_is place =
-      sound_by_sorts gives (many_sorts f) sort_of (has_sort f) occupied first days place (kinds_have_sorts f interval first)
-      ∙ ap (λ n. n == 0) (sum_same (many_sorts f) _ _ (λ k l. ap (λ x. cond (has_sort f k place) x 0) (sym (of_fc k))))
+  sound_is : (index : ℕ) → is_sound gives occupied first days index ≡ (days_of_item f fc index == 0)
+  sound_is index =
+      sound_by_sorts gives (many_sorts f) sort_of (has_sort f) occupied first days index (kinds_have_sorts f interval first)
+      ∙ ap (λ n. n == 0) (sum_same (many_sorts f) _ _ (λ k l. ap (λ x. cond (has_sort f k index) x 0) (sym (of_fc k))))
 
-  further_is : (taken : List ℕ) (place : ℕ) → further_days gives occupied first days taken place ≡ days_of_place f (days_left f oc taken) place
-  further_is taken place =
-      further_by_sorts gives (many_sorts f) sort_of (has_sort f) occupied first days taken place (kinds_have_sorts f interval first)
-      ∙ sum_same (many_sorts f) _ _ (λ k l. swap (has_sort f k place) (list_any (λ other. has_sort f k other) taken) (oc k) _ (of_oc k))
+  further_is : (taken : List ℕ) (index : ℕ) → further_days gives occupied first days taken index ≡ days_of_item f (days_left f oc taken) index
+  further_is taken index =
+      further_by_sorts gives (many_sorts f) sort_of (has_sort f) occupied first days taken index (kinds_have_sorts f interval first)
+      ∙ sum_same (many_sorts f) _ _ (λ k l. swap (has_sort f k index) (list_any (λ other. has_sort f k other) taken) (oc k) _ (of_oc k))
     where
       swap : (a b : Bool) (x y : ℕ) → x ≡ y → cond (a && not b) y 0 ≡ cond a (cond b 0 x) 0
       swap true true x y e = refl
       swap true false x y e = sym e
       swap false b x y e = refl
 
-  best_is : (taken : List ℕ) → best_place f (days_left f oc taken) fc ≡ chosen (further_days gives occupied first days taken) sound
+  best_is : (taken : List ℕ) → best_index f (days_left f oc taken) fc ≡ chosen (further_days gives occupied first days taken) sound
   best_is taken =
-      ap (λ number. best_below number (many_items f)) (λ i place. gain_is place i)
+      ap (λ number. best_below number (many_items f)) (λ i index. gain_is index i)
       ∙ best_is_chosen (further_days gives occupied first days taken) (is_sound gives occupied first days) (many_items f)
     where
-      gain_is : (place : ℕ) → gain_of_place f (days_left f oc taken) fc place
-          ≡ cond (is_sound gives occupied first days place) (further_days gives occupied first days taken place) 0
-      gain_is place =
-          ap (λ b. cond b (days_of_place f (days_left f oc taken) place) 0) (sym (sound_is place))
-          ∙ ap (λ n. cond (is_sound gives occupied first days place) n 0) (sym (further_is taken place))
+      gain_is : (index : ℕ) → gain_of_item f (days_left f oc taken) fc index
+          ≡ cond (is_sound gives occupied first days index) (further_days gives occupied first days taken index) 0
+      gain_is index =
+          ap (λ b. cond b (days_of_item f (days_left f oc taken) index) 0) (sym (sound_is index))
+          ∙ ap (λ n. cond (is_sound gives occupied first days index) n 0) (sym (further_is taken index))
 
-  within_more : (steps : ℕ) (places taken : List ℕ) (place : ℕ) → chosen (further_days gives occupied first days taken) places ≡ Some place
-      → taken_within (suc steps) gives occupied first days places taken ≡ taken_within steps gives occupied first days places (place ∷ taken)
+  within_more : (steps : ℕ) (indexes taken : List ℕ) (index : ℕ) → chosen (further_days gives occupied first days taken) indexes ≡ Some index
+      → taken_within (suc steps) gives occupied first days indexes taken ≡ taken_within steps gives occupied first days indexes (index ∷ taken)
   unfolding taken_within
-  within_more steps [] taken place e = absurd (cc)
-  within_more steps (x ∷ xs) taken place e =
+  within_more steps [] taken index e = absurd (cc)
+  within_more steps (x ∷ xs) taken index e =
       let number = further_days gives occupied first days taken in
       let b = first_greatest number x xs in
-      elim (number b == 0) as (λ z. cond z None (Some b) ≡ Some place
+      elim (number b == 0) as (λ z. cond z None (Some b) ≡ Some index
       → cond z taken (taken_within steps gives occupied first days (x ∷ xs) (b ∷ taken)) ≡ taken_within steps gives occupied first days (x ∷ xs)
-      (place ∷ taken)) [
+      (index ∷ taken)) [
         | true ↦ λ h. absurd (none_some h)
-        | false ↦ λ h. ap (λ p. taken_within steps gives occupied first days (x ∷ xs) (p ∷ taken)) (some_is b place h)
+        | false ↦ λ h. ap (λ p. taken_within steps gives occupied first days (x ∷ xs) (p ∷ taken)) (some_is b index h)
       ] e
     where
       none_some : {p : ℕ} → None ≡ Some p → ⊥
@@ -154,8 +154,8 @@ module _ (f : FamilyKind) (interval : ℕ) (first : ℤ) (occupied : ℤ → Boo
       some_is : (x y : ℕ) → Some x ≡ Some y → x ≡ y
       some_is x y h = cc
 
-  within_done : (steps : ℕ) (places taken : List ℕ) → chosen (further_days gives occupied first days taken) places ≡ None
-      → taken_within steps gives occupied first days places taken ≡ taken
+  within_done : (steps : ℕ) (indexes taken : List ℕ) → chosen (further_days gives occupied first days taken) indexes ≡ None
+      → taken_within steps gives occupied first days indexes taken ≡ taken
   unfolding taken_within
   within_done zero [] taken e = refl
   within_done (suc steps) [] taken e = refl
@@ -179,7 +179,7 @@ module _ (f : FamilyKind) (interval : ℕ) (first : ℤ) (occupied : ℤ → Boo
       let same = sum_same (many_sorts f) oc (days_of_sort sort_of occupied first days) (λ k l. of_oc k) in
       omega (arith, by_sorts, most, same)
 
-  -- from these places on the taking goes on, with steps enough for the days that are left
+  -- from these items on the taking goes on, with steps enough for the days that are left
   record TakesOn (taken : List ℕ) : Type 0 where
     pub steps : ℕ
     pub same : taken_places gives occupied first days (all_places f) ≡ taken_within steps gives occupied first days sound taken
@@ -187,19 +187,19 @@ module _ (f : FamilyKind) (interval : ℕ) (first : ℤ) (occupied : ℤ → Boo
 
   takes_on : (taken : List ℕ) → IsTakenInTurn f oc fc taken → TakesOn taken
   takes_on [] turn = record { steps = days; same = refl; few = few_left }
-  takes_on (place ∷ taken) turn =
+  takes_on (index ∷ taken) turn =
       let on = takes_on taken turn.0 in go on.steps on.same on.few
     where
       go : (steps : ℕ) → taken_places gives occupied first days (all_places f) ≡ taken_within steps gives occupied first days sound taken
-          → sum_below (many_sorts f) (days_left f oc taken) ≤ steps → TakesOn (place ∷ taken)
-      go zero same few = absurd (omega (arith, fewer_left f oc taken place, (some_days f (days_left f oc taken) fc place turn.1).1, few))
+          → sum_below (many_sorts f) (days_left f oc taken) ≤ steps → TakesOn (index ∷ taken)
+      go zero same few = absurd (omega (arith, fewer_left f oc taken index, (some_days f (days_left f oc taken) fc index turn.1).1, few))
       go (suc steps) same few = record {
         steps = steps;
-        same = same ∙ within_more steps sound taken place (sym (best_is taken) ∙ turn.1);
-        few = omega (arith, fewer_left f oc taken place, (some_days f (days_left f oc taken) fc place turn.1).1, few);
+        same = same ∙ within_more steps sound taken index (sym (best_is taken) ∙ turn.1);
+        few = omega (arith, fewer_left f oc taken index, (some_days f (days_left f oc taken) fc index turn.1).1, few);
       }
 
-  pub taken_is : (taken : List ℕ) → IsTakenInTurn f oc fc taken → best_place f (days_left f oc taken) fc ≡ None
+  pub taken_is : (taken : List ℕ) → IsTakenInTurn f oc fc taken → best_index f (days_left f oc taken) fc ≡ None
       → taken_places gives occupied first days (all_places f) ≡ taken
   taken_is taken turn done =
       let on = takes_on taken turn in on.same ∙ within_done on.steps sound taken (sym (best_is taken) ∙ done)
@@ -220,10 +220,10 @@ module _ (f : FamilyKind) (interval : ℕ) (first : ℤ) (occupied : ℤ → Boo
   sort_known None h = absurd (false≢true h)
   sort_known (Some k) h = (k, refl)
 
-  gives_by_sort : (d : ℤ) (k place : ℕ) → sort_of d ≡ Some k → gives place d ≡ has_sort f k place
-  gives_by_sort d k place is = (kinds_have_sorts f interval first).gives_sort place d ∙ ap (sort_passes (λ sort. has_sort f sort place)) is
+  gives_by_sort : (d : ℤ) (k index : ℕ) → sort_of d ≡ Some k → gives index d ≡ has_sort f k index
+  gives_by_sort d k index is = (kinds_have_sorts f interval first).gives_sort index d ∙ ap (sort_passes (λ sort. has_sort f sort index)) is
 
-  pub covers_if_clear : (taken : List ℕ) → IsTakenInTurn f oc fc taken → best_place f (days_left f oc taken) fc ≡ None
+  pub covers_if_clear : (taken : List ℕ) → IsTakenInTurn f oc fc taken → best_index f (days_left f oc taken) fc ≡ None
       → AreSorted sort_of occupied first days
       → IsClear f (days_left f oc taken) → AgreeWithin (some_gives gives taken) occupied first days
   covers_if_clear taken turn done sorted clear d l h =
@@ -231,16 +231,16 @@ module _ (f : FamilyKind) (interval : ℕ) (first : ℤ) (occupied : ℤ → Boo
       (λ g. taking_is_sound gives occupied first days (all_places f) d l h (subst (λ ps. some_gives gives ps d ≡ true) (sym (taken_is taken turn done)) g))
       (λ o. (
       let s = sort_known (sort_of d) (sorted d l h o) in
-      elim (cases_Bool (list_any (λ place. has_sort f s.0 place) taken)) [
-        | inl has ↦ (let g = giver (λ place. has_sort f s.0 place) taken has in
-            taker (λ place. gives place d) taken g.0 g.2 (gives_by_sort d s.0 g.0 s.1 ∙ g.1))
+      elim (cases_Bool (list_any (λ index. has_sort f s.0 index) taken)) [
+        | inl has ↦ (let g = giver (λ index. has_sort f s.0 index) taken has in
+            taker (λ index. gives index d) taken g.0 g.2 (gives_by_sort d s.0 g.0 s.1 ∙ g.1))
         | inr absent ↦ absurd (counted d l h s.0 s.1 o (
             ap (λ b. cond b 0 (oc s.0)) (sym absent) ∙ clear s.0 ((kinds_have_sorts f interval first).below d s.0 s.1)))
       ]))
 
   pub clear_if_covers : (taken : List ℕ) → AgreeWithin (some_gives gives taken) occupied first days → IsClear f (days_left f oc taken)
   clear_if_covers taken agree k l =
-      elim (cases_Bool (list_any (λ place. has_sort f k place) taken)) [
+      elim (cases_Bool (list_any (λ index. has_sort f k index) taken)) [
         | inl has ↦ ap (λ b. cond b 0 (oc k)) has
         | inr absent ↦ ap (λ b. cond b 0 (oc k)) absent ∙ of_oc k ∙ count_from-none (λ d. sort_passes (λ j. k == j) (sort_of d) && occupied d) first
             days (λ i m. not_here i m absent)
@@ -259,14 +259,14 @@ module _ (f : FamilyKind) (interval : ℕ) (first : ℤ) (occupied : ℤ → Boo
           and_false true = refl
           and_false false = refl
 
-      not_here : (i : ℕ) → i < days → list_any (λ place. has_sort f k place) taken ≡ false
+      not_here : (i : ℕ) → i < days → list_any (λ index. has_sort f k index) taken ≡ false
           → (sort_passes (λ j. k == j) (sort_of (first +ℤ pos i)) && occupied (first +ℤ pos i)) ≡ false
       not_here i m absent =
           let d = first +ℤ pos i in
           elim (cases_Bool (sort_passes (λ j. k == j) (sort_of d) && occupied d)) [
             | inl holds ↦ (
                 let s = of_sort (sort_of d) (occupied d) holds in
-                let g = giver (λ place. gives place d) taken (agree d (omega (arith, ints)) (omega (arith, ints, m)) ∙ s.1) in
-                absurd (false≢true (sym absent ∙ taker (λ place. has_sort f k place) taken g.0 g.2 (sym (gives_by_sort d k g.0 s.0) ∙ g.1))))
+                let g = giver (λ index. gives index d) taken (agree d (omega (arith, ints)) (omega (arith, ints, m)) ∙ s.1) in
+                absurd (false≢true (sym absent ∙ taker (λ index. has_sort f k index) taken g.0 g.2 (sym (gives_by_sort d k g.0 s.0) ∙ g.1))))
             | inr none_here ↦ none_here
           ]

@@ -123,8 +123,8 @@ fn count_day<A: DaySeq>(
 
 // One more of the sort, among the occupied days or among the free ones.
 fn count_at(taken: bool, sort: u16, occupied: &mut [u64], free: &mut [u64])
-    requires place { sort < length occupied.old }
-    requires free_place { sort < length free.old }
+    requires index { sort < length occupied.old }
+    requires free_index { sort < length free.old }
     requires room { get_or occupied.old sort 0 < 18_446_744_073_709_551_615 }
     requires free_room { get_or free.old sort 0 < 18_446_744_073_709_551_615 }
     ensures occupied { IsCountedOn occupied.old occupied.new (Some sort) taken }
@@ -139,7 +139,7 @@ fn count_at(taken: bool, sort: u16, occupied: &mut [u64], free: &mut [u64])
 
 // One more of the sort.
 fn count_one(counts: &mut [u64], sort: u16)
-    requires place { sort < length counts.old }
+    requires index { sort < length counts.old }
     requires room { get_or counts.old sort 0 < 18_446_744_073_709_551_615 }
     ensures { IsCountedOn counts.old counts.new (Some sort) true }
 {
@@ -148,8 +148,8 @@ fn count_one(counts: &mut [u64], sort: u16)
 
 // Whether a sort has an occupied day and a free one.
 fn is_mixed(occupied: &[u64], free: &[u64], sort: u16) -> bool
-    requires place { sort < length occupied.now }
-    requires free_place { sort < length free.now }
+    requires index { sort < length occupied.now }
+    requires free_index { sort < length free.now }
     ensures { result
         ≡ (nat_lt 0 (get_or occupied.now sort 0) && nat_lt 0 (get_or free.now sort 0)) }
 {

@@ -9,7 +9,7 @@ loop-sort-init c = (sym (sum_zero _), omega arith)
 
 pub loop-sort-preserved : goal.loop-sort-preserved
 loop-sort-preserved c =
-    let few = few_if (has_sort c.args.kind c.loop-sort.sort c.args.place) _ 4_000_000_000 (c.requires.few c.loop-sort.sort) in (
+    let few = few_if (has_sort c.args.kind c.loop-sort.sort c.args.index) _ 4_000_000_000 (c.requires.few c.loop-sort.sort) in (
       sum_next c.loop-sort.sort _ c.loop-sort.days c.days_of_sort-days.result c.loop-sort.invariant.0 c.days_of_sort-days.ensures,
       omega (arith, c.loop-sort.invariant.1, c.days_of_sort-days.ensures, few),
     )

@@ -6,11 +6,11 @@ use Rattle.rr_find.specs.Counted.{HasFewDays}
 use Rattle.rr_find.proofs.choice.taken_items.Given as goal
 
 -- the items so far are taken, and the days that they have are no longer left
-abbrev pub invariant-loop-place : goal.invariant-loop-place
-invariant-loop-place l =
+abbrev pub invariant-loop-index : goal.invariant-loop-index
+invariant-loop-index l =
     AreTakenSoFar l.kind (λ sort. get_or l.counts.occupied sort 0) (λ sort. get_or l.counts.free sort 0) (λ sort. get_or l.left sort 0) l.items
     × HasFewDays l.left
 
 -- the days that are left
-abbrev pub decreases-loop-place : goal.decreases-loop-place
-decreases-loop-place l = sum_below (many_sorts l.kind) (λ sort. get_or l.left sort 0)
+abbrev pub decreases-loop-index : goal.decreases-loop-index
+decreases-loop-index l = sum_below (many_sorts l.kind) (λ sort. get_or l.left sort 0)
