@@ -3,46 +3,26 @@ use crate::run;
 use rr_io::{MemorySink, MemorySource};
 use rr_trip::{MAX_FILE, Unwatched};
 use std::alloc::Global;
+use std::process::Abort;
 use std::test::*;
 
-// The head of a file, a text that follows a number of times, and the tail; and what is said of the file beside itself, with `~` for
-// each line break and without each `x`, and the exit status.
-const REPEATED: [(&str, &str, usize, &str, &str); 4] = [
-    ("", "", 0, "", "refused A NoEvents~[2]"),
-    (
-        "BEGIN:VCALENDAR\n",
-        "END:VCALENDAR\n",
-        1,
-        "",
-        "events 0 equal 0 differs 0 only-A 0 only-B 0 refused 0~[0]",
-    ),
-    (
-        "BEGIN:VCALENDAR\nBEGIN:VEVENT\n",
-        "UID:u\n",
-        1,
-        "",
-        "refused A BadLine 3~[2]",
-    ),
-    (
-        "BEGIN:VEVENT\nUID:",
-        "x",
-        1_048_576,
-        "\nDTSTART:20240101\nEND:VEVENT\n",
-        "equal ~events 1 equal 1 differs 0 only-A 0 only-B 0 refused 0~[0]",
-    ),
-];
+// The files `a` and `b`, and what is said of them, with the exit status. `~` stands for a line break, and `%COUNT*TEXT%` for a text a
+// number of times.
+const FILES: &str = "\
+||refused A NoEvents~[2]
+BEGIN:VCALENDAR~END:VCALENDAR~|BEGIN:VCALENDAR~END:VCALENDAR~|events 0 equal 0 differs 0 only-A 0 only-B 0 refused 0~[0]
+BEGIN:VCALENDAR~BEGIN:VEVENT~UID:u~|BEGIN:VCALENDAR~BEGIN:VEVENT~UID:u~|refused A BadLine 3~[2]
+BEGIN:VEVENT~UID:%65536*xxxxxxxxxxxxxxxx%~DTSTART:20240101~END:VEVENT~|BEGIN:VEVENT~UID:%65536*xxxxxxxxxxxxxxxx%~DTSTART:20240101~END:VEVENT~|equal %65536*xxxxxxxxxxxxxxxx%~events 1 equal 1 differs 0 only-A 0 only-B 0 refused 0~[0]
+";
 
-// How many instances a series has, and what is said of it beside itself.
-const INSTANCES: [(u32, &str); 2] = [
-    (
-        5_000,
-        "equal u~events 1 equal 1 differs 0 only-A 0 only-B 0 refused 0~[0]",
-    ),
-    (
-        10_000,
-        "refused u A TooManyParts 1~events 1 equal 0 differs 0 only-A 0 only-B 0 refused 1~[2]",
-    ),
-];
+// A daily series.
+const DAILY: &str = "BEGIN:VEVENT~UID:u~DTSTART:20240101T000000~RRULE:FREQ=DAILY~END:VEVENT~";
+
+// What is said of it with 5,000 instances beside itself, and of one with 10,000.
+const MANY: &str = "equal u~events 1 equal 1 differs 0 only-A 0 only-B 0 refused 0~[0]";
+
+const TOO_MANY: &str =
+    "refused u A TooManyParts 1~events 1 equal 0 differs 0 only-A 0 only-B 0 refused 1~[2]";
 
 // A weekly series, and the same with one occurrence a day and an hour later; each with an event that the other lacks.
 const OLD: &str =
@@ -51,120 +31,124 @@ const OLD: &str =
 const NEW: &str =
     "BEGIN:VEVENT\nUID:u\nDTSTART:20240101T090000\nRRULE:FREQ=WEEKLY\nEXDATE:20240108T090000\nRDATE:20240109T100000\nEND:VEVENT\nBEGIN:VEVENT\nDTSTART:20240101\nEND:VEVENT\n";
 
-// The words, with the files `a` and `b` and standard input, which has the bytes of `a`; and what is said.
-const SAID: [(&str, &str); 9] = [
-    (
-        "- b",
-        "only B line 8~differs u no 2024-01-08T09:00:00 A~only A v\\x20w~events 3 equal 0 differs 1 only-A 1 only-B 1 refused 0~[1]",
-    ),
-    (
-        "- -",
-        "usage: rr-calendars OLD NEW [--differences] [--offset +HH:MM] [--show UID]~[3]",
-    ),
-    ("a c", "[4]"),
-    ("--show u a -", "equal u~[0]"),
-    ("a b --show nobody", "unknown nobody~[2]"),
-    ("a b --show v\\x20w", "only A v\\x20w~[1]"),
-    ("a b --show line/8", "only B line 8~[1]"),
-    (
-        "a b --show",
-        "usage: rr-calendars OLD NEW [--differences] [--offset +HH:MM] [--show UID]~[3]",
-    ),
-    (
-        "a b --show u",
-        "differs u no 2024-01-08T09:00:00 A~~2024-01~ Mo Tu We Th Fr Sa Su~  =  .  .  .  .  .  .~  A  B  .  .  .  .  .~  =  .  .  .  .  .  .~  =  .  .  .  .  .  .~  =  .  .~~2024-02~ Mo Tu We Th Fr Sa Su~           .  .  .  .~  =  .  .  .  .  .  .~  =  .  .  .  .  .  .~  =  .  .  .  .  .  .~  =  .  .  .~~2024-03~ Mo Tu We Th Fr Sa Su~              .  .  .~  =  .  .  .  .  .  .~  =  .  .  .  .  .  .~  =  .  .  .  .  .  .~  =  .  .  .  .  .  .~~= both, x both at other times, A or B one alone, . none~usually 09:00:00~2024-01-09 B 10:00:00~[1]",
-    ),
-];
+// The words, divided by `/`, with these two files and standard input, which has the bytes of `a`; and what is said.
+const SAID: &str = "\
+-/b|only B line 8~differs u no 2024-01-08T09:00:00 A~only A v\\x20w~events 3 equal 0 differs 1 only-A 1 only-B 1 refused 0~[1]
+-/-|usage: rr-calendars OLD NEW [--differences] [--offset +HH:MM] [--show UID]~[3]
+a/c|[4]
+--show/u/a/-|equal u~[0]
+a/b/--show/nobody|unknown nobody~[2]
+a/b/--show/v\\x20w|only A v\\x20w~[1]
+a/b/--show/line 8|only B line 8~[1]
+a/b/--show|usage: rr-calendars OLD NEW [--differences] [--offset +HH:MM] [--show UID]~[3]
+a/b/--show/u|differs u no 2024-01-08T09:00:00 A~~2024-01~ Mo Tu We Th Fr Sa Su~  =  .  .  .  .  .  .~  A  B  .  .  .  .  .~  =  .  .  .  .  .  .~  =  .  .  .  .  .  .~  =  .  .~~2024-02~ Mo Tu We Th Fr Sa Su~           .  .  .  .~  =  .  .  .  .  .  .~  =  .  .  .  .  .  .~  =  .  .  .  .  .  .~  =  .  .  .~~2024-03~ Mo Tu We Th Fr Sa Su~              .  .  .~  =  .  .  .  .  .  .~  =  .  .  .  .  .  .~  =  .  .  .  .  .  .~  =  .  .  .  .  .  .~~= both, x both at other times, A or B one alone, . none~usually 09:00:00~2024-01-09 B 10:00:00~[1]
+";
 
-// What is put, with `~` for each line break, and the exit status. A blank within a word is written `/`.
-fn said(alloc: Global, words: &str, a: &[u8], b: &[u8]) -> Result<String, Fail> {
-    let mut texts = Vec::new(alloc);
-    for word in words.split(' ') {
-        texts.push(word.replace(alloc, "/", " ")?)?;
-    }
-    let mut list = Vec::new(alloc);
-    for text in texts.as_slice() {
-        list.push(text.as_str())?;
-    }
-    let mut source = MemorySource::new(alloc);
-    source.hold("a", a).ok().ok_or("memory")?;
-    source.hold("b", b).ok().ok_or("memory")?;
-    source.hold("-", a).ok().ok_or("memory")?;
+// What is put, and the exit status.
+fn said(rt: &impl Abort, alloc: Global, line: &str, a: &[u8], b: &[u8]) -> String {
+    let words = Vec::from_iter(alloc, line.split('/')).expect(rt, "memory");
+    let mut source = source_of(rt, alloc, a, b);
     let mut sink = MemorySink::new(alloc);
     let ended = run(
         alloc,
-        list.as_slice(),
+        words.as_slice(),
         &mut source,
         &mut sink,
         &mut Unwatched,
     );
-    let text = std::str::from_utf8(sink.bytes())
-        .ok()
-        .ok_or("the output is text")?;
-    let text = text.replace(alloc, "\n", "~")?;
-    Ok(format!(in alloc; "{}[{}]", text.as_str(), ended.status.code())?)
+    let text = std::str::from_utf8(sink.bytes()).expect(rt, "the output is text");
+    format!(in alloc; "{text}[{}]", ended.status.code()).expect(rt, "memory")
 }
 
-// A head, a text a number of times, and a tail.
-fn repeated(
-    alloc: Global,
-    head: &str,
-    text: &str,
-    count: usize,
-    tail: &str,
-) -> Result<Vec<u8>, Fail> {
-    let mut bytes = Vec::from_slice(alloc, head.as_bytes())?;
-    for _ in 0..count {
-        bytes.extend_from_slice(text.as_bytes())?;
+// The files.
+fn source_of(rt: &impl Abort, alloc: Global, a: &[u8], b: &[u8]) -> MemorySource {
+    let mut source = MemorySource::new(alloc);
+    source.hold("a", a).expect(rt, "memory");
+    source.hold("b", b).expect(rt, "memory");
+    source.hold("-", a).expect(rt, "memory");
+    source
+}
+
+// That is said.
+fn says(rt: &impl Abort, alloc: Global, line: &str, a: &[u8], b: &[u8], wanted: &str) {
+    let wanted = text_of(rt, alloc, wanted);
+    let said = said(rt, alloc, line, a, b);
+    assert_eq!(rt; said.as_str(), wanted.as_str(), "{line}");
+}
+
+// A text as a row has it.
+fn text_of(rt: &impl Abort, alloc: Global, written: &str) -> String {
+    let written = written.replace(alloc, "~", "\n").expect(rt, "memory");
+    let mut text = String::new(alloc);
+    for piece in written.split('%') {
+        let (count, piece) = piece.split_once('*').unwrap_or(("1", piece));
+        let count = count.parse::<usize>().unwrap_or(0);
+        let pieces = piece.repeat(alloc, count).expect(rt, "memory");
+        text.push_str(pieces.as_str()).expect(rt, "memory");
     }
-    bytes.extend_from_slice(tail.as_bytes())?;
-    Ok(bytes)
+    text
 }
 
-// A daily series with instances that are put off by a year.
-fn with_instances(alloc: Global, count: u32) -> Result<Vec<u8>, Fail> {
-    let mut bytes = Vec::from_slice(
-        alloc,
-        b"BEGIN:VEVENT\nUID:u\nDTSTART:20240101T000000\nRRULE:FREQ=DAILY\nEND:VEVENT\n",
-    )?;
+// A row `A|B|OUTPUT[STATUS]` holds.
+fn files_hold(rt: &impl Abort, alloc: Global, row: &str) {
+    let mut fields = row.split('|');
+    let a = text_of(rt, alloc, fields.next().expect(rt, "a row has a file A"));
+    let b = text_of(rt, alloc, fields.next().expect(rt, "a row has a file B"));
+    let wanted = fields.next().expect(rt, "a row has an output");
+    says(rt, alloc, "a/b", a.as_bytes(), b.as_bytes(), wanted);
+}
+
+// A row `WORDS|OUTPUT[STATUS]` holds.
+fn words_hold(rt: &impl Abort, alloc: Global, row: &str) {
+    let (line, wanted) = row.split_once('|').expect(rt, "a row has an output");
+    says(rt, alloc, line, OLD.as_bytes(), NEW.as_bytes(), wanted);
+}
+
+// An instance of the daily series below that is put off by a year.
+fn instance(rt: &impl Abort, alloc: Global, i: u32) -> String {
+    let (hour, minute, second) = (i / 3_600 % 24, i / 60 % 60, i % 60);
+    format!(in alloc;
+        "BEGIN:VEVENT
+UID:u
+RECURRENCE-ID:20240101T{hour:02}{minute:02}{second:02}
+DTSTART:20250101T{hour:02}{minute:02}{second:02}
+END:VEVENT
+"
+    )
+    .expect(rt, "memory")
+}
+
+// That is said of a daily series with instances that are put off by a year, beside itself.
+fn instances_hold(rt: &impl Abort, alloc: Global, count: u32, wanted: &str) {
+    let mut text = text_of(rt, alloc, DAILY);
     for i in 0..count {
-        let time = format!(in alloc; "{:02}{:02}{:02}", i / 3_600 % 24, i / 60 % 60, i % 60)?;
-        let event = format!(in alloc;
-            "BEGIN:VEVENT\nUID:u\nRECURRENCE-ID:20240101T{}\nDTSTART:20250101T{}\nEND:VEVENT\n",
-            time.as_str(),
-            time.as_str()
-        )?;
-        bytes.extend_from_slice(event.as_bytes())?;
+        let event = instance(rt, alloc, i);
+        text.push_str(event.as_str()).expect(rt, "memory");
     }
-    Ok(bytes)
+    says(rt, alloc, "a/b", text.as_bytes(), text.as_bytes(), wanted);
 }
 
 #[test]
-fn files_that_are_odd(rt: HostRuntime) -> Result<(), Fail> {
-    let alloc = rt.alloc();
-    for (head, text, count, tail, wanted) in REPEATED {
-        let file = repeated(alloc, head, text, count, tail)?;
-        let said = said(alloc, "a b", file.as_slice(), file.as_slice())?;
-        let said = said.as_str().replace(alloc, "x", "")?;
-        assert_eq!(rt; said.as_str(), wanted);
+fn files_that_are_odd(rt: HostRuntime) {
+    for row in FILES.lines() {
+        files_hold(&rt, rt.alloc(), row);
     }
-    let file = vec![in alloc; b' '; MAX_FILE + 1]?;
-    let too_long = said(alloc, "a b", file.as_slice(), b"")?;
-    assert_eq!(rt; too_long.as_str(), "refused A TooLong~[2]");
-    for (count, wanted) in INSTANCES {
-        let file = with_instances(alloc, count)?;
-        let said = said(alloc, "a b", file.as_slice(), file.as_slice())?;
-        assert_eq!(rt; said.as_str(), wanted);
-    }
-    Ok(())
+    let long = vec![in rt.alloc(); b' '; MAX_FILE + 1].expect(&rt, "memory");
+    says(
+        &rt,
+        rt.alloc(),
+        "a/b",
+        long.as_slice(),
+        b"",
+        "refused A TooLong~[2]",
+    );
+    instances_hold(&rt, rt.alloc(), 5_000, MANY);
+    instances_hold(&rt, rt.alloc(), 10_000, TOO_MANY);
 }
 
 #[test]
-fn words_and_what_is_said(rt: HostRuntime) -> Result<(), Fail> {
-    let alloc = rt.alloc();
-    for (words, wanted) in SAID {
-        let said = said(alloc, words, OLD.as_bytes(), NEW.as_bytes())?;
-        assert_eq!(rt; said.as_str(), wanted, "{words}");
+fn words_and_what_is_said(rt: HostRuntime) {
+    for row in SAID.lines() {
+        words_hold(&rt, rt.alloc(), row);
     }
-    Ok(())
 }
