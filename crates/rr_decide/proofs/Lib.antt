@@ -1,5 +1,4 @@
 pub mod AlikeLemmas
-pub mod EveryLemmas
 pub mod MergeLemmas
 pub mod OrderLemmas
 pub mod QuestionLemmas

@@ -1,5 +1,4 @@
 pub mod Alike
-pub mod Every
 pub mod Look
 pub mod Occurrence
 pub mod Question

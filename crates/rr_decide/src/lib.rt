@@ -13,6 +13,3 @@ mod verdicts;
 pub use decide::{disjoint, equal, verdict, within};
 pub use long::equal_long;
 pub use question::Question;
-
-#[cfg(test)]
-mod tests;

@@ -10,6 +10,8 @@ mod cal_tests;
 #[cfg(test)]
 mod check_tests;
 #[cfg(test)]
+mod decide_tests;
+#[cfg(test)]
 mod drill_tests;
 #[cfg(test)]
 mod events_tests;
