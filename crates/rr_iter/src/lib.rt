@@ -22,6 +22,7 @@ pub use counts::{Counted, Counts};
 pub use ended_lazy::EndedLazy;
 pub use kept_lazy::KeptLazy;
 pub use laws::{series_repeats, tree_stands_for_series};
+pub use nth::{Nth, nth_of};
 pub use rr_lazy::{DatesLazy, Except, FirstN, Lazy, Many, OccupiedDay, Union, Upto, Without};
 pub use rules_lazy::RulesLazy;
 pub use settled::{Settled, ends, settled_day_and_counts};

@@ -12,12 +12,12 @@ use rr_shapes::SetTable;
 use rr_walk::RuleLazy;
 use std::alloc::Global;
 
-// Where an occurrence lies, looked for up to a day.
+/// Where an occurrence lies, looked for up to a day.
 #[derive(Clone, Copy)]
-pub(crate) enum Nth {
-    // On this day, in days since 1970-01-01.
+pub enum Nth {
+    /// On this day, in days since 1970-01-01.
     On(i64),
-    // After the days that were looked at, as the one of this number there, from 1.
+    /// After the days that were looked at, as the one of this number there, from 1.
     Beyond(u64),
 }
 
@@ -42,9 +42,14 @@ pub(crate) fn day_of_nth(
     nth_of(alloc, chosen, number, to)
 }
 
-// Where the occurrence of a number, from 1, in a set that has not been asked lies up to a day, in days since 1970-01-01. Each
-// day's moments are counted at once.
-fn nth_of<A: Lazy + Drop>(alloc: Global, mut lazy: A, number: u64, to: i64) -> Result<Nth, NoMemory>
+/// Where the occurrence of a number, from 1, in a set that has not been asked lies up to a day, in days since 1970-01-01. Each
+/// day's moments are counted at once.
+pub fn nth_of<A: Lazy + Drop>(
+    alloc: Global,
+    mut lazy: A,
+    number: u64,
+    to: i64,
+) -> Result<Nth, NoMemory>
     requires unasked { IsUnasked (A.position lazy) }
     requires knows { (sets : List (List ℕ)) → A.knows lazy sets }
     requires some { 1 ≤ number }
