@@ -3,8 +3,12 @@ use crate::rows::{printed, rows_hold};
 use rr_algebra::read_descriptor;
 use std::alloc::Global;
 
-// Canonical texts of both versions.
-const CANONICAL: &str = "\
+// Canonical texts of both versions. Then no line, a line too few or too many, another version, a second mark, and other line ends; the
+// period 14, which is twice the least; days that repeat from 2024-01-01 on already; a settled day before the first one; two lines of one
+// set; sets out of the order of their first use; one that no day has; a row written second by second, a row of two, a row past the day, a
+// version's row in the other; counts and gaps far past each day that is read; leading zeros, equal runs apart, no such date, and a day
+// before the year 1.
+const TEXTS: &str = "\
 rrcanon 2~none~|true
 rrcanon 1~none~|true
 \u{FEFF}rrcanon 1~days~f 2024-01-01~b 0 0 1~b 1 0 2~|true
@@ -13,9 +17,6 @@ rrcanon 2~moments~t 32400 61200~f 2024-01-01~b 0 0 1~b 1 0 9~|true
 rrcanon 1~moments~t 32400 61200~f 2024-01-01~b 0 0 1~b 1 0 9~|true
 rrcanon 2~moments~t 0/25200/4~f 2024-01-01~b 0 0 1~|true
 rrcanon 2~moments~t 0/1/86400~f 2024-01-01~q 2024-01-01 1~c 0 0 1~|true
-";
-// No line, a line too few or too many, another version, a second mark, and other line ends.
-const FRAMES: &str = "\
 |false
 rrcanon 2~none|false
 rrcanon 2~none~~|false
@@ -23,40 +24,20 @@ rrcanon 3~none~|false
 \u{FEFF}\u{FEFF}rrcanon 2~none~|false
 rrcanon 2\r~none\r~|false
 rrcanon 2\r~days\r~f 2024-01-01\r~b 0 0 1\r~|false
-";
-
-// The period 14, which is twice the least; days that repeat from 2024-01-01 on already; a settled day before the first one.
-const NOT_LEAST: &str = "\
 rrcanon 2~days~f 2024-01-01~q 2024-01-01 14~c 0 0 1~c 7 0 1~|false
 rrcanon 2~days~f 2024-01-01~b 0 0 1~q 2024-01-08 7~c 0 0 1~|false
 rrcanon 2~days~f 2024-01-02~q 2024-01-01 7~c 1 0 1~|false
-";
-
-// Two lines of one set; sets out of the order of their first use; one that no day has.
-const SETS: &str = "\
 rrcanon 2~moments~t 0~t 0~f 2024-01-01~b 0 0 1~b 1 1 9~|false
 rrcanon 2~moments~t 0~t 60~f 2024-01-01~b 0 1 1~b 1 0 1~|false
 rrcanon 2~moments~t 0~t 60~f 2024-01-01~b 0 0 1~|false
-";
-
-// A row written second by second, a row of two, a row past the day, a version's row in the other.
-const SECONDS: &str = "\
 rrcanon 2~moments~t 0 60 120~f 2024-01-01~b 0 0 1~|false
 rrcanon 2~moments~t 0/60/2~f 2024-01-01~b 0 0 1~|false
 rrcanon 2~moments~t 0/1/86401~f 2024-01-01~q 2024-01-01 1~c 0 0 1~|false
 rrcanon 1~moments~t 0/25200/4~f 2024-01-01~b 0 0 1~|false
-";
-
-// Counts and gaps far past each day that is read.
-const FAR: &str = "\
 rrcanon 2~days~f 2024-01-01~b 0 0 1~b 1 0 1000000000000~|false
 rrcanon 2~days~f 2024-01-01~b 0 0 1~b 18446744073709551615 0 1~|false
 rrcanon 2~days~f 2024-01-01~q 2024-01-01 18446744073709551615~c 0 0 1~|false
 rrcanon 2~days~f 2024-01-01~q 2024-01-01 16777217~c 0 0 1~c 3 0 1~|false
-";
-
-// Leading zeros, equal runs apart, no such date, and a day before the year 1.
-const FORMS: &str = "\
 rrcanon 2~moments~t 00~f 2024-01-01~b 0 0 1~|false
 rrcanon 2~days~f 2024-01-01~b 0 0 1~b 1 0 1~b 1 0 1~|false
 rrcanon 2~days~f 2023-02-29~b 0 0 1~|false
@@ -78,9 +59,7 @@ fn said(alloc: Global, text: &str) -> Option<String> {
 
 #[test]
 fn texts(rt: HostRuntime) {
-    for table in [CANONICAL, FRAMES, NOT_LEAST, SETS, SECONDS, FAR, FORMS] {
-        rows_hold(&rt, rt.alloc(), said, table);
-    }
+    rows_hold(&rt, rt.alloc(), said, TEXTS);
 }
 
 // Whether a text of some 1.2 megabytes is read that has this end.

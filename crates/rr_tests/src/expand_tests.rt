@@ -1,7 +1,7 @@
 // Days and seconds of rules from known starts on.
-use crate::rows::{only_rule, printed, rows_hold, series_of};
+use crate::rows::{only_rule, printed, rows_hold, rule_said, series_of};
 use rr_expand::{days, seconds_on, times, year_mask};
-use rr_model::{Freq, Kind};
+use rr_model::{Freq, Kind, Rule};
 use std::alloc::Global;
 
 // 2024-01-01.
@@ -15,13 +15,15 @@ const DAYS: &str = "\
 FREQ=DAILY;BYMONTHDAY=-1|[19782]
 ";
 
-fn days_said(alloc: Global, rule: &str) -> Option<String> {
-    let series = series_of(alloc, "20240101", rule)?;
-    let rule = only_rule(&series)?;
-    if rule.freq != Freq::Daily {
+fn days_of(alloc: Global, rule: &Rule) -> Option<String> {
+    if rule.freq != Freq::Daily || rule.interval == 0 {
         return None;
     }
     printed(alloc, &days(alloc, rule, FIRST, 19_782).ok()?.as_slice())
+}
+
+fn days_said(alloc: Global, given: &str) -> Option<String> {
+    rule_said(alloc, "20240101", given, days_of)
 }
 
 // Rules, and the seconds of each of their days, or of 1997-09-02 where these differ.
@@ -31,15 +33,20 @@ FREQ=DAILY;BYHOUR=23;BYMINUTE=59;BYSECOND=5|[86345]
 FREQ=HOURLY;INTERVAL=7|[7200, 32400, 57600, 82800]
 ";
 
-fn times_said(alloc: Global, rule: &str) -> Option<String> {
-    let series = series_of(alloc, "19970902T090000", rule)?;
-    let rule = only_rule(&series)?;
+fn times_of(alloc: Global, rule: &Rule) -> Option<String> {
+    if rule.interval == 0 {
+        return None;
+    }
     let seconds = if rule.freq.is_whole_days() {
         times(alloc, rule, Kind::Moments, START).ok()?
     } else {
         seconds_on(alloc, rule, START, 10_106).ok()?
     };
     printed(alloc, &seconds.as_slice())
+}
+
+fn times_said(alloc: Global, given: &str) -> Option<String> {
+    rule_said(alloc, "19970902T090000", given, times_of)
 }
 
 // Days of 2024 from 0, and the first last days of months from there on.

@@ -8,42 +8,42 @@ use rr_model::{
 };
 use std::alloc::Global;
 
-fn numbers_said(alloc: Global, given: &str) -> Option<String> {
+fn numbers_said(alloc: Global) -> Option<String> {
     let mut numbers = Numbers::new(alloc);
-    for word in given.split(' ') {
-        numbers.put(word.parse::<i16>().ok()?).ok()?;
-    }
+    numbers.put(3).ok()?;
+    numbers.put(-1).ok()?;
+    numbers.put(3).ok()?;
+    numbers.put(1).ok()?;
     printed(alloc, &numbers.as_slice())
 }
 
-fn dates_said(alloc: Global, given: &str) -> Option<String> {
+// One date twice and an earlier one, copied.
+fn dates_said(alloc: Global) -> Option<String> {
     let mut dates = Dates::new(alloc);
-    for word in given.split(' ') {
-        dates.put(word.parse::<i64>().ok()?).ok()?;
-    }
+    dates.put(20_000).ok()?;
+    dates.put(-5).ok()?;
+    dates.put(20_000).ok()?;
     printed(alloc, &dates.copy(alloc).ok()?.as_slice())
 }
 
-fn seconds_said(alloc: Global, given: &str) -> Option<String> {
+fn seconds_said(alloc: Global) -> Option<String> {
     let mut seconds = Seconds::new(alloc);
-    for word in given.split(' ') {
-        seconds.put(word.parse::<u32>().ok()?).ok()?;
-    }
+    seconds.put(43_200).ok()?;
+    seconds.put(0).ok()?;
     printed(alloc, &seconds.as_slice())
 }
 
-// Places of weekdays, both in digits.
-fn day_items_said(alloc: Global, given: &str) -> Option<String> {
+fn item(place: i8, weekday: u8) -> DayItem {
+    DayItem { place, weekday }
+}
+
+// Each Friday, each Monday, the last Monday and each Friday again.
+fn day_items_said(alloc: Global) -> Option<String> {
     let mut items = DayItems::new(alloc);
-    for word in given.split(' ') {
-        let (place, weekday) = word.split_once(':')?;
-        items
-            .put(DayItem {
-                place: place.parse::<i8>().ok()?,
-                weekday: weekday.parse::<u8>().ok()?,
-            })
-            .ok()?;
-    }
+    items.put(item(0, 4)).ok()?;
+    items.put(item(0, 0)).ok()?;
+    items.put(item(-1, 0)).ok()?;
+    items.put(item(0, 4)).ok()?;
     printed(alloc, &items.as_slice())
 }
 
@@ -56,10 +56,9 @@ fn items_said(alloc: Global, given: &str) -> Option<String> {
     printed(alloc, &items.as_slice())
 }
 
-// Each Friday, each Monday, the last Monday and each Friday again.
+// The last Monday, each Monday and each Friday.
 const DAY_ITEMS: &str = "\
-0:4 0:0 -1:0 0:4|[DayItem { place: -1, weekday: 0 }, DayItem { place: 0, weekday: 0 }, DayItem { place: 0, weekday: 4 }]
-";
+[DayItem { place: -1, weekday: 0 }, DayItem { place: 0, weekday: 0 }, DayItem { place: 0, weekday: 4 }]";
 
 // Items by variant, by number and by weekday, and the same backwards and twice.
 const ITEMS: &str = "\
@@ -76,15 +75,10 @@ Month(1), Month(12), YearDay(1), YearDay(366)]
 
 #[test]
 fn lists_put_values_at_their_place(rt: HostRuntime) {
-    rows_hold(&rt, rt.alloc(), numbers_said, "3 -1 3 1|[-1, 1, 3]");
-    rows_hold(
-        &rt,
-        rt.alloc(),
-        dates_said,
-        "20000 -5 20000|[-5, 20000]\n-5|[-5]",
-    );
-    rows_hold(&rt, rt.alloc(), seconds_said, "43200 0|[0, 43200]");
-    rows_hold(&rt, rt.alloc(), day_items_said, DAY_ITEMS);
+    is_said(&rt, numbers_said(rt.alloc()), "[-1, 1, 3]", "numbers");
+    is_said(&rt, dates_said(rt.alloc()), "[-5, 20000]", "dates");
+    is_said(&rt, seconds_said(rt.alloc()), "[0, 43200]", "seconds");
+    is_said(&rt, day_items_said(rt.alloc()), DAY_ITEMS, "weekdays");
     rows_hold(&rt, rt.alloc(), items_said, ITEMS);
 }
 
@@ -186,33 +180,44 @@ fn lists_put_values_at_the_end(rt: HostRuntime) {
     is_said(&rt, vrules_said(rt.alloc()), "(2, 1)", "rules of vCalendar");
 }
 
-// A rule whose copy then gets one more month: what the copy has, and the months that the rule keeps.
+// A rule whose copy then gets one more month, and what the copy has.
 const COPIED: &str = "\
 FREQ=YEARLY;INTERVAL=4;BYMONTH=2;BYMONTHDAY=29;BYDAY=TH|\
-((Yearly, 4, true), [2, 3], [29], [DayItem { place: 0, weekday: 3 }], [2])
+(Yearly, 4, true, ([2, 3], [29], [DayItem { place: 0, weekday: 3 }]))
 ";
 
+// The frequency and the interval of a rule, whether it has no hours, and its months, days of the month and weekdays.
+fn parts_said(alloc: Global, rule: &Rule) -> Option<String> {
+    let lists = (
+        rule.by_month.as_slice(),
+        rule.by_month_day.as_slice(),
+        rule.by_day.as_slice(),
+    );
+    let parts = (rule.freq, rule.interval, rule.by_hour.is_empty(), lists);
+    printed(alloc, &parts)
+}
+
+// None where the rule itself gets the month too.
 fn copy_said(alloc: Global, given: &str) -> Option<String> {
     let series = series_of(alloc, "20240229", given)?;
     let rule = only_rule(&series)?;
     let mut copy = rule.copy(alloc).ok()?;
     copy.by_month.put(3).ok()?;
-    let lists = (
-        (copy.freq, copy.interval, copy.by_hour.is_empty()),
-        copy.by_month.as_slice(),
-        copy.by_month_day.as_slice(),
-        copy.by_day.as_slice(),
-        rule.by_month.as_slice(),
-    );
-    printed(alloc, &lists)
+    if rule.by_month.len() != 1 {
+        return None;
+    }
+    parts_said(alloc, &copy)
 }
 
-// How many months each of two rules has that are copied together.
+// How many months two rules have that are copied together, and whether the first has no weekdays.
 fn copies_said(alloc: Global, given: &str) -> Option<String> {
     let series = series_of(alloc, "20240229", given)?;
     let rules = series.rules.copy(alloc).ok()?;
     match rules.as_slice() {
-        [first, second] => printed(alloc, &(first.by_month.len(), second.by_month.len())),
+        [first, second] => {
+            let months = (first.by_month.len(), second.by_month.len());
+            printed(alloc, &(months, first.by_day.is_empty()))
+        }
         _ => None,
     }
 }
@@ -220,7 +225,7 @@ fn copies_said(alloc: Global, given: &str) -> Option<String> {
 #[test]
 fn rules_are_copied(rt: HostRuntime) {
     rows_hold(&rt, rt.alloc(), copy_said, COPIED);
-    let two = "FREQ=YEARLY;BYMONTH=2,3~RRULE:FREQ=YEARLY;BYMONTH=2|(2, 1)";
+    let two = "FREQ=YEARLY;BYMONTH=2,3~RRULE:FREQ=YEARLY;BYMONTH=2|((2, 1), true)";
     rows_hold(&rt, rt.alloc(), copies_said, two);
 }
 

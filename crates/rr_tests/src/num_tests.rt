@@ -1,5 +1,5 @@
 // Cycles of rules, and multiples of numbers.
-use crate::rows::{only_rule, printed, rows_hold, series_of, three_words};
+use crate::rows::{printed, rows_hold, rule_said, three_words};
 use rr_model::{Freq, Rule};
 use rr_num::{day_cycle, gcd, lcm_within};
 use std::alloc::Global;
@@ -15,13 +15,15 @@ FREQ=MINUTELY;INTERVAL=90|1
 FREQ=DAILY;INTERVAL=3;BYDAY=MO|21
 ";
 
-fn cycle_said(alloc: Global, rule: &str) -> Option<String> {
-    let series = series_of(alloc, "20240101T000000", rule)?;
-    let rule = only_rule(&series)?;
+fn cycle_of(alloc: Global, rule: &Rule) -> Option<String> {
     if rule.interval == 0 {
         return None;
     }
     printed(alloc, &day_cycle(rule))
+}
+
+fn cycle_said(alloc: Global, given: &str) -> Option<String> {
+    rule_said(alloc, "20240101T000000", given, cycle_of)
 }
 
 // The cycle of every second week on 29 February, which no text states.

@@ -14,12 +14,13 @@ pub(crate) fn printed<T: Debug>(alloc: Global, value: &T) -> Option<String> {
     format!(in alloc; "{value:?}").ok()
 }
 
-// What is said is what is wanted; none where a case is not understood or memory is lacking.
+// What is said is what is wanted; nothing is said where a case is not understood or memory is lacking.
 pub(crate) fn is_said(rt: &impl Abort, said: Option<String>, wanted: &str, of: &str) {
-    let Some(said) = said else {
-        panic!(rt; "nothing is said of {of}");
+    let said = match &said {
+        Some(said) => said.as_str(),
+        None => "nothing is said",
     };
-    assert_eq!(rt; said.as_str(), wanted, "{of}");
+    assert!(rt; said == wanted, "{of}: {said}");
 }
 
 // A row `GIVEN|SAID` holds, where `~` stands for each line break of what is given.
@@ -82,4 +83,17 @@ pub(crate) fn only_rule(series: &Series) -> Option<&Rule>
         [rule] => Some(rule),
         _ => None,
     }
+}
+
+// What is said of the only rule of a text, from a start on.
+pub(crate) fn rule_said(
+    alloc: Global,
+    start: &str,
+    rule: &str,
+    say: fn(Global, &Rule) -> Option<String>,
+) -> Option<String>
+    requires { IsAlwaysCallable say }
+{
+    let series = series_of(alloc, start, rule)?;
+    say(alloc, only_rule(&series)?)
 }

@@ -1,7 +1,23 @@
 // Long lists of numbers, and days with numbers.
-use crate::rows::{is_said, printed};
+use crate::rows::{is_said, printed, rows_hold};
 use rr_runs::{Pages, RunDays};
 use std::alloc::Global;
+use std::fmt::Write;
+
+// Steps on a list, and what is said of it: `put` and `all` put one number and 1 to 3, `same` equal numbers, `rising` those from one
+// up to, but without, another, `again` a part of the list once more; `part` keeps a part alone. Then `len` asks how many numbers there
+// are, `at` for the number at a place, `zeros` how many zeros follow, and `many` the same up to 1,000. The zeros from 200,001 on are 24 to
+// the end of the page, 64 pages and one page more; 818,700 is no multiple of 63 places before the end.
+const PAGES: &str = "\
+put 7,all,same 0 3000,again 2 500,again 3378 126,len,at 3004,at 3005,zeros 3,many 4,zeros 3629,\
+part 1 3600,len,at 3003| 3630 2 3 0 1000 1 3600 2
+same 3 200020,rising 0 100,len,at 0,at 200019,at 200024,at 200025,at 200119| 200120 3 3 4 5 99
+same 0 200000,same 5 1,same 0 1000000,same 6 1,len,at 200000,at 1200000,at 1200001,zeros 200001,zeros 1200000,\
+part 199999 1000003,len,at 0,at 1,at 1000002| 1200002 5 0 6 4119 1 1000003 0 5 6
+rising 1 101,again 0 100,again 0 200,again 0 400,again 0 800,again 0 1600,again 0 3200,again 0 6400,\
+again 0 12800,again 0 25600,again 0 51200,again 0 102400,again 0 204800,again 0 409600,again 818700 450,\
+len,at 100,at 200024,at 200025,at 409600,at 819199,at 819649| 819650 1 25 26 1 100 50
+";
 
 // The number at a place, and 99 past the end.
 fn number_at(pages: &Pages, place: usize) -> u32 {
@@ -50,119 +66,57 @@ fn put_numbers(pages: &mut Pages, from: u32, to: u32) -> Option<()> {
     Some(())
 }
 
-// Some numbers, many zeros, and parts of these once more.
-fn some_numbers(alloc: Global) -> Option<Pages> {
-    let mut pages = Pages::new(alloc);
-    pages.push(7).ok()?;
-    pages.push_all(&[1, 2, 3]).ok()?;
-    pages.push_same(0, 3_000).ok()?;
-    put_again(&mut pages, 2, 500)?;
-    put_again(&mut pages, 3_378, 126)?;
-    Some(pages)
-}
-
-fn some_said(alloc: Global) -> Option<String> {
-    let pages = some_numbers(alloc)?;
-    let numbers = [number_at(&pages, 3_004), number_at(&pages, 3_005)];
-    let zeros = [zeros_from(&pages, 3), zeros_from(&pages, 3_629)];
-    let are_many = zeros_from(&pages, 4) >= 1_000;
-    let other = part_of(alloc, &pages, 1, 3_600)?;
-    let of_other = (other.len(), number_at(&other, 3_003));
-    printed(alloc, &(pages.len(), of_other, numbers, zeros, are_many))
-}
-
-// More numbers than are kept as they are, put one by one.
-fn one_by_one_said(alloc: Global) -> Option<String> {
-    let mut pages = Pages::new(alloc);
-    pages.push_same(3, 200_020).ok()?;
-    put_numbers(&mut pages, 0, 100)?;
-    let first = [number_at(&pages, 0), number_at(&pages, 200_019)];
-    let last = [
-        number_at(&pages, 200_024),
-        number_at(&pages, 200_025),
-        number_at(&pages, 200_119),
-    ];
-    printed(alloc, &(pages.len(), first, last))
-}
-
-// Two numbers among many zeros.
-fn two_among_zeros(alloc: Global) -> Option<Pages> {
-    let mut pages = Pages::new(alloc);
-    pages.push_same(0, 200_000).ok()?;
-    pages.push_same(5, 1).ok()?;
-    pages.push_same(0, 1_000_000).ok()?;
-    pages.push_same(6, 1).ok()?;
-    Some(pages)
-}
-
-// The zeros after the first of both are 24 to the end of the page, 64 pages and one page more.
-fn two_said(alloc: Global) -> Option<String> {
-    let pages = two_among_zeros(alloc)?;
-    let numbers = [
-        number_at(&pages, 200_000),
-        number_at(&pages, 1_200_000),
-        number_at(&pages, 1_200_001),
-    ];
-    let zeros = [zeros_from(&pages, 200_001), zeros_from(&pages, 1_200_000)];
-    printed(alloc, &(pages.len(), numbers, zeros))
-}
-
-// A part of them, from the last zero before the first number on.
-fn part_of_two_said(alloc: Global) -> Option<String> {
-    let pages = two_among_zeros(alloc)?;
-    let part = part_of(alloc, &pages, 199_999, 1_000_003)?;
-    let numbers = [
-        number_at(&part, 0),
-        number_at(&part, 1),
-        number_at(&part, 1_000_002),
-    ];
-    printed(alloc, &(part.len(), numbers))
-}
-
-// The numbers from 1 to 100, doubled again and again, and a part of them from a place that is no multiple of 63 before the end.
-fn doubled_numbers(alloc: Global) -> Option<Pages> {
-    let mut pages = Pages::new(alloc);
-    put_numbers(&mut pages, 1, 101)?;
-    for _ in 0..13 {
-        let count = pages.len();
-        put_again(&mut pages, 0, count)?;
+// What a step asks of a list.
+fn asked(pages: &Pages, word: &str, place: usize) -> Option<usize> {
+    match word {
+        "len" => Some(pages.len()),
+        "at" => Some(number_at(pages, place) as usize),
+        "zeros" => Some(zeros_from(pages, place)),
+        "many" => Some(zeros_from(pages, place).min(1_000)),
+        _ => None,
     }
-    put_again(&mut pages, 818_700, 450)?;
-    Some(pages)
 }
 
-fn doubled_said(alloc: Global) -> Option<String> {
-    let pages = doubled_numbers(alloc)?;
-    let first = [
-        number_at(&pages, 100),
-        number_at(&pages, 200_024),
-        number_at(&pages, 200_025),
-    ];
-    let last = [
-        number_at(&pages, 409_600),
-        number_at(&pages, 819_199),
-        number_at(&pages, 819_649),
-    ];
-    printed(alloc, &(pages.len(), first, last))
+// Does a step to a list.
+fn put(alloc: Global, pages: &mut Pages, word: &str, a: u32, b: u32) -> Option<()> {
+    match word {
+        "put" => pages.push(a).ok(),
+        "all" => pages.push_all(&[1, 2, 3]).ok(),
+        "same" => pages.push_same(a, b as usize).ok(),
+        "rising" => put_numbers(pages, a, b),
+        "again" => put_again(pages, a as usize, b as usize),
+        "part" => {
+            *pages = part_of(alloc, pages, a as usize, b as usize)?;
+            Some(())
+        }
+        _ => None,
+    }
+}
+
+// A step and what it asks.
+fn step(alloc: Global, pages: &mut Pages, said: &mut String, step: &str) -> Option<()> {
+    let (word, numbers) = step.split_once(' ').unwrap_or((step, "0"));
+    let (a, b) = numbers.split_once(' ').unwrap_or((numbers, "0"));
+    let a = a.parse::<u32>().ok()?;
+    let b = b.parse::<u32>().ok()?;
+    match asked(pages, word, a as usize) {
+        Some(answer) => write!(said, " {answer}").ok(),
+        None => put(alloc, pages, word, a, b),
+    }
+}
+
+fn pages_said(alloc: Global, given: &str) -> Option<String> {
+    let mut pages = Pages::new(alloc);
+    let mut said = String::new(alloc);
+    for one in given.split(',') {
+        step(alloc, &mut pages, &mut said, one)?;
+    }
+    Some(said)
 }
 
 #[test]
 fn pages_keep_numbers(rt: HostRuntime) {
-    let wanted = "(3630, (3600, 2), [2, 3], [0, 1], true)";
-    is_said(&rt, some_said(rt.alloc()), wanted, "some numbers");
-    let wanted = "(200120, [3, 3], [4, 5, 99])";
-    is_said(
-        &rt,
-        one_by_one_said(rt.alloc()),
-        wanted,
-        "numbers one by one",
-    );
-    let wanted = "(1200002, [5, 0, 6], [4119, 1])";
-    is_said(&rt, two_said(rt.alloc()), wanted, "two among zeros");
-    let wanted = "(1000003, [0, 5, 6])";
-    is_said(&rt, part_of_two_said(rt.alloc()), wanted, "a part of them");
-    let wanted = "(819650, [1, 25, 26], [1, 100, 50])";
-    is_said(&rt, doubled_said(rt.alloc()), wanted, "doubled numbers");
+    rows_hold(&rt, rt.alloc(), pages_said, PAGES);
 }
 
 // What is said of a list of days: the numbers on some, how many days from some on are free, and how many runs there are.
