@@ -2,15 +2,13 @@
 use Rattle.std.proofs.Common.{inr, ℕ, List, Result, Ok, refl, subst}
 use Rattle.rr_fold.specs.Judged.{all_limits}
 use Rattle.rr_model.specs.declared.refusal.Refusal.{Refusal}
-use Rattle.rr_model.specs.declared.verdict.Side.TheVariants.{A, B}
 use Rattle.rr_model.specs.declared.verdict.Verdict.TheVariants.{Yes}
 use Rattle.rr_answer.specs.Answer.{IsPairAnswer}
 use Rattle.rr_answer.specs.Command.{Operand}
 use Rattle.rr_answer.specs.Judgement.{IsJudgedRead}
 use Rattle.rr_answer.specs.OperandReading.{HaveOneText, IsSubjectRead}
-use Rattle.rr_answer.specs.Said.{Answer, said}
+use Rattle.rr_answer.specs.Said.{said}
 use Rattle.rr_answer.specs.Subjects.{Subject}
-use Rattle.rr_answer.specs.Verdicts.{IsSaidOfBoth}
 use Rattle.rr_answer.specs.declared.command.Inquiry.TheVariants.{Verdict as Ask}
 use Rattle.rr_decide.specs.declared.question.Question.TheVariants.{Equal}
 

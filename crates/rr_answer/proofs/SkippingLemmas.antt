@@ -1,5 +1,5 @@
 -- What is read, judged and folded of a series of RFC 7529.
-use Rattle.std.proofs.Common.{◌≡◌, inl, inr, ℕ, ◌≤◌, ℤ, pos, ◌≤ℤ◌, List, length, Option, None, Some, refl, sym, ap, subst, ◌∙◌, arith}
+use Rattle.std.proofs.Common.{◌≡◌, ℕ, ◌≤◌, ℤ, ◌≤ℤ◌, List, length, Option, None, Some, refl, sym, ap, subst, arith}
 use Rattle.std.proofs.lemmas.Int.{ints}
 use Rattle.std.specs.Prelude.{Result, Ok, Err, IfErr, IfOk}
 use Rattle.rr_fold.specs.Judged.{all_limits}
@@ -13,7 +13,7 @@ use Rattle.rr_model.specs.declared.refusal.Fault.{Fault}
 use Rattle.rr_model.specs.declared.refusal.Fault.TheVariants.{NoMemory, Refused}
 use Rattle.rr_model.specs.declared.refusal.Refusal.{Refusal}
 use Rattle.rr_model.specs.declared.sketch.Sketch.{Sketch}
-use Rattle.rr_skip.specs.Judged.{IsFoldedSeries, IsSkipLimitRefusal}
+use Rattle.rr_skip.specs.Judged.{IsFoldedSeries}
 use Rattle.rr_skip.specs.Members.{IsGivenBy, OccursSkipping}
 use Rattle.rr_skip.specs.Reading.{reads_rscale}
 use Rattle.rr_skip.specs.Validity.{IsSoundSkipping}

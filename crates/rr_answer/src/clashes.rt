@@ -10,7 +10,7 @@ ghost use Rattle.rr_answer.specs.Verdicts.{IsSaidOfFolds};
 ghost use Rattle.rr_answer.specs.declared.command.Inquiry.TheVariants.{Clash as AskClash};
 
 use crate::conclusion::Conclusion;
-use crate::outcome::{Outcome, refused};
+use crate::outcome::{Outcome, outcome_of_refusal};
 use crate::verdicts::repeat_together;
 use rr_days::Folded;
 use rr_model::{Kind, NoMemory, Refusal, Side};
@@ -44,7 +44,12 @@ fn clash_text(
 }
 
 // That two series of these kinds are clear of each other, or the first clash.
-fn clash_told(alloc: Global, kind_a: Kind, kind_b: Kind, clash: Clash) -> Result<Outcome, NoMemory>
+fn outcome_of_clash(
+    alloc: Global,
+    kind_a: Kind,
+    kind_b: Kind,
+    clash: Clash,
+) -> Result<Outcome, NoMemory>
     requires { IsPrintableClash kind_a kind_b clash }
     ensures { IfOk result (λ x. answer_of x ≡ clash_said kind_a kind_b clash) }
 {
@@ -78,10 +83,10 @@ pub fn clash_outcome(
 {
     let together = repeat_together(a, b);
     if !together {
-        return refused(alloc, Side::Both, Refusal::CycleTooLong);
+        return outcome_of_refusal(alloc, Side::Both, Refusal::CycleTooLong);
     }
     let kind_a = a.kind();
     let kind_b = b.kind();
     let clash = clear(a, duration_a, b, duration_b);
-    clash_told(alloc, kind_a, kind_b, clash)
+    outcome_of_clash(alloc, kind_a, kind_b, clash)
 }

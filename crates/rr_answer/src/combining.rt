@@ -7,7 +7,7 @@ ghost use Rattle.rr_answer.specs.declared.command.Inquiry.TheVariants.{Combine};
 
 use crate::canon::canonical_text;
 use crate::conclusion::Conclusion;
-use crate::outcome::{Outcome, refused, refused_for};
+use crate::outcome::{Outcome, outcome_of_fault, outcome_of_refusal};
 use crate::verdicts::repeat_together;
 use rr_algebra::{Op, combine};
 use rr_canon::Version;
@@ -28,10 +28,10 @@ pub fn combined_outcome(alloc: Global, op: Op, a: &Folded, b: &Folded) -> Result
 {
     let together = repeat_together(a, b);
     if !together {
-        return refused(alloc, Side::Both, Refusal::CycleTooLong);
+        return outcome_of_refusal(alloc, Side::Both, Refusal::CycleTooLong);
     }
     match combine(alloc, op, a, b) {
-        Err(fault) => refused_for(alloc, Side::Both, fault),
+        Err(fault) => outcome_of_fault(alloc, Side::Both, fault),
         Ok(days) => Ok(Outcome {
             conclusion: Conclusion::Yes,
             text: canonical_text(alloc, Version::Second, days)?,

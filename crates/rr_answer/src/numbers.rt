@@ -11,7 +11,7 @@ ghost use Rattle.rr_answer.specs.declared.command.Task.TheVariants.{Nth as AskNt
 use crate::command::Operand;
 use crate::conclusion::Conclusion;
 use crate::folding::read_folded;
-use crate::outcome::{Outcome, refused, refused_for};
+use crate::outcome::{Outcome, outcome_of_fault, outcome_of_refusal};
 use rr_days::Folded;
 use rr_model::{Kind, NoMemory, Refusal, Side};
 use rr_rank::{Nth, Ranked};
@@ -58,7 +58,7 @@ fn rank_of<L: Ledger>(
 }
 
 // The occurrence of a number, that there are fewer, or that it lies past the greatest day.
-fn nth_told(alloc: Global, nth: Nth) -> Result<Outcome, NoMemory>
+fn outcome_of_nth(alloc: Global, nth: Nth) -> Result<Outcome, NoMemory>
     requires { IsPrintableNth nth }
     ensures { IfOk result (λ x. answer_of x ≡ nth_said nth) }
 {
@@ -76,7 +76,7 @@ fn nth_told(alloc: Global, nth: Nth) -> Result<Outcome, NoMemory>
             conclusion: Conclusion::No,
             text: Vec::from_slice(alloc, b"none\n")?,
         }),
-        Nth::Past => refused(alloc, Side::A, Refusal::PastRange),
+        Nth::Past => outcome_of_refusal(alloc, Side::A, Refusal::PastRange),
     }
 }
 
@@ -92,13 +92,13 @@ pub fn nth_outcome(
     ensures { IfOk result (AnswersTask (AskNth n) operand.entry bytes.now) }
 {
     match read_folded(alloc, operand, bytes) {
-        Err(fault) => refused_for(alloc, Side::A, fault),
-        Ok(days) => nth_told(alloc, nth_of::<Brand>(alloc, days, n, Blank::new(1))?),
+        Err(fault) => outcome_of_fault(alloc, Side::A, fault),
+        Ok(days) => outcome_of_nth(alloc, nth_of::<Brand>(alloc, days, n, Blank::new(1))?),
     }
 }
 
 // A number alone on a line.
-fn rank_told(alloc: Global, rank: u64) -> Result<Outcome, NoMemory>
+fn outcome_of_rank(alloc: Global, rank: u64) -> Result<Outcome, NoMemory>
     ensures { IfOk result (λ x. answer_of x ≡ rank_said rank) }
 {
     Ok(Outcome {
@@ -120,8 +120,8 @@ pub fn rank_outcome(
     ensures { IfOk result (AnswersTask (AskRank kind at) operand.entry bytes.now) }
 {
     match read_folded(alloc, operand, bytes) {
-        Err(fault) => refused_for(alloc, Side::A, fault),
-        Ok(days) => rank_told(
+        Err(fault) => outcome_of_fault(alloc, Side::A, fault),
+        Ok(days) => outcome_of_rank(
             alloc,
             rank_of::<Brand>(alloc, days, kind, at, Blank::new(1))?,
         ),

@@ -14,7 +14,7 @@ use crate::clashes::clash_outcome;
 use crate::combining::combined_outcome;
 use crate::command::{Inquiry, Operand};
 use crate::folding::read_folded;
-use crate::outcome::{Outcome, refused_for, said};
+use crate::outcome::{Outcome, outcome_of_fault, outcome_of_verdict};
 use crate::verdicts::verdict_outcome;
 use rr_days::Folded;
 use rr_decide::Question;
@@ -79,14 +79,14 @@ pub fn pair_outcome(
         (IsReadOf b.entry text_b.now) (answer_of x)) }
 {
     let of_a = match read_folded(alloc, a, text_a) {
-        Err(fault) => return refused_for(alloc, Side::A, fault),
+        Err(fault) => return outcome_of_fault(alloc, Side::A, fault),
         Ok(days) => days,
     };
     if asks_of_itself(inquiry, a, text_a, b, text_b) {
-        return said(alloc, Verdict::Yes);
+        return outcome_of_verdict(alloc, Verdict::Yes);
     }
     match read_folded(alloc, b, text_b) {
-        Err(fault) => refused_for(alloc, Side::B, fault),
+        Err(fault) => outcome_of_fault(alloc, Side::B, fault),
         Ok(of_b) => said_of_both(alloc, inquiry, of_a, of_b),
     }
 }

@@ -3,7 +3,7 @@ ghost use Rattle.std.specs.Prelude.{◌≡◌, [], int_lt, not, IfOk, OnOk};
 ghost use Rattle.std.specs.List.{list_any};
 ghost use Rattle.std.specs.Ordering.{int_eq};
 ghost use Rattle.rr_model.specs.Rising.{with_value};
-ghost use Rattle.rr_trip.specs.Edited.{values_outside, with_values};
+ghost use Rattle.rr_trip.specs.Edited.{with_values};
 
 use rr_model::{Dates, NoMemory};
 use std::alloc::Global;

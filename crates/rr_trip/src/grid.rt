@@ -1,5 +1,5 @@
 // Three months of two sequences of days as they are painted for a person.
-ghost use Rattle.std.specs.Prelude.{◌≡◌, ◌≤ℤ◌, ◌+ℤ◌, ◌-ℤ◌, ◌++◌, ◌≤◌, pos, neg_ℤ, OnOk};
+ghost use Rattle.std.specs.Prelude.{◌≡◌, ◌≤ℤ◌, ◌+ℤ◌, ◌-ℤ◌, ◌++◌, pos, OnOk};
 ghost use Rattle.rr_model.specs.Moment.{is_same_kind};
 ghost use Rattle.rr_model.specs.Calendar.{IsDayWithin};
 ghost use Rattle.rr_trip.specs.Grid.{IsPainted, cell_text, cells_text, day_sign, sign_of};

@@ -1,5 +1,5 @@
 // A series of a key as days.
-ghost use Rattle.std.specs.Prelude.{◌≡◌, ◌++◌, All, IfErr, IfOk, Ok, OnOk, map};
+ghost use Rattle.std.specs.Prelude.{◌≡◌, ◌++◌, All, IfErr, IfOk, Ok, OnOk};
 ghost use Rattle.rr_model.specs.Series.Validity.{IsValidSeries};
 ghost use Rattle.rr_trip.specs.Judged.{IsFaultBy, IsFaultOf, IsFoldOf, IsKeyFault, IsStated, first_of, key_zones, zones_in, zones_of, zones_of_all};
 ghost use Rattle.rr_trip.specs.Edited.{edited};

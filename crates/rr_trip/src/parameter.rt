@@ -1,6 +1,5 @@
 // The parameters of a line (RFC 5545, section 3.2).
 ghost use Rattle.std.specs.Prelude.{◌≡◌, ◌==◌, Some, option_map};
-ghost use Rattle.std.specs.List.{slice_split};
 ghost use Rattle.rr_model.specs.Text.Rules.{split_once};
 ghost use Rattle.rr_trip.specs.Parameters.{parameter_of, parameters_of, value_named, without_first_quote, without_last_quote, without_quotes};
 

@@ -2,7 +2,7 @@
 ghost use Rattle.std.specs.Prelude.{◌≡◌, true};
 ghost use Rattle.rr_trip.specs.Same.{HasSameDays, HasSameSteps, HasSameTimes};
 
-use rr_model::{Dates, DayItem, DayItems, Numbers, Rule, Rules, Series};
+use rr_model::{Dates, DayItem, DayItems, Numbers, Rule, Series};
 
 fn is_same_numbers(a: &Numbers, b: &Numbers) -> bool
     ensures { result ≡ true → a.now ≡ b.now }

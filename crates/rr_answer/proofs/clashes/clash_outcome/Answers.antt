@@ -5,24 +5,24 @@ use Rattle.rr_answer.specs.Outcome.{answer_of}
 use Rattle.rr_answer.proofs.ClashLemmas.{clash_is_said, clash_of_both, clash_too_late, printable_clash, printable_kinds}
 use Rattle.rr_answer.proofs.clashes.clash_outcome.Goals as goal
 
-pub clash_told-requires : goal.clash_told-requires
-clash_told-requires c =
+pub outcome_of_clash-requires : goal.outcome_of_clash-requires
+outcome_of_clash-requires c =
     printable_kinds _ _ c.kind-kind_a.result c.kind-kind_b.result c.clear-clash.result c.kind-kind_a.ensures c.kind-kind_b.ensures
     (printable_clash _ _ c.args.duration_a c.args.duration_b c.clear-clash.result c.requires.a c.requires.b c.clear-clash.ensures.verdict
     c.clear-clash.ensures.day)
 
 pub returns-then-not-together : goal.returns-then-not-together
 returns-then-not-together c =
-    IfOk-weaker c.refused.result _ _
+    IfOk-weaker c.outcome_of_refusal.result _ _
     (λ x e s u fold fold'. clash_too_late s u _ _ fold fold' c.args.duration_a c.args.duration_b (answer_of x)
     (λ few. false≢true (sym c.if-not-together.true ∙ c.repeat_together-together.ensures.1 few)) e)
-    c.refused.ensures
+    c.outcome_of_refusal.ensures
 
 pub returns : goal.returns
 returns c =
     let few = c.repeat_together-together.ensures.0 c.if-not-together.false in
-    IfOk-weaker c.clash_told.result _ _
+    IfOk-weaker c.outcome_of_clash.result _ _
     (λ x e s u fold fold'. clash_of_both s u _ _ fold fold' c.args.duration_a c.args.duration_b (answer_of x) few
     (clash_is_said s u _ _ fold fold' c.args.duration_a c.args.duration_b c.kind-kind_a.result c.kind-kind_b.result
     c.clear-clash.result (answer_of x) c.kind-kind_a.ensures c.kind-kind_b.ensures c.clear-clash.ensures.verdict e))
-    c.clash_told.ensures
+    c.outcome_of_clash.ensures

@@ -28,19 +28,19 @@ canonical_text-requires c = result_from_year_one c.args.op _ _ _ c.requires.a c.
 
 pub returns-then-not-together : goal.returns-then-not-together
 returns-then-not-together c =
-    IfOk-weaker c.refused.result _ _
+    IfOk-weaker c.outcome_of_refusal.result _ _
     (λ x e s u fold fold'. not_together_said s u _ _ fold fold' c.args.op (answer_of x)
     (λ few. false≢true (sym c.if-not-together.true ∙ c.repeat_together-together.ensures.1 few)) e)
-    c.refused.ensures
+    c.outcome_of_refusal.ensures
 
 pub returns-in-Err : goal.returns-in-Err
 returns-in-Err c =
     let few = c.repeat_together-together.ensures.0 c.if-not-together.false in
-    IfOk-weaker c.refused_for.result _ _
+    IfOk-weaker c.outcome_of_fault.result _ _
     (λ x said s u fold fold'. together_said s u _ _ fold fold' c.args.op (answer_of x) few
     (combined_fault c.args.op _ _ (IsDaySequence-bounded _ c.args.a.now.bounded) (IsDaySequence-bounded _ c.args.b.now.bounded) _ _
     fold.stands fold'.stands Folded c.in-Err.fault (answer_of x) c.in-Err.ensures.judged said))
-    c.refused_for.ensures
+    c.outcome_of_fault.ensures
 
 pub returns-in_ok-canonical_text-in-Ok : goal.returns-in_ok-canonical_text-in-Ok
 returns-in_ok-canonical_text-in-Ok c = λ s u fold fold'.

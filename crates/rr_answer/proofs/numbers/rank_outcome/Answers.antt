@@ -8,6 +8,6 @@ pub returns-in_ok-rank_of-in-Ok : goal.returns-in_ok-rank_of-in-Ok
 returns-in_ok-rank_of-in-Ok c =
     let fits : FitsSigned w64 c.args.at = search rules in
     let rank = rank_moved _ c.args.kind _ _ c.in_ok-rank_of-in-Ok.field-0 (to_z-of_z fits) c.in_ok-rank_of-in-Ok.ensures in
-    IfOk-weaker c.rank_told.result _ _
+    IfOk-weaker c.outcome_of_rank.result _ _
     (λ x e. rank_is_said _ _ _ _ c.in_ok-rank_of-in-Ok.field-0 (answer_of x) c.in-Ok.ensures.accepted rank e)
-    c.rank_told.ensures
+    c.outcome_of_rank.ensures

@@ -31,12 +31,12 @@ pub returns-then-asks_of_itself : goal.returns-then-asks_of_itself
 returns-then-asks_of_itself c =
     let of_a = c.in-Ok.ensures.accepted in
     let itself = c.asks_of_itself.ensures c.if-asks_of_itself.true in
-    IfOk-weaker c.said.result _ _
+    IfOk-weaker c.outcome_of_verdict.result _ _
     (λ x e. subst (IsPairAnswer c.args.inquiry (IsSubjectRead (operand_in c.args.a) c.args.text_a.now) (IsSubjectRead (operand_in c.args.b) c.args.text_b.now)) (sym e)
     (subst (λ i. IsPairAnswer i (IsSubjectRead (operand_in c.args.a) c.args.text_a.now) (IsSubjectRead (operand_in c.args.b) c.args.text_b.now) (said Yes))
     (sym itself.0)
     (said_of_one_text (operand_in c.args.a) (operand_in c.args.b) c.args.text_a.now c.args.text_b.now itself.1 of_a.subject of_a.judged)))
-    c.said.ensures
+    c.outcome_of_verdict.ensures
 
 pub returns-in-Ok-read_folded : goal.returns-in-Ok-read_folded
 returns-in-Ok-read_folded c =
@@ -53,11 +53,11 @@ returns-in-Ok-read_folded c =
 pub returns-in-Err-read_folded : goal.returns-in-Err-read_folded
 returns-in-Err-read_folded c =
     let of_a = c.in-Ok.ensures.accepted in
-    IfOk-weaker c.refused_for-in-Err-read_folded.result _ _
+    IfOk-weaker c.outcome_of_fault-in-Err-read_folded.result _ _
     (λ x e. record {
       judged = Ok of_a.subject;
       is_judged = of_a.judged;
       is_said = fault_said B all_limits (IsSubjectRead (operand_in c.args.b) c.args.text_b.now) (IsSaidOfBoth c.args.inquiry of_a.subject)
           c.in-Err-read_folded.fault (answer_of x) c.in-Err-read_folded.ensures.refused e;
     })
-    c.refused_for-in-Err-read_folded.ensures
+    c.outcome_of_fault-in-Err-read_folded.ensures

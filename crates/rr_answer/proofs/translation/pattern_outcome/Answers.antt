@@ -12,14 +12,14 @@ use Rattle.rr_answer.proofs.translation.pattern_outcome.Goals as goal
 
 pub returns-in-Err : goal.returns-in-Err
 returns-in-Err c =
-    IfOk-weaker c.refused_for.result _ _
+    IfOk-weaker c.outcome_of_fault.result _ _
     (λ x said. fault_said A all_limits (IsSubjectRead (operand_in c.args.operand) c.args.bytes.now) (IsTranslationSaid Graph) c.in-Err.fault (answer_of x)
     c.in-Err.ensures.refused said)
-    c.refused_for.ensures
+    c.outcome_of_fault.ensures
 
 pub returns-in-Ok : goal.returns-in-Ok
 returns-in-Ok c =
-    IfOk-weaker c.done_or_refused.result _ _
+    IfOk-weaker c.outcome_of_text.result _ _
     (λ x said. pattern_said (IsSubjectRead (operand_in c.args.operand) c.args.bytes.now) _ c.graph_of_days.result (answer_of x)
     c.in-Ok.ensures.accepted c.graph_of_days.ensures said)
-    c.done_or_refused.ensures
+    c.outcome_of_text.ensures
