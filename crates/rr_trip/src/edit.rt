@@ -155,7 +155,7 @@ fn with_instance(
 }
 
 // The same moments, rising.
-fn in_order(alloc: Global, shifts: &ShiftSets) -> Result<Shifted, NoMemory>
+fn rising_shifts(alloc: Global, shifts: &ShiftSets) -> Result<Shifted, NoMemory>
     ensures { IfOk result (λ shifted. shifted ≡ shifts.now) }
 {
     Ok(Shifted {
@@ -175,7 +175,7 @@ fn shifts_of(alloc: Global, setting: Setting, instances: &[Event]) -> Result<Shi
     for event in instances {
         shifts = with_instance(alloc, setting, shifts, event)?;
     }
-    Ok(in_order(alloc, &shifts)?)
+    Ok(rising_shifts(alloc, &shifts)?)
 }
 
 // Whether the date is one of a rising list.

@@ -113,7 +113,7 @@ impl Gathered {
 }
 
 // An instance may have no range, and neither a rule nor dates.
-fn judged_instance(event: &Event) -> Result<(), KeyRefusal>
+fn judge_instance(event: &Event) -> Result<(), KeyRefusal>
     ensures { result ≡ judged_instance event.now.recurrence event.now }
 {
     let Some(recurrence) = &event.recurrence else {
@@ -134,7 +134,7 @@ fn with_event(gathered: Gathered, event: Event) -> Result<Gathered, KeyFault>
 {
     let mut gathered = gathered;
     if event.recurrence.is_some() {
-        judged_instance(&event)?;
+        judge_instance(&event)?;
         gathered.instances.push(event)?;
         return Ok(gathered);
     }

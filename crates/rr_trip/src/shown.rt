@@ -174,7 +174,7 @@ fn unknown_name(alloc: Global, name: &[u8]) -> Result<Shown, NoMemory>
 }
 
 // What is said of the events of a key that is printed so, of which a calendar has one.
-fn shown_said(
+fn show_key(
     alloc: Global,
     offset: Option<i32>,
     a: &[Entry],
@@ -223,7 +223,7 @@ fn shown_of(
     if are_none(a, b) {
         return unknown_name(alloc, name);
     }
-    shown_said(alloc, offset, a, b, name)
+    show_key(alloc, offset, a, b, name)
 }
 
 /// What is said of the events of two calendar files whose key is printed by this name, as in a report; and, where they

@@ -9,5 +9,5 @@ returns-then-are_none c =
 
 pub returns : goal.returns
 returns c =
-    ok_each c.shown_said.result c.shown_said.ensures (λ shown h. shown_some c.args.offset c.args.name.now shown c.args.a.now c.args.b.now
+    ok_each c.show_key.result c.show_key.ensures (λ shown h. shown_some c.args.offset c.args.name.now shown c.args.a.now c.args.b.now
     (sym c.are_none.ensures ∙ c.if-are_none.false) h)

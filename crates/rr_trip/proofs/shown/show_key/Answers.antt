@@ -1,5 +1,5 @@
 use Rattle.std.proofs.Common.{rules}
-use Rattle.rr_trip.proofs.shown.shown_said.Goals as goal
+use Rattle.rr_trip.proofs.shown.show_key.Goals as goal
 
 pub returns : goal.returns
 returns c = record {
