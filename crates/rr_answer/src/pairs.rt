@@ -1,7 +1,7 @@
 // What is said of two operands.
 ghost use Rattle.std.specs.Prelude.{◌≡◌, IfOk, IsTrue, ◌≤ℤ◌, pos};
 ghost use Rattle.rr_decide.specs.declared.question.Question.TheVariants.{Equal};
-ghost use Rattle.rr_answer.specs.Answer.{IsPairAnswer};
+ghost use Rattle.rr_answer.specs.Answer.{IsPairAnswer, IsSaidBeside};
 ghost use Rattle.rr_answer.specs.Command.{HasDurations};
 ghost use Rattle.rr_answer.specs.Folding.{IsFromYearOneOn};
 ghost use Rattle.rr_answer.specs.OperandReading.{HaveOneText};
@@ -24,22 +24,47 @@ use std::alloc::Global;
 
 // What is said of two series that are within their limits: that their common cycle is too long for what is asked, or the
 // answer.
-fn said_of_both(alloc: Global, inquiry: Inquiry, a: Folded, b: Folded) -> Result<Outcome, NoMemory>
+fn said_of_both(
+    alloc: Global,
+    inquiry: Inquiry,
+    a: &Folded,
+    b: &Folded,
+) -> Result<Outcome, NoMemory>
     requires durations { HasDurations inquiry }
-    requires a { IsFromYearOneOn (⟦<Folded as DaySeq>⟧.sketch a) }
-    requires b { IsFromYearOneOn (⟦<Folded as DaySeq>⟧.sketch b) }
-    requires near_a { (⟦<Folded as DaySeq>⟧.sketch a).settled ≤ℤ pos 40_000_000 }
-    requires near_b { (⟦<Folded as DaySeq>⟧.sketch b).settled ≤ℤ pos 40_000_000 }
-    ensures { IfOk result (λ x. IsSaidOfFolds inquiry (⟦<Folded as DaySeq>⟧.sketch a)
-        (⟦<Folded as DaySeq>⟧.sketch b) (answer_of x)) }
+    requires a { IsFromYearOneOn (⟦<Folded as DaySeq>⟧.sketch a.now) }
+    requires b { IsFromYearOneOn (⟦<Folded as DaySeq>⟧.sketch b.now) }
+    requires near_a { (⟦<Folded as DaySeq>⟧.sketch a.now).settled ≤ℤ pos 40_000_000 }
+    requires near_b { (⟦<Folded as DaySeq>⟧.sketch b.now).settled ≤ℤ pos 40_000_000 }
+    ensures { IfOk result (λ x. IsSaidOfFolds inquiry (⟦<Folded as DaySeq>⟧.sketch a.now)
+        (⟦<Folded as DaySeq>⟧.sketch b.now) (answer_of x)) }
 {
     match inquiry {
         Inquiry::Verdict(question) => verdict_outcome(alloc, question, a, b),
-        Inquiry::Combine(op) => combined_outcome(alloc, op, &a, &b),
+        Inquiry::Combine(op) => combined_outcome(alloc, op, a, b),
         Inquiry::Clash {
             duration_a,
             duration_b,
-        } => clash_outcome(alloc, duration_a, &a, duration_b, &b),
+        } => clash_outcome(alloc, duration_a, a, duration_b, b),
+    }
+}
+
+// What is said of the days of A and the bytes of B: the refusal of B, else what is asked of both.
+fn outcome_beside(
+    alloc: Global,
+    inquiry: Inquiry,
+    a: &Folded,
+    b: Operand,
+    text_b: &[u8],
+) -> Result<Outcome, NoMemory>
+    requires durations { HasDurations inquiry }
+    requires years { IsFromYearOneOn (⟦<Folded as DaySeq>⟧.sketch a.now) }
+    requires near { (⟦<Folded as DaySeq>⟧.sketch a.now).settled ≤ℤ pos 40_000_000 }
+    ensures { IfOk result (λ x. IsSaidBeside inquiry (⟦<Folded as DaySeq>⟧.sketch a.now)
+        (IsReadOf b.entry text_b.now) (answer_of x)) }
+{
+    match read_folded(alloc, b, text_b) {
+        Err(fault) => outcome_of_fault(alloc, Side::B, fault),
+        Ok(of_b) => said_of_both(alloc, inquiry, a, &of_b),
     }
 }
 
@@ -85,8 +110,5 @@ pub fn pair_outcome(
     if asks_of_itself(inquiry, a, text_a, b, text_b) {
         return outcome_of_verdict(alloc, Verdict::Yes);
     }
-    match read_folded(alloc, b, text_b) {
-        Err(fault) => outcome_of_fault(alloc, Side::B, fault),
-        Ok(of_b) => said_of_both(alloc, inquiry, of_a, of_b),
-    }
+    outcome_beside(alloc, inquiry, &of_a, b, text_b)
 }
