@@ -1,10 +1,40 @@
 -- One day more of a painted month.
-use Rattle.std.proofs.Common.{◌≡◌, ℕ, ◌+◌, ℤ, pos, ◌+ℤ◌, List, ◌++◌, ap, ◌∙◌, append_assoc, add-one, subst}
+use Rattle.std.proofs.Common.{◌≡◌, ℕ, ◌+◌, ℤ, pos, ◌+ℤ◌, List, [], ◌++◌, ap, sym, ◌∙◌, append_assoc, append-nil, add-one, subst}
 use Rattle.rr_model.specs.declared.sketch.Sketch.{Sketch}
-use Rattle.rr_trip.specs.Grid.{cell_text, cells_text}
+use Rattle.rr_trip.specs.Grid.{Grows, HasMonth, HasMonths, IsPictureOf, cell_text, cells_text, first_of_month, month_after}
 
 pub one_painted : (a b : Sketch) (first day : ℤ) (n : ℕ) (old out next : List ℕ) → day ≡ first +ℤ pos n → out ≡ old ++ cells_text a b first n
     → next ≡ out ++ cell_text a b day → next ≡ old ++ cells_text a b first (n + 1)
 one_painted a b first day n old out next is e h' =
     let h : next ≡ out ++ cell_text a b (first +ℤ pos n) = subst (λ d. next ≡ out ++ cell_text a b d) is h' in
     rw add-one (h ∙ ap (λ o. o ++ cell_text a b (first +ℤ pos n)) e ∙ append_assoc old (cells_text a b first n) (cell_text a b (first +ℤ pos n)))
+
+-- ---- texts that grow
+
+pub grown_by : (old next part : List ℕ) → next ≡ old ++ part → Grows old next
+grown_by old next part e = record { more = part; is = e }
+
+pub grown : (old out next part : List ℕ) → Grows old out → next ≡ out ++ part → Grows old next
+grown old out next part g e = record { more = g.more ++ part; is = e ∙ ap (λ o. o ++ part) g.is ∙ append_assoc old g.more part }
+
+pub grown_twice : (old out next : List ℕ) → Grows old out → Grows out next → Grows old next
+grown_twice old out next g h = grown old out next h.more g h.is
+
+pub not_grown : (old : List ℕ) → Grows old old
+not_grown old = record { more = []; is = sym (append-nil old) }
+
+-- three months were put one after the other
+pub months_put : (a b : Sketch) (first second third : ℤ) (old one two next : List ℕ) → second ≡ month_after first → third ≡ month_after second
+    → HasMonth a b first old one → HasMonth a b second one two → HasMonth a b third two next → HasMonths a b first old next
+months_put a b first second third old one two next s t x y z = record {
+  one = one;
+  two = two;
+  first_month = x;
+  second_month = rw s at y;
+  third_month = rw (t, s) at z;
+}
+
+-- the months of a picture were put, and more behind them
+pub is_picture : (a b : Sketch) (day first : ℤ) (empty painted text : List ℕ) → empty ≡ [] → first ≡ first_of_month day
+    → HasMonths a b first empty painted → Grows painted text → IsPictureOf a b day text
+is_picture a b day first empty painted text e f months rest = record { painted = painted; months = rw (e, f) at months; rest = rest }

@@ -1,5 +1,5 @@
 -- What is said of a key where both calendars state days.
-use Rattle.std.proofs.Common.{◌≡◌, ℕ, Bool, List, [], ◌∷◌, ◌++◌, ℤ, Option, length, refl, subst, ◌∙◌, arith}
+use Rattle.std.proofs.Common.{◌≡◌, ℕ, Bool, List, [], ◌∷◌, ◌++◌, ℤ, Option, length, refl, ap, subst, ◌∙◌, arith}
 use Rattle.std.specs.Prelude.{◌↔◌}
 use Rattle.std.proofs.lemmas.Int.{ints}
 use Rattle.rr_decide.specs.Occurrence.{NamesUpToMaxDay}
@@ -18,7 +18,7 @@ use Rattle.rr_model.specs.declared.verdict.Verdict.TheVariants.{Yes, No}
 use Rattle.rr_model.proofs.YearLemmas.{from_year_one}
 use Rattle.rr_trip.specs.Entries.{events_in}
 use Rattle.rr_trip.specs.Judged.{IsFaultBy, IsFoldOf, IsKeyFault, IsKeySeries, IsStated, key_zones}
-use Rattle.rr_trip.specs.Said.{IsCompared, IsFaultSaid, IsPrintable, IsPrintableSaid, IsSaid, IsSaidBeside, have_one_zone}
+use Rattle.rr_trip.specs.Said.{IsCompared, IsFaultSaid, IsPrintable, IsPrintableSaid, IsSaid, IsSaidBeside, IsSaidWith, have_one_zone}
 use Rattle.rr_trip.specs.declared.entry.Entry.{Entry}
 use Rattle.rr_trip.specs.declared.event.Event.{Event}
 use Rattle.rr_trip.specs.declared.gather.KeyFault.{KeyFault}
@@ -83,26 +83,36 @@ pub refused_beside : (a : Series) (line : ℕ) (b : Series) (zones : Bool) (faul
 refused_beside a line b zones (key_fault.Refused r) said is h = rw h is
 refused_beside a line b zones key_fault.NoMemory said is h = absurd h
 
--- what is said where both calendars have events of the key, which state these series
-pub both_stated : (offset : Option ℤ) (a b : List Event) (s u : Series) (line : ℕ) (zones : Bool) (said : Said) → (a ≡ [] → ⊥) → (b ≡ [] → ⊥)
-    → IsKeySeries offset a s → IsStated offset b line u → zones ≡ have_one_zone (key_zones a ++ key_zones b) → IsSaidBeside s line u zones said
-    → IsSaid offset a b said
-both_stated offset a [] s u line zones said na nb first stated z h = absurd (nb refl)
-both_stated offset [] (y ∷ ys) s u line zones said na nb first stated z h = absurd (na refl)
-both_stated offset (x ∷ xs) (y ∷ ys) s u line zones (Only side) na nb first stated z h = absurd h
-both_stated offset (x ∷ xs) (y ∷ ys) s u line zones (Refused A refusal) na nb first stated z h = absurd h
-both_stated offset (x ∷ xs) (y ∷ ys) s u line zones (Refused B refusal) na nb first stated z h =
-    record { series = s; first = first; refused = refusal_stated offset (y ∷ ys) line u stated refusal h }
-both_stated offset (x ∷ xs) (y ∷ ys) s u line zones (Refused Both refusal) na nb first stated z h = absurd h
-both_stated offset (x ∷ xs) (y ∷ ys) s u line zones (Compared v one_zone) na nb first stated z h = (
-  record {
-    series_a = s;
-    series_b = u;
-    first = first;
-    second = record { states = stated.states; unrefused = h.0 };
-    is_verdict = h.1;
-  },
-  h.2 ∙ z,
+-- ---- what the events of B say beside a series of A
+
+pub said_of_stated : (offset : Option ℤ) (a : Series) (zones of_b : List (List ℕ)) (b : List Event) (u : Series) (line : ℕ) (said : Said)
+    → IsStated offset b line u → of_b ≡ key_zones b → IsSaidBeside a line u (have_one_zone (zones ++ of_b)) said → IsSaidWith offset a zones b said
+said_of_stated offset a zones of_b b u line (Only side) stated same h = absurd h
+said_of_stated offset a zones of_b b u line (Refused A refusal) stated same h = absurd h
+said_of_stated offset a zones of_b b u line (Refused B refusal) stated same h = refusal_stated offset b line u stated refusal h
+said_of_stated offset a zones of_b b u line (Refused Both refusal) stated same h = absurd h
+said_of_stated offset a zones of_b b u line (Compared v one_zone) stated same h = (
+  record { series = u; second = record { states = stated.states; unrefused = h.0 }; is_verdict = h.1 },
+  h.2 ∙ ap (λ (zs : List (List ℕ)). have_one_zone (zones ++ zs)) same,
+)
+
+pub said_of_refused : (offset : Option ℤ) (a : Series) (zones : List (List ℕ)) (b : List Event) (fault : KeyFault) (said : Said) → IsKeyFault offset b fault
+    → IsFaultSaid B fault said → IsSaidWith offset a zones b said
+said_of_refused offset a zones b (key_fault.Refused r) said is h = rw h is
+said_of_refused offset a zones b key_fault.NoMemory said is h = absurd h
+
+-- what is said where both calendars have events of the key, of which those of A state this series
+pub both_said : (offset : Option ℤ) (a b : List Event) (s : Series) (zones : List (List ℕ)) (said : Said) → (a ≡ [] → ⊥) → (b ≡ [] → ⊥)
+    → IsKeySeries offset a s → zones ≡ key_zones a → IsSaidWith offset s zones b said → IsSaid offset a b said
+both_said offset a [] s zones said na nb first same h = absurd (nb refl)
+both_said offset [] (y ∷ ys) s zones said na nb first same h = absurd (na refl)
+both_said offset (x ∷ xs) (y ∷ ys) s zones (Only side) na nb first same h = absurd h
+both_said offset (x ∷ xs) (y ∷ ys) s zones (Refused A refusal) na nb first same h = absurd h
+both_said offset (x ∷ xs) (y ∷ ys) s zones (Refused B refusal) na nb first same h = record { series = s; first = first; refused = h }
+both_said offset (x ∷ xs) (y ∷ ys) s zones (Refused Both refusal) na nb first same h = absurd h
+both_said offset (x ∷ xs) (y ∷ ys) s zones (Compared v one_zone) na nb first same h = (
+  record { series_a = s; series_b = h.0.series; first = first; second = h.0.second; is_verdict = h.0.is_verdict },
+  h.1 ∙ ap (λ (zs : List (List ℕ)). have_one_zone (zs ++ key_zones (y ∷ ys))) same,
 )
 
 -- ---- a calendar without events of the key
@@ -123,7 +133,7 @@ none_of_a offset a [] none some = absurd (some refl)
 none_of_a offset [] (y ∷ ys) none some = refl
 none_of_a offset (x ∷ xs) (y ∷ ys) none some = absurd (omega arith)
 
--- ---- one is refused
+-- ---- the events of A are refused
 
 pub first_refused : (offset : Option ℤ) (a b : List Event) (fault : KeyFault) (said : Said) → (a ≡ [] → ⊥) → (b ≡ [] → ⊥) → IsKeyFault offset a fault
     → IsFaultSaid A fault said → IsSaid offset a b said
@@ -131,14 +141,6 @@ first_refused offset a [] fault said na nb is h = absurd (nb refl)
 first_refused offset [] (y ∷ ys) fault said na nb is h = absurd (na refl)
 first_refused offset (x ∷ xs) (y ∷ ys) (key_fault.Refused r) said na nb is h = rw h is
 first_refused offset (x ∷ xs) (y ∷ ys) key_fault.NoMemory said na nb is h = absurd h
-
-pub second_refused : (offset : Option ℤ) (a b : List Event) (s : Series) (fault : KeyFault) (said : Said) → (a ≡ [] → ⊥) → (b ≡ [] → ⊥) → IsKeySeries offset a s
-    → IsKeyFault offset b fault → IsFaultSaid B fault said → IsSaid offset a b said
-second_refused offset a [] s fault said na nb da is h = absurd (nb refl)
-second_refused offset [] (y ∷ ys) s fault said na nb da is h = absurd (na refl)
-second_refused offset (x ∷ xs) (y ∷ ys) s (key_fault.Refused r) said na nb da is h =
-    rw h (record { series = s; first = da; refused = is })
-second_refused offset (x ∷ xs) (y ∷ ys) s key_fault.NoMemory said na nb da is h = absurd h
 
 pub refused-printable : (side : Side) (fault : KeyFault) (said : Said) → IsFaultSaid side fault said → IsPrintableSaid said
 refused-printable side (key_fault.Refused r) said h = rw h tt

@@ -1,6 +1,6 @@
 -- The days of a month as they are painted.
-use Rattle.std.specs.Prelude.{ℕ, zero, suc, ◌==◌, Bool, ◌&&◌, if◌then◌else◌, ℤ, pos, neg_ℤ, ◌+ℤ◌, ◌≤ℤ◌, List, [], ◌∷◌, ◌++◌, codes, bytes_eq}
-use Rattle.rr_model.specs.Calendar.{weekday_of}
+use Rattle.std.specs.Prelude.{◌≡◌, ℕ, zero, suc, ◌-◌, ◌==◌, Bool, ◌&&◌, if◌then◌else◌, ℤ, pos, neg_ℤ, ◌+ℤ◌, ◌-ℤ◌, ◌≤ℤ◌, List, [], ◌∷◌, ◌++◌, codes, bytes_eq}
+use Rattle.rr_model.specs.Calendar.{day_of_month, days_in_month, month_of, weekday_of, year_of}
 use Rattle.rr_model.specs.Moment.{is_same_kind}
 use Rattle.rr_model.specs.Sets.Sketch.{times_on}
 use Rattle.rr_model.specs.declared.sketch.Sketch.{Sketch}
@@ -32,3 +32,49 @@ cells_text a b first (suc n) = cells_text a b first n ++ cell_text a b (first +�
 -- a day whose month and the one after it lie within what a sequence of days takes
 abbrev pub IsPainted : ℤ → Type 0
 IsPainted day = (neg_ℤ (pos 3_000_000_000_000) ≤ℤ day) × (day ≤ℤ pos 2_999_999_999_700)
+
+-- ---- three months
+
+-- how many days the month of a day has
+abbrev pub month_length : ℤ → ℕ
+month_length day = days_in_month (year_of day) (month_of day)
+
+-- the first day of the month of a day
+abbrev pub first_of_month : ℤ → ℤ
+first_of_month day = day -ℤ pos (day_of_month day - 1)
+
+-- the first day of the month after the one that begins on a day
+abbrev pub month_after : ℤ → ℤ
+month_after first = first +ℤ pos (month_length first)
+
+-- the second text is the first one with more behind it
+pub record Grows (old new : List ℕ) : Type 0 where
+  pub more : List ℕ
+  pub is : new ≡ old ++ more
+
+-- the second text is the first one with a month behind it: a head, and the cells of the days from its first one on
+pub record HasMonth (a b : Sketch) (first : ℤ) (old new : List ℕ) : Type 0 where
+  pub head : List ℕ
+  pub is : new ≡ ((old ++ head) ++ cells_text a b first (month_length first)) ++ codes "\n"
+
+-- a day from which three months are painted
+abbrev pub HasMonthsAfter : ℤ → Type 0
+HasMonthsAfter first = (neg_ℤ (pos 3_000_000_000_000) ≤ℤ first) × (first ≤ℤ pos 2_999_999_999_000)
+
+-- the second text is the first one with three months behind it, from the one that begins on a day on
+pub record HasMonths (a b : Sketch) (first : ℤ) (old new : List ℕ) : Type 0 where
+  pub one : List ℕ
+  pub two : List ℕ
+  pub first_month : HasMonth a b first old one
+  pub second_month : HasMonth a b (month_after first) one two
+  pub third_month : HasMonth a b (month_after (month_after first)) two new
+
+-- a day whose month is painted, and the two after it
+abbrev pub HasPicture : ℤ → Type 0
+HasPicture day = (neg_ℤ (pos 2_999_999_999_000) ≤ℤ day) × (day ≤ℤ pos 2_999_999_999_000)
+
+-- a text with the month of a day and the two after it, and more behind them
+pub record IsPictureOf (a b : Sketch) (day : ℤ) (text : List ℕ) : Type 0 where
+  pub painted : List ℕ
+  pub months : HasMonths a b (first_of_month day) [] painted
+  pub rest : Grows painted text

@@ -69,6 +69,21 @@ IsSaidBeside a line b zones (Refused Both refusal) = ⊥
 IsSaidBeside a line b zones (Compared verdict one_zone) =
     IsFirstRefusal all_limits b None × IsEqualVerdict (Occurs a) (Occurs b) verdict × (one_zone ≡ zones)
 
+-- A states one series, and the events of B another one, which no limit refuses, and this is the verdict on their equality
+pub record IsComparedWith (offset : Option ℤ) (a : Series) (b : List Event) (verdict : Verdict) : Type 0 where
+  pub series : Series
+  pub second : IsKeySeries offset b series
+  pub is_verdict : IsEqualVerdict (Occurs a) (Occurs series) verdict
+
+-- What is said where A states a series with these TZID parameters: the refusal of the events of B, or the verdict, and whether the zones
+-- are the same.
+abbrev pub IsSaidWith : Option ℤ → Series → List (List ℕ) → List Event → Said → Type 0
+IsSaidWith offset a zones b (Only side) = ⊥
+IsSaidWith offset a zones b (Refused A refusal) = ⊥
+IsSaidWith offset a zones b (Refused B refusal) = IsKeyRefusal offset b refusal
+IsSaidWith offset a zones b (Refused Both refusal) = ⊥
+IsSaidWith offset a zones b (Compared verdict one_zone) = IsComparedWith offset a b verdict × (one_zone ≡ have_one_zone (zones ++ key_zones b))
+
 -- what a fault of a key is said as; of out of memory nothing is said
 abbrev pub IsFaultSaid : Side → KeyFault → Said → Type 0
 IsFaultSaid side (key_fault.Refused refusal) said = said ≡ Refused side refusal

@@ -1,7 +1,8 @@
 // Two calendar files, key by key.
-ghost use Rattle.std.specs.Prelude.{◌≡◌, [], All, IfOk, MatchOption};
-ghost use Rattle.rr_trip.specs.Entries.{IsNumbered};
-ghost use Rattle.rr_trip.specs.Report.{AnswersTrip, AreLinesOf, IsLineOf, IsRunAt};
+ghost use Rattle.std.specs.Prelude.{◌≡◌, [], map, All, IfOk, MatchOption};
+ghost use Rattle.rr_events.specs.Finding.{lines_in};
+ghost use Rattle.rr_trip.specs.Entries.{IsNumbered, IsNumberedPiece};
+ghost use Rattle.rr_trip.specs.Report.{AnswersTrip, AreLinesOf, IsLineOf, IsReport, IsRunAt};
 
 use crate::entry::{Entry, count_keys, count_of_a, count_of_key, sorted_entries};
 use crate::file::{TripFault, read_file};
@@ -9,6 +10,7 @@ use crate::key::{Key, copy_key};
 use crate::report::{Report, ReportLine};
 use crate::said::said_of;
 use crate::watch::Watch;
+use rr_events::Piece;
 use rr_model::{NoMemory, Side};
 use std::alloc::Global;
 
@@ -71,6 +73,25 @@ fn lines_of<W: Watch>(
     Ok(lines)
 }
 
+// The report of the events of two calendars.
+fn report_of_events<W: Watch>(
+    alloc: Global,
+    offset: Option<i32>,
+    a: &[Piece],
+    b: &[Piece],
+    watch: &mut W,
+) -> Result<Report, NoMemory>
+    requires a { All IsNumberedPiece a.now }
+    requires b { All IsNumberedPiece b.now }
+    ensures { IfOk result (λ report. IsReport offset (map lines_in a.now) (map lines_in b.now)
+        report.lines.items) }
+{
+    let entries = sorted_entries(alloc, a, b)?;
+    Ok(Report {
+        lines: lines_of(alloc, offset, &entries, watch)?,
+    })
+}
+
 // The report of two calendar files.
 fn report_of<W: Watch>(
     alloc: Global,
@@ -83,10 +104,7 @@ fn report_of<W: Watch>(
 {
     let a = read_file(alloc, Side::A, old)?;
     let b = read_file(alloc, Side::B, new)?;
-    let entries = sorted_entries(alloc, &a, &b)?;
-    Ok(Report {
-        lines: lines_of(alloc, offset, &entries, watch)?,
-    })
+    Ok(report_of_events(alloc, offset, &a, &b, watch)?)
 }
 
 /// Compares two calendar files: each key of either has one line, in the order of the keys, which says what is so of its

@@ -222,22 +222,29 @@ fn without_starts(alloc: Global, minus: &Dates, shifted: &Shifted) -> Result<Dat
 fn series_of_starts(alloc: Global, kind: Kind, starts: &Dates) -> Result<Series, NoMemory>
     ensures { IfOk result (λ series. series ≡ series_of_starts kind starts.now) }
 {
-    let mut series = Series {
-        kind: Kind::Days,
-        start: 0,
-        start_counts: false,
-        rules: Rules::new(alloc),
-        excluded: Rules::new(alloc),
-        plus: Dates::new(alloc),
-        minus: Dates::new(alloc),
-    };
-    if let [first, more @ ..] = starts.as_slice() {
-        series.kind = kind;
-        series.start = *first;
-        series.start_counts = true;
-        series.plus = with_dates(alloc, &series.plus, more)?;
+    match starts.as_slice() {
+        [] => Ok(Series {
+            kind: Kind::Days,
+            start: 0,
+            start_counts: false,
+            rules: Rules::new(alloc),
+            excluded: Rules::new(alloc),
+            plus: Dates::new(alloc),
+            minus: Dates::new(alloc),
+        }),
+        [first, more @ ..] => {
+            let plus = with_dates(alloc, &Dates::new(alloc), more)?;
+            Ok(Series {
+                kind,
+                start: *first,
+                start_counts: true,
+                rules: Rules::new(alloc),
+                excluded: Rules::new(alloc),
+                plus,
+                minus: Dates::new(alloc),
+            })
+        }
     }
-    Ok(series)
 }
 
 // The series with the starts as dates that are added, and the moments taken out where nothing starts.

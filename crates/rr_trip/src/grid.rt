@@ -1,8 +1,8 @@
 // Three months of two sequences of days as they are painted for a person.
-ghost use Rattle.std.specs.Prelude.{◌≡◌, ◌≤ℤ◌, ◌+ℤ◌, ◌-ℤ◌, ◌++◌, pos, OnOk};
+ghost use Rattle.std.specs.Prelude.{◌≡◌, ◌≤ℤ◌, ◌+ℤ◌, ◌-ℤ◌, ◌++◌, pos, IfOk, OnOk};
 ghost use Rattle.rr_model.specs.Moment.{is_same_kind};
 ghost use Rattle.rr_model.specs.Calendar.{IsDayWithin};
-ghost use Rattle.rr_trip.specs.Grid.{IsPainted, cell_text, cells_text, day_sign, sign_of};
+ghost use Rattle.rr_trip.specs.Grid.{Grows, HasMonth, HasMonths, HasMonthsAfter, HasPicture, IsPainted, IsPictureOf, cell_text, cells_text, day_sign, first_of_month, month_after, month_length, sign_of};
 
 use crate::printing::push;
 use rr_cal::{date_of, days_in_month, weekday};
@@ -89,6 +89,7 @@ fn push_cells<A: DaySeq, B: DaySeq>(
 // The head of a month that begins on this day, and the blanks of the days of its first week that are no days of it.
 fn push_head(alloc: Global, out: &mut Vec<u8>, first: i64) -> Result<(), NoMemory>
     requires { IsPainted first }
+    ensures { OnOk result (Grows out.old.items out.new.items) }
 {
     let date = date_of(first);
     let head = format!(in alloc;
@@ -97,9 +98,8 @@ fn push_head(alloc: Global, out: &mut Vec<u8>, first: i64) -> Result<(), NoMemor
     )?;
     push(out, head.as_bytes())?;
     let blank_days = weekday(first);
-    if blank_days > 0 {
-        push(out, b"\n")?;
-    }
+    let row: &[u8] = if blank_days > 0 { b"\n" } else { b"" };
+    push(out, row)?;
     for _ in 0..blank_days {
         push(out, b"   ")?;
     }
@@ -125,7 +125,9 @@ fn usual_times<'a, A: DaySeq, B: DaySeq>(a: &'a A, b: &'a B, first: i64) -> &'a 
 }
 
 // Puts the times of a day, the first few of them where it has more.
-fn push_times(alloc: Global, out: &mut Vec<u8>, times: &[u32]) -> Result<(), NoMemory> {
+fn push_times(alloc: Global, out: &mut Vec<u8>, times: &[u32]) -> Result<(), NoMemory>
+    ensures { OnOk result (Grows out.old.items out.new.items) }
+{
     for second in times.iter().take(MOST_TIMES) {
         let second = *second;
         let text = format!(in alloc;
@@ -153,6 +155,7 @@ fn push_unusual<S: DaySeq>(
     day: i64,
 ) -> Result<(), NoMemory>
     requires { IsDayWithin 0 day }
+    ensures { OnOk result (Grows out.old.items out.new.items) }
 {
     let times = days.at(day);
     if days.kind() == Kind::Days || times.is_empty() || times == usual {
@@ -163,10 +166,11 @@ fn push_unusual<S: DaySeq>(
     push(out, text.as_bytes())?;
     push(out, name)?;
     push_times(alloc, out, times)?;
-    push(out, b"\n")
+    push(out, b"\n")?;
+    Ok(())
 }
 
-// Puts a month that begins on this day: its cells, and the days with others than the usual times.
+// Puts the month that begins on this day: a head, and its cells.
 fn push_month<A: DaySeq, B: DaySeq>(
     alloc: Global,
     out: &mut Vec<u8>,
@@ -175,12 +179,13 @@ fn push_month<A: DaySeq, B: DaySeq>(
     first: i64,
 ) -> Result<(), NoMemory>
     requires { IsPainted first }
+    ensures { OnOk result (HasMonth (A.sketch a.now) (B.sketch b.now) first
+        out.old.items out.new.items) }
 {
     let days = month_length(first);
     push_head(alloc, out, first)?;
     push_cells(out, a, b, first, days)?;
-    push(out, b"\n")?;
-    Ok(())
+    push(out, b"\n")
 }
 
 // Puts the days of a month with others than the usual times.
@@ -193,6 +198,7 @@ fn push_legend<A: DaySeq, B: DaySeq>(
     first: i64,
 ) -> Result<(), NoMemory>
     requires { IsPainted first }
+    ensures { OnOk result (Grows out.old.items out.new.items) }
 {
     for i in 0..month_length(first) {
         let day = day_after(first, i);
@@ -205,6 +211,7 @@ fn push_legend<A: DaySeq, B: DaySeq>(
 // How many days the month has that begins on this day.
 fn month_length(first: i64) -> u8
     requires { IsPainted first }
+    ensures { result ≡ month_length first }
 {
     let date = date_of(first);
     days_in_month(date.year, date.month)
@@ -213,6 +220,7 @@ fn month_length(first: i64) -> u8
 // The first day of the month of a day.
 fn first_of_month(day: i64) -> i64
     requires { IsDayWithin 0 day }
+    ensures value { result ≡ first_of_month day }
     ensures low { (day -ℤ pos 256) ≤ℤ result }
     ensures high { result ≤ℤ day }
 {
@@ -222,10 +230,58 @@ fn first_of_month(day: i64) -> i64
 // The first day of the month after the one that begins on this day.
 fn month_after(first: i64) -> i64
     requires { IsPainted first }
+    ensures value { result ≡ month_after first }
     ensures low { first ≤ℤ result }
     ensures high { result ≤ℤ (first +ℤ pos 256) }
 {
     first + i64::from(month_length(first))
+}
+
+// Puts the month that begins on this day and the two after it.
+fn push_months<A: DaySeq, B: DaySeq>(
+    alloc: Global,
+    out: &mut Vec<u8>,
+    a: &A,
+    b: &B,
+    first: i64,
+) -> Result<(), NoMemory>
+    requires { HasMonthsAfter first }
+    ensures { OnOk result (HasMonths (A.sketch a.now) (B.sketch b.now) first
+        out.old.items out.new.items) }
+{
+    let second = month_after(first);
+    let third = month_after(second);
+    push_month(alloc, out, a, b, first)?;
+    push_month(alloc, out, a, b, second)?;
+    push_month(alloc, out, a, b, third)?;
+    Ok(())
+}
+
+// Puts what the signs say, the usual times, and the days of these three months with others.
+fn push_notes<A: DaySeq, B: DaySeq>(
+    alloc: Global,
+    out: &mut Vec<u8>,
+    a: &A,
+    b: &B,
+    first: i64,
+) -> Result<(), NoMemory>
+    requires { HasMonthsAfter first }
+    ensures { OnOk result (Grows out.old.items out.new.items) }
+{
+    push(
+        out,
+        b"\n= both, x both at other times, A or B one alone, . none\n",
+    )?;
+    let usual = usual_times(a, b, first);
+    push(out, b"usually")?;
+    push_times(alloc, out, usual)?;
+    push(out, b"\n")?;
+    let second = month_after(first);
+    let third = month_after(second);
+    push_legend(alloc, out, usual, a, b, first)?;
+    push_legend(alloc, out, usual, a, b, second)?;
+    push_legend(alloc, out, usual, a, b, third)?;
+    Ok(())
 }
 
 /// The month of a day and the two after it, Monday first: for each day `=` where it has the same times in both, `x` where it
@@ -237,27 +293,16 @@ pub fn picture<A: DaySeq, B: DaySeq>(
     a: &A,
     b: &B,
     day: i64,
-) -> Result<Vec<u8>, NoMemory> {
+) -> Result<Vec<u8>, NoMemory>
+    ensures { HasPicture day → IfOk result (λ text. IsPictureOf (A.sketch a.now) (B.sketch b.now)
+        day text.items) }
+{
     let mut out = Vec::new(alloc);
     if day < -FARTHEST || day > FARTHEST {
         return Ok(out);
     }
     let first = first_of_month(day);
-    let second = month_after(first);
-    let third = month_after(second);
-    push_month(alloc, &mut out, a, b, first)?;
-    push_month(alloc, &mut out, a, b, second)?;
-    push_month(alloc, &mut out, a, b, third)?;
-    push(
-        &mut out,
-        b"\n= both, x both at other times, A or B one alone, . none\n",
-    )?;
-    let usual = usual_times(a, b, first);
-    push(&mut out, b"usually")?;
-    push_times(alloc, &mut out, usual)?;
-    push(&mut out, b"\n")?;
-    push_legend(alloc, &mut out, usual, a, b, first)?;
-    push_legend(alloc, &mut out, usual, a, b, second)?;
-    push_legend(alloc, &mut out, usual, a, b, third)?;
+    push_months(alloc, &mut out, a, b, first)?;
+    push_notes(alloc, &mut out, a, b, first)?;
     Ok(out)
 }

@@ -4,7 +4,7 @@ ghost use Rattle.std.specs.List.{list_all};
 ghost use Rattle.rr_model.specs.Series.Validity.{IsValidSeries};
 ghost use Rattle.rr_trip.specs.Entries.{IsNumbered, events_in};
 ghost use Rattle.rr_trip.specs.Judged.{IsFoldOf};
-ghost use Rattle.rr_trip.specs.Said.{IsCompared, IsFaultSaid, IsPrintableSaid, IsSaid, IsSaidBeside, have_one_zone};
+ghost use Rattle.rr_trip.specs.Said.{IsCompared, IsFaultSaid, IsPrintableSaid, IsSaid, IsSaidBeside, IsSaidWith, have_one_zone};
 
 use crate::entry::Entry;
 use crate::gather::{KeyFault, KeyRefusal};
@@ -83,6 +83,20 @@ fn verdict_on(a: &KeyDays, b: &KeyDays) -> Said
     }
 }
 
+// What is said of what B states beside the days of A, by the days of B.
+fn said_by_days(alloc: Global, a: &KeyDays, b: KeySeries) -> Result<Said, NoMemory>
+    requires folded { IsFoldOf a.now.series (⟦<Folded as DaySeq>⟧.sketch a.now.days) }
+    requires valid { IsValidSeries b.series }
+    ensures said { IfOk result (IsSaidBeside a.now.series b.line b.series
+        (have_one_zone (a.now.zones.items ++ b.zones.items))) }
+    ensures printable { IfOk result IsPrintableSaid }
+{
+    match days_of_key(alloc, b) {
+        Ok(b) => Ok(verdict_on(a, &b)),
+        Err(fault) => refusal_on(Side::B, fault),
+    }
+}
+
 // What is said of what B states beside the days of A. The same series has the same days, which are then not worked out again.
 fn said_beside(alloc: Global, a: &KeyDays, b: KeySeries) -> Result<Said, NoMemory>
     requires folded { IsFoldOf a.now.series (⟦<Folded as DaySeq>⟧.sketch a.now.days) }
@@ -97,8 +111,19 @@ fn said_beside(alloc: Global, a: &KeyDays, b: KeySeries) -> Result<Said, NoMemor
             one_zone: have_one_zone(&a.zones, &b.zones),
         });
     }
-    match days_of_key(alloc, b) {
-        Ok(b) => Ok(verdict_on(a, &b)),
+    said_by_days(alloc, a, b)
+}
+
+// What is said of a key with these events in B, beside the days of A.
+fn said_with(alloc: Global, offset: Option<i32>, a: &KeyDays, b: &[Entry]) -> Result<Said, NoMemory>
+    requires folded { IsFoldOf a.now.series (⟦<Folded as DaySeq>⟧.sketch a.now.days) }
+    requires b { All IsNumbered b.now }
+    ensures said { IfOk result (IsSaidWith offset a.now.series a.now.zones.items
+        (events_in b.now)) }
+    ensures printable { IfOk result IsPrintableSaid }
+{
+    match key_series(alloc, offset, b) {
+        Ok(b) => said_beside(alloc, a, b),
         Err(fault) => refusal_on(Side::B, fault),
     }
 }
@@ -122,12 +147,8 @@ pub fn said_of(
     if a.is_empty() {
         return Ok(Said::Only(Side::B));
     }
-    let a = match key_days(alloc, offset, a) {
-        Ok(days) => days,
-        Err(fault) => return refusal_on(Side::A, fault),
-    };
-    match key_series(alloc, offset, b) {
-        Ok(b) => said_beside(alloc, &a, b),
-        Err(fault) => refusal_on(Side::B, fault),
+    match key_days(alloc, offset, a) {
+        Ok(days) => said_with(alloc, offset, &days, b),
+        Err(fault) => refusal_on(Side::A, fault),
     }
 }

@@ -1,9 +1,10 @@
 // What is said of the events that are printed by one name, with a picture of where they differ.
 ghost use Rattle.std.specs.Prelude.{◌≡◌, ◌++◌, All, IfOk, OnOk, bytes_eq, map};
 ghost use Rattle.std.specs.List.{filter};
+ghost use Rattle.rr_events.specs.Finding.{lines_in};
 ghost use Rattle.rr_trip.specs.Entries.{IsNumbered, IsNumberedPiece, entry_of, events_in};
 ghost use Rattle.rr_trip.specs.Printed.{key_text};
-ghost use Rattle.rr_trip.specs.Shown.{AnswersShow, IsShownOf, IsShownSaid, IsUnknown, are_none, is_entry_named, named_part, said_status};
+ghost use Rattle.rr_trip.specs.Shown.{AnswersShow, IsShownOf, IsShownSaid, IsUnknown, are_none, events_named, is_entry_named, named_part, said_status};
 
 use crate::entry::Entry;
 use crate::file::{TripFault, read_file};
@@ -90,22 +91,7 @@ fn said_status(said: Said) -> Status
     }
 }
 
-// The days of the events of a key, where these are not refused.
-fn days_unless_refused(
-    alloc: Global,
-    offset: Option<i32>,
-    entries: &[Entry],
-) -> Result<Option<KeyDays>, NoMemory>
-    requires { All IsNumbered entries.now }
-{
-    match key_days(alloc, offset, entries) {
-        Ok(days) => Ok(Some(days)),
-        Err(KeyFault::Refused(_)) => Ok(None),
-        Err(KeyFault::NoMemory) => Err(NoMemory),
-    }
-}
-
-// The picture of the months from a day on, beside the days of A.
+// The picture of the months from a day on, beside the days of A; none where the events of B are refused.
 fn picture_beside(
     alloc: Global,
     offset: Option<i32>,
@@ -115,13 +101,14 @@ fn picture_beside(
 ) -> Result<Vec<u8>, NoMemory>
     requires { All IsNumbered b.now }
 {
-    match days_unless_refused(alloc, offset, b)? {
-        Some(b) => picture(alloc, &a.days, &b.days, day),
-        None => Ok(Vec::new(alloc)),
+    match key_days(alloc, offset, b) {
+        Ok(b) => picture(alloc, &a.days, &b.days, day),
+        Err(KeyFault::Refused(_)) => Ok(Vec::new(alloc)),
+        Err(KeyFault::NoMemory) => Err(NoMemory),
     }
 }
 
-// The picture of the months from a day on.
+// The picture of the months from a day on; none where the events of either are refused.
 fn picture_from(
     alloc: Global,
     offset: Option<i32>,
@@ -132,9 +119,10 @@ fn picture_from(
     requires a { All IsNumbered a.now }
     requires b { All IsNumbered b.now }
 {
-    match days_unless_refused(alloc, offset, a)? {
-        Some(a) => picture_beside(alloc, offset, &a, b, day),
-        None => Ok(Vec::new(alloc)),
+    match key_days(alloc, offset, a) {
+        Ok(a) => picture_beside(alloc, offset, &a, b, day),
+        Err(KeyFault::Refused(_)) => Ok(Vec::new(alloc)),
+        Err(KeyFault::NoMemory) => Err(NoMemory),
     }
 }
 
@@ -226,6 +214,24 @@ fn shown_of(
     show_key(alloc, offset, a, b, name)
 }
 
+// The same of the events of two calendars, among which those of the name are looked for.
+fn show_named(
+    alloc: Global,
+    offset: Option<i32>,
+    a: &[Piece],
+    b: &[Piece],
+    name: &[u8],
+) -> Result<Shown, NoMemory>
+    requires a { All IsNumberedPiece a.now }
+    requires b { All IsNumberedPiece b.now }
+    ensures { IfOk result (IsShownOf offset (events_named name.now (map lines_in a.now))
+        (events_named name.now (map lines_in b.now)) name.now) }
+{
+    let of_a = entries_named(alloc, Side::A, a, name)?;
+    let of_b = entries_named(alloc, Side::B, b, name)?;
+    shown_of(alloc, offset, &of_a, &of_b, name)
+}
+
 /// What is said of the events of two calendar files whose key is printed by this name, as in a report; and, where they
 /// differ, a picture of the month of the first counterexample and the two after it. Where no event has the name, that.
 ///
@@ -239,9 +245,7 @@ pub fn show(
 ) -> Result<Shown, TripFault>
     ensures { AnswersShow offset old.now new.now name.now result }
 {
-    let pieces_a = read_file(alloc, Side::A, old)?;
-    let pieces_b = read_file(alloc, Side::B, new)?;
-    let a = entries_named(alloc, Side::A, &pieces_a, name)?;
-    let b = entries_named(alloc, Side::B, &pieces_b, name)?;
-    Ok(shown_of(alloc, offset, &a, &b, name)?)
+    let a = read_file(alloc, Side::A, old)?;
+    let b = read_file(alloc, Side::B, new)?;
+    Ok(show_named(alloc, offset, &a, &b, name)?)
 }
