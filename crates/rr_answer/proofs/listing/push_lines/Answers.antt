@@ -14,7 +14,7 @@ loop-second-preserved c =
     let second = get_or c.args.seconds.now k 0 in
     let day = to_z w64 (of_z w64 c.args.day) in
     let date : c.as_slice.result.now ≡ extended_date_text day =
-    c.as_slice.ensures.value ∙ c.in_ok-push_extended_date.ensures.ok ∙ ap (λ (l : List ℕ). l ++ extended_date_text day) c.new-date.ensures.items in
+    c.as_slice.ensures.value ∙ c.in_ok-push_extended_date.ensures.ok ∙ ap (λ (l : List ℕ). l ++ extended_date_text day) c.clear.ensures.items in
     let line : occurrence_line c.args.kind (moment_at c.args.kind day second) ≡ c.as_slice.result.now ++ line_end c.args.kind second =
     date_and_end c.args.kind day second (c.requires.of_day k 0 c.loop-second-test.true)
     ∙ ap (λ (l : List ℕ). l ++ line_end c.args.kind second) (sym date) in
