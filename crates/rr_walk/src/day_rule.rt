@@ -266,6 +266,7 @@ impl DayRule {
     }
 
     // The number of the seconds of each candidate day.
+    #[inline(always)]
     fn number_of_times(&mut self, alloc: Global, sets: &mut SetTable) -> Result<usize, NoMemory>
         requires knows { KnowsTimes self.old sets.old }
         ensures same { IsSameRuling self.new self.old }
