@@ -2,7 +2,7 @@
 use Rattle.std.proofs.Common.{◌≡◌, ℕ, pos, ◌≤ℤ◌, arith}
 use Rattle.std.proofs.lemmas.Int.{ints}
 use Rattle.std.specs.Prelude.{Result, Ok, Err, IfErr, IfOk}
-use Rattle.rr_canon.proofs.YearOneLemmas.{occurs_from_year_one}
+use Rattle.rr_model.proofs.YearOneLemmas.{occurs_from_year_one}
 use Rattle.rr_fold.specs.Judged.{IsJudged, all_limits}
 use Rattle.rr_model.specs.Series.Cycle.{series_cycle}
 use Rattle.rr_model.specs.Series.Occurrences.{Occurs}

@@ -3,7 +3,7 @@ use Rattle.std.proofs.Common.{◌≡◌, ℕ, ◌≤◌, ℤ, ◌≤ℤ◌, List
 use Rattle.std.proofs.lemmas.Int.{ints}
 use Rattle.std.specs.Prelude.{Result, Ok, Err, IfErr, IfOk}
 use Rattle.rr_fold.specs.Judged.{all_limits}
-use Rattle.rr_lazy.proofs.StretchLemmas.{day_mono}
+use Rattle.rr_model.proofs.OrderLemmas.{day_mono}
 use Rattle.rr_model.specs.Answers.{Answers}
 use Rattle.rr_model.specs.Moment.{day_part}
 use Rattle.rr_model.specs.Moment.Years.{IsFromYearOne}

@@ -13,7 +13,6 @@ pub mod LineLemmas
 pub mod DescribeLemmas
 pub mod SaidLemmas
 pub mod NumberedStretchLemmas
-pub mod YearOneLemmas
 pub mod ItemLemmas
 pub mod OwnNumberLemmas
 pub mod SetNumberLemmas

@@ -20,7 +20,8 @@ use Rattle.rr_word.proofs.SketchLemmas.{rising_on, second_fits}
 use Rattle.rr_decide.specs.Occurrence.{IsUpToMaxDay, NamesUpToMaxDay}
 use Rattle.rr_decide.specs.Question.{AreApart, HasNoneBefore, IsFirstDayShown, IsFirstOccurrence, IsShown, IsVerdictBy, ShowsNone}
 use Rattle.rr_decide.proofs.MergeLemmas.{HoldsOn-map, HoldsOn-some}
-use Rattle.rr_decide.proofs.OrderLemmas.{Before-compare, Before-trans, earlier_parts, parts_of_moment}
+use Rattle.rr_model.proofs.OrderLemmas.{Before-trans}
+use Rattle.rr_decide.proofs.OrderLemmas.{Before-compare, earlier_parts, parts_of_moment}
 
 -- ---- one sketch
 

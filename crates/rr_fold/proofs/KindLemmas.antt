@@ -5,7 +5,9 @@ use Rattle.std.proofs.lemmas.Int.{ints}
 use Rattle.std.proofs.lemmas.Bool.{false≢true, and_parts}
 use Rattle.std.proofs.lemmas.Bool.Decides.{nat_tests}
 use Rattle.std.proofs.lemmas.List.Elements.{Contains-get_or}
-use Rattle.rr_lazy.proofs.StretchLemmas.{day_mono, moment_day, moment_second}
+use Rattle.rr_model.proofs.OrderLemmas.{day_mono}
+use Rattle.rr_model.proofs.YearOneLemmas.{member_late}
+use Rattle.rr_lazy.proofs.StretchLemmas.{moment_day, moment_second}
 use Rattle.rr_lazy.proofs.TreeLemmas.{has_second_below}
 use Rattle.rr_iter.proofs.RulesLemmas.{whole_one_kind}
 use Rattle.rr_model.proofs.RisingSetLemmas.{Contains-head, Contains-tail, Contains-none, Contains-cons_cases, below_rest}
@@ -13,7 +15,6 @@ use Rattle.rr_model.specs.Moment.{day_part, second_part, moment_at}
 use Rattle.rr_model.specs.Moment.Years.{IsInYears}
 use Rattle.rr_model.specs.Rising.{Rises}
 use Rattle.rr_model.specs.Rising.Sets.{IsSetOf}
-use Rattle.rr_model.specs.Series.Occurrences.{IsMemberOfSome}
 use Rattle.rr_model.specs.Series.Soundness.{IsSound}
 use Rattle.rr_model.specs.Series.Tree.{tree_of, TreeStandsForSeries}
 use Rattle.rr_model.specs.Sets.Sketch.{IsTimeSet}
@@ -21,7 +22,6 @@ use Rattle.rr_model.specs.Sets.Tree.{Tree, Forest, chosen_of, dates_of, union, m
 use Rattle.rr_model.specs.Sets.Tree.{some_stands_at, IsOfKind, AreOfKind}
 use Rattle.rr_model.specs.declared.kind.Kind.{Kind}
 use Rattle.rr_model.specs.declared.kind.Kind.TheVariants.{Days, Moments}
-use Rattle.rr_model.specs.declared.rule.Rule.{Rule}
 use Rattle.rr_model.specs.declared.rule.Series.{Series}
 use Rattle.rr_fold.specs.Folding.{HasNoneBefore}
 
@@ -73,10 +73,6 @@ is_time_set Moments times test some set of = (
 pub tree_of_kind : (series : Series) → IsSound series → IsOfKind series.kind (tree_of series)
 tree_of_kind series sound = whole_one_kind series _ series.minus sound refl refl
 
-member_late : (kind : Kind) (start t : ℤ) (rules : List Rule) → IsMemberOfSome rules kind start t → start ≤ℤ t
-member_late kind start t [] m = absurd m
-member_late kind start t (rule ∷ rules) m = elim m [ inl h ↦ h.not_before | inr h ↦ member_late kind start t rules h ]
-
 -- no day before one is occupied that is not after the start's and those of the dates
 pub none_early : TreeStandsForSeries → (series : Series) (first : ℤ) → IsSound series → first ≤ℤ day_part series.kind series.start
     → ((t : ℤ) → Contains series.plus t → first ≤ℤ day_part series.kind t) → HasNoneBefore (tree_of series) first
@@ -100,7 +96,7 @@ none_early law series first sound order plus d s l =
         elim o.stands [
           | inl (c, same) ↦ omega (arith, ints, order, l, day, ap (day_part series.kind) same)
           | inr r ↦ elim r [
-            | inl m ↦ omega (arith, ints, order, l, day, day_mono series.kind series.start t (member_late series.kind series.start t series.rules m))
+            | inl m ↦ omega (arith, ints, order, l, day, day_mono series.kind series.start t (member_late series.rules series.kind series.start t m))
             | inr p ↦ omega (arith, ints, l, day, plus t p)
           ]
         ]

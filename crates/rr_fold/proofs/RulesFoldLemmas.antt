@@ -1,7 +1,7 @@
 -- The days of rules, one rule after another.
 use Rattle.std.proofs.Common.{◌≡◌, ◌≢◌, ℕ, ◌+◌, ◌<◌, ◌≤◌, List, [], ◌∷◌, ◌++◌, length, get_or, take, All, ℤ, pos, ◌+ℤ◌, refl, sym}
 use Rattle.std.proofs.Common.{ap, subst, ◌∙◌, arith}
-use Rattle.std.specs.Prelude.{Result, Ok, Err, Option, None, IfOk, IfSome, true, false}
+use Rattle.std.specs.Prelude.{Result, Ok, Err, Option, None, IfOk, true, false}
 use Rattle.std.proofs.lemmas.Bool.{false≢true}
 use Rattle.rr_model.specs.Rule.Validity.{is_absent}
 use Rattle.std.proofs.lemmas.List.{get_or_default, take_all, take_more}
@@ -28,13 +28,13 @@ some_rule (rule ∷ rules) some = omega arith
 pub rule_at : (P : Rule → Type 0) (rules xs : List Rule) (i : ℕ) (rule : Rule) → xs ≡ rules → All P rules → i < length xs → rule ≡ get_or xs i rule → P rule
 rule_at P rules xs i rule is all l at = subst P (sym at) ((subst (All P) (sym is) all) i rule l)
 
--- what was counted of a rule stands at its place
-pub count_at : (kind : Kind) (start : ℤ) (rules : List Rule) (counts : List (Option Counted)) → AreCounts kind start rules counts
-    → (k : ℕ) (rule : Rule) (d : Option Counted) → k < length rules → rule ≡ get_or rules k rule → IfSome (get_or counts k d) (IsCountOf kind start rule)
-count_at kind start rules counts are k rule d l at =
+-- what was counted of a rule stands at its place, of the start as it is told
+pub count_at : (kind : Kind) (start told : ℤ) → told ≡ start → (rules : List Rule) (counts : List (Option Counted)) → AreCounts kind start rules counts
+    → (k : ℕ) (rule : Rule) (d : Option Counted) → k < length rules → rule ≡ get_or rules k rule → IsCountOf kind told rule (get_or counts k d)
+count_at kind start told is rules counts are k rule d l at =
     let same : get_or counts k None ≡ get_or counts k d = get_or_default counts k None d (omega (arith, l, are.whole)) in
-    subst (λ o. IfSome o (IsCountOf kind start rule)) same
-    (subst (λ r. IfSome (get_or counts k None) (IsCountOf kind start r)) (sym at) (are.each k rule l))
+    subst (λ t. IsCountOf kind t rule (get_or counts k d)) (sym is) (subst (IsCountOf kind start rule) same
+    (subst (λ r. IsCountOf kind start r (get_or counts k None)) (sym at) (are.each k rule l)))
 
 -- ---- their days
 

@@ -44,7 +44,7 @@ pub fn days_counted(
 ) -> Result<FoldedDays, Fault>
     requires sound { IsSoundRule kind start rule.now }
     requires ends { rule.now.end ≡ Count count }
-    requires counted { IfSome counted (IsCountOf kind start rule.now) }
+    requires counted { IsCountOf kind start rule.now counted }
     requires order { day_part kind start <ℤ end }
     requires high { end ≤ℤ pos 40_000_000 }
     ensures folded { IfOk result (AreDaysOfRule kind start rule.now end) }

@@ -1,5 +1,5 @@
 // The days of a series, rule by rule.
-ghost use Rattle.std.specs.Prelude.{◌≡◌, ◌≢◌, ◌<ℤ◌, ◌≤ℤ◌, ◌+ℤ◌, [], All, IfOk, IfSome, length, pos, true};
+ghost use Rattle.std.specs.Prelude.{◌≡◌, ◌≢◌, ◌<ℤ◌, ◌≤ℤ◌, ◌+ℤ◌, [], All, IfOk, length, pos, true};
 ghost use Rattle.rr_model.specs.Bounds.{first_day_of_all};
 ghost use Rattle.rr_model.specs.Moment.{day_part};
 ghost use Rattle.rr_model.specs.Moment.Years.{IsInYears};
@@ -239,7 +239,7 @@ fn days_of_rule(
     end: i64,
 ) -> Result<FoldedDays, Fault>
     requires sound { IsSoundRule kind start rule.now }
-    requires counted { IfSome counted (IsCountOf kind start rule.now) }
+    requires counted { IsCountOf kind start rule.now counted }
     requires order { day_part kind start <ℤ end }
     requires high { end ≤ℤ pos 40_000_000 }
     ensures folded { IfOk result (AreDaysOfRule kind start rule.now end) }

@@ -19,7 +19,7 @@ use Rattle.rr_model.proofs.CountLemmas.{count_seconds-le}
 use Rattle.rr_check.proofs.SeriesCycleLemmas.{rule_cycle_some}
 use Rattle.rr_lazy.proofs.CountingLemmas.{before_as, before_grows, before_none, before_skip, count_days-suc, count_days-zero}
 use Rattle.rr_lazy.proofs.CycleCountLemmas.{cycles_and_days, days_split}
-use Rattle.rr_iter.specs.Ends.{HasNumberOn, IsSoundRule, before_day}
+use Rattle.rr_iter.specs.Ends.{HasNumberOn, IsSoundRule, before_day, up_to_cycle}
 use Rattle.rr_walk.proofs.StepLemmas.{before_start}
 use Rattle.rr_iter.proofs.RepeatLemmas.{chosen_later}
 
@@ -112,6 +112,14 @@ pub not_after : (tree : Tree) (number : ℕ) (day end : ℤ) → HasNumberOn tre
 not_after tree number day end h l few =
     let grown = before_grows (λ x y. stands_at tree x y) (day +ℤ pos 1) end (omega (arith, ints, h.begun)) (omega (arith, ints, l)) in
     absurd (omega (arith, grown, h.within, few))
+
+-- one that lies on a day of the first cycle after a day has no more occurrences before it than there are up to that cycle's end
+pub within_cycle : (rule : Rule) (kind : Kind) (start : ℤ) (count : ℕ) (day : ℤ) → HasNumberOn (chosen_of rule kind start) count day
+    → day ≤ℤ (day_part kind start +ℤ pos (rule_cycle rule)) → count ≤ up_to_cycle rule kind start
+within_cycle rule kind start count day h l =
+    let grown = before_grows (λ d s. stands_at (chosen_of rule kind start) d s) (day +ℤ pos 1) ((day_part kind start +ℤ pos (rule_cycle rule)) +ℤ pos 1)
+    (omega (arith, ints, h.begun)) (omega (arith, ints, l)) in
+    omega (arith, grown, h.within)
 
 -- ---- divisions
 

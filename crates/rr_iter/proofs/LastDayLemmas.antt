@@ -1,9 +1,8 @@
 -- The last day of a rule that ends.
 use Rattle.std.proofs.Common.{◌≡◌, ◌↔◌, ◌⊎◌, ℕ, ◌<◌, true, List, get_or, ℤ, pos, ◌+ℤ◌, ◌≤ℤ◌, ◌<ℤ◌, sym, subst, ◌∙◌, inl, inr, arith}
-use Rattle.std.specs.Prelude.{Result, Ok, Err, IfOk, IfSome}
+use Rattle.std.specs.Prelude.{Result, Ok, Err, IfOk}
 use Rattle.std.proofs.lemmas.Int.{ints, by_lt_z}
 use Rattle.std.proofs.lemmas.Bool.{false≢true}
-use Rattle.std.proofs.lemmas.Option.{IfSome_then}
 use Rattle.rr_model.specs.Answers.{RefusedExactlyWhere}
 use Rattle.rr_model.specs.Moment.{day_part, second_part, moment_at}
 use Rattle.rr_model.specs.Moment.Years.{IsInYears, IsFromYearOne}
@@ -24,8 +23,8 @@ use Rattle.rr_model.proofs.SecondsLemmas.{first_of_some}
 use Rattle.rr_model.proofs.YearLemmas.{year_10000}
 use Rattle.rr_lazy.specs.Next.{HasNone, IsFirstOccupied}
 use Rattle.rr_lazy.proofs.AgreeLemmas.{members_agree}
-use Rattle.rr_lazy.proofs.StretchLemmas.{day_mono}
-use Rattle.rr_iter.specs.Counts.{IsCounted, IsCountOf, day_alone}
+use Rattle.rr_model.proofs.OrderLemmas.{day_mono}
+use Rattle.rr_iter.specs.Counts.{IsCountOf, IsCountOfEnd, IsCountUpTo, day_alone}
 use Rattle.rr_iter.specs.Ends.{AnswersDayOf, HasNumberOn, IsLastDay, IsLastUpTo, IsSoundRule, before_day}
 use Rattle.rr_iter.specs.declared.counts.LastDay.{LastDay}
 use Rattle.rr_iter.proofs.CountedFarLemmas.{counted_from_on, counts_too_far, second_on}
@@ -110,10 +109,9 @@ module _ (kind : Kind) (start : ℤ) (rule : Rule) where
     few = counts_too_far rule kind start sound.in_years count e
 
     -- what was counted for this number was counted of the rule
-    pub count_given : (result : Result LastDay Fault) → IfOk result (λ last. IfSome last.counted (IsCounted rule kind start count))
-        → IfOk result (λ last. IfSome last.counted (IsCountOf kind start rule))
-    count_given (Ok last) h = IfSome_then last.counted h
-        (λ counted known other f. (let same : other ≡ count = cc in subst (λ n. IsCounted rule kind start n counted) (sym same) known))
+    pub count_given : (result : Result LastDay Fault) → IfOk result (λ last. IsCountUpTo rule kind start count last.counted)
+        → IfOk result (λ last. IsCountOf kind start rule last.counted)
+    count_given (Ok last) h = subst (λ end. IsCountOfEnd kind start rule end last.counted) (sym e) h
     count_given (Err fault) h = tt
 
     pub count_refused : (result : Result LastDay Fault) → AnswersDayOf (chosen_of rule kind start) (day_part kind start) count (day_alone result)

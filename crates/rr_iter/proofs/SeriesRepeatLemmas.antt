@@ -27,7 +27,7 @@ use Rattle.rr_model.specs.declared.rule.Series.{Series}
 use Rattle.rr_model.proofs.RisingLemmas.{All-with_value}
 use Rattle.rr_num.proofs.DivisorLemmas.{lcm_is}
 use Rattle.rr_check.proofs.SeriesCycleLemmas.{endless_cycle_some, have_intervals, rules_cycle_some}
-use Rattle.rr_lazy.proofs.StretchLemmas.{day_mono}
+use Rattle.rr_model.proofs.OrderLemmas.{day_mono}
 use Rattle.rr_iter.proofs.RepeatLemmas.{before_later_day, chosen_later, none_ended}
 
 -- ---- rules

@@ -1,9 +1,8 @@
 -- What stands in the tree of a series is what occurs in it.
-use Rattle.std.proofs.Common.{◌≡◌, ◌⊎◌, ◌↔◌, true, false, ◌&&◌, ◌||◌, not, cond, Bool, List, [], ◌∷◌, All, Contains, ℤ, refl, sym, subst, ◌∙◌, inl, inr, arith}
+use Rattle.std.proofs.Common.{◌≡◌, ◌⊎◌, ◌↔◌, true, false, ◌&&◌, ◌||◌, not, Bool, List, [], ◌∷◌, All, Contains, ℤ, refl, sym, subst, ◌∙◌, inl, inr}
 use Rattle.std.specs.Prelude.{int_lt, if◌then◌else◌}
-use Rattle.std.proofs.lemmas.Int.{ints}
 use Rattle.std.proofs.lemmas.Bool.{false≢true, and_from, and_parts, or_cases, or_left, or_right, not-true, not_from_false, false_from_ne_true}
-use Rattle.std.proofs.lemmas.List.Elements.{All-head, All-tail, Contains-get_or}
+use Rattle.std.proofs.lemmas.List.Elements.{All-head, All-tail}
 use Rattle.rr_model.specs.Moment.{day_part, second_part}
 use Rattle.rr_model.specs.Moment.Years.{IsInYears}
 use Rattle.rr_model.specs.Rising.{with_value}
@@ -15,8 +14,7 @@ use Rattle.rr_model.specs.Sets.Tree.{is_among, some_stands_at, stands_in}
 use Rattle.rr_model.specs.declared.kind.Kind.{Kind}
 use Rattle.rr_model.specs.declared.rule.Rule.{Rule}
 use Rattle.rr_model.specs.declared.rule.Series.{Series}
-use Rattle.rr_model.proofs.RisingLemmas.{All-with_value}
-use Rattle.rr_model.proofs.RisingSetLemmas.{Contains-head, Contains-tail, Contains-none, Contains-cons_cases}
+use Rattle.rr_model.proofs.WithValueLemmas.{with_value-has, with_value-keeps, with_value-only}
 use Rattle.rr_lazy.proofs.AgreeLemmas.{members_agree, moment_is}
 use Rattle.rr_lazy.proofs.StretchLemmas.{listed}
 
@@ -37,38 +35,12 @@ members_of_some (rule ∷ rules) kind start t y fit =
 
 -- ---- dates
 
-module _ (v : ℤ) where
-  keeps : (xs : List ℤ) (x : ℤ) → Contains xs x → Contains (with_value int_lt xs v) x
-  keeps [] x c = absurd (Contains-none x c)
-  keeps (y ∷ ys) x c = elim (int_lt y v) as (λ b. Contains (cond b (y ∷ with_value int_lt ys v) (cond (int_lt v y) (v ∷ y ∷ ys) (y ∷ ys))) x) [
-    | true ↦ elim (Contains-cons_cases y ys x c) [
-      | inl e ↦ subst (Contains (y ∷ with_value int_lt ys v)) e (Contains-head y (with_value int_lt ys v))
-      | inr d ↦ Contains-tail y (with_value int_lt ys v) x (keeps ys x d)
-    ]
-    | false ↦ elim (int_lt v y) as (λ b. Contains (cond b (v ∷ y ∷ ys) (y ∷ ys)) x) [ true ↦ Contains-tail v (y ∷ ys) x c | false ↦ c ]
-  ]
-
-  has_own : (xs : List ℤ) → Contains (with_value int_lt xs v) v
-  has_own [] = Contains-head v []
-  has_own (y ∷ ys) = elim (int_lt y v) as (λ b. int_lt y v ≡ b → Contains (cond b (y ∷ with_value int_lt ys v) (cond (int_lt v y) (v ∷ y ∷ ys) (y ∷ ys))) v) [
-    | true ↦ λ e. Contains-tail y (with_value int_lt ys v) v (has_own ys)
-    | false ↦ λ e. elim (int_lt v y) as (λ b. int_lt v y ≡ b → Contains (cond b (v ∷ y ∷ ys) (y ∷ ys)) v) [
-      | true ↦ λ f. Contains-head v (y ∷ ys)
-      | false ↦ λ f. (let same : y ≡ v = omega (arith, ints, e, f) in subst (Contains (y ∷ ys)) same (Contains-head y ys))
-    ] refl
-  ] refl
-
-  only : (xs : List ℤ) (x : ℤ) → Contains (with_value int_lt xs v) x → Contains xs x ⊎ (v ≡ x)
-  only xs x (k, l, e) =
-      let all = All-with_value (λ y. Contains xs y ⊎ (v ≡ y)) int_lt xs v (λ i d h. inl (Contains-get_or xs i d h)) (inr refl) k x l in
-      subst (λ y. Contains xs y ⊎ (v ≡ y)) e all
-
 -- the start, where it counts, or a date that is added
 dates_are : (b : Bool) (plus : List ℤ) (start t : ℤ)
     → Contains (if b then with_value int_lt plus start else plus) t ↔ (((b ≡ true) × (t ≡ start)) ⊎ Contains plus t)
 dates_are true plus start t = (
-  λ c. elim (only start plus t c) [ inl d ↦ inr d | inr e ↦ inl (refl, sym e) ],
-  λ m. elim m [ inl h ↦ subst (Contains (with_value int_lt plus start)) (sym h.1) (has_own start plus) | inr d ↦ keeps start plus t d ],
+  λ c. elim (with_value-only start plus t c) [ inl d ↦ inr d | inr e ↦ inl (refl, sym e) ],
+  λ m. elim m [ inl h ↦ subst (Contains (with_value int_lt plus start)) (sym h.1) (with_value-has start plus) | inr d ↦ with_value-keeps start plus t d ],
 )
 dates_are false plus start t = (λ c. inr c, λ m. elim m [ inl h ↦ absurd (false≢true h.0) | inr d ↦ d ])
 

@@ -9,7 +9,7 @@ use Rattle.std.specs.List.{slice_get}
 use Rattle.std.proofs.lemmas.Option.{get_or_from_slice_get}
 use Rattle.rr_model.specs.Bounds.{first_day_of_all}
 use Rattle.rr_model.specs.Rising.{Rises}
-use Rattle.rr_lazy.proofs.StretchLemmas.{day_mono}
+use Rattle.rr_model.proofs.OrderLemmas.{day_mono}
 use Rattle.rr_model.specs.Answers.{RefusedExactlyWhere}
 use Rattle.rr_model.specs.Calendar.{first_day_of_year}
 use Rattle.rr_model.specs.Moment.{day_part}

@@ -1,7 +1,8 @@
 -- What is counted of rules with COUNT to find where they end (RFC 5545, section 3.3.10).
-use Rattle.std.specs.Prelude.{◌≡◌, ℕ, ◌+◌, ◌<◌, ◌≤◌, List, length, get_or, Option, None, IfSome, Result, Ok, Err, ℤ}
+use Rattle.std.specs.Prelude.{◌≡◌, ℕ, ◌+◌, ◌<◌, ◌≤◌, List, length, get_or, Option, Some, None, Result, Ok, Err, ℤ}
 use Rattle.rr_model.specs.declared.kind.Kind.{Kind}
 use Rattle.rr_model.specs.declared.refusal.Fault.{Fault}
+use Rattle.rr_model.specs.declared.rule.End.{End}
 use Rattle.rr_model.specs.declared.rule.End.TheVariants.{Count}
 use Rattle.rr_model.specs.declared.rule.Rule.{Rule}
 use Rattle.rr_model.specs.declared.rule.Series.{Series}
@@ -17,14 +18,24 @@ pub record IsCounted (rule : Rule) (kind : Kind) (start : ℤ) (count : ℕ) (co
   pub some_after : 1 ≤ counted.after
   pub after : up_to_cycle rule kind start + counted.after ≡ count
 
--- it was counted so of a rule with COUNT
-abbrev pub IsCountOf : Kind → ℤ → Rule → Counted → Type 0
-IsCountOf kind start rule counted = (count : ℕ) → rule.end ≡ Count count → IsCounted rule kind start count counted
+-- what is counted to find the member of this number: nothing exactly where it lies within that first cycle
+abbrev pub IsCountUpTo : Rule → Kind → ℤ → ℕ → Option Counted → Type 0
+IsCountUpTo rule kind start count (Some counted) = IsCounted rule kind start count counted
+IsCountUpTo rule kind start count None = count ≤ up_to_cycle rule kind start
 
--- an item for each rule, and what is there was counted of its rule
+-- by the end of a rule: with COUNT alone it is told so, and of any other nothing
+abbrev pub IsCountOfEnd : Kind → ℤ → Rule → End → Option Counted → Type 0
+IsCountOfEnd kind start rule (Count count) counted = IsCountUpTo rule kind start count counted
+IsCountOfEnd kind start rule end counted = counted ≡ None
+
+-- what is told of a rule
+abbrev pub IsCountOf : Kind → ℤ → Rule → Option Counted → Type 0
+IsCountOf kind start rule counted = IsCountOfEnd kind start rule rule.end counted
+
+-- an item for each rule: what is counted of it
 pub record AreCounts (kind : Kind) (start : ℤ) (rules : List Rule) (counts : List (Option Counted)) : Type 0 where
   pub whole : length counts ≡ length rules
-  pub each : (k : ℕ) (rule : Rule) → k < length rules → IfSome (get_or counts k None) (IsCountOf kind start (get_or rules k rule))
+  pub each : (k : ℕ) (rule : Rule) → k < length rules → IsCountOf kind start (get_or rules k rule) (get_or counts k None)
 
 -- of the rules of a series, and of the excluded ones
 pub record AreCountsOf (series : Series) (counts : Counts) : Type 0 where

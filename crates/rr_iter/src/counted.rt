@@ -1,9 +1,9 @@
 // The last member of a rule with COUNT.
-ghost use Rattle.std.specs.Prelude.{◌≡◌, ◌+◌, ◌<◌, ◌≤◌, IfOk, IfSome, min};
+ghost use Rattle.std.specs.Prelude.{◌≡◌, ◌+◌, ◌<◌, ◌≤◌, IfOk, min};
 ghost use Rattle.rr_model.specs.Moment.{day_part};
 ghost use Rattle.rr_model.specs.Rule.Cycle.{rule_cycle};
 ghost use Rattle.rr_model.specs.Sets.Tree.{chosen_of};
-ghost use Rattle.rr_iter.specs.Counts.{IsCounted, day_alone};
+ghost use Rattle.rr_iter.specs.Counts.{IsCountUpTo, day_alone};
 ghost use Rattle.rr_iter.specs.Ends.{AnswersDayOf, IsSoundRule, up_to_cycle, up_to_start};
 
 use crate::counts::{Counted, LastDay};
@@ -29,7 +29,7 @@ pub(crate) fn last_counted(
     ensures day { AnswersDayOf (chosen_of rule.now kind start) (day_part kind start) count
         (day_alone result) }
     ensures counted { IfOk result (λ last.
-        IfSome last.counted (IsCounted rule.now kind start count)) }
+        IsCountUpTo rule.now kind start count last.counted) }
 {
     if count > MOST_MOMENTS {
         return Err(Fault::Refused(Refusal::CountedTooFar));
@@ -56,7 +56,7 @@ fn after_start(
     ensures day { AnswersDayOf (chosen_of rule.now kind start) (day_part kind start) count
         (day_alone result) }
     ensures counted { IfOk result (λ last.
-        IfSome last.counted (IsCounted rule.now kind start count)) }
+        IsCountUpTo rule.now kind start count last.counted) }
 {
     let cycle = cycle_within_span(rule);
     let to = day_part(kind, start) + cycle as i64;

@@ -1,5 +1,5 @@
 // The last day of a rule that ends.
-ghost use Rattle.std.specs.Prelude.{◌≡◌, ◌≤◌, ◌≤ℤ◌, IfOk, IfSome, List, ℕ, pos};
+ghost use Rattle.std.specs.Prelude.{◌≤◌, ◌≤ℤ◌, IfOk, List, ℕ, pos};
 ghost use Rattle.rr_model.specs.Bounds.{latest_day};
 ghost use Rattle.rr_model.specs.Answers.{RefusedExactlyWhere};
 ghost use Rattle.rr_model.specs.Moment.{day_part};
@@ -24,7 +24,7 @@ pub(crate) fn last_day(alloc: Global, rule: &Rule, kind: Kind, start: i64) -> Re
     requires sound { IsSoundRule kind start rule.now }
     ensures day { IfOk result (λ last. IsLastDay kind start rule.now last.day) }
     ensures near { IfOk result (λ last. last.day ≤ℤ pos 19_710_112) }
-    ensures counted { IfOk result (λ last. IfSome last.counted (IsCountOf kind start rule.now)) }
+    ensures counted { IfOk result (λ last. IsCountOf kind start rule.now last.counted) }
     ensures refused { RefusedExactlyWhere (CountsTooFar kind start rule.now) CountedTooFar result }
 {
     match rule.end {

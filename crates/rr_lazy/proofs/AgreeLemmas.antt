@@ -19,7 +19,7 @@ use Rattle.rr_model.specs.declared.rule.End.{End}
 use Rattle.rr_model.specs.declared.rule.End.TheVariants.{Never, Until, Count, Both}
 use Rattle.rr_model.specs.declared.rule.Rule.{Rule}
 use Rattle.rr_model.proofs.WholeLemmas.{floor_whole, floor_mod_below}
-use Rattle.rr_lazy.proofs.StretchLemmas.{day_mono}
+use Rattle.rr_model.proofs.OrderLemmas.{day_mono}
 use Rattle.rr_lazy.proofs.MemberCountLemmas.{to_same, count_is}
 
 -- a moment is at its own day and second

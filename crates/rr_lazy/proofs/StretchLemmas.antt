@@ -19,6 +19,7 @@ use Rattle.rr_model.specs.declared.kind.Kind.{Kind}
 use Rattle.rr_model.specs.declared.kind.Kind.TheVariants.{Days, Moments}
 use Rattle.rr_model.proofs.WholeLemmas.{floor_whole, floor_mod_below}
 use Rattle.rr_model.proofs.MomentLemmas.{day_part-moment_at, second_part-moment_at}
+use Rattle.rr_model.proofs.OrderLemmas.{day_mono}
 use Rattle.rr_model.proofs.RisingSetLemmas.{set_same, set_push, set_empty, Contains-head, Contains-tail, Contains-none, rising_dates}
 use Rattle.rr_model.proofs.RisingSetLemmas.{Contains-cons_cases}
 use Rattle.rr_model.specs.Sets.Tree.{has_second, is_among}
@@ -30,14 +31,6 @@ use Rattle.rr_lazy.specs.Stretch.{IsFirstFrom, IsFirstDate}
 use Rattle.rr_lazy.proofs.TreeLemmas.{has_second_below}
 
 -- ---- rising dates by index
-
--- a later date or moment has no earlier day
-pub day_mono : (kind : Kind) (t u : ℤ) → t ≤ℤ u → day_part kind t ≤ℤ day_part kind u
-day_mono Days t u l = l
-day_mono Moments t u l =
-    let w = floor_whole t 86_400 (omega arith) in
-    let v = floor_whole u 86_400 (omega arith) in
-    omega (arith, ints, w, v, l, floor_mod_below u 86_400 (omega arith))
 
 rising_to : (xs : List ℤ) → Rises int_lt xs → (i j : ℕ) → i ≤ j → j < length xs → get_or xs i (pos 0) ≤ℤ get_or xs j (pos 0)
 rising_to xs r i j l h =

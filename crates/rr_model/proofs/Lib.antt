@@ -33,3 +33,7 @@ mod MomentExamples
 mod WrittenExamples
 pub mod DaysAndTimesLemmas
 pub mod ChoiceLemmas
+pub mod OrderLemmas
+pub mod WithEndLemmas
+pub mod WithValueLemmas
+pub mod YearOneLemmas

@@ -1,17 +1,16 @@
 -- There is one number of occurrences, one rank and one n-th at most.
-use Rattle.std.proofs.Common.{◌≡◌, ◌↔◌, ◌⊎◌, inl, inr, ℕ, zero, suc, ◌+◌, ◌<◌, ◌≤◌, List, [], ◌∷◌, length, ℤ, pos, ◌+ℤ◌, ◌*ℤ◌, ◌≤ℤ◌, ◌<ℤ◌, refl, sym}
-use Rattle.std.proofs.Common.{ap, subst, ◌∙◌, arith}
+use Rattle.std.proofs.Common.{◌≡◌, ◌↔◌, ◌⊎◌, inl, inr, ℕ, ◌<◌, ◌≤◌, List, [], ◌∷◌, length, ℤ, pos, ◌*ℤ◌, ◌≤ℤ◌, refl, sym}
+use Rattle.std.proofs.Common.{subst, ◌∙◌, arith}
 use Rattle.std.specs.Prelude.{IsTrue, int_lt}
 use Rattle.std.specs.List.{Contains}
-use Rattle.std.proofs.lemmas.Bool.{cases_order}
 use Rattle.std.proofs.lemmas.Int.{ints, by_lt_z}
-use Rattle.rr_model.specs.Moment.{Before, Occurrences, instant_of, day_part}
+use Rattle.rr_model.specs.Moment.{Before, Occurrences, day_part}
 use Rattle.rr_model.specs.Rising.{Rises}
-use Rattle.rr_model.specs.Rising.Sets.{IsSetOf}
 use Rattle.rr_model.specs.declared.kind.Kind.{Kind}
 use Rattle.rr_model.specs.declared.kind.Kind.TheVariants.{Days, Moments}
+use Rattle.rr_model.proofs.OrderLemmas.{Before-trans, to_place}
 use Rattle.rr_model.proofs.RisingSetLemmas.{Contains-cons_cases, Contains-head, Contains-none, Contains-tail, Rises-tail, below_rest, set_same}
-use Rattle.rr_rank.specs.Rank.{HasExactly, HasFewer, IsNotAfter, IsNth, IsNthOf, IsPast, IsRank, up_to}
+use Rattle.rr_rank.specs.Rank.{HasExactly, HasFewer, IsNth, IsNthOf, IsPast, IsRank, up_to}
 use Rattle.rr_rank.specs.declared.nth.Nth.{Nth}
 use Rattle.rr_rank.specs.declared.nth.Nth.TheVariants.{At, Fewer, Past}
 
@@ -158,34 +157,6 @@ compare Moments t Days u =
     by_lt_z {P = Before Moments t Days u ⊎ (Before Days u Moments t ⊎ ((Moments ≡ Days) × (t ≡ u)))} (u *ℤ pos 86_400) t (λ m. inr (inl (inl m)))
     (λ m. inr (inl (inr (omega (arith, ints), refl, refl)))))
 
--- twice the second, and one more for a moment
-abbrev place_of : Kind → ℤ → ℤ
-place_of Days t = t *ℤ pos 172_800
-place_of Moments t = (t *ℤ pos 2) +ℤ pos 1
-
-to_place : (k : Kind) (t : ℤ) (l : Kind) (u : ℤ) → Before k t l u → place_of k t <ℤ place_of l u
-to_place Days t Days u (inl h) = omega (arith, ints)
-to_place Days t Days u (inr h) = absurd (cc)
-to_place Days t Moments u (inl h) = omega (arith, ints)
-to_place Days t Moments u (inr h) = omega (arith, ints, h.0)
-to_place Moments t Days u (inl h) = omega (arith, ints)
-to_place Moments t Days u (inr h) = absurd (cc)
-to_place Moments t Moments u (inl h) = omega (arith, ints)
-to_place Moments t Moments u (inr h) = absurd (cc)
-
-from_place : (k : Kind) (t : ℤ) (l : Kind) (u : ℤ) → place_of k t <ℤ place_of l u → Before k t l u
-from_place Days t Days u h = inl (omega (arith, ints))
-from_place Days t Moments u h =
-    by_lt_z {P = Before Days t Moments u} (t *ℤ pos 86_400) u (λ l. inl l) (λ g. inr (omega (arith, ints), refl, refl))
-from_place Moments t Days u h = inl (omega (arith, ints))
-from_place Moments t Moments u h = inl (omega (arith, ints))
-
-follows : (a : Kind) (t : ℤ) (b : Kind) (u : ℤ) (c : Kind) (v : ℤ) → Before a t b u → Before b u c v → Before a t c v
-follows a t b u c v h g =
-    let x = to_place a t b u h in
-    let y = to_place b u c v g in
-    from_place a t c v (omega (arith, ints, x, y))
-
 not_before_itself : (k : Kind) (t : ℤ) → Before k t k t → ⊥
 not_before_itself k t h = let x = to_place k t k t h in omega (arith, ints, x)
 
@@ -193,7 +164,7 @@ not_before_itself k t h = let x = to_place k t k t h in omega (arith, ints, x)
 pub lesser_rank : (P : Occurrences) (m n : ℕ) (k : Kind) (t : ℤ) (l : Kind) (u : ℤ) → IsRank P k t m → IsNth P n l u → Before k t l u → m < n
 lesser_rank P m n k t l u a b before =
     fewer_than (up_to P k t) (up_to P l u) m n l u a b.rank
-    (λ o w h. (h.0, λ later. h.1 (follows k t l u o w before later)))
+    (λ o w h. (h.0, λ later. h.1 (Before-trans k t l u o w before later)))
     (b.occurs, not_before_itself l u) (λ h. h.1 before)
 
 pub nth_is_one : (P : Occurrences) (n : ℕ) (k : Kind) (t : ℤ) (l : Kind) (u : ℤ) → IsNth P n k t → IsNth P n l u → (k ≡ l) × (t ≡ u)

@@ -20,7 +20,8 @@ use Rattle.rr_model.specs.declared.used.Scan.{Scan}
 use Rattle.rr_text.proofs.StepLemmas.{and_then_ok, passed}
 use Rattle.rr_ical.proofs.BesideLemmas.{IsReadEvent, passes-valid}
 use Rattle.rr_rule_parts.proofs.ValidPartsLemmas.{rule_parts-valid}
-use Rattle.rr_rule_parts.proofs.ValidityLemmas.{IsValidBeside, FitsUntil, rule_of-valid, rule_of-fits, end_beside-valid, with_end-valid}
+use Rattle.rr_model.proofs.WithEndLemmas.{with_end-valid}
+use Rattle.rr_rule_parts.proofs.ValidityLemmas.{IsValidBeside, FitsUntil, rule_of-valid, rule_of-fits, end_beside-valid}
 
 -- ---- rules
 

@@ -122,34 +122,3 @@ module _ (offset : Option ℤ) (start : Stamp) where
       let at : end_at end moment.0 ≡ next = cc in
       let same : Until stamp.kind moment.0 ≡ next = ap (λ (x : End). end_at x moment.0) (sym fits.1) ∙ at in
       subst (λ (x : End). HasCountInRange x × EndsInYears x) same (tt, moment_beside-in_years offset start line stamp moment.0 fits.0 moment.1)
-
--- another end with a COUNT in its range keeps a rule valid
-pub with_end-valid : (kind : Kind) (rule : Rule) (end : End) → IsValidRule kind rule → HasCountInRange end → IsValidRule kind (record rule { end = end })
-with_end-valid kind rule end v count = record {
-  interval_low = v.interval_low;
-  interval_high = v.interval_high;
-  months = v.months;
-  week_numbers = v.week_numbers;
-  year_days = v.year_days;
-  month_days = v.month_days;
-  days = v.days;
-  hours = v.hours;
-  minutes = v.minutes;
-  seconds = v.seconds;
-  set_positions = v.set_positions;
-  week_start = v.week_start;
-  count = count;
-  rising = record {
-    months = v.rising.months;
-    week_numbers = v.rising.week_numbers;
-    year_days = v.rising.year_days;
-    month_days = v.rising.month_days;
-    days = v.rising.days;
-    hours = v.rising.hours;
-    minutes = v.rising.minutes;
-    seconds = v.rising.seconds;
-    set_positions = v.rising.set_positions;
-  };
-  parts = v.parts;
-  start = v.start;
-}

@@ -62,6 +62,7 @@ impl SetTable {
     }
 
     /// The number of the first `count` seconds of a set; of the set itself where it has no more.
+    #[inline(always)]
     pub fn prefix(&mut self, alloc: Global, number: SetId, count: usize) -> Result<SetId, NoMemory>
         requires { number < length self.old }
         ensures placed { IfOk result (λ n. slice_get self.new n

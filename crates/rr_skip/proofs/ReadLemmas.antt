@@ -40,7 +40,8 @@ use Rattle.rr_text.proofs.StepLemmas.{and_then_ok, step_keeps, passed, not_refus
 use Rattle.rr_rule_parts.proofs.BoundsLemmas.{All-list_of, number_within-counts}
 use Rattle.rr_rule_parts.proofs.ValidPartsLemmas.{ArePartsValid, no_parts-valid, with_part_value-valid}
 use Rattle.rr_rule_parts.proofs.ValidRisingLemmas.{Rises-list_of}
-use Rattle.rr_rule_parts.proofs.ValidityLemmas.{IsValidBeside, FitsUntil, end_of-valid, rule_with-valid, end_of-fits, end_beside-valid, with_end-valid}
+use Rattle.rr_model.proofs.WithEndLemmas.{with_end-valid}
+use Rattle.rr_rule_parts.proofs.ValidityLemmas.{IsValidBeside, FitsUntil, end_of-valid, rule_with-valid, end_of-fits, end_beside-valid}
 use Rattle.rr_skip.specs.Months.{is_skip_chosen}
 use Rattle.rr_skip.specs.Parts.{is_taken, taken_part, scale_part_named, has_scale_part, with_scale, is_scale_name, skip_named, front_day, front_days, with_taken_value, with_scale_value}
 use Rattle.rr_skip.specs.Parts.{with_scale_part, no_scale_parts, scale_parts_of, is_scaled, skip_rule_of, scale_parts}

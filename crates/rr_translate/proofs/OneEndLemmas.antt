@@ -27,6 +27,7 @@ use Rattle.rr_model.specs.declared.rule.End.TheVariants.{Never, Until, Count, Bo
 use Rattle.rr_model.specs.declared.rule.Rule.{Rule}
 use Rattle.rr_model.specs.declared.rule.Series.{Series}
 use Rattle.rr_model.proofs.CountLemmas.{one, count_from-suc, count_from-split}
+use Rattle.rr_model.proofs.WithEndLemmas.{with_end-valid}
 use Rattle.rr_translate.specs.OneEnd.{one_end, with_one_end, with_one_ends}
 
 -- ---- one rule
@@ -156,34 +157,7 @@ module _ (rule : Rule) (kind : Kind) (start : ℤ) where
       (λ b. endless_cycle (cond b (Count count) (Until other at)) (record rule { end = cond b (Count count) (Until other at) }) ≡ 1) [ true ↦ refl | false ↦ refl ]
 
   still_valid : IsValidRule kind rule → IsValidRule kind (with_one_end kind start rule)
-  still_valid v = record {
-    interval_low = v.interval_low;
-    interval_high = v.interval_high;
-    months = v.months;
-    week_numbers = v.week_numbers;
-    year_days = v.year_days;
-    month_days = v.month_days;
-    days = v.days;
-    hours = v.hours;
-    minutes = v.minutes;
-    seconds = v.seconds;
-    set_positions = v.set_positions;
-    week_start = v.week_start;
-    count = counts_in_range rule.end v.count;
-    rising = record {
-      months = v.rising.months;
-      week_numbers = v.rising.week_numbers;
-      year_days = v.rising.year_days;
-      month_days = v.rising.month_days;
-      days = v.rising.days;
-      hours = v.rising.hours;
-      minutes = v.rising.minutes;
-      seconds = v.rising.seconds;
-      set_positions = v.rising.set_positions;
-    };
-    parts = v.parts;
-    start = v.start;
-  }
+  still_valid v = with_end-valid kind rule (one_end rule kind start rule.end) v (counts_in_range rule.end v.count)
 
   still_fits : FitsStart kind start rule → FitsStart kind start (with_one_end kind start rule)
   still_fits f = record {

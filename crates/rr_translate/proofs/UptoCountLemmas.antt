@@ -15,7 +15,7 @@ use Rattle.rr_model.proofs.WholeLemmas.{floor_whole, floor_mod_below}
 use Rattle.rr_lazy.proofs.AgreeLemmas.{upto_counts}
 use Rattle.rr_lazy.proofs.CountingLemmas.{before_grows, before_next, seconds_skip, to_is}
 use Rattle.rr_lazy.proofs.MemberCountLemmas.{count_is}
-use Rattle.rr_lazy.proofs.StretchLemmas.{day_mono}
+use Rattle.rr_model.proofs.OrderLemmas.{day_mono}
 use Rattle.rr_iter.specs.Ends.{IsNthOf, before_day}
 use Rattle.rr_iter.specs.declared.nth.Nth.TheVariants.{On, Beyond}
 

@@ -8,11 +8,11 @@ use Rattle.std.specs.List.Sorted.{IsStrictlySortedBy}
 use Rattle.std.specs.Ordering.{int_cmp, int_eq, is_eq, match_ordering}
 use Rattle.std.specs.declared.cmp.Ordering.TheVariants.{Less, Equal, Greater}
 use Rattle.std.proofs.lemmas.Int.{ints}
-use Rattle.std.proofs.lemmas.List.Elements.{All-head, Contains-get_or}
+use Rattle.std.proofs.lemmas.List.Elements.{All-head}
 use Rattle.std.proofs.lemmas.Map.Views.{All-after_first}
 use Rattle.rr_model.specs.Rising.{Rises, with_value}
-use Rattle.rr_model.proofs.RisingLemmas.{All-with_value}
 use Rattle.rr_model.proofs.RisingSetLemmas.{Contains-cons_cases, Contains-head, Contains-none, Contains-tail, one_list_of_days, set_itself}
+use Rattle.rr_model.proofs.WithValueLemmas.{with_value-has, with_value-keeps, with_value-only}
 use Rattle.rr_trip.specs.Edited.{with_values}
 use Rattle.rr_trip.proofs.EditLemmas.{Rises-with_values}
 
@@ -59,44 +59,18 @@ rising (x ∷ y ∷ ys) s = (less x y (All-head (λ q. int_cmp x q ≡ Less) y y
 
 -- ---- what stands in a list with other dates
 
-module _ (v : ℤ) where
-  keeps : (xs : List ℤ) (x : ℤ) → Contains xs x → Contains (with_value int_lt xs v) x
-  keeps [] x c = absurd (Contains-none x c)
-  keeps (y ∷ ys) x c = elim (int_lt y v) as (λ b. Contains (cond b (y ∷ with_value int_lt ys v) (cond (int_lt v y) (v ∷ y ∷ ys) (y ∷ ys))) x) [
-    | true ↦ elim (Contains-cons_cases y ys x c) [
-      | inl e ↦ subst (Contains (y ∷ with_value int_lt ys v)) e (Contains-head y (with_value int_lt ys v))
-      | inr d ↦ Contains-tail y (with_value int_lt ys v) x (keeps ys x d)
-    ]
-    | false ↦ elim (int_lt v y) as (λ b. Contains (cond b (v ∷ y ∷ ys) (y ∷ ys)) x) [ true ↦ Contains-tail v (y ∷ ys) x c | false ↦ c ]
-  ]
-
-  has_own : (xs : List ℤ) → Contains (with_value int_lt xs v) v
-  has_own [] = Contains-head v []
-  has_own (y ∷ ys) = elim (int_lt y v) as (λ b. int_lt y v ≡ b → Contains (cond b (y ∷ with_value int_lt ys v) (cond (int_lt v y) (v ∷ y ∷ ys) (y ∷ ys))) v) [
-    | true ↦ λ e. Contains-tail y (with_value int_lt ys v) v (has_own ys)
-    | false ↦ λ e. elim (int_lt v y) as (λ b. int_lt v y ≡ b → Contains (cond b (v ∷ y ∷ ys) (y ∷ ys)) v) [
-      | true ↦ λ f. Contains-head v (y ∷ ys)
-      | false ↦ λ f. (let same : y ≡ v = omega (arith, ints, e, f) in subst (Contains (y ∷ ys)) same (Contains-head y ys))
-    ] refl
-  ] refl
-
-  only : (xs : List ℤ) (x : ℤ) → Contains (with_value int_lt xs v) x → Contains xs x ⊎ (v ≡ x)
-  only xs x (k, l, e) =
-      let all = All-with_value (λ y. Contains xs y ⊎ (v ≡ y)) int_lt xs v (λ i d h. inl (Contains-get_or xs i d h)) (inr refl) k x l in
-      subst (λ y. Contains xs y ⊎ (v ≡ y)) e all
-
 pub put_in : (dates ts : List ℤ) (t : ℤ) → Contains (with_values dates ts) t ↔ (Contains dates t ⊎ Contains ts t)
 put_in dates [] t = (λ c. inl c, λ m. elim m [ inl c ↦ c | inr n ↦ absurd (Contains-none t n) ])
 put_in dates (v ∷ ts) t =
     let more = put_in (with_value int_lt dates v) ts t in (
       λ c. elim (more.0 c) [
-        | inl d ↦ elim (only v dates t d) [ inl e ↦ inl e | inr e ↦ inr (subst (Contains (v ∷ ts)) e (Contains-head v ts)) ]
+        | inl d ↦ elim (with_value-only v dates t d) [ inl e ↦ inl e | inr e ↦ inr (subst (Contains (v ∷ ts)) e (Contains-head v ts)) ]
         | inr d ↦ inr (Contains-tail v ts t d)
       ],
       λ m. elim m [
-        | inl d ↦ more.1 (inl (keeps v dates t d))
+        | inl d ↦ more.1 (inl (with_value-keeps v dates t d))
         | inr d ↦ elim (Contains-cons_cases v ts t d) [
-          | inl e ↦ more.1 (inl (subst (Contains (with_value int_lt dates v)) e (has_own v dates)))
+          | inl e ↦ more.1 (inl (subst (Contains (with_value int_lt dates v)) e (with_value-has v dates)))
           | inr f ↦ more.1 (inr f)
         ]
       ],

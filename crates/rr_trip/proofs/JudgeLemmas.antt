@@ -20,7 +20,7 @@ use Rattle.rr_trip.specs.declared.event.Event.{Event}
 use Rattle.rr_trip.specs.declared.gather.KeyFault.{KeyFault}
 use Rattle.rr_trip.specs.declared.gather.KeyFault.TheVariants as key_fault
 use Rattle.rr_trip.specs.declared.gather.KeyRefusal.{KeyRefusal}
-use Rattle.rr_trip.proofs.YearOneLemmas.{occurs_from_year_one}
+use Rattle.rr_model.proofs.YearOneLemmas.{occurs_from_year_one}
 
 -- a rule does not fit the start
 pub unsound : (series : Series) (r : Refusal) → first_refusal series ≡ Some r → IsFirstRefusal all_limits series (Some r)

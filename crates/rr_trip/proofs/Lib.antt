@@ -6,7 +6,6 @@ mod DateSetLemmas
 mod EditStepLemmas
 mod EditedLemmas
 mod EditedInstanceLemmas
-mod YearOneLemmas
 mod JudgeLemmas
 mod SaidLemmas
 mod Examples

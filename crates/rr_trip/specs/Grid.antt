@@ -1,5 +1,6 @@
 -- The days of a month as they are painted.
 use Rattle.std.specs.Prelude.{◌≡◌, ℕ, zero, suc, ◌-◌, ◌==◌, Bool, ◌&&◌, if◌then◌else◌, ℤ, pos, neg_ℤ, ◌+ℤ◌, ◌-ℤ◌, ◌≤ℤ◌, List, [], ◌∷◌, ◌++◌, codes, bytes_eq}
+use Rattle.rr_model.specs.Bounds.{earliest_day, latest_day}
 use Rattle.rr_model.specs.Calendar.{day_of_month, days_in_month, month_of, weekday_of, year_of}
 use Rattle.rr_model.specs.Moment.{is_same_kind}
 use Rattle.rr_model.specs.Sets.Sketch.{times_on}
@@ -31,7 +32,7 @@ cells_text a b first (suc n) = cells_text a b first n ++ cell_text a b (first +�
 
 -- a day whose month and the one after it lie within what a sequence of days takes
 abbrev pub IsPainted : ℤ → Type 0
-IsPainted day = (neg_ℤ (pos 3_000_000_000_000) ≤ℤ day) × (day ≤ℤ pos 2_999_999_999_700)
+IsPainted day = (neg_ℤ (pos 3_000_000_000_000) ≤ℤ day) × (day ≤ℤ (latest_day +ℤ pos 700))
 
 -- ---- three months
 
@@ -59,7 +60,7 @@ pub record HasMonth (a b : Sketch) (first : ℤ) (old new : List ℕ) : Type 0 w
 
 -- a day from which three months are painted
 abbrev pub HasMonthsAfter : ℤ → Type 0
-HasMonthsAfter first = (neg_ℤ (pos 3_000_000_000_000) ≤ℤ first) × (first ≤ℤ pos 2_999_999_999_000)
+HasMonthsAfter first = (neg_ℤ (pos 3_000_000_000_000) ≤ℤ first) × (first ≤ℤ latest_day)
 
 -- the second text is the first one with three months behind it, from the one that begins on a day on
 pub record HasMonths (a b : Sketch) (first : ℤ) (old new : List ℕ) : Type 0 where
@@ -71,7 +72,7 @@ pub record HasMonths (a b : Sketch) (first : ℤ) (old new : List ℕ) : Type 0 
 
 -- a day whose month is painted, and the two after it
 abbrev pub HasPicture : ℤ → Type 0
-HasPicture day = (neg_ℤ (pos 2_999_999_999_000) ≤ℤ day) × (day ≤ℤ pos 2_999_999_999_000)
+HasPicture day = (earliest_day ≤ℤ day) × (day ≤ℤ latest_day)
 
 -- a text with the month of a day and the two after it, and more behind them
 pub record IsPictureOf (a b : Sketch) (day : ℤ) (text : List ℕ) : Type 0 where

@@ -15,9 +15,8 @@ days_of_rule-requires-clause-sound c =
 pub days_of_rule-requires-clause-counted : goal.days_of_rule-requires-clause-counted
 days_of_rule-requires-clause-counted c =
     let list = c.args.rules.now in
-    rw (to_z-of_z c.ranges.start)
-    (count_at c.args.kind c.args.start list c.args.counted.now c.requires.counted 0 c.index-rules-0.result _
-    (some_rule list c.requires.some) c.index-rules-0.is)
+    count_at c.args.kind c.args.start (to_z w64 (of_z w64 c.args.start)) (to_z-of_z c.ranges.start) list c.args.counted.now c.requires.counted 0 c.index-rules-0.result _
+    (some_rule list c.requires.some) c.index-rules-0.is
 
 pub loop-index-init : goal.loop-index-init
 loop-index-init c =
@@ -40,9 +39,8 @@ days_of_rule-requires-in-loop-index-clause-sound c =
 pub days_of_rule-requires-in-loop-index-clause-counted : goal.days_of_rule-requires-in-loop-index-clause-counted
 days_of_rule-requires-in-loop-index-clause-counted c =
     let list = c.args.rules.now in
-    rw (to_z-of_z c.ranges.start)
-    (count_at c.args.kind c.args.start list c.args.counted.now c.requires.counted c.loop-index.index c.index-rules-index.result _
-    c.loop-index-test.true c.index-rules-index.is)
+    count_at c.args.kind c.args.start (to_z w64 (of_z w64 c.args.start)) (to_z-of_z c.ranges.start) list c.args.counted.now c.requires.counted
+    c.loop-index.index c.index-rules-index.result _ c.loop-index-test.true c.index-rules-index.is
 
 pub combined-requires-clause-long : goal.combined-requires-clause-long
 combined-requires-clause-long c = omega (arith, ints, c.loop-index.invariant.1, c.in_ok-more.ensures.whole)

@@ -10,7 +10,7 @@ use Rattle.rr_model.proofs.YearLemmas.{year_1}
 use Rattle.rr_lazy.proofs.CountingLemmas.{before_grows}
 use Rattle.rr_iter.specs.Counts.{IsCounted}
 use Rattle.rr_iter.specs.Ends.{before_day}
-use Rattle.rr_iter.proofs.CountedLemmas.{rule_number_never, start_begun, start_bounds}
+use Rattle.rr_iter.proofs.CountedLemmas.{rule_number_never, start_begun, start_bounds, within_cycle}
 use Rattle.rr_iter.proofs.counted.after_start.Goals.{After-day_part, Else-after-left}
 use Rattle.rr_iter.proofs.counted.after_start.Goals as goal
 
@@ -164,3 +164,10 @@ returns-in-On-clause-day c =
     let low : first_day_of_all ≤ℤ c.in-On.day = omega (arith, ints, place.1.begun, year_1) in
     let same : to_z w64 (of_z w64 c.in-On.day) ≡ c.in-On.day = omega (arith, ints, low, place.0, s.high, s.within) in
     rw same (omega (arith, ints, place.0, s.within), place.1)
+
+pub returns-in-On-clause-counted : goal.returns-in-On-clause-counted
+returns-in-On-clause-counted c =
+    let s = span (goal.at.returns-in-On-clause-counted c).After-day_part in
+    let place = rw (c.in-On.is, to_z-of_z c.ranges.start, s.to) at c.in_ok-day.ensures in
+    let short : c.cycle_within_span-cycle.result ≤ rule_cycle c.args.rule.now = omega (arith, c.cycle_within_span-cycle.ensures) in
+    within_cycle c.args.rule.now c.args.kind c.args.start c.args.count c.in-On.day place.1 (omega (arith, ints, place.0, short))

@@ -1,4 +1,4 @@
-use Rattle.std.proofs.Common.{rules, ◌≡◌, ℤ, w64, to_z, of_z, FitsSigned, to_z-of_z, arith}
+use Rattle.std.proofs.Common.{rules, ◌≡◌, ℤ, w64, to_z, of_z, FitsSigned, to_z-of_z, refl, arith}
 use Rattle.std.proofs.lemmas.Int.{ints}
 use Rattle.rr_model.specs.Moment.{day_part}
 use Rattle.rr_model.specs.Sets.Tree.{chosen_of}
@@ -101,3 +101,12 @@ pub returns-in_ok-last_member-in-Both-clause-refused : goal.returns-in_ok-last_m
 returns-in_ok-last_member-in-Both-clause-refused c =
     let b = c.in-Both in
     both_not_far c.args.rule.now c.args.kind b.kind c.args.start b.at b.count b.is
+
+pub returns-in-Never-clause-counted : goal.returns-in-Never-clause-counted
+returns-in-Never-clause-counted c = rw c.in-Never.is refl
+
+pub returns-in-Until-clause-counted : goal.returns-in-Until-clause-counted
+returns-in-Until-clause-counted c = rw c.in-Until.is refl
+
+pub returns-in_ok-last_member-in-Both-clause-counted : goal.returns-in_ok-last_member-in-Both-clause-counted
+returns-in_ok-last_member-in-Both-clause-counted c = rw c.in-Both.is refl

@@ -4,6 +4,7 @@ use Rattle.std.proofs.lemmas.Int.{ints}
 use Rattle.rr_model.specs.Answers.{RefusedExactlyWhere}
 use Rattle.rr_model.specs.Series.Limits.{CountsTooFar}
 use Rattle.rr_model.specs.declared.refusal.Refusal.TheVariants.{CountedTooFar}
+use Rattle.rr_iter.specs.Counts.{IsCountOf}
 use Rattle.rr_iter.specs.Ends.{IsSoundRule}
 use Rattle.rr_iter.proofs.CountedLemmas.{start_bounds}
 use Rattle.rr_iter.specs.declared.counts.LastDay.{LastDay}
@@ -22,7 +23,7 @@ loop-rule-preserved c =
     let index = c.loop-rule.rule-index in
     let item : get_or list index rule ≡ rule = sym c.rule-item.is in
     let day = rw start at c.in-Ok.ensures.day in
-    let counted = rw start at c.in-Ok.ensures.counted in
+    let counted = subst (λ t. IsCountOf c.args.kind t rule c.in-Ok.own.counted) start c.in-Ok.ensures.counted in
     let refused = subst (λ t. CountsTooFar c.args.kind t rule → ⊥) start c.in-Ok.ensures.refused in
     let near = c.in-Ok.ensures.near in
     let gathered = rw (start, day_is) at c.loop-rule.invariant.0 in
