@@ -1,6 +1,6 @@
 -- Worked cases of what is refused beside a start, and of the cycle of a series.
-use Rattle.std.proofs.Common.{◌≡◌, ℕ, true, List, [], ◌∷◌, ℤ, pos, neg_ℤ, refl}
-use Rattle.std.specs.Prelude.{Option, None, Some}
+use Rattle.std.proofs.Common.{◌≡◌, ℕ, true, List, [], ◌∷◌, pos, neg_ℤ, refl}
+use Rattle.std.specs.Prelude.{None, Some}
 use Rattle.rr_model.specs.Calendar.{weekday_of}
 use Rattle.rr_model.specs.Calendar.Week.{week_index}
 use Rattle.rr_model.specs.Rule.Candidate.{is_candidate}
@@ -9,9 +9,9 @@ use Rattle.rr_model.specs.Rule.Repetition.{later_moment}
 use Rattle.rr_model.specs.Series.Cycle.{rules_cycle, series_cycle}
 use Rattle.rr_model.specs.Series.Soundness.{first_refusal}
 use Rattle.rr_model.specs.Whole.Divisors.{gcd_within, gcd, lcm}
+use Rattle.rr_model.specs.Rule.Plain.{plain_rule}
 use Rattle.rr_model.specs.declared.rule.DayItem.{DayItem}
 use Rattle.rr_model.specs.declared.kind.Kind.TheVariants.{Days, Moments}
-use Rattle.rr_model.specs.declared.refusal.Refusal.{Refusal}
 use Rattle.rr_model.specs.declared.refusal.Refusal.TheVariants.{UntilKind, UntilBeforeStart, NotSynchronised}
 use Rattle.rr_model.specs.declared.rule.End.{End}
 use Rattle.rr_model.specs.declared.rule.End.TheVariants.{Never, Until, Count}
@@ -22,21 +22,7 @@ use Rattle.rr_model.specs.declared.rule.Series.{Series}
 
 -- every n units on the weekdays that are listed
 abbrev rule_of : Freq → ℕ → List DayItem → End → Rule
-rule_of freq interval by_day end = record {
-  freq = freq;
-  interval = interval;
-  by_month = [];
-  by_week_no = [];
-  by_year_day = [];
-  by_month_day = [];
-  by_day = by_day;
-  by_hour = [];
-  by_minute = [];
-  by_second = [];
-  by_set_pos = [];
-  week_start = 0;
-  end = end;
-}
+rule_of freq interval by_day end = record (plain_rule freq interval) { by_day = by_day; end = end }
 
 -- from Monday, 2024-01-01 on
 abbrev with_excluded : List Rule → List Rule → Series

@@ -6,63 +6,45 @@ use Rattle.rr_model.specs.Calendar.Week.{week_index, fourth_day, week_year, week
 use Rattle.rr_model.specs.Whole.Count.{count_from}
 use Rattle.rr_model.specs.Rule.Candidate.{is_candidate}
 use Rattle.rr_model.specs.Rule.Chosen.{is_chosen}
+use Rattle.rr_model.specs.Rule.Plain.{plain_rule}
 use Rattle.rr_model.specs.declared.kind.Kind.TheVariants.{Days, Moments}
 use Rattle.rr_model.specs.declared.rule.DayItem.{DayItem}
-use Rattle.rr_model.specs.declared.rule.Freq.{Freq}
 use Rattle.rr_model.specs.declared.rule.Freq.TheVariants.{Hourly, Weekly, Monthly, Yearly}
-use Rattle.rr_model.specs.declared.rule.End.TheVariants.{Never}
 use Rattle.rr_model.specs.declared.rule.Rule.{Rule}
-
-abbrev bare : Freq → ℕ → Rule
-bare freq interval = record {
-  freq = freq;
-  interval = interval;
-  by_month = [];
-  by_week_no = [];
-  by_year_day = [];
-  by_month_day = [];
-  by_day = [];
-  by_hour = [];
-  by_minute = [];
-  by_second = [];
-  by_set_pos = [];
-  week_start = 0;
-  end = Never;
-}
 
 abbrev item : ℤ → ℕ → DayItem
 item place weekday = record { place = place; weekday = weekday }
 
 -- the third of the Tuesdays, Wednesdays and Thursdays of a month
 abbrev third_of_three : Rule
-third_of_three = record (bare Monthly 1) { by_day = item (pos 0) 1 ∷ item (pos 0) 2 ∷ item (pos 0) 3 ∷ []; by_set_pos = pos 3 ∷ [] }
+third_of_three = record (plain_rule Monthly 1) { by_day = item (pos 0) 1 ∷ item (pos 0) 2 ∷ item (pos 0) 3 ∷ []; by_set_pos = pos 3 ∷ [] }
 
 -- the Monday of week 20
 abbrev week_20 : Rule
-week_20 = record (bare Yearly 1) { by_week_no = pos 20 ∷ []; by_day = item (pos 0) 0 ∷ [] }
+week_20 = record (plain_rule Yearly 1) { by_week_no = pos 20 ∷ []; by_day = item (pos 0) 0 ∷ [] }
 
 -- the last Friday of a month
 abbrev last_friday : Rule
-last_friday = record (bare Monthly 1) { by_day = item (negsuc 0) 4 ∷ [] }
+last_friday = record (plain_rule Monthly 1) { by_day = item (negsuc 0) 4 ∷ [] }
 
 -- the 20th Monday of a year
 abbrev twentieth_monday : Rule
-twentieth_monday = record (bare Yearly 1) { by_day = item (pos 20) 0 ∷ [] }
+twentieth_monday = record (plain_rule Yearly 1) { by_day = item (pos 20) 0 ∷ [] }
 
 -- each second week from Sunday on
 abbrev second_sunday_week : Rule
-second_sunday_week = record (bare Weekly 2) { by_day = item (pos 0) 1 ∷ item (pos 0) 6 ∷ []; week_start = 6 }
+second_sunday_week = record (plain_rule Weekly 2) { by_day = item (pos 0) 1 ∷ item (pos 0) 6 ∷ []; week_start = 6 }
 
 -- the second last weekday of a month
 abbrev second_last_workday : Rule
-second_last_workday = record (bare Monthly 1) {
+second_last_workday = record (plain_rule Monthly 1) {
   by_day = item (pos 0) 0 ∷ item (pos 0) 1 ∷ item (pos 0) 2 ∷ item (pos 0) 3 ∷ item (pos 0) 4 ∷ [];
   by_set_pos = negsuc 1 ∷ [];
 }
 
 -- the first Tuesday after a Monday in November, each four years
 abbrev election_day : Rule
-election_day = record (bare Yearly 4) {
+election_day = record (plain_rule Yearly 4) {
   by_month = pos 11 ∷ [];
   by_day = item (pos 0) 1 ∷ [];
   by_month_day = pos 2 ∷ pos 3 ∷ pos 4 ∷ pos 5 ∷ pos 6 ∷ pos 7 ∷ pos 8 ∷ [];
@@ -70,14 +52,14 @@ election_day = record (bare Yearly 4) {
 
 -- the first Sunday of November, of a yearly rule
 abbrev first_sunday : Rule
-first_sunday = record (bare Yearly 1) { by_month = pos 11 ∷ []; by_day = item (pos 1) 6 ∷ [] }
+first_sunday = record (plain_rule Yearly 1) { by_month = pos 11 ∷ []; by_day = item (pos 1) 6 ∷ [] }
 
 -- the third last day of a month, and the last day of a year
 abbrev third_last_day : Rule
-third_last_day = record (bare Monthly 1) { by_month_day = negsuc 2 ∷ [] }
+third_last_day = record (plain_rule Monthly 1) { by_month_day = negsuc 2 ∷ [] }
 
 abbrev last_day : Rule
-last_day = record (bare Yearly 1) { by_year_day = negsuc 0 ∷ [] }
+last_day = record (plain_rule Yearly 1) { by_year_day = negsuc 0 ∷ [] }
 
 -- days of rules whose start is a date
 on_days :
@@ -123,10 +105,10 @@ in_a_month_of_the_year = refl
 
 -- what the start supplies: day 31 in short months and 29 February in common years are no dates
 from_the_start :
-    (is_chosen (bare Monthly 1) Days (day_number (pos 2024) 1 31) (day_number (pos 2024) 3 31)
-    ∷ is_chosen (bare Monthly 1) Days (day_number (pos 2024) 1 31) (day_number (pos 2024) 3 1)
-    ∷ is_chosen (bare Yearly 1) Days (day_number (pos 2024) 2 29) (day_number (pos 2028) 2 29)
-    ∷ is_chosen (bare Yearly 1) Days (day_number (pos 2024) 2 29) (day_number (pos 2025) 3 1)
+    (is_chosen (plain_rule Monthly 1) Days (day_number (pos 2024) 1 31) (day_number (pos 2024) 3 31)
+    ∷ is_chosen (plain_rule Monthly 1) Days (day_number (pos 2024) 1 31) (day_number (pos 2024) 3 1)
+    ∷ is_chosen (plain_rule Yearly 1) Days (day_number (pos 2024) 2 29) (day_number (pos 2028) 2 29)
+    ∷ is_chosen (plain_rule Yearly 1) Days (day_number (pos 2024) 2 29) (day_number (pos 2025) 3 1)
     ∷ [])
     ≡ (true ∷ false ∷ true ∷ false ∷ [])
 unfolding days_of_months first_day_of_year day_number year_of days_into_year months_over month_of day_of_month day_of_year weekday_of week_index fourth_day
@@ -135,8 +117,8 @@ from_the_start = refl
 
 -- each seven hours from 09:00:00 on: at 16:00:00, not at 16:01:00
 at_moments :
-    (is_chosen (bare Hourly 7) Moments ((day_number (pos 2024) 1 1 *ℤ pos 86_400) +ℤ pos 32_400) ((day_number (pos 2024) 1 1 *ℤ pos 86_400) +ℤ pos 57_600)
-    ∷ is_chosen (bare Hourly 7) Moments ((day_number (pos 2024) 1 1 *ℤ pos 86_400) +ℤ pos 32_400) ((day_number (pos 2024) 1 1 *ℤ pos 86_400) +ℤ pos 57_660)
+    (is_chosen (plain_rule Hourly 7) Moments ((day_number (pos 2024) 1 1 *ℤ pos 86_400) +ℤ pos 32_400) ((day_number (pos 2024) 1 1 *ℤ pos 86_400) +ℤ pos 57_600)
+    ∷ is_chosen (plain_rule Hourly 7) Moments ((day_number (pos 2024) 1 1 *ℤ pos 86_400) +ℤ pos 32_400) ((day_number (pos 2024) 1 1 *ℤ pos 86_400) +ℤ pos 57_660)
     ∷ [])
     ≡ (true ∷ false ∷ [])
 unfolding days_of_months first_day_of_year day_number year_of days_into_year months_over month_of day_of_month day_of_year weekday_of week_index fourth_day

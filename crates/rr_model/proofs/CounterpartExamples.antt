@@ -2,6 +2,7 @@
 use Rattle.std.proofs.Common.{◌≡◌, ℕ, List, [], ◌∷◌, pos, neg_ℤ, true, refl}
 use Rattle.rr_model.specs.Calendar.{first_day_of_year, year_of, days_of_months, days_into_year, months_over, month_of, day_of_month}
 use Rattle.rr_model.specs.Vcal.Counterpart.{day_item, rule_of_vrule, series_of_vseries}
+use Rattle.rr_model.specs.Rule.Plain.{plain_rule}
 use Rattle.rr_model.specs.declared.item.Item.{Item}
 use Rattle.rr_model.specs.declared.item.Item.TheVariants.{Every, MonthDay, Place, Month}
 use Rattle.rr_model.specs.declared.kind.Kind.TheVariants.{Days}
@@ -20,21 +21,7 @@ vrule family interval items end = record { family = family; interval = interval;
 
 -- a rule with BYDAY alone
 abbrev rule : Freq → ℕ → List DayItem → End → Rule
-rule freq interval by_day end = record {
-  freq = freq;
-  interval = interval;
-  by_month = [];
-  by_week_no = [];
-  by_year_day = [];
-  by_month_day = [];
-  by_day = by_day;
-  by_hour = [];
-  by_minute = [];
-  by_second = [];
-  by_set_pos = [];
-  week_start = 0;
-  end = end;
-}
+rule freq interval by_day end = record (plain_rule freq interval) { by_day = by_day; end = end }
 
 -- D4 #2
 of_days : rule_of_vrule (vrule D 4 (Every ∷ []) (Count 2)) Days (pos 19_753) ≡ rule Daily 4 [] (Count 2)

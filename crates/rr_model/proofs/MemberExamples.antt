@@ -7,6 +7,7 @@ use Rattle.rr_model.specs.Whole.Count.{count_from}
 use Rattle.rr_model.specs.Rule.Candidate.{is_candidate}
 use Rattle.rr_model.specs.Rule.Chosen.{is_chosen}
 use Rattle.rr_model.specs.Rule.Member.{members_to, is_member}
+use Rattle.rr_model.specs.Rule.Plain.{plain_rule}
 use Rattle.rr_model.specs.declared.kind.Kind.TheVariants.{Days, Moments}
 use Rattle.rr_model.specs.declared.rule.End.{End}
 use Rattle.rr_model.specs.declared.rule.End.TheVariants.{Never, Until, Count, Both}
@@ -15,21 +16,7 @@ use Rattle.rr_model.specs.declared.rule.Freq.TheVariants.{Daily, Monthly}
 use Rattle.rr_model.specs.declared.rule.Rule.{Rule}
 
 abbrev ending : Freq → End → Rule
-ending freq end = record {
-  freq = freq;
-  interval = 1;
-  by_month = [];
-  by_week_no = [];
-  by_year_day = [];
-  by_month_day = [];
-  by_day = [];
-  by_hour = [];
-  by_minute = [];
-  by_second = [];
-  by_set_pos = [];
-  week_start = 0;
-  end = end;
-}
+ending freq end = record (plain_rule freq 1) { end = end }
 
 -- the day of this number in January 2024, and its midnight
 abbrev january : ℕ → ℤ

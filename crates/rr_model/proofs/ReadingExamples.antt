@@ -5,6 +5,7 @@ use Rattle.rr_model.specs.Calendar.{day_number, first_day_of_year, days_of_month
 use Rattle.rr_model.specs.Text.Moments.{is_digits, number_at, basic, basic_date, basic_time, basic_moment, date_stamp, moment_stamp}
 use Rattle.rr_model.specs.Text.RuleValues.{freq_named, weekday_named, number_up_to, number_within, numbers_of, day_item_within, day_items_of}
 use Rattle.rr_model.specs.Text.Rules.{part_named, name_of, with_part, parts_of, rule_of, rule_parts, line_value}
+use Rattle.rr_model.specs.Rule.Plain.{plain_rule}
 use Rattle.rr_model.specs.declared.kind.Kind.{Kind}
 use Rattle.rr_model.specs.declared.kind.Kind.TheVariants.{Days, Moments}
 use Rattle.rr_model.specs.declared.rule.DayItem.{DayItem}
@@ -26,21 +27,7 @@ use Rattle.rr_model.specs.declared.refusal.Refusal.TheVariants.{NotAllowed, UtcM
 use Rattle.rr_model.proofs.LineExamples.{calendar_file}
 
 abbrev rule : Freq → List DayItem → End → Rule
-rule freq days end = record {
-  freq = freq;
-  interval = 1;
-  by_month = [];
-  by_week_no = [];
-  by_year_day = [];
-  by_month_day = [];
-  by_day = days;
-  by_hour = [];
-  by_minute = [];
-  by_second = [];
-  by_set_pos = [];
-  week_start = 0;
-  end = end;
-}
+rule freq days end = record (plain_rule freq 1) { by_day = days; end = end }
 
 abbrev series : Kind → ℤ → List Rule → List ℤ → List ℤ → Series
 series kind start rules plus minus = record { kind = kind; start = start; start_counts = true; rules = rules; excluded = []; plus = plus; minus = minus }

@@ -1,28 +1,14 @@
 -- Worked cases of candidate days and candidate seconds of a day (RFC 5545, section 3.3.10).
 use Rattle.std.proofs.Common.{◌≡◌, true, false, [], ◌∷◌, pos, refl}
 use Rattle.rr_model.specs.Rule.DaysAndTimes.{time_holds, day_holds}
+use Rattle.rr_model.specs.Rule.Plain.{plain_rule}
 use Rattle.rr_model.specs.declared.kind.Kind.TheVariants.{Moments}
-use Rattle.rr_model.specs.declared.rule.End.TheVariants.{Never}
 use Rattle.rr_model.specs.declared.rule.Freq.TheVariants.{Daily}
 use Rattle.rr_model.specs.declared.rule.Rule.{Rule}
 
 -- FREQ=DAILY;INTERVAL=2;BYHOUR=9,17
 abbrev office : Rule
-office = record {
-  freq = Daily;
-  interval = 2;
-  by_month = [];
-  by_week_no = [];
-  by_year_day = [];
-  by_month_day = [];
-  by_day = [];
-  by_hour = pos 9 ∷ pos 17 ∷ [];
-  by_minute = [];
-  by_second = [];
-  by_set_pos = [];
-  week_start = 0;
-  end = Never;
-}
+office = record (plain_rule Daily 2) { by_hour = pos 9 ∷ pos 17 ∷ [] }
 
 -- from 2024-01-01T09:30:00 on: 09:30:00 and 17:30:00, and not 09:00:00
 of_times :

@@ -11,6 +11,7 @@ use Rattle.rr_model.specs.Text.Event.{left_by, event_scan}
 use Rattle.rr_model.specs.Text.Lines.{physical_lines, unfolded_lines}
 use Rattle.rr_model.specs.Text.Refusals.{refusal_name}
 use Rattle.rr_model.specs.Text.UsedLines.{value_of_line, line_kind}
+use Rattle.rr_model.specs.Rule.Plain.{plain_rule}
 use Rattle.rr_model.specs.declared.kind.Kind.{Kind}
 use Rattle.rr_model.specs.declared.kind.Kind.TheVariants.{Days, Moments}
 use Rattle.rr_model.specs.declared.refusal.Refusal.{Refusal}
@@ -28,21 +29,7 @@ abbrev text : List ℕ → List ℕ → List ℕ
 text start rule = codes "DTSTART:" ++ start ++ 10 ∷ (codes "RRULE:" ++ rule ++ 10 ∷ [])
 
 abbrev rule_alone : Freq → ℕ → List ℤ → List DayItem → End → Rule
-rule_alone freq interval month_days days end = record {
-  freq = freq;
-  interval = interval;
-  by_month = [];
-  by_week_no = [];
-  by_year_day = [];
-  by_month_day = month_days;
-  by_day = days;
-  by_hour = [];
-  by_minute = [];
-  by_second = [];
-  by_set_pos = [];
-  week_start = 0;
-  end = end;
-}
+rule_alone freq interval month_days days end = record (plain_rule freq interval) { by_month_day = month_days; by_day = days; end = end }
 
 abbrev series_of : Kind → ℤ → Rule → Series
 series_of kind start rule = record { kind = kind; start = start; start_counts = true; rules = rule ∷ []; excluded = []; plus = []; minus = [] }
