@@ -28,7 +28,7 @@ dates() {
         n++; printf "RDATE:%d%02d%02d\n", y, m, d } }' >>"$scratch/$1"
 }
 
-# best RUNS WORDS..: of so many runs the least time in nanoseconds; of the last one the memory in kilobytes and the first line.
+# best RUNS WORDS..: of RUNS runs the least time in nanoseconds; of the last one the memory in kilobytes and the first line.
 best() {
     runs=$1
     shift

@@ -24,7 +24,7 @@ allows_day f d = date_parts_hold (filled f.rule Days f.start_day) d
 abbrev pub AllowsEveryDay : Filling → Type 0
 AllowsEveryDay f = (d : ℤ) → allows_day f d ≡ true
 
--- none of the days that come after a day, and fewer than so many days after it, is allowed
+-- none of the days that come after a day, fewer than this number of days after it, is allowed
 abbrev pub LeavesOutNext : Filling → ℤ → ℕ → Type 0
 LeavesOutNext f day days = (j : ℕ) → 1 ≤ j → j < days → allows_day f (day +ℤ pos j) ≡ false
 

@@ -177,7 +177,7 @@ first_before s first after is_first none =
 
 -- ---- counting
 
--- the day after so many days, as it is stored
+-- the day after a number of days, as it is stored
 pub day_after_read : (first after : ℤ) (read days : ℕ) → IsNearDay first → days ≤ 3_000_000_000 → read ≤ days → after ≡ to_z w64 (of_z w64 first) +ℤ pos read
     → to_z w64 (of_z w64 after) ≡ first +ℤ pos read
 day_after_read first after read days near few less is =

@@ -58,7 +58,7 @@ pub fn window_of<A: DaySeq>(seq: &A) -> Option<Window>
     ensures near { IfSome result IsNearWindow }
 {
     let first = seq.first()?;
-    if !is_in_years(first) {
+    if !has_four_digit_year(first) {
         return None;
     }
     let second = one_second(seq, first)?;
@@ -80,7 +80,7 @@ pub fn is_occupied<A: DaySeq>(seq: &A, day: i64) -> bool
 }
 
 // Whether a day lies in the years 1 to 9999.
-fn is_in_years(day: i64) -> bool
+fn has_four_digit_year(day: i64) -> bool
     ensures { result ≡ has_four_digit_year day }
 {
     day >= FIRST_DAY && day < 2_932_897
@@ -201,7 +201,7 @@ fn clamp_from_one(number: u64, most: u64) -> u64
     if number < most { number } else { most }
 }
 
-// The day so many days after the first one.
+// The day that lies `days` days after the first one.
 pub(crate) fn day_after(first: i64, days: u64) -> i64
     requires near { IsNearDay first }
     requires few { days ≤ 3_000_000_366 }

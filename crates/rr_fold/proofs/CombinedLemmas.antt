@@ -87,7 +87,7 @@ free_later numbers index later end l high free = record {
       ap (λ n. get_or numbers n 0) at ∙ free.zeros ((later - index) + k) (omega (arith, m, l));
 }
 
--- so many free days end there
+-- a number of free days ends there
 pub free_found : (numbers : List ℕ) (index count end : ℕ) → end ≡ index + count → IsZeroFrom numbers index count → IsFreeTo numbers index end
 free_found numbers index count end e free =
     let same : end - index ≡ count = omega arith in

@@ -11,7 +11,7 @@ use rr_shapes::{Pair, Shapes, Unions};
 use rr_times::TimeSet;
 use std::alloc::Global;
 
-// Where the first of these days is occupied and so many after it are free, it is combined alone.
+// How many free days follow an occupied one, at least, where it is combined alone.
 const MANY_FREE: usize = 16;
 
 /// What two sets of seconds are combined into.

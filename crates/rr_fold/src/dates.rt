@@ -59,7 +59,7 @@ fn put_from(later: &mut Dates, kind: Kind, date: i64, first: i64) -> Result<(), 
     later.put(date)
 }
 
-/// The days with so many free ones before them.
+/// The days with `free` free ones before them.
 pub fn led_by_free(alloc: Global, days: FoldedDays, free: usize) -> Result<FoldedDays, NoMemory>
     ensures shapes { IfOk result (λ led. led.shapes ≡ days.shapes) }
     ensures numbers { IfOk result (λ led. led.numbers ≡ replicate free 0 ++ days.numbers) }

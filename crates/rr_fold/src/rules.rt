@@ -37,7 +37,7 @@ pub fn goes_by_rules(series: &Series, first: i64, end: i64) -> bool
     pays(series, first, end) && has_rules(series, first, end)
 }
 
-// Whether so many days are folded, or such a series, that it takes less time rule by rule.
+// Whether it takes less time rule by rule: where many days are folded, or the series has rules alone.
 fn pays(series: &Series, first: i64, end: i64) -> bool
     requires low { first_day_of_all ≤ℤ first }
     requires order { first <ℤ end }

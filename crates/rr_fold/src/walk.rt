@@ -21,7 +21,7 @@ pub(crate) struct Walk {
 }
 
 impl Walk {
-    // Nothing is walked yet; there is room for so many days, as far as they are kept one by one.
+    // Nothing is walked yet; there is room for `days` days, as far as they are kept one by one.
     pub(crate) fn new(alloc: Global, days: usize) -> Result<Walk, NoMemory>
         ensures { IfOk result IsNewWalk }
     {

@@ -28,7 +28,7 @@ type_member type = text_member (codes "type") type no_members
 
 -- ---- patterns
 
--- every so many days
+-- days by their interval
 abbrev pub daily_json : ℕ → Data
 daily_json interval = object (interval_member interval (type_member (codes "daily")))
 

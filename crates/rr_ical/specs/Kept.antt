@@ -35,12 +35,12 @@ pub record IsDateCut (takes_semicolons : Bool) (text first rest : List ℕ) : Ty
   pub values : date_values takes_semicolons text ≡ first ∷ date_values takes_semicolons rest
   pub shorter : length rest < length text
 
--- one more date value, where so many are read: TooManyParts, PeriodValue in RDATE (true), and what the value states
+-- one more date value, where this number is read: TooManyParts, PeriodValue in RDATE (true), and what the value states
 abbrev pub next_date : ℕ → Bool → ℕ → List ℕ → Result Stamp Refusal
 next_date line is_plus count text =
     if nat_le MAX_DATES count then Err TooManyParts else (if is_plus && has_slash text then Err PeriodValue else date_value line text)
 
--- one more rule, where so many are read
+-- one more rule, where this number is read
 abbrev pub next_rule : {R : Type 0} → Language R → ℕ → ℕ → List ℕ → Result (Stated R) Refusal
 next_rule language line count text = if nat_le MAX_RULES count then Err TooManyParts else language.stated line text
 

@@ -47,7 +47,7 @@ pub fn date_value(line: u64, text: &[u8]) -> Result<Stamp, Refusal>
     }
 }
 
-// One more value of RDATE or EXDATE, where so many are read.
+// One more value of RDATE or EXDATE, where `date_count` are read.
 fn next_date(line: u64, is_plus: bool, date_count: usize, text: &[u8]) -> Result<Stamp, Refusal>
     ensures value { result ≡ next_date line is_plus date_count text.now }
     ensures room { IfOk result (λ stamp. date_count < 10_000) }
@@ -99,7 +99,7 @@ fn keep_dates<R: Drop>(
     keep_date(line, is_plus, read, rest)
 }
 
-// One more rule, where so many are read; it is read only where there is room for it.
+// One more rule, where `rule_count` are read; it is read only where there is room for it.
 fn next_rule<R: Drop, L: RuleLanguage<R>>(
     language: &L,
     alloc: Global,

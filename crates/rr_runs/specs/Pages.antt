@@ -14,7 +14,7 @@ paged pool (page ∷ pages) = page_numbers pool page ++ paged pool pages
 abbrev pub kept_list : List ℕ → List ℕ → List ℕ → List ℕ
 kept_list pool pages rest = paged pool pages ++ rest
 
--- the first numbers of a list were put at the end, so many of them: one at least, and at most as many as may be
+-- the first numbers of a list were put at the end: one at least, and at most as many as may be
 abbrev pub PutsSome : List ℕ → List ℕ → ℕ → List ℕ → ℕ → Type 0
 PutsSome old new most numbers count = (1 ≤ count) × (count ≤ most) × (new ≡ old ++ take count numbers)
 
@@ -31,7 +31,7 @@ pub record IsPageOf (pool numbers : List ℕ) (page : ℕ) : Type 0 where
   pub within : page + 63 ≤ length pool
   pub same : page_numbers pool page ≡ numbers
 
--- there is room for so many numbers after these numbers that follow the last page: for as many as a page has, or, where there is no
+-- there is room for this number of numbers after those that follow the last page: for as many as a page has, or, where there is no
 -- page yet, 200,025
 pub record HasRoom (pages rest : List ℕ) (count : ℕ) : Type 0 where
   pub short : length rest + count ≤ 200_025

@@ -71,7 +71,7 @@ run_count (x ∷ xs) = 1 + changes (first_reached x) xs
 
 -- ---- as they are kept
 
--- so many runs, and the last item
+-- the number of runs, and the last item
 abbrev pub IsCountOf : List NumberedDay → RunCount → Type 0
 IsCountOf [] count = count.runs ≡ 0
 IsCountOf (x ∷ xs) count =

@@ -2,7 +2,11 @@
 //! more in pages of which equal ones are kept once.
 #![tactic(auto)]
 
+mod blocks;
+mod copies;
 mod pages;
+mod pool;
+mod room;
 mod run_days;
 
 pub use pages::Pages;

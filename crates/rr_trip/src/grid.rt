@@ -59,7 +59,7 @@ fn push_cell<A: DaySeq, B: DaySeq>(
     push(out, &[b' ', b' ', day_sign(a, b, day)])
 }
 
-// The day so many days after another.
+// The day that lies `days` days after another.
 fn day_after(first: i64, days: u8) -> i64
     requires { IsPainted first }
     ensures value { result ≡ first +ℤ pos days }

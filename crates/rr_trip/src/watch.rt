@@ -2,7 +2,7 @@
 
 /// Is told how far a comparison is, and when it has ended. What it does with that changes nothing else.
 pub trait Watch {
-    /// So many keys are judged, of so many.
+    /// `keys` keys are judged, of `of` in all.
     fn judged(&mut self, keys: usize, of: usize);
 
     /// The comparison has ended, with a report or without.

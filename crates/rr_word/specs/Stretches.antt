@@ -17,7 +17,7 @@ pub record IsStretch (sets : List (List ℕ)) (s : Sketch) (day : ℤ) (first : 
 abbrev pub AreNumbersAfter : List (List ℕ) → Sketch → ℤ → List ℕ → Type 0
 AreNumbersAfter sets s day numbers = (k : ℕ) → k < length numbers → IsNumberOn sets s ((day +ℤ pos 1) +ℤ pos k) (Some (get_or numbers k 0))
 
--- so many days from this one on, itself the first of them, have no seconds
+-- this number of days, of which this one is the first, have no seconds
 abbrev pub AreFree : Sketch → ℤ → ℕ → Type 0
 AreFree s day days = (k : ℕ) → k < days → times_on s (day +ℤ pos k) ≡ []
 

@@ -21,5 +21,5 @@ pub returns-clause-window : goal.returns-clause-window
 returns-clause-window g c =
     has_window (g.A.DaySeq.sketch c.args.seq.now) c.kind.result c.in_ok-second.second (to_z w64 (of_z w64 c.in_ok-first.first)) c.day_after_first.result
     c.end_of.result (g.met.A.DaySeq.bounded c.args.seq.now).valid c.kind.ensures c.in_ok-second.ensures
-    ((years_are_tested Days (to_z w64 (of_z w64 c.in_ok-first.first))).0 (sym c.is_in_years.ensures ∙ c.if-not-is_in_years.false))
+    ((years_are_tested Days (to_z w64 (of_z w64 c.in_ok-first.first))).0 (sym c.has_four_digit_year.ensures ∙ c.if-not-has_four_digit_year.false))
     c.day_after_first.ensures.next c.end_of.ensures.end

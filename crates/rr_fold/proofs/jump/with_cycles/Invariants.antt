@@ -2,7 +2,7 @@ use Rattle.std.proofs.Common.{◌≡◌, ◌+◌, ◌-◌, ◌≤◌, length}
 use Rattle.rr_fold.proofs.SplicedLemmas.{HasCycles}
 use Rattle.rr_fold.proofs.jump.with_cycles.Given as goal
 
--- the first number, and so many of the cycles
+-- the first number, and a number of the cycles
 abbrev pub invariant-loop-done : goal.invariant-loop-done
 invariant-loop-done l = HasCycles l.numbers l.cycle l.new × (length l.new ≡ l.done + 1) × (l.done ≤ l.end) × (l.cycle ≤ l.done)
 

@@ -78,7 +78,7 @@ day_of_nth-requires-clause-high c =
 
 -- ---- where the number lies beyond it
 
--- as many occurrences come up to one day as up to the other, so many days after the first
+-- as many occurrences come up to one day as up to the other, where both lie the same number of days after the first
 same_days : (tree : Tree) (first : ℤ) (days whole : ℕ) → days ≡ whole
     → before_day tree ((first +ℤ pos days) +ℤ pos 1) ≡ before_day tree ((first +ℤ pos whole) +ℤ pos 1)
 same_days tree first days whole e = ap (λ n. before_day tree ((first +ℤ pos n) +ℤ pos 1)) e

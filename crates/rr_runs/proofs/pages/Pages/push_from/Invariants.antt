@@ -1,7 +1,7 @@
 use Rattle.std.proofs.Common.{◌≡◌, ◌≤◌, ◌-◌, ◌++◌, drop, take}
 use Rattle.rr_runs.proofs.pages.Pages.push_from.Given as goal
 
--- so many numbers are put
+-- the numbers that were counted are put
 abbrev pub invariant-loop-done : goal.invariant-loop-done
 invariant-loop-done l = (l.done ≤ l.count) × (l.self ≡ l.initial.self ++ take l.done (drop l.index l.other))
 
