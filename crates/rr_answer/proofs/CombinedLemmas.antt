@@ -15,10 +15,11 @@ use Rattle.rr_model.specs.Sets.Verdict.{HaveEqualOccurrences}
 use Rattle.rr_model.specs.declared.kind.Kind.{Kind}
 use Rattle.rr_model.specs.declared.kind.Kind.TheVariants.{Days, Moments}
 use Rattle.rr_model.specs.declared.sketch.Sketch.{Sketch}
-use Rattle.rr_word.proofs.OneLeastLemmas.{parts_of_moment}
+use Rattle.rr_model.proofs.MomentLemmas.{parts_of_moment}
 use Rattle.rr_word.proofs.SketchLemmas.{second_fits}
 use Rattle.rr_answer.specs.Combined.{HasTooManySeconds, HaveTwoKinds, IsMixed, IsTimeSetOf, OccursAt}
-use Rattle.rr_answer.specs.Folding.{IsFromYearOneOn, OccurFromYearOne}
+use Rattle.rr_model.specs.Moment.Years.{OccurFromYearOne}
+use Rattle.rr_answer.specs.Folding.{IsFromYearOneOn}
 
 -- ---- a second of a day
 

@@ -13,7 +13,7 @@ use Rattle.rr_model.specs.Sets.Printable.{TellsSetsApart}
 use Rattle.rr_model.specs.Sets.Sketch.{StandsIn}
 use Rattle.rr_model.specs.declared.sketch.Sketch.{Sketch}
 use Rattle.rr_word.proofs.OneLeastLemmas.{one_least}
-use Rattle.rr_answer.specs.Folding.{OccurFromYearOne}
+use Rattle.rr_model.specs.Moment.Years.{OccurFromYearOne}
 
 -- texts of each version tell sets apart
 pub version_tells : (version : Version) → TellsSetsApart (text_in version)

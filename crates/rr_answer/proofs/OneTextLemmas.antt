@@ -10,7 +10,7 @@ use Rattle.rr_answer.specs.OperandReading.{HaveOneText, IsSubjectRead}
 use Rattle.rr_answer.specs.Said.{said}
 use Rattle.rr_answer.specs.Subjects.{Subject}
 use Rattle.rr_answer.specs.declared.command.Inquiry.TheVariants.{Verdict as Ask}
-use Rattle.rr_decide.specs.declared.question.Question.TheVariants.{Equal}
+use Rattle.rr_model.specs.declared.question.Question.TheVariants.{Equal}
 
 module _ (a b : Operand) (text_a text_b : List ℕ) (one : HaveOneText a text_a b text_b) where
   read_again : (r : Result Subject Refusal) → IsSubjectRead a text_a r → IsSubjectRead b text_b r

@@ -20,7 +20,8 @@ use Rattle.rr_skip.specs.Validity.{IsSoundSkipping}
 use Rattle.rr_skip.specs.declared.series.SkipRule.{SkipRule}
 use Rattle.rr_skip.specs.declared.series.SkipSeries.{SkipSeries}
 use Rattle.rr_answer.specs.Command.{Operand}
-use Rattle.rr_answer.specs.Folding.{IsFoldedFrom, OccurFromYearOne}
+use Rattle.rr_model.specs.Moment.Years.{OccurFromYearOne}
+use Rattle.rr_answer.specs.Folding.{IsFoldedFrom}
 use Rattle.rr_answer.specs.Judgement.{IsFault}
 use Rattle.rr_answer.specs.OperandReading.{IsStatedIn, IsSubjectRead}
 use Rattle.rr_answer.specs.Subjects.{Subject, as_skipping, of_skipping}

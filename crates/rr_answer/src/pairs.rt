@@ -1,6 +1,6 @@
 // What is said of two operands.
 ghost use Rattle.std.specs.Prelude.{◌≡◌, IfOk, IsTrue, ◌≤ℤ◌, pos};
-ghost use Rattle.rr_decide.specs.declared.question.Question.TheVariants.{Equal};
+ghost use Rattle.rr_model.specs.declared.question.Question.TheVariants.{Equal};
 ghost use Rattle.rr_answer.specs.Answer.{IsPairAnswer, IsSaidBeside};
 ghost use Rattle.rr_answer.specs.Command.{HasDurations};
 ghost use Rattle.rr_answer.specs.Folding.{IsFromYearOneOn};
@@ -17,8 +17,7 @@ use crate::folding::read_folded;
 use crate::outcome::{Outcome, outcome_of_fault, outcome_of_verdict};
 use crate::verdicts::verdict_outcome;
 use rr_days::Folded;
-use rr_decide::Question;
-use rr_model::{NoMemory, Side, Verdict};
+use rr_model::{NoMemory, Question, Side, Verdict};
 use rr_word::DaySeq;
 use std::alloc::Global;
 

@@ -11,7 +11,7 @@ use Rattle.rr_word.proofs.SketchLemmas.{second_fits}
 use Rattle.rr_model.specs.Sets.Least.{IsLeastSketch}
 use Rattle.rr_model.specs.Sets.Printable.{HasNoneBeforeYearOne, IsTextOf}
 use Rattle.rr_model.proofs.SecondsLemmas.{first_of_some}
-use Rattle.rr_word.proofs.OneLeastLemmas.{parts_of_moment}
+use Rattle.rr_model.proofs.MomentLemmas.{parts_of_moment}
 
 -- where no occurrence lies before 0001-01-01, no day before is occupied
 pub none_before_year_one : (u : Sketch) → IsValidSketch u → ((k : Kind) (t : ℤ) → StandsIn u k t → IsFromYearOne (day_part k t)) → HasNoneBeforeYearOne u

@@ -7,8 +7,8 @@ use Rattle.std.proofs.lemmas.Int.{ints}
 use Rattle.rr_model.specs.Calendar.{year_of, month_of, day_of_month, day_of_year, days_in_month, days_in_year}
 use Rattle.rr_model.specs.Calendar.Laws.{later_day, CalendarRepeats}
 use Rattle.rr_model.specs.Calendar.Week.{week_index, week_year}
-use Rattle.rr_model.specs.Rule.Validity.{is_absent, has_place}
-use Rattle.rr_model.specs.Rule.Candidate.{has_weekday_of, rank_from_front, rank_from_back, is_in_place, day_item_holds, counts_in_year, is_week_listed}
+use Rattle.rr_model.specs.Rule.Validity.{is_absent, has_ordinals}
+use Rattle.rr_model.specs.Rule.Candidate.{has_weekday_of, rank_from_front, rank_from_back, is_ordinal_of_day, day_item_holds, counts_in_year, is_week_listed}
 use Rattle.rr_model.specs.Rule.Candidate.{by_month_holds, by_week_no_holds, by_year_day_holds, by_month_day_holds, by_day_holds, date_parts_hold}
 use Rattle.rr_model.specs.declared.rule.DayItem.{DayItem}
 use Rattle.rr_model.specs.declared.rule.Rule.{Rule}
@@ -42,7 +42,7 @@ module _ (repeats : CalendarRepeats) (c d : ℤ) where
   days_in_month-cycle =
       rw ((repeats.days c d).year, (repeats.days c d).month) ((repeats.years c (year_of d)).days_in_months (month_of d))
 
-  in_place-cycle : (n : ℤ) (in_year : Bool) → is_in_place n in_year (later_day c d) ≡ is_in_place n in_year d
+  in_place-cycle : (n : ℤ) (in_year : Bool) → is_ordinal_of_day n in_year (later_day c d) ≡ is_ordinal_of_day n in_year d
   in_place-cycle n true =
       rw ((repeats.days c d).day_of_year, days_in_year-cycle, front-cycle (day_of_year d), back-cycle (day_of_year d) (days_in_year (year_of d))) refl
   in_place-cycle n false =
@@ -90,11 +90,11 @@ day_item-weeks : (in_year : Bool) (d k : ℤ) (item : DayItem) → int_eq item.p
     → day_item_holds in_year (d +ℤ (k *ℤ pos 7)) item ≡ day_item_holds in_year d item
 day_item-weeks in_year d k item plain = rw (plain, weekday_of-weeks d k) refl
 
-day_items-weeks : (in_year : Bool) (d k : ℤ) (items : List DayItem) → has_place items ≡ false
+day_items-weeks : (in_year : Bool) (d k : ℤ) (items : List DayItem) → has_ordinals items ≡ false
     → list_any (day_item_holds in_year (d +ℤ (k *ℤ pos 7))) items ≡ list_any (day_item_holds in_year d) items
 day_items-weeks in_year d k [] plain = refl
 day_items-weeks in_year d k (item ∷ items) plain =
-    let p = or_parts (not (int_eq item.place (pos 0))) (has_place items) plain in
+    let p = or_parts (not (int_eq item.place (pos 0))) (has_ordinals items) plain in
     rw (day_item-weeks in_year d k item (not-false (int_eq item.place (pos 0)) p.0), day_items-weeks in_year d k items p.1) refl
 
 -- no part is present whose days follow the calendar's years
@@ -103,7 +103,7 @@ pub record AsksNoCalendar (rule : Rule) : Type 0 where
   pub by_week_no : is_absent rule.by_week_no ≡ true
   pub by_year_day : is_absent rule.by_year_day ≡ true
   pub by_month_day : is_absent rule.by_month_day ≡ true
-  pub by_day : has_place rule.by_day ≡ false
+  pub by_day : has_ordinals rule.by_day ≡ false
 
 -- then every date part holds as it did after whole weeks
 pub date_parts-weeks : (rule : Rule) (d k : ℤ) → AsksNoCalendar rule → date_parts_hold rule (d +ℤ (k *ℤ pos 7)) ≡ date_parts_hold rule d

@@ -1,14 +1,14 @@
 -- The chosen moments of a valid rule repeat with its cycle.
-use Rattle.std.proofs.Common.{◌≡◌, ◌⊎◌, inl, inr, ℕ, suc, ◌*◌, ◌/◌, ◌≤◌, Bool, true, false, cond, not, ◌&&◌, ◌||◌, List, [], ◌∷◌, ℤ, pos, negsuc, neg_ℤ}
+use Rattle.std.proofs.Common.{◌≡◌, ◌⊎◌, inl, inr, ℕ, suc, ◌*◌, ◌/◌, ◌≤◌, Bool, true, false, cond, not, ◌&&◌, ◌||◌, List, [], ◌∷◌, ℤ, pos, negsuc}
 use Rattle.std.proofs.Common.{◌+ℤ◌, ◌*ℤ◌, refl, sym, ap, ◌∙◌, subst, arith}
 use Prim.Native.Nat.{◌∣◌}
 use Rattle.std.proofs.lemmas.Int.{ints}
 use Rattle.std.proofs.lemmas.Bool.{false≢true, and_parts, not-true, cases_Bool, cond-true, cond-false, cond_both}
-use Rattle.std.proofs.lemmas.Nat.Gcd.{dvd_refl, dvd_trans}
+use Rattle.std.proofs.lemmas.Nat.Gcd.{dvd_trans}
 use Rattle.std.proofs.Math.Nat.{dvd-mul_right}
 use Rattle.rr_model.specs.Moment.{day_part}
 use Rattle.rr_model.specs.Calendar.Laws.{later_day}
-use Rattle.rr_model.specs.Rule.Validity.{is_absent, has_place, has_part, takes_year_days, takes_month_days, takes_week_numbers, takes_places, is_allowed}
+use Rattle.rr_model.specs.Rule.Validity.{is_absent, has_ordinals, has_part, takes_year_days, takes_month_days, takes_week_numbers, takes_ordinals, is_allowed}
 use Rattle.rr_model.specs.Rule.Validity.{IsValidRule}
 use Rattle.rr_model.specs.Whole.Divisors.{gcd, lcm}
 use Rattle.rr_model.specs.Rule.Cycle.{interval_cycle, asks_calendar, rule_cycle}
@@ -35,7 +35,7 @@ use Rattle.rr_check.proofs.RuleCycleLemmas.{whole_times, whole_intervals, interv
 record IsPlain (freq : Freq) (rule : Rule) (n c : ℕ) : Type 0 where
   no_month : wants_month freq rule ≡ false
   no_month_day : wants_month_day freq rule ≡ false
-  no_places : (b : Bool) → takes_places freq b ≡ false
+  no_places : (b : Bool) → takes_ordinals freq b ≡ false
   weeks : (7 ∣ c) ⊎ (wants_day freq rule ≡ false)
 
 frequency : (freq : Freq) (rule : Rule) (n c : ℕ) → interval_cycle freq n ∣ c → (146_097 ∣ c) ⊎ IsPlain freq rule n c
@@ -53,7 +53,7 @@ unfilled : {X : Type 0} (b : Bool) (values : List X) (own : X) → b ≡ false �
 unfilled b values own e h = rw e h
 
 -- the start's weekday has no number
-still_plain : (b : Bool) (items : List DayItem) (d : ℤ) → has_place items ≡ false → has_place (filled_part b items (day_item_of d)) ≡ false
+still_plain : (b : Bool) (items : List DayItem) (d : ℤ) → has_ordinals items ≡ false → has_ordinals (filled_part b items (day_item_of d)) ≡ false
 still_plain true [] d h = refl
 still_plain true (item ∷ items) d h = h
 still_plain false items d h = h
@@ -67,17 +67,17 @@ four_absent true false c d h = absurd (false≢true (sym h))
 four_absent false b c d h = absurd (false≢true (sym h))
 
 -- an allowed rule has no place where its frequency takes none
-no_place : (rule : Rule) → is_allowed rule ≡ true → takes_places rule.freq (is_absent rule.by_week_no) ≡ false → has_place rule.by_day ≡ false
+no_place : (rule : Rule) → is_allowed rule ≡ true → takes_ordinals rule.freq (is_absent rule.by_week_no) ≡ false → has_ordinals rule.by_day ≡ false
 no_place rule allowed none =
-    let x = takes_places rule.freq (is_absent rule.by_week_no) in
-    let y = not (has_place rule.by_day) in
+    let x = takes_ordinals rule.freq (is_absent rule.by_week_no) in
+    let y = not (has_ordinals rule.by_day) in
     let a = takes_year_days rule.freq || is_absent rule.by_year_day in
     let b = takes_month_days rule.freq || is_absent rule.by_month_day in
     let c = takes_week_numbers rule.freq || is_absent rule.by_week_no in
     let four = (and_parts (a && b && c && (x || y)) (has_part rule || is_absent rule.by_set_pos) allowed).0 in
     let fourth : (x || y) ≡ true = (and_parts (a && b && c) (x || y) four).1 in
     let e : y ≡ true = rw none at fourth in
-    not-true (has_place rule.by_day) e
+    not-true (has_ordinals rule.by_day) e
 
 -- ---- the shift
 

@@ -17,7 +17,7 @@ use Rattle.rr_decide.specs.declared.days.Shown.{Shown}
 use Rattle.rr_decide.specs.declared.long.AlikeNumbers.{AlikeNumbers}
 use Rattle.rr_decide.specs.declared.long.Run.{Run}
 use Rattle.rr_decide.specs.declared.long.Run.TheVariants.{Differs, Agrees}
-use Rattle.rr_decide.specs.declared.question.Question.TheVariants.{Equal}
+use Rattle.rr_model.specs.declared.question.Question.TheVariants.{Equal}
 use Rattle.rr_decide.proofs.WindowLemmas.{one_shows_none, one_where_none_shown}
 
 -- no set comes that is not alike, after a day that shows nothing

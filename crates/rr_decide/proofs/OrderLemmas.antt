@@ -1,12 +1,12 @@
 -- Occurrences of both kinds stand in one order.
-use Rattle.std.proofs.Common.{◌≡◌, ◌⊎◌, inl, inr, ℕ, ◌<◌, ℤ, ◌<ℤ◌, refl, sym, arith}
+use Rattle.std.proofs.Common.{◌≡◌, ◌⊎◌, inl, inr, ◌<◌, ℤ, ◌<ℤ◌, arith}
 use Rattle.std.proofs.lemmas.Int.{ints, by_lt_z}
 use Rattle.rr_model.specs.Whole.{floor_div, floor_mod}
-use Rattle.rr_model.specs.Moment.{Before, day_part, second_part, moment_at}
+use Rattle.rr_model.specs.Moment.{Before, day_part, second_part}
 use Rattle.rr_model.specs.declared.kind.Kind.{Kind}
 use Rattle.rr_model.specs.declared.kind.Kind.TheVariants.{Days, Moments}
 use Rattle.rr_model.proofs.OrderLemmas.{from_place, place_of, to_place}
-use Rattle.rr_model.proofs.WholeLemmas.{floor_only, floor_whole, floor_mod_below}
+use Rattle.rr_model.proofs.WholeLemmas.{floor_whole, floor_mod_below}
 
 -- what comes before another that does not come before a third comes before it or is at its place
 pub Before-compare : (a : Kind) (t : ℤ) (b : Kind) (u : ℤ) (c : Kind) (v : ℤ) → Before a t c v → (Before b u c v → ⊥) → Before a t b u
@@ -16,11 +16,6 @@ Before-compare a t b u c v h n =
     by_lt_z {P = P} (place_of b u) (place_of c v) (λ l. absurd (n (from_place b u c v l))) (λ g. from_place a t b u (omega (arith, ints, x)))
 
 -- ---- days and seconds
-
-pub parts_of_moment : (k : Kind) (day : ℤ) (x : ℕ) → x < 86_400 → (k ≡ Days → x ≡ 0)
-    → (day_part k (moment_at k day x) ≡ day) × (second_part k (moment_at k day x) ≡ x)
-parts_of_moment Days day x lt z = (refl, sym (z refl))
-parts_of_moment Moments day x lt z = floor_only (moment_at Moments day x) day 86_400 x lt refl
 
 -- an earlier one of the same kind is of an earlier day, or of an earlier second of the day
 pub earlier_parts : (k : Kind) (u t : ℤ) → Before k u k t

@@ -8,7 +8,7 @@ use Rattle.rr_model.specs.declared.verdict.Side.TheVariants.{A, B, Both}
 use Rattle.rr_model.specs.declared.verdict.Verdict.{Verdict}
 use Rattle.rr_model.specs.declared.verdict.Verdict.TheVariants.{Yes, No}
 use Rattle.rr_decide.specs.Question.{IsShown, IsVerdictBy, shown_by}
-use Rattle.rr_decide.specs.declared.question.Question.TheVariants.{Equal, Within, Disjoint}
+use Rattle.rr_model.specs.declared.question.Question.TheVariants.{Equal, Within, Disjoint}
 use Rattle.rr_decide.proofs.StandsLemmas.{stands_or_not}
 
 both_or_neither : (P Q : Type 0) → P ⊎ (P → ⊥) → Q ⊎ (Q → ⊥) → (IsShown (shown_by Equal) P Q → ⊥) → P ↔ Q

@@ -18,7 +18,7 @@ use Rattle.rr_decide.specs.Quiet.{ShowNothing, ShowNothingBelow, ShowNothingToge
 use Rattle.rr_decide.specs.declared.quiet.Pair.{Pair}
 use Rattle.rr_decide.specs.declared.quiet.Quiet.{Quiet}
 use Rattle.rr_decide.specs.declared.quiet.Recent.{Recent}
-use Rattle.rr_decide.specs.declared.question.Question.TheVariants.{Equal}
+use Rattle.rr_model.specs.declared.question.Question.TheVariants.{Equal}
 use Rattle.rr_decide.proofs.WindowLemmas.{one_shows_none}
 
 -- ---- one day

@@ -21,7 +21,8 @@ use Rattle.rr_decide.specs.Occurrence.{IsUpToMaxDay, NamesUpToMaxDay}
 use Rattle.rr_decide.specs.Question.{AreApart, HasNoneBefore, IsFirstDayShown, IsFirstOccurrence, IsShown, IsVerdictBy, ShowsNone}
 use Rattle.rr_decide.proofs.MergeLemmas.{HoldsOn-map, HoldsOn-some}
 use Rattle.rr_model.proofs.OrderLemmas.{Before-trans}
-use Rattle.rr_decide.proofs.OrderLemmas.{Before-compare, earlier_parts, parts_of_moment}
+use Rattle.rr_model.proofs.MomentLemmas.{parts_of_moment}
+use Rattle.rr_decide.proofs.OrderLemmas.{Before-compare, earlier_parts}
 
 -- ---- one sketch
 

@@ -17,7 +17,7 @@ use Rattle.rr_model.proofs.SecondsLemmas.{Contains-or_not, one_list}
 use Rattle.rr_word.proofs.SketchLemmas.{agreement_of_sketches_lasts, common_window, rising_on}
 use Rattle.rr_word.specs.Stretches.{AreFree}
 use Rattle.rr_decide.specs.Question.{HasNoneBefore, IsFirstDayShown, IsFirstShown, IsWindow, ShowsNone, ShowsNoneBelow, ShowsNoneWithin, shown_by}
-use Rattle.rr_decide.specs.declared.question.Question.TheVariants.{Equal}
+use Rattle.rr_model.specs.declared.question.Question.TheVariants.{Equal}
 use Rattle.rr_decide.proofs.StandsLemmas.{none_before_first}
 
 -- rising lists of which no second is in one alone are one

@@ -5,7 +5,7 @@ use Rattle.rr_model.specs.declared.sketch.Sketch.{Sketch}
 use Rattle.rr_decide.specs.Look.{IsFirstFrom, IsShownOn}
 use Rattle.rr_decide.specs.Question.{ShowsNone, ShowsNoneFor, shown_by}
 use Rattle.rr_decide.specs.Rows.{EachPair}
-use Rattle.rr_decide.specs.declared.question.Question.TheVariants.{Equal}
+use Rattle.rr_model.specs.declared.question.Question.TheVariants.{Equal}
 use Rattle.rr_decide.specs.declared.long.AlikeNumbers.{AlikeNumbers}
 use Rattle.rr_decide.specs.declared.long.Comparison.{Comparison}
 use Rattle.rr_decide.specs.declared.long.Run.{Run}

@@ -7,7 +7,7 @@ use Rattle.rr_decide.specs.Question.{IsFirstDayShown, IsFirstShown, ShowsNone, S
 use Rattle.rr_decide.specs.declared.days.Look.{Look}
 use Rattle.rr_decide.specs.declared.days.Look.TheVariants.{Shows, Quiet}
 use Rattle.rr_decide.specs.declared.days.Shown.{Shown}
-use Rattle.rr_decide.specs.declared.question.Question.{Question}
+use Rattle.rr_model.specs.declared.question.Question.{Question}
 
 -- it is of this day, and the first second there that shows it
 abbrev pub IsShownOn : (Side → Bool) → Sketch → Sketch → ℤ → Shown → Type 0

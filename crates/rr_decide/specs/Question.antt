@@ -11,8 +11,8 @@ use Rattle.rr_model.specs.declared.verdict.Side.{Side}
 use Rattle.rr_model.specs.declared.verdict.Side.TheVariants.{A, B, Both}
 use Rattle.rr_model.specs.declared.verdict.Verdict.{Verdict}
 use Rattle.rr_model.specs.declared.verdict.Verdict.TheVariants.{Yes, No}
-use Rattle.rr_decide.specs.declared.question.Question.{Question}
-use Rattle.rr_decide.specs.declared.question.Question.TheVariants.{Equal, Within, Disjoint}
+use Rattle.rr_model.specs.declared.question.Question.{Question}
+use Rattle.rr_model.specs.declared.question.Question.TheVariants.{Equal, Within, Disjoint}
 
 -- the verdict that is asked for
 abbrev pub IsVerdictTo : Question → Occurrences → Occurrences → Verdict → Type 0

@@ -6,12 +6,12 @@ ghost use Rattle.rr_word.specs.Stretches.{AreFree, IsNumberOn};
 ghost use Rattle.rr_decide.specs.Look.{IsFirstFrom, IsFirstOn, IsLook};
 ghost use Rattle.rr_decide.specs.Question.{HasNoneBefore, ShareNothing, ShowsNoneFor, shown_by};
 ghost use Rattle.rr_decide.specs.Quiet.{IsQuiet, ShowNothingBelow, ShowNothingTogether};
-ghost use Rattle.rr_decide.specs.declared.question.Question.TheVariants.{Equal};
+ghost use Rattle.rr_model.specs.declared.question.Question.TheVariants.{Equal};
 
 use crate::merge::{are_equal, first_shown};
-use crate::question::{FREE_DAYS, Question};
+use crate::question::{FREE_DAYS, asks_second, days_without};
 use crate::quiet::{Pair, Quiet, are_remembered};
-use rr_model::Side;
+use rr_model::{Question, Side};
 use rr_word::DaySeq;
 
 /// A second of a day that shows that the answer is no.
@@ -78,8 +78,8 @@ fn look_from<A: DaySeq, B: DaySeq>(
     ensures quiet { IsQuiet (shown_by question) (A.sets a.now) (B.sets b.now) quiet.new }
 {
     let free_a = a.free_days(day);
-    let free_b = free_days_if(question.asks_second(free_a), b, day);
-    let free = question.days_without(free_a, free_b);
+    let free_b = free_days_if(asks_second(question, free_a), b, day);
+    let free = days_without(question, free_a, free_b);
     if free >= FREE_DAYS {
         return Look::Quiet(free.min(most));
     }

@@ -6,9 +6,8 @@ ghost use Rattle.rr_model.specs.Sets.Verdict.{IsDisjointVerdict, IsEqualVerdict,
 ghost use Rattle.rr_decide.specs.Occurrence.{NamesUpToMaxDay};
 ghost use Rattle.rr_decide.specs.Question.{IsSoonEnough, IsVerdictTo};
 
-use crate::question::Question;
 use crate::verdicts::verdict_by_walk;
-use rr_model::{MAX_CYCLE_DAYS, Verdict};
+use rr_model::{MAX_CYCLE_DAYS, Question, Verdict};
 use rr_num::lcm_within;
 use rr_word::DaySeq;
 

@@ -12,4 +12,3 @@ mod verdicts;
 
 pub use decide::{disjoint, equal, verdict, within};
 pub use long::equal_long;
-pub use question::Question;

@@ -10,14 +10,13 @@ ghost use Rattle.rr_decide.specs.Occurrence.{IsFirstOrNone, IsNearOccurrence, Is
 ghost use Rattle.rr_decide.specs.Question.{HasNoneBefore, IsVerdictOn, ShareNothing, ShowsNoneFor, shown_by};
 ghost use Rattle.rr_decide.specs.Reading.{IsFirstOfBoth, IsReadInFew, steps_from};
 ghost use Rattle.rr_decide.specs.Rows.{AreEqualRows, AreUpTo};
-ghost use Rattle.rr_decide.specs.declared.question.Question.TheVariants.{Equal};
+ghost use Rattle.rr_model.specs.declared.question.Question.TheVariants.{Equal};
 
 use crate::days::{Shown, days_between};
 use crate::decide::equal_days;
 use crate::merge::first_shown;
 use crate::occurrence::Occurrence;
-use crate::question::Question;
-use rr_model::{Side, Verdict};
+use rr_model::{Question, Side, Verdict};
 use rr_steps::Steps;
 use rr_word::{Counted, DaySeq};
 use std::sync::ledger::Ledger;

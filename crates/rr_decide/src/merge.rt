@@ -3,8 +3,8 @@ ghost use Rattle.std.specs.Prelude.{◌≡◌, ◌↔◌, IsTrue, nat_lt};
 ghost use Rattle.rr_model.specs.Rising.{Rises};
 ghost use Rattle.rr_decide.specs.Question.{IsFirstSecondShown, ShowsNone, shown_by};
 
-use crate::question::Question;
-use rr_model::Side;
+use crate::question::is_shown_by;
+use rr_model::{Question, Side};
 use rr_word::next_second;
 
 /// Whether two lists are equal.
@@ -18,7 +18,7 @@ pub fn are_equal(xs: &[u32], ys: &[u32]) -> bool
 fn are_alike(question: Question, xs: &[u32], ys: &[u32]) -> bool
     ensures { IsTrue result → ShowsNone (shown_by question) xs.now ys.now }
 {
-    !question.is_shown_by(Side::Both) && are_equal(xs, ys)
+    !is_shown_by(question, Side::Both) && are_equal(xs, ys)
 }
 
 /// The first second of two rising lists that shows that the answer is no, and its side.
@@ -36,7 +36,7 @@ pub fn first_shown(question: Question, xs: &[u32], ys: &[u32]) -> Option<(u32, S
     let mut rest_a = xs;
     let mut rest_b = ys;
     while let Some(next) = next_second(rest_a, rest_b) {
-        if question.is_shown_by(next.side) {
+        if is_shown_by(question, next.side) {
             return Some((next.second, next.side));
         }
         rest_a = next.xs;

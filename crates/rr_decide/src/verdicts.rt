@@ -6,8 +6,8 @@ ghost use Rattle.rr_decide.specs.Question.{HasNoneBefore, IsVerdictOn, IsWindow,
 
 use crate::days::{days_between, first_day, first_day_shown};
 use crate::occurrence::{Occurrence, first_occurrence};
-use crate::question::Question;
-use rr_model::{Side, Verdict};
+use crate::question::is_shown_by;
+use rr_model::{Question, Side, Verdict};
 use rr_word::DaySeq;
 
 /// The verdict, where `window` days past both settled days tell of all later days.
@@ -68,8 +68,8 @@ fn verdict_apart<A: DaySeq, B: DaySeq>(question: Question, a: &A, b: &B) -> Verd
     ensures verdict { IsVerdictOn question (A.sketch a.now) (B.sketch b.now) result }
     ensures day { NamesUpToMaxDay result }
 {
-    let shows_a = question.is_shown_by(Side::A);
-    let shows_b = question.is_shown_by(Side::B);
+    let shows_a = is_shown_by(question, Side::A);
+    let shows_b = is_shown_by(question, Side::B);
     match (first_if(shows_a, a), first_if(shows_b, b)) {
         (None, None) => Verdict::Yes,
         (Some(one), None) => one.against(Side::A),

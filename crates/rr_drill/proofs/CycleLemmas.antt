@@ -16,8 +16,8 @@ use Rattle.rr_model.specs.declared.rule.Freq.{Freq}
 use Rattle.rr_model.specs.declared.rule.Freq.TheVariants.{Secondly, Minutely, Hourly, Daily, Weekly, Monthly, Yearly}
 use Rattle.rr_model.specs.declared.limits.TheConstants.{MAX_CYCLE_DAYS}
 use Rattle.rr_decide.specs.Question.{IsSoonEnough}
-use Rattle.rr_decide.specs.declared.question.Question.{Question}
-use Rattle.rr_decide.specs.declared.question.Question.TheVariants.{Equal, Within, Disjoint}
+use Rattle.rr_model.specs.declared.question.Question.{Question}
+use Rattle.rr_model.specs.declared.question.Question.TheVariants.{Equal, Within, Disjoint}
 use Rattle.rr_drill.specs.Cycles.{cycles, is_drawn_cycle}
 use Rattle.rr_drill.specs.Draws.{next_state, draw, draw_below, intervals, drawn_freq, series_from}
 

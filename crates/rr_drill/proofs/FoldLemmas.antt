@@ -10,8 +10,8 @@ use Rattle.rr_model.specs.declared.verdict.Side.{Side}
 use Rattle.rr_model.specs.declared.verdict.Side.TheVariants.{A, B, Both}
 use Rattle.rr_model.specs.declared.verdict.Verdict.TheVariants.{Yes, No}
 use Rattle.rr_decide.specs.Question.{IsVerdictTo}
-use Rattle.rr_decide.specs.declared.question.Question.{Question}
-use Rattle.rr_decide.specs.declared.question.Question.TheVariants.{Equal, Within, Disjoint}
+use Rattle.rr_model.specs.declared.question.Question.{Question}
+use Rattle.rr_model.specs.declared.question.Question.TheVariants.{Equal, Within, Disjoint}
 use Rattle.rr_drill.specs.Asked.{IsVerdictOn, IsYes}
 use Rattle.rr_drill.specs.Counting.{IsOneWhere, IsCountOf, IsCountOfPairs}
 use Rattle.rr_drill.specs.Draws.{series_from, after_series, series_list, drawn_series}

@@ -7,7 +7,7 @@ use Rattle.std.proofs.lemmas.Nat.{mod_below, div-add-mod'}
 use Rattle.rr_model.specs.Whole.{divides}
 use Rattle.rr_model.specs.Calendar.{month_of, day_of_month, weekday_of, days_in_month, year_of}
 use Rattle.rr_model.specs.Moment.Units.{unit_number}
-use Rattle.rr_model.specs.Rule.Candidate.{is_candidate, lists, allows_place, date_parts_hold, time_parts_hold, interval_holds}
+use Rattle.rr_model.specs.Rule.Candidate.{is_candidate, lists, allows_signed, date_parts_hold, time_parts_hold, interval_holds}
 use Rattle.rr_model.specs.Rule.Candidate.{by_month_holds, by_week_no_holds, by_year_day_holds, by_month_day_holds, by_day_holds}
 use Rattle.rr_model.specs.Rule.Chosen.{is_chosen, by_set_pos_holds}
 use Rattle.rr_model.specs.Rule.Filled.{filled}
@@ -27,7 +27,7 @@ itself v = grind (arith, ints)
 value_listed : (v : ℤ) → lists (v ∷ []) v ≡ true
 value_listed v = ap (λ (b : Bool). b || false) (itself v)
 
-place_allowed : (v many : ℤ) → allows_place (v ∷ []) v many ≡ true
+place_allowed : (v many : ℤ) → allows_signed (v ∷ []) v many ≡ true
 place_allowed v many = ap (λ (b : Bool). b || lists (v ∷ []) ((v -ℤ many) -ℤ pos 1)) (value_listed v)
 
 none_left : (n : ℕ) → 1 ≤ n → 0 % n ≡ 0

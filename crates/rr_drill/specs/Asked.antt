@@ -11,6 +11,6 @@ abbrev pub IsVerdictOn : Asked → Occurrences → Occurrences → Verdict → T
 IsVerdictOn (Forth question) P Q verdict = IsVerdictTo question P Q verdict
 IsVerdictOn (Back question) P Q verdict = IsVerdictTo question Q P verdict
 
--- it is yes
+-- the verdict is yes
 abbrev pub IsYes : Asked → Occurrences → Occurrences → Type 0
 IsYes asked P Q = IsVerdictOn asked P Q Yes

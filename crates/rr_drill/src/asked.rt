@@ -1,5 +1,5 @@
 // What is asked of a series and a later one.
-use rr_decide::Question;
+use rr_model::Question;
 
 /// A question about a series and a later one.
 #[derive(Clone, Copy)]

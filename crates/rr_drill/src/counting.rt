@@ -8,8 +8,8 @@ ghost use Rattle.rr_drill.specs.Summary.{IsSummaryOf};
 use crate::Summary;
 use crate::asked::Asked;
 use crate::drawn_days::DrawnDays;
-use rr_decide::{Question, verdict};
-use rr_model::Verdict;
+use rr_decide::verdict;
+use rr_model::{Question, Verdict};
 
 // The verdict on two series.
 fn verdict_on(asked: Asked, a: &DrawnDays, b: &DrawnDays) -> Verdict

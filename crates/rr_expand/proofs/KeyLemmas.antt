@@ -7,7 +7,7 @@ use Rattle.rr_model.specs.Whole.{floor_div, floor_mod}
 use Rattle.rr_model.specs.Calendar.{is_leap, days_in_year, days_in_month, days_of_months, first_day_of_year, year_of, days_into_year}
 use Rattle.rr_model.specs.Calendar.{months_over, month_of, day_of_month, day_of_year, weekday_of, kind_of_year}
 use Rattle.rr_model.specs.Rule.Validity.{is_absent}
-use Rattle.rr_model.specs.Rule.Candidate.{rank_from_front, rank_from_back, is_weekday_place, is_in_place, counts_in_year, day_item_holds}
+use Rattle.rr_model.specs.Rule.Candidate.{rank_from_front, rank_from_back, is_weekday_ordinal, is_ordinal_of_day, counts_in_year, day_item_holds}
 use Rattle.rr_model.specs.Rule.Candidate.{by_month_holds, by_year_day_holds, by_month_day_holds, by_day_holds}
 use Rattle.rr_model.specs.declared.rule.DayItem.{DayItem}
 use Rattle.rr_model.specs.declared.rule.Rule.{Rule}
@@ -170,28 +170,28 @@ module _ (d e : ℤ) (same : HaveOneDayOfYear d e) where
 
   -- ---- the parts of a rule but BYWEEKNO
 
-  weekday_place-same : (n : ℤ) (k many : ℕ) → 1 ≤ k → k ≤ many → is_weekday_place n d k many ≡ is_weekday_place n e k many
+  weekday_place-same : (n : ℤ) (k many : ℕ) → 1 ≤ k → k ≤ many → is_weekday_ordinal n d k many ≡ is_weekday_ordinal n e k many
   weekday_place-same n k many some few =
       let front : rank_from_front d k ≡ rank_from_front e k = rank_from_front_is d k some ∙ sym (rank_from_front_is e k some) in
       let back : rank_from_back d k many ≡ rank_from_back e k many = rank_from_back_is d k many few ∙ sym (rank_from_back_is e k many few) in
       ap (λ (r : ℕ). int_eq n (pos r) || int_eq n (neg_ℤ (pos (rank_from_back d k many)))) front
       ∙ ap (λ (r : ℕ). int_eq n (pos (rank_from_front e k)) || int_eq n (neg_ℤ (pos r))) back
 
-  in_year-same : (n : ℤ) → is_in_place n true d ≡ is_in_place n true e
+  in_year-same : (n : ℤ) → is_ordinal_of_day n true d ≡ is_ordinal_of_day n true e
   unfolding day_of_year
   in_year-same n =
       weekday_place-same n (day_of_year d) (days_in_year (year_of d)) (omega arith) (omega (arith, days_into_year_below d))
-      ∙ ap (λ k. is_weekday_place n e k (days_in_year (year_of d))) day_of_year-same
-      ∙ ap (is_weekday_place n e (day_of_year e)) year-same
+      ∙ ap (λ k. is_weekday_ordinal n e k (days_in_year (year_of d))) day_of_year-same
+      ∙ ap (is_weekday_ordinal n e (day_of_year e)) year-same
 
-  in_month-same : (n : ℤ) → is_in_place n false d ≡ is_in_place n false e
+  in_month-same : (n : ℤ) → is_ordinal_of_day n false d ≡ is_ordinal_of_day n false e
   in_month-same n =
       let date = IsDate-year_of d in
       weekday_place-same n (day_of_month d) (days_in_month (year_of d) (month_of d)) date.2 date.3
-      ∙ ap (λ k. is_weekday_place n e k (days_in_month (year_of d) (month_of d))) day_of_month-same
-      ∙ ap (is_weekday_place n e (day_of_month e)) month-same
+      ∙ ap (λ k. is_weekday_ordinal n e k (days_in_month (year_of d) (month_of d))) day_of_month-same
+      ∙ ap (is_weekday_ordinal n e (day_of_month e)) month-same
 
-  in_place-same : (n : ℤ) (in_year : Bool) → is_in_place n in_year d ≡ is_in_place n in_year e
+  in_place-same : (n : ℤ) (in_year : Bool) → is_ordinal_of_day n in_year d ≡ is_ordinal_of_day n in_year e
   in_place-same n true = in_year-same n
   in_place-same n false = in_month-same n
 

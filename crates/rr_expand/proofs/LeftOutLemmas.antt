@@ -10,7 +10,7 @@ use Rattle.std.proofs.lemmas.Int.{ints}
 use Rattle.rr_model.specs.Whole.{floor_div, floor_mod}
 use Rattle.rr_model.specs.Calendar.{day_number, year_of, month_of, day_of_month, day_of_year, weekday_of, days_in_month}
 use Rattle.rr_model.specs.Calendar.Laws.{HasDateOf}
-use Rattle.rr_model.specs.Rule.Candidate.{allows, allows_place, lists, date_parts_hold, day_item_holds, is_in_place}
+use Rattle.rr_model.specs.Rule.Candidate.{allows, allows_signed, date_parts_hold, day_item_holds, is_ordinal_of_day}
 use Rattle.rr_model.specs.Rule.Candidate.{by_month_holds, by_week_no_holds, by_year_day_holds, by_month_day_holds, by_day_holds, counts_in_year}
 use Rattle.rr_model.specs.Rule.Filled.{day_item_of, filled, filled_part, wants_day, wants_month, wants_month_day}
 use Rattle.rr_model.specs.Rule.Validity.{is_absent}
@@ -102,7 +102,7 @@ filled_own true [] own e w = refl
 filled_own true (x ∷ xs) own e w = absurd (cc)
 filled_own false xs own e w = absurd (cc)
 
-pub own_number : (own i many : ℕ) → own ≢ i → i ≤ many → allows_place (pos own ∷ []) (pos i) (pos many) ≡ false
+pub own_number : (own i many : ℕ) → own ≢ i → i ≤ many → allows_signed (pos own ∷ []) (pos i) (pos many) ≡ false
 own_number own i many ne within =
     let front : int_eq (pos own) (pos i) ≡ false = grind (arith, nat_tests, ints) in
     let back : int_eq (pos own) ((pos i -ℤ pos many) -ℤ pos 1) ≡ false = grind (arith, nat_tests, ints) in
@@ -136,20 +136,20 @@ module _ (rule : Rule) (start d : ℤ) (k many i : ℕ) (at : k ≡ day_of_month
   pub month_same : month_of day ≡ month_of d
   month_same = date.month
 
-  pub unlisted : is_absent rule.by_month_day ≡ false → allows_place rule.by_month_day (pos i) (pos many) ≡ false
+  pub unlisted : is_absent rule.by_month_day ≡ false → allows_signed rule.by_month_day (pos i) (pos many) ≡ false
       → date_parts_hold (filled rule Days start) day ≡ false
   unlisted present none =
       not_on_month_day (filled rule Days start) day
       (rw (date.year, date.month, date.day, sym long)
-      (ap (λ xs. allows_place xs (pos i) (pos many))
+      (ap (λ xs. allows_signed xs (pos i) (pos many))
       (filled_present (wants_month_day rule.freq rule) rule.by_month_day (pos (day_of_month start)) present) ∙ none))
 
   pub not_own : (own : ℕ) → own ≡ day_of_month start → is_absent rule.by_month_day ≡ true → wants_month_day rule.freq rule ≡ true
-      → allows_place (pos own ∷ []) (pos i) (pos many) ≡ false → date_parts_hold (filled rule Days start) day ≡ false
+      → allows_signed (pos own ∷ []) (pos i) (pos many) ≡ false → date_parts_hold (filled rule Days start) day ≡ false
   not_own own is absent wants none =
       not_on_month_day (filled rule Days start) day
       (rw (date.year, date.month, date.day, sym long)
-      (ap (λ xs. allows_place xs (pos i) (pos many))
+      (ap (λ xs. allows_signed xs (pos i) (pos many))
       (filled_own (wants_month_day rule.freq rule) rule.by_month_day (pos (day_of_month start)) absent wants) ∙ rw is at none))
 
 -- some days after a day whose weekday is known
@@ -181,7 +181,7 @@ plain_items : (in_year : Bool) (d : ℤ) (items : List DayItem) → list_any has
 plain_items in_year d [] e = refl
 plain_items in_year d (item ∷ items) e =
     let parts = neither (has_ordinal item) (list_any has_ordinal items) e in
-    ap (λ p. ((item.weekday == weekday_of d) && (p || is_in_place item.place in_year d)) || list_any (day_item_holds in_year d) items)
+    ap (λ p. ((item.weekday == weekday_of d) && (p || is_ordinal_of_day item.place in_year d)) || list_any (day_item_holds in_year d) items)
     (no_ordinal item parts.0)
     ∙ ap (λ q. q || list_any (day_item_holds in_year d) items) (and_true (item.weekday == weekday_of d))
     ∙ ap (λ q. (item.weekday == weekday_of d) || q) (plain_items in_year d items parts.1)
@@ -225,7 +225,7 @@ module _ (rule : Rule) (no_month : is_absent rule.by_month ≡ true) (no_week : 
       (ap (λ xs. allows xs (pos (month_of d))) months ∙ rw no_month refl)
       (rw no_week refl)
       (rw no_year_day refl)
-      (ap (λ xs. allows_place xs (pos (day_of_month d)) (pos (days_in_month (year_of d) (month_of d)))) month_days ∙ rw no_month_day refl)
+      (ap (λ xs. allows_signed xs (pos (day_of_month d)) (pos (days_in_month (year_of d) (month_of d)))) month_days ∙ rw no_month_day refl)
       (ap (λ (xs : List DayItem). is_absent xs || list_any (day_item_holds in_year d) xs)
       (filled_present (wants_day rule.freq rule) rule.by_day (day_item_of start) present)
       ∙ rw (present, plain_items in_year d rule.by_day plain) refl)

@@ -2,7 +2,7 @@
 ghost use Rattle.std.specs.Prelude.{◌≡◌, ◌∷◌, [], ◌+◌, ◌%◌, ◌<◌, ◌≤◌, true, pos, ◌+ℤ◌, ◌-ℤ◌};
 ghost use Rattle.std.specs.List.{list_any};
 ghost use Rattle.rr_model.specs.Calendar.{IsDayWithin};
-ghost use Rattle.rr_model.specs.Rule.Candidate.{allows_place};
+ghost use Rattle.rr_model.specs.Rule.Candidate.{allows_signed};
 ghost use Rattle.rr_model.specs.Rule.Filled.{wants_month};
 ghost use Rattle.rr_expand.specs.LeftOut.{AreGaps, FillsMonthDay, IsNextIn, IsNextInMonth, LeavesOutMonth, has_ordinal, has_weekday, names_no_day, names_weekdays_alone};
 ghost use Rattle.rr_expand.specs.Years.{LeavesOutNext, filling_of};
@@ -93,7 +93,7 @@ fn leaves_out_month(rule: &Rule, start: &Day, day: &Day) -> bool
 // Of the days after the k-th of a month of `many` days the first that BYMONTHDAY, which is present, lists; else the last.
 fn next_listed(numbers: &Numbers, k: u8, many: u8) -> u8
     requires { k < many }
-    ensures { IsNextIn (λ i. allows_place numbers.now (pos i) (pos many)) k many result }
+    ensures { IsNextIn (λ i. allows_signed numbers.now (pos i) (pos many)) k many result }
 {
     for next in k + 1..many {
         if allows_kth(numbers, next, many) {
@@ -105,7 +105,7 @@ fn next_listed(numbers: &Numbers, k: u8, many: u8) -> u8
 
 // Whether the part is absent, or lists the k-th day of a month of `many` days, from the front or from the back.
 fn allows_kth(numbers: &Numbers, k: u8, many: u8) -> bool
-    ensures { result ≡ allows_place numbers.now (pos k) (pos many) }
+    ensures { result ≡ allows_signed numbers.now (pos k) (pos many) }
 {
     allows(numbers, i16::from(k)) || allows(numbers, number_from_back(k, many))
 }
@@ -160,7 +160,7 @@ fn has_weekday(item: DayItem, weekday: u8) -> bool
 // Of the days after the k-th of a month of `many` days that of the start's number; else the last.
 fn next_own(own: u8, k: u8, many: u8) -> u8
     requires { k < many }
-    ensures { IsNextIn (λ i. allows_place (pos own ∷ []) (pos i) (pos many)) k many result }
+    ensures { IsNextIn (λ i. allows_signed (pos own ∷ []) (pos i) (pos many)) k many result }
 {
     if k < own && own < many { own } else { many }
 }

@@ -17,7 +17,7 @@ use Rattle.rr_model.proofs.CountLemmas.{one, count_from-suc, count_from-split, c
 use Rattle.rr_model.proofs.RisingSetLemmas.{Contains-head, Contains-tail, Contains-none}
 use Rattle.rr_model.proofs.SecondsLemmas.{first_below}
 use Rattle.rr_word.proofs.SketchLemmas.{rising_on, second_fits}
-use Rattle.rr_word.proofs.OneLeastLemmas.{parts_of_moment}
+use Rattle.rr_model.proofs.MomentLemmas.{parts_of_moment}
 use Rattle.rr_model.specs.declared.graph.RangeEnd.{RangeEnd}
 use Rattle.rr_model.specs.declared.graph.RangeEnd.TheVariants.{NoEnd, EndDate, Numbered}
 use Rattle.rr_graph.proofs.RepeatLemmas.{at_day, at_time}

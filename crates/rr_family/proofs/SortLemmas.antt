@@ -7,7 +7,7 @@ use Rattle.std.proofs.lemmas.Int.{ints}
 use Rattle.std.proofs.lemmas.Bool.{cases_Bool, cases_eq, cases_lt, eq-eqb, ne_eqb}
 use Rattle.std.proofs.lemmas.Bool.Decides.{nat_tests}
 use Rattle.rr_model.specs.Calendar.{weekday_of, day_of_month, month_of, day_of_year, year_of, days_in_month}
-use Rattle.rr_model.specs.Rule.Candidate.{is_in_place}
+use Rattle.rr_model.specs.Rule.Candidate.{is_ordinal_of_day}
 use Rattle.rr_model.specs.Whole.{divides}
 use Rattle.rr_model.proofs.CalendarLemmas.{IsDate-year_of, days_in_year_bounds, days_in_month_bounds, days_into_year_below, weekday_of_below}
 use Rattle.rr_parts.proofs.RankLemmas.{rank_from_front_is, rank_from_back_is}
@@ -98,7 +98,7 @@ turned x y =
       | inr other ↦ ne_eqb x y other ∙ sym (ne_eqb y x (λ e. other (sym e)))
     ]
 
-in_place : (p : ℕ) (d : ℤ) → is_in_place (from_both_ends 5 (p / 7)) false d
+in_place : (p : ℕ) (d : ℤ) → is_ordinal_of_day (from_both_ends 5 (p / 7)) false d
     ≡ ((p / 7 == (day_of_month d - 1) / 7) || (p / 7 == 5 + (days_in_month (year_of d) (month_of d) - day_of_month d) / 7))
 in_place p d =
     let k = day_of_month d in

@@ -16,7 +16,7 @@ use Rattle.rr_model.specs.declared.sketch.Sketch.{Sketch}
 use Rattle.rr_model.proofs.CountLemmas.{one, count_from-suc, count_from-split}
 use Rattle.rr_graph.proofs.DayCountLemmas.{count_from-none}
 use Rattle.rr_word.specs.Stretches.{AreFree}
-use Rattle.rr_word.proofs.OneLeastLemmas.{parts_of_moment}
+use Rattle.rr_model.proofs.MomentLemmas.{parts_of_moment}
 use Rattle.rr_word.proofs.SketchLemmas.{repeats_from, second_fits}
 use Rattle.rr_word.proofs.WindowLemmas.{window_lasts}
 use Rattle.rr_family.specs.DaySets.{IsOneSecond}

@@ -11,7 +11,7 @@ use crate::items::from_both_ends;
 use rr_cal::{Day, month_number};
 use rr_model::FamilyKind;
 use rr_num::is_congruent;
-use rr_parts::is_in_place;
+use rr_parts::is_ordinal_of_day;
 
 /// Days of each n months, counted from the front or from the back: the kind MD.
 #[derive(Clone, Copy, Debug)]
@@ -109,7 +109,7 @@ impl Family for MonthPlaceFamily {
         let number = from_both_ends(5, place / 7);
         let weekday = (place % 7) as u8;
         lies_months_apart(self.first_day, &day, self.interval)
-            && (day.weekday == weekday && is_in_place(number, false, &day))
+            && (day.weekday == weekday && is_ordinal_of_day(number, false, &day))
     }
 }
 

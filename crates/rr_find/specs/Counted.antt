@@ -1,15 +1,12 @@
 -- Counts by sort of the days of a window.
-use Rattle.std.specs.Prelude.{◌≡◌, ◌⊎◌, ℕ, ◌+◌, ◌≤◌, ◌==◌, Bool, true, false, not, ◌&&◌, if◌then◌else◌, List, length, get_or, Option, None, Some, ℤ, pos, ◌+ℤ◌, ◌≤ℤ◌, ◌<ℤ◌}
+use Rattle.std.specs.Prelude.{◌≡◌, ◌⊎◌, ℕ, ◌+◌, ◌≤◌, ◌==◌, Bool, true, false, not, ◌&&◌, List, length, get_or, Option, None, Some, ℤ, pos, ◌+ℤ◌, ◌≤ℤ◌, ◌<ℤ◌}
+use Rattle.rr_model.specs.Whole.Count.{one_if}
 use Rattle.rr_family.specs.Tally.{sort_passes, days_of_sort}
 use Rattle.rr_find.specs.declared.tallies.Counts.{Counts}
 
 -- the count of each sort, 0 for a sort that has none
 abbrev pub count_in : List ℕ → ℕ → ℕ
 count_in counts = λ sort. get_or counts sort 0
-
--- 1 for true
-abbrev pub one_if : Bool → ℕ
-one_if b = if b then 1 else 0
 
 -- each count is one more where its sort passes
 abbrev pub IsCountedOn : List ℕ → List ℕ → Option ℕ → Bool → Type 0

@@ -7,7 +7,7 @@ use Rattle.std.proofs.lemmas.Int.{ints}
 use Rattle.std.proofs.lemmas.Bool.{cases_lt, cases_eq, le-leb, lt-ltb}
 use Rattle.std.proofs.lemmas.List.Elements.{All-cons, All-from_recursion}
 use Rattle.std.proofs.Math.Bool.{or-true}
-use Rattle.rr_model.specs.Rule.Validity.{has_place, is_allowed, IsDayItem, HasCountInRange, IsValidRule, takes_start}
+use Rattle.rr_model.specs.Rule.Validity.{has_ordinals, is_allowed, IsDayItem, HasCountInRange, IsValidRule, takes_start}
 use Rattle.rr_model.specs.declared.kind.Kind.{Kind}
 use Rattle.rr_model.specs.declared.rule.End.{End}
 use Rattle.rr_model.specs.Rising.{Rises, day_item_lt}
@@ -87,10 +87,10 @@ sum_rises : (days : ℕ) → Rises day_item_lt (days_of_sum days)
 sum_rises days = passed_rise (has_weekday days) (0 ∷ 1 ∷ 2 ∷ 3 ∷ 4 ∷ 5 ∷ 6 ∷ []) week_ascends
 
 -- a sum has no places
-no_place : (q : ℕ → Bool) (xs : List ℕ) → has_place (map (λ w. day_item (pos 0) w) (filter q xs)) ≡ false
+no_place : (q : ℕ → Bool) (xs : List ℕ) → has_ordinals (map (λ w. day_item (pos 0) w) (filter q xs)) ≡ false
 no_place q [] = refl
 no_place q (x ∷ xs) =
-    elim (q x) as (λ b. has_place (map (λ w. day_item (pos 0) w) (cond b (x ∷ filter q xs) (filter q xs))) ≡ false) [
+    elim (q x) as (λ b. has_ordinals (map (λ w. day_item (pos 0) w) (cond b (x ∷ filter q xs) (filter q xs))) ≡ false) [
       | true ↦ no_place q xs
       | false ↦ no_place q xs
     ]

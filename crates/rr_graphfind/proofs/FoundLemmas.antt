@@ -23,7 +23,8 @@ use Rattle.rr_model.proofs.CountLemmas.{count_from-first, one, count_from-le}
 use Rattle.rr_model.proofs.YearLemmas.{four_digit_bounds}
 use Rattle.rr_check.proofs.RuleCycleLemmas.{interval_cycle_some}
 use Rattle.rr_graph.proofs.FirstDayLemmas.{search_found}
-use Rattle.rr_word.proofs.OneLeastLemmas.{one_first, parts_of_moment}
+use Rattle.rr_model.proofs.MomentLemmas.{parts_of_moment}
+use Rattle.rr_word.proofs.OneLeastLemmas.{one_first}
 use Rattle.rr_word.proofs.SketchLemmas.{second_fits}
 use Rattle.rr_family.specs.DaySets.{IsOneSecond, window_days}
 use Rattle.rr_family.specs.GraphProfile.{EndsAs, IsFirstPattern, IsPatternOf, NoneBeforePattern, event_of, range_from}

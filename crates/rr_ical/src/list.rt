@@ -7,7 +7,6 @@ ghost use Rattle.rr_model.specs.Series.Validity.{IsValidSeries};
 ghost use Rattle.rr_ical.specs.Listed.{IsValidListed};
 ghost use Rattle.rr_model.specs.Answers.{Answers};
 
-use crate::second::is_same_kind;
 use rr_model::{Dates, Fault, Kind, ListedDates, MAX_DATES, Refusal, Rules, Series, Stamp};
 use rr_text::{is_text, plain_extended, take_line, trim, without_mark};
 use std::alloc::Global;
@@ -34,7 +33,7 @@ fn with_next(line: u64, so_far: ListedDates, stamp: Stamp) -> Result<ListedDates
     match so_far.first {
         None => so_far.first = Some(stamp),
         Some(first) => {
-            if !is_same_kind(first.kind, stamp.kind) {
+            if !first.kind.is_same(stamp.kind) {
                 return Err(Fault::Refused(Refusal::MixedKinds(line)));
             }
             if stamp.at <= so_far.last {

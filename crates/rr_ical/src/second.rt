@@ -1,7 +1,6 @@
 // The second pass over the used lines of an event puts rules and dates beside the start (RFC 5545, section 3.8.5).
 ghost use Rattle.std.specs.Prelude.{◌≡◌, OnOk};
 ghost use Rattle.rr_model.specs.Answers.{Answers};
-ghost use Rattle.rr_model.specs.Moment.{is_same_kind};
 ghost use Rattle.rr_model.specs.Moment.Years.{IsInYears};
 ghost use Rattle.rr_model.specs.Text.Passes.{nothing_beside, put_date, put_rule, date_beside};
 ghost use Rattle.rr_ical.specs.Steps.{Becomes};
@@ -10,7 +9,7 @@ ghost use Rattle.rr_ical.specs.Kept.{value_in, values_in};
 use crate::beside::moment_beside;
 use crate::kept::{LineValue, LineValues};
 use crate::language::RuleLanguage;
-use rr_model::{Dates, Fault, Kind, NoMemory, Refusal, Stamp};
+use rr_model::{Dates, Fault, NoMemory, Refusal, Stamp};
 use std::alloc::Global;
 use std::marker::Model;
 
@@ -49,23 +48,13 @@ pub struct Setting {
     pub start: Stamp,
 }
 
-/// Whether both are dates or both are moments.
-pub(crate) fn is_same_kind(kind: Kind, other: Kind) -> bool
-    ensures { result ≡ is_same_kind kind other }
-{
-    match (kind, other) {
-        (Kind::Days, Kind::Days) | (Kind::Moments, Kind::Moments) => true,
-        _ => false,
-    }
-}
-
 /// A date value beside the start.
 ///
 /// `MixedKinds` comes for another kind than the start's; then what `end_beside` refuses.
 pub fn date_beside(setting: Setting, line: u64, stamp: Stamp) -> Result<i64, Refusal>
     ensures { result ≡ date_beside setting.offset setting.start line stamp }
 {
-    if is_same_kind(setting.start.kind, stamp.kind) {
+    if setting.start.kind.is_same(stamp.kind) {
         moment_beside(setting.offset, setting.start, line, stamp)
     } else {
         Err(Refusal::MixedKinds(line))

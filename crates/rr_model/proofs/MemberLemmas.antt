@@ -18,6 +18,8 @@ same_kind_is Moments Moments = (λ h. refl, λ e. refl)
 same_kind_is Days Moments = (λ h. absurd (false≢true h), λ e. absurd (cc))
 same_kind_is Moments Days = (λ h. absurd (false≢true h), λ e. absurd (cc))
 
+-- ---- ends, as tests
+
 both_true : (a b : Bool) → IsTrue a → IsTrue b → IsTrue (a && b)
 both_true true true h l = refl
 both_true true false h l = absurd (false≢true l)
@@ -26,7 +28,7 @@ both_true false b h l = absurd (false≢true h)
 at_most : (n m : ℕ) → IsTrue (nat_le n m) ↔ (n ≤ m)
 at_most n m = (λ h. grind (arith, nat_tests, h), λ h. grind (arith, nat_tests, h))
 
-not_after : (t u : ℤ) → IsTrue (int_le t u) ↔ (t ≤ℤ u)
+pub not_after : (t u : ℤ) → IsTrue (int_le t u) ↔ (t ≤ℤ u)
 not_after t u = (λ h. grind (arith, ints, h), λ h. grind (arith, ints, h))
 
 until_is : (other : Kind) (at : ℤ) (kind : Kind) (t : ℤ) → IsTrue (is_until other at kind t) ↔ ((other ≡ kind) × (t ≤ℤ at))
@@ -35,7 +37,7 @@ until_is other at kind t = (
   λ h. both_true (is_same_kind other kind) (int_le t at) ((same_kind_is other kind).1 h.0) ((not_after t at).1 h.1),
 )
 
-within_end_is : (end : End) (kind : Kind) (t : ℤ) (number : ℕ) → IsTrue (is_within_end end kind t number) ↔ IsWithinEnd end kind t number
+pub within_end_is : (end : End) (kind : Kind) (t : ℤ) (number : ℕ) → IsTrue (is_within_end end kind t number) ↔ IsWithinEnd end kind t number
 within_end_is Never kind t number = (λ h. tt, λ h. refl)
 within_end_is (Until other at) kind t number = until_is other at kind t
 within_end_is (Count count) kind t number = at_most number count

@@ -38,7 +38,7 @@ day_number y m k = (first_day_of_year y +ℤ pos (days_of_months y (m - 1))) +�
 abbrev pub IsDate : ℤ → ℕ → ℕ → Type 0
 IsDate y m k = (1 ≤ m) × (m ≤ 12) × (1 ≤ k) × (k ≤ days_in_month y m)
 
--- the same as a test
+-- whether the year has this month, and the month this day
 abbrev pub is_date : ℤ → ℕ → ℕ → Bool
 is_date y m k = nat_le 1 m && nat_le m 12 && nat_le 1 k && nat_le k (days_in_month y m)
 

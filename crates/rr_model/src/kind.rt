@@ -1,4 +1,6 @@
 // Dates or moments.
+ghost use Rattle.std.specs.Prelude.{◌≡◌};
+ghost use Rattle.rr_model.specs.Moment.{is_same_kind};
 
 /// What an occurrence is: a date, or a moment of local time (RFC 5545, sections 3.3.4 and 3.3.5).
 ///
@@ -10,4 +12,16 @@ pub enum Kind {
     Days,
     /// Moments of local time.
     Moments,
+}
+
+impl Kind {
+    /// Whether both are dates or both are moments.
+    pub fn is_same(self, other: Kind) -> bool
+        ensures { result ≡ is_same_kind self other }
+    {
+        match (self, other) {
+            (Kind::Days, Kind::Days) | (Kind::Moments, Kind::Moments) => true,
+            _ => false,
+        }
+    }
 }

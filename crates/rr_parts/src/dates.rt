@@ -5,8 +5,8 @@ ghost use Rattle.rr_model.specs.Rule.Filled.{filled};
 ghost use Rattle.rr_model.specs.declared.kind.Kind.TheVariants.{Days};
 
 use crate::filled::{wants_day, wants_month, wants_month_day};
-use crate::numbers::{allows_filled, allows_place, allows_place_filled};
-use crate::places::lists_day;
+use crate::numbers::{allows_filled, allows_place_filled, allows_signed};
+use crate::ordinals::lists_day;
 use rr_cal::{Day, week_of};
 use rr_model::{Freq, Rule};
 
@@ -36,7 +36,7 @@ fn by_week_no_holds(rule: &Rule, day: &Day) -> bool
         return true;
     }
     let week = week_of(day.number, rule.week_start);
-    allows_place(
+    allows_signed(
         &rule.by_week_no,
         u16::from(week.number),
         u16::from(week.last),
@@ -47,7 +47,7 @@ fn by_week_no_holds(rule: &Rule, day: &Day) -> bool
 fn by_year_day_holds(rule: &Rule, day: &Day) -> bool
     ensures { result ≡ by_year_day_holds rule.now day.now.number }
 {
-    allows_place(&rule.by_year_day, day.day_of_year, day.days_in_year)
+    allows_signed(&rule.by_year_day, day.day_of_year, day.days_in_year)
 }
 
 // Whether BYMONTHDAY lists the day's number in its month.

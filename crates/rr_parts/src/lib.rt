@@ -6,7 +6,7 @@ mod dates;
 mod filled;
 mod moment;
 mod numbers;
-mod places;
+mod ordinals;
 mod times;
 mod units;
 
@@ -14,6 +14,6 @@ pub use dates::date_parts_hold;
 pub use filled::{wants_hour, wants_minute, wants_month, wants_month_day, wants_second};
 pub use moment::Moment;
 pub use numbers::{allows, allows_filled, lists_number};
-pub use places::is_in_place;
+pub use ordinals::is_ordinal_of_day;
 pub use times::{Time, time_of, time_parts_hold};
 pub use units::{fits, interval_holds, seconds_of_unit, unit_number};

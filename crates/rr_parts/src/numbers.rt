@@ -1,6 +1,6 @@
 // The numbers of a BY part, and what they say of a number.
 ghost use Rattle.std.specs.Prelude.{◌≡◌, ◌≤◌, ◌-ℤ◌, pos};
-ghost use Rattle.rr_model.specs.Rule.Candidate.{allows, allows_place, lists};
+ghost use Rattle.rr_model.specs.Rule.Candidate.{allows, allows_signed, lists};
 ghost use Rattle.rr_model.specs.Rule.Filled.{filled_part};
 
 use rr_model::Numbers;
@@ -27,10 +27,10 @@ pub fn allows(numbers: &Numbers, n: i16) -> bool
 }
 
 // Whether the part is absent, or lists the k-th of `many`, from the front or from the back.
-pub(crate) fn allows_place(numbers: &Numbers, k: u16, many: u16) -> bool
+pub(crate) fn allows_signed(numbers: &Numbers, k: u16, many: u16) -> bool
     requires number { k ≤ 366 }
     requires most { many ≤ 366 }
-    ensures { result ≡ allows_place numbers.now (pos k) (pos many) }
+    ensures { result ≡ allows_signed numbers.now (pos k) (pos many) }
 {
     numbers.is_empty() || lists(numbers, k as i16) || lists(numbers, number_from_back(k, many))
 }
@@ -55,7 +55,7 @@ pub fn allows_filled(numbers: &Numbers, is_wanted: bool, own: u8, n: u8) -> bool
     }
 }
 
-// As `allows_place`, where the part, absent and wanted, is filled with the start's own number.
+// As `allows_signed`, where the part, absent and wanted, is filled with the start's own number.
 pub(crate) fn allows_place_filled(
     numbers: &Numbers,
     is_wanted: bool,
@@ -63,12 +63,12 @@ pub(crate) fn allows_place_filled(
     k: u8,
     many: u8,
 ) -> bool
-    ensures { result ≡ allows_place (filled_part is_wanted numbers.now (pos own))
+    ensures { result ≡ allows_signed (filled_part is_wanted numbers.now (pos own))
         (pos k) (pos many) }
 {
     if is_wanted && numbers.is_empty() {
         own == k || i16::from(own) == number_from_back(u16::from(k), u16::from(many))
     } else {
-        allows_place(numbers, u16::from(k), u16::from(many))
+        allows_signed(numbers, u16::from(k), u16::from(many))
     }
 }

@@ -1,6 +1,6 @@
 -- The occurrences of days in a row, as rising numbers.
-use Rattle.std.proofs.Common.{◌≡◌, ◌⊎◌, ◌↔◌, inl, inr, ℕ, zero, suc, ◌+◌, ◌<◌, ◌≤◌, List, [], ◌∷◌, ◌++◌, append_assoc, length, take, ℤ, pos, ◌+ℤ◌}
-use Rattle.std.proofs.Common.{◌*ℤ◌, ◌≤ℤ◌, ◌<ℤ◌, refl, sym, ap, subst, ◌∙◌, arith}
+use Rattle.std.proofs.Common.{◌≡◌, ◌⊎◌, ◌↔◌, inl, inr, ℕ, zero, suc, ◌+◌, ◌<◌, ◌≤◌, List, [], ◌∷◌, ◌++◌, append_assoc, ℤ, pos, ◌+ℤ◌}
+use Rattle.std.proofs.Common.{◌≤ℤ◌, ◌<ℤ◌, refl, sym, ap, subst, ◌∙◌, arith}
 use Rattle.std.specs.Prelude.{map, nat_lt, int_lt, IsTrue}
 use Rattle.std.specs.List.{Contains}
 use Rattle.std.proofs.lemmas.Bool.Decides.{nat_tests}
@@ -16,10 +16,9 @@ use Rattle.rr_model.specs.declared.sketch.Sketch.{Sketch}
 use Rattle.rr_model.proofs.RisingSetLemmas.{Contains-cons_cases, Contains-head, Contains-none, Contains-tail, Rises-tail, below_rest, set_empty}
 use Rattle.rr_model.proofs.RisingSetLemmas.{set_push, set_same}
 use Rattle.rr_model.proofs.WholeLemmas.{floor_mod_below, floor_whole}
-use Rattle.rr_word.proofs.OneLeastLemmas.{parts_of_moment}
+use Rattle.rr_model.proofs.MomentLemmas.{parts_of_moment}
 use Rattle.rr_word.proofs.SketchLemmas.{rising_on, second_fits}
 use Rattle.rr_rank.specs.Counts.{numbers_at, numbers_on}
-use Rattle.rr_rank.proofs.CountLemmas.{numbers-suc}
 
 -- ---- lists, one after the other
 

@@ -1,22 +1,21 @@
 -- How many occurrences are not after a moment, and which is the n-th.
-use Rattle.std.proofs.Common.{◌≡◌, ◌⊎◌, ◌↔◌, inl, inr, ℕ, zero, suc, ◌+◌, ◌-◌, ◌*◌, ◌<◌, ◌≤◌, List, [], ◌++◌, get_or, length, length-append, take, ℤ}
-use Rattle.std.proofs.Common.{pos, ◌+ℤ◌, ◌-ℤ◌, ◌≤ℤ◌, ◌<ℤ◌, nat_abs, refl, sym, ap, subst, ◌∙◌, arith}
-use Rattle.std.specs.Prelude.{int_lt, nat_lt, map, ◌^◌}
+use Rattle.std.proofs.Common.{◌≡◌, ◌⊎◌, inl, inr, ℕ, suc, ◌+◌, ◌-◌, ◌*◌, ◌<◌, ◌≤◌, List, [], ◌++◌, get_or, length, length-append, take, ℤ}
+use Rattle.std.proofs.Common.{pos, ◌+ℤ◌, ◌≤ℤ◌, ◌<ℤ◌, refl, sym, ap, subst, ◌∙◌, arith}
+use Rattle.std.specs.Prelude.{int_lt}
 use Rattle.std.specs.List.{Contains}
 use Rattle.std.proofs.lemmas.Bool.{cases_lt}
 use Rattle.std.proofs.lemmas.Int.{ints, by_lt_z}
 use Rattle.std.proofs.lemmas.List.Elements.{Contains-get_or}
 use Rattle.rr_model.specs.Moment.{day_part, second_part, moment_at}
-use Rattle.rr_model.specs.Rising.{Rises}
 use Rattle.rr_model.specs.Sets.Sketch.{IsValidSketch, StandsIn, times_on}
 use Rattle.rr_model.specs.declared.kind.Kind.{Kind}
 use Rattle.rr_model.specs.declared.kind.Kind.TheVariants.{Days, Moments}
 use Rattle.rr_model.specs.declared.sketch.Sketch.{Sketch}
 use Rattle.rr_model.proofs.RisingSetLemmas.{Contains-none, set_empty, set_same}
-use Rattle.rr_word.proofs.OneLeastLemmas.{parts_of_moment}
+use Rattle.rr_model.proofs.MomentLemmas.{parts_of_moment}
 use Rattle.rr_word.proofs.SketchLemmas.{rising_on, second_fits}
 use Rattle.rr_rank.specs.Counts.{IsBegin, count_on, days_before, numbers_at, numbers_on}
-use Rattle.rr_rank.specs.Rank.{HasExactly, IsNth, IsNotAfter, IsRank, up_to}
+use Rattle.rr_rank.specs.Rank.{IsNth, IsRank, up_to}
 use Rattle.rr_times.specs.Split.{SplitsAt}
 use Rattle.rr_rank.specs.Turns.{IsTurnedCount, IsTurnedDay, seconds_up_to}
 use Rattle.rr_rank.proofs.CountLemmas.{count-at, count-le, count-suc}

@@ -12,7 +12,7 @@ use Rattle.rr_model.specs.Text.Moments.{basic}
 use Rattle.rr_model.specs.Text.Passes.{Stated, Beside, has_slash, date_value, judged_date, judged_line, judged_rule, turned, moment_beside, date_beside, with_date, with_rule}
 use Rattle.rr_model.specs.Text.Passes.{with_line}
 use Rattle.rr_model.specs.Text.RuleValues.{◌>>=◌, pieces, freq_named, weekday_named, is_number, number_up_to, placed, unsigned, signed, seconds}
-use Rattle.rr_model.specs.Text.RuleValues.{has_number_form, magnitude, number_within, numbers_of, place_text, weekday_text, is_day_item, place_within}
+use Rattle.rr_model.specs.Text.RuleValues.{has_number_form, magnitude, number_within, numbers_of, ordinal_text, weekday_text, is_day_item, ordinal_within}
 use Rattle.rr_model.specs.Text.RuleValues.{day_item_within, day_items_of}
 use Rattle.rr_model.specs.Text.Rules.{split_once, part_named, is_extension, name_of, is_present, with_part_value, with_part, with_parts, no_parts}
 use Rattle.rr_model.specs.Text.Rules.{without_last_semicolon, parts_of, rule_of, rule_parts, has_time, line_value}
@@ -89,15 +89,15 @@ module _ (n m : ℕ) where
       gives-if (list_all (has_number_form bounds) (pieces 44 text)) _ _ _ _
       (placed-gives int_lt (number_within n bounds) (number_within m bounds) (number_within-gives bounds) [] (pieces 44 text)) (gives-err _ _)
 
-  place_within-gives : (text : List ℕ) → Gives (place_within n text) (place_within m text)
-  place_within-gives [] = gives-same _
-  place_within-gives (b ∷ bs) = number_within-gives (signed 53) (b ∷ bs)
+  ordinal_within-gives : (text : List ℕ) → Gives (ordinal_within n text) (ordinal_within m text)
+  ordinal_within-gives [] = gives-same _
+  ordinal_within-gives (b ∷ bs) = number_within-gives (signed 53) (b ∷ bs)
 
   day_item_within-gives : (text : List ℕ) → Gives (day_item_within n text) (day_item_within m text)
   unfolding day_item_within
   day_item_within-gives text =
       gives-then _ _ _ _ (gives-ok_or (weekday_named (weekday_text text)) _ _)
-      (λ weekday. gives-then _ _ _ _ (place_within-gives (place_text text)) (λ place. gives-same _))
+      (λ weekday. gives-then _ _ _ _ (ordinal_within-gives (ordinal_text text)) (λ place. gives-same _))
 
   day_items_of-gives : (text : List ℕ) → Gives (day_items_of n text) (day_items_of m text)
   unfolding day_items_of

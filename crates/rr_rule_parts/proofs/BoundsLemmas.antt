@@ -9,7 +9,7 @@ use Rattle.std.proofs.lemmas.Int.{ints}
 use Rattle.std.proofs.lemmas.List.Elements.{All-nil}
 use Rattle.rr_model.specs.Rising.{with_value, day_item_lt}
 use Rattle.rr_model.specs.Text.RuleValues.{is_number, weekday_named, placed, pieces, list_of, signed, has_number_form, magnitude}
-use Rattle.rr_model.specs.Text.RuleValues.{number_within, numbers_of, is_day_item, place_text, weekday_text, place_within, day_item_within, day_items_of}
+use Rattle.rr_model.specs.Text.RuleValues.{number_within, numbers_of, is_day_item, ordinal_text, weekday_text, ordinal_within, day_item_within, day_items_of}
 use Rattle.rr_model.specs.Rule.Validity.{LieFrom, CountUpTo, IsDayItem}
 use Rattle.rr_model.specs.declared.refusal.Refusal.{Refusal}
 use Rattle.rr_model.specs.declared.refusal.Refusal.TheVariants.{BadRule}
@@ -91,19 +91,19 @@ numbers_of-lie line low high has_leap text =
 
 -- ---- days
 
-place_within-counts : (line : ℕ) (text : List ℕ) (place : ℤ) → place_within line text ≡ Ok place → nat_abs place ≤ 53
-place_within-counts line [] place h =
+ordinal_within-counts : (line : ℕ) (text : List ℕ) (place : ℤ) → ordinal_within line text ≡ Ok place → nat_abs place ≤ 53
+ordinal_within-counts line [] place h =
     let e : pos 0 ≡ place = cc in
     subst (λ z. nat_abs z ≤ 53) e (omega arith)
-place_within-counts line (b ∷ bs) place h = (number_within-counts line 53 (b ∷ bs) place h).1
+ordinal_within-counts line (b ∷ bs) place h = (number_within-counts line 53 (b ∷ bs) place h).1
 
 day_item_within-means : (line : ℕ) (text : List ℕ) (item : DayItem) → day_item_within line text ≡ Ok item → IsDayItem item
 unfolding day_item_within
 day_item_within-means line text item h =
     let day = and_then_ok (ok_or (weekday_named (weekday_text text)) (BadRule line)) _ item h in
     let weekday = weekday_named-below (weekday_text text) day.0 (ok_or_ok _ _ day.0 day.1) in
-    step_keeps IsDayItem (place_within line (place_text text)) (λ place. record { place = place; weekday = day.0 }) item
-    (λ place e. (place_within-counts line (place_text text) place e, weekday)) day.2
+    step_keeps IsDayItem (ordinal_within line (ordinal_text text)) (λ place. record { place = place; weekday = day.0 }) item
+    (λ place e. (ordinal_within-counts line (ordinal_text text) place e, weekday)) day.2
 
 pub day_items_of-means : (line : ℕ) (text : List ℕ) (items : List DayItem) → day_items_of line text ≡ Ok items → All IsDayItem items
 unfolding day_items_of

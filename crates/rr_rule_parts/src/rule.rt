@@ -1,12 +1,12 @@
 // A rule of its parts.
 ghost use Rattle.std.specs.Prelude.{◌≡◌};
-ghost use Rattle.rr_model.specs.Rule.Validity.{has_place, has_part, takes_places, takes_week_numbers, takes_month_days, takes_year_days, is_allowed, takes_start};
+ghost use Rattle.rr_model.specs.Rule.Validity.{has_ordinals, has_part, takes_ordinals, takes_week_numbers, takes_month_days, takes_year_days, is_allowed, takes_start};
 ghost use Rattle.rr_model.specs.Text.Rules.{end_of, rule_with, rule_of};
 
 use rr_model::{DayItems, End, Freq, Kind, Refusal, Rule, RuleParts, Stamp};
 
-fn has_place(items: &DayItems) -> bool
-    ensures { result ≡ has_place items.now }
+fn has_ordinals(items: &DayItems) -> bool
+    ensures { result ≡ has_ordinals items.now }
 {
     items.as_slice().iter().any(|item| item.place != 0)
 }
@@ -17,8 +17,8 @@ fn takes_year_days(freq: Freq) -> bool
     !matches!(freq, Freq::Daily | Freq::Weekly | Freq::Monthly)
 }
 
-fn takes_places(freq: Freq, no_weeks: bool) -> bool
-    ensures { result ≡ takes_places freq no_weeks }
+fn takes_ordinals(freq: Freq, no_weeks: bool) -> bool
+    ensures { result ≡ takes_ordinals freq no_weeks }
 {
     match freq {
         Freq::Monthly => true,
@@ -57,7 +57,7 @@ fn is_allowed(rule: &Rule) -> bool
     (takes_year_days(rule.freq) || rule.by_year_day.is_empty())
         && (takes_month_days(rule.freq) || rule.by_month_day.is_empty())
         && (takes_week_numbers(rule.freq) || rule.by_week_no.is_empty())
-        && (takes_places(rule.freq, rule.by_week_no.is_empty()) || !has_place(&rule.by_day))
+        && (takes_ordinals(rule.freq, rule.by_week_no.is_empty()) || !has_ordinals(&rule.by_day))
         && (has_part(rule) || rule.by_set_pos.is_empty())
 }
 

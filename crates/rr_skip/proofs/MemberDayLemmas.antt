@@ -1,53 +1,25 @@
 -- The members of a rule with SKIP by their days: each has the start's second.
 use Rattle.std.proofs.Common.{◌≡◌, ◌↔◌, ℕ, zero, suc, ◌+◌, ◌*◌, ◌≤◌, Bool, ◌==◌, true, false, ◌&&◌, ℤ, pos, nat_abs, ◌+ℤ◌, ◌-ℤ◌, ◌*ℤ◌, ◌≤ℤ◌}
 use Rattle.std.proofs.Common.{refl, sym, ap, subst, ◌∙◌, arith, eq-eqb}
-use Rattle.std.specs.Prelude.{IsTrue, int_le, nat_le}
+use Rattle.std.specs.Prelude.{IsTrue, int_le}
 use Rattle.std.proofs.lemmas.Int.{ints}
 use Rattle.std.proofs.lemmas.Bool.{and_from, and_parts, and_right}
 use Rattle.std.proofs.lemmas.Bool.Decides.{nat_tests}
 use Rattle.std.proofs.Math.Bool.{and-true}
 use Rattle.rr_model.specs.Whole.{floor_div, floor_mod}
 use Rattle.rr_model.specs.Whole.Count.{count_from}
-use Rattle.rr_model.specs.Moment.{is_same_kind, day_part, second_part, moment_at}
-use Rattle.rr_model.specs.Rule.Member.{is_until, is_within_end, IsWithinEnd}
+use Rattle.rr_model.specs.Moment.{day_part, second_part, moment_at}
+use Rattle.rr_model.specs.Rule.Member.{is_within_end, IsWithinEnd}
 use Rattle.rr_model.specs.declared.kind.Kind.{Kind}
 use Rattle.rr_model.specs.declared.kind.Kind.TheVariants.{Days, Moments}
-use Rattle.rr_model.specs.declared.rule.End.{End}
-use Rattle.rr_model.specs.declared.rule.End.TheVariants.{Never, Until, Count, Both}
 use Rattle.rr_model.proofs.CountLemmas.{one, count_from-zero, count_from-suc, count_from-split, count_from-empty, count_from-same}
-use Rattle.rr_model.proofs.MemberLemmas.{same_kind_is}
+use Rattle.rr_model.proofs.MemberLemmas.{not_after, within_end_is}
 use Rattle.rr_model.proofs.WholeLemmas.{floor_only, floor_whole, floor_mod_below}
 use Rattle.rr_model.proofs.DaysAndTimesLemmas.{moment_is}
 use Rattle.rr_skip.specs.Folding.{chosen_days, days_to, is_member_day}
 use Rattle.rr_skip.specs.Members.{IsSkipMember, skip_members_to}
 use Rattle.rr_skip.specs.Months.{is_skip_chosen}
 use Rattle.rr_skip.specs.declared.series.SkipRule.{SkipRule}
-
--- ---- ends, as tests
-
-at_most : (n m : ℕ) → IsTrue (nat_le n m) ↔ (n ≤ m)
-at_most n m = (λ h. grind (arith, nat_tests, h), λ h. grind (arith, nat_tests, h))
-
-pub not_after : (t u : ℤ) → IsTrue (int_le t u) ↔ (t ≤ℤ u)
-not_after t u = (λ h. grind (arith, ints, h), λ h. grind (arith, ints, h))
-
-until_is : (other : Kind) (at : ℤ) (kind : Kind) (t : ℤ) → IsTrue (is_until other at kind t) ↔ ((other ≡ kind) × (t ≤ℤ at))
-until_is other at kind t = (
-  λ h. (let p = and_parts (is_same_kind other kind) (int_le t at) h in ((same_kind_is other kind).0 p.0, (not_after t at).0 p.1)),
-  λ h. and_from (is_same_kind other kind) (int_le t at) ((same_kind_is other kind).1 h.0) ((not_after t at).1 h.1),
-)
-
-pub within_end_is : (end : End) (kind : Kind) (t : ℤ) (number : ℕ) → IsTrue (is_within_end end kind t number) ↔ IsWithinEnd end kind t number
-within_end_is Never kind t number = (λ h. tt, λ h. refl)
-within_end_is (Until other at) kind t number = until_is other at kind t
-within_end_is (Count count) kind t number = at_most number count
-within_end_is (Both other at count) kind t number = (
-  λ h. (
-      let p = and_parts (is_until other at kind t) (nat_le number count) h in
-      let u = (until_is other at kind t).0 p.0 in
-      (u.0, u.1, (at_most number count).0 p.1)),
-  λ h. and_from (is_until other at kind t) (nat_le number count) ((until_is other at kind t).1 (h.0, h.1)) ((at_most number count).1 h.2),
-)
 
 -- ---- days and moments
 

@@ -15,7 +15,7 @@ use Rattle.rr_model.specs.Calendar.{year_of, month_of, day_of_month, days_in_mon
 use Rattle.rr_model.specs.Moment.{day_part, second_part}
 use Rattle.rr_model.specs.Moment.Units.{month_number, first_day_of_month, unit_number}
 use Rattle.rr_model.specs.Rule.Candidate.{by_month_holds, by_week_no_holds, by_year_day_holds, by_month_day_holds, by_day_holds}
-use Rattle.rr_model.specs.Rule.Candidate.{lists, allows_place, interval_holds, time_parts_hold, is_candidate}
+use Rattle.rr_model.specs.Rule.Candidate.{lists, allows_signed, interval_holds, time_parts_hold, is_candidate}
 use Rattle.rr_model.specs.Rule.Chosen.{by_set_pos_holds, is_chosen}
 use Rattle.rr_model.specs.Rule.Filled.{filled_part, wants_hour, wants_minute, wants_second, wants_day, wants_month_day, day_item_of, filled}
 use Rattle.rr_model.specs.Rule.Member.{IsWithinEnd, members_to}
@@ -117,7 +117,7 @@ module _ (days : List ℤ) (front : All (λ k. pos 1 ≤ℤ k) days) where
   none_from_back : (z : ℤ) → z ≤ℤ pos 0 → lists days z ≡ false
   none_from_back z low = list_any_none (λ x. int_eq x z) days (λ i d l. (let f = front i d l in grind (arith, ints)))
 
-  place_allowed : (k many : ℕ) → is_absent days ≡ false → k ≤ many → allows_place days (pos k) (pos many) ≡ lists days (pos k)
+  place_allowed : (k many : ℕ) → is_absent days ≡ false → k ≤ many → allows_signed days (pos k) (pos many) ≡ lists days (pos k)
   place_allowed k many some low =
       let none = none_from_back ((pos k -ℤ pos many) -ℤ pos 1) (omega (arith, ints)) in
       rw (some, none) (or-false (lists days (pos k)))

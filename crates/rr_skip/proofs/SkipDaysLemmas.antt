@@ -26,7 +26,8 @@ use Rattle.rr_check.proofs.SeriesCycleLemmas.{rule_cycle_some}
 use Rattle.rr_skip.specs.Folding.{chosen_days, days_to, is_member_day, AreSkipDays, IsDaysUntil, IsUpToWalk}
 use Rattle.rr_skip.specs.Members.{HasCount, SkipsTooFar}
 use Rattle.rr_skip.specs.Validity.{FitsSkipping, takes_skip}
-use Rattle.rr_skip.specs.Walks.{one_if, IsWalked}
+use Rattle.rr_model.specs.Whole.Count.{one_if}
+use Rattle.rr_skip.specs.Walks.{IsWalked}
 use Rattle.rr_skip.specs.declared.fold.SkipDays.{SkipDays}
 use Rattle.rr_skip.specs.declared.series.SkipRule.{SkipRule}
 use Rattle.rr_skip.specs.declared.walk.Walk.{Walk}

@@ -21,7 +21,7 @@ use Rattle.rr_days.specs.Sketched.{IsWholeFold}
 use Rattle.rr_model.proofs.DaysAndTimesLemmas.{moment_is}
 use Rattle.rr_skip.specs.Folding.{is_occupied, sets_of, skip_sketch, AreSkipDays, IsFolding}
 use Rattle.rr_skip.specs.Members.{IsGivenBy, OccursSkipping}
-use Rattle.rr_skip.specs.Walks.{one_if}
+use Rattle.rr_model.specs.Whole.Count.{one_if}
 use Rattle.rr_skip.specs.declared.fold.SkipDays.{SkipDays}
 use Rattle.rr_skip.specs.declared.series.SkipRule.{SkipRule}
 use Rattle.rr_skip.specs.declared.series.SkipSeries.{SkipSeries}

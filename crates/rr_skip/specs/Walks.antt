@@ -1,6 +1,6 @@
 -- Walks over days that tell of each whether it is chosen.
-use Rattle.std.specs.Prelude.{◌≡◌, ◌⊎◌, ℕ, ◌+◌, ◌<◌, ◌≤◌, Bool, if◌then◌else◌, List, [], ◌∷◌, ◌++◌, length, get_or, ℤ, pos, ◌+ℤ◌}
-use Rattle.rr_model.specs.Whole.Count.{count_from}
+use Rattle.std.specs.Prelude.{◌≡◌, ◌⊎◌, ℕ, ◌+◌, ◌<◌, ◌≤◌, Bool, List, [], ◌∷◌, ◌++◌, length, get_or, ℤ, pos, ◌+ℤ◌}
+use Rattle.rr_model.specs.Whole.Count.{count_from, one_if}
 use Rattle.rr_model.specs.Moment.Units.{month_number, first_day_of_month}
 use Rattle.rr_skip.specs.Months.{is_due, is_day_chosen}
 use Rattle.rr_skip.specs.declared.schedule.Schedule.{Schedule}
@@ -16,10 +16,6 @@ pub record IsTurn (schedule : Schedule) (turn : Turn) : Type 0 where
   pub after : turn.month.number ≡ turn.before.number +ℤ pos 1
   pub was_due : turn.was_due ≡ is_due schedule turn.before.number
   pub is_due : turn.is_due ≡ is_due schedule turn.month.number
-
--- 1 for true
-abbrev pub one_if : Bool → ℕ
-one_if b = if b then 1 else 0
 
 -- each number is 1 where its day passes the test, and 0 where it does not
 abbrev pub AreTested : (ℤ → Bool) → ℤ → List ℕ → Type 0

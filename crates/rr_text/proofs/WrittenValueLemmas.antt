@@ -17,7 +17,7 @@ use Rattle.rr_model.specs.Rising.{day_item_lt}
 use Rattle.rr_model.specs.Rule.Validity.{IsDayItem}
 use Rattle.rr_model.specs.Text.Digits.{digits_value}
 use Rattle.rr_model.specs.Text.RuleValues.{freq_named, weekday_named, is_number, is_signed_number, number_up_to, has_number_form, magnitude, number_within}
-use Rattle.rr_model.specs.Text.RuleValues.{signed, place_text, is_day_item, place_within, day_item_within, outside, weekday_text as read_weekday_text}
+use Rattle.rr_model.specs.Text.RuleValues.{signed, ordinal_text, is_day_item, ordinal_within, day_item_within, outside, weekday_text as read_weekday_text}
 use Rattle.rr_model.specs.Text.Written.{freq_text, weekday_text, day_item_text}
 use Rattle.rr_model.specs.declared.refusal.Refusal.TheVariants.{BadRule}
 use Rattle.rr_model.specs.declared.rule.DayItem.{DayItem}
@@ -166,10 +166,10 @@ place_written place = if int_eq place (pos 0) then [] else signed_decimal place
 -- how a place is read back: none, or a number
 record IsPlaceText (place : ℤ) (text : List ℕ) : Type 0 where
   form : ((length text == 0) || is_signed_number text) ≡ true
-  value : (line : ℕ) → place_within line text ≡ Ok place
+  value : (line : ℕ) → ordinal_within line text ≡ Ok place
   words : list_all is_word_byte text ≡ true
 
-some_place : (line : ℕ) (text : List ℕ) → is_signed_number text ≡ true → place_within line text ≡ number_within line (signed 53) text
+some_place : (line : ℕ) (text : List ℕ) → is_signed_number text ≡ true → ordinal_within line text ≡ number_within line (signed 53) text
 some_place line [] h = absurd (cc)
 some_place line (b ∷ bs) h = refl
 
@@ -193,7 +193,7 @@ place-written place h = by (int_eq place (pos 0)) refl
 
 -- a place before a weekday
 module _ (place : ℤ) (d : ℕ) (text : List ℕ) (p : IsPlaceText place text) (w : IsWeekdayText d) where
-  front : place_text (text ++ weekday_text d) ≡ text
+  front : ordinal_text (text ++ weekday_text d) ≡ text
   front =
       let all : length (text ++ weekday_text d) - 2 ≡ length text = omega (arith, length-append text (weekday_text d), w.two) in
       ap (λ n. take n (text ++ weekday_text d)) all ∙ take_at text (weekday_text d) (length text) refl
@@ -205,7 +205,7 @@ module _ (place : ℤ) (d : ℕ) (text : List ℕ) (p : IsPlaceText place text) 
 
   is_item : is_day_item (text ++ weekday_text d) ≡ true
   is_item = and_from (is_some (weekday_named (read_weekday_text (text ++ weekday_text d))))
-      ((length (place_text (text ++ weekday_text d)) == 0) || is_signed_number (place_text (text ++ weekday_text d)))
+      ((length (ordinal_text (text ++ weekday_text d)) == 0) || is_signed_number (ordinal_text (text ++ weekday_text d)))
       (ap (λ (t : List ℕ). is_some (weekday_named t)) behind ∙ ap is_some w.named)
       (ap (λ (t : List ℕ). (length t == 0) || is_signed_number t) front ∙ p.form)
 

@@ -1,13 +1,11 @@
 -- The events of a key in one calendar, as days (RFC 5545, section 3.8.5).
 use Rattle.std.specs.Prelude.{◌≡◌, ℕ, if◌then◌else◌, ℤ, List, [], ◌∷◌, ◌++◌, Option, None, Some, Result, Ok, Err, ⊤}
 use Rattle.rr_fold.specs.Judged.{all_limits}
-use Rattle.rr_model.specs.Moment.{Occurrences, day_part}
-use Rattle.rr_model.specs.Moment.Years.{IsFromYearOne}
+use Rattle.rr_model.specs.Moment.Years.{OccurFromYearOne}
 use Rattle.rr_model.specs.Series.FirstRefusal.{IsFirstRefusal}
 use Rattle.rr_model.specs.Series.Occurrences.{Occurs}
 use Rattle.rr_model.specs.Series.Validity.{IsValidSeries}
 use Rattle.rr_model.specs.Sets.Sketch.{StandsFor}
-use Rattle.rr_model.specs.declared.kind.Kind.{Kind}
 use Rattle.rr_model.specs.declared.refusal.Fault.{Fault}
 use Rattle.rr_model.specs.declared.refusal.Fault.TheVariants as fault
 use Rattle.rr_model.specs.declared.rule.Series.{Series}
@@ -21,10 +19,6 @@ use Rattle.rr_trip.specs.declared.gather.KeyRefusal.{KeyRefusal}
 use Rattle.rr_trip.specs.declared.gather.KeyRefusal.TheVariants as refusal
 
 -- ---- a series
-
--- each of these occurrences lies in the year 1 or later
-abbrev pub OccurFromYearOne : Occurrences → Type 0
-OccurFromYearOne P = (k : Kind) (t : ℤ) → P k t → IsFromYearOne (day_part k t)
 
 -- the series is refused by no limit, and the sketch stands for its occurrences
 pub record IsFoldOf (series : Series) (sketch : Sketch) : Type 0 where

@@ -1,6 +1,5 @@
 // Three months of two sequences of days as they are painted for a person.
 ghost use Rattle.std.specs.Prelude.{◌≡◌, ◌≤ℤ◌, ◌+ℤ◌, ◌-ℤ◌, ◌++◌, pos, IfOk, OnOk};
-ghost use Rattle.rr_model.specs.Moment.{is_same_kind};
 ghost use Rattle.rr_model.specs.Calendar.{IsDayWithin};
 ghost use Rattle.rr_trip.specs.Grid.{Grows, HasMonth, HasMonths, HasMonthsAfter, HasPicture, IsPainted, IsPictureOf, cell_text, cells_text, day_sign, first_of_month, month_after, month_length, sign_of};
 
@@ -15,12 +14,6 @@ const FARTHEST: i64 = MAX_DAY - 1_000;
 
 // How many times of a day are printed at most.
 const MOST_TIMES: usize = 8;
-
-fn is_same_kind(a: Kind, b: Kind) -> bool
-    ensures { result ≡ is_same_kind a b }
-{
-    a == b
-}
 
 // The sign of a day by its times in A and in B.
 fn sign_of(one_kind: bool, a: &[u32], b: &[u32]) -> u8
@@ -39,7 +32,7 @@ fn day_sign<A: DaySeq, B: DaySeq>(a: &A, b: &B, day: i64) -> u8
     requires { IsDayWithin 0 day }
     ensures { result ≡ day_sign (A.sketch a.now) (B.sketch b.now) day }
 {
-    sign_of(is_same_kind(a.kind(), b.kind()), a.at(day), b.at(day))
+    sign_of(a.kind().is_same(b.kind()), a.at(day), b.at(day))
 }
 
 // Puts the cell of a day; a Monday begins a row.

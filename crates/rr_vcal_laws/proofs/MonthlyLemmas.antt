@@ -6,7 +6,7 @@ use Rattle.std.specs.Ordering.{int_eq}
 use Rattle.std.proofs.lemmas.Int.{ints}
 use Rattle.std.proofs.lemmas.Bool.Decides.{nat_tests, Decides-int_eq}
 use Rattle.rr_model.specs.Calendar.{day_of_month, month_of, year_of, days_in_month, weekday_of}
-use Rattle.rr_model.specs.Rule.Candidate.{date_parts_hold, day_item_holds, is_in_place, lists}
+use Rattle.rr_model.specs.Rule.Candidate.{date_parts_hold, day_item_holds, is_ordinal_of_day, lists}
 use Rattle.rr_model.specs.Rule.Chosen.{is_chosen}
 use Rattle.rr_model.specs.Rule.Filled.{filled}
 use Rattle.rr_model.specs.Moment.{day_part}
@@ -150,8 +150,8 @@ place-holds : (start d : ℤ) (items : List Item) → AreItemsOf family.MP items
     → list_any (λ item. item_holds start item d) items ≡ list_any (λ item. holds_of (day_item_holds false d) (day_of_item item)) items
 place-holds start d [] h = refl
 place-holds start d (Place n k ∷ items) h =
-    ap (λ (b : Bool). ((k == weekday_of d) && (b || is_in_place n false d)) || list_any (λ item. item_holds start item d) items) (sym (not_zero n h.0.0))
-    ∙ ap (λ (b : Bool). ((k == weekday_of d) && (int_eq n (pos 0) || is_in_place n false d)) || b) (place-holds start d items h.1)
+    ap (λ (b : Bool). ((k == weekday_of d) && (b || is_ordinal_of_day n false d)) || list_any (λ item. item_holds start item d) items) (sym (not_zero n h.0.0))
+    ∙ ap (λ (b : Bool). ((k == weekday_of d) && (int_eq n (pos 0) || is_ordinal_of_day n false d)) || b) (place-holds start d items h.1)
 place-holds start d (Every ∷ items) h = absurd h.0
 place-holds start d (Weekday k ∷ items) h = absurd h.0
 place-holds start d (MonthDay n ∷ items) h = absurd h.0

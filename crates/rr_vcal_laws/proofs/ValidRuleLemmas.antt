@@ -9,7 +9,7 @@ use Rattle.std.proofs.lemmas.List.Elements.{recursion_from_All, All-cons, All-ni
 use Rattle.rr_model.specs.Calendar.{day_of_month, year_of, month_of}
 use Rattle.rr_model.specs.Moment.{day_part}
 use Rattle.rr_model.specs.Rising.{Rises, day_item_lt}
-use Rattle.rr_model.specs.Rule.Validity.{has_place, is_allowed, IsDayItem, IsValidRule, takes_start}
+use Rattle.rr_model.specs.Rule.Validity.{has_ordinals, is_allowed, IsDayItem, IsValidRule, takes_start}
 use Rattle.rr_model.specs.Vcal.Counterpart.{family_freq, with_option, values_of, day_of_item, month_of_item, month_day_of_item, year_day_of_item}
 use Rattle.rr_model.specs.Vcal.Counterpart.{month_days_of, rule_of_vrule}
 use Rattle.rr_model.specs.Vcal.Validity.{IsItemOf, IsValidVRule}
@@ -179,7 +179,7 @@ none_placed (Place n k ∷ items) h = absurd h.0
 none_placed (Month m ∷ items) h = absurd h.0
 none_placed (YearDay k ∷ items) h = absurd h.0
 
-no_place : (items : List Item) → AreItemsOf family.W items → has_place (values_of day_item_lt day_of_item [] items) ≡ false
+no_place : (items : List Item) → AreItemsOf family.W items → has_ordinals (values_of day_item_lt day_of_item [] items) ≡ false
 no_place items h = any-values_of day_item_lt is_placed (day_item-same is_placed) day_of_item [] items ∙ none_placed items h
 
 abbrev IsAllowedOf : FamilyKind → Type 0

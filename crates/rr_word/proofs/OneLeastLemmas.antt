@@ -5,22 +5,15 @@ use Rattle.std.specs.Prelude.{int_lt, Some}
 use Rattle.std.specs.List.{Contains}
 use Rattle.std.proofs.lemmas.Int.{ints, by_lt_z}
 use Rattle.std.proofs.Math.Nat.{mod-eq_of_lt}
-use Rattle.rr_model.specs.Moment.{day_part, second_part, moment_at}
+use Rattle.rr_model.specs.Moment.{moment_at}
 use Rattle.rr_model.specs.Sets.Sketch.{IsValidSketch, IsFirstDay, StandsIn, day_in_cycle, times_in, times_on}
 use Rattle.rr_model.specs.Sets.Verdict.{HaveEqualOccurrences}
-use Rattle.rr_model.specs.declared.kind.Kind.{Kind}
-use Rattle.rr_model.specs.declared.kind.Kind.TheVariants.{Days, Moments}
 use Rattle.rr_model.specs.declared.sketch.Sketch.{Sketch}
+use Rattle.rr_model.proofs.MomentLemmas.{parts_of_moment}
 use Rattle.rr_model.proofs.SecondsLemmas.{first_of_some, one_list}
 use Rattle.rr_word.proofs.SketchLemmas.{rising_on, second_fits}
-use Rattle.rr_model.proofs.WholeLemmas.{floor_only}
 use Rattle.rr_model.specs.Sets.Least.{IsLeastPeriod, IsLeastStart, IsEndless, IsLeastOfEndless, IsLeastOfFinite, IsLeastOfNone, LeastSketchIsOne}
 use Rattle.rr_word.proofs.ShapeLemmas.{shapes_only, times_in-late, times_in-early}
-
-pub parts_of_moment : (k : Kind) (day : ℤ) (x : ℕ) → x < 86_400 → (k ≡ Days → x ≡ 0)
-    → (day_part k (moment_at k day x) ≡ day) × (second_part k (moment_at k day x) ≡ x)
-parts_of_moment Days day x lt z = (refl, sym (z refl))
-parts_of_moment Moments day x lt z = floor_only (moment_at Moments day x) day 86_400 x lt refl
 
 -- ---- the sequence of a sketch in its parts
 

@@ -1,7 +1,7 @@
 -- The years 1 to 9999, which texts can state (RFC 5545, section 3.3.4).
 use Rattle.std.specs.Prelude.{◌↔◌, Bool, ◌&&◌, IsTrue, int_le, int_lt, ℤ, pos, ◌≤ℤ◌, ◌<ℤ◌}
 use Rattle.rr_model.specs.Calendar.{first_day_of_year}
-use Rattle.rr_model.specs.Moment.{day_part}
+use Rattle.rr_model.specs.Moment.{Occurrences, day_part}
 use Rattle.rr_model.specs.declared.kind.Kind.{Kind}
 
 -- a day from 0001-01-01 on
@@ -16,13 +16,17 @@ HasFourDigitYear day = IsFromYearOne day × (day <ℤ first_day_of_year (pos 10_
 abbrev pub IsInYears : Kind → ℤ → Type 0
 IsInYears kind t = HasFourDigitYear (day_part kind t)
 
--- ---- the same as tests
+-- each of these occurrences lies in the year 1 or later
+abbrev pub OccurFromYearOne : Occurrences → Type 0
+OccurFromYearOne P = (k : Kind) (t : ℤ) → P k t → IsFromYearOne (day_part k t)
+
+-- ---- as tests
 
 -- the day lies in the years 1 to 9999
 abbrev pub has_four_digit_year : ℤ → Bool
 has_four_digit_year day = int_le (first_day_of_year (pos 1)) day && int_lt day (first_day_of_year (pos 10_000))
 
--- the moment does
+-- the day of the occurrence lies in the years 1 to 9999
 abbrev pub is_in_years : Kind → ℤ → Bool
 is_in_years kind t = has_four_digit_year (day_part kind t)
 

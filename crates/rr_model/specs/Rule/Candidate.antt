@@ -25,8 +25,8 @@ abbrev pub allows : List ℤ → ℤ → Bool
 allows numbers n = is_absent numbers || lists numbers n
 
 -- the part is absent, or lists the k-th of n, from the front or from the back
-abbrev pub allows_place : List ℤ → ℤ → ℤ → Bool
-allows_place numbers k many = is_absent numbers || lists numbers k || lists numbers ((k -ℤ many) -ℤ pos 1)
+abbrev pub allows_signed : List ℤ → ℤ → ℤ → Bool
+allows_signed numbers k many = is_absent numbers || lists numbers k || lists numbers ((k -ℤ many) -ℤ pos 1)
 
 -- ---- the days of one weekday in a month or a year
 
@@ -43,23 +43,23 @@ abbrev pub rank_from_back : ℤ → ℕ → ℕ → ℕ
 rank_from_back d k many = count_from (has_weekday_of d) d ((many + 1) - k)
 
 -- the rank is n, or -n from the back
-abbrev pub is_weekday_place : ℤ → ℤ → ℕ → ℕ → Bool
-is_weekday_place n d k many = int_eq n (pos (rank_from_front d k)) || int_eq n (neg_ℤ (pos (rank_from_back d k many)))
+abbrev pub is_weekday_ordinal : ℤ → ℤ → ℕ → ℕ → Bool
+is_weekday_ordinal n d k many = int_eq n (pos (rank_from_front d k)) || int_eq n (neg_ℤ (pos (rank_from_back d k many)))
 
--- places of BYDAY count in the month; in a yearly rule without BYMONTH they count in the year
+-- ordinals of BYDAY count in the month; in a yearly rule without BYMONTH they count in the year
 abbrev pub counts_in_year : Freq → List ℤ → Bool
 counts_in_year Yearly months = is_absent months
 counts_in_year freq months = false
 
--- the day has the place n in its year, or in its month
-abbrev pub is_in_place : ℤ → Bool → ℤ → Bool
-is_in_place n in_year d =
-    if in_year then is_weekday_place n d (day_of_year d) (days_in_year (year_of d))
-    else is_weekday_place n d (day_of_month d) (days_in_month (year_of d) (month_of d))
+-- the day has the ordinal n in its year, or in its month
+abbrev pub is_ordinal_of_day : ℤ → Bool → ℤ → Bool
+is_ordinal_of_day n in_year d =
+    if in_year then is_weekday_ordinal n d (day_of_year d) (days_in_year (year_of d))
+    else is_weekday_ordinal n d (day_of_month d) (days_in_month (year_of d) (month_of d))
 
--- the day has the item's weekday, and the item's place where it has one
+-- the day has the item's weekday, and the item's ordinal where it has one
 abbrev pub day_item_holds : Bool → ℤ → DayItem → Bool
-day_item_holds in_year d item = (item.weekday == weekday_of d) && (int_eq item.place (pos 0) || is_in_place item.place in_year d)
+day_item_holds in_year d item = (item.weekday == weekday_of d) && (int_eq item.place (pos 0) || is_ordinal_of_day item.place in_year d)
 
 -- ---- each BY part of a filled rule, as a test of one day or moment: it is absent, or it is met
 
@@ -69,7 +69,7 @@ by_month_holds rule d = allows rule.by_month (pos (month_of d))
 
 -- the day's week has one of the numbers in the year that the week belongs to
 abbrev pub is_week_listed : List ℤ → ℕ → ℤ → Bool
-is_week_listed numbers w i = allows_place numbers (pos (week_number i w)) (pos (last_week (week_year i w) w))
+is_week_listed numbers w i = allows_signed numbers (pos (week_number i w)) (pos (last_week (week_year i w) w))
 
 -- the day lies in a week of BYWEEKNO
 abbrev pub by_week_no_holds : Rule → ℤ → Bool
@@ -77,13 +77,13 @@ by_week_no_holds rule d = is_week_listed rule.by_week_no rule.week_start (week_i
 
 -- BYYEARDAY lists the day's number in its year
 abbrev pub by_year_day_holds : Rule → ℤ → Bool
-by_year_day_holds rule d = allows_place rule.by_year_day (pos (day_of_year d)) (pos (days_in_year (year_of d)))
+by_year_day_holds rule d = allows_signed rule.by_year_day (pos (day_of_year d)) (pos (days_in_year (year_of d)))
 
 -- BYMONTHDAY lists the day's number in its month
 abbrev pub by_month_day_holds : Rule → ℤ → Bool
-by_month_day_holds rule d = allows_place rule.by_month_day (pos (day_of_month d)) (pos (days_in_month (year_of d) (month_of d)))
+by_month_day_holds rule d = allows_signed rule.by_month_day (pos (day_of_month d)) (pos (days_in_month (year_of d) (month_of d)))
 
--- BYDAY lists the day's weekday, with its place where that is asked
+-- BYDAY lists the day's weekday, with its ordinal where that is asked
 abbrev pub by_day_holds : Rule → ℤ → Bool
 by_day_holds rule d = is_absent rule.by_day || list_any (day_item_holds (counts_in_year rule.freq rule.by_month) d) rule.by_day
 

@@ -37,7 +37,7 @@ HasCountInRange (Count n) = IsCount n
 HasCountInRange (Both kind at n) = IsCount n
 HasCountInRange end = ⊤
 
--- the values of each part rise without repeats, those of BYDAY by place, then by weekday
+-- the values of each part rise without repeats, those of BYDAY by ordinal, then by weekday
 pub record PartsRise (rule : Rule) : Type 0 where
   pub months : Rises int_lt rule.by_month
   pub week_numbers : Rises int_lt rule.by_week_no
@@ -74,14 +74,14 @@ takes_week_numbers Yearly = true
 takes_week_numbers freq = false
 
 -- a number in BYDAY is allowed with MONTHLY, and with YEARLY where BYWEEKNO is absent
-abbrev pub takes_places : Freq → Bool → Bool
-takes_places Monthly no_weeks = true
-takes_places Yearly no_weeks = no_weeks
-takes_places freq no_weeks = false
+abbrev pub takes_ordinals : Freq → Bool → Bool
+takes_ordinals Monthly no_weeks = true
+takes_ordinals Yearly no_weeks = no_weeks
+takes_ordinals freq no_weeks = false
 
 -- some value of BYDAY has a number
-abbrev pub has_place : List DayItem → Bool
-has_place items = list_any (λ item. not (int_eq item.place (pos 0))) items
+abbrev pub has_ordinals : List DayItem → Bool
+has_ordinals items = list_any (λ item. not (int_eq item.place (pos 0))) items
 
 -- a part is present that BYSETPOS may choose from
 abbrev pub has_part : Rule → Bool
@@ -95,7 +95,7 @@ is_allowed rule =
     (takes_year_days rule.freq || is_absent rule.by_year_day)
     && (takes_month_days rule.freq || is_absent rule.by_month_day)
     && (takes_week_numbers rule.freq || is_absent rule.by_week_no)
-    && (takes_places rule.freq (is_absent rule.by_week_no) || not (has_place rule.by_day))
+    && (takes_ordinals rule.freq (is_absent rule.by_week_no) || not (has_ordinals rule.by_day))
     && (has_part rule || is_absent rule.by_set_pos)
 
 -- a date as the start takes no frequency finer than DAILY

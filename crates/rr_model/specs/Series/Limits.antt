@@ -58,6 +58,6 @@ pub record HasTooManyMoments (tree : Tree) (end : ℤ) : Type 0 where
   pub occupied : All (λ times. times ≢ [] → IsTimeSetBefore tree end times) sets
   pub above : MAX_SECONDS < total_size sets
 
--- a series has, up to its settled day and one cycle
+-- a series has too many moments up to its settled day and one cycle
 abbrev pub IsTooManyMoments : Series → ℤ → Type 0
 IsTooManyMoments series settled = HasTooManyMoments (tree_of series) (settled +ℤ pos (series_cycle series))

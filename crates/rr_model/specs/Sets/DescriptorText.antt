@@ -66,6 +66,6 @@ lines_of set_line (Some d) =
 unfoldable pub text_of : List ℕ → (List ℕ → List ℕ) → Option Described → List ℕ
 text_of title set_line said = text_of_lines (title ∷ lines_of set_line said)
 
--- version 1
+-- the canonical text in version 1
 abbrev pub descriptor_text : Sketch → List ℕ
 descriptor_text s = text_of (codes "rrcanon 1") seconds_line (descriptor s)

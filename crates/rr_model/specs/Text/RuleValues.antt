@@ -113,9 +113,9 @@ numbers_of line bounds text = list_of line (has_number_form bounds) int_lt (numb
 
 -- ---- the list of BYDAY
 
--- a weekday is two letters, and what stands before it is its place
-abbrev pub place_text : List ℕ → List ℕ
-place_text text = take (length text - 2) text
+-- a weekday is two letters, and what stands before it is its ordinal
+abbrev pub ordinal_text : List ℕ → List ℕ
+ordinal_text text = take (length text - 2) text
 
 -- the two letters of the weekday
 abbrev pub weekday_text : List ℕ → List ℕ
@@ -123,19 +123,19 @@ weekday_text text = drop (length text - 2) text
 
 -- a weekday, with or without a signed number before it
 abbrev pub is_day_item : List ℕ → Bool
-is_day_item text = is_some (weekday_named (weekday_text text)) && ((length (place_text text) == 0) || is_signed_number (place_text text))
+is_day_item text = is_some (weekday_named (weekday_text text)) && ((length (ordinal_text text) == 0) || is_signed_number (ordinal_text text))
 
--- a place, 0 where none is written
-abbrev pub place_within : ℕ → List ℕ → Result ℤ Refusal
-place_within line [] = Ok (pos 0)
-place_within line (b ∷ bs) = number_within line (signed 53) (b ∷ bs)
+-- an ordinal, 0 where none is written
+abbrev pub ordinal_within : ℕ → List ℕ → Result ℤ Refusal
+ordinal_within line [] = Ok (pos 0)
+ordinal_within line (b ∷ bs) = number_within line (signed 53) (b ∷ bs)
 
--- a weekday with its place
+-- a weekday with its ordinal
 unfoldable pub day_item_within : ℕ → List ℕ → Result DayItem Refusal
 day_item_within line text = do
   weekday ← ok_or (weekday_named (weekday_text text)) (BadRule line)
-  place ← place_within line (place_text text)
-  Ok (record { place = place; weekday = weekday })
+  ordinal ← ordinal_within line (ordinal_text text)
+  Ok (record { place = ordinal; weekday = weekday })
 
 -- the values of BYDAY
 unfoldable pub day_items_of : ℕ → List ℕ → Result (List DayItem) Refusal

@@ -3,7 +3,7 @@ use Rattle.std.specs.Prelude.{◌≡◌, ◌⊎◌, ℕ, ◌==◌, Bool, true, f
 use Rattle.std.specs.List.{list_any}
 use Rattle.std.specs.Ordering.{int_eq}
 use Rattle.rr_model.specs.Calendar.{weekday_of, day_of_month, month_of, day_of_year, year_of, days_in_month}
-use Rattle.rr_model.specs.Rule.Candidate.{is_in_place}
+use Rattle.rr_model.specs.Rule.Candidate.{is_ordinal_of_day}
 use Rattle.rr_model.specs.Rule.Member.{IsWithinEnd}
 use Rattle.rr_model.specs.Whole.Count.{count_from}
 use Rattle.rr_model.specs.Moment.{day_part, second_part}
@@ -34,7 +34,7 @@ abbrev pub item_holds : ℤ → Item → ℤ → Bool
 item_holds start Every d = true
 item_holds start (Weekday k) d = k == weekday_of d
 item_holds start (MonthDay n) d = int_eq n (pos (day_of_month d)) || int_eq n ((pos (day_of_month d) -ℤ pos (days_in_month (year_of d) (month_of d))) -ℤ pos 1)
-item_holds start (Place n k) d = (k == weekday_of d) && is_in_place n false d
+item_holds start (Place n k) d = (k == weekday_of d) && is_ordinal_of_day n false d
 item_holds start (Month m) d = (m == month_of d) && (day_of_month start == day_of_month d)
 item_holds start (YearDay k) d = k == day_of_year d
 

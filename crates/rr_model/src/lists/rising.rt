@@ -26,8 +26,8 @@ pub fn put_rising<T: Ord + Copy>(items: &mut Vec<T>, value: T) -> Result<(), NoM
 {
     if is_above_last(items, value) {
         items.push(value)?;
-    } else if let Err(place) = items.binary_search(&value) {
-        items.insert(place, value)?;
+    } else if let Err(index) = items.binary_search(&value) {
+        items.insert(index, value)?;
     }
     Ok(())
 }

@@ -2,7 +2,7 @@ use Rattle.std.proofs.Common.{ℕ, sym, subst}
 use Rattle.std.specs.Prelude.{Option, Some}
 use Rattle.rr_decide.specs.Question.{shown_by}
 use Rattle.rr_decide.specs.Quiet.{ShowNothingBelow}
-use Rattle.rr_decide.specs.declared.question.Question.{Question}
+use Rattle.rr_model.specs.declared.question.Question.{Question}
 use Rattle.rr_decide.proofs.days.alike_after.Goals as goal
 
 pub alike_up_to-requires-clause-below : goal.alike_up_to-requires-clause-below

@@ -1,5 +1,5 @@
 use Rattle.rr_decide.specs.Question.{shown_by}
-use Rattle.rr_decide.specs.declared.question.Question.TheVariants.{Disjoint}
+use Rattle.rr_model.specs.declared.question.Question.TheVariants.{Disjoint}
 use Rattle.rr_decide.proofs.QuestionLemmas.{disjoint_verdict}
 use Rattle.rr_decide.proofs.WindowLemmas.{lcm_window}
 use Rattle.rr_decide.proofs.decide.disjoint.Goals as goal

@@ -1,5 +1,5 @@
 use Rattle.rr_decide.specs.Question.{shown_by}
-use Rattle.rr_decide.specs.declared.question.Question.TheVariants.{Within}
+use Rattle.rr_model.specs.declared.question.Question.TheVariants.{Within}
 use Rattle.rr_decide.proofs.QuestionLemmas.{within_verdict}
 use Rattle.rr_decide.proofs.WindowLemmas.{lcm_window}
 use Rattle.rr_decide.proofs.decide.within.Goals as goal

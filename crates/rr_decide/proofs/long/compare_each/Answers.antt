@@ -1,7 +1,7 @@
 use Rattle.std.proofs.Common.{◌+◌, w64, to_z, of_z, refl, arith}
 use Rattle.std.proofs.lemmas.Int.{ints, to_z-of_z}
 use Rattle.rr_decide.specs.Question.{shown_by}
-use Rattle.rr_decide.specs.declared.question.Question.TheVariants.{Equal}
+use Rattle.rr_model.specs.declared.question.Question.TheVariants.{Equal}
 use Rattle.rr_decide.proofs.AlikeLemmas.{none_more, number_at}
 use Rattle.rr_decide.proofs.WindowLemmas.{first_one}
 use Rattle.rr_decide.proofs.long.compare_each.Goals as goal

@@ -1,7 +1,7 @@
 use Rattle.std.specs.Prelude.{◌+◌, pos, ◌+ℤ◌}
 use Rattle.rr_decide.specs.Alike.{AreAlike}
 use Rattle.rr_decide.specs.Question.{ShowsNoneWithin, shown_by}
-use Rattle.rr_decide.specs.declared.question.Question.TheVariants.{Equal}
+use Rattle.rr_model.specs.declared.question.Question.TheVariants.{Equal}
 use Rattle.rr_decide.proofs.long.compare_each.Given as goal
 
 -- the days before this one are alike, and the sets of the numbers too

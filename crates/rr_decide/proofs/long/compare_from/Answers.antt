@@ -1,7 +1,7 @@
 use Rattle.std.proofs.Common.{w64, to_z, of_z, arith}
 use Rattle.std.proofs.lemmas.Int.{ints}
 use Rattle.rr_decide.specs.Question.{shown_by}
-use Rattle.rr_decide.specs.declared.question.Question.TheVariants.{Equal}
+use Rattle.rr_model.specs.declared.question.Question.TheVariants.{Equal}
 use Rattle.rr_decide.proofs.AlikeLemmas.{days_of_more, free_here, run_of_more}
 use Rattle.rr_decide.proofs.MergeLemmas.{none_below_equal}
 use Rattle.rr_decide.proofs.WindowLemmas.{none_while_free}

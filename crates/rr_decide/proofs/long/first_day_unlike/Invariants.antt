@@ -1,7 +1,7 @@
 use Rattle.std.specs.Prelude.{◌+◌, ◌-◌, ◌*◌, ◌≤◌, pos, ◌+ℤ◌}
 use Rattle.rr_decide.specs.Alike.{AreAlike}
 use Rattle.rr_decide.specs.Question.{ShowsNoneWithin, shown_by}
-use Rattle.rr_decide.specs.declared.question.Question.TheVariants.{Equal}
+use Rattle.rr_model.specs.declared.question.Question.TheVariants.{Equal}
 use Rattle.rr_decide.proofs.long.first_day_unlike.Given as goal
 
 -- the days before this one are alike, the sets of the numbers too, and a day took two steps at most

@@ -1,7 +1,7 @@
 use Rattle.std.proofs.Common.{refl}
 use Rattle.std.proofs.lemmas.Bool.{false≢true}
 use Rattle.rr_decide.specs.Question.{shown_by}
-use Rattle.rr_decide.specs.declared.question.Question.TheVariants.{Equal}
+use Rattle.rr_model.specs.declared.question.Question.TheVariants.{Equal}
 use Rattle.rr_decide.proofs.StandsLemmas.{no_on_lesser_first, no_on_lesser_second}
 use Rattle.rr_decide.proofs.long.verdict_apart_long.Goals as goal
 

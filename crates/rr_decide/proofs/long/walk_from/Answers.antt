@@ -1,7 +1,7 @@
 use Rattle.std.proofs.Common.{◌+◌, pos, ◌+ℤ◌, w64, to_z, of_z, arith}
 use Rattle.std.proofs.lemmas.Int.{ints, clamps, to_z-of_z}
 use Rattle.rr_decide.specs.Question.{shown_by}
-use Rattle.rr_decide.specs.declared.question.Question.TheVariants.{Equal}
+use Rattle.rr_model.specs.declared.question.Question.TheVariants.{Equal}
 use Rattle.rr_decide.proofs.StandsLemmas.{no_at, no_at_day, yes_by_days}
 use Rattle.rr_decide.proofs.WindowLemmas.{every_day, least_equal_window, none_to_end}
 use Rattle.rr_decide.proofs.long.walk_from.Goals as goal

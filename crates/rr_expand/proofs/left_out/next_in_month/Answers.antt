@@ -1,6 +1,6 @@
 use Rattle.std.proofs.Common.{◌≡◌, ◌∙◌, sym, ℕ, Bool, false, ◌<◌, ◌≤◌, ◌-◌, ◌+◌, ◌%◌, pos, ◌+ℤ◌, [], ◌∷◌, arith}
 use Rattle.std.specs.List.{list_any}
-use Rattle.rr_model.specs.Rule.Candidate.{allows_place}
+use Rattle.rr_model.specs.Rule.Candidate.{allows_signed}
 use Rattle.rr_model.specs.Rule.Filled.{filled}
 use Rattle.rr_model.specs.declared.kind.Kind.TheVariants.{Days}
 use Rattle.rr_expand.specs.LeftOut.{has_weekday}
@@ -26,7 +26,7 @@ returns-then-not-is_empty c =
     let day = c.args.day.now in
     let rule = c.args.rule.now in
     let start = c.args.start.now.number in
-    next_same (λ i. allows_place rule.by_month_day (pos i) (pos day.days_in_month))
+    next_same (λ i. allows_signed rule.by_month_day (pos i) (pos day.days_in_month))
     (λ i. allows_day (record { rule = rule; start_day = start }) (day.number +ℤ pos (i - day.day_of_month))) day.day_of_month day.days_in_month _
     (λ i a b none. unlisted rule start day.number day.day_of_month day.days_in_month i day.of_day_of_month day.of_days_in_month a b
     (sym c.is_empty.ensures ∙ c.if-not-is_empty.true) none)
@@ -38,7 +38,7 @@ returns-then-fills_month_day c =
     let rule = c.args.rule.now in
     let start = c.args.start.now.number in
     let fills = c.fills_month_day.ensures c.if-fills_month_day.true in
-    next_same (λ i. allows_place (pos c.args.start.now.day_of_month ∷ []) (pos i) (pos day.days_in_month))
+    next_same (λ i. allows_signed (pos c.args.start.now.day_of_month ∷ []) (pos i) (pos day.days_in_month))
     (λ i. allows_day (record { rule = rule; start_day = start }) (day.number +ℤ pos (i - day.day_of_month))) day.day_of_month day.days_in_month _
     (λ i a b none. not_own rule start day.number day.day_of_month day.days_in_month i day.of_day_of_month day.of_days_in_month a b
     c.args.start.now.day_of_month c.args.start.now.of_day_of_month fills.0 fills.1 none)

@@ -6,7 +6,7 @@ use Rattle.rr_model.proofs.lists.rising.put_rising.Goals as goal
 pub returns-in_ok-insert-clause-ok : goal.returns-in_ok-insert-clause-ok
 returns-in_ok-insert-clause-ok g c =
     c.in_ok-insert.ensures.items
-    ∙ put_new g.met.T.Ord.total c.args.items.now.items c.deref-else-is_above_last.result.now c.in-Err.place c.args.value
+    ∙ put_new g.met.T.Ord.total c.args.items.now.items c.deref-else-is_above_last.result.now c.in-Err.index c.args.value
     c.deref-else-is_above_last.ensures.value c.requires
     c.in-Err.ensures.bound c.in-Err.ensures.position
 

@@ -2,7 +2,7 @@
 ghost use Rattle.std.specs.Prelude.{◌≡◌, ◌≤◌, ◌||◌, ℤ, pos, neg_ℤ};
 ghost use Rattle.std.specs.List.{list_any};
 ghost use Rattle.std.specs.Ordering.{int_eq};
-ghost use Rattle.rr_model.specs.Rule.Candidate.{day_item_holds, is_in_place, is_weekday_place};
+ghost use Rattle.rr_model.specs.Rule.Candidate.{day_item_holds, is_ordinal_of_day, is_weekday_ordinal};
 
 use rr_cal::Day;
 use rr_model::DayItem;
@@ -18,18 +18,18 @@ pub(crate) fn lists_day(items: &[DayItem], in_year: bool, day: &Day) -> bool
 fn day_item_holds(item: DayItem, in_year: bool, day: &Day) -> bool
     ensures { result ≡ day_item_holds in_year day.now.number item }
 {
-    item.weekday == day.weekday && (item.place == 0 || is_in_place(item.place, in_year, day))
+    item.weekday == day.weekday && (item.place == 0 || is_ordinal_of_day(item.place, in_year, day))
 }
 
 /// Whether the day has this ordinal among the days of its weekday, in its year or in its month: 1 for the first, -1 for
 /// the last, and 0 for none (RFC 5545, section 3.3.10, BYDAY).
-pub fn is_in_place(ordinal: i8, in_year: bool, day: &Day) -> bool
-    ensures { result ≡ is_in_place ordinal in_year day.now.number }
+pub fn is_ordinal_of_day(ordinal: i8, in_year: bool, day: &Day) -> bool
+    ensures { result ≡ is_ordinal_of_day ordinal in_year day.now.number }
 {
     if in_year {
-        is_weekday_place(ordinal, day.day_of_year, day.days_in_year)
+        is_weekday_ordinal(ordinal, day.day_of_year, day.days_in_year)
     } else {
-        is_weekday_place(
+        is_weekday_ordinal(
             ordinal,
             u16::from(day.day_of_month),
             u16::from(day.days_in_month),
@@ -38,11 +38,11 @@ pub fn is_in_place(ordinal: i8, in_year: bool, day: &Day) -> bool
 }
 
 // Whether the k-th day of `many` has this ordinal among the days of its weekday there.
-fn is_weekday_place(ordinal: i8, k: u16, many: u16) -> bool
+fn is_weekday_ordinal(ordinal: i8, k: u16, many: u16) -> bool
     requires first { 1 ≤ k }
     requires within { k ≤ many }
     requires most { many ≤ 366 }
-    ensures { (d : ℤ) → result ≡ is_weekday_place ordinal d k many }
+    ensures { (d : ℤ) → result ≡ is_weekday_ordinal ordinal d k many }
 {
     has_rank(ordinal, (k - 1) / 7 + 1, (many - k) / 7 + 1)
 }

@@ -1,6 +1,6 @@
 use Rattle.std.proofs.Common.{to_z-of_z}
 use Rattle.rr_parts.proofs.RankLemmas.{rank_from_front_is, rank_from_back_is}
-use Rattle.rr_parts.proofs.places.is_weekday_place.Goals as goal
+use Rattle.rr_parts.proofs.ordinals.is_weekday_ordinal.Goals as goal
 
 pub returns : goal.returns
 returns c d =

@@ -1,5 +1,5 @@
 use Rattle.rr_decide.proofs.MergeLemmas.{none_below_disjoint, none_below_equal, none_below_within}
-use Rattle.rr_decide.proofs.question.Question.days_without.Goals as goal
+use Rattle.rr_decide.proofs.question.days_without.Goals as goal
 
 pub returns-in-Equal : goal.returns-in-Equal
 returns-in-Equal c = rw c.in-Equal.is (none_below_equal c.args.a c.args.b _ c.min.ensures)
