@@ -2,16 +2,17 @@
 use Rattle.std.proofs.Common.{◌≡◌, ◌≢◌, ◌↔◌, ℕ, true, false, List, [], ◌∷◌, ◌++◌, Contains, get_or, length, nat_lt, ℤ, inl, inr, refl, sym, ap, subst, ◌∙◌, arith}
 use Rattle.std.specs.Prelude.{Result, Ok, Err, Option, Some, None, if◌then◌else◌}
 use Rattle.std.specs.Option.{is_some}
+use Rattle.std.proofs.lemmas.Bool.{false_from_ne_true}
 use Rattle.std.proofs.lemmas.List.{get_or_default}
 use Rattle.std.proofs.lemmas.List.Elements.{All-push}
 use Rattle.std.proofs.lemmas.List.Quantifiers.{all_pairs_push}
 use Rattle.std.proofs.lemmas.List.Sums.{sum_by_push}
 use Rattle.rr_model.specs.Answers.{RefusedExactlyWhere}
 use Rattle.rr_model.specs.Moment.{is_same_kind}
+use Rattle.rr_model.proofs.MemberLemmas.{same_kind_is}
 use Rattle.rr_model.proofs.RisingSetLemmas.{Contains-none, set_same}
 use Rattle.rr_model.specs.Sets.Sketch.{IsEmptySketch, IsFirstDay, times_on}
 use Rattle.rr_model.specs.declared.kind.Kind.{Kind}
-use Rattle.rr_model.specs.declared.kind.Kind.TheVariants.{Days, Moments}
 use Rattle.rr_model.specs.declared.refusal.Fault.{Fault}
 use Rattle.rr_model.specs.declared.refusal.Fault.TheVariants.{Refused, NoMemory}
 use Rattle.rr_model.specs.declared.refusal.Refusal.TheVariants.{MixedSets, TooManyMoments}
@@ -98,17 +99,8 @@ module _ (op : Op) (s u : Sketch) (op' : Op) (s' u' : Sketch) (alike : HoldAlike
 
 -- ---- sets of one kind
 
-kinds_same : (k m : Kind) → k ≡ m → is_same_kind k m ≡ true
-kinds_same Days Days e = refl
-kinds_same Moments Moments e = refl
-kinds_same Days Moments e = absurd (cc)
-kinds_same Moments Days e = absurd (cc)
-
 kinds_apart : (k m : Kind) → k ≢ m → is_same_kind k m ≡ false
-kinds_apart Days Days n = absurd (n refl)
-kinds_apart Moments Moments n = absurd (n refl)
-kinds_apart Days Moments n = refl
-kinds_apart Moments Days n = refl
+kinds_apart k m n = false_from_ne_true (is_same_kind k m) (λ same. n ((same_kind_is k m).0 same))
 
 pub alike_same : (op : Op) (s u : Sketch) → s.kind ≡ u.kind → HoldAlike op s u op s u
 alike_same op s u e d x =
@@ -117,8 +109,8 @@ alike_same op s u e d x =
   where
     beside : (op : Op) → times_beside op s u d ≡ times_on u d
     beside Union = refl
-    beside Common = ap (λ b. if b then times_on u d else []) (kinds_same s.kind u.kind e)
-    beside Minus = ap (λ b. if b then times_on u d else []) (kinds_same s.kind u.kind e)
+    beside Common = ap (λ b. if b then times_on u d else []) ((same_kind_is s.kind u.kind).1 e)
+    beside Minus = ap (λ b. if b then times_on u d else []) ((same_kind_is s.kind u.kind).1 e)
 
 pub not_mixed_same : (op : Op) (s u : Sketch) → s.kind ≡ u.kind → IsMixedUnion op s u → ⊥
 not_mixed_same Union s u e mixed = mixed.kinds e

@@ -1,5 +1,5 @@
 // Unions, common parts and differences of two sequences of days.
-ghost use Rattle.std.specs.Prelude.{◌≡◌, ◌≢◌, ◌↔◌, ◌⊎◌, ◌≤◌, ◌<◌, ◌++◌, ◌+ℤ◌, ◌≤ℤ◌, ◌∷◌, [], IfOk, IfSome, IsTrue, OnOk, ℤ, get_or, length, neg_ℤ, pos};
+ghost use Rattle.std.specs.Prelude.{◌≡◌, ◌≢◌, ◌⊎◌, ◌≤◌, ◌<◌, ◌++◌, ◌+ℤ◌, ◌≤ℤ◌, ◌∷◌, [], IfOk, IfSome, OnOk, ℤ, get_or, length, neg_ℤ, pos};
 ghost use Rattle.rr_model.specs.Bounds.{earliest_near, latest_near, longest_period};
 ghost use Rattle.rr_model.specs.Rising.Sets.{IsSecondsOfDay};
 ghost use Rattle.rr_model.specs.Sets.Sizes.{total_size};
@@ -283,16 +283,6 @@ fn sequence_of_both<A: DaySeq, B: DaySeq>(
     combined_days(alloc, op, kind, one, other, begin, settled, period)
 }
 
-// Whether two kinds are the same.
-fn is_one_kind(kind: Kind, other: Kind) -> bool
-    ensures { IsTrue result ↔ (kind ≡ other) }
-{
-    match (kind, other) {
-        (Kind::Days, Kind::Days) | (Kind::Moments, Kind::Moments) => true,
-        _ => false,
-    }
-}
-
 // What is made of a set and itself: the same set, or nothing.
 fn with_itself<A: DaySeq>(alloc: Global, op: Op, one: &A) -> Result<Folded, Fault>
     requires cycle { (A.sketch one.now).period ≤ MAX_CYCLE_DAYS }
@@ -351,7 +341,7 @@ pub fn combine<A: DaySeq, B: DaySeq>(
         (A.sketch one.now) (B.sketch other.now) result }
 {
     let kind = one.kind();
-    let same = is_one_kind(kind, other.kind());
+    let same = kind.is_same(other.kind());
     if same {
         return sequence_of_both(alloc, op, kind, one, other);
     }

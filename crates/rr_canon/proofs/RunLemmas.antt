@@ -1,5 +1,6 @@
 -- Runs as they are found, step by step.
 use Rattle.std.proofs.Common.{◌≡◌, ℕ, ◌+◌, Bool, true, false, cond, ◌==◌, ◌&&◌, eqb-true, List, [], ◌∷◌, refl, sym, ap, subst, ◌∙◌, arith}
+use Rattle.std.proofs.lemmas.Bool.{and_parts}
 use Rattle.rr_model.specs.Sets.Descriptor.{Step, Run, with_step}
 use Rattle.rr_canon.specs.Said.{with_run}
 
@@ -14,12 +15,8 @@ with_run-with_step step (r ∷ rs) = refl
 eqb-same : (n : ℕ) → (n == n) ≡ true
 eqb-same n = grind arith
 
-both_true : (a b : Bool) → (a && b) ≡ true → (a ≡ true) × (b ≡ true)
-both_true true b e = (refl, e)
-both_true false b e = absurd (cc)
-
 same_fields : (a b c d : ℕ) → ((a == b) && (c == d)) ≡ true → (a ≡ b) × (c ≡ d)
-same_fields a b c d e = let p = both_true (a == b) (c == d) e in (eqb-true a b p.0, eqb-true c d p.1)
+same_fields a b c d e = let p = and_parts (a == b) (c == d) e in (eqb-true a b p.0, eqb-true c d p.1)
 
 same_test : (a c : ℕ) → ((a == a) && (c == c)) ≡ true
 same_test a c = ap (λ x. x && (c == c)) (eqb-same a) ∙ eqb-same c

@@ -8,10 +8,10 @@ ghost use Rattle.rr_model.specs.Sets.Least.{IsLeastOfNone, IsLeastSketch};
 ghost use Rattle.rr_word.specs.Bounded.{IsBounded, IsBounded-prop, IsFirstDay-prop};
 ghost use Rattle.rr_canon.specs.Kept.{IsKept, sketch_of};
 
-use crate::stretch::{days_between, number_days};
+use crate::stretch::number_days;
 use rr_model::{Kind, NoMemory};
 use rr_shapes::TimeSets;
-use rr_word::{DaySeq, NumberedDays, Stretch, least_period, least_start};
+use rr_word::{DaySeq, NumberedDays, Stretch, days_between, least_period, least_start};
 use std::alloc::Global;
 
 /// The least sketch of a set: its least period, from its least start on.

@@ -250,14 +250,3 @@ pub fn number_days<A: DaySeq>(
     }
     Ok(days)
 }
-
-/// How many days lie from one day to another.
-pub fn days_between(from: i64, to: i64) -> u64
-    requires near { IsNearDay from }
-    requires to_near { IsNearDay to }
-    requires order { from ≤ℤ to }
-    ensures value { to ≡ from +ℤ pos result }
-    ensures few { result ≤ 2_000_000_000 }
-{
-    (to - from) as u64
-}

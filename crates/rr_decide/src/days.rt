@@ -1,5 +1,5 @@
 // A walk over the days of two sequences.
-ghost use Rattle.std.specs.Prelude.{◌≡◌, ◌<◌, ◌≤◌, [], IfSome, IfNone, MatchOption, Some, length, slice_get, pos, neg_ℤ, ◌+ℤ◌, ◌≤ℤ◌};
+ghost use Rattle.std.specs.Prelude.{◌≡◌, ◌<◌, ◌≤◌, [], IfSome, IfNone, MatchOption, Some, length, slice_get, pos, neg_ℤ, ◌≤ℤ◌};
 ghost use Rattle.rr_model.specs.Bounds.{earliest_near};
 ghost use Rattle.rr_model.specs.Sets.Sketch.{IsNearDay};
 ghost use Rattle.rr_word.specs.Stretches.{AreFree, IsNumberOn};
@@ -221,17 +221,6 @@ fn seconds<S: DaySeq>(seq: &S, number: Option<u32>) -> &[u32]
         None => &[],
         Some(number) => seq.times(number),
     }
-}
-
-/// How many days lie from one day to another.
-pub fn days_between(from: i64, to: i64) -> u64
-    requires near { IsNearDay from }
-    requires to_near { IsNearDay to }
-    requires order { from ≤ℤ to }
-    ensures value { to ≡ from +ℤ pos result }
-    ensures few { result ≤ 2_000_000_000 }
-{
-    (to - from) as u64
 }
 
 /// The first occupied day of two sequences of one kind.

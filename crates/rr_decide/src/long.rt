@@ -12,13 +12,13 @@ ghost use Rattle.rr_decide.specs.Reading.{IsFirstOfBoth, IsReadInFew, steps_from
 ghost use Rattle.rr_decide.specs.Rows.{AreEqualRows, AreUpTo};
 ghost use Rattle.rr_model.specs.declared.question.Question.TheVariants.{Equal};
 
-use crate::days::{Shown, days_between};
+use crate::days::Shown;
 use crate::decide::equal_days;
 use crate::merge::first_shown;
 use crate::occurrence::Occurrence;
 use rr_model::{Question, Side, Verdict};
 use rr_steps::Steps;
-use rr_word::{Counted, DaySeq};
+use rr_word::{Counted, DaySeq, days_between};
 use std::sync::ledger::Ledger;
 
 /// Whether two sets have equal occurrences for all years to come, whatever their common cycle is; else the first

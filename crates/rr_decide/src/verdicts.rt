@@ -4,11 +4,11 @@ ghost use Rattle.rr_model.specs.Sets.Sketch.{IsNearDay};
 ghost use Rattle.rr_decide.specs.Occurrence.{IsFirstIf, IsNearOccurrence, IsUpToMaxDay, NamesUpToMaxDay};
 ghost use Rattle.rr_decide.specs.Question.{HasNoneBefore, IsVerdictOn, IsWindow, ShareNothing, shown_by};
 
-use crate::days::{days_between, first_day, first_day_shown};
+use crate::days::{first_day, first_day_shown};
 use crate::occurrence::{Occurrence, first_occurrence};
 use crate::question::is_shown_by;
 use rr_model::{Question, Side, Verdict};
-use rr_word::DaySeq;
+use rr_word::{DaySeq, days_between};
 
 /// The verdict, where `window` days past both settled days tell of all later days.
 pub fn verdict_by_walk<A: DaySeq, B: DaySeq>(

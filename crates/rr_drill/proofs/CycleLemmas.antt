@@ -2,7 +2,7 @@
 use Rattle.std.proofs.Common.{◌≡◌, ℕ, zero, suc, ◌+◌, ◌*◌, ◌%◌, ◌<◌, ◌≤◌, Bool, true, false, cond, ◌&&◌, ◌||◌, ◌==◌, List, [], ◌∷◌, map, refl, sym, subst, arith}
 use Rattle.std.specs.Prelude.{nat_le, nat_lt}
 use Rattle.std.specs.List.{list_any, list_all}
-use Rattle.std.proofs.lemmas.Bool.{false≢true}
+use Rattle.std.proofs.lemmas.Bool.{and_parts, false≢true}
 use Rattle.std.proofs.lemmas.Bool.Decides.{nat_tests}
 use Rattle.std.proofs.lemmas.Nat.{mod_below}
 use Rattle.std.proofs.lemmas.Nat.Gcd.{le_of_dvd, dvd_of_mod-eq-zero}
@@ -21,16 +21,12 @@ use Rattle.rr_model.specs.declared.question.Question.TheVariants.{Equal, Within,
 use Rattle.rr_drill.specs.Cycles.{cycles, is_drawn_cycle}
 use Rattle.rr_drill.specs.Draws.{next_state, draw, draw_below, intervals, drawn_freq, series_from}
 
-pub both : (a b : Bool) → (a && b) ≡ true → (a ≡ true) × (b ≡ true)
-both true b e = (refl, e)
-both false b e = absurd (false≢true e)
-
 -- what holds of each number of a list
 listed : (test : ℕ → Bool) (xs : List ℕ) (n : ℕ) → list_all test xs ≡ true → list_any (λ x. x == n) xs ≡ true → test n ≡ true
 listed test [] n all e = absurd (false≢true e)
 listed test (x ∷ xs) n all e = elim (x == n) as (λ b. (x == n) ≡ b → (b || list_any (λ y. y == n) xs) ≡ true → test n ≡ true) [
-  | true ↦ λ h u. (let same : x ≡ n = grind (arith, nat_tests, h) in subst (λ y. test y ≡ true) same (both (test x) (list_all test xs) all).0)
-  | false ↦ λ h u. listed test xs n (both (test x) (list_all test xs) all).1 u
+  | true ↦ λ h u. (let same : x ≡ n = grind (arith, nat_tests, h) in subst (λ y. test y ≡ true) same (and_parts (test x) (list_all test xs) all).0)
+  | false ↦ λ h u. listed test xs n (and_parts (test x) (list_all test xs) all).1 u
 ] refl e
 
 -- ---- common cycles
@@ -70,8 +66,8 @@ cycle_some n e = let t : nat_lt 0 n ≡ true = listed (λ m. nat_lt 0 m) cycles 
 
 lcm_within : (a b n : ℕ) → 1 ≤ a → 1 ≤ b → is_within n ≡ true → is_multiple a b n ≡ true → lcm a b ≤ MAX_CYCLE_DAYS
 lcm_within a b n f g within multiple =
-    let w = both (nat_lt 0 n) (nat_le n 16_777_216) within in
-    let m = both (n % a == 0) (n % b == 0) multiple in
+    let w = and_parts (nat_lt 0 n) (nat_le n 16_777_216) within in
+    let m = and_parts (n % a == 0) (n % b == 0) multiple in
     let some : 0 < n = grind (arith, nat_tests, w.0) in
     let few : n ≤ 16_777_216 = grind (arith, nat_tests, w.1) in
     let of_a : n % a ≡ 0 = grind (arith, nat_tests, m.0) in
@@ -81,7 +77,7 @@ lcm_within a b n f g within multiple =
 some_within : (a b : ℕ) (ns : List ℕ) → 1 ≤ a → 1 ≤ b → list_all is_within ns ≡ true → list_any (is_multiple a b) ns ≡ true → lcm a b ≤ MAX_CYCLE_DAYS
 some_within a b [] f g all e = absurd (false≢true e)
 some_within a b (n ∷ ns) f g all e =
-    let w = both (is_within n) (list_all is_within ns) all in
+    let w = and_parts (is_within n) (list_all is_within ns) all in
     elim (is_multiple a b n) as (λ c. is_multiple a b n ≡ c → (c || list_any (is_multiple a b) ns) ≡ true → lcm a b ≤ MAX_CYCLE_DAYS) [
       | true ↦ λ h u. lcm_within a b n f g w.0 h
       | false ↦ λ h u. some_within a b ns f g w.1 u
@@ -111,8 +107,8 @@ below : (n : ℕ) (test : ℕ → Bool) (k : ℕ) → k < n → all_below n test
 unfolding all_below
 below zero test k l e = absurd (omega (arith, l))
 below (suc n) test k l e = elim (k == n) as (λ b. (k == n) ≡ b → test k ≡ true) [
-  | true ↦ λ h. (let same : k ≡ n = grind (arith, nat_tests, h) in subst (λ x. test x ≡ true) (sym same) (both (test n) (all_below n test) e).0)
-  | false ↦ λ h. (let less : k < n = grind (arith, nat_tests, h, l) in below n test k less (both (test n) (all_below n test) e).1)
+  | true ↦ λ h. (let same : k ≡ n = grind (arith, nat_tests, h) in subst (λ x. test x ≡ true) (sym same) (and_parts (test n) (all_below n test) e).0)
+  | false ↦ λ h. (let less : k < n = grind (arith, nat_tests, h, l) in below n test k less (and_parts (test n) (all_below n test) e).1)
 ] refl
 
 abbrev has_drawn_cycle : Freq → ℕ → Bool

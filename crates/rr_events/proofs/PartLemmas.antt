@@ -2,6 +2,7 @@
 use Rattle.std.proofs.Common.{◌≡◌, ◌⊎◌, inl, inr, ℕ, ◌-◌, ◌≤◌, ◌==◌, ◌&&◌, Bool, true, false, List, [], ◌∷◌, ◌++◌, length, take}
 use Rattle.std.proofs.Common.{refl, sym, ap, ◌∙◌, arith, append_assoc, append-nil, eqb-true}
 use Rattle.std.specs.List.{onto_first}
+use Rattle.std.proofs.lemmas.Bool.{and_parts}
 use Rattle.std.proofs.lemmas.List.{append_cancel_right, length-append}
 use Rattle.std.proofs.Math.Seq.{take-append_seam}
 use Rattle.rr_model.specs.Text.Lines.{begins_blank, feeds_next, physical_lines}
@@ -127,11 +128,6 @@ unfolding physical_lines
 feeds-lines [] h = absurd (cc)
 feeds-lines (b ∷ bs) h = (physical_lines bs, rw h refl)
 
-both : (a b : Bool) → (a && b) ≡ true → (a ≡ true) × (b ≡ true)
-both true true h = (refl, refl)
-both true false h = absurd (cc)
-both false b h = absurd (cc)
-
 onto_first-blank : (b : ℕ) (bs line : List ℕ) (lines more : List (List ℕ)) → onto_first b lines ≡ line ∷ more → begins_blank line ≡ begins_blank (b ∷ bs)
 onto_first-blank b bs line [] more e = let same : line ≡ b ∷ [] = cc in ap begins_blank same
 onto_first-blank b bs line (first ∷ lines) more e = let same : line ≡ b ∷ first = cc in ap begins_blank same
@@ -149,9 +145,9 @@ first-blank (b ∷ bs) line more e = by (b == 10) ((b == 13) && feeds_next bs) r
         ap begins_blank same ∙ sym (blank-feed b bs p)
     by false true p q =
         let lines : physical_lines bs ≡ line ∷ more = rw (p, q) at e in
-        let next = feeds-lines bs (both (b == 13) (feeds_next bs) q).1 in
+        let next = feeds-lines bs (and_parts (b == 13) (feeds_next bs) q).1 in
         let same : line ≡ [] = cc (next.1) in
-        ap begins_blank same ∙ sym (blank-return b bs (both (b == 13) (feeds_next bs) q).0)
+        ap begins_blank same ∙ sym (blank-return b bs (and_parts (b == 13) (feeds_next bs) q).0)
     by false false p q = onto_first-blank b bs line (physical_lines bs) more (rw (p, q) at e)
 
 -- a text that begins with a blank is not empty

@@ -1,7 +1,7 @@
 -- The seconds that the time parts allow in one unit of a day.
 use Rattle.std.proofs.Common.{◌≡◌, ℕ, ◌-◌, ◌*◌, ◌/◌, ◌%◌, ◌<◌, ◌≤◌, Bool, true, false, ◌&&◌, cond, List, [], ◌∷◌, Contains, ℤ, pos, All, refl, sym, subst, arith}
 use Rattle.std.specs.Prelude.{IsTrue, nat_lt}
-use Rattle.std.proofs.lemmas.Bool.{false≢true}
+use Rattle.std.proofs.lemmas.Bool.{and_from, and_parts, false≢true}
 use Rattle.rr_model.specs.Rising.Sets.{IsSetOf}
 use Rattle.rr_model.specs.Rule.Filled.{filled_part, wants_hour, wants_minute, wants_second}
 use Rattle.rr_model.specs.Rule.Candidate.{allows}
@@ -14,7 +14,7 @@ use Rattle.rr_expand.specs.Spread.{of_minute, of_hour, of_unit}
 use Rattle.rr_expand.specs.UnitTimes.{AreNumbersOfUnit}
 use Rattle.rr_expand.proofs.SetLemmas.{Passed, passed_below}
 use Rattle.rr_expand.proofs.SpreadSets.{InMinute, InHour, InHour-below, of_minute-set, of_hour-set, set_one}
-use Rattle.rr_model.proofs.DaysAndTimesLemmas.{and_true, and_parts}
+use Rattle.rr_model.proofs.DaysAndTimesLemmas.{and_true, and_parts as all_parts}
 
 -- a second of a day of which the hour, the minute and the second pass
 abbrev pub PassesAt : (ℕ → Bool) → (ℕ → Bool) → (ℕ → Bool) → ℕ → Type 0
@@ -24,14 +24,6 @@ PassesAt H M S s = (s < 86_400) × IsTrue (H (s / 3_600) && M (s / 60 % 60) && S
 if_passes : (b : Bool) (P : ℕ → Type 0) (xs : List ℕ) → (b ≡ true → IsSetOf nat_lt xs P) → ((s : ℕ) → P s → IsTrue b) → IsSetOf nat_lt (cond b xs []) P
 if_passes true P xs yes_set needs = yes_set refl
 if_passes false P xs yes_set needs = set_empty nat_lt P (λ s p. false≢true (needs s p))
-
-two_true : (a b : Bool) → a ≡ true → b ≡ true → (a && b) ≡ true
-two_true a b ha hb = rw (ha, hb) refl
-
-two_parts : (a b : Bool) → (a && b) ≡ true → (a ≡ true) × (b ≡ true)
-two_parts true true e = (refl, refl)
-two_parts true false e = absurd (cc)
-two_parts false b e = absurd (cc)
 
 module _ (H M S : ℕ → Bool) where
   hour_set : (ms ss : List ℕ) → IsSetOf nat_lt ms (Passed M 60) → IsSetOf nat_lt ss (Passed S 60) → (k : ℕ) → k < 24
@@ -52,7 +44,7 @@ module _ (H M S : ℕ → Bool) where
                     ((s.exact _).0 (subst (Contains ss) second h.2)).1,
               ),
             ))),
-        (λ h. (let p = and_parts (H (t / 3_600)) (M (t / 60 % 60)) (S (t % 60)) h.1.1 in
+        (λ h. (let p = all_parts (H (t / 3_600)) (M (t / 60 % 60)) (S (t % 60)) h.1.1 in
             let low : 3_600 * k ≤ t = omega (arith, h.0) in
             let minute : t / 60 % 60 ≡ (t - 3_600 * k) / 60 = omega (arith, h.0) in
             let second : t % 60 ≡ (t - 3_600 * k) % 60 = omega (arith, h.0) in (
@@ -61,13 +53,13 @@ module _ (H M S : ℕ → Bool) where
               subst (Contains ss) second ((s.exact (t % 60)).1 (omega arith, p.2)),
             ))),
       )))
-      (λ t h. subst (λ n. IsTrue (H n)) h.0 (and_parts (H (t / 3_600)) (M (t / 60 % 60)) (S (t % 60)) h.1.1).0)
+      (λ t h. subst (λ n. IsTrue (H n)) h.0 (all_parts (H (t / 3_600)) (M (t / 60 % 60)) (S (t % 60)) h.1.1).0)
 
   minute_set : (ss : List ℕ) → IsSetOf nat_lt ss (Passed S 60) → (k : ℕ) → k < 1_440
       → IsSetOf nat_lt (cond (H (k / 60) && M (k % 60)) (of_minute (60 * k) ss) []) (λ s. (s / 60 ≡ k) × PassesAt H M S s)
   minute_set ss s k low =
       if_passes (H (k / 60) && M (k % 60)) (λ t. (t / 60 ≡ k) × PassesAt H M S t) (of_minute (60 * k) ss)
-      (λ passes. (let q = two_parts (H (k / 60)) (M (k % 60)) passes in
+      (λ passes. (let q = and_parts (H (k / 60)) (M (k % 60)) passes in
       set_same nat_lt (InMinute (60 * k) ss) (λ t. (t / 60 ≡ k) × PassesAt H M S t) (of_minute (60 * k) ss)
       (of_minute-set (60 * k) ss s.rises)
       (λ t. (
@@ -82,14 +74,14 @@ module _ (H M S : ℕ → Bool) where
                     ((s.exact _).0 (subst (Contains ss) second h.1)).1,
               ),
             ))),
-        (λ h. (let p = and_parts (H (t / 3_600)) (M (t / 60 % 60)) (S (t % 60)) h.1.1 in
+        (λ h. (let p = all_parts (H (t / 3_600)) (M (t / 60 % 60)) (S (t % 60)) h.1.1 in
             let second : t % 60 ≡ t - 60 * k = omega (arith, h.0) in
             (omega (arith, h.0), subst (Contains ss) second ((s.exact (t % 60)).1 (omega arith, p.2))))),
       ))))
-      (λ t h. (let p = and_parts (H (t / 3_600)) (M (t / 60 % 60)) (S (t % 60)) h.1.1 in
+      (λ t h. (let p = all_parts (H (t / 3_600)) (M (t / 60 % 60)) (S (t % 60)) h.1.1 in
       let hour : t / 3_600 ≡ k / 60 = omega (arith, h.0) in
       let minute : t / 60 % 60 ≡ k % 60 = omega (arith, h.0) in
-      two_true _ _ (subst (λ n. IsTrue (H n)) hour p.0) (subst (λ n. IsTrue (M n)) minute p.1)))
+      and_from _ _ (subst (λ n. IsTrue (H n)) hour p.0) (subst (λ n. IsTrue (M n)) minute p.1)))
 
   second_set : (k : ℕ) → k < 86_400
       → IsSetOf nat_lt (cond (H (k / 3_600) && M (k / 60 % 60) && S (k % 60)) (k ∷ []) []) (λ s. (s / 1 ≡ k) × PassesAt H M S s)

@@ -4,14 +4,11 @@ ghost use Rattle.rr_model.specs.Calendar.{IsDayWithin, first_day_of_year};
 ghost use Rattle.rr_expand.specs.Years.{AllowsEveryDay, Filling, IsFirstAllowed, IsYearMask, allows_day, filling_of};
 ghost use Rattle.rr_expand.specs.KeptMasks.{AreAllowedDays, AreMasks, AreKeptMasks, IsFirstMarked, IsMaskedYear, ListAllowed, TellDays, TellsYear, has_date_part};
 
-use crate::year_masks::{YearMask, mask_key, year_mask};
-use rr_cal::{Date, date_of, day_of, days_in_year};
+use crate::year_masks::{YEAR_KEYS, YearMask, mask_key, new_year, year_mask};
+use rr_cal::{date_of, days_in_year};
 use rr_model::{Freq, NoMemory, Rule};
 use std::alloc::{AllocError, Global};
 use std::marker::Model;
-
-// How many keys of years there are.
-const KEYS: usize = 56;
 
 /// The days that the date parts of a rule allow, filled from the day of its start (RFC 5545, section 3.3.10).
 ///
@@ -100,7 +97,7 @@ impl KeptMasks {
         ensures { IfOk result (λ m. (f : Filling) → AreKeptMasks f m) }
     {
         let mut kept = Vec::new(alloc);
-        for _ in 0..KEYS {
+        for _ in 0..YEAR_KEYS {
             kept.push(None)?;
         }
         Ok(KeptMasks {
@@ -181,11 +178,7 @@ impl KeptMasks {
             self.enter_year(rule, start_day, number, first);
         } else {
             let number = date_of(day).year;
-            let first = day_of(Date {
-                year: number,
-                month: 1,
-                day: 1,
-            });
+            let first = new_year(number);
             self.enter_year(rule, start_day, number, first);
         }
     }

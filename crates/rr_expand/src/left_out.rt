@@ -1,5 +1,5 @@
 // Days that the months, the days of the month or the weekdays of a rule leave out, passed over without a test of each part.
-ghost use Rattle.std.specs.Prelude.{◌≡◌, ◌∷◌, [], ◌+◌, ◌%◌, ◌<◌, ◌≤◌, true, pos, ◌+ℤ◌, ◌-ℤ◌};
+ghost use Rattle.std.specs.Prelude.{◌≡◌, ◌∷◌, [], ◌+◌, ◌%◌, ◌<◌, ◌≤◌, true, pos, ◌+ℤ◌};
 ghost use Rattle.std.specs.List.{list_any};
 ghost use Rattle.rr_model.specs.Calendar.{IsDayWithin};
 ghost use Rattle.rr_model.specs.Rule.Candidate.{allows_signed};
@@ -9,7 +9,7 @@ ghost use Rattle.rr_expand.specs.Years.{LeavesOutNext, filling_of};
 
 use rr_cal::Day;
 use rr_model::{DayItem, Freq, Numbers, Rule};
-use rr_parts::{allows, allows_filled};
+use rr_parts::{allows_filled, allows_signed};
 
 // How many days to go on from a day of each weekday, from Monday: none of those between has a weekday of BYDAY, where it is
 // present.
@@ -96,25 +96,11 @@ fn next_listed(numbers: &Numbers, k: u8, many: u8) -> u8
     ensures { IsNextIn (λ i. allows_signed numbers.now (pos i) (pos many)) k many result }
 {
     for next in k + 1..many {
-        if allows_kth(numbers, next, many) {
+        if allows_signed(numbers, u16::from(next), u16::from(many)) {
             return next;
         }
     }
     many
-}
-
-// Whether the part is absent, or lists the k-th day of a month of `many` days, from the front or from the back.
-fn allows_kth(numbers: &Numbers, k: u8, many: u8) -> bool
-    ensures { result ≡ allows_signed numbers.now (pos k) (pos many) }
-{
-    allows(numbers, i16::from(k)) || allows(numbers, number_from_back(k, many))
-}
-
-// The number of the k-th day of `many`, from the back as a negative number.
-fn number_from_back(k: u8, many: u8) -> i16
-    ensures { result ≡ (pos k -ℤ pos many) -ℤ pos 1 }
-{
-    i16::from(k) - i16::from(many) - 1
 }
 
 // Whether BYDAY alone tells which days are allowed, by weekdays without ordinals.

@@ -21,4 +21,4 @@ pub use finer_units::{first_fit, first_unit, unit_of, units_of_day};
 pub use laws::equal_keys_have_equal_masks;
 pub use unit_days::days;
 pub use unit_times::UnitTimes;
-pub use year_masks::{YearMask, mask_key, year_mask};
+pub use year_masks::{YEAR_KEYS, YearMask, mask_key, new_year, year_mask};

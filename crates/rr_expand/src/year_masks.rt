@@ -66,7 +66,7 @@ pub fn year_mask(rule: &Rule, start_day: i64, year: i64) -> YearMask
     requires next { IsDayWithin 1000 (first_day_of_year (year +ℤ pos 1)) }
     ensures { IsYearMask (filling_of rule.now start_day) year result.bits }
 {
-    let first = new_year(year);
+    let first = Day::new(new_year(year));
     let count = days_in_year(year);
     if names_weekdays_alone(rule) {
         weekday_mask(rule, first.weekday, count)
@@ -117,18 +117,20 @@ fn mask_from(rule: &Rule, start: &Day, first: Day, count: u16) -> YearMask
     mask
 }
 
-// The first day of a year.
-fn new_year(year: i64) -> Day
+/// The first day of a year, in days since 1970-01-01.
+pub fn new_year(year: i64) -> i64
     requires { IsDayWithin 1000 (first_day_of_year year) }
-    ensures { result.number ≡ first_day_of_year year }
+    ensures { result ≡ first_day_of_year year }
 {
-    let date = Date {
+    day_of(Date {
         year,
         month: 1,
         day: 1,
-    };
-    Day::new(day_of(date))
+    })
 }
+
+/// How many keys of years there are: each `mask_key` is below.
+pub const YEAR_KEYS: usize = 56;
 
 /// The key of a year, below 56: years of one key have the same mask. It is the kind of the year, and with BYWEEKNO 14 more
 /// where the year before is leap, and 28 more where the year after is. Years from -3,000,000,000,000 to 3,000,000,000,000.

@@ -11,7 +11,7 @@ use crate::items::from_both_ends;
 use rr_cal::{Day, month_number};
 use rr_model::FamilyKind;
 use rr_num::is_congruent;
-use rr_parts::is_ordinal_of_day;
+use rr_parts::{is_ordinal_of_day, number_from_back};
 
 /// Days of each n months, counted from the front or from the back: the kind MD.
 #[derive(Clone, Copy, Debug)]
@@ -117,15 +117,8 @@ impl Family for MonthPlaceFamily {
 fn is_month_day(number: i8, day: &Day) -> bool
     ensures { result ≡ item_holds (pos 0) (MonthDay number) day.now.number }
 {
-    let from_back = number_from_back(day.day_of_month, day.days_in_month);
+    let from_back = number_from_back(u16::from(day.day_of_month), u16::from(day.days_in_month));
     i16::from(number) == i16::from(day.day_of_month) || i16::from(number) == from_back
-}
-
-// The number from the back of the k-th of n days.
-fn number_from_back(k: u8, many: u8) -> i16
-    ensures { result ≡ (pos k -ℤ pos many) -ℤ pos 1 }
-{
-    i16::from(k) - i16::from(many) - 1
 }
 
 // Whether the day's month lies a multiple of the interval from that of another day.

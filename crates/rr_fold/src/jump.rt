@@ -12,12 +12,9 @@ use rr_iter::{Counted, EndedLazy};
 use rr_lazy::FirstN;
 use rr_model::{Fault, Kind, NoMemory, Rule, day_part};
 use rr_num::day_cycle;
-use rr_runs::Pages;
+use rr_runs::{PAGE_LENGTH, Pages};
 use rr_walk::RuleLazy;
 use std::alloc::Global;
-
-// How many numbers stand on a page: numbers that repeat by a multiple of it are kept once.
-const PAGE: usize = 63;
 
 // Whole cycles after the first one, which hold the same days again, and the count that a rule has without their members.
 #[derive(Clone, Copy)]
@@ -181,9 +178,9 @@ fn whole_cycles(most: usize, cycle: usize) -> usize
     ensures whole { AreWholeCycles cycle result }
     ensures room { result ≤ most }
 {
-    if most / PAGE < cycle {
+    if most / PAGE_LENGTH < cycle {
         return most / cycle * cycle;
     }
-    let paged = PAGE * cycle;
+    let paged = PAGE_LENGTH * cycle;
     most / paged * paged
 }

@@ -14,16 +14,13 @@ ghost use Rattle.rr_fold.specs.Years.{HasEqualYears, IsFinerThanDays, IsYearUpTo
 
 use crate::folded_days::{FoldedDays, days_between};
 use crate::walk::Walk;
-use rr_cal::{Date, date_of, day_of, days_in_year};
-use rr_expand::mask_key;
+use rr_cal::{date_of, days_in_year};
+use rr_expand::{YEAR_KEYS, mask_key, new_year};
 use rr_lazy::Lazy;
 use rr_model::{Fault, Freq, Kind, NoMemory, Rule, day_part};
 use rr_num::interval_cycle;
 use rr_walk::RuleLazy;
 use std::alloc::Global;
-
-// How many keys of years there are: each `mask_key` is below.
-const KEYS: usize = 56;
 
 // The longest period for which places of years are kept.
 const MAX_PERIOD: u64 = 1_000;
@@ -167,7 +164,7 @@ impl KeptYears {
         ensures kept { IfOk result KeepsNoYear }
     {
         let mut places = Vec::new(alloc);
-        places.resize(KEYS * period, None)?;
+        places.resize(YEAR_KEYS * period, None)?;
         Ok(KeptYears { period, places })
     }
 
@@ -179,7 +176,7 @@ impl KeptYears {
         ensures value { result ≡ mask_key rule.now year + 56 * (index % self.now.period) }
         ensures below { result < 56 * self.now.period }
     {
-        usize::from(mask_key(rule, year)) + KEYS * (index % self.period)
+        usize::from(mask_key(rule, year)) + YEAR_KEYS * (index % self.period)
     }
 
     // Goes on with the days of a year below another day: those of a year of its slot are copied, or else they are walked.
@@ -220,16 +217,4 @@ impl KeptYears {
         self.places[slot] = Some(index);
         Ok(())
     }
-}
-
-// The first day of a year.
-fn new_year(year: i64) -> i64
-    requires { IsDayWithin 0 (first_day_of_year year) }
-    ensures { result ≡ first_day_of_year year }
-{
-    day_of(Date {
-        year,
-        month: 1,
-        day: 1,
-    })
 }

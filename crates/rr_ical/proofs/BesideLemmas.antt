@@ -15,7 +15,7 @@ use Rattle.rr_model.specs.Text.Passes.{put_rule, with_date, with_line, with_rule
 use Rattle.rr_model.specs.Text.Rules.{has_time}
 use Rattle.rr_model.specs.Text.UsedLines.{trim}
 use Rattle.rr_model.specs.declared.kind.Kind.{Kind}
-use Rattle.rr_model.specs.declared.kind.Kind.TheVariants.{Days, Moments}
+use Rattle.rr_model.specs.declared.kind.Kind.TheVariants.{Moments}
 use Rattle.rr_model.specs.declared.pass.FirstPass.{FirstPass}
 use Rattle.rr_model.specs.declared.refusal.Refusal.{Refusal}
 use Rattle.rr_model.specs.declared.refusal.Refusal.TheVariants.{NoStart, BadMoment, MixedKinds}
@@ -24,6 +24,7 @@ use Rattle.rr_model.specs.declared.used.LineName.{LineName}
 use Rattle.rr_model.specs.declared.used.LineName.TheVariants.{Dtstart, Rrule, Rdate, Exdate, Exrule}
 use Rattle.rr_model.specs.declared.used.Scan.{Scan}
 use Rattle.rr_model.specs.declared.used.UsedLine.{UsedLine}
+use Rattle.rr_model.proofs.MemberLemmas.{same_kind_is}
 use Rattle.rr_model.proofs.RisingLemmas.{All-with_value, Rises-with_value}
 use Rattle.rr_model.proofs.YearLemmas.{years_are_tested}
 use Rattle.rr_text.proofs.InYearsLemmas.{IsStamp, basic-stamp}
@@ -38,12 +39,6 @@ turned-in_years line (Some offset) at local h =
     let tested = passed (is_in_years Moments (at +ℤ offset)) (Ok (at +ℤ offset)) (BadMoment line) local h in
     let same : at +ℤ offset ≡ local = cc in
     subst (IsInYears Moments) same ((years_are_tested Moments (at +ℤ offset)).0 tested.0)
-
-same_kind : (kind other : Kind) → is_same_kind kind other ≡ true → kind ≡ other
-same_kind Days Days h = refl
-same_kind Moments Moments h = refl
-same_kind Days Moments h = absurd (cc)
-same_kind Moments Days h = absurd (cc)
 
 pub date_value-stamp : (line : ℕ) (text : List ℕ) (stamp : Stamp) → date_value line text ≡ Ok stamp → IsStamp stamp
 date_value-stamp line text stamp h = basic-stamp (trim text) stamp (ok_or_ok (basic (trim text)) (BadMoment line) stamp h)
@@ -62,7 +57,7 @@ module _ (offset : Option ℤ) (start : Stamp) where
   pub date_beside-in_years : (line : ℕ) (stamp : Stamp) (at : ℤ) → IsStamp stamp → date_beside offset start line stamp ≡ Ok at → IsInYears start.kind at
   date_beside-in_years line stamp at s h =
       let tested = passed (is_same_kind start.kind stamp.kind) (moment_beside offset start line stamp) (MixedKinds line) at h in
-      subst (λ (k : Kind). IsInYears k at) (sym (same_kind start.kind stamp.kind tested.0)) (moment_beside-in_years line stamp at s tested.1)
+      subst (λ (k : Kind). IsInYears k at) (sym ((same_kind_is start.kind stamp.kind).0 tested.0)) (moment_beside-in_years line stamp at s tested.1)
 
 -- ---- rules and dates
 

@@ -1,5 +1,5 @@
 -- What is read of a list is valid.
-use Rattle.std.proofs.Common.{◌≡◌, ℕ, ◌+◌, ◌<◌, ◌≤◌, Bool, true, false, if◌then◌else◌, List, [], ◌∷◌, length, Option, None, Some, Result, Ok, Err, ℤ, pos}
+use Rattle.std.proofs.Common.{◌≡◌, ℕ, ◌+◌, ◌<◌, ◌≤◌, Bool, true, false, if◌then◌else◌, List, [], length, Option, None, Some, Result, Ok, Err, ℤ, pos}
 use Rattle.std.proofs.Common.{refl, sym, subst, arith}
 use Rattle.std.specs.Prelude.{All, int_lt}
 use Rattle.std.specs.Result.{IfOk}
@@ -12,33 +12,18 @@ use Rattle.rr_model.specs.Rising.{Rises, with_value}
 use Rattle.rr_model.specs.Series.Validity.{IsValidSeries}
 use Rattle.rr_model.specs.Text.Lists.{empty_list, with_next, series_of_list}
 use Rattle.rr_model.specs.declared.kind.Kind.{Kind}
-use Rattle.rr_model.specs.declared.kind.Kind.TheVariants.{Days, Moments}
 use Rattle.rr_model.specs.declared.listed.ListedDates.{ListedDates}
 use Rattle.rr_model.specs.declared.refusal.Fault.{Fault}
 use Rattle.rr_model.specs.declared.refusal.Refusal.TheVariants.{MixedKinds, NotRising}
 use Rattle.rr_model.specs.declared.stamp.Stamp.{Stamp}
+use Rattle.rr_model.proofs.MemberLemmas.{same_kind_is}
 use Rattle.rr_model.proofs.RisingLemmas.{All-with_value, Rises-with_value}
 use Rattle.rr_model.proofs.YearLemmas.{four_digit_year}
 use Rattle.rr_ical.specs.Listed.{AreInYears, IsValidListed}
-
-length-with_value : {X : Type 0} (below : X → X → Bool) (xs : List X) (v : X) → length (with_value below xs v) ≤ length xs + 1
-length-with_value below [] v = omega arith
-length-with_value below (y ∷ ys) v = by (below y v) (below v y) (length-with_value below ys v)
-  where
-    by : (b c : Bool) → length (with_value below ys v) ≤ length ys + 1
-        → length (if b then y ∷ with_value below ys v else (if c then v ∷ y ∷ ys else y ∷ ys)) ≤ length (y ∷ ys) + 1
-    by true c h = omega (arith, h)
-    by false true h = omega arith
-    by false false h = omega arith
+use Rattle.rr_ical.proofs.PassLemmas.{length-with_value}
 
 pub empty_list_valid : IsValidListed empty_list
 empty_list_valid = record { in_years = refl; rises = tt; counted = omega arith; few = omega arith }
-
-same_kind : (kind other : Kind) → is_same_kind kind other ≡ true → kind ≡ other
-same_kind Days Days h = refl
-same_kind Moments Moments h = refl
-same_kind Days Moments h = absurd (cc)
-same_kind Moments Days h = absurd (cc)
 
 -- the values with one more
 with_next-valid : (line : ℕ) (so_far : ListedDates) (first : Option Stamp) (stamp : Stamp) (next : ListedDates) → so_far.first ≡ first
@@ -77,7 +62,7 @@ with_next-valid line so_far (Some first) stamp next some v few in_years h = by (
         → (if b then (if c then Ok more else Err (NotRising line)) else Err (MixedKinds line)) ≡ Ok next → IsValidListed next
     by true true same h =
         let e : more ≡ next = cc in
-        subst IsValidListed e (valid (same_kind first.kind stamp.kind same))
+        subst IsValidListed e (valid ((same_kind_is first.kind stamp.kind).0 same))
     by true false same h = absurd (cc)
     by false c same h = absurd (cc)
 

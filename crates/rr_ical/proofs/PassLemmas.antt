@@ -203,7 +203,7 @@ first_pass-counts language pass lines next h = (
 
 -- ---- the second pass
 
-length-with_value : {X : Type 0} (below : X → X → Bool) (xs : List X) (v : X) → length (with_value below xs v) ≤ length xs + 1
+pub length-with_value : {X : Type 0} (below : X → X → Bool) (xs : List X) (v : X) → length (with_value below xs v) ≤ length xs + 1
 length-with_value below [] v = omega arith
 length-with_value below (y ∷ ys) v = by (below y v) (below v y) (length-with_value below ys v)
   where

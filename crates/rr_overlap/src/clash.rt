@@ -1,5 +1,5 @@
 // Whether two sets of occurrences that last ever clash.
-ghost use Rattle.std.specs.Prelude.{◌≡◌, ◌≤◌, ◌+◌, ◌⊎◌, IfSome, IfNone, None, pos, ◌+ℤ◌, ◌≤ℤ◌};
+ghost use Rattle.std.specs.Prelude.{◌≡◌, ◌≤◌, ◌+◌, ◌⊎◌, IfSome, IfNone, None};
 ghost use Rattle.rr_model.specs.Whole.Divisors.{lcm};
 ghost use Rattle.rr_model.specs.Sets.Sketch.{IsEmptySketch, IsNearDay, times_on};
 ghost use Rattle.rr_overlap.specs.Apart.{IsLastBefore};
@@ -10,7 +10,7 @@ use crate::begun::Durations;
 use crate::days::first_meeting;
 use rr_model::{Kind, MAX_CYCLE_DAYS, day_part};
 use rr_num::lcm_within;
-use rr_word::DaySeq;
+use rr_word::{DaySeq, days_between};
 
 // The days of the longest duration.
 const LONGEST_DAYS: u64 = 366;
@@ -80,17 +80,6 @@ fn first_day<A: DaySeq, B: DaySeq>(a: &A, b: &B) -> Option<i64>
         return None;
     };
     Some(of_a.min(of_b))
-}
-
-// How many days lie from one day to another.
-fn days_between(from: i64, to: i64) -> u64
-    requires near { IsNearDay from }
-    requires to_near { IsNearDay to }
-    requires order { from ≤ℤ to }
-    ensures value { to ≡ from +ℤ pos result }
-    ensures few { result ≤ 2_000_000_000 }
-{
-    (to - from) as u64
 }
 
 // After how many days two sequences repeat together.

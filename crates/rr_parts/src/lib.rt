@@ -13,7 +13,7 @@ mod units;
 pub use dates::date_parts_hold;
 pub use filled::{wants_hour, wants_minute, wants_month, wants_month_day, wants_second};
 pub use moment::Moment;
-pub use numbers::{allows, allows_filled, lists_number};
+pub use numbers::{allows, allows_filled, allows_signed, lists_number, number_from_back};
 pub use ordinals::is_ordinal_of_day;
 pub use times::{Time, time_of, time_parts_hold};
 pub use units::{fits, interval_holds, seconds_of_unit, unit_number};

@@ -26,8 +26,8 @@ pub fn allows(numbers: &Numbers, n: i16) -> bool
     numbers.is_empty() || lists(numbers, n)
 }
 
-// Whether the part is absent, or lists the k-th of `many`, from the front or from the back.
-pub(crate) fn allows_signed(numbers: &Numbers, k: u16, many: u16) -> bool
+/// Whether a BY part is absent, or lists the k-th of `many`, from the front or from the back (RFC 5545, section 3.3.10).
+pub fn allows_signed(numbers: &Numbers, k: u16, many: u16) -> bool
     requires number { k ≤ 366 }
     requires most { many ≤ 366 }
     ensures { result ≡ allows_signed numbers.now (pos k) (pos many) }
@@ -35,8 +35,8 @@ pub(crate) fn allows_signed(numbers: &Numbers, k: u16, many: u16) -> bool
     numbers.is_empty() || lists(numbers, k as i16) || lists(numbers, number_from_back(k, many))
 }
 
-// The number of the k-th of `many`, from the back as a negative number.
-fn number_from_back(k: u16, many: u16) -> i16
+/// The number of the k-th of `many`, from the back as a negative number: -1 for the last.
+pub fn number_from_back(k: u16, many: u16) -> i16
     requires number { k ≤ 366 }
     requires most { many ≤ 366 }
     ensures { result ≡ (pos k -ℤ pos many) -ℤ pos 1 }

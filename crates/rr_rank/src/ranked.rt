@@ -15,7 +15,7 @@ use rr_model::{Kind, NoMemory, day_part, moment_at};
 use rr_steps::Steps;
 use rr_sums::{Entry, Sums};
 use rr_times::count_below;
-use rr_word::{Counted, DaySeq};
+use rr_word::{Counted, DaySeq, days_between};
 use std::alloc::Global;
 use std::marker::Model;
 use std::sync::ledger::Ledger;
@@ -210,17 +210,6 @@ fn begin_of<A: DaySeq + Drop>(seq: &Counted<A>) -> i64
         None => settled,
         Some(first) => first.min(settled),
     }
-}
-
-// How many days lie from one day to another.
-fn days_between(from: i64, to: i64) -> u64
-    requires near { IsNearDay from }
-    requires to_near { IsNearDay to }
-    requires order { from ≤ℤ to }
-    ensures value { to ≡ from +ℤ pos result }
-    ensures few { result ≤ 2_000_000_000 }
-{
-    (to - from) as u64
 }
 
 // The day that lies `days` days after another.

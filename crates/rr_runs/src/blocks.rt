@@ -1,8 +1,8 @@
 // Blocks of numbers, which are compared at once.
 ghost use Rattle.std.specs.Prelude.{◌≡◌, ◌<◌, ◌≤◌, ℕ, IsTrue, length, get_or, ◌+◌};
 
-// How many numbers a page has: nine weeks of days, of which 2,319 are 400 years.
-pub(crate) const PAGE: usize = 63;
+/// How many numbers a page has: nine weeks of days, of which 2,319 are 400 years.
+pub const PAGE_LENGTH: usize = 63;
 
 // How many numbers are compared at once: half a page, so that two blocks are a page, and a number is in both.
 pub(crate) const BLOCK: usize = 32;
@@ -82,7 +82,7 @@ pub(crate) fn are_equal(xs: &[u32], ys: &[u32]) -> bool
     requires ys { length ys.now ≡ 63 }
     ensures { IsTrue result → xs.now ≡ ys.now }
 {
-    is_same_block(xs, ys, 0) && is_same_block(xs, ys, PAGE - BLOCK)
+    is_same_block(xs, ys, 0) && is_same_block(xs, ys, PAGE_LENGTH - BLOCK)
 }
 
 // Whether the numbers of the block that begins at an index are the same. No index is left out, so that several are compared at once.

@@ -9,5 +9,6 @@ mod pool;
 mod room;
 mod run_days;
 
+pub use blocks::PAGE_LENGTH;
 pub use pages::Pages;
 pub use run_days::RunDays;

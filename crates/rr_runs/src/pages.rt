@@ -2,7 +2,7 @@
 ghost use Rattle.std.specs.Prelude.{◌≡◌, ◌<◌, ◌≤◌, ◌∷◌, ◌++◌, [], IfOk, OnErr, OnOk, length, get_or, take, drop, replicate, ◌+◌, ◌*◌};
 ghost use Rattle.rr_runs.specs.Pages.{IsPiece, IsZeroFrom, PutsSome};
 
-use crate::blocks::{PAGE, leading_same};
+use crate::blocks::{PAGE_LENGTH, leading_same};
 use crate::copies::{copy_to_start, first_numbers, put_again, put_same, rest_from};
 use crate::pool::{LOOKED_AT, rest_of_page, zero_pages};
 use crate::room::{OPEN, has_room, make_room, put_pages_of, room_left};
@@ -56,7 +56,7 @@ impl Pages {
         ensures value { result ≡ length self.now }
         ensures few { result ≤ 6_300_000_063 }
     {
-        self.pages.len() * PAGE + self.rest.len()
+        self.pages.len() * PAGE_LENGTH + self.rest.len()
     }
 
     /// Makes room for `count` more numbers, as far as these are kept as they are. It only saves time.
@@ -178,7 +178,7 @@ impl Pages {
             &mut self.rest,
             &mut self.remembered,
         )?;
-        let pages = most / PAGE;
+        let pages = most / PAGE_LENGTH;
         if pages == 0 || self.pages.is_empty() || !self.rest.is_empty() {
             let count = room_left(&self.pages, &self.rest).min(most);
             put_same(&mut self.rest, number, count)?;
@@ -191,7 +191,7 @@ impl Pages {
             number,
             pages,
         )?;
-        put_same(&mut self.rest, number, most % PAGE)?;
+        put_same(&mut self.rest, number, most % PAGE_LENGTH)?;
         Ok(most)
     }
 
@@ -209,7 +209,7 @@ impl Pages {
         }
         let pages = self.push_pages_again(index, most)?;
         if pages > 0 {
-            return Ok(pages * PAGE);
+            return Ok(pages * PAGE_LENGTH);
         }
         self.push_block_again(index, most)
     }
@@ -220,7 +220,7 @@ impl Pages {
         requires within { index + most ≤ length self.old }
         ensures { IfOk result (PutsSome self.old self.new most (drop index self.old)) }
     {
-        let mut block = [0; PAGE];
+        let mut block = [0; PAGE_LENGTH];
         let count = self.read_into(&mut block, index, most);
         let put = self.push_some(first_numbers(&block, count))?;
         Ok(put)
@@ -237,7 +237,7 @@ impl Pages {
             return self.push_piece_of(other, index, most);
         }
         let zeros = other.zeros_from(index).min(most);
-        if zeros < PAGE {
+        if zeros < PAGE_LENGTH {
             return self.push_piece_of(other, index, most);
         }
         self.push_same(0, zeros)?;
@@ -268,11 +268,11 @@ impl Pages {
             &mut self.rest,
             &mut self.remembered,
         )?;
-        let count = most / PAGE;
-        if index % PAGE != 0 || !has_room(&self.pages, &self.rest, count) {
+        let count = most / PAGE_LENGTH;
+        if index % PAGE_LENGTH != 0 || !has_room(&self.pages, &self.rest, count) {
             return Ok(0);
         }
-        put_again(&mut self.pages, index / PAGE, count)?;
+        put_again(&mut self.pages, index / PAGE_LENGTH, count)?;
         Ok(count)
     }
 
@@ -287,7 +287,7 @@ impl Pages {
         ensures room { length block.new ≡ 63 }
         ensures value { take result block.new ≡ take result (drop index self.now) }
     {
-        let piece = self.piece_within(index, most.min(PAGE));
+        let piece = self.piece_within(index, most.min(PAGE_LENGTH));
         copy_to_start(block, piece);
         piece.len()
     }
@@ -318,12 +318,12 @@ impl Pages {
         requires { index < length self.now }
         ensures { IsPiece self.now index result.now }
     {
-        let paged = self.pages.len() * PAGE;
+        let paged = self.pages.len() * PAGE_LENGTH;
         if index >= paged {
             return rest_from(&self.rest, index - paged);
         }
-        let page = index / PAGE;
-        rest_of_page(&self.pool, self.pages[page] as usize, index % PAGE)
+        let page = index / PAGE_LENGTH;
+        rest_of_page(&self.pool, self.pages[page] as usize, index % PAGE_LENGTH)
     }
 
     /// How many numbers from an index on are surely 0: 0 where the number itself is not. All up to the first other number are
@@ -347,7 +347,7 @@ impl Pages {
         let end = self.len();
         let here = self.zeros_in_piece(index);
         let next = index + here;
-        let pages = self.zero_pages_from(next) * PAGE;
+        let pages = self.zero_pages_from(next) * PAGE_LENGTH;
         if pages == 0 || next + pages >= end {
             return here + pages;
         }
@@ -367,8 +367,8 @@ impl Pages {
         requires { index ≤ length self.now }
         ensures { IsZeroFrom self.now index (result * 63) }
     {
-        let page = index / PAGE;
-        if index % PAGE != 0 || page >= self.pages.len() {
+        let page = index / PAGE_LENGTH;
+        if index % PAGE_LENGTH != 0 || page >= self.pages.len() {
             return 0;
         }
         zero_pages(

@@ -2,7 +2,7 @@
 ghost use Rattle.std.specs.Prelude.{◌≡◌, ◌<◌, ◌≤◌, ℕ, IfOk, IfSome, IsTrue, length, get_or, take, drop, replicate, ◌+◌, ◌-◌};
 ghost use Rattle.rr_runs.specs.Pages.{ArePages, IsGrown, IsPageOf, IsZeroPage};
 
-use crate::blocks::{BLOCK, PAGE, are_equal, is_block_of, leading_same};
+use crate::blocks::{BLOCK, PAGE_LENGTH, are_equal, is_block_of, leading_same};
 use crate::copies::rest_from;
 use rr_model::NoMemory;
 
@@ -36,7 +36,7 @@ fn is_zero_page(pool: &[u32], page: u32) -> bool
     ensures { IsTrue result → IsZeroPage pool.now page }
 {
     let from = page as usize;
-    is_block_of::<BLOCK>(pool, from, 0) && is_block_of::<BLOCK>(pool, from + PAGE - BLOCK, 0)
+    is_block_of::<BLOCK>(pool, from, 0) && is_block_of::<BLOCK>(pool, from + PAGE_LENGTH - BLOCK, 0)
 }
 
 // The numbers of a page of the pool from one of them on.
@@ -46,7 +46,7 @@ pub(crate) fn rest_of_page(pool: &[u32], page: usize, from: usize) -> &[u32]
     requires from { from < 63 }
     ensures { result.now ≡ take (63 - from) (drop (page + from) pool.now) }
 {
-    &pool[page + from..page + PAGE]
+    &pool[page + from..page + PAGE_LENGTH]
 }
 
 // A page of the pool that has these numbers: the one that was put last, where that was put twice and has them.
@@ -110,18 +110,18 @@ pub(crate) fn page_of_same(
             return Ok(*guess);
         }
     }
-    page_of(pool, remembered, &[number; PAGE])
+    page_of(pool, remembered, &[number; PAGE_LENGTH])
 }
 
 // Whether this is the one number of the page that begins at an index in the pool.
 fn is_page_of_same(pool: &[u32], page: usize, number: u32) -> bool
     ensures { IsTrue result → IsPageOf pool.now (replicate 63 number) page }
 {
-    if pool.len() < PAGE || page > pool.len() - PAGE {
+    if pool.len() < PAGE_LENGTH || page > pool.len() - PAGE_LENGTH {
         return false;
     }
     is_block_of::<BLOCK>(pool, page, number)
-        && is_block_of::<BLOCK>(pool, page + PAGE - BLOCK, number)
+        && is_block_of::<BLOCK>(pool, page + PAGE_LENGTH - BLOCK, number)
 }
 
 // Whether these are the numbers of the page that begins at an index in the pool.
@@ -129,10 +129,10 @@ fn is_page(pool: &[u32], page: usize, numbers: &[u32]) -> bool
     requires { length numbers.now ≡ 63 }
     ensures { IsTrue result → IsPageOf pool.now numbers.now page }
 {
-    if pool.len() < PAGE || page > pool.len() - PAGE {
+    if pool.len() < PAGE_LENGTH || page > pool.len() - PAGE_LENGTH {
         return false;
     }
-    are_equal(&pool[page..page + PAGE], numbers)
+    are_equal(&pool[page..page + PAGE_LENGTH], numbers)
 }
 
 // Puts a page at the end of the pool.
@@ -154,7 +154,7 @@ fn remembered_index(numbers: &[u32]) -> usize
     requires { length numbers.now ≡ 63 }
 {
     let mut sum: u32 = 0;
-    for k in 0..PAGE {
+    for k in 0..PAGE_LENGTH {
         sum = sum.wrapping_add(numbers[k].wrapping_mul(weight(k as u32)));
     }
     (sum >> 20) as usize
@@ -169,7 +169,7 @@ fn index_of_same(number: u32) -> usize {
 #[inline(always)]
 fn sum_of_weights() -> u32 {
     let mut sum: u32 = 0;
-    for k in 0..PAGE {
+    for k in 0..PAGE_LENGTH {
         sum = sum.wrapping_add(weight(k as u32));
     }
     sum

@@ -2,7 +2,7 @@
 ghost use Rattle.std.specs.Prelude.{◌≡◌, ◌≤◌, ◌++◌, [], IsTrue, OnErr, OnOk, length, replicate, ◌+◌, ◌*◌, ◌/◌, ◌%◌};
 ghost use Rattle.rr_runs.specs.Pages.{ArePages, HasRoom, IsGrown, IsPaged, kept_list, paged};
 
-use crate::blocks::PAGE;
+use crate::blocks::PAGE_LENGTH;
 use crate::copies::{first_numbers, put_same, rest_from};
 use crate::pool::{page_for, page_of_same};
 use rr_model::NoMemory;
@@ -32,7 +32,7 @@ pub(crate) fn room_left(pages: &Vec<u32>, rest: &Vec<u32>) -> usize
     if pages.is_empty() {
         OPEN - rest.len()
     } else {
-        PAGE - rest.len()
+        PAGE_LENGTH - rest.len()
     }
 }
 
@@ -71,11 +71,11 @@ fn close(
         ≡ kept_list pool.old.items pages.old.items rest.old.items }
     ensures none { OnOk result (rest.new.items ≡ []) }
 {
-    if rest.len() == PAGE {
+    if rest.len() == PAGE_LENGTH {
         return close_page(pool, pages, rest, remembered);
     }
     let before = pages.len();
-    if before + rest.len() / PAGE > MOST_PAGES {
+    if before + rest.len() / PAGE_LENGTH > MOST_PAGES {
         return Err(NoMemory);
     }
     match put_pages(pool, pages, remembered, rest.as_slice()) {
@@ -117,7 +117,7 @@ fn close_page(
 fn let_go(rest: &mut Vec<u32>)
     ensures { rest.new.items ≡ [] }
 {
-    let many = rest.len() > PAGE;
+    let many = rest.len() > PAGE_LENGTH;
     rest.clear();
     if many {
         rest.shrink_to_fit();
@@ -142,9 +142,9 @@ fn put_pages(
         ≡ length pages.old.items + length numbers.now / 63) }
 {
     let mut left = numbers;
-    while left.len() >= PAGE {
-        put_page(pool, pages, remembered, first_numbers(left, PAGE))?;
-        left = rest_from(left, PAGE);
+    while left.len() >= PAGE_LENGTH {
+        put_page(pool, pages, remembered, first_numbers(left, PAGE_LENGTH))?;
+        left = rest_from(left, PAGE_LENGTH);
     }
     Ok(())
 }

@@ -18,13 +18,14 @@ use crate::rule_walk::RuleWalk;
 use rr_cal::{Day, days_in_unit, first_day_of_unit, unit_of_day, week_index};
 use rr_expand::{AllowedDays, first_fit, times};
 use rr_lazy::OccupiedDay;
-use rr_model::{Freq, Kind, NoMemory, Rule, day_part, second_part};
+use rr_model::{Freq, Kind, NoMemory, Rule, SECONDS_OF_DAY, day_part, second_part};
 use rr_shapes::SetTable;
 use rr_times::TimeSet;
 use std::alloc::Global;
 use std::marker::Model;
 
-pub(crate) const SECONDS_OF_DAY: u32 = 86_400;
+// The first second past a day's last.
+pub(crate) const END_OF_DAY: u32 = SECONDS_OF_DAY as u32;
 
 // A day and the number of its unit.
 #[derive(Clone, Copy)]
@@ -236,7 +237,7 @@ impl DayRule {
     {
         let first = self.first_second(day);
         if first > 0 {
-            let times = TimeSet::cut(alloc, &self.times, first, SECONDS_OF_DAY)?;
+            let times = TimeSet::cut(alloc, &self.times, first, END_OF_DAY)?;
             return day_of_times(sets, day, times);
         }
         let count = self.times.as_slice().len();
@@ -375,7 +376,7 @@ pub(crate) fn first_second(day: i64, start_day: i64, start_second: u32) -> u32
     } else if day == start_day {
         start_second
     } else {
-        SECONDS_OF_DAY
+        END_OF_DAY
     }
 }
 

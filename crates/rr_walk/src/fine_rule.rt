@@ -13,7 +13,7 @@ ghost use Rattle.rr_walk.specs.Ruling.{AllowsDay, IsChosenSecond, IsSameRuling, 
 ghost use Rattle.rr_walk.specs.Steps.{HasBegun, tree_of_ruling};
 ghost use Rattle.rr_walk.specs.Walk.{IsFirstFine, IsFirstSecond, IsFirstUpToIn, IsOnDayIn};
 
-use crate::day_rule::{SECONDS_OF_DAY, day_of_times, first_second};
+use crate::day_rule::{END_OF_DAY, day_of_times, first_second};
 use crate::offsets::{at_offsets, chosen_offsets};
 use crate::rule_walk::RuleWalk;
 use rr_expand::{
@@ -175,7 +175,7 @@ impl FineRule {
         let chosen = sets.times(number);
         let first = self.first_second(day);
         if first > 0 {
-            let times = TimeSet::cut(alloc, chosen, first, SECONDS_OF_DAY)?;
+            let times = TimeSet::cut(alloc, chosen, first, END_OF_DAY)?;
             return day_of_times(sets, day, times);
         }
         let count = chosen.as_slice().len();

@@ -10,7 +10,7 @@ ghost use Rattle.rr_walk.specs.Ruling.{AreUnitDays, IsCandidateAt, IsFittingUnit
 ghost use Rattle.rr_walk.specs.Steps.{tree_of_ruling};
 ghost use Rattle.rr_walk.specs.Walk.{AreSecondsOn, IsFirstInIn, IsFirstOf, IsFirstOfIn, IsFirstUpToIn, IsOnDayIn};
 
-use crate::day_rule::{DayRule, SECONDS_OF_DAY, day_of_times, whole_unit};
+use crate::day_rule::{DayRule, END_OF_DAY, day_of_times, whole_unit};
 use crate::set_positions::{next_rank, times_at_positions};
 use rr_lazy::OccupiedDay;
 use rr_model::NoMemory;
@@ -164,7 +164,7 @@ impl DayRule {
         let from = self.first_second(day);
         let positions = &self.rule.by_set_pos;
         let chosen = times_at_positions(alloc, &self.times, rank, count, positions)?;
-        TimeSet::cut(alloc, &chosen, from, SECONDS_OF_DAY)
+        TimeSet::cut(alloc, &chosen, from, END_OF_DAY)
     }
 }
 

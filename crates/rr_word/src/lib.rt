@@ -4,6 +4,7 @@
 
 mod counted;
 mod day_seq;
+mod days;
 mod laws;
 mod least;
 mod merge;
@@ -12,6 +13,7 @@ mod same;
 
 pub use counted::{Counted, Later};
 pub use day_seq::{DaySeq, Stretch};
+pub use days::days_between;
 pub use laws::{
     agreement_lasts, agreement_of_lists_lasts, each_has_one_least_sketch, least_period_divides,
     least_sketch_is_one, window_lasts,

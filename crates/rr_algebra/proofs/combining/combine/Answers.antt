@@ -1,11 +1,13 @@
 use Rattle.std.proofs.Common.{◌≡◌, ◌≢◌, ◌≤◌, pos, ◌+ℤ◌, ◌≤ℤ◌, Bool, true, false, arith, sym, ◌∙◌, subst}
 use Rattle.std.proofs.lemmas.Int.{ints}
 use Rattle.std.proofs.lemmas.Result.{IfOk-weaker}
+use Rattle.rr_model.proofs.MemberLemmas.{same_kind_is}
 use Rattle.rr_word.proofs.SketchLemmas.{set_on}
 use Rattle.rr_days.specs.Sequence.{sketch}
 use Rattle.rr_algebra.specs.Combined.{IsCombinedJudged, combined}
 use Rattle.rr_algebra.specs.Combining.{IsDaySet}
 use Rattle.rr_model.specs.Bounds.{latest_near}
+use Rattle.rr_model.specs.Moment.{is_same_kind}
 use Rattle.rr_model.specs.Sets.Sketch.{StandsFor, StandsIn, times_on}
 use Rattle.rr_model.specs.declared.kind.Kind.{Kind}
 use Rattle.rr_model.specs.declared.limits.TheConstants.{MAX_CYCLE_DAYS}
@@ -37,15 +39,18 @@ bounds g c =
       other_near = (let near = c.requires.other_near in omega (arith, ints, above.1, near));
     }
 
--- two kinds that were told apart
-kinds_apart : (a b k l : Kind) (same : Bool) → a ≡ k → b ≡ l → (a ≡ b → same ≡ true) → same ≡ false → k ≢ l
-kinds_apart a b k l same a_is b_is is not e = let yes = is (a_is ∙ e ∙ sym b_is) in cc
+-- two kinds that were found the same, and two that were told apart
+found_same : (a b : Kind) (same : Bool) → same ≡ is_same_kind a b → same ≡ true → a ≡ b
+found_same a b same is holds = (same_kind_is a b).0 (sym is ∙ holds)
+
+kinds_apart : (a b k l : Kind) (same : Bool) → a ≡ k → b ≡ l → same ≡ is_same_kind a b → same ≡ false → k ≢ l
+kinds_apart a b k l same a_is b_is is not e = let yes = (same_kind_is a b).1 (a_is ∙ e ∙ sym b_is) in cc
 
 pub returns-then-same-clause-stands : goal.returns-then-same-clause-stands
 returns-then-same-clause-stands g c =
     let s = g.A.DaySeq.sketch c.args.one.now in
     let u = g.B.DaySeq.sketch c.args.other.now in
-    let same = c.is_one_kind-same.ensures.0 c.if-same.true in
+    let same = found_same _ _ _ c.is_same-same.ensures c.if-same.true in
     both_ok c.sequence_of_both.result _ _ _ c.sequence_of_both.ensures.kind c.sequence_of_both.ensures.days
     (λ f k days. stands_for c.args.op s u (sketch f) days (sym (k ∙ c.kind-kind.ensures)) (sym c.kind.ensures ∙ sym same ∙ sym k))
 
@@ -57,7 +62,7 @@ sequence_of_both-requires-clause-first g c d =
 pub sequence_of_both-requires-clause-second : goal.sequence_of_both-requires-clause-second
 sequence_of_both-requires-clause-second g c d =
     let u = g.B.DaySeq.sketch c.args.other.now in
-    let same = c.is_one_kind-same.ensures.0 c.if-same.true in
+    let same = found_same _ _ _ c.is_same-same.ensures c.if-same.true in
     subst (λ k. IsDaySet k (times_on u d)) (sym c.kind.ensures ∙ sym same) (set_on u d (g.met.B.DaySeq.bounded c.args.other.now).valid)
 
 pub union_apart-requires-clause-cycle : goal.union_apart-requires-clause-cycle
@@ -95,7 +100,7 @@ pub returns-in-Common-clause-stands : goal.returns-in-Common-clause-stands
 returns-in-Common-clause-stands g c =
     let s = g.A.DaySeq.sketch c.args.one.now in
     let u = g.B.DaySeq.sketch c.args.other.now in
-    let apart : s.kind ≢ u.kind = kinds_apart _ _ _ _ _ c.kind-kind.ensures c.kind.ensures c.is_one_kind-same.ensures.1 c.if-same.false in
+    let apart : s.kind ≢ u.kind = kinds_apart _ _ _ _ _ c.kind-kind.ensures c.kind.ensures c.is_same-same.ensures c.if-same.false in
     IfOk-weaker c.with_itself.result _ _
     (λ f h. subst (λ op. StandsFor (sketch f) (combined op (StandsIn s) (StandsIn u))) (sym c.in-Common.is) (common_apart s u (sketch f) apart h)) c.with_itself.ensures.stands
 
@@ -103,7 +108,7 @@ pub returns-in-Minus-clause-stands : goal.returns-in-Minus-clause-stands
 returns-in-Minus-clause-stands g c =
     let s = g.A.DaySeq.sketch c.args.one.now in
     let u = g.B.DaySeq.sketch c.args.other.now in
-    let apart : s.kind ≢ u.kind = kinds_apart _ _ _ _ _ c.kind-kind.ensures c.kind.ensures c.is_one_kind-same.ensures.1 c.if-same.false in
+    let apart : s.kind ≢ u.kind = kinds_apart _ _ _ _ _ c.kind-kind.ensures c.kind.ensures c.is_same-same.ensures c.if-same.false in
     IfOk-weaker c.with_itself-in-Minus.result _ _
     (λ f h. subst (λ op. StandsFor (sketch f) (combined op (StandsIn s) (StandsIn u))) (sym c.in-Minus.is) (minus_apart s u (sketch f) apart h)) c.with_itself-in-Minus.ensures.stands
 
@@ -111,7 +116,7 @@ pub returns-then-same-clause-judged : goal.returns-then-same-clause-judged
 returns-then-same-clause-judged g c =
     let s = g.A.DaySeq.sketch c.args.one.now in
     let u = g.B.DaySeq.sketch c.args.other.now in
-    let same : s.kind ≡ u.kind = sym c.kind-kind.ensures ∙ c.is_one_kind-same.ensures.0 c.if-same.true ∙ c.kind.ensures in
+    let same : s.kind ≡ u.kind = sym c.kind-kind.ensures ∙ found_same _ _ _ c.is_same-same.ensures c.if-same.true ∙ c.kind.ensures in
     judged_so c.args.op s u c.args.op s u (alike_same c.args.op s u same) c.sequence_of_both.result (not_mixed_same c.args.op s u same) c.sequence_of_both.ensures.refused
 
 pub returns-in-Union-clause-judged : goal.returns-in-Union-clause-judged
@@ -124,7 +129,7 @@ pub returns-in-Common-clause-judged : goal.returns-in-Common-clause-judged
 returns-in-Common-clause-judged g c =
     let s = g.A.DaySeq.sketch c.args.one.now in
     let u = g.B.DaySeq.sketch c.args.other.now in
-    let apart : s.kind ≢ u.kind = kinds_apart _ _ _ _ _ c.kind-kind.ensures c.kind.ensures c.is_one_kind-same.ensures.1 c.if-same.false in
+    let apart : s.kind ≢ u.kind = kinds_apart _ _ _ _ _ c.kind-kind.ensures c.kind.ensures c.is_same-same.ensures c.if-same.false in
     subst (λ op. IsCombinedJudged MixedSets TooManyMoments op s u c.with_itself.result) (sym c.in-Common.is)
     (judged_so Common s u Minus s s (alike_common s u apart) c.with_itself.result (λ mixed. mixed) c.with_itself.ensures.refused)
 
@@ -132,6 +137,6 @@ pub returns-in-Minus-clause-judged : goal.returns-in-Minus-clause-judged
 returns-in-Minus-clause-judged g c =
     let s = g.A.DaySeq.sketch c.args.one.now in
     let u = g.B.DaySeq.sketch c.args.other.now in
-    let apart : s.kind ≢ u.kind = kinds_apart _ _ _ _ _ c.kind-kind.ensures c.kind.ensures c.is_one_kind-same.ensures.1 c.if-same.false in
+    let apart : s.kind ≢ u.kind = kinds_apart _ _ _ _ _ c.kind-kind.ensures c.kind.ensures c.is_same-same.ensures c.if-same.false in
     subst (λ op. IsCombinedJudged MixedSets TooManyMoments op s u c.with_itself-in-Minus.result) (sym c.in-Minus.is)
     (judged_so Minus s u Union s s (alike_minus s u apart) c.with_itself-in-Minus.result (λ mixed. mixed) c.with_itself-in-Minus.ensures.refused)

@@ -8,8 +8,9 @@ loop-next-init c = next_first (λ i. allows_signed c.args.numbers.now (pos i) (p
 
 pub loop-next-preserved : goal.loop-next-preserved
 loop-next-preserved c =
+    let listed = rw (c.from.ensures, c.from-in-loop-next.ensures) at c.allows_signed.ensures in
     next_more (λ i. allows_signed c.args.numbers.now (pos i) (pos c.args.many)) c.args.k c.args.many c.loop-next.next (omega (arith, c.loop-next-test.true))
-    (sym c.allows_kth.ensures ∙ c.if-allows_kth.false) c.loop-next.invariant
+    (sym listed ∙ c.if-allows_signed.false) c.loop-next.invariant
 
 pub returns : goal.returns
 returns c =

@@ -2,7 +2,6 @@ use Rattle.std.proofs.Common.{rules, ◌≡◌, ◌∙◌, ap, sym, arith, ℤ, 
 use Rattle.std.proofs.lemmas.Int.{ints}
 use Rattle.rr_model.specs.Calendar.{IsDayWithin, first_day_of_year, year_of}
 use Rattle.rr_model.proofs.CalendarLemmas.{first_day_of_year-next}
-use Rattle.rr_model.proofs.WeekLemmas.{day_number-january_1}
 use Rattle.rr_expand.specs.KeptMasks.{IsMaskedYear}
 use Rattle.rr_expand.specs.declared.allowed_days.MaskedYear.{MaskedYear}
 use Rattle.rr_expand.proofs.KeptMaskLemmas.{year_follows, year_reaches}
@@ -67,14 +66,14 @@ year_is c =
     let fits : FitsSigned w64 c.date_of-number.result.year = search rules in
     to_z-of_z fits ∙ c.date_of-number.ensures.year ∙ ap year_of (to_z-of_z c.ranges.day)
 
-first_is : (c : After-enter_year-arg-else-self-day-2-1) → to_z w64 (of_z w64 c.day_of-first.result) ≡ first_day_of_year (year_of c.args.day)
+first_is : (c : After-enter_year-arg-else-self-day-2-1) → to_z w64 (of_z w64 c.new_year-first.result) ≡ first_day_of_year (year_of c.args.day)
 first_is c =
-    let fits : FitsSigned w64 c.day_of-first.result = search rules in
+    let fits : FitsSigned w64 c.new_year-first.result = search rules in
     let year = year_is (goal.at.enter_year-requires-else-self-day-2-clause-first c).After-struct_told-1 in
-    to_z-of_z fits ∙ (rw (year, day_number-january_1 (year_of c.args.day)) at c.day_of-first.ensures)
+    to_z-of_z fits ∙ (rw year at c.new_year-first.ensures)
 
-pub day_of-first-requires-clause-near : goal.day_of-first-requires-clause-near
-day_of-first-requires-clause-near c = rw (year_is c, day_number-january_1 (year_of c.args.day)) (year_reaches c.args.day c.requires.near).0
+pub new_year-first-requires : goal.new_year-first-requires
+new_year-first-requires c = rw (year_is c) (year_reaches c.args.day c.requires.near).0
 
 pub enter_year-requires-else-self-day-2-clause-first : goal.enter_year-requires-else-self-day-2-clause-first
 enter_year-requires-else-self-day-2-clause-first c =
