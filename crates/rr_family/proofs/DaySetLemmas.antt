@@ -20,7 +20,7 @@ use Rattle.rr_word.proofs.SketchLemmas.{rising_on, second_fits}
 use Rattle.rr_model.proofs.MomentLemmas.{parts_of_moment}
 use Rattle.rr_model.specs.declared.graph.RangeEnd.{RangeEnd}
 use Rattle.rr_model.specs.declared.graph.RangeEnd.TheVariants.{NoEnd, EndDate, Numbered}
-use Rattle.rr_graph.proofs.RepeatLemmas.{at_day, at_time}
+use Rattle.rr_pattern.proofs.RepeatLemmas.{at_day, at_time}
 use Rattle.rr_family.specs.DaySets.{window_days, IsWithin, OccursOnDays, IsOneSecond, IsLastDay, SetOfTest, TestOfEndless, TestOfFinite}
 use Rattle.rr_family.specs.Lasting.{is_occupied, at_second}
 use Rattle.rr_family.specs.Taking.{AgreeWithin}

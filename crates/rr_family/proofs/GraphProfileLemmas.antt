@@ -22,11 +22,11 @@ use Rattle.rr_model.specs.declared.graph.RangeEnd.TheVariants.{NoEnd, EndDate, N
 use Rattle.rr_check.proofs.RuleCycleLemmas.{interval_cycle_some}
 use Rattle.rr_word.proofs.OneLeastLemmas.{one_first}
 use Rattle.rr_word.proofs.WindowLemmas.{RepeatsFrom-multiple}
-use Rattle.rr_graph.proofs.FirstDayLemmas.{found_is_first}
-use Rattle.rr_graph.proofs.MovedStartLemmas.{moved_days}
-use Rattle.rr_graph.proofs.PatternParts.{IsCountedRange, IsFirstDay}
-use Rattle.rr_graph.proofs.RepeatLemmas.{at_day, at_time}
-use Rattle.rr_graph.proofs.ValidPatternLemmas.{used_members, few_intervals, counted_range}
+use Rattle.rr_pattern.proofs.FirstDayLemmas.{found_is_first}
+use Rattle.rr_pattern.proofs.MovedStartLemmas.{moved_days}
+use Rattle.rr_pattern.proofs.PatternParts.{IsCountedRange, IsFirstDay}
+use Rattle.rr_pattern.proofs.RepeatLemmas.{at_day, at_time}
+use Rattle.rr_pattern.proofs.ValidPatternLemmas.{used_members, few_intervals, counted_range}
 use Rattle.rr_family.specs.DaySets.{window_days, IsWithin, OccursOnDays, IsOneSecond}
 use Rattle.rr_family.specs.GraphProfile.{event_of, range_from, IsPatternOf, NoPatternIsLost, PatternHasOneSecond, EndlessPatternHasCycle}
 use Rattle.rr_family.specs.GraphProfile.{EndlessAgreementIsPattern, FiniteAgreementIsPattern}

@@ -34,7 +34,7 @@ use Rattle.rr_model.specs.declared.vcal.FamilyKind.TheVariants as family
 use Rattle.rr_model.specs.declared.item.Item.{Item}
 use Rattle.rr_model.specs.declared.item.Item.TheVariants.{Every, Weekday, MonthDay, Place, Month, YearDay}
 use Rattle.rr_model.specs.declared.vcal.VRule.{VRule}
-use Rattle.rr_graph.proofs.DayCountLemmas.{at_start_second, count_between}
+use Rattle.rr_pattern.proofs.DayCountLemmas.{at_start_second, count_between}
 use Rattle.rr_family.specs.DaySets.{window_days, IsWithin, OccursOnDays, IsOneSecond, IsLastDay}
 use Rattle.rr_family.specs.Lasting.{is_occupied, at_second, HasCycle}
 use Rattle.rr_family.specs.Places.{many_items, from_both_ends, item_at, place_has_day}

@@ -33,9 +33,9 @@ use Rattle.rr_model.specs.declared.vcal.VRule.{VRule}
 use Rattle.rr_vcal_laws.proofs.CounterpartProofs.{same_choices}
 use Rattle.rr_vcal_laws.proofs.MemberLemmas.{AreItemsOf, items_by_recursion, values-none, every-none, weekday-none}
 use Rattle.rr_vcal_laws.proofs.ValidRuleLemmas.{counterpart_is_valid}
-use Rattle.rr_graph.proofs.ValidRuleLemmas.{pattern_counterpart_is_valid}
-use Rattle.rr_graph.proofs.PatternLemmas.{pattern_chooses}
-use Rattle.rr_graph.proofs.ValidPatternLemmas.{used_members}
+use Rattle.rr_pattern.proofs.ValidRuleLemmas.{pattern_counterpart_is_valid}
+use Rattle.rr_pattern.proofs.PatternLemmas.{pattern_chooses}
+use Rattle.rr_pattern.proofs.ValidPatternLemmas.{used_members}
 use Rattle.rr_family.specs.Shift.{family_cycle, form_cycle, items_have_day, RepeatsEverywhere, ItemsRepeat, PatternRepeats, CycleIsCounterparts}
 use Rattle.rr_family.specs.Shift.{CycleIsPatterns}
 

@@ -15,7 +15,7 @@ use Rattle.rr_word.proofs.ShapeLemmas.{int_eq-same, int_eq-differ}
 use Rattle.rr_model.specs.Vcal.Members.{family_unit, item_holds}
 use Rattle.rr_model.specs.declared.vcal.FamilyKind.{FamilyKind}
 use Rattle.rr_model.specs.declared.vcal.FamilyKind.TheVariants as family
-use Rattle.rr_graph.proofs.DayLemmas.{in_month}
+use Rattle.rr_pattern.proofs.DayLemmas.{in_month}
 use Rattle.rr_family.specs.Places.{from_both_ends, item_at}
 use Rattle.rr_family.specs.Sorts.{many_sorts, month_day_sort, place_sort, sort_in_unit, has_sort, KindsHaveSorts}
 use Rattle.rr_family.specs.Tally.{sort_passes}

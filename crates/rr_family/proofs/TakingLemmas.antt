@@ -9,8 +9,7 @@ use Rattle.std.proofs.lemmas.Bool.Decides.{nat_tests}
 use Rattle.std.proofs.lemmas.List.Elements.{recursion_from_All}
 use Rattle.std.proofs.lemmas.Map.Views.{any-filter_same}
 use Rattle.rr_model.specs.Whole.Count.{count_from}
-use Rattle.rr_model.proofs.CountLemmas.{one, count_from-zero, count_from-suc, count_from-le}
-use Rattle.rr_graph.proofs.DayCountLemmas.{count_from-none}
+use Rattle.rr_model.proofs.CountLemmas.{one, count_from-zero, count_from-suc, count_from-le, count_from-empty}
 use Rattle.rr_family.specs.Taking.{some_gives, AgreeWithin, is_sound, sound_places, further_days, first_greatest, taken_within, taken_places}
 use Rattle.rr_family.specs.Taking.{AreAmong, TakingLosesNone, TakingIsSound}
 
@@ -186,9 +185,9 @@ module _ (gives : ℕ → ℤ → Bool) (occupied : ℤ → Bool) (first : ℤ) 
   pub sound_if_gives : (place : ℕ) → ((d : ℤ) → first ≤ℤ d → d <ℤ (first +ℤ pos days) → gives place d ≡ true → occupied d ≡ true)
       → is_sound gives occupied first days place ≡ true
   sound_if_gives place h =
-      let none = count_from-none (λ d. gives place d && not (occupied d)) first days (λ k l.
-      elim (cases_Bool (gives place (first +ℤ pos k))) [
-        | inl g ↦ (let o = h (first +ℤ pos k) (omega (arith, ints)) (omega (arith, ints, l)) g in rw (g, o) refl)
+      let none = count_from-empty (λ d. gives place d && not (occupied d)) first days (λ d low high.
+      elim (cases_Bool (gives place d)) [
+        | inl g ↦ (let o = h d low high g in rw (g, o) refl)
         | inr n ↦ rw n refl
       ]) in
       eq-eqb _ 0 none

@@ -13,8 +13,7 @@ use Rattle.rr_model.specs.Sets.Sketch.{IsFirstDay, IsNearDay, IsValidSketch, tim
 use Rattle.rr_model.specs.Whole.Count.{count_from}
 use Rattle.rr_model.specs.declared.kind.Kind.{Kind}
 use Rattle.rr_model.specs.declared.sketch.Sketch.{Sketch}
-use Rattle.rr_model.proofs.CountLemmas.{one, count_from-suc, count_from-split}
-use Rattle.rr_graph.proofs.DayCountLemmas.{count_from-none}
+use Rattle.rr_model.proofs.CountLemmas.{one, count_from-suc, count_from-split, count_from-empty}
 use Rattle.rr_word.specs.Stretches.{AreFree}
 use Rattle.rr_model.proofs.MomentLemmas.{parts_of_moment}
 use Rattle.rr_word.proofs.SketchLemmas.{repeats_from, second_fits}
@@ -190,7 +189,7 @@ pub counted_free : (p : ℤ → Bool) (q : ℤ) (k n : ℕ) → k ≤ n → ((d 
 counted_free p q k n less free =
     let rest = n - k in
     let whole : n ≡ k + rest = omega (arith, less) in
-    let none = count_from-none p (q +ℤ pos k) rest (λ i m. free ((q +ℤ pos k) +ℤ pos i) (omega (arith, ints)) (omega (arith, ints, m, less))) in
+    let none = count_from-empty p (q +ℤ pos k) rest (λ d low high. free d low (omega (arith, ints, high, less))) in
     ap (count_from p q) whole ∙ count_from-split p q k rest ∙ omega (arith, none)
 
 -- one more occupied day, which lies some free days later

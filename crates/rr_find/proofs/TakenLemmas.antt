@@ -2,12 +2,10 @@
 use Rattle.std.proofs.Common.{◌≡◌, ℕ, zero, suc, ◌+◌, ◌<◌, ◌≤◌, ◌==◌, Bool, true, false, cond, not, ◌&&◌, ◌||◌, List, [], ◌∷◌, Option, None, Some}
 use Rattle.std.proofs.Common.{ℤ, pos, ◌+ℤ◌, ◌≤ℤ◌, ◌<ℤ◌, inl, inr, refl, sym, ap, subst, ◌∙◌, arith}
 use Rattle.std.specs.List.{list_any}
-use Rattle.std.proofs.lemmas.Int.{ints}
 use Rattle.std.proofs.lemmas.Bool.{cases_Bool, cases_eq, eq-eqb, eqb-true, false≢true}
 use Rattle.std.proofs.lemmas.Bool.Decides.{nat_tests}
 use Rattle.rr_model.specs.declared.vcal.FamilyKind.{FamilyKind}
-use Rattle.rr_model.proofs.CountLemmas.{count_from-le}
-use Rattle.rr_graph.proofs.DayCountLemmas.{count_from-none}
+use Rattle.rr_model.proofs.CountLemmas.{count_from-le, count_from-empty}
 use Rattle.rr_family.specs.Places.{many_items, place_has_day}
 use Rattle.rr_family.specs.Profile.{all_places}
 use Rattle.rr_family.specs.Sorts.{many_sorts, sort_of_day, has_sort}
@@ -242,8 +240,8 @@ module _ (f : FamilyKind) (interval : ℕ) (first : ℤ) (occupied : ℤ → Boo
   clear_if_covers taken agree k l =
       elim (cases_Bool (list_any (λ index. has_sort f k index) taken)) [
         | inl has ↦ ap (λ b. cond b 0 (oc k)) has
-        | inr absent ↦ ap (λ b. cond b 0 (oc k)) absent ∙ of_oc k ∙ count_from-none (λ d. sort_passes (λ j. k == j) (sort_of d) && occupied d) first
-            days (λ i m. not_here i m absent)
+        | inr absent ↦ ap (λ b. cond b 0 (oc k)) absent ∙ of_oc k ∙ count_from-empty (λ d. sort_passes (λ j. k == j) (sort_of d) && occupied d)
+            first days (λ d l h. not_here d l h absent)
       ]
     where
       of_sort : (s : Option ℕ) (t : Bool) → (sort_passes (λ j. k == j) s && t) ≡ true → (s ≡ Some k) × (t ≡ true)
@@ -259,14 +257,13 @@ module _ (f : FamilyKind) (interval : ℕ) (first : ℤ) (occupied : ℤ → Boo
           and_false true = refl
           and_false false = refl
 
-      not_here : (i : ℕ) → i < days → list_any (λ index. has_sort f k index) taken ≡ false
-          → (sort_passes (λ j. k == j) (sort_of (first +ℤ pos i)) && occupied (first +ℤ pos i)) ≡ false
-      not_here i m absent =
-          let d = first +ℤ pos i in
+      not_here : (d : ℤ) → first ≤ℤ d → d <ℤ (first +ℤ pos days) → list_any (λ index. has_sort f k index) taken ≡ false
+          → (sort_passes (λ j. k == j) (sort_of d) && occupied d) ≡ false
+      not_here d l h absent =
           elim (cases_Bool (sort_passes (λ j. k == j) (sort_of d) && occupied d)) [
             | inl holds ↦ (
                 let s = of_sort (sort_of d) (occupied d) holds in
-                let g = giver (λ index. gives index d) taken (agree d (omega (arith, ints)) (omega (arith, ints, m)) ∙ s.1) in
+                let g = giver (λ index. gives index d) taken (agree d l h ∙ s.1) in
                 absurd (false≢true (sym absent ∙ taker (λ index. has_sort f k index) taken g.0 g.2 (sym (gives_by_sort d k g.0 s.0) ∙ g.1))))
             | inr none_here ↦ none_here
           ]

@@ -13,10 +13,10 @@ use Rattle.rr_model.specs.Graph.Reading.{with_occurrence}
 use Rattle.rr_model.specs.declared.graph.Repeat.{Repeat}
 use Rattle.rr_model.specs.declared.graph.Repeat.TheVariants as repeat
 use Rattle.rr_graph.specs.FirstOccurrence.{GraphCounterpartStartsFirst, RefusedWhereNoneOccurs}
-use Rattle.rr_graph.proofs.FirstDayLemmas.{none_is_none}
+use Rattle.rr_pattern.proofs.FirstDayLemmas.{none_is_none}
 use Rattle.rr_graph.proofs.OccurrenceLemmas.{counterpart_has_occurrences}
-use Rattle.rr_graph.proofs.PatternParts.{IsCountedRange}
-use Rattle.rr_graph.proofs.ValidPatternLemmas.{range_counts}
+use Rattle.rr_pattern.proofs.PatternParts.{IsCountedRange}
+use Rattle.rr_pattern.proofs.ValidPatternLemmas.{range_counts}
 
 -- ---- the start
 

@@ -1,19 +1,4 @@
-mod PatternExamples
-pub mod PatternParts
-pub mod WholeDayLemmas
-pub mod FilledLemmas
-pub mod DayCountLemmas
-pub mod MonthLemmas
-pub mod PlaceLemmas
-pub mod PartLemmas
-pub mod PatternLemmas
-pub mod FirstDayLemmas
-pub mod RepeatLemmas
-pub mod MovedStartLemmas
-pub mod ValidRuleLemmas
 pub mod WeekdayLemmas
-pub mod DayLemmas
-pub mod ValidPatternLemmas
 pub mod OccurrenceLemmas
 pub mod SoundLemmas
 pub mod FirstOccurrenceLemmas

@@ -15,12 +15,12 @@ use Rattle.rr_model.specs.Series.Occurrences.{Occurs}
 use Rattle.rr_model.specs.declared.graph.Repeat.{Repeat}
 use Rattle.rr_model.specs.declared.graph.Repeat.TheVariants as repeat
 use Rattle.rr_graph.specs.Moved.{repeat_from, MovingStartKeepsOccurrences}
-use Rattle.rr_graph.proofs.PatternParts.{PatternIsSynchronised}
-use Rattle.rr_graph.proofs.PatternLemmas.{pattern_chooses}
-use Rattle.rr_graph.proofs.FirstDayLemmas.{found_is_first, same_from_first}
-use Rattle.rr_graph.proofs.RepeatLemmas.{same_occurrences, at_day, at_time}
-use Rattle.rr_graph.proofs.MovedStartLemmas.{moved_days}
-use Rattle.rr_graph.proofs.ValidPatternLemmas.{used_members, counted_range}
+use Rattle.rr_pattern.proofs.PatternParts.{PatternIsSynchronised}
+use Rattle.rr_pattern.proofs.PatternLemmas.{pattern_chooses}
+use Rattle.rr_pattern.proofs.FirstDayLemmas.{found_is_first, same_from_first}
+use Rattle.rr_pattern.proofs.RepeatLemmas.{same_occurrences, at_day, at_time}
+use Rattle.rr_pattern.proofs.MovedStartLemmas.{moved_days}
+use Rattle.rr_pattern.proofs.ValidPatternLemmas.{used_members, counted_range}
 
 pub pattern_is_synchronised : PatternIsSynchronised
 pattern_is_synchronised pattern range end kind start first valid good found =

@@ -21,11 +21,11 @@ use Rattle.rr_model.specs.declared.graph.RangeEnd.TheVariants.{NoEnd, EndDate, N
 use Rattle.rr_model.specs.declared.graph.Repeat.{Repeat}
 use Rattle.rr_model.specs.declared.graph.Repeat.TheVariants as repeat
 use Rattle.rr_graph.specs.Moved.{GraphCounterpartIsSound}
-use Rattle.rr_graph.proofs.FirstDayLemmas.{found_is_first}
-use Rattle.rr_graph.proofs.RepeatLemmas.{at_day, at_time, not_after, rule_end}
+use Rattle.rr_pattern.proofs.FirstDayLemmas.{found_is_first}
+use Rattle.rr_pattern.proofs.RepeatLemmas.{at_day, at_time, not_after, rule_end}
 use Rattle.rr_graph.proofs.OccurrenceLemmas.{pattern_is_synchronised}
-use Rattle.rr_graph.proofs.ValidPatternLemmas.{used_members, few_intervals, counted_range}
-use Rattle.rr_graph.proofs.ValidRuleLemmas.{pattern_counterpart_is_valid}
+use Rattle.rr_pattern.proofs.ValidPatternLemmas.{used_members, few_intervals, counted_range}
+use Rattle.rr_pattern.proofs.ValidRuleLemmas.{pattern_counterpart_is_valid}
 
 nothing : {X : Type 0} (P : X → Type 0) → All P []
 nothing P = λ k d l. absurd (omega arith)

@@ -7,13 +7,9 @@ use Rattle.rr_model.specs.Graph.Occurrences.{IsGraphOccurrence}
 use Rattle.rr_model.specs.Graph.Validity.{IsValidGraphEvent}
 use Rattle.rr_model.specs.Series.Soundness.{IsSound}
 use Rattle.rr_model.specs.declared.graph.GraphEvent.{GraphEvent}
-use Rattle.rr_model.specs.declared.graph.Range.{Range}
 use Rattle.rr_model.specs.declared.graph.Repeat.{Repeat}
 use Rattle.rr_model.specs.declared.graph.Repeat.TheVariants as repeat
-
--- the range from that day on, with the same end
-abbrev pub begun_on : Range → ℤ → Range
-begun_on range day = record { start_day = day; end = range.end }
+use Rattle.rr_pattern.specs.Begun.{begun_on}
 
 -- the pattern from that day on
 abbrev pub repeat_from : Repeat → ℤ → Repeat

@@ -2,7 +2,6 @@
 #![tactic(auto)]
 
 mod event;
-mod first_day;
 mod laws;
 mod members;
 mod names;
@@ -16,7 +15,6 @@ mod start;
 mod writing;
 mod written;
 
-pub use first_day::is_pattern_day;
 pub use laws::{
     counterpart_has_occurrences, counterpart_is_sound, counterpart_starts_first,
     graph_is_read_back, moving_the_start_keeps_occurrences, refused_where_none_occurs,

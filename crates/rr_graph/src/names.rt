@@ -4,7 +4,7 @@ ghost use Rattle.serde_json.specs.Data.{string};
 ghost use Rattle.serde_json.specs.View.{items_of, items_view};
 ghost use Rattle.rr_model.specs.Graph.Text.{day_names, day_text, index_text};
 
-use crate::first_day::is_day_in;
+use rr_pattern::is_day_in;
 use serde_json::Value;
 use std::alloc::{AllocError, Global};
 

@@ -5,11 +5,11 @@ ghost use Rattle.rr_model.specs.Graph.Reading.{recurrence_of, repeating, repeati
 ghost use Rattle.rr_model.specs.Graph.Validity.{IsRepeatFrom, IsValidPattern};
 ghost use Rattle.rr_graph.specs.Ranges.{IsValidRange};
 
-use crate::first_day::first_repeat_day;
 use crate::members::object_in;
 use crate::pattern::pattern_in;
 use crate::range::range_in;
 use rr_model::{Member, Pattern, Range, Refusal, Repeat};
+use rr_pattern::first_repeat_day;
 use serde_json::Value;
 use std::marker::Model;
 

@@ -1,10 +1,10 @@
 // The rule of RFC 5545 that has the days of a pattern (Microsoft Graph, recurrencePattern).
 ghost use Rattle.std.specs.Prelude.{◌≡◌, [], ◌∷◌, IfOk, pos};
-ghost use Rattle.rr_model.specs.Graph.Counterpart.{days_of_sum, form_freq, if_part, month_days_up_to, rule_of_pattern, set_positions_of, week_start_of};
+ghost use Rattle.rr_model.specs.Graph.Counterpart.{days_of_sum, if_part, month_days_up_to, rule_of_pattern, set_positions_of, week_start_of};
 ghost use Rattle.rr_model.specs.Graph.Uses.{uses_day_of_month, uses_days, uses_month};
 
-use crate::first_day::is_day_in;
-use rr_model::{DayItem, DayItems, End, Form, Freq, NoMemory, Numbers, Pattern, Rule};
+use rr_model::{DayItem, DayItems, End, Form, NoMemory, Numbers, Pattern, Rule};
+use rr_pattern::{form_freq, is_day_in};
 use std::alloc::Global;
 
 /// The rule of RFC 5545, section 3.3.10, with this end that has the days of a pattern.
@@ -27,18 +27,6 @@ pub(crate) fn rule_of_pattern(alloc: Global, pattern: &Pattern, end: End) -> Res
         week_start: week_start_of(pattern),
         end,
     })
-}
-
-// The frequency of the type.
-fn form_freq(form: Form) -> Freq
-    ensures { result ≡ form_freq form }
-{
-    match form {
-        Form::Daily => Freq::Daily,
-        Form::Weekly => Freq::Weekly,
-        Form::AbsoluteMonthly | Form::RelativeMonthly => Freq::Monthly,
-        Form::AbsoluteYearly | Form::RelativeYearly => Freq::Yearly,
-    }
 }
 
 // The month of a yearly pattern.

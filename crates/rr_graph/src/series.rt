@@ -8,12 +8,12 @@ ghost use Rattle.rr_model.specs.Graph.Occurrences.{first_repeat_day};
 ghost use Rattle.rr_model.specs.Graph.Validity.{IsRangeEnd, IsValidGraphEvent};
 ghost use Rattle.rr_model.specs.Series.Soundness.{IsSound};
 
-use crate::first_day::first_repeat_day;
 use crate::rule::rule_of_pattern;
 use rr_model::{
     Dates, End, GraphEvent, Kind, NoMemory, Pattern, Range, RangeEnd, Repeat, Rule, Rules, Series,
     moment_at, second_part,
 };
+use rr_pattern::first_repeat_day;
 use std::alloc::Global;
 
 // A series of rules whose start counts.

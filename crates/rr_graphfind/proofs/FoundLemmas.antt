@@ -22,7 +22,7 @@ use Rattle.rr_model.specs.declared.sketch.Sketch.{Sketch}
 use Rattle.rr_model.proofs.CountLemmas.{count_from-first, one, count_from-le}
 use Rattle.rr_model.proofs.YearLemmas.{four_digit_bounds}
 use Rattle.rr_check.proofs.RuleCycleLemmas.{interval_cycle_some}
-use Rattle.rr_graph.proofs.FirstDayLemmas.{search_found}
+use Rattle.rr_pattern.proofs.FirstDayLemmas.{search_found}
 use Rattle.rr_model.proofs.MomentLemmas.{parts_of_moment}
 use Rattle.rr_word.proofs.OneLeastLemmas.{one_first}
 use Rattle.rr_word.proofs.SketchLemmas.{second_fits}

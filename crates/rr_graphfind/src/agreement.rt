@@ -8,8 +8,8 @@ ghost use Rattle.rr_model.specs.Sets.Sketch.{IsNearDay};
 
 use rr_cal::Day;
 use rr_family::is_occupied;
-use rr_graph::is_pattern_day;
 use rr_model::Pattern;
+use rr_pattern::is_pattern_day;
 use rr_word::DaySeq;
 
 /// The days of a set on which patterns are compared with it.

@@ -9,7 +9,6 @@ ghost use Rattle.rr_family.specs.declared.window.WindowEnd.TheVariants as end;
 ghost use Rattle.rr_graphfind.specs.Order.{IsRefusal, NoneBefore};
 ghost use Rattle.rr_graphfind.specs.Search.{EndsAfter, FitsEnd, IsDaysCompared, IsPassedOver, IsStretchOf, Matches};
 ghost use Rattle.rr_model.specs.Calendar.{IsDayWithin, month_of};
-ghost use Rattle.rr_model.specs.Graph.Counterpart.{form_freq};
 ghost use Rattle.rr_model.specs.Graph.Uses.{uses_month};
 ghost use Rattle.rr_model.specs.Graph.Validity.{IsValidPattern};
 
@@ -17,8 +16,9 @@ use crate::agreement::{Stretch, agrees};
 use crate::next::{Group, uses_month};
 use rr_cal::Day;
 use rr_family::{Divisors, Window, WindowEnd, is_occupied};
-use rr_model::{Form, Freq, Pattern};
+use rr_model::{Form, Pattern};
 use rr_num::interval_cycle;
+use rr_pattern::form_freq;
 use rr_word::DaySeq;
 
 /// The first two occupied days of a set.
@@ -114,18 +114,6 @@ fn form_cycle(form: Form, interval: u32) -> u64
     ensures most { result ≤ 145_950_903 }
 {
     interval_cycle(form_freq(form), interval)
-}
-
-// The frequency whose units a type counts.
-fn form_freq(form: Form) -> Freq
-    ensures { result ≡ form_freq form }
-{
-    match form {
-        Form::Daily => Freq::Daily,
-        Form::Weekly => Freq::Weekly,
-        Form::AbsoluteMonthly | Form::RelativeMonthly => Freq::Monthly,
-        Form::AbsoluteYearly | Form::RelativeYearly => Freq::Yearly,
-    }
 }
 
 // The days on which patterns of this cycle are compared, where one of them may have the set.

@@ -1,5 +1,5 @@
 use Rattle.std.proofs.Common.{arith}
-use Rattle.rr_graph.proofs.DayLemmas.{in_month}
+use Rattle.rr_pattern.proofs.DayLemmas.{in_month}
 use Rattle.rr_family.proofs.sorts.month_day_sort.Goals as goal
 
 pub month_day_sort_of-requires-clause-low : goal.month_day_sort_of-requires-clause-low

@@ -1,5 +1,5 @@
 use Rattle.std.proofs.Common.{arith}
-use Rattle.rr_graph.proofs.DayLemmas.{in_month, is_weekday}
+use Rattle.rr_pattern.proofs.DayLemmas.{in_month, is_weekday}
 use Rattle.rr_family.proofs.sorts.place_sort.Goals as goal
 
 pub place_sort_of-requires-clause-low : goal.place_sort_of-requires-clause-low

@@ -2,7 +2,7 @@ use Rattle.std.proofs.Common.{arith, sym, ◌∙◌, ◌≡◌, w64, to_z, of_z}
 use Rattle.std.proofs.lemmas.Int.{ints}
 use Rattle.rr_model.specs.declared.kind.Kind.TheVariants.{Days}
 use Rattle.rr_model.proofs.StartLemmas.{IsDayWithin-start}
-use Rattle.rr_graph.proofs.FirstDayLemmas.{first_in_years}
+use Rattle.rr_pattern.proofs.FirstDayLemmas.{first_in_years}
 use Rattle.rr_graph.proofs.series.first_day.Goals as goal
 
 pub returns-in-Some-clause-near : goal.returns-in-Some-clause-near

@@ -1,5 +1,0 @@
-use Rattle.rr_graph.proofs.DayLemmas.{is_weekday}
-use Rattle.rr_graph.proofs.first_day.form_holds.Goals as goal
-
-pub is_day_in-requires : goal.is_day_in-requires
-is_day_in-requires c = let day = c.args.day.now in is_weekday day.number _ day.of_weekday

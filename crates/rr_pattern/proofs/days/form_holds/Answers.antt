@@ -1,0 +1,5 @@
+use Rattle.rr_pattern.proofs.DayLemmas.{is_weekday}
+use Rattle.rr_pattern.proofs.days.form_holds.Goals as goal
+
+pub is_day_in-requires : goal.is_day_in-requires
+is_day_in-requires c = let day = c.args.day.now in is_weekday day.number _ day.of_weekday
