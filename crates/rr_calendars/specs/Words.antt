@@ -1,5 +1,5 @@
 -- The words of the command line: two files, and options at any place.
-use Rattle.std.specs.Prelude.{ℕ, ◌==◌, ◌+◌, ◌-◌, ◌*◌, nat_eq, nat_lt, Bool, true, false, not, ◌&&◌, ◌||◌, if◌then◌else◌, ℤ, pos, neg_ℤ, List, [], ◌∷◌, length, slice_index}
+use Rattle.std.specs.Prelude.{ℕ, ◌==◌, nat_eq, Bool, true, false, not, ◌&&◌, ◌||◌, if◌then◌else◌, ℤ, List, [], ◌∷◌, length, take, drop, slice_index}
 use Rattle.std.specs.List.{starts_with}
 use Rattle.std.specs.Prelude.{Option, Some, None, option_and_then, option_map, bytes_eq, codes}
 use Rattle.std.specs.Option.{is_some}
