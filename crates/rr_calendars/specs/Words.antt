@@ -1,9 +1,9 @@
 -- The words of the command line: two files, and options at any place.
-use Rattle.std.specs.Prelude.{ℕ, ◌==◌, ◌+◌, ◌-◌, ◌*◌, nat_eq, nat_lt, Bool, true, false, not, ◌&&◌, ◌||◌, if◌then◌else◌, ℤ, pos, neg_ℤ, List, [], ◌∷◌, length, slice_index}
+use Rattle.std.specs.Prelude.{ℕ, ◌==◌, nat_eq, Bool, true, false, not, ◌&&◌, ◌||◌, if◌then◌else◌, ℤ, List, [], ◌∷◌, length, take, drop, slice_index}
 use Rattle.std.specs.List.{starts_with}
 use Rattle.std.specs.Prelude.{Option, Some, None, option_and_then, option_map, bytes_eq, codes}
 use Rattle.std.specs.Option.{is_some}
-use Rattle.rr_model.specs.Text.Digits.{is_digit}
+use Rattle.rr_text.specs.Offset.{offset_of}
 use Rattle.rr_calendars.specs.declared.words.Next.{Next}
 use Rattle.rr_calendars.specs.declared.words.Next.TheVariants.{Word, Offset, Name}
 
@@ -34,28 +34,9 @@ pub record Given : Type 0 where
 abbrev pub nothing_given : Given
 nothing_given = record { old = None; new = None; only_differences = false; offset = None; show = None; next = Word }
 
--- the value of two digits
-abbrev pub two_digits_value : ℕ → ℕ → ℕ
-two_digits_value tens ones = (tens - 48) * 10 + (ones - 48)
-
--- a number of two digits below a limit
-abbrev pub two_digits : ℕ → ℕ → ℕ → Option ℕ
-two_digits limit tens ones =
-    if is_digit tens && (is_digit ones && nat_lt (two_digits_value tens ones) limit) then Some (two_digits_value tens ones) else None
-
--- a number of seconds, after a plus or a minus
-abbrev pub with_sign : ℕ → ℕ → Option ℤ
-with_sign sign seconds = if sign == 43 then Some (pos seconds) else if sign == 45 then Some (neg_ℤ (pos seconds)) else None
-
--- an offset from UTC: a sign with hours below 24, a colon, and minutes below 60
+-- an offset from UTC: hours after their sign, a colon, and minutes
 abbrev pub offset_in : List ℕ → Option ℤ
-offset_in text =
-    if slice_index text 3 == 58 then option_and_then (λ hours. option_and_then (λ minutes. with_sign (slice_index text 0) (hours * 3600 + minutes * 60))
-    (two_digits 60 (slice_index text 4) (slice_index text 5))) (two_digits 24 (slice_index text 1) (slice_index text 2)) else None
-
--- the same of a text of any length
-abbrev pub offset_of : List ℕ → Option ℤ
-offset_of text = if length text == 6 then offset_in text else None
+offset_in text = if (length text == 6) && (slice_index text 3 == 58) then offset_of (take 3 text) (drop 4 text) else None
 
 -- a word that can be no file
 abbrev pub is_no_name : List ℕ → Bool
@@ -70,7 +51,7 @@ with_file given name =
 
 -- with the value of `--offset`
 abbrev pub with_offset : Given → List ℕ → Option Given
-with_offset given text = option_map (λ offset. record given { offset = Some offset; next = Word }) (offset_of text)
+with_offset given text = option_map (λ offset. record given { offset = Some offset; next = Word }) (offset_in text)
 
 -- with the name of an event, which is not empty
 abbrev pub with_name : Given → List ℕ → Option Given

@@ -1,7 +1,9 @@
 // The words of the command line.
-ghost use Rattle.std.specs.Prelude.{◌≡◌, ◌<◌, ◌≤◌, length, option_map, IfSome};
-ghost use Rattle.rr_calendars.specs.Words.{are_input, given_of, is_help, is_word, offset_in, offset_of, request_of, with_sign, two_digits, with_file, with_name, with_offset, with_option, with_word};
+ghost use Rattle.std.specs.Prelude.{◌≡◌, option_map};
+ghost use Rattle.rr_calendars.specs.Words.{are_input, given_of, is_help, is_word, offset_in, request_of, with_file, with_name, with_offset, with_option, with_word};
 ghost use Rattle.rr_calendars.specs.Parsed.{asked_in, asked_of_words, given_in, request_in, words_of};
+
+use rr_text::offset_of;
 
 /// What is asked of two files.
 #[derive(Clone, Copy)]
@@ -49,50 +51,12 @@ struct Given<'a> {
     next: Next,
 }
 
-// A number of two digits below a limit.
-fn two_digits(limit: u64, tens: u8, ones: u8) -> Option<u64>
-    requires { limit ≤ 100 }
-    ensures number { result ≡ two_digits limit tens ones }
-    ensures below { IfSome result (λ value. value < limit) }
-{
-    if !tens.is_ascii_digit() || !ones.is_ascii_digit() {
-        return None;
-    }
-    let value = u64::from(tens - b'0') * 10 + u64::from(ones - b'0');
-    if value < limit { Some(value) } else { None }
-}
-
-// A number of seconds, after a plus or a minus.
-fn with_sign(sign: u8, seconds: u64) -> Option<i32>
-    requires { seconds < 86_400 }
-    ensures { result ≡ with_sign sign seconds }
-{
-    match sign {
-        b'+' => Some(seconds as i32),
-        b'-' => Some(-(seconds as i32)),
-        _ => None,
-    }
-}
-
-// An offset from UTC in seconds: a sign with two digits of hours below 24, a colon, and two digits of minutes below 60.
+// An offset from UTC in seconds: hours after their sign, a colon, and minutes.
 fn offset_in(text: &[u8]) -> Option<i32>
-    requires { length text.now ≡ 6 }
     ensures { result ≡ offset_in text.now }
 {
-    if text[3] != b':' {
-        return None;
-    }
-    let hours = two_digits(24, text[1], text[2])?;
-    let minutes = two_digits(60, text[4], text[5])?;
-    with_sign(text[0], hours * 3_600 + minutes * 60)
-}
-
-// The same of a text of any length.
-fn offset_of(text: &[u8]) -> Option<i32>
-    ensures { result ≡ offset_of text.now }
-{
-    if text.len() == 6 {
-        offset_in(text)
+    if text.len() == 6 && text[3] == b':' {
+        offset_of(&text[..3], &text[4..])
     } else {
         None
     }
@@ -124,7 +88,7 @@ fn with_file<'a>(given: Given<'a>, name: &'a str) -> Option<Given<'a>>
 fn with_offset<'a>(given: Given<'a>, text: &str) -> Option<Given<'a>>
     ensures { option_map given_in result ≡ with_offset (given_in given.entry) text.now }
 {
-    let offset = offset_of(text.as_bytes())?;
+    let offset = offset_in(text.as_bytes())?;
     Some(Given {
         offset: Some(offset),
         next: Next::Word,

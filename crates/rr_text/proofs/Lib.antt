@@ -18,6 +18,7 @@ mod Utf8Lemmas
 pub mod StepLemmas
 pub mod InYearsLemmas
 pub mod NumberLemmas
+mod OffsetLemmas
 pub mod BlankLemmas
 pub mod WordLemmas
 pub mod YearLemmas

@@ -6,6 +6,7 @@ mod digits;
 mod extended_text;
 mod laws;
 mod moment;
+mod offset;
 mod physical;
 mod plain;
 mod print;
@@ -19,7 +20,8 @@ pub use blanks::trim;
 pub use digits::{Digits, number};
 pub use extended_text::{extended, plain_extended};
 pub use laws::printed_texts_differ;
-pub use moment::{all_digits, basic};
+pub use moment::{all_digits, basic, is_letter_t};
+pub use offset::offset_of;
 pub use physical::take_line;
 pub use plain::{is_text, without_mark};
 pub use print::{

@@ -98,7 +98,8 @@ pub(crate) fn utc_mark(rest: &[u8]) -> Option<bool>
     }
 }
 
-pub(crate) fn is_letter_t(byte: u8) -> bool
+/// Whether the byte is the letter T in either case.
+pub fn is_letter_t(byte: u8) -> bool
     ensures { result ≡ is_letter_t byte }
 {
     byte == b'T' || byte == b't'

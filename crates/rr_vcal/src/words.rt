@@ -1,14 +1,13 @@
 // The words of a rule after its head.
 ghost use Rattle.std.specs.Prelude.{◌≡◌};
 ghost use Rattle.rr_model.specs.Answers.{Answers};
-ghost use Rattle.rr_model.specs.Text.Moments.{is_letter_t};
 ghost use Rattle.rr_model.specs.Vcal.Rule.{is_list_whole, is_moment_word, with_end_moment, with_count, within_list, with_word};
 ghost use Rattle.rr_vcal.specs.Parts.{IsValidParts};
 
 use crate::heads::text_after;
 use crate::items::with_list_word;
 use rr_model::{FamilyKind, Fault, Refusal, VRuleParts};
-use rr_text::{all_digits, moment_of, whole_number};
+use rr_text::{all_digits, is_letter_t, moment_of, whole_number};
 use std::alloc::Global;
 
 /// Whether the list can end here: in a rule by places there is a group, whose last place has a weekday after it.
@@ -19,12 +18,6 @@ pub(crate) fn is_list_whole(parts: &VRuleParts) -> bool
         FamilyKind::MP => !parts.places.is_empty() && parts.has_weekday,
         FamilyKind::D | FamilyKind::W | FamilyKind::MD | FamilyKind::YM | FamilyKind::YD => true,
     }
-}
-
-fn is_letter_t(byte: u8) -> bool
-    ensures { result ≡ is_letter_t byte }
-{
-    byte == b'T' || byte == b't'
 }
 
 // Whether a word is eight digits, or has T after them.
