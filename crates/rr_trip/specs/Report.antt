@@ -49,7 +49,7 @@ pub record IsReportOf (offset : Option ℤ) (old new : List ℕ) (lines : List R
   pub second : file_events new ≡ Ok b
   pub report : IsReport offset a b lines
 
--- What is answered to two files: the report, or the refusal of a file; want of memory may come in place of each.
+-- What is answered to two files: the report, or the refusal of a file; out of memory may come in place of each.
 abbrev pub AnswersTrip : Option ℤ → List ℕ → List ℕ → Result Report TripFault → Type 0
 AnswersTrip offset old new (Ok report) = IsReportOf offset old new report.lines.items
 AnswersTrip offset old new (Err (trip.Refused side refusal)) = IsFileRefused side old new refusal
