@@ -53,7 +53,7 @@ offset_in text =
     if slice_index text 3 == 58 then option_and_then (λ hours. option_and_then (λ minutes. with_sign (slice_index text 0) (hours * 3600 + minutes * 60))
     (two_digits 60 (slice_index text 4) (slice_index text 5))) (two_digits 24 (slice_index text 1) (slice_index text 2)) else None
 
--- the same of a text of any length
+-- an offset from UTC as six characters state it; None for a text of another length
 abbrev pub offset_of : List ℕ → Option ℤ
 offset_of text = if length text == 6 then offset_in text else None
 

@@ -57,11 +57,11 @@ AnswersTrip offset old new (Err trip.NoMemory) = ⊤
 
 -- ---- lines of sorted entries
 
--- the entries of A at the front, and those after them
+-- the entries of A at the front of a list
 abbrev pub front_of_a : List Entry → List Entry
 front_of_a entries = take_while is_of_a entries
 
--- those after the entries of A
+-- the entries of a list after those of A at its front
 abbrev pub after_a : List Entry → List Entry
 after_a entries = drop (length (front_of_a entries)) entries
 
