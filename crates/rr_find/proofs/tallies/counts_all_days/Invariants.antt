@@ -2,7 +2,7 @@ use Rattle.std.proofs.Common.{◌≡◌, ◌≤◌, length, pos, ◌+ℤ◌}
 use Rattle.rr_family.specs.Lasting.{is_occupied}
 use Rattle.rr_family.specs.Sorts.{many_sorts, sort_of_day}
 use Rattle.rr_find.specs.Counted.{IsTallied}
-use Rattle.rr_find.proofs.tallies.count_days.Given as goal
+use Rattle.rr_find.proofs.tallies.counts_all_days.Given as goal
 
 -- the day is the next one, and those before it are counted
 abbrev pub invariant-loop-k : goal.invariant-loop-k

@@ -1,6 +1,6 @@
 use Rattle.std.proofs.Common.{arith}
 use Rattle.rr_find.proofs.TallyDayLemmas.{sort_fits}
-use Rattle.rr_find.proofs.tallies.count_day.Goals as goal
+use Rattle.rr_find.proofs.tallies.counts_day.Goals as goal
 
 pub count_at-requires-clause-index : goal.count_at-requires-clause-index
 count_at-requires-clause-index g c =
