@@ -6,7 +6,7 @@ use Rattle.std.proofs.lemmas.Result.{err_from_is_err_and}
 use Rattle.rr_model.specs.Rising.{day_item_lt}
 use Rattle.rr_model.specs.Text.RuleValues.{pieces, day_item_within}
 use Rattle.rr_rule_parts.proofs.PlacedLemmas.{placed-goes_on, placed-ends, placed-done}
-use Rattle.rr_rule_parts.proofs.lists.day_items_placed.Goals as goal
+use Rattle.rr_rule_parts.proofs.lists.day_items_in_order.Goals as goal
 
 pub returns-in_err-day_item_within : goal.returns-in_err-day_item_within
 returns-in_err-day_item_within c =

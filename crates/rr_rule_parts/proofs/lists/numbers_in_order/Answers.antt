@@ -8,7 +8,7 @@ use Rattle.std.proofs.lemmas.Result.{err_from_is_err_and}
 use Rattle.rr_model.specs.Rising.{with_value}
 use Rattle.rr_model.specs.Text.RuleValues.{pieces, number_within}
 use Rattle.rr_rule_parts.proofs.PlacedLemmas.{placed-goes_on, placed-ends, placed-done}
-use Rattle.rr_rule_parts.proofs.lists.numbers_placed.Goals as goal
+use Rattle.rr_rule_parts.proofs.lists.numbers_in_order.Goals as goal
 
 pub returns-in_err-number_within : goal.returns-in_err-number_within
 returns-in_err-number_within c =

@@ -1,7 +1,7 @@
 use Rattle.std.proofs.Common.{◌≡◌, length, drop, []}
 use Rattle.std.specs.Prelude.{int_lt}
 use Rattle.rr_model.specs.Text.RuleValues.{pieces, placed, number_within}
-use Rattle.rr_rule_parts.proofs.lists.numbers_placed.Given as goal
+use Rattle.rr_rule_parts.proofs.lists.numbers_in_order.Given as goal
 
 abbrev pub invariant-loop-piece : goal.invariant-loop-piece
 invariant-loop-piece l =

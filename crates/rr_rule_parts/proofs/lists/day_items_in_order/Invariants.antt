@@ -1,7 +1,7 @@
 use Rattle.std.proofs.Common.{◌≡◌, length, drop, []}
 use Rattle.rr_model.specs.Rising.{day_item_lt}
 use Rattle.rr_model.specs.Text.RuleValues.{pieces, placed, day_item_within}
-use Rattle.rr_rule_parts.proofs.lists.day_items_placed.Given as goal
+use Rattle.rr_rule_parts.proofs.lists.day_items_in_order.Given as goal
 
 abbrev pub invariant-loop-piece : goal.invariant-loop-piece
 invariant-loop-piece l =
