@@ -4,7 +4,7 @@ use Rattle.rr_lazy.specs.Except.{IsLacking}
 use Rattle.rr_lazy.specs.Tables.{same_set}
 use Rattle.rr_lazy.proofs.UptoLemmas.{none_of_length}
 use Rattle.rr_lazy.proofs.ExceptLemmas.{lacking_none, lacking_some}
-use Rattle.rr_lazy.proofs.except.lacking.Goals as goal
+use Rattle.rr_lazy.proofs.except.seconds_lacking.Goals as goal
 
 pub prefix-requires-2 : goal.prefix-requires-2
 prefix-requires-2 c = (same_set c.args.sets.now c.prefix.new.self c.args.b.number c.prefix.ensures.kept c.requires.b.within.0).0
