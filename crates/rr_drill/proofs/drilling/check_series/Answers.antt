@@ -3,7 +3,7 @@ use Rattle.rr_model.specs.Series.Soundness.{first_refusal}
 use Rattle.rr_model.specs.Series.Validity.{IsValidSeries}
 use Rattle.std.proofs.Common.{ap, None, Some, ◌≡◌}
 use Rattle.rr_drill.proofs.SeriesLemmas.{drawn_fits, drawn_valid}
-use Rattle.rr_drill.proofs.drilling.checked.Goals as goal
+use Rattle.rr_drill.proofs.drilling.check_series.Goals as goal
 
 pub check-requires : goal.check-requires
 check-requires c = record { valid = subst IsValidSeries (sym c.requires.1) (drawn_valid c.requires.0) }
