@@ -51,7 +51,7 @@ fn drawn_days(alloc: Global, seed: u32, count: u32) -> Result<Vec<DrawnDays>, No
 {
     let mut draws = Draws::new(seed);
     let mut days = Vec::with_capacity(alloc, count as usize)?;
-    for place in 0..count {
+    for index in 0..count {
         days.push(next_days(alloc, &mut draws)?)?;
     }
     Ok(days)
