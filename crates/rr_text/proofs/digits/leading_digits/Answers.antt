@@ -2,7 +2,7 @@ use Rattle.std.proofs.Common.{take, ap, ◌∙◌}
 use Rattle.std.proofs.lemmas.List.Folds.{length-prefix_len}
 use Rattle.rr_model.specs.Text.Digits.{is_digit}
 use Rattle.rr_text.proofs.DigitLemmas.{AllPass-leading_digits}
-use Rattle.rr_text.proofs.digits.leading.Goals as goal
+use Rattle.rr_text.proofs.digits.leading_digits.Goals as goal
 
 pub returns : goal.returns
 returns c =
