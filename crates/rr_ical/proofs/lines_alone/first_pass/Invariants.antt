@@ -1,6 +1,6 @@
 use Rattle.std.proofs.Common.{◌≡◌, drop}
 use Rattle.rr_ical.specs.Kept.{kept_lines, nothing_kept}
-use Rattle.rr_ical.proofs.first.first_pass.Given as goal
+use Rattle.rr_ical.proofs.lines_alone.first_pass.Given as goal
 
 abbrev pub invariant-loop-line : goal.invariant-loop-line
 invariant-loop-line g l =

@@ -3,7 +3,7 @@ use Rattle.std.proofs.lemmas.Result.{err_from_is_err_and}
 use Rattle.rr_ical.specs.Kept.{is_date_separator, kept_date, kept_dates}
 use Rattle.rr_ical.proofs.DateCutLemmas.{goes_on, ends}
 use Rattle.rr_ical.proofs.KeptLemmas.{refused_answers, refused_becomes}
-use Rattle.rr_ical.proofs.first.keep_dates.Goals as goal
+use Rattle.rr_ical.proofs.lines_alone.keep_dates.Goals as goal
 
 pub returns-in_err-keep_date : goal.returns-in_err-keep_date
 returns-in_err-keep_date g c =

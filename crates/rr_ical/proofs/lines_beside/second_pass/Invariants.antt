@@ -1,7 +1,7 @@
 use Rattle.std.proofs.Common.{◌≡◌, length, drop}
 use Rattle.rr_model.specs.Text.Passes.{nothing_beside}
 use Rattle.rr_ical.specs.Kept.{values_beside}
-use Rattle.rr_ical.proofs.second.second_pass.Given as goal
+use Rattle.rr_ical.proofs.lines_beside.second_pass.Given as goal
 
 abbrev pub invariant-loop-value : goal.invariant-loop-value
 invariant-loop-value g l =

@@ -1,7 +1,7 @@
 use Rattle.std.proofs.Common.{◌≡◌, length}
 use Rattle.std.specs.List.{slice_split}
 use Rattle.rr_ical.specs.Kept.{is_date_separator, kept_dates}
-use Rattle.rr_ical.proofs.first.keep_dates.Given as goal
+use Rattle.rr_ical.proofs.lines_alone.keep_dates.Given as goal
 
 abbrev pub invariant-loop-piece : goal.invariant-loop-piece
 invariant-loop-piece g l =
