@@ -19,7 +19,7 @@ dense days last (step ∷ steps) =
 abbrev pub IsStepTo : ℕ → ℕ → ℕ → ℕ → Type 0
 IsStepTo days last gap end = (days ≤ last + gap) × (last + gap < end)
 
--- each step leads to such a day, and has one of `sets` sets
+-- each step leads to a day that has no number yet and lies before the end, and has one of `sets` sets
 abbrev pub AreSteps : ℕ → ℕ → ℕ → ℕ → List Step → Type 0
 AreSteps end sets days last [] = ⊤
 AreSteps end sets days last (step ∷ steps) =
@@ -34,7 +34,7 @@ pub record IsPutBy (end sets : ℕ) (old : List ℕ) (last : ℕ) (steps : List 
   pub same : (rest : List Step) → new ++ dense (length new) index rest ≡ old ++ dense (length old) last (steps ++ rest)
   pub fits : (rest : List Step) → AreSteps end sets (length new) index rest ↔ AreSteps end sets (length old) last (steps ++ rest)
 
--- it is refused only where these steps do not fit, whatever follows
+-- a call answers the refusal NotCanonical only where the steps do not fit, whatever steps follow
 abbrev pub RefusedWhereNone : {X : Type 0} → ℕ → ℕ → ℕ → ℕ → List Step → Result X Fault → Type 0
 RefusedWhereNone end sets days last steps (Ok x) = ⊤
 RefusedWhereNone end sets days last steps (Err (Refused refusal)) =

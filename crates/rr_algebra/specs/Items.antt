@@ -30,7 +30,7 @@ abbrev pub RefusedWhereNot : {X : Type 0} → Type 0 → Result X Fault → Type
 RefusedWhereNot P (Ok x) = ⊤
 RefusedWhereNot P (Err fault) = IsFaultWhereNot P fault
 
--- these seconds and others are those of a day
+-- the seconds, and then those of `more`, are the front of the seconds of a day
 abbrev pub GoOn : List ℕ → List ℕ → Type 0
 GoOn seconds more = (rest : List ℕ) × IsSecondsOfDay (seconds ++ (more ++ rest))
 

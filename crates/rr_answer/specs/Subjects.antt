@@ -19,7 +19,7 @@ pub data Subject : Type 0 where
   of_sketch : Sketch → Subject
   of_skipping : SkipSeries → Subject
 
--- its occurrences
+-- the occurrences of a subject
 abbrev pub OccursIn : Subject → Occurrences
 OccursIn (of_series series) = Occurs series
 OccursIn (of_sketch sketch) = StandsIn sketch

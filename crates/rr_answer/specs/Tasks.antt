@@ -7,6 +7,6 @@ use Rattle.rr_answer.specs.declared.command.Operand.{Operand}
 use Rattle.rr_answer.specs.declared.command.Task.{Task}
 use Rattle.rr_answer.specs.declared.outcome.Outcome.{Outcome}
 
--- it says what this command says of what is read of the operand's bytes
+-- the outcome says what the task says of the operand that is read from the bytes
 abbrev pub AnswersTask : Task → Operand → List ℕ → Outcome → Type 0
 AnswersTask task operand bytes outcome = IsSaidOfOne task (IsReadOf operand bytes) (answer_of outcome)

@@ -89,7 +89,7 @@ fn asks_of_itself(inquiry: Inquiry, a: Operand, text_a: &[u8], b: Operand, text_
 /// What is said of the bytes of two operands: the refusal of A, else that of B, else that of both, else what is asked of
 /// them.
 ///
-/// Nothing of B is read where A is refused, or where equality is asked of one text twice.
+/// B is not read where A is refused, or where equality is asked of one text twice.
 pub fn pair_outcome(
     alloc: Global,
     inquiry: Inquiry,

@@ -102,11 +102,11 @@ contents (Some help) held = Some ([], [])
 contents (Some (comparison request)) held =
     option_and_then (λ old. option_map (λ new. (old, new)) (content held request.new)) (content held request.old)
 
--- it is the answer to what is asked over what the source holds, where that tells it
+-- the answer is that to what is asked, over the files that the source holds, where the source tells them
 abbrev pub IsAnswerTo : Option Asked → (List ℕ → Option (List ℕ)) → Answer → Type 0
 IsAnswerTo asked held answer = IfSome (contents asked held) (λ files. IsAnswer asked files answer)
 
--- it is the name of a file that is asked for
+-- the name is that of a file that is asked for
 abbrev pub IsFileOf : Option Asked → List ℕ → Type 0
 IsFileOf None name = ⊥
 IsFileOf (Some help) name = ⊥

@@ -65,7 +65,7 @@ impl<R: Clock + Eprint + Drop> Progress<R> {
 }
 
 impl<R: Clock + Eprint + Drop> Watch for Progress<R> {
-    fn judged(&mut self, keys: usize, of: usize) {
+    fn on_judged(&mut self, keys: usize, of: usize) {
         let Some(begun) = self.begun else {
             return;
         };
@@ -82,7 +82,7 @@ impl<R: Clock + Eprint + Drop> Watch for Progress<R> {
     }
 
     // The line is wiped.
-    fn ended(&mut self) {
+    fn on_ended(&mut self) {
         if self.is_shown {
             let _ = eprint!(self.rt; "\r{:1$}\r", "", WIDTH);
             self.is_shown = false;

@@ -52,7 +52,7 @@ IsKeptDay d = (neg_ℤ (pos 2_000_000_000) ≤ℤ d) × (d ≤ℤ pos 2_000_000_
 abbrev pub IsEmptyOne : List (List ℕ) → ℕ → Type 0
 IsEmptyOne own number = slice_get own number ≡ Some []
 
--- these are the numbers of the day's set and of those of the days after it, one after another
+-- the numbers are those of the time sets of this day and of the days after it, one after another
 abbrev pub AreNumbersFrom : List (List ℕ) → Sketch → ℤ → List ℕ → Type 0
 AreNumbersFrom own s day numbers = (k : ℕ) → k < length numbers → IsNumberOn own s (day +ℤ pos k) (Some (get_or numbers k 0))
 
@@ -62,7 +62,7 @@ pub record IsKnownNumber (sets : List (List ℕ)) (times : List ℕ) (number : �
   pub among : list_any (is_same_set times) sets ≡ true
   pub number_is : number ≡ number_of sets times
 
--- the same numbers are known
+-- two lists of numbers know the same: at each place both have one number, or both have none
 abbrev pub SameNumbers : List (Option ℕ) → List (Option ℕ) → Type 0
 SameNumbers old new = (k : ℕ) → get_or new k None ≡ get_or old k None
 

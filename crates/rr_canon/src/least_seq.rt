@@ -35,7 +35,7 @@ pub struct LeastSeq {
 }
 
 // The least sketch of the empty set.
-fn nothing(alloc: Global) -> LeastSeq
+fn empty_seq(alloc: Global) -> LeastSeq
     ensures { IsLeastOfNone (sketch_of result.kind result.sets
         result.before result.settled result.period result.cycle) }
 {
@@ -142,7 +142,7 @@ pub fn least<A: DaySeq>(alloc: Global, seq: &A) -> Result<LeastSeq, NoMemory>
         (StandsIn (sketch_of l.kind l.sets l.before l.settled l.period l.cycle))) }
 {
     let Some(first) = seq.first() else {
-        return Ok(nothing(alloc));
+        return Ok(empty_seq(alloc));
     };
     let period = least_period(seq);
     let settled = least_start(seq, period);

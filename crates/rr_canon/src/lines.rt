@@ -43,7 +43,8 @@ fn push_field(out: &mut Vec<u8>, number: u64) -> Result<(), NoMemory>
     push_unsigned(out, number)
 }
 
-/// A letter, the gap, the number of the set and the count.
+/// Appends the line of a run: the letter, how many days each of its days lies after the one before it, the number of their time
+/// set, and how many days they are, each number after a blank.
 pub fn push_run(out: &mut Vec<u8>, letter: u8, run: OpenRun) -> Result<(), NoMemory>
     ensures { OnOk result (AddsLine out.old.items out.new.items
         (run_line letter (run_so_far run))) }

@@ -162,29 +162,29 @@ fn first_occupied(
     requires within { All (λ n. n < length shapes.now) (before.now ++ drop skipped row.now) }
     ensures { IsFirstFilled shapes.now (before.now ++ drop skipped row.now) first result }
 {
-    for place in 0..before.len() + (row.len() - skipped) {
+    for index in 0..before.len() + (row.len() - skipped) {
         if !shapes
-            .times(number_of_place(before, row, skipped, place))
+            .times(number_at_index(before, row, skipped, index))
             .is_empty()
         {
-            return Some(first + place as i64);
+            return Some(first + index as i64);
         }
     }
     None
 }
 
-// The number at a place of two lists, one after the other, where the first places of the second are passed over.
-fn number_of_place(before: &Pages, row: &Pages, skipped: usize, place: usize) -> u32
+// The number at an index of two lists, one after the other, where the first `skipped` of the second are passed over.
+fn number_at_index(before: &Pages, row: &Pages, skipped: usize, index: usize) -> u32
     requires skipped { skipped ≤ length row.now }
-    requires place { place + skipped < length before.now + length row.now }
-    requires few { place + skipped ≤ 20_000_000_000 }
-    ensures { result ≡ get_or (before.now ++ drop skipped row.now) place 0 }
+    requires index { index + skipped < length before.now + length row.now }
+    requires few { index + skipped ≤ 20_000_000_000 }
+    ensures { result ≡ get_or (before.now ++ drop skipped row.now) index 0 }
 {
     let days = before.len();
-    if place < days {
-        return before.number_at(place);
+    if index < days {
+        return before.number_at(index);
     }
-    row.number_at(place - days + skipped)
+    row.number_at(index - days + skipped)
 }
 
 impl DaySeq for Folded {
@@ -247,10 +247,10 @@ impl Folded {
             return first_of_row(self.before.row_from(day), days_between(day, self.settled));
         }
         let period = self.period as usize;
-        let place = place_in_cycle(days_between(self.settled, day), period);
+        let index = index_in_cycle(days_between(self.settled, day), period);
         first_of_row(
-            self.cycle.row_from(day_after(self.settled, place)),
-            period - place,
+            self.cycle.row_from(day_after(self.settled, index)),
+            period - index,
         )
     }
 
@@ -266,14 +266,14 @@ impl Folded {
         }
         let period = self.period as usize;
         let past = days_between(self.settled, day);
-        let place = place_in_cycle(past, period);
-        let cycle = self.cycle.free_days(day_after(self.settled, place));
-        cycle.min((period - place) as u64)
+        let index = index_in_cycle(past, period);
+        let cycle = self.cycle.free_days(day_after(self.settled, index));
+        cycle.min((period - index) as u64)
     }
 }
 
 // How far into a cycle a day lies that comes `past` days after the settled day.
-fn place_in_cycle(past: usize, period: usize) -> usize
+fn index_in_cycle(past: usize, period: usize) -> usize
     requires { 1 ≤ period }
     ensures { result ≡ past % period }
 {

@@ -9,7 +9,7 @@ use Rattle.rr_decide.specs.declared.days.Look.TheVariants.{Shows, Quiet}
 use Rattle.rr_decide.specs.declared.days.Shown.{Shown}
 use Rattle.rr_model.specs.declared.question.Question.{Question}
 
--- it is of this day, and the first second there that shows it
+-- the day that is shown is this one, with the first second there that shows a no, and its side
 abbrev pub IsShownOn : (Side → Bool) → Sketch → Sketch → ℤ → Shown → Type 0
 IsShownOn shows s u day r = (r.day ≡ day) × IsFirstShown shows (times_on s day) (times_on u day) r.second r.side
 

@@ -9,7 +9,7 @@ use Rattle.rr_model.specs.declared.verdict.Verdict.TheVariants.{Yes, No}
 use Rattle.rr_decide.specs.Question.{IsFirstOccurrence}
 use Rattle.rr_decide.specs.declared.occurrence.Occurrence.{Occurrence}
 
--- its instant can be compared: the number lies within 100,000,000,000,000 of 0
+-- an occurrence's instant can be compared: its number lies within 100,000,000,000,000 of 0
 abbrev pub IsNearOccurrence : Occurrence → Type 0
 IsNearOccurrence o = (neg_ℤ (pos 100_000_000_000_000) ≤ℤ o.at) × (o.at ≤ℤ pos 100_000_000_000_000)
 
@@ -26,6 +26,6 @@ NamesUpToMaxDay (No kind at side) = IsUpToMaxDay kind at
 abbrev pub IsFirstOrNone : Sketch → Option Occurrence → Type 0
 IsFirstOrNone s first = MatchOption first (IsEmptySketch s) (λ o. IsFirstOccurrence s o.kind o.at)
 
--- the same where it is asked for, and none where it is not
+-- the first occurrence of the sketch where it is asked for; none where it is not, or where the sketch is empty
 abbrev pub IsFirstIf : Bool → Sketch → Option Occurrence → Type 0
 IsFirstIf asked s first = MatchOption first (IsTrue asked → IsEmptySketch s) (λ o. IsTrue asked × IsFirstOccurrence s o.kind o.at)

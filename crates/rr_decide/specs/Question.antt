@@ -79,7 +79,7 @@ IsFirstSecondShown question xs ys first =
 abbrev pub ShowsNoneWithin : (Side → Bool) → Sketch → Sketch → ℤ → ℤ → Type 0
 ShowsNoneWithin shows s u from to = (d : ℤ) → from ≤ℤ d → d <ℤ to → ShowsNone shows (times_on s d) (times_on u d)
 
--- none of the next `days` days, this one among them, shows it
+-- none of `days` days from this one on shows a no to the question
 abbrev pub ShowsNoneFor : Question → Sketch → Sketch → ℤ → ℕ → Type 0
 ShowsNoneFor question s u from days = ShowsNoneWithin (shown_by question) s u from (from +ℤ pos days)
 

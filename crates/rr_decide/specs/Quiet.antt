@@ -23,7 +23,7 @@ ShowNothingTogether shows sets_a sets_b a b = (x y : ℕ) → a ≡ Some x → b
 abbrev pub ShowNothingBelow : (Side → Bool) → List (List ℕ) → List (List ℕ) → Option ℕ → Type 0
 ShowNothingBelow shows sets_a sets_b alike = (a b : ℕ) → IsAlike alike a b → ShowNothing shows sets_a sets_b a b
 
--- these are the pair's numbers
+-- a and b are the two numbers of the pair
 abbrev pub IsPair : Pair → ℕ → ℕ → Type 0
 IsPair pair a b = (a ≡ pair.a) × (b ≡ pair.b)
 

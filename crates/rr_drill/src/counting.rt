@@ -53,8 +53,8 @@ fn yes_in_pairs(asked: Asked, list: &[DrawnDays]) -> u32
     ensures few { result ≤ 10_000 }
 {
     let mut count = 0;
-    for place in 0..list.len() {
-        count += yes_in_row(asked, &list[place], &list[place + 1..]);
+    for index in 0..list.len() {
+        count += yes_in_row(asked, &list[index], &list[index + 1..]);
     }
     count
 }

@@ -8,7 +8,7 @@ use rr_days::Folded;
 /// The days of a series whose cycle is one of those that are drawn.
 #[derive(Drop)]
 pub struct DrawnDays {
-    /// The days.
+    /// The days of the series, which repeat by its cycle.
     pub folded: Folded,
     ghost period: { IsTrue (is_drawn_cycle (sketch folded).period) },
 }

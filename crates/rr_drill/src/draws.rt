@@ -5,14 +5,14 @@ ghost use Rattle.rr_drill.specs.Draws.{after_rule, after_series, after_week_star
 use rr_model::{Dates, Freq, Kind, NoMemory, Rule, Rules, Series};
 use std::alloc::Global;
 
-/// The draws from a seed.
+/// A linear congruential generator, which draws numbers and series. Equal seeds draw the same.
 #[derive(Drop)]
 pub struct Draws {
     state: u32,
 }
 
 impl Draws {
-    /// No draw is made yet.
+    /// The generator with this seed, of which the lower 31 bits count.
     pub fn new(seed: u32) -> Self
         ensures { result.state ≡ seed % 2_147_483_648 }
     {

@@ -14,7 +14,7 @@ use rr_model::{Fault, NoMemory, Series};
 use std::alloc::Global;
 
 // A series that is drawn fits its start.
-fn checked(series: Series) -> Checked
+fn check_series(series: Series) -> Checked
     requires { IsDrawn series }
     ensures { result ≡ series }
 {
@@ -25,11 +25,11 @@ fn checked(series: Series) -> Checked
 }
 
 // A series that is drawn as days; it goes beyond no limit.
-fn folded(alloc: Global, series: Series) -> Result<DrawnDays, NoMemory>
+fn fold_series(alloc: Global, series: Series) -> Result<DrawnDays, NoMemory>
     requires { IsDrawn series }
     ensures { IfOk result (λ days. IsFoldOf days series) }
 {
-    match fold(alloc, &checked(series)) {
+    match fold(alloc, &check_series(series)) {
         Ok(folded) => Ok(DrawnDays { folded }),
         Err(Fault::NoMemory) => Err(NoMemory),
         Err(Fault::Refused(_)) => unreachable!(),
@@ -42,7 +42,7 @@ fn next_days(alloc: Global, draws: &mut Draws) -> Result<DrawnDays, NoMemory>
     ensures state { draws.new.state ≡ after_series draws.old.state }
 {
     let series = draws.series(alloc)?;
-    folded(alloc, series)
+    fold_series(alloc, series)
 }
 
 // The series that are drawn from a seed, as days.
@@ -51,7 +51,7 @@ fn drawn_days(alloc: Global, seed: u32, count: u32) -> Result<Vec<DrawnDays>, No
 {
     let mut draws = Draws::new(seed);
     let mut days = Vec::with_capacity(alloc, count as usize)?;
-    for place in 0..count {
+    for index in 0..count {
         days.push(next_days(alloc, &mut draws)?)?;
     }
     Ok(days)

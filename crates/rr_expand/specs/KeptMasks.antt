@@ -58,7 +58,7 @@ abbrev pub TellDays : Filling → Option KeptMasks → Type 0
 TellDays f None = (d : ℤ) → allows_day f d ≡ true
 TellDays f (Some masks) = AreKeptMasks f masks
 
--- the same of a start that is near enough
+-- the start is near enough for the calls, and the masks tell which days are allowed: every day where there are none
 pub record AreMasksOf (f : Filling) (masks : Option KeptMasks) : Type 0 where
   pub near : IsDayWithin 1000 f.start_day
   pub days : TellDays f masks

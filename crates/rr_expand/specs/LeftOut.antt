@@ -54,13 +54,12 @@ abbrev pub MarksWeekdays : Rule → ℕ → ℕ → List ℕ → Type 0
 MarksWeekdays rule weekday count words =
     (k : ℕ) → k < 384 → is_bit_set words k ≡ (nat_lt k count && list_any (has_weekday ((weekday + k) % 7)) rule.by_day)
 
--- So many days after a day of the weekday comes another; none of those between has the weekday of an item of BYDAY, which is present if
--- there are some.
+-- `days` is 1 to 7; no day between one of the weekday and the one `days` later has a weekday of BYDAY, which is present if there are any between
 pub record IsGap (rule : Rule) (weekday days : ℕ) : Type 0 where
   pub some : 1 ≤ days
   pub few : days ≤ 7
   pub none : (j : ℕ) → 1 ≤ j → j < days → (is_absent rule.by_day ≡ false) × (list_any (has_weekday ((weekday + j) % 7)) rule.by_day ≡ false)
 
--- the same of each weekday, from Monday
+-- for each weekday, from Monday, the list has a number of days after it before which no weekday of BYDAY comes
 abbrev pub AreGaps : Rule → List ℕ → Type 0
 AreGaps rule gaps = (w : ℕ) → w < 7 → IsGap rule w (get_or gaps w 0)

@@ -5,26 +5,26 @@ use Rattle.rr_model.specs.declared.rule.Freq.{Freq}
 use Rattle.rr_model.specs.declared.rule.Freq.TheVariants.{Minutely, Hourly}
 use Rattle.rr_model.specs.declared.rule.Rule.{Rule}
 
--- these seconds of the minute that begins at `base`
+-- the listed seconds of the minute that begins at the second `base` of the day
 unfoldable pub of_minute : ℕ → List ℕ → List ℕ
 of_minute base [] = []
 of_minute base (s ∷ ss) = (base + s) ∷ of_minute base ss
 
--- these seconds of these minutes of the hour that begins at `base`
+-- the listed seconds of the listed minutes of the hour that begins at the second `base` of the day
 unfoldable pub of_hour : ℕ → List ℕ → List ℕ → List ℕ
 of_hour base [] ss = []
 of_hour base (m ∷ ms) ss = of_minute (base + 60 * m) ss ++ of_hour base ms ss
 
--- these seconds of these minutes of these hours
+-- the listed seconds of the listed minutes of the listed hours of a day
 unfoldable pub of_day : List ℕ → List ℕ → List ℕ → List ℕ
 of_day [] ms ss = []
 of_day (h ∷ hs) ms ss = of_hour (3_600 * h) ms ss ++ of_day hs ms ss
 
--- these seconds of these minutes of an hour that BYHOUR allows
+-- the listed seconds of the listed minutes of an hour, where BYHOUR allows the hour; else none
 abbrev pub of_hour_number : Rule → ℕ → List ℕ → List ℕ → List ℕ
 of_hour_number rule hour ms ss = if allows rule.by_hour (pos hour) then of_hour (3_600 * hour) ms ss else []
 
--- these seconds of a minute of the day that BYHOUR and BYMINUTE allow
+-- the listed seconds of a minute of the day, where BYHOUR and BYMINUTE allow the minute; else none
 abbrev pub of_minute_number : Rule → ℕ → List ℕ → List ℕ
 of_minute_number rule minute ss =
     if allows rule.by_hour (pos (minute / 60)) && allows rule.by_minute (pos (minute % 60)) then of_minute (60 * minute) ss else []
@@ -35,7 +35,7 @@ of_second_number rule second =
     if allows rule.by_hour (pos (second / 3_600)) && allows rule.by_minute (pos (second / 60 % 60))
     && allows rule.by_second (pos (second % 60)) then second ∷ [] else []
 
--- the same in the unit of this number in its day
+-- the listed seconds of the hour or minute of this number in its day, or the second of this number, where the time parts allow it; else none
 abbrev pub of_unit : Freq → Rule → ℕ → List ℕ → List ℕ → List ℕ
 of_unit Hourly rule unit ms ss = of_hour_number rule unit ms ss
 of_unit Minutely rule unit ms ss = of_minute_number rule unit ss

@@ -12,7 +12,7 @@ pub record Filling : Type 0 where
   pub rule : Rule
   pub start_day : ℤ
 
--- this rule, filled from a start on this day
+-- a rule whose date parts are filled from a start on this day
 abbrev pub filling_of : Rule → ℤ → Filling
 filling_of rule start_day = record { rule = rule; start_day = start_day }
 

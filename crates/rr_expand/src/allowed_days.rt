@@ -205,7 +205,7 @@ impl KeptMasks {
 }
 
 impl MaskedYear {
-    // Of the year's days from one on and before another the first whose bit is set.
+    // The first of the year's days from `from` on and before `end` whose bit is set.
     fn first_from(&self, from: i64, end: i64) -> Option<i64>
         requires year { IsMaskedYear self.now }
         requires begun { self.now.first ≤ℤ from }

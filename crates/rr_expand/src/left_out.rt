@@ -90,7 +90,7 @@ fn leaves_out_month(rule: &Rule, start: &Day, day: &Day) -> bool
     !allows_filled(&rule.by_month, fills_month(rule), start.month, day.month)
 }
 
-// Of the days after the k-th of a month of `many` days the first that BYMONTHDAY, which is present, lists; else the last.
+// The first day after the k-th of a month of `many` days that BYMONTHDAY, which is present, lists; else the last day.
 fn next_listed(numbers: &Numbers, k: u8, many: u8) -> u8
     requires { k < many }
     ensures { IsNextIn (λ i. allows_signed numbers.now (pos i) (pos many)) k many result }
@@ -143,7 +143,7 @@ fn has_weekday(item: DayItem, weekday: u8) -> bool
     item.weekday == weekday
 }
 
-// Of the days after the k-th of a month of `many` days that of the start's number; else the last.
+// The day of the start's number where it comes after the k-th of a month of `many` days; else the last day.
 fn next_own(own: u8, k: u8, many: u8) -> u8
     requires { k < many }
     ensures { IsNextIn (λ i. allows_signed (pos own ∷ []) (pos i) (pos many)) k many result }

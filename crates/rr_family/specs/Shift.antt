@@ -37,7 +37,7 @@ abbrev pub ItemRepeats : Type 0
 ItemRepeats = (family : FamilyKind) (interval : ℕ) (start : ℤ) (item : Item) → 1 ≤ interval → interval ≤ 4_294_967_295 → IsItemOf family item
     → RepeatsEverywhere (item_has_day family interval start item) (family_cycle family interval)
 
--- So do those of a list of items.
+-- The days of a list of items repeat after the cycle of their kind and interval.
 abbrev pub ItemsRepeat : Type 0
 ItemsRepeat = (family : FamilyKind) (interval : ℕ) (start : ℤ) (items : List Item) → 1 ≤ interval → interval ≤ 4_294_967_295 → All (IsItemOf family) items
     → RepeatsEverywhere (items_have_day family interval start items) (family_cycle family interval)

@@ -51,7 +51,7 @@ has_sort family.MP sort index = (index % 7 == sort % 7) && ((index / 7 == sort /
 has_sort family.YM sort index = index == sort
 has_sort family.YD sort index = index == sort
 
--- These are the sorts of the kind.
+-- Of each kind an item has a day exactly where it has the day's sort, and the sorts are numbered below `many_sorts`.
 abbrev pub KindsHaveSorts : Type 0
 KindsHaveSorts = (f : FamilyKind) (interval : ℕ) (start : ℤ)
     → AreSorts (place_has_day f interval start) (many_sorts f) (sort_of_day f interval start) (has_sort f)

@@ -45,7 +45,7 @@ abbrev pub items_of : FamilyKind → List ℕ → List Item
 items_of f [] = []
 items_of f (index ∷ taken) = with_value item_lt (items_of f taken) (item_at f index)
 
--- these items are taken so far, and these numbers of days of each sort are left
+-- the items are those taken so far in turn, and `left` is how many days of each sort none of them has
 pub record AreTakenSoFar (f : FamilyKind) (occupied free left : ℕ → ℕ) (items : List Item) : Type 0 where
   pub taken : List ℕ
   pub in_turn : IsTakenInTurn f occupied free taken

@@ -65,7 +65,7 @@ abbrev pub days_up_to : ℤ → ℕ → WindowEnd → Option ℕ
 days_up_to first cycle (Last day many) = Some (window_days first day)
 days_up_to first cycle (Cycle period start) = if int_eq start first && (cycle % period == 0) then Some cycle else None
 
--- the same for a kind and interval
+-- how many days are read for a kind and interval: up to the last one, or one cycle where it can be the set's
 abbrev pub days_to_read : Window → FamilyKind → ℕ → Option ℕ
 days_to_read w f interval = days_up_to w.first (family_cycle f interval) w.end
 

@@ -39,7 +39,7 @@ pub(crate) fn tally<A: DaySeq>(
 {
     let mut occupied = no_days();
     let mut free = no_days();
-    if count_days(seq, kind, interval, first, days, &mut occupied, &mut free) {
+    if counts_all_days(seq, kind, interval, first, days, &mut occupied, &mut free) {
         Some(Counts { occupied, free })
     } else {
         None
@@ -54,7 +54,7 @@ fn no_days() -> [u64; 366]
 }
 
 // Counts the days of a window; false at the first day after which no list has its days.
-fn count_days<A: DaySeq>(
+fn counts_all_days<A: DaySeq>(
     seq: &A,
     kind: FamilyKind,
     interval: u32,
@@ -76,7 +76,7 @@ fn count_days<A: DaySeq>(
     let start = Day::new(first);
     let mut day = start;
     for k in 0..days {
-        let sorted = count_day(seq, kind, interval, &start, &day, occupied, free);
+        let sorted = counts_day(seq, kind, interval, &start, &day, occupied, free);
         if !sorted {
             return false;
         }
@@ -86,7 +86,7 @@ fn count_days<A: DaySeq>(
 }
 
 // Counts a day to its sort; false where it is occupied and has no sort, or where its sort has days of both.
-fn count_day<A: DaySeq>(
+fn counts_day<A: DaySeq>(
     seq: &A,
     kind: FamilyKind,
     interval: u32,

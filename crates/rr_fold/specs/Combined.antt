@@ -16,7 +16,7 @@ abbrev pub Has : Op → List ℕ → List ℕ → ℕ → Type 0
 Has Union x y s = Contains x s ⊎ Contains y s
 Has Minus x y s = Contains x s × ¬ Contains y s
 
--- the same of what passes two tests
+-- what passes two tests passes that of their combination: either, or the first and not the second
 abbrev pub holds : Op → Bool → Bool → Bool
 holds Union a b = a || b
 holds Minus a b = a && not b

@@ -36,7 +36,7 @@ pub record IsFoldedTo (tree : Tree) (first position : ℤ) (sets : List (List �
   pub rest : HasNone tree (first +ℤ pos (length numbers)) position
   pub sets_of_days : All (λ times. times ≢ [] → IsTimeSetBefore tree position times) sets
 
--- These are the days of a tree, folded from the first one on and below the end.
+-- The folded days are those of a tree, from the first one on and below the end.
 abbrev pub AreDaysOf : Tree → ℤ → ℤ → FoldedDays → Type 0
 AreDaysOf tree first end days = IsFoldedTo tree first end days.shapes days.numbers
 

@@ -24,11 +24,11 @@ pub record HasRules (series : Series) (first end : ℤ) : Type 0 where
 abbrev pub members_of_rules : Kind → ℤ → List Rule → Tree
 members_of_rules kind start rules = many (members_of_all kind start rules)
 
--- These are the days of a rule's members, folded from its start's day on and below the end.
+-- The folded days are those of a rule's members, from its start's day on and below the end.
 abbrev pub AreDaysOfRule : Kind → ℤ → Rule → ℤ → FoldedDays → Type 0
 AreDaysOfRule kind start rule end days = AreDaysOf (members_of kind start rule) (day_part kind start) end days
 
--- These are the days that a rule chooses, folded from its start's day on and below the end.
+-- The folded days are those that a rule chooses, from its start's day on and below the end.
 abbrev pub AreDaysChosen : Kind → ℤ → Rule → ℤ → FoldedDays → Type 0
 AreDaysChosen kind start rule end days = AreDaysOf (chosen_of rule kind start) (day_part kind start) end days
 
@@ -40,6 +40,6 @@ dates_from kind first dates = filter (λ t. int_le first (day_part kind t)) date
 abbrev pub given_from : Series → ℤ → Tree
 given_from series first = union (dates_of series.kind (dates_from series.kind first series.plus)) (members_of_rules series.kind series.start series.rules)
 
--- these, except the members of the excluded rules
+-- the dates added from a day on and the members of the rules, except the members of the excluded rules
 abbrev pub kept_from : Series → ℤ → Tree
 kept_from series first = except (given_from series first) (members_of_rules series.kind series.start series.excluded)

@@ -1,4 +1,4 @@
-// The days of a rule with COUNT.
+// The days of a rule that ends: by its COUNT, whole cycles at a time, or by its UNTIL, walked day by day.
 ghost use Rattle.std.specs.Prelude.{◌≡◌, ◌+◌, ◌*◌, ◌≤◌, ◌≤ℤ◌, ◌<ℤ◌, ◌+ℤ◌, IfOk, IfSome, length, pos};
 ghost use Rattle.rr_model.specs.Moment.{day_part};
 ghost use Rattle.rr_model.specs.declared.rule.End.TheVariants.{Count};

@@ -9,7 +9,7 @@ use Rattle.rr_model.specs.declared.graph.Repeat.{Repeat}
 use Rattle.rr_model.specs.declared.graph.Repeat.TheVariants as repeat
 use Rattle.rr_model.specs.declared.kind.Kind.{Kind}
 
--- it repeats by the first pattern that has the occurrences
+-- the event repeats by the first pattern that has the occurrences
 abbrev pub IsFirstRepeat : Occurrences → Repeat → Kind → ℤ → Type 0
 IsFirstRepeat P repeat.Once kind start = ⊥
 IsFirstRepeat P (repeat.Pattern pattern range) kind start = IsFirstPattern P pattern range kind start

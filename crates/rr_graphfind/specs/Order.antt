@@ -28,11 +28,11 @@ SameFirst (suc i) xs ys = ⊥
 abbrev pub SameMembers : ℕ → Pattern → Pattern → Type 0
 SameMembers i pattern other = SameFirst i (pattern_key pattern) (pattern_key other)
 
--- none of the patterns with the first i members of this one passes
+-- no pattern passes whose first i members are those of the given one
 abbrev pub NoneWith : ℕ → Pattern → (Pattern → Type 0) → Type 0
 NoneWith i pattern Passes = (other : Pattern) → SameMembers i other pattern → Passes other → ⊥
 
--- none that passes comes before the pattern
+-- no pattern that passes comes before the given one
 abbrev pub NoneBefore : (Pattern → Type 0) → Pattern → Type 0
 NoneBefore Passes pattern = (other : Pattern) → Passes other → key_lt (pattern_key other) (pattern_key pattern) ≡ false
 

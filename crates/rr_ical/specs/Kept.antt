@@ -18,7 +18,7 @@ use Rattle.rr_model.specs.declared.used.UsedLine.{UsedLine}
 use Rattle.rr_ical.specs.declared.kept.LineValue.{LineValue}
 use Rattle.rr_ical.specs.declared.kept.LineValue.TheVariants.{OneDate, OneRule}
 use Rattle.rr_ical.specs.declared.kept.ReadLines.{ReadLines}
-use Rattle.rr_ical.specs.declared.second.Setting.{Setting}
+use Rattle.rr_ical.specs.declared.lines_beside.Setting.{Setting}
 
 -- ---- each line alone
 

@@ -1,12 +1,11 @@
 // The used lines of the one event (RFC 5545, section 3.6.1).
-ghost use Rattle.std.specs.Prelude.{◌≡◌, ◌++◌, ◌+◌, [], not, length, IfOk, OnOk, Ok, MatchOption, codes};
+ghost use Rattle.std.specs.Prelude.{◌≡◌, ◌++◌, ◌+◌, [], length, IfOk, OnOk, Ok, Err, codes};
+ghost use Rattle.std.specs.Result.{MatchResult};
 ghost use Rattle.std.specs.List.{cons_option, list_any};
 ghost use Rattle.rr_model.specs.Text.Lines.{physical_lines};
-ghost use Rattle.rr_model.specs.Text.Event.{no_components, used_line, left_by, left_at, scanned, is_bare_text, event_scan};
+ghost use Rattle.rr_model.specs.Text.Event.{no_components, used_line, value_on, left_by, left_at, scanned, event_scan};
 ghost use Rattle.rr_model.specs.Text.UsedLines.{is_named};
 ghost use Rattle.rr_ical.specs.Steps.{IsLeft};
-ghost use Rattle.rr_model.specs.Answers.{Answers};
-ghost use Rattle.rr_model.specs.declared.refusal.Refusal.TheVariants.{BadLine};
 
 use crate::components::Nesting;
 use crate::names::{is_named, line_kind};
@@ -14,6 +13,17 @@ use crate::value::value_of_line;
 use rr_model::{Bytes, Fault, Line, LineKind, LineName, NoMemory, Refusal, Scan, Used, UsedLine};
 use rr_text::{lines, take_line};
 use std::alloc::Global;
+
+// The value of a line that has to have one.
+fn value_on(number: u64, text: &[u8]) -> Result<&[u8], Refusal>
+    ensures { MatchResult result (λ value. value_on number text.now ≡ Ok value.now)
+        (λ refusal. value_on number text.now ≡ Err refusal) }
+{
+    match value_of_line(text) {
+        Some(value) => Ok(value),
+        None => Err(Refusal::BadLine(number)),
+    }
+}
 
 // What a line leaves, by its kind.
 fn step(
@@ -28,16 +38,12 @@ fn step(
 {
     match kind {
         LineKind::Begin => {
-            let Some(name) = value_of_line(text) else {
-                return Err(Fault::Refused(Refusal::BadLine(number)));
-            };
+            let name = value_on(number, text)?;
             nesting.begin(alloc, name)?;
             Ok(None)
         }
         LineKind::End => {
-            let Some(name) = value_of_line(text) else {
-                return Err(Fault::Refused(Refusal::BadLine(number)));
-            };
+            let name = value_on(number, text)?;
             nesting.end(number, name)?;
             Ok(None)
         }
@@ -45,9 +51,7 @@ fn step(
             if !(is_bare || nesting.is_in_event()) {
                 return Ok(None);
             }
-            let Some(value) = value_of_line(text) else {
-                return Err(Fault::Refused(Refusal::BadLine(number)));
-            };
+            let value = value_on(number, text)?;
             Ok(Some(used_line(alloc, number, name, value)?))
         }
         LineKind::Other => Ok(None),

@@ -7,7 +7,7 @@ ghost use Rattle.rr_model.specs.declared.refusal.Refusal.{Refusal};
 ghost use Rattle.rr_model.specs.declared.stamp.Stamp.{Stamp};
 ghost use Rattle.rr_ical.specs.Kept.{is_date_separator};
 
-use crate::second::Setting;
+use crate::lines_beside::Setting;
 use rr_model::{Fault, NoMemory, Stamp};
 use std::alloc::Global;
 use std::marker::Model;

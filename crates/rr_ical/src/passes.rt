@@ -3,9 +3,9 @@ ghost use Rattle.rr_model.specs.Answers.{Answers};
 ghost use Rattle.rr_model.specs.Text.Passes.{passes};
 ghost use Rattle.rr_ical.specs.Kept.{kept_event};
 
-use crate::first::first_pass;
 use crate::language::RuleLanguage;
-use crate::second::{Nearby, Setting, second_pass};
+use crate::lines_alone::first_pass;
+use crate::lines_beside::{Nearby, Setting, second_pass};
 use rr_model::{Fault, Refusal, Scan, Stamp};
 use std::alloc::Global;
 use std::marker::Model;

@@ -14,7 +14,7 @@ KeepsHeld old new = (name : List ℕ) → new name ≡ old name
 abbrev pub IsFrontOf : {E : Type 0} → ℕ → List ℕ → Result (Vec ℕ Global) E → Type 0
 IsFrontOf limit bytes result = IfOk result (λ v. v.items ≡ take (limit + 1) bytes)
 
--- the same of bytes that may be told or not
+-- what was had are the bytes, cut after one more than the limit, where the source tells them
 abbrev pub IsFrontIfTold : {E : Type 0} → ℕ → Option (List ℕ) → Result (Vec ℕ Global) E → Type 0
 IsFrontIfTold limit told result = IfOk result (λ v. IfSome told (λ bytes. v.items ≡ take (limit + 1) bytes))
 

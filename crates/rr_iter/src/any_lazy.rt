@@ -12,7 +12,9 @@ use rr_model::{NoMemory, Series};
 use rr_shapes::SetTable;
 use std::alloc::Global;
 
-/// The occurrences of a series.
+/// The iterator over the days of a series, a tree of shells: each takes days from those inside it. A series that has nothing but
+/// one rule and its start has the rule alone. Any other has, from the outside in, `Without` for EXDATE, `KeptLazy` for the excluded
+/// rules, and in that `AllLazy`, which unites the start and RDATE with the rules.
 #[derive(Drop)]
 pub enum AnyLazy {
     /// Of a series that has nothing but one rule, and its start.

@@ -28,7 +28,7 @@ abbrev pub seen : List (List ℕ) → Option OccupiedDay → Option DayTimes
 seen sets None = None
 seen sets (Some f) = Some (with_set sets f)
 
--- the same of a part that told the seconds by a number
+-- from a day on: the part's first occupied day, its seconds told by a number of the table, or that it has none before its own position
 pub record IsAheadIn (sets : List (List ℕ)) (tree : Tree) (own from : ℤ) (ahead : Option OccupiedDay) : Type 0 where
   pub within : ForSome ahead (IsWithin sets)
   pub known : IsAhead tree own from (seen sets ahead)
@@ -53,7 +53,7 @@ abbrev pub IsLeft : Option DayTimes → ℤ → Option DayTimes → Type 0
 IsLeft None day r = r ≡ None
 IsLeft (Some f) day r = ((f.day ≡ day) × (r ≡ None)) ⊎ ((f.day ≢ day) × (r ≡ Some f))
 
--- the same by each table of sets
+-- by each table of sets: what is left of what a part gave once a day was passed on
 abbrev pub HasForgotten : Option OccupiedDay → ℤ → Option OccupiedDay → Type 0
 HasForgotten old day new = (sets : List (List ℕ)) → IsLeft (seen sets old) day (seen sets new)
 
@@ -61,7 +61,7 @@ HasForgotten old day new = (sets : List (List ℕ)) → IsLeft (seen sets old) d
 abbrev pub IsOfDay : Option OccupiedDay → ℤ → Option OccupiedDay → Type 0
 IsOfDay ahead day result = ((result ≡ ahead) × ForSome ahead (λ f. f.day ≡ day)) ⊎ ((result ≡ None) × ForSome ahead (λ f. f.day ≡ day → ⊥))
 
--- it is within the table, and its seconds rise
+-- the set of a day is in the table, and its seconds rise
 pub record IsGivenOn (sets : List (List ℕ)) (found : OccupiedDay) : Type 0 where
   pub within : IsWithin sets found
   pub rises : Rises nat_lt ((with_set sets found).times)

@@ -16,7 +16,7 @@ pub record Part : Type 0 where
   pub own : ℤ
   pub ahead : Option OccupiedDay
 
--- a part of these
+-- the part with this tree, position and day
 abbrev pub part_of : Tree → ℤ → Option OccupiedDay → Part
 part_of tree own ahead = record { tree = tree; own = own; ahead = ahead }
 
@@ -35,7 +35,7 @@ pub record KnowsBoth (sets : List (List ℕ)) (a b : Part) (position : ℤ) : Ty
   pub known : IsAheadIn sets a.tree a.own from a.ahead
   pub out : IsAheadUpTo sets b from
 
--- the same from some position on that is not before 0001-01-01
+-- both parts are known from some position on that is not before 0001-01-01
 abbrev pub KnowsBothFromSome : List (List ℕ) → Part → Part → Type 0
 KnowsBothFromSome sets a b = (position : ℤ) × (first_day_of_year (pos 1) ≤ℤ position) × KnowsBoth sets a b position
 

@@ -30,7 +30,7 @@ IsNext tree old to (Err e) new = new ≡ old
 abbrev pub with_set : List (List ℕ) → OccupiedDay → DayTimes
 with_set sets f = record { day = f.day; times = take f.count (get_or sets f.number []) }
 
--- its number and its count are within the table
+-- the number of the day's set is one of the table, and its count is at most the set's size
 abbrev pub IsWithin : List (List ℕ) → OccupiedDay → Type 0
 IsWithin sets f = (f.number < length sets) × (f.count ≤ length (get_or sets f.number []))
 
@@ -45,7 +45,7 @@ pub record IsSoundLazy (tree : Tree) (position : ℤ) : Type 0 where
   pub of_kind : IsOfOneKind tree
   pub in_years : first_day_of_year (pos 1) ≤ℤ position
 
--- it has not been asked: its position is 0001-01-01
+-- the iterator has not been asked: its position is 0001-01-01
 abbrev pub IsUnasked : ℤ → Type 0
 IsUnasked position = position ≡ first_day_of_year (pos 1)
 

@@ -43,7 +43,7 @@ pub record KnowsPart (sets : List (List ℕ)) (tree : Tree) (own : ℤ) (kind : 
   pub passed : HasNone (without tree kind dates) position from
   pub known : IsAheadIn sets tree own from ahead
 
--- the same from some position on
+-- the part is known from some position on
 abbrev pub KnowsPartFromSome : List (List ℕ) → Tree → ℤ → Kind → List ℤ → Option OccupiedDay → Type 0
 KnowsPartFromSome sets tree own kind dates ahead = (position : ℤ) × KnowsPart sets tree own kind dates position ahead
 

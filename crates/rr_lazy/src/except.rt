@@ -169,7 +169,7 @@ fn left_of<B: Lazy>(
 {
     pass_to(alloc, sets, lazy, ahead, found.day)?;
     match of_day(*ahead, found.day) {
-        Some(out) => lacking(alloc, sets, found, out),
+        Some(out) => seconds_lacking(alloc, sets, found, out),
         None => Ok(Some(found)),
     }
 }
@@ -208,7 +208,7 @@ fn pass_to<B: Lazy>(
 }
 
 // The seconds of a day that one part gave and another, which gave the day too, lacks; none where it lacks none.
-fn lacking(
+fn seconds_lacking(
     alloc: Global,
     sets: &mut SetTable,
     a: OccupiedDay,

@@ -18,7 +18,7 @@ pub(crate) fn first_from(kind: Kind, dates: &[i64], day: i64) -> usize
     dates.partition_point(|date| day_part(kind, *date) < day)
 }
 
-// Of the days from one on up to another the first with a date.
+// The first day with a date, from `from` up to `to`, both included.
 pub(crate) fn first_date(kind: Kind, dates: &[i64], from: i64, to: i64) -> Option<i64>
     requires { Rises int_lt dates.now }
     ensures { IsFirstDate kind dates.now from to result }

@@ -56,7 +56,7 @@ fn walk_seconds<A: DaySeq, B: DaySeq>(
     while let Some(next) = next_second(rest_a, rest_b) {
         let at = second_at(midnight, next.second);
         last = last.after(next.side, at);
-        if let Some(meeting) = last.meeting(durations, at) {
+        if let Some(meeting) = last.meeting_at(durations, at) {
             return DayEnd::Meets(meeting);
         }
         rest_a = next.xs;

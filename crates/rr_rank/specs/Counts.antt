@@ -29,7 +29,7 @@ unfoldable pub entries_of : Sketch → ℤ → ℕ → List Entry
 entries_of s q zero = []
 entries_of s q (suc n) = entries_of s q n ++ entry_if_some (q +ℤ pos n) (count_on s q n) (times_on s (q +ℤ pos n))
 
--- these, and one for the day after them
+-- the entries of the n days from q on, and one for the day after them
 abbrev pub sums_of : Sketch → ℤ → ℕ → List Entry
 sums_of s q n = entries_of s q n ++ record { day = q +ℤ pos n; before = count_on s q n } ∷ []
 

@@ -40,7 +40,7 @@ next_of_unit rule day = unit_start rule.freq rule.week_start Days (unit_number r
 abbrev pub days_before : Rule → ℤ → ℤ → ℕ
 days_before rule start_day day = days_among rule start_day (first_of_unit rule day) (nat_abs (day -ℤ first_of_unit rule day))
 
--- and how many in the whole unit
+-- how many days that the date parts allow lie in the day's whole unit
 abbrev pub days_of_unit : Rule → ℤ → ℤ → ℕ
 days_of_unit rule start_day day = days_among rule start_day (first_of_unit rule day) (nat_abs (next_of_unit rule day -ℤ first_of_unit rule day))
 
@@ -113,7 +113,7 @@ PositionsAreByParts = (rule : Rule) (kind : Kind) (start t : ℤ) → IsTrue (ta
     → (position_from_front rule kind start t ≡ rank_by_parts rule kind start t + 1)
     × (position_from_back rule kind start t ≡ size_by_parts rule kind start t - rank_by_parts rule kind start t)
 
--- So set positions hold of a candidate exactly where one of the two is listed.
+-- BYSETPOS holds of a candidate exactly where its position from the front or from the back, counted by days and times, is listed.
 abbrev pub SetPositionsAreByParts : Type 0
 SetPositionsAreByParts = (rule : Rule) (kind : Kind) (start t : ℤ) → IsTrue (takes_start rule.freq kind) → is_candidate rule kind start t ≡ true
     → by_set_pos_holds rule kind start t ≡ set_positions_hold rule kind start t

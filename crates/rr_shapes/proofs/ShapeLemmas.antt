@@ -146,7 +146,7 @@ placed_extends old new times number placed = by (list_any (same times) old) refl
         subst (Extends old) (sym (placed.known there)) (λ _ _ at. at)
     by false fresh = subst (Extends old) (sym (placed.added (absent old times fresh)).0) (push_extends old times)
 
--- and so does one that is not placed for want of memory
+-- a list to which a set was not added, since memory ran out, extends the old one
 pub interned_extends : {E : Type 0} (result : Result ℕ E) (old new : List (List ℕ)) (times : List ℕ) → IfOk result (IsPlaced times old new)
     → OnErr result (new ≡ old) → Extends old new
 interned_extends (Ok number) old new times placed same_sets = placed_extends old new times number placed

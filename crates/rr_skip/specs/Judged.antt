@@ -29,7 +29,7 @@ IsFoldedSeries sketch series (Ok days) = StandsForSeries series (sketch days) ×
 IsFoldedSeries sketch series (Err (Refused refusal)) = IsSkipLimitRefusal series (Some refusal)
 IsFoldedSeries sketch series (Err NoMemory) = ⊤
 
--- the same of what is read, or the refusal of the reading
+-- the days of the series that was read; the limit that refuses it; the refusal of the reading; or out of memory
 abbrev pub IsFoldedText : {A : Type 0} → (A → Sketch) → Result SkipSeries Refusal → Result A Fault → Type 0
 IsFoldedText sketch (Ok series) answer = IsFoldedSeries sketch series answer
 IsFoldedText sketch (Err refusal) (Ok days) = ⊥

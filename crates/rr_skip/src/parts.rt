@@ -142,7 +142,7 @@ fn front_day(line: u64, text: &[u8]) -> Result<i16, Refusal>
     }
 }
 
-fn front_days_placed(alloc: Global, line: u64, text: &[u8]) -> Result<Numbers, Fault>
+fn front_days_in_order(alloc: Global, line: u64, text: &[u8]) -> Result<Numbers, Fault>
     ensures { Answers (placed int_lt (front_day line) [] (pieces 44 text.now)) result }
 {
     let mut days = Numbers::new(alloc);
@@ -158,7 +158,7 @@ fn front_days(alloc: Global, line: u64, text: &[u8]) -> Result<Numbers, Fault>
     ensures { Answers (front_days line text.now) result }
 {
     if have_number_form(NumberBounds::signed(31), text) {
-        front_days_placed(alloc, line, text)
+        front_days_in_order(alloc, line, text)
     } else {
         Err(Fault::Refused(Refusal::BadRule(line)))
     }

@@ -47,7 +47,7 @@ pub record IsVcalText (P : Occurrences) (text : List ℕ) : Type 0 where
   pub written : text ≡ vcal_written (vseries_of rule kind start)
   pub states : States Vcal P text
 
--- the same rule in the words of RFC 5545
+-- into RFC 5545: the first of the rules that vCalendar 1.0 can say that has the occurrences
 pub record IsInferredText (P : Occurrences) (text : List ℕ) : Type 0 where
   pub rule : VRule
   pub kind : Kind

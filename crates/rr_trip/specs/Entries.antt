@@ -16,7 +16,7 @@ use Rattle.rr_trip.specs.declared.key.Key.{Key}
 abbrev pub IsNumberedPiece : Piece → Type 0
 IsNumberedPiece piece = piece.first + length piece.text.now < 2 ^ 64
 
--- the same of an entry
+-- the numbers of an entry's lines are numbers of the machine
 abbrev pub IsNumbered : Entry → Type 0
 IsNumbered entry = IsNumberedPiece entry.piece
 

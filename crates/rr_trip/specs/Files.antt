@@ -29,7 +29,7 @@ abbrev pub component_refusal : Refusal → FileRefusal
 component_refusal (refusal.BadLine line) = BadLine line
 component_refusal r = BadLine 0
 
--- the refusal of a file on this side for a fault of its components, or want of memory
+-- the refusal of a file on this side for a fault of its components, or out of memory
 abbrev pub file_fault : Side → Fault → TripFault
 file_fault side (fault.Refused r) = trip.Refused side (component_refusal r)
 file_fault side fault.NoMemory = trip.NoMemory

@@ -49,7 +49,7 @@ pub record IsReportOf (offset : Option ℤ) (old new : List ℕ) (lines : List R
   pub second : file_events new ≡ Ok b
   pub report : IsReport offset a b lines
 
--- What is answered to two files: the report, or the refusal of a file; want of memory may come in place of each.
+-- What is answered to two files: the report, or the refusal of a file; out of memory may come in place of each.
 abbrev pub AnswersTrip : Option ℤ → List ℕ → List ℕ → Result Report TripFault → Type 0
 AnswersTrip offset old new (Ok report) = IsReportOf offset old new report.lines.items
 AnswersTrip offset old new (Err (trip.Refused side refusal)) = IsFileRefused side old new refusal
@@ -57,11 +57,11 @@ AnswersTrip offset old new (Err trip.NoMemory) = ⊤
 
 -- ---- lines of sorted entries
 
--- the entries of A at the front, and those after them
+-- the entries of A at the front of a list
 abbrev pub front_of_a : List Entry → List Entry
 front_of_a entries = take_while is_of_a entries
 
--- those after the entries of A
+-- the entries of a list after those of A at its front
 abbrev pub after_a : List Entry → List Entry
 after_a entries = drop (length (front_of_a entries)) entries
 

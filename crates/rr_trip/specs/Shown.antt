@@ -27,7 +27,7 @@ is_entry_named name entry = bytes_eq (key_text entry.key) name
 abbrev pub named_part : List ℕ → Entry → List Entry
 named_part name entry = if is_entry_named name entry then entry ∷ [] else []
 
--- there are none in A and none in B
+-- both lists of entries, that of A and that of B, are empty
 abbrev pub are_none : List Entry → List Entry → Bool
 are_none [] [] = true
 are_none [] (y ∷ ys) = false
@@ -48,12 +48,12 @@ said_status (said.Compared (No kind at side) one_zone) = Differs
 abbrev pub unknown_text : List ℕ → List ℕ
 unknown_text name = codes "unknown " ++ name ++ codes "\n"
 
--- it says that no event has the name
+-- what is shown says that no event has the name
 pub record IsUnknown (name : List ℕ) (shown : Shown) : Type 0 where
   pub status : shown.status ≡ Refused
   pub text : shown.text.items ≡ unknown_text name
 
--- it says what is so of these events, of A and of B, in a first line
+-- the first line that is shown says what is so of the events of A and of B
 pub record IsShownSaid (offset : Option ℤ) (a b : List Event) (name : List ℕ) (shown : Shown) : Type 0 where
   pub said : Said
   pub more : List ℕ

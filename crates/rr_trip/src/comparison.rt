@@ -68,7 +68,7 @@ fn lines_of<W: Watch>(
     while let Some(run) = first_run(&entries[start..]) {
         lines.push(line_of(alloc, offset, &run.first.key, run.entries)?)?;
         start += run.entries.len();
-        watch.judged(lines.len(), keys);
+        watch.on_judged(lines.len(), keys);
     }
     Ok(lines)
 }
@@ -123,6 +123,6 @@ pub fn compare<W: Watch>(
     ensures { AnswersTrip offset old.now new.now result }
 {
     let answered = report_of(alloc, offset, old, new, watch);
-    watch.ended();
+    watch.on_ended();
     answered
 }

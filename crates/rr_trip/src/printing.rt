@@ -23,7 +23,7 @@ fn side_text(side: Side) -> &'static [u8]
     }
 }
 
-// Puts a text.
+/// Appends a text.
 pub fn push(out: &mut Vec<u8>, text: &[u8]) -> Result<(), NoMemory>
     ensures { OnOk result (out.new.items ≡ out.old.items ++ text.now) }
 {
@@ -64,7 +64,8 @@ fn push_escaped(out: &mut Vec<u8>, text: &[u8]) -> Result<(), NoMemory>
     Ok(())
 }
 
-// A key: `line 12`, or the UID.
+/// Appends a key: `line` and the number of the event's line, or the UID, in which a byte that is a blank, a control character, a
+/// backslash or not ASCII is written as `\x` and two hexadecimal digits.
 pub fn push_key(out: &mut Vec<u8>, key: &Key) -> Result<(), NoMemory>
     ensures { OnOk result (out.new.items ≡ out.old.items ++ key_text key.now) }
 {
@@ -152,7 +153,7 @@ fn push_verdict(out: &mut Vec<u8>, name: &[u8], verdict: Verdict) -> Result<(), 
     }
 }
 
-// What is said of a key that is printed so, without the line feed.
+/// Appends what is said of a key whose printed text is `name`: the line of the report without its line feed.
 pub fn push_said(alloc: Global, out: &mut Vec<u8>, name: &[u8], said: Said) -> Result<(), NoMemory>
     requires { IsPrintableSaid said }
     ensures { OnOk result (out.new.items ≡ out.old.items ++ said_text name.now said) }

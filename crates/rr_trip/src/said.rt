@@ -129,7 +129,7 @@ fn said_with(alloc: Global, offset: Option<i32>, a: &KeyDays, b: &[Entry]) -> Re
 }
 
 /// What is said of a key with these events in A and in B: that one calendar alone has some, else the refusal of A, else that
-/// of B, else the verdict. Nothing of B is read where A is refused.
+/// of B, else the verdict. B is not read where A is refused.
 pub fn said_of(
     alloc: Global,
     offset: Option<i32>,

@@ -37,11 +37,11 @@ pub record Ruling : Type 0 where
   pub start : ℤ
   pub kept : List (Option ℕ)
 
--- this rule beside this start, with these numbers
+-- the ruling of a rule beside a start, with the numbers that are kept of times
 abbrev pub ruling_of : Rule → Kind → ℤ → List (Option ℕ) → Ruling
 ruling_of rule kind start kept = record { rule = rule; kind = kind; start = start; kept = kept }
 
--- the same rule in kind Moments
+-- the ruling with its rule and start, in kind Moments
 abbrev pub at_moments : Ruling → Ruling
 at_moments r = record { rule = r.rule; kind = Moments; start = r.start; kept = r.kept }
 
@@ -61,7 +61,7 @@ AllowsDay r day = IsTrue (date_parts_hold (filled r.rule Days (day_part Moments 
 abbrev pub IsSetAt : List (List ℕ) → (ℕ → Type 0) → ℕ → Type 0
 IsSetAt sets P number = IsSetOf nat_lt (get_or sets number []) P
 
--- the same rule beside the same start
+-- two rulings have one rule, kind and start
 pub record IsSameRuling (new old : Ruling) : Type 0 where
   pub rule : new.rule ≡ old.rule
   pub kind : new.kind ≡ old.kind
@@ -127,7 +127,7 @@ pub record IsUnrolled (r : Ruling) (start_day : ℤ) (start_second : ℕ) (times
   pub of_unit : IsWholeUnit r.rule.freq r.rule.week_start unit
   pub held : is_held ≡ true → IsSetOf int_lt days (IsCandidateDay r.rule (day_part r.kind r.start) unit.number)
 
--- there is one proof of it
+-- `IsValidRuling` has one proof at most
 pub IsValidRuling-prop : (r : Ruling) → IsProp (IsValidRuling r)
 IsValidRuling-prop r = let p = IsValidRule-prop r.kind r.rule in hlevel (props, p)
 
@@ -159,7 +159,7 @@ IsFirstCandidate r from to (Some day) =
     (from ≤ℤ day) × (day ≤ℤ to) × (day_holds r.rule (day_part r.kind r.start) day ≡ true)
     × ((d : ℤ) → from ≤ℤ d → d <ℤ day → day_holds r.rule (day_part r.kind r.start) d ≡ false)
 
--- the same of the days of one unit
+-- the first candidate day of one unit from a day on up to another, None where none is
 abbrev pub IsFirstCandidateIn : Ruling → ℤ → ℤ → ℤ → Option ℤ → Type 0
 IsFirstCandidateIn r unit from to None =
     (d : ℤ) → unit_number r.rule.freq r.rule.week_start Days d ≡ unit → from ≤ℤ d → d ≤ℤ to → day_holds r.rule (day_part r.kind r.start) d ≡ false

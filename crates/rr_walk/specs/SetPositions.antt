@@ -41,7 +41,7 @@ IsDayOfPosition position each count (Some rank) = (rank < count) × IsPositionOn
 abbrev pub HasOneOn : List ℤ → ℕ → ℕ → ℕ → ℕ → Type 0
 HasOneOn positions k each count rank = (i : ℕ) × ((i < k) × IsPositionOn (get_or positions i (pos 0)) each count rank)
 
--- one of all positions is
+-- one of the positions is that of a time of the day of this rank
 abbrev pub HasPositionOn : List ℤ → ℕ → ℕ → ℕ → Type 0
 HasPositionOn positions each count rank = HasOneOn positions (length positions) each count rank
 
@@ -59,7 +59,7 @@ offset_allowed Hourly rule minute second s = hour_second_allowed rule minute sec
 offset_allowed Minutely rule minute second s = number_allowed (wants_second rule.freq) rule.by_second second s
 offset_allowed freq rule minute second s = true
 
--- the same for the rule and its start
+-- the time parts of the rule, filled from its start, allow the second of each unit that they allow at all
 abbrev pub offset_holds : Rule → ℤ → ℕ → Bool
 offset_holds rule start s = offset_allowed rule.freq rule (minute_of Moments start) (second_of Moments start) s
 
@@ -73,7 +73,7 @@ IsChosenOffset rule start s =
     (s < unit_seconds rule.freq) × IsTrue (offset_holds rule start s)
     × IsTrue (is_rank_listed rule (count_seconds (offset_holds rule start) s) (count_seconds (offset_holds rule start) (unit_seconds rule.freq)))
 
--- these are all of them, in order, where set positions are present
+-- where set positions are present, the offsets are all seconds of a unit shorter than a day that they choose, in order
 abbrev pub AreChosenOffsets : Rule → ℤ → List ℕ → Type 0
 AreChosenOffsets rule start offsets = is_absent rule.by_set_pos ≡ false → IsSetOf nat_lt offsets (IsChosenOffset rule start)
 

@@ -87,7 +87,7 @@ IsFirstIn tree rule unit from (Some found) =
     × AreSecondsOn tree found.day found.times
     × ((day : ℤ) (second : ℕ) → unit_number rule.freq rule.week_start Days day ≡ unit → from ≤ℤ day → day <ℤ found.day → stands_at tree day second ≡ false)
 
--- the same of a day whose seconds are told by a number
+-- the first occupied day of a unit from a day on, its seconds as the number of a set in the table; None where there is none
 abbrev pub IsFirstInIn : List (List ℕ) → Tree → Rule → ℤ → ℤ → Option OccupiedDay → Type 0
 IsFirstInIn sets tree rule unit from None = IsFirstIn tree rule unit from None
 IsFirstInIn sets tree rule unit from (Some found) = IsWithin sets found × IsFirstIn tree rule unit from (Some (with_set sets found))

@@ -82,8 +82,8 @@ impl DayRule {
         }
     }
 
-    // Of the candidate days of a unit the first occupied one from a day on, where each has one time: a day on which a position
-    // is has that time. None where the days have other numbers of times, and where the position lies before the start.
+    // The first occupied one of a unit's candidate days from a day on, where each has one time: a day on which a position is has
+    // that time. None where the days have other numbers of times, and where the position lies before the start.
     fn first_alone(&self, days: &[i64], from: i64) -> Option<i64>
         requires positions { is_absent self.now.rule.by_set_pos ≡ false }
         requires days { AreUnitDays self.now days.now }
@@ -104,7 +104,7 @@ impl DayRule {
         Some(days[found])
     }
 
-    // Of the candidate days of a unit the first occupied one from a day on. Days at which no position is are passed over.
+    // The first occupied one of a unit's candidate days from a day on. Days on which no position is are passed over.
     fn first_of(
         &self,
         alloc: Global,

@@ -9,7 +9,7 @@ use rr_setpos::rank_of;
 use rr_times::TimeSet;
 use std::alloc::Global;
 
-// Of the times that each day of a unit has, those that the positions choose on the candidate day of this rank, from 0.
+// Those of a day's times that the positions choose on the unit's candidate day of this rank, from 0; each day has the same times.
 pub(crate) fn times_at_positions(
     alloc: Global,
     times: &TimeSet,
@@ -69,7 +69,7 @@ fn day_of_position(position: i64, each: usize, count: usize) -> Option<usize>
     }
 }
 
-// Of the times of a day those at the listed positions, where `before` candidates of the unit come before them.
+// The times of a day that are at the listed positions, where `before` candidates of the unit come before them.
 fn seconds_at_positions(
     alloc: Global,
     times: &[u32],

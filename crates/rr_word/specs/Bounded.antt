@@ -44,7 +44,7 @@ pub IsFirstDay-prop : (s : Sketch) (d : Option ℤ) → IsProp (IsFirstDay s d)
 IsFirstDay-prop s None = hlevel props
 IsFirstDay-prop s (Some d) = hlevel props
 
--- it is what every day sequence meets
+-- a bounded sketch meets what every day sequence does
 pub IsDaySequence-bounded : (s : Sketch) → IsBounded s → IsDaySequence s
 IsDaySequence-bounded s b = record {
   valid = record {

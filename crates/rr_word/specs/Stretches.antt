@@ -13,11 +13,11 @@ pub record IsStretch (sets : List (List ℕ)) (s : Sketch) (day : ℤ) (first : 
   pub of_day : IsNumberOn sets s day first
   pub of_later : (k : ℕ) → k < length rest → IsNumberOn sets s ((day +ℤ pos 1) +ℤ pos k) (Some (get_or rest k 0))
 
--- these are the numbers of the sets of the days after this one, one after another
+-- the numbers are those of the time sets of the days after this one, one after another
 abbrev pub AreNumbersAfter : List (List ℕ) → Sketch → ℤ → List ℕ → Type 0
 AreNumbersAfter sets s day numbers = (k : ℕ) → k < length numbers → IsNumberOn sets s ((day +ℤ pos 1) +ℤ pos k) (Some (get_or numbers k 0))
 
--- this number of days, of which this one is the first, have no seconds
+-- no day of `days` days from this one on has seconds
 abbrev pub AreFree : Sketch → ℤ → ℕ → Type 0
 AreFree s day days = (k : ℕ) → k < days → times_on s (day +ℤ pos k) ≡ []
 

@@ -38,7 +38,7 @@ has_weekday_of d e = weekday_of e == weekday_of d
 abbrev pub rank_from_front : ℤ → ℕ → ℕ
 rank_from_front d k = count_from (has_weekday_of d) ((d -ℤ pos k) +ℤ pos 1) k
 
--- the same from the back, where the month or the year has n days
+-- the rank from the back of the k-th day of its month or year, among the days of its weekday there, where the month or year has `many` days
 abbrev pub rank_from_back : ℤ → ℕ → ℕ → ℕ
 rank_from_back d k many = count_from (has_weekday_of d) d ((many + 1) - k)
 

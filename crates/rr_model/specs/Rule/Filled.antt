@@ -12,15 +12,15 @@ use Rattle.rr_model.specs.declared.rule.Rule.{Rule}
 
 -- ---- the time of a moment
 
--- its hour, from 0 to 23
+-- the hour of a moment, from 0 to 23
 abbrev pub hour_of : Kind → ℤ → ℕ
 hour_of kind t = second_part kind t / 3_600
 
--- its minute, from 0 to 59
+-- the minute of a moment, from 0 to 59
 abbrev pub minute_of : Kind → ℤ → ℕ
 minute_of kind t = second_part kind t / 60 % 60
 
--- its second, from 0 to 59
+-- the second of a moment, from 0 to 59
 abbrev pub second_of : Kind → ℤ → ℕ
 second_of kind t = second_part kind t % 60
 

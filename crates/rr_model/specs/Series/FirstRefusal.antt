@@ -20,7 +20,7 @@ abbrev pub IsRefusalOr : Option Refusal → (Option Refusal → Type 0) → Opti
 IsRefusalOr (Some refusal) next x = x ≡ Some refusal
 IsRefusalOr None next x = next x
 
--- this refusal where the condition holds, else what comes next
+-- the given refusal where the condition holds, else what comes next
 abbrev pub IsRefusalWhere : Type 0 → Refusal → (Option Refusal → Type 0) → Option Refusal → Type 0
 IsRefusalWhere P refusal next x = (P × (x ≡ Some refusal)) ⊎ ((P → ⊥) × next x)
 

@@ -34,7 +34,7 @@ dates_with_start series = if series.start_counts then with_value int_lt series.p
 abbrev pub tree_of_given : Series → Tree
 tree_of_given series = union (dates_of series.kind (dates_with_start series)) (many (members_of_all series.kind series.start series.rules))
 
--- these, except the members of the excluded rules, without the dates taken out
+-- the dates and the members of all rules, except the members of the excluded rules, without the dates taken out
 abbrev pub tree_of : Series → Tree
 tree_of series =
     without (except (tree_of_given series) (many (members_of_all series.kind series.start series.excluded))) series.kind series.minus

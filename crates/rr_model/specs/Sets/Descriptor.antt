@@ -8,7 +8,7 @@ use Rattle.rr_model.specs.declared.sketch.Sketch.{Sketch}
 
 -- ---- the numbers of time sets
 
--- the same seconds
+-- two time sets have the same seconds
 abbrev pub is_same_set : List ℕ → List ℕ → Bool
 is_same_set = pointwise nat_eq
 

@@ -51,7 +51,7 @@ run_line letter run = numbers_line letter (run.gap ∷ run.set ∷ run.count ∷
 abbrev pub settled_line : Ending → List ℕ
 settled_line ending = 113 ∷ 32 ∷ extended_date_text ending.settled ++ fields (ending.period ∷ [])
 
--- that line, and one for each run of the first period; nothing for a finite set
+-- the line of the settled day and the period, and a line for each run of the first period; no line for a finite set
 abbrev pub ending_lines : Option Ending → List (List ℕ)
 ending_lines None = []
 ending_lines (Some ending) = settled_line ending ∷ map (run_line 99) ending.cycle

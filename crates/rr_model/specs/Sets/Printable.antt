@@ -21,13 +21,13 @@ IsPrintedDay d = IsFromYearOne d × IsDayWithin 0 d
 abbrev pub IsPrintedNumber : ℕ → Type 0
 IsPrintedNumber n = n < 2 ^ 64
 
--- such numbers in a run
+-- the numbers of a run are numbers of 64 bits
 pub record IsPrintedRun (run : Run) : Type 0 where
   pub gap : IsPrintedNumber run.gap
   pub set : IsPrintedNumber run.set
   pub count : IsPrintedNumber run.count
 
--- such numbers, and such a day, in an ending
+-- the settled day of an ending can be printed, and the period and the numbers of its runs are numbers of 64 bits
 pub record IsPrintedEnding (ending : Ending) : Type 0 where
   pub settled : IsPrintedDay ending.settled
   pub period : IsPrintedNumber ending.period
@@ -38,19 +38,19 @@ abbrev pub ArePrintedSets : Kind → List (List ℕ) → Type 0
 ArePrintedSets Days sets = sets ≡ (0 ∷ []) ∷ []
 ArePrintedSets Moments sets = All IsSecondsOfDay sets
 
--- so it is of an ending where there is one
+-- an ending, where there is one, can be printed
 abbrev pub IsPrintedIfSome : Option Ending → Type 0
 IsPrintedIfSome None = ⊤
 IsPrintedIfSome (Some ending) = IsPrintedEnding ending
 
--- so it is of each part of what is said of a set
+-- each part of what is said of a set can be printed
 pub record IsPrintedSet (d : Described) : Type 0 where
   pub sets : ArePrintedSets d.kind d.sets
   pub first : IsPrintedDay d.first
   pub before : All IsPrintedRun d.before
   pub ending : IsPrintedIfSome d.ending
 
--- so it is where the set is not empty
+-- what is said of a set can be printed; of the empty set nothing is said
 abbrev pub IsPrinted : Option Described → Type 0
 IsPrinted None = ⊤
 IsPrinted (Some d) = IsPrintedSet d

@@ -11,12 +11,12 @@ pub record Stretch : Type 0 where
   pub step : ℕ
   pub count : ℕ
 
--- how many of these lie in a row, each a step above the one before it, where the one before them is known
+-- how many seconds at the front of a list lie in a row, each a step above the one before it, and the first a step above `before`
 abbrev pub row_after : ℕ → ℕ → List ℕ → ℕ
 row_after before step [] = 0
 row_after before step (x ∷ xs) = if x == before + step then row_after x step xs + 1 else 0
 
--- this second alone
+-- the stretch of one second alone
 abbrev pub single : ℕ → Stretch
 single s = record { start = s; step = 0; count = 1 }
 
@@ -30,7 +30,7 @@ first_stretch s [] = single s
 first_stretch s (x ∷ []) = single s
 first_stretch s (x ∷ y ∷ ys) = stretch_or_single s (x - s) (row_after s (x - s) (x ∷ y ∷ ys) + 1)
 
--- its items, for at most n steps
+-- the items of a rising list, n at most
 unfoldable pub stretches_within : ℕ → List ℕ → List Stretch
 stretches_within zero xs = []
 stretches_within (suc steps) [] = []

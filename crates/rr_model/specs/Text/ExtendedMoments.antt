@@ -44,7 +44,7 @@ extended_moment_of text =
 unfoldable pub extended : List ℕ → Option Stamp
 extended text = if length text == 10 then option_map date_stamp (extended_date_of text) else extended_moment_of text
 
--- the same without a fraction and without a Z, as lists have it
+-- what an extended date or moment states that has no fraction and no Z, as in a list
 abbrev pub plain_extended : List ℕ → Option Stamp
 plain_extended text = if nat_le (length text) 19 then extended text else None
 

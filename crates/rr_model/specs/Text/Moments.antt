@@ -112,7 +112,7 @@ padded width n = replicate (width - length (decimal n)) 48 ++ decimal n
 abbrev pub extended_date : ℕ → ℕ → ℕ → List ℕ
 extended_date year month day = padded 4 year ++ codes "-" ++ padded 2 month ++ codes "-" ++ padded 2 day
 
--- the same of a day that does not lie before the year 1
+-- YYYY-MM-DD of a day that does not lie before the year 1
 unfoldable pub extended_date_text : ℤ → List ℕ
 extended_date_text day = extended_date (nat_abs (year_of day)) (month_of day) (day_of_month day)
 

@@ -58,7 +58,7 @@ judged_date line is_plus pass text =
     if nat_le MAX_DATES pass.date_count then Err TooManyParts
     else (if is_plus && has_slash text then Err PeriodValue else (date_value line text >>= λ stamp. Ok (record pass { date_count = pass.date_count + 1 })))
 
--- its values from left to right
+-- the values of a line of RDATE (true) or EXDATE, from left to right
 abbrev pub judged_dates : ℕ → Bool → FirstPass → List (List ℕ) → Result FirstPass Refusal
 judged_dates line is_plus pass texts = in_turn (judged_date line is_plus) pass texts
 

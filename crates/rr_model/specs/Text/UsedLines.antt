@@ -26,7 +26,7 @@ is_named text word = str_eq_ignore_ascii_case (name_of_line text) word
 
 -- ---- the value
 
--- it has a quote
+-- the text has a quote
 abbrev pub has_quote : List ℕ → Bool
 has_quote text = list_any (λ b. b == 34) text
 

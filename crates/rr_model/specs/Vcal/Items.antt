@@ -62,6 +62,6 @@ item_cmp = on item_key (then_cmp (on (λ k. k.group) nat_cmp) (then_cmp (on (λ 
 abbrev pub item_eq : Item → Item → Bool
 item_eq = eq_by_cmp item_cmp
 
--- it is a total order
+-- `item_cmp` is a total order
 pub item_total : IsTotalOrder item_cmp
 item_total = search (comparing, rules)

@@ -68,7 +68,7 @@ place_of line most from_back text =
     (if from_back then neg_ℤ (pos (digits_value text)) else pos (digits_value text)) else Err (NumberRange line))
     else Err (BadRule line)
 
--- the same without a direction
+-- a short number from 1 up to the most
 abbrev pub number_of : ℕ → ℕ → List ℕ → Result ℕ Refusal
 number_of line most text =
     if is_short_number text then (if nat_le 1 (digits_value text)

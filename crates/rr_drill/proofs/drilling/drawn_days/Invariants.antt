@@ -3,5 +3,5 @@ use Rattle.rr_drill.specs.Draws.{drawn_series}
 use Rattle.rr_drill.proofs.FoldLemmas.{StandFor}
 use Rattle.rr_drill.proofs.drilling.drawn_days.Given as goal
 
-abbrev pub invariant-loop-place : goal.invariant-loop-place
-invariant-loop-place l = StandFor l.days.items (l.count - l.place) l.draws.state (drawn_series l.seed l.count)
+abbrev pub invariant-loop-index : goal.invariant-loop-index
+invariant-loop-index l = StandFor l.days.items (l.count - l.index) l.draws.state (drawn_series l.seed l.count)

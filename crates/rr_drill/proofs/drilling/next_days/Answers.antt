@@ -4,4 +4,4 @@ use Rattle.rr_drill.specs.Folds.{IsFoldOf}
 use Rattle.rr_drill.proofs.drilling.next_days.Goals as goal
 
 pub returns-clause-days : goal.returns-clause-days
-returns-clause-days c = IfOk-weaker c.folded.result _ _ (λ days h. subst (IsFoldOf days) c.in_ok-series.ensures.value h) c.folded.ensures
+returns-clause-days c = IfOk-weaker c.fold_series.result _ _ (λ days h. subst (IsFoldOf days) c.in_ok-series.ensures.value h) c.fold_series.ensures

@@ -18,19 +18,19 @@ loop-next-init g c =
       c.requires.near,
     )
 
-pub returns-in-Some-meeting : goal.returns-in-Some-meeting
-returns-in-Some-meeting g c =
+pub returns-in-Some-meeting_at : goal.returns-in-Some-meeting_at
+returns-in-Some-meeting_at g c =
     let s = g.A.DaySeq.sketch c.args.a.now in
     let u = g.B.DaySeq.sketch c.args.b.now in
     let n = c.in-Some.next in
-    let meets = c.in-Some-meeting.ensures in
+    let meets = c.in-Some-meeting_at.ensures in
     let near = c.second_at-at.ensures.near in
     let here = meets.here in (
       found_at s c.args.durations.first u c.args.durations.second (to_z w64 (of_z w64 c.args.day)) c.loop-next.invariant.0.0 c.loop-next.rest_a.now
           c.loop-next.rest_b.now c.loop-next.last (g.met.A.DaySeq.bounded c.args.a.now).valid (g.met.B.DaySeq.bounded c.args.b.now).valid
           c.loop-next.invariant.0.1 n.second n.side n.xs.now n.ys.now
           c.in-Some.ensures (to_z w64 (of_z w64 c.second_at-at.result)) (omega (arith, ints)) c.after-last.result
-          c.after-last.ensures.first c.after-last.ensures.second c.in-Some-meeting.meeting meets,
+          c.after-last.ensures.first c.after-last.ensures.second c.in-Some-meeting_at.meeting meets,
       (omega (arith, ints, near.0, here), omega (arith, ints, near.1, here)),
     )
 
@@ -45,7 +45,7 @@ loop-next-preserved g c =
             c.loop-next.rest_b.now c.loop-next.last (g.met.A.DaySeq.bounded c.args.a.now).valid (g.met.B.DaySeq.bounded c.args.b.now).valid
             c.loop-next.invariant.0.1 n.second n.side n.xs.now n.ys.now
             c.in-Some.ensures (to_z w64 (of_z w64 c.second_at-at.result)) (omega (arith, ints)) c.after-last.result
-            c.after-last.ensures.first c.after-last.ensures.second c.requires.first.0 c.requires.second.0 c.in_default-meeting.ensures,
+            c.after-last.ensures.first c.after-last.ensures.second c.requires.first.0 c.requires.second.0 c.in_default-meeting_at.ensures,
       ),
       c.after-last.ensures.near,
     )

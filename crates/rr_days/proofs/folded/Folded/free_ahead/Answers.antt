@@ -20,11 +20,11 @@ returns c =
     let d = to_z-of_z c.ranges.day in
     let s : to_z w64 (of_z w64 f.settled) ≡ f.settled = omega (arith, ints, f.bounded.settled.0, f.bounded.settled.1) in
     let past = c.days_between-past.result in
-    let place = c.place_in_cycle-place.result in
-    let turned : place ≡ past % f.period = c.place_in_cycle-place.ensures in
-    let below : place < f.period = omega (arith, turned, mod_below past f.period f.bounded.some) in
-    let r : c.day_after.result ≡ f.settled +ℤ pos place = rw s at c.day_after.ensures in
+    let index = c.index_in_cycle-index.result in
+    let turned : index ≡ past % f.period = c.index_in_cycle-index.ensures in
+    let below : index < f.period = omega (arith, turned, mod_below past f.period f.bounded.some) in
+    let r : c.day_after.result ≡ f.settled +ℤ pos index = rw s at c.day_after.ensures in
     let back : to_z w64 (of_z w64 c.day_after.result) ≡ c.day_after.result = omega (arith, ints, r, f.bounded.settled.0, f.bounded.settled.1, f.bounded.few, below) in
     λ k h. free_of_cycle f.kind f.shapes f.before f.cycle f.settled f.period f.empty earliest_near f.before_rises f.cycle_rises c.args.day
-    past place c.free_days-cycle.result (f.period - place) (rw (back, r) at c.free_days-cycle.ensures) (omega (arith, ints, d, s)) turned
+    past index c.free_days-cycle.result (f.period - index) (rw (back, r) at c.free_days-cycle.ensures) (omega (arith, ints, d, s)) turned
     (omega (arith, below)) below k (omega (arith, h, c.min-2.ensures))
