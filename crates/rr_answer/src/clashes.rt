@@ -2,6 +2,7 @@
 ghost use Rattle.std.specs.Prelude.{◌≡◌, IfOk};
 ghost use Rattle.rr_model.specs.declared.kind.Kind.TheVariants.{Moments};
 ghost use Rattle.rr_overlap.specs.Running.{IsDuration};
+ghost use Rattle.rr_days.specs.Sequence.{sketch};
 ghost use Rattle.rr_answer.specs.Clashes.{IsPrintableClash, clash_said, clash_text};
 ghost use Rattle.rr_answer.specs.Folding.{IsFromYearOneOn};
 ghost use Rattle.rr_answer.specs.Outcome.{answer_of};
@@ -76,10 +77,10 @@ pub fn clash_outcome(
 ) -> Result<Outcome, NoMemory>
     requires first { IsDuration duration_a }
     requires second { IsDuration duration_b }
-    requires a { IsFromYearOneOn (⟦<Folded as DaySeq>⟧.sketch a.now) }
-    requires b { IsFromYearOneOn (⟦<Folded as DaySeq>⟧.sketch b.now) }
+    requires a { IsFromYearOneOn (sketch a.now) }
+    requires b { IsFromYearOneOn (sketch b.now) }
     ensures { IfOk result (λ x. IsSaidOfFolds (AskClash duration_a duration_b)
-        (⟦<Folded as DaySeq>⟧.sketch a.now) (⟦<Folded as DaySeq>⟧.sketch b.now) (answer_of x)) }
+        (sketch a.now) (sketch b.now) (answer_of x)) }
 {
     let together = repeat_together(a, b);
     if !together {

@@ -1,5 +1,6 @@
 // What `union`, `common` and `minus` say of two operands.
 ghost use Rattle.std.specs.Prelude.{IfOk, ◌≤ℤ◌, pos};
+ghost use Rattle.rr_days.specs.Sequence.{sketch};
 ghost use Rattle.rr_answer.specs.Folding.{IsFromYearOneOn};
 ghost use Rattle.rr_answer.specs.Outcome.{answer_of};
 ghost use Rattle.rr_answer.specs.Verdicts.{IsSaidOfFolds};
@@ -13,18 +14,17 @@ use rr_algebra::{Op, combine};
 use rr_canon::Version;
 use rr_days::Folded;
 use rr_model::{NoMemory, Refusal, Side};
-use rr_word::DaySeq;
 use std::alloc::Global;
 
 /// What is said of two operands that are combined: that their common cycle is too long, that one has dates and the other moments
 /// and both are to be in the result, that the result has too many moments, or its canonical text of the second version.
 pub fn combined_outcome(alloc: Global, op: Op, a: &Folded, b: &Folded) -> Result<Outcome, NoMemory>
-    requires a { IsFromYearOneOn (⟦<Folded as DaySeq>⟧.sketch a.now) }
-    requires b { IsFromYearOneOn (⟦<Folded as DaySeq>⟧.sketch b.now) }
-    requires near_a { (⟦<Folded as DaySeq>⟧.sketch a.now).settled ≤ℤ pos 40_000_000 }
-    requires near_b { (⟦<Folded as DaySeq>⟧.sketch b.now).settled ≤ℤ pos 40_000_000 }
-    ensures { IfOk result (λ x. IsSaidOfFolds (Combine op) (⟦<Folded as DaySeq>⟧.sketch a.now)
-        (⟦<Folded as DaySeq>⟧.sketch b.now) (answer_of x)) }
+    requires a { IsFromYearOneOn (sketch a.now) }
+    requires b { IsFromYearOneOn (sketch b.now) }
+    requires near_a { (sketch a.now).settled ≤ℤ pos 40_000_000 }
+    requires near_b { (sketch b.now).settled ≤ℤ pos 40_000_000 }
+    ensures { IfOk result
+        (λ x. IsSaidOfFolds (Combine op) (sketch a.now) (sketch b.now) (answer_of x)) }
 {
     let together = repeat_together(a, b);
     if !together {

@@ -3,6 +3,7 @@ ghost use Rattle.std.specs.Prelude.{◌≡◌, ◌<◌, ◌≤◌, IfOk};
 ghost use Rattle.rr_model.specs.Moment.Years.{IsInYears};
 ghost use Rattle.rr_model.specs.Sets.Sketch.{StandsIn};
 ghost use Rattle.rr_rank.specs.Rank.{IsNthOf, IsRank};
+ghost use Rattle.rr_days.specs.Sequence.{sketch};
 ghost use Rattle.rr_answer.specs.Numbers.{IsPrintableNth, nth_said, rank_said};
 ghost use Rattle.rr_answer.specs.Outcome.{answer_of};
 ghost use Rattle.rr_answer.specs.Tasks.{AnswersTask};
@@ -17,7 +18,7 @@ use rr_model::{Kind, NoMemory, Refusal, Side};
 use rr_rank::{Nth, Ranked};
 use rr_steps::Steps;
 use rr_text::push_extended;
-use rr_word::{Counted, DaySeq};
+use rr_word::Counted;
 use std::alloc::Global;
 use std::marker::Brand;
 use std::sync::ledger::{Blank, Ledger};
@@ -29,7 +30,7 @@ fn nth_of<L: Ledger>(alloc: Global, days: Folded, n: u64, blank: Blank) -> Resul
     requires own { 0 < blank.parts }
     requires some { 1 ≤ n }
     requires most { n ≤ 1_125_899_906_842_624 }
-    ensures { IfOk result (λ r. IsNthOf (StandsIn (⟦<Folded as DaySeq>⟧.sketch days)) n r) }
+    ensures { IfOk result (λ r. IsNthOf (StandsIn (sketch days)) n r) }
 {
     let mut steps = Steps::<L>::new(blank);
     let counted = Counted::new(days);
@@ -49,7 +50,7 @@ fn rank_of<L: Ledger>(
     requires parts { blank.parts ≡ L.parts }
     requires own { 0 < blank.parts }
     requires years { IsInYears kind at }
-    ensures { IfOk result (λ n. IsRank (StandsIn (⟦<Folded as DaySeq>⟧.sketch days)) kind at n) }
+    ensures { IfOk result (λ n. IsRank (StandsIn (sketch days)) kind at n) }
 {
     let mut steps = Steps::<L>::new(blank);
     let counted = Counted::new(days);

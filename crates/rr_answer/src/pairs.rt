@@ -1,6 +1,7 @@
 // What is said of two operands.
 ghost use Rattle.std.specs.Prelude.{◌≡◌, IfOk, IsTrue, ◌≤ℤ◌, pos};
 ghost use Rattle.rr_model.specs.declared.question.Question.TheVariants.{Equal};
+ghost use Rattle.rr_days.specs.Sequence.{sketch};
 ghost use Rattle.rr_answer.specs.Answer.{IsPairAnswer, IsSaidBeside};
 ghost use Rattle.rr_answer.specs.Command.{HasDurations};
 ghost use Rattle.rr_answer.specs.Folding.{IsFromYearOneOn};
@@ -18,7 +19,6 @@ use crate::outcome::{Outcome, outcome_of_fault, outcome_of_verdict};
 use crate::verdicts::verdict_outcome;
 use rr_days::Folded;
 use rr_model::{NoMemory, Question, Side, Verdict};
-use rr_word::DaySeq;
 use std::alloc::Global;
 
 // What is said of two series that are within their limits: that their common cycle is too long for what is asked, or the
@@ -30,12 +30,11 @@ fn said_of_both(
     b: &Folded,
 ) -> Result<Outcome, NoMemory>
     requires durations { HasDurations inquiry }
-    requires a { IsFromYearOneOn (⟦<Folded as DaySeq>⟧.sketch a.now) }
-    requires b { IsFromYearOneOn (⟦<Folded as DaySeq>⟧.sketch b.now) }
-    requires near_a { (⟦<Folded as DaySeq>⟧.sketch a.now).settled ≤ℤ pos 40_000_000 }
-    requires near_b { (⟦<Folded as DaySeq>⟧.sketch b.now).settled ≤ℤ pos 40_000_000 }
-    ensures { IfOk result (λ x. IsSaidOfFolds inquiry (⟦<Folded as DaySeq>⟧.sketch a.now)
-        (⟦<Folded as DaySeq>⟧.sketch b.now) (answer_of x)) }
+    requires a { IsFromYearOneOn (sketch a.now) }
+    requires b { IsFromYearOneOn (sketch b.now) }
+    requires near_a { (sketch a.now).settled ≤ℤ pos 40_000_000 }
+    requires near_b { (sketch b.now).settled ≤ℤ pos 40_000_000 }
+    ensures { IfOk result (λ x. IsSaidOfFolds inquiry (sketch a.now) (sketch b.now) (answer_of x)) }
 {
     match inquiry {
         Inquiry::Verdict(question) => verdict_outcome(alloc, question, a, b),
@@ -56,10 +55,10 @@ fn outcome_beside(
     text_b: &[u8],
 ) -> Result<Outcome, NoMemory>
     requires durations { HasDurations inquiry }
-    requires years { IsFromYearOneOn (⟦<Folded as DaySeq>⟧.sketch a.now) }
-    requires near { (⟦<Folded as DaySeq>⟧.sketch a.now).settled ≤ℤ pos 40_000_000 }
-    ensures { IfOk result (λ x. IsSaidBeside inquiry (⟦<Folded as DaySeq>⟧.sketch a.now)
-        (IsReadOf b.entry text_b.now) (answer_of x)) }
+    requires years { IsFromYearOneOn (sketch a.now) }
+    requires near { (sketch a.now).settled ≤ℤ pos 40_000_000 }
+    ensures { IfOk result
+        (λ x. IsSaidBeside inquiry (sketch a.now) (IsReadOf b.entry text_b.now) (answer_of x)) }
 {
     match read_folded(alloc, b, text_b) {
         Err(fault) => outcome_of_fault(alloc, Side::B, fault),

@@ -1,6 +1,8 @@
 -- Counts by sort of the days of a window.
 use Rattle.std.specs.Prelude.{◌≡◌, ◌⊎◌, ℕ, ◌+◌, ◌≤◌, ◌==◌, Bool, true, false, not, ◌&&◌, List, length, get_or, Option, None, Some, ℤ, pos, ◌+ℤ◌, ◌≤ℤ◌, ◌<ℤ◌}
 use Rattle.rr_model.specs.Whole.Count.{one_if}
+use Rattle.rr_model.specs.declared.vcal.FamilyKind.{FamilyKind}
+use Rattle.rr_family.specs.Sorts.{sort_of_day}
 use Rattle.rr_family.specs.Tally.{sort_passes, days_of_sort}
 use Rattle.rr_find.specs.declared.tallies.Counts.{Counts}
 
@@ -51,6 +53,15 @@ pub record IsTallied (occupied_counts free_counts : List ℕ) (sort_of : ℤ →
   pub of_occupied : AreCounts occupied_counts sort_of occupied first days
   pub of_free : AreCounts free_counts sort_of (λ d. not (occupied d)) first days
   pub sorted : AreSorted sort_of occupied first days
+
+-- a day is counted to its sort, in the lists of a family from a start day on, where it passes a test
+abbrev pub IsDayCounted : (ℤ → Bool) → FamilyKind → ℕ → ℤ → ℤ → List ℕ → List ℕ → Type 0
+IsDayCounted test kind interval start day old new = IsCountedOn old new (sort_of_day kind interval start day) (test day)
+
+-- what the day does to the counts of occupied and of free days
+abbrev pub GoesOnAfter : (ℤ → Bool) → FamilyKind → ℕ → ℤ → ℤ → List ℕ → List ℕ → Bool → Type 0
+GoesOnAfter occupied kind interval start day occupied_counts free_counts goes_on =
+    IsDayResult goes_on occupied_counts free_counts (sort_of_day kind interval start day) (occupied day)
 
 -- no day is counted yet
 abbrev pub IsNothingCounted : List ℕ → Type 0

@@ -2,7 +2,7 @@
 ghost use Rattle.std.specs.Prelude.{◌≡◌, ◌≤◌, ◌<◌, ◌&&◌, not, length, get_or, nat_lt, Some, true, ℕ};
 ghost use Rattle.rr_family.specs.Lasting.{is_occupied};
 ghost use Rattle.rr_family.specs.Sorts.{many_sorts, sort_of_day};
-ghost use Rattle.rr_find.specs.Counted.{IsCountedOn, IsDayResult, IsNothingCounted, IsTally, IsWalked};
+ghost use Rattle.rr_find.specs.Counted.{GoesOnAfter, IsCountedOn, IsDayCounted, IsNothingCounted, IsTally, IsWalked};
 ghost use Rattle.rr_model.specs.Calendar.{IsDayWithin};
 ghost use Rattle.rr_model.specs.Sets.Sketch.{IsNearDay};
 
@@ -101,15 +101,12 @@ fn counts_day<A: DaySeq>(
     requires free_sorts { many_sorts kind ≤ length free.old }
     requires room { (k : ℕ) → get_or occupied.old k 0 < 18_446_744_073_709_551_615 }
     requires free_room { (k : ℕ) → get_or free.old k 0 < 18_446_744_073_709_551_615 }
-    ensures occupied { IsCountedOn occupied.old occupied.new
-        (sort_of_day kind interval start.now.number day.now.number)
-        (is_occupied (A.sketch seq.now) day.now.number) }
-    ensures free { IsCountedOn free.old free.new
-        (sort_of_day kind interval start.now.number day.now.number)
-        (not (is_occupied (A.sketch seq.now) day.now.number)) }
-    ensures goes_on { IsDayResult result occupied.new free.new
-        (sort_of_day kind interval start.now.number day.now.number)
-        (is_occupied (A.sketch seq.now) day.now.number) }
+    ensures occupied { IsDayCounted (is_occupied (A.sketch seq.now))
+        kind interval start.now.number day.now.number occupied.old occupied.new }
+    ensures free { IsDayCounted (λ d. not (is_occupied (A.sketch seq.now) d))
+        kind interval start.now.number day.now.number free.old free.new }
+    ensures goes_on { GoesOnAfter (is_occupied (A.sketch seq.now))
+        kind interval start.now.number day.now.number occupied.new free.new result }
 {
     let taken = is_occupied(seq, day.number);
     match sort_of_day(kind, interval, start, day) {

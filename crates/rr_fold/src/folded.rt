@@ -9,6 +9,7 @@ ghost use Rattle.rr_model.specs.Sets.Sketch.{StandsFor};
 ghost use Rattle.rr_model.specs.declared.refusal.Refusal.TheVariants.{TooManyMoments};
 ghost use Rattle.rr_model.specs.declared.limits.TheConstants.{MAX_CYCLE_DAYS};
 ghost use Rattle.rr_iter.specs.Counts.{AreCountsOf};
+ghost use Rattle.rr_days.specs.Sequence.{sketch};
 ghost use Rattle.rr_fold.specs.Judged.{IsJudged};
 
 use crate::first_day::first_day;
@@ -17,7 +18,6 @@ use rr_check::{Checked, admit};
 use rr_days::{Folded, sequence};
 use rr_iter::{Counts, settled_day_and_counts};
 use rr_model::Fault;
-use rr_word::DaySeq;
 use std::alloc::Global;
 
 /// Folds a series whose cycle is at most `MAX_CYCLE_DAYS`, as `admit` gives it.
@@ -34,14 +34,11 @@ use std::alloc::Global;
 /// first day in the rule's period. The others are copied.
 pub fn fold(alloc: Global, series: &Checked) -> Result<Folded, Fault>
     requires few { series_cycle series.now ≤ MAX_CYCLE_DAYS }
-    ensures stands { IfOk result (λ f.
-        StandsFor (⟦<Folded as DaySeq>⟧.sketch f) (Occurs series.now)) }
-    ensures kind { IfOk result (λ f. (⟦<Folded as DaySeq>⟧.sketch f).kind ≡ series.now.kind) }
-    ensures settled { IfOk result (λ f.
-        IsSettledDay series.now (⟦<Folded as DaySeq>⟧.sketch f).settled) }
-    ensures near { IfOk result (λ f. (⟦<Folded as DaySeq>⟧.sketch f).settled ≤ℤ pos 20_000_000) }
-    ensures period { IfOk result (λ f.
-        (⟦<Folded as DaySeq>⟧.sketch f).period ≡ series_cycle series.now) }
+    ensures stands { IfOk result (λ f. StandsFor (sketch f) (Occurs series.now)) }
+    ensures kind { IfOk result (λ f. (sketch f).kind ≡ series.now.kind) }
+    ensures settled { IfOk result (λ f. IsSettledDay series.now (sketch f).settled) }
+    ensures near { IfOk result (λ f. (sketch f).settled ≤ℤ pos 20_000_000) }
+    ensures period { IfOk result (λ f. (sketch f).period ≡ series_cycle series.now) }
     ensures judged { IsJudged series.now result }
 {
     match settled_day_and_counts(alloc, series) {
@@ -61,12 +58,10 @@ fn folded_to(
     requires settled { IsSettledDay series.now settled }
     requires high { settled ≤ℤ pos 20_000_000 }
     requires counts { AreCountsOf series.now counts.now }
-    ensures stands { IfOk result (λ f.
-        StandsFor (⟦<Folded as DaySeq>⟧.sketch f) (Occurs series.now)) }
-    ensures kind { IfOk result (λ f. (⟦<Folded as DaySeq>⟧.sketch f).kind ≡ series.now.kind) }
-    ensures settled { IfOk result (λ f. (⟦<Folded as DaySeq>⟧.sketch f).settled ≡ settled) }
-    ensures period { IfOk result (λ f.
-        (⟦<Folded as DaySeq>⟧.sketch f).period ≡ series_cycle series.now) }
+    ensures stands { IfOk result (λ f. StandsFor (sketch f) (Occurs series.now)) }
+    ensures kind { IfOk result (λ f. (sketch f).kind ≡ series.now.kind) }
+    ensures settled { IfOk result (λ f. (sketch f).settled ≡ settled) }
+    ensures period { IfOk result (λ f. (sketch f).period ≡ series_cycle series.now) }
     ensures refused { RefusedExactlyWhere (IsTooManyMoments series.now settled)
         TooManyMoments result }
 {

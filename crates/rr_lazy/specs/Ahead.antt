@@ -33,6 +33,10 @@ pub record IsAheadIn (sets : List (List ℕ)) (tree : Tree) (own from : ℤ) (ah
   pub within : ForSome ahead (IsWithin sets)
   pub known : IsAhead tree own from (seen sets ahead)
 
+-- what was known of a part from a day on, by the table of sets that was, is known of it from that day on by the table that is
+abbrev pub StaysAhead : List (List ℕ) → List (List ℕ) → Tree → ℤ → ℤ → Option OccupiedDay → Option OccupiedDay → Type 0
+StaysAhead old new tree own own' ahead ahead' = (from : ℤ) → IsAheadIn old tree own from ahead → IsAheadIn new tree own' from ahead'
+
 -- the part gave this day, with this second
 abbrev pub HasOn : Option DayTimes → ℤ → ℕ → Type 0
 HasOn None day s = ⊥

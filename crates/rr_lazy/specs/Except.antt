@@ -20,6 +20,22 @@ pub record Part : Type 0 where
 abbrev pub part_of : Tree → ℤ → Option OccupiedDay → Part
 part_of tree own ahead = record { tree = tree; own = own; ahead = ahead }
 
+-- a part as an iterator stands: its tree and its position, as `tree` and `position` tell them
+abbrev pub part_in : {L : Type 0} → (L → Tree) → (L → ℤ) → L → Option OccupiedDay → Part
+part_in {L} tree position lazy ahead = part_of (tree lazy) (position lazy) ahead
+
+-- a part before it is asked and after
+pub record AskedPart : Type 0 where
+  pub before : Part
+  pub after : Part
+
+-- the part of an iterator that stood in one state and stands in another, of the same tree
+abbrev pub asked_part : {L : Type 0} → (L → Tree) → (L → ℤ) → L → L → Option OccupiedDay → Option OccupiedDay → AskedPart
+asked_part {L} tree position lazy lazy' ahead ahead' = record {
+  before = part_in tree position lazy ahead;
+  after = part_of (tree lazy) (position lazy') ahead';
+}
+
 -- what is known of a part from some day on that is not after this one
 pub record IsAheadUpTo (sets : List (List ℕ)) (part : Part) (day : ℤ) : Type 0 where
   pub from : ℤ
@@ -63,6 +79,10 @@ IsNextOfBoth old new a a' b b' to (Ok None) =
     ForSome a'.ahead (λ f. to <ℤ f.day) × ForNone a'.ahead (to <ℤ a'.own)
     × ((position : ℤ) → KnowsBoth old a b position → KnowsBoth new a' b' position)
 IsNextOfBoth old new a a' b b' to (Err e) = (position : ℤ) → KnowsBoth old a b position → KnowsBoth new a' b' position
+
+-- the same of two parts that were asked
+abbrev pub IsNextOfAsked : List (List ℕ) → List (List ℕ) → AskedPart → AskedPart → ℤ → Result (Option OccupiedDay) NoMemory → Type 0
+IsNextOfAsked old new a b to result = IsNextOfBoth old new a.before a.after b.before b.after to result
 
 pub up_to_more : (old new : List (List ℕ)) (part : Part) (day : ℤ) → Extends old new → IsAheadUpTo old part day → IsAheadUpTo new part day
 up_to_more old new part day more k =

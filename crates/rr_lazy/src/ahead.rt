@@ -1,9 +1,9 @@
 // A part of a combinator, and the day that it gave and that was not passed on yet.
-ghost use Rattle.std.specs.Prelude.{◌≡◌, ◌↔◌, IfOk, IsTrue, OnOk, List, ℕ, ℤ, ◌≤ℤ◌, ◌<ℤ◌};
+ghost use Rattle.std.specs.Prelude.{◌≡◌, ◌↔◌, IfOk, IsTrue, OnOk, List, ℕ, ◌≤ℤ◌, ◌<ℤ◌};
 ghost use Rattle.std.specs.Option.{ForNone, ForSome};
 ghost use Rattle.rr_model.specs.Bounds.{earliest_day, latest_day};
 ghost use Rattle.rr_shapes.specs.Tables.{Extends};
-ghost use Rattle.rr_lazy.specs.Ahead.{GaveDay, HasForgotten, IsAheadIn, IsGivenOn, IsGivenByBoth, IsOfDay, seen};
+ghost use Rattle.rr_lazy.specs.Ahead.{GaveDay, HasForgotten, IsGivenOn, IsGivenByBoth, IsOfDay, StaysAhead, seen};
 
 use crate::{Lazy, OccupiedDay};
 use rr_model::NoMemory;
@@ -24,9 +24,8 @@ pub(crate) fn fill<L: Lazy>(
     ensures tree { L.tree lazy.new ≡ L.tree lazy.old }
     ensures knows { L.knows lazy.new sets.new }
     ensures kept { Extends sets.old sets.new }
-    ensures known { (from : ℤ)
-        → IsAheadIn sets.old (L.tree lazy.old) (L.position lazy.old) from ahead.old
-        → IsAheadIn sets.new (L.tree lazy.old) (L.position lazy.new) from ahead.new }
+    ensures known { StaysAhead sets.old sets.new (L.tree lazy.old)
+        (L.position lazy.old) (L.position lazy.new) ahead.old ahead.new }
     ensures none { OnOk result (ForNone ahead.new (to <ℤ L.position lazy.new)) }
 {
     if ahead.is_none() {

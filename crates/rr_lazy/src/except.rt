@@ -7,7 +7,7 @@ ghost use Rattle.rr_model.proofs.TreeLemmas.{IsOfOneKind-prop};
 ghost use Rattle.rr_model.specs.Sets.Tree.{IsOfOneKind, except};
 ghost use Rattle.rr_shapes.specs.Tables.{Extends};
 ghost use Rattle.rr_lazy.specs.Ahead.{IsGivenOn};
-ghost use Rattle.rr_lazy.specs.Except.{IsAheadUpTo, IsLacking, IsLeftBy, IsNextOfBoth, KnowsBothFromSome, part_of};
+ghost use Rattle.rr_lazy.specs.Except.{IsAheadUpTo, IsLacking, IsLeftBy, IsNextOfAsked, KnowsBothFromSome, asked_part, part_in, part_of};
 ghost use Rattle.rr_lazy.specs.Next.{IsUnasked, KnowsIfBoth, with_set};
 
 use crate::ahead::{fill, of_day};
@@ -113,19 +113,16 @@ fn next_of_both<A: Lazy, B: Lazy>(
     requires high { to ≤ℤ latest_day }
     requires knows_a { A.knows a.old sets.old }
     requires knows_b { B.knows b.old sets.old }
-    requires known { KnowsBothFromSome sets.old
-        (part_of (A.tree a.old) (A.position a.old) ahead_a.old)
-        (part_of (B.tree b.old) (B.position b.old) ahead_b.old) }
+    requires known { KnowsBothFromSome sets.old (part_in A.tree A.position a.old ahead_a.old)
+        (part_in B.tree B.position b.old ahead_b.old) }
     ensures tree_a { A.tree a.new ≡ A.tree a.old }
     ensures tree_b { B.tree b.new ≡ B.tree b.old }
     ensures knows_a { A.knows a.new sets.new }
     ensures knows_b { B.knows b.new sets.new }
     ensures kept { Extends sets.old sets.new }
-    ensures next { IsNextOfBoth sets.old sets.new
-        (part_of (A.tree a.old) (A.position a.old) ahead_a.old)
-        (part_of (A.tree a.old) (A.position a.new) ahead_a.new)
-        (part_of (B.tree b.old) (B.position b.old) ahead_b.old)
-        (part_of (B.tree b.old) (B.position b.new) ahead_b.new)
+    ensures next { IsNextOfAsked sets.old sets.new
+        (asked_part A.tree A.position a.old a.new ahead_a.old ahead_a.new)
+        (asked_part B.tree B.position b.old b.new ahead_b.old ahead_b.new)
         to result }
 {
     'days: loop {

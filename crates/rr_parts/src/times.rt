@@ -1,9 +1,9 @@
 // The time parts of a rule, as tests of one moment (RFC 5545, section 3.3.10).
-ghost use Rattle.std.specs.Prelude.{◌≡◌, ◌&&◌};
+ghost use Rattle.std.specs.Prelude.{◌≡◌};
 ghost use Rattle.rr_model.specs.Rule.Candidate.{time_parts_hold};
-ghost use Rattle.rr_model.specs.Rule.Filled.{filled, hour_of, minute_of, second_of, wants_hour, wants_minute, wants_second};
+ghost use Rattle.rr_model.specs.Rule.Filled.{filled, hour_of, minute_of, second_of};
 ghost use Rattle.rr_model.specs.declared.kind.Kind.TheVariants.{Moments};
-ghost use Rattle.rr_parts.specs.Numbers.{number_allowed};
+ghost use Rattle.rr_parts.specs.Times.{time_allowed};
 
 use crate::filled::{wants_hour, wants_minute, wants_second};
 use crate::moment::Moment;
@@ -33,10 +33,7 @@ pub fn time_parts_hold(rule: &Rule, start: &Moment, moment: &Moment) -> bool
 
 // Whether each time part, filled from the start's time where it is absent and wanted, lists the time's number.
 fn allows_time(rule: &Rule, own: Time, time: Time) -> bool
-    ensures { result
-        ≡ (number_allowed (wants_hour rule.now.freq) rule.now.by_hour own.hour time.hour
-        && number_allowed (wants_minute rule.now.freq) rule.now.by_minute own.minute time.minute
-        && number_allowed (wants_second rule.now.freq) rule.now.by_second own.second time.second) }
+    ensures { result ≡ time_allowed rule.now own time }
 {
     allows_filled(&rule.by_hour, wants_hour(rule.freq), own.hour, time.hour)
         && allows_filled(

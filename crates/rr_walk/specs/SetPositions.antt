@@ -28,6 +28,11 @@ IsTimeAt times before size position (Some s) = IsAtPosition times before size po
 abbrev pub IsAtSome : List ℕ → ℕ → ℕ → List ℤ → ℕ → ℕ → Type 0
 IsAtSome times before size positions k s = (i : ℕ) × ((i < k) × IsAtPosition times before size (get_or positions i (pos 0)) s)
 
+-- these are, in order, the times at one of all positions on the day of this rank, where each of a unit's `count` days has `times`
+abbrev pub AreAtPositions : List ℕ → ℕ → ℕ → List ℤ → List ℕ → Type 0
+AreAtPositions times rank count positions chosen =
+    IsSetOf nat_lt chosen (IsAtSome times (rank * length times) (count * length times) positions (length positions))
+
 -- the position is that of a time of the day of this rank, where each of n days has m times
 abbrev pub IsPositionOn : ℤ → ℕ → ℕ → ℕ → Type 0
 IsPositionOn position each count rank = (r : ℕ) × ((r < each) × IsPositionOf position (count * each) (rank * each + r))

@@ -10,7 +10,8 @@ use Rattle.rr_model.specs.declared.kind.Kind.TheVariants.{Days, Moments}
 use Rattle.rr_model.specs.declared.rule.Rule.{Rule}
 use Rattle.rr_model.specs.Rule.DaysAndTimes.{seconds_of}
 use Rattle.rr_model.specs.Sets.Tree.{Tree, chosen_of, stands_at}
-use Rattle.rr_walk.specs.Ruling.{AllowsDay, Ruling}
+use Rattle.rr_walk.specs.Ruling.{AllowsDay, IsTimeOf, Ruling}
+use Rattle.rr_walk.specs.Steps.{tree_of_ruling}
 use Rattle.rr_lazy.specs.declared.occupied_day.OccupiedDay.{OccupiedDay}
 use Rattle.rr_lazy.specs.Next.{HasNone, IsFirstOccupied, IsWithin, with_set}
 use Rattle.rr_lazy.specs.DayTimes.{DayTimes}
@@ -43,6 +44,12 @@ IsFirstOf tree days from None = HasNoneOf tree days from
 IsFirstOf tree days from (Some found) =
     Contains days found.day × (from ≤ℤ found.day) × (found.times ≡ [] → ⊥) × AreSecondsOn tree found.day found.times
     × ((day : ℤ) (second : ℕ) → Contains days day → from ≤ℤ day → day <ℤ found.day → stands_at tree day second ≡ false)
+
+-- a day that is given is the first occupied one from one on, of those that a list has, with the times that the rule has on each of its days
+abbrev pub IsFirstWithTimes : Ruling → List ℤ → ℤ → Option ℤ → Type 0
+IsFirstWithTimes r days from result =
+    (day : ℤ) (times : List ℕ) → result ≡ Some day → IsSetOf nat_lt times (IsTimeOf r)
+    → IsFirstOf (tree_of_ruling r) days from (Some (record { day = day; times = times }))
 
 -- ---- the same of days whose seconds are told by a number
 

@@ -1,14 +1,13 @@
 // A rule of whole days with BYSETPOS, walked unit by unit (RFC 5545, section 3.3.10, BYSETPOS).
-ghost use Rattle.std.specs.Prelude.{◌≡◌, ◌⊎◌, Some, None, IfOk, List, false, nat_lt, pos, ◌+ℤ◌, ◌≤ℤ◌, ◌<ℤ◌, ℕ, ℤ};
+ghost use Rattle.std.specs.Prelude.{◌≡◌, ◌⊎◌, Some, None, IfOk, false, pos, ◌+ℤ◌, ◌≤ℤ◌, ◌<ℤ◌};
 ghost use Rattle.rr_model.specs.Calendar.{IsDayWithin};
-ghost use Rattle.rr_model.specs.Rising.Sets.{IsSetOf};
 ghost use Rattle.rr_model.specs.Rule.Validity.{is_absent};
 ghost use Rattle.rr_model.specs.declared.kind.Kind.TheVariants.{Days};
 ghost use Rattle.rr_shapes.specs.Tables.{Extends};
 ghost use Rattle.rr_parts.specs.Units.{start_of_unit};
-ghost use Rattle.rr_walk.specs.Ruling.{AreUnitDays, IsCandidateAt, IsFittingUnit, IsSameRuling, IsTimeOf, KnowsTimes};
+ghost use Rattle.rr_walk.specs.Ruling.{AreUnitDays, IsCandidateAt, IsFittingUnit, IsSameRuling, KnowsTimes};
 ghost use Rattle.rr_walk.specs.Steps.{tree_of_ruling};
-ghost use Rattle.rr_walk.specs.Walk.{AreSecondsOn, IsFirstInIn, IsFirstOf, IsFirstOfIn, IsFirstUpToIn, IsOnDayIn};
+ghost use Rattle.rr_walk.specs.Walk.{AreSecondsOn, IsFirstInIn, IsFirstOfIn, IsFirstUpToIn, IsFirstWithTimes, IsOnDayIn};
 
 use crate::day_rule::{DayRule, END_OF_DAY, day_of_times, whole_unit};
 use crate::set_positions::{next_rank, times_at_positions};
@@ -87,10 +86,7 @@ impl DayRule {
     fn first_alone(&self, days: &[i64], from: i64) -> Option<i64>
         requires positions { is_absent self.now.rule.by_set_pos ≡ false }
         requires days { AreUnitDays self.now days.now }
-        ensures { (day : ℤ) (times : List ℕ) → result ≡ Some day
-            → IsSetOf nat_lt times (IsTimeOf self.now)
-            → IsFirstOf (tree_of_ruling self.now) days.now from
-            (Some (record { day = day; times = times })) }
+        ensures { IsFirstWithTimes self.now days.now from result }
     {
         let times = self.times.as_slice();
         if times.len() != 1 {

@@ -1,8 +1,8 @@
 // The times of a day that BYSETPOS chooses (RFC 5545, section 3.3.10, BYSETPOS): one step for each listed position.
-ghost use Rattle.std.specs.Prelude.{◌≡◌, ◌≤◌, ◌<◌, ◌+◌, ◌*◌, IfOk, length, nat_lt, pos};
+ghost use Rattle.std.specs.Prelude.{◌≡◌, ◌≤◌, ◌<◌, ◌+◌, IfOk, length, nat_lt, pos};
 ghost use Rattle.rr_model.specs.Rising.Sets.{IsSetOf};
 ghost use Rattle.rr_model.specs.Rule.Validity.{CountUpTo};
-ghost use Rattle.rr_walk.specs.SetPositions.{IsAtSome, IsDayOfPosition, IsNextRank, IsTimeAt};
+ghost use Rattle.rr_walk.specs.SetPositions.{AreAtPositions, IsAtSome, IsDayOfPosition, IsNextRank, IsTimeAt};
 
 use rr_model::{NoMemory, Numbers, Seconds};
 use rr_setpos::rank_of;
@@ -20,8 +20,7 @@ pub(crate) fn times_at_positions(
     requires rank { rank < count }
     requires count { count ≤ 366 }
     requires positions { CountUpTo 366 positions.now }
-    ensures { IfOk result (λ t. IsSetOf nat_lt t (IsAtSome times.now (rank * length times.now)
-        (count * length times.now) positions.now (length positions.now))) }
+    ensures { IfOk result (AreAtPositions times.now rank count positions.now) }
 {
     let times = times.as_slice();
     let before = rank * times.len();
