@@ -2,7 +2,7 @@
 use Rattle.std.proofs.Common.{◌≡◌, ◌∙◌, ◌==◌, ◌||◌, ◌&&◌, not, ℕ, zero, suc, ◌+◌, ◌<◌, Bool, true, false, if◌then◌else◌, List, [], ◌∷◌, length, drop, get_or}
 use Rattle.std.proofs.Common.{None, Some, refl, sym, arith}
 use Rattle.std.proofs.lemmas.Bool.{false≢true, false_from_ne_true}
-use Rattle.std.proofs.lemmas.List.{at_drop_more, at_drop_all}
+use Rattle.std.proofs.lemmas.List.{at_drop_more, at_drop_all, drop-drop, get_or-drop}
 use Rattle.memchr.specs.Find.{IsFirstByte, is_byte2}
 use Rattle.rr_model.specs.Text.UsedLines.{after_colon, is_quoted_after}
 
@@ -38,3 +38,10 @@ pub at_first : (is_quoted : Bool) (text : List ℕ) (k : ℕ) → IsFirstByte (i
 at_first is_quoted text k first =
     skipped is_quoted text k (λ j below within. false_from_ne_true (is_byte2 58 34 (get_or text j 0)) (first.0.before j (omega arith) below))
     ∙ at_drop_more (after_colon is_quoted) text k 0 first.0.high
+
+-- the same of what stands behind the first bytes of a text
+pub at_first_behind : (is_quoted : Bool) (text : List ℕ) (n k : ℕ) → IsFirstByte (is_byte2 58 34) (drop n text) (Some k)
+    → after_colon is_quoted (drop n text) ≡ (if (get_or text (n + k) 0 == 58) && not is_quoted then Some (drop (n + (k + 1)) text)
+    else after_colon (is_quoted_after is_quoted (get_or text (n + k) 0) (drop (n + (k + 1)) text)) (drop (n + (k + 1)) text))
+at_first_behind is_quoted text n k first =
+    rw (sym (get_or-drop n text k 0), sym (drop-drop (k + 1) n text)) (at_first is_quoted (drop n text) k first)

@@ -3,14 +3,16 @@ ghost use Rattle.std.specs.Prelude.{◌≡◌, ◌++◌, ◌+◌, [], length, If
 ghost use Rattle.std.specs.Result.{MatchResult};
 ghost use Rattle.std.specs.List.{cons_option, list_any};
 ghost use Rattle.rr_model.specs.Text.Lines.{physical_lines};
-ghost use Rattle.rr_model.specs.Text.Event.{no_components, used_line, value_on, left_by, left_at, scanned, event_scan};
+ghost use Rattle.rr_model.specs.Text.Event.{no_components, value_on, left_by, left_at, scanned, event_scan};
 ghost use Rattle.rr_model.specs.Text.UsedLines.{is_named};
-ghost use Rattle.rr_ical.specs.Steps.{IsLeft};
+ghost use Rattle.rr_ical.specs.Steps.{IsLeft, used_line_on};
 
 use crate::components::Nesting;
 use crate::names::{is_named, line_kind};
-use crate::value::value_of_line;
-use rr_model::{Bytes, Fault, Line, LineKind, LineName, NoMemory, Refusal, Scan, Used, UsedLine};
+use crate::value::{value_of_line, value_part};
+use rr_model::{
+    Bytes, Fault, Line, LineKind, LineList, LineName, NoMemory, Refusal, Scan, Used, UsedLine,
+};
 use rr_text::{lines, take_line};
 use std::alloc::Global;
 
@@ -32,18 +34,18 @@ fn step(
     nesting: &mut Nesting,
     number: u64,
     kind: LineKind,
-    text: &[u8],
+    text: Bytes,
 ) -> Result<Option<UsedLine>, Fault>
-    ensures { IsLeft (left_at is_bare nesting.old number kind text.now) nesting.new result }
+    ensures { IsLeft (left_at is_bare nesting.old number kind text) nesting.new result }
 {
     match kind {
         LineKind::Begin => {
-            let name = value_on(number, text)?;
+            let name = value_on(number, text.as_slice())?;
             nesting.begin(alloc, name)?;
             Ok(None)
         }
         LineKind::End => {
-            let name = value_on(number, text)?;
+            let name = value_on(number, text.as_slice())?;
             nesting.end(number, name)?;
             Ok(None)
         }
@@ -51,20 +53,25 @@ fn step(
             if !(is_bare || nesting.is_in_event()) {
                 return Ok(None);
             }
-            let value = value_on(number, text)?;
-            Ok(Some(used_line(alloc, number, name, value)?))
+            Ok(Some(used_line(number, name, text)?))
         }
         LineKind::Other => Ok(None),
     }
 }
 
-fn used_line(alloc: Global, number: u64, name: LineName, value: &[u8]) -> Result<UsedLine, NoMemory>
-    ensures { IfOk result (λ line. line ≡ used_line number name value.now) }
+// The used line that a line is. Its value stays in the memory of its text.
+fn used_line(number: u64, name: LineName, text: Bytes) -> Result<UsedLine, Refusal>
+    ensures { result ≡ used_line_on number name text }
 {
+    let Some(part) = value_part(text.as_slice()) else {
+        return Err(Refusal::BadLine(number));
+    };
+    let mut value = text;
+    value.keep_part(part.from, part.count);
     Ok(UsedLine {
         number,
         name,
-        value: Bytes::of(alloc, value)?,
+        value,
     })
 }
 
@@ -74,12 +81,12 @@ fn take_in(
     alloc: Global,
     is_bare: bool,
     nesting: &mut Nesting,
-    line: &Line,
+    line: Line,
 ) -> Result<Option<UsedLine>, Fault>
-    ensures { IsLeft (left_by is_bare nesting.old line.now) nesting.new result }
+    ensures { IsLeft (left_by is_bare nesting.old line) nesting.new result }
 {
-    let text = line.text.as_slice();
-    step(alloc, is_bare, nesting, line.number, line_kind(text), text)
+    let kind = line_kind(line.text.as_slice());
+    step(alloc, is_bare, nesting, line.number, kind, line.text)
 }
 
 // Puts a used line, if there is one.
@@ -96,12 +103,17 @@ fn keep(used: &mut Used, line: Option<UsedLine>) -> Result<(), NoMemory>
 ///
 /// `is_bare` says that no line has the name BEGIN, and `last` is the number of the last physical line, which the
 /// refusal of an open component names. See `event_lines`.
-pub fn scan_lines(alloc: Global, is_bare: bool, last: u64, lines: &[Line]) -> Result<Scan, NoMemory>
-    ensures { IfOk result (λ scan. scan ≡ scanned is_bare last no_components lines.now) }
+pub fn scan_lines(
+    alloc: Global,
+    is_bare: bool,
+    last: u64,
+    lines: LineList,
+) -> Result<Scan, NoMemory>
+    ensures { IfOk result (λ scan. scan ≡ scanned is_bare last no_components lines) }
 {
     let mut used = Used::new(alloc);
     let mut nesting = Nesting::new(alloc);
-    for line in lines {
+    for line in lines.into_items() {
         match take_in(alloc, is_bare, &mut nesting, line) {
             Ok(kept) => keep(&mut used, kept)?,
             Err(Fault::Refused(refusal)) => {
@@ -163,6 +175,6 @@ pub fn event_lines(alloc: Global, bytes: &[u8], keep_blank: bool) -> Result<Scan
     ensures { IfOk result (λ scan. scan ≡ event_scan keep_blank bytes.now) }
 {
     let lines = lines(alloc, bytes, keep_blank)?;
-    let lines = lines.as_slice();
-    scan_lines(alloc, !has_begin(lines), count_lines(bytes), lines)
+    let is_bare = !has_begin(lines.as_slice());
+    scan_lines(alloc, is_bare, count_lines(bytes), lines)
 }

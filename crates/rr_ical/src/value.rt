@@ -1,9 +1,9 @@
 // The name and the value of a line (RFC 5545, section 3.1).
-ghost use Rattle.std.specs.Prelude.{◌≡◌, ◌==◌, ◌&&◌, ◌+◌, ◌<◌, not, drop, length, take_while, false, option_map};
+ghost use Rattle.std.specs.Prelude.{◌≡◌, ◌==◌, ◌&&◌, ◌+◌, ◌≤◌, IfSome, not, drop, length, take, take_while, false, option_map};
 ghost use Rattle.rr_model.specs.Text.UsedLines.{is_name_byte, name_of_line, after_name, has_quote, after_colon, is_quoted_after, begins_value, value_of_line};
 
 use memchr::memchr2;
-use rr_text::trim;
+use rr_text::{TextPart, trimmed_part};
 
 fn is_name_byte(byte: u8) -> bool
     ensures { result ≡ is_name_byte byte }
@@ -49,29 +49,38 @@ fn ends_parameters(is_quoted: bool, byte: u8) -> bool
     byte == b':' && !is_quoted
 }
 
-// What stands after an index.
-fn after_index(text: &[u8], index: usize) -> &[u8]
-    requires { index < length text.now }
-    ensures { result.now ≡ drop (index + 1) text.now }
+// What stands behind the first `count` bytes.
+fn rest_from(text: &[u8], count: usize) -> &[u8]
+    requires { count ≤ length text.now }
+    ensures { result.now ≡ drop count text.now }
 {
-    &text[index + 1..]
+    &text[count..]
+}
+
+// How many bytes stand up to the first colon that is not between two quotes, and with it.
+fn count_to_colon(text: &[u8]) -> Option<usize>
+    ensures within { IfSome result (λ count. count ≤ length text.now) }
+    ensures value { option_map (λ count. drop count text.now) result ≡ after_colon false text.now }
+{
+    let mut is_quoted = false;
+    let mut count = 0;
+    while let Some(index) = memchr2(b':', b'"', rest_from(text, count)) {
+        let byte = text[count + index];
+        count += index + 1;
+        if ends_parameters(is_quoted, byte) {
+            return Some(count);
+        }
+        is_quoted = is_quoted_after(is_quoted, byte, rest_from(text, count));
+    }
+    None
 }
 
 /// What stands after the first colon that is not between two quotes (RFC 5545, section 3.1).
 pub fn after_colon(text: &[u8]) -> Option<&[u8]>
     ensures { option_map (λ rest. rest.now) result ≡ after_colon false text.now }
 {
-    let mut is_quoted = false;
-    let mut rest = text;
-    while let Some(index) = memchr2(b':', b'"', rest) {
-        let byte = rest[index];
-        rest = after_index(rest, index);
-        if ends_parameters(is_quoted, byte) {
-            return Some(rest);
-        }
-        is_quoted = is_quoted_after(is_quoted, byte, rest);
-    }
-    None
+    let count = count_to_colon(text)?;
+    Some(rest_from(text, count))
 }
 
 fn begins_value(text: &[u8]) -> bool
@@ -83,18 +92,30 @@ fn begins_value(text: &[u8]) -> bool
     }
 }
 
-/// The value of an unfolded line, if it has one: what stands after its name, its parameters and the colon, without the blanks
+/// Where the value of an unfolded line stands, if it has one: after its name, its parameters and the colon, without the blanks
 /// and tabs around it (RFC 5545, section 3.1).
 #[tactic(auto, unfolding(rr_model::specs::Text::UsedLines::value_of_line))]
-pub fn value_of_line(text: &[u8]) -> Option<&[u8]>
-    ensures { option_map (λ value. value.now) result ≡ value_of_line text.now }
+pub(crate) fn value_part(text: &[u8]) -> Option<TextPart>
+    ensures within { IfSome result (λ part. part.from + part.count ≤ length text.now) }
+    ensures value { option_map (λ part. take part.count (drop part.from text.now)) result
+        ≡ value_of_line text.now }
 {
-    let (_, rest) = name_and_rest(text);
+    let (name, rest) = name_and_rest(text);
     if !begins_value(rest) {
         return None;
     }
-    match after_colon(rest) {
-        None => None,
-        Some(value) => Some(trim(value)),
-    }
+    let count = count_to_colon(rest)?;
+    let part = trimmed_part(rest_from(rest, count));
+    Some(TextPart {
+        from: name.len() + count + part.from,
+        count: part.count,
+    })
+}
+
+/// The value of an unfolded line, if it has one (RFC 5545, section 3.1).
+pub fn value_of_line(text: &[u8]) -> Option<&[u8]>
+    ensures { option_map (λ value. value.now) result ≡ value_of_line text.now }
+{
+    let part = value_part(text)?;
+    Some(&text[part.from..part.from + part.count])
 }

@@ -1,5 +1,5 @@
 // Bytes of a text.
-ghost use Rattle.std.specs.Prelude.{◌≡◌, [], ◌∷◌, ◌++◌, OnOk, OnErr, IfOk};
+ghost use Rattle.std.specs.Prelude.{◌≡◌, ◌+◌, ◌≤◌, [], ◌∷◌, ◌++◌, OnOk, OnErr, IfOk, drop, length, take};
 
 use crate::NoMemory;
 use std::alloc::Global;
@@ -54,6 +54,15 @@ impl Bytes {
     {
         self.items.extend_from_slice(text)?;
         Ok(())
+    }
+
+    /// Keeps the `count` bytes from an index on, and no others; it takes no memory.
+    pub fn keep_part(&mut self, from: usize, count: usize)
+        requires { from + count ≤ length self.old }
+        ensures { self.new ≡ take count (drop from self.old) }
+    {
+        self.items.copy_within(from..from + count, 0);
+        self.items.truncate(count);
     }
 
     /// The bytes in order.

@@ -54,4 +54,11 @@ impl LineList {
     {
         self.items.as_slice()
     }
+
+    /// The values in order, for one who takes them.
+    pub fn into_items(self) -> Vec<Line>
+        ensures { result.items ≡ self }
+    {
+        self.items
+    }
 }

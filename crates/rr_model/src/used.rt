@@ -1,5 +1,5 @@
 // The lines of an event that a reader uses (RFC 5545, sections 3.6.1 and 3.8).
-ghost use Rattle.std.specs.Prelude.{◌≡◌, [], ◌∷◌, ◌++◌, OnOk, OnErr};
+ghost use Rattle.std.specs.Prelude.{◌≡◌, [], ◌∷◌, ◌++◌, OnOk, OnErr, take};
 
 use crate::{Bytes, NoMemory, Refusal};
 use std::alloc::Global;
@@ -76,6 +76,13 @@ impl Used {
     {
         self.items.push(value)?;
         Ok(())
+    }
+
+    /// Takes away all but the first `count` lines, where there are more.
+    pub fn truncate(&mut self, count: usize)
+        ensures { self.new ≡ take count self.old }
+    {
+        self.items.truncate(count);
     }
 
     /// The values in order.

@@ -100,7 +100,7 @@ fn first_of(rules: Vec<SkipRule>) -> Option<SkipRule>
 fn read_scan(alloc: Global, offset: Option<i32>, scan: Scan) -> Result<SkipSeries, Fault>
     ensures { Answers (skip_scan offset scan) result }
 {
-    let scan = lines_read(alloc, scan)?;
+    let scan = lines_read(scan);
     let event = event_of(&SkipLanguage, alloc, offset, &scan)?;
     let start = event.start;
     let beside = event.beside;

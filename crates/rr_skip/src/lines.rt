@@ -1,9 +1,8 @@
 // The lines of an event that are read beside RSCALE (RFC 7529, section 4): starts, and one rule.
-ghost use Rattle.std.specs.Prelude.{◌≡◌, ◌≤◌, ◌||◌, length, IfOk, IfSome, false};
+ghost use Rattle.std.specs.Prelude.{◌≡◌, ◌≤◌, ◌||◌, length, IfSome, false};
 ghost use Rattle.rr_skip.specs.Reading.{first_unread, is_rule, line_refusal, lines_read};
 
-use rr_model::{Bytes, LineName, NoMemory, Refusal, Scan, Used, UsedLine};
-use std::alloc::Global;
+use rr_model::{LineName, Refusal, Scan, UsedLine};
 
 /// A line that is not read.
 #[derive(Clone, Copy, Debug, PartialEq, Eq)]
@@ -55,30 +54,15 @@ fn first_unread(lines: &[UsedLine]) -> Option<Unread>
     None
 }
 
-// A copy of lines.
-fn copy_of(alloc: Global, lines: &[UsedLine]) -> Result<Used, NoMemory>
-    ensures { IfOk result (λ used. used ≡ lines.now) }
-{
-    let mut used = Used::new(alloc);
-    for line in lines {
-        used.put(UsedLine {
-            number: line.number,
-            name: line.name,
-            value: Bytes::of(alloc, line.value.as_slice())?,
-        })?;
-    }
-    Ok(used)
-}
-
 /// The lines up to the first that is not read, which ends the scan.
-pub(crate) fn lines_read(alloc: Global, scan: Scan) -> Result<Scan, NoMemory>
-    ensures { IfOk result (λ read. read ≡ lines_read scan) }
+pub(crate) fn lines_read(scan: Scan) -> Scan
+    ensures { result ≡ lines_read scan }
 {
-    match first_unread(scan.used.as_slice()) {
-        None => Ok(scan),
-        Some(unread) => Ok(Scan {
-            used: copy_of(alloc, &scan.used.as_slice()[..unread.index])?,
-            stop: Some(unread.refusal),
-        }),
-    }
+    let Some(unread) = first_unread(scan.used.as_slice()) else {
+        return scan;
+    };
+    let mut read = scan;
+    read.used.truncate(unread.index);
+    read.stop = Some(unread.refusal);
+    read
 }

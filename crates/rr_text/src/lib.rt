@@ -16,7 +16,7 @@ mod whole_numbers;
 mod words;
 mod years;
 
-pub use blanks::trim;
+pub use blanks::{TextPart, trim, trimmed_part};
 pub use digits::{Digits, number};
 pub use extended_text::{extended, plain_extended};
 pub use laws::printed_texts_differ;

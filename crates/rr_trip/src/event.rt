@@ -83,16 +83,24 @@ fn is_cancelled(own: &[&Line]) -> bool
 }
 
 // What the lines of an event state.
-fn event_of(alloc: Global, lines: &[Line]) -> Result<Event, NoMemory>
-    ensures { IfOk result (λ event. event ≡ event_of lines.now) }
+fn event_of(alloc: Global, lines: LineList) -> Result<Event, NoMemory>
+    ensures { IfOk result (λ event. event ≡ event_of lines) }
 {
-    let own = own_lines(alloc, lines)?;
+    let first = first_line(lines.as_slice());
+    let (recurrence, is_cancelled, zone) = {
+        let own = own_lines(alloc, lines.as_slice())?;
+        (
+            recurrence_of(alloc, &own)?,
+            is_cancelled(&own),
+            zone_of(alloc, first_named(b"DTSTART", &own))?,
+        )
+    };
     Ok(Event {
-        first: first_line(lines),
+        first,
         scan: scan_lines(alloc, false, 0, lines)?,
-        recurrence: recurrence_of(alloc, &own)?,
-        is_cancelled: is_cancelled(&own),
-        zone: zone_of(alloc, first_named(b"DTSTART", &own))?,
+        recurrence,
+        is_cancelled,
+        zone,
     })
 }
 
@@ -102,7 +110,7 @@ pub fn read_event(alloc: Global, piece: Piece) -> Result<Event, NoMemory>
     ensures { IfOk result (λ event. event ≡ event_of (lines_in piece.entry)) }
 {
     let lines = lines_from(alloc, piece.text, false, piece.first)?;
-    event_of(alloc, lines.as_slice())
+    event_of(alloc, lines)
 }
 
 // Whether a used line is RRULE or RDATE.

@@ -1,7 +1,8 @@
-use Rattle.std.proofs.Common.{◌≡◌, drop}
+use Rattle.std.proofs.Common.{◌≡◌, length, drop}
 use Rattle.rr_model.specs.Text.Event.{no_components, scanned}
 use Rattle.rr_ical.proofs.ScanLemmas.{after_lines}
 use Rattle.rr_ical.proofs.event.scan_lines.Given as goal
 
 abbrev pub invariant-loop-line : goal.invariant-loop-line
-invariant-loop-line l = after_lines l.used (scanned l.is_bare l.last l.nesting (drop l.line-index l.lines)) ≡ scanned l.is_bare l.last no_components l.lines
+invariant-loop-line l =
+    after_lines l.used (scanned l.is_bare l.last l.nesting (drop (length l.yielded) l.fn.lines)) ≡ scanned l.is_bare l.last no_components l.fn.lines
