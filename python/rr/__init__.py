@@ -329,7 +329,9 @@ def minus(a: AnySeries, b: AnySeries) -> str:
 
 
 def check(series: AnySeries) -> int:
-    """The least number of days after which the endless rules of a series repeat; 1 where there is none.
+    """A number of days after which the endless rules of a series repeat; 1 where there is none.
+
+    It is told by the rules' frequencies, intervals and parts, and may be more than the least such number.
 
     >>> check("DTSTART;VALUE=DATE:20240101\\nRRULE:FREQ=WEEKLY;INTERVAL=2\\n")
     14
@@ -369,7 +371,7 @@ def rank(series: AnySeries, moment: Moment) -> int:
 
 
 def translate(series: AnySeries, language: Literal["rrule", "vcal", "graph"]) -> str:
-    """A text in another language that has exactly the occurrences; refused as NotSayable where there is none.
+    """A text in another language that has exactly the occurrences; refused as NotSayable where none of those looked for has them.
 
     >>> translate("DTSTART:20240101T090000\\nRRULE:FREQ=DAILY\\n", "vcal")
     'DTSTART:20240101T090000\\r\\nRRULE:D1 #0\\r\\n'
@@ -378,7 +380,7 @@ def translate(series: AnySeries, language: Literal["rrule", "vcal", "graph"]) ->
 
 
 def infer(series: AnySeries) -> str:
-    """The first single rule of iCalendar that has the occurrences; refused as NotSayable where there is none.
+    """The first single rule of iCalendar that has the occurrences; refused as NotSayable where none of those looked for has them.
 
     >>> infer(Series("2024-01-31\\n2024-03-31\\n2024-05-31\\n", "list"))
     'DTSTART;VALUE=DATE:20240131\\r\\nRRULE:FREQ=MONTHLY;COUNT=3;BYMONTHDAY=31\\r\\n'

@@ -1,8 +1,10 @@
 -- Blanks around a text are dropped alike before and after each byte is put in another case.
-use Rattle.std.proofs.Common.{◌≡◌, ℕ, ◌-◌, List, [], ◌∷◌, ◌++◌, reverse, length, drop, map, refl, sym, ap, ◌∙◌, arith}
-use Rattle.std.specs.Char.{to_ascii_uppercase}
-use Rattle.std.specs.List.{prefix_len, take_while}
+use Rattle.std.proofs.Common.{◌≡◌, ℕ, ◌-◌, true, false, cond, List, [], ◌∷◌, ◌++◌, reverse, length, drop, map, refl, sym, ap, ◌∙◌, arith}
+use Rattle.std.specs.Prelude.{nat_lt}
+use Rattle.std.specs.Char.{is_ascii_lowercase, to_ascii_uppercase}
+use Rattle.std.specs.List.{list_any, prefix_len, take_while}
 use Rattle.std.specs.Str.{str_to_ascii_uppercase}
+use Rattle.std.proofs.lemmas.Bool.{or_parts}
 use Rattle.std.proofs.lemmas.Bool.Decides.{nat_tests}
 use Rattle.std.proofs.lemmas.List.{take-map, drop-map, length-map, map-append, reverse-append}
 use Rattle.std.proofs.lemmas.List.Folds.{length-prefix_len}
@@ -46,3 +48,20 @@ is_blank-capital b = grind (arith, nat_tests)
 pub trimmed_capitals : (text : List ℕ) → str_to_ascii_uppercase (trim_end (trim_start text)) ≡ line_value text
 unfolding line_value
 trimmed_capitals text = sym (trim-mapped to_ascii_uppercase is_blank-capital text)
+
+-- a text without a small letter is in capitals
+pub in_capitals : (text : List ℕ) → list_any is_ascii_lowercase text ≡ false → str_to_ascii_uppercase text ≡ text
+in_capitals [] h = refl
+in_capitals (b ∷ bs) h =
+    let p = or_parts (is_ascii_lowercase b) (list_any is_ascii_lowercase bs) h in
+    rw (large b p.0, in_capitals bs p.1) refl
+  where
+    large : (c : ℕ) → is_ascii_lowercase c ≡ false → to_ascii_uppercase c ≡ c
+    large c e = elim (nat_lt c 97) as (λ x. nat_lt c 97 ≡ x → cond x c (cond (nat_lt c 123) (c - 32) c) ≡ c) [
+      | true ↦ λ f. refl
+      | false ↦ λ f. elim (nat_lt c 123) as (λ x. nat_lt c 123 ≡ x → cond x (c - 32) c ≡ c) [
+        | true ↦ λ g. absurd (grind (arith, nat_tests, e, f, g))
+        | false ↦ λ g. refl
+      ] refl
+    ] refl
+

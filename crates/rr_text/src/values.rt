@@ -1,5 +1,8 @@
 // The value of a line, a text cut in two, and a date or moment that is asked for.
 ghost use Rattle.std.specs.Prelude.{◌≡◌, ◌==◌, ok_or, option_map, position, IfOk};
+ghost use Rattle.std.specs.Char.{is_ascii_lowercase};
+ghost use Rattle.std.specs.Cow.{cow_slice_items};
+ghost use Rattle.std.specs.List.{list_any};
 ghost use Rattle.rr_model.specs.Text.Moments.{basic};
 ghost use Rattle.rr_model.specs.Text.Rules.{split_once, line_value};
 ghost use Rattle.rr_model.specs.declared.refusal.Refusal.TheVariants.{BadMoment};
@@ -8,6 +11,7 @@ use crate::blanks::trim;
 use crate::moment::basic;
 use rr_model::{NoMemory, Refusal, Stamp};
 use std::alloc::Global;
+use std::borrow::CowSlice;
 
 // The index of the first such byte.
 fn index_of(text: &[u8], byte: u8) -> Option<usize>
@@ -25,11 +29,22 @@ pub fn split_once(text: &[u8], byte: u8) -> Option<(&[u8], &[u8])>
     Some((&text[..index], &text[index + 1..]))
 }
 
-/// The value of a line: in capitals, without the blanks and tabs around it.
-pub fn line_value(alloc: Global, text: &[u8]) -> Result<Vec<u8>, NoMemory>
-    ensures { IfOk result (λ value. value.items ≡ line_value text.now) }
+// Whether a letter of a text is small.
+fn has_small_letter(text: &[u8]) -> bool
+    ensures { result ≡ list_any is_ascii_lowercase text.now }
 {
-    Ok(trim(text).to_ascii_uppercase(alloc)?)
+    text.iter().any(|b| b.is_ascii_lowercase())
+}
+
+/// The value of a line: in capitals, without the blanks and tabs around it. Nothing is copied where no letter of it is small.
+pub fn line_value<'a>(alloc: Global, text: &'a [u8]) -> Result<CowSlice<'a, u8>, NoMemory>
+    ensures { IfOk result (λ value. cow_slice_items value ≡ line_value text.now) }
+{
+    let value = trim(text);
+    if has_small_letter(value) {
+        return Ok(CowSlice::Owned(value.to_ascii_uppercase(alloc)?));
+    }
+    Ok(CowSlice::Borrowed(value))
 }
 
 /// The date or moment that a text states; `BadMoment` comes where it states none.
