@@ -1,6 +1,7 @@
 // A series of a key as days.
 ghost use Rattle.std.specs.Prelude.{◌≡◌, ◌++◌, All, IfErr, IfOk, Ok, OnOk};
 ghost use Rattle.rr_model.specs.Series.Validity.{IsValidSeries};
+ghost use Rattle.rr_days.specs.Sequence.{sketch};
 ghost use Rattle.rr_trip.specs.Judged.{IsFaultBy, IsFaultOf, IsFoldOf, IsKeyFault, IsStated, first_of, key_zones, zones_in, zones_of, zones_of_all};
 ghost use Rattle.rr_trip.specs.Edited.{edited};
 ghost use Rattle.rr_trip.specs.Entries.{IsNumbered, events_in};
@@ -13,7 +14,6 @@ use rr_check::{Checked, admit, check};
 use rr_days::Folded;
 use rr_fold::fold;
 use rr_model::{Bytes, Fault, NoMemory, Series};
-use rr_word::DaySeq;
 use std::alloc::Global;
 
 // A series that no limit refuses, and its days.
@@ -26,8 +26,8 @@ struct SeriesDays {
 // The days of a series. The refusal is the first by all limits.
 fn days_of(alloc: Global, series: Series) -> Result<SeriesDays, Fault>
     requires { IsValidSeries series }
-    ensures accepted { IfOk result (λ made. (made.series ≡ series)
-        × IsFoldOf made.series (⟦<Folded as DaySeq>⟧.sketch made.days)) }
+    ensures accepted { IfOk result
+        (λ made. (made.series ≡ series) × IsFoldOf made.series (sketch made.days)) }
     ensures refused { IfErr result (IsFaultOf series) }
 {
     let series = check(series)?;
@@ -132,8 +132,7 @@ pub fn key_series(
 pub fn days_of_key(alloc: Global, key: KeySeries) -> Result<KeyDays, KeyFault>
     requires { IsValidSeries key.series }
     ensures accepted { IfOk result (λ made. (made.series ≡ key.series)
-        × (made.zones.items ≡ key.zones.items)
-        × IsFoldOf made.series (⟦<Folded as DaySeq>⟧.sketch made.days)) }
+        × (made.zones.items ≡ key.zones.items) × IsFoldOf made.series (sketch made.days)) }
     ensures refused { IfErr result (IsFaultBy key.line key.series) }
 {
     match days_of(alloc, key.series) {
@@ -150,8 +149,7 @@ pub fn days_of_key(alloc: Global, key: KeySeries) -> Result<KeyDays, KeyFault>
 pub fn key_days(alloc: Global, offset: Option<i32>, entries: &[Entry]) -> Result<KeyDays, KeyFault>
     requires { All IsNumbered entries.now }
     ensures states { IfOk result (λ key. edited offset (events_in entries.now) ≡ Ok key.series) }
-    ensures folded { IfOk result (λ key. IsFoldOf key.series
-        (⟦<Folded as DaySeq>⟧.sketch key.days)) }
+    ensures folded { IfOk result (λ key. IsFoldOf key.series (sketch key.days)) }
     ensures zones { IfOk result (λ key. key.zones.items ≡ key_zones (events_in entries.now)) }
     ensures refused { IfErr result (IsKeyFault offset (events_in entries.now)) }
 {

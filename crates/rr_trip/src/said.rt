@@ -2,6 +2,7 @@
 ghost use Rattle.std.specs.Prelude.{◌≡◌, ◌++◌, All, IfOk, bytes_eq};
 ghost use Rattle.std.specs.List.{list_all};
 ghost use Rattle.rr_model.specs.Series.Validity.{IsValidSeries};
+ghost use Rattle.rr_days.specs.Sequence.{sketch};
 ghost use Rattle.rr_trip.specs.Entries.{IsNumbered, events_in};
 ghost use Rattle.rr_trip.specs.Judged.{IsFoldOf};
 ghost use Rattle.rr_trip.specs.Said.{IsCompared, IsFaultSaid, IsPrintableSaid, IsSaid, IsSaidBeside, IsSaidWith, have_one_zone};
@@ -13,7 +14,6 @@ use crate::same::is_same_series;
 use rr_days::Folded;
 use rr_decide::equal;
 use rr_model::{Bytes, NoMemory, Side, Verdict};
-use rr_word::DaySeq;
 use std::alloc::Global;
 
 /// What is said of a key.
@@ -73,8 +73,7 @@ fn refusal_on(side: Side, fault: KeyFault) -> Result<Said, NoMemory>
 
 // The verdict on both calendars.
 fn verdict_on(a: &KeyDays, b: &KeyDays) -> Said
-    ensures { IsCompared (⟦<Folded as DaySeq>⟧.sketch a.now.days)
-        (⟦<Folded as DaySeq>⟧.sketch b.now.days)
+    ensures { IsCompared (sketch a.now.days) (sketch b.now.days)
         (have_one_zone (a.now.zones.items ++ b.now.zones.items)) result }
 {
     Said::Compared {
@@ -85,7 +84,7 @@ fn verdict_on(a: &KeyDays, b: &KeyDays) -> Said
 
 // What is said of what B states beside the days of A, by the days of B.
 fn said_by_days(alloc: Global, a: &KeyDays, b: KeySeries) -> Result<Said, NoMemory>
-    requires folded { IsFoldOf a.now.series (⟦<Folded as DaySeq>⟧.sketch a.now.days) }
+    requires folded { IsFoldOf a.now.series (sketch a.now.days) }
     requires valid { IsValidSeries b.series }
     ensures said { IfOk result (IsSaidBeside a.now.series b.line b.series
         (have_one_zone (a.now.zones.items ++ b.zones.items))) }
@@ -99,7 +98,7 @@ fn said_by_days(alloc: Global, a: &KeyDays, b: KeySeries) -> Result<Said, NoMemo
 
 // What is said of what B states beside the days of A. The same series has the same days, which are then not worked out again.
 fn said_beside(alloc: Global, a: &KeyDays, b: KeySeries) -> Result<Said, NoMemory>
-    requires folded { IsFoldOf a.now.series (⟦<Folded as DaySeq>⟧.sketch a.now.days) }
+    requires folded { IsFoldOf a.now.series (sketch a.now.days) }
     requires valid { IsValidSeries b.series }
     ensures said { IfOk result (IsSaidBeside a.now.series b.line b.series
         (have_one_zone (a.now.zones.items ++ b.zones.items))) }
@@ -116,7 +115,7 @@ fn said_beside(alloc: Global, a: &KeyDays, b: KeySeries) -> Result<Said, NoMemor
 
 // What is said of a key with these events in B, beside the days of A.
 fn said_with(alloc: Global, offset: Option<i32>, a: &KeyDays, b: &[Entry]) -> Result<Said, NoMemory>
-    requires folded { IsFoldOf a.now.series (⟦<Folded as DaySeq>⟧.sketch a.now.days) }
+    requires folded { IsFoldOf a.now.series (sketch a.now.days) }
     requires b { All IsNumbered b.now }
     ensures said { IfOk result (IsSaidWith offset a.now.series a.now.zones.items
         (events_in b.now)) }
