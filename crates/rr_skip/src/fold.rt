@@ -11,6 +11,7 @@ ghost use Rattle.rr_model.specs.Sets.Sketch.{StandsFor};
 ghost use Rattle.rr_model.specs.declared.refusal.Refusal.TheVariants.{CountedTooFar};
 ghost use Rattle.rr_model.specs.declared.rule.End.TheVariants.{Never, Until, Count};
 ghost use Rattle.rr_model.specs.declared.limits.TheConstants.{MAX_CYCLE_DAYS};
+ghost use Rattle.rr_days.specs.Sequence.{sketch};
 ghost use Rattle.rr_skip.specs.Folding.{AreRuleDays, AreSeriesDays, AreSkipDays, IsDaysUntil, IsFolding, IsUntilDay, IsUpToUntil, IsUpToWalk, chosen_days, skip_sketch};
 ghost use Rattle.rr_skip.specs.Members.{IsSkippedTooFar, OccursSkipping, SkipsTooFar, skip_cycle};
 ghost use Rattle.rr_skip.specs.Walks.{IsWalked};
@@ -23,7 +24,6 @@ use rr_days::{Folded, sequence_of_numbers};
 use rr_model::{End, Fault, Kind, MAX_SPAN_DAYS, NoMemory, Refusal, day_part, second_part};
 use rr_num::day_cycle;
 use rr_shapes::Shapes;
-use rr_word::DaySeq;
 use std::alloc::Global;
 
 /// The days from the start's on, up to a period past the settled day.
@@ -264,12 +264,10 @@ fn sets_of(alloc: Global, second: u32) -> Result<Shapes, NoMemory>
 pub fn fold_skip(alloc: Global, series: &SkipSeries) -> Result<Folded, Fault>
     requires sound { IsSoundSkipping series.now }
     requires few { skip_cycle series.now ≤ MAX_CYCLE_DAYS }
-    ensures stands { IfOk result
-        (λ f. StandsFor (⟦<Folded as DaySeq>⟧.sketch f) (OccursSkipping series.now)) }
-    ensures kind { IfOk result (λ f. (⟦<Folded as DaySeq>⟧.sketch f).kind ≡ series.now.kind) }
-    ensures near { IfOk result (λ f. (⟦<Folded as DaySeq>⟧.sketch f).settled ≤ℤ pos 20_000_000) }
-    ensures period { IfOk result
-        (λ f. (⟦<Folded as DaySeq>⟧.sketch f).period ≡ skip_cycle series.now) }
+    ensures stands { IfOk result (λ f. StandsFor (sketch f) (OccursSkipping series.now)) }
+    ensures kind { IfOk result (λ f. (sketch f).kind ≡ series.now.kind) }
+    ensures near { IfOk result (λ f. (sketch f).settled ≤ℤ pos 20_000_000) }
+    ensures period { IfOk result (λ f. (sketch f).period ≡ skip_cycle series.now) }
     ensures refused { RefusedExactlyWhere (IsSkippedTooFar series.now) CountedTooFar result }
 {
     match days_of(alloc, series) {
@@ -282,7 +280,7 @@ pub fn fold_skip(alloc: Global, series: &SkipSeries) -> Result<Folded, Fault>
 fn fold_of_days(alloc: Global, kind: Kind, start: i64, days: SkipDays) -> Result<Folded, NoMemory>
     requires start { IsInYears kind start }
     requires days { IsFolding kind start days }
-    ensures { IfOk result (λ f. ⟦<Folded as DaySeq>⟧.sketch f ≡ skip_sketch kind start days) }
+    ensures { IfOk result (λ f. sketch f ≡ skip_sketch kind start days) }
 {
     let first = day_in_years(kind, start);
     let shapes = sets_of(alloc, second_part(kind, start))?;

@@ -1,4 +1,5 @@
 // A series judged by the limits, and folded.
+ghost use Rattle.rr_days.specs.Sequence.{sketch};
 ghost use Rattle.rr_skip.specs.Judged.{IsFoldedSeries, IsFoldedText};
 ghost use Rattle.rr_skip.specs.Reading.{reads_rscale};
 ghost use Rattle.rr_skip.specs.Validity.{IsSoundSkipping};
@@ -8,7 +9,6 @@ use crate::calendar::read;
 use crate::fold::fold_skip;
 use rr_days::Folded;
 use rr_model::Fault;
-use rr_word::DaySeq;
 use std::alloc::Global;
 
 /// Folds a series where no limit refuses it.
@@ -16,7 +16,7 @@ use std::alloc::Global;
 /// First `CycleTooLong` comes where `admit` gives it, and then `CountedTooFar` where `fold_skip` does.
 pub fn fold_admitted(alloc: Global, series: &SkipSeries) -> Result<Folded, Fault>
     requires sound { IsSoundSkipping series.now }
-    ensures { IsFoldedSeries (⟦<Folded as DaySeq>⟧.sketch) series.now result }
+    ensures { IsFoldedSeries sketch series.now result }
 {
     match series.admit() {
         Err(refusal) => Err(Fault::Refused(refusal)),
@@ -26,7 +26,7 @@ pub fn fold_admitted(alloc: Global, series: &SkipSeries) -> Result<Folded, Fault
 
 /// Reads the series of a text as `read` does, and folds it as `fold_admitted` does.
 pub fn fold_text(alloc: Global, bytes: &[u8], offset: Option<i32>) -> Result<Folded, Fault>
-    ensures { IsFoldedText (⟦<Folded as DaySeq>⟧.sketch) (reads_rscale offset bytes.now) result }
+    ensures { IsFoldedText sketch (reads_rscale offset bytes.now) result }
 {
     let series = read(alloc, bytes, offset)?;
     fold_admitted(alloc, &series)
