@@ -1,12 +1,12 @@
 -- The sequence of the days that a descriptor states.
-use Rattle.std.specs.Prelude.{◌≡◌, ◌≢◌, ℕ, ◌-◌, ◌<◌, ◌≤◌, List, [], ◌++◌, All, drop, get_or, length, map, nat_abs, replicate, Option, Some, None, Result, Ok, Err, Vec, ⊤, ℤ, pos}
+use Rattle.std.specs.Prelude.{◌≡◌, ◌≢◌, ℕ, ◌+◌, ◌-◌, ◌<◌, ◌≤◌, List, [], ◌++◌, All, drop, get_or, length, map, nat_abs, replicate, Option, Some, None, Result, Ok, Err, Vec, ⊤, ℤ, pos}
 use Rattle.std.specs.Prelude.{◌-ℤ◌, ◌≤ℤ◌}
 use Rattle.std.specs.Global.{Global}
 use Rattle.rr_model.specs.Sets.Descriptor.{Run, Ending, Described}
 use Rattle.rr_model.specs.Sets.Reading.{sketch_with, steps_of_runs}
 use Rattle.rr_model.specs.Sets.Sketch.{IsTimeSet}
 use Rattle.rr_model.specs.declared.kind.Kind.{Kind}
-use Rattle.rr_model.specs.declared.limits.TheConstants.{MAX_CYCLE_DAYS}
+use Rattle.rr_model.specs.declared.limits.TheConstants.{MAX_CYCLE_DAYS, MAX_SECONDS}
 use Rattle.rr_model.specs.declared.refusal.Fault.{Fault}
 use Rattle.rr_model.specs.declared.refusal.Fault.TheVariants.{Refused, NoMemory}
 use Rattle.rr_model.specs.declared.refusal.Refusal.TheVariants.{NotCanonical}
@@ -21,7 +21,7 @@ use Rattle.rr_algebra.specs.declared.runs.Run.{Run as RunRead}
 pub record HasSets (kind : Kind) (count : ℕ) (shapes : List (List ℕ)) : Type 0 where
   pub whole : length shapes ≡ count
   pub some : 1 ≤ count
-  pub few : count ≤ 16_777_217
+  pub few : count ≤ MAX_SECONDS + 1
   pub empty : get_or shapes 0 [] ≡ []
   pub filled : (k : ℕ) → 1 ≤ k → k < length shapes → get_or shapes k [] ≢ []
   pub time_sets : All (λ t. t ≢ [] → IsTimeSet kind t) shapes

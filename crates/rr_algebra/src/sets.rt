@@ -1,5 +1,5 @@
 // The time sets of a descriptor, each on a line of its own.
-ghost use Rattle.std.specs.Prelude.{◌≡◌, ◌<◌, ◌≤◌, ◌++◌, ◌∷◌, [], IfOk, OnOk, get_or, length};
+ghost use Rattle.std.specs.Prelude.{◌≡◌, ◌+◌, ◌<◌, ◌≤◌, ◌++◌, ◌∷◌, [], IfOk, OnOk, get_or, length};
 ghost use Rattle.rr_model.specs.Rising.Sets.{IsSecondsOfDay};
 ghost use Rattle.rr_model.specs.Sets.Sizes.{total_size};
 ghost use Rattle.rr_model.specs.declared.limits.TheConstants.{MAX_SECONDS};
@@ -17,7 +17,7 @@ fn add_set(alloc: Global, shapes: &mut Shapes, seconds: &[u32], count: usize) ->
     requires of_day { IsSecondsOfDay seconds.now }
     requires count { count ≡ length shapes.old }
     ensures added { OnOk result (shapes.new ≡ shapes.old ++ seconds.now ∷ []) }
-    ensures few { OnOk result (length shapes.new ≤ 16_777_217) }
+    ensures few { OnOk result (length shapes.new ≤ MAX_SECONDS + 1) }
     ensures room { OnOk result (total_size shapes.new ≤ MAX_SECONDS) }
     ensures numbering { OnOk result (IsNumbering shapes.new) }
     ensures refused { RefusedWhereKnown shapes.old seconds.now result }
@@ -45,7 +45,7 @@ pub fn take_sets<'a>(
     requires { shapes.old ≡ [] ∷ [] }
     ensures count { IfOk result (λ x. x.0 ≡ length shapes.new) }
     ensures some { IfOk result (λ x. 1 ≤ x.0) }
-    ensures few { IfOk result (λ x. x.0 ≤ 16_777_217) }
+    ensures few { IfOk result (λ x. x.0 ≤ MAX_SECONDS + 1) }
     ensures room { IfOk result (λ x. total_size shapes.new ≤ MAX_SECONDS) }
     ensures numbering { IfOk result (λ x. IsNumbering shapes.new) }
     ensures first { IfOk result (λ x. get_or shapes.new 0 [] ≡ []) }

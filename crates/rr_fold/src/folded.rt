@@ -22,7 +22,8 @@ use std::alloc::Global;
 
 /// Folds a series whose cycle is at most `MAX_CYCLE_DAYS`, as `admit` gives it.
 ///
-/// `CountedTooFar` where a rule or an excluded rule counts a member more than `MAX_SPAN_DAYS` days after the start, and else
+/// `CountedTooFar` where a rule or an excluded rule with COUNT and no UNTIL has fewer members than it counts up to `MAX_SPAN_DAYS`
+/// days after the start's day, and else
 /// `TooManyMoments` where the distinct time sets up to a cycle past the settled day, those of the occurrences that are left,
 /// have together more than `MAX_SECONDS` seconds.
 ///

@@ -2,6 +2,7 @@
 use Rattle.std.specs.Prelude.{◌≡◌, ◌≤◌, ℤ, int_lt, List, [], length, All, Option, None, Some}
 use Rattle.rr_model.specs.Moment.Years.{IsInYears}
 use Rattle.rr_model.specs.Rising.{Rises}
+use Rattle.rr_model.specs.declared.limits.TheConstants.{MAX_DATES}
 use Rattle.rr_model.specs.declared.listed.ListedDates.{ListedDates}
 use Rattle.rr_model.specs.declared.stamp.Stamp.{Stamp}
 
@@ -15,4 +16,4 @@ pub record IsValidListed (so_far : ListedDates) : Type 0 where
   pub in_years : AreInYears so_far.first so_far.plus
   pub rises : Rises int_lt so_far.plus
   pub counted : length so_far.plus ≤ so_far.count
-  pub few : so_far.count ≤ 10_000
+  pub few : so_far.count ≤ MAX_DATES

@@ -50,7 +50,7 @@ pub fn date_value(line: u64, text: &[u8]) -> Result<Stamp, Refusal>
 // One more value of RDATE or EXDATE, where `date_count` are read.
 fn next_date(line: u64, is_plus: bool, date_count: usize, text: &[u8]) -> Result<Stamp, Refusal>
     ensures value { result ≡ next_date line is_plus date_count text.now }
-    ensures room { IfOk result (λ stamp. date_count < 10_000) }
+    ensures room { IfOk result (λ stamp. date_count < MAX_DATES) }
 {
     if date_count >= MAX_DATES {
         return Err(Refusal::TooManyParts);

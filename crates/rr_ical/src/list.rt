@@ -26,7 +26,7 @@ fn empty_list(alloc: Global) -> ListedDates
 
 // The next value: of the first one's kind, and above the one before it.
 fn with_next(line: u64, so_far: ListedDates, stamp: Stamp) -> Result<ListedDates, Fault>
-    requires { so_far.count < 10_000 }
+    requires { so_far.count < MAX_DATES }
     ensures { Answers (with_next line so_far so_far.first stamp) result }
 {
     let mut so_far = so_far;

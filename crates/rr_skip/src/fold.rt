@@ -259,8 +259,8 @@ fn sets_of(alloc: Global, second: u32) -> Result<Shapes, NoMemory>
 /// Folds a series whose cycle is at most `MAX_CYCLE_DAYS`, as `admit` gives it: from the settled day on its days repeat with the
 /// cycle. What occurs is by RFC 7529, section 4.1.
 ///
-/// `CountedTooFar` exactly where its rule has COUNT and a member more than `MAX_SPAN_DAYS` days after the start's day. It keeps
-/// four bytes for each day from the start's on, up to a cycle past the settled day.
+/// `CountedTooFar` exactly where its rule has COUNT and fewer members than it counts up to `MAX_SPAN_DAYS` days after the start's
+/// day. It keeps four bytes for each day from the start's on, up to a cycle past the settled day.
 pub fn fold_skip(alloc: Global, series: &SkipSeries) -> Result<Folded, Fault>
     requires sound { IsSoundSkipping series.now }
     requires few { skip_cycle series.now ≤ MAX_CYCLE_DAYS }

@@ -1,5 +1,5 @@
 -- How a position moves.
-use Rattle.std.specs.Prelude.{◌≡◌, ℤ, pos, negsuc, ◌≤ℤ◌, refl}
+use Rattle.std.specs.Prelude.{◌≡◌, ℤ, pos, ◌≤ℤ◌, refl}
 use Rattle.std.proofs.Common.{arith}
 use Rattle.std.proofs.lemmas.Int.{ints}
 use Rattle.rr_model.specs.Bounds.{first_day_of_all}
@@ -16,7 +16,7 @@ tree_of_ruling r = chosen_of r.rule r.kind r.start
 abbrev pub HasBegun : ℤ → Type 0
 HasBegun position = first_day_of_all ≤ℤ position
 
-first_day_is : first_day_of_year (pos 1) ≡ negsuc 719_161
+first_day_is : first_day_of_year (pos 1) ≡ first_day_of_all
 unfolding first_day_of_year
 first_day_is = refl
 
