@@ -64,4 +64,3 @@ in_capitals (b ∷ bs) h =
         | false ↦ λ g. refl
       ] refl
     ] refl
-
