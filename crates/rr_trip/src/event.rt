@@ -7,7 +7,7 @@ use crate::key::first_line;
 use crate::parameter::parameter_of;
 use rr_events::{Piece, first_named, first_value, own_lines};
 use rr_ical::{scan_lines, value_of_line};
-use rr_model::{Bytes, Line, LineName, NoMemory, Scan, UsedLine};
+use rr_model::{Bytes, Line, LineList, LineName, NoMemory, Scan, UsedLine};
 use rr_text::lines_from;
 use std::alloc::Global;
 
