@@ -253,7 +253,7 @@ gave (Some f) day s h = h.0
 pub given_joined : (old new : List (List ℕ)) (a b : OccupiedDay) (x y : List ℕ) (number count : ℕ) → a.day ≡ b.day → x ≡ (with_set old a).times
     → y ≡ (with_set old b).times → number < length new → IsSetOf nat_lt (get_or new number []) (λ s. Contains x s ⊎ Contains y s)
     → count ≡ length (get_or new number [])
-    → IsGivenByBoth old (Some a) (Some b) a.day new (Some (record { day = a.day; number = number; count = count }))
+    → IsGivenByBoth old (Some a) (Some b) a.day new (Some (record { day = a.day; number = record { index = number }; count = count }))
 given_joined old new a b x y number count e of_x of_y within set many =
     let whole : take count (get_or new number []) ≡ get_or new number [] = rw many (take-length (get_or new number [])) in (
       refl,

@@ -267,8 +267,8 @@ dates_some kind dates position to day times f set = record {
 
 -- a set that was placed in a table is the day's
 pub placed : (sets : List (List ℕ)) (day : ℤ) (number count : ℕ) (times : List ℕ) → slice_get sets number ≡ Some times → count ≡ length times
-    → IsWithin sets (record { day = day; number = number; count = count })
-    × ((with_set sets (record { day = day; number = number; count = count })).times ≡ times)
+    → IsWithin sets (record { day = day; number = record { index = number }; count = count })
+    × ((with_set sets (record { day = day; number = record { index = number }; count = count })).times ≡ times)
 placed sets day number count times at e =
     let set : get_or sets number [] ≡ times = get_or_from_slice_get sets number times [] at in (
       (slice_get_within sets number times at, rw (set, e) (omega arith)),

@@ -28,11 +28,11 @@ IsNext tree old to (Err e) new = new ≡ old
 
 -- the day, with the first `count` seconds of the set of its number
 abbrev pub with_set : List (List ℕ) → OccupiedDay → DayTimes
-with_set sets f = record { day = f.day; times = take f.count (get_or sets f.number []) }
+with_set sets f = record { day = f.day; times = take f.count (get_or sets f.number.index []) }
 
 -- the number of the day's set is one of the table, and its count is at most the set's size
 abbrev pub IsWithin : List (List ℕ) → OccupiedDay → Type 0
-IsWithin sets f = (f.number < length sets) × (f.count ≤ length (get_or sets f.number []))
+IsWithin sets f = (f.number.index < length sets) × (f.count ≤ length (get_or sets f.number.index []))
 
 -- What a call of `next` does where the seconds are told by a number.
 abbrev pub IsNextIn : List (List ℕ) → Tree → ℤ → ℤ → Result (Option OccupiedDay) NoMemory → ℤ → Type 0

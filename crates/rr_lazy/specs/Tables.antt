@@ -23,7 +23,7 @@ same_set old new number more l =
 pub same_day : (old new : List (List ℕ)) (found : OccupiedDay) → Extends old new → IsWithin old found
     → IsWithin new found × (with_set new found ≡ with_set old found)
 same_day old new found more w =
-    let s = same_set old new found.number more w.0 in
+    let s = same_set old new found.number.index more w.0 in
     ((s.0, subst (λ times. found.count ≤ length times) (sym s.1) w.1), ap (λ times. record { day = found.day; times = take found.count times }) s.1)
 
 -- what was seen of a part is seen of it

@@ -97,7 +97,7 @@ fn count_to(sets: &SetTable, kind: Kind, at: i64, found: OccupiedDay) -> usize
     requires of_day { IsSecondsOfDay ((with_set sets.now found).times) }
     ensures few { result ≤ found.count }
     ensures seconds { IsUpTo kind at found.day ((with_set sets.now found).times)
-        (take result (get_or sets.now found.number [])) }
+        (take result (get_or sets.now found.number.index [])) }
 {
     if found.day < day_part(kind, at) {
         return found.count;

@@ -3,8 +3,9 @@ ghost use Rattle.std.specs.Prelude.{◌≡◌, ◌<◌, [], IfOk, Some, get_or, 
 ghost use Rattle.rr_times.specs.Combined.{IsDifferenceOf, IsUnionOf};
 ghost use Rattle.rr_shapes.specs.Tables.{Extends};
 
+use crate::ids::SetId;
 use crate::time_sets::TimeSets;
-use crate::unions::{Pair, SetId, Unions};
+use crate::unions::{Pair, Unions};
 use rr_model::NoMemory;
 use rr_times::TimeSet;
 use std::alloc::Global;
@@ -47,31 +48,32 @@ impl SetTable {
 
     /// The number of a set; one that has none yet gets the next number.
     pub fn place(&mut self, times: TimeSet) -> Result<SetId, NoMemory>
-        ensures placed { IfOk result (λ n. slice_get self.new n ≡ Some times) }
+        ensures placed { IfOk result (λ set. slice_get self.new set.index ≡ Some times) }
         ensures kept { Extends self.old self.new }
     {
-        self.sets.intern(times)
+        let index = self.sets.intern(times)?;
+        Ok(SetId { index })
     }
 
-    /// The set of a number.
-    pub fn times(&self, number: SetId) -> &TimeSet
-        requires { number < length self.now }
-        ensures { slice_get self.now number ≡ Some result.now }
+    /// The seconds of a set.
+    pub fn times(&self, set: SetId) -> &TimeSet
+        requires { set.index < length self.now }
+        ensures { slice_get self.now set.index ≡ Some result.now }
     {
-        self.sets.times(number)
+        self.sets.times(set.index)
     }
 
     /// The number of the first `count` seconds of a set; of the set itself where it has no more.
     #[inline(always)]
-    pub fn prefix(&mut self, alloc: Global, number: SetId, count: usize) -> Result<SetId, NoMemory>
-        requires { number < length self.old }
-        ensures placed { IfOk result (λ n. slice_get self.new n
-            ≡ Some (take count (get_or self.old number []))) }
+    pub fn prefix(&mut self, alloc: Global, set: SetId, count: usize) -> Result<SetId, NoMemory>
+        requires { set.index < length self.old }
+        ensures placed { IfOk result (λ first. slice_get self.new first.index
+            ≡ Some (take count (get_or self.old set.index []))) }
         ensures kept { Extends self.old self.new }
     {
-        let seconds = self.sets.times(number).as_slice();
+        let seconds = self.sets.times(set.index).as_slice();
         if seconds.len() <= count {
-            return Ok(number);
+            return Ok(set);
         }
         let first = TimeSet::of(alloc, &seconds[..count])?;
         self.place(first)
@@ -80,45 +82,51 @@ impl SetTable {
     /// The number of the union of two sets. It is made at the first question for the two, and the pair that was asked for
     /// last is looked for nowhere else.
     pub fn union(&mut self, alloc: Global, a: SetId, b: SetId) -> Result<SetId, NoMemory>
-        requires a { a < length self.old }
-        requires b { b < length self.old }
-        ensures within { IfOk result (λ n. n < length self.new) }
-        ensures union { IfOk result (λ n. IsUnionOf
-            (get_or self.old a []) (get_or self.old b []) (get_or self.new n [])) }
+        requires a { a.index < length self.old }
+        requires b { b.index < length self.old }
+        ensures within { IfOk result (λ set. set.index < length self.new) }
+        ensures union { IfOk result (λ set. IsUnionOf
+            (get_or self.old a.index []) (get_or self.old b.index []) (get_or self.new set.index [])) }
         ensures kept { Extends self.old self.new }
     {
         let sets = &self.sets;
-        if a == b {
+        if a.index == b.index {
             return Ok(a);
         }
-        let pair = Pair { a, b };
-        if let Some(number) = self.unions.get(pair) {
-            return Ok(number);
+        let pair = Pair {
+            a: a.index,
+            b: b.index,
+        };
+        if let Some(index) = self.unions.get(pair) {
+            return Ok(SetId { index });
         }
-        let both = TimeSet::union(alloc, sets.times(a), sets.times(b))?;
-        let number = self.place(both)?;
-        self.unions.put(pair, number)?;
-        Ok(number)
+        let both = TimeSet::union(alloc, sets.times(a.index), sets.times(b.index))?;
+        let set = self.place(both)?;
+        self.unions.put(pair, set.index)?;
+        Ok(set)
     }
 
     /// The number of the seconds of one set that another lacks. It is made at the first question for the two, and the pair
     /// that was asked for last is looked for nowhere else.
     pub fn difference(&mut self, alloc: Global, a: SetId, b: SetId) -> Result<SetId, NoMemory>
-        requires a { a < length self.old }
-        requires b { b < length self.old }
-        ensures within { IfOk result (λ n. n < length self.new) }
-        ensures difference { IfOk result (λ n. IsDifferenceOf
-            (get_or self.old a []) (get_or self.old b []) (get_or self.new n [])) }
+        requires a { a.index < length self.old }
+        requires b { b.index < length self.old }
+        ensures within { IfOk result (λ set. set.index < length self.new) }
+        ensures difference { IfOk result (λ set. IsDifferenceOf
+            (get_or self.old a.index []) (get_or self.old b.index []) (get_or self.new set.index [])) }
         ensures kept { Extends self.old self.new }
     {
         let sets = &self.sets;
-        let pair = Pair { a, b };
-        if let Some(number) = self.differences.get(pair) {
-            return Ok(number);
+        let pair = Pair {
+            a: a.index,
+            b: b.index,
+        };
+        if let Some(index) = self.differences.get(pair) {
+            return Ok(SetId { index });
         }
-        let left = TimeSet::without(alloc, sets.times(a), sets.times(b))?;
-        let number = self.place(left)?;
-        self.differences.put(pair, number)?;
-        Ok(number)
+        let left = TimeSet::without(alloc, sets.times(a.index), sets.times(b.index))?;
+        let set = self.place(left)?;
+        self.differences.put(pair, set.index)?;
+        Ok(set)
     }
 }

@@ -4,14 +4,12 @@ ghost use Rattle.rr_model.specs.Rising.Sets.{IsSecondsOfDay};
 ghost use Rattle.rr_model.specs.Sets.Sizes.{total_size};
 ghost use Rattle.rr_model.specs.declared.limits.TheConstants.{MAX_SECONDS};
 
+use crate::ids::FoldedSetId;
 use crate::time_sets::TimeSets;
 use rr_model::{Fault, MAX_SECONDS, NoMemory, Refusal};
 use rr_times::TimeSet;
 use std::alloc::Global;
 use std::marker::Model;
-
-/// The number of a set in the `Shapes` of a folded series.
-pub type FoldedSetId = u32;
 
 /// Distinct time sets, with numbers from 0 in the order of their first placing.
 ///
@@ -66,7 +64,7 @@ impl Shapes {
     /// `MAX_SECONDS`. After either fault all is as it was. A set equal to the one that was given its number last is
     /// looked for nowhere else.
     pub fn place(&mut self, times: TimeSet) -> Result<FoldedSetId, Fault>
-        ensures placed { IfOk result (IsPlaced times self.old self.new) }
+        ensures placed { IfOk result (λ set. IsPlaced times self.old self.new set.number) }
         ensures refused { RefusedExactlyWhere (IsTooMany times self.old)
             Refusal.TooManyMoments result }
         ensures unchanged { OnErr result (self.new ≡ self.old) }
@@ -74,7 +72,9 @@ impl Shapes {
         ensures room { total_size self.new ≤ MAX_SECONDS }
     {
         if let Some(number) = self.sets.find(&times) {
-            return Ok(number as u32);
+            return Ok(FoldedSetId {
+                number: number as u32,
+            });
         }
         let more = times.as_slice().len();
         if more > MAX_SECONDS - self.size {
@@ -84,14 +84,16 @@ impl Shapes {
             return Err(Fault::NoMemory);
         };
         self.size += more;
-        Ok(number as u32)
+        Ok(FoldedSetId {
+            number: number as u32,
+        })
     }
 
     /// The number of the set of these seconds, as `place` gives it. A set equal to the one that was given its number
     /// last takes no memory.
     pub fn place_seconds(&mut self, alloc: Global, times: &[u32]) -> Result<FoldedSetId, Fault>
         requires of_day { IsSecondsOfDay times.now }
-        ensures placed { IfOk result (IsPlaced times.now self.old self.new) }
+        ensures placed { IfOk result (λ set. IsPlaced times.now self.old self.new set.number) }
         ensures refused { RefusedExactlyWhere (IsTooMany times.now self.old)
             Refusal.TooManyMoments result }
         ensures unchanged { OnErr result (self.new ≡ self.old) }
@@ -99,7 +101,9 @@ impl Shapes {
         ensures room { total_size self.new ≤ MAX_SECONDS }
     {
         if let Some(number) = self.sets.last_number(times) {
-            return Ok(number as u32);
+            return Ok(FoldedSetId {
+                number: number as u32,
+            });
         }
         match TimeSet::of(alloc, times) {
             Ok(set) => self.place(set),
@@ -107,12 +111,12 @@ impl Shapes {
         }
     }
 
-    /// The seconds of the set with this number, in order.
-    pub fn times(&self, number: FoldedSetId) -> &[u32]
-        requires { number < length self.now }
-        ensures same { slice_get self.now number ≡ Some result.now }
+    /// The seconds of a set, in order.
+    pub fn times(&self, set: FoldedSetId) -> &[u32]
+        requires { set.number < length self.now }
+        ensures same { slice_get self.now set.number ≡ Some result.now }
         ensures of_day { IsSecondsOfDay result.now }
     {
-        self.sets.times(number as usize).as_slice()
+        self.sets.times(set.number as usize).as_slice()
     }
 }

@@ -7,22 +7,19 @@ use rr_model::NoMemory;
 use std::alloc::Global;
 use std::marker::Model;
 
-/// The number of a set in a `SetTable`.
-pub type SetId = usize;
-
-/// The numbers of two sets, in the order of the question.
+/// The numbers of two sets, in the order of the question; in which lists they count, the one who asks knows.
 #[derive(Clone, Copy, PartialEq, Eq, Hash)]
 pub struct Pair {
     /// The number of the first set.
-    pub a: SetId,
+    pub a: usize,
     /// The number of the second set.
-    pub b: SetId,
+    pub b: usize,
 }
 
 /// The numbers of unions by the numbers of the two sets. Contracts see it as the list of the pairs with their unions.
 #[derive(Drop)]
 pub struct Unions {
-    known: IndexMap<Pair, SetId>,
+    known: IndexMap<Pair, usize>,
     // The index of the pair that was asked for last.
     last: usize,
 }
@@ -48,7 +45,7 @@ impl Unions {
     }
 
     /// The union of a pair, where it is known. The pair that was asked for last is looked for nowhere else.
-    pub fn get(&mut self, pair: Pair) -> Option<SetId>
+    pub fn get(&mut self, pair: Pair) -> Option<usize>
         ensures known { IfSome result (λ n. Contains self.old (pair, n)) }
         ensures unchanged { self.new ≡ self.old }
     {
@@ -64,7 +61,7 @@ impl Unions {
     }
 
     /// Remembers the union of a pair, which becomes the pair that was asked for last.
-    pub fn put(&mut self, pair: Pair, number: SetId) -> Result<(), NoMemory>
+    pub fn put(&mut self, pair: Pair, number: usize) -> Result<(), NoMemory>
         ensures there { OnOk result (Contains self.new (pair, number)) }
         ensures nothing_else { (known : Pair × ℕ) → Contains self.new known
             → Contains self.old known ⊎ ((pair, number) ≡ known) }

@@ -14,10 +14,10 @@ use Rattle.rr_lazy.proofs.upto.count_to.Goals as goal
 
 pub returns-clause-seconds : goal.returns-clause-seconds
 returns-clause-seconds c =
-    let whole : List ℕ = get_or c.args.sets.now c.args.found.number [] in
+    let whole : List ℕ = get_or c.args.sets.now c.args.found.number.index [] in
     let times : List ℕ = take c.args.found.count whole in
     let same : c.as_slice.result.now ≡ whole =
-    c.as_slice.ensures.same ∙ sym (get_or_from_slice_get c.args.sets.now c.args.found.number c.times.result.now [] c.times.ensures) in
+    c.as_slice.ensures.same ∙ sym (get_or_from_slice_get c.args.sets.now c.args.found.number.index c.times.result.now [] c.times.ensures) in
     let within = rw same at c.partition_point.ensures.bound in
     let parted = rw same at c.partition_point.ensures.partitioned in
     let sorted = IsPartitionedBy-ltb (λ s. s) times c.seconds_to-bound.result
@@ -40,5 +40,5 @@ returns-then-found-day_part-clause-seconds c =
     let fits : FitsSigned w64 c.args.found.day = search rules in
     let last : FitsSigned w64 c.day_part.result = record { sfits = c.day_part.type_inv } in
     let e : c.day_part.result ≡ day_part c.args.kind c.args.at = rw (to_z-of_z c.ranges.at) at c.day_part.ensures in
-    cut_before c.args.kind c.args.at c.args.found.day (take c.args.found.count (get_or c.args.sets.now c.args.found.number [])) c.requires.of_day
+    cut_before c.args.kind c.args.at c.args.found.day (take c.args.found.count (get_or c.args.sets.now c.args.found.number.index [])) c.requires.of_day
     (omega (arith, ints, to_z-of_z fits, to_z-of_z last, e, c.if-found-day_part.true))

@@ -20,8 +20,8 @@ returns-then-not-dates_on-clause-left c =
 
 pub slice_bounds-seconds-end : goal.slice_bounds-seconds-end
 slice_bounds-seconds-end c =
-    let same : c.as_slice.result.now ≡ get_or c.args.sets.now c.args.found.number [] =
-    c.as_slice.ensures.same ∙ sym (get_or_from_slice_get c.args.sets.now c.args.found.number c.times.result.now [] c.times.ensures) in
+    let same : c.as_slice.result.now ≡ get_or c.args.sets.now c.args.found.number.index [] =
+    c.as_slice.ensures.same ∙ sym (get_or_from_slice_get c.args.sets.now c.args.found.number.index c.times.result.now [] c.times.ensures) in
     sym (length-take-le c.args.found.count c.as_slice.result.now (subst (λ xs. c.args.found.count ≤ length xs) (sym same) c.requires.given.within.1))
 
 pub of-requires : goal.of-requires
@@ -29,8 +29,8 @@ of-requires c = first_seconds c.args.found.count c.as_slice.result.now (rw (sym 
 
 pub returns-then-count-eq0-clause-left : goal.returns-then-count-eq0-clause-left
 returns-then-count-eq0-clause-left c =
-    let same : c.as_slice.result.now ≡ get_or c.args.sets.now c.args.found.number [] =
-    c.as_slice.ensures.same ∙ sym (get_or_from_slice_get c.args.sets.now c.args.found.number c.times.result.now [] c.times.ensures) in
+    let same : c.as_slice.result.now ≡ get_or c.args.sets.now c.args.found.number.index [] =
+    c.as_slice.ensures.same ∙ sym (get_or_from_slice_get c.args.sets.now c.args.found.number.index c.times.result.now [] c.times.ensures) in
     let fits : FitsSigned w64 c.args.found.day = search rules in
     let out : (s : ℕ) → Contains c.take_out.new.times s
     ↔ (Contains ((with_set c.args.sets.now c.args.found).times) s × (is_among c.args.kind c.args.dates.now c.args.found.day s ≡ false)) =
@@ -40,13 +40,13 @@ returns-then-count-eq0-clause-left c =
 
 pub returns-clause-left : goal.returns-clause-left
 returns-clause-left c =
-    let same : c.as_slice.result.now ≡ get_or c.args.sets.now c.args.found.number [] =
-    c.as_slice.ensures.same ∙ sym (get_or_from_slice_get c.args.sets.now c.args.found.number c.times.result.now [] c.times.ensures) in
+    let same : c.as_slice.result.now ≡ get_or c.args.sets.now c.args.found.number.index [] =
+    c.as_slice.ensures.same ∙ sym (get_or_from_slice_get c.args.sets.now c.args.found.number.index c.times.result.now [] c.times.ensures) in
     let fits : FitsSigned w64 c.args.found.day = search rules in
     let out : (s : ℕ) → Contains c.take_out.new.times s
     ↔ (Contains ((with_set c.args.sets.now c.args.found).times) s × (is_among c.args.kind c.args.dates.now c.args.found.day s ≡ false)) =
     rw (to_z-of_z fits, c.in_ok-times.ensures, same) at c.take_out.ensures in
-    let p = placed c.place.new.self (to_z w64 (of_z w64 c.args.found.day)) c.in_ok-number.number (length c.as_slice-count.result.now) c.take_out.new.times
+    let p = placed c.place.new.self (to_z w64 (of_z w64 c.args.found.day)) c.in_ok-number.number.index (length c.as_slice-count.result.now) c.take_out.new.times
     c.in_ok-number.ensures.placed (ap length c.as_slice-count.ensures.same) in (
       to_z-of_z fits,
       record { within = p.0; rises = subst (Rises nat_lt) (sym p.1) c.as_slice-count.ensures.of_day.rises },

@@ -40,7 +40,7 @@ returns-in_ok-number-in-Some-clause-next c =
     let t = to_z-of_z c.ranges.to in
     let d : IsFirstDate s.kind s.dates s.position c.args.to (Some c.in-Some.day) = rw (f, t, c.as_slice.ensures.value) at c.in-Some.ensures in
     let n = day_fits s.position c.in-Some.day c.args.to (rw first_day_is at s.begun) d.0 d.1 c.requires.high in
-    let p = placed c.place.new.self (to_z w64 (of_z w64 c.in-Some.day)) c.in_ok-number-in-Some.number (length c.as_slice-count.result.now)
+    let p = placed c.place.new.self (to_z w64 (of_z w64 c.in-Some.day)) c.in_ok-number-in-Some.number.index (length c.as_slice-count.result.now)
     c.in_ok-times-in-Some.times c.in_ok-number-in-Some.ensures.placed (ap length c.as_slice-count.ensures.same) in
     let first = dates_some s.kind s.dates s.position c.args.to c.in-Some.day c.in_ok-times-in-Some.times d
     (rw (n.0, c.as_slice-in-Some.ensures.value) at c.in_ok-times-in-Some.ensures) in (

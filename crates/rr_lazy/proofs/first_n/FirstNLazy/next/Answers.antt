@@ -62,7 +62,7 @@ pub invariant_of-self-in-Some : goal.invariant_of-self-in-Some
 invariant_of-self-in-Some g c =
     let s = c.args.self.now in
     let found = c.in-Some.found in
-    let whole : List ℕ = get_or c.next.new.sets found.number [] in
+    let whole : List ℕ = get_or c.next.new.sets found.number.index [] in
     let both = rw c.in-Some.is at c.in_ok-next.ensures.next in
     let n = both.1 in
     let t = to_z-of_z w64 c.args.to c.ranges.to in
@@ -80,7 +80,7 @@ pub returns-in-Some-clause-next : goal.returns-in-Some-clause-next
 returns-in-Some-clause-next g c =
     let s = c.args.self.now in
     let found = c.in-Some.found in
-    let whole : List ℕ = get_or c.next.new.sets found.number [] in
+    let whole : List ℕ = get_or c.next.new.sets found.number.index [] in
     let both = rw c.in-Some.is at c.in_ok-next.ensures.next in
     let n = both.1 in
     let t = to_z-of_z w64 c.args.to c.ranges.to in

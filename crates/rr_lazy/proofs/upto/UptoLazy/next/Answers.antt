@@ -127,7 +127,7 @@ emptied g c =
     let given = given g at.After-count_to-arg-in-Some-1 in
     let af : FitsSigned w64 s.at = search rules in
     let df = given.after.same in
-    let whole : List ℕ = get_or c.next.new.sets c.in-Some.found.number [] in
+    let whole : List ℕ = get_or c.next.new.sets c.in-Some.found.number.index [] in
     let set : IsUpTo s.kind s.at c.in-Some.found.day ((with_set c.next.new.sets c.in-Some.found).times) (take c.count_to.result whole) =
     rw (to_z-of_z af) at c.count_to.ensures.seconds in
     let none : take c.count_to.result whole ≡ [] = rw c.if-found-eq0.true refl in
@@ -155,9 +155,9 @@ returns-then-found-eq0-clause-next g c =
 -- ---- where something is
 
 record Kept (g : Over) (c : After-struct_told-1 g) : Type 0 where
-  few : c.count_to.result ≤ length (get_or c.next.new.sets c.in-Some.found.number [])
+  few : c.count_to.result ≤ length (get_or c.next.new.sets c.in-Some.found.number.index [])
   first : IsFirstOccupied (upto (g.A.Lazy.tree c.args.self.now.lazy) c.args.self.now.kind c.args.self.now.at) c.args.self.now.position
-      c.in-Some.found.day (take c.count_to.result (get_or c.next.new.sets c.in-Some.found.number []))
+      c.in-Some.found.day (take c.count_to.result (get_or c.next.new.sets c.in-Some.found.number.index []))
   within : c.in-Some.found.day ≤ℤ c.args.to
   together : g.A.Lazy.position c.next.new.self ≡ to_z w64 (of_z w64 (to_z w64 (of_z w64 c.in-Some.found.day) +ℤ pos 1))
 
@@ -172,7 +172,7 @@ kept g c =
     let set : IsSetOf nat_lt (with_set c.next.new.sets (record { day = c.in-Some.found.day; number = c.in-Some.found.number; count = c.count_to.result })).times
     (λ x. Contains (with_set c.next.new.sets c.in-Some.found).times x × IsTrue (int_le (moment_at s.kind c.in-Some.found.day x) s.at)) =
     rw (to_z-of_z af) at c.count_to.ensures.seconds in
-    let whole : List ℕ = get_or c.next.new.sets c.in-Some.found.number [] in
+    let whole : List ℕ = get_or c.next.new.sets c.in-Some.found.number.index [] in
     let few : c.count_to.result ≤ length whole = omega (arith, c.count_to.ensures.few, given.next.0.1) in
     let some : take c.count_to.result whole ≢ [] = take_some c.count_to.result whole c.if-found-eq0.false few in
     let u = upto_some (g.A.Lazy.tree s.lazy) s.kind s.at (g.A.Lazy.position s.lazy) (g.A.Lazy.position c.next.new.self) s.position c.args.to c.min.result

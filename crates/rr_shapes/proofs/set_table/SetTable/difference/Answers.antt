@@ -17,14 +17,14 @@ returns-in-Some-clause-difference c =
 grows : (c : After-put) → Extends c.self.inside.sets c.self-2.inside.sets
 grows c = subst (Extends c.self.inside.sets) (sym c.self-2.view_is) c.place.ensures.kept
 
-placed : (c : After-put) → slice_get c.self-2.inside.sets c.in_ok-number.number ≡ Some c.in_ok-left.left
-placed c = subst (λ sets. slice_get sets c.in_ok-number.number ≡ Some c.in_ok-left.left) (sym c.self-2.view_is) c.in_ok-number.ensures.placed
+placed : (c : After-put) → slice_get c.self-2.inside.sets c.in_ok-set.set.index ≡ Some c.in_ok-left.left
+placed c = subst (λ sets. slice_get sets c.in_ok-set.set.index ≡ Some c.in_ok-left.left) (sym c.self-2.view_is) c.in_ok-set.ensures.placed
 
 table : (c : After-put) → IsTable c.self-2.inside.sets c.self-2.inside.unions c.put.new.self
 table c =
-    let pair : Pair = record { a = c.args.a; b = c.args.b } in
-    table_with_difference c.self-2.inside.sets c.self-2.inside.unions c.self-2.inside.differences c.put.new.self (pair, c.in_ok-number.number)
-    c.self-2.invariant (new_difference c.self.inside.sets c.self-2.inside.sets pair c.in_ok-number.number c.times.result.now c.times-2.result.now
+    let pair : Pair = record { a = c.args.a.index; b = c.args.b.index } in
+    table_with_difference c.self-2.inside.sets c.self-2.inside.unions c.self-2.inside.differences c.put.new.self (pair, c.in_ok-set.set.index)
+    c.self-2.invariant (new_difference c.self.inside.sets c.self-2.inside.sets pair c.in_ok-set.set.index c.times.result.now c.times-2.result.now
     c.in_ok-left.left (grows c) c.times.ensures c.times-2.ensures (placed c) c.in_ok-left.ensures) c.put.ensures.nothing_else
 
 pub invariant_of-self-in_err-put : goal.invariant_of-self-in_err-put
@@ -35,10 +35,10 @@ invariant_of-self-3 c = table (goal.at.invariant_of-self-3 c).After-put
 
 pub returns-clause-within : goal.returns-clause-within
 returns-clause-within c =
-    slice_get_within c.self-2.inside.sets c.in_ok-number.number c.in_ok-left.left (placed (goal.at.returns-clause-within c).After-put)
+    slice_get_within c.self-2.inside.sets c.in_ok-set.set.index c.in_ok-left.left (placed (goal.at.returns-clause-within c).After-put)
 
 pub returns-clause-difference : goal.returns-clause-difference
 returns-clause-difference c =
     let put = (goal.at.returns-clause-difference c).After-put in
-    rw (← c.self.view_is) (difference_of_old c.self.inside.sets c.self-2.inside.sets (record { a = c.args.a; b = c.args.b }) c.in_ok-number.number
+    rw (← c.self.view_is) (difference_of_old c.self.inside.sets c.self-2.inside.sets (record { a = c.args.a.index; b = c.args.b.index }) c.in_ok-set.set.index
     c.times.result.now c.times-2.result.now c.in_ok-left.left (grows put) c.times.ensures c.times-2.ensures (placed put) c.in_ok-left.ensures)

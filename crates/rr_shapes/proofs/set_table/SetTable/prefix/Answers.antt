@@ -8,8 +8,8 @@ of-requires c = rw c.as_slice-seconds.ensures.same (first_seconds c.args.count c
 
 pub returns-clause-placed : goal.returns-clause-placed
 returns-clause-placed c =
-    let whole : c.as_slice-seconds.result.now ≡ get_or c.args.self.now c.args.number [] =
+    let whole : c.as_slice-seconds.result.now ≡ get_or c.args.self.now c.args.set.index [] =
     c.as_slice-seconds.ensures.same
-    ∙ sym (get_or_from_slice_get c.self.inside.sets c.args.number c.times.result.now [] c.times.ensures)
-    ∙ ap (λ sets. get_or sets c.args.number []) c.self.view_is in
-    subst (λ times. IfOk c.place.result (λ n. slice_get c.place.new.self n ≡ Some times)) (c.in_ok-first.ensures ∙ ap (take c.args.count) whole) c.place.ensures.placed
+    ∙ sym (get_or_from_slice_get c.self.inside.sets c.args.set.index c.times.result.now [] c.times.ensures)
+    ∙ ap (λ sets. get_or sets c.args.set.index []) c.self.view_is in
+    subst (λ times. IfOk c.place.result (λ set. slice_get c.place.new.self set.index ≡ Some times)) (c.in_ok-first.ensures ∙ ap (take c.args.count) whole) c.place.ensures.placed
