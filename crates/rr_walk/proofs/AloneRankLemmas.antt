@@ -23,9 +23,9 @@ use Rattle.rr_walk.proofs.WalkLemmas.{seconds_of_day}
 
 -- a day with the number of a set has that set
 pub numbered : (sets : List (List ℕ)) (f : OccupiedDay) (day : ℤ) (times : List ℕ) (P : ℕ → Type 0) → f.day ≡ day → f.count ≡ length times
-    → IsSetOf nat_lt times P → f.number < length sets → IsSetOf nat_lt (get_or sets f.number []) P → IsDayWith sets P day (Some f)
+    → IsSetOf nat_lt times P → f.number.index < length sets → IsSetOf nat_lt (get_or sets f.number.index []) P → IsDayWith sets P day (Some f)
 numbered sets f day times P same all set within kept =
-    let one : get_or sets f.number [] ≡ times = one_list_of_seconds P (get_or sets f.number []) times kept set in
+    let one : get_or sets f.number.index [] ≡ times = one_list_of_seconds P (get_or sets f.number.index []) times kept set in
     let is : (with_set sets f).times ≡ times = rw (one, all) (take-length times) in
     (same, (within, rw one (omega (arith, all))), subst (λ xs. IsSetOf nat_lt xs P) (sym is) set)
 

@@ -204,7 +204,7 @@ whole_day rule start d first all is none set =
 
 pub on_whole : (sets : List (List ℕ)) (tree : Tree) (day d : ℤ) (number count : ℕ) (all : List ℕ) → slice_get sets number ≡ Some all → count ≡ length all
     → 0 < count → d ≡ day → IsSetOf nat_lt all (λ s. IsTrue (stands_at tree day s))
-    → IsOnDayIn sets tree day (Some (record { day = d; number = number; count = count }))
+    → IsOnDayIn sets tree day (Some (record { day = d; number = record { index = number }; count = count }))
 on_whole sets tree day d number count all at counted some same set =
     let is : get_or sets number [] ≡ all = get_or_from_slice_get sets number all [] at in
     let whole : take count (get_or sets number []) ≡ all = rw (is, counted) (take-length all) in (

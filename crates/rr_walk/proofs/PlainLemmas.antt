@@ -25,6 +25,7 @@ use Rattle.rr_expand.specs.Years.{Filling, IsFirstAllowed}
 use Rattle.rr_expand.proofs.FitLemmas.{fits_at, next_fits, none_before, none_between}
 use Rattle.rr_lazy.specs.Next.{HasNone, IsFirstOccupied, with_set}
 use Rattle.rr_lazy.specs.declared.occupied_day.OccupiedDay.{OccupiedDay}
+use Rattle.rr_shapes.specs.declared.ids.SetId.{SetId}
 use Rattle.rr_walk.specs.Ruling.{IsFirstCandidate, IsFirstCandidateIn, IsFittingUnit, IsPassed, IsSameRuling, KeepsAt, KnowsTimes, Ruling}
 use Rattle.rr_walk.specs.Walk.{IsFirstSecond, IsFirstUpTo, IsFirstUpToIn, IsOnDay, IsOnDayIn}
 use Rattle.rr_walk.proofs.DayListLemmas.{nothing_in}
@@ -56,9 +57,9 @@ module _ (rule : Rule) (kind : Kind) (start d : ℤ) (coarse : is_whole_days rul
 
   -- a day whose seconds have the number of a set
   pub plain_on : (sets : List (List ℕ)) (f : OccupiedDay) → f.day ≡ d → IsFirstSecond kind start d 0 → f.count ≡ length times → (f.count ≡ 0 → ⊥)
-      → f.number < length sets → IsSetOf nat_lt (get_or sets f.number []) (IsCandidateTime rule kind start) → IsOnDayIn sets tree d (Some f)
+      → f.number.index < length sets → IsSetOf nat_lt (get_or sets f.number.index []) (IsCandidateTime rule kind start) → IsOnDayIn sets tree d (Some f)
   plain_on sets f same l all some within kept =
-      let one : get_or sets f.number [] ≡ times = one_list_of_seconds (IsCandidateTime rule kind start) (get_or sets f.number []) times kept set in
+      let one : get_or sets f.number.index [] ≡ times = one_list_of_seconds (IsCandidateTime rule kind start) (get_or sets f.number.index []) times kept set in
       let is : (with_set sets f).times ≡ times = rw (one, all) (take-length times) in (
         (within, rw one (omega (arith, all))),
         (same, (λ e. some (all ∙ ap length (sym is ∙ e))), subst (λ xs. IsSetOf nat_lt xs (λ s. IsTrue (stands_at tree d s))) (sym is) (all_seconds l)),
@@ -69,7 +70,7 @@ module _ (rule : Rule) (kind : Kind) (start d : ℤ) (coarse : is_whole_days rul
   plain_none l e = nothing_in (stands_at tree d) times (all_seconds l) e
 
 -- one number is kept
-pub keeps_one : (sets : List (List ℕ)) (rule : Rule) (kind : Kind) (start : ℤ) (n : ℕ) (P : ℕ → Type 0) → n < length sets → IsSetOf nat_lt (get_or sets n []) P
+pub keeps_one : (sets : List (List ℕ)) (rule : Rule) (kind : Kind) (start : ℤ) (n : SetId) (P : ℕ → Type 0) → n.index < length sets → IsSetOf nat_lt (get_or sets n.index []) P
     → KeepsAt sets (record { rule = rule; kind = kind; start = start; kept = Some n ∷ [] }) 0 P
 keeps_one sets rule kind start n P l set m e = let same : n ≡ m = cc in rw (sym same) (l, set)
 

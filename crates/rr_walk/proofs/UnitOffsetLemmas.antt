@@ -29,6 +29,7 @@ use Rattle.rr_setpos.proofs.PositionLemmas.{chosen_candidate, chosen_no_candidat
 use Rattle.rr_expand.proofs.FinerLemmas.{unit_at}
 use Rattle.rr_expand.proofs.FitLemmas.{fits_at}
 use Rattle.rr_shapes.specs.Tables.{Extends}
+use Rattle.rr_shapes.specs.declared.ids.SetId.{SetId}
 use Rattle.rr_walk.specs.Ruling.{IsSameRuling, KnowsUnitOffsets, Ruling, unit_offset, keeps_more}
 use Rattle.rr_walk.proofs.OffsetLemmas.{fine_taken, if_not}
 
@@ -130,15 +131,15 @@ knows_none r sets none day near allowed n at =
     let e : Some n ≡ None = sym (get_or_from_slice_get r.kept offset (Some n) None at) ∙ none offset low in
     absurd (cc)
 
-module _ (r : Ruling) (old new : List (List ℕ)) (day : ℤ) (number : ℕ) (times : List ℕ) (fine : is_whole_days r.rule.freq ≡ false) (some : 1 ≤ r.rule.interval)
-    (allowed : IsTrue (date_parts_hold (filled r.rule Days (day_part Moments r.start)) day)) (at : slice_get new number ≡ Some times)
+module _ (r : Ruling) (old new : List (List ℕ)) (day : ℤ) (number : SetId) (times : List ℕ) (fine : is_whole_days r.rule.freq ≡ false) (some : 1 ≤ r.rule.interval)
+    (allowed : IsTrue (date_parts_hold (filled r.rule Days (day_part Moments r.start)) day)) (at : slice_get new number.index ≡ Some times)
     (chosen : IsSetOf nat_lt times (λ s. (s < 86_400) × IsTrue (is_chosen r.rule Moments r.start (moment_at Moments day s)))) where
   -- the number of what is chosen on a day
-  pub number_of : (number < length new) × IsSetOf nat_lt (get_or new number []) (λ s. (s < 86_400)
+  pub number_of : (number.index < length new) × IsSetOf nat_lt (get_or new number.index []) (λ s. (s < 86_400)
       × IsTrue (is_chosen r.rule Moments r.start (moment_at Moments day s)))
-  number_of = (slice_get_within new number times at, rw (get_or_from_slice_get new number times [] at) chosen)
+  number_of = (slice_get_within new number.index times at, rw (get_or_from_slice_get new number.index times [] at) chosen)
 
-  kept_there : (kept : List (Option ℕ)) → kept ≡ set r.kept (unit_offset r day) (Some number) → KnowsUnitOffsets r old → Extends old new
+  kept_there : (kept : List (Option SetId)) → kept ≡ set r.kept (unit_offset r day) (Some number) → KnowsUnitOffsets r old → Extends old new
       → KnowsUnitOffsets (record { rule = r.rule; kind = r.kind; start = r.start; kept = kept }) new
   kept_there kept e known more other near other_allowed n here =
       let offset : ℕ = unit_offset r day in
@@ -151,7 +152,7 @@ module _ (r : Ruling) (old new : List (List ℕ)) (day : ℤ) (number : ℕ) (ti
             let own : get_or (set r.kept offset (Some number)) p None ≡ Some number =
             get_or-set_at r.kept offset p (Some number) None same (omega (arith, low, same)) in
             let i : n ≡ number = cc in
-            rw i (number_of.0, set_alike r day other fine some allowed other_allowed (sym same) (get_or new number []) number_of.1))
+            rw i (number_of.0, set_alike r day other fine some allowed other_allowed (sym same) (get_or new number.index []) number_of.1))
         | inr differ ↦ (
             let is : slice_get r.kept p ≡ Some (Some n) =
             slice_get-get_or r.kept p None low ∙ ap (λ x. Some x) (sym (get_or-set_other r.kept offset p (Some number) None differ) ∙ held) in

@@ -13,6 +13,7 @@ use Rattle.rr_expand.specs.Years.{Filling}
 use Rattle.rr_expand.specs.UnitTimes.{AreUnitTimes}
 use Rattle.rr_expand.specs.declared.unit_times.UnitTimes.{UnitTimes}
 use Rattle.rr_shapes.specs.Tables.{Extends}
+use Rattle.rr_shapes.specs.declared.ids.SetId.{SetId}
 use Rattle.rr_lazy.specs.Tables.{same_set}
 use Rattle.rr_model.specs.Rising.Sets.{IsSetOf}
 use Rattle.rr_model.specs.Rule.Validity.{IsValidRule}
@@ -35,10 +36,10 @@ pub record Ruling : Type 0 where
   pub rule : Rule
   pub kind : Kind
   pub start : ℤ
-  pub kept : List (Option ℕ)
+  pub kept : List (Option SetId)
 
 -- the ruling of a rule beside a start, with the numbers that are kept of times
-abbrev pub ruling_of : Rule → Kind → ℤ → List (Option ℕ) → Ruling
+abbrev pub ruling_of : Rule → Kind → ℤ → List (Option SetId) → Ruling
 ruling_of rule kind start kept = record { rule = rule; kind = kind; start = start; kept = kept }
 
 -- the ruling with its rule and start, in kind Moments
@@ -57,9 +58,9 @@ is_candidate_day r day = day_holds r.rule (day_part r.kind r.start) day
 abbrev pub AllowsDay : Ruling → ℤ → Type 0
 AllowsDay r day = IsTrue (date_parts_hold (filled r.rule Days (day_part Moments r.start)) day)
 
--- the set of this number has exactly the seconds that hold
-abbrev pub IsSetAt : List (List ℕ) → (ℕ → Type 0) → ℕ → Type 0
-IsSetAt sets P number = IsSetOf nat_lt (get_or sets number []) P
+-- the set with this id has exactly the seconds that hold
+abbrev pub IsSetAt : List (List ℕ) → (ℕ → Type 0) → SetId → Type 0
+IsSetAt sets P set = IsSetOf nat_lt (get_or sets set.index []) P
 
 -- two rulings have one rule, kind and start
 pub record IsSameRuling (new old : Ruling) : Type 0 where
@@ -69,13 +70,13 @@ pub record IsSameRuling (new old : Ruling) : Type 0 where
 
 -- the number that is kept at an index is that of a set with exactly the seconds that hold
 abbrev pub KeepsAt : List (List ℕ) → Ruling → ℕ → (ℕ → Type 0) → Type 0
-KeepsAt sets r index P = (n : ℕ) → slice_get r.kept index ≡ Some (Some n) → (n < length sets) × IsSetAt sets P n
+KeepsAt sets r index P = (set : SetId) → slice_get r.kept index ≡ Some (Some set) → (set.index < length sets) × IsSetAt sets P set
 
 -- in a table that goes on it is so too
 pub keeps_more : (r : Ruling) (index : ℕ) (P : ℕ → Type 0) (old new : List (List ℕ)) → Extends old new → KeepsAt old r index P → KeepsAt new r index P
-keeps_more r index P old new more k n at =
-    let known = k n at in
-    let same = same_set old new n more known.0 in
+keeps_more r index P old new more k set at =
+    let known = k set at in
+    let same = same_set old new set.index more known.0 in
     (same.0, rw same.1 known.1)
 
 -- of a rule of whole days: the number that is kept is that of the times of its candidate days

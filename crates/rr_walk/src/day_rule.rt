@@ -19,7 +19,7 @@ use rr_cal::{Day, days_in_unit, first_day_of_unit, unit_of_day, week_index};
 use rr_expand::{AllowedDays, first_fit, times};
 use rr_lazy::OccupiedDay;
 use rr_model::{Freq, Kind, NoMemory, Rule, SECONDS_OF_DAY, day_part, second_part};
-use rr_shapes::SetTable;
+use rr_shapes::{SetId, SetTable};
 use rr_times::TimeSet;
 use std::alloc::Global;
 use std::marker::Model;
@@ -55,7 +55,7 @@ pub struct DayRule {
     pub(crate) start_day: i64,
     start_second: u32,
     pub(crate) times: TimeSet,
-    number: Option<usize>,
+    number: Option<SetId>,
     pub(crate) allowed: AllowedDays,
     own_unit: i64,
     last: DayInUnit,
@@ -268,12 +268,12 @@ impl DayRule {
 
     // The number of the seconds of each candidate day.
     #[inline(always)]
-    fn number_of_times(&mut self, alloc: Global, sets: &mut SetTable) -> Result<usize, NoMemory>
+    fn number_of_times(&mut self, alloc: Global, sets: &mut SetTable) -> Result<SetId, NoMemory>
         requires knows { KnowsTimes self.old sets.old }
         ensures same { IsSameRuling self.new self.old }
         ensures knows { KnowsTimes self.new sets.new }
         ensures kept { Extends sets.old sets.new }
-        ensures within { IfOk result (λ n. n < length sets.new) }
+        ensures within { IfOk result (λ n. n.index < length sets.new) }
         ensures number { IfOk result (IsSetAt sets.new (IsTimeOf self.old)) }
     {
         if let Some(number) = self.number {

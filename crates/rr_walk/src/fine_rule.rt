@@ -8,6 +8,7 @@ ghost use Rattle.rr_model.specs.Rising.Sets.{IsSetOf};
 ghost use Rattle.rr_model.specs.Rule.Validity.{IsValidRule};
 ghost use Rattle.rr_model.specs.declared.kind.Kind.TheVariants.{Moments};
 ghost use Rattle.rr_shapes.specs.Tables.{Extends};
+ghost use Rattle.rr_shapes.specs.declared.ids.SetId.{SetId};
 ghost use Rattle.rr_lazy.specs.Next.{HasNone, IsNextIn};
 ghost use Rattle.rr_walk.specs.Ruling.{AllowsDay, IsChosenSecond, IsSameRuling, IsSetAt, KnowsUnitOffsets, at_moments, unit_offset};
 ghost use Rattle.rr_walk.specs.Steps.{HasBegun, tree_of_ruling};
@@ -22,7 +23,7 @@ use rr_expand::{
 use rr_lazy::OccupiedDay;
 use rr_model::{Kind, NoMemory, Rule, day_part, second_part};
 use rr_parts::seconds_of_unit;
-use rr_shapes::SetTable;
+use rr_shapes::{SetId, SetTable};
 use rr_times::TimeSet;
 use std::alloc::Global;
 use std::marker::Model;
@@ -41,7 +42,7 @@ pub struct FineRule {
     offsets: TimeSet,
     times: UnitTimes,
     allowed: AllowedDays,
-    numbers: Vec<Option<usize>>,
+    numbers: Vec<Option<SetId>>,
 }
 
 impl Model for FineRule {
@@ -186,14 +187,14 @@ impl FineRule {
     }
 
     // The number of the seconds that the rule chooses on an allowed day, also before its start.
-    fn number_on(&mut self, alloc: Global, sets: &mut SetTable, day: i64) -> Result<usize, NoMemory>
+    fn number_on(&mut self, alloc: Global, sets: &mut SetTable, day: i64) -> Result<SetId, NoMemory>
         requires near { IsDayWithin 1000 day }
         requires allowed { AllowsDay self.old day }
         requires knows { KnowsUnitOffsets self.old sets.old }
         ensures same { IsSameRuling self.new self.old }
         ensures knows { KnowsUnitOffsets self.new sets.new }
         ensures kept { Extends sets.old sets.new }
-        ensures within { IfOk result (λ n. n < length sets.new) }
+        ensures within { IfOk result (λ n. n.index < length sets.new) }
         ensures number { IfOk result (IsSetAt sets.new (IsChosenSecond self.old day)) }
     {
         let offset = self.unit_offset(day) as usize;
@@ -207,7 +208,7 @@ impl FineRule {
     }
 
     // Keeps a number at an index, if there is one.
-    fn keep(&mut self, index: usize, number: usize)
+    fn keep(&mut self, index: usize, number: SetId)
         ensures same { IsSameRuling self.new self.old }
         ensures kept { self.new.kept ≡ set self.old.kept index (Some number) }
     {
@@ -239,8 +240,8 @@ impl FineRule {
 }
 
 // The number that is kept at an index.
-fn kept_at(numbers: &[Option<usize>], index: usize) -> Option<usize>
-    ensures { (n : ℕ) → result ≡ Some n → slice_get numbers.now index ≡ Some (Some n) }
+fn kept_at(numbers: &[Option<SetId>], index: usize) -> Option<SetId>
+    ensures { (n : SetId) → result ≡ Some n → slice_get numbers.now index ≡ Some (Some n) }
 {
     if index < numbers.len() {
         numbers[index]

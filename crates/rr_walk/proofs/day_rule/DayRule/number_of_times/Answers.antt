@@ -13,19 +13,19 @@ pub returns-clause-knows : goal.returns-clause-knows
 returns-clause-knows c =
     let i = c.self.inside in
     let P = IsCandidateTime i.rule i.kind i.start in
-    let at = placed_number c.place.new.self i.times c.as_slice.result.now c.in_ok-of.field-0 c.in_ok-number.number P
+    let at = placed_number c.place.new.self i.times c.as_slice.result.now c.in_ok-of.field-0 c.in_ok-number.number.index P
     c.in_ok-number.ensures.placed c.in_ok-of.ensures c.as_slice.ensures.same c.self.invariant.of_times in
     keeps_one c.place.new.self i.rule i.kind i.start c.in_ok-number.number P at.0 at.1
 
 pub returns-clause-within : goal.returns-clause-within
 returns-clause-within c =
     let i = c.self.inside in
-    (placed_number c.place.new.self i.times c.as_slice.result.now c.in_ok-of.field-0 c.in_ok-number.number (IsCandidateTime i.rule i.kind i.start)
+    (placed_number c.place.new.self i.times c.as_slice.result.now c.in_ok-of.field-0 c.in_ok-number.number.index (IsCandidateTime i.rule i.kind i.start)
     c.in_ok-number.ensures.placed c.in_ok-of.ensures c.as_slice.ensures.same c.self.invariant.of_times).0
 
 pub returns-clause-number : goal.returns-clause-number
 returns-clause-number c =
     let i = c.self.inside in
     rw (← c.self.view_is)
-    (placed_number c.place.new.self i.times c.as_slice.result.now c.in_ok-of.field-0 c.in_ok-number.number (IsCandidateTime i.rule i.kind i.start)
+    (placed_number c.place.new.self i.times c.as_slice.result.now c.in_ok-of.field-0 c.in_ok-number.number.index (IsCandidateTime i.rule i.kind i.start)
     c.in_ok-number.ensures.placed c.in_ok-of.ensures c.as_slice.ensures.same c.self.invariant.of_times).1

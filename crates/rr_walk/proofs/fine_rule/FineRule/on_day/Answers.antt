@@ -21,7 +21,7 @@ returns-then-first-gt0-clause-found c =
     let tree = chosen_of r.rule Moments r.start in
     let all = c.times-chosen.result.now in
     let day = to_z-of_z c.ranges.day in
-    let is = get_or_from_slice_get c.number_on.new.sets c.in_ok-number.number all [] c.times-chosen.ensures in
+    let is = get_or_from_slice_get c.number_on.new.sets c.in_ok-number.number.index all [] c.times-chosen.ensures in
     let chosen = rw (is, day) at c.in_ok-number.ensures.number in
     let first = rw (c.number_on.ensures.same.start, day) at c.first_second-first.ensures in
     let set = seconds_of_day r.rule r.start c.args.day c.first_second-first.result all c.in_ok-times.times first chosen c.in_ok-times.ensures in
@@ -33,7 +33,7 @@ returns-then-count-eq0-clause-found c =
     let r = c.args.self.now in
     let all = c.times-chosen.result.now in
     let day = to_z-of_z c.ranges.day in
-    let is = get_or_from_slice_get c.number_on.new.sets c.in_ok-number.number all [] c.times-chosen.ensures in
+    let is = get_or_from_slice_get c.number_on.new.sets c.in_ok-number.number.index all [] c.times-chosen.ensures in
     let chosen = rw (is, day) at c.in_ok-number.ensures.number in
     let first = rw (c.number_on.ensures.same.start, day) at c.first_second-first.ensures in
     let set = whole_day r.rule r.start c.args.day c.first_second-first.result all first (omega (arith, c.if-first-gt0.false)) chosen in
@@ -45,10 +45,10 @@ returns-clause-found c =
     let r = c.args.self.now in
     let all = c.times-chosen.result.now in
     let day = to_z-of_z c.ranges.day in
-    let is = get_or_from_slice_get c.number_on.new.sets c.in_ok-number.number all [] c.times-chosen.ensures in
+    let is = get_or_from_slice_get c.number_on.new.sets c.in_ok-number.number.index all [] c.times-chosen.ensures in
     let chosen = rw (is, day) at c.in_ok-number.ensures.number in
     let first = rw (c.number_on.ensures.same.start, day) at c.first_second-first.ensures in
     let set = whole_day r.rule r.start c.args.day c.first_second-first.result all first (omega (arith, c.if-first-gt0.false)) chosen in
     let some : 0 < length c.as_slice-count.result.now = omega (arith, c.if-count-eq0.false) in
-    on_whole c.number_on.new.sets (chosen_of r.rule Moments r.start) c.args.day _ c.in_ok-number.number (length c.as_slice-count.result.now) all
+    on_whole c.number_on.new.sets (chosen_of r.rule Moments r.start) c.args.day _ c.in_ok-number.number.index (length c.as_slice-count.result.now) all
     c.times-chosen.ensures (ap length c.as_slice-count.ensures.same) some day set
