@@ -10,7 +10,7 @@ ghost use Rattle.rr_days.specs.Sketched.{IsFirstFilled, IsWholeFold, sketch_of};
 
 use rr_model::{Kind, NoMemory};
 use rr_runs::{Pages, RunDays};
-use rr_shapes::Shapes;
+use rr_shapes::{FoldedSetId, Shapes};
 use rr_word::{DaySeq, Stretch};
 use std::alloc::Global;
 
@@ -174,17 +174,21 @@ fn first_occupied(
 }
 
 // The number at an index of two lists, one after the other, where the first `skipped` of the second are passed over.
-fn number_at_index(before: &Pages, row: &Pages, skipped: usize, index: usize) -> u32
+fn number_at_index(before: &Pages, row: &Pages, skipped: usize, index: usize) -> FoldedSetId
     requires skipped { skipped ≤ length row.now }
     requires index { index + skipped < length before.now + length row.now }
     requires few { index + skipped ≤ 20_000_000_000 }
-    ensures { result ≡ get_or (before.now ++ drop skipped row.now) index 0 }
+    ensures { result.number ≡ get_or (before.now ++ drop skipped row.now) index 0 }
 {
     let days = before.len();
     if index < days {
-        return before.number_at(index);
+        return FoldedSetId {
+            number: before.number_at(index),
+        };
     }
-    row.number_at(index - days + skipped)
+    FoldedSetId {
+        number: row.number_at(index - days + skipped),
+    }
 }
 
 impl DaySeq for Folded {
@@ -216,7 +220,7 @@ impl DaySeq for Folded {
     fn at(&self, day: i64) -> &[u32] {
         match self.row_on(day) {
             [] => &[],
-            [number, ..] => self.shapes.times(*number),
+            [number, ..] => self.shapes.times(FoldedSetId { number: *number }),
         }
     }
 
@@ -229,7 +233,7 @@ impl DaySeq for Folded {
     }
 
     fn times(&self, number: u32) -> &[u32] {
-        self.shapes.times(number)
+        self.shapes.times(FoldedSetId { number })
     }
 }
 
