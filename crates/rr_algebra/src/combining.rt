@@ -17,7 +17,7 @@ use crate::op::Op;
 use rr_days::{Folded, sequence_of_numbers};
 use rr_model::{Fault, Kind, MAX_CYCLE_DAYS, NoMemory, Refusal};
 use rr_num::lcm_within;
-use rr_shapes::{Pair, Shapes};
+use rr_shapes::{FoldedSetId, Pair, Shapes};
 use rr_times::TimeSet;
 use rr_word::DaySeq;
 use std::alloc::Global;
@@ -89,7 +89,7 @@ impl CombinedSets {
         one: &A,
         other: &B,
         day: i64,
-    ) -> Result<u32, Fault>
+    ) -> Result<FoldedSetId, Fault>
         requires low { earliest_near ≤ℤ day }
         requires high { day ≤ℤ latest_near }
         requires sets { AreDaySets kind self.old.shapes }
@@ -105,8 +105,8 @@ impl CombinedSets {
             (λ n. AreMadeOnDays op (A.sketch one.now) (B.sketch other.now) self.new.shapes) }
         ensures room { IfOk result (λ n. total_size self.new.shapes ≤ MAX_SECONDS) }
         ensures grown { IfOk result (λ n. Extends self.old.shapes self.new.shapes) }
-        ensures number { IfOk result
-            (IsNumberOfDay op (A.sketch one.now) (B.sketch other.now) day self.new.shapes) }
+        ensures number { IfOk result (λ id.
+            IsNumberOfDay op (A.sketch one.now) (B.sketch other.now) day self.new.shapes id.number) }
         ensures refused { RefusedOnlyWhere
             (IsDayTooMany op (A.sketch one.now) (B.sketch other.now) day self.old.shapes) result }
     {
@@ -115,13 +115,15 @@ impl CombinedSets {
             b: number_on(other, day),
         };
         if let Some(number) = self.known.get(pair) {
-            return Ok(number as u32);
+            return Ok(FoldedSetId {
+                number: number as u32,
+            });
         }
         let set = made_of(alloc, op, one.at(day), other.at(day))?;
         match self.shapes.place(set) {
-            Ok(number) => {
-                self.known.put(pair, number as usize)?;
-                Ok(number)
+            Ok(id) => {
+                self.known.put(pair, id.number as usize)?;
+                Ok(id)
             }
             Err(fault) => Err(fault),
         }
@@ -161,7 +163,7 @@ fn numbers_of_days<A: DaySeq, B: DaySeq>(
     let mut numbers = Vec::new(alloc);
     for k in 0..days {
         let number = match sets.number_of(alloc, op, kind, one, other, begin + k as i64) {
-            Ok(number) => number,
+            Ok(id) => id.number,
             Err(fault) => return Err(fault),
         };
         push_number(&mut numbers, number)?;

@@ -23,8 +23,8 @@ fn add_set(alloc: Global, shapes: &mut Shapes, seconds: &[u32], count: usize) ->
     ensures refused { RefusedWhereKnown shapes.old seconds.now result }
 {
     match shapes.place_seconds(alloc, seconds) {
-        Ok(number) => {
-            if number as usize == count {
+        Ok(set) => {
+            if set.number as usize == count {
                 Ok(())
             } else {
                 Err(Fault::Refused(Refusal::NotCanonical))

@@ -51,7 +51,7 @@ known_of_table table table' sets known more is_known n k e =
 pub known_of_sets : (table sets sets' : List (List ℕ)) (known : List (Option Known)) → Extends sets sets' → IsKnown table sets known → IsKnown table sets' known
 known_of_sets table sets sets' known more is_known n k e =
     let h = is_known n k e in
-    (h.0, more k.number (take k.count (get_or table n [])) h.1)
+    (h.0, more k.number.number (take k.count (get_or table n [])) h.1)
 
 -- stays so where there is more room
 pub known_widened : (table sets : List (List ℕ)) (known known' : List (Option Known)) → IsWidened known known' → IsKnown table sets known
@@ -60,7 +60,7 @@ known_widened table sets known known' wide is_known n k e = is_known n k (wide n
 
 -- one more number
 pub known_put : (table sets : List (List ℕ)) (known : List (Option Known)) (at : ℕ) (last : Known) → IsKnown table sets known → at < length known
-    → at < length table → slice_get sets last.number ≡ Some (take last.count (get_or table at [])) → IsKnown table sets (slice_set known at (Some last))
+    → at < length table → slice_get sets last.number.number ≡ Some (take last.count (get_or table at [])) → IsKnown table sets (slice_set known at (Some last))
 known_put table sets known at last is_known l within stands n k e =
     let new : List (Option Known) = slice_set known at (Some last) in
     let here : get_or new n None ≡ Some k = get_or_from_slice_get new n (Some k) None e in

@@ -2,6 +2,7 @@
 use Rattle.std.specs.Prelude.{◌≡◌, ℕ, ◌<◌, List, [], length, get_or, slice_get, take, Option, Some}
 use Rattle.rr_shapes.specs.Numbering.{IsNumbering}
 use Rattle.rr_shapes.specs.Placing.{IsTooMany}
+use Rattle.rr_shapes.specs.declared.ids.FoldedSetId.{FoldedSetId}
 use Rattle.rr_lazy.specs.Next.{with_set}
 use Rattle.rr_lazy.specs.declared.occupied_day.OccupiedDay.{OccupiedDay}
 use Rattle.rr_fold.specs.declared.numbering.Known.{Known}
@@ -9,11 +10,11 @@ use Rattle.rr_fold.specs.declared.numbering.Known.{Known}
 -- what is known of a set of the table is the number of its first n seconds
 abbrev pub IsKnown : List (List ℕ) → List (List ℕ) → List (Option Known) → Type 0
 IsKnown table sets known =
-    (n : ℕ) (k : Known) → slice_get known n ≡ Some (Some k) → (n < length table) × (slice_get sets k.number ≡ Some (take k.count (get_or table n [])))
+    (n : ℕ) (k : Known) → slice_get known n ≡ Some (Some k) → (n < length table) × (slice_get sets k.number.number ≡ Some (take k.count (get_or table n [])))
 
 -- the number is known of a day's seconds
-abbrev pub IsKnownFor : List (Option Known) → OccupiedDay → ℕ → Type 0
-IsKnownFor known found number = slice_get known found.number ≡ Some (Some (record { count = found.count; number = number }))
+abbrev pub IsKnownFor : List (Option Known) → OccupiedDay → FoldedSetId → Type 0
+IsKnownFor known found number = slice_get known found.number.index ≡ Some (Some (record { count = found.count; number = number }))
 
 -- the seconds of a day, which its number and its count tell in the table of sets
 abbrev pub times_of : List (List ℕ) → OccupiedDay → List ℕ

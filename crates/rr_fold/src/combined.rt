@@ -7,7 +7,7 @@ ghost use Rattle.rr_fold.specs.Combined.{AreAlike, AreCombinationsOf, AreCombine
 use crate::folded_days::FoldedDays;
 use rr_model::{Fault, NoMemory};
 use rr_runs::Pages;
-use rr_shapes::{Pair, Shapes, Unions};
+use rr_shapes::{FoldedSetId, Pair, Shapes, Unions};
 use rr_times::TimeSet;
 use std::alloc::Global;
 
@@ -207,8 +207,14 @@ impl CombinedSets {
         for k in 0..stretch_len(ones, others) {
             let (a, b) = (ones[k], others[k]);
             if last.a != a || last.b != b {
-                match self.number_of(alloc, op, a, b, &one.shapes, &other.shapes) {
-                    Ok(number) => last = CombinedPair { a, b, number },
+                let of_one = FoldedSetId { number: a };
+                let of_other = FoldedSetId { number: b };
+                match self.number_of(alloc, op, of_one, of_other, &one.shapes, &other.shapes) {
+                    Ok(set) => last = CombinedPair {
+                        a,
+                        b,
+                        number: set.number,
+                    },
                     Err(fault) => return Err(fault),
                 }
             }
@@ -222,13 +228,13 @@ impl CombinedSets {
         &mut self,
         alloc: Global,
         op: Op,
-        a: u32,
-        b: u32,
+        a: FoldedSetId,
+        b: FoldedSetId,
         one: &Shapes,
         other: &Shapes,
-    ) -> Result<u32, Fault>
-        requires a { a < length one.now }
-        requires b { b < length other.now }
+    ) -> Result<FoldedSetId, Fault>
+        requires a { a.number < length one.now }
+        requires b { b.number < length other.now }
         requires shapes { AreShapes self.old.shapes }
         requires known { AreCombinationsOf op one.now other.now self.old.shapes self.old.known }
         ensures shapes { IfOk result (λ n. AreShapes self.new.shapes) }
@@ -236,21 +242,24 @@ impl CombinedSets {
             AreCombinationsOf op one.now other.now self.new.shapes self.new.known) }
         ensures grown { IfOk result (IsGrown self.old.shapes self.new.shapes) }
         ensures combination { IfOk result
-            (IsCombinationOf op one.now other.now self.new.shapes a b) }
+            (λ set. IsCombinationOf
+            op one.now other.now self.new.shapes a.number b.number set.number) }
     {
         let pair = Pair {
-            a: a as usize,
-            b: b as usize,
+            a: a.number as usize,
+            b: b.number as usize,
         };
         if let Some(number) = self.known.get(pair) {
-            return Ok(number as u32);
+            return Ok(FoldedSetId {
+                number: number as u32,
+            });
         }
         let first = TimeSet::of(alloc, one.times(a))?;
         let second = TimeSet::of(alloc, other.times(b))?;
         match self.shapes.place(made_of(alloc, op, &first, &second)?) {
-            Ok(number) => {
-                self.known.put(pair, number as usize)?;
-                Ok(number)
+            Ok(set) => {
+                self.known.put(pair, set.number as usize)?;
+                Ok(set)
             }
             Err(fault) => Err(fault),
         }

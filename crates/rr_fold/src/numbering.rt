@@ -10,14 +10,14 @@ ghost use Rattle.rr_fold.specs.Numbering.{IsKnown, IsKnownFor, IsOneTooMany, IsW
 
 use rr_lazy::OccupiedDay;
 use rr_model::{Fault, NoMemory};
-use rr_shapes::{SetTable, Shapes};
+use rr_shapes::{FoldedSetId, SetId, SetTable, Shapes};
 use std::alloc::Global;
 
 // The number, among the sets of folded days, of the first `count` seconds of a set.
 #[derive(Clone, Copy)]
 pub(crate) struct Known {
     pub(crate) count: u32,
-    pub(crate) number: u32,
+    pub(crate) number: FoldedSetId,
 }
 
 // The table of sets on which the iterators draw, none of which counts before it is that of an occupied day, and for each of its
@@ -46,13 +46,13 @@ impl Numbering {
         alloc: Global,
         found: OccupiedDay,
         shapes: &mut Shapes,
-    ) -> Result<u32, Fault>
+    ) -> Result<FoldedSetId, Fault>
         requires within { IsWithin self.old.sets found }
         requires known { IsKnown self.old.sets shapes.old self.old.known.items }
         ensures same { self.new.sets ≡ self.old.sets }
         ensures known { IsKnown self.new.sets shapes.new self.new.known.items }
         ensures placed { IfOk result
-            (IsPlaced (times_of self.old.sets found) shapes.old shapes.new) }
+            (λ set. IsPlaced (times_of self.old.sets found) shapes.old shapes.new set.number) }
         ensures room { total_size shapes.old ≤ MAX_SECONDS → total_size shapes.new ≤ MAX_SECONDS }
         ensures refused { RefusedExactlyWhere
             (IsOneTooMany (times_of self.old.sets found) shapes.old) TooManyMoments result }
@@ -64,7 +64,7 @@ impl Numbering {
         let seconds = &self.sets.times(found.number).as_slice()[..found.count];
         match shapes.place_seconds(alloc, seconds) {
             Ok(number) => {
-                self.known[found.number] = Some(Known {
+                self.known[found.number.index] = Some(Known {
                     count: found.count as u32,
                     number,
                 });
@@ -75,23 +75,23 @@ impl Numbering {
     }
 
     // The number, if it was given for the same seconds of the same set.
-    fn number_known(&self, found: OccupiedDay) -> Option<u32>
+    fn number_known(&self, found: OccupiedDay) -> Option<FoldedSetId>
         ensures { IfSome result (IsKnownFor self.now.known.items found) }
     {
-        match self.known.get(found.number) {
+        match self.known.get(found.number.index) {
             Some(Some(last)) if last.count as usize == found.count => Some(last.number),
             _ => None,
         }
     }
 
     // Room for what is known of a set.
-    fn make_room(&mut self, number: usize) -> Result<(), NoMemory>
+    fn make_room(&mut self, set: SetId) -> Result<(), NoMemory>
         ensures same { self.new.sets ≡ self.old.sets }
         ensures known { IsWidened self.old.known.items self.new.known.items }
-        ensures room { OnOk result (number < length self.new.known.items) }
+        ensures room { OnOk result (set.index < length self.new.known.items) }
     {
-        if self.known.len() <= number {
-            self.known.resize(number, None)?;
+        if self.known.len() <= set.index {
+            self.known.resize(set.index, None)?;
             self.known.push(None)?;
         }
         Ok(())

@@ -10,7 +10,7 @@ use crate::numbering::Numbering;
 use rr_lazy::Lazy;
 use rr_model::{Fault, NoMemory};
 use rr_runs::Pages;
-use rr_shapes::Shapes;
+use rr_shapes::{FoldedSetId, Shapes};
 use std::alloc::Global;
 
 // The days that were walked, beside the numbers of the sets on which the iterator draws.
@@ -105,7 +105,7 @@ fn fill<L: Lazy>(
             Some(found) => {
                 let index = days_between(first, found.day);
                 match numbering.number_of(alloc, found, shapes) {
-                    Ok(number) => put(numbers, index, number)?,
+                    Ok(set) => put(numbers, index, set)?,
                     Err(fault) => return Err(fault),
                 }
             }
@@ -113,13 +113,13 @@ fn fill<L: Lazy>(
     }
 }
 
-// Puts a number at its index, and 0, the number of the empty set, at each index before it that has none yet.
-fn put(numbers: &mut Pages, index: usize, number: u32) -> Result<(), NoMemory>
+// Puts the number of a set at its index, and 0, the number of the empty set, at each index before it that has none yet.
+fn put(numbers: &mut Pages, index: usize, set: FoldedSetId) -> Result<(), NoMemory>
     requires { length numbers.old ≤ index }
-    ensures { OnOk result (IsPut numbers.old index number numbers.new) }
+    ensures { OnOk result (IsPut numbers.old index set.number numbers.new) }
 {
     fill_to(numbers, index)?;
-    numbers.push(number)?;
+    numbers.push(set.number)?;
     Ok(())
 }
 

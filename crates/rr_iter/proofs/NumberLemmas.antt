@@ -13,7 +13,7 @@ use Rattle.rr_iter.specs.Ends.{before_day, HasNumberOn}
 
 -- a day of which n seconds are given has n
 pub counted_seconds : (sets : List (List ℕ)) (found : OccupiedDay) → IsWithin sets found → length ((with_set sets found).times) ≡ found.count
-counted_seconds sets found within = length-take-le found.count (get_or sets found.number []) within.1
+counted_seconds sets found within = length-take-le found.count (get_or sets found.number.index []) within.1
 
 -- nothing is counted at first
 pub unasked_counted : (tree : Tree) (position to : ℤ) (number : ℕ) → IsUnasked position → IsFromYearOne to → 1 ≤ number

@@ -33,11 +33,11 @@ loop-k-preserved g c =
     let begin = to_z w64 (of_z w64 c.args.begin) in
     let day : to_z w64 (of_z w64 (begin +ℤ to_z w64 l.k)) ≡ begin +ℤ pos l.k =
     omega (arith, ints, d, low, high, c.loop-k-test.true) in (
-      omega (arith, l.invariant.0, ap length c.in_ok-push_number.ensures, length-append l.numbers.items (c.in-Ok.number ∷ [])),
+      omega (arith, l.invariant.0, ap length c.in_ok-push_number.ensures, length-append l.numbers.items (c.in-Ok.id.number ∷ [])),
       c.in-Ok.ensures.sets,
       c.in-Ok.ensures.known,
       one_more_number c.args.op (g.A.DaySeq.sketch c.args.one.now) (g.B.DaySeq.sketch c.args.other.now) begin _ l.sets.shapes
-          c.number_of.new.self.shapes l.numbers.items c.push_number.new.numbers.items c.in-Ok.number l.k l.invariant.0 c.in-Ok.ensures.grown
+          c.number_of.new.self.shapes l.numbers.items c.push_number.new.numbers.items c.in-Ok.id.number l.k l.invariant.0 c.in-Ok.ensures.grown
           c.in_ok-push_number.ensures day c.in-Ok.ensures.number l.invariant.3,
       c.in-Ok.ensures.made,
       c.in-Ok.ensures.room,

@@ -71,7 +71,7 @@ days-preserved g c =
     let o = c.in-Ok.ensures in
     let r = found_on (g.L.Lazy.tree c.args.lazy.now) (g.L.Lazy.tree c.days.lazy) (to_z w64 (of_z w64 c.args.first)) (g.L.Lazy.position c.days.lazy)
     (to_z w64 (of_z w64 c.args.to)) (to_z w64 (of_z w64 c.args.to))
-    (g.L.Lazy.position c.next.new.self) c.in-Ok.number c.days_between-index.result c.days.shapes c.number_of.new.shapes c.days.numbers
+    (g.L.Lazy.position c.next.new.self) c.in-Ok.set.number c.days_between-index.result c.days.shapes c.number_of.new.shapes c.days.numbers
     c.put.new.numbers (with_set c.next.new.sets c.in-Some.found)
     c.days.invariant.2 n c.days.invariant.0 refl o.placed (o.room c.days.invariant.2.few) at c.in_ok-put-in-Ok.ensures in
     (c.in_ok-next.ensures.tree ∙ c.days.invariant.0, r.1, r.0, rw o.same c.in_ok-next.ensures.knows, o.known)

@@ -23,7 +23,7 @@ returns-in_ok-put-in-Ok-clause-sets g c =
     let made = made_on c.args.op s u _ c.args.day _ _ c.in_ok-set.set (to_z-of_z c.ranges.day) c.at.ensures c.at-2.ensures c.in_ok-set.ensures in
     let placed = c.in-Ok.ensures.placed in
     let new = c.place.new.self in
-    let number = c.in-Ok.number in
+    let number = c.in-Ok.id.number in
     let of_day : IsSecondsOfDay c.in_ok-set.set =
     subst IsSecondsOfDay (get_or_from_slice_get new number c.in_ok-set.set [] placed.stands)
     (c.in-Ok.ensures.numbering.of_day number [] (slice_get_within new number c.in_ok-set.set placed.stands)) in
@@ -40,7 +40,7 @@ returns-in_ok-put-in-Ok-clause-known g c =
     let placed = c.in-Ok.ensures.placed in
     let old = c.args.self.now.shapes in
     let new = c.place.new.self in
-    let number = c.in-Ok.number in
+    let number = c.in-Ok.id.number in
     let one = table (g.A.DaySeq.sets c.args.one.now) in
     let other = table (g.B.DaySeq.sets c.args.other.now) in
     let small : number ≤ 4_294_967_295 = search rules in
@@ -56,21 +56,21 @@ returns-in_ok-put-in-Ok-clause-known g c =
     (subst (λ k. AreKnown c.args.op one other new k) (sym c.get.ensures.unchanged) were) small pair c.in_ok-put-in-Ok.ensures
 
 pub returns-in_ok-put-in-Ok-clause-grown : goal.returns-in_ok-put-in-Ok-clause-grown
-returns-in_ok-put-in-Ok-clause-grown g c = placed_extends c.in_ok-set.set c.args.self.now.shapes c.place.new.self c.in-Ok.number c.in-Ok.ensures.placed
+returns-in_ok-put-in-Ok-clause-grown g c = placed_extends c.in_ok-set.set c.args.self.now.shapes c.place.new.self c.in-Ok.id.number c.in-Ok.ensures.placed
 
 pub returns-in_ok-put-in-Ok-clause-number : goal.returns-in_ok-put-in-Ok-clause-number
 returns-in_ok-put-in-Ok-clause-number g c =
     let s = g.A.DaySeq.sketch c.args.one.now in
     let u = g.B.DaySeq.sketch c.args.other.now in
     let made = made_on c.args.op s u _ c.args.day _ _ c.in_ok-set.set (to_z-of_z c.ranges.day) c.at.ensures c.at-2.ensures c.in_ok-set.ensures in
-    number_placed c.args.op (times_on s c.args.day) (times_on u c.args.day) c.in_ok-set.set _ c.place.new.self c.in-Ok.number c.in-Ok.ensures.placed made
+    number_placed c.args.op (times_on s c.args.day) (times_on u c.args.day) c.in_ok-set.set _ c.place.new.self c.in-Ok.id.number c.in-Ok.ensures.placed made
 
 pub returns-in_ok-put-in-Ok-clause-made : goal.returns-in_ok-put-in-Ok-clause-made
 returns-in_ok-put-in-Ok-clause-made g c =
     let s = g.A.DaySeq.sketch c.args.one.now in
     let u = g.B.DaySeq.sketch c.args.other.now in
     let made = made_on c.args.op s u _ c.args.day _ _ c.in_ok-set.set (to_z-of_z c.ranges.day) c.at.ensures c.at-2.ensures c.in_ok-set.ensures in
-    made_placed c.args.op s u c.args.day c.in_ok-set.set c.args.self.now.shapes c.place.new.self c.in-Ok.number c.in-Ok.ensures.placed made c.requires.made
+    made_placed c.args.op s u c.args.day c.in_ok-set.set c.args.self.now.shapes c.place.new.self c.in-Ok.id.number c.in-Ok.ensures.placed made c.requires.made
 
 pub returns-in-Err-clause-refused : goal.returns-in-Err-clause-refused
 returns-in-Err-clause-refused g c =

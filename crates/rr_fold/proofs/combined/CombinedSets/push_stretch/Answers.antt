@@ -37,14 +37,14 @@ loop-k-preserved c =
       | then-last-a+in-Ok w ↦ (
           let made = w.in-Ok.ensures in
           let sets = w.number_of.new.self in
-          let union : IsCombinationOf c.args.op one.shapes other.shapes sets.shapes (get_or one.numbers n 0) (get_or other.numbers n 0) w.in-Ok.number =
+          let union : IsCombinationOf c.args.op one.shapes other.shapes sets.shapes (get_or one.numbers n 0) (get_or other.numbers n 0) w.in-Ok.set.number =
           rw (a, b) at made.combination in
-          let put : new ≡ old ++ w.in-Ok.number ∷ [] = rw w.last-is at c.in_ok-push.ensures.ok in
+          let put : new ≡ old ++ w.in-Ok.set.number ∷ [] = rw w.last-is at c.in_ok-push.ensures.ok in
           rw (w.self-is, w.last-is) (
             combined_on c.args.op one.shapes one.numbers other.shapes other.numbers n c.loop-k.self.shapes sets.shapes c.loop-k.self.known sets.known
-                old new w.in-Ok.number so_far at made.grown union put made.shapes made.known,
+                old new w.in-Ok.set.number so_far at made.grown union put made.shapes made.known,
             made.combination,
-            omega (arith, ap length put, length-append old (w.in-Ok.number ∷ []), at),
+            omega (arith, ap length put, length-append old (w.in-Ok.set.number ∷ []), at),
           ))
       | else-last-a+else-last-b w ↦ (
           let last = c.loop-k.last in
