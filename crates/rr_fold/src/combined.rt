@@ -240,7 +240,8 @@ impl CombinedSets {
         ensures shapes { IfOk result (λ n. AreShapes self.new.shapes) }
         ensures known { IfOk result (λ n.
             AreCombinationsOf op one.now other.now self.new.shapes self.new.known) }
-        ensures grown { IfOk result (IsGrown self.old.shapes self.new.shapes) }
+        ensures grown { IfOk result
+            (λ set. IsGrown self.old.shapes self.new.shapes set.number) }
         ensures combination { IfOk result
             (λ set. IsCombinationOf
             op one.now other.now self.new.shapes a.number b.number set.number) }

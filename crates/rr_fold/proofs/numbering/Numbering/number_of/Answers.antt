@@ -59,7 +59,7 @@ returns-in-Ok-clause-known c =
     c.make_room.ensures.known c.requires.known in
     let grown : IsKnown c.args.self.now.sets c.place_seconds.new.self c.make_room.new.self.known.items =
     known_of_sets c.args.self.now.sets c.args.shapes.now c.place_seconds.new.self c.make_room.new.self.known.items
-    (placed_extends (take c.args.found.count c.as_slice.result.now) c.args.shapes.now c.place_seconds.new.self c.in-Ok.number placed) wide in
+    (placed_extends (take c.args.found.count c.as_slice.result.now) c.args.shapes.now c.place_seconds.new.self c.in-Ok.number.number placed) wide in
     rw c.make_room.ensures.same
     (known_put c.args.self.now.sets c.place_seconds.new.self c.make_room.new.self.known.items c.args.found.number.index last grown
     c.in_ok-make_room.ensures.room c.requires.within.0 (rw at placed.stands))
