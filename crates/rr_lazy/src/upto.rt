@@ -5,7 +5,7 @@ ghost use Rattle.rr_model.specs.Moment.{day_part};
 ghost use Rattle.rr_model.proofs.TreeLemmas.{IsOfOneKind-prop};
 ghost use Rattle.rr_model.specs.Sets.Tree.{IsOfOneKind, upto};
 ghost use Rattle.rr_model.specs.Rising.Sets.{IsSecondsOfDay};
-ghost use Rattle.rr_lazy.specs.Next.{IsUnasked, IsWithin, KnowsIf, with_set};
+ghost use Rattle.rr_lazy.specs.Next.{IsInTable, IsUnasked, KnowsIf, with_set};
 ghost use Rattle.rr_lazy.specs.Upto.{IsSecondsTo, IsUpTo};
 
 use crate::position::past;
@@ -93,7 +93,7 @@ impl<A: Lazy + Drop> Lazy for Upto<A> {
 
 // How many seconds of a day are not after a moment.
 fn count_to(sets: &SetTable, kind: Kind, at: i64, found: OccupiedDay) -> usize
-    requires within { IsWithin sets.now found }
+    requires within { IsInTable sets.now found }
     requires of_day { IsSecondsOfDay ((with_set sets.now found).times) }
     ensures few { result ≤ found.count }
     ensures seconds { IsUpTo kind at found.day ((with_set sets.now found).times)
