@@ -4,7 +4,7 @@ ghost use Rattle.rr_model.specs.Bounds.{first_day_of_all};
 ghost use Rattle.rr_model.specs.Series.Tree.{tree_of};
 ghost use Rattle.rr_iter.specs.Counts.{AreCountsOf};
 ghost use Rattle.rr_lazy.specs.Next.{IsUnasked};
-ghost use Rattle.rr_fold.specs.Folding.{AreDaysOf, HasNoneBefore, RefusesTooMany};
+ghost use Rattle.rr_fold.specs.Folding.{AreDaysOf, HasNoDayBefore, RefusesTooMany};
 
 use crate::rules::{days_by_rules, goes_by_rules};
 use crate::walk::Walk;
@@ -38,7 +38,7 @@ pub fn folded_days(
     requires low { first_day_of_all ≤ℤ first }
     requires order { first <ℤ end }
     requires high { end ≤ℤ pos 40_000_000 }
-    requires early { HasNoneBefore (tree_of series.now) first }
+    requires early { HasNoDayBefore (tree_of series.now) first }
     ensures folded { IfOk result (AreDaysOf (tree_of series.now) first end) }
     ensures whole { IfOk result (λ days. end ≡ first +ℤ pos (length days.numbers)) }
     ensures refused { RefusesTooMany (tree_of series.now) end result }
@@ -56,7 +56,7 @@ fn days_by_walk(alloc: Global, series: &Checked, first: i64, end: i64) -> Result
     requires low { first_day_of_all ≤ℤ first }
     requires order { first <ℤ end }
     requires high { end ≤ℤ pos 40_000_000 }
-    requires early { HasNoneBefore (tree_of series.now) first }
+    requires early { HasNoDayBefore (tree_of series.now) first }
     ensures folded { IfOk result (AreDaysOf (tree_of series.now) first end) }
     ensures whole { IfOk result (λ days. end ≡ first +ℤ pos (length days.numbers)) }
     ensures refused { RefusesTooMany (tree_of series.now) end result }
@@ -77,7 +77,7 @@ pub(crate) fn days_of_lazy<L: Lazy + Drop>(
     requires high { end ≤ℤ pos 40_000_000 }
     requires unasked { IsUnasked (L.position lazy) }
     requires knows { (sets : List (List ℕ)) → L.knows lazy sets }
-    requires early { HasNoneBefore (L.tree lazy) first }
+    requires early { HasNoDayBefore (L.tree lazy) first }
     ensures folded { IfOk result (AreDaysOf (L.tree lazy) first end) }
     ensures whole { IfOk result (λ days. end ≡ first +ℤ pos (length days.numbers)) }
     ensures refused { RefusesTooMany (L.tree lazy) end result }

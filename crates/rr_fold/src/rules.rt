@@ -8,7 +8,7 @@ ghost use Rattle.rr_model.specs.Series.Soundness.{IsSound};
 ghost use Rattle.rr_model.specs.Series.Tree.{tree_of};
 ghost use Rattle.rr_iter.specs.Counts.{AreCounts, AreCountsOf, IsCountOf};
 ghost use Rattle.rr_iter.specs.Ends.{IsSoundRule};
-ghost use Rattle.rr_fold.specs.Folding.{AreDaysOf, HasNoneBefore};
+ghost use Rattle.rr_fold.specs.Folding.{AreDaysOf, HasNoDayBefore};
 ghost use Rattle.rr_fold.specs.Rules.{AreDaysChosen, AreDaysOfRule, AreEndless, HasRules, given_from, kept_from, members_of_rules};
 
 use crate::combined::{Op, combined};
@@ -102,7 +102,7 @@ pub fn days_by_rules(
     requires rules { HasRules series.now first end }
     requires low { first_day_of_all ≤ℤ first }
     requires high { end ≤ℤ pos 40_000_000 }
-    requires early { HasNoneBefore (tree_of series.now) first }
+    requires early { HasNoDayBefore (tree_of series.now) first }
     ensures folded { IfOk result (AreDaysOf (tree_of series.now) first end) }
     ensures whole { IfOk result (λ days. end ≡ first +ℤ pos (length days.numbers)) }
 {
