@@ -17,7 +17,7 @@ use crate::folded_days::{FoldedDays, days_between, days_of_lazy};
 use crate::jump::{days_counted, days_ended};
 use crate::years::{days_by_years, year_period};
 use rr_check::Checked;
-use rr_iter::{Counted, Counts};
+use rr_iter::{Counts, CycleCount};
 use rr_model::{End, Fault, Kind, Rule, Series, day_part};
 use rr_walk::RuleLazy;
 use std::alloc::Global;
@@ -181,7 +181,7 @@ fn days_of_rules(
     kind: Kind,
     start: i64,
     rules: &[Rule],
-    counted: &[Option<Counted>],
+    counted: &[Option<CycleCount>],
     first: i64,
     end: i64,
 ) -> Result<FoldedDays, Fault>
@@ -208,7 +208,7 @@ fn days_from_start(
     kind: Kind,
     start: i64,
     rules: &[Rule],
-    counted: &[Option<Counted>],
+    counted: &[Option<CycleCount>],
     end: i64,
 ) -> Result<FoldedDays, Fault>
     requires some { rules.now ≢ [] }
@@ -233,7 +233,7 @@ fn days_from_start(
 fn days_of_rule(
     alloc: Global,
     rule: &Rule,
-    counted: Option<Counted>,
+    counted: Option<CycleCount>,
     kind: Kind,
     start: i64,
     end: i64,
