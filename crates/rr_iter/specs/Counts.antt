@@ -23,7 +23,7 @@ abbrev pub IsCountUpTo : Rule → Kind → ℤ → ℕ → Option CycleCount →
 IsCountUpTo rule kind start count (Some counted) = IsCounted rule kind start count counted
 IsCountUpTo rule kind start count None = count ≤ up_to_cycle rule kind start
 
--- by the end of a rule: with COUNT alone it is told so, and of any other nothing
+-- what is counted of a rule with this end: where it is COUNT alone, what is counted to find the member of that number, and else nothing
 abbrev pub IsCountOfEnd : Kind → ℤ → Rule → End → Option CycleCount → Type 0
 IsCountOfEnd kind start rule (Count count) counted = IsCountUpTo rule kind start count counted
 IsCountOfEnd kind start rule end counted = counted ≡ None

@@ -66,7 +66,7 @@ pub record HasNumberOn (tree : Tree) (number : ℕ) (day : ℤ) : Type 0 where
   pub above : before_day tree day < number
   pub within : number ≤ before_day tree (day +ℤ pos 1)
 
--- where it lies up to a day, or how many occurrences after that day lead to it
+-- the day of the occurrence of this number, where it is not after a day, or how many occurrences after that day lead to it
 abbrev pub IsNthDayOf : Tree → ℕ → ℤ → NthDay → Type 0
 IsNthDayOf tree number to (On day) = (day ≤ℤ to) × HasNumberOn tree number day
 IsNthDayOf tree number to (Beyond left) = (1 ≤ left) × (before_day tree (to +ℤ pos 1) + left ≡ number)
