@@ -11,7 +11,7 @@ ghost use Rattle.rr_iter.specs.Ends.{IsSoundRule};
 ghost use Rattle.rr_fold.specs.Folding.{AreDaysOf, HasNoDayBefore};
 ghost use Rattle.rr_fold.specs.Rules.{AreDaysChosen, AreDaysOfRule, AreEndless, HasRules, given_from, kept_from, members_of_rules};
 
-use crate::combined::{Op, combined};
+use crate::combination::{Op, combination_of};
 use crate::dates::{days_of_dates, led_by_free};
 use crate::folded_days::{FoldedDays, days_between, days_of_lazy};
 use crate::jump::{days_counted, days_ended};
@@ -112,7 +112,7 @@ pub fn days_by_rules(
         return Ok(days);
     }
     let out = days_of_dates(alloc, given.kind, &given.minus, first, end)?;
-    combined(alloc, Op::Minus, &days, &out)
+    combination_of(alloc, Op::Minus, &days, &out)
 }
 
 // The days of the rules and of the dates added from one on and below another, without those of the excluded rules.
@@ -146,7 +146,7 @@ fn kept_days(
         first,
         end,
     )?;
-    combined(alloc, Op::Minus, &days, &out)
+    combination_of(alloc, Op::Minus, &days, &out)
 }
 
 // The days of the rules and of the dates added, from one on and below another.
@@ -172,7 +172,7 @@ fn given_days(
         return Ok(days);
     }
     let dates = days_of_dates(alloc, series.kind, &series.plus, first, end)?;
-    combined(alloc, Op::Union, &dates, &days)
+    combination_of(alloc, Op::Union, &dates, &days)
 }
 
 // The days of rules together, of each of which this was counted, from one on that is not after their start's and below another.
@@ -224,7 +224,7 @@ fn days_from_start(
     let mut days = days_of_rule(alloc, &rules[0], counted[0], kind, start, end)?;
     for index in 1..rules.len() {
         let more = days_of_rule(alloc, &rules[index], counted[index], kind, start, end)?;
-        days = combined(alloc, Op::Union, &days, &more)?;
+        days = combination_of(alloc, Op::Union, &days, &more)?;
     }
     Ok(days)
 }
