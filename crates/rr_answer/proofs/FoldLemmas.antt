@@ -3,7 +3,7 @@ use Rattle.std.proofs.Common.{◌≡◌, ℕ, pos, ◌≤ℤ◌, arith}
 use Rattle.std.proofs.lemmas.Int.{ints}
 use Rattle.std.specs.Prelude.{Result, Ok, Err, IfErr, IfOk}
 use Rattle.rr_model.proofs.YearOneLemmas.{occurs_from_year_one}
-use Rattle.rr_fold.specs.Judged.{IsJudged, all_limits}
+use Rattle.rr_fold.specs.Judged.{IsFoldJudged, all_limits}
 use Rattle.rr_model.specs.Series.Cycle.{series_cycle}
 use Rattle.rr_model.specs.Series.Occurrences.{Occurs}
 use Rattle.rr_model.specs.Sets.Sketch.{StandsFor}
@@ -19,7 +19,7 @@ use Rattle.rr_answer.proofs.JudgementLemmas.{passed, refused_by_limit}
 module _ {X : Type 0} (of : X → Sketch) (reads : Reading) (series : Series) (cycle : ℕ) (a : IsAdmitted reads series cycle) where
   pub series_folded :
       (result : Result X Fault) → IfOk result (λ f. StandsFor (of f) (Occurs series)) → IfOk result (λ f. (of f).kind ≡ series.kind)
-      → IfOk result (λ f. (of f).settled ≤ℤ pos 20_000_000) → IfOk result (λ f. (of f).period ≡ series_cycle series) → IsJudged series result
+      → IfOk result (λ f. (of f).settled ≤ℤ pos 20_000_000) → IfOk result (λ f. (of f).period ≡ series_cycle series) → IsFoldJudged series result
       → IfOk result (λ f. IsFoldedFrom reads (of f))
   series_folded (Err fault) stands kind near period judged = tt
   series_folded (Ok f) stands kind near period judged = record {
@@ -34,7 +34,7 @@ module _ {X : Type 0} (of : X → Sketch) (reads : Reading) (series : Series) (c
     };
   }
 
-  pub series_fault : (result : Result X Fault) → IsJudged series result → IfErr result (IsFault all_limits reads)
+  pub series_fault : (result : Result X Fault) → IsFoldJudged series result → IfErr result (IsFault all_limits reads)
   series_fault (Ok f) judged = tt
   series_fault (Err (Refused refusal)) judged = refused_by_limit all_limits reads series cycle a refusal judged
   series_fault (Err NoMemory) judged = tt

@@ -82,15 +82,13 @@ pub fn end_refusal(kind: Kind, start: i64, end: End) -> Option<Refusal>
 fn until_refusal(kind: Kind, start: i64, other: Kind, at: i64) -> Option<Refusal>
     ensures { result ≡ until_refusal kind start other at }
 {
-    match (kind, other) {
-        (Kind::Days, Kind::Days) | (Kind::Moments, Kind::Moments) => {
-            if at < start {
-                Some(Refusal::UntilBeforeStart)
-            } else {
-                None
-            }
-        }
-        _ => Some(Refusal::UntilKind),
+    if !kind.is_same(other) {
+        return Some(Refusal::UntilKind);
+    }
+    if at < start {
+        Some(Refusal::UntilBeforeStart)
+    } else {
+        None
     }
 }
 

@@ -145,7 +145,7 @@ fn remember<A: DaySeq, B: DaySeq>(
     ensures { IsQuiet (shown_by question) (A.sets a.now) (B.sets b.now) quiet.new }
 {
     if let (Some(of_a), Some(of_b)) = (of_a, of_b) {
-        let alike = alike_after(question, a, b, of_a, of_b, quiet.alike());
+        let alike = alike_after(question, a, b, of_a, of_b, quiet.alike_bound());
         quiet.learn(Pair { a: of_a, b: of_b }, alike);
     }
 }

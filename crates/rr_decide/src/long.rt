@@ -250,8 +250,8 @@ fn compare_later<A: DaySeq + Drop, B: DaySeq + Drop, L: Ledger>(
         day most result }
     ensures few { steps.new + 2 ≤ steps.old + 2 * days_of most result }
 {
-    let later_a = a.later(day);
-    let later_b = b.later(day);
+    let later_a = a.days_after(day);
+    let later_b = b.days_after(day);
     let end = later_a
         .count()
         .min(later_b.count())

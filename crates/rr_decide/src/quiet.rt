@@ -103,7 +103,7 @@ impl Quiet {
 
     /// Below which number a set and the one of the same number in the other sequence show nothing; none where that is not asked
     /// for any more.
-    pub fn alike(&self) -> Option<u32>
+    pub fn alike_bound(&self) -> Option<u32>
         ensures { result ≡ self.now.alike }
     {
         self.alike

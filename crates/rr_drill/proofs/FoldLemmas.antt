@@ -12,7 +12,7 @@ use Rattle.rr_model.specs.declared.verdict.Verdict.TheVariants.{Yes, No}
 use Rattle.rr_decide.specs.Question.{IsVerdictTo}
 use Rattle.rr_model.specs.declared.question.Question.{Question}
 use Rattle.rr_model.specs.declared.question.Question.TheVariants.{Equal, Within, Disjoint}
-use Rattle.rr_drill.specs.Asked.{IsVerdictOn, IsYes}
+use Rattle.rr_drill.specs.Asked.{IsVerdictAsked, IsYes}
 use Rattle.rr_drill.specs.Counting.{IsOneWhere, IsCountOf, IsCountOfPairs}
 use Rattle.rr_drill.specs.Draws.{series_from, after_series, series_list, drawn_series}
 use Rattle.rr_drill.specs.Folds.{stands, IsFoldOf, AreFoldsOf}
@@ -33,7 +33,7 @@ no_or_yes Equal P Q k t Both against h = absurd against.0
 no_or_yes Within P Q k t side against h = against.2 (h k t against.1)
 no_or_yes Disjoint P Q k t side against h = h k t against.1 against.2
 
-pub not_yes : (asked : Asked) (P Q : Occurrences) (k : Kind) (t : ℤ) (side : Side) → IsVerdictOn asked P Q (No k t side) → IsYes asked P Q → ⊥
+pub not_yes : (asked : Asked) (P Q : Occurrences) (k : Kind) (t : ℤ) (side : Side) → IsVerdictAsked asked P Q (No k t side) → IsYes asked P Q → ⊥
 not_yes (Forth question) P Q = no_or_yes question P Q
 not_yes (Back question) P Q = no_or_yes question Q P
 

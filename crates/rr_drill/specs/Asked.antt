@@ -7,10 +7,10 @@ use Rattle.rr_drill.specs.declared.asked.Asked.{Asked}
 use Rattle.rr_drill.specs.declared.asked.Asked.TheVariants.{Forth, Back}
 
 -- the verdict that is asked for
-abbrev pub IsVerdictOn : Asked → Occurrences → Occurrences → Verdict → Type 0
-IsVerdictOn (Forth question) P Q verdict = IsVerdictTo question P Q verdict
-IsVerdictOn (Back question) P Q verdict = IsVerdictTo question Q P verdict
+abbrev pub IsVerdictAsked : Asked → Occurrences → Occurrences → Verdict → Type 0
+IsVerdictAsked (Forth question) P Q verdict = IsVerdictTo question P Q verdict
+IsVerdictAsked (Back question) P Q verdict = IsVerdictTo question Q P verdict
 
 -- the verdict is yes
 abbrev pub IsYes : Asked → Occurrences → Occurrences → Type 0
-IsYes asked P Q = IsVerdictOn asked P Q Yes
+IsYes asked P Q = IsVerdictAsked asked P Q Yes

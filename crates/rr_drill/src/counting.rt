@@ -1,6 +1,6 @@
 // How many verdicts on the pairs of series are yes.
 ghost use Rattle.std.specs.Prelude.{◌≡◌, ◌≤◌, ◌*◌, ◌-◌, ◌/◌, length};
-ghost use Rattle.rr_drill.specs.Asked.{IsVerdictOn, IsYes};
+ghost use Rattle.rr_drill.specs.Asked.{IsVerdictAsked, IsYes};
 ghost use Rattle.rr_drill.specs.Counting.{IsCountOf, IsCountOfPairs, IsOneWhere};
 ghost use Rattle.rr_drill.specs.Folds.{stands};
 ghost use Rattle.rr_drill.specs.Summary.{IsSummaryOf};
@@ -13,7 +13,7 @@ use rr_model::{Question, Verdict};
 
 // The verdict on two series.
 fn verdict_on(asked: Asked, a: &DrawnDays, b: &DrawnDays) -> Verdict
-    ensures { IsVerdictOn asked (stands a.now) (stands b.now) result }
+    ensures { IsVerdictAsked asked (stands a.now) (stands b.now) result }
 {
     match asked {
         Asked::Forth(question) => verdict(question, &a.folded, &b.folded),

@@ -21,7 +21,7 @@ use Rattle.rr_model.proofs.MomentLemmas.{parts_of_moment}
 use Rattle.rr_model.specs.declared.graph.RangeEnd.{RangeEnd}
 use Rattle.rr_model.specs.declared.graph.RangeEnd.TheVariants.{NoEnd, EndDate, Numbered}
 use Rattle.rr_pattern.proofs.RepeatLemmas.{at_day, at_time}
-use Rattle.rr_family.specs.DaySets.{window_days, IsWithin, OccursOnDays, IsOneSecond, IsLastDay, SetOfTest, TestOfEndless, TestOfFinite}
+use Rattle.rr_family.specs.DaySets.{window_days, IsUpToRangeEnd, OccursOnDays, IsOneSecond, IsLastDay, SetOfTest, TestOfEndless, TestOfFinite}
 use Rattle.rr_family.specs.Lasting.{is_occupied, at_second}
 use Rattle.rr_family.specs.Taking.{AgreeWithin}
 use Rattle.rr_family.proofs.TakingLemmas.{same_truth}
@@ -72,8 +72,8 @@ more_days test first m n l =
     let k = nat_abs (pos n -ℤ pos m) in
     omega (arith, ap (count_from test first) e, count_from-split test first m k)
 
-earlier_within : (test : ℤ → Bool) (first : ℤ) (end : RangeEnd) (d later : ℤ) → first ≤ℤ d → d ≤ℤ later → IsWithin test first end later
-    → IsWithin test first end d
+earlier_within : (test : ℤ → Bool) (first : ℤ) (end : RangeEnd) (d later : ℤ) → first ≤ℤ d → d ≤ℤ later → IsUpToRangeEnd test first end later
+    → IsUpToRangeEnd test first end d
 earlier_within test first NoEnd d later l h w = tt
 earlier_within test first (EndDate last) d later l h w = omega (arith, ints, w)
 earlier_within test first (Numbered n) d later l h w =
@@ -94,7 +94,7 @@ module _ (s : Sketch) (test : ℤ → Bool) (end : RangeEnd) (kind : Kind) (star
   same_kind = sym ((equal kind start).0 begins).kind
 
   -- what stands on a day is an occurrence at the start's second
-  occurs_if_stands : (d : ℤ) (x : ℕ) → Contains (times_on s d) x → (x ≡ second) × (first ≤ℤ d) × (test d ≡ true) × IsWithin test first end d
+  occurs_if_stands : (d : ℤ) (x : ℕ) → Contains (times_on s d) x → (x ≡ second) × (first ≤ℤ d) × (test d ≡ true) × IsUpToRangeEnd test first end d
   occurs_if_stands d x c =
       let fits = second_fits s d x valid c in
       let parts = parts_of_moment s.kind d x fits.0 fits.1 in
@@ -106,10 +106,10 @@ module _ (s : Sketch) (test : ℤ → Bool) (end : RangeEnd) (kind : Kind) (star
         sym sec ∙ o.same_second,
         subst (λ z. first ≤ℤ z) day o.not_before,
         subst (λ z. test z ≡ true) day o.on_day,
-        subst (λ z. IsWithin test first end z) day o.within,
+        subst (λ z. IsUpToRangeEnd test first end z) day o.within,
       )
 
-  stands_if_occurs : (d : ℤ) → first ≤ℤ d → test d ≡ true → IsWithin test first end d → Contains (times_on s d) second
+  stands_if_occurs : (d : ℤ) → first ≤ℤ d → test d ≡ true → IsUpToRangeEnd test first end d → Contains (times_on s d) second
   stands_if_occurs d l h w =
       let t = moment_at kind d second in
       let day : day_part kind t ≡ d = at_day kind start d in
@@ -119,7 +119,7 @@ module _ (s : Sketch) (test : ℤ → Bool) (end : RangeEnd) (kind : Kind) (star
         same_second = sec;
         not_before = subst (λ z. first ≤ℤ z) (sym day) l;
         on_day = subst (λ z. test z ≡ true) (sym day) h;
-        within = subst (λ z. IsWithin test first end z) (sym day) w;
+        within = subst (λ z. IsUpToRangeEnd test first end z) (sym day) w;
       } in
       let there = ((equal kind t).0 o).second in
       subst (λ z. Contains (times_on s d) z) sec (subst (λ z. Contains (times_on s z) (second_part kind t)) day there)
@@ -127,7 +127,7 @@ module _ (s : Sketch) (test : ℤ → Bool) (end : RangeEnd) (kind : Kind) (star
   times_one : (d : ℤ) → times_on s d ≡ at_second second (is_occupied s d)
   times_one d = one_element second (times_on s d) (rising_on s d valid) (λ x c. (occurs_if_stands d x c).0)
 
-  of_occupied : (d : ℤ) → is_occupied s d ≡ true → (first ≤ℤ d) × (test d ≡ true) × IsWithin test first end d
+  of_occupied : (d : ℤ) → is_occupied s d ≡ true → (first ≤ℤ d) × (test d ≡ true) × IsUpToRangeEnd test first end d
   of_occupied d o = let h = occurs_if_stands d second (subst (λ xs. Contains xs second) (sym (times_one d)) (in_one second (is_occupied s d) o)) in
       (h.1, h.2, h.3)
 
@@ -159,7 +159,7 @@ set_of_test s test end kind start valid begins equal =
 
 module _ (s : Sketch) (test : ℤ → Bool) (end : RangeEnd) (kind : Kind) (start : ℤ)
     (one_sec : IsOneSecond s kind (second_part kind start) (day_part kind start))
-    (days : (d : ℤ) → day_part kind start ≤ℤ d → ((test d ≡ true) × IsWithin test (day_part kind start) end d) ↔ (is_occupied s d ≡ true)) where
+    (days : (d : ℤ) → day_part kind start ≤ℤ d → ((test d ≡ true) × IsUpToRangeEnd test (day_part kind start) end d) ↔ (is_occupied s d ≡ true)) where
   occurs_is_stands : (k : Kind) (t : ℤ) → OccursOnDays test end kind start k t ↔ StandsIn s k t
   occurs_is_stands k t = (
     (λ o. record {

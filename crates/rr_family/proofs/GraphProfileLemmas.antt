@@ -27,7 +27,7 @@ use Rattle.rr_pattern.proofs.MovedStartLemmas.{moved_days}
 use Rattle.rr_pattern.proofs.PatternParts.{IsCountedRange, IsFirstDay}
 use Rattle.rr_pattern.proofs.RepeatLemmas.{at_day, at_time}
 use Rattle.rr_pattern.proofs.ValidPatternLemmas.{used_members, few_intervals, counted_range}
-use Rattle.rr_family.specs.DaySets.{window_days, IsWithin, OccursOnDays, IsOneSecond}
+use Rattle.rr_family.specs.DaySets.{window_days, IsUpToRangeEnd, OccursOnDays, IsOneSecond}
 use Rattle.rr_family.specs.GraphProfile.{event_of, range_from, IsPatternOf, NoPatternIsLost, PatternHasOneSecond, EndlessPatternHasCycle}
 use Rattle.rr_family.specs.GraphProfile.{EndlessAgreementIsPattern, FiniteAgreementIsPattern}
 use Rattle.rr_family.specs.Lasting.{is_occupied, at_second, HasCycle}
@@ -39,7 +39,7 @@ use Rattle.rr_family.proofs.LastingLemmas.{endless_has_cycle, agreement_lasts}
 use Rattle.rr_family.proofs.ProfileLemmas.{occupied_again, is_there, last_is_late}
 use Rattle.rr_family.proofs.ShiftLemmas.{pattern_repeats}
 
-within_is : (pattern : Pattern) (first : ℤ) (end : RangeEnd) (d : ℤ) → IsWithinRange pattern first end d ↔ IsWithin (is_pattern_day pattern first) first end d
+within_is : (pattern : Pattern) (first : ℤ) (end : RangeEnd) (d : ℤ) → IsWithinRange pattern first end d ↔ IsUpToRangeEnd (is_pattern_day pattern first) first end d
 within_is pattern first NoEnd d = (λ h. h, λ h. h)
 within_is pattern first (EndDate last) d = (λ h. h, λ h. h)
 within_is pattern first (Numbered n) d = (λ h. h, λ h. h)

@@ -35,7 +35,7 @@ use Rattle.rr_model.specs.declared.item.Item.{Item}
 use Rattle.rr_model.specs.declared.item.Item.TheVariants.{Every, Weekday, MonthDay, Place, Month, YearDay}
 use Rattle.rr_model.specs.declared.vcal.VRule.{VRule}
 use Rattle.rr_pattern.proofs.DayCountLemmas.{at_start_second, count_between}
-use Rattle.rr_family.specs.DaySets.{window_days, IsWithin, OccursOnDays, IsOneSecond, IsLastDay}
+use Rattle.rr_family.specs.DaySets.{window_days, IsUpToRangeEnd, OccursOnDays, IsOneSecond, IsLastDay}
 use Rattle.rr_family.specs.Lasting.{is_occupied, at_second, HasCycle}
 use Rattle.rr_family.specs.Places.{many_items, from_both_ends, item_at, place_has_day}
 use Rattle.rr_family.specs.Profile.{vrule, most_family_interval, IsProfileEnd, VcalOccurrences, IsRuleOf, places_from, all_places, in_order}
@@ -73,7 +73,7 @@ module _ (rule : VRule) (kind : Kind) (start t : ℤ) where
 
   ends : (end : End) → IsProfileEnd end → (number : ℕ)
       → number ≡ count_from test (day_part kind start) (window_days (day_part kind start) (day_part kind t))
-      → IsWithinEnd end kind t number ↔ IsWithin test (day_part kind start) (range_of end) (day_part kind t)
+      → IsWithinEnd end kind t number ↔ IsUpToRangeEnd test (day_part kind start) (range_of end) (day_part kind t)
   ends Never p number e = (λ h. tt, λ h. tt)
   ends (Count n) p number e = (λ h. omega (arith, e, h), λ h. omega (arith, e, h))
   ends (Until k at) p number e = absurd p

@@ -16,10 +16,10 @@ abbrev pub window_days : ℤ → ℤ → ℕ
 window_days first last = nat_abs ((last -ℤ first) +ℤ pos 1)
 
 -- the day is not past the end, where days that pass the test count from the first one on
-abbrev pub IsWithin : (ℤ → Bool) → ℤ → RangeEnd → ℤ → Type 0
-IsWithin test first NoEnd d = ⊤
-IsWithin test first (EndDate last) d = d ≤ℤ last
-IsWithin test first (Numbered n) d = count_from test first (window_days first d) ≤ n
+abbrev pub IsUpToRangeEnd : (ℤ → Bool) → ℤ → RangeEnd → ℤ → Type 0
+IsUpToRangeEnd test first NoEnd d = ⊤
+IsUpToRangeEnd test first (EndDate last) d = d ≤ℤ last
+IsUpToRangeEnd test first (Numbered n) d = count_from test first (window_days first d) ≤ n
 
 -- t is at the start's second on a day that passes the test, from the start's day up to the end
 pub record OccursOnDays (test : ℤ → Bool) (end : RangeEnd) (kind : Kind) (start : ℤ) (k : Kind) (t : ℤ) : Type 0 where
@@ -27,7 +27,7 @@ pub record OccursOnDays (test : ℤ → Bool) (end : RangeEnd) (kind : Kind) (st
   pub same_second : second_part kind t ≡ second_part kind start
   pub not_before : day_part kind start ≤ℤ day_part kind t
   pub on_day : test (day_part kind t) ≡ true
-  pub within : IsWithin test (day_part kind start) end (day_part kind t)
+  pub within : IsUpToRangeEnd test (day_part kind start) end (day_part kind t)
 
 -- the set has one second on each of its days, and begins with this day
 pub record IsOneSecond (s : Sketch) (kind : Kind) (second : ℕ) (first : ℤ) : Type 0 where

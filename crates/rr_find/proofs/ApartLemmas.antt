@@ -19,7 +19,7 @@ use Rattle.rr_family.specs.declared.window.WindowEnd.TheVariants.{Last, Cycle}
 use Rattle.rr_family.proofs.DivisorLemmas.{divides_none, interval_divides, one_unit}
 use Rattle.rr_family.proofs.ProfileLemmas.{last_is_late, list_covers}
 use Rattle.std.proofs.lemmas.List.Elements.{recursion_from_All}
-use Rattle.rr_find.specs.Found.{HasNoRule, HasNoRuleBelow, days_up_to, found_of}
+use Rattle.rr_find.specs.Found.{HasNoRuleOfFamily, HasNoRuleBelow, days_up_to, found_of}
 use Rattle.rr_find.proofs.RuleLemmas.{IsListed, first_is, listed_rule, no_item, rule_days}
 use Rattle.rr_model.specs.Moment.{day_part}
 use Rattle.rr_model.specs.Moment.Units.{is_whole_days, unit_number}
@@ -146,7 +146,7 @@ module _ (s : Sketch) (w : Window) (f : FamilyKind) (interval : ℕ) (valid : Is
 
 pub no_rule_if_left_out : (s : Sketch) (w : Window) (divisors : Divisors) (f : FamilyKind) (freq : Freq) (interval : ℕ) → IsValidSketch s → HasWindow s w → IsNearWindow w
     → HasDivisors s w divisors → freq ≡ family_freq f → 1 ≤ interval → HasNoRuleBelow s interval → IsLeftOut w.end (divisor_of divisors freq 0) interval
-    → HasNoRule s f interval
+    → HasNoRuleOfFamily s f interval
 no_rule_if_left_out s w divisors f freq interval valid has near known is low below (inl apart) rule kind start r same_family same_interval =
     apart (subst (λ u. interval ∣ divisor_of divisors u 0) (sym is) (interval_of_rule_divides s w f interval valid has rule kind start r same_family same_interval divisors known low))
 no_rule_if_left_out s w divisors f freq interval valid has near known is low below (inr one) rule kind start r same_family same_interval =

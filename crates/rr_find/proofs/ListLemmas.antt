@@ -16,7 +16,7 @@ use Rattle.rr_family.specs.declared.window.Window.{Window}
 use Rattle.rr_family.proofs.ProfileLemmas.{list_is_taken}
 use Rattle.rr_find.specs.ByCounts.{AreTaken, IsAnswerOf, items_of}
 use Rattle.rr_find.specs.Counted.{HasMixed, HasUnsorted, IsTallied}
-use Rattle.rr_find.specs.Found.{HasNoRule, IsListOf, HasListedRule, days_up_to, found_of}
+use Rattle.rr_find.specs.Found.{HasNoRuleOfFamily, IsListOf, HasListedRule, days_up_to, found_of}
 use Rattle.rr_find.proofs.ItemOrderLemmas.{items_are}
 use Rattle.rr_find.proofs.RuleLemmas.{listed_rule, no_rule_if_unlisted, unlisted_if_given_up, window_of_days}
 use Rattle.rr_find.proofs.TakenLemmas.{in_range, taken_is, covers_if_clear, clear_if_covers}
@@ -61,7 +61,7 @@ module _ (s : Sketch) (w : Window) (f : FamilyKind) (interval days : ℕ) (valid
 
   pub no_rule_if_given_up : HasUnsorted (sort_of_day f interval w.first) (is_occupied s) w.first days
       ⊎ HasMixed (sort_of_day f interval w.first) (is_occupied s) w.first days
-      → HasNoRule s f interval
+      → HasNoRuleOfFamily s f interval
   no_rule_if_given_up lost =
       no_rule_if_unlisted s w f interval days valid has (window_of_days s w.first (family_cycle f interval) some w.end days has.end read)
       (unlisted_if_given_up s f interval w.first days lost)

@@ -42,7 +42,7 @@ use Rattle.rr_family.proofs.ProfileLemmas.{members_on_days, is_there, no_list_is
 use Rattle.rr_family.proofs.SortLemmas.{kinds_have_sorts}
 use Rattle.rr_family.proofs.TallyLemmas.{unsorted_has_no_list, mixed_has_no_list}
 use Rattle.rr_find.specs.Counted.{HasUnsorted, HasMixed, has_some_sort}
-use Rattle.rr_find.specs.Found.{HasNoRule, HasListedRule, days_up_to, end_of, found_of}
+use Rattle.rr_find.specs.Found.{HasNoRuleOfFamily, HasListedRule, days_up_to, end_of, found_of}
 
 -- the list that is taken has the occupied days of the window
 abbrev pub IsListed : Sketch → FamilyKind → ℕ → ℤ → ℕ → Type 0
@@ -72,7 +72,7 @@ first_is s w rule kind start valid has r =
 -- ---- no rule
 
 pub no_rule_if_unlisted : (s : Sketch) (w : Window) (f : FamilyKind) (interval days : ℕ) → IsValidSketch s → HasWindow s w
-    → IsWindow s w.first (family_cycle f interval) days → (IsListed s f interval w.first days → ⊥) → HasNoRule s f interval
+    → IsWindow s w.first (family_cycle f interval) days → (IsListed s f interval w.first days → ⊥) → HasNoRuleOfFamily s f interval
 no_rule_if_unlisted s w f interval days valid has window unlisted rule kind start r same_family same_interval =
     let same_first = first_is s w rule kind start valid has r in
     let window' : IsWindow s (day_part kind start) (family_cycle rule.family rule.interval) days =
@@ -168,7 +168,7 @@ module _ (s : Sketch) (first : ℤ) (c : ℕ) (some : 1 ≤ c) where
       some_none (sym (ap (λ b. cond b (Some c) None) fits) ∙ e)
 
 pub no_rule_if_no_days : (s : Sketch) (w : Window) (f : FamilyKind) (interval : ℕ) → IsValidSketch s → HasWindow s w → 1 ≤ family_cycle f interval
-    → days_up_to w.first (family_cycle f interval) w.end ≡ None → HasNoRule s f interval
+    → days_up_to w.first (family_cycle f interval) w.end ≡ None → HasNoRuleOfFamily s f interval
 no_rule_if_no_days s w f interval valid has some none rule kind start r same_family same_interval =
     fits_if_cycle s w.first (family_cycle f interval) some w.end has.end (λ endless_set. (
     subst (λ d. HasCycle s d (family_cycle f interval)) (first_is s w rule kind start valid has r)

@@ -6,7 +6,7 @@ use Rattle.std.proofs.lemmas.Bool.Decides.{nat_tests}
 use Rattle.rr_family.specs.Profile.{IsRuleOf, comes_before, kind_place, most_family_interval}
 use Rattle.rr_family.specs.Windows.{IsWindowOf}
 use Rattle.rr_family.proofs.PlaceLemmas.{one_kind}
-use Rattle.rr_find.specs.Found.{HasNoRule, HasNoRuleBefore, HasNoRuleBelow, IsFound, IsFoundAt, IsFoundOf}
+use Rattle.rr_find.specs.Found.{HasNoRuleOfFamily, HasNoRuleBefore, HasNoRuleBelow, IsFound, IsFoundAt, IsFoundOf}
 use Rattle.rr_find.specs.declared.found.Found.{Found}
 use Rattle.rr_find.proofs.RuleLemmas.{rule_days}
 use Rattle.rr_model.specs.Sets.Sketch.{IsValidSketch, StandsIn}
@@ -37,7 +37,7 @@ few_intervals family.YD = omega arith
 -- ---- one interval
 
 -- above the greatest interval of a kind no rule is looked for
-pub no_rule_above : (s : Sketch) (f : FamilyKind) (interval : ℕ) → most_family_interval f < interval → HasNoRule s f interval
+pub no_rule_above : (s : Sketch) (f : FamilyKind) (interval : ℕ) → most_family_interval f < interval → HasNoRuleOfFamily s f interval
 no_rule_above s f interval above rule kind start r same_family same_interval =
     omega (arith, above, r.few, ap most_family_interval same_family, same_interval)
 
@@ -45,7 +45,7 @@ pub none_before_first : (s : Sketch) (interval : ℕ) → HasNoRuleBefore s inte
 none_before_first s interval rule kind start r same before = omega (arith, before)
 
 pub none_before_next : (s : Sketch) (f : FamilyKind) (interval place : ℕ) → kind_place f ≡ place → HasNoRuleBefore s interval place
-    → HasNoRule s f interval
+    → HasNoRuleOfFamily s f interval
     → HasNoRuleBefore s interval (place + 1)
 none_before_next s f interval place at so_far none rule kind start r same before =
     elim (cases_eq (kind_place rule.family) place) [

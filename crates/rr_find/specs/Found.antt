@@ -26,8 +26,8 @@ IsFound P (Some found) = IsFirstRule P found.rule found.kind found.start
 -- ---- of one kind and interval
 
 -- no rule of this kind and interval has the set
-abbrev pub HasNoRule : Sketch → FamilyKind → ℕ → Type 0
-HasNoRule s f interval = (rule : VRule) (kind : Kind) (start : ℤ) → IsRuleOf (StandsIn s) rule kind start → rule.family ≡ f → rule.interval ≡ interval → ⊥
+abbrev pub HasNoRuleOfFamily : Sketch → FamilyKind → ℕ → Type 0
+HasNoRuleOfFamily s f interval = (rule : VRule) (kind : Kind) (start : ℤ) → IsRuleOf (StandsIn s) rule kind start → rule.family ≡ f → rule.interval ≡ interval → ⊥
 
 -- the rule has the set, and its items are those of the list that is taken on the window
 pub record HasListedRule (s : Sketch) (found : Found) : Type 0 where
@@ -52,12 +52,12 @@ found_of w f interval items = record {
 
 -- the items of a rule that has the set, and none exactly where no rule of this kind and interval has it
 abbrev pub IsListOf : Sketch → Window → FamilyKind → ℕ → Option (List Item) → Type 0
-IsListOf s w f interval None = HasNoRule s f interval
+IsListOf s w f interval None = HasNoRuleOfFamily s f interval
 IsListOf s w f interval (Some items) = HasListedRule s (found_of w f interval items)
 
 -- the rule of this kind and interval
 abbrev pub IsFoundOf : Sketch → FamilyKind → ℕ → Option Found → Type 0
-IsFoundOf s f interval None = HasNoRule s f interval
+IsFoundOf s f interval None = HasNoRuleOfFamily s f interval
 IsFoundOf s f interval (Some found) = HasListedRule s found × (found.rule.family ≡ f) × (found.rule.interval ≡ interval)
 
 -- how many days are read: up to the last one, or one cycle where it can be the set's

@@ -20,13 +20,13 @@ use Rattle.rr_model.specs.declared.rule.End.TheVariants.{Never, Until, Count, Bo
 use Rattle.rr_model.specs.declared.rule.Rule.{Rule}
 use Rattle.rr_model.specs.declared.rule.Series.{Series}
 use Rattle.rr_fold.proofs.DatesFromLemmas.{among_from, none_among, none_among_from, start_adds_nothing}
-use Rattle.rr_fold.specs.Folding.{HasNoneBefore}
+use Rattle.rr_fold.specs.Folding.{HasNoDayBefore}
 use Rattle.rr_fold.specs.Rules.{HasRules, dates_from, given_from, kept_from, members_of_rules}
 
 -- ---- rules
 
 -- an end takes nothing in
-pub ended_early : (kind : Kind) (end : End) (a : Tree) (first : ℤ) → HasNoneBefore a first → HasNoneBefore (ended kind end a) first
+pub ended_early : (kind : Kind) (end : End) (a : Tree) (first : ℤ) → HasNoDayBefore a first → HasNoDayBefore (ended kind end a) first
 ended_early kind Never a first none d s l = none d s l
 ended_early kind (Until other at) a first none d s l = let z = none d s l in rw z refl
 ended_early kind (Count count) a first none d s l = let z = none d s l in rw z refl
@@ -34,7 +34,7 @@ ended_early kind (Both other at count) a first none d s l = let z = none d s l i
 
 module _ (kind : Kind) (start : ℤ) where
   -- no member lies before the start's day
-  pub members_early : (rule : Rule) → HasNoneBefore (members_of kind start rule) (day_part kind start)
+  pub members_early : (rule : Rule) → HasNoDayBefore (members_of kind start rule) (day_part kind start)
   members_early rule = ended_early kind rule.end (chosen_of rule kind start) (day_part kind start) (λ d s l. before_start rule kind start d s l)
 
   rules_early : (rules : List Rule) (d : ℤ) (s : ℕ) → d <ℤ day_part kind start → some_stands_at (members_of_all kind start rules) d s ≡ false
@@ -88,7 +88,7 @@ pub no_excluded : (series : Series) (first : ℤ) → series.excluded ≡ [] →
     → stands_at (given_from series first) d s ≡ stands_at (kept_from series first) d s
 no_excluded series first none d s = rw none (sym (and-true (stands_at (given_from series first) d s)))
 
-module _ (series : Series) (first end : ℤ) (sound : IsSound series) (has : HasRules series first end) (early : HasNoneBefore (tree_of series) first) where
+module _ (series : Series) (first end : ℤ) (sound : IsSound series) (has : HasRules series first end) (early : HasNoDayBefore (tree_of series) first) where
   early_alike : (d : ℤ) (s : ℕ) → d <ℤ first
       → stands_at (tree_of series) d s ≡ (stands_at (kept_from series first) d s && not (is_among series.kind (dates_from series.kind first series.minus) d s))
   early_alike d s l =

@@ -10,8 +10,8 @@ use Rattle.rr_model.specs.Series.Limits.{IsTimeSetBefore}
 use Rattle.rr_model.specs.Sets.Tree.{Tree, stands_at}
 use Rattle.rr_fold.specs.Folding.{AreNumbered, IsFoldedTo}
 use Rattle.rr_fold.specs.Combined.{AreCombined, Has, IsCombinationOf, holds}
-use Rattle.rr_fold.specs.declared.combined.Op.{Op}
-use Rattle.rr_fold.specs.declared.combined.Op.TheVariants.{Union, Minus}
+use Rattle.rr_fold.specs.declared.combination.Op.{Op}
+use Rattle.rr_fold.specs.declared.combination.Op.TheVariants.{Union, Minus}
 
 -- what passes both tests together is what is in both sets together
 has_is : (op : Op) (x y : List ℕ) (s : ℕ) (a b : Bool) → (Contains x s ↔ (a ≡ true)) → (Contains y s ↔ (b ≡ true)) → Has op x y s ↔ (holds op a b ≡ true)

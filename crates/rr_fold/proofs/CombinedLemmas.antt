@@ -17,8 +17,8 @@ use Rattle.rr_lazy.specs.Tables.{same_set}
 use Rattle.rr_days.specs.Growing.{IsGrown}
 use Rattle.rr_runs.specs.Pages.{IsZeroFrom}
 use Rattle.rr_fold.specs.Combined.{AreCombinationsOf, AreCombined, AreCombinedTo, AreLists, AreShapes, AreUsed, Has, IsCombinationOf, IsCombinedTo, IsFreeTo}
-use Rattle.rr_fold.specs.declared.combined.Op.{Op}
-use Rattle.rr_fold.specs.declared.combined.Op.TheVariants.{Union, Minus}
+use Rattle.rr_fold.specs.declared.combination.Op.{Op}
+use Rattle.rr_fold.specs.declared.combination.Op.TheVariants.{Union, Minus}
 
 module _ (old new : List (List ℕ)) (more : Extends old new) where
   -- the empty set keeps its number

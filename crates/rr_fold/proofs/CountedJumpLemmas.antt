@@ -4,7 +4,7 @@ use Rattle.std.proofs.Math.Nat.{div-mul-le_self, mul-le-mul}
 use Rattle.rr_check.proofs.SeriesCycleLemmas.{rule_cycle_some}
 use Rattle.rr_iter.specs.Counts.{IsCounted}
 use Rattle.rr_iter.specs.Ends.{IsSoundRule, before_day}
-use Rattle.rr_iter.specs.declared.counts.Counted.{Counted}
+use Rattle.rr_iter.specs.declared.counts.CycleCount.{CycleCount}
 use Rattle.rr_model.specs.Moment.{day_part}
 use Rattle.rr_model.specs.Rule.Cycle.{rule_cycle}
 use Rattle.rr_model.specs.Sets.Tree.{chosen_of}
@@ -18,7 +18,7 @@ shares_within c share n h =
     let m : c * share ≤ n / share * share = mul-le-mul h (omega arith) in
     omega (arith, m, div-mul-le_self n share)
 
-module _ (rule : Rule) (kind : Kind) (start : ℤ) (count cycle days : ℕ) (counted : Counted) (sound : IsSoundRule kind start rule)
+module _ (rule : Rule) (kind : Kind) (start : ℤ) (count cycle days : ℕ) (counted : CycleCount) (sound : IsSoundRule kind start rule)
     (known : IsCounted rule kind start count counted) (is_cycle : cycle ≡ rule_cycle rule) (longer : cycle < days) where
   pub some_days : 1 ≤ cycle
   some_days = rw is_cycle (rule_cycle_some rule sound.valid.interval_low)

@@ -23,7 +23,7 @@ use Rattle.rr_model.specs.declared.refusal.Refusal.TheVariants.{TooManyMoments}
 use Rattle.rr_shapes.specs.Numbering.{IsNumbering}
 use Rattle.rr_shapes.specs.Placing.{IsPlaced, IsTooMany}
 use Rattle.rr_days.proofs.PlacedLemmas.{at_number, grown, keeps}
-use Rattle.rr_fold.specs.Folding.{IsNumbered, AreNumbered, HasNoneBefore, IsFoldedTo, IsPut}
+use Rattle.rr_fold.specs.Folding.{IsNumbered, AreNumbered, HasNoDayBefore, IsFoldedTo, IsPut}
 
 -- a set of seconds that do not stand is empty
 pub no_second : (test : ℕ → Bool) (times : List ℕ) → IsSetOf nat_lt times (λ s. IsTrue (test s)) → ((s : ℕ) → test s ≡ false) → times ≡ []
@@ -117,7 +117,7 @@ module _ (tree : Tree) (first position : ℤ) (sets : List (List ℕ)) (numbers 
     }
 
 -- nothing is folded yet
-pub nothing_folded : (tree : Tree) (first position : ℤ) → HasNoneBefore tree first → position ≤ℤ first → IsFoldedTo tree first position ([] ∷ []) []
+pub nothing_folded : (tree : Tree) (first position : ℤ) → HasNoDayBefore tree first → position ≤ℤ first → IsFoldedTo tree first position ([] ∷ []) []
 nothing_folded tree first position early l = record {
   within = omega arith;
   empty = refl;

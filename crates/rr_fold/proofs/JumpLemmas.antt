@@ -19,7 +19,7 @@ use Rattle.rr_model.specs.Series.Limits.{IsTimeSetBefore, HasTooManyMoments}
 use Rattle.rr_model.specs.Sets.Counting.{count_to}
 use Rattle.rr_model.specs.Sets.Tree.{Tree, first_n, stands_at}
 use Rattle.rr_model.proofs.CountLemmas.{count_seconds-mono}
-use Rattle.rr_fold.specs.Folding.{IsNumbered, HasNoneBefore, IsFoldedTo}
+use Rattle.rr_fold.specs.Folding.{IsNumbered, HasNoDayBefore, IsFoldedTo}
 use Rattle.rr_fold.specs.Jump.{IsSpliced}
 use Rattle.rr_fold.proofs.FoldLemmas.{no_second}
 
@@ -83,7 +83,7 @@ module _ (a : Tree) (first : ℤ) (cycle each : ℕ) (begun : IsFromYearOne firs
 
     -- ---- the folded days
 
-    module _ (tree : Tree) (same : (d : ℤ) (s : ℕ) → stands_at tree d s ≡ stands_at (first_n a count) d s) (early : HasNoneBefore tree first)
+    module _ (tree : Tree) (same : (d : ℤ) (s : ℕ) → stands_at tree d s ≡ stands_at (first_n a count) d s) (early : HasNoDayBefore tree first)
         (none : (d : ℤ) (s : ℕ) → d <ℤ first → stands_at a d s ≡ false) where
       set_moved : (times : List ℕ) (d e : ℤ) → ((s : ℕ) → stands_at tree e s ≡ stands_at (first_n a left) d s)
           → IsSetOf nat_lt times (λ s. IsTrue (stands_at (first_n a left) d s))

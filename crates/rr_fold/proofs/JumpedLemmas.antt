@@ -14,7 +14,7 @@ use Rattle.rr_model.specs.Series.Tree.{ended, members_of}
 use Rattle.rr_model.specs.Sets.Tree.{chosen_of, first_n, stands_at}
 use Rattle.rr_model.specs.declared.kind.Kind.{Kind}
 use Rattle.rr_model.specs.declared.rule.Rule.{Rule}
-use Rattle.rr_fold.specs.Folding.{HasNoneBefore, IsFoldedTo}
+use Rattle.rr_fold.specs.Folding.{HasNoDayBefore, IsFoldedTo}
 use Rattle.rr_fold.specs.Jump.{IsJump, IsSpliced}
 use Rattle.rr_fold.specs.declared.jump.Jump.{Jump}
 use Rattle.rr_fold.proofs.ByRulesLemmas.{members_early}
@@ -39,7 +39,7 @@ module _ (rule : Rule) (kind : Kind) (start end : ℤ) (jump : Jump) (sound : Is
       less_back end end' left (jump.cycles * jump.cycle) same is (omega (arith, ints, j.whole, b.0)) (omega (arith, ints, high)) left_out
 
   -- no day before the start's is occupied
-  pub walked_early : HasNoneBefore (first_n (chosen_of rule kind start) jump.count) (day_part kind start)
+  pub walked_early : HasNoDayBefore (first_n (chosen_of rule kind start) jump.count) (day_part kind start)
   walked_early d s l = let z = before_start rule kind start d s l in rw z refl
 
   pub jumped_folded : (to : ℤ) (sets : List (List ℕ)) (numbers new : List ℕ) → to +ℤ pos (jump.cycles * jump.cycle) ≡ end

@@ -23,7 +23,7 @@ use Rattle.rr_model.specs.Sets.Tree.{some_stands_at, IsOfKind, AreOfKind}
 use Rattle.rr_model.specs.declared.kind.Kind.{Kind}
 use Rattle.rr_model.specs.declared.kind.Kind.TheVariants.{Days, Moments}
 use Rattle.rr_model.specs.declared.rule.Series.{Series}
-use Rattle.rr_fold.specs.Folding.{HasNoneBefore}
+use Rattle.rr_fold.specs.Folding.{HasNoDayBefore}
 
 of_kind : (k kind : Kind) (s : ℕ) → kind ≡ k → has_second kind s ≡ true → has_second k s ≡ true
 of_kind k kind s e h = subst (λ x. has_second x s ≡ true) e h
@@ -75,7 +75,7 @@ tree_of_kind series sound = whole_one_kind series _ series.minus sound refl refl
 
 -- no day before one is occupied that is not after the start's and those of the dates
 pub none_early : TreeStandsForSeries → (series : Series) (first : ℤ) → IsSound series → first ≤ℤ day_part series.kind series.start
-    → ((t : ℤ) → Contains series.plus t → first ≤ℤ day_part series.kind t) → HasNoneBefore (tree_of series) first
+    → ((t : ℤ) → Contains series.plus t → first ≤ℤ day_part series.kind t) → HasNoDayBefore (tree_of series) first
 none_early law series first sound order plus d s l =
     elim (stands_at (tree_of series) d s) as (λ b. stands_at (tree_of series) d s ≡ b → b ≡ false) [
       | false ↦ λ e. refl

@@ -6,14 +6,14 @@ use Rattle.std.proofs.lemmas.Bool.{false≢true}
 use Rattle.rr_model.specs.Rule.Validity.{is_absent}
 use Rattle.std.proofs.lemmas.List.{get_or_default, take_all, take_more}
 use Rattle.rr_iter.specs.Counts.{AreCounts, IsCountOf}
-use Rattle.rr_iter.specs.declared.counts.Counted.{Counted}
+use Rattle.rr_iter.specs.declared.counts.CycleCount.{CycleCount}
 use Rattle.rr_model.specs.Series.Tree.{members_of}
 use Rattle.rr_model.specs.declared.kind.Kind.{Kind}
 use Rattle.rr_model.specs.declared.rule.Rule.{Rule}
 use Rattle.rr_fold.specs.Folding.{IsFoldedTo}
 use Rattle.rr_fold.specs.Rules.{members_of_rules}
 use Rattle.rr_fold.specs.Combined.{AreCombined}
-use Rattle.rr_fold.specs.declared.combined.Op.TheVariants.{Union}
+use Rattle.rr_fold.specs.declared.combination.Op.TheVariants.{Union}
 use Rattle.rr_fold.proofs.ByRulesLemmas.{first_rule, next_rule}
 use Rattle.rr_fold.proofs.SameTreeLemmas.{folded_same}
 use Rattle.rr_fold.proofs.CombinedFoldLemmas.{combined_folded}
@@ -29,8 +29,8 @@ pub rule_at : (P : Rule → Type 0) (rules xs : List Rule) (i : ℕ) (rule : Rul
 rule_at P rules xs i rule is all l at = subst P (sym at) ((subst (All P) (sym is) all) i rule l)
 
 -- what was counted of a rule stands at its place, of the start as it is told
-pub count_at : (kind : Kind) (start told : ℤ) → told ≡ start → (rules : List Rule) (counts : List (Option Counted)) → AreCounts kind start rules counts
-    → (k : ℕ) (rule : Rule) (d : Option Counted) → k < length rules → rule ≡ get_or rules k rule → IsCountOf kind told rule (get_or counts k d)
+pub count_at : (kind : Kind) (start told : ℤ) → told ≡ start → (rules : List Rule) (counts : List (Option CycleCount)) → AreCounts kind start rules counts
+    → (k : ℕ) (rule : Rule) (d : Option CycleCount) → k < length rules → rule ≡ get_or rules k rule → IsCountOf kind told rule (get_or counts k d)
 count_at kind start told is rules counts are k rule d l at =
     let same : get_or counts k None ≡ get_or counts k d = get_or_default counts k None d (omega (arith, l, are.whole)) in
     subst (λ t. IsCountOf kind t rule (get_or counts k d)) (sym is) (subst (IsCountOf kind start rule) same

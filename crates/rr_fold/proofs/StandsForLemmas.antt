@@ -20,7 +20,7 @@ use Rattle.rr_model.proofs.WholeLemmas.{floor_mod_below}
 use Rattle.rr_model.proofs.RisingSetLemmas.{set_empty, set_same}
 use Rattle.rr_days.proofs.SketchedLemmas.{times_early, times_before, times_after}
 use Rattle.rr_days.specs.Sketched.{sketch_of}
-use Rattle.rr_fold.specs.Folding.{AreNumbered, HasNoneBefore}
+use Rattle.rr_fold.specs.Folding.{AreNumbered, HasNoDayBefore}
 
 -- ---- the days of a tree
 
@@ -31,7 +31,7 @@ parts_of a p = omega (arith, div-add-mod' a p)
 module _ (kind : Kind) (tree : Tree) (sets : List (List ℕ)) (numbers : List ℕ) (first settled : ℤ) (period n : ℕ) (some : 1 ≤ period)
     (at : settled ≡ first +ℤ pos n)
     (full : length numbers ≡ n + period) (numbered : AreNumbered tree first sets numbers) (repeats : RepeatsAfter tree settled period)
-    (before : HasNoneBefore tree first) where
+    (before : HasNoDayBefore tree first) where
   -- a day of the settled time repeats the first period's
   repeats_times : (k : ℕ) (d : ℤ) (s : ℕ) → settled ≤ℤ d → stands_at tree (d +ℤ pos (k * period)) s ≡ stands_at tree d s
   repeats_times zero d s l = let e : d +ℤ pos (0 * period) ≡ d = omega (arith, ints) in rw e refl
@@ -81,7 +81,7 @@ module _ (kind : Kind) (tree : Tree) (sets : List (List ℕ)) (numbers : List �
 -- The sketch of the folded days of a series stands for the series.
 pub sketch_stands_for : TreeStandsForSeries → SeriesRepeats → (series : Series) (sets : List (List ℕ)) (numbers : List ℕ) (first settled : ℤ) (n : ℕ)
     → IsSound series → IsPast series settled → 1 ≤ series_cycle series → settled ≡ first +ℤ pos n
-    → length numbers ≡ n + series_cycle series → AreNumbered (tree_of series) first sets numbers → HasNoneBefore (tree_of series) first
+    → length numbers ≡ n + series_cycle series → AreNumbered (tree_of series) first sets numbers → HasNoDayBefore (tree_of series) first
     → StandsFor (sketch_of series.kind sets numbers first settled (series_cycle series)) (Occurs series)
 sketch_stands_for stands repeats series sets numbers first settled n sound past some at full numbered before k t =
     let tree = tree_of series in

@@ -6,7 +6,7 @@ use Rattle.std.proofs.lemmas.List.{get_or-append-add, get_or-replicate, length-r
 use Rattle.std.proofs.lemmas.Option.{slice_get_within}
 use Rattle.std.specs.Prelude.{Some, replicate}
 use Rattle.rr_model.specs.Sets.Tree.{Tree}
-use Rattle.rr_fold.specs.Folding.{HasNoneBefore, IsFilledUp, IsPut}
+use Rattle.rr_fold.specs.Folding.{HasNoDayBefore, IsFilledUp, IsPut}
 use Rattle.rr_fold.specs.Numbering.{IsKnown}
 use Rattle.rr_fold.specs.Walks.{IsNewWalk, IsWalk}
 use Rattle.rr_fold.specs.declared.walk.Walk.{Walk}
@@ -17,7 +17,7 @@ pub nothing_known : (table sets : List (List ℕ)) → IsKnown table sets []
 nothing_known table sets n k e = absurd (omega (arith, slice_get_within [] n (Some k) e))
 
 -- a new walk, before a position that is not past the first day
-pub nothing_walked : (tree : Tree) (first position : ℤ) (walk : Walk) → IsNewWalk walk → HasNoneBefore tree first → position ≤ℤ first
+pub nothing_walked : (tree : Tree) (first position : ℤ) (walk : Walk) → IsNewWalk walk → HasNoDayBefore tree first → position ≤ℤ first
     → IsWalk tree first position walk
 nothing_walked tree first position walk new early l = record {
   known = rw new.known (nothing_known walk.numbering.sets walk.days.shapes);

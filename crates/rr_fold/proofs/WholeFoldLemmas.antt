@@ -21,7 +21,7 @@ use Rattle.rr_model.proofs.YearLemmas.{four_digit_bounds}
 use Rattle.rr_num.proofs.DivisorLemmas.{lcm_some}
 use Rattle.rr_check.proofs.SeriesCycleLemmas.{have_intervals, rules_cycle_some}
 use Rattle.rr_fold.specs.Folding.{IsFoldedTo}
-use Rattle.rr_fold.specs.Judged.{all_limits, IsJudged}
+use Rattle.rr_fold.specs.Judged.{all_limits, IsFoldJudged}
 use Rattle.rr_days.specs.Sketched.{IsWholeFold}
 use Rattle.rr_fold.proofs.KindLemmas.{is_time_set, stands_second, tree_of_kind}
 
@@ -66,7 +66,7 @@ module _ (series : Series) (few : series_cycle series ≤ MAX_CYCLE_DAYS) where
 
   -- a rule counts too far
   pub judged_counts : (X : Type 0) (fault : Fault) → RefusedExactlyWhere {X = ℤ} (IsCountedTooFar series) CountedTooFar (Err fault)
-      → IsJudged {X = X} series (Err fault)
+      → IsFoldJudged {X = X} series (Err fault)
   judged_counts X (Refused refusal) r = inr (within_cycle, inl ((refl, r.1), ap Some r.0))
   judged_counts X NoMemory r = tt
 
@@ -77,7 +77,7 @@ module _ (series : Series) (few : series_cycle series ≤ MAX_CYCLE_DAYS) where
 
     -- moments are judged last
     pub judged_moments : (X : Type 0) (result : Result X Fault) → RefusedExactlyWhere (IsTooManyMoments series settled) TooManyMoments result
-        → IsJudged series result
+        → IsFoldJudged series result
     judged_moments X (Ok x) r =
         inr (within_cycle, inr ((λ c. near c.1), inr ((λ m. r (subst (IsTooManyMoments series) (one_settled m.1.0 m.1.1) m.1.2)), refl)))
     judged_moments X (Err (Refused refusal)) r = inr (within_cycle, inr ((λ c. near c.1), inl ((refl, (settled, settled_is, r.1)), ap Some r.0)))

@@ -5,10 +5,10 @@ use Rattle.rr_model.specs.Sets.Sizes.{total_size}
 use Rattle.rr_model.specs.declared.limits.TheConstants.{MAX_SECONDS}
 use Rattle.rr_runs.specs.Pages.{IsZeroFrom}
 use Rattle.rr_shapes.specs.declared.unions.Pair.{Pair}
-use Rattle.rr_fold.specs.declared.combined.CombinedSets.{CombinedSets}
-use Rattle.rr_fold.specs.declared.combined.FreeTo.{FreeTo}
-use Rattle.rr_fold.specs.declared.combined.Op.{Op}
-use Rattle.rr_fold.specs.declared.combined.Op.TheVariants.{Union, Minus}
+use Rattle.rr_fold.specs.declared.combination.CombinedSets.{CombinedSets}
+use Rattle.rr_fold.specs.declared.combination.FreeTo.{FreeTo}
+use Rattle.rr_fold.specs.declared.combination.Op.{Op}
+use Rattle.rr_fold.specs.declared.combination.Op.TheVariants.{Union, Minus}
 use Rattle.rr_fold.specs.declared.folded_days.FoldedDays.{FoldedDays}
 
 -- a second is in what two sets are combined into: in either, or in the first and not in the second

@@ -21,8 +21,8 @@ abbrev pub AreNumbered : Tree → ℤ → List (List ℕ) → List ℕ → Type 
 AreNumbered tree first sets numbers = (k : ℕ) → k < length numbers → IsNumbered sets (get_or numbers k 0) (stands_at tree (first +ℤ pos k))
 
 -- no day before this one is occupied
-abbrev pub HasNoneBefore : Tree → ℤ → Type 0
-HasNoneBefore tree first = (d : ℤ) (s : ℕ) → d <ℤ first → stands_at tree d s ≡ false
+abbrev pub HasNoDayBefore : Tree → ℤ → Type 0
+HasNoDayBefore tree first = (d : ℤ) (s : ℕ) → d <ℤ first → stands_at tree d s ≡ false
 
 -- Up to the position the days from the first one on are folded: those of the list by their numbers, and the others are not occupied.
 -- The set of number 0 is empty, and every other set is that of a day before the position.
@@ -30,7 +30,7 @@ pub record IsFoldedTo (tree : Tree) (first position : ℤ) (sets : List (List �
   pub within : 0 < length sets
   pub empty : get_or sets 0 [] ≡ []
   pub few : total_size sets ≤ MAX_SECONDS
-  pub early : HasNoneBefore tree first
+  pub early : HasNoDayBefore tree first
   pub numbered : AreNumbered tree first sets numbers
   pub reached : 1 ≤ length numbers → (first +ℤ pos (length numbers)) ≤ℤ position
   pub rest : HasNone tree (first +ℤ pos (length numbers)) position

@@ -10,7 +10,7 @@ abbrev pub all_limits : Limits
 all_limits = record { cycle = true; counts = true; moments = true }
 
 -- The answer is by the first limit that the series goes beyond, but out of memory may come in place of each.
-abbrev pub IsJudged : {X : Type 0} → Series → Result X Fault → Type 0
-IsJudged series (Ok x) = IsLimitRefusal all_limits series None
-IsJudged series (Err (Refused refusal)) = IsLimitRefusal all_limits series (Some refusal)
-IsJudged series (Err NoMemory) = ⊤
+abbrev pub IsFoldJudged : {X : Type 0} → Series → Result X Fault → Type 0
+IsFoldJudged series (Ok x) = IsLimitRefusal all_limits series None
+IsFoldJudged series (Err (Refused refusal)) = IsLimitRefusal all_limits series (Some refusal)
+IsFoldJudged series (Err NoMemory) = ⊤

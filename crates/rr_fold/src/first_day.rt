@@ -4,14 +4,14 @@ ghost use Rattle.rr_model.specs.Bounds.{first_day_of_all};
 ghost use Rattle.rr_model.specs.Moment.{day_part};
 ghost use Rattle.rr_model.specs.Series.Soundness.{IsSound};
 ghost use Rattle.rr_model.specs.Series.Tree.{tree_of};
-ghost use Rattle.rr_fold.specs.Folding.{HasNoneBefore};
+ghost use Rattle.rr_fold.specs.Folding.{HasNoDayBefore};
 
 use rr_model::{Series, day_part};
 
 /// The earlier of the day of the start and the day of the first date added: no day before it is occupied.
 pub fn first_day(series: &Series) -> i64
     requires { IsSound series.now }
-    ensures early { HasNoneBefore (tree_of series.now) result }
+    ensures early { HasNoDayBefore (tree_of series.now) result }
     ensures low { first_day_of_all ≤ℤ result }
     ensures order { result ≤ℤ day_part series.now.kind series.now.start }
 {

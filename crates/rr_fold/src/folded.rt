@@ -10,7 +10,7 @@ ghost use Rattle.rr_model.specs.declared.refusal.Refusal.TheVariants.{TooManyMom
 ghost use Rattle.rr_model.specs.declared.limits.TheConstants.{MAX_CYCLE_DAYS};
 ghost use Rattle.rr_iter.specs.Counts.{AreCountsOf};
 ghost use Rattle.rr_days.specs.Sequence.{sketch};
-ghost use Rattle.rr_fold.specs.Judged.{IsJudged};
+ghost use Rattle.rr_fold.specs.Judged.{IsFoldJudged};
 
 use crate::first_day::first_day;
 use crate::folded_days::folded_days;
@@ -40,7 +40,7 @@ pub fn fold(alloc: Global, series: &Checked) -> Result<Folded, Fault>
     ensures settled { IfOk result (λ f. IsSettledDay series.now (sketch f).settled) }
     ensures near { IfOk result (λ f. (sketch f).settled ≤ℤ pos 20_000_000) }
     ensures period { IfOk result (λ f. (sketch f).period ≡ series_cycle series.now) }
-    ensures judged { IsJudged series.now result }
+    ensures judged { IsFoldJudged series.now result }
 {
     match settled_day_and_counts(alloc, series) {
         Ok(settled) => folded_to(alloc, series, settled.day, &settled.counts),

@@ -1,14 +1,15 @@
 // The days of a series, folded into numbers of time sets.
-ghost use Rattle.std.specs.Prelude.{◌≡◌, ◌+◌, ◌≤◌, IfOk, List, ℕ, length, pos, neg_ℤ, ◌≤ℤ◌, ◌<ℤ◌, ◌+ℤ◌};
+ghost use Rattle.std.specs.Prelude.{◌≡◌, ◌+◌, ◌≤◌, IfOk, List, ℕ, length, pos, ◌≤ℤ◌, ◌<ℤ◌, ◌+ℤ◌};
 ghost use Rattle.rr_model.specs.Bounds.{first_day_of_all};
 ghost use Rattle.rr_model.specs.Series.Tree.{tree_of};
 ghost use Rattle.rr_iter.specs.Counts.{AreCountsOf};
 ghost use Rattle.rr_lazy.specs.Next.{IsUnasked};
-ghost use Rattle.rr_fold.specs.Folding.{AreDaysOf, HasNoneBefore, RefusesTooMany};
+ghost use Rattle.rr_fold.specs.Folding.{AreDaysOf, HasNoDayBefore, RefusesTooMany};
 
 use crate::rules::{days_by_rules, goes_by_rules};
 use crate::walk::Walk;
 use rr_check::Checked;
+use rr_days::days_between;
 use rr_iter::{Counts, occurrences};
 use rr_lazy::Lazy;
 use rr_model::Fault;
@@ -38,7 +39,7 @@ pub fn folded_days(
     requires low { first_day_of_all ≤ℤ first }
     requires order { first <ℤ end }
     requires high { end ≤ℤ pos 40_000_000 }
-    requires early { HasNoneBefore (tree_of series.now) first }
+    requires early { HasNoDayBefore (tree_of series.now) first }
     ensures folded { IfOk result (AreDaysOf (tree_of series.now) first end) }
     ensures whole { IfOk result (λ days. end ≡ first +ℤ pos (length days.numbers)) }
     ensures refused { RefusesTooMany (tree_of series.now) end result }
@@ -56,7 +57,7 @@ fn days_by_walk(alloc: Global, series: &Checked, first: i64, end: i64) -> Result
     requires low { first_day_of_all ≤ℤ first }
     requires order { first <ℤ end }
     requires high { end ≤ℤ pos 40_000_000 }
-    requires early { HasNoneBefore (tree_of series.now) first }
+    requires early { HasNoDayBefore (tree_of series.now) first }
     ensures folded { IfOk result (AreDaysOf (tree_of series.now) first end) }
     ensures whole { IfOk result (λ days. end ≡ first +ℤ pos (length days.numbers)) }
     ensures refused { RefusesTooMany (tree_of series.now) end result }
@@ -77,7 +78,7 @@ pub(crate) fn days_of_lazy<L: Lazy + Drop>(
     requires high { end ≤ℤ pos 40_000_000 }
     requires unasked { IsUnasked (L.position lazy) }
     requires knows { (sets : List (List ℕ)) → L.knows lazy sets }
-    requires early { HasNoneBefore (L.tree lazy) first }
+    requires early { HasNoDayBefore (L.tree lazy) first }
     ensures folded { IfOk result (AreDaysOf (L.tree lazy) first end) }
     ensures whole { IfOk result (λ days. end ≡ first +ℤ pos (length days.numbers)) }
     ensures refused { RefusesTooMany (L.tree lazy) end result }
@@ -88,14 +89,4 @@ pub(crate) fn days_of_lazy<L: Lazy + Drop>(
         Ok(()) => Ok(walk.days),
         Err(fault) => Err(fault),
     }
-}
-
-// How many days lie from one day to another.
-pub(crate) fn days_between(first: i64, day: i64) -> usize
-    requires order { first ≤ℤ day }
-    requires first { neg_ℤ (pos 3_000_000_000_000) ≤ℤ first }
-    requires day { day ≤ℤ pos 3_000_000_000_000 }
-    ensures { day ≡ first +ℤ pos result }
-{
-    (day - first) as usize
 }

@@ -7,8 +7,9 @@ ghost use Rattle.rr_iter.specs.Ends.{IsSoundRule};
 ghost use Rattle.rr_fold.specs.Jump.{AreWholeCycles, IsJump, IsSpliced};
 ghost use Rattle.rr_fold.specs.Rules.{AreDaysOfRule};
 
-use crate::folded_days::{FoldedDays, days_between, days_of_lazy};
-use rr_iter::{Counted, EndedLazy};
+use crate::folded_days::{FoldedDays, days_of_lazy};
+use rr_days::days_between;
+use rr_iter::{CycleCount, EndedLazy};
 use rr_lazy::FirstN;
 use rr_model::{Fault, Kind, NoMemory, Rule, day_part};
 use rr_num::day_cycle;
@@ -36,7 +37,7 @@ pub fn days_counted(
     kind: Kind,
     start: i64,
     count: u64,
-    counted: Option<Counted>,
+    counted: Option<CycleCount>,
     end: i64,
 ) -> Result<FoldedDays, Fault>
     requires sound { IsSoundRule kind start rule.now }
@@ -113,7 +114,7 @@ fn jump_of(
     kind: Kind,
     start: i64,
     count: u64,
-    counted: Counted,
+    counted: CycleCount,
     end: i64,
 ) -> Option<Jump>
     requires sound { IsSoundRule kind start rule.now }

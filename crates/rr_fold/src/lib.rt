@@ -1,7 +1,7 @@
 //! A series as a sequence of days that repeats.
 #![tactic(auto)]
 
-mod combined;
+mod combination;
 mod dates;
 mod first_day;
 mod folded;

@@ -4,7 +4,7 @@ ghost use Rattle.rr_model.specs.Answers.{RefusedExactlyWhere};
 ghost use Rattle.rr_model.specs.Sets.Sizes.{total_size};
 ghost use Rattle.rr_model.specs.declared.limits.TheConstants.{MAX_SECONDS};
 ghost use Rattle.rr_model.specs.declared.refusal.Refusal.TheVariants.{TooManyMoments};
-ghost use Rattle.rr_lazy.specs.Next.{IsWithin};
+ghost use Rattle.rr_lazy.specs.Next.{IsInTable};
 ghost use Rattle.rr_shapes.specs.Placing.{IsPlaced};
 ghost use Rattle.rr_fold.specs.Numbering.{IsKnown, IsKnownFor, IsOneTooMany, IsWidened, times_of};
 
@@ -47,7 +47,7 @@ impl Numbering {
         found: OccupiedDay,
         shapes: &mut Shapes,
     ) -> Result<FoldedSetId, Fault>
-        requires within { IsWithin self.old.sets found }
+        requires within { IsInTable self.old.sets found }
         requires known { IsKnown self.old.sets shapes.old self.old.known.items }
         ensures same { self.new.sets ≡ self.old.sets }
         ensures known { IsKnown self.new.sets shapes.new self.new.known.items }

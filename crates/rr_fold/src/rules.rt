@@ -8,16 +8,17 @@ ghost use Rattle.rr_model.specs.Series.Soundness.{IsSound};
 ghost use Rattle.rr_model.specs.Series.Tree.{tree_of};
 ghost use Rattle.rr_iter.specs.Counts.{AreCounts, AreCountsOf, IsCountOf};
 ghost use Rattle.rr_iter.specs.Ends.{IsSoundRule};
-ghost use Rattle.rr_fold.specs.Folding.{AreDaysOf, HasNoneBefore};
+ghost use Rattle.rr_fold.specs.Folding.{AreDaysOf, HasNoDayBefore};
 ghost use Rattle.rr_fold.specs.Rules.{AreDaysChosen, AreDaysOfRule, AreEndless, HasRules, given_from, kept_from, members_of_rules};
 
-use crate::combined::{Op, combined};
+use crate::combination::{Op, combination_of};
 use crate::dates::{days_of_dates, led_by_free};
-use crate::folded_days::{FoldedDays, days_between, days_of_lazy};
+use crate::folded_days::{FoldedDays, days_of_lazy};
 use crate::jump::{days_counted, days_ended};
 use crate::years::{days_by_years, year_period};
 use rr_check::Checked;
-use rr_iter::{Counted, Counts};
+use rr_days::days_between;
+use rr_iter::{Counts, CycleCount};
 use rr_model::{End, Fault, Kind, Rule, Series, day_part};
 use rr_walk::RuleLazy;
 use std::alloc::Global;
@@ -102,7 +103,7 @@ pub fn days_by_rules(
     requires rules { HasRules series.now first end }
     requires low { first_day_of_all ≤ℤ first }
     requires high { end ≤ℤ pos 40_000_000 }
-    requires early { HasNoneBefore (tree_of series.now) first }
+    requires early { HasNoDayBefore (tree_of series.now) first }
     ensures folded { IfOk result (AreDaysOf (tree_of series.now) first end) }
     ensures whole { IfOk result (λ days. end ≡ first +ℤ pos (length days.numbers)) }
 {
@@ -112,7 +113,7 @@ pub fn days_by_rules(
         return Ok(days);
     }
     let out = days_of_dates(alloc, given.kind, &given.minus, first, end)?;
-    combined(alloc, Op::Minus, &days, &out)
+    combination_of(alloc, Op::Minus, &days, &out)
 }
 
 // The days of the rules and of the dates added from one on and below another, without those of the excluded rules.
@@ -146,7 +147,7 @@ fn kept_days(
         first,
         end,
     )?;
-    combined(alloc, Op::Minus, &days, &out)
+    combination_of(alloc, Op::Minus, &days, &out)
 }
 
 // The days of the rules and of the dates added, from one on and below another.
@@ -172,7 +173,7 @@ fn given_days(
         return Ok(days);
     }
     let dates = days_of_dates(alloc, series.kind, &series.plus, first, end)?;
-    combined(alloc, Op::Union, &dates, &days)
+    combination_of(alloc, Op::Union, &dates, &days)
 }
 
 // The days of rules together, of each of which this was counted, from one on that is not after their start's and below another.
@@ -181,7 +182,7 @@ fn days_of_rules(
     kind: Kind,
     start: i64,
     rules: &[Rule],
-    counted: &[Option<Counted>],
+    counted: &[Option<CycleCount>],
     first: i64,
     end: i64,
 ) -> Result<FoldedDays, Fault>
@@ -208,7 +209,7 @@ fn days_from_start(
     kind: Kind,
     start: i64,
     rules: &[Rule],
-    counted: &[Option<Counted>],
+    counted: &[Option<CycleCount>],
     end: i64,
 ) -> Result<FoldedDays, Fault>
     requires some { rules.now ≢ [] }
@@ -224,7 +225,7 @@ fn days_from_start(
     let mut days = days_of_rule(alloc, &rules[0], counted[0], kind, start, end)?;
     for index in 1..rules.len() {
         let more = days_of_rule(alloc, &rules[index], counted[index], kind, start, end)?;
-        days = combined(alloc, Op::Union, &days, &more)?;
+        days = combination_of(alloc, Op::Union, &days, &more)?;
     }
     Ok(days)
 }
@@ -233,7 +234,7 @@ fn days_from_start(
 fn days_of_rule(
     alloc: Global,
     rule: &Rule,
-    counted: Option<Counted>,
+    counted: Option<CycleCount>,
     kind: Kind,
     start: i64,
     end: i64,

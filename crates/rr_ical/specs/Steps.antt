@@ -23,7 +23,7 @@ Becomes wanted new (Err (Refused refusal)) = wanted ≡ Err refusal
 Becomes wanted new (Err NoMemory) = ⊤
 
 -- The components become, and the used line is, what the line leaves.
-abbrev pub IsLeft : Result Left Refusal → Components → Result (Option UsedLine) Fault → Type 0
-IsLeft wanted new (Ok used) = wanted ≡ Ok (left new used)
-IsLeft wanted new (Err (Refused refusal)) = wanted ≡ Err refusal
-IsLeft wanted new (Err NoMemory) = ⊤
+abbrev pub AreLeftByLine : Result Left Refusal → Components → Result (Option UsedLine) Fault → Type 0
+AreLeftByLine wanted new (Ok used) = wanted ≡ Ok (left new used)
+AreLeftByLine wanted new (Err (Refused refusal)) = wanted ≡ Err refusal
+AreLeftByLine wanted new (Err NoMemory) = ⊤

@@ -5,7 +5,7 @@ ghost use Rattle.std.specs.List.{cons_option, list_any};
 ghost use Rattle.rr_model.specs.Text.Lines.{physical_lines};
 ghost use Rattle.rr_model.specs.Text.Event.{no_components, value_on, left_by, left_at, scanned, event_scan};
 ghost use Rattle.rr_model.specs.Text.UsedLines.{is_named};
-ghost use Rattle.rr_ical.specs.Steps.{IsLeft, used_line_on};
+ghost use Rattle.rr_ical.specs.Steps.{AreLeftByLine, used_line_on};
 
 use crate::components::Nesting;
 use crate::names::{is_named, line_kind};
@@ -36,7 +36,7 @@ fn step(
     kind: LineKind,
     text: Bytes,
 ) -> Result<Option<UsedLine>, Fault>
-    ensures { IsLeft (left_at is_bare nesting.old number kind text) nesting.new result }
+    ensures { AreLeftByLine (left_at is_bare nesting.old number kind text) nesting.new result }
 {
     match kind {
         LineKind::Begin => {
@@ -83,7 +83,7 @@ fn take_in(
     nesting: &mut Nesting,
     line: Line,
 ) -> Result<Option<UsedLine>, Fault>
-    ensures { IsLeft (left_by is_bare nesting.old line) nesting.new result }
+    ensures { AreLeftByLine (left_by is_bare nesting.old line) nesting.new result }
 {
     let kind = line_kind(line.text.as_slice());
     step(alloc, is_bare, nesting, line.number, kind, line.text)

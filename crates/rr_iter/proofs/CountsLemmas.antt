@@ -6,10 +6,10 @@ use Rattle.std.proofs.lemmas.List.{get_or_append_left, get_or_at, get_or_default
 use Rattle.rr_model.specs.declared.kind.Kind.{Kind}
 use Rattle.rr_model.specs.declared.rule.Rule.{Rule}
 use Rattle.rr_iter.specs.Counts.{AreCounts, IsCountOf}
-use Rattle.rr_iter.specs.declared.counts.Counted.{Counted}
+use Rattle.rr_iter.specs.declared.counts.CycleCount.{CycleCount}
 
 -- the counts of the first n rules
-pub record AreCounted (kind : Kind) (start : ℤ) (rules : List Rule) (asked : ℕ) (counts : List (Option Counted)) : Type 0 where
+pub record AreCounted (kind : Kind) (start : ℤ) (rules : List Rule) (asked : ℕ) (counts : List (Option CycleCount)) : Type 0 where
   pub within : asked ≤ length rules
   pub whole : length counts ≡ asked
   pub each : (k : ℕ) (rule : Rule) → k < asked → IsCountOf kind start (get_or rules k rule) (get_or counts k None)
@@ -19,9 +19,9 @@ module _ (kind : Kind) (start : ℤ) (rules : List Rule) where
   pub counted_none : AreCounted kind start rules 0 []
   counted_none = record { within = omega arith; whole = refl; each = λ k d w. absurd (omega (arith, w)) }
 
-  module _ (asked : ℕ) (counts : List (Option Counted)) (g : AreCounted kind start rules asked counts) where
+  module _ (asked : ℕ) (counts : List (Option CycleCount)) (g : AreCounted kind start rules asked counts) where
     -- one rule more
-    pub counted_more : (rule : Rule) (own : Option Counted) → asked < length rules → get_or rules asked rule ≡ rule
+    pub counted_more : (rule : Rule) (own : Option CycleCount) → asked < length rules → get_or rules asked rule ≡ rule
         → IsCountOf kind start rule own → AreCounted kind start rules (asked + 1) (counts ++ own ∷ [])
     counted_more rule own l e known =
         let long : length (counts ++ own ∷ []) ≡ asked + 1 = omega (arith, length-append counts (own ∷ []), g.whole) in

@@ -4,7 +4,7 @@ use Rattle.std.specs.Prelude.{Ok, Some, None}
 use Rattle.std.proofs.lemmas.Int.{ints}
 use Rattle.rr_model.specs.Moment.Years.{IsFromYearOne}
 use Rattle.rr_model.specs.Sets.Tree.{Tree, stands_at}
-use Rattle.rr_lazy.specs.Next.{IsFirstOccupied, IsNext, IsUnasked, IsWithin, with_set}
+use Rattle.rr_lazy.specs.Next.{IsFirstOccupied, IsNext, IsUnasked, IsInTable, with_set}
 use Rattle.rr_lazy.specs.declared.occupied_day.OccupiedDay.{OccupiedDay}
 use Rattle.rr_lazy.specs.DayTimes.{DayTimes}
 use Rattle.rr_lazy.proofs.TreeLemmas.{seconds_of_occupied}
@@ -12,7 +12,7 @@ use Rattle.rr_lazy.proofs.CountingLemmas.{before_skip, before_next, before_none,
 use Rattle.rr_iter.specs.Ends.{before_day, HasNumberOn}
 
 -- a day of which n seconds are given has n
-pub counted_seconds : (sets : List (List ℕ)) (found : OccupiedDay) → IsWithin sets found → length ((with_set sets found).times) ≡ found.count
+pub counted_seconds : (sets : List (List ℕ)) (found : OccupiedDay) → IsInTable sets found → length ((with_set sets found).times) ≡ found.count
 counted_seconds sets found within = length-take-le found.count (get_or sets found.number.index []) within.1
 
 -- nothing is counted at first

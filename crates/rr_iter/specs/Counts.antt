@@ -7,33 +7,33 @@ use Rattle.rr_model.specs.declared.rule.End.TheVariants.{Count}
 use Rattle.rr_model.specs.declared.rule.Rule.{Rule}
 use Rattle.rr_model.specs.declared.rule.Series.{Series}
 use Rattle.rr_iter.specs.Ends.{up_to_cycle, up_to_start}
-use Rattle.rr_iter.specs.declared.counts.Counted.{Counted}
+use Rattle.rr_iter.specs.declared.counts.CycleCount.{CycleCount}
 use Rattle.rr_iter.specs.declared.counts.Counts.{Counts}
 use Rattle.rr_iter.specs.declared.counts.LastDay.{LastDay}
 
 -- The first cycle after the start's day has this number of moments, one at least, and this number, one at least, leads from its end to the count.
-pub record IsCounted (rule : Rule) (kind : Kind) (start : ℤ) (count : ℕ) (counted : Counted) : Type 0 where
+pub record IsCounted (rule : Rule) (kind : Kind) (start : ℤ) (count : ℕ) (counted : CycleCount) : Type 0 where
   pub some_each : 1 ≤ counted.each
   pub each : up_to_cycle rule kind start ≡ up_to_start rule kind start + counted.each
   pub some_after : 1 ≤ counted.after
   pub after : up_to_cycle rule kind start + counted.after ≡ count
 
 -- what is counted to find the member of this number: nothing exactly where it lies within that first cycle
-abbrev pub IsCountUpTo : Rule → Kind → ℤ → ℕ → Option Counted → Type 0
+abbrev pub IsCountUpTo : Rule → Kind → ℤ → ℕ → Option CycleCount → Type 0
 IsCountUpTo rule kind start count (Some counted) = IsCounted rule kind start count counted
 IsCountUpTo rule kind start count None = count ≤ up_to_cycle rule kind start
 
--- by the end of a rule: with COUNT alone it is told so, and of any other nothing
-abbrev pub IsCountOfEnd : Kind → ℤ → Rule → End → Option Counted → Type 0
+-- what is counted of a rule with this end: where it is COUNT alone, what is counted to find the member of that number, and else nothing
+abbrev pub IsCountOfEnd : Kind → ℤ → Rule → End → Option CycleCount → Type 0
 IsCountOfEnd kind start rule (Count count) counted = IsCountUpTo rule kind start count counted
 IsCountOfEnd kind start rule end counted = counted ≡ None
 
 -- what is told of a rule
-abbrev pub IsCountOf : Kind → ℤ → Rule → Option Counted → Type 0
+abbrev pub IsCountOf : Kind → ℤ → Rule → Option CycleCount → Type 0
 IsCountOf kind start rule counted = IsCountOfEnd kind start rule rule.end counted
 
 -- an item for each rule: what is counted of it
-pub record AreCounts (kind : Kind) (start : ℤ) (rules : List Rule) (counts : List (Option Counted)) : Type 0 where
+pub record AreCounts (kind : Kind) (start : ℤ) (rules : List Rule) (counts : List (Option CycleCount)) : Type 0 where
   pub whole : length counts ≡ length rules
   pub each : (k : ℕ) (rule : Rule) → k < length rules → IsCountOf kind start (get_or rules k rule) (get_or counts k None)
 

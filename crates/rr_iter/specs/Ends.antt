@@ -15,8 +15,8 @@ use Rattle.rr_model.specs.declared.refusal.Fault.TheVariants.{Refused, NoMemory}
 use Rattle.rr_model.specs.declared.refusal.Refusal.TheVariants.{CountedTooFar}
 use Rattle.rr_model.specs.declared.rule.Rule.{Rule}
 use Rattle.rr_lazy.specs.Next.{HasNone}
-use Rattle.rr_iter.specs.declared.nth.Nth.{Nth}
-use Rattle.rr_iter.specs.declared.nth.Nth.TheVariants.{On, Beyond}
+use Rattle.rr_iter.specs.declared.nth.NthDay.{NthDay}
+use Rattle.rr_iter.specs.declared.nth.NthDay.TheVariants.{On, Beyond}
 
 -- a rule or an excluded rule of a sound series, beside its start, which it need not choose
 pub record IsSoundRule (kind : Kind) (start : ℤ) (rule : Rule) : Type 0 where
@@ -66,10 +66,10 @@ pub record HasNumberOn (tree : Tree) (number : ℕ) (day : ℤ) : Type 0 where
   pub above : before_day tree day < number
   pub within : number ≤ before_day tree (day +ℤ pos 1)
 
--- where it lies up to a day, or how many occurrences after that day lead to it
-abbrev pub IsNthOf : Tree → ℕ → ℤ → Nth → Type 0
-IsNthOf tree number to (On day) = (day ≤ℤ to) × HasNumberOn tree number day
-IsNthOf tree number to (Beyond left) = (1 ≤ left) × (before_day tree (to +ℤ pos 1) + left ≡ number)
+-- the day of the occurrence of this number, where it is not after a day, or how many occurrences after that day lead to it
+abbrev pub IsNthDayOf : Tree → ℕ → ℤ → NthDay → Type 0
+IsNthDayOf tree number to (On day) = (day ≤ℤ to) × HasNumberOn tree number day
+IsNthDayOf tree number to (Beyond left) = (1 ≤ left) × (before_day tree (to +ℤ pos 1) + left ≡ number)
 
 -- the day of the occurrence of this number, refused where it lies more days after a day than the most of a span
 abbrev pub AnswersDayOf : Tree → ℤ → ℕ → Result ℤ Fault → Type 0

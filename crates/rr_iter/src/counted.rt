@@ -6,8 +6,8 @@ ghost use Rattle.rr_model.specs.Sets.Tree.{chosen_of};
 ghost use Rattle.rr_iter.specs.Counts.{IsCountUpTo, day_alone};
 ghost use Rattle.rr_iter.specs.Ends.{AnswersDayOf, IsSoundRule, up_to_cycle, up_to_start};
 
-use crate::counts::{Counted, LastDay};
-use crate::nth::{Nth, day_of_nth};
+use crate::counts::{CycleCount, LastDay};
+use crate::nth::{NthDay, day_of_nth};
 use rr_model::{Fault, Kind, MAX_SPAN_DAYS, Refusal, Rule, day_part};
 use rr_num::day_cycle;
 use std::alloc::Global;
@@ -35,8 +35,8 @@ pub(crate) fn last_counted(
         return Err(Fault::Refused(Refusal::CountedTooFar));
     }
     match day_of_nth(alloc, rule, kind, start, count, day_part(kind, start))? {
-        Nth::On(day) => Ok(LastDay { day, counted: None }),
-        Nth::Beyond(left) => after_start(alloc, rule, kind, start, count, left),
+        NthDay::On(day) => Ok(LastDay { day, counted: None }),
+        NthDay::Beyond(left) => after_start(alloc, rule, kind, start, count, left),
     }
 }
 
@@ -61,8 +61,8 @@ fn after_start(
     let cycle = cycle_within_span(rule);
     let to = day_part(kind, start) + cycle as i64;
     match day_of_nth(alloc, rule, kind, start, count, to)? {
-        Nth::On(day) => Ok(LastDay { day, counted: None }),
-        Nth::Beyond(after) => {
+        NthDay::On(day) => Ok(LastDay { day, counted: None }),
+        NthDay::Beyond(after) => {
             if cycle == MAX_SPAN_DAYS {
                 return Err(Fault::Refused(Refusal::CountedTooFar));
             }
@@ -73,7 +73,7 @@ fn after_start(
             match after_cycles(alloc, rule, kind, start, count, left, each) {
                 Ok(day) => Ok(LastDay {
                     day,
-                    counted: Some(Counted { each, after }),
+                    counted: Some(CycleCount { each, after }),
                 }),
                 Err(fault) => Err(fault),
             }
@@ -107,8 +107,8 @@ fn after_cycles(
     let days = (cycles * cycle) as i64;
     let to = day_part(kind, start) + (MAX_SPAN_DAYS as i64 - days);
     match day_of_nth(alloc, rule, kind, start, count - cycles * each, to)? {
-        Nth::On(day) => Ok(day + days),
-        Nth::Beyond(_) => Err(Fault::Refused(Refusal::CountedTooFar)),
+        NthDay::On(day) => Ok(day + days),
+        NthDay::Beyond(_) => Err(Fault::Refused(Refusal::CountedTooFar)),
     }
 }
 

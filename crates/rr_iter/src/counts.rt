@@ -2,7 +2,7 @@
 
 /// What was counted of a rule with COUNT alone that has members after the first cycle that follows its start's day.
 #[derive(Clone, Copy)]
-pub struct Counted {
+pub struct CycleCount {
     /// How many members a whole cycle after the start's day has, from 1.
     pub each: u64,
     /// How many members come after the first of these cycles, from 1.
@@ -14,9 +14,9 @@ pub struct Counted {
 #[derive(Drop)]
 pub struct Counts {
     /// Of the rules.
-    pub rules: Vec<Option<Counted>>,
+    pub rules: Vec<Option<CycleCount>>,
     /// Of the excluded rules.
-    pub excluded: Vec<Option<Counted>>,
+    pub excluded: Vec<Option<CycleCount>>,
 }
 
 // The last day of a rule, and what was counted to find it.
@@ -24,5 +24,5 @@ pub struct Counts {
 pub(crate) struct LastDay {
     // In days since 1970-01-01.
     pub(crate) day: i64,
-    pub(crate) counted: Option<Counted>,
+    pub(crate) counted: Option<CycleCount>,
 }

@@ -4,7 +4,7 @@ ghost use Rattle.rr_model.specs.Bounds.{latest_day};
 ghost use Rattle.rr_model.specs.Moment.Years.{IsFromYearOne};
 ghost use Rattle.rr_model.specs.Sets.Tree.{chosen_of};
 ghost use Rattle.rr_lazy.specs.Next.{IsUnasked};
-ghost use Rattle.rr_iter.specs.Ends.{IsNthOf, IsSoundRule};
+ghost use Rattle.rr_iter.specs.Ends.{IsNthDayOf, IsSoundRule};
 
 use rr_lazy::Lazy;
 use rr_model::{Kind, NoMemory, Rule};
@@ -12,9 +12,9 @@ use rr_shapes::SetTable;
 use rr_walk::RuleLazy;
 use std::alloc::Global;
 
-/// Where an occurrence lies, looked for up to a day.
+/// On which day the occurrence of a number lies, looked for up to a day.
 #[derive(Clone, Copy)]
-pub enum Nth {
+pub enum NthDay {
     /// On this day, in days since 1970-01-01.
     On(i64),
     /// After the days that were looked at, as the one of this number there, from 1.
@@ -31,12 +31,12 @@ pub(crate) fn day_of_nth(
     start: i64,
     number: u64,
     to: i64,
-) -> Result<Nth, NoMemory>
+) -> Result<NthDay, NoMemory>
     requires sound { IsSoundRule kind start rule.now }
     requires some { 1 ≤ number }
     requires low { IsFromYearOne to }
     requires high { to ≤ℤ latest_day }
-    ensures { IfOk result (IsNthOf (chosen_of rule.now kind start) number to) }
+    ensures { IfOk result (IsNthDayOf (chosen_of rule.now kind start) number to) }
 {
     let chosen = RuleLazy::new(alloc, rule, kind, start)?;
     nth_of(alloc, chosen, number, to)
@@ -49,23 +49,23 @@ pub fn nth_of<A: Lazy + Drop>(
     mut lazy: A,
     number: u64,
     to: i64,
-) -> Result<Nth, NoMemory>
+) -> Result<NthDay, NoMemory>
     requires unasked { IsUnasked (A.position lazy) }
     requires knows { (sets : List (List ℕ)) → A.knows lazy sets }
     requires some { 1 ≤ number }
     requires low { IsFromYearOne to }
     requires high { to ≤ℤ latest_day }
-    ensures { IfOk result (IsNthOf (A.tree lazy) number to) }
+    ensures { IfOk result (IsNthDayOf (A.tree lazy) number to) }
 {
     let mut sets = SetTable::new(alloc);
     let mut left = number;
     'days: loop {
         match lazy.next(alloc, &mut sets, to)? {
-            None => return Ok(Nth::Beyond(left)),
+            None => return Ok(NthDay::Beyond(left)),
             Some(found) => {
                 let count = found.count as u64;
                 if left <= count {
-                    return Ok(Nth::On(found.day));
+                    return Ok(NthDay::On(found.day));
                 }
                 left -= count;
             }

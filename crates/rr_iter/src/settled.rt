@@ -9,7 +9,7 @@ ghost use Rattle.rr_model.specs.Series.Limits.{CountSomeTooFar, IsCountedTooFar}
 ghost use Rattle.rr_model.specs.Series.Settled.{IsSettledDay, LieBefore};
 ghost use Rattle.rr_model.specs.declared.refusal.Refusal.TheVariants.{CountedTooFar};
 
-use crate::counts::{Counted, Counts};
+use crate::counts::{Counts, CycleCount};
 use crate::last_day::last_day;
 use rr_check::Checked;
 use rr_model::{Dates, Fault, Kind, NoMemory, Rule, day_part};
@@ -28,7 +28,7 @@ pub struct Settled {
 #[derive(Drop)]
 struct LastOfRules {
     day: i64,
-    counts: Vec<Option<Counted>>,
+    counts: Vec<Option<CycleCount>>,
 }
 
 /// The settled day of a series, in days since 1970-01-01: the day after the last of its
@@ -116,7 +116,7 @@ fn last_of_rules(
 }
 
 // What was counted of one rule more.
-fn put(counts: &mut Vec<Option<Counted>>, counted: Option<Counted>) -> Result<(), NoMemory>
+fn put(counts: &mut Vec<Option<CycleCount>>, counted: Option<CycleCount>) -> Result<(), NoMemory>
     ensures { OnOk result (counts.new.items ≡ counts.old.items ++ counted ∷ []) }
 {
     counts.push(counted)?;

@@ -13,7 +13,7 @@ use Rattle.rr_model.specs.Calendar.{first_day_of_year}
 use Rattle.rr_model.specs.Sets.Tree.{Tree, union, stands_at}
 use Rattle.rr_lazy.specs.Next.{HasNone, IsFirstOccupied, IsNextIn, IsUnasked, with_set}
 use Rattle.rr_lazy.proofs.FirstLemmas.{first_day_is}
-use Rattle.rr_lazy.specs.Ahead.{IsGiven, IsAhead, IsAheadIn, IsGivenOn, IsGivenByBoth, HasOn, GaveDay, IsFirstOfBoth, IsLeft, seen}
+use Rattle.rr_lazy.specs.Ahead.{IsGiven, IsAhead, IsAheadIn, IsGivenOn, IsGivenByBoth, HasOn, GaveDay, IsFirstOfBoth, IsLeftAfterDay, seen}
 use Rattle.rr_lazy.specs.DayTimes.{DayTimes}
 use Rattle.rr_lazy.specs.declared.occupied_day.OccupiedDay.{OccupiedDay}
 
@@ -168,7 +168,7 @@ module _ (t u : Tree) (own_t own_u from d to : ℤ) (a b : Option DayTimes) (ka 
 
 -- one side after the day d was given
 pub side_given : (t : Tree) (own from d q : ℤ) (ahead left : Option DayTimes) → IsAhead t own from ahead → from ≤ℤ d → ForSome ahead (λ f. d ≤ℤ f.day)
-    → ForNone ahead (d <ℤ own) → IsLeft ahead d left → q ≡ d +ℤ pos 1 → IsAhead t own q left
+    → ForNone ahead (d <ℤ own) → IsLeftAfterDay ahead d left → q ≡ d +ℤ pos 1 → IsAhead t own q left
 side_given t own from d q None left k l some none w e =
     rw (e, w) (advance t own from (d +ℤ pos 1) None k (omega (arith, ints, l)) (λ x h. absurd (cc)) (λ h. omega (arith, ints, none refl)))
 side_given t own from d q (Some f) left k l some none (inl w) e =
@@ -207,7 +207,7 @@ side_none_in sets t own from to q ahead k l one some none =
 
 -- one side after the day d was given
 pub side_given_in : (sets : List (List ℕ)) (t : Tree) (own from d q : ℤ) (ahead left : Option OccupiedDay) → IsAheadIn sets t own from ahead
-    → from ≤ℤ d → ForSome (seen sets ahead) (λ f. d ≤ℤ f.day) → ForNone ahead (d <ℤ own) → IsLeft (seen sets ahead) d (seen sets left)
+    → from ≤ℤ d → ForSome (seen sets ahead) (λ f. d ≤ℤ f.day) → ForNone ahead (d <ℤ own) → IsLeftAfterDay (seen sets ahead) d (seen sets left)
     → ForSome left (λ f. ahead ≡ Some f) → q ≡ d +ℤ pos 1 → IsAheadIn sets t own q left
 side_given_in sets t own from d q ahead left k l some none w same e = record {
   within = λ f h. k.within f (same f h);

@@ -13,9 +13,9 @@ use Rattle.rr_lazy.specs.DayTimes.{DayTimes}
 use Rattle.rr_model.specs.Sets.Tree.{Tree, part, many, IsOfOneKind, stands_at, some_stands_at}
 use Rattle.rr_shapes.specs.Tables.{Extends}
 use Rattle.rr_lazy.specs.declared.occupied_day.OccupiedDay.{OccupiedDay}
-use Rattle.rr_lazy.specs.Next.{HasNone, IsFirstOccupied, IsNextIn, IsWithin, with_set}
+use Rattle.rr_lazy.specs.Next.{HasNone, IsFirstOccupied, IsNextIn, IsInTable, with_set}
 use Rattle.rr_lazy.specs.Tables.{same_day, same_seen}
-use Rattle.rr_lazy.specs.Ahead.{HasOn, GaveDay, IsAhead, IsAheadIn, IsGivenByBoth, IsGivenOn, IsLeft, seen}
+use Rattle.rr_lazy.specs.Ahead.{HasOn, GaveDay, IsAhead, IsAheadIn, IsGivenByBoth, IsGivenOn, IsLeftAfterDay, seen}
 use Rattle.rr_lazy.specs.Many.{forest_of, with_part, GaveDaySome, HasOnSome, IsGivenBySome, IsLeftBy}
 use Rattle.rr_lazy.proofs.AheadLemmas.{given_on, has_some, none_below, on_day, seen_none, side_given, side_none}
 
@@ -163,7 +163,7 @@ given_is old new a b d (Some found) g f e = (let i : f ≡ found = cc in rw i g.
 
 -- the seconds of one more part join those that were given
 module _ {X : Type 0} (start old new : List (List ℕ)) (ahead : X → Option OccupiedDay) (xs : List X) (d : ℤ) (index : ℕ) (x : X) (l : index < length xs)
-    (e : x ≡ get_or xs index x) (more : Extends start old) (within : ForSome (ahead x) (IsWithin start)) where
+    (e : x ≡ get_or xs index x) (more : Extends start old) (within : ForSome (ahead x) (IsInTable start)) where
   none_more : IsGivenBySome start ahead xs index d old None → (GaveDay (seen old (ahead x)) d → ⊥) → IsGivenBySome start ahead xs (index + 1) d new None
   none_more by not k m n z g = elim (cases_lt k index) [
     | inl p ↦ by k p n z g
@@ -294,7 +294,7 @@ module _ {X L : Type 0} (knows : L → Type 0) (tree : L → Tree) (own : L → 
 
   pub known_left : (new : List X) (d q : ℤ) → from ≤ℤ d → All (λ x. ForSome (seen sets (ahead x)) (λ f. d ≤ℤ f.day)) xs
       → All (λ x. ForNone (seen sets (ahead x)) (d <ℤ own (lazy x))) xs → IsLeftBy (λ x. seen sets (ahead x)) lazy xs d (length xs) new
-      → All (λ x. ForSome (ahead x) (IsWithin sets)) new → q ≡ d +ℤ pos 1
+      → All (λ x. ForSome (ahead x) (IsInTable sets)) new → q ≡ d +ℤ pos 1
       → All (λ x. knows (lazy x) × IsAheadIn sets (tree (lazy x)) (own (lazy x)) q (ahead x)) new
   known_left new d q l some none left within e k z m =
       let n : k < length xs = omega (arith, left.many, m) in (
@@ -330,7 +330,7 @@ next_given tree position to day next sets new ahead xs (Some found) given gave x
 -- one more part has forgotten the day
 module _ {X L : Type 0} (ahead : X → Option DayTimes) (lazy : X → L) (old mid : List X) (d : ℤ) (index : ℕ) (y : X) (l : index < length mid)
     (left : IsLeftBy ahead lazy old d index mid) (same : (z : X) → lazy y ≡ lazy (get_or mid index z))
-    (here : (z : X) → IsLeft (ahead (get_or mid index z)) d (ahead y)) where
+    (here : (z : X) → IsLeftAfterDay (ahead (get_or mid index z)) d (ahead y)) where
   lazies_more : (k : ℕ) (z : X) → k < length old → lazy (get_or (slice_set mid index y) k z) ≡ lazy (get_or old k z)
   lazies_more k z m = elim (cases_lt k index) [
     | inl p ↦ rw (other_set mid index k y z (λ e. absurd (omega (arith, e, p)))) (left.lazies k z m)
@@ -343,11 +343,11 @@ module _ {X L : Type 0} (ahead : X → Option DayTimes) (lazy : X → L) (old mi
         ]
   ]
 
-  left_on : (k : ℕ) (z : X) → k < index + 1 → k < length old → IsLeft (ahead (get_or old k z)) d (ahead (get_or (slice_set mid index y) k z))
+  left_on : (k : ℕ) (z : X) → k < index + 1 → k < length old → IsLeftAfterDay (ahead (get_or old k z)) d (ahead (get_or (slice_set mid index y) k z))
   left_on k z n m = elim (cases_lt k index) [
     | inl p ↦ rw (other_set mid index k y z (λ e. absurd (omega (arith, e, p)))) (left.left k z p m)
     | inr p ↦ (let e : index ≡ k = omega (arith, p, n) in
-        subst (λ j. IsLeft (ahead (get_or old j z)) d (ahead (get_or (slice_set mid index y) j z))) e
+        subst (λ j. IsLeftAfterDay (ahead (get_or old j z)) d (ahead (get_or (slice_set mid index y) j z))) e
         (rw (same_set mid index y z l, sym (left.rest index z (omega arith) (omega (arith, left.many, l)))) (here z)))
   ]
 

@@ -26,7 +26,7 @@ use Rattle.rr_model.specs.Sets.Tree.{has_second, is_among}
 use Rattle.std.specs.Prelude.{Some, None, slice_get}
 use Rattle.rr_model.specs.Bounds.{latest_day}
 use Rattle.rr_model.specs.Sets.Tree.{dates_of}
-use Rattle.rr_lazy.specs.Next.{HasNone, IsFirstOccupied, IsWithin, with_set}
+use Rattle.rr_lazy.specs.Next.{HasNone, IsFirstOccupied, IsInTable, with_set}
 use Rattle.rr_lazy.specs.Stretch.{IsFirstFrom, IsFirstDate}
 use Rattle.rr_lazy.proofs.TreeLemmas.{has_second_below}
 
@@ -267,7 +267,7 @@ dates_some kind dates position to day times f set = record {
 
 -- a set that was placed in a table is the day's
 pub placed : (sets : List (List ℕ)) (day : ℤ) (number count : ℕ) (times : List ℕ) → slice_get sets number ≡ Some times → count ≡ length times
-    → IsWithin sets (record { day = day; number = record { index = number }; count = count })
+    → IsInTable sets (record { day = day; number = record { index = number }; count = count })
     × ((with_set sets (record { day = day; number = record { index = number }; count = count })).times ≡ times)
 placed sets day number count times at e =
     let set : get_or sets number [] ≡ times = get_or_from_slice_get sets number times [] at in (

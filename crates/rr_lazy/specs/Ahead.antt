@@ -8,7 +8,7 @@ use Rattle.rr_model.specs.Sets.Tree.{Tree, union, stands_at, IsOfOneKind}
 use Rattle.rr_model.specs.Rising.{Rises}
 use Rattle.rr_model.specs.Rising.Sets.{IsSetOf}
 use Rattle.rr_lazy.specs.declared.occupied_day.OccupiedDay.{OccupiedDay}
-use Rattle.rr_lazy.specs.Next.{HasNone, IsSoundLazy, IsWithin, with_set}
+use Rattle.rr_lazy.specs.Next.{HasNone, IsSoundLazy, IsInTable, with_set}
 
 -- the first occupied day from one on, which the part gave last
 pub record IsGiven (tree : Tree) (own from day : ℤ) (times : List ℕ) : Type 0 where
@@ -30,7 +30,7 @@ seen sets (Some f) = Some (with_set sets f)
 
 -- from a day on: the part's first occupied day, its seconds told by a number of the table, or that it has none before its own position
 pub record IsAheadIn (sets : List (List ℕ)) (tree : Tree) (own from : ℤ) (ahead : Option OccupiedDay) : Type 0 where
-  pub within : ForSome ahead (IsWithin sets)
+  pub within : ForSome ahead (IsInTable sets)
   pub known : IsAhead tree own from (seen sets ahead)
 
 -- what was known of a part from a day on, by the table of sets that was, is known of it from that day on by the table that is
@@ -53,13 +53,13 @@ IsFirstOfBoth a b to (Some d) = (d ≤ℤ to) × (GaveDay a d ⊎ GaveDay b d) �
 IsFirstOfBoth a b to None = ForSome a (λ f. to <ℤ f.day) × ForSome b (λ f. to <ℤ f.day)
 
 -- what is left of what a part gave once a day was passed on
-abbrev pub IsLeft : Option DayTimes → ℤ → Option DayTimes → Type 0
-IsLeft None day r = r ≡ None
-IsLeft (Some f) day r = ((f.day ≡ day) × (r ≡ None)) ⊎ ((f.day ≢ day) × (r ≡ Some f))
+abbrev pub IsLeftAfterDay : Option DayTimes → ℤ → Option DayTimes → Type 0
+IsLeftAfterDay None day r = r ≡ None
+IsLeftAfterDay (Some f) day r = ((f.day ≡ day) × (r ≡ None)) ⊎ ((f.day ≢ day) × (r ≡ Some f))
 
 -- by each table of sets: what is left of what a part gave once a day was passed on
 abbrev pub HasForgotten : Option OccupiedDay → ℤ → Option OccupiedDay → Type 0
-HasForgotten old day new = (sets : List (List ℕ)) → IsLeft (seen sets old) day (seen sets new)
+HasForgotten old day new = (sets : List (List ℕ)) → IsLeftAfterDay (seen sets old) day (seen sets new)
 
 -- what a part gave, where it is this day, and nothing where it is none or another day
 abbrev pub IsOfDay : Option OccupiedDay → ℤ → Option OccupiedDay → Type 0
@@ -67,7 +67,7 @@ IsOfDay ahead day result = ((result ≡ ahead) × ForSome ahead (λ f. f.day ≡
 
 -- the set of a day is in the table, and its seconds rise
 pub record IsGivenOn (sets : List (List ℕ)) (found : OccupiedDay) : Type 0 where
-  pub within : IsWithin sets found
+  pub within : IsInTable sets found
   pub rises : Rises nat_lt ((with_set sets found).times)
 
 -- What two parts gave for a day: all seconds of both, and nothing where neither gave it.

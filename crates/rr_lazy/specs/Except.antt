@@ -80,7 +80,7 @@ IsNextOfBoth old new a a' b b' to (Ok None) =
     × ((position : ℤ) → KnowsBoth old a b position → KnowsBoth new a' b' position)
 IsNextOfBoth old new a a' b b' to (Err e) = (position : ℤ) → KnowsBoth old a b position → KnowsBoth new a' b' position
 
--- the same of two parts that were asked
+-- what two parts give together up to a day once both were asked: a day of the first of which something is left once the second is taken out
 abbrev pub IsNextOfAsked : List (List ℕ) → List (List ℕ) → AskedPart → AskedPart → ℤ → Result (Option OccupiedDay) NoMemory → Type 0
 IsNextOfAsked old new a b to result = IsNextOfBoth old new a.before a.after b.before b.after to result
 

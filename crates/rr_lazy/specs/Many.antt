@@ -7,8 +7,8 @@ use Rattle.rr_lazy.specs.DayTimes.{DayTimes}
 use Rattle.rr_model.specs.Sets.Tree.{Tree, Forest, nothing, part, many, IsOfOneKind}
 use Rattle.rr_model.specs.Rising.Sets.{IsSetOf}
 use Rattle.rr_lazy.specs.declared.occupied_day.OccupiedDay.{OccupiedDay}
-use Rattle.rr_lazy.specs.Next.{IsSoundLazy, IsWithin, with_set}
-use Rattle.rr_lazy.specs.Ahead.{HasOn, GaveDay, IsGivenOn, IsLeft, seen}
+use Rattle.rr_lazy.specs.Next.{IsSoundLazy, IsInTable, with_set}
+use Rattle.rr_lazy.specs.Ahead.{HasOn, GaveDay, IsGivenOn, IsLeftAfterDay, seen}
 
 -- the trees of the parts of a list
 abbrev pub forest_of : {X : Type 0} → (X → Tree) → List X → Forest
@@ -43,13 +43,13 @@ IsGivenBySome {X} old ahead parts count day new (Some found) =
 -- what each part gave stays within every table that held what each gave
 abbrev pub StayWithin : {X : Type 0} → (X → Option OccupiedDay) → List X → List X → Type 0
 StayWithin {X} ahead old new =
-    (sets : List (List ℕ)) → All (λ p. ForSome (ahead p) (IsWithin sets)) old → All (λ p. ForSome (ahead p) (IsWithin sets)) new
+    (sets : List (List ℕ)) → All (λ p. ForSome (ahead p) (IsInTable sets)) old → All (λ p. ForSome (ahead p) (IsInTable sets)) new
 
 -- the first n parts have forgotten the day; nothing else has changed
 pub record IsLeftBy {X L : Type 0} (ahead : X → Option DayTimes) (lazy : X → L) (old : List X) (day : ℤ) (count : ℕ) (new : List X) : Type 0 where
   pub many : length new ≡ length old
   pub lazies : (k : ℕ) (d : X) → k < length old → lazy (get_or new k d) ≡ lazy (get_or old k d)
-  pub left : (k : ℕ) (d : X) → k < count → k < length old → IsLeft (ahead (get_or old k d)) day (ahead (get_or new k d))
+  pub left : (k : ℕ) (d : X) → k < count → k < length old → IsLeftAfterDay (ahead (get_or old k d)) day (ahead (get_or new k d))
   pub rest : (k : ℕ) (d : X) → count ≤ k → k < length old → ahead (get_or new k d) ≡ ahead (get_or old k d)
 
 -- by each table of sets, all parts have forgotten the day; nothing else has changed

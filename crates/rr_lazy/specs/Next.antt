@@ -31,12 +31,12 @@ abbrev pub with_set : List (List ℕ) → OccupiedDay → DayTimes
 with_set sets f = record { day = f.day; times = take f.count (get_or sets f.number.index []) }
 
 -- the number of the day's set is one of the table, and its count is at most the set's size
-abbrev pub IsWithin : List (List ℕ) → OccupiedDay → Type 0
-IsWithin sets f = (f.number.index < length sets) × (f.count ≤ length (get_or sets f.number.index []))
+abbrev pub IsInTable : List (List ℕ) → OccupiedDay → Type 0
+IsInTable sets f = (f.number.index < length sets) × (f.count ≤ length (get_or sets f.number.index []))
 
 -- What a call of `next` does where the seconds are told by a number.
 abbrev pub IsNextIn : List (List ℕ) → Tree → ℤ → ℤ → Result (Option OccupiedDay) NoMemory → ℤ → Type 0
-IsNextIn sets tree old to (Ok (Some found)) new = IsWithin sets found × IsNext tree old to (Ok (Some (with_set sets found))) new
+IsNextIn sets tree old to (Ok (Some found)) new = IsInTable sets found × IsNext tree old to (Ok (Some (with_set sets found))) new
 IsNextIn sets tree old to (Ok None) new = IsNext tree old to (Ok None) new
 IsNextIn sets tree old to (Err e) new = IsNext tree old to (Err e) new
 

@@ -9,7 +9,7 @@ use Rattle.rr_model.specs.declared.kind.Kind.{Kind}
 use Rattle.rr_shapes.specs.Tables.{Extends}
 use Rattle.rr_lazy.specs.declared.occupied_day.OccupiedDay.{OccupiedDay}
 use Rattle.rr_lazy.specs.Ahead.{IsAhead, IsAheadIn, seen}
-use Rattle.rr_lazy.specs.Next.{IsWithin, with_set}
+use Rattle.rr_lazy.specs.Next.{IsInTable, with_set}
 use Rattle.rr_lazy.specs.Stretch.{KnowsPart}
 
 -- a number has the same set
@@ -20,15 +20,15 @@ same_set old new number more l =
     (slice_get_within new number (get_or old number []) at, get_or_from_slice_get new number (get_or old number []) [] at)
 
 -- a day has the same seconds
-pub same_day : (old new : List (List ℕ)) (found : OccupiedDay) → Extends old new → IsWithin old found
-    → IsWithin new found × (with_set new found ≡ with_set old found)
+pub same_day : (old new : List (List ℕ)) (found : OccupiedDay) → Extends old new → IsInTable old found
+    → IsInTable new found × (with_set new found ≡ with_set old found)
 same_day old new found more w =
     let s = same_set old new found.number.index more w.0 in
     ((s.0, subst (λ times. found.count ≤ length times) (sym s.1) w.1), ap (λ times. record { day = found.day; times = take found.count times }) s.1)
 
 -- what was seen of a part is seen of it
-pub same_seen : (old new : List (List ℕ)) (ahead : Option OccupiedDay) → Extends old new → ForSome ahead (IsWithin old)
-    → ForSome ahead (IsWithin new) × (seen new ahead ≡ seen old ahead)
+pub same_seen : (old new : List (List ℕ)) (ahead : Option OccupiedDay) → Extends old new → ForSome ahead (IsInTable old)
+    → ForSome ahead (IsInTable new) × (seen new ahead ≡ seen old ahead)
 same_seen old new None more w = ((λ f e. absurd (cc)), refl)
 same_seen old new (Some found) more w =
     let s = same_day old new found more (w found refl) in

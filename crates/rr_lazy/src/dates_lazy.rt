@@ -4,7 +4,7 @@ ghost use Rattle.rr_model.specs.Calendar.{first_day_of_year};
 ghost use Rattle.rr_model.specs.Moment.Years.{IsInYears};
 ghost use Rattle.rr_lazy.specs.Next.{IsUnasked, KnowsEach};
 
-use crate::position::past;
+use crate::position::position_past;
 use crate::stretch::{first_date, seconds_on};
 use crate::{Lazy, OccupiedDay};
 use rr_model::{Dates, FIRST_DAY, Kind, NoMemory};
@@ -62,7 +62,7 @@ impl Lazy for DatesLazy {
     ) -> Result<Option<OccupiedDay>, NoMemory> {
         match first_date(self.kind, self.dates.as_slice(), self.position, to) {
             None => {
-                self.position = past(self.position, to);
+                self.position = position_past(self.position, to);
                 Ok(None)
             }
             Some(day) => {

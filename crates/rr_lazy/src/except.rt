@@ -11,7 +11,7 @@ ghost use Rattle.rr_lazy.specs.Except.{IsAheadUpTo, IsLacking, IsLeftBy, IsNextO
 ghost use Rattle.rr_lazy.specs.Next.{IsUnasked, KnowsIfBoth, with_set};
 
 use crate::ahead::{fill, of_day};
-use crate::position::past;
+use crate::position::position_past;
 use crate::{Lazy, OccupiedDay};
 use rr_model::{FIRST_DAY, NoMemory};
 use rr_shapes::SetTable;
@@ -87,7 +87,7 @@ impl<A: Lazy + Drop, B: Lazy + Drop> Lazy for Except<A, B> {
             to,
         )? {
             None => {
-                self.position = past(self.position, to);
+                self.position = position_past(self.position, to);
                 Ok(None)
             }
             Some(found) => {

@@ -3,7 +3,7 @@ ghost use Rattle.std.specs.Prelude.{◌≡◌};
 ghost use Rattle.rr_lazy.specs.FirstN.{IsCounting};
 ghost use Rattle.rr_lazy.specs.Next.{IsUnasked, KnowsIf};
 
-use crate::position::past;
+use crate::position::position_past;
 use crate::{Lazy, OccupiedDay};
 use rr_model::{FIRST_DAY, NoMemory};
 use rr_shapes::SetTable;
@@ -60,12 +60,12 @@ impl<A: Lazy + Drop> Lazy for FirstN<A> {
         to: i64,
     ) -> Result<Option<OccupiedDay>, NoMemory> {
         if self.left == 0 {
-            self.position = past(self.position, to);
+            self.position = position_past(self.position, to);
             return Ok(None);
         }
         match self.lazy.next(alloc, sets, to)? {
             None => {
-                self.position = past(self.position, to);
+                self.position = position_past(self.position, to);
                 Ok(None)
             }
             Some(mut found) => {

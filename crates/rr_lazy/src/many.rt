@@ -13,7 +13,7 @@ ghost use Rattle.rr_lazy.specs.Many.{forest_of, HaveForgotten, IsGivenBySome, Ga
 ghost use Rattle.rr_lazy.specs.PassedOn.{IsOneAtRest};
 
 use crate::ahead::{fill, forget, on_day};
-use crate::position::{after, past};
+use crate::position::{position_after, position_past};
 use crate::{Lazy, OccupiedDay};
 use rr_model::{FIRST_DAY, NoMemory};
 use rr_shapes::SetTable;
@@ -93,7 +93,7 @@ impl<A: Lazy + Drop> Many<A> {
             to result self.new.position }
     {
         let found = self.parts[0].lazy.next(alloc, sets, to)?;
-        self.position = after(found, self.position, to);
+        self.position = position_after(found, self.position, to);
         Ok(found)
     }
 
@@ -116,7 +116,7 @@ impl<A: Lazy + Drop> Many<A> {
         ask_all(alloc, sets, &mut self.parts, self.position, to)?;
         let day = first_of_all(&self.parts, to + 1);
         if day > to {
-            self.position = past(self.position, to);
+            self.position = position_past(self.position, to);
             return Ok(None);
         }
         let found = all_on(alloc, sets, &self.parts, day)?;

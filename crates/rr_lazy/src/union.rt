@@ -10,7 +10,7 @@ ghost use Rattle.rr_lazy.specs.Next.{IsUnasked, KnowsIfBoth};
 ghost use Rattle.rr_lazy.specs.Ahead.{IsFirstOfBoth, seen};
 
 use crate::ahead::{fill, forget, on_day};
-use crate::position::past;
+use crate::position::position_past;
 use crate::{Lazy, OccupiedDay};
 use rr_model::{FIRST_DAY, NoMemory};
 use rr_shapes::SetTable;
@@ -97,7 +97,7 @@ impl<A: Lazy + Drop, B: Lazy + Drop> Lazy for Union<A, B> {
         self.fill_both(alloc, sets, to)?;
         match first_of_both(self.ahead_a, self.ahead_b, to) {
             None => {
-                self.position = past(self.position, to);
+                self.position = position_past(self.position, to);
                 Ok(None)
             }
             Some(day) => {

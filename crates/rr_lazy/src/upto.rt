@@ -5,10 +5,10 @@ ghost use Rattle.rr_model.specs.Moment.{day_part};
 ghost use Rattle.rr_model.proofs.TreeLemmas.{IsOfOneKind-prop};
 ghost use Rattle.rr_model.specs.Sets.Tree.{IsOfOneKind, upto};
 ghost use Rattle.rr_model.specs.Rising.Sets.{IsSecondsOfDay};
-ghost use Rattle.rr_lazy.specs.Next.{IsUnasked, IsWithin, KnowsIf, with_set};
+ghost use Rattle.rr_lazy.specs.Next.{IsInTable, IsUnasked, KnowsIf, with_set};
 ghost use Rattle.rr_lazy.specs.Upto.{IsSecondsTo, IsUpTo};
 
-use crate::position::past;
+use crate::position::position_past;
 use crate::{Lazy, OccupiedDay};
 use rr_model::{FIRST_DAY, Kind, NoMemory, day_part, second_part};
 use rr_shapes::SetTable;
@@ -70,18 +70,18 @@ impl<A: Lazy + Drop> Lazy for Upto<A> {
         to: i64,
     ) -> Result<Option<OccupiedDay>, NoMemory> {
         if self.position > self.last_day {
-            self.position = past(self.position, to);
+            self.position = position_past(self.position, to);
             return Ok(None);
         }
         match self.lazy.next(alloc, sets, to.min(self.last_day))? {
             None => {
-                self.position = past(self.position, to);
+                self.position = position_past(self.position, to);
                 Ok(None)
             }
             Some(mut found) => {
                 found.count = count_to(sets, self.kind, self.at, found);
                 if found.count == 0 {
-                    self.position = past(self.position, to);
+                    self.position = position_past(self.position, to);
                     return Ok(None);
                 }
                 self.position = found.day + 1;
@@ -93,7 +93,7 @@ impl<A: Lazy + Drop> Lazy for Upto<A> {
 
 // How many seconds of a day are not after a moment.
 fn count_to(sets: &SetTable, kind: Kind, at: i64, found: OccupiedDay) -> usize
-    requires within { IsWithin sets.now found }
+    requires within { IsInTable sets.now found }
     requires of_day { IsSecondsOfDay ((with_set sets.now found).times) }
     ensures few { result ≤ found.count }
     ensures seconds { IsUpTo kind at found.day ((with_set sets.now found).times)

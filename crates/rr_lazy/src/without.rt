@@ -11,7 +11,7 @@ ghost use Rattle.rr_lazy.specs.Next.{IsUnasked, KnowsIf, with_set};
 ghost use Rattle.rr_lazy.specs.Stretch.{IsLeftOf, IsNextLeft, KnowsPartFromSome};
 
 use crate::ahead::fill;
-use crate::position::past;
+use crate::position::position_past;
 use crate::stretch::{dates_on, take_out};
 use crate::{Lazy, OccupiedDay};
 use rr_model::{Dates, FIRST_DAY, Kind, NoMemory};
@@ -88,7 +88,7 @@ impl<A: Lazy + Drop> Lazy for Without<A> {
             to,
         )? {
             None => {
-                self.position = past(self.position, to);
+                self.position = position_past(self.position, to);
                 Ok(None)
             }
             Some(found) => {

@@ -102,7 +102,7 @@ impl RunDays {
         ensures { result ≡ number_in self.now day }
     {
         match self.row_from(day) {
-            [told, ..] => number_of(*told),
+            [told, ..] => number_told(*told),
             [] => None,
         }
     }
@@ -150,7 +150,7 @@ impl RunDays {
 }
 
 // The number of a day by what a row tells.
-fn number_of(told: u32) -> Option<u32>
+fn number_told(told: u32) -> Option<u32>
     ensures { result ≡ number_told told }
 {
     if told == 0 { None } else { Some(told - 1) }
@@ -205,7 +205,7 @@ fn count_told(count: RunCount, day: i64, told: u32) -> RunCount
     ensures near { IsCountedDay result.last }
     ensures few { result.runs ≤ count.runs + 1 }
 {
-    match number_of(told) {
+    match number_told(told) {
         None => count,
         Some(number) => count_day(count, day, number),
     }

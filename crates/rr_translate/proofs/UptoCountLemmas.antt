@@ -16,8 +16,8 @@ use Rattle.rr_lazy.proofs.AgreeLemmas.{upto_counts}
 use Rattle.rr_lazy.proofs.CountingLemmas.{before_grows, before_next, seconds_skip, to_is}
 use Rattle.rr_lazy.proofs.MemberCountLemmas.{count_is}
 use Rattle.rr_model.proofs.OrderLemmas.{day_mono}
-use Rattle.rr_iter.specs.Ends.{IsNthOf, before_day}
-use Rattle.rr_iter.specs.declared.nth.Nth.TheVariants.{On, Beyond}
+use Rattle.rr_iter.specs.Ends.{IsNthDayOf, before_day}
+use Rattle.rr_iter.specs.declared.nth.NthDay.TheVariants.{On, Beyond}
 
 -- the second of a moment's day is one of 86,400
 second_below : (kind : Kind) (t : ℤ) → second_part kind t + 1 ≤ 86_400
@@ -55,7 +55,7 @@ module _ (rule : Rule) (kind : Kind) (start at : ℤ) (in_years : IsInYears kind
 
   module _ (number : ℕ) where
     -- the number lies on a day up to its own: that many members lie up to it
-    pub is_placed : (day : ℤ) → IsNthOf tree number (day_part kind at) (On day) → true ≡ nat_le number (members_to rule kind start at)
+    pub is_placed : (day : ℤ) → IsNthDayOf tree number (day_part kind at) (On day) → true ≡ nat_le number (members_to rule kind start at)
     is_placed day p =
         let grown = before_grows (λ d s. stands_at tree d s) (day +ℤ pos 1) (day_part kind at +ℤ pos 1)
         (omega (arith, ints, p.1.begun)) (omega (arith, ints, p.0)) in
@@ -63,5 +63,5 @@ module _ (rule : Rule) (kind : Kind) (start at : ℤ) (in_years : IsInYears kind
         grind (arith, nat_tests)
 
     -- it does not: there are fewer
-    pub is_beyond : (left : ℕ) → IsNthOf tree number (day_part kind at) (Beyond left) → false ≡ nat_le number (members_to rule kind start at)
+    pub is_beyond : (left : ℕ) → IsNthDayOf tree number (day_part kind at) (Beyond left) → false ≡ nat_le number (members_to rule kind start at)
     is_beyond left p = let m : members_to rule kind start at < number = omega (arith, p.0, p.1, members_before) in grind (arith, nat_tests)

@@ -6,7 +6,7 @@ ghost use Rattle.rr_model.specs.Rule.Member.{members_to};
 ghost use Rattle.rr_model.specs.Series.Soundness.{IsSound};
 ghost use Rattle.rr_translate.specs.OneEnd.{one_end, with_one_end, with_one_ends};
 
-use rr_iter::{Nth, Upto, nth_of};
+use rr_iter::{NthDay, Upto, nth_of};
 use rr_model::{End, Kind, NoMemory, Rule, Rules, Series, day_part};
 use rr_walk::RuleLazy;
 use std::alloc::Global;
@@ -29,7 +29,7 @@ fn has_members_to(
     let chosen = RuleLazy::new(alloc, rule, kind, start)?;
     let members = Upto::new(chosen, kind, at);
     let nth = nth_of(alloc, members, count, day_part(kind, at))?;
-    Ok(matches!(nth, Nth::On(_)))
+    Ok(matches!(nth, NthDay::On(_)))
 }
 
 // The end of a rule, of both ends the earlier one alone.

@@ -1,6 +1,6 @@
 -- What is judged of the series of a key.
 use Rattle.std.proofs.Common.{◌≡◌, ℕ, ◌<◌, inl, List, ℤ, Option, None, Some, Result, Ok, Err, refl, subst, sym, ap}
-use Rattle.rr_fold.specs.Judged.{IsJudged, all_limits}
+use Rattle.rr_fold.specs.Judged.{IsFoldJudged, all_limits}
 use Rattle.rr_model.specs.Series.Cycle.{series_cycle}
 use Rattle.rr_model.specs.Series.FirstRefusal.{IsFirstRefusal, IsLimitRefusal}
 use Rattle.rr_model.specs.Series.Occurrences.{Occurs}
@@ -42,7 +42,7 @@ module _ (series checked : Series) (same : checked ≡ series) (sound : first_re
   }
 
   -- a limit refuses it, or memory was wanting
-  pub not_folded : (X : Type 0) (f : Fault) → IsJudged {X = X} checked (Err f) → IsFaultOf series f
+  pub not_folded : (X : Type 0) (f : Fault) → IsFoldJudged {X = X} checked (Err f) → IsFaultOf series f
   not_folded X (Refused r) judged = rw sound (subst (λ (s : Series). IsLimitRefusal all_limits s (Some r)) same judged)
   not_folded X NoMemory judged = tt
 

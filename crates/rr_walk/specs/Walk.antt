@@ -13,7 +13,7 @@ use Rattle.rr_model.specs.Sets.Tree.{Tree, chosen_of, stands_at}
 use Rattle.rr_walk.specs.Ruling.{AllowsDay, IsTimeOf, Ruling}
 use Rattle.rr_walk.specs.Steps.{tree_of_ruling}
 use Rattle.rr_lazy.specs.declared.occupied_day.OccupiedDay.{OccupiedDay}
-use Rattle.rr_lazy.specs.Next.{HasNone, IsFirstOccupied, IsWithin, with_set}
+use Rattle.rr_lazy.specs.Next.{HasNone, IsFirstOccupied, IsInTable, with_set}
 use Rattle.rr_lazy.specs.DayTimes.{DayTimes}
 
 -- the seconds of a day that are not before the start are those from this one on
@@ -56,27 +56,27 @@ IsFirstWithTimes r days from result =
 -- the first occupied day from one on and not after another
 abbrev pub IsFirstUpToIn : List (List ℕ) → Tree → ℤ → ℤ → Option OccupiedDay → Type 0
 IsFirstUpToIn sets tree from to None = IsFirstUpTo tree from to None
-IsFirstUpToIn sets tree from to (Some found) = IsWithin sets found × IsFirstUpTo tree from to (Some (with_set sets found))
+IsFirstUpToIn sets tree from to (Some found) = IsInTable sets found × IsFirstUpTo tree from to (Some (with_set sets found))
 
 -- the day, if it is occupied
 abbrev pub IsOnDayIn : List (List ℕ) → Tree → ℤ → Option OccupiedDay → Type 0
 IsOnDayIn sets tree day None = IsOnDay tree day None
-IsOnDayIn sets tree day (Some found) = IsWithin sets found × IsOnDay tree day (Some (with_set sets found))
+IsOnDayIn sets tree day (Some found) = IsInTable sets found × IsOnDay tree day (Some (with_set sets found))
 
 -- the first occupied day from one on, of those that a list has
 abbrev pub IsFirstOfIn : List (List ℕ) → Tree → List ℤ → ℤ → Option OccupiedDay → Type 0
 IsFirstOfIn sets tree days from None = IsFirstOf tree days from None
-IsFirstOfIn sets tree days from (Some found) = IsWithin sets found × IsFirstOf tree days from (Some (with_set sets found))
+IsFirstOfIn sets tree days from (Some found) = IsInTable sets found × IsFirstOf tree days from (Some (with_set sets found))
 
 -- a day with these seconds, None where there are none
 abbrev pub IsDayOfTimes : List (List ℕ) → ℤ → List ℕ → Option OccupiedDay → Type 0
 IsDayOfTimes sets day times None = times ≡ []
-IsDayOfTimes sets day times (Some found) = (found.day ≡ day) × (times ≡ [] → ⊥) × IsWithin sets found × ((with_set sets found).times ≡ times)
+IsDayOfTimes sets day times (Some found) = (found.day ≡ day) × (times ≡ [] → ⊥) × IsInTable sets found × ((with_set sets found).times ≡ times)
 
 -- the day with a set of seconds
 abbrev pub IsDayWith : List (List ℕ) → (ℕ → Type 0) → ℤ → Option OccupiedDay → Type 0
 IsDayWith sets P day None = ⊥
-IsDayWith sets P day (Some found) = (found.day ≡ day) × IsWithin sets found × IsSetOf nat_lt (with_set sets found).times P
+IsDayWith sets P day (Some found) = (found.day ≡ day) × IsInTable sets found × IsSetOf nat_lt (with_set sets found).times P
 
 -- no candidate of a finer rule lies on a day from one on up to another, or this is the first day on which one can lie: it is allowed
 abbrev pub IsFirstFine : Ruling → ℤ → ℤ → Option ℤ → Type 0
@@ -97,7 +97,7 @@ IsFirstIn tree rule unit from (Some found) =
 -- the first occupied day of a unit from a day on, its seconds as the number of a set in the table; None where there is none
 abbrev pub IsFirstInIn : List (List ℕ) → Tree → Rule → ℤ → ℤ → Option OccupiedDay → Type 0
 IsFirstInIn sets tree rule unit from None = IsFirstIn tree rule unit from None
-IsFirstInIn sets tree rule unit from (Some found) = IsWithin sets found × IsFirstIn tree rule unit from (Some (with_set sets found))
+IsFirstInIn sets tree rule unit from (Some found) = IsInTable sets found × IsFirstIn tree rule unit from (Some (with_set sets found))
 
 -- the units before this one, which fits the interval, hold no occupied day from the given one on
 pub record IsWalked (rule : Rule) (tree : Tree) (start_day from unit : ℤ) : Type 0 where

@@ -104,12 +104,12 @@ impl<A: DaySeq + Drop> Counted<A> {
 
     /// The days after a day within 3,000,000,000,000 either way, as far as the numbers of their sets are kept in a row. It tells
     /// how many they are, and no more.
-    pub fn later(&self, day: i64) -> Later<'_>
+    pub fn days_after(&self, day: i64) -> DaysAfter<'_>
         requires low { neg_ℤ (pos 3_000_000_000_000) ≤ℤ day }
         requires high { day ≤ℤ pos 3_000_000_000_000 }
         ensures { AreNumbersAfter (A.sets self.now) (A.sketch self.now) day result.numbers.now }
     {
-        Later {
+        DaysAfter {
             numbers: self.seq.stretch(day).rest,
         }
     }
@@ -134,11 +134,11 @@ fn tick_if_some<L: Ledger>(days: u64, steps: &mut Steps<L>)
 
 /// Days in a row whose numbers are there to be read, one or several at once, each in one step.
 #[derive(Clone, Copy)]
-pub struct Later<'a> {
+pub struct DaysAfter<'a> {
     numbers: &'a [u32],
 }
 
-impl<'a> Later<'a> {
+impl<'a> DaysAfter<'a> {
     /// How many days they are.
     pub fn count(self) -> usize
         ensures { result ≡ length self.entry.numbers.now }

@@ -11,7 +11,7 @@ mod merge;
 mod numbered;
 mod same;
 
-pub use counted::{Counted, Later};
+pub use counted::{Counted, DaysAfter};
 pub use day_seq::{DaySeq, Stretch};
 pub use days::days_between;
 pub use laws::{

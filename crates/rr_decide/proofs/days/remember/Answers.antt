@@ -4,7 +4,7 @@ use Rattle.rr_decide.specs.Quiet.{IsAlike}
 use Rattle.rr_decide.proofs.days.remember.Goals as goal
 
 pub alike_after-alike-requires-clause-alike : goal.alike_after-alike-requires-clause-alike
-alike_after-alike-requires-clause-alike g c = λ x y h. c.requires.quiet x y (inl (subst (λ (o : Option ℕ). IsAlike o x y) c.alike.ensures h))
+alike_after-alike-requires-clause-alike g c = λ x y h. c.requires.quiet x y (inl (subst (λ (o : Option ℕ). IsAlike o x y) c.alike_bound.ensures h))
 
 pub returns-in-Some-Some : goal.returns-in-Some-Some
 returns-in-Some-Some g c = λ x y h.

@@ -17,13 +17,13 @@ compare_numbers-requires-clause-one_length g c =
 
 pub compare_numbers-requires-clause-numbers_of_a : goal.compare_numbers-requires-clause-numbers_of_a
 compare_numbers-requires-clause-numbers_of_a g c =
-    numbers_of_first (g.A.DaySeq.sets c.args.a.now) (g.A.DaySeq.sketch c.args.a.now) (to_z w64 (of_z w64 c.args.day)) c.later-later_a.result.numbers.now
-    c.read_numbers-of_a.result.now _ c.read_numbers-of_a.ensures.numbers c.later-later_a.ensures
+    numbers_of_first (g.A.DaySeq.sets c.args.a.now) (g.A.DaySeq.sketch c.args.a.now) (to_z w64 (of_z w64 c.args.day)) c.days_after-later_a.result.numbers.now
+    c.read_numbers-of_a.result.now _ c.read_numbers-of_a.ensures.numbers c.days_after-later_a.ensures
 
 pub compare_numbers-requires-clause-numbers_of_b : goal.compare_numbers-requires-clause-numbers_of_b
 compare_numbers-requires-clause-numbers_of_b g c =
-    numbers_of_first (g.B.DaySeq.sets c.args.b.now) (g.B.DaySeq.sketch c.args.b.now) (to_z w64 (of_z w64 c.args.day)) c.later-later_b.result.numbers.now
-    c.read_numbers-of_b.result.now _ c.read_numbers-of_b.ensures.numbers c.later-later_b.ensures
+    numbers_of_first (g.B.DaySeq.sets c.args.b.now) (g.B.DaySeq.sketch c.args.b.now) (to_z w64 (of_z w64 c.args.day)) c.days_after-later_b.result.numbers.now
+    c.read_numbers-of_b.result.now _ c.read_numbers-of_b.ensures.numbers c.days_after-later_b.ensures
 
 pub compare_numbers-requires-clause-first : goal.compare_numbers-requires-clause-first
 compare_numbers-requires-clause-first g c = λ d low high. c.requires.first d (omega (arith, ints)) (omega (arith, ints))

@@ -4,7 +4,7 @@ use Rattle.std.proofs.lemmas.List.Elements.{All-filter}
 use Rattle.rr_model.specs.Moment.{day_part}
 use Rattle.rr_model.specs.Moment.Years.{IsInYears}
 use Rattle.rr_model.specs.Sets.Tree.{dates_of}
-use Rattle.rr_fold.specs.Folding.{HasNoneBefore}
+use Rattle.rr_fold.specs.Folding.{HasNoDayBefore}
 use Rattle.rr_fold.proofs.DatesFromLemmas.{none_among_from}
 use Rattle.rr_fold.proofs.dates.days_of_dates.Goals as goal
 
@@ -22,4 +22,4 @@ days_of_lazy-requires-clause-early c =
     let kind = c.args.kind in
     let first : ℤ = to_z w64 (of_z w64 c.args.first) in
     let tree = c.new-lazy.ensures.tree ∙ ap (dates_of kind) c.in_ok-later.ensures in
-    subst (λ t. HasNoneBefore t first) (sym tree) (λ d s l. none_among_from kind first d s c.args.dates.now l)
+    subst (λ t. HasNoDayBefore t first) (sym tree) (λ d s l. none_among_from kind first d s c.args.dates.now l)

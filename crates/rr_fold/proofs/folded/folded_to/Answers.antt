@@ -17,7 +17,7 @@ use Rattle.rr_fold.proofs.DistinctLemmas.{not_too_many}
 use Rattle.rr_fold.proofs.FoldLemmas.{refused_so}
 use Rattle.rr_fold.proofs.StandsForLemmas.{sketch_stands_for}
 use Rattle.rr_fold.proofs.WholeFoldLemmas.{cycle_some, settled_low, whole_fold}
-use Rattle.rr_fold.specs.Folding.{HasNoneBefore}
+use Rattle.rr_fold.specs.Folding.{HasNoDayBefore}
 use Rattle.rr_days.specs.Sketched.{sketch_of, IsWholeFold}
 use Rattle.rr_fold.specs.declared.folded_days.FoldedDays.{FoldedDays}
 use Rattle.rr_days.specs.declared.folded.Folded.{Folded}
@@ -77,7 +77,7 @@ folded_days-requires-clause-high c =
 pub folded_days-requires-clause-early : goal.folded_days-requires-clause-early
 folded_days-requires-clause-early c =
     let d = days_are (goal.at.folded_days-requires-clause-early c).After-first_day-first in
-    rw d.first (subst (λ z. HasNoneBefore (tree_of z) c.first_day-first.result) c.series-given.ensures.value c.first_day-first.ensures.early)
+    rw d.first (subst (λ z. HasNoDayBefore (tree_of z) c.first_day-first.result) c.series-given.ensures.value c.first_day-first.ensures.early)
 
 pub sequence-requires-clause-whole : goal.sequence-requires-clause-whole
 sequence-requires-clause-whole c =

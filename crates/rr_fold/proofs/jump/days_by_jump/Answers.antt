@@ -3,7 +3,7 @@ use Rattle.std.proofs.lemmas.Int.{ints}
 use Rattle.rr_model.proofs.YearLemmas.{four_digit_bounds}
 use Rattle.rr_model.specs.Moment.{day_part}
 use Rattle.rr_model.specs.Sets.Tree.{chosen_of, first_n}
-use Rattle.rr_fold.specs.Folding.{HasNoneBefore}
+use Rattle.rr_fold.specs.Folding.{HasNoDayBefore}
 use Rattle.rr_days.proofs.BackLemmas.{day_back}
 use Rattle.rr_fold.proofs.JumpedLemmas.{early_end, jumped_folded, jumped_whole, left_out, some_cycle, spliced_few, spliced_long, walked_early}
 use Rattle.rr_fold.proofs.jump.days_by_jump.Goals.{After-days_left_out}
@@ -29,8 +29,8 @@ days_of_lazy-requires-clause-early c =
     let start = c.args.start in
     let tree = c.new-lazy.ensures.tree ∙ (λ i. first_n (c.in_ok-chosen.ensures.tree i) c.args.jump.count)
     ∙ (λ i. first_n (chosen_of rule kind (to_z-of_z c.ranges.start i)) c.args.jump.count) in
-    subst (λ t. HasNoneBefore t (to_z w64 (of_z w64 c.day_part-first.result))) (sym tree)
-    (subst (HasNoneBefore (first_n (chosen_of rule kind start) c.args.jump.count)) (sym (walked c).first)
+    subst (λ t. HasNoDayBefore t (to_z w64 (of_z w64 c.day_part-first.result))) (sym tree)
+    (subst (HasNoDayBefore (first_n (chosen_of rule kind start) c.args.jump.count)) (sym (walked c).first)
     (walked_early rule kind start c.args.end c.args.jump c.requires.sound c.requires.jump c.requires.high))
 
 pub days_of_lazy-requires-clause-low : goal.days_of_lazy-requires-clause-low

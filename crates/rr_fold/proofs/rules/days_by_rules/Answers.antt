@@ -7,7 +7,7 @@ use Rattle.rr_model.specs.Sets.Tree.{dates_of}
 use Rattle.rr_fold.specs.Combined.{AreCombined}
 use Rattle.rr_fold.specs.Folding.{IsFoldedTo}
 use Rattle.rr_fold.specs.Rules.{dates_from, kept_from}
-use Rattle.rr_fold.specs.declared.combined.Op.TheVariants.{Minus}
+use Rattle.rr_fold.specs.declared.combination.Op.TheVariants.{Minus}
 use Rattle.rr_fold.specs.declared.folded_days.FoldedDays.{FoldedDays}
 use Rattle.rr_fold.proofs.ByRulesLemmas.{no_minus, series_alike}
 use Rattle.rr_fold.proofs.CombinedFoldLemmas.{combined_folded, numbers_within}
@@ -32,17 +32,17 @@ returns-then-is_empty-clause-folded c =
     folded_same (kept_from s c.args.first) (tree_of s) (no_minus s c.args.first c.args.end sound c.requires.rules c.requires.early none) c.args.first c.args.end
     days.shapes days.numbers (rw (value, to_z-of_z c.ranges.first, to_z-of_z c.ranges.end) at c.in_ok-days.ensures.folded)
 
-pub combined-requires-clause-long : goal.combined-requires-clause-long
-combined-requires-clause-long c = omega (arith, ints, c.in_ok-days.ensures.whole, c.in_ok-out.ensures.whole)
+pub combination_of-requires-clause-long : goal.combination_of-requires-clause-long
+combination_of-requires-clause-long c = omega (arith, ints, c.in_ok-days.ensures.whole, c.in_ok-out.ensures.whole)
 
-pub combined-requires-clause-empty : goal.combined-requires-clause-empty
-combined-requires-clause-empty c = (c.in_ok-days.ensures.folded.empty, c.in_ok-out.ensures.folded.empty)
+pub combination_of-requires-clause-empty : goal.combination_of-requires-clause-empty
+combination_of-requires-clause-empty c = (c.in_ok-days.ensures.folded.empty, c.in_ok-out.ensures.folded.empty)
 
-pub combined-requires-clause-ones : goal.combined-requires-clause-ones
-combined-requires-clause-ones c = numbers_within _ _ _ c.in_ok-days.days.shapes c.in_ok-days.days.numbers c.in_ok-days.ensures.folded
+pub combination_of-requires-clause-ones : goal.combination_of-requires-clause-ones
+combination_of-requires-clause-ones c = numbers_within _ _ _ c.in_ok-days.days.shapes c.in_ok-days.days.numbers c.in_ok-days.ensures.folded
 
-pub combined-requires-clause-others : goal.combined-requires-clause-others
-combined-requires-clause-others c = numbers_within _ _ _ c.in_ok-out.out.shapes c.in_ok-out.out.numbers c.in_ok-out.ensures.folded
+pub combination_of-requires-clause-others : goal.combination_of-requires-clause-others
+combination_of-requires-clause-others c = numbers_within _ _ _ c.in_ok-out.out.shapes c.in_ok-out.out.numbers c.in_ok-out.ensures.folded
 
 pub returns-clause-folded : goal.returns-clause-folded
 returns-clause-folded c =
@@ -59,7 +59,7 @@ returns-clause-folded c =
     c.args.first c.args.end days.shapes days.numbers out.shapes out.numbers made.shapes made.numbers
     (rw (value, f, e) at c.in_ok-days.ensures.folded) (rw (value, f, e) at c.in_ok-out.ensures.folded)
     (rw (f, e) at c.in_ok-days.ensures.whole) (rw (f, e) at c.in_ok-out.ensures.whole)
-    (series_alike s c.args.first c.args.end sound c.requires.rules c.requires.early) h) c.combined.result c.combined.ensures
+    (series_alike s c.args.first c.args.end sound c.requires.rules c.requires.early) h) c.combination_of.result c.combination_of.ensures
 
 pub returns-clause-whole : goal.returns-clause-whole
 returns-clause-whole c =
@@ -67,4 +67,4 @@ returns-clause-whole c =
     let out = c.in_ok-out.out in
     let whole = rw (to_z-of_z c.ranges.first, to_z-of_z c.ranges.end) at c.in_ok-days.ensures.whole in
     if_ok_map (λ (made : FoldedDays). AreCombined Minus days.shapes days.numbers out.shapes out.numbers made.shapes made.numbers)
-    (λ made. c.args.end ≡ c.args.first +ℤ pos (length made.numbers)) (λ made h. omega (arith, ints, whole, h.whole)) c.combined.result c.combined.ensures
+    (λ made. c.args.end ≡ c.args.first +ℤ pos (length made.numbers)) (λ made h. omega (arith, ints, whole, h.whole)) c.combination_of.result c.combination_of.ensures

@@ -4,7 +4,7 @@ use Rattle.rr_walk.proofs.StepLemmas.{before_start}
 use Rattle.rr_model.proofs.YearLemmas.{four_digit_bounds}
 use Rattle.rr_model.specs.Moment.{day_part}
 use Rattle.rr_model.specs.Sets.Tree.{chosen_of}
-use Rattle.rr_fold.specs.Folding.{HasNoneBefore}
+use Rattle.rr_fold.specs.Folding.{HasNoDayBefore}
 use Rattle.rr_days.proofs.BackLemmas.{day_back}
 use Rattle.rr_fold.proofs.rules.days_chosen.Goals as goal
 
@@ -17,7 +17,7 @@ pub days_of_lazy-requires-clause-early : goal.days_of_lazy-requires-clause-early
 days_of_lazy-requires-clause-early c =
     let day = day_back c.args.kind c.args.start c.day_part.result c.requires.in_years c.day_part.ensures in
     let tree = c.in_ok-lazy.ensures.tree ∙ ap (chosen_of c.args.rule.now c.args.kind) (to_z-of_z c.ranges.start) in
-    subst (λ t. HasNoneBefore t (to_z w64 (of_z w64 c.day_part.result))) (sym tree)
+    subst (λ t. HasNoDayBefore t (to_z w64 (of_z w64 c.day_part.result))) (sym tree)
     (λ d s l. before_start c.args.rule.now c.args.kind c.args.start d s (omega (arith, ints, l, day)))
 
 pub returns-clause-folded : goal.returns-clause-folded

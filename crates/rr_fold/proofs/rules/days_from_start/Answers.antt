@@ -42,17 +42,17 @@ days_of_rule-requires-in-loop-index-clause-counted c =
     count_at c.args.kind c.args.start (to_z w64 (of_z w64 c.args.start)) (to_z-of_z c.ranges.start) list c.args.counted.now c.requires.counted
     c.loop-index.index c.index-rules-index.result _ c.loop-index-test.true c.index-rules-index.is
 
-pub combined-requires-clause-long : goal.combined-requires-clause-long
-combined-requires-clause-long c = omega (arith, ints, c.loop-index.invariant.1, c.in_ok-more.ensures.whole)
+pub combination_of-requires-clause-long : goal.combination_of-requires-clause-long
+combination_of-requires-clause-long c = omega (arith, ints, c.loop-index.invariant.1, c.in_ok-more.ensures.whole)
 
-pub combined-requires-clause-empty : goal.combined-requires-clause-empty
-combined-requires-clause-empty c = (c.loop-index.invariant.0.empty, c.in_ok-more.ensures.folded.empty)
+pub combination_of-requires-clause-empty : goal.combination_of-requires-clause-empty
+combination_of-requires-clause-empty c = (c.loop-index.invariant.0.empty, c.in_ok-more.ensures.folded.empty)
 
-pub combined-requires-clause-ones : goal.combined-requires-clause-ones
-combined-requires-clause-ones c = numbers_within _ _ _ c.loop-index.days.shapes c.loop-index.days.numbers c.loop-index.invariant.0
+pub combination_of-requires-clause-ones : goal.combination_of-requires-clause-ones
+combination_of-requires-clause-ones c = numbers_within _ _ _ c.loop-index.days.shapes c.loop-index.days.numbers c.loop-index.invariant.0
 
-pub combined-requires-clause-others : goal.combined-requires-clause-others
-combined-requires-clause-others c =
+pub combination_of-requires-clause-others : goal.combination_of-requires-clause-others
+combination_of-requires-clause-others c =
     numbers_within _ _ _ c.in_ok-more.more.shapes c.in_ok-more.more.numbers c.in_ok-more.ensures.folded
 
 pub loop-index-preserved : goal.loop-index-preserved

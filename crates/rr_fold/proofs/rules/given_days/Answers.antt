@@ -7,7 +7,7 @@ use Rattle.rr_days.proofs.BackLemmas.{moment_back}
 use Rattle.rr_fold.specs.Combined.{AreCombined}
 use Rattle.rr_fold.specs.Folding.{IsFoldedTo}
 use Rattle.rr_fold.specs.Rules.{dates_from, given_from, members_of_rules}
-use Rattle.rr_fold.specs.declared.combined.Op.TheVariants.{Union}
+use Rattle.rr_fold.specs.declared.combination.Op.TheVariants.{Union}
 use Rattle.rr_fold.specs.declared.folded_days.FoldedDays.{FoldedDays}
 use Rattle.rr_fold.proofs.ByRulesLemmas.{no_plus}
 use Rattle.rr_fold.proofs.CombinedFoldLemmas.{combined_folded, numbers_within}
@@ -37,17 +37,17 @@ returns-then-is_empty-clause-folded c =
     folded_same (members_of_rules s.kind s.start s.rules) (given_from s c.args.first) (no_plus s c.args.first none) c.args.first c.args.end days.shapes days.numbers
     (rw (start, to_z-of_z c.ranges.first, to_z-of_z c.ranges.end, c.as_slice-rules.ensures) at c.in_ok-days.ensures.folded)
 
-pub combined-requires-clause-long : goal.combined-requires-clause-long
-combined-requires-clause-long c = omega (arith, ints, c.in_ok-days.ensures.whole, c.in_ok-dates.ensures.whole)
+pub combination_of-requires-clause-long : goal.combination_of-requires-clause-long
+combination_of-requires-clause-long c = omega (arith, ints, c.in_ok-days.ensures.whole, c.in_ok-dates.ensures.whole)
 
-pub combined-requires-clause-empty : goal.combined-requires-clause-empty
-combined-requires-clause-empty c = (c.in_ok-dates.ensures.folded.empty, c.in_ok-days.ensures.folded.empty)
+pub combination_of-requires-clause-empty : goal.combination_of-requires-clause-empty
+combination_of-requires-clause-empty c = (c.in_ok-dates.ensures.folded.empty, c.in_ok-days.ensures.folded.empty)
 
-pub combined-requires-clause-ones : goal.combined-requires-clause-ones
-combined-requires-clause-ones c = numbers_within _ _ _ c.in_ok-dates.dates.shapes c.in_ok-dates.dates.numbers c.in_ok-dates.ensures.folded
+pub combination_of-requires-clause-ones : goal.combination_of-requires-clause-ones
+combination_of-requires-clause-ones c = numbers_within _ _ _ c.in_ok-dates.dates.shapes c.in_ok-dates.dates.numbers c.in_ok-dates.ensures.folded
 
-pub combined-requires-clause-others : goal.combined-requires-clause-others
-combined-requires-clause-others c = numbers_within _ _ _ c.in_ok-days.days.shapes c.in_ok-days.days.numbers c.in_ok-days.ensures.folded
+pub combination_of-requires-clause-others : goal.combination_of-requires-clause-others
+combination_of-requires-clause-others c = numbers_within _ _ _ c.in_ok-days.days.shapes c.in_ok-days.days.numbers c.in_ok-days.ensures.folded
 
 pub returns-clause-folded : goal.returns-clause-folded
 returns-clause-folded c =
@@ -62,7 +62,7 @@ returns-clause-folded c =
     (λ made h. combined_folded Union (given_from s c.args.first) (dates_of s.kind (dates_from s.kind c.args.first s.plus))
     (members_of_rules s.kind s.start s.rules) c.args.first c.args.end dates.shapes dates.numbers days.shapes days.numbers made.shapes made.numbers
     (rw (f, e) at c.in_ok-dates.ensures.folded) (rw (start, f, e, c.as_slice-rules.ensures) at c.in_ok-days.ensures.folded)
-    (rw (f, e) at c.in_ok-dates.ensures.whole) (rw (f, e) at c.in_ok-days.ensures.whole) (λ d x. refl) h) c.combined.result c.combined.ensures
+    (rw (f, e) at c.in_ok-dates.ensures.whole) (rw (f, e) at c.in_ok-days.ensures.whole) (λ d x. refl) h) c.combination_of.result c.combination_of.ensures
 
 pub returns-clause-whole : goal.returns-clause-whole
 returns-clause-whole c =
@@ -70,4 +70,4 @@ returns-clause-whole c =
     let dates = c.in_ok-dates.dates in
     let whole = rw (to_z-of_z c.ranges.first, to_z-of_z c.ranges.end) at c.in_ok-dates.ensures.whole in
     if_ok_map (λ (made : FoldedDays). AreCombined Union dates.shapes dates.numbers days.shapes days.numbers made.shapes made.numbers)
-    (λ made. c.args.end ≡ c.args.first +ℤ pos (length made.numbers)) (λ made h. omega (arith, ints, whole, h.whole)) c.combined.result c.combined.ensures
+    (λ made. c.args.end ≡ c.args.first +ℤ pos (length made.numbers)) (λ made h. omega (arith, ints, whole, h.whole)) c.combination_of.result c.combination_of.ensures

@@ -5,7 +5,7 @@ use Rattle.rr_walk.specs.Lazies.{position_of_rule, tree_of_rule}
 use Rattle.rr_model.proofs.YearLemmas.{four_digit_bounds, year_1}
 use Rattle.rr_model.specs.Moment.{day_part}
 use Rattle.rr_model.specs.Sets.Tree.{chosen_of}
-use Rattle.rr_fold.specs.Folding.{HasNoneBefore}
+use Rattle.rr_fold.specs.Folding.{HasNoDayBefore}
 use Rattle.rr_fold.specs.Years.{HasEqualYears}
 use Rattle.rr_days.proofs.BackLemmas.{day_back}
 use Rattle.rr_fold.proofs.FineYearLemmas.{equal_slots_have_equal_days}
@@ -17,8 +17,8 @@ days_between-requires-clause-order c =
     let day = day_back c.args.kind c.args.start c.day_part-first.result c.requires.in_years c.day_part-first.ensures in
     omega (arith, ints, day, c.requires.order)
 
-pub days_between-requires-clause-first : goal.days_between-requires-clause-first
-days_between-requires-clause-first c =
+pub days_between-requires-clause-low : goal.days_between-requires-clause-low
+days_between-requires-clause-low c =
     let day = day_back c.args.kind c.args.start c.day_part-first.result c.requires.in_years c.day_part-first.ensures in
     let bounds = four_digit_bounds (day_part c.args.kind c.args.start) c.requires.in_years in
     omega (arith, ints, day, bounds.0)
@@ -55,6 +55,6 @@ walk_by_years-walked-requires-clause-walk c =
     let tree = c.in_ok-lazy.ensures.tree ∙ ap (chosen_of c.args.rule.now c.args.kind) (to_z-of_z c.ranges.start) in
     let first : ℤ = to_z w64 (of_z w64 c.day_part-first.result) in
     nothing_walked (tree_of_rule c.in_ok-lazy.lazy) first (position_of_rule c.in_ok-lazy.lazy) c.in_ok-walk.walk c.in_ok-walk.ensures
-    (subst (λ t. HasNoneBefore t first) (sym tree)
+    (subst (λ t. HasNoDayBefore t first) (sym tree)
     (λ d s l. before_start c.args.rule.now c.args.kind c.args.start d s (omega (arith, ints, l, day))))
     (omega (arith, ints, c.in_ok-lazy.ensures.unasked, year_1, day, bounds.0))

@@ -12,14 +12,14 @@ use Rattle.rr_lazy.proofs.dates_lazy.DatesLazyLazy.next.Goals as goal
 pub returns-in-None-clause-next : goal.returns-in-None-clause-next
 returns-in-None-clause-next c =
     let s = c.args.self.now in
-    let r = c.past-self.result in
+    let r = c.position_past-self.result in
     let fits : FitsSigned w64 s.position = search rules in
     let f = to_z-of_z fits in
     let t = to_z-of_z c.ranges.to in
-    let q : to_z w64 (of_z w64 r) ≡ r = (let fr : FitsSigned w64 r = record { sfits = c.past-self.type_inv } in to_z-of_z fr) in
-    let one = rw (f, t) at c.past-self.ensures.one in
+    let q : to_z w64 (of_z w64 r) ≡ r = (let fr : FitsSigned w64 r = record { sfits = c.position_past-self.type_inv } in to_z-of_z fr) in
+    let one = rw (f, t) at c.position_past-self.ensures.one in
     let none : IsFirstDate s.kind s.dates s.position c.args.to None = rw (c.in-None.is, f, t, c.as_slice.ensures.value) at c.first_date.ensures in
-    rw q (dates_none s.kind s.dates s.position c.args.to r none one, rw f at c.past-self.ensures.kept, rw t at c.past-self.ensures.past, one)
+    rw q (dates_none s.kind s.dates s.position c.args.to r none one, rw f at c.position_past-self.ensures.kept, rw t at c.position_past-self.ensures.past, one)
 
 pub invariant_of-self-in-Some : goal.invariant_of-self-in-Some
 invariant_of-self-in-Some c =

@@ -7,7 +7,7 @@ use Rattle.rr_lazy.proofs.FirstLemmas.{first_day_is}
 use Rattle.rr_lazy.proofs.PositionLemmas.{IsAfterDay, IsPast, after_day, past_read}
 use Rattle.rr_lazy.proofs.ExceptLemmas.{known_past, same_one_kind}
 use Rattle.rr_lazy.proofs.except.ExceptLazy.next.Given.{Over}
-use Rattle.rr_lazy.proofs.except.ExceptLazy.next.Goals.{After-past-self, After-struct_told-1}
+use Rattle.rr_lazy.proofs.except.ExceptLazy.next.Goals.{After-position_past-self, After-struct_told-1}
 use Rattle.rr_lazy.proofs.except.ExceptLazy.next.Goals as goal
 
 pub next_of_both-requires-clause-known : goal.next_of_both-requires-clause-known
@@ -15,23 +15,23 @@ next_of_both-requires-clause-known g c = (c.args.self.now.position, c.args.self.
 
 -- ---- where nothing is given
 
-record Nothing (g : Over) (c : After-past-self g) : Type 0 where
-  past : IsPast c.args.self.now.position c.args.to c.past-self.result
+record Nothing (g : Over) (c : After-position_past-self g) : Type 0 where
+  past : IsPast c.args.self.now.position c.args.to c.position_past-self.result
   known : KnowsBoth c.next_of_both.new.sets
       (part_of (g.A.Lazy.tree c.args.self.now.a) (g.A.Lazy.position c.next_of_both.new.a) c.next_of_both.new.ahead_a)
-      (part_of (g.B.Lazy.tree c.args.self.now.b) (g.B.Lazy.position c.next_of_both.new.b) c.next_of_both.new.ahead_b) c.past-self.result
-  none : HasNone (except (g.A.Lazy.tree c.args.self.now.a) (g.B.Lazy.tree c.args.self.now.b)) c.args.self.now.position c.past-self.result
+      (part_of (g.B.Lazy.tree c.args.self.now.b) (g.B.Lazy.position c.next_of_both.new.b) c.next_of_both.new.ahead_b) c.position_past-self.result
+  none : HasNone (except (g.A.Lazy.tree c.args.self.now.a) (g.B.Lazy.tree c.args.self.now.b)) c.args.self.now.position c.position_past-self.result
 
-nothing : (g : Over) (c : After-past-self g) → Nothing g c
+nothing : (g : Over) (c : After-position_past-self g) → Nothing g c
 nothing g c =
     let s = c.args.self.now in
-    let e = c.past-self.ensures in
-    let past = past_read s.position c.args.to c.past-self.result s.begun (search rules) c.ranges.to (record { sfits = c.past-self.type_inv })
+    let e = c.position_past-self.ensures in
+    let past = past_read s.position c.args.to c.position_past-self.result s.begun (search rules) c.ranges.to (record { sfits = c.position_past-self.type_inv })
     e.kept e.past e.one in
     let n = rw (c.in-None.is, to_z-of_z c.ranges.to) at c.in_ok-next_of_both.ensures.next in
     let o = known_past (g.A.Lazy.tree s.a) (g.B.Lazy.tree s.b) c.next_of_both.new.sets
     (part_of (g.B.Lazy.tree s.b) (g.B.Lazy.position c.next_of_both.new.b) c.next_of_both.new.ahead_b) (g.A.Lazy.position c.next_of_both.new.a) s.position
-    c.args.to c.past-self.result c.next_of_both.new.ahead_a refl (n.2 s.position c.requires.knows.2) n.0 n.1 past.kept past.one in
+    c.args.to c.position_past-self.result c.next_of_both.new.ahead_a refl (n.2 s.position c.requires.knows.2) n.0 n.1 past.kept past.one in
     record { past = past; known = o.0; none = o.1 }
 
 pub invariant_of-self-in-None : goal.invariant_of-self-in-None
@@ -42,13 +42,13 @@ invariant_of-self-in-None g c = record {
 
 pub returns-in-None-clause-knows : goal.returns-in-None-clause-knows
 returns-in-None-clause-knows g c =
-    let n = nothing g (goal.at.returns-in-None-clause-knows g c).After-past-self in
+    let n = nothing g (goal.at.returns-in-None-clause-knows g c).After-position_past-self in
     let e = c.in_ok-next_of_both.ensures in
     (e.knows_a, e.knows_b, rw (e.tree_a, e.tree_b, n.past.new) n.known)
 
 pub returns-in-None-clause-next : goal.returns-in-None-clause-next
 returns-in-None-clause-next g c =
-    let n = nothing g (goal.at.returns-in-None-clause-next g c).After-past-self in
+    let n = nothing g (goal.at.returns-in-None-clause-next g c).After-position_past-self in
     rw n.past.new (n.none, n.past.kept, n.past.past, n.past.one)
 
 -- ---- where a day is given

@@ -7,48 +7,48 @@ use Rattle.rr_lazy.proofs.first_n.FirstNLazy.next.Goals as goal
 pub invariant_of-self : goal.invariant_of-self
 invariant_of-self g c =
     let s = c.args.self.now in
-    let q : to_z w64 (of_z w64 c.past-self.result) ≡ c.past-self.result = to_z-of_z w64 c.past-self.result (record { sfits = c.past-self.type_inv }) in
+    let q : to_z w64 (of_z w64 c.position_past-self.result) ≡ c.position_past-self.result = to_z-of_z w64 c.position_past-self.result (record { sfits = c.position_past-self.type_inv }) in
     rw q (record {
       counting =
-          spent_moves (g.A.Lazy.tree s.lazy) (g.A.Lazy.position s.lazy) s.position s.count s.left s.counting c.past-self.result c.if-self-eq0.true
-          (omega (arith, ints, c.past-self.ensures.kept));
+          spent_moves (g.A.Lazy.tree s.lazy) (g.A.Lazy.position s.lazy) s.position s.count s.left s.counting c.position_past-self.result c.if-self-eq0.true
+          (omega (arith, ints, c.position_past-self.ensures.kept));
     })
 
 pub returns-then-self-eq0-clause-next : goal.returns-then-self-eq0-clause-next
 returns-then-self-eq0-clause-next g c =
     let s = c.args.self.now in
-    let q : to_z w64 (of_z w64 c.past-self.result) ≡ c.past-self.result = to_z-of_z w64 c.past-self.result (record { sfits = c.past-self.type_inv }) in
+    let q : to_z w64 (of_z w64 c.position_past-self.result) ≡ c.position_past-self.result = to_z-of_z w64 c.position_past-self.result (record { sfits = c.position_past-self.type_inv }) in
     rw q (
-      none_spent (g.A.Lazy.tree s.lazy) (g.A.Lazy.position s.lazy) s.position s.count s.left s.counting c.past-self.result c.if-self-eq0.true,
-      omega (arith, ints, c.past-self.ensures.kept),
-      omega (arith, ints, c.past-self.ensures.past),
-      elim c.past-self.ensures.one [ inl e ↦ inl (omega (arith, ints)) | inr e ↦ inr (omega (arith, ints)) ],
+      none_spent (g.A.Lazy.tree s.lazy) (g.A.Lazy.position s.lazy) s.position s.count s.left s.counting c.position_past-self.result c.if-self-eq0.true,
+      omega (arith, ints, c.position_past-self.ensures.kept),
+      omega (arith, ints, c.position_past-self.ensures.past),
+      elim c.position_past-self.ensures.one [ inl e ↦ inl (omega (arith, ints)) | inr e ↦ inr (omega (arith, ints)) ],
     )
 
 pub invariant_of-self-in-None : goal.invariant_of-self-in-None
 invariant_of-self-in-None g c =
     let s = c.args.self.now in
-    let r = c.past-self-in-None.result in
-    let q : to_z w64 (of_z w64 r) ≡ r = to_z-of_z w64 r (record { sfits = c.past-self-in-None.type_inv }) in
+    let r = c.position_past-self-in-None.result in
+    let q : to_z w64 (of_z w64 r) ≡ r = to_z-of_z w64 r (record { sfits = c.position_past-self-in-None.type_inv }) in
     let n = rw c.in-None.is at c.in_ok-next.ensures.next in
     rw q (record {
       counting = (first_none (g.A.Lazy.tree s.lazy) (g.A.Lazy.tree c.next.new.self) (g.A.Lazy.position s.lazy)
           (g.A.Lazy.position c.next.new.self) s.position c.args.to (to_z w64 (of_z w64 c.args.to)) r s.count s.left
           s.counting (omega (arith, c.if-self-eq0.false)) n c.in_ok-next.ensures.tree (to_z-of_z w64 c.args.to c.ranges.to)
-          (omega (arith, ints, c.past-self-in-None.ensures.kept)) (omega (arith, ints, c.past-self-in-None.ensures.past))
-          (elim c.past-self-in-None.ensures.one [ inl e ↦ inl (omega (arith, ints)) | inr e ↦ inr (omega (arith, ints)) ])).0;
+          (omega (arith, ints, c.position_past-self-in-None.ensures.kept)) (omega (arith, ints, c.position_past-self-in-None.ensures.past))
+          (elim c.position_past-self-in-None.ensures.one [ inl e ↦ inl (omega (arith, ints)) | inr e ↦ inr (omega (arith, ints)) ])).0;
     })
 
 pub returns-in-None-clause-next : goal.returns-in-None-clause-next
 returns-in-None-clause-next g c =
     let s = c.args.self.now in
-    let r = c.past-self-in-None.result in
-    let q : to_z w64 (of_z w64 r) ≡ r = to_z-of_z w64 r (record { sfits = c.past-self-in-None.type_inv }) in
+    let r = c.position_past-self-in-None.result in
+    let q : to_z w64 (of_z w64 r) ≡ r = to_z-of_z w64 r (record { sfits = c.position_past-self-in-None.type_inv }) in
     let n = rw c.in-None.is at c.in_ok-next.ensures.next in
     let one : (r ≡ c.args.to +ℤ pos 1) ⊎ (r ≡ s.position) =
-    elim c.past-self-in-None.ensures.one [ inl e ↦ inl (omega (arith, ints)) | inr e ↦ inr (omega (arith, ints)) ] in
-    let kept : s.position ≤ℤ r = omega (arith, ints, c.past-self-in-None.ensures.kept) in
-    let past : c.args.to <ℤ r = omega (arith, ints, c.past-self-in-None.ensures.past) in
+    elim c.position_past-self-in-None.ensures.one [ inl e ↦ inl (omega (arith, ints)) | inr e ↦ inr (omega (arith, ints)) ] in
+    let kept : s.position ≤ℤ r = omega (arith, ints, c.position_past-self-in-None.ensures.kept) in
+    let past : c.args.to <ℤ r = omega (arith, ints, c.position_past-self-in-None.ensures.past) in
     rw q (
       (first_none (g.A.Lazy.tree s.lazy) (g.A.Lazy.tree c.next.new.self) (g.A.Lazy.position s.lazy)
           (g.A.Lazy.position c.next.new.self) s.position c.args.to (to_z w64 (of_z w64 c.args.to)) r s.count s.left

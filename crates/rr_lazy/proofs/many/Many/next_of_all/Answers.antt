@@ -13,7 +13,7 @@ use Rattle.rr_lazy.proofs.UptoLemmas.{begun_next}
 use Rattle.rr_lazy.proofs.ManyLemmas.{all_given, all_none, all_none_by, all_seen, all_some_by, forest_left, gave_it, gave_some_by, known_left, known_on}
 use Rattle.rr_lazy.proofs.ManyLemmas.{many_given, many_late, next_given, part_exists}
 use Rattle.rr_lazy.proofs.many.Many.next_of_all.Given.{Over}
-use Rattle.rr_lazy.proofs.many.Many.next_of_all.Goals.{After-deref, After-deref-2, After-past-self}
+use Rattle.rr_lazy.proofs.many.Many.next_of_all.Goals.{After-deref, After-deref-2, After-position_past-self}
 use Rattle.rr_lazy.proofs.many.Many.next_of_all.Goals as goal
 
 -- ---- what is known once all parts were asked
@@ -41,14 +41,14 @@ after_to g c = omega (arith, ints, to_z-of_z c.ranges.to, c.requires.low, c.requ
 
 -- ---- where no part has a day up to the last one
 
-record Passed (g : Over) (c : After-past-self g) : Type 0 where
-  new : to_z w64 (of_z w64 c.past-self.result) ≡ c.past-self.result
-  kept : c.args.self.now.position ≤ℤ c.past-self.result
-  one : (c.past-self.result ≡ c.args.to +ℤ pos 1) ⊎ (c.past-self.result ≡ c.args.self.now.position)
-  later : All (λ p. IsAhead (g.A.Lazy.tree p.lazy) (g.A.Lazy.position p.lazy) c.past-self.result (seen c.ask_all.new.sets p.ahead)) c.ask_all.new.parts.items
-  nothing : HasNone (many (forest_of (λ p. g.A.Lazy.tree p.lazy) c.ask_all.new.parts.items)) c.args.self.now.position c.past-self.result
+record Passed (g : Over) (c : After-position_past-self g) : Type 0 where
+  new : to_z w64 (of_z w64 c.position_past-self.result) ≡ c.position_past-self.result
+  kept : c.args.self.now.position ≤ℤ c.position_past-self.result
+  one : (c.position_past-self.result ≡ c.args.to +ℤ pos 1) ⊎ (c.position_past-self.result ≡ c.args.self.now.position)
+  later : All (λ p. IsAhead (g.A.Lazy.tree p.lazy) (g.A.Lazy.position p.lazy) c.position_past-self.result (seen c.ask_all.new.sets p.ahead)) c.ask_all.new.parts.items
+  nothing : HasNone (many (forest_of (λ p. g.A.Lazy.tree p.lazy) c.ask_all.new.parts.items)) c.args.self.now.position c.position_past-self.result
 
-passed : (g : Over) (c : After-past-self g) → Passed g c
+passed : (g : Over) (c : After-position_past-self g) → Passed g c
 passed g c =
     let asked = (goal.at.invariant_of-self-then-day-to g c).After-deref in
     let xs = c.ask_all.new.parts.items in
@@ -59,12 +59,12 @@ passed g c =
     let some : All (λ p. ForSome (seen [] p.ahead) (λ x. day ≤ℤ x.day)) xs = rw c.deref.ensures.value at c.first_of_all-day.ensures.least in
     let least = all_some_by sets (λ p. g.A.Lazy.position p.lazy) (λ p. p.ahead) xs day some in
     let df : FitsSigned w64 day = record { sfits = c.first_of_all-day.type_inv } in
-    let rf : FitsSigned w64 c.past-self.result = record { sfits = c.past-self.type_inv } in
-    let kept = rw f at c.past-self.ensures.kept in
-    let one = rw (f, t) at c.past-self.ensures.one in
+    let rf : FitsSigned w64 c.position_past-self.result = record { sfits = c.position_past-self.type_inv } in
+    let kept = rw f at c.position_past-self.ensures.kept in
+    let one = rw (f, t) at c.position_past-self.ensures.one in
     let over : c.args.to <ℤ day = omega (arith, ints, c.if-day-to.true, to_z-of_z df, t) in
     let a = all_none (λ p. g.A.Lazy.tree p.lazy) (λ p. g.A.Lazy.position p.lazy) (λ p. seen sets p.ahead) xs c.args.self.now.position c.args.to
-    c.past-self.result (known g asked) kept one (λ k z l x h. omega (arith, ints, least k z l x h, over)) (none g asked sets) in
+    c.position_past-self.result (known g asked) kept one (λ k z l x h. omega (arith, ints, least k z l x h, over)) (none g asked sets) in
     record { new = to_z-of_z rf; kept = kept; one = one; later = a.0; nothing = a.1 }
 
 pub invariant_of-self-then-day-to : goal.invariant_of-self-then-day-to
@@ -75,15 +75,15 @@ invariant_of-self-then-day-to g c =
 
 pub returns-then-day-to-clause-knows : goal.returns-then-day-to-clause-knows
 returns-then-day-to-clause-knows g c =
-    let a = (goal.at.returns-then-day-to-clause-knows g c).After-past-self in
+    let a = (goal.at.returns-then-day-to-clause-knows g c).After-position_past-self in
     let p = passed g a in
     rw p.new (known_on (λ l. g.A.Lazy.knows l c.ask_all.new.sets) g.A.Lazy.tree g.A.Lazy.position (λ p. p.lazy) (λ p. p.ahead) c.ask_all.new.sets
-    c.ask_all.new.parts.items c.args.self.now.position (held g (goal.at.returns-then-day-to-clause-knows g c).After-deref) c.past-self.result p.later)
+    c.ask_all.new.parts.items c.args.self.now.position (held g (goal.at.returns-then-day-to-clause-knows g c).After-deref) c.position_past-self.result p.later)
 
 pub returns-then-day-to-clause-next : goal.returns-then-day-to-clause-next
 returns-then-day-to-clause-next g c =
-    let p = passed g (goal.at.returns-then-day-to-clause-next g c).After-past-self in
-    rw (p.new, sym c.in_ok-ask_all.ensures.tree) (p.nothing, p.kept, rw (to_z-of_z c.ranges.to) at c.past-self.ensures.past, p.one)
+    let p = passed g (goal.at.returns-then-day-to-clause-next g c).After-position_past-self in
+    rw (p.new, sym c.in_ok-ask_all.ensures.tree) (p.nothing, p.kept, rw (to_z-of_z c.ranges.to) at c.position_past-self.ensures.past, p.one)
 
 -- ---- where some part has one
 

@@ -11,7 +11,7 @@ use Rattle.rr_lazy.specs.Tables.{ahead_more}
 use Rattle.rr_lazy.proofs.AheadLemmas.{given_on, neither, side_given_in, side_none_in, union_day, union_next}
 use Rattle.rr_lazy.proofs.PositionLemmas.{IsPast, past_read}
 use Rattle.rr_lazy.proofs.union.UnionLazy.next.Given.{Over}
-use Rattle.rr_lazy.proofs.union.UnionLazy.next.Goals.{After-on_day-arg-in-Some-2-1, After-past-self}
+use Rattle.rr_lazy.proofs.union.UnionLazy.next.Goals.{After-on_day-arg-in-Some-2-1, After-position_past-self}
 use Rattle.rr_lazy.proofs.union.UnionLazy.next.Goals as goal
 
 same_next : (sets : List (List ℕ)) (t t' u u' : Tree) (from from' to new new' : ℤ) (result : Result (Option OccupiedDay) NoMemory) → t ≡ t' → u ≡ u'
@@ -22,23 +22,23 @@ same_next sets t t' u u' from from' to new new' result e f g h x =
 
 -- ---- where no part has a day up to the last one
 
-record Nothing (g : Over) (c : After-past-self g) : Type 0 where
-  past : IsPast c.fill_both.new.self.position c.args.to c.past-self.result
-  ahead_a : IsAheadIn c.fill_both.new.sets (g.A.Lazy.tree c.fill_both.new.self.a) (g.A.Lazy.position c.fill_both.new.self.a) c.past-self.result
+record Nothing (g : Over) (c : After-position_past-self g) : Type 0 where
+  past : IsPast c.fill_both.new.self.position c.args.to c.position_past-self.result
+  ahead_a : IsAheadIn c.fill_both.new.sets (g.A.Lazy.tree c.fill_both.new.self.a) (g.A.Lazy.position c.fill_both.new.self.a) c.position_past-self.result
       c.fill_both.new.self.ahead_a
-  ahead_b : IsAheadIn c.fill_both.new.sets (g.B.Lazy.tree c.fill_both.new.self.b) (g.B.Lazy.position c.fill_both.new.self.b) c.past-self.result
+  ahead_b : IsAheadIn c.fill_both.new.sets (g.B.Lazy.tree c.fill_both.new.self.b) (g.B.Lazy.position c.fill_both.new.self.b) c.position_past-self.result
       c.fill_both.new.self.ahead_b
-  none : HasNone (union (g.A.Lazy.tree c.fill_both.new.self.a) (g.B.Lazy.tree c.fill_both.new.self.b)) c.fill_both.new.self.position c.past-self.result
+  none : HasNone (union (g.A.Lazy.tree c.fill_both.new.self.a) (g.B.Lazy.tree c.fill_both.new.self.b)) c.fill_both.new.self.position c.position_past-self.result
 
-nothing : (g : Over) (c : After-past-self g) → Nothing g c
+nothing : (g : Over) (c : After-position_past-self g) → Nothing g c
 nothing g c =
     let s = c.fill_both.new.self in
     let k = c.fill_both.ensures.knows in
     let sets = c.fill_both.new.sets in
-    let r = c.past-self.result in
-    let e = c.past-self.ensures in
+    let r = c.position_past-self.result in
+    let e = c.position_past-self.ensures in
     let t = to_z-of_z c.ranges.to in
-    let fits : FitsSigned w64 r = record { sfits = c.past-self.type_inv } in
+    let fits : FitsSigned w64 r = record { sfits = c.position_past-self.type_inv } in
     let past = past_read s.position c.args.to r s.begun (search rules) c.ranges.to fits e.kept e.past e.one in
     let none = rw t at c.in-None.ensures sets in
     let a = side_none_in sets (g.A.Lazy.tree s.a) (g.A.Lazy.position s.a) s.position c.args.to r s.ahead_a k.2 past.kept past.one none.0
@@ -49,13 +49,13 @@ nothing g c =
 
 pub returns-in-None-clause-knows : goal.returns-in-None-clause-knows
 returns-in-None-clause-knows g c =
-    let n = nothing g (goal.at.returns-in-None-clause-knows g c).After-past-self in
+    let n = nothing g (goal.at.returns-in-None-clause-knows g c).After-position_past-self in
     let k = c.fill_both.ensures.knows in
     rw n.past.new (k.0, k.1, n.ahead_a, n.ahead_b)
 
 pub returns-in-None-clause-next : goal.returns-in-None-clause-next
 returns-in-None-clause-next g c =
-    let n = nothing g (goal.at.returns-in-None-clause-next g c).After-past-self in
+    let n = nothing g (goal.at.returns-in-None-clause-next g c).After-position_past-self in
     let e = c.fill_both.ensures in
     rw (n.past.new, sym e.tree_a, sym e.tree_b, sym e.position) (n.none, n.past.kept, n.past.past, n.past.one)
 

@@ -15,16 +15,16 @@ use Rattle.rr_lazy.proofs.FirstLemmas.{first_day_is}
 use Rattle.rr_lazy.proofs.PositionLemmas.{IsAfterDay, IsPast, after_day, past_read}
 use Rattle.rr_lazy.proofs.UptoLemmas.{none_after, upto_none, upto_emptied, upto_some, take_some}
 use Rattle.rr_lazy.proofs.upto.UptoLazy.next.Given.{Over}
-use Rattle.rr_lazy.proofs.upto.UptoLazy.next.Goals.{After-count_to-arg-in-Some-1, After-min, After-past-self-in-None, After-past-self-then-found-eq0}
+use Rattle.rr_lazy.proofs.upto.UptoLazy.next.Goals.{After-count_to-arg-in-Some-1, After-min, After-position_past-self-in-None, After-position_past-self-then-found-eq0}
 use Rattle.rr_lazy.proofs.upto.UptoLazy.next.Goals.{After-struct_told-1}
 use Rattle.rr_lazy.proofs.upto.UptoLazy.next.Goals as goal
 
 pub returns-then-self-clause-next : goal.returns-then-self-clause-next
 returns-then-self-clause-next g c =
     let s = c.args.self.now in
-    let e = c.past-self.ensures in
-    let fits : FitsSigned w64 c.past-self.result = record { sfits = c.past-self.type_inv } in
-    let p = past_read s.position c.args.to c.past-self.result s.begun (search rules) c.ranges.to fits e.kept e.past e.one in
+    let e = c.position_past-self.ensures in
+    let fits : FitsSigned w64 c.position_past-self.result = record { sfits = c.position_past-self.type_inv } in
+    let p = past_read s.position c.args.to c.position_past-self.result s.begun (search rules) c.ranges.to fits e.kept e.past e.one in
     let after : day_part s.kind s.at <ℤ s.position = omega (arith, ints, c.if-self.true, s.of_day) in
     rw p.new ((λ d x l h. none_after (g.A.Lazy.tree s.lazy) s.kind s.at d x (omega (arith, ints, l, after))), p.kept, p.past, p.one)
 
@@ -59,13 +59,13 @@ record Nothing (tree : Tree) (kind : Kind) (at position to new own : ℤ) : Type
   none : HasNone (upto tree kind at) position new
   together : new ≤ℤ day_part kind at → own ≡ new
 
-nothing : (g : Over) (c : After-past-self-in-None g) → Nothing (g.A.Lazy.tree c.args.self.now.lazy) c.args.self.now.kind c.args.self.now.at
-    c.args.self.now.position c.args.to c.past-self-in-None.result (g.A.Lazy.position c.next.new.self)
+nothing : (g : Over) (c : After-position_past-self-in-None g) → Nothing (g.A.Lazy.tree c.args.self.now.lazy) c.args.self.now.kind c.args.self.now.at
+    c.args.self.now.position c.args.to c.position_past-self-in-None.result (g.A.Lazy.position c.next.new.self)
 nothing g c =
     let s = c.args.self.now in
-    let r = c.past-self-in-None.result in
-    let e = c.past-self-in-None.ensures in
-    let fits : FitsSigned w64 r = record { sfits = c.past-self-in-None.type_inv } in
+    let r = c.position_past-self-in-None.result in
+    let e = c.position_past-self-in-None.ensures in
+    let fits : FitsSigned w64 r = record { sfits = c.position_past-self-in-None.type_inv } in
     let p = past_read s.position c.args.to r s.begun (search rules) c.ranges.to fits e.kept e.past e.one in
     let b = bound g (goal.at.invariant_of-self-in-None g c).After-min in
     let n = rw (c.in-None.is, b.same) at c.in_ok-next.ensures.next in
@@ -86,7 +86,7 @@ invariant_of-self-in-None g c =
 
 pub returns-in-None-clause-next : goal.returns-in-None-clause-next
 returns-in-None-clause-next g c =
-    let n = nothing g (goal.at.returns-in-None-clause-next g c).After-past-self-in-None in
+    let n = nothing g (goal.at.returns-in-None-clause-next g c).After-position_past-self-in-None in
     rw n.past.new (n.none, n.past.kept, n.past.past, n.past.one)
 
 -- ---- where it has one
@@ -114,13 +114,13 @@ count_to-requires-clause-of_day g c =
 
 -- ---- where nothing is kept of that day
 
-emptied : (g : Over) (c : After-past-self-then-found-eq0 g) → Nothing (g.A.Lazy.tree c.args.self.now.lazy) c.args.self.now.kind c.args.self.now.at
-    c.args.self.now.position c.args.to c.past-self-then-found-eq0.result (g.A.Lazy.position c.next.new.self)
+emptied : (g : Over) (c : After-position_past-self-then-found-eq0 g) → Nothing (g.A.Lazy.tree c.args.self.now.lazy) c.args.self.now.kind c.args.self.now.at
+    c.args.self.now.position c.args.to c.position_past-self-then-found-eq0.result (g.A.Lazy.position c.next.new.self)
 emptied g c =
     let s = c.args.self.now in
-    let r = c.past-self-then-found-eq0.result in
-    let e = c.past-self-then-found-eq0.ensures in
-    let fits : FitsSigned w64 r = record { sfits = c.past-self-then-found-eq0.type_inv } in
+    let r = c.position_past-self-then-found-eq0.result in
+    let e = c.position_past-self-then-found-eq0.ensures in
+    let fits : FitsSigned w64 r = record { sfits = c.position_past-self-then-found-eq0.type_inv } in
     let p = past_read s.position c.args.to r s.begun (search rules) c.ranges.to fits e.kept e.past e.one in
     let at = goal.at.invariant_of-self-then-found-eq0 g c in
     let b = bound g at.After-min in
@@ -149,7 +149,7 @@ invariant_of-self-then-found-eq0 g c =
 
 pub returns-then-found-eq0-clause-next : goal.returns-then-found-eq0-clause-next
 returns-then-found-eq0-clause-next g c =
-    let e = emptied g (goal.at.returns-then-found-eq0-clause-next g c).After-past-self-then-found-eq0 in
+    let e = emptied g (goal.at.returns-then-found-eq0-clause-next g c).After-position_past-self-then-found-eq0 in
     rw e.past.new (e.none, e.past.kept, e.past.past, e.past.one)
 
 -- ---- where something is

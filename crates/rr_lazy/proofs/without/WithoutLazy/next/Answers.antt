@@ -7,7 +7,7 @@ use Rattle.rr_lazy.proofs.FirstLemmas.{first_day_is}
 use Rattle.rr_lazy.proofs.PositionLemmas.{IsAfterDay, IsPast, after_day, past_read}
 use Rattle.rr_lazy.proofs.WithoutLemmas.{known_past}
 use Rattle.rr_lazy.proofs.without.WithoutLazy.next.Given.{Over}
-use Rattle.rr_lazy.proofs.without.WithoutLazy.next.Goals.{After-past-self, After-struct_told-1}
+use Rattle.rr_lazy.proofs.without.WithoutLazy.next.Goals.{After-position_past-self, After-struct_told-1}
 use Rattle.rr_lazy.proofs.without.WithoutLazy.next.Goals as goal
 
 pub next_left-requires-clause-known : goal.next_left-requires-clause-known
@@ -15,21 +15,21 @@ next_left-requires-clause-known g c = rw (c.as_slice-dates.ensures.value) (c.arg
 
 -- ---- where nothing is given
 
-record Nothing (g : Over) (c : After-past-self g) : Type 0 where
-  past : IsPast c.args.self.now.position c.args.to c.past-self.result
+record Nothing (g : Over) (c : After-position_past-self g) : Type 0 where
+  past : IsPast c.args.self.now.position c.args.to c.position_past-self.result
   known : KnowsPart c.next_left.new.sets (g.A.Lazy.tree c.args.self.now.lazy) (g.A.Lazy.position c.next_left.new.lazy) c.args.self.now.kind
-      c.args.self.now.dates c.past-self.result c.next_left.new.ahead
-  none : HasNone (without (g.A.Lazy.tree c.args.self.now.lazy) c.args.self.now.kind c.args.self.now.dates) c.args.self.now.position c.past-self.result
+      c.args.self.now.dates c.position_past-self.result c.next_left.new.ahead
+  none : HasNone (without (g.A.Lazy.tree c.args.self.now.lazy) c.args.self.now.kind c.args.self.now.dates) c.args.self.now.position c.position_past-self.result
 
-nothing : (g : Over) (c : After-past-self g) → Nothing g c
+nothing : (g : Over) (c : After-position_past-self g) → Nothing g c
 nothing g c =
     let s = c.args.self.now in
-    let e = c.past-self.ensures in
-    let past = past_read s.position c.args.to c.past-self.result s.begun (search rules) c.ranges.to (record { sfits = c.past-self.type_inv })
+    let e = c.position_past-self.ensures in
+    let past = past_read s.position c.args.to c.position_past-self.result s.begun (search rules) c.ranges.to (record { sfits = c.position_past-self.type_inv })
     e.kept e.past e.one in
     let n = rw (c.in-None.is, to_z-of_z c.ranges.to, c.as_slice-dates.ensures.value) at c.in_ok-next_left.ensures.next in
     let o = known_past (g.A.Lazy.tree s.lazy) s.kind s.dates c.next_left.new.sets (g.A.Lazy.position c.next_left.new.lazy) s.position c.args.to
-    c.past-self.result c.next_left.new.ahead (n.2 s.position c.requires.knows.1) n.0 n.1 past.kept past.one in
+    c.position_past-self.result c.next_left.new.ahead (n.2 s.position c.requires.knows.1) n.0 n.1 past.kept past.one in
     record { past = past; known = o.0; none = o.1 }
 
 pub invariant_of-self-in-None : goal.invariant_of-self-in-None
@@ -38,12 +38,12 @@ invariant_of-self-in-None g c =
 
 pub returns-in-None-clause-knows : goal.returns-in-None-clause-knows
 returns-in-None-clause-knows g c =
-    let n = nothing g (goal.at.returns-in-None-clause-knows g c).After-past-self in
+    let n = nothing g (goal.at.returns-in-None-clause-knows g c).After-position_past-self in
     (c.in_ok-next_left.ensures.knows, rw (c.in_ok-next_left.ensures.tree, n.past.new) n.known)
 
 pub returns-in-None-clause-next : goal.returns-in-None-clause-next
 returns-in-None-clause-next g c =
-    let n = nothing g (goal.at.returns-in-None-clause-next g c).After-past-self in
+    let n = nothing g (goal.at.returns-in-None-clause-next g c).After-position_past-self in
     rw n.past.new (n.none, n.past.kept, n.past.past, n.past.one)
 
 -- ---- where a day is given

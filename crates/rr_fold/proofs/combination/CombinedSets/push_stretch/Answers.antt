@@ -2,8 +2,8 @@ use Rattle.std.proofs.Common.{rules, ◌≡◌, ℕ, ◌+◌, ◌<◌, [], ◌�
 use Rattle.rr_fold.specs.Combined.{IsCombinationOf}
 use Rattle.rr_days.proofs.PlacedLemmas.{not_grown}
 use Rattle.rr_fold.proofs.CombinedLemmas.{combined_on, none_combined}
-use Rattle.rr_fold.proofs.combined.CombinedSets.push_stretch.Goals as goal
-use Rattle.rr_fold.proofs.combined.CombinedSets.push_stretch.Goals.{then-last-a+in-Ok, else-last-a+else-last-b}
+use Rattle.rr_fold.proofs.combination.CombinedSets.push_stretch.Goals as goal
+use Rattle.rr_fold.proofs.combination.CombinedSets.push_stretch.Goals.{then-last-a+in-Ok, else-last-a+else-last-b}
 
 pub piece-ones-requires : goal.piece-ones-requires
 piece-ones-requires c = omega (arith, c.len-index.ensures.value, c.requires.within)

@@ -1,6 +1,6 @@
 use Rattle.std.proofs.Common.{◌≡◌, ◌-◌, ◌≤◌, length}
 use Rattle.rr_fold.specs.Combined.{AreFreeTo, IsCombinedTo}
-use Rattle.rr_fold.proofs.combined.combined.Given as goal
+use Rattle.rr_fold.proofs.combination.combination_of.Given as goal
 
 -- the numbers so far are those of combinations, and what is known to be free is so
 abbrev pub invariant-loop-index : goal.invariant-loop-index

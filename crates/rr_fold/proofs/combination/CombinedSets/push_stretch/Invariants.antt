@@ -1,6 +1,6 @@
 use Rattle.std.proofs.Common.{◌≡◌, ◌+◌, length}
 use Rattle.rr_fold.specs.Combined.{IsCombinationOf, IsCombinedTo}
-use Rattle.rr_fold.proofs.combined.CombinedSets.push_stretch.Given as goal
+use Rattle.rr_fold.proofs.combination.CombinedSets.push_stretch.Given as goal
 
 -- the numbers so far are those of combinations, and so is the last one
 abbrev pub invariant-loop-k : goal.invariant-loop-k

@@ -50,7 +50,7 @@ struct CombinedSets {
 /// `TooManyMoments` where the distinct sets of the result have together more than `MAX_SECONDS` seconds. Two sets are combined
 /// once. Days that are free in both lists are passed over, and of days in a row with the same two sets only the first is looked
 /// up.
-pub fn combined(
+pub fn combination_of(
     alloc: Global,
     op: Op,
     one: &FoldedDays,

@@ -3,7 +3,7 @@ use Rattle.std.specs.Prelude.{Some, slice_get}
 use Rattle.rr_fold.specs.Combined.{AreCombinationsOf, IsCombinationOf}
 use Rattle.rr_days.proofs.PlacedLemmas.{placed_extends, placed_grown}
 use Rattle.rr_fold.proofs.CombinedLemmas.{shapes_kept, union_at, unions_kept, unions_put}
-use Rattle.rr_fold.proofs.combined.CombinedSets.number_of.Goals as goal
+use Rattle.rr_fold.proofs.combination.CombinedSets.number_of.Goals as goal
 
 pub returns-in-Ok-clause-shapes : goal.returns-in-Ok-clause-shapes
 returns-in-Ok-clause-shapes c =

@@ -1,7 +1,7 @@
 use Rattle.std.proofs.Common.{◌≡◌, ◌≤◌, ◌∙◌, ℕ, length, arith, refl}
 use Rattle.rr_fold.specs.Combined.{AreFreeTo}
 use Rattle.rr_fold.proofs.CombinedLemmas.{all_combined, combined_none, free_later, none_free}
-use Rattle.rr_fold.proofs.combined.combined.Goals as goal
+use Rattle.rr_fold.proofs.combination.combination_of.Goals as goal
 
 pub loop-index-init : goal.loop-index-init
 loop-index-init c =

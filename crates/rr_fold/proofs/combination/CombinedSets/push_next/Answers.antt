@@ -2,8 +2,8 @@ use Rattle.std.proofs.Common.{◌≡◌, ℕ, ◌+◌, ◌-◌, length, sym, ari
 use Rattle.rr_runs.specs.Pages.{IsZeroFrom}
 use Rattle.rr_fold.specs.Combined.{AreCombinedSoFar}
 use Rattle.rr_fold.proofs.CombinedLemmas.{combined_on_free, fewer_free, longer_free}
-use Rattle.rr_fold.proofs.combined.CombinedSets.push_next.Goals.{In_ok-push_same}
-use Rattle.rr_fold.proofs.combined.CombinedSets.push_next.Goals as goal
+use Rattle.rr_fold.proofs.combination.CombinedSets.push_next.Goals.{In_ok-push_same}
+use Rattle.rr_fold.proofs.combination.CombinedSets.push_next.Goals as goal
 
 pub free_from-now-requires-clause-one : goal.free_from-now-requires-clause-one
 free_from-now-requires-clause-one c = omega (arith, c.len-index.ensures.value, c.requires.within)
