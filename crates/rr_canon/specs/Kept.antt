@@ -7,6 +7,8 @@ use Rattle.rr_model.specs.declared.kind.Kind.{Kind}
 use Rattle.rr_model.specs.declared.sketch.Sketch.{Sketch}
 use Rattle.rr_model.specs.Sets.Descriptor.{is_same_set, number_of, with_sets_of}
 use Rattle.rr_model.specs.Sets.Occupied.{occupied, shape_if_some}
+use Rattle.rr_model.specs.Sets.Sketch.{StandsIn}
+use Rattle.rr_model.specs.Sets.Verdict.{HaveEqualOccurrences}
 use Rattle.rr_word.specs.Stretches.{IsNumberOn}
 use Rattle.rr_word.specs.Numbered.{shapes_of, numbered, number_in}
 use Rattle.rr_word.specs.declared.numbered.NumberedDay.{NumberedDay}
@@ -20,6 +22,10 @@ sketch_of kind sets before settled period cycle = record {
   period = period;
   cycle = shapes_of sets cycle;
 }
+
+-- the same occurrences stand in two sketches
+abbrev pub HaveSameOccurrences : Sketch → Sketch → Type 0
+HaveSameOccurrences s u = HaveEqualOccurrences (StandsIn s) (StandsIn u)
 
 -- the number on a day, before the settled day or repeated from the first period
 abbrev pub number_kept : List NumberedDay → ℤ → ℕ → List NumberedDay → ℤ → Option ℕ

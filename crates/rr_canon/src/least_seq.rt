@@ -1,12 +1,11 @@
 // The least sketch of a set, as a sequence of days.
 ghost use Rattle.std.specs.Prelude.{◌≡◌, ◌≤◌, IfOk, Option, pos, ◌+ℤ◌, ◌-ℤ◌, ◌≤ℤ◌};
 ghost use Rattle.rr_model.specs.Bounds.{longest_period};
-ghost use Rattle.rr_model.specs.Sets.Sketch.{IsFirstDay, IsNearDay, StandsIn};
-ghost use Rattle.rr_model.specs.Sets.Verdict.{HaveEqualOccurrences};
+ghost use Rattle.rr_model.specs.Sets.Sketch.{IsFirstDay, IsNearDay};
 ghost use Rattle.rr_model.specs.Whole.{floor_mod};
 ghost use Rattle.rr_model.specs.Sets.Least.{IsLeastOfNone, IsLeastSketch};
 ghost use Rattle.rr_word.specs.Bounded.{IsBounded, IsBounded-prop, IsFirstDay-prop};
-ghost use Rattle.rr_canon.specs.Kept.{IsKept, sketch_of};
+ghost use Rattle.rr_canon.specs.Kept.{HaveSameOccurrences, IsKept, sketch_of};
 
 use crate::stretch::number_days;
 use rr_model::{Kind, NoMemory};
@@ -138,8 +137,8 @@ fn day_in_cycle(settled: i64, period: u64, day: i64) -> i64
 pub fn least<A: DaySeq>(alloc: Global, seq: &A) -> Result<LeastSeq, NoMemory>
     ensures least { IfOk result (λ l. IsLeastSketch
         (sketch_of l.kind l.sets l.before l.settled l.period l.cycle)) }
-    ensures same { IfOk result (λ l. HaveEqualOccurrences (StandsIn (A.sketch seq.now))
-        (StandsIn (sketch_of l.kind l.sets l.before l.settled l.period l.cycle))) }
+    ensures same { IfOk result (λ l. HaveSameOccurrences (A.sketch seq.now)
+        (sketch_of l.kind l.sets l.before l.settled l.period l.cycle)) }
 {
     let Some(first) = seq.first() else {
         return Ok(empty_seq(alloc));

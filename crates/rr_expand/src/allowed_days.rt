@@ -2,7 +2,7 @@
 ghost use Rattle.std.specs.Prelude.{◌≡◌, IfOk, OnOk, [], false, pos, true, ◌+ℤ◌, ◌≤ℤ◌, ◌<ℤ◌, ℤ};
 ghost use Rattle.rr_model.specs.Calendar.{IsDayWithin, first_day_of_year};
 ghost use Rattle.rr_expand.specs.Years.{AllowsEveryDay, Filling, IsFirstAllowed, IsYearMask, allows_day, filling_of};
-ghost use Rattle.rr_expand.specs.KeptMasks.{AreAllowedDays, AreMasks, AreKeptMasks, IsFirstMarked, IsMaskedYear, ListAllowed, TellDays, TellsYear, has_date_part};
+ghost use Rattle.rr_expand.specs.KeptMasks.{AreAllowedDays, AreMasks, AreKeptMasks, IsFirstMarked, IsMaskedYear, ListsOn, TellDays, has_date_part};
 
 use crate::year_masks::{YEAR_KEYS, YearMask, mask_key, new_year, year_mask};
 use rr_cal::{date_of, days_in_year};
@@ -226,9 +226,7 @@ impl MaskedYear {
         requires begun { self.now.first ≤ℤ from }
         requires some { from ≤ℤ end }
         requires not_over { end ≤ℤ self.now.next }
-        ensures { (f : Filling) (first : ℤ) → first ≤ℤ from → TellsYear f self.now
-            → ListAllowed f first from days.old.items
-            → OnOk result (ListAllowed f first end days.new.items) }
+        ensures { OnOk result (ListsOn self.now from end days.old.items days.new.items) }
     {
         let last = (end - self.first) as u16;
         let mut bit = (from - self.first) as u16;

@@ -1,9 +1,9 @@
 // JSON texts and the members of their objects (RFC 8259).
-ghost use Rattle.std.specs.Prelude.{◌≡◌, ◌≤◌, option_map, IfOk, Ok, Err};
-ghost use Rattle.std.specs.Result.{MatchResult};
+ghost use Rattle.std.specs.Prelude.{◌≡◌, ◌≤◌, option_map, IfOk};
 ghost use Rattle.std.specs.Str.{IsUtf8, str_eq_ignore_ascii_case};
 ghost use Rattle.serde_json.specs.View.{view};
 ghost use Rattle.rr_model.specs.Graph.Members.{json_object, member_of, number_in, object_in, object_or, text_in, within};
+ghost use Rattle.rr_text.specs.Answers.{AnswersAs};
 ghost use Rattle.rr_graph.specs.Answers.{AnswersValue};
 
 use rr_model::{Fault, Member, Refusal};
@@ -34,8 +34,7 @@ pub(crate) fn find_member<'v>(value: &'v Value, name: &str) -> Option<&'v Value>
 /// The value where it is an object, or the refusal.
 #[tactic(auto, using(crate::proofs::JsonLemmas::object_or_object, crate::proofs::JsonLemmas::object_or_other))]
 pub(crate) fn object_or(value: &Value, refusal: Refusal) -> Result<&Value, Refusal>
-    ensures { MatchResult result (λ v. object_or refusal (view value.now) ≡ Ok (view v.now))
-        (λ other. object_or refusal (view value.now) ≡ Err other) }
+    ensures { AnswersAs (λ v. view v.now) (object_or refusal (view value.now)) result }
 {
     if value.is_object() {
         Ok(value)
@@ -50,8 +49,7 @@ pub(crate) fn object_in<'v>(
     member: Member,
     name: &str,
 ) -> Result<&'v Value, Refusal>
-    ensures { MatchResult result (λ v. object_in member name.now (view value.now) ≡ Ok (view v.now))
-        (λ refusal. object_in member name.now (view value.now) ≡ Err refusal) }
+    ensures { AnswersAs (λ v. view v.now) (object_in member name.now (view value.now)) result }
 {
     match find_member(value, name) {
         Some(found) => object_or(found, Refusal::BadMember(member)),

@@ -1,11 +1,11 @@
 // The members of a range (Microsoft Graph, recurrenceRange).
-ghost use Rattle.std.specs.Prelude.{◌≡◌, option_map, IfOk, IfSome, Ok, Err};
-ghost use Rattle.std.specs.Result.{MatchResult};
+ghost use Rattle.std.specs.Prelude.{◌≡◌, option_map, IfOk, IfSome};
 ghost use Rattle.serde_json.specs.View.{view};
 ghost use Rattle.rr_model.specs.Graph.Reading.{date_in, end_in, end_type_named, range_of};
 ghost use Rattle.rr_model.specs.Graph.Validity.{IsRangeEnd};
 ghost use Rattle.rr_model.specs.Moment.Years.{HasFourDigitYear};
 ghost use Rattle.rr_model.specs.Text.ExtendedMoments.{extended_date_alone};
+ghost use Rattle.rr_text.specs.Answers.{AnswersAs};
 ghost use Rattle.rr_graph.specs.EndTypes.{end_type, end_type_in};
 ghost use Rattle.rr_graph.specs.Ranges.{IsValidRange};
 
@@ -83,8 +83,7 @@ fn end_in(kind: EndKind, range: &Value) -> Result<RangeEnd, Refusal>
 }
 
 fn end_kind_in(range: &Value) -> Result<EndKind, Refusal>
-    ensures { MatchResult result (λ kind. end_type_in (view range.now) ≡ Ok (end_type kind))
-        (λ refusal. end_type_in (view range.now) ≡ Err refusal) }
+    ensures { AnswersAs end_type (end_type_in (view range.now)) result }
 {
     text_in(range, "type")
         .and_then(end_kind_named)

@@ -30,6 +30,10 @@ is_date_separator takes_semicolons = if takes_semicolons then is_comma_or_semico
 abbrev pub date_values : Bool → List ℕ → List (List ℕ)
 date_values takes_semicolons text = slice_split (is_date_separator takes_semicolons) text
 
+-- the text is one date value
+abbrev pub IsOneDate : Bool → List ℕ → Type 0
+IsOneDate takes_semicolons text = date_values takes_semicolons text ≡ text ∷ []
+
 -- the date values of a text are the first one and those of the rest, which is shorter
 pub record IsDateCut (takes_semicolons : Bool) (text first rest : List ℕ) : Type 0 where
   pub values : date_values takes_semicolons text ≡ first ∷ date_values takes_semicolons rest

@@ -1,10 +1,10 @@
 // The used lines of the one event (RFC 5545, section 3.6.1).
 ghost use Rattle.std.specs.Prelude.{◌≡◌, ◌++◌, ◌+◌, [], length, IfOk, OnOk, Ok, Err, codes};
-ghost use Rattle.std.specs.Result.{MatchResult};
 ghost use Rattle.std.specs.List.{cons_option, list_any};
 ghost use Rattle.rr_model.specs.Text.Lines.{physical_lines};
 ghost use Rattle.rr_model.specs.Text.Event.{no_components, value_on, left_by, left_at, scanned, event_scan};
 ghost use Rattle.rr_model.specs.Text.UsedLines.{is_named};
+ghost use Rattle.rr_text.specs.Answers.{AnswersAs};
 ghost use Rattle.rr_ical.specs.Steps.{AreLeftByLine, used_line_on};
 
 use crate::components::Nesting;
@@ -18,8 +18,7 @@ use std::alloc::Global;
 
 // The value of a line that has to have one.
 fn value_on(number: u64, text: &[u8]) -> Result<&[u8], Refusal>
-    ensures { MatchResult result (λ value. value_on number text.now ≡ Ok value.now)
-        (λ refusal. value_on number text.now ≡ Err refusal) }
+    ensures { AnswersAs (λ value. value.now) (value_on number text.now) result }
 {
     match value_of_line(text) {
         Some(value) => Ok(value),

@@ -15,7 +15,8 @@ use Rattle.rr_shapes.specs.Tables.{Extends}
 use Rattle.rr_lazy.specs.declared.occupied_day.OccupiedDay.{OccupiedDay}
 use Rattle.rr_lazy.specs.Next.{HasNone, IsFirstOccupied, IsNextIn, with_set}
 use Rattle.rr_lazy.specs.Ahead.{GaveDay, HasOn, IsGiven, IsAheadIn, IsGivenOn, seen}
-use Rattle.rr_lazy.specs.Except.{IsAheadUpTo, IsLacking, IsLeftBy, IsNextOfBoth, KnowsBoth, Part, part_of, up_to_more}
+use Rattle.rr_lazy.specs.Except.{IsAheadUpTo, IsLacking, IsLeftBy, IsNextOfBoth, KnowsBoth, up_to_more}
+use Rattle.rr_lazy.specs.Parts.{Part, part_of}
 use Rattle.rr_lazy.specs.Tables.{ahead_more, same_day}
 use Rattle.rr_lazy.proofs.AheadLemmas.{advance, on_day}
 use Rattle.rr_lazy.proofs.AheadLemmas.{seen_none as none_seen}

@@ -8,33 +8,8 @@ use Rattle.rr_shapes.specs.Tables.{Extends}
 use Rattle.rr_lazy.specs.declared.occupied_day.OccupiedDay.{OccupiedDay}
 use Rattle.rr_lazy.specs.Next.{HasNone, IsNextIn, IsSoundLazy, with_set}
 use Rattle.rr_lazy.specs.Ahead.{IsAheadIn, IsGivenOn}
+use Rattle.rr_lazy.specs.Parts.{AskedPart, Part}
 use Rattle.rr_lazy.specs.Tables.{ahead_more}
-
--- a part: what it stands for, where it goes on, and the day that it gave and that was not passed on
-pub record Part : Type 0 where
-  pub tree : Tree
-  pub own : ℤ
-  pub ahead : Option OccupiedDay
-
--- the part with this tree, position and day
-abbrev pub part_of : Tree → ℤ → Option OccupiedDay → Part
-part_of tree own ahead = record { tree = tree; own = own; ahead = ahead }
-
--- a part as an iterator stands: its tree and its position, as `tree` and `position` tell them
-abbrev pub part_in : {L : Type 0} → (L → Tree) → (L → ℤ) → L → Option OccupiedDay → Part
-part_in {L} tree position lazy ahead = part_of (tree lazy) (position lazy) ahead
-
--- a part before it is asked and after
-pub record AskedPart : Type 0 where
-  pub before : Part
-  pub after : Part
-
--- the part of an iterator that stood in one state and stands in another, of the same tree
-abbrev pub asked_part : {L : Type 0} → (L → Tree) → (L → ℤ) → L → L → Option OccupiedDay → Option OccupiedDay → AskedPart
-asked_part {L} tree position lazy lazy' ahead ahead' = record {
-  before = part_in tree position lazy ahead;
-  after = part_of (tree lazy) (position lazy') ahead';
-}
 
 -- what is known of a part from some day on that is not after this one
 pub record IsAheadUpTo (sets : List (List ℕ)) (part : Part) (day : ℤ) : Type 0 where

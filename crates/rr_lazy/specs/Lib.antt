@@ -4,6 +4,7 @@ pub mod Except
 pub mod FirstN
 pub mod Many
 pub mod Next
+pub mod Parts
 pub mod PassedOn
 pub mod Stretch
 pub mod Tables

@@ -11,6 +11,7 @@ use Rattle.rr_model.specs.Sets.Tree.{Tree, is_among, dates_of, without, IsOfOneK
 use Rattle.rr_lazy.specs.declared.occupied_day.OccupiedDay.{OccupiedDay}
 use Rattle.rr_lazy.specs.Next.{HasNone, IsNextIn, IsSoundLazy, with_set}
 use Rattle.rr_lazy.specs.Ahead.{IsAheadIn, IsGivenOn}
+use Rattle.rr_lazy.specs.Parts.{AskedPart, Part}
 
 -- the dates before the index lie before the day, and the others do not
 pub record IsFirstFrom (kind : Kind) (dates : List ℤ) (day : ℤ) (index : ℕ) : Type 0 where
@@ -44,8 +45,8 @@ pub record KnowsPart (sets : List (List ℕ)) (tree : Tree) (own : ℤ) (kind : 
   pub known : IsAheadIn sets tree own from ahead
 
 -- the part is known from some position on
-abbrev pub KnowsPartFromSome : List (List ℕ) → Tree → ℤ → Kind → List ℤ → Option OccupiedDay → Type 0
-KnowsPartFromSome sets tree own kind dates ahead = (position : ℤ) × KnowsPart sets tree own kind dates position ahead
+abbrev pub KnowsPartFromSome : List (List ℕ) → Part → Kind → List ℤ → Type 0
+KnowsPartFromSome sets part kind dates = (position : ℤ) × KnowsPart sets part.tree part.own kind dates position part.ahead
 
 -- the dates of the day are taken out of these seconds
 abbrev pub LosesDates : Kind → List ℤ → ℤ → List ℕ → List ℕ → Type 0
@@ -64,6 +65,11 @@ IsNextLeft old new tree kind dates own own' ahead ahead' to (Ok None) =
     × ((position : ℤ) → KnowsPart old tree own kind dates position ahead → KnowsPart new tree own' kind dates position ahead')
 IsNextLeft old new tree kind dates own own' ahead ahead' to (Err e) =
     (position : ℤ) → KnowsPart old tree own kind dates position ahead → KnowsPart new tree own' kind dates position ahead'
+
+-- what a part that was asked gives up to a day once dates are taken out
+abbrev pub IsNextLeftOfAsked : List (List ℕ) → List (List ℕ) → AskedPart → Kind → List ℤ → ℤ → Result (Option OccupiedDay) NoMemory → Type 0
+IsNextLeftOfAsked old new part kind dates to result =
+    IsNextLeft old new part.before.tree kind dates part.before.own part.after.own part.before.ahead part.after.ahead to result
 
 pub sound_without : (tree : Tree) (kind : Kind) (dates : List ℤ) (position : ℤ) → IsOfOneKind (without tree kind dates)
     → first_day_of_year (pos 1) ≤ℤ position → IsSoundLazy (without tree kind dates) position

@@ -10,6 +10,13 @@ use rr_model::NoMemory;
 use rr_shapes::SetTable;
 use std::alloc::Global;
 
+// A part, and the day that it gave and that was not passed on yet.
+#[derive(Drop)]
+pub(crate) struct LazyPart<L: Lazy + Drop> {
+    pub(crate) lazy: L,
+    pub(crate) ahead: Option<OccupiedDay>,
+}
+
 // Asks a part for its first day up to `to`, unless it is known.
 pub(crate) fn fill<L: Lazy>(
     alloc: Global,

@@ -7,10 +7,11 @@ ghost use Rattle.rr_model.proofs.TreeLemmas.{IsOfOneKind-prop};
 ghost use Rattle.rr_model.specs.Sets.Tree.{IsOfOneKind, except};
 ghost use Rattle.rr_shapes.specs.Tables.{Extends};
 ghost use Rattle.rr_lazy.specs.Ahead.{IsGivenOn};
-ghost use Rattle.rr_lazy.specs.Except.{IsAheadUpTo, IsLacking, IsLeftBy, IsNextOfAsked, KnowsBothFromSome, asked_part, part_in, part_of};
+ghost use Rattle.rr_lazy.specs.Except.{IsAheadUpTo, IsLacking, IsLeftBy, IsNextOfAsked, KnowsBothFromSome};
+ghost use Rattle.rr_lazy.specs.Parts.{asked_part, part_in, part_of};
 ghost use Rattle.rr_lazy.specs.Next.{IsUnasked, KnowsIfBoth, with_set};
 
-use crate::ahead::{fill, of_day};
+use crate::ahead::{LazyPart, fill, of_day};
 use crate::position::position_past;
 use crate::{Lazy, OccupiedDay};
 use rr_model::{FIRST_DAY, NoMemory};
@@ -20,14 +21,12 @@ use std::alloc::Global;
 /// The occurrences of one part that another lacks. The other part is asked only up to the days of the first one.
 #[derive(Drop)]
 pub struct Except<A: Lazy + Drop, B: Lazy + Drop> {
-    a: A,
-    b: B,
+    a: LazyPart<A>,
+    b: LazyPart<B>,
     position: i64,
-    ahead_a: Option<OccupiedDay>,
-    ahead_b: Option<OccupiedDay>,
     ghost begun: { first_day_of_year (pos 1) ≤ℤ position },
-    ghost one_kind: { IsOfOneKind (except (A.tree a) (B.tree b)) } by { IsOfOneKind-prop
-        (except (A.tree a) (B.tree b)) },
+    ghost one_kind: { IsOfOneKind (except (A.tree a.lazy) (B.tree b.lazy)) } by { IsOfOneKind-prop
+        (except (A.tree a.lazy) (B.tree b.lazy)) },
 }
 
 impl<A: Lazy + Drop, B: Lazy + Drop> Except<A, B> {
@@ -42,34 +41,40 @@ impl<A: Lazy + Drop, B: Lazy + Drop> Except<A, B> {
             (⟦<Except<A, B> as Lazy>⟧.knows result) }
     {
         Except {
-            a,
-            b,
+            a: LazyPart {
+                lazy: a,
+                ahead: None,
+            },
+            b: LazyPart {
+                lazy: b,
+                ahead: None,
+            },
             position: FIRST_DAY,
-            ahead_a: None,
-            ahead_b: None,
         }
     }
 }
 
 impl<A: Lazy + Drop, B: Lazy + Drop> Lazy for Except<A, B> {
     ghost use Rattle.rr_model.specs.Sets.Tree.{except};
-    ghost use Rattle.rr_lazy.specs.Except.{KnowsBoth, knows_both_more, part_of, sound_except};
+    ghost use Rattle.rr_lazy.specs.Except.{KnowsBoth, knows_both_more, sound_except};
+    ghost use Rattle.rr_lazy.specs.Parts.{part_in};
 
-    ghost tree = { λ s. except (A.tree s.a) (B.tree s.b) };
+    ghost tree = { λ s. except (A.tree s.a.lazy) (B.tree s.b.lazy) };
 
     ghost position = { λ s. s.position };
 
-    ghost knows = { λ s sets. A.knows s.a sets × B.knows s.b sets
-        × KnowsBoth sets (part_of (A.tree s.a) (A.position s.a) s.ahead_a)
-        (part_of (B.tree s.b) (B.position s.b) s.ahead_b) s.position };
+    ghost knows = { λ s sets. A.knows s.a.lazy sets × B.knows s.b.lazy sets
+        × KnowsBoth sets (part_in A.tree A.position s.a) (part_in B.tree B.position s.b)
+        s.position };
 
     ghost knows_more = { λ s old new more k. (
-      A.knows_more s.a old new more k.0,
-      B.knows_more s.b old new more k.1,
+      A.knows_more s.a.lazy old new more k.0,
+      B.knows_more s.b.lazy old new more k.1,
       knows_both_more old new _ _ _ more k.2,
     ) };
 
-    ghost sound = { λ s. sound_except (A.tree s.a) (B.tree s.b) s.position s.one_kind s.begun };
+    ghost sound = { λ s. sound_except (A.tree s.a.lazy) (B.tree s.b.lazy) s.position
+        s.one_kind s.begun };
 
     fn next(
         &mut self,
@@ -77,15 +82,7 @@ impl<A: Lazy + Drop, B: Lazy + Drop> Lazy for Except<A, B> {
         sets: &mut SetTable,
         to: i64,
     ) -> Result<Option<OccupiedDay>, NoMemory> {
-        match next_of_both(
-            alloc,
-            sets,
-            &mut self.a,
-            &mut self.ahead_a,
-            &mut self.b,
-            &mut self.ahead_b,
-            to,
-        )? {
+        match next_of_both(alloc, sets, &mut self.a, &mut self.b, to)? {
             None => {
                 self.position = position_past(self.position, to);
                 Ok(None)
@@ -100,41 +97,37 @@ impl<A: Lazy + Drop, B: Lazy + Drop> Lazy for Except<A, B> {
 
 // The first day up to `to` of which something is left once the second part is taken out. A day that the first part gave is
 // kept until it is known what is left of it, so that a call that ends out of memory loses none.
-fn next_of_both<A: Lazy, B: Lazy>(
+fn next_of_both<A: Lazy + Drop, B: Lazy + Drop>(
     alloc: Global,
     sets: &mut SetTable,
-    a: &mut A,
-    ahead_a: &mut Option<OccupiedDay>,
-    b: &mut B,
-    ahead_b: &mut Option<OccupiedDay>,
+    a: &mut LazyPart<A>,
+    b: &mut LazyPart<B>,
     to: i64,
 ) -> Result<Option<OccupiedDay>, NoMemory>
     requires low { earliest_day ≤ℤ to }
     requires high { to ≤ℤ latest_day }
-    requires knows_a { A.knows a.old sets.old }
-    requires knows_b { B.knows b.old sets.old }
-    requires known { KnowsBothFromSome sets.old (part_in A.tree A.position a.old ahead_a.old)
-        (part_in B.tree B.position b.old ahead_b.old) }
-    ensures tree_a { A.tree a.new ≡ A.tree a.old }
-    ensures tree_b { B.tree b.new ≡ B.tree b.old }
-    ensures knows_a { A.knows a.new sets.new }
-    ensures knows_b { B.knows b.new sets.new }
+    requires knows_a { A.knows a.old.lazy sets.old }
+    requires knows_b { B.knows b.old.lazy sets.old }
+    requires known { KnowsBothFromSome sets.old (part_in A.tree A.position a.old)
+        (part_in B.tree B.position b.old) }
+    ensures tree_a { A.tree a.new.lazy ≡ A.tree a.old.lazy }
+    ensures tree_b { B.tree b.new.lazy ≡ B.tree b.old.lazy }
+    ensures knows_a { A.knows a.new.lazy sets.new }
+    ensures knows_b { B.knows b.new.lazy sets.new }
     ensures kept { Extends sets.old sets.new }
-    ensures next { IsNextOfAsked sets.old sets.new
-        (asked_part A.tree A.position a.old a.new ahead_a.old ahead_a.new)
-        (asked_part B.tree B.position b.old b.new ahead_b.old ahead_b.new)
-        to result }
+    ensures next { IsNextOfAsked sets.old sets.new (asked_part A.tree A.position a.old a.new)
+        (asked_part B.tree B.position b.old b.new) to result }
 {
     'days: loop {
-        fill(alloc, sets, a, ahead_a, to)?;
-        let Some(found) = *ahead_a else {
+        fill(alloc, sets, &mut a.lazy, &mut a.ahead, to)?;
+        let Some(found) = a.ahead else {
             return Ok(None);
         };
         if found.day > to {
             return Ok(None);
         }
-        let left = left_of(alloc, sets, b, ahead_b, found)?;
-        *ahead_a = None;
+        let left = left_of(alloc, sets, &mut b.lazy, &mut b.ahead, found)?;
+        a.ahead = None;
         if left.is_some() {
             return Ok(left);
         }

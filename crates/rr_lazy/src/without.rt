@@ -8,9 +8,10 @@ ghost use Rattle.rr_model.specs.Sets.Tree.{IsOfOneKind, without};
 ghost use Rattle.rr_shapes.specs.Tables.{Extends};
 ghost use Rattle.rr_lazy.specs.Ahead.{IsGivenOn};
 ghost use Rattle.rr_lazy.specs.Next.{IsUnasked, KnowsIf, with_set};
-ghost use Rattle.rr_lazy.specs.Stretch.{IsLeftOf, IsNextLeft, KnowsPartFromSome};
+ghost use Rattle.rr_lazy.specs.Parts.{asked_part, part_in};
+ghost use Rattle.rr_lazy.specs.Stretch.{IsLeftOf, IsNextLeftOfAsked, KnowsPartFromSome};
 
-use crate::ahead::fill;
+use crate::ahead::{LazyPart, fill};
 use crate::position::position_past;
 use crate::stretch::{dates_on, take_out};
 use crate::{Lazy, OccupiedDay};
@@ -22,14 +23,13 @@ use std::alloc::Global;
 /// The occurrences of a part that are not among dates.
 #[derive(Drop)]
 pub struct Without<A: Lazy + Drop> {
-    lazy: A,
+    part: LazyPart<A>,
     kind: Kind,
     dates: Dates,
     position: i64,
-    ahead: Option<OccupiedDay>,
     ghost begun: { first_day_of_year (pos 1) ≤ℤ position },
-    ghost one_kind: { IsOfOneKind (without (A.tree lazy) kind dates) } by { IsOfOneKind-prop
-        (without (A.tree lazy) kind dates) },
+    ghost one_kind: { IsOfOneKind (without (A.tree part.lazy) kind dates) } by { IsOfOneKind-prop
+        (without (A.tree part.lazy) kind dates) },
 }
 
 impl<A: Lazy + Drop> Without<A> {
@@ -42,11 +42,10 @@ impl<A: Lazy + Drop> Without<A> {
         ensures knows { KnowsIf (A.knows lazy) (⟦<Without<A> as Lazy>⟧.knows result) }
     {
         Without {
-            lazy,
+            part: LazyPart { lazy, ahead: None },
             kind,
             dates,
             position: FIRST_DAY,
-            ahead: None,
         }
     }
 }
@@ -56,19 +55,19 @@ impl<A: Lazy + Drop> Lazy for Without<A> {
     ghost use Rattle.rr_lazy.specs.Stretch.{KnowsPart, sound_without};
     ghost use Rattle.rr_lazy.specs.Tables.{knows_part_more};
 
-    ghost tree = { λ s. without (A.tree s.lazy) s.kind s.dates };
+    ghost tree = { λ s. without (A.tree s.part.lazy) s.kind s.dates };
 
     ghost position = { λ s. s.position };
 
-    ghost knows = { λ s sets. A.knows s.lazy sets
-        × KnowsPart sets (A.tree s.lazy) (A.position s.lazy) s.kind s.dates s.position s.ahead };
+    ghost knows = { λ s sets. A.knows s.part.lazy sets × KnowsPart sets (A.tree s.part.lazy)
+        (A.position s.part.lazy) s.kind s.dates s.position s.part.ahead };
 
     ghost knows_more = { λ s old new more k. (
-      A.knows_more s.lazy old new more k.0,
+      A.knows_more s.part.lazy old new more k.0,
       knows_part_more old new _ _ _ _ _ _ more k.1,
     ) };
 
-    ghost sound = { λ s. sound_without (A.tree s.lazy) s.kind s.dates
+    ghost sound = { λ s. sound_without (A.tree s.part.lazy) s.kind s.dates
         s.position s.one_kind s.begun };
 
     fn next(
@@ -78,15 +77,7 @@ impl<A: Lazy + Drop> Lazy for Without<A> {
         to: i64,
     ) -> Result<Option<OccupiedDay>, NoMemory> {
         let dates = self.dates.as_slice();
-        match next_left(
-            alloc,
-            sets,
-            &mut self.lazy,
-            &mut self.ahead,
-            self.kind,
-            dates,
-            to,
-        )? {
+        match next_left(alloc, sets, &mut self.part, self.kind, dates, to)? {
             None => {
                 self.position = position_past(self.position, to);
                 Ok(None)
@@ -101,11 +92,10 @@ impl<A: Lazy + Drop> Lazy for Without<A> {
 
 // The first day up to `to` of which something is left once the dates are taken out. A day that the part gave is kept until
 // it is known what is left of it, so that a call that ends out of memory loses none.
-fn next_left<A: Lazy>(
+fn next_left<A: Lazy + Drop>(
     alloc: Global,
     sets: &mut SetTable,
-    lazy: &mut A,
-    ahead: &mut Option<OccupiedDay>,
+    part: &mut LazyPart<A>,
     kind: Kind,
     dates: &[i64],
     to: i64,
@@ -113,25 +103,25 @@ fn next_left<A: Lazy>(
     requires rises { Rises int_lt dates.now }
     requires low { earliest_day ≤ℤ to }
     requires high { to ≤ℤ latest_day }
-    requires knows { A.knows lazy.old sets.old }
-    requires known { KnowsPartFromSome sets.old (A.tree lazy.old) (A.position lazy.old)
-        kind dates.now ahead.old }
-    ensures tree { A.tree lazy.new ≡ A.tree lazy.old }
-    ensures knows { A.knows lazy.new sets.new }
+    requires knows { A.knows part.old.lazy sets.old }
+    requires known { KnowsPartFromSome sets.old (part_in A.tree A.position part.old)
+        kind dates.now }
+    ensures tree { A.tree part.new.lazy ≡ A.tree part.old.lazy }
+    ensures knows { A.knows part.new.lazy sets.new }
     ensures kept { Extends sets.old sets.new }
-    ensures next { IsNextLeft sets.old sets.new (A.tree lazy.old) kind dates.now
-        (A.position lazy.old) (A.position lazy.new) ahead.old ahead.new to result }
+    ensures next { IsNextLeftOfAsked sets.old sets.new
+        (asked_part A.tree A.position part.old part.new) kind dates.now to result }
 {
     'days: loop {
-        fill(alloc, sets, lazy, ahead, to)?;
-        let Some(found) = *ahead else {
+        fill(alloc, sets, &mut part.lazy, &mut part.ahead, to)?;
+        let Some(found) = part.ahead else {
             return Ok(None);
         };
         if found.day > to {
             return Ok(None);
         }
         let left = left_of(alloc, sets, kind, dates, found)?;
-        *ahead = None;
+        part.ahead = None;
         if left.is_some() {
             return Ok(left);
         }

@@ -1,6 +1,6 @@
 use Rattle.std.proofs.Common.{rules, ◌≡◌, ◌≢◌, [], sym, ◌∙◌, ap, subst, w64, to_z, of_z, to_z-of_z, FitsSigned}
 use Rattle.rr_lazy.specs.Ahead.{IsGivenOn}
-use Rattle.rr_lazy.specs.Except.{part_of, up_to_more}
+use Rattle.rr_lazy.specs.Except.{up_to_more}
 use Rattle.rr_lazy.specs.Next.{with_set}
 use Rattle.rr_lazy.proofs.AheadLemmas.{given_on}
 use Rattle.rr_lazy.proofs.ExceptLemmas.{all_lacking, given_on_more, left_whole, other_day, out_on_day, this_day}

@@ -1,7 +1,8 @@
 use Rattle.std.proofs.Common.{rules, ◌≡◌, ◌∙◌, refl, sym, subst, arith, to_z-of_z, FitsSigned, w64, to_z, of_z, List, ℕ, ℤ, Some, None, pos, ◌<ℤ◌, ◌≤ℤ◌, ◌+ℤ◌}
 use Rattle.std.proofs.lemmas.Int.{ints}
 use Rattle.rr_lazy.specs.declared.occupied_day.OccupiedDay.{OccupiedDay}
-use Rattle.rr_lazy.specs.Except.{IsAheadUpTo, IsLeftBy, KnowsBoth, Part, part_of}
+use Rattle.rr_lazy.specs.Except.{IsAheadUpTo, IsLeftBy, KnowsBoth}
+use Rattle.rr_lazy.specs.Parts.{Part, part_of}
 use Rattle.rr_lazy.proofs.FirstLemmas.{first_day_is}
 use Rattle.rr_lazy.proofs.WithoutLemmas.{fewer_days, next_day}
 use Rattle.rr_lazy.proofs.ExceptLemmas.{both_err, given_late, given_on, given_some, known_filled, next_given, next_kept, next_passed, not_sooner, out_to_day}
@@ -16,34 +17,34 @@ days-init g c = (refl, refl, c.requires.knows_a, c.requires.knows_b, (λ n t h. 
 
 -- the parts as the call found them
 abbrev a_first : (g : Over) (c : After-fill g) → Part
-a_first g c = part_of (g.A.Lazy.tree c.args.a.now) (g.A.Lazy.position c.args.a.now) c.args.ahead_a.now
+a_first g c = part_of (g.A.Lazy.tree c.args.a.now.lazy) (g.A.Lazy.position c.args.a.now.lazy) c.args.a.now.ahead
 
 abbrev b_first : (g : Over) (c : After-fill g) → Part
-b_first g c = part_of (g.B.Lazy.tree c.args.b.now) (g.B.Lazy.position c.args.b.now) c.args.ahead_b.now
+b_first g c = part_of (g.B.Lazy.tree c.args.b.now.lazy) (g.B.Lazy.position c.args.b.now.lazy) c.args.b.now.ahead
 
 -- the second part as this turn found it
 abbrev b_now : (g : Over) (c : After-fill g) → Part
-b_now g c = part_of (g.B.Lazy.tree c.args.b.now) (g.B.Lazy.position c.days.b) c.days.ahead_b
+b_now g c = part_of (g.B.Lazy.tree c.args.b.now.lazy) (g.B.Lazy.position c.days.b.lazy) c.days.b.ahead
 
 -- what was known of the parts at first is known of these
 abbrev Knows : (g : Over) (c : After-fill g) → List (List ℕ) → Part → Part → Type 0
 Knows g c sets a b = (position : ℤ) → KnowsBoth c.args.sets.now (a_first g c) (b_first g c) position → KnowsBoth sets a b position
 
 record Asked (g : Over) (c : After-fill g) : Type 0 where
-  known : Knows g c c.fill.new.sets (part_of (g.A.Lazy.tree c.args.a.now) (g.A.Lazy.position c.fill.new.lazy) c.fill.new.ahead) (b_now g c)
+  known : Knows g c c.fill.new.sets (part_of (g.A.Lazy.tree c.args.a.now.lazy) (g.A.Lazy.position c.fill.new.lazy) c.fill.new.ahead) (b_now g c)
   later : (position : ℤ) → KnowsBoth c.args.sets.now (a_first g c) (b_first g c) position → (found : OccupiedDay) → c.fill.new.ahead ≡ Some found
-      → (next_day c.days.ahead_a (g.A.Lazy.position c.days.a) ≤ℤ found.day) × (g.A.Lazy.position c.fill.new.lazy ≡ found.day +ℤ pos 1)
+      → (next_day c.days.a.ahead (g.A.Lazy.position c.days.a.lazy) ≤ℤ found.day) × (g.A.Lazy.position c.fill.new.lazy ≡ found.day +ℤ pos 1)
 
 asked : (g : Over) (c : After-fill g) → Asked g c
 asked g c =
-    let tree = g.A.Lazy.tree c.args.a.now in
-    let out = g.B.Lazy.tree c.args.b.now in
+    let tree = g.A.Lazy.tree c.args.a.now.lazy in
+    let out = g.B.Lazy.tree c.args.b.now.lazy in
     let i = c.days.invariant in
     record {
-      known = known_filled tree out c.args.sets.now c.days.sets c.fill.new.sets (a_first g c) (b_first g c) (b_now g c) (g.A.Lazy.position c.days.a)
-          (g.A.Lazy.position c.fill.new.lazy) c.days.ahead_a c.fill.new.ahead (g.A.Lazy.tree c.days.a) i.0 i.5 c.fill.ensures.known c.fill.ensures.kept;
-      later = not_sooner tree out c.args.sets.now c.days.sets c.fill.new.sets (a_first g c) (b_first g c) (b_now g c) (g.A.Lazy.position c.days.a)
-          (g.A.Lazy.position c.fill.new.lazy) c.days.ahead_a c.fill.new.ahead (g.A.Lazy.tree c.days.a) i.0 i.5 c.fill.ensures.known c.fill.ensures.kept;
+      known = known_filled tree out c.args.sets.now c.days.sets c.fill.new.sets (a_first g c) (b_first g c) (b_now g c) (g.A.Lazy.position c.days.a.lazy)
+          (g.A.Lazy.position c.fill.new.lazy) c.days.a.ahead c.fill.new.ahead (g.A.Lazy.tree c.days.a.lazy) i.0 i.5 c.fill.ensures.known c.fill.ensures.kept;
+      later = not_sooner tree out c.args.sets.now c.days.sets c.fill.new.sets (a_first g c) (b_first g c) (b_now g c) (g.A.Lazy.position c.days.a.lazy)
+          (g.A.Lazy.position c.fill.new.lazy) c.days.a.ahead c.fill.new.ahead (g.A.Lazy.tree c.days.a.lazy) i.0 i.5 c.fill.ensures.known c.fill.ensures.kept;
     }
 
 pub returns-in_err-fill-clause-next : goal.returns-in_err-fill-clause-next
@@ -71,9 +72,9 @@ returns-then-found-to-clause-next g c =
 
 record Given (g : Over) (c : After-left_of-arg-in-days-2-1 g) : Type 0 where
   known : Knows g (goal.at.left_of-requires-clause-low g c).After-fill c.fill.new.sets
-      (part_of (g.A.Lazy.tree c.args.a.now) (g.A.Lazy.position c.fill.new.lazy) (Some c.in-Some.found))
+      (part_of (g.A.Lazy.tree c.args.a.now.lazy) (g.A.Lazy.position c.fill.new.lazy) (Some c.in-Some.found))
       (b_now g (goal.at.left_of-requires-clause-low g c).After-fill)
-  at_first : KnowsBoth c.fill.new.sets (part_of (g.A.Lazy.tree c.args.a.now) (g.A.Lazy.position c.fill.new.lazy) (Some c.in-Some.found))
+  at_first : KnowsBoth c.fill.new.sets (part_of (g.A.Lazy.tree c.args.a.now.lazy) (g.A.Lazy.position c.fill.new.lazy) (Some c.in-Some.found))
       (b_now g (goal.at.left_of-requires-clause-low g c).After-fill) c.requires.known.0
 
 given : (g : Over) (c : After-left_of-arg-in-days-2-1 g) → Given g c
@@ -83,29 +84,30 @@ given g c =
 
 pub left_of-requires-clause-low : goal.left_of-requires-clause-low
 left_of-requires-clause-low g c =
-    let late = given_late _ (g.B.Lazy.tree c.args.b.now) _ _ _ _ _ (given g c).at_first in
+    let late = given_late _ (g.B.Lazy.tree c.args.b.now.lazy) _ _ _ _ _ (given g c).at_first in
     omega (arith, ints, late, rw first_day_is at c.requires.known.1)
 
 pub left_of-requires-clause-known : goal.left_of-requires-clause-known
 left_of-requires-clause-known g c =
-    subst (λ t. IsAheadUpTo c.fill.new.sets (part_of t (g.B.Lazy.position c.days.b) c.days.ahead_b) c.in-Some.found.day) (sym c.days.invariant.1)
-    (out_to_day _ (g.B.Lazy.tree c.args.b.now) _ _ _ _ _ (given g c).at_first)
+    subst (λ t. IsAheadUpTo c.fill.new.sets (part_of t (g.B.Lazy.position c.days.b.lazy) c.days.b.ahead) c.in-Some.found.day) (sym c.days.invariant.1)
+    (out_to_day _ (g.B.Lazy.tree c.args.b.now.lazy) _ _ _ _ _ (given g c).at_first)
 
 pub left_of-requires-clause-given : goal.left_of-requires-clause-given
-left_of-requires-clause-given g c = given_on _ (g.B.Lazy.tree c.args.b.now) _ _ _ _ _ (given g c).at_first
+left_of-requires-clause-given g c = given_on _ (g.B.Lazy.tree c.args.b.now.lazy) _ _ _ _ _ (given g c).at_first
 
 pub left_of-requires-clause-some : goal.left_of-requires-clause-some
-left_of-requires-clause-some g c = given_some _ (g.B.Lazy.tree c.args.b.now) _ _ _ _ _ (given g c).at_first
+left_of-requires-clause-some g c = given_some _ (g.B.Lazy.tree c.args.b.now.lazy) _ _ _ _ _ (given g c).at_first
 
 -- ---- once it was asked what is left of that day
 
 out_known : (g : Over) (c : After-left_of g)
-    → IsAheadUpTo c.left_of.new.sets (part_of (g.B.Lazy.tree c.args.b.now) (g.B.Lazy.position c.left_of.new.lazy) c.left_of.new.ahead) c.in-Some.found.day
+    → IsAheadUpTo c.left_of.new.sets (part_of (g.B.Lazy.tree c.args.b.now.lazy) (g.B.Lazy.position c.left_of.new.lazy) c.left_of.new.ahead)
+    c.in-Some.found.day
 out_known g c = subst (λ t. IsAheadUpTo c.left_of.new.sets (part_of t (g.B.Lazy.position c.left_of.new.lazy) c.left_of.new.ahead) c.in-Some.found.day)
     c.days.invariant.1 c.left_of.ensures.known
 
 left_is : (g : Over) (c : After-left-in-days-1 g)
-    → IsLeftBy c.fill.new.sets (g.B.Lazy.tree c.args.b.now) c.in-Some.found c.left_of.new.sets c.in_ok-left.left
+    → IsLeftBy c.fill.new.sets (g.B.Lazy.tree c.args.b.now.lazy) c.in-Some.found c.left_of.new.sets c.in_ok-left.left
 left_is g c = subst (λ t. IsLeftBy c.fill.new.sets t c.in-Some.found c.left_of.new.sets c.in_ok-left.left) c.days.invariant.1 c.in_ok-left.ensures.left
 
 pub returns-in_err-left-clause-knows_a : goal.returns-in_err-left-clause-knows_a

@@ -1,6 +1,7 @@
 use Rattle.std.proofs.Common.{◌≡◌, ℤ, pos, nat_abs, ◌+ℤ◌, ◌-ℤ◌}
 use Rattle.rr_shapes.specs.Tables.{Extends}
-use Rattle.rr_lazy.specs.Except.{IsAheadUpTo, part_of}
+use Rattle.rr_lazy.specs.Except.{IsAheadUpTo}
+use Rattle.rr_lazy.specs.Parts.{part_of}
 use Rattle.rr_lazy.proofs.WithoutLemmas.{next_day}
 use Rattle.rr_lazy.proofs.except.pass_to.Given as goal
 

@@ -1,7 +1,8 @@
 use Rattle.std.proofs.Common.{rules, refl, ◌+ℤ◌, pos, Ok, Some, arith, to_z-of_z}
 use Rattle.std.proofs.lemmas.Int.{ints}
 use Rattle.rr_model.specs.Sets.Tree.{except}
-use Rattle.rr_lazy.specs.Except.{KnowsBoth, part_of}
+use Rattle.rr_lazy.specs.Except.{KnowsBoth}
+use Rattle.rr_lazy.specs.Parts.{part_of}
 use Rattle.rr_lazy.specs.Next.{HasNone, IsNextIn}
 use Rattle.rr_lazy.proofs.FirstLemmas.{first_day_is}
 use Rattle.rr_lazy.proofs.PositionLemmas.{IsAfterDay, IsPast, after_day, past_read}
@@ -18,9 +19,9 @@ next_of_both-requires-clause-known g c = (c.args.self.now.position, c.args.self.
 record Nothing (g : Over) (c : After-position_past-self g) : Type 0 where
   past : IsPast c.args.self.now.position c.args.to c.position_past-self.result
   known : KnowsBoth c.next_of_both.new.sets
-      (part_of (g.A.Lazy.tree c.args.self.now.a) (g.A.Lazy.position c.next_of_both.new.a) c.next_of_both.new.ahead_a)
-      (part_of (g.B.Lazy.tree c.args.self.now.b) (g.B.Lazy.position c.next_of_both.new.b) c.next_of_both.new.ahead_b) c.position_past-self.result
-  none : HasNone (except (g.A.Lazy.tree c.args.self.now.a) (g.B.Lazy.tree c.args.self.now.b)) c.args.self.now.position c.position_past-self.result
+      (part_of (g.A.Lazy.tree c.args.self.now.a.lazy) (g.A.Lazy.position c.next_of_both.new.a.lazy) c.next_of_both.new.a.ahead)
+      (part_of (g.B.Lazy.tree c.args.self.now.b.lazy) (g.B.Lazy.position c.next_of_both.new.b.lazy) c.next_of_both.new.b.ahead) c.position_past-self.result
+  none : HasNone (except (g.A.Lazy.tree c.args.self.now.a.lazy) (g.B.Lazy.tree c.args.self.now.b.lazy)) c.args.self.now.position c.position_past-self.result
 
 nothing : (g : Over) (c : After-position_past-self g) → Nothing g c
 nothing g c =
@@ -29,9 +30,9 @@ nothing g c =
     let past = past_read s.position c.args.to c.position_past-self.result s.begun (search rules) c.ranges.to (record { sfits = c.position_past-self.type_inv })
     e.kept e.past e.one in
     let n = rw (c.in-None.is, to_z-of_z c.ranges.to) at c.in_ok-next_of_both.ensures.next in
-    let o = known_past (g.A.Lazy.tree s.a) (g.B.Lazy.tree s.b) c.next_of_both.new.sets
-    (part_of (g.B.Lazy.tree s.b) (g.B.Lazy.position c.next_of_both.new.b) c.next_of_both.new.ahead_b) (g.A.Lazy.position c.next_of_both.new.a) s.position
-    c.args.to c.position_past-self.result c.next_of_both.new.ahead_a refl (n.2 s.position c.requires.knows.2) n.0 n.1 past.kept past.one in
+    let o = known_past (g.A.Lazy.tree s.a.lazy) (g.B.Lazy.tree s.b.lazy) c.next_of_both.new.sets
+    (part_of (g.B.Lazy.tree s.b.lazy) (g.B.Lazy.position c.next_of_both.new.b.lazy) c.next_of_both.new.b.ahead)
+    (g.A.Lazy.position c.next_of_both.new.a.lazy) s.position c.args.to c.position_past-self.result c.next_of_both.new.a.ahead refl (n.2 s.position c.requires.knows.2) n.0 n.1 past.kept past.one in
     record { past = past; known = o.0; none = o.1 }
 
 pub invariant_of-self-in-None : goal.invariant_of-self-in-None
@@ -54,11 +55,11 @@ returns-in-None-clause-next g c =
 -- ---- where a day is given
 
 record Found (g : Over) (c : After-struct_told-1 g) : Type 0 where
-  next : IsNextIn c.next_of_both.new.sets (except (g.A.Lazy.tree c.args.self.now.a) (g.B.Lazy.tree c.args.self.now.b)) c.args.self.now.position
+  next : IsNextIn c.next_of_both.new.sets (except (g.A.Lazy.tree c.args.self.now.a.lazy) (g.B.Lazy.tree c.args.self.now.b.lazy)) c.args.self.now.position
       c.args.to (Ok (Some c.in-Some.found)) (c.in-Some.found.day +ℤ pos 1)
   known : KnowsBoth c.next_of_both.new.sets
-      (part_of (g.A.Lazy.tree c.args.self.now.a) (g.A.Lazy.position c.next_of_both.new.a) c.next_of_both.new.ahead_a)
-      (part_of (g.B.Lazy.tree c.args.self.now.b) (g.B.Lazy.position c.next_of_both.new.b) c.next_of_both.new.ahead_b) (c.in-Some.found.day +ℤ pos 1)
+      (part_of (g.A.Lazy.tree c.args.self.now.a.lazy) (g.A.Lazy.position c.next_of_both.new.a.lazy) c.next_of_both.new.a.ahead)
+      (part_of (g.B.Lazy.tree c.args.self.now.b.lazy) (g.B.Lazy.position c.next_of_both.new.b.lazy) c.next_of_both.new.b.ahead) (c.in-Some.found.day +ℤ pos 1)
   after : IsAfterDay c.in-Some.found.day
 
 found : (g : Over) (c : After-struct_told-1 g) → Found g c

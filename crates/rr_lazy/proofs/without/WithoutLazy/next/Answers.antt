@@ -17,9 +17,9 @@ next_left-requires-clause-known g c = rw (c.as_slice-dates.ensures.value) (c.arg
 
 record Nothing (g : Over) (c : After-position_past-self g) : Type 0 where
   past : IsPast c.args.self.now.position c.args.to c.position_past-self.result
-  known : KnowsPart c.next_left.new.sets (g.A.Lazy.tree c.args.self.now.lazy) (g.A.Lazy.position c.next_left.new.lazy) c.args.self.now.kind
-      c.args.self.now.dates c.position_past-self.result c.next_left.new.ahead
-  none : HasNone (without (g.A.Lazy.tree c.args.self.now.lazy) c.args.self.now.kind c.args.self.now.dates) c.args.self.now.position c.position_past-self.result
+  known : KnowsPart c.next_left.new.sets (g.A.Lazy.tree c.args.self.now.part.lazy) (g.A.Lazy.position c.next_left.new.part.lazy) c.args.self.now.kind
+      c.args.self.now.dates c.position_past-self.result c.next_left.new.part.ahead
+  none : HasNone (without (g.A.Lazy.tree c.args.self.now.part.lazy) c.args.self.now.kind c.args.self.now.dates) c.args.self.now.position c.position_past-self.result
 
 nothing : (g : Over) (c : After-position_past-self g) → Nothing g c
 nothing g c =
@@ -28,8 +28,8 @@ nothing g c =
     let past = past_read s.position c.args.to c.position_past-self.result s.begun (search rules) c.ranges.to (record { sfits = c.position_past-self.type_inv })
     e.kept e.past e.one in
     let n = rw (c.in-None.is, to_z-of_z c.ranges.to, c.as_slice-dates.ensures.value) at c.in_ok-next_left.ensures.next in
-    let o = known_past (g.A.Lazy.tree s.lazy) s.kind s.dates c.next_left.new.sets (g.A.Lazy.position c.next_left.new.lazy) s.position c.args.to
-    c.position_past-self.result c.next_left.new.ahead (n.2 s.position c.requires.knows.1) n.0 n.1 past.kept past.one in
+    let o = known_past (g.A.Lazy.tree s.part.lazy) s.kind s.dates c.next_left.new.sets (g.A.Lazy.position c.next_left.new.part.lazy) s.position c.args.to
+    c.position_past-self.result c.next_left.new.part.ahead (n.2 s.position c.requires.knows.1) n.0 n.1 past.kept past.one in
     record { past = past; known = o.0; none = o.1 }
 
 pub invariant_of-self-in-None : goal.invariant_of-self-in-None
@@ -49,10 +49,10 @@ returns-in-None-clause-next g c =
 -- ---- where a day is given
 
 record Found (g : Over) (c : After-struct_told-1 g) : Type 0 where
-  next : IsNextIn c.next_left.new.sets (without (g.A.Lazy.tree c.args.self.now.lazy) c.args.self.now.kind c.args.self.now.dates)
+  next : IsNextIn c.next_left.new.sets (without (g.A.Lazy.tree c.args.self.now.part.lazy) c.args.self.now.kind c.args.self.now.dates)
       c.args.self.now.position c.args.to (Ok (Some c.in-Some.found)) (c.in-Some.found.day +ℤ pos 1)
-  known : KnowsPart c.next_left.new.sets (g.A.Lazy.tree c.args.self.now.lazy) (g.A.Lazy.position c.next_left.new.lazy) c.args.self.now.kind
-      c.args.self.now.dates (c.in-Some.found.day +ℤ pos 1) c.next_left.new.ahead
+  known : KnowsPart c.next_left.new.sets (g.A.Lazy.tree c.args.self.now.part.lazy) (g.A.Lazy.position c.next_left.new.part.lazy) c.args.self.now.kind
+      c.args.self.now.dates (c.in-Some.found.day +ℤ pos 1) c.next_left.new.part.ahead
   after : IsAfterDay c.in-Some.found.day
 
 found : (g : Over) (c : After-struct_told-1 g) → Found g c
