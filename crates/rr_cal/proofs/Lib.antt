@@ -3,4 +3,4 @@ pub mod JiffLemmas
 mod NearLemmas
 mod NextDayLemmas
 pub mod StretchLemmas
-mod UnitLemmas
+pub mod UnitLemmas

@@ -5,8 +5,8 @@ use Rattle.std.proofs.lemmas.List.Elements.{All-drop, All-head, All-tail}
 use Rattle.rr_model.specs.Whole.Divisors.{lcm}
 use Rattle.rr_model.specs.Series.Cycle.{endless_cycle, rules_cycle}
 use Rattle.rr_model.specs.declared.rule.Rule.{Rule}
-use Rattle.rr_num.proofs.DivisorLemmas.{lcm_some}
-use Rattle.rr_check.proofs.SeriesCycleLemmas.{HasInterval, endless_cycle_some, rules_cycle_some, joined-first, lcm_above}
+use Rattle.rr_num.proofs.DivisorLemmas.{lcm_some, lcm_above}
+use Rattle.rr_check.proofs.SeriesCycleLemmas.{HasInterval, endless_cycle_some, rules_cycle_some, joined-first}
 
 -- what is left of the rules: the next one, and those after it
 pub next_is : (rules : List Rule) (i : ℕ) (rule : Rule) → i < length rules → rule ≡ get_or rules i rule → drop i rules ≡ rule ∷ drop (i + 1) rules

@@ -23,10 +23,11 @@ use Rattle.rr_model.specs.declared.rule.Freq.{Freq}
 use Rattle.rr_model.specs.declared.rule.Freq.TheVariants.{Secondly, Minutely, Hourly, Daily, Weekly, Monthly, Yearly}
 use Rattle.rr_model.specs.declared.rule.Rule.{Rule}
 use Rattle.rr_model.proofs.CalendarLawProofs.{calendar_repeats}
+use Rattle.rr_model.proofs.DividesLemmas.{divides-add}
 use Rattle.rr_num.proofs.DivisorLemmas.{lcm_is, lcm_some}
 use Rattle.rr_check.proofs.ShiftLemmas.{KeepsRule, is_chosen-shift}
 use Rattle.rr_check.proofs.PartLemmas.{AsksNoCalendar, date_parts-cycle, date_parts-weeks, date_parts-any}
-use Rattle.rr_check.proofs.UnitLemmas.{divides-add, day_part-shift, second_part-shift, unit_number-shift, unit_start-shift}
+use Rattle.rr_check.proofs.UnitLemmas.{day_part-shift, second_part-shift, unit_number-shift, unit_start-shift}
 use Rattle.rr_check.proofs.RuleCycleLemmas.{whole_times, whole_intervals, interval_cycle_some}
 
 -- ---- what a frequency has
@@ -170,7 +171,7 @@ module _ (rule : Rule) (kind : Kind) (start : ℤ) (valid : IsValidRule kind rul
   cycles_later k t = chosen_repeats_by rule kind start t valid (rule_cycle rule * k) (dvd-mul_right (rule_cycle rule) k)
 
 -- a number of days earlier, and as many later
-there_and_back : (kind : Kind) (c k : ℕ) (t : ℤ) → (t +ℤ days_in kind (pos c *ℤ negsuc k)) +ℤ days_in kind (pos (c * suc k)) ≡ t
+pub there_and_back : (kind : Kind) (c k : ℕ) (t : ℤ) → (t +ℤ days_in kind (pos c *ℤ negsuc k)) +ℤ days_in kind (pos (c * suc k)) ≡ t
 there_and_back Days c k t = omega (arith, ints)
 there_and_back Moments c k t = omega (arith, ints)
 

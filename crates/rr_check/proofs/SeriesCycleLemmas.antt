@@ -14,11 +14,11 @@ use Rattle.rr_model.specs.declared.rule.End.{End}
 use Rattle.rr_model.specs.declared.rule.End.TheVariants.{Never, Until, Count, Both}
 use Rattle.rr_model.specs.declared.rule.Rule.{Rule}
 use Rattle.rr_model.specs.declared.limits.TheConstants.{MAX_CYCLE_DAYS}
-use Rattle.rr_num.proofs.DivisorLemmas.{lcm_is, lcm_some}
+use Rattle.rr_num.proofs.DivisorLemmas.{lcm_is, lcm_some, lcm_above}
 use Rattle.rr_check.proofs.RuleCycleLemmas.{interval_cycle_some}
 
 -- two numbers that divide each other
-dvd_same : (a b : ℕ) → 1 ≤ a → 1 ≤ b → a ∣ b → b ∣ a → a ≡ b
+pub dvd_same : (a b : ℕ) → 1 ≤ a → 1 ≤ b → a ∣ b → b ∣ a → a ≡ b
 dvd_same a b ha hb p q = omega (arith, le_of_dvd hb p, le_of_dvd ha q)
 
 pub lcm_assoc : (a b c : ℕ) → 1 ≤ a → 1 ≤ b → 1 ≤ c → lcm (lcm a b) c ≡ lcm a (lcm b c)
@@ -42,12 +42,6 @@ pub lcm-one_right : (n : ℕ) → 1 ≤ n → lcm n 1 ≡ n
 lcm-one_right n h =
     let l = lcm_is n 1 h (omega arith) in
     dvd_same (lcm n 1) n (lcm_some n 1 h (omega arith)) h (l.2 n (dvd_refl n) (one-dvd n)) l.0
-
--- a least common multiple is not below either number
-pub lcm_above : (a b : ℕ) → 1 ≤ a → 1 ≤ b → (a ≤ lcm a b) × (b ≤ lcm a b)
-lcm_above a b ha hb =
-    let l = lcm_is a b ha hb in
-    (le_of_dvd (lcm_some a b ha hb) l.0, le_of_dvd (lcm_some a b ha hb) l.1)
 
 pub rule_cycle_some : (rule : Rule) → 1 ≤ rule.interval → 1 ≤ rule_cycle rule
 rule_cycle_some rule h =
@@ -93,7 +87,7 @@ joined-first n rule rules h valid =
 
 -- ---- two lists of rules
 
-over : (n : ℕ) → (n ≤ MAX_CYCLE_DAYS → ⊥) → MAX_CYCLE_DAYS < n
+pub over : (n : ℕ) → (n ≤ MAX_CYCLE_DAYS → ⊥) → MAX_CYCLE_DAYS < n
 over n h = elim (cases_lt 16_777_216 n) [ inl l ↦ l | inr g ↦ absurd (h (omega (arith, g))) ]
 
 -- a cycle that is too long makes the whole too long

@@ -1,7 +1,7 @@
 -- Shifts by days that carry units onto units, frequency by frequency.
-use Rattle.std.proofs.Common.{◌≡◌, ℕ, ◌+◌, ◌≤◌, ℤ, pos, ◌+ℤ◌, ◌-ℤ◌, ◌*ℤ◌, refl, ap, ◌∙◌, arith}
+use Rattle.std.proofs.Common.{◌≡◌, ℕ, ◌+◌, ℤ, pos, ◌+ℤ◌, ◌-ℤ◌, ◌*ℤ◌, refl, ap, ◌∙◌, arith}
 use Rattle.std.proofs.lemmas.Int.{ints}
-use Rattle.rr_model.specs.Whole.{floor_div, floor_mod, divides}
+use Rattle.rr_model.specs.Whole.{floor_div, floor_mod}
 use Rattle.rr_model.specs.Calendar.{year_of, first_day_of_year}
 use Rattle.rr_model.specs.Calendar.Week.{week_index, fourth_day}
 use Rattle.rr_model.specs.Moment.{day_part, second_part, moment_at}
@@ -14,10 +14,6 @@ use Rattle.rr_model.specs.declared.rule.Freq.TheVariants.{Secondly, Minutely, Ho
 use Rattle.rr_model.proofs.FloorLemmas.{floor_div-add, floor_mod-add}
 use Rattle.rr_model.proofs.CycleLemmas.{first_day_of_year-cycle, day_number-cycle, year_of-cycle, month_of-cycle}
 use Rattle.rr_check.proofs.WeekShiftLemmas.{week_index-weeks, fourth_day-weeks}
-
--- whole multiples more leave what is divisible
-pub divides-add : (n : ℕ) (x k : ℤ) → 1 ≤ n → divides n (x +ℤ (k *ℤ pos n)) ≡ divides n x
-divides-add n x k h = rw (floor_mod-add x k n h) refl
 
 -- ---- a shift by days
 
@@ -35,7 +31,7 @@ moment_at-shift Moments d e days is = omega (arith, ints, is)
 
 -- ---- months over cycles of the calendar
 
-month_number-cycle : (d c : ℤ) → month_number (d +ℤ (pos 146_097 *ℤ c)) ≡ month_number d +ℤ (pos 4_800 *ℤ c)
+pub month_number-cycle : (d c : ℤ) → month_number (d +ℤ (pos 146_097 *ℤ c)) ≡ month_number d +ℤ (pos 4_800 *ℤ c)
 month_number-cycle d c = omega (arith, ints, year_of-cycle d c, month_of-cycle d c)
 
 first_day_of_month-cycle : (n c : ℤ) → first_day_of_month (n +ℤ (pos 4_800 *ℤ c)) ≡ first_day_of_month n +ℤ (pos 146_097 *ℤ c)

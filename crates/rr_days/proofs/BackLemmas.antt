@@ -3,30 +3,19 @@ use Rattle.std.proofs.Common.{◌≡◌, ℕ, ◌≤◌, ℤ, pos, neg_ℤ, nat_
 use Rattle.std.proofs.lemmas.Int.{ints, clamps}
 use Rattle.std.specs.Int.{int_min}
 use Rattle.rr_model.specs.Bounds.{earliest_near, first_day_of_all, latest_near}
-use Rattle.rr_model.proofs.WholeLemmas.{floor_whole, floor_mod_below}
-use Rattle.rr_model.proofs.YearLemmas.{four_digit_bounds}
 use Rattle.rr_model.specs.Moment.{day_part}
 use Rattle.rr_model.specs.Moment.Years.{IsInYears}
-use Rattle.rr_model.specs.Whole.{floor_div}
 use Rattle.rr_model.specs.declared.kind.Kind.{Kind}
-use Rattle.rr_model.specs.declared.kind.Kind.TheVariants.{Days, Moments}
+use Rattle.rr_model.specs.declared.kind.Kind.TheVariants.{Days}
+use Rattle.rr_model.proofs.BackLemmas.{in_years_back}
 
 pub back : (x : ℤ) → neg_ℤ (pos 4_000_000_000_000) ≤ℤ x → x ≤ℤ pos 4_000_000_000_000 → to_z w64 (of_z w64 x) ≡ x
 back x low high = let fits : FitsSigned w64 x = search rules in to_z-of_z fits
 
--- a moment of the years 1 to 9999
-pub moment_back : (kind : Kind) (t : ℤ) → IsInYears kind t → to_z w64 (of_z w64 t) ≡ t
-moment_back Days t y = let b = four_digit_bounds t y in back t (omega (arith, ints, b.0)) (omega (arith, ints, b.1))
-moment_back Moments t y =
-    let b = four_digit_bounds (floor_div t 86_400) y in
-    let w = floor_whole t 86_400 (omega arith) in
-    let r = floor_mod_below t 86_400 (omega arith) in
-    back t (omega (arith, ints, b.0, w)) (omega (arith, ints, b.1, w, r))
-
 -- the day of such a moment
 pub day_back : (kind : Kind) (t day : ℤ) → IsInYears kind t → day ≡ day_part kind (to_z w64 (of_z w64 t)) → to_z w64 (of_z w64 day) ≡ day_part kind t
 day_back kind t day y e =
-    (λ i. to_z w64 (of_z w64 ((e ∙ ap (day_part kind) (moment_back kind t y)) i))) ∙ moment_back Days (day_part kind t) y
+    (λ i. to_z w64 (of_z w64 ((e ∙ ap (day_part kind) (in_years_back kind t y)) i))) ∙ in_years_back Days (day_part kind t) y
 
 -- how many days lie between two days
 pub between_back : (day first day' first' : ℤ) → day' ≡ day → first' ≡ first → first ≤ℤ day → day ≤ℤ pos 3_000_000_000_000 → earliest_near ≤ℤ first

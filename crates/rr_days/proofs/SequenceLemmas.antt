@@ -12,14 +12,11 @@ use Rattle.rr_model.specs.declared.sketch.DayShape.{DayShape}
 use Rattle.rr_model.specs.declared.sketch.Sketch.{Sketch}
 use Rattle.rr_model.proofs.WholeLemmas.{floor_only, floor_mod_below}
 use Rattle.rr_word.specs.Bounded.{IsBounded}
+use Rattle.rr_word.proofs.SketchLemmas.{rising_from}
 use Rattle.rr_days.proofs.SketchedLemmas.{times_early, times_before, times_after}
 use Rattle.rr_days.specs.Sketched.{with_day, shapes_from, sketch_of, IsEmptyAt, IsFirstFilled, IsWholeFold}
 
 -- ---- the days rise
-
-rising_from : (a b high : ℤ) (xs : List DayShape) → a ≤ℤ b → HasRisingDays b high xs → HasRisingDays a high xs
-rising_from a b high [] l r = tt
-rising_from a b high (x ∷ xs) l r = (omega (arith, ints, l, r.0), r.1, r.2)
 
 with_rising : (d high : ℤ) (times : List ℕ) (rest : List DayShape) → d <ℤ high → HasRisingDays (d +ℤ pos 1) high rest
     → HasRisingDays d high (with_day d times rest)

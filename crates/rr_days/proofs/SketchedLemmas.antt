@@ -2,9 +2,7 @@
 use Rattle.std.proofs.Common.{◌≡◌, ℕ, zero, suc, ◌+◌, ◌%◌, ◌<◌, ◌≤◌, true, false, List, [], ◌∷◌, length, get_or, take, drop, ℤ, pos, nat_abs}
 use Rattle.std.proofs.Common.{◌+ℤ◌, ◌-ℤ◌, ◌<ℤ◌, refl, ap, ◌∙◌, arith}
 use Rattle.std.specs.Prelude.{int_lt}
-use Rattle.std.specs.Ordering.{int_eq}
 use Rattle.std.proofs.lemmas.Int.{ints}
-use Rattle.std.proofs.lemmas.Bool.Decides.{Decides-int_eq}
 use Rattle.std.proofs.lemmas.Grind.{common_steps}
 use Rattle.std.proofs.lemmas.List.{get_or-take, get_or-drop, length-take-le}
 use Rattle.rr_model.specs.Whole.{floor_mod}
@@ -12,22 +10,17 @@ use Rattle.rr_model.specs.Sets.Sketch.{times_in, times_on}
 use Rattle.rr_model.specs.declared.kind.Kind.{Kind}
 use Rattle.rr_model.specs.declared.sketch.DayShape.{DayShape}
 use Rattle.rr_model.proofs.WholeLemmas.{floor_mod_below}
+use Rattle.rr_word.proofs.ShapeLemmas.{int_eq-same, int_eq-differ}
 use Rattle.rr_days.specs.Sketched.{with_day, shapes_from, sketch_of}
-
-same_day : (x : ℤ) → int_eq x x ≡ true
-same_day x = (Decides-int_eq x x).1 refl
-
-other_day : (x y : ℤ) → (x ≡ y → ⊥) → int_eq x y ≡ false
-other_day x y n = elim (int_eq x y) as (λ b. int_eq x y ≡ b → int_eq x y ≡ false) [ true ↦ λ e. absurd (n ((Decides-int_eq x y).0 e)) | false ↦ λ e. e ] refl
 
 -- the day itself, and other days
 pub with_own : (d : ℤ) (times : List ℕ) (rest : List DayShape) → times_in rest d ≡ [] → times_in (with_day d times rest) d ≡ times
 with_own d [] rest none = none
-with_own d (s ∷ ss) rest none = rw (same_day d) refl
+with_own d (s ∷ ss) rest none = rw (int_eq-same d) refl
 
 pub with_other : (d x : ℤ) (times : List ℕ) (rest : List DayShape) → (d ≡ x → ⊥) → times_in (with_day d times rest) x ≡ times_in rest x
 with_other d x [] rest n = refl
-with_other d x (s ∷ ss) rest n = rw (other_day d x n) refl
+with_other d x (s ∷ ss) rest n = rw (int_eq-differ d x n) refl
 
 module _ (sets : List (List ℕ)) where
   pub none_before : (ns : List ℕ) (d x : ℤ) → x <ℤ d → times_in (shapes_from sets d ns) x ≡ []

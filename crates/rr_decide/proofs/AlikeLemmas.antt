@@ -4,7 +4,7 @@ use Rattle.std.specs.Prelude.{IsTrue, Option, Some, ◌&&◌, max, nat_eq, slice
 use Rattle.std.proofs.lemmas.Bool.{cases_lt}
 use Rattle.std.proofs.lemmas.Int.{ints, by_lt_z}
 use Rattle.std.proofs.lemmas.List.{get_or-take, length-take, length-take-le}
-use Rattle.rr_model.specs.Sets.Sketch.{IsFirstDay, IsValidSketch, times_on}
+use Rattle.rr_model.specs.Sets.Sketch.{IsValidSketch, times_on}
 use Rattle.rr_model.specs.declared.sketch.Sketch.{Sketch}
 use Rattle.rr_model.specs.declared.verdict.Side.{Side}
 use Rattle.rr_model.proofs.PeriodicLemmas.{offset}
@@ -40,13 +40,6 @@ pub none_more : (shows : Side → Bool) (s u : Sketch) (from day : ℤ) (k : ℕ
 none_more shows s u from day k e before here d low high =
     let P : Type 0 = ShowsNone shows (times_on s d) (times_on u d) in
     by_lt_z {P = P} d day (λ l. before d low (omega (arith, ints))) (λ g. (let i : d ≡ day = omega (arith, ints) in rw i here))
-
--- a set has one first occupied day at most
-pub one_first : (s : Sketch) (a b : ℤ) → IsFirstDay s (Some a) → IsFirstDay s (Some b) → a ≡ b
-one_first s a b fa fb =
-    let P : Type 0 = a ≡ b in
-    by_lt_z {P = P} a b (λ l. absurd (fa.0 (fb.1 a l))) (λ g.
-    by_lt_z {P = P} b a (λ l. absurd (fb.0 (fa.1 b l))) (λ h. omega (arith, ints)))
 
 -- ---- days in a row
 

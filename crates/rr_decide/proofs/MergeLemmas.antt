@@ -1,5 +1,5 @@
 -- What the next second of two rising lists, and the seconds after it, show of the whole lists.
-use Rattle.std.proofs.Common.{◌≡◌, ◌↔◌, ◌⊎◌, inl, inr, ℕ, min, max, ◌<◌, Bool, false, List, [], refl, sym, subst, ◌∙◌, arith}
+use Rattle.std.proofs.Common.{◌≡◌, ◌↔◌, inl, inr, ℕ, min, max, ◌<◌, Bool, false, List, [], refl, sym, subst, ◌∙◌, arith}
 use Rattle.std.specs.Prelude.{IsTrue}
 use Rattle.std.specs.List.{Contains}
 use Rattle.std.proofs.lemmas.Bool.{cases_lt, cases_order, false≢true}
@@ -10,6 +10,7 @@ use Rattle.rr_model.proofs.RisingSetLemmas.{Contains-none}
 use Rattle.rr_word.specs.Merge.{IsNextSecond}
 use Rattle.rr_decide.specs.Question.{IsShown, ShowsNone, ShowsNoneBelow, IsFirstShown, shown_by}
 use Rattle.rr_model.specs.declared.question.Question.TheVariants.{Equal, Within, Disjoint}
+use Rattle.rr_model.proofs.SideLemmas.{HoldsOn-some}
 
 -- ---- sides
 
@@ -17,12 +18,6 @@ pub HoldsOn-map : (side : Side) (P Q R S : Type 0) → (P ↔ R) → (Q ↔ S) �
 HoldsOn-map A P Q R S f g h = (f.0 h.0, λ s. h.1 (g.1 s))
 HoldsOn-map B P Q R S f g h = (g.0 h.0, λ r. h.1 (f.1 r))
 HoldsOn-map Both P Q R S f g h = (f.0 h.0, g.0 h.1)
-
--- one at least holds
-pub HoldsOn-some : (side : Side) (P Q : Type 0) → HoldsOn side P Q → P ⊎ Q
-HoldsOn-some A P Q h = inl h.0
-HoldsOn-some B P Q h = inr h.0
-HoldsOn-some Both P Q h = inl h.0
 
 pub HoldsOn-one : (a b : Side) (P Q : Type 0) → HoldsOn a P Q → HoldsOn b P Q → a ≡ b
 HoldsOn-one A A P Q h g = refl

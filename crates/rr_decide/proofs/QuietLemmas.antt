@@ -1,11 +1,11 @@
 -- Numbers of time sets that together show nothing, and the days that have them.
-use Rattle.std.proofs.Common.{◌≡◌, ◌⊎◌, inl, inr, ℕ, ◌+◌, ◌<◌, ◌≤◌, Bool, List, [], length, get_or, ℤ, pos, nat_abs, ◌+ℤ◌, ◌-ℤ◌, sym, ap, subst, ◌∙◌, arith}
-use Rattle.std.specs.Prelude.{MatchOption, IfSome, IsTrue, Option, None, Some, nat_lt, slice_get, unwrap_or}
+use Rattle.std.proofs.Common.{◌≡◌, ◌⊎◌, inl, inr, ℕ, ◌+◌, ◌<◌, ◌≤◌, Bool, List, length, get_or, ℤ, pos, nat_abs, ◌+ℤ◌, ◌-ℤ◌, sym, subst, ◌∙◌, arith}
+use Rattle.std.specs.Prelude.{IfSome, IsTrue, Option, None, Some, nat_lt, slice_get}
 use Rattle.std.proofs.lemmas.Int.{ints, by_lt_z}
 use Rattle.std.proofs.lemmas.Bool.{cases_lt}
 use Rattle.std.proofs.lemmas.Bool.Decides.{nat_tests}
 use Rattle.std.proofs.lemmas.List.{get_or-replicate, length-replicate}
-use Rattle.std.proofs.lemmas.Option.{slice_get_within}
+use Rattle.std.proofs.lemmas.Option.{slice_get_within, same_Some}
 use Rattle.std.proofs.Math.ListN.{replicate}
 use Rattle.rr_model.specs.Sets.Sketch.{times_on}
 use Rattle.rr_model.specs.declared.sketch.Sketch.{Sketch}
@@ -23,17 +23,9 @@ use Rattle.rr_decide.proofs.WindowLemmas.{one_shows_none}
 
 -- ---- one day
 
-one_set : (xs ys : List ℕ) → Some xs ≡ Some ys → xs ≡ ys
-one_set xs ys e = ap (λ o. unwrap_or o []) e
-
 pub number_within : (sets : List (List ℕ)) (s : Sketch) (d : ℤ) (n : Option ℕ) → IsNumberOn sets s d n → IfSome n (λ i. i < length sets)
 number_within sets s d None h = tt
 number_within sets s d (Some n) h = slice_get_within sets n (times_on s d) h
-
-pub seconds_of_day : (sets : List (List ℕ)) (s : Sketch) (d : ℤ) (n : Option ℕ) (xs : List ℕ) → IsNumberOn sets s d n
-    → MatchOption n (xs ≡ []) (λ i. slice_get sets i ≡ Some xs) → xs ≡ times_on s d
-seconds_of_day sets s d None xs on e = e ∙ sym on
-seconds_of_day sets s d (Some n) xs on e = one_set xs (times_on s d) (sym e ∙ on)
 
 module _ (shows : Side → Bool) (sets_a sets_b : List (List ℕ)) (s u : Sketch) where
   -- a day whose numbers are remembered shows nothing
@@ -47,8 +39,8 @@ module _ (shows : Side → Bool) (sets_a sets_b : List (List ℕ)) (s u : Sketch
   numbers_of_day : (d : ℤ) (a b : ℕ) → IsNumberOn sets_a s d (Some a) → IsNumberOn sets_b u d (Some b) → ShowsNone shows (times_on s d) (times_on u d)
       → ShowNothing shows sets_a sets_b a b
   numbers_of_day d a b on_a on_b none xs ys ex ey =
-      let x : times_on s d ≡ xs = one_set (times_on s d) xs (sym on_a ∙ ex) in
-      let y : times_on u d ≡ ys = one_set (times_on u d) ys (sym on_b ∙ ey) in
+      let x : times_on s d ≡ xs = same_Some (times_on s d) xs (sym on_a ∙ ex) in
+      let y : times_on u d ≡ ys = same_Some (times_on u d) ys (sym on_b ∙ ey) in
       rw (x, y) at none
 
   pub numbers_show_nothing : (d : ℤ) (a b : Option ℕ) → IsNumberOn sets_a s d a → IsNumberOn sets_b u d b → ShowsNone shows (times_on s d) (times_on u d)
@@ -124,8 +116,8 @@ alike_more sets_a sets_b k us vs before of_a of_b same a b h xs ys ex ey =
       | inr g ↦
           (let i : a ≡ k = omega (arith, h.1) in
           let j : b ≡ k = sym h.0 ∙ i in
-          let x : xs ≡ us = one_set xs us (sym (rw i at ex) ∙ of_a) in
-          let y : ys ≡ vs = one_set ys vs (sym (rw j at ey) ∙ of_b) in
+          let x : xs ≡ us = same_Some xs us (sym (rw i at ex) ∙ of_a) in
+          let y : ys ≡ vs = same_Some ys vs (sym (rw j at ey) ∙ of_b) in
           one_shows_none xs ys (x ∙ same ∙ sym y))
     ]
 

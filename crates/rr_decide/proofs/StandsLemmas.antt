@@ -1,5 +1,5 @@
 -- From the seconds of days to the occurrences that stand in two sketches.
-use Rattle.std.proofs.Common.{◌≡◌, ◌↔◌, ◌⊎◌, inl, inr, ℕ, ◌<◌, ◌≤◌, Bool, List, [], ◌∷◌, get_or, ℤ, pos, ◌≤ℤ◌, ◌<ℤ◌, refl, sym, ap, subst, ◌∙◌, arith}
+use Rattle.std.proofs.Common.{◌≡◌, ◌↔◌, inl, inr, ℕ, ◌<◌, ◌≤◌, Bool, List, [], ◌∷◌, get_or, ℤ, pos, ◌≤ℤ◌, ◌<ℤ◌, refl, sym, ap, subst, ◌∙◌, arith}
 use Rattle.std.specs.List.{Contains}
 use Rattle.std.specs.Prelude.{IsTrue, nat_lt, Some}
 use Rattle.std.proofs.lemmas.Int.{by_lt_z, ints}
@@ -8,20 +8,21 @@ use Rattle.rr_model.specs.Rising.{Rises}
 use Rattle.rr_model.specs.Sets.Sketch.{IsValidSketch, IsEmptySketch, IsFirstDay, IsNearDay, StandsIn, times_on}
 use Rattle.rr_model.specs.Sets.Verdict.{HoldsOn}
 use Rattle.rr_model.specs.declared.kind.Kind.{Kind}
-use Rattle.rr_model.specs.declared.kind.Kind.TheVariants.{Days, Moments}
+use Rattle.rr_model.specs.declared.kind.Kind.TheVariants.{Days}
 use Rattle.rr_model.specs.declared.sketch.Sketch.{Sketch}
 use Rattle.rr_model.specs.declared.verdict.Side.{Side}
 use Rattle.rr_model.specs.declared.verdict.Side.TheVariants.{A, B, Both}
 use Rattle.rr_model.specs.declared.verdict.Verdict.{Verdict}
 use Rattle.rr_model.specs.declared.verdict.Verdict.TheVariants.{Yes, No}
 use Rattle.rr_model.proofs.RisingSetLemmas.{Contains-none}
-use Rattle.rr_model.proofs.SecondsLemmas.{Contains-or_not, first_least, first_of_some}
+use Rattle.rr_model.proofs.SecondsLemmas.{first_least, first_of_some}
 use Rattle.rr_word.proofs.SketchLemmas.{rising_on, second_fits}
 use Rattle.rr_decide.specs.Occurrence.{IsUpToMaxDay, NamesUpToMaxDay}
 use Rattle.rr_decide.specs.Question.{AreApart, HasNoneBefore, IsFirstDayShown, IsFirstOccurrence, IsShown, IsVerdictBy, ShowsNone}
-use Rattle.rr_decide.proofs.MergeLemmas.{HoldsOn-map, HoldsOn-some}
+use Rattle.rr_decide.proofs.MergeLemmas.{HoldsOn-map}
 use Rattle.rr_model.proofs.OrderLemmas.{Before-trans}
 use Rattle.rr_model.proofs.MomentLemmas.{parts_of_moment}
+use Rattle.rr_model.proofs.SideLemmas.{HoldsOn-some}
 use Rattle.rr_decide.proofs.OrderLemmas.{Before-compare, earlier_parts}
 
 -- ---- one sketch
@@ -29,23 +30,6 @@ use Rattle.rr_decide.proofs.OrderLemmas.{Before-compare, earlier_parts}
 -- of the sketch's kind an occurrence stands where its day has its second
 pub stands_where : (s : Sketch) (k : Kind) (t : ℤ) → k ≡ s.kind → StandsIn s k t ↔ Contains (times_on s (day_part k t)) (second_part k t)
 stands_where s k t e = ((λ h. h.second), (λ c. record { kind = e; second = c }))
-
-same_kind : (k l : Kind) → (k ≡ l) ⊎ (k ≡ l → ⊥)
-same_kind Days Days = inl refl
-same_kind Moments Moments = inl refl
-same_kind Days Moments = inr (λ e. cc)
-same_kind Moments Days = inr (λ e. cc)
-
--- an occurrence stands in a sketch or it does not
-pub stands_or_not : (s : Sketch) (k : Kind) (t : ℤ) → StandsIn s k t ⊎ (StandsIn s k t → ⊥)
-stands_or_not s k t =
-    elim (same_kind k s.kind) [
-      | inr differ ↦ inr (λ h. differ h.kind)
-      | inl e ↦ elim (Contains-or_not (times_on s (day_part k t)) (second_part k t)) [
-        | inl there ↦ inl (record { kind = e; second = there })
-        | inr absent ↦ inr (λ h. absent h.second)
-      ]
-    ]
 
 pub nothing_stands : (s : Sketch) (k : Kind) (t : ℤ) → times_on s (day_part k t) ≡ [] → StandsIn s k t → ⊥
 nothing_stands s k t e h = Contains-none (second_part k t) (subst (λ (l : List ℕ). Contains l (second_part k t)) e h.second)

@@ -1,5 +1,5 @@
 // A walk over the days of two sequences.
-ghost use Rattle.std.specs.Prelude.{◌≡◌, ◌<◌, ◌≤◌, [], IfSome, IfNone, MatchOption, Some, length, slice_get, pos, neg_ℤ, ◌≤ℤ◌};
+ghost use Rattle.std.specs.Prelude.{◌≡◌, ◌<◌, ◌≤◌, IfSome, IfNone, Some, length, pos, neg_ℤ, ◌≤ℤ◌};
 ghost use Rattle.rr_model.specs.Bounds.{earliest_near};
 ghost use Rattle.rr_model.specs.Sets.Sketch.{IsNearDay};
 ghost use Rattle.rr_word.specs.Stretches.{AreFree, IsNumberOn};
@@ -12,7 +12,7 @@ use crate::merge::{are_equal, first_shown};
 use crate::question::{FREE_DAYS, asks_second, days_without};
 use crate::quiet::{Pair, Quiet, are_remembered};
 use rr_model::{Question, Side};
-use rr_word::DaySeq;
+use rr_word::{DaySeq, seconds};
 
 /// A second of a day that shows that the answer is no.
 #[derive(Clone, Copy)]
@@ -208,18 +208,6 @@ fn shown_on_day<A: DaySeq, B: DaySeq>(
     match first_shown(question, seconds(a, of_a), seconds(b, of_b)) {
         None => None,
         Some((second, side)) => Some(Shown { day, second, side }),
-    }
-}
-
-// The seconds of the time set of a number; none without a number.
-fn seconds<S: DaySeq>(seq: &S, number: Option<u32>) -> &[u32]
-    requires { IfSome number (λ n. n < length (S.sets seq.now)) }
-    ensures { MatchOption number (result.now ≡ [])
-        (λ n. slice_get (S.sets seq.now) n ≡ Some result.now) }
-{
-    match number {
-        None => &[],
-        Some(number) => seq.times(number),
     }
 }
 

@@ -15,7 +15,7 @@ use Rattle.rr_model.specs.Text.Passes.{put_rule, with_date, with_line, with_rule
 use Rattle.rr_model.specs.Text.Rules.{has_time}
 use Rattle.rr_model.specs.Text.UsedLines.{trim}
 use Rattle.rr_model.specs.declared.kind.Kind.{Kind}
-use Rattle.rr_model.specs.declared.kind.Kind.TheVariants.{Moments}
+use Rattle.rr_model.specs.declared.kind.Kind.TheVariants.{Days, Moments}
 use Rattle.rr_model.specs.declared.pass.FirstPass.{FirstPass}
 use Rattle.rr_model.specs.declared.refusal.Refusal.{Refusal}
 use Rattle.rr_model.specs.declared.refusal.Refusal.TheVariants.{NoStart, BadMoment, MixedKinds}
@@ -27,8 +27,9 @@ use Rattle.rr_model.specs.declared.used.UsedLine.{UsedLine}
 use Rattle.rr_model.proofs.MemberLemmas.{same_kind_is}
 use Rattle.rr_model.proofs.RisingLemmas.{All-with_value, Rises-with_value}
 use Rattle.rr_model.proofs.YearLemmas.{years_are_tested}
-use Rattle.rr_text.proofs.InYearsLemmas.{IsStamp, basic-stamp}
+use Rattle.rr_text.proofs.InYearsLemmas.{basic-stamp}
 use Rattle.rr_text.proofs.StepLemmas.{and_then_ok, ok_or_ok, passed}
+use Rattle.rr_text.specs.Stamps.{IsStamp}
 use Rattle.rr_ical.proofs.PassLemmas.{in_turn-keeps, first_pass-sound, first_pass-counts, second_pass-bounded, date-put, rule-put}
 
 -- ---- moments
@@ -208,3 +209,7 @@ module _ {R : Type 0} (language : Language R) (rule_beside : Stamp → ℕ → S
       let first : first_pass language nothing_read scan.used ≡ Ok pass.0 = read.1 ∙ ap Ok (not_stopped scan.stop read.0 pass.0 pass.1) in
       subst (IsReadEvent IsGood) same
       (event-valid offset start.0 scan.used pass.0 beside.0 first (ok_or_ok pass.0.start NoStart start.0 start.1) beside.1)
+
+pub same_kind : (kind : Kind) → is_same_kind kind kind ≡ true
+same_kind Days = refl
+same_kind Moments = refl

@@ -1,19 +1,15 @@
 -- What follows the colon of a line, from one colon or quote to the next.
-use Rattle.std.proofs.Common.{◌≡◌, ◌∙◌, ◌==◌, ◌||◌, ◌&&◌, not, ℕ, zero, suc, ◌+◌, ◌<◌, Bool, true, false, if◌then◌else◌, List, [], ◌∷◌, length, drop, get_or}
+use Rattle.std.proofs.Common.{◌≡◌, ◌∙◌, ◌==◌, ◌&&◌, not, ℕ, zero, suc, ◌+◌, ◌<◌, Bool, false, if◌then◌else◌, List, [], ◌∷◌, length, drop, get_or}
 use Rattle.std.proofs.Common.{None, Some, refl, sym, arith}
-use Rattle.std.proofs.lemmas.Bool.{false≢true, false_from_ne_true}
+use Rattle.std.proofs.lemmas.Bool.{false_from_ne_true, or_parts}
 use Rattle.std.proofs.lemmas.List.{at_drop_more, at_drop_all, drop-drop, get_or-drop}
 use Rattle.memchr.specs.Find.{IsFirstByte, is_byte2}
 use Rattle.rr_model.specs.Text.UsedLines.{after_colon, is_quoted_after}
 
-neither : (x y : Bool) → (x || y) ≡ false → (x ≡ false) × (y ≡ false)
-neither false y h = (refl, h)
-neither true y h = absurd (false≢true (sym h))
-
 -- a byte that is neither a colon nor a quote is passed over
 passed_over : (is_quoted : Bool) (b : ℕ) (bs : List ℕ) → is_byte2 58 34 b ≡ false → after_colon is_quoted (b ∷ bs) ≡ after_colon is_quoted bs
 passed_over is_quoted b bs h =
-    let n = neither (b == 58) (b == 34) h in
+    let n = or_parts (b == 58) (b == 34) h in
     rw (n.0, n.1) refl
 
 -- so are all before the first of them

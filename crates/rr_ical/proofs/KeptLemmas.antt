@@ -26,9 +26,9 @@ use Rattle.rr_ical.specs.Kept.{nothing_kept, value_beside, values_beside}
 use Rattle.rr_ical.specs.declared.kept.LineValue.{LineValue}
 use Rattle.rr_ical.specs.declared.kept.LineValue.TheVariants.{OneDate, OneRule}
 use Rattle.rr_ical.specs.declared.kept.ReadLines.{ReadLines}
-use Rattle.rr_text.proofs.InYearsLemmas.{IsStamp}
 use Rattle.rr_ical.proofs.PassLemmas.{first_pass-sound, in_turn-append}
-use Rattle.rr_text.proofs.StepLemmas.{and_then_ok, not_refused}
+use Rattle.rr_text.proofs.StepLemmas.{and_then_ok, not_refused, step_same}
+use Rattle.rr_text.specs.Stamps.{IsStamp}
 
 -- ---- steps
 
@@ -40,10 +40,6 @@ step_again : {A B C : Type 0} (m : Result A Refusal) (f : A → Result B Refusal
     → ((m >>= f) >>= g) ≡ (m >>= λ x. f x >>= g)
 step_again (Ok x) f g = refl
 step_again (Err r) f g = refl
-
-step_same : {A B : Type 0} (m : Result A Refusal) (f g : A → Result B Refusal) → ((x : A) → f x ≡ g x) → (m >>= f) ≡ (m >>= g)
-step_same (Ok x) f g same = same x
-step_same (Err r) f g same = refl
 
 -- steps of which a part is seen
 in_turn-seen : {X Y Z : Type 0} (part : X → Z) (f : X → Y → Result X Refusal) (g : Z → Y → Result Z Refusal)

@@ -19,8 +19,9 @@ use Rattle.rr_model.specs.declared.stamp.Stamp.{Stamp}
 use Rattle.rr_model.specs.declared.used.LineName.{LineName}
 use Rattle.rr_model.specs.declared.used.LineName.TheVariants.{Dtstart, Rrule, Rdate, Exdate, Exrule}
 use Rattle.rr_model.specs.declared.used.UsedLine.{UsedLine}
-use Rattle.rr_text.proofs.InYearsLemmas.{IsStamp, basic-stamp}
+use Rattle.rr_text.proofs.InYearsLemmas.{basic-stamp}
 use Rattle.rr_text.proofs.StepLemmas.{and_then_ok, ok_or_ok, not_refused}
+use Rattle.rr_text.specs.Stamps.{IsStamp}
 
 -- the sum of the sizes
 pub total : {Y : Type 0} → (Y → ℕ) → List Y → ℕ

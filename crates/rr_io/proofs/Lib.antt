@@ -1,2 +1,3 @@
 pub mod HostLemmas
 pub mod NamesLemmas
+pub mod ToldLemmas

@@ -13,7 +13,7 @@ use Rattle.rr_model.specs.Calendar.{first_day_of_year}
 use Rattle.rr_model.specs.Sets.Tree.{Tree, union, stands_at}
 use Rattle.rr_lazy.specs.Next.{HasNone, IsFirstOccupied, IsNextIn, IsUnasked, with_set}
 use Rattle.rr_lazy.proofs.FirstLemmas.{first_day_is}
-use Rattle.rr_lazy.specs.Ahead.{IsGiven, IsAhead, IsAheadIn, IsGivenOn, IsGivenByBoth, HasOn, GaveDay, IsFirstOfBoth, IsLeftAfterDay, seen}
+use Rattle.rr_lazy.specs.Ahead.{IsGiven, IsAhead, IsAheadIn, IsGivenOn, IsGivenByBoth, HasOn, GaveDay, IsFirstOfBoth, IsLeftAfterDay, seen, IsOfDay}
 use Rattle.rr_lazy.specs.DayTimes.{DayTimes}
 use Rattle.rr_lazy.specs.declared.occupied_day.OccupiedDay.{OccupiedDay}
 
@@ -52,6 +52,15 @@ filled sets new t own own' from to None None n x k =
         none = λ q. (omega (arith, ints, own_next.0, x.1), join t from own own' own_next.1 x.0);
       };
     }
+
+-- the part gave this day
+pub this_day : (ahead result : Option OccupiedDay) (day : ℤ) (found : OccupiedDay) → result ≡ Some found → IsOfDay ahead day result
+    → (ahead ≡ Some found) × (found.day ≡ day)
+this_day ahead result day found e w =
+    elim w [
+      | inl m ↦ (let is : ahead ≡ Some found = sym m.0 ∙ e in (is, m.1 found is))
+      | inr m ↦ absurd (cc)
+    ]
 
 -- what is known of no day that is seen is known where the part gave none
 pub seen_none : (sets : List (List ℕ)) (ahead : Option OccupiedDay) (P : Type 0) → ForNone ahead P → ForNone (seen sets ahead) P

@@ -1,10 +1,10 @@
 -- Two parts, and what is left of the first one once the second is taken out.
-use Rattle.std.proofs.Common.{◌≡◌, ◌≢◌, ◌↔◌, ◌⊎◌, inl, inr, ℕ, ◌<◌, Bool, true, false, List, [], ◌∷◌, take, length, get_or, Contains, Option, Some, None, ℤ, pos}
+use Rattle.std.proofs.Common.{◌≡◌, ◌≢◌, ◌↔◌, ◌⊎◌, inl, inr, ℕ, ◌<◌, true, false, List, [], ◌∷◌, take, length, get_or, Contains, Option, Some, None, ℤ, pos}
 use Rattle.std.proofs.Common.{◌+ℤ◌, ◌-ℤ◌, ◌≤ℤ◌, ◌<ℤ◌, nat_abs, refl, sym, ap, subst, ◌∙◌, arith}
-use Rattle.std.specs.Prelude.{IsTrue, IfOk, Result, Ok, Err, IsErr, is_some, not, nat_lt}
+use Rattle.std.specs.Prelude.{IsTrue, IfOk, Result, Ok, Err, IsErr, is_some, nat_lt}
 use Rattle.std.specs.Option.{ForSome, ForNone}
 use Rattle.std.proofs.lemmas.Int.{ints, by_lt_z}
-use Rattle.std.proofs.lemmas.Bool.{false≢true, and_parts}
+use Rattle.std.proofs.lemmas.Bool.{false≢true, and_parts, not-true}
 use Rattle.std.proofs.Math.Seq.{take-length}
 use Rattle.rr_model.specs.Rising.{Rises}
 use Rattle.rr_model.specs.Rising.Sets.{IsSetOf}
@@ -14,17 +14,13 @@ use Rattle.rr_model.proofs.RisingSetLemmas.{Contains-none}
 use Rattle.rr_shapes.specs.Tables.{Extends}
 use Rattle.rr_lazy.specs.declared.occupied_day.OccupiedDay.{OccupiedDay}
 use Rattle.rr_lazy.specs.Next.{HasNone, IsFirstOccupied, IsNextIn, with_set}
-use Rattle.rr_lazy.specs.Ahead.{GaveDay, HasOn, IsGiven, IsAheadIn, IsGivenOn, seen}
+use Rattle.rr_lazy.specs.Ahead.{GaveDay, HasOn, IsGiven, IsAheadIn, IsGivenOn, seen, IsOfDay}
 use Rattle.rr_lazy.specs.Except.{IsAheadUpTo, IsLacking, IsLeftBy, IsNextOfBoth, KnowsBoth, up_to_more}
 use Rattle.rr_lazy.specs.Parts.{Part, part_of}
 use Rattle.rr_lazy.specs.Tables.{ahead_more, same_day}
 use Rattle.rr_lazy.proofs.AheadLemmas.{advance, on_day}
 use Rattle.rr_lazy.proofs.AheadLemmas.{seen_none as none_seen}
 use Rattle.rr_lazy.proofs.WithoutLemmas.{next_day, seen_some, nothing_ahead, given_later}
-
-not_so : (b : Bool) → not b ≡ true → b ≡ false
-not_so true e = absurd (false≢true e)
-not_so false e = refl
 
 -- ---- what is known of the second part
 
@@ -69,15 +65,11 @@ out_passed sets tree own day found k l =
           absurd (omega (arith, ints, a, b, given.own_next)));
     }
 
-some_seen : (sets : List (List ℕ)) (ahead : Option OccupiedDay) (day : ℤ) → ForSome ahead (λ f. day ≤ℤ f.day)
-    → ForSome (seen sets ahead) (λ f. day ≤ℤ f.day)
-some_seen sets ahead day some = seen_some sets ahead day some
-
 -- what it has on a day, where what it gave is not before that day
 pub out_on_day : (sets : List (List ℕ)) (tree : Tree) (own day : ℤ) (ahead : Option OccupiedDay) → IsAheadUpTo sets (part_of tree own ahead) day
     → ForSome ahead (λ f. day ≤ℤ f.day) → ForNone ahead (day <ℤ own) → (s : ℕ) → (stands_at tree day s ≡ true) ↔ HasOn (seen sets ahead) day s
 out_on_day sets tree own day ahead k some none s =
-    on_day tree own k.from day (seen sets ahead) k.known.known k.early (some_seen sets ahead day some) (none_seen sets ahead (day <ℤ own) none) s
+    on_day tree own k.from day (seen sets ahead) k.known.known k.early (seen_some sets ahead day some) (none_seen sets ahead (day <ℤ own) none) s
 
 -- ---- what is left of a day
 
@@ -147,18 +139,6 @@ all_lacking old mid new tree given out ahead (Err e) same is day stands l = l
 
 -- ---- what a part gave for a day
 
--- what it gave, where it gave this day
-abbrev pub IsOfDay : Option OccupiedDay → ℤ → Option OccupiedDay → Type 0
-IsOfDay ahead day result = ((result ≡ ahead) × ForSome ahead (λ f. f.day ≡ day)) ⊎ ((result ≡ None) × ForSome ahead (λ f. f.day ≡ day → ⊥))
-
-pub this_day : (ahead result : Option OccupiedDay) (day : ℤ) (found : OccupiedDay) → result ≡ Some found → IsOfDay ahead day result
-    → (ahead ≡ Some found) × (found.day ≡ day)
-this_day ahead result day found e w =
-    elim w [
-      | inl m ↦ (let is : ahead ≡ Some found = sym m.0 ∙ e in (is, m.1 found is))
-      | inr m ↦ absurd (cc)
-    ]
-
 pub other_day : (ahead result : Option OccupiedDay) (day : ℤ) → result ≡ None → IsOfDay ahead day result → ForSome ahead (λ f. f.day ≡ day → ⊥)
 other_day None result day e w = λ f g. absurd (cc)
 other_day (Some x) result day e w = elim w [ inl m ↦ absurd (cc) | inr m ↦ m.1 ]
@@ -200,7 +180,7 @@ module _ (tree out : Tree) where
       → ((s : ℕ) → Contains left s ↔ (Contains times s × (stands_at out d s ≡ false))) → (s : ℕ) → Contains left s ↔ IsTrue (stands_at (except tree out) d s)
   left_stands d times left set outs s = (
     λ c. (let p = (outs s).0 c in rw ((set.exact s).0 p.0, p.1) refl),
-    λ h. (outs s).1 ((set.exact s).1 (and_parts _ _ h).0, not_so (stands_at out d s) (and_parts (stands_at tree d s) _ h).1),
+    λ h. (outs s).1 ((set.exact s).1 (and_parts _ _ h).0, not-true (stands_at out d s) (and_parts (stands_at tree d s) _ h).1),
   )
 
   -- a day of which nothing is left
@@ -238,7 +218,7 @@ module _ (tree out : Tree) where
         passed = λ d s a c. absurd (omega (arith, ints, a, c));
         known = record {
           within = k.known.within;
-          known = advance tree own k.from q (seen sets ahead) k.known.known (omega (arith, ints, m)) (some_seen sets ahead q some)
+          known = advance tree own k.from q (seen sets ahead) k.known.known (omega (arith, ints, m)) (seen_some sets ahead q some)
               (none_seen sets ahead (q ≤ℤ own) none);
         };
         out = later_out sets b k.from q (omega (arith, ints, m)) k.out;

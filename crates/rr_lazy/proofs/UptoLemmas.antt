@@ -174,10 +174,6 @@ upto_some tree kind at own own' position to to' q same bound found kept n set so
 pub begun_next : (low own position day q : ℤ) → low ≤ℤ position → own ≡ position → own ≤ℤ day → q ≡ day +ℤ pos 1 → low ≤ℤ q
 begun_next low own position day q a b c d = omega (arith, ints)
 
-pub none_of_length : (xs : List ℕ) → length xs ≡ 0 → xs ≡ []
-none_of_length [] e = refl
-none_of_length (x ∷ xs) e = absurd (omega (arith, e))
-
 -- a day of which some seconds are kept
 pub take_some : (count : ℕ) (xs : List ℕ) → (count ≡ 0 → ⊥) → count ≤ length xs → take count xs ≡ [] → ⊥
 take_some count xs n l e = n (omega (arith, length-take-le count xs l, ap length e))

@@ -15,7 +15,7 @@ use Rattle.rr_lazy.specs.declared.occupied_day.OccupiedDay.{OccupiedDay}
 use Rattle.rr_lazy.specs.Next.{HasNone, IsFirstOccupied, IsNextIn, with_set}
 use Rattle.rr_lazy.specs.Ahead.{IsGiven, IsAheadIn, IsGivenOn, seen}
 use Rattle.rr_lazy.specs.Stretch.{IsLeftOf, IsNextLeft, KnowsPart}
-use Rattle.rr_lazy.proofs.AheadLemmas.{advance}
+use Rattle.rr_lazy.proofs.AheadLemmas.{advance, seen_none}
 
 -- the first day of which something may be left
 abbrev pub next_day : Option OccupiedDay → ℤ → ℤ
@@ -27,10 +27,6 @@ next_day (Some f) own = f.day
 pub seen_some : (sets : List (List ℕ)) (ahead : Option OccupiedDay) (q : ℤ) → ForSome ahead (λ f. q ≤ℤ f.day) → ForSome (seen sets ahead) (λ f. q ≤ℤ f.day)
 seen_some sets None q some f e = absurd (cc)
 seen_some sets (Some g) q some f e = (let i : f ≡ with_set sets g = cc in rw i (some g refl))
-
-seen_none : (sets : List (List ℕ)) (ahead : Option OccupiedDay) (P : Type 0) → ForNone ahead P → ForNone (seen sets ahead) P
-seen_none sets None P none e = none refl
-seen_none sets (Some g) P none e = absurd (cc)
 
 -- where nothing is left of some seconds, each was taken out
 pub all_taken : (times left : List ℕ) (out : ℕ → Bool) → ((s : ℕ) → Contains left s ↔ (Contains times s × (out s ≡ false))) → left ≡ [] → (s : ℕ)

@@ -37,3 +37,7 @@ pub mod OrderLemmas
 pub mod WithEndLemmas
 pub mod WithValueLemmas
 pub mod YearOneLemmas
+pub mod TestLemmas
+pub mod SideLemmas
+pub mod DividesLemmas
+pub mod BackLemmas

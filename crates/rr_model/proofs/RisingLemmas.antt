@@ -56,7 +56,7 @@ module _ {X : Type 0} (P : X → Type 0) (below : X → X → Bool) where
   pub All-with_value : (xs : List X) (v : X) → All P xs → P v → All P (with_value below xs v)
   All-with_value xs v h p = All-from_recursion P (with_value below xs v) (recursion_with_value xs v (recursion_from_All P xs h) p)
 
-is_less : (o : Ordering) → is_lt o ≡ true → o ≡ Less
+pub is_less : (o : Ordering) → is_lt o ≡ true → o ≡ Less
 is_less Less e = refl
 is_less Equal e = cc
 is_less Greater e = cc

@@ -1,11 +1,12 @@
 -- What stands in a rising list with one value more.
-use Rattle.std.proofs.Common.{◌≡◌, ◌⊎◌, true, false, cond, List, [], ◌∷◌, Contains, ℤ, refl, subst, inl, inr, arith}
+use Rattle.std.proofs.Common.{◌≡◌, ◌⊎◌, true, false, cond, List, [], ◌∷◌, Contains, ℤ, refl, subst, inl, inr, arith, Bool}
 use Rattle.std.specs.Prelude.{int_lt}
 use Rattle.std.proofs.lemmas.Int.{ints}
 use Rattle.std.proofs.lemmas.List.Elements.{Contains-get_or}
 use Rattle.rr_model.specs.Rising.{with_value}
 use Rattle.rr_model.proofs.RisingLemmas.{All-with_value}
 use Rattle.rr_model.proofs.RisingSetLemmas.{Contains-head, Contains-tail, Contains-none, Contains-cons_cases}
+use Rattle.rr_model.specs.Rule.Validity.{is_absent}
 
 module _ (v : ℤ) where
   -- the others stay
@@ -35,3 +36,17 @@ module _ (v : ℤ) where
   with_value-only xs x (k, l, e) =
       let all = All-with_value (λ y. Contains xs y ⊎ (v ≡ y)) int_lt xs v (λ i d h. inl (Contains-get_or xs i d h)) (inr refl) k x l in
       subst (λ y. Contains xs y ⊎ (v ≡ y)) e all
+
+-- some value stands in it
+pub with_value-some : {X : Type 0} (below : X → X → Bool) (list : List X) (x : X) → is_absent (with_value below list x) ≡ false
+with_value-some below [] x = refl
+with_value-some below (y ∷ ys) x = by (below y x) (below x y)
+  where
+    by : (b d : Bool) → is_absent (cond b (y ∷ with_value below ys x) (cond d (x ∷ y ∷ ys) (y ∷ ys))) ≡ false
+    by true d = refl
+    by false true = refl
+    by false false = refl
+
+pub absent_nil : {X : Type 0} (xs : List X) → is_absent xs ≡ true → xs ≡ []
+absent_nil [] h = refl
+absent_nil (x ∷ xs) h = absurd (cc)

@@ -87,3 +87,9 @@ pub none_below_lcm : (a b most : ℕ) → 1 ≤ a → 1 ≤ b → most < lcm a b
 none_below_lcm a b most ha hb above n hn p q =
     let le : lcm a b ≤ n = le_of_dvd hn ((lcm_is a b ha hb).2 n p q) in
     omega arith
+
+-- a least common multiple is not below either number
+pub lcm_above : (a b : ℕ) → 1 ≤ a → 1 ≤ b → (a ≤ lcm a b) × (b ≤ lcm a b)
+lcm_above a b ha hb =
+    let l = lcm_is a b ha hb in
+    (le_of_dvd (lcm_some a b ha hb) l.0, le_of_dvd (lcm_some a b ha hb) l.1)

@@ -1,5 +1,5 @@
 -- The seconds of one day, one after another.
-use Rattle.std.proofs.Common.{◌≡◌, ◌↔◌, ◌⊎◌, inl, inr, ℕ, ◌+◌, ◌<◌, ◌≤◌, List, [], ℤ, pos, nat_abs, ◌+ℤ◌, ◌-ℤ◌, ◌*ℤ◌, ◌≤ℤ◌, ◌<ℤ◌, refl, sym, ap}
+use Rattle.std.proofs.Common.{◌≡◌, ◌↔◌, inl, inr, ℕ, ◌+◌, ◌<◌, ◌≤◌, List, [], ℤ, pos, nat_abs, ◌+ℤ◌, ◌-ℤ◌, ◌*ℤ◌, ◌≤ℤ◌, ◌<ℤ◌, refl, sym, ap}
 use Rattle.std.proofs.Common.{subst, ◌∙◌, arith}
 use Rattle.std.specs.List.{Contains}
 use Rattle.std.specs.Prelude.{Option, None, Some, nat_lt}
@@ -13,6 +13,7 @@ use Rattle.rr_model.specs.declared.verdict.Side.{Side}
 use Rattle.rr_model.specs.declared.verdict.Side.TheVariants.{A, B, Both}
 use Rattle.rr_model.proofs.WholeLemmas.{floor_only}
 use Rattle.rr_model.proofs.RisingSetLemmas.{Contains-none}
+use Rattle.rr_model.proofs.SideLemmas.{HoldsOn-some}
 use Rattle.rr_word.proofs.SketchLemmas.{rising_on, second_fits}
 use Rattle.rr_overlap.specs.Apart.{AreApartBefore, BeginsAt, IsFound, IsLastBefore, IsMeetingAt, IsWalked, NoneBetween, StillRuns, after_first, after_second}
 use Rattle.rr_overlap.specs.Days.{IsAt, IsRestFrom, midnight}
@@ -94,18 +95,13 @@ after_on_second s day z rest low left second l from none last known A P h =
 after_on_second s day z rest low left second l from none last known Both P h =
     last_here s (midnight day +ℤ pos second) (rest_begins s day z rest low left second l h.1)
 
-some_side : (side : Side) (P Q : Type 0) → HoldsOn side P Q → P ⊎ Q
-some_side A P Q h = inl h.0
-some_side B P Q h = inr h.0
-some_side Both P Q h = inl h.0
-
 module _ (s : Sketch) (d : ℕ) (u : Sketch) (e : ℕ) (day z : ℤ) (rest_a rest_b : List ℕ) (last : LastBegun) (vs : IsValidSketch s) (vu : IsValidSketch u)
     (here : IsAt s d u e day z rest_a rest_b last) (second : ℕ) (side : Side) (xs ys : List ℕ) (next : IsNextSecond rest_a rest_b second side xs ys)
     (at : ℤ) (is : at ≡ midnight day +ℤ pos second) (new : LastBegun) (on_first : new.first ≡ after_first side last.first at)
     (on_second : new.second ≡ after_second side last.second at) where
   fits : (second < 86_400) × (z ≤ℤ (midnight day +ℤ pos second))
   fits =
-      elim (some_side side (Contains rest_a second) (Contains rest_b second) next.holds) [
+      elim (HoldsOn-some side (Contains rest_a second) (Contains rest_b second) next.holds) [
         | inl c ↦ (let h = (here.rest_of_first.exact second).0 c in ((second_fits s day second vs h.0).0, h.1))
         | inr c ↦ (let h = (here.rest_of_second.exact second).0 c in ((second_fits u day second vu h.0).0, h.1))
       ]

@@ -2,10 +2,11 @@
 use Rattle.std.proofs.Common.{◌≡◌, ◌↔◌, ◌⊎◌, inl, inr, ℕ, suc, ◌+◌, ◌<◌, ◌≤◌, Bool, List, [], ◌∷◌, get_or, length, ℤ, pos, ◌+ℤ◌, ◌≤ℤ◌, ◌<ℤ◌, refl}
 use Rattle.std.proofs.Common.{sym, ap, subst, ◌∙◌, arith}
 use Rattle.std.specs.List.{Contains}
-use Rattle.std.specs.Prelude.{IsTrue, MatchOption, Option, None, Some, nat_lt, slice_get, unwrap_or}
+use Rattle.std.specs.Prelude.{IsTrue, Option, None, Some, nat_lt}
 use Rattle.std.proofs.lemmas.Bool.{cases_order}
 use Rattle.std.proofs.lemmas.Grind.{get_or_default_zero}
 use Rattle.std.proofs.lemmas.Int.{ints, by_lt_z}
+use Rattle.std.proofs.lemmas.Option.{same_Some}
 use Rattle.rr_model.specs.Rising.{Rises}
 use Rattle.rr_model.specs.Sets.Sketch.{IsValidSketch, times_on}
 use Rattle.rr_model.specs.declared.sketch.Sketch.{Sketch}
@@ -127,15 +128,6 @@ module _ (s : Sketch) (d : ℕ) (u : Sketch) (e : ℕ) (day : ℤ) (vs : IsValid
 
 -- ---- pairs of numbers
 
-pub one_set : (xs ys : List ℕ) → Some xs ≡ Some ys → xs ≡ ys
-one_set xs ys e = ap (λ o. unwrap_or o []) e
-
--- the seconds of a day by the number of its set
-pub seconds_of_day : (sets : List (List ℕ)) (s : Sketch) (day : ℤ) (n : Option ℕ) (xs : List ℕ) → IsNumberOn sets s day n
-    → MatchOption n (xs ≡ []) (λ i. slice_get sets i ≡ Some xs) → xs ≡ times_on s day
-seconds_of_day sets s day None xs on e = e ∙ sym on
-seconds_of_day sets s day (Some n) xs on e = one_set xs (times_on s day) (sym e ∙ on)
-
 module _ (d e : ℕ) (sets_a sets_b : List (List ℕ)) (s u : Sketch) where
   -- the sets of a remembered pair don't meet on the day that has them
   pub known_apart : (day : ℤ) (slots : List (Option Pair)) (of_a of_b : Option ℕ) → IsNumberOn sets_a s day of_a → IsNumberOn sets_b u day of_b
@@ -152,7 +144,7 @@ module _ (d e : ℕ) (sets_a sets_b : List (List ℕ)) (s u : Sketch) where
       elim (from a b known) [
         | inl before ↦ quiet a b before xs ys ex ey
         | inr here ↦
-            let x : xs ≡ times_on s day = one_set xs (times_on s day) (sym ex ∙ subst (IsNumberOn sets_a s day) here.0 on_a) in
-            let y : ys ≡ times_on u day = one_set ys (times_on u day) (sym ey ∙ subst (IsNumberOn sets_b u day) here.1 on_b) in
+            let x : xs ≡ times_on s day = same_Some xs (times_on s day) (sym ex ∙ subst (IsNumberOn sets_a s day) here.0 on_a) in
+            let y : ys ≡ times_on u day = same_Some ys (times_on u day) (sym ey ∙ subst (IsNumberOn sets_b u day) here.1 on_b) in
             rw (x, y) apart
       ]

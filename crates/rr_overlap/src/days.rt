@@ -1,5 +1,5 @@
 // A walk over the days of two sequences.
-ghost use Rattle.std.specs.Prelude.{◌≡◌, ◌<◌, ◌≤◌, [], IsTrue, IfSome, IfNone, MatchOption, None, Some, length, slice_get, pos, neg_ℤ, ◌+ℤ◌, ◌*ℤ◌, ◌≤ℤ◌};
+ghost use Rattle.std.specs.Prelude.{◌≡◌, ◌≤◌, IsTrue, IfSome, IfNone, None, pos, neg_ℤ, ◌+ℤ◌, ◌*ℤ◌, ◌≤ℤ◌};
 ghost use Rattle.rr_model.specs.Sets.Sketch.{IsNearDay, times_on};
 ghost use Rattle.rr_word.specs.Stretches.{IsNumberOn};
 ghost use Rattle.rr_overlap.specs.Apart.{IsLastBefore, IsNear, IsNearMidnight, IsNearSecond};
@@ -9,7 +9,7 @@ ghost use Rattle.rr_overlap.specs.Running.{IsDuration};
 
 use crate::begun::{Durations, LastBegun, Meeting, after_day, midnight_of, reaches, second_at};
 use crate::pairs::{Pairs, is_known, remember};
-use rr_word::{DaySeq, next_second};
+use rr_word::{DaySeq, next_second, seconds};
 
 /// What a day shows of two sequences.
 #[derive(Clone, Copy)]
@@ -18,18 +18,6 @@ pub enum DayEnd {
     Meets(Meeting),
     /// None, and what began last.
     Clear(LastBegun),
-}
-
-// The seconds of the time set of a number; none without a number.
-fn seconds<S: DaySeq>(seq: &S, number: Option<u32>) -> &[u32]
-    requires { IfSome number (λ n. n < length (S.sets seq.now)) }
-    ensures { MatchOption number (result.now ≡ [])
-        (λ n. slice_get (S.sets seq.now) n ≡ Some result.now) }
-{
-    match number {
-        None => &[],
-        Some(number) => seq.times(number),
-    }
 }
 
 // What a day shows, second by second.

@@ -11,7 +11,6 @@ use Rattle.rr_model.specs.Moment.Years.{IsInYears}
 use Rattle.rr_model.specs.declared.kind.Kind.TheVariants.{Days}
 use Rattle.rr_model.proofs.CountLemmas.{one, count_from-zero, count_from-suc}
 use Rattle.rr_model.proofs.WholeLemmas.{floor_whole}
-use Rattle.rr_model.proofs.FloorLemmas.{floor_mod-add}
 use Rattle.rr_pattern.proofs.MonthLemmas.{narrow_front}
 use Rattle.rr_model.specs.Graph.Occurrences.{period_of, form_holds, is_pattern_day, pattern_days_to, IsWithinRange, IsRepeatDay, first_or, first_from}
 use Rattle.rr_model.specs.Graph.Occurrences.{days_up_to, last_day_of, first_repeat_day}
@@ -20,11 +19,10 @@ use Rattle.rr_model.specs.declared.graph.Pattern.{Pattern}
 use Rattle.rr_model.specs.declared.graph.Range.{Range}
 use Rattle.rr_model.specs.declared.graph.RangeEnd.{RangeEnd}
 use Rattle.rr_model.specs.declared.graph.RangeEnd.TheVariants.{NoEnd, EndDate, Numbered}
+use Rattle.rr_model.proofs.DividesLemmas.{divides-add}
+use Rattle.rr_model.proofs.YearLemmas.{year_10000}
 
 -- ---- distances
-
-divides-add : (n : ℕ) (x k : ℤ) → 1 ≤ n → divides n (x +ℤ (k *ℤ pos n)) ≡ divides n x
-divides-add n x k h = rw (floor_mod-add x k n h) refl
 
 divides_from : (n : ℕ) (a b x : ℤ) → 1 ≤ n → divides n (b -ℤ a) ≡ true → divides n (x -ℤ b) ≡ divides n (x -ℤ a)
 divides_from n a b x some e =
@@ -103,10 +101,6 @@ reach from last d l h = grind (arith, ints)
 
 reach_back : (from last d : ℤ) → from ≤ℤ d → d <ℤ (from +ℤ pos (days_up_to from last)) → d ≤ℤ last
 reach_back from last d l h = grind (arith, ints)
-
-year_10000 : first_day_of_year (pos 10_000) ≡ pos 2_932_897
-unfolding first_day_of_year
-year_10000 = refl
 
 last_in_years : (end : RangeEnd) (d : ℤ) → d ≤ℤ last_day_of end → d <ℤ first_day_of_year (pos 10_000)
 last_in_years NoEnd d h = omega (arith, ints, h, year_10000)

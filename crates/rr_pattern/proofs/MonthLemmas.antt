@@ -3,24 +3,18 @@ use Rattle.std.proofs.Common.{◌≡◌, ℕ, ◌+◌, ◌-◌, ◌<◌, Bool, f
 use Rattle.std.proofs.Common.{sym, ap, ◌∙◌, arith}
 use Rattle.std.proofs.lemmas.Int.{ints}
 use Rattle.rr_model.specs.Whole.{floor_div, floor_mod}
-use Rattle.rr_model.specs.Calendar.{year_of, month_of, day_of_month, days_in_month, days_of_months, first_day_of_year}
+use Rattle.rr_model.specs.Calendar.{year_of, month_of, day_of_month, days_in_month}
 use Rattle.rr_model.specs.Whole.Count.{count_from}
 use Rattle.rr_model.specs.Moment.Units.{month_number, first_day_of_month}
 use Rattle.rr_model.specs.declared.kind.Kind.TheVariants.{Days}
 use Rattle.rr_model.specs.declared.rule.Freq.TheVariants.{Monthly}
 use Rattle.rr_model.proofs.WholeLemmas.{floor_only}
-use Rattle.rr_cal.proofs.StretchLemmas.{units_are_stretches}
+use Rattle.rr_cal.proofs.StretchLemmas.{units_are_stretches, month_start}
 use Rattle.rr_model.proofs.CalendarLemmas.{IsDate-year_of, day_number-year_of, day_number_is}
 use Rattle.rr_model.proofs.CountLemmas.{count_from-split, count_from-same, count_from-empty}
 use Rattle.rr_cal.proofs.DayUnitLemmas.{month_next}
 
 -- ---- a day's month
-
-month_start : (n y : ℤ) (p : ℕ) → p < 12 → n ≡ (y *ℤ pos 12) +ℤ pos p → first_day_of_month n ≡ first_day_of_year y +ℤ pos (days_of_months y p)
-month_start n y p low e =
-    let o = floor_only n y 12 p low e in
-    let back : p + 1 - 1 ≡ p = omega arith in
-    rw (o.0, o.1) (omega (arith, ints, day_number_is y (p + 1) 1 (omega arith), ap (days_of_months y) back))
 
 -- the first day of the month in which a day lies
 abbrev pub month_begin : ℤ → ℤ

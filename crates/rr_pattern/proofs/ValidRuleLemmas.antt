@@ -5,7 +5,7 @@ use Rattle.std.specs.Prelude.{All, int_lt}
 use Rattle.std.specs.List.{filter, AllByRecursion}
 use Rattle.std.proofs.lemmas.Int.{ints}
 use Rattle.std.proofs.lemmas.Bool.{cases_lt, cases_eq, le-leb, lt-ltb}
-use Rattle.std.proofs.lemmas.List.Elements.{All-cons, All-from_recursion}
+use Rattle.std.proofs.lemmas.List.Elements.{All-cons, All-from_recursion, All-nil}
 use Rattle.std.proofs.Math.Bool.{or-true}
 use Rattle.rr_model.specs.Rule.Validity.{has_ordinals, is_allowed, IsDayItem, HasCountInRange, IsValidRule, takes_start}
 use Rattle.rr_model.specs.declared.kind.Kind.{Kind}
@@ -132,37 +132,34 @@ month_days_rise n low high =
 
 -- ---- the rule
 
-nothing : {X : Type 0} (P : X → Type 0) → All P []
-nothing P = λ k d l. absurd (omega arith)
-
 module _ (interval n month days first : ℕ) (index : ℤ) where
   abbrev of : Form → Pattern
   of f = pattern_of f interval n month days first index
 
   months_lie : (f : Form) → IsPatternOf f (of f) → All (λ m. (pos 1 ≤ℤ m) × (m ≤ℤ pos 12)) (if_part (uses_month f) (pos month ∷ []))
-  months_lie form.Daily h = nothing _
-  months_lie form.Weekly h = nothing _
-  months_lie form.AbsoluteMonthly h = nothing _
-  months_lie form.RelativeMonthly h = nothing _
+  months_lie form.Daily h = All-nil _
+  months_lie form.Weekly h = All-nil _
+  months_lie form.AbsoluteMonthly h = All-nil _
+  months_lie form.RelativeMonthly h = All-nil _
   months_lie form.AbsoluteYearly h =
-      All-cons (λ m. (pos 1 ≤ℤ m) × (m ≤ℤ pos 12)) (pos month) [] (omega (arith, ints, h.2), omega (arith, ints, h.3)) (nothing _)
+      All-cons (λ m. (pos 1 ≤ℤ m) × (m ≤ℤ pos 12)) (pos month) [] (omega (arith, ints, h.2), omega (arith, ints, h.3)) (All-nil _)
   months_lie form.RelativeYearly h =
-      All-cons (λ m. (pos 1 ≤ℤ m) × (m ≤ℤ pos 12)) (pos month) [] (omega (arith, ints, h.4), omega (arith, ints, h.5)) (nothing _)
+      All-cons (λ m. (pos 1 ≤ℤ m) × (m ≤ℤ pos 12)) (pos month) [] (omega (arith, ints, h.4), omega (arith, ints, h.5)) (All-nil _)
 
   days_count : (f : Form) → IsPatternOf f (of f) → All IsMonthDay (if_part (uses_day_of_month f) (month_days_up_to n))
-  days_count form.Daily h = nothing _
-  days_count form.Weekly h = nothing _
+  days_count form.Daily h = All-nil _
+  days_count form.Weekly h = All-nil _
   days_count form.AbsoluteMonthly h = month_days_lie n h.0 h.1
-  days_count form.RelativeMonthly h = nothing _
+  days_count form.RelativeMonthly h = All-nil _
   days_count form.AbsoluteYearly h = month_days_lie n h.0 h.1
-  days_count form.RelativeYearly h = nothing _
+  days_count form.RelativeYearly h = All-nil _
 
   items_lie : (f : Form) → All IsDayItem (if_part (uses_days f) (days_of_sum days))
-  items_lie form.Daily = nothing _
+  items_lie form.Daily = All-nil _
   items_lie form.Weekly = sum_lies days
-  items_lie form.AbsoluteMonthly = nothing _
+  items_lie form.AbsoluteMonthly = All-nil _
   items_lie form.RelativeMonthly = sum_lies days
-  items_lie form.AbsoluteYearly = nothing _
+  items_lie form.AbsoluteYearly = All-nil _
   items_lie form.RelativeYearly = sum_lies days
 
   abbrev IsPosition : ℤ → Type 0
@@ -170,17 +167,17 @@ module _ (interval n month days first : ℕ) (index : ℤ) where
 
   last_alone : All IsPosition (cond (nat_le n 28) [] (negsuc 0 ∷ []))
   last_alone = elim (nat_le n 28) as (λ b. All IsPosition (cond b [] (negsuc 0 ∷ []))) [
-    | true ↦ nothing _
-    | false ↦ All-cons IsPosition (negsuc 0) [] (omega arith, omega arith) (nothing _)
+    | true ↦ All-nil _
+    | false ↦ All-cons IsPosition (negsuc 0) [] (omega arith, omega arith) (All-nil _)
   ]
 
   positions_count : (f : Form) → IsPatternOf f (of f) → All IsPosition (set_positions_of (of f))
-  positions_count form.Daily h = nothing _
-  positions_count form.Weekly h = nothing _
+  positions_count form.Daily h = All-nil _
+  positions_count form.Weekly h = All-nil _
   positions_count form.AbsoluteMonthly h = last_alone
-  positions_count form.RelativeMonthly h = All-cons IsPosition index [] (h.2, omega (arith, h.3)) (nothing _)
+  positions_count form.RelativeMonthly h = All-cons IsPosition index [] (h.2, omega (arith, h.3)) (All-nil _)
   positions_count form.AbsoluteYearly h = last_alone
-  positions_count form.RelativeYearly h = All-cons IsPosition index [] (h.2, omega (arith, h.3)) (nothing _)
+  positions_count form.RelativeYearly h = All-cons IsPosition index [] (h.2, omega (arith, h.3)) (All-nil _)
 
   week_begins : (f : Form) → IsPatternOf f (of f) → week_start_of f first < 7
   week_begins form.Daily h = omega arith
@@ -253,13 +250,13 @@ pattern_counterpart_is_valid p kind end valid high counts = record {
   interval_low = valid.0;
   interval_high = high;
   months = months_lie p.interval p.day_of_month p.month p.days p.first_day p.index p.form valid.1;
-  week_numbers = nothing _;
-  year_days = nothing _;
+  week_numbers = All-nil _;
+  year_days = All-nil _;
   month_days = days_count p.interval p.day_of_month p.month p.days p.first_day p.index p.form valid.1;
   days = items_lie p.interval p.day_of_month p.month p.days p.first_day p.index p.form;
-  hours = nothing _;
-  minutes = nothing _;
-  seconds = nothing _;
+  hours = All-nil _;
+  minutes = All-nil _;
+  seconds = All-nil _;
   set_positions = positions_count p.interval p.day_of_month p.month p.days p.first_day p.index p.form valid.1;
   week_start = week_begins p.interval p.day_of_month p.month p.days p.first_day p.index p.form valid.1;
   count = counts;

@@ -22,13 +22,13 @@ use Rattle.rr_rank.specs.Counts.{numbers_at, numbers_on}
 
 -- ---- lists, one after the other
 
-int_follows : (x y z : ℤ) → IsTrue (int_lt x y) → IsTrue (int_lt y z) → IsTrue (int_lt x z)
+pub int_follows : (x y z : ℤ) → IsTrue (int_lt x y) → IsTrue (int_lt y z) → IsTrue (int_lt x z)
 int_follows x y z l m = grind (arith, ints)
 
-int_strict : (x : ℤ) → IsTrue (int_lt x x) → ⊥
+pub int_strict : (x : ℤ) → IsTrue (int_lt x x) → ⊥
 int_strict x l = grind (arith, ints)
 
-test_of : (x y : ℤ) → x <ℤ y → IsTrue (int_lt x y)
+pub test_of : (x y : ℤ) → x <ℤ y → IsTrue (int_lt x y)
 test_of x y l = grind (arith, ints)
 
 pub add_list : (us ys : List ℤ) (P : ℤ → Type 0) → IsSetOf int_lt us P → Rises int_lt ys → ((u y : ℤ) → P u → Contains ys y → IsTrue (int_lt u y))

@@ -10,17 +10,13 @@ use Rattle.rr_model.specs.declared.kind.Kind.{Kind}
 use Rattle.rr_model.specs.declared.kind.Kind.TheVariants.{Days, Moments}
 use Rattle.rr_model.proofs.OrderLemmas.{Before-trans, to_place}
 use Rattle.rr_model.proofs.RisingSetLemmas.{Contains-cons_cases, Contains-head, Contains-none, Contains-tail, Rises-tail, below_rest, set_same}
+use Rattle.rr_word.proofs.SketchLemmas.{same_kind}
 use Rattle.rr_rank.specs.Rank.{HasExactly, HasFewer, IsNth, IsNthOf, IsPast, IsRank, up_to}
 use Rattle.rr_rank.specs.declared.nth.Nth.{Nth}
 use Rattle.rr_rank.specs.declared.nth.Nth.TheVariants.{At, Fewer, Past}
+use Rattle.rr_rank.proofs.NumbersLemmas.{int_follows, int_strict}
 
 -- ---- as many
-
-int_follows : (x y z : ℤ) → IsTrue (int_lt x y) → IsTrue (int_lt y z) → IsTrue (int_lt x z)
-int_follows x y z l m = grind (arith, ints)
-
-int_strict : (x : ℤ) → IsTrue (int_lt x x) → ⊥
-int_strict x l = grind (arith, ints)
 
 -- the first of a rising list is not above the others
 first_low : (x : ℤ) (xs : List ℤ) (u : ℤ) → Rises int_lt (x ∷ xs) → Contains (x ∷ xs) u → x ≤ℤ u
@@ -31,7 +27,7 @@ first_low x xs u r c =
     ]
 
 -- of two rising lists the one within the other is not longer
-not_longer : (xs ys : List ℤ) → Rises int_lt xs → Rises int_lt ys → ((u : ℤ) → Contains xs u → Contains ys u) → length xs ≤ length ys
+pub not_longer : (xs ys : List ℤ) → Rises int_lt xs → Rises int_lt ys → ((u : ℤ) → Contains xs u → Contains ys u) → length xs ≤ length ys
 not_longer [] ys rx ry within = omega arith
 not_longer (x ∷ xs) [] rx ry within = absurd (Contains-none x (within x (Contains-head x xs)))
 not_longer (x ∷ xs) (y ∷ ys) rx ry within =
@@ -87,12 +83,6 @@ kinds_apart P m a k only differ = sym a.count ∙ none a.numbers (λ u c. differ
     none : (xs : List ℤ) → ((u : ℤ) → Contains xs u → ⊥) → length xs ≡ 0
     none [] empty = refl
     none (x ∷ xs) empty = absurd (empty x (Contains-head x xs))
-
-same_kind : (k l : Kind) → (k ≡ l) ⊎ (k ≡ l → ⊥)
-same_kind Days Days = inl refl
-same_kind Moments Moments = inl refl
-same_kind Days Moments = inr (λ e. cc)
-same_kind Moments Days = inr (λ e. cc)
 
 -- a set within another has no more occurrences
 pub not_more : (P Q : Occurrences) (m n : ℕ) → HasExactly P m → HasExactly Q n → ((k : Kind) (t : ℤ) → P k t → Q k t) → m ≤ n

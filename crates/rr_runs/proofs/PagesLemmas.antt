@@ -438,10 +438,6 @@ block_put old same new block part index most count put es room few low eb ep is 
           ∙ ap (λ (l : List ℕ). old ++ l) (take_part (drop index old) put count within),
     )
 
-pub none_left : (xs : List ℕ) → length xs ≡ 0 → xs ≡ []
-none_left [] e = refl
-none_left (x ∷ xs) e = absurd (omega arith)
-
 pub pages_of_part : (pool pages row : List ℕ) (from most : ℕ) → ArePages pool pages → row ≡ take most (drop from pages) → ArePages pool row
 pages_of_part pool pages row from most stand er k h =
     let many : length row ≤ length pages - from = omega (arith, ap length er, length-take most (drop from pages), length-drop from pages) in

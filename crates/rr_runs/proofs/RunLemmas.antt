@@ -6,6 +6,7 @@ use Rattle.std.proofs.lemmas.Int.{ints}
 use Rattle.std.proofs.lemmas.List.{length-take-le, take_more}
 use Rattle.rr_word.specs.Numbered.{number_in}
 use Rattle.rr_word.specs.declared.numbered.NumberedDay.{NumberedDay}
+use Rattle.rr_word.proofs.ShapeLemmas.{int_eq-differ}
 use Rattle.rr_runs.specs.Runs.{IsCountOf, Reached, change, changes, days_of, first_reached, number_told, reach, reached, run_count}
 use Rattle.rr_runs.specs.declared.run_days.RunCount.{RunCount}
 
@@ -37,14 +38,11 @@ number_put day row row' index number told e et el =
 
 -- ---- the number on a day
 
-apart : (a b : ℤ) → (a ≡ b → ⊥) → int_eq a b ≡ false
-apart a b ne = grind (arith, ints)
-
 pub none_before : (day d : ℤ) (row : List ℕ) → d <ℤ day → number_in (days_of day row) d ≡ None
 none_before day d [] l = refl
 none_before day d (zero ∷ row) l = none_before (day +ℤ pos 1) d row (omega (arith, ints))
 none_before day d (suc n ∷ row) l =
-    let ne : int_eq day d ≡ false = apart day d (λ e. omega (arith, ints)) in
+    let ne : int_eq day d ≡ false = int_eq-differ day d (λ e. omega (arith, ints)) in
     rw ne (none_before (day +ℤ pos 1) d row (omega (arith, ints)))
 
 pub number_at : (day d : ℤ) (k : ℕ) (row : List ℕ) → d ≡ day +ℤ pos k → number_in (days_of day row) d ≡ number_told (get_or row k 0)
@@ -55,7 +53,7 @@ number_at day d zero (suc n ∷ row) e =
     rw same refl
 number_at day d (suc k) (zero ∷ row) e = number_at (day +ℤ pos 1) d k row (omega (arith, ints))
 number_at day d (suc k) (suc n ∷ row) e =
-    let ne : int_eq day d ≡ false = apart day d (λ h. omega (arith, ints)) in
+    let ne : int_eq day d ≡ false = int_eq-differ day d (λ h. omega (arith, ints)) in
     rw ne (number_at (day +ℤ pos 1) d k row (omega (arith, ints)))
 
 -- ---- runs

@@ -13,7 +13,7 @@ IsUnbroken [] = Unit {0}
 IsUnbroken (b ∷ bs) = ((b == 10) ≡ false) × ((b == 13) ≡ false) × IsUnbroken bs
 
 -- one line that CR LF ends, before others
-line_ends : (text rest : List ℕ) → IsUnbroken text → physical_lines (text ++ 13 ∷ 10 ∷ rest) ≡ text ∷ physical_lines rest
+pub line_ends : (text rest : List ℕ) → IsUnbroken text → physical_lines (text ++ 13 ∷ 10 ∷ rest) ≡ text ∷ physical_lines rest
 unfolding physical_lines
 line_ends [] rest h = refl
 line_ends (b ∷ bs) rest h = rw (h.0, h.1) (ap (onto_first b) (line_ends bs rest h.2))

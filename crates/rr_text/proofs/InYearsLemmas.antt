@@ -15,9 +15,10 @@ use Rattle.rr_model.specs.declared.stamp.Stamp.{Stamp}
 use Rattle.rr_model.proofs.CalendarLemmas.{is_date_is}
 use Rattle.rr_model.proofs.MomentLemmas.{day_part-moment_at}
 use Rattle.rr_text.proofs.MomentTextLemmas.{day_number_bounds, is_digits_means, number_at_below}
-use Rattle.rr_text.proofs.StepLemmas.{stated}
+use Rattle.rr_text.proofs.StepLemmas.{stated, where_some}
+use Rattle.rr_text.specs.Stamps.{IsStamp}
 
-basic_date-in_years : (text : List ℕ) (day : ℤ) → basic_date text ≡ Some day → IsInYears Days day
+pub basic_date-in_years : (text : List ℕ) (day : ℤ) → basic_date text ≡ Some day → IsInYears Days day
 unfolding basic_date
 basic_date-in_years text day h =
     let y = written_year text in
@@ -31,7 +32,7 @@ basic_date-in_years text day h =
     let high : y < 10_000 = number_at_below 0 4 text (omega (arith, text_is.0)) text_is.1 in
     subst (IsInYears Days) means.1 (day_number_bounds (pos y) m k (omega (arith, ints)) (omega (arith, ints)) ((is_date_is (pos y) m k).0 date.1))
 
-basic_time-below : (text : List ℕ) (second : ℕ) → basic_time text ≡ Some second → second < 86_400
+pub basic_time-below : (text : List ℕ) (second : ℕ) → basic_time text ≡ Some second → second < 86_400
 unfolding basic_time
 basic_time-below text second h =
     let means = stated (is_basic_time text) (written_hour text * 3_600 + written_minute text * 60 + written_second text) second h in
@@ -55,14 +56,10 @@ moment_of-in_years (Some day) (Some second) (Some utc) stamp day_in below h =
     let back : day_part Moments (moment_at Moments day second) ≡ day = day_part-moment_at day second (below second refl) in
     subst (λ (s : Stamp). IsInYears s.kind s.at) e (subst (IsInYears Days) (sym back) (day_in day refl))
 
-lettered : (b : Bool) (m : Option Stamp) (stamp : Stamp) → (if b then m else None) ≡ Some stamp → m ≡ Some stamp
-lettered true m stamp h = h
-lettered false m stamp h = absurd (cc)
-
 basic_moment-in_years : (text : List ℕ) (stamp : Stamp) → basic_moment text ≡ Some stamp → IsInYears stamp.kind stamp.at
 unfolding basic_moment
 basic_moment-in_years text stamp h =
-    let e = lettered (is_letter_t (slice_index text 8)) _ stamp h in
+    let e = where_some (is_letter_t (slice_index text 8)) _ stamp h in
     moment_of-in_years (basic_date (take 8 text)) (basic_time (take 6 (drop 9 text))) (utc_mark (drop 15 text)) stamp (basic_date-in_years (take 8 text))
     (basic_time-below (take 6 (drop 9 text))) e
 
@@ -95,7 +92,7 @@ basic_moment-kind : (text : List ℕ) (stamp : Stamp) → basic_moment text ≡ 
 unfolding basic_moment
 basic_moment-kind text stamp h =
     moment_of-kind (basic_date (take 8 text)) (basic_time (take 6 (drop 9 text))) (utc_mark (drop 15 text)) stamp
-    (lettered (is_letter_t (slice_index text 8)) _ stamp h)
+    (where_some (is_letter_t (slice_index text 8)) _ stamp h)
 
 basic-marked : (text : List ℕ) (stamp : Stamp) → basic text ≡ Some stamp → stamp.utc ≡ true → stamp.kind ≡ Moments
 unfolding basic
@@ -105,10 +102,6 @@ basic-marked text stamp h =
       | true ↦ date_stamp-unmarked (basic_date text) stamp
       | false ↦ λ e utc. basic_moment-kind text stamp e
     ] h
-
--- a date or a moment of the years 1 to 9999; only a moment is marked as UTC
-abbrev pub IsStamp : Stamp → Type 0
-IsStamp stamp = IsInYears stamp.kind stamp.at × (stamp.utc ≡ true → stamp.kind ≡ Moments)
 
 pub basic-stamp : (text : List ℕ) (stamp : Stamp) → basic text ≡ Some stamp → IsStamp stamp
 basic-stamp text stamp h = (basic-in_years text stamp h, basic-marked text stamp h)

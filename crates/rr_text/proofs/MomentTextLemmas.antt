@@ -1,5 +1,5 @@
 -- The texts of dates and moments: bounds of what they state.
-use Rattle.std.proofs.Common.{◌≡◌, ℕ, ◌+◌, ◌^◌, ◌<◌, ◌≤◌, Bool, true, false, if◌then◌else◌, Option, None, Some, List, length, take, drop, slice_index, ℤ}
+use Rattle.std.proofs.Common.{◌≡◌, ℕ, ◌+◌, ◌^◌, ◌<◌, ◌≤◌, Bool, true, false, Option, None, Some, List, length, take, drop, slice_index, ℤ}
 use Rattle.std.proofs.Common.{pos, ◌+ℤ◌, ◌≤ℤ◌, nat_abs, refl, arith}
 use Rattle.std.specs.List.{AllPass, list_all}
 use Rattle.std.proofs.lemmas.Bool.Decides.{nat_tests}
@@ -11,8 +11,8 @@ use Rattle.rr_model.specs.Calendar.{day_number, year_of, IsDate}
 use Rattle.rr_model.specs.Text.Digits.{is_digit}
 use Rattle.rr_model.specs.Moment.Years.{IsFromYearOne, HasFourDigitYear}
 use Rattle.rr_model.specs.Text.Moments.{is_digits, number_at, basic_date, basic_time, basic_moment, is_letter_t, utc_mark, moment_of}
-use Rattle.rr_model.specs.declared.stamp.Stamp.{Stamp}
 use Rattle.rr_text.proofs.DigitLemmas.{digits_value_below}
+use Rattle.rr_text.proofs.StepLemmas.{where_none}
 use Rattle.rr_model.proofs.CalendarLemmas.{IsInYear-day_number, IsInYear-year_of, first_day_of_year_mono}
 
 -- the days of the years 1 to 9999
@@ -57,15 +57,11 @@ number_at_below start count text h all =
     let size : length (take count (drop start text)) ≡ count = grind (arith, common_steps) in
     rw size at (digits_value_below (take count (drop start text)) (list_all-from_AllPass is_digit _ part))
 
-either : (b : Bool) (m : Option Stamp) → m ≡ None → (if b then m else None) ≡ None
-either true m h = h
-either false m h = refl
-
 basic_time-length : (text : List ℕ) → length text < 6 → basic_time text ≡ None
 unfolding basic_time is_digits
 basic_time-length text h = grind (arith, nat_tests)
 
-moment_of-no_time : (date : Option ℤ) (mark : Option Bool) → moment_of date None mark ≡ None
+pub moment_of-no_time : (date : Option ℤ) (mark : Option Bool) → moment_of date None mark ≡ None
 moment_of-no_time None mark = refl
 moment_of-no_time (Some day) mark = refl
 
@@ -74,7 +70,7 @@ pub basic_moment-short : (text : List ℕ) → length text < 15 → basic_moment
 unfolding basic_moment
 basic_moment-short text h =
     let time : basic_time (take 6 (drop 9 text)) ≡ None = basic_time-length (take 6 (drop 9 text)) (grind (arith, common_steps)) in
-    either (is_letter_t (slice_index text 8)) _ (rw time (moment_of-no_time (basic_date (take 8 text)) (utc_mark (drop 15 text))))
+    where_none (is_letter_t (slice_index text 8)) _ (rw time (moment_of-no_time (basic_date (take 8 text)) (utc_mark (drop 15 text))))
 
 -- without the letter T it is none
 pub basic_moment-no_letter : (text : List ℕ) → is_letter_t (slice_index text 8) ≡ false → basic_moment text ≡ None

@@ -75,7 +75,7 @@ small_year d from near =
     let bounds = first_day_of_year_bounds (year_of d) in
     omega (arith, ints, year_of-low d from, within.begun, bounds.0, near.1)
 
-small_month : (d : ℤ) → (month_of d < 100) × (day_of_month d < 100)
+pub small_month : (d : ℤ) → (month_of d < 100) × (day_of_month d < 100)
 small_month d =
     let date = IsDate-year_of d in
     let bounds = days_in_month_bounds (year_of d) (month_of d) in
@@ -91,9 +91,9 @@ date_text_injective d e fd nd fe ne same =
     let year : year_of d ≡ year_of e = omega (arith, ints, parts.0, year_of-low d fd, year_of-low e fe) in
     sym (day_number-year_of d) ∙ rw (year, parts.1, parts.2) (day_number-year_of e)
 
-length-time_text : (s : ℕ) → s < 86_400 → length (extended_time_text s) ≡ 8
+pub length-extended_time_text : (s : ℕ) → s < 86_400 → length (extended_time_text s) ≡ 8
 unfolding extended_time_text
-length-time_text s h =
+length-extended_time_text s h =
     let hour = length-padded (s / 3_600) (omega arith) in
     let rest = length-ends 58 (s / 60 % 60) (s % 60) (omega arith) (omega arith) in
     ap length (front_and_ends 58 (s / 60 % 60) (s % 60) (padded 2 (s / 3_600)))
@@ -114,7 +114,7 @@ extended_text_injective Days t u ft nt fu nu same = date_text_injective t u ft n
 extended_text_injective Moments t u ft nt fu nu same =
     let ht = floor_mod_below t 86_400 (omega arith) in
     let hu = floor_mod_below u 86_400 (omega arith) in
-    let long = length-time_text (second_part Moments t) ht ∙ sym (length-time_text (second_part Moments u) hu) in
+    let long = length-extended_time_text (second_part Moments t) ht ∙ sym (length-extended_time_text (second_part Moments u) hu) in
     let p = parted (extended_date_text (day_part Moments t) ++ (84 ∷ [])) (extended_date_text (day_part Moments u) ++ (84 ∷ []))
     (extended_time_text (second_part Moments t)) (extended_time_text (second_part Moments u)) long same in
     let q = parted (extended_date_text (day_part Moments t)) (extended_date_text (day_part Moments u)) (84 ∷ []) (84 ∷ []) refl p.0 in

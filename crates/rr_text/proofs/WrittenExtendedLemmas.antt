@@ -20,6 +20,7 @@ use Rattle.rr_model.proofs.CalendarLemmas.{IsDate-year_of, days_in_month_bounds}
 use Rattle.rr_model.proofs.WholeLemmas.{floor_whole, floor_mod_below}
 use Rattle.rr_text.proofs.MomentTextLemmas.{year_of-short}
 use Rattle.rr_text.proofs.WrittenLemmas.{length-padded_to, basic_date-written, basic_time-written}
+use Rattle.rr_text.proofs.PrintedLemmas.{length-extended_time_text, length-padded}
 
 -- ---- ASCII
 
@@ -89,9 +90,6 @@ short_date day h =
       number = omega (arith, date.3, bounds.1);
     }
 
-length-two : (n : ℕ) → n < 100 → length (padded 2 n) ≡ 2
-length-two n h = length-padded_to 2 n (omega arith) (omega (arith, h)) (omega (arith, h))
-
 length-four : (n : ℕ) → n < 10_000 → length (padded 4 n) ≡ 4
 length-four n h = length-padded_to 4 n (omega arith) (omega (arith, h)) (omega (arith, h))
 
@@ -100,14 +98,14 @@ unfolding extended_date_text
 length-extended_date_text day h =
     let w = short_date day h in
     length-separated (padded 4 (nat_abs (year_of day))) (padded 2 (month_of day)) (padded 2 (day_of_month day)) 45 4 2 2 (length-four _ w.year)
-    (length-two _ w.month) (length-two _ w.number)
+    (length-padded _ w.month) (length-padded _ w.number)
 
 pub IsAscii-extended_date_text : (day : ℤ) → HasFourDigitYear day → IsAscii (extended_date_text day)
 unfolding extended_date_text
 IsAscii-extended_date_text day h =
     let w = short_date day h in
     IsAscii-separated (padded 4 (nat_abs (year_of day))) (padded 2 (month_of day)) (padded 2 (day_of_month day)) 45 4 2 2 (length-four _ w.year)
-    (length-two _ w.month) (length-two _ w.number) (omega arith) (IsAscii-padded 4 _ (omega (arith, w.year))) (IsAscii-padded 2 _ (omega (arith, w.month)))
+    (length-padded _ w.month) (length-padded _ w.number) (omega arith) (IsAscii-padded 4 _ (omega (arith, w.year))) (IsAscii-padded 2 _ (omega (arith, w.month)))
     (IsAscii-padded 2 _ (omega (arith, w.number)))
 
 -- A written date of the years 1 to 9999 is read back.
@@ -119,8 +117,8 @@ extended_date-written day h =
     let m = padded 2 (month_of day) in
     let d = padded 2 (day_of_month day) in
     let ly : length y ≡ 4 = length-four _ w.year in
-    let lm : length m ≡ 2 = length-two _ w.month in
-    let ld : length d ≡ 2 = length-two _ w.number in
+    let lm : length m ≡ 2 = length-padded _ w.month in
+    let ld : length d ≡ 2 = length-padded _ w.number in
     let long : (length (extended_date_text day) == 10) ≡ true = grind (arith, nat_tests, length-extended_date_text day h) in
     let first : slice_index (extended_date_text day) 4 ≡ 45 = first_separator y m d 45 4 2 2 ly lm ld in
     let second : slice_index (extended_date_text day) 7 ≡ 45 = second_separator y m d 45 4 2 2 ly lm ld in
@@ -132,17 +130,11 @@ extended_date-written day h =
 second_bounds : (s : ℕ) → s < 86_400 → (s / 3_600 < 100) × (s / 60 % 60 < 100) × (s % 60 < 100)
 second_bounds s h = (omega arith, omega arith, omega arith)
 
-pub length-extended_time_text : (s : ℕ) → s < 86_400 → length (extended_time_text s) ≡ 8
-unfolding extended_time_text
-length-extended_time_text s h =
-    let w = second_bounds s h in
-    length-separated (padded 2 (s / 3_600)) (padded 2 (s / 60 % 60)) (padded 2 (s % 60)) 58 2 2 2 (length-two _ w.0) (length-two _ w.1) (length-two _ w.2)
-
 pub IsAscii-extended_time_text : (s : ℕ) → s < 86_400 → IsAscii (extended_time_text s)
 unfolding extended_time_text
 IsAscii-extended_time_text s h =
     let w = second_bounds s h in
-    IsAscii-separated (padded 2 (s / 3_600)) (padded 2 (s / 60 % 60)) (padded 2 (s % 60)) 58 2 2 2 (length-two _ w.0) (length-two _ w.1) (length-two _ w.2)
+    IsAscii-separated (padded 2 (s / 3_600)) (padded 2 (s / 60 % 60)) (padded 2 (s % 60)) 58 2 2 2 (length-padded _ w.0) (length-padded _ w.1) (length-padded _ w.2)
     (omega arith) (IsAscii-padded 2 _ (omega (arith, w.0))) (IsAscii-padded 2 _ (omega (arith, w.1))) (IsAscii-padded 2 _ (omega (arith, w.2)))
 
 -- A written time is read back.
@@ -153,9 +145,9 @@ extended_time-written s h =
     let a = padded 2 (s / 3_600) in
     let b = padded 2 (s / 60 % 60) in
     let c = padded 2 (s % 60) in
-    let la : length a ≡ 2 = length-two _ w.0 in
-    let lb : length b ≡ 2 = length-two _ w.1 in
-    let lc : length c ≡ 2 = length-two _ w.2 in
+    let la : length a ≡ 2 = length-padded _ w.0 in
+    let lb : length b ≡ 2 = length-padded _ w.1 in
+    let lc : length c ≡ 2 = length-padded _ w.2 in
     let long : (length (extended_time_text s) == 8) ≡ true = grind (arith, nat_tests, length-extended_time_text s h) in
     let first : slice_index (extended_time_text s) 2 ≡ 58 = first_separator a b c 58 2 2 2 la lb lc in
     let second : slice_index (extended_time_text s) 5 ≡ 58 = second_separator a b c 58 2 2 2 la lb lc in

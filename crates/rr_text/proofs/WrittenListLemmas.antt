@@ -4,12 +4,15 @@ use Rattle.std.specs.Prelude.{◌==◌, if◌then◌else◌}
 use Rattle.std.specs.List.{list_all, AllByRecursion, join_with_byte}
 use Rattle.std.proofs.lemmas.Bool.{and_parts, and_from, not-true}
 use Rattle.std.proofs.lemmas.Bool.Decides.{nat_tests}
+use Rattle.std.proofs.Common.{◌+◌, ◌<◌, length, drop, get_or}
+use Rattle.std.proofs.lemmas.List.{drop_more}
 use Rattle.rr_model.specs.Rising.{Rises, with_value}
 use Rattle.rr_model.specs.Rule.Validity.{is_absent}
 use Rattle.rr_model.specs.Text.RuleValues.{◌>>=◌, pieces, placed, list_of}
 use Rattle.rr_model.specs.declared.refusal.Refusal.{Refusal}
 use Rattle.rr_model.specs.declared.refusal.Refusal.TheVariants.{BadRule}
 use Rattle.rr_model.proofs.RisingSetLemmas.{Rises-tail}
+use Rattle.rr_model.specs.Text.Written.{lines_of}
 use Rattle.rr_text.proofs.WrittenByteLemmas.{has_no, list_all-weaker, list_all-both}
 
 -- ---- joined texts
@@ -103,3 +106,13 @@ module _ {X : Type 0} (below : X → X → Bool) where
           ap (λ (ts : List (List ℕ)). if list_all has_form ts then placed below judged [] ts else Err (BadRule line)) split
           ∙ ap (λ (b : Bool). if b then placed below judged [] (map text_of (x ∷ xs)) else Err (BadRule line)) (forms has_form (x ∷ xs) h)
           ∙ placed-rising [] (x ∷ xs) (each_read has_form (x ∷ xs) h) r refl
+
+-- ---- what is written value by value
+
+-- one value more
+pub one_written : {X : Type 0} (f : X → List ℕ) (out next all : List ℕ) (xs : List X) (i : ℕ) (x d : X) → i < length xs → x ≡ get_or xs i d
+    → out ++ lines_of f (drop i xs) ≡ all → next ≡ out ++ f x → next ++ lines_of f (drop (i + 1) xs) ≡ all
+one_written f out next all xs i x d l is so_far e =
+    let left = drop_more xs i d l ∙ ap (λ y. y ∷ drop (i + 1) xs) (sym is) in
+    ap (λ o. o ++ lines_of f (drop (i + 1) xs)) e ∙ append_assoc out (f x) (lines_of f (drop (i + 1) xs))
+    ∙ ap (λ ys. out ++ lines_of f ys) (sym left) ∙ so_far

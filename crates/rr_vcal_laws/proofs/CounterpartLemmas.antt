@@ -17,14 +17,9 @@ use Rattle.rr_model.specs.declared.item.Item.{Item}
 use Rattle.rr_model.specs.declared.vcal.FamilyKind.{FamilyKind}
 use Rattle.rr_model.specs.declared.vcal.FamilyKind.TheVariants as family
 use Rattle.rr_model.specs.declared.vcal.VRule.{VRule}
+use Rattle.rr_model.proofs.TestLemmas.{or_swap, same_truth, eqb-same, without_or}
 
 -- ---- a test of the values of a rising list
-
-or_swap : (a b c : Bool) → (a || (b || c)) ≡ (b || (a || c))
-or_swap true true c = refl
-or_swap true false c = refl
-or_swap false true c = refl
-or_swap false false c = refl
 
 or_again : (a c : Bool) → (a || c) ≡ (a || (a || c))
 or_again true c = refl
@@ -74,17 +69,9 @@ module _ {X : Type 0} (below : X → X → Bool) (p : X → Bool) (same : (x y :
 
 -- ---- the time of day
 
-bool_same : (a b : Bool) → (a ≡ true → b ≡ true) → (b ≡ true → a ≡ true) → a ≡ b
-bool_same true b f g = sym (f refl)
-bool_same false true f g = g refl
-bool_same false false f g = refl
-
-self : (n : ℕ) → (n == n) ≡ true
-self n = grind (arith, nat_tests)
-
 -- hours, minutes and seconds are the same exactly where the second of the day is
 time_same : (s t : ℕ) → s < 86_400 → t < 86_400 → ((s / 3_600 == t / 3_600) && (s / 60 % 60 == t / 60 % 60) && (s % 60 == t % 60)) ≡ (t == s)
-time_same s t hs ht = bool_same _ (t == s) there back
+time_same s t hs ht = same_truth _ (t == s) there back
   where
     there : ((s / 3_600 == t / 3_600) && (s / 60 % 60 == t / 60 % 60) && (s % 60 == t % 60)) ≡ true → (t == s) ≡ true
     there h =
@@ -99,7 +86,7 @@ time_same s t hs ht = bool_same _ (t == s) there back
     back : (t == s) ≡ true → ((s / 3_600 == t / 3_600) && (s / 60 % 60 == t / 60 % 60) && (s % 60 == t % 60)) ≡ true
     back h =
         let same : t ≡ s = grind (arith, nat_tests, h) in
-        rw (same, self (s / 3_600), self (s / 60 % 60), self (s % 60)) refl
+        rw (same, eqb-same (s / 3_600), eqb-same (s / 60 % 60), eqb-same (s % 60)) refl
 
 wants-time : (f : FamilyKind) → (wants_hour (family_freq f) ≡ true) × ((wants_minute (family_freq f) ≡ true) × (wants_second (family_freq f) ≡ true))
 wants-time family.D = (refl, (refl, refl))
@@ -117,9 +104,6 @@ int_eq-pos a b =
     pos_same : pos a ≡ pos b → a ≡ b
     pos_same e = cc
 
-three : (a b c : Bool) → ((a || false) && (b || false) && (c || false)) ≡ (a && b && c)
-three a b c = rw (or_none a, or_none b, or_none c) refl
-
 -- a filled rule of whole days lists the hour, the minute and the second of its start alone
 pub time_parts : (rule : VRule) (kind : Kind) (start t : ℤ) → time_parts_hold (filled (rule_of_vrule rule kind start) kind start) kind t
     ≡ (second_part kind t == second_part kind start)
@@ -136,5 +120,5 @@ time_parts rule Moments start t =
           (minute_of Moments t),
       int_eq-pos (second_of Moments start) (second_of Moments t),
     )
-    (three (hour_of Moments start == hour_of Moments t) (minute_of Moments start == minute_of Moments t) (second_of Moments start == second_of Moments t)
+    (without_or (hour_of Moments start == hour_of Moments t) (minute_of Moments start == minute_of Moments t) (second_of Moments start == second_of Moments t)
     ∙ time_same (second_part Moments start) (second_part Moments t) (floor_mod_below start 86_400 (omega arith)) (floor_mod_below t 86_400 (omega arith)))

@@ -1,5 +1,5 @@
 -- A vCalendar rule and its counterpart choose the same moments, family by family.
-use Rattle.std.proofs.Common.{◌≡◌, ℕ, ◌≤◌, ◌==◌, ◌&&◌, ◌||◌, Bool, true, false, if◌then◌else◌, List, [], ◌∷◌, Option, None, Some, length, refl, sym, ap}
+use Rattle.std.proofs.Common.{◌≡◌, ℕ, ◌≤◌, ◌==◌, ◌&&◌, ◌||◌, Bool, true, false, List, [], ◌∷◌, Option, None, Some, length, refl, sym, ap}
 use Rattle.std.proofs.Common.{◌∙◌, arith, ℤ, pos, ◌-ℤ◌}
 use Rattle.std.specs.Prelude.{int_lt, All}
 use Rattle.std.specs.List.{list_any, AllByRecursion}
@@ -10,7 +10,7 @@ use Rattle.rr_model.specs.Rule.Candidate.{interval_holds, date_parts_hold, day_i
 use Rattle.rr_model.specs.Rule.Chosen.{is_chosen}
 use Rattle.rr_model.specs.Rule.Filled.{filled}
 use Rattle.rr_model.specs.Moment.{day_part, second_part}
-use Rattle.rr_model.specs.Rising.{with_value, day_item_lt}
+use Rattle.rr_model.specs.Rising.{day_item_lt}
 use Rattle.rr_model.specs.Rule.Validity.{is_absent}
 use Rattle.rr_model.specs.Moment.Units.{unit_number}
 use Rattle.rr_model.specs.Whole.{divides}
@@ -27,6 +27,8 @@ use Rattle.rr_model.specs.declared.vcal.FamilyKind.TheVariants as family
 use Rattle.rr_model.specs.declared.item.Item.{Item}
 use Rattle.rr_model.specs.declared.item.Item.TheVariants.{Every, Weekday, MonthDay, Place, Month, YearDay}
 use Rattle.rr_model.specs.declared.vcal.VRule.{VRule}
+use Rattle.rr_model.proofs.WithValueLemmas.{with_value-some}
+use Rattle.rr_model.proofs.TestLemmas.{and_true}
 use Rattle.rr_vcal_laws.proofs.CounterpartLemmas.{holds_of, time_parts, any-values_of}
 
 -- ---- the parts of the two tests
@@ -159,24 +161,10 @@ weekday-none (Place n k ∷ items) h = absurd h.0
 weekday-none (Month m ∷ items) h = absurd h.0
 weekday-none (YearDay k ∷ items) h = absurd h.0
 
-pub and_true : (b : Bool) → (b && true) ≡ b
-and_true true = refl
-and_true false = refl
-
--- a list that has a value goes on having one
-present-with_value : {X : Type 0} (below : X → X → Bool) (values : List X) (x : X) → is_absent (with_value below values x) ≡ false
-present-with_value below [] x = refl
-present-with_value below (y ∷ ys) x = by (below y x) (below x y)
-  where
-    by : (b c : Bool) → is_absent (if b then y ∷ with_value below ys x else (if c then x ∷ y ∷ ys else y ∷ ys)) ≡ false
-    by true c = refl
-    by false true = refl
-    by false false = refl
-
 present-with_option : {X : Type 0} (below : X → X → Bool) (values : List X) (o : Option X) → is_absent values ≡ false
     → is_absent (with_option below values o) ≡ false
 present-with_option below values None h = h
-present-with_option below values (Some x) h = present-with_value below values x
+present-with_option below values (Some x) h = with_value-some below values x
 
 pub present-values_of : {X : Type 0} (below : X → X → Bool) (value : Item → Option X) (values : List X) (items : List Item) → is_absent values ≡ false
     → is_absent (values_of below value values items) ≡ false

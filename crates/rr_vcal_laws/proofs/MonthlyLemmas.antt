@@ -20,8 +20,9 @@ use Rattle.rr_model.specs.declared.vcal.FamilyKind.TheVariants as family
 use Rattle.rr_model.specs.declared.item.Item.{Item}
 use Rattle.rr_model.specs.declared.item.Item.TheVariants.{Every, Weekday, MonthDay, Place, Month, YearDay}
 use Rattle.rr_model.specs.declared.vcal.VRule.{VRule}
+use Rattle.rr_model.proofs.TestLemmas.{and_true}
 use Rattle.rr_vcal_laws.proofs.CounterpartLemmas.{holds_of, any-values_of}
-use Rattle.rr_vcal_laws.proofs.MemberLemmas.{same_choice, AreItemsOf, GivesNone, and_true, values-none, present-values_of, day_item-same}
+use Rattle.rr_vcal_laws.proofs.MemberLemmas.{same_choice, AreItemsOf, GivesNone, values-none, present-values_of, day_item-same}
 
 -- two numbers of which neither is below the other are the same to every test
 int-same : (p : ℤ → Bool) (x y : ℤ) → int_lt x y ≡ false → int_lt y x ≡ false → p x ≡ p y

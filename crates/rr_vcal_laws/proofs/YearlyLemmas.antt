@@ -21,8 +21,9 @@ use Rattle.rr_model.specs.declared.vcal.FamilyKind.TheVariants as family
 use Rattle.rr_model.specs.declared.item.Item.{Item}
 use Rattle.rr_model.specs.declared.item.Item.TheVariants.{Every, Weekday, MonthDay, Place, Month, YearDay}
 use Rattle.rr_model.specs.declared.vcal.VRule.{VRule}
+use Rattle.rr_model.proofs.TestLemmas.{and_true}
 use Rattle.rr_vcal_laws.proofs.CounterpartLemmas.{holds_of, int_eq-pos, or_none}
-use Rattle.rr_vcal_laws.proofs.MemberLemmas.{same_choice, AreItemsOf, GivesNone, and_true, values-none, present-values_of}
+use Rattle.rr_vcal_laws.proofs.MemberLemmas.{same_choice, AreItemsOf, GivesNone, values-none, present-values_of}
 use Rattle.rr_vcal_laws.proofs.MonthlyLemmas.{lists-values, from_back}
 
 -- a number counted from the front is none counted from the back

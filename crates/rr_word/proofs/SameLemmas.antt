@@ -1,8 +1,9 @@
 -- When a sequence repeats, and from where.
 use Rattle.std.proofs.Common.{◌≡◌, ◌↔◌, ℕ, ◌+◌, ◌<◌, ◌≤◌, Bool, true, false, List, [], length, get_or, nat_abs, ℤ, pos, ◌+ℤ◌, ◌-ℤ◌, ◌≤ℤ◌, refl, sym, ap, ◌∙◌, arith}
-use Rattle.std.specs.Prelude.{Option, Some, None, IsTrue, slice_get, unwrap_or}
+use Rattle.std.specs.Prelude.{Option, Some, None, IsTrue, slice_get, MatchOption}
 use Rattle.std.proofs.lemmas.Int.{ints, by_lt_z}
 use Rattle.std.proofs.lemmas.Bool.{false≢true}
+use Rattle.std.proofs.lemmas.Option.{same_Some}
 use Rattle.rr_model.specs.Whole.Periodic.{RepeatsFrom}
 use Rattle.rr_model.specs.Sets.Sketch.{IsValidSketch, IsFirstDay, times_on}
 use Rattle.rr_model.specs.declared.sketch.Sketch.{Sketch}
@@ -46,8 +47,11 @@ same_free s day other a b n later e la lb fa fb d low high =
     let at_other : d +ℤ pos later ≡ other +ℤ pos k = omega (arith, ints) in
     ap (times_on s) at_other ∙ fb k (omega (arith, ints)) ∙ sym (fa k (omega (arith, ints))) ∙ ap (times_on s) (sym at)
 
-one_set : (xs ys : List ℕ) → Some xs ≡ Some ys → xs ≡ ys
-one_set xs ys e = ap (λ o. unwrap_or o []) e
+-- the seconds of a day by the number of its set
+pub seconds_of_day : (sets : List (List ℕ)) (s : Sketch) (d : ℤ) (n : Option ℕ) (xs : List ℕ) → IsNumberOn sets s d n
+    → MatchOption n (xs ≡ []) (λ i. slice_get sets i ≡ Some xs) → xs ≡ times_on s d
+seconds_of_day sets s d None xs on e = e ∙ sym on
+seconds_of_day sets s d (Some n) xs on e = same_Some xs (times_on s d) (sym e ∙ on)
 
 -- days of one number have one set
 pub one_number : (sets : List (List ℕ)) (s : Sketch) (d e : ℤ) (m n : Option ℕ) → IsNumberOn sets s d m → IsNumberOn sets s e n → m ≡ n
@@ -55,7 +59,7 @@ pub one_number : (sets : List (List ℕ)) (s : Sketch) (d e : ℤ) (m n : Option
 one_number sets s d e None None on_d on_e i = on_e ∙ sym on_d
 one_number sets s d e (Some m) (Some n) on_d on_e i =
     let k : m ≡ n = cc in
-    one_set (times_on s e) (times_on s d) (sym on_e ∙ ap (slice_get sets) (sym k) ∙ on_d)
+    same_Some (times_on s e) (times_on s d) (sym on_e ∙ ap (slice_get sets) (sym k) ∙ on_d)
 one_number sets s d e None (Some n) on_d on_e i = absurd (cc)
 one_number sets s d e (Some m) None on_d on_e i = absurd (cc)
 

@@ -9,7 +9,7 @@ use Rattle.std.proofs.lemmas.List.Elements.{All-head, All-tail, All-contains}
 use Rattle.std.proofs.Math.Nat.{add-mod_right}
 use Rattle.rr_model.specs.Whole.Periodic.{RepeatsFrom}
 use Rattle.rr_model.specs.Rising.{Rises}
-use Rattle.rr_model.specs.Sets.Sketch.{IsValidSketch, IsTimeSet, times_on, times_in, day_in_cycle}
+use Rattle.rr_model.specs.Sets.Sketch.{IsValidSketch, IsTimeSet, times_on, times_in, day_in_cycle, StandsIn, HasRisingDays}
 use Rattle.rr_word.specs.SketchLaws.{AgreementOfSketchesLasts, WindowOfSketchesLasts, HasNoneOn, IsCommonMultiple}
 use Rattle.rr_model.specs.declared.kind.Kind.{Kind}
 use Rattle.rr_model.specs.declared.kind.Kind.TheVariants.{Days, Moments}
@@ -17,6 +17,8 @@ use Rattle.rr_model.specs.declared.sketch.DayShape.{DayShape}
 use Rattle.rr_model.specs.declared.sketch.Sketch.{Sketch}
 use Rattle.rr_model.proofs.PeriodicLemmas.{agreement_lasts}
 use Rattle.rr_model.proofs.RisingSetLemmas.{Contains-cons_cases, Contains-none}
+use Rattle.rr_model.specs.Moment.{day_part, second_part}
+use Rattle.rr_model.proofs.SecondsLemmas.{Contains-or_not}
 use Rattle.rr_word.proofs.WindowLemmas.{RepeatsFrom-later, RepeatsFrom-multiple, window_lasts}
 
 set_in : (k : Kind) (ss : List DayShape) (d : ℤ) → All (λ x. IsTimeSet k x.times) ss → (times_in ss d ≡ []) ⊎ IsTimeSet k (times_in ss d)
@@ -94,3 +96,25 @@ common_window R s u q c vs vu ls lu common window =
 pub window_of_sketches_lasts : (s u : Sketch) → IsValidSketch s → IsValidSketch u → WindowOfSketchesLasts s u
 window_of_sketches_lasts s u vs vu side q c ls lu common window =
     common_window (λ xs ys. HasNoneOn side xs ys) s u q c vs vu ls lu common window
+
+pub same_kind : (k l : Kind) → (k ≡ l) ⊎ (k ≡ l → ⊥)
+same_kind Days Days = inl refl
+same_kind Moments Moments = inl refl
+same_kind Days Moments = inr (λ e. cc)
+same_kind Moments Days = inr (λ e. cc)
+
+-- an occurrence stands in a sketch or it does not
+pub stands_or_not : (s : Sketch) (k : Kind) (t : ℤ) → StandsIn s k t ⊎ (StandsIn s k t → ⊥)
+stands_or_not s k t =
+    elim (same_kind k s.kind) [
+      | inr differ ↦ inr (λ h. differ h.kind)
+      | inl e ↦ elim (Contains-or_not (times_on s (day_part k t)) (second_part k t)) [
+        | inl there ↦ inl (record { kind = e; second = there })
+        | inr absent ↦ inr (λ h. absent h.second)
+      ]
+    ]
+
+-- days that rise from one on rise from an earlier one on
+pub rising_from : (a b high : ℤ) (xs : List DayShape) → a ≤ℤ b → HasRisingDays b high xs → HasRisingDays a high xs
+rising_from a b high [] l r = tt
+rising_from a b high (x ∷ xs) l r = (omega (arith, ints, l, r.0), r.1, r.2)

@@ -1,5 +1,5 @@
 // A set of occurrences, read day by day.
-ghost use Rattle.std.specs.Prelude.{◌≡◌, ◌<◌, ◌≤◌, ℕ, List, Some, length, pos, neg_ℤ, ◌≤ℤ◌, IfSome, slice_get};
+ghost use Rattle.std.specs.Prelude.{◌≡◌, ◌<◌, ◌≤◌, ℕ, List, [], Some, length, pos, neg_ℤ, ◌≤ℤ◌, IfSome, MatchOption, slice_get};
 ghost use Rattle.rr_model.specs.Bounds.{longest_period};
 ghost use Rattle.rr_model.specs.Sets.Sketch.{IsDaySequence, IsFirstDay, IsNearDay, times_on};
 ghost use Rattle.rr_model.specs.declared.sketch.Sketch.{Sketch};
@@ -77,4 +77,16 @@ pub trait DaySeq {
 
     /// The sketch is valid and lies within the bounds.
     ghost bounded: { (s : Self) → IsDaySequence (sketch s) };
+}
+
+/// The seconds of the time set of a number; none without a number.
+pub fn seconds<S: DaySeq>(seq: &S, number: Option<u32>) -> &[u32]
+    requires { IfSome number (λ n. n < length (S.sets seq.now)) }
+    ensures { MatchOption number (result.now ≡ [])
+        (λ n. slice_get (S.sets seq.now) n ≡ Some result.now) }
+{
+    match number {
+        None => &[],
+        Some(number) => seq.times(number),
+    }
 }

@@ -12,7 +12,7 @@ mod numbered;
 mod same;
 
 pub use counted::{Counted, DaysAfter};
-pub use day_seq::{DaySeq, Stretch};
+pub use day_seq::{DaySeq, Stretch, seconds};
 pub use days::days_between;
 pub use laws::{
     agreement_lasts, agreement_of_lists_lasts, each_has_one_least_sketch, least_period_divides,

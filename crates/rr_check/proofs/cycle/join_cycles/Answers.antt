@@ -1,5 +1,5 @@
 use Rattle.std.proofs.Common.{arith}
-use Rattle.rr_check.proofs.SeriesCycleLemmas.{lcm_above}
+use Rattle.rr_num.proofs.DivisorLemmas.{lcm_above}
 use Rattle.rr_check.proofs.cycle.join_cycles.Goals as goal
 
 pub returns-then-days : goal.returns-then-days

@@ -1,6 +1,6 @@
 use Rattle.std.proofs.Common.{arith}
 use Rattle.std.proofs.lemmas.Int.{ints, clamps}
-use Rattle.rr_decide.proofs.AlikeLemmas.{one_first}
+use Rattle.rr_word.proofs.OneLeastLemmas.{one_first}
 use Rattle.rr_decide.proofs.long.first_of_both.Goals as goal
 
 pub returns-clause-near : goal.returns-clause-near

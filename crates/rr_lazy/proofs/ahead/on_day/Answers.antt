@@ -1,16 +1,8 @@
-use Rattle.std.proofs.Common.{◌≡◌, inl, inr, List, ℕ, ℤ, Option, Some, None, refl, sym, ◌∙◌, to_z-of_z}
+use Rattle.std.proofs.Common.{◌≡◌, inl, inr, List, ℕ, ℤ, Option, Some, None, refl, sym, to_z-of_z}
 use Rattle.rr_lazy.specs.declared.occupied_day.OccupiedDay.{OccupiedDay}
 use Rattle.rr_lazy.specs.Ahead.{GaveDay, IsOfDay, seen}
-use Rattle.rr_lazy.proofs.AheadLemmas.{given_first}
+use Rattle.rr_lazy.proofs.AheadLemmas.{given_first, this_day}
 use Rattle.rr_lazy.proofs.ahead.on_day.Goals as goal
-
-this_day : (ahead result : Option OccupiedDay) (day : ℤ) (found : OccupiedDay) → result ≡ Some found → IsOfDay ahead day result
-    → (ahead ≡ Some found) × (found.day ≡ day)
-this_day ahead result day found e w =
-    elim w [
-      | inl m ↦ (let is : ahead ≡ Some found = sym m.0 ∙ e in (is, m.1 found is))
-      | inr m ↦ absurd (cc)
-    ]
 
 other_day : (sets : List (List ℕ)) (ahead result : Option OccupiedDay) (day : ℤ) → result ≡ None → IsOfDay ahead day result
     → GaveDay (seen sets ahead) day → ⊥

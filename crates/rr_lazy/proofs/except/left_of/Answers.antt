@@ -2,8 +2,8 @@ use Rattle.std.proofs.Common.{rules, ◌≡◌, ◌≢◌, [], sym, ◌∙◌, a
 use Rattle.rr_lazy.specs.Ahead.{IsGivenOn}
 use Rattle.rr_lazy.specs.Except.{up_to_more}
 use Rattle.rr_lazy.specs.Next.{with_set}
-use Rattle.rr_lazy.proofs.AheadLemmas.{given_on}
-use Rattle.rr_lazy.proofs.ExceptLemmas.{all_lacking, given_on_more, left_whole, other_day, out_on_day, this_day}
+use Rattle.rr_lazy.proofs.AheadLemmas.{given_on, this_day}
+use Rattle.rr_lazy.proofs.ExceptLemmas.{all_lacking, given_on_more, left_whole, other_day, out_on_day}
 use Rattle.rr_lazy.proofs.except.left_of.Goals as goal
 
 pub seconds_lacking-requires-clause-a : goal.seconds_lacking-requires-clause-a

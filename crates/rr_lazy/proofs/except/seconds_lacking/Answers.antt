@@ -1,8 +1,8 @@
 use Rattle.std.proofs.Common.{◌≡◌, [], length, get_or, take, sym, ap, subst, ◌∙◌, rules, w64, to_z, of_z, to_z-of_z, FitsSigned, Some}
 use Rattle.std.proofs.lemmas.Option.{get_or_from_slice_get, slice_get_within}
+use Rattle.std.proofs.lemmas.List.{nil_from_length}
 use Rattle.rr_lazy.specs.Except.{IsLacking}
 use Rattle.rr_lazy.specs.Tables.{same_set}
-use Rattle.rr_lazy.proofs.UptoLemmas.{none_of_length}
 use Rattle.rr_lazy.proofs.ExceptLemmas.{lacking_none, lacking_some}
 use Rattle.rr_lazy.proofs.except.seconds_lacking.Goals as goal
 
@@ -29,7 +29,7 @@ returns-then-count-eq0-clause-left c =
     let same = c.as_slice-count.ensures.same ∙ sym (get_or_from_slice_get c.difference.new.self number _ [] c.times.ensures) in
     lacking_none old c.difference.new.self a b (get_or two c.in_ok-of_a.of_a.index []) (get_or two c.in_ok-of_b.of_b.index []) number _ of_a
     (of_b ∙ ap (take b.count) b_kept) c.in_ok-number.ensures.difference (ap length same)
-    (sym same ∙ none_of_length c.as_slice-count.result.now c.if-count-eq0.true)
+    (sym same ∙ nil_from_length c.as_slice-count.result.now c.if-count-eq0.true)
 
 pub returns-clause-left : goal.returns-clause-left
 returns-clause-left c =

@@ -1,12 +1,11 @@
 use Rattle.std.proofs.Common.{rules, ◌≡◌, ◌↔◌, ◌≤◌, ℕ, [], Contains, false, get_or, length, w64, to_z, of_z, to_z-of_z, FitsSigned, refl, sym, ap, subst, ◌∙◌}
 use Rattle.std.proofs.Common.{nat_lt}
 use Rattle.std.proofs.lemmas.Option.{get_or_from_slice_get}
-use Rattle.std.proofs.lemmas.List.{length-take-le}
+use Rattle.std.proofs.lemmas.List.{length-take-le, nil_from_length}
 use Rattle.rr_model.specs.Rising.{Rises}
 use Rattle.rr_model.specs.Sets.Tree.{is_among}
 use Rattle.rr_times.proofs.TakeLemmas.{first_seconds}
 use Rattle.rr_lazy.specs.Next.{with_set}
-use Rattle.rr_lazy.proofs.UptoLemmas.{none_of_length}
 use Rattle.rr_lazy.proofs.StretchLemmas.{placed}
 use Rattle.rr_lazy.proofs.WithoutLemmas.{all_taken}
 use Rattle.rr_lazy.proofs.without.left_of.Goals as goal
@@ -36,7 +35,7 @@ returns-then-count-eq0-clause-left c =
     ↔ (Contains ((with_set c.args.sets.now c.args.found).times) s × (is_among c.args.kind c.args.dates.now c.args.found.day s ≡ false)) =
     rw (to_z-of_z fits, c.in_ok-times.ensures, same) at c.take_out.ensures in
     all_taken ((with_set c.args.sets.now c.args.found).times) c.take_out.new.times (λ s. is_among c.args.kind c.args.dates.now c.args.found.day s) out
-    (sym c.as_slice-count.ensures.same ∙ none_of_length c.as_slice-count.result.now c.if-count-eq0.true)
+    (sym c.as_slice-count.ensures.same ∙ nil_from_length c.as_slice-count.result.now c.if-count-eq0.true)
 
 pub returns-clause-left : goal.returns-clause-left
 returns-clause-left c =

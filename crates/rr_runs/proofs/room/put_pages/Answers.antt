@@ -1,6 +1,7 @@
 use Rattle.std.proofs.Common.{◌≡◌, [], List, ℕ, ◌++◌, length, refl, sym, ap, ◌∙◌, append-nil, length-drop, arith}
+use Rattle.std.proofs.lemmas.List.{nil_from_length}
 use Rattle.rr_runs.specs.Pages.{paged}
-use Rattle.rr_runs.proofs.PagesLemmas.{grown_none, grown_on, none_left, page_goes_on}
+use Rattle.rr_runs.proofs.PagesLemmas.{grown_none, grown_on, page_goes_on}
 use Rattle.rr_runs.proofs.room.put_pages.Goals as goal
 
 pub loop-left-init : goal.loop-left-init
@@ -39,7 +40,7 @@ returns-in_err-put_page-clause-more c =
 pub returns-clause-value : goal.returns-clause-value
 returns-clause-value c =
     let now = paged c.loop-left.pool.items c.loop-left.pages.items in
-    let none : c.loop-left.left.now ≡ [] = none_left c.loop-left.left.now (omega (arith, c.loop-left.invariant.4)) in
+    let none : c.loop-left.left.now ≡ [] = nil_from_length c.loop-left.left.now (omega (arith, c.loop-left.invariant.4)) in
     sym (append-nil now) ∙ ap (λ (l : List ℕ). now ++ l) (sym none) ∙ c.loop-left.invariant.3
 
 pub loop-left-smaller : goal.loop-left-smaller
