@@ -1,6 +1,5 @@
 // The days that a descriptor states, as a sequence.
 ghost use Rattle.std.specs.Prelude.{◌≡◌, ◌↔◌, ◌≤◌, ◌-◌, ◌++◌, ◌+ℤ◌, ◌≤ℤ◌, IfOk, IsTrue, OnOk, length, pos};
-ghost use Rattle.rr_model.specs.Bounds.{first_day_of_all};
 ghost use Rattle.rr_days.specs.Sequence.{sketch};
 ghost use Rattle.rr_algebra.specs.Found.{IsReadDay, run_in};
 ghost use Rattle.rr_algebra.specs.Parts.{ending_in, parts_in};
@@ -9,7 +8,7 @@ ghost use Rattle.rr_algebra.specs.Expanded.{HasSets, IsEndlessExpanded, IsExpand
 use crate::dense::numbers_of;
 use crate::parts::{EndingRead, PartsRead};
 use crate::runs::Run;
-use rr_days::{Folded, sequence_of_numbers};
+use rr_days::{Folded, days_between, sequence_of_numbers};
 use rr_model::{FIRST_DAY, Fault, Kind, MAX_CYCLE_DAYS, NoMemory, Refusal};
 use rr_shapes::Shapes;
 use std::alloc::Global;
@@ -22,16 +21,6 @@ pub fn is_read_day(day: i64) -> bool
     ensures { IsTrue result ↔ IsReadDay day }
 {
     FIRST_DAY <= day && day <= LAST_DAY
-}
-
-// How many days lie from one day to another.
-fn days_between(from: i64, to: i64) -> usize
-    requires from { first_day_of_all ≤ℤ from }
-    requires to { to ≤ℤ pos 40_000_000 }
-    requires order { from ≤ℤ to }
-    ensures { to ≡ from +ℤ pos result }
-{
-    (to - from) as usize
 }
 
 // The day that comes `days` days after another one.

@@ -8,6 +8,7 @@ ghost use Rattle.rr_word.specs.Stretches.{AreFree};
 ghost use Rattle.rr_days.specs.Rows.{AreRising, AreRising-prop, AreWithin, HasEmptyFirst, first_number, sketch_of_runs};
 ghost use Rattle.rr_days.specs.Sketched.{IsFirstFilled, IsWholeFold, sketch_of};
 
+use crate::days::days_between;
 use rr_model::{Kind, NoMemory};
 use rr_runs::{Pages, RunDays};
 use rr_shapes::Shapes;
@@ -278,16 +279,6 @@ fn index_in_cycle(past: usize, period: usize) -> usize
     ensures { result ≡ past % period }
 {
     if past < period { past } else { past % period }
-}
-
-// How many days lie from one day to another.
-fn days_between(from: i64, to: i64) -> usize
-    requires order { from ≤ℤ to }
-    requires low { neg_ℤ (pos 3_000_000_000_000) ≤ℤ from }
-    requires high { to ≤ℤ pos 3_000_000_000_000 }
-    ensures { to ≡ from +ℤ pos result }
-{
-    (to - from) as usize
 }
 
 // The day that lies `days` days after another.

@@ -2,6 +2,8 @@
 //! by day, whether a series was folded, a canonical text read, or two sets combined.
 #![tactic(auto)]
 
+mod days;
 mod folded;
 
+pub use days::days_between;
 pub use folded::{Folded, sequence, sequence_in_parts, sequence_of_numbers};

@@ -1,5 +1,5 @@
 // The days of a series, folded into numbers of time sets.
-ghost use Rattle.std.specs.Prelude.{◌≡◌, ◌+◌, ◌≤◌, IfOk, List, ℕ, length, pos, neg_ℤ, ◌≤ℤ◌, ◌<ℤ◌, ◌+ℤ◌};
+ghost use Rattle.std.specs.Prelude.{◌≡◌, ◌+◌, ◌≤◌, IfOk, List, ℕ, length, pos, ◌≤ℤ◌, ◌<ℤ◌, ◌+ℤ◌};
 ghost use Rattle.rr_model.specs.Bounds.{first_day_of_all};
 ghost use Rattle.rr_model.specs.Series.Tree.{tree_of};
 ghost use Rattle.rr_iter.specs.Counts.{AreCountsOf};
@@ -9,6 +9,7 @@ ghost use Rattle.rr_fold.specs.Folding.{AreDaysOf, HasNoDayBefore, RefusesTooMan
 use crate::rules::{days_by_rules, goes_by_rules};
 use crate::walk::Walk;
 use rr_check::Checked;
+use rr_days::days_between;
 use rr_iter::{Counts, occurrences};
 use rr_lazy::Lazy;
 use rr_model::Fault;
@@ -88,14 +89,4 @@ pub(crate) fn days_of_lazy<L: Lazy + Drop>(
         Ok(()) => Ok(walk.days),
         Err(fault) => Err(fault),
     }
-}
-
-// How many days lie from one day to another.
-pub(crate) fn days_between(first: i64, day: i64) -> usize
-    requires order { first ≤ℤ day }
-    requires first { neg_ℤ (pos 3_000_000_000_000) ≤ℤ first }
-    requires day { day ≤ℤ pos 3_000_000_000_000 }
-    ensures { day ≡ first +ℤ pos result }
-{
-    (day - first) as usize
 }

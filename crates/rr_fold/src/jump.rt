@@ -7,7 +7,8 @@ ghost use Rattle.rr_iter.specs.Ends.{IsSoundRule};
 ghost use Rattle.rr_fold.specs.Jump.{AreWholeCycles, IsJump, IsSpliced};
 ghost use Rattle.rr_fold.specs.Rules.{AreDaysOfRule};
 
-use crate::folded_days::{FoldedDays, days_between, days_of_lazy};
+use crate::folded_days::{FoldedDays, days_of_lazy};
+use rr_days::days_between;
 use rr_iter::{CycleCount, EndedLazy};
 use rr_lazy::FirstN;
 use rr_model::{Fault, Kind, NoMemory, Rule, day_part};

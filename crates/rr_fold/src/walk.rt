@@ -5,8 +5,9 @@ ghost use Rattle.rr_fold.specs.Folding.{IsFilledUp, IsFoldedTo, IsPut, RefusesTo
 ghost use Rattle.rr_fold.specs.Numbering.{IsKnown};
 ghost use Rattle.rr_fold.specs.Walks.{IsNewWalk, IsWalk};
 
-use crate::folded_days::{FoldedDays, days_between};
+use crate::folded_days::FoldedDays;
 use crate::numbering::Numbering;
+use rr_days::days_between;
 use rr_lazy::Lazy;
 use rr_model::{Fault, NoMemory};
 use rr_runs::Pages;

@@ -12,9 +12,10 @@ ghost use Rattle.rr_fold.specs.Rules.{AreDaysChosen};
 ghost use Rattle.rr_fold.specs.Walks.{IsWalk};
 ghost use Rattle.rr_fold.specs.Years.{HasEqualYears, IsFinerThanDays, IsYearUpTo, IsYearWalk, KeepsNoYear, KeepsYears, LeavesNoUnitOut, RepeatsByYears};
 
-use crate::folded_days::{FoldedDays, days_between};
+use crate::folded_days::FoldedDays;
 use crate::walk::Walk;
 use rr_cal::{date_of, days_in_year};
+use rr_days::days_between;
 use rr_expand::{YEAR_KEYS, mask_key, new_year};
 use rr_lazy::Lazy;
 use rr_model::{Fault, Freq, Kind, NoMemory, Rule, day_part};

@@ -20,7 +20,7 @@ ghost use Rattle.rr_skip.specs.Validity.{FitsSkipping, IsSoundSkipping};
 use crate::schedule::Schedule;
 use crate::walk::{Walk, day_at, walk_days};
 use crate::{SkipRule, SkipSeries};
-use rr_days::{Folded, sequence_of_numbers};
+use rr_days::{Folded, days_between, sequence_of_numbers};
 use rr_model::{End, Fault, Kind, MAX_SPAN_DAYS, NoMemory, Refusal, day_part, second_part};
 use rr_num::day_cycle;
 use rr_shapes::Shapes;
@@ -45,16 +45,6 @@ pub(crate) fn day_in_years(kind: Kind, at: i64) -> i64
     ensures high { result ≤ℤ pos 2_932_896 }
 {
     day_part(kind, at)
-}
-
-// How many days lie from one day to another.
-fn days_between(first: i64, day: i64) -> usize
-    requires order { first ≤ℤ day }
-    requires low { first_day_of_all ≤ℤ first }
-    requires high { day ≤ℤ pos 2_932_896 }
-    ensures { day ≡ first +ℤ pos result }
-{
-    (day - first) as usize
 }
 
 // Walks `end` days of a rule from its start's on; where the chosen day of number `most`, counted from 1, comes before, up to that one only.

@@ -14,8 +14,8 @@ use Rattle.rr_algebra.proofs.ExpandedLemmas.{endless_sketch, endless_whole}
 use Rattle.rr_algebra.proofs.expansion.endless_sequence.Goals.{In-Ok}
 use Rattle.rr_algebra.proofs.expansion.endless_sequence.Goals as goal
 
-pub days_between-days-requires-clause-from : goal.days_between-days-requires-clause-from
-days_between-days-requires-clause-from c =
+pub days_between-days-requires-clause-low : goal.days_between-days-requires-clause-low
+days_between-days-requires-clause-low c =
     let d = to_z-of_z c.ranges.first in let low = (from_year_one c.args.first).0 c.requires.first.from in rw d (omega (arith, ints, low))
 
 pub endless_numbers-requires-clause-days : goal.endless_numbers-requires-clause-days

@@ -11,8 +11,8 @@ use Rattle.rr_algebra.proofs.ExpandedLemmas.{dense_short, finite_sketch, finite_
 use Rattle.rr_algebra.proofs.expansion.finite_sequence.Goals.{After-day_after}
 use Rattle.rr_algebra.proofs.expansion.finite_sequence.Goals as goal
 
-pub days_between-end-requires-clause-from : goal.days_between-end-requires-clause-from
-days_between-end-requires-clause-from c =
+pub days_between-end-requires-clause-low : goal.days_between-end-requires-clause-low
+days_between-end-requires-clause-low c =
     let d = to_z-of_z c.ranges.first in let low = (from_year_one c.args.first).0 c.requires.first.from in rw d (omega (arith, ints, low))
 
 pub days_between-end-requires-clause-order : goal.days_between-end-requires-clause-order

@@ -8,8 +8,8 @@ use Rattle.rr_fold.proofs.CountedJumpLemmas.{counted_is, fewer, some_days}
 use Rattle.rr_fold.proofs.jump.jump_of.Goals.{Else-cycle-days}
 use Rattle.rr_fold.proofs.jump.jump_of.Goals as goal
 
-pub days_between-days-requires-clause-first : goal.days_between-days-requires-clause-first
-days_between-days-requires-clause-first c =
+pub days_between-days-requires-clause-low : goal.days_between-days-requires-clause-low
+days_between-days-requires-clause-low c =
     let years = c.requires.sound.in_years in
     let day = day_back c.args.kind c.args.start c.day_part.result years c.day_part.ensures in
     omega (arith, ints, day, (four_digit_bounds (day_part c.args.kind c.args.start) years).0)

@@ -17,8 +17,8 @@ days_between-requires-clause-order c =
     let day = day_back c.args.kind c.args.start c.day_part-first.result c.requires.in_years c.day_part-first.ensures in
     omega (arith, ints, day, c.requires.order)
 
-pub days_between-requires-clause-first : goal.days_between-requires-clause-first
-days_between-requires-clause-first c =
+pub days_between-requires-clause-low : goal.days_between-requires-clause-low
+days_between-requires-clause-low c =
     let day = day_back c.args.kind c.args.start c.day_part-first.result c.requires.in_years c.day_part-first.ensures in
     let bounds = four_digit_bounds (day_part c.args.kind c.args.start) c.requires.in_years in
     omega (arith, ints, day, bounds.0)
