@@ -55,7 +55,7 @@ impl LineList {
         self.items.as_slice()
     }
 
-    /// The values in order, for one who takes them.
+    /// The lines in order, moved out of the list.
     pub fn into_items(self) -> Vec<Line>
         ensures { result.items ≡ self }
     {
