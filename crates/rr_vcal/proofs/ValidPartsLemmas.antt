@@ -15,7 +15,7 @@ use Rattle.rr_model.specs.Text.Moments.{basic}
 use Rattle.rr_model.specs.Text.Rules.{text_after}
 use Rattle.rr_model.specs.Text.RuleValues.{is_number, number_up_to, weekday_named}
 use Rattle.rr_model.specs.Vcal.Items.{item_lt}
-use Rattle.rr_model.specs.Vcal.Rule.{head_of, first_items, parts_of_head, is_short_number, place_of, number_of, front, ends_with, marked_place}
+use Rattle.rr_model.specs.Vcal.Rule.{head_of, first_items, parts_of_head, is_short_number, place_of, short_number_up_to, front, ends_with, marked_place}
 use Rattle.rr_model.specs.Vcal.Rule.{month_day_of, put_item, put_places, with_group_weekday, with_group_place, with_group_word, with_list_word}
 use Rattle.rr_model.specs.Vcal.Rule.{is_list_whole, is_moment_word, with_end_moment, with_count, with_marked_word, with_word, with_piece, finished}
 use Rattle.rr_model.specs.Vcal.Validity.{IsItemOf}
@@ -73,8 +73,8 @@ parts_of_head-valid line text parts h =
 
 -- ---- numbers
 
-number_of-lies : (line most : ℕ) (text : List ℕ) (n : ℕ) → number_of line most text ≡ Ok n → (1 ≤ n) × (n ≤ most)
-number_of-lies line most text n h =
+short_number_up_to-lies : (line most : ℕ) (text : List ℕ) (n : ℕ) → short_number_up_to line most text ≡ Ok n → (1 ≤ n) × (n ≤ most)
+short_number_up_to-lies line most text n h =
     let form = passed (is_short_number text) _ (BadRule line) n h in
     let range = passed (nat_le 1 (digits_value text) && nat_le (digits_value text) most) (Ok (digits_value text)) (NumberRange line) n form.1 in
     let same : digits_value text ≡ n = cc in
@@ -207,11 +207,11 @@ list_word-valid line parts family.MD text more f v h =
     (λ n e. put_item-valid parts (MonthDay n) v (subst (λ (g : FamilyKind). IsItemOf g (MonthDay n)) (sym f) (month_day_of-counts line text n e))) h
 list_word-valid line parts family.MP text more f v h = group_word-valid line parts (weekday_named text) text more f (λ d e. weekday_named-below text d e) v h
 list_word-valid line parts family.YM text more f v h =
-    step_keeps IsValidParts (number_of line 12 text) (λ m. put_item parts (Month m)) more
-    (λ m e. put_item-valid parts (Month m) v (subst (λ (g : FamilyKind). IsItemOf g (Month m)) (sym f) (number_of-lies line 12 text m e))) h
+    step_keeps IsValidParts (short_number_up_to line 12 text) (λ m. put_item parts (Month m)) more
+    (λ m e. put_item-valid parts (Month m) v (subst (λ (g : FamilyKind). IsItemOf g (Month m)) (sym f) (short_number_up_to-lies line 12 text m e))) h
 list_word-valid line parts family.YD text more f v h =
-    step_keeps IsValidParts (number_of line 366 text) (λ k. put_item parts (YearDay k)) more
-    (λ k e. put_item-valid parts (YearDay k) v (subst (λ (g : FamilyKind). IsItemOf g (YearDay k)) (sym f) (number_of-lies line 366 text k e))) h
+    step_keeps IsValidParts (short_number_up_to line 366 text) (λ k. put_item parts (YearDay k)) more
+    (λ k e. put_item-valid parts (YearDay k) v (subst (λ (g : FamilyKind). IsItemOf g (YearDay k)) (sym f) (short_number_up_to-lies line 366 text k e))) h
 
 -- ---- ends
 

@@ -16,7 +16,7 @@ use Rattle.rr_model.specs.Text.Moments.{is_letter_t}
 use Rattle.rr_model.specs.Text.Rules.{text_after}
 use Rattle.rr_model.specs.Text.RuleValues.{weekday_named}
 use Rattle.rr_model.specs.Text.Written.{weekday_text, basic_date_text, basic_time_text, basic_text}
-use Rattle.rr_model.specs.Vcal.Rule.{is_short_number, place_of, number_of, front, ends_with, marked_place, month_day_of, is_moment_word}
+use Rattle.rr_model.specs.Vcal.Rule.{is_short_number, place_of, short_number_up_to, front, ends_with, marked_place, month_day_of, is_moment_word}
 use Rattle.rr_model.specs.Vcal.Written.{marked_text, month_day_text}
 use Rattle.rr_model.specs.declared.kind.Kind.{Kind}
 use Rattle.rr_model.specs.declared.kind.Kind.TheVariants.{Days, Moments}
@@ -155,7 +155,7 @@ ends-no_plus : (ds : List ℕ) → ends_with 43 (ds ++ 45 ∷ []) ≡ false
 ends-no_plus ds = rw (last_of ds 45) refl
 
 module _ (line : ℕ) where
-  pub number-read : (most n : ℕ) → 1 ≤ n → n ≤ most → most < 1_000 → number_of line most (decimal n) ≡ Ok n
+  pub number-read : (most n : ℕ) → 1 ≤ n → n ≤ most → most < 1_000 → short_number_up_to line most (decimal n) ≡ Ok n
   number-read most n low high few =
       let small : n < 1_000 = omega arith in
       rw (short_number n small, digits_value-decimal n (omega arith), in_range n most low high) refl

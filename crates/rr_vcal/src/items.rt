@@ -2,11 +2,11 @@
 ghost use Rattle.std.specs.Prelude.{◌≡◌, All, IfOk};
 ghost use Rattle.rr_model.specs.Answers.{Answers};
 ghost use Rattle.rr_model.specs.Text.RuleValues.{weekday_named};
-ghost use Rattle.rr_model.specs.Vcal.Rule.{number_of, put_item, put_places, with_group_weekday, with_group_place, with_group_word, with_list_word};
+ghost use Rattle.rr_model.specs.Vcal.Rule.{put_item, put_places, short_number_up_to, with_group_weekday, with_group_place, with_group_word, with_list_word};
 ghost use Rattle.rr_model.specs.declared.item.Item.TheVariants.{Place};
 ghost use Rattle.rr_vcal.specs.Parts.{IsPlace, IsValidParts};
 
-use crate::numbers::{marked_place, month_day_of, number_of};
+use crate::numbers::{marked_place, month_day_of, short_number_up_to};
 use rr_model::{FamilyKind, Fault, Item, Items, NoMemory, Numbers, Refusal, VRuleParts};
 use rr_text::{weekday_named, weekday_of};
 use std::alloc::Global;
@@ -91,9 +91,9 @@ fn put_item(parts: VRuleParts, item: Item) -> Result<VRuleParts, NoMemory>
 
 // The month of a word.
 fn month_of(line: u64, text: &[u8]) -> Result<u8, Refusal>
-    ensures { result ≡ number_of line 12 text.now }
+    ensures { result ≡ short_number_up_to line 12 text.now }
 {
-    let month = number_of(line, 12, text)?;
+    let month = short_number_up_to(line, 12, text)?;
     Ok(month as u8)
 }
 
@@ -123,7 +123,7 @@ pub(crate) fn with_list_word(
             Ok(put_item(parts, Item::Month(month))?)
         }
         FamilyKind::YD => {
-            let day = number_of(line, 366, text)?;
+            let day = short_number_up_to(line, 366, text)?;
             Ok(put_item(parts, Item::YearDay(day))?)
         }
     }

@@ -2,7 +2,7 @@
 ghost use Rattle.std.specs.Prelude.{◌≡◌, ◌≤◌, IfOk, IfSome, if◌then◌else◌, pos, neg_ℤ};
 ghost use Rattle.std.specs.Option.{is_some};
 ghost use Rattle.rr_model.specs.Text.Digits.{digits_value};
-ghost use Rattle.rr_model.specs.Vcal.Rule.{is_short_number, place_of, number_of, marked_place, month_day_of};
+ghost use Rattle.rr_model.specs.Vcal.Rule.{is_short_number, place_of, short_number_up_to, marked_place, month_day_of};
 ghost use Rattle.rr_text.specs.Numbers.{saturated_u64};
 
 use rr_model::Refusal;
@@ -20,8 +20,8 @@ fn short_number(text: &[u8]) -> Option<u64>
 }
 
 /// A short number from 1 up to `most`.
-pub(crate) fn number_of(line: u64, most: u16, text: &[u8]) -> Result<u16, Refusal>
-    ensures value { result ≡ number_of line most text.now }
+pub(crate) fn short_number_up_to(line: u64, most: u16, text: &[u8]) -> Result<u16, Refusal>
+    ensures value { result ≡ short_number_up_to line most text.now }
     ensures bound { IfOk result (λ n. n ≤ most) }
 {
     let Some(n) = short_number(text) else {
@@ -46,7 +46,7 @@ fn place_of(line: u64, most: u16, from_back: bool, text: &[u8]) -> Result<i8, Re
     requires { most ≤ 31 }
     ensures { result ≡ place_of line most from_back text.now }
 {
-    let n = number_of(line, most, text)?;
+    let n = short_number_up_to(line, most, text)?;
     Ok(signed_place(from_back, n))
 }
 

@@ -69,8 +69,8 @@ place_of line most from_back text =
     else Err (BadRule line)
 
 -- a short number from 1 up to the most
-abbrev pub number_of : ℕ → ℕ → List ℕ → Result ℕ Refusal
-number_of line most text =
+abbrev pub short_number_up_to : ℕ → ℕ → List ℕ → Result ℕ Refusal
+short_number_up_to line most text =
     if is_short_number text then (if nat_le 1 (digits_value text)
     && nat_le (digits_value text) most then Ok (digits_value text) else Err (NumberRange line)) else Err (BadRule line)
 
@@ -124,8 +124,8 @@ with_list_word line parts family.D text = Err (BadRule line)
 with_list_word line parts family.W text = ok_or (weekday_named text) (BadRule line) >>= λ d. Ok (put_item parts (Weekday d))
 with_list_word line parts family.MD text = month_day_of line text >>= λ n. Ok (put_item parts (MonthDay n))
 with_list_word line parts family.MP text = with_group_word line parts (weekday_named text) text
-with_list_word line parts family.YM text = number_of line 12 text >>= λ m. Ok (put_item parts (Month m))
-with_list_word line parts family.YD text = number_of line 366 text >>= λ k. Ok (put_item parts (YearDay k))
+with_list_word line parts family.YM text = short_number_up_to line 12 text >>= λ m. Ok (put_item parts (Month m))
+with_list_word line parts family.YD text = short_number_up_to line 366 text >>= λ k. Ok (put_item parts (YearDay k))
 
 -- ---- the words after the head
 
