@@ -1,7 +1,8 @@
 -- What the iterator over a series without the members of its excluded rules knows of a table of sets.
 use Rattle.std.specs.Prelude.{ℕ, List}
 use Rattle.rr_shapes.specs.Tables.{Extends}
-use Rattle.rr_lazy.specs.Except.{KnowsBoth, Part, knows_both_more, part_of}
+use Rattle.rr_lazy.specs.Except.{KnowsBoth, knows_both_more}
+use Rattle.rr_lazy.specs.Parts.{Part, part_of}
 use Rattle.rr_model.specs.Sets.Tree.{Tree, except}
 use Rattle.rr_iter.specs.KnowsAll.{knows_all, knows_all_more, tree_of_all}
 use Rattle.rr_iter.specs.KnowsRules.{knows_rules, knows_rules_more, tree_of_rules}
