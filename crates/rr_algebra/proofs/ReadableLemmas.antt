@@ -29,9 +29,9 @@ use Rattle.rr_canon.specs.Versions.{set_line_of, text_in}
 use Rattle.rr_canon.specs.declared.version.Version.{Version}
 use Rattle.rr_canon.specs.declared.version.Version.TheVariants.{First, Second}
 use Rattle.rr_canon.proofs.SecondsStretchLemmas.{stretches_given}
-use Rattle.rr_canon.proofs.StretchTextLemmas.{IsItem, items_of_set}
+use Rattle.rr_canon.proofs.StretchTextLemmas.{items_of_set}
 use Rattle.rr_algebra.specs.Dense.{AreSteps}
-use Rattle.rr_algebra.specs.Items.{IsFaultWhereNot, IsPrintedItem}
+use Rattle.rr_algebra.specs.Items.{IsFaultWhereNot}
 use Rattle.rr_model.specs.Answers.{RefusedExactlyWhere}
 use Rattle.rr_model.specs.declared.refusal.Fault.{Fault}
 use Rattle.rr_model.specs.declared.refusal.Fault.TheVariants.{Refused, NoMemory}
@@ -48,6 +48,7 @@ use Rattle.rr_canon.proofs.PrintableLemmas.{IsPrinted-descriptor}
 use Rattle.rr_canon.proofs.ReadingLemmas.{before_back, cycle_back, descriptor_reads_back}
 use Rattle.rr_model.proofs.YearLemmas.{from_year_one}
 use Rattle.rr_canon.proofs.SplittingLemmas.{first_same}
+use Rattle.rr_canon.specs.Items.{IsPrintedItem}
 use Rattle.rr_word.proofs.OneLeastLemmas.{before_part, first_period, one_least}
 use Rattle.rr_word.proofs.ShapeLemmas.{some_set, times_in-early}
 
@@ -88,12 +89,6 @@ singles_printed (x ∷ xs) h =
     (record { start = omega (arith, low); step = omega arith; count = omega arith; form = inl (refl, refl) })
     (singles_printed xs (All-tail (λ s. s < 86_400) x xs h))
 
-printed_items : (xs : List Stretch) → All IsItem xs → All IsPrintedItem xs
-printed_items [] h = All-nil IsPrintedItem
-printed_items (x ∷ xs) h =
-    let i = All-head IsItem x xs h in
-    All-cons IsPrintedItem x xs (record { start = i.start; step = i.step; count = i.count; form = i.form }) (printed_items xs (All-tail IsItem x xs h))
-
 pub writes_items : (v : Version) → WritesItems (set_line_of v)
 writes_items First times h = record {
   items = singles times;
@@ -103,7 +98,7 @@ writes_items First times h = record {
 }
 writes_items Second times h = record {
   items = stretches times;
-  printed = printed_items (stretches times) (items_of_set times h);
+  printed = items_of_set times h;
   line_is = refl;
   seconds_are = stretches_given (length times) times (omega arith);
 }

@@ -13,7 +13,7 @@ use Rattle.std.proofs.Math.Nat.{dvd_refl, dvd-mul_left, dvd-mul_right, mul-pos, 
 use Rattle.rr_model.proofs.WholeLemmas.{floor_mod_below}
 use Rattle.rr_model.specs.Moment.{day_part, second_part}
 use Rattle.rr_model.specs.Whole.Divisors.{IsLcm, lcm}
-use Rattle.rr_num.proofs.DivisorLemmas.{lcm_is, lcm_some}
+use Rattle.rr_num.proofs.DivisorLemmas.{lcm_is}
 use Rattle.std.proofs.lemmas.Nat.Gcd.{le_of_dvd}
 use Rattle.rr_model.specs.Bounds.{earliest_near, latest_near, longest_period}
 use Rattle.rr_model.specs.Sets.Sizes.{total_size}
@@ -184,9 +184,6 @@ module _ (op : Op) (s u c : Sketch) (days : HasDaysOf op s u c) where
 
 pub lcm_itself : (p : ℕ) → 1 ≤ p → lcm p p ≤ p
 lcm_itself p h = le_of_dvd h ((lcm_is p p h h).2 p (dvd_refl p) (dvd_refl p))
-
-pub lcm_above : (p r : ℕ) → 1 ≤ p → 1 ≤ r → (p ≤ lcm p r) × (r ≤ lcm p r)
-lcm_above p r h k = (le_of_dvd (lcm_some p r h k) (lcm_is p r h k).0, le_of_dvd (lcm_some p r h k) (lcm_is p r h k).1)
 
 -- ---- sets of different kinds
 

@@ -1,19 +1,13 @@
 -- What is found where a text begins with the items of a time set. Nothing is said of other texts.
-use Rattle.std.specs.Prelude.{◌≡◌, ◌⊎◌, ℕ, ◌<◌, ◌≤◌, ◌^◌, false, List, [], ◌∷◌, ◌++◌, ⊤, Result, Ok, Err}
+use Rattle.std.specs.Prelude.{◌≡◌, ℕ, ◌≤◌, false, List, [], ◌∷◌, ◌++◌, ⊤, Result, Ok, Err}
 use Rattle.std.specs.List.{All}
 use Rattle.rr_model.specs.Rising.Sets.{IsSecondsOfDay}
 use Rattle.rr_model.specs.Sets.Stretches.{Stretch, item_text, items_text, seconds_from, seconds_of}
 use Rattle.rr_model.specs.declared.refusal.Fault.{Fault}
 use Rattle.rr_model.specs.declared.refusal.Fault.TheVariants.{Refused, NoMemory}
 use Rattle.rr_model.specs.declared.refusal.Refusal.TheVariants.{NotCanonical}
+use Rattle.rr_canon.specs.Items.{IsPrintedItem}
 use Rattle.rr_algebra.specs.Found.{EndsDigits, begins_with}
-
--- an item as it is printed: a single second, or a row of three at least; all its numbers are small
-pub record IsPrintedItem (x : Stretch) : Type 0 where
-  pub start : x.start < 2 ^ 64
-  pub step : x.step < 2 ^ 64
-  pub count : x.count < 2 ^ 64
-  pub form : ((x.count ≡ 1) × (x.step ≡ 0)) ⊎ (3 ≤ x.count)
 
 -- neither a digit nor a slash comes next
 pub record EndsItem (rest : List ℕ) : Type 0 where

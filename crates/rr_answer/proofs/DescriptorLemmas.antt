@@ -1,5 +1,5 @@
 -- The bytes of a canonical text are that of one sketch, whichever version they are in.
-use Rattle.std.proofs.Common.{◌≡◌, ℕ, List, [], sym, ap, subst, ◌∙◌, arith}
+use Rattle.std.proofs.Common.{◌≡◌, ℕ, List, sym, ap, subst, ◌∙◌}
 use Rattle.std.specs.List.{Contains}
 use Rattle.rr_algebra.proofs.ReadableLemmas.{version_is, version_of_text}
 use Rattle.rr_algebra.specs.Stated.{IsDescriptor, version_read}
@@ -14,6 +14,7 @@ use Rattle.rr_model.specs.Sets.Sketch.{StandsIn}
 use Rattle.rr_model.specs.declared.sketch.Sketch.{Sketch}
 use Rattle.rr_word.proofs.OneLeastLemmas.{one_least}
 use Rattle.rr_model.specs.Moment.Years.{OccurFromYearOne}
+use Rattle.rr_model.proofs.RisingSetLemmas.{Contains-none}
 
 -- texts of each version tell sets apart
 pub version_tells : (version : Version) → TellsSetsApart (text_in version)
@@ -33,11 +34,8 @@ descriptor_is_one text s u p q =
     let same : x ≡ v = sym (version_is x u) ∙ ap version_read (sym f ∙ e) ∙ version_is v s in
     one_sketch v s u text p q (sym e ∙ f ∙ ap (λ z. text_in z u) same)
 
-none_contained : (x : ℕ) → Contains [] x → ⊥
-none_contained x (k, l, e) = omega (arith, l)
-
 -- nothing of it lies before the year 1
 pub from_year_one : (text : List ℕ) (s : Sketch) → IsDescriptor text s → OccurFromYearOne (StandsIn s)
 from_year_one text s p k t h =
     p.readable.within.describable.from_year_one (day_part k t)
-    (λ e. none_contained (second_part k t) (subst (λ l. Contains l (second_part k t)) e h.second))
+    (λ e. Contains-none (second_part k t) (subst (λ l. Contains l (second_part k t)) e h.second))

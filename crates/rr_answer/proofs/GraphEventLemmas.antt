@@ -1,14 +1,11 @@
 -- What is read of a Graph text is a valid event.
-use Rattle.std.proofs.Common.{◌≡◌, ℕ, ◌+◌, ◌*◌, ◌<◌, ◌≤◌, ◌==◌, ◌&&◌, nat_le, Bool, true, false, if◌then◌else◌, Option, None, Some, List, length}
-use Rattle.std.proofs.Common.{take, drop, slice_index, option_map, option_and_then, ℤ, pos, ◌+ℤ◌, codes, refl, sym, ap, subst, ◌∙◌, arith}
-use Rattle.std.specs.Prelude.{Result, Ok, ok_or}
+use Rattle.std.proofs.Common.{◌≡◌, ℕ, ◌+◌, ◌<◌, ◌==◌, Bool, true, false, if◌then◌else◌, Option, None, Some, List, length}
+use Rattle.std.proofs.Common.{take, drop, slice_index, option_map, option_and_then, ℤ, ◌+ℤ◌, codes, refl, sym, ap, subst, ◌∙◌}
+use Rattle.std.specs.Prelude.{Ok, ok_or}
 use Rattle.std.specs.Ordering.{int_eq}
 use Rattle.std.specs.Str.{is_utf8}
-use Rattle.std.proofs.lemmas.Bool.{and_parts}
-use Rattle.std.proofs.lemmas.Bool.Decides.{nat_tests, Decides-int_eq}
-use Rattle.std.proofs.lemmas.Int.{ints}
+use Rattle.std.proofs.lemmas.Bool.Decides.{Decides-int_eq}
 use Rattle.serde_json.specs.Data.{Data}
-use Rattle.rr_model.specs.Calendar.{day_number, is_date}
 use Rattle.rr_model.specs.Graph.Members.{json_object, member_of, number_in, object_in, object_or, text_in, within}
 use Rattle.rr_model.specs.Graph.Occurrences.{first_repeat_day}
 use Rattle.rr_model.specs.Graph.Reading.{EndType, Recurrence, bare_of, by_pattern, date_in, end_date, end_in, end_type_named, event_of, event_start}
@@ -20,8 +17,7 @@ use Rattle.rr_model.specs.Moment.{day_part, moment_at}
 use Rattle.rr_model.specs.Moment.Years.{HasFourDigitYear, IsInYears, is_in_years}
 use Rattle.rr_model.specs.Text.ExtendedMoments.{date_digits, extended, extended_date_of, extended_moment_of, extended_time_of, time_digits}
 use Rattle.rr_model.specs.Text.Lines.{without_mark}
-use Rattle.rr_model.specs.Text.Moments.{basic_date, basic_time, date_stamp, is_basic_date, is_basic_time, is_digits, is_letter_t, moment_of, moment_stamp}
-use Rattle.rr_model.specs.Text.Moments.{written_day, written_hour, written_minute, written_month, written_second, written_year}
+use Rattle.rr_model.specs.Text.Moments.{basic_date, basic_time, date_stamp, is_letter_t, moment_of, moment_stamp}
 use Rattle.rr_model.specs.Text.Rules.{has_time}
 use Rattle.rr_model.specs.declared.graph.GraphEvent.{GraphEvent}
 use Rattle.rr_model.specs.declared.graph.Range.{Range}
@@ -32,61 +28,23 @@ use Rattle.rr_model.specs.declared.graph.Repeat.TheVariants as repeat
 use Rattle.rr_model.specs.declared.kind.Kind.TheVariants.{Days, Moments}
 use Rattle.rr_model.specs.declared.refusal.Member.{Member}
 use Rattle.rr_model.specs.declared.refusal.Member.TheVariants as of
-use Rattle.rr_model.specs.declared.refusal.Refusal.{Refusal}
 use Rattle.rr_model.specs.declared.refusal.Refusal.TheVariants.{BadMember, NoStart, NotText, StartDiffers}
 use Rattle.rr_model.specs.declared.stamp.Stamp.{Stamp}
-use Rattle.rr_model.proofs.CalendarLemmas.{is_date_is}
 use Rattle.rr_model.proofs.MomentLemmas.{day_part-moment_at}
 use Rattle.rr_model.proofs.YearLemmas.{years_are_tested}
-use Rattle.rr_text.proofs.MomentTextLemmas.{day_number_bounds, is_digits_means, number_at_below}
-use Rattle.rr_text.proofs.StepLemmas.{and_then_ok, ok_or_ok, passed, stated}
-use Rattle.rr_graph.proofs.ReadPatternLemmas.{pattern_of-valid}
-
--- ---- steps
-
-and_then_some : {A B : Type 0} (o : Option A) (f : A → Option B) (y : B) → option_and_then f o ≡ Some y → (x : A) × (o ≡ Some x) × (f x ≡ Some y)
-and_then_some None f y h = absurd (cc)
-and_then_some (Some x) f y h = (x, refl, h)
-
-where_some : {A : Type 0} (b : Bool) (m : Option A) (y : A) → (if b then m else None) ≡ Some y → m ≡ Some y
-where_some true m y h = h
-where_some false m y h = absurd (cc)
-
-abbrev result_ok : {A : Type 0} → A → Result A Refusal
-result_ok x = Ok x
-
-ok_same : {A : Type 0} (x y : A) → result_ok x ≡ result_ok y → x ≡ y
-ok_same x y h = cc
+use Rattle.rr_text.proofs.StepLemmas.{and_then_ok, ok_or_ok, passed, stated, and_then_some, ok_same, where_some}
+use Rattle.rr_text.proofs.InYearsLemmas.{basic_time-below, basic_date-in_years}
+use Rattle.rr_graph.proofs.ReadPatternLemmas.{pattern_of-valid, within-lies}
 
 -- ---- dates and moments
 
-date-in_years : (text : List ℕ) (day : ℤ) → basic_date text ≡ Some day → HasFourDigitYear day
-unfolding basic_date
-date-in_years text day h =
-    let y = written_year text in
-    let m = written_month text in
-    let k = written_day text in
-    let means = stated (is_basic_date text) (day_number (pos y) m k) day h in
-    let date = and_parts (is_digits 8 text && nat_le 1 y) (is_date (pos y) m k) means.0 in
-    let digits = and_parts (is_digits 8 text) (nat_le 1 y) date.0 in
-    let text_is = is_digits_means 8 text digits.0 in
-    let low : 1 ≤ y = grind (arith, nat_tests, digits.1) in
-    let high : y < 10_000 = number_at_below 0 4 text (omega (arith, text_is.0)) text_is.1 in
-    subst HasFourDigitYear means.1 (day_number_bounds (pos y) m k (omega (arith, ints)) (omega (arith, ints)) ((is_date_is (pos y) m k).0 date.1))
-
-time-below : (text : List ℕ) (second : ℕ) → basic_time text ≡ Some second → second < 86_400
-unfolding basic_time
-time-below text second h =
-    let means = stated (is_basic_time text) (written_hour text * 3_600 + written_minute text * 60 + written_second text) second h in
-    grind (arith, nat_tests, means.0, means.1)
-
 extended_date-in_years : (text : List ℕ) (day : ℤ) → extended_date_of text ≡ Some day → HasFourDigitYear day
 unfolding extended_date_of
-extended_date-in_years text day h = date-in_years (date_digits text) day (where_some _ (basic_date (date_digits text)) day h)
+extended_date-in_years text day h = basic_date-in_years (date_digits text) day (where_some _ (basic_date (date_digits text)) day h)
 
 extended_time-below : (text : List ℕ) (second : ℕ) → extended_time_of text ≡ Some second → second < 86_400
 unfolding extended_time_of
-extended_time-below text second h = time-below (time_digits text) second (where_some _ (basic_time (time_digits text)) second h)
+extended_time-below text second h = basic_time-below (time_digits text) second (where_some _ (basic_time (time_digits text)) second h)
 
 moment_of-in_years :
     (date : Option ℤ) (time : Option ℕ) (mark : Option Bool) (stamp : Stamp) → ((day : ℤ) → date ≡ Some day → HasFourDigitYear day)
@@ -153,15 +111,6 @@ date_in-years : (member : Member) (name : List ℕ) (range : Data) (day : ℤ) �
 date_in-years member name range day h =
     let text = and_then_some (text_in name range) extended_date_of day (ok_or_ok _ (BadMember member) day h) in
     extended_date-in_years text.0 day text.2
-
-within-lies : (member : Member) (least most : ℕ) (read : Option ℕ) (n : ℕ) → within member least most read ≡ Ok n → (least ≤ n) × (n ≤ most)
-within-lies member least most None n h = absurd (cc)
-within-lies member least most (Some m) n h =
-    let is = passed (nat_le least m && nat_le m most) (Ok m) (BadMember member) n h in
-    let same : m ≡ n = ok_same m n is.1 in
-    let low : least ≤ m = grind (arith, nat_tests, is.0) in
-    let high : m ≤ most = grind (arith, nat_tests, is.0) in
-    (omega (arith, low, same), omega (arith, high, same))
 
 end-is : (type : EndType) (range : Data) (end : RangeEnd) → end_in type range ≡ Ok end → IsRangeEnd end
 end-is no_end range end h = let e : NoEnd ≡ end = ok_same NoEnd end h in subst IsRangeEnd e tt

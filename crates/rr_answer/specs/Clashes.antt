@@ -6,7 +6,7 @@ use Rattle.rr_model.specs.declared.kind.Kind.TheVariants.{Moments}
 use Rattle.rr_overlap.specs.Running.{IsClashVerdict}
 use Rattle.rr_overlap.specs.declared.clash.Clash.{Clash}
 use Rattle.rr_overlap.specs.declared.clash.Clash.TheVariants.{Yes, No}
-use Rattle.rr_answer.specs.Printable.{IsPrintableAt}
+use Rattle.rr_text.specs.Printed.{IsPrintableAt}
 use Rattle.rr_answer.specs.Said.{Answer, line}
 use Rattle.rr_answer.specs.Subjects.{OccursIn, Subject, kind_of}
 use Rattle.rr_answer.specs.declared.status.Status.TheVariants as status

@@ -8,7 +8,7 @@ use Rattle.rr_model.specs.declared.verdict.Side.TheVariants.{A}
 use Rattle.rr_rank.specs.Rank.{IsNthOf, IsRank}
 use Rattle.rr_rank.specs.declared.nth.Nth.{Nth}
 use Rattle.rr_rank.specs.declared.nth.Nth.TheVariants.{At, Fewer, Past}
-use Rattle.rr_answer.specs.Printable.{IsPrintableAt}
+use Rattle.rr_text.specs.Printed.{IsPrintableAt}
 use Rattle.rr_answer.specs.Said.{Answer, line, refused}
 use Rattle.rr_answer.specs.Subjects.{OccursIn, Subject}
 use Rattle.rr_answer.specs.declared.status.Status.TheVariants as status

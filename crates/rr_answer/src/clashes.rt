@@ -6,7 +6,7 @@ ghost use Rattle.rr_days.specs.Sequence.{sketch};
 ghost use Rattle.rr_answer.specs.Clashes.{IsPrintableClash, clash_said, clash_text};
 ghost use Rattle.rr_answer.specs.Folding.{IsFromYearOneOn};
 ghost use Rattle.rr_answer.specs.Outcome.{answer_of};
-ghost use Rattle.rr_answer.specs.Printable.{IsPrintableAt};
+ghost use Rattle.rr_text.specs.Printed.{IsPrintableAt};
 ghost use Rattle.rr_answer.specs.Verdicts.{IsSaidOfFolds};
 ghost use Rattle.rr_answer.specs.declared.command.Inquiry.TheVariants.{Clash as AskClash};
 

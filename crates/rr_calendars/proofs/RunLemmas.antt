@@ -1,6 +1,7 @@
 -- What a run leaves, by what was worked out and what the put answers.
 use Rattle.std.proofs.Common.{◌≡◌, ◌⊎◌, inl, inr, ℕ, List, Option, Some, None, IfSome, IsNone, refl, subst}
 use Rattle.std.specs.Prelude.{IfOk, Result}
+use Rattle.std.proofs.lemmas.Option.{IfSome_then}
 use Rattle.rr_io.specs.declared.source.FetchError.{FetchError}
 use Rattle.rr_io.specs.Outside.{Appended, AppendedPart}
 use Rattle.rr_calendars.specs.Outcomes.{outcome_is}
@@ -9,14 +10,6 @@ use Rattle.rr_calendars.specs.Words.{Asked}
 use Rattle.rr_calendars.specs.declared.answer.Outcome.{Outcome}
 use Rattle.rr_calendars.specs.declared.status.Status.{Status}
 use Rattle.rr_calendars.specs.declared.status.Status.TheVariants.{Equal, Differs, Refused, Usage, ReadFault, WriteFault, NoMemory}
-
-pub of_all : {T : Type 0} {P : T → Type 0} (o : Option T) → ((x : T) → P x) → IfSome o P
-of_all None f = tt
-of_all (Some x) f = f x
-
-pub of_some : {T : Type 0} {P Q : T → Type 0} (o : Option T) → IfSome o P → ((x : T) → P x → Q x) → IfSome o Q
-of_some None h f = tt
-of_some (Some x) h f = f x h
 
 -- ---- what the words ask
 
@@ -74,8 +67,8 @@ no_fault asked status h (inr e) = no_memory asked (subst (λ (s : Status). IsEnd
 module _ (asked : Option Asked) (held : List ℕ → Option (List ℕ)) (x : Answer) (said : IsAnswerTo asked held x) (bytes : List ℕ) (same : bytes ≡ x.bytes)
     (old new : Option (List ℕ)) where
   pub ends_failed : AppendedPart old bytes new → IfSome (contents asked held) (λ files. Ends WriteFault (IsAnswer asked files) old new)
-  ends_failed part = of_some (contents asked held) said (λ files is. (x, is, subst (λ b. AppendedPart old b new) same part))
+  ends_failed part = IfSome_then (contents asked held) said (λ files is. (x, is, subst (λ b. AppendedPart old b new) same part))
 
   pub ends_done : IsEnding asked x.status → Appended old bytes new → IfSome (contents asked held) (λ files. Ends x.status (IsAnswer asked files) old new)
   ends_done h whole =
-      of_some (contents asked held) said (λ files is. ends_said asked (IsAnswer asked files) x old new h is (subst (λ b. Appended old b new) same whole))
+      IfSome_then (contents asked held) said (λ files is. ends_said asked (IsAnswer asked files) x old new h is (subst (λ b. Appended old b new) same whole))

@@ -1,9 +1,8 @@
 -- The parts that are kept make the least sketch.
-use Rattle.std.proofs.Common.{◌≡◌, ℕ, ◌<◌, true, false, cond, List, [], ◌∷◌, ◌++◌, length, ℤ, pos, ◌+ℤ◌, ◌-ℤ◌, ◌≤ℤ◌, inl, refl, sym, ap, subst, ◌∙◌}
+use Rattle.std.proofs.Common.{◌≡◌, ℕ, ◌<◌, true, false, cond, List, [], ◌++◌, length, ℤ, pos, ◌+ℤ◌, ◌-ℤ◌, inl, refl, sym, ap, subst, ◌∙◌}
 use Rattle.std.proofs.Common.{arith}
 use Rattle.std.specs.Prelude.{Option, Some, None, IfSome, int_lt}
 use Rattle.std.specs.List.{All}
-use Rattle.std.proofs.lemmas.Int.{ints}
 use Rattle.std.proofs.lemmas.List.Elements.{All-nil}
 use Rattle.std.proofs.lemmas.Option.{slice_get-get_or}
 use Rattle.rr_model.specs.Bounds.{earliest_near}
@@ -28,6 +27,7 @@ use Rattle.rr_word.specs.Numbered.{number_in, numbered, shapes_of}
 use Rattle.rr_word.specs.declared.numbered.NumberedDay.{NumberedDay}
 use Rattle.rr_word.proofs.NumberedLemmas.{times_of, times_by_number, AllKnown, shapes_of-numbered, numbered_stays_of, numbers_within, with_sets_of-append}
 use Rattle.rr_word.specs.Bounded.{IsBounded}
+use Rattle.rr_word.proofs.SketchLemmas.{rising_from}
 use Rattle.rr_canon.specs.Kept.{sketch_of, number_kept, IsKept, AreStretchOf}
 
 -- ---- what is read
@@ -83,10 +83,6 @@ cycle_within sets before cycle day r kept e =
     (ap (λ l. number_in l day) (sym kept.cycle_numbers) ∙ sym e ∙ is))
 
 -- ---- what is kept
-
-rises_lower : (low' low high : ℤ) (ss : List DayShape) → low' ≤ℤ low → HasRisingDays low high ss → HasRisingDays low' high ss
-rises_lower low' low high [] l r = tt
-rises_lower low' low high (s ∷ ss) l r = let a = r.0 in (omega (arith, ints), r.1, r.2)
 
 bounded_of : (u : Sketch) → IsDaySequence u → HasRisingDays earliest_near u.settled u.before → IsBounded u
 bounded_of u b rises = record {
@@ -157,7 +153,7 @@ module _ (s : Sketch) (first : ℤ) (n : ℕ) (p : ℕ) (sets sets' : List (List
       let near = bounded.first first is_first in
       let u = sketch_from s first n p in
       let of_u = bounded_of u (sketch_from_bounded s bounded first n p is_first least start)
-      (rises_lower earliest_near first (first +ℤ pos n) (occupied s first n) near.0 (occupied_rises s bounded.valid first n)) in
+      (rising_from earliest_near first (first +ℤ pos n) (occupied s first n) near.0 (occupied_rises s bounded.valid first n)) in
       record {
         bounded = subst IsBounded sketch_is_from of_u;
         first_is = subst (λ z. IsFirstDay z (Some first)) sketch_is_from (sketch_from_first s bounded first n p is_first least start);

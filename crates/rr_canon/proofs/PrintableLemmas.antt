@@ -27,6 +27,7 @@ use Rattle.rr_word.proofs.ShapeLemmas.{some_set, times_in-first}
 use Rattle.rr_canon.proofs.DescriptorLemmas.{said, descriptor_of_some, descriptor_of_none, known_of, first_and_rest, some_form}
 use Rattle.rr_canon.proofs.ReadingLemmas.{descriptor_only}
 use Rattle.rr_canon.proofs.TextLemmas.{text_only, IsSetLine-seconds}
+use Rattle.rr_canon.specs.Kept.{IsKeptDay}
 
 -- ---- how many
 
@@ -105,17 +106,13 @@ length-steps_from : (sets : List (List ℕ)) (from : ℤ) (ss : List DayShape) �
 length-steps_from sets from [] = refl
 length-steps_from sets from (s ∷ ss) = ap suc (length-steps_from sets s.day ss)
 
--- days far out, but not too far
-abbrev IsFairDay : ℤ → Type 0
-IsFairDay d = (neg_ℤ (pos 2_000_000_000) ≤ℤ d) × (d ≤ℤ pos 2_000_000_000)
-
-small_steps : (sets : List (List ℕ)) (from : ℤ) (ss : List DayShape) → length sets < 2 ^ 64 → IsFairDay from → All (λ s. IsFairDay s.day) ss
+small_steps : (sets : List (List ℕ)) (from : ℤ) (ss : List DayShape) → length sets < 2 ^ 64 → IsKeptDay from → All (λ s. IsKeptDay s.day) ss
     → All (λ s. IsKnown sets s.times) ss → All IsSmallStep (steps_from sets from ss)
 small_steps sets from [] few fair days known = All-nil IsSmallStep
 small_steps sets from (s ∷ ss) few fair days known =
-    let F : DayShape → Type 0 = λ x. IsFairDay x.day in
+    let F : DayShape → Type 0 = λ x. IsKeptDay x.day in
     let K : DayShape → Type 0 = λ x. IsKnown sets x.times in
-    let day : IsFairDay s.day = All-head F s ss days in
+    let day : IsKeptDay s.day = All-head F s ss days in
     let a = day.0 in
     let b = day.1 in
     let c = fair.0 in
@@ -150,32 +147,32 @@ printed_sets Moments ss some h = All-with_sets_of IsSecondsOfDay [] ss (All-nil 
 
 -- ---- days
 
-near_to_fair : (ss : List DayShape) → All (λ s. IsNearDay s.day) ss → All (λ s. IsFairDay s.day) ss
-near_to_fair [] h = All-nil (λ (s : DayShape). IsFairDay s.day)
+near_to_fair : (ss : List DayShape) → All (λ s. IsNearDay s.day) ss → All (λ s. IsKeptDay s.day) ss
+near_to_fair [] h = All-nil (λ (s : DayShape). IsKeptDay s.day)
 near_to_fair (s ∷ ss) h =
     let N : DayShape → Type 0 = λ x. IsNearDay x.day in
     let near : IsNearDay s.day = All-head N s ss h in
     let a = near.0 in
     let b = near.1 in
-    All-cons (λ (x : DayShape). IsFairDay x.day) s ss (omega (arith, ints), omega (arith, ints)) (near_to_fair ss (All-tail N s ss h))
+    All-cons (λ (x : DayShape). IsKeptDay x.day) s ss (omega (arith, ints), omega (arith, ints)) (near_to_fair ss (All-tail N s ss h))
 
 rising_fair : (low high : ℤ) (ss : List DayShape) → neg_ℤ (pos 2_000_000_000) ≤ℤ low → high ≤ℤ pos 2_000_000_000 → HasRisingDays low high ss
-    → All (λ s. IsFairDay s.day) ss
-rising_fair low high [] l h r = All-nil (λ (s : DayShape). IsFairDay s.day)
+    → All (λ s. IsKeptDay s.day) ss
+rising_fair low high [] l h r = All-nil (λ (s : DayShape). IsKeptDay s.day)
 rising_fair low high (s ∷ ss) l h r =
     let a = r.0 in
     let b = r.1 in
-    All-cons (λ (x : DayShape). IsFairDay x.day) s ss (omega (arith, ints), omega (arith, ints))
+    All-cons (λ (x : DayShape). IsKeptDay x.day) s ss (omega (arith, ints), omega (arith, ints))
     (rising_fair (s.day +ℤ pos 1) high ss (omega (arith, ints)) h r.2)
 
 module _ (s : Sketch) (d : IsDescribable s) where
   valid : IsValidSketch s
   valid = d.least.valid
 
-  fair_before : All (λ x. IsFairDay x.day) s.before
+  fair_before : All (λ x. IsKeptDay x.day) s.before
   fair_before = near_to_fair s.before d.bounded.before
 
-  fair_cycle : All (λ x. IsFairDay x.day) s.cycle
+  fair_cycle : All (λ x. IsKeptDay x.day) s.cycle
   fair_cycle =
       let a = d.bounded.settled.0 in
       let b = d.bounded.settled.1 in
@@ -204,7 +201,7 @@ module _ (s : Sketch) (d : IsDescribable s) where
   unfolding sets_of
   few_sets = let few = sets_few [] (s.before ++ s.cycle) in omega (arith, few, length-append s.before s.cycle, few_before, few_cycle)
 
-  runs_printed : (from : ℤ) (ss : List DayShape) → length ss ≤ 2_000_000_000 → IsFairDay from → All (λ x. IsFairDay x.day) ss
+  runs_printed : (from : ℤ) (ss : List DayShape) → length ss ≤ 2_000_000_000 → IsKeptDay from → All (λ x. IsKeptDay x.day) ss
       → All (λ x. IsKnown (sets_of s) x.times) ss → All IsPrintedRun (runs_of (steps_from (sets_of s) from ss))
   runs_printed from ss few fair days known =
       let steps = steps_from (sets_of s) from ss in
@@ -242,9 +239,9 @@ module _ (s : Sketch) (d : IsDescribable s) where
           or_that d [] = d
           or_that d (z ∷ zs) = z
 
-  fair_first : (x : DayShape) (xs : List DayShape) → s.before ++ s.cycle ≡ x ∷ xs → IsFairDay x.day
+  fair_first : (x : DayShape) (xs : List DayShape) → s.before ++ s.cycle ≡ x ∷ xs → IsKeptDay x.day
   fair_first x xs e =
-      let F : DayShape → Type 0 = λ y. IsFairDay y.day in
+      let F : DayShape → Type 0 = λ y. IsKeptDay y.day in
       All-head F x xs (subst (All F) e (All-append F s.before s.cycle fair_before fair_cycle))
 
   printed_day : (q : ℤ) → IsFromYearOne q → q ≤ℤ pos 2_000_000_000 → IsPrintedDay q
@@ -253,10 +250,10 @@ module _ (s : Sketch) (d : IsDescribable s) where
   pub first_printed : (x : DayShape) (xs : List DayShape) → s.before ++ s.cycle ≡ x ∷ xs → IsPrintedDay x.day
   first_printed x xs e = printed_day x.day (d.from_year_one x.day (first_occupied x xs e)) (fair_first x xs e).1
 
-  fair_settled : IsFairDay s.settled
+  fair_settled : IsKeptDay s.settled
   fair_settled = let a = d.bounded.settled.0 in let b = d.bounded.settled.1 in (omega (arith, ints), omega (arith, ints))
 
-  ending_printed : (cs : List DayShape) → IsFromYearOne s.settled → length cs ≤ longest_period → All (λ x. IsFairDay x.day) cs
+  ending_printed : (cs : List DayShape) → IsFromYearOne s.settled → length cs ≤ longest_period → All (λ x. IsKeptDay x.day) cs
       → All (λ x. IsKnown (sets_of s) x.times) cs → IsPrintedIfSome (ending_of s cs)
   ending_printed [] from few fair known = tt
   ending_printed (c ∷ cs) from few fair known = record {

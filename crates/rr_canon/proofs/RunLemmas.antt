@@ -2,6 +2,7 @@
 use Rattle.std.proofs.Common.{◌≡◌, ℕ, ◌+◌, Bool, true, false, cond, ◌==◌, ◌&&◌, eqb-true, List, [], ◌∷◌, refl, sym, ap, subst, ◌∙◌, arith}
 use Rattle.std.proofs.lemmas.Bool.{and_parts}
 use Rattle.rr_model.specs.Sets.Descriptor.{Step, Run, with_step}
+use Rattle.rr_model.proofs.TestLemmas.{eqb-same}
 use Rattle.rr_canon.specs.Said.{with_run}
 
 pub run_of : Step → Run
@@ -11,9 +12,6 @@ run_of step = record { gap = step.gap; set = step.set; count = 1 }
 pub with_run-with_step : (step : Step) (rs : List Run) → with_run (record { gap = step.gap; set = step.set; count = 1 }) rs ≡ with_step step rs
 with_run-with_step step [] = refl
 with_run-with_step step (r ∷ rs) = refl
-
-eqb-same : (n : ℕ) → (n == n) ≡ true
-eqb-same n = grind arith
 
 same_fields : (a b c d : ℕ) → ((a == b) && (c == d)) ≡ true → (a ≡ b) × (c ≡ d)
 same_fields a b c d e = let p = and_parts (a == b) (c == d) e in (eqb-true a b p.0, eqb-true c d p.1)

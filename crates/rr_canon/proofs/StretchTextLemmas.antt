@@ -1,5 +1,5 @@
 -- Lines of version 2 tell time sets apart.
-use Rattle.std.proofs.Common.{◌≡◌, ◌⊎◌, ℕ, zero, suc, ◌+◌, ◌-◌, ◌<◌, ◌≤◌, ◌^◌, ◌==◌, true, false, cond, eqb-true, List, [], ◌∷◌, ◌++◌, length, drop}
+use Rattle.std.proofs.Common.{◌≡◌, ℕ, zero, suc, ◌+◌, ◌-◌, ◌<◌, ◌≤◌, ◌^◌, ◌==◌, true, false, cond, eqb-true, List, [], ◌∷◌, ◌++◌, length, drop}
 use Rattle.std.proofs.Common.{append_assoc, inl, inr, refl, sym, ap, ◌∙◌, arith}
 use Rattle.std.specs.Prelude.{codes, nat_lt, nat_le}
 use Rattle.std.specs.Fmt.{decimal}
@@ -18,13 +18,7 @@ use Rattle.rr_model.specs.Sets.Stretches.{Stretch, row_after, single, first_stre
 use Rattle.rr_canon.proofs.SplittingLemmas.{Stops, rest_same, split_only, IsInField, decimal_in_field, field_in_line}
 use Rattle.rr_canon.proofs.SecondsStretchLemmas.{stretches_only, length_drop_le}
 use Rattle.rr_canon.proofs.PrintableLemmas.{tells_sets_apart}
-
--- an item as it comes: a single second, or a row of three at least; all its numbers are small
-pub record IsItem (x : Stretch) : Type 0 where
-  pub start : x.start < 2 ^ 64
-  pub step : x.step < 2 ^ 64
-  pub count : x.count < 2 ^ 64
-  pub form : ((x.count ≡ 1) × (x.step ≡ 0)) ⊎ (3 ≤ x.count)
+use Rattle.rr_canon.specs.Items.{IsPrintedItem}
 
 -- ---- the text of an item
 
@@ -61,10 +55,10 @@ item_is : (x y : Stretch) → x.start ≡ y.start → x.step ≡ y.step → x.co
 item_is x y a b c = λ i. record { start = a i; step = b i; count = c i }
 
 -- a single second has step 0
-step_of_single : (x : Stretch) → IsItem x → x.count ≡ 1 → x.step ≡ 0
+step_of_single : (x : Stretch) → IsPrintedItem x → x.count ≡ 1 → x.step ≡ 0
 step_of_single x h one = elim h.form [ inl f ↦ f.1 | inr f ↦ absurd (omega arith) ]
 
-after_only : (x y : Stretch) → IsItem x → IsItem y → after x ≡ after y → (x.step ≡ y.step) × (x.count ≡ y.count)
+after_only : (x y : Stretch) → IsPrintedItem x → IsPrintedItem y → after x ≡ after y → (x.step ≡ y.step) × (x.count ≡ y.count)
 unfolding after
 after_only x y hx hy e =
     (elim (x.count == 1) as (λ b. (x.count == 1) ≡ b
@@ -91,14 +85,14 @@ after_only x y hx hy e =
           ] refl)
     ] refl) e
 
-item_only : (x y : Stretch) → IsItem x → IsItem y → item_text x ≡ item_text y → x ≡ y
+item_only : (x y : Stretch) → IsPrintedItem x → IsPrintedItem y → item_text x ≡ item_text y → x ≡ y
 item_only x y hx hy e =
     let parts = split_only IsDigitByte (decimal x.start) (decimal y.start) (after x) (after y) (decimal_digits x.start hx.start)
     (decimal_digits y.start hy.start) (after_stops x) (after_stops y) (sym (item_parts x) ∙ e ∙ item_parts y) in
     let more = after_only x y hx hy parts.1 in
     item_is x y (decimal_injective x.start y.start hx.start hy.start parts.0) more.0 more.1
 
-item_in_field : (x : Stretch) → IsItem x → All IsInField (item_text x)
+item_in_field : (x : Stretch) → IsPrintedItem x → All IsInField (item_text x)
 item_in_field x h =
     elim (x.count == 1) as (λ b. All IsInField (cond b (decimal x.start) (decimal x.start ++ (47 ∷ decimal x.step) ++ (47 ∷ decimal x.count)))) [
       | true ↦ decimal_in_field x.start h.start
@@ -116,27 +110,27 @@ unfolding items_text
 items_stop [] = tt
 items_stop (x ∷ xs) = λ h. omega arith
 
-items_only : (xs ys : List Stretch) → All IsItem xs → All IsItem ys → items_text xs ≡ items_text ys → xs ≡ ys
+items_only : (xs ys : List Stretch) → All IsPrintedItem xs → All IsPrintedItem ys → items_text xs ≡ items_text ys → xs ≡ ys
 unfolding items_text
 items_only [] [] hx hy e = refl
 items_only [] (y ∷ ys) hx hy e = absurd (omega (arith, ap length e))
 items_only (x ∷ xs) [] hx hy e = absurd (omega (arith, ap length e))
 items_only (x ∷ xs) (y ∷ ys) hx hy e =
-    let of_x = All-head IsItem x xs hx in
-    let of_y = All-head IsItem y ys hy in
+    let of_x = All-head IsPrintedItem x xs hx in
+    let of_y = All-head IsPrintedItem y ys hy in
     let parts = split_only IsInField (item_text x) (item_text y) (items_text xs) (items_text ys) (item_in_field x of_x) (item_in_field y of_y)
     (items_stop xs) (items_stop ys) (rest_same 32 32 (item_text x ++ items_text xs) (item_text y ++ items_text ys) e) in
     let first : x ≡ y = item_only x y of_x of_y parts.0 in
-    let rest : xs ≡ ys = items_only xs ys (All-tail IsItem x xs hx) (All-tail IsItem y ys hy) parts.1 in
+    let rest : xs ≡ ys = items_only xs ys (All-tail IsPrintedItem x xs hx) (All-tail IsPrintedItem y ys hy) parts.1 in
     cc
 
-items_in_line : (xs : List Stretch) → All IsItem xs → All IsInLine (items_text xs)
+items_in_line : (xs : List Stretch) → All IsPrintedItem xs → All IsInLine (items_text xs)
 unfolding items_text
 items_in_line [] h = All-nil IsInLine
 items_in_line (x ∷ xs) h =
     All-cons IsInLine 32 (item_text x ++ items_text xs) (omega arith)
-    (All-append IsInLine (item_text x) (items_text xs) (field_in_line (item_text x) (item_in_field x (All-head IsItem x xs h)))
-    (items_in_line xs (All-tail IsItem x xs h)))
+    (All-append IsInLine (item_text x) (items_text xs) (field_in_line (item_text x) (item_in_field x (All-head IsPrintedItem x xs h)))
+    (items_in_line xs (All-tail IsPrintedItem x xs h)))
 
 -- ---- the items of a time set
 
@@ -164,10 +158,10 @@ All-drop P zero xs h = h
 All-drop P (suc n) [] h = All-nil P
 All-drop P (suc n) (x ∷ xs) h = All-drop P n xs (All-tail P x xs h)
 
-item_of_single : (s : ℕ) → s < 86_400 → IsItem (single s)
+item_of_single : (s : ℕ) → s < 86_400 → IsPrintedItem (single s)
 item_of_single s h = record { start = omega arith; step = omega arith; count = omega arith; form = inl (refl, refl) }
 
-first_item : (s : ℕ) (xs : List ℕ) → All (λ x. x < 86_400) (s ∷ xs) → length xs ≤ 86_400 → IsItem (first_stretch s xs)
+first_item : (s : ℕ) (xs : List ℕ) → All (λ x. x < 86_400) (s ∷ xs) → length xs ≤ 86_400 → IsPrintedItem (first_stretch s xs)
 first_item s [] h l = item_of_single s (All-head (λ x. x < 86_400) s [] h)
 first_item s (x ∷ []) h l = item_of_single s (All-head (λ x. x < 86_400) s (x ∷ []) h)
 first_item s (x ∷ y ∷ ys) h l =
@@ -175,7 +169,7 @@ first_item s (x ∷ y ∷ ys) h l =
     let next = All-head (λ x. x < 86_400) x (y ∷ ys) (All-tail (λ x. x < 86_400) s (x ∷ y ∷ ys) h) in
     let n = row_after s (x - s) (x ∷ y ∷ ys) in
     let few = row_few s (x - s) (x ∷ y ∷ ys) in
-    elim (nat_le 3 (n + 1)) as (λ b. nat_le 3 (n + 1) ≡ b → IsItem (cond b (record { start = s; step = x - s; count = n + 1 }) (single s))) [
+    elim (nat_le 3 (n + 1)) as (λ b. nat_le 3 (n + 1) ≡ b → IsPrintedItem (cond b (record { start = s; step = x - s; count = n + 1 }) (single s))) [
       | true ↦ λ e. record { start = omega arith; step = omega arith; count = omega (arith, few, l); form = inr (at_least (n + 1) e) }
       | false ↦ λ e. item_of_single s low
     ] refl
@@ -183,18 +177,18 @@ first_item s (x ∷ y ∷ ys) h l =
     at_least : (m : ℕ) → nat_le 3 m ≡ true → 3 ≤ m
     at_least m e = grind (arith, nat_tests)
 
-pub all_items : (steps : ℕ) (xs : List ℕ) → All (λ x. x < 86_400) xs → length xs ≤ 86_400 → All IsItem (stretches_within steps xs)
+pub all_items : (steps : ℕ) (xs : List ℕ) → All (λ x. x < 86_400) xs → length xs ≤ 86_400 → All IsPrintedItem (stretches_within steps xs)
 unfolding stretches_within
-all_items zero xs h l = All-nil IsItem
-all_items (suc steps) [] h l = All-nil IsItem
+all_items zero xs h l = All-nil IsPrintedItem
+all_items (suc steps) [] h l = All-nil IsPrintedItem
 all_items (suc steps) (s ∷ xs) h l =
     let item = first_stretch s xs in
     let rest = drop (item.count - 1) xs in
-    All-cons IsItem item (stretches_within steps rest) (first_item s xs h (omega (arith, l)))
+    All-cons IsPrintedItem item (stretches_within steps rest) (first_item s xs h (omega (arith, l)))
     (all_items steps rest (All-drop (λ x. x < 86_400) (item.count - 1) xs (All-tail (λ x. x < 86_400) s xs h))
     (omega (arith, l, length_drop_le (item.count - 1) xs)))
 
-pub items_of_set : (times : List ℕ) → IsSecondsOfDay times → All IsItem (stretches times)
+pub items_of_set : (times : List ℕ) → IsSecondsOfDay times → All IsPrintedItem (stretches times)
 items_of_set times h = all_items (length times) times h.below_a_day (few_seconds times h)
 
 pub IsSetLine-stretches : IsSetLine stretches_line

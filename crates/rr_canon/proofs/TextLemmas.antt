@@ -11,9 +11,9 @@ use Rattle.rr_model.specs.Text.Moments.{padded, extended_date_text, extended_tex
 use Rattle.rr_model.specs.Rising.Sets.{IsSecondsOfDay}
 use Rattle.rr_model.specs.declared.kind.Kind.{Kind}
 use Rattle.rr_model.specs.declared.kind.Kind.TheVariants.{Days, Moments}
-use Rattle.rr_model.proofs.CalendarLemmas.{first_day_of_year_bounds, days_in_month_bounds, IsInYear-year_of, IsDate-year_of}
+use Rattle.rr_model.proofs.CalendarLemmas.{first_day_of_year_bounds, IsInYear-year_of}
 use Rattle.rr_text.proofs.MomentTextLemmas.{year_of-low}
-use Rattle.rr_text.proofs.PrintedLemmas.{extended_text_injective}
+use Rattle.rr_text.proofs.PrintedLemmas.{extended_text_injective, small_month}
 use Rattle.rr_model.specs.Sets.Descriptor.{Run, Ending, Described}
 use Rattle.rr_model.specs.Sets.DescriptorText.{fields, kind_line, seconds_line, set_lines, first_line, run_line, settled_line, ending_lines, lines_of, text_of}
 use Rattle.rr_model.specs.Sets.Printable.{IsPrintedDay, IsPrintedNumber, IsPrintedRun, IsPrintedEnding, ArePrintedSets, IsPrintedIfSome, IsPrintedSet}
@@ -48,12 +48,6 @@ small_year d printed =
     let within = IsInYear-year_of d in
     let bounds = first_day_of_year_bounds (year_of d) in
     omega (arith, ints, year_of-low d printed.0, within.begun, bounds.0, printed.1.1)
-
-small_month : (d : ℤ) → (month_of d < 100) × (day_of_month d < 100)
-small_month d =
-    let date = IsDate-year_of d in
-    let bounds = days_in_month_bounds (year_of d) (month_of d) in
-    (omega (arith, date.1), omega (arith, date.3, bounds.1))
 
 zeros_in_field : (n : ℕ) → All IsInField (replicate n 48)
 zeros_in_field zero = All-nil IsInField

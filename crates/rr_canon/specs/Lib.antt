@@ -5,3 +5,4 @@ pub mod Said
 pub mod Written
 pub mod Years
 pub mod Versions
+pub mod Items

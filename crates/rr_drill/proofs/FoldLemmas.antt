@@ -12,6 +12,7 @@ use Rattle.rr_model.specs.declared.verdict.Verdict.TheVariants.{Yes, No}
 use Rattle.rr_decide.specs.Question.{IsVerdictTo}
 use Rattle.rr_model.specs.declared.question.Question.{Question}
 use Rattle.rr_model.specs.declared.question.Question.TheVariants.{Equal, Within, Disjoint}
+use Rattle.rr_model.specs.Sets.Verdict.{HaveEqualOccurrences}
 use Rattle.rr_drill.specs.Asked.{IsVerdictAsked, IsYes}
 use Rattle.rr_drill.specs.Counting.{IsOneWhere, IsCountOf, IsCountOfPairs}
 use Rattle.rr_drill.specs.Draws.{series_from, after_series, series_list, drawn_series}
@@ -37,19 +38,15 @@ pub not_yes : (asked : Asked) (P Q : Occurrences) (k : Kind) (t : ℤ) (side : S
 not_yes (Forth question) P Q = no_or_yes question P Q
 not_yes (Back question) P Q = no_or_yes question Q P
 
--- the two have the same occurrences
-abbrev Same : Occurrences → Occurrences → Type 0
-Same P Q = (k : Kind) (t : ℤ) → P k t ↔ Q k t
-
-other_way : (P Q : Occurrences) → Same P Q → Same Q P
+other_way : (P Q : Occurrences) → HaveEqualOccurrences P Q → HaveEqualOccurrences Q P
 other_way P Q s = λ k t. ((s k t).1, (s k t).0)
 
-yes_of : (question : Question) (P Q P' Q' : Occurrences) → Same P P' → Same Q Q' → IsVerdictTo question P Q Yes → IsVerdictTo question P' Q' Yes
+yes_of : (question : Question) (P Q P' Q' : Occurrences) → HaveEqualOccurrences P P' → HaveEqualOccurrences Q Q' → IsVerdictTo question P Q Yes → IsVerdictTo question P' Q' Yes
 yes_of Equal P Q P' Q' p q all = λ k t. ((λ h. (q k t).0 ((all k t).0 ((p k t).1 h))), (λ h. (p k t).0 ((all k t).1 ((q k t).1 h))))
 yes_of Within P Q P' Q' p q all = λ k t h. (q k t).0 (all k t ((p k t).1 h))
 yes_of Disjoint P Q P' Q' p q all = λ k t h g. all k t ((p k t).1 h) ((q k t).1 g)
 
-yes_asked : (asked : Asked) (P Q P' Q' : Occurrences) → Same P P' → Same Q Q' → IsYes asked P Q → IsYes asked P' Q'
+yes_asked : (asked : Asked) (P Q P' Q' : Occurrences) → HaveEqualOccurrences P P' → HaveEqualOccurrences Q Q' → IsYes asked P Q → IsYes asked P' Q'
 yes_asked (Forth question) P Q P' Q' p q = yes_of question P Q P' Q' p q
 yes_asked (Back question) P Q P' Q' p q = yes_of question Q P Q' P' q p
 

@@ -9,7 +9,7 @@ use Rattle.rr_model.specs.Rising.Sets.{IsSetOf}
 use Rattle.rr_model.proofs.RisingSetLemmas.{Contains-head, Contains-tail, set_same, set_push, set_empty}
 
 -- a value above each member goes last
-with_value-last : (xs : List ℤ) (x : ℤ) → ((y : ℤ) → Contains xs y → y <ℤ x) → with_value int_lt xs x ≡ xs ++ x ∷ []
+pub with_value-last : (xs : List ℤ) (x : ℤ) → ((y : ℤ) → Contains xs y → y <ℤ x) → with_value int_lt xs x ≡ xs ++ x ∷ []
 with_value-last [] x above = refl
 with_value-last (y ∷ ys) x above =
     let l : int_lt y x ≡ true = (let h = above y (Contains-head y ys) in grind (arith, ints)) in

@@ -4,7 +4,7 @@ use Rattle.std.proofs.Common.{ℤ, pos, ◌+ℤ◌, ◌-ℤ◌, refl, sym, ap, s
 use Rattle.std.specs.Prelude.{◌||◌, ◌==◌, not}
 use Rattle.std.specs.List.{list_any}
 use Rattle.std.specs.Ordering.{int_eq}
-use Rattle.std.proofs.lemmas.Bool.{cases_lt}
+use Rattle.std.proofs.lemmas.Bool.{cases_lt, or_parts}
 use Rattle.std.proofs.lemmas.Bool.Decides.{nat_tests}
 use Rattle.std.proofs.lemmas.Int.{ints}
 use Rattle.rr_model.specs.Whole.{floor_div, floor_mod}
@@ -21,6 +21,7 @@ use Rattle.rr_model.specs.declared.rule.Freq.TheVariants.{Secondly, Minutely, Ho
 use Rattle.rr_model.specs.declared.rule.Rule.{Rule}
 use Rattle.rr_model.proofs.WholeLemmas.{floor_only, floor_whole}
 use Rattle.rr_model.proofs.CalendarLemmas.{date_only, day_number_is, day_number-year_of, days_into_year_is, IsDate-year_of}
+use Rattle.rr_model.proofs.TestLemmas.{and_true}
 use Rattle.rr_expand.specs.LeftOut.{IsGap, IsNextIn, has_ordinal, has_weekday, names_weekdays_alone}
 
 -- ---- days later in the same month
@@ -108,16 +109,11 @@ own_number own i many ne within =
     let back : int_eq (pos own) ((pos i -ℤ pos many) -ℤ pos 1) ≡ false = grind (arith, nat_tests, ints) in
     rw (front, back) refl
 
-neither : (a b : Bool) → (a || b) ≡ false → (a ≡ false) × (b ≡ false)
-neither true b h = absurd (cc)
-neither false true h = absurd (cc)
-neither false false h = (refl, refl)
-
 -- an item that has another weekday does not hold
 not_held : (in_year : Bool) (d : ℤ) (items : List DayItem) → list_any (has_weekday (weekday_of d)) items ≡ false → list_any (day_item_holds in_year d) items ≡ false
 not_held in_year d [] e = refl
 not_held in_year d (item ∷ items) e =
-    let parts = neither (item.weekday == weekday_of d) (list_any (has_weekday (weekday_of d)) items) e in
+    let parts = or_parts (item.weekday == weekday_of d) (list_any (has_weekday (weekday_of d)) items) e in
     rw (parts.0, not_held in_year d items parts.1) refl
 
 -- ---- a day of the month, some days after d
@@ -171,16 +167,12 @@ no_ordinal item e = not_not (int_eq item.place (pos 0)) e
     not_not true h = refl
     not_not false h = absurd (cc)
 
-and_true : (a : Bool) → (a && true) ≡ a
-and_true true = refl
-and_true false = refl
-
 -- an item without an ordinal holds on each day of its weekday
 plain_items : (in_year : Bool) (d : ℤ) (items : List DayItem) → list_any has_ordinal items ≡ false
     → list_any (day_item_holds in_year d) items ≡ list_any (has_weekday (weekday_of d)) items
 plain_items in_year d [] e = refl
 plain_items in_year d (item ∷ items) e =
-    let parts = neither (has_ordinal item) (list_any has_ordinal items) e in
+    let parts = or_parts (has_ordinal item) (list_any has_ordinal items) e in
     ap (λ p. ((item.weekday == weekday_of d) && (p || is_ordinal_of_day item.place in_year d)) || list_any (day_item_holds in_year d) items)
     (no_ordinal item parts.0)
     ∙ ap (λ q. q || list_any (day_item_holds in_year d) items) (and_true (item.weekday == weekday_of d))
@@ -307,7 +299,3 @@ four_true true true true false h = absurd (cc)
 four_true true true false d h = absurd (cc)
 four_true true false c d h = absurd (cc)
 four_true false b c d h = absurd (cc)
-
-pub not_true : (b : Bool) → not b ≡ true → b ≡ false
-not_true true h = absurd (cc)
-not_true false h = refl

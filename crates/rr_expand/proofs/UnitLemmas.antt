@@ -1,9 +1,8 @@
 -- Units with small numbers begin within the calls' days.
-use Rattle.std.proofs.Common.{◌≡◌, ℕ, ◌≤◌, true, ℤ, pos, neg_ℤ, ◌+ℤ◌, ◌-ℤ◌, ◌*ℤ◌, ◌≤ℤ◌, refl, arith}
+use Rattle.std.proofs.Common.{◌≡◌, ℕ, ◌≤◌, true, ℤ, pos, neg_ℤ, ◌≤ℤ◌, arith}
 use Rattle.std.proofs.lemmas.Int.{ints}
 use Rattle.rr_model.specs.Whole.{floor_div, floor_mod}
 use Rattle.rr_model.specs.Calendar.{IsDayWithin, first_day_of_year}
-use Rattle.rr_model.specs.Calendar.Week.{fourth_day}
 use Rattle.rr_model.specs.Moment.Units.{is_whole_days, unit_start}
 use Rattle.rr_model.specs.declared.kind.Kind.TheVariants.{Days}
 use Rattle.rr_model.specs.declared.rule.Freq.{Freq}
@@ -11,6 +10,7 @@ use Rattle.rr_model.specs.declared.rule.Freq.TheVariants.{Secondly, Minutely, Ho
 use Rattle.rr_model.proofs.WholeLemmas.{floor_whole, floor_mod_below}
 use Rattle.rr_model.proofs.CalendarLemmas.{first_day_of_year_bounds, days_of_months-all, days_of_months_mono, days_in_year_bounds}
 use Rattle.rr_cal.proofs.StretchLemmas.{month_start}
+use Rattle.rr_cal.proofs.UnitLemmas.{first_day_of_week_is}
 
 -- a year not far from the year 0 begins within the calls' days
 year_start_near : (y : ℤ) → (neg_ℤ (pos 100_001) ≤ℤ y) × (y ≤ℤ pos 100_001)
@@ -18,10 +18,6 @@ year_start_near : (y : ℤ) → (neg_ℤ (pos 100_001) ≤ℤ y) × (y ≤ℤ po
 year_start_near y few =
     let b = first_day_of_year_bounds y in
     (omega (arith, ints, b.0, few.0), omega (arith, ints, b.1, few.1))
-
-first_day_of_week_is : (u : ℤ) (w : ℕ) → fourth_day u w -ℤ pos 3 ≡ ((pos 7 *ℤ u) +ℤ pos w) -ℤ pos 3
-unfolding fourth_day
-first_day_of_week_is u w = refl
 
 -- so does each unit with a small number
 pub unit_start_near : (freq : Freq) (w : ℕ) (u : ℤ) → is_whole_days freq ≡ true → w ≤ 255 → (neg_ℤ (pos 100_000) ≤ℤ u) × (u ≤ℤ pos 100_000)

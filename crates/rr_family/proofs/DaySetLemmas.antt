@@ -20,11 +20,11 @@ use Rattle.rr_word.proofs.SketchLemmas.{rising_on, second_fits}
 use Rattle.rr_model.proofs.MomentLemmas.{parts_of_moment}
 use Rattle.rr_model.specs.declared.graph.RangeEnd.{RangeEnd}
 use Rattle.rr_model.specs.declared.graph.RangeEnd.TheVariants.{NoEnd, EndDate, Numbered}
+use Rattle.rr_model.proofs.TestLemmas.{same_truth}
 use Rattle.rr_pattern.proofs.RepeatLemmas.{at_day, at_time}
 use Rattle.rr_family.specs.DaySets.{window_days, IsUpToRangeEnd, OccursOnDays, IsOneSecond, IsLastDay, SetOfTest, TestOfEndless, TestOfFinite}
 use Rattle.rr_family.specs.Lasting.{is_occupied, at_second}
 use Rattle.rr_family.specs.Taking.{AgreeWithin}
-use Rattle.rr_family.proofs.TakingLemmas.{same_truth}
 
 -- ---- lists of one second
 

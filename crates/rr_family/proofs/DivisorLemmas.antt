@@ -136,11 +136,6 @@ joined_units old new start day d ws m y freq.Yearly w is_whole few = y
 
 -- ---- intervals
 
--- 1 divides all, and each interval divides nothing
-pub one_divides : (z : ℤ) → divides 1 z ≡ true
-one_divides (pos a) = (let e : a % 1 ≡ 0 = (let b = mod_below a 1 (omega arith) in omega (arith, b)) in ap (λ r. r == 0) e)
-one_divides (negsuc a) = (let e : 1 - 1 - a % 1 ≡ 0 = omega arith in ap (λ r. r == 0) e)
-
 pub divides_none : (n : ℕ) (x y : ℤ) → x ≡ y → divides n (x -ℤ y) ≡ true
 divides_none n x y same =
     let none : x -ℤ y ≡ pos 0 = omega (arith, ints, same) in

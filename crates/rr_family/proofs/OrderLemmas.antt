@@ -18,10 +18,10 @@ use Rattle.rr_family.proofs.ProfileLemmas.{back_end}
 
 -- ---- numbers from the front and from the back
 
-from_front : (most place : ℕ) → place < most → from_both_ends most place ≡ pos (place + 1)
+pub from_front : (most place : ℕ) → place < most → from_both_ends most place ≡ pos (place + 1)
 from_front most place l = let t : nat_lt place most ≡ true = grind (arith, nat_tests) in rw t refl
 
-from_back : (most place : ℕ) → most ≤ place → from_both_ends most place ≡ negsuc (place - most)
+pub from_back : (most place : ℕ) → most ≤ place → from_both_ends most place ≡ negsuc (place - most)
 from_back most place l =
     let e : place ≡ most + (place - most) = omega arith in
     ap (from_both_ends most) e ∙ back_end most (place - most)

@@ -34,6 +34,7 @@ use Rattle.rr_model.specs.declared.vcal.FamilyKind.TheVariants as family
 use Rattle.rr_model.specs.declared.item.Item.{Item}
 use Rattle.rr_model.specs.declared.item.Item.TheVariants.{Every, Weekday, MonthDay, Place, Month, YearDay}
 use Rattle.rr_model.specs.declared.vcal.VRule.{VRule}
+use Rattle.rr_model.proofs.TestLemmas.{same_truth}
 use Rattle.rr_pattern.proofs.DayCountLemmas.{at_start_second, count_between}
 use Rattle.rr_family.specs.DaySets.{window_days, IsUpToRangeEnd, OccursOnDays, IsOneSecond, IsLastDay}
 use Rattle.rr_family.specs.Lasting.{is_occupied, at_second, HasCycle}
@@ -46,7 +47,7 @@ use Rattle.rr_family.specs.Taking.{AgreeWithin, some_gives, taken_places, AreAmo
 use Rattle.rr_family.proofs.DaySetLemmas.{set_of_test, test_of_endless, test_of_finite, empty_if, in_one}
 use Rattle.rr_family.proofs.LastingLemmas.{endless_has_cycle, agreement_lasts}
 use Rattle.rr_family.proofs.ShiftLemmas.{items_repeat}
-use Rattle.rr_family.proofs.TakingLemmas.{in_filter, giver, taker, kept_by_filter, same_truth, or_true, taken_among, taking_loses_none}
+use Rattle.rr_family.proofs.TakingLemmas.{in_filter, giver, taker, kept_by_filter, or_true, taken_among, taking_loses_none}
 
 -- ---- members and days
 

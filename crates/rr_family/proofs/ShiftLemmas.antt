@@ -3,7 +3,7 @@ use Rattle.std.proofs.Common.{◌≡◌, ℕ, ◌*◌, ◌≤◌, Bool, true, fa
 use Rattle.std.specs.Prelude.{◌⊎◌}
 use Rattle.std.specs.Int.{◌∣◌}
 use Rattle.std.specs.Prelude.{int_lt}
-use Rattle.std.proofs.lemmas.Nat.Gcd.{le_of_dvd, dvd_trans, dvd_refl}
+use Rattle.std.proofs.lemmas.Nat.Gcd.{dvd_trans, dvd_refl}
 use Rattle.std.proofs.Math.Nat.{dvd-mul_right}
 use Rattle.rr_model.specs.Rule.Chosen.{is_chosen}
 use Rattle.rr_model.specs.Rule.Cycle.{interval_cycle, asks_calendar, parts_cycle, rule_cycle}
@@ -16,6 +16,7 @@ use Rattle.rr_model.specs.declared.rule.Rule.{Rule}
 use Rattle.rr_num.proofs.DivisorLemmas.{lcm_is, lcm_some}
 use Rattle.rr_check.proofs.RepetitionLemmas.{chosen_repeats_by}
 use Rattle.rr_check.proofs.RuleCycleLemmas.{interval_cycle_some}
+use Rattle.rr_check.proofs.SeriesCycleLemmas.{dvd_same}
 use Rattle.rr_model.specs.Rising.{day_item_lt}
 use Rattle.rr_model.specs.Vcal.Counterpart.{day_of_item, month_of_item, month_day_of_item, year_day_of_item, rule_of_vrule}
 use Rattle.rr_model.specs.Vcal.Members.{is_vcal_candidate}
@@ -70,16 +71,13 @@ parts_divide : (r : Rule) (c : ℕ) → HasParts r c → parts_cycle r ∣ c
 parts_divide r c h =
     (lcm_is (cond (is_absent r.by_day) 1 7) (cond (asks_calendar r) 146_097 1) (some_days _) (some_years _)).2 c (weekdays _ c h.0) (calendar _ c h.1)
 
-equal_by_dividing : (a b : ℕ) → 1 ≤ a → 1 ≤ b → a ∣ b → b ∣ a → a ≡ b
-equal_by_dividing a b ha hb p q = let l = le_of_dvd hb p in let h = le_of_dvd ha q in omega arith
-
 whole_cycle : (r : Rule) → 1 ≤ r.interval → HasParts r (interval_cycle r.freq r.interval) → rule_cycle r ≡ interval_cycle r.freq r.interval
 whole_cycle r some h =
     let n = interval_cycle r.freq r.interval in
     let hn = interval_cycle_some r.freq r.interval some in
     let hm : 1 ≤ parts_cycle r = lcm_some (cond (is_absent r.by_day) 1 7) (cond (asks_calendar r) 146_097 1) (some_days _) (some_years _) in
     let is = lcm_is n (parts_cycle r) hn hm in
-    equal_by_dividing (rule_cycle r) n (lcm_some n (parts_cycle r) hn hm) hn (is.2 n (dvd_refl n) (parts_divide r n h)) is.0
+    dvd_same (rule_cycle r) n (lcm_some n (parts_cycle r) hn hm) hn (is.2 n (dvd_refl n) (parts_divide r n h)) is.0
 
 calendar_weeks : (k : ℕ) → 7 ∣ 146_097 * k
 calendar_weeks k = dvd_trans 7 (dvd-mul_right 7 20_871) (dvd-mul_right 146_097 k)

@@ -1,11 +1,12 @@
 -- Two days of one sort are in the same items.
 use Rattle.std.proofs.Common.{◌≡◌, ℕ, ◌+◌, ◌-◌, ◌*◌, ◌/◌, ◌%◌, ◌<◌, ◌≤◌, ◌==◌, Bool, true, false, cond, ◌&&◌, ◌||◌, ℤ, pos, ◌-ℤ◌, inl, inr, refl, sym}
 use Rattle.std.proofs.Common.{ap, subst, ◌∙◌, arith, Option, None, Some}
-use Rattle.std.specs.Prelude.{nat_lt, neg_ℤ, unwrap_or}
+use Rattle.std.specs.Prelude.{nat_lt, neg_ℤ}
 use Rattle.std.specs.Ordering.{int_eq}
 use Rattle.std.proofs.lemmas.Int.{ints}
 use Rattle.std.proofs.lemmas.Bool.{cases_Bool, cases_eq, cases_lt, eq-eqb, ne_eqb}
 use Rattle.std.proofs.lemmas.Bool.Decides.{nat_tests}
+use Rattle.std.proofs.lemmas.Option.{same_Some}
 use Rattle.rr_model.specs.Calendar.{weekday_of, day_of_month, month_of, day_of_year, year_of, days_in_month}
 use Rattle.rr_model.specs.Rule.Candidate.{is_ordinal_of_day}
 use Rattle.rr_model.specs.Whole.{divides}
@@ -124,9 +125,6 @@ pub in_its_year : (d : ℤ) → (1 ≤ day_of_year d) × (day_of_year d ≤ 366)
 unfolding day_of_year
 in_its_year d = (omega arith, omega (arith, days_into_year_below d, (days_in_year_bounds (year_of d)).1))
 
-some_is : (x y : ℕ) → Some x ≡ Some y → x ≡ y
-some_is x y e = ap (λ o. unwrap_or o 0) e
-
 module _ (interval : ℕ) (start : ℤ) where
   gives : (f : FamilyKind) (place : ℕ) (d : ℤ) → item_holds start (item_at f place) d ≡ sort_passes (λ sort. has_sort f sort place) (sort_in_unit f start d)
   gives family.D place d = refl
@@ -153,21 +151,21 @@ module _ (interval : ℕ) (start : ℤ) where
   gives family.YD place d = turned (place + 1) (day_of_year d) ∙ shifted (day_of_year d) place (in_its_year d).0
 
   few : (f : FamilyKind) (d : ℤ) (sort : ℕ) → sort_in_unit f start d ≡ Some sort → sort < many_sorts f
-  few family.D d sort e = omega (arith, some_is 0 sort e)
-  few family.W d sort e = omega (arith, some_is (weekday_of d) sort e, weekday_of_below d)
+  few family.D d sort e = omega (arith, same_Some 0 sort e)
+  few family.W d sort e = omega (arith, same_Some (weekday_of d) sort e, weekday_of_below d)
   few family.MD d sort e =
       let h = in_month d (day_of_month d) (days_in_month (year_of d) (month_of d)) refl refl in
-      omega (arith, some_is (month_day_sort (day_of_month d) (days_in_month (year_of d) (month_of d))) sort e, h.0, h.1, h.2)
+      omega (arith, same_Some (month_day_sort (day_of_month d) (days_in_month (year_of d) (month_of d))) sort e, h.0, h.1, h.2)
   few family.MP d sort e =
       let h = in_month d (day_of_month d) (days_in_month (year_of d) (month_of d)) refl refl in
-      let s = some_is (place_sort (day_of_month d) (days_in_month (year_of d) (month_of d)) (weekday_of d)) sort e in
+      let s = same_Some (place_sort (day_of_month d) (days_in_month (year_of d) (month_of d)) (weekday_of d)) sort e in
       omega (arith, s, h.0, h.1, h.2, weekday_of_below d)
   few family.YM d sort e =
       elim (day_of_month d == day_of_month start) as (λ b. cond b (Some (month_of d - 1)) None ≡ Some sort → sort < 12) [
-        | true ↦ λ g. (let a = IsDate-year_of d in omega (arith, some_is (month_of d - 1) sort g, a.0, a.1))
+        | true ↦ λ g. (let a = IsDate-year_of d in omega (arith, same_Some (month_of d - 1) sort g, a.0, a.1))
         | false ↦ λ g. absurd (cc)
       ] e
-  few family.YD d sort e = omega (arith, some_is (day_of_year d - 1) sort e, (in_its_year d).1)
+  few family.YD d sort e = omega (arith, same_Some (day_of_year d - 1) sort e, (in_its_year d).1)
 
 pub kinds_have_sorts : KindsHaveSorts
 kinds_have_sorts f interval start = record {

@@ -10,6 +10,7 @@ use Rattle.std.proofs.lemmas.List.Elements.{recursion_from_All}
 use Rattle.std.proofs.lemmas.Map.Views.{any-filter_same}
 use Rattle.rr_model.specs.Whole.Count.{count_from}
 use Rattle.rr_model.proofs.CountLemmas.{one, count_from-zero, count_from-suc, count_from-le, count_from-empty}
+use Rattle.rr_model.proofs.TestLemmas.{same_truth}
 use Rattle.rr_family.specs.Taking.{some_gives, AgreeWithin, is_sound, sound_places, further_days, first_greatest, taken_within, taken_places}
 use Rattle.rr_family.specs.Taking.{AreAmong, TakingLosesNone, TakingIsSound}
 
@@ -21,11 +22,6 @@ or_true a b h e = rw e at h
 not_false : (b : Bool) → not b ≡ false → b ≡ true
 not_false true h = refl
 not_false false h = absurd (false≢true (sym h))
-
-pub same_truth : (a b : Bool) → (a ≡ true → b ≡ true) → (b ≡ true → a ≡ true) → a ≡ b
-same_truth true b f g = sym (f refl)
-same_truth false true f g = g refl
-same_truth false false f g = refl
 
 -- ---- counts
 

@@ -12,11 +12,11 @@ use Rattle.rr_family.proofs.TakingLemmas.{giver, taker}
 
 -- ---- sums
 
-sum_zero : (f : ℕ → ℕ) → sum_below 0 f ≡ 0
+pub sum_zero : (f : ℕ → ℕ) → sum_below 0 f ≡ 0
 unfolding sum_below
 sum_zero f = refl
 
-sum_suc : (n : ℕ) (f : ℕ → ℕ) → sum_below (suc n) f ≡ sum_below n f + f n
+pub sum_suc : (n : ℕ) (f : ℕ → ℕ) → sum_below (suc n) f ≡ sum_below n f + f n
 unfolding sum_below
 sum_suc n f = refl
 

@@ -1,6 +1,6 @@
 -- The items of a kind rise with their indexes, and what is put one by one stands in their order.
-use Rattle.std.proofs.Common.{◌≡◌, ℕ, zero, suc, ◌+◌, ◌-◌, ◌/◌, ◌<◌, ◌≤◌, ◌==◌, Bool, true, false, cond, ◌||◌, List, [], ◌∷◌, pos, inl, inr, refl, sym, ap, ◌∙◌, arith}
-use Rattle.std.specs.Prelude.{nat_lt, map, negsuc}
+use Rattle.std.proofs.Common.{◌≡◌, ℕ, zero, suc, ◌+◌, ◌-◌, ◌/◌, ◌<◌, ◌≤◌, ◌==◌, Bool, true, false, cond, ◌||◌, List, [], ◌∷◌, inl, inr, refl, sym, ap, ◌∙◌, arith}
+use Rattle.std.specs.Prelude.{nat_lt, map}
 use Rattle.std.specs.List.{list_any, filter}
 use Rattle.std.specs.Ordering.{int_eq}
 use Rattle.std.proofs.lemmas.Int.{ints}
@@ -8,6 +8,7 @@ use Rattle.std.proofs.lemmas.Bool.{cases_eq, cases_lt, eq-eqb, ne_eqb}
 use Rattle.std.proofs.lemmas.Bool.Decides.{nat_tests}
 use Rattle.rr_family.specs.Places.{many_items, from_both_ends, item_at}
 use Rattle.rr_family.specs.Profile.{places_from, all_places, in_order}
+use Rattle.rr_family.proofs.OrderLemmas.{from_front, from_back}
 use Rattle.rr_find.specs.ByCounts.{items_of}
 use Rattle.rr_word.proofs.ShapeLemmas.{int_eq-same, int_eq-differ}
 use Rattle.rr_model.specs.Rising.{with_value}
@@ -18,26 +19,16 @@ use Rattle.rr_model.specs.declared.vcal.FamilyKind.TheVariants as family
 
 -- ---- the order of items
 
--- a number from the front, or from the back
-end_front : (most p : ℕ) → p < most → from_both_ends most p ≡ pos (p + 1)
-end_front most p l = let t : nat_lt p most ≡ true = grind (arith, nat_tests) in rw t refl
-
-end_back : (most p : ℕ) → most ≤ p → from_both_ends most p ≡ negsuc (p - most)
-end_back most p l =
-    let t : nat_lt p most ≡ false = grind (arith, nat_tests) in
-    let e : p - most + 1 ≡ suc (p - most) = omega arith in
-    rw (t, e) refl
-
 ends_before : (most p q : ℕ) → is_place_before (from_both_ends most p) (from_both_ends most q) ≡ nat_lt p q
 ends_before most p q =
     elim (cases_lt p most) [
       | inl fp ↦ elim (cases_lt q most) [
-        | inl fq ↦ (let a = end_front most p fp in let b = end_front most q fq in rw (a, b) (grind (arith, nat_tests)))
-        | inr bq ↦ (let a = end_front most p fp in let b = end_back most q bq in rw (a, b) (grind (arith, nat_tests)))
+        | inl fq ↦ (let a = from_front most p fp in let b = from_front most q fq in rw (a, b) (grind (arith, nat_tests)))
+        | inr bq ↦ (let a = from_front most p fp in let b = from_back most q bq in rw (a, b) (grind (arith, nat_tests)))
       ]
       | inr bp ↦ elim (cases_lt q most) [
-        | inl fq ↦ (let a = end_back most p bp in let b = end_front most q fq in rw (a, b) (grind (arith, nat_tests)))
-        | inr bq ↦ (let a = end_back most p bp in let b = end_back most q bq in rw (a, b) (grind (arith, nat_tests)))
+        | inl fq ↦ (let a = from_back most p bp in let b = from_front most q fq in rw (a, b) (grind (arith, nat_tests)))
+        | inr bq ↦ (let a = from_back most p bp in let b = from_back most q bq in rw (a, b) (grind (arith, nat_tests)))
       ]
     ]
 
@@ -45,12 +36,12 @@ ends_one : (most p q : ℕ) → from_both_ends most p ≡ from_both_ends most q 
 ends_one most p q e =
     elim (cases_lt p most) [
       | inl fp ↦ elim (cases_lt q most) [
-        | inl fq ↦ (let s = sym (end_front most p fp) ∙ e ∙ end_front most q fq in omega (arith, ints, s))
-        | inr bq ↦ absurd (let s = sym (end_front most p fp) ∙ e ∙ end_back most q bq in omega (arith, ints, s))
+        | inl fq ↦ (let s = sym (from_front most p fp) ∙ e ∙ from_front most q fq in omega (arith, ints, s))
+        | inr bq ↦ absurd (let s = sym (from_front most p fp) ∙ e ∙ from_back most q bq in omega (arith, ints, s))
       ]
       | inr bp ↦ elim (cases_lt q most) [
-        | inl fq ↦ absurd (let s = sym (end_back most p bp) ∙ e ∙ end_front most q fq in omega (arith, ints, s))
-        | inr bq ↦ (let s = sym (end_back most p bp) ∙ e ∙ end_back most q bq in omega (arith, ints, s, bp, bq))
+        | inl fq ↦ absurd (let s = sym (from_back most p bp) ∙ e ∙ from_front most q fq in omega (arith, ints, s))
+        | inr bq ↦ (let s = sym (from_back most p bp) ∙ e ∙ from_back most q bq in omega (arith, ints, s, bp, bq))
       ]
     ]
 

@@ -3,7 +3,7 @@ use Rattle.std.proofs.Common.{◌≡◌, ℕ, ◌≤◌, ℤ, Option, None, Some
 use Rattle.std.proofs.Common.{arith, to_z, of_z, to_z-of_z, w64, FitsSigned}
 use borrow.Author.Differences.{fits_in}
 use Rattle.std.proofs.lemmas.Int.{ints}
-use Rattle.std.specs.Prelude.{◌⊎◌, map, IfOk, Result, Ok, Err}
+use Rattle.std.specs.Prelude.{◌⊎◌, map}
 use Rattle.rr_check.proofs.RuleCycleLemmas.{interval_cycle_some}
 use Rattle.rr_family.specs.Lasting.{is_occupied}
 use Rattle.rr_family.specs.Places.{item_at, place_has_day}
@@ -69,11 +69,6 @@ module _ (s : Sketch) (w : Window) (f : FamilyKind) (interval days : ℕ) (valid
 -- a cycle has a day
 pub some_cycle : (f : FamilyKind) (interval : ℕ) → 1 ≤ interval → 1 ≤ family_cycle f interval
 some_cycle f interval low = interval_cycle_some (family_freq f) interval low
-
--- what an answer is where it is something else
-pub answer_is : {X E : Type 0} (P Q : X → Type 0) (answer : Result X E) → ((x : X) → P x → Q x) → IfOk answer P → IfOk answer Q
-answer_is P Q (Ok x) follows holds = follows x holds
-answer_is P Q (Err e) follows holds = tt
 
 -- a near day is read as it is
 pub near_read : (d : ℤ) → IsNearDay d → to_z w64 (of_z w64 d) ≡ d

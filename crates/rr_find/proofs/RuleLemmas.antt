@@ -7,6 +7,7 @@ use Rattle.std.proofs.lemmas.Int.{ints}
 use Rattle.std.proofs.lemmas.Bool.{eq-eqb, false≢true}
 use Rattle.std.proofs.lemmas.Bool.Decides.{nat_tests}
 use Rattle.std.proofs.lemmas.Nat.Gcd.{dvd_of_mod-eq-zero, mod-eq-zero_of_dvd}
+use Rattle.std.proofs.lemmas.Option.{same_Some}
 use Rattle.rr_model.specs.Moment.{day_part, second_part, moment_at}
 use Rattle.rr_model.specs.Sets.Least.{IsEndless, IsLeastStart}
 use Rattle.rr_model.specs.Sets.Sketch.{IsValidSketch, StandsIn, times_on}
@@ -108,9 +109,6 @@ no_item f interval start d (item ∷ items) out = rw (out, no_item f interval st
 
 -- ---- the days that are read
 
-some_is : (x y : ℕ) → Some x ≡ Some y → x ≡ y
-some_is x y h = cc
-
 some_none : {p : ℕ} → Some p ≡ None → ⊥
 some_none h = cc
 
@@ -144,7 +142,7 @@ module _ (s : Sketch) (first : ℤ) (c : ℕ) (some : 1 ≤ c) where
                 divides = dvd_of_mod-eq-zero period rest;
                 start = subst (λ q. IsLeastStart (times_on s) first period q) same_start ends.2;
               },
-              some_is c days h,
+              same_Some c days h,
             ))
         | false ↦ λ fits h. absurd (none_some h)
       ] refl e
@@ -153,7 +151,7 @@ module _ (s : Sketch) (first : ℤ) (c : ℕ) (some : 1 ≤ c) where
       none_some h = cc
 
   pub window_of_days : (end : WindowEnd) (days : ℕ) → IsWindowEnd s first end → days_up_to first c end ≡ Some days → IsWindow s first c days
-  window_of_days (Last day many) days ends e = subst (λ n. IsWindow s first c n) (some_is (window_days first day) days e) (finite day ends.0)
+  window_of_days (Last day many) days ends e = subst (λ n. IsWindow s first c n) (same_Some (window_days first day) days e) (finite day ends.0)
   window_of_days (Cycle period start) days ends e =
       let fits = cycle_of_days period start days ends e in subst (λ n. IsWindow s first c n) fits.1 (endless ends.0 fits.0)
 
@@ -237,7 +235,7 @@ listed_rule s w f interval days valid has low high some e few_days listed =
         → IsRuleOf (StandsIn s) (vrule f interval (list_items s f interval w.first days) (end_of end)) w.kind start
     of_end (Last day many) ends h =
         let n = window_days (day_part w.kind start) day in
-        let same : n ≡ days = ap (λ d. window_days d day) parts.0 ∙ some_is (window_days w.first day) days h in
+        let same : n ≡ days = ap (λ d. window_days d day) parts.0 ∙ same_Some (window_days w.first day) days h in
         let number : many ≡ count_from (is_occupied s) (day_part w.kind start) n =
         ends.1 ∙ ap (λ d. count_from (is_occupied s) d (window_days d day)) (sym parts.0) in
         let few : count_from (is_occupied s) (day_part w.kind start) n ≤ 18_446_744_073_709_551_615 =

@@ -6,27 +6,20 @@ use Rattle.std.proofs.lemmas.Bool.{cases_Bool, cases_eq, eq-eqb, eqb-true, false
 use Rattle.std.proofs.lemmas.Bool.Decides.{nat_tests}
 use Rattle.rr_model.specs.declared.vcal.FamilyKind.{FamilyKind}
 use Rattle.rr_model.proofs.CountLemmas.{count_from-le, count_from-empty}
+use Rattle.rr_model.proofs.TestLemmas.{same_truth}
 use Rattle.rr_family.specs.Places.{many_items, place_has_day}
 use Rattle.rr_family.specs.Profile.{all_places}
 use Rattle.rr_family.specs.Sorts.{many_sorts, sort_of_day, has_sort}
 use Rattle.rr_family.specs.Taking.{AgreeWithin, some_gives, is_sound, sound_places, further_days, first_greatest, taken_within, taken_places}
 use Rattle.rr_family.specs.Tally.{sum_below, sort_passes, days_of_sort}
 use Rattle.rr_family.proofs.SortLemmas.{kinds_have_sorts}
-use Rattle.rr_family.proofs.TakingLemmas.{giver, taker, same_truth, in_window, count_from-none_at, taking_is_sound}
-use Rattle.rr_family.proofs.TallyLemmas.{sound_by_sorts, further_by_sorts, count_by_sorts}
+use Rattle.rr_family.proofs.TakingLemmas.{giver, taker, in_window, count_from-none_at, taking_is_sound}
+use Rattle.rr_family.proofs.TallyLemmas.{sound_by_sorts, further_by_sorts, count_by_sorts, sum_zero, sum_suc}
 use Rattle.rr_find.specs.ByCounts.{days_of_item, gain_of_item, best_below, best_index, days_left, IsTakenInTurn, IsClear}
 use Rattle.rr_find.specs.Counted.{has_some_sort, AreSorted}
 use Rattle.rr_find.proofs.BestLemmas.{best_some, best_is_chosen, chosen}
 
 -- ---- sums
-
-pub sum_zero : (number : ℕ → ℕ) → sum_below 0 number ≡ 0
-unfolding sum_below
-sum_zero number = refl
-
-pub sum_suc : (n : ℕ) (number : ℕ → ℕ) → sum_below (suc n) number ≡ sum_below n number + number n
-unfolding sum_below
-sum_suc n number = refl
 
 pub sum_same : (n : ℕ) (f g : ℕ → ℕ) → ((k : ℕ) → k < n → f k ≡ g k) → sum_below n f ≡ sum_below n g
 sum_same zero f g h = sum_zero f ∙ sym (sum_zero g)

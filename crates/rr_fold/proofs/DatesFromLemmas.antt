@@ -11,16 +11,11 @@ use Rattle.rr_model.specs.Moment.{day_part, moment_at}
 use Rattle.rr_model.specs.Rising.{Rises, with_value}
 use Rattle.rr_model.specs.Sets.Tree.{has_second, is_among}
 use Rattle.rr_model.specs.declared.kind.Kind.{Kind}
+use Rattle.rr_model.proofs.TestLemmas.{or_swap}
+use Rattle.rr_expand.proofs.DaySets.{with_value-last}
 use Rattle.rr_fold.specs.Rules.{dates_from}
 
 -- ---- one date more
-
--- a value above each member goes last
-put_last : (xs : List ℤ) (x : ℤ) → ((y : ℤ) → Contains xs y → y <ℤ x) → with_value int_lt xs x ≡ xs ++ x ∷ []
-put_last [] x above = refl
-put_last (y ∷ ys) x above =
-    let l : int_lt y x ≡ true = (let h = above y (Contains-head y ys) in grind (arith, ints)) in
-    rw l (ap (λ zs. y ∷ zs) (put_last ys x (λ z c. above z (Contains-tail y ys z c))))
 
 -- in a rising list those before a place are below its value
 rising_before : (xs : List ℤ) (i : ℕ) (d y : ℤ) → Rises int_lt xs → i < length xs → Contains (take i xs) y → y <ℤ get_or xs i d
@@ -54,7 +49,7 @@ module _ (test : ℤ → Bool) (dates later later' : List ℤ) (i : ℕ) (date d
       let last : filter test (take (i + 1) dates) ≡ filter test (take i dates) ++ get_or dates i d ∷ [] =
       filter_more test dates i d l ∙ ap (λ b. filter test (take i dates) ++ cond b (get_or dates i d ∷ []) []) own in
       put ∙ ap (λ xs. with_value int_lt xs date) so_far ∙ ap (with_value int_lt (filter test (take i dates))) at
-      ∙ put_last (filter test (take i dates)) (get_or dates i d) above ∙ sym last
+      ∙ with_value-last (filter test (take i dates)) (get_or dates i d) above ∙ sym last
 
   -- another is passed over
   no_more : test date ≡ false → later ≡ filter test (take (i + 1) dates)
@@ -131,12 +126,6 @@ module _ (kind : Kind) (first d : ℤ) (s : ℕ) (dates : List ℤ) where
   none_among none = rw none (and_right (has_second kind s) false refl)
 
 -- ---- a start among dates
-
-or_swap : (a b c : Bool) → (a || (b || c)) ≡ (b || (a || c))
-or_swap true true c = refl
-or_swap true false c = refl
-or_swap false true c = refl
-or_swap false false c = refl
 
 -- one date more is listed beside the others
 any_with : (xs : List ℤ) (v t : ℤ) → list_any (λ x. int_eq x t) (with_value int_lt xs v) ≡ (int_eq v t || list_any (λ x. int_eq x t) xs)

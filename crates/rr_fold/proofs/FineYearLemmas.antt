@@ -8,7 +8,7 @@ use Rattle.std.proofs.lemmas.Bool.Decides.{nat_tests}
 use Rattle.std.proofs.lemmas.Int.{ints}
 use Rattle.std.proofs.lemmas.Nat.{div-add-mod'}
 use Rattle.rr_check.proofs.RuleCycleLemmas.{whole_intervals}
-use Rattle.rr_check.proofs.UnitLemmas.{divides-add, unit_number-shift}
+use Rattle.rr_check.proofs.UnitLemmas.{unit_number-shift}
 use Rattle.rr_expand.proofs.KeyWeekLemmas.{equal_keys_have_equal_masks}
 use Rattle.rr_expand.specs.Years.{Filling, allows_day, mask_key}
 use Rattle.rr_model.proofs.CalendarLemmas.{kind_of_year_below}
@@ -30,8 +30,11 @@ use Rattle.rr_model.specs.declared.rule.Freq.TheVariants.{Secondly, Minutely, Ho
 use Rattle.rr_model.specs.declared.rule.Rule.{Rule}
 use Rattle.rr_model.proofs.DaysAndTimesLemmas.{time_parts_hold-at}
 use Rattle.rr_model.proofs.MomentLemmas.{day_part-moment_at}
+use Rattle.rr_model.proofs.DividesLemmas.{divides-add}
+use Rattle.rr_model.proofs.TestLemmas.{has_second_not}
+use Rattle.rr_iter.proofs.RepeatLemmas.{after_start}
 use Rattle.rr_fold.specs.Years.{HasEqualYears, IsFiner, RepeatsByYears, year_slot}
-use Rattle.rr_fold.proofs.SameYearLemmas.{chosen-same, equal_keys_have_equal_days, equal_keys_have_equal_lengths, has_second_not, left_of_and, not_before}
+use Rattle.rr_fold.proofs.SameYearLemmas.{chosen-same, equal_keys_have_equal_days, equal_keys_have_equal_lengths, left_of_and}
 
 -- ---- slots
 
@@ -137,8 +140,8 @@ fine_alike rule start year other n k s valid absent keys apart of_interval after
       (equal_keys_have_equal_masks filling year other keys k) in
       let candidate = fine_candidate rule start valid here there n s at of_interval l (sym dates) in
       let chosen = chosen-same rule Moments start (moment_at Moments here s) (moment_at Moments there s) valid (sym candidate) (rw absent refl) in
-      let a = not_before Moments start here s (omega (arith, ints, after)) in
-      let b = not_before Moments start there s (omega (arith, ints, after, at)) in
+      let a = after_start Moments start here s (omega (arith, ints, after)) in
+      let b = after_start Moments start there s (omega (arith, ints, after, at)) in
       rw (chosen, a, b) refl)
   | inr g ↦ rw (has_second_not Moments s g) refl
 ]

@@ -1,11 +1,11 @@
 -- Years of one key have one length and, after the start's day, the same days with the same seconds.
-use Rattle.std.proofs.Common.{◌≡◌, ◌⊎◌, inl, inr, ℕ, zero, suc, ◌+◌, ◌-◌, ◌<◌, ◌≤◌, Bool, true, false, ◌&&◌, ℤ, pos, nat_abs, ◌+ℤ◌, ◌-ℤ◌, ◌*ℤ◌, ◌≤ℤ◌}
-use Rattle.std.proofs.Common.{◌<ℤ◌, refl, sym, ap, subst, ◌∙◌, arith}
-use Rattle.std.specs.Prelude.{nat_lt, int_le}
+use Rattle.std.proofs.Common.{◌≡◌, ◌⊎◌, inl, inr, ℕ, zero, suc, ◌+◌, ◌-◌, ◌<◌, ◌≤◌, Bool, true, false, ◌&&◌, ℤ, pos, nat_abs, ◌+ℤ◌, ◌-ℤ◌, ◌*ℤ◌}
+use Rattle.std.proofs.Common.{refl, sym, ap, subst, ◌∙◌, arith}
+use Rattle.std.specs.Prelude.{nat_lt}
 use Rattle.std.proofs.lemmas.Int.{ints}
-use Rattle.std.proofs.lemmas.Bool.{cases_lt, eq-eqb}
+use Rattle.std.proofs.lemmas.Bool.{cases_lt}
 use Rattle.std.proofs.lemmas.Bool.Decides.{nat_tests}
-use Rattle.rr_model.specs.Whole.{divides, floor_mod}
+use Rattle.rr_model.specs.Whole.{divides}
 use Rattle.rr_model.specs.Whole.Count.{count_from}
 use Rattle.rr_model.specs.Calendar.{is_leap, days_in_year, days_in_month, days_of_months, first_day_of_year, year_of, month_of}
 use Rattle.rr_model.specs.Moment.{day_part, moment_at}
@@ -15,22 +15,23 @@ use Rattle.rr_model.specs.Rule.Validity.{IsValidRule}
 use Rattle.rr_model.specs.Rule.Candidate.{interval_holds, date_parts_hold, is_candidate}
 use Rattle.rr_model.specs.Rule.Chosen.{is_chosen}
 use Rattle.rr_model.specs.Rule.DaysAndTimes.{seconds_of, time_holds, day_holds}
-use Rattle.rr_model.specs.Sets.Tree.{has_second}
 use Rattle.rr_model.specs.declared.kind.Kind.{Kind}
-use Rattle.rr_model.specs.declared.kind.Kind.TheVariants.{Days, Moments}
+use Rattle.rr_model.specs.declared.kind.Kind.TheVariants.{Days}
 use Rattle.rr_model.specs.declared.rule.Freq.{Freq}
 use Rattle.rr_model.specs.declared.rule.Freq.TheVariants.{Monthly, Yearly}
 use Rattle.rr_model.specs.declared.rule.Rule.{Rule}
-use Rattle.rr_model.proofs.WholeLemmas.{floor_whole, floor_mod_below}
 use Rattle.rr_model.proofs.CountLemmas.{one, count_from-zero, count_from-suc}
 use Rattle.rr_model.proofs.CalendarLemmas.{year_of_is, first_day_of_year-next, days_of_months-all, days_of_months_mono, IsDate-year_of}
 use Rattle.rr_model.proofs.DaysAndTimesLemmas.{candidates_are_days_and_times, day_at, second_at}
+use Rattle.rr_model.proofs.DividesLemmas.{one_divides}
+use Rattle.rr_model.proofs.TestLemmas.{has_second_not}
 use Rattle.rr_cal.proofs.StretchLemmas.{month_start, month_end, units_are_stretches}
 use Rattle.rr_setpos.specs.Ranks.{first_of_unit, next_of_unit, days_before, days_of_unit, rank_by_parts, size_by_parts, is_rank_listed}
 use Rattle.rr_setpos.proofs.PositionLemmas.{chosen_candidate, chosen_no_candidate}
 use Rattle.rr_expand.specs.Years.{Filling, allows_day, mask_key}
 use Rattle.rr_expand.proofs.KeyLemmas.{told_by_keys, days_in_year-alike}
 use Rattle.rr_expand.proofs.KeyWeekLemmas.{equal_keys_have_equal_masks}
+use Rattle.rr_iter.proofs.RepeatLemmas.{after_start}
 use Rattle.rr_fold.specs.Years.{LeavesNoUnitOut, EqualKeysHaveEqualDays, EqualKeysHaveEqualLengths}
 
 -- ---- lengths
@@ -175,35 +176,12 @@ module _ (w : ℕ) (y z : ℤ) (k : ℕ) (leap : is_leap y ≡ is_leap z) (low :
 
 -- ---- what stands at a second of a day
 
--- a day has the seconds of its kind
-has_second_is : (kind : Kind) (s : ℕ) → s < seconds_of kind → has_second kind s ≡ true
-has_second_is Days s l = grind (arith, nat_tests)
-has_second_is Moments s l = grind (arith, nat_tests)
-
--- and no others
-pub has_second_not : (kind : Kind) (s : ℕ) → seconds_of kind ≤ s → has_second kind s ≡ false
-has_second_not Days s l = grind (arith, nat_tests)
-has_second_not Moments s l = grind (arith, nat_tests)
-
--- each second of a day after the start's day is after the start
-pub not_before : (kind : Kind) (start d : ℤ) (s : ℕ) → day_part kind start <ℤ d → int_le start (moment_at kind d s) ≡ true
-not_before Days start d s h = grind (arith, ints)
-not_before Moments start d s h =
-    let w = floor_whole start 86_400 (omega arith) in
-    let r = floor_mod_below start 86_400 (omega arith) in
-    let m : start ≤ℤ moment_at Moments d s = omega (arith, ints, w, r, h) in
-    grind (arith, ints)
-
--- each number fits the interval 1
-fits_one : (x : ℤ) → divides 1 x ≡ true
-fits_one x = eq-eqb (floor_mod x 1) 0 (omega (arith, floor_mod_below x 1 (omega arith)))
-
 -- where no unit is left out the date parts decide
 day_holds-each : (rule : Rule) (start_day d : ℤ) → rule.interval ≡ 1 → day_holds rule start_day d ≡ date_parts_hold (filled rule Days start_day) d
 day_holds-each rule start_day d each =
     let fits : interval_holds rule Days start_day d ≡ true =
     subst (λ n. divides n (unit_number rule.freq rule.week_start Days d -ℤ unit_number rule.freq rule.week_start Days start_day) ≡ true) (sym each)
-    (fits_one (unit_number rule.freq rule.week_start Days d -ℤ unit_number rule.freq rule.week_start Days start_day)) in
+    (one_divides (unit_number rule.freq rule.week_start Days d -ℤ unit_number rule.freq rule.week_start Days start_day)) in
     rw fits refl
 
 -- of two tests that hold, what is left of the conjunctions
@@ -295,8 +273,8 @@ equal_keys_have_equal_days rule kind start y z valid years repeats after late ke
           let there : ℤ = first_day_of_year z +ℤ pos k in
           let chosen = chosen-same rule kind start (moment_at kind here s) (moment_at kind there s) valid
           (candidate-same rule kind start y z valid repeats keys k low s l) (listed-same rule kind start y z valid repeats keys k low s l) in
-          let a = not_before kind start here s (omega (arith, ints, after)) in
-          let b = not_before kind start there s (omega (arith, ints, late)) in
+          let a = after_start kind start here s (omega (arith, ints, after)) in
+          let b = after_start kind start there s (omega (arith, ints, late)) in
           rw (chosen, a, b) refl)
       | inr g ↦ rw (has_second_not kind s g) refl
     ]

@@ -8,7 +8,7 @@ use Rattle.std.proofs.lemmas.Bool.{cases_eq, cases_lt}
 use Rattle.std.proofs.lemmas.Grind.{get_or-set_at}
 use Rattle.std.proofs.lemmas.Int.{clamps, ints}
 use Rattle.std.proofs.lemmas.List.{get_or-set_other, length-set}
-use Rattle.std.proofs.lemmas.Option.{get_or_from_slice_get, slice_get-get_or, slice_get_within}
+use Rattle.std.proofs.lemmas.Option.{get_or_from_slice_get, slice_get-get_or, slice_get_within, same_Some}
 use Rattle.rr_model.specs.Bounds.{first_day_of_all}
 use Rattle.rr_model.proofs.CalendarLemmas.{IsInYear-year_of, days_in_year_bounds, first_day_of_year_bounds, first_day_of_year-next}
 use Rattle.rr_model.proofs.RisingSetLemmas.{set_same}
@@ -102,9 +102,6 @@ none_kept rule period first days kept whole none = record {
       absurd (cc));
 }
 
-some_place : (a b : ℕ) → Some a ≡ Some b → a ≡ b
-some_place a b e = cc
-
 -- a year that is over is kept at its slot
 pub one_kept : (rule : Rule) (period : ℕ) (first year : ℤ) (days days' index : ℕ) (kept : List (Option ℕ)) → days ≤ days' → AreKeptYears rule period first days kept
     → year_slot rule period first year < 56 * period → first <ℤ first_day_of_year year → first_day_of_year year ≡ first +ℤ pos index → index + days_in_year year ≤ days'
@@ -120,7 +117,7 @@ one_kept rule period first year days days' index kept more are low after begins 
           elim (cases_eq n key) [
             | inl same ↦ (
                 let found : index ≡ p =
-                some_place index p (sym (get_or-set_at kept key n (Some index) None same (omega (arith, low, are.places))) ∙ here) in
+                same_Some index p (sym (get_or-set_at kept key n (Some index) None same (omega (arith, low, are.places))) ∙ here) in
                 record { year = year; of_slot = sym same; after = after; begins = rw (sym found) begins; ends = rw (sym found) ends })
             | inr other ↦ (
                 let m : n < length kept = omega (arith, length-set kept key (Some index), slice_get_within new n (Some p) e) in

@@ -1,17 +1,18 @@
 -- The counterpart starts at the first occurrence, and a recurrence without one is refused.
-use Rattle.std.proofs.Common.{◌≡◌, List, [], ◌∷◌, ℤ, ◌≤ℤ◌, inl, inr, refl, arith, Option, None, Some, Err}
-use Rattle.std.specs.List.{Contains}
+use Rattle.std.proofs.Common.{◌≡◌, List, [], ℤ, ◌≤ℤ◌, inl, inr, refl, arith, Option, None, Some, Err}
 use Rattle.std.proofs.lemmas.Int.{ints}
 use Rattle.rr_model.specs.declared.kind.Kind.{Kind}
 use Rattle.rr_model.specs.declared.refusal.Refusal.TheVariants.{NoOccurrence}
 use Rattle.rr_model.specs.declared.rule.Rule.{Rule}
 use Rattle.rr_model.specs.declared.rule.Series.{Series}
-use Rattle.rr_model.specs.Series.Occurrences.{IsMemberOfSome, Occurs}
+use Rattle.rr_model.specs.Series.Occurrences.{Occurs}
 use Rattle.rr_model.specs.Graph.Counterpart.{series_from, series_of_repeat, series_of_graph}
 use Rattle.rr_model.specs.Graph.Occurrences.{first_repeat_day}
 use Rattle.rr_model.specs.Graph.Reading.{with_occurrence}
 use Rattle.rr_model.specs.declared.graph.Repeat.{Repeat}
 use Rattle.rr_model.specs.declared.graph.Repeat.TheVariants as repeat
+use Rattle.rr_model.proofs.RisingSetLemmas.{Contains-none}
+use Rattle.rr_model.proofs.YearOneLemmas.{member_late}
 use Rattle.rr_graph.specs.FirstOccurrence.{GraphCounterpartStartsFirst, RefusedWhereNoneOccurs}
 use Rattle.rr_pattern.proofs.FirstDayLemmas.{none_is_none}
 use Rattle.rr_graph.proofs.OccurrenceLemmas.{counterpart_has_occurrences}
@@ -24,20 +25,12 @@ use Rattle.rr_pattern.proofs.ValidPatternLemmas.{range_counts}
 abbrev StartsFirst : Series → Kind → Type 0
 StartsFirst series kind = Occurs series kind series.start × ((t : ℤ) → Occurs series kind t → series.start ≤ℤ t)
 
-none_contained : (t : ℤ) → Contains [] t → ⊥
-none_contained t c = omega (arith, c.1)
-
-member_not_before : (rules : List Rule) (kind : Kind) (start t : ℤ) → IsMemberOfSome rules kind start t → start ≤ℤ t
-member_not_before [] kind start t m = absurd m
-member_not_before (rule ∷ rules) kind start t (inl m) = m.not_before
-member_not_before (rule ∷ rules) kind start t (inr m) = member_not_before rules kind start t m
-
 from_starts_first : (kind : Kind) (start : ℤ) (rules : List Rule) → StartsFirst (series_from kind start rules) kind
 from_starts_first kind start rules = (
-  record { kind = refl; stands = inl (refl, refl); kept = none_contained start; not_excluded = λ m. m },
+  record { kind = refl; stands = inl (refl, refl); kept = Contains-none start; not_excluded = λ m. m },
   λ t o. elim o.stands [
     | inl s ↦ omega (arith, ints, s.1)
-    | inr m ↦ elim m [ inl a ↦ member_not_before rules kind start t a | inr p ↦ absurd (none_contained t p) ]
+    | inr m ↦ elim m [ inl a ↦ member_late rules kind start t a | inr p ↦ absurd (Contains-none t p) ]
   ],
 )
 

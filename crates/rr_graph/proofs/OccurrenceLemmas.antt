@@ -1,7 +1,6 @@
 -- A valid event has the occurrences of its counterpart, and keeps them where it starts at the first of them.
-use Rattle.std.proofs.Common.{◌≡◌, ◌↔◌, [], ℤ, inl, inr, refl, sym, ap, ◌∙◌, subst, arith}
+use Rattle.std.proofs.Common.{◌≡◌, ◌↔◌, ℤ, inl, inr, refl, sym, ap, ◌∙◌, subst}
 use Rattle.std.specs.Prelude.{unwrap_or}
-use Rattle.std.specs.List.{Contains}
 use Rattle.std.proofs.lemmas.Bool.{eq-eqb, and_from}
 use Rattle.rr_model.specs.Moment.{day_part, second_part, moment_at}
 use Rattle.rr_model.specs.declared.kind.Kind.{Kind}
@@ -14,6 +13,7 @@ use Rattle.rr_model.specs.Moment.Years.{IsInYears}
 use Rattle.rr_model.specs.Series.Occurrences.{Occurs}
 use Rattle.rr_model.specs.declared.graph.Repeat.{Repeat}
 use Rattle.rr_model.specs.declared.graph.Repeat.TheVariants as repeat
+use Rattle.rr_model.proofs.RisingSetLemmas.{Contains-none}
 use Rattle.rr_graph.specs.Moved.{repeat_from, MovingStartKeepsOccurrences}
 use Rattle.rr_pattern.proofs.PatternParts.{PatternIsSynchronised}
 use Rattle.rr_pattern.proofs.PatternLemmas.{pattern_chooses}
@@ -31,21 +31,18 @@ pattern_is_synchronised pattern range end kind start first valid good found =
     (ap (λ d. is_pattern_day pattern d d) (at_day kind start first) ∙ same_from_first pattern range.start_day first first valid.0 f.has_it.in_pattern
     ∙ f.has_it.in_pattern)
 
-none_contained : (t : ℤ) → Contains [] t → ⊥
-none_contained t c = omega (arith, c.1)
-
 module _ (kind : Kind) (start t : ℤ) (years : IsInYears kind start) where
   repeat_occurs : (r : Repeat) → IsRepeatFrom (day_part kind start) r → OccursAt r kind start t ↔ Occurs (series_of_repeat r kind start) kind t
   repeat_occurs repeat.Once v = (
-    (λ e. record { kind = refl; stands = inl (refl, e); kept = none_contained t; not_excluded = λ m. m }),
-    (λ o. elim o.stands [ inl s ↦ s.1 | inr m ↦ elim m [ inl a ↦ absurd a | inr p ↦ absurd (none_contained t p) ] ]),
+    (λ e. record { kind = refl; stands = inl (refl, e); kept = Contains-none t; not_excluded = λ m. m }),
+    (λ o. elim o.stands [ inl s ↦ s.1 | inr m ↦ elim m [ inl a ↦ absurd a | inr p ↦ absurd (Contains-none t p) ] ]),
   )
   repeat_occurs (repeat.Pattern pattern range) v =
       let first = v.3.0 in
       let found = v.3.1 in
       let good = counted_range range kind start years v.2 v.1 in
       let same = same_occurrences pattern range kind start first t (used_members pattern v.0) good v.2 found in (
-        (λ h. record { kind = refl; stands = inr (inl (inl (same.0 h))); kept = none_contained t; not_excluded = λ m. m }),
+        (λ h. record { kind = refl; stands = inr (inl (inl (same.0 h))); kept = Contains-none t; not_excluded = λ m. m }),
         (λ o. elim o.stands [
           | inl s ↦ (
               let here : t ≡ moment_at kind first (second_part kind start) =
@@ -54,7 +51,7 @@ module _ (kind : Kind) (start t : ℤ) (years : IsInYears kind start) where
                 ap (second_part kind) here ∙ at_time kind start first,
                 subst (IsRepeatDay pattern range) (sym day) (found_is_first pattern range first good found).has_it,
               ))
-          | inr m ↦ elim m [ inl a ↦ elim a [ inl b ↦ same.1 b | inr c ↦ absurd c ] | inr p ↦ absurd (none_contained t p) ]
+          | inr m ↦ elim m [ inl a ↦ elim a [ inl b ↦ same.1 b | inr c ↦ absurd c ] | inr p ↦ absurd (Contains-none t p) ]
         ]),
       )
 

@@ -28,14 +28,12 @@ use Rattle.rr_model.specs.declared.refusal.Member.TheVariants as of
 use Rattle.rr_model.specs.declared.refusal.Refusal.{Refusal}
 use Rattle.rr_model.specs.declared.refusal.Refusal.TheVariants.{BadMember}
 use Rattle.rr_text.proofs.WrittenExtendedLemmas.{extended_date-written}
+use Rattle.rr_text.proofs.StepLemmas.{result_ok}
 
 -- ---- steps
 
 pub next : {A B : Type 0} (m : Result A Refusal) (x : A) (f : A → Result B Refusal) (r : Result B Refusal) → m ≡ Ok x → f x ≡ r → m >>= f ≡ r
 next {A} m x f r e h = ap (λ (o : Result A Refusal). o >>= f) e ∙ h
-
-abbrev read_ok : {A : Type 0} → A → Result A Refusal
-read_ok x = Ok x
 
 abbrev some_or : {A : Type 0} → Member → Option A → Result A Refusal
 some_or member o = ok_or o (BadMember member)
@@ -174,49 +172,49 @@ module _ (n day month days first : ℕ) (index : ℤ) where
   days-read : (form : Form) → LiesIfUsed (uses_days form) 1 127 0 days
       → if_used (uses_days form) 0 (days_in (pattern_data (made form n day month days first index))) ≡ Ok days
   unfolding days_in
-  days-read Daily h = ap read_ok (sym h)
+  days-read Daily h = ap result_ok (sym h)
   days-read Weekly h = ap (some_or of.DaysOfWeek) (day_names-read days h.0 h.1)
-  days-read AbsoluteMonthly h = ap read_ok (sym h)
+  days-read AbsoluteMonthly h = ap result_ok (sym h)
   days-read RelativeMonthly h = ap (some_or of.DaysOfWeek) (day_names-read days h.0 h.1)
-  days-read AbsoluteYearly h = ap read_ok (sym h)
+  days-read AbsoluteYearly h = ap result_ok (sym h)
   days-read RelativeYearly h = ap (some_or of.DaysOfWeek) (day_names-read days h.0 h.1)
 
   first_day-read : (form : Form) → LiesIfUsed (uses_first_day form) 0 6 6 first
       → if_used (uses_first_day form) 6 (first_day_in (pattern_data (made form n day month days first index))) ≡ Ok first
   unfolding first_day_in
-  first_day-read Daily h = ap read_ok (sym h)
+  first_day-read Daily h = ap result_ok (sym h)
   first_day-read Weekly h = ap (some_or of.FirstDayOfWeek) (day_named-day_text first (omega (arith, h.1)))
-  first_day-read AbsoluteMonthly h = ap read_ok (sym h)
-  first_day-read RelativeMonthly h = ap read_ok (sym h)
-  first_day-read AbsoluteYearly h = ap read_ok (sym h)
-  first_day-read RelativeYearly h = ap read_ok (sym h)
+  first_day-read AbsoluteMonthly h = ap result_ok (sym h)
+  first_day-read RelativeMonthly h = ap result_ok (sym h)
+  first_day-read AbsoluteYearly h = ap result_ok (sym h)
+  first_day-read RelativeYearly h = ap result_ok (sym h)
 
   index-read : (form : Form) → IsIndex (uses_index form) index
       → if_used (uses_index form) (pos 1) (index_in (pattern_data (made form n day month days first index))) ≡ Ok index
   unfolding index_in
-  index-read Daily h = ap read_ok (sym h)
-  index-read Weekly h = ap read_ok (sym h)
-  index-read AbsoluteMonthly h = ap read_ok (sym h)
+  index-read Daily h = ap result_ok (sym h)
+  index-read Weekly h = ap result_ok (sym h)
+  index-read AbsoluteMonthly h = ap result_ok (sym h)
   index-read RelativeMonthly h = ap (some_or of.Index) (index_named-index_text index h)
-  index-read AbsoluteYearly h = ap read_ok (sym h)
+  index-read AbsoluteYearly h = ap result_ok (sym h)
   index-read RelativeYearly h = ap (some_or of.Index) (index_named-index_text index h)
 
   day-read : (form : Form) → LiesIfUsed (uses_day_of_month form) 1 31 0 day
       → if_used (uses_day_of_month form) 0
       (within of.DayOfMonth 1 31 (number_in (codes "dayOfMonth") (pattern_data (made form n day month days first index)))) ≡ Ok day
-  day-read Daily h = ap read_ok (sym h)
-  day-read Weekly h = ap read_ok (sym h)
+  day-read Daily h = ap result_ok (sym h)
+  day-read Weekly h = ap result_ok (sym h)
   day-read AbsoluteMonthly h = within-ok of.DayOfMonth 1 31 day h.0 h.1
-  day-read RelativeMonthly h = ap read_ok (sym h)
+  day-read RelativeMonthly h = ap result_ok (sym h)
   day-read AbsoluteYearly h = within-ok of.DayOfMonth 1 31 day h.0 h.1
-  day-read RelativeYearly h = ap read_ok (sym h)
+  day-read RelativeYearly h = ap result_ok (sym h)
 
   month-read : (form : Form) → LiesIfUsed (uses_month form) 1 12 0 month
       → if_used (uses_month form) 0 (within of.Month 1 12 (number_in (codes "month") (pattern_data (made form n day month days first index)))) ≡ Ok month
-  month-read Daily h = ap read_ok (sym h)
-  month-read Weekly h = ap read_ok (sym h)
-  month-read AbsoluteMonthly h = ap read_ok (sym h)
-  month-read RelativeMonthly h = ap read_ok (sym h)
+  month-read Daily h = ap result_ok (sym h)
+  month-read Weekly h = ap result_ok (sym h)
+  month-read AbsoluteMonthly h = ap result_ok (sym h)
+  month-read RelativeMonthly h = ap result_ok (sym h)
   month-read AbsoluteYearly h = within-ok of.Month 1 12 month h.0 h.1
   month-read RelativeYearly h = within-ok of.Month 1 12 month h.0 h.1
 

@@ -1,7 +1,7 @@
 -- A pattern that is read is valid.
 use Rattle.std.proofs.Common.{◌≡◌, ℕ, zero, suc, ◌<◌, ◌≤◌, ◌^◌, ◌&&◌, nat_le, bit_or, Bool, true, false, if◌then◌else◌, List, [], ◌∷◌, Option}
 use Rattle.std.proofs.Common.{None, Some, Result, Ok, Err, refl, sym, subst, inl, inr, ℤ, pos, neg_ℤ, option_and_then, arith}
-use Rattle.std.specs.Prelude.{ok_or, codes, IfOk}
+use Rattle.std.specs.Prelude.{codes, IfOk}
 use Rattle.std.specs.List.{AllByRecursion}
 use Rattle.std.specs.Str.{str_eq_ignore_ascii_case}
 use Rattle.std.proofs.lemmas.Bool.Decides.{nat_tests}
@@ -9,7 +9,6 @@ use Rattle.std.proofs.lemmas.Int.{ints}
 use Rattle.std.proofs.lemmas.Nat.{or_lt, le_or_r}
 use Rattle.serde_json.specs.Data.{Data, Items, no_items, item}
 use Rattle.serde_json.specs.Find.{as_str, as_array}
-use Rattle.rr_model.specs.Text.RuleValues.{◌>>=◌}
 use Rattle.rr_model.specs.Graph.Members.{member_of, number_in, within, named, day_named, index_named}
 use Rattle.rr_model.specs.Graph.Reading.{if_used, form_in, interval_within, interval_in, days_after, days_of_names, days_in, named_or, first_day_in}
 use Rattle.rr_model.specs.Graph.Reading.{index_in, pattern_of}
@@ -21,26 +20,7 @@ use Rattle.rr_model.specs.declared.refusal.Member.{Member}
 use Rattle.rr_model.specs.declared.refusal.Member.TheVariants as of
 use Rattle.rr_model.specs.declared.refusal.Refusal.{Refusal}
 use Rattle.rr_model.specs.declared.refusal.Refusal.TheVariants.{BadMember, IntervalTooLarge}
-
--- ---- steps
-
-and_then_ok : {A B : Type 0} (m : Result A Refusal) (f : A → Result B Refusal) (y : B) → m >>= f ≡ Ok y → (x : A) × (m ≡ Ok x) × (f x ≡ Ok y)
-and_then_ok (Ok x) f y h = (x, refl, h)
-and_then_ok (Err r) f y h = absurd (cc)
-
-ok_or_ok : {A : Type 0} (o : Option A) (r : Refusal) (x : A) → ok_or o r ≡ Ok x → o ≡ Some x
-ok_or_ok None r x h = absurd (cc)
-ok_or_ok (Some y) r x h = cc
-
-abbrev result_ok : {A : Type 0} → A → Result A Refusal
-result_ok x = Ok x
-
-ok_same : {A : Type 0} (x y : A) → result_ok x ≡ result_ok y → x ≡ y
-ok_same x y h = cc
-
-and_then_some : {A B : Type 0} (o : Option A) (f : A → Option B) (y : B) → option_and_then f o ≡ Some y → (x : A) × (o ≡ Some x) × (f x ≡ Some y)
-and_then_some None f y h = absurd (cc)
-and_then_some (Some x) f y h = (x, refl, h)
+use Rattle.rr_text.proofs.StepLemmas.{and_then_ok, ok_or_ok, ok_same, and_then_some}
 
 -- ---- names
 
@@ -84,7 +64,7 @@ index-is text index h =
 
 -- ---- numbers
 
-within-lies : (member : Member) (least most : ℕ) (o : Option ℕ) (n : ℕ) → within member least most o ≡ Ok n → (least ≤ n) × (n ≤ most)
+pub within-lies : (member : Member) (least most : ℕ) (o : Option ℕ) (n : ℕ) → within member least most o ≡ Ok n → (least ≤ n) × (n ≤ most)
 within-lies member least most None n h = absurd (cc)
 within-lies member least most (Some m) n h = by (nat_le least m) (nat_le m most) refl refl h
   where

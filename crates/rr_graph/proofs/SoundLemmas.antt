@@ -1,7 +1,7 @@
 -- The counterpart of a valid event is valid, and its rule fits its start.
 use Rattle.std.proofs.Common.{◌≡◌, [], ◌∷◌, ℤ, ◌≤ℤ◌, refl, sym, subst, arith, Result, Ok, Err}
-use Rattle.std.specs.Prelude.{All, IfOk, unwrap_or}
-use Rattle.std.proofs.lemmas.List.Elements.{All-cons}
+use Rattle.std.specs.Prelude.{IfOk, unwrap_or}
+use Rattle.std.proofs.lemmas.List.Elements.{All-cons, All-nil}
 use Rattle.rr_model.specs.Moment.{day_part, second_part, moment_at}
 use Rattle.rr_model.specs.Moment.Years.{IsInYears}
 use Rattle.rr_model.specs.Rule.Validity.{EndsInYears, HasCountInRange, IsValidRule}
@@ -26,9 +26,6 @@ use Rattle.rr_pattern.proofs.RepeatLemmas.{at_day, at_time, not_after, rule_end}
 use Rattle.rr_graph.proofs.OccurrenceLemmas.{pattern_is_synchronised}
 use Rattle.rr_pattern.proofs.ValidPatternLemmas.{used_members, few_intervals, counted_range}
 use Rattle.rr_pattern.proofs.ValidRuleLemmas.{pattern_counterpart_is_valid}
-
-nothing : {X : Type 0} (P : X → Type 0) → All P []
-nothing P = λ k d l. absurd (omega arith)
 
 -- a moment at the start's second of a day of these years
 at_in_years : (kind : Kind) (start day : ℤ) → IsInYears Days day → IsInYears kind (moment_at kind day (second_part kind start))
@@ -59,19 +56,19 @@ alone kind start years = record {
   valid = record {
     start = years;
     start_counts = λ e. absurd (cc);
-    rules = nothing _;
-    excluded = nothing _;
+    rules = All-nil _;
+    excluded = All-nil _;
     few_rules = omega arith;
-    ends = nothing _;
-    excluded_ends = nothing _;
-    plus = nothing _;
-    minus = nothing _;
+    ends = All-nil _;
+    excluded_ends = All-nil _;
+    plus = All-nil _;
+    minus = All-nil _;
     plus_rises = tt;
     minus_rises = tt;
     few_dates = omega arith;
   };
-  rules = nothing _;
-  excluded = nothing _;
+  rules = All-nil _;
+  excluded = All-nil _;
 }
 
 with_rule : (kind : Kind) (start : ℤ) (rule : Rule) → IsInYears kind start → IsValidRule kind rule → EndsInYears rule.end → FitsStart kind start rule
@@ -80,19 +77,19 @@ with_rule kind start rule years valid end fits = record {
   valid = record {
     start = years;
     start_counts = λ e. absurd (cc);
-    rules = All-cons (IsValidRule kind) rule [] valid (nothing _);
-    excluded = nothing _;
+    rules = All-cons (IsValidRule kind) rule [] valid (All-nil _);
+    excluded = All-nil _;
     few_rules = omega arith;
-    ends = All-cons (λ r. EndsInYears r.end) rule [] end (nothing _);
-    excluded_ends = nothing _;
-    plus = nothing _;
-    minus = nothing _;
+    ends = All-cons (λ r. EndsInYears r.end) rule [] end (All-nil _);
+    excluded_ends = All-nil _;
+    plus = All-nil _;
+    minus = All-nil _;
     plus_rises = tt;
     minus_rises = tt;
     few_dates = omega arith;
   };
-  rules = All-cons (FitsStart kind start) rule [] fits (nothing _);
-  excluded = nothing _;
+  rules = All-cons (FitsStart kind start) rule [] fits (All-nil _);
+  excluded = All-nil _;
 }
 
 repeat_is_sound : (r : Repeat) (kind : Kind) (start : ℤ) → IsInYears kind start → IsRepeatFrom (day_part kind start) r → IsSound (series_of_repeat r kind start)

@@ -19,6 +19,7 @@ use Rattle.rr_model.specs.declared.graph.Pattern.{Pattern}
 use Rattle.rr_model.specs.declared.kind.Kind.TheVariants.{Days}
 use Rattle.rr_model.specs.declared.rule.Freq.{Freq}
 use Rattle.rr_model.specs.declared.sketch.Sketch.{Sketch}
+use Rattle.rr_model.proofs.DividesLemmas.{one_divides}
 use Rattle.rr_family.specs.DaySets.{window_days}
 use Rattle.rr_family.specs.GraphProfile.{form_place}
 use Rattle.rr_family.specs.Divisors.{HasDivisors, IsFinite, IsLeftOut, ReachesEnd, divisor_of}
@@ -30,7 +31,7 @@ use Rattle.rr_family.specs.declared.divisors.Divisors.{Divisors}
 use Rattle.rr_family.specs.declared.window.Window.{Window}
 use Rattle.rr_family.specs.declared.window.WindowEnd.{WindowEnd}
 use Rattle.rr_family.specs.declared.window.WindowEnd.TheVariants.{Last, Cycle}
-use Rattle.rr_family.proofs.DivisorLemmas.{divides_none, interval_divides, one_divides, one_unit}
+use Rattle.rr_family.proofs.DivisorLemmas.{divides_none, interval_divides, one_unit}
 use Rattle.rr_family.proofs.LastingLemmas.{agreement_on_cycle_lasts}
 use Rattle.rr_family.proofs.PlaceLemmas.{one_form, one_weekday, weekday_most}
 use Rattle.rr_family.proofs.ProfileLemmas.{last_is_late}

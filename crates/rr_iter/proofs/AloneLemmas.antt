@@ -9,7 +9,7 @@ use Rattle.rr_model.specs.Moment.Years.{IsInYears}
 use Rattle.rr_model.specs.Rule.Candidate.{lists}
 use Rattle.rr_model.specs.Rule.Chosen.{is_chosen, IsSynchronised}
 use Rattle.rr_model.specs.Rule.Member.{IsWithinEnd, members_to}
-use Rattle.rr_model.specs.Rule.Validity.{HasCountInRange, IsValidRule, is_absent}
+use Rattle.rr_model.specs.Rule.Validity.{HasCountInRange, IsValidRule}
 use Rattle.rr_model.specs.Series.Soundness.{EndsNotBefore, FitsStart, IsSound}
 use Rattle.rr_model.specs.Series.Tree.{members_of, tree_of}
 use Rattle.rr_model.specs.Sets.Tree.{Tree, IsOfOneKind, is_among, has_second, stands_at, stands_in}
@@ -105,7 +105,3 @@ pub one_rule : (rules : List Rule) → length rules ≡ 1 → (rule : Rule) × (
 one_rule [] e = absurd (omega (arith, e))
 one_rule (rule ∷ []) e = (rule, refl)
 one_rule (rule ∷ other ∷ rules) e = absurd (omega (arith, e))
-
-pub none_is : {X : Type 0} (xs : List X) → is_absent xs ≡ true → xs ≡ []
-none_is [] e = refl
-none_is (x ∷ xs) e = absurd (false≢true e)

@@ -34,7 +34,7 @@ pub before_later_day : (kind : Kind) (t d : ℤ) (s : ℕ) → day_part kind t <
 before_later_day Days t d s l = l
 before_later_day Moments t d s l = omega (arith, ints, l, floor_whole t 86_400 (omega arith), floor_mod_below t 86_400 (omega arith))
 
-after_start : (kind : Kind) (start d : ℤ) (s : ℕ) → day_part kind start <ℤ d → int_le start (moment_at kind d s) ≡ true
+pub after_start : (kind : Kind) (start d : ℤ) (s : ℕ) → day_part kind start <ℤ d → int_le start (moment_at kind d s) ≡ true
 after_start kind start d s l = let m = before_later_day kind start d s l in grind (arith, ints)
 
 module _ (rule : Rule) (kind : Kind) (start : ℤ) where

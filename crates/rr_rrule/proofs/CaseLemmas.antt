@@ -37,7 +37,8 @@ use Rattle.rr_model.specs.declared.used.Scan.{Scan}
 use Rattle.rr_model.specs.declared.used.UsedLine.{UsedLine}
 use Rattle.rr_rrule.specs.TextLaws.{CaseDoesNotMatter}
 use Rattle.rr_text.proofs.BlankLemmas.{trim-mapped}
-use Rattle.rr_rrule.proofs.ScanLemmas.{after_same, scan_by_passes}
+use Rattle.rr_text.proofs.StepLemmas.{step_same}
+use Rattle.rr_rrule.proofs.ScanLemmas.{scan_by_passes}
 
 -- ---- bytes
 
@@ -451,7 +452,7 @@ in_turn-mapped : {X Y : Type 0} (step : X → Y → Result X Refusal) (f : Y →
     → in_turn step x (map f ys) ≡ in_turn step x ys
 in_turn-mapped step f same [] x = refl
 in_turn-mapped step f same (y ∷ ys) x =
-    ap (λ r. r >>= λ next. in_turn step next (map f ys)) (same x y) ∙ after_same (step x y) _ _ (in_turn-mapped step f same ys)
+    ap (λ r. r >>= λ next. in_turn step next (map f ys)) (same x y) ∙ step_same (step x y) _ _ (in_turn-mapped step f same ys)
 
 has_slash-lowered : (text : List ℕ) → has_slash (lowered text) ≡ has_slash text
 has_slash-lowered text = any_lowered (λ b. b == 47) (λ b. below_letters 47 b (omega arith)) text

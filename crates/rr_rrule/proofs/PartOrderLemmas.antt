@@ -6,7 +6,7 @@ use Rattle.std.specs.Char.{to_ascii_uppercase}
 use Rattle.std.specs.List.{list_all, join_with_byte, onto_first, prefix_len, take_while}
 use Rattle.std.specs.Str.{bytes_eq, str_to_ascii_uppercase}
 use Rattle.std.proofs.Math.Seq.{drop-append_seam}
-use Rattle.std.proofs.lemmas.Bool.{and_parts, and_from}
+use Rattle.std.proofs.lemmas.Bool.{and_parts, and_from, not-true}
 use Rattle.std.proofs.lemmas.Bool.Decides.{nat_tests}
 use Rattle.std.proofs.lemmas.List.{take_all, length-append, length-map, map-append, reverse-append}
 use Rattle.std.proofs.lemmas.List.Folds.{list_all-append}
@@ -27,10 +27,10 @@ use Rattle.rr_model.specs.declared.rule_parts.RuleParts.{RuleParts}
 use Rattle.rr_model.specs.declared.stamp.Stamp.{Stamp}
 use Rattle.rr_model.specs.declared.used.LineName.TheVariants.{Rrule}
 use Rattle.rr_model.specs.declared.used.UsedLine.{UsedLine}
+use Rattle.rr_text.proofs.StepLemmas.{and_then_ok, not_refused, step_same}
 use Rattle.rr_rrule.specs.TextLaws.{is_part_byte, is_part, AreParts, OrderDoesNotMatter}
-use Rattle.rr_rrule.proofs.RulePartLemmas.{bind_ok, exchanged}
-use Rattle.rr_rrule.proofs.ScanLemmas.{after_same, scan_by_passes}
-use Rattle.rr_text.proofs.StepLemmas.{and_then_ok, not_refused}
+use Rattle.rr_rrule.proofs.RulePartLemmas.{exchanged}
+use Rattle.rr_rrule.proofs.ScanLemmas.{scan_by_passes}
 
 -- ---- lists of parts
 
@@ -47,15 +47,15 @@ with_parts-append line parts (x ∷ xs) ys = by (with_part line parts x) (λ mor
 with_parts-two : (line : ℕ) (parts all : RuleParts) (a b : List ℕ) (texts : List (List ℕ)) → with_parts line parts (a ∷ b ∷ texts) ≡ Ok all
     → with_parts line parts (b ∷ a ∷ texts) ≡ Ok all
 with_parts-two line parts all a b texts e =
-    let first = bind_ok (with_part line parts a) (λ more. with_parts line more (b ∷ texts)) all e in
-    let second = bind_ok (with_part line first.0 b) (λ more. with_parts line more texts) all first.2 in
+    let first = and_then_ok (with_part line parts a) (λ more. with_parts line more (b ∷ texts)) all e in
+    let second = and_then_ok (with_part line first.0 b) (λ more. with_parts line more texts) all first.2 in
     let other = exchanged line parts first.0 second.0 a b first.1 second.1 in
     rw (other.1, other.2) second.2
 
 with_parts-exchange : (line : ℕ) (parts all : RuleParts) (a b : List ℕ) (before after : List (List ℕ))
     → with_parts line parts (before ++ a ∷ b ∷ after) ≡ Ok all → with_parts line parts (before ++ b ∷ a ∷ after) ≡ Ok all
 with_parts-exchange line parts all a b before after e =
-    let front = bind_ok (with_parts line parts before) (λ more. with_parts line more (a ∷ b ∷ after)) all
+    let front = and_then_ok (with_parts line parts before) (λ more. with_parts line more (a ∷ b ∷ after)) all
     (sym (with_parts-append line parts before (a ∷ b ∷ after)) ∙ e) in
     with_parts-append line parts before (b ∷ a ∷ after) ∙ ap (λ (r : Result RuleParts Refusal). r >>= λ more. with_parts line more (b ∷ a ∷ after)) front.1
     ∙ with_parts-two line front.0 all a b after front.2
@@ -172,10 +172,6 @@ EndsInPart-append : (more text : List ℕ) → EndsInPart text → EndsInPart (m
 EndsInPart-append [] text e = e
 EndsInPart-append (b ∷ more) text e = EndsInPart-cons b (more ++ text) (EndsInPart-append more text e)
 
-not_true : (d : Bool) → not d ≡ true → d ≡ false
-not_true true e = absurd cc
-not_true false e = refl
-
 EndsInPart-bytes : (b : ℕ) (bs : List ℕ) → list_all is_part_byte (b ∷ bs) ≡ true → EndsInPart (b ∷ bs)
 EndsInPart-bytes b [] h =
     record {
@@ -183,7 +179,7 @@ EndsInPart-bytes b [] h =
           [];
       last = b;
       is_text = refl;
-      no_semicolon = not_true (b == 59) (and_parts (not (b == 59)) (is_inner b) (and_parts (is_part_byte b) true h).0).0;
+      no_semicolon = not-true (b == 59) (and_parts (not (b == 59)) (is_inner b) (and_parts (is_part_byte b) true h).0).0;
     }
 EndsInPart-bytes b (c ∷ cs) h = EndsInPart-cons b (c ∷ cs) (EndsInPart-bytes c cs (and_parts (is_part_byte b) (list_all is_part_byte (c ∷ cs)) h).1)
 
@@ -284,7 +280,7 @@ stated_rule-same line text other parts e f =
 module _ {X Y : Type 0} (step : X → Y → Result X Refusal) (y z : Y) (after : List Y) where
   in_turn-same : ((x : X) → step x y ≡ step x z) → (before : List Y) (x : X) → in_turn step x (before ++ y ∷ after) ≡ in_turn step x (before ++ z ∷ after)
   in_turn-same same [] x = ap (λ r. r >>= λ next. in_turn step next after) (same x)
-  in_turn-same same (w ∷ before) x = after_same (step x w) _ _ (in_turn-same same before)
+  in_turn-same same (w ∷ before) x = step_same (step x w) _ _ (in_turn-same same before)
 
   in_turn-reaches : (before : List Y) (x last : X) → in_turn step x (before ++ y ∷ after) ≡ Ok last → (u : X) × (v : X) × (step u y ≡ Ok v)
   in_turn-reaches [] x last h =

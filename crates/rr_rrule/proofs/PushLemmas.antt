@@ -3,10 +3,11 @@ use Rattle.std.proofs.Common.{◌≡◌, ℕ, zero, suc, ◌+◌, ◌*◌, ◌/�
 use Rattle.std.proofs.Common.{append_assoc, append-nil, length-drop}
 use Rattle.std.specs.Prelude.{codes}
 use Rattle.std.specs.List.{join_with_byte}
-use Rattle.std.proofs.lemmas.List.{drop_all, drop_more, take_min}
+use Rattle.std.proofs.lemmas.List.{drop_all, take_min}
 use Rattle.rr_model.specs.Text.Written.{calendar_written, date_line, dates_out, folded, folded_line, folded_rest, lines_of, line_break, rule_line, rule_text}
 use Rattle.rr_model.specs.declared.rule.Rule.{Rule}
 use Rattle.rr_model.specs.declared.rule.Series.{Series}
+use Rattle.rr_text.proofs.WrittenListLemmas.{one_written}
 use Rattle.rr_rrule.specs.RuleTexts.{repetition_text, date_parts_text, time_parts_text}
 
 -- ---- values
@@ -21,14 +22,6 @@ pub first_written : {X : Type 0} (f : X → List ℕ) (old out : List ℕ) (x : 
     → out ++ lines_of (λ y. 44 ∷ f y) xs ≡ old ++ join_with_byte 44 (map f (x ∷ xs))
 first_written f old out x xs e =
     ap (λ o. o ++ lines_of (λ y. 44 ∷ f y) xs) e ∙ append_assoc old (f x) (lines_of (λ y. 44 ∷ f y) xs) ∙ ap (λ t. old ++ t) (sym (join-first f x xs))
-
--- one value more
-pub one_written : {X : Type 0} (f : X → List ℕ) (out next all : List ℕ) (xs : List X) (i : ℕ) (x d : X) → i < length xs → x ≡ get_or xs i d
-    → out ++ lines_of f (drop i xs) ≡ all → next ≡ out ++ f x → next ++ lines_of f (drop (i + 1) xs) ≡ all
-one_written f out next all xs i x d l is so_far e =
-    let left = drop_more xs i d l ∙ ap (λ y. y ∷ drop (i + 1) xs) (sym is) in
-    ap (λ o. o ++ lines_of f (drop (i + 1) xs)) e ∙ append_assoc out (f x) (lines_of f (drop (i + 1) xs))
-    ∙ ap (λ ys. out ++ lines_of f ys) (sym left) ∙ so_far
 
 -- one value more, after a comma
 pub after_comma : {X : Type 0} (f : X → List ℕ) (out mid next all : List ℕ) (xs : List X) (i : ℕ) (x d : X) → i < length xs → x ≡ get_or xs i d

@@ -1,5 +1,5 @@
 -- A part of a rule by its name and its value.
-use Rattle.std.proofs.Common.{◌≡◌, ℕ, Bool, true, false, cond, not, List, [], ◌∷◌, ℤ, Option, None, Some, Result, Ok, Err, refl, sym, ap, ◌∙◌}
+use Rattle.std.proofs.Common.{◌≡◌, ℕ, Bool, true, false, cond, not, List, [], ◌∷◌, ℤ, Some, Result, Ok, Err, refl, sym, ap, ◌∙◌}
 use Rattle.std.specs.Prelude.{◌==◌, ok_or}
 use Rattle.std.specs.List.{list_all, onto_first}
 use Rattle.std.proofs.lemmas.Bool.{false≢true}
@@ -17,6 +17,8 @@ use Rattle.rr_model.specs.declared.rule_parts.PartName.{PartName}
 use Rattle.rr_model.specs.declared.rule_parts.PartName.TheVariants as part
 use Rattle.rr_model.specs.declared.rule_parts.RuleParts.{RuleParts}
 use Rattle.rr_model.specs.declared.stamp.Stamp.{Stamp}
+use Rattle.rr_model.proofs.WithValueLemmas.{with_value-some}
+use Rattle.rr_text.proofs.StepLemmas.{ok_or_ok, and_then_ok, not_refused}
 
 -- what a part holds
 abbrev pub Value : PartName → Type 0
@@ -154,15 +156,6 @@ is_present-put_other parts part.BySetPos m x other = refl
 
 -- ---- a part that is read stands
 
-with_value-some : {X : Type 0} (below : X → X → Bool) (list : List X) (x : X) → is_absent (with_value below list x) ≡ false
-with_value-some below [] x = refl
-with_value-some below (y ∷ ys) x = by (below y x) (below x y)
-  where
-    by : (b d : Bool) → is_absent (cond b (y ∷ with_value below ys x) (cond d (x ∷ y ∷ ys) (y ∷ ys))) ≡ false
-    by true d = refl
-    by false true = refl
-    by false false = refl
-
 placed-some : {X : Type 0} (below : X → X → Bool) (judged : List ℕ → Result X Refusal) (list : List X) (texts : List (List ℕ)) (all : List X)
     → is_absent list ≡ false → placed below judged list texts ≡ Ok all → is_absent all ≡ false
 placed-some below judged list [] all some e = let same : list ≡ all = cc in ap is_absent (sym same) ∙ some
@@ -231,18 +224,6 @@ pub record IsRead (line : ℕ) (parts : RuleParts) (text : List ℕ) (more : Rul
   pub is_new : is_present parts part_name ≡ false
   pub is_put : put parts part_name part_value ≡ more
 
-pub bind_ok : {A B : Type 0} (r : Result A Refusal) (f : A → Result B Refusal) (y : B) → (r >>= f) ≡ Ok y → (x : A) × (r ≡ Ok x) × (f x ≡ Ok y)
-bind_ok (Ok x) f y e = (x, refl, e)
-bind_ok (Err d) f y e = absurd cc
-
-some_from : {A : Type 0} (o : Option A) (d : Refusal) (x : A) → ok_or o d ≡ Ok x → o ≡ Some x
-some_from None d x e = absurd cc
-some_from (Some y) d x e = cc
-
-guard_ok : {A : Type 0} (b : Bool) (d : Refusal) (r : Result A Refusal) (y : A) → cond b (Err d) r ≡ Ok y → (b ≡ false) × (r ≡ Ok y)
-guard_ok true d r y e = absurd cc
-guard_ok false d r y e = (refl, e)
-
 done : {A : Type 0} (x y : A) → ◌≡◌ {A = Result A Refusal} (Ok x) (Ok y) → x ≡ y
 done x y e = cc
 
@@ -250,21 +231,21 @@ then_put-ok : (line : ℕ) (parts : RuleParts) (n : PartName) (text : List ℕ) 
     → (x : Value n) × (value_of line n text ≡ Ok x) × (put parts n x ≡ more)
 then_put-ok line parts n text more e =
     let read : then_put parts n (value_of line n text) ≡ Ok more = sym (with_part_value-put line parts n text) ∙ e in
-    let a = bind_ok (value_of line n text) (λ x. Ok (put parts n x)) more read in
+    let a = and_then_ok (value_of line n text) (λ x. Ok (put parts n x)) more read in
     (a.0, a.1, done (put parts n a.0) more a.2)
 
 pub IsRead-from : (line : ℕ) (parts : RuleParts) (text : List ℕ) (more : RuleParts) → with_part line parts text ≡ Ok more → IsRead line parts text more
 unfolding with_part
 IsRead-from line parts text more e =
-    let a = bind_ok (ok_or (split_once 61 text) (BadRule line))
+    let a = and_then_ok (ok_or (split_once 61 text) (BadRule line))
     (λ sides. name_of line sides.0 >>= λ name. cond (is_present parts name) (Err (PartTwice line)) (with_part_value line parts name sides.1)) more e in
-    let b = bind_ok (name_of line a.0.0) (λ name. cond (is_present parts name) (Err (PartTwice line)) (with_part_value line parts name a.0.1)) more a.2 in
-    let c = guard_ok (is_present parts b.0) (PartTwice line) (with_part_value line parts b.0 a.0.1) more b.2 in
+    let b = and_then_ok (name_of line a.0.0) (λ name. cond (is_present parts name) (Err (PartTwice line)) (with_part_value line parts name a.0.1)) more a.2 in
+    let c = not_refused (is_present parts b.0) (PartTwice line) (with_part_value line parts b.0 a.0.1) more b.2 in
     let d = then_put-ok line parts b.0 a.0.1 more c.1 in
     record {
       part_name = b.0;
       part_value = d.0;
-      states = record { sides = a.0; halves = some_from (split_once 61 text) (BadRule line) a.0 a.1; name = b.1; value = d.1 };
+      states = record { sides = a.0; halves = ok_or_ok (split_once 61 text) (BadRule line) a.0 a.1; name = b.1; value = d.1 };
       is_new = c.0;
       is_put = d.2;
     }

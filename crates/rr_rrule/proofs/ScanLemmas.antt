@@ -1,5 +1,5 @@
 -- The series of used lines, by what the two passes make of these.
-use Rattle.std.proofs.Common.{◌≡◌, List, Option, Result, Ok, Err, refl, ap, ◌∙◌, ℤ}
+use Rattle.std.proofs.Common.{◌≡◌, List, Option, Result, Ok, ap, ◌∙◌, ℤ}
 use Rattle.std.specs.Prelude.{ok_or}
 use Rattle.rr_model.specs.Text.Calendars.{rule_beside, rrule_language, series_of_event, calendar_scan}
 use Rattle.rr_model.specs.Text.Passes.{Beside, Event, nothing_read, nothing_beside, first_pass, second_pass, unless_stopped}
@@ -10,10 +10,7 @@ use Rattle.rr_model.specs.declared.refusal.Refusal.TheVariants.{NoStart}
 use Rattle.rr_model.specs.declared.rule.Rule.{Rule}
 use Rattle.rr_model.specs.declared.stamp.Stamp.{Stamp}
 use Rattle.rr_model.specs.declared.used.UsedLine.{UsedLine}
-
-pub after_same : {A B : Type 0} (r : Result A Refusal) (f g : A → Result B Refusal) → ((x : A) → f x ≡ g x) → (r >>= f) ≡ (r >>= g)
-after_same (Ok x) f g same = same x
-after_same (Err refusal) f g same = refl
+use Rattle.rr_text.proofs.StepLemmas.{step_same}
 
 -- lines of which both passes make the same
 pub scan_by_passes : (offset : Option ℤ) (lines others : List UsedLine) (stop : Option Refusal)
@@ -25,6 +22,6 @@ scan_by_passes offset lines others stop first second =
     ap (λ (r : Result (Event Rule) Refusal). r >>= λ event. Ok (series_of_event event))
     (ap (λ (r : Result FirstPass Refusal). r >>= λ read. unless_stopped stop read >>= λ pass. ok_or pass.start NoStart >>= λ start.
     second_pass rrule_language (rule_beside offset start) offset start nothing_beside lines >>= λ beside. Ok (record { start = start; beside = beside })) first
-    ∙ after_same (first_pass rrule_language nothing_read others) _ _
-    (λ read. after_same (unless_stopped stop read) _ _ (λ pass. after_same (ok_or pass.start NoStart) _ _ (λ start.
+    ∙ step_same (first_pass rrule_language nothing_read others) _ _
+    (λ read. step_same (unless_stopped stop read) _ _ (λ pass. step_same (ok_or pass.start NoStart) _ _ (λ start.
     ap (λ (r : Result (Beside Rule) Refusal). r >>= λ beside. Ok (record { start = start; beside = beside })) (second start)))))

@@ -14,6 +14,7 @@ use Rattle.rr_model.specs.Text.Written.{part_text, part_unless, list_part}
 use Rattle.rr_model.specs.declared.refusal.Refusal.{Refusal}
 use Rattle.rr_model.specs.declared.rule_parts.PartName.{PartName}
 use Rattle.rr_model.specs.declared.rule_parts.RuleParts.{RuleParts}
+use Rattle.rr_model.proofs.WithValueLemmas.{absent_nil}
 use Rattle.rr_text.proofs.PlainTextLemmas.{capitals-plain}
 use Rattle.rr_text.proofs.WrittenByteLemmas.{is_word_byte, is_value_byte, is_line_byte, has_no, list_all-weaker, list_all-both}
 use Rattle.rr_text.proofs.WrittenByteLemmas.{values-from_words, line-from_values}
@@ -114,10 +115,6 @@ rule_text-push line text parts piece n x r states is plain new = record {
 -- a part after a semicolon
 part_text-opened : (name value : List ℕ) → part_text name value ≡ 59 ∷ (name ++ 61 ∷ value)
 part_text-opened name value = append_assoc (59 ∷ name) (codes "=") value
-
-absent_nil : {X : Type 0} (xs : List X) → is_absent xs ≡ true → xs ≡ []
-absent_nil [] h = refl
-absent_nil (x ∷ xs) h = absurd (cc)
 
 module _ (line : ℕ) (text : List ℕ) (parts : RuleParts) (r : IsRuleText line text parts) where
   -- a part that is written

@@ -6,7 +6,6 @@ use Rattle.std.specs.List.{list_all, list_any, AllByRecursion, slice_split}
 use Rattle.std.proofs.lemmas.Bool.{and_parts, and_right, not-true}
 use Rattle.std.proofs.lemmas.Bool.Decides.{nat_tests}
 use Rattle.std.proofs.lemmas.List.{length_push}
-use Rattle.rr_model.specs.Moment.{is_same_kind}
 use Rattle.rr_model.specs.Moment.Years.{IsInYears}
 use Rattle.rr_model.specs.Rising.{Rises}
 use Rattle.rr_model.specs.Rule.Validity.{IsValidRule, EndsInYears}
@@ -20,7 +19,6 @@ use Rattle.rr_model.specs.Text.Steps.{in_turn}
 use Rattle.rr_model.specs.Text.WriteLaws.{IsOneEnd}
 use Rattle.rr_model.specs.Text.Written.{basic_text, rule_text}
 use Rattle.rr_model.specs.declared.kind.Kind.{Kind}
-use Rattle.rr_model.specs.declared.kind.Kind.TheVariants.{Days, Moments}
 use Rattle.rr_model.specs.declared.pass.FirstPass.{FirstPass}
 use Rattle.rr_model.specs.declared.refusal.Refusal.{Refusal}
 use Rattle.rr_model.specs.declared.refusal.Refusal.TheVariants.{BadMoment}
@@ -41,6 +39,7 @@ use Rattle.rr_text.proofs.WrittenListLemmas.{pieces-none, with_value-last, IsAbo
 use Rattle.rr_text.proofs.WrittenValueLemmas.{int_lt-transitive}
 use Rattle.rr_ical.proofs.WrittenLineLemmas.{WrittenLine, used_from, number_behind, used_from-append, date_front}
 use Rattle.rr_ical.proofs.PassLemmas.{in_turn-append}
+use Rattle.rr_ical.proofs.BesideLemmas.{same_kind}
 use Rattle.rr_rrule.proofs.WrittenRuleLemmas.{until_of, stated_rule-written}
 
 -- ---- lines in turn
@@ -194,10 +193,6 @@ excluded_judged start kind before word k done rule rules h = (counted_rule start
 
 abbrev pub second_step : Stamp → Beside Rule → UsedLine → Result (Beside Rule) Refusal
 second_step start beside line = with_line rrule_language (rule_beside None start) None start line.number line.name beside line.value
-
-same_kind : (kind : Kind) → is_same_kind kind kind ≡ true
-same_kind Days = refl
-same_kind Moments = refl
 
 -- a written date beside a start of its kind
 date_put : (line : ℕ) (is_plus : Bool) (beside : Beside Rule) (kind : Kind) (start at : ℤ) → IsInYears kind at

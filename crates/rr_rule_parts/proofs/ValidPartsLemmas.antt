@@ -14,9 +14,10 @@ use Rattle.rr_model.specs.declared.rule_parts.PartName.{PartName}
 use Rattle.rr_model.specs.declared.rule_parts.PartName.TheVariants as part
 use Rattle.rr_model.specs.declared.rule_parts.RuleParts.{RuleParts}
 use Rattle.rr_text.proofs.StepLemmas.{and_then_ok, ok_or_ok, step_keeps, not_refused}
-use Rattle.rr_text.proofs.InYearsLemmas.{IsStamp, basic-stamp}
+use Rattle.rr_text.proofs.InYearsLemmas.{basic-stamp}
 use Rattle.rr_rule_parts.proofs.ValidRisingLemmas.{numbers_of-rise, day_items_of-rise}
 use Rattle.rr_text.proofs.WordLemmas.{number_up_to-lies, weekday_named-below}
+use Rattle.rr_text.specs.Stamps.{IsStamp}
 use Rattle.rr_rule_parts.proofs.BoundsLemmas.{numbers_of-counts, numbers_of-lie, day_items_of-means}
 
 -- the values of the parts that are present lie in their ranges, and rise without repeats

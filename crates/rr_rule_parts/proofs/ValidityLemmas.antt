@@ -15,7 +15,7 @@ use Rattle.rr_model.specs.declared.rule.Rule.{Rule}
 use Rattle.rr_model.specs.declared.rule_parts.RuleParts.{RuleParts}
 use Rattle.rr_model.specs.declared.stamp.Stamp.{Stamp}
 use Rattle.rr_text.proofs.StepLemmas.{and_then_ok, passed, unwrap_or-keeps}
-use Rattle.rr_text.proofs.InYearsLemmas.{IsStamp}
+use Rattle.rr_text.specs.Stamps.{IsStamp}
 use Rattle.rr_ical.proofs.BesideLemmas.{moment_beside-in_years}
 use Rattle.rr_rule_parts.proofs.ValidPartsLemmas.{ArePartsValid}
 

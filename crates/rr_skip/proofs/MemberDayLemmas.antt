@@ -16,15 +16,13 @@ use Rattle.rr_model.proofs.CountLemmas.{one, count_from-zero, count_from-suc, co
 use Rattle.rr_model.proofs.MemberLemmas.{not_after, within_end_is}
 use Rattle.rr_model.proofs.WholeLemmas.{floor_only, floor_whole, floor_mod_below}
 use Rattle.rr_model.proofs.DaysAndTimesLemmas.{moment_is}
+use Rattle.rr_model.proofs.TestLemmas.{eqb-same}
 use Rattle.rr_skip.specs.Folding.{chosen_days, days_to, is_member_day}
 use Rattle.rr_skip.specs.Members.{IsSkipMember, skip_members_to}
 use Rattle.rr_skip.specs.Months.{is_skip_chosen}
 use Rattle.rr_skip.specs.declared.series.SkipRule.{SkipRule}
 
 -- ---- days and moments
-
-same_second : (s : ℕ) → (s == s) ≡ true
-same_second s = eq-eqb s s refl
 
 -- of two moments at one second of their days the later has the later day
 pub day_order : (kind : Kind) (start t : ℤ) → second_part kind t ≡ second_part kind start → (start ≤ℤ t) ↔ (day_part kind start ≤ℤ day_part kind t)
@@ -37,7 +35,7 @@ day_order Moments start t e =
 module _ (rule : SkipRule) (kind : Kind) (start : ℤ) where
   -- a chosen day has the start's second chosen, and no other
   pub chosen_at : (t : ℤ) → second_part kind t ≡ second_part kind start → is_skip_chosen rule kind start t ≡ chosen_days rule kind start (day_part kind t)
-  chosen_at t e = rw (e, same_second (second_part kind start)) (and-true (chosen_days rule kind start (day_part kind t)))
+  chosen_at t e = rw (e, eqb-same (second_part kind start)) (and-true (chosen_days rule kind start (day_part kind t)))
 
   not_at : (t : ℤ) → (second_part kind t ≡ second_part kind start → ⊥) → is_skip_chosen rule kind start t ≡ false
   not_at t n =

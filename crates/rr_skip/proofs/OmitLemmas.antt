@@ -28,6 +28,7 @@ use Rattle.rr_model.specs.declared.rule.Rule.{Rule}
 use Rattle.rr_model.proofs.CalendarLemmas.{IsDate-year_of}
 use Rattle.rr_model.proofs.DaysAndTimesLemmas.{date_parts_hold-day}
 use Rattle.rr_model.proofs.CountLemmas.{count_from-same}
+use Rattle.rr_model.proofs.TestLemmas.{without_or}
 use Rattle.rr_skip.specs.Laws.{OmittingIsPlain}
 use Rattle.rr_skip.specs.Members.{skip_members_to}
 use Rattle.rr_skip.specs.Months.{unit_of_month, length_of_month, schedule_of, is_due, falls_at, some_falls_on, is_day_chosen}
@@ -144,12 +145,6 @@ second_same s u =
     eq-eqb s u (time_parts_are s u (same_number (u / 3_600) (s / 3_600) q.0) (same_number (u / 60 % 60) (s / 60 % 60) q.1) (same_number (u % 60) (s % 60) p.1))))
     (λ e. (let same : s ≡ u = grind (arith, nat_tests) in
     rw (same, equal_number (u / 3_600), equal_number (u / 60 % 60), equal_number (u % 60)) refl))
-
-without_or : (a b c : Bool) → ((a || false) && (b || false) && (c || false)) ≡ (a && b && c)
-without_or true true true = refl
-without_or true true false = refl
-without_or true false c = refl
-without_or false b c = refl
 
 -- ---- the rule
 

@@ -35,7 +35,7 @@ use Rattle.rr_model.specs.declared.used.LineName.{LineName}
 use Rattle.rr_model.specs.declared.used.LineName.TheVariants.{Dtstart, Rrule, Rdate, Exdate, Exrule}
 use Rattle.rr_model.specs.declared.used.Scan.{Scan}
 use Rattle.rr_model.specs.declared.used.UsedLine.{UsedLine}
-use Rattle.rr_text.proofs.StepLemmas.{and_then_ok, passed, not_refused}
+use Rattle.rr_text.proofs.StepLemmas.{and_then_ok, passed, not_refused, step_same}
 use Rattle.rr_ical.proofs.PassLemmas.{in_turn-append, rule-put}
 use Rattle.rr_skip.specs.Members.{IsSkipMember, IsGivenBy, OccursSkipping, skip_members_to}
 use Rattle.rr_skip.specs.Months.{is_skip_chosen}
@@ -156,10 +156,6 @@ starts_around index (line ∷ before) after number value h =
 
 -- ---- both passes, in a language of rules
 
-and_then_same : {A B : Type 0} (r : Result A Refusal) (f g : A → Result B Refusal) → ((x : A) → f x ≡ g x) → (r >>= f) ≡ (r >>= g)
-and_then_same (Ok x) f g same = same x
-and_then_same (Err refusal) f g same = refl
-
 and_then_is : {A : Type 0} (r : Result A Refusal) (f : A → Result A Refusal) → ((x : A) → f x ≡ Ok x) → (r >>= f) ≡ r
 and_then_is (Ok x) f same = same x
 and_then_is (Err refusal) f same = refl
@@ -176,7 +172,7 @@ module _ {R : Type 0} (language : Language R) where
   starts_first [] pass are = refl
   starts_first (line ∷ lines) pass are =
       ap (λ n. judged_line language line.number n pass line.value >>= λ next. in_turn first_step next lines) are.0
-      ∙ and_then_same (judged_start line.number pass line.value) (λ next. in_turn first_step next lines) (λ next. in_turn start_step next lines)
+      ∙ step_same (judged_start line.number pass line.value) (λ next. in_turn first_step next lines) (λ next. in_turn start_step next lines)
       (λ next. starts_first lines next are.1)
 
   -- the first pass over a rule between starts
@@ -187,9 +183,9 @@ module _ {R : Type 0} (language : Language R) where
       in_turn-append first_step pass before (used_line number Rrule value ∷ after)
       ∙ ap (λ (r : Result FirstPass Refusal). r >>= λ front. judged_rule language number front value >>= λ own. in_turn first_step own after)
       (starts_first before pass are_before)
-      ∙ and_then_same (in_turn start_step pass before) (λ front. judged_rule language number front value >>= λ own. in_turn first_step own after)
+      ∙ step_same (in_turn start_step pass before) (λ front. judged_rule language number front value >>= λ own. in_turn first_step own after)
       (λ front. judged_rule language number front value >>= λ own. in_turn start_step own after)
-      (λ front. and_then_same (judged_rule language number front value) (λ own. in_turn first_step own after) (λ own. in_turn start_step own after)
+      (λ front. step_same (judged_rule language number front value) (λ own. in_turn first_step own after) (λ own. in_turn start_step own after)
       (λ own. starts_first after own are_after))
 
   module _ (beside_start : ℕ → Stated R → Result R Refusal) (offset : Option ℤ) (start : Stamp) where

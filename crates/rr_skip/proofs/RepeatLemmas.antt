@@ -13,15 +13,17 @@ use Rattle.rr_model.specs.Rule.Cycle.{interval_cycle, asks_calendar, parts_cycle
 use Rattle.rr_model.specs.Rule.Repetition.{days_in}
 use Rattle.rr_model.specs.Rule.Validity.{is_absent}
 use Rattle.rr_model.specs.declared.kind.Kind.{Kind}
-use Rattle.rr_model.specs.declared.kind.Kind.TheVariants.{Days, Moments}
+use Rattle.rr_model.specs.declared.kind.Kind.TheVariants.{Days}
 use Rattle.rr_model.specs.declared.rule.Freq.{Freq}
 use Rattle.rr_model.specs.declared.rule.Freq.TheVariants.{Secondly, Minutely, Hourly, Daily, Weekly, Monthly, Yearly}
 use Rattle.rr_model.specs.declared.rule.Rule.{Rule}
 use Rattle.rr_model.proofs.CalendarLawProofs.{calendar_repeats}
 use Rattle.rr_model.proofs.FloorLemmas.{floor_div-add, floor_mod-add}
+use Rattle.rr_model.proofs.DividesLemmas.{divides-add}
 use Rattle.rr_num.proofs.DivisorLemmas.{lcm_is, lcm_some}
 use Rattle.rr_check.proofs.RuleCycleLemmas.{whole_intervals, interval_cycle_some}
-use Rattle.rr_check.proofs.UnitLemmas.{divides-add, day_part-shift, second_part-shift, unit_number-shift, unit_start-shift}
+use Rattle.rr_check.proofs.UnitLemmas.{day_part-shift, second_part-shift, unit_start-shift, month_number-cycle}
+use Rattle.rr_check.proofs.RepetitionLemmas.{there_and_back}
 use Rattle.rr_skip.specs.Laws.{SkipChosenRepeats}
 use Rattle.rr_skip.specs.Months.{unit_of_month, month_of_year, length_of_month, schedule_of, is_due, gives_day, is_day_chosen}
 use Rattle.rr_skip.specs.Months.{is_skip_chosen}
@@ -50,9 +52,6 @@ module _ (n c : ℤ) where
   first-cycle : first_day_of_month (n +ℤ (pos 4_800 *ℤ c)) ≡ first_day_of_month n +ℤ (pos 146_097 *ℤ c)
   first-cycle = unit_start-shift Monthly 0 Days (pos 146_097 *ℤ c) (pos 4_800 *ℤ c) (c, (refl, refl)) n
 
-month-cycle : (d c : ℤ) → month_number (d +ℤ (pos 146_097 *ℤ c)) ≡ month_number d +ℤ (pos 4_800 *ℤ c)
-month-cycle d c = unit_number-shift Monthly 0 Days (pos 146_097 *ℤ c) (pos 4_800 *ℤ c) (c, (refl, refl)) d
-
 -- ---- a schedule over cycles that are whole intervals
 
 -- `c` cycles of the calendar, of 400 years each, keep which months are due
@@ -68,7 +67,7 @@ module _ (schedule : Schedule) (c : ℤ) (keeps : KeepsDue schedule c) where
   pub day-cycle : (d : ℤ) → is_day_chosen schedule (d +ℤ (pos 146_097 *ℤ c)) ≡ is_day_chosen schedule d
   unfolding is_day_chosen
   day-cycle d =
-      let m = month-cycle d c in
+      let m = month_number-cycle d c in
       let before : (month_number d +ℤ (pos 4_800 *ℤ c)) -ℤ pos 1 ≡ (month_number d -ℤ pos 1) +ℤ (pos 4_800 *ℤ c) = omega (arith, ints) in
       rw (m, before, gives-cycle (month_number d) d, gives-cycle (month_number d -ℤ pos 1) d) refl
 
@@ -135,11 +134,6 @@ module _ (rule : SkipRule) (kind : Kind) (start : ℤ) (some : 1 ≤ rule.rule.i
       let b = second_part-shift kind t (pos days) in
       let c = chosen_days_repeat days (dvd-mul_right (rule_cycle rule.rule) k) (day_part kind t) in
       rw (a, b, c) refl
-
--- some days earlier, and the same number of days later
-there_and_back : (kind : Kind) (c k : ℕ) (t : ℤ) → (t +ℤ days_in kind (pos c *ℤ negsuc k)) +ℤ days_in kind (pos (c * suc k)) ≡ t
-there_and_back Days c k t = omega (arith, ints)
-there_and_back Moments c k t = omega (arith, ints)
 
 pub skip_chosen_repeats : SkipChosenRepeats
 skip_chosen_repeats rule kind start (pos k) t valid taken = cycles_later rule kind start valid.interval_low taken k t

@@ -1,6 +1,5 @@
 -- What is said of a key where both calendars state days.
 use Rattle.std.proofs.Common.{◌≡◌, ℕ, Bool, List, [], ◌∷◌, ◌++◌, ℤ, Option, length, refl, ap, subst, ◌∙◌, arith}
-use Rattle.std.specs.Prelude.{◌↔◌}
 use Rattle.std.proofs.lemmas.Int.{ints}
 use Rattle.rr_decide.specs.Occurrence.{NamesUpToMaxDay}
 use Rattle.rr_model.specs.Moment.{Occurrences, day_part}
@@ -16,9 +15,10 @@ use Rattle.rr_model.specs.declared.verdict.Side.TheVariants.{A, B, Both}
 use Rattle.rr_model.specs.declared.verdict.Verdict.{Verdict}
 use Rattle.rr_model.specs.declared.verdict.Verdict.TheVariants.{Yes, No}
 use Rattle.rr_model.proofs.YearLemmas.{from_year_one}
+use Rattle.rr_model.proofs.SideLemmas.{HoldsOnlyOf-same, both_ways}
 use Rattle.rr_trip.specs.Entries.{events_in}
 use Rattle.rr_trip.specs.Judged.{IsFaultBy, IsFoldOf, IsKeyFault, IsKeySeries, IsStated, key_zones}
-use Rattle.rr_trip.specs.Said.{IsCompared, IsFaultSaid, IsPrintable, IsPrintableSaid, IsSaid, IsSaidBeside, IsSaidWith, have_one_zone}
+use Rattle.rr_trip.specs.Said.{IsCompared, IsFaultSaid, IsPrintableSaid, IsSaid, IsSaidBeside, IsSaidWith, have_one_zone}
 use Rattle.rr_trip.specs.declared.entry.Entry.{Entry}
 use Rattle.rr_trip.specs.declared.event.Event.{Event}
 use Rattle.rr_trip.specs.declared.gather.KeyFault.{KeyFault}
@@ -26,21 +26,14 @@ use Rattle.rr_trip.specs.declared.gather.KeyFault.TheVariants as key_fault
 use Rattle.rr_trip.specs.declared.said.Said.{Said}
 use Rattle.rr_trip.specs.declared.said.Said.TheVariants.{Only, Refused, Compared}
 use Rattle.rr_trip.proofs.JudgeLemmas.{refusal_stated}
+use Rattle.rr_text.specs.Printed.{IsPrintable}
 
 -- ---- equal sets have the same verdict
-
-only_of_equal : (side : Side) (P P' Q Q' : Type 0) → (P ↔ P') → (Q ↔ Q') → HoldsOnlyOf side P Q → HoldsOnlyOf side P' Q'
-only_of_equal A P P' Q Q' f g h = (f.0 h.0, λ q. h.1 (g.1 q))
-only_of_equal B P P' Q Q' f g h = (g.0 h.0, λ p. h.1 (f.1 p))
-only_of_equal Both P P' Q Q' f g h = h
-
-both_ways : (P P' Q Q' : Type 0) → (P ↔ P') → (Q ↔ Q') → (P ↔ Q) → P' ↔ Q'
-both_ways P P' Q Q' f g h = ((λ p. g.0 (h.0 (f.1 p))), (λ q. f.0 (h.1 (g.1 q))))
 
 verdict_kept : (P P' Q Q' : Occurrences) → HaveEqualOccurrences P P' → HaveEqualOccurrences Q Q' → (v : Verdict) → IsEqualVerdict P Q v → IsEqualVerdict P' Q' v
 verdict_kept P P' Q Q' f g Yes h = λ k t. both_ways (P k t) (P' k t) (Q k t) (Q' k t) (f k t) (g k t) (h k t)
 verdict_kept P P' Q Q' f g (No k t side) h = (
-  only_of_equal side (P k t) (P' k t) (Q k t) (Q' k t) (f k t) (g k t) h.0,
+  HoldsOnlyOf-same side (P k t) (P' k t) (Q k t) (Q' k t) (f k t) (g k t) h.0,
   λ l u b. both_ways (P l u) (P' l u) (Q l u) (Q' l u) (f l u) (g l u) (h.1 l u b),
 )
 

@@ -6,7 +6,6 @@ use Rattle.rr_model.specs.Text.Refusals.{refusal_text}
 use Rattle.rr_model.specs.declared.refusal.Refusal.{Refusal}
 use Rattle.rr_model.specs.declared.refusal.Refusal.TheVariants.{BadLine, BadMoment, MixedKinds, BadRule, PartTwice, NumberRange, NotSynchronised, NotRising}
 use Rattle.rr_model.specs.declared.verdict.Side.{Side}
-use Rattle.rr_model.specs.declared.verdict.Side.TheVariants.{A, B, Both}
 use Rattle.rr_model.specs.declared.verdict.Verdict.{Verdict}
 use Rattle.rr_model.specs.declared.verdict.Verdict.TheVariants.{Yes, No}
 use Rattle.rr_trip.specs.Counts.{counts_of, is_equal}
@@ -20,12 +19,7 @@ use Rattle.rr_trip.specs.declared.report.Counts.{Counts}
 use Rattle.rr_trip.specs.declared.report.ReportLine.{ReportLine}
 use Rattle.rr_trip.specs.declared.said.Said.{Said}
 use Rattle.rr_trip.specs.declared.said.Said.TheVariants.{Only, Refused, Compared}
-
--- a side as it is printed
-abbrev pub side_text : Side → List ℕ
-side_text A = codes "A"
-side_text B = codes "B"
-side_text Both = codes "both"
+use Rattle.rr_text.specs.Printed.{side_text}
 
 -- ---- keys
 

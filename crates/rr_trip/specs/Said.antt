@@ -1,9 +1,6 @@
 -- What is said of a key.
 use Rattle.std.specs.Prelude.{◌≡◌, ℕ, Bool, true, ℤ, List, [], ◌∷◌, ◌++◌, Option, None, Ok, ⊤, bytes_eq}
 use Rattle.std.specs.List.{list_all}
-use Rattle.rr_model.specs.Calendar.{IsDayWithin}
-use Rattle.rr_model.specs.Moment.{day_part}
-use Rattle.rr_model.specs.Moment.Years.{IsFromYearOne}
 use Rattle.rr_fold.specs.Judged.{all_limits}
 use Rattle.rr_model.specs.Series.FirstRefusal.{IsFirstRefusal}
 use Rattle.rr_model.specs.Series.Occurrences.{Occurs}
@@ -15,7 +12,6 @@ use Rattle.rr_model.specs.declared.sketch.Sketch.{Sketch}
 use Rattle.rr_model.specs.declared.verdict.Side.{Side}
 use Rattle.rr_model.specs.declared.verdict.Side.TheVariants.{A, B, Both}
 use Rattle.rr_model.specs.declared.verdict.Verdict.{Verdict}
-use Rattle.rr_model.specs.declared.verdict.Verdict.TheVariants.{Yes, No}
 use Rattle.rr_trip.specs.Judged.{IsKeyRefusal, IsKeySeries, IsRefusalBy, key_zones}
 use Rattle.rr_trip.specs.declared.event.Event.{Event}
 use Rattle.rr_trip.specs.declared.gather.KeyFault.{KeyFault}
@@ -23,6 +19,7 @@ use Rattle.rr_trip.specs.declared.gather.KeyFault.TheVariants as key_fault
 use Rattle.rr_trip.specs.declared.gather.KeyRefusal.{KeyRefusal}
 use Rattle.rr_trip.specs.declared.said.Said.{Said}
 use Rattle.rr_trip.specs.declared.said.Said.TheVariants.{Only, Refused, Compared}
+use Rattle.rr_text.specs.Printed.{IsPrintable}
 
 -- the TZID parameters are all the same
 abbrev pub have_one_zone : List (List ℕ) → Bool
@@ -94,11 +91,6 @@ abbrev pub IsCompared : Sketch → Sketch → Bool → Said → Type 0
 IsCompared a b zones (Compared verdict one_zone) =
     IsEqualVerdict (StandsIn a) (StandsIn b) verdict × NamesUpToMaxDay verdict × (one_zone ≡ zones)
 IsCompared a b zones said = ⊥
-
--- a no names a counterexample that can be printed, from 0001-01-01 up to the greatest day
-abbrev pub IsPrintable : Verdict → Type 0
-IsPrintable Yes = ⊤
-IsPrintable (No kind at side) = IsFromYearOne (day_part kind at) × IsDayWithin 0 (day_part kind at)
 
 -- what is said can be printed
 abbrev pub IsPrintableSaid : Said → Type 0

@@ -1,8 +1,9 @@
 // The lines of a report as they are printed.
 ghost use Rattle.std.specs.Prelude.{◌≡◌, ◌<◌, ◌++◌, All, IfOk, OnOk};
 ghost use Rattle.std.specs.Fmt.{decimal};
-ghost use Rattle.rr_trip.specs.Printed.{counts_text, escaped, escaped_byte, event_refusal_text, file_refusal_line, has_number, hex_digit, is_difference, key_refusal_text, key_text, line_text, lines_text, printed, said_text, side_text, verdict_text};
-ghost use Rattle.rr_trip.specs.Said.{IsPrintable, IsPrintableSaid};
+ghost use Rattle.rr_text.specs.Printed.{IsPrintable, side_text};
+ghost use Rattle.rr_trip.specs.Printed.{counts_text, escaped, escaped_byte, event_refusal_text, file_refusal_line, has_number, hex_digit, is_difference, key_refusal_text, key_text, line_text, lines_text, printed, said_text, verdict_text};
+ghost use Rattle.rr_trip.specs.Said.{IsPrintableSaid};
 
 use crate::file::FileRefusal;
 use crate::gather::KeyRefusal;

@@ -6,8 +6,6 @@ use Rattle.std.specs.Fmt.{decimal}
 use Rattle.std.specs.List.{AllByRecursion}
 use Rattle.std.specs.Option.{is_some}
 use Rattle.std.specs.Ordering.{int_eq, is_lt}
-use Rattle.std.specs.declared.cmp.Ordering.{Ordering}
-use Rattle.std.specs.declared.cmp.Ordering.TheVariants.{Less, Equal, Greater}
 use Rattle.std.proofs.lemmas.Bool.Decides.{nat_tests, Decides-int_eq}
 use Rattle.std.proofs.lemmas.List.Elements.{recursion_from_All}
 use Rattle.rr_model.specs.Moment.Years.{IsInYears}
@@ -34,6 +32,7 @@ use Rattle.rr_model.specs.declared.vcal.VRule.{VRule}
 use Rattle.rr_model.specs.declared.vcal.VRuleParts.{VRuleParts}
 use Rattle.rr_model.proofs.ItemLemmas.{item_same}
 use Rattle.rr_model.proofs.RisingSetLemmas.{Rises-tail}
+use Rattle.rr_model.proofs.RisingLemmas.{is_less}
 use Rattle.rr_text.proofs.WrittenLemmas.{digits_value-decimal, is_number-decimal, basic-written}
 use Rattle.rr_text.proofs.WrittenListLemmas.{IsTransitive, with_value-last, IsAbove, IsAbove-next}
 use Rattle.rr_vcal.specs.Writing.{place_of_item}
@@ -155,11 +154,6 @@ end-back (Both kind at m) h =
     rw some refl
 
 -- ---- the items
-
-is_less : (o : Ordering) → is_lt o ≡ true → o ≡ Less
-is_less Less e = refl
-is_less Equal e = cc
-is_less Greater e = cc
 
 item_lt-transitive : IsTransitive item_lt
 item_lt-transitive a b c h k =

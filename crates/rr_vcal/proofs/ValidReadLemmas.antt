@@ -37,9 +37,10 @@ use Rattle.rr_model.specs.declared.vcal.VRuleParts.{VRuleParts}
 use Rattle.rr_model.specs.declared.vcal.VSeries.{VSeries}
 use Rattle.rr_model.proofs.CalendarLemmas.{IsDate-year_of, days_in_month_bounds, weekday_of_below, days_into_year_below, days_in_year_bounds}
 use Rattle.rr_text.proofs.StepLemmas.{and_then_ok}
+use Rattle.rr_text.specs.Stamps.{IsStamp}
 use Rattle.rr_ical.proofs.BesideLemmas.{moment_beside-in_years, IsReadEvent, passes-valid}
 use Rattle.rr_ical.proofs.PassLemmas.{in_turn-keeps}
-use Rattle.rr_vcal.specs.Parts.{IsEndMoment, IsValidParts}
+use Rattle.rr_vcal.specs.Parts.{IsValidParts}
 use Rattle.rr_vcal.specs.Scans.{vcal_scan}
 use Rattle.rr_vcal.proofs.ValidPartsLemmas.{piece-valid, finished-valid}
 
@@ -54,7 +55,7 @@ EndsAt kind end = Unit {0}
 -- the end moment is the end's, where there is one
 abbrev FitsUntil : Option Stamp → End → Type 0
 FitsUntil None end = EndsInYears end
-FitsUntil (Some stamp) end = IsEndMoment stamp × EndsAt stamp.kind end
+FitsUntil (Some stamp) end = IsStamp stamp × EndsAt stamp.kind end
 
 -- the numbers lie in their ranges; only a rule by places has its items already
 record IsValidStated (stated : Stated VRule) : Type 0 where
@@ -82,7 +83,7 @@ both m stamp h = by (m == 0) (λ e. grind (arith, nat_tests, e))
     by true low = (tt, refl)
     by false low = ((low refl, h), refl)
 
-end_of_words-valid : (count : Option ℕ) (until : Option Stamp) → IfSome count (λ n. n ≤ 18_446_744_073_709_551_615) → IfSome until IsEndMoment
+end_of_words-valid : (count : Option ℕ) (until : Option Stamp) → IfSome count (λ n. n ≤ 18_446_744_073_709_551_615) → IfSome until IsStamp
     → HasCountInRange (end_of_words count until) × FitsUntil until (end_of_words count until)
 end_of_words-valid None None c u = ((omega arith, omega arith), tt)
 end_of_words-valid (Some m) None c u = counted m c

@@ -1,5 +1,5 @@
 -- The counterpart of a valid series of vCalendar 1.0 is a valid series.
-use Rattle.std.proofs.Common.{◌≡◌, ℕ, suc, ◌+◌, ◌≤◌, true, List, [], ◌∷◌, length, refl, ap, ◌∙◌, sym, subst, ℤ, to_z, of_z, w64, arith}
+use Rattle.std.proofs.Common.{◌≡◌, ℕ, suc, ◌+◌, ◌≤◌, true, List, [], ◌∷◌, length, refl, ap, ◌∙◌, sym, subst, ℤ, arith}
 use Rattle.std.specs.Prelude.{int_lt, All}
 use Rattle.std.specs.List.{AllByRecursion}
 use Rattle.std.proofs.lemmas.List.Elements.{recursion_from_All, All-from_recursion}
@@ -14,10 +14,6 @@ use Rattle.rr_model.specs.declared.limits.TheConstants.{MAX_DATES}
 use Rattle.rr_model.specs.declared.rule.Rule.{Rule}
 use Rattle.rr_model.specs.declared.vcal.VRule.{VRule}
 use Rattle.rr_model.specs.declared.vcal.VSeries.{VSeries}
-use Rattle.std.proofs.lemmas.Int.{ints, to_z-of_z}
-use Rattle.rr_model.specs.declared.kind.Kind.TheVariants.{Days, Moments}
-use Rattle.rr_model.proofs.WholeLemmas.{floor_whole, floor_mod_below}
-use Rattle.rr_model.proofs.YearLemmas.{year_1, year_10000}
 use Rattle.rr_vcal_laws.proofs.ValidRuleLemmas.{counterpart_is_valid}
 
 abbrev EndIsInYears : Rule → Type 0
@@ -86,11 +82,3 @@ series_is_valid series start rules excluded plus minus same made out added taken
       subst (λ (l : List ℤ). length l + length minus ≤ MAX_DATES) (sym added)
       (subst (λ (l : List ℤ). length series.plus + length l ≤ MAX_DATES) (sym taken) valid.few_dates);
 }
-
--- a start of these years is a number of 64 bits
-pub start_fits : (kind : Kind) (start : ℤ) → IsInYears kind start → to_z w64 (of_z w64 start) ≡ start
-start_fits Days start h = to_z-of_z w64 start (omega (arith, ints, h.0, h.1, year_1, year_10000))
-start_fits Moments start h =
-    let whole = floor_whole start 86_400 (omega arith) in
-    let below = floor_mod_below start 86_400 (omega arith) in
-    to_z-of_z w64 start (omega (arith, ints, h.0, h.1, year_1, year_10000, whole, below))

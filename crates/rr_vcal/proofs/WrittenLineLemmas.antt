@@ -2,7 +2,7 @@
 use Rattle.std.proofs.Common.{◌≡◌, ℕ, ◌+◌, not, Bool, true, false, List, [], ◌∷◌, ◌++◌, length, reverse, map, Some, None, Result, Ok}
 use Rattle.std.proofs.Common.{refl, sym, ap, ◌∙◌, append_assoc, append-nil}
 use Rattle.std.specs.Prelude.{codes}
-use Rattle.std.specs.List.{list_all, list_any, onto_first, AllByRecursion}
+use Rattle.std.specs.List.{list_all, list_any, AllByRecursion}
 use Rattle.rr_model.specs.Text.Event.{Left, left, left_by, no_components, used_line, after_used, scan_from, scanned, is_bare_text, event_scan}
 use Rattle.rr_model.specs.Text.Lines.{physical_lines, begins_blank, with_physical_line, with_physical_lines, unfolded_lines}
 use Rattle.rr_model.specs.Text.UsedLines.{is_named, trim, value_of_line, line_kind}
@@ -14,7 +14,7 @@ use Rattle.rr_model.specs.declared.used.LineKind.TheVariants.{Property}
 use Rattle.rr_model.specs.declared.used.LineName.{LineName}
 use Rattle.rr_model.specs.declared.used.LineName.TheVariants.{Dtstart, Rrule, Rdate, Exdate, Exrule}
 use Rattle.rr_model.specs.declared.used.UsedLine.{UsedLine}
-use Rattle.rr_text.proofs.FoldedLineLemmas.{IsUnbroken}
+use Rattle.rr_text.proofs.FoldedLineLemmas.{IsUnbroken, line_ends}
 use Rattle.rr_text.proofs.WrittenByteLemmas.{list_all-weaker, list_all-both}
 use Rattle.rr_vcal.proofs.TrimLemmas.{IsSolid, trimmed_start, trimmed_end, begins-solid, ends-solid, present}
 use Rattle.rr_vcal.proofs.ByteLemmas.{is_written, is_solid, written-solid, unbroken-written}
@@ -105,12 +105,6 @@ line-unbroken l h =
     unbroken-written (line_text l) (list_all-both is_written (name_text l.name ++ codes ":") l.value (name-written l.name) h.written)
 
 -- ---- the lines of a text
-
--- one line that CR LF ends, before others
-line_ends : (text rest : List ℕ) → IsUnbroken text → physical_lines (text ++ 13 ∷ 10 ∷ rest) ≡ text ∷ physical_lines rest
-unfolding physical_lines
-line_ends [] rest h = refl
-line_ends (b ∷ bs) rest h = rw (h.0, h.1) (ap (onto_first b) (line_ends bs rest h.2))
 
 physical-written : (lines : List WrittenLine) → HaveValues lines → physical_lines (lines_of written_line lines) ≡ map line_text lines
 unfolding physical_lines

@@ -6,7 +6,7 @@ use Rattle.std.specs.List.{list_all, AllByRecursion, slice_split}
 use Rattle.std.proofs.lemmas.Bool.Decides.{nat_tests}
 use Rattle.std.proofs.lemmas.List.Splits.{slice_split_none}
 use Rattle.std.proofs.lemmas.Bool.{and_parts}
-use Rattle.rr_model.specs.Moment.{day_part, is_same_kind}
+use Rattle.rr_model.specs.Moment.{day_part}
 use Rattle.rr_model.specs.Moment.Years.{IsInYears}
 use Rattle.rr_model.specs.Rising.{Rises, with_value}
 use Rattle.rr_model.specs.Rule.Validity.{EndsInYears}
@@ -21,7 +21,6 @@ use Rattle.rr_model.specs.Vcal.Validity.{IsValidVRule}
 use Rattle.rr_model.specs.Vcal.Written.{vrule_text}
 use Rattle.rr_model.specs.declared.item.Item.{Item}
 use Rattle.rr_model.specs.declared.kind.Kind.{Kind}
-use Rattle.rr_model.specs.declared.kind.Kind.TheVariants.{Days, Moments}
 use Rattle.rr_model.specs.declared.limits.TheConstants.{MAX_DATES, MAX_RULES}
 use Rattle.rr_model.specs.declared.pass.FirstPass.{FirstPass}
 use Rattle.rr_model.specs.declared.refusal.Refusal.{Refusal}
@@ -37,6 +36,7 @@ use Rattle.rr_text.proofs.WrittenByteLemmas.{is_word_byte, basic_text-words}
 use Rattle.rr_text.proofs.WrittenLemmas.{basic-written}
 use Rattle.rr_text.proofs.WrittenListLemmas.{with_value-last, IsAbove, IsAbove-next}
 use Rattle.rr_text.proofs.WrittenValueLemmas.{int_lt-transitive}
+use Rattle.rr_ical.proofs.BesideLemmas.{same_kind}
 use Rattle.rr_vcal.proofs.RuleReadLemmas.{above_none, until_of, stated-written}
 use Rattle.rr_vcal.proofs.RuleTextLemmas.{vrule_text-written, vrule_text-begins, vrule_text-ends, moment-solid}
 use Rattle.rr_vcal.proofs.ByteLemmas.{none-of, no_separator, no_slash}
@@ -161,10 +161,6 @@ rule-kept : (start : Stamp) (k : ℕ) (rule : VRule) → IsWritableRule rule
     → vrule_beside None start k (record { rule = rule; until = until_of rule.end }) ≡ Ok rule
 unfolding vrule_beside
 rule-kept start k rule h = rw (end-kept start k rule.end, filled-some rule.family (day_part start.kind start.at) rule.items h.valid.some_item) refl
-
-same_kind : (kind : Kind) → is_same_kind kind kind ≡ true
-same_kind Days = refl
-same_kind Moments = refl
 
 module _ (kind : Kind) (first : ℤ) (r : Result (Beside VRule) Refusal) where
   abbrev pub start : Stamp

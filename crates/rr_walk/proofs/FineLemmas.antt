@@ -30,6 +30,7 @@ use Rattle.rr_model.specs.Sets.Tree.{Tree, chosen_of, stands_at}
 use Rattle.rr_lazy.specs.declared.occupied_day.OccupiedDay.{OccupiedDay}
 use Rattle.rr_lazy.specs.Next.{HasNone}
 use Rattle.rr_lazy.proofs.TreeLemmas.{stands_below}
+use Rattle.rr_lazy.proofs.AheadLemmas.{join}
 use Rattle.rr_expand.specs.Years.{Filling, IsFirstAllowed, allows_day}
 use Rattle.rr_walk.specs.Ruling.{Ruling}
 use Rattle.rr_walk.specs.Walk.{IsFirstFine, IsFirstSecond, IsFirstUpToIn, IsOnDay, IsOnDayIn}
@@ -153,10 +154,6 @@ none_allowed rule start day end none d s l h =
 
 -- ---- a walk, day by day
 
-pub none_on : (tree : Tree) (from day next : ℤ) → HasNone tree from day → HasNone tree day next → HasNone tree from next
-none_on tree from day next before after d s l h =
-    by_lt_z {P = stands_at tree d s ≡ false} d day (λ m. before d s l m) (λ g. after d s (omega (arith, ints, g)) h)
-
 -- past a day that is not occupied
 pub none_past : (tree : Tree) (from day : ℤ) → HasNone tree from day → IsOnDay tree day None → HasNone tree from (day +ℤ pos 1)
 none_past tree from day before none d s l h =
@@ -181,7 +178,7 @@ module _ (r : Ruling) (f : Filling) (is : f ≡ record { rule = r.rule; start_da
 
   pub fine_none : IsFirstAllowed f day (to +ℤ pos 1) None → IsFirstFine r from to None
   fine_none h =
-      none_on (chosen_of r.rule Moments r.start) from day (to +ℤ pos 1) before
+      join (chosen_of r.rule Moments r.start) from day (to +ℤ pos 1) before
       (none_allowed r.rule r.start day (to +ℤ pos 1) (λ d l m. allowed_at d ∙ h d l m))
 
   pub fine_some : (found : ℤ) → from ≤ℤ day → day ≤ℤ to → found ≡ day → IsFirstAllowed f day (to +ℤ pos 1) (Some found) → IsFirstFine r from to (Some day)
@@ -190,8 +187,8 @@ module _ (r : Ruling) (f : Filling) (is : f ≡ record { rule = r.rule; start_da
   pub fine_more : (found next : ℤ) → IsFirstAllowed f day (to +ℤ pos 1) (Some found) → HasNone (chosen_of r.rule Moments r.start) found next
       → HasNone (chosen_of r.rule Moments r.start) from next
   fine_more found next h after =
-      none_on (chosen_of r.rule Moments r.start) from found next
-      (none_on (chosen_of r.rule Moments r.start) from day found before (none_allowed r.rule r.start day found (λ d l m. allowed_at d ∙ h.3 d l m))) after
+      join (chosen_of r.rule Moments r.start) from found next
+      (join (chosen_of r.rule Moments r.start) from day found before (none_allowed r.rule r.start day found (λ d l m. allowed_at d ∙ h.3 d l m))) after
 
 -- ---- a day with all that is chosen on it
 

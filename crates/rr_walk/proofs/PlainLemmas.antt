@@ -5,7 +5,6 @@ use Rattle.std.proofs.Common.{sym, ap, subst, ◌∙◌, inl, inr, arith}
 use Rattle.std.specs.Prelude.{Option, Some, None, IsTrue, nat_lt, slice_get}
 use Rattle.std.proofs.Math.Seq.{take-length}
 use Rattle.std.proofs.lemmas.Int.{ints, by_lt_z}
-use Rattle.std.proofs.lemmas.Bool.{eq-eqb}
 use Rattle.std.proofs.lemmas.Option.{get_or_from_slice_get, slice_get_within}
 use Rattle.rr_model.specs.Whole.{divides, floor_mod}
 use Rattle.rr_model.specs.Moment.{day_part}
@@ -19,7 +18,7 @@ use Rattle.rr_model.specs.declared.kind.Kind.{Kind}
 use Rattle.rr_model.specs.declared.kind.Kind.TheVariants.{Days, Moments}
 use Rattle.rr_model.specs.declared.rule.Rule.{Rule}
 use Rattle.rr_model.proofs.RisingSetLemmas.{one_list_of_seconds, set_itself, set_same}
-use Rattle.rr_model.proofs.WholeLemmas.{floor_mod_below}
+use Rattle.rr_model.proofs.DividesLemmas.{one_divides}
 use Rattle.rr_cal.proofs.StretchLemmas.{units_are_stretches}
 use Rattle.rr_expand.specs.Years.{Filling, IsFirstAllowed}
 use Rattle.rr_expand.proofs.FitLemmas.{fits_at, next_fits, none_before, none_between}
@@ -93,10 +92,6 @@ same_candidate new old from to (Some day) same f =
 
 -- ---- the next candidate day
 
--- each number fits the interval 1
-fits_one : (z : ℤ) → divides 1 z ≡ true
-fits_one z = eq-eqb (floor_mod z 1) 0 (omega (arith, floor_mod_below z 1 (omega arith)))
-
 -- no candidate day from one on and not after another lies in a unit before this one, which fits the interval
 pub record IsLookedUpTo (r : Ruling) (from to u : ℤ) : Type 0 where
   pub begun : unit_number r.rule.freq r.rule.week_start Days from ≤ℤ u
@@ -135,7 +130,7 @@ module _ (r : Ruling) where
   first_of_each from to end (Some day) one e f = (
     f.0,
     omega (arith, ints, e, f.1),
-    both day (subst (λ n. divides n (unit day -ℤ unit (day_part r.kind r.start)) ≡ true) (sym one) (fits_one (unit day -ℤ unit (day_part r.kind r.start)))) f.2,
+    both day (subst (λ n. divides n (unit day -ℤ unit (day_part r.kind r.start)) ≡ true) (sym one) (one_divides (unit day -ℤ unit (day_part r.kind r.start)))) f.2,
     λ d g h. not_allowed d (f.3 d g h),
   )
 

@@ -15,7 +15,7 @@ use Rattle.rr_model.specs.Rising.Sets.{IsSetOf}
 use Rattle.rr_model.specs.Moment.Years.{IsInYears}
 use Rattle.rr_model.specs.Rule.Chosen.{is_chosen}
 use Rattle.rr_model.specs.declared.kind.Kind.{Kind}
-use Rattle.rr_model.specs.declared.kind.Kind.TheVariants.{Days, Moments}
+use Rattle.rr_model.specs.declared.kind.Kind.TheVariants.{Days}
 use Rattle.rr_model.specs.declared.rule.Freq.{Freq}
 use Rattle.rr_model.specs.declared.rule.Freq.TheVariants.{Secondly, Minutely, Hourly, Daily, Weekly, Monthly, Yearly}
 use Rattle.rr_model.specs.declared.rule.Rule.{Rule}
@@ -30,7 +30,8 @@ use Rattle.rr_setpos.proofs.PositionLemmas.{chosen_no_candidate}
 use Rattle.rr_cal.proofs.DayUnitLemmas.{week_next, month_next, unit_length}
 use Rattle.rr_expand.proofs.UnitLemmas.{unit_start_near}
 use Rattle.rr_expand.proofs.FitLemmas.{fits_at, first_fits, none_before, next_fits, none_between}
-use Rattle.rr_model.specs.Sets.Tree.{Tree, chosen_of, has_second, stands_at}
+use Rattle.rr_model.specs.Sets.Tree.{Tree, chosen_of, stands_at}
+use Rattle.rr_model.proofs.TestLemmas.{has_second_is, has_second_not}
 use Rattle.rr_lazy.specs.Next.{IsFirstOccupied}
 use Rattle.rr_lazy.proofs.TreeLemmas.{stands_below}
 use Rattle.rr_walk.specs.Walk.{IsFirstSecond, HasNoneOf, IsFirstIn, IsFirstOf, IsFirstUpTo, IsWalked}
@@ -138,14 +139,6 @@ unit_near_is freq w d u d' coarse low near e f = let b = unit_bounds freq w coar
 module _ (rule : Rule) (kind : Kind) (start : ℤ) (coarse : is_whole_days rule.freq ≡ true) where
   abbrev tree : Tree
   tree = chosen_of rule kind start
-
-  has_second_is : (kind : Kind) (s : ℕ) → s < seconds_of kind → has_second kind s ≡ true
-  has_second_is Days s l = grind (arith, nat_tests)
-  has_second_is Moments s l = grind (arith, nat_tests)
-
-  has_second_not : (kind : Kind) (s : ℕ) → seconds_of kind ≤ s → has_second kind s ≡ false
-  has_second_not Days s l = grind (arith, nat_tests)
-  has_second_not Moments s l = grind (arith, nat_tests)
 
   stands_is : (d : ℤ) (s : ℕ) → s < seconds_of kind → stands_at tree d s ≡ (is_chosen rule kind start (moment_at kind d s) && int_le start (moment_at kind d s))
   stands_is d s l = rw (has_second_is kind s l) refl

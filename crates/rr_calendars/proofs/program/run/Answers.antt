@@ -1,9 +1,11 @@
 use Rattle.std.proofs.Common.{inl, inr, refl, rules}
+use Rattle.std.proofs.lemmas.Option.{IfSome_then}
+use Rattle.rr_io.proofs.ToldLemmas.{of_all}
 use Rattle.rr_calendars.specs.Outcomes.{outcome_is}
 use Rattle.rr_calendars.specs.Parsed.{words_of}
 use Rattle.rr_calendars.specs.Run.{contents}
 use Rattle.rr_calendars.specs.Words.{asked_of}
-use Rattle.rr_calendars.proofs.RunLemmas.{caused, ends_done, ends_failed, no_fault, of_all, of_some, usage_none}
+use Rattle.rr_calendars.proofs.RunLemmas.{caused, ends_done, ends_failed, no_fault, usage_none}
 use Rattle.rr_calendars.proofs.program.run.Goals as goal
 
 pub returns-in-Err-Failed-clause-answer : goal.returns-in-Err-Failed-clause-answer
@@ -54,5 +56,5 @@ returns-clause-quiet g c = λ fault. absurd (no_fault (asked_of (words_of c.args
 
 pub returns-clause-complete : goal.returns-clause-complete
 returns-clause-complete g c = λ same rose.
-    of_some (contents (asked_of (words_of c.args.words.now)) (g.S.Source.held c.args.source.now)) c.in-Ok.ensures.answer
+    IfSome_then (contents (asked_of (words_of c.args.words.now)) (g.S.Source.held c.args.source.now)) c.in-Ok.ensures.answer
     (λ files is. inr (outcome_is c.in-Ok.outcome, is, refl))

@@ -1,10 +1,10 @@
 use Rattle.std.proofs.Common.{ℕ, List, Some}
+use Rattle.rr_io.proofs.ToldLemmas.{of_held}
 use Rattle.rr_calendars.specs.Outcomes.{outcome_is}
 use Rattle.rr_calendars.specs.Parsed.{request_in}
 use Rattle.rr_calendars.specs.Run.{IsCompared, contents}
 use Rattle.rr_calendars.specs.Words.{comparison}
 use Rattle.rr_calendars.proofs.AnswerLemmas.{compared_ending}
-use Rattle.rr_calendars.proofs.FetchLemmas.{of_held}
 use Rattle.rr_calendars.proofs.work.work_out.Goals as goal
 
 pub returns-clause-answer : goal.returns-clause-answer

@@ -1,8 +1,8 @@
 use Rattle.std.proofs.Common.{◌-ℤ◌, sym, ap, ◌∙◌}
-use Rattle.rr_family.proofs.DivisorLemmas.{one_divides}
-use Rattle.rr_family.proofs.sorts.unit_counts.Goals as goal
 use Rattle.rr_model.specs.Vcal.Members.{family_unit}
 use Rattle.rr_model.specs.Whole.{divides}
+use Rattle.rr_model.proofs.DividesLemmas.{one_divides}
+use Rattle.rr_family.proofs.sorts.unit_counts.Goals as goal
 
 pub returns-then-interval-eq1 : goal.returns-then-interval-eq1
 returns-then-interval-eq1 c =

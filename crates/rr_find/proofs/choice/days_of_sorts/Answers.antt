@@ -1,7 +1,7 @@
 use Rattle.std.proofs.Common.{arith, sym}
 use Rattle.rr_family.specs.Sorts.{has_sort}
+use Rattle.rr_family.proofs.TallyLemmas.{sum_zero}
 use Rattle.rr_find.proofs.ChoiceLemmas.{sum_next, few_if}
-use Rattle.rr_find.proofs.TakenLemmas.{sum_zero}
 use Rattle.rr_find.proofs.choice.days_of_sorts.Goals as goal
 
 pub loop-sort-init : goal.loop-sort-init

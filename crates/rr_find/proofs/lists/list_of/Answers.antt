@@ -1,9 +1,10 @@
 use Rattle.std.proofs.Common.{subst, sym, ◌∙◌}
 use Rattle.std.specs.Prelude.{◌⊎◌}
+use Rattle.std.proofs.lemmas.Result.{IfOk-weaker}
 use Rattle.rr_family.specs.Lasting.{is_occupied}
 use Rattle.rr_family.specs.Sorts.{sort_of_day}
 use Rattle.rr_find.specs.Counted.{HasMixed, HasUnsorted, IsTallied}
-use Rattle.rr_find.proofs.ListLemmas.{answer_is, list_of_taken, near_read, no_rule_if_given_up, some_cycle}
+use Rattle.rr_find.proofs.ListLemmas.{list_of_taken, near_read, no_rule_if_given_up, some_cycle}
 use Rattle.rr_find.proofs.RuleLemmas.{no_rule_if_no_days}
 use Rattle.rr_find.proofs.TallyDayLemmas.{few_days}
 use Rattle.rr_find.proofs.lists.list_of.Goals as goal
@@ -26,7 +27,7 @@ returns-in-Some-tally g c =
     let tallied = subst (λ d. IsTallied c.in-Some-tally.counts.occupied c.in-Some-tally.counts.free (sort_of_day c.args.kind c.args.interval d)
     (is_occupied s) d c.in-Some.days)
     (near_read w.first c.requires.near.first) c.in-Some-tally.ensures in
-    answer_is _ _ c.taken_items.result
+    IfOk-weaker c.taken_items.result _ _
     (λ items t. list_of_taken s w c.args.kind c.args.interval c.in-Some.days (g.met.A.DaySeq.bounded c.args.seq.now).valid c.requires.window
     c.requires.low c.requires.high
     (some_cycle c.args.kind c.args.interval c.requires.low) (sym c.days_to_read.ensures.value ∙ c.in-Some.is) c.in-Some.ensures.few

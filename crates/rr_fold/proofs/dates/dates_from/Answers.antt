@@ -2,7 +2,7 @@ use Rattle.std.proofs.Common.{◌≡◌, ◌<◌, ℤ, List, get_or, length, pos
 use Rattle.std.specs.Prelude.{All, int_le}
 use Rattle.rr_model.specs.Moment.{day_part}
 use Rattle.rr_model.specs.Moment.Years.{IsInYears}
-use Rattle.rr_days.proofs.BackLemmas.{moment_back}
+use Rattle.rr_model.proofs.BackLemmas.{in_years_back}
 use Rattle.rr_fold.proofs.DatesFromLemmas.{next_date}
 use Rattle.rr_fold.proofs.dates.dates_from.Goals as goal
 
@@ -18,4 +18,4 @@ loop-date-preserved c =
     let l : i < length c.args.dates.now = omega (arith, c.loop-date-test.true, ap length same) in
     next_date (λ t. int_le first (day_part kind t)) c.args.dates.now c.loop-date.later c.put_from.new.later i date (pos 0)
     (rw same at c.as_slice-date-items.ensures.rises) l (ap (λ (xs : List ℤ). get_or xs i (pos 0)) same) c.loop-date.invariant
-    (rw (moment_back kind date years) at c.in_ok-put_from.ensures)
+    (rw (in_years_back kind date years) at c.in_ok-put_from.ensures)

@@ -1,9 +1,9 @@
 use Rattle.std.proofs.Common.{◌≡◌, length, pos, ◌+ℤ◌, sym, subst, ◌∙◌, arith, to_z-of_z}
 use Rattle.std.proofs.lemmas.Int.{ints}
-use Rattle.rr_iter.proofs.AloneLemmas.{none_is}
 use Rattle.rr_model.specs.Series.Soundness.{IsSound}
 use Rattle.rr_model.specs.Series.Tree.{tree_of}
 use Rattle.rr_model.specs.Sets.Tree.{dates_of}
+use Rattle.rr_model.proofs.WithValueLemmas.{absent_nil}
 use Rattle.rr_fold.specs.Combined.{AreCombined}
 use Rattle.rr_fold.specs.Folding.{IsFoldedTo}
 use Rattle.rr_fold.specs.Rules.{dates_from, kept_from}
@@ -28,7 +28,7 @@ returns-then-is_empty-clause-folded c =
     let value = c.series-given.ensures.value in
     let sound = subst IsSound value c.series-given.ensures.sound in
     let days = c.in_ok-days.days in
-    let none = none_is s.minus (rw value at (sym c.is_empty.ensures ∙ c.if-is_empty.true)) in
+    let none = absent_nil s.minus (rw value at (sym c.is_empty.ensures ∙ c.if-is_empty.true)) in
     folded_same (kept_from s c.args.first) (tree_of s) (no_minus s c.args.first c.args.end sound c.requires.rules c.requires.early none) c.args.first c.args.end
     days.shapes days.numbers (rw (value, to_z-of_z c.ranges.first, to_z-of_z c.ranges.end) at c.in_ok-days.ensures.folded)
 

@@ -1,9 +1,9 @@
 use Rattle.std.proofs.Common.{◌≡◌, length, pos, ◌+ℤ◌, refl, sym, ◌∙◌, arith, to_z-of_z}
 use Rattle.std.proofs.lemmas.Int.{ints}
-use Rattle.rr_iter.proofs.AloneLemmas.{none_is}
 use Rattle.rr_iter.proofs.SettledLemmas.{rules_are_sound}
 use Rattle.rr_model.specs.Sets.Tree.{dates_of}
-use Rattle.rr_days.proofs.BackLemmas.{moment_back}
+use Rattle.rr_model.proofs.WithValueLemmas.{absent_nil}
+use Rattle.rr_model.proofs.BackLemmas.{in_years_back}
 use Rattle.rr_fold.specs.Combined.{AreCombined}
 use Rattle.rr_fold.specs.Folding.{IsFoldedTo}
 use Rattle.rr_fold.specs.Rules.{dates_from, given_from, members_of_rules}
@@ -21,19 +21,19 @@ days_of_rules-requires-clause-some c = rw c.as_slice-rules.ensures c.requires.ru
 pub days_of_rules-requires-clause-sound : goal.days_of_rules-requires-clause-sound
 days_of_rules-requires-clause-sound c =
     let s = c.args.series.now in
-    rw (c.as_slice-rules.ensures, moment_back s.kind s.start c.requires.sound.valid.start) (rules_are_sound s c.requires.sound)
+    rw (c.as_slice-rules.ensures, in_years_back s.kind s.start c.requires.sound.valid.start) (rules_are_sound s c.requires.sound)
 
 pub days_of_rules-requires-clause-counted : goal.days_of_rules-requires-clause-counted
 days_of_rules-requires-clause-counted c =
     let s = c.args.series.now in
-    rw (c.as_slice-rules.ensures, c.as_slice-counted.ensures.value, moment_back s.kind s.start c.requires.sound.valid.start) c.requires.counts.rules
+    rw (c.as_slice-rules.ensures, c.as_slice-counted.ensures.value, in_years_back s.kind s.start c.requires.sound.valid.start) c.requires.counts.rules
 
 pub returns-then-is_empty-clause-folded : goal.returns-then-is_empty-clause-folded
 returns-then-is_empty-clause-folded c =
     let s = c.args.series.now in
-    let start = moment_back s.kind s.start c.requires.sound.valid.start in
+    let start = in_years_back s.kind s.start c.requires.sound.valid.start in
     let days = c.in_ok-days.days in
-    let none = none_is s.plus (sym c.is_empty.ensures ∙ c.if-is_empty.true) in
+    let none = absent_nil s.plus (sym c.is_empty.ensures ∙ c.if-is_empty.true) in
     folded_same (members_of_rules s.kind s.start s.rules) (given_from s c.args.first) (no_plus s c.args.first none) c.args.first c.args.end days.shapes days.numbers
     (rw (start, to_z-of_z c.ranges.first, to_z-of_z c.ranges.end, c.as_slice-rules.ensures) at c.in_ok-days.ensures.folded)
 
@@ -52,7 +52,7 @@ combination_of-requires-clause-others c = numbers_within _ _ _ c.in_ok-days.days
 pub returns-clause-folded : goal.returns-clause-folded
 returns-clause-folded c =
     let s = c.args.series.now in
-    let start = moment_back s.kind s.start c.requires.sound.valid.start in
+    let start = in_years_back s.kind s.start c.requires.sound.valid.start in
     let f = to_z-of_z c.ranges.first in
     let e = to_z-of_z c.ranges.end in
     let days = c.in_ok-days.days in

@@ -1,7 +1,7 @@
 use Rattle.std.proofs.Common.{◌≡◌, length, pos, ◌+ℤ◌, refl, sym, ◌∙◌, arith, to_z-of_z}
 use Rattle.std.proofs.lemmas.Int.{ints}
 use Rattle.rr_iter.proofs.SettledLemmas.{excluded_are_sound}
-use Rattle.rr_days.proofs.BackLemmas.{moment_back}
+use Rattle.rr_model.proofs.BackLemmas.{in_years_back}
 use Rattle.rr_fold.specs.Combined.{AreCombined}
 use Rattle.rr_fold.specs.Folding.{IsFoldedTo}
 use Rattle.rr_fold.specs.Rules.{given_from, kept_from, members_of_rules}
@@ -28,12 +28,12 @@ days_of_rules-requires-clause-some c =
 pub days_of_rules-requires-clause-sound : goal.days_of_rules-requires-clause-sound
 days_of_rules-requires-clause-sound c =
     let s = c.args.series.now in
-    rw (c.as_slice-excluded.ensures, moment_back s.kind s.start c.requires.sound.valid.start) (excluded_are_sound s c.requires.sound)
+    rw (c.as_slice-excluded.ensures, in_years_back s.kind s.start c.requires.sound.valid.start) (excluded_are_sound s c.requires.sound)
 
 pub days_of_rules-requires-clause-counted : goal.days_of_rules-requires-clause-counted
 days_of_rules-requires-clause-counted c =
     let s = c.args.series.now in
-    rw (c.as_slice-excluded.ensures, c.as_slice-counted.ensures.value, moment_back s.kind s.start c.requires.sound.valid.start) c.requires.counts.excluded
+    rw (c.as_slice-excluded.ensures, c.as_slice-counted.ensures.value, in_years_back s.kind s.start c.requires.sound.valid.start) c.requires.counts.excluded
 
 pub combination_of-requires-clause-long : goal.combination_of-requires-clause-long
 combination_of-requires-clause-long c = omega (arith, ints, c.in_ok-days.ensures.whole, c.in_ok-out.ensures.whole)
@@ -50,7 +50,7 @@ combination_of-requires-clause-others c = numbers_within _ _ _ c.in_ok-out.out.s
 pub returns-clause-folded : goal.returns-clause-folded
 returns-clause-folded c =
     let s = c.args.series.now in
-    let start = moment_back s.kind s.start c.requires.sound.valid.start in
+    let start = in_years_back s.kind s.start c.requires.sound.valid.start in
     let f = to_z-of_z c.ranges.first in
     let e = to_z-of_z c.ranges.end in
     let days = c.in_ok-days.days in

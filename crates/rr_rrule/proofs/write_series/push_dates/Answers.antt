@@ -1,6 +1,6 @@
 use Rattle.std.proofs.Common.{rules, w64, to_z, of_z, pos, get_or}
 use Rattle.rr_model.specs.Text.Written.{date_line}
-use Rattle.rr_rrule.proofs.PushLemmas.{one_written}
+use Rattle.rr_text.proofs.WrittenListLemmas.{one_written}
 use Rattle.rr_rrule.proofs.write_series.push_dates.Goals as goal
 
 pub loop-at-preserved : goal.loop-at-preserved

@@ -1,5 +1,5 @@
 use Rattle.rr_model.specs.Text.Written.{rule_line}
-use Rattle.rr_rrule.proofs.PushLemmas.{one_written}
+use Rattle.rr_text.proofs.WrittenListLemmas.{one_written}
 use Rattle.rr_rrule.proofs.write_series.push_rules.Goals as goal
 
 pub loop-rule-preserved : goal.loop-rule-preserved

@@ -1,7 +1,7 @@
 use Rattle.std.proofs.Common.{pos, ◌≤ℤ◌, sym, subst}
-use Rattle.rr_days.proofs.BackLemmas.{moment_back}
 use Rattle.rr_model.specs.Sets.Sketch.{StandsFor}
 use Rattle.rr_model.specs.declared.sketch.Sketch.{Sketch}
+use Rattle.rr_model.proofs.BackLemmas.{in_years_back}
 use Rattle.rr_skip.specs.Folding.{is_occupied}
 use Rattle.rr_skip.specs.Members.{OccursSkipping}
 use Rattle.rr_skip.proofs.SkipSketchLemmas.{is_folding, skip_stands}
@@ -10,13 +10,13 @@ use Rattle.rr_skip.proofs.fold.fold_skip.Goals as goal
 pub fold_of_days-requires-clause-days : goal.fold_of_days-requires-clause-days
 fold_of_days-requires-clause-days c =
     let series = c.args.series.now in
-    let s = moment_back series.kind series.start c.requires.sound.start in
+    let s = in_years_back series.kind series.start c.requires.sound.start in
     rw s (is_folding series.kind series.start (is_occupied series.rule series.kind series.start) c.in-Ok.days c.in-Ok.ensures.days)
 
 pub returns-in_ok-fold_of_days-in-Ok-clause-stands : goal.returns-in_ok-fold_of_days-in-Ok-clause-stands
 returns-in_ok-fold_of_days-in-Ok-clause-stands c =
     let series = c.args.series.now in
-    let s = moment_back series.kind series.start c.requires.sound.start in
+    let s = in_years_back series.kind series.start c.requires.sound.start in
     let same = rw s at c.in_ok-fold_of_days-in-Ok.ensures in
     subst (λ x. StandsFor x (OccursSkipping series)) (sym same) (skip_stands series c.in-Ok.days c.in-Ok.ensures.days)
 

@@ -1,6 +1,6 @@
 use Rattle.std.proofs.Common.{rules, w64, to_z, of_z, pos, get_or}
+use Rattle.rr_text.proofs.WrittenListLemmas.{one_written}
 use Rattle.rr_vcal.specs.Writing.{vcal_date_line}
-use Rattle.rr_vcal.proofs.PushLemmas.{one_written}
 use Rattle.rr_vcal.proofs.written.push_dates.Goals as goal
 
 pub loop-date-preserved : goal.loop-date-preserved

@@ -1,5 +1,5 @@
+use Rattle.rr_text.proofs.WrittenListLemmas.{one_written}
 use Rattle.rr_vcal.specs.Writing.{vcal_rule_line}
-use Rattle.rr_vcal.proofs.PushLemmas.{one_written}
 use Rattle.rr_vcal.proofs.written.push_rules.Goals as goal
 
 pub loop-rule-preserved : goal.loop-rule-preserved

@@ -2,6 +2,7 @@ use Rattle.std.proofs.Common.{◌≡◌, ◌≤◌, true, false, ℤ, pos, ◌�
 use Rattle.std.specs.Prelude.{Some, int_lt, nat_lt}
 use Rattle.std.proofs.lemmas.Int.{ints}
 use Rattle.std.proofs.lemmas.List.Sorted.{IsPartitionPoint-from_clause}
+use Rattle.std.proofs.lemmas.Option.{same_Some}
 use Rattle.rr_model.specs.Rising.Sets.{IsSetOf}
 use Rattle.rr_model.specs.Rule.DaysAndTimes.{IsCandidateTime}
 use Rattle.rr_model.specs.Sets.Tree.{chosen_of}
@@ -20,9 +21,6 @@ next_rank-requires-clause-count c =
     let u = rw c.self.view_is at c.self.invariant in
     few_days c.args.self.now c.args.days.now u.freq c.requires.days
 
-some_is : (x y : ℤ) → Some x ≡ Some y → x ≡ y
-some_is x y e = cc
-
 pub returns : goal.returns
 returns c shown times is set =
     let i = c.self.inside in
@@ -35,7 +33,7 @@ returns c shown times is set =
     let x : ℤ = get_or days found (pos 0) in
     let fits : FitsSigned w64 x = search rules in
     let day : ℤ = to_z w64 (of_z w64 x) in
-    let said : day ≡ shown = some_is day shown is in
+    let said : day ≡ shown = same_Some day shown is in
     let unit_days = rw (sym c.self.view_is) at c.requires.days in
     let stands = rw (sym c.self.view_is) at c.requires.positions in
     let own : IsSetOf nat_lt times (IsCandidateTime i.rule i.kind i.start) = rw (sym c.self.view_is) at set in

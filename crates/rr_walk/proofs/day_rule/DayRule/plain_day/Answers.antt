@@ -1,5 +1,6 @@
-use Rattle.std.proofs.Common.{◌≡◌, ◌∙◌, ℕ, List, [], ◌∷◌, length, refl, ap, sym, to_z-of_z, arith}
+use Rattle.std.proofs.Common.{◌≡◌, ◌∙◌, length, ap, sym, to_z-of_z, arith}
 use Rattle.std.proofs.lemmas.Result.{IfOk-weaker}
+use Rattle.std.proofs.lemmas.List.{nil_from_length}
 use Rattle.rr_model.specs.Sets.Tree.{chosen_of}
 use Rattle.rr_walk.specs.Ruling.{keeps_more}
 use Rattle.rr_walk.specs.Walk.{IsOnDayIn, IsDayOfTimes}
@@ -23,17 +24,13 @@ returns-then-first-gt0-clause-found c =
     IfOk-weaker c.day_of_times.result (IsDayOfTimes c.day_of_times.new.sets c.args.day c.in_ok-times.times) (IsOnDayIn c.day_of_times.new.sets tree c.args.day)
     (λ found p. occupied_on c.day_of_times.new.sets tree c.args.day c.in_ok-times.times found set p) (rw (to_z-of_z c.ranges.day) at c.day_of_times.ensures.day)
 
-nothing : (xs : List ℕ) → length xs ≡ 0 → xs ≡ []
-nothing [] e = refl
-nothing (x ∷ xs) e = absurd (omega (arith, e))
-
 pub returns-then-count-eq0-clause-found : goal.returns-then-count-eq0-clause-found
 returns-then-count-eq0-clause-found c =
     let r = c.args.self.now in
     let u = rw c.self.view_is at c.self.invariant in
     let none : c.first_second-first.result ≡ 0 = omega (arith, c.if-first-gt0.false) in
     let first = rw (to_z-of_z c.ranges.day, none) at c.first_second-first.ensures in
-    let empty = sym c.as_slice-count.ensures.same ∙ nothing c.as_slice-count.result.now c.if-count-eq0.true in
+    let empty = sym c.as_slice-count.ensures.same ∙ nil_from_length c.as_slice-count.result.now c.if-count-eq0.true in
     plain_none r.rule r.kind r.start c.args.day u.freq (absent_is r.rule.by_set_pos c.requires.plain) c.requires.candidate c.self.inside.times u.of_times
     first empty
 

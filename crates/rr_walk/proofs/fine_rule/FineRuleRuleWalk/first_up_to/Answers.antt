@@ -2,8 +2,9 @@ use Rattle.std.proofs.Common.{rules, ◌≡◌, pos, ◌+ℤ◌, ◌≤ℤ◌, a
 use Rattle.std.proofs.lemmas.Int.{ints}
 use Rattle.rr_model.specs.declared.kind.Kind.TheVariants.{Moments}
 use Rattle.rr_model.specs.Sets.Tree.{chosen_of}
+use Rattle.rr_lazy.proofs.AheadLemmas.{join}
 use Rattle.rr_walk.specs.Ruling.{KnowsUnitOffsets}
-use Rattle.rr_walk.proofs.FineLemmas.{found_first, none_on, none_past}
+use Rattle.rr_walk.proofs.FineLemmas.{found_first, none_past}
 use Rattle.rr_walk.proofs.fine_rule.FineRuleRuleWalk.first_up_to.Goals as goal
 
 pub on_day-requires-clause-knows : goal.on_day-requires-clause-knows
@@ -37,7 +38,7 @@ returns-in-Some-2-clause-found c =
     let k = c.in-Some.candidate in
     let low : c.args.from ≤ℤ k = omega (arith, ints, first.0, c.loop-candidate.invariant.3, from) in
     let back : to_z w64 (of_z w64 k) ≡ k = omega (arith, ints, low, first.1, c.requires.from.0, c.requires.next.1) in
-    let none = none_on tree c.args.from (to_z w64 c.loop-candidate.day-bits) k (rw from at c.loop-candidate.invariant.5) first.2 in
+    let none = join tree c.args.from (to_z w64 c.loop-candidate.day-bits) k (rw from at c.loop-candidate.invariant.5) first.2 in
     let rule = ap (λ q. q.rule) c.candidate_from.ensures.same ∙ s.rule in
     let start = ap (λ q. q.start) c.candidate_from.ensures.same ∙ s.start in
     let on = rw (rule, start, back) at (rw c.in-Some-2.is at c.in_ok-on_day.ensures.found) in
@@ -54,7 +55,7 @@ loop-candidate-preserved c =
     let k = c.in-Some.candidate in
     let low : c.args.from ≤ℤ k = omega (arith, ints, first.0, c.loop-candidate.invariant.3, from) in
     let back : to_z w64 (of_z w64 k) ≡ k = omega (arith, ints, low, first.1, c.requires.from.0, c.requires.next.1) in
-    let none = none_on tree (to_z w64 (of_z w64 c.args.from)) (to_z w64 c.loop-candidate.day-bits) k c.loop-candidate.invariant.5 first.2 in
+    let none = join tree (to_z w64 (of_z w64 c.args.from)) (to_z w64 c.loop-candidate.day-bits) k c.loop-candidate.invariant.5 first.2 in
     let rule = ap (λ q. q.rule) c.candidate_from.ensures.same ∙ s.rule in
     let kind = ap (λ q. q.kind) c.candidate_from.ensures.same ∙ s.kind in
     let start = ap (λ q. q.start) c.candidate_from.ensures.same ∙ s.start in
