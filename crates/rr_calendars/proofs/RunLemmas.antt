@@ -43,10 +43,10 @@ ends_said asked is x old new h said put =
     of_ending (λ (s : Status). s ≡ x.status → Ends s is old new) asked x.status h
     (λ e. (x, said, e, put)) (λ e. (x, said, e, put)) (λ e. (x, said, e, put)) (λ e. (x, said, e, put)) refl
 
-pub caused : (asked : Option Asked) (status : Status) (failed failed' : List (List ℕ)) (faults faults' : ℕ) → IsEnding asked status
-    → failed' ≡ failed → faults' ≡ faults → HasCause status asked failed failed' faults faults'
-caused asked status failed failed' faults faults' h p q =
-    of_ending (λ (s : Status). HasCause s asked failed failed' faults faults') asked status h (p, q) (p, q) (p, q) (p, q)
+pub caused : {S K : Type 0} (asked : Option Asked) (status : Status) (failed : S → List (List ℕ)) (source source' : S) (faults : K → ℕ) (sink sink' : K)
+    → IsEnding asked status → failed source' ≡ failed source → faults sink' ≡ faults sink → HasCause status asked failed source source' faults sink sink'
+caused asked status failed source source' faults sink sink' h p q =
+    of_ending (λ (s : Status). HasCause s asked failed source source' faults sink sink') asked status h (p, q) (p, q) (p, q) (p, q)
 
 pub usage_none : (asked : Option Asked) (status : Status) → IsEnding asked status → status ≡ Usage → IsNone asked
 usage_none None status h e = refl

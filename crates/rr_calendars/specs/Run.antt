@@ -71,9 +71,13 @@ abbrev pub IsOfBoth : Option (List ℕ) → Request → List ℕ → List ℕ �
 IsOfBoth None request old new answer = IsReported request old new answer
 IsOfBoth (Some name) request old new answer = IsNamed request.offset name old new answer
 
+-- what a request answers over two files that are not refused
+abbrev pub IsOfRequest : Request → List ℕ → List ℕ → Answer → Type 0
+IsOfRequest request old new answer = IsOfBoth request.show request old new answer
+
 -- what a comparison answers over the bytes of the files
 abbrev pub IsCompared : Request → List ℕ × List ℕ → Answer → Type 0
-IsCompared request files answer = IsOfBoth request.show request files.0 files.1 answer ⊎ IsFileAnswer files.0 files.1 answer
+IsCompared request files answer = IsOfRequest request files.0 files.1 answer ⊎ IsFileAnswer files.0 files.1 answer
 
 -- what is asked is answered, over the bytes of the files; the texts of usage and help are no promise
 abbrev pub IsAnswer : Option Asked → List ℕ × List ℕ → Answer → Type 0
@@ -101,6 +105,10 @@ contents None held = Some ([], [])
 contents (Some help) held = Some ([], [])
 contents (Some (comparison request)) held =
     option_and_then (λ old. option_map (λ new. (old, new)) (content held request.new)) (content held request.old)
+
+-- the bytes are those of the files that are asked for, where the source tells them
+abbrev pub AreFilesOf : Option Asked → (List ℕ → Option (List ℕ)) → List ℕ → List ℕ → Type 0
+AreFilesOf asked held old new = IfSome {T = List ℕ × List ℕ} (contents asked held) (λ (files : List ℕ × List ℕ). (old, new) ≡ files)
 
 -- the answer is that to what is asked, over the files that the source holds, where the source tells them
 abbrev pub IsAnswerTo : Option Asked → (List ℕ → Option (List ℕ)) → Answer → Type 0
@@ -132,11 +140,18 @@ HasAnswerStatus status asked held =
     IfSome (contents asked held) (λ files. (status ≡ NoMemory) ⊎ ((answer : Answer) × IsAnswer asked files answer × (status ≡ answer.status)))
 
 -- the names of failed fetches gained that of a file
-abbrev pub GainsFile : Option Asked → List (List ℕ) → List (List ℕ) → Type 0
-GainsFile asked failed failed' = (name : List ℕ) × IsFileOf asked name × (failed' ≡ failed ++ name ∷ [])
+abbrev pub GainsFile : {S : Type 0} → Option Asked → (S → List (List ℕ)) → S → S → Type 0
+GainsFile asked failed source source' = (name : List ℕ) × IsFileOf asked name × (failed source' ≡ failed source ++ name ∷ [])
 
--- The cause of each status: which names of failed fetches and which count of faults the run left as they were, and which it raised.
-abbrev pub HasCause : Status → Option Asked → List (List ℕ) → List (List ℕ) → ℕ → ℕ → Type 0
-HasCause ReadFault asked failed failed' faults faults' = GainsFile asked failed failed' × (faults' ≡ faults)
-HasCause WriteFault asked failed failed' faults faults' = (failed' ≡ failed) × RoseOrIsLast faults faults'
-HasCause status asked failed failed' faults faults' = (failed' ≡ failed) × (faults' ≡ faults)
+-- The cause of each status: whether the names of failed fetches of the source and the count of faults of the sink stayed, and which of
+-- them grew.
+abbrev pub HasCause : {S K : Type 0} → Status → Option Asked → (S → List (List ℕ)) → S → S → (K → ℕ) → K → K → Type 0
+HasCause ReadFault asked failed source source' faults sink sink' = GainsFile asked failed source source' × (faults sink' ≡ faults sink)
+HasCause WriteFault asked failed source source' faults sink sink' = (failed source' ≡ failed source) × RoseOrIsLast (faults sink) (faults sink')
+HasCause status asked failed source source' faults sink sink' = (failed source' ≡ failed source) × (faults sink' ≡ faults sink)
+
+-- where no fetch from the source and no put to the sink failed, the status is that of the answer, or out of memory
+abbrev pub IsComplete : {S K : Type 0} → Status → Option Asked → (S → List ℕ → Option (List ℕ)) → (S → List (List ℕ)) → S → S → (K → ℕ) → K → K
+    → Type 0
+IsComplete status asked held failed source source' faults sink sink' =
+    failed source' ≡ failed source → (RoseOrIsLast (faults sink) (faults sink') → ⊥) → HasAnswerStatus status asked (held source)

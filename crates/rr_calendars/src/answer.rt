@@ -2,7 +2,7 @@
 ghost use Rattle.std.specs.Prelude.{◌≡◌, All, IfOk};
 ghost use Rattle.rr_calendars.specs.Outcomes.{AnswersFiles, outcome_is};
 ghost use Rattle.rr_calendars.specs.Parsed.{request_in};
-ghost use Rattle.rr_calendars.specs.Run.{IsCompared, IsNamed, IsOfBoth, IsReported, report_answer, status_by};
+ghost use Rattle.rr_calendars.specs.Run.{IsCompared, IsNamed, IsOfRequest, IsReported, report_answer, status_by};
 ghost use Rattle.rr_trip.specs.Said.{IsPrintableSaid};
 
 use crate::status::Status;
@@ -105,8 +105,8 @@ fn answer_of_both<W: Watch>(
     new: &[u8],
     watch: &mut W,
 ) -> Result<Outcome, TripFault>
-    ensures { AnswersFiles (λ x. IsOfBoth (request_in request.entry).show
-        (request_in request.entry) old.now new.now (outcome_is x)) old.now new.now result }
+    ensures { AnswersFiles (λ x. IsOfRequest (request_in request.entry) old.now new.now
+        (outcome_is x)) old.now new.now result }
 {
     match request.show {
         None => comparison_outcome(alloc, request, old, new, watch),

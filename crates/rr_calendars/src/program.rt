@@ -1,8 +1,7 @@
 // The top call.
 ghost use Rattle.std.specs.Prelude.{◌≡◌, ◌⊎◌, IsNone};
-ghost use Rattle.rr_io.specs.Outside.{RoseOrIsLast};
 ghost use Rattle.rr_calendars.specs.Parsed.{asked_of_words};
-ghost use Rattle.rr_calendars.specs.Run.{EndsAnswered, HasAnswerStatus, HasCause};
+ghost use Rattle.rr_calendars.specs.Run.{EndsAnswered, HasCause, IsComplete};
 
 use crate::status::{Ended, Status};
 use crate::work::outcome_of;
@@ -26,8 +25,8 @@ pub fn run<S: Source, K: Sink, W: Watch>(
         (K.written sink.old) (K.written sink.new) }
 
     // A fault is answered only where the fetch of a file or the put has failed, and then that alone.
-    ensures cause { HasCause result.status (asked_of_words words.now) (S.failed source.old)
-        (S.failed source.new) (K.faults sink.old) (K.faults sink.new) }
+    ensures cause { HasCause result.status (asked_of_words words.now)
+        S.failed source.old source.new K.faults sink.old sink.new }
 
     // The same over a source that does not tell what it holds.
     ensures usage { result.status ≡ Status.Usage → IsNone (asked_of_words words.now) }
@@ -35,9 +34,8 @@ pub fn run<S: Source, K: Sink, W: Watch>(
         → K.written sink.new ≡ K.written sink.old }
 
     // Where nothing failed the answer comes, unless out of memory.
-    ensures complete { S.failed source.new ≡ S.failed source.old
-        → (RoseOrIsLast (K.faults sink.old) (K.faults sink.new) → ⊥)
-        → HasAnswerStatus result.status (asked_of_words words.now) (S.held source.old) }
+    ensures complete { IsComplete result.status (asked_of_words words.now) S.held
+        S.failed source.old source.new K.faults sink.old sink.new }
 {
     match outcome_of(alloc, words, source, watch) {
         Err(FetchError::Failed) => Ended {

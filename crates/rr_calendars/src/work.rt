@@ -3,7 +3,7 @@ ghost use Rattle.std.specs.Prelude.{◌≡◌, ◌++◌, ◌∷◌, [], IfOk, If
 ghost use Rattle.rr_io.specs.Outside.{KeepsHeld};
 ghost use Rattle.rr_calendars.specs.Outcomes.{outcome_is};
 ghost use Rattle.rr_calendars.specs.Parsed.{asked_of_words, comparison_in};
-ghost use Rattle.rr_calendars.specs.Run.{GainsFile, IsAnswerTo, IsEnding, content, contents};
+ghost use Rattle.rr_calendars.specs.Run.{AreFilesOf, GainsFile, IsAnswerTo, IsEnding, content};
 
 use crate::answer::{Outcome, answer};
 use crate::status::Status;
@@ -71,11 +71,10 @@ fn fetch_both<S: Source>(
     request: Request,
     source: &mut S,
 ) -> Result<Files, FetchError>
-    ensures files { IfOk result (λ f. IfSome
-        (contents (comparison_in request.entry) (S.held source.old))
-        (λ files. (f.old.items, f.new.items) ≡ files)) }
+    ensures files { IfOk result (λ f. AreFilesOf (comparison_in request.entry) (S.held source.old)
+        f.old.items f.new.items) }
     ensures failed { IsErrOf result FetchError.Failed
-        → GainsFile (comparison_in request.entry) (S.failed source.old) (S.failed source.new) }
+        → GainsFile (comparison_in request.entry) S.failed source.old source.new }
     ensures kept { (IsErrOf result FetchError.Failed → ⊥)
         → S.failed source.new ≡ S.failed source.old }
 {
@@ -95,7 +94,7 @@ fn work_out<S: Source, W: Watch>(
         (outcome_is x)) }
     ensures ending { IfOk result (λ x. IsEnding (comparison_in request.entry) x.status) }
     ensures failed { IsErrOf result FetchError.Failed
-        → GainsFile (comparison_in request.entry) (S.failed source.old) (S.failed source.new) }
+        → GainsFile (comparison_in request.entry) S.failed source.old source.new }
     ensures kept { (IsErrOf result FetchError.Failed → ⊥)
         → S.failed source.new ≡ S.failed source.old }
 {
@@ -131,7 +130,7 @@ pub fn outcome_of<S: Source, W: Watch>(
         (outcome_is x)) }
     ensures ending { IfOk result (λ x. IsEnding (asked_of_words words.now) x.status) }
     ensures failed { IsErrOf result FetchError.Failed
-        → GainsFile (asked_of_words words.now) (S.failed source.old) (S.failed source.new) }
+        → GainsFile (asked_of_words words.now) S.failed source.old source.new }
     ensures kept { (IsErrOf result FetchError.Failed → ⊥)
         → S.failed source.new ≡ S.failed source.old }
 {

@@ -50,8 +50,8 @@ impl Lazy for KeptLazy {
 
     ghost knows_more = { knows_kept_more };
 
-    ghost sound = { λ s. sound_except (⟦<AllLazy as Lazy>⟧.tree s.lazy.a)
-        (⟦<RulesLazy as Lazy>⟧.tree s.lazy.b)
+    ghost sound = { λ s. sound_except (⟦<AllLazy as Lazy>⟧.tree s.lazy.a.lazy)
+        (⟦<RulesLazy as Lazy>⟧.tree s.lazy.b.lazy)
         s.lazy.position s.lazy.one_kind s.lazy.begun };
 
     fn next(

@@ -1,5 +1,6 @@
 -- What a translation of a series is, and when there is none.
-use Rattle.std.specs.Prelude.{◌≡◌, ◌⊎◌, ℕ, ◌≤◌, true, false, ⊤, List, [], ◌∷◌, ℤ, Some, None, Result, Ok, Err}
+use Rattle.std.specs.Prelude.{◌≡◌, ◌⊎◌, ℕ, ◌≤◌, true, false, ⊤, List, [], ◌∷◌, ℤ, Some, None, Result, Ok, Err, Vec}
+use Rattle.std.specs.Global.{Global}
 use Rattle.rr_family.specs.GraphProfile.{IsFirstPattern, IsPatternOf}
 use Rattle.rr_family.specs.Profile.{IsFirstRule, IsRuleOf}
 use Rattle.rr_fold.specs.Judged.{all_limits}
@@ -101,6 +102,16 @@ IsAnswered limits series is none (Ok x) = IsLimitRefusal limits series None × i
 IsAnswered limits series is none (Err (Refused refusal)) =
     IsLimitRefusal limits series (Some refusal) ⊎ (IsLimitRefusal limits series None × none × (refusal ≡ NotSayable))
 IsAnswered limits series is none (Err NoMemory) = ⊤
+
+-- what the translation of a series into a language answers: its text, or that the language has no words for it
+abbrev pub IsTranslationAnswer : Lang → Series → Result (Vec ℕ Global) Fault → Type 0
+IsTranslationAnswer target series result =
+    IsAnswered (limits_of target) series (λ (text : Vec ℕ Global). IsTranslation target series text.items) (HasNoWords target (Occurs series)) result
+
+-- what the inference of a series answers: the text of the first single rule, or that there is none
+abbrev pub IsInferenceAnswer : Series → Result (Vec ℕ Global) Fault → Type 0
+IsInferenceAnswer series result =
+    IsAnswered all_limits series (λ (text : Vec ℕ Global). IsInferredText (Occurs series) text.items) (HasNoRule (Occurs series)) result
 
 -- ---- what is said of a set of days
 

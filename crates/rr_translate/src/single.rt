@@ -5,7 +5,7 @@ ghost use Rattle.rr_model.specs.Series.Cycle.{series_cycle};
 ghost use Rattle.rr_model.specs.Series.Occurrences.{Occurs};
 ghost use Rattle.rr_model.specs.declared.limits.TheConstants.{MAX_CYCLE_DAYS};
 ghost use Rattle.rr_translate.specs.Single.{IsFirstSeries};
-ghost use Rattle.rr_translate.specs.Translated.{HasNoRule, IsAnswered, IsInferredText, IsVcalText, vseries_of};
+ghost use Rattle.rr_translate.specs.Translated.{HasNoRule, IsAnswered, IsInferenceAnswer, IsVcalText, vseries_of};
 
 use rr_check::Checked;
 use rr_find::{Found, find};
@@ -55,9 +55,7 @@ pub(crate) fn vcal_text(alloc: Global, series: &Checked) -> Result<Vec<u8>, Faul
 /// The text of RFC 5545 with the same rule.
 pub(crate) fn inferred_text(alloc: Global, series: &Checked) -> Result<Vec<u8>, Fault>
     requires few { series_cycle series.now ≤ MAX_CYCLE_DAYS }
-    ensures { IsAnswered all_limits series.now
-        (λ text. IsInferredText (Occurs series.now) text.items)
-        (HasNoRule (Occurs series.now)) result }
+    ensures { IsInferenceAnswer series.now result }
 {
     let first = first_series(alloc, series)?;
     let counterpart = rr_vcal::to_series(alloc, &first)?;

@@ -1,10 +1,8 @@
 // A series in the words of another language.
 ghost use Rattle.std.specs.Prelude.{◌≤◌};
-ghost use Rattle.rr_fold.specs.Judged.{all_limits};
 ghost use Rattle.rr_model.specs.Series.Cycle.{series_cycle};
-ghost use Rattle.rr_model.specs.Series.Occurrences.{Occurs};
 ghost use Rattle.rr_model.specs.declared.limits.TheConstants.{MAX_CYCLE_DAYS};
-ghost use Rattle.rr_translate.specs.Translated.{HasNoRule, HasNoWords, IsAnswered, IsInferredText, IsTranslation, limits_of};
+ghost use Rattle.rr_translate.specs.Translated.{IsInferenceAnswer, IsTranslationAnswer};
 
 use crate::calendar::calendar_text;
 use crate::graph::graph_text;
@@ -21,9 +19,7 @@ use std::alloc::Global;
 /// `fold`, and then `NotSayable` where there is none.
 pub fn translate(alloc: Global, series: &Checked, target: Lang) -> Result<Vec<u8>, Fault>
     requires few { series_cycle series.now ≤ MAX_CYCLE_DAYS }
-    ensures { IsAnswered (limits_of target) series.now
-        (λ text. IsTranslation target series.now text.items)
-        (HasNoWords target (Occurs series.now)) result }
+    ensures { IsTranslationAnswer target series.now result }
 {
     match target {
         Lang::Rrule => Ok(calendar_text(alloc, series)?),
@@ -38,9 +34,7 @@ pub fn translate(alloc: Global, series: &Checked, target: Lang) -> Result<Vec<u8
 /// `CountedTooFar`, then `TooManyMoments`, as for `fold`, and then `NotSayable` where no such rule has the occurrences.
 pub fn infer(alloc: Global, series: &Checked) -> Result<Vec<u8>, Fault>
     requires few { series_cycle series.now ≤ MAX_CYCLE_DAYS }
-    ensures { IsAnswered all_limits series.now
-        (λ text. IsInferredText (Occurs series.now) text.items)
-        (HasNoRule (Occurs series.now)) result }
+    ensures { IsInferenceAnswer series.now result }
 {
     inferred_text(alloc, series)
 }

@@ -1,5 +1,6 @@
 -- The events of a key in one calendar, as days (RFC 5545, section 3.8.5).
 use Rattle.std.specs.Prelude.{◌≡◌, ℕ, if◌then◌else◌, ℤ, List, [], ◌∷◌, ◌++◌, Option, None, Some, Result, Ok, Err, ⊤}
+use Rattle.rr_days.specs.Sequence.{sketch}
 use Rattle.rr_fold.specs.Judged.{all_limits}
 use Rattle.rr_model.specs.Moment.Years.{OccurFromYearOne}
 use Rattle.rr_model.specs.Series.FirstRefusal.{IsFirstRefusal}
@@ -17,6 +18,8 @@ use Rattle.rr_trip.specs.declared.gather.KeyFault.{KeyFault}
 use Rattle.rr_trip.specs.declared.gather.KeyFault.TheVariants as key_fault
 use Rattle.rr_trip.specs.declared.gather.KeyRefusal.{KeyRefusal}
 use Rattle.rr_trip.specs.declared.gather.KeyRefusal.TheVariants as refusal
+use Rattle.rr_trip.specs.declared.judge.KeyDays.{KeyDays}
+use Rattle.rr_trip.specs.declared.judge.KeySeries.{KeySeries}
 
 -- ---- a series
 
@@ -30,6 +33,10 @@ pub record IsFoldOf (series : Series) (sketch : Sketch) : Type 0 where
 abbrev pub IsFaultOf : Series → Fault → Type 0
 IsFaultOf series (fault.Refused r) = IsFirstRefusal all_limits series (Some r)
 IsFaultOf series fault.NoMemory = ⊤
+
+-- the days of a key have its series and its zones, and are those of that series
+abbrev pub AreDaysOf : KeySeries → KeyDays → Type 0
+AreDaysOf key made = (made.series ≡ key.series) × (made.zones.items ≡ key.zones.items) × IsFoldOf made.series (sketch made.days)
 
 -- ---- the events of a key
 

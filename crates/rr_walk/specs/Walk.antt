@@ -2,7 +2,7 @@
 use Rattle.std.specs.Prelude.{◌≡◌, ℕ, ◌<◌, true, false, IsTrue, Option, Some, None, List, nat_le, nat_lt, [], int_le, ℤ, pos, ◌+ℤ◌, ◌-ℤ◌, ◌≤ℤ◌, ◌<ℤ◌}
 use Rattle.std.specs.List.{Contains}
 use Rattle.rr_model.specs.Whole.{divides}
-use Rattle.rr_model.specs.Moment.{moment_at}
+use Rattle.rr_model.specs.Moment.{day_part, moment_at, second_part}
 use Rattle.rr_model.specs.Moment.Units.{unit_number}
 use Rattle.rr_model.specs.Rising.Sets.{IsSetOf}
 use Rattle.rr_model.specs.declared.kind.Kind.{Kind}
@@ -19,6 +19,11 @@ use Rattle.rr_lazy.specs.DayTimes.{DayTimes}
 -- the seconds of a day that are not before the start are those from this one on
 abbrev pub IsFirstSecond : Kind → ℤ → ℤ → ℕ → Type 0
 IsFirstSecond kind start day from = (s : ℕ) → s < seconds_of kind → int_le start (moment_at kind day s) ≡ nat_le from s
+
+-- the seconds of a day that are not before a start on this day at this second are those from this one on
+abbrev pub IsFirstSecondAfter : ℤ → ℕ → ℤ → ℕ → Type 0
+IsFirstSecondAfter start_day start_second day from =
+    (kind : Kind) (start : ℤ) → start_day ≡ day_part kind start → start_second ≡ second_part kind start → IsFirstSecond kind start day from
 
 -- the seconds, in order, of all occurrences on a day
 abbrev pub AreSecondsOn : Tree → ℤ → List ℕ → Type 0

@@ -1,18 +1,17 @@
 // A rule of whole days, walked over its candidate days.
-ghost use Rattle.std.specs.Prelude.{◌≡◌, ◌<◌, IfOk, IsTrue, length, true, pos, ◌≤ℤ◌, ◌+ℤ◌, ℤ};
+ghost use Rattle.std.specs.Prelude.{◌≡◌, ◌<◌, IfOk, IsTrue, length, true, pos, ◌≤ℤ◌, ◌+ℤ◌};
 ghost use Rattle.rr_model.specs.Calendar.{IsDayWithin};
-ghost use Rattle.rr_model.specs.Moment.{day_part, second_part};
+ghost use Rattle.rr_model.specs.Moment.{day_part};
 ghost use Rattle.rr_model.specs.Moment.Units.{is_whole_days, unit_number, unit_start};
 ghost use Rattle.rr_model.specs.Moment.Years.{IsInYears};
 ghost use Rattle.rr_model.specs.Rule.Validity.{IsValidRule, is_absent};
-ghost use Rattle.rr_model.specs.declared.kind.Kind.{Kind};
 ghost use Rattle.rr_model.specs.declared.kind.Kind.TheVariants.{Days};
 ghost use Rattle.rr_shapes.specs.Tables.{Extends};
 ghost use Rattle.rr_lazy.specs.Next.{IsNextIn};
 ghost use Rattle.rr_parts.specs.Units.{start_of_unit};
 ghost use Rattle.rr_walk.specs.Ruling.{IsFirstCandidate, IsFirstCandidateIn, IsFittingUnit, IsPassed, IsSameRuling, IsSetAt, IsTimeOf, IsWholeUnit, KnowsTimes, is_candidate_day};
 ghost use Rattle.rr_walk.specs.Steps.{HasBegun, tree_of_ruling};
-ghost use Rattle.rr_walk.specs.Walk.{IsDayWith, IsFirstSecond, IsFirstUpToIn, IsOnDayIn, IsDayOfTimes, IsWalked};
+ghost use Rattle.rr_walk.specs.Walk.{IsDayWith, IsFirstSecond, IsFirstSecondAfter, IsFirstUpToIn, IsOnDayIn, IsDayOfTimes, IsWalked};
 
 use crate::rule_walk::RuleWalk;
 use rr_cal::{Day, days_in_unit, first_day_of_unit, unit_of_day, week_index};
@@ -368,8 +367,7 @@ pub(crate) fn day_of_times(
 // The first second of a day that is not before a start, which lies on the day `start_day` at `start_second`; 86,400 where
 // there is none.
 pub(crate) fn first_second(day: i64, start_day: i64, start_second: u32) -> u32
-    ensures { (kind : Kind) (start : ℤ) → start_day ≡ day_part kind start
-        → start_second ≡ second_part kind start → IsFirstSecond kind start day result }
+    ensures { IsFirstSecondAfter start_day start_second day result }
 {
     if day > start_day {
         0

@@ -45,8 +45,8 @@ returns-clause-answer g c =
 
 pub returns-clause-cause : goal.returns-clause-cause
 returns-clause-cause g c =
-    caused (asked_of (words_of c.args.words.now)) c.in-Ok.outcome.status _ _ _ _ c.in-Ok.ensures.ending (c.in-Ok.ensures.kept (search rules))
-    c.in-Ok-put.ensures.put.1
+    caused (asked_of (words_of c.args.words.now)) c.in-Ok.outcome.status g.S.Source.failed _ _ g.K.Sink.faults _ _ c.in-Ok.ensures.ending
+    (c.in-Ok.ensures.kept (search rules)) c.in-Ok-put.ensures.put.1
 
 pub returns-clause-usage : goal.returns-clause-usage
 returns-clause-usage g c = usage_none (asked_of (words_of c.args.words.now)) c.in-Ok.outcome.status c.in-Ok.ensures.ending
