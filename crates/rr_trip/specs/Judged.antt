@@ -35,8 +35,8 @@ IsFaultOf series (fault.Refused r) = IsFirstRefusal all_limits series (Some r)
 IsFaultOf series fault.NoMemory = ⊤
 
 -- the days of a key have its series and its zones, and are those of that series
-abbrev pub AreDaysOf : KeySeries → KeyDays → Type 0
-AreDaysOf key made = (made.series ≡ key.series) × (made.zones.items ≡ key.zones.items) × IsFoldOf made.series (sketch made.days)
+abbrev pub AreDaysOfKey : KeySeries → KeyDays → Type 0
+AreDaysOfKey key made = (made.series ≡ key.series) × (made.zones.items ≡ key.zones.items) × IsFoldOf made.series (sketch made.days)
 
 -- ---- the events of a key
 

@@ -2,7 +2,7 @@
 ghost use Rattle.std.specs.Prelude.{◌≡◌, ◌++◌, All, IfErr, IfOk, Ok, OnOk};
 ghost use Rattle.rr_model.specs.Series.Validity.{IsValidSeries};
 ghost use Rattle.rr_days.specs.Sequence.{sketch};
-ghost use Rattle.rr_trip.specs.Judged.{AreDaysOf, IsFaultBy, IsFaultOf, IsFoldOf, IsKeyFault, IsStated, first_of, key_zones, zones_in, zones_of, zones_of_all};
+ghost use Rattle.rr_trip.specs.Judged.{AreDaysOfKey, IsFaultBy, IsFaultOf, IsFoldOf, IsKeyFault, IsStated, first_of, key_zones, zones_in, zones_of, zones_of_all};
 ghost use Rattle.rr_trip.specs.Edited.{edited};
 ghost use Rattle.rr_trip.specs.Entries.{IsNumbered, events_in};
 
@@ -131,7 +131,7 @@ pub fn key_series(
 /// The days of what the events of a key state. The refusal is the first by all limits.
 pub fn days_of_key(alloc: Global, key: KeySeries) -> Result<KeyDays, KeyFault>
     requires { IsValidSeries key.series }
-    ensures accepted { IfOk result (AreDaysOf key) }
+    ensures accepted { IfOk result (AreDaysOfKey key) }
     ensures refused { IfErr result (IsFaultBy key.line key.series) }
 {
     match days_of(alloc, key.series) {
