@@ -19,7 +19,7 @@ use rr_model::{Fault, Kind, MAX_CYCLE_DAYS, NoMemory, Refusal};
 use rr_num::lcm_within;
 use rr_shapes::{FoldedSetId, Pair, Shapes};
 use rr_times::TimeSet;
-use rr_word::DaySeq;
+use rr_word::{DaySeq, days_between};
 use std::alloc::Global;
 
 /// What is made of two sets of occurrences.
@@ -182,17 +182,6 @@ fn push_number(numbers: &mut Vec<u32>, number: u32) -> Result<(), NoMemory>
     Ok(())
 }
 
-// How many days lie from one day to another.
-fn days_until(begin: i64, settled: i64) -> u64
-    requires low { earliest_near ≤ℤ begin }
-    requires high { settled ≤ℤ latest_near }
-    requires order { begin ≤ℤ settled }
-    ensures value { settled ≡ begin +ℤ pos result }
-    ensures few { result ≤ 2_000_000_000 }
-{
-    (settled - begin) as u64
-}
-
 // The sequence of what holds of both on each day, up to a common multiple of the periods past both settled days.
 fn combined_days<A: DaySeq, B: DaySeq>(
     alloc: Global,
@@ -215,7 +204,7 @@ fn combined_days<A: DaySeq, B: DaySeq>(
         (λ f. HasDaysOf op (A.sketch one.now) (B.sketch other.now) (sketch f)) }
     ensures refused { RefusedWhereTooMany op (A.sketch one.now) (B.sketch other.now) result }
 {
-    let days = days_until(begin, settled) + period;
+    let days = days_between(begin, settled) + period;
     match numbers_of_days(alloc, op, kind, one, other, begin, days) {
         Err(fault) => Err(fault),
         Ok(days) => {

@@ -71,7 +71,7 @@ abbrev pub IsOfBoth : Option (List ℕ) → Request → List ℕ → List ℕ �
 IsOfBoth None request old new answer = IsReported request old new answer
 IsOfBoth (Some name) request old new answer = IsNamed request.offset name old new answer
 
--- what a request answers over two files that are not refused
+-- the answer to a request, over two files that are not refused
 abbrev pub IsOfRequest : Request → List ℕ → List ℕ → Answer → Type 0
 IsOfRequest request old new answer = IsOfBoth request.show request old new answer
 

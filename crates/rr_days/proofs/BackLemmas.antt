@@ -12,12 +12,12 @@ use Rattle.rr_model.proofs.BackLemmas.{in_years_back}
 pub back : (x : ℤ) → neg_ℤ (pos 4_000_000_000_000) ≤ℤ x → x ≤ℤ pos 4_000_000_000_000 → to_z w64 (of_z w64 x) ≡ x
 back x low high = let fits : FitsSigned w64 x = search rules in to_z-of_z fits
 
--- the day of such a moment
+-- the day of a moment of these years
 pub day_back : (kind : Kind) (t day : ℤ) → IsInYears kind t → day ≡ day_part kind (to_z w64 (of_z w64 t)) → to_z w64 (of_z w64 day) ≡ day_part kind t
 day_back kind t day y e =
     (λ i. to_z w64 (of_z w64 ((e ∙ ap (day_part kind) (in_years_back kind t y)) i))) ∙ in_years_back Days (day_part kind t) y
 
--- how many days lie between two days
+-- the number of days between two days, computed in 64 bits
 pub between_back : (day first day' first' : ℤ) → day' ≡ day → first' ≡ first → first ≤ℤ day → day ≤ℤ pos 3_000_000_000_000 → earliest_near ≤ℤ first
     → day ≡ first +ℤ pos (nat_abs (to_z w64 (of_z w64 (day' -ℤ first'))))
 between_back day first day' first' e f order high low =

@@ -528,7 +528,7 @@ fn unlike_on_day<A: DaySeq + Drop, B: DaySeq + Drop>(
     }
 }
 
-// The seconds of the time set of a number; none without a number.
+// The seconds of the time set of this number; none where there is no number.
 fn seconds_of<S: DaySeq + Drop>(seq: &Counted<S>, number: Option<u32>) -> &[u32]
     requires { IfSome number (λ n. n < length (S.sets seq.now)) }
     ensures { MatchOption number (result.now ≡ [])

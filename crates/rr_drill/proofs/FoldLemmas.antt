@@ -41,7 +41,8 @@ not_yes (Back question) P Q = no_or_yes question Q P
 other_way : (P Q : Occurrences) → HaveEqualOccurrences P Q → HaveEqualOccurrences Q P
 other_way P Q s = λ k t. ((s k t).1, (s k t).0)
 
-yes_of : (question : Question) (P Q P' Q' : Occurrences) → HaveEqualOccurrences P P' → HaveEqualOccurrences Q Q' → IsVerdictTo question P Q Yes → IsVerdictTo question P' Q' Yes
+yes_of : (question : Question) (P Q P' Q' : Occurrences) → HaveEqualOccurrences P P' → HaveEqualOccurrences Q Q' → IsVerdictTo question P Q Yes
+    → IsVerdictTo question P' Q' Yes
 yes_of Equal P Q P' Q' p q all = λ k t. ((λ h. (q k t).0 ((all k t).0 ((p k t).1 h))), (λ h. (p k t).0 ((all k t).1 ((q k t).1 h))))
 yes_of Within P Q P' Q' p q all = λ k t h. (q k t).0 (all k t ((p k t).1 h))
 yes_of Disjoint P Q P' Q' p q all = λ k t h g. all k t ((p k t).1 h) ((q k t).1 g)

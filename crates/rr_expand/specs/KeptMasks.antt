@@ -43,7 +43,7 @@ TellsYear f year = (d : ℤ) → year.first ≤ℤ d → d <ℤ year.next → is
 abbrev pub ListAllowed : Filling → ℤ → ℤ → List ℤ → Type 0
 ListAllowed f first end days = IsSetOf int_lt days (λ d. (first ≤ℤ d) × (d <ℤ end) × IsTrue (allows_day f d))
 
--- the allowed days before one, of any filling whose days the year's bits tell, became those before another
+-- for each filling whose days the year's bits tell: a list of its allowed days before `from` became the list of those before `end`
 abbrev pub ListsOn : MaskedYear → ℤ → ℤ → List ℤ → List ℤ → Type 0
 ListsOn year from end old new =
     (f : Filling) (first : ℤ) → first ≤ℤ from → TellsYear f year → ListAllowed f first from old → ListAllowed f first end new

@@ -50,7 +50,7 @@ mutual
     | false ↦ λ f u. some_second k parts d s o.1 u
   ] refl e
 
--- so a list of such seconds is a time set
+-- a rising list that is not empty and has no second but 0 is that of a whole day
 zeros : (times : List ℕ) → times ≢ [] → Rises nat_lt times → ((s : ℕ) → Contains times s → s ≡ 0) → times ≡ 0 ∷ []
 zeros [] some rises only = absurd (some refl)
 zeros (x ∷ []) some rises only = ap (λ y. y ∷ []) (only x (Contains-head x []))

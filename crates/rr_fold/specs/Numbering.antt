@@ -7,7 +7,7 @@ use Rattle.rr_lazy.specs.Next.{with_set}
 use Rattle.rr_lazy.specs.declared.occupied_day.OccupiedDay.{OccupiedDay}
 use Rattle.rr_fold.specs.declared.numbering.Known.{Known}
 
--- what is known of a set of the table is the number of its first n seconds
+-- what is known of a set of the table is the number, among the sets of folded days, of its first `count` seconds
 abbrev pub IsKnown : List (List ℕ) → List (List ℕ) → List (Option Known) → Type 0
 IsKnown table sets known =
     (n : ℕ) (k : Known) → slice_get known n ≡ Some (Some k) → (n < length table) × (slice_get sets k.number.number ≡ Some (take k.count (get_or table n [])))

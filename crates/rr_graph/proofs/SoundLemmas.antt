@@ -27,7 +27,7 @@ use Rattle.rr_graph.proofs.OccurrenceLemmas.{pattern_is_synchronised}
 use Rattle.rr_pattern.proofs.ValidPatternLemmas.{used_members, few_intervals, counted_range}
 use Rattle.rr_pattern.proofs.ValidRuleLemmas.{pattern_counterpart_is_valid}
 
--- a moment at the start's second of a day of these years
+-- a day lies in the years 1 to 9999, and so does the moment on it at the second of the start
 at_in_years : (kind : Kind) (start day : ℤ) → IsInYears Days day → IsInYears kind (moment_at kind day (second_part kind start))
 at_in_years kind start day years = subst (IsInYears Days) (sym (at_day kind start day)) years
 

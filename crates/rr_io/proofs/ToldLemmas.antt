@@ -11,7 +11,7 @@ pub of_held : {T : Type 0} (P : T → Type 0) (held : Option T) (a : T) → IfSo
 of_held P None a p h = tt
 of_held P (Some x) a p h = rw p at h
 
--- the same of two
+-- what holds of two texts that were fetched holds of the two that are held
 pub both_held : (P : List ℕ × List ℕ → Type 0) (held_a held_b : Option (List ℕ)) (a b : List ℕ) → IfSome held_a (λ bytes. a ≡ bytes)
     → IfSome held_b (λ bytes. b ≡ bytes) → P (a, b) → IfSome (option_and_then (λ x. option_map (λ y. (x, y)) held_b) held_a) P
 both_held P None held_b a b p q h = tt

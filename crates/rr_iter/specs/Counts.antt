@@ -28,7 +28,7 @@ abbrev pub IsCountOfEnd : Kind → ℤ → Rule → End → Option CycleCount �
 IsCountOfEnd kind start rule (Count count) counted = IsCountUpTo rule kind start count counted
 IsCountOfEnd kind start rule end counted = counted ≡ None
 
--- what is told of a rule
+-- what is counted of a rule, by its end
 abbrev pub IsCountOf : Kind → ℤ → Rule → Option CycleCount → Type 0
 IsCountOf kind start rule counted = IsCountOfEnd kind start rule rule.end counted
 
@@ -37,7 +37,7 @@ pub record AreCounts (kind : Kind) (start : ℤ) (rules : List Rule) (counts : L
   pub whole : length counts ≡ length rules
   pub each : (k : ℕ) (rule : Rule) → k < length rules → IsCountOf kind start (get_or rules k rule) (get_or counts k None)
 
--- of the rules of a series, and of the excluded ones
+-- what is counted of the rules of a series, and of its excluded rules
 pub record AreCountsOf (series : Series) (counts : Counts) : Type 0 where
   pub rules : AreCounts series.kind series.start series.rules counts.rules.items
   pub excluded : AreCounts series.kind series.start series.excluded counts.excluded.items

@@ -9,18 +9,18 @@ use Rattle.rr_iter.specs.declared.all_lazy.AllLazy.{AllLazy}
 
 -- with the dates that are added
 abbrev pub tree_of_all : AllLazy → Tree
-tree_of_all s = union (dates_of s.lazy.a.kind s.lazy.a.dates) (tree_of_rules s.lazy.b)
+tree_of_all s = union (dates_of s.lazy.a.lazy.kind s.lazy.a.lazy.dates) (tree_of_rules s.lazy.b.lazy)
 
 -- nothing of the dates, what the rules know, and the day that each of the two gave and that was not passed on
 abbrev pub knows_all : AllLazy → List (List ℕ) → Type 0
 knows_all s sets =
-    ⊤ × knows_rules s.lazy.b sets × IsAheadIn sets (dates_of s.lazy.a.kind s.lazy.a.dates) s.lazy.a.position s.lazy.position s.lazy.ahead_a
-    × IsAheadIn sets (tree_of_rules s.lazy.b) s.lazy.b.lazy.position s.lazy.position s.lazy.ahead_b
+    ⊤ × knows_rules s.lazy.b.lazy sets × IsAheadIn sets (dates_of s.lazy.a.lazy.kind s.lazy.a.lazy.dates) s.lazy.a.lazy.position s.lazy.position s.lazy.a.ahead
+    × IsAheadIn sets (tree_of_rules s.lazy.b.lazy) s.lazy.b.lazy.lazy.position s.lazy.position s.lazy.b.ahead
 
 pub knows_all_more : (s : AllLazy) (old new : List (List ℕ)) → Extends old new → knows_all s old → knows_all s new
 knows_all_more s old new more k = (
   tt,
-  knows_rules_more s.lazy.b old new more k.1,
-  ahead_more old new (dates_of s.lazy.a.kind s.lazy.a.dates) s.lazy.a.position s.lazy.position s.lazy.ahead_a more k.2,
-  ahead_more old new (tree_of_rules s.lazy.b) s.lazy.b.lazy.position s.lazy.position s.lazy.ahead_b more k.3,
+  knows_rules_more s.lazy.b.lazy old new more k.1,
+  ahead_more old new (dates_of s.lazy.a.lazy.kind s.lazy.a.lazy.dates) s.lazy.a.lazy.position s.lazy.position s.lazy.a.ahead more k.2,
+  ahead_more old new (tree_of_rules s.lazy.b.lazy) s.lazy.b.lazy.lazy.position s.lazy.position s.lazy.b.ahead more k.3,
 )

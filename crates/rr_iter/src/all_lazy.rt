@@ -56,8 +56,8 @@ impl Lazy for AllLazy {
 
     ghost knows_more = { knows_all_more };
 
-    ghost sound = { λ s. sound_union (⟦<DatesLazy as Lazy>⟧.tree s.lazy.a)
-        (⟦<RulesLazy as Lazy>⟧.tree s.lazy.b)
+    ghost sound = { λ s. sound_union (⟦<DatesLazy as Lazy>⟧.tree s.lazy.a.lazy)
+        (⟦<RulesLazy as Lazy>⟧.tree s.lazy.b.lazy)
         s.lazy.position s.lazy.one_kind s.lazy.begun };
 
     fn next(

@@ -1,4 +1,4 @@
--- What is known of a part of a union.
+-- What is known of a part of a combinator that was asked.
 use Rattle.std.proofs.Common.{◌≡◌, ◌≢◌, ◌⊎◌, ◌||◌, inl, inr, ℕ, ◌<◌, true, false, List, [], ◌∷◌, Contains, length, get_or, take}
 use Rattle.std.proofs.Common.{Option, Some, None, Ok, ℤ, pos, negsuc, w64, to_z, of_z, ◌+ℤ◌, ◌≤ℤ◌, ◌<ℤ◌, refl, sym, subst, ◌∙◌, arith}
 use Rattle.std.specs.Prelude.{is_some, nat_lt, ◌↔◌, IsTrue}

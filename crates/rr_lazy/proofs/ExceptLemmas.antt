@@ -164,7 +164,8 @@ module _ (old new : List (List ℕ)) (a b : OccupiedDay) (x y : List ℕ) (numbe
   pub lacking_none : get_or new number [] ≡ [] → IsLacking old a b new None
   lacking_none e s c lacks = Contains-none s (subst (λ z. Contains z s) e ((exactly s).1 (c, lacks)))
 
-  pub lacking_some : number < length new → get_or new number [] ≢ [] → IsLacking old a b new (Some (record { day = a.day; number = record { index = number }; count = count }))
+  pub lacking_some : number < length new → get_or new number [] ≢ []
+      → IsLacking old a b new (Some (record { day = a.day; number = record { index = number }; count = count }))
   lacking_some within some =
       let whole : take count (get_or new number []) ≡ get_or new number [] = rw many (take-length (get_or new number [])) in
       (refl, record { within = (within, omega (arith, many)); rises = rw whole set.rises }, rw whole some, rw whole exactly)

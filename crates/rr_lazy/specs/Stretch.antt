@@ -1,4 +1,4 @@
--- The dates of one day in a rising list.
+-- The dates of one day in a rising list, and what is left of a part once they are taken out.
 use Rattle.std.specs.Prelude.{◌≡◌, ◌≢◌, ◌↔◌, ℕ, ◌<◌, ◌≤◌, true, false, List, [], All, Contains, length, get_or, Result, Ok, Err, Option, Some, None, ℤ, pos}
 use Rattle.std.specs.Prelude.{◌+ℤ◌, ◌≤ℤ◌, ◌<ℤ◌}
 use Rattle.std.specs.Option.{ForSome, ForNone}

@@ -12,24 +12,17 @@ ghost use Rattle.rr_lazy.specs.Ahead.{GaveDay, IsAheadIn, IsGivenOn, seen};
 ghost use Rattle.rr_lazy.specs.Many.{forest_of, HaveForgotten, IsGivenBySome, GaveDaySome, StayWithin};
 ghost use Rattle.rr_lazy.specs.PassedOn.{IsOneAtRest};
 
-use crate::ahead::{fill, forget, on_day};
+use crate::ahead::{LazyPart, fill, forget, on_day};
 use crate::position::{position_after, position_past};
 use crate::{Lazy, OccupiedDay};
 use rr_model::{FIRST_DAY, NoMemory};
 use rr_shapes::SetTable;
 use std::alloc::Global;
 
-// A part, and the day that it gave and that was not passed on yet.
-#[derive(Drop)]
-pub(crate) struct Asked<A: Lazy + Drop> {
-    pub(crate) lazy: A,
-    pub(crate) ahead: Option<OccupiedDay>,
-}
-
 /// The days of several parts.
 #[derive(Drop)]
 pub struct Many<A: Lazy + Drop> {
-    parts: Vec<Asked<A>>,
+    parts: Vec<LazyPart<A>>,
     position: i64,
     ghost begun: { first_day_of_year (pos 1) ≤ℤ position },
     ghost one_kind: { IsOfOneKind
@@ -64,7 +57,7 @@ impl<A: Lazy + Drop> Many<A> {
         ensures knows { KnowsIfBoth (⟦<Many<A> as Lazy>⟧.knows self.old) (A.knows lazy)
             (⟦<Many<A> as Lazy>⟧.knows self.new) }
     {
-        self.parts.push(Asked { lazy, ahead: None })?;
+        self.parts.push(LazyPart { lazy, ahead: None })?;
         Ok(())
     }
 
@@ -163,7 +156,7 @@ impl<A: Lazy + Drop> Lazy for Many<A> {
 fn ask_all<A: Lazy + Drop>(
     alloc: Global,
     sets: &mut SetTable,
-    parts: &mut Vec<Asked<A>>,
+    parts: &mut Vec<LazyPart<A>>,
     from: i64,
     to: i64,
 ) -> Result<(), NoMemory>
@@ -191,7 +184,7 @@ fn ask_all<A: Lazy + Drop>(
 fn ask<A: Lazy + Drop>(
     alloc: Global,
     sets: &mut SetTable,
-    part: &mut Asked<A>,
+    part: &mut LazyPart<A>,
     from: i64,
     to: i64,
 ) -> Result<(), NoMemory>
@@ -211,7 +204,7 @@ fn ask<A: Lazy + Drop>(
 }
 
 // The least of a day and of the days that parts gave.
-fn first_of_all<A: Lazy + Drop>(parts: &[Asked<A>], from: i64) -> i64
+fn first_of_all<A: Lazy + Drop>(parts: &[LazyPart<A>], from: i64) -> i64
     ensures bound { result ≤ℤ from }
     ensures least { All (λ p. ForSome (seen [] p.ahead) (λ f. result ≤ℤ f.day)) parts.now }
     ensures one { (result ≡ from) ⊎ GaveDaySome (λ p. seen [] p.ahead) parts.now result }
@@ -241,7 +234,7 @@ fn lesser(day: i64, ahead: Option<OccupiedDay>) -> i64
 fn all_on<A: Lazy + Drop>(
     alloc: Global,
     sets: &mut SetTable,
-    parts: &[Asked<A>],
+    parts: &[LazyPart<A>],
     day: i64,
 ) -> Result<Option<OccupiedDay>, NoMemory>
     requires { All (λ p. ForSome p.ahead (IsGivenOn sets.old)) parts.now }
@@ -259,7 +252,7 @@ fn all_on<A: Lazy + Drop>(
 }
 
 // Forgets what parts gave for a day.
-fn forget_all<A: Lazy + Drop>(parts: &mut Vec<Asked<A>>, day: i64)
+fn forget_all<A: Lazy + Drop>(parts: &mut Vec<LazyPart<A>>, day: i64)
     ensures left { HaveForgotten (λ p. p.ahead) (λ p. p.lazy) parts.old.items day parts.new.items }
     ensures within { StayWithin (λ p. p.ahead) parts.old.items parts.new.items }
 {

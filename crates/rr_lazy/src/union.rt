@@ -9,7 +9,7 @@ ghost use Rattle.rr_shapes.specs.Tables.{Extends};
 ghost use Rattle.rr_lazy.specs.Next.{IsUnasked, KnowsIfBoth};
 ghost use Rattle.rr_lazy.specs.Ahead.{IsFirstOfBoth, seen};
 
-use crate::ahead::{fill, forget, on_day};
+use crate::ahead::{LazyPart, fill, forget, on_day};
 use crate::position::position_past;
 use crate::{Lazy, OccupiedDay};
 use rr_model::{FIRST_DAY, NoMemory};
@@ -19,14 +19,12 @@ use std::alloc::Global;
 /// The days of two parts.
 #[derive(Drop)]
 pub struct Union<A: Lazy + Drop, B: Lazy + Drop> {
-    a: A,
-    b: B,
+    a: LazyPart<A>,
+    b: LazyPart<B>,
     position: i64,
-    ahead_a: Option<OccupiedDay>,
-    ahead_b: Option<OccupiedDay>,
     ghost begun: { first_day_of_year (pos 1) ≤ℤ position },
-    ghost one_kind: { IsOfOneKind (union (A.tree a) (B.tree b)) } by { IsOfOneKind-prop
-        (union (A.tree a) (B.tree b)) },
+    ghost one_kind: { IsOfOneKind (union (A.tree a.lazy) (B.tree b.lazy)) } by { IsOfOneKind-prop
+        (union (A.tree a.lazy) (B.tree b.lazy)) },
 }
 
 impl<A: Lazy + Drop, B: Lazy + Drop> Union<A, B> {
@@ -40,11 +38,15 @@ impl<A: Lazy + Drop, B: Lazy + Drop> Union<A, B> {
         ensures knows { KnowsIfBoth (A.knows a) (B.knows b) (⟦<Union<A, B> as Lazy>⟧.knows result) }
     {
         Union {
-            a,
-            b,
+            a: LazyPart {
+                lazy: a,
+                ahead: None,
+            },
+            b: LazyPart {
+                lazy: b,
+                ahead: None,
+            },
             position: FIRST_DAY,
-            ahead_a: None,
-            ahead_b: None,
         }
     }
 
@@ -53,16 +55,16 @@ impl<A: Lazy + Drop, B: Lazy + Drop> Union<A, B> {
         requires low { earliest_day ≤ℤ to }
         requires high { to ≤ℤ latest_day }
         requires knows { ⟦<Union<A, B> as Lazy>⟧.knows self.old sets.old }
-        ensures tree_a { A.tree self.new.a ≡ A.tree self.old.a }
-        ensures tree_b { B.tree self.new.b ≡ B.tree self.old.b }
+        ensures tree_a { A.tree self.new.a.lazy ≡ A.tree self.old.a.lazy }
+        ensures tree_b { B.tree self.new.b.lazy ≡ B.tree self.old.b.lazy }
         ensures position { self.new.position ≡ self.old.position }
         ensures knows { ⟦<Union<A, B> as Lazy>⟧.knows self.new sets.new }
         ensures kept { Extends sets.old sets.new }
-        ensures none_a { OnOk result (ForNone self.new.ahead_a (to <ℤ A.position self.new.a)) }
-        ensures none_b { OnOk result (ForNone self.new.ahead_b (to <ℤ B.position self.new.b)) }
+        ensures none_a { OnOk result (ForNone self.new.a.ahead (to <ℤ A.position self.new.a.lazy)) }
+        ensures none_b { OnOk result (ForNone self.new.b.ahead (to <ℤ B.position self.new.b.lazy)) }
     {
-        fill(alloc, sets, &mut self.a, &mut self.ahead_a, to)?;
-        fill(alloc, sets, &mut self.b, &mut self.ahead_b, to)
+        fill(alloc, sets, &mut self.a.lazy, &mut self.a.ahead, to)?;
+        fill(alloc, sets, &mut self.b.lazy, &mut self.b.ahead, to)
     }
 }
 
@@ -71,22 +73,23 @@ impl<A: Lazy + Drop, B: Lazy + Drop> Lazy for Union<A, B> {
     ghost use Rattle.rr_lazy.specs.Ahead.{IsAheadIn, sound_union};
     ghost use Rattle.rr_lazy.specs.Tables.{ahead_more};
 
-    ghost tree = { λ s. union (A.tree s.a) (B.tree s.b) };
+    ghost tree = { λ s. union (A.tree s.a.lazy) (B.tree s.b.lazy) };
 
     ghost position = { λ s. s.position };
 
-    ghost knows = { λ s sets. A.knows s.a sets × B.knows s.b sets
-        × IsAheadIn sets (A.tree s.a) (A.position s.a) s.position s.ahead_a
-        × IsAheadIn sets (B.tree s.b) (B.position s.b) s.position s.ahead_b };
+    ghost knows = { λ s sets. A.knows s.a.lazy sets × B.knows s.b.lazy sets
+        × IsAheadIn sets (A.tree s.a.lazy) (A.position s.a.lazy) s.position s.a.ahead
+        × IsAheadIn sets (B.tree s.b.lazy) (B.position s.b.lazy) s.position s.b.ahead };
 
     ghost knows_more = { λ s old new more k. (
-      A.knows_more s.a old new more k.0,
-      B.knows_more s.b old new more k.1,
+      A.knows_more s.a.lazy old new more k.0,
+      B.knows_more s.b.lazy old new more k.1,
       ahead_more old new _ _ _ _ more k.2,
       ahead_more old new _ _ _ _ more k.3,
     ) };
 
-    ghost sound = { λ s. sound_union (A.tree s.a) (B.tree s.b) s.position s.one_kind s.begun };
+    ghost sound = { λ s. sound_union (A.tree s.a.lazy) (B.tree s.b.lazy) s.position
+        s.one_kind s.begun };
 
     fn next(
         &mut self,
@@ -95,15 +98,15 @@ impl<A: Lazy + Drop, B: Lazy + Drop> Lazy for Union<A, B> {
         to: i64,
     ) -> Result<Option<OccupiedDay>, NoMemory> {
         self.fill_both(alloc, sets, to)?;
-        match first_of_both(self.ahead_a, self.ahead_b, to) {
+        match first_of_both(self.a.ahead, self.b.ahead, to) {
             None => {
                 self.position = position_past(self.position, to);
                 Ok(None)
             }
             Some(day) => {
-                let found = on_day(alloc, sets, self.ahead_a, self.ahead_b, day)?;
-                forget(&mut self.ahead_a, day);
-                forget(&mut self.ahead_b, day);
+                let found = on_day(alloc, sets, self.a.ahead, self.b.ahead, day)?;
+                forget(&mut self.a.ahead, day);
+                forget(&mut self.b.ahead, day);
                 self.position = day + 1;
                 Ok(found)
             }

@@ -1,4 +1,4 @@
--- What tests answer together.
+-- Tests joined by 'and' and 'or', and which seconds a kind has.
 use Rattle.std.proofs.Common.{◌≡◌, ◌&&◌, ◌||◌, ◌==◌, ◌<◌, ◌≤◌, ℕ, Bool, true, false, refl, sym, arith}
 use Rattle.std.proofs.lemmas.Bool.Decides.{nat_tests}
 use Rattle.rr_model.specs.Rule.DaysAndTimes.{seconds_of}
@@ -36,7 +36,7 @@ pub has_second_is : (kind : Kind) (s : ℕ) → s < seconds_of kind → has_seco
 has_second_is Days s l = grind (arith, nat_tests)
 has_second_is Moments s l = grind (arith, nat_tests)
 
--- and no others
+-- and no second past those of its kind
 pub has_second_not : (kind : Kind) (s : ℕ) → seconds_of kind ≤ s → has_second kind s ≡ false
 has_second_not Days s l = grind (arith, nat_tests)
 has_second_not Moments s l = grind (arith, nat_tests)

@@ -31,13 +31,13 @@ module _ (v : ℤ) where
     ] refl
   ] refl
 
-  -- and nothing else comes
+  -- nothing but the value comes into the list
   pub with_value-only : (xs : List ℤ) (x : ℤ) → Contains (with_value int_lt xs v) x → Contains xs x ⊎ (v ≡ x)
   with_value-only xs x (k, l, e) =
       let all = All-with_value (λ y. Contains xs y ⊎ (v ≡ y)) int_lt xs v (λ i d h. inl (Contains-get_or xs i d h)) (inr refl) k x l in
       subst (λ y. Contains xs y ⊎ (v ≡ y)) e all
 
--- some value stands in it
+-- a list into which a value was put is not empty
 pub with_value-some : {X : Type 0} (below : X → X → Bool) (list : List X) (x : X) → is_absent (with_value below list x) ≡ false
 with_value-some below [] x = refl
 with_value-some below (y ∷ ys) x = by (below y x) (below x y)

@@ -7,9 +7,10 @@ pub struct SetId {
     pub index: usize,
 }
 
-/// The number of a set in the `Shapes` of a folded series.
+/// The number of a set in the `Shapes` of numbered days: of a folded series, of a canonical text that was read, or of two
+/// sets combined.
 #[derive(Clone, Copy, PartialEq, Eq)]
 pub struct FoldedSetId {
-    /// The number by which a folded series keeps its days; 0 is that of the empty set.
+    /// The index of the set, from 0; in the `Shapes` that `with_empty_set` gives, 0 is that of the empty set.
     pub number: u32,
 }

@@ -85,8 +85,8 @@ impl SetTable {
         requires a { a.index < length self.old }
         requires b { b.index < length self.old }
         ensures within { IfOk result (λ set. set.index < length self.new) }
-        ensures union { IfOk result (λ set. IsUnionOf
-            (get_or self.old a.index []) (get_or self.old b.index []) (get_or self.new set.index [])) }
+        ensures union { IfOk result (λ set. IsUnionOf (get_or self.old a.index [])
+            (get_or self.old b.index []) (get_or self.new set.index [])) }
         ensures kept { Extends self.old self.new }
     {
         let sets = &self.sets;
@@ -112,8 +112,8 @@ impl SetTable {
         requires a { a.index < length self.old }
         requires b { b.index < length self.old }
         ensures within { IfOk result (λ set. set.index < length self.new) }
-        ensures difference { IfOk result (λ set. IsDifferenceOf
-            (get_or self.old a.index []) (get_or self.old b.index []) (get_or self.new set.index [])) }
+        ensures difference { IfOk result (λ set. IsDifferenceOf (get_or self.old a.index [])
+            (get_or self.old b.index []) (get_or self.new set.index [])) }
         ensures kept { Extends self.old self.new }
     {
         let sets = &self.sets;

@@ -7,7 +7,7 @@ use rr_model::NoMemory;
 use std::alloc::Global;
 use std::marker::Model;
 
-/// The numbers of two sets, in the order of the question; in which lists they count, the one who asks knows.
+/// The numbers of two sets, in the order of the question: of one list, or each of a list of its own. The caller knows which.
 #[derive(Clone, Copy, PartialEq, Eq, Hash)]
 pub struct Pair {
     /// The number of the first set.

@@ -1,4 +1,4 @@
--- A written list is read back (RFC 5545, section 3.3.10).
+-- A written list is read back (RFC 5545, section 3.3.10), and how a text grows that is written value by value.
 use Rattle.std.proofs.Common.{◌≡◌, ℕ, Bool, true, false, not, List, [], ◌∷◌, ◌++◌, map, Result, Ok, Err, refl, sym, ap, ◌∙◌, append_assoc, append-nil, arith}
 use Rattle.std.specs.Prelude.{◌==◌, if◌then◌else◌}
 use Rattle.std.specs.List.{list_all, AllByRecursion, join_with_byte}
@@ -109,7 +109,7 @@ module _ {X : Type 0} (below : X → X → Bool) where
 
 -- ---- what is written value by value
 
--- one value more
+-- what is written so far and the lines of the values that are left are the whole text, also after one value more
 pub one_written : {X : Type 0} (f : X → List ℕ) (out next all : List ℕ) (xs : List X) (i : ℕ) (x d : X) → i < length xs → x ≡ get_or xs i d
     → out ++ lines_of f (drop i xs) ≡ all → next ≡ out ++ f x → next ++ lines_of f (drop (i + 1) xs) ≡ all
 one_written f out next all xs i x d l is so_far e =

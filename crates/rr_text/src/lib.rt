@@ -10,6 +10,7 @@ mod offset;
 mod physical;
 mod plain;
 mod print;
+mod side;
 mod unfold;
 mod values;
 mod whole_numbers;
@@ -28,6 +29,7 @@ pub use print::{
     push_basic, push_extended, push_extended_date, push_extended_time, push_number, push_unsigned,
 };
 pub use rr_model::Stamp;
+pub use side::side_text;
 pub use unfold::{begins_blank, lines, lines_from};
 pub use values::{line_value, moment_of, split_once};
 pub use whole_numbers::{interval_of, is_number, number_up_to, whole_number};

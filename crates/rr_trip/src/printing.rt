@@ -1,7 +1,7 @@
 // The lines of a report as they are printed.
 ghost use Rattle.std.specs.Prelude.{◌≡◌, ◌<◌, ◌++◌, All, IfOk, OnOk};
 ghost use Rattle.std.specs.Fmt.{decimal};
-ghost use Rattle.rr_text.specs.Printed.{IsPrintable, side_text};
+ghost use Rattle.rr_text.specs.Printed.{IsPrintable};
 ghost use Rattle.rr_trip.specs.Printed.{counts_text, escaped, escaped_byte, event_refusal_text, file_refusal_line, has_number, hex_digit, is_difference, key_refusal_text, key_text, line_text, lines_text, printed, said_text, verdict_text};
 ghost use Rattle.rr_trip.specs.Said.{IsPrintableSaid};
 
@@ -11,18 +11,8 @@ use crate::key::Key;
 use crate::report::{Counts, Report, ReportLine};
 use crate::said::Said;
 use rr_model::{NoMemory, Refusal, Side, Verdict};
-use rr_text::{push_extended, push_unsigned};
+use rr_text::{push_extended, push_unsigned, side_text};
 use std::alloc::Global;
-
-fn side_text(side: Side) -> &'static [u8]
-    ensures { result.now ≡ side_text side }
-{
-    match side {
-        Side::A => b"A",
-        Side::B => b"B",
-        Side::Both => b"both",
-    }
-}
 
 /// Appends a text.
 pub fn push(out: &mut Vec<u8>, text: &[u8]) -> Result<(), NoMemory>
@@ -149,7 +139,7 @@ fn push_verdict(out: &mut Vec<u8>, name: &[u8], verdict: Verdict) -> Result<(), 
             push(out, b" no ")?;
             push_extended(out, kind, at)?;
             push(out, b" ")?;
-            push(out, side_text(side))
+            push(out, side_text(side).as_bytes())
         }
     }
 }
@@ -162,7 +152,7 @@ pub fn push_said(alloc: Global, out: &mut Vec<u8>, name: &[u8], said: Said) -> R
     match said {
         Said::Only(side) => {
             push(out, b"only ")?;
-            push(out, side_text(side))?;
+            push(out, side_text(side).as_bytes())?;
             push(out, b" ")?;
             push(out, name)
         }
@@ -170,7 +160,7 @@ pub fn push_said(alloc: Global, out: &mut Vec<u8>, name: &[u8], said: Said) -> R
             push(out, b"refused ")?;
             push(out, name)?;
             push(out, b" ")?;
-            push(out, side_text(side))?;
+            push(out, side_text(side).as_bytes())?;
             push(out, b" ")?;
             push_key_refusal(alloc, out, refusal)
         }
@@ -262,7 +252,7 @@ pub fn print_refusal(alloc: Global, side: Side, refusal: FileRefusal) -> Result<
 {
     let mut out = Vec::new(alloc);
     push(&mut out, b"refused ")?;
-    push(&mut out, side_text(side))?;
+    push(&mut out, side_text(side).as_bytes())?;
     match refusal {
         FileRefusal::TooLong => push(&mut out, b" TooLong")?,
         FileRefusal::NoEvents => push(&mut out, b" NoEvents")?,

@@ -69,7 +69,8 @@ module _ (rule : Rule) (kind : Kind) (start d : ℤ) (coarse : is_whole_days rul
   plain_none l e = nothing_in (stands_at tree d) times (all_seconds l) e
 
 -- one number is kept
-pub keeps_one : (sets : List (List ℕ)) (rule : Rule) (kind : Kind) (start : ℤ) (n : SetId) (P : ℕ → Type 0) → n.index < length sets → IsSetOf nat_lt (get_or sets n.index []) P
+pub keeps_one : (sets : List (List ℕ)) (rule : Rule) (kind : Kind) (start : ℤ) (n : SetId) (P : ℕ → Type 0)
+    → n.index < length sets → IsSetOf nat_lt (get_or sets n.index []) P
     → KeepsAt sets (record { rule = rule; kind = kind; start = start; kept = Some n ∷ [] }) 0 P
 keeps_one sets rule kind start n P l set m e = let same : n ≡ m = cc in rw (sym same) (l, set)
 

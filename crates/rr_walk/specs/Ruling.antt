@@ -58,7 +58,7 @@ is_candidate_day r day = day_holds r.rule (day_part r.kind r.start) day
 abbrev pub AllowsDay : Ruling → ℤ → Type 0
 AllowsDay r day = IsTrue (date_parts_hold (filled r.rule Days (day_part Moments r.start)) day)
 
--- the set with this id has exactly the seconds that hold
+-- the set of this number has exactly the seconds for which P holds
 abbrev pub IsSetAt : List (List ℕ) → (ℕ → Type 0) → SetId → Type 0
 IsSetAt sets P set = IsSetOf nat_lt (get_or sets set.index []) P
 

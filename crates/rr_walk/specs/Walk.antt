@@ -20,7 +20,7 @@ use Rattle.rr_lazy.specs.DayTimes.{DayTimes}
 abbrev pub IsFirstSecond : Kind → ℤ → ℤ → ℕ → Type 0
 IsFirstSecond kind start day from = (s : ℕ) → s < seconds_of kind → int_le start (moment_at kind day s) ≡ nat_le from s
 
--- the seconds of a day that are not before a start on this day at this second are those from this one on
+-- of a start on the day `start_day` at `start_second`: the seconds of a day that are not before it are those from `from` on
 abbrev pub IsFirstSecondAfter : ℤ → ℕ → ℤ → ℕ → Type 0
 IsFirstSecondAfter start_day start_second day from =
     (kind : Kind) (start : ℤ) → start_day ≡ day_part kind start → start_second ≡ second_part kind start → IsFirstSecond kind start day from

@@ -2,7 +2,7 @@
 ghost use Rattle.std.specs.Prelude.{◌≡◌, ◌≤◌, pos, ◌+ℤ◌, ◌≤ℤ◌};
 ghost use Rattle.rr_model.specs.Sets.Sketch.{IsNearDay};
 
-/// How many days lie from one day to another.
+/// The number of days from the day `from` to the day `to`, which does not lie before it; both are days since 1970-01-01.
 pub fn days_between(from: i64, to: i64) -> u64
     requires near { IsNearDay from }
     requires to_near { IsNearDay to }

@@ -22,7 +22,7 @@ made : (g : Over) (c : In-Ok g) → Made g c
 made g c =
     let b = to_z-of_z c.ranges.begin in
     let q = to_z-of_z c.ranges.settled in
-    let at : c.args.settled ≡ c.args.begin +ℤ pos c.days_until.result = omega (arith, ints, c.days_until.ensures.value, b, q) in
+    let at : c.args.settled ≡ c.args.begin +ℤ pos c.days_between.result = omega (arith, ints, c.days_between.ensures.value, b, q) in
     let s = g.A.DaySeq.sketch c.args.one.now in
     let u = g.B.DaySeq.sketch c.args.other.now in
     let vs = (g.met.A.DaySeq.bounded c.args.one.now).valid in

@@ -26,5 +26,6 @@ returns-clause-given c =
     let of_b = get_or_from_slice_get two c.in_ok-of_b.of_b.index _ [] c.in_ok-of_b.ensures.placed in
     let b_kept = (same_set old one b.number.index c.prefix.ensures.kept c.requires.b.within.0).1 in
     let same = c.as_slice.ensures.same ∙ sym (get_or_from_slice_get c.union.new.self number _ [] c.times.ensures) in
-    rw (to_z-of_z fits) (given_joined old c.union.new.self a b (get_or two c.in_ok-of_a.of_a.index []) (get_or two c.in_ok-of_b.of_b.index []) number _ c.requires.day of_a
+    rw (to_z-of_z fits) (given_joined old c.union.new.self a b (get_or two c.in_ok-of_a.of_a.index []) (get_or two c.in_ok-of_b.of_b.index [])
+    number _ c.requires.day of_a
     (of_b ∙ ap (take b.count) b_kept) c.in_ok-number.ensures.within c.in_ok-number.ensures.union (ap length same))

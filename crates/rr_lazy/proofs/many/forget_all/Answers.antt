@@ -3,7 +3,7 @@ use Rattle.std.proofs.lemmas.List.{get_or_default}
 use Rattle.std.specs.Option.{ForSome}
 use Rattle.rr_lazy.specs.Ahead.{IsLeftAfterDay, seen}
 use Rattle.rr_lazy.specs.Next.{IsInTable}
-use Rattle.rr_lazy.specs.declared.many.Asked.{Asked}
+use Rattle.rr_lazy.specs.declared.ahead.LazyPart.{LazyPart}
 use Rattle.rr_lazy.proofs.ManyLemmas.{all_set, left_more}
 use Rattle.rr_lazy.proofs.many.forget_all.Goals as goal
 
@@ -14,7 +14,7 @@ loop-index-preserved g c sets =
     let index = c.loop-index.index in
     let day = to_z w64 (of_z w64 c.args.day) in
     let l : index < length xs = search rules in
-    let y : Asked g.row.A.Denot = record { lazy = c.index_mut.result.now.lazy; ahead = c.forget.new.ahead } in (
+    let y : LazyPart g.row.A.Denot = record { lazy = c.index_mut.result.now.lazy; ahead = c.forget.new.ahead } in (
       left_more (λ p. seen sets p.ahead) (λ p. p.lazy) c.args.parts.now.items xs day index y l i.0
           (λ z. ap (λ p. p.lazy) (c.index_mut.ensures.value ∙ get_or_default xs index c.index_mut.result.now z l))
           (λ z. subst (λ p. IsLeftAfterDay (seen sets p.ahead) day (seen sets c.forget.new.ahead))

@@ -22,7 +22,8 @@ returns-in-Ok-clause-known c =
     let were : AreCombinationsOf c.args.op c.args.one.now c.args.other.now c.place.new.self c.args.self.now.known =
     unions_kept c.args.self.now.shapes c.place.new.self (placed_extends _ c.args.self.now.shapes c.place.new.self c.in-Ok.set.number c.in-Ok.ensures.placed)
     c.args.op c.args.one.now c.args.other.now c.args.self.now.known c.requires.known in
-    unions_put c.args.op c.args.one.now c.args.other.now c.place.new.self c.get.new.self c.put.new.self (record { a = c.args.a.number; b = c.args.b.number }) c.in-Ok.set.number
+    unions_put c.args.op c.args.one.now c.args.other.now c.place.new.self c.get.new.self c.put.new.self
+    (record { a = c.args.a.number; b = c.args.b.number }) c.in-Ok.set.number
     (rw c.get.ensures.unchanged were) small union c.put.ensures.nothing_else
 
 pub returns-in-Ok-clause-grown : goal.returns-in-Ok-clause-grown

@@ -32,7 +32,8 @@ nothing g c =
     let n = rw (c.in-None.is, to_z-of_z c.ranges.to) at c.in_ok-next_of_both.ensures.next in
     let o = known_past (g.A.Lazy.tree s.a.lazy) (g.B.Lazy.tree s.b.lazy) c.next_of_both.new.sets
     (part_of (g.B.Lazy.tree s.b.lazy) (g.B.Lazy.position c.next_of_both.new.b.lazy) c.next_of_both.new.b.ahead)
-    (g.A.Lazy.position c.next_of_both.new.a.lazy) s.position c.args.to c.position_past-self.result c.next_of_both.new.a.ahead refl (n.2 s.position c.requires.knows.2) n.0 n.1 past.kept past.one in
+    (g.A.Lazy.position c.next_of_both.new.a.lazy) s.position c.args.to c.position_past-self.result c.next_of_both.new.a.ahead refl
+    (n.2 s.position c.requires.knows.2) n.0 n.1 past.kept past.one in
     record { past = past; known = o.0; none = o.1 }
 
 pub invariant_of-self-in-None : goal.invariant_of-self-in-None

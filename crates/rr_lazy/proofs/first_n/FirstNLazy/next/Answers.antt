@@ -7,7 +7,8 @@ use Rattle.rr_lazy.proofs.first_n.FirstNLazy.next.Goals as goal
 pub invariant_of-self : goal.invariant_of-self
 invariant_of-self g c =
     let s = c.args.self.now in
-    let q : to_z w64 (of_z w64 c.position_past-self.result) ≡ c.position_past-self.result = to_z-of_z w64 c.position_past-self.result (record { sfits = c.position_past-self.type_inv }) in
+    let q : to_z w64 (of_z w64 c.position_past-self.result) ≡ c.position_past-self.result =
+    to_z-of_z w64 c.position_past-self.result (record { sfits = c.position_past-self.type_inv }) in
     rw q (record {
       counting =
           spent_moves (g.A.Lazy.tree s.lazy) (g.A.Lazy.position s.lazy) s.position s.count s.left s.counting c.position_past-self.result c.if-self-eq0.true
@@ -17,7 +18,8 @@ invariant_of-self g c =
 pub returns-then-self-eq0-clause-next : goal.returns-then-self-eq0-clause-next
 returns-then-self-eq0-clause-next g c =
     let s = c.args.self.now in
-    let q : to_z w64 (of_z w64 c.position_past-self.result) ≡ c.position_past-self.result = to_z-of_z w64 c.position_past-self.result (record { sfits = c.position_past-self.type_inv }) in
+    let q : to_z w64 (of_z w64 c.position_past-self.result) ≡ c.position_past-self.result =
+    to_z-of_z w64 c.position_past-self.result (record { sfits = c.position_past-self.type_inv }) in
     rw q (
       none_spent (g.A.Lazy.tree s.lazy) (g.A.Lazy.position s.lazy) s.position s.count s.left s.counting c.position_past-self.result c.if-self-eq0.true,
       omega (arith, ints, c.position_past-self.ensures.kept),

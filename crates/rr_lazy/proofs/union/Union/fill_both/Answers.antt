@@ -11,7 +11,7 @@ returns-in_err-fill-clause-knows g c =
     let new = c.fill.new.sets in
     let more = c.fill.ensures.kept in (
       c.fill.ensures.knows,
-      g.met.B.Lazy.knows_more s.b old new more k.1,
+      g.met.B.Lazy.knows_more s.b.lazy old new more k.1,
       rw c.fill.ensures.tree (c.fill.ensures.known s.position k.2),
       ahead_more old new _ _ _ _ more k.3,
     )

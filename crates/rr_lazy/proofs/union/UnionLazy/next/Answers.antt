@@ -24,11 +24,11 @@ same_next sets t t' u u' from from' to new new' result e f g h x =
 
 record Nothing (g : Over) (c : After-position_past-self g) : Type 0 where
   past : IsPast c.fill_both.new.self.position c.args.to c.position_past-self.result
-  ahead_a : IsAheadIn c.fill_both.new.sets (g.A.Lazy.tree c.fill_both.new.self.a) (g.A.Lazy.position c.fill_both.new.self.a) c.position_past-self.result
-      c.fill_both.new.self.ahead_a
-  ahead_b : IsAheadIn c.fill_both.new.sets (g.B.Lazy.tree c.fill_both.new.self.b) (g.B.Lazy.position c.fill_both.new.self.b) c.position_past-self.result
-      c.fill_both.new.self.ahead_b
-  none : HasNone (union (g.A.Lazy.tree c.fill_both.new.self.a) (g.B.Lazy.tree c.fill_both.new.self.b)) c.fill_both.new.self.position c.position_past-self.result
+  ahead_a : IsAheadIn c.fill_both.new.sets (g.A.Lazy.tree c.fill_both.new.self.a.lazy) (g.A.Lazy.position c.fill_both.new.self.a.lazy) c.position_past-self.result
+      c.fill_both.new.self.a.ahead
+  ahead_b : IsAheadIn c.fill_both.new.sets (g.B.Lazy.tree c.fill_both.new.self.b.lazy) (g.B.Lazy.position c.fill_both.new.self.b.lazy) c.position_past-self.result
+      c.fill_both.new.self.b.ahead
+  none : HasNone (union (g.A.Lazy.tree c.fill_both.new.self.a.lazy) (g.B.Lazy.tree c.fill_both.new.self.b.lazy)) c.fill_both.new.self.position c.position_past-self.result
 
 nothing : (g : Over) (c : After-position_past-self g) → Nothing g c
 nothing g c =
@@ -41,11 +41,11 @@ nothing g c =
     let fits : FitsSigned w64 r = record { sfits = c.position_past-self.type_inv } in
     let past = past_read s.position c.args.to r s.begun (search rules) c.ranges.to fits e.kept e.past e.one in
     let none = rw t at c.in-None.ensures sets in
-    let a = side_none_in sets (g.A.Lazy.tree s.a) (g.A.Lazy.position s.a) s.position c.args.to r s.ahead_a k.2 past.kept past.one none.0
+    let a = side_none_in sets (g.A.Lazy.tree s.a.lazy) (g.A.Lazy.position s.a.lazy) s.position c.args.to r s.a.ahead k.2 past.kept past.one none.0
     (rw t at c.in_ok-fill_both.ensures.none_a) in
-    let b = side_none_in sets (g.B.Lazy.tree s.b) (g.B.Lazy.position s.b) s.position c.args.to r s.ahead_b k.3 past.kept past.one none.1
+    let b = side_none_in sets (g.B.Lazy.tree s.b.lazy) (g.B.Lazy.position s.b.lazy) s.position c.args.to r s.b.ahead k.3 past.kept past.one none.1
     (rw t at c.in_ok-fill_both.ensures.none_b) in
-    record { past = past; ahead_a = a.0; ahead_b = b.0; none = neither (g.A.Lazy.tree s.a) (g.B.Lazy.tree s.b) s.position r a.1 b.1 }
+    record { past = past; ahead_a = a.0; ahead_b = b.0; none = neither (g.A.Lazy.tree s.a.lazy) (g.B.Lazy.tree s.b.lazy) s.position r a.1 b.1 }
 
 pub returns-in-None-clause-knows : goal.returns-in-None-clause-knows
 returns-in-None-clause-knows g c =
@@ -63,15 +63,15 @@ returns-in-None-clause-next g c =
 
 record Given (g : Over) (c : After-on_day-arg-in-Some-2-1 g) : Type 0 where
   first : (sets : List (List ℕ))
-      → IsFirstOfBoth (seen sets c.fill_both.new.self.ahead_a) (seen sets c.fill_both.new.self.ahead_b) c.args.to (Some c.in-Some.day)
-  none_a : ForNone c.fill_both.new.self.ahead_a (c.in-Some.day <ℤ g.A.Lazy.position c.fill_both.new.self.a)
-  none_b : ForNone c.fill_both.new.self.ahead_b (c.in-Some.day <ℤ g.B.Lazy.position c.fill_both.new.self.b)
+      → IsFirstOfBoth (seen sets c.fill_both.new.self.a.ahead) (seen sets c.fill_both.new.self.b.ahead) c.args.to (Some c.in-Some.day)
+  none_a : ForNone c.fill_both.new.self.a.ahead (c.in-Some.day <ℤ g.A.Lazy.position c.fill_both.new.self.a.lazy)
+  none_b : ForNone c.fill_both.new.self.b.ahead (c.in-Some.day <ℤ g.B.Lazy.position c.fill_both.new.self.b.lazy)
   late : c.fill_both.new.self.position ≤ℤ c.in-Some.day
   same : to_z w64 (of_z w64 c.in-Some.day) ≡ c.in-Some.day
   after : to_z w64 (of_z w64 (to_z w64 (of_z w64 c.in-Some.day) +ℤ pos 1)) ≡ c.in-Some.day +ℤ pos 1
   next : (new : List (List ℕ)) (found : Option OccupiedDay)
-      → IsGivenByBoth c.fill_both.new.sets c.fill_both.new.self.ahead_a c.fill_both.new.self.ahead_b c.in-Some.day new found
-      → IsNextIn new (union (g.A.Lazy.tree c.fill_both.new.self.a) (g.B.Lazy.tree c.fill_both.new.self.b)) c.fill_both.new.self.position c.args.to
+      → IsGivenByBoth c.fill_both.new.sets c.fill_both.new.self.a.ahead c.fill_both.new.self.b.ahead c.in-Some.day new found
+      → IsNextIn new (union (g.A.Lazy.tree c.fill_both.new.self.a.lazy) (g.B.Lazy.tree c.fill_both.new.self.b.lazy)) c.fill_both.new.self.position c.args.to
       (Ok found) (c.in-Some.day +ℤ pos 1)
 
 given : (g : Over) (c : After-on_day-arg-in-Some-2-1 g) → Given g c
@@ -80,12 +80,12 @@ given g c =
     let k = c.fill_both.ensures.knows in
     let sets = c.fill_both.new.sets in
     let t = to_z-of_z c.ranges.to in
-    let first : (sets : List (List ℕ)) → IsFirstOfBoth (seen sets s.ahead_a) (seen sets s.ahead_b) c.args.to (Some c.in-Some.day) =
+    let first : (sets : List (List ℕ)) → IsFirstOfBoth (seen sets s.a.ahead) (seen sets s.b.ahead) c.args.to (Some c.in-Some.day) =
     λ sets. rw t at c.in-Some.ensures sets in
     let na = rw t at c.in_ok-fill_both.ensures.none_a in
     let nb = rw t at c.in_ok-fill_both.ensures.none_b in
-    let day = union_day sets (g.A.Lazy.tree s.a) (g.B.Lazy.tree s.b) (g.A.Lazy.position s.a) (g.B.Lazy.position s.b) s.position c.in-Some.day c.args.to
-    s.ahead_a s.ahead_b k.2 k.3 (first sets) na nb s.begun c.requires.high in
+    let day = union_day sets (g.A.Lazy.tree s.a.lazy) (g.B.Lazy.tree s.b.lazy) (g.A.Lazy.position s.a.lazy) (g.B.Lazy.position s.b.lazy) s.position c.in-Some.day c.args.to
+    s.a.ahead s.b.ahead k.2 k.3 (first sets) na nb s.begun c.requires.high in
     let within = (first sets).0 in
     record {
       first = first;
@@ -94,8 +94,8 @@ given g c =
       late = day.0;
       same = day.1;
       after = day.2;
-      next = union_next sets (g.A.Lazy.tree s.a) (g.B.Lazy.tree s.b) (g.A.Lazy.position s.a) (g.B.Lazy.position s.b) s.position c.in-Some.day c.args.to
-          s.ahead_a s.ahead_b k.2 k.3 (first sets) na nb;
+      next = union_next sets (g.A.Lazy.tree s.a.lazy) (g.B.Lazy.tree s.b.lazy) (g.A.Lazy.position s.a.lazy) (g.B.Lazy.position s.b.lazy) s.position c.in-Some.day c.args.to
+          s.a.ahead s.b.ahead k.2 k.3 (first sets) na nb;
     }
 
 pub on_day-requires-clause-a : goal.on_day-requires-clause-a
@@ -111,8 +111,8 @@ returns-in_err-found-in-Some-clause-knows g c =
     let sets = c.fill_both.new.sets in
     let new = c.on_day.new.sets in
     let more = c.on_day.ensures.kept in (
-      g.met.A.Lazy.knows_more s.a sets new more k.0,
-      g.met.B.Lazy.knows_more s.b sets new more k.1,
+      g.met.A.Lazy.knows_more s.a.lazy sets new more k.0,
+      g.met.B.Lazy.knows_more s.b.lazy sets new more k.1,
       ahead_more sets new _ _ _ _ more k.2,
       ahead_more sets new _ _ _ _ more k.3,
     )
@@ -134,12 +134,12 @@ returns-in_ok-found-in-Some-clause-knows g c =
     let new = c.on_day.new.sets in
     let more = c.on_day.ensures.kept in
     let day = given g (goal.at.returns-in_ok-found-in-Some-clause-knows g c).After-on_day-arg-in-Some-2-1 in (
-      g.met.A.Lazy.knows_more s.a sets new more k.0,
-      g.met.B.Lazy.knows_more s.b sets new more k.1,
-      side_given_in new (g.A.Lazy.tree s.a) (g.A.Lazy.position s.a) s.position c.in-Some.day _ s.ahead_a c.forget.new.ahead
+      g.met.A.Lazy.knows_more s.a.lazy sets new more k.0,
+      g.met.B.Lazy.knows_more s.b.lazy sets new more k.1,
+      side_given_in new (g.A.Lazy.tree s.a.lazy) (g.A.Lazy.position s.a.lazy) s.position c.in-Some.day _ s.a.ahead c.forget.new.ahead
           (ahead_more sets new _ _ _ _ more k.2) day.late (day.first new).2 day.none_a (rw day.same at c.forget.ensures.left new)
           c.forget.ensures.within day.after,
-      side_given_in new (g.B.Lazy.tree s.b) (g.B.Lazy.position s.b) s.position c.in-Some.day _ s.ahead_b c.forget-in-Some.new.ahead
+      side_given_in new (g.B.Lazy.tree s.b.lazy) (g.B.Lazy.position s.b.lazy) s.position c.in-Some.day _ s.b.ahead c.forget-in-Some.new.ahead
           (ahead_more sets new _ _ _ _ more k.3) day.late (day.first new).3 day.none_b (rw day.same at c.forget-in-Some.ensures.left new)
           c.forget-in-Some.ensures.within day.after,
     )

@@ -12,4 +12,5 @@ returns-clause-placed c =
     c.as_slice-seconds.ensures.same
     ∙ sym (get_or_from_slice_get c.self.inside.sets c.args.set.index c.times.result.now [] c.times.ensures)
     ∙ ap (λ sets. get_or sets c.args.set.index []) c.self.view_is in
-    subst (λ times. IfOk c.place.result (λ set. slice_get c.place.new.self set.index ≡ Some times)) (c.in_ok-first.ensures ∙ ap (take c.args.count) whole) c.place.ensures.placed
+    subst (λ times. IfOk c.place.result (λ set. slice_get c.place.new.self set.index ≡ Some times))
+    (c.in_ok-first.ensures ∙ ap (take c.args.count) whole) c.place.ensures.placed
