@@ -1,6 +1,6 @@
 // Which sets are made of which two.
-ghost use Rattle.std.specs.Prelude.{◌≡◌, ◌⊎◌, ◌++◌, [], All, Contains, IfSome, OnOk, ℕ};
-ghost use Rattle.rr_shapes.specs.declared.unions.Pair.{Pair};
+ghost use Rattle.std.specs.Prelude.{◌≡◌, ◌⊎◌, [], All, Contains, IfSome, OnOk};
+ghost use Rattle.rr_shapes.specs.Tables.{AddsOnly};
 
 use rr_model::NoMemory;
 use rr_shapes::{Pair, Unions};
@@ -66,8 +66,7 @@ impl KnownPairs {
 
     /// Remembers the number of the set that is made of a pair.
     pub fn put(&mut self, pair: Pair, number: usize) -> Result<(), NoMemory>
-        ensures { OnOk result ((known : Pair × ℕ) → Contains self.new known
-            → Contains self.old known ⊎ ((pair, number) ≡ known)) }
+        ensures { OnOk result (AddsOnly self.old self.new (pair, number)) }
     {
         self.all.put(pair, number)?;
         keep(&mut self.recent, pair, number)?;

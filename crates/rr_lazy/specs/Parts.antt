@@ -1,6 +1,7 @@
 -- A part of a combinator, and the day that it gave and that was not passed on yet.
-use Rattle.std.specs.Prelude.{Option, ℤ}
+use Rattle.std.specs.Prelude.{ℕ, List, All, Option, ℤ}
 use Rattle.rr_model.specs.Sets.Tree.{Tree}
+use Rattle.rr_lazy.specs.Ahead.{IsAheadIn}
 use Rattle.rr_lazy.specs.declared.ahead.LazyPart.{LazyPart}
 use Rattle.rr_lazy.specs.declared.occupied_day.OccupiedDay.{OccupiedDay}
 
@@ -29,3 +30,8 @@ asked_part {L} tree position part part' = record {
   before = part_in tree position part;
   after = part_of (tree part.lazy) (position part'.lazy) part'.ahead;
 }
+
+-- of each part: what its iterator knows, and the day that it gave, from a day on
+abbrev pub KnowsEachPart : {L : Type 0} → (L → List (List ℕ) → Type 0) → (L → Tree) → (L → ℤ) → List (List ℕ) → ℤ → List (LazyPart L) → Type 0
+KnowsEachPart {L} knows tree position sets from parts =
+    All (λ p. knows p.lazy sets × IsAheadIn sets (tree p.lazy) (position p.lazy) from p.ahead) parts

@@ -10,6 +10,7 @@ ghost use Rattle.rr_lazy.specs.Next.{IsNextIn, IsUnasked, KnowsEach, KnowsIfBoth
 ghost use Rattle.rr_shapes.specs.Tables.{Extends};
 ghost use Rattle.rr_lazy.specs.Ahead.{GaveDay, IsAheadIn, IsGivenOn, seen};
 ghost use Rattle.rr_lazy.specs.Many.{forest_of, HaveForgotten, IsGivenBySome, GaveDaySome, StayWithin};
+ghost use Rattle.rr_lazy.specs.Parts.{KnowsEachPart};
 ghost use Rattle.rr_lazy.specs.PassedOn.{IsOneAtRest};
 
 use crate::ahead::{LazyPart, fill, forget, on_day};
@@ -121,7 +122,7 @@ impl<A: Lazy + Drop> Many<A> {
 
 impl<A: Lazy + Drop> Lazy for Many<A> {
     ghost use Rattle.rr_model.specs.Sets.Tree.{many};
-    ghost use Rattle.rr_lazy.specs.Ahead.{IsAheadIn};
+    ghost use Rattle.rr_lazy.specs.Parts.{KnowsEachPart};
     ghost use Rattle.rr_lazy.specs.Many.{forest_of, sound_many};
     ghost use Rattle.rr_lazy.specs.Tables.{all_more};
 
@@ -129,8 +130,8 @@ impl<A: Lazy + Drop> Lazy for Many<A> {
 
     ghost position = { λ s. s.position };
 
-    ghost knows = { λ s sets. All (λ p. A.knows p.lazy sets
-        × IsAheadIn sets (A.tree p.lazy) (A.position p.lazy) s.position p.ahead) s.parts.items };
+    ghost knows = { λ s sets. KnowsEachPart A.knows A.tree A.position sets s.position
+        s.parts.items };
 
     ghost knows_more = { λ s old new more k. all_more A.knows A.tree A.position A.knows_more
         s.position (λ p. p.lazy) (λ p. p.ahead) s.parts.items old new more k };
@@ -160,15 +161,13 @@ fn ask_all<A: Lazy + Drop>(
     from: i64,
     to: i64,
 ) -> Result<(), NoMemory>
-    requires known { All (λ p. A.knows p.lazy sets.old
-        × IsAheadIn sets.old (A.tree p.lazy) (A.position p.lazy) from p.ahead) parts.old.items }
+    requires known { KnowsEachPart A.knows A.tree A.position sets.old from parts.old.items }
     requires low { earliest_day ≤ℤ to }
     requires high { to ≤ℤ latest_day }
     ensures tree { forest_of (λ p. A.tree p.lazy) parts.new.items
         ≡ forest_of (λ p. A.tree p.lazy) parts.old.items }
     ensures kept { Extends sets.old sets.new }
-    ensures known { All (λ p. A.knows p.lazy sets.new
-        × IsAheadIn sets.new (A.tree p.lazy) (A.position p.lazy) from p.ahead) parts.new.items }
+    ensures known { KnowsEachPart A.knows A.tree A.position sets.new from parts.new.items }
     ensures none { OnOk result
         (All (λ p. ForNone p.ahead (to <ℤ A.position p.lazy)) parts.new.items) }
 {

@@ -1,5 +1,5 @@
 -- A table of time sets that grows: sets that are there keep their numbers.
-use Rattle.std.specs.Prelude.{◌≡◌, ℕ, ◌<◌, List, [], All, get_or, length, slice_get, Some}
+use Rattle.std.specs.Prelude.{◌≡◌, ◌⊎◌, ℕ, ◌<◌, List, [], All, Contains, get_or, length, slice_get, Some}
 use Rattle.rr_model.specs.Rising.Sets.{IsSecondsOfDay}
 use Rattle.rr_times.specs.Combined.{IsDifferenceOf, IsUnionOf}
 use Rattle.rr_shapes.specs.declared.unions.Pair.{Pair}
@@ -7,6 +7,10 @@ use Rattle.rr_shapes.specs.declared.unions.Pair.{Pair}
 -- each set of the old table has the same number in the new one
 abbrev pub Extends : List (List ℕ) → List (List ℕ) → Type 0
 Extends old new = (number : ℕ) (times : List ℕ) → slice_get old number ≡ Some times → slice_get new number ≡ Some times
+
+-- nothing is known of pairs now but what was known before, and one entry
+abbrev pub AddsOnly : List (Pair × ℕ) → List (Pair × ℕ) → Pair × ℕ → Type 0
+AddsOnly old new entry = (known : Pair × ℕ) → Contains new known → Contains old known ⊎ (entry ≡ known)
 
 -- the set of one number is the union of those of two others
 pub record IsUnion (sets : List (List ℕ)) (known : Pair × ℕ) : Type 0 where

@@ -1,6 +1,6 @@
 // Numbers by pairs of numbers: which set is the union of which two.
-ghost use Rattle.std.specs.Prelude.{◌≡◌, ◌⊎◌, [], Contains, IfSome, OnOk, ℕ};
-ghost use Rattle.rr_shapes.specs.declared.unions.Pair.{Pair};
+ghost use Rattle.std.specs.Prelude.{◌≡◌, [], Contains, IfSome, OnOk};
+ghost use Rattle.rr_shapes.specs.Tables.{AddsOnly};
 
 use indexmap::IndexMap;
 use rr_model::NoMemory;
@@ -63,8 +63,7 @@ impl Unions {
     /// Remembers the union of a pair, which becomes the pair that was asked for last.
     pub fn put(&mut self, pair: Pair, number: usize) -> Result<(), NoMemory>
         ensures there { OnOk result (Contains self.new (pair, number)) }
-        ensures nothing_else { (known : Pair × ℕ) → Contains self.new known
-            → Contains self.old known ⊎ ((pair, number) ≡ known) }
+        ensures nothing_else { AddsOnly self.old self.new (pair, number) }
     {
         let Ok((index, _)) = self.known.insert_full(pair, number) else {
             return Err(NoMemory);
