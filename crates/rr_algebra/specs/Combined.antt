@@ -16,7 +16,7 @@ use Rattle.rr_algebra.specs.declared.op.Op.TheVariants.{Union, Common, Minus}
 
 -- ---- what is in the result
 
--- of two facts one holds, both, or the first alone
+-- what the operation asks of two facts: that one holds (Union), that both hold (Common), or that the first alone holds (Minus)
 abbrev pub HoldsFor : Op → Type 0 → Type 0 → Type 0
 HoldsFor Union P Q = P ⊎ Q
 HoldsFor Common P Q = P × Q

@@ -33,12 +33,12 @@ pub record IsNumberOf (op : Op) (xs ys : List ℕ) (sets : List (List ℕ)) (num
   pub within : number < length sets
   pub made : IsMadeOf op xs ys (get_or sets number [])
 
--- of each pair of numbers that is known the set is made of those of both numbers
+-- each known pair of numbers has a 32-bit number whose set is made of the sets of the pair
 abbrev pub AreKnown : Op → List (List ℕ) → List (List ℕ) → List (List ℕ) → List (Pair × ℕ) → Type 0
 AreKnown op one other sets known =
     All (λ k. (k.1 ≤ 4_294_967_295) × IsNumberOf op (get_or one k.0.a []) (get_or other k.0.b []) sets k.1) known
 
--- of each pair of numbers that is known here the set is made of those of both numbers
+-- each pair of numbers that is kept here has a 32-bit number whose set is made of the sets of the pair
 abbrev pub KnowsPairs : Op → List (List ℕ) → List (List ℕ) → CombinedSets → Type 0
 KnowsPairs op one other sets = AreKnown op (table one) (table other) sets.shapes sets.known
 

@@ -25,7 +25,7 @@ AreSteps end sets days last [] = ⊤
 AreSteps end sets days last (step ∷ steps) =
     IsStepTo days last step.gap end × (step.set < sets) × AreSteps end sets (last + step.gap + 1) (last + step.gap) steps
 
--- the steps of a run
+-- the steps of a run, `count` equal ones
 abbrev pub steps_in : RunRead → List Step
 steps_in run = replicate run.count (record { gap = run.gap; set = run.set })
 

@@ -26,7 +26,7 @@ pub record HasSets (kind : Kind) (count : ℕ) (shapes : List (List ℕ)) : Type
   pub filled : (k : ℕ) → 1 ≤ k → k < length shapes → get_or shapes k [] ≢ []
   pub time_sets : All (λ t. t ≢ [] → IsTimeSet kind t) shapes
 
--- a period that may be read
+-- a period that a descriptor may state: from 1 day to `MAX_CYCLE_DAYS`
 abbrev pub IsReadPeriod : ℕ → Type 0
 IsReadPeriod period = (1 ≤ period) × (period ≤ MAX_CYCLE_DAYS)
 
@@ -52,7 +52,7 @@ pub record AreExpandable (count : ℕ) (p : Parts) : Type 0 where
   pub first : IsReadDay p.first
   pub days : AreEndlessIfSome count p.first p.before p.ending
 
--- what a descriptor says
+-- what a descriptor with these parts says; the empty set of number 0 is left out
 abbrev pub described_in : Kind → List (List ℕ) → ℤ → List Run → Option Ending → Described
 described_in kind shapes first before ending =
     record { kind = kind; sets = drop 1 shapes; first = first; before = before; ending = ending }
@@ -88,7 +88,8 @@ RefusedWhereNotExpandable count p result = RefusedWhereNot (AreExpandable count 
 abbrev pub padded_to : ℕ → List ℕ → List ℕ
 padded_to days numbers = numbers ++ replicate (days - length numbers) 0
 
--- the steps of both groups
+-- the runs before the settled day stay within `days` days, those of the cycle within `period` days, and each has one of the
+-- first `sets` sets
 abbrev pub AreBoth : ℕ → ℕ → ℕ → List RunRead → List RunRead → Type 0
 AreBoth days period sets before cycle =
     AreSteps days sets 0 0 (steps_of_runs (map run_in before)) × AreSteps period sets 0 0 (steps_of_runs (map run_in cycle))

@@ -13,10 +13,10 @@ use rr_model::{FIRST_DAY, Fault, Kind, MAX_CYCLE_DAYS, NoMemory, Refusal};
 use rr_shapes::Shapes;
 use std::alloc::Global;
 
-/// The last day that is read.
+/// The last day that a descriptor may state.
 pub const LAST_DAY: i64 = 40_000_000;
 
-/// Whether a day may be read.
+/// Whether a descriptor may state a day.
 pub fn is_read_day(day: i64) -> bool
     ensures { IsTrue result ↔ IsReadDay day }
 {

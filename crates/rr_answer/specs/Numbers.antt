@@ -25,7 +25,7 @@ pub record IsNthSaid (n : ℕ) (s : Subject) (answer : Answer) : Type 0 where
   pub is_nth : IsNthOf (OccursIn s) n nth
   pub is_said : answer ≡ nth_said nth
 
--- a number alone on a line
+-- `rank`: the answer with a number alone on a line
 abbrev pub rank_said : ℕ → Answer
 rank_said n = record { status = status.Yes; bytes = line (decimal n) }
 

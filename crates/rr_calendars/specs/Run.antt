@@ -39,7 +39,7 @@ status_by ending.Equal = Equal
 status_by ending.Differs = Differs
 status_by ending.Refused = Refused
 
--- the answer that a report is
+-- the answer that states a report
 abbrev pub report_answer : Bool → List ReportLine → Answer
 report_answer only_differences lines = record { status = status_by (status_of (counts_of lines)); bytes = printed only_differences lines }
 
@@ -47,13 +47,13 @@ report_answer only_differences lines = record { status = status_by (status_of (c
 abbrev pub refusal_answer : Side → FileRefusal → Answer
 refusal_answer side refusal = record { status = Refused; bytes = file_refusal_line side refusal }
 
--- the report of both files
+-- the answer is the report of both files
 pub record IsReported (request : Request) (old new : List ℕ) (answer : Answer) : Type 0 where
   pub lines : List ReportLine
   pub report : IsReportOf request.offset old new lines
   pub is : answer ≡ report_answer request.only_differences lines
 
--- the refusal of a file
+-- the answer is the refusal of one file
 pub record IsFileAnswer (old new : List ℕ) (answer : Answer) : Type 0 where
   pub side : Side
   pub refusal : FileRefusal

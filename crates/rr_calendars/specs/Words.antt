@@ -16,12 +16,12 @@ pub record Request : Type 0 where
   pub offset : Option ℤ
   pub show : Option (List ℕ)
 
--- what the words ask
+-- what the words of the command ask for
 pub data Asked : Type 0 where
   help : Asked
   comparison : Request → Asked
 
--- the words so far
+-- what the words state so far
 pub record Given : Type 0 where
   pub old : Option (List ℕ)
   pub new : Option (List ℕ)
@@ -30,7 +30,7 @@ pub record Given : Type 0 where
   pub show : Option (List ℕ)
   pub next : Next
 
--- no word is read yet
+-- what is stated before the first word
 abbrev pub nothing_given : Given
 nothing_given = record { old = None; new = None; only_differences = false; offset = None; show = None; next = Word }
 
@@ -38,27 +38,27 @@ nothing_given = record { old = None; new = None; only_differences = false; offse
 abbrev pub offset_in : List ℕ → Option ℤ
 offset_in text = if (length text == 6) && (slice_index text 3 == 58) then offset_of (take 3 text) (drop 4 text) else None
 
--- a word that can be no file
+-- a word that is no file's name: it is empty, or begins with `--`
 abbrev pub is_no_name : List ℕ → Bool
 is_no_name word = (length word == 0) || starts_with nat_eq word (codes "--")
 
--- with the name of a file, the first of which is A
+-- the words so far with one name more: that of A, or else that of B; None where both are there
 abbrev pub with_file : Given → List ℕ → Option Given
 with_file given name =
     if is_no_name name then None
     else (if not (is_some given.old) then Some (record given { old = Some name })
     else (if is_some given.new then None else Some (record given { new = Some name })))
 
--- with the value of `--offset`
+-- the words so far with the value of `--offset`; None where it is no offset
 abbrev pub with_offset : Given → List ℕ → Option Given
 with_offset given text = option_map (λ offset. record given { offset = Some offset; next = Word }) (offset_in text)
 
--- with the name of an event, which is not empty
+-- the words so far with the value of `--show`; None where it is empty
 abbrev pub with_name : Given → List ℕ → Option Given
 with_name given [] = None
 with_name given (b ∷ bs) = Some (record given { show = Some (b ∷ bs); next = Word })
 
--- with a word that is no option's value; each option is given once
+-- the words so far with one word more that is no option's value; each option may be given once
 abbrev pub with_option : Given → List ℕ → Option Given
 with_option given word =
     if bytes_eq word (codes "--differences") && not given.only_differences then Some (record given { only_differences = true })
@@ -66,22 +66,22 @@ with_option given word =
     else (if bytes_eq word (codes "--show") && not (is_some given.show) then Some (record given { next = Name })
     else with_file given word))
 
--- with one word more, by what it is
+-- the words so far with one word more, by what the word before asks for; None where it is refused
 abbrev pub with_next : Next → Given → List ℕ → Option Given
 with_next Word given word = with_option given word
 with_next Offset given word = with_offset given word
 with_next Name given word = with_name given word
 
--- with one word more
+-- the words so far with one word more; None where it is refused
 abbrev pub with_word : Given → List ℕ → Option Given
 with_word given word = with_next given.next given word
 
--- with the words from here on
+-- the words so far with these words more; None where one is refused
 abbrev pub with_words : Given → List (List ℕ) → Option Given
 with_words given [] = Some given
 with_words given (word ∷ words) = option_and_then (λ next. with_words next words) (with_word given word)
 
--- the words of a comparison
+-- what all the words of a comparison state; None where one is refused
 abbrev pub given_of : List (List ℕ) → Option Given
 given_of words = with_words nothing_given words
 
@@ -91,11 +91,11 @@ is_word Word = true
 is_word Offset = false
 is_word Name = false
 
--- both are standard input
+-- both names are `-`, standard input
 abbrev pub are_input : List ℕ → List ℕ → Bool
 are_input old new = bytes_eq old (codes "-") && bytes_eq new (codes "-")
 
--- the comparison of two files
+-- what a comparison of two files asks for; None where an option waits for its value, or both files are standard input
 abbrev pub request_by : Given → List ℕ → List ℕ → Option Request
 request_by given old new =
     if not (is_word given.next) || are_input old new then None
@@ -105,7 +105,7 @@ request_by given old new =
 abbrev pub request_of : Given → Option Request
 request_of given = option_and_then (λ old. option_and_then (λ new. request_by given old new) given.new) given.old
 
--- `--help` stands alone
+-- the words are `--help` alone
 abbrev pub is_help : List (List ℕ) → Bool
 is_help [] = false
 is_help (word ∷ []) = bytes_eq word (codes "--help")

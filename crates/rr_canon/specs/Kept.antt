@@ -13,7 +13,7 @@ use Rattle.rr_word.specs.Stretches.{IsNumberOn}
 use Rattle.rr_word.specs.Numbered.{shapes_of, numbered, number_in}
 use Rattle.rr_word.specs.declared.numbered.NumberedDay.{NumberedDay}
 
--- the sketch of its parts
+-- the sketch with these parts, its days told by number
 abbrev pub sketch_of : Kind → List (List ℕ) → List NumberedDay → ℤ → ℕ → List NumberedDay → Sketch
 sketch_of kind sets before settled period cycle = record {
   kind = kind;

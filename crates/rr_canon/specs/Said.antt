@@ -10,7 +10,7 @@ abbrev pub steps_by_number : ℤ → List NumberedDay → List Step
 steps_by_number from [] = []
 steps_by_number from (x ∷ xs) = record { gap = nat_abs (x.day -ℤ from); set = x.number } ∷ steps_by_number x.day xs
 
--- the runs of these steps
+-- the runs of the numbered days, from the day `from` on
 abbrev pub runs_by_number : ℤ → List NumberedDay → List Run
 runs_by_number from days = runs_of (steps_by_number from days)
 
@@ -47,7 +47,7 @@ with_run run (r ∷ rs) =
 
 -- ---- the text of runs
 
--- the lines of the runs
+-- a line with this letter for each run
 abbrev pub text_of_runs : ℕ → List Run → List ℕ
 text_of_runs letter runs = text_of_lines (map (run_line letter) runs)
 

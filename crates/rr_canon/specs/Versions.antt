@@ -11,12 +11,12 @@ use Rattle.rr_model.specs.declared.sketch.Sketch.{Sketch}
 use Rattle.rr_canon.specs.declared.version.Version.{Version}
 use Rattle.rr_canon.specs.declared.version.Version.TheVariants.{First, Second}
 
--- the first line
+-- the first line of a canonical text in this version
 abbrev pub title_of : Version → List ℕ
 title_of First = codes "rrcanon 1"
 title_of Second = codes "rrcanon 2"
 
--- the line of a time set
+-- the line of a time set in this version
 abbrev pub set_line_of : Version → List ℕ → List ℕ
 set_line_of First times = seconds_line times
 set_line_of Second times = stretches_line times

@@ -14,7 +14,7 @@ use rr_model::{Kind, NoMemory};
 use rr_text::{push_extended, push_unsigned};
 use rr_times::{Stretch, TimeSet};
 
-/// As many equal steps in a row.
+/// `count` days so far, each `gap` days after the one before it, with one time set.
 #[derive(Clone, Copy)]
 pub struct OpenRun {
     /// How many days each day lies after the one before it.

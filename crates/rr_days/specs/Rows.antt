@@ -13,7 +13,7 @@ abbrev pub shapes_of_runs : List (List ℕ) → List NumberedDay → List DaySha
 shapes_of_runs sets [] = []
 shapes_of_runs sets (x ∷ xs) = with_day x.day (get_or sets (suc x.number) []) (shapes_of_runs sets xs)
 
--- the sketch of numbered days
+-- the sketch of numbered days, whose numbers are one less than those of the sets
 abbrev pub sketch_of_runs : Kind → List (List ℕ) → List NumberedDay → List NumberedDay → ℤ → ℕ → Sketch
 sketch_of_runs kind sets before cycle settled period = record {
   kind = kind;
@@ -23,7 +23,7 @@ sketch_of_runs kind sets before cycle settled period = record {
   cycle = shapes_of_runs sets cycle;
 }
 
--- the first set is empty
+-- the set of number 0 is there, and is empty
 abbrev pub HasEmptyFirst : List (List ℕ) → Type 0
 HasEmptyFirst sets = (0 < length sets) × (get_or sets 0 [] ≡ [])
 

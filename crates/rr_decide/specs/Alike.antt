@@ -16,7 +16,7 @@ use Rattle.rr_decide.specs.declared.long.Run.TheVariants.{Differs, Agrees}
 abbrev pub AreAlike : List (List ℕ) → List (List ℕ) → AlikeNumbers → Type 0
 AreAlike sets_a sets_b alike = (k : ℕ) → alike.from ≤ k → k < alike.end → slice_get sets_a k ≡ slice_get sets_b k
 
--- both days have one number of the stretch
+-- two days have one and the same number, which lies in the stretch
 abbrev pub HaveOneOf : Option ℕ → Option ℕ → AlikeNumbers → Type 0
 HaveOneOf a b alike = (k : ℕ) × (alike.from ≤ k) × (k < alike.end) × (a ≡ Some k) × (b ≡ Some k)
 

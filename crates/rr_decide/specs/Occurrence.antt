@@ -13,11 +13,11 @@ use Rattle.rr_decide.specs.declared.occurrence.Occurrence.{Occurrence}
 abbrev pub IsNearOccurrence : Occurrence → Type 0
 IsNearOccurrence o = (neg_ℤ (pos 100_000_000_000_000) ≤ℤ o.at) × (o.at ≤ℤ pos 100_000_000_000_000)
 
--- its day is at most the greatest one that a call takes
+-- the day of the occurrence is at most the greatest one that a call takes
 abbrev pub IsUpToMaxDay : Kind → ℤ → Type 0
 IsUpToMaxDay kind at = day_part kind at ≤ℤ pos 3_000_000_000_000
 
--- a no names such an occurrence
+-- a No names an occurrence on a day that is at most the greatest one that a call takes
 abbrev pub NamesUpToMaxDay : Verdict → Type 0
 NamesUpToMaxDay Yes = ⊤
 NamesUpToMaxDay (No kind at side) = IsUpToMaxDay kind at

@@ -38,11 +38,11 @@ shown_by Disjoint A = false
 shown_by Disjoint B = false
 shown_by Disjoint Both = true
 
--- the two facts hold on a side that shows it
+-- the two facts hold on a side for which `shows` is true
 abbrev pub IsShown : (Side → Bool) → Type 0 → Type 0 → Type 0
 IsShown shows P Q = (side : Side) × IsTrue (shows side) × HoldsOn side P Q
 
--- Yes where no occurrence shows no; no with the first that does.
+-- Yes where no occurrence lies on a side for which `shows` is true; else No with the first such occurrence
 abbrev pub IsVerdictBy : (Side → Bool) → Occurrences → Occurrences → Verdict → Type 0
 IsVerdictBy shows P Q Yes = (k : Kind) (t : ℤ) → IsShown shows (P k t) (Q k t) → ⊥
 IsVerdictBy shows P Q (No k t side) =
@@ -54,28 +54,29 @@ IsVerdictOn question s u verdict = IsVerdictBy (shown_by question) (StandsIn s) 
 
 -- ---- on one day
 
--- no second of the two lists shows it
+-- no second of the two lists lies on a side for which `shows` is true
 abbrev pub ShowsNone : (Side → Bool) → List ℕ → List ℕ → Type 0
 ShowsNone shows xs ys = (w : ℕ) → IsShown shows (Contains xs w) (Contains ys w) → ⊥
 
--- at no place below n a second shows it, where the first lists are empty below a and the second below b
+-- for each index below n: no second of two lists lies on a side for which `shows` is true, where the first list is empty at an
+-- index below a, and the second at an index below b
 abbrev pub ShowsNoneBelow : (Side → Bool) → ℕ → ℕ → ℕ → Type 0
 ShowsNoneBelow shows a b n = (k : ℕ) → k < n → (xs ys : List ℕ) → (k < a → xs ≡ []) → (k < b → ys ≡ []) → ShowsNone shows xs ys
 
--- the first second of the two lists that shows it, and its side
+-- the first second of the two lists that lies on a side for which `shows` is true, and this side
 pub record IsFirstShown (shows : Side → Bool) (xs ys : List ℕ) (second : ℕ) (side : Side) : Type 0 where
   pub shown : IsTrue (shows side)
   pub holds : HoldsOn side (Contains xs second) (Contains ys second)
   pub none_below : (w : ℕ) → w < second → IsShown shows (Contains xs w) (Contains ys w) → ⊥
 
--- the first second of the two lists that shows it, with its side; none where no second does
+-- the first second of the two lists that shows a no to the question, with its side; None where no second does
 abbrev pub IsFirstSecondShown : Question → List ℕ → List ℕ → Option (ℕ × Side) → Type 0
 IsFirstSecondShown question xs ys first =
     MatchOption first (ShowsNone (shown_by question) xs ys) (λ r. IsFirstShown (shown_by question) xs ys r.0 r.1)
 
 -- ---- on many days
 
--- no day from one on and below another shows it
+-- no day from `from` on and before `to` has a second on a side for which `shows` is true
 abbrev pub ShowsNoneWithin : (Side → Bool) → Sketch → Sketch → ℤ → ℤ → Type 0
 ShowsNoneWithin shows s u from to = (d : ℤ) → from ≤ℤ d → d <ℤ to → ShowsNone shows (times_on s d) (times_on u d)
 

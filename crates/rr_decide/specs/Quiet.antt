@@ -6,7 +6,7 @@ use Rattle.rr_decide.specs.declared.quiet.Pair.{Pair}
 use Rattle.rr_decide.specs.declared.quiet.Quiet.{Quiet}
 use Rattle.rr_decide.specs.declared.quiet.Recent.{Recent}
 
--- both are one number, below the one that is given
+-- the two numbers are equal and below the bound; without a bound nothing is
 abbrev pub IsAlike : Option ℕ → ℕ → ℕ → Type 0
 IsAlike None a b = ⊥
 IsAlike (Some below) a b = (a ≡ b) × (a < below)
@@ -37,11 +37,11 @@ abbrev pub IsPlaced : Option (List (Option Pair)) → ℕ → ℕ → Type 0
 IsPlaced None a b = ⊥
 IsPlaced (Some slots) a b = (k : ℕ) × (k < length slots) × (slice_index_or slots k None ≡ Some (record { a = a; b = b }))
 
--- the pair is remembered
+-- the memo remembers this pair of numbers
 abbrev pub HasPair : Quiet → ℕ → ℕ → Type 0
 HasPair q a b = IsAlike q.alike a b ⊎ (IsRecent q.recent a b ⊎ IsPlaced q.slots a b)
 
--- each pair was there
+-- each pair that the new memo remembers, the old one did too
 abbrev pub WereThere : Quiet → Quiet → Type 0
 WereThere old new = (a b : ℕ) → HasPair new a b → HasPair old a b
 
@@ -49,7 +49,7 @@ WereThere old new = (a b : ℕ) → HasPair new a b → HasPair old a b
 abbrev pub WereThereOr : Quiet → Quiet → Pair → Type 0
 WereThereOr old new pair = (a b : ℕ) → HasPair new a b → HasPair old a b ⊎ IsPair pair a b
 
--- both numbers are there, and remembered
+-- both numbers are there, and the memo remembers the pair
 abbrev pub AreRemembered : Quiet → Option ℕ → Option ℕ → Type 0
 AreRemembered q (Some a) (Some b) = HasPair q a b
 AreRemembered q (Some a) None = ⊥

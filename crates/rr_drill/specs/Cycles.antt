@@ -7,6 +7,6 @@ abbrev pub cycles : List ℕ
 cycles =
     1 ∷ 2 ∷ 3 ∷ 4 ∷ 5 ∷ 6 ∷ 7 ∷ 8 ∷ 9 ∷ 10 ∷ 14 ∷ 21 ∷ 28 ∷ 146_097 ∷ 438_291 ∷ 1_022_679 ∷ 1_607_067 ∷ []
 
--- the number is one of these
+-- the number is one of the listed cycles
 unfoldable pub is_drawn_cycle : ℕ → Bool
 is_drawn_cycle n = list_any (λ cycle. cycle == n) cycles

@@ -7,7 +7,7 @@ use Rattle.rr_model.specs.declared.rule.Series.{Series}
 use Rattle.rr_days.specs.Sequence.{sketch}
 use Rattle.rr_drill.specs.declared.drawn_days.DrawnDays.{DrawnDays}
 
--- what stands in the days
+-- the occurrences that the folded days of a drawn series have
 abbrev pub stands : DrawnDays → Occurrences
 stands days = StandsIn (sketch days.folded)
 

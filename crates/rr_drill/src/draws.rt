@@ -77,7 +77,7 @@ impl Draws {
         rule
     }
 
-    /// The dates of a rule from a start on.
+    /// Draws a series: a start and an endless rule, whose days from the start on occur.
     pub fn series(&mut self, alloc: Global) -> Result<Series, NoMemory>
         ensures value { IfOk result (λ series. series ≡ series_from self.old.state) }
         ensures state { self.new.state ≡ after_series self.old.state }

@@ -36,7 +36,7 @@ pub record IsBefore (begun : Piece) (rest : List ℕ) (piece : Piece) : Type 0 w
   pub first : piece.first ≡ begun.first
   pub text : piece.text.now ≡ before begun.text.now rest
 
--- one piece more is found
+-- one piece more is found: from where `begun` begins to where the rest begins
 pub record IsPushed (begun : Piece) (rest : List ℕ) (old new : List Piece) : Type 0 where
   pub piece : Piece
   pub is : IsBefore begun rest piece
@@ -59,7 +59,7 @@ IsFoundAfter true begun rest old new = new ≡ old
 IsFoundAfter false None rest old new = new ≡ old
 IsFoundAfter false (Some begun) rest old new = IsPushed begun rest old new
 
--- a line is taken in
+-- the finder has taken in one line
 pub record IsNext (old new : Finder) (here : Piece) (line : Line) (rest : List ℕ) : Type 0 where
   pub names : open_after old.names line ≡ Ok new.names
   pub begun : new.begun ≡ begun_after (is_within_event new.names) old.begun here

@@ -16,7 +16,7 @@ abbrev pub own_lines : List (List ℕ) → List Line → List Line
 own_lines names [] = []
 own_lines names (line ∷ lines) = own_line (is_in_event names) line (open_after names line) (λ after. own_lines after lines)
 
--- the first line of this name
+-- the first line of an event that has this name
 abbrev pub first_named : List ℕ → List Line → Option Line
 first_named word [] = None
 first_named word (line ∷ lines) = if is_named line.text word then Some line else first_named word lines

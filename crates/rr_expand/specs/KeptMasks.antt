@@ -27,7 +27,7 @@ pub record IsMaskedYear (year : MaskedYear) : Type 0 where
 abbrev pub is_marked : MaskedYear → ℤ → Bool
 is_marked year d = is_bit_set year.mask.bits (nat_abs (d -ℤ year.first))
 
--- of the year's days from one on and before another the first whose bit is set
+-- the first day of the year from `from` on and before `end` whose bit is set; None where no bit is
 abbrev pub IsFirstMarked : MaskedYear → ℤ → ℤ → Option ℤ → Type 0
 IsFirstMarked year from end None = (d : ℤ) → from ≤ℤ d → d <ℤ end → d <ℤ year.next → is_marked year d ≡ false
 IsFirstMarked year from end (Some day) =

@@ -10,7 +10,7 @@ use Rattle.rr_parts.specs.Numbers.{number_allowed}
 abbrev pub AreAllowedNumbers : Bool → List ℤ → ℕ → ℕ → List ℕ → Type 0
 AreAllowedNumbers is_wanted part own count numbers = IsSetOf nat_lt numbers (λ n. (n < count) × IsTrue (number_allowed is_wanted part own n))
 
--- of a unit that holds many, the numbers below 60 that a part allows, filled with the start's own number; else none
+-- where a unit holds several of them: the numbers below 60 that a part allows, filled with the start's own number; else none
 abbrev pub AreNumbersOfUnit : Bool → List ℤ → ℕ → List ℕ → Type 0
 AreNumbersOfUnit true part own numbers = AreAllowedNumbers true part own 60 numbers
 AreNumbersOfUnit false part own numbers = numbers ≡ []

@@ -20,7 +20,7 @@ filling_of rule start_day = record { rule = rule; start_day = start_day }
 abbrev pub allows_day : Filling → ℤ → Bool
 allows_day f d = date_parts_hold (filled f.rule Days f.start_day) d
 
--- every day is allowed
+-- the date parts allow every day
 abbrev pub AllowsEveryDay : Filling → Type 0
 AllowsEveryDay f = (d : ℤ) → allows_day f d ≡ true
 
@@ -44,7 +44,7 @@ IsYearMask f year words = (k : ℕ) → k < 384 → is_bit_set words k ≡ allow
 abbrev pub MarksAllowed : Filling → ℤ → ℕ → List ℕ → Type 0
 MarksAllowed f first count words = (k : ℕ) → k < 384 → is_bit_set words k ≡ (nat_lt k count && allows_day f (first +ℤ pos k))
 
--- of bits from one on and below another the first whose bit is set
+-- the first set bit from `from` on and before `end`; None where no bit is set
 abbrev pub IsFirstBit : List ℕ → ℕ → ℕ → Option ℕ → Type 0
 IsFirstBit words from end None = (k : ℕ) → from ≤ k → k < end → is_bit_set words k ≡ false
 IsFirstBit words from end (Some bit) =
@@ -63,7 +63,7 @@ abbrev pub EqualKeysHaveEqualMasks : Type 0
 EqualKeysHaveEqualMasks =
     (f : Filling) (year other : ℤ) → mask_key f.rule year ≡ mask_key f.rule other → (k : ℕ) → allows_day_of_year f year k ≡ allows_day_of_year f other k
 
--- of the days from one on and before another the first that is allowed
+-- the first day from `from` on and before `end` that is allowed; None where none is
 abbrev pub IsFirstAllowed : Filling → ℤ → ℤ → Option ℤ → Type 0
 IsFirstAllowed f from end None = (d : ℤ) → from ≤ℤ d → d <ℤ end → allows_day f d ≡ false
 IsFirstAllowed f from end (Some day) =

@@ -48,7 +48,7 @@ TestOfEndless = (s : Sketch) (test : ℤ → Bool) (kind : Kind) (start : ℤ) �
     → AgreeForEver test (is_occupied s) (day_part kind start)
     → HaveEqualOccurrences (OccursOnDays test NoEnd kind start) (StandsIn s)
 
--- the last occupied day
+-- the last occupied day of a set
 pub record IsLastDay (s : Sketch) (last : ℤ) : Type 0 where
   pub occupied : is_occupied s last ≡ true
   pub none_after : (d : ℤ) → last <ℤ d → times_on s d ≡ []

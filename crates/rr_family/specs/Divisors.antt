@@ -38,7 +38,7 @@ divisor_of divisors freq w = divisors.days
 abbrev pub EachUnit : (Freq → ℕ → Type 0) → Type 0
 EachUnit P = (freq : Freq) (w : ℕ) → IsTrue (is_whole_days freq) → w < 7 → P freq w
 
--- the divisors of n days
+-- these are the divisors of the occupied days among the first `days` days from `first` on, one for each unit of whole days
 abbrev pub AreDivisors : Divisors → (ℤ → Bool) → ℤ → ℕ → Type 0
 AreDivisors divisors occupied first days =
     EachUnit (λ freq w. IsDivisor (divisor_of divisors freq w) (unit_number freq w Days) occupied first days)
@@ -47,12 +47,12 @@ AreDivisors divisors occupied first days =
 abbrev pub IsJoinedAt : Divisors → Freq → ℕ → ℤ → ℤ → ℕ → Type 0
 IsJoinedAt old freq w first d divisor = IsGcd (divisor_of old freq w) (units_apart (unit_number freq w Days) first d) divisor
 
--- one more occupied day enters
+-- one occupied day more enters the divisors of each unit of whole days
 abbrev pub IsJoined : Divisors → ℤ → ℤ → Divisors → Type 0
 IsJoined old first d new =
     EachUnit (λ freq w. IsJoinedAt old freq w first d (divisor_of new freq w))
 
--- all days of a finite set
+-- the first `days` days from `first` on go up to the last day of a finite set; of an endless set nothing is asked
 abbrev pub ReachesEnd : ℤ → WindowEnd → ℕ → Type 0
 ReachesEnd first (Last day many) days = days ≡ window_days first day
 ReachesEnd first (Cycle period start) days = ⊤
@@ -65,7 +65,7 @@ pub record HasDivisors (s : Sketch) (w : Window) (divisors : Divisors) : Type 0 
 
 -- ---- intervals
 
--- there is a last day
+-- the window has a last day
 abbrev pub IsFinite : WindowEnd → Type 0
 IsFinite (Last day many) = ⊤
 IsFinite (Cycle period start) = ⊥

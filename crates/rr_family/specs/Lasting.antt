@@ -13,7 +13,7 @@ use Rattle.rr_family.specs.Taking.{AgreeWithin, is_sound, some_gives, taken_plac
 abbrev pub is_occupied : Sketch → ℤ → Bool
 is_occupied s d = not (is_absent (times_on s d))
 
--- the one second, or none
+-- this second alone where the day is occupied; no second where it is not
 abbrev pub at_second : ℕ → Bool → List ℕ
 at_second second true = second ∷ []
 at_second second false = []

@@ -6,7 +6,7 @@ use Rattle.rr_model.specs.declared.vcal.FamilyKind.TheVariants as family
 use Rattle.rr_model.specs.declared.item.Item.{Item}
 use Rattle.rr_model.specs.declared.item.Item.TheVariants.{Every, Weekday, MonthDay, Place, Month, YearDay}
 
--- how many items a kind has
+-- how many different items a rule of this kind can list
 abbrev pub many_items : FamilyKind → ℕ
 many_items family.D = 1
 many_items family.W = 7
@@ -19,7 +19,7 @@ many_items family.YD = 366
 abbrev pub from_both_ends : ℕ → ℕ → ℤ
 from_both_ends most index = if nat_lt index most then pos (index + 1) else neg_ℤ (pos (index - most + 1))
 
--- the item at an index
+-- the item that has this index among those of a kind of rule
 abbrev pub item_at : FamilyKind → ℕ → Item
 item_at family.D index = Every
 item_at family.W index = Weekday index

@@ -44,7 +44,7 @@ kind_place family.MP = 3
 kind_place family.YM = 4
 kind_place family.YD = 5
 
--- endless, or with a count
+-- an end that a profile may have: none, or a COUNT
 abbrev pub IsProfileEnd : End → Type 0
 IsProfileEnd Never = ⊤
 IsProfileEnd (Count n) = ⊤
@@ -74,12 +74,12 @@ NoneBefore P interval f =
 
 -- ---- the list that is written
 
--- the first n places from k on
+-- the first n places from place k on
 abbrev pub places_from : ℕ → ℕ → List ℕ
 places_from k zero = []
 places_from k (suc n) = k ∷ places_from (suc k) n
 
--- all places of a kind
+-- all places of items of a kind of rule
 abbrev pub all_places : FamilyKind → List ℕ
 all_places f = places_from 0 (many_items f)
 
@@ -91,7 +91,7 @@ in_order all taken = filter (λ place. list_any (λ other. place == other) taken
 abbrev pub list_places : Sketch → FamilyKind → ℕ → ℤ → ℕ → List ℕ
 list_places s f interval first days = in_order (all_places f) (taken_places (place_has_day f interval first) (is_occupied s) first days (all_places f))
 
--- the items of these places
+-- the items of the list that is taken for a kind and an interval on a window
 abbrev pub list_items : Sketch → FamilyKind → ℕ → ℤ → ℕ → List Item
 list_items s f interval first days = map (item_at f) (list_places s f interval first days)
 
@@ -126,7 +126,7 @@ abbrev pub range_of : End → RangeEnd
 range_of (Count n) = Numbered n
 range_of end = NoEnd
 
--- a rule of these parts
+-- the rule of these parts
 abbrev pub vrule : FamilyKind → ℕ → List Item → End → VRule
 vrule family interval items end = record { family = family; interval = interval; items = items; end = end }
 

@@ -23,7 +23,7 @@ sound_places gives occupied first days places = filter (is_sound gives occupied 
 abbrev pub further_days : (ℕ → ℤ → Bool) → (ℤ → Bool) → ℤ → ℕ → List ℕ → ℕ → ℕ
 further_days gives occupied first days taken place = count_from (λ d. gives place d && (occupied d && not (some_gives gives taken d))) first days
 
--- of x and the others the first with the greatest number
+-- the first, of x and the other places, with the greatest number
 abbrev pub first_greatest : (ℕ → ℕ) → ℕ → List ℕ → ℕ
 first_greatest number x [] = x
 first_greatest number x (y ∷ ys) = if nat_lt (number x) (number y) then first_greatest number y ys else first_greatest number x ys

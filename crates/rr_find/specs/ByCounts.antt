@@ -22,12 +22,12 @@ abbrev pub number_at : (ℕ → ℕ) → Option ℕ → ℕ
 number_at number None = 0
 number_at number (Some index) = number index
 
--- of the first n items the one with the greatest number, the first of them on a tie; none where all numbers are 0
+-- the first of the first n items that has the greatest number; None where all numbers are 0
 unfoldable pub best_below : (ℕ → ℕ) → ℕ → Option ℕ
 best_below number zero = None
 best_below number (suc n) = if nat_lt (number_at number (best_below number n)) (number n) then Some n else best_below number n
 
--- the item that adds most
+-- the first item with no free day and the most occupied days left; None where no such item has one left
 abbrev pub best_index : FamilyKind → (ℕ → ℕ) → (ℕ → ℕ) → Option ℕ
 best_index f left free = best_below (gain_of_item f left free) (many_items f)
 
@@ -56,7 +56,7 @@ pub record AreTakenSoFar (f : FamilyKind) (occupied free left : ℕ → ℕ) (it
 abbrev pub IsTakenFrom : FamilyKind → ℕ → (ℕ → ℕ) → (ℕ → ℕ) → Type 0
 IsTakenFrom f index old new = (sort : ℕ) → sort < many_sorts f → new sort ≡ if has_sort f sort index then 0 else old sort
 
--- no sort has a day left
+-- no sort has an occupied day left
 abbrev pub IsClear : FamilyKind → (ℕ → ℕ) → Type 0
 IsClear f left = (sort : ℕ) → sort < many_sorts f → left sort ≡ 0
 

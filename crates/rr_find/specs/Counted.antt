@@ -10,7 +10,7 @@ use Rattle.rr_find.specs.declared.tallies.Counts.{Counts}
 abbrev pub count_in : List ℕ → ℕ → ℕ
 count_in counts = λ sort. get_or counts sort 0
 
--- each count is one more where its sort passes
+-- the count of this sort, if there is one, is one more where `counts` is true; each other count is as before
 abbrev pub IsCountedOn : List ℕ → List ℕ → Option ℕ → Bool → Type 0
 IsCountedOn old new sort counts = (length new ≡ length old) × ((k : ℕ)
     → get_or new k 0 ≡ get_or old k 0 + one_if (sort_passes (λ j. k == j) sort && counts))
@@ -24,11 +24,11 @@ abbrev pub has_some_sort : Option ℕ → Bool
 has_some_sort None = false
 has_some_sort (Some sort) = true
 
--- each occupied day of the first n has a sort
+-- each occupied day of the first `days` days from `first` on has a sort
 abbrev pub AreSorted : (ℤ → Option ℕ) → (ℤ → Bool) → ℤ → ℕ → Type 0
 AreSorted sort_of occupied first days = (d : ℤ) → first ≤ℤ d → d <ℤ (first +ℤ pos days) → occupied d ≡ true → has_some_sort (sort_of d) ≡ true
 
--- some occupied day of them has none
+-- some occupied day of the first `days` days from `first` on has no sort
 pub record HasUnsorted (sort_of : ℤ → Option ℕ) (occupied : ℤ → Bool) (first : ℤ) (days : ℕ) : Type 0 where
   pub day : ℤ
   pub not_before : first ≤ℤ day
@@ -36,13 +36,14 @@ pub record HasUnsorted (sort_of : ℤ → Option ℕ) (occupied : ℤ → Bool) 
   pub occupied_day : occupied day ≡ true
   pub no_sort : has_some_sort (sort_of day) ≡ false
 
--- some sort has an occupied day of them and a free one
+-- some sort has an occupied day and a free day among the first `days` days from `first` on
 pub record HasMixed (sort_of : ℤ → Option ℕ) (occupied : ℤ → Bool) (first : ℤ) (days : ℕ) : Type 0 where
   pub sort : ℕ
   pub some_occupied : 1 ≤ days_of_sort sort_of occupied first days sort
   pub some_free : 1 ≤ days_of_sort sort_of (λ d. not (occupied d)) first days sort
 
--- what a day does to the counts: an occupied day has a sort, or there is none, or a sort has days of both
+-- of a day: if true, it has a sort where it is occupied; if false, it is occupied and has no sort, or some sort has an occupied
+-- and a free day counted
 abbrev pub IsDayResult : Bool → List ℕ → List ℕ → Option ℕ → Bool → Type 0
 IsDayResult true occupied_counts free_counts sort occupied = occupied ≡ true → has_some_sort sort ≡ true
 IsDayResult false occupied_counts free_counts sort occupied =
@@ -63,7 +64,7 @@ abbrev pub GoesOnAfter : (ℤ → Bool) → FamilyKind → ℕ → ℤ → ℤ �
 GoesOnAfter occupied kind interval start day occupied_counts free_counts goes_on =
     IsDayResult goes_on occupied_counts free_counts (sort_of_day kind interval start day) (occupied day)
 
--- no day is counted yet
+-- each count is 0
 abbrev pub IsNothingCounted : List ℕ → Type 0
 IsNothingCounted counts = (k : ℕ) → get_or counts k 0 ≡ 0
 

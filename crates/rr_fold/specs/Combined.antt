@@ -32,7 +32,7 @@ pub record AreShapes (sets : List (List ℕ)) : Type 0 where
   pub empty : get_or sets 0 [] ≡ []
   pub few : total_size sets ≤ MAX_SECONDS
 
--- of each pair that is known the combination is that of its number, which is a 32-bit number
+-- each known pair of numbers has a 32-bit number whose set is the combination of the pair's sets
 abbrev pub AreCombinationsOf : Op → List (List ℕ) → List (List ℕ) → List (List ℕ) → List (Pair × ℕ) → Type 0
 AreCombinationsOf op one other sets known = All (λ k. (k.1 ≤ 4_294_967_295) × IsCombinationOf op one other sets k.0.a k.0.b k.1) known
 
@@ -61,7 +61,8 @@ pub record AreLists (one : List (List ℕ)) (ones : List ℕ) (other : List (Lis
   pub one_within : All (λ n. n < length one) ones
   pub other_within : All (λ n. n < length other) others
 
--- as many numbers as each list has, each that of a combination, and no sets but theirs and the empty one
+-- one number for each index of the two lists, of the combined set of the two numbers there; each set is used, but for empty
+-- ones
 pub record AreCombined (op : Op) (one : List (List ℕ)) (ones : List ℕ) (other : List (List ℕ)) (others : List ℕ) (sets : List (List ℕ)) (numbers : List ℕ) : Type 0 where
   pub whole : length numbers ≡ length ones
   pub shapes : AreShapes sets

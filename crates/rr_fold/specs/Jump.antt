@@ -9,7 +9,7 @@ use Rattle.rr_model.specs.declared.rule.End.TheVariants.{Count}
 use Rattle.rr_model.specs.declared.rule.Rule.{Rule}
 use Rattle.rr_fold.specs.declared.jump.Jump.{Jump}
 
--- as many days as some whole cycles have, one cycle at least
+-- `days` days are one whole cycle, or more of them
 pub record AreWholeCycles (cycle days : ℕ) : Type 0 where
   pub cycles : ℕ
   pub some : 1 ≤ days

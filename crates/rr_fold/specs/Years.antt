@@ -45,7 +45,7 @@ year_slot rule period first year = mask_key rule year + 56 * (nat_abs (first_day
 abbrev pub IsAfterStart : Kind → ℤ → ℤ → Type 0
 IsAfterStart kind start year = day_part kind start <ℤ first_day_of_year year
 
--- Of two years of one key that begin after the start's day, each day of one has the seconds of the same day of the other.
+-- two years with one key that begin after the start's day have the same seconds on the same days of the year
 abbrev pub EqualKeysHaveEqualDays : Type 0
 EqualKeysHaveEqualDays =
     (rule : Rule) (kind : Kind) (start year other : ℤ) → IsValidRule kind rule → IsInYears kind start → LeavesNoUnitOut rule
@@ -57,7 +57,7 @@ EqualKeysHaveEqualDays =
 abbrev pub EqualKeysHaveEqualLengths : Type 0
 EqualKeysHaveEqualLengths = (rule : Rule) (year other : ℤ) → mask_key rule year ≡ mask_key rule other → days_in_year year ≡ days_in_year other
 
--- Of two years of one slot that begin after the first day, each day of one has the seconds of the same day of the other.
+-- two years of one slot that begin after the first day have the same seconds on the same days of the year
 abbrev pub HasEqualYears : Rule → ℕ → Tree → ℤ → Type 0
 HasEqualYears rule period tree first =
     (year other : ℤ) → first <ℤ first_day_of_year year → first <ℤ first_day_of_year other → year_slot rule period first year ≡ year_slot rule period first other
@@ -71,7 +71,7 @@ pub record IsKeptYear (rule : Rule) (period : ℕ) (first : ℤ) (days slot inde
   pub begins : first_day_of_year year ≡ first +ℤ pos index
   pub ends : index + days_in_year year ≤ days
 
--- there is a place for each slot, and a year of that slot begins where it is known
+-- there is an entry for each slot; where one is known, a year of that slot begins at its index
 pub record AreKeptYears (rule : Rule) (period : ℕ) (first : ℤ) (days : ℕ) (kept : List (Option ℕ)) : Type 0 where
   pub places : length kept ≡ 56 * period
   pub years : (slot index : ℕ) → slice_get kept slot ≡ Some (Some index) → IsKeptYear rule period first days slot index

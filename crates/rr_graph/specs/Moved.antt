@@ -11,12 +11,12 @@ use Rattle.rr_model.specs.declared.graph.Repeat.{Repeat}
 use Rattle.rr_model.specs.declared.graph.Repeat.TheVariants as repeat
 use Rattle.rr_pattern.specs.Begun.{begun_on}
 
--- the pattern from that day on
+-- the repetition of an event, with the range of its pattern begun on `day`
 abbrev pub repeat_from : Repeat → ℤ → Repeat
 repeat_from repeat.Once day = repeat.Once
 repeat_from (repeat.Pattern pattern range) day = repeat.Pattern pattern (begun_on range day)
 
--- the event with another start
+-- the event with another start; its pattern begins on the day of that start
 abbrev pub started_at : GraphEvent → ℤ → GraphEvent
 started_at event start = record { kind = event.kind; start = start; repeat = repeat_from event.repeat (day_part event.kind start) }
 

@@ -6,53 +6,53 @@ use Rattle.rr_model.specs.Graph.Text.{day_names, day_text, index_text}
 
 -- ---- members, each before others
 
--- a number
+-- a member that is a number, before other members
 abbrev pub number_member : List ℕ → ℕ → Members → Members
 number_member name n members = member name (number (unsigned n)) members
 
--- a text
+-- a member that is a text, before other members
 abbrev pub text_member : List ℕ → List ℕ → Members → Members
 text_member name text members = member name (string text) members
 
--- the interval
+-- the member `interval`, before other members
 abbrev pub interval_member : ℕ → Members → Members
 interval_member interval members = number_member (codes "interval") interval members
 
--- the names of a sum of days
+-- the member `daysOfWeek`, the names in a sum of days, before other members
 abbrev pub days_member : ℕ → Members → Members
 days_member days members = member (codes "daysOfWeek") (array (items_of (map string (day_names days)))) members
 
--- the type, which is the last member
+-- the member `type`, the last one
 abbrev pub type_member : List ℕ → Members
 type_member type = text_member (codes "type") type no_members
 
 -- ---- patterns
 
--- days by their interval
+-- a pattern of the type `daily`: days by their interval
 abbrev pub daily_json : ℕ → Data
 daily_json interval = object (interval_member interval (type_member (codes "daily")))
 
--- on days of the week, whose first day is given
+-- a pattern of the type `weekly`: days of the week, whose first day is given
 abbrev pub weekly_json : ℕ → ℕ → ℕ → Data
 weekly_json interval days first_day = object
     (days_member days (text_member (codes "firstDayOfWeek") (day_text first_day) (interval_member interval (type_member (codes "weekly")))))
 
--- on a day of the month
+-- a pattern of the type `absoluteMonthly`: a day of the month
 abbrev pub absolute_monthly_json : ℕ → ℕ → Data
 absolute_monthly_json interval day = object
     (number_member (codes "dayOfMonth") day (interval_member interval (type_member (codes "absoluteMonthly"))))
 
--- on the first, second, third, fourth or last of days of the week in a month
+-- a pattern of the type `relativeMonthly`: the first, second, third, fourth or last of days of the week in a month
 abbrev pub relative_monthly_json : ℕ → ℕ → ℤ → Data
 relative_monthly_json interval days index = object
     (days_member days (text_member (codes "index") (index_text index) (interval_member interval (type_member (codes "relativeMonthly")))))
 
--- on a day of a month of the year
+-- a pattern of the type `absoluteYearly`: a day of a month of the year
 abbrev pub absolute_yearly_json : ℕ → ℕ → ℕ → Data
 absolute_yearly_json interval day month = object
     (number_member (codes "dayOfMonth") day (interval_member interval (number_member (codes "month") month (type_member (codes "absoluteYearly")))))
 
--- on the first, second, third, fourth or last of days of the week in a month of the year
+-- a pattern of the type `relativeYearly`: the first, second, third, fourth or last of days of the week in a month of the year
 abbrev pub relative_yearly_json : ℕ → ℕ → ℤ → ℕ → Data
 relative_yearly_json interval days index month = object
     (days_member days (text_member (codes "index") (index_text index) (interval_member interval
@@ -60,22 +60,22 @@ relative_yearly_json interval days index month = object
 
 -- ---- ranges
 
--- without an end
+-- a range of the type `noEnd`: from a start date on, without an end
 abbrev pub no_end_json : Data → Data
 no_end_json start = object (member (codes "startDate") start (type_member (codes "noEnd")))
 
--- up to a last day
+-- a range of the type `endDate`: from a start date up to a last day
 abbrev pub end_date_json : Data → Data → Data
 end_date_json start last = object (member (codes "endDate") last (member (codes "startDate") start (type_member (codes "endDate"))))
 
--- up to a number of occurrences
+-- a range of the type `numbered`: from a start date on, `count` occurrences
 abbrev pub numbered_json : Data → ℕ → Data
 numbered_json start count = object
     (number_member (codes "numberOfOccurrences") count (member (codes "startDate") start (type_member (codes "numbered"))))
 
 -- ---- recurrences and events
 
--- a pattern and its range
+-- a recurrence: a pattern and its range
 abbrev pub recurrence_json : Data → Data → Data
 recurrence_json pattern range = object (member (codes "pattern") pattern (member (codes "range") range no_members))
 
@@ -83,7 +83,7 @@ recurrence_json pattern range = object (member (codes "pattern") pattern (member
 abbrev pub start_json : Data → Data
 start_json moment = object (member (codes "dateTime") moment no_members)
 
--- an event that is not all day
+-- an event that is not all day: its recurrence and its start
 abbrev pub event_json : Data → Data → Data
 event_json recurrence start = object
     (member (codes "isAllDay") (boolean false) (member (codes "recurrence") recurrence (member (codes "start") start no_members)))

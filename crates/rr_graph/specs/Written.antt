@@ -5,7 +5,7 @@ use Rattle.rr_model.specs.declared.graph.Repeat.{Repeat}
 use Rattle.rr_model.specs.declared.graph.Repeat.TheVariants as repeat
 use Rattle.rr_model.specs.declared.kind.Kind.{Kind}
 
--- there is a pattern
+-- the event repeats by a pattern
 abbrev pub HasPattern : Repeat → Type 0
 HasPattern repeat.Once = ⊥
 HasPattern (repeat.Pattern pattern range) = ⊤

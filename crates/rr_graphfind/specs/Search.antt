@@ -31,7 +31,7 @@ pub record Agrees (s : Sketch) (first : ℤ) (days : ℕ) (pattern : Pattern) : 
 abbrev pub counts_on : Pattern → ℤ → ℤ → Bool
 counts_on pattern first d = divides pattern.interval (period_of pattern.form pattern.first_day d -ℤ period_of pattern.form pattern.first_day first)
 
--- of an endless set, the least period divides the cycle and the least start is the first day
+-- where a set is endless, its least period divides the cycle and its least start is the first day
 abbrev pub FitsEnd : WindowEnd → ℤ → ℕ → Type 0
 FitsEnd (Last day many) first cycle = ⊤
 FitsEnd (Cycle period start) first cycle = (period ∣ cycle) × (start ≡ first)

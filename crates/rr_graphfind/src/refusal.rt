@@ -31,7 +31,7 @@ pub(crate) struct FirstDays {
 }
 
 impl FirstDays {
-    /// Those of a window.
+    /// The first two occupied days of the set of a window.
     pub(crate) fn of(window: &Window) -> Self
         requires { IsNearWindow window.now }
         ensures { result.first.number ≡ window.now.first }

@@ -39,12 +39,12 @@ pub record IsDateCut (takes_semicolons : Bool) (text first rest : List ℕ) : Ty
   pub values : date_values takes_semicolons text ≡ first ∷ date_values takes_semicolons rest
   pub shorter : length rest < length text
 
--- one more date value, where this number is read: TooManyParts, PeriodValue in RDATE (true), and what the value states
+-- one more date value, where `count` are read already: TooManyParts, PeriodValue in RDATE (true), or what the value states
 abbrev pub next_date : ℕ → Bool → ℕ → List ℕ → Result Stamp Refusal
 next_date line is_plus count text =
     if nat_le MAX_DATES count then Err TooManyParts else (if is_plus && has_slash text then Err PeriodValue else date_value line text)
 
--- one more rule, where this number is read
+-- one more rule, where `count` rules are read already: TooManyParts, or what the text states
 abbrev pub next_rule : {R : Type 0} → Language R → ℕ → ℕ → List ℕ → Result (Stated R) Refusal
 next_rule language line count text = if nat_le MAX_RULES count then Err TooManyParts else language.stated line text
 
@@ -52,27 +52,27 @@ next_rule language line count text = if nat_le MAX_RULES count then Err TooManyP
 abbrev pub nothing_kept : {R : Type 0} → ReadLines R
 nothing_kept = record { pass = nothing_read; values = [] }
 
--- one value of RDATE (true) or EXDATE
+-- what is kept after one value of RDATE (true) or EXDATE, or its refusal
 abbrev pub kept_date : {R : Type 0} → ℕ → Bool → ReadLines R → List ℕ → Result (ReadLines R) Refusal
 kept_date line is_plus read text =
     next_date line is_plus read.pass.date_count text
     >>= λ stamp. Ok (record { pass = record read.pass { date_count = read.pass.date_count + 1 }; values = read.values ++ OneDate line is_plus stamp ∷ [] })
 
--- the rule of RRULE (true) or EXRULE
+-- what is kept after the rule of RRULE (true) or EXRULE, or its refusal
 abbrev pub kept_rule : {R : Type 0} → Language R → ℕ → Bool → ReadLines R → List ℕ → Result (ReadLines R) Refusal
 kept_rule language line is_given read text =
     next_rule language line read.pass.rule_count text
     >>= λ stated. Ok (record { pass = record read.pass { rule_count = read.pass.rule_count + 1 }; values = read.values ++ OneRule line is_given stated ∷ [] })
 
--- the start
+-- what is kept after DTSTART, or its refusal
 abbrev pub kept_start : {R : Type 0} → ℕ → ReadLines R → List ℕ → Result (ReadLines R) Refusal
 kept_start line read text = judged_start line read.pass text >>= λ pass. Ok (record read { pass = pass })
 
--- the date values of a line, from left to right
+-- what is kept after the date values of a line of RDATE (true) or EXDATE, from left to right, or the first refusal
 abbrev pub kept_dates : {R : Type 0} → ℕ → Bool → ReadLines R → List (List ℕ) → Result (ReadLines R) Refusal
 kept_dates line is_plus read texts = in_turn (kept_date line is_plus) read texts
 
--- one used line
+-- what is kept after one used line, or its refusal
 abbrev pub kept_line : {R : Type 0} → Language R → ℕ → LineName → ReadLines R → List ℕ → Result (ReadLines R) Refusal
 kept_line language line Dtstart read text = kept_start line read text
 kept_line language line Rrule read text = kept_rule language line true read text
@@ -80,26 +80,27 @@ kept_line language line Rdate read text = kept_dates line true read (slice_split
 kept_line language line Exdate read text = kept_dates line false read (slice_split language.is_separator text)
 kept_line language line Exrule read text = kept_rule language line false read text
 
--- all used lines
+-- what is kept after these used lines, or the first refusal
 abbrev pub kept_lines : {R : Type 0} → Language R → ReadLines R → List UsedLine → Result (ReadLines R) Refusal
 kept_lines language read lines = in_turn (λ r line. kept_line language line.number line.name r line.value) read lines
 
 -- ---- the values beside the start
 
--- one value beside the start
+-- what stands beside the start, with one kept value more, or its refusal
 abbrev pub value_beside : {R : Type 0} → (ℕ → Stated R → Result R Refusal) → Option ℤ → Stamp → Beside R → LineValue R → Result (Beside R) Refusal
 value_beside rule_beside offset start beside (OneDate line is_plus stamp) = date_beside offset start line stamp >>= λ at. Ok (put_date is_plus beside at)
 value_beside rule_beside offset start beside (OneRule line is_given stated) = rule_beside line stated >>= λ rule. Ok (put_rule is_given beside rule)
 
--- the values in order
+-- what stands beside the start, with the kept values in order, or the first refusal
 abbrev pub values_beside : {R : Type 0} → (ℕ → Stated R → Result R Refusal) → Option ℤ → Stamp → Beside R → List (LineValue R) → Result (Beside R) Refusal
 values_beside rule_beside offset start beside values = in_turn (value_beside rule_beside offset start) beside values
 
--- one value beside what is set: the stated offset and the start
+-- what stands beside the start, with one kept value more, or its refusal; the setting is the stated offset and the start
 abbrev pub value_in : {R : Type 0} → (Option ℤ → Stamp → ℕ → Stated R → Result R Refusal) → Setting → Beside R → LineValue R → Result (Beside R) Refusal
 value_in rule_beside setting beside value = value_beside (rule_beside setting.offset setting.start) setting.offset setting.start beside value
 
--- the values in order, beside what is set
+-- what stands beside the start, with the kept values in order and nothing before them, or the first refusal; the setting is the
+-- stated offset and the start
 abbrev pub values_in : {R : Type 0} → (Option ℤ → Stamp → ℕ → Stated R → Result R Refusal) → Setting → List (LineValue R) → Result (Beside R) Refusal
 values_in rule_beside setting values = values_beside (rule_beside setting.offset setting.start) setting.offset setting.start nothing_beside values
 

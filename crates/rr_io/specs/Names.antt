@@ -8,7 +8,7 @@ use Rattle.std.specs.Map.{lookup}
 abbrev pub entries_of : BTreeMap (String Global) (Vec ℕ Global) → List (List ℕ × List ℕ)
 entries_of m = map (λ (e : String Global × Vec ℕ Global). (string_bytes e.0, e.1.items)) m.entries
 
--- the bytes under a name
+-- the bytes that a name has among the entries, if it has any
 abbrev pub bytes_at : List (List ℕ × List ℕ) → List ℕ → Option (List ℕ)
 bytes_at entries name = lookup (bytes_eq name) entries
 

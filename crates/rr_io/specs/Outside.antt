@@ -6,7 +6,7 @@ use Rattle.rr_io.specs.declared.source.FetchError.TheVariants as fetch
 use Rattle.rr_io.specs.declared.sink.PutError.{PutError}
 use Rattle.rr_io.specs.declared.sink.PutError.TheVariants as put
 
--- a source keeps what it holds
+-- the source holds under each name what it held before
 abbrev pub KeepsHeld : (List ℕ → Option (List ℕ)) → (List ℕ → Option (List ℕ)) → Type 0
 KeepsHeld old new = (name : List ℕ) → new name ≡ old name
 
@@ -24,7 +24,7 @@ failed_after (Ok v) name failed = failed
 failed_after (Err fetch.Failed) name failed = failed ++ name ∷ []
 failed_after (Err fetch.NoMemory) name failed = failed
 
--- the last value of a count
+-- the greatest value of a count
 abbrev pub last_count : ℕ
 last_count = 18446744073709551615
 
@@ -40,7 +40,7 @@ RoseOrIsLast old new = (old < new) ⊎ (new ≡ last_count)
 abbrev pub Appended : Option (List ℕ) → List ℕ → Option (List ℕ) → Type 0
 Appended old bytes new = new ≡ option_map (λ w. w ++ bytes) old
 
--- or a first part of them
+-- the sink has a first part of these bytes after what it had, where it tells
 abbrev pub AppendedPart : Option (List ℕ) → List ℕ → Option (List ℕ) → Type 0
 AppendedPart old bytes new = (n : ℕ) × Appended old (take n bytes) new
 

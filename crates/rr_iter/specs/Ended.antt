@@ -17,7 +17,7 @@ tree_of_upto s = upto (tree_of_rule s.lazy.lazy) s.lazy.kind s.lazy.at
 pub sound_upto_rule : (s : UptoRule) → IsSoundLazy (tree_of_upto s) s.lazy.position
 sound_upto_rule s = sound_upto (tree_of_rule s.lazy.lazy) s.lazy.kind s.lazy.at s.lazy.position s.lazy.one_kind s.lazy.begun
 
--- the members of the rule
+-- the members of a rule, up to its end
 abbrev pub tree_of_ended : EndedLazy → Tree
 tree_of_ended (Never a) = tree_of_rule a
 tree_of_ended (Until a) = tree_of_upto a

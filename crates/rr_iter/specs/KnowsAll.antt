@@ -7,7 +7,7 @@ use Rattle.rr_model.specs.Sets.Tree.{Tree, dates_of, union}
 use Rattle.rr_iter.specs.KnowsRules.{knows_rules, knows_rules_more, tree_of_rules}
 use Rattle.rr_iter.specs.declared.all_lazy.AllLazy.{AllLazy}
 
--- with the dates that are added
+-- the dates and the members of the rules that the iterator unites
 abbrev pub tree_of_all : AllLazy → Tree
 tree_of_all s = union (dates_of s.lazy.a.lazy.kind s.lazy.a.lazy.dates) (tree_of_rules s.lazy.b.lazy)
 

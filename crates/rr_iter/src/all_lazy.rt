@@ -1,4 +1,4 @@
-// The dates that are added to a series, and the members of its rules.
+// The dates that are added to a series, its start where it counts, and the members of its rules.
 ghost use Rattle.std.specs.Prelude.{◌≡◌, IfOk, List, ℕ};
 ghost use Rattle.rr_model.specs.Series.Soundness.{IsSound};
 ghost use Rattle.rr_model.specs.Series.Tree.{dates_with_start, tree_of_given};
@@ -10,7 +10,7 @@ use rr_model::{Dates, NoMemory, Series};
 use rr_shapes::SetTable;
 use std::alloc::Global;
 
-/// The dates that are added to a series, and the members of its rules.
+/// The dates that are added to a series, its start where it counts, and the members of its rules.
 #[derive(Drop)]
 pub struct AllLazy {
     pub(crate) lazy: Union<DatesLazy, RulesLazy>,

@@ -10,7 +10,8 @@ use rr_model::{NoMemory, Series};
 use rr_shapes::SetTable;
 use std::alloc::Global;
 
-/// The dates that are added to a series and the members of its rules, except the members of its excluded rules.
+/// The dates that are added to a series, its start where it counts, and the members of its rules, except the members of
+/// its excluded rules.
 #[derive(Drop)]
 pub struct KeptLazy {
     pub(crate) lazy: Except<AllLazy, RulesLazy>,

@@ -37,12 +37,12 @@ pub record IsAheadIn (sets : List (List ℕ)) (tree : Tree) (own from : ℤ) (ah
 abbrev pub StaysAhead : List (List ℕ) → List (List ℕ) → Tree → ℤ → ℤ → Option OccupiedDay → Option OccupiedDay → Type 0
 StaysAhead old new tree own own' ahead ahead' = (from : ℤ) → IsAheadIn old tree own from ahead → IsAheadIn new tree own' from ahead'
 
--- the part gave this day, with this second
+-- what a part gave is this day, with this second among its seconds
 abbrev pub HasOn : Option DayTimes → ℤ → ℕ → Type 0
 HasOn None day s = ⊥
 HasOn (Some f) day s = (f.day ≡ day) × Contains f.times s
 
--- a part gave this day
+-- what a part gave is this day
 abbrev pub GaveDay : Option DayTimes → ℤ → Type 0
 GaveDay None day = ⊥
 GaveDay (Some f) day = f.day ≡ day

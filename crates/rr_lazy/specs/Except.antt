@@ -26,7 +26,7 @@ pub record KnowsBoth (sets : List (List ℕ)) (a b : Part) (position : ℤ) : Ty
   pub known : IsAheadIn sets a.tree a.own from a.ahead
   pub out : IsAheadUpTo sets b from
 
--- both parts are known from some position on that is not before 0001-01-01
+-- from some position that is not before 0001-01-01 on, both parts are known
 abbrev pub KnowsBothFromSome : List (List ℕ) → Part → Part → Type 0
 KnowsBothFromSome sets a b = (position : ℤ) × (first_day_of_year (pos 1) ≤ℤ position) × KnowsBoth sets a b position
 

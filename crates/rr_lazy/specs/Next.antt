@@ -51,7 +51,7 @@ IsUnasked position = position ≡ first_day_of_year (pos 1)
 
 -- ---- what several iterators know of a table of sets
 
--- every table of sets is known
+-- every table of sets is known to the iterator
 abbrev pub KnowsEach : (List (List ℕ) → Type 0) → Type 0
 KnowsEach knows = (sets : List (List ℕ)) → knows sets
 

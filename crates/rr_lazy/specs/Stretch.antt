@@ -19,7 +19,7 @@ pub record IsFirstFrom (kind : Kind) (dates : List ℤ) (day : ℤ) (index : ℕ
   pub below : (k : ℕ) → k < index → day_part kind (get_or dates k (pos 0)) <ℤ day
   pub from : (k : ℕ) → index ≤ k → k < length dates → day ≤ℤ day_part kind (get_or dates k (pos 0))
 
--- of the days from one on up to another the first with a date; none where none has
+-- the first day from `from` on and not after `to` that has a date; None where none has
 abbrev pub IsFirstDate : Kind → List ℤ → ℤ → ℤ → Option ℤ → Type 0
 IsFirstDate kind dates from to (Some day) =
     (from ≤ℤ day) × (day ≤ℤ to) × HasNone (dates_of kind dates) from day × ((s : ℕ) × (is_among kind dates day s ≡ true))

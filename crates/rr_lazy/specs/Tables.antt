@@ -12,14 +12,14 @@ use Rattle.rr_lazy.specs.Ahead.{IsAhead, IsAheadIn, seen}
 use Rattle.rr_lazy.specs.Next.{IsInTable, with_set}
 use Rattle.rr_lazy.specs.Stretch.{KnowsPart}
 
--- a number has the same set
+-- a number has the same set in a table that goes on
 pub same_set : (old new : List (List ℕ)) (number : ℕ) → Extends old new → number < length old
     → (number < length new) × (get_or new number [] ≡ get_or old number [])
 same_set old new number more l =
     let at = more number (get_or old number []) (slice_get-get_or old number [] l) in
     (slice_get_within new number (get_or old number []) at, get_or_from_slice_get new number (get_or old number []) [] at)
 
--- a day has the same seconds
+-- a day has the same seconds in a table that goes on
 pub same_day : (old new : List (List ℕ)) (found : OccupiedDay) → Extends old new → IsInTable old found
     → IsInTable new found × (with_set new found ≡ with_set old found)
 same_day old new found more w =

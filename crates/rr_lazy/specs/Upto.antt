@@ -11,7 +11,7 @@ use Rattle.rr_lazy.specs.Next.{IsSoundLazy}
 abbrev pub IsSecondsTo : Kind → ℤ → ℤ → ℕ → Type 0
 IsSecondsTo kind at day bound = (s : ℕ) → s < 86_400 → int_le (moment_at kind day s) at ≡ nat_lt s bound
 
--- of some seconds of a day those that are not after the moment
+-- the seconds of a day that are not after the moment `at`
 abbrev pub IsUpTo : Kind → ℤ → ℤ → List ℕ → List ℕ → Type 0
 IsUpTo kind at day times kept = IsSetOf nat_lt kept (λ s. Contains times s × IsTrue (int_le (moment_at kind day s) at))
 

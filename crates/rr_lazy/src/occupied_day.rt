@@ -7,8 +7,8 @@ use rr_shapes::SetId;
 pub struct OccupiedDay {
     /// The day number.
     pub day: i64,
-    /// The number of the set in the table that the iterator was given.
+    /// The number of its time set in the table that was handed to `next`.
     pub number: SetId,
-    /// How many of the set's seconds are the day's, from the first one on; 0 alone is the second of a date.
+    /// How many of the set's seconds, from the first on, are the day's: at least 1. A date has the one second 0.
     pub count: usize,
 }

@@ -10,11 +10,11 @@ use Rattle.rr_model.specs.Whole.{floor_div, floor_mod, divides}
 abbrev pub is_leap : ℤ → Bool
 is_leap y = (divides 4 y && not (divides 100 y)) || divides 400 y
 
--- the length of the year
+-- how many days the year has
 abbrev pub days_in_year : ℤ → ℕ
 days_in_year y = if is_leap y then 366 else 365
 
--- the length of the month m
+-- how many days the month m of the year has
 abbrev pub days_in_month : ℤ → ℕ → ℕ
 days_in_month y m =
     if m == 2 then (if is_leap y then 29 else 28)
@@ -25,7 +25,7 @@ unfoldable pub days_of_months : ℤ → ℕ → ℕ
 days_of_months y zero = 0
 days_of_months y (suc n) = days_of_months y n + days_in_month y (suc n)
 
--- the day number of 1 January
+-- the day number of 1 January of the year
 unfoldable pub first_day_of_year : ℤ → ℤ
 first_day_of_year y =
     ((((pos 365 *ℤ (y -ℤ pos 1)) +ℤ floor_div (y -ℤ pos 1) 4) -ℤ floor_div (y -ℤ pos 1) 100) +ℤ floor_div (y -ℤ pos 1) 400) -ℤ pos days_before_1970

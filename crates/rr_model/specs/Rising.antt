@@ -5,7 +5,7 @@ use Rattle.std.specs.Ordering.{is_lt}
 use Rattle.std.specs.declared.cmp.Ordering.{Ordering}
 use Rattle.rr_model.specs.declared.rule.DayItem.{DayItem}
 
--- each is below the next
+-- each value of the list is below the next one
 abbrev pub Rises : {X : Type 0} → (X → X → Bool) → List X → Type 0
 Rises below [] = ⊤
 Rises below (x ∷ []) = ⊤
@@ -20,6 +20,6 @@ with_value below (y ∷ ys) x = if below y x then y ∷ with_value below ys x el
 abbrev pub below_by : {X : Type 0} → (X → X → Ordering) → X → X → Bool
 below_by cmp a b = is_lt (cmp a b)
 
--- values of BYDAY rise by place, then by weekday
+-- one value of BYDAY is below another by ordinal, then by weekday
 abbrev pub day_item_lt : DayItem → DayItem → Bool
 day_item_lt a b = int_lt a.place b.place || (int_le a.place b.place && nat_lt a.weekday b.weekday)

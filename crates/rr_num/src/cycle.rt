@@ -21,8 +21,9 @@ pub fn day_cycle(rule: &Rule) -> u128
     (units / gcd(units, parts)) as u128 * parts as u128
 }
 
-/// After how many days the units of a frequency, each n-th of them, begin at the same place of a day, of a week or of
-/// 400 years. Every valid rule has an interval of at least 1.
+/// After how many days every `interval`-th unit of a frequency stands again at the same offset of a day (SECONDLY,
+/// MINUTELY, HOURLY) or of 400 years (MONTHLY, YEARLY). Every `interval`-th day does after `interval` days, every
+/// `interval`-th week after 7 times `interval` days. Every valid rule has an interval of at least 1.
 pub fn interval_cycle(freq: Freq, interval: u32) -> u64
     requires { 1 ≤ interval }
     ensures value { result ≡ interval_cycle freq interval }

@@ -43,7 +43,7 @@ IsClashVerdict P duration Q other k l (No x t u) = IsFirstClash P duration Q oth
 abbrev pub IsClashVerdictOn : Sketch → ℕ → Sketch → ℕ → Clash → Type 0
 IsClashVerdictOn s duration u other clash = IsClashVerdict (StandsIn s) duration (StandsIn u) other s.kind u.kind clash
 
--- from 1 second to 366 days
+-- a duration from 1 second to 366 days
 abbrev pub IsDuration : ℕ → Type 0
 IsDuration d = (1 ≤ d) × (d ≤ 31_622_400)
 
@@ -57,7 +57,7 @@ abbrev pub NamesUpToMaxDay : Clash → Type 0
 NamesUpToMaxDay Yes = ⊤
 NamesUpToMaxDay (No at a b) = day_part Moments at ≤ℤ pos 3_000_000_000_000
 
--- There is one verdict at most.
+-- Two sets, each with a duration, have at most one verdict of a clash.
 abbrev pub ClashIsOne : Type 0
 ClashIsOne =
     (s u : Sketch) (d e : ℕ) (k l : Kind) (c f : Clash) → IsClashVerdict (StandsIn s) d (StandsIn u) e k l c

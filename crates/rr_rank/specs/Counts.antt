@@ -15,7 +15,7 @@ unfoldable pub numbers_on : Sketch → ℤ → ℕ → List ℤ
 numbers_on s q zero = []
 numbers_on s q (suc n) = numbers_on s q n ++ numbers_at s (q +ℤ pos n) (times_on s (q +ℤ pos n))
 
--- how many they are
+-- how many occurrences the n days from q on have
 abbrev pub count_on : Sketch → ℤ → ℕ → ℕ
 count_on s q n = length (numbers_on s q n)
 

@@ -33,7 +33,7 @@ pub record IsNth (P : Occurrences) (n : ℕ) (k : Kind) (t : ℤ) : Type 0 where
   pub occurs : P k t
   pub rank : IsRank P k t n
 
--- there are fewer than n occurrences
+-- the set has fewer than n occurrences
 abbrev pub HasFewer : Occurrences → ℕ → Type 0
 HasFewer P n = (m : ℕ) × (m < n) × HasExactly P m
 
@@ -62,11 +62,11 @@ AreFewSteps days steps = (k : ℕ) → HasBinaryDigits (days + 1) k → steps �
 
 -- ---- laws
 
--- There is one answer at most.
+-- A set has at most one answer to the question of its n-th occurrence.
 abbrev pub NthIsOne : Type 0
 NthIsOne = (s : Sketch) (n : ℕ) (r q : Nth) → IsNthOf (StandsIn s) n r → IsNthOf (StandsIn s) n q → r ≡ q
 
--- There is one rank at most.
+-- A moment has at most one rank in a set.
 abbrev pub RankIsOne : Type 0
 RankIsOne = (s : Sketch) (k : Kind) (t : ℤ) (m n : ℕ) → IsRank (StandsIn s) k t m → IsRank (StandsIn s) k t n → m ≡ n
 

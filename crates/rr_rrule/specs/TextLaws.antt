@@ -51,7 +51,7 @@ is_part_byte b = not (b == 59) && (not (is_blank b) && not (b == 10))
 abbrev pub is_part : List ℕ → Bool
 is_part text = nat_lt 0 (length text) && list_all is_part_byte text
 
--- each text is a part
+-- each text is a part of a rule
 abbrev pub AreParts : List (List ℕ) → Type 0
 AreParts texts = IsTrue (list_all is_part texts)
 

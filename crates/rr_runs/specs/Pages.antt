@@ -18,11 +18,11 @@ kept_list pool pages rest = paged pool pages ++ rest
 abbrev pub PutsSome : List ℕ → List ℕ → ℕ → List ℕ → ℕ → Type 0
 PutsSome old new most numbers count = (1 ≤ count) × (count ≤ most) × (new ≡ old ++ take count numbers)
 
--- each page is one of the pool
+-- each page lies within the pool
 abbrev pub ArePages : List ℕ → List ℕ → Type 0
 ArePages pool pages = (k : ℕ) → k < length pages → get_or pages k 0 + 63 ≤ length pool
 
--- the pool has grown at its end
+-- the new pool is the old one and more numbers at its end
 abbrev pub IsGrown : List ℕ → List ℕ → Type 0
 IsGrown old new = (more : List ℕ) × (new ≡ old ++ more)
 

@@ -42,11 +42,11 @@ pub record Reached : Type 0 where
   pub gap : ℕ
   pub number : ℕ
 
--- the next item
+-- the next item, with how many days it lies after the last one
 abbrev pub reach : Reached → NumberedDay → Reached
 reach r x = record { day = x.day; gap = nat_abs (x.day -ℤ r.day); number = x.number }
 
--- the last of these items
+-- what is reached after these items: the last of them with its gap, or `r` where there is none
 abbrev pub reached : Reached → List NumberedDay → Reached
 reached r [] = r
 reached r (x ∷ xs) = reached (reach r x) xs
@@ -86,6 +86,6 @@ CountsMore old more new = (days : List NumberedDay) → IsCountOf days old → I
 abbrev pub IsFarDay : ℤ → Type 0
 IsFarDay d = (neg_ℤ (pos 3_000_000_000_000) ≤ℤ d) × (d ≤ℤ pos 3_000_000_000_000)
 
--- a day of a row that begins on such a day
+-- a day within 4,000,000,000,000 either way; runs are counted over such days alone
 abbrev pub IsCountedDay : ℤ → Type 0
 IsCountedDay d = (neg_ℤ (pos 4_000_000_000_000) ≤ℤ d) × (d ≤ℤ pos 4_000_000_000_000)

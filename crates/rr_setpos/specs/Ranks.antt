@@ -32,7 +32,7 @@ days_among rule start_day first n = count_from (λ d. date_parts_hold (filled ru
 abbrev pub first_of_unit : Rule → ℤ → ℤ
 first_of_unit rule day = unit_start rule.freq rule.week_start Days (unit_number rule.freq rule.week_start Days day)
 
--- the first day of the next one
+-- the first day of the unit after the unit of a day
 abbrev pub next_of_unit : Rule → ℤ → ℤ
 next_of_unit rule day = unit_start rule.freq rule.week_start Days (unit_number rule.freq rule.week_start Days day +ℤ pos 1)
 
@@ -56,7 +56,8 @@ size_of_unit rule kind start t = count_from (is_candidate rule kind start) (unit
 abbrev pub begin_in_day : Rule → ℕ → ℕ
 begin_in_day rule second = second / unit_seconds rule.freq * unit_seconds rule.freq
 
--- of a unit of whole days a product: the days before, each with all its times, and the times before on its own day
+-- how many candidates of its unit come before a moment; in a unit of whole days those on the days before, each with all its
+-- times, and those before it on its own day
 abbrev pub rank_by_parts : Rule → Kind → ℤ → ℤ → ℕ
 rank_by_parts rule kind start t =
     if is_whole_days rule.freq
@@ -72,7 +73,7 @@ size_by_parts rule kind start t =
     else times_before rule kind start (begin_in_day rule (second_part kind t) + unit_seconds rule.freq) - times_before rule kind start
     (begin_in_day rule (second_part kind t))
 
--- of n candidates the position of this rank is listed from the front or from the back
+-- BYSETPOS is absent, or lists the position of a candidate with this rank among `size`, from the front or from the back
 abbrev pub is_rank_listed : Rule → ℕ → ℕ → Bool
 is_rank_listed rule rank size = is_absent rule.by_set_pos || lists rule.by_set_pos (pos (rank + 1)) || lists rule.by_set_pos (neg_ℤ (pos (size - rank)))
 

@@ -63,7 +63,7 @@ impl SetTable {
         self.sets.times(set.index)
     }
 
-    /// The number of the first `count` seconds of a set; of the set itself where it has no more.
+    /// The number of the set of the first `count` seconds of `set`; `set` itself where it has no more than `count`.
     #[inline(always)]
     pub fn prefix(&mut self, alloc: Global, set: SetId, count: usize) -> Result<SetId, NoMemory>
         requires { set.index < length self.old }

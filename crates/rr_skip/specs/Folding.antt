@@ -62,7 +62,7 @@ pub record IsUntilDay (kind : Kind) (first : ℤ) (second : ℕ) (at : ℤ) : Ty
   pub late : moment_at kind first second ≤ℤ at
   pub high : day_part kind at ≤ℤ pos 2_932_896
 
--- of the days from the first on, exactly the first `days` have the second not after the UNTIL
+-- exactly the first `days` days from the first on have their second at most at the UNTIL
 pub record IsDaysUntil (kind : Kind) (first : ℤ) (second : ℕ) (at : ℤ) (days : ℕ) : Type 0 where
   pub within : (first +ℤ pos days) ≤ℤ (day_part kind at +ℤ pos 1)
   pub before : (d : ℤ) → d <ℤ (first +ℤ pos days) → moment_at kind d second ≤ℤ at
@@ -91,7 +91,7 @@ abbrev pub skip_sketch : Kind → ℤ → SkipDays → Sketch
 skip_sketch kind start days =
     sketch_of kind (sets_of (second_part kind start)) days.numbers.items (day_part kind start) days.settled days.period
 
--- there is a number for each day of the sketch, 0 or 1
+-- each day of the sketch has a number, which is 0 or 1
 pub record IsFolding (kind : Kind) (start : ℤ) (days : SkipDays) : Type 0 where
   pub order : day_part kind start ≤ℤ days.settled
   pub high : days.settled ≤ℤ pos 20_000_000

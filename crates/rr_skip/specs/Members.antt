@@ -27,7 +27,7 @@ abbrev pub IsGivenBy : Option SkipRule → Kind → ℤ → ℤ → Type 0
 IsGivenBy None kind start t = t ≡ start
 IsGivenBy (Some rule) kind start t = IsSkipMember rule kind start t
 
--- what occurs in a series
+-- the series, with the skips of its rule, has this occurrence
 pub record OccursSkipping (series : SkipSeries) (k : Kind) (t : ℤ) : Type 0 where
   pub kind : k ≡ series.kind
   pub given : IsGivenBy series.rule series.kind series.start t

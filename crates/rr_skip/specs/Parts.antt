@@ -39,13 +39,13 @@ is_taken name = false
 abbrev pub taken_part : PartName → Result ScalePart Refusal
 taken_part name = if is_taken name then Ok (Of name) else Err Extended
 
--- the part of a name
+-- the part that a name names
 unfoldable pub scale_part_named : ℕ → List ℕ → Result ScalePart Refusal
 scale_part_named line name =
     if bytes_eq name (codes "RSCALE") then Ok Scale
     else (if bytes_eq name (codes "SKIP") then Ok Skipping else (ok_or (part_named name) (BadRule line) >>= λ part. taken_part part))
 
--- the part is present
+-- the part is present among the parts read
 abbrev pub has_scale_part : ScaledParts → ScalePart → Bool
 has_scale_part parts Scale = parts.has_scale
 has_scale_part parts Skipping = is_some parts.skip
@@ -71,11 +71,11 @@ skip_named text = in_table ((codes "OMIT", Omit) ∷ (codes "BACKWARD", Backward
 abbrev pub front_day : ℕ → List ℕ → Result ℤ Refusal
 front_day line text = number_within line (signed 31) text >>= λ k. if int_lt k (pos 0) then Err Extended else Ok k
 
--- the days of BYMONTHDAY
+-- the days of BYMONTHDAY, each of them from the front of the month
 unfoldable pub front_days : ℕ → List ℕ → Result (List ℤ) Refusal
 front_days line text = list_of line (has_number_form (signed 31)) int_lt (front_day line) text
 
--- a value of a part of RFC 5545
+-- the parts of RFC 5545 with one more, by its value; the days of BYMONTHDAY have to count from the front
 abbrev pub with_taken_value : ℕ → RuleParts → PartName → List ℕ → Result RuleParts Refusal
 with_taken_value line parts part.ByMonthDay text = front_days line text >>= λ days. Ok (record parts { by_month_day = days })
 with_taken_value line parts name text = with_part_value line parts name text

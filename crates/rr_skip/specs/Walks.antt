@@ -21,7 +21,7 @@ pub record IsTurn (schedule : Schedule) (turn : Turn) : Type 0 where
 abbrev pub AreTested : (ℤ → Bool) → ℤ → List ℕ → Type 0
 AreTested test first numbers = (k : ℕ) → k < length numbers → get_or numbers k 0 ≡ one_if (test (first +ℤ pos k))
 
--- one more day is walked
+-- the walk has taken one more day, chosen or not
 pub record IsStepped (is_chosen : Bool) (old new : Walk) : Type 0 where
   pub numbers : new.numbers.items ≡ old.numbers.items ++ one_if is_chosen ∷ []
   pub left : new.left + one_if is_chosen ≡ old.left

@@ -21,7 +21,7 @@ pub(crate) struct Turn {
 }
 
 impl Turn {
-    /// The month of a day.
+    /// The month of `day` and the month before it, and whether each is due.
     pub(crate) fn at(schedule: &Schedule, day: i64) -> Turn
         requires some { 1 ≤ schedule.now.interval }
         requires near { IsDayWithin 1000 day }
@@ -41,7 +41,7 @@ impl Turn {
         }
     }
 
-    /// The month after.
+    /// The month after `month` and the month before it, and whether each is due.
     fn next(&self, schedule: &Schedule) -> Turn
         requires some { 1 ≤ schedule.now.interval }
         requires near { IsNearMonth (self.now.month.number +ℤ pos 1) }
@@ -58,7 +58,7 @@ impl Turn {
         }
     }
 
-    /// The month of a day that lies in this month, or is the first day after it.
+    /// The month of `day` and the month before it; the day lies in this month, or is the first day after it.
     pub(crate) fn advance_to(self, schedule: &Schedule, day: i64) -> Turn
         requires some { 1 ≤ schedule.now.interval }
         requires near { IsNearMonth (month_number day) }

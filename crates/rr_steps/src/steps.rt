@@ -46,7 +46,7 @@ impl<L: Ledger> Steps<L> {
         self.book.add(&mut self.share, 1);
     }
 
-    /// So many steps more, at once.
+    /// `count` steps more, at once.
     pub fn tick_many(&mut self, count: u64)
         ensures { self.new ≡ self.old + count }
     {

@@ -8,7 +8,7 @@ abbrev pub two_digits : ℕ → List ℕ → Option ℕ
 two_digits limit text =
     if length text == 2 && (list_all is_digit text && nat_lt (digits_value text) limit) then Some (digits_value text) else None
 
--- this number of seconds, after a plus or a minus
+-- `seconds` with this sign, a plus or a minus; None for any other byte
 abbrev pub with_sign : ℕ → ℕ → Option ℤ
 with_sign sign seconds = if sign == 43 then Some (pos seconds) else if sign == 45 then Some (neg_ℤ (pos seconds)) else None
 

@@ -7,12 +7,12 @@ use Rattle.rr_model.specs.declared.rule.End.TheVariants.{Count, Until, Both}
 use Rattle.rr_model.specs.declared.rule.Rule.{Rule}
 use Rattle.rr_model.specs.declared.rule.Series.{Series}
 
--- of both ends the earlier: COUNT where that many members lie up to the UNTIL
+-- of an end with COUNT and UNTIL the one that comes first: COUNT where `count` members or more lie up to the UNTIL
 abbrev pub one_end : Rule → Kind → ℤ → End → End
 one_end rule kind start (Both other at count) = if nat_le count (members_to rule kind start at) then Count count else Until other at
 one_end rule kind start end = end
 
--- the rule with one end alone
+-- a rule with one end alone: of COUNT and UNTIL the one that comes first
 abbrev pub with_one_end : Kind → ℤ → Rule → Rule
 with_one_end kind start rule = record rule { end = one_end rule kind start rule.end }
 

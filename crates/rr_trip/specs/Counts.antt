@@ -57,7 +57,7 @@ is_in_utc (Only side) = false
 is_in_utc (Refused side refusal) = is_utc refusal
 is_in_utc (Compared verdict one_zone) = false
 
--- in how many lines this is so
+-- how many lines of a report say what the test asks for
 abbrev pub count_said : (Said → Bool) → List ReportLine → ℕ
 count_said is lines = count_by (λ (line : ReportLine). is line.said) lines
 

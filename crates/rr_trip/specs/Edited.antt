@@ -77,18 +77,18 @@ judged_instance (Some recurrence) event =
     if recurrence.has_range then Err (refusal.Range recurrence.line)
     else (if has_rule_or_date event.scan then Err (refusal.TwoSeries event.first) else Ok tt)
 
--- a second series is refused
+-- the events of a key with a series; a second series is refused
 abbrev pub with_series : KeyEvents → Event → Result KeyEvents KeyRefusal
 with_series events event =
     if is_some events.series then Err (refusal.TwoSeries event.first) else Ok (record events { series = Some event })
 
--- with one event more, by its RECURRENCE-ID
+-- the events of a key with one event more: an instance where it has a RECURRENCE-ID, and else the series
 abbrev pub with_event_by : KeyEvents → Event → Option Recurrence → Result KeyEvents KeyRefusal
 with_event_by events event None = with_series events event
 with_event_by events event (Some recurrence) =
     judged_instance (Some recurrence) event >=> λ judged. Ok (record events { instances = events.instances ++ event ∷ [] })
 
--- with one event more
+-- the events of a key with one event more, or its refusal
 abbrev pub with_event : KeyEvents → Event → Result KeyEvents KeyRefusal
 with_event events event = with_event_by events event event.recurrence
 
@@ -148,14 +148,14 @@ with_moment shifts event at =
     if list_any (λ t. int_eq t at) shifts.moments then Err (refusal.TwoInstances event.first)
     else Ok (record shifts { moments = with_value int_lt shifts.moments at })
 
--- with one instance more, by its RECURRENCE-ID
+-- the shifts with one instance more, by its RECURRENCE-ID, or its refusal
 abbrev pub with_instance_by : Option ℤ → Stamp → Shifts → Event → Option Recurrence → Result Shifts KeyRefusal
 with_instance_by offset start shifts event None = Ok shifts
 with_instance_by offset start shifts event (Some recurrence) =
     at_event event.first (moment_of offset start recurrence) >=> (λ at.
     with_moment shifts event at >=> λ more. at_event event.first (with_start offset start more event))
 
--- with one instance more
+-- the shifts with one instance more, or its refusal
 abbrev pub with_instance : Option ℤ → Stamp → Shifts → Event → Result Shifts KeyRefusal
 with_instance offset start shifts event = with_instance_by offset start shifts event event.recurrence
 
@@ -211,7 +211,7 @@ edited_event event series shifts =
 abbrev pub start_of : Series → Stamp → Stamp
 start_of series stamp = record { kind = series.kind; at = series.start; utc = stamp.utc }
 
--- a series with its instances
+-- the series that an event states, with its instances applied
 abbrev pub edited_with_series : Option ℤ → Event → List Event → Result Series KeyRefusal
 edited_with_series offset event instances =
     at_event event.first (calendar_scan offset event.scan) >=> (λ series.

@@ -13,19 +13,19 @@ sign_of one_kind (x ∷ xs) [] = 65
 sign_of one_kind [] (y ∷ ys) = 66
 sign_of one_kind (x ∷ xs) (y ∷ ys) = if one_kind && bytes_eq (x ∷ xs) (y ∷ ys) then 61 else 120
 
--- the sign of a day in two sets
+-- the sign that tells in which of two sets a day is occupied, and whether with the same seconds
 abbrev pub day_sign : Sketch → Sketch → ℤ → ℕ
 day_sign a b day = sign_of (is_same_kind a.kind b.kind) (times_on a day) (times_on b day)
 
--- a row begins before a Monday
+-- the end of a row, before a Monday
 abbrev pub row_text : ℕ → List ℕ
 row_text weekday = if weekday == 0 then codes "\n" else []
 
--- the cell of a day
+-- the cell of a day in the picture, with a new row before a Monday
 abbrev pub cell_text : Sketch → Sketch → ℤ → List ℕ
 cell_text a b day = row_text (weekday_of day) ++ 32 ∷ 32 ∷ day_sign a b day ∷ []
 
--- the cells of days in a row
+-- the cells of n days in a row
 abbrev pub cells_text : Sketch → Sketch → ℤ → ℕ → List ℕ
 cells_text a b first zero = []
 cells_text a b first (suc n) = cells_text a b first n ++ cell_text a b (first +ℤ pos n)

@@ -20,7 +20,7 @@ key_cmp (key.Uid u) (key.Uid v) = slice_cmp nat_cmp u v
 abbrev pub key_lt : Key → Key → Bool
 key_lt a b = is_lt (key_cmp a b)
 
--- the two are one key
+-- the two keys are one key
 abbrev pub is_same_key : Key → Key → Bool
 is_same_key a b = is_eq (key_cmp a b)
 

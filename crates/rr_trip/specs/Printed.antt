@@ -35,12 +35,12 @@ is_plain b = nat_lt 32 b && (nat_lt b 127 && not (b == 92))
 abbrev pub escaped_byte : ℕ → List ℕ
 escaped_byte b = if is_plain b then b ∷ [] else 92 ∷ 120 ∷ hex_digit (b / 16) ∷ hex_digit (b % 16) ∷ []
 
--- a text with its bytes so
+-- the text with each of its bytes escaped
 abbrev pub escaped : List ℕ → List ℕ
 escaped [] = []
 escaped (b ∷ bs) = escaped_byte b ++ escaped bs
 
--- a key
+-- a key as it is printed
 abbrev pub key_text : Key → List ℕ
 key_text (key.Line number) = codes "line " ++ decimal number
 key_text (key.Uid uid) = escaped uid
@@ -71,7 +71,7 @@ key_refusal_text (refusal.TwoSeries line) = codes "TwoSeries " ++ decimal line
 key_refusal_text (refusal.TwoInstances line) = codes "TwoInstances " ++ decimal line
 key_refusal_text (refusal.ExcludedRule line) = codes "ExcludedRule " ++ decimal line
 
--- the refusal of a whole file
+-- the name of the refusal of a whole file, as it is printed
 abbrev pub file_refusal_text : FileRefusal → List ℕ
 file_refusal_text file.TooLong = codes " TooLong"
 file_refusal_text file.NoEvents = codes " NoEvents"
@@ -83,7 +83,7 @@ file_refusal_line side r = codes "refused " ++ side_text side ++ file_refusal_te
 
 -- ---- lines
 
--- a verdict on a key
+-- a verdict on a key as it is printed
 abbrev pub verdict_text : List ℕ → Verdict → List ℕ
 verdict_text key Yes = codes "equal " ++ key
 verdict_text key (No kind at side) = codes "differs " ++ key ++ codes " no " ++ extended_text kind at ++ codes " " ++ side_text side
@@ -93,7 +93,7 @@ abbrev pub zone_text : Bool → List ℕ
 zone_text true = []
 zone_text false = codes " zone"
 
--- what is said of a key
+-- what is said of a key, as it is printed
 abbrev pub said_text : List ℕ → Said → List ℕ
 said_text key (Only side) = codes "only " ++ side_text side ++ codes " " ++ key
 said_text key (Refused side r) = codes "refused " ++ key ++ codes " " ++ side_text side ++ codes " " ++ key_refusal_text r
@@ -108,12 +108,12 @@ abbrev pub line_text : Bool → ReportLine → List ℕ
 line_text only_differences line =
     if not only_differences || is_difference line.said then said_text (key_text line.key) line.said ++ codes "\n" else []
 
--- the lines of the keys
+-- the printed lines of the keys of a report
 abbrev pub lines_text : Bool → List ReportLine → List ℕ
 lines_text only_differences [] = []
 lines_text only_differences (line ∷ lines) = line_text only_differences line ++ lines_text only_differences lines
 
--- the last line, which counts
+-- the last printed line, which counts
 abbrev pub counts_text : Counts → List ℕ
 counts_text counts =
     codes "events " ++ decimal counts.events ++ codes " equal " ++ decimal counts.equal ++ codes " differs " ++ decimal counts.differs

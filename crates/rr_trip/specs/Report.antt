@@ -41,7 +41,7 @@ IsFileRefused A old new refusal = file_events old ≡ Err refusal
 IsFileRefused B old new refusal = (events : List (List Line)) × (file_events old ≡ Ok events) × (file_events new ≡ Err refusal)
 IsFileRefused Both old new refusal = ⊥
 
--- both files have events, and these are the lines of their report
+-- both texts have events, and these are the lines of their report
 pub record IsReportOf (offset : Option ℤ) (old new : List ℕ) (lines : List ReportLine) : Type 0 where
   pub a : List (List Line)
   pub b : List (List Line)

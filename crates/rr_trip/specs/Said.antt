@@ -92,7 +92,7 @@ IsCompared a b zones (Compared verdict one_zone) =
     IsEqualVerdict (StandsIn a) (StandsIn b) verdict × NamesUpToMaxDay verdict × (one_zone ≡ zones)
 IsCompared a b zones said = ⊥
 
--- what is said can be printed
+-- what a report says of a key can be printed
 abbrev pub IsPrintableSaid : Said → Type 0
 IsPrintableSaid (Only side) = ⊤
 IsPrintableSaid (Refused side refusal) = ⊤

@@ -19,7 +19,7 @@ use Rattle.rr_trip.specs.declared.said.Said.{Said}
 use Rattle.rr_trip.specs.declared.said.Said.TheVariants as said
 use Rattle.rr_trip.specs.declared.shown.Shown.{Shown}
 
--- an entry's key is printed so
+-- an entry's key is printed as this name
 abbrev pub is_entry_named : List ℕ → Entry → Bool
 is_entry_named name entry = bytes_eq (key_text entry.key) name
 
@@ -27,7 +27,7 @@ is_entry_named name entry = bytes_eq (key_text entry.key) name
 abbrev pub named_part : List ℕ → Entry → List Entry
 named_part name entry = if is_entry_named name entry then entry ∷ [] else []
 
--- both lists of entries, that of A and that of B, are empty
+-- both lists of entries are empty
 abbrev pub are_none : List Entry → List Entry → Bool
 are_none [] [] = true
 are_none [] (y ∷ ys) = false
@@ -67,7 +67,7 @@ IsShownOf offset [] [] name shown = IsUnknown name shown
 IsShownOf offset (x ∷ xs) b name shown = IsShownSaid offset (x ∷ xs) b name shown
 IsShownOf offset [] (y ∷ ys) name shown = IsShownSaid offset [] (y ∷ ys) name shown
 
--- both files have events, and this is shown of those of the name
+-- both texts have events, and this is shown of those of the name
 pub record IsShownIn (offset : Option ℤ) (old new : List ℕ) (name : List ℕ) (shown : Shown) : Type 0 where
   pub a : List (List Line)
   pub b : List (List Line)

@@ -24,7 +24,7 @@ pub struct Recurrence {
     pub zone: Bytes,
 }
 
-/// What an event states of itself.
+/// What an event of a calendar states of itself.
 #[derive(Drop)]
 pub struct Event {
     /// The number of the line of its BEGIN.
@@ -104,7 +104,7 @@ fn event_of(alloc: Global, lines: LineList) -> Result<Event, NoMemory>
     })
 }
 
-/// What an event states of itself.
+/// Reads what the lines of a piece state of its event.
 pub fn read_event(alloc: Global, piece: Piece) -> Result<Event, NoMemory>
     requires { piece.first + length piece.text.now < 2 ^ 64 }
     ensures { IfOk result (λ event. event ≡ event_of (lines_in piece.entry)) }

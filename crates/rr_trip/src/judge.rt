@@ -49,12 +49,12 @@ pub struct KeySeries {
     pub line: u64,
 }
 
-/// What the events of a key state in one calendar, and the days of that.
+/// The series that the events of a key state in one calendar, judged, and the days that it is folded into.
 #[derive(Drop)]
 pub struct KeyDays {
-    /// Their series, which no limit refuses.
+    /// The series, which no limit refuses.
     pub series: Checked,
-    /// The days.
+    /// The days that the series is folded into.
     pub days: Folded,
     /// The TZID parameters without the quotes around them, empty where there is none.
     pub zones: Vec<Bytes>,

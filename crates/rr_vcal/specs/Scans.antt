@@ -7,6 +7,6 @@ use Rattle.rr_model.specs.declared.refusal.Refusal.{Refusal}
 use Rattle.rr_model.specs.declared.used.Scan.{Scan}
 use Rattle.rr_model.specs.declared.vcal.VSeries.{VSeries}
 
--- both passes, and the series of the event
+-- the series that the used lines of an event state, from both passes over them
 abbrev pub vcal_scan : Option ℤ → Scan → Result VSeries Refusal
 vcal_scan offset scan = passes vcal_language (vrule_beside offset) offset scan >>= λ event. Ok (vseries_of_event event)

@@ -16,12 +16,12 @@ vcal_date_line name kind at = vcal_line name (basic_text kind at)
 abbrev pub vcal_rule_line : List ℕ → VRule → List ℕ
 vcal_rule_line name rule = vcal_line name (vrule_text rule)
 
--- the place of an item, which the next one need not repeat
+-- the place of an item, if it has one
 abbrev pub place_of_item : Item → Option ℤ
 place_of_item (Place n k) = Some n
 place_of_item item = None
 
--- an item after the place of the one before it
+-- an item as it is written after an item with this place, or with none; the same place is not written again
 abbrev pub item_text : Option ℤ → Item → List ℕ
 item_text place Every = []
 item_text place (Weekday k) = codes " " ++ weekday_text k

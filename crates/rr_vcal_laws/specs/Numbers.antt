@@ -3,7 +3,7 @@ use Rattle.std.specs.Prelude.{◌≤◌}
 use Rattle.rr_model.specs.declared.item.Item.{Item}
 use Rattle.rr_model.specs.declared.item.Item.TheVariants.{YearDay}
 
--- a day of the year is none past 366
+-- an item that is a day of the year is at most the 366th day; any other item passes
 abbrev pub HasDayOfYear : Item → Type 0
 HasDayOfYear (YearDay k) = k ≤ 366
 HasDayOfYear item = Unit {0}

@@ -46,7 +46,7 @@ ruling_of rule kind start kept = record { rule = rule; kind = kind; start = star
 abbrev pub at_moments : Ruling → Ruling
 at_moments r = record { rule = r.rule; kind = Moments; start = r.start; kept = r.kept }
 
--- of a rule of whole days: a second of each candidate day
+-- a second of each candidate day, where the rule's units are days or longer
 abbrev pub IsTimeOf : Ruling → ℕ → Type 0
 IsTimeOf r second = IsCandidateTime r.rule r.kind r.start second
 
@@ -153,7 +153,7 @@ pub record IsCandidateAt (r : Ruling) (day : ℤ) (rank count : ℕ) : Type 0 wh
   pub before : rank ≡ days_before r.rule (day_part r.kind r.start) day
   pub all : count ≡ days_of_unit r.rule (day_part r.kind r.start) day
 
--- of the days from one on up to another the first that is a candidate day, None where none is
+-- the first candidate day from `from` on and not after `to`; None where there is none
 abbrev pub IsFirstCandidate : Ruling → ℤ → ℤ → Option ℤ → Type 0
 IsFirstCandidate r from to None = (d : ℤ) → from ≤ℤ d → d ≤ℤ to → day_holds r.rule (day_part r.kind r.start) d ≡ false
 IsFirstCandidate r from to (Some day) =

@@ -12,7 +12,7 @@ use Rattle.rr_walk.specs.Ruling.{Ruling, IsValidRuling}
 abbrev pub tree_of_ruling : Ruling → Tree
 tree_of_ruling r = chosen_of r.rule r.kind r.start
 
--- not before 0001-01-01
+-- the position is not before 0001-01-01
 abbrev pub HasBegun : ℤ → Type 0
 HasBegun position = first_day_of_all ≤ℤ position
 

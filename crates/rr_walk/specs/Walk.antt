@@ -58,27 +58,28 @@ IsFirstWithTimes r days from result =
 
 -- ---- the same of days whose seconds are told by a number
 
--- the first occupied day from one on and not after another
+-- the first occupied day from `from` on and not after `to`, its seconds told by a number of the table; None where there is none
 abbrev pub IsFirstUpToIn : List (List ℕ) → Tree → ℤ → ℤ → Option OccupiedDay → Type 0
 IsFirstUpToIn sets tree from to None = IsFirstUpTo tree from to None
 IsFirstUpToIn sets tree from to (Some found) = IsInTable sets found × IsFirstUpTo tree from to (Some (with_set sets found))
 
--- the day, if it is occupied
+-- the day with all its seconds, told by a number of the table; None where it is not occupied
 abbrev pub IsOnDayIn : List (List ℕ) → Tree → ℤ → Option OccupiedDay → Type 0
 IsOnDayIn sets tree day None = IsOnDay tree day None
 IsOnDayIn sets tree day (Some found) = IsInTable sets found × IsOnDay tree day (Some (with_set sets found))
 
--- the first occupied day from one on, of those that a list has
+-- the first occupied day from `from` on, of those that a list has, its seconds told by a number of the table; None where there
+-- is none
 abbrev pub IsFirstOfIn : List (List ℕ) → Tree → List ℤ → ℤ → Option OccupiedDay → Type 0
 IsFirstOfIn sets tree days from None = IsFirstOf tree days from None
 IsFirstOfIn sets tree days from (Some found) = IsInTable sets found × IsFirstOf tree days from (Some (with_set sets found))
 
--- a day with these seconds, None where there are none
+-- a day with these seconds, told by a number of the table; None where there are none
 abbrev pub IsDayOfTimes : List (List ℕ) → ℤ → List ℕ → Option OccupiedDay → Type 0
 IsDayOfTimes sets day times None = times ≡ []
 IsDayOfTimes sets day times (Some found) = (found.day ≡ day) × (times ≡ [] → ⊥) × IsInTable sets found × ((with_set sets found).times ≡ times)
 
--- the day with a set of seconds
+-- the day, told by a number of the table, with exactly the seconds of which P holds
 abbrev pub IsDayWith : List (List ℕ) → (ℕ → Type 0) → ℤ → Option OccupiedDay → Type 0
 IsDayWith sets P day None = ⊥
 IsDayWith sets P day (Some found) = (found.day ≡ day) × IsInTable sets found × IsSetOf nat_lt (with_set sets found).times P

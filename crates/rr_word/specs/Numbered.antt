@@ -5,12 +5,12 @@ use Rattle.rr_model.specs.declared.sketch.DayShape.{DayShape}
 use Rattle.rr_model.specs.Sets.Descriptor.{number_of}
 use Rattle.rr_word.specs.declared.numbered.NumberedDay.{NumberedDay}
 
--- the number on a day
+-- the number that a day has among the numbered days, if it is one of them
 abbrev pub number_in : List NumberedDay → ℤ → Option ℕ
 number_in [] d = None
 number_in (x ∷ xs) d = if int_eq x.day d then Some x.number else number_in xs d
 
--- the days with their sets
+-- the numbered days with their sets
 abbrev pub shapes_of : List (List ℕ) → List NumberedDay → List DayShape
 shapes_of sets [] = []
 shapes_of sets (x ∷ xs) = record { day = x.day; times = get_or sets x.number [] } ∷ shapes_of sets xs

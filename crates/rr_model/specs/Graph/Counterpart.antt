@@ -31,7 +31,7 @@ form_freq RelativeMonthly = freq.Monthly
 form_freq AbsoluteYearly = freq.Yearly
 form_freq RelativeYearly = freq.Yearly
 
--- the weekdays of a sum of days
+-- the sum of days has this weekday
 abbrev pub has_weekday : ℕ → ℕ → Bool
 has_weekday days weekday = (days / bit_of weekday) % 2 == 1
 

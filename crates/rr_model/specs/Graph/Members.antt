@@ -26,7 +26,7 @@ present (object ms) = Some (object ms)
 abbrev pub member_of : List ℕ → Data → Option Data
 member_of name value = option_and_then present (get name value)
 
--- an object, or the refusal
+-- a value that is an object, or the refusal
 abbrev pub object_or : Refusal → Data → Result Data Refusal
 object_or refusal (object ms) = Ok (object ms)
 object_or refusal null = Err refusal
@@ -35,11 +35,11 @@ object_or refusal (number n) = Err refusal
 object_or refusal (string s) = Err refusal
 object_or refusal (array ds) = Err refusal
 
--- the object that a member is
+-- the object that a member is, or BadMember
 abbrev pub object_in : Member → List ℕ → Data → Result Data Refusal
 object_in member name value = ok_or (member_of name value) (BadMember member) >>= object_or (BadMember member)
 
--- the text that a member is
+-- the text that a member is, if it is one
 abbrev pub text_in : List ℕ → Data → Option (List ℕ)
 text_in name value = option_and_then as_str (member_of name value)
 
@@ -47,7 +47,7 @@ text_in name value = option_and_then as_str (member_of name value)
 abbrev pub number_in : List ℕ → Data → Option ℕ
 number_in name value = option_and_then as_u64 (option_and_then as_number (member_of name value))
 
--- a number within its bounds
+-- a number from `least` to `most`, or BadMember
 abbrev pub within : Member → ℕ → ℕ → Option ℕ → Result ℕ Refusal
 within member least most None = Err (BadMember member)
 within member least most (Some n) = if nat_le least n && nat_le n most then Ok n else Err (BadMember member)

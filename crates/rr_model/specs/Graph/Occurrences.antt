@@ -55,7 +55,7 @@ has_index (negsuc n) days d = rank_from_month_end days d == suc n
 abbrev pub is_indexed_day : ℤ → ℕ → ℤ → Bool
 is_indexed_day index days d = is_day_in days d && has_index index days d
 
--- what the type asks of a day
+-- what a pattern of this type asks of a day
 abbrev pub form_holds : Form → Pattern → ℤ → Bool
 form_holds Daily pattern d = true
 form_holds Weekly pattern d = is_day_in pattern.days d

@@ -56,7 +56,7 @@ abbrev pub days_after : ℕ → Items → Option ℕ
 days_after days no_items = Some days
 days_after days (item name names) = option_and_then (λ day. days_after (bit_or days (bit_of day)) names) (option_and_then day_named (as_str name))
 
--- the days of at least one name
+-- the days of a list of names, which is not empty; None where it is empty or a name is unknown
 abbrev pub days_of_names : Items → Option ℕ
 days_of_names no_items = None
 days_of_names (item name names) = days_after 0 (item name names)
@@ -199,7 +199,7 @@ must false refusal = Err refusal
 
 -- ---- the event
 
--- an all-day event has a date
+-- the kind and the start of an event: of an all-day event the date of its moment
 abbrev pub event_start : Bool → ℤ → Kind × ℤ
 event_start true at = (Days, day_part Moments at)
 event_start false at = (Moments, at)

@@ -57,7 +57,7 @@ pattern_data p = object
     (member_if (uses_month p.form) (codes "month") (number (unsigned p.month))
     (member (codes "type") (string (form_text p.form)) no_members)))))))
 
--- the members of every range
+-- the members that every range has: `startDate` and `type`
 abbrev pub start_and_type : ℤ → List ℕ → Members
 start_and_type day type = member (codes "startDate") (string (extended_date_text day)) (member (codes "type") (string type) no_members)
 

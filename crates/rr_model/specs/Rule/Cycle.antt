@@ -6,7 +6,9 @@ use Rattle.rr_model.specs.declared.rule.Freq.{Freq}
 use Rattle.rr_model.specs.declared.rule.Freq.TheVariants.{Secondly, Minutely, Hourly, Daily, Weekly, Monthly, Yearly}
 use Rattle.rr_model.specs.declared.rule.Rule.{Rule}
 
--- After how many days n units begin at the same place: a day has 86,400 seconds, and 400 years have 146,097 days.
+-- after how many days every n-th unit of a frequency stands again at the same offset of a day, which has 86,400 seconds
+-- (SECONDLY, MINUTELY, HOURLY), or of 400 years, which have 146,097 days (MONTHLY, YEARLY); every n-th day does after n days,
+-- every n-th week after 7 * n
 abbrev pub interval_cycle : Freq → ℕ → ℕ
 interval_cycle Secondly n = n / gcd n 86_400
 interval_cycle Minutely n = n / gcd n 1_440

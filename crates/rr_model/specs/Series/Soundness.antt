@@ -14,38 +14,38 @@ use Rattle.rr_model.specs.declared.rule.Series.{Series}
 
 -- ---- why a series is refused
 
--- of an UNTIL beside a start: another kind, and then an earlier moment
+-- why an UNTIL is refused beside a start, if it is: its kind is another, or else it is earlier
 abbrev pub until_refusal : Kind → ℤ → Kind → ℤ → Option Refusal
 until_refusal Days start Days at = if int_lt at start then Some UntilBeforeStart else None
 until_refusal Moments start Moments at = if int_lt at start then Some UntilBeforeStart else None
 until_refusal kind start other at = Some UntilKind
 
--- of the end of a rule
+-- why the end of a rule is refused beside its start, if it is
 abbrev pub end_refusal : Kind → ℤ → End → Option Refusal
 end_refusal kind start (Until other at) = until_refusal kind start other at
 end_refusal kind start (Both other at count) = until_refusal kind start other at
 end_refusal kind start end = None
 
--- of a rule's choice: it does not choose its start
+-- why a rule is refused by its choice, if it is: it does not choose its start
 abbrev pub choice_refusal : ℕ → Kind → ℤ → Rule → Option Refusal
 choice_refusal number kind start rule =
     if is_chosen rule kind start start then None else Some (NotSynchronised number)
 
--- of the rule of this number: its end's refusal comes first
+-- why the rule of this number is refused, if it is: its end is judged first, then its choice
 abbrev pub rule_refusal : ℕ → Kind → ℤ → Rule → Option Refusal
 rule_refusal number kind start rule = option_or (end_refusal kind start rule.end) (choice_refusal number kind start rule)
 
--- of rules that are numbered on from this number: the first rule's refusal comes first
+-- why some of the rules, numbered on from `number`, is refused, if one is: the first refused rule decides
 abbrev pub rules_refusal : ℕ → Kind → ℤ → List Rule → Option Refusal
 rules_refusal number kind start [] = None
 rules_refusal number kind start (rule ∷ rules) = option_or (rule_refusal number kind start rule) (rules_refusal (suc number) kind start rules)
 
--- of excluded rules, which need not choose the start: the first one's end comes first
+-- why the end of some excluded rule is refused, if one is: the first decides; an excluded rule need not choose the start
 abbrev pub ends_refusal : Kind → ℤ → List Rule → Option Refusal
 ends_refusal kind start [] = None
 ends_refusal kind start (rule ∷ rules) = option_or (end_refusal kind start rule.end) (ends_refusal kind start rules)
 
--- of a series, whose rules are numbered from 1; its excluded rules come after them
+-- why a series is refused, if it is: its rules, numbered from 1, are judged before its excluded rules
 abbrev pub first_refusal : Series → Option Refusal
 first_refusal series = option_or (rules_refusal 1 series.kind series.start series.rules) (ends_refusal series.kind series.start series.excluded)
 

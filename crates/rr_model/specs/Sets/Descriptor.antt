@@ -25,7 +25,7 @@ with_sets_of sets (s ∷ ss) = with_sets_of (with_set sets s.times) ss
 unfoldable pub sets_of : Sketch → List (List ℕ)
 sets_of s = with_sets_of [] (s.before ++ s.cycle)
 
--- the number of a time set is its place
+-- the index of a time set in the list; the list's length where it is not there
 abbrev pub number_of : List (List ℕ) → List ℕ → ℕ
 number_of sets times = position_or_len (is_same_set times) sets
 
@@ -36,7 +36,7 @@ pub record Step : Type 0 where
   pub gap : ℕ
   pub set : ℕ
 
--- as many equal steps in a row
+-- `count` equal steps in a row
 pub record Run : Type 0 where
   pub gap : ℕ
   pub set : ℕ
@@ -48,11 +48,11 @@ steps_from sets from [] = []
 steps_from sets from (s ∷ ss) =
     record { gap = nat_abs (s.day -ℤ from); set = number_of sets s.times } ∷ steps_from sets s.day ss
 
--- the run is one of this step
+-- the run's steps equal this one
 abbrev pub is_run_of : Step → Run → Bool
 is_run_of step run = (step.gap == run.gap) && (step.set == run.set)
 
--- one more step in front
+-- the runs with one more step in front
 abbrev pub with_step : Step → List Run → List Run
 with_step step [] = record { gap = step.gap; set = step.set; count = 1 } ∷ []
 with_step step (run ∷ rest) =
@@ -72,7 +72,8 @@ pub record Ending : Type 0 where
   pub period : ℕ
   pub cycle : List Run
 
--- of a set that is not empty: its kind, its time sets by number, its first day, the runs before the settled day, and its ending if it is endless
+-- what a descriptor says of a set that is not empty: its kind, its time sets by number, its first day, the runs before the
+-- settled day, and its ending if it is endless
 pub record Described : Type 0 where
   pub kind : Kind
   pub sets : List (List ℕ)

@@ -19,7 +19,7 @@ unfoldable pub fields : List ℕ → List ℕ
 fields [] = []
 fields (n ∷ ns) = 32 ∷ decimal n ++ fields ns
 
--- a letter and numbers
+-- a line of a letter and numbers
 abbrev pub numbers_line : ℕ → List ℕ → List ℕ
 numbers_line letter ns = letter ∷ fields ns
 

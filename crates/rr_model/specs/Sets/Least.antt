@@ -18,7 +18,7 @@ pub record HasPeriodFrom {X : Type 0} (f : ℤ → X) (q : ℤ) (p : ℕ) : Type
 abbrev pub IsEventualPeriod : {X : Type 0} → (ℤ → X) → ℕ → Type 0
 IsEventualPeriod f p = (q : ℤ) × HasPeriodFrom f q p
 
--- the least number that is one
+-- p is the least number that is a period from some place on
 pub record IsLeastPeriod {X : Type 0} (f : ℤ → X) (p : ℕ) : Type 0 where
   pub holds : IsEventualPeriod f p
   pub least : (r : ℕ) → IsEventualPeriod f r → p ≤ r
@@ -47,7 +47,7 @@ LeastPeriodDivides = (f : ℤ → List ℕ) (p r : ℕ) → IsLeastPeriod f p �
 abbrev pub IsEndless : Sketch → Type 0
 IsEndless s = (q : ℤ) → (d : ℤ) × (q ≤ℤ d) × (times_on s d ≡ [] → ⊥)
 
--- of an endless set: the least period, and from the first occupied day on the least start
+-- a sketch of an endless set with its least period, and with the least start from the first occupied day on
 pub record IsLeastOfEndless (s : Sketch) : Type 0 where
   pub endless : IsEndless s
   pub first : ℤ
@@ -55,13 +55,13 @@ pub record IsLeastOfEndless (s : Sketch) : Type 0 where
   pub period : IsLeastPeriod (times_on s) s.period
   pub start : IsLeastStart (times_on s) first s.period s.settled
 
--- of a finite set: nothing repeats, and the settled day is the day after the last occupied one
+-- a sketch of a finite set: nothing repeats, and the settled day is the day after the last occupied one
 pub record IsLeastOfFinite (s : Sketch) : Type 0 where
   pub period : s.period ≡ 1
   pub cycle : s.cycle ≡ []
   pub last : times_on s (s.settled -ℤ pos 1) ≡ [] → ⊥
 
--- of the empty set, which counts as one of dates
+-- a sketch of the empty set, which counts as one of dates
 pub record IsLeastOfNone (s : Sketch) : Type 0 where
   pub kind : s.kind ≡ Days
   pub before : s.before ≡ []

@@ -17,7 +17,7 @@ use Rattle.rr_model.specs.declared.sketch.Sketch.{Sketch}
 abbrev pub IsPrintedDay : ℤ → Type 0
 IsPrintedDay d = IsFromYearOne d × IsDayWithin 0 d
 
--- a number of 64 bits
+-- a number that fits in 64 bits
 abbrev pub IsPrintedNumber : ℕ → Type 0
 IsPrintedNumber n = n < 2 ^ 64
 
@@ -33,7 +33,7 @@ pub record IsPrintedEnding (ending : Ending) : Type 0 where
   pub period : IsPrintedNumber ending.period
   pub cycle : All IsPrintedRun ending.cycle
 
--- of dates there is one time set, that of 0 alone; those of moments are seconds of a day
+-- the time sets of dates are one, with the second 0 alone; those of moments are seconds of a day
 abbrev pub ArePrintedSets : Kind → List (List ℕ) → Type 0
 ArePrintedSets Days sets = sets ≡ (0 ∷ []) ∷ []
 ArePrintedSets Moments sets = All IsSecondsOfDay sets

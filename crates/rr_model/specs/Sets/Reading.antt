@@ -10,7 +10,7 @@ abbrev pub steps_of_runs : List Run → List Step
 steps_of_runs [] = []
 steps_of_runs (run ∷ runs) = replicate run.count (record { gap = run.gap; set = run.set }) ++ steps_of_runs runs
 
--- the occupied days after a day
+-- the occupied days after the day `from`, by these steps
 abbrev pub days_from : List (List ℕ) → ℤ → List Step → List DayShape
 days_from sets from [] = []
 days_from sets from (step ∷ steps) =
@@ -38,7 +38,7 @@ sketch_with d (Some e) = record {
   cycle = days_from d.sets e.settled (steps_of_runs e.cycle);
 }
 
--- the sketch that is described
+-- the sketch that a description of a set gives, the empty one where there is none
 abbrev pub sketch_described : Option Described → Sketch
 sketch_described None = record { kind = Days; before = []; settled = pos 0; period = 1; cycle = [] }
 sketch_described (Some d) = sketch_with d d.ending

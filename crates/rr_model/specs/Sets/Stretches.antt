@@ -5,7 +5,7 @@ use Rattle.rr_model.specs.Sets.Descriptor.{descriptor}
 use Rattle.rr_model.specs.Sets.DescriptorText.{text_of}
 use Rattle.rr_model.specs.declared.sketch.Sketch.{Sketch}
 
--- as many seconds from one on, each a step above the one before it; a single second has step 0
+-- `count` seconds from `start` on, each `step` seconds after the one before it; a single second has step 0
 pub record Stretch : Type 0 where
   pub start : ℕ
   pub step : ℕ
@@ -67,6 +67,6 @@ items_text (x ∷ xs) = 32 ∷ item_text x ++ items_text xs
 abbrev pub stretches_line : List ℕ → List ℕ
 stretches_line times = 116 ∷ items_text (stretches times)
 
--- version 2
+-- the canonical text of a sketch, version 2
 abbrev pub second_descriptor_text : Sketch → List ℕ
 second_descriptor_text s = text_of (codes "rrcanon 2") stretches_line (descriptor s)

@@ -17,7 +17,7 @@ HoldsOnlyOf A P Q = P × (Q → ⊥)
 HoldsOnlyOf B P Q = Q × (P → ⊥)
 HoldsOnlyOf Both P Q = ⊥
 
--- of two facts the first alone holds, the second alone, or both
+-- of two facts the first alone holds (A), the second alone (B), or both
 abbrev pub HoldsOn : Side → Type 0 → Type 0 → Type 0
 HoldsOn A P Q = P × (Q → ⊥)
 HoldsOn B P Q = Q × (P → ⊥)

@@ -29,7 +29,7 @@ end_at (Until kind at) t = Until kind t
 end_at (Both kind at count) t = Both kind t count
 end_at end t = end
 
--- the end beside the start
+-- the end of a rule with its UNTIL, if it has one, as a moment beside the start, or the refusal
 abbrev pub end_beside : Option ℤ → Stamp → ℕ → Option Stamp → End → Result End Refusal
 end_beside offset start line None end = Ok end
 end_beside offset start line (Some stamp) end = moment_beside offset start line stamp >>= λ at. Ok (end_at end at)

@@ -45,16 +45,16 @@ ended number components [] name = Err (BadLine number)
 ended number components (innermost ∷ outer) name =
     if str_eq_ignore_ascii_case name innermost then Ok (record { open_names = outer; had_event = components.had_event }) else Err (BadLine number)
 
--- a used line
+-- the used line of a number, a name and a value
 abbrev pub used_line : ℕ → LineName → List ℕ → UsedLine
 used_line number name value = record { number = number; name = name; value = value }
 
--- what a line leaves: the components after it, and the used line that it is, if it is one
+-- what is known after a line: the components that are open then, and the used line that it is, if it is one
 pub record Left : Type 0 where
   pub components : Components
   pub used : Option UsedLine
 
--- what a line leaves, by its parts
+-- the record of the components after a line and of the used line that it is, if it is one
 abbrev pub left : Components → Option UsedLine → Left
 left components used = record { components = components; used = used }
 
@@ -62,7 +62,7 @@ left components used = record { components = components; used = used }
 abbrev pub value_on : ℕ → List ℕ → Result (List ℕ) Refusal
 value_on number text = ok_or (value_of_line text) (BadLine number)
 
--- one line by its kind; where the text has no component at all, every line is the event's
+-- what is known after a line of this kind, or its refusal; where the text has no component at all, every line is the event's
 abbrev pub left_at : Bool → Components → ℕ → LineKind → List ℕ → Result Left Refusal
 left_at is_bare components number Begin text = do
   name ← value_on number text
@@ -77,7 +77,7 @@ left_at is_bare components number (Property name) text =
     else Ok (left components None)
 left_at is_bare components number Other text = Ok (left components None)
 
--- what a line leaves
+-- what is known after a line, with these components open before it, or its refusal
 unfoldable pub left_by : Bool → Components → Line → Result Left Refusal
 left_by is_bare components line = left_at is_bare components line.number (line_kind line.text) line.text
 
@@ -89,7 +89,7 @@ stop_at_end last components = if is_absent components.open_names then None else 
 abbrev pub after_used : Option UsedLine → Scan → Scan
 after_used used scan = record { used = cons_option used scan.used; stop = scan.stop }
 
--- what a line leaves, and then the lines after it; a fault stops the scan
+-- the used line that a line is, if it is one, and then the scan of the lines after it; a refusal stops the scan
 abbrev pub scan_from : Result Left Refusal → (Components → Scan) → Scan
 scan_from (Err refusal) more = record { used = []; stop = Some refusal }
 scan_from (Ok step) more = after_used step.used (more step.components)

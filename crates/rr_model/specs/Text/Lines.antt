@@ -7,7 +7,7 @@ use Rattle.rr_model.specs.declared.line.Line.{Line}
 
 -- ---- physical lines
 
--- a line feed comes next
+-- the text begins with a line feed
 abbrev pub feeds_next : List ℕ → Bool
 feeds_next [] = false
 feeds_next (b ∷ bs) = b == 10

@@ -41,7 +41,7 @@ with_trimmed line so_far (b ∷ bs) = with_list_value line so_far (b ∷ bs)
 unfoldable pub with_list_line : ℕ → ListedDates → List ℕ → Result ListedDates Refusal
 with_list_line line so_far text = with_trimmed line so_far (trim text)
 
--- the lines from this number on
+-- the dates so far with the lines from number `line` on, or the first refusal
 abbrev pub with_list_lines : ℕ → ListedDates → List (List ℕ) → Result ListedDates Refusal
 with_list_lines line so_far [] = Ok so_far
 with_list_lines line so_far (text ∷ texts) = with_list_line line so_far text >>= λ more. with_list_lines (line + 1) more texts

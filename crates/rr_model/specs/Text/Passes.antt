@@ -52,22 +52,22 @@ has_slash text = list_any (λ b. b == 47) text
 abbrev pub date_value : ℕ → List ℕ → Result Stamp Refusal
 date_value line text = ok_or (basic (trim text)) (BadMoment line)
 
--- one value of RDATE (true) or EXDATE
+-- what the first pass keeps after one value of RDATE (true) or EXDATE, or its refusal
 abbrev pub judged_date : ℕ → Bool → FirstPass → List ℕ → Result FirstPass Refusal
 judged_date line is_plus pass text =
     if nat_le MAX_DATES pass.date_count then Err TooManyParts
     else (if is_plus && has_slash text then Err PeriodValue else (date_value line text >>= λ stamp. Ok (record pass { date_count = pass.date_count + 1 })))
 
--- the values of a line of RDATE (true) or EXDATE, from left to right
+-- what the first pass keeps after the values of a line of RDATE (true) or EXDATE, from left to right, or the first refusal
 abbrev pub judged_dates : ℕ → Bool → FirstPass → List (List ℕ) → Result FirstPass Refusal
 judged_dates line is_plus pass texts = in_turn (judged_date line is_plus) pass texts
 
--- a rule is read only where there is room for it
+-- what the first pass keeps after one rule, or its refusal; the rule is read only where there is room for it
 abbrev pub judged_rule : {R : Type 0} → Language R → ℕ → FirstPass → List ℕ → Result FirstPass Refusal
 judged_rule language line pass text =
     if nat_le MAX_RULES pass.rule_count then Err TooManyParts else (language.stated line text >>= λ rule. Ok (record pass { rule_count = pass.rule_count + 1 }))
 
--- one used line
+-- what the first pass keeps after one used line, or its refusal
 abbrev pub judged_line : {R : Type 0} → Language R → ℕ → LineName → FirstPass → List ℕ → Result FirstPass Refusal
 judged_line language line Dtstart pass text = judged_start line pass text
 judged_line language line Rrule pass text = judged_rule language line pass text
@@ -75,13 +75,13 @@ judged_line language line Rdate pass text = judged_dates line true pass (slice_s
 judged_line language line Exdate pass text = judged_dates line false pass (slice_split language.is_separator text)
 judged_line language line Exrule pass text = judged_rule language line pass text
 
--- the first pass over the lines
+-- what the first pass keeps after these used lines, or the first refusal
 abbrev pub first_pass : {R : Type 0} → Language R → FirstPass → List UsedLine → Result FirstPass Refusal
 first_pass language pass lines = in_turn (λ p line. judged_line language line.number line.name p line.value) pass lines
 
 -- ---- the second pass
 
--- a moment of UTC as local time, which is n seconds later
+-- a moment of UTC as local time, `offset` seconds later; UtcMoment where no offset is stated
 abbrev pub turned : ℕ → Option ℤ → ℤ → Result ℤ Refusal
 turned line None at = Err UtcMoment
 turned line (Some offset) at = if is_in_years Moments (at +ℤ offset) then Ok (at +ℤ offset) else Err (BadMoment line)
@@ -90,7 +90,7 @@ turned line (Some offset) at = if is_in_years Moments (at +ℤ offset) then Ok (
 abbrev pub moment_beside : Option ℤ → Stamp → ℕ → Stamp → Result ℤ Refusal
 moment_beside offset start line stamp = if stamp.utc && not start.utc && has_time start.kind then turned line offset stamp.at else Ok stamp.at
 
--- a date value beside the start
+-- the day or moment of a date value beside the start; MixedKinds where one is a date and the other a moment
 abbrev pub date_beside : Option ℤ → Stamp → ℕ → Stamp → Result ℤ Refusal
 date_beside offset start line stamp = if is_same_kind start.kind stamp.kind then moment_beside offset start line stamp else Err (MixedKinds line)
 
@@ -105,35 +105,35 @@ pub record Beside (R : Type 0) : Type 0 where
 abbrev pub nothing_beside : {R : Type 0} → Beside R
 nothing_beside = record { rules = []; excluded = []; plus = []; minus = [] }
 
--- with one date more
+-- what stands beside the start, with one date more, of RDATE (true) or EXDATE
 abbrev pub put_date : {R : Type 0} → Bool → Beside R → ℤ → Beside R
 put_date true beside at = record beside { plus = with_value int_lt beside.plus at }
 put_date false beside at = record beside { minus = with_value int_lt beside.minus at }
 
--- one value of RDATE (true) or EXDATE beside the start
+-- what stands beside the start, with one value more of RDATE (true) or EXDATE, or its refusal
 abbrev pub with_date : {R : Type 0} → Option ℤ → Stamp → ℕ → Bool → Beside R → List ℕ → Result (Beside R) Refusal
 with_date offset start line is_plus beside text = do
   stamp ← date_value line text
   at ← date_beside offset start line stamp
   Ok (put_date is_plus beside at)
 
--- the dates of one line, from left to right
+-- what stands beside the start, with the values of one line of RDATE (true) or EXDATE, from left to right, or the first refusal
 abbrev pub with_dates : {R : Type 0} → Option ℤ → Stamp → ℕ → Bool → Beside R → List (List ℕ) → Result (Beside R) Refusal
 with_dates offset start line is_plus beside texts = in_turn (with_date offset start line is_plus) beside texts
 
--- with one rule more, of RRULE (true) or EXRULE
+-- what stands beside the start, with one rule more, of RRULE (true) or EXRULE
 abbrev pub put_rule : {R : Type 0} → Bool → Beside R → R → Beside R
 put_rule true beside rule = record beside { rules = beside.rules ++ rule ∷ [] }
 put_rule false beside rule = record beside { excluded = beside.excluded ++ rule ∷ [] }
 
--- the rule of a line beside the start, of RRULE (true) or EXRULE
+-- what stands beside the start, with the rule of one line of RRULE (true) or EXRULE, or its refusal
 abbrev pub with_rule : {R : Type 0} → Language R → (ℕ → Stated R → Result R Refusal) → ℕ → Bool → Beside R → List ℕ → Result (Beside R) Refusal
 with_rule language rule_beside line is_given beside text = do
   stated ← language.stated line text
   rule ← rule_beside line stated
   Ok (put_rule is_given beside rule)
 
--- one used line; what it states was judged in the first pass
+-- what stands beside the start, with one used line more, or its refusal; the first pass has judged the line alone
 abbrev pub with_line : {R : Type 0} → Language R → (ℕ → Stated R → Result R Refusal) → Option ℤ → Stamp → ℕ → LineName → Beside R → List ℕ
     → Result (Beside R) Refusal
 with_line language rule_beside offset start line Dtstart beside text = Ok beside
@@ -142,14 +142,14 @@ with_line language rule_beside offset start line Rdate beside text = with_dates 
 with_line language rule_beside offset start line Exdate beside text = with_dates offset start line false beside (slice_split language.is_separator text)
 with_line language rule_beside offset start line Exrule beside text = with_rule language rule_beside line false beside text
 
--- the second pass over the lines
+-- what stands beside the start after the used lines, or the first refusal of the second pass
 abbrev pub second_pass : {R : Type 0} → Language R → (ℕ → Stated R → Result R Refusal) → Option ℤ → Stamp → Beside R → List UsedLine → Result (Beside R) Refusal
 second_pass language rule_beside offset start beside lines =
     in_turn (λ b line. with_line language rule_beside offset start line.number line.name b line.value) beside lines
 
 -- ---- both passes
 
--- the fault of the components comes after the first pass
+-- the value, or the refusal by which the scan of the components stopped
 abbrev pub unless_stopped : {A : Type 0} → Option Refusal → A → Result A Refusal
 unless_stopped None value = Ok value
 unless_stopped (Some refusal) value = Err refusal
@@ -159,7 +159,7 @@ pub record Event (R : Type 0) : Type 0 where
   pub start : Stamp
   pub beside : Beside R
 
--- both passes over the used lines of an event
+-- the start with the rules and dates beside it, from both passes over the used lines of an event; or the first refusal
 abbrev pub passes : {R : Type 0} → Language R → (Stamp → ℕ → Stated R → Result R Refusal) → Option ℤ → Scan → Result (Event R) Refusal
 passes language rule_beside offset scan = do
   read ← first_pass language nothing_read scan.used

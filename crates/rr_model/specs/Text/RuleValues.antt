@@ -44,7 +44,7 @@ weekday_named text = in_table
 
 -- ---- numbers
 
--- one or more digits
+-- the text is one or more digits
 abbrev pub is_number : List ℕ → Bool
 is_number text = nat_lt 0 (length text) && list_all is_digit text
 
@@ -76,7 +76,7 @@ list_of line has_form below judged text =
 
 -- ---- lists of numbers
 
--- numbers without a sign
+-- bounds of numbers without a sign, from `least` to `most`
 abbrev pub unsigned : ℕ → ℕ → NumberBounds
 unsigned least most = record { signed = false; least = least; most = most; has_leap = false }
 

@@ -16,11 +16,11 @@ is_name_byte b = is_ascii_alphanumeric b || (b == 45)
 abbrev pub name_of_line : List ℕ → List ℕ
 name_of_line text = take_while is_name_byte text
 
--- what follows the name
+-- what follows the name of a line
 abbrev pub after_name : List ℕ → List ℕ
 after_name text = drop (length (name_of_line text)) text
 
--- the name in either case
+-- the line has this name, in either case
 abbrev pub is_named : List ℕ → List ℕ → Bool
 is_named text word = str_eq_ignore_ascii_case (name_of_line text) word
 
@@ -55,7 +55,7 @@ value_of_line text =
 
 -- ---- names
 
--- which line it is by its name
+-- which kind of line a line is, by its name
 unfoldable pub line_kind : List ℕ → LineKind
 line_kind text =
     if is_named text (codes "BEGIN") then Begin

@@ -36,7 +36,7 @@ basic_text Moments t = basic_date_text (day_part Moments t) ++ codes "T" ++ basi
 
 -- ---- lines
 
--- the end of a written line
+-- the bytes that end each written line
 abbrev pub line_break : List ℕ
 line_break = codes "\r\n"
 
@@ -118,12 +118,12 @@ rule_text rule =
 
 -- ---- a series of RFC 5545
 
--- a date says that it is one
+-- the parameter that a line of dates has: `VALUE=DATE`; a line of moments has none
 abbrev pub value_type : Kind → List ℕ
 value_type Days = codes ";VALUE=DATE"
 value_type Moments = []
 
--- a line with one date
+-- a line of this name with one date or moment
 abbrev pub date_line : List ℕ → Kind → ℤ → List ℕ
 date_line name kind at = folded_line (name ++ value_type kind ++ codes ":" ++ basic_text kind at)
 
@@ -135,7 +135,7 @@ rule_line name rule = folded_line (name ++ codes ":" ++ rule_text rule)
 abbrev pub dates_out : Series → List ℤ
 dates_out series = if series.start_counts then series.minus else with_value int_lt series.minus series.start
 
--- what is written for a series
+-- the lines that are written for a series
 unfoldable pub calendar_written : Series → List ℕ
 calendar_written series =
     date_line (codes "DTSTART") series.kind series.start

@@ -25,7 +25,7 @@ family_freq family.MP = Monthly
 family_freq family.YM = Yearly
 family_freq family.YD = Yearly
 
--- a value of BYDAY
+-- a value of BYDAY, of its ordinal and its weekday
 abbrev pub day_item : ℤ → ℕ → DayItem
 day_item place weekday = record { place = place; weekday = weekday }
 

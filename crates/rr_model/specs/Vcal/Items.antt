@@ -25,7 +25,7 @@ is_place_before (pos a) (negsuc b) = true
 is_place_before (negsuc a) (pos b) = false
 is_place_before (negsuc a) (negsuc b) = nat_lt a b
 
--- of two items of one variant
+-- the first of two items of one variant comes before the second
 abbrev pub is_item_before : Item → Item → Bool
 is_item_before (Weekday d) (Weekday e) = nat_lt d e
 is_item_before (MonthDay n) (MonthDay m) = is_place_before n m
@@ -54,11 +54,11 @@ item_key (Place n d) = record { group = group_of 4 n; number = nat_abs n; weekda
 item_key (Month m) = record { group = 6; number = m; weekday = 0 }
 item_key (YearDay k) = record { group = 7; number = k; weekday = 0 }
 
--- items in their order
+-- the order of items, by their keys
 abbrev pub item_cmp : Item → Item → Ordering
 item_cmp = on item_key (then_cmp (on (λ k. k.group) nat_cmp) (then_cmp (on (λ k. k.number) nat_cmp) (on (λ k. k.weekday) nat_cmp)))
 
--- neither is below the other
+-- two items are equal by the order of items
 abbrev pub item_eq : Item → Item → Bool
 item_eq = eq_by_cmp item_cmp
 

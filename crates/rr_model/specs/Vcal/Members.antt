@@ -60,7 +60,7 @@ pub record IsVcalMember (rule : VRule) (kind : Kind) (start t : ℤ) : Type 0 wh
   pub not_before : start ≤ℤ t
   pub within_end : IsWithinEnd rule.end kind t (vcal_members_to rule kind start t)
 
--- some item has the start's day
+-- some item of the rule has the start's day
 abbrev pub IsVcalSynchronised : VRule → Kind → ℤ → Type 0
 IsVcalSynchronised rule kind start =
     IsTrue (list_any (λ item. item_has_day rule.family rule.interval (day_part kind start) item (day_part kind start)) rule.items)

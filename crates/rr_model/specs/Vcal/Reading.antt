@@ -26,18 +26,18 @@ own_items family.MP d = []
 own_items family.YM d = Month (month_of d) ∷ []
 own_items family.YD d = YearDay (day_of_year d) ∷ []
 
--- the items, or the start's own where none stands
+-- the items of a rule, or the start's own where none stands
 abbrev pub filled_items : FamilyKind → ℤ → List Item → List Item
 filled_items family d [] = own_items family d
 filled_items family d (item ∷ items) = item ∷ items
 
--- the rule beside the start
+-- the rule beside the start: its end turned into a moment beside it, and its items filled from it where there are none
 unfoldable pub vrule_beside : Option ℤ → Stamp → ℕ → Stated VRule → Result VRule Refusal
 vrule_beside offset start line stated =
     end_beside offset start line stated.until stated.rule.end >>= λ end.
     Ok (record stated.rule { items = filled_items stated.rule.family (day_part start.kind start.at) stated.rule.items; end = end })
 
--- values of RDATE and EXDATE stand between these
+-- a byte that stands between values of RDATE and EXDATE: a comma or a semicolon
 abbrev pub is_comma_or_semicolon : ℕ → Bool
 is_comma_or_semicolon b = (b == 44) || (b == 59)
 

@@ -56,11 +56,11 @@ parts_of_head line text = do
 
 -- ---- items
 
--- one to three digits
+-- the text is one to three digits
 abbrev pub is_short_number : List ℕ → Bool
 is_short_number text = is_number text && nat_le (length text) 3
 
--- a short number from 1 up to the most, counted from the back where it is said
+-- a short number from 1 to `most`, negative where `from_back` is true; or why it is refused
 abbrev pub place_of : ℕ → ℕ → Bool → List ℕ → Result ℤ Refusal
 place_of line most from_back text =
     if is_short_number text
@@ -68,13 +68,13 @@ place_of line most from_back text =
     (if from_back then neg_ℤ (pos (digits_value text)) else pos (digits_value text)) else Err (NumberRange line))
     else Err (BadRule line)
 
--- a short number from 1 up to the most
+-- a short number from 1 to `most`, or why it is refused
 abbrev pub short_number_up_to : ℕ → ℕ → List ℕ → Result ℕ Refusal
 short_number_up_to line most text =
     if is_short_number text then (if nat_le 1 (digits_value text)
     && nat_le (digits_value text) most then Ok (digits_value text) else Err (NumberRange line)) else Err (BadRule line)
 
--- the text but for its last byte, and that byte
+-- the text without its last byte
 abbrev pub front : List ℕ → List ℕ
 front text = take (length text - 1) text
 
@@ -82,7 +82,7 @@ front text = take (length text - 1) text
 abbrev pub ends_with : ℕ → List ℕ → Bool
 ends_with b text = bytes_eq (drop (length text - 1) text) (b ∷ [])
 
--- a place with `+` or `-` after it
+-- a place with a mark after it: `+` where it counts from the front, `-` where it counts from the back
 abbrev pub marked_place : ℕ → ℕ → List ℕ → Result ℤ Refusal
 marked_place line most text =
     if ends_with 43 text then place_of line most false (front text) else
@@ -94,31 +94,31 @@ month_day_of line text =
     if bytes_eq text (codes "LD") then Ok (neg_ℤ (pos 1))
     else (if ends_with 43 text || ends_with 45 text then marked_place line 31 text else place_of line 31 false text)
 
--- with one item more
+-- the parts with one item more
 abbrev pub put_item : VRuleParts → Item → VRuleParts
 put_item parts item = record parts { items = with_value item_lt parts.items item }
 
--- every place with this weekday
+-- the items, and one more for each of these places, with this weekday
 abbrev pub put_places : List Item → ℕ → List ℤ → List Item
 put_places items weekday [] = items
 put_places items weekday (place ∷ places) = put_places (with_value item_lt items (Place place weekday)) weekday places
 
--- a weekday of a group, which has places before it
+-- the parts with a weekday after the places of its group; refused where no place stands before it
 abbrev pub with_group_weekday : ℕ → VRuleParts → ℕ → Result VRuleParts Refusal
 with_group_weekday line parts weekday =
     if is_absent parts.places then Err (BadRule line)
     else Ok (record parts { items = put_places parts.items weekday parts.places; has_weekday = true })
 
--- a place of a group, which begins a new group after a weekday
+-- the parts with one place more; after a weekday it begins a new group
 abbrev pub with_group_place : VRuleParts → ℤ → VRuleParts
 with_group_place parts place = record parts { places = with_value int_lt (if parts.has_weekday then [] else parts.places) place; has_weekday = false }
 
--- one word more in a group of places
+-- the parts with one word more in a group of places: a weekday, or else a place
 abbrev pub with_group_word : ℕ → VRuleParts → Option ℕ → List ℕ → Result VRuleParts Refusal
 with_group_word line parts (Some weekday) text = with_group_weekday line parts weekday
 with_group_word line parts None text = marked_place line 5 text >>= λ place. Ok (with_group_place parts place)
 
--- a word of the rule's list
+-- the parts with one word more of the rule's list, by the kind of the rule
 abbrev pub with_list_word : ℕ → VRuleParts → FamilyKind → List ℕ → Result VRuleParts Refusal
 with_list_word line parts family.D text = Err (BadRule line)
 with_list_word line parts family.W text = ok_or (weekday_named text) (BadRule line) >>= λ d. Ok (put_item parts (Weekday d))
@@ -134,37 +134,37 @@ abbrev pub is_list_whole : FamilyKind → VRuleParts → Bool
 is_list_whole family.MP parts = not (is_absent parts.places) && parts.has_weekday
 is_list_whole other parts = true
 
--- eight digits, or T after them
+-- the word is eight digits, or eight digits and T with any bytes after it
 abbrev pub is_moment_word : List ℕ → Bool
 is_moment_word text =
     nat_le 8 (length text) && list_all is_digit (take 8 text) && ((length text == 8) || is_letter_t (slice_index text 8))
 
--- an end moment: first its form
+-- the parts with an end moment; its form is judged before a second one is refused
 abbrev pub with_end_moment : ℕ → VRuleParts → List ℕ → Result VRuleParts Refusal
 with_end_moment line parts text =
     ok_or (basic text) (BadMoment line) >>= λ stamp. if is_some parts.until then Err (PartTwice line) else Ok (record parts { until = Some stamp })
 
--- a number of events, `#` and digits: its form, whether it stood before, its range
+-- the parts with a number of events, given without its `#`; judged are its form, whether one stood before, and its range
 abbrev pub with_count : ℕ → VRuleParts → List ℕ → Result VRuleParts Refusal
 with_count line parts text =
     if is_number text then (if is_some parts.count then Err (PartTwice line)
     else (if nat_le (digits_value text) 18_446_744_073_709_551_615 then Ok (record parts { count = Some (digits_value text) }) else Err (NumberRange line)))
     else Err (BadRule line)
 
--- a word after the list; before it, the list has to be whole
+-- what a word after the list makes of the parts, where the list is whole; else BadRule
 abbrev pub after_list : ℕ → VRuleParts → Result VRuleParts Refusal → Result VRuleParts Refusal
 after_list line parts more = if is_list_whole parts.family parts then more else Err (BadRule line)
 
--- a word of the list may not stand after an end
+-- the parts with one word more of the list, which may not stand after an end
 abbrev pub within_list : ℕ → VRuleParts → List ℕ → Result VRuleParts Refusal
 within_list line parts text = if is_some parts.count || is_some parts.until then Err (BadRule line) else with_list_word line parts parts.family text
 
--- one word more that may be a number of events
+-- the parts with a number of events, where the word begins with `#`, or else with a word of the list
 abbrev pub with_marked_word : ℕ → VRuleParts → Option (List ℕ) → List ℕ → Result VRuleParts Refusal
 with_marked_word line parts (Some number) text = after_list line parts (with_count line parts number)
 with_marked_word line parts None text = within_list line parts text
 
--- one word more
+-- the parts with one word more after the head
 unfoldable pub with_word : ℕ → VRuleParts → List ℕ → Result VRuleParts Refusal
 with_word line parts text =
     if is_moment_word text then after_list line parts (with_end_moment line parts text) else with_marked_word line parts (text_after (codes "#") text) text

@@ -1,4 +1,4 @@
-// Values of BYDAY, rising without repeats by place, then by weekday.
+// Values of BYDAY, rising without repeats by ordinal, then by weekday.
 ghost use Rattle.std.specs.Prelude.{◌≡◌, [], length, IfOk, OnOk, OnErr};
 ghost use Rattle.rr_model.specs.Rule.Validity.{is_absent};
 
@@ -7,7 +7,7 @@ use crate::{DayItem, NoMemory};
 use std::alloc::Global;
 use std::marker::Model;
 
-/// Values of BYDAY, rising without repeats by place, then by weekday.
+/// Values of BYDAY, rising without repeats by ordinal, then by weekday.
 #[derive(Drop)]
 pub struct DayItems {
     items: Vec<DayItem>,
