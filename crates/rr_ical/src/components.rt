@@ -46,14 +46,14 @@ impl Nesting {
     }
 
     /// Opens a component; a second event is refused.
-    pub(crate) fn begin(&mut self, alloc: Global, name: &[u8]) -> Result<(), Fault>
-        ensures { Becomes (begun self.old name.now) self.new result }
+    pub(crate) fn begin(&mut self, name: Bytes) -> Result<(), Fault>
+        ensures { Becomes (begun self.old name) self.new result }
     {
-        let event = is_event(name);
+        let event = is_event(name.as_slice());
         if event && self.had_event {
             return Err(Fault::Refused(Refusal::SeveralEvents));
         }
-        Ok(self.nest(Bytes::of(alloc, name)?, event)?)
+        Ok(self.nest(name, event)?)
     }
 
     // A component more is open.

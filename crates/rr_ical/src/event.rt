@@ -4,31 +4,31 @@ ghost use Rattle.std.specs.List.{cons_option, list_any};
 ghost use Rattle.rr_model.specs.Text.Lines.{physical_lines};
 ghost use Rattle.rr_model.specs.Text.Event.{no_components, value_on, left_by, left_at, scanned, event_scan};
 ghost use Rattle.rr_model.specs.Text.UsedLines.{is_named};
-ghost use Rattle.rr_text.specs.Answers.{AnswersAs};
 ghost use Rattle.rr_ical.specs.Steps.{AreLeftByLine, used_line_on};
 
 use crate::components::Nesting;
 use crate::names::{is_named, line_kind};
-use crate::value::{value_of_line, value_part};
+use crate::value::value_part;
 use rr_model::{
     Bytes, Fault, Line, LineKind, LineList, LineName, NoMemory, Refusal, Scan, Used, UsedLine,
 };
 use rr_text::{lines, take_line};
 use std::alloc::Global;
 
-// The value of a line that has to have one.
-fn value_on(number: u64, text: &[u8]) -> Result<&[u8], Refusal>
-    ensures { AnswersAs (λ value. value.now) (value_on number text.now) result }
+// The value of a line that has to have one. It stays in the memory of the line's text.
+fn kept_value(number: u64, text: Bytes) -> Result<Bytes, Refusal>
+    ensures { result ≡ value_on number text }
 {
-    match value_of_line(text) {
-        Some(value) => Ok(value),
-        None => Err(Refusal::BadLine(number)),
-    }
+    let Some(part) = value_part(text.as_slice()) else {
+        return Err(Refusal::BadLine(number));
+    };
+    let mut value = text;
+    value.keep_part(part.from, part.count);
+    Ok(value)
 }
 
 // What a line leaves, by its kind.
 fn step(
-    alloc: Global,
     is_bare: bool,
     nesting: &mut Nesting,
     number: u64,
@@ -39,13 +39,13 @@ fn step(
 {
     match kind {
         LineKind::Begin => {
-            let name = value_on(number, text.as_slice())?;
-            nesting.begin(alloc, name)?;
+            let name = kept_value(number, text)?;
+            nesting.begin(name)?;
             Ok(None)
         }
         LineKind::End => {
-            let name = value_on(number, text.as_slice())?;
-            nesting.end(number, name)?;
+            let name = kept_value(number, text)?;
+            nesting.end(number, name.as_slice())?;
             Ok(None)
         }
         LineKind::Property(name) => {
@@ -58,15 +58,11 @@ fn step(
     }
 }
 
-// The used line that a line is. Its value stays in the memory of its text.
+// The used line that a line is.
 fn used_line(number: u64, name: LineName, text: Bytes) -> Result<UsedLine, Refusal>
     ensures { result ≡ used_line_on number name text }
 {
-    let Some(part) = value_part(text.as_slice()) else {
-        return Err(Refusal::BadLine(number));
-    };
-    let mut value = text;
-    value.keep_part(part.from, part.count);
+    let value = kept_value(number, text)?;
     Ok(UsedLine {
         number,
         name,
@@ -76,16 +72,11 @@ fn used_line(number: u64, name: LineName, text: Bytes) -> Result<UsedLine, Refus
 
 // What a line leaves.
 #[tactic(auto, unfolding(rr_model::specs::Text::Event::left_by))]
-fn take_in(
-    alloc: Global,
-    is_bare: bool,
-    nesting: &mut Nesting,
-    line: Line,
-) -> Result<Option<UsedLine>, Fault>
+fn take_in(is_bare: bool, nesting: &mut Nesting, line: Line) -> Result<Option<UsedLine>, Fault>
     ensures { AreLeftByLine (left_by is_bare nesting.old line) nesting.new result }
 {
     let kind = line_kind(line.text.as_slice());
-    step(alloc, is_bare, nesting, line.number, kind, line.text)
+    step(is_bare, nesting, line.number, kind, line.text)
 }
 
 // Puts a used line, if there is one.
@@ -113,7 +104,7 @@ pub fn scan_lines(
     let mut used = Used::new(alloc);
     let mut nesting = Nesting::new(alloc);
     for line in lines.into_items() {
-        match take_in(alloc, is_bare, &mut nesting, line) {
+        match take_in(is_bare, &mut nesting, line) {
             Ok(kept) => keep(&mut used, kept)?,
             Err(Fault::Refused(refusal)) => {
                 return Ok(Scan {
