@@ -96,9 +96,9 @@ pub fn sequence_of_numbers(
     Ok(folded)
 }
 
-/// The sequence whose days have these numbers, as `sequence` has it, where those before the settled day and those of the period stand
-/// apart. It takes no memory.
-pub fn sequence_in_parts(
+// The sequence whose days have these numbers, as `sequence` has it, where those before the settled day and those of the period
+// stand apart. It takes no memory.
+fn sequence_in_parts(
     kind: Kind,
     first: i64,
     settled: i64,

@@ -6,4 +6,4 @@ mod days;
 mod folded;
 
 pub use days::days_between;
-pub use folded::{Folded, sequence, sequence_in_parts, sequence_of_numbers};
+pub use folded::{Folded, sequence, sequence_of_numbers};

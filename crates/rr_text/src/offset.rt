@@ -31,10 +31,10 @@ fn with_sign(sign: u8, seconds: u64) -> Option<i32>
 }
 
 /// An offset from UTC in seconds: a sign with two digits of hours below 24, and two digits of minutes below 60.
-pub fn offset_of(hours: &[u8], minutes: &[u8]) -> Option<i32>
-    ensures { result ≡ offset_of hours.now minutes.now }
+pub fn offset_of(signed_hours: &[u8], minutes: &[u8]) -> Option<i32>
+    ensures { result ≡ offset_of signed_hours.now minutes.now }
 {
-    let (sign, hours) = hours.split_first()?;
+    let (sign, hours) = signed_hours.split_first()?;
     let hours = two_digits(24, hours)?;
     let minutes = two_digits(60, minutes)?;
     with_sign(*sign, hours * 3_600 + minutes * 60)
