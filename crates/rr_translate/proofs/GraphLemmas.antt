@@ -72,7 +72,8 @@ module _ (P Q : Occurrences) (same : HaveEqualOccurrences P Q) where
     start = g.start;
     is_first = first_pattern_of P Q same g.pattern g.range g.kind g.start g.is_first;
     written = g.written;
-    states = record { series = g.states.series; is_read = g.states.is_read; sound = g.states.sound; equal = HaveEqualOccurrences-trans _ P Q g.states.equal same };
+    states =
+        record { series = g.states.series; is_read = g.states.is_read; sound = g.states.sound; equal = HaveEqualOccurrences-trans _ P Q g.states.equal same };
   }
 
 -- what is said of the days of a series that no limit refuses is what is answered of the series

@@ -49,4 +49,5 @@ module _ (P Q : Occurrences) (same : HaveEqualOccurrences P Q) where
   }
 
   pub no_pattern_of : HasNoPattern P → HasNoPattern Q
-  no_pattern_of none pattern range kind start p = none pattern range kind start (pattern_of Q P (HaveEqualOccurrences-sym P Q same) pattern range kind start p)
+  no_pattern_of none pattern range kind start p =
+      none pattern range kind start (pattern_of Q P (HaveEqualOccurrences-sym P Q same) pattern range kind start p)

@@ -14,4 +14,5 @@ write-requires-clause-valid g c =
 pub returns-in_ok-write-in-Some : goal.returns-in_ok-write-in-Some
 returns-in_ok-write-in-Some g c =
     let event = c.in-Some.event in
-    repeat_is_written _ _ (HaveEqualOccurrences-refl _) event.kind event.start event.repeat c.in_ok-write-in-Some.field-0.items c.in-Some.ensures c.in_ok-write-in-Some.ensures.text
+    repeat_is_written _ _ (HaveEqualOccurrences-refl _) event.kind event.start event.repeat c.in_ok-write-in-Some.field-0.items c.in-Some.ensures
+    c.in_ok-write-in-Some.ensures.text
