@@ -31,7 +31,7 @@ pub record StatesProperty (line : WrittenLine) : Type 0 where
   pub stated : value_of_line line.text ≡ Some line.value
   pub no_begin : is_named line.text (codes "BEGIN") ≡ false
 
--- it does so, and comes back from folding
+-- it does so, can be folded and unfolded, and has only bytes of a line
 pub record IsPropertyLine (line : WrittenLine) : Type 0 where
   pub states : StatesProperty line
   pub no_blank : begins_blank (take 75 line.text) ≡ false
@@ -47,7 +47,7 @@ left_by-property : (k : ℕ) (l : WrittenLine) → StatesProperty l
 unfolding left_by
 left_by-property k l h = rw (h.kind, h.stated) refl
 
--- Whatever is written by lines: the line of each, and the number that follows that of a line with this text.
+-- Each x is written as a line, and `after` gives the number that comes after that of a line with this text.
 module _ {X : Type 0} (line_of : X → WrittenLine) (after : ℕ → List ℕ → ℕ) where
   -- the lines of a text, the first of this number
   abbrev pub lines_from : ℕ → List X → List Line

@@ -118,7 +118,7 @@ physical-written (l ∷ ls) h =
 abbrev pub with_text : WrittenLine → LineWithText
 with_text l = record { text = line_text l; name = l.name; value = l.value }
 
--- each is one physical line
+-- the number of the next line: each is one physical line
 abbrev pub next_number : ℕ → List ℕ → ℕ
 next_number k text = k + 1
 
