@@ -54,7 +54,7 @@ yes_alike : (asked : Asked) (a b : DrawnDays) (s u : Series) â†’ IsFoldOf a s â†
 yes_alike asked a b s u f g = (
   yes_asked asked (stands a) (stands b) (Occurs s) (Occurs u) f g,
   yes_asked asked (Occurs s) (Occurs u) (stands a) (stands b) (HaveEqualOccurrences-sym (stands a) (Occurs s) f)
-  (HaveEqualOccurrences-sym (stands b) (Occurs u) g),
+      (HaveEqualOccurrences-sym (stands b) (Occurs u) g),
 )
 
 -- ---- counts
