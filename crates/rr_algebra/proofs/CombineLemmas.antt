@@ -1,10 +1,9 @@
 -- Sets of seconds that are made of two, and their numbers.
-use Rattle.std.proofs.Common.{◌≡◌, ◌≢◌, ◌⊎◌, ℕ, ◌+◌, ◌<◌, ◌≤◌, List, [], ◌∷◌, ◌++◌, All, Contains, get_or, length, length-append, nat_lt, ℤ, pos, ◌+ℤ◌, inl, inr, refl, sym, ap, subst, ◌∙◌, arith}
+use Rattle.std.proofs.Common.{◌≡◌, ◌≢◌, ◌⊎◌, ℕ, ◌+◌, ◌≤◌, List, [], ◌∷◌, ◌++◌, All, Contains, get_or, length, length-append, nat_lt, ℤ, pos, ◌+ℤ◌, inl, inr, refl, sym, ap, subst, ◌∙◌, arith}
 use Rattle.std.proofs.lemmas.Bool.{cases_lt}
 use Rattle.std.proofs.lemmas.List.{get_or_default, get_or_append_left, get_or-append-add}
 use Rattle.std.proofs.lemmas.List.Elements.{All-contains, All-contains_itself, All-push, Contains-append_cases, Contains-append_left, Contains-append_right}
 use Rattle.std.proofs.lemmas.List.Sums.{sum_by-cons}
-use Rattle.std.proofs.lemmas.Option.{get_or_from_slice_get, slice_get-get_or, slice_get_within}
 use Rattle.rr_model.specs.Rising.{Rises}
 use Rattle.rr_model.specs.Rising.Sets.{IsSecondsOfDay, IsSetOf}
 use Rattle.rr_model.proofs.RisingSetLemmas.{Contains-head, Contains-none, set_same}
@@ -17,6 +16,7 @@ use Rattle.rr_model.specs.declared.kind.Kind.{Kind}
 use Rattle.rr_model.specs.declared.kind.Kind.TheVariants.{Days, Moments}
 use Rattle.rr_shapes.specs.Placing.{IsPlaced}
 use Rattle.rr_shapes.specs.Tables.{Extends}
+use Rattle.rr_shapes.proofs.TableLemmas.{same_set}
 use Rattle.rr_shapes.specs.declared.unions.Pair.{Pair}
 use Rattle.rr_days.proofs.PlacedLemmas.{grown, placed_grown}
 use Rattle.rr_algebra.specs.Combining.{AreDayNumbers, AreDaySets, AreKnown, AreMadeOnDays, IsDaySet, IsMadeOf, IsMadeOnDay, IsNumberOf}
@@ -33,13 +33,6 @@ common_made xs ys rest both r b =
     ))
 
 -- ---- what was made keeps its number
-
--- a number has the same set
-same_set : (old new : List (List ℕ)) (number : ℕ) → Extends old new → number < length old
-    → (number < length new) × (get_or new number [] ≡ get_or old number [])
-same_set old new number more l =
-    let at = more number (get_or old number []) (slice_get-get_or old number [] l) in
-    (slice_get_within new number (get_or old number []) at, get_or_from_slice_get new number (get_or old number []) [] at)
 
 module _ (old new : List (List ℕ)) (more : Extends old new) where
   pub number_kept : (op : Op) (xs ys : List ℕ) (number : ℕ) → IsNumberOf op xs ys old number → IsNumberOf op xs ys new number

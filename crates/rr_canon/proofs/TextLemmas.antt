@@ -4,16 +4,13 @@ use Rattle.std.proofs.Common.{suc, ℤ, nat_abs}
 use Rattle.std.specs.Prelude.{Option, Some, None, codes}
 use Rattle.std.specs.Fmt.{decimal}
 use Rattle.std.specs.List.{All}
-use Rattle.std.proofs.lemmas.Int.{ints}
 use Rattle.std.proofs.lemmas.List.Elements.{All-nil, All-cons, All-head, All-tail, All-append, All-from_recursion}
 use Rattle.rr_model.specs.Calendar.{year_of, month_of, day_of_month}
 use Rattle.rr_model.specs.Text.Moments.{padded, extended_date_text, extended_text}
 use Rattle.rr_model.specs.Rising.Sets.{IsSecondsOfDay}
 use Rattle.rr_model.specs.declared.kind.Kind.{Kind}
 use Rattle.rr_model.specs.declared.kind.Kind.TheVariants.{Days, Moments}
-use Rattle.rr_model.proofs.CalendarLemmas.{first_day_of_year_bounds, IsInYear-year_of}
-use Rattle.rr_text.proofs.MomentTextLemmas.{year_of-low}
-use Rattle.rr_text.proofs.PrintedLemmas.{extended_text_injective, small_month}
+use Rattle.rr_text.proofs.PrintedLemmas.{extended_text_injective, small_year, small_month}
 use Rattle.rr_model.specs.Sets.Descriptor.{Run, Ending, Described}
 use Rattle.rr_model.specs.Sets.DescriptorText.{fields, kind_line, seconds_line, set_lines, first_line, run_line, settled_line, ending_lines, lines_of, text_of}
 use Rattle.rr_model.specs.Sets.Printable.{IsPrintedDay, IsPrintedNumber, IsPrintedRun, IsPrintedEnding, ArePrintedSets, IsPrintedIfSome, IsPrintedSet}
@@ -43,12 +40,6 @@ All-every P h (x ∷ xs) = All-cons P x xs (h x) (All-every P h xs)
 
 -- ---- dates
 
-small_year : (d : ℤ) → IsPrintedDay d → nat_abs (year_of d) < 2 ^ 64
-small_year d printed =
-    let within = IsInYear-year_of d in
-    let bounds = first_day_of_year_bounds (year_of d) in
-    omega (arith, ints, year_of-low d printed.0, within.begun, bounds.0, printed.1.1)
-
 zeros_in_field : (n : ℕ) → All IsInField (replicate n 48)
 zeros_in_field zero = All-nil IsInField
 zeros_in_field (suc n) = All-cons IsInField 48 (replicate n 48) (omega arith) (zeros_in_field n)
@@ -63,7 +54,7 @@ dash_in_field = All-cons IsInField 45 [] (omega arith) (All-nil IsInField)
 date_in_field : (d : ℤ) → IsPrintedDay d → All IsInField (extended_date_text d)
 unfolding extended_date_text
 date_in_field d printed =
-    let year = padded_in_field 4 (nat_abs (year_of d)) (small_year d printed) in
+    let year = padded_in_field 4 (nat_abs (year_of d)) (small_year d printed.0 printed.1) in
     let small = small_month d in
     let month = padded_in_field 2 (month_of d) (omega (arith, small.0)) in
     let day = padded_in_field 2 (day_of_month d) (omega (arith, small.1)) in

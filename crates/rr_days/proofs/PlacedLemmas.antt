@@ -1,13 +1,12 @@
 -- A time set that is placed in a table leaves the others at their numbers.
 use Rattle.std.proofs.Common.{◌≡◌, ◌⊎◌, ℕ, ◌<◌, true, false, List, [], ◌∷◌, ◌++◌, length, get_or, Contains, length-append, refl, sym, ap, subst, ◌∙◌, inl, inr, arith}
-use Rattle.std.specs.Prelude.{nat_eq, Some}
+use Rattle.std.specs.Prelude.{nat_eq}
 use Rattle.std.specs.Cmp.Lexicographic.{pointwise, bytes_decides}
 use Rattle.std.proofs.lemmas.Bool.{cases_lt, false≢true}
 use Rattle.std.proofs.lemmas.Grind.{common_steps, elements}
-use Rattle.std.proofs.lemmas.Option.{get_or_from_slice_get, slice_get-get_or, slice_get_within}
 use Rattle.rr_model.proofs.RisingSetLemmas.{Contains-head, Contains-tail, Contains-none, Contains-cons_cases}
+use Rattle.rr_shapes.proofs.ShapeLemmas.{placed_extends}
 use Rattle.rr_shapes.specs.Placing.{IsPlaced}
-use Rattle.rr_shapes.specs.Tables.{Extends}
 use Rattle.rr_days.specs.Growing.{IsGrown}
 
 -- whether a list of sets has a set is decided
@@ -37,12 +36,6 @@ module _ (times : List ℕ) (old new : List (List ℕ)) (number : ℕ) (placed :
   -- the placed set has its own
   pub at_number : (number < length new) × (get_or new number [] ≡ times)
   at_number = (grind (arith, elements, placed.stands), grind (arith, elements, placed.stands))
-
--- a placed set leaves the others at their numbers
-pub placed_extends : (times : List ℕ) (old new : List (List ℕ)) (number : ℕ) → IsPlaced times old new number → Extends old new
-placed_extends times old new number placed n x at =
-    let k = keeps times old new number placed n [] (slice_get_within old n x at) in
-    slice_get-get_or new n [] k.0 ∙ ap (λ (y : List ℕ). Some y) (k.1 ∙ get_or_from_slice_get old n x [] at)
 
 -- a set that is placed comes alone
 pub placed_grown : (times : List ℕ) (old new : List (List ℕ)) (number : ℕ) → IsPlaced times old new number → IsGrown old new number

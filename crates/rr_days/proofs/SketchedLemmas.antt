@@ -10,7 +10,8 @@ use Rattle.rr_model.specs.Sets.Sketch.{times_in, times_on}
 use Rattle.rr_model.specs.declared.kind.Kind.{Kind}
 use Rattle.rr_model.specs.declared.sketch.DayShape.{DayShape}
 use Rattle.rr_model.proofs.WholeLemmas.{floor_mod_below}
-use Rattle.rr_word.proofs.ShapeLemmas.{int_eq-same, int_eq-differ}
+use Rattle.rr_model.proofs.TestLemmas.{int_eq-same}
+use Rattle.rr_word.proofs.ShapeLemmas.{int_eq-differ}
 use Rattle.rr_days.specs.Sketched.{with_day, shapes_from, sketch_of}
 
 -- the day itself, and other days

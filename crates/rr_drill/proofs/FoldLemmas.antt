@@ -13,6 +13,7 @@ use Rattle.rr_decide.specs.Question.{IsVerdictTo}
 use Rattle.rr_model.specs.declared.question.Question.{Question}
 use Rattle.rr_model.specs.declared.question.Question.TheVariants.{Equal, Within, Disjoint}
 use Rattle.rr_model.specs.Sets.Verdict.{HaveEqualOccurrences}
+use Rattle.rr_model.proofs.EqualLemmas.{HaveEqualOccurrences-sym}
 use Rattle.rr_drill.specs.Asked.{IsVerdictAsked, IsYes}
 use Rattle.rr_drill.specs.Counting.{IsOneWhere, IsCountOf, IsCountOfPairs}
 use Rattle.rr_drill.specs.Draws.{series_from, after_series, series_list, drawn_series}
@@ -38,9 +39,6 @@ pub not_yes : (asked : Asked) (P Q : Occurrences) (k : Kind) (t : ℤ) (side : S
 not_yes (Forth question) P Q = no_or_yes question P Q
 not_yes (Back question) P Q = no_or_yes question Q P
 
-other_way : (P Q : Occurrences) → HaveEqualOccurrences P Q → HaveEqualOccurrences Q P
-other_way P Q s = λ k t. ((s k t).1, (s k t).0)
-
 yes_of : (question : Question) (P Q P' Q' : Occurrences) → HaveEqualOccurrences P P' → HaveEqualOccurrences Q Q' → IsVerdictTo question P Q Yes
     → IsVerdictTo question P' Q' Yes
 yes_of Equal P Q P' Q' p q all = λ k t. ((λ h. (q k t).0 ((all k t).0 ((p k t).1 h))), (λ h. (p k t).0 ((all k t).1 ((q k t).1 h))))
@@ -55,7 +53,8 @@ yes_alike : (asked : Asked) (a b : DrawnDays) (s u : Series) → IsFoldOf a s �
     → IsYes asked (stands a) (stands b) ↔ IsYes asked (Occurs s) (Occurs u)
 yes_alike asked a b s u f g = (
   yes_asked asked (stands a) (stands b) (Occurs s) (Occurs u) f g,
-  yes_asked asked (Occurs s) (Occurs u) (stands a) (stands b) (other_way (stands a) (Occurs s) f) (other_way (stands b) (Occurs u) g),
+  yes_asked asked (Occurs s) (Occurs u) (stands a) (stands b) (HaveEqualOccurrences-sym (stands a) (Occurs s) f)
+      (HaveEqualOccurrences-sym (stands b) (Occurs u) g),
 )
 
 -- ---- counts

@@ -1,6 +1,5 @@
 -- A rule of a frequency, an interval and a week start alone chooses its own start, where that is a date.
 use Rattle.std.proofs.Common.{◌≡◌, ℕ, ◌≤◌, ◌%◌, Bool, true, false, ◌&&◌, ◌||◌, ◌==◌, [], ◌∷◌, ℤ, pos, ◌-ℤ◌, refl, ap, arith}
-use Rattle.std.specs.Ordering.{int_eq}
 use Rattle.std.proofs.lemmas.Int.{ints}
 use Rattle.std.proofs.lemmas.Bool.Decides.{nat_tests}
 use Rattle.std.proofs.lemmas.Nat.{mod_below, div-add-mod'}
@@ -16,16 +15,14 @@ use Rattle.rr_model.specs.declared.kind.Kind.TheVariants.{Days}
 use Rattle.rr_model.specs.declared.rule.Freq.{Freq}
 use Rattle.rr_model.specs.declared.rule.Freq.TheVariants.{Secondly, Minutely, Hourly, Daily, Weekly, Monthly, Yearly}
 use Rattle.rr_model.specs.declared.rule.Rule.{Rule}
+use Rattle.rr_model.proofs.TestLemmas.{int_eq-same}
 
 -- the rule of a frequency, an interval and a week start
 abbrev pub plain : Freq → ℕ → ℕ → Rule
 plain freq n w = record (plain_rule freq n) { week_start = w }
 
-itself : (v : ℤ) → int_eq v v ≡ true
-itself v = grind (arith, ints)
-
 value_listed : (v : ℤ) → lists (v ∷ []) v ≡ true
-value_listed v = ap (λ (b : Bool). b || false) (itself v)
+value_listed v = ap (λ (b : Bool). b || false) (int_eq-same v)
 
 place_allowed : (v many : ℤ) → allows_signed (v ∷ []) v many ≡ true
 place_allowed v many = ap (λ (b : Bool). b || lists (v ∷ []) ((v -ℤ many) -ℤ pos 1)) (value_listed v)

@@ -1,6 +1,7 @@
 -- The candidate days of a unit are the days of its stretch at which the date parts hold, where its interval fits.
 use Rattle.std.proofs.Common.{◌≡◌, ℕ, Bool, true, false, ◌&&◌, List, ℤ, pos, ◌+ℤ◌, ◌-ℤ◌, ap, ◌∙◌}
 use Rattle.std.specs.Prelude.{IsTrue, int_lt}
+use Rattle.std.specs.Cmp.Derive.{both_true}
 use Rattle.rr_model.specs.Whole.{divides}
 use Rattle.rr_model.specs.Moment.Units.{unit_number, unit_start}
 use Rattle.rr_model.specs.Rising.Sets.{IsSetOf}
@@ -11,10 +12,6 @@ use Rattle.rr_model.specs.Rule.DaysAndTimes.{IsCandidateDay}
 use Rattle.rr_model.specs.Moment.Units.{is_whole_days}
 use Rattle.rr_expand.specs.Expansion.{IsAllowedDay}
 use Rattle.rr_cal.proofs.DayUnitLemmas.{in_unit}
-
-both_true : (a b : Bool) → a ≡ true → IsTrue b → IsTrue (a && b)
-both_true true b e h = h
-both_true false b e h = absurd (cc)
 
 right_true : (a b : Bool) → IsTrue (a && b) → IsTrue b
 right_true true b h = h
@@ -35,6 +32,6 @@ module _ (rule : Rule) (start unit : ℤ) where
   candidate_days first count days coarse begins ends fit set =
       set_same int_lt (IsAllowedDay rule start first count) (IsCandidateDay rule start unit) days set
       (λ d. (let within = in_unit rule.freq rule.week_start unit first d count coarse begins ends in (
-        (λ h. (let e = within.1 (h.0, h.1) in (e, both_true _ _ (at_unit d e ∙ fit) h.2))),
+        (λ h. (let e = within.1 (h.0, h.1) in (e, both_true (at_unit d e ∙ fit) h.2))),
         (λ h. (let l = within.0 h.0 in (l.0, l.1, right_true _ _ h.1))),
       )))

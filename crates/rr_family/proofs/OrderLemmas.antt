@@ -9,7 +9,7 @@ use Rattle.rr_model.specs.Rising.{Rises}
 use Rattle.rr_model.specs.Vcal.Items.{is_place_before, item_lt}
 use Rattle.rr_model.specs.declared.vcal.FamilyKind.{FamilyKind}
 use Rattle.rr_model.specs.declared.vcal.FamilyKind.TheVariants as family
-use Rattle.rr_word.proofs.ShapeLemmas.{int_eq-same}
+use Rattle.rr_model.proofs.TestLemmas.{int_eq-same}
 use Rattle.rr_family.specs.Lasting.{is_occupied}
 use Rattle.rr_family.specs.Places.{many_items, from_both_ends, item_at, place_has_day}
 use Rattle.rr_family.specs.Profile.{places_from, all_places, ListItemsRise}

@@ -7,6 +7,7 @@ use Rattle.std.proofs.lemmas.Int.{ints, by_lt_z}
 use Rattle.std.proofs.lemmas.Bool.{and_parts, cases_Bool, cases_lt, cases_eq, eq-eqb, eqb-true, false≢true, and_from}
 use Rattle.std.proofs.lemmas.Bool.Decides.{nat_tests}
 use Rattle.std.proofs.lemmas.List.Elements.{recursion_from_All, All-cons}
+use Rattle.std.proofs.Math.Nat.{le-mul_of_pos_right}
 use Rattle.std.proofs.lemmas.Map.Views.{any-filter_same}
 use Rattle.rr_model.specs.Rule.Member.{IsWithinEnd}
 use Rattle.rr_model.specs.Whole.Count.{count_from}
@@ -260,12 +261,8 @@ pub occupied_again : (s : Sketch) (first : ℤ) (c : ℕ) → 1 ≤ c → Repeat
 occupied_again s first c some repeats starts d l =
     let k = nat_abs (d -ℤ first) in
     let e = turns (times_on s) first c repeats k first (omega (arith, ints)) in
-    let many : k ≤ k * c = more k c some in
+    let many : k ≤ k * c = le-mul_of_pos_right k some in
     (first +ℤ pos (k * c), omega (arith, ints, l, many), ap (λ xs. not (is_absent xs)) e ∙ starts)
-  where
-    more : (k c : ℕ) → 1 ≤ c → k ≤ k * c
-    more k zero h = absurd (omega (arith, h))
-    more k (suc c) h = omega arith
 
 pub is_there : (s : Sketch) (first : ℤ) → IsFirstDay s (Some first) → is_occupied s first ≡ true
 is_there s first h = elim (cases_Bool (is_occupied s first)) [ inl o ↦ o | inr n ↦ absurd (h.0 (empty_if (times_on s first) n)) ]

@@ -20,9 +20,9 @@ pub sum_suc : (n : ℕ) (f : ℕ → ℕ) → sum_below (suc n) f ≡ sum_below 
 unfolding sum_below
 sum_suc n f = refl
 
-sum_same : (n : ℕ) (f g : ℕ → ℕ) → ((k : ℕ) → f k ≡ g k) → sum_below n f ≡ sum_below n g
+pub sum_same : (n : ℕ) (f g : ℕ → ℕ) → ((k : ℕ) → k < n → f k ≡ g k) → sum_below n f ≡ sum_below n g
 sum_same zero f g h = sum_zero f ∙ sym (sum_zero g)
-sum_same (suc n) f g h = omega (arith, sum_suc n f, sum_suc n g, sum_same n f g h, h n)
+sum_same (suc n) f g h = omega (arith, sum_suc n f, sum_suc n g, sum_same n f g (λ k l. h k (omega (arith, l))), h n (omega arith))
 
 sum_add : (n : ℕ) (f g : ℕ → ℕ) → sum_below n (λ k. f k + g k) ≡ sum_below n f + sum_below n g
 sum_add zero f g = omega (arith, sum_zero f, sum_zero g, sum_zero (λ k. f k + g k))
@@ -81,7 +81,7 @@ module _ (sorts : ℕ) (sort_of : ℤ → Option ℕ) (below : (d : ℤ) (sort :
   count_by_sorts first (suc n) =
       let d = first +ℤ pos n in
       let e : sum_below sorts (by_sort first (suc n)) ≡ sum_below sorts (by_sort first n) + sum_below sorts (added d) =
-      sum_same sorts (by_sort first (suc n)) (λ k. by_sort first n k + added d k) (λ k. more (q k) k) ∙ sum_add sorts (by_sort first n) (added d) in
+      sum_same sorts (by_sort first (suc n)) (λ k. by_sort first n k + added d k) (λ k l. more (q k) k) ∙ sum_add sorts (by_sort first n) (added d) in
       omega (arith, count_from-suc (λ x. sort_passes q (sort_of x) && test x) first n, count_by_sorts first n, e, one_day d (sort_of d) refl)
     where
       more : (b : Bool) (k : ℕ) → cond b (days_of_sort sort_of test first (suc n) k) 0

@@ -5,10 +5,10 @@ use Rattle.std.proofs.lemmas.Bool.Decides.{nat_tests}
 use Rattle.rr_family.specs.Places.{item_at, many_items}
 use Rattle.rr_family.specs.Sorts.{many_sorts, has_sort}
 use Rattle.rr_family.specs.Tally.{sum_below}
-use Rattle.rr_family.proofs.TallyLemmas.{sum_zero, sum_suc}
+use Rattle.rr_family.proofs.TallyLemmas.{sum_zero, sum_suc, sum_same}
 use Rattle.rr_find.specs.ByCounts.{days_of_item, gain_of_item, best_below, best_index, days_left, number_at, AreTakenSoFar, IsTakenFrom, IsClear, AreTaken}
 use Rattle.rr_find.proofs.BestLemmas.{best_suc}
-use Rattle.rr_find.proofs.TakenLemmas.{sum_same, sum_parts, some_days, left_after}
+use Rattle.rr_find.proofs.TakenLemmas.{sum_parts, some_days, left_after}
 use Rattle.rr_model.specs.Rising.{with_value}
 use Rattle.rr_model.specs.Vcal.Items.{item_lt}
 use Rattle.rr_model.specs.declared.item.Item.{Item}

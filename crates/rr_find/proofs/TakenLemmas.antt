@@ -14,16 +14,12 @@ use Rattle.rr_family.specs.Taking.{AgreeWithin, some_gives, is_sound, sound_plac
 use Rattle.rr_family.specs.Tally.{sum_below, sort_passes, days_of_sort}
 use Rattle.rr_family.proofs.SortLemmas.{kinds_have_sorts}
 use Rattle.rr_family.proofs.TakingLemmas.{giver, taker, in_window, count_from-none_at, taking_is_sound}
-use Rattle.rr_family.proofs.TallyLemmas.{sound_by_sorts, further_by_sorts, count_by_sorts, sum_zero, sum_suc}
+use Rattle.rr_family.proofs.TallyLemmas.{sound_by_sorts, further_by_sorts, count_by_sorts, sum_zero, sum_suc, sum_same}
 use Rattle.rr_find.specs.ByCounts.{days_of_item, gain_of_item, best_below, best_index, days_left, IsTakenInTurn, IsClear}
 use Rattle.rr_find.specs.Counted.{has_some_sort, AreSorted}
 use Rattle.rr_find.proofs.BestLemmas.{best_some, best_is_chosen, chosen}
 
 -- ---- sums
-
-pub sum_same : (n : ℕ) (f g : ℕ → ℕ) → ((k : ℕ) → k < n → f k ≡ g k) → sum_below n f ≡ sum_below n g
-sum_same zero f g h = sum_zero f ∙ sym (sum_zero g)
-sum_same (suc n) f g h = omega (arith, sum_suc n f, sum_suc n g, sum_same n f g (λ k l. h k (omega (arith, l))), h n (omega arith))
 
 -- what the numbers that pass leave, and they themselves
 pub sum_parts : (n : ℕ) (number : ℕ → ℕ) (passes : ℕ → Bool)

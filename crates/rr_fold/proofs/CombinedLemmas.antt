@@ -13,7 +13,7 @@ use Rattle.rr_model.specs.Sets.Sizes.{total_size}
 use Rattle.rr_model.specs.declared.limits.TheConstants.{MAX_SECONDS}
 use Rattle.rr_shapes.specs.Tables.{Extends}
 use Rattle.rr_shapes.specs.declared.unions.Pair.{Pair}
-use Rattle.rr_lazy.specs.Tables.{same_set}
+use Rattle.rr_shapes.proofs.TableLemmas.{same_set}
 use Rattle.rr_days.specs.Growing.{IsGrown}
 use Rattle.rr_runs.specs.Pages.{IsZeroFrom}
 use Rattle.rr_fold.specs.Combined.{AreCombinationsOf, AreCombined, AreCombinedTo, AreLists, AreShapes, AreUsed, Has, IsCombinationOf, IsCombinedTo, IsFreeTo}

@@ -18,7 +18,7 @@ use Rattle.rr_shapes.specs.Placing.{IsPlaced}
 use Rattle.rr_shapes.specs.Tables.{Extends}
 use Rattle.rr_lazy.specs.Next.{IsNext, IsNextIn, with_set}
 use Rattle.rr_lazy.specs.declared.occupied_day.OccupiedDay.{OccupiedDay}
-use Rattle.rr_lazy.specs.Tables.{same_set}
+use Rattle.rr_shapes.proofs.TableLemmas.{same_set}
 use Rattle.rr_fold.specs.Numbering.{IsKnown, IsOneTooMany, IsWidened}
 use Rattle.rr_fold.specs.declared.numbering.Known.{Known}
 

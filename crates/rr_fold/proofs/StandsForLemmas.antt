@@ -3,7 +3,7 @@ use Rattle.std.proofs.Common.{◌≡◌, ℕ, zero, suc, ◌+◌, ◌*◌, ◌/�
 use Rattle.std.proofs.Common.{◌+ℤ◌, ◌-ℤ◌, ◌≤ℤ◌, ◌<ℤ◌, refl, sym, ap, subst, ◌∙◌, arith}
 use Rattle.std.specs.Prelude.{IsTrue, nat_lt}
 use Rattle.std.proofs.lemmas.Int.{ints, by_lt_z}
-use Rattle.std.proofs.lemmas.Nat.{div-add-mod'}
+use Rattle.std.proofs.Math.Nat.{mod-add-div'}
 use Rattle.std.proofs.lemmas.Bool.{false≢true}
 use Rattle.rr_model.specs.Rising.Sets.{IsSetOf}
 use Rattle.rr_model.specs.Sets.Sketch.{times_on, StandsFor}
@@ -23,10 +23,6 @@ use Rattle.rr_days.specs.Sketched.{sketch_of}
 use Rattle.rr_fold.specs.Folding.{AreNumbered, HasNoDayBefore}
 
 -- ---- the days of a tree
-
--- a number is its whole periods and the rest
-parts_of : (a p : ℕ) → a ≡ a % p + a / p * p
-parts_of a p = omega (arith, div-add-mod' a p)
 
 module _ (kind : Kind) (tree : Tree) (sets : List (List ℕ)) (numbers : List ℕ) (first settled : ℤ) (period n : ℕ) (some : 1 ≤ period)
     (at : settled ≡ first +ℤ pos n)
@@ -63,7 +59,7 @@ module _ (kind : Kind) (tree : Tree) (sets : List (List ℕ)) (numbers : List �
       let e = times_after kind sets numbers first settled period n some at full d k f in
       let i = numbered (n + j) (omega (arith, low, full)) in
       let h : first +ℤ pos (n + j) ≡ settled +ℤ pos j = omega (arith, ints, at) in
-      let p : k ≡ j + k / period * period = parts_of k period in
+      let p : k ≡ j + k / period * period = sym (mod-add-div' k period) in
       let g : d ≡ (settled +ℤ pos j) +ℤ pos (k / period * period) = omega (arith, ints, f, p) in
       subst (λ x. IsSetOf nat_lt x (λ s. IsTrue (stands_at tree d s))) (sym e)
       (set_same nat_lt (λ s. IsTrue (stands_at tree (settled +ℤ pos j) s)) (λ s. IsTrue (stands_at tree d s)) (get_or sets (get_or numbers (n + j) 0) [])

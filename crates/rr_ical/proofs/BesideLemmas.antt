@@ -9,9 +9,12 @@ use Rattle.std.proofs.lemmas.List.Elements.{All-nil, All-push}
 use Rattle.rr_model.specs.Moment.{is_same_kind}
 use Rattle.rr_model.specs.Moment.Years.{IsInYears, is_in_years}
 use Rattle.rr_model.specs.Rising.{Rises}
+use Rattle.rr_model.specs.Rule.Validity.{HasCountInRange, EndsInYears}
+use Rattle.rr_model.specs.Text.Calendars.{end_at, end_beside}
 use Rattle.rr_model.specs.Text.Moments.{basic}
 use Rattle.rr_model.specs.Text.Passes.{Stated, Beside, Event, Language, nothing_read, nothing_beside, turned, moment_beside, date_value, date_beside, put_date}
 use Rattle.rr_model.specs.Text.Passes.{put_rule, with_date, with_line, with_rule, first_pass, second_pass, unless_stopped, passes}
+use Rattle.rr_model.specs.Text.RuleValues.{◌>>=◌}
 use Rattle.rr_model.specs.Text.Rules.{has_time}
 use Rattle.rr_model.specs.Text.UsedLines.{trim}
 use Rattle.rr_model.specs.declared.kind.Kind.{Kind}
@@ -19,6 +22,8 @@ use Rattle.rr_model.specs.declared.kind.Kind.TheVariants.{Days, Moments}
 use Rattle.rr_model.specs.declared.pass.FirstPass.{FirstPass}
 use Rattle.rr_model.specs.declared.refusal.Refusal.{Refusal}
 use Rattle.rr_model.specs.declared.refusal.Refusal.TheVariants.{NoStart, BadMoment, MixedKinds}
+use Rattle.rr_model.specs.declared.rule.End.{End}
+use Rattle.rr_model.specs.declared.rule.End.TheVariants.{Never, Until, Count, Both}
 use Rattle.rr_model.specs.declared.stamp.Stamp.{Stamp}
 use Rattle.rr_model.specs.declared.used.LineName.{LineName}
 use Rattle.rr_model.specs.declared.used.LineName.TheVariants.{Dtstart, Rrule, Rdate, Exdate, Exrule}
@@ -161,6 +166,38 @@ module _ {R : Type 0} (language : Language R) (rule_beside : ℕ → Stated R �
       in_turn-keeps (λ b (line : UsedLine). with_line language rule_beside offset start line.number line.name b line.value) IsValidHere
       (λ b line z v h. with_line-valid line.number line.name b line.value z v h) nothing_beside lines beside (nothing-valid IsGood start.kind)
 
+-- ---- the end beside the start
+
+-- an end moment of the end has this kind
+abbrev pub EndsAt : Kind → End → Type 0
+EndsAt kind (Until other at) = other ≡ kind
+EndsAt kind (Both other at n) = other ≡ kind
+EndsAt kind end = Unit {0}
+
+-- the end moment that is stated is the end's, where there is one
+abbrev pub FitsUntil : Option Stamp → End → Type 0
+FitsUntil None end = EndsInYears end
+FitsUntil (Some stamp) end = IsStamp stamp × EndsAt stamp.kind end
+
+module _ (offset : Option ℤ) (start : Stamp) where
+  end_at-valid : (kind : Kind) (end : End) (at : ℤ) → EndsAt kind end → IsInYears kind at → HasCountInRange end
+      → HasCountInRange (end_at end at) × EndsInYears (end_at end at)
+  end_at-valid kind Never at k y c = (tt, tt)
+  end_at-valid kind (Count n) at k y c = (c, tt)
+  end_at-valid kind (Until other t) at k y c = (tt, subst (λ (o : Kind). IsInYears o at) (sym k) y)
+  end_at-valid kind (Both other t n) at k y c = (c, subst (λ (o : Kind). IsInYears o at) (sym k) y)
+
+  pub end_beside-valid : (line : ℕ) (until : Option Stamp) (end next : End) → FitsUntil until end → HasCountInRange end
+      → end_beside offset start line until end ≡ Ok next → HasCountInRange next × EndsInYears next
+  end_beside-valid line None end next fits count h =
+      let same : end ≡ next = cc in
+      subst (λ (x : End). HasCountInRange x × EndsInYears x) same (count, fits)
+  end_beside-valid line (Some stamp) end next fits count h =
+      let moment = and_then_ok (moment_beside offset start line stamp) (λ (at : ℤ). Ok (end_at end at)) next h in
+      let same : end_at end moment.0 ≡ next = cc in
+      let in_years = moment_beside-in_years offset start line stamp moment.0 fits.0 moment.1 in
+      subst (λ (x : End). HasCountInRange x × EndsInYears x) same (end_at-valid stamp.kind end moment.0 fits.1 in_years count)
+
 -- ---- the event
 
 -- the event has a start of the years 1 to 9999, few good rules and few dates
@@ -209,6 +246,15 @@ module _ {R : Type 0} (language : Language R) (rule_beside : Stamp → ℕ → S
       let first : first_pass language nothing_read scan.used ≡ Ok pass.0 = read.1 ∙ ap Ok (not_stopped scan.stop read.0 pass.0 pass.1) in
       subst (IsReadEvent IsGood) same
       (event-valid offset start.0 scan.used pass.0 beside.0 first (ok_or_ok pass.0.start NoStart start.0 start.1) beside.1)
+
+  -- what is made of an event that is read is valid, where it is so of each such event
+  pub read-valid : {S : Type 0} (made_of : Event R → S) (IsValid : S → Type 0) → ((event : Event R) → IsReadEvent IsGood event → IsValid (made_of event))
+      → (offset : Option ℤ) (scan : Scan) (made : S) → (passes language rule_beside offset scan >>= λ event. Ok (made_of event)) ≡ Ok made
+      → IsValid made
+  read-valid made_of IsValid valid offset scan made h =
+      let event = and_then_ok (passes language rule_beside offset scan) (λ (e : Event R). Ok (made_of e)) made h in
+      let same : made_of event.0 ≡ made = cc in
+      subst IsValid same (valid event.0 (passes-valid offset scan event.0 event.1))
 
 pub same_kind : (kind : Kind) → is_same_kind kind kind ≡ true
 same_kind Days = refl

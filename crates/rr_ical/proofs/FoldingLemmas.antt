@@ -25,7 +25,7 @@ abbrev with_texts : List (List ℕ) → List (List ℕ) → List (List ℕ)
 with_texts ts [] = ts
 with_texts ts (text ∷ texts) = with_texts (with_text ts text) texts
 
-abbrev texts_of : List Line → List (List ℕ)
+abbrev pub texts_of : List Line → List (List ℕ)
 texts_of lines = map (λ (line : Line). line.text) lines
 
 longer-of : (lines : List Line) (text : List ℕ) → texts_of (onto_last lines text) ≡ longer (texts_of lines) text

@@ -1,10 +1,10 @@
 -- Lines that are written are the used lines of the event that is read (RFC 5545, sections 3.1 and 3.6).
-use Rattle.std.proofs.Common.{◌≡◌, ℕ, true, false, List, [], ◌∷◌, ◌++◌, length, take, map, None, Some, Result, Ok, refl, ap, ◌∙◌}
+use Rattle.std.proofs.Common.{◌≡◌, ℕ, Bool, true, false, List, [], ◌∷◌, ◌++◌, length, take, map, None, Some, Result, Ok, refl, ap, ◌∙◌}
 use Rattle.std.specs.Prelude.{not, codes}
 use Rattle.std.specs.List.{list_all, list_any, AllByRecursion}
 use Rattle.std.specs.Str.{is_utf8}
 use Rattle.rr_model.specs.Text.Event.{Left, left, left_by, no_components, used_line, after_used, scan_from, scanned, is_bare_text, event_scan}
-use Rattle.rr_model.specs.Text.Lines.{physical_lines, begins_blank}
+use Rattle.rr_model.specs.Text.Lines.{physical_lines, begins_blank, unfolded_lines}
 use Rattle.rr_model.specs.Text.UsedLines.{is_named, value_of_line, line_kind, trim}
 use Rattle.rr_model.specs.Text.Written.{folded_line, lines_of, value_type}
 use Rattle.rr_model.specs.declared.kind.Kind.{Kind}
@@ -25,21 +25,70 @@ pub record WrittenLine : Type 0 where
   pub name : LineName
   pub value : List ℕ
 
--- it is a line of this name with this value
-pub record IsPropertyLine (line : WrittenLine) : Type 0 where
+-- it states this property, and begins no component
+pub record StatesProperty (line : WrittenLine) : Type 0 where
   pub kind : line_kind line.text ≡ Property line.name
   pub stated : value_of_line line.text ≡ Some line.value
   pub no_begin : is_named line.text (codes "BEGIN") ≡ false
+
+-- it does so, can be folded and unfolded, and has only bytes of a line
+pub record IsPropertyLine (line : WrittenLine) : Type 0 where
+  pub states : StatesProperty line
   pub no_blank : begins_blank (take 75 line.text) ≡ false
   pub bytes : list_all is_line_byte line.text ≡ true
 
 abbrev pub texts_of : List WrittenLine → List (List ℕ)
 texts_of lines = map (λ (l : WrittenLine). l.text) lines
 
--- the used lines that they are, the first of this number
+-- ---- the scan
+
+left_by-property : (k : ℕ) (l : WrittenLine) → StatesProperty l
+    → left_by true no_components (record { number = k; text = l.text }) ≡ Ok (left no_components (Some (used_line k l.name l.value)))
+unfolding left_by
+left_by-property k l h = rw (h.kind, h.stated) refl
+
+-- Each x is written as a line, and `after` gives the number that comes after that of a line with this text.
+module _ {X : Type 0} (line_of : X → WrittenLine) (after : ℕ → List ℕ → ℕ) where
+  -- the lines of a text, the first of this number
+  abbrev pub lines_from : ℕ → List X → List Line
+  lines_from k [] = []
+  lines_from k (x ∷ xs) = record { number = k; text = (line_of x).text } ∷ lines_from (after k (line_of x).text) xs
+
+  -- the used lines that they are
+  abbrev pub used_lines_from : ℕ → List X → List UsedLine
+  used_lines_from k [] = []
+  used_lines_from k (x ∷ xs) = used_line k (line_of x).name (line_of x).value ∷ used_lines_from (after k (line_of x).text) xs
+
+  module _ (P : X → Type 0) (states : (x : X) → P x → StatesProperty (line_of x)) where
+    scanned-written : (k last : ℕ) (xs : List X) → AllByRecursion P xs
+        → scanned true last no_components (lines_from k xs) ≡ record { used = used_lines_from k xs; stop = None }
+    scanned-written k last [] h = refl
+    scanned-written k last (x ∷ xs) h =
+        ap (λ (m : Result Left Refusal). scan_from m (λ next. scanned true last next (lines_from (after k (line_of x).text) xs)))
+        (left_by-property k (line_of x) (states x h.0))
+        ∙ ap (after_used (Some (used_line k (line_of x).name (line_of x).value))) (scanned-written (after k (line_of x).text) last xs h.1)
+
+    no_begins : (k : ℕ) (xs : List X) → AllByRecursion P xs
+        → list_any (λ (l : Line). is_named l.text (codes "BEGIN")) (lines_from k xs) ≡ false
+    no_begins k [] h = refl
+    no_begins k (x ∷ xs) h =
+        let is = states x h.0 in
+        rw is.no_begin (no_begins (after k (line_of x).text) xs h.1)
+
+    -- where these are the lines of a text, all are used, and nothing stops their reading
+    pub event_scan-written : (keeps_blank : Bool) (bytes : List ℕ) (xs : List X) → unfolded_lines keeps_blank bytes ≡ lines_from 1 xs → AllByRecursion P xs
+        → event_scan keeps_blank bytes ≡ record { used = used_lines_from 1 xs; stop = None }
+    unfolding event_scan
+    event_scan-written keeps_blank bytes xs e h =
+        ap (λ (ls : List Line). scanned (is_bare_text ls) (length (physical_lines bytes)) no_components ls) e
+        ∙ ap (λ b. scanned (not b) (length (physical_lines bytes)) no_components (lines_from 1 xs)) (no_begins 1 xs h)
+        ∙ scanned-written 1 (length (physical_lines bytes)) xs h
+
+-- ---- folded lines
+
+-- the used lines that folded lines are, the first of this number
 abbrev pub used_from : ℕ → List WrittenLine → List UsedLine
-used_from k [] = []
-used_from k (l ∷ ls) = used_line k l.name l.value ∷ used_from (number_after k l.text) ls
+used_from k lines = used_lines_from (λ (l : WrittenLine). l) number_after k lines
 
 -- the number of the line after them
 abbrev pub number_behind : ℕ → List WrittenLine → ℕ
@@ -50,40 +99,20 @@ pub used_from-append : (k : ℕ) (ls ms : List WrittenLine) → used_from k (ls 
 used_from-append k [] ms = refl
 used_from-append k (l ∷ ls) ms = ap (λ (us : List UsedLine). used_line k l.name l.value ∷ us) (used_from-append (number_after k l.text) ls ms)
 
--- ---- the scan
-
-left_by-property : (k : ℕ) (l : WrittenLine) → IsPropertyLine l
-    → left_by true no_components (record { number = k; text = l.text }) ≡ Ok (left no_components (Some (used_line k l.name l.value)))
-unfolding left_by
-left_by-property k l h = rw (h.kind, h.stated) refl
-
-scanned-written : (k last : ℕ) (lines : List WrittenLine) → AllByRecursion IsPropertyLine lines
-    → scanned true last no_components (numbered k (texts_of lines)) ≡ record { used = used_from k lines; stop = None }
-scanned-written k last [] h = refl
-scanned-written k last (l ∷ ls) h =
-    ap (λ (m : Result Left Refusal). scan_from m (λ after. scanned true last after (numbered (number_after k l.text) (texts_of ls))))
-    (left_by-property k l h.0)
-    ∙ ap (after_used (Some (used_line k l.name l.value))) (scanned-written (number_after k l.text) last ls h.1)
-
-no_begins : (k : ℕ) (lines : List WrittenLine) → AllByRecursion IsPropertyLine lines
-    → list_any (λ (l : Line). is_named l.text (codes "BEGIN")) (numbered k (texts_of lines)) ≡ false
-no_begins k [] h = refl
-no_begins k (l ∷ ls) h = rw h.0.no_begin (no_begins (number_after k l.text) ls h.1)
+numbered-texts : (k : ℕ) (lines : List WrittenLine) → numbered k (texts_of lines) ≡ lines_from (λ (l : WrittenLine). l) number_after k lines
+numbered-texts k [] = refl
+numbered-texts k (l ∷ ls) = ap (λ (rest : List Line). record { number = k; text = l.text } ∷ rest) (numbered-texts (number_after k l.text) ls)
 
 are_lines : (lines : List WrittenLine) → AllByRecursion IsPropertyLine lines → AreLines (texts_of lines)
 are_lines [] h = tt
 are_lines (l ∷ ls) h = (unbroken-plain l.text h.0.bytes, h.0.no_blank, are_lines ls h.1)
 
 -- Lines that are folded and written one after the other are all used, and nothing stops their reading.
-pub event_scan-written : (lines : List WrittenLine) → AllByRecursion IsPropertyLine lines
+pub event_scan-folded : (lines : List WrittenLine) → AllByRecursion IsPropertyLine lines
     → event_scan false (lines_of folded_line (texts_of lines)) ≡ record { used = used_from 1 lines; stop = None }
-unfolding event_scan
-event_scan-written lines h =
-    let bytes = lines_of folded_line (texts_of lines) in
-    ap (λ (ls : List Line). scanned (is_bare_text ls) (length (physical_lines bytes)) no_components ls)
-    (folded_lines_unfold (texts_of lines) (are_lines lines h))
-    ∙ ap (λ b. scanned (not b) (length (physical_lines bytes)) no_components (numbered 1 (texts_of lines))) (no_begins 1 lines h)
-    ∙ scanned-written 1 (length (physical_lines bytes)) lines h
+event_scan-folded lines h =
+    event_scan-written (λ (l : WrittenLine). l) number_after IsPropertyLine (λ l is. is.states) false (lines_of folded_line (texts_of lines)) lines
+    (folded_lines_unfold (texts_of lines) (are_lines lines h) ∙ numbered-texts 1 lines) h
 
 all_bytes : (lines : List WrittenLine) → AllByRecursion IsPropertyLine lines
     → AllByRecursion (λ (t : List ℕ). list_all is_line_byte t ≡ true) (texts_of lines)
@@ -107,9 +136,7 @@ pub record IsFront (front : List ℕ) (name : LineName) : Type 0 where
 pub IsPropertyLine-from : (front value : List ℕ) (name : LineName) → IsFront front name → list_all is_line_byte value ≡ true
     → IsPropertyLine (record { text = front ++ value; name = name; value = value })
 IsPropertyLine-from front value name f plain = record {
-  kind = f.kind value;
-  stated = f.stated value ∙ ap Some (trim-plain value plain);
-  no_begin = f.no_begin value;
+  states = record { kind = f.kind value; stated = f.stated value ∙ ap Some (trim-plain value plain); no_begin = f.no_begin value };
   no_blank = f.no_blank value;
   bytes = list_all-both is_line_byte front value f.bytes plain;
 }

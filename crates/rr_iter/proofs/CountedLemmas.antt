@@ -2,7 +2,7 @@
 use Rattle.std.proofs.Common.{◌≡◌, ℕ, zero, suc, ◌+◌, ◌*◌, ◌-◌, ◌/◌, ◌<◌, ◌≤◌, Bool, ℤ, pos, nat_abs, ◌+ℤ◌, ◌-ℤ◌, ◌≤ℤ◌, ◌<ℤ◌, refl, ap}
 use Rattle.std.proofs.Common.{arith}
 use Rattle.std.proofs.lemmas.Int.{ints, by_lt_z}
-use Rattle.std.proofs.Math.Nat.{div-mul-le_self, le-div_iff_mul-le, div-lt_iff_lt-mul}
+use Rattle.std.proofs.Math.Nat.{div-mul-le_self, le-div_iff_mul-le, div-lt_iff_lt-mul, le-mul_of_pos_right}
 use Rattle.std.proofs.lemmas.Nat.Gcd.{dvd_refl}
 use Rattle.rr_model.specs.Bounds.{first_day_of_all}
 use Rattle.rr_model.specs.Calendar.{first_day_of_year}
@@ -22,10 +22,6 @@ use Rattle.rr_lazy.proofs.CycleCountLemmas.{cycles_and_days, days_split}
 use Rattle.rr_iter.specs.Ends.{HasNumberOn, IsSoundRule, before_day, up_to_cycle}
 use Rattle.rr_walk.proofs.StepLemmas.{before_start}
 use Rattle.rr_iter.proofs.RepeatLemmas.{chosen_later}
-
-many_cycles : (k c : ℕ) → 1 ≤ c → k ≤ k * c
-many_cycles k zero l = absurd (omega (arith, l))
-many_cycles k (suc c) l = omega arith
 
 -- ---- a number of days
 
@@ -194,7 +190,7 @@ module _ (kind : Kind) (start : ℤ) (rule : Rule) (sound : IsSoundRule kind sta
       pub rule_number_never : each ≡ 0 → before_day (chosen_of rule kind start) (day_part kind start +ℤ pos 16_777_217) < count
       rule_number_never none =
           let k : ℕ = 16_777_217 in
-          let far : k ≤ k * rule_cycle rule = many_cycles k (rule_cycle rule) cycle_some in
+          let far : k ≤ k * rule_cycle rule = le-mul_of_pos_right k cycle_some in
           let nothing : k * each ≡ 0 = omega (arith, none) in
           number_after (chosen_of rule kind start) (day_part kind start) (rule_cycle rule) each start_begun repeats one
           k (k * rule_cycle rule) (k * each) count left refl refl counted (omega (arith, nothing, some))

@@ -1,23 +1,16 @@
 -- What is known by a table of sets is known by one that goes on.
-use Rattle.std.specs.Prelude.{◌≡◌, ℕ, ◌<◌, ◌≤◌, List, [], length, get_or, take, Option, Some, None, refl, ℤ}
+use Rattle.std.specs.Prelude.{◌≡◌, ℕ, ◌≤◌, List, [], length, get_or, take, Option, Some, None, refl, ℤ}
 use Rattle.std.specs.List.{All}
 use Rattle.std.specs.Option.{ForSome}
 use Rattle.std.proofs.Common.{ap, sym, subst}
-use Rattle.std.proofs.lemmas.Option.{get_or_from_slice_get, slice_get-get_or, slice_get_within}
 use Rattle.rr_model.specs.Sets.Tree.{Tree}
 use Rattle.rr_model.specs.declared.kind.Kind.{Kind}
 use Rattle.rr_shapes.specs.Tables.{Extends}
+use Rattle.rr_shapes.proofs.TableLemmas.{same_set}
 use Rattle.rr_lazy.specs.declared.occupied_day.OccupiedDay.{OccupiedDay}
 use Rattle.rr_lazy.specs.Ahead.{IsAhead, IsAheadIn, seen}
 use Rattle.rr_lazy.specs.Next.{IsInTable, with_set}
 use Rattle.rr_lazy.specs.Stretch.{KnowsPart}
-
--- a number has the same set in a table that goes on
-pub same_set : (old new : List (List ℕ)) (number : ℕ) → Extends old new → number < length old
-    → (number < length new) × (get_or new number [] ≡ get_or old number [])
-same_set old new number more l =
-    let at = more number (get_or old number []) (slice_get-get_or old number [] l) in
-    (slice_get_within new number (get_or old number []) at, get_or_from_slice_get new number (get_or old number []) [] at)
 
 -- a day has the same seconds in a table that goes on
 pub same_day : (old new : List (List ℕ)) (found : OccupiedDay) → Extends old new → IsInTable old found

@@ -39,5 +39,6 @@ pub mod WithValueLemmas
 pub mod YearOneLemmas
 pub mod TestLemmas
 pub mod SideLemmas
+pub mod EqualLemmas
 pub mod DividesLemmas
 pub mod BackLemmas

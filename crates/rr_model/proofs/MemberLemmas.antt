@@ -1,6 +1,7 @@
 -- The test of a rule's members says what membership says.
-use Rattle.std.proofs.Common.{◌≡◌, ◌↔◌, ℕ, nat_le, ◌≤◌, Bool, true, false, ◌&&◌, ℤ, ◌≤ℤ◌, refl, arith}
+use Rattle.std.proofs.Common.{◌≡◌, ◌↔◌, ℕ, nat_le, ◌≤◌, ◌&&◌, ℤ, ◌≤ℤ◌, refl, arith}
 use Rattle.std.specs.Prelude.{IsTrue, int_le}
+use Rattle.std.specs.Cmp.Derive.{both_true}
 use Rattle.std.proofs.lemmas.Bool.{false≢true, and_parts}
 use Rattle.std.proofs.lemmas.Bool.Decides.{nat_tests}
 use Rattle.std.proofs.lemmas.Int.{ints}
@@ -20,11 +21,6 @@ same_kind_is Moments Days = (λ h. absurd (false≢true h), λ e. absurd (cc))
 
 -- ---- ends, as tests
 
-both_true : (a b : Bool) → IsTrue a → IsTrue b → IsTrue (a && b)
-both_true true true h l = refl
-both_true true false h l = absurd (false≢true l)
-both_true false b h l = absurd (false≢true h)
-
 at_most : (n m : ℕ) → IsTrue (nat_le n m) ↔ (n ≤ m)
 at_most n m = (λ h. grind (arith, nat_tests, h), λ h. grind (arith, nat_tests, h))
 
@@ -34,7 +30,7 @@ not_after t u = (λ h. grind (arith, ints, h), λ h. grind (arith, ints, h))
 until_is : (other : Kind) (at : ℤ) (kind : Kind) (t : ℤ) → IsTrue (is_until other at kind t) ↔ ((other ≡ kind) × (t ≤ℤ at))
 until_is other at kind t = (
   λ h. (let p = and_parts (is_same_kind other kind) (int_le t at) h in ((same_kind_is other kind).0 p.0, (not_after t at).0 p.1)),
-  λ h. both_true (is_same_kind other kind) (int_le t at) ((same_kind_is other kind).1 h.0) ((not_after t at).1 h.1),
+  λ h. both_true {s = is_same_kind other kind} {t = int_le t at} ((same_kind_is other kind).1 h.0) ((not_after t at).1 h.1),
 )
 
 pub within_end_is : (end : End) (kind : Kind) (t : ℤ) (number : ℕ) → IsTrue (is_within_end end kind t number) ↔ IsWithinEnd end kind t number
@@ -46,7 +42,7 @@ within_end_is (Both other at count) kind t number = (
       let p = and_parts (is_until other at kind t) (nat_le number count) h in
       let u = (until_is other at kind t).0 p.0 in
       (u.0, u.1, (at_most number count).0 p.1)),
-  λ h. both_true (is_until other at kind t) (nat_le number count) ((until_is other at kind t).1 (h.0, h.1)) ((at_most number count).1 h.2),
+  λ h. both_true {s = is_until other at kind t} {t = nat_le number count} ((until_is other at kind t).1 (h.0, h.1)) ((at_most number count).1 h.2),
 )
 
 pub members_are_tested : MembersAreTested
@@ -58,7 +54,7 @@ members_are_tested rule kind start t =
           let p = and_parts from (is_within_end rule.end kind t n) h in
           let q = and_parts (is_chosen rule kind start t) (int_le start t) p.0 in
           record { chosen = q.0; not_before = (not_after start t).0 q.1; within_end = (within_end_is rule.end kind t n).0 p.1 }),
-      λ m. both_true from (is_within_end rule.end kind t n)
-          (both_true (is_chosen rule kind start t) (int_le start t) m.chosen ((not_after start t).1 m.not_before))
+      λ m. both_true {s = from} {t = is_within_end rule.end kind t n}
+          (both_true {s = is_chosen rule kind start t} {t = int_le start t} m.chosen ((not_after start t).1 m.not_before))
           ((within_end_is rule.end kind t n).1 m.within_end),
     )

@@ -1,5 +1,7 @@
--- Tests joined by 'and' and 'or', and which seconds a kind has.
-use Rattle.std.proofs.Common.{◌≡◌, ◌&&◌, ◌||◌, ◌==◌, ◌<◌, ◌≤◌, ℕ, Bool, true, false, refl, sym, arith}
+-- Tests joined by 'and' and 'or', of a number against itself, and which seconds a kind has.
+use Rattle.std.proofs.Common.{◌≡◌, ◌&&◌, ◌||◌, ◌==◌, ◌<◌, ◌≤◌, ℕ, ℤ, Bool, true, false, refl, sym, arith}
+use Rattle.std.specs.Ordering.{int_eq}
+use Rattle.std.proofs.lemmas.Int.{ints}
 use Rattle.std.proofs.lemmas.Bool.Decides.{nat_tests}
 use Rattle.rr_model.specs.Rule.DaysAndTimes.{seconds_of}
 use Rattle.rr_model.specs.Sets.Tree.{has_second}
@@ -28,8 +30,12 @@ without_or true true false = refl
 without_or true false c = refl
 without_or false b c = refl
 
+-- each number is equal to itself
 pub eqb-same : (n : ℕ) → (n == n) ≡ true
 eqb-same n = grind (arith, nat_tests)
+
+pub int_eq-same : (d : ℤ) → int_eq d d ≡ true
+int_eq-same d = grind (arith, ints)
 
 -- a day has the seconds of its kind
 pub has_second_is : (kind : Kind) (s : ℕ) → s < seconds_of kind → has_second kind s ≡ true

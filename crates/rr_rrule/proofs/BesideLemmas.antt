@@ -8,7 +8,7 @@ use Rattle.rr_model.specs.Series.Validity.{IsValidSeries}
 use Rattle.rr_model.specs.Text.Calendars.{end_beside, stated_rule, rule_beside, rrule_language, series_of_event, calendar_scan, calendar_text}
 use Rattle.rr_model.specs.Text.Event.{event_scan}
 use Rattle.rr_model.specs.Text.Lines.{without_mark}
-use Rattle.rr_model.specs.Text.Passes.{Stated, Event, passes}
+use Rattle.rr_model.specs.Text.Passes.{Stated, Event}
 use Rattle.rr_model.specs.Text.Rules.{rule_of, rule_parts}
 use Rattle.rr_model.specs.declared.kind.Kind.{Kind}
 use Rattle.rr_model.specs.declared.refusal.Fault.{Fault}
@@ -18,10 +18,10 @@ use Rattle.rr_model.specs.declared.rule.Series.{Series}
 use Rattle.rr_model.specs.declared.stamp.Stamp.{Stamp}
 use Rattle.rr_model.specs.declared.used.Scan.{Scan}
 use Rattle.rr_text.proofs.StepLemmas.{and_then_ok, passed}
-use Rattle.rr_ical.proofs.BesideLemmas.{IsReadEvent, passes-valid}
+use Rattle.rr_ical.proofs.BesideLemmas.{FitsUntil, end_beside-valid, IsReadEvent, read-valid}
 use Rattle.rr_rule_parts.proofs.ValidPartsLemmas.{rule_parts-valid}
 use Rattle.rr_model.proofs.WithEndLemmas.{with_end-valid}
-use Rattle.rr_rule_parts.proofs.ValidityLemmas.{IsValidBeside, FitsUntil, rule_of-valid, rule_of-fits, end_beside-valid}
+use Rattle.rr_rule_parts.proofs.ValidityLemmas.{IsValidBeside, rule_of-valid, rule_of-fits}
 
 -- ---- rules
 
@@ -46,7 +46,7 @@ module _ (offset : Option ℤ) (start : Stamp) where
       let taken = passed (takes_start stated.rule.freq start.kind) (Ok (record stated.rule { end = end.0 })) NotAllowed rule end.2 in
       let same : record stated.rule { end = end.0 } ≡ rule = cc in
       let valid = v.0.0 start.kind taken.0 in
-      let ends = end_beside-valid offset start line stated.until stated.rule.end end.0 v.1 (valid.count, v.0.1) end.1 in
+      let ends = end_beside-valid offset start line stated.until stated.rule.end end.0 v.1 valid.count end.1 in
       subst (λ (r : Rule). IsValidRule start.kind r × EndsInYears r.end) same (with_end-valid start.kind stated.rule end.0 valid ends.0, ends.1)
 
 -- ---- the series
@@ -76,11 +76,9 @@ series-valid event v =
 
 pub scan-valid : (offset : Option ℤ) (scan : Scan) (series : Series) → calendar_scan offset scan ≡ Ok series → IsValidSeries series
 scan-valid offset scan series h =
-    let event = and_then_ok (passes rrule_language (rule_beside offset) offset scan) (λ (e : Event Rule). Ok (series_of_event e)) series h in
-    let read = passes-valid rrule_language (rule_beside offset) IsGoodRule
-    (λ start line text stated rule s r. rule_beside-valid offset start line stated rule (stated_rule-valid line text stated s) r) offset scan event.0 event.1 in
-    let same : series_of_event event.0 ≡ series = cc in
-    subst IsValidSeries same (series-valid event.0 read)
+    read-valid rrule_language (rule_beside offset) IsGoodRule
+    (λ start line text stated rule s r. rule_beside-valid offset start line stated rule (stated_rule-valid line text stated s) r)
+    series_of_event IsValidSeries series-valid offset scan series h
 
 pub calendar-valid : (offset : Option ℤ) (bytes : List ℕ) (series : Series) → calendar_text offset bytes ≡ Ok series → IsValidSeries series
 unfolding calendar_text

@@ -1,5 +1,5 @@
 -- A text with a folded line states what the text does.
-use Rattle.std.proofs.Common.{◌≡◌, ℕ, ◌==◌, ◌&&◌, ◌||◌, not, Bool, true, false, if◌then◌else◌, List, [], ◌∷◌, ◌++◌, length, take, drop, map, option_map}
+use Rattle.std.proofs.Common.{◌≡◌, ℕ, ◌==◌, ◌&&◌, ◌||◌, not, Bool, true, false, if◌then◌else◌, List, [], ◌∷◌, ◌++◌, length, take, drop, option_map}
 use Rattle.std.proofs.Common.{Result, Ok, Err, Option, None, Some, refl, sym, ap, ◌∙◌, subst, ℤ}
 use Rattle.std.specs.Prelude.{codes, ok_or}
 use Rattle.std.specs.List.{list_any}
@@ -26,7 +26,7 @@ use Rattle.rr_model.specs.declared.used.LineName.{LineName}
 use Rattle.rr_model.specs.declared.used.Scan.{Scan}
 use Rattle.rr_model.specs.declared.used.UsedLine.{UsedLine}
 use Rattle.rr_ical.specs.LineLaws.{line_texts}
-use Rattle.rr_ical.proofs.FoldingLemmas.{folding_does_not_matter as folded_alike}
+use Rattle.rr_ical.proofs.FoldingLemmas.{folding_does_not_matter as folded_alike, texts_of}
 use Rattle.rr_rrule.specs.TextLaws.{HasNoMark, FoldingDoesNotMatter}
 use Rattle.rr_rrule.proofs.GivesLemmas.{Gives, gives-same, gives-err, gives-then, gives-ok_or, judged_line-gives, with_line-gives}
 use Rattle.rr_text.proofs.StepLemmas.{and_then_ok}
@@ -113,9 +113,6 @@ after_used-alike : (m : ℕ) (used : Option UsedLine) (scan other : Scan) → Is
     → IsAlike (after_used used scan) (after_used (option_map (renumbered m) used) other)
 after_used-alike m None scan other alike = record { used = alike.used; stop = alike.stop }
 after_used-alike m (Some line) scan other alike = record { used = (refl, refl, alike.used); stop = alike.stop }
-
-abbrev texts_of : List Line → List (List ℕ)
-texts_of lines = map (λ (line : Line). line.text) lines
 
 ends-alike : (last other_last : ℕ) (components : Components) → stop_at_end last components ≡ None → stop_at_end other_last components ≡ None
 ends-alike last other_last components h = by (is_absent components.open_names) h

@@ -29,7 +29,7 @@ use Rattle.rr_text.proofs.FoldedLineLemmas.{number_after}
 use Rattle.rr_text.proofs.WrittenLemmas.{basic-written}
 use Rattle.rr_text.proofs.WrittenListLemmas.{IsAbove}
 use Rattle.rr_text.proofs.WrittenValueLemmas.{int_lt-transitive}
-use Rattle.rr_ical.proofs.WrittenLineLemmas.{WrittenLine, IsPropertyLine, texts_of, used_from, number_behind, event_scan-written, written_lines-utf8}
+use Rattle.rr_ical.proofs.WrittenLineLemmas.{WrittenLine, IsPropertyLine, texts_of, used_from, number_behind, event_scan-folded, written_lines-utf8}
 use Rattle.rr_ical.proofs.WrittenLineLemmas.{IsPropertyLine-from, date_front, start_front, plus_front, minus_front, rule_front, excluded_rule_front}
 use Rattle.rr_rrule.proofs.WrittenPassLemmas.{lines_first, lines_each, stamp_of, dated, date_bytes, passed, first_step, HasRoom, dates_so_far, plus_judged}
 use Rattle.rr_rrule.proofs.WrittenPassLemmas.{minus_judged, IsWritable, ruled, AreFew, rules_so_far, rule_judged, excluded_judged, second_step, rules_beside, rule_put, excluded_beside, excluded_put, GoOn}
@@ -311,5 +311,5 @@ calendar_is_read_back series v counts one out =
     ap (reads_calendar None) (written_lines series counts)
     ∙ ap (λ b. if b then calendar_text None bytes else Err NotText) (written_lines-utf8 lines are)
     ∙ ap (λ (t : List ℕ). calendar_scan None (event_scan false t)) (begins series.kind series.start _)
-    ∙ ap (calendar_scan None) (event_scan-written lines are)
+    ∙ ap (calendar_scan None) (event_scan-folded lines are)
     ∙ scan-written series w counts

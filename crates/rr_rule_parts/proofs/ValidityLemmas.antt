@@ -1,10 +1,8 @@
 -- A rule that is read is valid beside a start that it takes.
-use Rattle.std.proofs.Common.{◌≡◌, ℕ, ◌<◌, ◌≤◌, Option, None, Some, Ok, ℤ, subst, sym, ap, ◌∙◌, arith}
+use Rattle.std.proofs.Common.{◌≡◌, ℕ, ◌<◌, ◌≤◌, Option, None, Some, Ok, refl, subst, arith}
 use Rattle.std.specs.Prelude.{IsTrue, unwrap_or, ok_or}
 use Rattle.std.specs.Option.{IfSome}
 use Rattle.rr_model.specs.Rule.Validity.{IsCount, HasCountInRange, is_allowed, takes_start, IsValidRule, EndsInYears}
-use Rattle.rr_model.specs.Text.Calendars.{end_at, end_beside}
-use Rattle.rr_model.specs.Text.Passes.{moment_beside}
 use Rattle.rr_model.specs.Text.Rules.{end_of, rule_with, rule_of}
 use Rattle.rr_model.specs.declared.kind.Kind.{Kind}
 use Rattle.rr_model.specs.declared.refusal.Refusal.TheVariants.{BadRule, NotAllowed}
@@ -16,7 +14,7 @@ use Rattle.rr_model.specs.declared.rule_parts.RuleParts.{RuleParts}
 use Rattle.rr_model.specs.declared.stamp.Stamp.{Stamp}
 use Rattle.rr_text.proofs.StepLemmas.{and_then_ok, passed, unwrap_or-keeps}
 use Rattle.rr_text.specs.Stamps.{IsStamp}
-use Rattle.rr_ical.proofs.BesideLemmas.{moment_beside-in_years}
+use Rattle.rr_ical.proofs.BesideLemmas.{FitsUntil}
 use Rattle.rr_rule_parts.proofs.ValidPartsLemmas.{ArePartsValid}
 
 -- ---- the rule
@@ -87,16 +85,16 @@ rule_of-valid line parts rule v h =
 
 -- ---- the end as UNTIL states it
 
--- a moment of UNTIL is the rule's end
-abbrev pub FitsUntil : Option Stamp → End → Type 0
-FitsUntil None end = Unit {0}
-FitsUntil (Some stamp) end = IsStamp stamp × (end ≡ Until stamp.kind stamp.at)
-
 pub end_of-fits : (until : Option Stamp) (count : Option ℕ) (end : End) → IfSome until IsStamp → end_of until count ≡ Ok end → FitsUntil until end
-end_of-fits None count end u h = tt
+end_of-fits None None end u h =
+    let e : Never ≡ end = cc in
+    subst (λ x. FitsUntil None x) e tt
+end_of-fits None (Some n) end u h =
+    let e : Count n ≡ end = cc in
+    subst (λ x. FitsUntil None x) e tt
 end_of-fits (Some stamp) None end u h =
     let e : Until stamp.kind stamp.at ≡ end = cc in
-    (u, sym e)
+    subst (λ x. FitsUntil (Some stamp) x) e (u, refl)
 end_of-fits (Some stamp) (Some n) end u h = absurd (cc)
 
 pub rule_of-fits : (line : ℕ) (parts : RuleParts) (rule : Rule) → IfSome parts.until IsStamp → rule_of line parts ≡ Ok rule → FitsUntil parts.until rule.end
@@ -107,18 +105,3 @@ rule_of-fits line parts rule u h =
     let allowed = passed (is_allowed (rule_with freq.0 end.0 parts)) (Ok (rule_with freq.0 end.0 parts)) NotAllowed rule end.2 in
     let same : rule_with freq.0 end.0 parts ≡ rule = cc in
     subst (λ (r : Rule). FitsUntil parts.until r.end) same (end_of-fits parts.until parts.count end.0 u end.1)
-
--- ---- the end beside the start
-
-module _ (offset : Option ℤ) (start : Stamp) where
-  pub end_beside-valid : (line : ℕ) (until : Option Stamp) (end next : End) → FitsUntil until end → HasCountInRange end × EndsInYears end
-      → end_beside offset start line until end ≡ Ok next
-      → HasCountInRange next × EndsInYears next
-  end_beside-valid line None end next fits v h =
-      let same : end ≡ next = cc in
-      subst (λ (x : End). HasCountInRange x × EndsInYears x) same v
-  end_beside-valid line (Some stamp) end next fits v h =
-      let moment = and_then_ok (moment_beside offset start line stamp) (λ (at : ℤ). Ok (end_at end at)) next h in
-      let at : end_at end moment.0 ≡ next = cc in
-      let same : Until stamp.kind moment.0 ≡ next = ap (λ (x : End). end_at x moment.0) (sym fits.1) ∙ at in
-      subst (λ (x : End). HasCountInRange x × EndsInYears x) same (tt, moment_beside-in_years offset start line stamp moment.0 fits.0 moment.1)

@@ -137,8 +137,8 @@ inserted_numbering sets new times numbering e distinct day = record {
     by false = All-push IsSecondsOfDay sets times numbering.of_day day
 
 -- a set that is placed leaves the others where they are
-pub placed_extends : (old new : List (List ℕ)) (times : List ℕ) (number : ℕ) → IsPlaced times old new number → Extends old new
-placed_extends old new times number placed = by (list_any (same times) old) refl
+pub placed_extends : (times : List ℕ) (old new : List (List ℕ)) (number : ℕ) → IsPlaced times old new number → Extends old new
+placed_extends times old new number placed = by (list_any (same times) old) refl
   where
     by : (b : Bool) → list_any (same times) old ≡ b → Extends old new
     by true known =
@@ -149,7 +149,7 @@ placed_extends old new times number placed = by (list_any (same times) old) refl
 -- a list to which a set was not added, since memory ran out, extends the old one
 pub interned_extends : {E : Type 0} (result : Result ℕ E) (old new : List (List ℕ)) (times : List ℕ) → IfOk result (IsPlaced times old new)
     → OnErr result (new ≡ old) → Extends old new
-interned_extends (Ok number) old new times placed same_sets = placed_extends old new times number placed
+interned_extends (Ok number) old new times placed same_sets = placed_extends times old new number placed
 interned_extends (Err e) old new times placed same_sets = subst (Extends old) (sym same_sets) (λ _ _ at. at)
 
 -- the number of a set is one of those before it, or the next one

@@ -16,6 +16,11 @@ module _ (old new : List (List ℕ)) (grows : Extends old new) (number : ℕ) (w
   pub kept_number : number < length new
   kept_number = slice_get_within new number (get_or old number []) (grows number (get_or old number []) (slice_get-get_or old number [] within))
 
+-- a number of the old table is one of the new, and has the same set
+pub same_set : (old new : List (List ℕ)) (number : ℕ) → Extends old new → number < length old
+    → (number < length new) × (get_or new number [] ≡ get_or old number [])
+same_set old new number grows within = (kept_number old new grows number within, kept_set old new grows number within)
+
 -- a union of the old table is one of the new
 pub kept_union : (old new : List (List ℕ)) (known : Pair × ℕ) → Extends old new → IsUnion old known → IsUnion new known
 kept_union old new known grows union = record {

@@ -34,14 +34,14 @@ use Rattle.rr_model.specs.declared.rule_parts.RuleParts.{RuleParts}
 use Rattle.rr_model.specs.declared.stamp.Stamp.{Stamp}
 use Rattle.rr_model.specs.declared.used.Scan.{Scan}
 use Rattle.rr_check.proofs.SoundnessLemmas.{end_fits}
-use Rattle.rr_ical.proofs.BesideLemmas.{IsReadEvent, passes-valid}
+use Rattle.rr_ical.proofs.BesideLemmas.{FitsUntil, end_beside-valid, IsReadEvent, passes-valid}
 use Rattle.rr_ical.proofs.PassLemmas.{in_turn-keeps}
 use Rattle.rr_text.proofs.StepLemmas.{and_then_ok, step_keeps, passed, not_refused}
 use Rattle.rr_rule_parts.proofs.BoundsLemmas.{All-list_of, number_within-counts}
 use Rattle.rr_rule_parts.proofs.ValidPartsLemmas.{ArePartsValid, no_parts-valid, with_part_value-valid}
 use Rattle.rr_rule_parts.proofs.ValidRisingLemmas.{Rises-list_of}
 use Rattle.rr_model.proofs.WithEndLemmas.{with_end-valid}
-use Rattle.rr_rule_parts.proofs.ValidityLemmas.{IsValidBeside, FitsUntil, end_of-valid, rule_with-valid, end_of-fits, end_beside-valid}
+use Rattle.rr_rule_parts.proofs.ValidityLemmas.{IsValidBeside, end_of-valid, rule_with-valid, end_of-fits}
 use Rattle.rr_skip.specs.Months.{is_skip_chosen}
 use Rattle.rr_skip.specs.Parts.{is_taken, taken_part, scale_part_named, has_scale_part, with_scale, is_scale_name, skip_named, front_day, front_days, with_taken_value, with_scale_value}
 use Rattle.rr_skip.specs.Parts.{with_scale_part, no_scale_parts, scale_parts_of, is_scaled, skip_rule_of, scale_parts}
@@ -323,7 +323,7 @@ unfolding skip_rule_beside
 beside-read offset start line stated rule r h =
     let end = and_then_ok (end_beside offset start line stated.until stated.rule.rule.end) _ rule h in
     let valid = r.valid.0 start.kind (starts stated.rule.rule.freq start.kind r.freq) in
-    let ends = end_beside-valid offset start line stated.until stated.rule.rule.end end.0 r.until (valid.count, r.valid.1) end.1 in
+    let ends = end_beside-valid offset start line stated.until stated.rule.rule.end end.0 r.until valid.count end.1 in
     let same : record stated.rule { rule = record stated.rule.rule { end = end.0 } } ≡ rule = cc in
     subst (IsReadBeside start.kind) same (record {
       valid = with_end-valid start.kind stated.rule.rule end.0 valid ends.0;

@@ -8,7 +8,7 @@ use Rattle.std.proofs.lemmas.Bool.Decides.{nat_tests}
 use Rattle.std.proofs.lemmas.List.{length_push, get_or_append_left, get_or_push}
 use Rattle.std.proofs.Math.Bool.{and-true}
 use Rattle.std.proofs.lemmas.Nat.Gcd.{dvd_refl}
-use Rattle.std.proofs.Math.Nat.{dvd-mul_left}
+use Rattle.std.proofs.Math.Nat.{dvd-mul_left, le-mul_of_pos_right}
 use Prim.Native.Nat.{◌∣◌}
 use Rattle.rr_model.specs.Whole.Count.{count_from}
 use Rattle.rr_model.specs.Moment.{day_part, second_part, moment_at}
@@ -73,10 +73,6 @@ at_moment Days start d = (refl, refl)
 at_moment Moments start d =
     let low = floor_mod_below start 86_400 (omega arith) in
     (day_part-moment_at d (second_part Moments start) low, second_part-moment_at d (second_part Moments start) low)
-
-many_cycles : (m c : ℕ) → 1 ≤ c → m ≤ m * c
-many_cycles m (suc c) l = omega arith
-many_cycles m zero l = absurd (omega arith)
 
 -- a walk that may choose more than it has days walks them all
 pub walked_all : (p : ℤ → Bool) (first : ℤ) (end most : ℕ) (walk : Walk) → IsWalked p first end most walk → end < most → length walk.numbers.items ≡ end
@@ -265,7 +261,7 @@ module _ (rule : SkipRule) (kind : Kind) (start : ℤ) where
         let span : ℕ = MAX_SPAN_DAYS + 1 in
         let c = rule_cycle rule.rule in
         let own : chosen first ≡ true = sym (chosen_at rule kind start start refl) ∙ fits.synchronised in
-        let long = many_cycles span c (rule_cycle_some rule.rule fits.valid.interval_low) in
+        let long : span ≤ span * c = le-mul_of_pos_right span (rule_cycle_some rule.rule fits.valid.interval_low) in
         let n : ℕ = span * c - span in
         let at : far +ℤ pos n ≡ first +ℤ pos (span * c) = omega (arith, ints, long) in
         first_passed chosen far n

@@ -5,7 +5,7 @@ use Rattle.std.specs.Prelude.{Option, None, Some}
 use Rattle.std.proofs.lemmas.Int.{ints, by_lt_z}
 use Rattle.std.proofs.lemmas.Bool.{false≢true}
 use Rattle.std.proofs.lemmas.Bool.Decides.{Decides-int_eq}
-use Rattle.std.proofs.lemmas.Nat.{div-add-mod'}
+use Rattle.std.proofs.Math.Nat.{mod-add-div'}
 use Rattle.std.proofs.lemmas.List.{get_or_default}
 use Rattle.std.proofs.lemmas.List.Elements.{All-cons, All-nil}
 use Rattle.rr_model.specs.Moment.{day_part, second_part, moment_at}
@@ -34,10 +34,6 @@ seconds_if second b = cond b (second ∷ []) []
 numbered : (second : ℕ) (b : Bool) → get_or (sets_of second) (one_if b) [] ≡ seconds_if second b
 numbered second true = refl
 numbered second false = refl
-
--- a number is its whole periods and the rest
-parts_of : (a p : ℕ) → a ≡ a % p + a / p * p
-parts_of a p = omega (arith, div-add-mod' a p)
 
 module _ (kind : Kind) (start : ℤ) (test : ℤ → Bool) (days : SkipDays) (are : AreSkipDays test (day_part kind start) days) where
   abbrev first : ℤ
@@ -78,7 +74,7 @@ module _ (kind : Kind) (start : ℤ) (test : ℤ → Bool) (days : SkipDays) (ar
       let f : d ≡ days.settled +ℤ pos k = omega (arith, ints, l) in
       let j : ℕ = k % days.period in
       let low : j < days.period = floor_mod_below (pos k) days.period are.some in
-      let p : k ≡ j + k / days.period * days.period = parts_of k days.period in
+      let p : k ≡ j + k / days.period * days.period = sym (mod-add-div' k days.period) in
       let h : first +ℤ pos (n + j) ≡ days.settled +ℤ pos j = omega (arith, ints, at) in
       let g : d ≡ (days.settled +ℤ pos j) +ℤ pos (k / days.period * days.period) = omega (arith, ints, f, p) in
       let r : test (first +ℤ pos (n + j)) ≡ test d =

@@ -69,7 +69,7 @@ three_injective w b x y z l m k hx hl hy hz hm hk e =
     (padded_injective w x l hx hl p.0, q.0, q.1)
 
 -- the numbers of a day's date are small
-small_year : (d : ℤ) → IsFromYearOne d → IsDayWithin 0 d → nat_abs (year_of d) < 2 ^ 64
+pub small_year : (d : ℤ) → IsFromYearOne d → IsDayWithin 0 d → nat_abs (year_of d) < 2 ^ 64
 small_year d from near =
     let within = IsInYear-year_of d in
     let bounds = first_day_of_year_bounds (year_of d) in

@@ -26,7 +26,8 @@ use Rattle.rr_model.specs.declared.rule.Series.{Series}
 use Rattle.rr_model.specs.declared.sketch.Sketch.{Sketch}
 use Rattle.rr_model.specs.Sets.Sketch.{StandsIn, StandsFor}
 use Rattle.rr_translate.specs.Translated.{IsGraphText, HasNoPattern, IsSaid, IsAnswered}
-use Rattle.rr_translate.proofs.SetLemmas.{first_pattern_of, no_pattern_of, joined}
+use Rattle.rr_model.proofs.EqualLemmas.{HaveEqualOccurrences-trans}
+use Rattle.rr_translate.proofs.SetLemmas.{first_pattern_of, no_pattern_of}
 use Rattle.rr_translate.proofs.SoundLemmas.{sound_is_not_refused}
 
 module _ (P : Occurrences) (pattern : Pattern) (range : Range) (kind : Kind) (start : ℤ) (first : IsFirstPattern P pattern range kind start) where
@@ -71,7 +72,8 @@ module _ (P Q : Occurrences) (same : HaveEqualOccurrences P Q) where
     start = g.start;
     is_first = first_pattern_of P Q same g.pattern g.range g.kind g.start g.is_first;
     written = g.written;
-    states = record { series = g.states.series; is_read = g.states.is_read; sound = g.states.sound; equal = joined _ P Q g.states.equal same };
+    states =
+        record { series = g.states.series; is_read = g.states.is_read; sound = g.states.sound; equal = HaveEqualOccurrences-trans _ P Q g.states.equal same };
   }
 
 -- what is said of the days of a series that no limit refuses is what is answered of the series

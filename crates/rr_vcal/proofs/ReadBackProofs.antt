@@ -28,7 +28,7 @@ use Rattle.rr_model.specs.declared.used.Scan.{Scan}
 use Rattle.rr_model.specs.declared.vcal.VRule.{VRule}
 use Rattle.rr_model.specs.declared.vcal.VSeries.{VSeries}
 use Rattle.rr_text.proofs.WrittenLemmas.{basic-written}
-use Rattle.rr_vcal.proofs.WrittenLineLemmas.{WrittenLine, IsValue, HaveValues, name_text, written_line, used_from, event_scan-written}
+use Rattle.rr_vcal.proofs.WrittenLineLemmas.{WrittenLine, IsValue, HaveValues, name_text, written_line, used_from, event_scan-unfolded}
 use Rattle.rr_vcal.proofs.WrittenPassLemmas.{IsWritableRule, stamp_of, rule_line, date_line, rule-value, date-value, Reads, reads-next, reads-rules}
 use Rattle.rr_vcal.proofs.WrittenPassLemmas.{reads-dates, gives-all}
 
@@ -181,6 +181,6 @@ vcal_read_back series valid writable =
     ap (λ (bytes : List ℕ). passes vcal_language (vrule_beside None) None (event_scan true bytes) >>= λ event. Ok (vseries_of_event event))
     (no_mark series ∙ in_lines series)
     ∙ ap (λ (scan : Scan). passes vcal_language (vrule_beside None) None scan >>= λ event. Ok (vseries_of_event event))
-    (event_scan-written lines (have-values series.kind series.start series.rules series.excluded series.plus series.minus h))
+    (event_scan-unfolded lines (have-values series.kind series.start series.rules series.excluded series.plus series.minus h))
     ∙ ap (λ (m : Result (Event VRule) Refusal). m >>= λ event. Ok (vseries_of_event event))
     (passes-written series.kind series.start series.rules series.excluded series.plus series.minus h)

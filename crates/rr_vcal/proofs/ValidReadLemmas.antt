@@ -1,6 +1,6 @@
 -- What is read of a vCalendar 1.0 text is a valid series.
 use Rattle.std.proofs.Common.{◌≡◌, ℕ, ◌≤◌, ◌==◌, not, Bool, true, false, if◌then◌else◌, List, [], ◌∷◌, length, Option, None, Some, Result, Ok, Err, ℤ, pos}
-use Rattle.std.proofs.Common.{refl, sym, subst, arith}
+use Rattle.std.proofs.Common.{refl, subst, arith}
 use Rattle.std.specs.Prelude.{All, IfOk}
 use Rattle.std.specs.List.{slice_split}
 use Rattle.std.specs.Option.{IfSome}
@@ -11,10 +11,9 @@ use Rattle.std.proofs.lemmas.List.Elements.{All-nil, All-cons, All-weaker}
 use Rattle.rr_model.specs.Answers.{Answers}
 use Rattle.rr_model.specs.Calendar.{weekday_of, day_of_month, month_of, year_of, day_of_year}
 use Rattle.rr_model.specs.Moment.{day_part}
-use Rattle.rr_model.specs.Moment.Years.{IsInYears}
 use Rattle.rr_model.specs.Rule.Validity.{is_absent, HasCountInRange, EndsInYears}
-use Rattle.rr_model.specs.Text.Calendars.{end_at, end_beside}
-use Rattle.rr_model.specs.Text.Passes.{Stated, Event, moment_beside, passes}
+use Rattle.rr_model.specs.Text.Calendars.{end_beside}
+use Rattle.rr_model.specs.Text.Passes.{Stated, Event}
 use Rattle.rr_model.specs.Text.Event.{event_scan}
 use Rattle.rr_model.specs.Text.Lines.{without_mark}
 use Rattle.rr_model.specs.Text.Rules.{is_blank, line_value}
@@ -26,7 +25,6 @@ use Rattle.rr_model.specs.declared.item.Item.{Item}
 use Rattle.rr_model.specs.declared.item.Item.TheVariants.{Every, Weekday, MonthDay, Month, YearDay}
 use Rattle.rr_model.specs.declared.kind.Kind.{Kind}
 use Rattle.rr_model.specs.declared.refusal.Fault.{Fault}
-use Rattle.rr_model.specs.declared.rule.End.{End}
 use Rattle.rr_model.specs.declared.rule.End.TheVariants.{Never, Until, Count, Both}
 use Rattle.rr_model.specs.declared.stamp.Stamp.{Stamp}
 use Rattle.rr_model.specs.declared.used.Scan.{Scan}
@@ -38,24 +36,13 @@ use Rattle.rr_model.specs.declared.vcal.VSeries.{VSeries}
 use Rattle.rr_model.proofs.CalendarLemmas.{IsDate-year_of, days_in_month_bounds, weekday_of_below, days_into_year_below, days_in_year_bounds}
 use Rattle.rr_text.proofs.StepLemmas.{and_then_ok}
 use Rattle.rr_text.specs.Stamps.{IsStamp}
-use Rattle.rr_ical.proofs.BesideLemmas.{moment_beside-in_years, IsReadEvent, passes-valid}
+use Rattle.rr_ical.proofs.BesideLemmas.{EndsAt, FitsUntil, end_beside-valid, IsReadEvent, read-valid}
 use Rattle.rr_ical.proofs.PassLemmas.{in_turn-keeps}
 use Rattle.rr_vcal.specs.Parts.{IsValidParts}
 use Rattle.rr_vcal.specs.Scans.{vcal_scan}
 use Rattle.rr_vcal.proofs.ValidPartsLemmas.{piece-valid, finished-valid}
 
 -- ---- the rule as its line states it
-
--- an end moment of the end has this kind
-abbrev EndsAt : Kind → End → Type 0
-EndsAt kind (Until other at) = other ≡ kind
-EndsAt kind (Both other at n) = other ≡ kind
-EndsAt kind end = Unit {0}
-
--- the end moment is the end's, where there is one
-abbrev FitsUntil : Option Stamp → End → Type 0
-FitsUntil None end = EndsInYears end
-FitsUntil (Some stamp) end = IsStamp stamp × EndsAt stamp.kind end
 
 -- the numbers lie in their ranges; only a rule by places has its items already
 record IsValidStated (stated : Stated VRule) : Type 0 where
@@ -152,31 +139,13 @@ filled_items-valid f d [] h listed = own_items-valid f d (λ e. absurd (omega (a
 filled_items-valid f d (item ∷ items) h listed = (h, omega arith)
 
 module _ (offset : Option ℤ) (start : Stamp) where
-  end_at-valid : (kind : Kind) (end : End) (at : ℤ) → EndsAt kind end → IsInYears kind at → HasCountInRange end
-      → HasCountInRange (end_at end at) × EndsInYears (end_at end at)
-  end_at-valid kind Never at k y c = (tt, tt)
-  end_at-valid kind (Count n) at k y c = (c, tt)
-  end_at-valid kind (Until other t) at k y c = (tt, subst (λ (o : Kind). IsInYears o at) (sym k) y)
-  end_at-valid kind (Both other t n) at k y c = (c, subst (λ (o : Kind). IsInYears o at) (sym k) y)
-
-  end_beside-valid : (line : ℕ) (until : Option Stamp) (end next : End) → FitsUntil until end → HasCountInRange end
-      → end_beside offset start line until end ≡ Ok next → HasCountInRange next × EndsInYears next
-  end_beside-valid line None end next fits count h =
-      let same : end ≡ next = cc in
-      subst (λ (x : End). HasCountInRange x × EndsInYears x) same (count, fits)
-  end_beside-valid line (Some stamp) end next fits count h =
-      let moment = and_then_ok (moment_beside offset start line stamp) (λ (at : ℤ). Ok (end_at end at)) next h in
-      let same : end_at end moment.0 ≡ next = cc in
-      let in_years = moment_beside-in_years offset start line stamp moment.0 fits.0 moment.1 in
-      subst (λ (x : End). HasCountInRange x × EndsInYears x) same (end_at-valid stamp.kind end moment.0 fits.1 in_years count)
-
   vrule_beside-valid : (line : ℕ) (stated : Stated VRule) (rule : VRule) → IsValidStated stated → vrule_beside offset start line stated ≡ Ok rule
       → IsValidVRule rule × EndsInYears rule.end
   unfolding vrule_beside
   vrule_beside-valid line stated rule v h =
       let d = day_part start.kind start.at in
       let end = and_then_ok (end_beside offset start line stated.until stated.rule.end) _ rule h in
-      let ends = end_beside-valid line stated.until stated.rule.end end.0 v.until v.count end.1 in
+      let ends = end_beside-valid offset start line stated.until stated.rule.end end.0 v.until v.count end.1 in
       let filled = filled_items-valid stated.rule.family d stated.rule.items v.items v.listed in
       let same : record stated.rule { items = filled_items stated.rule.family d stated.rule.items; end = end.0 } ≡ rule = cc in
       subst (λ (r : VRule). IsValidVRule r × EndsInYears r.end) same
@@ -206,12 +175,9 @@ series-valid event v =
 
 scan-valid : (offset : Option ℤ) (scan : Scan) (series : VSeries) → vcal_scan offset scan ≡ Ok series → IsValidVSeries series
 scan-valid offset scan series h =
-    let event = and_then_ok (passes vcal_language (vrule_beside offset) offset scan) (λ (e : Event VRule). Ok (vseries_of_event e)) series h in
-    let read = passes-valid vcal_language (vrule_beside offset) IsGoodRule
-    (λ start line text stated rule s r. vrule_beside-valid offset start line stated rule (stated_vrule-valid line text stated s) r) offset scan
-    event.0 event.1 in
-    let same : vseries_of_event event.0 ≡ series = cc in
-    subst IsValidVSeries same (series-valid event.0 read)
+    read-valid vcal_language (vrule_beside offset) IsGoodRule
+    (λ start line text stated rule s r. vrule_beside-valid offset start line stated rule (stated_vrule-valid line text stated s) r)
+    vseries_of_event IsValidVSeries series-valid offset scan series h
 
 reading-valid : (offset : Option ℤ) (bytes : List ℕ) (series : VSeries) → reads_vcal offset bytes ≡ Ok series → IsValidVSeries series
 unfolding reads_vcal

@@ -1,19 +1,19 @@
 -- Lines that are written are the used lines of the event that is read (vCalendar 1.0, sections 2.1.1 and 2.1.3).
-use Rattle.std.proofs.Common.{◌≡◌, ℕ, ◌+◌, not, Bool, true, false, List, [], ◌∷◌, ◌++◌, length, reverse, map, Some, None, Result, Ok}
+use Rattle.std.proofs.Common.{◌≡◌, ℕ, ◌+◌, true, false, List, [], ◌∷◌, ◌++◌, reverse, map, Some, None}
 use Rattle.std.proofs.Common.{refl, sym, ap, ◌∙◌, append_assoc, append-nil}
 use Rattle.std.specs.Prelude.{codes}
-use Rattle.std.specs.List.{list_all, list_any, AllByRecursion}
-use Rattle.rr_model.specs.Text.Event.{Left, left, left_by, no_components, used_line, after_used, scan_from, scanned, is_bare_text, event_scan}
+use Rattle.std.specs.List.{list_all, AllByRecursion}
+use Rattle.rr_model.specs.Text.Event.{event_scan}
 use Rattle.rr_model.specs.Text.Lines.{physical_lines, begins_blank, with_physical_line, with_physical_lines, unfolded_lines}
 use Rattle.rr_model.specs.Text.UsedLines.{is_named, trim, value_of_line, line_kind}
 use Rattle.rr_model.specs.Text.Written.{line_break, lines_of}
 use Rattle.rr_model.specs.Vcal.Written.{vcal_line}
 use Rattle.rr_model.specs.declared.line.Line.{Line}
-use Rattle.rr_model.specs.declared.refusal.Refusal.{Refusal}
 use Rattle.rr_model.specs.declared.used.LineKind.TheVariants.{Property}
 use Rattle.rr_model.specs.declared.used.LineName.{LineName}
 use Rattle.rr_model.specs.declared.used.LineName.TheVariants.{Dtstart, Rrule, Rdate, Exdate, Exrule}
 use Rattle.rr_model.specs.declared.used.UsedLine.{UsedLine}
+use Rattle.rr_ical.proofs.WrittenLineLemmas.{WrittenLine as LineWithText, StatesProperty, lines_from, used_lines_from, event_scan-written}
 use Rattle.rr_text.proofs.FoldedLineLemmas.{IsUnbroken, line_ends}
 use Rattle.rr_text.proofs.WrittenByteLemmas.{list_all-weaker, list_all-both}
 use Rattle.rr_vcal.proofs.TrimLemmas.{IsSolid, trimmed_start, trimmed_end, begins-solid, ends-solid, present}
@@ -33,7 +33,7 @@ name_text Exdate = codes "EXDATE"
 name_text Exrule = codes "EXRULE"
 
 -- the line, without and with its end
-abbrev line_text : WrittenLine → List ℕ
+abbrev pub line_text : WrittenLine → List ℕ
 line_text l = name_text l.name ++ codes ":" ++ l.value
 
 abbrev pub written_line : WrittenLine → List ℕ
@@ -114,14 +114,20 @@ physical-written (l ∷ ls) h =
     ∙ line_ends (line_text l) (lines_of written_line ls) (line-unbroken l h.0)
     ∙ ap (λ (ts : List (List ℕ)). line_text l ∷ ts) (physical-written ls h.1)
 
+-- the line with its text
+abbrev pub with_text : WrittenLine → LineWithText
+with_text l = record { text = line_text l; name = l.name; value = l.value }
+
+-- the number of the next line: each is one physical line
+abbrev pub next_number : ℕ → List ℕ → ℕ
+next_number k text = k + 1
+
 -- the lines, and the used lines that they are, the first of this number
 abbrev numbered : ℕ → List WrittenLine → List Line
-numbered k [] = []
-numbered k (l ∷ ls) = record { number = k; text = line_text l } ∷ numbered (k + 1) ls
+numbered k lines = lines_from with_text next_number k lines
 
 abbrev pub used_from : ℕ → List WrittenLine → List UsedLine
-used_from k [] = []
-used_from k (l ∷ ls) = used_line k l.name l.value ∷ used_from (k + 1) ls
+used_from k lines = used_lines_from with_text next_number k lines
 
 one_more : (k : ℕ) (done : List Line) (text : List ℕ) → begins_blank text ≡ false
     → with_physical_line true k done text ≡ done ++ record { number = k; text = text } ∷ []
@@ -140,28 +146,16 @@ lines-written lines h = ap (with_physical_lines true 1 []) (physical-written lin
 
 -- ---- the scan
 
-left-written : (k : ℕ) (l : WrittenLine) → IsValue l.value
-    → left_by true no_components (record { number = k; text = line_text l }) ≡ Ok (left no_components (Some (used_line k l.name l.value)))
-unfolding left_by
-left-written k l h = rw (line_kind-written l.name l.value, value-written l.name l.value, value-trimmed l.value h) refl
-
-scanned-written : (k last : ℕ) (lines : List WrittenLine) → HaveValues lines
-    → scanned true last no_components (numbered k lines) ≡ record { used = used_from k lines; stop = None }
-scanned-written k last [] h = refl
-scanned-written k last (l ∷ ls) h =
-    ap (λ (m : Result Left Refusal). scan_from m (λ after. scanned true last after (numbered (k + 1) ls))) (left-written k l h.0)
-    ∙ ap (after_used (Some (used_line k l.name l.value))) (scanned-written (k + 1) last ls h.1)
-
-no_begins : (k : ℕ) (lines : List WrittenLine) → list_any (λ (l : Line). is_named l.text (codes "BEGIN")) (numbered k lines) ≡ false
-no_begins k [] = refl
-no_begins k (l ∷ ls) = rw (no_begin l.name l.value) (no_begins (k + 1) ls)
+line-states : (l : WrittenLine) → IsValue l.value → StatesProperty (with_text l)
+line-states l h = record {
+  kind = line_kind-written l.name l.value;
+  stated = value-written l.name l.value ∙ ap Some (value-trimmed l.value h);
+  no_begin = no_begin l.name l.value;
+}
 
 -- Lines that are written one after the other are all used, and nothing stops their reading.
-pub event_scan-written : (lines : List WrittenLine) → HaveValues lines
+pub event_scan-unfolded : (lines : List WrittenLine) → HaveValues lines
     → event_scan true (lines_of written_line lines) ≡ record { used = used_from 1 lines; stop = None }
-unfolding event_scan
-event_scan-written lines h =
-    let bytes = lines_of written_line lines in
-    ap (λ (ls : List Line). scanned (is_bare_text ls) (length (physical_lines bytes)) no_components ls) (lines-written lines h)
-    ∙ ap (λ (b : Bool). scanned (not b) (length (physical_lines bytes)) no_components (numbered 1 lines)) (no_begins 1 lines)
-    ∙ scanned-written 1 (length (physical_lines bytes)) lines h
+event_scan-unfolded lines h =
+    event_scan-written with_text next_number (λ (l : WrittenLine). IsValue l.value) line-states true (lines_of written_line lines) lines
+    (lines-written lines h) h

@@ -14,7 +14,7 @@ use Rattle.rr_expand.specs.UnitTimes.{AreUnitTimes}
 use Rattle.rr_expand.specs.declared.unit_times.UnitTimes.{UnitTimes}
 use Rattle.rr_shapes.specs.Tables.{Extends}
 use Rattle.rr_shapes.specs.declared.ids.SetId.{SetId}
-use Rattle.rr_lazy.specs.Tables.{same_set}
+use Rattle.rr_shapes.proofs.TableLemmas.{same_set}
 use Rattle.rr_model.specs.Rising.Sets.{IsSetOf}
 use Rattle.rr_model.specs.Rule.Validity.{IsValidRule}
 use Rattle.rr_model.specs.Moment.Years.{IsInYears}

@@ -14,6 +14,7 @@ use Rattle.rr_model.specs.Sets.Verdict.{HaveEqualOccurrences}
 use Rattle.rr_model.specs.declared.kind.Kind.TheVariants.{Days}
 use Rattle.rr_model.specs.declared.sketch.DayShape.{DayShape}
 use Rattle.rr_model.specs.declared.sketch.Sketch.{Sketch}
+use Rattle.rr_model.proofs.EqualLemmas.{HaveEqualOccurrences-sym, HaveEqualOccurrences-trans}
 use Rattle.rr_model.proofs.RisingSetLemmas.{Contains-none}
 use Rattle.rr_word.proofs.SketchLemmas.{repeats}
 use Rattle.rr_word.proofs.WindowLemmas.{window_lasts}
@@ -110,15 +111,15 @@ least_start_exists f first p (suc n) h =
       )
     ]
 
-back : (s u : Sketch) → HaveEqualOccurrences (StandsIn s) (StandsIn u) → HaveEqualOccurrences (StandsIn u) (StandsIn s)
-back s u h k t = ((h k t).1, (h k t).0)
-
-chain : (s u w : Sketch) → HaveEqualOccurrences (StandsIn s) (StandsIn u) → HaveEqualOccurrences (StandsIn s) (StandsIn w)
-    → HaveEqualOccurrences (StandsIn u) (StandsIn w)
-chain s u w a b k t = ((λ h. (b k t).0 ((a k t).1 h)), λ h. (a k t).0 ((b k t).1 h))
-
 one_of : (s u : Sketch) → IsLeastSketch u → HaveEqualOccurrences (StandsIn s) (StandsIn u) → HasOneLeastSketch s
-one_of s u least same = record { sketch = u; least = least; same = same; only = λ w lw sw. one_least w u lw least (chain s w u sw same) }
+one_of s u least same = record {
+  sketch = u;
+  least = least;
+  same = same;
+  only = λ w lw sw.
+      let back = HaveEqualOccurrences-sym (StandsIn s) (StandsIn w) sw in
+      one_least w u lw least (HaveEqualOccurrences-trans (StandsIn w) (StandsIn s) (StandsIn u) back same);
+}
 
 nothing : Sketch
 nothing = record { kind = Days; before = []; settled = pos 0; period = 1; cycle = [] }

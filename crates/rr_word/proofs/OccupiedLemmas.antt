@@ -6,6 +6,7 @@ use Rattle.std.specs.Int.{int_max}
 use Rattle.std.specs.List.{All}
 use Rattle.std.specs.Ordering.{int_eq}
 use Rattle.std.proofs.lemmas.Int.{ints, clamps, by_lt_z}
+use Rattle.std.proofs.Math.Nat.{le-mul_of_pos_right}
 use Rattle.std.proofs.lemmas.Nat.{mod_below, div-add-mod'}
 use Rattle.std.proofs.lemmas.List.{append-nil}
 use Rattle.std.proofs.lemmas.List.Elements.{All-nil, All-cons, All-head, All-append}
@@ -23,7 +24,8 @@ use Rattle.rr_model.specs.Sets.Least.{IsEventualPeriod, IsLeastPeriod, IsLeastSt
 use Rattle.rr_model.specs.Sets.Occupied.{shape_if_some, occupied}
 use Rattle.rr_word.proofs.OneLeastLemmas.{before_part, cycle_part, finite_end}
 use Rattle.rr_word.proofs.PeriodLemmas.{repeats_from_start}
-use Rattle.rr_word.proofs.ShapeLemmas.{int_eq-differ, int_eq-same, times_in-early, times_in-late, times_in-first, not_nil, some_set}
+use Rattle.rr_model.proofs.TestLemmas.{int_eq-same}
+use Rattle.rr_word.proofs.ShapeLemmas.{int_eq-differ, times_in-early, times_in-late, times_in-first, not_nil, some_set}
 
 -- ---- one more day
 
@@ -235,7 +237,7 @@ module _ (s : Sketch) (bounded : IsDaySequence s) (first : ℤ) (n p : ℕ) (is_
       record {
         endless = λ x.
             let k = nat_abs (x -ℤ c.day) in
-            let more = at_least k p least.holds.1.some in (
+            let more : k ≤ k * p = le-mul_of_pos_right k least.holds.1.some in (
               c.day +ℤ pos (k * p),
               omega (arith, ints, more),
               λ none.
@@ -247,10 +249,6 @@ module _ (s : Sketch) (bounded : IsDaySequence s) (first : ℤ) (n p : ℕ) (is_
         period = subst (λ (f : ℤ → List ℕ). IsLeastPeriod f p) alike least;
         start = subst (λ (f : ℤ → List ℕ). IsLeastStart f first p (first +ℤ pos n)) alike start;
       }
-    where
-      at_least : (k p : ℕ) → 1 ≤ p → k ≤ k * p
-      at_least k zero h = absurd (omega arith)
-      at_least k (suc p) h = omega arith
 
   -- it is the least sketch
   pub sketch_from_least : IsLeastSketch (sketch_from s first n p)

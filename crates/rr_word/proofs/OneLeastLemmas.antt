@@ -9,6 +9,7 @@ use Rattle.rr_model.specs.Moment.{moment_at}
 use Rattle.rr_model.specs.Sets.Sketch.{IsValidSketch, IsFirstDay, StandsIn, day_in_cycle, times_in, times_on}
 use Rattle.rr_model.specs.Sets.Verdict.{HaveEqualOccurrences}
 use Rattle.rr_model.specs.declared.sketch.Sketch.{Sketch}
+use Rattle.rr_model.proofs.EqualLemmas.{HaveEqualOccurrences-sym}
 use Rattle.rr_model.proofs.MomentLemmas.{parts_of_moment}
 use Rattle.rr_model.proofs.SecondsLemmas.{first_of_some, one_list}
 use Rattle.rr_word.proofs.SketchLemmas.{rising_on, second_fits}
@@ -50,9 +51,6 @@ module _ (s u : Sketch) (vs : IsValidSketch s) (vu : IsValidSketch u) (equal : H
       let there = (equal s.kind t).0 here in
       (there.kind, rw (parts.0, parts.1) at there.second)
 
-swapped : (s u : Sketch) → HaveEqualOccurrences (StandsIn s) (StandsIn u) → HaveEqualOccurrences (StandsIn u) (StandsIn s)
-swapped s u equal k t = ((equal k t).1, (equal k t).0)
-
 pub same_kind : (s u : Sketch) → IsValidSketch s → IsValidSketch u → HaveEqualOccurrences (StandsIn s) (StandsIn u) → (d : ℤ) → (times_on s d ≡ [] → ⊥)
     → s.kind ≡ u.kind
 same_kind s u vs vu equal d some = (over s u vs vu equal d (get_or (times_on s d) 0 0) (first_of_some (times_on s d) some)).0
@@ -60,7 +58,7 @@ same_kind s u vs vu equal d some = (over s u vs vu equal d (get_or (times_on s d
 pub same_times : (s u : Sketch) → IsValidSketch s → IsValidSketch u → HaveEqualOccurrences (StandsIn s) (StandsIn u) → (d : ℤ) → times_on s d ≡ times_on u d
 same_times s u vs vu equal d =
     one_list (times_on s d) (times_on u d) (rising_on s d vs) (rising_on u d vu)
-    (λ w. ((λ c. (over s u vs vu equal d w c).1), (λ c. (over u s vu vs (swapped s u equal) d w c).1)))
+    (λ w. ((λ c. (over s u vs vu equal d w c).1), (λ c. (over u s vu vs (HaveEqualOccurrences-sym (StandsIn s) (StandsIn u) equal) d w c).1)))
 
 -- ---- two least sketches with the same days
 

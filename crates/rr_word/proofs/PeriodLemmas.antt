@@ -3,6 +3,7 @@ use Rattle.std.proofs.Common.{◌≡◌, ℕ, zero, suc, ◌*◌, ◌/◌, ◌%�
 use Rattle.std.proofs.Common.{◌∙◌, arith}
 use Rattle.std.specs.Int.{◌∣◌, int_max}
 use Rattle.std.proofs.lemmas.Int.{ints, clamps}
+use Rattle.std.proofs.Math.Nat.{le-mul_of_pos_right}
 use Rattle.std.proofs.lemmas.Nat.{div-add-mod'}
 use Rattle.std.proofs.lemmas.Bool.{cases_lt}
 use Rattle.std.specs.Prelude.{min}
@@ -38,13 +39,9 @@ module _ {X : Type 0} (f : ℤ → X) (q : ℤ) where
   pub repeats_from_start : (p r : ℕ) → 1 ≤ p → RepeatsFrom f q p → IsEventualPeriod f r → RepeatsFrom f q r
   repeats_from_start p r hp rep (q', h) d l =
       let k = nat_abs (q' -ℤ q) in
-      let far : q' ≤ℤ (d +ℤ pos (k * p)) = (let m : k ≤ k * p = omega (arith, more k p hp) in omega (arith, ints, m)) in
+      let far : q' ≤ℤ (d +ℤ pos (k * p)) = (let m : k ≤ k * p = le-mul_of_pos_right k hp in omega (arith, ints, m)) in
       let e : (d +ℤ pos r) +ℤ pos (k * p) ≡ (d +ℤ pos (k * p)) +ℤ pos r = omega (arith, ints) in
       sym (turns f q p rep k (d +ℤ pos r) (omega (arith, ints))) ∙ ap f e ∙ h.repeats (d +ℤ pos (k * p)) far ∙ turns f q p rep k d l
-    where
-      more : (k p : ℕ) → 1 ≤ p → k ≤ k * p
-      more k zero h = absurd (omega arith)
-      more k (suc p) h = omega arith
 
 pub least_divides : {X : Type 0} (f : ℤ → X) (p r : ℕ) → IsLeastPeriod f p → IsEventualPeriod f r → p ∣ r
 least_divides f p r least h =

@@ -1,5 +1,5 @@
 -- Rising days are determined by the seconds that they have.
-use Rattle.std.proofs.Common.{◌≡◌, ℕ, Bool, true, false, cond, List, [], ◌∷◌, length, ℤ, pos, ◌+ℤ◌, ◌≤ℤ◌, ◌<ℤ◌, refl, sym, ap, ◌∙◌, arith}
+use Rattle.std.proofs.Common.{◌≡◌, ℕ, Bool, false, cond, List, [], ◌∷◌, length, ℤ, pos, ◌+ℤ◌, ◌≤ℤ◌, ◌<ℤ◌, refl, sym, ap, ◌∙◌, arith}
 use Rattle.std.specs.List.{All}
 use Rattle.std.specs.Ordering.{int_eq}
 use Rattle.std.proofs.lemmas.Int.{ints, by_lt_z}
@@ -8,6 +8,7 @@ use Rattle.rr_model.specs.Sets.Sketch.{HasRisingDays, IsTimeSet, times_in}
 use Rattle.rr_model.specs.declared.kind.Kind.{Kind}
 use Rattle.rr_model.specs.declared.kind.Kind.TheVariants.{Days, Moments}
 use Rattle.rr_model.specs.declared.sketch.DayShape.{DayShape}
+use Rattle.rr_model.proofs.TestLemmas.{int_eq-same}
 
 -- a list with an element is not empty
 pub not_nil : {X : Type 0} (x : X) (xs : List X) → x ∷ xs ≡ [] → ⊥
@@ -16,9 +17,6 @@ not_nil x xs e = omega (arith, ap length e)
 pub some_set : (k : Kind) (xs : List ℕ) → IsTimeSet k xs → xs ≡ [] → ⊥
 some_set Days xs is e = not_nil 0 [] (sym is ∙ e)
 some_set Moments xs is e = is.0 e
-
-pub int_eq-same : (d : ℤ) → int_eq d d ≡ true
-int_eq-same d = grind (arith, ints)
 
 pub int_eq-differ : (d e : ℤ) → (d ≡ e → ⊥) → int_eq d e ≡ false
 int_eq-differ d e n = grind (arith, ints)

@@ -1,6 +1,6 @@
 use Rattle.std.proofs.Common.{[], length, get_or, take, sym, ap, ◌∙◌, rules, w64, to_z-of_z, FitsSigned}
 use Rattle.std.proofs.lemmas.Option.{get_or_from_slice_get, slice_get_within}
-use Rattle.rr_lazy.specs.Tables.{same_set}
+use Rattle.rr_shapes.proofs.TableLemmas.{same_set}
 use Rattle.rr_lazy.proofs.AheadLemmas.{given_joined}
 use Rattle.rr_lazy.proofs.ahead.union_of.Goals as goal
 

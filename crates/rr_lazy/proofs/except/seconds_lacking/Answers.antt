@@ -2,7 +2,7 @@ use Rattle.std.proofs.Common.{◌≡◌, [], length, get_or, take, sym, ap, subs
 use Rattle.std.proofs.lemmas.Option.{get_or_from_slice_get, slice_get_within}
 use Rattle.std.proofs.lemmas.List.{nil_from_length}
 use Rattle.rr_lazy.specs.Except.{IsLacking}
-use Rattle.rr_lazy.specs.Tables.{same_set}
+use Rattle.rr_shapes.proofs.TableLemmas.{same_set}
 use Rattle.rr_lazy.proofs.ExceptLemmas.{lacking_none, lacking_some}
 use Rattle.rr_lazy.proofs.except.seconds_lacking.Goals as goal
 

@@ -4,7 +4,7 @@ use Rattle.rr_model.specs.Rising.Sets.{IsSecondsOfDay}
 use Rattle.rr_model.specs.Sets.Sketch.{times_on}
 use Rattle.rr_model.specs.declared.sketch.Sketch.{Sketch}
 use Rattle.rr_algebra.specs.declared.op.Op.{Op}
-use Rattle.rr_days.proofs.PlacedLemmas.{placed_extends}
+use Rattle.rr_shapes.proofs.ShapeLemmas.{placed_extends}
 use Rattle.rr_algebra.specs.Combining.{AreKnown, IsMadeOf, IsNumberOf, table}
 use Rattle.rr_algebra.proofs.CombineLemmas.{known_kept, known_put, made_placed, made_time_set, number_placed, sets_placed}
 use Rattle.rr_algebra.proofs.JudgedLemmas.{refused_one}

@@ -1,7 +1,8 @@
 use Rattle.std.proofs.Common.{rules, ◌≡◌, ◌≤◌}
 use Rattle.std.specs.Prelude.{Some, slice_get}
 use Rattle.rr_fold.specs.Combined.{AreCombinationsOf, IsCombinationOf}
-use Rattle.rr_days.proofs.PlacedLemmas.{placed_extends, placed_grown}
+use Rattle.rr_days.proofs.PlacedLemmas.{placed_grown}
+use Rattle.rr_shapes.proofs.ShapeLemmas.{placed_extends}
 use Rattle.rr_fold.proofs.CombinedLemmas.{shapes_kept, union_at, unions_kept, unions_put}
 use Rattle.rr_fold.proofs.combination.CombinedSets.number_of.Goals as goal
 

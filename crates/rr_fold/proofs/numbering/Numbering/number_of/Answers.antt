@@ -5,7 +5,7 @@ use Rattle.rr_times.proofs.TakeLemmas.{first_seconds}
 use Rattle.rr_fold.specs.Numbering.{IsKnown, IsOneTooMany}
 use Rattle.rr_fold.specs.declared.numbering.Known.{Known}
 use Rattle.rr_fold.proofs.FoldLemmas.{refused_so}
-use Rattle.rr_days.proofs.PlacedLemmas.{placed_extends}
+use Rattle.rr_shapes.proofs.ShapeLemmas.{placed_extends}
 use Rattle.rr_fold.proofs.NumberingLemmas.{few_seconds, known_of_sets, known_put, known_widened, not_one_too_many, placed_again, set_read}
 use Rattle.rr_fold.proofs.numbering.Numbering.number_of.Goals as goal
 
