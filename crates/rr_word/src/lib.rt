@@ -13,7 +13,7 @@ mod same;
 
 pub use counted::{Counted, DaysAfter};
 pub use day_seq::{DaySeq, Stretch, seconds};
-pub use days::days_between;
+pub use days::{common_cycle, days_between};
 pub use laws::{
     agreement_lasts, agreement_of_lists_lasts, each_has_one_least_sketch, least_period_divides,
     least_sketch_is_one, window_lasts,
