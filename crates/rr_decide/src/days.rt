@@ -11,9 +11,9 @@ ghost use Rattle.rr_model.specs.declared.question.Question.TheVariants.{Equal};
 
 use crate::merge::{are_equal, first_shown};
 use crate::question::{FREE_DAYS, asks_second, days_without};
-use crate::quiet::{Pair, Quiet, are_remembered};
+use crate::quiet::{Quiet, are_remembered};
 use rr_model::{Kind, Question, Side};
-use rr_word::{DaySeq, seconds};
+use rr_word::{DaySeq, Pair, seconds};
 
 /// A second of a day that shows that the answer is no.
 #[derive(Clone, Copy)]

@@ -1,5 +1,6 @@
 //! Sequences of days that repeat from some day on: for how many days two are to be compared to be known for ever, the least
-//! period and the least start of one, the seconds of two days in order, and sequences whose days are read in counted steps.
+//! period and the least start of one, the seconds of two days in order, pairs of time sets that are remembered by their numbers,
+//! and sequences whose days are read in counted steps.
 #![tactic(auto)]
 
 mod counted;
@@ -9,6 +10,7 @@ mod laws;
 mod least;
 mod merge;
 mod numbered;
+mod pair_memo;
 mod same;
 
 pub use counted::{Counted, DaysAfter};
@@ -21,3 +23,4 @@ pub use laws::{
 pub use least::{least_period, least_start};
 pub use merge::{NextSecond, next_second};
 pub use numbered::{NumberedDay, NumberedDays};
+pub use pair_memo::{Pair, PairMemo};
