@@ -5,3 +5,4 @@ pub mod QuestionLemmas
 pub mod QuietLemmas
 pub mod StandsLemmas
 pub mod WindowLemmas
+pub mod BeginLemmas

@@ -4,18 +4,18 @@ use Rattle.std.specs.Prelude.{IfSome, IsTrue, Option, None, Some, nat_lt, slice_
 use Rattle.std.proofs.lemmas.Int.{ints, by_lt_z}
 use Rattle.std.proofs.lemmas.Bool.{cases_lt}
 use Rattle.std.proofs.lemmas.Bool.Decides.{nat_tests}
-use Rattle.std.proofs.lemmas.List.{get_or-replicate, length-replicate}
 use Rattle.std.proofs.lemmas.Option.{slice_get_within, same_Some}
-use Rattle.std.proofs.Math.ListN.{replicate}
 use Rattle.rr_model.specs.Sets.Sketch.{times_on}
 use Rattle.rr_model.specs.declared.sketch.Sketch.{Sketch}
 use Rattle.rr_model.specs.declared.verdict.Side.{Side}
 use Rattle.rr_model.proofs.PeriodicLemmas.{offset}
+use Rattle.rr_word.specs.PairMemo.{IsPair}
 use Rattle.rr_word.specs.Stretches.{IsNumberOn, IsStretch}
+use Rattle.rr_word.specs.declared.pair_memo.Pair.{Pair}
+use Rattle.rr_word.specs.declared.pair_memo.PairMemo.{PairMemo}
 use Rattle.rr_decide.specs.Question.{ShowsNone, ShowsNoneWithin, shown_by}
-use Rattle.rr_decide.specs.Quiet.{AreRemembered, HasPair, IsAlike, IsPair, IsPlaced, IsQuiet, IsRecent, WereThere, WereThereOr}
+use Rattle.rr_decide.specs.Quiet.{AreRemembered, HasPair, IsAlike, IsPlaced, IsQuiet, IsRecent, WereThere, WereThereOr}
 use Rattle.rr_decide.specs.Quiet.{ShowNothing, ShowNothingBelow, ShowNothingTogether}
-use Rattle.rr_decide.specs.declared.quiet.Pair.{Pair}
 use Rattle.rr_decide.specs.declared.quiet.Quiet.{Quiet}
 use Rattle.rr_decide.specs.declared.quiet.Recent.{Recent}
 use Rattle.rr_model.specs.declared.question.Question.TheVariants.{Equal}
@@ -69,27 +69,18 @@ module _ (shows : Side → Bool) (sets_a sets_b : List (List ℕ)) (s u : Sketch
 
 -- ---- what is remembered
 
-nothing_is_no_pair : (p : Pair) (o : Option Pair) → o ≡ None → o ≡ Some p → ⊥
-nothing_is_no_pair p o e f = cc
-
--- no pair is at any of `n` empty places
-pub none_there : (n a b : ℕ) → IsPlaced (Some (replicate n None)) a b → ⊥
-none_there n a b h =
-    nothing_is_no_pair (record { a = a; b = b }) (get_or (replicate n None) h.0 None)
-    (get_or-replicate n h.0 None None (omega (arith, h.1, length-replicate {A = Option Pair} n None))) h.2
-
 -- a remembered pair that becomes the last one
-pub brought_forward : (q r : Quiet) (p : Pair) → r.alike ≡ q.alike → r.slots ≡ q.slots
+pub brought_forward : (q r : Quiet) (p : Pair) → r.alike ≡ q.alike → r.table ≡ q.table
     → ((a b : ℕ) → IsRecent r.recent a b → IsRecent q.recent a b ⊎ IsPair p a b) → HasPair q p.a p.b → WereThere q r
-brought_forward q r p alike slots recent has a b (inl h) = inl (subst (λ (o : Option ℕ). IsAlike o a b) alike h)
-brought_forward q r p alike slots recent has a b (inr (inl h)) =
+brought_forward q r p alike table recent has a b (inl h) = inl (subst (λ (o : Option ℕ). IsAlike o a b) alike h)
+brought_forward q r p alike table recent has a b (inr (inl h)) =
     elim (recent a b h) [ inl old ↦ inr (inl old) | inr is ↦ rw (is.0, is.1) has ]
-brought_forward q r p alike slots recent has a b (inr (inr h)) = inr (inr (subst (λ (l : Option (List (Option Pair))). IsPlaced l a b) slots h))
+brought_forward q r p alike table recent has a b (inr (inr h)) = inr (inr (subst (λ (o : Option PairMemo). IsPlaced o a b) table h))
 
 -- a pair that is put into the table and becomes the last one
 pub put_last : (q m r : Quiet) (p : Pair) → WereThere q m → r.alike ≡ m.alike
     → ((a b : ℕ) → IsRecent r.recent a b → IsRecent m.recent a b ⊎ IsPair p a b)
-    → ((a b : ℕ) → IsPlaced r.slots a b → IsPlaced m.slots a b ⊎ IsPair p a b) → WereThereOr q r p
+    → ((a b : ℕ) → IsPlaced r.table a b → IsPlaced m.table a b ⊎ IsPair p a b) → WereThereOr q r p
 put_last q m r p kept alike recent placed a b (inl h) = inl (kept a b (inl (subst (λ (o : Option ℕ). IsAlike o a b) alike h)))
 put_last q m r p kept alike recent placed a b (inr (inl h)) =
     elim (recent a b h) [ inl old ↦ inl (kept a b (inr (inl old))) | inr new ↦ inr new ]
@@ -98,7 +89,7 @@ put_last q m r p kept alike recent placed a b (inr (inr h)) =
 
 -- the last two pairs in a table of their own
 pub both_placed : (q r : Quiet) (two : Recent) → q.recent ≡ Some two → r.alike ≡ q.alike → r.recent ≡ q.recent
-    → ((a b : ℕ) → IsPlaced r.slots a b → IsPair two.earlier a b ⊎ IsPair two.last a b) → WereThere q r
+    → ((a b : ℕ) → IsPlaced r.table a b → IsPair two.earlier a b ⊎ IsPair two.last a b) → WereThere q r
 both_placed q r two is alike recent placed a b (inl h) = inl (subst (λ (o : Option ℕ). IsAlike o a b) alike h)
 both_placed q r two is alike recent placed a b (inr (inl h)) = inr (inl (subst (λ (o : Option Recent). IsRecent o a b) recent h))
 both_placed q r two is alike recent placed a b (inr (inr h)) =

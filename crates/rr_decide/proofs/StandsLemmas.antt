@@ -1,7 +1,7 @@
 -- From the seconds of days to the occurrences that stand in two sketches.
 use Rattle.std.proofs.Common.{◌≡◌, ◌↔◌, inl, inr, ℕ, ◌<◌, ◌≤◌, Bool, List, [], ◌∷◌, get_or, ℤ, pos, ◌≤ℤ◌, ◌<ℤ◌, refl, sym, ap, subst, ◌∙◌, arith}
 use Rattle.std.specs.List.{Contains}
-use Rattle.std.specs.Prelude.{IsTrue, nat_lt, Some}
+use Rattle.std.specs.Prelude.{IsTrue, true, nat_lt, Option, None, Some}
 use Rattle.std.proofs.lemmas.Int.{by_lt_z, ints}
 use Rattle.rr_model.specs.Moment.{Before, day_part, second_part, moment_at}
 use Rattle.rr_model.specs.Rising.{Rises}
@@ -17,8 +17,9 @@ use Rattle.rr_model.specs.declared.verdict.Verdict.TheVariants.{Yes, No}
 use Rattle.rr_model.proofs.RisingSetLemmas.{Contains-none}
 use Rattle.rr_model.proofs.SecondsLemmas.{first_least, first_of_some}
 use Rattle.rr_word.proofs.SketchLemmas.{rising_on, second_fits}
-use Rattle.rr_decide.specs.Occurrence.{IsUpToMaxDay, NamesUpToMaxDay}
+use Rattle.rr_decide.specs.Occurrence.{IsFirstIf, IsFirstOrNone, IsUpToMaxDay, NamesUpToMaxDay}
 use Rattle.rr_decide.specs.Question.{AreApart, HasNoneBefore, IsFirstDayShown, IsFirstOccurrence, IsShown, IsVerdictBy, ShowsNone}
+use Rattle.rr_decide.specs.declared.occurrence.Occurrence.{Occurrence}
 use Rattle.rr_decide.proofs.MergeLemmas.{HoldsOn-map}
 use Rattle.rr_model.proofs.OrderLemmas.{Before-trans}
 use Rattle.rr_model.proofs.MomentLemmas.{parts_of_moment}
@@ -62,6 +63,11 @@ first_occurrence s day v first =
           ] in
           (subst (λ (j : Kind). Before j u k t → StandsIn s j u → ⊥) (sym h.kind) at_k) before h;
     }
+
+-- the first occurrence, as one that is asked for
+pub first_asked : (s : Sketch) (first : Option Occurrence) → IsFirstOrNone s first → IsFirstIf true s first
+first_asked s None h = λ _. h
+first_asked s (Some o) h = (refl, h)
 
 -- ---- two sketches of one kind
 

@@ -1,4 +1,5 @@
 pub mod Alike
+pub mod Begin
 pub mod Look
 pub mod Occurrence
 pub mod Question

@@ -1,12 +1,14 @@
 -- Occurrences that are not far from day 0.
 use Rattle.std.specs.Prelude.{⊤, Bool, IsTrue, Option, MatchOption, ℤ, pos, neg_ℤ, ◌≤ℤ◌}
 use Rattle.rr_model.specs.Moment.{day_part}
-use Rattle.rr_model.specs.Sets.Sketch.{IsEmptySketch}
+use Rattle.rr_model.specs.Sets.Sketch.{IsEmptySketch, StandsIn}
 use Rattle.rr_model.specs.declared.kind.Kind.{Kind}
 use Rattle.rr_model.specs.declared.sketch.Sketch.{Sketch}
+use Rattle.rr_model.specs.declared.verdict.Side.{Side}
+use Rattle.rr_model.specs.declared.verdict.Side.TheVariants.{A, B}
 use Rattle.rr_model.specs.declared.verdict.Verdict.{Verdict}
 use Rattle.rr_model.specs.declared.verdict.Verdict.TheVariants.{Yes, No}
-use Rattle.rr_decide.specs.Question.{IsFirstOccurrence}
+use Rattle.rr_decide.specs.Question.{IsFirstOccurrence, IsVerdictBy, ShareNothing}
 use Rattle.rr_decide.specs.declared.occurrence.Occurrence.{Occurrence}
 
 -- an occurrence's instant can be compared: its number lies within 100,000,000,000,000 of 0
@@ -29,3 +31,9 @@ IsFirstOrNone s first = MatchOption first (IsEmptySketch s) (λ o. IsFirstOccurr
 -- the first occurrence of the sketch where it is asked for; none where it is not, or where the sketch is empty
 abbrev pub IsFirstIf : Bool → Sketch → Option Occurrence → Type 0
 IsFirstIf asked s first = MatchOption first (IsTrue asked → IsEmptySketch s) (λ o. IsTrue asked × IsFirstOccurrence s o.kind o.at)
+
+-- it is the verdict on any two sketches with nothing in common that have these first occurrences, each given where one of its side shows no
+abbrev pub IsVerdictApart : Option Occurrence → Option Occurrence → Verdict → Type 0
+IsVerdictApart of_a of_b verdict =
+    (shows : Side → Bool) (s u : Sketch) → ShareNothing s u → IsFirstIf (shows A) s of_a → IsFirstIf (shows B) u of_b
+    → IsVerdictBy shows (StandsIn s) (StandsIn u) verdict

@@ -1,8 +1,10 @@
 -- Numbers of time sets that together show nothing.
-use Rattle.std.specs.Prelude.{◌≡◌, ◌⊎◌, Bool, ℕ, ◌<◌, List, Option, None, Some, length, slice_get, slice_index_or}
+use Rattle.std.specs.Prelude.{◌≡◌, ◌⊎◌, Bool, ℕ, ◌<◌, List, Option, None, Some, slice_get}
 use Rattle.rr_model.specs.declared.verdict.Side.{Side}
+use Rattle.rr_word.specs.PairMemo.{IsPair, KeepsPair}
+use Rattle.rr_word.specs.declared.pair_memo.Pair.{Pair}
+use Rattle.rr_word.specs.declared.pair_memo.PairMemo.{PairMemo}
 use Rattle.rr_decide.specs.Question.{ShowsNone}
-use Rattle.rr_decide.specs.declared.quiet.Pair.{Pair}
 use Rattle.rr_decide.specs.declared.quiet.Quiet.{Quiet}
 use Rattle.rr_decide.specs.declared.quiet.Recent.{Recent}
 
@@ -23,23 +25,19 @@ ShowNothingTogether shows sets_a sets_b a b = (x y : ℕ) → a ≡ Some x → b
 abbrev pub ShowNothingBelow : (Side → Bool) → List (List ℕ) → List (List ℕ) → Option ℕ → Type 0
 ShowNothingBelow shows sets_a sets_b alike = (a b : ℕ) → IsAlike alike a b → ShowNothing shows sets_a sets_b a b
 
--- a and b are the two numbers of the pair
-abbrev pub IsPair : Pair → ℕ → ℕ → Type 0
-IsPair pair a b = (a ≡ pair.a) × (b ≡ pair.b)
-
 -- the pair is one of the last two
 abbrev pub IsRecent : Option Recent → ℕ → ℕ → Type 0
 IsRecent None a b = ⊥
 IsRecent (Some r) a b = IsPair r.last a b ⊎ IsPair r.earlier a b
 
--- the pair is at some place of the table
-abbrev pub IsPlaced : Option (List (Option Pair)) → ℕ → ℕ → Type 0
+-- the table is there, and the pair is in it
+abbrev pub IsPlaced : Option PairMemo → ℕ → ℕ → Type 0
 IsPlaced None a b = ⊥
-IsPlaced (Some slots) a b = (k : ℕ) × (k < length slots) × (slice_index_or slots k None ≡ Some (record { a = a; b = b }))
+IsPlaced (Some table) a b = KeepsPair table a b
 
 -- the memo remembers this pair of numbers
 abbrev pub HasPair : Quiet → ℕ → ℕ → Type 0
-HasPair q a b = IsAlike q.alike a b ⊎ (IsRecent q.recent a b ⊎ IsPlaced q.slots a b)
+HasPair q a b = IsAlike q.alike a b ⊎ (IsRecent q.recent a b ⊎ IsPlaced q.table a b)
 
 -- each pair that the new memo remembers, the old one did too
 abbrev pub WereThere : Quiet → Quiet → Type 0

@@ -1,18 +1,19 @@
 // A walk over the days of two sequences.
-ghost use Rattle.std.specs.Prelude.{◌≡◌, ◌<◌, ◌≤◌, IfSome, IfNone, Some, length, pos, neg_ℤ, ◌≤ℤ◌};
+ghost use Rattle.std.specs.Prelude.{◌<◌, ◌≤◌, IfSome, IfNone, Some, length, pos, neg_ℤ, ◌≤ℤ◌};
 ghost use Rattle.rr_model.specs.Bounds.{earliest_near};
 ghost use Rattle.rr_model.specs.Sets.Sketch.{IsNearDay};
 ghost use Rattle.rr_word.specs.Stretches.{AreFree, IsNumberOn};
 ghost use Rattle.rr_decide.specs.Look.{IsFirstFrom, IsFirstOn, IsLook};
-ghost use Rattle.rr_decide.specs.Question.{HasNoneBefore, ShareNothing, ShowsNoneFor, shown_by};
+ghost use Rattle.rr_decide.specs.Begin.{AreBegun};
+ghost use Rattle.rr_decide.specs.Question.{ShowsNoneFor, shown_by};
 ghost use Rattle.rr_decide.specs.Quiet.{IsQuiet, ShowNothingBelow, ShowNothingTogether};
 ghost use Rattle.rr_model.specs.declared.question.Question.TheVariants.{Equal};
 
 use crate::merge::{are_equal, first_shown};
 use crate::question::{FREE_DAYS, asks_second, days_without};
-use crate::quiet::{Pair, Quiet, are_remembered};
-use rr_model::{Question, Side};
-use rr_word::{DaySeq, seconds};
+use crate::quiet::{Quiet, are_remembered};
+use rr_model::{Kind, Question, Side};
+use rr_word::{DaySeq, Pair, seconds};
 
 /// A second of a day that shows that the answer is no.
 #[derive(Clone, Copy)]
@@ -211,22 +212,26 @@ fn shown_on_day<A: DaySeq, B: DaySeq>(
     }
 }
 
-/// The first occupied day of two sequences of one kind.
+/// The lesser of the first occupied days of two sequences, of which these are the kinds and the first days.
 /// None where they are of two kinds or one of them is empty, so that they have nothing in common.
-pub fn first_day<A: DaySeq, B: DaySeq>(a: &A, b: &B) -> Option<i64>
-    ensures none { IfNone result (ShareNothing (A.sketch a.now) (B.sketch b.now)) }
-    ensures kind { IfSome result (λ d. (A.sketch a.now).kind ≡ (B.sketch b.now).kind) }
-    ensures first_of_a { IfSome result (HasNoneBefore (A.sketch a.now)) }
-    ensures first_of_b { IfSome result (HasNoneBefore (B.sketch b.now)) }
+pub fn first_of_both(
+    kind_a: Kind,
+    first_a: Option<i64>,
+    kind_b: Kind,
+    first_b: Option<i64>,
+) -> Option<i64>
+    requires near_a { IfSome first_a IsNearDay }
+    requires near_b { IfSome first_b IsNearDay }
+    ensures both { AreBegun kind_a first_a kind_b first_b result }
     ensures near { IfSome result IsNearDay }
 {
-    let Some(of_a) = a.first() else {
+    let Some(of_a) = first_a else {
         return None;
     };
-    let Some(of_b) = b.first() else {
+    let Some(of_b) = first_b else {
         return None;
     };
-    if a.kind() != b.kind() {
+    if kind_a != kind_b {
         return None;
     }
     Some(of_a.min(of_b))

@@ -9,7 +9,7 @@ ghost use Rattle.rr_decide.specs.Question.{IsSoonEnough, IsVerdictTo};
 use crate::verdicts::verdict_by_walk;
 use rr_model::{MAX_CYCLE_DAYS, Question, Verdict};
 use rr_num::lcm_within;
-use rr_word::DaySeq;
+use rr_word::{DaySeq, common_cycle};
 
 /// Whether two sets have equal occurrences for all years to come; else the first that exactly one of them has.
 ///
@@ -85,14 +85,4 @@ pub(crate) fn equal_days(p: u64, r: u64) -> u64
 {
     let both = p + r;
     lcm_within(p, r, both).unwrap_or(both)
-}
-
-// After how many days two sequences repeat together.
-fn common_cycle(p: u64, r: u64) -> u64
-    requires first { 1 ≤ p }
-    requires second { 1 ≤ r }
-    requires few { lcm p r ≤ MAX_CYCLE_DAYS }
-    ensures { result ≡ lcm p r }
-{
-    lcm_within(p, r, MAX_CYCLE_DAYS).unwrap()
 }

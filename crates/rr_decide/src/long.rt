@@ -8,15 +8,16 @@ ghost use Rattle.rr_decide.specs.Alike.{AreAlike, AreCompared, AreOf, HaveOneAt,
 ghost use Rattle.rr_decide.specs.Look.{IsFirstFrom, IsFirstOn};
 ghost use Rattle.rr_decide.specs.Occurrence.{IsFirstOrNone, IsNearOccurrence, IsUpToMaxDay, NamesUpToMaxDay};
 ghost use Rattle.rr_decide.specs.Question.{HasNoneBefore, IsVerdictOn, ShareNothing, ShowsNoneFor, shown_by};
-ghost use Rattle.rr_decide.specs.Reading.{IsFirstOfBoth, IsReadInFew, steps_from};
+ghost use Rattle.rr_decide.specs.Reading.{IsReadInFew, steps_from};
 ghost use Rattle.rr_decide.specs.Rows.{AreEqualRows, AreUpTo};
 ghost use Rattle.rr_model.specs.declared.question.Question.TheVariants.{Equal};
 
-use crate::days::Shown;
+use crate::days::{Shown, first_of_both};
 use crate::decide::equal_days;
 use crate::merge::first_shown;
 use crate::occurrence::Occurrence;
-use rr_model::{Question, Side, Verdict};
+use crate::verdicts::verdict_of_lesser;
+use rr_model::{Question, Verdict};
 use rr_steps::Steps;
 use rr_word::{Counted, DaySeq, days_between};
 use std::sync::ledger::Ledger;
@@ -38,33 +39,10 @@ pub fn equal_long<A: DaySeq + Drop, B: DaySeq + Drop, L: Ledger>(
     ensures day { NamesUpToMaxDay result }
     ensures steps { IsReadInFew (A.sketch a.now) (B.sketch b.now) (steps.new - steps.old) }
 {
-    match first_of_both(a, b) {
+    match first_of_both(a.kind(), a.first(), b.kind(), b.first()) {
         None => verdict_apart_long(a, b, steps),
         Some(from) => walk_from(a, b, from, steps),
     }
-}
-
-// The first occupied day of two sequences of one kind; none where they are of two kinds or one of them is empty.
-fn first_of_both<A: DaySeq + Drop, B: DaySeq + Drop>(a: &Counted<A>, b: &Counted<B>) -> Option<i64>
-    ensures none { IfNone result (ShareNothing (A.sketch a.now) (B.sketch b.now)) }
-    ensures kind { IfSome result (λ d. (A.sketch a.now).kind ≡ (B.sketch b.now).kind) }
-    ensures first_of_a { IfSome result (HasNoneBefore (A.sketch a.now)) }
-    ensures first_of_b { IfSome result (HasNoneBefore (B.sketch b.now)) }
-    ensures near { IfSome result IsNearDay }
-    ensures some { IfSome result
-        (λ d. IsEmptySketch (A.sketch a.now) ⊎ IsEmptySketch (B.sketch b.now) → ⊥) }
-    ensures first { IfSome result (IsFirstOfBoth (A.sketch a.now) (B.sketch b.now)) }
-{
-    let Some(of_a) = a.first() else {
-        return None;
-    };
-    let Some(of_b) = b.first() else {
-        return None;
-    };
-    if a.kind() != b.kind() {
-        return None;
-    }
-    Some(of_a.min(of_b))
 }
 
 // The first occurrence of a sequence, in one step.
@@ -96,18 +74,7 @@ fn verdict_apart_long<A: DaySeq + Drop, B: DaySeq + Drop, L: Ledger>(
 {
     let of_a = read_first(a, steps);
     let of_b = read_first(b, steps);
-    match (of_a, of_b) {
-        (None, None) => Verdict::Yes,
-        (Some(one), None) => one.against(Side::A),
-        (None, Some(other)) => other.against(Side::B),
-        (Some(one), Some(other)) => {
-            if one.comes_before(other) {
-                one.against(Side::A)
-            } else {
-                other.against(Side::B)
-            }
-        }
-    }
+    verdict_of_lesser(of_a, of_b)
 }
 
 // The verdict on two sequences of one kind, by a walk from their first occupied day on.

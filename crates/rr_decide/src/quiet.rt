@@ -1,25 +1,16 @@
 // Pairs of time sets that showed nothing, by their numbers.
 ghost use Rattle.std.specs.Prelude.{◌≡◌, ◌+◌, ◌⊎◌, ◌<◌, ◌≤◌, ℕ, IsTrue, Some, length, get_or};
-ghost use Rattle.rr_decide.specs.Quiet.{AreRemembered, HasPair, IsAlike, IsPair, IsPlaced, IsRecent, WereThere, WereThereOr};
+ghost use Rattle.rr_word.specs.PairMemo.{IsPair};
+ghost use Rattle.rr_decide.specs.Quiet.{AreRemembered, HasPair, IsAlike, IsPlaced, IsRecent, WereThere, WereThereOr};
 ghost use Rattle.rr_decide.specs.Rows.{EachPair};
+
+use rr_word::{Pair, PairMemo};
 
 // How many indexes make a block.
 const BLOCK: usize = 16;
 
 // How many indexes of two rows are compared with one another at once.
 const ROW: usize = 512;
-
-// At how many places pairs are remembered.
-const PLACES: usize = 1_024;
-
-/// The numbers of two time sets, one of each sequence.
-#[derive(Clone, Copy)]
-pub struct Pair {
-    /// The number of a set of the first sequence.
-    pub a: u32,
-    /// The number of a set of the second.
-    pub b: u32,
-}
 
 // The last two pairs.
 #[derive(Clone, Copy)]
@@ -86,7 +77,7 @@ pub struct Quiet {
     // any more.
     alike: Option<u32>,
     recent: Option<Recent>,
-    slots: Option<[Option<Pair>; 1_024]>,
+    table: Option<PairMemo>,
 }
 
 impl Quiet {
@@ -97,7 +88,7 @@ impl Quiet {
         Quiet {
             alike: Some(0),
             recent: None,
-            slots: None,
+            table: None,
         }
     }
 
@@ -131,11 +122,11 @@ impl Quiet {
 
     // Whether a pair is in the table.
     fn is_placed(&self, pair: Pair) -> bool
-        ensures { IsTrue result → IsPlaced self.now.slots pair.a pair.b }
+        ensures { IsTrue result → IsPlaced self.now.table pair.a pair.b }
     {
-        match &self.slots {
+        match &self.table {
             None => false,
-            Some(slots) => is_in(slots, pair),
+            Some(table) => table.has(pair),
         }
     }
 
@@ -187,12 +178,12 @@ impl Quiet {
     fn make_table(&mut self)
         ensures { WereThere self.old self.new }
     {
-        if self.slots.is_some() {
+        if self.table.is_some() {
             return;
         }
         if let Some(recent) = self.recent {
             if recent.are_two() {
-                self.slots = Some([None; PLACES]);
+                self.table = Some(PairMemo::new());
                 self.place(recent.earlier);
                 self.place(recent.last);
             }
@@ -203,11 +194,11 @@ impl Quiet {
     fn place(&mut self, pair: Pair)
         ensures recent { self.new.recent ≡ self.old.recent }
         ensures alike { self.new.alike ≡ self.old.alike }
-        ensures placed { (a b : ℕ) → IsPlaced self.new.slots a b
-            → IsPlaced self.old.slots a b ⊎ IsPair pair a b }
+        ensures placed { (a b : ℕ) → IsPlaced self.new.table a b
+            → IsPlaced self.old.table a b ⊎ IsPair pair a b }
     {
-        if let Some(slots) = &mut self.slots {
-            slots[index_of(pair)] = Some(pair);
+        if let Some(table) = &mut self.table {
+            table.put(pair);
         }
     }
 
@@ -345,23 +336,6 @@ fn after(recent: Option<Recent>, pair: Pair) -> Recent
         last: pair,
         earlier,
     }
-}
-
-// Whether a pair is in a table.
-fn is_in(slots: &[Option<Pair>; 1_024], pair: Pair) -> bool
-    ensures { IsTrue result → IsPlaced (Some slots.now) pair.a pair.b }
-{
-    match slots[index_of(pair)] {
-        None => false,
-        Some(other) => other.a == pair.a && other.b == pair.b,
-    }
-}
-
-// The index of a pair in the table. Pairs of one number have indexes of their own, as long as there are as many.
-fn index_of(pair: Pair) -> usize
-    ensures { result < 1_024 }
-{
-    ((u64::from(pair.a) + 30 * u64::from(pair.b)) % 1_024) as usize
 }
 
 /// Whether both numbers are there, and their pair is remembered.

@@ -1,10 +1,10 @@
 // The verdict on two sequences, for one question.
 ghost use Rattle.std.specs.Prelude.{◌≡◌, ◌≤◌, IfSome};
 ghost use Rattle.rr_model.specs.Sets.Sketch.{IsNearDay};
-ghost use Rattle.rr_decide.specs.Occurrence.{IsFirstIf, IsNearOccurrence, IsUpToMaxDay, NamesUpToMaxDay};
+ghost use Rattle.rr_decide.specs.Occurrence.{IsFirstIf, IsNearOccurrence, IsUpToMaxDay, IsVerdictApart, NamesUpToMaxDay};
 ghost use Rattle.rr_decide.specs.Question.{HasNoneBefore, IsVerdictOn, IsWindow, ShareNothing, shown_by};
 
-use crate::days::{first_day, first_day_shown};
+use crate::days::{first_day_shown, first_of_both};
 use crate::occurrence::{Occurrence, first_occurrence};
 use crate::question::is_shown_by;
 use rr_model::{Question, Side, Verdict};
@@ -22,7 +22,7 @@ pub fn verdict_by_walk<A: DaySeq, B: DaySeq>(
     ensures verdict { IsVerdictOn question (A.sketch a.now) (B.sketch b.now) result }
     ensures day { NamesUpToMaxDay result }
 {
-    match first_day(a, b) {
+    match first_of_both(a.kind(), a.first(), b.kind(), b.first()) {
         None => verdict_apart(question, a, b),
         Some(from) => of_one_kind(question, a, b, from, window),
     }
@@ -70,7 +70,19 @@ fn verdict_apart<A: DaySeq, B: DaySeq>(question: Question, a: &A, b: &B) -> Verd
 {
     let shows_a = is_shown_by(question, Side::A);
     let shows_b = is_shown_by(question, Side::B);
-    match (first_if(shows_a, a), first_if(shows_b, b)) {
+    verdict_of_lesser(first_if(shows_a, a), first_if(shows_b, b))
+}
+
+/// The verdict by the lesser of two occurrences, that on side A where the first is it, else that on side B; yes without any.
+pub fn verdict_of_lesser(of_a: Option<Occurrence>, of_b: Option<Occurrence>) -> Verdict
+    requires near_a { IfSome of_a IsNearOccurrence }
+    requires near_b { IfSome of_b IsNearOccurrence }
+    requires day_a { IfSome of_a (λ o. IsUpToMaxDay o.kind o.at) }
+    requires day_b { IfSome of_b (λ o. IsUpToMaxDay o.kind o.at) }
+    ensures verdict { IsVerdictApart of_a of_b result }
+    ensures day { NamesUpToMaxDay result }
+{
+    match (of_a, of_b) {
         (None, None) => Verdict::Yes,
         (Some(one), None) => one.against(Side::A),
         (None, Some(other)) => other.against(Side::B),

@@ -1,7 +1,6 @@
 pub mod ApartLemmas
 pub mod DayLemmas
 pub mod OneLemmas
-pub mod PairLemmas
 pub mod QuietLemmas
 pub mod RunningLemmas
 pub mod WindowLemmas

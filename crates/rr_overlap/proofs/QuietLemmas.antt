@@ -1,5 +1,5 @@
 -- Days on which nothing meets, without a walk over their seconds.
-use Rattle.std.proofs.Common.{◌≡◌, ◌↔◌, ◌⊎◌, inl, inr, ℕ, suc, ◌+◌, ◌<◌, ◌≤◌, Bool, List, [], ◌∷◌, get_or, length, ℤ, pos, ◌+ℤ◌, ◌≤ℤ◌, ◌<ℤ◌, refl}
+use Rattle.std.proofs.Common.{◌≡◌, inl, inr, ℕ, ◌≤◌, Bool, List, [], ◌∷◌, get_or, length, ℤ, pos, ◌+ℤ◌, ◌≤ℤ◌, ◌<ℤ◌, refl}
 use Rattle.std.proofs.Common.{sym, ap, subst, ◌∙◌, arith}
 use Rattle.std.specs.List.{Contains}
 use Rattle.std.specs.Prelude.{IsTrue, Option, None, Some, nat_lt}
@@ -13,12 +13,12 @@ use Rattle.rr_model.specs.declared.sketch.Sketch.{Sketch}
 use Rattle.rr_model.proofs.RisingSetLemmas.{Contains-none, rising_at}
 use Rattle.rr_model.proofs.SecondsLemmas.{first_least}
 use Rattle.rr_word.specs.Stretches.{IsNumberOn}
+use Rattle.rr_word.specs.declared.pair_memo.PairMemo.{PairMemo}
 use Rattle.rr_word.proofs.SketchLemmas.{rising_on, second_fits}
-use Rattle.rr_overlap.specs.Apart.{AreApartBefore, AreApartOnDay, BeginsAt, IsLastBefore, IsWalked, Meet, Reaches, StillRuns, after_day}
+use Rattle.rr_overlap.specs.Apart.{AreApartBefore, AreApartOnDay, BeginsAt, IsLastBefore, IsWalked, Reaches, after_day}
 use Rattle.rr_overlap.specs.Days.{IsQuietDay, midnight}
-use Rattle.rr_overlap.specs.Pairs.{AreQuiet, HasPair, IsKnown, WereThereOr}
+use Rattle.rr_overlap.specs.Pairs.{AreQuiet, IsKnown, WereThereOr}
 use Rattle.rr_overlap.specs.declared.begun.LastBegun.{LastBegun}
-use Rattle.rr_overlap.specs.declared.pairs.Pair.{Pair}
 use Rattle.rr_overlap.proofs.ApartLemmas.{last_kept}
 use Rattle.rr_overlap.proofs.DayLemmas.{begins_on_day, second_on_day}
 
@@ -130,14 +130,14 @@ module _ (s : Sketch) (d : ℕ) (u : Sketch) (e : ℕ) (day : ℤ) (vs : IsValid
 
 module _ (d e : ℕ) (sets_a sets_b : List (List ℕ)) (s u : Sketch) where
   -- the sets of a remembered pair don't meet on the day that has them
-  pub known_apart : (day : ℤ) (slots : List (Option Pair)) (of_a of_b : Option ℕ) → IsNumberOn sets_a s day of_a → IsNumberOn sets_b u day of_b
-      → AreQuiet d e sets_a sets_b slots → IsKnown slots of_a of_b → AreApartOnDay d e (times_on s day) (times_on u day)
-  known_apart day slots (Some a) (Some b) on_a on_b quiet known = quiet a b known (times_on s day) (times_on u day) on_a on_b
-  known_apart day slots (Some a) None on_a on_b quiet known = absurd known
-  known_apart day slots None b on_a on_b quiet known = absurd known
+  pub known_apart : (day : ℤ) (memo : PairMemo) (of_a of_b : Option ℕ) → IsNumberOn sets_a s day of_a → IsNumberOn sets_b u day of_b
+      → AreQuiet d e sets_a sets_b memo → IsKnown memo of_a of_b → AreApartOnDay d e (times_on s day) (times_on u day)
+  known_apart day memo (Some a) (Some b) on_a on_b quiet known = quiet a b known (times_on s day) (times_on u day) on_a on_b
+  known_apart day memo (Some a) None on_a on_b quiet known = absurd known
+  known_apart day memo None b on_a on_b quiet known = absurd known
 
   -- the numbers of a day whose seconds don't meet are remembered
-  pub quiet_after : (day : ℤ) (old new : List (Option Pair)) (of_a of_b : Option ℕ) → IsNumberOn sets_a s day of_a → IsNumberOn sets_b u day of_b
+  pub quiet_after : (day : ℤ) (old new : PairMemo) (of_a of_b : Option ℕ) → IsNumberOn sets_a s day of_a → IsNumberOn sets_b u day of_b
       → AreQuiet d e sets_a sets_b old → AreApartOnDay d e (times_on s day) (times_on u day) → WereThereOr old new of_a of_b
       → AreQuiet d e sets_a sets_b new
   quiet_after day old new of_a of_b on_a on_b quiet apart from a b known xs ys ex ey =

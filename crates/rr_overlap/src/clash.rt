@@ -9,8 +9,7 @@ ghost use Rattle.rr_overlap.specs.Running.{IsClashVerdictOn, IsDuration, NamesUp
 use crate::begun::Durations;
 use crate::days::first_meeting;
 use rr_model::{Kind, MAX_CYCLE_DAYS, day_part};
-use rr_num::lcm_within;
-use rr_word::{DaySeq, days_between};
+use rr_word::{DaySeq, common_cycle, days_between};
 
 // The days of the longest duration.
 const LONGEST_DAYS: u64 = 366;
@@ -80,16 +79,6 @@ fn first_day<A: DaySeq, B: DaySeq>(a: &A, b: &B) -> Option<i64>
         return None;
     };
     Some(of_a.min(of_b))
-}
-
-// After how many days two sequences repeat together.
-fn common_cycle(p: u64, r: u64) -> u64
-    requires first { 1 ≤ p }
-    requires second { 1 ≤ r }
-    requires few { lcm p r ≤ MAX_CYCLE_DAYS }
-    ensures { result ≡ lcm p r }
-{
-    lcm_within(p, r, MAX_CYCLE_DAYS).unwrap()
 }
 
 // The number of the occurrence of this kind that begins at this second.

@@ -8,8 +8,8 @@ ghost use Rattle.rr_overlap.specs.Pairs.{AreQuiet, IsKnown};
 ghost use Rattle.rr_overlap.specs.Running.{IsDuration};
 
 use crate::begun::{Durations, LastBegun, Meeting, after_day, midnight_of, reaches, second_at};
-use crate::pairs::{Pairs, is_known, remember};
-use rr_word::{DaySeq, next_second, seconds};
+use crate::pairs::{is_known, remember};
+use rr_word::{DaySeq, PairMemo, next_second, seconds};
 
 /// What a day shows of two sequences.
 #[derive(Clone, Copy)]
@@ -83,7 +83,7 @@ fn walk_day<A: DaySeq, B: DaySeq>(
     durations: Durations,
     day: i64,
     begun: LastBegun,
-    pairs: &mut Pairs,
+    pairs: &mut PairMemo,
 ) -> DayEnd
     requires first { IsDuration durations.first }
     requires second { IsDuration durations.second }
@@ -92,11 +92,11 @@ fn walk_day<A: DaySeq, B: DaySeq>(
     requires walked { IsWalkedTo (A.sketch a.now) (B.sketch b.now) durations day begun }
     requires near { IsNear begun }
     requires quiet { AreQuiet durations.first durations.second (A.sets a.now) (B.sets b.now)
-        pairs.old.slots }
+        pairs.old }
     ensures day { IsDayEnd (A.sketch a.now) durations.first (B.sketch b.now) durations.second
         day result }
     ensures quiet { AreQuiet durations.first durations.second (A.sets a.now) (B.sets b.now)
-        pairs.new.slots }
+        pairs.new }
 {
     let of_a = a.stretch(day).first;
     let of_b = b.stretch(day).first;
@@ -145,7 +145,7 @@ pub fn first_meeting<A: DaySeq, B: DaySeq>(
     ensures some { IfSome result (IsFirstMeeting (A.sketch a.now) (B.sketch b.now) durations) }
     ensures near { IfSome result (λ m. IsNearSecond m.at) }
 {
-    let mut pairs = Pairs::new();
+    let mut pairs = PairMemo::new();
     let mut begun = LastBegun {
         first: None,
         second: None,

@@ -11,3 +11,4 @@ pub mod SetNumberLemmas
 pub mod SameLemmas
 pub mod NumberedLemmas
 pub mod MergeLemmas
+pub mod PairMemoLemmas

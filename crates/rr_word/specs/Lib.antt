@@ -3,3 +3,4 @@ pub mod Bounded
 pub mod Numbered
 pub mod Stretches
 pub mod Merge
+pub mod PairMemo

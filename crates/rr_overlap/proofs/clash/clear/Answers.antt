@@ -1,6 +1,5 @@
-use Rattle.std.proofs.Common.{w64, to_z, of_z, pos, ◌+ℤ◌, ◌+◌, ◌≤◌, ◌≡◌, refl, sym, subst, arith}
-use Rattle.std.proofs.lemmas.Int.{ints, clamps, to_z-of_z}
-use Rattle.rr_model.specs.Whole.Divisors.{lcm}
+use Rattle.std.proofs.Common.{w64, to_z, of_z, ◌≤◌, arith}
+use Rattle.std.proofs.lemmas.Int.{ints, clamps}
 use Rattle.rr_overlap.proofs.RunningLemmas.{clash_at, never_shared}
 use Rattle.rr_overlap.proofs.WindowLemmas.{clear_for_ever}
 use Rattle.rr_overlap.proofs.clash.clear.Goals as goal

@@ -1,5 +1,5 @@
 use Rattle.std.proofs.Common.{w64, to_z, of_z, pos, ◌+ℤ◌, ◌+◌, arith}
-use Rattle.std.proofs.lemmas.Int.{ints, to_z-of_z}
+use Rattle.std.proofs.lemmas.Int.{ints}
 use Rattle.rr_overlap.proofs.DayLemmas.{walk_begins, walked_at}
 use Rattle.rr_overlap.proofs.days.first_meeting.Goals as goal
 

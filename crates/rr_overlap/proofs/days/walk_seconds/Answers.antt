@@ -1,6 +1,6 @@
-use Rattle.std.proofs.Common.{w64, to_z, of_z, refl, sym, subst, arith}
+use Rattle.std.proofs.Common.{w64, to_z, of_z, arith}
 use Rattle.std.proofs.lemmas.Int.{ints, to_z-of_z}
-use Rattle.rr_overlap.specs.Days.{IsAt, midnight}
+use Rattle.rr_overlap.specs.Days.{midnight}
 use Rattle.rr_overlap.proofs.DayLemmas.{at_end, at_midnight, found_at, one_further}
 use Rattle.rr_overlap.proofs.days.walk_seconds.Goals as goal
 

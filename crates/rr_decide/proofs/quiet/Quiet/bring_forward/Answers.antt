@@ -5,4 +5,4 @@ use Rattle.rr_decide.proofs.quiet.Quiet.bring_forward.Goals as goal
 pub returns : goal.returns
 returns c =
     let self = c.args.self.now in
-    brought_forward self (record { alike = self.alike; recent = Some c.after.result; slots = self.slots }) c.args.pair refl refl c.after.ensures c.requires
+    brought_forward self (record { alike = self.alike; recent = Some c.after.result; table = self.table }) c.args.pair refl refl c.after.ensures c.requires

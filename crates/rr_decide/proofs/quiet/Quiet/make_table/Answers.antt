@@ -1,5 +1,5 @@
 use Rattle.std.proofs.Common.{inl, inr, ◌∙◌}
-use Rattle.rr_decide.proofs.QuietLemmas.{both_placed, none_there}
+use Rattle.rr_decide.proofs.QuietLemmas.{both_placed}
 use Rattle.rr_decide.proofs.quiet.Quiet.make_table.Goals as goal
 
 pub returns-then-are_two : goal.returns-then-are_two
@@ -8,6 +8,6 @@ returns-then-are_two c =
     (c.place-then-are_two.ensures.recent ∙ c.place.ensures.recent)
     (λ a b h.
     elim (c.place-then-are_two.ensures.placed a b h) [
-      | inl old ↦ elim (c.place.ensures.placed a b old) [ inl none ↦ absurd (none_there 1_024 a b none) | inr earlier ↦ inl earlier ]
+      | inl old ↦ elim (c.place.ensures.placed a b old) [ inl none ↦ absurd (c.new.ensures a b none) | inr earlier ↦ inl earlier ]
       | inr last ↦ inr last
     ])

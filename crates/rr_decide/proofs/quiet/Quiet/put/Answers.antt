@@ -6,6 +6,6 @@ pub returns : goal.returns
 returns c =
     let made = c.make_table.new.self in
     let placed = c.place.new.self in
-    put_last c.args.self.now made (record { alike = placed.alike; recent = Some c.after.result; slots = placed.slots }) c.args.pair c.make_table.ensures
+    put_last c.args.self.now made (record { alike = placed.alike; recent = Some c.after.result; table = placed.table }) c.args.pair c.make_table.ensures
     c.place.ensures.alike
     (λ a b h. elim (c.after.ensures a b h) [ inl old ↦ inl (rw c.place.ensures.recent at old) | inr new ↦ inr new ]) c.place.ensures.placed
