@@ -32,7 +32,7 @@ IsFirstOrNone s first = MatchOption first (IsEmptySketch s) (λ o. IsFirstOccurr
 abbrev pub IsFirstIf : Bool → Sketch → Option Occurrence → Type 0
 IsFirstIf asked s first = MatchOption first (IsTrue asked → IsEmptySketch s) (λ o. IsTrue asked × IsFirstOccurrence s o.kind o.at)
 
--- it is the verdict on any two sketches with nothing in common that have these first occurrences, each given where one of its side shows no
+-- the verdict on any two sketches with nothing in common that have these first occurrences, each given where an occurrence of its side shows no
 abbrev pub IsVerdictApart : Option Occurrence → Option Occurrence → Verdict → Type 0
 IsVerdictApart of_a of_b verdict =
     (shows : Side → Bool) (s u : Sketch) → ShareNothing s u → IsFirstIf (shows A) s of_a → IsFirstIf (shows B) u of_b

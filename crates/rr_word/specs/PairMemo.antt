@@ -1,5 +1,5 @@
 -- Pairs of time sets that are remembered by their numbers.
-use Rattle.std.specs.Prelude.{◌≡◌, ◌⊎◌, ℕ, ◌<◌, None, Some, length, slice_index_or}
+use Rattle.std.specs.Prelude.{◌≡◌, ◌⊎◌, ◌↔◌, ℕ, ◌+◌, ◌*◌, ◌%◌, None, Some, slice_index_or}
 use Rattle.rr_word.specs.declared.pair_memo.Pair.{Pair}
 use Rattle.rr_word.specs.declared.pair_memo.PairMemo.{PairMemo}
 
@@ -7,10 +7,15 @@ use Rattle.rr_word.specs.declared.pair_memo.PairMemo.{PairMemo}
 abbrev pub IsPair : Pair → ℕ → ℕ → Type 0
 IsPair pair a b = (a ≡ pair.a) × (b ≡ pair.b)
 
--- the memo remembers the pair of these two numbers, in some slot
-abbrev pub KeepsPair : PairMemo → ℕ → ℕ → Type 0
-KeepsPair memo a b = (k : ℕ) × (k < length memo.slots) × (slice_index_or memo.slots k None ≡ Some (record { a = a; b = b }))
+-- the slot of the pair of two numbers, one of 1,024
+abbrev pub slot_of : ℕ → ℕ → ℕ
+slot_of a b = (a + 30 * b) % 1_024
 
--- each pair that is remembered now was so before or is this one
-abbrev pub WereKeptOr : PairMemo → PairMemo → Pair → Type 0
-WereKeptOr old new pair = (a b : ℕ) → KeepsPair new a b → KeepsPair old a b ⊎ IsPair pair a b
+-- the memo remembers the pair of these two numbers, in its slot
+abbrev pub KeepsPair : PairMemo → ℕ → ℕ → Type 0
+KeepsPair memo a b = slice_index_or memo.slots (slot_of a b) None ≡ Some (record { a = a; b = b })
+
+-- the memo remembers exactly this pair, and those that it remembered before and that have another slot
+abbrev pub IsPut : PairMemo → PairMemo → Pair → Type 0
+IsPut old new pair =
+    (a b : ℕ) → KeepsPair new a b ↔ (IsPair pair a b ⊎ (KeepsPair old a b × (slot_of a b ≡ slot_of pair.a pair.b → ⊥)))

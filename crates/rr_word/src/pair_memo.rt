@@ -1,6 +1,6 @@
 // Pairs of time sets, remembered by their numbers.
-ghost use Rattle.std.specs.Prelude.{◌<◌, ℕ, IsTrue};
-ghost use Rattle.rr_word.specs.PairMemo.{KeepsPair, WereKeptOr};
+ghost use Rattle.std.specs.Prelude.{◌≡◌, ◌↔◌, ◌<◌, ℕ, IsTrue};
+ghost use Rattle.rr_word.specs.PairMemo.{IsPut, KeepsPair, slot_of};
 
 // The number of slots.
 const SLOTS: usize = 1_024;
@@ -34,7 +34,7 @@ impl PairMemo {
     /// Whether a pair is remembered.
     #[inline(always)]
     pub fn has(&self, pair: Pair) -> bool
-        ensures { IsTrue result → KeepsPair self.now pair.a pair.b }
+        ensures { IsTrue result ↔ KeepsPair self.now pair.a pair.b }
     {
         match self.slots[index_of(pair)] {
             None => false,
@@ -45,7 +45,7 @@ impl PairMemo {
     /// Remembers a pair, instead of the last one of its slot.
     #[inline(always)]
     pub fn put(&mut self, pair: Pair)
-        ensures { WereKeptOr self.old self.new pair }
+        ensures { IsPut self.old self.new pair }
     {
         self.slots[index_of(pair)] = Some(pair);
     }
@@ -54,7 +54,8 @@ impl PairMemo {
 // The slot of a pair. Pairs with one number in common have different slots, as long as there are enough.
 #[inline(always)]
 fn index_of(pair: Pair) -> usize
-    ensures { result < 1_024 }
+    ensures place { result ≡ slot_of pair.a pair.b }
+    ensures within { result < 1_024 }
 {
     ((u64::from(pair.a) + 30 * u64::from(pair.b)) % 1_024) as usize
 }

@@ -2,4 +2,4 @@ use Rattle.rr_word.proofs.PairMemoLemmas.{none_kept}
 use Rattle.rr_word.proofs.pair_memo.PairMemo.new.Goals as goal
 
 pub returns : goal.returns
-returns c = none_kept 1_024
+returns c = none_kept
