@@ -5,7 +5,7 @@ use Rattle.rr_model.specs.Whole.{floor_div, floor_mod}
 use Rattle.rr_model.specs.Moment.{Before, day_part, second_part}
 use Rattle.rr_model.specs.declared.kind.Kind.{Kind}
 use Rattle.rr_model.specs.declared.kind.Kind.TheVariants.{Days, Moments}
-use Rattle.rr_model.proofs.OrderLemmas.{from_place, slot_of, to_place}
+use Rattle.rr_model.proofs.OrderLemmas.{from_place, place_of, to_place}
 use Rattle.rr_model.proofs.WholeLemmas.{floor_whole, floor_mod_below}
 
 -- what comes before another that does not come before a third comes before it or is at its place
@@ -13,7 +13,7 @@ pub Before-compare : (a : Kind) (t : ℤ) (b : Kind) (u : ℤ) (c : Kind) (v : �
 Before-compare a t b u c v h n =
     let x = to_place a t c v h in
     let P : Type 0 = Before a t b u in
-    by_lt_z {P = P} (slot_of b u) (slot_of c v) (λ l. absurd (n (from_place b u c v l))) (λ g. from_place a t b u (omega (arith, ints, x)))
+    by_lt_z {P = P} (place_of b u) (place_of c v) (λ l. absurd (n (from_place b u c v l))) (λ g. from_place a t b u (omega (arith, ints, x)))
 
 -- ---- days and seconds
 
