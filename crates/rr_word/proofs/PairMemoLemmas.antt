@@ -9,7 +9,7 @@ use Rattle.rr_word.specs.declared.pair_memo.Pair.{Pair}
 nothing_is_no_pair : (p : Pair) (o : Option Pair) → o ≡ None → o ≡ Some p → ⊥
 nothing_is_no_pair p o e f = cc
 
--- no pair is at any of 1,024 empty places
+-- no pair is in any of 1,024 empty slots
 pub none_kept : (a b : ℕ) → KeepsPair (record { slots = replicate 1_024 None }) a b → ⊥
 none_kept a b h =
     nothing_is_no_pair (record { a = a; b = b }) (get_or (replicate 1_024 None) (slot_of a b) None)

@@ -54,7 +54,7 @@ impl PairMemo {
 // The slot of a pair. Pairs with one number in common have different slots, as long as there are enough.
 #[inline(always)]
 fn index_of(pair: Pair) -> usize
-    ensures place { result ≡ slot_of pair.a pair.b }
+    ensures slot { result ≡ slot_of pair.a pair.b }
     ensures within { result < 1_024 }
 {
     ((u64::from(pair.a) + 30 * u64::from(pair.b)) % 1_024) as usize
