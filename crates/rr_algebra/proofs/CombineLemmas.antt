@@ -1,13 +1,14 @@
 -- Sets of seconds that are made of two, and their numbers.
-use Rattle.std.proofs.Common.{◌≡◌, ◌≢◌, ◌⊎◌, ℕ, ◌+◌, ◌≤◌, List, [], ◌∷◌, ◌++◌, All, Contains, get_or, length, length-append, nat_lt, ℤ, pos, ◌+ℤ◌, inl, inr, refl, sym, ap, subst, ◌∙◌, arith}
+use Rattle.std.proofs.Common.{◌≡◌, ◌≢◌, ◌⊎◌, ℕ, ◌+◌, ◌≤◌, List, [], ◌∷◌, ◌++◌, Contains, get_or, length, length-append, nat_lt, ℤ, pos, ◌+ℤ◌, inl, inr, refl, sym, ap, subst, ◌∙◌, arith}
 use Rattle.std.proofs.lemmas.Bool.{cases_lt}
 use Rattle.std.proofs.lemmas.List.{get_or_default, get_or_append_left, get_or-append-add}
-use Rattle.std.proofs.lemmas.List.Elements.{All-contains, All-contains_itself, All-push, Contains-append_cases, Contains-append_left, Contains-append_right}
+use Rattle.std.proofs.lemmas.List.Elements.{All-push}
 use Rattle.std.proofs.lemmas.List.Sums.{sum_by-cons}
+use Rattle.std.proofs.lemmas.Option.{get_or_from_slice_get}
 use Rattle.rr_model.specs.Rising.{Rises}
-use Rattle.rr_model.specs.Rising.Sets.{IsSecondsOfDay, IsSetOf}
-use Rattle.rr_model.proofs.RisingSetLemmas.{Contains-head, Contains-none, set_same}
-use Rattle.rr_model.proofs.SecondsLemmas.{Contains-or_not, below_from_test}
+use Rattle.rr_model.specs.Rising.Sets.{IsSecondsOfDay}
+use Rattle.rr_model.proofs.RisingSetLemmas.{Contains-head, Contains-none}
+use Rattle.rr_model.proofs.SecondsLemmas.{below_from_test}
 use Rattle.rr_model.specs.Sets.Sizes.{total_size}
 use Rattle.rr_model.specs.Sets.Sketch.{IsTimeSet, times_on}
 use Rattle.rr_model.specs.declared.limits.TheConstants.{MAX_SECONDS}
@@ -16,54 +17,13 @@ use Rattle.rr_model.specs.declared.kind.Kind.{Kind}
 use Rattle.rr_model.specs.declared.kind.Kind.TheVariants.{Days, Moments}
 use Rattle.rr_shapes.specs.Placing.{IsPlaced}
 use Rattle.rr_shapes.specs.Tables.{Extends}
-use Rattle.rr_shapes.proofs.TableLemmas.{same_set}
-use Rattle.rr_shapes.specs.declared.unions.Pair.{Pair}
 use Rattle.rr_days.proofs.PlacedLemmas.{grown, placed_grown}
-use Rattle.rr_algebra.specs.Combining.{AreDayNumbers, AreDaySets, AreKnown, AreMadeOnDays, IsDaySet, IsMadeOf, IsMadeOnDay, IsNumberOf}
-use Rattle.rr_algebra.specs.declared.op.Op.{Op}
-use Rattle.rr_algebra.specs.declared.op.Op.TheVariants.{Common, Minus, Union}
-
--- the common part is what is left without what the second lacks
-pub common_made : (xs ys rest both : List ℕ) → IsSetOf nat_lt rest (λ s. Contains xs s × (Contains ys s → ⊥))
-    → IsSetOf nat_lt both (λ s. Contains xs s × (Contains rest s → ⊥)) → IsMadeOf Common xs ys both
-common_made xs ys rest both r b =
-    set_same nat_lt (λ s. Contains xs s × (Contains rest s → ⊥)) (λ s. Contains xs s × Contains ys s) both b (λ s. (
-      (λ h. (h.0, elim (Contains-or_not ys s) [ inl there ↦ there | inr absent ↦ absurd (h.1 ((r.exact s).1 (h.0, absent))) ])),
-      (λ h. (h.0, λ c. ((r.exact s).0 c).1 h.1)),
-    ))
-
--- ---- what was made keeps its number
-
-module _ (old new : List (List ℕ)) (more : Extends old new) where
-  pub number_kept : (op : Op) (xs ys : List ℕ) (number : ℕ) → IsNumberOf op xs ys old number → IsNumberOf op xs ys new number
-  number_kept op xs ys number is =
-      let k = same_set old new number more is.within in
-      record { within = k.0; made = rw k.1 is.made }
-
-  pub known_kept : (op : Op) (one other : List (List ℕ)) (known : List (Pair × ℕ)) → AreKnown op one other old known → AreKnown op one other new known
-  known_kept op one other known are k d l = let u = are k d l in (u.0, number_kept op _ _ _ u.1)
-
--- what is in two lists then was in them, or is the new one
-pub only_put : {X : Type 0} (all all' recent recent' : List X) (e : X) → ((k : X) → Contains all' k → Contains all k ⊎ (e ≡ k))
-    → All (λ k. Contains recent k ⊎ (e ≡ k)) recent' → (k : X) → Contains (all' ++ recent') k → Contains (all ++ recent) k ⊎ (e ≡ k)
-only_put {X} all all' recent recent' e only kept k c = elim (Contains-append_cases all' recent' k c) [
-  | inl a ↦ elim (only k a) [
-    | inl was ↦ inl (Contains-append_left all recent k was)
-    | inr new ↦ inr new
-  ]
-  | inr b ↦ elim (All-contains (λ (k : X). Contains recent k ⊎ (e ≡ k)) recent' k kept b) [
-    | inl was ↦ inl (Contains-append_right all recent k was)
-    | inr new ↦ inr new
-  ]
-]
-
-pub known_put : (op : Op) (one other sets : List (List ℕ)) (known new : List (Pair × ℕ)) (pair : Pair) (number : ℕ) → AreKnown op one other sets known
-    → number ≤ 4_294_967_295 → IsNumberOf op (get_or one pair.a []) (get_or other pair.b []) sets number
-    → ((k : Pair × ℕ) → Contains new k → Contains known k ⊎ ((pair, number) ≡ k)) → AreKnown op one other sets new
-known_put op one other sets known new pair number are small is only k d l = elim (only _ (All-contains_itself new k d l)) [
-  | inl was ↦ All-contains (λ k. (k.1 ≤ 4_294_967_295) × IsNumberOf op (get_or one k.0.a []) (get_or other k.0.b []) sets k.1) known _ are was
-  | inr e ↦ subst (λ k. (k.1 ≤ 4_294_967_295) × IsNumberOf op (get_or one k.0.a []) (get_or other k.0.b []) sets k.1) e (small, is)
-]
+use Rattle.rr_days.proofs.MadeSetLemmas.{number_kept}
+use Rattle.rr_shapes.proofs.TableLemmas.{same_set}
+use Rattle.rr_days.specs.MadeSets.{IsMadeOf, IsNumberOf}
+use Rattle.rr_algebra.specs.Combining.{AreDayNumbers, AreDaySets, AreMadeOnDays, IsDaySet, IsMadeOnDay}
+use Rattle.rr_days.specs.declared.op.Op.{Op}
+use Rattle.rr_days.specs.declared.op.Op.TheVariants.{Common, Minus, Union}
 
 -- ---- what is made of two sets of days is one
 
@@ -115,14 +75,6 @@ sets_placed kind times old new number placed set are =
       ];
     }
 
--- the set that was placed has its number
-pub number_placed : (op : Op) (xs ys times : List ℕ) (old new : List (List ℕ)) (number : ℕ) → IsPlaced times old new number → IsMadeOf op xs ys times
-    → IsNumberOf op xs ys new number
-number_placed op xs ys times old new number placed made = record {
-  within = slice_get_within new number times placed.stands;
-  made = subst (IsMadeOf op xs ys) (sym (get_or_from_slice_get new number times [] placed.stands)) made;
-}
-
 -- each set is made on a day, where the placed one is
 pub made_placed : (op : Op) (s u : Sketch) (day : ℤ) (times : List ℕ) (old new : List (List ℕ)) (number : ℕ) → IsPlaced times old new number
     → IsMadeOf op (times_on s day) (times_on u day) times → AreMadeOnDays op s u old → AreMadeOnDays op s u new
@@ -169,9 +121,6 @@ empty_made op s u sets e =
 
 pub empty_room : (sets : List (List ℕ)) → sets ≡ [] ∷ [] → total_size sets ≤ MAX_SECONDS
 empty_room sets e = subst (λ l. total_size l ≤ MAX_SECONDS) (sym e) (let none : List (List ℕ) = [] in omega (arith, sum_by-cons length [] none))
-
-pub none_known : (op : Op) (one other sets : List (List ℕ)) (known : List (Pair × ℕ)) → known ≡ [] → AreKnown op one other sets known
-none_known op one other sets known e = subst (AreKnown op one other sets) (sym e) (λ k d l. absurd (omega (arith, l)))
 
 pub no_numbers : (op : Op) (s u : Sketch) (begin : ℤ) (sets : List (List ℕ)) (numbers : List ℕ) → numbers ≡ [] → AreDayNumbers op s u begin sets numbers
 no_numbers op s u begin sets numbers e = subst (AreDayNumbers op s u begin sets) (sym e) (λ k l. absurd (omega (arith, l)))

@@ -17,22 +17,13 @@ use Rattle.rr_model.specs.declared.refusal.Fault.{Fault}
 use Rattle.rr_model.specs.declared.refusal.Fault.TheVariants.{Refused, NoMemory}
 use Rattle.rr_model.specs.declared.refusal.Refusal.TheVariants.{MixedSets, TooManyMoments}
 use Rattle.rr_model.specs.declared.sketch.Sketch.{Sketch}
-use Rattle.rr_shapes.specs.Numbering.{IsNumbering}
-use Rattle.rr_shapes.specs.Placing.{IsTooMany}
-use Rattle.rr_algebra.specs.Combined.{HasTooManyCombined, HoldsFor, IsCombinedJudged, IsMixedUnion, times_beside}
-use Rattle.rr_algebra.specs.Combining.{AreMadeOnDays, HasTooManyMade, IsMadeOf, IsMadeOnDay, IsOneTooMany, RefusedOnlyWhere}
-use Rattle.rr_algebra.specs.declared.op.Op.{Op}
-use Rattle.rr_algebra.specs.declared.op.Op.TheVariants.{Common, Minus, Union}
+use Rattle.rr_days.specs.MadeSets.{HoldsFor, IsOneTooMany, RefusedOnlyWhere}
+use Rattle.rr_algebra.specs.Combined.{HasTooManyCombined, IsCombinedJudged, IsMixedUnion, times_beside}
+use Rattle.rr_algebra.specs.Combining.{AreMadeOnDays, HasTooManyMade, IsMadeOnDay}
+use Rattle.rr_days.specs.declared.op.Op.{Op}
+use Rattle.rr_days.specs.declared.op.Op.TheVariants.{Common, Minus, Union}
 
 -- ---- one set too many
-
--- a set is refused where it would be one too many
-pub refused_one : (X : Type 0) (fault : Fault) (op : Op) (xs ys times : List ℕ) (sets sets' : List (List ℕ))
-    → RefusedExactlyWhere {X = ℕ} (IsTooMany times sets) TooManyMoments (Err fault) → IsMadeOf op xs ys times → IsNumbering sets' → sets' ≡ sets
-    → RefusedOnlyWhere {X = X} (IsOneTooMany op xs ys sets) (Err fault)
-refused_one X (Refused refusal) op xs ys times sets sets' refused made numbering same =
-    (refused.0, record { times = times; made = made; many = refused.1; numbering = subst IsNumbering same numbering })
-refused_one X NoMemory op xs ys times sets sets' refused made numbering same = tt
 
 -- then there are too many
 pub refused_all : (X : Type 0) (fault : Fault) (op : Op) (s u : Sketch) (day : ℤ) (sets : List (List ℕ))

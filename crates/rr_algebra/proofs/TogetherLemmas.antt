@@ -1,7 +1,7 @@
 -- Two sequences together have on each day what holds of both.
 use Rattle.std.proofs.Common.{◌≡◌, ◌≢◌, ◌⊎◌, ℕ, ◌+◌, ◌*◌, ◌/◌, ◌%◌, ◌<◌, ◌≤◌, List, [], Contains, get_or, length, nat_lt, nat_abs, inl, inr, ℤ, pos, ◌+ℤ◌, ◌-ℤ◌, ◌≤ℤ◌, ◌<ℤ◌}
 use Rattle.std.proofs.Common.{sym, ap, subst, ◌∙◌, arith}
-use Rattle.std.specs.Prelude.{IfOk, IfSome, None, Option, Some, Result, Ok, Err, false}
+use Rattle.std.specs.Prelude.{IfSome, None, Option, Some, false}
 use Rattle.std.specs.Option.{is_some}
 use Rattle.std.proofs.lemmas.Int.{ints, by_lt_z}
 use Rattle.std.proofs.lemmas.List.{get_or_default}
@@ -26,10 +26,11 @@ use Rattle.rr_word.proofs.WindowLemmas.{RepeatsFrom-multiple, turns}
 use Rattle.rr_days.specs.Sketched.{IsWholeFold, sketch_of}
 use Rattle.rr_days.proofs.DistinctLemmas.{within_others}
 use Rattle.rr_days.proofs.SketchedLemmas.{times_after, times_before, times_early}
-use Rattle.rr_algebra.specs.Combined.{HoldsFor, combined}
-use Rattle.rr_algebra.specs.Combining.{AreDayNumbers, AreDaySets, AreTogether, HasDaysOf, HasTooManyMade, IsMadeOf, IsMadeOnDay}
-use Rattle.rr_algebra.specs.declared.op.Op.{Op}
-use Rattle.rr_algebra.specs.declared.op.Op.TheVariants.{Common, Minus, Union}
+use Rattle.rr_days.specs.MadeSets.{HoldsFor, IsMadeOf}
+use Rattle.rr_algebra.specs.Combined.{combined}
+use Rattle.rr_algebra.specs.Combining.{AreDayNumbers, AreDaySets, AreTogether, HasDaysOf, HasTooManyMade, IsMadeOnDay}
+use Rattle.rr_days.specs.declared.op.Op.{Op}
+use Rattle.rr_days.specs.declared.op.Op.TheVariants.{Common, Minus, Union}
 
 none_holds : (op : Op) (s : ℕ) → HoldsFor op (Contains [] s) (Contains [] s) → ⊥
 none_holds Union s (inl c) = Contains-none s c
@@ -215,10 +216,6 @@ minus_apart s u c apart h k t = (
 )
 
 -- ---- answers
-
-pub both_ok : {X E : Type 0} (r : Result X E) (P Q R : X → Type 0) → IfOk r P → IfOk r Q → ((x : X) → P x → Q x → R x) → IfOk r R
-both_ok (Ok x) P Q R p q f = f x p q
-both_ok (Err e) P Q R p q f = tt
 
 pub none_of : (s : Sketch) (first : Option ℤ) → IsFirstDay s first → is_some first ≡ false → IsFirstDay s None
 none_of s None h e = h

@@ -11,16 +11,11 @@ use Rattle.rr_model.specs.declared.refusal.Fault.{Fault}
 use Rattle.rr_model.specs.declared.refusal.Fault.TheVariants.{Refused, NoMemory}
 use Rattle.rr_model.specs.declared.refusal.Refusal.{Refusal}
 use Rattle.rr_model.specs.declared.sketch.Sketch.{Sketch}
-use Rattle.rr_algebra.specs.declared.op.Op.{Op}
-use Rattle.rr_algebra.specs.declared.op.Op.TheVariants.{Union, Common, Minus}
+use Rattle.rr_days.specs.MadeSets.{HoldsFor}
+use Rattle.rr_days.specs.declared.op.Op.{Op}
+use Rattle.rr_days.specs.declared.op.Op.TheVariants.{Union, Common, Minus}
 
 -- ---- what is in the result
-
--- what the operation asks of two facts: that one holds (Union), that both hold (Common), or that the first alone holds (Minus)
-abbrev pub HoldsFor : Op → Type 0 → Type 0 → Type 0
-HoldsFor Union P Q = P ⊎ Q
-HoldsFor Common P Q = P × Q
-HoldsFor Minus P Q = P × (Q → ⊥)
 
 -- an occurrence is in the union, the common part or the difference of two sets
 abbrev pub combined : Op → Occurrences → Occurrences → Occurrences

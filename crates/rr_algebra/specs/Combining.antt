@@ -1,42 +1,23 @@
 -- The days of two sequences together, by the numbers of their time sets.
-use Rattle.std.specs.Prelude.{◌≡◌, ◌≢◌, ◌⊎◌, ℕ, ◌<◌, ◌≤◌, List, [], ◌∷◌, All, AllPairs, Contains, get_or, length, nat_lt, ⊤, Result, Ok, Err, ℤ, pos, ◌+ℤ◌, ◌≤ℤ◌, ◌<ℤ◌}
+use Rattle.std.specs.Prelude.{◌≡◌, ◌≢◌, ◌⊎◌, ℕ, ◌<◌, ◌≤◌, List, [], ◌∷◌, All, AllPairs, get_or, length, Result, ℤ, pos, ◌+ℤ◌, ◌≤ℤ◌, ◌<ℤ◌}
 use Rattle.std.specs.Int.{◌∣◌}
 use Rattle.rr_model.specs.Answers.{RefusedExactlyWhere}
-use Rattle.rr_model.specs.Rising.Sets.{IsSetOf}
 use Rattle.rr_model.specs.Sets.Sketch.{IsTimeSet, times_on}
 use Rattle.rr_model.specs.Sets.Sizes.{total_size}
 use Rattle.rr_model.specs.declared.kind.Kind.{Kind}
 use Rattle.rr_model.specs.declared.limits.TheConstants.{MAX_SECONDS}
 use Rattle.rr_model.specs.declared.refusal.Fault.{Fault}
-use Rattle.rr_model.specs.declared.refusal.Fault.TheVariants.{Refused, NoMemory}
 use Rattle.rr_model.specs.declared.refusal.Refusal.TheVariants.{TooManyMoments}
 use Rattle.rr_model.specs.declared.sketch.Sketch.{Sketch}
-use Rattle.rr_shapes.specs.Numbering.{IsNumbering}
-use Rattle.rr_shapes.specs.Placing.{IsTooMany}
-use Rattle.rr_shapes.specs.declared.unions.Pair.{Pair}
-use Rattle.rr_algebra.specs.Combined.{HoldsFor}
-use Rattle.rr_algebra.specs.declared.combining.CombinedSets.{CombinedSets}
-use Rattle.rr_algebra.specs.declared.op.Op.{Op}
+use Rattle.rr_days.specs.MadeSets.{AreKnown, IsMadeOf, IsNumberOf, IsOneTooMany}
+use Rattle.rr_days.specs.declared.combined_sets.CombinedSets.{CombinedSets}
+use Rattle.rr_days.specs.declared.op.Op.{Op}
 
 -- ---- the set of a day
-
--- the list has what holds of two lists
-abbrev pub IsMadeOf : Op → List ℕ → List ℕ → List ℕ → Type 0
-IsMadeOf op xs ys both = IsSetOf nat_lt both (λ s. HoldsFor op (Contains xs s) (Contains ys s))
 
 -- the time sets of a sequence, with none at the front
 abbrev pub table : List (List ℕ) → List (List ℕ)
 table sets = [] ∷ sets
-
--- the set of this number is made of these two
-pub record IsNumberOf (op : Op) (xs ys : List ℕ) (sets : List (List ℕ)) (number : ℕ) : Type 0 where
-  pub within : number < length sets
-  pub made : IsMadeOf op xs ys (get_or sets number [])
-
--- each known pair of numbers has a 32-bit number whose set is made of the sets of the pair
-abbrev pub AreKnown : Op → List (List ℕ) → List (List ℕ) → List (List ℕ) → List (Pair × ℕ) → Type 0
-AreKnown op one other sets known =
-    All (λ k. (k.1 ≤ 4_294_967_295) × IsNumberOf op (get_or one k.0.a []) (get_or other k.0.b []) sets k.1) known
 
 -- each pair of numbers that is kept here has a 32-bit number whose set is made of the sets of the pair
 abbrev pub KnowsPairs : Op → List (List ℕ) → List (List ℕ) → CombinedSets → Type 0
@@ -96,22 +77,9 @@ pub record HasTooManyMade (op : Op) (s u : Sketch) : Type 0 where
   pub made : AreMadeOnDays op s u sets
   pub above : MAX_SECONDS < total_size sets
 
--- beside these distinct sets the one that is made of two lists would be too many
-pub record IsOneTooMany (op : Op) (xs ys : List ℕ) (sets : List (List ℕ)) : Type 0 where
-  pub times : List ℕ
-  pub made : IsMadeOf op xs ys times
-  pub many : IsTooMany times sets
-  pub numbering : IsNumbering sets
-
 -- beside these distinct sets the one that is made of both sequences on a day would be too many
 abbrev pub IsDayTooMany : Op → Sketch → Sketch → ℤ → List (List ℕ) → Type 0
 IsDayTooMany op s u day sets = IsOneTooMany op (times_on s day) (times_on u day) sets
-
--- too many moments are refused only where this holds
-abbrev pub RefusedOnlyWhere : {X : Type 0} → Type 0 → Result X Fault → Type 0
-RefusedOnlyWhere P (Ok x) = ⊤
-RefusedOnlyWhere P (Err (Refused refusal)) = (refusal ≡ TooManyMoments) × P
-RefusedOnlyWhere P (Err NoMemory) = ⊤
 
 -- too many moments are refused exactly where the distinct sets of the days have more
 abbrev pub RefusedWhereTooMany : {X : Type 0} → Op → Sketch → Sketch → Result X Fault → Type 0

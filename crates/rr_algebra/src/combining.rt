@@ -10,43 +10,18 @@ ghost use Rattle.rr_model.specs.Whole.Divisors.{lcm};
 ghost use Rattle.rr_shapes.specs.Tables.{Extends};
 ghost use Rattle.rr_days.specs.Sequence.{sketch};
 ghost use Rattle.rr_algebra.specs.Combined.{EndsNear, IsCombinedJudged, StandsForBoth};
-ghost use Rattle.rr_algebra.specs.Combining.{AreDayNumbers, AreDaySets, AreMadeOnDays, AreTogether, HasDaysOf, HasTooManyMade, IsDaySet, IsDayTooMany, IsMadeOf, IsNumberOfDay, KnowsPairs, RefusedOnlyWhere, RefusedWhereTooMany, table};
+ghost use Rattle.rr_days.specs.MadeSets.{IsMadeOf, RefusedOnlyWhere};
+ghost use Rattle.rr_algebra.specs.Combining.{AreDayNumbers, AreDaySets, AreMadeOnDays, AreTogether, HasDaysOf, HasTooManyMade, IsDaySet, IsDayTooMany, IsNumberOfDay, KnowsPairs, RefusedWhereTooMany, table};
 
-use crate::known_pairs::KnownPairs;
-use crate::op::Op;
-use rr_days::{Folded, sequence_of_numbers};
+use rr_days::{CombinedSets, Folded, Op, sequence_of_numbers};
 use rr_model::{Fault, Kind, MAX_CYCLE_DAYS, NoMemory, Refusal};
 use rr_num::lcm_within;
 use rr_shapes::{FoldedSetId, Pair, Shapes};
-use rr_times::TimeSet;
 use rr_word::{DaySeq, days_between};
 use std::alloc::Global;
 
 /// What is made of two sets of occurrences.
 pub type Combined = Folded;
-
-// The seconds of both.
-fn common_part(alloc: Global, a: &TimeSet, b: &TimeSet) -> Result<TimeSet, NoMemory>
-    ensures { IfOk result (λ t. IsMadeOf Op.Common a.now b.now t) }
-{
-    let rest = TimeSet::without(alloc, a, b)?;
-    TimeSet::without(alloc, a, &rest)
-}
-
-// What holds of two sets of seconds.
-fn made_of(alloc: Global, op: Op, a: &[u32], b: &[u32]) -> Result<TimeSet, NoMemory>
-    requires a { IsSecondsOfDay a.now }
-    requires b { IsSecondsOfDay b.now }
-    ensures { IfOk result (λ t. IsMadeOf op a.now b.now t) }
-{
-    let first = TimeSet::of(alloc, a)?;
-    let second = TimeSet::of(alloc, b)?;
-    match op {
-        Op::Union => TimeSet::union(alloc, &first, &second),
-        Op::Common => common_part(alloc, &first, &second),
-        Op::Minus => TimeSet::without(alloc, &first, &second),
-    }
-}
 
 // The number of the set of a day plus 1, or 0 where the day has none.
 fn number_on<A: DaySeq>(seq: &A, day: i64) -> usize
@@ -60,74 +35,44 @@ fn number_on<A: DaySeq>(seq: &A, day: i64) -> usize
     }
 }
 
-// The sets of combined days, and which of them is made of which two.
-#[derive(Drop)]
-struct CombinedSets {
-    known: KnownPairs,
-    shapes: Shapes,
-}
-
-impl CombinedSets {
-    // The empty set alone.
-    fn new(alloc: Global) -> Result<CombinedSets, NoMemory>
-        ensures known { IfOk result (λ s. s.known ≡ []) }
-        ensures shapes { IfOk result (λ s. s.shapes ≡ [] ∷ []) }
-    {
-        let shapes = Shapes::with_empty_set(alloc)?;
-        Ok(CombinedSets {
-            known: KnownPairs::new(alloc),
-            shapes,
-        })
+// The number of what holds of both sets of a day.
+fn number_of<A: DaySeq, B: DaySeq>(
+    sets: &mut CombinedSets,
+    alloc: Global,
+    op: Op,
+    kind: Kind,
+    one: &A,
+    other: &B,
+    day: i64,
+) -> Result<FoldedSetId, Fault>
+    requires low { earliest_near ≤ℤ day }
+    requires high { day ≤ℤ latest_near }
+    requires sets { AreDaySets kind sets.old.shapes }
+    requires known { KnowsPairs op (A.sets one.now) (B.sets other.now) sets.old }
+    requires made { AreMadeOnDays op (A.sketch one.now) (B.sketch other.now) sets.old.shapes }
+    requires room { total_size sets.old.shapes ≤ MAX_SECONDS }
+    requires first { IsDaySet kind (times_on (A.sketch one.now) day) }
+    requires second { IsDaySet kind (times_on (B.sketch other.now) day) }
+    ensures sets { IfOk result (λ n. AreDaySets kind sets.new.shapes) }
+    ensures known { IfOk result
+        (λ n. KnowsPairs op (A.sets one.now) (B.sets other.now) sets.new) }
+    ensures made { IfOk result
+        (λ n. AreMadeOnDays op (A.sketch one.now) (B.sketch other.now) sets.new.shapes) }
+    ensures room { IfOk result (λ n. total_size sets.new.shapes ≤ MAX_SECONDS) }
+    ensures grown { IfOk result (λ n. Extends sets.old.shapes sets.new.shapes) }
+    ensures number { IfOk result (λ id.
+        IsNumberOfDay op (A.sketch one.now) (B.sketch other.now) day sets.new.shapes id.number) }
+    ensures refused { RefusedOnlyWhere
+        (IsDayTooMany op (A.sketch one.now) (B.sketch other.now) day sets.old.shapes) result }
+{
+    let pair = Pair {
+        a: number_on(one, day),
+        b: number_on(other, day),
+    };
+    if let Some(set) = sets.known_number(pair) {
+        return Ok(set);
     }
-
-    // The number of what holds of both sets of a day.
-    fn number_of<A: DaySeq, B: DaySeq>(
-        &mut self,
-        alloc: Global,
-        op: Op,
-        kind: Kind,
-        one: &A,
-        other: &B,
-        day: i64,
-    ) -> Result<FoldedSetId, Fault>
-        requires low { earliest_near ≤ℤ day }
-        requires high { day ≤ℤ latest_near }
-        requires sets { AreDaySets kind self.old.shapes }
-        requires known { KnowsPairs op (A.sets one.now) (B.sets other.now) self.old }
-        requires made { AreMadeOnDays op (A.sketch one.now) (B.sketch other.now) self.old.shapes }
-        requires room { total_size self.old.shapes ≤ MAX_SECONDS }
-        requires first { IsDaySet kind (times_on (A.sketch one.now) day) }
-        requires second { IsDaySet kind (times_on (B.sketch other.now) day) }
-        ensures sets { IfOk result (λ n. AreDaySets kind self.new.shapes) }
-        ensures known { IfOk result
-            (λ n. KnowsPairs op (A.sets one.now) (B.sets other.now) self.new) }
-        ensures made { IfOk result
-            (λ n. AreMadeOnDays op (A.sketch one.now) (B.sketch other.now) self.new.shapes) }
-        ensures room { IfOk result (λ n. total_size self.new.shapes ≤ MAX_SECONDS) }
-        ensures grown { IfOk result (λ n. Extends self.old.shapes self.new.shapes) }
-        ensures number { IfOk result (λ id.
-            IsNumberOfDay op (A.sketch one.now) (B.sketch other.now) day self.new.shapes id.number) }
-        ensures refused { RefusedOnlyWhere
-            (IsDayTooMany op (A.sketch one.now) (B.sketch other.now) day self.old.shapes) result }
-    {
-        let pair = Pair {
-            a: number_on(one, day),
-            b: number_on(other, day),
-        };
-        if let Some(number) = self.known.get(pair) {
-            return Ok(FoldedSetId {
-                number: number as u32,
-            });
-        }
-        let set = made_of(alloc, op, one.at(day), other.at(day))?;
-        match self.shapes.place(set) {
-            Ok(id) => {
-                self.known.put(pair, id.number as usize)?;
-                Ok(id)
-            }
-            Err(fault) => Err(fault),
-        }
-    }
+    sets.put_made(alloc, op, pair, one.at(day), other.at(day))
 }
 
 // One number for each of some days, and their sets.
@@ -162,7 +107,7 @@ fn numbers_of_days<A: DaySeq, B: DaySeq>(
     let mut sets = CombinedSets::new(alloc)?;
     let mut numbers = Vec::new(alloc);
     for k in 0..days {
-        let number = match sets.number_of(alloc, op, kind, one, other, begin + k as i64) {
+        let number = match number_of(&mut sets, alloc, op, kind, one, other, begin + k as i64) {
             Ok(id) => id.number,
             Err(fault) => return Err(fault),
         };

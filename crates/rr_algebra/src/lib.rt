@@ -4,10 +4,8 @@
 mod combining;
 mod dense;
 mod expansion;
-mod known_pairs;
 mod laws;
 mod numbers;
-mod op;
 mod parts;
 mod read;
 mod runs;
@@ -16,5 +14,5 @@ mod sets;
 
 pub use combining::{Combined, combine};
 pub use laws::{common_is_none_where_disjoint, minus_is_none_where_within};
-pub use op::Op;
 pub use read::{Described, read_descriptor};
+pub use rr_days::Op;

@@ -3,10 +3,11 @@ use Rattle.std.proofs.Common.{◌≡◌, ◌≢◌, inl, inr, ℕ, List, [], ◌
 use Rattle.std.specs.Prelude.{if◌then◌else◌}
 use Rattle.std.specs.List.{Contains}
 use Rattle.std.proofs.lemmas.List.Elements.{All-weaker}
-use Rattle.rr_algebra.specs.Combined.{AreMixed, HasTooManyCombined, HoldsFor, IsCombinedTimeSet, IsMixedUnion, combined, times_beside}
+use Rattle.rr_days.specs.MadeSets.{HoldsFor}
+use Rattle.rr_algebra.specs.Combined.{AreMixed, HasTooManyCombined, IsCombinedTimeSet, IsMixedUnion, combined, times_beside}
 use Rattle.rr_algebra.specs.Laws.{HasNone}
-use Rattle.rr_algebra.specs.declared.op.Op.{Op}
-use Rattle.rr_algebra.specs.declared.op.Op.TheVariants.{Union, Common, Minus}
+use Rattle.rr_days.specs.declared.op.Op.{Op}
+use Rattle.rr_days.specs.declared.op.Op.TheVariants.{Union, Common, Minus}
 use Rattle.rr_model.proofs.RisingSetLemmas.{Contains-none}
 use Rattle.rr_model.proofs.SecondsLemmas.{first_of_some}
 use Rattle.rr_model.specs.Moment.{Occurrences, day_part, is_same_kind, moment_at, second_part}

@@ -2,7 +2,7 @@
 use Rattle.std.proofs.Common.{◌≡◌, inl, inr, ℕ, List, refl, sym, ap, ◌∙◌}
 use Rattle.std.specs.Prelude.{Ok, Err}
 use Rattle.rr_algebra.specs.Combined.{IsCombinedJudged, combined}
-use Rattle.rr_algebra.specs.declared.op.Op.{Op}
+use Rattle.rr_days.specs.declared.op.Op.{Op}
 use Rattle.rr_canon.specs.Versions.{text_in}
 use Rattle.rr_canon.specs.declared.version.Version.TheVariants.{Second}
 use Rattle.rr_model.specs.Moment.{Occurrences}

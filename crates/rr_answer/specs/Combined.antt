@@ -2,8 +2,8 @@
 use Rattle.std.specs.Prelude.{◌≡◌, ◌≢◌, ◌⊎◌, ℕ, ◌<◌, List, [], All, AllPairs, nat_lt, ℤ}
 use Rattle.rr_algebra.specs.Combined.{combined}
 use Rattle.rr_algebra.specs.Laws.{HasNone}
-use Rattle.rr_algebra.specs.declared.op.Op.{Op}
-use Rattle.rr_algebra.specs.declared.op.Op.TheVariants.{Union, Common, Minus}
+use Rattle.rr_days.specs.declared.op.Op.{Op}
+use Rattle.rr_days.specs.declared.op.Op.TheVariants.{Union, Common, Minus}
 use Rattle.rr_canon.specs.Versions.{text_in}
 use Rattle.rr_canon.specs.declared.version.Version.TheVariants.{Second}
 use Rattle.rr_model.specs.Moment.{Occurrences, day_part, second_part}

@@ -1,4 +1,5 @@
 pub mod Growing
+pub mod MadeSets
 pub mod Rows
 pub mod Sequence
 pub mod Sketched

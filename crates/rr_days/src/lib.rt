@@ -1,9 +1,15 @@
 //! Days in a row, each by the number of its time set, as a sequence that repeats: one type for all that states occurrences day
-//! by day, whether a series was folded, a canonical text read, or two sets combined.
+//! by day, whether a series was folded, a canonical text read, or two sets combined. And the time sets that are made of two.
 #![tactic(auto)]
 
+mod combined_sets;
 mod days;
 mod folded;
+mod known_pairs;
+mod op;
 
+pub use combined_sets::CombinedSets;
 pub use days::days_between;
 pub use folded::{Folded, sequence, sequence_of_numbers};
+pub use known_pairs::KnownPairs;
+pub use op::Op;

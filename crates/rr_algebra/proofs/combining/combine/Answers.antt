@@ -3,6 +3,7 @@ use Rattle.std.proofs.lemmas.Int.{ints}
 use Rattle.std.proofs.lemmas.Result.{IfOk-weaker}
 use Rattle.rr_model.proofs.MemberLemmas.{same_kind_is}
 use Rattle.rr_word.proofs.SketchLemmas.{set_on}
+use Rattle.rr_days.proofs.MadeSetLemmas.{both_ok}
 use Rattle.rr_days.specs.Sequence.{sketch}
 use Rattle.rr_num.proofs.DivisorLemmas.{lcm_above}
 use Rattle.rr_algebra.specs.Combined.{IsCombinedJudged, combined}
@@ -13,9 +14,9 @@ use Rattle.rr_model.specs.Sets.Sketch.{StandsFor, StandsIn, times_on}
 use Rattle.rr_model.specs.declared.kind.Kind.{Kind}
 use Rattle.rr_model.specs.declared.limits.TheConstants.{MAX_CYCLE_DAYS}
 use Rattle.rr_model.specs.declared.refusal.Refusal.TheVariants.{MixedSets, TooManyMoments}
-use Rattle.rr_algebra.specs.declared.op.Op.TheVariants.{Common, Minus, Union}
+use Rattle.rr_days.specs.declared.op.Op.TheVariants.{Common, Minus, Union}
 use Rattle.rr_algebra.proofs.JudgedLemmas.{alike_common, alike_minus, alike_same, judged_so, not_mixed_same}
-use Rattle.rr_algebra.proofs.TogetherLemmas.{both_ok, common_apart, minus_apart, stands_for}
+use Rattle.rr_algebra.proofs.TogetherLemmas.{common_apart, minus_apart, stands_for}
 use Rattle.rr_algebra.proofs.combining.combine.Given.{Over}
 use Rattle.rr_algebra.proofs.combining.combine.Goals.{After-kind}
 use Rattle.rr_algebra.proofs.combining.combine.Goals as goal

@@ -1,4 +1,4 @@
-use Rattle.std.proofs.Common.{◌≡◌, pos, ◌+ℤ◌, w64, to_z, of_z, sym, subst, ◌∙◌, to_z-of_z, arith}
+use Rattle.std.proofs.Common.{◌≡◌, pos, ◌+ℤ◌, sym, subst, ◌∙◌, to_z-of_z, arith}
 use Rattle.std.proofs.lemmas.Int.{ints}
 use Rattle.rr_days.specs.Sketched.{IsWholeFold, sketch_of}
 use Rattle.rr_days.specs.declared.folded.Folded.{Folded}

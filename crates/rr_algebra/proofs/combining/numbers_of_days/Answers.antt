@@ -2,7 +2,8 @@ use Rattle.std.proofs.Common.{◌≡◌, pos, ◌+ℤ◌, w64, to_z, of_z, lengt
 use Rattle.std.proofs.lemmas.Int.{ints}
 use Rattle.rr_algebra.specs.Combining.{table}
 use Rattle.rr_algebra.specs.declared.combining.CombinedDays.{CombinedDays}
-use Rattle.rr_algebra.proofs.CombineLemmas.{empty_day_sets, empty_made, empty_room, no_numbers, none_known, one_more_number}
+use Rattle.rr_days.proofs.MadeSetLemmas.{none_known}
+use Rattle.rr_algebra.proofs.CombineLemmas.{empty_day_sets, empty_made, empty_room, no_numbers, one_more_number}
 use Rattle.rr_algebra.proofs.JudgedLemmas.{refused_all}
 use Rattle.rr_algebra.proofs.combining.numbers_of_days.Goals as goal
 
@@ -37,7 +38,7 @@ loop-k-preserved g c =
       c.in-Ok.ensures.sets,
       c.in-Ok.ensures.known,
       one_more_number c.args.op (g.A.DaySeq.sketch c.args.one.now) (g.B.DaySeq.sketch c.args.other.now) begin _ l.sets.shapes
-          c.number_of.new.self.shapes l.numbers.items c.push_number.new.numbers.items c.in-Ok.id.number l.k l.invariant.0 c.in-Ok.ensures.grown
+          c.number_of.new.sets.shapes l.numbers.items c.push_number.new.numbers.items c.in-Ok.id.number l.k l.invariant.0 c.in-Ok.ensures.grown
           c.in_ok-push_number.ensures day c.in-Ok.ensures.number l.invariant.3,
       c.in-Ok.ensures.made,
       c.in-Ok.ensures.room,

@@ -1,7 +1,8 @@
 use Rattle.std.specs.Prelude.{◌≡◌, ◌≤◌, length}
 use Rattle.rr_model.specs.Sets.Sizes.{total_size}
 use Rattle.rr_model.specs.declared.limits.TheConstants.{MAX_SECONDS}
-use Rattle.rr_algebra.specs.Combining.{AreDayNumbers, AreDaySets, AreKnown, AreMadeOnDays, table}
+use Rattle.rr_days.specs.MadeSets.{AreKnown}
+use Rattle.rr_algebra.specs.Combining.{AreDayNumbers, AreDaySets, AreMadeOnDays, table}
 use Rattle.rr_algebra.proofs.combining.numbers_of_days.Given as goal
 
 -- the numbers so far are those of their days, and each set is made on a day

@@ -2,7 +2,7 @@ use Rattle.std.proofs.Common.{ap, ◌∙◌, inl, refl}
 use Rattle.std.specs.Prelude.{not}
 use Rattle.std.proofs.lemmas.Result.{IfOk-weaker}
 use Rattle.rr_days.specs.Sequence.{sketch}
-use Rattle.rr_algebra.specs.declared.op.Op.TheVariants.{Union}
+use Rattle.rr_days.specs.declared.op.Op.TheVariants.{Union}
 use Rattle.rr_algebra.proofs.JudgedLemmas.{alike_first, alike_second, judged_so, not_empty}
 use Rattle.rr_algebra.proofs.TogetherLemmas.{first_is_empty, none_of, second_is_empty}
 use Rattle.rr_algebra.proofs.combining.union_apart.Goals as goal

@@ -1,10 +1,11 @@
 use Rattle.std.proofs.Common.{arith, sym, ◌∙◌, subst}
 use Rattle.std.proofs.lemmas.Int.{ints}
 use Rattle.rr_word.proofs.SketchLemmas.{set_on}
+use Rattle.rr_days.proofs.MadeSetLemmas.{both_ok}
 use Rattle.rr_days.specs.Sequence.{sketch}
 use Rattle.rr_algebra.specs.Combining.{IsDaySet}
 use Rattle.rr_model.specs.Sets.Sketch.{times_on}
-use Rattle.rr_algebra.proofs.TogetherLemmas.{both_ok, lcm_itself, stands_for}
+use Rattle.rr_algebra.proofs.TogetherLemmas.{lcm_itself, stands_for}
 use Rattle.rr_algebra.proofs.combining.with_itself.Goals as goal
 
 pub sequence_of_both-requires-clause-cycle : goal.sequence_of_both-requires-clause-cycle

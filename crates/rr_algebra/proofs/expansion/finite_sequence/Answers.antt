@@ -1,4 +1,4 @@
-use Rattle.std.proofs.Common.{◌≡◌, refl, ℕ, List, ◌+◌, ◌-◌, ◌++◌, pos, nat_abs, ◌-ℤ◌, ◌+ℤ◌, length, map, replicate, w64, to_z, of_z, to_z-of_z, sym, ap, subst, ◌∙◌, arith}
+use Rattle.std.proofs.Common.{◌≡◌, refl, ℕ, List, ◌+◌, ◌-◌, ◌++◌, pos, nat_abs, ◌-ℤ◌, ◌+ℤ◌, length, map, replicate, w64, to_z, of_z, to_z-of_z, ap, subst, ◌∙◌, arith}
 use Rattle.std.proofs.lemmas.Int.{ints}
 use Rattle.rr_model.proofs.YearLemmas.{from_year_one}
 use Rattle.rr_model.specs.Sets.Reading.{steps_of_runs}

@@ -1,5 +1,5 @@
-use Rattle.rr_algebra.proofs.CombineLemmas.{only_put}
-use Rattle.rr_algebra.proofs.known_pairs.KnownPairs.put.Goals as goal
+use Rattle.rr_days.proofs.MadeSetLemmas.{only_put}
+use Rattle.rr_days.proofs.known_pairs.KnownPairs.put.Goals as goal
 
 pub returns : goal.returns
 returns c known now =

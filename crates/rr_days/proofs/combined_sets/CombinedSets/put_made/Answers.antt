@@ -1,0 +1,22 @@
+use Rattle.std.proofs.Common.{rules, ◌≤◌, ℕ}
+use Rattle.rr_days.specs.MadeSets.{IsMadeSet}
+use Rattle.rr_days.proofs.MadeSetLemmas.{made_known, refused_one}
+use Rattle.rr_days.proofs.combined_sets.CombinedSets.put_made.Goals as goal
+
+pub returns-in_ok-put-in-Ok-clause-made : goal.returns-in_ok-put-in-Ok-clause-made
+returns-in_ok-put-in-Ok-clause-made c = record { times = c.in_ok-made.made; made = c.in_ok-made.ensures; placed = c.in-Ok.ensures.placed }
+
+pub returns-in_ok-put-in-Ok-clause-known : goal.returns-in_ok-put-in-Ok-clause-known
+returns-in_ok-put-in-Ok-clause-known c =
+    let old = c.args.self.now.shapes in
+    let new = c.place.new.self in
+    let set : IsMadeSet c.args.op c.args.a.now c.args.b.now old new c.in-Ok.set.number =
+    record { times = c.in_ok-made.made; made = c.in_ok-made.ensures; placed = c.in-Ok.ensures.placed } in
+    let small : c.in-Ok.set.number ≤ 4_294_967_295 = search rules in
+    made_known c.args.op c.args.pair c.args.a.now c.args.b.now old new c.args.self.now.known c.put.new.self c.in-Ok.set.number set small
+    c.in_ok-put-in-Ok.ensures
+
+pub returns-in-Err-clause-refused : goal.returns-in-Err-clause-refused
+returns-in-Err-clause-refused c =
+    refused_one ℕ c.in-Err.fault c.args.op c.args.a.now c.args.b.now c.in_ok-made.made c.args.self.now.shapes c.place.new.self c.in-Err.ensures.refused
+    c.in_ok-made.ensures c.in-Err.ensures.numbering c.in-Err.ensures.unchanged
