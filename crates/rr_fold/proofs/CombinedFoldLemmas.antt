@@ -9,15 +9,20 @@ use Rattle.rr_model.specs.Rising.Sets.{IsSetOf}
 use Rattle.rr_model.specs.Series.Limits.{IsTimeSetBefore}
 use Rattle.rr_model.specs.Sets.Tree.{Tree, stands_at}
 use Rattle.rr_fold.specs.Folding.{AreNumbered, IsFoldedTo}
-use Rattle.rr_fold.specs.Combined.{AreCombined, Has, IsCombinationOf, holds}
-use Rattle.rr_fold.specs.declared.combination.Op.{Op}
-use Rattle.rr_fold.specs.declared.combination.Op.TheVariants.{Union, Minus}
+use Rattle.rr_days.specs.MadeSets.{HoldsFor, IsMadeOf}
+use Rattle.rr_fold.specs.Combined.{AreCombined, IsCombinationOf, holds}
+use Rattle.rr_days.specs.declared.op.Op.{Op}
+use Rattle.rr_days.specs.declared.op.Op.TheVariants.{Union, Common, Minus}
 
 -- what passes both tests together is what is in both sets together
-has_is : (op : Op) (x y : List ℕ) (s : ℕ) (a b : Bool) → (Contains x s ↔ (a ≡ true)) → (Contains y s ↔ (b ≡ true)) → Has op x y s ↔ (holds op a b ≡ true)
+has_is : (op : Op) (x y : List ℕ) (s : ℕ) (a b : Bool) → (Contains x s ↔ (a ≡ true)) → (Contains y s ↔ (b ≡ true)) → HoldsFor op (Contains x s) (Contains y s) ↔ (holds op a b ≡ true)
 has_is Union x y s a b f g = (
   λ h. elim h [ inl l ↦ or_left a b (f.0 l) | inr r ↦ or_right a b (g.0 r) ],
   λ t. elim (or_cases a b t) [ inl l ↦ inl (f.1 l) | inr r ↦ inr (g.1 r) ],
+)
+has_is Common x y s a b f g = (
+  λ h. and_from a b (f.0 h.0) (g.0 h.1),
+  λ t. (let p = and_parts a b t in (f.1 p.0, g.1 p.1)),
 )
 has_is Minus x y s a b f g = (
   λ h. and_from a (not b) (f.0 h.0) (not_from_false b (false_from_ne_true b (λ t. h.1 (g.1 t)))),
@@ -26,6 +31,7 @@ has_is Minus x y s a b f g = (
 
 none_holds : (op : Op) (a b : Bool) → a ≡ false → b ≡ false → holds op a b ≡ false
 none_holds Union a b e f = or_from a b e f
+none_holds Common a b e f = rw e refl
 none_holds Minus a b e f = rw e refl
 
 module _ (op : Op) (tree a b : Tree) (first end : ℤ) (one : List (List ℕ)) (ones : List ℕ) (other : List (List ℕ)) (others : List ℕ) (sets : List (List ℕ))
@@ -33,9 +39,9 @@ module _ (op : Op) (tree a b : Tree) (first end : ℤ) (one : List (List ℕ)) (
     (as_long : end ≡ first +ℤ pos (length others)) (both : (d : ℤ) (s : ℕ) → stands_at tree d s ≡ holds op (stands_at a d s) (stands_at b d s)) where
   -- the combination of a day's sets in both trees is its set in the tree
   made_set : (day : ℤ) (x y times : List ℕ) → IsSetOf nat_lt x (λ s. IsTrue (stands_at a day s)) → IsSetOf nat_lt y (λ s. IsTrue (stands_at b day s))
-      → IsSetOf nat_lt times (Has op x y) → IsSetOf nat_lt times (λ s. IsTrue (stands_at tree day s))
+      → IsMadeOf op x y times → IsSetOf nat_lt times (λ s. IsTrue (stands_at tree day s))
   made_set day x y times f g set =
-      set_same nat_lt (Has op x y) (λ s. IsTrue (stands_at tree day s)) times set (λ s. (
+      set_same nat_lt (λ s. HoldsFor op (Contains x s) (Contains y s)) (λ s. IsTrue (stands_at tree day s)) times set (λ s. (
       let is = has_is op x y s (stands_at a day s) (stands_at b day s) (f.exact s) (g.exact s) in
       ((λ h. both day s ∙ is.0 h), (λ t. is.1 (sym (both day s) ∙ t))))
       )
@@ -49,7 +55,7 @@ module _ (op : Op) (tree a b : Tree) (first end : ℤ) (one : List (List ℕ)) (
         record {
           within = u.within;
           all = made_set (first +ℤ pos k) (get_or one (get_or ones k 0) []) (get_or other (get_or others k 0) []) (get_or sets (get_or numbers k 0) [])
-              f.all g.all u.set;
+              f.all g.all u.made;
         }
 
     -- a set that is not empty is that of a day

@@ -15,10 +15,12 @@ use Rattle.rr_shapes.specs.Tables.{Extends}
 use Rattle.rr_shapes.specs.declared.unions.Pair.{Pair}
 use Rattle.rr_shapes.proofs.TableLemmas.{same_set}
 use Rattle.rr_days.specs.Growing.{IsGrown}
+use Rattle.rr_days.specs.MadeSets.{AreKnown, HoldsFor, IsMadeOf}
+use Rattle.rr_days.proofs.MadeSetLemmas.{number_kept}
 use Rattle.rr_runs.specs.Pages.{IsZeroFrom}
-use Rattle.rr_fold.specs.Combined.{AreCombinationsOf, AreCombined, AreCombinedTo, AreLists, AreShapes, AreUsed, Has, IsCombinationOf, IsCombinedTo, IsFreeTo}
-use Rattle.rr_fold.specs.declared.combination.Op.{Op}
-use Rattle.rr_fold.specs.declared.combination.Op.TheVariants.{Union, Minus}
+use Rattle.rr_fold.specs.Combined.{AreCombined, AreCombinedTo, AreLists, AreShapes, AreUsed, IsCombinationOf, IsCombinedTo, IsFreeTo}
+use Rattle.rr_days.specs.declared.op.Op.{Op}
+use Rattle.rr_days.specs.declared.op.Op.TheVariants.{Union, Common, Minus}
 
 module _ (old new : List (List ℕ)) (more : Extends old new) where
   -- the empty set keeps its number
@@ -27,40 +29,13 @@ module _ (old new : List (List ℕ)) (more : Extends old new) where
       let k = same_set old new 0 more shapes.within in
       record { within = k.0; empty = rw k.1 shapes.empty; few = few }
 
-  module _ (op : Op) (one other : List (List ℕ)) where
-    -- a combination keeps its number
-    pub union_kept : (a b number : ℕ) → IsCombinationOf op one other old a b number → IsCombinationOf op one other new a b number
-    union_kept a b number union =
-        let k = same_set old new number more union.within in
-        record { within = k.0; set = rw k.1 union.set }
-
-    pub unions_kept : (known : List (Pair × ℕ)) → AreCombinationsOf op one other old known → AreCombinationsOf op one other new known
-    unions_kept known unions k d l = let u = unions k d l in (u.0, union_kept _ _ _ u.1)
-
-module _ (op : Op) (one other sets : List (List ℕ)) where
-  -- the combination of two sets has the number at which it stands
-  pub union_at : (a b number : ℕ) (x y both : List ℕ) → slice_get one a ≡ Some x → slice_get other b ≡ Some y → slice_get sets number ≡ Some both
-      → IsSetOf nat_lt both (Has op x y) → IsCombinationOf op one other sets a b number
-  union_at a b number x y both at_x at_y at_both union = record {
-    within = slice_get_within sets number both at_both;
-    set = rw (get_or_from_slice_get sets number both [] at_both, get_or_from_slice_get one a x [] at_x, get_or_from_slice_get other b y [] at_y) union;
-  }
-
-  -- one more combination is known
-  pub unions_put : (known new : List (Pair × ℕ)) (pair : Pair) (number : ℕ) → AreCombinationsOf op one other sets known → number ≤ 4_294_967_295
-      → IsCombinationOf op one other sets pair.a pair.b number
-      → ((k : Pair × ℕ) → Contains new k → Contains known k ⊎ ((pair, number) ≡ k)) → AreCombinationsOf op one other sets new
-  unions_put known new pair number unions small union only k d l = elim (only _ (All-contains_itself new k d l)) [
-    | inl was ↦ All-contains (λ k. (k.1 ≤ 4_294_967_295) × IsCombinationOf op one other sets k.0.a k.0.b k.1) known _ unions was
-    | inr e ↦ subst (λ k. (k.1 ≤ 4_294_967_295) × IsCombinationOf op one other sets k.0.a k.0.b k.1) e (small, union)
-  ]
-
 -- nothing is made of empty sets
-nothing_in : (op : Op) (s : ℕ) → Has op [] [] s → ⊥
+nothing_in : (op : Op) (s : ℕ) → HoldsFor op (Contains [] s) (Contains [] s) s → ⊥
 nothing_in Union s h = elim h [ inl c ↦ Contains-none s c | inr c ↦ Contains-none s c ]
+nothing_in Common s h = Contains-none s h.0
 nothing_in Minus s h = Contains-none s h.0
 
-pub made_of_none : (op : Op) (x y times : List ℕ) → x ≡ [] → y ≡ [] → times ≡ [] → IsSetOf nat_lt times (Has op x y)
+pub made_of_none : (op : Op) (x y times : List ℕ) → x ≡ [] → y ≡ [] → times ≡ [] → IsMadeOf op x y times
 made_of_none op x y times e f g = rw (e, f, g) (record { rises = tt; exact = λ s. ((λ c. absurd (Contains-none s c)), (λ h. absurd (nothing_in op s h))) })
 
 -- two empty sets have the number of the empty set
@@ -68,7 +43,7 @@ pub none_combined : (op : Op) (one other sets : List (List ℕ)) → get_or one 
     → IsCombinationOf op one other sets 0 0 0
 none_combined op one other sets e f shapes = record {
   within = shapes.within;
-  set = made_of_none op (get_or one 0 []) (get_or other 0 []) (get_or sets 0 []) e f shapes.empty;
+  made = made_of_none op (get_or one 0 []) (get_or other 0 []) (get_or sets 0 []) e f shapes.empty;
 }
 
 -- fewer days are free, too
@@ -120,7 +95,7 @@ module _ (op : Op) (one : List (List ℕ)) (ones : List ℕ) (other : List (List
 
     combined_to : AreCombinedTo op (length numbers') one ones other others sets' numbers'
     combined_to k l = elim (cases_lt k n) [
-      | inl m ↦ rw (others_kept k m) (union_kept sets sets' more.kept op one other _ _ _ (so_far.combined k (omega (arith, m, at))))
+      | inl m ↦ rw (others_kept k m) (number_kept sets sets' more.kept op _ _ _ (so_far.combined k (omega (arith, m, at))))
       | inr g ↦ (
           let e : k ≡ n = omega (arith, l, g, longer) in
           rw (e, here) union)
@@ -137,7 +112,7 @@ module _ (op : Op) (one : List (List ℕ)) (ones : List ℕ) (other : List (List
       | inr new ↦ (n, (omega (arith, longer), here ∙ sym new))
     ]
 
-    pub combined_on : AreShapes sets' → AreCombinationsOf op one other sets' known' → IsCombinedTo op one ones other others sets' known' numbers'
+    pub combined_on : AreShapes sets' → AreKnown op one other sets' known' → IsCombinedTo op one ones other others sets' known' numbers'
     combined_on shapes unions = record { shapes = shapes; known_ones = unions; combined = combined_to; used = used_to }
 
   -- days that are free in both

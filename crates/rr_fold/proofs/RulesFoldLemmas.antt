@@ -13,7 +13,7 @@ use Rattle.rr_model.specs.declared.rule.Rule.{Rule}
 use Rattle.rr_fold.specs.Folding.{IsFoldedTo}
 use Rattle.rr_fold.specs.Rules.{members_of_rules}
 use Rattle.rr_fold.specs.Combined.{AreCombined}
-use Rattle.rr_fold.specs.declared.combination.Op.TheVariants.{Union}
+use Rattle.rr_days.specs.declared.op.Op.TheVariants.{Union}
 use Rattle.rr_fold.proofs.ByRulesLemmas.{first_rule, next_rule}
 use Rattle.rr_fold.proofs.SameTreeLemmas.{folded_same}
 use Rattle.rr_fold.proofs.CombinedFoldLemmas.{combined_folded}

@@ -1,40 +1,31 @@
 -- Two lists of days that are combined day by day.
-use Rattle.std.specs.Prelude.{◌≡◌, ◌≢◌, ◌⊎◌, ℕ, ◌-◌, ◌<◌, ◌≤◌, Bool, not, ◌&&◌, ◌||◌, List, [], All, Contains, get_or, length, nat_lt}
-use Rattle.rr_model.specs.Rising.Sets.{IsSetOf}
+use Rattle.std.specs.Prelude.{◌≡◌, ◌≢◌, ℕ, ◌-◌, ◌<◌, ◌≤◌, Bool, not, ◌&&◌, ◌||◌, List, [], All, get_or, length}
 use Rattle.rr_model.specs.Sets.Sizes.{total_size}
 use Rattle.rr_model.specs.declared.limits.TheConstants.{MAX_SECONDS}
 use Rattle.rr_runs.specs.Pages.{IsZeroFrom}
 use Rattle.rr_shapes.specs.declared.unions.Pair.{Pair}
-use Rattle.rr_fold.specs.declared.combination.CombinedSets.{CombinedSets}
+use Rattle.rr_days.specs.MadeSets.{AreKnown, IsNumberOf}
+use Rattle.rr_days.specs.declared.combined_sets.CombinedSets.{CombinedSets}
+use Rattle.rr_days.specs.declared.op.Op.{Op}
+use Rattle.rr_days.specs.declared.op.Op.TheVariants.{Union, Common, Minus}
 use Rattle.rr_fold.specs.declared.combination.FreeTo.{FreeTo}
-use Rattle.rr_fold.specs.declared.combination.Op.{Op}
-use Rattle.rr_fold.specs.declared.combination.Op.TheVariants.{Union, Minus}
 use Rattle.rr_fold.specs.declared.folded_days.FoldedDays.{FoldedDays}
 
--- a second is in what two sets are combined into: in either, or in the first and not in the second
-abbrev pub Has : Op → List ℕ → List ℕ → ℕ → Type 0
-Has Union x y s = Contains x s ⊎ Contains y s
-Has Minus x y s = Contains x s × ¬ Contains y s
-
--- what passes two tests passes that of their combination: either, or the first and not the second
+-- what passes two tests passes that of their combination: either, both, or the first and not the second
 abbrev pub holds : Op → Bool → Bool → Bool
 holds Union a b = a || b
+holds Common a b = a && b
 holds Minus a b = a && not b
 
 -- the set of one number is the combination of those of two numbers, each in a list of its own
-pub record IsCombinationOf (op : Op) (one other sets : List (List ℕ)) (a b number : ℕ) : Type 0 where
-  pub within : number < length sets
-  pub set : IsSetOf nat_lt (get_or sets number []) (Has op (get_or one a []) (get_or other b []))
+abbrev pub IsCombinationOf : Op → List (List ℕ) → List (List ℕ) → List (List ℕ) → ℕ → ℕ → ℕ → Type 0
+IsCombinationOf op one other sets a b number = IsNumberOf op (get_or one a []) (get_or other b []) sets number
 
 -- the set that has number 0 is empty, and all sets together are within the limit
 pub record AreShapes (sets : List (List ℕ)) : Type 0 where
   pub within : 0 < length sets
   pub empty : get_or sets 0 [] ≡ []
   pub few : total_size sets ≤ MAX_SECONDS
-
--- each known pair of numbers has a 32-bit number whose set is the combination of the pair's sets
-abbrev pub AreCombinationsOf : Op → List (List ℕ) → List (List ℕ) → List (List ℕ) → List (Pair × ℕ) → Type 0
-AreCombinationsOf op one other sets known = All (λ k. (k.1 ≤ 4_294_967_295) × IsCombinationOf op one other sets k.0.a k.0.b k.1) known
 
 -- each number is that of the combination of the sets of both numbers at its index
 abbrev pub AreCombinedTo : Op → ℕ → List (List ℕ) → List ℕ → List (List ℕ) → List ℕ → List (List ℕ) → List ℕ → Type 0
@@ -49,7 +40,7 @@ AreUsed n sets numbers =
 pub record IsCombinedTo (op : Op) (one : List (List ℕ)) (ones : List ℕ) (other : List (List ℕ)) (others : List ℕ) (sets : List (List ℕ)) (known : List (Pair × ℕ))
     (numbers : List ℕ) : Type 0 where
   pub shapes : AreShapes sets
-  pub known_ones : AreCombinationsOf op one other sets known
+  pub known_ones : AreKnown op one other sets known
   pub combined : AreCombinedTo op (length numbers) one ones other others sets numbers
   pub used : AreUsed (length numbers) sets numbers
 

@@ -1,27 +1,18 @@
 // Two lists of folded days that are combined day by day.
-ghost use Rattle.std.specs.Prelude.{◌≡◌, ◌<◌, ◌≤◌, ◌∷◌, [], All, IfOk, OnOk, get_or, length, nat_lt};
-ghost use Rattle.rr_model.specs.Rising.Sets.{IsSetOf};
+ghost use Rattle.std.specs.Prelude.{◌≡◌, ◌<◌, ◌≤◌, ◌∷◌, [], All, IfOk, OnOk, get_or, length};
 ghost use Rattle.rr_days.specs.Growing.{IsGrown};
-ghost use Rattle.rr_fold.specs.Combined.{AreAlike, AreCombinationsOf, AreCombinedDays, AreCombinedSoFar, AreFreeTo, AreShapes, Has, IsCombinationOf, IsFreeTo};
+ghost use Rattle.rr_days.specs.MadeSets.{AreKnown};
+ghost use Rattle.rr_fold.specs.Combined.{AreAlike, AreCombinedDays, AreCombinedSoFar, AreFreeTo, AreShapes, IsCombinationOf, IsFreeTo};
 
 use crate::folded_days::FoldedDays;
-use rr_model::{Fault, NoMemory};
+use rr_days::{CombinedSets, Op};
+use rr_model::Fault;
 use rr_runs::Pages;
-use rr_shapes::{FoldedSetId, Pair, Shapes, Unions};
-use rr_times::TimeSet;
+use rr_shapes::{FoldedSetId, Pair, Shapes};
 use std::alloc::Global;
 
 // How many free days follow an occupied one, at least, where it is combined alone.
 const MANY_FREE: usize = 16;
-
-/// What two sets of seconds are combined into.
-#[derive(Clone, Copy)]
-pub enum Op {
-    /// The seconds of either.
-    Union,
-    /// The seconds of the first one that the second one lacks.
-    Minus,
-}
 
 // Two numbers of sets, one of each list, and that of their combination.
 #[derive(Clone, Copy)]
@@ -36,13 +27,6 @@ struct CombinedPair {
 struct FreeTo {
     one: usize,
     other: usize,
-}
-
-// The sets of combined days, and which of them is made of which two.
-#[derive(Drop)]
-struct CombinedSets {
-    known: Unions,
-    shapes: Shapes,
 }
 
 /// The days of two lists, which begin on the same day and are equally long, combined day by day.
@@ -69,7 +53,7 @@ pub fn combination_of(
     let mut free = FreeTo { one: 0, other: 0 };
     let mut index = 0;
     while index < end {
-        sets.push_next(alloc, op, one, other, &mut numbers, &mut free)?;
+        push_next(&mut sets, alloc, op, one, other, &mut numbers, &mut free)?;
         index = numbers.len();
     }
     Ok(FoldedDays {
@@ -137,142 +121,108 @@ fn is_first_alone(numbers: &[u32]) -> bool
     all
 }
 
-impl CombinedSets {
-    // The empty set alone.
-    fn new(alloc: Global) -> Result<CombinedSets, NoMemory>
-        ensures known { IfOk result (λ s. s.known ≡ []) }
-        ensures shapes { IfOk result (λ s. s.shapes ≡ [] ∷ []) }
-    {
-        let shapes = Shapes::with_empty_set(alloc)?;
-        Ok(CombinedSets {
-            known: Unions::new(alloc),
-            shapes,
-        })
+// Puts the numbers of some of the next days at the end, one at least.
+fn push_next(
+    sets: &mut CombinedSets,
+    alloc: Global,
+    op: Op,
+    one: &FoldedDays,
+    other: &FoldedDays,
+    numbers: &mut Pages,
+    free: &mut FreeTo,
+) -> Result<(), Fault>
+    requires lists { AreAlike one.now other.now }
+    requires within { length numbers.old < length one.now.numbers }
+    requires free { AreFreeTo one.now.numbers other.now.numbers (length numbers.old) free.old }
+    requires so_far { AreCombinedSoFar op one.now other.now sets.old numbers.old }
+    ensures so_far { OnOk result (AreCombinedSoFar op one.now other.now sets.new numbers.new) }
+    ensures free { AreFreeTo one.now.numbers other.now.numbers (length numbers.old) free.new }
+    ensures more { OnOk result (length numbers.old < length numbers.new) }
+    ensures within { OnOk result (length numbers.new ≤ length one.now.numbers) }
+{
+    let index = numbers.len();
+    let now = free_from(*free, &one.numbers, &other.numbers, index);
+    *free = now;
+    let count = now.one.min(now.other) - index;
+    if count == 0 {
+        return push_stretch(sets, alloc, op, one, other, numbers);
     }
-
-    // Puts the numbers of some of the next days at the end, one at least.
-    fn push_next(
-        &mut self,
-        alloc: Global,
-        op: Op,
-        one: &FoldedDays,
-        other: &FoldedDays,
-        numbers: &mut Pages,
-        free: &mut FreeTo,
-    ) -> Result<(), Fault>
-        requires lists { AreAlike one.now other.now }
-        requires within { length numbers.old < length one.now.numbers }
-        requires free { AreFreeTo one.now.numbers other.now.numbers (length numbers.old) free.old }
-        requires so_far { AreCombinedSoFar op one.now other.now self.old numbers.old }
-        ensures so_far { OnOk result (AreCombinedSoFar op one.now other.now self.new numbers.new) }
-        ensures free { AreFreeTo one.now.numbers other.now.numbers (length numbers.old) free.new }
-        ensures more { OnOk result (length numbers.old < length numbers.new) }
-        ensures within { OnOk result (length numbers.new ≤ length one.now.numbers) }
-    {
-        let index = numbers.len();
-        let now = free_from(*free, &one.numbers, &other.numbers, index);
-        *free = now;
-        let count = now.one.min(now.other) - index;
-        if count == 0 {
-            return self.push_stretch(alloc, op, one, other, numbers);
-        }
-        numbers.push_same(0, count)?;
-        Ok(())
-    }
-
-    // Puts the numbers of the next days at the end, as far as both lists have them in a row.
-    fn push_stretch(
-        &mut self,
-        alloc: Global,
-        op: Op,
-        one: &FoldedDays,
-        other: &FoldedDays,
-        numbers: &mut Pages,
-    ) -> Result<(), Fault>
-        requires lists { AreAlike one.now other.now }
-        requires within { length numbers.old < length one.now.numbers }
-        requires so_far { AreCombinedSoFar op one.now other.now self.old numbers.old }
-        ensures so_far { OnOk result (AreCombinedSoFar op one.now other.now self.new numbers.new) }
-        ensures more { OnOk result (length numbers.old < length numbers.new) }
-        ensures within { OnOk result (length numbers.new ≤ length one.now.numbers) }
-    {
-        let index = numbers.len();
-        let ones = one.numbers.piece(index);
-        let others = other.numbers.piece(index);
-        let mut last = CombinedPair {
-            a: 0,
-            b: 0,
-            number: 0,
-        };
-        for k in 0..stretch_len(ones, others) {
-            let (a, b) = (ones[k], others[k]);
-            if last.a != a || last.b != b {
-                let of_one = FoldedSetId { number: a };
-                let of_other = FoldedSetId { number: b };
-                match self.number_of(alloc, op, of_one, of_other, &one.shapes, &other.shapes) {
-                    Ok(set) => last = CombinedPair {
-                        a,
-                        b,
-                        number: set.number,
-                    },
-                    Err(fault) => return Err(fault),
-                }
-            }
-            numbers.push(last.number)?;
-        }
-        Ok(())
-    }
-
-    // The number of the combination of two sets, one of each list.
-    fn number_of(
-        &mut self,
-        alloc: Global,
-        op: Op,
-        a: FoldedSetId,
-        b: FoldedSetId,
-        one: &Shapes,
-        other: &Shapes,
-    ) -> Result<FoldedSetId, Fault>
-        requires a { a.number < length one.now }
-        requires b { b.number < length other.now }
-        requires shapes { AreShapes self.old.shapes }
-        requires known { AreCombinationsOf op one.now other.now self.old.shapes self.old.known }
-        ensures shapes { IfOk result (λ n. AreShapes self.new.shapes) }
-        ensures known { IfOk result (λ n.
-            AreCombinationsOf op one.now other.now self.new.shapes self.new.known) }
-        ensures grown { IfOk result
-            (λ set. IsGrown self.old.shapes self.new.shapes set.number) }
-        ensures combination { IfOk result
-            (λ set. IsCombinationOf
-            op one.now other.now self.new.shapes a.number b.number set.number) }
-    {
-        let pair = Pair {
-            a: a.number as usize,
-            b: b.number as usize,
-        };
-        if let Some(number) = self.known.get(pair) {
-            return Ok(FoldedSetId {
-                number: number as u32,
-            });
-        }
-        let first = TimeSet::of(alloc, one.times(a))?;
-        let second = TimeSet::of(alloc, other.times(b))?;
-        match self.shapes.place(made_of(alloc, op, &first, &second)?) {
-            Ok(set) => {
-                self.known.put(pair, set.number as usize)?;
-                Ok(set)
-            }
-            Err(fault) => Err(fault),
-        }
-    }
+    numbers.push_same(0, count)?;
+    Ok(())
 }
 
-// What two sets are combined into.
-fn made_of(alloc: Global, op: Op, a: &TimeSet, b: &TimeSet) -> Result<TimeSet, NoMemory>
-    ensures { IfOk result (λ t. IsSetOf nat_lt t (Has op a.now b.now)) }
+// Puts the numbers of the next days at the end, as far as both lists have them in a row.
+fn push_stretch(
+    sets: &mut CombinedSets,
+    alloc: Global,
+    op: Op,
+    one: &FoldedDays,
+    other: &FoldedDays,
+    numbers: &mut Pages,
+) -> Result<(), Fault>
+    requires lists { AreAlike one.now other.now }
+    requires within { length numbers.old < length one.now.numbers }
+    requires so_far { AreCombinedSoFar op one.now other.now sets.old numbers.old }
+    ensures so_far { OnOk result (AreCombinedSoFar op one.now other.now sets.new numbers.new) }
+    ensures more { OnOk result (length numbers.old < length numbers.new) }
+    ensures within { OnOk result (length numbers.new ≤ length one.now.numbers) }
 {
-    match op {
-        Op::Union => TimeSet::union(alloc, a, b),
-        Op::Minus => TimeSet::without(alloc, a, b),
+    let index = numbers.len();
+    let ones = one.numbers.piece(index);
+    let others = other.numbers.piece(index);
+    let mut last = CombinedPair {
+        a: 0,
+        b: 0,
+        number: 0,
+    };
+    for k in 0..stretch_len(ones, others) {
+        let (a, b) = (ones[k], others[k]);
+        if last.a != a || last.b != b {
+            let of_one = FoldedSetId { number: a };
+            let of_other = FoldedSetId { number: b };
+            match number_of(sets, alloc, op, of_one, of_other, &one.shapes, &other.shapes) {
+                Ok(set) => last = CombinedPair {
+                    a,
+                    b,
+                    number: set.number,
+                },
+                Err(fault) => return Err(fault),
+            }
+        }
+        numbers.push(last.number)?;
     }
+    Ok(())
+}
+
+// The number of the combination of two sets, one of each list.
+fn number_of(
+    sets: &mut CombinedSets,
+    alloc: Global,
+    op: Op,
+    a: FoldedSetId,
+    b: FoldedSetId,
+    one: &Shapes,
+    other: &Shapes,
+) -> Result<FoldedSetId, Fault>
+    requires a { a.number < length one.now }
+    requires b { b.number < length other.now }
+    requires shapes { AreShapes sets.old.shapes }
+    requires known { AreKnown op one.now other.now sets.old.shapes sets.old.known }
+    ensures shapes { IfOk result (λ n. AreShapes sets.new.shapes) }
+    ensures known { IfOk result (λ n.
+        AreKnown op one.now other.now sets.new.shapes sets.new.known) }
+    ensures grown { IfOk result
+        (λ set. IsGrown sets.old.shapes sets.new.shapes set.number) }
+    ensures combination { IfOk result
+        (λ set. IsCombinationOf
+        op one.now other.now sets.new.shapes a.number b.number set.number) }
+{
+    let pair = Pair {
+        a: a.number as usize,
+        b: b.number as usize,
+    };
+    if let Some(set) = sets.known_number(pair) {
+        return Ok(set);
+    }
+    sets.put_made(alloc, op, pair, one.times(a), other.times(b))
 }

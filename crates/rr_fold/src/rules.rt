@@ -11,13 +11,13 @@ ghost use Rattle.rr_iter.specs.Ends.{IsSoundRule};
 ghost use Rattle.rr_fold.specs.Folding.{AreDaysOf, HasNoDayBefore};
 ghost use Rattle.rr_fold.specs.Rules.{AreDaysChosen, AreDaysOfRule, AreEndless, HasRules, given_from, kept_from, members_of_rules};
 
-use crate::combination::{Op, combination_of};
+use crate::combination::combination_of;
 use crate::dates::{days_of_dates, led_by_free};
 use crate::folded_days::{FoldedDays, days_of_lazy};
 use crate::jump::{days_counted, days_ended};
 use crate::years::{days_by_years, year_period};
 use rr_check::Checked;
-use rr_days::days_between;
+use rr_days::{Op, days_between};
 use rr_iter::{Counts, CycleCount};
 use rr_model::{End, Fault, Kind, Rule, Series, day_part};
 use rr_walk::RuleLazy;

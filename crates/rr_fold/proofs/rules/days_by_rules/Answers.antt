@@ -7,7 +7,7 @@ use Rattle.rr_model.proofs.WithValueLemmas.{absent_nil}
 use Rattle.rr_fold.specs.Combined.{AreCombined}
 use Rattle.rr_fold.specs.Folding.{IsFoldedTo}
 use Rattle.rr_fold.specs.Rules.{dates_from, kept_from}
-use Rattle.rr_fold.specs.declared.combination.Op.TheVariants.{Minus}
+use Rattle.rr_days.specs.declared.op.Op.TheVariants.{Minus}
 use Rattle.rr_fold.specs.declared.folded_days.FoldedDays.{FoldedDays}
 use Rattle.rr_fold.proofs.ByRulesLemmas.{no_minus, series_alike}
 use Rattle.rr_fold.proofs.CombinedFoldLemmas.{combined_folded, numbers_within}

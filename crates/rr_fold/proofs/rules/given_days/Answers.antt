@@ -7,7 +7,7 @@ use Rattle.rr_model.proofs.BackLemmas.{in_years_back}
 use Rattle.rr_fold.specs.Combined.{AreCombined}
 use Rattle.rr_fold.specs.Folding.{IsFoldedTo}
 use Rattle.rr_fold.specs.Rules.{dates_from, given_from, members_of_rules}
-use Rattle.rr_fold.specs.declared.combination.Op.TheVariants.{Union}
+use Rattle.rr_days.specs.declared.op.Op.TheVariants.{Union}
 use Rattle.rr_fold.specs.declared.folded_days.FoldedDays.{FoldedDays}
 use Rattle.rr_fold.proofs.ByRulesLemmas.{no_plus}
 use Rattle.rr_fold.proofs.CombinedFoldLemmas.{combined_folded, numbers_within}

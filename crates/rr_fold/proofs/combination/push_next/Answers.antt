@@ -2,8 +2,8 @@ use Rattle.std.proofs.Common.{◌≡◌, ℕ, ◌+◌, ◌-◌, length, sym, ari
 use Rattle.rr_runs.specs.Pages.{IsZeroFrom}
 use Rattle.rr_fold.specs.Combined.{AreCombinedSoFar}
 use Rattle.rr_fold.proofs.CombinedLemmas.{combined_on_free, fewer_free, longer_free}
-use Rattle.rr_fold.proofs.combination.CombinedSets.push_next.Goals.{In_ok-push_same}
-use Rattle.rr_fold.proofs.combination.CombinedSets.push_next.Goals as goal
+use Rattle.rr_fold.proofs.combination.push_next.Goals.{In_ok-push_same}
+use Rattle.rr_fold.proofs.combination.push_next.Goals as goal
 
 pub free_from-now-requires-clause-one : goal.free_from-now-requires-clause-one
 free_from-now-requires-clause-one c = omega (arith, c.len-index.ensures.value, c.requires.within)
@@ -14,7 +14,7 @@ free_from-now-requires-clause-other c = omega (arith, c.len-index.ensures.value,
 -- what is put in: days that are free in both
 record Free (c : In_ok-push_same) : Type 0 where
   one : IsZeroFrom c.args.one.now.numbers c.len-index.result (c.min.result - c.len-index.result)
-  so_far : AreCombinedSoFar c.args.op c.args.one.now c.args.other.now c.args.self.now c.push_same.new.self
+  so_far : AreCombinedSoFar c.args.op c.args.one.now c.args.other.now c.args.sets.now c.push_same.new.self
   longer : length c.push_same.new.self ≡ c.len-index.result + (c.min.result - c.len-index.result)
 
 free : (c : In_ok-push_same) → Free c
@@ -29,9 +29,9 @@ free c =
     let other_free = fewer_free other.numbers index (now.other - index) count (omega (arith, c.min.ensures)) f.other in
     record {
       one = free;
-      so_far = combined_on_free c.args.op one.shapes one.numbers other.shapes other.numbers index count c.args.self.now.shapes c.args.self.now.known
+      so_far = combined_on_free c.args.op one.shapes one.numbers other.shapes other.numbers index count c.args.sets.now.shapes c.args.sets.now.known
           c.args.numbers.now c.push_same.new.self c.requires.so_far (sym c.len-index.ensures.value) c.requires.lists free other_free c.in_ok-push_same.ensures;
-      longer = longer_free c.args.op one.shapes one.numbers other.shapes other.numbers index count c.args.self.now.shapes c.args.self.now.known
+      longer = longer_free c.args.op one.shapes one.numbers other.shapes other.numbers index count c.args.sets.now.shapes c.args.sets.now.known
           c.args.numbers.now c.push_same.new.self c.requires.so_far (sym c.len-index.ensures.value) c.requires.lists free other_free c.in_ok-push_same.ensures;
     }
 
