@@ -1,7 +1,6 @@
 // Unions, common parts and differences of two sequences of days.
 ghost use Rattle.std.specs.Prelude.{◌≡◌, ◌≢◌, ◌⊎◌, ◌≤◌, ◌<◌, ◌++◌, ◌+ℤ◌, ◌≤ℤ◌, ◌∷◌, [], IfOk, IfSome, OnOk, ℤ, get_or, length, neg_ℤ, pos};
 ghost use Rattle.rr_model.specs.Bounds.{earliest_near, latest_near, longest_period};
-ghost use Rattle.rr_model.specs.Rising.Sets.{IsSecondsOfDay};
 ghost use Rattle.rr_model.specs.Sets.Sizes.{total_size};
 ghost use Rattle.rr_model.specs.declared.limits.TheConstants.{MAX_SECONDS};
 ghost use Rattle.rr_model.specs.declared.refusal.Refusal.TheVariants.{MixedSets, TooManyMoments};
@@ -10,7 +9,7 @@ ghost use Rattle.rr_model.specs.Whole.Divisors.{lcm};
 ghost use Rattle.rr_shapes.specs.Tables.{Extends};
 ghost use Rattle.rr_days.specs.Sequence.{sketch};
 ghost use Rattle.rr_algebra.specs.Combined.{EndsNear, IsCombinedJudged, StandsForBoth};
-ghost use Rattle.rr_days.specs.MadeSets.{IsMadeOf, RefusedOnlyWhere};
+ghost use Rattle.rr_days.specs.MadeSets.{RefusedOnlyWhere};
 ghost use Rattle.rr_algebra.specs.Combining.{AreDayNumbers, AreDaySets, AreMadeOnDays, AreTogether, HasDaysOf, HasTooManyMade, IsDaySet, IsDayTooMany, IsNumberOfDay, KnowsPairs, RefusedWhereTooMany, table};
 
 use rr_days::{CombinedSets, Folded, Op, sequence_of_numbers};
