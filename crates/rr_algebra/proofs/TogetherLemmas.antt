@@ -27,7 +27,7 @@ use Rattle.rr_days.specs.Sketched.{IsWholeFold, sketch_of}
 use Rattle.rr_days.proofs.DistinctLemmas.{within_others}
 use Rattle.rr_days.proofs.SketchedLemmas.{times_after, times_before, times_early}
 use Rattle.rr_days.specs.MadeSets.{HoldsFor, IsMadeOf}
-use Rattle.rr_algebra.specs.Combined.{combined}
+use Rattle.rr_algebra.specs.Combined.{combined_occurrences}
 use Rattle.rr_algebra.specs.Combining.{AreDayNumbers, AreDaySets, AreTogether, HasDaysOf, HasTooManyMade, IsMadeOnDay}
 use Rattle.rr_days.specs.declared.op.Op.{Op}
 use Rattle.rr_days.specs.declared.op.Op.TheVariants.{Common, Minus, Union}
@@ -157,7 +157,7 @@ multiple_some a b m ha hb is =
 
 -- what stands in the sequence that was made of two of one kind
 module _ (op : Op) (s u c : Sketch) (days : HasDaysOf op s u c) where
-  pub stands_for : s.kind ≡ c.kind → u.kind ≡ c.kind → StandsFor c (combined op (StandsIn s) (StandsIn u))
+  pub stands_for : s.kind ≡ c.kind → u.kind ≡ c.kind → StandsFor c (combined_occurrences op (StandsIn s) (StandsIn u))
   stands_for es eu k t = (
     (λ h. holds op (λ x. record { kind = h.kind ∙ sym es; second = x }) (λ x. record { kind = h.kind ∙ sym eu; second = x }) (λ x. x.second) (λ x. x.second)
         (((days (day_part k t)).exact (second_part k t)).0 h.second)),
@@ -191,25 +191,25 @@ lcm_itself p h = le_of_dvd h ((lcm_is p p h h).2 p (dvd_refl p) (dvd_refl p))
 nothing_stands : (s : Sketch) (k : Kind) (t : ℤ) → IsFirstDay s None → StandsIn s k t → ⊥
 nothing_stands s k t none h = Contains-none (second_part k t) (subst (λ l. Contains l (second_part k t)) (none (day_part k t)) h.second)
 
-pub first_is_empty : (s u c : Sketch) → IsFirstDay s None → StandsFor c (combined Union (StandsIn u) (StandsIn u)) → StandsFor c (combined Union (StandsIn s) (StandsIn u))
+pub first_is_empty : (s u c : Sketch) → IsFirstDay s None → StandsFor c (combined_occurrences Union (StandsIn u) (StandsIn u)) → StandsFor c (combined_occurrences Union (StandsIn s) (StandsIn u))
 first_is_empty s u c none h k t = (
   (λ x. elim ((h k t).0 x) [ inl y ↦ inr y | inr y ↦ inr y ]),
   (λ x. elim x [ inl y ↦ absurd (nothing_stands s k t none y) | inr y ↦ (h k t).1 (inr y) ]),
 )
 
-pub second_is_empty : (s u c : Sketch) → IsFirstDay u None → StandsFor c (combined Union (StandsIn s) (StandsIn s)) → StandsFor c (combined Union (StandsIn s) (StandsIn u))
+pub second_is_empty : (s u c : Sketch) → IsFirstDay u None → StandsFor c (combined_occurrences Union (StandsIn s) (StandsIn s)) → StandsFor c (combined_occurrences Union (StandsIn s) (StandsIn u))
 second_is_empty s u c none h k t = (
   (λ x. elim ((h k t).0 x) [ inl y ↦ inl y | inr y ↦ inl y ]),
   (λ x. elim x [ inl y ↦ (h k t).1 (inl y) | inr y ↦ absurd (nothing_stands u k t none y) ]),
 )
 
-pub common_apart : (s u c : Sketch) → s.kind ≢ u.kind → StandsFor c (combined Minus (StandsIn s) (StandsIn s)) → StandsFor c (combined Common (StandsIn s) (StandsIn u))
+pub common_apart : (s u c : Sketch) → s.kind ≢ u.kind → StandsFor c (combined_occurrences Minus (StandsIn s) (StandsIn s)) → StandsFor c (combined_occurrences Common (StandsIn s) (StandsIn u))
 common_apart s u c apart h k t = (
   (λ x. let y = (h k t).0 x in absurd (y.1 y.0)),
   (λ x. absurd (apart (sym x.0.kind ∙ x.1.kind))),
 )
 
-pub minus_apart : (s u c : Sketch) → s.kind ≢ u.kind → StandsFor c (combined Union (StandsIn s) (StandsIn s)) → StandsFor c (combined Minus (StandsIn s) (StandsIn u))
+pub minus_apart : (s u c : Sketch) → s.kind ≢ u.kind → StandsFor c (combined_occurrences Union (StandsIn s) (StandsIn s)) → StandsFor c (combined_occurrences Minus (StandsIn s) (StandsIn u))
 minus_apart s u c apart h k t = (
   (λ x. elim ((h k t).0 x) [ inl y ↦ (y, λ z. apart (sym y.kind ∙ z.kind)) | inr y ↦ (y, λ z. apart (sym y.kind ∙ z.kind)) ]),
   (λ x. (h k t).1 (inl x.0)),

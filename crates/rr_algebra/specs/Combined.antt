@@ -1,4 +1,4 @@
--- Unions, common parts and differences of sets of occurrences.
+-- PairNumbers, common parts and differences of sets of occurrences.
 use Rattle.std.specs.Prelude.{◌≡◌, ◌≢◌, ◌⊎◌, ℕ, ◌<◌, if◌then◌else◌, List, [], All, AllPairs, Contains, nat_lt, ⊤, Result, Ok, Err, ℤ, pos, ◌+ℤ◌, ◌≤ℤ◌}
 use Rattle.rr_model.specs.Bounds.{latest_near}
 use Rattle.rr_model.specs.Moment.{Occurrences, is_same_kind}
@@ -18,12 +18,12 @@ use Rattle.rr_days.specs.declared.op.Op.TheVariants.{Union, Common, Minus}
 -- ---- what is in the result
 
 -- an occurrence is in the union, the common part or the difference of two sets
-abbrev pub combined : Op → Occurrences → Occurrences → Occurrences
-combined op P Q k t = HoldsFor op (P k t) (Q k t)
+abbrev pub combined_occurrences : Op → Occurrences → Occurrences → Occurrences
+combined_occurrences op P Q k t = HoldsFor op (P k t) (Q k t)
 
 -- exactly the occurrences of the union, the common part or the difference of two sets stand in the third
 abbrev pub StandsForBoth : Op → Sketch → Sketch → Sketch → Type 0
-StandsForBoth op s u c = StandsFor c (combined op (StandsIn s) (StandsIn u))
+StandsForBoth op s u c = StandsFor c (combined_occurrences op (StandsIn s) (StandsIn u))
 
 -- one common period of both sets from this day on ends no later than the latest day of a day sequence
 abbrev pub EndsNear : Sketch → Sketch → ℤ → Type 0

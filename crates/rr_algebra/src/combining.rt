@@ -1,6 +1,6 @@
 // Unions, common parts and differences of two sequences of days.
-ghost use Rattle.std.specs.Prelude.{◌≡◌, ◌≢◌, ◌⊎◌, ◌≤◌, ◌<◌, ◌++◌, ◌+ℤ◌, ◌≤ℤ◌, ◌∷◌, [], IfOk, IfSome, OnOk, ℤ, get_or, length, neg_ℤ, pos};
-ghost use Rattle.rr_model.specs.Bounds.{earliest_near, latest_near, longest_period};
+ghost use Rattle.std.specs.Prelude.{◌≡◌, ◌≢◌, ◌⊎◌, ◌≤◌, ◌<◌, ◌++◌, ◌+ℤ◌, ◌≤ℤ◌, ◌∷◌, [], IfOk, IfSome, OnOk, ℤ, get_or, length, pos};
+ghost use Rattle.rr_model.specs.Bounds.{earliest_near, earliest_taken, latest_near, latest_taken, longest_period};
 ghost use Rattle.rr_model.specs.Sets.Sizes.{total_size};
 ghost use Rattle.rr_model.specs.declared.limits.TheConstants.{MAX_SECONDS};
 ghost use Rattle.rr_model.specs.declared.refusal.Refusal.TheVariants.{MixedSets, TooManyMoments};
@@ -24,8 +24,8 @@ pub type Combined = Folded;
 
 // The number of the set of a day plus 1, or 0 where the day has none.
 fn number_on<A: DaySeq>(seq: &A, day: i64) -> usize
-    requires low { neg_ℤ (pos 3_000_000_000_000) ≤ℤ day }
-    requires high { day ≤ℤ pos 3_000_000_000_000 }
+    requires low { earliest_taken ≤ℤ day }
+    requires high { day ≤ℤ latest_taken }
     ensures { get_or (table (A.sets seq.now)) result [] ≡ times_on (A.sketch seq.now) day }
 {
     match seq.stretch(day).first {

@@ -19,7 +19,7 @@ use Rattle.rr_overlap.specs.declared.clash.Clash.TheVariants.{Yes, No}
 use Rattle.rr_overlap.proofs.OneLemmas.{clash_same}
 use Rattle.rr_answer.specs.Clashes.{IsClashSaid, IsPrintableClash, clash_said}
 use Rattle.rr_answer.specs.Folding.{IsFoldOf, IsFromYearOneOn}
-use Rattle.rr_answer.specs.Said.{Answer, refused}
+use Rattle.rr_answer.specs.Said.{Answer, answer_of_refusal}
 use Rattle.rr_answer.specs.Subjects.{OccursIn, Subject, kind_of}
 use Rattle.rr_answer.specs.Verdicts.{IsSaidOfBoth, IsTooLate}
 use Rattle.rr_answer.specs.declared.command.Inquiry.TheVariants.{Clash as AskClash}
@@ -49,7 +49,7 @@ module _ (s u : Subject) (of_s of_u : Sketch) (fold : IsFoldOf s of_s) (fold' : 
       inr (subst (λ (days : ℕ). IsTooLate (AskClash d e) days → ⊥) (periods s u of_s of_u fold fold') early, h)
 
   pub clash_too_late :
-      (d e : ℕ) (answer : Answer) → (lcm of_s.period of_u.period ≤ MAX_CYCLE_DAYS → ⊥) → answer ≡ refused Both CycleTooLong
+      (d e : ℕ) (answer : Answer) → (lcm of_s.period of_u.period ≤ MAX_CYCLE_DAYS → ⊥) → answer ≡ answer_of_refusal Both CycleTooLong
       → IsSaidOfBoth (AskClash d e) s u answer
   clash_too_late d e answer many is =
       let late : IsTooLate (AskClash d e) (lcm of_s.period of_u.period) =

@@ -4,7 +4,7 @@ use Rattle.std.specs.Prelude.{if◌then◌else◌}
 use Rattle.std.specs.List.{Contains}
 use Rattle.std.proofs.lemmas.List.Elements.{All-weaker}
 use Rattle.rr_days.specs.MadeSets.{HoldsFor}
-use Rattle.rr_algebra.specs.Combined.{AreMixed, HasTooManyCombined, IsCombinedTimeSet, IsMixedUnion, combined, times_beside}
+use Rattle.rr_algebra.specs.Combined.{AreMixed, HasTooManyCombined, IsCombinedTimeSet, IsMixedUnion, combined_occurrences, times_beside}
 use Rattle.rr_algebra.specs.Laws.{HasNone}
 use Rattle.rr_days.specs.declared.op.Op.{Op}
 use Rattle.rr_days.specs.declared.op.Op.TheVariants.{Union, Common, Minus}
@@ -116,7 +116,7 @@ module _ (a b : Sketch) (va : IsValidSketch a) (vb : IsValidSketch b) (P Q : Occ
 
   -- ---- the time set of a day
 
-  occurs_at : (op : Op) (d : ℤ) (x : ℕ) → HoldsFor op (Contains (times_on a d) x) (Contains (times_beside op a b d) x) → OccursAt (combined op P Q) d x
+  occurs_at : (op : Op) (d : ℤ) (x : ℕ) → HoldsFor op (Contains (times_on a d) x) (Contains (times_beside op a b d) x) → OccursAt (combined_occurrences op P Q) d x
   occurs_at Union d x (inl c) = let s = stands_at a d x va c in (a.kind, s.at, inl ((f a.kind s.at).0 s.stands), s.day, s.second)
   occurs_at Union d x (inr c) = let s = stands_at b d x vb c in (b.kind, s.at, inr ((g b.kind s.at).0 s.stands), s.day, s.second)
   occurs_at Common d x (c, beside) =
@@ -129,7 +129,7 @@ module _ (a b : Sketch) (va : IsValidSketch a) (vb : IsValidSketch b) (P Q : Occ
       lacks (beside_has a.kind b.kind (times_on b d) x there.kind (in_times b a.kind s.at d x there s.day s.second))) in
       (a.kind, s.at, ((f a.kind s.at).0 s.stands, without), s.day, s.second)
 
-  holds_at : (op : Op) (d : ℤ) (x : ℕ) → OccursAt (combined op P Q) d x → HoldsFor op (Contains (times_on a d) x) (Contains (times_beside op a b d) x)
+  holds_at : (op : Op) (d : ℤ) (x : ℕ) → OccursAt (combined_occurrences op P Q) d x → HoldsFor op (Contains (times_on a d) x) (Contains (times_beside op a b d) x)
   holds_at Union d x (k, t, inl p, day, second) = inl (in_times a k t d x ((f k t).1 p) day second)
   holds_at Union d x (k, t, inr q, day, second) = inr (in_times b k t d x ((g k t).1 q) day second)
   holds_at Common d x (k, t, (p, q), day, second) =
@@ -145,7 +145,7 @@ module _ (a b : Sketch) (va : IsValidSketch a) (vb : IsValidSketch b) (P Q : Occ
             lacks ((g k t).0 (stands_of b k t d x (one.kind ∙ is.0) is.1 day second))),
       )
 
-  time_set_of : (op : Op) (times : List ℕ) → IsCombinedTimeSet op a b times → IsTimeSetOf (combined op P Q) times
+  time_set_of : (op : Op) (times : List ℕ) → IsCombinedTimeSet op a b times → IsTimeSetOf (combined_occurrences op P Q) times
   time_set_of op times h = record {
     day = h.day;
     all = record {
@@ -154,7 +154,7 @@ module _ (a b : Sketch) (va : IsValidSketch a) (vb : IsValidSketch b) (P Q : Occ
     };
   }
 
-  combined_time_set : (op : Op) (times : List ℕ) → IsTimeSetOf (combined op P Q) times → IsCombinedTimeSet op a b times
+  combined_time_set : (op : Op) (times : List ℕ) → IsTimeSetOf (combined_occurrences op P Q) times → IsCombinedTimeSet op a b times
   combined_time_set op times h = record {
     day = h.day;
     all = record {
@@ -163,21 +163,21 @@ module _ (a b : Sketch) (va : IsValidSketch a) (vb : IsValidSketch b) (P Q : Occ
     };
   }
 
-  pub too_many_seconds : (op : Op) → HasTooManyCombined op a b → HasTooManySeconds (combined op P Q)
+  pub too_many_seconds : (op : Op) → HasTooManyCombined op a b → HasTooManySeconds (combined_occurrences op P Q)
   too_many_seconds op h = record {
     sets = h.sets;
     distinct = h.distinct;
     occupied = All-weaker (λ times. times ≢ [] → IsCombinedTimeSet op a b times)
-        (λ times. times ≢ [] → IsTimeSetOf (combined op P Q) times)
+        (λ times. times ≢ [] → IsTimeSetOf (combined_occurrences op P Q) times)
         (λ times is some. time_set_of op times (is some)) h.sets h.occupied;
     above = h.above;
   }
 
-  pub too_many_combined : (op : Op) → HasTooManySeconds (combined op P Q) → HasTooManyCombined op a b
+  pub too_many_combined : (op : Op) → HasTooManySeconds (combined_occurrences op P Q) → HasTooManyCombined op a b
   too_many_combined op h = record {
     sets = h.sets;
     distinct = h.distinct;
-    occupied = All-weaker (λ times. times ≢ [] → IsTimeSetOf (combined op P Q) times)
+    occupied = All-weaker (λ times. times ≢ [] → IsTimeSetOf (combined_occurrences op P Q) times)
         (λ times. times ≢ [] → IsCombinedTimeSet op a b times)
         (λ times is some. combined_time_set op times (is some)) h.sets h.occupied;
     above = h.above;
@@ -185,7 +185,7 @@ module _ (a b : Sketch) (va : IsValidSketch a) (vb : IsValidSketch b) (P Q : Occ
 
   -- ---- the occurrences
 
-  pub combined_kept : (op : Op) → HaveEqualOccurrences (combined op (StandsIn a) (StandsIn b)) (combined op P Q)
+  pub combined_kept : (op : Op) → HaveEqualOccurrences (combined_occurrences op (StandsIn a) (StandsIn b)) (combined_occurrences op P Q)
   combined_kept Union k t = (
     (λ h. elim h [ inl s ↦ inl ((f k t).0 s) | inr u ↦ inr ((g k t).0 u) ]),
     (λ h. elim h [ inl p ↦ inl ((f k t).1 p) | inr q ↦ inr ((g k t).1 q) ]),
@@ -197,11 +197,11 @@ module _ (a b : Sketch) (va : IsValidSketch a) (vb : IsValidSketch b) (P Q : Occ
   )
 
 -- what is combined lies in the year 1 or later, where both do
-pub combined_from_year_one : (op : Op) (P Q : Occurrences) → OccurFromYearOne P → OccurFromYearOne Q → OccurFromYearOne (combined op P Q)
+pub combined_from_year_one : (op : Op) (P Q : Occurrences) → OccurFromYearOne P → OccurFromYearOne Q → OccurFromYearOne (combined_occurrences op P Q)
 combined_from_year_one Union P Q p q k t (inl h) = p k t h
 combined_from_year_one Union P Q p q k t (inr h) = q k t h
 combined_from_year_one Common P Q p q k t h = p k t h.0
 combined_from_year_one Minus P Q p q k t h = p k t h.0
 
-pub result_from_year_one : (op : Op) (a b c : Sketch) → IsFromYearOneOn a → IsFromYearOneOn b → StandsFor c (combined op (StandsIn a) (StandsIn b)) → IsFromYearOneOn c
+pub result_from_year_one : (op : Op) (a b c : Sketch) → IsFromYearOneOn a → IsFromYearOneOn b → StandsFor c (combined_occurrences op (StandsIn a) (StandsIn b)) → IsFromYearOneOn c
 result_from_year_one op a b c p q stands k t h = combined_from_year_one op (StandsIn a) (StandsIn b) p q k t ((stands k t).0 h)

@@ -6,11 +6,11 @@ use Rattle.std.specs.Ordering.{int_eq}
 use Rattle.std.specs.Str.{is_utf8}
 use Rattle.std.proofs.lemmas.Bool.Decides.{Decides-int_eq}
 use Rattle.serde_json.specs.Data.{Data}
-use Rattle.rr_model.specs.Graph.Members.{json_object, member_of, number_in, object_in, object_or, text_in, within}
+use Rattle.rr_model.specs.Graph.Members.{json_object, member_of, number_in, object_in, object_or, text_in, number_in_bounds}
 use Rattle.rr_model.specs.Graph.Occurrences.{first_repeat_day}
 use Rattle.rr_model.specs.Graph.Reading.{EndType, Recurrence, bare_of, by_pattern, date_in, end_date, end_in, end_type_named, event_of, event_start}
-use Rattle.rr_model.specs.Graph.Reading.{graph_moment, graph_text, is_all_day, is_flag_or_missing, is_text_or_missing, must, no_end, numbered}
-use Rattle.rr_model.specs.Graph.Reading.{pattern_of, range_of, reads_graph, recurrence_of, repeat_of, repeating, repeating_from, start_moment, turned_start}
+use Rattle.rr_model.specs.Graph.Reading.{graph_moment, graph_text, is_all_day, is_flag_or_missing, is_text_or_missing, holds_or, no_end, numbered}
+use Rattle.rr_model.specs.Graph.Reading.{pattern_of, range_of, reads_graph, recurrence_of, repeat_of, repeat_with_occurrence, repeat_from, start_moment, turned_start}
 use Rattle.rr_model.specs.Graph.Reading.{with_occurrence}
 use Rattle.rr_model.specs.Graph.Validity.{IsRangeEnd, IsRepeatFrom, IsValidGraphEvent, IsValidPattern}
 use Rattle.rr_model.specs.Moment.{day_part, moment_at}
@@ -119,7 +119,7 @@ end-is end_date range end h =
     let e : EndDate day.0 ≡ end = ok_same (EndDate day.0) end day.2 in
     subst IsRangeEnd e (date_in-years of.EndDate (codes "endDate") range day.0 day.1)
 end-is numbered range end h =
-    let count = and_then_ok (within of.NumberOfOccurrences 1 18_446_744_073_709_551_615 (number_in (codes "numberOfOccurrences") range))
+    let count = and_then_ok (number_in_bounds of.NumberOfOccurrences 1 18_446_744_073_709_551_615 (number_in (codes "numberOfOccurrences") range))
     (λ n. Ok (Numbered n)) end h in
     let e : Numbered count.0 ≡ end = ok_same (Numbered count.0) end count.2 in
     subst IsRangeEnd e (within-lies of.NumberOfOccurrences 1 18_446_744_073_709_551_615 (number_in (codes "numberOfOccurrences") range) count.0
@@ -171,7 +171,7 @@ occurring recurrence (Some day) found is first h =
     let made = repeat.Pattern recurrence.pattern recurrence.range in
     subst (IsRepeatFrom recurrence.range.start_day) (ok_same made found h) (is.pattern, is.range.end, refl, (day, first))
 
-repeating-is : (recurrence : Recurrence) (found : Repeat) → IsReadRecurrence recurrence → repeating recurrence ≡ Ok found
+repeating-is : (recurrence : Recurrence) (found : Repeat) → IsReadRecurrence recurrence → repeat_with_occurrence recurrence ≡ Ok found
     → IsRepeatFrom recurrence.range.start_day found
 repeating-is recurrence found is h = occurring recurrence (first_repeat_day recurrence.pattern recurrence.range) found is refl h
 
@@ -179,9 +179,9 @@ repeat_of-is : (day : ℤ) (member : Option Data) (found : Repeat) → repeat_of
 repeat_of-is day None found h = let e : repeat.Once ≡ found = ok_same repeat.Once found h in subst (IsRepeatFrom day) e tt
 repeat_of-is day (Some value) found h =
     let object = and_then_ok (object_or (BadMember of.Recurrence) value) _ found h in
-    let recurrence = and_then_ok (recurrence_of object.0) (repeating_from day) found object.2 in
+    let recurrence = and_then_ok (recurrence_of object.0) (repeat_from day) found object.2 in
     let is = recurrence_of-is object.0 recurrence.0 recurrence.1 in
-    let begins = passed (int_eq recurrence.0.range.start_day day) (repeating recurrence.0) StartDiffers found recurrence.2 in
+    let begins = passed (int_eq recurrence.0.range.start_day day) (repeat_with_occurrence recurrence.0) StartDiffers found recurrence.2 in
     let same : recurrence.0.range.start_day ≡ day = (Decides-int_eq recurrence.0.range.start_day day).0 begins.0 in
     subst (λ d. IsRepeatFrom d found) same (repeating-is recurrence.0 found is begins.1)
 
@@ -198,8 +198,8 @@ event_of-valid offset value event h =
     let member = and_then_ok (ok_or (member_of (codes "start") value) NoStart) _ event h in
     let start = and_then_ok (object_or (BadMember of.Start) member.0) _ event member.2 in
     let at = and_then_ok (start_moment offset (is_all_day value) start.0) _ event start.2 in
-    let zone = and_then_ok (must (is_text_or_missing (member_of (codes "timeZone") start.0)) (BadMember of.TimeZone)) _ event at.2 in
-    let flag = and_then_ok (must (is_flag_or_missing (member_of (codes "isAllDay") value)) (BadMember of.IsAllDay)) _ event zone.2 in
+    let zone = and_then_ok (holds_or (is_text_or_missing (member_of (codes "timeZone") start.0)) (BadMember of.TimeZone)) _ event at.2 in
+    let flag = and_then_ok (holds_or (is_flag_or_missing (member_of (codes "isAllDay") value)) (BadMember of.IsAllDay)) _ event zone.2 in
     let found = and_then_ok (repeat_of (day_part Moments at.0) (member_of (codes "recurrence") value)) _ event flag.2 in
     let made : GraphEvent = record { kind = (event_start (is_all_day value) at.0).0; start = (event_start (is_all_day value) at.0).1; repeat = found.0 } in
     let same : made ≡ event = ok_same made event found.2 in
@@ -211,7 +211,7 @@ bare_of-valid : (value : Data) (event : GraphEvent) → bare_of value ≡ Ok eve
 unfolding bare_of
 bare_of-valid value event h =
     let recurrence = and_then_ok (recurrence_of value) _ event h in
-    let found = and_then_ok (repeating recurrence.0) _ event recurrence.2 in
+    let found = and_then_ok (repeat_with_occurrence recurrence.0) _ event recurrence.2 in
     let is = recurrence_of-is value recurrence.0 recurrence.1 in
     let made : GraphEvent = record { kind = Days; start = recurrence.0.range.start_day; repeat = found.0 } in
     let same : made ≡ event = ok_same made event found.2 in

@@ -12,7 +12,7 @@ use Rattle.rr_rank.specs.declared.nth.Nth.TheVariants.{At, Fewer, Past}
 use Rattle.rr_rank.proofs.OneLemmas.{answer_is_one, count_is_one, nth_same, rank_same}
 use Rattle.rr_answer.specs.Folding.{IsFoldedFrom, IsFromYearOneOn}
 use Rattle.rr_answer.specs.Numbers.{IsNthSaid, IsPrintableNth, IsRankSaid, nth_said, rank_said}
-use Rattle.rr_answer.specs.Said.{Answer, IsSaidWithin}
+use Rattle.rr_answer.specs.Said.{Answer, IsSaidUnder}
 use Rattle.rr_answer.specs.Subjects.{OccursIn, Reading, Subject}
 use Rattle.rr_answer.proofs.SaidOfBothLemmas.{printable_at}
 
@@ -31,7 +31,7 @@ printable_nth s n Past from h = tt
 
 -- from the sketch to what was read
 pub nth_is_said : (reads : Reading) (s : Sketch) (n : ℕ) (r : Nth) (answer : Answer) → IsFoldedFrom reads s → IsNthOf (StandsIn s) n r
-    → answer ≡ nth_said r → IsSaidWithin A all_limits reads (IsNthSaid n) answer
+    → answer ≡ nth_said r → IsSaidUnder A all_limits reads (IsNthSaid n) answer
 nth_is_said reads s n r answer folded h e = record {
   judged = Ok folded.subject;
   is_judged = folded.judged;
@@ -39,7 +39,7 @@ nth_is_said reads s n r answer folded h e = record {
 }
 
 pub rank_is_said : (reads : Reading) (s : Sketch) (k : Kind) (t : ℤ) (n : ℕ) (answer : Answer) → IsFoldedFrom reads s
-    → IsRank (StandsIn s) k t n → answer ≡ rank_said n → IsSaidWithin A all_limits reads (IsRankSaid k t) answer
+    → IsRank (StandsIn s) k t n → answer ≡ rank_said n → IsSaidUnder A all_limits reads (IsRankSaid k t) answer
 rank_is_said reads s k t n answer folded h e = record {
   judged = Ok folded.subject;
   is_judged = folded.judged;

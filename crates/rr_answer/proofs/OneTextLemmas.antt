@@ -7,7 +7,7 @@ use Rattle.rr_answer.specs.Answer.{IsPairAnswer}
 use Rattle.rr_answer.specs.Command.{Operand}
 use Rattle.rr_answer.specs.Judgement.{IsJudgedRead}
 use Rattle.rr_answer.specs.OperandReading.{HaveOneText, IsSubjectRead}
-use Rattle.rr_answer.specs.Said.{said}
+use Rattle.rr_answer.specs.Said.{answer_of_verdict}
 use Rattle.rr_answer.specs.Subjects.{Subject}
 use Rattle.rr_answer.specs.declared.command.Inquiry.TheVariants.{Verdict as Ask}
 use Rattle.rr_model.specs.declared.question.Question.TheVariants.{Equal}
@@ -23,7 +23,7 @@ module _ (a b : Operand) (text_a text_b : List ℕ) (one : HaveOneText a text_a 
   -- a set is equal to itself
   pub said_of_one_text :
       (subject : Subject) → IsJudgedRead all_limits (IsSubjectRead a text_a) (Ok subject)
-      → IsPairAnswer (Ask Equal) (IsSubjectRead a text_a) (IsSubjectRead b text_b) (said Yes)
+      → IsPairAnswer (Ask Equal) (IsSubjectRead a text_a) (IsSubjectRead b text_b) (answer_of_verdict Yes)
   said_of_one_text subject judged = record {
     judged = Ok subject;
     is_judged = judged;

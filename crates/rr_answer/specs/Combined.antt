@@ -1,6 +1,6 @@
 -- What is said of two sets of occurrences that are combined: of their union, their common part or their difference.
 use Rattle.std.specs.Prelude.{◌≡◌, ◌≢◌, ◌⊎◌, ℕ, ◌<◌, List, [], All, AllPairs, nat_lt, ℤ}
-use Rattle.rr_algebra.specs.Combined.{combined}
+use Rattle.rr_algebra.specs.Combined.{combined_occurrences}
 use Rattle.rr_algebra.specs.Laws.{HasNone}
 use Rattle.rr_days.specs.declared.op.Op.{Op}
 use Rattle.rr_days.specs.declared.op.Op.TheVariants.{Union, Common, Minus}
@@ -14,7 +14,7 @@ use Rattle.rr_model.specs.declared.kind.Kind.{Kind}
 use Rattle.rr_model.specs.declared.limits.TheConstants.{MAX_SECONDS}
 use Rattle.rr_model.specs.declared.refusal.Refusal.TheVariants.{MixedSets, TooManyMoments}
 use Rattle.rr_model.specs.declared.verdict.Side.TheVariants.{Both}
-use Rattle.rr_answer.specs.Said.{Answer, IsDone, refused}
+use Rattle.rr_answer.specs.Said.{Answer, IsDone, answer_of_refusal}
 
 -- ---- sets of two kinds
 
@@ -53,6 +53,6 @@ pub record HasTooManySeconds (P : Occurrences) : Type 0 where
 -- that the sets are mixed, else that the result has too many moments, else its canonical text
 abbrev pub IsCombinedSaid : Op → Occurrences → Occurrences → Answer → Type 0
 IsCombinedSaid op P Q answer =
-    (IsMixed op P Q × (answer ≡ refused Both MixedSets))
-    ⊎ ((IsMixed op P Q → ⊥) × HasTooManySeconds (combined op P Q) × (answer ≡ refused Both TooManyMoments))
-    ⊎ ((IsMixed op P Q → ⊥) × (HasTooManySeconds (combined op P Q) → ⊥) × IsDone (IsTextOf (text_in Second) (combined op P Q)) answer)
+    (IsMixed op P Q × (answer ≡ answer_of_refusal Both MixedSets))
+    ⊎ ((IsMixed op P Q → ⊥) × HasTooManySeconds (combined_occurrences op P Q) × (answer ≡ answer_of_refusal Both TooManyMoments))
+    ⊎ ((IsMixed op P Q → ⊥) × (HasTooManySeconds (combined_occurrences op P Q) → ⊥) × IsDone (IsTextOf (text_in Second) (combined_occurrences op P Q)) answer)

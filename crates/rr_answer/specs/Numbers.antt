@@ -9,7 +9,7 @@ use Rattle.rr_rank.specs.Rank.{IsNthOf, IsRank}
 use Rattle.rr_rank.specs.declared.nth.Nth.{Nth}
 use Rattle.rr_rank.specs.declared.nth.Nth.TheVariants.{At, Fewer, Past}
 use Rattle.rr_text.specs.Printed.{IsPrintableAt}
-use Rattle.rr_answer.specs.Said.{Answer, line, refused}
+use Rattle.rr_answer.specs.Said.{Answer, line, answer_of_refusal}
 use Rattle.rr_answer.specs.Subjects.{OccursIn, Subject}
 use Rattle.rr_answer.specs.declared.status.Status.TheVariants as status
 
@@ -17,7 +17,7 @@ use Rattle.rr_answer.specs.declared.status.Status.TheVariants as status
 abbrev pub nth_said : Nth → Answer
 nth_said (At k t) = record { status = status.Yes; bytes = line (extended_text k t) }
 nth_said Fewer = record { status = status.No; bytes = line (codes "none") }
-nth_said Past = refused A PastRange
+nth_said Past = answer_of_refusal A PastRange
 
 -- `nth`: the occurrence of this number
 pub record IsNthSaid (n : ℕ) (s : Subject) (answer : Answer) : Type 0 where

@@ -3,7 +3,7 @@ use Rattle.std.specs.Prelude.{◌≡◌, ◌⊎◌, ℕ, ◌+◌, Bool, ℤ, Lis
 use Rattle.rr_io.specs.Outside.{Appended, AppendedPart, RoseOrIsLast}
 use Rattle.rr_model.specs.declared.verdict.Side.{Side}
 use Rattle.rr_trip.specs.Counts.{counts_of, status_of}
-use Rattle.rr_trip.specs.Printed.{file_refusal_line, printed}
+use Rattle.rr_trip.specs.Printed.{file_refusal_line, report_text}
 use Rattle.rr_trip.specs.Report.{IsFileRefused, IsReportOf}
 use Rattle.rr_trip.specs.Shown.{IsShownIn}
 use Rattle.rr_trip.specs.declared.file.FileRefusal.{FileRefusal}
@@ -41,7 +41,7 @@ status_by ending.Refused = Refused
 
 -- the answer that states a report
 abbrev pub report_answer : Bool → List ReportLine → Answer
-report_answer only_differences lines = record { status = status_by (status_of (counts_of lines)); bytes = printed only_differences lines }
+report_answer only_differences lines = record { status = status_by (status_of (counts_of lines)); bytes = report_text only_differences lines }
 
 -- the answer that refuses a file
 abbrev pub refusal_answer : Side → FileRefusal → Answer

@@ -7,7 +7,7 @@ use Rattle.std.proofs.lemmas.Int.{ints}
 use Rattle.rr_model.specs.Sets.Sketch.{HasRisingDays, times_in, times_on}
 use Rattle.rr_model.specs.declared.sketch.DayShape.{DayShape}
 use Rattle.rr_model.specs.declared.sketch.Sketch.{Sketch}
-use Rattle.rr_model.specs.Sets.Descriptor.{Step, Run, Described, steps_from, is_run_of, with_step, runs_of, sets_of, ending_of, described, descriptor}
+use Rattle.rr_model.specs.Sets.Descriptor.{Step, Run, Described, steps_from, is_run_of, with_step, runs_of, sets_of, ending_of, description_of, descriptor}
 use Rattle.rr_model.specs.Sets.Reading.{steps_of_runs}
 use Rattle.rr_model.specs.Sets.Least.{IsLeastOfFinite, IsLeastOfEndless, IsEndless}
 use Rattle.rr_word.proofs.OneLeastLemmas.{before_part, finite_end}
@@ -103,11 +103,11 @@ said s x = record {
 
 pub descriptor_of_some : (s : Sketch) (x : DayShape) (xs : List DayShape) → s.before ++ s.cycle ≡ x ∷ xs → descriptor s ≡ Some (said s x)
 unfolding descriptor said
-descriptor_of_some s x xs e = ap (described s) e
+descriptor_of_some s x xs e = ap (description_of s) e
 
 pub descriptor_of_none : (s : Sketch) → s.before ≡ [] → s.cycle ≡ [] → descriptor s ≡ None
 unfolding descriptor
-descriptor_of_none s b c = ap (described s) (ap (λ l. l ++ s.cycle) b ∙ c)
+descriptor_of_none s b c = ap (description_of s) (ap (λ l. l ++ s.cycle) b ∙ c)
 
 pub known_of : (s : Sketch) → All (λ x. IsKnown (sets_of s) x.times) (s.before ++ s.cycle)
 unfolding sets_of

@@ -17,13 +17,13 @@ use Rattle.rr_model.specs.declared.sketch.Sketch.{Sketch}
 use Rattle.rr_model.proofs.RisingSetLemmas.{Contains-none}
 use Rattle.rr_model.specs.Sets.Descriptor.{with_sets_of}
 use Rattle.rr_model.specs.Sets.Least.{IsLeastPeriod, IsLeastStart, IsLeastOfNone, IsLeastSketch}
-use Rattle.rr_model.specs.Sets.Occupied.{occupied}
+use Rattle.rr_model.specs.Sets.Occupied.{day_shapes}
 use Rattle.rr_word.proofs.OccupiedLemmas.{sketch_from, sketch_from_bounded, sketch_from_first, sketch_from_least, sketch_from_times, occupied_rises}
 use Rattle.rr_word.proofs.OccupiedLemmas.{equal_by_times}
 use Rattle.rr_word.proofs.OneLeastLemmas.{none_on}
 use Rattle.rr_word.proofs.SetNumberLemmas.{IsKnown, all_known, All-front, All-back}
 use Rattle.rr_word.specs.Stretches.{IsStretch}
-use Rattle.rr_word.specs.Numbered.{number_in, numbered, shapes_of}
+use Rattle.rr_word.specs.Numbered.{number_in, numbered_days, shapes_of}
 use Rattle.rr_word.specs.declared.numbered.NumberedDay.{NumberedDay}
 use Rattle.rr_word.proofs.NumberedLemmas.{times_of, times_by_number, AllKnown, shapes_of-numbered, numbered_stays_of, numbers_within, with_sets_of-append}
 use Rattle.rr_word.specs.Bounded.{IsBounded}
@@ -108,40 +108,40 @@ pub record IsKeptLeast (s : Sketch) (kind : Kind) (sets : List (List ℕ)) (befo
 
 module _ (s : Sketch) (first : ℤ) (n : ℕ) (p : ℕ) (sets sets' : List (List ℕ)) (before cycle : List NumberedDay)
     (first_stretch : AreStretchOf s first n [] sets before) (second_stretch : AreStretchOf s (first +ℤ pos n) p sets sets' cycle) where
-  all_sets : sets' ≡ with_sets_of [] (occupied s first n ++ occupied s (first +ℤ pos n) p)
-  all_sets = second_stretch.sets ∙ ap (λ l. with_sets_of l (occupied s (first +ℤ pos n) p)) first_stretch.sets
-      ∙ sym (with_sets_of-append [] (occupied s first n) (occupied s (first +ℤ pos n) p))
+  all_sets : sets' ≡ with_sets_of [] (day_shapes s first n ++ day_shapes s (first +ℤ pos n) p)
+  all_sets = second_stretch.sets ∙ ap (λ l. with_sets_of l (day_shapes s (first +ℤ pos n) p)) first_stretch.sets
+      ∙ sym (with_sets_of-append [] (day_shapes s first n) (day_shapes s (first +ℤ pos n) p))
 
-  known : AllKnown sets' (occupied s first n ++ occupied s (first +ℤ pos n) p)
-  known = subst (λ (l : List (List ℕ)). All (λ z. IsKnown l z.times) (occupied s first n ++ occupied s (first +ℤ pos n) p)) (sym all_sets)
-      (all_known [] (occupied s first n ++ occupied s (first +ℤ pos n) p))
+  known : AllKnown sets' (day_shapes s first n ++ day_shapes s (first +ℤ pos n) p)
+  known = subst (λ (l : List (List ℕ)). All (λ z. IsKnown l z.times) (day_shapes s first n ++ day_shapes s (first +ℤ pos n) p)) (sym all_sets)
+      (all_known [] (day_shapes s first n ++ day_shapes s (first +ℤ pos n) p))
 
-  known_b : AllKnown sets' (occupied s first n)
-  known_b = All-front (λ (z : DayShape). IsKnown sets' z.times) (occupied s first n) (occupied s (first +ℤ pos n) p) known
+  known_b : AllKnown sets' (day_shapes s first n)
+  known_b = All-front (λ (z : DayShape). IsKnown sets' z.times) (day_shapes s first n) (day_shapes s (first +ℤ pos n) p) known
 
-  known_c : AllKnown sets' (occupied s (first +ℤ pos n) p)
-  known_c = All-back (λ (z : DayShape). IsKnown sets' z.times) (occupied s first n) (occupied s (first +ℤ pos n) p) known
+  known_c : AllKnown sets' (day_shapes s (first +ℤ pos n) p)
+  known_c = All-back (λ (z : DayShape). IsKnown sets' z.times) (day_shapes s first n) (day_shapes s (first +ℤ pos n) p) known
 
-  first_known : AllKnown sets (occupied s first n)
-  first_known = subst (λ (l : List (List ℕ)). All (λ z. IsKnown l z.times) (occupied s first n)) (sym first_stretch.sets) (all_known [] (occupied s first n))
+  first_known : AllKnown sets (day_shapes s first n)
+  first_known = subst (λ (l : List (List ℕ)). All (λ z. IsKnown l z.times) (day_shapes s first n)) (sym first_stretch.sets) (all_known [] (day_shapes s first n))
 
-  before_is : before ≡ numbered sets' (occupied s first n)
+  before_is : before ≡ numbered_days sets' (day_shapes s first n)
   before_is = first_stretch.numbers
-      ∙ sym (ap (λ l. numbered l (occupied s first n)) second_stretch.sets
-      ∙ numbered_stays_of sets (occupied s (first +ℤ pos n) p) (occupied s first n) first_known)
+      ∙ sym (ap (λ l. numbered_days l (day_shapes s first n)) second_stretch.sets
+      ∙ numbered_stays_of sets (day_shapes s (first +ℤ pos n) p) (day_shapes s first n) first_known)
 
-  shapes_b : shapes_of sets' before ≡ occupied s first n
-  shapes_b = ap (shapes_of sets') before_is ∙ shapes_of-numbered sets' (occupied s first n) known_b
+  shapes_b : shapes_of sets' before ≡ day_shapes s first n
+  shapes_b = ap (shapes_of sets') before_is ∙ shapes_of-numbered sets' (day_shapes s first n) known_b
 
-  shapes_c : shapes_of sets' cycle ≡ occupied s (first +ℤ pos n) p
-  shapes_c = ap (shapes_of sets') second_stretch.numbers ∙ shapes_of-numbered sets' (occupied s (first +ℤ pos n) p) known_c
+  shapes_c : shapes_of sets' cycle ≡ day_shapes s (first +ℤ pos n) p
+  shapes_c = ap (shapes_of sets') second_stretch.numbers ∙ shapes_of-numbered sets' (day_shapes s (first +ℤ pos n) p) known_c
 
   kept : IsKept sets' before cycle
   kept = record {
-    sets_in_order = all_sets ∙ ap (λ l. with_sets_of [] (l ++ occupied s (first +ℤ pos n) p)) (sym shapes_b)
+    sets_in_order = all_sets ∙ ap (λ l. with_sets_of [] (l ++ day_shapes s (first +ℤ pos n) p)) (sym shapes_b)
         ∙ ap (λ l. with_sets_of [] (shapes_of sets' before ++ l)) (sym shapes_c);
-    before_numbers = before_is ∙ ap (numbered sets') (sym shapes_b);
-    cycle_numbers = second_stretch.numbers ∙ ap (numbered sets') (sym shapes_c);
+    before_numbers = before_is ∙ ap (numbered_days sets') (sym shapes_b);
+    cycle_numbers = second_stretch.numbers ∙ ap (numbered_days sets') (sym shapes_c);
   }
 
   sketch_is_from : sketch_from s first n p ≡ sketch_of s.kind sets' before (first +ℤ pos n) p cycle
@@ -153,7 +153,7 @@ module _ (s : Sketch) (first : ℤ) (n : ℕ) (p : ℕ) (sets sets' : List (List
       let near = bounded.first first is_first in
       let u = sketch_from s first n p in
       let of_u = bounded_of u (sketch_from_bounded s bounded first n p is_first least start)
-      (rising_from earliest_near first (first +ℤ pos n) (occupied s first n) near.0 (occupied_rises s bounded.valid first n)) in
+      (rising_from earliest_near first (first +ℤ pos n) (day_shapes s first n) near.0 (occupied_rises s bounded.valid first n)) in
       record {
         bounded = subst IsBounded sketch_is_from of_u;
         first_is = subst (λ z. IsFirstDay z (Some first)) sketch_is_from (sketch_from_first s bounded first n p is_first least start);

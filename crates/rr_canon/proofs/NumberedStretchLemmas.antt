@@ -12,42 +12,42 @@ use Rattle.rr_model.specs.declared.kind.Kind.TheVariants.{Days, Moments}
 use Rattle.rr_model.specs.declared.sketch.Sketch.{Sketch}
 use Rattle.rr_word.proofs.SketchLemmas.{rising_on, set_on}
 use Rattle.rr_model.specs.Sets.Descriptor.{with_sets_of}
-use Rattle.rr_model.specs.Sets.Occupied.{occupied, shape_if_some}
+use Rattle.rr_model.specs.Sets.Occupied.{day_shapes, shape_if_some}
 use Rattle.rr_word.proofs.OccupiedLemmas.{occupied_few}
 use Rattle.rr_canon.proofs.PrintableLemmas.{sets_few}
 use Rattle.rr_word.proofs.SetNumberLemmas.{IsKnown as IsKnownIn, all_known}
 use Rattle.rr_word.specs.Stretches.{AreFree}
-use Rattle.rr_word.specs.Numbered.{numbered}
+use Rattle.rr_word.specs.Numbered.{numbered_days}
 use Rattle.rr_word.specs.declared.numbered.NumberedDay.{NumberedDay}
 use Rattle.rr_word.proofs.NumberedLemmas.{numbered_stays_of, numbered-append, with_sets_of-append}
 use Rattle.rr_canon.specs.Kept.{AreStretchOf, IsPutDay}
 
 -- no day yet
 pub no_days : (s : Sketch) (from : ℤ) (sets : List (List ℕ)) → AreStretchOf s from 0 sets sets []
-unfolding occupied
+unfolding day_shapes
 no_days s from sets = record { sets = refl; numbers = refl }
 
 pub one_more_day : (s : Sketch) (from from' day : ℤ) (k : ℕ) (times : List ℕ) (old sets sets' : List (List ℕ)) (days days' : List NumberedDay)
     → from' ≡ from → day ≡ from +ℤ pos k → times ≡ times_on s day → AreStretchOf s from' k old sets days → IsPutDay day times sets sets' days days'
     → AreStretchOf s from (k + 1) old sets' days'
-unfolding occupied
+unfolding day_shapes
 one_more_day s from from' day k times old sets sets' days days' ef ed et stretch put =
     let e : k + 1 ≡ suc k = omega arith in
     let more = shape_if_some day times in
-    let here : occupied s from k ++ more ≡ occupied s from (k + 1) =
-    ap (λ (t : List ℕ). occupied s from k ++ shape_if_some day t) et ∙ ap (λ d. occupied s from k ++ shape_if_some d (times_on s d)) ed
-    ∙ ap (λ n. occupied s from n) (sym e) in
-    let done = occupied s from k in
-    let sets_are : sets ≡ with_sets_of old done = stretch.sets ∙ ap (λ f. with_sets_of old (occupied s f k)) ef in
-    let days_are : days ≡ numbered sets done = stretch.numbers ∙ ap (λ f. numbered sets (occupied s f k)) ef in
+    let here : day_shapes s from k ++ more ≡ day_shapes s from (k + 1) =
+    ap (λ (t : List ℕ). day_shapes s from k ++ shape_if_some day t) et ∙ ap (λ d. day_shapes s from k ++ shape_if_some d (times_on s d)) ed
+    ∙ ap (λ n. day_shapes s from n) (sym e) in
+    let done = day_shapes s from k in
+    let sets_are : sets ≡ with_sets_of old done = stretch.sets ∙ ap (λ f. with_sets_of old (day_shapes s f k)) ef in
+    let days_are : days ≡ numbered_days sets done = stretch.numbers ∙ ap (λ f. numbered_days sets (day_shapes s f k)) ef in
     let new_sets : sets' ≡ with_sets_of old (done ++ more) = put.sets ∙ ap (λ l. with_sets_of l more) sets_are ∙ sym (with_sets_of-append old done more) in
     let known = subst (λ (l : List (List ℕ)). All (λ z. IsKnownIn l z.times) done) (sym sets_are) (all_known old done) in
-    let kept : numbered sets' done ≡ numbered sets done = ap (λ l. numbered l done) put.sets ∙ numbered_stays_of sets more done known in
-    let new_days : days' ≡ numbered sets' (done ++ more) =
-    put.numbers ∙ ap (λ l. l ++ numbered sets' more) (days_are ∙ sym kept) ∙ sym (numbered-append sets' done more) in
+    let kept : numbered_days sets' done ≡ numbered_days sets done = ap (λ l. numbered_days l done) put.sets ∙ numbered_stays_of sets more done known in
+    let new_days : days' ≡ numbered_days sets' (done ++ more) =
+    put.numbers ∙ ap (λ l. l ++ numbered_days sets' more) (days_are ∙ sym kept) ∙ sym (numbered-append sets' done more) in
     record {
       sets = new_sets ∙ ap (with_sets_of old) here;
-      numbers = new_days ∙ ap (numbered sets') here;
+      numbers = new_days ∙ ap (numbered_days sets') here;
     }
 
 -- days that are free, and free days after them
@@ -62,28 +62,28 @@ both_free s day later here more free e few first second = λ k l.
     ]
 
 -- free days add nothing
-occupied_free : (s : Sketch) (q : ℤ) (k n : ℕ) → AreFree s (q +ℤ pos k) n → occupied s q (k + n) ≡ occupied s q k
-unfolding occupied
-occupied_free s q k zero free = (let e : k + zero ≡ k = omega arith in ap (λ i. occupied s q i) e)
+occupied_free : (s : Sketch) (q : ℤ) (k n : ℕ) → AreFree s (q +ℤ pos k) n → day_shapes s q (k + n) ≡ day_shapes s q k
+unfolding day_shapes
+occupied_free s q k zero free = (let e : k + zero ≡ k = omega arith in ap (λ i. day_shapes s q i) e)
 occupied_free s q k (suc n) free =
     let e : k + suc n ≡ suc (k + n) = omega arith in
     let i : (q +ℤ pos k) +ℤ pos n ≡ q +ℤ pos (k + n) = omega (arith, ints) in
     let none : times_on s (q +ℤ pos (k + n)) ≡ [] = ap (times_on s) (sym i) ∙ free n (omega arith) in
-    ap (λ j. occupied s q j) e ∙ ap (λ (t : List ℕ). occupied s q (k + n) ++ shape_if_some (q +ℤ pos (k + n)) t) none
-    ∙ append-nil (occupied s q (k + n)) ∙ occupied_free s q k n (λ j l. free j (omega arith))
+    ap (λ j. day_shapes s q j) e ∙ ap (λ (t : List ℕ). day_shapes s q (k + n) ++ shape_if_some (q +ℤ pos (k + n)) t) none
+    ∙ append-nil (day_shapes s q (k + n)) ∙ occupied_free s q k n (λ j l. free j (omega arith))
 
 pub more_free_days : (s : Sketch) (from day : ℤ) (k n free m : ℕ) (old sets : List (List ℕ)) (days : List NumberedDay) → day ≡ from +ℤ pos k
     → m ≡ k + n → n ≤ free → AreFree s day free → AreStretchOf s from k old sets days → AreStretchOf s from m old sets days
 more_free_days s from day k n free m old sets days ed em le are stretch =
     let here : AreFree s (from +ℤ pos k) n = λ j l. ap (λ d. times_on s (d +ℤ pos j)) (sym ed) ∙ are j (omega arith) in
-    let e : occupied s from k ≡ occupied s from m = sym (ap (λ i. occupied s from i) em ∙ occupied_free s from k n here) in
-    record { sets = stretch.sets ∙ ap (with_sets_of old) e; numbers = stretch.numbers ∙ ap (numbered sets) e }
+    let e : day_shapes s from k ≡ day_shapes s from m = sym (ap (λ i. day_shapes s from i) em ∙ occupied_free s from k n here) in
+    record { sets = stretch.sets ∙ ap (with_sets_of old) e; numbers = stretch.numbers ∙ ap (numbered_days sets) e }
 
 -- the numbers stay within their type
 pub sets_within : (s : Sketch) (from : ℤ) (k : ℕ) (old sets : List (List ℕ)) (days : List NumberedDay) → AreStretchOf s from k old sets days
     → length sets ≤ length old + k
 sets_within s from k old sets days stretch =
-    omega (arith, ap length stretch.sets, sets_few old (occupied s from k), occupied_few s from k)
+    omega (arith, ap length stretch.sets, sets_few old (day_shapes s from k), occupied_few s from k)
 
 of_set : (k : Kind) (xs : List ℕ) → IsTimeSet k xs → All (λ x. x < 86_400) xs
 of_set Days xs e = subst (All (λ x. x < 86_400)) (sym e) (All-cons (λ x. x < 86_400) 0 [] (omega arith) (All-nil (λ x. x < 86_400)))

@@ -6,19 +6,19 @@ use Rattle.std.proofs.Math.Logic.{∥∥₁_elim}
 use Rattle.rr_model.specs.declared.kind.Kind.{Kind}
 use Rattle.rr_model.specs.declared.sketch.DayShape.{DayShape}
 use Rattle.rr_model.specs.declared.sketch.Sketch.{Sketch}
-use Rattle.rr_model.specs.Sets.Descriptor.{Described, number_of, runs_of, steps_from, sets_of, ending_of, described, descriptor}
+use Rattle.rr_model.specs.Sets.Descriptor.{Described, number_of, runs_of, steps_from, sets_of, ending_of, description_of, descriptor}
 use Rattle.rr_model.specs.Sets.DescriptorText.{text_of_lines, text_of, lines_of}
 use Rattle.rr_model.specs.Sets.Least.{IsLeastSketch}
 use Rattle.rr_model.specs.Sets.Printable.{IsPrintedDay, HasNoneBeforeYearOne, IsDescribable}
 use Rattle.rr_canon.proofs.PrintableLemmas.{first_printed, settled_printed}
-use Rattle.rr_word.specs.Numbered.{numbered, shapes_of}
+use Rattle.rr_word.specs.Numbered.{numbered_days, shapes_of}
 use Rattle.rr_word.specs.declared.numbered.NumberedDay.{NumberedDay}
 use Rattle.rr_word.specs.Bounded.{IsBounded, IsDaySequence-bounded}
 use Rattle.rr_canon.specs.Kept.{sketch_of, IsKept}
 use Rattle.rr_canon.specs.Said.{steps_by_number, ending_said, first_in, said_of}
 use Rattle.rr_canon.proofs.LineLemmas.{text_of_lines-append}
 
-steps_of_numbered : (sets : List (List ℕ)) (from : ℤ) (ss : List DayShape) → steps_from sets from ss ≡ steps_by_number from (numbered sets ss)
+steps_of_numbered : (sets : List (List ℕ)) (from : ℤ) (ss : List DayShape) → steps_from sets from ss ≡ steps_by_number from (numbered_days sets ss)
 steps_of_numbered sets from [] = refl
 steps_of_numbered sets from (s ∷ ss) = ap (λ l. record { gap = nat_abs (s.day -ℤ from); set = number_of sets s.times } ∷ l) (steps_of_numbered sets s.day ss)
 
@@ -32,18 +32,18 @@ module _ (kind : Kind) (sets : List (List ℕ)) (before : List NumberedDay) (set
   unfolding sets_of
   same_sets = sym kept.sets_in_order
 
-  steps_kept : (days : List NumberedDay) (from : ℤ) → days ≡ numbered sets (shapes_of sets days)
+  steps_kept : (days : List NumberedDay) (from : ℤ) → days ≡ numbered_days sets (shapes_of sets days)
       → steps_from (sets_of (sketch_of kind sets before settled period cycle)) from (shapes_of sets days) ≡ steps_by_number from days
   steps_kept days from e = ap (λ l. steps_from l from (shapes_of sets days)) same_sets ∙ steps_of_numbered sets from (shapes_of sets days)
       ∙ ap (steps_by_number from) (sym e)
 
-  ending_kept : (days : List NumberedDay) → days ≡ numbered sets (shapes_of sets days)
+  ending_kept : (days : List NumberedDay) → days ≡ numbered_days sets (shapes_of sets days)
       → ending_of (sketch_of kind sets before settled period cycle) (shapes_of sets days) ≡ ending_said settled period days
   ending_kept [] e = refl
   ending_kept (x ∷ xs) e = ap (λ l. Some (record { settled = settled; period = period; cycle = runs_of l })) (steps_kept (x ∷ xs) settled e)
 
   described_kept : (l : List NumberedDay)
-      → described (sketch_of kind sets before settled period cycle) (shapes_of sets l) ≡ said_of kind sets before settled period cycle (first_in l)
+      → description_of (sketch_of kind sets before settled period cycle) (shapes_of sets l) ≡ said_of kind sets before settled period cycle (first_in l)
   described_kept [] = refl
   described_kept (x ∷ xs) =
       let runs = steps_kept before x.day kept.before_numbers in
@@ -53,7 +53,7 @@ module _ (kind : Kind) (sets : List (List ℕ)) (before : List NumberedDay) (set
   pub descriptor_kept : descriptor (sketch_of kind sets before settled period cycle)
       ≡ said_of kind sets before settled period cycle (first_in (before ++ cycle))
   unfolding descriptor
-  descriptor_kept = ap (described (sketch_of kind sets before settled period cycle)) (shapes_of-append sets before cycle) ∙ described_kept (before ++ cycle)
+  descriptor_kept = ap (description_of (sketch_of kind sets before settled period cycle)) (shapes_of-append sets before cycle) ∙ described_kept (before ++ cycle)
 
 -- ---- days that can be printed
 

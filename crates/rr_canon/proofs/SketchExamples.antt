@@ -5,7 +5,7 @@ use Rattle.std.specs.Fmt.{digits}
 use Rattle.rr_model.specs.Calendar.{first_day_of_year, days_of_months, year_of, days_into_year, months_over, month_of, day_of_month}
 use Rattle.rr_model.specs.Sets.Descriptor.{Described, descriptor, runs_of, sets_of}
 use Rattle.rr_model.specs.Sets.DescriptorText.{text_of, text_of_lines, fields}
-use Rattle.rr_model.specs.Sets.Occupied.{occupied}
+use Rattle.rr_model.specs.Sets.Occupied.{day_shapes}
 use Rattle.rr_model.specs.Sets.Reading.{sketch_described}
 use Rattle.rr_model.specs.Sets.Stretches.{stretches, stretches_within, items_text, seconds_of, second_descriptor_text}
 use Rattle.rr_model.specs.Text.Moments.{extended_date_text}
@@ -23,14 +23,14 @@ hours = record {
 }
 
 -- the first day and two of its cycle lie among these five days
-of_five : occupied hours (pos 0) 5 ≡
+of_five : day_shapes hours (pos 0) 5 ≡
     record { day = pos 1; times = 32_400 ∷ [] } ∷ record { day = pos 2; times = 0 ∷ [] } ∷ record { day = pos 4; times = 0 ∷ [] } ∷ []
-unfolding occupied
+unfolding day_shapes
 of_five = refl
 
 -- no day before the first is occupied
-of_none : occupied hours (pos 0) 1 ≡ []
-unfolding occupied
+of_none : day_shapes hours (pos 0) 1 ≡ []
+unfolding day_shapes
 of_none = refl
 
 -- what is said of the sketch describes it

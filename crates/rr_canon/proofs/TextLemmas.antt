@@ -6,7 +6,7 @@ use Rattle.std.specs.Fmt.{decimal}
 use Rattle.std.specs.List.{All}
 use Rattle.std.proofs.lemmas.List.Elements.{All-nil, All-cons, All-head, All-tail, All-append, All-from_recursion}
 use Rattle.rr_model.specs.Calendar.{year_of, month_of, day_of_month}
-use Rattle.rr_model.specs.Text.Moments.{padded, extended_date_text, extended_text}
+use Rattle.rr_model.specs.Text.Moments.{decimal_of, extended_date_text, extended_text}
 use Rattle.rr_model.specs.Rising.Sets.{IsSecondsOfDay}
 use Rattle.rr_model.specs.declared.kind.Kind.{Kind}
 use Rattle.rr_model.specs.declared.kind.Kind.TheVariants.{Days, Moments}
@@ -44,7 +44,7 @@ zeros_in_field : (n : ℕ) → All IsInField (replicate n 48)
 zeros_in_field zero = All-nil IsInField
 zeros_in_field (suc n) = All-cons IsInField 48 (replicate n 48) (omega arith) (zeros_in_field n)
 
-padded_in_field : (width n : ℕ) → n < 2 ^ 64 → All IsInField (padded width n)
+padded_in_field : (width n : ℕ) → n < 2 ^ 64 → All IsInField (decimal_of width n)
 padded_in_field width n h =
     All-append IsInField (replicate (width - length (decimal n)) 48) (decimal n) (zeros_in_field (width - length (decimal n))) (decimal_in_field n h)
 
@@ -58,9 +58,9 @@ date_in_field d printed =
     let small = small_month d in
     let month = padded_in_field 2 (month_of d) (omega (arith, small.0)) in
     let day = padded_in_field 2 (day_of_month d) (omega (arith, small.1)) in
-    let y = padded 4 (nat_abs (year_of d)) in
-    let m = padded 2 (month_of d) in
-    let k = padded 2 (day_of_month d) in
+    let y = decimal_of 4 (nat_abs (year_of d)) in
+    let m = decimal_of 2 (month_of d) in
+    let k = decimal_of 2 (day_of_month d) in
     let dash = codes "-" in
     All-append IsInField (y ++ dash ++ m ++ dash) k
     (All-append IsInField (y ++ dash ++ m) dash

@@ -6,11 +6,11 @@ use Rattle.rr_model.specs.Whole.{floor_mod}
 use Rattle.rr_model.specs.declared.kind.Kind.{Kind}
 use Rattle.rr_model.specs.declared.sketch.Sketch.{Sketch}
 use Rattle.rr_model.specs.Sets.Descriptor.{is_same_set, number_of, with_sets_of}
-use Rattle.rr_model.specs.Sets.Occupied.{occupied, shape_if_some}
+use Rattle.rr_model.specs.Sets.Occupied.{day_shapes, shape_if_some}
 use Rattle.rr_model.specs.Sets.Sketch.{StandsIn}
 use Rattle.rr_model.specs.Sets.Verdict.{HaveEqualOccurrences}
 use Rattle.rr_word.specs.Stretches.{IsNumberOn}
-use Rattle.rr_word.specs.Numbered.{shapes_of, numbered, number_in}
+use Rattle.rr_word.specs.Numbered.{shapes_of, numbered_days, number_in}
 use Rattle.rr_word.specs.declared.numbered.NumberedDay.{NumberedDay}
 
 -- the sketch with these parts, its days told by number
@@ -35,18 +35,18 @@ number_kept before settled period cycle day =
 -- the sets are those of the days in the order of their first use, and each day has the number of its set
 pub record IsKept (sets : List (List ℕ)) (before cycle : List NumberedDay) : Type 0 where
   pub sets_in_order : sets ≡ with_sets_of [] (shapes_of sets before ++ shapes_of sets cycle)
-  pub before_numbers : before ≡ numbered sets (shapes_of sets before)
-  pub cycle_numbers : cycle ≡ numbered sets (shapes_of sets cycle)
+  pub before_numbers : before ≡ numbered_days sets (shapes_of sets before)
+  pub cycle_numbers : cycle ≡ numbered_days sets (shapes_of sets cycle)
 
 -- the occupied ones of n days were added, and their sets
 pub record AreStretchOf (s : Sketch) (from : ℤ) (n : ℕ) (old new : List (List ℕ)) (days : List NumberedDay) : Type 0 where
-  pub sets : new ≡ with_sets_of old (occupied s from n)
-  pub numbers : days ≡ numbered new (occupied s from n)
+  pub sets : new ≡ with_sets_of old (day_shapes s from n)
+  pub numbers : days ≡ numbered_days new (day_shapes s from n)
 
 -- one day was added, where it has seconds
 pub record IsPutDay (day : ℤ) (times : List ℕ) (old_sets new_sets : List (List ℕ)) (old new : List NumberedDay) : Type 0 where
   pub sets : new_sets ≡ with_sets_of old_sets (shape_if_some day times)
-  pub numbers : new ≡ old ++ numbered new_sets (shape_if_some day times)
+  pub numbers : new ≡ old ++ numbered_days new_sets (shape_if_some day times)
 
 -- a day within 2,000,000,000 either way
 abbrev pub IsKeptDay : ℤ → Type 0

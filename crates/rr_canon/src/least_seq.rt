@@ -1,6 +1,6 @@
 // The least sketch of a set, as a sequence of days.
 ghost use Rattle.std.specs.Prelude.{◌≡◌, ◌≤◌, IfOk, Option, pos, ◌+ℤ◌, ◌-ℤ◌, ◌≤ℤ◌};
-ghost use Rattle.rr_model.specs.Bounds.{longest_period};
+ghost use Rattle.rr_model.specs.Bounds.{earliest_taken, latest_taken, longest_period};
 ghost use Rattle.rr_model.specs.Sets.Sketch.{IsFirstDay, IsNearDay};
 ghost use Rattle.rr_model.specs.Whole.{floor_mod};
 ghost use Rattle.rr_model.specs.Sets.Least.{IsLeastOfNone, IsLeastSketch};
@@ -99,13 +99,13 @@ impl DaySeq for LeastSeq {
 }
 
 impl LeastSeq {
-    ghost use Rattle.std.specs.Prelude.{IfSome, ◌<◌, length, pos, neg_ℤ};
+    ghost use Rattle.std.specs.Prelude.{IfSome, ◌<◌, length, pos};
     ghost use Rattle.rr_canon.specs.Least.{least_number};
 
     // The number of the time set of a day.
     fn number_on(&self, day: i64) -> Option<u32>
-        requires low { neg_ℤ (pos 3_000_000_000_000) ≤ℤ day }
-        requires high { day ≤ℤ pos 3_000_000_000_000 }
+        requires low { earliest_taken ≤ℤ day }
+        requires high { day ≤ℤ latest_taken }
         ensures number { result ≡ least_number self.now day }
         ensures within { IfSome result (λ n. n < length self.now.sets) }
     {
@@ -123,7 +123,7 @@ fn day_in_cycle(settled: i64, period: u64, day: i64) -> i64
     requires some { 1 ≤ period }
     requires few { period ≤ longest_period }
     requires from { settled ≤ℤ day }
-    requires high { day ≤ℤ pos 3_000_000_000_000 }
+    requires high { day ≤ℤ latest_taken }
     ensures { result ≡ settled +ℤ pos (floor_mod (day -ℤ settled) period) }
 {
     let into_period = (day - settled) as u64 % period;

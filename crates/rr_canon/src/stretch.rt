@@ -1,6 +1,6 @@
 // The occupied days of a stretch, with the numbers of their time sets.
-ghost use Rattle.std.specs.Prelude.{◌≡◌, ◌<◌, ◌≤◌, IfOk, IfSome, OnErr, OnOk, ◌++◌, ◌∷◌, None, Some, ℕ, [], drop, get_or, slice_get, length, neg_ℤ, pos, ◌+ℤ◌, ◌≤ℤ◌};
-ghost use Rattle.rr_model.specs.Bounds.{earliest_near};
+ghost use Rattle.std.specs.Prelude.{◌≡◌, ◌<◌, ◌≤◌, IfOk, IfSome, OnErr, OnOk, ◌++◌, ◌∷◌, None, Some, ℕ, [], drop, get_or, slice_get, length, pos, ◌+ℤ◌, ◌≤ℤ◌};
+ghost use Rattle.rr_model.specs.Bounds.{earliest_near, earliest_taken, latest_taken};
 ghost use Rattle.rr_model.specs.Rising.Sets.{IsSecondsOfDay};
 ghost use Rattle.rr_model.specs.Sets.Sketch.{IsNearDay, times_on};
 ghost use Rattle.rr_word.specs.Stretches.{AreFree, IsNumberOn, IsStretch};
@@ -127,8 +127,8 @@ fn put_own<A: DaySeq>(
 
 // The numbers of a day and of those after it: what is left of those that were read, or what the sequence says.
 fn next_stretch<'a, A: DaySeq>(seq: &'a A, day: i64, rest: &'a [u32]) -> Stretch<'a>
-    requires low { neg_ℤ (pos 3_000_000_000_000) ≤ℤ day }
-    requires high { day ≤ℤ pos 3_000_000_000_000 }
+    requires low { earliest_taken ≤ℤ day }
+    requires high { day ≤ℤ latest_taken }
     requires rest { AreNumbersFrom (A.sets seq.now) (A.sketch seq.now) day rest.now }
     ensures { IsStretch (A.sets seq.now) (A.sketch seq.now) day result.first result.rest.now }
 {

@@ -12,7 +12,7 @@ use Rattle.rr_model.specs.Rule.Validity.{is_absent, has_ordinals, has_part, take
 use Rattle.rr_model.specs.Rule.Validity.{IsValidRule}
 use Rattle.rr_model.specs.Whole.Divisors.{gcd, lcm}
 use Rattle.rr_model.specs.Rule.Cycle.{interval_cycle, asks_calendar, rule_cycle}
-use Rattle.rr_model.specs.Rule.Filled.{filled_part, wants_day, wants_month_day, wants_month, day_item_of, filled}
+use Rattle.rr_model.specs.Rule.Filled.{filled_part, wants_day, wants_month_day, wants_month, day_item_of, filled_rule}
 use Rattle.rr_model.specs.Rule.Candidate.{date_parts_hold, time_parts_hold}
 use Rattle.rr_model.specs.Rule.Chosen.{is_chosen}
 use Rattle.rr_model.specs.Rule.Repetition.{days_in, later_moment, ChosenRepeats}
@@ -84,20 +84,20 @@ no_place rule allowed none =
 
 module _ (rule : Rule) (kind : Kind) (start : ℤ) (valid : IsValidRule kind rule) (c : ℕ) (of_interval : interval_cycle rule.freq rule.interval ∣ c)
     (of_weeks : cond (is_absent rule.by_day) 1 7 ∣ c) (of_calendar : cond (asks_calendar rule) 146_097 1 ∣ c) where
-  by_calendar : 146_097 ∣ c → (d : ℤ) → date_parts_hold (filled rule kind start) (d +ℤ pos c) ≡ date_parts_hold (filled rule kind start) d
+  by_calendar : 146_097 ∣ c → (d : ℤ) → date_parts_hold (filled_rule rule kind start) (d +ℤ pos c) ≡ date_parts_hold (filled_rule rule kind start) d
   by_calendar h d =
       let w = whole_times 146_097 c h in
       let e : d +ℤ pos c ≡ later_day (pos w.0) d = omega (arith, ints, w.1) in
-      ap (date_parts_hold (filled rule kind start)) e ∙ date_parts-cycle calendar_repeats (pos w.0) d (filled rule kind start)
+      ap (date_parts_hold (filled_rule rule kind start)) e ∙ date_parts-cycle calendar_repeats (pos w.0) d (filled_rule rule kind start)
 
-  by_weeks : AsksNoCalendar (filled rule kind start) → 7 ∣ c → (d : ℤ)
-      → date_parts_hold (filled rule kind start) (d +ℤ pos c) ≡ date_parts_hold (filled rule kind start) d
+  by_weeks : AsksNoCalendar (filled_rule rule kind start) → 7 ∣ c → (d : ℤ)
+      → date_parts_hold (filled_rule rule kind start) (d +ℤ pos c) ≡ date_parts_hold (filled_rule rule kind start) d
   by_weeks none h d =
       let w = whole_times 7 c h in
       let e : d +ℤ pos c ≡ d +ℤ (pos w.0 *ℤ pos 7) = omega (arith, ints, w.1) in
-      ap (date_parts_hold (filled rule kind start)) e ∙ date_parts-weeks (filled rule kind start) d (pos w.0) none
+      ap (date_parts_hold (filled_rule rule kind start)) e ∙ date_parts-weeks (filled_rule rule kind start) d (pos w.0) none
 
-  none_asked : IsPlain rule.freq rule rule.interval c → asks_calendar rule ≡ false → AsksNoCalendar (filled rule kind start)
+  none_asked : IsPlain rule.freq rule rule.interval c → asks_calendar rule ≡ false → AsksNoCalendar (filled_rule rule kind start)
   none_asked plain asks =
       let four = four_absent (is_absent rule.by_month) (is_absent rule.by_month_day) (is_absent rule.by_year_day) (is_absent rule.by_week_no) asks in
       record {
@@ -110,18 +110,18 @@ module _ (rule : Rule) (kind : Kind) (start : ℤ) (valid : IsValidRule kind rul
       }
 
   plain_days : IsPlain rule.freq rule rule.interval c → asks_calendar rule ≡ false → (d : ℤ)
-      → date_parts_hold (filled rule kind start) (d +ℤ pos c) ≡ date_parts_hold (filled rule kind start) d
+      → date_parts_hold (filled_rule rule kind start) (d +ℤ pos c) ≡ date_parts_hold (filled_rule rule kind start) d
   plain_days plain asks d =
       let none = none_asked plain asks in
       elim (plain.weeks) [
         | inl h ↦ by_weeks none h d
         | inr unwanted ↦ elim (cases_Bool (is_absent rule.by_day)) [
-          | inl absent ↦ date_parts-any (filled rule kind start) d (d +ℤ pos c) none (unfilled (wants_day rule.freq rule) rule.by_day _ unwanted absent)
+          | inl absent ↦ date_parts-any (filled_rule rule kind start) d (d +ℤ pos c) none (unfilled (wants_day rule.freq rule) rule.by_day _ unwanted absent)
           | inr present ↦ by_weeks none (subst (λ z. z ∣ c) (cond-false (is_absent rule.by_day) 1 7 present) of_weeks) d
         ]
       ]
 
-  same_days : (d : ℤ) → date_parts_hold (filled rule kind start) (d +ℤ pos c) ≡ date_parts_hold (filled rule kind start) d
+  same_days : (d : ℤ) → date_parts_hold (filled_rule rule kind start) (d +ℤ pos c) ≡ date_parts_hold (filled_rule rule kind start) d
   same_days d =
       elim (frequency rule.freq rule rule.interval c of_interval) [
         | inl h ↦ by_calendar h d
@@ -131,7 +131,7 @@ module _ (rule : Rule) (kind : Kind) (start : ℤ) (valid : IsValidRule kind rul
         ]
       ]
 
-  same_times : (t : ℤ) → time_parts_hold (filled rule kind start) kind (t +ℤ days_in kind (pos c)) ≡ time_parts_hold (filled rule kind start) kind t
+  same_times : (t : ℤ) → time_parts_hold (filled_rule rule kind start) kind (t +ℤ days_in kind (pos c)) ≡ time_parts_hold (filled_rule rule kind start) kind t
   same_times t = rw (second_part-shift kind t (pos c)) refl
 
   pub keeps_rule : (k : ℕ) × KeepsRule rule kind start (days_in kind (pos c)) (pos k *ℤ pos rule.interval)
@@ -142,7 +142,7 @@ module _ (rule : Rule) (kind : Kind) (start : ℤ) (valid : IsValidRule kind rul
           number = unit_number-shift rule.freq rule.week_start kind (pos c) (pos w.0 *ℤ pos rule.interval) w.1;
           begin = unit_start-shift rule.freq rule.week_start kind (pos c) (pos w.0 *ℤ pos rule.interval) w.1;
           interval = λ x. divides-add rule.interval x (pos w.0) valid.interval_low;
-          date_parts = λ t. ap (date_parts_hold (filled rule kind start)) (day_part-shift kind t (pos c)) ∙ same_days (day_part kind t);
+          date_parts = λ t. ap (date_parts_hold (filled_rule rule kind start)) (day_part-shift kind t (pos c)) ∙ same_days (day_part kind t);
           time_parts = same_times;
         },
       )

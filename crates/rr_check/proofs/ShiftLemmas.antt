@@ -4,7 +4,7 @@ use Rattle.std.proofs.lemmas.Int.{ints}
 use Rattle.rr_model.specs.Whole.{divides}
 use Rattle.rr_model.specs.Moment.{day_part}
 use Rattle.rr_model.specs.Moment.Units.{unit_number, unit_start}
-use Rattle.rr_model.specs.Rule.Filled.{filled}
+use Rattle.rr_model.specs.Rule.Filled.{filled_rule}
 use Rattle.rr_model.specs.Rule.Candidate.{date_parts_hold, time_parts_hold, is_candidate}
 use Rattle.rr_model.specs.Rule.Chosen.{unit_begin, unit_end, position_from_front, position_from_back, is_chosen}
 use Rattle.rr_model.specs.declared.kind.Kind.{Kind}
@@ -16,8 +16,8 @@ pub record KeepsRule (rule : Rule) (kind : Kind) (start s units : ℤ) : Type 0 
   pub number : (t : ℤ) → unit_number rule.freq rule.week_start kind (t +ℤ s) ≡ unit_number rule.freq rule.week_start kind t +ℤ units
   pub begin : (u : ℤ) → unit_start rule.freq rule.week_start kind (u +ℤ units) ≡ unit_start rule.freq rule.week_start kind u +ℤ s
   pub interval : (x : ℤ) → divides rule.interval (x +ℤ units) ≡ divides rule.interval x
-  pub date_parts : (t : ℤ) → date_parts_hold (filled rule kind start) (day_part kind (t +ℤ s)) ≡ date_parts_hold (filled rule kind start) (day_part kind t)
-  pub time_parts : (t : ℤ) → time_parts_hold (filled rule kind start) kind (t +ℤ s) ≡ time_parts_hold (filled rule kind start) kind t
+  pub date_parts : (t : ℤ) → date_parts_hold (filled_rule rule kind start) (day_part kind (t +ℤ s)) ≡ date_parts_hold (filled_rule rule kind start) (day_part kind t)
+  pub time_parts : (t : ℤ) → time_parts_hold (filled_rule rule kind start) kind (t +ℤ s) ≡ time_parts_hold (filled_rule rule kind start) kind t
 
 module _ (rule : Rule) (kind : Kind) (start s units : ℤ) (keeps : KeepsRule rule kind start s units) where
   same_interval : (t : ℤ) → divides rule.interval (unit_number rule.freq rule.week_start kind (t +ℤ s) -ℤ unit_number rule.freq rule.week_start kind start)

@@ -13,7 +13,7 @@ use Rattle.rr_model.specs.declared.refusal.Refusal.TheVariants.{TooManyMoments}
 use Rattle.rr_shapes.specs.Numbering.{IsNumbering}
 use Rattle.rr_shapes.specs.Placing.{IsTooMany}
 use Rattle.rr_shapes.specs.Tables.{Extends}
-use Rattle.rr_shapes.specs.declared.unions.Pair.{Pair}
+use Rattle.rr_shapes.specs.declared.pair_numbers.Pair.{Pair}
 use Rattle.rr_days.specs.MadeSets.{AreKnown, IsMadeOf, IsMadeSet, IsNumberOf, IsOneTooMany, RefusedOnlyWhere}
 use Rattle.rr_days.specs.declared.op.Op.{Op}
 use Rattle.rr_days.specs.declared.op.Op.TheVariants.{Common}

@@ -1,8 +1,7 @@
 // Days, each by the number of its time set, as a sequence that repeats.
-ghost use Rattle.std.specs.Prelude.{◌≡◌, ◌<◌, ◌≤◌, ◌+◌, ◌++◌, ◌%◌, [], All, IfOk, drop, get_or, length, min, nat_abs, take, pos, neg_ℤ, ◌+ℤ◌, ◌-ℤ◌, ◌≤ℤ◌};
-ghost use Rattle.rr_model.specs.Bounds.{earliest_near, latest_near, longest_period};
+ghost use Rattle.std.specs.Prelude.{◌≡◌, ◌<◌, ◌≤◌, ◌+◌, ◌++◌, ◌%◌, [], All, IfOk, drop, get_or, length, min, nat_abs, take, pos, ◌+ℤ◌, ◌-ℤ◌, ◌≤ℤ◌};
+ghost use Rattle.rr_model.specs.Bounds.{earliest_near, earliest_taken, latest_near, latest_taken, longest_period};
 ghost use Rattle.rr_model.specs.Sets.Sketch.{IsFirstDay};
-ghost use Rattle.rr_runs.specs.Runs.{IsFarDay};
 ghost use Rattle.rr_word.specs.Bounded.{IsBounded, IsBounded-prop, IsFirstDay-prop};
 ghost use Rattle.rr_word.specs.Stretches.{AreFree};
 ghost use Rattle.rr_days.specs.Rows.{AreRising, AreRising-prop, AreWithin, HasEmptyFirst, first_number, sketch_of_runs};
@@ -244,8 +243,8 @@ impl Folded {
 
     // The numbers of the sets of a day and days after it, as far as they are kept in a row.
     fn row_on(&self, day: i64) -> &[u32]
-        requires low { neg_ℤ (pos 3_000_000_000_000) ≤ℤ day }
-        requires high { day ≤ℤ pos 3_000_000_000_000 }
+        requires low { earliest_taken ≤ℤ day }
+        requires high { day ≤ℤ latest_taken }
         ensures { IsRowOn self.now.shapes (sketch self.now) day result.now }
     {
         if day < self.settled {
@@ -261,8 +260,8 @@ impl Folded {
 
     // For how many days in a row from a day on it is known that none is occupied; 0 where the day is occupied.
     fn free_ahead(&self, day: i64) -> u64
-        requires low { neg_ℤ (pos 3_000_000_000_000) ≤ℤ day }
-        requires high { day ≤ℤ pos 3_000_000_000_000 }
+        requires low { earliest_taken ≤ℤ day }
+        requires high { day ≤ℤ latest_taken }
         ensures { AreFree (sketch self.now) day result }
     {
         if self.settled > day {

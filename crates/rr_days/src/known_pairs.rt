@@ -3,7 +3,7 @@ ghost use Rattle.std.specs.Prelude.{◌≡◌, ◌⊎◌, [], All, Contains, IfS
 ghost use Rattle.rr_shapes.specs.Tables.{AddsOnly};
 
 use rr_model::NoMemory;
-use rr_shapes::{Pair, Unions};
+use rr_shapes::{Pair, PairNumbers};
 use std::alloc::Global;
 use std::marker::Model;
 
@@ -14,13 +14,13 @@ const RECENT: usize = 128;
 /// numbers.
 #[derive(Drop)]
 pub struct KnownPairs {
-    all: Unions,
+    all: PairNumbers,
     recent: Vec<(Pair, usize)>,
 }
 
 impl Model for KnownPairs {
     ghost use Rattle.std.specs.Prelude.{ℕ, List, ◌++◌};
-    ghost use Rattle.rr_shapes.specs.declared.unions.Pair.{Pair};
+    ghost use Rattle.rr_shapes.specs.declared.pair_numbers.Pair.{Pair};
 
     ghost Value = { List (Pair × ℕ) };
 
@@ -46,7 +46,7 @@ impl KnownPairs {
         ensures { result ≡ [] }
     {
         KnownPairs {
-            all: Unions::new(alloc),
+            all: PairNumbers::new(alloc),
             recent: Vec::new(alloc),
         }
     }

@@ -1,5 +1,6 @@
 -- Numbers under which two tables have the same set.
-use Rattle.std.specs.Prelude.{◌≡◌, ◌⊎◌, ℕ, ◌<◌, ◌≤◌, List, Option, Some, get_or, slice_get, ℤ, pos, ◌≤ℤ◌}
+use Rattle.std.specs.Prelude.{◌≡◌, ◌⊎◌, ℕ, ◌<◌, ◌≤◌, List, Option, Some, get_or, slice_get, ℤ, ◌≤ℤ◌}
+use Rattle.rr_model.specs.Bounds.{latest_taken}
 use Rattle.rr_model.specs.Sets.Sketch.{times_on}
 use Rattle.rr_model.specs.declared.sketch.Sketch.{Sketch}
 use Rattle.rr_decide.specs.Look.{IsFirstFrom, IsShownOn}
@@ -41,14 +42,14 @@ IsCompared sets_a sets_b s u day (Alike numbers) = ShowsNone (shown_by Equal) (t
 -- the first day from this one on that differs, by its first second; else the n days are alike, and so are the sets of these numbers
 abbrev pub AreCompared : List (List ℕ) → List (List ℕ) → Sketch → Sketch → ℤ → ℕ → Comparison → Type 0
 AreCompared sets_a sets_b s u day n (Unlike r) =
-    IsFirstFrom Equal s u day r × (r.day ≤ℤ pos 3_000_000_000_000)
+    IsFirstFrom Equal s u day r × (r.day ≤ℤ latest_taken)
 AreCompared sets_a sets_b s u day n (Alike numbers) = ShowsNoneFor Equal s u day n × AreAlike sets_a sets_b numbers
 
 -- the first day from this one on that differs, by its first second; else some days, at most `most`, are alike, and so are the sets
 -- of these numbers
 abbrev pub IsRun : List (List ℕ) → List (List ℕ) → Sketch → Sketch → ℤ → ℕ → Run → Type 0
 IsRun sets_a sets_b s u day most (Differs r) =
-    IsFirstFrom Equal s u day r × (r.day ≤ℤ pos 3_000_000_000_000)
+    IsFirstFrom Equal s u day r × (r.day ≤ℤ latest_taken)
 IsRun sets_a sets_b s u day most (Agrees n numbers) =
     (1 ≤ n) × (n ≤ most) × ShowsNoneFor Equal s u day n × AreAlike sets_a sets_b numbers
 

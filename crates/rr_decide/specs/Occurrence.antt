@@ -1,5 +1,6 @@
 -- Occurrences that are not far from day 0.
 use Rattle.std.specs.Prelude.{⊤, Bool, IsTrue, Option, MatchOption, ℤ, pos, neg_ℤ, ◌≤ℤ◌}
+use Rattle.rr_model.specs.Bounds.{latest_taken}
 use Rattle.rr_model.specs.Moment.{day_part}
 use Rattle.rr_model.specs.Sets.Sketch.{IsEmptySketch, StandsIn}
 use Rattle.rr_model.specs.declared.kind.Kind.{Kind}
@@ -17,7 +18,7 @@ IsNearOccurrence o = (neg_ℤ (pos 100_000_000_000_000) ≤ℤ o.at) × (o.at �
 
 -- the day of the occurrence is at most the greatest one that a call takes
 abbrev pub IsUpToMaxDay : Kind → ℤ → Type 0
-IsUpToMaxDay kind at = day_part kind at ≤ℤ pos 3_000_000_000_000
+IsUpToMaxDay kind at = day_part kind at ≤ℤ latest_taken
 
 -- a No names an occurrence on a day that is at most the greatest one that a call takes
 abbrev pub NamesUpToMaxDay : Verdict → Type 0

@@ -1,6 +1,6 @@
 // A walk over the days of two sequences.
-ghost use Rattle.std.specs.Prelude.{◌<◌, ◌≤◌, IfSome, IfNone, Some, length, pos, neg_ℤ, ◌≤ℤ◌};
-ghost use Rattle.rr_model.specs.Bounds.{earliest_near};
+ghost use Rattle.std.specs.Prelude.{◌<◌, ◌≤◌, IfSome, IfNone, Some, length, pos, ◌≤ℤ◌};
+ghost use Rattle.rr_model.specs.Bounds.{earliest_near, earliest_taken, latest_taken};
 ghost use Rattle.rr_model.specs.Sets.Sketch.{IsNearDay};
 ghost use Rattle.rr_word.specs.Stretches.{AreFree, IsNumberOn};
 ghost use Rattle.rr_decide.specs.Look.{IsFirstFrom, IsFirstOn, IsLook};
@@ -39,7 +39,7 @@ pub fn first_day_shown<A: DaySeq, B: DaySeq>(
     ensures none { IfNone result
         (ShowsNoneFor question (A.sketch a.now) (B.sketch b.now) from days) }
     ensures some { IfSome result (IsFirstFrom question (A.sketch a.now) (B.sketch b.now) from) }
-    ensures high { IfSome result (λ r. r.day ≤ℤ pos 3_000_000_000_000) }
+    ensures high { IfSome result (λ r. r.day ≤ℤ latest_taken) }
 {
     let mut quiet = Quiet::new();
     let mut k = 0;
@@ -94,8 +94,8 @@ fn look_from<A: DaySeq, B: DaySeq>(
 
 // For how many days in a row from one on it is known that none is occupied, where that is asked; else 0, which tells nothing.
 fn free_days_if<S: DaySeq>(asked: bool, seq: &S, day: i64) -> u64
-    requires low { neg_ℤ (pos 3_000_000_000_000) ≤ℤ day }
-    requires high { day ≤ℤ pos 3_000_000_000_000 }
+    requires low { earliest_taken ≤ℤ day }
+    requires high { day ≤ℤ latest_taken }
     ensures { AreFree (S.sketch seq.now) day result }
 {
     if asked { seq.free_days(day) } else { 0 }

@@ -1,6 +1,6 @@
 // Equality of two sequences whatever their common cycle is, by days that are read in counted steps.
 ghost use Rattle.std.specs.Prelude.{◌≡◌, ◌⊎◌, ◌+◌, ◌-◌, ◌*◌, ◌<◌, ◌≤◌, ℕ, [], IfSome, IfNone, IsTrue, MatchOption, Some, length, slice_get, pos, ◌≤ℤ◌};
-ghost use Rattle.rr_model.specs.Bounds.{earliest_near};
+ghost use Rattle.rr_model.specs.Bounds.{earliest_near, latest_taken};
 ghost use Rattle.rr_model.specs.Sets.Sketch.{IsEmptySketch, IsNearDay, StandsIn};
 ghost use Rattle.rr_model.specs.Sets.Verdict.{IsEqualVerdict};
 ghost use Rattle.rr_word.specs.Stretches.{AreNumbersAfter, IsNumberOn};
@@ -112,7 +112,7 @@ fn first_day_unlike<A: DaySeq + Drop, B: DaySeq + Drop, L: Ledger>(
     requires most { days ≤ 5_000_000_000 }
     ensures none { IfNone result (ShowsNoneFor Equal (A.sketch a.now) (B.sketch b.now) from days) }
     ensures some { IfSome result (IsFirstFrom Equal (A.sketch a.now) (B.sketch b.now) from) }
-    ensures high { IfSome result (λ r. r.day ≤ℤ pos 3_000_000_000_000) }
+    ensures high { IfSome result (λ r. r.day ≤ℤ latest_taken) }
     ensures few { steps.new ≤ steps.old + 2 * days }
 {
     let mut alike = AlikeNumbers { from: 0, end: 0 };

@@ -1,5 +1,6 @@
 // Occurrences of both kinds in one order.
-ghost use Rattle.std.specs.Prelude.{◌≡◌, ◌↔◌, IsTrue, IfSome, pos, neg_ℤ, ◌≤ℤ◌};
+ghost use Rattle.std.specs.Prelude.{◌≡◌, ◌↔◌, IsTrue, IfSome, ◌≤ℤ◌};
+ghost use Rattle.rr_model.specs.Bounds.{earliest_taken, latest_taken};
 ghost use Rattle.rr_model.specs.Moment.{Before, moment_at};
 ghost use Rattle.rr_model.specs.declared.verdict.Verdict.TheVariants.{No};
 ghost use Rattle.rr_decide.specs.Occurrence.{IsFirstOrNone, IsNearOccurrence, IsUpToMaxDay};
@@ -19,8 +20,8 @@ pub struct Occurrence {
 impl Occurrence {
     /// The occurrence at a second of a day.
     pub fn on_day(kind: Kind, day: i64, second: u32) -> Self
-        requires low { neg_ℤ (pos 3_000_000_000_000) ≤ℤ day }
-        requires high { day ≤ℤ pos 3_000_000_000_000 }
+        requires low { earliest_taken ≤ℤ day }
+        requires high { day ≤ℤ latest_taken }
         ensures kind { result.kind ≡ kind }
         ensures at { result.at ≡ moment_at kind day second }
     {

@@ -2,7 +2,7 @@
 use Rattle.std.specs.Prelude.{ℕ, Bool, if◌then◌else◌, List, [], ◌∷◌, ◌++◌, length, Result, Ok, Err}
 use Rattle.std.specs.List.{list_any}
 use Rattle.rr_model.specs.Rule.Validity.{is_absent}
-use Rattle.rr_model.specs.Text.Event.{ended, is_event, no_components, value_on}
+use Rattle.rr_model.specs.Text.Event.{after_end, is_event, no_components, value_on}
 use Rattle.rr_model.specs.Text.Lines.{physical_lines}
 use Rattle.rr_model.specs.Text.RuleValues.{◌>>=◌}
 use Rattle.rr_model.specs.Text.UsedLines.{line_kind}
@@ -17,7 +17,7 @@ use Rattle.rr_events.specs.Cutting.{lines_at}
 
 -- the components that are open after the end of one of this name
 abbrev pub closed_by : ℕ → List (List ℕ) → List ℕ → Result (List (List ℕ)) Refusal
-closed_by number names name = ended number no_components names name >>= λ after. Ok after.open_names
+closed_by number names name = after_end number no_components names name >>= λ after. Ok after.open_names
 
 -- the components that are open after a line, by its kind, the innermost first
 abbrev pub open_at : List (List ℕ) → ℕ → LineKind → List ℕ → Result (List (List ℕ)) Refusal

@@ -9,7 +9,7 @@ use Rattle.rr_model.specs.Whole.{floor_div, floor_mod, divides}
 use Rattle.rr_model.specs.Moment.{moment_at}
 use Rattle.rr_model.specs.Moment.Units.{unit_number}
 use Rattle.rr_model.specs.Rising.Sets.{IsSetOf}
-use Rattle.rr_model.specs.Rule.Filled.{hour_of, minute_of, second_of, filled}
+use Rattle.rr_model.specs.Rule.Filled.{hour_of, minute_of, second_of, filled_rule}
 use Rattle.rr_model.specs.Rule.Candidate.{interval_holds, date_parts_hold, is_candidate}
 use Rattle.rr_model.specs.declared.kind.Kind.TheVariants.{Days, Moments}
 use Rattle.rr_model.specs.declared.rule.Freq.{Freq}
@@ -108,8 +108,8 @@ module _ (rule : Rule) (start day : ℤ) where
         (set_same nat_lt _ (At unit Stands k) (of_unit rule.freq rule k ms ss)
         (unit_set rule.freq rule (hour_of Moments start) (minute_of Moments start) (second_of Moments start) ms ss fine times.0 times.1 k low)
         (λ t. (
-          (λ h. (h.0, (h.1.0, rw (time_parts_hold-at (filled rule Moments start) (pos 0) t h.1.0) h.1.1))),
-          (λ h. (h.0, (h.1.0, rw (time_parts_hold-at (filled rule Moments start) (pos 0) t h.1.0) at h.1.1))),
+          (λ h. (h.0, (h.1.0, rw (time_parts_hold-at (filled_rule rule Moments start) (pos 0) t h.1.0) h.1.1))),
+          (λ h. (h.0, (h.1.0, rw (time_parts_hold-at (filled_rule rule Moments start) (pos 0) t h.1.0) at h.1.1))),
         )))
         e;
   }
@@ -131,10 +131,10 @@ module _ (rule : Rule) (start day : ℤ) where
 
 -- the date parts of the rule, filled from the start, hold of the day
 abbrev pub dates_hold : Rule → ℤ → ℤ → Bool
-dates_hold rule start day = date_parts_hold (filled rule Moments start) day
+dates_hold rule start day = date_parts_hold (filled_rule rule Moments start) day
 
 -- only the start's day enters
-pub dates_are : (rule : Rule) (start day s d : ℤ) (b : Bool) → s ≡ floor_div start 86_400 → d ≡ day → b ≡ date_parts_hold (filled rule Days s) d
+pub dates_are : (rule : Rule) (start day s d : ℤ) (b : Bool) → s ≡ floor_div start 86_400 → d ≡ day → b ≡ date_parts_hold (filled_rule rule Days s) d
     → b ≡ dates_hold rule start day
 dates_are rule start day s d b same_start same_day e = rw (same_start, same_day) at e
 
@@ -146,11 +146,15 @@ candidate_seconds rule start day out dates set =
     (λ s. (
       (λ h. (
         h.1,
-        and_true _ _ _ h.0 (rw (day_part-moment_at day s h.1) dates) (time_parts_hold-at (filled rule Moments start) day s h.1
-            ∙ sym (time_parts_hold-at (filled rule Moments start) (pos 0) s h.1) ∙ h.2),
+        and_true _ _ _ h.0 (rw (day_part-moment_at day s h.1) dates) (time_parts_hold-at (filled_rule rule Moments start) day s h.1
+            ∙ sym (time_parts_hold-at (filled_rule rule Moments start) (pos 0) s h.1) ∙ h.2),
       )),
-      (λ h. (let p = and_parts _ _ _ h.1 in
-          (p.0, h.0, time_parts_hold-at (filled rule Moments start) (pos 0) s h.0 ∙ sym (time_parts_hold-at (filled rule Moments start) day s h.0) ∙ p.2))),
+      (λ h. (let p = and_parts _ _ _ h.1 in (
+        p.0,
+        h.0,
+        time_parts_hold-at (filled_rule rule Moments start) (pos 0) s h.0
+            ∙ sym (time_parts_hold-at (filled_rule rule Moments start) day s h.0) ∙ p.2,
+      ))),
     ))
 
 pub no_candidate_seconds : (rule : Rule) (start day : ℤ) → dates_hold rule start day ≡ false → IsSetOf nat_lt [] (IsCandidateSecond rule start day)

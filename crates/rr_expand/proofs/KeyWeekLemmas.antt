@@ -7,7 +7,7 @@ use Rattle.std.proofs.lemmas.Bool.Decides.{nat_tests}
 use Rattle.rr_model.specs.Whole.{floor_div}
 use Rattle.rr_model.specs.Calendar.{is_leap, days_in_year, first_day_of_year, day_number, IsInYear, weekday_of}
 use Rattle.rr_model.specs.Calendar.Week.{week_index, fourth_day, week_year, week_number, last_week}
-use Rattle.rr_model.specs.Rule.Filled.{filled}
+use Rattle.rr_model.specs.Rule.Filled.{filled_rule}
 use Rattle.rr_model.specs.Rule.Validity.{is_absent}
 use Rattle.rr_model.specs.Rule.Candidate.{is_week_listed, by_week_no_holds, date_parts_hold}
 use Rattle.rr_model.specs.declared.kind.Kind.TheVariants.{Days}
@@ -198,5 +198,5 @@ pub equal_keys_have_equal_masks : EqualKeysHaveEqualMasks
 equal_keys_have_equal_masks f y z e k =
     let told = told_by_keys f.rule y z e in
     and-same (nat_lt k (days_in_year y)) (allows_day f (first_day_of_year y +ℤ pos k)) (allows_day f (first_day_of_year z +ℤ pos k))
-    (λ h. date_parts-same (filled f.rule Days f.start_day) y z k told (grind (arith, nat_tests, h)))
+    (λ h. date_parts-same (filled_rule f.rule Days f.start_day) y z k told (grind (arith, nat_tests, h)))
     ∙ ap (λ n. nat_lt k n && allows_day f (first_day_of_year z +ℤ pos k)) (days_in_year-alike y z told.alike.leap)

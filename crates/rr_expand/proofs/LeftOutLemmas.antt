@@ -12,7 +12,7 @@ use Rattle.rr_model.specs.Calendar.{day_number, year_of, month_of, day_of_month,
 use Rattle.rr_model.specs.Calendar.Laws.{HasDateOf}
 use Rattle.rr_model.specs.Rule.Candidate.{allows, allows_signed, date_parts_hold, day_item_holds, is_ordinal_of_day}
 use Rattle.rr_model.specs.Rule.Candidate.{by_month_holds, by_week_no_holds, by_year_day_holds, by_month_day_holds, by_day_holds, counts_in_year}
-use Rattle.rr_model.specs.Rule.Filled.{day_item_of, filled, filled_part, wants_day, wants_month, wants_month_day}
+use Rattle.rr_model.specs.Rule.Filled.{day_item_of, filled_rule, filled_part, wants_day, wants_month, wants_month_day}
 use Rattle.rr_model.specs.Rule.Validity.{is_absent}
 use Rattle.rr_model.specs.declared.kind.Kind.TheVariants.{Days}
 use Rattle.rr_model.specs.declared.rule.DayItem.{DayItem}
@@ -133,29 +133,29 @@ module _ (rule : Rule) (start d : ℤ) (k many i : ℕ) (at : k ≡ day_of_month
   month_same = date.month
 
   pub unlisted : is_absent rule.by_month_day ≡ false → allows_signed rule.by_month_day (pos i) (pos many) ≡ false
-      → date_parts_hold (filled rule Days start) day ≡ false
+      → date_parts_hold (filled_rule rule Days start) day ≡ false
   unlisted present none =
-      not_on_month_day (filled rule Days start) day
+      not_on_month_day (filled_rule rule Days start) day
       (rw (date.year, date.month, date.day, sym long)
       (ap (λ xs. allows_signed xs (pos i) (pos many))
       (filled_present (wants_month_day rule.freq rule) rule.by_month_day (pos (day_of_month start)) present) ∙ none))
 
   pub not_own : (own : ℕ) → own ≡ day_of_month start → is_absent rule.by_month_day ≡ true → wants_month_day rule.freq rule ≡ true
-      → allows_signed (pos own ∷ []) (pos i) (pos many) ≡ false → date_parts_hold (filled rule Days start) day ≡ false
+      → allows_signed (pos own ∷ []) (pos i) (pos many) ≡ false → date_parts_hold (filled_rule rule Days start) day ≡ false
   not_own own is absent wants none =
-      not_on_month_day (filled rule Days start) day
+      not_on_month_day (filled_rule rule Days start) day
       (rw (date.year, date.month, date.day, sym long)
       (ap (λ xs. allows_signed xs (pos i) (pos many))
       (filled_own (wants_month_day rule.freq rule) rule.by_month_day (pos (day_of_month start)) absent wants) ∙ rw is at none))
 
 -- some days after a day whose weekday is known
 pub other_weekday : (rule : Rule) (start d : ℤ) (weekday j : ℕ) → weekday ≡ weekday_of d → is_absent rule.by_day ≡ false
-    → list_any (has_weekday ((weekday + j) % 7)) rule.by_day ≡ false → date_parts_hold (filled rule Days start) (d +ℤ pos j) ≡ false
+    → list_any (has_weekday ((weekday + j) % 7)) rule.by_day ≡ false → date_parts_hold (filled_rule rule Days start) (d +ℤ pos j) ≡ false
 other_weekday rule start d weekday j is present none =
     let same : (weekday + j) % 7 ≡ weekday_of (d +ℤ pos j) = ap (λ w. (w + j) % 7) is ∙ sym (weekday_of-later d j) in
-    let held = not_held (counts_in_year rule.freq (filled rule Days start).by_month) (d +ℤ pos j) rule.by_day (rw same at none) in
-    not_on_weekday (filled rule Days start) (d +ℤ pos j)
-    (ap (λ (xs : List DayItem). is_absent xs || list_any (day_item_holds (counts_in_year rule.freq (filled rule Days start).by_month) (d +ℤ pos j)) xs)
+    let held = not_held (counts_in_year rule.freq (filled_rule rule Days start).by_month) (d +ℤ pos j) rule.by_day (rw same at none) in
+    not_on_weekday (filled_rule rule Days start) (d +ℤ pos j)
+    (ap (λ (xs : List DayItem). is_absent xs || list_any (day_item_holds (counts_in_year rule.freq (filled_rule rule Days start).by_month) (d +ℤ pos j)) xs)
     (filled_present (wants_day rule.freq rule) rule.by_day (day_item_of start) present) ∙ rw (present, held) refl)
 
 -- ---- weekdays alone
@@ -206,9 +206,9 @@ module _ (rule : Rule) (no_month : is_absent rule.by_month ≡ true) (no_week : 
   month_day_unwanted Yearly = rw (no_week, no_year_day, present) refl
 
   -- a day is allowed where an item has its weekday
-  on_weekday : (start d : ℤ) → date_parts_hold (filled rule Days start) d ≡ list_any (has_weekday (weekday_of d)) rule.by_day
+  on_weekday : (start d : ℤ) → date_parts_hold (filled_rule rule Days start) d ≡ list_any (has_weekday (weekday_of d)) rule.by_day
   on_weekday start d =
-      let r = filled rule Days start in
+      let r = filled_rule rule Days start in
       let months = not_filled (wants_month rule.freq rule) rule.by_month (pos (month_of start)) (month_unwanted rule.freq) in
       let month_days = not_filled (wants_month_day rule.freq rule) rule.by_month_day (pos (day_of_month start)) (month_day_unwanted rule.freq) in
       let in_year : Bool = counts_in_year rule.freq r.by_month in
@@ -233,7 +233,7 @@ all_six true false c d e f h = absurd (cc)
 all_six false b c d e f h = absurd (cc)
 
 pub weekdays_alone : (rule : Rule) (start d : ℤ) → names_weekdays_alone rule ≡ true
-    → date_parts_hold (filled rule Days start) d ≡ list_any (has_weekday (weekday_of d)) rule.by_day
+    → date_parts_hold (filled_rule rule Days start) d ≡ list_any (has_weekday (weekday_of d)) rule.by_day
 weekdays_alone rule start d e =
     let parts = all_six (is_absent rule.by_month) (is_absent rule.by_week_no) (is_absent rule.by_year_day) (is_absent rule.by_month_day)
     (is_absent rule.by_day) (list_any has_ordinal rule.by_day) e in

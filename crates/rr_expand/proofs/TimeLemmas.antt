@@ -3,7 +3,7 @@ use Rattle.std.proofs.Common.{◌≡◌, ℕ, ◌/◌, ◌%◌, ◌<◌, Bool, t
 use Rattle.std.specs.Prelude.{IsTrue, nat_lt}
 use Rattle.std.proofs.lemmas.List.Elements.{Contains-get_or}
 use Rattle.rr_model.specs.Rising.Sets.{IsSetOf, IsSecondsOfDay}
-use Rattle.rr_model.specs.Rule.Filled.{hour_of, minute_of, second_of, filled_part, filled}
+use Rattle.rr_model.specs.Rule.Filled.{hour_of, minute_of, second_of, filled_part, filled_rule}
 use Rattle.rr_model.specs.Rule.Candidate.{allows}
 use Rattle.rr_model.specs.declared.kind.Kind.TheVariants.{Moments}
 use Rattle.rr_model.specs.declared.rule.Rule.{Rule}
@@ -51,6 +51,6 @@ candidate_times rule start hs ms ss coarse a b c =
     let w = fills_times rule.freq coarse in
     set_same nat_lt _ (IsCandidateTime rule Moments start) (of_day hs ms ss) (passed_day _ _ _ hs ms ss a b c)
     (λ s. (
-      (λ h. (h.0, rw (time_parts_hold-at (filled rule Moments start) (pos 0) s h.0, w.0, w.1, w.2) h.1)),
-      (λ h. (h.0, rw (w.0, w.1, w.2) at (rw (time_parts_hold-at (filled rule Moments start) (pos 0) s h.0) at h.1))),
+      (λ h. (h.0, rw (time_parts_hold-at (filled_rule rule Moments start) (pos 0) s h.0, w.0, w.1, w.2) h.1)),
+      (λ h. (h.0, rw (w.0, w.1, w.2) at (rw (time_parts_hold-at (filled_rule rule Moments start) (pos 0) s h.0) at h.1))),
     ))

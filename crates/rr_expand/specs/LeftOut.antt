@@ -8,7 +8,7 @@ use Rattle.rr_model.specs.declared.rule.DayItem.{DayItem}
 use Rattle.rr_model.specs.declared.kind.Kind.TheVariants.{Days}
 use Rattle.rr_model.specs.Calendar.{month_of}
 use Rattle.rr_model.specs.Rule.Candidate.{by_month_holds}
-use Rattle.rr_model.specs.Rule.Filled.{filled, wants_month_day}
+use Rattle.rr_model.specs.Rule.Filled.{filled_rule, wants_month_day}
 use Rattle.rr_cal.specs.declared.day.Day.{Day}
 use Rattle.rr_expand.specs.Years.{Filling, allows_day, is_bit_set}
 
@@ -39,7 +39,7 @@ IsNextInMonth f day next =
 
 -- BYMONTH, filled from the start, holds of no day of this day's month
 abbrev pub LeavesOutMonth : Filling → ℤ → Type 0
-LeavesOutMonth f day = (d : ℤ) → month_of d ≡ month_of day → by_month_holds (filled f.rule Days f.start_day) d ≡ false
+LeavesOutMonth f day = (d : ℤ) → month_of d ≡ month_of day → by_month_holds (filled_rule f.rule Days f.start_day) d ≡ false
 
 -- BYMONTHDAY is absent, and the day of the month is taken from the start
 abbrev pub FillsMonthDay : Rule → Type 0

@@ -2,7 +2,7 @@
 use Rattle.std.specs.Prelude.{◌≡◌, ℕ, ◌+◌, ◌/◌, ◌%◌, ◌^◌, ◌<◌, ◌≤◌, ◌==◌, Bool, true, false, ◌&&◌, if◌then◌else◌, List, get_or, nat_lt, Option, Some, None, ℤ, pos, ◌+ℤ◌, ◌-ℤ◌, ◌≤ℤ◌, ◌<ℤ◌}
 use Rattle.rr_model.specs.Calendar.{days_in_year, first_day_of_year, is_leap, kind_of_year}
 use Rattle.rr_model.specs.Rule.Candidate.{date_parts_hold}
-use Rattle.rr_model.specs.Rule.Filled.{filled}
+use Rattle.rr_model.specs.Rule.Filled.{filled_rule}
 use Rattle.rr_model.specs.Rule.Validity.{is_absent}
 use Rattle.rr_model.specs.declared.kind.Kind.TheVariants.{Days}
 use Rattle.rr_model.specs.declared.rule.Rule.{Rule}
@@ -18,7 +18,7 @@ filling_of rule start_day = record { rule = rule; start_day = start_day }
 
 -- each date part of the filled rule holds of the day (RFC 5545, section 3.3.10)
 abbrev pub allows_day : Filling → ℤ → Bool
-allows_day f d = date_parts_hold (filled f.rule Days f.start_day) d
+allows_day f d = date_parts_hold (filled_rule f.rule Days f.start_day) d
 
 -- the date parts allow every day
 abbrev pub AllowsEveryDay : Filling → Type 0

@@ -11,7 +11,7 @@ ghost use Rattle.rr_expand.specs.Years.{filling_of};
 
 use rr_cal::{Day, days_in_unit, first_day_of_unit};
 use rr_model::{Dates, NoMemory, Rule};
-use rr_parts::{date_parts_hold, fits};
+use rr_parts::{date_parts_hold, unit_fits};
 use std::alloc::Global;
 
 /// The days of a unit of a rule, DAILY or coarser, at which its date parts hold, filled from the start's day, and the
@@ -29,7 +29,7 @@ pub fn days(alloc: Global, rule: &Rule, start_day: i64, unit: i64) -> Result<Dat
     ensures { IfOk result (λ days. IsSetOf int_lt days (IsCandidateDay rule.now start_day unit)) }
 {
     let start = Day::new(start_day);
-    if !fits(rule, &start, unit) {
+    if !unit_fits(rule, &start, unit) {
         return Ok(Dates::new(alloc));
     }
     let first = first_day_of_unit(rule.freq, rule.week_start, unit);

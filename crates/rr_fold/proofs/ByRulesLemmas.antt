@@ -12,7 +12,7 @@ use Rattle.rr_model.specs.Moment.Years.{IsInYears}
 use Rattle.rr_model.specs.Rule.Candidate.{lists}
 use Rattle.rr_model.specs.Rule.Validity.{IsValidRule}
 use Rattle.rr_model.specs.Series.Soundness.{FitsStart, IsSound}
-use Rattle.rr_model.specs.Series.Tree.{ended, members_of, members_of_all, tree_of}
+use Rattle.rr_model.specs.Series.Tree.{up_to_end, members_of, members_of_all, tree_of}
 use Rattle.rr_model.specs.Sets.Tree.{Tree, chosen_of, has_second, is_among, some_stands_at, stands_at, stands_in}
 use Rattle.rr_model.specs.declared.kind.Kind.{Kind}
 use Rattle.rr_model.specs.declared.rule.End.{End}
@@ -26,7 +26,7 @@ use Rattle.rr_fold.specs.Rules.{HasRules, dates_from, given_from, kept_from, mem
 -- ---- rules
 
 -- an end takes nothing in
-pub ended_early : (kind : Kind) (end : End) (a : Tree) (first : ℤ) → HasNoDayBefore a first → HasNoDayBefore (ended kind end a) first
+pub ended_early : (kind : Kind) (end : End) (a : Tree) (first : ℤ) → HasNoDayBefore a first → HasNoDayBefore (up_to_end kind end a) first
 ended_early kind Never a first none d s l = none d s l
 ended_early kind (Until other at) a first none d s l = let z = none d s l in rw z refl
 ended_early kind (Count count) a first none d s l = let z = none d s l in rw z refl

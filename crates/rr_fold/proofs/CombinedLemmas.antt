@@ -12,7 +12,7 @@ use Rattle.rr_model.proofs.RisingSetLemmas.{Contains-none}
 use Rattle.rr_model.specs.Sets.Sizes.{total_size}
 use Rattle.rr_model.specs.declared.limits.TheConstants.{MAX_SECONDS}
 use Rattle.rr_shapes.specs.Tables.{Extends}
-use Rattle.rr_shapes.specs.declared.unions.Pair.{Pair}
+use Rattle.rr_shapes.specs.declared.pair_numbers.Pair.{Pair}
 use Rattle.rr_shapes.proofs.TableLemmas.{same_set}
 use Rattle.rr_days.specs.Growing.{IsGrown}
 use Rattle.rr_days.specs.MadeSets.{AreKnown, HoldsFor, IsMadeOf}

@@ -18,7 +18,7 @@ use Rattle.rr_model.specs.Moment.Units.{is_whole_days, unit_number}
 use Rattle.rr_model.specs.Moment.Years.{IsInYears}
 use Rattle.rr_model.specs.Rule.Candidate.{date_parts_hold, interval_holds, is_candidate, time_parts_hold}
 use Rattle.rr_model.specs.Rule.Cycle.{interval_cycle}
-use Rattle.rr_model.specs.Rule.Filled.{filled}
+use Rattle.rr_model.specs.Rule.Filled.{filled_rule}
 use Rattle.rr_model.specs.Rule.Repetition.{days_in}
 use Rattle.rr_model.specs.Rule.Validity.{IsValidRule, is_absent, takes_start}
 use Rattle.rr_model.specs.Sets.Tree.{chosen_of, stands_at}
@@ -110,17 +110,17 @@ module _ (rule : Rule) (start : ℤ) (valid : IsValidRule Moments rule) (d e : �
       ∙ ap (divides rule.interval) (past own first more)
       ∙ divides-add rule.interval (own -ℤ first) (pos w.0) valid.interval_low
 
-  pub fine_candidate : date_parts_hold (filled rule Moments start) e ≡ date_parts_hold (filled rule Moments start) d
+  pub fine_candidate : date_parts_hold (filled_rule rule Moments start) e ≡ date_parts_hold (filled_rule rule Moments start) d
       → is_candidate rule Moments start (moment_at Moments e s) ≡ is_candidate rule Moments start (moment_at Moments d s)
   unfolding is_candidate
   fine_candidate dates =
-      let days : date_parts_hold (filled rule Moments start) (day_part Moments (moment_at Moments e s))
-      ≡ date_parts_hold (filled rule Moments start) (day_part Moments (moment_at Moments d s)) =
-      ap (date_parts_hold (filled rule Moments start)) (day_part-moment_at e s low) ∙ dates
-      ∙ sym (ap (date_parts_hold (filled rule Moments start)) (day_part-moment_at d s low)) in
-      let times : time_parts_hold (filled rule Moments start) Moments (moment_at Moments e s)
-      ≡ time_parts_hold (filled rule Moments start) Moments (moment_at Moments d s) =
-      time_parts_hold-at (filled rule Moments start) e s low ∙ sym (time_parts_hold-at (filled rule Moments start) d s low) in
+      let days : date_parts_hold (filled_rule rule Moments start) (day_part Moments (moment_at Moments e s))
+      ≡ date_parts_hold (filled_rule rule Moments start) (day_part Moments (moment_at Moments d s)) =
+      ap (date_parts_hold (filled_rule rule Moments start)) (day_part-moment_at e s low) ∙ dates
+      ∙ sym (ap (date_parts_hold (filled_rule rule Moments start)) (day_part-moment_at d s low)) in
+      let times : time_parts_hold (filled_rule rule Moments start) Moments (moment_at Moments e s)
+      ≡ time_parts_hold (filled_rule rule Moments start) Moments (moment_at Moments d s) =
+      time_parts_hold-at (filled_rule rule Moments start) e s low ∙ sym (time_parts_hold-at (filled_rule rule Moments start) d s low) in
       λ i. interval-same i && days i && times i
 
 -- Of two years of one key whose first days lie whole periods apart each day of one has the seconds of the same day of the other.

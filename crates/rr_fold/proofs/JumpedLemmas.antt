@@ -10,7 +10,7 @@ use Rattle.rr_iter.specs.Ends.{IsSoundRule}
 use Rattle.rr_model.proofs.YearLemmas.{four_digit_bounds}
 use Rattle.rr_model.specs.Moment.{day_part}
 use Rattle.rr_model.specs.Rule.Cycle.{rule_cycle}
-use Rattle.rr_model.specs.Series.Tree.{ended, members_of}
+use Rattle.rr_model.specs.Series.Tree.{up_to_end, members_of}
 use Rattle.rr_model.specs.Sets.Tree.{chosen_of, first_n, stands_at}
 use Rattle.rr_model.specs.declared.kind.Kind.{Kind}
 use Rattle.rr_model.specs.declared.rule.Rule.{Rule}
@@ -50,7 +50,7 @@ module _ (rule : Rule) (kind : Kind) (start end : ℤ) (jump : Jump) (sound : Is
       let k = j.counted in
       let repeats = λ (d : ℤ) (x : ℕ) (l : (first +ℤ pos 1) ≤ℤ d). chosen_later rule kind start sound.valid jump.cycle d x
       (subst (λ n. rule_cycle rule ∣ n) (sym k.is_cycle) (dvd_refl (rule_cycle rule))) (omega (arith, ints, l)) in
-      let same = λ (d : ℤ) (x : ℕ). ap (λ e. stands_at (ended kind e (chosen_of rule kind start)) d x) j.ends in
+      let same = λ (d : ℤ) (x : ℕ). ap (λ e. stands_at (up_to_end kind e (chosen_of rule kind start)) d x) j.ends in
       subst (λ e. IsFoldedTo (members_of kind start rule) first e sets new) at
       (folded_whole (chosen_of rule kind start) first jump.cycle k.each sound.in_years.0 some_cycle repeats k.one j.count jump.cycles jump.count k.room k.sum
       (members_of kind start rule) same (members_early kind start rule) (λ d x l. before_start rule kind start d x l)

@@ -10,7 +10,7 @@ use Rattle.rr_model.specs.Whole.Count.{count_from}
 use Rattle.rr_model.specs.Calendar.{is_leap, days_in_year, days_in_month, days_of_months, first_day_of_year, year_of, month_of}
 use Rattle.rr_model.specs.Moment.{day_part, moment_at}
 use Rattle.rr_model.specs.Moment.Units.{unit_number, unit_start}
-use Rattle.rr_model.specs.Rule.Filled.{filled}
+use Rattle.rr_model.specs.Rule.Filled.{filled_rule}
 use Rattle.rr_model.specs.Rule.Validity.{IsValidRule}
 use Rattle.rr_model.specs.Rule.Candidate.{interval_holds, date_parts_hold, is_candidate}
 use Rattle.rr_model.specs.Rule.Chosen.{is_chosen}
@@ -177,7 +177,7 @@ module _ (w : ℕ) (y z : ℤ) (k : ℕ) (leap : is_leap y ≡ is_leap z) (low :
 -- ---- what stands at a second of a day
 
 -- where no unit is left out the date parts decide
-day_holds-each : (rule : Rule) (start_day d : ℤ) → rule.interval ≡ 1 → day_holds rule start_day d ≡ date_parts_hold (filled rule Days start_day) d
+day_holds-each : (rule : Rule) (start_day d : ℤ) → rule.interval ≡ 1 → day_holds rule start_day d ≡ date_parts_hold (filled_rule rule Days start_day) d
 day_holds-each rule start_day d each =
     let fits : interval_holds rule Days start_day d ≡ true =
     subst (λ n. divides n (unit_number rule.freq rule.week_start Days d -ℤ unit_number rule.freq rule.week_start Days start_day) ≡ true) (sym each)

@@ -3,7 +3,7 @@ use Rattle.std.specs.Prelude.{◌≡◌, ◌≢◌, ℕ, ◌-◌, ◌<◌, ◌�
 use Rattle.rr_model.specs.Sets.Sizes.{total_size}
 use Rattle.rr_model.specs.declared.limits.TheConstants.{MAX_SECONDS}
 use Rattle.rr_runs.specs.Pages.{IsZeroFrom}
-use Rattle.rr_shapes.specs.declared.unions.Pair.{Pair}
+use Rattle.rr_shapes.specs.declared.pair_numbers.Pair.{Pair}
 use Rattle.rr_days.specs.MadeSets.{AreKnown, IsNumberOf}
 use Rattle.rr_days.specs.declared.combined_sets.CombinedSets.{CombinedSets}
 use Rattle.rr_days.specs.declared.op.Op.{Op}

@@ -180,7 +180,15 @@ fn push_stretch(
         if last.a != a || last.b != b {
             let of_one = FoldedSetId { number: a };
             let of_other = FoldedSetId { number: b };
-            match number_of(sets, alloc, op, of_one, of_other, &one.shapes, &other.shapes) {
+            match number_of(
+                sets,
+                alloc,
+                op,
+                of_one,
+                of_other,
+                &one.shapes,
+                &other.shapes,
+            ) {
                 Ok(set) => last = CombinedPair {
                     a,
                     b,

@@ -16,9 +16,9 @@ use Rattle.rr_model.specs.Text.Rules.{has_time}
 use Rattle.rr_model.specs.Graph.Laws.{GraphIsReadBack}
 use Rattle.rr_model.specs.Graph.Members.{member_of, object_or, text_in, json_object}
 use Rattle.rr_model.specs.Graph.Occurrences.{first_repeat_day}
-use Rattle.rr_model.specs.Graph.Reading.{Recurrence, recurrence_of, with_occurrence, repeating, is_all_day, is_named_utc, turned_start, start_moment}
+use Rattle.rr_model.specs.Graph.Reading.{Recurrence, recurrence_of, with_occurrence, repeat_with_occurrence, is_all_day, is_named_utc, turned_start, start_moment}
 use Rattle.rr_model.specs.Graph.Reading.{event_start}
-use Rattle.rr_model.specs.Graph.Reading.{is_text_or_missing, is_flag_or_missing, must, repeating_from, repeat_of, event_of, bare_of, by_pattern}
+use Rattle.rr_model.specs.Graph.Reading.{is_text_or_missing, is_flag_or_missing, holds_or, repeat_from, repeat_of, event_of, bare_of, by_pattern}
 use Rattle.rr_model.specs.Graph.Reading.{graph_text, reads_graph}
 use Rattle.rr_model.specs.Graph.Text.{pattern_data, range_data, recurrence_data, graph_written}
 use Rattle.rr_model.specs.Graph.Validity.{IsValidPattern, IsRangeEnd, IsValidGraphEvent}
@@ -81,13 +81,13 @@ abbrev repeated : Pattern → Range → Repeat
 repeated pattern range = repeat.Pattern pattern range
 
 repeating-written : (pattern : Pattern) (range : Range) (day : ℤ) → IsWritten pattern range day
-    → repeating (whole pattern range) ≡ Ok (repeated pattern range)
+    → repeat_with_occurrence (whole pattern range) ≡ Ok (repeated pattern range)
 repeating-written pattern range day w = ap (with_occurrence (whole pattern range)) w.is_first
 
 repeating_from-written : (pattern : Pattern) (range : Range) (day : ℤ) → IsWritten pattern range day
-    → repeating_from day (whole pattern range) ≡ Ok (repeated pattern range)
+    → repeat_from day (whole pattern range) ≡ Ok (repeated pattern range)
 repeating_from-written pattern range day w =
-    ap (λ (b : Bool). if b then repeating (whole pattern range) else Err StartDiffers) ((Decides-int_eq range.start_day day).1 w.begins)
+    ap (λ (b : Bool). if b then repeat_with_occurrence (whole pattern range) else Err StartDiffers) ((Decides-int_eq range.start_day day).1 w.begins)
     ∙ repeating-written pattern range day w
 
 -- ---- a series of dates
@@ -97,12 +97,12 @@ recurrence_members pattern range =
     member (codes "pattern") (pattern_data pattern) (member (codes "range") (range_data range.end range.start_day) no_members)
 
 -- a bare recurrence is what its members are
-bare-members : (value : Data) (found : Recurrence) (rep : Repeat) → recurrence_of value ≡ Ok found → repeating found ≡ Ok rep
+bare-members : (value : Data) (found : Recurrence) (rep : Repeat) → recurrence_of value ≡ Ok found → repeat_with_occurrence found ≡ Ok rep
     → bare_of value ≡ Ok (record { kind = Days; start = found.range.start_day; repeat = rep })
 unfolding bare_of
 bare-members value found rep r h =
     let made : GraphEvent = record { kind = Days; start = found.range.start_day; repeat = rep } in
-    next (recurrence_of value) found _ (Ok made) r (next (repeating found) rep _ (Ok made) h refl)
+    next (recurrence_of value) found _ (Ok made) r (next (repeat_with_occurrence found) rep _ (Ok made) h refl)
 
 bare-written : (start : ℤ) (pattern : Pattern) (range : Range) → IsWritten pattern range start
     → bare_of (recurrence_data pattern range) ≡ Ok (record { kind = Days; start = start; repeat = repeat.Pattern pattern range })
@@ -133,15 +133,15 @@ start-written all_day start h =
 repeat-written : (day : ℤ) (pattern : Pattern) (range : Range) → IsWritten pattern range day
     → repeat_of day (Some (recurrence_data pattern range)) ≡ Ok (repeated pattern range)
 repeat-written day pattern range w =
-    next (recurrence_of (recurrence_data pattern range)) (whole pattern range) (repeating_from day) (Ok (repeated pattern range))
+    next (recurrence_of (recurrence_data pattern range)) (whole pattern range) (repeat_from day) (Ok (repeated pattern range))
     (recurrence-written pattern range w.is_pattern w.years w.is_end) (repeating_from-written pattern range day w)
 
 -- an event is what its members are
 event-members : (offset : Option ℤ) (event begun start : Data) (at : ℤ) (rep : Repeat) → ok_or (member_of (codes "start") event) NoStart ≡ Ok begun
     → object_or (BadMember of.Start) begun ≡ Ok start
     → start_moment offset (is_all_day event) start ≡ Ok at
-    → must (is_text_or_missing (member_of (codes "timeZone") start)) (BadMember of.TimeZone) ≡ Ok tt
-    → must (is_flag_or_missing (member_of (codes "isAllDay") event)) (BadMember of.IsAllDay) ≡ Ok tt
+    → holds_or (is_text_or_missing (member_of (codes "timeZone") start)) (BadMember of.TimeZone) ≡ Ok tt
+    → holds_or (is_flag_or_missing (member_of (codes "isAllDay") event)) (BadMember of.IsAllDay) ≡ Ok tt
     → repeat_of (day_part Moments at) (member_of (codes "recurrence") event) ≡ Ok rep
     → event_of offset event
     ≡ Ok (record { kind = (event_start (is_all_day event) at).0; start = (event_start (is_all_day event) at).1; repeat = rep })
@@ -152,8 +152,8 @@ event-members offset event begun start at rep found begins moment zone flag recu
     next (ok_or (member_of (codes "start") event) NoStart) begun _ (Ok made) found
     (next (object_or (BadMember of.Start) begun) start _ (Ok made) begins
     (next (start_moment offset (is_all_day event) start) at _ (Ok made) moment
-    (next (must (is_text_or_missing (member_of (codes "timeZone") start)) (BadMember of.TimeZone)) tt _ (Ok made) zone
-    (next (must (is_flag_or_missing (member_of (codes "isAllDay") event)) (BadMember of.IsAllDay)) tt _ (Ok made) flag
+    (next (holds_or (is_text_or_missing (member_of (codes "timeZone") start)) (BadMember of.TimeZone)) tt _ (Ok made) zone
+    (next (holds_or (is_flag_or_missing (member_of (codes "isAllDay") event)) (BadMember of.IsAllDay)) tt _ (Ok made) flag
     (next (repeat_of (day_part Moments at) (member_of (codes "recurrence") event)) rep _ (Ok made) recurs refl)))))
 
 event-written : (start : ℤ) (pattern : Pattern) (range : Range) → IsInYears Moments start → IsWritten pattern range (day_part Moments start)

@@ -11,7 +11,7 @@ use Rattle.serde_json.specs.View.{items_of}
 use Rattle.rr_model.specs.Moment.Years.{HasFourDigitYear}
 use Rattle.rr_model.specs.Text.RuleValues.{◌>>=◌}
 use Rattle.rr_model.specs.Graph.Counterpart.{has_weekday}
-use Rattle.rr_model.specs.Graph.Members.{object_in, text_in, number_in, within, form_named, day_named, index_named}
+use Rattle.rr_model.specs.Graph.Members.{object_in, text_in, number_in, number_in_bounds, form_named, day_named, index_named}
 use Rattle.rr_model.specs.Graph.Reading.{if_used, form_in, interval_within, interval_in, days_after, days_of_names, days_in, first_day_in, index_in, pattern_of}
 use Rattle.rr_model.specs.Graph.Reading.{EndType, no_end, end_date, numbered, end_type_named, date_in, end_in, range_of, Recurrence, recurrence_of}
 use Rattle.rr_model.specs.Graph.Text.{form_text, day_text, index_text, day_names, pattern_data, range_data, recurrence_data}
@@ -40,7 +40,7 @@ some_or member o = ok_or o (BadMember member)
 
 -- ---- numbers
 
-within-ok : (member : Member) (least most n : ℕ) → least ≤ n → n ≤ most → within member least most (Some n) ≡ Ok n
+within-ok : (member : Member) (least most n : ℕ) → least ≤ n → n ≤ most → number_in_bounds member least most (Some n) ≡ Ok n
 within-ok member least most n l h = rw (le-leb least n l, le-leb n most h) refl
 
 interval-ok : (form : Form) (n : ℕ) → 1 ≤ n → n ≤ most_interval form → interval_within form (Some n) ≡ Ok n
@@ -201,7 +201,7 @@ module _ (n day month days first : ℕ) (index : ℤ) where
 
   day-read : (form : Form) → LiesIfUsed (uses_day_of_month form) 1 31 0 day
       → if_used (uses_day_of_month form) 0
-      (within of.DayOfMonth 1 31 (number_in (codes "dayOfMonth") (pattern_data (made form n day month days first index)))) ≡ Ok day
+      (number_in_bounds of.DayOfMonth 1 31 (number_in (codes "dayOfMonth") (pattern_data (made form n day month days first index)))) ≡ Ok day
   day-read Daily h = ap result_ok (sym h)
   day-read Weekly h = ap result_ok (sym h)
   day-read AbsoluteMonthly h = within-ok of.DayOfMonth 1 31 day h.0 h.1
@@ -210,7 +210,7 @@ module _ (n day month days first : ℕ) (index : ℤ) where
   day-read RelativeYearly h = ap result_ok (sym h)
 
   month-read : (form : Form) → LiesIfUsed (uses_month form) 1 12 0 month
-      → if_used (uses_month form) 0 (within of.Month 1 12 (number_in (codes "month") (pattern_data (made form n day month days first index)))) ≡ Ok month
+      → if_used (uses_month form) 0 (number_in_bounds of.Month 1 12 (number_in (codes "month") (pattern_data (made form n day month days first index)))) ≡ Ok month
   month-read Daily h = ap result_ok (sym h)
   month-read Weekly h = ap result_ok (sym h)
   month-read AbsoluteMonthly h = ap result_ok (sym h)
@@ -223,8 +223,8 @@ pattern-members : (value : Data) (p : Pattern) → form_in value ≡ Ok p.form �
     → if_used (uses_days p.form) 0 (days_in value) ≡ Ok p.days
     → if_used (uses_first_day p.form) 6 (first_day_in value) ≡ Ok p.first_day
     → if_used (uses_index p.form) (pos 1) (index_in value) ≡ Ok p.index
-    → if_used (uses_day_of_month p.form) 0 (within of.DayOfMonth 1 31 (number_in (codes "dayOfMonth") value)) ≡ Ok p.day_of_month
-    → if_used (uses_month p.form) 0 (within of.Month 1 12 (number_in (codes "month") value)) ≡ Ok p.month
+    → if_used (uses_day_of_month p.form) 0 (number_in_bounds of.DayOfMonth 1 31 (number_in (codes "dayOfMonth") value)) ≡ Ok p.day_of_month
+    → if_used (uses_month p.form) 0 (number_in_bounds of.Month 1 12 (number_in (codes "month") value)) ≡ Ok p.month
     → pattern_of value ≡ Ok p
 unfolding pattern_of
 pattern-members value p form interval days first index day month =
@@ -232,8 +232,8 @@ pattern-members value p form interval days first index day month =
     (next (if_used (uses_days p.form) 0 (days_in value)) p.days _ (Ok p) days
     (next (if_used (uses_first_day p.form) 6 (first_day_in value)) p.first_day _ (Ok p) first
     (next (if_used (uses_index p.form) (pos 1) (index_in value)) p.index _ (Ok p) index
-    (next (if_used (uses_day_of_month p.form) 0 (within of.DayOfMonth 1 31 (number_in (codes "dayOfMonth") value))) p.day_of_month _ (Ok p) day
-    (next (if_used (uses_month p.form) 0 (within of.Month 1 12 (number_in (codes "month") value))) p.month _ (Ok p) month refl))))))
+    (next (if_used (uses_day_of_month p.form) 0 (number_in_bounds of.DayOfMonth 1 31 (number_in (codes "dayOfMonth") value))) p.day_of_month _ (Ok p) day
+    (next (if_used (uses_month p.form) 0 (number_in_bounds of.Month 1 12 (number_in (codes "month") value))) p.month _ (Ok p) month refl))))))
 
 -- A valid pattern is read back.
 pub pattern-written : (p : Pattern) → IsValidPattern p → pattern_of (pattern_data p) ≡ Ok p
@@ -277,7 +277,7 @@ range-written (EndDate last) day h e =
 range-written (Numbered n) day h e =
     let value = range_data (Numbered n) day in
     let found : end_in numbered value ≡ Ok (Numbered n) =
-    next (within of.NumberOfOccurrences 1 18_446_744_073_709_551_615 (number_in (codes "numberOfOccurrences") value)) n (λ (m : ℕ). Ok (Numbered m))
+    next (number_in_bounds of.NumberOfOccurrences 1 18_446_744_073_709_551_615 (number_in (codes "numberOfOccurrences") value)) n (λ (m : ℕ). Ok (Numbered m))
     (Ok (Numbered n)) (within-ok of.NumberOfOccurrences 1 18_446_744_073_709_551_615 n e.0 e.1) refl in
     range-members value numbered (ending (Numbered n) day) refl (ap (some_or of.StartDate) (extended_date-written day h)) found
 

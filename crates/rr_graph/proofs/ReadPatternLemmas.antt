@@ -9,7 +9,7 @@ use Rattle.std.proofs.lemmas.Int.{ints}
 use Rattle.std.proofs.lemmas.Nat.{or_lt, le_or_r}
 use Rattle.serde_json.specs.Data.{Data, Items, no_items, item}
 use Rattle.serde_json.specs.Find.{as_str, as_array}
-use Rattle.rr_model.specs.Graph.Members.{member_of, number_in, within, named, day_named, index_named}
+use Rattle.rr_model.specs.Graph.Members.{member_of, number_in, number_in_bounds, value_named, day_named, index_named}
 use Rattle.rr_model.specs.Graph.Reading.{if_used, form_in, interval_within, interval_in, days_after, days_of_names, days_in, named_or, first_day_in}
 use Rattle.rr_model.specs.Graph.Reading.{index_in, pattern_of}
 use Rattle.rr_model.specs.Graph.Uses.{bit_of, uses_days, uses_first_day, uses_index, uses_day_of_month, uses_month, most_interval}
@@ -26,10 +26,10 @@ use Rattle.rr_text.proofs.StepLemmas.{and_then_ok, ok_or_ok, ok_same, and_then_s
 
 -- what holds of each value of a table holds of the one that a name means
 named-all : {X : Type 0} (P : X → Type 0) (rows : List (List ℕ × X)) (text : List ℕ) (x : X) → AllByRecursion (λ row. P row.1) rows
-    → named rows text ≡ Some x → P x
+    → value_named rows text ≡ Some x → P x
 named-all P [] text x all h = absurd (cc)
 named-all P (row ∷ rows) text x all h =
-    elim (str_eq_ignore_ascii_case text row.0) as (λ b. (if b then Some row.1 else named rows text) ≡ Some x → P x) [
+    elim (str_eq_ignore_ascii_case text row.0) as (λ b. (if b then Some row.1 else value_named rows text) ≡ Some x → P x) [
       | true ↦ λ e. (let same : row.1 ≡ x = cc in subst P same all.0)
       | false ↦ λ e. named-all P rows text x all.1 e
     ] h
@@ -64,7 +64,7 @@ index-is text index h =
 
 -- ---- numbers
 
-pub within-lies : (member : Member) (least most : ℕ) (o : Option ℕ) (n : ℕ) → within member least most o ≡ Ok n → (least ≤ n) × (n ≤ most)
+pub within-lies : (member : Member) (least most : ℕ) (o : Option ℕ) (n : ℕ) → number_in_bounds member least most o ≡ Ok n → (least ≤ n) × (n ≤ most)
 within-lies member least most None n h = absurd (cc)
 within-lies member least most (Some m) n h = by (nat_le least m) (nat_le m most) refl refl h
   where
@@ -172,8 +172,8 @@ pattern_of-valid value pattern h =
     let days = and_then_ok (if_used (uses_days form.0) 0 (days_in value)) _ pattern interval.2 in
     let first_day = and_then_ok (if_used (uses_first_day form.0) 6 (first_day_in value)) _ pattern days.2 in
     let index = and_then_ok (if_used (uses_index form.0) (pos 1) (index_in value)) _ pattern first_day.2 in
-    let day = and_then_ok (if_used (uses_day_of_month form.0) 0 (within of.DayOfMonth 1 31 (number_in (codes "dayOfMonth") value))) _ pattern index.2 in
-    let month = and_then_ok (if_used (uses_month form.0) 0 (within of.Month 1 12 (number_in (codes "month") value))) _ pattern day.2 in
+    let day = and_then_ok (if_used (uses_day_of_month form.0) 0 (number_in_bounds of.DayOfMonth 1 31 (number_in (codes "dayOfMonth") value))) _ pattern index.2 in
+    let month = and_then_ok (if_used (uses_month form.0) 0 (number_in_bounds of.Month 1 12 (number_in (codes "month") value))) _ pattern day.2 in
     let made : Pattern = record {
       form = form.0;
       interval = interval.0;

@@ -5,7 +5,7 @@ use Rattle.rr_model.specs.declared.kind.Kind.TheVariants.{Days}
 use Rattle.rr_model.specs.declared.refusal.Refusal.TheVariants.{NoOccurrence}
 use Rattle.rr_model.specs.Graph.Counterpart.{series_of_graph}
 use Rattle.rr_model.specs.Graph.Occurrences.{IsGraphOccurrence, IsRepeatDay}
-use Rattle.rr_model.specs.Graph.Reading.{Recurrence, repeating}
+use Rattle.rr_model.specs.Graph.Reading.{Recurrence, repeat_with_occurrence}
 use Rattle.rr_model.specs.Graph.Validity.{IsValidGraphEvent}
 use Rattle.rr_model.specs.declared.graph.GraphEvent.{GraphEvent}
 use Rattle.rr_graph.specs.Ranges.{IsValidRange}
@@ -23,4 +23,4 @@ GraphCounterpartStartsFirst = (event : GraphEvent) → IsValidGraphEvent event �
 abbrev pub RefusedWhereNoneOccurs : Type 0
 RefusedWhereNoneOccurs =
     (recurrence : Recurrence) → IsValidRange recurrence.range
-    → (repeating recurrence ≡ Err NoOccurrence) ↔ ((d : ℤ) → IsInYears Days d → IsRepeatDay recurrence.pattern recurrence.range d → ⊥)
+    → (repeat_with_occurrence recurrence ≡ Err NoOccurrence) ↔ ((d : ℤ) → IsInYears Days d → IsRepeatDay recurrence.pattern recurrence.range d → ⊥)

@@ -2,7 +2,7 @@
 ghost use Rattle.std.specs.Prelude.{◌≡◌, ◌≤◌, option_map, IfOk};
 ghost use Rattle.std.specs.Str.{IsUtf8, str_eq_ignore_ascii_case};
 ghost use Rattle.serde_json.specs.View.{view};
-ghost use Rattle.rr_model.specs.Graph.Members.{json_object, member_of, number_in, object_in, object_or, text_in, within};
+ghost use Rattle.rr_model.specs.Graph.Members.{json_object, member_of, number_in, object_in, object_or, text_in, number_in_bounds};
 ghost use Rattle.rr_text.specs.Answers.{AnswersAs};
 ghost use Rattle.rr_graph.specs.Answers.{AnswersValue};
 
@@ -78,7 +78,7 @@ pub(crate) fn number_within(
     name: &str,
     most: u64,
 ) -> Result<u64, Refusal>
-    ensures value { result ≡ within member 1 most (number_in name.now (view value.now)) }
+    ensures value { result ≡ number_in_bounds member 1 most (number_in name.now (view value.now)) }
     ensures high { IfOk result (λ number. number ≤ most) }
 {
     match number_in(value, name) {

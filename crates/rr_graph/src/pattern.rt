@@ -2,7 +2,7 @@
 ghost use Rattle.std.specs.Prelude.{◌≡◌, ◌≤◌, ◌<◌, codes, pos, option_and_then, IfOk, IfSome};
 ghost use Rattle.serde_json.specs.Find.{as_array, as_str};
 ghost use Rattle.serde_json.specs.View.{items_view, view};
-ghost use Rattle.rr_model.specs.Graph.Members.{day_named, form_named, index_named, number_in, within};
+ghost use Rattle.rr_model.specs.Graph.Members.{day_named, form_named, index_named, number_in, number_in_bounds};
 ghost use Rattle.rr_model.specs.Graph.Reading.{days_in, days_of_names, first_day_in, form_in, if_used, index_in, interval_in, pattern_of};
 ghost use Rattle.rr_model.specs.Graph.Uses.{bit_of, most_interval, uses_day_of_month, uses_days, uses_first_day, uses_index, uses_month};
 ghost use Rattle.rr_model.specs.Graph.Validity.{IsValidPattern};
@@ -198,7 +198,7 @@ fn index_in(form: Form, pattern: &Value) -> Result<i8, Refusal>
 
 // A number from 1 up to the most that the member of that name is.
 fn small_number(pattern: &Value, member: Member, name: &str, most: u8) -> Result<u8, Refusal>
-    ensures { result ≡ within member 1 most (number_in name.now (view pattern.now)) }
+    ensures { result ≡ number_in_bounds member 1 most (number_in name.now (view pattern.now)) }
 {
     let number = number_within(pattern, member, name, u64::from(most))?;
     Ok(number as u8)
@@ -206,7 +206,7 @@ fn small_number(pattern: &Value, member: Member, name: &str, most: u8) -> Result
 
 fn day_of_month_in(form: Form, pattern: &Value) -> Result<u8, Refusal>
     ensures { result ≡ if_used (uses_day_of_month form) 0
-        (within DayOfMonth 1 31 (number_in (codes "dayOfMonth") (view pattern.now))) }
+        (number_in_bounds DayOfMonth 1 31 (number_in (codes "dayOfMonth") (view pattern.now))) }
 {
     match form {
         Form::AbsoluteMonthly | Form::AbsoluteYearly => {
@@ -218,7 +218,7 @@ fn day_of_month_in(form: Form, pattern: &Value) -> Result<u8, Refusal>
 
 fn month_in(form: Form, pattern: &Value) -> Result<u8, Refusal>
     ensures { result ≡ if_used (uses_month form) 0
-        (within Month 1 12 (number_in (codes "month") (view pattern.now))) }
+        (number_in_bounds Month 1 12 (number_in (codes "month") (view pattern.now))) }
 {
     match form {
         Form::AbsoluteYearly | Form::RelativeYearly => {

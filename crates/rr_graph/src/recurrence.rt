@@ -1,7 +1,7 @@
 // The members of a recurrence (Microsoft Graph, patternedRecurrence).
 ghost use Rattle.std.specs.Prelude.{◌≡◌, IfOk};
 ghost use Rattle.serde_json.specs.View.{view};
-ghost use Rattle.rr_model.specs.Graph.Reading.{recurrence_of, repeating, repeating_from};
+ghost use Rattle.rr_model.specs.Graph.Reading.{recurrence_of, repeat_with_occurrence, repeat_from};
 ghost use Rattle.rr_model.specs.Graph.Validity.{IsRepeatFrom, IsValidPattern};
 ghost use Rattle.rr_graph.specs.Ranges.{IsValidRange};
 
@@ -48,7 +48,7 @@ pub(crate) fn recurrence_in(value: &Value) -> Result<Recurrence, Refusal>
 pub(crate) fn to_repeat(recurrence: &Recurrence) -> Result<Repeat, Refusal>
     requires pattern { IsValidPattern recurrence.now.pattern }
     requires range { IsValidRange recurrence.now.range }
-    ensures value { result ≡ repeating recurrence.now }
+    ensures value { result ≡ repeat_with_occurrence recurrence.now }
     ensures valid { IfOk result (IsRepeatFrom recurrence.now.range.start_day) }
 {
     let pattern = recurrence.pattern;
@@ -63,7 +63,7 @@ pub(crate) fn to_repeat(recurrence: &Recurrence) -> Result<Repeat, Refusal>
 pub(crate) fn to_repeat_from(day: i64, recurrence: &Recurrence) -> Result<Repeat, Refusal>
     requires pattern { IsValidPattern recurrence.now.pattern }
     requires range { IsValidRange recurrence.now.range }
-    ensures value { result ≡ repeating_from day recurrence.now }
+    ensures value { result ≡ repeat_from day recurrence.now }
     ensures valid { IfOk result (IsRepeatFrom day) }
 {
     if recurrence.range.start_day != day {

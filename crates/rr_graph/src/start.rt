@@ -2,7 +2,7 @@
 ghost use Rattle.std.specs.Prelude.{◌≡◌, codes, option_and_then, IfOk, IfSome};
 ghost use Rattle.serde_json.specs.View.{view};
 ghost use Rattle.rr_model.specs.Graph.Members.{member_of, text_in};
-ghost use Rattle.rr_model.specs.Graph.Reading.{graph_moment, is_all_day, is_flag_or_missing, is_named_utc, is_text_or_missing, must, start_moment, turned_start};
+ghost use Rattle.rr_model.specs.Graph.Reading.{graph_moment, is_all_day, is_flag_or_missing, is_named_utc, is_text_or_missing, holds_or, start_moment, turned_start};
 ghost use Rattle.rr_model.specs.Moment.Years.{IsInYears};
 ghost use Rattle.rr_model.specs.declared.kind.Kind.TheVariants.{Moments};
 ghost use Rattle.rr_model.specs.declared.refusal.Member.TheVariants.{IsAllDay, TimeZone};
@@ -88,7 +88,7 @@ pub(crate) fn start_moment(
 /// The zone's name is a text, where it stands.
 #[tactic(auto, using(crate::proofs::JsonLemmas::is_text_some))]
 pub(crate) fn judge_zone(start: &Value) -> Result<(), Refusal>
-    ensures { result ≡ must (is_text_or_missing (member_of (codes "timeZone") (view start.now)))
+    ensures { result ≡ holds_or (is_text_or_missing (member_of (codes "timeZone") (view start.now)))
         (BadMember TimeZone) }
 {
     match find_member(start, "timeZone") {
@@ -100,7 +100,7 @@ pub(crate) fn judge_zone(start: &Value) -> Result<(), Refusal>
 /// `isAllDay` is true or false, where it stands.
 #[tactic(auto, using(crate::proofs::JsonLemmas::is_flag_some))]
 pub(crate) fn judge_flag(event: &Value) -> Result<(), Refusal>
-    ensures { result ≡ must (is_flag_or_missing (member_of (codes "isAllDay") (view event.now)))
+    ensures { result ≡ holds_or (is_flag_or_missing (member_of (codes "isAllDay") (view event.now)))
         (BadMember IsAllDay) }
 {
     match find_member(event, "isAllDay") {

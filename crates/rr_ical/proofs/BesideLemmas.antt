@@ -12,7 +12,7 @@ use Rattle.rr_model.specs.Rising.{Rises}
 use Rattle.rr_model.specs.Rule.Validity.{HasCountInRange, EndsInYears}
 use Rattle.rr_model.specs.Text.Calendars.{end_at, end_beside}
 use Rattle.rr_model.specs.Text.Moments.{basic}
-use Rattle.rr_model.specs.Text.Passes.{Stated, Beside, Event, Language, nothing_read, nothing_beside, turned, moment_beside, date_value, date_beside, put_date}
+use Rattle.rr_model.specs.Text.Passes.{Stated, Beside, Event, Language, nothing_read, nothing_beside, local_moment_of, moment_beside, date_value, date_beside, put_date}
 use Rattle.rr_model.specs.Text.Passes.{put_rule, with_date, with_line, with_rule, first_pass, second_pass, unless_stopped, passes}
 use Rattle.rr_model.specs.Text.RuleValues.{◌>>=◌}
 use Rattle.rr_model.specs.Text.Rules.{has_time}
@@ -39,7 +39,7 @@ use Rattle.rr_ical.proofs.PassLemmas.{in_turn-keeps, first_pass-sound, first_pas
 
 -- ---- moments
 
-turned-in_years : (line : ℕ) (offset : Option ℤ) (at local : ℤ) → turned line offset at ≡ Ok local → IsInYears Moments local
+turned-in_years : (line : ℕ) (offset : Option ℤ) (at local : ℤ) → local_moment_of line offset at ≡ Ok local → IsInYears Moments local
 turned-in_years line None at local h = absurd (cc)
 turned-in_years line (Some offset) at local h =
     let tested = passed (is_in_years Moments (at +ℤ offset)) (Ok (at +ℤ offset)) (BadMoment line) local h in
@@ -54,7 +54,7 @@ module _ (offset : Option ℤ) (start : Stamp) where
   moment_beside-in_years line stamp at s h = by (stamp.utc && not start.utc && has_time start.kind)
       (λ e. (and_parts stamp.utc (not start.utc) (and_parts (stamp.utc && not start.utc) (has_time start.kind) e).0).0) h
     where
-      by : (b : Bool) → (b ≡ true → stamp.utc ≡ true) → (if b then turned line offset stamp.at else Ok stamp.at) ≡ Ok at → IsInYears stamp.kind at
+      by : (b : Bool) → (b ≡ true → stamp.utc ≡ true) → (if b then local_moment_of line offset stamp.at else Ok stamp.at) ≡ Ok at → IsInYears stamp.kind at
       by true utc h = subst (λ (k : Kind). IsInYears k at) (sym (s.1 (utc refl))) (turned-in_years line offset stamp.at at h)
       by false utc h =
           let same : stamp.at ≡ at = cc in

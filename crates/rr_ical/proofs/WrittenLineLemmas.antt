@@ -3,7 +3,7 @@ use Rattle.std.proofs.Common.{◌≡◌, ℕ, Bool, true, false, List, [], ◌�
 use Rattle.std.specs.Prelude.{not, codes}
 use Rattle.std.specs.List.{list_all, list_any, AllByRecursion}
 use Rattle.std.specs.Str.{is_utf8}
-use Rattle.rr_model.specs.Text.Event.{Left, left, left_by, no_components, used_line, after_used, scan_from, scanned, is_bare_text, event_scan}
+use Rattle.rr_model.specs.Text.Event.{Left, left_with, left_by, no_components, used_line, after_used, scan_from, scan_of, is_bare_text, event_scan}
 use Rattle.rr_model.specs.Text.Lines.{physical_lines, begins_blank, unfolded_lines}
 use Rattle.rr_model.specs.Text.UsedLines.{is_named, value_of_line, line_kind, trim}
 use Rattle.rr_model.specs.Text.Written.{folded_line, lines_of, value_type}
@@ -43,7 +43,7 @@ texts_of lines = map (λ (l : WrittenLine). l.text) lines
 -- ---- the scan
 
 left_by-property : (k : ℕ) (l : WrittenLine) → StatesProperty l
-    → left_by true no_components (record { number = k; text = l.text }) ≡ Ok (left no_components (Some (used_line k l.name l.value)))
+    → left_by true no_components (record { number = k; text = l.text }) ≡ Ok (left_with no_components (Some (used_line k l.name l.value)))
 unfolding left_by
 left_by-property k l h = rw (h.kind, h.stated) refl
 
@@ -61,10 +61,10 @@ module _ {X : Type 0} (line_of : X → WrittenLine) (after : ℕ → List ℕ �
 
   module _ (P : X → Type 0) (states : (x : X) → P x → StatesProperty (line_of x)) where
     scanned-written : (k last : ℕ) (xs : List X) → AllByRecursion P xs
-        → scanned true last no_components (lines_from k xs) ≡ record { used = used_lines_from k xs; stop = None }
+        → scan_of true last no_components (lines_from k xs) ≡ record { used = used_lines_from k xs; stop = None }
     scanned-written k last [] h = refl
     scanned-written k last (x ∷ xs) h =
-        ap (λ (m : Result Left Refusal). scan_from m (λ next. scanned true last next (lines_from (after k (line_of x).text) xs)))
+        ap (λ (m : Result Left Refusal). scan_from m (λ next. scan_of true last next (lines_from (after k (line_of x).text) xs)))
         (left_by-property k (line_of x) (states x h.0))
         ∙ ap (after_used (Some (used_line k (line_of x).name (line_of x).value))) (scanned-written (after k (line_of x).text) last xs h.1)
 
@@ -80,8 +80,8 @@ module _ {X : Type 0} (line_of : X → WrittenLine) (after : ℕ → List ℕ �
         → event_scan keeps_blank bytes ≡ record { used = used_lines_from 1 xs; stop = None }
     unfolding event_scan
     event_scan-written keeps_blank bytes xs e h =
-        ap (λ (ls : List Line). scanned (is_bare_text ls) (length (physical_lines bytes)) no_components ls) e
-        ∙ ap (λ b. scanned (not b) (length (physical_lines bytes)) no_components (lines_from 1 xs)) (no_begins 1 xs h)
+        ap (λ (ls : List Line). scan_of (is_bare_text ls) (length (physical_lines bytes)) no_components ls) e
+        ∙ ap (λ b. scan_of (not b) (length (physical_lines bytes)) no_components (lines_from 1 xs)) (no_begins 1 xs h)
         ∙ scanned-written 1 (length (physical_lines bytes)) xs h
 
 -- ---- folded lines

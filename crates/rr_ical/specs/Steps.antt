@@ -1,6 +1,6 @@
 -- What a step leaves that changes the open components (RFC 5545, section 3.6).
 use Rattle.std.specs.Prelude.{◌≡◌, ℕ, Bool, ◌||◌, List, ◌∷◌, ⊤, Result, Ok, Err, Option}
-use Rattle.rr_model.specs.Text.Event.{Components, Left, left, used_line, value_on}
+use Rattle.rr_model.specs.Text.Event.{Components, Left, left_with, used_line, value_on}
 use Rattle.rr_model.specs.Text.RuleValues.{◌>>=◌}
 use Rattle.rr_model.specs.declared.refusal.Fault.{Fault}
 use Rattle.rr_model.specs.declared.refusal.Fault.TheVariants.{Refused, NoMemory}
@@ -24,6 +24,6 @@ Becomes wanted new (Err NoMemory) = ⊤
 
 -- The components become, and the used line is, what the line leaves.
 abbrev pub AreLeftByLine : Result Left Refusal → Components → Result (Option UsedLine) Fault → Type 0
-AreLeftByLine wanted new (Ok used) = wanted ≡ Ok (left new used)
+AreLeftByLine wanted new (Ok used) = wanted ≡ Ok (left_with new used)
 AreLeftByLine wanted new (Err (Refused refusal)) = wanted ≡ Err refusal
 AreLeftByLine wanted new (Err NoMemory) = ⊤

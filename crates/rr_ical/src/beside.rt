@@ -1,6 +1,6 @@
 // Moments and ends beside the start of an event (RFC 5545, sections 3.3.5 and 3.3.10).
 ghost use Rattle.std.specs.Prelude.{◌≡◌};
-ghost use Rattle.rr_model.specs.Text.Passes.{turned, moment_beside};
+ghost use Rattle.rr_model.specs.Text.Passes.{local_moment_of, moment_beside};
 ghost use Rattle.rr_model.specs.Text.Calendars.{end_at, end_beside};
 ghost use Rattle.rr_model.specs.Text.Rules.{has_time};
 
@@ -9,7 +9,7 @@ use rr_text::later_in_years;
 
 // A moment of UTC as local time.
 fn local_moment(line: u64, offset: Option<i32>, at: i64) -> Result<i64, Refusal>
-    ensures { result ≡ turned line offset at }
+    ensures { result ≡ local_moment_of line offset at }
 {
     let Some(offset) = offset else {
         return Err(Refusal::UtcMoment);

@@ -1,6 +1,6 @@
 // The components that are open (RFC 5545, section 3.6).
 ghost use Rattle.std.specs.Prelude.{◌≡◌, Result, OnOk};
-ghost use Rattle.rr_model.specs.Text.Event.{Components, no_components, is_event, is_in_event, begun, ended, stop_at_end};
+ghost use Rattle.rr_model.specs.Text.Event.{Components, no_components, is_event, is_in_event, after_begin, after_end, stop_at_end};
 ghost use Rattle.rr_ical.specs.Steps.{Becomes, with_component};
 
 use crate::names::{is_event, is_same_name};
@@ -47,7 +47,7 @@ impl Nesting {
 
     /// Opens a component; a second event is refused.
     pub(crate) fn begin(&mut self, name: Bytes) -> Result<(), Fault>
-        ensures { Becomes (begun self.old name) self.new result }
+        ensures { Becomes (after_begin self.old name) self.new result }
     {
         let event = is_event(name.as_slice());
         if event && self.had_event {
@@ -67,7 +67,7 @@ impl Nesting {
 
     /// Closes the innermost component, where it has this name.
     pub(crate) fn end(&mut self, number: u64, name: &[u8]) -> Result<(), Fault>
-        ensures { Becomes (ended number self.old self.old.open_names name.now) self.new result }
+        ensures { Becomes (after_end number self.old self.old.open_names name.now) self.new result }
     {
         match self.names.last() {
             Some(innermost) if is_same_name(name, innermost.as_slice()) => {

@@ -2,7 +2,7 @@
 ghost use Rattle.std.specs.Prelude.{◌≡◌, ◌++◌, ◌+◌, [], length, IfOk, OnOk, Ok, Err, codes};
 ghost use Rattle.std.specs.List.{cons_option, list_any};
 ghost use Rattle.rr_model.specs.Text.Lines.{physical_lines};
-ghost use Rattle.rr_model.specs.Text.Event.{no_components, value_on, left_by, left_at, scanned, event_scan};
+ghost use Rattle.rr_model.specs.Text.Event.{no_components, value_on, left_by, left_at, scan_of, event_scan};
 ghost use Rattle.rr_model.specs.Text.UsedLines.{is_named};
 ghost use Rattle.rr_ical.specs.Steps.{AreLeftByLine, used_line_on};
 
@@ -99,7 +99,7 @@ pub fn scan_lines(
     last: u64,
     lines: LineList,
 ) -> Result<Scan, NoMemory>
-    ensures { IfOk result (λ scan. scan ≡ scanned is_bare last no_components lines) }
+    ensures { IfOk result (λ scan. scan ≡ scan_of is_bare last no_components lines) }
 {
     let mut used = Used::new(alloc);
     let mut nesting = Nesting::new(alloc);

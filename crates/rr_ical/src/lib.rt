@@ -20,7 +20,7 @@ pub use event::{event_lines, scan_lines};
 pub use language::{RuleLanguage, StatedRule};
 pub use laws::{folding_does_not_matter, line_ends_do_not_matter};
 pub use lines_alone::date_value;
-pub use lines_beside::{Nearby, Setting, date_beside};
+pub use lines_beside::{BesideStart, Setting, date_beside};
 pub use list::read_list;
 pub use names::{is_event, is_named, is_same_name, line_kind};
 pub use passes::{ReadEvent, event_of};

@@ -15,7 +15,7 @@ use std::marker::Model;
 
 /// Rules, excluded rules and dates beside a start.
 #[derive(Drop)]
-pub struct Nearby<R> {
+pub struct BesideStart<R> {
     /// The rules of RRULE.
     pub rules: Vec<R>,
     /// The rules of EXRULE.
@@ -26,7 +26,7 @@ pub struct Nearby<R> {
     pub minus: Dates,
 }
 
-impl<R> Model for Nearby<R> {
+impl<R> Model for BesideStart<R> {
     ghost use Rattle.rr_model.specs.Text.Passes.{Beside};
 
     ghost Value = { Beside R };
@@ -62,7 +62,7 @@ pub fn date_beside(setting: Setting, line: u64, stamp: Stamp) -> Result<i64, Ref
 }
 
 // With one date more.
-fn put_date<R: Drop>(is_plus: bool, beside: &mut Nearby<R>, at: i64) -> Result<(), NoMemory>
+fn put_date<R: Drop>(is_plus: bool, beside: &mut BesideStart<R>, at: i64) -> Result<(), NoMemory>
     ensures { OnOk result (beside.new ≡ put_date is_plus beside.old at) }
 {
     if is_plus {
@@ -74,7 +74,7 @@ fn put_date<R: Drop>(is_plus: bool, beside: &mut Nearby<R>, at: i64) -> Result<(
 }
 
 // With one rule more, of RRULE or EXRULE.
-fn put_rule<R: Drop>(is_given: bool, beside: &mut Nearby<R>, rule: R) -> Result<(), NoMemory>
+fn put_rule<R: Drop>(is_given: bool, beside: &mut BesideStart<R>, rule: R) -> Result<(), NoMemory>
     ensures { OnOk result (beside.new ≡ put_rule is_given beside.old rule) }
 {
     if is_given {
@@ -90,7 +90,7 @@ fn put_value<R: Drop, L: RuleLanguage<R>>(
     language: &L,
     alloc: Global,
     setting: Setting,
-    beside: &mut Nearby<R>,
+    beside: &mut BesideStart<R>,
     value: LineValue<R>,
 ) -> Result<(), Fault>
     requires { IsInYears setting.start.kind setting.start.at }
@@ -117,10 +117,10 @@ fn put_value<R: Drop, L: RuleLanguage<R>>(
     Ok(())
 }
 
-fn nothing_beside<R: Drop>(alloc: Global) -> Nearby<R>
+fn nothing_beside<R: Drop>(alloc: Global) -> BesideStart<R>
     ensures { result ≡ nothing_beside }
 {
-    Nearby {
+    BesideStart {
         rules: Vec::new(alloc),
         excluded: Vec::new(alloc),
         plus: Dates::new(alloc),
@@ -134,7 +134,7 @@ pub(crate) fn second_pass<R: Drop, L: RuleLanguage<R>>(
     alloc: Global,
     setting: Setting,
     values: LineValues<R>,
-) -> Result<Nearby<R>, Fault>
+) -> Result<BesideStart<R>, Fault>
     requires { IsInYears setting.start.kind setting.start.at }
     ensures { Answers (values_in L.beside setting values) result }
 {

@@ -5,7 +5,7 @@ ghost use Rattle.rr_ical.specs.Kept.{kept_event};
 
 use crate::language::RuleLanguage;
 use crate::lines_alone::first_pass;
-use crate::lines_beside::{Nearby, Setting, second_pass};
+use crate::lines_beside::{BesideStart, Setting, second_pass};
 use rr_model::{Fault, Refusal, Scan, Stamp};
 use std::alloc::Global;
 use std::marker::Model;
@@ -16,7 +16,7 @@ pub struct ReadEvent<R> {
     /// The start.
     pub start: Stamp,
     /// What stands beside it.
-    pub beside: Nearby<R>,
+    pub beside: BesideStart<R>,
 }
 
 impl<R> Model for ReadEvent<R> {

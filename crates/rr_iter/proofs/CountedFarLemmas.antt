@@ -9,7 +9,7 @@ use Rattle.rr_model.specs.Rule.Member.{IsMember}
 use Rattle.rr_model.specs.Rule.Member.{members_to}
 use Rattle.rr_model.specs.Series.Limits.{CountsMore, CountsTooFar, span_end}
 use Rattle.rr_model.specs.Series.Soundness.{EndsNotBefore}
-use Rattle.rr_model.specs.Series.Tree.{ended, members_of}
+use Rattle.rr_model.specs.Series.Tree.{up_to_end, members_of}
 use Rattle.rr_model.specs.Sets.Counting.{count_before, count_seconds, count_to}
 use Rattle.rr_model.specs.Sets.Tree.{Tree, chosen_of, first_n, stands_at}
 use Rattle.rr_model.specs.declared.kind.Kind.{Kind}
@@ -43,7 +43,7 @@ module _
   chosen = chosen_of rule kind start
 
   same : members_of kind start rule ≡ first_n chosen count
-  same = ap (λ z. ended kind z (chosen_of rule kind start)) counts
+  same = ap (λ z. up_to_end kind z (chosen_of rule kind start)) counts
 
   fits : EndsNotBefore kind start rule.end
   fits = subst (EndsNotBefore kind start) (sym counts) tt

@@ -11,7 +11,7 @@ use Rattle.rr_model.specs.Rule.Member.{IsMember}
 use Rattle.rr_model.specs.Rule.Repetition.{days_in}
 use Rattle.rr_model.specs.Rule.Validity.{IsValidRule}
 use Rattle.rr_model.specs.Series.Soundness.{EndsNotBefore}
-use Rattle.rr_model.specs.Series.Tree.{ended, members_of}
+use Rattle.rr_model.specs.Series.Tree.{up_to_end, members_of}
 use Rattle.rr_model.specs.Sets.Tree.{chosen_of, upto, has_second, stands_at, stands_in}
 use Rattle.rr_model.specs.declared.kind.Kind.{Kind}
 use Rattle.rr_model.specs.declared.kind.Kind.TheVariants.{Days, Moments}
@@ -50,7 +50,7 @@ module _ (rule : Rule) (kind : Kind) (start : ℤ) where
   -- ---- rules that end
 
   -- a second that stands is one of the kind
-  leaf_second : (end : End) (d : ℤ) (s : ℕ) → stands_at (ended kind end (chosen_of rule kind start)) d s ≡ true → has_second kind s ≡ true
+  leaf_second : (end : End) (d : ℤ) (s : ℕ) → stands_at (up_to_end kind end (chosen_of rule kind start)) d s ≡ true → has_second kind s ≡ true
   leaf_second Never d s h = (and_parts _ _ h).0
   leaf_second (Until other at) d s h = (and_parts _ _ (and_parts (stands_at (chosen_of rule kind start) d s) _ h).0).0
   leaf_second (Count count) d s h = (and_parts _ _ (and_parts (stands_at (chosen_of rule kind start) d s) _ h).0).0

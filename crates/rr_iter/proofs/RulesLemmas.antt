@@ -5,7 +5,7 @@ use Rattle.std.proofs.lemmas.List.{take_all, take_more}
 use Rattle.rr_model.specs.Moment.Years.{IsInYears}
 use Rattle.rr_model.specs.Rule.Validity.{EndsInYears}
 use Rattle.rr_model.specs.Series.Soundness.{EndsNotBefore, IsSound}
-use Rattle.rr_model.specs.Series.Tree.{dates_with_start, ended, members_of, members_of_all, tree_of_given}
+use Rattle.rr_model.specs.Series.Tree.{dates_with_start, up_to_end, members_of, members_of_all, tree_of_given}
 use Rattle.rr_model.specs.Sets.Tree.{Tree, chosen_of, dates_of, union, many, without, except, part, IsOfKind, AreOfKind, IsOfOneKind}
 use Rattle.rr_model.specs.declared.kind.Kind.{Kind}
 use Rattle.rr_model.specs.declared.rule.End.{End}
@@ -16,12 +16,12 @@ use Rattle.rr_model.specs.Rising.{with_value}
 use Rattle.rr_model.proofs.RisingLemmas.{All-with_value}
 use Rattle.rr_iter.specs.Ends.{IsSoundRule}
 use Rattle.rr_iter.proofs.SettledLemmas.{excluded_are_sound, rules_are_sound}
-use Rattle.rr_lazy.specs.Many.{with_part, joined}
+use Rattle.rr_lazy.specs.Many.{with_part, tree_with_part}
 use Rattle.rr_lazy.proofs.KindLemmas.{of_one_kind}
 
 -- a tree up to an end that is of its kind
 ended_of_kind : (kind : Kind) (start : ℤ) (tree : Tree) (end : End) → IsOfKind kind tree → EndsInYears end → EndsNotBefore kind start end
-    → IsOfKind kind (ended kind end tree)
+    → IsOfKind kind (up_to_end kind end tree)
 ended_of_kind kind start tree Never h y n = h
 ended_of_kind kind start tree (Until other at) h y n = ((λ i. kind), subst (λ k. IsInYears k at) n.0 y, h)
 ended_of_kind kind start tree (Count count) h y n = h
@@ -55,13 +55,13 @@ module _ (kind : Kind) (start : ℤ) where
   -- the members of the first rules, and those of one more
   module _ (rules : List Rule) (i : ℕ) (rule : Rule) (old t : Tree) (l : i < length rules) (e : rule ≡ get_or rules i rule)
       (f : old ≡ all_members (take i rules)) (g : t ≡ members_of kind start rule) where
-    pub joined_next : joined old t ≡ all_members (take (i + 1) rules)
+    pub joined_next : tree_with_part old t ≡ all_members (take (i + 1) rules)
     joined_next =
         let more = take_more rules i rule l ∙ ap (λ r. take i rules ++ r ∷ []) (sym e) in
         let parts = ap (members_of_all kind start) more ∙ last_part rule (take i rules) in
-        ap (λ x. joined x t) f ∙ ap (joined (all_members (take i rules))) g ∙ sym (ap many parts)
+        ap (λ x. tree_with_part x t) f ∙ ap (tree_with_part (all_members (take i rules))) g ∙ sym (ap many parts)
 
-    pub joined_kind : All (λ r. IsOfKind kind (members_of kind start r)) rules → IsOfOneKind (joined old t)
+    pub joined_kind : All (λ r. IsOfKind kind (members_of kind start r)) rules → IsOfOneKind (tree_with_part old t)
     joined_kind a = subst IsOfOneKind (sym joined_next) (of_one_kind kind (all_members (take (i + 1) rules)) (first_of_kind (i + 1) rules a))
 
 -- ---- the whole series

@@ -5,7 +5,7 @@ use Rattle.rr_model.specs.Calendar.Week.{week_index}
 use Rattle.rr_model.specs.Rule.Candidate.{is_candidate}
 use Rattle.rr_model.specs.Rule.Chosen.{is_chosen}
 use Rattle.rr_model.specs.Rule.Plain.{plain_rule}
-use Rattle.rr_model.specs.Series.Tree.{ended, members_of, members_of_all, dates_with_start, tree_of}
+use Rattle.rr_model.specs.Series.Tree.{up_to_end, members_of, members_of_all, dates_with_start, tree_of}
 use Rattle.rr_model.specs.Sets.Tree.{chosen_of, dates_of, union, many, upto, first_n, without, except, nothing, part, stands_in}
 use Rattle.rr_model.specs.declared.kind.Kind.TheVariants.{Days}
 use Rattle.rr_model.specs.declared.rule.End.TheVariants.{Never, Until, Count, Both}
@@ -26,8 +26,9 @@ with_rules rules plus minus = with_excluded rules [] plus minus
 
 -- an end goes round the tree of its rule, and a count counts what lies up to an UNTIL
 of_ends :
-    (ended Days Never (chosen_of weekly Days (pos 19_723)) ∷ ended Days (Until Days (pos 19_730)) (dates_of Days []) ∷ ended Days (Count 3) (dates_of Days [])
-    ∷ ended Days (Both Days (pos 19_730) 3) (dates_of Days []) ∷ [])
+    (up_to_end Days Never (chosen_of weekly Days (pos 19_723)) ∷ up_to_end Days (Until Days (pos 19_730)) (dates_of Days []) ∷ up_to_end Days
+    (Count 3) (dates_of Days [])
+    ∷ up_to_end Days (Both Days (pos 19_730) 3) (dates_of Days []) ∷ [])
     ≡ (chosen_of weekly Days (pos 19_723) ∷ upto (dates_of Days []) Days (pos 19_730) ∷ first_n (dates_of Days []) 3
     ∷ first_n (upto (dates_of Days []) Days (pos 19_730)) 3 ∷ [])
 of_ends = refl

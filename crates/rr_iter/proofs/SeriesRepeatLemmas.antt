@@ -17,7 +17,7 @@ use Rattle.rr_model.specs.Rule.Validity.{IsValidRule}
 use Rattle.rr_model.specs.Series.Cycle.{endless_cycle, rules_cycle, series_cycle}
 use Rattle.rr_model.specs.Series.Settled.{EndsBefore, LieBefore, IsPast, SeriesRepeats}
 use Rattle.rr_model.specs.Series.Soundness.{EndsNotBefore}
-use Rattle.rr_model.specs.Series.Tree.{ended, members_of, members_of_all, dates_with_start}
+use Rattle.rr_model.specs.Series.Tree.{up_to_end, members_of, members_of_all, dates_with_start}
 use Rattle.rr_model.specs.Sets.Tree.{chosen_of, has_second, is_among, stands_at, some_stands_at}
 use Rattle.rr_model.specs.declared.kind.Kind.{Kind}
 use Rattle.rr_model.specs.declared.rule.End.{End}
@@ -62,7 +62,7 @@ module _ (kind : Kind) (start settled : ℤ) where
         → EndsBefore kind start settled rule end → endless_cycle end rule ∣ n
         → stands_at (members_of kind start rule) (d +ℤ pos n) s ≡ stands_at (members_of kind start rule) d s
     rule_repeats rule Never e valid fits before div =
-        let same : members_of kind start rule ≡ chosen_of rule kind start = ap (λ z. ended kind z (chosen_of rule kind start)) e in
+        let same : members_of kind start rule ≡ chosen_of rule kind start = ap (λ z. up_to_end kind z (chosen_of rule kind start)) e in
         let later = chosen_later rule kind start valid n d s div (omega (arith, ints, past, from)) in
         subst (λ tree. stands_at tree (d +ℤ pos n) s ≡ stands_at tree d s) (sym same) later
     rule_repeats rule (Until other at) e valid fits before div = none_later rule fits (members_before rule (Until other at) e tt before)

@@ -14,7 +14,7 @@ use std::alloc::Global;
 
 /// The iterator over the days of a series, a tree of shells: each takes days from those inside it. A series that has nothing but
 /// one rule and its start has the rule alone. Any other has, from the outside in, `Without` for EXDATE, `KeptLazy` for the excluded
-/// rules, and in that `AllLazy`, which unites the start and RDATE with the rules.
+/// rules, and in that `DatesAndRules`, which unites the start and RDATE with the rules.
 #[derive(Drop)]
 pub enum AnyLazy {
     /// Of a series that has nothing but one rule, and its start.

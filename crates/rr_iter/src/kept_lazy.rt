@@ -4,7 +4,7 @@ ghost use Rattle.rr_model.specs.Series.Soundness.{IsSound};
 ghost use Rattle.rr_lazy.specs.Next.{IsUnasked};
 ghost use Rattle.rr_iter.specs.Left.{tree_of_left};
 
-use crate::{AllLazy, RulesLazy};
+use crate::{DatesAndRules, RulesOfSeries};
 use rr_lazy::{Except, Lazy, OccupiedDay};
 use rr_model::{NoMemory, Series};
 use rr_shapes::SetTable;
@@ -14,7 +14,7 @@ use std::alloc::Global;
 /// its excluded rules.
 #[derive(Drop)]
 pub struct KeptLazy {
-    pub(crate) lazy: Except<AllLazy, RulesLazy>,
+    pub(crate) lazy: Except<DatesAndRules, RulesOfSeries>,
 }
 
 impl KeptLazy {
@@ -26,8 +26,8 @@ impl KeptLazy {
         ensures knows { IfOk result (λ l. (sets : List (List ℕ))
             → ⟦<KeptLazy as Lazy>⟧.knows l sets) }
     {
-        let all = AllLazy::new(alloc, series)?;
-        let excluded = RulesLazy::new(
+        let all = DatesAndRules::new(alloc, series)?;
+        let excluded = RulesOfSeries::new(
             alloc,
             series.kind,
             series.start,
@@ -43,16 +43,16 @@ impl Lazy for KeptLazy {
     ghost use Rattle.rr_iter.specs.KnowsKept.{knows_kept, knows_kept_more};
     ghost use Rattle.rr_lazy.specs.Except.{sound_except};
 
-    ghost tree = { λ s. ⟦<Except<AllLazy, RulesLazy> as Lazy>⟧.tree s.lazy };
+    ghost tree = { λ s. ⟦<Except<DatesAndRules, RulesOfSeries> as Lazy>⟧.tree s.lazy };
 
-    ghost position = { λ s. ⟦<Except<AllLazy, RulesLazy> as Lazy>⟧.position s.lazy };
+    ghost position = { λ s. ⟦<Except<DatesAndRules, RulesOfSeries> as Lazy>⟧.position s.lazy };
 
     ghost knows = { knows_kept };
 
     ghost knows_more = { knows_kept_more };
 
-    ghost sound = { λ s. sound_except (⟦<AllLazy as Lazy>⟧.tree s.lazy.a.lazy)
-        (⟦<RulesLazy as Lazy>⟧.tree s.lazy.b.lazy)
+    ghost sound = { λ s. sound_except (⟦<DatesAndRules as Lazy>⟧.tree s.lazy.a.lazy)
+        (⟦<RulesOfSeries as Lazy>⟧.tree s.lazy.b.lazy)
         s.lazy.position s.lazy.one_kind s.lazy.begun };
 
     fn next(

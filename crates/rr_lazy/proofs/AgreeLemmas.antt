@@ -10,7 +10,7 @@ use Rattle.rr_model.specs.Moment.Years.{IsInYears, IsFromYearOne}
 use Rattle.rr_model.specs.Rule.Chosen.{is_chosen}
 use Rattle.rr_model.specs.Rule.Member.{members_to, IsMember, IsWithinEnd}
 use Rattle.rr_model.specs.Series.Soundness.{EndsNotBefore}
-use Rattle.rr_model.specs.Series.Tree.{ended, members_of}
+use Rattle.rr_model.specs.Series.Tree.{up_to_end, members_of}
 use Rattle.rr_model.specs.Sets.Counting.{count_to}
 use Rattle.rr_model.specs.Sets.Tree.{Tree, chosen_of, upto, has_second, stands_at, stands_in}
 use Rattle.rr_model.specs.declared.kind.Kind.{Kind}
@@ -97,7 +97,7 @@ module _ (rule : Rule) (kind : Kind) (start t : ℤ) (in_years : IsInYears kind 
 
   -- exactly the members stand in the tree of a rule with this end
   pub agree : (end : End) → EndsNotBefore kind start end
-      → (stands_in (ended kind end chosen) kind t ≡ true)
+      → (stands_in (up_to_end kind end chosen) kind t ≡ true)
       ↔ (IsTrue (is_chosen rule kind start t) × (start ≤ℤ t) × IsWithinEnd end kind t (members_to rule kind start t))
   agree Never f = (λ h. (let p = parts h in (p.0, p.1, tt)), λ m. whole m.0 m.1)
   agree (Until other at) f = (

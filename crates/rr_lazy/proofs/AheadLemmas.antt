@@ -13,7 +13,7 @@ use Rattle.rr_model.specs.Calendar.{first_day_of_year}
 use Rattle.rr_model.specs.Sets.Tree.{Tree, union, stands_at}
 use Rattle.rr_lazy.specs.Next.{HasNone, IsFirstOccupied, IsNextIn, IsUnasked, with_set}
 use Rattle.rr_lazy.proofs.FirstLemmas.{first_day_is}
-use Rattle.rr_lazy.specs.Ahead.{IsGiven, IsAhead, IsAheadIn, IsGivenOn, IsGivenByBoth, HasOn, GaveDay, IsFirstOfBoth, IsLeftAfterDay, seen, IsOfDay}
+use Rattle.rr_lazy.specs.Ahead.{IsGiven, IsAhead, IsAheadIn, IsGivenOn, IsGivenByBoth, HasOn, GaveDay, IsFirstOfBoth, IsLeftAfterDay, day_seen, IsOfDay}
 use Rattle.rr_lazy.specs.DayTimes.{DayTimes}
 use Rattle.rr_lazy.specs.declared.occupied_day.OccupiedDay.{OccupiedDay}
 
@@ -63,7 +63,7 @@ this_day ahead result day found e w =
     ]
 
 -- what is known of no day that is seen is known where the part gave none
-pub seen_none : (sets : List (List ℕ)) (ahead : Option OccupiedDay) (P : Type 0) → ForNone ahead P → ForNone (seen sets ahead) P
+pub seen_none : (sets : List (List ℕ)) (ahead : Option OccupiedDay) (P : Type 0) → ForNone ahead P → ForNone (day_seen sets ahead) P
 seen_none sets None P n e = n refl
 seen_none sets (Some f) P n e = absurd (cc)
 
@@ -208,31 +208,31 @@ unasked_in sets t own u = record { within = λ f e. absurd (cc); known = unasked
 
 -- one side where no day was given
 pub side_none_in : (sets : List (List ℕ)) (t : Tree) (own from to q : ℤ) (ahead : Option OccupiedDay) → IsAheadIn sets t own from ahead
-    → from ≤ℤ q → (q ≡ to +ℤ pos 1) ⊎ (q ≡ from) → ForSome (seen sets ahead) (λ x. to <ℤ x.day) → ForNone ahead (to <ℤ own)
+    → from ≤ℤ q → (q ≡ to +ℤ pos 1) ⊎ (q ≡ from) → ForSome (day_seen sets ahead) (λ x. to <ℤ x.day) → ForNone ahead (to <ℤ own)
     → IsAheadIn sets t own q ahead × HasNone t from q
 side_none_in sets t own from to q ahead k l one some none =
-    let s = side_none t own from to q (seen sets ahead) k.known l one some (seen_none sets ahead (to <ℤ own) none) in
+    let s = side_none t own from to q (day_seen sets ahead) k.known l one some (seen_none sets ahead (to <ℤ own) none) in
     (record { within = k.within; known = s.0 }, s.1)
 
 -- one side after the day d was given
 pub side_given_in : (sets : List (List ℕ)) (t : Tree) (own from d q : ℤ) (ahead left : Option OccupiedDay) → IsAheadIn sets t own from ahead
-    → from ≤ℤ d → ForSome (seen sets ahead) (λ f. d ≤ℤ f.day) → ForNone ahead (d <ℤ own) → IsLeftAfterDay (seen sets ahead) d (seen sets left)
+    → from ≤ℤ d → ForSome (day_seen sets ahead) (λ f. d ≤ℤ f.day) → ForNone ahead (d <ℤ own) → IsLeftAfterDay (day_seen sets ahead) d (day_seen sets left)
     → ForSome left (λ f. ahead ≡ Some f) → q ≡ d +ℤ pos 1 → IsAheadIn sets t own q left
 side_given_in sets t own from d q ahead left k l some none w same e = record {
   within = λ f h. k.within f (same f h);
-  known = side_given t own from d q (seen sets ahead) (seen sets left) k.known l some (seen_none sets ahead (d <ℤ own) none) w e;
+  known = side_given t own from d q (day_seen sets ahead) (day_seen sets left) k.known l some (seen_none sets ahead (d <ℤ own) none) w e;
 }
 
 -- two parts of a union of which one gave a day
 module _ (sets : List (List ℕ)) (t u : Tree) (own_t own_u from d to : ℤ) (a b : Option OccupiedDay) (ka : IsAheadIn sets t own_t from a)
-    (kb : IsAheadIn sets u own_u from b) (first : IsFirstOfBoth (seen sets a) (seen sets b) to (Some d)) (na : ForNone a (to <ℤ own_t))
+    (kb : IsAheadIn sets u own_u from b) (first : IsFirstOfBoth (day_seen sets a) (day_seen sets b) to (Some d)) (na : ForNone a (to <ℤ own_t))
     (nb : ForNone b (to <ℤ own_u)) where
-  before : (own : ℤ) (x : Option OccupiedDay) → ForNone x (to <ℤ own) → ForNone (seen sets x) (d <ℤ own)
+  before : (own : ℤ) (x : Option OccupiedDay) → ForNone x (to <ℤ own) → ForNone (day_seen sets x) (d <ℤ own)
   before own x n = seen_none sets x (d <ℤ own) (λ e. omega (arith, ints, n e, first.0))
 
   not_before : from ≤ℤ d
   not_before =
-      late t u own_t own_u from d to (seen sets a) (seen sets b) ka.known kb.known first (before own_t a na) (before own_u b nb)
+      late t u own_t own_u from d to (day_seen sets a) (day_seen sets b) ka.known kb.known first (before own_t a na) (before own_u b nb)
 
   -- the day is not before the position, and is a number of the code, as is the day after it
   pub union_day : first_day_of_year (pos 1) ≤ℤ from → to ≤ℤ latest_day
@@ -248,7 +248,7 @@ module _ (sets : List (List ℕ)) (t u : Tree) (own_t own_u from d to : ℤ) (a 
       let times = (with_set new f).times in
       let none_a = before own_t a na in
       let none_b = before own_u b nb in
-      let all = union_given t u own_t own_u from d to (seen sets a) (seen sets b) ka.known kb.known first none_a none_b times given.3 in
+      let all = union_given t u own_t own_u from d to (day_seen sets a) (day_seen sets b) ka.known kb.known first none_a none_b times given.3 in
       (given.1.within, (subst (λ x. IsFirstOccupied (union t u) from x times) (sym given.0) all, rw given.0 first.0, rw given.0 refl))
 
 -- ---- the seconds of a day by their number
@@ -269,7 +269,7 @@ given_joined old new a b x y number count e of_x of_y within set many =
       record { within = (within, omega (arith, many)); rises = rw whole set.rises },
       inl refl,
       rw whole (set_same nat_lt (λ s. Contains x s ⊎ Contains y s)
-          (λ s. HasOn (seen old (Some a)) a.day s ⊎ HasOn (seen old (Some b)) a.day s) (get_or new number []) set (λ s. (
+          (λ s. HasOn (day_seen old (Some a)) a.day s ⊎ HasOn (day_seen old (Some b)) a.day s) (get_or new number []) set (λ s. (
             (λ m. elim m [
               | inl c ↦ inl (refl, subst (λ z. Contains z s) of_x c)
               | inr c ↦ inr (sym e, subst (λ z. Contains z s) of_y c)
@@ -282,13 +282,13 @@ given_joined old new a b x y number count e of_x of_y within set many =
     )
 
 -- the first part alone gave the day
-pub given_first : (sets : List (List ℕ)) (b : Option OccupiedDay) (found : OccupiedDay) → IsGivenOn sets found → (GaveDay (seen sets b) found.day → ⊥)
+pub given_first : (sets : List (List ℕ)) (b : Option OccupiedDay) (found : OccupiedDay) → IsGivenOn sets found → (GaveDay (day_seen sets b) found.day → ⊥)
     → IsGivenByBoth sets (Some found) b found.day sets (Some found)
 given_first sets b found g not_b = (
   refl,
   g,
   inl refl,
-  set_same nat_lt (Contains ((with_set sets found).times)) (λ s. HasOn (seen sets (Some found)) found.day s ⊎ HasOn (seen sets b) found.day s)
+  set_same nat_lt (Contains ((with_set sets found).times)) (λ s. HasOn (day_seen sets (Some found)) found.day s ⊎ HasOn (day_seen sets b) found.day s)
       ((with_set sets found).times) (set_itself nat_lt ((with_set sets found).times) g.rises)
-      (λ s. ((λ c. inl (refl, c)), (λ m. elim m [ inl c ↦ c.1 | inr c ↦ absurd (not_b (gave (seen sets b) found.day s c)) ]))),
+      (λ s. ((λ c. inl (refl, c)), (λ m. elim m [ inl c ↦ c.1 | inr c ↦ absurd (not_b (gave (day_seen sets b) found.day s c)) ]))),
 )

@@ -14,7 +14,7 @@ use Rattle.rr_model.proofs.RisingSetLemmas.{Contains-none}
 use Rattle.rr_shapes.specs.Tables.{Extends}
 use Rattle.rr_lazy.specs.declared.occupied_day.OccupiedDay.{OccupiedDay}
 use Rattle.rr_lazy.specs.Next.{HasNone, IsFirstOccupied, IsNextIn, with_set}
-use Rattle.rr_lazy.specs.Ahead.{GaveDay, HasOn, IsGiven, IsAheadIn, IsGivenOn, seen, IsOfDay}
+use Rattle.rr_lazy.specs.Ahead.{GaveDay, HasOn, IsGiven, IsAheadIn, IsGivenOn, day_seen, IsOfDay}
 use Rattle.rr_lazy.specs.Except.{IsAheadUpTo, IsLacking, IsLeftBy, IsNextOfBoth, KnowsBoth, up_to_more}
 use Rattle.rr_lazy.specs.Parts.{Part, part_of}
 use Rattle.rr_lazy.specs.Tables.{ahead_more, same_day}
@@ -67,20 +67,20 @@ out_passed sets tree own day found k l =
 
 -- what it has on a day, where what it gave is not before that day
 pub out_on_day : (sets : List (List ℕ)) (tree : Tree) (own day : ℤ) (ahead : Option OccupiedDay) → IsAheadUpTo sets (part_of tree own ahead) day
-    → ForSome ahead (λ f. day ≤ℤ f.day) → ForNone ahead (day <ℤ own) → (s : ℕ) → (stands_at tree day s ≡ true) ↔ HasOn (seen sets ahead) day s
+    → ForSome ahead (λ f. day ≤ℤ f.day) → ForNone ahead (day <ℤ own) → (s : ℕ) → (stands_at tree day s ≡ true) ↔ HasOn (day_seen sets ahead) day s
 out_on_day sets tree own day ahead k some none s =
-    on_day tree own k.from day (seen sets ahead) k.known.known k.early (seen_some sets ahead day some) (none_seen sets ahead (day <ℤ own) none) s
+    on_day tree own k.from day (day_seen sets ahead) k.known.known k.early (seen_some sets ahead day some) (none_seen sets ahead (day <ℤ own) none) s
 
 -- ---- what is left of a day
 
-gives_day : (ahead : Option OccupiedDay) (sets : List (List ℕ)) (day : ℤ) (s : ℕ) → HasOn (seen sets ahead) day s → ForSome ahead (λ f. f.day ≡ day → ⊥) → ⊥
+gives_day : (ahead : Option OccupiedDay) (sets : List (List ℕ)) (day : ℤ) (s : ℕ) → HasOn (day_seen sets ahead) day s → ForSome ahead (λ f. f.day ≡ day → ⊥) → ⊥
 gives_day None sets day s h other = absurd h
 gives_day (Some f) sets day s h other = other f refl h.0
 
 -- all of it, where the second part did not give the day
 pub left_whole : (sets new : List (List ℕ)) (tree : Tree) (given : OccupiedDay) (ahead : Option OccupiedDay) → IsGivenOn new given
     → ((with_set new given).times) ≢ [] → with_set new given ≡ with_set sets given
-    → ((s : ℕ) → (stands_at tree given.day s ≡ true) ↔ HasOn (seen new ahead) given.day s) → ForSome ahead (λ f. f.day ≡ given.day → ⊥)
+    → ((s : ℕ) → (stands_at tree given.day s ≡ true) ↔ HasOn (day_seen new ahead) given.day s) → ForSome ahead (λ f. f.day ≡ given.day → ⊥)
     → IsLeftBy sets tree given new (Some given)
 left_whole sets new tree given ahead on some same stands other = (
   refl,
@@ -101,13 +101,13 @@ left_whole sets new tree given ahead on some same stands other = (
 -- what the second part lacks, where it gave the day
 pub left_lacking : (old mid new : List (List ℕ)) (tree : Tree) (given out : OccupiedDay) (ahead : Option OccupiedDay) (left : Option OccupiedDay)
     → with_set mid given ≡ with_set old given → ahead ≡ Some out → out.day ≡ given.day
-    → ((s : ℕ) → (stands_at tree given.day s ≡ true) ↔ HasOn (seen mid ahead) given.day s) → IsLacking mid given out new left
+    → ((s : ℕ) → (stands_at tree given.day s ≡ true) ↔ HasOn (day_seen mid ahead) given.day s) → IsLacking mid given out new left
     → IsLeftBy old tree given new left
 left_lacking old mid new tree given out ahead None same is day stands lacking = λ s c.
     elim (stands_at tree given.day s) as (λ b. stands_at tree given.day s ≡ b → b ≡ true) [
       | true ↦ λ e. refl
       | false ↦ λ e. absurd (lacking s (subst (λ f. Contains (f.times) s) (sym same) c)
-          (λ o. false≢true (sym e ∙ (stands s).1 (subst (λ a. HasOn (seen mid a) given.day s) (sym is) (day, o)))))
+          (λ o. false≢true (sym e ∙ (stands s).1 (subst (λ a. HasOn (day_seen mid a) given.day s) (sym is) (day, o)))))
     ] refl
 left_lacking old mid new tree given out ahead (Some found) same is day stands (at, on, some, exact) = (
   at,
@@ -118,21 +118,21 @@ left_lacking old mid new tree given out ahead (Some found) same is day stands (a
     λ p. (exact s).1 (
       subst (λ f. Contains (f.times) s) (sym same) p.0,
       λ o.
-          false≢true (sym p.1 ∙ (stands s).1 (subst (λ a. HasOn (seen mid a) given.day s) (sym is) (day, o))),
+          false≢true (sym p.1 ∙ (stands s).1 (subst (λ a. HasOn (day_seen mid a) given.day s) (sym is) (day, o))),
     ),
   ),
 )
   where
     none : (s : ℕ) → ¬ Contains ((with_set mid out).times) s → stands_at tree given.day s ≡ false
     none s lacks = elim (stands_at tree given.day s) as (λ b. stands_at tree given.day s ≡ b → b ≡ false) [
-      | true ↦ λ e. absurd (lacks (subst (λ a. HasOn (seen mid a) given.day s) is ((stands s).0 e)).1)
+      | true ↦ λ e. absurd (lacks (subst (λ a. HasOn (day_seen mid a) given.day s) is ((stands s).0 e)).1)
       | false ↦ λ e. refl
     ] refl
 
 -- whatever is answered
 pub all_lacking : (old mid new : List (List ℕ)) (tree : Tree) (given out : OccupiedDay) (ahead : Option OccupiedDay)
     (result : Result (Option OccupiedDay) NoMemory) → with_set mid given ≡ with_set old given → ahead ≡ Some out → out.day ≡ given.day
-    → ((s : ℕ) → (stands_at tree given.day s ≡ true) ↔ HasOn (seen mid ahead) given.day s) → IfOk result (IsLacking mid given out new)
+    → ((s : ℕ) → (stands_at tree given.day s ≡ true) ↔ HasOn (day_seen mid ahead) given.day s) → IfOk result (IsLacking mid given out new)
     → IfOk result (IsLeftBy old tree given new)
 all_lacking old mid new tree given out ahead (Ok left) same is day stands l = left_lacking old mid new tree given out ahead left same is day stands l
 all_lacking old mid new tree given out ahead (Err e) same is day stands l = l
@@ -219,7 +219,7 @@ module _ (tree out : Tree) where
         passed = λ d s a c. absurd (omega (arith, ints, a, c));
         known = record {
           within = k.known.within;
-          known = advance tree own k.from q (seen sets ahead) k.known.known (omega (arith, ints, m)) (seen_some sets ahead q some)
+          known = advance tree own k.from q (day_seen sets ahead) k.known.known (omega (arith, ints, m)) (seen_some sets ahead q some)
               (none_seen sets ahead (q ≤ℤ own) none);
         };
         out = later_out sets b k.from q (omega (arith, ints, m)) k.out;
@@ -293,7 +293,7 @@ module _ (tree out : Tree) where
       passed = none_before same;
       known = ahead_more old new tree own found.day (Some found) more (record {
         within = k.known.within;
-        known = advance tree own k.from found.day (seen old (Some found)) k.known.known given.late
+        known = advance tree own k.from found.day (day_seen old (Some found)) k.known.known given.late
             (λ f e. (let i : f ≡ with_set old found = cc in rw i (omega (arith, ints)))) (λ e. absurd (cc));
       });
       out = o;

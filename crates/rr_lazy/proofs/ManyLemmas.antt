@@ -15,7 +15,7 @@ use Rattle.rr_shapes.specs.Tables.{Extends}
 use Rattle.rr_lazy.specs.declared.occupied_day.OccupiedDay.{OccupiedDay}
 use Rattle.rr_lazy.specs.Next.{HasNone, IsFirstOccupied, IsNextIn, IsInTable, with_set}
 use Rattle.rr_lazy.specs.Tables.{same_day, same_seen}
-use Rattle.rr_lazy.specs.Ahead.{HasOn, GaveDay, IsAhead, IsAheadIn, IsGivenByBoth, IsGivenOn, IsLeftAfterDay, seen}
+use Rattle.rr_lazy.specs.Ahead.{HasOn, GaveDay, IsAhead, IsAheadIn, IsGivenByBoth, IsGivenOn, IsLeftAfterDay, day_seen}
 use Rattle.rr_lazy.specs.Many.{forest_of, with_part, GaveDaySome, HasOnSome, IsGivenBySome, IsLeftBy}
 use Rattle.rr_lazy.proofs.AheadLemmas.{given_on, has_some, none_below, on_day, seen_none, side_given, side_none}
 
@@ -164,12 +164,12 @@ given_is old new a b d (Some found) g f e = (let i : f ≡ found = cc in rw i g.
 -- the seconds of one more part join those that were given
 module _ {X : Type 0} (start old new : List (List ℕ)) (ahead : X → Option OccupiedDay) (xs : List X) (d : ℤ) (index : ℕ) (x : X) (l : index < length xs)
     (e : x ≡ get_or xs index x) (more : Extends start old) (within : ForSome (ahead x) (IsInTable start)) where
-  none_more : IsGivenBySome start ahead xs index d old None → (GaveDay (seen old (ahead x)) d → ⊥) → IsGivenBySome start ahead xs (index + 1) d new None
+  none_more : IsGivenBySome start ahead xs index d old None → (GaveDay (day_seen old (ahead x)) d → ⊥) → IsGivenBySome start ahead xs (index + 1) d new None
   none_more by not k m n z g = elim (cases_lt k index) [
     | inl p ↦ by k p n z g
     | inr p ↦ (let q : index ≡ k = omega arith in
-        let here : GaveDay (seen start (ahead x)) d =
-        subst (λ y. GaveDay (seen start (ahead y)) d) (sym (e ∙ get_or_default xs index x z l)) (subst (λ j. GaveDay (seen start (ahead (get_or xs j z))) d) (sym q) g) in
+        let here : GaveDay (day_seen start (ahead x)) d =
+        subst (λ y. GaveDay (day_seen start (ahead y)) d) (sym (e ∙ get_or_default xs index x z l)) (subst (λ j. GaveDay (day_seen start (ahead (get_or xs j z))) d) (sym q) g) in
         not (subst (λ y. GaveDay y d) (sym (same_seen start old (ahead x) more within).1) here))
   ]
 
@@ -180,9 +180,9 @@ module _ {X : Type 0} (start old new : List (List ℕ)) (ahead : X → Option Oc
   more_given None (Some g) by both = (
     both.0,
     both.1,
-    set_same nat_lt (λ s. HasOn (seen old None) d s ⊎ HasOn (seen old (ahead x)) d s) (HasOnSome (λ p. seen start (ahead p)) xs (index + 1) d)
+    set_same nat_lt (λ s. HasOn (day_seen old None) d s ⊎ HasOn (day_seen old (ahead x)) d s) (HasOnSome (λ p. day_seen start (ahead p)) xs (index + 1) d)
         ((with_set new g).times) both.3 (λ s. (
-        let one = one_more_on (λ p. seen start (ahead p)) xs d index s x l e in
+        let one = one_more_on (λ p. day_seen start (ahead p)) xs d index s x l e in
         let same = (same_seen start old (ahead x) more within).1 in (
           λ h. elim h [ inl y ↦ absurd y | inr y ↦ one.0 (inr (subst (λ w. HasOn w d s) same y)) ],
           λ h. elim (one.1 h) [
@@ -192,8 +192,8 @@ module _ {X : Type 0} (start old new : List (List ℕ)) (ahead : X → Option Oc
         ))),
   )
     where
-      gave_of : (s : ℕ) → HasOnSome (λ p. seen start (ahead p)) xs index d s → ⊥
-      gave_of s h = by h.0 h.1 h.2 x (day_of (seen start (ahead (get_or xs h.0 x))) (h.3 x))
+      gave_of : (s : ℕ) → HasOnSome (λ p. day_seen start (ahead p)) xs index d s → ⊥
+      gave_of s h = by h.0 h.1 h.2 x (day_of (day_seen start (ahead (get_or xs h.0 x))) (h.3 x))
         where
           day_of : (a : Option DayTimes) → HasOn a d s → GaveDay a d
           day_of None m = m
@@ -201,9 +201,9 @@ module _ {X : Type 0} (start old new : List (List ℕ)) (ahead : X → Option Oc
   more_given (Some f) (Some g) by both = (
     both.0,
     both.1,
-    set_same nat_lt (λ s. HasOn (seen old (Some f)) d s ⊎ HasOn (seen old (ahead x)) d s) (HasOnSome (λ p. seen start (ahead p)) xs (index + 1) d)
+    set_same nat_lt (λ s. HasOn (day_seen old (Some f)) d s ⊎ HasOn (day_seen old (ahead x)) d s) (HasOnSome (λ p. day_seen start (ahead p)) xs (index + 1) d)
         ((with_set new g).times) both.3 (λ s. (
-        let one = one_more_on (λ p. seen start (ahead p)) xs d index s x l e in
+        let one = one_more_on (λ p. day_seen start (ahead p)) xs d index s x l e in
         let same = (same_seen start old (ahead x) more within).1 in (
           λ h. elim h [ inl y ↦ one.0 (inl ((by.2.exact s).0 y.1)) | inr y ↦ one.0 (inr (subst (λ w. HasOn w d s) same y)) ],
           λ h. elim (one.1 h) [
@@ -235,11 +235,11 @@ module _ {X : Type 0} (ahead : X → Option DayTimes) (xs : List X) (index : ℕ
 
 -- what a part gave is the day by every table
 module _ (sets : List (List ℕ)) where
-  pub some_by : (P : ℤ → Type 0) (a : Option OccupiedDay) → ForSome (seen [] a) (λ f. P f.day) → ForSome (seen sets a) (λ f. P f.day)
+  pub some_by : (P : ℤ → Type 0) (a : Option OccupiedDay) → ForSome (day_seen [] a) (λ f. P f.day) → ForSome (day_seen sets a) (λ f. P f.day)
   some_by P None h f e = absurd (cc)
   some_by P (Some o) h f e = (let i : f ≡ with_set sets o = cc in rw i (h (with_set [] o) refl))
 
-  pub gave_by : (a : Option OccupiedDay) (d : ℤ) → GaveDay (seen [] a) d → GaveDay (seen sets a) d
+  pub gave_by : (a : Option OccupiedDay) (d : ℤ) → GaveDay (day_seen [] a) d → GaveDay (day_seen sets a) d
   gave_by None d g = g
   gave_by (Some o) d g = g
 
@@ -282,18 +282,18 @@ module _ {X L : Type 0} (tree : L → Tree) (own : L → ℤ) (lazy : X → L) (
 
 module _ {X L : Type 0} (knows : L → Type 0) (tree : L → Tree) (own : L → ℤ) (lazy : X → L) (ahead : X → Option OccupiedDay) (sets : List (List ℕ))
     (xs : List X) (from : ℤ) (known : All (λ x. knows (lazy x) × IsAheadIn sets (tree (lazy x)) (own (lazy x)) from (ahead x)) xs) where
-  pub all_seen : All (λ x. IsAhead (tree (lazy x)) (own (lazy x)) from (seen sets (ahead x))) xs
+  pub all_seen : All (λ x. IsAhead (tree (lazy x)) (own (lazy x)) from (day_seen sets (ahead x))) xs
   all_seen k z l = (known k z l).1.known
 
   pub all_given : All (λ x. ForSome (ahead x) (IsGivenOn sets)) xs
   all_given k z l = given_on sets (tree (lazy (get_or xs k z))) (own (lazy (get_or xs k z))) from (ahead (get_or xs k z)) (known k z l).1
 
-  pub known_on : (q : ℤ) → All (λ x. IsAhead (tree (lazy x)) (own (lazy x)) q (seen sets (ahead x))) xs
+  pub known_on : (q : ℤ) → All (λ x. IsAhead (tree (lazy x)) (own (lazy x)) q (day_seen sets (ahead x))) xs
       → All (λ x. knows (lazy x) × IsAheadIn sets (tree (lazy x)) (own (lazy x)) q (ahead x)) xs
   known_on q later k z l = ((known k z l).0, record { within = (known k z l).1.within; known = later k z l })
 
-  pub known_left : (new : List X) (d q : ℤ) → from ≤ℤ d → All (λ x. ForSome (seen sets (ahead x)) (λ f. d ≤ℤ f.day)) xs
-      → All (λ x. ForNone (seen sets (ahead x)) (d <ℤ own (lazy x))) xs → IsLeftBy (λ x. seen sets (ahead x)) lazy xs d (length xs) new
+  pub known_left : (new : List X) (d q : ℤ) → from ≤ℤ d → All (λ x. ForSome (day_seen sets (ahead x)) (λ f. d ≤ℤ f.day)) xs
+      → All (λ x. ForNone (day_seen sets (ahead x)) (d <ℤ own (lazy x))) xs → IsLeftBy (λ x. day_seen sets (ahead x)) lazy xs d (length xs) new
       → All (λ x. ForSome (ahead x) (IsInTable sets)) new → q ≡ d +ℤ pos 1
       → All (λ x. knows (lazy x) × IsAheadIn sets (tree (lazy x)) (own (lazy x)) q (ahead x)) new
   known_left new d q l some none left within e k z m =
@@ -301,25 +301,25 @@ module _ {X L : Type 0} (knows : L → Type 0) (tree : L → Tree) (own : L → 
         subst knows (sym (left.lazies k z n)) (known k z n).0,
         record {
           within = within k z m;
-          known = all_left tree own lazy (λ x. seen sets (ahead x)) xs new from d q all_seen l some none left e k z m;
+          known = all_left tree own lazy (λ x. day_seen sets (ahead x)) xs new from d q all_seen l some none left e k z m;
         },
       )
 
 -- what parts gave, by any table
 module _ {X : Type 0} (sets : List (List ℕ)) (own : X → ℤ) (ahead : X → Option OccupiedDay) (xs : List X) where
-  pub all_none_by : (to : ℤ) → All (λ x. ForNone (ahead x) (to <ℤ own x)) xs → All (λ x. ForNone (seen sets (ahead x)) (to <ℤ own x)) xs
+  pub all_none_by : (to : ℤ) → All (λ x. ForNone (ahead x) (to <ℤ own x)) xs → All (λ x. ForNone (day_seen sets (ahead x)) (to <ℤ own x)) xs
   all_none_by to none k z l = seen_none sets (ahead (get_or xs k z)) (to <ℤ own (get_or xs k z)) (none k z l)
 
-  pub all_some_by : (d : ℤ) → All (λ x. ForSome (seen [] (ahead x)) (λ f. d ≤ℤ f.day)) xs → All (λ x. ForSome (seen sets (ahead x)) (λ f. d ≤ℤ f.day)) xs
+  pub all_some_by : (d : ℤ) → All (λ x. ForSome (day_seen [] (ahead x)) (λ f. d ≤ℤ f.day)) xs → All (λ x. ForSome (day_seen sets (ahead x)) (λ f. d ≤ℤ f.day)) xs
   all_some_by d some k z l = some_by sets (λ e. d ≤ℤ e) (ahead (get_or xs k z)) (some k z l)
 
-  pub gave_some_by : (d : ℤ) → GaveDaySome (λ x. seen [] (ahead x)) xs d → GaveDaySome (λ x. seen sets (ahead x)) xs d
+  pub gave_some_by : (d : ℤ) → GaveDaySome (λ x. day_seen [] (ahead x)) xs d → GaveDaySome (λ x. day_seen sets (ahead x)) xs d
   gave_some_by d gave = (gave.0, gave.1, λ z. gave_by sets (ahead (get_or xs gave.0 z)) d (gave.2 z))
 
 -- what parts gave for their first day answers a call
 pub next_given : {X : Type 0} (tree : Tree) (position to day next : ℤ) (sets new : List (List ℕ)) (ahead : X → Option OccupiedDay) (xs : List X)
-    (found : Option OccupiedDay) → IsGivenBySome sets ahead xs (length xs) day new found → GaveDaySome (λ x. seen sets (ahead x)) xs day → X
-    → ((times : List ℕ) → IsSetOf nat_lt times (HasOnSome (λ x. seen sets (ahead x)) xs (length xs) day) → IsFirstOccupied tree position day times)
+    (found : Option OccupiedDay) → IsGivenBySome sets ahead xs (length xs) day new found → GaveDaySome (λ x. day_seen sets (ahead x)) xs day → X
+    → ((times : List ℕ) → IsSetOf nat_lt times (HasOnSome (λ x. day_seen sets (ahead x)) xs (length xs) day) → IsFirstOccupied tree position day times)
     → day ≤ℤ to → next ≡ day +ℤ pos 1 → IsNextIn new tree position to (Ok found) next
 next_given tree position to day next sets new ahead xs None given gave x first within e = absurd (given gave.0 gave.1 gave.1 x (gave.2 x))
 next_given tree position to day next sets new ahead xs (Some found) given gave x first within e = (

@@ -13,7 +13,7 @@ use Rattle.rr_model.specs.declared.refusal.NoMemory.{NoMemory}
 use Rattle.rr_model.proofs.RisingSetLemmas.{Contains-head, Contains-none}
 use Rattle.rr_lazy.specs.declared.occupied_day.OccupiedDay.{OccupiedDay}
 use Rattle.rr_lazy.specs.Next.{HasNone, IsFirstOccupied, IsNextIn, with_set}
-use Rattle.rr_lazy.specs.Ahead.{IsGiven, IsAheadIn, IsGivenOn, seen}
+use Rattle.rr_lazy.specs.Ahead.{IsGiven, IsAheadIn, IsGivenOn, day_seen}
 use Rattle.rr_lazy.specs.Stretch.{IsLeftOf, IsNextLeft, KnowsPart}
 use Rattle.rr_lazy.proofs.AheadLemmas.{advance, seen_none}
 
@@ -24,7 +24,7 @@ next_day (Some f) own = f.day
 
 -- ---- what is seen of a part
 
-pub seen_some : (sets : List (List ℕ)) (ahead : Option OccupiedDay) (q : ℤ) → ForSome ahead (λ f. q ≤ℤ f.day) → ForSome (seen sets ahead) (λ f. q ≤ℤ f.day)
+pub seen_some : (sets : List (List ℕ)) (ahead : Option OccupiedDay) (q : ℤ) → ForSome ahead (λ f. q ≤ℤ f.day) → ForSome (day_seen sets ahead) (λ f. q ≤ℤ f.day)
 seen_some sets None q some f e = absurd (cc)
 seen_some sets (Some g) q some f e = (let i : f ≡ with_set sets g = cc in rw i (some g refl))
 
@@ -98,7 +98,7 @@ module _ (tree : Tree) (kind : Kind) (dates : List ℤ) where
         passed = λ d s a b. absurd (omega (arith, ints, a, b));
         known = record {
           within = k.known.within;
-          known = advance tree own k.from q (seen sets ahead) k.known.known (omega (arith, ints, m)) (seen_some sets ahead q some)
+          known = advance tree own k.from q (day_seen sets ahead) k.known.known (omega (arith, ints, m)) (seen_some sets ahead q some)
               (seen_none sets ahead (q ≤ℤ own) none);
         };
       })

@@ -24,14 +24,14 @@ pub record IsAhead (tree : Tree) (own from : ℤ) (ahead : Option DayTimes) : Ty
   pub none : ForNone ahead ((from ≤ℤ own) × HasNone tree from own)
 
 -- what is known of the day that a part gave, by the table of sets
-abbrev pub seen : List (List ℕ) → Option OccupiedDay → Option DayTimes
-seen sets None = None
-seen sets (Some f) = Some (with_set sets f)
+abbrev pub day_seen : List (List ℕ) → Option OccupiedDay → Option DayTimes
+day_seen sets None = None
+day_seen sets (Some f) = Some (with_set sets f)
 
 -- from a day on: the part's first occupied day, its seconds told by a number of the table, or that it has none before its own position
 pub record IsAheadIn (sets : List (List ℕ)) (tree : Tree) (own from : ℤ) (ahead : Option OccupiedDay) : Type 0 where
   pub within : ForSome ahead (IsInTable sets)
-  pub known : IsAhead tree own from (seen sets ahead)
+  pub known : IsAhead tree own from (day_seen sets ahead)
 
 -- what was known of a part from a day on, by the table of sets that was, is known of it from that day on by the table that is
 abbrev pub StaysAhead : List (List ℕ) → List (List ℕ) → Tree → ℤ → ℤ → Option OccupiedDay → Option OccupiedDay → Type 0
@@ -59,7 +59,7 @@ IsLeftAfterDay (Some f) day r = ((f.day ≡ day) × (r ≡ None)) ⊎ ((f.day �
 
 -- by each table of sets: what is left of what a part gave once a day was passed on
 abbrev pub HasForgotten : Option OccupiedDay → ℤ → Option OccupiedDay → Type 0
-HasForgotten old day new = (sets : List (List ℕ)) → IsLeftAfterDay (seen sets old) day (seen sets new)
+HasForgotten old day new = (sets : List (List ℕ)) → IsLeftAfterDay (day_seen sets old) day (day_seen sets new)
 
 -- what a part gave, where it is this day, and nothing where it is none or another day
 abbrev pub IsOfDay : Option OccupiedDay → ℤ → Option OccupiedDay → Type 0
@@ -72,10 +72,10 @@ pub record IsGivenOn (sets : List (List ℕ)) (found : OccupiedDay) : Type 0 whe
 
 -- What two parts gave for a day: all seconds of both, and nothing where neither gave it.
 abbrev pub IsGivenByBoth : List (List ℕ) → Option OccupiedDay → Option OccupiedDay → ℤ → List (List ℕ) → Option OccupiedDay → Type 0
-IsGivenByBoth old a b day new None = (GaveDay (seen old a) day → ⊥) × (GaveDay (seen old b) day → ⊥)
+IsGivenByBoth old a b day new None = (GaveDay (day_seen old a) day → ⊥) × (GaveDay (day_seen old b) day → ⊥)
 IsGivenByBoth old a b day new (Some found) =
-    (found.day ≡ day) × IsGivenOn new found × (GaveDay (seen old a) day ⊎ GaveDay (seen old b) day)
-    × IsSetOf nat_lt ((with_set new found).times) (λ s. HasOn (seen old a) day s ⊎ HasOn (seen old b) day s)
+    (found.day ≡ day) × IsGivenOn new found × (GaveDay (day_seen old a) day ⊎ GaveDay (day_seen old b) day)
+    × IsSetOf nat_lt ((with_set new found).times) (λ s. HasOn (day_seen old a) day s ⊎ HasOn (day_seen old b) day s)
 
 -- two trees of one kind make a sound iterator
 pub sound_union : (t u : Tree) (position : ℤ) → IsOfOneKind (union t u) → first_day_of_year (pos 1) ≤ℤ position → IsSoundLazy (union t u) position

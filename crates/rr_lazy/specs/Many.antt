@@ -8,7 +8,7 @@ use Rattle.rr_model.specs.Sets.Tree.{Tree, Forest, nothing, part, many, IsOfOneK
 use Rattle.rr_model.specs.Rising.Sets.{IsSetOf}
 use Rattle.rr_lazy.specs.declared.occupied_day.OccupiedDay.{OccupiedDay}
 use Rattle.rr_lazy.specs.Next.{IsSoundLazy, IsInTable, with_set}
-use Rattle.rr_lazy.specs.Ahead.{HasOn, GaveDay, IsGivenOn, IsLeftAfterDay, seen}
+use Rattle.rr_lazy.specs.Ahead.{HasOn, GaveDay, IsGivenOn, IsLeftAfterDay, day_seen}
 
 -- the trees of the parts of a list
 abbrev pub forest_of : {X : Type 0} → (X → Tree) → List X → Forest
@@ -21,9 +21,9 @@ with_part nothing t = part t nothing
 with_part (part a parts) t = part a (with_part parts t)
 
 -- several trees with one more at their end
-abbrev pub joined : Tree → Tree → Tree
-joined (many parts) t = many (with_part parts t)
-joined other t = other
+abbrev pub tree_with_part : Tree → Tree → Tree
+tree_with_part (many parts) t = many (with_part parts t)
+tree_with_part other t = other
 
 -- one of the parts gave this day
 abbrev pub GaveDaySome : {X : Type 0} → (X → Option DayTimes) → List X → ℤ → Type 0
@@ -35,10 +35,10 @@ HasOnSome {X} ahead parts count day s = (k : ℕ) × (k < count) × (k < length 
 
 -- What the first n parts gave for a day: all seconds of those that gave it, and nothing where none did.
 abbrev pub IsGivenBySome : {X : Type 0} → List (List ℕ) → (X → Option OccupiedDay) → List X → ℕ → ℤ → List (List ℕ) → Option OccupiedDay → Type 0
-IsGivenBySome {X} old ahead parts count day new None = (k : ℕ) → k < count → k < length parts → (d : X) → GaveDay (seen old (ahead (get_or parts k d))) day → ⊥
+IsGivenBySome {X} old ahead parts count day new None = (k : ℕ) → k < count → k < length parts → (d : X) → GaveDay (day_seen old (ahead (get_or parts k d))) day → ⊥
 IsGivenBySome {X} old ahead parts count day new (Some found) =
     (found.day ≡ day) × IsGivenOn new found
-    × IsSetOf nat_lt ((with_set new found).times) (HasOnSome (λ p. seen old (ahead p)) parts count day)
+    × IsSetOf nat_lt ((with_set new found).times) (HasOnSome (λ p. day_seen old (ahead p)) parts count day)
 
 -- what each part gave stays within every table that held what each gave
 abbrev pub StayWithin : {X : Type 0} → (X → Option OccupiedDay) → List X → List X → Type 0
@@ -54,7 +54,7 @@ pub record IsLeftBy {X L : Type 0} (ahead : X → Option DayTimes) (lazy : X →
 
 -- by each table of sets, all parts have forgotten the day; nothing else has changed
 abbrev pub HaveForgotten : {X L : Type 0} → (X → Option OccupiedDay) → (X → L) → List X → ℤ → List X → Type 0
-HaveForgotten {X} {L} ahead lazy old day new = (sets : List (List ℕ)) → IsLeftBy (λ p. seen sets (ahead p)) lazy old day (length old) new
+HaveForgotten {X} {L} ahead lazy old day new = (sets : List (List ℕ)) → IsLeftBy (λ p. day_seen sets (ahead p)) lazy old day (length old) new
 
 pub sound_many : (parts : Forest) (position : ℤ) → IsOfOneKind (many parts) → first_day_of_year (pos 1) ≤ℤ position → IsSoundLazy (many parts) position
 sound_many parts position k b = record { of_kind = k; in_years = b }

@@ -8,7 +8,7 @@ use Rattle.rr_model.specs.declared.kind.Kind.{Kind}
 use Rattle.rr_shapes.specs.Tables.{Extends}
 use Rattle.rr_shapes.proofs.TableLemmas.{same_set}
 use Rattle.rr_lazy.specs.declared.occupied_day.OccupiedDay.{OccupiedDay}
-use Rattle.rr_lazy.specs.Ahead.{IsAhead, IsAheadIn, seen}
+use Rattle.rr_lazy.specs.Ahead.{IsAhead, IsAheadIn, day_seen}
 use Rattle.rr_lazy.specs.Next.{IsInTable, with_set}
 use Rattle.rr_lazy.specs.Stretch.{KnowsPart}
 
@@ -21,7 +21,7 @@ same_day old new found more w =
 
 -- what was seen of a part is seen of it
 pub same_seen : (old new : List (List ℕ)) (ahead : Option OccupiedDay) → Extends old new → ForSome ahead (IsInTable old)
-    → ForSome ahead (IsInTable new) × (seen new ahead ≡ seen old ahead)
+    → ForSome ahead (IsInTable new) × (day_seen new ahead ≡ day_seen old ahead)
 same_seen old new None more w = ((λ f e. absurd (cc)), refl)
 same_seen old new (Some found) more w =
     let s = same_day old new found more (w found refl) in

@@ -3,7 +3,7 @@ ghost use Rattle.std.specs.Prelude.{◌≡◌, ◌↔◌, IfOk, IsTrue, OnOk, Li
 ghost use Rattle.std.specs.Option.{ForNone, ForSome};
 ghost use Rattle.rr_model.specs.Bounds.{earliest_day, latest_day};
 ghost use Rattle.rr_shapes.specs.Tables.{Extends};
-ghost use Rattle.rr_lazy.specs.Ahead.{GaveDay, HasForgotten, IsGivenOn, IsGivenByBoth, IsOfDay, StaysAhead, seen};
+ghost use Rattle.rr_lazy.specs.Ahead.{GaveDay, HasForgotten, IsGivenOn, IsGivenByBoth, IsOfDay, StaysAhead, day_seen};
 
 use crate::{Lazy, OccupiedDay};
 use rr_model::NoMemory;
@@ -107,7 +107,7 @@ pub(crate) fn forget(ahead: &mut Option<OccupiedDay>, day: i64)
 
 // Whether a part gave this day.
 fn is_on(ahead: Option<OccupiedDay>, day: i64) -> bool
-    ensures { (sets : List (List ℕ)) → IsTrue result ↔ GaveDay (seen sets ahead) day }
+    ensures { (sets : List (List ℕ)) → IsTrue result ↔ GaveDay (day_seen sets ahead) day }
 {
     match ahead {
         None => false,

@@ -8,7 +8,7 @@ ghost use Rattle.rr_model.proofs.TreeLemmas.{IsOfOneKind-prop};
 ghost use Rattle.rr_model.specs.Sets.Tree.{IsOfOneKind, many};
 ghost use Rattle.rr_lazy.specs.Next.{IsNextIn, IsUnasked, KnowsEach, KnowsIfBoth};
 ghost use Rattle.rr_shapes.specs.Tables.{Extends};
-ghost use Rattle.rr_lazy.specs.Ahead.{GaveDay, IsAheadIn, IsGivenOn, seen};
+ghost use Rattle.rr_lazy.specs.Ahead.{GaveDay, IsAheadIn, IsGivenOn, day_seen};
 ghost use Rattle.rr_lazy.specs.Many.{forest_of, HaveForgotten, IsGivenBySome, GaveDaySome, StayWithin};
 ghost use Rattle.rr_lazy.specs.Parts.{KnowsEachPart};
 ghost use Rattle.rr_lazy.specs.PassedOn.{IsOneAtRest};
@@ -33,7 +33,7 @@ pub struct Many<A: Lazy + Drop> {
 
 impl<A: Lazy + Drop> Many<A> {
     ghost use Rattle.rr_model.specs.Sets.Tree.{many, nothing};
-    ghost use Rattle.rr_lazy.specs.Many.{joined};
+    ghost use Rattle.rr_lazy.specs.Many.{tree_with_part};
 
     /// No part; it takes no memory.
     pub fn new(alloc: Global) -> Many<A>
@@ -49,11 +49,12 @@ impl<A: Lazy + Drop> Many<A> {
 
     /// Puts a part of the same kind last; neither has been asked.
     pub fn put(&mut self, lazy: A) -> Result<(), NoMemory>
-        requires one_kind { IsOfOneKind (joined (⟦<Many<A> as Lazy>⟧.tree self.old) (A.tree lazy)) }
+        requires one_kind { IsOfOneKind
+            (tree_with_part (⟦<Many<A> as Lazy>⟧.tree self.old) (A.tree lazy)) }
         requires unasked { IsUnasked (⟦<Many<A> as Lazy>⟧.position self.old) }
         requires part_unasked { IsUnasked (A.position lazy) }
         ensures tree { OnOk result (⟦<Many<A> as Lazy>⟧.tree self.new
-            ≡ joined (⟦<Many<A> as Lazy>⟧.tree self.old) (A.tree lazy)) }
+            ≡ tree_with_part (⟦<Many<A> as Lazy>⟧.tree self.old) (A.tree lazy)) }
         ensures unasked { IsUnasked (⟦<Many<A> as Lazy>⟧.position self.new) }
         ensures knows { KnowsIfBoth (⟦<Many<A> as Lazy>⟧.knows self.old) (A.knows lazy)
             (⟦<Many<A> as Lazy>⟧.knows self.new) }
@@ -205,8 +206,8 @@ fn ask<A: Lazy + Drop>(
 // The least of a day and of the days that parts gave.
 fn first_of_all<A: Lazy + Drop>(parts: &[LazyPart<A>], from: i64) -> i64
     ensures bound { result ≤ℤ from }
-    ensures least { All (λ p. ForSome (seen [] p.ahead) (λ f. result ≤ℤ f.day)) parts.now }
-    ensures one { (result ≡ from) ⊎ GaveDaySome (λ p. seen [] p.ahead) parts.now result }
+    ensures least { All (λ p. ForSome (day_seen [] p.ahead) (λ f. result ≤ℤ f.day)) parts.now }
+    ensures one { (result ≡ from) ⊎ GaveDaySome (λ p. day_seen [] p.ahead) parts.now result }
 {
     let mut first = from;
     let mut index = 0;
@@ -220,8 +221,8 @@ fn first_of_all<A: Lazy + Drop>(parts: &[LazyPart<A>], from: i64) -> i64
 // The lesser of a day and of what a part gave.
 fn lesser(day: i64, ahead: Option<OccupiedDay>) -> i64
     ensures bound { result ≤ℤ day }
-    ensures least { ForSome (seen [] ahead) (λ f. result ≤ℤ f.day) }
-    ensures one { (result ≡ day) ⊎ GaveDay (seen [] ahead) result }
+    ensures least { ForSome (day_seen [] ahead) (λ f. result ≤ℤ f.day) }
+    ensures one { (result ≡ day) ⊎ GaveDay (day_seen [] ahead) result }
 {
     match ahead {
         None => day,

@@ -7,7 +7,7 @@ ghost use Rattle.rr_model.proofs.TreeLemmas.{IsOfOneKind-prop};
 ghost use Rattle.rr_model.specs.Sets.Tree.{IsOfOneKind, union};
 ghost use Rattle.rr_shapes.specs.Tables.{Extends};
 ghost use Rattle.rr_lazy.specs.Next.{IsUnasked, KnowsIfBoth};
-ghost use Rattle.rr_lazy.specs.Ahead.{IsFirstOfBoth, seen};
+ghost use Rattle.rr_lazy.specs.Ahead.{IsFirstOfBoth, day_seen};
 
 use crate::ahead::{LazyPart, fill, forget, on_day};
 use crate::position::position_past;
@@ -116,7 +116,7 @@ impl<A: Lazy + Drop, B: Lazy + Drop> Lazy for Union<A, B> {
 
 // The lesser of the days that two parts gave, where it is not after `to`.
 fn first_of_both(a: Option<OccupiedDay>, b: Option<OccupiedDay>, to: i64) -> Option<i64>
-    ensures { (sets : List (List ℕ)) → IsFirstOfBoth (seen sets a) (seen sets b) to result }
+    ensures { (sets : List (List ℕ)) → IsFirstOfBoth (day_seen sets a) (day_seen sets b) to result }
 {
     let first = match (a, b) {
         (None, None) => return None,

@@ -5,7 +5,7 @@ use Rattle.std.specs.Prelude.{IsTrue}
 use Rattle.rr_model.specs.Moment.{day_part, second_part, moment_at}
 use Rattle.rr_model.specs.Moment.Units.{unit_number, unit_seconds, is_whole_days}
 use Rattle.rr_model.specs.Rule.Validity.{takes_start}
-use Rattle.rr_model.specs.Rule.Filled.{wants_hour, wants_minute, wants_second, filled}
+use Rattle.rr_model.specs.Rule.Filled.{wants_hour, wants_minute, wants_second, filled_rule}
 use Rattle.rr_model.specs.Rule.Candidate.{allows, date_parts_hold, time_parts_hold, is_candidate}
 use Rattle.rr_model.specs.Rule.DaysAndTimes.{seconds_of, time_holds, CandidatesAreDaysAndTimes}
 use Rattle.rr_model.specs.declared.kind.Kind.{Kind}
@@ -45,7 +45,7 @@ fills_times Yearly e = (refl, refl, refl)
 
 -- the date parts take from the start its day alone
 pub date_parts_hold-day : (rule : Rule) (kind : Kind) (start d : ℤ)
-    → date_parts_hold (filled rule kind start) d ≡ date_parts_hold (filled rule Days (day_part kind start)) d
+    → date_parts_hold (filled_rule rule kind start) d ≡ date_parts_hold (filled_rule rule Days (day_part kind start)) d
 date_parts_hold-day rule Days start d = refl
 date_parts_hold-day rule Moments start d = refl
 
@@ -65,9 +65,10 @@ day_at Days d s low = refl
 day_at Moments d s low = day_part-moment_at d s low
 
 time_at : (rule : Rule) (kind : Kind) (start d : ℤ) (s : ℕ) → s < seconds_of kind
-    → time_parts_hold (filled rule kind start) kind (moment_at kind d s) ≡ time_holds rule kind start s
+    → time_parts_hold (filled_rule rule kind start) kind (moment_at kind d s) ≡ time_holds rule kind start s
 time_at rule Days start d s low = refl
-time_at rule Moments start d s low = time_parts_hold-at (filled rule Moments start) d s low ∙ sym (time_parts_hold-at (filled rule Moments start) (pos 0) s low)
+time_at rule Moments start d s low = time_parts_hold-at (filled_rule rule Moments start) d s low
+    ∙ sym (time_parts_hold-at (filled_rule rule Moments start) (pos 0) s low)
 
 pub candidates_are_days_and_times : CandidatesAreDaysAndTimes
 unfolding is_candidate

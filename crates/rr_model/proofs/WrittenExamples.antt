@@ -27,7 +27,7 @@ use Rattle.rr_model.specs.Graph.Reading.{start_moment, event_of, bare_of, graph_
 use Rattle.rr_model.specs.Graph.Occurrences.{is_pattern_day, first_from, first_repeat_day}
 use Rattle.rr_model.specs.Graph.Counterpart.{rule_of_pattern, series_of_graph}
 use Rattle.rr_model.specs.Graph.Text.{form_text, day_text, index_text, graph_written}
-use Rattle.rr_model.specs.Text.Written.{basic_date_text, basic_time_text, basic_text, folded, freq_text, weekday_text, rule_text, calendar_written}
+use Rattle.rr_model.specs.Text.Written.{basic_date_text, basic_time_text, basic_text, folded_text, freq_text, weekday_text, rule_text, calendar_written}
 use Rattle.rr_model.specs.Vcal.Written.{family_text, vrule_text, vcal_written}
 use Rattle.rr_model.specs.declared.graph.Form.TheVariants.{Weekly, AbsoluteMonthly, RelativeMonthly}
 use Rattle.rr_model.specs.declared.graph.GraphEvent.{GraphEvent}
@@ -38,12 +38,12 @@ use Rattle.rr_model.specs.declared.item.Item.TheVariants.{Every, MonthDay, Place
 use Rattle.rr_model.specs.declared.vcal.VSeries.{VSeries}
 
 foldings :
-    (folded (codes "short") ≡ codes "short")
-    × (folded (codes "0123456789012345678901234567890123456789012345678901234567890123456789012345678")
+    (folded_text (codes "short") ≡ codes "short")
+    × (folded_text (codes "0123456789012345678901234567890123456789012345678901234567890123456789012345678")
     ≡ codes "012345678901234567890123456789012345678901234567890123456789012345678901234\r\n 5678")
-    × (folded (codes "012345678901234567890123456789012345678901234567890123456789012345678901234")
+    × (folded_text (codes "012345678901234567890123456789012345678901234567890123456789012345678901234")
     ≡ codes "012345678901234567890123456789012345678901234567890123456789012345678901234")
-unfolding folded
+unfolding folded_text
 foldings = (refl, refl, refl)
 
 abbrev march : VSeries
@@ -100,7 +100,7 @@ calendars :
     × (calendar_written (record { kind = Days; start = pos 0; start_counts = false; rules = []; excluded = []; plus = []; minus = [] })
     ≡ codes "DTSTART;VALUE=DATE:19700101\r\nEXDATE;VALUE=DATE:19700101\r\n")
 unfolding digits first_day_of_year days_of_months year_of days_into_year months_over month_of day_of_month weekday_of week_index is_pattern_day first_from
-    first_repeat_day rule_of_pattern series_of_graph basic_date_text basic_time_text basic_text folded freq_text weekday_text rule_text calendar_written
+    first_repeat_day rule_of_pattern series_of_graph basic_date_text basic_time_text basic_text folded_text freq_text weekday_text rule_text calendar_written
 calendars = (refl, refl, refl, refl)
 
 graphs :
@@ -146,7 +146,7 @@ read_back :
     ≡ Ok (record { kind = Days; start = pos 0; start_counts = true; rules = []; excluded = []; plus = []; minus = pos 0 ∷ [] }))
     × (reads_vcal None (vcal_written march) ≡ Ok march)
 unfolding digits first_day_of_year days_of_months year_of days_into_year months_over month_of day_of_month day_of_year weekday_of week_index is_pattern_day
-    first_from first_repeat_day rule_of_pattern series_of_graph basic_date_text basic_time_text basic_text folded freq_text weekday_text rule_text
+    first_from first_repeat_day rule_of_pattern series_of_graph basic_date_text basic_time_text basic_text folded_text freq_text weekday_text rule_text
     calendar_written family_text vrule_text vcal_written physical_lines unfolded_lines value_of_line line_kind left_by event_scan stated_rule rule_beside
     calendar_text head_of parts_of_head with_word stated_vrule vrule_beside reads_vcal day_number is_digits number_at basic basic_date basic_time
     basic_moment freq_named weekday_named number_up_to number_within numbers_of day_item_within day_items_of part_named name_of with_part parts_of rule_of

@@ -9,6 +9,14 @@ days_before_1970 = 719_162
 abbrev pub first_day_of_all : ℤ
 first_day_of_all = neg_ℤ (pos days_before_1970)
 
+-- the earliest day that a call takes, -MAX_DAY
+abbrev pub earliest_taken : ℤ
+earliest_taken = neg_ℤ (pos 3_000_000_000_000)
+
+-- the latest day that a call takes, MAX_DAY
+abbrev pub latest_taken : ℤ
+latest_taken = pos 3_000_000_000_000
+
 -- the earliest day up to which a walk is asked, 1,000 days after -MAX_DAY: days beside it and their moments don't overflow
 abbrev pub earliest_day : ℤ
 earliest_day = neg_ℤ (pos 2_999_999_999_000)

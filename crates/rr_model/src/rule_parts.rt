@@ -1,6 +1,6 @@
 // The text of a rule, part by part, before the rule is complete.
 ghost use Rattle.std.specs.Prelude.{◌≡◌};
-ghost use Rattle.rr_model.specs.Text.RuleValues.{unsigned, signed, seconds};
+ghost use Rattle.rr_model.specs.Text.RuleValues.{unsigned_bounds, signed_bounds, second_bounds};
 
 use crate::{DayItems, Freq, Numbers, Stamp};
 
@@ -53,7 +53,7 @@ pub struct NumberBounds {
 impl NumberBounds {
     /// Numbers without a sign, from `least` up to `most`.
     pub fn unsigned(least: u16, most: u16) -> Self
-        ensures { result ≡ unsigned least most }
+        ensures { result ≡ unsigned_bounds least most }
     {
         NumberBounds {
             signed: false,
@@ -65,7 +65,7 @@ impl NumberBounds {
 
     /// Numbers with or without a sign, from 1 up to `most` whatever their sign.
     pub fn signed(most: u16) -> Self
-        ensures { result ≡ signed most }
+        ensures { result ≡ signed_bounds most }
     {
         NumberBounds {
             signed: true,
@@ -77,7 +77,7 @@ impl NumberBounds {
 
     /// Seconds of a minute, 0 to 59, where 60 has a refusal of its own.
     pub fn seconds() -> Self
-        ensures { result ≡ seconds }
+        ensures { result ≡ second_bounds }
     {
         NumberBounds {
             signed: false,

@@ -1,5 +1,6 @@
 -- Occurrences that last, and the seconds in which occurrences of two sets run.
 use Rattle.std.specs.Prelude.{⊤, ◌≡◌, ◌≤◌, ℕ, ℤ, pos, ◌+ℤ◌, ◌≤ℤ◌, ◌<ℤ◌}
+use Rattle.rr_model.specs.Bounds.{latest_taken}
 use Rattle.rr_model.specs.Whole.{floor_div}
 use Rattle.rr_model.specs.Moment.{Occurrences, day_part, instant_of}
 use Rattle.rr_model.specs.Sets.Sketch.{StandsIn}
@@ -55,7 +56,7 @@ occurrence_at Moments second = second
 -- the second of a no lies on a day up to the greatest one
 abbrev pub NamesUpToMaxDay : Clash → Type 0
 NamesUpToMaxDay Yes = ⊤
-NamesUpToMaxDay (No at a b) = day_part Moments at ≤ℤ pos 3_000_000_000_000
+NamesUpToMaxDay (No at a b) = day_part Moments at ≤ℤ latest_taken
 
 -- Two sets, each with a duration, have at most one verdict of a clash.
 abbrev pub ClashIsOne : Type 0

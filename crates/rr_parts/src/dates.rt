@@ -1,7 +1,7 @@
 // The date parts of a rule, as tests of one day (RFC 5545, section 3.3.10).
 ghost use Rattle.std.specs.Prelude.{◌≡◌};
 ghost use Rattle.rr_model.specs.Rule.Candidate.{by_day_holds, by_month_day_holds, by_month_holds, by_week_no_holds, by_year_day_holds, counts_in_year, date_parts_hold};
-ghost use Rattle.rr_model.specs.Rule.Filled.{filled};
+ghost use Rattle.rr_model.specs.Rule.Filled.{filled_rule};
 ghost use Rattle.rr_model.specs.declared.kind.Kind.TheVariants.{Days};
 
 use crate::filled::{wants_day, wants_month, wants_month_day};
@@ -12,7 +12,7 @@ use rr_model::{Freq, Rule};
 
 /// Whether each date part of the rule, filled from the day of its start, holds of a day (RFC 5545, section 3.3.10).
 pub fn date_parts_hold(rule: &Rule, start: &Day, day: &Day) -> bool
-    ensures { result ≡ date_parts_hold (filled rule.now Days start.now.number) day.now.number }
+    ensures { result ≡ date_parts_hold (filled_rule rule.now Days start.now.number) day.now.number }
 {
     by_month_holds(rule, start, day)
         && by_week_no_holds(rule, day)
@@ -23,7 +23,7 @@ pub fn date_parts_hold(rule: &Rule, start: &Day, day: &Day) -> bool
 
 // Whether the day lies in a month of BYMONTH.
 fn by_month_holds(rule: &Rule, start: &Day, day: &Day) -> bool
-    ensures { result ≡ by_month_holds (filled rule.now Days start.now.number) day.now.number }
+    ensures { result ≡ by_month_holds (filled_rule rule.now Days start.now.number) day.now.number }
 {
     allows_filled(&rule.by_month, wants_month(rule), start.month, day.month)
 }
@@ -52,7 +52,8 @@ fn by_year_day_holds(rule: &Rule, day: &Day) -> bool
 
 // Whether BYMONTHDAY lists the day's number in its month.
 fn by_month_day_holds(rule: &Rule, start: &Day, day: &Day) -> bool
-    ensures { result ≡ by_month_day_holds (filled rule.now Days start.now.number) day.now.number }
+    ensures { result ≡ by_month_day_holds
+        (filled_rule rule.now Days start.now.number) day.now.number }
 {
     allows_place_filled(
         &rule.by_month_day,
@@ -65,7 +66,7 @@ fn by_month_day_holds(rule: &Rule, start: &Day, day: &Day) -> bool
 
 // Whether BYDAY lists the day's weekday, with its ordinal where that is asked.
 fn by_day_holds(rule: &Rule, start: &Day, day: &Day) -> bool
-    ensures { result ≡ by_day_holds (filled rule.now Days start.now.number) day.now.number }
+    ensures { result ≡ by_day_holds (filled_rule rule.now Days start.now.number) day.now.number }
 {
     if rule.by_day.is_empty() {
         return !wants_day(rule) || start.weekday == day.weekday;

@@ -16,4 +16,4 @@ pub use moment::Moment;
 pub use numbers::{allows, allows_filled, allows_signed, lists_number, number_from_back};
 pub use ordinals::is_ordinal_of_day;
 pub use times::{Time, time_of, time_parts_hold};
-pub use units::{fits, interval_holds, seconds_of_unit, unit_number};
+pub use units::{interval_holds, seconds_of_unit, unit_fits, unit_number};

@@ -1,7 +1,7 @@
 // The time parts of a rule, as tests of one moment (RFC 5545, section 3.3.10).
 ghost use Rattle.std.specs.Prelude.{◌≡◌};
 ghost use Rattle.rr_model.specs.Rule.Candidate.{time_parts_hold};
-ghost use Rattle.rr_model.specs.Rule.Filled.{filled, hour_of, minute_of, second_of};
+ghost use Rattle.rr_model.specs.Rule.Filled.{filled_rule, hour_of, minute_of, second_of};
 ghost use Rattle.rr_model.specs.declared.kind.Kind.TheVariants.{Moments};
 ghost use Rattle.rr_parts.specs.Times.{time_allowed};
 
@@ -22,7 +22,7 @@ pub struct Time {
 /// time, and they hold of it.
 pub fn time_parts_hold(rule: &Rule, start: &Moment, moment: &Moment) -> bool
     requires kind { start.now.kind ≡ moment.now.kind }
-    ensures { result ≡ time_parts_hold (filled rule.now start.now.kind start.now.at)
+    ensures { result ≡ time_parts_hold (filled_rule rule.now start.now.kind start.now.at)
         moment.now.kind moment.now.at }
 {
     match moment.kind {

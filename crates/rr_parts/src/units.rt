@@ -39,7 +39,7 @@ pub fn unit_number(rule: &Rule, moment: &Moment) -> i64
 
 /// Whether a unit of a rule, DAILY or coarser, is a whole number of intervals from that of the start's day
 /// (RFC 5545, section 3.3.10, INTERVAL).
-pub fn fits(rule: &Rule, start: &Day, unit: i64) -> bool
+pub fn unit_fits(rule: &Rule, start: &Day, unit: i64) -> bool
     requires freq { IsTrue (is_whole_days rule.now.freq) }
     requires interval { 1 ≤ rule.now.interval }
     ensures { result ≡ divides rule.now.interval (unit -ℤ unit_of rule.now Days start.now.number) }

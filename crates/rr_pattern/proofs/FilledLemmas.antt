@@ -1,7 +1,7 @@
 -- A rule whose parts name its days takes no date part from the start.
 use Rattle.std.proofs.Common.{◌≡◌, ℕ, Bool, true, not, ◌&&◌, List, [], ◌∷◌, ℤ, refl}
 use Rattle.rr_model.specs.Rule.Validity.{is_absent}
-use Rattle.rr_model.specs.Rule.Filled.{filled}
+use Rattle.rr_model.specs.Rule.Filled.{filled_rule}
 use Rattle.rr_model.specs.Rule.Candidate.{date_parts_hold}
 use Rattle.rr_model.specs.declared.kind.Kind.TheVariants.{Days}
 use Rattle.rr_model.specs.declared.rule.DayItem.{DayItem}
@@ -37,7 +37,7 @@ names_days freq year_days month_days days = true
 
 module _ (interval : ℕ) (months positions : List ℤ) (w : ℕ) (end : End) (start d : ℤ) where
   pub filled_same : (freq : Freq) (ys ms : List ℤ) (ds : List DayItem) → names_days freq ys ms ds ≡ true
-      → date_parts_hold (filled (rule_of freq interval months ys ms ds positions w end) Days start) d
+      → date_parts_hold (filled_rule (rule_of freq interval months ys ms ds positions w end) Days start) d
       ≡ date_parts_hold (rule_of freq interval months ys ms ds positions w end) d
   filled_same Secondly ys ms ds e = refl
   filled_same Minutely ys ms ds e = refl

@@ -5,7 +5,7 @@ use Rattle.std.proofs.lemmas.Int.{ints}
 use Rattle.std.proofs.lemmas.Bool.Decides.{nat_tests}
 use Rattle.rr_model.specs.Moment.{day_part, second_part}
 use Rattle.rr_model.specs.Moment.Units.{is_whole_days}
-use Rattle.rr_model.specs.Rule.Filled.{filled}
+use Rattle.rr_model.specs.Rule.Filled.{filled_rule}
 use Rattle.rr_model.specs.Rule.Candidate.{date_parts_hold, time_parts_hold, interval_holds, is_candidate}
 use Rattle.rr_model.specs.declared.kind.Kind.{Kind}
 use Rattle.rr_model.specs.declared.kind.Kind.TheVariants.{Days, Moments}
@@ -27,7 +27,7 @@ one_time : (a b : ℕ)
 one_time a b = grind (arith, ints, nat_tests)
 
 time_is_start : (rule : Rule) (kind : Kind) (start t : ℤ) → IsDayRule rule
-    → time_parts_hold (filled rule kind start) kind t ≡ (second_part kind t == second_part kind start)
+    → time_parts_hold (filled_rule rule kind start) kind t ≡ (second_part kind t == second_part kind start)
 time_is_start rule Days start t r = refl
 time_is_start rule Moments start t r =
     let w = fills_times rule.freq r.coarse in
@@ -53,4 +53,4 @@ candidate_is_day rule kind start t r =
       time_is_start rule kind start t r,
     )
     (and_last (interval_holds rule Days (day_part kind start) (day_part kind t))
-    (date_parts_hold (filled rule Days (day_part kind start)) (day_part kind t)) (second_part kind t == second_part kind start))
+    (date_parts_hold (filled_rule rule Days (day_part kind start)) (day_part kind t)) (second_part kind t == second_part kind start))

@@ -7,7 +7,7 @@ use Rattle.std.proofs.lemmas.Int.{ints, by_lt_z}
 use Rattle.std.proofs.lemmas.List.{append-nil}
 use Rattle.std.proofs.lemmas.Option.{get_or_from_slice_get}
 use Rattle.std.proofs.Math.Nat.{le_trans, mul-le-mul_left, pow-suc, pow-le-pow_right}
-use Rattle.rr_model.specs.Sets.Occupied.{occupied, shape_if_some}
+use Rattle.rr_model.specs.Sets.Occupied.{day_shapes, shape_if_some}
 use Rattle.rr_model.specs.Sets.Sketch.{HasRisingDays, IsTimeSet, IsValidSketch, times_in, times_on}
 use Rattle.rr_model.specs.declared.sketch.DayShape.{DayShape}
 use Rattle.rr_model.specs.declared.sketch.Sketch.{Sketch}
@@ -15,7 +15,7 @@ use Rattle.rr_word.proofs.OccupiedLemmas.{occupied_has, occupied_rises, occupied
 use Rattle.rr_word.proofs.OneLeastLemmas.{before_part, first_period}
 use Rattle.rr_word.proofs.ShapeLemmas.{shapes_only, times_in-early, times_in-late}
 use Rattle.rr_sums.specs.declared.Entry.{Entry}
-use Rattle.rr_rank.specs.Counts.{IsBegin, IsDayCounted, IsDayOfNumber, IsRanked, count_on, days_before, occupied_days, sums_of}
+use Rattle.rr_rank.specs.Counts.{IsBegin, IsDayCounted, IsDayOfNumber, IsRanked, count_on, days_before, occupied_count, sums_of}
 use Rattle.rr_rank.specs.Rank.{AreFewSteps, HasBinaryDigits}
 use Rattle.rr_rank.specs.Search.{IsSortedBy, entry_at, is_below}
 use Rattle.rr_rank.specs.declared.search.Key.TheVariants.{Day, Before}
@@ -24,62 +24,62 @@ use Rattle.rr_rank.proofs.SumsLemmas.{AreSums, are_sums, many_sums}
 
 -- ---- how many entries
 
-occupied-add : (s : Sketch) (q : ℤ) (a b : ℕ) → occupied s q (a + b) ≡ occupied s q a ++ occupied s (q +ℤ pos a) b
-unfolding occupied
-occupied-add s q a zero = let e : a + 0 ≡ a = omega arith in ap (occupied s q) e ∙ sym (append-nil (occupied s q a))
+occupied-add : (s : Sketch) (q : ℤ) (a b : ℕ) → day_shapes s q (a + b) ≡ day_shapes s q a ++ day_shapes s (q +ℤ pos a) b
+unfolding day_shapes
+occupied-add s q a zero = let e : a + 0 ≡ a = omega arith in ap (day_shapes s q) e ∙ sym (append-nil (day_shapes s q a))
 occupied-add s q a (suc b) =
     let e : a + suc b ≡ suc (a + b) = omega arith in
     let day : q +ℤ pos (a + b) ≡ (q +ℤ pos a) +ℤ pos b = omega (arith, ints) in
     let last : shape_if_some (q +ℤ pos (a + b)) (times_on s (q +ℤ pos (a + b)))
     ≡ shape_if_some ((q +ℤ pos a) +ℤ pos b) (times_on s ((q +ℤ pos a) +ℤ pos b)) = ap (λ d. shape_if_some d (times_on s d)) day in
-    ap (occupied s q) e ∙ ap (λ (l : List DayShape). l ++ shape_if_some (q +ℤ pos (a + b)) (times_on s (q +ℤ pos (a + b)))) (occupied-add s q a b)
-    ∙ ap (λ (l : List DayShape). (occupied s q a ++ occupied s (q +ℤ pos a) b) ++ l) last
-    ∙ append_assoc (occupied s q a) (occupied s (q +ℤ pos a) b) (shape_if_some ((q +ℤ pos a) +ℤ pos b) (times_on s ((q +ℤ pos a) +ℤ pos b)))
+    ap (day_shapes s q) e ∙ ap (λ (l : List DayShape). l ++ shape_if_some (q +ℤ pos (a + b)) (times_on s (q +ℤ pos (a + b)))) (occupied-add s q a b)
+    ∙ ap (λ (l : List DayShape). (day_shapes s q a ++ day_shapes s (q +ℤ pos a) b) ++ l) last
+    ∙ append_assoc (day_shapes s q a) (day_shapes s (q +ℤ pos a) b) (shape_if_some ((q +ℤ pos a) +ℤ pos b) (times_on s ((q +ℤ pos a) +ℤ pos b)))
 
 module _ (s : Sketch) (v : IsValidSketch s) (q : ℤ) (begin : IsBegin s q) where
   settled_is : s.settled ≡ q +ℤ pos (days_before s q)
   settled_is = let l = begin.not_after in omega (arith, ints)
 
-  before_is : s.before ≡ occupied s q (days_before s q)
+  before_is : s.before ≡ day_shapes s q (days_before s q)
   before_is =
       let n = days_before s q in
       let e = settled_is in
       let early = begin.not_after in
-      shapes_only s.kind s.kind v.before.0 s.settled q (q +ℤ pos n) s.before (occupied s q n) v.before.1 (occupied_rises s v q n) v.before_times
+      shapes_only s.kind s.kind v.before.0 s.settled q (q +ℤ pos n) s.before (day_shapes s q n) v.before.1 (occupied_rises s v q n) v.before_times
       (occupied_sets s v q n) (λ d.
-      let P : Type 0 = times_in s.before d ≡ times_in (occupied s q n) d in
+      let P : Type 0 = times_in s.before d ≡ times_in (day_shapes s q n) d in
       by_lt_z {P = P} d q
-      (λ l. sym (before_part s d (omega (arith, ints))) ∙ begin.early d l ∙ sym (times_in-early q (q +ℤ pos n) (occupied s q n) d (occupied_rises s v q n) l))
+      (λ l. sym (before_part s d (omega (arith, ints))) ∙ begin.early d l ∙ sym (times_in-early q (q +ℤ pos n) (day_shapes s q n) d (occupied_rises s v q n) l))
       (λ l. by_lt_z {P = P} d s.settled (λ m. sym (before_part s d m) ∙ sym (occupied_has s v q n d l (omega (arith, ints))))
       (λ m. times_in-late v.before.0 s.settled s.before d v.before.1 m
-      ∙ sym (times_in-late q (q +ℤ pos n) (occupied s q n) d (occupied_rises s v q n) (omega (arith, ints))))))
+      ∙ sym (times_in-late q (q +ℤ pos n) (day_shapes s q n) d (occupied_rises s v q n) (omega (arith, ints))))))
 
-  cycle_is : s.cycle ≡ occupied s (q +ℤ pos (days_before s q)) s.period
+  cycle_is : s.cycle ≡ day_shapes s (q +ℤ pos (days_before s q)) s.period
   cycle_is =
       let r = q +ℤ pos (days_before s q) in
       let p = s.period in
       let e = settled_is in
-      shapes_only s.kind s.kind s.settled (s.settled +ℤ pos p) r (r +ℤ pos p) s.cycle (occupied s r p) v.cycle (occupied_rises s v r p) v.cycle_times
+      shapes_only s.kind s.kind s.settled (s.settled +ℤ pos p) r (r +ℤ pos p) s.cycle (day_shapes s r p) v.cycle (occupied_rises s v r p) v.cycle_times
       (occupied_sets s v r p) (λ d.
-      let P : Type 0 = times_in s.cycle d ≡ times_in (occupied s r p) d in
+      let P : Type 0 = times_in s.cycle d ≡ times_in (day_shapes s r p) d in
       by_lt_z {P = P} d s.settled
       (λ l. times_in-early s.settled (s.settled +ℤ pos p) s.cycle d v.cycle l
-      ∙ sym (times_in-early r (r +ℤ pos p) (occupied s r p) d (occupied_rises s v r p) (omega (arith, ints))))
+      ∙ sym (times_in-early r (r +ℤ pos p) (day_shapes s r p) d (occupied_rises s v r p) (omega (arith, ints))))
       (λ l. by_lt_z {P = P} d (s.settled +ℤ pos p)
       (λ m. sym (first_period s d l m) ∙ sym (occupied_has s v r p d (omega (arith, ints)) (omega (arith, ints))))
       (λ m. times_in-late s.settled (s.settled +ℤ pos p) s.cycle d v.cycle m
-      ∙ sym (times_in-late r (r +ℤ pos p) (occupied s r p) d (occupied_rises s v r p) (omega (arith, ints))))))
+      ∙ sym (times_in-late r (r +ℤ pos p) (day_shapes s r p) d (occupied_rises s v r p) (omega (arith, ints))))))
 
-  many_occupied : length (occupied s q (days_before s q + s.period)) ≡ occupied_days s
+  many_occupied : length (day_shapes s q (days_before s q + s.period)) ≡ occupied_count s
   many_occupied =
       let a = ap (λ (l : List DayShape). length l) before_is in
       let b = ap (λ (l : List DayShape). length l) cycle_is in
       let c = ap (λ (l : List DayShape). length l) (occupied-add s q (days_before s q) s.period) in
-      let d = length-append (occupied s q (days_before s q)) (occupied s (q +ℤ pos (days_before s q)) s.period) in
+      let d = length-append (day_shapes s q (days_before s q)) (day_shapes s (q +ℤ pos (days_before s q)) s.period) in
       omega (arith, a, b, c, d)
 
   module _ (head total : ℕ) (entries : List Entry) (kept : IsRanked s q head total entries) where
-    pub many_kept : length entries ≡ occupied_days s + 1
+    pub many_kept : length entries ≡ occupied_count s + 1
     many_kept =
         let a = ap (λ (l : List Entry). length l) kept.are_sums in
         omega (arith, a, many_sums s q (days_before s q + s.period), many_occupied)

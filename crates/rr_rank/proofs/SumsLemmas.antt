@@ -6,7 +6,7 @@ use Rattle.std.proofs.lemmas.Int.{ints}
 use Rattle.std.proofs.lemmas.List.{append-nil, get_or_append_left}
 use Rattle.std.proofs.Math.Seq.{get_or-append_seam}
 use Rattle.rr_model.specs.Sets.Sketch.{times_on}
-use Rattle.rr_model.specs.Sets.Occupied.{occupied, shape_if_some}
+use Rattle.rr_model.specs.Sets.Occupied.{day_shapes, shape_if_some}
 use Rattle.rr_model.specs.declared.sketch.DayShape.{DayShape}
 use Rattle.rr_model.specs.declared.sketch.Sketch.{Sketch}
 use Rattle.rr_sums.specs.declared.Entry.{Entry}
@@ -147,10 +147,10 @@ module _ (s : Sketch) (q : ℤ) where
         length-append shapes (record { day = q +ℤ pos n; times = x ∷ xs } ∷ []),
       )
 
-  pub many_entries : (n : ℕ) → length (entries_of s q n) ≡ length (occupied s q n)
-  unfolding entries_of occupied
+  pub many_entries : (n : ℕ) → length (entries_of s q n) ≡ length (day_shapes s q n)
+  unfolding entries_of day_shapes
   many_entries zero = refl
-  many_entries (suc n) = as_many n (times_on s (q +ℤ pos n)) (entries_of s q n) (occupied s q n) (many_entries n)
+  many_entries (suc n) = as_many n (times_on s (q +ℤ pos n)) (entries_of s q n) (day_shapes s q n) (many_entries n)
 
 -- entries for the occupied ones of the n days from q on, and one for the day after them
 pub record AreSums (s : Sketch) (q : ℤ) (n : ℕ) (entries : List Entry) : Type 0 where
@@ -176,6 +176,6 @@ are_sums s q n =
       );
     }
 
-pub many_sums : (s : Sketch) (q : ℤ) (n : ℕ) → length (sums_of s q n) ≡ length (occupied s q n) + 1
+pub many_sums : (s : Sketch) (q : ℤ) (n : ℕ) → length (sums_of s q n) ≡ length (day_shapes s q n) + 1
 many_sums s q n =
     omega (arith, one_more (entries_of s q n) (record { day = q +ℤ pos n; before = count_on s q n }), many_entries s q n)

@@ -42,8 +42,8 @@ abbrev pub counted_days : Sketch → ℤ → ℕ
 counted_days s q = days_before s q + s.period
 
 -- how many days before a period past the settled day are occupied
-abbrev pub occupied_days : Sketch → ℕ
-occupied_days s = length s.before + length s.cycle
+abbrev pub occupied_count : Sketch → ℕ
+occupied_count s = length s.before + length s.cycle
 
 -- q lies not after the settled day, and no day before it is occupied
 pub record IsBegin (s : Sketch) (q : ℤ) : Type 0 where

@@ -1,5 +1,6 @@
 -- Occurrences by their number: which is the n-th, and how many are not after a moment.
-use Rattle.std.specs.Prelude.{◌≡◌, ℕ, ◌+◌, ◌-◌, ◌^◌, ◌<◌, ◌≤◌, List, length, ℤ, pos, ◌≤ℤ◌, ◌<ℤ◌, int_lt}
+use Rattle.std.specs.Prelude.{◌≡◌, ℕ, ◌+◌, ◌-◌, ◌^◌, ◌<◌, ◌≤◌, List, length, ℤ, ◌≤ℤ◌, ◌<ℤ◌, int_lt}
+use Rattle.rr_model.specs.Bounds.{latest_taken}
 use Rattle.rr_model.specs.Moment.{Before, Occurrences, day_part}
 use Rattle.rr_model.specs.Rising.Sets.{IsSetOf}
 use Rattle.rr_model.specs.Sets.Sketch.{StandsIn}
@@ -42,11 +43,11 @@ pub record IsPast (P : Occurrences) (n : ℕ) : Type 0 where
   pub kind : Kind
   pub at : ℤ
   pub nth : IsNth P n kind at
-  pub past : pos 3_000_000_000_000 <ℤ day_part kind at
+  pub past : latest_taken <ℤ day_part kind at
 
 -- the n-th occurrence, that there are fewer, or that its day is past the greatest
 abbrev pub IsNthOf : Occurrences → ℕ → Nth → Type 0
-IsNthOf P n (At k t) = IsNth P n k t × (day_part k t ≤ℤ pos 3_000_000_000_000)
+IsNthOf P n (At k t) = IsNth P n k t × (day_part k t ≤ℤ latest_taken)
 IsNthOf P n Fewer = HasFewer P n
 IsNthOf P n Past = IsPast P n
 

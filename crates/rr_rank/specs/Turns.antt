@@ -1,5 +1,6 @@
 -- Counts and days, brought back to the first period past the settled day.
 use Rattle.std.specs.Prelude.{◌≡◌, ℕ, ◌+◌, ◌-◌, ◌*◌, ◌<◌, ◌≤◌, Option, None, Some, ℤ, pos, ◌+ℤ◌, ◌≤ℤ◌, ◌<ℤ◌}
+use Rattle.rr_model.specs.Bounds.{latest_taken}
 use Rattle.rr_model.specs.Moment.{second_part}
 use Rattle.rr_model.specs.declared.kind.Kind.{Kind}
 use Rattle.rr_model.specs.declared.kind.Kind.TheVariants.{Days, Moments}
@@ -19,8 +20,8 @@ pub record IsTurnedDay (settled : ℤ) (period : ℕ) (day rest : ℤ) (turns : 
 
 -- the day `turns` periods later, none past the greatest day
 abbrev pub IsDayLater : ℤ → ℕ → ℕ → Option ℤ → Type 0
-IsDayLater day turns period None = pos 3_000_000_000_000 <ℤ (day +ℤ pos (turns * period))
-IsDayLater day turns period (Some later) = (later ≡ day +ℤ pos (turns * period)) × (later ≤ℤ pos 3_000_000_000_000)
+IsDayLater day turns period None = latest_taken <ℤ (day +ℤ pos (turns * period))
+IsDayLater day turns period (Some later) = (later ≡ day +ℤ pos (turns * period)) × (later ≤ℤ latest_taken)
 
 -- below which second an occurrence of the first kind is not after a moment of the second, on its day
 abbrev pub seconds_up_to : Kind → Kind → ℤ → ℕ

@@ -1,7 +1,7 @@
 // Days, each read with how many occurrences come before it.
 ghost use Rattle.std.specs.Prelude.{◌≡◌, ◌-◌, ◌+◌, ◌<◌, ◌≤◌, pos, ◌+ℤ◌, ◌≤ℤ◌, ◌<ℤ◌};
 ghost use Rattle.rr_model.specs.Sets.Sketch.{IsNearDay};
-ghost use Rattle.rr_rank.specs.Counts.{IsDayCounted, IsDayOfNumber, IsRanked, counted_days, occupied_days};
+ghost use Rattle.rr_rank.specs.Counts.{IsDayCounted, IsDayOfNumber, IsRanked, counted_days, occupied_count};
 ghost use Rattle.rr_rank.specs.Rank.{AreFewSteps};
 
 use crate::search::{Key, first_index};
@@ -46,7 +46,7 @@ pub fn day_of_number<'a, A: DaySeq + Drop, L: Ledger>(
     requires most { number ≤ totals.total }
     ensures day { IsDayOfNumber (A.sketch seq.now) totals.from number
         result.day result.before result.seconds.now }
-    ensures steps { AreFewSteps (occupied_days (A.sketch seq.now)) (steps.new - steps.old) }
+    ensures steps { AreFewSteps (occupied_count (A.sketch seq.now)) (steps.new - steps.old) }
 {
     let index = first_index(sums, Key::Before(number), steps);
     let entry = sums.read(index - 1, steps);
@@ -72,7 +72,7 @@ pub fn day_counted<'a, A: DaySeq + Drop, L: Ledger>(
     ensures same { result.day ≡ day }
     ensures day { IsDayCounted (A.sketch seq.now) totals.from
         result.day result.before result.seconds.now }
-    ensures steps { AreFewSteps (occupied_days (A.sketch seq.now)) (steps.new - steps.old) }
+    ensures steps { AreFewSteps (occupied_count (A.sketch seq.now)) (steps.new - steps.old) }
 {
     let index = first_index(sums, Key::Day(day), steps);
     let entry = sums.read(index, steps);

@@ -3,7 +3,7 @@ ghost use Rattle.std.specs.Prelude.{◌≡◌, ◌-◌, ◌+◌, ◌*◌, ◌<�
 ghost use Rattle.rr_model.specs.Moment.Years.{IsInYears};
 ghost use Rattle.rr_model.specs.Rising.{Rises};
 ghost use Rattle.rr_model.specs.Sets.Sketch.{IsNearDay, StandsIn};
-ghost use Rattle.rr_rank.specs.Counts.{IsBegin, IsRanked, count_on, entries_of, occupied_days, with_day};
+ghost use Rattle.rr_rank.specs.Counts.{IsBegin, IsRanked, count_on, entries_of, occupied_count, with_day};
 ghost use Rattle.rr_model.specs.Moment.{day_part};
 ghost use Rattle.rr_rank.specs.Rank.{AreFewSteps, IsNthOf, IsRank};
 ghost use Rattle.rr_rank.specs.Turns.{IsTurnedCount};
@@ -76,7 +76,7 @@ impl<'a, A: DaySeq + Drop> Ranked<'a, A> {
         requires some { 1 ≤ n }
         requires most { n ≤ 1_125_899_906_842_624 }
         ensures nth { IsNthOf (StandsIn (A.sketch self.now)) n result }
-        ensures steps { AreFewSteps (occupied_days (A.sketch self.now)) (steps.new - steps.old) }
+        ensures steps { AreFewSteps (occupied_count (A.sketch self.now)) (steps.new - steps.old) }
     {
         match turned_count(n, self.totals.head, self.totals.total) {
             None => Nth::Fewer,
@@ -91,7 +91,7 @@ impl<'a, A: DaySeq + Drop> Ranked<'a, A> {
     pub fn rank<L: Ledger>(&self, kind: Kind, at: i64, steps: &mut Steps<L>) -> u64
         requires { IsInYears kind at }
         ensures rank { IsRank (StandsIn (A.sketch self.now)) kind at result }
-        ensures steps { AreFewSteps (occupied_days (A.sketch self.now)) (steps.new - steps.old) }
+        ensures steps { AreFewSteps (occupied_count (A.sketch self.now)) (steps.new - steps.old) }
     {
         if day_part(kind, at) < self.totals.from {
             return 0;
@@ -113,7 +113,7 @@ fn find_nth<A: DaySeq + Drop, L: Ledger>(
     requires near { IsNearDay totals.from }
     requires turned { IsTurnedCount totals.head totals.total n turned.number turned.turns }
     ensures nth { IsNthOf (StandsIn (A.sketch seq.now)) n result }
-    ensures steps { AreFewSteps (occupied_days (A.sketch seq.now)) (steps.new - steps.old) }
+    ensures steps { AreFewSteps (occupied_count (A.sketch seq.now)) (steps.new - steps.old) }
 {
     let read = day_of_number(seq, sums, totals, turned.number, steps);
     let second = read.seconds[(turned.number - 1 - read.before) as usize];
@@ -141,7 +141,7 @@ fn count_up_to<A: DaySeq + Drop, L: Ledger>(
     requires low { totals.from ≤ℤ day_part kind at }
     requires years { IsInYears kind at }
     ensures rank { IsRank (StandsIn (A.sketch seq.now)) kind at result }
-    ensures steps { AreFewSteps (occupied_days (A.sketch seq.now)) (steps.new - steps.old) }
+    ensures steps { AreFewSteps (occupied_count (A.sketch seq.now)) (steps.new - steps.old) }
 {
     let turned = turned_day(day_part(kind, at), seq.settled(), seq.period());
     let read = day_counted(seq, sums, totals, turned.day, steps);

@@ -12,8 +12,8 @@ use Rattle.std.proofs.lemmas.List.{take-map, drop-map, length-map, map-append}
 use Rattle.rr_model.specs.Rule.Validity.{is_absent}
 use Rattle.rr_model.specs.Text.Calendars.{stated_rule, rule_beside, is_comma, rrule_language, calendar_scan, calendar_text}
 use Rattle.rr_model.specs.Text.Digits.{is_digit}
-use Rattle.rr_model.specs.Text.Event.{Components, Left, no_components, is_event, is_in_event, begun, ended, used_line, left, left_at, left_by, after_used}
-use Rattle.rr_model.specs.Text.Event.{scan_from, scanned, is_bare_text, event_scan}
+use Rattle.rr_model.specs.Text.Event.{Components, Left, no_components, is_event, is_in_event, after_begin, after_end, used_line, left_with, left_at, left_by, after_used}
+use Rattle.rr_model.specs.Text.Event.{scan_from, scan_of, is_bare_text, event_scan}
 use Rattle.rr_model.specs.Text.Lines.{feeds_next, physical_lines, begins_blank, continuation, onto_last, with_physical_line, with_physical_lines}
 use Rattle.rr_model.specs.Text.Lines.{unfolded_lines, without_mark}
 use Rattle.rr_model.specs.Text.Moments.{is_digits, basic_date, basic_time, is_letter_t, is_letter_z, utc_mark, basic_moment, basic}
@@ -259,58 +259,58 @@ is_in_event-lowered [] = refl
 is_in_event-lowered (name ∷ names) = same_name name (codes "VEVENT")
 
 begun-lowered : (components : Components) (name : List ℕ)
-    → begun (lowered_components components) (lowered name) ≡ (begun components name >>= λ after. Ok (lowered_components after))
+    → after_begin (lowered_components components) (lowered name) ≡ (after_begin components name >>= λ after. Ok (lowered_components after))
 begun-lowered components name = rw (same_name name (codes "VEVENT")) (by (is_event name && components.had_event) refl)
   where
     by : (b : Bool) → (is_event name && components.had_event) ≡ b
         → (if is_event name && components.had_event then Err SeveralEvents
         else Ok (record { open_names = lowered name ∷ map lowered components.open_names; had_event = is_event name || components.had_event }))
-        ≡ (begun components name >>= λ after. Ok (lowered_components after))
+        ≡ (after_begin components name >>= λ after. Ok (lowered_components after))
     by true e = rw e refl
     by false e = rw e refl
 
 ended-lowered : (number : ℕ) (components : Components) (names : List (List ℕ)) (name : List ℕ)
-    → ended number (lowered_components components) (map lowered names) (lowered name)
-    ≡ (ended number components names name >>= λ after. Ok (lowered_components after))
+    → after_end number (lowered_components components) (map lowered names) (lowered name)
+    ≡ (after_end number components names name >>= λ after. Ok (lowered_components after))
 ended-lowered number components [] name = refl
 ended-lowered number components (innermost ∷ outer) name = rw (same_names name innermost) (by (str_eq_ignore_ascii_case name innermost) refl)
   where
     by : (b : Bool) → str_eq_ignore_ascii_case name innermost ≡ b
         → (if str_eq_ignore_ascii_case name innermost then Ok (record { open_names = map lowered outer; had_event = components.had_event }) else Err
         (BadLine number))
-        ≡ (ended number components (innermost ∷ outer) name >>= λ after. Ok (lowered_components after))
+        ≡ (after_end number components (innermost ∷ outer) name >>= λ after. Ok (lowered_components after))
     by true e = rw e refl
     by false e = rw e refl
 
 -- what follows a step, and then its components in small letters
 left_after : (r : Result Components Refusal)
-    → ((r >>= λ after. Ok (lowered_components after)) >>= λ after. Ok (left after None))
-    ≡ ((r >>= λ after. Ok (left after None)) >>= λ step. Ok (lowered_left step))
+    → ((r >>= λ after. Ok (lowered_components after)) >>= λ after. Ok (left_with after None))
+    ≡ ((r >>= λ after. Ok (left_with after None)) >>= λ step. Ok (lowered_left step))
 left_after (Ok after) = refl
 left_after (Err refusal) = refl
 
 module _ (is_bare : Bool) (components : Components) (number : ℕ) where
   begin-lowered : (value : Option (List ℕ))
-      → (ok_or (option_map lowered value) (BadLine number) >>= λ name. begun (lowered_components components) name >>= λ after. Ok (left after None))
-      ≡ ((ok_or value (BadLine number) >>= λ name. begun components name >>= λ after. Ok (left after None)) >>= λ step. Ok (lowered_left step))
+      → (ok_or (option_map lowered value) (BadLine number) >>= λ name. after_begin (lowered_components components) name >>= λ after. Ok (left_with after None))
+      ≡ ((ok_or value (BadLine number) >>= λ name. after_begin components name >>= λ after. Ok (left_with after None)) >>= λ step. Ok (lowered_left step))
   begin-lowered None = refl
   begin-lowered (Some name) =
-      ap (λ (r : Result Components Refusal). r >>= λ after. Ok (left after None)) (begun-lowered components name) ∙ left_after (begun components name)
+      ap (λ (r : Result Components Refusal). r >>= λ after. Ok (left_with after None)) (begun-lowered components name) ∙ left_after (after_begin components name)
 
   end-lowered : (value : Option (List ℕ))
-      → (ok_or (option_map lowered value) (BadLine number) >>= λ name. ended number (lowered_components components) (map lowered components.open_names) name
-      >>= λ after. Ok (left after None))
-      ≡ ((ok_or value (BadLine number) >>= λ name. ended number components components.open_names name >>= λ after. Ok (left after None))
+      → (ok_or (option_map lowered value) (BadLine number) >>= λ name. after_end number (lowered_components components) (map lowered components.open_names) name
+      >>= λ after. Ok (left_with after None))
+      ≡ ((ok_or value (BadLine number) >>= λ name. after_end number components components.open_names name >>= λ after. Ok (left_with after None))
       >>= λ step. Ok (lowered_left step))
   end-lowered None = refl
   end-lowered (Some name) =
-      ap (λ (r : Result Components Refusal). r >>= λ after. Ok (left after None)) (ended-lowered number components components.open_names name)
-      ∙ left_after (ended number components components.open_names name)
+      ap (λ (r : Result Components Refusal). r >>= λ after. Ok (left_with after None)) (ended-lowered number components components.open_names name)
+      ∙ left_after (after_end number components components.open_names name)
 
   property-lowered : (name : LineName) (b : Bool) (value : Option (List ℕ))
       → (if b then (ok_or (option_map lowered value) (BadLine number)
-      >>= λ v. Ok (left (lowered_components components) (Some (used_line number name v)))) else Ok (left (lowered_components components) None))
-      ≡ ((if b then (ok_or value (BadLine number) >>= λ v. Ok (left components (Some (used_line number name v)))) else Ok (left components None))
+      >>= λ v. Ok (left_with (lowered_components components) (Some (used_line number name v)))) else Ok (left_with (lowered_components components) None))
+      ≡ ((if b then (ok_or value (BadLine number) >>= λ v. Ok (left_with components (Some (used_line number name v)))) else Ok (left_with components None))
       >>= λ step. Ok (lowered_left step))
   property-lowered name true None = refl
   property-lowered name true (Some v) = refl
@@ -345,10 +345,10 @@ scan_from-lowered (Ok step) f g same =
     ap (after_used (option_map lowered_used step.used)) (same step.components) ∙ after_used-lowered step.used (g step.components)
 
 scanned-lowered : (is_bare : Bool) (last : ℕ) (lines : List Line) (components : Components)
-    → scanned is_bare last (lowered_components components) (map lowered_line lines) ≡ lowered_scan (scanned is_bare last components lines)
+    → scan_of is_bare last (lowered_components components) (map lowered_line lines) ≡ lowered_scan (scan_of is_bare last components lines)
 scanned-lowered is_bare last [] components = rw (absent-map lowered components.open_names) refl
 scanned-lowered is_bare last (line ∷ lines) components =
-    ap (λ (r : Result Left Refusal). scan_from r (λ after. scanned is_bare last after (map lowered_line lines))) (left_by-lowered is_bare components line)
+    ap (λ (r : Result Left Refusal). scan_from r (λ after. scan_of is_bare last after (map lowered_line lines))) (left_by-lowered is_bare components line)
     ∙ scan_from-lowered (left_by is_bare components line) _ _ (scanned-lowered is_bare last lines)
 
 has_begin-lowered : (lines : List Line)
@@ -361,9 +361,9 @@ event_scan-lowered : (text : List ℕ) → event_scan false (lowered text) ≡ l
 unfolding event_scan
 event_scan-lowered text =
     let lines = unfolded_lines false text in
-    ap (λ (ls : List Line). scanned (is_bare_text ls) (length (physical_lines (lowered text))) no_components ls) (unfolded_lines-lowered text)
-    ∙ ap (λ b. scanned (not b) (length (physical_lines (lowered text))) no_components (map lowered_line lines)) (has_begin-lowered lines)
-    ∙ ap (λ n. scanned (is_bare_text lines) n no_components (map lowered_line lines))
+    ap (λ (ls : List Line). scan_of (is_bare_text ls) (length (physical_lines (lowered text))) no_components ls) (unfolded_lines-lowered text)
+    ∙ ap (λ b. scan_of (not b) (length (physical_lines (lowered text))) no_components (map lowered_line lines)) (has_begin-lowered lines)
+    ∙ ap (λ n. scan_of (is_bare_text lines) n no_components (map lowered_line lines))
     (ap length (physical_lines-lowered text) ∙ length-map (physical_lines text) lowered)
     ∙ scanned-lowered (is_bare_text lines) (length (physical_lines text)) lines no_components
 

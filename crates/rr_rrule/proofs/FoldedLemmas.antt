@@ -6,8 +6,8 @@ use Rattle.std.specs.List.{list_any}
 use Rattle.std.specs.Str.{bytes_eq, str_eq_ignore_ascii_case}
 use Rattle.rr_model.specs.Rule.Validity.{is_absent}
 use Rattle.rr_model.specs.Text.Calendars.{rule_beside, rrule_language, series_of_event, calendar_scan, calendar_text}
-use Rattle.rr_model.specs.Text.Event.{Components, Left, no_components, is_in_event, begun, ended, used_line, left, value_on, left_at, left_by, stop_at_end}
-use Rattle.rr_model.specs.Text.Event.{after_used, scan_from, scanned, is_bare_text, event_scan}
+use Rattle.rr_model.specs.Text.Event.{Components, Left, no_components, is_in_event, after_begin, after_end, used_line, left_with, value_on, left_at, left_by, stop_at_end}
+use Rattle.rr_model.specs.Text.Event.{after_used, scan_from, scan_of, is_bare_text, event_scan}
 use Rattle.rr_model.specs.Text.Lines.{physical_lines, unfolded_lines, without_mark}
 use Rattle.rr_model.specs.Text.Passes.{Beside, Event, nothing_read, nothing_beside, judged_line, first_pass, with_line, unless_stopped, passes}
 use Rattle.rr_model.specs.Text.RuleValues.{◌>>=◌}
@@ -40,7 +40,7 @@ abbrev renumbered_left : ℕ → Left → Left
 renumbered_left m step = record { components = step.components; used = option_map (renumbered m) step.used }
 
 module _ (is_bare : Bool) (components : Components) (n m : ℕ) where
-  ended-gives : (names : List (List ℕ)) (name : List ℕ) → Gives (ended n components names name) (ended m components names name)
+  ended-gives : (names : List (List ℕ)) (name : List ℕ) → Gives (after_end n components names name) (after_end m components names name)
   ended-gives [] name = gives-err _ _
   ended-gives (innermost ∷ outer) name = by (str_eq_ignore_ascii_case name innermost)
     where
@@ -50,41 +50,43 @@ module _ (is_bare : Bool) (components : Components) (n m : ℕ) where
       by false = gives-err _ _
 
   -- components after a line that is no used one
-  left_after-gives : (r s : Result Components Refusal) → Gives r s → (step : Left) → (r >>= λ after. Ok (left after None)) ≡ Ok step
-      → (s >>= λ after. Ok (left after None)) ≡ Ok (renumbered_left m step)
+  left_after-gives : (r s : Result Components Refusal) → Gives r s → (step : Left) → (r >>= λ after. Ok (left_with after None)) ≡ Ok step
+      → (s >>= λ after. Ok (left_with after None)) ≡ Ok (renumbered_left m step)
   left_after-gives r s same step h =
-      let after = and_then_ok r (λ (c : Components). Ok (left c None)) step h in
-      let is : left after.0 None ≡ step = cc in
-      ap (λ (t : Result Components Refusal). t >>= λ c. Ok (left c None)) (same after.0 after.1) ∙ ap Ok (ap (renumbered_left m) is)
+      let after = and_then_ok r (λ (c : Components). Ok (left_with c None)) step h in
+      let is : left_with after.0 None ≡ step = cc in
+      ap (λ (t : Result Components Refusal). t >>= λ c. Ok (left_with c None)) (same after.0 after.1) ∙ ap Ok (ap (renumbered_left m) is)
 
   left_at-renumbered : (kind : LineKind) (text : List ℕ) (step : Left) → left_at is_bare components n kind text ≡ Ok step
       → left_at is_bare components m kind text ≡ Ok (renumbered_left m step)
   left_at-renumbered Begin text step h =
-      let name = and_then_ok (value_on n text) (λ (t : List ℕ). begun components t >>= λ after. Ok (left after None)) step h in
-      ap (λ (r : Result (List ℕ) Refusal). r >>= λ t. begun components t >>= λ after. Ok (left after None)) (gives-ok_or (value_of_line text) _ _ name.0 name.1)
-      ∙ left_after-gives (begun components name.0) (begun components name.0) (gives-same _) step name.2
-  left_at-renumbered End text step h =
-      let name = and_then_ok (value_on n text) (λ (t : List ℕ). ended n components components.open_names t >>= λ after. Ok (left after None)) step h in
-      ap (λ (r : Result (List ℕ) Refusal). r >>= λ t. ended m components components.open_names t >>= λ after. Ok (left after None))
+      let name = and_then_ok (value_on n text) (λ (t : List ℕ). after_begin components t >>= λ after. Ok (left_with after None)) step h in
+      ap (λ (r : Result (List ℕ) Refusal). r >>= λ t. after_begin components t >>= λ after. Ok (left_with after None))
       (gives-ok_or (value_of_line text) _ _ name.0 name.1)
-      ∙ left_after-gives (ended n components components.open_names name.0) (ended m components components.open_names name.0)
+      ∙ left_after-gives (after_begin components name.0) (after_begin components name.0) (gives-same _) step name.2
+  left_at-renumbered End text step h =
+      let name = and_then_ok (value_on n text) (λ (t : List ℕ). after_end n components components.open_names t >>= λ after. Ok (left_with after None)) step h in
+      ap (λ (r : Result (List ℕ) Refusal). r >>= λ t. after_end m components components.open_names t >>= λ after. Ok (left_with after None))
+      (gives-ok_or (value_of_line text) _ _ name.0 name.1)
+      ∙ left_after-gives (after_end n components components.open_names name.0) (after_end m components components.open_names name.0)
       (ended-gives components.open_names name.0) step name.2
   left_at-renumbered (Property name) text step h = by (is_bare || is_in_event components.open_names) h
     where
-      by : (b : Bool) → (if b then (value_on n text >>= λ value. Ok (left components (Some (used_line n name value)))) else Ok (left components None)) ≡ Ok step
-          → (if b then (value_on m text >>= λ value. Ok (left components (Some (used_line m name value)))) else Ok (left components None)) ≡ Ok
+      by : (b : Bool) → (if b then (value_on n text >>= λ value. Ok (left_with components (Some (used_line n name value)))) else Ok
+          (left_with components None)) ≡ Ok step
+          → (if b then (value_on m text >>= λ value. Ok (left_with components (Some (used_line m name value)))) else Ok (left_with components None)) ≡ Ok
           (renumbered_left m step)
       by true e =
-          let value = and_then_ok (value_on n text) (λ (t : List ℕ). Ok (left components (Some (used_line n name t)))) step e in
-          let is : left components (Some (used_line n name value.0)) ≡ step = cc in
-          ap (λ (r : Result (List ℕ) Refusal). r >>= λ t. Ok (left components (Some (used_line m name t))))
+          let value = and_then_ok (value_on n text) (λ (t : List ℕ). Ok (left_with components (Some (used_line n name t)))) step e in
+          let is : left_with components (Some (used_line n name value.0)) ≡ step = cc in
+          ap (λ (r : Result (List ℕ) Refusal). r >>= λ t. Ok (left_with components (Some (used_line m name t))))
           (gives-ok_or (value_of_line text) _ _ value.0 value.1)
           ∙ ap Ok (ap (renumbered_left m) is)
       by false e =
-          let is : left components None ≡ step = cc in
+          let is : left_with components None ≡ step = cc in
           ap Ok (ap (renumbered_left m) is)
   left_at-renumbered Other text step h =
-      let is : left components None ≡ step = cc in
+      let is : left_with components None ≡ step = cc in
       ap Ok (ap (renumbered_left m) is)
 
 left_by-renumbered : (is_bare : Bool) (components : Components) (line other : Line) (step : Left) → line.text ≡ other.text
@@ -130,8 +132,8 @@ from_line (Ok step) s m f g same rest h =
     rw (same step refl) (after_used-alike m step.used (f step.components) (g step.components) (rest step.components h))
 
 scanned-alike : (is_bare : Bool) (last other_last : ℕ) (lines others : List Line) → texts_of lines ≡ texts_of others → (components : Components)
-    → (scanned is_bare last components lines).stop ≡ None
-    → IsAlike (scanned is_bare last components lines) (scanned is_bare other_last components others)
+    → (scan_of is_bare last components lines).stop ≡ None
+    → IsAlike (scan_of is_bare last components lines) (scan_of is_bare other_last components others)
 scanned-alike is_bare last other_last [] [] same components h = record { used = tt; stop = ends-alike last other_last components h }
 scanned-alike is_bare last other_last [] (other ∷ others) same components h = absurd (cc)
 scanned-alike is_bare last other_last (line ∷ lines) [] same components h = absurd (cc)
@@ -159,8 +161,8 @@ event_scan-alike text other same h =
     let lines = unfolded_lines false text in
     let others = unfolded_lines false other in
     let bare : is_bare_text lines ≡ is_bare_text others = ap not (has_begin lines others same) in
-    subst (λ b. IsAlike (scanned (is_bare_text lines) (length (physical_lines text)) no_components lines)
-    (scanned b (length (physical_lines other)) no_components others)) bare
+    subst (λ b. IsAlike (scan_of (is_bare_text lines) (length (physical_lines text)) no_components lines)
+    (scan_of b (length (physical_lines other)) no_components others)) bare
     (scanned-alike (is_bare_text lines) (length (physical_lines text)) (length (physical_lines other)) lines others same no_components h)
 
 -- ---- the passes

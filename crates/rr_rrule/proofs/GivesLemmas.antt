@@ -9,9 +9,9 @@ use Rattle.rr_model.specs.Rising.{with_value, day_item_lt}
 use Rattle.rr_model.specs.Text.Calendars.{stated_rule, end_beside, rule_beside, rrule_language, is_comma}
 use Rattle.rr_model.specs.Text.Digits.{digits_value}
 use Rattle.rr_model.specs.Text.Moments.{basic}
-use Rattle.rr_model.specs.Text.Passes.{Stated, Beside, has_slash, date_value, judged_date, judged_line, judged_rule, turned, moment_beside, date_beside, with_date, with_rule}
+use Rattle.rr_model.specs.Text.Passes.{Stated, Beside, has_slash, date_value, judged_date, judged_line, judged_rule, local_moment_of, moment_beside, date_beside, with_date, with_rule}
 use Rattle.rr_model.specs.Text.Passes.{with_line}
-use Rattle.rr_model.specs.Text.RuleValues.{◌>>=◌, pieces, freq_named, weekday_named, is_number, number_up_to, placed, unsigned, signed, seconds}
+use Rattle.rr_model.specs.Text.RuleValues.{◌>>=◌, pieces, freq_named, weekday_named, is_number, number_up_to, rising_values, unsigned_bounds, signed_bounds, second_bounds}
 use Rattle.rr_model.specs.Text.RuleValues.{has_number_form, magnitude, number_within, numbers_of, ordinal_text, weekday_text, is_day_item, ordinal_within}
 use Rattle.rr_model.specs.Text.RuleValues.{day_item_within, day_items_of}
 use Rattle.rr_model.specs.Text.Rules.{split_once, part_named, is_extension, name_of, is_present, with_part_value, with_part, with_parts, no_parts}
@@ -58,7 +58,7 @@ gives-ok_or (Some x) d e = gives-same (Ok x)
 
 placed-gives : {X : Type 0} (below : X → X → Bool) (judged other : List ℕ → Result X Refusal) → ((text : List ℕ) → Gives (judged text) (other text))
     → (list : List X) (texts : List (List ℕ))
-    → Gives (placed below judged list texts) (placed below other list texts)
+    → Gives (rising_values below judged list texts) (rising_values below other list texts)
 placed-gives below judged other same list [] = gives-same (Ok list)
 placed-gives below judged other same list (text ∷ texts) =
     gives-then (judged text) (other text) _ _ (same text) (λ x. placed-gives below judged other same (with_value below list x) texts)
@@ -91,7 +91,7 @@ module _ (n m : ℕ) where
 
   ordinal_within-gives : (text : List ℕ) → Gives (ordinal_within n text) (ordinal_within m text)
   ordinal_within-gives [] = gives-same _
-  ordinal_within-gives (b ∷ bs) = number_within-gives (signed 53) (b ∷ bs)
+  ordinal_within-gives (b ∷ bs) = number_within-gives (signed_bounds 53) (b ∷ bs)
 
   day_item_within-gives : (text : List ℕ) → Gives (day_item_within n text) (day_item_within m text)
   unfolding day_item_within
@@ -115,15 +115,15 @@ module _ (n m : ℕ) where
   with_part_value-gives parts part.Count text = gives-then _ _ _ _ (number_up_to-gives 18_446_744_073_709_551_615 text) (λ x. gives-same _)
   with_part_value-gives parts part.Interval text = gives-then _ _ _ _ (number_up_to-gives 4_294_967_295 text) (λ x. gives-same _)
   with_part_value-gives parts part.WeekStart text = gives-then _ _ _ _ (gives-ok_or (weekday_named text) _ _) (λ x. gives-same _)
-  with_part_value-gives parts part.BySecond text = gives-then _ _ _ _ (numbers_of-gives seconds text) (λ x. gives-same _)
-  with_part_value-gives parts part.ByMinute text = gives-then _ _ _ _ (numbers_of-gives (unsigned 0 59) text) (λ x. gives-same _)
-  with_part_value-gives parts part.ByHour text = gives-then _ _ _ _ (numbers_of-gives (unsigned 0 23) text) (λ x. gives-same _)
+  with_part_value-gives parts part.BySecond text = gives-then _ _ _ _ (numbers_of-gives second_bounds text) (λ x. gives-same _)
+  with_part_value-gives parts part.ByMinute text = gives-then _ _ _ _ (numbers_of-gives (unsigned_bounds 0 59) text) (λ x. gives-same _)
+  with_part_value-gives parts part.ByHour text = gives-then _ _ _ _ (numbers_of-gives (unsigned_bounds 0 23) text) (λ x. gives-same _)
   with_part_value-gives parts part.ByDay text = gives-then _ _ _ _ (day_items_of-gives text) (λ x. gives-same _)
-  with_part_value-gives parts part.ByMonthDay text = gives-then _ _ _ _ (numbers_of-gives (signed 31) text) (λ x. gives-same _)
-  with_part_value-gives parts part.ByYearDay text = gives-then _ _ _ _ (numbers_of-gives (signed 366) text) (λ x. gives-same _)
-  with_part_value-gives parts part.ByWeekNo text = gives-then _ _ _ _ (numbers_of-gives (signed 53) text) (λ x. gives-same _)
-  with_part_value-gives parts part.ByMonth text = gives-then _ _ _ _ (numbers_of-gives (unsigned 1 12) text) (λ x. gives-same _)
-  with_part_value-gives parts part.BySetPos text = gives-then _ _ _ _ (numbers_of-gives (signed 366) text) (λ x. gives-same _)
+  with_part_value-gives parts part.ByMonthDay text = gives-then _ _ _ _ (numbers_of-gives (signed_bounds 31) text) (λ x. gives-same _)
+  with_part_value-gives parts part.ByYearDay text = gives-then _ _ _ _ (numbers_of-gives (signed_bounds 366) text) (λ x. gives-same _)
+  with_part_value-gives parts part.ByWeekNo text = gives-then _ _ _ _ (numbers_of-gives (signed_bounds 53) text) (λ x. gives-same _)
+  with_part_value-gives parts part.ByMonth text = gives-then _ _ _ _ (numbers_of-gives (unsigned_bounds 1 12) text) (λ x. gives-same _)
+  with_part_value-gives parts part.BySetPos text = gives-then _ _ _ _ (numbers_of-gives (signed_bounds 366) text) (λ x. gives-same _)
 
   with_part-gives : (parts : RuleParts) (text : List ℕ) → Gives (with_part n parts text) (with_part m parts text)
   unfolding with_part
@@ -172,7 +172,7 @@ module _ (n m : ℕ) where
 
   -- ---- the second pass
 
-  turned-gives : (offset : Option ℤ) (at : ℤ) → Gives (turned n offset at) (turned m offset at)
+  turned-gives : (offset : Option ℤ) (at : ℤ) → Gives (local_moment_of n offset at) (local_moment_of m offset at)
   turned-gives None at = gives-same _
   turned-gives (Some offset) at = gives-if (is_in_years Moments (at +ℤ offset)) _ _ _ _ (gives-same _) (gives-err _ _)
 

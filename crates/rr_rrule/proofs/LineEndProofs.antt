@@ -1,7 +1,7 @@
 -- A carriage return before a line feed changes nothing that a text states.
 use Rattle.std.proofs.Common.{◌≡◌, ℕ, false, List, [], length, ap, ◌∙◌}
 use Rattle.rr_model.specs.Text.Calendars.{calendar_scan, calendar_text}
-use Rattle.rr_model.specs.Text.Event.{event_scan, scanned, is_bare_text, no_components}
+use Rattle.rr_model.specs.Text.Event.{event_scan, scan_of, is_bare_text, no_components}
 use Rattle.rr_model.specs.Text.Lines.{physical_lines, with_physical_lines, unfolded_lines, without_mark}
 use Rattle.rr_ical.specs.LineLaws.{with_returns}
 use Rattle.rr_ical.proofs.LineEndLemmas.{same_lines, without_mark-returns, no_return-mark}
@@ -10,7 +10,7 @@ use Rattle.rr_rrule.specs.TextLaws.{LineEndsDoNotMatter}
 scan_by_lines : (text other : List ℕ) → physical_lines text ≡ physical_lines other → event_scan false text ≡ event_scan false other
 unfolding event_scan unfolded_lines
 scan_by_lines text other same =
-    ap (λ (ls : List (List ℕ)). scanned (is_bare_text (with_physical_lines false 1 [] ls)) (length ls) no_components (with_physical_lines false 1 [] ls)) same
+    ap (λ (ls : List (List ℕ)). scan_of (is_bare_text (with_physical_lines false 1 [] ls)) (length ls) no_components (with_physical_lines false 1 [] ls)) same
 
 pub line_ends_do_not_matter : LineEndsDoNotMatter
 unfolding calendar_text

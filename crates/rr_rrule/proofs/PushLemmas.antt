@@ -4,7 +4,7 @@ use Rattle.std.proofs.Common.{append_assoc, append-nil, length-drop}
 use Rattle.std.specs.Prelude.{codes}
 use Rattle.std.specs.List.{join_with_byte}
 use Rattle.std.proofs.lemmas.List.{drop_all, take_min}
-use Rattle.rr_model.specs.Text.Written.{calendar_written, date_line, dates_out, folded, folded_line, folded_rest, lines_of, line_break, rule_line, rule_text}
+use Rattle.rr_model.specs.Text.Written.{calendar_written, date_line, dates_out, folded_text, folded_line, folded_rest, lines_of, line_break, rule_line, rule_text}
 use Rattle.rr_model.specs.declared.rule.Rule.{Rule}
 use Rattle.rr_model.specs.declared.rule.Series.{Series}
 use Rattle.rr_text.proofs.WrittenListLemmas.{one_written}
@@ -77,7 +77,7 @@ piece_written out next piece others (b ∷ bs) all n some en ep eo so_far e =
 -- the first bytes, and the others on further lines
 pub line_written : (old out first others line : List ℕ) (n : ℕ) → n ≡ min 75 (length line) → first ≡ take n line → others ≡ drop n line
     → out ≡ old ++ first ++ folded_rest (length others) others ++ line_break → out ≡ old ++ folded_line line
-unfolding folded
+unfolding folded_text
 line_written old out first others line n en ef eo e =
     let cut : first ≡ take 75 line = ef ∙ ap (λ k. take k line) en ∙ take_min 75 line in
     let left : others ≡ drop 75 line = eo ∙ ap (λ k. drop k line) en ∙ drop_min 75 line in

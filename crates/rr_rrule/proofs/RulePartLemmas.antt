@@ -6,7 +6,7 @@ use Rattle.std.proofs.lemmas.Bool.{false≢true}
 use Rattle.rr_model.specs.Text.Moments.{basic}
 use Rattle.rr_model.specs.Text.Rules.{split_once, name_of, is_present, with_part_value, with_part}
 use Rattle.rr_model.specs.Rising.{with_value}
-use Rattle.rr_model.specs.Text.RuleValues.{◌>>=◌, pieces, freq_named, weekday_named, number_up_to, unsigned, signed, seconds, placed, list_of, numbers_of}
+use Rattle.rr_model.specs.Text.RuleValues.{◌>>=◌, pieces, freq_named, weekday_named, number_up_to, unsigned_bounds, signed_bounds, second_bounds, rising_values, list_of, numbers_of}
 use Rattle.rr_model.specs.Text.RuleValues.{day_items_of}
 use Rattle.rr_model.specs.Rule.Validity.{is_absent}
 use Rattle.rr_model.specs.declared.refusal.Refusal.{Refusal}
@@ -44,15 +44,15 @@ value_of line part.Until text = ok_or (basic text) (BadMoment line)
 value_of line part.Count text = number_up_to line 18_446_744_073_709_551_615 text
 value_of line part.Interval text = number_up_to line 4_294_967_295 text
 value_of line part.WeekStart text = ok_or (weekday_named text) (BadRule line)
-value_of line part.BySecond text = numbers_of line seconds text
-value_of line part.ByMinute text = numbers_of line (unsigned 0 59) text
-value_of line part.ByHour text = numbers_of line (unsigned 0 23) text
+value_of line part.BySecond text = numbers_of line second_bounds text
+value_of line part.ByMinute text = numbers_of line (unsigned_bounds 0 59) text
+value_of line part.ByHour text = numbers_of line (unsigned_bounds 0 23) text
 value_of line part.ByDay text = day_items_of line text
-value_of line part.ByMonthDay text = numbers_of line (signed 31) text
-value_of line part.ByYearDay text = numbers_of line (signed 366) text
-value_of line part.ByWeekNo text = numbers_of line (signed 53) text
-value_of line part.ByMonth text = numbers_of line (unsigned 1 12) text
-value_of line part.BySetPos text = numbers_of line (signed 366) text
+value_of line part.ByMonthDay text = numbers_of line (signed_bounds 31) text
+value_of line part.ByYearDay text = numbers_of line (signed_bounds 366) text
+value_of line part.ByWeekNo text = numbers_of line (signed_bounds 53) text
+value_of line part.ByMonth text = numbers_of line (unsigned_bounds 1 12) text
+value_of line part.BySetPos text = numbers_of line (signed_bounds 366) text
 
 -- the parts with this value
 abbrev pub put : RuleParts → (n : PartName) → Value n → RuleParts
@@ -157,13 +157,13 @@ is_present-put_other parts part.BySetPos m x other = refl
 -- ---- a part that is read stands
 
 placed-some : {X : Type 0} (below : X → X → Bool) (judged : List ℕ → Result X Refusal) (list : List X) (texts : List (List ℕ)) (all : List X)
-    → is_absent list ≡ false → placed below judged list texts ≡ Ok all → is_absent all ≡ false
+    → is_absent list ≡ false → rising_values below judged list texts ≡ Ok all → is_absent all ≡ false
 placed-some below judged list [] all some e = let same : list ≡ all = cc in ap is_absent (sym same) ∙ some
 placed-some below judged list (text ∷ texts) all some e =
     by (judged text) (λ x f. placed-some below judged (with_value below list x) texts all (with_value-some below list x) f) e
   where
-    by : (r : Result _ Refusal) → ((x : _) → placed below judged (with_value below list x) texts ≡ Ok all → is_absent all ≡ false)
-        → (r >>= λ x. placed below judged (with_value below list x) texts) ≡ Ok all → is_absent all ≡ false
+    by : (r : Result _ Refusal) → ((x : _) → rising_values below judged (with_value below list x) texts ≡ Ok all → is_absent all ≡ false)
+        → (r >>= λ x. rising_values below judged (with_value below list x) texts) ≡ Ok all → is_absent all ≡ false
     by (Ok x) later f = later x f
     by (Err d) later f = absurd cc
 
@@ -180,13 +180,13 @@ list_of-some : {X : Type 0} (line : ℕ) (has_form : List ℕ → Bool) (below :
     → Result X Refusal) (text : List ℕ) (all : List X) → list_of line has_form below judged text ≡ Ok all → is_absent all ≡ false
 list_of-some line has_form below judged text all e = by (list_all has_form (pieces 44 text)) (pieces 44 text) (pieces-some 44 text) e
   where
-    first_of : (r : Result _ Refusal) (texts : List (List ℕ)) → (r >>= λ x. placed below judged (x ∷ []) texts) ≡ Ok all → is_absent all ≡ false
+    first_of : (r : Result _ Refusal) (texts : List (List ℕ)) → (r >>= λ x. rising_values below judged (x ∷ []) texts) ≡ Ok all → is_absent all ≡ false
     first_of (Ok x) texts f = placed-some below judged (x ∷ []) texts all refl f
     first_of (Err d) texts f = absurd cc
 
     by : (b : Bool) (texts : List (List ℕ)) → ((first : List ℕ) × (more : List (List ℕ)) × (texts ≡ first ∷ more))
-        → cond b (placed below judged [] texts) (Err (BadRule line)) ≡ Ok all → is_absent all ≡ false
-    by true texts some f = first_of (judged some.0) some.1 (ap (placed below judged []) (sym some.2) ∙ f)
+        → cond b (rising_values below judged [] texts) (Err (BadRule line)) ≡ Ok all → is_absent all ≡ false
+    by true texts some f = first_of (judged some.0) some.1 (ap (rising_values below judged []) (sym some.2) ∙ f)
     by false texts some f = absurd cc
 
 pub is_present-put : (line : ℕ) (parts : RuleParts) (n : PartName) (text : List ℕ) (x : Value n) → value_of line n text ≡ Ok x

@@ -12,8 +12,8 @@ use Rattle.rr_model.specs.Rising.{Rises, day_item_lt}
 use Rattle.rr_model.specs.Rule.Validity.{IsDayItem, HasCountInRange, EndsInYears, IsValidRule, is_absent, is_allowed}
 use Rattle.rr_model.specs.Text.Calendars.{stated_rule}
 use Rattle.rr_model.specs.Text.Rules.{part_named, name_of, with_parts, no_parts, end_of, rule_with, rule_of, rule_parts}
-use Rattle.rr_model.specs.Text.RuleValues.{◌>>=◌, numbers_of, day_items_of, number_within, has_number_form, is_day_item, day_item_within, unsigned}
-use Rattle.rr_model.specs.Text.RuleValues.{signed, seconds}
+use Rattle.rr_model.specs.Text.RuleValues.{◌>>=◌, numbers_of, day_items_of, number_within, has_number_form, is_day_item, day_item_within, unsigned_bounds}
+use Rattle.rr_model.specs.Text.RuleValues.{signed_bounds, second_bounds}
 use Rattle.rr_model.specs.Text.WriteLaws.{IsOneEnd}
 use Rattle.rr_model.specs.Text.Written.{basic_text, freq_text, weekday_text, day_item_text, part_unless, list_part, end_text, rule_text}
 use Rattle.rr_model.specs.declared.kind.Kind.{Kind}
@@ -98,7 +98,7 @@ all_within bounds P within zs h = each zs (recursion_from_All P zs h)
     each [] k = tt
     each (y ∷ ys) k = (within y k.0, each ys k.1)
 
-within_unsigned : (low high : ℕ) → high < 100 → (z : ℤ) → (pos low ≤ℤ z) × (z ≤ℤ pos high) → IsWithin (unsigned low high) z
+within_unsigned : (low high : ℕ) → high < 100 → (z : ℤ) → (pos low ≤ℤ z) × (z ≤ℤ pos high) → IsWithin (unsigned_bounds low high) z
 within_unsigned low high small z h = record {
   small = omega (arith, ints, h.0, h.1);
   from = omega (arith, ints, h.0);
@@ -106,7 +106,7 @@ within_unsigned low high small z h = record {
   sign = inr (omega (arith, ints, h.0));
 }
 
-within_seconds : (z : ℤ) → (pos 0 ≤ℤ z) × (z ≤ℤ pos 59) → IsWithin seconds z
+within_seconds : (z : ℤ) → (pos 0 ≤ℤ z) × (z ≤ℤ pos 59) → IsWithin second_bounds z
 within_seconds z h = record {
   small = omega (arith, ints, h.0, h.1);
   from = omega arith;
@@ -114,7 +114,7 @@ within_seconds z h = record {
   sign = inr (omega (arith, ints, h.0));
 }
 
-within_signed : (most : ℕ) → most < 1_000 → (z : ℤ) → (1 ≤ nat_abs z) × (nat_abs z ≤ most) → IsWithin (signed most) z
+within_signed : (most : ℕ) → most < 1_000 → (z : ℤ) → (1 ≤ nat_abs z) × (nat_abs z ≤ most) → IsWithin (signed_bounds most) z
 within_signed most small z h = record { small = omega (arith, h.1); from = h.0; to = h.1; sign = inl refl }
 
 -- ---- the end
@@ -249,10 +249,10 @@ module _ (line : ℕ) (kind : Kind) (rule : Rule) (v : IsValidRule kind rule) (o
   unfolding name_of part_named
   dates_stated text r =
       let p = with_week_start rule in
-      let months = numbers (unsigned 1 12) _ rule.by_month (within_unsigned 1 12 (omega arith)) v.months v.rising.months in
-      let weeks = numbers (signed 53) _ rule.by_week_no (within_signed 53 (omega arith)) v.week_numbers v.rising.week_numbers in
-      let year_days = numbers (signed 366) _ rule.by_year_day (within_signed 366 (omega arith)) v.year_days v.rising.year_days in
-      let month_days = numbers (signed 31) _ rule.by_month_day (within_signed 31 (omega arith)) v.month_days v.rising.month_days in
+      let months = numbers (unsigned_bounds 1 12) _ rule.by_month (within_unsigned 1 12 (omega arith)) v.months v.rising.months in
+      let weeks = numbers (signed_bounds 53) _ rule.by_week_no (within_signed 53 (omega arith)) v.week_numbers v.rising.week_numbers in
+      let year_days = numbers (signed_bounds 366) _ rule.by_year_day (within_signed 366 (omega arith)) v.year_days v.rising.year_days in
+      let month_days = numbers (signed_bounds 31) _ rule.by_month_day (within_signed 31 (omega arith)) v.month_days v.rising.month_days in
       let a = with_list_part line text p r (codes "BYMONTH") signed_decimal rule.by_month part.ByMonth rule.by_month
       (λ (l : List ℤ). record p { by_month = l }) (record { named = refl; words = refl }) months.bytes months.value refl refl refl in
       let q = record p { by_month = rule.by_month } in
@@ -274,10 +274,10 @@ module _ (line : ℕ) (kind : Kind) (rule : Rule) (v : IsValidRule kind rule) (o
   times_stated text r =
       let p = with_dates in
       let items = items-written line rule.by_day (recursion_from_All IsDayItem rule.by_day v.days) v.rising.days in
-      let hours = numbers (unsigned 0 23) _ rule.by_hour (within_unsigned 0 23 (omega arith)) v.hours v.rising.hours in
-      let minutes = numbers (unsigned 0 59) _ rule.by_minute (within_unsigned 0 59 (omega arith)) v.minutes v.rising.minutes in
-      let second_values = numbers seconds _ rule.by_second within_seconds v.seconds v.rising.seconds in
-      let positions = numbers (signed 366) _ rule.by_set_pos (within_signed 366 (omega arith)) v.set_positions v.rising.set_positions in
+      let hours = numbers (unsigned_bounds 0 23) _ rule.by_hour (within_unsigned 0 23 (omega arith)) v.hours v.rising.hours in
+      let minutes = numbers (unsigned_bounds 0 59) _ rule.by_minute (within_unsigned 0 59 (omega arith)) v.minutes v.rising.minutes in
+      let second_values = numbers second_bounds _ rule.by_second within_seconds v.seconds v.rising.seconds in
+      let positions = numbers (signed_bounds 366) _ rule.by_set_pos (within_signed 366 (omega arith)) v.set_positions v.rising.set_positions in
       let a = with_list_part line text p r (codes "BYDAY") day_item_text rule.by_day part.ByDay rule.by_day
       (λ (l : List DayItem). record p { by_day = l }) (record { named = refl; words = refl }) items.bytes items.value refl refl refl in
       let q = record p { by_day = rule.by_day } in

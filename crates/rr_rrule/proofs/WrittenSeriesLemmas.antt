@@ -15,7 +15,7 @@ use Rattle.rr_model.specs.Text.Passes.{Beside, Event, nothing_read, nothing_besi
 use Rattle.rr_model.specs.Text.RuleValues.{◌>>=◌}
 use Rattle.rr_model.specs.Text.Steps.{in_turn}
 use Rattle.rr_model.specs.Text.WriteLaws.{IsOneEnd, CalendarIsReadBack}
-use Rattle.rr_model.specs.Text.Written.{basic_text, folded, folded_line, lines_of, date_line, rule_line, calendar_written}
+use Rattle.rr_model.specs.Text.Written.{basic_text, folded_text, folded_line, lines_of, date_line, rule_line, calendar_written}
 use Rattle.rr_model.specs.declared.kind.Kind.{Kind}
 use Rattle.rr_model.specs.declared.pass.FirstPass.{FirstPass}
 use Rattle.rr_model.specs.declared.refusal.Refusal.{Refusal}
@@ -108,7 +108,7 @@ written_lines series counts =
 
 -- it begins with no byte order mark
 begins : (kind : Kind) (at : ℤ) (rest : List ℕ) → without_mark (date_line (codes "DTSTART") kind at ++ rest) ≡ date_line (codes "DTSTART") kind at ++ rest
-unfolding folded
+unfolding folded_text
 begins kind at rest = refl
 
 -- ---- each line states its value

@@ -8,7 +8,7 @@ use Rattle.std.proofs.lemmas.Bool.Decides.{nat_tests}
 use Rattle.std.proofs.lemmas.Int.{ints}
 use Rattle.std.proofs.lemmas.List.Elements.{All-nil}
 use Rattle.rr_model.specs.Rising.{with_value, day_item_lt}
-use Rattle.rr_model.specs.Text.RuleValues.{is_number, weekday_named, placed, pieces, list_of, signed, has_number_form, magnitude}
+use Rattle.rr_model.specs.Text.RuleValues.{is_number, weekday_named, rising_values, pieces, list_of, signed_bounds, has_number_form, magnitude}
 use Rattle.rr_model.specs.Text.RuleValues.{number_within, numbers_of, is_day_item, ordinal_text, weekday_text, ordinal_within, day_item_within, day_items_of}
 use Rattle.rr_model.specs.Rule.Validity.{LieFrom, CountUpTo, IsDayItem}
 use Rattle.rr_model.specs.declared.refusal.Refusal.{Refusal}
@@ -23,12 +23,12 @@ use Rattle.rr_text.proofs.WordLemmas.{weekday_named-below}
 
 module _ {X : Type 0} (P : X → Type 0) (below : X → X → Bool) (judged : List ℕ → Result X Refusal) (each : (text : List ℕ) (x : X) → judged text ≡ Ok x
     → P x) where
-  All-placed : (list : List X) (texts : List (List ℕ)) (all : List X) → All P list → placed below judged list texts ≡ Ok all → All P all
+  All-placed : (list : List X) (texts : List (List ℕ)) (all : List X) → All P list → rising_values below judged list texts ≡ Ok all → All P all
   All-placed list [] all h e =
       let same : list ≡ all = cc in
       subst (All P) same h
   All-placed list (text ∷ texts) all h e =
-      let step = and_then_ok (judged text) (λ x. placed below judged (with_value below list x) texts) all e in
+      let step = and_then_ok (judged text) (λ x. rising_values below judged (with_value below list x) texts) all e in
       All-placed (with_value below list step.0) texts all (All-with_value P below list step.0 h (each text step.0 step.1)) step.2
 
   pub All-list_of : (line : ℕ) (has_form : List ℕ → Bool) (text : List ℕ) (all : List X) → list_of line has_form below judged text ≡ Ok all → All P all
@@ -57,17 +57,17 @@ size_is true size = omega (arith, ints)
 size_is false size = refl
 
 -- a number counts from the front or from the back
-pub number_within-counts : (line most : ℕ) (text : List ℕ) (n : ℤ) → number_within line (signed most) text ≡ Ok n → (1 ≤ nat_abs n) × (nat_abs n ≤ most)
+pub number_within-counts : (line most : ℕ) (text : List ℕ) (n : ℤ) → number_within line (signed_bounds most) text ≡ Ok n → (1 ≤ nat_abs n) × (nat_abs n ≤ most)
 number_within-counts line most text n h =
-    let w = number_within-means line (signed most) text n h in
+    let w = number_within-means line (signed_bounds most) text n h in
     let size = size_is (starts_with_minus text) (magnitude text) in
     subst (λ z. (1 ≤ nat_abs z) × (nat_abs z ≤ most)) w.value (omega (arith, size, w.least), omega (arith, size, w.most))
 
-pub numbers_of-counts : (line most : ℕ) (text : List ℕ) (ns : List ℤ) → numbers_of line (signed most) text ≡ Ok ns → CountUpTo most ns
+pub numbers_of-counts : (line most : ℕ) (text : List ℕ) (ns : List ℤ) → numbers_of line (signed_bounds most) text ≡ Ok ns → CountUpTo most ns
 unfolding numbers_of
 numbers_of-counts line most text =
-    All-list_of (λ n. (1 ≤ nat_abs n) × (nat_abs n ≤ most)) int_lt (number_within line (signed most)) (number_within-counts line most) line
-    (has_number_form (signed most)) text
+    All-list_of (λ n. (1 ≤ nat_abs n) × (nat_abs n ≤ most)) int_lt (number_within line (signed_bounds most)) (number_within-counts line most) line
+    (has_number_form (signed_bounds most)) text
 
 -- a number of digits alone has no sign
 no_minus : (text : List ℕ) → is_number text ≡ true → starts_with_minus text ≡ false

@@ -6,7 +6,7 @@ use Rattle.std.proofs.lemmas.List.Elements.{All-nil}
 use Rattle.rr_model.specs.Text.Moments.{basic}
 use Rattle.rr_model.specs.Text.Rules.{split_once, name_of, is_present, with_part_value, with_part, with_parts, no_parts, without_last_semicolon, parts_of}
 use Rattle.rr_model.specs.Text.Rules.{line_value, rule_parts}
-use Rattle.rr_model.specs.Text.RuleValues.{freq_named, weekday_named, number_up_to, unsigned, signed, seconds, numbers_of, day_items_of, pieces}
+use Rattle.rr_model.specs.Text.RuleValues.{freq_named, weekday_named, number_up_to, unsigned_bounds, signed_bounds, second_bounds, numbers_of, day_items_of, pieces}
 use Rattle.rr_model.specs.Rule.Validity.{IsCount, LieFrom, CountUpTo, IsDayItem}
 use Rattle.rr_model.specs.Rising.{Rises, day_item_lt}
 use Rattle.rr_model.specs.declared.refusal.Refusal.TheVariants.{BadMoment, BadRule, PartTwice}
@@ -89,31 +89,31 @@ with_part_value-valid line parts part.WeekStart text more v =
     step_keeps ArePartsValid (ok_or (weekday_named text) (BadRule line)) (λ x. record parts { week_start = Some x }) more
     (λ x e. assumption (weekday_named-below text x (ok_or_ok (weekday_named text) _ x e)))
 with_part_value-valid line parts part.BySecond text more v =
-    step_keeps ArePartsValid (numbers_of line seconds text) (λ x. record parts { by_second = x }) more
+    step_keeps ArePartsValid (numbers_of line second_bounds text) (λ x. record parts { by_second = x }) more
     (λ x e. assumption (numbers_of-lie line 0 59 true text x e, numbers_of-rise line _ text x e))
 with_part_value-valid line parts part.ByMinute text more v =
-    step_keeps ArePartsValid (numbers_of line (unsigned 0 59) text) (λ x. record parts { by_minute = x }) more
+    step_keeps ArePartsValid (numbers_of line (unsigned_bounds 0 59) text) (λ x. record parts { by_minute = x }) more
     (λ x e. assumption (numbers_of-lie line 0 59 false text x e, numbers_of-rise line _ text x e))
 with_part_value-valid line parts part.ByHour text more v =
-    step_keeps ArePartsValid (numbers_of line (unsigned 0 23) text) (λ x. record parts { by_hour = x }) more
+    step_keeps ArePartsValid (numbers_of line (unsigned_bounds 0 23) text) (λ x. record parts { by_hour = x }) more
     (λ x e. assumption (numbers_of-lie line 0 23 false text x e, numbers_of-rise line _ text x e))
 with_part_value-valid line parts part.ByDay text more v =
     step_keeps ArePartsValid (day_items_of line text) (λ x. record parts { by_day = x }) more
     (λ x e. assumption (day_items_of-means line text x e, day_items_of-rise line text x e))
 with_part_value-valid line parts part.ByMonthDay text more v =
-    step_keeps ArePartsValid (numbers_of line (signed 31) text) (λ x. record parts { by_month_day = x }) more
+    step_keeps ArePartsValid (numbers_of line (signed_bounds 31) text) (λ x. record parts { by_month_day = x }) more
     (λ x e. assumption (numbers_of-counts line 31 text x e, numbers_of-rise line _ text x e))
 with_part_value-valid line parts part.ByYearDay text more v =
-    step_keeps ArePartsValid (numbers_of line (signed 366) text) (λ x. record parts { by_year_day = x }) more
+    step_keeps ArePartsValid (numbers_of line (signed_bounds 366) text) (λ x. record parts { by_year_day = x }) more
     (λ x e. assumption (numbers_of-counts line 366 text x e, numbers_of-rise line _ text x e))
 with_part_value-valid line parts part.ByWeekNo text more v =
-    step_keeps ArePartsValid (numbers_of line (signed 53) text) (λ x. record parts { by_week_no = x }) more
+    step_keeps ArePartsValid (numbers_of line (signed_bounds 53) text) (λ x. record parts { by_week_no = x }) more
     (λ x e. assumption (numbers_of-counts line 53 text x e, numbers_of-rise line _ text x e))
 with_part_value-valid line parts part.ByMonth text more v =
-    step_keeps ArePartsValid (numbers_of line (unsigned 1 12) text) (λ x. record parts { by_month = x }) more
+    step_keeps ArePartsValid (numbers_of line (unsigned_bounds 1 12) text) (λ x. record parts { by_month = x }) more
     (λ x e. assumption (numbers_of-lie line 1 12 false text x e, numbers_of-rise line _ text x e))
 with_part_value-valid line parts part.BySetPos text more v =
-    step_keeps ArePartsValid (numbers_of line (signed 366) text) (λ x. record parts { by_set_pos = x }) more
+    step_keeps ArePartsValid (numbers_of line (signed_bounds 366) text) (λ x. record parts { by_set_pos = x }) more
     (λ x e. assumption (numbers_of-counts line 366 text x e, numbers_of-rise line _ text x e))
 
 with_part-valid : (line : ℕ) (parts : RuleParts) (text : List ℕ) (more : RuleParts) → ArePartsValid parts → with_part line parts text ≡ Ok more

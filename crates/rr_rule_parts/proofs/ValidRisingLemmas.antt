@@ -3,7 +3,7 @@ use Rattle.std.proofs.Common.{◌≡◌, ℕ, Bool, List, [], ◌∷◌, Result,
 use Rattle.std.specs.Prelude.{int_lt}
 use Rattle.std.specs.List.{list_all}
 use Rattle.rr_model.specs.Rising.{Rises, with_value, day_item_lt}
-use Rattle.rr_model.specs.Text.RuleValues.{placed, pieces, list_of, has_number_form, number_within, numbers_of, is_day_item, day_item_within, day_items_of}
+use Rattle.rr_model.specs.Text.RuleValues.{rising_values, pieces, list_of, has_number_form, number_within, numbers_of, is_day_item, day_item_within, day_items_of}
 use Rattle.rr_model.specs.declared.refusal.Refusal.{Refusal}
 use Rattle.rr_model.specs.declared.rule.DayItem.{DayItem}
 use Rattle.rr_model.specs.declared.rule_parts.NumberBounds.{NumberBounds}
@@ -11,12 +11,12 @@ use Rattle.rr_model.proofs.RisingLemmas.{Rises-with_value}
 use Rattle.rr_text.proofs.StepLemmas.{and_then_ok, passed}
 
 module _ {X : Type 0} (below : X → X → Bool) (judged : List ℕ → Result X Refusal) where
-  Rises-placed : (list : List X) (texts : List (List ℕ)) (all : List X) → Rises below list → placed below judged list texts ≡ Ok all → Rises below all
+  Rises-placed : (list : List X) (texts : List (List ℕ)) (all : List X) → Rises below list → rising_values below judged list texts ≡ Ok all → Rises below all
   Rises-placed list [] all r e =
       let same : list ≡ all = cc in
       subst (Rises below) same r
   Rises-placed list (text ∷ texts) all r e =
-      let step = and_then_ok (judged text) (λ x. placed below judged (with_value below list x) texts) all e in
+      let step = and_then_ok (judged text) (λ x. rising_values below judged (with_value below list x) texts) all e in
       Rises-placed (with_value below list step.0) texts all (Rises-with_value below list step.0 r) step.2
 
   pub Rises-list_of : (line : ℕ) (has_form : List ℕ → Bool) (text : List ℕ) (all : List X) → list_of line has_form below judged text ≡ Ok all → Rises below all

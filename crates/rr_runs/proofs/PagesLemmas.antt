@@ -4,7 +4,7 @@ use Rattle.std.proofs.lemmas.List.{get_or-drop, get_or-take, length-take, length
 use Rattle.std.proofs.Math.ListN.{get_or-append}
 use Rattle.std.proofs.Math.Seq.{drop-append_seam, drop-nil, get_or-append_seam, take-add, take-append-add, take-length, take-nil}
 use Rattle.std.proofs.lemmas.Bool.{cases_lt}
-use Rattle.rr_runs.specs.Pages.{ArePages, HasRoom, IsGrown, IsPageOf, IsPaged, IsPiece, IsZeroFrom, IsZeroPage, page_numbers, paged}
+use Rattle.rr_runs.specs.Pages.{ArePages, HasRoom, IsGrown, IsPageOf, IsPaged, IsPiece, IsZeroFrom, IsZeroPage, page_numbers, row_of_pages}
 
 length_page : (pool : List ℕ) (p : ℕ) → p + 63 ≤ length pool → length (page_numbers pool p) ≡ 63
 length_page pool p h = simp (length-take, length-drop) (omega arith)
@@ -15,7 +15,7 @@ page_at pool p r h = get_or-take 63 (drop p pool) r 0 h ∙ get_or-drop p pool r
 later_pages : (pool : List ℕ) (p : ℕ) (pages : List ℕ) → ArePages pool (p ∷ pages) → ArePages pool pages
 later_pages pool p pages stand k h = stand (suc k) (omega arith)
 
-pub length_paged : (pool pages : List ℕ) → ArePages pool pages → length (paged pool pages) ≡ length pages * 63
+pub length_paged : (pool pages : List ℕ) → ArePages pool pages → length (row_of_pages pool pages) ≡ length pages * 63
 length_paged pool [] stand = refl
 length_paged pool (p ∷ pages) stand =
     let page = length_page pool p (stand 0 (omega arith)) in
@@ -24,19 +24,19 @@ length_paged pool (p ∷ pages) stand =
 
 -- a number of the list stands in its page of the pool
 pub paged_at : (pool pages : List ℕ) → ArePages pool pages → (i r : ℕ) → i < length pages → r < 63
-    → get_or (paged pool pages) (i * 63 + r) 0 ≡ get_or pool (get_or pages i 0 + r) 0
+    → get_or (row_of_pages pool pages) (i * 63 + r) 0 ≡ get_or pool (get_or pages i 0 + r) 0
 paged_at pool [] stand i r l s = absurd (omega arith)
 paged_at pool (p ∷ pages) stand zero r l s =
     let page = length_page pool p (stand 0 (omega arith)) in
     let at : 0 * 63 + r ≡ r = omega arith in
-    ap (λ k. get_or (page_numbers pool p ++ paged pool pages) k 0) at
-    ∙ get_or-append (page_numbers pool p) (paged pool pages) 0 r (omega (arith, page))
+    ap (λ k. get_or (page_numbers pool p ++ row_of_pages pool pages) k 0) at
+    ∙ get_or-append (page_numbers pool p) (row_of_pages pool pages) 0 r (omega (arith, page))
     ∙ page_at pool p r s
 paged_at pool (p ∷ pages) stand (suc i) r l s =
     let page = length_page pool p (stand 0 (omega arith)) in
     let at : suc i * 63 + r ≡ length (page_numbers pool p) + (i * 63 + r) = omega (arith, page) in
-    ap (λ k. get_or (page_numbers pool p ++ paged pool pages) k 0) at
-    ∙ get_or-append-add (page_numbers pool p) (paged pool pages) (i * 63 + r) 0
+    ap (λ k. get_or (page_numbers pool p ++ row_of_pages pool pages) k 0) at
+    ∙ get_or-append-add (page_numbers pool p) (row_of_pages pool pages) (i * 63 + r) 0
     ∙ paged_at pool pages (later_pages pool p pages stand) i r (omega arith) s
 
 -- a pool that has grown has the same pages
@@ -45,13 +45,13 @@ page_stays pool more p h =
     ap (take 63) (drop-append-le p pool more (omega arith))
     ∙ take-append-le 63 (drop p pool) more (simp length-drop (omega arith))
 
-pub paged_stays : (pool more pages : List ℕ) → ArePages pool pages → paged (pool ++ more) pages ≡ paged pool pages
+pub paged_stays : (pool more pages : List ℕ) → ArePages pool pages → row_of_pages (pool ++ more) pages ≡ row_of_pages pool pages
 paged_stays pool more [] stand = refl
 paged_stays pool more (p ∷ pages) stand =
-    ap (λ (l : List ℕ). l ++ paged (pool ++ more) pages) (page_stays pool more p (stand 0 (omega arith)))
+    ap (λ (l : List ℕ). l ++ row_of_pages (pool ++ more) pages) (page_stays pool more p (stand 0 (omega arith)))
     ∙ ap (λ (l : List ℕ). page_numbers pool p ++ l) (paged_stays pool more pages (later_pages pool p pages stand))
 
-pub paged-append : (pool pages : List ℕ) (p : ℕ) → paged pool (pages ++ p ∷ []) ≡ paged pool pages ++ page_numbers pool p
+pub paged-append : (pool pages : List ℕ) (p : ℕ) → row_of_pages pool (pages ++ p ∷ []) ≡ row_of_pages pool pages ++ page_numbers pool p
 paged-append pool [] p = append-nil (page_numbers pool p)
 paged-append pool (q ∷ pages) p = rw append_assoc (ap (λ (l : List ℕ). page_numbers pool q ++ l) (paged-append pool pages p))
 
@@ -69,9 +69,9 @@ new_page old numbers new page e ep whole = record {
 
 -- ---- as the code has them
 
-module _ (pool pages rest numbers : List ℕ) (view : numbers ≡ paged pool pages ++ rest) (is : IsPaged pool pages rest) where
+module _ (pool pages rest numbers : List ℕ) (view : numbers ≡ row_of_pages pool pages ++ rest) (is : IsPaged pool pages rest) where
   pub length_numbers : length numbers ≡ length pages * 63 + length rest
-  length_numbers = ap length view ∙ length-append (paged pool pages) rest ∙ ap (λ (n : ℕ). n + length rest) (length_paged pool pages is.stand)
+  length_numbers = ap length view ∙ length-append (row_of_pages pool pages) rest ∙ ap (λ (n : ℕ). n + length rest) (length_paged pool pages is.stand)
 
   -- the rest of a page of the pool
   pub piece_of_page : (index page i r : ℕ) (row : List ℕ) → index ≡ i * 63 + r → r < 63 → i < length pages → page ≡ get_or pages i 0
@@ -85,7 +85,7 @@ module _ (pool pages rest numbers : List ℕ) (view : numbers ≡ paged pool pag
         same = λ k h.
             let left : k < 63 - r = omega (arith, many) in
             let in_list : index + k ≡ i * 63 + (r + k) = omega arith in
-            let before : i * 63 + (r + k) < length (paged pool pages) = omega (arith, length_paged pool pages is.stand) in
+            let before : i * 63 + (r + k) < length (row_of_pages pool pages) = omega (arith, length_paged pool pages is.stand) in
             let sum : (page + r) + k ≡ page + (r + k) = omega arith in
             ap (λ (xs : List ℕ). get_or xs k 0) er
             ∙ get_or-take (63 - r) (drop (page + r) pool) k 0 left
@@ -93,7 +93,7 @@ module _ (pool pages rest numbers : List ℕ) (view : numbers ≡ paged pool pag
             ∙ ap (λ j. get_or pool j 0) sum
             ∙ ap (λ p. get_or pool (p + (r + k)) 0) e
             ∙ sym (paged_at pool pages is.stand i (r + k) l (omega arith))
-            ∙ sym (get_or-append (paged pool pages) rest 0 (i * 63 + (r + k)) before)
+            ∙ sym (get_or-append (row_of_pages pool pages) rest 0 (i * 63 + (r + k)) before)
             ∙ ap (λ (xs : List ℕ). get_or xs (i * 63 + (r + k)) 0) (sym view)
             ∙ ap (λ j. get_or numbers j 0) (sym in_list);
       }
@@ -108,18 +108,18 @@ module _ (pool pages rest numbers : List ℕ) (view : numbers ≡ paged pool pag
         some = omega (arith, many, all);
         within = omega (arith, many, all);
         same = λ k h.
-            let in_list : index + k ≡ length (paged pool pages) + (j + k) = omega (arith, whole) in
+            let in_list : index + k ≡ length (row_of_pages pool pages) + (j + k) = omega (arith, whole) in
             ap (λ (xs : List ℕ). get_or xs k 0) er
             ∙ get_or-drop j rest k 0
-            ∙ sym (get_or-append-add (paged pool pages) rest (j + k) 0)
-            ∙ ap (λ (xs : List ℕ). get_or xs (length (paged pool pages) + (j + k)) 0) (sym view)
+            ∙ sym (get_or-append-add (row_of_pages pool pages) rest (j + k) 0)
+            ∙ ap (λ (xs : List ℕ). get_or xs (length (row_of_pages pool pages) + (j + k)) 0) (sym view)
             ∙ ap (λ i. get_or numbers i 0) (sym in_list);
       }
 
 -- pages in place of the numbers after the last page
-pub all_closed : (pool pool' pages pages' rest rest' : List ℕ) → paged pool' pages' ≡ paged pool pages ++ rest → rest' ≡ []
-    → paged pool' pages' ++ rest' ≡ paged pool pages ++ rest
-all_closed pool pool' pages pages' rest rest' e er = ap (λ (l : List ℕ). paged pool' pages' ++ l) er ∙ append-nil (paged pool' pages') ∙ e
+pub all_closed : (pool pool' pages pages' rest rest' : List ℕ) → row_of_pages pool' pages' ≡ row_of_pages pool pages ++ rest → rest' ≡ []
+    → row_of_pages pool' pages' ++ rest' ≡ row_of_pages pool pages ++ rest
+all_closed pool pool' pages pages' rest rest' e er = ap (λ (l : List ℕ). row_of_pages pool' pages' ++ l) er ∙ append-nil (row_of_pages pool' pages') ∙ e
 
 -- pages that were put are taken away
 pub taken_back : (pages pages' pages'' : List ℕ) (before : ℕ) → IsGrown pages pages' → before ≡ length pages → pages'' ≡ take before pages' → pages'' ≡ pages
@@ -130,9 +130,10 @@ taken_back pages pages' pages'' before (more, grown) en e =
 pub pages_stand : (pool pool' pages : List ℕ) → ArePages pool pages → IsGrown pool pool' → ArePages pool' pages
 pages_stand pool pool' pages stand (more, grown) k h = omega (arith, ap length grown ∙ length-append pool more, stand k h)
 
-pub paged_in_grown : (pool pool' pages rest : List ℕ) → IsPaged pool pages rest → IsGrown pool pool' → paged pool' pages ++ rest ≡ paged pool pages ++ rest
+pub paged_in_grown : (pool pool' pages rest : List ℕ) → IsPaged pool pages rest → IsGrown pool pool' → row_of_pages pool' pages ++ rest
+    ≡ row_of_pages pool pages ++ rest
 paged_in_grown pool pool' pages rest is (more, grown) =
-    let kept : paged pool' pages ≡ paged pool pages = rw grown (paged_stays pool more pages is.stand) in
+    let kept : row_of_pages pool' pages ≡ row_of_pages pool pages = rw grown (paged_stays pool more pages is.stand) in
     ap (λ (l : List ℕ). l ++ rest) kept
 
 pub more_pages : (pool pages pages' : List ℕ) (page : ℕ) → ArePages pool pages → page + 63 ≤ length pool → pages' ≡ pages ++ page ∷ [] → ArePages pool pages'
@@ -173,11 +174,11 @@ closed_is_paged pool pages rest stand few e = record {
 -- pages that were put and taken away again, over a pool that has grown
 pub back_paged : (pool pool' pages pages' pages'' rest : List ℕ) (before : ℕ) → IsPaged pool pages rest → IsGrown pool pool' → IsGrown pages pages'
     → before ≡ length pages → pages'' ≡ take before pages'
-    → IsPaged pool' pages'' rest × (paged pool' pages'' ++ rest ≡ paged pool pages ++ rest)
+    → IsPaged pool' pages'' rest × (row_of_pages pool' pages'' ++ rest ≡ row_of_pages pool pages ++ rest)
 back_paged pool pool' pages pages' pages'' rest before is grown more en e =
     let back : pages'' ≡ pages = taken_back pages pages' pages'' before more en e in (
       subst (λ (l : List ℕ). IsPaged pool' l rest) (sym back) (is_paged_grown pool pool' pages rest is grown),
-      ap (λ (l : List ℕ). paged pool' l ++ rest) back ∙ paged_in_grown pool pool' pages rest is grown,
+      ap (λ (l : List ℕ). row_of_pages pool' l ++ rest) back ∙ paged_in_grown pool pool' pages rest is grown,
     )
 
 -- where there is no room
@@ -271,42 +272,42 @@ same_go_on old new new' number done more e e' =
 
 -- ---- pages once more
 
-pub paged_all : (pool pages more : List ℕ) → paged pool (pages ++ more) ≡ paged pool pages ++ paged pool more
+pub paged_all : (pool pages more : List ℕ) → row_of_pages pool (pages ++ more) ≡ row_of_pages pool pages ++ row_of_pages pool more
 paged_all pool [] more = refl
 paged_all pool (q ∷ pages) more =
     ap (λ (l : List ℕ). page_numbers pool q ++ l) (paged_all pool pages more)
-    ∙ sym (append_assoc (page_numbers pool q) (paged pool pages) (paged pool more))
+    ∙ sym (append_assoc (page_numbers pool q) (row_of_pages pool pages) (row_of_pages pool more))
 
 pub paged_same : (pool : List ℕ) (page number count : ℕ) → page_numbers pool page ≡ replicate 63 number
-    → paged pool (replicate count page) ≡ replicate (count * 63) number
+    → row_of_pages pool (replicate count page) ≡ replicate (count * 63) number
 paged_same pool page number zero e = let none : 0 * 63 ≡ 0 = omega arith in ap (λ n. replicate n number) (sym none)
 paged_same pool page number (suc count) e =
     let sum : 63 + count * 63 ≡ suc count * 63 = omega arith in
-    ap (λ (l : List ℕ). l ++ paged pool (replicate count page)) e
+    ap (λ (l : List ℕ). l ++ row_of_pages pool (replicate count page)) e
     ∙ ap (λ (l : List ℕ). replicate 63 number ++ l) (paged_same pool page number count e)
     ∙ replicate-append-replicate 63 (count * 63) number
     ∙ ap (λ n. replicate n number) sum
 
 -- a page is put
 pub page_put : (pool pool' pages pages' numbers : List ℕ) (page : ℕ) → ArePages pool pages → IsGrown pool pool' → IsPageOf pool' numbers page
-    → pages' ≡ pages ++ page ∷ [] → paged pool' pages' ≡ paged pool pages ++ numbers
+    → pages' ≡ pages ++ page ∷ [] → row_of_pages pool' pages' ≡ row_of_pages pool pages ++ numbers
 page_put pool pool' pages pages' numbers page stand (more, grown) of ep =
-    let kept : paged pool' pages ≡ paged pool pages = rw grown (paged_stays pool more pages stand) in
-    ap (paged pool') ep
+    let kept : row_of_pages pool' pages ≡ row_of_pages pool pages = rw grown (paged_stays pool more pages stand) in
+    ap (row_of_pages pool') ep
     ∙ paged-append pool' pages page
     ∙ ap (λ (l : List ℕ). l ++ page_numbers pool' page) kept
-    ∙ ap (λ (l : List ℕ). paged pool pages ++ l) of.same
+    ∙ ap (λ (l : List ℕ). row_of_pages pool pages ++ l) of.same
 
 -- pages of the same number are put
 pub pages_put : (pool pool' pages pages' numbers : List ℕ) (page number count : ℕ) → ArePages pool pages → IsGrown pool pool'
     → numbers ≡ replicate 63 number → IsPageOf pool' numbers page → pages' ≡ pages ++ replicate count page
-    → paged pool' pages' ≡ paged pool pages ++ replicate (count * 63) number
+    → row_of_pages pool' pages' ≡ row_of_pages pool pages ++ replicate (count * 63) number
 pages_put pool pool' pages pages' numbers page number count stand (more, grown) en of ep =
-    let kept : paged pool' pages ≡ paged pool pages = rw grown (paged_stays pool more pages stand) in
-    ap (paged pool') ep
+    let kept : row_of_pages pool' pages ≡ row_of_pages pool pages = rw grown (paged_stays pool more pages stand) in
+    ap (row_of_pages pool') ep
     ∙ paged_all pool' pages (replicate count page)
-    ∙ ap (λ (l : List ℕ). l ++ paged pool' (replicate count page)) kept
-    ∙ ap (λ (l : List ℕ). paged pool pages ++ l) (paged_same pool' page number count (of.same ∙ en))
+    ∙ ap (λ (l : List ℕ). l ++ row_of_pages pool' (replicate count page)) kept
+    ∙ ap (λ (l : List ℕ). row_of_pages pool pages ++ l) (paged_same pool' page number count (of.same ∙ en))
 
 pub same_pages_stand : (pool pages pages' : List ℕ) (page count : ℕ) → ArePages pool pages → page + 63 ≤ length pool
     → pages' ≡ pages ++ replicate count page → ArePages pool pages'
@@ -358,36 +359,37 @@ again_is_paged pool pages pages' rest i count is none few ep =
     closed_is_paged pool pages' rest (pages_stand_again pool pages pages' i count is.stand ep) (omega (arith, many, few, length-take count (drop i pages))) none
 
 -- the numbers of the first pages, and of those after them
-drop_pages : (pool pages : List ℕ) (i : ℕ) → ArePages pool pages → drop (i * 63) (paged pool pages) ≡ paged pool (drop i pages)
+drop_pages : (pool pages : List ℕ) (i : ℕ) → ArePages pool pages → drop (i * 63) (row_of_pages pool pages) ≡ row_of_pages pool (drop i pages)
 drop_pages pool pages zero stand = refl
 drop_pages pool [] (suc i) stand = drop-nil (suc i * 63)
 drop_pages pool (p ∷ pages) (suc i) stand =
     let page = length_page pool p (stand 0 (omega arith)) in
     let sum : suc i * 63 ≡ length (page_numbers pool p) + i * 63 = omega (arith, page) in
-    ap (λ n. drop n (page_numbers pool p ++ paged pool pages)) sum
-    ∙ sym (drop-drop (i * 63) (length (page_numbers pool p)) (page_numbers pool p ++ paged pool pages))
-    ∙ ap (drop (i * 63)) (drop-append_seam (page_numbers pool p) (paged pool pages))
+    ap (λ n. drop n (page_numbers pool p ++ row_of_pages pool pages)) sum
+    ∙ sym (drop-drop (i * 63) (length (page_numbers pool p)) (page_numbers pool p ++ row_of_pages pool pages))
+    ∙ ap (drop (i * 63)) (drop-append_seam (page_numbers pool p) (row_of_pages pool pages))
     ∙ drop_pages pool pages i (later_pages pool p pages stand)
 
-take_pages : (pool pages : List ℕ) (count : ℕ) → ArePages pool pages → take (count * 63) (paged pool pages) ≡ paged pool (take count pages)
+take_pages : (pool pages : List ℕ) (count : ℕ) → ArePages pool pages → take (count * 63) (row_of_pages pool pages) ≡ row_of_pages pool (take count pages)
 take_pages pool pages zero stand = refl
 take_pages pool [] (suc count) stand = take-nil (suc count * 63)
 take_pages pool (p ∷ pages) (suc count) stand =
     let page = length_page pool p (stand 0 (omega arith)) in
     let sum : suc count * 63 ≡ length (page_numbers pool p) + count * 63 = omega (arith, page) in
-    ap (λ n. take n (page_numbers pool p ++ paged pool pages)) sum
-    ∙ take-append-add (page_numbers pool p) (paged pool pages) (count * 63)
+    ap (λ n. take n (page_numbers pool p ++ row_of_pages pool pages)) sum
+    ∙ take-append-add (page_numbers pool p) (row_of_pages pool pages) (count * 63)
     ∙ ap (λ (l : List ℕ). page_numbers pool p ++ l) (take_pages pool pages count (later_pages pool p pages stand))
 
 pages_of_rest : (pool pages : List ℕ) (i : ℕ) → ArePages pool pages → ArePages pool (drop i pages)
 pages_of_rest pool pages i stand k h = let at = get_or-drop i pages k 0 in omega (arith, at, stand (i + k) (omega (arith, length-drop i pages)))
 
 -- whole pages of one number, and more of it after them
-pub same_pages_and_rest : (pool pool' pages pages' rest rest' numbers : List ℕ) (number count left most : ℕ) → paged pool pages ++ rest ≡ numbers → rest ≡ []
-    → paged pool' pages' ≡ paged pool pages ++ replicate (count * 63) number → rest' ≡ rest ++ replicate left number → most ≡ count * 63 + left
-    → paged pool' pages' ++ rest' ≡ numbers ++ replicate most number
+pub same_pages_and_rest : (pool pool' pages pages' rest rest' numbers : List ℕ) (number count left most : ℕ) → row_of_pages pool pages ++ rest ≡ numbers → rest ≡ []
+    → row_of_pages pool' pages' ≡ row_of_pages pool pages ++ replicate (count * 63) number → rest' ≡ rest ++ replicate left number → most ≡ count * 63 + left
+    → row_of_pages pool' pages' ++ rest' ≡ numbers ++ replicate most number
 same_pages_and_rest pool pool' pages pages' rest rest' numbers number count left most view none ep er em =
-    let bare : paged pool pages ≡ numbers = sym (append-nil (paged pool pages)) ∙ ap (λ (l : List ℕ). paged pool pages ++ l) (sym none) ∙ view in
+    let bare : row_of_pages pool pages ≡ numbers = sym (append-nil (row_of_pages pool pages))
+    ∙ ap (λ (l : List ℕ). row_of_pages pool pages ++ l) (sym none) ∙ view in
     let after : rest' ≡ replicate left number = er ∙ ap (λ (l : List ℕ). l ++ replicate left number) none in
     ap (λ (l : List ℕ). l ++ rest') (ep ∙ ap (λ (l : List ℕ). l ++ replicate (count * 63) number) bare)
     ∙ ap (λ (l : List ℕ). (numbers ++ replicate (count * 63) number) ++ l) after
@@ -396,23 +398,24 @@ same_pages_and_rest pool pool' pages pages' rest rest' numbers number count left
     ∙ ap (λ n. numbers ++ replicate n number) (sym em)
 
 -- whole pages from an index on stand once more at the end
-pub pages_again : (pool pages pages' rest numbers : List ℕ) (index count : ℕ) → IsPaged pool pages rest → paged pool pages ++ rest ≡ numbers → rest ≡ []
+pub pages_again : (pool pages pages' rest numbers : List ℕ) (index count : ℕ) → IsPaged pool pages rest → row_of_pages pool pages ++ rest ≡ numbers → rest ≡ []
     → index % 63 ≡ 0 → pages' ≡ pages ++ take count (drop (index / 63) pages)
-    → paged pool pages' ++ rest ≡ numbers ++ take (count * 63) (drop index numbers)
+    → row_of_pages pool pages' ++ rest ≡ numbers ++ take (count * 63) (drop index numbers)
 pages_again pool pages pages' rest numbers index count is view none whole ep =
     let i : ℕ = index / 63 in
     let at : index ≡ i * 63 = omega (arith, whole) in
-    let bare : paged pool pages ≡ numbers = sym (append-nil (paged pool pages)) ∙ ap (λ (l : List ℕ). paged pool pages ++ l) (sym none) ∙ view in
-    let part : paged pool (take count (drop i pages)) ≡ take (count * 63) (drop index numbers) =
+    let bare : row_of_pages pool pages ≡ numbers = sym (append-nil (row_of_pages pool pages))
+    ∙ ap (λ (l : List ℕ). row_of_pages pool pages ++ l) (sym none) ∙ view in
+    let part : row_of_pages pool (take count (drop i pages)) ≡ take (count * 63) (drop index numbers) =
     sym (take_pages pool (drop i pages) count (pages_of_rest pool pages i is.stand))
     ∙ ap (take (count * 63)) (sym (drop_pages pool pages i is.stand))
-    ∙ ap (λ n. take (count * 63) (drop n (paged pool pages))) (sym at)
+    ∙ ap (λ n. take (count * 63) (drop n (row_of_pages pool pages))) (sym at)
     ∙ ap (λ (l : List ℕ). take (count * 63) (drop index l)) bare in
-    ap (λ (l : List ℕ). paged pool pages' ++ l) none
-    ∙ append-nil (paged pool pages')
-    ∙ ap (paged pool) ep
+    ap (λ (l : List ℕ). row_of_pages pool pages' ++ l) none
+    ∙ append-nil (row_of_pages pool pages')
+    ∙ ap (row_of_pages pool) ep
     ∙ paged_all pool pages (take count (drop i pages))
-    ∙ ap (λ (l : List ℕ). l ++ paged pool (take count (drop i pages))) bare
+    ∙ ap (λ (l : List ℕ). l ++ row_of_pages pool (take count (drop i pages))) bare
     ∙ ap (λ (l : List ℕ). numbers ++ l) part
 
 pub take_part : (xs : List ℕ) (put count : ℕ) → put ≤ count → take put (take count xs) ≡ take put xs
@@ -507,7 +510,7 @@ more_zero_pages pool pages rest count more page before ep free er same k h =
 
 -- ---- zeros
 
-pub zeros_of_pages : (pool pages rest numbers row : List ℕ) (index count most : ℕ) → IsPaged pool pages rest → numbers ≡ paged pool pages ++ rest
+pub zeros_of_pages : (pool pages rest numbers row : List ℕ) (index count most : ℕ) → IsPaged pool pages rest → numbers ≡ row_of_pages pool pages ++ rest
     → index % 63 ≡ 0 → index / 63 ≤ length pages → row ≡ take most (drop (index / 63) pages) → count ≤ length row
     → ((k : ℕ) → k < count → IsZeroPage pool (get_or row k 0)) → IsZeroFrom numbers index (count * 63)
 zeros_of_pages pool pages rest numbers row index count most is view whole below er few free =
@@ -522,14 +525,14 @@ zeros_of_pages pool pages rest numbers row index count most is view whole below 
           let low : j < count = omega (arith, h) in
           let at : index + k ≡ (i + j) * 63 + k % 63 = omega (arith, whole) in
           let stands : i + j < length pages = omega (arith, low, few, many, below) in
-          let before : (i + j) * 63 + k % 63 < length (paged pool pages) = omega (arith, length_paged pool pages is.stand, stands) in
+          let before : (i + j) * 63 + k % 63 < length (row_of_pages pool pages) = omega (arith, length_paged pool pages is.stand, stands) in
           let page : get_or row j 0 ≡ get_or pages (i + j) 0 =
           ap (λ (xs : List ℕ). get_or xs j 0) er
           ∙ get_or-take most (drop i pages) j 0 (omega (arith, low, few, short))
           ∙ get_or-drop i pages j 0 in
           ap (λ (xs : List ℕ). get_or xs (index + k) 0) view
-          ∙ ap (λ n. get_or (paged pool pages ++ rest) n 0) at
-          ∙ get_or-append (paged pool pages) rest 0 ((i + j) * 63 + k % 63) before
+          ∙ ap (λ n. get_or (row_of_pages pool pages ++ rest) n 0) at
+          ∙ get_or-append (row_of_pages pool pages) rest 0 ((i + j) * 63 + k % 63) before
           ∙ paged_at pool pages is.stand (i + j) (k % 63) stands (omega arith)
           ∙ ap (λ p. get_or pool (p + k % 63) 0) (sym page)
           ∙ free j low (k % 63) (omega arith);

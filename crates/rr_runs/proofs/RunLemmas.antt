@@ -7,7 +7,7 @@ use Rattle.std.proofs.lemmas.List.{length-take-le, take_more}
 use Rattle.rr_word.specs.Numbered.{number_in}
 use Rattle.rr_word.specs.declared.numbered.NumberedDay.{NumberedDay}
 use Rattle.rr_word.proofs.ShapeLemmas.{int_eq-differ}
-use Rattle.rr_runs.specs.Runs.{IsCountOf, Reached, change, changes, days_of, first_reached, number_told, reach, reached, run_count}
+use Rattle.rr_runs.specs.Runs.{IsCountOf, Reached, change, changes, days_of, first_reached, number_told, reach, last_reached, run_count}
 use Rattle.rr_runs.specs.declared.run_days.RunCount.{RunCount}
 
 -- ---- the row
@@ -60,11 +60,11 @@ number_at day d (suc k) (suc n ∷ row) e =
 
 changes-append : (r : Reached) (xs : List NumberedDay) (x : NumberedDay)
     → changes r (xs ++ x ∷ [])
-    ≡ changes r xs + change (nat_abs (x.day -ℤ (reached r xs).day)) x.number (reached r xs).gap (reached r xs).number
+    ≡ changes r xs + change (nat_abs (x.day -ℤ (last_reached r xs).day)) x.number (last_reached r xs).gap (last_reached r xs).number
 changes-append r [] x = omega arith
 changes-append r (y ∷ ys) x = let rest = changes-append (reach r y) ys x in omega (arith, rest)
 
-reached-append : (r : Reached) (xs : List NumberedDay) (x : NumberedDay) → reached r (xs ++ x ∷ []) ≡ reach (reached r xs) x
+reached-append : (r : Reached) (xs : List NumberedDay) (x : NumberedDay) → last_reached r (xs ++ x ∷ []) ≡ reach (last_reached r xs) x
 reached-append r [] x = refl
 reached-append r (y ∷ ys) x = reached-append (reach r y) ys x
 
@@ -80,7 +80,7 @@ count_more (x ∷ xs) count new day number some er el eg en is =
     let added : changes (first_reached x) (xs ++ y ∷ []) ≡ changes (first_reached x) xs + change (nat_abs (day -ℤ count.last)) number count.gap count.number =
     changes-append (first_reached x) xs y
     ∙ ap (λ (r : Reached). changes (first_reached x) xs + change (nat_abs (day -ℤ r.day)) number r.gap r.number) is.1 in
-    let ends : reached (first_reached x) (xs ++ y ∷ []) ≡ reach last y =
+    let ends : last_reached (first_reached x) (xs ++ y ∷ []) ≡ reach last y =
     reached-append (first_reached x) xs y ∙ ap (λ (r : Reached). reach r y) is.1 in (
       omega (arith, added, er, is.0),
       ends ∙ (λ i. record { day = sym el i; gap = sym eg i; number = sym en i }),

@@ -6,13 +6,13 @@ abbrev pub page_numbers : List ℕ → ℕ → List ℕ
 page_numbers pool page = take 63 (drop page pool)
 
 -- the numbers of pages, one page after another
-abbrev pub paged : List ℕ → List ℕ → List ℕ
-paged pool [] = []
-paged pool (page ∷ pages) = page_numbers pool page ++ paged pool pages
+abbrev pub row_of_pages : List ℕ → List ℕ → List ℕ
+row_of_pages pool [] = []
+row_of_pages pool (page ∷ pages) = page_numbers pool page ++ row_of_pages pool pages
 
 -- the list that is kept: the numbers of pages, and those after the last page
 abbrev pub kept_list : List ℕ → List ℕ → List ℕ → List ℕ
-kept_list pool pages rest = paged pool pages ++ rest
+kept_list pool pages rest = row_of_pages pool pages ++ rest
 
 -- the first numbers of a list were put at the end: one at least, and at most as many as may be
 abbrev pub PutsSome : List ℕ → List ℕ → ℕ → List ℕ → ℕ → Type 0

@@ -47,9 +47,9 @@ abbrev pub reach : Reached → NumberedDay → Reached
 reach r x = record { day = x.day; gap = nat_abs (x.day -ℤ r.day); number = x.number }
 
 -- what is reached after these items: the last of them with its gap, or `r` where there is none
-abbrev pub reached : Reached → List NumberedDay → Reached
-reached r [] = r
-reached r (x ∷ xs) = reached (reach r x) xs
+abbrev pub last_reached : Reached → List NumberedDay → Reached
+last_reached r [] = r
+last_reached r (x ∷ xs) = last_reached (reach r x) xs
 
 -- 0 where both gap and number are the same, and else 1
 abbrev pub change : ℕ → ℕ → ℕ → ℕ → ℕ
@@ -76,15 +76,11 @@ abbrev pub IsCountOf : List NumberedDay → RunCount → Type 0
 IsCountOf [] count = count.runs ≡ 0
 IsCountOf (x ∷ xs) count =
     (count.runs ≡ 1 + changes (first_reached x) xs)
-    × (reached (first_reached x) xs ≡ record { day = count.last; gap = count.gap; number = count.number })
+    × (last_reached (first_reached x) xs ≡ record { day = count.last; gap = count.gap; number = count.number })
 
 -- whatever days the old count is of, the new one is of them and these more
 abbrev pub CountsMore : RunCount → List NumberedDay → RunCount → Type 0
 CountsMore old more new = (days : List NumberedDay) → IsCountOf days old → IsCountOf (days ++ more) new
-
--- a day within 3,000,000,000,000 either way
-abbrev pub IsFarDay : ℤ → Type 0
-IsFarDay d = (neg_ℤ (pos 3_000_000_000_000) ≤ℤ d) × (d ≤ℤ pos 3_000_000_000_000)
 
 -- a day within 4,000,000,000,000 either way; runs are counted over such days alone
 abbrev pub IsCountedDay : ℤ → Type 0

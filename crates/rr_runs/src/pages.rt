@@ -28,11 +28,11 @@ pub struct Pages {
 
 impl Model for Pages {
     ghost use Rattle.std.specs.Prelude.{ℕ, List, ◌++◌};
-    ghost use Rattle.rr_runs.specs.Pages.{IsPaged, paged};
+    ghost use Rattle.rr_runs.specs.Pages.{IsPaged, row_of_pages};
 
     ghost Value = { List ℕ };
 
-    ghost view = { λ p. paged p.pool.items p.pages.items ++ p.rest.items };
+    ghost view = { λ p. row_of_pages p.pool.items p.pages.items ++ p.rest.items };
 
     ghost invariant = { λ p. IsPaged p.pool.items p.pages.items p.rest.items };
 }

@@ -1,6 +1,6 @@
 // Room for numbers after the last page: where there is none, these become pages.
 ghost use Rattle.std.specs.Prelude.{◌≡◌, ◌≤◌, ◌++◌, [], IsTrue, OnErr, OnOk, length, replicate, ◌+◌, ◌*◌, ◌/◌, ◌%◌};
-ghost use Rattle.rr_runs.specs.Pages.{ArePages, HasRoom, IsGrown, IsPaged, kept_list, paged};
+ghost use Rattle.rr_runs.specs.Pages.{ArePages, HasRoom, IsGrown, IsPaged, kept_list, row_of_pages};
 
 use crate::blocks::PAGE_LENGTH;
 use crate::copies::{first_numbers, put_same, rest_from};
@@ -136,8 +136,8 @@ fn put_pages(
     ensures grown { IsGrown pool.old.items pool.new.items }
     ensures more { IsGrown pages.old.items pages.new.items }
     ensures stand { ArePages pool.new.items pages.new.items }
-    ensures value { OnOk result (paged pool.new.items pages.new.items
-        ≡ paged pool.old.items pages.old.items ++ numbers.now) }
+    ensures value { OnOk result (row_of_pages pool.new.items pages.new.items
+        ≡ row_of_pages pool.old.items pages.old.items ++ numbers.now) }
     ensures many { OnOk result (length pages.new.items
         ≡ length pages.old.items + length numbers.now / 63) }
 {
@@ -161,8 +161,8 @@ fn put_page(
     ensures grown { IsGrown pool.old.items pool.new.items }
     ensures more { IsGrown pages.old.items pages.new.items }
     ensures stand { ArePages pool.new.items pages.new.items }
-    ensures value { OnOk result (paged pool.new.items pages.new.items
-        ≡ paged pool.old.items pages.old.items ++ numbers.now) }
+    ensures value { OnOk result (row_of_pages pool.new.items pages.new.items
+        ≡ row_of_pages pool.old.items pages.old.items ++ numbers.now) }
     ensures many { OnOk result (length pages.new.items ≡ length pages.old.items + 1) }
     ensures err { OnErr result (pages.new.items ≡ pages.old.items) }
 {
@@ -185,8 +185,8 @@ pub(crate) fn put_pages_of(
     ensures stand { ArePages pool.new.items pages.new.items }
     ensures few { length pages.new.items ≤ 100_000_000 }
     ensures some { length pages.old.items ≤ length pages.new.items }
-    ensures value { OnOk result (paged pool.new.items pages.new.items
-        ≡ paged pool.old.items pages.old.items ++ replicate (count * 63) number) }
+    ensures value { OnOk result (row_of_pages pool.new.items pages.new.items
+        ≡ row_of_pages pool.old.items pages.old.items ++ replicate (count * 63) number) }
 {
     if count > MOST_PAGES - pages.len() {
         return Err(NoMemory);

@@ -1,8 +1,9 @@
 // Occupied days with the numbers of their time sets, in little room.
 ghost use Rattle.std.specs.Prelude.{◌≡◌, ◌≢◌, ◌⊎◌, ℕ, ◌<◌, ◌≤◌, ◌∷◌, ◌++◌, ◌+◌, [], None, OnErr, OnOk, drop, length, pos, neg_ℤ, ◌+ℤ◌, ◌≤ℤ◌, ◌<ℤ◌};
 ghost use Rattle.std.specs.List.{All};
+ghost use Rattle.rr_model.specs.Calendar.{IsDayWithin};
 ghost use Rattle.rr_word.specs.Numbered.{number_in};
-ghost use Rattle.rr_runs.specs.Runs.{CountsMore, IsCountedDay, IsFarDay, IsRowOf, PutsDayAt, SameDays, change, days_of, number_told, run_count};
+ghost use Rattle.rr_runs.specs.Runs.{CountsMore, IsCountedDay, IsRowOf, PutsDayAt, SameDays, change, days_of, number_told, run_count};
 
 use crate::pages::Pages;
 use rr_model::NoMemory;
@@ -35,13 +36,14 @@ pub struct RunDays {
 impl Model for RunDays {
     ghost use Rattle.std.specs.Prelude.{List, ◌≤◌, drop, length};
     ghost use Rattle.rr_word.specs.declared.numbered.NumberedDay.{NumberedDay};
-    ghost use Rattle.rr_runs.specs.Runs.{IsFarDay, days_of};
+    ghost use Rattle.rr_model.specs.Calendar.{IsDayWithin};
+    ghost use Rattle.rr_runs.specs.Runs.{days_of};
 
     ghost Value = { List NumberedDay };
 
     ghost view = { λ r. days_of r.first (drop r.skipped r.row) };
 
-    ghost invariant = { λ r. IsFarDay r.first × (r.skipped ≤ length r.row) };
+    ghost invariant = { λ r. IsDayWithin 0 r.first × (r.skipped ≤ length r.row) };
 }
 
 impl RunDays {
@@ -59,7 +61,7 @@ impl RunDays {
     /// The days of a row of numbers from a day on: 0 for a day without a number, and else one more than its number.
     /// It takes no memory.
     pub fn of_row(first: i64, row: Pages) -> Self
-        requires far { IsFarDay first }
+        requires far { IsDayWithin 0 first }
         ensures { result ≡ days_of first row }
     {
         RunDays::of_rest(first, row, 0)
@@ -68,7 +70,7 @@ impl RunDays {
     /// The days of a row of numbers from a day on, as `of_row` has them, where the first `skipped` numbers of the row are passed
     /// over: the number after them is that of the day. It takes no memory.
     pub fn of_rest(first: i64, row: Pages, skipped: usize) -> Self
-        requires far { IsFarDay first }
+        requires far { IsDayWithin 0 first }
         requires within { skipped ≤ length row }
         ensures { result ≡ days_of first (drop skipped row) }
     {
@@ -82,7 +84,7 @@ impl RunDays {
     /// Puts a day with its number at the end.
     pub fn put(&mut self, day: i64, number: u32) -> Result<(), NoMemory>
         requires after { All (λ x. x.day <ℤ day) self.old }
-        requires far { IsFarDay day }
+        requires far { IsDayWithin 0 day }
         ensures ok { OnOk result (self.new
             ≡ self.old ++ record { day = day; number = number } ∷ []) }
         ensures err { OnErr result (self.new ≡ self.old) }
@@ -98,7 +100,7 @@ impl RunDays {
 
     /// The number on a day; None exactly where no item has the day. It takes no memory.
     pub fn number_on(&self, day: i64) -> Option<u32>
-        requires far { IsFarDay day }
+        requires far { IsDayWithin 0 day }
         ensures { result ≡ number_in self.now day }
     {
         match self.row_from(day) {
@@ -117,7 +119,7 @@ impl RunDays {
     /// For a day and days after it, as far as they are kept in a row: 0 for a day without a number, and else one more than
     /// its number. None only where no item has the day.
     pub fn row_from(&self, day: i64) -> &[u32]
-        requires far { IsFarDay day }
+        requires far { IsDayWithin 0 day }
         ensures row { IsRowOf self.now day result.now }
         ensures none { result.now ≡ [] → number_in self.now day ≡ None }
     {
@@ -134,7 +136,7 @@ impl RunDays {
 
     /// How many days from a day on surely have no number: 0 where the day has one.
     pub fn free_days(&self, day: i64) -> u64
-        requires far { IsFarDay day }
+        requires far { IsDayWithin 0 day }
         ensures { (k : ℕ) → k < result → number_in self.now (day +ℤ pos k) ≡ None }
     {
         if day < self.first {
@@ -158,10 +160,10 @@ fn number_told(told: u32) -> Option<u32>
 
 // The day of the first of a row of `count` numbers, once a day is put.
 fn first_of(count: usize, first: i64, day: i64) -> i64
-    requires first_far { IsFarDay first }
-    requires far { IsFarDay day }
+    requires first_far { IsDayWithin 0 first }
+    requires far { IsDayWithin 0 day }
     ensures value { ((count ≡ 0) × (result ≡ day)) ⊎ ((count ≢ 0) × (result ≡ first)) }
-    ensures far { IsFarDay result }
+    ensures far { IsDayWithin 0 result }
 {
     if count == 0 { day } else { first }
 }
@@ -169,8 +171,8 @@ fn first_of(count: usize, first: i64, day: i64) -> i64
 // The index of a day in a row whose first day is `first`.
 fn index_of(first: i64, day: i64) -> usize
     requires order { first ≤ℤ day }
-    requires first_far { IsFarDay first }
-    requires far { IsFarDay day }
+    requires first_far { IsDayWithin 0 first }
+    requires far { IsDayWithin 0 day }
     ensures { day ≡ first +ℤ pos result }
 {
     (day - first) as usize
@@ -178,7 +180,7 @@ fn index_of(first: i64, day: i64) -> usize
 
 // How many runs the days of a row have whose first `skipped` numbers are passed over.
 fn count_runs(first: i64, row: &Pages, skipped: usize) -> usize
-    requires far { IsFarDay first }
+    requires far { IsDayWithin 0 first }
     requires within { skipped ≤ length row.now }
     ensures { result ≡ run_count (days_of first (drop skipped row.now)) }
 {

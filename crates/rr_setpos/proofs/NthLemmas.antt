@@ -7,7 +7,7 @@ use Rattle.rr_model.specs.Whole.{divides}
 use Rattle.rr_model.specs.Whole.Count.{count_from}
 use Rattle.rr_model.specs.Moment.{day_part, second_part, moment_at}
 use Rattle.rr_model.specs.Moment.Units.{unit_number, unit_start, is_whole_days, unit_seconds}
-use Rattle.rr_model.specs.Rule.Filled.{filled}
+use Rattle.rr_model.specs.Rule.Filled.{filled_rule}
 use Rattle.rr_model.specs.Rule.Candidate.{interval_holds, date_parts_hold, is_candidate}
 use Rattle.rr_model.specs.Rule.Chosen.{unit_end}
 use Rattle.rr_model.specs.declared.kind.Kind.{Kind}
@@ -97,7 +97,7 @@ module _ (rule : Rule) (kind : Kind) (start unit : ℤ) (coarse : is_whole_days 
 
     module _ (k s : ℕ) (within : k < count) (low : s < seconds_of kind)
         (fits : divides rule.interval (unit -ℤ unit_number rule.freq rule.week_start kind start) ≡ true)
-        (dates : date_parts_hold (filled rule Days (day_part kind start)) (unit_start rule.freq rule.week_start Days unit +ℤ pos k) ≡ true)
+        (dates : date_parts_hold (filled_rule rule Days (day_part kind start)) (unit_start rule.freq rule.week_start Days unit +ℤ pos k) ≡ true)
         (times : time_holds rule kind start s ≡ true) where
       abbrev pub there : ℤ
       there = moment_at kind (first +ℤ pos k) s
@@ -158,10 +158,10 @@ module _ (rule : Rule) (start unit : ℤ) (fine : is_whole_days rule.freq ≡ fa
   pub unit_within : second_part Moments (unit_start rule.freq rule.week_start Moments unit) + unit_seconds rule.freq ≤ 86_400
   unit_within = omega (arith, (begin_on_day begin begin_in_unit).1, (begin_bounds rule.freq (second_part Moments begin) (second_part-below Moments begin)).2)
 
-  pub none_on_day : (position : ℤ) → date_parts_hold (filled rule Days (day_part Moments start))
+  pub none_on_day : (position : ℤ) → date_parts_hold (filled_rule rule Days (day_part Moments start))
       (day_part Moments (unit_start rule.freq rule.week_start Moments unit)) ≡ false → IsNthOfUnit rule Moments start unit position None
   none_on_day position fails = λ t in_it passes has.
-      false≢true (sym fails ∙ ap (date_parts_hold (filled rule Moments start)) (begin_on_day t in_it).0 ∙ (candidate_parts rule Moments start t passes).1)
+      false≢true (sym fails ∙ ap (date_parts_hold (filled_rule rule Moments start)) (begin_on_day t in_it).0 ∙ (candidate_parts rule Moments start t passes).1)
 
   pub size_in_day : (t : ℤ) → unit_number rule.freq rule.week_start Moments t ≡ unit → is_candidate rule Moments start t ≡ true
       → size_of_unit rule Moments start t ≡ times_before rule Moments start
@@ -183,7 +183,7 @@ module _ (rule : Rule) (start unit : ℤ) (fine : is_whole_days rule.freq ≡ fa
   rank_in_day rank low = omega (arith, low, before_all (second_part Moments begin + unit_seconds rule.freq) 86_400 unit_within)
 
   module _ (s rank : ℕ) (low : s < 86_400) (fits : divides rule.interval (unit -ℤ unit_number rule.freq rule.week_start Moments start) ≡ true)
-      (dates : date_parts_hold (filled rule Days (day_part Moments start)) (day_part Moments (unit_start rule.freq rule.week_start Moments unit))
+      (dates : date_parts_hold (filled_rule rule Days (day_part Moments start)) (day_part Moments (unit_start rule.freq rule.week_start Moments unit))
       ≡ true) (times : time_holds rule Moments start s ≡ true)
       (few : rank < times_before rule Moments start
       (second_part Moments (unit_start rule.freq rule.week_start Moments unit) + unit_seconds rule.freq) - times_before rule Moments start
@@ -223,9 +223,9 @@ module _ (rule : Rule) (start unit : ℤ) (fine : is_whole_days rule.freq ≡ fa
     candidate_in_fine =
         and_true _ _ _
         (ap (λ u. divides rule.interval (u -ℤ unit_number rule.freq rule.week_start Moments start)) in_fine_unit ∙ fits)
-        (ap (date_parts_hold (filled rule Moments start)) (day_part-moment_at (day_part Moments begin) s low) ∙ dates)
-        (time_parts_hold-at (filled rule Moments start) (day_part Moments begin) s low
-        ∙ sym (time_parts_hold-at (filled rule Moments start) (pos 0) s low) ∙ times)
+        (ap (date_parts_hold (filled_rule rule Moments start)) (day_part-moment_at (day_part Moments begin) s low) ∙ dates)
+        (time_parts_hold-at (filled_rule rule Moments start) (day_part Moments begin) s low
+        ∙ sym (time_parts_hold-at (filled_rule rule Moments start) (pos 0) s low) ∙ times)
 
     pub rank_in_fine : rank_in_unit rule Moments start (moment_at Moments (day_part Moments (unit_start rule.freq rule.week_start Moments unit)) s) ≡ rank
     rank_in_fine =

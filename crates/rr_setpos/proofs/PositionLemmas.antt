@@ -9,7 +9,7 @@ use Rattle.rr_model.specs.Whole.Count.{count_from}
 use Rattle.rr_model.specs.Moment.{day_part, second_part, moment_at}
 use Rattle.rr_model.specs.Moment.Units.{unit_number, unit_start, is_whole_days, unit_seconds}
 use Rattle.rr_model.specs.Rule.Validity.{takes_start}
-use Rattle.rr_model.specs.Rule.Filled.{filled}
+use Rattle.rr_model.specs.Rule.Filled.{filled_rule}
 use Rattle.rr_model.specs.Rule.Candidate.{interval_holds, date_parts_hold, time_parts_hold, is_candidate}
 use Rattle.rr_model.specs.Rule.Chosen.{unit_begin, unit_end, position_from_front, position_from_back, is_chosen}
 use Rattle.rr_model.specs.declared.kind.Kind.{Kind}
@@ -130,7 +130,7 @@ module _ (rule : Rule) (kind : Kind) (start : ℤ) (coarse : is_whole_days rule.
         ∙ ap (is_candidate rule kind start) (sym (moment_is kind t)) ∙ passes)).0
 
     -- on its unit's days the date parts decide
-    day_of_unit : (d : ℤ) → first ≤ℤ d → d <ℤ next → day d ≡ date_parts_hold (filled rule Days (day_part kind start)) d
+    day_of_unit : (d : ℤ) → first ≤ℤ d → d <ℤ next → day d ≡ date_parts_hold (filled_rule rule Days (day_part kind start)) d
     day_of_unit d low high =
         let same : unit_number rule.freq rule.week_start Days d ≡ unit_number rule.freq rule.week_start Days own =
         (units_are_stretches rule.freq rule.week_start Days d _).1 (low, high) in
@@ -153,7 +153,7 @@ module _ (rule : Rule) (kind : Kind) (start : ℤ) (coarse : is_whole_days rule.
         + cond (day (first +ℤ pos n)) (times_before rule kind start s) 0
     counted n s few low =
         count_product (seconds_of kind) (is_candidate rule kind start) day time product first n s low
-        ∙ rw (count_from-same day (λ d. date_parts_hold (filled rule Days (day_part kind start)) d) first n
+        ∙ rw (count_from-same day (λ d. date_parts_hold (filled_rule rule Days (day_part kind start)) d) first n
         (λ d a b. day_of_unit d a (omega (arith, ints, a, b, few, in_days.0, in_days.1)))) refl
 
     pub coarse_rank : rank_in_unit rule kind start t ≡ days_before rule (day_part kind start) own * times_before rule kind start (seconds_of kind)
@@ -222,7 +222,7 @@ begin_bounds Monthly s low = (omega (arith, low), omega (arith, low), omega (ari
 begin_bounds Yearly s low = (omega (arith, low), omega (arith, low), omega (arith, low))
 
 pub candidate_parts : (rule : Rule) (kind : Kind) (start t : ℤ) → is_candidate rule kind start t ≡ true → (interval_holds rule kind start t ≡ true)
-    × (date_parts_hold (filled rule kind start) (day_part kind t) ≡ true) × (time_parts_hold (filled rule kind start) kind t ≡ true)
+    × (date_parts_hold (filled_rule rule kind start) (day_part kind t) ≡ true) × (time_parts_hold (filled_rule rule kind start) kind t ≡ true)
 unfolding is_candidate
 candidate_parts rule kind start t e = all_parts _ _ _ e
 
@@ -235,9 +235,9 @@ candidate_beside rule start d s r low few passes same =
     let parts = candidate_parts rule Moments start (moment_at Moments d s) passes in
     let fits : interval_holds rule Moments start (moment_at Moments d r) ≡ true =
     ap (λ u. divides rule.interval (u -ℤ unit_number rule.freq rule.week_start Moments start)) same ∙ parts.0 in
-    let dates : date_parts_hold (filled rule Moments start) (day_part Moments (moment_at Moments d r)) ≡ true =
-    ap (date_parts_hold (filled rule Moments start)) (day_part-moment_at d r few ∙ sym (day_part-moment_at d s low)) ∙ parts.1 in
-    rw (fits, dates) (time_parts_hold-at (filled rule Moments start) d r few ∙ sym (time_parts_hold-at (filled rule Moments start) (pos 0) r few))
+    let dates : date_parts_hold (filled_rule rule Moments start) (day_part Moments (moment_at Moments d r)) ≡ true =
+    ap (date_parts_hold (filled_rule rule Moments start)) (day_part-moment_at d r few ∙ sym (day_part-moment_at d s low)) ∙ parts.1 in
+    rw (fits, dates) (time_parts_hold-at (filled_rule rule Moments start) d r few ∙ sym (time_parts_hold-at (filled_rule rule Moments start) (pos 0) r few))
 
 module _ (rule : Rule) (start d : ℤ) (s : ℕ) (fine : is_whole_days rule.freq ≡ false) (low : s < 86_400)
     (passes : is_candidate rule Moments start (moment_at Moments d s) ≡ true) where

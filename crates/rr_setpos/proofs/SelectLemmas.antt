@@ -1,7 +1,7 @@
 -- The number, the second and the day of a rank.
 use Rattle.std.proofs.Common.{◌≡◌, ℕ, zero, suc, ◌+◌, ◌*◌, ◌/◌, ◌%◌, ◌<◌, Bool, true, cond, ℤ, pos, refl, ◌∙◌, arith}
 use Rattle.std.proofs.lemmas.Nat.{div_below, div-add-mod', mod_below}
-use Rattle.rr_model.specs.Rule.Filled.{filled, hour_of, minute_of, second_of, wants_hour, wants_minute, wants_second}
+use Rattle.rr_model.specs.Rule.Filled.{filled_rule, hour_of, minute_of, second_of, wants_hour, wants_minute, wants_second}
 use Rattle.rr_model.specs.declared.kind.Kind.TheVariants.{Moments}
 use Rattle.rr_model.specs.declared.rule.Rule.{Rule}
 use Rattle.rr_model.specs.Rule.DaysAndTimes.{time_holds}
@@ -81,4 +81,4 @@ module _ (rule : Rule) (hour minute second : ℕ) where
 -- in kind Moments the parts of the start's own time decide
 pub time_at_second : (rule : Rule) (start : ℤ) (s : ℕ) → s < 86_400 → time_holds rule Moments start s
     ≡ day_second_allowed rule (hour_of Moments start) (minute_of Moments start) (second_of Moments start) s
-time_at_second rule start s low = time_parts_hold-at (filled rule Moments start) (pos 0) s low
+time_at_second rule start s low = time_parts_hold-at (filled_rule rule Moments start) (pos 0) s low

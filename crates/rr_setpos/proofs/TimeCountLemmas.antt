@@ -1,6 +1,6 @@
 -- Times counted as products of hours, minutes and seconds.
 use Rattle.std.proofs.Common.{◌≡◌, ℕ, zero, suc, ◌+◌, ◌*◌, ◌/◌, ◌%◌, ◌≤◌, Bool, true, false, cond, ◌&&◌, ℤ, pos, refl, ap, ◌∙◌, arith}
-use Rattle.rr_model.specs.Rule.Filled.{filled, hour_of, minute_of, second_of, wants_hour, wants_minute, wants_second}
+use Rattle.rr_model.specs.Rule.Filled.{filled_rule, hour_of, minute_of, second_of, wants_hour, wants_minute, wants_second}
 use Rattle.rr_model.specs.declared.kind.Kind.TheVariants.{Days, Moments}
 use Rattle.rr_model.specs.declared.rule.Rule.{Rule}
 use Rattle.rr_model.specs.Rule.DaysAndTimes.{time_holds}
@@ -57,4 +57,4 @@ module _ (rule : Rule) where
       ≡ count_seconds (λ s. day_second_allowed rule (hour_of Moments start) (minute_of Moments start) (second_of Moments start) s) n
   times_of_day start n few = count_seconds-same (λ s. time_holds rule Moments start s)
       (λ s. day_second_allowed rule (hour_of Moments start) (minute_of Moments start) (second_of Moments start) s) n
-      (λ s low. time_parts_hold-at (filled rule Moments start) (pos 0) s (omega (arith, low, few)))
+      (λ s low. time_parts_hold-at (filled_rule rule Moments start) (pos 0) s (omega (arith, low, few)))

@@ -3,7 +3,7 @@ use Rattle.std.specs.Prelude.{◌≡◌, ℕ, ◌+◌, ◌-◌, ◌*◌, ◌/◌
 use Rattle.rr_model.specs.Whole.Count.{count_from}
 use Rattle.rr_model.specs.Moment.{day_part, second_part}
 use Rattle.rr_model.specs.Moment.Units.{unit_number, unit_start, is_whole_days, unit_seconds}
-use Rattle.rr_model.specs.Rule.Filled.{filled, wants_hour, wants_minute, wants_second}
+use Rattle.rr_model.specs.Rule.Filled.{filled_rule, wants_hour, wants_minute, wants_second}
 use Rattle.rr_model.specs.Rule.Validity.{is_absent, takes_start}
 use Rattle.rr_model.specs.Rule.Candidate.{lists, date_parts_hold, is_candidate}
 use Rattle.rr_model.specs.Rule.Chosen.{unit_begin, unit_end, position_from_front, position_from_back, by_set_pos_holds}
@@ -26,7 +26,7 @@ times_per_day rule kind start = times_before rule kind start (seconds_of kind)
 
 -- how many of n days from the first on the date parts allow
 abbrev pub days_among : Rule → ℤ → ℤ → ℕ → ℕ
-days_among rule start_day first n = count_from (λ d. date_parts_hold (filled rule Days start_day) d) first n
+days_among rule start_day first n = count_from (λ d. date_parts_hold (filled_rule rule Days start_day) d) first n
 
 -- the first day of the unit of a day
 abbrev pub first_of_unit : Rule → ℤ → ℤ

@@ -3,7 +3,7 @@ ghost use Rattle.std.specs.Prelude.{◌≡◌, ◌≤◌};
 ghost use Rattle.rr_model.specs.Calendar.{IsDayWithin};
 ghost use Rattle.rr_model.specs.Rule.Candidate.{date_parts_hold, is_candidate};
 ghost use Rattle.rr_model.specs.Rule.Chosen.{is_chosen};
-ghost use Rattle.rr_model.specs.Rule.Filled.{filled};
+ghost use Rattle.rr_model.specs.Rule.Filled.{filled_rule};
 ghost use Rattle.rr_model.specs.Moment.{day_part};
 ghost use Rattle.rr_model.specs.Moment.Years.{IsInYears};
 ghost use Rattle.rr_model.specs.Rule.Validity.{IsValidRule};
@@ -44,7 +44,7 @@ pub(crate) fn is_candidate(rule: &Rule, start: &Moment, moment: &Moment) -> bool
 // Whether each date part of the rule, filled from its start, holds of the day.
 fn dates_hold(rule: &Rule, start: &Moment, day: &Day) -> bool
     ensures { result
-        ≡ date_parts_hold (filled rule.now start.now.kind start.now.at) day.now.number }
+        ≡ date_parts_hold (filled_rule rule.now start.now.kind start.now.at) day.now.number }
 {
     date_parts_hold(rule, &start.day, day)
 }

@@ -15,7 +15,7 @@ use crate::time_counts::{seconds_of, times_before};
 use rr_cal::{days_in_unit, first_day_of_unit};
 use rr_model::{Freq, Kind, Rule, moment_at, second_part};
 use rr_num::is_congruent;
-use rr_parts::{Moment, date_parts_hold, fits, seconds_of_unit, unit_number};
+use rr_parts::{Moment, date_parts_hold, seconds_of_unit, unit_fits, unit_number};
 
 /// The candidate of a unit at the position `place`, from 1 from the front, or negative from the back; none exactly where there
 /// is none (RFC 5545, section 3.3.10, BYSETPOS).
@@ -47,7 +47,7 @@ fn nth_of_days(rule: &Rule, start: &Moment, unit: i64, position: i64) -> Option<
     requires position { position ≡ pos 0 → ⊥ }
     ensures { IsNthOfUnit rule.now start.now.kind start.now.at unit position result }
 {
-    if !fits(rule, &start.day, unit) {
+    if !unit_fits(rule, &start.day, unit) {
         return None;
     }
     let first = first_day_of_unit(rule.freq, rule.week_start, unit);

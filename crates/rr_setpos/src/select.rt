@@ -3,7 +3,7 @@ ghost use Rattle.std.specs.Prelude.{◌≡◌, ◌<◌, ◌+ℤ◌, pos, true};
 ghost use Rattle.rr_model.specs.Calendar.{IsDayWithin};
 ghost use Rattle.rr_model.specs.Rule.Candidate.{date_parts_hold};
 ghost use Rattle.rr_model.specs.Rule.DaysAndTimes.{seconds_of, time_holds};
-ghost use Rattle.rr_model.specs.Rule.Filled.{filled};
+ghost use Rattle.rr_model.specs.Rule.Filled.{filled_rule};
 ghost use Rattle.rr_model.specs.Sets.Counting.{count_seconds};
 ghost use Rattle.rr_model.specs.declared.kind.Kind.TheVariants.{Days};
 ghost use Rattle.rr_parts.specs.Numbers.{number_allowed};
@@ -97,7 +97,8 @@ pub(crate) fn nth_day(rule: &Rule, start: &Day, first: i64, count: u16, rank: u3
     requires last { IsDayWithin 1000 (first +ℤ pos count) }
     requires rank { rank < days_among rule.now start.now.number first count }
     ensures within { result < count }
-    ensures holds { date_parts_hold (filled rule.now Days start.now.number) (first +ℤ pos result)
+    ensures holds { date_parts_hold (filled_rule rule.now Days start.now.number)
+        (first +ℤ pos result)
         ≡ true }
     ensures rank { days_among rule.now start.now.number first result ≡ rank }
 {

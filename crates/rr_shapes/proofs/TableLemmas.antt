@@ -6,7 +6,7 @@ use Rattle.std.proofs.lemmas.Option.{slice_get_within, slice_get-get_or, get_or_
 use Rattle.rr_model.specs.Rising.Sets.{IsSetOf, IsSecondsOfDay}
 use Rattle.rr_model.proofs.RisingSetLemmas.{set_itself, set_same}
 use Rattle.rr_shapes.specs.Tables.{Extends, IsUnion, IsDifference, IsTable}
-use Rattle.rr_shapes.specs.declared.unions.Pair.{Pair}
+use Rattle.rr_shapes.specs.declared.pair_numbers.Pair.{Pair}
 
 module _ (old new : List (List ℕ)) (grows : Extends old new) (number : ℕ) (within : number < length old) where
   -- a number keeps its set

@@ -2,7 +2,7 @@
 use Rattle.std.specs.Prelude.{◌≡◌, ◌⊎◌, ℕ, ◌<◌, List, [], All, Contains, get_or, length, slice_get, Some}
 use Rattle.rr_model.specs.Rising.Sets.{IsSecondsOfDay}
 use Rattle.rr_times.specs.Combined.{IsDifferenceOf, IsUnionOf}
-use Rattle.rr_shapes.specs.declared.unions.Pair.{Pair}
+use Rattle.rr_shapes.specs.declared.pair_numbers.Pair.{Pair}
 
 -- each set of the old table has the same number in the new one
 abbrev pub Extends : List (List ℕ) → List (List ℕ) → Type 0

@@ -2,15 +2,15 @@
 #![tactic(auto)]
 
 mod ids;
+mod pair_numbers;
 mod residues;
 mod set_table;
 mod shapes;
 mod time_sets;
-mod unions;
 
 pub use ids::{FoldedSetId, SetId};
+pub use pair_numbers::{Pair, PairNumbers};
 pub use residues::Residues;
 pub use set_table::SetTable;
 pub use shapes::Shapes;
 pub use time_sets::TimeSets;
-pub use unions::{Pair, Unions};

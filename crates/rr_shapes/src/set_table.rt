@@ -4,8 +4,8 @@ ghost use Rattle.rr_times.specs.Combined.{IsDifferenceOf, IsUnionOf};
 ghost use Rattle.rr_shapes.specs.Tables.{Extends};
 
 use crate::ids::SetId;
+use crate::pair_numbers::{Pair, PairNumbers};
 use crate::time_sets::TimeSets;
-use crate::unions::{Pair, Unions};
 use rr_model::NoMemory;
 use rr_times::TimeSet;
 use std::alloc::Global;
@@ -18,9 +18,9 @@ use std::marker::Model;
 #[derive(Drop)]
 pub struct SetTable {
     sets: TimeSets,
-    unions: Unions,
+    unions: PairNumbers,
     // The same of what a second set leaves of a first.
-    differences: Unions,
+    differences: PairNumbers,
 }
 
 impl Model for SetTable {
@@ -41,8 +41,8 @@ impl SetTable {
     {
         SetTable {
             sets: TimeSets::new(alloc),
-            unions: Unions::new(alloc),
-            differences: Unions::new(alloc),
+            unions: PairNumbers::new(alloc),
+            differences: PairNumbers::new(alloc),
         }
     }
 

@@ -17,7 +17,7 @@ use Rattle.rr_model.specs.Moment.Units.{month_number, first_day_of_month, unit_n
 use Rattle.rr_model.specs.Rule.Candidate.{by_month_holds, by_week_no_holds, by_year_day_holds, by_month_day_holds, by_day_holds}
 use Rattle.rr_model.specs.Rule.Candidate.{lists, allows_signed, interval_holds, time_parts_hold, is_candidate}
 use Rattle.rr_model.specs.Rule.Chosen.{by_set_pos_holds, is_chosen}
-use Rattle.rr_model.specs.Rule.Filled.{filled_part, wants_hour, wants_minute, wants_second, wants_day, wants_month_day, day_item_of, filled}
+use Rattle.rr_model.specs.Rule.Filled.{filled_part, wants_hour, wants_minute, wants_second, wants_day, wants_month_day, day_item_of, filled_rule}
 use Rattle.rr_model.specs.Rule.Member.{IsWithinEnd, members_to}
 use Rattle.rr_model.specs.Rule.Validity.{is_absent}
 use Rattle.rr_model.specs.declared.kind.Kind.{Kind}
@@ -171,7 +171,7 @@ module _ (rule : Rule) (kind : Kind) (start t : ℤ) (taken : IsTrue (takes_skip
 
   -- the rule with what it takes from its start
   abbrev full : Rule
-  full = filled rule Days start_day
+  full = filled_rule rule Days start_day
 
   abbrev schedule : Schedule
   schedule = schedule_of (record { skip = Omit; rule = rule }) start_day
@@ -231,7 +231,7 @@ module _ (rule : Rule) (kind : Kind) (start t : ℤ) (taken : IsTrue (takes_skip
 
   -- ---- the time parts
 
-  times : (k : Kind) → time_parts_hold (filled rule k start) k t ≡ (second_part k t == second_part k start)
+  times : (k : Kind) → time_parts_hold (filled_rule rule k start) k t ≡ (second_part k t == second_part k start)
   times Days = refl
   times Moments =
       let w = times_wanted rule.freq taken in

@@ -4,7 +4,7 @@ use Rattle.std.specs.Prelude.{codes, filter, int_lt, ok_or}
 use Rattle.std.specs.List.{list_all}
 use Rattle.std.specs.Str.{bytes_eq}
 use Rattle.rr_model.specs.Rising.{with_value}
-use Rattle.rr_model.specs.Text.RuleValues.{◌>>=◌, pieces, placed, number_within, numbers_of, signed, has_number_form}
+use Rattle.rr_model.specs.Text.RuleValues.{◌>>=◌, pieces, rising_values, number_within, numbers_of, signed_bounds, has_number_form}
 use Rattle.rr_model.specs.Text.Rules.{split_once, part_named, is_extension, name_of, is_present, with_part_value, with_part, with_parts, parts_of, rule_parts}
 use Rattle.rr_model.specs.Text.Steps.{in_turn}
 use Rattle.rr_model.specs.declared.refusal.Refusal.{Refusal}
@@ -24,24 +24,24 @@ use Rattle.rr_skip.specs.declared.parts.ScaledParts.{ScaledParts}
 
 -- a list is read alike where each value is
 placed_same : {X : Type 0} (below : X → X → Bool) (f g : List ℕ → Result X Refusal) → ((t : List ℕ) (x : X) → f t ≡ Ok x → g t ≡ Ok x)
-    → (list : List X) (texts : List (List ℕ)) (all : List X) → placed below f list texts ≡ Ok all → placed below g list texts ≡ Ok all
+    → (list : List X) (texts : List (List ℕ)) (all : List X) → rising_values below f list texts ≡ Ok all → rising_values below g list texts ≡ Ok all
 placed_same below f g same list [] all h = h
 placed_same below f g same list (text ∷ texts) all h =
-    let one = and_then_ok (f text) (λ x. placed below f (with_value below list x) texts) all h in
-    ap (λ r. r >>= λ x. placed below g (with_value below list x) texts) (same text one.0 one.1)
+    let one = and_then_ok (f text) (λ x. rising_values below f (with_value below list x) texts) all h in
+    ap (λ r. r >>= λ x. rising_values below g (with_value below list x) texts) (same text one.0 one.1)
     ∙ placed_same below f g same (with_value below list one.0) texts all one.2
 
-front_day-number : (line : ℕ) (text : List ℕ) (k : ℤ) → front_day line text ≡ Ok k → number_within line (signed 31) text ≡ Ok k
+front_day-number : (line : ℕ) (text : List ℕ) (k : ℤ) → front_day line text ≡ Ok k → number_within line (signed_bounds 31) text ≡ Ok k
 front_day-number line text k h =
-    let n = and_then_ok (number_within line (signed 31) text) (λ z. if int_lt z (pos 0) then Err Extended else Ok z) k h in
+    let n = and_then_ok (number_within line (signed_bounds 31) text) (λ z. if int_lt z (pos 0) then Err Extended else Ok z) k h in
     n.1 ∙ (not_refused (int_lt n.0 (pos 0)) Extended (Ok n.0) k n.2).1
 
-front_days-numbers : (line : ℕ) (text : List ℕ) (ks : List ℤ) → front_days line text ≡ Ok ks → numbers_of line (signed 31) text ≡ Ok ks
+front_days-numbers : (line : ℕ) (text : List ℕ) (ks : List ℤ) → front_days line text ≡ Ok ks → numbers_of line (signed_bounds 31) text ≡ Ok ks
 unfolding front_days numbers_of
 front_days-numbers line text ks h =
-    let form = passed (list_all (has_number_form (signed 31)) (pieces 44 text)) _ (BadRule line) ks h in
-    ap (λ (b : Bool). if b then placed int_lt (number_within line (signed 31)) [] (pieces 44 text) else Err (BadRule line)) form.0
-    ∙ placed_same int_lt (front_day line) (number_within line (signed 31)) (front_day-number line) [] (pieces 44 text) ks form.1
+    let form = passed (list_all (has_number_form (signed_bounds 31)) (pieces 44 text)) _ (BadRule line) ks h in
+    ap (λ (b : Bool). if b then rising_values int_lt (number_within line (signed_bounds 31)) [] (pieces 44 text) else Err (BadRule line)) form.0
+    ∙ placed_same int_lt (front_day line) (number_within line (signed_bounds 31)) (front_day-number line) [] (pieces 44 text) ks form.1
 
 taken_value-same : (line : ℕ) (parts more : RuleParts) (name : PartName) (text : List ℕ) → with_taken_value line parts name text ≡ Ok more
     → with_part_value line parts name text ≡ Ok more

@@ -16,7 +16,7 @@ use Rattle.rr_model.specs.Text.Event.{event_scan}
 use Rattle.rr_model.specs.Text.Lines.{without_mark}
 use Rattle.rr_model.specs.Text.Moments.{basic}
 use Rattle.rr_model.specs.Text.Passes.{Event, Stated, moment_beside, passes}
-use Rattle.rr_model.specs.Text.RuleValues.{pieces, freq_named, weekday_named, number_up_to, numbers_of, number_within, unsigned, signed, has_number_form}
+use Rattle.rr_model.specs.Text.RuleValues.{pieces, freq_named, weekday_named, number_up_to, numbers_of, number_within, unsigned_bounds, signed_bounds, has_number_form}
 use Rattle.rr_model.specs.Text.Rules.{split_once, part_named, no_parts, without_last_semicolon, line_value, end_of, rule_with}
 use Rattle.rr_model.specs.Text.WriteLaws.{IsOneEnd}
 use Rattle.rr_model.specs.declared.kind.Kind.{Kind}
@@ -87,7 +87,7 @@ no_parts-front = record {
 -- a day of the month counts from the front, up to 31
 front_day-counts : (line : ℕ) (text : List ℕ) (k : ℤ) → front_day line text ≡ Ok k → (pos 1 ≤ℤ k) × ((1 ≤ nat_abs k) × (nat_abs k ≤ 31))
 front_day-counts line text k h =
-    let n = and_then_ok (number_within line (signed 31) text) (λ z. if int_lt z (pos 0) then Err Extended else Ok z) k h in
+    let n = and_then_ok (number_within line (signed_bounds 31) text) (λ z. if int_lt z (pos 0) then Err Extended else Ok z) k h in
     let p = not_refused (int_lt n.0 (pos 0)) Extended (Ok n.0) k n.2 in
     let same : n.0 ≡ k = cc in
     let c = number_within-counts line 31 text n.0 n.1 in
@@ -97,17 +97,17 @@ front_day-counts line text k h =
 front_days-front : (line : ℕ) (text : List ℕ) (ks : List ℤ) → front_days line text ≡ Ok ks → All (λ k. pos 1 ≤ℤ k) ks
 unfolding front_days
 front_days-front line text =
-    All-list_of (λ k. pos 1 ≤ℤ k) int_lt (front_day line) (λ t k h. (front_day-counts line t k h).0) line (has_number_form (signed 31)) text
+    All-list_of (λ k. pos 1 ≤ℤ k) int_lt (front_day line) (λ t k h. (front_day-counts line t k h).0) line (has_number_form (signed_bounds 31)) text
 
 front_days-count : (line : ℕ) (text : List ℕ) (ks : List ℤ) → front_days line text ≡ Ok ks → CountUpTo 31 ks
 unfolding front_days
 front_days-count line text =
     All-list_of (λ k. (1 ≤ nat_abs k) × (nat_abs k ≤ 31)) int_lt (front_day line) (λ t k h. (front_day-counts line t k h).1) line
-    (has_number_form (signed 31)) text
+    (has_number_form (signed_bounds 31)) text
 
 front_days-rise : (line : ℕ) (text : List ℕ) (ks : List ℤ) → front_days line text ≡ Ok ks → Rises int_lt ks
 unfolding front_days
-front_days-rise line text = Rises-list_of int_lt (front_day line) line (has_number_form (signed 31)) text
+front_days-rise line text = Rises-list_of int_lt (front_day line) line (has_number_form (signed_bounds 31)) text
 
 -- what a value keeps of that
 value-front : (line : ℕ) (parts : RuleParts) (name : PartName) (text : List ℕ) (more : RuleParts) → is_taken name ≡ true → IsFromFront parts
@@ -123,7 +123,7 @@ value-front line parts part.Interval text more t f =
 value-front line parts part.WeekStart text more t f =
     step_keeps IsFromFront (ok_or (weekday_named text) (BadRule line)) (λ x. record parts { week_start = Some x }) more (λ x e. assumption)
 value-front line parts part.ByMonth text more t f =
-    step_keeps IsFromFront (numbers_of line (unsigned 1 12) text) (λ x. record parts { by_month = x }) more (λ x e. assumption)
+    step_keeps IsFromFront (numbers_of line (unsigned_bounds 1 12) text) (λ x. record parts { by_month = x }) more (λ x e. assumption)
 value-front line parts part.ByMonthDay text more t f =
     step_keeps IsFromFront (front_days line text) (λ x. record parts { by_month_day = x }) more (λ x e. assumption (front_days-front line text x e))
 value-front line parts part.BySecond text more t f = λ h. absurd (false≢true t)

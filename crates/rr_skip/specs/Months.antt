@@ -7,7 +7,7 @@ use Rattle.rr_model.specs.Calendar.{days_in_month}
 use Rattle.rr_model.specs.Moment.{day_part, second_part}
 use Rattle.rr_model.specs.Moment.Units.{month_number, first_day_of_month}
 use Rattle.rr_model.specs.Rule.Candidate.{allows}
-use Rattle.rr_model.specs.Rule.Filled.{filled}
+use Rattle.rr_model.specs.Rule.Filled.{filled_rule}
 use Rattle.rr_model.specs.declared.kind.Kind.{Kind}
 use Rattle.rr_model.specs.declared.kind.Kind.TheVariants.{Days}
 use Rattle.rr_model.specs.declared.rule.Freq.{Freq}
@@ -41,8 +41,8 @@ schedule_of rule start_day = record {
   freq = rule.rule.freq;
   interval = rule.rule.interval;
   start_unit = unit_of_month rule.rule.freq (month_number start_day);
-  months = (filled rule.rule Days start_day).by_month;
-  days = (filled rule.rule Days start_day).by_month_day;
+  months = (filled_rule rule.rule Days start_day).by_month;
+  days = (filled_rule rule.rule Days start_day).by_month_day;
 }
 
 -- the month is due: its unit is a whole number of intervals from that of the start, and BYMONTH allows it

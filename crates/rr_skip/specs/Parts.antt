@@ -4,7 +4,7 @@ use Rattle.std.specs.Prelude.{ok_or, unwrap_or, Result, Ok, Err}
 use Rattle.std.specs.List.{list_all}
 use Rattle.std.specs.Option.{is_some}
 use Rattle.std.specs.Str.{bytes_eq}
-use Rattle.rr_model.specs.Text.RuleValues.{◌>>=◌, pieces, in_table, list_of, has_number_form, number_within, signed}
+use Rattle.rr_model.specs.Text.RuleValues.{◌>>=◌, pieces, in_table, list_of, has_number_form, number_within, signed_bounds}
 use Rattle.rr_model.specs.Text.Rules.{split_once, part_named, is_present, with_part_value, no_parts, without_last_semicolon, line_value, end_of, rule_with}
 use Rattle.rr_model.specs.Text.Steps.{in_turn}
 use Rattle.rr_model.specs.Text.UsedLines.{is_name_byte}
@@ -69,11 +69,11 @@ skip_named text = in_table ((codes "OMIT", Omit) ∷ (codes "BACKWARD", Backward
 
 -- a day of the month from the front
 abbrev pub front_day : ℕ → List ℕ → Result ℤ Refusal
-front_day line text = number_within line (signed 31) text >>= λ k. if int_lt k (pos 0) then Err Extended else Ok k
+front_day line text = number_within line (signed_bounds 31) text >>= λ k. if int_lt k (pos 0) then Err Extended else Ok k
 
 -- the days of BYMONTHDAY, each of them from the front of the month
 unfoldable pub front_days : ℕ → List ℕ → Result (List ℤ) Refusal
-front_days line text = list_of line (has_number_form (signed 31)) int_lt (front_day line) text
+front_days line text = list_of line (has_number_form (signed_bounds 31)) int_lt (front_day line) text
 
 -- the parts of RFC 5545 with one more, by its value; the days of BYMONTHDAY have to count from the front
 abbrev pub with_taken_value : ℕ → RuleParts → PartName → List ℕ → Result RuleParts Refusal

@@ -2,7 +2,7 @@
 ghost use Rattle.std.specs.Prelude.{◌≡◌, ◌≤ℤ◌, [], int_lt, IfOk, neg_ℤ, pos};
 ghost use Rattle.std.specs.List.{list_all};
 ghost use Rattle.rr_model.specs.Answers.{Answers};
-ghost use Rattle.rr_model.specs.Text.RuleValues.{pieces, placed};
+ghost use Rattle.rr_model.specs.Text.RuleValues.{pieces, rising_values};
 ghost use Rattle.rr_model.specs.Text.Steps.{in_turn};
 ghost use Rattle.rr_model.specs.Text.UsedLines.{is_name_byte};
 ghost use Rattle.rr_skip.specs.Parts.{front_day, front_days, has_scale_part, is_scale_name, is_taken, no_scale_parts, scale_part_named};
@@ -143,7 +143,7 @@ fn front_day(line: u64, text: &[u8]) -> Result<i16, Refusal>
 }
 
 fn front_days_in_order(alloc: Global, line: u64, text: &[u8]) -> Result<Numbers, Fault>
-    ensures { Answers (placed int_lt (front_day line) [] (pieces 44 text.now)) result }
+    ensures { Answers (rising_values int_lt (front_day line) [] (pieces 44 text.now)) result }
 {
     let mut days = Numbers::new(alloc);
     for piece in text.split(|b| *b == b',') {

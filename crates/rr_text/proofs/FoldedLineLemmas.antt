@@ -3,7 +3,7 @@ use Rattle.std.proofs.Common.{◌≡◌, ℕ, zero, suc, ◌+◌, ◌*◌, ◌/�
 use Rattle.std.proofs.Common.{append_assoc, append-nil, take-append-drop, length-drop}
 use Rattle.std.specs.List.{onto_first}
 use Rattle.rr_model.specs.Text.Lines.{physical_lines, begins_blank, with_physical_line, with_physical_lines, unfolded_lines}
-use Rattle.rr_model.specs.Text.Written.{folded_rest, folded, folded_line, lines_of}
+use Rattle.rr_model.specs.Text.Written.{folded_rest, folded_text, folded_line, lines_of}
 use Rattle.rr_model.specs.declared.line.Line.{Line}
 use Rattle.rr_text.proofs.UnfoldLemmas.{continued}
 
@@ -89,7 +89,7 @@ number_after k text = (k + 1) + length (pieces_of (length text / 74) (drop 75 te
 pub folded_unfolds : (k : ℕ) (done : List Line) (text rest : List ℕ) → IsUnbroken text → begins_blank (take 75 text) ≡ false
     → with_physical_lines false k done (physical_lines (folded_line text ++ rest))
     ≡ with_physical_lines false (number_after k text) (done ++ line k text ∷ []) (physical_lines rest)
-unfolding folded
+unfolding folded_text
 folded_unfolds k done text rest h first =
     let n = length text / 74 in
     let front = take 75 text in

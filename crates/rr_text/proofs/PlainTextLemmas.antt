@@ -11,7 +11,7 @@ use Rattle.std.proofs.lemmas.List.{take_all, reverse-append}
 use Rattle.std.proofs.lemmas.Str.{IsUtf8-from_ascii, is_utf8-from_IsUtf8}
 use Rattle.rr_model.specs.Text.Rules.{is_blank, trim_end, line_value}
 use Rattle.rr_model.specs.Text.UsedLines.{trim}
-use Rattle.rr_model.specs.Text.Written.{folded_rest, folded, folded_line, lines_of}
+use Rattle.rr_model.specs.Text.Written.{folded_rest, folded_text, folded_line, lines_of}
 use Rattle.rr_text.proofs.FoldedLineLemmas.{IsUnbroken}
 use Rattle.rr_text.proofs.WrittenByteLemmas.{is_line_byte, list_all-weaker, list_all-both}
 
@@ -94,10 +94,10 @@ module _ (p : ℕ → Bool) (return : p 13 ≡ true) (feed : p 10 ≡ true) (bla
       (list_all-both p piece more (list_all-take p 74 (b ∷ bs) h) (all-rest n (drop 74 (b ∷ bs)) (list_all-drop p 74 (b ∷ bs) h))))
 
   all-line : (text : List ℕ) → list_all p text ≡ true → list_all p (folded_line text) ≡ true
-  unfolding folded
+  unfolding folded_text
   all-line text h =
       let rest = folded_rest (length text / 74) (drop 75 text) in
-      list_all-both p (folded text) (13 ∷ 10 ∷ [])
+      list_all-both p (folded_text text) (13 ∷ 10 ∷ [])
       (list_all-both p (take 75 text) rest (list_all-take p 75 text h) (all-rest (length text / 74) (drop 75 text) (list_all-drop p 75 text h)))
       (all-break [] refl)
 

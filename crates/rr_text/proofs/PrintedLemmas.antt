@@ -10,7 +10,7 @@ use Rattle.rr_model.specs.Calendar.{IsDayWithin, year_of, month_of, day_of_month
 use Rattle.rr_model.specs.Text.Digits.{digits_value}
 use Rattle.rr_model.specs.Moment.{day_part, second_part}
 use Rattle.rr_model.specs.Moment.Years.{IsFromYearOne}
-use Rattle.rr_model.specs.Text.Moments.{padded, extended_date_text, extended_time_text, extended_text}
+use Rattle.rr_model.specs.Text.Moments.{decimal_of, extended_date_text, extended_time_text, extended_text}
 use Rattle.rr_model.specs.declared.kind.Kind.{Kind}
 use Rattle.rr_model.specs.declared.kind.Kind.TheVariants.{Days, Moments}
 use Rattle.rr_model.proofs.CalendarLemmas.{first_day_of_year_bounds, days_in_month_bounds, IsInYear-year_of, IsDate-year_of, day_number-year_of}
@@ -29,42 +29,42 @@ digits_value-zeros : (n : ℕ) (ds : List ℕ) → digits_value (replicate n 48 
 digits_value-zeros zero ds = refl
 digits_value-zeros (suc n) ds = digits_value-zeros n ds
 
-pub digits_value-padded : (width n : ℕ) → n < 2 ^ 64 → digits_value (padded width n) ≡ n
+pub digits_value-padded : (width n : ℕ) → n < 2 ^ 64 → digits_value (decimal_of width n) ≡ n
 digits_value-padded width n h = digits_value-zeros (width - length (decimal n)) (decimal n) ∙ (decimal_is_IsNumeral n h).1
 
-padded_injective : (width m n : ℕ) → m < 2 ^ 64 → n < 2 ^ 64 → padded width m ≡ padded width n → m ≡ n
+padded_injective : (width m n : ℕ) → m < 2 ^ 64 → n < 2 ^ 64 → decimal_of width m ≡ decimal_of width n → m ≡ n
 padded_injective width m n hm hn e = sym (digits_value-padded width m hm) ∙ ap digits_value e ∙ digits_value-padded width n hn
 
-pub length-padded : (n : ℕ) → n < 100 → length (padded 2 n) ≡ 2
+pub length-padded : (n : ℕ) → n < 100 → length (decimal_of 2 n) ≡ 2
 length-padded n h =
     let digits = length-decimal-le 2 n (omega arith) (omega arith) (omega arith) in
     omega (arith, length-append (replicate (2 - length (decimal n)) 48) (decimal n), length-replicate {A = ℕ} (2 - length (decimal n)) 48, digits)
 
 -- two parts of two digits after separators
 unfoldable ends : ℕ → ℕ → ℕ → List ℕ
-ends b y z = (b ∷ padded 2 y) ++ (b ∷ padded 2 z)
+ends b y z = (b ∷ decimal_of 2 y) ++ (b ∷ decimal_of 2 z)
 
 -- three parts with a separator between them
-front_and_ends : (b y z : ℕ) (front : List ℕ) → front ++ (b ∷ []) ++ padded 2 y ++ (b ∷ []) ++ padded 2 z ≡ front ++ ends b y z
+front_and_ends : (b y z : ℕ) (front : List ℕ) → front ++ (b ∷ []) ++ decimal_of 2 y ++ (b ∷ []) ++ decimal_of 2 z ≡ front ++ ends b y z
 unfolding ends
 front_and_ends b y z front = simp append_assoc refl
 
 length-ends : (b y z : ℕ) → y < 100 → z < 100 → length (ends b y z) ≡ 6
 unfolding ends
-length-ends b y z hy hz = omega (arith, length-append (b ∷ padded 2 y) (b ∷ padded 2 z), length-padded y hy, length-padded z hz)
+length-ends b y z hy hz = omega (arith, length-append (b ∷ decimal_of 2 y) (b ∷ decimal_of 2 z), length-padded y hy, length-padded z hz)
 
 ends_injective : (b y z m k : ℕ) → y < 100 → z < 100 → m < 100 → k < 100 → ends b y z ≡ ends b m k → (y ≡ m) × (z ≡ k)
 unfolding ends
 ends_injective b y z m k hy hz hm hk e =
-    let p = parted (b ∷ padded 2 y) (b ∷ padded 2 m) (b ∷ padded 2 z) (b ∷ padded 2 k) (omega (arith, length-padded z hz, length-padded k hk)) e in
+    let p = parted (b ∷ decimal_of 2 y) (b ∷ decimal_of 2 m) (b ∷ decimal_of 2 z) (b ∷ decimal_of 2 k) (omega (arith, length-padded z hz, length-padded k hk)) e in
     (padded_injective 2 y m (omega arith) (omega arith) (ap (drop 1) p.0), padded_injective 2 z k (omega arith) (omega arith) (ap (drop 1) p.1))
 
 three_injective : (w b x y z l m k : ℕ) → x < 2 ^ 64 → l < 2 ^ 64 → y < 100 → z < 100 → m < 100 → k < 100
-    → padded w x ++ (b ∷ []) ++ padded 2 y ++ (b ∷ []) ++ padded 2 z ≡ padded w l ++ (b ∷ []) ++ padded 2 m ++ (b ∷ []) ++ padded 2 k
+    → decimal_of w x ++ (b ∷ []) ++ decimal_of 2 y ++ (b ∷ []) ++ decimal_of 2 z ≡ decimal_of w l ++ (b ∷ []) ++ decimal_of 2 m ++ (b ∷ []) ++ decimal_of 2 k
     → (x ≡ l) × (y ≡ m) × (z ≡ k)
 three_injective w b x y z l m k hx hl hy hz hm hk e =
-    let same = sym (front_and_ends b y z (padded w x)) ∙ e ∙ front_and_ends b m k (padded w l) in
-    let p = parted (padded w x) (padded w l) (ends b y z) (ends b m k) (length-ends b y z hy hz ∙ sym (length-ends b m k hm hk)) same in
+    let same = sym (front_and_ends b y z (decimal_of w x)) ∙ e ∙ front_and_ends b m k (decimal_of w l) in
+    let p = parted (decimal_of w x) (decimal_of w l) (ends b y z) (ends b m k) (length-ends b y z hy hz ∙ sym (length-ends b m k hm hk)) same in
     let q = ends_injective b y z m k hy hz hm hk p.1 in
     (padded_injective w x l hx hl p.0, q.0, q.1)
 
@@ -96,8 +96,8 @@ unfolding extended_time_text
 length-extended_time_text s h =
     let hour = length-padded (s / 3_600) (omega arith) in
     let rest = length-ends 58 (s / 60 % 60) (s % 60) (omega arith) (omega arith) in
-    ap length (front_and_ends 58 (s / 60 % 60) (s % 60) (padded 2 (s / 3_600)))
-    ∙ omega (arith, length-append (padded 2 (s / 3_600)) (ends 58 (s / 60 % 60) (s % 60)), hour, rest)
+    ap length (front_and_ends 58 (s / 60 % 60) (s % 60) (decimal_of 2 (s / 3_600)))
+    ∙ omega (arith, length-append (decimal_of 2 (s / 3_600)) (ends 58 (s / 60 % 60) (s % 60)), hour, rest)
 
 time_text_injective : (s r : ℕ) → s < 86_400 → r < 86_400 → extended_time_text s ≡ extended_time_text r → s ≡ r
 unfolding extended_time_text

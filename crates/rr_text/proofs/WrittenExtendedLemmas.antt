@@ -12,7 +12,7 @@ use Rattle.rr_model.specs.Calendar.{year_of, month_of, day_of_month}
 use Rattle.rr_model.specs.Moment.{day_part, second_part}
 use Rattle.rr_model.specs.Moment.Years.{HasFourDigitYear, IsInYears}
 use Rattle.rr_model.specs.Text.ExtendedMoments.{date_digits, time_digits, extended_date_of, extended_time_of, extended_moment_of, extended}
-use Rattle.rr_model.specs.Text.Moments.{padded, extended_date_text, extended_time_text, extended_text, moment_stamp}
+use Rattle.rr_model.specs.Text.Moments.{decimal_of, extended_date_text, extended_time_text, extended_text, moment_stamp}
 use Rattle.rr_model.specs.Text.Written.{basic_date_text, basic_time_text}
 use Rattle.rr_model.specs.declared.kind.Kind.{Kind}
 use Rattle.rr_model.specs.declared.kind.Kind.TheVariants.{Days, Moments}
@@ -28,7 +28,7 @@ IsAscii-zeros : (n : ℕ) → IsAscii (replicate n 48)
 IsAscii-zeros zero = IsAscii-nil
 IsAscii-zeros (suc n) = IsAscii-cons 48 (replicate n 48) (omega arith) (IsAscii-zeros n)
 
-pub IsAscii-padded : (width n : ℕ) → n < 2 ^ 64 → IsAscii (padded width n)
+pub IsAscii-padded : (width n : ℕ) → n < 2 ^ 64 → IsAscii (decimal_of width n)
 IsAscii-padded width n h = IsAscii-append _ _ (IsAscii-zeros _) (IsAscii-decimal n h)
 
 IsAscii-one : (b : ℕ) → b < 128 → IsAscii (b ∷ [])
@@ -90,21 +90,21 @@ short_date day h =
       number = omega (arith, date.3, bounds.1);
     }
 
-length-four : (n : ℕ) → n < 10_000 → length (padded 4 n) ≡ 4
+length-four : (n : ℕ) → n < 10_000 → length (decimal_of 4 n) ≡ 4
 length-four n h = length-padded_to 4 n (omega arith) (omega (arith, h)) (omega (arith, h))
 
 pub length-extended_date_text : (day : ℤ) → HasFourDigitYear day → length (extended_date_text day) ≡ 10
 unfolding extended_date_text
 length-extended_date_text day h =
     let w = short_date day h in
-    length-separated (padded 4 (nat_abs (year_of day))) (padded 2 (month_of day)) (padded 2 (day_of_month day)) 45 4 2 2 (length-four _ w.year)
+    length-separated (decimal_of 4 (nat_abs (year_of day))) (decimal_of 2 (month_of day)) (decimal_of 2 (day_of_month day)) 45 4 2 2 (length-four _ w.year)
     (length-padded _ w.month) (length-padded _ w.number)
 
 pub IsAscii-extended_date_text : (day : ℤ) → HasFourDigitYear day → IsAscii (extended_date_text day)
 unfolding extended_date_text
 IsAscii-extended_date_text day h =
     let w = short_date day h in
-    IsAscii-separated (padded 4 (nat_abs (year_of day))) (padded 2 (month_of day)) (padded 2 (day_of_month day)) 45 4 2 2 (length-four _ w.year)
+    IsAscii-separated (decimal_of 4 (nat_abs (year_of day))) (decimal_of 2 (month_of day)) (decimal_of 2 (day_of_month day)) 45 4 2 2 (length-four _ w.year)
     (length-padded _ w.month) (length-padded _ w.number) (omega arith) (IsAscii-padded 4 _ (omega (arith, w.year))) (IsAscii-padded 2 _ (omega (arith, w.month)))
     (IsAscii-padded 2 _ (omega (arith, w.number)))
 
@@ -113,9 +113,9 @@ pub extended_date-written : (day : ℤ) → HasFourDigitYear day → extended_da
 unfolding extended_date_of extended_date_text basic_date_text
 extended_date-written day h =
     let w = short_date day h in
-    let y = padded 4 (nat_abs (year_of day)) in
-    let m = padded 2 (month_of day) in
-    let d = padded 2 (day_of_month day) in
+    let y = decimal_of 4 (nat_abs (year_of day)) in
+    let m = decimal_of 2 (month_of day) in
+    let d = decimal_of 2 (day_of_month day) in
     let ly : length y ≡ 4 = length-four _ w.year in
     let lm : length m ≡ 2 = length-padded _ w.month in
     let ld : length d ≡ 2 = length-padded _ w.number in
@@ -134,7 +134,8 @@ pub IsAscii-extended_time_text : (s : ℕ) → s < 86_400 → IsAscii (extended_
 unfolding extended_time_text
 IsAscii-extended_time_text s h =
     let w = second_bounds s h in
-    IsAscii-separated (padded 2 (s / 3_600)) (padded 2 (s / 60 % 60)) (padded 2 (s % 60)) 58 2 2 2 (length-padded _ w.0) (length-padded _ w.1) (length-padded _ w.2)
+    IsAscii-separated (decimal_of 2 (s / 3_600)) (decimal_of 2 (s / 60 % 60)) (decimal_of 2 (s % 60)) 58 2 2 2 (length-padded _ w.0)
+    (length-padded _ w.1) (length-padded _ w.2)
     (omega arith) (IsAscii-padded 2 _ (omega (arith, w.0))) (IsAscii-padded 2 _ (omega (arith, w.1))) (IsAscii-padded 2 _ (omega (arith, w.2)))
 
 -- A written time is read back.
@@ -142,9 +143,9 @@ pub extended_time-written : (s : ℕ) → s < 86_400 → extended_time_of (exten
 unfolding extended_time_of extended_time_text basic_time_text
 extended_time-written s h =
     let w = second_bounds s h in
-    let a = padded 2 (s / 3_600) in
-    let b = padded 2 (s / 60 % 60) in
-    let c = padded 2 (s % 60) in
+    let a = decimal_of 2 (s / 3_600) in
+    let b = decimal_of 2 (s / 60 % 60) in
+    let c = decimal_of 2 (s % 60) in
     let la : length a ≡ 2 = length-padded _ w.0 in
     let lb : length b ≡ 2 = length-padded _ w.1 in
     let lc : length c ≡ 2 = length-padded _ w.2 in

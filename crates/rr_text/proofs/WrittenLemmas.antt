@@ -16,7 +16,7 @@ use Rattle.rr_model.specs.Calendar.{year_of, month_of, day_of_month, is_date, da
 use Rattle.rr_model.specs.Moment.{day_part, second_part}
 use Rattle.rr_model.specs.Moment.Years.{HasFourDigitYear, IsInYears}
 use Rattle.rr_model.specs.Text.Digits.{is_digit, digits_value}
-use Rattle.rr_model.specs.Text.Moments.{is_digits, number_at, basic_date, basic_time, basic_moment, basic, padded, date_stamp, moment_stamp}
+use Rattle.rr_model.specs.Text.Moments.{is_digits, number_at, basic_date, basic_time, basic_moment, basic, decimal_of, date_stamp, moment_stamp}
 use Rattle.rr_model.specs.Text.RuleValues.{is_number}
 use Rattle.rr_model.specs.Text.Written.{basic_date_text, basic_time_text, basic_text}
 use Rattle.rr_model.specs.declared.kind.Kind.{Kind}
@@ -52,14 +52,14 @@ zeros zero = refl
 zeros (suc n) = zeros n
 
 -- the same of a number with zeros before it
-pub padded-digits : (width n : ℕ) → n < 2 ^ 64 → list_all is_digit (padded width n) ≡ true
+pub padded-digits : (width n : ℕ) → n < 2 ^ 64 → list_all is_digit (decimal_of width n) ≡ true
 padded-digits width n h =
     list_all-append is_digit (replicate (width - length (decimal n)) 48) (decimal n)
     ∙ and_from (list_all is_digit (replicate (width - length (decimal n)) 48)) (list_all is_digit (decimal n)) (zeros (width - length (decimal n)))
     (decimal-digits n h)
 
 -- which is as wide as it is to be
-pub length-padded_to : (width n : ℕ) → 0 < width → n < 10 ^ width → n < 2 ^ 64 → length (padded width n) ≡ width
+pub length-padded_to : (width n : ℕ) → 0 < width → n < 10 ^ width → n < 2 ^ 64 → length (decimal_of width n) ≡ width
 length-padded_to width n some fits small =
     let digits = length-decimal-le width n some fits small in
     omega (arith, length-append (replicate (width - length (decimal n)) 48) (decimal n), length-replicate {A = ℕ} (width - length (decimal n)) 48, digits)
@@ -128,7 +128,7 @@ pub length-basic_date_text : (day : ℤ) → HasFourDigitYear day → length (ba
 unfolding basic_date_text
 length-basic_date_text day h =
     let w = written_date day h in
-    length-three (padded 4 (nat_abs (year_of day))) (padded 2 (month_of day)) (padded 2 (day_of_month day)) 4 2 2
+    length-three (decimal_of 4 (nat_abs (year_of day))) (decimal_of 2 (month_of day)) (decimal_of 2 (day_of_month day)) 4 2 2
     (length-padded_to 4 _ (omega arith) (omega (arith, w.four_digits)) (omega (arith, w.four_digits)))
     (length-padded_to 2 _ (omega arith) (omega (arith, w.two_month)) (omega (arith, w.two_month)))
     (length-padded_to 2 _ (omega arith) (omega (arith, w.two_day)) (omega (arith, w.two_day)))
@@ -138,9 +138,9 @@ pub basic_date-written : (day : ℤ) → HasFourDigitYear day → basic_date (ba
 unfolding basic_date basic_date_text
 basic_date-written day h =
     let w = written_date day h in
-    let y = padded 4 (nat_abs (year_of day)) in
-    let m = padded 2 (month_of day) in
-    let d = padded 2 (day_of_month day) in
+    let y = decimal_of 4 (nat_abs (year_of day)) in
+    let m = decimal_of 2 (month_of day) in
+    let d = decimal_of 2 (day_of_month day) in
     let ly : length y ≡ 4 = length-padded_to 4 _ (omega arith) (omega (arith, w.four_digits)) (omega (arith, w.four_digits)) in
     let lm : length m ≡ 2 = length-padded_to 2 _ (omega arith) (omega (arith, w.two_month)) (omega (arith, w.two_month)) in
     let ld : length d ≡ 2 = length-padded_to 2 _ (omega arith) (omega (arith, w.two_day)) (omega (arith, w.two_day)) in
@@ -163,9 +163,9 @@ pub basic_date_text-digits : (day : ℤ) → HasFourDigitYear day → list_all i
 unfolding basic_date_text
 basic_date_text-digits day h =
     let w = written_date day h in
-    let y = padded 4 (nat_abs (year_of day)) in
-    let m = padded 2 (month_of day) in
-    let d = padded 2 (day_of_month day) in
+    let y = decimal_of 4 (nat_abs (year_of day)) in
+    let m = decimal_of 2 (month_of day) in
+    let d = decimal_of 2 (day_of_month day) in
     all_three y m d (length y) (length m) (length d) refl refl refl (padded-digits 4 _ (omega (arith, w.four_digits)))
     (padded-digits 2 _ (omega (arith, w.two_month))) (padded-digits 2 _ (omega (arith, w.two_day)))
 
@@ -178,7 +178,7 @@ pub length-basic_time_text : (s : ℕ) → s < 86_400 → length (basic_time_tex
 unfolding basic_time_text
 length-basic_time_text s h =
     let w = second_bounds s h in
-    length-three (padded 2 (s / 3_600)) (padded 2 (s / 60 % 60)) (padded 2 (s % 60)) 2 2 2
+    length-three (decimal_of 2 (s / 3_600)) (decimal_of 2 (s / 60 % 60)) (decimal_of 2 (s % 60)) 2 2 2
     (length-padded_to 2 _ (omega arith) (omega (arith, w.0)) (omega (arith, w.0)))
     (length-padded_to 2 _ (omega arith) (omega (arith, w.1)) (omega (arith, w.1)))
     (length-padded_to 2 _ (omega arith) (omega (arith, w.2)) (omega (arith, w.2)))
@@ -187,9 +187,9 @@ pub basic_time_text-digits : (s : ℕ) → s < 86_400 → list_all is_digit (bas
 unfolding basic_time_text
 basic_time_text-digits s h =
     let w = second_bounds s h in
-    let a = padded 2 (s / 3_600) in
-    let b = padded 2 (s / 60 % 60) in
-    let c = padded 2 (s % 60) in
+    let a = decimal_of 2 (s / 3_600) in
+    let b = decimal_of 2 (s / 60 % 60) in
+    let c = decimal_of 2 (s % 60) in
     all_three a b c (length a) (length b) (length c) refl refl refl (padded-digits 2 _ (omega (arith, w.0))) (padded-digits 2 _ (omega (arith, w.1)))
     (padded-digits 2 _ (omega (arith, w.2)))
 
@@ -198,9 +198,9 @@ pub basic_time-written : (s : ℕ) → s < 86_400 → basic_time (basic_time_tex
 unfolding basic_time basic_time_text
 basic_time-written s h =
     let w = second_bounds s h in
-    let a = padded 2 (s / 3_600) in
-    let b = padded 2 (s / 60 % 60) in
-    let c = padded 2 (s % 60) in
+    let a = decimal_of 2 (s / 3_600) in
+    let b = decimal_of 2 (s / 60 % 60) in
+    let c = decimal_of 2 (s % 60) in
     let la : length a ≡ 2 = length-padded_to 2 _ (omega arith) (omega (arith, w.0)) (omega (arith, w.0)) in
     let lb : length b ≡ 2 = length-padded_to 2 _ (omega arith) (omega (arith, w.1)) (omega (arith, w.1)) in
     let lc : length c ≡ 2 = length-padded_to 2 _ (omega arith) (omega (arith, w.2)) (omega (arith, w.2)) in

@@ -8,7 +8,7 @@ use Rattle.std.proofs.Common.{◌+◌, ◌<◌, length, drop, get_or}
 use Rattle.std.proofs.lemmas.List.{drop_more}
 use Rattle.rr_model.specs.Rising.{Rises, with_value}
 use Rattle.rr_model.specs.Rule.Validity.{is_absent}
-use Rattle.rr_model.specs.Text.RuleValues.{◌>>=◌, pieces, placed, list_of}
+use Rattle.rr_model.specs.Text.RuleValues.{◌>>=◌, pieces, rising_values, list_of}
 use Rattle.rr_model.specs.declared.refusal.Refusal.{Refusal}
 use Rattle.rr_model.specs.declared.refusal.Refusal.TheVariants.{BadRule}
 use Rattle.rr_model.proofs.RisingSetLemmas.{Rises-tail}
@@ -71,11 +71,11 @@ module _ {X : Type 0} (below : X → X → Bool) where
 
     module _ (judged : List ℕ → Result X Refusal) (text_of : X → List ℕ) where
       placed-rising : (done xs : List X) → AllByRecursion (λ (x : X). judged (text_of x) ≡ Ok x) xs → Rises below xs → IsAbove done xs
-          → placed below judged done (map text_of xs) ≡ Ok (done ++ xs)
+          → rising_values below judged done (map text_of xs) ≡ Ok (done ++ xs)
       placed-rising done [] h r above = ap Ok (sym (append-nil done))
       placed-rising done (x ∷ xs) h r above =
-          ap (λ (m : Result X Refusal). m >>= λ y. placed below judged (with_value below done y) (map text_of xs)) h.0
-          ∙ ap (λ (l : List X). placed below judged l (map text_of xs)) (with_value-last done x above)
+          ap (λ (m : Result X Refusal). m >>= λ y. rising_values below judged (with_value below done y) (map text_of xs)) h.0
+          ∙ ap (λ (l : List X). rising_values below judged l (map text_of xs)) (with_value-last done x above)
           ∙ placed-rising (done ++ x ∷ []) xs h.1 (Rises-tail below x xs r) (IsAbove-next done x xs above r)
           ∙ ap Ok (append_assoc done (x ∷ []) xs)
 
@@ -103,8 +103,8 @@ module _ {X : Type 0} (below : X → X → Bool) where
       list_of-written line has_form [] some h r = absurd (cc)
       list_of-written line has_form (x ∷ xs) some h r =
           let split = pieces-joined 44 (text_of x) (map text_of xs) (no_commas has_form (x ∷ xs) h) in
-          ap (λ (ts : List (List ℕ)). if list_all has_form ts then placed below judged [] ts else Err (BadRule line)) split
-          ∙ ap (λ (b : Bool). if b then placed below judged [] (map text_of (x ∷ xs)) else Err (BadRule line)) (forms has_form (x ∷ xs) h)
+          ap (λ (ts : List (List ℕ)). if list_all has_form ts then rising_values below judged [] ts else Err (BadRule line)) split
+          ∙ ap (λ (b : Bool). if b then rising_values below judged [] (map text_of (x ∷ xs)) else Err (BadRule line)) (forms has_form (x ∷ xs) h)
           ∙ placed-rising [] (x ∷ xs) (each_read has_form (x ∷ xs) h) r refl
 
 -- ---- what is written value by value

@@ -17,7 +17,7 @@ use Rattle.rr_model.specs.Rising.{day_item_lt}
 use Rattle.rr_model.specs.Rule.Validity.{IsDayItem}
 use Rattle.rr_model.specs.Text.Digits.{digits_value}
 use Rattle.rr_model.specs.Text.RuleValues.{freq_named, weekday_named, is_number, is_signed_number, number_up_to, has_number_form, magnitude, number_within}
-use Rattle.rr_model.specs.Text.RuleValues.{signed, ordinal_text, is_day_item, ordinal_within, day_item_within, outside, weekday_text as read_weekday_text}
+use Rattle.rr_model.specs.Text.RuleValues.{signed_bounds, ordinal_text, is_day_item, ordinal_within, day_item_within, bounds_refusal, weekday_text as read_weekday_text}
 use Rattle.rr_model.specs.Text.Written.{freq_text, weekday_text, day_item_text}
 use Rattle.rr_model.specs.declared.refusal.Refusal.TheVariants.{BadRule}
 use Rattle.rr_model.specs.declared.rule.DayItem.{DayItem}
@@ -144,7 +144,7 @@ number_within-written line bounds z h =
   where
     read : (b : Bool) (size : ℕ) (value : ℤ) → b ≡ true → size ≡ nat_abs z → value ≡ z → nat_le bounds.least (nat_abs z) ≡ true
         → nat_le (nat_abs z) bounds.most ≡ true
-        → (if b then (if nat_le bounds.least size && nat_le size bounds.most then Ok value else Err (outside line bounds size))
+        → (if b then (if nat_le bounds.least size && nat_le size bounds.most then Ok value else Err (bounds_refusal line bounds size))
         else Err (BadRule line)) ≡ Ok z
     read b size value e f g from to = rw (e, f, g, from, to) refl
 
@@ -169,7 +169,7 @@ record IsPlaceText (place : ℤ) (text : List ℕ) : Type 0 where
   value : (line : ℕ) → ordinal_within line text ≡ Ok place
   words : list_all is_word_byte text ≡ true
 
-some_place : (line : ℕ) (text : List ℕ) → is_signed_number text ≡ true → ordinal_within line text ≡ number_within line (signed 53) text
+some_place : (line : ℕ) (text : List ℕ) → is_signed_number text ≡ true → ordinal_within line text ≡ number_within line (signed_bounds 53) text
 some_place line [] h = absurd (cc)
 some_place line (b ∷ bs) h = refl
 
@@ -187,7 +187,7 @@ place-written place h = by (int_eq place (pos 0)) refl
         record {
           form = or_right (length (signed_decimal place) == 0) (is_signed_number (signed_decimal place)) t.signed_form;
           value = λ line. some_place line (signed_decimal place) t.signed_form
-              ∙ number_within-written line (signed 53) place (record { small = small; from = some; to = h; sign = inl refl });
+              ∙ number_within-written line (signed_bounds 53) place (record { small = small; from = some; to = h; sign = inl refl });
           words = signed_decimal-words place small;
         }
 

@@ -4,7 +4,7 @@ ghost use Rattle.std.specs.Fmt.{decimal, signed_decimal};
 ghost use Rattle.rr_model.specs.Calendar.{IsDayWithin, day_of_month, month_of, year_of};
 ghost use Rattle.rr_model.specs.Moment.{day_part};
 ghost use Rattle.rr_model.specs.Moment.Years.{HasFourDigitYear, IsFromYearOne, IsInYears};
-ghost use Rattle.rr_model.specs.Text.Moments.{padded, extended_date, extended_date_text, extended_time_text, extended_text};
+ghost use Rattle.rr_model.specs.Text.Moments.{decimal_of, extended_date, extended_date_text, extended_time_text, extended_text};
 ghost use Rattle.rr_model.specs.Text.Written.{basic_date_text, basic_time_text, basic_text};
 ghost use Rattle.rr_model.specs.declared.kind.Kind.TheVariants.{Moments};
 ghost use Rattle.rr_text.specs.Appending.{Appends};
@@ -214,7 +214,7 @@ pub fn push_extended(out: &mut Vec<u8>, kind: Kind, at: i64) -> Result<(), NoMem
 fn basic_bytes(date: DateParts) -> [u8; 8]
     requires year { date.year < 10_000 }
     requires two { (date.month < 100) × (date.day < 100) }
-    ensures { result ≡ padded 4 date.year ++ padded 2 date.month ++ padded 2 date.day }
+    ensures { result ≡ decimal_of 4 date.year ++ decimal_of 2 date.month ++ decimal_of 2 date.day }
 {
     let century = (date.year / 100) as u8;
     let year = (date.year % 100) as u8;

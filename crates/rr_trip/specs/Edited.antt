@@ -236,5 +236,5 @@ edited_by offset None instances = edited_alone offset instances
 edited_by offset (Some event) instances = edited_with_series offset event instances
 
 -- the series that the events of a key state together
-abbrev pub edited : Option ℤ → List Event → Result Series KeyRefusal
-edited offset events = key_in_turn with_event no_events events >=> λ all. edited_by offset all.series all.instances
+abbrev pub series_of_events : Option ℤ → List Event → Result Series KeyRefusal
+series_of_events offset events = key_in_turn with_event no_events events >=> λ all. edited_by offset all.series all.instances

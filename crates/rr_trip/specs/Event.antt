@@ -3,7 +3,7 @@ use Rattle.std.specs.Prelude.{ℕ, Bool, true, false, List, [], codes, Option, S
 use Rattle.std.specs.List.{list_any}
 use Rattle.std.specs.Option.{is_some}
 use Rattle.std.specs.Str.{str_eq_ignore_ascii_case}
-use Rattle.rr_model.specs.Text.Event.{no_components, scanned}
+use Rattle.rr_model.specs.Text.Event.{no_components, scan_of}
 use Rattle.rr_model.specs.Text.UsedLines.{value_of_line}
 use Rattle.rr_model.specs.declared.line.Line.{Line}
 use Rattle.rr_model.specs.declared.used.LineName.{LineName}
@@ -49,7 +49,7 @@ event_by first scan own = record {
 
 -- what the lines of an event state; they are numbered as in the whole text
 abbrev pub event_of : List Line → Event
-event_of lines = event_by (first_line lines) (scanned false 0 no_components lines) (own_lines [] lines)
+event_of lines = event_by (first_line lines) (scan_of false 0 no_components lines) (own_lines [] lines)
 
 -- a used line is a rule or a date that is added
 abbrev pub is_rule_or_date : LineName → Bool

@@ -1,6 +1,6 @@
 -- The days of a month as they are painted.
-use Rattle.std.specs.Prelude.{◌≡◌, ℕ, zero, suc, ◌-◌, ◌==◌, Bool, ◌&&◌, if◌then◌else◌, ℤ, pos, neg_ℤ, ◌+ℤ◌, ◌-ℤ◌, ◌≤ℤ◌, List, [], ◌∷◌, ◌++◌, codes, bytes_eq}
-use Rattle.rr_model.specs.Bounds.{earliest_day, latest_day}
+use Rattle.std.specs.Prelude.{◌≡◌, ℕ, zero, suc, ◌-◌, ◌==◌, Bool, ◌&&◌, if◌then◌else◌, ℤ, pos, ◌+ℤ◌, ◌-ℤ◌, ◌≤ℤ◌, List, [], ◌∷◌, ◌++◌, codes, bytes_eq}
+use Rattle.rr_model.specs.Bounds.{earliest_day, earliest_taken, latest_day}
 use Rattle.rr_model.specs.Calendar.{day_of_month, days_in_month, month_of, weekday_of, year_of}
 use Rattle.rr_model.specs.Moment.{is_same_kind}
 use Rattle.rr_model.specs.Sets.Sketch.{times_on}
@@ -32,7 +32,7 @@ cells_text a b first (suc n) = cells_text a b first n ++ cell_text a b (first +�
 
 -- a day whose month and the one after it lie within what a sequence of days takes
 abbrev pub IsPainted : ℤ → Type 0
-IsPainted day = (neg_ℤ (pos 3_000_000_000_000) ≤ℤ day) × (day ≤ℤ (latest_day +ℤ pos 700))
+IsPainted day = (earliest_taken ≤ℤ day) × (day ≤ℤ (latest_day +ℤ pos 700))
 
 -- ---- three months
 
@@ -60,7 +60,7 @@ pub record HasMonth (a b : Sketch) (first : ℤ) (old new : List ℕ) : Type 0 w
 
 -- a day from which three months are painted
 abbrev pub HasMonthsAfter : ℤ → Type 0
-HasMonthsAfter first = (neg_ℤ (pos 3_000_000_000_000) ≤ℤ first) × (first ≤ℤ latest_day)
+HasMonthsAfter first = (earliest_taken ≤ℤ first) × (first ≤ℤ latest_day)
 
 -- the second text is the first one with three months behind it, from the one that begins on a day on
 pub record HasMonths (a b : Sketch) (first : ℤ) (old new : List ℕ) : Type 0 where

@@ -11,7 +11,7 @@ use Rattle.rr_model.specs.declared.refusal.Fault.{Fault}
 use Rattle.rr_model.specs.declared.refusal.Fault.TheVariants as fault
 use Rattle.rr_model.specs.declared.rule.Series.{Series}
 use Rattle.rr_model.specs.declared.sketch.Sketch.{Sketch}
-use Rattle.rr_trip.specs.Edited.{KeyEvents, edited, key_in_turn, no_events, with_event}
+use Rattle.rr_trip.specs.Edited.{KeyEvents, series_of_events, key_in_turn, no_events, with_event}
 use Rattle.rr_trip.specs.declared.event.Event.{Event}
 use Rattle.rr_trip.specs.declared.event.Recurrence.{Recurrence}
 use Rattle.rr_trip.specs.declared.gather.KeyFault.{KeyFault}
@@ -63,7 +63,7 @@ IsRefusalBy line (Ok series) said = ⊥
 
 -- the events of a key in one calendar are refused so
 abbrev pub IsKeyRefusal : Option ℤ → List Event → KeyRefusal → Type 0
-IsKeyRefusal offset events said = IsRefusalBy (line_of (key_events events)) (edited offset events) said
+IsKeyRefusal offset events said = IsRefusalBy (line_of (key_events events)) (series_of_events offset events) said
 
 -- a fault is the refusal of the key, or out of memory
 abbrev pub IsKeyFault : Option ℤ → List Event → KeyFault → Type 0
@@ -72,12 +72,12 @@ IsKeyFault offset events key_fault.NoMemory = ⊤
 
 -- the events of a key state this series, which no limit refuses
 pub record IsKeySeries (offset : Option ℤ) (events : List Event) (series : Series) : Type 0 where
-  pub states : edited offset events ≡ Ok series
+  pub states : series_of_events offset events ≡ Ok series
   pub unrefused : IsFirstRefusal all_limits series None
 
 -- the events of a key state this valid series, which limits refuse at this line
 pub record IsStated (offset : Option ℤ) (events : List Event) (line : ℕ) (series : Series) : Type 0 where
-  pub states : edited offset events ≡ Ok series
+  pub states : series_of_events offset events ≡ Ok series
   pub valid : IsValidSeries series
   pub at : line ≡ line_of (key_events events)
 

@@ -36,14 +36,14 @@ abbrev pub escaped_byte : ℕ → List ℕ
 escaped_byte b = if is_plain b then b ∷ [] else 92 ∷ 120 ∷ hex_digit (b / 16) ∷ hex_digit (b % 16) ∷ []
 
 -- the text with each of its bytes escaped
-abbrev pub escaped : List ℕ → List ℕ
-escaped [] = []
-escaped (b ∷ bs) = escaped_byte b ++ escaped bs
+abbrev pub escaped_text : List ℕ → List ℕ
+escaped_text [] = []
+escaped_text (b ∷ bs) = escaped_byte b ++ escaped_text bs
 
 -- a key as it is printed
 abbrev pub key_text : Key → List ℕ
 key_text (key.Line number) = codes "line " ++ decimal number
-key_text (key.Uid uid) = escaped uid
+key_text (key.Uid uid) = escaped_text uid
 
 -- ---- refusals
 
@@ -120,5 +120,5 @@ counts_text counts =
     ++ codes " only-A " ++ decimal counts.only_a ++ codes " only-B " ++ decimal counts.only_b ++ codes " refused " ++ decimal counts.refused ++ codes "\n"
 
 -- The report as it is printed: the lines of the keys, and the counts of all.
-unfoldable pub printed : Bool → List ReportLine → List ℕ
-printed only_differences lines = lines_text only_differences lines ++ counts_text (counts_of lines)
+unfoldable pub report_text : Bool → List ReportLine → List ℕ
+report_text only_differences lines = lines_text only_differences lines ++ counts_text (counts_of lines)

@@ -3,7 +3,7 @@ ghost use Rattle.std.specs.Prelude.{◌≡◌, ◌++◌, All, IfErr, IfOk, Ok, O
 ghost use Rattle.rr_model.specs.Series.Validity.{IsValidSeries};
 ghost use Rattle.rr_days.specs.Sequence.{sketch};
 ghost use Rattle.rr_trip.specs.Judged.{AreDaysOfKey, IsFaultBy, IsFaultOf, IsFoldOf, IsKeyFault, IsStated, first_of, key_zones, zones_in, zones_of, zones_of_all};
-ghost use Rattle.rr_trip.specs.Edited.{edited};
+ghost use Rattle.rr_trip.specs.Edited.{series_of_events};
 ghost use Rattle.rr_trip.specs.Entries.{IsNumbered, events_in};
 
 use crate::edit::series_with_instances;
@@ -147,7 +147,8 @@ pub fn days_of_key(alloc: Global, key: KeySeries) -> Result<KeyDays, KeyFault>
 /// The days of the events of a key in one calendar. The refusal is that of the edited series, else the first by all limits.
 pub fn key_days(alloc: Global, offset: Option<i32>, entries: &[Entry]) -> Result<KeyDays, KeyFault>
     requires { All IsNumbered entries.now }
-    ensures states { IfOk result (λ key. edited offset (events_in entries.now) ≡ Ok key.series) }
+    ensures states { IfOk result (λ key. series_of_events offset (events_in entries.now)
+        ≡ Ok key.series) }
     ensures folded { IfOk result (λ key. IsFoldOf key.series (sketch key.days)) }
     ensures zones { IfOk result (λ key. key.zones.items ≡ key_zones (events_in entries.now)) }
     ensures refused { IfErr result (IsKeyFault offset (events_in entries.now)) }

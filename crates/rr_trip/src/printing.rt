@@ -2,7 +2,7 @@
 ghost use Rattle.std.specs.Prelude.{◌≡◌, ◌<◌, ◌++◌, All, IfOk, OnOk};
 ghost use Rattle.std.specs.Fmt.{decimal};
 ghost use Rattle.rr_text.specs.Printed.{IsPrintable};
-ghost use Rattle.rr_trip.specs.Printed.{counts_text, escaped, escaped_byte, event_refusal_text, file_refusal_line, has_number, hex_digit, is_difference, key_refusal_text, key_text, line_text, lines_text, printed, said_text, verdict_text};
+ghost use Rattle.rr_trip.specs.Printed.{counts_text, escaped_text, escaped_byte, event_refusal_text, file_refusal_line, has_number, hex_digit, is_difference, key_refusal_text, key_text, line_text, lines_text, report_text, said_text, verdict_text};
 ghost use Rattle.rr_trip.specs.Said.{IsPrintableSaid};
 
 use crate::file::FileRefusal;
@@ -47,7 +47,7 @@ fn push_escaped_byte(out: &mut Vec<u8>, byte: u8) -> Result<(), NoMemory>
 }
 
 fn push_escaped(out: &mut Vec<u8>, text: &[u8]) -> Result<(), NoMemory>
-    ensures { OnOk result (out.new.items ≡ out.old.items ++ escaped text.now) }
+    ensures { OnOk result (out.new.items ≡ out.old.items ++ escaped_text text.now) }
 {
     for byte in text {
         push_escaped_byte(out, *byte)?;
@@ -235,10 +235,11 @@ fn push_counts(out: &mut Vec<u8>, counts: Counts) -> Result<(), NoMemory>
 
 /// The report as it is printed: a line for each key, or, with `only_differences`, for each that is not equal, and a last line
 /// with the counts of all.
-#[tactic(auto, unfolding(crate::specs::Printed::printed))]
+#[tactic(auto, unfolding(crate::specs::Printed::report_text))]
 pub fn print(alloc: Global, only_differences: bool, report: &Report) -> Result<Vec<u8>, NoMemory>
     requires { All (λ line. IsPrintableSaid line.said) report.now.lines.items }
-    ensures { IfOk result (λ text. text.items ≡ printed only_differences report.now.lines.items) }
+    ensures { IfOk result (λ text. text.items
+        ≡ report_text only_differences report.now.lines.items) }
 {
     let mut out = Vec::new(alloc);
     push_lines(alloc, &mut out, only_differences, &report.lines)?;

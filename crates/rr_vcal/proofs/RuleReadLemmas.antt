@@ -15,7 +15,7 @@ use Rattle.rr_model.specs.Text.RuleValues.{◌>>=◌}
 use Rattle.rr_model.specs.Text.Steps.{in_turn}
 use Rattle.rr_model.specs.Text.Written.{weekday_text, basic_text}
 use Rattle.rr_model.specs.Vcal.Items.{item_cmp, item_lt, item_total}
-use Rattle.rr_model.specs.Vcal.Rule.{first_items, parts_of_head, with_list_word, is_list_whole, with_word, with_piece, finished, end_of_words, stated_parts}
+use Rattle.rr_model.specs.Vcal.Rule.{first_items, parts_of_head, with_list_word, is_list_whole, with_word, with_piece, whole_parts, end_of_words, stated_parts}
 use Rattle.rr_model.specs.Vcal.Rule.{stated_vrule}
 use Rattle.rr_model.specs.Vcal.Validity.{IsItemOf, IsValidVRule}
 use Rattle.rr_model.specs.Vcal.Written.{marked_text, month_day_text, vrule_text}
@@ -400,8 +400,8 @@ module _ (line : ℕ) where
   stated-written rule valid rises years =
       let items = recursion_from_All (IsItemOf rule.family) rule.items valid.items in
       let is_whole = rule-whole rule valid in
-      ap (λ (ws : List (List ℕ)). steps None ws >>= λ pieces. finished line pieces >>= λ parts. Ok (stated_parts parts)) (rule-pieces rule valid years)
-      ∙ ap (λ (r : Result (Option VRuleParts) Refusal). r >>= λ pieces. finished line pieces >>= λ parts. Ok (stated_parts parts))
+      ap (λ (ws : List (List ℕ)). steps None ws >>= λ pieces. whole_parts line pieces >>= λ parts. Ok (stated_parts parts)) (rule-pieces rule valid years)
+      ∙ ap (λ (r : Result (Option VRuleParts) Refusal). r >>= λ pieces. whole_parts line pieces >>= λ parts. Ok (stated_parts parts))
       (pieces-read rule valid rises years)
       ∙ rw (
         whole rule.family rule.interval rule.items (last_place None rule.items) (count_of rule.end) (until_of rule.end) is_whole,

@@ -17,7 +17,7 @@ use Rattle.rr_model.specs.Text.RuleValues.{is_number, number_up_to, weekday_name
 use Rattle.rr_model.specs.Vcal.Items.{item_lt}
 use Rattle.rr_model.specs.Vcal.Rule.{head_of, first_items, parts_of_head, is_short_number, place_of, short_number_up_to, front, ends_with, marked_place}
 use Rattle.rr_model.specs.Vcal.Rule.{month_day_of, put_item, put_places, with_group_weekday, with_group_place, with_group_word, with_list_word}
-use Rattle.rr_model.specs.Vcal.Rule.{is_list_whole, is_moment_word, with_end_moment, with_count, with_marked_word, with_word, with_piece, finished}
+use Rattle.rr_model.specs.Vcal.Rule.{is_list_whole, is_moment_word, with_end_moment, with_count, with_marked_word, with_word, with_piece, whole_parts}
 use Rattle.rr_model.specs.Vcal.Validity.{IsItemOf}
 use Rattle.rr_model.specs.declared.item.Item.{Item}
 use Rattle.rr_model.specs.declared.item.Item.TheVariants.{Every, Weekday, MonthDay, Place, Month, YearDay}
@@ -278,7 +278,7 @@ piece-valid line (Some parts) (b ∷ bs) more v h =
     step_keeps (λ (p : Option VRuleParts). IfSome p IsValidParts) (with_word line parts (b ∷ bs)) Some more
     (λ next e. word-valid line parts (b ∷ bs) next v e) h
 
-pub finished-valid : (line : ℕ) (parts : Option VRuleParts) (more : VRuleParts) → IfSome parts IsValidParts → finished line parts ≡ Ok more
+pub finished-valid : (line : ℕ) (parts : Option VRuleParts) (more : VRuleParts) → IfSome parts IsValidParts → whole_parts line parts ≡ Ok more
     → IsValidParts more × (is_list_whole more.family more ≡ true)
 finished-valid line None more v h = absurd (cc)
 finished-valid line (Some parts) more v h =

@@ -19,7 +19,7 @@ use Rattle.rr_model.specs.Text.Lines.{without_mark}
 use Rattle.rr_model.specs.Text.Rules.{is_blank, line_value}
 use Rattle.rr_model.specs.Text.Steps.{in_turn}
 use Rattle.rr_model.specs.Vcal.Reading.{own_items, filled_items, vrule_beside, vcal_language, vseries_of_event, reads_vcal}
-use Rattle.rr_model.specs.Vcal.Rule.{with_piece, finished, is_list_whole, end_of_words, stated_parts, stated_vrule}
+use Rattle.rr_model.specs.Vcal.Rule.{with_piece, whole_parts, is_list_whole, end_of_words, stated_parts, stated_vrule}
 use Rattle.rr_model.specs.Vcal.Validity.{IsItemOf, IsValidVRule, IsValidVSeries}
 use Rattle.rr_model.specs.declared.item.Item.{Item}
 use Rattle.rr_model.specs.declared.item.Item.TheVariants.{Every, Weekday, MonthDay, Month, YearDay}
@@ -103,7 +103,7 @@ stated_vrule-valid : (line : ℕ) (text : List ℕ) (stated : Stated VRule) → 
 unfolding stated_vrule
 stated_vrule-valid line text stated h =
     let pieces = and_then_ok (in_turn (with_piece line) None (slice_split is_blank (line_value text))) _ stated h in
-    let parts = and_then_ok (finished line pieces.0) _ stated pieces.2 in
+    let parts = and_then_ok (whole_parts line pieces.0) _ stated pieces.2 in
     let read = in_turn-keeps (with_piece line) (λ (p : Option VRuleParts). IfSome p IsValidParts) (λ p piece next v e. piece-valid line p piece next v e)
     None (slice_split is_blank (line_value text)) pieces.0 tt pieces.1 in
     let valid = finished-valid line pieces.0 parts.0 read parts.1 in

@@ -4,7 +4,7 @@ ghost use Rattle.std.specs.List.{slice_split};
 ghost use Rattle.rr_model.specs.Answers.{Answers};
 ghost use Rattle.rr_model.specs.Text.Rules.{is_blank};
 ghost use Rattle.rr_model.specs.Text.Steps.{in_turn};
-ghost use Rattle.rr_model.specs.Vcal.Rule.{with_piece, finished, end_of_words, stated_parts, stated_vrule};
+ghost use Rattle.rr_model.specs.Vcal.Rule.{with_piece, whole_parts, end_of_words, stated_parts, stated_vrule};
 ghost use Rattle.rr_model.specs.declared.rule.End.TheVariants.{Never, Until, Count, Both};
 ghost use Rattle.rr_vcal.specs.Parts.{IsValidParts};
 
@@ -47,7 +47,7 @@ fn with_pieces(alloc: Global, line: u64, text: &[u8]) -> Result<Option<VRulePart
 
 // After the last word there is a head, and the list is whole.
 fn finish(line: u64, parts: Option<VRuleParts>) -> Result<VRuleParts, Refusal>
-    ensures { result ≡ finished line parts }
+    ensures { result ≡ whole_parts line parts }
 {
     let Some(parts) = parts else {
         return Err(Refusal::BadRule(line));

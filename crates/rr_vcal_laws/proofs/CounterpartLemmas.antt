@@ -6,7 +6,7 @@ use Rattle.std.specs.Ordering.{int_eq}
 use Rattle.std.proofs.lemmas.Bool.{and_parts}
 use Rattle.std.proofs.lemmas.Bool.Decides.{nat_tests, Decides-int_eq, Decides-eqb, same_from_decides}
 use Rattle.rr_model.specs.Rule.Candidate.{time_parts_hold}
-use Rattle.rr_model.specs.Rule.Filled.{wants_hour, wants_minute, wants_second, hour_of, minute_of, second_of, filled}
+use Rattle.rr_model.specs.Rule.Filled.{wants_hour, wants_minute, wants_second, hour_of, minute_of, second_of, filled_rule}
 use Rattle.rr_model.specs.Moment.{second_part}
 use Rattle.rr_model.specs.Rising.{with_value}
 use Rattle.rr_model.specs.declared.kind.Kind.{Kind}
@@ -105,7 +105,7 @@ int_eq-pos a b =
     pos_same e = cc
 
 -- a filled rule of whole days lists the hour, the minute and the second of its start alone
-pub time_parts : (rule : VRule) (kind : Kind) (start t : ℤ) → time_parts_hold (filled (rule_of_vrule rule kind start) kind start) kind t
+pub time_parts : (rule : VRule) (kind : Kind) (start t : ℤ) → time_parts_hold (filled_rule (rule_of_vrule rule kind start) kind start) kind t
     ≡ (second_part kind t == second_part kind start)
 unfolding rule_of_vrule
 time_parts rule Days start t = refl

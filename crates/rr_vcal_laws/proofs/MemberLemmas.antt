@@ -8,7 +8,7 @@ use Rattle.std.proofs.lemmas.Int.{ints}
 use Rattle.std.proofs.lemmas.Bool.Decides.{nat_tests}
 use Rattle.rr_model.specs.Rule.Candidate.{interval_holds, date_parts_hold, day_item_holds, is_candidate}
 use Rattle.rr_model.specs.Rule.Chosen.{is_chosen}
-use Rattle.rr_model.specs.Rule.Filled.{filled}
+use Rattle.rr_model.specs.Rule.Filled.{filled_rule}
 use Rattle.rr_model.specs.Moment.{day_part, second_part}
 use Rattle.rr_model.specs.Rising.{day_item_lt}
 use Rattle.rr_model.specs.Rule.Validity.{is_absent}
@@ -63,7 +63,7 @@ parts-turn false false holds = refl
 -- The two tests are the same where the date parts of the counterpart hold exactly where some item does.
 pub same_choice : (rule : VRule) (kind : Kind) (start t : ℤ)
     → list_any (λ item. item_holds (day_part kind start) item (day_part kind t)) rule.items
-    ≡ date_parts_hold (filled (rule_of_vrule rule kind start) kind start) (day_part kind t)
+    ≡ date_parts_hold (filled_rule (rule_of_vrule rule kind start) kind start) (day_part kind t)
     → is_vcal_candidate rule kind start t ≡ is_chosen (rule_of_vrule rule kind start) kind start t
 unfolding is_vcal_candidate is_chosen is_candidate rule_of_vrule
 same_choice rule kind start t dates =
@@ -80,7 +80,7 @@ same_choice rule kind start t dates =
     ∙ parts-turn time fits holds
     ∙ ap (λ (b : Bool). ((b && holds) && time) && true) (sym units)
     ∙ ap (λ (b : Bool). ((interval_holds counterpart kind start t && b) && time) && true) dates
-    ∙ ap (λ (b : Bool). ((interval_holds counterpart kind start t && date_parts_hold (filled counterpart kind start) d) && b) && true)
+    ∙ ap (λ (b : Bool). ((interval_holds counterpart kind start t && date_parts_hold (filled_rule counterpart kind start) d) && b) && true)
     (sym (time_parts rule kind start t))
 
 -- ---- the items of a family
@@ -137,7 +137,7 @@ daily interval items end = record { family = family.D; interval = interval; item
 
 daily-dates : (interval : ℕ) (items : List Item) (end : End) (kind : Kind) (start d : ℤ) → AreItemsOf family.D items → 1 ≤ length items
     → list_any (λ item. item_holds (day_part kind start) item d) items
-    ≡ date_parts_hold (filled (rule_of_vrule (daily interval items end) kind start) kind start) d
+    ≡ date_parts_hold (filled_rule (rule_of_vrule (daily interval items end) kind start) kind start) d
 unfolding rule_of_vrule
 daily-dates interval items end kind start d h some =
     let none = every-none items h in
@@ -208,7 +208,7 @@ weekly interval items end = record { family = family.W; interval = interval; ite
 
 weekly-dates : (interval : ℕ) (items : List Item) (end : End) (kind : Kind) (start d : ℤ) → AreItemsOf family.W items → 1 ≤ length items
     → list_any (λ item. item_holds (day_part kind start) item d) items
-    ≡ date_parts_hold (filled (rule_of_vrule (weekly interval items end) kind start) kind start) d
+    ≡ date_parts_hold (filled_rule (rule_of_vrule (weekly interval items end) kind start) kind start) d
 unfolding rule_of_vrule
 weekly-dates interval items end kind start d h some =
     let none = weekday-none items h in

@@ -8,7 +8,7 @@ use Rattle.std.proofs.lemmas.Bool.Decides.{nat_tests, Decides-int_eq}
 use Rattle.rr_model.specs.Calendar.{day_of_month, month_of, year_of, days_in_month, weekday_of}
 use Rattle.rr_model.specs.Rule.Candidate.{date_parts_hold, day_item_holds, is_ordinal_of_day, lists}
 use Rattle.rr_model.specs.Rule.Chosen.{is_chosen}
-use Rattle.rr_model.specs.Rule.Filled.{filled}
+use Rattle.rr_model.specs.Rule.Filled.{filled_rule}
 use Rattle.rr_model.specs.Moment.{day_part}
 use Rattle.rr_model.specs.Rising.{day_item_lt}
 use Rattle.rr_model.specs.Rule.Validity.{is_absent}
@@ -92,7 +92,7 @@ by_day interval items end = record { family = family.MD; interval = interval; it
 
 by_day-dates : (interval : ℕ) (items : List Item) (end : End) (kind : Kind) (start d : ℤ) → AreItemsOf family.MD items → 1 ≤ length items
     → list_any (λ item. item_holds (day_part kind start) item d) items
-    ≡ date_parts_hold (filled (rule_of_vrule (by_day interval items end) kind start) kind start) d
+    ≡ date_parts_hold (filled_rule (rule_of_vrule (by_day interval items end) kind start) kind start) d
 unfolding rule_of_vrule
 by_day-dates interval items end kind start d h some =
     let none = month_day-none items h in
@@ -164,7 +164,7 @@ by_position interval items end = record { family = family.MP; interval = interva
 
 by_position-dates : (interval : ℕ) (items : List Item) (end : End) (kind : Kind) (start d : ℤ) → AreItemsOf family.MP items → 1 ≤ length items
     → list_any (λ item. item_holds (day_part kind start) item d) items
-    ≡ date_parts_hold (filled (rule_of_vrule (by_position interval items end) kind start) kind start) d
+    ≡ date_parts_hold (filled_rule (rule_of_vrule (by_position interval items end) kind start) kind start) d
 unfolding rule_of_vrule
 by_position-dates interval items end kind start d h some =
     let none = place-none items h in

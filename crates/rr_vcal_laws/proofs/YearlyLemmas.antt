@@ -8,7 +8,7 @@ use Rattle.std.proofs.lemmas.Bool.Decides.{Decides-int_eq}
 use Rattle.rr_model.specs.Calendar.{day_of_month, day_of_year, month_of, year_of, days_in_year}
 use Rattle.rr_model.specs.Rule.Candidate.{date_parts_hold, lists}
 use Rattle.rr_model.specs.Rule.Chosen.{is_chosen}
-use Rattle.rr_model.specs.Rule.Filled.{filled}
+use Rattle.rr_model.specs.Rule.Filled.{filled_rule}
 use Rattle.rr_model.specs.Moment.{day_part}
 use Rattle.rr_model.specs.Rising.{day_item_lt}
 use Rattle.rr_model.specs.Rule.Validity.{is_absent}
@@ -97,7 +97,7 @@ by_year_day interval items end = record { family = family.YD; interval = interva
 
 by_year_day-dates : (interval : ℕ) (items : List Item) (end : End) (kind : Kind) (start d : ℤ) → AreItemsOf family.YD items → 1 ≤ length items
     → list_any (λ item. item_holds (day_part kind start) item d) items
-    ≡ date_parts_hold (filled (rule_of_vrule (by_year_day interval items end) kind start) kind start) d
+    ≡ date_parts_hold (filled_rule (rule_of_vrule (by_year_day interval items end) kind start) kind start) d
 unfolding rule_of_vrule
 by_year_day-dates interval items end kind start d h some =
     let none = year_day-none items h in
@@ -175,7 +175,7 @@ by_month interval items end = record { family = family.YM; interval = interval; 
 
 by_month-dates : (interval : ℕ) (items : List Item) (end : End) (kind : Kind) (start d : ℤ) → AreItemsOf family.YM items → 1 ≤ length items
     → list_any (λ item. item_holds (day_part kind start) item d) items
-    ≡ date_parts_hold (filled (rule_of_vrule (by_month interval items end) kind start) kind start) d
+    ≡ date_parts_hold (filled_rule (rule_of_vrule (by_month interval items end) kind start) kind start) d
 unfolding rule_of_vrule
 by_month-dates interval items end kind start d h some =
     let none = month-none items h in

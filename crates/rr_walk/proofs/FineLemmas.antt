@@ -14,7 +14,7 @@ use Rattle.rr_model.specs.Moment.Units.{unit_number}
 use Rattle.rr_model.specs.Rising.Sets.{IsSetOf}
 use Rattle.rr_model.specs.Rule.Chosen.{is_chosen}
 use Rattle.rr_model.specs.Rule.Candidate.{date_parts_hold, is_candidate, interval_holds}
-use Rattle.rr_model.specs.Rule.Filled.{filled}
+use Rattle.rr_model.specs.Rule.Filled.{filled_rule}
 use Rattle.rr_model.specs.declared.kind.Kind.TheVariants.{Days, Moments}
 use Rattle.rr_model.specs.declared.rule.Freq.{Freq}
 use Rattle.rr_model.specs.declared.rule.Freq.TheVariants.{Secondly, Minutely, Hourly, Daily, Weekly, Monthly, Yearly}
@@ -133,17 +133,17 @@ and_false : (a : Bool) → (a && false) ≡ false
 and_false true = refl
 and_false false = refl
 
-no_date : (rule : Rule) (start d : ℤ) (s : ℕ) → s < 86_400 → date_parts_hold (filled rule Days (day_part Moments start)) d ≡ false
+no_date : (rule : Rule) (start d : ℤ) (s : ℕ) → s < 86_400 → date_parts_hold (filled_rule rule Days (day_part Moments start)) d ≡ false
     → is_candidate rule Moments start (moment_at Moments d s) ≡ false
 unfolding is_candidate
 no_date rule start d s low e =
-    let dates : date_parts_hold (filled rule Moments start) (day_part Moments (moment_at Moments d s)) ≡ false =
-    ap (date_parts_hold (filled rule Moments start)) (day_part-moment_at d s low) ∙ e in
+    let dates : date_parts_hold (filled_rule rule Moments start) (day_part Moments (moment_at Moments d s)) ≡ false =
+    ap (date_parts_hold (filled_rule rule Moments start)) (day_part-moment_at d s low) ∙ e in
     rw (dates, and_false (interval_holds rule Moments start (moment_at Moments d s))) refl
 
 -- none of them is occupied
 pub none_allowed : (rule : Rule) (start day end : ℤ)
-    → ((d : ℤ) → day ≤ℤ d → d <ℤ end → date_parts_hold (filled rule Days (day_part Moments start)) d ≡ false)
+    → ((d : ℤ) → day ≤ℤ d → d <ℤ end → date_parts_hold (filled_rule rule Days (day_part Moments start)) d ≡ false)
     → HasNone (chosen_of rule Moments start) day end
 none_allowed rule start day end none d s l h =
     elim (cases_lt s 86_400) [
@@ -173,7 +173,7 @@ found_first sets tree from day to found late low none on = (
 -- the first day on which a candidate can lie, after days that are known to be unoccupied
 module _ (r : Ruling) (f : Filling) (is : f ≡ record { rule = r.rule; start_day = day_part Moments r.start }) (from day to : ℤ)
     (before : HasNone (chosen_of r.rule Moments r.start) from day) where
-  allowed_at : (d : ℤ) → date_parts_hold (filled r.rule Days (day_part Moments r.start)) d ≡ allows_day f d
+  allowed_at : (d : ℤ) → date_parts_hold (filled_rule r.rule Days (day_part Moments r.start)) d ≡ allows_day f d
   allowed_at d = ap (λ g. allows_day g d) (sym is)
 
   pub fine_none : IsFirstAllowed f day (to +ℤ pos 1) None → IsFirstFine r from to None

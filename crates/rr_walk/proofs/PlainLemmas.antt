@@ -12,7 +12,7 @@ use Rattle.rr_model.specs.Moment.Units.{is_whole_days, unit_number, unit_start}
 use Rattle.rr_model.specs.Rising.Sets.{IsSetOf}
 use Rattle.rr_model.specs.Rule.Candidate.{date_parts_hold, interval_holds}
 use Rattle.rr_model.specs.Rule.DaysAndTimes.{IsCandidateTime, day_holds, seconds_of}
-use Rattle.rr_model.specs.Rule.Filled.{filled}
+use Rattle.rr_model.specs.Rule.Filled.{filled_rule}
 use Rattle.rr_model.specs.Sets.Tree.{Tree, chosen_of, stands_at}
 use Rattle.rr_model.specs.declared.kind.Kind.{Kind}
 use Rattle.rr_model.specs.declared.kind.Kind.TheVariants.{Days, Moments}
@@ -110,7 +110,7 @@ module _ (r : Ruling) where
   fits d = interval_holds r.rule Days (day_part r.kind r.start) d
 
   abbrev allows : ℤ → Bool
-  allows d = date_parts_hold (filled r.rule Days (day_part r.kind r.start)) d
+  allows d = date_parts_hold (filled_rule r.rule Days (day_part r.kind r.start)) d
 
   abbrev unit : ℤ → ℤ
   unit d = unit_number r.rule.freq r.rule.week_start Days d

@@ -8,7 +8,7 @@ use Rattle.std.proofs.lemmas.Bool.{and_parts, and_from}
 use Rattle.rr_model.specs.Whole.{divides}
 use Rattle.rr_model.specs.Whole.Count.{count_from}
 use Rattle.rr_model.specs.Moment.Units.{unit_number}
-use Rattle.rr_model.specs.Rule.Filled.{filled}
+use Rattle.rr_model.specs.Rule.Filled.{filled_rule}
 use Rattle.rr_model.specs.Rule.Candidate.{interval_holds, date_parts_hold}
 use Rattle.rr_model.specs.Rising.Sets.{IsSetOf}
 use Rattle.rr_model.specs.declared.kind.Kind.TheVariants.{Days}
@@ -107,7 +107,7 @@ pub ranks_are_counts : (rule : Rule) (start_day unit : ℤ) (days : List ℤ) (i
 ranks_are_counts rule start_day unit days i set low =
     let d = get_or days i (pos 0) in
     let own = (set.exact d).0 (Contains-get_or days i (pos 0) low) in
-    let test : ℤ → Bool = λ z. date_parts_hold (filled rule Days start_day) z in
+    let test : ℤ → Bool = λ z. date_parts_hold (filled_rule rule Days start_day) z in
     let first = first_of_unit rule d in
     let next = next_of_unit rule d in
     let n : ℕ = nat_abs (next -ℤ first) in

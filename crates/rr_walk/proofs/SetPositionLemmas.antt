@@ -13,7 +13,7 @@ use Rattle.std.proofs.lemmas.List.Folds.{list_any_at}
 use Rattle.rr_model.specs.Whole.Count.{count_from}
 use Rattle.rr_model.specs.Moment.{day_part, moment_at}
 use Rattle.rr_model.specs.Moment.Units.{is_whole_days, unit_number}
-use Rattle.rr_model.specs.Rule.Filled.{filled}
+use Rattle.rr_model.specs.Rule.Filled.{filled_rule}
 use Rattle.rr_model.specs.Rule.Validity.{is_absent, takes_start}
 use Rattle.rr_model.specs.Rule.Candidate.{lists, interval_holds, date_parts_hold, is_candidate}
 use Rattle.rr_model.specs.Rule.Chosen.{is_chosen}
@@ -296,9 +296,9 @@ module _ (rule : Rule) (kind : Kind) (start d : ℤ) (coarse : is_whole_days rul
       let first = first_of_unit rule d in
       let next = next_of_unit rule d in
       let within = in_unit rule d coarse in
-      let test : ℤ → Bool = λ z. date_parts_hold (filled rule Days (day_part kind start)) z in
+      let test : ℤ → Bool = λ z. date_parts_hold (filled_rule rule Days (day_part kind start)) z in
       let holds : test d ≡ true =
-      (and_parts (interval_holds rule Days (day_part kind start) d) (date_parts_hold (filled rule Days (day_part kind start)) d) candidate).1 in
+      (and_parts (interval_holds rule Days (day_part kind start) d) (date_parts_hold (filled_rule rule Days (day_part kind start)) d) candidate).1 in
       let n : ℕ = nat_abs (d -ℤ first) in
       let m : ℕ = nat_abs (next -ℤ d) - 1 in
       let e : nat_abs (next -ℤ first) ≡ n + suc m = omega (arith, ints, within.0, within.1) in
@@ -380,7 +380,7 @@ few_of_unit rule start_day d coarse =
       ints,
       n.1,
       n.2,
-      count_from-le (date_parts_hold (filled rule Days start_day)) (first_of_unit rule d)
+      count_from-le (date_parts_hold (filled_rule rule Days start_day)) (first_of_unit rule d)
           (nat_abs (next_of_unit rule d -ℤ first_of_unit rule d)),
     )
 

@@ -15,7 +15,7 @@ use Rattle.rr_model.specs.Moment.Units.{is_whole_days, unit_number, unit_seconds
 use Rattle.rr_model.specs.Rising.Sets.{IsSetOf}
 use Rattle.rr_model.specs.Rule.Candidate.{date_parts_hold, interval_holds, is_candidate, time_parts_hold}
 use Rattle.rr_model.specs.Rule.Chosen.{is_chosen}
-use Rattle.rr_model.specs.Rule.Filled.{filled}
+use Rattle.rr_model.specs.Rule.Filled.{filled_rule}
 use Rattle.rr_model.specs.Rule.DaysAndTimes.{time_holds}
 use Rattle.rr_model.specs.declared.kind.Kind.TheVariants.{Days, Moments}
 use Rattle.rr_model.specs.declared.rule.Rule.{Rule}
@@ -53,7 +53,7 @@ fits_alike n a other b k some e =
 
 -- a day that the date parts allow
 abbrev Allowed : Rule → ℤ → ℤ → Type 0
-Allowed rule start day = IsTrue (date_parts_hold (filled rule Days (day_part Moments start)) day)
+Allowed rule start day = IsTrue (date_parts_hold (filled_rule rule Days (day_part Moments start)) day)
 
 -- there the interval and the time parts decide
 on_allowed : (rule : Rule) (start day : ℤ) (s : ℕ) → s < 86_400 → Allowed rule start day
@@ -62,11 +62,11 @@ on_allowed : (rule : Rule) (start day : ℤ) (s : ℕ) → s < 86_400 → Allowe
 unfolding is_candidate
 on_allowed rule start day s low allowed =
     let fits : Bool = interval_holds rule Moments start (moment_at Moments day s) in
-    let dates : date_parts_hold (filled rule Moments start) (day_part Moments (moment_at Moments day s)) ≡ true =
-    ap (date_parts_hold (filled rule Moments start)) (day_part-moment_at day s low) ∙ allowed in
-    ap (λ b. fits && b && time_parts_hold (filled rule Moments start) Moments (moment_at Moments day s)) dates
-    ∙ ap (λ b. b && time_parts_hold (filled rule Moments start) Moments (moment_at Moments day s)) (and-true fits)
-    ∙ ap (λ b. fits && b) (time_parts_hold-at (filled rule Moments start) day s low ∙ sym (time_parts_hold-at (filled rule Moments start) (pos 0) s low))
+    let dates : date_parts_hold (filled_rule rule Moments start) (day_part Moments (moment_at Moments day s)) ≡ true =
+    ap (date_parts_hold (filled_rule rule Moments start)) (day_part-moment_at day s low) ∙ allowed in
+    ap (λ b. fits && b && time_parts_hold (filled_rule rule Moments start) Moments (moment_at Moments day s)) dates
+    ∙ ap (λ b. b && time_parts_hold (filled_rule rule Moments start) Moments (moment_at Moments day s)) (and-true fits)
+    ∙ ap (λ b. fits && b) (time_parts_hold-at (filled_rule rule Moments start) day s low ∙ sym (time_parts_hold-at (filled_rule rule Moments start) (pos 0) s low))
 
 -- set positions ask the second of the day alone
 ranks_alike : (rule : Rule) (start day other : ℤ) (s : ℕ) → s < 86_400 → is_whole_days rule.freq ≡ false
@@ -84,8 +84,8 @@ ranks_alike rule start day other s low fine =
     )
 
 module _ (r : Ruling) (day other : ℤ) (fine : is_whole_days r.rule.freq ≡ false) (some : 1 ≤ r.rule.interval)
-    (allowed : IsTrue (date_parts_hold (filled r.rule Days (day_part Moments r.start)) day))
-    (other_allowed : IsTrue (date_parts_hold (filled r.rule Days (day_part Moments r.start)) other)) (same : unit_offset r day ≡ unit_offset r other) where
+    (allowed : IsTrue (date_parts_hold (filled_rule r.rule Days (day_part Moments r.start)) day))
+    (other_allowed : IsTrue (date_parts_hold (filled_rule r.rule Days (day_part Moments r.start)) other)) (same : unit_offset r day ≡ unit_offset r other) where
   interval_alike : (s : ℕ) → interval_holds r.rule Moments r.start (moment_at Moments day s) ≡ interval_holds r.rule Moments r.start (moment_at Moments other s)
   interval_alike s =
       let own = unit_number r.rule.freq r.rule.week_start Moments r.start in
@@ -132,7 +132,7 @@ knows_none r sets none day near allowed n at =
     absurd (cc)
 
 module _ (r : Ruling) (old new : List (List ℕ)) (day : ℤ) (number : SetId) (times : List ℕ) (fine : is_whole_days r.rule.freq ≡ false) (some : 1 ≤ r.rule.interval)
-    (allowed : IsTrue (date_parts_hold (filled r.rule Days (day_part Moments r.start)) day)) (at : slice_get new number.index ≡ Some times)
+    (allowed : IsTrue (date_parts_hold (filled_rule r.rule Days (day_part Moments r.start)) day)) (at : slice_get new number.index ≡ Some times)
     (chosen : IsSetOf nat_lt times (λ s. (s < 86_400) × IsTrue (is_chosen r.rule Moments r.start (moment_at Moments day s)))) where
   -- the number of what is chosen on a day
   pub number_of : (number.index < length new) × IsSetOf nat_lt (get_or new number.index []) (λ s. (s < 86_400)

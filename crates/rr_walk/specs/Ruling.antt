@@ -7,7 +7,7 @@ use Rattle.rr_model.specs.Moment.{day_part, moment_at, second_part}
 use Rattle.rr_model.specs.Moment.Units.{unit_number, unit_start}
 use Rattle.rr_model.specs.Rule.Candidate.{date_parts_hold}
 use Rattle.rr_model.specs.Rule.Chosen.{is_chosen}
-use Rattle.rr_model.specs.Rule.Filled.{filled}
+use Rattle.rr_model.specs.Rule.Filled.{filled_rule}
 use Rattle.rr_model.specs.Whole.{divides, floor_mod}
 use Rattle.rr_expand.specs.Years.{Filling}
 use Rattle.rr_expand.specs.UnitTimes.{AreUnitTimes}
@@ -56,7 +56,7 @@ is_candidate_day r day = day_holds r.rule (day_part r.kind r.start) day
 
 -- the date parts of a finer rule, filled from its start, allow the day
 abbrev pub AllowsDay : Ruling → ℤ → Type 0
-AllowsDay r day = IsTrue (date_parts_hold (filled r.rule Days (day_part Moments r.start)) day)
+AllowsDay r day = IsTrue (date_parts_hold (filled_rule r.rule Days (day_part Moments r.start)) day)
 
 -- the set of this number has exactly the seconds for which P holds
 abbrev pub IsSetAt : List (List ℕ) → (ℕ → Type 0) → SetId → Type 0

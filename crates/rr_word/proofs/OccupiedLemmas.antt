@@ -21,7 +21,7 @@ use Rattle.rr_model.specs.declared.sketch.Sketch.{Sketch}
 use Rattle.rr_word.proofs.SketchLemmas.{set_on, repeats}
 use Rattle.rr_word.proofs.WindowLemmas.{turns}
 use Rattle.rr_model.specs.Sets.Least.{IsEventualPeriod, IsLeastPeriod, IsLeastStart, IsLeastOfEndless, IsLeastOfFinite, IsLeastSketch}
-use Rattle.rr_model.specs.Sets.Occupied.{shape_if_some, occupied}
+use Rattle.rr_model.specs.Sets.Occupied.{shape_if_some, day_shapes}
 use Rattle.rr_word.proofs.OneLeastLemmas.{before_part, cycle_part, finite_end}
 use Rattle.rr_word.proofs.PeriodLemmas.{repeats_from_start}
 use Rattle.rr_model.proofs.TestLemmas.{int_eq-same}
@@ -51,42 +51,42 @@ rises_push low high (s ∷ ss) x l h r = let a = r.1 in (r.0, omega (arith, ints
 -- ---- a stretch
 
 module _ (s : Sketch) (v : IsValidSketch s) (q : ℤ) where
-  pub occupied_rises : (n : ℕ) → HasRisingDays q (q +ℤ pos n) (occupied s q n)
-  unfolding occupied
+  pub occupied_rises : (n : ℕ) → HasRisingDays q (q +ℤ pos n) (day_shapes s q n)
+  unfolding day_shapes
   occupied_rises zero = tt
   occupied_rises (suc n) = one (occupied_rises n) (times_on s (q +ℤ pos n))
     where
-      one : HasRisingDays q (q +ℤ pos n) (occupied s q n) → (times : List ℕ)
-          → HasRisingDays q (q +ℤ pos (suc n)) (occupied s q n ++ shape_if_some (q +ℤ pos n) times)
-      one r [] = rises_higher q (q +ℤ pos n) (q +ℤ pos (suc n)) (occupied s q n ++ []) (omega (arith, ints))
-          (subst (λ (l : List DayShape). HasRisingDays q (q +ℤ pos n) l) (sym (append-nil (occupied s q n))) r)
-      one r (x ∷ xs) = rises_push q (q +ℤ pos (suc n)) (occupied s q n) (record { day = q +ℤ pos n; times = x ∷ xs }) (omega (arith, ints))
+      one : HasRisingDays q (q +ℤ pos n) (day_shapes s q n) → (times : List ℕ)
+          → HasRisingDays q (q +ℤ pos (suc n)) (day_shapes s q n ++ shape_if_some (q +ℤ pos n) times)
+      one r [] = rises_higher q (q +ℤ pos n) (q +ℤ pos (suc n)) (day_shapes s q n ++ []) (omega (arith, ints))
+          (subst (λ (l : List DayShape). HasRisingDays q (q +ℤ pos n) l) (sym (append-nil (day_shapes s q n))) r)
+      one r (x ∷ xs) = rises_push q (q +ℤ pos (suc n)) (day_shapes s q n) (record { day = q +ℤ pos n; times = x ∷ xs }) (omega (arith, ints))
           (omega (arith, ints)) r
 
   -- each day of the stretch has its seconds
-  pub occupied_has : (n : ℕ) (d : ℤ) → q ≤ℤ d → d <ℤ (q +ℤ pos n) → times_in (occupied s q n) d ≡ times_on s d
-  unfolding occupied
+  pub occupied_has : (n : ℕ) (d : ℤ) → q ≤ℤ d → d <ℤ (q +ℤ pos n) → times_in (day_shapes s q n) d ≡ times_on s d
+  unfolding day_shapes
   occupied_has zero d low high = absurd (omega (arith, ints))
   occupied_has (suc n) d low high =
-      let P : Type 0 = times_in (occupied s q n ++ shape_if_some (q +ℤ pos n) (times_on s (q +ℤ pos n))) d ≡ times_on s d in
+      let P : Type 0 = times_in (day_shapes s q n ++ shape_if_some (q +ℤ pos n) (times_on s (q +ℤ pos n))) d ≡ times_on s d in
       by_lt_z {P = P} d (q +ℤ pos n) (λ l. earlier (times_on s (q +ℤ pos n)) (λ e. omega (arith, ints)) ∙ occupied_has n d low l) (λ g.
       let e : d ≡ q +ℤ pos n = omega (arith, ints) in
-      ap (times_in (occupied s q n ++ shape_if_some (q +ℤ pos n) (times_on s (q +ℤ pos n)))) e ∙ here (times_on s (q +ℤ pos n)) ∙ ap (times_on s) (sym e))
+      ap (times_in (day_shapes s q n ++ shape_if_some (q +ℤ pos n) (times_on s (q +ℤ pos n)))) e ∙ here (times_on s (q +ℤ pos n)) ∙ ap (times_on s) (sym e))
     where
-      earlier : (times : List ℕ) → (q +ℤ pos n ≡ d → ⊥) → times_in (occupied s q n ++ shape_if_some (q +ℤ pos n) times) d ≡ times_in (occupied s q n) d
-      earlier [] ne = ap (λ l. times_in l d) (append-nil (occupied s q n))
-      earlier (x ∷ xs) ne = times_in-push_other (occupied s q n) (record { day = q +ℤ pos n; times = x ∷ xs }) d ne
+      earlier : (times : List ℕ) → (q +ℤ pos n ≡ d → ⊥) → times_in (day_shapes s q n ++ shape_if_some (q +ℤ pos n) times) d ≡ times_in (day_shapes s q n) d
+      earlier [] ne = ap (λ l. times_in l d) (append-nil (day_shapes s q n))
+      earlier (x ∷ xs) ne = times_in-push_other (day_shapes s q n) (record { day = q +ℤ pos n; times = x ∷ xs }) d ne
 
-      here : (times : List ℕ) → times_in (occupied s q n ++ shape_if_some (q +ℤ pos n) times) (q +ℤ pos n) ≡ times
-      here [] = ap (λ l. times_in l (q +ℤ pos n)) (append-nil (occupied s q n))
-          ∙ times_in-late q (q +ℤ pos n) (occupied s q n) (q +ℤ pos n) (occupied_rises n) (omega (arith, ints))
-      here (x ∷ xs) = times_in-push_same q (occupied s q n) (record { day = q +ℤ pos n; times = x ∷ xs }) (occupied_rises n)
+      here : (times : List ℕ) → times_in (day_shapes s q n ++ shape_if_some (q +ℤ pos n) times) (q +ℤ pos n) ≡ times
+      here [] = ap (λ l. times_in l (q +ℤ pos n)) (append-nil (day_shapes s q n))
+          ∙ times_in-late q (q +ℤ pos n) (day_shapes s q n) (q +ℤ pos n) (occupied_rises n) (omega (arith, ints))
+      here (x ∷ xs) = times_in-push_same q (day_shapes s q n) (record { day = q +ℤ pos n; times = x ∷ xs }) (occupied_rises n)
 
-  pub occupied_sets : (n : ℕ) → All (λ x. IsTimeSet s.kind x.times) (occupied s q n)
-  unfolding occupied
+  pub occupied_sets : (n : ℕ) → All (λ x. IsTimeSet s.kind x.times) (day_shapes s q n)
+  unfolding day_shapes
   occupied_sets zero = All-nil (λ (x : DayShape). IsTimeSet s.kind x.times)
   occupied_sets (suc n) =
-      All-append (λ (x : DayShape). IsTimeSet s.kind x.times) (occupied s q n) (shape_if_some (q +ℤ pos n) (times_on s (q +ℤ pos n))) (occupied_sets n)
+      All-append (λ (x : DayShape). IsTimeSet s.kind x.times) (day_shapes s q n) (shape_if_some (q +ℤ pos n) (times_on s (q +ℤ pos n))) (occupied_sets n)
       (one (times_on s (q +ℤ pos n)) (set_on s (q +ℤ pos n) v))
     where
       one : (times : List ℕ) → (times ≡ []) ⊎ IsTimeSet s.kind times → All (λ x. IsTimeSet s.kind x.times) (shape_if_some (q +ℤ pos n) times)
@@ -111,10 +111,10 @@ rising_near low high (s ∷ ss) l h r =
 abbrev pub sketch_from : Sketch → ℤ → ℕ → ℕ → Sketch
 sketch_from s first n p = record {
   kind = s.kind;
-  before = occupied s first n;
+  before = day_shapes s first n;
   settled = first +ℤ pos n;
   period = p;
-  cycle = occupied s (first +ℤ pos n) p;
+  cycle = day_shapes s (first +ℤ pos n) p;
 }
 
 module _ (s : Sketch) (bounded : IsDaySequence s) (first : ℤ) (n p : ℕ) (is_first : IsFirstDay s (Some first)) (least : IsLeastPeriod (times_on s) p)
@@ -139,8 +139,8 @@ module _ (s : Sketch) (bounded : IsDaySequence s) (first : ℤ) (n p : ℕ) (is_
       let u = sketch_from s first n p in
       let P : Type 0 = times_on u d ≡ times_on s d in
       by_lt_z {P = P} d (first +ℤ pos n) (λ l.
-      before_part u d l ∙ by_lt_z {P = times_in (occupied s first n) d ≡ times_on s d} d first
-      (λ m. times_in-early first (first +ℤ pos n) (occupied s first n) d (occupied_rises s v first n) m ∙ sym (is_first.1 d m))
+      before_part u d l ∙ by_lt_z {P = times_in (day_shapes s first n) d ≡ times_on s d} d first
+      (λ m. times_in-early first (first +ℤ pos n) (day_shapes s first n) d (occupied_rises s v first n) m ∙ sym (is_first.1 d m))
       (λ m. occupied_has s v first n d m l)) (λ g.
       let k = nat_abs (d -ℤ (first +ℤ pos n)) in
       let e : d -ℤ (first +ℤ pos n) ≡ pos k = omega (arith, ints) in
@@ -149,7 +149,7 @@ module _ (s : Sketch) (bounded : IsDaySequence s) (first : ℤ) (n p : ℕ) (is_
       let place : day_in_cycle u d ≡ (first +ℤ pos n) +ℤ pos (k % p) = rw e refl in
       let w = div-add-mod' k p in
       let there : d ≡ ((first +ℤ pos n) +ℤ pos (k % p)) +ℤ pos (k / p * p) = omega (arith, ints, w) in
-      cycle_part u d g ∙ ap (times_in (occupied s (first +ℤ pos n) p)) place
+      cycle_part u d g ∙ ap (times_in (day_shapes s (first +ℤ pos n) p)) place
       ∙ occupied_has s v (first +ℤ pos n) p ((first +ℤ pos n) +ℤ pos (k % p)) (omega (arith, ints)) (omega (arith, ints, small))
       ∙ sym (turns (times_on s) (first +ℤ pos n) p start.repeats (k / p) ((first +ℤ pos n) +ℤ pos (k % p)) (omega (arith, ints)))
       ∙ ap (times_on s) (sym there))
@@ -179,7 +179,7 @@ module _ (s : Sketch) (bounded : IsDaySequence s) (first : ℤ) (n p : ℕ) (is_
       record {
         valid = sketch_from_valid;
         settled = (omega (arith, ints), high);
-        before = rising_near first (first +ℤ pos n) (occupied s first n) a high (occupied_rises s v first n);
+        before = rising_near first (first +ℤ pos n) (day_shapes s first n) a high (occupied_rises s v first n);
         first = λ d h. bounded.first d (first_back d h);
         period = (let m = bounded.period in omega arith);
       }
@@ -194,10 +194,10 @@ module _ (s : Sketch) (bounded : IsDaySequence s) (first : ℤ) (n p : ℕ) (is_
       sketch_from_times_back d = sym (sketch_from_times d)
 
   -- a period with no occupied day: nothing follows
-  none_after : occupied s (first +ℤ pos n) p ≡ [] → (d : ℤ) → (first +ℤ pos n) ≤ℤ d → times_on s d ≡ []
+  none_after : day_shapes s (first +ℤ pos n) p ≡ [] → (d : ℤ) → (first +ℤ pos n) ≤ℤ d → times_on s d ≡ []
   none_after e d l = sym (sketch_from_times d) ∙ finite_end (sketch_from s first n p) d e l
 
-  finite_form : occupied s (first +ℤ pos n) p ≡ [] → IsLeastOfFinite (sketch_from s first n p)
+  finite_form : day_shapes s (first +ℤ pos n) p ≡ [] → IsLeastOfFinite (sketch_from s first n p)
   finite_form e =
       let one : IsEventualPeriod (times_on s) 1 =
       (first +ℤ pos n, record { some = omega arith; repeats = λ d l. none_after e (d +ℤ pos 1) (omega (arith, ints)) ∙ sym (none_after e d l) }) in
@@ -214,17 +214,17 @@ module _ (s : Sketch) (bounded : IsDaySequence s) (first : ℤ) (n p : ℕ) (is_
             omega (arith, ints, too_low));
       }
     where
-      nothing_from : occupied s (first +ℤ pos n) p ≡ [] → times_on s ((first +ℤ pos n) -ℤ pos 1) ≡ [] → (d : ℤ) → ((first +ℤ pos n) -ℤ pos 1) ≤ℤ d
+      nothing_from : day_shapes s (first +ℤ pos n) p ≡ [] → times_on s ((first +ℤ pos n) -ℤ pos 1) ≡ [] → (d : ℤ) → ((first +ℤ pos n) -ℤ pos 1) ≤ℤ d
           → times_on s d ≡ []
       nothing_from e on_last d l =
           let P : Type 0 = times_on s d ≡ [] in
           by_lt_z {P = P} d (first +ℤ pos n) (λ m. let i : d ≡ (first +ℤ pos n) -ℤ pos 1 = omega (arith, ints) in
           ap (times_on s) i ∙ on_last) (λ g. none_after e d g)
 
-      from_last : occupied s (first +ℤ pos n) p ≡ [] → times_on s ((first +ℤ pos n) -ℤ pos 1) ≡ [] → RepeatsFrom (times_on s) ((first +ℤ pos n) -ℤ pos 1) p
+      from_last : day_shapes s (first +ℤ pos n) p ≡ [] → times_on s ((first +ℤ pos n) -ℤ pos 1) ≡ [] → RepeatsFrom (times_on s) ((first +ℤ pos n) -ℤ pos 1) p
       from_last e on_last d l = nothing_from e on_last (d +ℤ pos p) (omega (arith, ints)) ∙ sym (nothing_from e on_last d l)
 
-  endless_form : (c : DayShape) (cs : List DayShape) → occupied s (first +ℤ pos n) p ≡ c ∷ cs → IsLeastOfEndless (sketch_from s first n p)
+  endless_form : (c : DayShape) (cs : List DayShape) → day_shapes s (first +ℤ pos n) p ≡ c ∷ cs → IsLeastOfEndless (sketch_from s first n p)
   endless_form c cs e =
       let rises : HasRisingDays (first +ℤ pos n) ((first +ℤ pos n) +ℤ pos p) (c ∷ cs) =
       subst (λ (l : List DayShape). HasRisingDays (first +ℤ pos n) ((first +ℤ pos n) +ℤ pos p) l) e (occupied_rises s v (first +ℤ pos n) p) in
@@ -252,9 +252,9 @@ module _ (s : Sketch) (bounded : IsDaySequence s) (first : ℤ) (n p : ℕ) (is_
 
   -- it is the least sketch
   pub sketch_from_least : IsLeastSketch (sketch_from s first n p)
-  sketch_from_least = record { valid = sketch_from_valid; form = inr (by_cycle (occupied s (first +ℤ pos n) p) refl) }
+  sketch_from_least = record { valid = sketch_from_valid; form = inr (by_cycle (day_shapes s (first +ℤ pos n) p) refl) }
     where
-      by_cycle : (l : List DayShape) → occupied s (first +ℤ pos n) p ≡ l
+      by_cycle : (l : List DayShape) → day_shapes s (first +ℤ pos n) p ≡ l
           → IsLeastOfFinite (sketch_from s first n p) ⊎ IsLeastOfEndless (sketch_from s first n p)
       by_cycle [] e = inl (finite_form e)
       by_cycle (c ∷ cs) e = inr (endless_form c cs e)
@@ -273,14 +273,14 @@ start_near s first q p bounded is_first holds start =
     (λ d l. repeats_from_start (times_on s) s.settled s.period p v.period (repeats s v) holds d (omega (arith, ints, clamps))) in
     (omega (arith, ints), omega (arith, ints, clamps, high))
 
-pub occupied_few : (s : Sketch) (q : ℤ) (n : ℕ) → length (occupied s q n) ≤ n
-unfolding occupied
+pub occupied_few : (s : Sketch) (q : ℤ) (n : ℕ) → length (day_shapes s q n) ≤ n
+unfolding day_shapes
 occupied_few s q zero = omega arith
 occupied_few s q (suc n) = one (occupied_few s q n) (times_on s (q +ℤ pos n))
   where
-    one : length (occupied s q n) ≤ n → (times : List ℕ) → length (occupied s q n ++ shape_if_some (q +ℤ pos n) times) ≤ suc n
-    one h [] = omega (arith, h, length-append (occupied s q n) [])
-    one h (x ∷ xs) = omega (arith, h, length-append (occupied s q n) (record { day = q +ℤ pos n; times = x ∷ xs } ∷ []))
+    one : length (day_shapes s q n) ≤ n → (times : List ℕ) → length (day_shapes s q n ++ shape_if_some (q +ℤ pos n) times) ≤ suc n
+    one h [] = omega (arith, h, length-append (day_shapes s q n) [])
+    one h (x ∷ xs) = omega (arith, h, length-append (day_shapes s q n) (record { day = q +ℤ pos n; times = x ∷ xs } ∷ []))
 
 -- sketches of one kind with the same seconds have equal occurrences
 pub equal_by_times : (s u : Sketch) → s.kind ≡ u.kind → ((d : ℤ) → times_on u d ≡ times_on s d) → HaveEqualOccurrences (StandsIn s) (StandsIn u)

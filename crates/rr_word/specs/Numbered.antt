@@ -16,6 +16,6 @@ shapes_of sets [] = []
 shapes_of sets (x ∷ xs) = record { day = x.day; times = get_or sets x.number [] } ∷ shapes_of sets xs
 
 -- the days with the numbers of their sets
-abbrev pub numbered : List (List ℕ) → List DayShape → List NumberedDay
-numbered sets [] = []
-numbered sets (s ∷ ss) = record { day = s.day; number = number_of sets s.times } ∷ numbered sets ss
+abbrev pub numbered_days : List (List ℕ) → List DayShape → List NumberedDay
+numbered_days sets [] = []
+numbered_days sets (s ∷ ss) = record { day = s.day; number = number_of sets s.times } ∷ numbered_days sets ss

@@ -1,6 +1,6 @@
 // A sequence of days that is read in steps.
-ghost use Rattle.std.specs.Prelude.{◌≡◌, ◌+◌, ◌<◌, ◌≤◌, min, IfSome, Some, get_or, length, take, pos, neg_ℤ, ◌≤ℤ◌, slice_get};
-ghost use Rattle.rr_model.specs.Bounds.{longest_period};
+ghost use Rattle.std.specs.Prelude.{◌≡◌, ◌+◌, ◌<◌, ◌≤◌, min, IfSome, Some, get_or, length, take, ◌≤ℤ◌, slice_get};
+ghost use Rattle.rr_model.specs.Bounds.{earliest_taken, latest_taken, longest_period};
 ghost use Rattle.rr_model.specs.Sets.Sketch.{IsFirstDay, IsNearDay, times_on};
 ghost use Rattle.rr_word.specs.Stretches.{AreFree, AreNumbersAfter, IsNumberOn};
 
@@ -68,8 +68,8 @@ impl<A: DaySeq + Drop> Counted<A> {
 
     /// The seconds of a day within 3,000,000,000,000 either way, rising, in one step.
     pub fn read<L: Ledger>(&self, day: i64, steps: &mut Steps<L>) -> &[u32]
-        requires low { neg_ℤ (pos 3_000_000_000_000) ≤ℤ day }
-        requires high { day ≤ℤ pos 3_000_000_000_000 }
+        requires low { earliest_taken ≤ℤ day }
+        requires high { day ≤ℤ latest_taken }
         ensures value { result.now ≡ times_on (A.sketch self.now) day }
         ensures step { steps.new ≡ steps.old + 1 }
     {
@@ -80,8 +80,8 @@ impl<A: DaySeq + Drop> Counted<A> {
     /// The number of the time set of a day within 3,000,000,000,000 either way, in one step; none only where the day is
     /// not occupied.
     pub fn read_number<L: Ledger>(&self, day: i64, steps: &mut Steps<L>) -> Option<u32>
-        requires low { neg_ℤ (pos 3_000_000_000_000) ≤ℤ day }
-        requires high { day ≤ℤ pos 3_000_000_000_000 }
+        requires low { earliest_taken ≤ℤ day }
+        requires high { day ≤ℤ latest_taken }
         ensures number { IsNumberOn (A.sets self.now) (A.sketch self.now) day result }
         ensures step { steps.new ≡ steps.old + 1 }
     {
@@ -92,8 +92,8 @@ impl<A: DaySeq + Drop> Counted<A> {
     /// For how many days in a row from a day within 3,000,000,000,000 either way on, itself the first of them, it is known at
     /// once that none is occupied. It is one step where it tells of a day, and none where it is 0, which tells nothing.
     pub fn read_free<L: Ledger>(&self, day: i64, steps: &mut Steps<L>) -> u64
-        requires low { neg_ℤ (pos 3_000_000_000_000) ≤ℤ day }
-        requires high { day ≤ℤ pos 3_000_000_000_000 }
+        requires low { earliest_taken ≤ℤ day }
+        requires high { day ≤ℤ latest_taken }
         ensures free { AreFree (A.sketch self.now) day result }
         ensures step { steps.new ≡ steps.old + min result 1 }
     {
@@ -105,8 +105,8 @@ impl<A: DaySeq + Drop> Counted<A> {
     /// The days after a day within 3,000,000,000,000 either way, as far as the numbers of their sets are kept in a row. It tells
     /// how many they are, and no more.
     pub fn days_after(&self, day: i64) -> DaysAfter<'_>
-        requires low { neg_ℤ (pos 3_000_000_000_000) ≤ℤ day }
-        requires high { day ≤ℤ pos 3_000_000_000_000 }
+        requires low { earliest_taken ≤ℤ day }
+        requires high { day ≤ℤ latest_taken }
         ensures { AreNumbersAfter (A.sets self.now) (A.sketch self.now) day result.numbers.now }
     {
         DaysAfter {

@@ -1,6 +1,6 @@
 // A set of occurrences, read day by day.
-ghost use Rattle.std.specs.Prelude.{◌≡◌, ◌<◌, ◌≤◌, ℕ, List, [], Some, length, pos, neg_ℤ, ◌≤ℤ◌, IfSome, MatchOption, slice_get};
-ghost use Rattle.rr_model.specs.Bounds.{longest_period};
+ghost use Rattle.std.specs.Prelude.{◌≡◌, ◌<◌, ◌≤◌, ℕ, List, [], Some, length, ◌≤ℤ◌, IfSome, MatchOption, slice_get};
+ghost use Rattle.rr_model.specs.Bounds.{earliest_taken, latest_taken, longest_period};
 ghost use Rattle.rr_model.specs.Sets.Sketch.{IsDaySequence, IsFirstDay, IsNearDay, times_on};
 ghost use Rattle.rr_model.specs.declared.sketch.Sketch.{Sketch};
 ghost use Rattle.rr_word.specs.Stretches.{AreFree, IsStretch};
@@ -52,22 +52,22 @@ pub trait DaySeq {
     /// The seconds of a day within 3,000,000,000,000 either way, rising: 0 alone for an occupied day of dates,
     /// and none for an unoccupied day.
     fn at(&self, day: i64) -> &[u32]
-        requires low { neg_ℤ (pos 3_000_000_000_000) ≤ℤ day }
-        requires high { day ≤ℤ pos 3_000_000_000_000 }
+        requires low { earliest_taken ≤ℤ day }
+        requires high { day ≤ℤ latest_taken }
         ensures { result.now ≡ times_on (sketch self.now) day };
 
     /// The numbers of the time sets of a day within 3,000,000,000,000 either way and of days after it. Days with equal
     /// numbers have equal seconds.
     fn stretch(&self, day: i64) -> Stretch<'_>
-        requires low { neg_ℤ (pos 3_000_000_000_000) ≤ℤ day }
-        requires high { day ≤ℤ pos 3_000_000_000_000 }
+        requires low { earliest_taken ≤ℤ day }
+        requires high { day ≤ℤ latest_taken }
         ensures { IsStretch (sets self.now) (sketch self.now) day result.first result.rest.now };
 
     /// For how many days in a row from a day within 3,000,000,000,000 either way on, itself the first of them, it is known at
     /// once that none is occupied; 0 where the day is occupied, and where nothing is known.
     fn free_days(&self, day: i64) -> u64
-        requires low { neg_ℤ (pos 3_000_000_000_000) ≤ℤ day }
-        requires high { day ≤ℤ pos 3_000_000_000_000 }
+        requires low { earliest_taken ≤ℤ day }
+        requires high { day ≤ℤ latest_taken }
         ensures { AreFree (sketch self.now) day result };
 
     /// The seconds of the time set of a number.

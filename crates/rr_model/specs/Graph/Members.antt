@@ -48,32 +48,32 @@ abbrev pub number_in : List ℕ → Data → Option ℕ
 number_in name value = option_and_then as_u64 (option_and_then as_number (member_of name value))
 
 -- a number from `least` to `most`, or BadMember
-abbrev pub within : Member → ℕ → ℕ → Option ℕ → Result ℕ Refusal
-within member least most None = Err (BadMember member)
-within member least most (Some n) = if nat_le least n && nat_le n most then Ok n else Err (BadMember member)
+abbrev pub number_in_bounds : Member → ℕ → ℕ → Option ℕ → Result ℕ Refusal
+number_in_bounds member least most None = Err (BadMember member)
+number_in_bounds member least most (Some n) = if nat_le least n && nat_le n most then Ok n else Err (BadMember member)
 
 -- ---- words, in either case
 
 -- what a name means by a table, in any letter case
-abbrev pub named : {X : Type 0} → List (List ℕ × X) → List ℕ → Option X
-named [] text = None
-named (row ∷ rows) text = if str_eq_ignore_ascii_case text row.0 then Some row.1 else named rows text
+abbrev pub value_named : {X : Type 0} → List (List ℕ × X) → List ℕ → Option X
+value_named [] text = None
+value_named (row ∷ rows) text = if str_eq_ignore_ascii_case text row.0 then Some row.1 else value_named rows text
 
 -- the type of a pattern by its name
 unfoldable pub form_named : List ℕ → Option Form
-form_named text = named
+form_named text = value_named
     ((codes "daily", Daily) ∷ (codes "weekly", Weekly) ∷ (codes "absoluteMonthly", AbsoluteMonthly) ∷ (codes "relativeMonthly", RelativeMonthly)
     ∷ (codes "absoluteYearly", AbsoluteYearly) ∷ (codes "relativeYearly", RelativeYearly) ∷ []) text
 
 -- a weekday, from 0 for Monday
 unfoldable pub day_named : List ℕ → Option ℕ
-day_named text = named
+day_named text = value_named
     ((codes "monday", 0) ∷ (codes "tuesday", 1) ∷ (codes "wednesday", 2) ∷ (codes "thursday", 3) ∷ (codes "friday", 4) ∷ (codes "saturday", 5) ∷
     (codes "sunday", 6) ∷ []) text
 
 -- which of the days of a month
 unfoldable pub index_named : List ℕ → Option ℤ
-index_named text = named
+index_named text = value_named
     ((codes "first", pos 1) ∷ (codes "second", pos 2) ∷ (codes "third", pos 3) ∷ (codes "fourth", pos 4) ∷ (codes "last", neg_ℤ (pos 1)) ∷ []) text
 
 -- ---- the value of the bytes

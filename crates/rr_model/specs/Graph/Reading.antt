@@ -15,7 +15,7 @@ use Rattle.rr_model.specs.Text.RuleValues.{◌>>=◌}
 use Rattle.rr_model.specs.Text.Lines.{without_mark}
 use Rattle.rr_model.specs.Text.ExtendedMoments.{extended, extended_date_alone}
 use Rattle.rr_model.specs.Moment.Years.{is_in_years}
-use Rattle.rr_model.specs.Graph.Members.{member_of, object_or, object_in, text_in, number_in, within, form_named, day_named, index_named, json_object}
+use Rattle.rr_model.specs.Graph.Members.{member_of, object_or, object_in, text_in, number_in, number_in_bounds, form_named, day_named, index_named, json_object}
 use Rattle.rr_model.specs.Graph.Uses.{bit_of, uses_days, uses_first_day, uses_index, uses_day_of_month, uses_month, most_interval}
 use Rattle.rr_model.specs.Graph.Occurrences.{first_repeat_day}
 use Rattle.rr_model.specs.declared.graph.Form.{Form}
@@ -86,8 +86,8 @@ pattern_of pattern = do
   days ← if_used (uses_days form) 0 (days_in pattern)
   first_day ← if_used (uses_first_day form) 6 (first_day_in pattern)
   index ← if_used (uses_index form) (pos 1) (index_in pattern)
-  day_of_month ← if_used (uses_day_of_month form) 0 (within of.DayOfMonth 1 31 (number_in (codes "dayOfMonth") pattern))
-  month ← if_used (uses_month form) 0 (within of.Month 1 12 (number_in (codes "month") pattern))
+  day_of_month ← if_used (uses_day_of_month form) 0 (number_in_bounds of.DayOfMonth 1 31 (number_in (codes "dayOfMonth") pattern))
+  month ← if_used (uses_month form) 0 (number_in_bounds of.Month 1 12 (number_in (codes "month") pattern))
   Ok (record { form = form; interval = interval; day_of_month = day_of_month; month = month; days = days; first_day = first_day; index = index })
 
 -- ---- the range
@@ -113,7 +113,7 @@ date_in member name range = ok_or (option_and_then extended_date_alone (text_in 
 abbrev pub end_in : EndType → Data → Result RangeEnd Refusal
 end_in no_end range = Ok NoEnd
 end_in end_date range = date_in of.EndDate (codes "endDate") range >>= λ day. Ok (EndDate day)
-end_in numbered range = within of.NumberOfOccurrences 1 18_446_744_073_709_551_615 (number_in (codes "numberOfOccurrences") range) >>= λ n. Ok (Numbered n)
+end_in numbered range = number_in_bounds of.NumberOfOccurrences 1 18_446_744_073_709_551_615 (number_in (codes "numberOfOccurrences") range) >>= λ n. Ok (Numbered n)
 
 -- what a range states
 unfoldable pub range_of : Data → Result Range Refusal
@@ -145,8 +145,8 @@ with_occurrence recurrence None = Err NoOccurrence
 with_occurrence recurrence (Some day) = Ok (repeat.Pattern recurrence.pattern recurrence.range)
 
 -- a recurrence with an occurrence in the years 1 to 9999
-abbrev pub repeating : Recurrence → Result Repeat Refusal
-repeating recurrence = with_occurrence recurrence (first_repeat_day recurrence.pattern recurrence.range)
+abbrev pub repeat_with_occurrence : Recurrence → Result Repeat Refusal
+repeat_with_occurrence recurrence = with_occurrence recurrence (first_repeat_day recurrence.pattern recurrence.range)
 
 -- ---- the start of an event
 
@@ -193,9 +193,9 @@ is_flag_or_missing (Some (boolean b)) = true
 is_flag_or_missing (Some other) = false
 
 -- a condition that has to hold, or the refusal
-abbrev pub must : Bool → Refusal → Result (Unit {0}) Refusal
-must true refusal = Ok tt
-must false refusal = Err refusal
+abbrev pub holds_or : Bool → Refusal → Result (Unit {0}) Refusal
+holds_or true refusal = Ok tt
+holds_or false refusal = Err refusal
 
 -- ---- the event
 
@@ -205,13 +205,13 @@ event_start true at = (Days, day_part Moments at)
 event_start false at = (Moments, at)
 
 -- the range begins on the start's day
-abbrev pub repeating_from : ℤ → Recurrence → Result Repeat Refusal
-repeating_from day recurrence = if int_eq recurrence.range.start_day day then repeating recurrence else Err StartDiffers
+abbrev pub repeat_from : ℤ → Recurrence → Result Repeat Refusal
+repeat_from day recurrence = if int_eq recurrence.range.start_day day then repeat_with_occurrence recurrence else Err StartDiffers
 
 -- a missing recurrence is the start alone
 abbrev pub repeat_of : ℤ → Option Data → Result Repeat Refusal
 repeat_of day None = Ok repeat.Once
-repeat_of day (Some value) = object_or (BadMember of.Recurrence) value >>= λ found. recurrence_of found >>= repeating_from day
+repeat_of day (Some value) = object_or (BadMember of.Recurrence) value >>= λ found. recurrence_of found >>= repeat_from day
 
 -- what an event states, its members in the order of judgement
 unfoldable pub event_of : Option ℤ → Data → Result GraphEvent Refusal
@@ -219,8 +219,8 @@ event_of offset event = do
   start_member ← ok_or (member_of (codes "start") event) NoStart
   start ← object_or (BadMember of.Start) start_member
   at ← start_moment offset (is_all_day event) start
-  zone_judged ← must (is_text_or_missing (member_of (codes "timeZone") start)) (BadMember of.TimeZone)
-  flag_judged ← must (is_flag_or_missing (member_of (codes "isAllDay") event)) (BadMember of.IsAllDay)
+  zone_judged ← holds_or (is_text_or_missing (member_of (codes "timeZone") start)) (BadMember of.TimeZone)
+  flag_judged ← holds_or (is_flag_or_missing (member_of (codes "isAllDay") event)) (BadMember of.IsAllDay)
   repeat ← repeat_of (day_part Moments at) (member_of (codes "recurrence") event)
   Ok (record { kind = (event_start (is_all_day event) at).0; start = (event_start (is_all_day event) at).1; repeat = repeat })
 
@@ -228,7 +228,7 @@ event_of offset event = do
 unfoldable pub bare_of : Data → Result GraphEvent Refusal
 bare_of value = do
   recurrence ← recurrence_of value
-  repeat ← repeating recurrence
+  repeat ← repeat_with_occurrence recurrence
   Ok (record { kind = Days; start = recurrence.range.start_day; repeat = repeat })
 
 -- an object with a pattern is a bare recurrence

@@ -9,7 +9,7 @@ use Rattle.rr_model.specs.Moment.{day_part}
 use Rattle.rr_model.specs.Whole.Count.{count_from}
 use Rattle.rr_model.specs.Moment.Units.{unit_number}
 use Rattle.rr_model.specs.Rule.Validity.{is_absent}
-use Rattle.rr_model.specs.Rule.Filled.{hour_of, minute_of, second_of, filled}
+use Rattle.rr_model.specs.Rule.Filled.{hour_of, minute_of, second_of, filled_rule}
 use Rattle.rr_model.specs.declared.kind.Kind.{Kind}
 use Rattle.rr_model.specs.declared.rule.DayItem.{DayItem}
 use Rattle.rr_model.specs.declared.rule.Freq.{Freq}
@@ -116,4 +116,4 @@ interval_holds rule kind start t = divides rule.interval (unit_number rule.freq 
 -- t is a candidate of the rule with this start
 unfoldable pub is_candidate : Rule → Kind → ℤ → ℤ → Bool
 is_candidate rule kind start t =
-    interval_holds rule kind start t && date_parts_hold (filled rule kind start) (day_part kind t) && time_parts_hold (filled rule kind start) kind t
+    interval_holds rule kind start t && date_parts_hold (filled_rule rule kind start) (day_part kind t) && time_parts_hold (filled_rule rule kind start) kind t

@@ -2,7 +2,7 @@
 use Rattle.std.specs.Prelude.{◌≡◌, ℕ, ◌<◌, Bool, true, ◌&&◌, IsTrue, ℤ, pos}
 use Rattle.rr_model.specs.Moment.{day_part, moment_at}
 use Rattle.rr_model.specs.Moment.Units.{is_whole_days, unit_number}
-use Rattle.rr_model.specs.Rule.Filled.{filled}
+use Rattle.rr_model.specs.Rule.Filled.{filled_rule}
 use Rattle.rr_model.specs.Rule.Candidate.{interval_holds, date_parts_hold, time_parts_hold, is_candidate}
 use Rattle.rr_model.specs.declared.kind.Kind.{Kind}
 use Rattle.rr_model.specs.declared.kind.Kind.TheVariants.{Days, Moments}
@@ -15,7 +15,7 @@ seconds_of Moments = 86_400
 
 -- the time parts of the rule, filled from its start, hold of the second of a day
 abbrev pub time_holds : Rule → Kind → ℤ → ℕ → Bool
-time_holds rule kind start second = time_parts_hold (filled rule kind start) kind (moment_at kind (pos 0) second)
+time_holds rule kind start second = time_parts_hold (filled_rule rule kind start) kind (moment_at kind (pos 0) second)
 
 -- a second of each candidate day
 abbrev pub IsCandidateTime : Rule → Kind → ℤ → ℕ → Type 0
@@ -23,7 +23,7 @@ IsCandidateTime rule kind start second = (second < seconds_of kind) × IsTrue (t
 
 -- the interval from the start's day fits the day, and the date parts of the rule, filled from there, hold of it
 abbrev pub day_holds : Rule → ℤ → ℤ → Bool
-day_holds rule start_day day = interval_holds rule Days start_day day && date_parts_hold (filled rule Days start_day) day
+day_holds rule start_day day = interval_holds rule Days start_day day && date_parts_hold (filled_rule rule Days start_day) day
 
 -- a candidate day of the unit
 abbrev pub IsCandidateDay : Rule → ℤ → ℤ → ℤ → Type 0

@@ -77,8 +77,8 @@ abbrev pub day_item_of : ℤ → DayItem
 day_item_of d = record { place = pos 0; weekday = weekday_of d }
 
 -- the rule with its absent parts from the start
-abbrev pub filled : Rule → Kind → ℤ → Rule
-filled rule kind start = record rule {
+abbrev pub filled_rule : Rule → Kind → ℤ → Rule
+filled_rule rule kind start = record rule {
   by_month = filled_part (wants_month rule.freq rule) rule.by_month (pos (month_of (day_part kind start)));
   by_month_day = filled_part (wants_month_day rule.freq rule) rule.by_month_day (pos (day_of_month (day_part kind start)));
   by_day = filled_part (wants_day rule.freq rule) rule.by_day (day_item_of (day_part kind start));

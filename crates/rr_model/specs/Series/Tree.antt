@@ -11,15 +11,15 @@ use Rattle.rr_model.specs.declared.rule.Rule.{Rule}
 use Rattle.rr_model.specs.declared.rule.Series.{Series}
 
 -- a tree up to the end of its rule
-abbrev pub ended : Kind → End → Tree → Tree
-ended kind Never a = a
-ended kind (Until other at) a = upto a kind at
-ended kind (Count count) a = first_n a count
-ended kind (Both other at count) a = first_n (upto a kind at) count
+abbrev pub up_to_end : Kind → End → Tree → Tree
+up_to_end kind Never a = a
+up_to_end kind (Until other at) a = upto a kind at
+up_to_end kind (Count count) a = first_n a count
+up_to_end kind (Both other at count) a = first_n (upto a kind at) count
 
 -- the members of a rule
 abbrev pub members_of : Kind → ℤ → Rule → Tree
-members_of kind start rule = ended kind rule.end (chosen_of rule kind start)
+members_of kind start rule = up_to_end kind rule.end (chosen_of rule kind start)
 
 -- the members of each rule
 abbrev pub members_of_all : Kind → ℤ → List Rule → Forest

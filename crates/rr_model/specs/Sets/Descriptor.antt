@@ -87,9 +87,9 @@ ending_of s [] = None
 ending_of s (x ∷ xs) = Some (record { settled = s.settled; period = s.period; cycle = runs_of (steps_from (sets_of s) s.settled (x ∷ xs)) })
 
 -- what is said of a sketch whose occupied days these are, first those before the settled day
-abbrev pub described : Sketch → List DayShape → Option Described
-described s [] = None
-described s (x ∷ xs) =
+abbrev pub description_of : Sketch → List DayShape → Option Described
+description_of s [] = None
+description_of s (x ∷ xs) =
     Some (record {
       kind = s.kind;
       sets = sets_of s;
@@ -100,4 +100,4 @@ described s (x ∷ xs) =
 
 -- what the descriptor of a least sketch says, nothing of the empty set
 unfoldable pub descriptor : Sketch → Option Described
-descriptor s = described s (s.before ++ s.cycle)
+descriptor s = description_of s (s.before ++ s.cycle)

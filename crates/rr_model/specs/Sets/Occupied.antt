@@ -10,6 +10,6 @@ shape_if_some day [] = []
 shape_if_some day (x ∷ xs) = record { day = day; times = x ∷ xs } ∷ []
 
 -- the occupied ones of the n days from q on, in order
-unfoldable pub occupied : Sketch → ℤ → ℕ → List DayShape
-occupied s q zero = []
-occupied s q (suc n) = occupied s q n ++ shape_if_some (q +ℤ pos n) (times_on s (q +ℤ pos n))
+unfoldable pub day_shapes : Sketch → ℤ → ℕ → List DayShape
+day_shapes s q zero = []
+day_shapes s q (suc n) = day_shapes s q n ++ shape_if_some (q +ℤ pos n) (times_on s (q +ℤ pos n))

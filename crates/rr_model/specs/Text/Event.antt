@@ -34,15 +34,15 @@ is_in_event [] = false
 is_in_event (name ∷ names) = is_event name
 
 -- a component is opened; a second event is refused
-abbrev pub begun : Components → List ℕ → Result Components Refusal
-begun components name =
+abbrev pub after_begin : Components → List ℕ → Result Components Refusal
+after_begin components name =
     if is_event name && components.had_event then Err SeveralEvents
     else Ok (record { open_names = name ∷ components.open_names; had_event = is_event name || components.had_event })
 
 -- the innermost component is closed, where it has this name
-abbrev pub ended : ℕ → Components → List (List ℕ) → List ℕ → Result Components Refusal
-ended number components [] name = Err (BadLine number)
-ended number components (innermost ∷ outer) name =
+abbrev pub after_end : ℕ → Components → List (List ℕ) → List ℕ → Result Components Refusal
+after_end number components [] name = Err (BadLine number)
+after_end number components (innermost ∷ outer) name =
     if str_eq_ignore_ascii_case name innermost then Ok (record { open_names = outer; had_event = components.had_event }) else Err (BadLine number)
 
 -- the used line of a number, a name and a value
@@ -55,8 +55,8 @@ pub record Left : Type 0 where
   pub used : Option UsedLine
 
 -- the record of the components after a line and of the used line that it is, if it is one
-abbrev pub left : Components → Option UsedLine → Left
-left components used = record { components = components; used = used }
+abbrev pub left_with : Components → Option UsedLine → Left
+left_with components used = record { components = components; used = used }
 
 -- the value of a line that has to have one
 abbrev pub value_on : ℕ → List ℕ → Result (List ℕ) Refusal
@@ -66,16 +66,16 @@ value_on number text = ok_or (value_of_line text) (BadLine number)
 abbrev pub left_at : Bool → Components → ℕ → LineKind → List ℕ → Result Left Refusal
 left_at is_bare components number Begin text = do
   name ← value_on number text
-  after ← begun components name
-  Ok (left after None)
+  after ← after_begin components name
+  Ok (left_with after None)
 left_at is_bare components number End text = do
   name ← value_on number text
-  after ← ended number components components.open_names name
-  Ok (left after None)
+  after ← after_end number components components.open_names name
+  Ok (left_with after None)
 left_at is_bare components number (Property name) text =
-    if is_bare || is_in_event components.open_names then (value_on number text >>= λ value. Ok (left components (Some (used_line number name value))))
-    else Ok (left components None)
-left_at is_bare components number Other text = Ok (left components None)
+    if is_bare || is_in_event components.open_names then (value_on number text >>= λ value. Ok (left_with components (Some (used_line number name value))))
+    else Ok (left_with components None)
+left_at is_bare components number Other text = Ok (left_with components None)
 
 -- what is known after a line, with these components open before it, or its refusal
 unfoldable pub left_by : Bool → Components → Line → Result Left Refusal
@@ -95,9 +95,9 @@ scan_from (Err refusal) more = record { used = []; stop = Some refusal }
 scan_from (Ok step) more = after_used step.used (more step.components)
 
 -- the used lines from here on, up to the first fault of the components
-abbrev pub scanned : Bool → ℕ → Components → List Line → Scan
-scanned is_bare last components [] = record { used = []; stop = stop_at_end last components }
-scanned is_bare last components (line ∷ lines) = scan_from (left_by is_bare components line) (λ after. scanned is_bare last after lines)
+abbrev pub scan_of : Bool → ℕ → Components → List Line → Scan
+scan_of is_bare last components [] = record { used = []; stop = stop_at_end last components }
+scan_of is_bare last components (line ∷ lines) = scan_from (left_by is_bare components line) (λ after. scan_of is_bare last after lines)
 
 -- no line has the name BEGIN
 abbrev pub is_bare_text : List Line → Bool
@@ -106,4 +106,4 @@ is_bare_text lines = not (list_any (λ line. is_named line.text (codes "BEGIN"))
 -- The used lines of the one event, or of a text without components, and the first fault of the components.
 unfoldable pub event_scan : Bool → List ℕ → Scan
 event_scan keeps_blank bytes =
-    scanned (is_bare_text (unfolded_lines keeps_blank bytes)) (length (physical_lines bytes)) no_components (unfolded_lines keeps_blank bytes)
+    scan_of (is_bare_text (unfolded_lines keeps_blank bytes)) (length (physical_lines bytes)) no_components (unfolded_lines keeps_blank bytes)

@@ -105,12 +105,12 @@ basic text = if length text == 8 then option_map date_stamp (basic_date text) el
 -- ---- extended texts
 
 -- the digits of the number, with zeros before them up to the width
-abbrev pub padded : ℕ → ℕ → List ℕ
-padded width n = replicate (width - length (decimal n)) 48 ++ decimal n
+abbrev pub decimal_of : ℕ → ℕ → List ℕ
+decimal_of width n = replicate (width - length (decimal n)) 48 ++ decimal n
 
 -- YYYY-MM-DD, where a year past 9999 has as many digits as it needs
 abbrev pub extended_date : ℕ → ℕ → ℕ → List ℕ
-extended_date year month day = padded 4 year ++ codes "-" ++ padded 2 month ++ codes "-" ++ padded 2 day
+extended_date year month day = decimal_of 4 year ++ codes "-" ++ decimal_of 2 month ++ codes "-" ++ decimal_of 2 day
 
 -- YYYY-MM-DD of a day that does not lie before the year 1
 unfoldable pub extended_date_text : ℤ → List ℕ
@@ -119,7 +119,7 @@ extended_date_text day = extended_date (nat_abs (year_of day)) (month_of day) (d
 -- HH:MM:SS of a second of the day
 unfoldable pub extended_time_text : ℕ → List ℕ
 extended_time_text second =
-    padded 2 (second / 3_600) ++ codes ":" ++ padded 2 (second / 60 % 60) ++ codes ":" ++ padded 2 (second % 60)
+    decimal_of 2 (second / 3_600) ++ codes ":" ++ decimal_of 2 (second / 60 % 60) ++ codes ":" ++ decimal_of 2 (second % 60)
 
 -- a date as 2024-02-29, a moment as 2024-02-29T09:30:00
 unfoldable pub extended_text : Kind → ℤ → List ℕ

@@ -82,13 +82,13 @@ first_pass language pass lines = in_turn (λ p line. judged_line language line.n
 -- ---- the second pass
 
 -- a moment of UTC as local time, `offset` seconds later; UtcMoment where no offset is stated
-abbrev pub turned : ℕ → Option ℤ → ℤ → Result ℤ Refusal
-turned line None at = Err UtcMoment
-turned line (Some offset) at = if is_in_years Moments (at +ℤ offset) then Ok (at +ℤ offset) else Err (BadMoment line)
+abbrev pub local_moment_of : ℕ → Option ℤ → ℤ → Result ℤ Refusal
+local_moment_of line None at = Err UtcMoment
+local_moment_of line (Some offset) at = if is_in_years Moments (at +ℤ offset) then Ok (at +ℤ offset) else Err (BadMoment line)
 
 -- a moment beside the start: only beside a local time is a moment of UTC turned
 abbrev pub moment_beside : Option ℤ → Stamp → ℕ → Stamp → Result ℤ Refusal
-moment_beside offset start line stamp = if stamp.utc && not start.utc && has_time start.kind then turned line offset stamp.at else Ok stamp.at
+moment_beside offset start line stamp = if stamp.utc && not start.utc && has_time start.kind then local_moment_of line offset stamp.at else Ok stamp.at
 
 -- the day or moment of a date value beside the start; MixedKinds where one is a date and the other a moment
 abbrev pub date_beside : Option ℤ → Stamp → ℕ → Stamp → Result ℤ Refusal

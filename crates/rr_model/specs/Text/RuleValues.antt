@@ -63,30 +63,30 @@ number_up_to line most text = if is_number text then up_to line most (digits_val
 -- ---- lists
 
 -- The values in rising order, each judged before the next; repeats are dropped.
-abbrev pub placed : {X : Type 0} → (X → X → Bool) → (List ℕ → Result X Refusal) → List X → List (List ℕ) → Result (List X) Refusal
-placed below judged list [] = Ok list
-placed below judged list (text ∷ texts) = do
+abbrev pub rising_values : {X : Type 0} → (X → X → Bool) → (List ℕ → Result X Refusal) → List X → List (List ℕ) → Result (List X) Refusal
+rising_values below judged list [] = Ok list
+rising_values below judged list (text ∷ texts) = do
   x ← judged text
-  placed below judged (with_value below list x) texts
+  rising_values below judged (with_value below list x) texts
 
 -- the values between commas: first the form of all, then each
 abbrev pub list_of : {X : Type 0} → ℕ → (List ℕ → Bool) → (X → X → Bool) → (List ℕ → Result X Refusal) → List ℕ → Result (List X) Refusal
 list_of line has_form below judged text =
-    if list_all has_form (pieces 44 text) then placed below judged [] (pieces 44 text) else Err (BadRule line)
+    if list_all has_form (pieces 44 text) then rising_values below judged [] (pieces 44 text) else Err (BadRule line)
 
 -- ---- lists of numbers
 
 -- bounds of numbers without a sign, from `least` to `most`
-abbrev pub unsigned : ℕ → ℕ → NumberBounds
-unsigned least most = record { signed = false; least = least; most = most; has_leap = false }
+abbrev pub unsigned_bounds : ℕ → ℕ → NumberBounds
+unsigned_bounds least most = record { signed = false; least = least; most = most; has_leap = false }
 
 -- numbers from the front or, negative, from the back
-abbrev pub signed : ℕ → NumberBounds
-signed most = record { signed = true; least = 1; most = most; has_leap = false }
+abbrev pub signed_bounds : ℕ → NumberBounds
+signed_bounds most = record { signed = true; least = 1; most = most; has_leap = false }
 
 -- seconds of a minute, where 60 has a refusal of its own
-abbrev pub seconds : NumberBounds
-seconds = record { signed = false; least = 0; most = 59; has_leap = true }
+abbrev pub second_bounds : NumberBounds
+second_bounds = record { signed = false; least = 0; most = 59; has_leap = true }
 
 -- the text is a number of this form
 abbrev pub has_number_form : NumberBounds → List ℕ → Bool
@@ -97,14 +97,14 @@ abbrev pub magnitude : List ℕ → ℕ
 magnitude text = digits_value (without_leading_sign text)
 
 -- why a number outside its bounds is refused
-abbrev pub outside : ℕ → NumberBounds → ℕ → Refusal
-outside line bounds size = if bounds.has_leap && (size == 60) then LeapSecond else NumberRange line
+abbrev pub bounds_refusal : ℕ → NumberBounds → ℕ → Refusal
+bounds_refusal line bounds size = if bounds.has_leap && (size == 60) then LeapSecond else NumberRange line
 
 -- a number of the form and within the bounds
 unfoldable pub number_within : ℕ → NumberBounds → List ℕ → Result ℤ Refusal
 number_within line bounds text =
     if has_number_form bounds text then (if nat_le bounds.least (magnitude text)
-    && nat_le (magnitude text) bounds.most then Ok (signed_digits_value 10 text) else Err (outside line bounds (magnitude text)))
+    && nat_le (magnitude text) bounds.most then Ok (signed_digits_value 10 text) else Err (bounds_refusal line bounds (magnitude text)))
     else Err (BadRule line)
 
 -- a list of numbers within their bounds
@@ -128,7 +128,7 @@ is_day_item text = is_some (weekday_named (weekday_text text)) && ((length (ordi
 -- an ordinal, 0 where none is written
 abbrev pub ordinal_within : ℕ → List ℕ → Result ℤ Refusal
 ordinal_within line [] = Ok (pos 0)
-ordinal_within line (b ∷ bs) = number_within line (signed 53) (b ∷ bs)
+ordinal_within line (b ∷ bs) = number_within line (signed_bounds 53) (b ∷ bs)
 
 -- a weekday with its ordinal
 unfoldable pub day_item_within : ℕ → List ℕ → Result DayItem Refusal

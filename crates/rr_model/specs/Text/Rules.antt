@@ -5,7 +5,7 @@ use Rattle.std.specs.List.{take_while}
 use Rattle.std.specs.Option.{is_some}
 use Rattle.std.specs.Str.{bytes_eq, str_to_ascii_uppercase}
 use Rattle.rr_model.specs.Text.Moments.{basic}
-use Rattle.rr_model.specs.Text.RuleValues.{◌>>=◌, pieces, in_table, freq_named, weekday_named, number_up_to, unsigned, signed, seconds, numbers_of}
+use Rattle.rr_model.specs.Text.RuleValues.{◌>>=◌, pieces, in_table, freq_named, weekday_named, number_up_to, unsigned_bounds, signed_bounds, second_bounds, numbers_of}
 use Rattle.rr_model.specs.Text.RuleValues.{day_items_of}
 use Rattle.rr_model.specs.Rule.Validity.{is_absent, is_allowed}
 use Rattle.rr_model.specs.declared.kind.Kind.{Kind}
@@ -67,15 +67,15 @@ with_part_value line parts part.Until text = ok_or (basic text) (BadMoment line)
 with_part_value line parts part.Count text = number_up_to line 18_446_744_073_709_551_615 text >>= λ x. Ok (record parts { count = Some x })
 with_part_value line parts part.Interval text = number_up_to line 4_294_967_295 text >>= λ x. Ok (record parts { interval = Some x })
 with_part_value line parts part.WeekStart text = ok_or (weekday_named text) (BadRule line) >>= λ x. Ok (record parts { week_start = Some x })
-with_part_value line parts part.BySecond text = numbers_of line seconds text >>= λ x. Ok (record parts { by_second = x })
-with_part_value line parts part.ByMinute text = numbers_of line (unsigned 0 59) text >>= λ x. Ok (record parts { by_minute = x })
-with_part_value line parts part.ByHour text = numbers_of line (unsigned 0 23) text >>= λ x. Ok (record parts { by_hour = x })
+with_part_value line parts part.BySecond text = numbers_of line second_bounds text >>= λ x. Ok (record parts { by_second = x })
+with_part_value line parts part.ByMinute text = numbers_of line (unsigned_bounds 0 59) text >>= λ x. Ok (record parts { by_minute = x })
+with_part_value line parts part.ByHour text = numbers_of line (unsigned_bounds 0 23) text >>= λ x. Ok (record parts { by_hour = x })
 with_part_value line parts part.ByDay text = day_items_of line text >>= λ x. Ok (record parts { by_day = x })
-with_part_value line parts part.ByMonthDay text = numbers_of line (signed 31) text >>= λ x. Ok (record parts { by_month_day = x })
-with_part_value line parts part.ByYearDay text = numbers_of line (signed 366) text >>= λ x. Ok (record parts { by_year_day = x })
-with_part_value line parts part.ByWeekNo text = numbers_of line (signed 53) text >>= λ x. Ok (record parts { by_week_no = x })
-with_part_value line parts part.ByMonth text = numbers_of line (unsigned 1 12) text >>= λ x. Ok (record parts { by_month = x })
-with_part_value line parts part.BySetPos text = numbers_of line (signed 366) text >>= λ x. Ok (record parts { by_set_pos = x })
+with_part_value line parts part.ByMonthDay text = numbers_of line (signed_bounds 31) text >>= λ x. Ok (record parts { by_month_day = x })
+with_part_value line parts part.ByYearDay text = numbers_of line (signed_bounds 366) text >>= λ x. Ok (record parts { by_year_day = x })
+with_part_value line parts part.ByWeekNo text = numbers_of line (signed_bounds 53) text >>= λ x. Ok (record parts { by_week_no = x })
+with_part_value line parts part.ByMonth text = numbers_of line (unsigned_bounds 1 12) text >>= λ x. Ok (record parts { by_month = x })
+with_part_value line parts part.BySetPos text = numbers_of line (signed_bounds 366) text >>= λ x. Ok (record parts { by_set_pos = x })
 
 -- a part NAME=value: its name, then whether it is present already, then its value
 unfoldable pub with_part : ℕ → RuleParts → List ℕ → Result RuleParts Refusal

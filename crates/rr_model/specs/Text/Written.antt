@@ -6,7 +6,7 @@ use Rattle.std.specs.List.{join_with_byte}
 use Rattle.std.specs.Ordering.{int_eq}
 use Rattle.rr_model.specs.Calendar.{year_of, month_of, day_of_month}
 use Rattle.rr_model.specs.Moment.{day_part, second_part}
-use Rattle.rr_model.specs.Text.Moments.{padded}
+use Rattle.rr_model.specs.Text.Moments.{decimal_of}
 use Rattle.rr_model.specs.Rising.{with_value}
 use Rattle.rr_model.specs.Rule.Validity.{is_absent}
 use Rattle.rr_model.specs.declared.kind.Kind.{Kind}
@@ -23,11 +23,11 @@ use Rattle.rr_model.specs.declared.rule.Series.{Series}
 
 -- YYYYMMDD of a day of the years 1 to 9999
 unfoldable pub basic_date_text : ℤ → List ℕ
-basic_date_text day = padded 4 (nat_abs (year_of day)) ++ padded 2 (month_of day) ++ padded 2 (day_of_month day)
+basic_date_text day = decimal_of 4 (nat_abs (year_of day)) ++ decimal_of 2 (month_of day) ++ decimal_of 2 (day_of_month day)
 
 -- HHMMSS of a second of the day
 unfoldable pub basic_time_text : ℕ → List ℕ
-basic_time_text second = padded 2 (second / 3_600) ++ padded 2 (second / 60 % 60) ++ padded 2 (second % 60)
+basic_time_text second = decimal_of 2 (second / 3_600) ++ decimal_of 2 (second / 60 % 60) ++ decimal_of 2 (second % 60)
 
 -- a date as 20240229, a moment as 20240229T093000
 unfoldable pub basic_text : Kind → ℤ → List ℕ
@@ -46,12 +46,12 @@ folded_rest zero text = []
 folded_rest (suc n) text = if is_absent text then [] else line_break ++ 32 ∷ (take 74 text ++ folded_rest n (drop 74 text))
 
 -- the first 75 bytes, and the others folded
-unfoldable pub folded : List ℕ → List ℕ
-folded text = take 75 text ++ folded_rest (length text / 74) (drop 75 text)
+unfoldable pub folded_text : List ℕ → List ℕ
+folded_text text = take 75 text ++ folded_rest (length text / 74) (drop 75 text)
 
 -- a line, folded and ended
 abbrev pub folded_line : List ℕ → List ℕ
-folded_line text = folded text ++ line_break
+folded_line text = folded_text text ++ line_break
 
 -- a line for each value
 abbrev pub lines_of : {X : Type 0} → (X → List ℕ) → List X → List ℕ

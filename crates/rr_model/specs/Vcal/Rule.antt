@@ -176,9 +176,9 @@ with_piece line None (b ∷ bs) = parts_of_head line (b ∷ bs) >>= λ parts. Ok
 with_piece line (Some parts) (b ∷ bs) = with_word line parts (b ∷ bs) >>= λ more. Ok (Some more)
 
 -- after the last word there is a head, and the list is whole
-abbrev pub finished : ℕ → Option VRuleParts → Result VRuleParts Refusal
-finished line None = Err (BadRule line)
-finished line (Some parts) = after_list line parts (Ok parts)
+abbrev pub whole_parts : ℕ → Option VRuleParts → Result VRuleParts Refusal
+whole_parts line None = Err (BadRule line)
+whole_parts line (Some parts) = after_list line parts (Ok parts)
 
 -- ---- the rule
 
@@ -200,5 +200,5 @@ stated_parts parts = record {
 unfoldable pub stated_vrule : ℕ → List ℕ → Result (Stated VRule) Refusal
 stated_vrule line text = do
   pieces ← in_turn (with_piece line) None (slice_split is_blank (line_value text))
-  parts ← finished line pieces
+  parts ← whole_parts line pieces
   Ok (stated_parts parts)

@@ -6,7 +6,7 @@ use Rattle.rr_word.proofs.SketchLemmas.{set_on}
 use Rattle.rr_days.proofs.MadeSetLemmas.{both_ok}
 use Rattle.rr_days.specs.Sequence.{sketch}
 use Rattle.rr_num.proofs.DivisorLemmas.{lcm_above}
-use Rattle.rr_algebra.specs.Combined.{IsCombinedJudged, combined}
+use Rattle.rr_algebra.specs.Combined.{IsCombinedJudged, combined_occurrences}
 use Rattle.rr_algebra.specs.Combining.{IsDaySet}
 use Rattle.rr_model.specs.Bounds.{latest_near}
 use Rattle.rr_model.specs.Moment.{is_same_kind}
@@ -96,7 +96,7 @@ returns-in-Union-clause-stands g c =
     let s = g.A.DaySeq.sketch c.args.one.now in
     let u = g.B.DaySeq.sketch c.args.other.now in
     IfOk-weaker c.union_apart.result _ _
-    (λ f h. subst (λ op. StandsFor (sketch f) (combined op (StandsIn s) (StandsIn u))) (sym c.in-Union.is) h) c.union_apart.ensures.stands
+    (λ f h. subst (λ op. StandsFor (sketch f) (combined_occurrences op (StandsIn s) (StandsIn u))) (sym c.in-Union.is) h) c.union_apart.ensures.stands
 
 pub returns-in-Common-clause-stands : goal.returns-in-Common-clause-stands
 returns-in-Common-clause-stands g c =
@@ -104,7 +104,7 @@ returns-in-Common-clause-stands g c =
     let u = g.B.DaySeq.sketch c.args.other.now in
     let apart : s.kind ≢ u.kind = kinds_apart _ _ _ _ _ c.kind-kind.ensures c.kind.ensures c.is_same-same.ensures c.if-same.false in
     IfOk-weaker c.with_itself.result _ _
-    (λ f h. subst (λ op. StandsFor (sketch f) (combined op (StandsIn s) (StandsIn u))) (sym c.in-Common.is) (common_apart s u (sketch f) apart h)) c.with_itself.ensures.stands
+    (λ f h. subst (λ op. StandsFor (sketch f) (combined_occurrences op (StandsIn s) (StandsIn u))) (sym c.in-Common.is) (common_apart s u (sketch f) apart h)) c.with_itself.ensures.stands
 
 pub returns-in-Minus-clause-stands : goal.returns-in-Minus-clause-stands
 returns-in-Minus-clause-stands g c =
@@ -112,7 +112,7 @@ returns-in-Minus-clause-stands g c =
     let u = g.B.DaySeq.sketch c.args.other.now in
     let apart : s.kind ≢ u.kind = kinds_apart _ _ _ _ _ c.kind-kind.ensures c.kind.ensures c.is_same-same.ensures c.if-same.false in
     IfOk-weaker c.with_itself-in-Minus.result _ _
-    (λ f h. subst (λ op. StandsFor (sketch f) (combined op (StandsIn s) (StandsIn u))) (sym c.in-Minus.is) (minus_apart s u (sketch f) apart h)) c.with_itself-in-Minus.ensures.stands
+    (λ f h. subst (λ op. StandsFor (sketch f) (combined_occurrences op (StandsIn s) (StandsIn u))) (sym c.in-Minus.is) (minus_apart s u (sketch f) apart h)) c.with_itself-in-Minus.ensures.stands
 
 pub returns-then-same-clause-judged : goal.returns-then-same-clause-judged
 returns-then-same-clause-judged g c =

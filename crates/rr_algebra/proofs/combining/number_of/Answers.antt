@@ -5,7 +5,7 @@ use Rattle.rr_model.specs.Rising.Sets.{IsSecondsOfDay}
 use Rattle.rr_model.specs.Sets.Sketch.{times_on}
 use Rattle.rr_model.specs.declared.sketch.Sketch.{Sketch}
 use Rattle.rr_shapes.specs.Numbering.{IsNumbering}
-use Rattle.rr_shapes.specs.declared.unions.Pair.{Pair}
+use Rattle.rr_shapes.specs.declared.pair_numbers.Pair.{Pair}
 use Rattle.rr_days.specs.MadeSets.{AreKnown, IsMadeSet, KeepsKnown}
 use Rattle.rr_days.specs.declared.combined_sets.CombinedSets.{CombinedSets}
 use Rattle.rr_days.specs.declared.op.Op.{Op}

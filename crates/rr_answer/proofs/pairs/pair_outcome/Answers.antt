@@ -5,7 +5,7 @@ use Rattle.rr_model.specs.declared.verdict.Verdict.TheVariants.{Yes}
 use Rattle.rr_answer.specs.Answer.{IsPairAnswer}
 use Rattle.rr_answer.specs.OperandReading.{IsSubjectRead}
 use Rattle.rr_answer.specs.Parsed.{operand_in}
-use Rattle.rr_answer.specs.Said.{said}
+use Rattle.rr_answer.specs.Said.{answer_of_verdict}
 use Rattle.rr_answer.proofs.OneTextLemmas.{said_of_one_text}
 use Rattle.rr_answer.proofs.SaidOfBothLemmas.{fold_from_year_one}
 use Rattle.rr_answer.proofs.pairs.pair_outcome.Goals as goal
@@ -22,7 +22,8 @@ returns-then-asks_of_itself c =
     let itself = c.asks_of_itself.ensures c.if-asks_of_itself.true in
     IfOk-weaker c.outcome_of_verdict.result _ _
     (λ x e. subst (IsPairAnswer c.args.inquiry (IsSubjectRead (operand_in c.args.a) c.args.text_a.now) (IsSubjectRead (operand_in c.args.b) c.args.text_b.now)) (sym e)
-    (subst (λ i. IsPairAnswer i (IsSubjectRead (operand_in c.args.a) c.args.text_a.now) (IsSubjectRead (operand_in c.args.b) c.args.text_b.now) (said Yes))
+    (subst (λ i. IsPairAnswer i (IsSubjectRead (operand_in c.args.a) c.args.text_a.now) (IsSubjectRead (operand_in c.args.b) c.args.text_b.now)
+    (answer_of_verdict Yes))
     (sym itself.0)
     (said_of_one_text (operand_in c.args.a) (operand_in c.args.b) c.args.text_a.now c.args.text_b.now itself.1 of_a.subject of_a.judged)))
     c.outcome_of_verdict.ensures

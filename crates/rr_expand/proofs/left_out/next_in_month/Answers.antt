@@ -1,7 +1,7 @@
 use Rattle.std.proofs.Common.{◌≡◌, ◌∙◌, sym, ℕ, Bool, false, ◌<◌, ◌≤◌, ◌-◌, ◌+◌, ◌%◌, pos, ◌+ℤ◌, [], ◌∷◌, arith}
 use Rattle.std.specs.List.{list_any}
 use Rattle.rr_model.specs.Rule.Candidate.{allows_signed}
-use Rattle.rr_model.specs.Rule.Filled.{filled}
+use Rattle.rr_model.specs.Rule.Filled.{filled_rule}
 use Rattle.rr_model.specs.declared.kind.Kind.TheVariants.{Days}
 use Rattle.rr_expand.specs.LeftOut.{has_weekday}
 use Rattle.rr_expand.specs.Years.{allows_day}
@@ -16,7 +16,7 @@ returns-then-leaves_out_month c =
     record {
       later = c.requires;
       within = omega arith;
-      none = λ i a b. not_in_month (filled rule Days start) (day.number +ℤ pos (i - day.day_of_month))
+      none = λ i a b. not_in_month (filled_rule rule Days start) (day.number +ℤ pos (i - day.day_of_month))
           (c.leaves_out_month.ensures c.if-leaves_out_month.true _
           (month_same rule start day.number day.day_of_month day.days_in_month i day.of_day_of_month day.of_days_in_month a (omega (arith, b))));
     }

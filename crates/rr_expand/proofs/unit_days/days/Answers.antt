@@ -15,7 +15,7 @@ returns c =
     let unit = to_z-of_z c.ranges.unit in
     let begins = rw unit at c.first_day_of_unit-first.ensures in
     let ends = rw unit at (c.days_in_unit.ensures.next rule.week_start) in
-    let fit = rw (start, unit) at (sym c.fits.ensures ∙ c.if-not-fits.false) in
+    let fit = rw (start, unit) at (sym c.unit_fits.ensures ∙ c.if-not-unit_fits.false) in
     IfOk-weaker c.days_from.result
     (λ days. IsSetOf int_lt days (IsAllowedDay rule c.args.start_day c.first_day_of_unit-first.result c.days_in_unit.result))
     (λ days. IsSetOf int_lt days (IsCandidateDay rule c.args.start_day c.args.unit))

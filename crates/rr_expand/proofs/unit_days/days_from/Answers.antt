@@ -3,7 +3,7 @@ use Rattle.std.proofs.lemmas.Int.{ints}
 use Rattle.std.specs.Prelude.{int_lt}
 use Rattle.rr_model.specs.Rising.Sets.{IsSetOf}
 use Rattle.rr_model.specs.Rule.Candidate.{date_parts_hold}
-use Rattle.rr_model.specs.Rule.Filled.{filled}
+use Rattle.rr_model.specs.Rule.Filled.{filled_rule}
 use Rattle.rr_model.specs.declared.kind.Kind.TheVariants.{Days}
 use Rattle.rr_expand.specs.Expansion.{IsAllowedDay}
 use Rattle.rr_expand.proofs.DaySets.{days_more, days_same}
@@ -13,7 +13,7 @@ use Rattle.rr_expand.proofs.unit_days.days_from.Goals.{then-date_parts_hold+in_o
 pub loop-k-preserved : goal.loop-k-preserved
 loop-k-preserved c =
     let first = to_z w64 (of_z w64 c.args.first) in
-    let test : ℤ → Bool = date_parts_hold (filled c.args.rule.now Days c.args.start.now.number) in
+    let test : ℤ → Bool = date_parts_hold (filled_rule c.args.rule.now Days c.args.start.now.number) in
     let n = c.loop-k.k in
     elim c.if-date_parts_hold.branch [
       | then-date_parts_hold+in_ok-put w ↦

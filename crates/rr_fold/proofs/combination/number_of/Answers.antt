@@ -3,7 +3,7 @@ use Rattle.std.proofs.lemmas.Option.{get_or_from_slice_get}
 use Rattle.std.proofs.lemmas.Result.{IfOk-weaker}
 use Rattle.rr_model.specs.Sets.Sizes.{total_size}
 use Rattle.rr_model.specs.declared.limits.TheConstants.{MAX_SECONDS}
-use Rattle.rr_shapes.specs.declared.unions.Pair.{Pair}
+use Rattle.rr_shapes.specs.declared.pair_numbers.Pair.{Pair}
 use Rattle.rr_days.specs.MadeSets.{AreKnown, IsMadeSet, IsNumberOf, KeepsKnown}
 use Rattle.rr_days.specs.declared.combined_sets.CombinedSets.{CombinedSets}
 use Rattle.rr_days.proofs.MadeSetLemmas.{both_ok, made_number}
@@ -19,8 +19,8 @@ returns-clause-shapes c =
     both_ok c.put_made.result
     (λ set. IsMadeSet c.args.op c.times.result.now c.times-2.result.now c.known_number.new.self.shapes new set.number) (λ set. total_size new ≤ MAX_SECONDS) _
     c.put_made.ensures.made c.put_made.ensures.room (λ set m room.
-        let made = subst (λ (o : CombinedSets). IsMadeSet c.args.op c.times.result.now c.times-2.result.now o.shapes new set.number) c.known_number.ensures.unchanged m in
-        shapes_kept old.shapes new (placed_extends made.times old.shapes new set.number made.placed) room c.requires.shapes)
+    let made = subst (λ (o : CombinedSets). IsMadeSet c.args.op c.times.result.now c.times-2.result.now o.shapes new set.number) c.known_number.ensures.unchanged m in
+    shapes_kept old.shapes new (placed_extends made.times old.shapes new set.number made.placed) room c.requires.shapes)
 
 pub returns-clause-known : goal.returns-clause-known
 returns-clause-known c =
@@ -34,7 +34,7 @@ returns-clause-known c =
     IfOk-weaker c.put_made.result
     (λ set. KeepsKnown c.args.op pair c.times.result.now c.times-2.result.now c.known_number.new.self c.put_made.new.self) _
     (λ set keeps. keeps one other (get_or_from_slice_get one a c.times.result.now [] c.times.ensures.same)
-        (get_or_from_slice_get other b c.times-2.result.now [] c.times-2.ensures.same) were) c.put_made.ensures.known
+    (get_or_from_slice_get other b c.times-2.result.now [] c.times-2.ensures.same) were) c.put_made.ensures.known
 
 pub returns-clause-grown : goal.returns-clause-grown
 returns-clause-grown c =
@@ -43,8 +43,8 @@ returns-clause-grown c =
     IfOk-weaker c.put_made.result
     (λ set. IsMadeSet c.args.op c.times.result.now c.times-2.result.now c.known_number.new.self.shapes new set.number) _
     (λ set m.
-        let made = subst (λ (o : CombinedSets). IsMadeSet c.args.op c.times.result.now c.times-2.result.now o.shapes new set.number) c.known_number.ensures.unchanged m in
-        placed_grown made.times old new set.number made.placed) c.put_made.ensures.made
+    let made = subst (λ (o : CombinedSets). IsMadeSet c.args.op c.times.result.now c.times-2.result.now o.shapes new set.number) c.known_number.ensures.unchanged m in
+    placed_grown made.times old new set.number made.placed) c.put_made.ensures.made
 
 pub returns-clause-combination : goal.returns-clause-combination
 returns-clause-combination c =
@@ -58,4 +58,4 @@ returns-clause-combination c =
     IfOk-weaker c.put_made.result
     (λ set. IsMadeSet c.args.op c.times.result.now c.times-2.result.now c.known_number.new.self.shapes new set.number) _
     (λ set m.
-        rw (at_a, at_b) (made_number c.args.op c.times.result.now c.times-2.result.now c.known_number.new.self.shapes new set.number m)) c.put_made.ensures.made
+    rw (at_a, at_b) (made_number c.args.op c.times.result.now c.times-2.result.now c.known_number.new.self.shapes new set.number m)) c.put_made.ensures.made

@@ -1,7 +1,7 @@
 use Rattle.std.proofs.Common.{sym, subst, to_z-of_z}
 use Rattle.std.specs.Prelude.{IfOk}
 use Rattle.rr_model.specs.Moment.{day_part}
-use Rattle.rr_model.specs.Series.Tree.{ended}
+use Rattle.rr_model.specs.Series.Tree.{up_to_end}
 use Rattle.rr_model.specs.Sets.Tree.{chosen_of}
 use Rattle.rr_fold.specs.Folding.{IsFoldedTo}
 use Rattle.rr_fold.specs.declared.folded_days.FoldedDays.{FoldedDays}
@@ -13,5 +13,5 @@ returns-in-Never-clause-folded c =
     let kind = c.args.kind in
     let start = c.args.start in
     subst (λ e. IfOk c.days_chosen.result (λ (days : FoldedDays).
-    IsFoldedTo (ended kind e (chosen_of rule kind start)) (day_part kind start) c.args.end days.shapes days.numbers))
+    IsFoldedTo (up_to_end kind e (chosen_of rule kind start)) (day_part kind start) c.args.end days.shapes days.numbers))
     (sym c.in-Never.is) (rw (to_z-of_z c.ranges.start, to_z-of_z c.ranges.end) at c.days_chosen.ensures.folded)

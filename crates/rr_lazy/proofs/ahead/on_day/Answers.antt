@@ -1,11 +1,11 @@
 use Rattle.std.proofs.Common.{◌≡◌, inl, inr, List, ℕ, ℤ, Option, Some, None, refl, sym, to_z-of_z}
 use Rattle.rr_lazy.specs.declared.occupied_day.OccupiedDay.{OccupiedDay}
-use Rattle.rr_lazy.specs.Ahead.{GaveDay, IsOfDay, seen}
+use Rattle.rr_lazy.specs.Ahead.{GaveDay, IsOfDay, day_seen}
 use Rattle.rr_lazy.proofs.AheadLemmas.{given_first, this_day}
 use Rattle.rr_lazy.proofs.ahead.on_day.Goals as goal
 
 other_day : (sets : List (List ℕ)) (ahead result : Option OccupiedDay) (day : ℤ) → result ≡ None → IsOfDay ahead day result
-    → GaveDay (seen sets ahead) day → ⊥
+    → GaveDay (day_seen sets ahead) day → ⊥
 other_day sets None result day e w g = g
 other_day sets (Some f) result day e w g = elim w [ inl m ↦ absurd (cc) | inr m ↦ m.1 f refl g ]
 

@@ -1,7 +1,7 @@
 use Rattle.std.proofs.Common.{◌<◌, ◌≤◌, length, rules, sym, ap, ◌∙◌, w64, to_z, of_z, to_z-of_z, subst, arith}
 use Rattle.std.proofs.lemmas.List.{get_or_default}
 use Rattle.std.specs.Option.{ForSome}
-use Rattle.rr_lazy.specs.Ahead.{IsLeftAfterDay, seen}
+use Rattle.rr_lazy.specs.Ahead.{IsLeftAfterDay, day_seen}
 use Rattle.rr_lazy.specs.Next.{IsInTable}
 use Rattle.rr_lazy.specs.declared.ahead.LazyPart.{LazyPart}
 use Rattle.rr_lazy.proofs.ManyLemmas.{all_set, left_more}
@@ -15,9 +15,9 @@ loop-index-preserved g c sets =
     let day = to_z w64 (of_z w64 c.args.day) in
     let l : index < length xs = search rules in
     let y : LazyPart g.row.A.Denot = record { lazy = c.index_mut.result.now.lazy; ahead = c.forget.new.ahead } in (
-      left_more (λ p. seen sets p.ahead) (λ p. p.lazy) c.args.parts.now.items xs day index y l i.0
+      left_more (λ p. day_seen sets p.ahead) (λ p. p.lazy) c.args.parts.now.items xs day index y l i.0
           (λ z. ap (λ p. p.lazy) (c.index_mut.ensures.value ∙ get_or_default xs index c.index_mut.result.now z l))
-          (λ z. subst (λ p. IsLeftAfterDay (seen sets p.ahead) day (seen sets c.forget.new.ahead))
+          (λ z. subst (λ p. IsLeftAfterDay (day_seen sets p.ahead) day (day_seen sets c.forget.new.ahead))
           (c.index_mut.ensures.value ∙ get_or_default xs index c.index_mut.result.now z l) (c.forget.ensures.left sets)),
       (λ all. all_set (λ p. ForSome p.ahead (IsInTable sets)) xs index y (i.1 all)
           (λ x e. i.1 all index c.index_mut.result.now l x (ap (λ p. p.ahead) (sym c.index_mut.ensures.value) ∙ c.forget.ensures.within x e))),

@@ -1,5 +1,5 @@
 use Rattle.std.proofs.Common.{List, ℕ, ◌++◌, ◌∙◌, sym, ap, subst, arith}
-use Rattle.rr_runs.specs.Pages.{IsPaged, paged}
+use Rattle.rr_runs.specs.Pages.{IsPaged, row_of_pages}
 use Rattle.rr_runs.proofs.PagesLemmas.{all_closed, closed_is_paged, is_paged_grown, paged_in_grown}
 use Rattle.rr_runs.proofs.room.close_page.Goals as goal
 
@@ -10,7 +10,7 @@ returns-in_err-put_page-clause-paged c =
 
 pub returns-in_err-put_page-clause-same : goal.returns-in_err-put_page-clause-same
 returns-in_err-put_page-clause-same c =
-    ap (λ (l : List ℕ). paged c.put_page.new.pool.items l ++ c.args.rest.now.items) c.in_err-put_page.ensures.err
+    ap (λ (l : List ℕ). row_of_pages c.put_page.new.pool.items l ++ c.args.rest.now.items) c.in_err-put_page.ensures.err
     ∙ paged_in_grown c.args.pool.now.items c.put_page.new.pool.items c.args.pages.now.items c.args.rest.now.items c.requires.paged c.put_page.ensures.grown
 
 pub returns-clause-paged : goal.returns-clause-paged

@@ -1,6 +1,6 @@
 use Rattle.std.proofs.Common.{◌≡◌, [], List, ℕ, ◌++◌, length, refl, sym, ap, ◌∙◌, append-nil, length-drop, arith}
 use Rattle.std.proofs.lemmas.List.{nil_from_length}
-use Rattle.rr_runs.specs.Pages.{paged}
+use Rattle.rr_runs.specs.Pages.{row_of_pages}
 use Rattle.rr_runs.proofs.PagesLemmas.{grown_none, grown_on, page_goes_on}
 use Rattle.rr_runs.proofs.room.put_pages.Goals as goal
 
@@ -22,8 +22,8 @@ loop-left-preserved c =
       grown_on c.args.pool.now.items c.loop-left.pool.items c.put_page.new.pool.items is.0 c.put_page.ensures.grown,
       grown_on c.args.pages.now.items c.loop-left.pages.items c.put_page.new.pages.items is.1 c.put_page.ensures.more,
       c.put_page.ensures.stand,
-      page_goes_on (paged c.args.pool.now.items c.args.pages.now.items ++ c.args.numbers.now) c.first_numbers.result.now left c.rest_from-left.result.now
-          (paged c.loop-left.pool.items c.loop-left.pages.items) (paged c.put_page.new.pool.items c.put_page.new.pages.items) (omega arith)
+      page_goes_on (row_of_pages c.args.pool.now.items c.args.pages.now.items ++ c.args.numbers.now) c.first_numbers.result.now left c.rest_from-left.result.now
+          (row_of_pages c.loop-left.pool.items c.loop-left.pages.items) (row_of_pages c.put_page.new.pool.items c.put_page.new.pages.items) (omega arith)
           c.first_numbers.ensures c.rest_from-left.ensures c.in_ok-put_page.ensures.value is.3,
       omega (arith, less, is.4),
       omega (arith, less, is.5, c.in_ok-put_page.ensures.many),
@@ -39,7 +39,7 @@ returns-in_err-put_page-clause-more c =
 
 pub returns-clause-value : goal.returns-clause-value
 returns-clause-value c =
-    let now = paged c.loop-left.pool.items c.loop-left.pages.items in
+    let now = row_of_pages c.loop-left.pool.items c.loop-left.pages.items in
     let none : c.loop-left.left.now ≡ [] = nil_from_length c.loop-left.left.now (omega (arith, c.loop-left.invariant.4)) in
     sym (append-nil now) ∙ ap (λ (l : List ℕ). now ++ l) (sym none) ∙ c.loop-left.invariant.3
 

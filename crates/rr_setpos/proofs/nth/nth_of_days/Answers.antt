@@ -16,13 +16,13 @@ use Rattle.rr_setpos.proofs.nth.nth_of_days.Goals as goal
 few_among : (days count : ℕ) → days ≤ count → count ≤ 366 → days ≤ 366
 few_among days count within few = omega arith
 
-pub returns-then-not-fits : goal.returns-then-not-fits
-returns-then-not-fits c =
+pub returns-then-not-unit_fits : goal.returns-then-not-unit_fits
+returns-then-not-unit_fits c =
     let rule = c.args.rule.now in
     let start = c.args.start.now in
     let own = ap (unit_number rule.freq rule.week_start Days) start.of_day ∙ sym (unit_of_day rule.freq rule.week_start start.kind start.at c.requires.freq) in
     none_unfit rule start.kind start.at c.args.unit c.args.position
-    (ap (λ u. divides rule.interval (c.args.unit -ℤ u)) (sym own) ∙ rw (to_z-of_z c.ranges.unit) at (sym c.fits.ensures ∙ c.if-not-fits.true))
+    (ap (λ u. divides rule.interval (c.args.unit -ℤ u)) (sym own) ∙ rw (to_z-of_z c.ranges.unit) at (sym c.unit_fits.ensures ∙ c.if-not-unit_fits.true))
 
 pub moment_at-requires : goal.moment_at-requires
 moment_at-requires c =
@@ -71,7 +71,7 @@ returns-in-Some c =
     let before : days_among rule (day_part start.kind start.at) (unit_start rule.freq rule.week_start Days c.args.unit) k
     ≡ c.in-Some.rank / c.times_before-times.result = rw (begins, start.of_day) at c.nth_day.ensures.rank in
     let own = ap (unit_number rule.freq rule.week_start Days) start.of_day ∙ sym (unit_of_day rule.freq rule.week_start start.kind start.at c.requires.freq) in
-    let fit = ap (λ u. divides rule.interval (c.args.unit -ℤ u)) (sym own) ∙ rw unit at (sym c.fits.ensures ∙ c.if-not-fits.false) in
+    let fit = ap (λ u. divides rule.interval (c.args.unit -ℤ u)) (sym own) ∙ rw unit at (sym c.unit_fits.ensures ∙ c.if-not-unit_fits.false) in
     let ranked = rw (c.in-Some.is, to_z-of_z c.ranges.position) at c.rank_of.ensures in
     let day : to_z w64 (of_z w64 (to_z w64 (of_z w64 c.first_day_of_unit-first.result) +ℤ to_z w64 (of_z w64 c.from.result)))
     ≡ unit_start rule.freq rule.week_start Days c.args.unit +ℤ pos k =

@@ -5,7 +5,7 @@ use Rattle.std.specs.Option.{ForNone}
 use Rattle.rr_model.specs.declared.refusal.NoMemory.{NoMemory}
 use Rattle.rr_model.specs.Sets.Tree.{Tree, union}
 use Rattle.rr_lazy.specs.declared.occupied_day.OccupiedDay.{OccupiedDay}
-use Rattle.rr_lazy.specs.Ahead.{IsAheadIn, IsFirstOfBoth, IsGivenByBoth, seen}
+use Rattle.rr_lazy.specs.Ahead.{IsAheadIn, IsFirstOfBoth, IsGivenByBoth, day_seen}
 use Rattle.rr_lazy.specs.Next.{HasNone, IsNextIn}
 use Rattle.rr_lazy.specs.Tables.{ahead_more}
 use Rattle.rr_lazy.proofs.AheadLemmas.{given_on, neither, side_given_in, side_none_in, union_day, union_next}
@@ -63,7 +63,7 @@ returns-in-None-clause-next g c =
 
 record Given (g : Over) (c : After-on_day-arg-in-Some-2-1 g) : Type 0 where
   first : (sets : List (List ℕ))
-      → IsFirstOfBoth (seen sets c.fill_both.new.self.a.ahead) (seen sets c.fill_both.new.self.b.ahead) c.args.to (Some c.in-Some.day)
+      → IsFirstOfBoth (day_seen sets c.fill_both.new.self.a.ahead) (day_seen sets c.fill_both.new.self.b.ahead) c.args.to (Some c.in-Some.day)
   none_a : ForNone c.fill_both.new.self.a.ahead (c.in-Some.day <ℤ g.A.Lazy.position c.fill_both.new.self.a.lazy)
   none_b : ForNone c.fill_both.new.self.b.ahead (c.in-Some.day <ℤ g.B.Lazy.position c.fill_both.new.self.b.lazy)
   late : c.fill_both.new.self.position ≤ℤ c.in-Some.day
@@ -80,7 +80,7 @@ given g c =
     let k = c.fill_both.ensures.knows in
     let sets = c.fill_both.new.sets in
     let t = to_z-of_z c.ranges.to in
-    let first : (sets : List (List ℕ)) → IsFirstOfBoth (seen sets s.a.ahead) (seen sets s.b.ahead) c.args.to (Some c.in-Some.day) =
+    let first : (sets : List (List ℕ)) → IsFirstOfBoth (day_seen sets s.a.ahead) (day_seen sets s.b.ahead) c.args.to (Some c.in-Some.day) =
     λ sets. rw t at c.in-Some.ensures sets in
     let na = rw t at c.in_ok-fill_both.ensures.none_a in
     let nb = rw t at c.in_ok-fill_both.ensures.none_b in

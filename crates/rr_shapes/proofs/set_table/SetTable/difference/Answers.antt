@@ -2,7 +2,7 @@ use Rattle.std.proofs.Common.{◌≡◌, Some, slice_get, sym, subst}
 use Rattle.std.proofs.lemmas.List.Elements.{All-contains}
 use Rattle.std.proofs.lemmas.Option.{slice_get_within}
 use Rattle.rr_shapes.specs.Tables.{Extends, IsDifference, IsTable}
-use Rattle.rr_shapes.specs.declared.unions.Pair.{Pair}
+use Rattle.rr_shapes.specs.declared.pair_numbers.Pair.{Pair}
 use Rattle.rr_shapes.proofs.TableLemmas.{new_difference, difference_of_old, table_with_difference}
 use Rattle.rr_shapes.proofs.set_table.SetTable.difference.Goals.{After-put}
 use Rattle.rr_shapes.proofs.set_table.SetTable.difference.Goals as goal

@@ -2,7 +2,7 @@ use Rattle.std.proofs.Common.{◌≡◌, ◌<◌, Some, length, slice_get, sym, 
 use Rattle.std.proofs.lemmas.List.Elements.{All-contains}
 use Rattle.std.proofs.lemmas.Option.{slice_get_within}
 use Rattle.rr_shapes.specs.Tables.{Extends, IsTable, IsUnion}
-use Rattle.rr_shapes.specs.declared.unions.Pair.{Pair}
+use Rattle.rr_shapes.specs.declared.pair_numbers.Pair.{Pair}
 use Rattle.rr_shapes.proofs.TableLemmas.{own_union, new_union, union_of_old, table_with_union}
 use Rattle.rr_shapes.proofs.set_table.SetTable.union.Goals.{After-put}
 use Rattle.rr_shapes.proofs.set_table.SetTable.union.Goals as goal

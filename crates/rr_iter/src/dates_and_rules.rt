@@ -4,7 +4,7 @@ ghost use Rattle.rr_model.specs.Series.Soundness.{IsSound};
 ghost use Rattle.rr_model.specs.Series.Tree.{dates_with_start, tree_of_given};
 ghost use Rattle.rr_lazy.specs.Next.{IsUnasked};
 
-use crate::RulesLazy;
+use crate::RulesOfSeries;
 use rr_lazy::{DatesLazy, Lazy, OccupiedDay, Union};
 use rr_model::{Dates, NoMemory, Series};
 use rr_shapes::SetTable;
@@ -12,22 +12,23 @@ use std::alloc::Global;
 
 /// The dates that are added to a series, its start where it counts, and the members of its rules.
 #[derive(Drop)]
-pub struct AllLazy {
-    pub(crate) lazy: Union<DatesLazy, RulesLazy>,
+pub struct DatesAndRules {
+    pub(crate) lazy: Union<DatesLazy, RulesOfSeries>,
 }
 
-impl AllLazy {
+impl DatesAndRules {
     /// The dates of a series, its start among them where it counts, and the members of its rules.
-    pub(crate) fn new(alloc: Global, series: &Series) -> Result<AllLazy, NoMemory>
+    pub(crate) fn new(alloc: Global, series: &Series) -> Result<DatesAndRules, NoMemory>
         requires sound { IsSound series.now }
-        ensures tree { IfOk result (λ l. ⟦<AllLazy as Lazy>⟧.tree l ≡ tree_of_given series.now) }
-        ensures unasked { IfOk result (λ l. IsUnasked (⟦<AllLazy as Lazy>⟧.position l)) }
+        ensures tree { IfOk result (λ l. ⟦<DatesAndRules as Lazy>⟧.tree l
+            ≡ tree_of_given series.now) }
+        ensures unasked { IfOk result (λ l. IsUnasked (⟦<DatesAndRules as Lazy>⟧.position l)) }
         ensures knows { IfOk result (λ l. (sets : List (List ℕ))
-            → ⟦<AllLazy as Lazy>⟧.knows l sets) }
+            → ⟦<DatesAndRules as Lazy>⟧.knows l sets) }
     {
         let dates = DatesLazy::new(series.kind, dates_with_start(alloc, series)?);
-        let rules = RulesLazy::new(alloc, series.kind, series.start, series.rules.as_slice())?;
-        Ok(AllLazy {
+        let rules = RulesOfSeries::new(alloc, series.kind, series.start, series.rules.as_slice())?;
+        Ok(DatesAndRules {
             lazy: Union::new(dates, rules),
         })
     }
@@ -44,20 +45,20 @@ fn dates_with_start(alloc: Global, series: &Series) -> Result<Dates, NoMemory>
     Ok(dates)
 }
 
-impl Lazy for AllLazy {
+impl Lazy for DatesAndRules {
     ghost use Rattle.rr_iter.specs.KnowsAll.{knows_all, knows_all_more};
     ghost use Rattle.rr_lazy.specs.Ahead.{sound_union};
 
-    ghost tree = { λ s. ⟦<Union<DatesLazy, RulesLazy> as Lazy>⟧.tree s.lazy };
+    ghost tree = { λ s. ⟦<Union<DatesLazy, RulesOfSeries> as Lazy>⟧.tree s.lazy };
 
-    ghost position = { λ s. ⟦<Union<DatesLazy, RulesLazy> as Lazy>⟧.position s.lazy };
+    ghost position = { λ s. ⟦<Union<DatesLazy, RulesOfSeries> as Lazy>⟧.position s.lazy };
 
     ghost knows = { knows_all };
 
     ghost knows_more = { knows_all_more };
 
     ghost sound = { λ s. sound_union (⟦<DatesLazy as Lazy>⟧.tree s.lazy.a.lazy)
-        (⟦<RulesLazy as Lazy>⟧.tree s.lazy.b.lazy)
+        (⟦<RulesOfSeries as Lazy>⟧.tree s.lazy.b.lazy)
         s.lazy.position s.lazy.one_kind s.lazy.begun };
 
     fn next(

@@ -3,7 +3,7 @@ use Rattle.std.specs.Prelude.{All}
 use Rattle.rr_model.specs.Moment.Years.{IsInYears}
 use Rattle.rr_model.specs.Sets.Tree.{dates_of}
 use Rattle.rr_iter.proofs.RulesLemmas.{dates_in_years, all_one_kind}
-use Rattle.rr_iter.proofs.all_lazy.AllLazy.new.Goals as goal
+use Rattle.rr_iter.proofs.dates_and_rules.DatesAndRules.new.Goals as goal
 
 pub new-dates-requires : goal.new-dates-requires
 new-dates-requires c =

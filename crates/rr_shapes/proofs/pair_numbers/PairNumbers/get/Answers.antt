@@ -1,8 +1,8 @@
 use Rattle.std.proofs.Common.{◌≡◌, sym, ap, subst, ◌∙◌, Contains}
 use Rattle.std.proofs.lemmas.Map.Made.{lookup_key_passes}
 use Rattle.rr_shapes.proofs.UnionLemmas.{same_pair, one_pair, there}
-use Rattle.rr_shapes.proofs.unions.Unions.get.Goals as goal
-use Rattle.rr_shapes.proofs.unions.Unions.get.Goals.{in-Some+else-eq, in_default}
+use Rattle.rr_shapes.proofs.pair_numbers.PairNumbers.get.Goals as goal
+use Rattle.rr_shapes.proofs.pair_numbers.PairNumbers.get.Goals.{in-Some+else-eq, in_default}
 
 pub returns-then-eq-clause-known : goal.returns-then-eq-clause-known
 returns-then-eq-clause-known c =

@@ -4,7 +4,7 @@ use Rattle.std.proofs.lemmas.List.{take_all}
 use Rattle.rr_model.specs.Sets.Tree.{many, IsOfKind}
 use Rattle.rr_model.specs.Series.Tree.{members_of, members_of_all}
 use Rattle.rr_iter.proofs.RulesLemmas.{members_of_kind, joined_next, joined_kind}
-use Rattle.rr_iter.proofs.rules_lazy.RulesLazy.new.Goals as goal
+use Rattle.rr_iter.proofs.rules_of_series.RulesOfSeries.new.Goals as goal
 
 pub put-requires-clause-one_kind : goal.put-requires-clause-one_kind
 put-requires-clause-one_kind c =

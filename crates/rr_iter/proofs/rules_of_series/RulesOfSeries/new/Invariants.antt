@@ -5,7 +5,7 @@ use Rattle.rr_model.specs.Series.Tree.{members_of_all}
 use Rattle.rr_lazy.specs.Many.{forest_of}
 use Rattle.rr_lazy.specs.Ahead.{IsAheadIn}
 use Rattle.rr_iter.specs.Ended.{knows_ended, position_of_ended, tree_of_ended}
-use Rattle.rr_iter.proofs.rules_lazy.RulesLazy.new.Given as goal
+use Rattle.rr_iter.proofs.rules_of_series.RulesOfSeries.new.Given as goal
 
 abbrev pub invariant-loop-rule : goal.invariant-loop-rule
 invariant-loop-rule l =

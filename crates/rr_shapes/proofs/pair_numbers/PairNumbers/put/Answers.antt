@@ -1,6 +1,6 @@
 use Rattle.std.proofs.Common.{subst, Contains}
 use Rattle.rr_shapes.proofs.UnionLemmas.{same_pair, one_pair, inserted_only, inserted_there}
-use Rattle.rr_shapes.proofs.unions.Unions.put.Goals as goal
+use Rattle.rr_shapes.proofs.pair_numbers.PairNumbers.put.Goals as goal
 
 pub returns-clause-there : goal.returns-clause-there
 returns-clause-there c =

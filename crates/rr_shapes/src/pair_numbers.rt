@@ -1,4 +1,4 @@
-// Numbers by pairs of numbers: which set is the union of which two.
+// Numbers by pairs of numbers: which set is made of which two.
 ghost use Rattle.std.specs.Prelude.{◌≡◌, [], Contains, IfSome, OnOk};
 ghost use Rattle.rr_shapes.specs.Tables.{AddsOnly};
 
@@ -16,35 +16,36 @@ pub struct Pair {
     pub b: usize,
 }
 
-/// The numbers of unions by the numbers of the two sets. Contracts see it as the list of the pairs with their unions.
+/// The numbers of sets by the numbers of the two sets that each is made of, such as their union. Contracts see it as the list
+/// of the pairs with their numbers.
 #[derive(Drop)]
-pub struct Unions {
+pub struct PairNumbers {
     known: IndexMap<Pair, usize>,
     // The index of the pair that was asked for last.
     last: usize,
 }
 
-impl Model for Unions {
+impl Model for PairNumbers {
     ghost use Rattle.std.specs.Prelude.{ℕ, List};
-    ghost use Rattle.rr_shapes.specs.declared.unions.Pair.{Pair};
+    ghost use Rattle.rr_shapes.specs.declared.pair_numbers.Pair.{Pair};
 
     ghost Value = { List (Pair × ℕ) };
 
     ghost view = { λ u. u.known.entries };
 }
 
-impl Unions {
+impl PairNumbers {
     /// None are known yet; it takes no memory.
-    pub fn new(alloc: Global) -> Unions
+    pub fn new(alloc: Global) -> PairNumbers
         ensures { result ≡ [] }
     {
-        Unions {
+        PairNumbers {
             known: IndexMap::new(alloc),
             last: 0,
         }
     }
 
-    /// The union of a pair, where it is known. The pair that was asked for last is looked for nowhere else.
+    /// The number of a pair, where it is known. The pair that was asked for last is looked for nowhere else.
     pub fn get(&mut self, pair: Pair) -> Option<usize>
         ensures known { IfSome result (λ n. Contains self.old (pair, n)) }
         ensures unchanged { self.new ≡ self.old }
@@ -60,7 +61,7 @@ impl Unions {
         Some(number)
     }
 
-    /// Remembers the union of a pair, which becomes the pair that was asked for last.
+    /// Remembers the number of a pair, which becomes the pair that was asked for last.
     pub fn put(&mut self, pair: Pair, number: usize) -> Result<(), NoMemory>
         ensures there { OnOk result (Contains self.new (pair, number)) }
         ensures nothing_else { AddsOnly self.old self.new (pair, number) }

@@ -12,11 +12,11 @@ use std::alloc::Global;
 
 /// The members of rules, or of excluded rules, of a series.
 #[derive(Drop)]
-pub struct RulesLazy {
+pub struct RulesOfSeries {
     pub(crate) lazy: Many<EndedLazy>,
 }
 
-impl RulesLazy {
+impl RulesOfSeries {
     ghost use Rattle.rr_model.specs.Sets.Tree.{many};
 
     /// The members of rules from one start on.
@@ -25,24 +25,24 @@ impl RulesLazy {
         kind: Kind,
         start: i64,
         rules: &[Rule],
-    ) -> Result<RulesLazy, NoMemory>
+    ) -> Result<RulesOfSeries, NoMemory>
         requires sound { All (IsSoundRule kind start) rules.now }
         ensures tree { IfOk result (λ l.
-            ⟦<RulesLazy as Lazy>⟧.tree l ≡ many (members_of_all kind start rules.now)) }
-        ensures unasked { IfOk result (λ l. IsUnasked (⟦<RulesLazy as Lazy>⟧.position l)) }
+            ⟦<RulesOfSeries as Lazy>⟧.tree l ≡ many (members_of_all kind start rules.now)) }
+        ensures unasked { IfOk result (λ l. IsUnasked (⟦<RulesOfSeries as Lazy>⟧.position l)) }
         ensures knows { IfOk result (λ l. (sets : List (List ℕ))
-            → ⟦<RulesLazy as Lazy>⟧.knows l sets) }
+            → ⟦<RulesOfSeries as Lazy>⟧.knows l sets) }
     {
         let mut lazy = Many::new(alloc);
         for rule in rules {
             let members = EndedLazy::new(alloc, rule, kind, start)?;
             lazy.put(members)?;
         }
-        Ok(RulesLazy { lazy })
+        Ok(RulesOfSeries { lazy })
     }
 }
 
-impl Lazy for RulesLazy {
+impl Lazy for RulesOfSeries {
     ghost use Rattle.rr_iter.specs.KnowsRules.{knows_rules, knows_rules_more};
     ghost use Rattle.rr_lazy.specs.Many.{forest_of, sound_many};
 
