@@ -30,7 +30,7 @@ module _ (old new : List (List ℕ)) (more : Extends old new) where
       record { within = k.0; empty = rw k.1 shapes.empty; few = few }
 
 -- nothing is made of empty sets
-nothing_in : (op : Op) (s : ℕ) → HoldsFor op (Contains [] s) (Contains [] s) s → ⊥
+nothing_in : (op : Op) (s : ℕ) → HoldsFor op (Contains [] s) (Contains [] s) → ⊥
 nothing_in Union s h = elim h [ inl c ↦ Contains-none s c | inr c ↦ Contains-none s c ]
 nothing_in Common s h = Contains-none s h.0
 nothing_in Minus s h = Contains-none s h.0
