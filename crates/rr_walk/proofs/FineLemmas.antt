@@ -32,8 +32,8 @@ use Rattle.rr_lazy.specs.Next.{HasNone}
 use Rattle.rr_lazy.proofs.TreeLemmas.{stands_below}
 use Rattle.rr_lazy.proofs.AheadLemmas.{join}
 use Rattle.rr_expand.specs.Years.{Filling, IsFirstAllowed, allows_day}
-use Rattle.rr_walk.specs.Ruling.{Ruling}
-use Rattle.rr_walk.specs.Walk.{IsFirstFine, IsFirstSecond, IsFirstUpToIn, IsOnDay, IsOnDayIn}
+use Rattle.rr_walk.specs.Ruling.{AllowsDay, Ruling}
+use Rattle.rr_walk.specs.Walk.{IsFirstSecond, IsFirstUpToIn, IsOnDay, IsOnDayIn}
 
 -- how many units a day has
 abbrev per_day : Freq → ℕ
@@ -170,20 +170,24 @@ found_first sets tree from day to found late low none on = (
   ),
 )
 
--- the first day on which a candidate can lie, after days that are known to be unoccupied
+-- the day from which on is looked is allowed, where it is the first that is
+pub fine_some : (r : Ruling) (f : Filling) → f ≡ record { rule = r.rule; start_day = day_part Moments r.start } → (day end found : ℤ) → found ≡ day
+    → IsFirstAllowed f day end (Some found) → AllowsDay r day
+fine_some r f is day end found e h = ap (λ g. allows_day g day) (sym is) ∙ (rw e at h.2)
+
+-- from an unoccupied stretch on: the days that the date parts allow
 module _ (r : Ruling) (f : Filling) (is : f ≡ record { rule = r.rule; start_day = day_part Moments r.start }) (from day to : ℤ)
     (before : HasNone (chosen_of r.rule Moments r.start) from day) where
   allowed_at : (d : ℤ) → date_parts_hold (filled_rule r.rule Days (day_part Moments r.start)) d ≡ allows_day f d
   allowed_at d = ap (λ g. allows_day g d) (sym is)
 
-  pub fine_none : IsFirstAllowed f day (to +ℤ pos 1) None → IsFirstFine r from to None
+  -- none is left
+  pub fine_none : IsFirstAllowed f day (to +ℤ pos 1) None → HasNone (chosen_of r.rule Moments r.start) from (to +ℤ pos 1)
   fine_none h =
       join (chosen_of r.rule Moments r.start) from day (to +ℤ pos 1) before
       (none_allowed r.rule r.start day (to +ℤ pos 1) (λ d l m. allowed_at d ∙ h d l m))
 
-  pub fine_some : (found : ℤ) → from ≤ℤ day → day ≤ℤ to → found ≡ day → IsFirstAllowed f day (to +ℤ pos 1) (Some found) → IsFirstFine r from to (Some day)
-  fine_some found late low e h = (late, low, before, allowed_at day ∙ (rw e at h.2))
-
+  -- the next one is later
   pub fine_more : (found next : ℤ) → IsFirstAllowed f day (to +ℤ pos 1) (Some found) → HasNone (chosen_of r.rule Moments r.start) found next
       → HasNone (chosen_of r.rule Moments r.start) from next
   fine_more found next h after =

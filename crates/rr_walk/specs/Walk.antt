@@ -6,11 +6,11 @@ use Rattle.rr_model.specs.Moment.{day_part, moment_at, second_part}
 use Rattle.rr_model.specs.Moment.Units.{unit_number}
 use Rattle.rr_model.specs.Rising.Sets.{IsSetOf}
 use Rattle.rr_model.specs.declared.kind.Kind.{Kind}
-use Rattle.rr_model.specs.declared.kind.Kind.TheVariants.{Days, Moments}
+use Rattle.rr_model.specs.declared.kind.Kind.TheVariants.{Days}
 use Rattle.rr_model.specs.declared.rule.Rule.{Rule}
 use Rattle.rr_model.specs.Rule.DaysAndTimes.{seconds_of}
-use Rattle.rr_model.specs.Sets.Tree.{Tree, chosen_of, stands_at}
-use Rattle.rr_walk.specs.Ruling.{AllowsDay, IsTimeOf, Ruling}
+use Rattle.rr_model.specs.Sets.Tree.{Tree, stands_at}
+use Rattle.rr_walk.specs.Ruling.{IsTimeOf, Ruling}
 use Rattle.rr_walk.specs.Steps.{tree_of_ruling}
 use Rattle.rr_lazy.specs.declared.occupied_day.OccupiedDay.{OccupiedDay}
 use Rattle.rr_lazy.specs.Next.{HasNone, IsFirstOccupied, IsInTable, with_set}
@@ -83,13 +83,6 @@ IsDayOfTimes sets day times (Some found) = (found.day ≡ day) × (times ≡ [] 
 abbrev pub IsDayWith : List (List ℕ) → (ℕ → Type 0) → ℤ → Option OccupiedDay → Type 0
 IsDayWith sets P day None = ⊥
 IsDayWith sets P day (Some found) = (found.day ≡ day) × IsInTable sets found × IsSetOf nat_lt (with_set sets found).times P
-
--- no candidate of a finer rule lies on a day from one on up to another, or this is the first day on which one can lie: it is allowed
-abbrev pub IsFirstFine : Ruling → ℤ → ℤ → Option ℤ → Type 0
-IsFirstFine r from to None = HasNone (chosen_of r.rule Moments r.start) from (to +ℤ pos 1)
-IsFirstFine r from to (Some day) =
-    (from ≤ℤ day) × (day ≤ℤ to) × HasNone (chosen_of r.rule Moments r.start) from day
-    × AllowsDay r day
 
 -- the first occupied day of a unit from a day on, None where there is none
 abbrev pub IsFirstIn : Tree → Rule → ℤ → ℤ → Option DayTimes → Type 0

@@ -84,6 +84,8 @@ impl RuleWalk for DayRule {
 
     ghost keeps = { λ s sets. KnowsTimes s sets };
 
+    ghost more = { λ s old new more k. keeps_more s 0 _ old new more k };
+
     ghost of_whole_days = { true };
 
     fn new(alloc: Global, rule: &Rule, kind: Kind, start: i64) -> Result<DayRule, NoMemory> {
@@ -128,8 +130,6 @@ impl RuleWalk for DayRule {
             self.first_at_positions(alloc, sets, from, to)
         }
     }
-
-    ghost more = { λ s old new more k. keeps_more s 0 _ old new more k };
 }
 
 impl DayRule {
@@ -239,12 +239,10 @@ impl DayRule {
             let times = TimeSet::cut(alloc, &self.times, first, END_OF_DAY)?;
             return day_of_times(sets, day, times);
         }
-        let count = self.times.as_slice().len();
-        if count == 0 {
+        if self.times.as_slice().is_empty() {
             return Ok(None);
         }
-        let number = self.number_of_times(alloc, sets)?;
-        Ok(Some(OccupiedDay { day, number, count }))
+        self.with_times(alloc, sets, day)
     }
 
     // A day with the seconds of each candidate day.

@@ -12,7 +12,7 @@ ghost use Rattle.rr_shapes.specs.declared.ids.SetId.{SetId};
 ghost use Rattle.rr_lazy.specs.Next.{HasNone, IsNextIn};
 ghost use Rattle.rr_walk.specs.Ruling.{AllowsDay, IsChosenSecond, IsSameRuling, IsSetAt, KnowsUnitOffsets, at_moments, unit_offset};
 ghost use Rattle.rr_walk.specs.Steps.{HasBegun, tree_of_ruling};
-ghost use Rattle.rr_walk.specs.Walk.{IsFirstFine, IsFirstSecond, IsFirstUpToIn, IsOnDayIn};
+ghost use Rattle.rr_walk.specs.Walk.{IsFirstSecond, IsFirstUpToIn, IsOnDayIn};
 
 use crate::day_rule::{END_OF_DAY, day_of_times, first_second};
 use crate::offsets::{at_offsets, chosen_offsets};
@@ -65,6 +65,8 @@ impl RuleWalk for FineRule {
 
     ghost keeps = { λ s sets. KnowsUnitOffsets s sets };
 
+    ghost more = { λ s old new more k. unit_offsets_more s old new more k };
+
     ghost of_whole_days = { false };
 
     fn new(alloc: Global, rule: &Rule, kind: Kind, start: i64) -> Result<FineRule, NoMemory> {
@@ -96,40 +98,24 @@ impl RuleWalk for FineRule {
         from: i64,
         to: i64,
     ) -> Result<Option<OccupiedDay>, NoMemory> {
-        let mut day = from;
-        while let Some(candidate) = self.candidate_from(day, to) {
-            match self.on_day(alloc, sets, candidate)? {
-                None => {}
-                Some(found) => return Ok(Some(found)),
+        let mut day = self.fitting_day(from);
+        while day <= to {
+            match self.allowed.first_from(day, to + 1) {
+                None => return Ok(None),
+                Some(allowed) if day < allowed => day = self.fitting_day(allowed),
+                Some(_) => {
+                    if let Some(found) = self.on_day(alloc, sets, day)? {
+                        return Ok(Some(found));
+                    }
+                    day = self.fitting_day(day + 1);
+                }
             }
-            day = candidate + 1;
         }
         Ok(None)
     }
-
-    ghost more = { λ s old new more k. unit_offsets_more s old new more k };
 }
 
 impl FineRule {
-    // The first allowed day, from a day on and not after another, that has a unit which fits the interval.
-    fn candidate_from(&mut self, from: i64, to: i64) -> Option<i64>
-        requires from { IsDayWithin 0 from }
-        requires to { IsDayWithin 0 (to +ℤ pos 1) }
-        ensures same { self.new ≡ self.old }
-        ensures kind { self.old.kind ≡ Moments }
-        ensures first { IsFirstFine self.old from to result }
-    {
-        let mut day = self.fitting_day(from);
-        while day <= to {
-            let allowed = self.allowed.first_from(day, to + 1)?;
-            if allowed <= day {
-                return Some(day);
-            }
-            day = self.fitting_day(allowed);
-        }
-        None
-    }
-
     // The first day from this one on that has a unit which fits the interval.
     fn fitting_day(&self, day: i64) -> i64
         requires { IsDayWithin 1000 day }

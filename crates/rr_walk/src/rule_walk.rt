@@ -24,6 +24,10 @@ pub trait RuleWalk: Sized {
     /// The numbers that it keeps are those of this table.
     ghost keeps: { Self → List (List ℕ) → Type 0 };
 
+    /// What it keeps of a table it keeps of one that goes on.
+    ghost more: { (s : Self) (old new : List (List ℕ)) → Extends old new
+        → keeps s old → keeps s new };
+
     /// Whether its rules are of whole days.
     ghost of_whole_days: { Bool };
 
@@ -57,8 +61,4 @@ pub trait RuleWalk: Sized {
         ensures kept { Extends sets.old sets.new }
         ensures found { IfOk result
             (IsFirstUpToIn sets.new (tree_of_ruling (ruling self.old)) from to) };
-
-    /// What it keeps of a table it keeps of one that goes on.
-    ghost more: { (s : Self) (old new : List (List ℕ)) → Extends old new
-        → keeps s old → keeps s new };
 }
