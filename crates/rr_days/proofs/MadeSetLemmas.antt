@@ -1,5 +1,5 @@
 -- Sets of seconds that are made of two, and their numbers.
-use Rattle.std.proofs.Common.{◌≡◌, ◌⊎◌, ℕ, ◌<◌, ◌≤◌, List, [], All, Contains, get_or, length, nat_lt, inl, inr, sym, ap, subst, ◌∙◌, arith}
+use Rattle.std.proofs.Common.{◌≡◌, ◌⊎◌, ℕ, ◌≤◌, List, [], All, Contains, get_or, nat_lt, inl, inr, sym, ap, subst, ◌∙◌, arith}
 use Rattle.std.specs.Prelude.{Err, IfOk, Ok, Result}
 use Rattle.std.proofs.lemmas.List.Elements.{All-contains, All-contains_itself, All-weaker}
 use Rattle.std.proofs.lemmas.Option.{get_or_from_slice_get, slice_get_within}
@@ -113,7 +113,10 @@ refused_one X NoMemory op xs ys times sets sets' refused made numbering same = t
 pub left_without_memory : {X : Type 0} (r : Result X Fault) (fault : Fault) (pair : Pair) (number : ℕ) (old new : CombinedSets) → r ≡ Err fault
     → fault ≡ NoMemory → Extends old.shapes new.shapes → AddsOnly old.known new.known (pair, number) → IsLeftOnErr pair old new r
 left_without_memory {X} r fault pair number old new is memory grown only =
-    subst (IsLeftOnErr {X = X} pair old new) (sym (is ∙ ap Err memory)) (grown, λ known now. elim (only known now) [
-      | inl was ↦ inl was
-      | inr e ↦ inr (ap (λ (k : Pair × ℕ). k.0) (sym e))
-    ])
+    subst (IsLeftOnErr {X = X} pair old new) (sym (is ∙ ap Err memory)) (
+      grown,
+      λ known now. elim (only known now) [
+        | inl was ↦ inl was
+        | inr e ↦ inr (ap (λ (k : Pair × ℕ). k.0) (sym e))
+      ],
+    )

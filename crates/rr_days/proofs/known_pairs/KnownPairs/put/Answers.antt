@@ -1,4 +1,4 @@
-use Rattle.std.proofs.Common.{◌≡◌, sym, subst, All, Contains}
+use Rattle.std.proofs.Common.{sym, subst, All, Contains}
 use Rattle.rr_shapes.specs.Tables.{AddsOnly, IsUnknown, KeepsAll}
 use Rattle.rr_days.proofs.MadeSetLemmas.{new_kept, recent_known}
 use Rattle.rr_days.proofs.known_pairs.KnownPairs.put.Goals as goal
