@@ -34,7 +34,7 @@ fn number_on<A: DaySeq>(seq: &A, day: i64) -> usize
     }
 }
 
-// The number of what holds of both sets of a day.
+// The number of what the operation makes of the sets of a day.
 fn number_of<A: DaySeq, B: DaySeq>(
     sets: &mut CombinedSets,
     alloc: Global,

@@ -1,7 +1,7 @@
 -- Sets of seconds that are made of two, and their numbers.
-use Rattle.std.proofs.Common.{◌≡◌, ◌⊎◌, ℕ, ◌<◌, ◌≤◌, List, [], ◌++◌, All, Contains, get_or, length, nat_lt, inl, inr, sym, subst, arith}
+use Rattle.std.proofs.Common.{◌≡◌, ◌⊎◌, ℕ, ◌≤◌, List, [], All, Contains, get_or, nat_lt, inl, inr, sym, ap, subst, ◌∙◌, arith}
 use Rattle.std.specs.Prelude.{Err, IfOk, Ok, Result}
-use Rattle.std.proofs.lemmas.List.Elements.{All-contains, All-contains_itself, Contains-append_cases, Contains-append_left, Contains-append_right}
+use Rattle.std.proofs.lemmas.List.Elements.{All-contains, All-contains_itself, All-weaker}
 use Rattle.std.proofs.lemmas.Option.{get_or_from_slice_get, slice_get_within}
 use Rattle.rr_model.specs.Answers.{RefusedExactlyWhere}
 use Rattle.rr_model.specs.Rising.Sets.{IsSetOf}
@@ -12,9 +12,10 @@ use Rattle.rr_model.specs.declared.refusal.Fault.TheVariants.{Refused, NoMemory}
 use Rattle.rr_model.specs.declared.refusal.Refusal.TheVariants.{TooManyMoments}
 use Rattle.rr_shapes.specs.Numbering.{IsNumbering}
 use Rattle.rr_shapes.specs.Placing.{IsTooMany}
-use Rattle.rr_shapes.specs.Tables.{Extends}
+use Rattle.rr_shapes.specs.Tables.{AddsOnly, Extends, IsUnknown, KeepsAll, KeepsOthers}
 use Rattle.rr_shapes.specs.declared.pair_numbers.Pair.{Pair}
-use Rattle.rr_days.specs.MadeSets.{AreKnown, IsMadeOf, IsMadeSet, IsNumberOf, IsOneTooMany, RefusedOnlyWhere}
+use Rattle.rr_days.specs.MadeSets.{AreKnown, IsLeftOnErr, IsMadeOf, IsMadeSet, IsNumberOf, IsOneTooMany, RefusedOnlyWhere}
+use Rattle.rr_days.specs.declared.combined_sets.CombinedSets.{CombinedSets}
 use Rattle.rr_days.specs.declared.op.Op.{Op}
 use Rattle.rr_days.specs.declared.op.Op.TheVariants.{Common}
 use Rattle.rr_shapes.proofs.ShapeLemmas.{placed_extends}
@@ -40,19 +41,17 @@ module _ (old new : List (List ℕ)) (more : Extends old new) where
   known_kept : (op : Op) (one other : List (List ℕ)) (known : List (Pair × ℕ)) → AreKnown op one other old known → AreKnown op one other new known
   known_kept op one other known are k d l = let u = are k d l in (u.0, number_kept op _ _ _ u.1)
 
--- what is in two lists then was in them, or is the new one
-pub only_put : {X : Type 0} (all all' recent recent' : List X) (e : X) → ((k : X) → Contains all' k → Contains all k ⊎ (e ≡ k))
-    → All (λ k. Contains recent k ⊎ (e ≡ k)) recent' → (k : X) → Contains (all' ++ recent') k → Contains (all ++ recent) k ⊎ (e ≡ k)
-only_put {X} all all' recent recent' e only kept k c = elim (Contains-append_cases all' recent' k c) [
-  | inl a ↦ elim (only k a) [
-    | inl was ↦ inl (Contains-append_left all recent k was)
-    | inr new ↦ inr new
-  ]
-  | inr b ↦ elim (All-contains (λ (k : X). Contains recent k ⊎ (e ≡ k)) recent' k kept b) [
-    | inl was ↦ inl (Contains-append_right all recent k was)
-    | inr new ↦ inr new
-  ]
-]
+-- where a pair was not known, all that was known of others is all that was known
+pub new_kept : (old new : List (Pair × ℕ)) (pair : Pair) → IsUnknown old pair → KeepsOthers old new pair → KeepsAll old new
+new_kept old new pair unknown kept known was = kept known was (λ same. unknown known.1 (subst (λ p. Contains old (p, known.1)) same was))
+
+-- what a list holds, of entries that were known and a new one, is known with that one
+pub recent_known : {X : Type 0} (all all' recent recent' : List X) (e : X) → All (Contains all) recent → ((k : X) → Contains all k → Contains all' k)
+    → Contains all' e → All (λ k. Contains recent k ⊎ (e ≡ k)) recent' → All (Contains all') recent'
+recent_known {X} all all' recent recent' e known kept there only = All-weaker (λ (k : X). Contains recent k ⊎ (e ≡ k)) (Contains all') (λ k is. elim is [
+  | inl was ↦ kept k (All-contains (Contains all) recent k known was)
+  | inr new ↦ subst (Contains all') new there
+]) recent' only
 
 known_put : (op : Op) (one other sets : List (List ℕ)) (known new : List (Pair × ℕ)) (pair : Pair) (number : ℕ) → AreKnown op one other sets known
     → number ≤ 4_294_967_295 → IsNumberOf op (get_or one pair.a []) (get_or other pair.b []) sets number
@@ -107,3 +106,17 @@ pub refused_one : (X : Type 0) (fault : Fault) (op : Op) (xs ys times : List ℕ
 refused_one X (Refused refusal) op xs ys times sets sets' refused made numbering same =
     (refused.0, record { times = times; made = made; many = refused.1; numbering = subst IsNumbering same numbering })
 refused_one X NoMemory op xs ys times sets sets' refused made numbering same = tt
+
+-- ---- what an error leaves
+
+-- without memory each set has its number, and only the pair has come to be known
+pub left_without_memory : {X : Type 0} (r : Result X Fault) (fault : Fault) (pair : Pair) (number : ℕ) (old new : CombinedSets) → r ≡ Err fault
+    → fault ≡ NoMemory → Extends old.shapes new.shapes → AddsOnly old.known new.known (pair, number) → IsLeftOnErr pair old new r
+left_without_memory {X} r fault pair number old new is memory grown only =
+    subst (IsLeftOnErr {X = X} pair old new) (sym (is ∙ ap Err memory)) (
+      grown,
+      λ known now. elim (only known now) [
+        | inl was ↦ inl was
+        | inr e ↦ inr (ap (λ (k : Pair × ℕ). k.0) (sym e))
+      ],
+    )

@@ -6,6 +6,7 @@ use Rattle.rr_model.specs.declared.refusal.Fault.TheVariants.{Refused, NoMemory}
 use Rattle.rr_model.specs.declared.refusal.Refusal.TheVariants.{TooManyMoments}
 use Rattle.rr_shapes.specs.Numbering.{IsNumbering}
 use Rattle.rr_shapes.specs.Placing.{IsPlaced, IsTooMany}
+use Rattle.rr_shapes.specs.Tables.{Extends}
 use Rattle.rr_shapes.specs.declared.pair_numbers.Pair.{Pair}
 use Rattle.rr_days.specs.declared.combined_sets.CombinedSets.{CombinedSets}
 use Rattle.rr_days.specs.declared.op.Op.{Op}
@@ -59,3 +60,10 @@ abbrev pub RefusedOnlyWhere : {X : Type 0} → Type 0 → Result X Fault → Typ
 RefusedOnlyWhere P (Ok x) = ⊤
 RefusedOnlyWhere P (Err (Refused refusal)) = (refusal ≡ TooManyMoments) × P
 RefusedOnlyWhere P (Err NoMemory) = ⊤
+
+-- too many moments leave all as it was; without memory each set keeps its number, and no other pair than this one has come to be known
+abbrev pub IsLeftOnErr : {X : Type 0} → Pair → CombinedSets → CombinedSets → Result X Fault → Type 0
+IsLeftOnErr pair old new (Ok x) = ⊤
+IsLeftOnErr pair old new (Err (Refused refusal)) = new ≡ old
+IsLeftOnErr pair old new (Err NoMemory) =
+    Extends old.shapes new.shapes × ((known : Pair × ℕ) → Contains new.known known → Contains old.known known ⊎ (known.0 ≡ pair))

@@ -1,10 +1,11 @@
 // Sets of seconds that are made of two sets, each pair once.
-ghost use Rattle.std.specs.Prelude.{◌≡◌, ◌≤◌, ◌∷◌, [], Contains, IfOk, IfSome};
+ghost use Rattle.std.specs.Prelude.{◌≡◌, ◌≤◌, ◌∷◌, [], Contains, IfNone, IfOk, IfSome};
 ghost use Rattle.rr_model.specs.Rising.Sets.{IsSecondsOfDay};
 ghost use Rattle.rr_model.specs.Sets.Sizes.{total_size};
 ghost use Rattle.rr_model.specs.declared.limits.TheConstants.{MAX_SECONDS};
 ghost use Rattle.rr_shapes.specs.Numbering.{IsNumbering};
-ghost use Rattle.rr_days.specs.MadeSets.{AreSetNumbers, IsMadeOf, IsMadeSet, IsOneTooMany, KeepsKnown, RefusedOnlyWhere};
+ghost use Rattle.rr_shapes.specs.Tables.{IsUnknown, KeepsAll};
+ghost use Rattle.rr_days.specs.MadeSets.{AreSetNumbers, IsLeftOnErr, IsMadeOf, IsMadeSet, IsOneTooMany, KeepsKnown, RefusedOnlyWhere};
 
 use crate::known_pairs::KnownPairs;
 use crate::op::Op;
@@ -30,7 +31,7 @@ fn common_part(alloc: Global, a: &TimeSet, b: &TimeSet) -> Result<TimeSet, NoMem
     TimeSet::without(alloc, a, &rest)
 }
 
-// What holds of two sets of seconds.
+// What the operation makes of two sets of seconds.
 fn made_of(alloc: Global, op: Op, a: &[u32], b: &[u32]) -> Result<TimeSet, NoMemory>
     requires a { IsSecondsOfDay a.now }
     requires b { IsSecondsOfDay b.now }
@@ -58,10 +59,11 @@ impl CombinedSets {
         })
     }
 
-    /// The number of the set that is made of a pair, where it is known.
+    /// The number of the set that is made of a pair, which is found wherever one is known.
     pub fn known_number(&mut self, pair: Pair) -> Option<FoldedSetId>
         requires numbers { AreSetNumbers self.old.known }
         ensures known { IfSome result (λ set. Contains self.old.known (pair, set.number)) }
+        ensures unknown { IfNone result (IsUnknown self.old.known pair) }
         ensures unchanged { self.new ≡ self.old }
     {
         let number = self.known.get(pair)?;
@@ -72,7 +74,8 @@ impl CombinedSets {
 
     /// Makes the set of a pair that is not known, and remembers its number.
     ///
-    /// After `TooManyMoments` all is as it was. After `NoMemory` the set may be there, and its pair not known.
+    /// After `TooManyMoments` all is as it was. After `NoMemory` each set keeps its number and what was known still is: the
+    /// set of the pair may be there, and its number known or not.
     pub fn put_made(
         &mut self,
         alloc: Global,
@@ -83,9 +86,13 @@ impl CombinedSets {
     ) -> Result<FoldedSetId, Fault>
         requires a { IsSecondsOfDay a.now }
         requires b { IsSecondsOfDay b.now }
+        requires new { IsUnknown self.old.known pair }
         ensures made { IfOk result
             (λ set. IsMadeSet op a.now b.now self.old.shapes self.new.shapes set.number) }
         ensures known { IfOk result (λ set. KeepsKnown op pair a.now b.now self.old self.new) }
+        ensures remembered { IfOk result (λ set. Contains self.new.known (pair, set.number)) }
+        ensures kept { KeepsAll self.old.known self.new.known }
+        ensures left { IsLeftOnErr pair self.old self.new result }
         ensures refused { RefusedOnlyWhere (IsOneTooMany op a.now b.now self.old.shapes) result }
         ensures numbering { IfOk result (λ set. IsNumbering self.new.shapes) }
         ensures room { IfOk result (λ set. total_size self.new.shapes ≤ MAX_SECONDS) }

@@ -1,6 +1,6 @@
 // Which sets are made of which two.
-ghost use Rattle.std.specs.Prelude.{◌≡◌, ◌⊎◌, [], All, Contains, IfSome, OnOk};
-ghost use Rattle.rr_shapes.specs.Tables.{AddsOnly};
+ghost use Rattle.std.specs.Prelude.{◌≡◌, ◌⊎◌, [], All, Contains, IfNone, IfSome, OnOk};
+ghost use Rattle.rr_shapes.specs.Tables.{AddsOnly, IsUnknown, KeepsAll};
 
 use rr_model::NoMemory;
 use rr_shapes::{Pair, PairNumbers};
@@ -15,22 +15,25 @@ const RECENT: usize = 128;
 #[derive(Drop)]
 pub struct KnownPairs {
     all: PairNumbers,
+    // Some of them again, each of them known.
     recent: Vec<(Pair, usize)>,
 }
 
 impl Model for KnownPairs {
-    ghost use Rattle.std.specs.Prelude.{ℕ, List, ◌++◌};
+    ghost use Rattle.std.specs.Prelude.{ℕ, List, All, Contains};
     ghost use Rattle.rr_shapes.specs.declared.pair_numbers.Pair.{Pair};
 
     ghost Value = { List (Pair × ℕ) };
 
-    ghost view = { λ k. k.all ++ k.recent.items };
+    ghost view = { λ k. k.all };
+
+    ghost invariant = { λ k. All (Contains k.all) k.recent.items };
 }
 
 // Keeps a pair with its number at the index that the number of the first set gives.
 fn keep(recent: &mut Vec<(Pair, usize)>, pair: Pair, number: usize) -> Result<(), NoMemory>
-    ensures { OnOk result (All (λ known. Contains recent.old.items known
-        ⊎ ((pair, number) ≡ known)) recent.new.items) }
+    ensures { All (λ known. Contains recent.old.items known
+        ⊎ ((pair, number) ≡ known)) recent.new.items }
 {
     let index = pair.a % RECENT;
     if recent.len() <= index {
@@ -51,9 +54,10 @@ impl KnownPairs {
         }
     }
 
-    /// The number of the set that is made of a pair, where it is known.
+    /// The number of the set that is made of a pair, which is found wherever one is known.
     pub fn get(&mut self, pair: Pair) -> Option<usize>
         ensures known { IfSome result (λ n. Contains self.old (pair, n)) }
+        ensures unknown { IfNone result (IsUnknown self.old pair) }
         ensures unchanged { self.new ≡ self.old }
     {
         if let Some((known, number)) = self.recent.get(pair.a % RECENT) {
@@ -64,9 +68,12 @@ impl KnownPairs {
         self.all.get(pair)
     }
 
-    /// Remembers the number of the set that is made of a pair.
+    /// Remembers the number of the set that is made of a pair of which none is known. Without memory it may be known or not.
     pub fn put(&mut self, pair: Pair, number: usize) -> Result<(), NoMemory>
-        ensures { OnOk result (AddsOnly self.old self.new (pair, number)) }
+        requires new { IsUnknown self.old pair }
+        ensures there { OnOk result (Contains self.new (pair, number)) }
+        ensures nothing_else { AddsOnly self.old self.new (pair, number) }
+        ensures kept { KeepsAll self.old self.new }
     {
         self.all.put(pair, number)?;
         keep(&mut self.recent, pair, number)?;

@@ -1,10 +1,12 @@
--- What a map holds after one insertion, and pairs that are equal.
-use Rattle.std.proofs.Common.{◌≡◌, ℕ, Bool, true, false, ◌&&◌, if◌then◌else◌, List, [], ◌∷◌, Contains, Some, nat_eq, slice_get, inl, inr, refl, sym, ap, ◌∙◌, subst, arith}
+-- What a map holds after one insertion, what it does not find, and pairs that are equal.
+use Rattle.std.proofs.Common.{◌≡◌, ℕ, Bool, true, false, cond, ◌&&◌, if◌then◌else◌, List, [], ◌∷◌, Contains, Option, Some, None, nat_eq, slice_get, inl, inr, refl, sym, ap, ◌∙◌, subst, arith}
 use Rattle.std.specs.Prelude.{◌⊎◌}
+use Rattle.std.proofs.lemmas.Bool.{false≢true}
 use Rattle.std.proofs.lemmas.Bool.Decides.{nat_tests}
-use Rattle.std.proofs.lemmas.Option.{slice_get_within, get_or_from_slice_get}
+use Rattle.std.proofs.lemmas.Option.{none-some, slice_get_within, get_or_from_slice_get}
+use Rattle.std.specs.Map.{lookup}
 use Rattle.indexmap.specs.IndexMap.{insert_entry}
-use Rattle.rr_model.proofs.RisingSetLemmas.{Contains-cons_cases, Contains-head, Contains-tail}
+use Rattle.rr_model.proofs.RisingSetLemmas.{Contains-cons_cases, Contains-head, Contains-none, Contains-tail}
 use Rattle.rr_shapes.specs.declared.pair_numbers.Pair.{Pair}
 
 -- the same two numbers
@@ -17,9 +19,27 @@ one_pair p q e =
     let b : p.b ≡ q.b = grind (arith, nat_tests) in
     λ i. record { a = a i; b = b i }
 
+pub same_itself : (p : Pair) → same_pair p p ≡ true
+same_itself p = grind (arith, nat_tests)
+
 -- what stands at a place is there
 pub there : {X : Type 0} (xs : List X) (place : ℕ) (x : X) → slice_get xs place ≡ Some x → Contains xs x
 there xs place x e = (place, slice_get_within xs place x e, get_or_from_slice_get xs place x x e)
+
+-- where the search for a key finds nothing, no entry has a key that passes
+pub finds_none : {K V : Type 0} (test : K → Bool) (es : List (K × V)) (k : K) (v : V) → test k ≡ true → lookup test es ≡ None → Contains es (k, v) → ⊥
+finds_none test [] k v passes none c = Contains-none (k, v) c
+finds_none {K} {V} test (e ∷ es) k v passes none c = by (finds_none test es k v passes) (test e.0) refl
+  where
+    found : Bool → Option V
+    found b = cond b (Some e.1) (lookup test es)
+
+    by : (lookup test es ≡ None → Contains es (k, v) → ⊥) → (b : Bool) → test e.0 ≡ b → ⊥
+    by rest true t = none-some e.1 (sym none ∙ ap found t)
+    by rest false f = elim (Contains-cons_cases e es (k, v) c) [
+      | inl q ↦ false≢true (sym f ∙ ap (λ (x : K × V). test x.0) q ∙ passes)
+      | inr d ↦ rest (sym (ap found f) ∙ none) d
+    ]
 
 module _ {K V : Type 0} (eq : K → K → Bool) (same : (x y : K) → eq x y ≡ true → x ≡ y) (k : K) (v : V) where
   -- an entry after the insertion was there before, or is the new one
@@ -62,3 +82,21 @@ module _ {K V : Type 0} (eq : K → K → Bool) (same : (x y : K) → eq x y ≡
       by rest true t =
           subst (λ l. Contains l (k, v)) (sym (ap after t)) (subst (Contains ((e.0, v) ∷ es)) (ap (λ x. (x, v)) (sym (same k e.0 t))) (Contains-head (e.0, v) es))
       by rest false f = subst (λ l. Contains l (k, v)) (sym (ap after f)) (Contains-tail e (insert_entry eq es k v) (k, v) rest)
+
+  -- an entry of another key stays
+  pub inserted_keeps : (es : List (K × V)) (known : K × V) → Contains es known → (known.0 ≡ k → ⊥) → Contains (insert_entry eq es k v) known
+  inserted_keeps [] known c other = absurd (Contains-none known c)
+  inserted_keeps (e ∷ es) known c other = by (λ d. inserted_keeps es known d other) (eq k e.0) refl
+    where
+      after : Bool → List (K × V)
+      after b = if b then (e.0, v) ∷ es else e ∷ insert_entry eq es k v
+
+      by : (Contains es known → Contains (insert_entry eq es k v) known) → (b : Bool) → eq k e.0 ≡ b → Contains (insert_entry eq (e ∷ es) k v) known
+      by rest true t = subst (λ l. Contains l known) (sym (ap after t)) (elim (Contains-cons_cases e es known c) [
+        | inl q ↦ absurd (other (ap (λ (x : K × V). x.0) (sym q) ∙ sym (same k e.0 t)))
+        | inr d ↦ Contains-tail (e.0, v) es known d
+      ])
+      by rest false f = subst (λ l. Contains l known) (sym (ap after f)) (elim (Contains-cons_cases e es known c) [
+        | inl q ↦ subst (Contains (e ∷ insert_entry eq es k v)) q (Contains-head e (insert_entry eq es k v))
+        | inr d ↦ Contains-tail e (insert_entry eq es k v) known (rest d)
+      ])

@@ -12,6 +12,18 @@ Extends old new = (number : ℕ) (times : List ℕ) → slice_get old number ≡
 abbrev pub AddsOnly : List (Pair × ℕ) → List (Pair × ℕ) → Pair × ℕ → Type 0
 AddsOnly old new entry = (known : Pair × ℕ) → Contains new known → Contains old known ⊎ (entry ≡ known)
 
+-- no number of this pair is known
+abbrev pub IsUnknown : List (Pair × ℕ) → Pair → Type 0
+IsUnknown known pair = (number : ℕ) → Contains known (pair, number) → ⊥
+
+-- all that was known of pairs still is
+abbrev pub KeepsAll : List (Pair × ℕ) → List (Pair × ℕ) → Type 0
+KeepsAll old new = (known : Pair × ℕ) → Contains old known → Contains new known
+
+-- all that was known of pairs still is, but perhaps of this one
+abbrev pub KeepsOthers : List (Pair × ℕ) → List (Pair × ℕ) → Pair → Type 0
+KeepsOthers old new pair = (known : Pair × ℕ) → Contains old known → ¬ known.0 ≡ pair → Contains new known
+
 -- the set of one number is the union of those of two others
 pub record IsUnion (sets : List (List ℕ)) (known : Pair × ℕ) : Type 0 where
   pub a : known.0.a < length sets

@@ -1,6 +1,6 @@
 // Numbers by pairs of numbers: which set is made of which two.
-ghost use Rattle.std.specs.Prelude.{◌≡◌, [], Contains, IfSome, OnOk};
-ghost use Rattle.rr_shapes.specs.Tables.{AddsOnly};
+ghost use Rattle.std.specs.Prelude.{◌≡◌, [], Contains, IfNone, IfSome, OnErr, OnOk};
+ghost use Rattle.rr_shapes.specs.Tables.{AddsOnly, IsUnknown, KeepsOthers};
 
 use indexmap::IndexMap;
 use rr_model::NoMemory;
@@ -45,9 +45,10 @@ impl PairNumbers {
         }
     }
 
-    /// The number of a pair, where it is known. The pair that was asked for last is looked for nowhere else.
+    /// The number of a pair, which is found wherever one is known. The pair that was asked for last is looked for nowhere else.
     pub fn get(&mut self, pair: Pair) -> Option<usize>
         ensures known { IfSome result (λ n. Contains self.old (pair, n)) }
+        ensures unknown { IfNone result (IsUnknown self.old pair) }
         ensures unchanged { self.new ≡ self.old }
     {
         if let Some((known, number)) = self.known.get_index(self.last) {
@@ -61,10 +62,12 @@ impl PairNumbers {
         Some(number)
     }
 
-    /// Remembers the number of a pair, which becomes the pair that was asked for last.
+    /// Remembers the number of a pair, in the place of one that it has, if any. Without memory all is as it was.
     pub fn put(&mut self, pair: Pair, number: usize) -> Result<(), NoMemory>
         ensures there { OnOk result (Contains self.new (pair, number)) }
         ensures nothing_else { AddsOnly self.old self.new (pair, number) }
+        ensures kept { KeepsOthers self.old self.new pair }
+        ensures unchanged { OnErr result (self.new ≡ self.old) }
     {
         let Ok((index, _)) = self.known.insert_full(pair, number) else {
             return Err(NoMemory);

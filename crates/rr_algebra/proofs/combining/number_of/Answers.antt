@@ -5,6 +5,7 @@ use Rattle.rr_model.specs.Rising.Sets.{IsSecondsOfDay}
 use Rattle.rr_model.specs.Sets.Sketch.{times_on}
 use Rattle.rr_model.specs.declared.sketch.Sketch.{Sketch}
 use Rattle.rr_shapes.specs.Numbering.{IsNumbering}
+use Rattle.rr_shapes.specs.Tables.{IsUnknown}
 use Rattle.rr_shapes.specs.declared.pair_numbers.Pair.{Pair}
 use Rattle.rr_days.specs.MadeSets.{AreKnown, IsMadeSet, KeepsKnown}
 use Rattle.rr_days.specs.declared.combined_sets.CombinedSets.{CombinedSets}
@@ -23,6 +24,11 @@ made_on op s u stored day xs ys was old new number is first second same made =
     subst (λ (o : CombinedSets). IsMadeSet op (times_on s day) (times_on u day) o.shapes new number) same
     (subst (λ x. IsMadeSet op x (times_on u day) was.shapes new number) (first ∙ ap (times_on s) is)
     (subst (λ y. IsMadeSet op xs y was.shapes new number) (second ∙ ap (times_on u) is) made))
+
+pub put_made-requires-clause-new : goal.put_made-requires-clause-new
+put_made-requires-clause-new g c =
+    let pair : Pair = record { a = c.number_on.result; b = c.number_on-2.result } in
+    subst (λ (k : CombinedSets). IsUnknown k.known pair) (sym c.known_number.ensures.unchanged) c.in_default.ensures.unknown
 
 pub returns-clause-sets : goal.returns-clause-sets
 returns-clause-sets g c =

@@ -3,6 +3,7 @@ use Rattle.std.proofs.lemmas.Option.{get_or_from_slice_get}
 use Rattle.std.proofs.lemmas.Result.{IfOk-weaker}
 use Rattle.rr_model.specs.Sets.Sizes.{total_size}
 use Rattle.rr_model.specs.declared.limits.TheConstants.{MAX_SECONDS}
+use Rattle.rr_shapes.specs.Tables.{IsUnknown}
 use Rattle.rr_shapes.specs.declared.pair_numbers.Pair.{Pair}
 use Rattle.rr_days.specs.MadeSets.{AreKnown, IsMadeSet, IsNumberOf, KeepsKnown}
 use Rattle.rr_days.specs.declared.combined_sets.CombinedSets.{CombinedSets}
@@ -11,6 +12,11 @@ use Rattle.rr_days.proofs.PlacedLemmas.{placed_grown}
 use Rattle.rr_shapes.proofs.ShapeLemmas.{placed_extends}
 use Rattle.rr_fold.proofs.CombinedLemmas.{shapes_kept}
 use Rattle.rr_fold.proofs.combination.number_of.Goals as goal
+
+pub put_made-requires-clause-new : goal.put_made-requires-clause-new
+put_made-requires-clause-new c =
+    let pair : Pair = record { a = c.args.a.number; b = c.args.b.number } in
+    subst (λ (k : CombinedSets). IsUnknown k.known pair) (sym c.known_number.ensures.unchanged) c.in_default.ensures.unknown
 
 pub returns-clause-shapes : goal.returns-clause-shapes
 returns-clause-shapes c =

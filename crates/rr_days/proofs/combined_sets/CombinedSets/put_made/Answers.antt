@@ -1,6 +1,8 @@
 use Rattle.std.proofs.Common.{rules, ◌≤◌, ℕ}
 use Rattle.rr_days.specs.MadeSets.{IsMadeSet}
-use Rattle.rr_days.proofs.MadeSetLemmas.{made_known, refused_one}
+use Rattle.std.proofs.lemmas.Result.{err_from_is_err_and}
+use Rattle.rr_shapes.proofs.ShapeLemmas.{placed_extends}
+use Rattle.rr_days.proofs.MadeSetLemmas.{left_without_memory, made_known, refused_one}
 use Rattle.rr_days.proofs.combined_sets.CombinedSets.put_made.Goals as goal
 
 pub returns-in_ok-put-in-Ok-clause-made : goal.returns-in_ok-put-in-Ok-clause-made
@@ -14,9 +16,15 @@ returns-in_ok-put-in-Ok-clause-known c =
     record { times = c.in_ok-made.made; made = c.in_ok-made.ensures; placed = c.in-Ok.ensures.placed } in
     let small : c.in-Ok.set.number ≤ 4_294_967_295 = search rules in
     made_known c.args.op c.args.pair c.args.a.now c.args.b.now old new c.args.self.now.known c.put.new.self c.in-Ok.set.number set small
-    c.in_ok-put-in-Ok.ensures
+    c.in_ok-put-in-Ok.ensures.nothing_else
 
 pub returns-in-Err-clause-refused : goal.returns-in-Err-clause-refused
 returns-in-Err-clause-refused c =
     refused_one ℕ c.in-Err.fault c.args.op c.args.a.now c.args.b.now c.in_ok-made.made c.args.self.now.shapes c.place.new.self c.in-Err.ensures.refused
     c.in_ok-made.ensures c.in-Err.ensures.numbering c.in-Err.ensures.unchanged
+
+pub returns-in_err-put-in-Ok-clause-left : goal.returns-in_err-put-in-Ok-clause-left
+returns-in_err-put-in-Ok-clause-left c =
+    let p = err_from_is_err_and c.from_residual-in_err-put-in-Ok.result c.from_residual-in_err-put-in-Ok.ensures.1 in
+    left_without_memory c.from_residual-in_err-put-in-Ok.result p.0 c.args.pair c.in-Ok.set.number c.args.self.now _ p.1 p.2
+    (placed_extends c.in_ok-made.made c.args.self.now.shapes c.place.new.self c.in-Ok.set.number c.in-Ok.ensures.placed) c.put.ensures.nothing_else

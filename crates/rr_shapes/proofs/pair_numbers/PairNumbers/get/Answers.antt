@@ -1,6 +1,7 @@
-use Rattle.std.proofs.Common.{◌≡◌, sym, ap, subst, ◌∙◌, Contains}
+use Rattle.std.proofs.Common.{◌≡◌, sym, ap, subst, ◌∙◌, Contains, IfNone}
 use Rattle.std.proofs.lemmas.Map.Made.{lookup_key_passes}
-use Rattle.rr_shapes.proofs.UnionLemmas.{same_pair, one_pair, there}
+use Rattle.rr_shapes.specs.Tables.{IsUnknown}
+use Rattle.rr_shapes.proofs.UnionLemmas.{finds_none, same_itself, same_pair, one_pair, there}
 use Rattle.rr_shapes.proofs.pair_numbers.PairNumbers.get.Goals as goal
 use Rattle.rr_shapes.proofs.pair_numbers.PairNumbers.get.Goals.{in-Some+else-eq, in_default}
 
@@ -23,3 +24,15 @@ returns-clause-known c =
     subst (λ l. Contains l (k, c.in_ok-index.number.now)) (stays ∙ c.self.view_is)
     (there entries c.in_ok-index.index (k, c.in_ok-index.number.now) c.in_ok-index.ensures.entry)
     )
+
+pub returns-in_err-index-clause-unknown : goal.returns-in_err-index-clause-unknown
+returns-in_err-index-clause-unknown c =
+    let entries = c.match-get_index.self-inside.known.entries in
+    let stays : entries ≡ c.self.inside.known.entries =
+    elim c.match-get_index.branch [
+      | in-Some+else-eq w ↦ ap (λ u. u.known.entries) w.self-inside-is
+      | in_default w ↦ ap (λ u. u.known.entries) w.self-inside-is
+    ] in
+    subst (λ r. IfNone r (IsUnknown c.args.self.now c.args.pair)) (sym c.from_residual.ensures) (λ n known.
+    finds_none (same_pair c.args.pair) entries c.args.pair n (same_itself c.args.pair) (sym c.in_err-index.ensures.value)
+    (subst (λ l. Contains l (c.args.pair, n)) (sym (stays ∙ c.self.view_is)) known))
