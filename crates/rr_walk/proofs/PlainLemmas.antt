@@ -1,10 +1,9 @@
 -- Rules of whole days without set positions, walked over their candidate days.
 use Rattle.std.proofs.Common.{◌≡◌, ◌⊎◌, ℕ, ◌+◌, ◌<◌, ◌≤◌, Bool, true, false, ◌&&◌, List, [], ◌∷◌, length, get_or, Contains, refl}
 use Rattle.std.proofs.Common.{ℤ, pos, nat_abs, ◌+ℤ◌, ◌-ℤ◌, ◌≤ℤ◌, ◌<ℤ◌}
-use Rattle.std.proofs.Common.{sym, subst, ◌∙◌, inl, inr, arith}
-use Rattle.std.specs.Prelude.{◌==◌, Option, Some, None, IsTrue, nat_lt, slice_get}
-use Rattle.std.proofs.lemmas.Bool.Decides.{nat_tests}
-use Rattle.std.proofs.lemmas.List.{nil_from_length}
+use Rattle.std.proofs.Common.{sym, ap, subst, ◌∙◌, inl, inr, arith}
+use Rattle.std.specs.Prelude.{Option, Some, None, IsTrue, nat_lt, slice_get}
+use Rattle.std.proofs.Math.Seq.{take-length}
 use Rattle.std.proofs.lemmas.Int.{ints, by_lt_z}
 use Rattle.std.proofs.lemmas.Option.{get_or_from_slice_get, slice_get_within}
 use Rattle.rr_model.specs.Whole.{divides, floor_mod}
@@ -27,7 +26,7 @@ use Rattle.rr_lazy.specs.Next.{HasNone, IsFirstOccupied, with_set}
 use Rattle.rr_lazy.specs.declared.occupied_day.OccupiedDay.{OccupiedDay}
 use Rattle.rr_shapes.specs.declared.ids.SetId.{SetId}
 use Rattle.rr_walk.specs.Ruling.{IsFirstCandidate, IsFirstCandidateIn, IsFittingUnit, IsPassed, IsSameRuling, KeepsAt, KnowsTimes, Ruling}
-use Rattle.rr_walk.specs.Walk.{IsDayWith, IsFirstSecond, IsFirstUpTo, IsFirstUpToIn, IsOnDay, IsOnDayIn}
+use Rattle.rr_walk.specs.Walk.{IsFirstSecond, IsFirstUpTo, IsFirstUpToIn, IsOnDay, IsOnDayIn}
 use Rattle.rr_walk.proofs.DayListLemmas.{nothing_in}
 use Rattle.rr_walk.proofs.SetPositionLemmas.{chosen_plain}
 use Rattle.rr_walk.proofs.WalkLemmas.{no_candidate, seconds_of_day, unit_mono}
@@ -37,10 +36,6 @@ use Rattle.rr_walk.proofs.WalkLemmas.{no_candidate, seconds_of_day, unit_mono}
 pub few_seconds : (kind : Kind) → seconds_of kind ≤ 86_400
 few_seconds Days = omega arith
 few_seconds Moments = omega arith
-
--- a list whose length is tested is empty
-pub empty_is : (xs : List ℕ) → (length xs == 0) ≡ true → xs ≡ []
-empty_is xs e = let none : length xs ≡ 0 = grind (arith, nat_tests) in nil_from_length xs none
 
 module _ (rule : Rule) (kind : Kind) (start d : ℤ) (coarse : is_whole_days rule.freq ≡ true) (plain : rule.by_set_pos ≡ [])
     (candidate : day_holds rule (day_part kind start) d ≡ true) (times : List ℕ) (set : IsSetOf nat_lt times (IsCandidateTime rule kind start)) where
@@ -59,14 +54,15 @@ module _ (rule : Rule) (kind : Kind) (start d : ℤ) (coarse : is_whole_days rul
       set_same nat_lt (Contains times) (λ s. Contains times s × (0 ≤ s) × (s < 86_400)) times (set_itself nat_lt times set.rises)
       (λ s. ((λ c. (c, omega arith, omega (arith, ((set.exact s).0 c).0, few_seconds kind))), (λ c. c.0))))
 
-  -- a day with all of them
-  pub plain_with : (sets : List (List ℕ)) (found : Option OccupiedDay) → IsFirstSecond kind start d 0 → (times ≡ [] → ⊥)
-      → IsDayWith sets (IsCandidateTime rule kind start) d found → IsOnDayIn sets tree d found
-  plain_with sets None l some with = absurd with
-  plain_with sets (Some f) l some with =
-      let one : (with_set sets f).times ≡ times =
-      one_list_of_seconds (IsCandidateTime rule kind start) (with_set sets f).times times with.2 set in
-      (with.1, (with.0, (λ e. some (sym one ∙ e)), subst (λ xs. IsSetOf nat_lt xs (λ s. IsTrue (stands_at tree d s))) (sym one) (all_seconds l)))
+  -- a day whose seconds have the number of a set
+  pub plain_on : (sets : List (List ℕ)) (f : OccupiedDay) → f.day ≡ d → IsFirstSecond kind start d 0 → f.count ≡ length times → (f.count ≡ 0 → ⊥)
+      → f.number.index < length sets → IsSetOf nat_lt (get_or sets f.number.index []) (IsCandidateTime rule kind start) → IsOnDayIn sets tree d (Some f)
+  plain_on sets f same l all some within kept =
+      let one : get_or sets f.number.index [] ≡ times = one_list_of_seconds (IsCandidateTime rule kind start) (get_or sets f.number.index []) times kept set in
+      let is : (with_set sets f).times ≡ times = rw (one, all) (take-length times) in (
+        (within, rw one (omega (arith, all))),
+        (same, (λ e. some (all ∙ ap length (sym is ∙ e))), subst (λ xs. IsSetOf nat_lt xs (λ s. IsTrue (stands_at tree d s))) (sym is) (all_seconds l)),
+      )
 
   -- no seconds, no day
   pub plain_none : IsFirstSecond kind start d 0 → times ≡ [] → IsOnDay tree d None

@@ -239,10 +239,12 @@ impl DayRule {
             let times = TimeSet::cut(alloc, &self.times, first, END_OF_DAY)?;
             return day_of_times(sets, day, times);
         }
-        if self.times.as_slice().is_empty() {
+        let count = self.times.as_slice().len();
+        if count == 0 {
             return Ok(None);
         }
-        self.with_times(alloc, sets, day)
+        let number = self.number_of_times(alloc, sets)?;
+        Ok(Some(OccupiedDay { day, number, count }))
     }
 
     // A day with the seconds of each candidate day.

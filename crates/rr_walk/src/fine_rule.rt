@@ -117,6 +117,7 @@ impl RuleWalk for FineRule {
 
 impl FineRule {
     // The first day from this one on that has a unit which fits the interval.
+    #[inline(always)]
     fn fitting_day(&self, day: i64) -> i64
         requires { IsDayWithin 1000 day }
         ensures kind { self.now.kind ≡ Moments }
