@@ -109,14 +109,22 @@ refused_one X NoMemory op xs ys times sets sets' refused made numbering same = t
 
 -- ---- what an error leaves
 
--- without memory each set has its number, and only the pair has come to be known
-pub left_without_memory : {X : Type 0} (r : Result X Fault) (fault : Fault) (pair : Pair) (number : ℕ) (old new : CombinedSets) → r ≡ Err fault
-    → fault ≡ NoMemory → Extends old.shapes new.shapes → AddsOnly old.known new.known (pair, number) → IsLeftOnErr pair old new r
-left_without_memory {X} r fault pair number old new is memory grown only =
-    subst (IsLeftOnErr {X = X} pair old new) (sym (is ∙ ap Err memory)) (
-      grown,
-      λ known now. elim (only known now) [
+-- a step that changes nothing leaves all as it was
+pub unchanged_left : {X : Type 0} (r : Result X Fault) (op : Op) (pair : Pair) (xs ys : List ℕ) (old : CombinedSets) (shapes : List (List ℕ))
+    → shapes ≡ old.shapes → IsLeftOnErr op pair xs ys old (record old { shapes = shapes }) r
+unchanged_left (Ok x) op pair xs ys old shapes same = tt
+unchanged_left (Err (Refused refusal)) op pair xs ys old shapes same = ap (λ s. record old { shapes = s }) same
+unchanged_left (Err NoMemory) op pair xs ys old shapes same = record { sets = inl same; known = λ known now. inl now }
+
+-- out of memory after the set has come, only the pair has come to be known
+pub left_with_set : {X : Type 0} (r : Result X Fault) (fault : Fault) (op : Op) (pair : Pair) (xs ys : List ℕ) (number : ℕ) (old new : CombinedSets)
+    → r ≡ Err fault → fault ≡ NoMemory → IsMadeSet op xs ys old.shapes new.shapes number → AddsOnly old.known new.known (pair, number)
+    → IsLeftOnErr op pair xs ys old new r
+left_with_set {X} r fault op pair xs ys number old new is memory made only =
+    subst (IsLeftOnErr {X = X} op pair xs ys old new) (sym (is ∙ ap Err memory)) (record {
+      sets = inr (number, made);
+      known = λ known now. elim (only known now) [
         | inl was ↦ inl was
         | inr e ↦ inr (ap (λ (k : Pair × ℕ). k.0) (sym e))
-      ],
-    )
+      ];
+    })

@@ -6,7 +6,6 @@ use Rattle.rr_model.specs.declared.refusal.Fault.TheVariants.{Refused, NoMemory}
 use Rattle.rr_model.specs.declared.refusal.Refusal.TheVariants.{TooManyMoments}
 use Rattle.rr_shapes.specs.Numbering.{IsNumbering}
 use Rattle.rr_shapes.specs.Placing.{IsPlaced, IsTooMany}
-use Rattle.rr_shapes.specs.Tables.{Extends}
 use Rattle.rr_shapes.specs.declared.pair_numbers.Pair.{Pair}
 use Rattle.rr_days.specs.declared.combined_sets.CombinedSets.{CombinedSets}
 use Rattle.rr_days.specs.declared.op.Op.{Op}
@@ -61,9 +60,13 @@ RefusedOnlyWhere P (Ok x) = ⊤
 RefusedOnlyWhere P (Err (Refused refusal)) = (refusal ≡ TooManyMoments) × P
 RefusedOnlyWhere P (Err NoMemory) = ⊤
 
--- too many moments leave all as it was; without memory each set keeps its number, and no other pair than this one has come to be known
-abbrev pub IsLeftOnErr : {X : Type 0} → Pair → CombinedSets → CombinedSets → Result X Fault → Type 0
-IsLeftOnErr pair old new (Ok x) = ⊤
-IsLeftOnErr pair old new (Err (Refused refusal)) = new ≡ old
-IsLeftOnErr pair old new (Err NoMemory) =
-    Extends old.shapes new.shapes × ((known : Pair × ℕ) → Contains new.known known → Contains old.known known ⊎ (known.0 ≡ pair))
+-- out of memory: no other set has come than one that is made of these two, and no other pair than this one has come to be known
+pub record IsLeftOutOfMemory (op : Op) (pair : Pair) (xs ys : List ℕ) (old new : CombinedSets) : Type 0 where
+  pub sets : (new.shapes ≡ old.shapes) ⊎ ((number : ℕ) × IsMadeSet op xs ys old.shapes new.shapes number)
+  pub known : (known : Pair × ℕ) → Contains new.known known → Contains old.known known ⊎ (known.0 ≡ pair)
+
+-- too many moments leave all as it was
+abbrev pub IsLeftOnErr : {X : Type 0} → Op → Pair → List ℕ → List ℕ → CombinedSets → CombinedSets → Result X Fault → Type 0
+IsLeftOnErr op pair xs ys old new (Ok x) = ⊤
+IsLeftOnErr op pair xs ys old new (Err (Refused refusal)) = new ≡ old
+IsLeftOnErr op pair xs ys old new (Err NoMemory) = IsLeftOutOfMemory op pair xs ys old new

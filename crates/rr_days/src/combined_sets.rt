@@ -74,8 +74,8 @@ impl CombinedSets {
 
     /// Makes the set of a pair that is not known, and remembers its number.
     ///
-    /// After `TooManyMoments` all is as it was. After `NoMemory` each set keeps its number and what was known still is: the
-    /// set of the pair may be there, and its number known or not.
+    /// After `TooManyMoments` all is as it was. After `NoMemory` the set of the pair may be there, and its number known or not;
+    /// nothing else has changed.
     pub fn put_made(
         &mut self,
         alloc: Global,
@@ -92,7 +92,7 @@ impl CombinedSets {
         ensures known { IfOk result (λ set. KeepsKnown op pair a.now b.now self.old self.new) }
         ensures remembered { IfOk result (λ set. Contains self.new.known (pair, set.number)) }
         ensures kept { KeepsAll self.old.known self.new.known }
-        ensures left { IsLeftOnErr pair self.old self.new result }
+        ensures left { IsLeftOnErr op pair a.now b.now self.old self.new result }
         ensures refused { RefusedOnlyWhere (IsOneTooMany op a.now b.now self.old.shapes) result }
         ensures numbering { IfOk result (λ set. IsNumbering self.new.shapes) }
         ensures room { IfOk result (λ set. total_size self.new.shapes ≤ MAX_SECONDS) }

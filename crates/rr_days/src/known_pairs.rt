@@ -68,7 +68,8 @@ impl KnownPairs {
         self.all.get(pair)
     }
 
-    /// Remembers the number of the set that is made of a pair of which none is known. Without memory it may be known or not.
+    /// Remembers the number of the set that is made of a pair of which none is known. Out of memory, it may be known
+    /// or not.
     pub fn put(&mut self, pair: Pair, number: usize) -> Result<(), NoMemory>
         requires new { IsUnknown self.old pair }
         ensures there { OnOk result (Contains self.new (pair, number)) }

@@ -65,6 +65,7 @@ impl Lazy for EndedLazy {
 
     ghost sound = { sound_ended };
 
+    #[inline(always)]
     fn next(
         &mut self,
         alloc: Global,

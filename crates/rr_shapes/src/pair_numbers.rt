@@ -62,7 +62,8 @@ impl PairNumbers {
         Some(number)
     }
 
-    /// Remembers the number of a pair, in the place of one that it has, if any. Without memory all is as it was.
+    /// Remembers the number of a pair, in the place of one that it has, if any; the pair counts as the one asked for last.
+    /// Out of memory, all is as it was.
     pub fn put(&mut self, pair: Pair, number: usize) -> Result<(), NoMemory>
         ensures there { OnOk result (Contains self.new (pair, number)) }
         ensures nothing_else { AddsOnly self.old self.new (pair, number) }

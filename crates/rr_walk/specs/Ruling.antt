@@ -9,6 +9,7 @@ use Rattle.rr_model.specs.Rule.Candidate.{date_parts_hold}
 use Rattle.rr_model.specs.Rule.Chosen.{is_chosen}
 use Rattle.rr_model.specs.Rule.Filled.{filled_rule}
 use Rattle.rr_model.specs.Whole.{divides, floor_mod}
+use Rattle.rr_expand.specs.Expansion.{IsUnitNear}
 use Rattle.rr_expand.specs.Years.{Filling}
 use Rattle.rr_expand.specs.UnitTimes.{AreUnitTimes}
 use Rattle.rr_expand.specs.declared.unit_times.UnitTimes.{UnitTimes}
@@ -132,13 +133,16 @@ pub record IsUnrolled (r : Ruling) (start_day : ℤ) (start_second : ℕ) (times
 pub IsValidRuling-prop : (r : Ruling) → IsProp (IsValidRuling r)
 IsValidRuling-prop r = let p = IsValidRule-prop r.kind r.rule in hlevel (props, p)
 
--- of a rule whose units are shorter than a day: the start's day and second, the seconds of each unit that BYSETPOS chooses, the minutes and
--- seconds that its time parts allow in a unit, and the days that its date parts allow
-pub record IsFine (r : Ruling) (start_day : ℤ) (start_second : ℕ) (offsets : List ℕ) (times : UnitTimes) (allowed : Filling) : Type 0 where
+-- of a rule whose units are shorter than a day: the start's day, second and unit, the seconds of each unit that BYSETPOS chooses, the minutes
+-- and seconds that its time parts allow in a unit, and the days that its date parts allow
+pub record IsFine (r : Ruling) (start_day : ℤ) (start_second : ℕ) (own_unit : ℤ) (offsets : List ℕ) (times : UnitTimes)
+    (allowed : Filling) : Type 0 where
   pub freq : is_whole_days r.rule.freq ≡ false
   pub valid : IsValidRuling r
   pub of_day : start_day ≡ day_part r.kind r.start
   pub of_second : start_second ≡ second_part r.kind r.start
+  pub of_own : own_unit ≡ unit_number r.rule.freq r.rule.week_start Moments r.start
+  pub own_near : IsUnitNear own_unit
   pub of_offsets : AreChosenOffsets r.rule r.start offsets
   pub of_times : AreUnitTimes r.rule r.start times.minutes.items times.seconds.items
   pub of_allowed : allowed ≡ record { rule = r.rule; start_day = day_part Moments r.start }

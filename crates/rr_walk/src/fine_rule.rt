@@ -30,8 +30,8 @@ use std::marker::Model;
 
 /// The walk over the days of a rule of hours, minutes or seconds beside its start.
 ///
-/// It keeps the seconds of each unit that BYSETPOS chooses, the minutes and seconds that the time parts allow in a unit, the
-/// days that the date parts allow, and the numbers of the sets of its days in the table. What is chosen on an allowed day
+/// It keeps the start's unit, the seconds of each unit that BYSETPOS chooses, the minutes and seconds that the time parts allow
+/// in a unit, the days that the date parts allow, and the numbers of the sets of its days in the table. What is chosen on an allowed day
 /// depends on nothing but the offset of the day's first unit that fits the interval: the numbers are kept by that offset.
 #[derive(Drop)]
 pub struct FineRule {
@@ -39,6 +39,7 @@ pub struct FineRule {
     start: i64,
     start_day: i64,
     start_second: u32,
+    own_unit: i64,
     offsets: TimeSet,
     times: UnitTimes,
     allowed: AllowedDays,
@@ -54,7 +55,7 @@ impl Model for FineRule {
     ghost view = { λ s. ruling_of s.rule Moments s.start s.numbers.items };
 
     ghost invariant = { λ s. IsFine (ruling_of s.rule Moments s.start s.numbers.items)
-        s.start_day s.start_second s.offsets s.times s.allowed };
+        s.start_day s.start_second s.own_unit s.offsets s.times s.allowed };
 }
 
 impl RuleWalk for FineRule {
@@ -80,6 +81,7 @@ impl RuleWalk for FineRule {
             start,
             start_day,
             start_second: second_part(kind, start),
+            own_unit: unit_of(rule.freq, start),
             offsets: chosen_offsets(alloc, rule, start)?,
             times,
             allowed: AllowedDays::new(alloc, rule, start_day)?,
@@ -139,8 +141,8 @@ impl FineRule {
         if self.rule.interval == 1 {
             return 0;
         }
-        let own = unit_of(self.rule.freq, self.start);
-        first_fit(first_unit(self.rule.freq, day), own, self.rule.interval)
+        let first = first_unit(self.rule.freq, day);
+        first_fit(first, self.own_unit, self.rule.interval)
     }
 
     // An allowed day, if it is occupied.

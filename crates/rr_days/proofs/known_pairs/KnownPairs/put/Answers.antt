@@ -18,7 +18,8 @@ keeps c = subst (λ l. KeepsAll l c.put.new.self) c.self.view_is (kept c)
 
 -- ---- and into the list of the recent ones
 
-recent : (c : After-keep) → KeepsAll c.self.inside.all c.put.new.self → Contains c.put.new.self (c.args.pair, c.args.number) → All (Contains c.put.new.self) c.keep.new.recent.items
+recent : (c : After-keep) → KeepsAll c.self.inside.all c.put.new.self → Contains c.put.new.self (c.args.pair, c.args.number)
+    → All (Contains c.put.new.self) c.keep.new.recent.items
 recent c stays there =
     recent_known c.self.inside.all c.put.new.self c.self.inside.recent.items c.keep.new.recent.items (c.args.pair, c.args.number) c.self.invariant
     stays there c.keep.ensures
