@@ -30,8 +30,8 @@ use std::sync::ledger::Ledger;
 /// once at most, and two more. Two sequences of two kinds, or of which one is empty, are told by a day of each.
 /// A no names an occurrence up to the greatest day, 3,000,000,000,000. It takes no memory.
 pub fn equal_long<A: DaySeq + Drop, B: DaySeq + Drop, L: Ledger>(
-    a: &Counted<A>,
-    b: &Counted<B>,
+    a: &Counted<A, L>,
+    b: &Counted<B, L>,
     steps: &mut Steps<L>,
 ) -> Verdict
     ensures verdict { IsEqualVerdict
@@ -47,7 +47,7 @@ pub fn equal_long<A: DaySeq + Drop, B: DaySeq + Drop, L: Ledger>(
 
 // The first occurrence of a sequence, in one step.
 fn read_first<S: DaySeq + Drop, L: Ledger>(
-    seq: &Counted<S>,
+    seq: &Counted<S, L>,
     steps: &mut Steps<L>,
 ) -> Option<Occurrence>
     ensures first { IsFirstOrNone (S.sketch seq.now) result }
@@ -63,8 +63,8 @@ fn read_first<S: DaySeq + Drop, L: Ledger>(
 
 // The verdict on two sequences with nothing in common: the lesser of the first occurrences.
 fn verdict_apart_long<A: DaySeq + Drop, B: DaySeq + Drop, L: Ledger>(
-    a: &Counted<A>,
-    b: &Counted<B>,
+    a: &Counted<A, L>,
+    b: &Counted<B, L>,
     steps: &mut Steps<L>,
 ) -> Verdict
     requires { ShareNothing (A.sketch a.now) (B.sketch b.now) }
@@ -79,8 +79,8 @@ fn verdict_apart_long<A: DaySeq + Drop, B: DaySeq + Drop, L: Ledger>(
 
 // The verdict on two sequences of one kind, by a walk from their first occupied day on.
 fn walk_from<A: DaySeq + Drop, B: DaySeq + Drop, L: Ledger>(
-    a: &Counted<A>,
-    b: &Counted<B>,
+    a: &Counted<A, L>,
+    b: &Counted<B, L>,
     from: i64,
     steps: &mut Steps<L>,
 ) -> Verdict
@@ -102,8 +102,8 @@ fn walk_from<A: DaySeq + Drop, B: DaySeq + Drop, L: Ledger>(
 
 // The first of `days` days on which two sequences differ.
 fn first_day_unlike<A: DaySeq + Drop, B: DaySeq + Drop, L: Ledger>(
-    a: &Counted<A>,
-    b: &Counted<B>,
+    a: &Counted<A, L>,
+    b: &Counted<B, L>,
     from: i64,
     days: u64,
     steps: &mut Steps<L>,
@@ -140,8 +140,8 @@ enum Run {
 // Days from one on compared, of at most `most`: those that are free, or else the first day and those after it whose numbers are
 // kept in a row. Where a sequence is seen to be free its day is not read once more.
 fn compare_from<A: DaySeq + Drop, B: DaySeq + Drop, L: Ledger>(
-    a: &Counted<A>,
-    b: &Counted<B>,
+    a: &Counted<A, L>,
+    b: &Counted<B, L>,
     day: i64,
     most: u64,
     alike: AlikeNumbers,
@@ -172,8 +172,8 @@ fn compare_from<A: DaySeq + Drop, B: DaySeq + Drop, L: Ledger>(
 
 // A day whose numbers are read, and the days after it whose numbers are kept in a row, compared; at most `most` days.
 fn compare_row<A: DaySeq + Drop, B: DaySeq + Drop, L: Ledger>(
-    a: &Counted<A>,
-    b: &Counted<B>,
+    a: &Counted<A, L>,
+    b: &Counted<B, L>,
     day: i64,
     most: u64,
     of_a: Option<u32>,
@@ -200,8 +200,8 @@ fn compare_row<A: DaySeq + Drop, B: DaySeq + Drop, L: Ledger>(
 
 // The days after a day on which both are alike, compared as far as their numbers are kept in a row; with this one at most `most`.
 fn compare_later<A: DaySeq + Drop, B: DaySeq + Drop, L: Ledger>(
-    a: &Counted<A>,
-    b: &Counted<B>,
+    a: &Counted<A, L>,
+    b: &Counted<B, L>,
     day: i64,
     most: u64,
     alike: AlikeNumbers,
@@ -234,9 +234,9 @@ fn compare_later<A: DaySeq + Drop, B: DaySeq + Drop, L: Ledger>(
 // The days after a day on which both are alike, compared by two rows of their numbers.
 //
 // Whole blocks of days are compared at once, and day by day only where a block has another pair of numbers.
-fn compare_numbers<A: DaySeq + Drop, B: DaySeq + Drop>(
-    a: &Counted<A>,
-    b: &Counted<B>,
+fn compare_numbers<A: DaySeq + Drop, B: DaySeq + Drop, L: Ledger>(
+    a: &Counted<A, L>,
+    b: &Counted<B, L>,
     day: i64,
     of_a: &[u32],
     of_b: &[u32],
@@ -269,9 +269,9 @@ fn compare_numbers<A: DaySeq + Drop, B: DaySeq + Drop>(
 }
 
 // The days at indexes of two rows of numbers compared one by one, where both are alike on each day before them.
-fn compare_each<A: DaySeq + Drop, B: DaySeq + Drop>(
-    a: &Counted<A>,
-    b: &Counted<B>,
+fn compare_each<A: DaySeq + Drop, B: DaySeq + Drop, L: Ledger>(
+    a: &Counted<A, L>,
+    b: &Counted<B, L>,
     day: i64,
     of_a: &[u32],
     of_b: &[u32],
@@ -410,9 +410,9 @@ enum Comparison {
 //
 // Distinct sets have distinct numbers. Where numbers are given in the order of days, equal sequences have equal numbers, so
 // each set is compared once, at its first day, and any later day by its number.
-fn compare_days<A: DaySeq + Drop, B: DaySeq + Drop>(
-    a: &Counted<A>,
-    b: &Counted<B>,
+fn compare_days<A: DaySeq + Drop, B: DaySeq + Drop, L: Ledger>(
+    a: &Counted<A, L>,
+    b: &Counted<B, L>,
     day: i64,
     of_a: Option<u32>,
     of_b: Option<u32>,
@@ -478,9 +478,9 @@ fn with_number(alike: AlikeNumbers, number: u32) -> AlikeNumbers
 }
 
 // The first second of a day in which two sequences differ, by the numbers of its sets.
-fn unlike_on_day<A: DaySeq + Drop, B: DaySeq + Drop>(
-    a: &Counted<A>,
-    b: &Counted<B>,
+fn unlike_on_day<A: DaySeq + Drop, B: DaySeq + Drop, L: Ledger>(
+    a: &Counted<A, L>,
+    b: &Counted<B, L>,
     day: i64,
     of_a: Option<u32>,
     of_b: Option<u32>,
@@ -496,7 +496,7 @@ fn unlike_on_day<A: DaySeq + Drop, B: DaySeq + Drop>(
 }
 
 // The seconds of the time set of this number; none where there is no number.
-fn seconds_of<S: DaySeq + Drop>(seq: &Counted<S>, number: Option<u32>) -> &[u32]
+fn seconds_of<S: DaySeq + Drop, L: Ledger>(seq: &Counted<S, L>, number: Option<u32>) -> &[u32]
     requires { IfSome number (λ n. n < length (S.sets seq.now)) }
     ensures { MatchOption number (result.now ≡ [])
         (λ n. slice_get (S.sets seq.now) n ≡ Some result.now) }

@@ -34,8 +34,8 @@ pub struct DayRead<'a> {
 
 /// The day before a period past the settled day that has the occurrence of this number, counted from 1.
 pub fn day_of_number<'a, A: DaySeq + Drop, L: Ledger>(
-    seq: &'a Counted<A>,
-    sums: &Sums,
+    seq: &'a Counted<A, L>,
+    sums: &Sums<L>,
     totals: Totals,
     number: u64,
     steps: &mut Steps<L>,
@@ -59,8 +59,8 @@ pub fn day_of_number<'a, A: DaySeq + Drop, L: Ledger>(
 
 /// A day before a period past the settled day, with how many occurrences come before it.
 pub fn day_counted<'a, A: DaySeq + Drop, L: Ledger>(
-    seq: &'a Counted<A>,
-    sums: &Sums,
+    seq: &'a Counted<A, L>,
+    sums: &Sums<L>,
     totals: Totals,
     day: i64,
     steps: &mut Steps<L>,

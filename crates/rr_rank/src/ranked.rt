@@ -25,13 +25,13 @@ use std::sync::ledger::Ledger;
 ///
 /// It keeps sixteen bytes for each occupied day before a period past the settled day. Contracts see it as the sequence.
 #[derive(Drop)]
-pub struct Ranked<'a, A: DaySeq + Drop> {
-    seq: &'a Counted<A>,
-    sums: Sums,
+pub struct Ranked<'a, A: DaySeq + Drop, L: Ledger> {
+    seq: &'a Counted<A, L>,
+    sums: Sums<L>,
     totals: Totals,
 }
 
-impl<'a, A: DaySeq + Drop> Model for Ranked<'a, A> {
+impl<'a, A: DaySeq + Drop, L: Ledger> Model for Ranked<'a, A, L> {
     ghost use Rattle.rr_rank.specs.Counts.{IsRanked};
     ghost use Rattle.rr_model.specs.Sets.Sketch.{IsNearDay};
 
@@ -43,11 +43,11 @@ impl<'a, A: DaySeq + Drop> Model for Ranked<'a, A> {
         r.totals.from r.totals.head r.totals.total r.sums × IsNearDay r.totals.from };
 }
 
-impl<'a, A: DaySeq + Drop> Ranked<'a, A> {
+impl<'a, A: DaySeq + Drop, L: Ledger> Ranked<'a, A, L> {
     /// The sequence with its counts, for which each day up to a period past the settled day is read once.
-    pub fn new<L: Ledger>(
+    pub fn new(
         alloc: Global,
-        seq: &'a Counted<A>,
+        seq: &'a Counted<A, L>,
         steps: &mut Steps<L>,
     ) -> Result<Self, NoMemory>
         ensures { IfOk result (λ r. r ≡ seq.now) }
@@ -72,7 +72,7 @@ impl<'a, A: DaySeq + Drop> Ranked<'a, A> {
     /// The n-th occurrence, where the first one is number 1.
     ///
     /// The number is 1 to 1,125,899,906,842,624. It takes no memory.
-    pub fn nth<L: Ledger>(&self, n: u64, steps: &mut Steps<L>) -> Nth
+    pub fn nth(&self, n: u64, steps: &mut Steps<L>) -> Nth
         requires some { 1 ≤ n }
         requires most { n ≤ 1_125_899_906_842_624 }
         ensures nth { IsNthOf (StandsIn (A.sketch self.now)) n result }
@@ -88,7 +88,7 @@ impl<'a, A: DaySeq + Drop> Ranked<'a, A> {
     ///
     /// `at` is days since 1970-01-01 for a date, seconds since its midnight for a moment. A date comes before the moments of its
     /// day, the one at midnight included. It takes no memory.
-    pub fn rank<L: Ledger>(&self, kind: Kind, at: i64, steps: &mut Steps<L>) -> u64
+    pub fn rank(&self, kind: Kind, at: i64, steps: &mut Steps<L>) -> u64
         requires { IsInYears kind at }
         ensures rank { IsRank (StandsIn (A.sketch self.now)) kind at result }
         ensures steps { AreFewSteps (occupied_count (A.sketch self.now)) (steps.new - steps.old) }
@@ -102,8 +102,8 @@ impl<'a, A: DaySeq + Drop> Ranked<'a, A> {
 
 // The n-th occurrence, by the one before a period past the settled day that it repeats.
 fn find_nth<A: DaySeq + Drop, L: Ledger>(
-    seq: &Counted<A>,
-    sums: &Sums,
+    seq: &Counted<A, L>,
+    sums: &Sums<L>,
     totals: Totals,
     n: u64,
     turned: TurnedCount,
@@ -129,8 +129,8 @@ fn find_nth<A: DaySeq + Drop, L: Ledger>(
 
 // How many occurrences are not after a moment, by the day before a period past the settled day that its day repeats.
 fn count_up_to<A: DaySeq + Drop, L: Ledger>(
-    seq: &Counted<A>,
-    sums: &Sums,
+    seq: &Counted<A, L>,
+    sums: &Sums<L>,
     totals: Totals,
     kind: Kind,
     at: i64,
@@ -164,8 +164,8 @@ fn sum_of(before: u64, up_to: u64, turns: u64, each: u64) -> u64
 
 // Puts an entry for each occupied day that lies `begin` days or more, and fewer than `end`, after the first one; counts on.
 fn fill<A: DaySeq + Drop, L: Ledger>(
-    seq: &Counted<A>,
-    sums: &mut Sums,
+    seq: &Counted<A, L>,
+    sums: &mut Sums<L>,
     from: i64,
     begin: u64,
     end: u64,
@@ -191,7 +191,12 @@ fn fill<A: DaySeq + Drop, L: Ledger>(
 }
 
 // Puts an entry for a day that has occurrences.
-fn put_if_some(sums: &mut Sums, day: i64, before: u64, many: u64) -> Result<(), NoMemory>
+fn put_if_some<L: Ledger>(
+    sums: &mut Sums<L>,
+    day: i64,
+    before: u64,
+    many: u64,
+) -> Result<(), NoMemory>
     ensures { OnOk result (sums.new ≡ with_day sums.old day before many) }
 {
     if many > 0 {
@@ -201,7 +206,7 @@ fn put_if_some(sums: &mut Sums, day: i64, before: u64, many: u64) -> Result<(), 
 }
 
 // The lesser of the settled day and the first occupied one.
-fn begin_of<A: DaySeq + Drop>(seq: &Counted<A>) -> i64
+fn begin_of<A: DaySeq + Drop, L: Ledger>(seq: &Counted<A, L>) -> i64
     ensures begin { IsBegin (A.sketch seq.now) result }
     ensures near { IsNearDay result }
 {

@@ -6,7 +6,7 @@ ghost use Rattle.std.specs.Prelude.{◌≡◌, [], ◌∷◌, ◌++◌, ◌+◌,
 use rr_model::NoMemory;
 use rr_steps::Steps;
 use std::alloc::Global;
-use std::marker::Model;
+use std::marker::{Model, PhantomData};
 use std::sync::ledger::Ledger;
 
 /// A day, and how many occurrences come before it.
@@ -20,11 +20,12 @@ pub struct Entry {
 
 /// Days with how many occurrences come before them, in the order in which they were put; each reading is one step.
 #[derive(Drop)]
-pub struct Sums {
+pub struct Sums<L: Ledger> {
     entries: Vec<Entry>,
+    ledger: PhantomData<L>,
 }
 
-impl Model for Sums {
+impl<L: Ledger> Model for Sums<L> {
     ghost use Rattle.std.specs.Prelude.{List};
     ghost use Rattle.rr_sums.specs.declared.Entry.{Entry};
 
@@ -33,7 +34,7 @@ impl Model for Sums {
     ghost view = { λ s. s.entries.items };
 }
 
-impl Sums {
+impl<L: Ledger> Sums<L> {
     ghost use Rattle.rr_sums.specs.declared.Entry.{Entry};
 
     /// No entries; it takes no memory.
@@ -42,6 +43,7 @@ impl Sums {
     {
         Sums {
             entries: Vec::new(alloc),
+            ledger: PhantomData,
         }
     }
 
@@ -62,7 +64,7 @@ impl Sums {
     }
 
     /// The entry at a place, in one step. It takes no memory.
-    pub fn read<L: Ledger>(&self, place: u64, steps: &mut Steps<L>) -> Entry
+    pub fn read(&self, place: u64, steps: &mut Steps<L>) -> Entry
         requires { place < length self.now }
         ensures value { slice_get self.now place ≡ Some result }
         ensures step { steps.new ≡ steps.old + 1 }

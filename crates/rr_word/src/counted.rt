@@ -7,7 +7,7 @@ ghost use Rattle.rr_word.specs.Stretches.{AreFree, AreNumbersAfter, IsNumberOn};
 use crate::DaySeq;
 use rr_model::Kind;
 use rr_steps::Steps;
-use std::marker::Model;
+use std::marker::{Model, PhantomData};
 use std::sync::ledger::Ledger;
 
 /// A sequence of days whose days are read in counted steps: what a call tells of one day costs one step.
@@ -16,22 +16,26 @@ use std::sync::ledger::Ledger;
 /// counter grows says how many days it reads. What is told of no day (the kind, the first day, the settled day, the period,
 /// the seconds of a number) costs no step. No call takes memory.
 #[derive(Drop)]
-pub struct Counted<A: DaySeq + Drop> {
+pub struct Counted<A: DaySeq + Drop, L: Ledger> {
     seq: A,
+    ledger: PhantomData<L>,
 }
 
-impl<A: DaySeq + Drop> Model for Counted<A> {
+impl<A: DaySeq + Drop, L: Ledger> Model for Counted<A, L> {
     ghost Value = { A };
 
     ghost view = { λ c. c.seq };
 }
 
-impl<A: DaySeq + Drop> Counted<A> {
+impl<A: DaySeq + Drop, L: Ledger> Counted<A, L> {
     /// The sequence, which from now on is read in steps alone.
     pub fn new(seq: A) -> Self
         ensures { result ≡ seq }
     {
-        Counted { seq }
+        Counted {
+            seq,
+            ledger: PhantomData,
+        }
     }
 
     /// Whether the occurrences are dates or moments.
@@ -67,7 +71,7 @@ impl<A: DaySeq + Drop> Counted<A> {
     }
 
     /// The seconds of a day within 3,000,000,000,000 either way, rising, in one step.
-    pub fn read<L: Ledger>(&self, day: i64, steps: &mut Steps<L>) -> &[u32]
+    pub fn read(&self, day: i64, steps: &mut Steps<L>) -> &[u32]
         requires low { earliest_taken ≤ℤ day }
         requires high { day ≤ℤ latest_taken }
         ensures value { result.now ≡ times_on (A.sketch self.now) day }
@@ -79,7 +83,7 @@ impl<A: DaySeq + Drop> Counted<A> {
 
     /// The number of the time set of a day within 3,000,000,000,000 either way, in one step; none only where the day is
     /// not occupied.
-    pub fn read_number<L: Ledger>(&self, day: i64, steps: &mut Steps<L>) -> Option<u32>
+    pub fn read_number(&self, day: i64, steps: &mut Steps<L>) -> Option<u32>
         requires low { earliest_taken ≤ℤ day }
         requires high { day ≤ℤ latest_taken }
         ensures number { IsNumberOn (A.sets self.now) (A.sketch self.now) day result }
@@ -91,7 +95,7 @@ impl<A: DaySeq + Drop> Counted<A> {
 
     /// For how many days in a row from a day within 3,000,000,000,000 either way on, itself the first of them, it is known at
     /// once that none is occupied. It is one step where it tells of a day, and none where it is 0, which tells nothing.
-    pub fn read_free<L: Ledger>(&self, day: i64, steps: &mut Steps<L>) -> u64
+    pub fn read_free(&self, day: i64, steps: &mut Steps<L>) -> u64
         requires low { earliest_taken ≤ℤ day }
         requires high { day ≤ℤ latest_taken }
         ensures free { AreFree (A.sketch self.now) day result }
@@ -104,13 +108,14 @@ impl<A: DaySeq + Drop> Counted<A> {
 
     /// The days after a day within 3,000,000,000,000 either way, as far as the numbers of their sets are kept in a row. It tells
     /// how many they are, and no more.
-    pub fn days_after(&self, day: i64) -> DaysAfter<'_>
+    pub fn days_after(&self, day: i64) -> DaysAfter<'_, L>
         requires low { earliest_taken ≤ℤ day }
         requires high { day ≤ℤ latest_taken }
         ensures { AreNumbersAfter (A.sets self.now) (A.sketch self.now) day result.numbers.now }
     {
         DaysAfter {
             numbers: self.seq.stretch(day).rest,
+            ledger: PhantomData,
         }
     }
 
@@ -133,23 +138,24 @@ fn tick_if_some<L: Ledger>(days: u64, steps: &mut Steps<L>)
 }
 
 /// Days in a row whose numbers are there to be read, one or several at once, each in one step.
-#[derive(Clone, Copy)]
-pub struct DaysAfter<'a> {
+#[derive(Drop)]
+pub struct DaysAfter<'a, L: Ledger> {
     numbers: &'a [u32],
+    ledger: PhantomData<L>,
 }
 
-impl<'a> DaysAfter<'a> {
+impl<'a, L: Ledger> DaysAfter<'a, L> {
     /// How many days they are.
-    pub fn count(self) -> usize
-        ensures { result ≡ length self.entry.numbers.now }
+    pub fn count(&self) -> usize
+        ensures { result ≡ length self.now.numbers.now }
     {
         self.numbers.len()
     }
 
     /// The number of the time set of the day at a place, in one step.
-    pub fn read_number<L: Ledger>(self, place: usize, steps: &mut Steps<L>) -> u32
-        requires { place < length self.numbers.now }
-        ensures number { result ≡ get_or self.entry.numbers.now place 0 }
+    pub fn read_number(&self, place: usize, steps: &mut Steps<L>) -> u32
+        requires { place < length self.now.numbers.now }
+        ensures number { result ≡ get_or self.now.numbers.now place 0 }
         ensures step { steps.new ≡ steps.old + 1 }
     {
         steps.tick();
@@ -157,9 +163,9 @@ impl<'a> DaysAfter<'a> {
     }
 
     /// The numbers of the time sets of the first days, in as many steps as they are.
-    pub fn read_numbers<L: Ledger>(self, count: usize, steps: &mut Steps<L>) -> &'a [u32]
-        requires { count ≤ length self.numbers.now }
-        ensures numbers { result.now ≡ take count self.entry.numbers.now }
+    pub fn read_numbers(&self, count: usize, steps: &mut Steps<L>) -> &'a [u32]
+        requires { count ≤ length self.now.numbers.now }
+        ensures numbers { result.now ≡ take count self.now.numbers.now }
         ensures step { steps.new ≡ steps.old + count }
     {
         steps.tick_many(count as u64);
