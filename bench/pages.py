@@ -77,7 +77,8 @@ def trusted():
     for crates, edits in re.findall(r"(rr_\w+(?:, rr_\w+)*): (`\w+`(?:, `\w+`)*)", page):
         for crate in crates.split(", "):
             for edit in re.findall(r"\w+", edits):
-                yield f"{crate}: {edit}", (TOP / f"crates/{crate}/must-fail/{edit}.edit").is_file()
+                places = [f"crates/{crate}/must-fail/{edit}.edit", f"edits/{crate}/{edit}.edit"]
+                yield f"{crate}: {edit}", any((TOP / place).is_file() for place in places)
 
 
 def main():
