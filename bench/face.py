@@ -12,9 +12,8 @@ from pathlib import Path
 TOP = Path(__file__).resolve().parent.parent
 WORDS = "crates/rr_answer/src/words.rt"
 PAGES = ["README.md", "docs/MANUAL.md", "docs/PROVED.md"]
-SCRIPTS = ["commands.txt", "docs/rr.1", "rr", "completions/_rr", "completions/rr.bash", "completions/rr.fish"]
-IN_CASES = ["tests/cases/usage.txt", "crates/rr_answer/specs/Command.antt"]
-PYTHON = "python/rr/__init__.py"
+TABLE, MAN, DEFINITION, PYTHON = "commands.txt", "docs/rr.1", "crates/rr_answer/specs/Command.antt", "python/rr/__init__.py"
+CASES = "tests/cases"
 # The command that the Python module gives under another name, and the one that it leaves to `answer`.
 NOT_IN_PYTHON = ("list", "drill")
 WORD = r"(?<![\w-]){}(?![\w-])"
@@ -22,7 +21,10 @@ IN_CODE = r"`{}\b"
 
 
 def text(name):
-    return (TOP / name).read_text(encoding="utf-8")
+    """The text of a file, or of all files of a folder."""
+    path = TOP / name
+    files = sorted(path.iterdir()) if path.is_dir() else [path]
+    return "".join(file.read_text(encoding="utf-8") for file in files)
 
 
 def arms(function):
@@ -44,10 +46,13 @@ def wanted():
         yield page, IN_CODE, commands
     for page in PAGES[:2]:
         yield page, IN_CODE, languages
-    for script in [*SCRIPTS, *IN_CASES]:
-        yield script, WORD, commands
-    for script in [*SCRIPTS, PYTHON]:
-        yield script, WORD, languages
+    yield TABLE, r"(?m)^command {}\b", commands
+    yield TABLE, r"(?m)^language {}$", languages
+    yield MAN, r"(?m)^\.(It )?Cm (.*\W)?{}\b", [*commands, *languages]
+    yield DEFINITION, r'codes "{}"', [*commands, *languages]
+    yield CASES, r"(?m)^rr {}\b", commands
+    yield CASES, r"(?m)^rr .*\b{}[@:]", languages
+    yield PYTHON, WORD, languages
     yield PYTHON, r"(?m)^def {}\(", [name for name in commands if name not in NOT_IN_PYTHON]
     yield "docs/REFUSALS.md", r"(?m)^\| {}\b", variants("crates/rr_model/src/refusal.rt", "Refusal")
     yield "docs/CALENDARS.md", WORD, variants("crates/rr_trip/src/gather.rt", "KeyRefusal")
