@@ -1,12 +1,15 @@
 #!/bin/sh
-# Installs the shipped programs, and their man pages and completions where they are here: ./install.sh [--prefix DIR]. DIR is /usr/local where
-# it is not given. Removes the same files: ./install.sh uninstall [--prefix DIR].
+# Installs the shipped programs, their man pages, completions and pages: ./install.sh [--prefix DIR]. DIR is /usr/local if it is not given.
+# Removes the same files: ./install.sh uninstall [--prefix DIR].
+# If the programs do not run here, which need the GNU C library, it installs those that need no C library.
 # With --libraries it installs the header and both libraries for C too, and with --python FOLDER the Python module with a library of its
 # own, in a folder where Python looks for modules, as `python3 -c 'import site; print(site.getusersitepackages())'` prints one.
-# uninstall removes the libraries always, and the Python module where its folder is given.
+# uninstall removes the libraries always, and the Python module if its folder is given.
 set -eu
 top=$(CDPATH='' cd -- "$(dirname -- "$0")" && pwd)
+machine=x86_64-linux
 prefix=/usr/local
+kind=
 removes=
 libraries=
 python=
@@ -37,11 +40,26 @@ while [ $# -gt 0 ]; do
 done
 [ -n "$prefix" ] || usage
 
-# What is installed: where it is here, its place under a folder, and its mode.
+fail() {
+    echo "install.sh: $*" >&2
+    exit 1
+}
+
+# Says in kind which shipped programs run here, that end with 3 if they have no words: those over the GNU C library, or the static ones.
+choose_kind() {
+    for kind in '' -static; do
+        "$top/release/rr-$machine$kind" </dev/null >/dev/null 2>&1 || [ $? -ne 3 ] || return 0
+    done
+    fail 'no shipped program runs on this machine'
+}
+
+# What is installed: its place here, its place under a folder, and its mode.
 program_files() {
+    cat <<END
+release/rr-$machine$kind bin/rr 755
+release/rr-calendars-$machine$kind bin/rr-calendars 755
+END
     cat <<'END'
-release/rr-x86_64-linux bin/rr 755
-release/rr-calendars-x86_64-linux bin/rr-calendars 755
 docs/rr.1 share/man/man1/rr.1 644
 docs/rr-calendars.1 share/man/man1/rr-calendars.1 644
 completions/rr.bash share/bash-completion/completions/rr 644
@@ -50,22 +68,30 @@ completions/rr.fish share/fish/vendor_completions.d/rr.fish 644
 completions/rr-calendars.bash share/bash-completion/completions/rr-calendars 644
 completions/_rr-calendars share/zsh/site-functions/_rr-calendars 644
 completions/rr-calendars.fish share/fish/vendor_completions.d/rr-calendars.fish 644
+docs/MANUAL.md share/doc/rr/MANUAL.md 644
+docs/REFUSALS.md share/doc/rr/REFUSALS.md 644
+docs/CALENDARS.md share/doc/rr/CALENDARS.md 644
+docs/TERMS.md share/doc/rr/TERMS.md 644
+docs/OTHER_PROGRAMS.md share/doc/rr/OTHER_PROGRAMS.md 644
+LICENSE-MIT share/doc/rr/LICENSE-MIT 644
+LICENSE-APACHE share/doc/rr/LICENSE-APACHE 644
+docs/LICENCES.md share/doc/rr/LICENCES.md 644
 END
 }
 
 library_files() {
-    cat <<'END'
+    cat <<END
 include/rr.h include/rr.h 644
-release/librr-x86_64-linux.a lib/librr.a 644
-release/librr-x86_64-linux.so lib/librr.so.1 755
+release/librr-$machine.a lib/librr.a 644
+release/librr-$machine.so lib/librr.so.1 755
 END
 }
 
 python_files() {
-    cat <<'END'
+    cat <<END
 python/rr/__init__.py rr/__init__.py 644
 python/rr/py.typed rr/py.typed 644
-release/librr-x86_64-linux.so rr/librr.so 755
+release/librr-$machine.so rr/librr.so 755
 END
 }
 
@@ -89,6 +115,7 @@ remove() {
             echo "removed $1/$to"
         fi
     done
+    [ ! -d "$1/share/doc/rr" ] || rmdir -- "$1/share/doc/rr" 2>/dev/null || true
 }
 
 if [ -n "$removes" ]; then
@@ -100,9 +127,11 @@ if [ -n "$removes" ]; then
     fi
     exit 0
 fi
-[ "$(uname -sm)" = 'Linux x86_64' ] || { echo 'install.sh: the shipped program is for Linux on x86_64' >&2; exit 1; }
-[ -f "$top/release/SHA256SUMS" ] || { echo 'install.sh: no program is shipped here' >&2; exit 1; }
-(cd -- "$top/release" && sha256sum --quiet -c SHA256SUMS)
+[ "$(uname -sm)" = 'Linux x86_64' ] || fail 'the shipped programs are for Linux on x86_64'
+[ -f "$top/release/SHA256SUMS" ] || fail 'no program is shipped here'
+# (without options, since busybox knows none but -c)
+(cd -- "$top/release" && sha256sum -c SHA256SUMS >/dev/null) || fail 'the files of release are not those of SHA256SUMS'
+choose_kind
 program_files | install "$prefix"
 if [ -n "$libraries" ]; then
     library_files | install "$prefix"

@@ -3,6 +3,8 @@
  * One function, in librr-x86_64-linux.so and librr-x86_64-linux.a. It reads no file, and writes nothing but what `out` and `length`
  * point to. It keeps nothing between calls, so several threads may call it at once. It takes memory by malloc and realloc, and
  * has given all of it back when it returns.
+ *
+ * Copyright the rr authors. SPDX-License-Identifier: MIT OR Apache-2.0
  */
 #ifndef RR_H
 #define RR_H

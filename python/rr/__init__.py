@@ -1,3 +1,4 @@
+# Copyright the rr authors. SPDX-License-Identifier: MIT OR Apache-2.0
 """Whether a repeating series survived a trip between calendars, for all years to come.
 
 >>> import rr
