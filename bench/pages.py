@@ -76,8 +76,8 @@ def trusted():
     """What docs/TRUST.md says that can be looked up: a text, and whether it holds."""
     page = (TOP / "docs/TRUST.md").read_text()
     counts = subprocess.run([sys.executable, str(TOP / "bench/definitions.py")], stdout=subprocess.PIPE).stdout.decode()
-    for question, definitions, lines in re.findall(r"(.*): (\d+) definitions, (\d+) lines", counts):
-        yield f"{question}: {definitions} definitions, {lines} lines", f"| {int(definitions):,} | {int(lines):,} |" in page
+    for question, *numbers in re.findall(r"(.*): (\d+) definitions, (\d+) lines; in Rust (\d+) types and constants, (\d+) lines", counts):
+        yield f"{question}: {numbers}", f"| {' | '.join(f'{int(it):,}' for it in numbers)} |" in page
     for crates, edits in re.findall(r"(rr_\w+(?:, rr_\w+)*): (`\w+`(?:, `\w+`)*)", page):
         for crate in crates.split(", "):
             for edit in re.findall(r"\w+", edits):

@@ -1,6 +1,4 @@
-//! Days with how many occurrences come before each, read in counted steps.
-#![tactic(auto)]
-
+// Days with how many occurrences come before each, read in counted steps.
 ghost use Rattle.std.specs.Prelude.{◌≡◌, [], ◌∷◌, ◌++◌, ◌+◌, ◌<◌, OnOk, OnErr, Some, length, slice_get};
 
 use rr_model::NoMemory;
@@ -18,7 +16,7 @@ pub struct Entry {
     pub before: u64,
 }
 
-/// Days with how many occurrences come before them, in the order in which they were put; each reading is one step.
+/// Days with how many occurrences come before them, in the order in which they were put; each reading is one step of their ledger.
 #[derive(Drop)]
 pub struct Sums<L: Ledger> {
     entries: Vec<Entry>,
@@ -27,7 +25,7 @@ pub struct Sums<L: Ledger> {
 
 impl<L: Ledger> Model for Sums<L> {
     ghost use Rattle.std.specs.Prelude.{List};
-    ghost use Rattle.rr_sums.specs.declared.Entry.{Entry};
+    ghost use Rattle.rr_rank.specs.declared.sums.Entry.{Entry};
 
     ghost Value = { List Entry };
 
@@ -35,7 +33,7 @@ impl<L: Ledger> Model for Sums<L> {
 }
 
 impl<L: Ledger> Sums<L> {
-    ghost use Rattle.rr_sums.specs.declared.Entry.{Entry};
+    ghost use Rattle.rr_rank.specs.declared.sums.Entry.{Entry};
 
     /// No entries; it takes no memory.
     pub fn new(alloc: Global) -> Self
