@@ -1,7 +1,7 @@
 #!/bin/sh
 # Installs the shipped programs, and their man pages and completions where they are here: ./install.sh [--prefix DIR]. DIR is /usr/local where
 # it is not given. Removes the same files: ./install.sh uninstall [--prefix DIR].
-# With --libraries it installs the header and both libraries for C too, and with --python FOLDER the Python module with a library of its
+# With --libraries it installs the header, both libraries and librr.pc for C too, and with --python FOLDER the Python module with a library of its
 # own, in a folder where Python looks for modules, as `python3 -c 'import site; print(site.getusersitepackages())'` prints one.
 # uninstall removes the libraries always, and the Python module where its folder is given.
 set -eu
@@ -73,6 +73,16 @@ release/librr-x86_64-linux.so rr/librr.so 755
 END
 }
 
+# write_pkg_config writes what pkg-config says of the libraries, whose folders have to be whole paths.
+write_pkg_config() {
+    to=$prefix/lib/pkgconfig/librr.pc
+    mkdir -p -- "$prefix/lib/pkgconfig"
+    whole=$(CDPATH='' cd -- "$prefix" && pwd)
+    sed -e "s,@prefix@,$whole," -e "s,@libdir@,$whole/lib," -e "s,@version@,$(cat -- "$top/release/VERSION")," "$top/include/librr.pc.in" >"$to.new"
+    mv -f -- "$to.new" "$to"
+    echo "$to"
+}
+
 # install FOLDER puts the files of the standard input in their places under it, each whole at once.
 install() {
     while read -r from to mode; do
@@ -96,7 +106,7 @@ remove() {
 }
 
 if [ -n "$removes" ]; then
-    { program_files && library_files && echo '- lib/librr.so -'; } | remove "$prefix"
+    { program_files && library_files && printf '%s\n' '- lib/librr.so -' '- lib/pkgconfig/librr.pc -'; } | remove "$prefix"
     if [ -n "$python" ]; then
         python_files | remove "$python"
         rm -rf -- "$python/rr/__pycache__"
@@ -113,5 +123,6 @@ if [ -n "$libraries" ]; then
     # (the linker looks for this name, the loader for the one with the number)
     ln -sf librr.so.1 "$prefix/lib/librr.so"
     echo "$prefix/lib/librr.so"
+    write_pkg_config
 fi
 [ -z "$python" ] || python_files | install "$python"
