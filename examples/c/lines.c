@@ -1,4 +1,4 @@
-/* Tries what reads the line of a no in rr.h, also where the line is none. It prints each that fails, and ends with their number. */
+/* Tries what reads the line of a no in rr.h, also of lines that are none. It prints each that fails, and ends with their number. */
 #include <rr.h>
 #include <stdio.h>
 

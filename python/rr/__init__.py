@@ -29,7 +29,7 @@ rr.Refused: A: BadRule 2
 
 Calls keep nothing, and the interpreter's lock is not held while one runs: threads may call at once. `python -m rr` takes the words of the
 program. The shared library is the file that the environment's RR_LIBRARY names, or librr.so beside this module (librr.dylib on a Mac,
-librr.dll on Windows), or the one that is shipped beside it in the repository, or else librr.so.1 if the system finds it. If none can be
+librr.dll on Windows), or the one that is shipped beside it in the repository, or librr.so.1 if the system finds it. If none can be
 loaded, the import fails with an ImportError that names the machine.
 """
 from __future__ import annotations

@@ -31,7 +31,7 @@ class Series:
 
     A moment comes back aware, with a tzinfo, if its series is in UTC or has a zone or an offset, and naive otherwise. A series is in UTC
     if its start is, unless an offset turns it, as that of a Graph event; or if it is a list of aware moments. Its zone is the one given
-    here, or else its offset. An offset is taken to hold all year: for a place with summer time give the zone too. An aware moment that
+    here, or its offset if none is given. An offset is taken to hold all year: for a place with summer time give the zone too. An aware moment that
     is asked about is turned to the zone of the series first. No verdict depends on a zone: the readings of two clocks are compared.
 
     >>> utc = "DTSTART:20240101T090000Z\\nRRULE:FREQ=DAILY\\n"
