@@ -13,8 +13,8 @@ for name in {}; do
     "$program" canon "rrule:$name" >"$text"
     status=$?
     case $status in
-    0) key=$(sha256sum <"$text" | cut -c 1-64) ;;
-    2) key=$(cat "$text") ;;
+    0) key=$(sha256sum <"$text") && key=${key%% *} ;;
+    2) read -r key <"$text" ;;
     *) key="failed $status" ;;
     esac
     printf "%s\t%s\n" "$key" "$name"
