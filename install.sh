@@ -2,7 +2,7 @@
 # Installs the shipped programs, their man pages, completions and pages: ./install.sh [--prefix DIR]. DIR is /usr/local if it is not given.
 # Removes the same files: ./install.sh uninstall [--prefix DIR].
 # If the programs do not run here, which need the GNU C library, it installs those that need no C library.
-# With --libraries it installs the header and both libraries for C too, and with --python FOLDER the Python module with a library of its
+# With --libraries it installs the header, both libraries and librr.pc for C too, and with --python FOLDER the Python module with a library of its
 # own, in a folder where Python looks for modules, as `python3 -c 'import site; print(site.getusersitepackages())'` prints one.
 # uninstall removes the libraries always, and the Python module if its folder is given.
 set -eu
@@ -90,9 +90,23 @@ END
 python_files() {
     cat <<END
 python/rr/__init__.py rr/__init__.py 644
+python/rr/__main__.py rr/__main__.py 644
+python/rr/_library.py rr/_library.py 644
+python/rr/_series.py rr/_series.py 644
 python/rr/py.typed rr/py.typed 644
+release/VERSION rr/VERSION 644
 release/librr-$machine.so rr/librr.so 755
 END
+}
+
+# write_pkg_config writes what pkg-config says of the libraries, whose folders have to be whole paths.
+write_pkg_config() {
+    to=$prefix/lib/pkgconfig/librr.pc
+    mkdir -p -- "$prefix/lib/pkgconfig"
+    whole=$(CDPATH='' cd -- "$prefix" && pwd)
+    sed -e "s,@prefix@,$whole," -e "s,@libdir@,$whole/lib," -e "s,@version@,$(cat -- "$top/release/VERSION")," "$top/include/librr.pc.in" >"$to.new"
+    mv -f -- "$to.new" "$to"
+    echo "$to"
 }
 
 # install FOLDER puts the files of the standard input in their places under it, each whole at once.
@@ -119,7 +133,7 @@ remove() {
 }
 
 if [ -n "$removes" ]; then
-    { program_files && library_files && echo '- lib/librr.so -'; } | remove "$prefix"
+    { program_files && library_files && printf '%s\n' '- lib/librr.so -' '- lib/pkgconfig/librr.pc -'; } | remove "$prefix"
     if [ -n "$python" ]; then
         python_files | remove "$python"
         rm -rf -- "$python/rr/__pycache__"
@@ -138,5 +152,6 @@ if [ -n "$libraries" ]; then
     # (the linker looks for this name, the loader for the one with the number)
     ln -sf librr.so.1 "$prefix/lib/librr.so"
     echo "$prefix/lib/librr.so"
+    write_pkg_config
 fi
 [ -z "$python" ] || python_files | install "$python"

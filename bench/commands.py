@@ -16,7 +16,7 @@ TABLE = "commands.txt"
 OPERANDS = ("A", "B")
 BEGIN, END = "commands.txt: BEGIN", "commands.txt: END"
 USAGE_LINES = [
-    "crates/rr_answer/src/words.rt", "crates/rr_answer/specs/Command.antt", "crates/rr_cli/src/case_tests.rt",
+    "crates/rr_answer/src/words.rt", "crates/rr_answer/specs/Command.antt",
     "tests/cases/usage.txt", "tests/cases/rscale.txt",
 ]
 

@@ -76,12 +76,13 @@ def trusted():
     """What docs/TRUST.md says that can be looked up: a text, and whether it holds."""
     page = (TOP / "docs/TRUST.md").read_text()
     counts = subprocess.run([sys.executable, str(TOP / "bench/definitions.py")], stdout=subprocess.PIPE).stdout.decode()
-    for question, definitions, lines in re.findall(r"(.*): (\d+) definitions, (\d+) lines", counts):
-        yield f"{question}: {definitions} definitions, {lines} lines", f"| {int(definitions):,} | {int(lines):,} |" in page
+    for question, *numbers in re.findall(r"(.*): (\d+) definitions, (\d+) lines; in Rust (\d+) types and constants, (\d+) lines", counts):
+        yield f"{question}: {numbers}", f"| {' | '.join(f'{int(it):,}' for it in numbers)} |" in page
     for crates, edits in re.findall(r"(rr_\w+(?:, rr_\w+)*): (`\w+`(?:, `\w+`)*)", page):
         for crate in crates.split(", "):
             for edit in re.findall(r"\w+", edits):
-                yield f"{crate}: {edit}", (TOP / f"crates/{crate}/must-fail/{edit}.edit").is_file()
+                places = [f"crates/{crate}/must-fail/{edit}.edit", f"edits/{crate}/{edit}.edit"]
+                yield f"{crate}: {edit}", any((TOP / place).is_file() for place in places)
 
 
 def anchors(page):

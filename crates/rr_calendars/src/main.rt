@@ -6,8 +6,6 @@ mod exit;
 mod program;
 mod progress;
 mod status;
-#[cfg(test)]
-mod tests;
 mod words;
 mod work;
 
