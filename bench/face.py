@@ -12,8 +12,8 @@ from pathlib import Path
 TOP = Path(__file__).resolve().parent.parent
 WORDS = "crates/rr_answer/src/words.rt"
 PAGES = ["README.md", "docs/MANUAL.md", "docs/PROVED.md"]
-TABLE, MAN, DEFINITION, PYTHON = "commands.txt", "docs/rr.1", "crates/rr_answer/specs/Command.antt", "python/rr/__init__.py"
-CASES = "tests/cases"
+TABLE, MAN, DEFINITION = "commands.txt", "docs/rr.1", "crates/rr_answer/specs/Command.antt"
+CASES, PYTHON = "tests/cases", "python/rr"
 # The command that the Python module gives under another name, and the one that it leaves to `answer`.
 NOT_IN_PYTHON = ("list", "drill")
 WORD = r"(?<![\w-]){}(?![\w-])"
@@ -21,9 +21,9 @@ IN_CODE = r"`{}\b"
 
 
 def text(name):
-    """The text of a file, or of all files of a folder."""
+    """The text of a file, or of all cases or modules of a folder."""
     path = TOP / name
-    files = sorted(path.iterdir()) if path.is_dir() else [path]
+    files = sorted(it for it in path.iterdir() if it.suffix in (".txt", ".py")) if path.is_dir() else [path]
     return "".join(file.read_text(encoding="utf-8") for file in files)
 
 
