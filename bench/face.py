@@ -13,7 +13,8 @@ TOP = Path(__file__).resolve().parent.parent
 WORDS = "crates/rr_answer/src/words.rt"
 PAGES = ["README.md", "docs/MANUAL.md", "docs/PROVED.md"]
 TABLE, MAN, DEFINITION = "commands.txt", "docs/rr.1", "crates/rr_answer/specs/Command.antt"
-CASES, PYTHON = "tests/cases", "python/rr"
+PYTHON, PYTHON_SERIES = "python/rr/__init__.py", "python/rr/_series.py"
+CASES = "tests/cases"
 # The command that the Python module gives under another name, and the one that it leaves to `answer`.
 NOT_IN_PYTHON = ("list", "drill")
 WORD = r"(?<![\w-]){}(?![\w-])"
@@ -21,9 +22,9 @@ IN_CODE = r"`{}\b"
 
 
 def text(name):
-    """The text of a file, or of all cases or modules of a folder."""
+    """The text of a file, or of all files of a folder."""
     path = TOP / name
-    files = sorted(it for it in path.iterdir() if it.suffix in (".txt", ".py")) if path.is_dir() else [path]
+    files = sorted(path.iterdir()) if path.is_dir() else [path]
     return "".join(file.read_text(encoding="utf-8") for file in files)
 
 
@@ -52,7 +53,7 @@ def wanted():
     yield DEFINITION, r'codes "{}"', [*commands, *languages]
     yield CASES, r"(?m)^rr {}\b", commands
     yield CASES, r"(?m)^rr .*\b{}[@:]", languages
-    yield PYTHON, WORD, languages
+    yield PYTHON_SERIES, WORD, languages
     yield PYTHON, r"(?m)^def {}\(", [name for name in commands if name not in NOT_IN_PYTHON]
     yield "docs/REFUSALS.md", r"(?m)^\| {}\b", variants("crates/rr_model/src/refusal.rt", "Refusal")
     yield "docs/CALENDARS.md", WORD, variants("crates/rr_trip/src/gather.rt", "KeyRefusal")
