@@ -95,6 +95,9 @@ python/rr/_library.py rr/_library.py 644
 python/rr/_series.py rr/_series.py 644
 python/rr/py.typed rr/py.typed 644
 release/VERSION rr/VERSION 644
+LICENSE-MIT rr/LICENSE-MIT 644
+LICENSE-APACHE rr/LICENSE-APACHE 644
+docs/LICENCES.md rr/LICENCES.md 644
 release/librr-$machine.so rr/librr.so 755
 END
 }

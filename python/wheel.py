@@ -64,6 +64,7 @@ Requires-Python: >=3.8
         ("rr/VERSION", f"{version}\n".encode()),
         (f"rr/{MACHINES[machine][0]}", library(machine).read_bytes()),
         *((f"{info}/licenses/{name}", (TOP / name).read_bytes()) for name in ("LICENSE-APACHE", "LICENSE-MIT")),
+        (f"{info}/licenses/LICENCES.md", (TOP / "docs" / "LICENCES.md").read_bytes()),
         (f"{info}/METADATA", metadata.encode()),
         (f"{info}/WHEEL", wheel.encode()),
     ]
