@@ -12,7 +12,8 @@ from pathlib import Path
 TOP = Path(__file__).resolve().parent.parent
 WORDS = "crates/rr_answer/src/words.rt"
 PAGES = ["README.md", "docs/MANUAL.md", "docs/PROVED.md"]
-TABLE, MAN, DEFINITION, PYTHON = "commands.txt", "docs/rr.1", "crates/rr_answer/specs/Command.antt", "python/rr/__init__.py"
+TABLE, MAN, DEFINITION = "commands.txt", "docs/rr.1", "crates/rr_answer/specs/Command.antt"
+PYTHON, PYTHON_SERIES = "python/rr/__init__.py", "python/rr/_series.py"
 CASES = "tests/cases"
 # The command that the Python module gives under another name, and the one that it leaves to `answer`.
 NOT_IN_PYTHON = ("list", "drill")
@@ -52,7 +53,7 @@ def wanted():
     yield DEFINITION, r'codes "{}"', [*commands, *languages]
     yield CASES, r"(?m)^rr {}\b", commands
     yield CASES, r"(?m)^rr .*\b{}[@:]", languages
-    yield PYTHON, WORD, languages
+    yield PYTHON_SERIES, WORD, languages
     yield PYTHON, r"(?m)^def {}\(", [name for name in commands if name not in NOT_IN_PYTHON]
     yield "docs/REFUSALS.md", r"(?m)^\| {}\b", variants("crates/rr_model/src/refusal.rt", "Refusal")
     yield "docs/CALENDARS.md", WORD, variants("crates/rr_trip/src/gather.rt", "KeyRefusal")

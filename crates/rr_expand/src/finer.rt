@@ -35,14 +35,9 @@ pub fn seconds_on(alloc: Global, rule: &Rule, start: i64, day: i64) -> Result<Ti
     fitting_seconds(alloc, rule, start, day)
 }
 
-/// The seconds of one day in units that fit the interval, at which the time parts hold; date parts are not asked. The rest is
-/// as in `seconds_on`.
-pub fn fitting_seconds(
-    alloc: Global,
-    rule: &Rule,
-    start: i64,
-    day: i64,
-) -> Result<TimeSet, NoMemory>
+// The seconds of one day in units that fit the interval, at which the time parts hold; date parts are not asked. The rest is
+// as in `seconds_on`.
+fn fitting_seconds(alloc: Global, rule: &Rule, start: i64, day: i64) -> Result<TimeSet, NoMemory>
     requires freq { is_whole_days rule.now.freq ≡ false }
     requires interval { 1 ≤ rule.now.interval }
     requires start { IsDayWithin 1000 (day_part Moments start) }

@@ -16,7 +16,7 @@ mod year_masks;
 
 pub use allowed_days::AllowedDays;
 pub use day_times::times;
-pub use finer::{fitting_seconds, fitting_seconds_by, seconds_on};
+pub use finer::{fitting_seconds_by, seconds_on};
 pub use finer_units::{first_fit, first_unit, unit_of, units_of_day};
 pub use laws::equal_keys_have_equal_masks;
 pub use unit_days::days;

@@ -37,6 +37,10 @@ fn cycle_of_weeks(alloc: Global) -> Option<u128> {
 #[test]
 fn worked_cycles(rt: HostRuntime) {
     rows_hold(&rt, rt.alloc(), cycle_said, CYCLES);
+}
+
+#[test]
+fn worked_cycle_of_weeks(rt: HostRuntime) {
     assert!(rt; cycle_of_weeks(rt.alloc()) == Some(292_194));
 }
 
