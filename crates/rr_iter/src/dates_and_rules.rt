@@ -4,7 +4,7 @@ ghost use Rattle.rr_model.specs.Series.Soundness.{IsSound};
 ghost use Rattle.rr_model.specs.Series.Tree.{dates_with_start, tree_of_given};
 ghost use Rattle.rr_lazy.specs.Next.{IsUnasked};
 
-use crate::RulesOfSeries;
+use crate::rules_of_series::RulesOfSeries;
 use rr_lazy::{DatesLazy, Lazy, OccupiedDay, Union};
 use rr_model::{Dates, NoMemory, Series};
 use rr_shapes::SetTable;

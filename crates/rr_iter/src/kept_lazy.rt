@@ -4,7 +4,8 @@ ghost use Rattle.rr_model.specs.Series.Soundness.{IsSound};
 ghost use Rattle.rr_lazy.specs.Next.{IsUnasked};
 ghost use Rattle.rr_iter.specs.Left.{tree_of_left};
 
-use crate::{DatesAndRules, RulesOfSeries};
+use crate::dates_and_rules::DatesAndRules;
+use crate::rules_of_series::RulesOfSeries;
 use rr_lazy::{Except, Lazy, OccupiedDay};
 use rr_model::{NoMemory, Series};
 use rr_shapes::SetTable;

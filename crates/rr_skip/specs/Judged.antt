@@ -28,10 +28,3 @@ abbrev pub IsFoldedSeries : {A : Type 0} → (A → Sketch) → SkipSeries → R
 IsFoldedSeries sketch series (Ok days) = StandsForSeries series (sketch days) × IsSkipLimitRefusal series None
 IsFoldedSeries sketch series (Err (Refused refusal)) = IsSkipLimitRefusal series (Some refusal)
 IsFoldedSeries sketch series (Err NoMemory) = ⊤
-
--- the days of the series that was read; the limit that refuses it; the refusal of the reading; or out of memory
-abbrev pub IsFoldedText : {A : Type 0} → (A → Sketch) → Result SkipSeries Refusal → Result A Fault → Type 0
-IsFoldedText sketch (Ok series) answer = IsFoldedSeries sketch series answer
-IsFoldedText sketch (Err refusal) (Ok days) = ⊥
-IsFoldedText sketch (Err refusal) (Err (Refused other)) = other ≡ refusal
-IsFoldedText sketch (Err refusal) (Err NoMemory) = ⊤

@@ -1,11 +1,9 @@
 // A series judged by the limits, and folded.
 ghost use Rattle.rr_days.specs.Sequence.{sketch};
-ghost use Rattle.rr_skip.specs.Judged.{IsFoldedSeries, IsFoldedText};
-ghost use Rattle.rr_skip.specs.Reading.{reads_rscale};
+ghost use Rattle.rr_skip.specs.Judged.{IsFoldedSeries};
 ghost use Rattle.rr_skip.specs.Validity.{IsSoundSkipping};
 
 use crate::SkipSeries;
-use crate::calendar::read;
 use crate::fold::fold_skip;
 use rr_days::Folded;
 use rr_model::Fault;
@@ -22,12 +20,4 @@ pub fn fold_admitted(alloc: Global, series: &SkipSeries) -> Result<Folded, Fault
         Err(refusal) => Err(Fault::Refused(refusal)),
         Ok(_) => fold_skip(alloc, series),
     }
-}
-
-/// Reads the series of a text as `read` does, and folds it as `fold_admitted` does.
-pub fn fold_text(alloc: Global, bytes: &[u8], offset: Option<i32>) -> Result<Folded, Fault>
-    ensures { IsFoldedText sketch (reads_rscale offset bytes.now) result }
-{
-    let series = read(alloc, bytes, offset)?;
-    fold_admitted(alloc, &series)
 }

@@ -18,6 +18,6 @@ mod walk;
 
 pub use calendar::read;
 pub use fold::fold_skip;
-pub use judged::{fold_admitted, fold_text};
+pub use judged::fold_admitted;
 pub use laws::{chosen_is_given, omitting_is_plain, omitting_text_is_plain, skip_chosen_repeats};
 pub use series::{Skip, SkipRule, SkipSeries};

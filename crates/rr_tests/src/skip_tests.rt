@@ -1,7 +1,7 @@
 // Days that months lack, by the SKIP of a rule.
 use crate::rows::{printed, rows_hold, three_words};
 use rr_days::Folded;
-use rr_skip::{fold_text, read};
+use rr_skip::{fold_admitted, read};
 use rr_text::basic;
 use rr_word::DaySeq;
 use std::alloc::Global;
@@ -41,7 +41,8 @@ fn day_said(alloc: Global, given: &str) -> Option<String> {
         return None;
     }
     let text = format!(in alloc; "DTSTART:{start}\nRRULE:RSCALE=GREGORIAN;{rule}\n").ok()?;
-    let days = fold_text(alloc, text.as_bytes(), None).ok()?;
+    let series = read(alloc, text.as_bytes(), None).ok()?;
+    let days = fold_admitted(alloc, &series).ok()?;
     printed(alloc, &!days.at(day).is_empty())
 }
 
