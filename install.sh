@@ -1,13 +1,13 @@
 #!/bin/sh
 # Installs the shipped programs, their man pages, completions and pages: ./install.sh [--prefix DIR]. DIR is /usr/local if it is not given.
 # Removes the same files: ./install.sh uninstall [--prefix DIR].
-# If the programs do not run here, which need the GNU C library, it installs those that need no C library.
+# If the programs do not run here, which need the GNU C library, it installs those that need no C library. On a machine for which libraries
+# alone are shipped it installs these, and the Python module.
 # With --libraries it installs the header, both libraries and librr.pc for C too, and with --python FOLDER the Python module with a library of its
 # own, in a folder where Python looks for modules, as `python3 -c 'import site; print(site.getusersitepackages())'` prints one.
 # uninstall removes the libraries always, and the Python module if its folder is given.
 set -eu
 top=$(CDPATH='' cd -- "$(dirname -- "$0")" && pwd)
-machine=x86_64-linux
 prefix=/usr/local
 kind=
 removes=
@@ -44,6 +44,36 @@ fail() {
     echo "install.sh: $*" >&2
     exit 1
 }
+
+# Says in machine which machine this is, as the names in release/ say it, and in shared, number and link how its shared libraries are called.
+choose_machine() {
+    machine=x86_64-linux shared=so number=librr.so.1 link=librr.so
+    case $(uname -sm) in
+    'Linux x86_64') ;;
+    'Linux aarch64') machine=aarch64-linux ;;
+    'Darwin arm64') machine=aarch64-macos ;;
+    'Darwin x86_64') machine=x86_64-macos ;;
+    *) [ -n "$removes" ] || fail "nothing is shipped for $(uname -sm)" ;;
+    esac
+    case $machine in
+    *-macos) shared=dylib number=librr.1.dylib link=librr.dylib ;;
+    esac
+}
+
+# Whether a program for this machine is shipped.
+has_program() {
+    [ -f "$top/release/rr-$machine" ] || [ -f "$top/release/rr-$machine-static" ]
+}
+
+# Whether the files of release are those of SHA256SUMS. (sha256sum gets no options, since busybox knows none but -c.)
+sums_hold() (
+    cd -- "$top/release" || exit 1
+    if command -v sha256sum >/dev/null 2>&1; then
+        sha256sum -c SHA256SUMS >/dev/null
+    else
+        shasum -a 256 -c SHA256SUMS >/dev/null
+    fi
+)
 
 # Says in kind which shipped programs run here, that end with 3 if they have no words: those over the GNU C library, or the static ones.
 choose_kind() {
@@ -83,7 +113,7 @@ library_files() {
     cat <<END
 include/rr.h include/rr.h 644
 release/librr-$machine.a lib/librr.a 644
-release/librr-$machine.so lib/librr.so.1 755
+release/librr-$machine.$shared lib/$number 755
 END
 }
 
@@ -98,7 +128,7 @@ release/VERSION rr/VERSION 644
 LICENSE-MIT rr/LICENSE-MIT 644
 LICENSE-APACHE rr/LICENSE-APACHE 644
 docs/LICENCES.md rr/LICENCES.md 644
-release/librr-$machine.so rr/librr.so 755
+release/librr-$machine.$shared rr/$link 755
 END
 }
 
@@ -135,8 +165,9 @@ remove() {
     [ ! -d "$1/share/doc/rr" ] || rmdir -- "$1/share/doc/rr" 2>/dev/null || true
 }
 
+choose_machine
 if [ -n "$removes" ]; then
-    { program_files && library_files && printf '%s\n' '- lib/librr.so -' '- lib/pkgconfig/librr.pc -'; } | remove "$prefix"
+    { program_files && library_files && printf '%s\n' "- lib/$link -" '- lib/pkgconfig/librr.pc -'; } | remove "$prefix"
     if [ -n "$python" ]; then
         python_files | remove "$python"
         rm -rf -- "$python/rr/__pycache__"
@@ -144,17 +175,20 @@ if [ -n "$removes" ]; then
     fi
     exit 0
 fi
-[ "$(uname -sm)" = 'Linux x86_64' ] || fail 'the shipped programs are for Linux on x86_64'
 [ -f "$top/release/SHA256SUMS" ] || fail 'no program is shipped here'
-# (without options, since busybox knows none but -c)
-(cd -- "$top/release" && sha256sum -c SHA256SUMS >/dev/null) || fail 'the files of release are not those of SHA256SUMS'
-choose_kind
-program_files | install "$prefix"
+sums_hold || fail 'the files of release are not those of SHA256SUMS'
+[ -z "$libraries$python" ] || [ -f "$top/release/librr-$machine.$shared" ] || fail "no library for $machine is shipped"
+if has_program; then
+    choose_kind
+    program_files | install "$prefix"
+elif [ -z "$libraries$python" ]; then
+    fail "no program for $machine is shipped"
+fi
 if [ -n "$libraries" ]; then
     library_files | install "$prefix"
     # (the linker looks for this name, the loader for the one with the number)
-    ln -sf librr.so.1 "$prefix/lib/librr.so"
-    echo "$prefix/lib/librr.so"
+    ln -sf "$number" "$prefix/lib/$link"
+    echo "$prefix/lib/$link"
     write_pkg_config
 fi
 [ -z "$python" ] || python_files | install "$python"

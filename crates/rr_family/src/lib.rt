@@ -25,7 +25,7 @@ pub use laws::{
     test_of_finite, unsorted_has_no_list,
 };
 pub use months::{MonthDayFamily, MonthPlaceFamily};
-pub use sorts::{has_sort, many_sorts, sort_of_day, unit_of};
+pub use sorts::{has_sort, many_sorts, sort_of_day};
 pub use weeks::WeekFamily;
 pub use window::{Window, WindowEnd, is_occupied, window_of};
 pub use years::{YearDayFamily, YearMonthFamily};

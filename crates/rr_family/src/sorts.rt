@@ -55,8 +55,8 @@ fn unit_counts(kind: FamilyKind, interval: u32, start: &Day, day: &Day) -> bool
     is_congruent(unit_of(kind, start), unit_of(kind, day), interval)
 }
 
-/// The number of the day, week, month or year in which a day lies, by the kind; weeks begin on Monday.
-pub fn unit_of(kind: FamilyKind, day: &Day) -> i64
+// The number of the day, week, month or year in which a day lies, by the kind; weeks begin on Monday.
+fn unit_of(kind: FamilyKind, day: &Day) -> i64
     ensures { result ≡ family_unit kind day.now.number }
 {
     match kind {
