@@ -193,13 +193,12 @@ pub record IsSoFar (sought : Sought) (piece : Piece) (names : List (List ℕ)) (
       (sections_from sought (piece.first + length (physical_lines piece.text.now) - 1) names (so_far begun rest) (raw_lines_at rest.first rest.text.now))
   pub open_one : IsOpen piece begun rest
   pub placed : All (IsWithin piece) found
-  pub started : 1 ≤ rest.first
   pub last : rest.first + length (physical_lines rest.text.now) ≡ piece.first + length (physical_lines piece.text.now)
   pub few : rest.first + length rest.text.now ≤ piece.first + length piece.text.now
 
-pub at-start : (sought : Sought) (piece begun : Piece) (names : List (List ℕ)) (found : List Segment) → 1 ≤ piece.first → names ≡ [] → begun ≡ piece → found ≡ []
+pub at-start : (sought : Sought) (piece begun : Piece) (names : List (List ℕ)) (found : List Segment) → names ≡ [] → begun ≡ piece → found ≡ []
     → IsSoFar sought piece names begun found piece
-at-start sought piece begun names found first no_names same no_found =
+at-start sought piece begun names found no_names same no_found =
     let here = begun-here piece piece (omega arith) in
     rw (no_names, same, no_found) record {
       sections =
@@ -208,7 +207,6 @@ at-start sought piece begun names found first no_names same no_found =
           (sections_from sought (piece.first + length (physical_lines piece.text.now) - 1) [] ls (raw_lines_at piece.first piece.text.now))) (sym here.none);
       open_one = here.open_one;
       placed = λ k d h. absurd (omega (arith, h));
-      started = first;
       last = refl;
       few = omega arith;
     }
@@ -356,7 +354,6 @@ module _ (sought : Sought) (piece rest after : Piece) (names names_after : List 
         sections = goes.sections;
         open_one = goes.open_one;
         placed = goes.placed;
-        started = omega (arith, is.started, one.later);
         last =
             omega (
               arith,

@@ -89,8 +89,7 @@ pub fn segments<'a>(
     sought: Sought,
     piece: Piece<'a>,
 ) -> Result<Vec<Segment<'a>>, Fault>
-    requires first { 1 ≤ piece.first }
-    requires numbered { piece.first + length piece.text.now < 2 ^ 64 }
+    requires { piece.first + length piece.text.now < 2 ^ 64 }
     ensures found { AreSegments sought piece.entry result }
     ensures within { IfOk result (λ found. All (IsWithin piece.entry) found.items) }
 {
@@ -105,7 +104,7 @@ pub fn segments<'a>(
         rest = after;
     }
     if !cutter.names.is_empty() {
-        return Err(Fault::Refused(Refusal::BadLine(rest.first - 1)));
+        return Err(Fault::Refused(Refusal::BadLine(rest.first.saturating_sub(1))));
     }
     let end = Piece {
         text: b"",

@@ -5,7 +5,7 @@ use Rattle.rr_events.proofs.LineLemmas.{cut-of, no-cut}
 use Rattle.rr_events.proofs.segment.segments.Goals as goal
 
 pub loop-cutter-init : goal.loop-cutter-init
-loop-cutter-init c = at-start c.args.sought c.args.piece _ _ _ c.requires.first c.new-cutter.ensures.names c.new-cutter.ensures.begun c.new-cutter.ensures.found
+loop-cutter-init c = at-start c.args.sought c.args.piece _ _ _ c.new-cutter.ensures.names c.new-cutter.ensures.begun c.new-cutter.ensures.found
 
 pub step-requires : goal.step-requires
 step-requires c =
@@ -31,9 +31,10 @@ loop-cutter-preserved c =
 
 pub returns-then-not-is_empty-clause-found : goal.returns-then-not-is_empty-clause-found
 returns-then-not-is_empty-clause-found c =
-    still-open c.args.sought c.args.piece c.loop-cutter.rest c.loop-cutter.cutter.begun c.loop-cutter.cutter.names c.loop-cutter.cutter.found.items
+    rw c.saturating_sub.ensures
+    (still-open c.args.sought c.args.piece c.loop-cutter.rest c.loop-cutter.cutter.begun c.loop-cutter.cutter.names c.loop-cutter.cutter.found.items
     c.loop-cutter.invariant (no-cut c.loop-cutter.rest.first c.loop-cutter.rest.text.now _ c.in_default.is c.in_ok-cut.ensures)
-    (sym c.is_empty.ensures ∙ c.if-not-is_empty.true)
+    (sym c.is_empty.ensures ∙ c.if-not-is_empty.true))
 
 pub returns-clause-found : goal.returns-clause-found
 returns-clause-found c =
