@@ -2,5 +2,8 @@ pub mod CuttingLemmas
 pub mod PartLemmas
 pub mod LineLemmas
 pub mod NameLemmas
+pub mod ParameterLemmas
 pub mod FindLemmas
+pub mod RawLemmas
+pub mod SegmentLemmas
 mod Examples

@@ -11,6 +11,7 @@ use Rattle.rr_events.specs.Cutting.{lines_at, IsContinued, IsCut, IsOneLine}
 use Rattle.rr_events.specs.declared.cut.Cut.{Cut}
 use Rattle.rr_events.proofs.CuttingLemmas.{parts_unfold_alone}
 use Rattle.rr_events.proofs.PartLemmas.{cut-lines, first-blank, joined, text-lines}
+use Rattle.rr_events.proofs.RawLemmas.{longer-whole, one-whole}
 
 -- physical lines are taken in one after another
 pub lines-append : (kb : Bool) (n : ℕ) (done : List Line) (texts more : List (List ℕ))
@@ -37,6 +38,7 @@ one-begun number text first taken rest same cut =
       part = cut.part;
       parts = cut.parts;
       unfolds = ap (with_physical_lines false number []) lines ∙ alone number first;
+      whole = one-whole cut.part first lines;
       counted = omega (arith, ap length lines);
       later = omega arith;
       few = omega (arith, cut.shorter);
@@ -59,6 +61,9 @@ one-longer number text line rest more taken after next same one add =
           ∙ ap (λ (b : Bool). if b && true then onto_last (line ∷ []) (continuation false add.line)
           else line ∷ record { number = place; text = add.line } ∷ []) add.blank
           ∙ ap (λ (t : List ℕ). record { number = line.number; text = line.text ++ t } ∷ []) (sym add.adds);
+      whole =
+          longer-whole one.part cut.part one.whole (one-whole cut.part add.line (cut-lines rest add.line after cut))
+          (sym (first-blank cut.part add.line [] (cut-lines rest add.line after cut)) ∙ add.blank);
       counted = omega (arith, one.counted, ap length lines, length-append (physical_lines one.part) (add.line ∷ []));
       later = omega (arith, one.later);
       few = omega (arith, one.few, cut.shorter);

@@ -11,21 +11,21 @@ use Rattle.rr_text.specs.Physical.{EndsWithFeed, IsCutAt, IsPart}
 -- ---- the physical lines of two parts
 
 -- there is a line
-record IsSome (lines : List (List ℕ)) : Type 0 where
-  first : List ℕ
-  more : List (List ℕ)
-  is : lines ≡ first ∷ more
+pub record IsSome (lines : List (List ℕ)) : Type 0 where
+  pub first : List ℕ
+  pub more : List (List ℕ)
+  pub is : lines ≡ first ∷ more
 
 -- the lines of a text after a line feed stand behind those before it
 record IsFed (front rest : List ℕ) : Type 0 where
   some : IsSome (physical_lines (front ++ 10 ∷ []))
   apart : physical_lines (front ++ 10 ∷ rest) ≡ physical_lines (front ++ 10 ∷ []) ++ physical_lines rest
 
-onto_first-some : (b : ℕ) (lines : List (List ℕ)) → IsSome (onto_first b lines)
+pub onto_first-some : (b : ℕ) (lines : List (List ℕ)) → IsSome (onto_first b lines)
 onto_first-some b [] = record { first = b ∷ []; more = []; is = refl }
 onto_first-some b (line ∷ lines) = record { first = b ∷ line; more = lines; is = refl }
 
-onto_first-append : (b : ℕ) (lines more : List (List ℕ)) → IsSome lines → onto_first b (lines ++ more) ≡ onto_first b lines ++ more
+pub onto_first-append : (b : ℕ) (lines more : List (List ℕ)) → IsSome lines → onto_first b (lines ++ more) ≡ onto_first b lines ++ more
 onto_first-append b [] more some = absurd (let e = some.is in cc)
 onto_first-append b (line ∷ lines) more some = refl
 
@@ -123,7 +123,7 @@ blank-feed b bs e = rw (eqb-true b 10 e) refl
 blank-return : (b : ℕ) (bs : List ℕ) → (b == 13) ≡ true → begins_blank (b ∷ bs) ≡ false
 blank-return b bs e = rw (eqb-true b 13 e) refl
 
-feeds-lines : (bs : List ℕ) → feeds_next bs ≡ true → (more : List (List ℕ)) × (physical_lines bs ≡ [] ∷ more)
+pub feeds-lines : (bs : List ℕ) → feeds_next bs ≡ true → (more : List (List ℕ)) × (physical_lines bs ≡ [] ∷ more)
 unfolding physical_lines
 feeds-lines [] h = absurd (cc)
 feeds-lines (b ∷ bs) h = (physical_lines bs, rw h refl)

@@ -1,5 +1,6 @@
 -- A text is unfolded part by part, where each part begins with a line that continues none (RFC 5545, section 3.1).
-use Rattle.std.specs.Prelude.{◌≡◌, ℕ, ◌+◌, ◌<◌, ◌≤◌, Bool, true, false, List, [], ◌∷◌, ◌++◌, length, drop}
+use Rattle.std.specs.Prelude.{◌≡◌, ℕ, ◌+◌, ◌<◌, ◌≤◌, ◌==◌, ◌&&◌, Bool, true, false, not, if◌then◌else◌, List, [], ◌∷◌, ◌++◌, length, drop}
+use Rattle.std.specs.List.{onto_first}
 use Rattle.rr_model.specs.Text.Lines.{begins_blank, physical_lines, with_physical_lines}
 use Rattle.rr_model.specs.declared.line.Line.{Line}
 use Rattle.rr_text.specs.Physical.{IsCutAt, IsPart}
@@ -9,6 +10,11 @@ abbrev pub PartsUnfoldAlone : Type 0
 PartsUnfoldAlone =
     (keeps_blank : Bool) (number : ℕ) (done : List Line) (text : List ℕ) (texts : List (List ℕ)) → begins_blank text ≡ false
     → with_physical_lines keeps_blank number done (text ∷ texts) ≡ done ++ with_physical_lines keeps_blank number [] (text ∷ texts)
+
+-- the bytes of the unfolded lines of a text, with their line breaks: each ends behind a line feed that no blank follows
+abbrev pub raw_texts : List ℕ → List (List ℕ)
+raw_texts [] = []
+raw_texts (b ∷ bs) = if (b == 10) && not (begins_blank bs) then (b ∷ []) ∷ raw_texts bs else onto_first b (raw_texts bs)
 
 -- the unfolded lines of a part of a text whose first physical line has this number
 abbrev pub lines_at : ℕ → List ℕ → List Line
@@ -26,6 +32,7 @@ pub record IsOneLine (number : ℕ) (text : List ℕ) (line : Line) (rest : List
   pub part : List ℕ
   pub parts : IsPart text part rest
   pub unfolds : lines_at number part ≡ line ∷ []
+  pub whole : raw_texts part ≡ part ∷ []
   pub counted : next ≡ number + length (physical_lines part)
   pub later : number < next
   pub few : next + length rest ≤ number + length text

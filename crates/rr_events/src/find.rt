@@ -25,7 +25,7 @@ struct Finder<'a> {
 }
 
 // The part of a piece before the rest of it.
-fn before<'a>(begun: Piece<'a>, rest: &[u8]) -> Piece<'a>
+pub(crate) fn before<'a>(begun: Piece<'a>, rest: &[u8]) -> Piece<'a>
     requires { length rest.now ≤ length begun.text.now }
     ensures { IsBefore begun.entry rest.now result }
 {

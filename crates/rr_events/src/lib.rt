@@ -1,4 +1,4 @@
-//! The events of a whole calendar text: where each stands, and what stands directly in it.
+//! The events and other components of a whole calendar text: where each stands, and what stands directly in it.
 #![tactic(auto)]
 
 mod cut;
@@ -6,8 +6,13 @@ mod find;
 mod laws;
 mod names;
 mod own;
+mod parameter;
+mod segment;
 
 pub use cut::{Cut, cut_line};
 pub use find::{Piece, find_events};
 pub use laws::parts_unfold_alone;
+pub use names::{OpenNames, Sought};
 pub use own::{first_named, first_value, own_lines};
+pub use parameter::parameter_of;
+pub use segment::{Segment, piece_lines, segments};

@@ -7,4 +7,4 @@ use Rattle.rr_events.proofs.names.OpenNames.is_within_event.Goals as goal
 
 pub returns : goal.returns
 returns c =
-    ap (λ (n : ℕ). nat_lt 0 n) c.self.invariant ∙ any-counted (reverse c.self.inside.names.items) ∙ ap (list_any is_event) c.self.view_is
+    ap (λ (n : ℕ). nat_lt 0 n) c.self.invariant.0 ∙ any-counted is_event (reverse c.self.inside.names.items) ∙ ap (list_any is_event) c.self.view_is
