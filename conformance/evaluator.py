@@ -71,6 +71,12 @@ def counted(items, number):
     return [items[index]] if 0 <= index < len(items) else []
 
 
+def with_name(days, number, name):
+    """The days of that weekday, or the one of them with that number."""
+    named = [day for day in days if weekday(day) == name]
+    return counted(named, number) if number else named
+
+
 class Rule:
     """Section 3.3.10: the parts of a rule, beside its DTSTART."""
 
@@ -85,7 +91,6 @@ class Rule:
         if "BYDAY" in parts:
             values = [re.fullmatch(r"([+-]?\d+)?(\w\w)", value).groups() for value in parts["BYDAY"].split(",")]
             self.by["BYDAY"] = [(int(number or 0), WEEKDAYS.index(name)) for number, name in values]
-        self.is_fine = self.freq in SECONDS_OF
 
     # The intervals: "INTERVAL contains a positive integer representing at which intervals the recurrence rule repeats."
 
@@ -110,7 +115,7 @@ class Rule:
 
     def sets(self, day, last=LAST_DAY):
         """The sorted sets of moments of each interval, from about that day on (not after it) up to the last."""
-        if self.is_fine:
+        if self.freq in SECONDS_OF:
             yield from self.fine_sets(day, last)
             return
         first, last = self.number_of(self.start[0]), self.number_of(last)
@@ -124,11 +129,8 @@ class Rule:
         length = SECONDS_OF[self.freq]
         origin = (self.start[0] * 86400 + self.start[1]) // length
         hours = sorted(set(self.by.get("BYHOUR", range(24))))
-        for day, hour in itertools.product(range(max(day - 1, self.start[0]), last + 1), hours):
-            if hour == hours[0]:
-                is_left = self.limits_leave(day)
-            if is_left:
-                begin = day * 86400 + hour * 3600
+        for day in range(max(day - 1, self.start[0]), last + 1):
+            for begin in [day * 86400 + hour * 3600 for hour in (hours if self.limits_leave(day) else [])]:
                 units = range(begin // length, (begin + 3600) // length)
                 for unit in units[(origin - units[0]) % self.interval::self.interval]:
                     yield [(day, second) for second in self.seconds_of_unit(unit * length % 86400)]
@@ -148,9 +150,7 @@ class Rule:
         """A part applied to one span: what it leaves of it, or the spans that it becomes (the table after the list of the parts)."""
         if name == "BYMONTH":
             months = [[day for day in days if date(day).month == month] for month in sorted(set(self.by[name]))]
-            if kind == "YEARLY":
-                return [("MONTHLY", month) for month in months]
-            return [(kind, sorted(sum(months, [])))]
+            return [("MONTHLY", month) for month in months] if kind == "YEARLY" else [(kind, sorted(sum(months, [])))]
         if name == "BYWEEKNO":
             return [("WEEKLY", week) for week in self.weeks(days)]
         if name == "BYYEARDAY":
@@ -189,16 +189,11 @@ class Rule:
         """BYDAY, and notes 1 and 2 of the table: a limit on single days, otherwise an expansion of the week, the month or the year. A number
         counts within the month of a MONTHLY rule, or of a YEARLY one with BYMONTH; otherwise within the year."""
         if kind != "DAILY":
-            return sorted({day for number, name in self.by["BYDAY"] for day in self.with_name(days, number, name)})
+            return sorted({day for number, name in self.by["BYDAY"] for day in with_name(days, number, name)})
         of_day = date(days[0])
         in_month = self.freq == "MONTHLY" or "BYMONTH" in self.by
-        around = days if self.freq not in ("MONTHLY", "YEARLY") else days_of_month(of_day.year, of_day.month) if in_month else days_of_year(of_day.year)
-        return [day for day in days if any(day in self.with_name(around, number, name) for number, name in self.by["BYDAY"])]
-
-    @staticmethod
-    def with_name(days, number, name):
-        named = [day for day in days if weekday(day) == name]
-        return counted(named, number) if number else named
+        around = days_of_month(of_day.year, of_day.month) if in_month else days_of_year(of_day.year) if self.freq == "YEARLY" else days
+        return [day for day in days if any(day in with_name(around, number, name) for number, name in self.by["BYDAY"])]
 
     def taken_from_start(self, kind, days):
         """"Information, not contained in the rule, necessary to determine the various recurrence instance start time and dates are derived
@@ -208,9 +203,7 @@ class Rule:
             return [day for day in days if weekday(day) == weekday(self.start[0])]
         if kind == "MONTHLY":
             return [day for day in days if date(day).day == start.day]
-        if kind == "YEARLY":
-            return [day for day in days if (date(day).month, date(day).day) == (start.month, start.day)]
-        return days
+        return [day for day in days if (date(day).month, date(day).day) == (start.month, start.day)] if kind == "YEARLY" else days
 
     def limits_leave(self, day):
         """Whether the parts on days, all limits in a rule of hours, minutes or seconds, leave that day."""

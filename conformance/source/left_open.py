@@ -26,12 +26,12 @@ def left_open():
         yield "start-not-synchronized", UNSYNCHRONISED, since, [rule], [], [], START_READINGS
     yield ("start-not-synchronized", UNSYNCHRONISED + " An example of its own, every Friday the 13th, has such a start, excludes it and lists the first reading.",
            "19970902T090000", ["FREQ=MONTHLY;BYDAY=FR;BYMONTHDAY=13"], [], ["19970902T090000"], {"start only if the rule chooses it": {}})
-    for rule, since in (("FREQ=YEARLY;INTERVAL=2;BYWEEKNO=1;BYDAY=MO", "20240101"), ("FREQ=YEARLY;INTERVAL=2;BYWEEKNO=53;BYDAY=SU", "20210103"),
+    for rule, since in (("FREQ=YEARLY;INTERVAL=2;BYWEEKNO=1;BYDAY=MO", "20240101"),
                         ("FREQ=YEARLY;BYWEEKNO=1;BYDAY=MO,TU,WE;BYSETPOS=1", "20240101"), ("FREQ=YEARLY;INTERVAL=3;BYWEEKNO=-1;BYDAY=SA,SU", "20241228"),
-                        ("FREQ=YEARLY;BYMONTH=12;BYWEEKNO=1;BYDAY=MO", "20241230"), ("FREQ=YEARLY;BYMONTH=1;BYWEEKNO=52,53;BYDAY=SU", "20230101")):
+                        ("FREQ=YEARLY;BYMONTH=12;BYWEEKNO=1;BYDAY=MO", "20241230")):
         yield "week-over-new-year", WEEK_INTERVAL, since, [rule], [], [], WEEK_READINGS
     for rules, since in ((["FREQ=WEEKLY;BYDAY=MO", "FREQ=MONTHLY;BYMONTHDAY=1"], "20240101"), (["FREQ=DAILY;COUNT=3", "FREQ=WEEKLY;COUNT=4"], "20240101T090000"),
-                         (["FREQ=MONTHLY;BYDAY=1MO", "FREQ=MONTHLY;BYDAY=-1FR;UNTIL=20240601"], "20240101"), (["FREQ=YEARLY", "FREQ=DAILY;INTERVAL=100"], "20240101")):
+                         (["FREQ=MONTHLY;BYDAY=1MO", "FREQ=MONTHLY;BYMONTHDAY=1;UNTIL=20240601"], "20240101"), (["FREQ=YEARLY", "FREQ=DAILY;INTERVAL=100"], "20240101")):
         yield "several-rules", SEVERAL, since, rules, [], [], RULE_READINGS
     for a, second, minute in (("FREQ=DAILY;BYSECOND=0,60", "FREQ=DAILY;BYSECOND=0,59", "FREQ=DAILY;BYMINUTE=0,1;BYSECOND=0"),
                               ("FREQ=HOURLY;BYSECOND=0,60", "FREQ=HOURLY;BYSECOND=0,59", "FREQ=HOURLY;BYMINUTE=0,1;BYSECOND=0")):
