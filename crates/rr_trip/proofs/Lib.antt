@@ -6,6 +6,7 @@ mod DateSetLemmas
 mod EditStepLemmas
 mod EditedLemmas
 mod EditedInstanceLemmas
+mod OccursLemmas
 mod JudgeLemmas
 mod SaidLemmas
 mod Examples
