@@ -6,7 +6,7 @@ use Rattle.rr_model.specs.declared.verdict.Verdict.TheVariants.{Yes, No}
 use Rattle.rr_trip.specs.Event.{event_of}
 use Rattle.rr_trip.specs.Files.{file_events}
 use Rattle.rr_trip.specs.Keys.{key_of}
-use Rattle.rr_trip.specs.Printed.{key_text, said_text}
+use Rattle.rr_trip.specs.Printed.{asked_text, key_text, said_text}
 use Rattle.rr_trip.specs.Report.{IsFileRefused}
 use Rattle.rr_trip.specs.Said.{IsSaid}
 use Rattle.rr_trip.specs.declared.entry.Entry.{Entry}
@@ -46,7 +46,7 @@ said_status (said.Compared (No kind at side) one_zone) = Differs
 
 -- the line that says of a name that neither calendar has it
 abbrev pub unknown_text : List ℕ → List ℕ
-unknown_text name = codes "unknown " ++ name ++ codes "\n"
+unknown_text name = codes "unknown " ++ asked_text name ++ codes "\n"
 
 -- what is shown says that no event has the name
 pub record IsUnknown (name : List ℕ) (shown : Shown) : Type 0 where

@@ -12,7 +12,7 @@ use crate::gather::KeyFault;
 use crate::grid::picture;
 use crate::judge::{KeyDays, key_days};
 use crate::key::{Key, key_of};
-use crate::printing::{push, push_key, push_said};
+use crate::printing::{push, push_asked, push_key, push_said};
 use crate::report::Status;
 use crate::said::{Said, said_of};
 use rr_events::Piece;
@@ -152,7 +152,7 @@ fn unknown_name(alloc: Global, name: &[u8]) -> Result<Shown, NoMemory>
 {
     let mut text = Vec::new(alloc);
     push(&mut text, b"unknown ")?;
-    push(&mut text, name)?;
+    push_asked(&mut text, name)?;
     push(&mut text, b"\n")?;
     Ok(Shown {
         status: Status::Refused,
@@ -233,7 +233,8 @@ fn show_named(
 }
 
 /// What is said of the events of two calendar files whose key is printed by this name, as in a report; and, where they
-/// differ, a picture of the month of the first counterexample and the two after it. Where no event has the name, that.
+/// differ, a picture of the month of the first counterexample and the two after it. Where no event has the name, that, with the
+/// name as it is printed.
 ///
 /// A file is refused as a whole as in `compare`, which says of the offset.
 pub fn show(
