@@ -4,7 +4,8 @@ ghost use Rattle.std.specs.List.{filter};
 ghost use Rattle.rr_events.specs.Finding.{lines_in};
 ghost use Rattle.rr_trip.specs.Entries.{IsNumbered, IsNumberedPiece, entry_of, events_in};
 ghost use Rattle.rr_trip.specs.Printed.{key_text};
-ghost use Rattle.rr_trip.specs.Shown.{AnswersShow, IsShownOf, IsShownSaid, IsUnknown, are_none, events_named, is_entry_named, named_part, said_status};
+ghost use Rattle.rr_days.specs.Sequence.{sketch};
+ghost use Rattle.rr_trip.specs.Shown.{AnswersShow, IsPictureBeside, IsPictureFor, IsPictureFrom, IsShownOf, IsUnpainted, IsShownSaid, IsUnknown, are_none, events_named, is_entry_named, named_part, said_status};
 
 use crate::entry::Entry;
 use crate::file::{TripFault, read_file};
@@ -91,6 +92,16 @@ fn said_status(said: Said) -> Status
     }
 }
 
+// No picture of events that are refused.
+fn no_picture(alloc: Global, fault: KeyFault) -> Result<Vec<u8>, NoMemory>
+    ensures { IfOk result (λ text. IsUnpainted fault text.items) }
+{
+    match fault {
+        KeyFault::NoMemory => Err(NoMemory),
+        KeyFault::Refused(_) => Ok(Vec::new(alloc)),
+    }
+}
+
 // The picture of the months from a day on, beside the days of A; none where the events of B are refused.
 fn picture_beside(
     alloc: Global,
@@ -100,11 +111,12 @@ fn picture_beside(
     day: i64,
 ) -> Result<Vec<u8>, NoMemory>
     requires { All IsNumbered b.now }
+    ensures { IfOk result (λ text. IsPictureBeside offset (sketch a.now.days) (events_in b.now) day
+        text.items) }
 {
     match key_days(alloc, offset, b) {
         Ok(b) => picture(alloc, &a.days, &b.days, day),
-        Err(KeyFault::Refused(_)) => Ok(Vec::new(alloc)),
-        Err(KeyFault::NoMemory) => Err(NoMemory),
+        Err(fault) => no_picture(alloc, fault),
     }
 }
 
@@ -118,11 +130,12 @@ fn picture_from(
 ) -> Result<Vec<u8>, NoMemory>
     requires a { All IsNumbered a.now }
     requires b { All IsNumbered b.now }
+    ensures { IfOk result (λ text. IsPictureFrom offset (events_in a.now) (events_in b.now) day
+        text.items) }
 {
     match key_days(alloc, offset, a) {
         Ok(a) => picture_beside(alloc, offset, &a, b, day),
-        Err(KeyFault::Refused(_)) => Ok(Vec::new(alloc)),
-        Err(KeyFault::NoMemory) => Err(NoMemory),
+        Err(fault) => no_picture(alloc, fault),
     }
 }
 
@@ -136,6 +149,8 @@ fn picture_of(
 ) -> Result<Vec<u8>, NoMemory>
     requires a { All IsNumbered a.now }
     requires b { All IsNumbered b.now }
+    ensures { IfOk result (λ text. IsPictureFor offset (events_in a.now) (events_in b.now) said
+        text.items) }
 {
     match said {
         Said::Compared {
