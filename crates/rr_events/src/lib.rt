@@ -3,11 +3,13 @@
 
 mod cut;
 mod find;
+mod full;
 mod laws;
 mod names;
 mod own;
 
-pub use cut::{Cut, cut_line};
+pub use cut::{Cut, Rest, after_empty_lines, cut_line};
 pub use find::{Piece, find_events};
+pub use full::full_lines;
 pub use laws::parts_unfold_alone;
 pub use own::{first_named, first_value, own_lines};

@@ -1,5 +1,6 @@
 mod InstanceLemmas
 mod ParameterLemmas
+mod FullLemmas
 mod KeyStepLemmas
 mod EditLemmas
 mod DateSetLemmas
