@@ -37,11 +37,11 @@ of_ending P (Some asked) ReadFault h equal differs refused usage = absurd h
 of_ending P (Some asked) WriteFault h equal differs refused usage = absurd h
 of_ending P (Some asked) NoMemory h equal differs refused usage = absurd h
 
-ends_said : (asked : Option Asked) (is : Answer → Type 0) (x : Answer) (old new : Option (List ℕ)) → IsEnding asked x.status → is x
-    → Appended old x.bytes new → Ends x.status is old new
-ends_said asked is x old new h said put =
-    of_ending (λ (s : Status). s ≡ x.status → Ends s is old new) asked x.status h
-    (λ e. (x, said, e, put)) (λ e. (x, said, e, put)) (λ e. (x, said, e, put)) (λ e. (x, said, e, put)) refl
+ends_said : (asked : Option Asked) (is : Answer → Type 0) (x : Answer) (in_utc : ℕ) (old new : Option (List ℕ)) → IsEnding asked x.status → is x
+    → in_utc ≡ x.in_utc → Appended old x.bytes new → Ends x.status in_utc is old new
+ends_said asked is x in_utc old new h said counted put =
+    of_ending (λ (s : Status). s ≡ x.status → Ends s in_utc is old new) asked x.status h
+    (λ e. (x, said, e, counted, put)) (λ e. (x, said, e, counted, put)) (λ e. (x, said, e, counted, put)) (λ e. (x, said, e, counted, put)) refl
 
 pub caused : {S K : Type 0} (asked : Option Asked) (status : Status) (failed : S → List (List ℕ)) (source source' : S) (faults : K → ℕ) (sink sink' : K)
     → IsEnding asked status → failed source' ≡ failed source → faults sink' ≡ faults sink → HasCause status asked failed source source' faults sink sink'
@@ -66,9 +66,10 @@ no_fault asked status h (inr e) = no_memory asked (subst (λ (s : Status). IsEnd
 
 module _ (asked : Option Asked) (held : List ℕ → Option (List ℕ)) (x : Answer) (said : IsAnswerTo asked held x) (bytes : List ℕ) (same : bytes ≡ x.bytes)
     (old new : Option (List ℕ)) where
-  pub ends_failed : AppendedPart old bytes new → IfSome (contents asked held) (λ files. Ends WriteFault (IsAnswer asked files) old new)
-  ends_failed part = IfSome_then (contents asked held) said (λ files is. (x, is, subst (λ b. AppendedPart old b new) same part))
+  pub ends_failed : AppendedPart old bytes new → IfSome (contents asked held) (λ files. Ends WriteFault 0 (IsAnswer asked files) old new)
+  ends_failed part = IfSome_then (contents asked held) said (λ files is. (refl, x, is, subst (λ b. AppendedPart old b new) same part))
 
-  pub ends_done : IsEnding asked x.status → Appended old bytes new → IfSome (contents asked held) (λ files. Ends x.status (IsAnswer asked files) old new)
+  pub ends_done : IsEnding asked x.status → Appended old bytes new → IfSome (contents asked held) (λ files. Ends x.status x.in_utc (IsAnswer asked files) old new)
   ends_done h whole =
-      IfSome_then (contents asked held) said (λ files is. ends_said asked (IsAnswer asked files) x old new h is (subst (λ b. Appended old b new) same whole))
+      IfSome_then (contents asked held) said
+      (λ files is. ends_said asked (IsAnswer asked files) x x.in_utc old new h is refl (subst (λ b. Appended old b new) same whole))

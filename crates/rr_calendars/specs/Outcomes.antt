@@ -6,9 +6,9 @@ use Rattle.rr_trip.specs.declared.file.TripFault.TheVariants as trip
 use Rattle.rr_calendars.specs.Run.{Answer}
 use Rattle.rr_calendars.specs.declared.answer.Outcome.{Outcome}
 
--- the status and the bytes of an outcome
+-- the status and the bytes of an outcome, and its count
 abbrev pub outcome_is : Outcome → Answer
-outcome_is outcome = record { status = outcome.status; bytes = outcome.text.items }
+outcome_is outcome = record { status = outcome.status; bytes = outcome.text.items; in_utc = outcome.in_utc }
 
 -- an outcome is so, or the fault is the refusal of a file; out of memory may come in place of each
 abbrev pub AnswersFiles : (Outcome → Type 0) → List ℕ → List ℕ → Result Outcome TripFault → Type 0

@@ -1,8 +1,8 @@
 -- What a run answers, and what it leaves, by its status.
-use Rattle.std.specs.Prelude.{◌≡◌, ◌⊎◌, ℕ, ◌+◌, Bool, ℤ, List, [], ◌∷◌, ◌++◌, take, Option, None, Some, option_map, option_and_then, ⊤, IfSome}
+use Rattle.std.specs.Prelude.{◌≡◌, ◌⊎◌, ℕ, ◌+◌, Bool, if◌then◌else◌, ℤ, List, [], ◌∷◌, ◌++◌, take, Option, None, Some, option_map, option_and_then, ⊤, IfSome}
 use Rattle.rr_io.specs.Outside.{Appended, AppendedPart, RoseOrIsLast}
 use Rattle.rr_model.specs.declared.verdict.Side.{Side}
-use Rattle.rr_trip.specs.Counts.{counts_of, status_of}
+use Rattle.rr_trip.specs.Counts.{count_said, counts_of, is_in_utc, status_of}
 use Rattle.rr_trip.specs.Printed.{file_refusal_line, report_text}
 use Rattle.rr_trip.specs.Report.{IsFileRefused, IsReportOf}
 use Rattle.rr_trip.specs.Shown.{IsShownIn}
@@ -11,6 +11,7 @@ use Rattle.rr_trip.specs.declared.file.TheConstants.{MAX_FILE}
 use Rattle.rr_trip.specs.declared.report.ReportLine.{ReportLine}
 use Rattle.rr_trip.specs.declared.report.Status.{Status as Ending}
 use Rattle.rr_trip.specs.declared.report.Status.TheVariants as ending
+use Rattle.rr_trip.specs.declared.said.Said.{Said}
 use Rattle.rr_trip.specs.declared.shown.Shown.{Shown}
 use Rattle.rr_calendars.specs.Words.{Asked, Request, comparison, help}
 use Rattle.rr_calendars.specs.declared.status.Status.{Status}
@@ -18,10 +19,11 @@ use Rattle.rr_calendars.specs.declared.status.Status.TheVariants.{Equal, Differs
 
 -- ---- answers
 
--- how the run ends, and the bytes that it puts
+-- how the run ends, the bytes that it puts, and how many UIDs state UTC beside local time
 pub record Answer : Type 0 where
   pub status : Status
   pub bytes : List ℕ
+  pub in_utc : ℕ
 
 -- the number of a status
 abbrev pub code_of : Status → ℕ
@@ -41,11 +43,24 @@ status_by ending.Refused = Refused
 
 -- the answer that states a report
 abbrev pub report_answer : Bool → List ReportLine → Answer
-report_answer only_differences lines = record { status = status_by (status_of (counts_of lines)); bytes = report_text only_differences lines }
+report_answer only_differences lines = record {
+  status = status_by (status_of (counts_of lines));
+  bytes = report_text only_differences lines;
+  in_utc = count_said is_in_utc lines;
+}
 
 -- the answer that refuses a file
 abbrev pub refusal_answer : Side → FileRefusal → Answer
-refusal_answer side refusal = record { status = Refused; bytes = file_refusal_line side refusal }
+refusal_answer side refusal = record { status = Refused; bytes = file_refusal_line side refusal; in_utc = 0 }
+
+-- how many UIDs state UTC beside local time, where this is said of one
+abbrev pub utc_count : Option Said → ℕ
+utc_count None = 0
+utc_count (Some said) = if is_in_utc said then 1 else 0
+
+-- the answer that shows the events of a name
+abbrev pub shown_answer : Shown → Answer
+shown_answer shown = record { status = status_by shown.status; bytes = shown.text.items; in_utc = utc_count shown.said }
 
 -- the answer is the report of both files
 pub record IsReported (request : Request) (old new : List ℕ) (answer : Answer) : Type 0 where
@@ -64,7 +79,7 @@ pub record IsFileAnswer (old new : List ℕ) (answer : Answer) : Type 0 where
 pub record IsNamed (offset : Option ℤ) (name old new : List ℕ) (answer : Answer) : Type 0 where
   pub shown : Shown
   pub shows : IsShownIn offset old new name shown
-  pub is : answer ≡ record { status = status_by shown.status; bytes = shown.text.items }
+  pub is : answer ≡ shown_answer shown
 
 -- what a comparison with two files that are not refused answers: the report, or what is shown of one name
 abbrev pub IsOfBoth : Option (List ℕ) → Request → List ℕ → List ℕ → Answer → Type 0
@@ -122,17 +137,17 @@ IsFileOf (Some (comparison request)) name = (name ≡ request.old) ⊎ (name ≡
 
 -- ---- what a run leaves
 
--- What the sink has at the end, by the status, where `is` says which answers there are: the answer after what it had, a part of it where
--- a put failed, nothing more where a fetch failed or out of memory.
-abbrev pub Ends : Status → (Answer → Type 0) → Option (List ℕ) → Option (List ℕ) → Type 0
-Ends ReadFault is old new = new ≡ old
-Ends NoMemory is old new = new ≡ old
-Ends WriteFault is old new = (answer : Answer) × is answer × AppendedPart old answer.bytes new
-Ends status is old new = (answer : Answer) × is answer × (status ≡ answer.status) × Appended old answer.bytes new
+-- What the sink has at the end, by the status, and how many UIDs are to be noted, where `is` says which answers there are: the answer after
+-- what it had; a part of it where a put failed, nothing more where a fetch failed or out of memory, and then none is to be noted.
+abbrev pub Ends : Status → ℕ → (Answer → Type 0) → Option (List ℕ) → Option (List ℕ) → Type 0
+Ends ReadFault in_utc is old new = (in_utc ≡ 0) × (new ≡ old)
+Ends NoMemory in_utc is old new = (in_utc ≡ 0) × (new ≡ old)
+Ends WriteFault in_utc is old new = (in_utc ≡ 0) × ((answer : Answer) × is answer × AppendedPart old answer.bytes new)
+Ends status in_utc is old new = (answer : Answer) × is answer × (status ≡ answer.status) × (in_utc ≡ answer.in_utc) × Appended old answer.bytes new
 
 -- the sink ends so with the answer to what is asked over what the source holds, where that tells it
-abbrev pub EndsAnswered : Status → Option Asked → (List ℕ → Option (List ℕ)) → Option (List ℕ) → Option (List ℕ) → Type 0
-EndsAnswered status asked held old new = IfSome (contents asked held) (λ files. Ends status (IsAnswer asked files) old new)
+abbrev pub EndsAnswered : Status → ℕ → Option Asked → (List ℕ → Option (List ℕ)) → Option (List ℕ) → Option (List ℕ) → Type 0
+EndsAnswered status in_utc asked held old new = IfSome (contents asked held) (λ files. Ends status in_utc (IsAnswer asked files) old new)
 
 -- the status is out of memory, or that of the answer to what is asked over what the source holds, where that tells it
 abbrev pub HasAnswerStatus : Status → Option Asked → (List ℕ → Option (List ℕ)) → Type 0

@@ -2,7 +2,7 @@
 ghost use Rattle.std.specs.Prelude.{◌≡◌, All, IfOk};
 ghost use Rattle.rr_calendars.specs.Outcomes.{AnswersFiles, outcome_is};
 ghost use Rattle.rr_calendars.specs.Parsed.{request_in};
-ghost use Rattle.rr_calendars.specs.Run.{IsCompared, IsNamed, IsOfRequest, IsReported, report_answer, status_by};
+ghost use Rattle.rr_calendars.specs.Run.{IsCompared, IsNamed, IsOfRequest, IsReported, report_answer, status_by, utc_count};
 ghost use Rattle.rr_trip.specs.Said.{IsPrintableSaid};
 
 use crate::status::Status;
@@ -69,11 +69,13 @@ fn comparison_outcome<W: Watch>(
 }
 
 // How many events state UTC beside local time where this is said of one name.
-fn in_utc_count(said: Option<Said>) -> usize {
-    match said {
-        Some(said) if is_in_utc(said) => 1,
-        _ => 0,
-    }
+fn in_utc_count(said: Option<Said>) -> usize
+    ensures { result ≡ utc_count said }
+{
+    let Some(said) = said else {
+        return 0;
+    };
+    if is_in_utc(said) { 1 } else { 0 }
 }
 
 // What is said of one name in two files.

@@ -20,9 +20,9 @@ pub fn run<S: Source, K: Sink, W: Watch>(
     sink: &mut K,
     watch: &mut W,
 ) -> Ended
-    // What is put is the answer to the words over the bytes that the source holds, and the status is the answer's.
-    ensures answer { EndsAnswered result.status (asked_of_words words.now) (S.held source.old)
-        (K.written sink.old) (K.written sink.new) }
+    // What is put is the answer to the words over the bytes that the source holds, and the status and the count are the answer's.
+    ensures answer { EndsAnswered result.status result.in_utc (asked_of_words words.now)
+        (S.held source.old) (K.written sink.old) (K.written sink.new) }
 
     // A fault is answered only where the fetch of a file or the put has failed, and then that alone.
     ensures cause { HasCause result.status (asked_of_words words.now)

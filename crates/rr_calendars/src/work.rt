@@ -110,7 +110,8 @@ fn work_out<S: Source, W: Watch>(
 
 // A text of the program's own.
 fn text_outcome(alloc: Global, text: &[u8], status: Status) -> Result<Outcome, NoMemory>
-    ensures { IfOk result (λ x. outcome_is x ≡ record { status = status; bytes = text.now }) }
+    ensures { IfOk result (λ x. outcome_is x
+        ≡ record { status = status; bytes = text.now; in_utc = 0 }) }
 {
     Ok(Outcome {
         status,

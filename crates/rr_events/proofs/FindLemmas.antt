@@ -7,17 +7,19 @@ use Rattle.std.proofs.lemmas.List.Elements.{All-push}
 use Rattle.rr_model.specs.Rule.Validity.{is_absent}
 use Rattle.rr_model.specs.Text.Lines.{begins_blank, physical_lines, with_physical_lines}
 use Rattle.rr_model.specs.Text.RuleValues.{◌>>=◌}
+use Rattle.rr_model.specs.Text.UsedLines.{line_kind}
 use Rattle.rr_model.specs.declared.line.Line.{Line}
 use Rattle.rr_model.specs.declared.refusal.Fault.{Fault}
 use Rattle.rr_model.specs.declared.refusal.Fault.TheVariants.{Refused, NoMemory}
 use Rattle.rr_model.specs.declared.refusal.Refusal.{Refusal}
 use Rattle.rr_model.specs.declared.refusal.Refusal.TheVariants.{BadLine}
 use Rattle.rr_text.specs.Physical.{IsPart}
-use Rattle.rr_events.specs.Cutting.{lines_at, IsCut}
+use Rattle.rr_events.specs.Cutting.{lines_at, AreEmpty, IsCut}
 use Rattle.rr_events.specs.Events.{events_from, events_of, is_within_event, open_after}
 use Rattle.rr_events.specs.Finding.{before, begun_after, lines_in, IsBefore, IsFound, IsFoundAfter, IsNext, IsPlaced, IsStep}
 use Rattle.rr_events.specs.declared.find.Finder.{Finder}
 use Rattle.rr_events.specs.declared.find.Piece.{Piece}
+use Rattle.rr_events.proofs.EmptyLemmas.{empty-first, empty_line}
 use Rattle.rr_events.proofs.PartLemmas.{joined, part-before, text-lines}
 use Rattle.rr_events.proofs.LineLemmas.{line-first, lines-parted}
 
@@ -253,6 +255,51 @@ pub one_more : (text rest after : List ℕ) (number next : ℕ) (line : Line) (h
     → IsSoFar text new.names new.begun new.found.items after next
 one_more text rest after number next line here old new at first cut step is =
     goes_on text rest after old.names new.names number next line here cut step.names at first old.begun new.begun old.found.items new.found.items is step.begun step.found
+
+-- ---- empty lines
+
+-- a line that opens and closes nothing is passed over
+passed-one : (text rest after : List ℕ) (names : List (List ℕ)) (begun : Option Piece) (found : List Piece) (number next : ℕ) (line : Line)
+    → IsCut number rest line after next → open_after names line ≡ Ok names → IsSoFar text names begun found rest number
+    → IsSoFar text names begun found after next
+passed-one text rest after names begun found number next line cut same is =
+    let one = cut.one in
+    let goes = by begun is.open_one is.events in
+    record {
+      events = goes.1;
+      open_one = goes.0;
+      placed = is.placed;
+      started = omega (arith, is.started, one.later);
+      last = omega (arith, is.last, one.counted, ap length (text-lines rest one.part after one.parts), length-append (physical_lines one.part) (physical_lines after));
+      few = omega (arith, is.few, one.few);
+    }
+  where
+    by : (begun : Option Piece) → IsBegun text (is_within_event names) begun rest number → events_of text ≡ after_found (map lines_in found) (events_from (length (physical_lines text)) names (so_far begun rest) (lines_at number rest))
+        → IsBegun text (is_within_event names) begun after next × (events_of text ≡ after_found (map lines_in found) (events_from (length (physical_lines text)) names (so_far begun after) (lines_at next after)))
+    by None outside events = (
+      outside,
+      events ∙ ap (λ (ls : List Line). after_found (map lines_in found) (events_from (length (physical_lines text)) names [] ls)) (line-first number rest line after next cut)
+          ∙ ap (after_found (map lines_in found)) (turn (length (physical_lines text)) names names [] line (lines_at next after) same ∙ ap (λ (b : Bool). turned b b (length (physical_lines text)) names [] line (lines_at next after)) outside),
+    )
+    by (Some begun) open_one events =
+        let new = open-longer text begun rest after number next line open_one.1 cut in
+        let so = so_far (Some begun) rest in (
+          (open_one.0, new.goes_on),
+          events ∙ ap (λ (ls : List Line). after_found (map lines_in found) (events_from (length (physical_lines text)) names so ls)) (line-first number rest line after next cut)
+              ∙ ap (after_found (map lines_in found)) (turn (length (physical_lines text)) names names so line (lines_at next after) same ∙ ap (λ (b : Bool). turned b b (length (physical_lines text)) names so line (lines_at next after)) open_one.0
+              ∙ ap (λ (ls : List Line). events_from (length (physical_lines text)) names ls (lines_at next after)) (sym new.lines)),
+        )
+
+empty-open : (names : List (List ℕ)) (number : ℕ) → open_after names (empty_line number) ≡ Ok names
+unfolding open_after line_kind
+empty-open names number = refl
+
+pub passed-over : (text : List ℕ) (names : List (List ℕ)) (begun : Option Piece) (found : List Piece) (number : ℕ) (rest after : List ℕ) (next : ℕ)
+    → AreEmpty number rest after next → IsSoFar text names begun found rest number → IsSoFar text names begun found after next
+passed-over text names begun found number rest after next AreEmpty.none is = is
+passed-over text names begun found number rest _ _ (AreEmpty.more left after at empty one) is =
+    passed-one text left after names begun found at (at + 1) (empty_line at) (empty-first at left after one) (empty-open names at)
+    (passed-over text names begun found number rest left at empty is)
 
 -- ---- at the end
 

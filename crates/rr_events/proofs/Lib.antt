@@ -1,6 +1,7 @@
 pub mod CuttingLemmas
 pub mod PartLemmas
 pub mod LineLemmas
+pub mod EmptyLemmas
 pub mod NameLemmas
 pub mod ParameterLemmas
 pub mod FindLemmas

@@ -1,6 +1,7 @@
 -- A text is unfolded part by part, where each part begins with a line that continues none (RFC 5545, section 3.1).
 use Rattle.std.specs.Prelude.{◌≡◌, ℕ, ◌+◌, ◌<◌, ◌≤◌, ◌==◌, ◌&&◌, Bool, true, false, not, if◌then◌else◌, List, [], ◌∷◌, ◌++◌, length, drop}
-use Rattle.std.specs.List.{onto_first}
+use Rattle.std.specs.List.{filter, onto_first}
+use Rattle.rr_model.specs.Rule.Validity.{is_absent}
 use Rattle.rr_model.specs.Text.Lines.{begins_blank, physical_lines, with_physical_lines}
 use Rattle.rr_model.specs.declared.line.Line.{Line}
 use Rattle.rr_text.specs.Physical.{IsCutAt, IsPart}
@@ -41,3 +42,24 @@ pub record IsOneLine (number : ℕ) (text : List ℕ) (line : Line) (rest : List
 pub record IsCut (number : ℕ) (text : List ℕ) (line : Line) (after : List ℕ) (next : ℕ) : Type 0 where
   pub one : IsOneLine number text line after next
   pub starts : begins_blank after ≡ false
+
+-- ---- empty lines
+
+-- a text begins with an empty line, which ends with a line feed alone and which no line continues
+pub record IsEmptyLine (text after : List ℕ) : Type 0 where
+  pub is : text ≡ 10 ∷ after
+  pub starts : begins_blank after ≡ false
+
+-- a text begins with empty lines, from a number on, up to the rest, which has another number
+pub data AreEmpty (number : ℕ) (text : List ℕ) : List ℕ → ℕ → Type 0 where
+  none : AreEmpty number text text number
+  more : (rest after : List ℕ) (at : ℕ) → AreEmpty number text rest at → IsEmptyLine rest after → AreEmpty number text after (at + 1)
+
+-- a line has a byte
+abbrev pub has_text : Line → Bool
+has_text line = not (is_absent line.text)
+
+-- the lines but for the empty ones; the first one stays, with its number
+abbrev pub full_lines : List Line → List Line
+full_lines [] = []
+full_lines (line ∷ lines) = line ∷ filter has_text lines

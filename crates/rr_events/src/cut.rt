@@ -1,7 +1,7 @@
 // A text cut behind its first unfolded line (RFC 5545, section 3.1).
-ghost use Rattle.std.specs.Prelude.{◌≡◌, ◌<◌, ◌+◌, ◌^◌, false, [], length, IfOk, MatchOption};
+ghost use Rattle.std.specs.Prelude.{◌≡◌, ◌<◌, ◌≤◌, ◌+◌, ◌^◌, false, [], length, IfOk, IfSome, MatchOption};
 ghost use Rattle.rr_model.specs.Text.Lines.{begins_blank};
-ghost use Rattle.rr_events.specs.Cutting.{IsContinued, IsCut};
+ghost use Rattle.rr_events.specs.Cutting.{AreEmpty, IsContinued, IsCut, IsEmptyLine};
 
 use rr_model::{Bytes, Line, NoMemory};
 use rr_text::{begins_blank, take_line};
@@ -59,4 +59,44 @@ pub fn cut_line<'a>(alloc: Global, text: &'a [u8], number: u64) -> Result<Option
         after: rest,
         next,
     }))
+}
+
+/// What follows some lines of a text.
+#[derive(Clone, Copy)]
+pub struct Rest<'a> {
+    /// Its bytes.
+    pub text: &'a [u8],
+    /// The number of its first physical line.
+    pub number: u64,
+}
+
+// What follows the first line, where that is empty, ends with a line feed alone and is continued by no line.
+fn after_empty_line(text: &[u8]) -> Option<&[u8]>
+    ensures { IfSome result (λ after. IsEmptyLine text.now after.now) }
+{
+    let [b'\n', after @ ..] = text else {
+        return None;
+    };
+    if begins_blank(after) {
+        return None;
+    }
+    Some(after)
+}
+
+/// What follows the empty lines at the front of a text whose first physical line has this number. An empty line is passed over
+/// where it ends with a line feed alone and no line continues it.
+pub fn after_empty_lines(text: &[u8], number: u64) -> Rest
+    requires { number + length text.now < 2 ^ 64 }
+    ensures empty { AreEmpty number text.now result.text.now result.number }
+    ensures shorter { length result.text.now ≤ length text.now }
+    ensures few { result.number + length result.text.now ≤ number + length text.now }
+{
+    let mut rest = Rest { text, number };
+    while let Some(after) = after_empty_line(rest.text) {
+        rest = Rest {
+            text: after,
+            number: rest.number + 1,
+        };
+    }
+    rest
 }

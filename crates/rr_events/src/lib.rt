@@ -3,14 +3,16 @@
 
 mod cut;
 mod find;
+mod full;
 mod laws;
 mod names;
 mod own;
 mod parameter;
 mod segment;
 
-pub use cut::{Cut, cut_line};
+pub use cut::{Cut, Rest, after_empty_lines, cut_line};
 pub use find::{Piece, find_events};
+pub use full::full_lines;
 pub use laws::parts_unfold_alone;
 pub use names::{OpenNames, Sought};
 pub use own::{first_named, first_value, own_lines};

@@ -1,5 +1,5 @@
 -- What the steps of an edit answer.
-use Rattle.std.proofs.Common.{◌≡◌, List, ◌∷◌, ℤ, Option, None, Some, Result, Ok, Err, refl, sym}
+use Rattle.std.proofs.Common.{◌≡◌, List, ℤ, Option, None, Some, Result, Ok, Err, refl, sym}
 use Rattle.rr_model.specs.Answers.{Answers}
 use Rattle.rr_model.specs.Text.Calendars.{calendar_scan}
 use Rattle.rr_model.specs.declared.refusal.Fault.{Fault}
@@ -7,8 +7,9 @@ use Rattle.rr_model.specs.declared.refusal.Fault.TheVariants as fault
 use Rattle.rr_model.specs.declared.refusal.Refusal.{Refusal}
 use Rattle.rr_model.specs.declared.rule.Series.{Series}
 use Rattle.rr_model.specs.declared.stamp.Stamp.{Stamp}
-use Rattle.rr_trip.specs.Edited.{◌>=>◌, AnswersKey, Shifts, at_event, edited_alone, edited_event, edited_with_series, fault_at, moment_of, recurrence_stamp, series_of_starts}
-use Rattle.rr_trip.specs.Edited.{shifts_of, stamp_on, start_line, start_of, with_instance, with_moment, with_start, within_dates}
+use Rattle.rr_trip.specs.Edited.{◌>=>◌, AnswersKey, Names, Shifts, at_event, common_start, edited_alone, edited_event, edited_with_series, fault_at, first_number}
+use Rattle.rr_trip.specs.Edited.{key_in_turn, moment_of, no_names, recurrence_stamp, series_of_starts, shifts_of, stamp_on, start_line, start_of, starts_of}
+use Rattle.rr_trip.specs.Edited.{with_instance, with_moment, with_name, with_new_name, with_start, with_start_at, within_dates}
 use Rattle.rr_trip.specs.declared.event.Event.{Event}
 use Rattle.rr_trip.specs.declared.event.Recurrence.{Recurrence}
 use Rattle.rr_trip.specs.declared.gather.KeyFault.{KeyFault}
@@ -28,7 +29,7 @@ module _ (offset : Option ℤ) (start : Stamp) (shifts : Shifts) (event : Event)
         (at_event-refused event.first (moment_of offset start recurrence) r (sym h)))
 
     module _ (at : ℤ) (h : Ok at ≡ moment_of offset start recurrence) where
-      after : (r : Result Shifts KeyFault) → AnswersKey (with_moment shifts event at >=> λ more. at_event event.first (with_start offset start more event)) r
+      after : (r : Result Shifts KeyFault) → AnswersKey (with_moment shifts event at >=> λ more. with_start_at offset start more event) r
           → AnswersKey (with_instance offset start shifts event) r
       after r a =
           rw is (goes_on _ (at_event event.first (moment_of offset start recurrence)) at r
@@ -37,17 +38,9 @@ module _ (offset : Option ℤ) (start : Stamp) (shifts : Shifts) (event : Event)
       pub twice : (f : KeyFault) → AnswersKey (with_moment shifts event at) (Err f) → AnswersKey (with_instance offset start shifts event) (Err f)
       twice f a = after (Err f) (ends _ (with_moment shifts event at) f a)
 
-      module _ (more : Shifts) (m : with_moment shifts event at ≡ Ok more) where
-        pub start_fault : (f : Fault) → Answers (with_start offset start more event) (Err f)
-            → AnswersKey (with_instance offset start shifts event) (Err (fault_at event.first f))
-        start_fault f a =
-            after (Err (fault_at event.first f)) (goes_on _ (with_moment shifts event at) more (Err (fault_at event.first f)) m
-            (at_event-fault event.first (with_start offset start more event) f a))
-
-        pub instance_put : (next : Shifts) → with_start offset start more event ≡ Ok next → with_instance offset start shifts event ≡ Ok next
-        instance_put next s =
-            after (Ok next) (goes_on _ (with_moment shifts event at) more (Ok next) m
-            (at_event-ok event.first (with_start offset start more event) next s))
+      pub instance_put : (more : Shifts) → with_moment shifts event at ≡ Ok more → (r : Result Shifts KeyFault)
+          → AnswersKey (with_start_at offset start more event) r → AnswersKey (with_instance offset start shifts event) r
+      instance_put more m r a = after r (goes_on _ (with_moment shifts event at) more r m a)
 
 -- ---- a series with its instances
 
@@ -91,24 +84,32 @@ module _ (offset : Option ℤ) (event : Event) (instances : List Event) where
 
 -- ---- instances alone
 
-module _ (offset : Option ℤ) (event : Event) (events : List Event) where
-  pub alone_refused : (r : Refusal) → Err r ≡ recurrence_stamp event.recurrence
-      → AnswersKey (edited_alone offset (event ∷ events)) (Err (fault_at event.first (fault.Refused r)))
-  alone_refused r h =
+module _ (names : Names) (event : Event) where
+  pub name_refused : (r : Refusal) → Err r ≡ recurrence_stamp event.recurrence → AnswersKey (with_name names event) (Err (fault_at event.first (fault.Refused r)))
+  name_refused r h =
       ends _ (at_event event.first (recurrence_stamp event.recurrence)) (fault_at event.first (fault.Refused r))
       (at_event-refused event.first (recurrence_stamp event.recurrence) r (sym h))
 
-  module _ (start : Stamp) (h : Ok start ≡ recurrence_stamp event.recurrence) where
-    alone : (r : Result Series KeyFault)
-        → AnswersKey (shifts_of offset start (event ∷ events) >=> (λ shifts. within_dates event.first (series_of_starts start.kind shifts.starts))) r
-        → AnswersKey (edited_alone offset (event ∷ events)) r
-    alone r a =
-        goes_on _ (at_event event.first (recurrence_stamp event.recurrence)) start r
-        (at_event-ok event.first (recurrence_stamp event.recurrence) start (sym h)) a
+  pub name_read : (stamp : Stamp) → Ok stamp ≡ recurrence_stamp event.recurrence → (r : Result Names KeyFault) → AnswersKey (with_new_name names event stamp) r
+      → AnswersKey (with_name names event) r
+  name_read stamp h r a =
+      goes_on _ (at_event event.first (recurrence_stamp event.recurrence)) stamp r
+      (at_event-ok event.first (recurrence_stamp event.recurrence) stamp (sym h)) a
 
-    pub alone_fault : (f : KeyFault) → AnswersKey (shifts_of offset start (event ∷ events)) (Err f) → AnswersKey (edited_alone offset (event ∷ events)) (Err f)
-    alone_fault f a = alone (Err f) (ends _ (shifts_of offset start (event ∷ events)) f a)
+module _ (offset : Option ℤ) (events : List Event) where
+  pub names_fault : (f : KeyFault) → AnswersKey (key_in_turn with_name no_names events) (Err f) → AnswersKey (edited_alone offset events) (Err f)
+  names_fault f a = ends _ (key_in_turn with_name no_names events) f a
 
-    pub alone_edited : (shifts : Shifts) → shifts_of offset start (event ∷ events) ≡ Ok shifts → (r : Result Series KeyFault)
-        → AnswersKey (within_dates event.first (series_of_starts start.kind shifts.starts)) r → AnswersKey (edited_alone offset (event ∷ events)) r
-    alone_edited shifts s r a = alone r (goes_on _ (shifts_of offset start (event ∷ events)) shifts r s a)
+  module _ (names : Names) (n : key_in_turn with_name no_names events ≡ Ok names) where
+    named : (r : Result Series KeyFault)
+        → AnswersKey (starts_of offset (common_start events) events >=> (λ shifts. within_dates (first_number events)
+        (series_of_starts (common_start events).kind shifts.starts))) r
+        → AnswersKey (edited_alone offset events) r
+    named r a = goes_on _ (key_in_turn with_name no_names events) names r n a
+
+    pub starts_fault : (f : KeyFault) → AnswersKey (starts_of offset (common_start events) events) (Err f) → AnswersKey (edited_alone offset events) (Err f)
+    starts_fault f a = named (Err f) (ends _ (starts_of offset (common_start events) events) f a)
+
+    pub alone_edited : (shifts : Shifts) → starts_of offset (common_start events) events ≡ Ok shifts → (r : Result Series KeyFault)
+        → AnswersKey (within_dates (first_number events) (series_of_starts (common_start events).kind shifts.starts)) r → AnswersKey (edited_alone offset events) r
+    alone_edited shifts s r a = named r (goes_on _ (starts_of offset (common_start events) events) shifts r s a)

@@ -29,9 +29,10 @@ use Rattle.rr_model.proofs.YearLemmas.{four_digit_year}
 use Rattle.rr_ical.proofs.BesideLemmas.{date_beside-in_years, date_value-stamp}
 use Rattle.rr_rrule.proofs.BesideLemmas.{scan-valid}
 use Rattle.rr_text.proofs.StepLemmas.{and_then_ok, step_keeps}
-use Rattle.rr_trip.specs.Edited.{◌>=>◌, Shifts, at_event, edited_alone, edited_by, edited_event, edited_series, edited_with_series, moment_of, no_shifts, recurrence_stamp}
-use Rattle.rr_trip.specs.Edited.{series_of_starts, shifts_of, stamp_on, start_beside, start_line, start_of, start_on, unless_at_fault, values_outside, with_instance}
-use Rattle.rr_trip.specs.Edited.{with_instance_by, with_moment, with_shifts, with_start, with_values, within_dates}
+use Rattle.rr_trip.specs.Edited.{◌>=>◌, Shifts, at_event, common_start, edited_alone, edited_by, edited_event, edited_series, edited_with_series, first_number}
+use Rattle.rr_trip.specs.Edited.{key_in_turn, moment_of, no_names, no_shifts, series_of_starts, shifts_of, stamp_on, start_beside, start_line, start_of, start_on}
+use Rattle.rr_trip.specs.Edited.{starts_of, unless_at_fault, values_outside, with_instance, with_instance_by, with_moment, with_name, with_shifts, with_start, with_start_at}
+use Rattle.rr_trip.specs.Edited.{with_values, within_dates}
 use Rattle.rr_trip.specs.declared.event.Event.{Event}
 use Rattle.rr_trip.specs.declared.event.Recurrence.{Recurrence}
 use Rattle.rr_trip.specs.declared.gather.KeyRefusal.TheVariants as refusal
@@ -105,8 +106,8 @@ module _ (offset : Option ℤ) (start : Stamp) where
           subst (AreInYears start.kind) same v
       by (Some recurrence) e =
           let at = then_ok (at_event event.first (moment_of offset start recurrence))
-          (λ (t : ℤ). with_moment shifts event t >=> λ more. at_event event.first (with_start offset start more event)) next e in
-          let more = then_ok (with_moment shifts event at.0) (λ (m : Shifts). at_event event.first (with_start offset start m event)) next at.2 in
+          (λ (t : ℤ). with_moment shifts event t >=> λ more. with_start_at offset start more event) next e in
+          let more = then_ok (with_moment shifts event at.0) (λ (m : Shifts). with_start_at offset start m event) next at.2 in
           let years =
           beside-in_years recurrence.line recurrence.value at.0 (was_ok event.first (moment_of offset start recurrence) at.0 at.1) in
           with_start-keeps more.0 event next (with_moment-keeps shifts event at.0 more.0 years v more.1)
@@ -115,6 +116,12 @@ module _ (offset : Option ℤ) (start : Stamp) where
   shifts-in_years : (instances : List Event) (shifts : Shifts) → shifts_of offset start instances ≡ Ok shifts → AreInYears start.kind shifts
   shifts-in_years instances shifts h =
       in_turn-keeps (with_instance offset start) (AreInYears start.kind) with_instance-keeps no_shifts instances shifts
+      (record { moments = All-nil _; starts = All-nil _ }) h
+
+  starts-in_years : (instances : List Event) (shifts : Shifts) → starts_of offset start instances ≡ Ok shifts → AreInYears start.kind shifts
+  starts-in_years instances shifts h =
+      in_turn-keeps (with_start_at offset start) (AreInYears start.kind)
+      (λ x event z v e. with_start-keeps x event z v (was_ok event.first (with_start offset start x event) z e)) no_shifts instances shifts
       (record { moments = All-nil _; starts = All-nil _ }) h
 
 -- ---- the edited series
@@ -216,15 +223,13 @@ module _ (offset : Option ℤ) where
       (shifts-in_years offset (start_of read.0 stamp.0) instances shifts.0 shifts.1) shifts.2
 
   alone-valid : (instances : List Event) (result : Series) → edited_alone offset instances ≡ Ok result → IsValidSeries result
-  alone-valid [] result h =
-      let same : series_of_list None [] ≡ result = cc in
-      subst IsValidSeries same (starts-valid Days [] (All-nil _) (omega arith))
-  alone-valid (event ∷ events) result h =
-      let start = then_ok (at_event event.first (recurrence_stamp event.recurrence)) _ result h in
-      let shifts = then_ok (shifts_of offset start.0 (event ∷ events)) _ result start.2 in
-      let years = shifts-in_years offset start.0 (event ∷ events) shifts.0 shifts.1 in
-      few_dates event.first (series_of_starts start.0.kind shifts.0.starts) result shifts.2
-      (starts-valid start.0.kind shifts.0.starts years.starts)
+  alone-valid instances result h =
+      let start = common_start instances in
+      let names = then_ok (key_in_turn with_name no_names instances) _ result h in
+      let shifts = then_ok (starts_of offset start instances) _ result names.2 in
+      let years = starts-in_years offset start instances shifts.0 shifts.1 in
+      few_dates (first_number instances) (series_of_starts start.kind shifts.0.starts) result shifts.2
+      (starts-valid start.kind shifts.0.starts years.starts)
 
   pub edited-valid : (series : Option Event) (instances : List Event) (result : Series) → edited_by offset series instances ≡ Ok result → IsValidSeries result
   edited-valid None instances result h = alone-valid instances result h

@@ -1,13 +1,40 @@
 -- One day more of a painted month.
-use Rattle.std.proofs.Common.{◌≡◌, ℕ, ◌+◌, ℤ, pos, ◌+ℤ◌, List, [], ◌++◌, ap, sym, ◌∙◌, append_assoc, append-nil, add-one, subst}
+use Rattle.std.proofs.Common.{◌≡◌, ℕ, zero, suc, ◌+◌, ◌-◌, ◌<◌, ℤ, pos, ◌+ℤ◌, List, [], ◌∷◌, ◌++◌, length, refl, ap, sym, ◌∙◌, append_assoc, append-nil, add-one, subst, arith}
 use Rattle.rr_model.specs.declared.sketch.Sketch.{Sketch}
-use Rattle.rr_trip.specs.Grid.{Grows, HasMonth, HasMonths, IsPictureOf, cell_text, cells_text, first_of_month, month_after}
+use Rattle.rr_trip.specs.Grid.{Grows, HasMonth, HasMonths, IsPictureOf, cell_text, cells_text, first_of_month, month_after, times_of_day, times_or, usual_times}
 
 pub one_painted : (a b : Sketch) (first day : ℤ) (n : ℕ) (old out next : List ℕ) → day ≡ first +ℤ pos n → out ≡ old ++ cells_text a b first n
     → next ≡ out ++ cell_text a b day → next ≡ old ++ cells_text a b first (n + 1)
 one_painted a b first day n old out next is e h' =
     let h : next ≡ out ++ cell_text a b (first +ℤ pos n) = subst (λ d. next ≡ out ++ cell_text a b d) is h' in
     rw add-one (h ∙ ap (λ o. o ++ cell_text a b (first +ℤ pos n)) e ∙ append_assoc old (cells_text a b first n) (cell_text a b (first +ℤ pos n)))
+
+-- ---- the usual times
+
+module _ (a b : Sketch) (first : ℤ) (i : ℕ) (times : List ℕ) (day : ℤ) (at : day ≡ first +ℤ pos i) (is : times ≡ times_of_day a b day)
+    (none : usual_times a b first i ≡ []) where
+  usual_here : usual_times a b first (suc i) ≡ times
+  usual_here =
+      ap (λ (ts : List ℕ). times_or ts (times_of_day a b (first +ℤ pos i))) none ∙ ap (times_of_day a b) (sym at) ∙ sym is
+
+  pub usual_next : times ≡ [] → usual_times a b first (i + 1) ≡ []
+  usual_next e = rw add-one (usual_here ∙ e)
+
+  -- what was found stays
+  kept : (s : ℕ) (ss : List ℕ) (m : ℕ) → times ≡ s ∷ ss → usual_times a b first (suc i + m) ≡ s ∷ ss
+  kept s ss zero e = let none : suc i + 0 ≡ suc i = omega arith in rw none (usual_here ∙ e)
+  kept s ss (suc m) e =
+      let more : suc i + suc m ≡ suc (suc i + m) = omega arith in
+      rw more (ap (λ (ts : List ℕ). times_or ts (times_of_day a b (first +ℤ pos (suc i + m)))) (kept s ss m e))
+
+  pub usual_found : (n : ℕ) → i < n → 0 < length times → times ≡ usual_times a b first n
+  usual_found n below some = by times refl some
+    where
+      by : (ts : List ℕ) → times ≡ ts → 0 < length ts → times ≡ usual_times a b first n
+      by [] e none = absurd (omega (arith, none))
+      by (s ∷ ss) e more =
+          let reached : suc i + (n - suc i) ≡ n = omega (arith, below) in
+          e ∙ sym (kept s ss (n - suc i) e) ∙ ap (usual_times a b first) reached
 
 -- ---- texts that grow
 

@@ -14,8 +14,8 @@ use Rattle.rr_model.specs.declared.refusal.Refusal.{Refusal}
 use Rattle.rr_model.specs.declared.refusal.Refusal.TheVariants.{CycleTooLong}
 use Rattle.rr_model.specs.declared.rule.Series.{Series}
 use Rattle.rr_model.specs.declared.sketch.Sketch.{Sketch}
-use Rattle.rr_trip.specs.Edited.{AnswersKey, KeyEvents, edited_by, fault_at}
-use Rattle.rr_trip.specs.Judged.{IsFaultBy, IsFaultOf, IsFoldOf, IsKeyFault, IsKeyRefusal, IsRefusalBy, IsStated, first_of, key_events, key_zones, line_of, zones_in}
+use Rattle.rr_trip.specs.Edited.{AnswersKey, KeyEvents, edited_by, fault_at, key_events}
+use Rattle.rr_trip.specs.Judged.{IsFaultBy, IsFaultOf, IsFoldOf, IsKeyFault, IsKeyRefusal, IsRefusalBy, IsStated, first_of, key_zones, line_of, zones_in}
 use Rattle.rr_trip.specs.declared.event.Event.{Event}
 use Rattle.rr_trip.specs.declared.gather.KeyFault.{KeyFault}
 use Rattle.rr_trip.specs.declared.gather.KeyFault.TheVariants as key_fault

@@ -1,11 +1,13 @@
 mod InstanceLemmas
 mod ParameterLemmas
+mod FullLemmas
 mod KeyStepLemmas
 mod EditLemmas
 mod DateSetLemmas
 mod EditStepLemmas
 mod EditedLemmas
 mod EditedInstanceLemmas
+mod OccursLemmas
 mod JudgeLemmas
 mod SaidLemmas
 mod Examples

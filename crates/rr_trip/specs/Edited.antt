@@ -1,6 +1,6 @@
 -- The series of a key with its instances as dates (RFC 5545, sections 3.8.4.4, 3.8.5.1 and 3.8.5.2).
-use Rattle.std.specs.Prelude.{◌≡◌, ℕ, ◌+◌, nat_lt, Bool, true, false, not, ◌||◌, if◌then◌else◌, ℤ, int_lt, List, [], ◌∷◌, ◌++◌, length}
-use Rattle.std.specs.Prelude.{Option, None, Some, Result, Ok, Err, ⊤}
+use Rattle.std.specs.Prelude.{◌≡◌, ℕ, ◌+◌, nat_lt, Bool, true, false, not, ◌&&◌, ◌||◌, if◌then◌else◌, ℤ, pos, int_lt, List, [], ◌∷◌, ◌++◌, length}
+use Rattle.std.specs.Prelude.{Option, None, Some, unwrap_or, Result, Ok, Err, ⊤}
 use Rattle.std.specs.List.{filter, list_any}
 use Rattle.std.specs.Option.{is_some}
 use Rattle.std.specs.Ordering.{int_eq}
@@ -11,6 +11,7 @@ use Rattle.rr_model.specs.Text.Lists.{series_of_list}
 use Rattle.rr_model.specs.Text.Passes.{date_beside, date_value}
 use Rattle.rr_model.specs.Text.RuleValues.{◌>>=◌}
 use Rattle.rr_model.specs.declared.kind.Kind.{Kind}
+use Rattle.rr_model.specs.declared.kind.Kind.TheVariants.{Days, Moments}
 use Rattle.rr_model.specs.declared.limits.TheConstants.{MAX_DATES}
 use Rattle.rr_model.specs.declared.refusal.Fault.{Fault}
 use Rattle.rr_model.specs.declared.refusal.Fault.TheVariants as fault
@@ -142,6 +143,10 @@ with_start offset start shifts event =
     if event.is_cancelled then unless_at_fault event.scan.stop shifts
     else (start_beside offset start event.scan >>= λ at. Ok (record shifts { starts = with_value int_lt shifts.starts at }))
 
+-- the start of one instance more is put in, or its refusal
+abbrev pub with_start_at : Option ℤ → Stamp → Shifts → Event → Result Shifts KeyRefusal
+with_start_at offset start shifts event = at_event event.first (with_start offset start shifts event)
+
 -- the moment of an instance is taken out; a second instance of one moment is refused
 abbrev pub with_moment : Shifts → Event → ℤ → Result Shifts KeyRefusal
 with_moment shifts event at =
@@ -153,7 +158,7 @@ abbrev pub with_instance_by : Option ℤ → Stamp → Shifts → Event → Opti
 with_instance_by offset start shifts event None = Ok shifts
 with_instance_by offset start shifts event (Some recurrence) =
     at_event event.first (moment_of offset start recurrence) >=> (λ at.
-    with_moment shifts event at >=> λ more. at_event event.first (with_start offset start more event))
+    with_moment shifts event at >=> λ more. with_start_at offset start more event)
 
 -- the shifts with one instance more, or its refusal
 abbrev pub with_instance : Option ℤ → Stamp → Shifts → Event → Result Shifts KeyRefusal
@@ -223,18 +228,99 @@ abbrev pub recurrence_stamp : Option Recurrence → Result Stamp Refusal
 recurrence_stamp None = Err NoStart
 recurrence_stamp (Some recurrence) = date_value recurrence.line recurrence.value
 
--- instances without a series are beside the RECURRENCE-ID of the first one
+-- ---- instances alone
+
+-- the RECURRENCE-IDs of instances as they stand: dates, local times and moments of UTC
+pub record Names : Type 0 where
+  pub days : List ℤ
+  pub local : List ℤ
+  pub utc : List ℤ
+
+-- no RECURRENCE-ID is read yet
+abbrev pub no_names : Names
+no_names = record { days = []; local = []; utc = [] }
+
+-- the names that are dates, or moments in UTC or in local time
+abbrev pub names_of : Kind → Bool → Names → List ℤ
+names_of Days utc names = names.days
+names_of Moments false names = names.local
+names_of Moments true names = names.utc
+
+-- the names with one more, which is a date, or a moment in UTC or in local time
+abbrev pub with_name_of : Kind → Bool → ℤ → Names → Names
+with_name_of Days utc at names = record names { days = with_value int_lt names.days at }
+with_name_of Moments false at names = record names { local = with_value int_lt names.local at }
+with_name_of Moments true at names = record names { utc = with_value int_lt names.utc at }
+
+-- a RECURRENCE-ID is among the names
+abbrev pub has_name : Names → Stamp → Bool
+has_name names stamp = list_any (λ t. int_eq t stamp.at) (names_of stamp.kind stamp.utc names)
+
+-- the names with one more
+abbrev pub with_stamp : Names → Stamp → Names
+with_stamp names stamp = with_name_of stamp.kind stamp.utc stamp.at names
+
+-- the names with that of one instance more, by its RECURRENCE-ID; a second instance of one name is refused
+abbrev pub with_new_name : Names → Event → Stamp → Result Names KeyRefusal
+with_new_name names event stamp = if has_name names stamp then Err (refusal.TwoInstances event.first) else Ok (with_stamp names stamp)
+
+-- the names with that of one instance more, or its refusal
+abbrev pub with_name : Names → Event → Result Names KeyRefusal
+with_name names event = at_event event.first (recurrence_stamp event.recurrence) >=> λ stamp. with_new_name names event stamp
+
+-- what a text states, where it is read
+abbrev pub if_read : Result Stamp Refusal → Option Stamp
+if_read (Ok stamp) = Some stamp
+if_read (Err r) = None
+
+-- the start that an instance states, where it is not cancelled
+abbrev pub stated_start : Event → Option Stamp
+stated_start event = if event.is_cancelled then None else if_read (stamp_on (start_line event.scan.used))
+
+-- the start for several instances is the first one, in UTC where all are
+abbrev pub with_stated : Option Stamp → Option Stamp → Option Stamp
+with_stated start None = start
+with_stated None (Some stamp) = Some stamp
+with_stated (Some start) (Some stamp) = Some (record start { utc = start.utc && stamp.utc })
+
+-- the start for these instances and those before them
+abbrev pub common_start_from : Option Stamp → List Event → Option Stamp
+common_start_from start [] = start
+common_start_from start (event ∷ events) = common_start_from (with_stated start (stated_start event)) events
+
+-- a start for instances that have none
+abbrev pub no_start : Stamp
+no_start = record { kind = Days; at = pos 0; utc = false }
+
+-- the start beside which each of these instances starts
+abbrev pub common_start : List Event → Stamp
+common_start events = unwrap_or (common_start_from None events) no_start
+
+-- the moments at which instances start
+abbrev pub starts_of : Option ℤ → Stamp → List Event → Result Shifts KeyRefusal
+starts_of offset start events = key_in_turn (with_start_at offset start) no_shifts events
+
+-- the number of the line that begins the first of these instances
+abbrev pub first_number : List Event → ℕ
+first_number [] = 0
+first_number (event ∷ events) = event.first
+
+-- instances without a series are their starts, whatever their order; no two have the same RECURRENCE-ID
 abbrev pub edited_alone : Option ℤ → List Event → Result Series KeyRefusal
-edited_alone offset [] = Ok (series_of_list None [])
-edited_alone offset (event ∷ events) =
-    at_event event.first (recurrence_stamp event.recurrence) >=> (λ start.
-    shifts_of offset start (event ∷ events) >=> (λ shifts. within_dates event.first (series_of_starts start.kind shifts.starts)))
+edited_alone offset events =
+    key_in_turn with_name no_names events >=> (λ names.
+    starts_of offset (common_start events) events >=> (λ shifts.
+    within_dates (first_number events) (series_of_starts (common_start events).kind shifts.starts)))
 
 -- the series of a key with its instances as dates
 abbrev pub edited_by : Option ℤ → Option Event → List Event → Result Series KeyRefusal
 edited_by offset None instances = edited_alone offset instances
 edited_by offset (Some event) instances = edited_with_series offset event instances
 
+-- the series and the instances of a key
+abbrev pub key_events : List Event → Result KeyEvents KeyRefusal
+key_events events = key_in_turn with_event no_events events
+
 -- the series that the events of a key state together
 abbrev pub series_of_events : Option ℤ → List Event → Result Series KeyRefusal
-series_of_events offset events = key_in_turn with_event no_events events >=> λ all. edited_by offset all.series all.instances
+series_of_events offset events = key_events events >=> λ all. edited_by offset all.series all.instances

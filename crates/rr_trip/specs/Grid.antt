@@ -48,6 +48,24 @@ first_of_month day = day -ℤ pos (day_of_month day - 1)
 abbrev pub month_after : ℤ → ℤ
 month_after first = first +ℤ pos (month_length first)
 
+-- ---- the usual times
+
+-- these times, or others where there are none
+abbrev pub times_or : List ℕ → List ℕ → List ℕ
+times_or [] more = more
+times_or (second ∷ times) more = second ∷ times
+
+-- the times of a day, those of A where it has some
+abbrev pub times_of_day : Sketch → Sketch → ℤ → List ℕ
+times_of_day a b day = times_or (times_on a day) (times_on b day)
+
+-- the times of the first day with some among n days in a row
+abbrev pub usual_times : Sketch → Sketch → ℤ → ℕ → List ℕ
+usual_times a b first zero = []
+usual_times a b first (suc n) = times_or (usual_times a b first n) (times_of_day a b (first +ℤ pos n))
+
+-- ---- what is painted
+
 -- the second text is the first one with more behind it
 pub record Grows (old new : List ℕ) : Type 0 where
   pub more : List ℕ

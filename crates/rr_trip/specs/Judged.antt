@@ -11,7 +11,7 @@ use Rattle.rr_model.specs.declared.refusal.Fault.{Fault}
 use Rattle.rr_model.specs.declared.refusal.Fault.TheVariants as fault
 use Rattle.rr_model.specs.declared.rule.Series.{Series}
 use Rattle.rr_model.specs.declared.sketch.Sketch.{Sketch}
-use Rattle.rr_trip.specs.Edited.{KeyEvents, series_of_events, key_in_turn, no_events, with_event}
+use Rattle.rr_trip.specs.Edited.{KeyEvents, first_number, key_events, series_of_events}
 use Rattle.rr_trip.specs.declared.event.Event.{Event}
 use Rattle.rr_trip.specs.declared.event.Recurrence.{Recurrence}
 use Rattle.rr_trip.specs.declared.gather.KeyFault.{KeyFault}
@@ -43,12 +43,7 @@ AreDaysOfKey key made = (made.series ≡ key.series) × (made.zones.items ≡ ke
 -- the number of the line at which a limit refuses the events of a key: that of the series' BEGIN, else that of the first instance
 abbrev pub first_of : Option Event → List Event → ℕ
 first_of (Some event) instances = event.first
-first_of None [] = 0
-first_of None (event ∷ events) = event.first
-
--- the series and the instances of a key
-abbrev pub key_events : List Event → Result KeyEvents KeyRefusal
-key_events events = key_in_turn with_event no_events events
+first_of None instances = first_number instances
 
 -- the line at which a limit refuses the events of a key
 abbrev pub line_of : Result KeyEvents KeyRefusal → ℕ

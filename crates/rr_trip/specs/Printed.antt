@@ -40,6 +40,15 @@ abbrev pub escaped_text : List ℕ → List ℕ
 escaped_text [] = []
 escaped_text (b ∷ bs) = escaped_byte b ++ escaped_text bs
 
+-- a byte of a name that was asked for: a backslash stands as it is, since names are asked for as they are printed
+abbrev pub asked_byte : ℕ → List ℕ
+asked_byte b = if b == 92 then b ∷ [] else escaped_byte b
+
+-- a name that was asked for, with each of its bytes escaped but for backslashes
+abbrev pub asked_text : List ℕ → List ℕ
+asked_text [] = []
+asked_text (b ∷ bs) = asked_byte b ++ asked_text bs
+
 -- a key as it is printed
 abbrev pub key_text : Key → List ℕ
 key_text (key.Line number) = codes "line " ++ decimal number

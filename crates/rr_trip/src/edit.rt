@@ -4,11 +4,11 @@ ghost use Rattle.std.specs.List.{list_any};
 ghost use Rattle.std.specs.Ordering.{int_eq};
 ghost use Rattle.rr_model.specs.Answers.{Answers};
 ghost use Rattle.rr_model.specs.Moment.Years.{IsInYears};
-ghost use Rattle.rr_trip.specs.Edited.{AnswersKey, edited_alone, edited_by, edited_event, edited_series, edited_with_series, is_start, minus_without_starts, moment_of, recurrence_stamp, series_of_starts, shifts_of, stamp_on, start_beside, start_line, start_of, values_outside, with_instance, with_moment, with_shifts, with_start, with_values, within_dates};
+ghost use Rattle.rr_trip.specs.Edited.{AnswersKey, edited_event, edited_series, edited_with_series, is_start, minus_without_starts, moment_of, no_shifts, series_of_starts, shifts_of, stamp_on, start_beside, start_line, start_of, values_outside, with_instance, with_moment, with_shifts, with_start, with_start_at, with_values, within_dates};
 
 use crate::date_set::DateSet;
 use crate::event::{Event, Recurrence};
-use crate::gather::{Gathered, KeyFault, KeyRefusal, at_event};
+use crate::gather::{KeyFault, KeyRefusal, at_event};
 use rr_ical::{Setting, date_beside, date_value};
 use rr_model::{
     Dates, Fault, Kind, LineName, MAX_DATES, NoMemory, Refusal, Rules, Scan, Series, Stamp,
@@ -18,9 +18,9 @@ use rr_rrule::read_scan;
 use std::alloc::Global;
 use std::marker::Model;
 
-// The moments that instances take out, and the moments at which they start, while instances are read in any order.
+/// The moments that instances take out, and the moments at which they start, while instances are read in any order.
 #[derive(Drop)]
-struct ShiftSets {
+pub(crate) struct ShiftSets {
     moments: DateSet,
     starts: DateSet,
 }
@@ -33,11 +33,13 @@ impl Model for ShiftSets {
     ghost view = { λ s. record { moments = s.moments; starts = s.starts } };
 }
 
-// The moments that instances take out, and the moments at which they start.
+/// The moments that instances take out, and the moments at which they start.
 #[derive(Drop)]
-struct Shifted {
-    moments: Dates,
-    starts: Dates,
+pub(crate) struct Shifted {
+    /// What is taken out.
+    pub moments: Dates,
+    /// What is put in.
+    pub starts: Dates,
 }
 
 impl Model for Shifted {
@@ -46,6 +48,18 @@ impl Model for Shifted {
     ghost Value = { Shifts };
 
     ghost view = { λ s. record { moments = s.moments; starts = s.starts } };
+}
+
+impl ShiftSets {
+    /// No instance is read yet; it takes no memory.
+    pub(crate) fn new(alloc: Global) -> ShiftSets
+        ensures { result ≡ no_shifts }
+    {
+        ShiftSets {
+            moments: DateSet::new(alloc),
+            starts: DateSet::new(alloc),
+        }
+    }
 }
 
 // Whether a used line is DTSTART.
@@ -67,8 +81,8 @@ fn start_line(lines: &[UsedLine]) -> Option<&UsedLine>
     None
 }
 
-// The start of an event as its line states it.
-fn stamp_of(scan: &Scan) -> Result<Stamp, Refusal>
+/// The start of an event as its line states it.
+pub(crate) fn stamp_of(scan: &Scan) -> Result<Stamp, Refusal>
     ensures value { result ≡ stamp_on (start_line scan.now.used) }
     ensures years { IfOk result (λ stamp. IsInYears stamp.kind stamp.at) }
 {
@@ -119,6 +133,21 @@ fn with_start(
     Ok(shifts)
 }
 
+/// The start of one instance more is put in, where it is not cancelled.
+pub(crate) fn with_start_at(
+    alloc: Global,
+    setting: Setting,
+    shifts: ShiftSets,
+    event: &Event,
+) -> Result<ShiftSets, KeyFault>
+    ensures { AnswersKey (with_start_at setting.offset setting.start shifts event.now) result }
+{
+    match with_start(alloc, setting, shifts, event) {
+        Ok(shifts) => Ok(shifts),
+        Err(fault) => Err(at_event(event.first, fault)),
+    }
+}
+
 // The moment of an instance is taken out.
 fn with_moment(shifts: ShiftSets, event: &Event, at: i64) -> Result<ShiftSets, KeyFault>
     ensures { AnswersKey (with_moment shifts event.now at) result }
@@ -148,14 +177,11 @@ fn with_instance(
         Err(refusal) => return Err(at_event(event.first, Fault::Refused(refusal))),
     };
     let shifts = with_moment(shifts, event, at)?;
-    match with_start(alloc, setting, shifts, event) {
-        Ok(shifts) => Ok(shifts),
-        Err(fault) => Err(at_event(event.first, fault)),
-    }
+    with_start_at(alloc, setting, shifts, event)
 }
 
-// The same moments, rising.
-fn rising_shifts(alloc: Global, shifts: &ShiftSets) -> Result<Shifted, NoMemory>
+/// The same moments, rising.
+pub(crate) fn rising_shifts(alloc: Global, shifts: &ShiftSets) -> Result<Shifted, NoMemory>
     ensures { IfOk result (λ shifted. shifted ≡ shifts.now) }
 {
     Ok(Shifted {
@@ -168,10 +194,7 @@ fn rising_shifts(alloc: Global, shifts: &ShiftSets) -> Result<Shifted, NoMemory>
 fn shifts_of(alloc: Global, setting: Setting, instances: &[Event]) -> Result<Shifted, KeyFault>
     ensures { AnswersKey (shifts_of setting.offset setting.start instances.now) result }
 {
-    let mut shifts = ShiftSets {
-        moments: DateSet::new(alloc),
-        starts: DateSet::new(alloc),
-    };
+    let mut shifts = ShiftSets::new(alloc);
     for event in instances {
         shifts = with_instance(alloc, setting, shifts, event)?;
     }
@@ -218,8 +241,12 @@ fn without_starts(alloc: Global, minus: &Dates, shifted: &Shifted) -> Result<Dat
     set.dates(alloc)
 }
 
-// The starts alone, as a list of dates.
-fn series_of_starts(alloc: Global, kind: Kind, starts: &Dates) -> Result<Series, NoMemory>
+/// The starts alone, as a list of dates.
+pub(crate) fn series_of_starts(
+    alloc: Global,
+    kind: Kind,
+    starts: &Dates,
+) -> Result<Series, NoMemory>
     ensures { IfOk result (λ series. series ≡ series_of_starts kind starts.now) }
 {
     match starts.as_slice() {
@@ -257,8 +284,8 @@ fn with_shifts(alloc: Global, series: Series, shifted: &Shifted) -> Result<Serie
     Ok(series)
 }
 
-// A series with at most `MAX_DATES` dates.
-fn within_dates(line: u64, series: Series) -> Result<Series, KeyRefusal>
+/// A series with at most `MAX_DATES` dates.
+pub(crate) fn within_dates(line: u64, series: Series) -> Result<Series, KeyRefusal>
     ensures { result ≡ within_dates line series }
 {
     if series.plus.len() + series.minus.len() > MAX_DATES {
@@ -312,8 +339,8 @@ fn start_of(series: &Series, stamp: Stamp) -> Stamp
     }
 }
 
-// A series with its instances.
-fn edited_with_series(
+/// A series with its instances.
+pub(crate) fn edited_with_series(
     alloc: Global,
     offset: Option<i32>,
     event: &Event,
@@ -332,50 +359,4 @@ fn edited_with_series(
     let start = start_of(&series, stamp);
     let shifted = shifts_of(alloc, Setting { offset, start }, instances)?;
     edited_event(alloc, event, series, &shifted)
-}
-
-// The date or moment of the RECURRENCE-ID of an event.
-fn recurrence_stamp(event: &Event) -> Result<Stamp, Refusal>
-    ensures value { result ≡ recurrence_stamp event.now.recurrence }
-    ensures years { IfOk result (λ stamp. IsInYears stamp.kind stamp.at) }
-{
-    match &event.recurrence {
-        None => Err(Refusal::NoStart),
-        Some(recurrence) => date_value(recurrence.line, recurrence.value.as_slice()),
-    }
-}
-
-// Instances without a series.
-fn edited_alone(alloc: Global, offset: Option<i32>, instances: &[Event]) -> Result<Series, KeyFault>
-    ensures { AnswersKey (edited_alone offset instances.now) result }
-{
-    let [event, ..] = instances else {
-        return Ok(series_of_starts(alloc, Kind::Days, &Dates::new(alloc))?);
-    };
-    let start = match recurrence_stamp(event) {
-        Ok(start) => start,
-        Err(refusal) => return Err(at_event(event.first, Fault::Refused(refusal))),
-    };
-    let shifted = shifts_of(alloc, Setting { offset, start }, instances)?;
-    let series = series_of_starts(alloc, start.kind, &shifted.starts)?;
-    Ok(within_dates(event.first, series)?)
-}
-
-/// The series of a key with its instances as dates.
-///
-/// The refusal is that of the series' own event by the reader, then instance by instance, of its RECURRENCE-ID `BadMoment`,
-/// `MixedKinds` or `UtcMoment`, `TwoInstances`, and, where it is not cancelled, what the reader refuses and the same of its
-/// DTSTART; then `ExcludedRule`, and `TooManyParts` for more than `MAX_DATES` dates. A series that is cancelled has the
-/// starts of its instances alone. Instances without a series are judged beside the RECURRENCE-ID of the first one.
-pub fn series_with_instances(
-    alloc: Global,
-    offset: Option<i32>,
-    events: &Gathered,
-) -> Result<Series, KeyFault>
-    ensures { AnswersKey (edited_by offset events.now.series events.now.instances) result }
-{
-    match events.series() {
-        None => edited_alone(alloc, offset, events.instances()),
-        Some(event) => edited_with_series(alloc, offset, event, events.instances()),
-    }
 }

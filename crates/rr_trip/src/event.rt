@@ -6,10 +6,9 @@ ghost use Rattle.rr_events.specs.Finding.{lines_in};
 
 use crate::key::first_line;
 use crate::parameter::parameter_of;
-use rr_events::{Piece, first_named, first_value, own_lines};
+use rr_events::{Piece, first_named, first_value, full_lines, own_lines};
 use rr_ical::{line_kind, scan_lines, value_of_line};
 use rr_model::{Bytes, Line, LineKind, LineList, LineName, NoMemory, Scan, UsedLine};
-use rr_text::lines_from;
 use std::alloc::Global;
 
 /// A RECURRENCE-ID, which makes an event an instance of a series (RFC 5545, section 3.8.4.4).
@@ -142,11 +141,12 @@ fn event_of(alloc: Global, lines: LineList) -> Result<Event, NoMemory>
 }
 
 /// Reads what the lines of a piece state of its event.
+#[tactic(auto, using(crate::proofs::FullLemmas::event_full))]
 pub fn read_event(alloc: Global, piece: Piece) -> Result<Event, NoMemory>
     requires { piece.first + length piece.text.now < 2 ^ 64 }
     ensures { IfOk result (λ event. event ≡ event_of (lines_in piece.entry)) }
 {
-    let lines = lines_from(alloc, piece.text, false, piece.first)?;
+    let lines = full_lines(alloc, piece)?;
     event_of(alloc, lines)
 }
 

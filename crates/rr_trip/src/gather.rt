@@ -21,7 +21,7 @@ pub enum KeyRefusal {
     },
     /// A RECURRENCE-ID on this line has a RANGE parameter.
     Range(u64),
-    /// A second series, or an instance with a rule or dates of its own, begins on this line.
+    /// A second series, or an instance that is not cancelled with a rule or dates of its own, begins on this line.
     TwoSeries(u64),
     /// A second instance of one moment begins on this line.
     TwoInstances(u64),
@@ -148,7 +148,7 @@ fn with_event(gathered: Gathered, event: Event) -> Result<Gathered, KeyFault>
 /// The series and the instances of entries with one key, in their order.
 ///
 /// `Range` comes for a RECURRENCE-ID with a RANGE parameter, `TwoSeries` for a second event without a RECURRENCE-ID and for
-/// an instance with RRULE or RDATE.
+/// an instance with RRULE or RDATE that is not cancelled.
 pub fn gather(alloc: Global, entries: &[Entry]) -> Result<Gathered, KeyFault>
     requires { All IsNumbered entries.now }
     ensures { AnswersKey (key_in_turn with_event no_events (events_in entries.now)) result }

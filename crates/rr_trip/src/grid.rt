@@ -1,7 +1,7 @@
 // Three months of two sequences of days as they are painted for a person.
 ghost use Rattle.std.specs.Prelude.{◌≡◌, ◌≤ℤ◌, ◌+ℤ◌, ◌-ℤ◌, ◌++◌, pos, IfOk, OnOk};
 ghost use Rattle.rr_model.specs.Calendar.{IsDayWithin};
-ghost use Rattle.rr_trip.specs.Grid.{Grows, HasMonth, HasMonths, HasMonthsAfter, HasPicture, IsPainted, IsPictureOf, cell_text, cells_text, day_sign, first_of_month, month_after, month_length, sign_of};
+ghost use Rattle.rr_trip.specs.Grid.{Grows, HasMonth, HasMonths, HasMonthsAfter, HasPicture, IsPainted, IsPictureOf, cell_text, cells_text, day_sign, first_of_month, month_after, month_length, sign_of, times_of_day, usual_times};
 
 use crate::printing::push;
 use rr_cal::{date_of, days_in_month, weekday};
@@ -11,6 +11,9 @@ use std::alloc::Global;
 
 // The farthest day either way whose months are painted, so that each of their days is one that a sequence takes.
 const FARTHEST: i64 = MAX_DAY - 1_000;
+
+// The most days of three months in a row.
+const MONTHS_DAYS: u8 = 92;
 
 // How many times of a day are printed at most.
 const MOST_TIMES: usize = 8;
@@ -99,17 +102,22 @@ fn push_head(alloc: Global, out: &mut Vec<u8>, first: i64) -> Result<(), NoMemor
     Ok(())
 }
 
+// The times of a day, those of A where it has some.
+fn times_of_day<'a, A: DaySeq, B: DaySeq>(a: &'a A, b: &'a B, day: i64) -> &'a [u32]
+    requires { IsDayWithin 0 day }
+    ensures { result.now ≡ times_of_day (A.sketch a.now) (B.sketch b.now) day }
+{
+    let times = a.at(day);
+    if times.is_empty() { b.at(day) } else { times }
+}
+
 // The times of the first day with some among the days of three months, those of A before those of B: the usual ones.
 fn usual_times<'a, A: DaySeq, B: DaySeq>(a: &'a A, b: &'a B, first: i64) -> &'a [u32]
     requires { IsPainted first }
+    ensures { result.now ≡ usual_times (A.sketch a.now) (B.sketch b.now) first 92 }
 {
-    for i in 0..92 {
-        let day = day_after(first, i);
-        let times = a.at(day);
-        if !times.is_empty() {
-            return times;
-        }
-        let times = b.at(day);
+    for i in 0..MONTHS_DAYS {
+        let times = times_of_day(a, b, day_after(first, i));
         if !times.is_empty() {
             return times;
         }

@@ -6,10 +6,11 @@ ghost use Rattle.rr_trip.specs.Judged.{AreDaysOfKey, IsFaultBy, IsFaultOf, IsFol
 ghost use Rattle.rr_trip.specs.Edited.{series_of_events};
 ghost use Rattle.rr_trip.specs.Entries.{IsNumbered, events_in};
 
-use crate::edit::series_with_instances;
+use crate::alone::first_number;
 use crate::entry::Entry;
 use crate::event::Event;
 use crate::gather::{Gathered, KeyFault, at_event, gather};
+use crate::series::series_with_instances;
 use rr_check::{Checked, admit, check};
 use rr_days::Folded;
 use rr_fold::fold;
@@ -100,9 +101,9 @@ fn zones_of(alloc: Global, events: &Gathered) -> Result<Vec<Bytes>, NoMemory>
 fn first_of(events: &Gathered) -> u64
     ensures { result ≡ first_of events.now.series events.now.instances }
 {
-    match (events.series(), events.instances()) {
-        (Some(event), _) | (None, [event, ..]) => event.first,
-        (None, []) => 0,
+    match events.series() {
+        Some(event) => event.first,
+        None => first_number(events.instances()),
     }
 }
 

@@ -3,9 +3,8 @@ ghost use Rattle.std.specs.Prelude.{◌≡◌, ◌<◌, ◌+◌, ◌^◌, length
 ghost use Rattle.rr_events.specs.Finding.{lines_in};
 ghost use Rattle.rr_trip.specs.Keys.{first_line, key_cmp, key_of};
 
-use rr_events::{Piece, first_value, own_lines};
+use rr_events::{Piece, first_value, full_lines, own_lines};
 use rr_model::{Bytes, Line, NoMemory};
-use rr_text::lines_from;
 use std::alloc::Global;
 use std::cmp::Ordering;
 
@@ -64,10 +63,11 @@ fn key_of_lines(alloc: Global, lines: &[Line]) -> Result<Key, NoMemory>
 }
 
 /// The key of an event.
+#[tactic(auto, using(crate::proofs::FullLemmas::key_full))]
 pub fn key_of(alloc: Global, piece: Piece) -> Result<Key, NoMemory>
     requires { piece.first + length piece.text.now < 2 ^ 64 }
     ensures { IfOk result (λ key. key ≡ key_of (lines_in piece.entry)) }
 {
-    let lines = lines_from(alloc, piece.text, false, piece.first)?;
+    let lines = full_lines(alloc, piece)?;
     key_of_lines(alloc, lines.as_slice())
 }

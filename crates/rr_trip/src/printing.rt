@@ -2,7 +2,7 @@
 ghost use Rattle.std.specs.Prelude.{◌≡◌, ◌<◌, ◌++◌, All, IfOk, OnOk};
 ghost use Rattle.std.specs.Fmt.{decimal};
 ghost use Rattle.rr_text.specs.Printed.{IsPrintable};
-ghost use Rattle.rr_trip.specs.Printed.{counts_text, escaped_text, escaped_byte, event_refusal_text, file_refusal_line, has_number, hex_digit, is_difference, key_refusal_text, key_text, line_text, lines_text, report_text, said_text, verdict_text};
+ghost use Rattle.rr_trip.specs.Printed.{asked_byte, asked_text, counts_text, escaped_text, escaped_byte, event_refusal_text, file_refusal_line, has_number, hex_digit, is_difference, key_refusal_text, key_text, line_text, lines_text, report_text, said_text, verdict_text};
 ghost use Rattle.rr_trip.specs.Said.{IsPrintableSaid};
 
 use crate::file::FileRefusal;
@@ -51,6 +51,26 @@ fn push_escaped(out: &mut Vec<u8>, text: &[u8]) -> Result<(), NoMemory>
 {
     for byte in text {
         push_escaped_byte(out, *byte)?;
+    }
+    Ok(())
+}
+
+fn push_asked_byte(out: &mut Vec<u8>, byte: u8) -> Result<(), NoMemory>
+    ensures { OnOk result (out.new.items ≡ out.old.items ++ asked_byte byte) }
+{
+    if byte == b'\\' {
+        out.push(byte)?;
+        return Ok(());
+    }
+    push_escaped_byte(out, byte)
+}
+
+/// Appends a name that was asked for, as UIDs are printed, but a backslash as it stands: names are asked for as they are printed.
+pub fn push_asked(out: &mut Vec<u8>, name: &[u8]) -> Result<(), NoMemory>
+    ensures { OnOk result (out.new.items ≡ out.old.items ++ asked_text name.now) }
+{
+    for byte in name {
+        push_asked_byte(out, *byte)?;
     }
     Ok(())
 }

@@ -4,7 +4,8 @@ ghost use Rattle.std.specs.List.{filter};
 ghost use Rattle.rr_events.specs.Finding.{lines_in};
 ghost use Rattle.rr_trip.specs.Entries.{IsNumbered, IsNumberedPiece, entry_of, events_in};
 ghost use Rattle.rr_trip.specs.Printed.{key_text};
-ghost use Rattle.rr_trip.specs.Shown.{AnswersShow, IsShownOf, IsShownSaid, IsUnknown, are_none, events_named, is_entry_named, named_part, said_status};
+ghost use Rattle.rr_days.specs.Sequence.{sketch};
+ghost use Rattle.rr_trip.specs.Shown.{AnswersShow, IsPictureBeside, IsPictureFor, IsPictureFrom, IsShownOf, IsUnpainted, IsShownSaid, IsUnknown, are_none, events_named, is_entry_named, named_part, said_status};
 
 use crate::entry::Entry;
 use crate::file::{TripFault, read_file};
@@ -12,7 +13,7 @@ use crate::gather::KeyFault;
 use crate::grid::picture;
 use crate::judge::{KeyDays, key_days};
 use crate::key::{Key, key_of};
-use crate::printing::{push, push_key, push_said};
+use crate::printing::{push, push_asked, push_key, push_said};
 use crate::report::Status;
 use crate::said::{Said, said_of};
 use rr_events::Piece;
@@ -91,6 +92,16 @@ fn said_status(said: Said) -> Status
     }
 }
 
+// No picture of events that are refused.
+fn no_picture(alloc: Global, fault: KeyFault) -> Result<Vec<u8>, NoMemory>
+    ensures { IfOk result (λ text. IsUnpainted fault text.items) }
+{
+    match fault {
+        KeyFault::NoMemory => Err(NoMemory),
+        KeyFault::Refused(_) => Ok(Vec::new(alloc)),
+    }
+}
+
 // The picture of the months from a day on, beside the days of A; none where the events of B are refused.
 fn picture_beside(
     alloc: Global,
@@ -100,11 +111,12 @@ fn picture_beside(
     day: i64,
 ) -> Result<Vec<u8>, NoMemory>
     requires { All IsNumbered b.now }
+    ensures { IfOk result (λ text. IsPictureBeside offset (sketch a.now.days) (events_in b.now) day
+        text.items) }
 {
     match key_days(alloc, offset, b) {
         Ok(b) => picture(alloc, &a.days, &b.days, day),
-        Err(KeyFault::Refused(_)) => Ok(Vec::new(alloc)),
-        Err(KeyFault::NoMemory) => Err(NoMemory),
+        Err(fault) => no_picture(alloc, fault),
     }
 }
 
@@ -118,11 +130,12 @@ fn picture_from(
 ) -> Result<Vec<u8>, NoMemory>
     requires a { All IsNumbered a.now }
     requires b { All IsNumbered b.now }
+    ensures { IfOk result (λ text. IsPictureFrom offset (events_in a.now) (events_in b.now) day
+        text.items) }
 {
     match key_days(alloc, offset, a) {
         Ok(a) => picture_beside(alloc, offset, &a, b, day),
-        Err(KeyFault::Refused(_)) => Ok(Vec::new(alloc)),
-        Err(KeyFault::NoMemory) => Err(NoMemory),
+        Err(fault) => no_picture(alloc, fault),
     }
 }
 
@@ -136,6 +149,8 @@ fn picture_of(
 ) -> Result<Vec<u8>, NoMemory>
     requires a { All IsNumbered a.now }
     requires b { All IsNumbered b.now }
+    ensures { IfOk result (λ text. IsPictureFor offset (events_in a.now) (events_in b.now) said
+        text.items) }
 {
     match said {
         Said::Compared {
@@ -152,7 +167,7 @@ fn unknown_name(alloc: Global, name: &[u8]) -> Result<Shown, NoMemory>
 {
     let mut text = Vec::new(alloc);
     push(&mut text, b"unknown ")?;
-    push(&mut text, name)?;
+    push_asked(&mut text, name)?;
     push(&mut text, b"\n")?;
     Ok(Shown {
         status: Status::Refused,
@@ -233,7 +248,8 @@ fn show_named(
 }
 
 /// What is said of the events of two calendar files whose key is printed by this name, as in a report; and, where they
-/// differ, a picture of the month of the first counterexample and the two after it. Where no event has the name, that.
+/// differ, a picture of the month of the first counterexample and the two after it. Where no event has the name, that, with the
+/// name as it is printed.
 ///
 /// A file is refused as a whole as in `compare`, which says of the offset.
 pub fn show(

@@ -9,7 +9,7 @@ returns-in-Ok g c = inl c.in-Ok.ensures
 pub returns-in_ok-print_refusal-in-Err-Refused : goal.returns-in_ok-print_refusal-in-Err-Refused
 returns-in_ok-print_refusal-in-Err-Refused g c =
     let refused = rw c.in-Err-Refused.field-0-is at c.in-Err-Refused.ensures in
-    let answered : List ℕ → Answer = λ (b : List ℕ). record { status = Refused; bytes = b } in
+    let answered : List ℕ → Answer = λ (b : List ℕ). record { status = Refused; bytes = b; in_utc = 0 } in
     inr (record {
       side = c.in-Err-Refused.side;
       refusal = c.in-Err-Refused.refusal;

@@ -1,6 +1,6 @@
-use Rattle.std.proofs.Common.{ℕ, List, ap, subst}
+use Rattle.std.proofs.Common.{ℕ, List, ap, ◌∙◌, subst}
 use Rattle.rr_calendars.specs.Outcomes.{outcome_is}
-use Rattle.rr_calendars.specs.Run.{IsNamed}
+use Rattle.rr_calendars.specs.Run.{IsNamed, status_by}
 use Rattle.rr_calendars.specs.declared.answer.Outcome.{Outcome}
 use Rattle.rr_calendars.specs.declared.status.Status.{Status}
 use Rattle.rr_calendars.proofs.AnswerLemmas.{show_fault}
@@ -11,7 +11,9 @@ pub returns-in-Ok : goal.returns-in-Ok
 returns-in-Ok c = record {
   shown = c.in-Ok.shown;
   shows = subst (λ (name : List ℕ). IsShownIn c.args.offset c.args.old.now c.args.new.now name c.in-Ok.shown) c.as_bytes.ensures.value c.in-Ok.ensures;
-  is = ap (λ (s : Status). record { status = s; bytes = c.in-Ok.shown.text.items }) c.status_by.ensures;
+  is =
+      ap (λ (s : Status). record { status = s; bytes = c.in-Ok.shown.text.items; in_utc = c.in_utc_count.result }) c.status_by.ensures
+      ∙ ap (λ (n : ℕ). record { status = status_by c.in-Ok.shown.status; bytes = c.in-Ok.shown.text.items; in_utc = n }) c.in_utc_count.ensures;
 }
 
 pub returns-in-Err : goal.returns-in-Err

@@ -10,11 +10,11 @@ use Rattle.rr_calendars.proofs.program.run.Goals as goal
 
 pub returns-in-Err-Failed-clause-answer : goal.returns-in-Err-Failed-clause-answer
 returns-in-Err-Failed-clause-answer g c =
-    of_all (contents (asked_of (words_of c.args.words.now)) (g.S.Source.held c.args.source.now)) (λ files. refl)
+    of_all (contents (asked_of (words_of c.args.words.now)) (g.S.Source.held c.args.source.now)) (λ files. (refl, refl))
 
 pub returns-in-Err-NoMemory-clause-answer : goal.returns-in-Err-NoMemory-clause-answer
 returns-in-Err-NoMemory-clause-answer g c =
-    of_all (contents (asked_of (words_of c.args.words.now)) (g.S.Source.held c.args.source.now)) (λ files. refl)
+    of_all (contents (asked_of (words_of c.args.words.now)) (g.S.Source.held c.args.source.now)) (λ files. (refl, refl))
 
 pub returns-in-Err-NoMemory-clause-complete : goal.returns-in-Err-NoMemory-clause-complete
 returns-in-Err-NoMemory-clause-complete g c = λ same rose.
@@ -30,7 +30,7 @@ returns-in-Err-Failed-put-clause-answer g c =
 pub returns-in-Err-NoMemory-put-clause-answer : goal.returns-in-Err-NoMemory-put-clause-answer
 returns-in-Err-NoMemory-put-clause-answer g c =
     let put = rw c.in-Err-NoMemory-put.field-0-is at c.in-Err-NoMemory-put.ensures.put in
-    of_all (contents (asked_of (words_of c.args.words.now)) (g.S.Source.held c.args.source.now)) (λ files. put.0)
+    of_all (contents (asked_of (words_of c.args.words.now)) (g.S.Source.held c.args.source.now)) (λ files. (refl, put.0))
 
 pub returns-in-Err-NoMemory-put-clause-complete : goal.returns-in-Err-NoMemory-put-clause-complete
 returns-in-Err-NoMemory-put-clause-complete g c = λ same rose.

@@ -1,6 +1,6 @@
 use Rattle.std.proofs.Common.{sym, refl, ◌∙◌}
 use Rattle.std.proofs.lemmas.Result.{err_from_is_err_and}
-use Rattle.rr_events.proofs.FindLemmas.{all-found, at-start, begun-longer, fault-found, one_more, still-open}
+use Rattle.rr_events.proofs.FindLemmas.{all-found, at-start, begun-longer, fault-found, one_more, passed-over, still-open}
 use Rattle.rr_events.proofs.LineLemmas.{cut-of, no-cut}
 use Rattle.rr_events.proofs.find.find_events.Goals as goal
 
@@ -25,8 +25,10 @@ returns-in_err-step-clause-found c =
 pub loop-finder-preserved : goal.loop-finder-preserved
 loop-finder-preserved c =
     let cut = cut-of c.loop-finder.number c.loop-finder.rest.now _ c.in-Some.cut c.in-Some.is c.in_ok-cut.ensures in
-    one_more c.args.text.now c.loop-finder.rest.now c.in-Some.cut.after.now c.loop-finder.number c.in-Some.cut.next c.in-Some.cut.line _ _ _ refl refl cut
-    c.in_ok-step.ensures c.loop-finder.invariant
+    let left = c.after_empty_lines-left in
+    passed-over c.args.text.now _ _ _ c.in-Some.cut.next c.in-Some.cut.after.now left.result.text.now left.result.number left.ensures.empty
+    (one_more c.args.text.now c.loop-finder.rest.now c.in-Some.cut.after.now c.loop-finder.number c.in-Some.cut.next c.in-Some.cut.line _ _ _ refl refl cut
+    c.in_ok-step.ensures c.loop-finder.invariant)
 
 pub returns-then-is_empty-clause-found : goal.returns-then-is_empty-clause-found
 returns-then-is_empty-clause-found c =

@@ -1,4 +1,4 @@
-use Rattle.std.proofs.Common.{rules}
+use Rattle.std.proofs.Common.{rules, refl}
 use Rattle.rr_trip.proofs.shown.show_key.Goals as goal
 
 pub returns : goal.returns
@@ -6,6 +6,8 @@ returns c = record {
   said = c.in_ok-said.said;
   more = c.in_ok-picture.picture.items;
   is_said = c.in_ok-said.ensures.said;
+  tells = refl;
   status = search rules;
   text = search rules;
+  picture = c.in_ok-picture.ensures;
 }
