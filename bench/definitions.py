@@ -2,9 +2,11 @@
 """bench/definitions.py
 
 Counts the definitions that a reader has to read, for docs/TRUST.md: those that stand in specs/ and are reached, through the
-names that their texts use, from a clause of `run`, from a verdict, or from what occurs in a series. A definition is a signature with
-its equations, or a record; its lines are those that are not empty. Names are told apart by the imports of each file.
-With -v it prints each file with its definitions in the order in which they can be read.
+names and the operators that their texts use, from the clauses of `run`, from a verdict, or from what occurs in a series. A
+definition is a signature with its equations, or a record; its lines are those that are not empty. Names are told apart by the
+imports of each file. Beside them it counts the types and constants of Rust that these definitions speak of, with the types of
+their fields; their lines are those without comments and attributes. The words of the kit's library are not counted.
+With -v it prints each file with its definitions, types and constants, in the order in which the definitions can be read.
 """
 import re
 import sys
@@ -14,6 +16,9 @@ TOP = Path(__file__).resolve().parent.parent
 CRATES = TOP / "crates"
 HEAD = re.compile(r"(?:(?:abbrev|unfoldable|pub|record|data|type|opaque|recursive|mutual) )*([^\s(:=]+)(?: \(| :| =|$)")
 WORD = re.compile(r"[^\s(){}\[\];,.:=→λ]+")
+OPERATOR = re.compile(r"[^\s(){}\[\];,]+")
+TYPE = re.compile(r"^(?:pub )?(?:struct|enum) (\w+)[^;{]*(?:;|\{.*?^\})", re.M | re.S)
+CONSTANT = re.compile(r"^pub const (\w+):[^;]*;", re.M)
 
 
 def blocks_of(file):
@@ -37,12 +42,28 @@ def blocks_of(file):
 
 
 def imports_of(file):
-    """What each name of a file stands for: (module, name)."""
+    """What each name of a file stands for: (module, name), or (module, None) for a module with another name."""
     found = {}
-    for module, names in re.findall(r"^use Rattle\.([\w.]+)\.\{([^}]*)\}", file.read_text(), re.M):
+    text = file.read_text()
+    for module, names in re.findall(r"^use Rattle\.([\w.]+)\.\{([^}]*)\}", text, re.M):
         for it in names.split(","):
             name, _, other = it.strip().partition(" as ")
             found[other or name] = (module, name)
+    for module, other in re.findall(r"^use Rattle\.([\w.]+) as (\w+)", text, re.M):
+        found[other] = (module, None)
+    return found
+
+
+def words_of(lines, names):
+    """The words of a definition: names, and the operators among these names that are written infix or by `do`."""
+    text = "\n".join(lines)
+    found = WORD.findall(text)
+    found += [word.split(".")[0] for word in found]
+    used = set(OPERATOR.findall(text))
+    for name in names:
+        parts = [it for it in name.split("◌") if it] if "◌" in name else []
+        if used.intersection(parts) or (name == "◌>>=◌" and "do" in used):
+            found.append(name)
     return found
 
 
@@ -55,62 +76,138 @@ def modules():
     return found
 
 
-def reached(all_modules, roots):
-    """The definitions that the roots reach, as (module, name), without what is asked for beside a verdict."""
-    seen, left = [], list(roots)
-    beside = BESIDE if ("rr_answer.specs.Verdicts", "IsSaidOfBoth") in roots else []
+def reached(all_modules, roots, passed_over):
+    """The definitions that the roots reach, as (module, name), and the names declared in Rust, without what is passed over."""
+    seen, declared, left = [], set(), list(roots)
     while left:
         module, name = left.pop()
-        if module not in all_modules or (module, name) in seen or (module, name) in beside or name not in all_modules[module][1]:
+        if ".specs.declared." in module:
+            declared.add((module, name))
+        if module not in all_modules or (module, name) in seen or (module, name) in passed_over or name not in all_modules[module][1]:
             continue
         seen.append((module, name))
         _, blocks, imports = all_modules[module]
-        for word in WORD.findall("\n".join(blocks[name])):
-            for it in (word, word.split(".")[0]):
-                left.append(imports.get(it, (module, it)))
+        for word in words_of(blocks[name], list(imports) + list(blocks)):
+            left.append(imports.get(word, (module, word)))
+    return seen, declared
+
+
+def rust_items():
+    """Each type and constant of Rust by (crate, name): its file and its lines."""
+    found = {}
+    for file in sorted(CRATES.glob("*/src/**/*.rt")):
+        crate = file.relative_to(CRATES).parts[0]
+        text = file.read_text()
+        for it in list(TYPE.finditer(text)) + list(CONSTANT.finditer(text)):
+            lines = [line for line in it.group(0).split("\n") if line.strip() and not line.strip().startswith(("//", "#["))]
+            found.setdefault((crate, it.group(1)), (file, lines))
+    return found
+
+
+def crate_of(items, file, name):
+    """The crate of a type that a file of Rust names: its own, or one from which the file imports the name."""
+    crate = file.relative_to(CRATES).parts[0]
+    others = re.findall(r"^use (rr_\w+)::(?:\{[^}]*\b%s\b[^}]*\}|%s);" % (name, name), file.read_text(), re.M)
+    return next((it for it in [crate] + others if (it, name) in items), None)
+
+
+def spoken_of(items, declared):
+    """The types and constants of Rust that are declared to definitions, with the types of their fields, as (crate, name)."""
+    left = []
+    for module, name in declared:
+        parts = module.split(".")
+        left.append((parts[0], name if parts[-1] == "TheConstants" else parts[-2] if parts[-1] == "TheVariants" else parts[-1]))
+    seen = []
+    while left:
+        item = left.pop()
+        if item not in items or item in seen:
+            continue
+        seen.append(item)
+        file, lines = items[item]
+        # (a line that begins with a capital letter begins a variant)
+        fields = "\n".join(re.sub(r"^\s+[A-Z]\w*", "", line) for line in lines)
+        for word in set(re.findall(r"\b[A-Z]\w*", fields)):
+            left.append((crate_of(items, file, word), word))
     return seen
 
 
-def roots_of_run():
-    """The words of the clauses of `run`."""
-    file = CRATES / "rr_cli/src/program.rt"
+def roots_of(file):
+    """The words of the clauses of the functions of a file of Rust."""
     found = []
-    for module, names in re.findall(r"^ghost use Rattle\.([\w.]+)\.\{([^}]*)\}", file.read_text(), re.M):
+    for module, names in re.findall(r"^ghost use Rattle\.([\w.]+)\.\{([^}]*)\}", (CRATES / file).read_text(), re.M):
         found += [(module, name.strip()) for name in names.split(",")]
     return found
 
 
 MODEL = "rr_model.specs."
-# (of two operands a clash or a combined set may be asked for too; a verdict needs neither)
-BESIDE = [("rr_answer.specs.Clashes", "IsClashSaid"), ("rr_answer.specs.Combined", "IsCombinedSaid")]
+ANSWER = "rr_answer.specs."
+# What else may be asked of two operands than a verdict.
+BESIDE_VERDICTS = [(ANSWER + "Clashes", "IsClashSaid"), (ANSWER + "Combined", "IsCombinedSaid")]
+# What the clauses of `run` reach and `equal rrule:A rrule:B` does not need: other commands, their words, and other languages.
+BESIDE_EQUAL = BESIDE_VERDICTS + [
+    (MODEL + "Sets.Verdict", "IsWithinVerdict"),
+    (MODEL + "Sets.Verdict", "IsDisjointVerdict"),
+    (ANSWER + "Answer", "IsSaidOfOne"),
+    (ANSWER + "Answer", "IsDrillSaid"),
+    (ANSWER + "Command", "with_one"),
+    (ANSWER + "Command", "translate_command"),
+    (ANSWER + "Command", "list_command"),
+    (ANSWER + "Command", "drill_command"),
+    (ANSWER + "Command", "clear_command"),
+    (ANSWER + "Command", "nth_command"),
+    (ANSWER + "Command", "rank_command"),
+    (ANSWER + "OperandReading", "vcal_as_series"),
+    (ANSWER + "OperandReading", "graph_as_series"),
+    (ANSWER + "OperandReading", "IsDescriptorRead"),
+    (MODEL + "Text.Lists", "reads_list"),
+    (MODEL + "Sets.Sketch", "StandsIn"),
+    ("rr_skip.specs.Reading", "reads_rscale"),
+    ("rr_skip.specs.Members", "OccursSkipping"),
+    ("rr_skip.specs.Members", "skip_cycle"),
+    ("rr_skip.specs.Judged", "IsSkipLimitRefusal"),
+]
+# Each question with what it begins with, and what it passes over.
 QUESTIONS = {
-    "what occurs in a series": [(MODEL + "Series.Occurrences", "Occurs")],
-    "a verdict on two series": [
-        (MODEL + "Series.Occurrences", "Occurs"),
-        (MODEL + "Sets.Verdict", "IsEqualVerdict"),
-        (MODEL + "Sets.Verdict", "IsWithinVerdict"),
-        (MODEL + "Sets.Verdict", "IsDisjointVerdict"),
-        ("rr_answer.specs.Verdicts", "IsSaidOfBoth"),
-    ],
-    "what is said of two series, clashes and combined sets too": [("rr_answer.specs.Answer", "IsPairAnswer")],
-    "reading a calendar text": [(MODEL + "Text.Calendars", "reads_calendar")],
-    "the clauses of run": roots_of_run(),
-    "what is said of two whole calendars": [("rr_trip.specs.Report", "IsReportOf"), ("rr_trip.specs.Report", "IsFileRefused")],
+    "what occurs in a series": ([(MODEL + "Series.Occurrences", "Occurs")], []),
+    "a verdict on two series": (
+        [
+            (MODEL + "Series.Occurrences", "Occurs"),
+            (MODEL + "Sets.Verdict", "IsEqualVerdict"),
+            (MODEL + "Sets.Verdict", "IsWithinVerdict"),
+            (MODEL + "Sets.Verdict", "IsDisjointVerdict"),
+            (ANSWER + "Verdicts", "IsSaidOfBoth"),
+        ],
+        BESIDE_VERDICTS,
+    ),
+    "what is said of two series, clashes and combined sets too": ([(ANSWER + "Answer", "IsPairAnswer")], []),
+    "how a text of RFC 5545 is read": ([(MODEL + "Text.Calendars", "reads_calendar")], []),
+    "`equal` of two calendar texts, as it is printed": (roots_of("rr_cli/src/program.rt"), BESIDE_EQUAL),
+    "the clauses of `run` of rr": (roots_of("rr_cli/src/program.rt"), []),
+    "what is said of two whole calendars": ([("rr_trip.specs.Report", "IsReportOf"), ("rr_trip.specs.Report", "IsFileRefused")], []),
+    "the clauses of `run` of rr-calendars": (roots_of("rr_calendars/src/program.rt"), []),
 }
 
 
+def print_names(named, file_of):
+    """Each file with its names, in the order in which they come."""
+    order = {}
+    for item in named:
+        order.setdefault(file_of(item), []).append(item[1])
+    for file, names in order.items():
+        print(f"    {file.relative_to(TOP)}: {' '.join(names)}")
+
+
 def main():
-    all_modules = modules()
-    for question, roots in QUESTIONS.items():
-        found = reached(all_modules, roots)
+    all_modules, items = modules(), rust_items()
+    for question, (roots, passed_over) in QUESTIONS.items():
+        found, declared = reached(all_modules, roots, passed_over)
+        spoken = spoken_of(items, declared)
         lines = sum(len(all_modules[module][1][name]) for module, name in found)
-        print(f"{question}: {len(found)} definitions, {lines} lines")
+        rust = sum(len(items[it][1]) for it in spoken)
+        print(f"{question}: {len(found)} definitions, {lines} lines; in Rust {len(spoken)} types and constants, {rust} lines")
         if "-v" in sys.argv[1:]:
-            order = {}
-            for module, name in reversed(found):
-                order.setdefault(module, []).append(name)
-            for module, names in order.items():
-                print(f"    {all_modules[module][0].relative_to(TOP)}: {' '.join(names)}")
+            print_names(reversed(found), lambda it: all_modules[it[0]][0])
+            print_names(spoken, lambda it: items[it][0])
 
 
 main()

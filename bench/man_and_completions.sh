@@ -1,19 +1,34 @@
 #!/bin/sh
-# Tries the man page and the completions: mandoc finds nothing to warn of, and each shell completes commands, languages and file names.
-# What is not installed is skipped by name. The status is 0 where nothing failed.
+# Tries the man pages and the completions: mandoc finds nothing to warn of, and each shell completes commands, languages and file names.
+# What is not installed is skipped by name. It prints what fails, then 'N passed, M failed'; the status is 0 if nothing failed.
 set -u
-here=$(CDPATH= cd -- "$(dirname -- "$0")/.." && pwd) || exit 1
+here=$(CDPATH='' cd -- "$(dirname -- "$0")/.." && pwd) || exit 1
 cd "$here" || exit 1
-failed=0
+passed=0 failed=0
+
+# tell STATUS TEXT counts a try, and says TEXT if it failed.
+tell() {
+    if [ "$1" -eq 0 ]; then
+        passed=$((passed + 1))
+    else
+        failed=$((failed + 1))
+        echo "FAILED: $2"
+    fi
+}
 
 # expect SHELL LINE WORD FOUND: among what a shell offers after LINE is WORD.
 expect() {
     case " $4 " in
-    *" $3 "*) echo "ok: $1 completes '$2' to '$3'" ;;
-    *)
-        echo "FAILED: $1 completes '$2' to: $4"
-        failed=1
-        ;;
+    *" $3 "*) tell 0 ;;
+    *) tell 1 "$1 completes '$2' to: $4" ;;
+    esac
+}
+
+# refuse SHELL LINE WORD FOUND: among what a shell offers after LINE is no WORD.
+refuse() {
+    case " $4 " in
+    *" $3 "*) tell 1 "$1 completes '$2' to: $4" ;;
+    *) tell 0 ;;
     esac
 }
 
@@ -22,7 +37,8 @@ has() {
 }
 
 if has mandoc; then
-    if mandoc -T lint -W warning docs/rr.1 docs/rr-calendars.1; then echo 'ok: mandoc finds nothing'; else failed=1; fi
+    mandoc -T lint -W warning docs/rr.1 docs/rr-calendars.1
+    tell $? 'mandoc warns of a man page'
 fi
 
 in_bash() {
@@ -44,6 +60,7 @@ in_zsh() {
         compadd() { while [[ $1 != -- ]] { shift }; shift; print -r -- "$@" }
         compset() { [[ $PREFIX == (#b)(${~2})(*) ]] && PREFIX=$match[-1] }
         _files() { print -r -- ${PREFIX}*(N) }
+        _message() { : }
         words=("${(@s: :)1}") CURRENT=${#words} PREFIX=${words[-1]}
         . completions/_rr' '' "$1" | tr '\n' ' '
 }
@@ -58,6 +75,8 @@ for shell in bash fish; do
     expect $shell 'rr nth 3 rs' rscale: "$(in_$shell 'rr nth 3 rs')"
     expect $shell 'rr nth 3 ca' canon: "$(in_$shell 'rr nth 3 ca')"
     expect $shell 'rr clear 60 rrule:a 60 ca' canon: "$(in_$shell 'rr clear 60 rrule:a 60 ca')"
+    refuse $shell 'rr nth ' canon: "$(in_$shell 'rr nth ')"
+    refuse $shell 'rr clear 60 rrule:a ' canon: "$(in_$shell 'rr clear 60 rrule:a ')"
 done
 if has bash; then
     expect bash 'rr check rrule:examples/stand' examples/standup.ics "$(in_bash 'rr check rrule:examples/stand')"
@@ -75,7 +94,10 @@ if has zsh; then
     expect zsh 'rr translate gr' graph "$(in_zsh 'rr translate gr')"
     expect zsh 'rr check rr' rrule: "$(in_zsh 'rr check rr')"
     expect zsh 'rr clear 60 rrule:a 60 ca' canon: "$(in_zsh 'rr clear 60 rrule:a 60 ca')"
+    refuse zsh 'rr nth ' canon: "$(in_zsh 'rr nth 1')"
+    refuse zsh 'rr clear 60 rrule:a ' canon: "$(in_zsh 'rr clear 60 rrule:a 6')"
     expect zsh 'rr check rrule:examples/stand' examples/standup.ics "$(in_zsh 'rr check rrule:examples/stand')"
     expect zsh 'rr check rrule@+01:00:examples/stand' examples/standup.ics "$(in_zsh 'rr check rrule@+01:00:examples/stand')"
 fi
-exit $failed
+echo "$passed passed, $failed failed"
+[ "$failed" -eq 0 ]

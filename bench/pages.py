@@ -2,8 +2,9 @@
 """bench/pages.py [PROGRAM [CALENDARS]]
 
 Runs each command of README.md and docs/*.md that stands in an indented line after '$', and compares what it prints with the lines
-below it; runs the input of each row of docs/REFUSALS.md and looks for the row's name, of both where two operands stand in its words; and looks whether docs/TRUST.md has the counts
-that bench/definitions.py prints, and names edits that are there. PROGRAM stands in for ./rr and for the shipped program, CALENDARS for ./rr-calendars.
+below it. Runs the input of each row of docs/REFUSALS.md and looks for the row's name, of both if two operands stand in its words. Looks whether
+docs/TRUST.md has the counts that bench/definitions.py prints and names edits that are there, whether each file that a page links to is
+there, and whether README.md has at most 120 lines. PROGRAM stands in for ./rr and for the shipped program, CALENDARS for ./rr-calendars.
 It prints each line that differs, then 'N passed, M failed'. Python 3 and its standard library are enough.
 """
 import os
@@ -18,6 +19,8 @@ CALENDARS = os.path.abspath(sys.argv[2]) if len(sys.argv) > 2 else str(TOP / "rr
 SHIPPED = "release/rr-x86_64-linux"
 SECONDS = 300
 PAGES = [TOP / "README.md", *sorted((TOP / "docs").glob("*.md"))]
+LINKING = sorted({*PAGES, *TOP.glob("*.md"), TOP / "tests/README.md", TOP / "release/README.md"})
+README_LINES = 120
 
 
 def commands_of(page):
@@ -37,10 +40,11 @@ def commands_of(page):
 
 def printed(command, given=b""):
     """What a shell command prints, with the program in place of ./rr."""
+    # (first, since the path of the given program may have this name in it)
+    if len(sys.argv) > 1:
+        command = re.sub(rf"(?<![\w/]){re.escape(SHIPPED)}(?![\w-])", lambda _: "'" + PROGRAM + "'", command)
     command = re.sub(r"(?<![\w/])\./rr(?![\w/-])", lambda _: "'" + PROGRAM + "'", command)
     command = re.sub(r"(?<![\w/])\./rr-calendars(?![\w/])", lambda _: "'" + CALENDARS + "'", command)
-    if len(sys.argv) > 1:
-        command = command.replace(SHIPPED, "'" + PROGRAM + "'")
     try:
         run = subprocess.run(["sh", "-c", command], cwd=TOP, input=given, stdout=subprocess.PIPE, stderr=subprocess.DEVNULL, timeout=SECONDS)
     except subprocess.TimeoutExpired:
@@ -72,13 +76,29 @@ def trusted():
     """What docs/TRUST.md says that can be looked up: a text, and whether it holds."""
     page = (TOP / "docs/TRUST.md").read_text()
     counts = subprocess.run([sys.executable, str(TOP / "bench/definitions.py")], stdout=subprocess.PIPE).stdout.decode()
-    for question, definitions, lines in re.findall(r"(.*): (\d+) definitions, (\d+) lines", counts):
-        yield f"{question}: {definitions} definitions, {lines} lines", f"| {int(definitions):,} | {int(lines):,} |" in page
+    for question, *numbers in re.findall(r"(.*): (\d+) definitions, (\d+) lines; in Rust (\d+) types and constants, (\d+) lines", counts):
+        yield f"{question}: {numbers}", f"| {' | '.join(f'{int(it):,}' for it in numbers)} |" in page
     for crates, edits in re.findall(r"(rr_\w+(?:, rr_\w+)*): (`\w+`(?:, `\w+`)*)", page):
         for crate in crates.split(", "):
             for edit in re.findall(r"\w+", edits):
                 places = [f"crates/{crate}/must-fail/{edit}.edit", f"edits/{crate}/{edit}.edit"]
                 yield f"{crate}: {edit}", any((TOP / place).is_file() for place in places)
+
+
+def anchors(page):
+    """The names under which the headings of a page are linked to."""
+    headings = re.findall(r"^#+ (.*)$", page.read_text(), re.M)
+    return {re.sub(r"[^\w -]", "", heading.lower()).replace(" ", "-") for heading in headings}
+
+
+def links():
+    """Each link of a page to a place of the repository, and whether the place is there."""
+    for page in LINKING:
+        for target in re.findall(r"\]\(([^)\s]+)\)", page.read_text()):
+            name, _, anchor = target.partition("#")
+            if ":" not in name:
+                file = page.parent / name if name else page
+                yield page, target, file.exists() and (not anchor or anchor in anchors(file))
 
 
 def main():
@@ -100,6 +120,10 @@ def main():
         note(f"docs/REFUSALS.md:{number}", bool(said) and said[0].split()[:3] == ["refused", side, name], f"{name}: {said}")
     for said, holds in trusted():
         note("docs/TRUST.md", holds, said)
+    for page, target, holds in links():
+        note(page.relative_to(TOP), holds, f"the link {target} leads nowhere")
+    lines = len(PAGES[0].read_text().splitlines())
+    note("README.md", lines <= README_LINES, f"{lines} lines, more than {README_LINES}")
     print(f"{passed} passed, {failed} failed")
     return failed > 0
 

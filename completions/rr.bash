@@ -1,7 +1,13 @@
 # Completion of rr for bash: commands, languages, and file names after the colon.
 _rr() {
-    local line=${COMP_LINE:0:COMP_POINT} current word found
+    local line=${COMP_LINE:0:COMP_POINT} current word language found
     local -a words
+    # commands.txt: BEGIN (bench/commands.py writes these lines; plain are the places of words that are neither operands nor languages)
+    local commands='equal within disjoint clear check list nth rank canon canon1 union common minus translate infer drill help'
+    local languages='rrule vcal graph list canon rscale'
+    local targets='rrule vcal graph'
+    local plain='3:clear 5:clear 3:list 3:nth 3:rank 3:drill 4:drill 3:help'
+    # commands.txt: END
     # (bash takes a colon for the end of a word, so the words are those between blanks)
     read -ra words <<<"$line"
     current=${line##*[[:space:]]}
@@ -9,22 +15,27 @@ _rr() {
     COMPREPLY=()
     case ${#words[@]}:${words[1]-} in
     [01]:* | 2:*)
-        mapfile -t COMPREPLY < <(compgen -W 'equal within disjoint clear canon canon1 union common minus check list translate nth rank infer drill help' -- "$current")
+        mapfile -t COMPREPLY < <(compgen -W "$commands" -- "$current")
         return
         ;;
     3:translate)
-        mapfile -t COMPREPLY < <(compgen -W 'rrule vcal graph' -- "$current")
-        return
-        ;;
-    3:list | 3:nth | 3:rank | [35]:clear | *:drill | *:help)
+        mapfile -t COMPREPLY < <(compgen -W "$targets" -- "$current")
         return
         ;;
     esac
-    case $current in
-    rrule:* | vcal:* | graph:* | list:* | canon:* | rscale:*) word=${current#*:} ;;
-    rrule@*:*:* | vcal@*:*:* | graph@*:*:* | list@*:*:* | canon@*:*:* | rscale@*:*:*) word=${current#*:*:} ;;
+    case " $plain " in
+    *" ${#words[@]}:${words[1]} "*) return ;;
+    esac
+    language=${current%%[:@]*}
+    case " $languages " in
+    *" $language "*) ;;
+    *) language= ;;
+    esac
+    case $language/$current in
+    ?*/"$language":*) word=${current#*:} ;;
+    ?*/"$language"@*:*:*) word=${current#*:*:} ;;
     *)
-        mapfile -t COMPREPLY < <(compgen -W 'rrule: vcal: graph: list: canon: rscale:' -- "$current")
+        mapfile -t COMPREPLY < <(compgen -S : -W "$languages" -- "${current%:}")
         compopt -o nospace 2>/dev/null
         return
         ;;

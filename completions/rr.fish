@@ -1,13 +1,14 @@
 # Completion of rr for fish: commands, languages, and file names after the colon.
 function __rr_operands
     set -l token (commandline -ct)
-    set -l parts (string match -r '^((?:rrule|vcal|graph|list|canon|rscale)(?:@[-+][0-9][0-9]:[0-9][0-9])?:)(.*)$' -- $token)
+    set -l languages (string join '|' $__rr_languages)
+    set -l parts (string match -r "^((?:$languages)(?:@[-+][0-9][0-9]:[0-9][0-9])?:)(.*)\$" -- $token)
     if test (count $parts) -ge 2
         for name in (__fish_complete_path "$parts[3]")
             echo $parts[2]$name
         end
     else
-        printf '%s\n' rrule: vcal: graph: list: canon: rscale:
+        printf '%s:\n' $__rr_languages
     end
 end
 
@@ -18,6 +19,9 @@ function __rr_at
 end
 
 complete -c rr -f
-complete -c rr -n '__rr_at 1' -a 'equal within disjoint clear canon canon1 union common minus check list translate nth rank infer drill help'
+# commands.txt: BEGIN (bench/commands.py writes these lines)
+set -g __rr_languages rrule vcal graph list canon rscale
+complete -c rr -n '__rr_at 1' -a 'equal within disjoint clear check list nth rank canon canon1 union common minus translate infer drill help'
 complete -c rr -n '__rr_at 2 translate' -a 'rrule vcal graph'
-complete -c rr -n '__rr_at 2 equal within disjoint union common minus canon canon1 infer check; or __rr_at 3 equal within disjoint union common minus translate list nth rank clear; or __rr_at 5 clear' -a '(__rr_operands)'
+complete -c rr -n '__rr_at 2 equal within disjoint check canon canon1 union common minus infer; or __rr_at 3 equal within disjoint clear list nth rank union common minus translate; or __rr_at 5 clear' -a '(__rr_operands)'
+# commands.txt: END

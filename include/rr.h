@@ -1,14 +1,17 @@
 /* rr: whether a repeating series survived a trip between calendars, for all years to come.
  *
- * One function, in librr-x86_64-linux.so and librr-x86_64-linux.a. It reads no file, and writes nothing but what `out` and `length`
- * point to. It keeps nothing between calls, so several threads may call it at once. It takes memory by malloc and realloc, and
- * has given all of it back when it returns.
+ * The library has one function, rr_answer. It reads no file, and writes nothing but what `out` and `length` point to. It keeps nothing
+ * between calls, so several threads may call it at once. It takes memory by malloc and realloc, and has given all of it back when
+ * it returns. Below it stand functions with names, rr_equal, rr_within and rr_disjoint, which are compiled into the caller.
+ *
+ * Copyright the rr authors. SPDX-License-Identifier: MIT OR Apache-2.0
  */
 #ifndef RR_H
 #define RR_H
 
 #include <stddef.h>
 #include <stdint.h>
+#include <string.h>
 
 #ifdef __cplusplus
 extern "C" {
@@ -43,6 +46,152 @@ enum rr_status {
  */
 uint32_t rr_answer(const uint8_t *words, size_t words_length, const uint8_t *a, size_t a_length, const uint8_t *b, size_t b_length,
                    uint8_t *out, size_t out_length, uint64_t *length);
+
+/* A text and its language: "rrule", "vcal", "graph", "list", "canon" or "rscale", with an offset behind it if it has moments in UTC
+ * beside local time, as "rrule@+01:00". */
+struct rr_series {
+    const char *language;
+    const void *text;
+    size_t length;
+};
+
+/* A date, or a moment of the local clock. The year may be past 9999. */
+struct rr_moment {
+    int64_t year;
+    int month, day;
+    int is_date;              /* 1 for a date; then the hour, the minute and the second are 0 */
+    int hour, minute, second;
+};
+
+/* Whose occurrence shows a no. */
+enum rr_side { RR_A, RR_B, RR_BOTH };
+
+/* What is said of two series. */
+struct rr_verdict {
+    uint32_t status;         /* of enum rr_status, but RR_TOO_SMALL; RR_USAGE if a language is none */
+    struct rr_moment moment; /* after RR_NO: the first counterexample */
+    enum rr_side side;       /* after RR_NO: whose occurrence it is */
+    char line[112];          /* after RR_YES, RR_NO and RR_REFUSED: what the program prints, as "refused A BadRule 2", without its
+                              * line end and with a zero byte behind it; otherwise it is empty */
+};
+
+/* Reads count digits at the front of *text, of which *left remain, and says whether they are there. */
+static inline int rr_read_digits(const char **text, size_t *left, size_t count, int *number)
+{
+    *number = 0;
+    for (size_t i = 0; i < count; i++) {
+        if (i >= *left || (*text)[i] < '0' || (*text)[i] > '9')
+            return 0;
+        *number = *number * 10 + ((*text)[i] - '0');
+    }
+    *text += count;
+    *left -= count;
+    return 1;
+}
+
+/* Reads one byte, and says whether it is there. */
+static inline int rr_read_byte(const char **text, size_t *left, char wanted)
+{
+    if (*left == 0 || **text != wanted)
+        return 0;
+    ++*text;
+    --*left;
+    return 1;
+}
+
+/* Reads a date or a moment as the program prints it, "2024-02-29" or "2024-02-29T09:30:00", at the front of *text. It returns whether one is
+ * there, and leaves in *text and *left what follows it. It reads digits and does not ask a calendar. */
+static inline int rr_read_moment(const char **text, size_t *left, struct rr_moment *moment)
+{
+    int digits = 0;
+    memset(moment, 0, sizeof *moment);
+    while (*left > 0 && **text >= '0' && **text <= '9' && digits < 18) {
+        moment->year = moment->year * 10 + (**text - '0');
+        ++*text, --*left, ++digits;
+    }
+    if (digits < 4 || !rr_read_byte(text, left, '-') || !rr_read_digits(text, left, 2, &moment->month) ||
+        !rr_read_byte(text, left, '-') || !rr_read_digits(text, left, 2, &moment->day))
+        return 0;
+    moment->is_date = !rr_read_byte(text, left, 'T');
+    return moment->is_date || (rr_read_digits(text, left, 2, &moment->hour) && rr_read_byte(text, left, ':') &&
+                               rr_read_digits(text, left, 2, &moment->minute) && rr_read_byte(text, left, ':') &&
+                               rr_read_digits(text, left, 2, &moment->second));
+}
+
+/* Reads the line of a no, as "no 2024-01-03 A", with or without its line end. It returns whether it is one. */
+static inline int rr_read_no(const char *line, size_t length, struct rr_moment *moment, enum rr_side *side)
+{
+    if (length > 0 && line[length - 1] == '\n')
+        length--;
+    if (length < 3 || memcmp(line, "no ", 3) != 0)
+        return 0;
+    line += 3, length -= 3;
+    if (!rr_read_moment(&line, &length, moment) || !rr_read_byte(&line, &length, ' '))
+        return 0;
+    *side = length == 4 ? RR_BOTH : length == 1 && *line == 'B' ? RR_B : RR_A;
+    return length == 4 ? memcmp(line, "both", 4) == 0 : length == 1 && (*line == 'A' || *line == 'B');
+}
+
+/* Puts the word of an operand behind the first *length bytes of words, after a zero byte, unless the language is longer than 15 bytes. */
+static inline int rr_put_operand(char *words, size_t *length, const char *language, char name)
+{
+    size_t count = strlen(language);
+    if (count > 15)
+        return 0;
+    words[(*length)++] = 0;
+    memcpy(words + *length, language, count);
+    *length += count;
+    words[(*length)++] = ':';
+    words[(*length)++] = name;
+    return 1;
+}
+
+/* Asks a question on two series: "equal", "within" or "disjoint". */
+static inline struct rr_verdict rr_ask(const char *question, struct rr_series a, struct rr_series b)
+{
+    struct rr_verdict said;
+    char words[64];
+    const uint8_t *a_text = (const uint8_t *)(a.length ? a.text : words), *b_text = (const uint8_t *)(b.length ? b.text : words);
+    size_t count = strlen(question);
+    uint64_t length = 0;
+
+    memset(&said, 0, sizeof said);
+    said.status = RR_USAGE;
+    if (count > 15)
+        return said;
+    memcpy(words, question, count);
+    if (!rr_put_operand(words, &count, a.language, 'a') || !rr_put_operand(words, &count, b.language, 'b'))
+        return said;
+    said.status = rr_answer((const uint8_t *)words, count, a_text, a.length, b_text, b.length, (uint8_t *)said.line,
+                            sizeof said.line - 1, &length);
+    if (said.status == RR_TOO_SMALL) /* (no verdict and no refusal is so long) */
+        said.status = RR_USAGE;
+    if (said.status > RR_REFUSED)
+        memset(said.line, 0, sizeof said.line);
+    else if (length > 0)
+        said.line[length - 1] = 0;
+    if (said.status == RR_NO)
+        rr_read_no(said.line, strlen(said.line), &said.moment, &said.side);
+    return said;
+}
+
+/* Whether both have the same occurrences for all years: RR_YES, or RR_NO with the first that only one of them has. */
+static inline struct rr_verdict rr_equal(struct rr_series a, struct rr_series b)
+{
+    return rr_ask("equal", a, b);
+}
+
+/* Whether each occurrence of a is one of b: RR_YES, or RR_NO with the first that is not. */
+static inline struct rr_verdict rr_within(struct rr_series a, struct rr_series b)
+{
+    return rr_ask("within", a, b);
+}
+
+/* Whether they have no occurrence in common: RR_YES, or RR_NO with the first that both have. */
+static inline struct rr_verdict rr_disjoint(struct rr_series a, struct rr_series b)
+{
+    return rr_ask("disjoint", a, b);
+}
 
 #ifdef __cplusplus
 }

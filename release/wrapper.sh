@@ -1,13 +1,22 @@
-# What both wrappers, rr and rr-calendars, do before they run a program: the shipped one where it is of these sources and runs here, else the one
-# that was built here, which is proved and built first where it is missing or older. The script that reads this file has set here, the
-# top of the repository, name, that of the command, and crate, that of the program.
+# What both wrappers, rr and rr-calendars, do before they run a program. They run the shipped program if it is of these sources and runs here; if
+# there is no GNU C library of its age, the shipped program that needs none; otherwise the one that was built here, which is proved and
+# built first if it is missing or older than its sources. If no program can run here, they say so in one sentence and end with 125,
+# which is no status of a program. The script that reads this file has set here, the top of the repository, name, that of the
+# command, and crate, that of the program.
 shipped=$here/release/$name-x86_64-linux
+static=$shipped-static
 built=$here/crates/$crate/out/$crate
 agreed=$here/out/release-agreed-$name
 made=$here/out/built-of
 . "$here/release/sources.sh"
 
-# Whether the shipped program is of the sources that stand here. Where it was so once, only what has changed since is looked for.
+# Says in one sentence why no program can run here.
+cannot_run() {
+    echo "$name: $*" >&2
+    exit 125
+}
+
+# Whether the shipped programs are of the sources that stand here. If they were so once, only what has changed since is looked for.
 is_of_these_sources() {
     [ -x "$shipped" ] && [ -f "$here/release/SOURCES" ] && read -r digest <"$here/release/SOURCES" || return 1
     if [ -f "$agreed" ] && newer=$(first_newer "$here" -cnewer "out/release-agreed-$name" release/SOURCES "release/$name-x86_64-linux" 2>/dev/null) &&
@@ -15,7 +24,7 @@ is_of_these_sources() {
         return 0
     fi
     # (the stamp is made first, so that what changes while the sources are read is newer)
-    { mkdir -p "$here/out" && : >"$agreed.$$"; } 2>/dev/null
+    { mkdir -p "$here/out" && true >"$agreed.$$"; } 2>/dev/null
     if [ "$(digest_of_sources "$here")" = "$digest" ]; then
         mv -f -- "$agreed.$$" "$agreed" 2>/dev/null
         return 0
@@ -24,17 +33,23 @@ is_of_these_sources() {
     return 1
 }
 
-# Whether the shipped program runs here: where the C library or the processor is too old, it ends before it prints its usage line.
-runs_here() {
-    if [ -e /lib64/ld-linux-x86-64.so.2 ]; then
-        "$shipped" </dev/null >/dev/null 2>&1
-        [ $? -ne 3 ] || return 0
-    fi
-    is_built "$here" "$crate" || echo "$name: the shipped program does not run on this machine, so it is built here" >&2
-    return 1
+# Whether a shipped program runs here: without words it ends with 3. If the C library or the processor is too old, it ends before that.
+runs() {
+    "$1" </dev/null >/dev/null 2>&1
+    [ $? -eq 3 ]
 }
 
-# Passes on how many functions of each library are proved, and what can't be proved. It fails where the program was not run in the end.
+# Says in program which shipped program runs here, if one does.
+choose_shipped() {
+    program=$shipped
+    if [ -e /lib64/ld-linux-x86-64.so.2 ] && runs "$program"; then
+        return 0
+    fi
+    program=$static
+    [ -x "$program" ] && runs "$program"
+}
+
+# Passes on how many functions of each library are proved, and what can't be proved. It fails if the program was not run in the end.
 progress() {
     awk -v command="$name" -v libraries="$(grep -c '^[a-z_]*:' "$here/crates.txt")" '
         /^checked [a-z_]+::.*, [0-9]+ of [0-9]+$/ && $(NF - 2) >= said + 20 {
@@ -48,27 +63,25 @@ progress() {
         END { exit !ran }'
 }
 
+# Proves and builds the program; $1 says why no shipped one can be run.
 build() {
-    if ! command -v rt >/dev/null 2>&1; then
-        echo "$name: no program of these sources is here, and building it needs the command rt of the Rattle kit" >&2
-        exit 1
-    fi
-    echo "$name: proving and building the program; the first time takes about 25 minutes on four processors" >&2
-    mkdir -p "$here/out" && digest=$(digest_of_sources "$here") || exit 1
+    command -v rt >/dev/null 2>&1 || cannot_run "$1, and building it needs the command rt of the Rattle kit"
+    echo "$name: $1, so it is proved and built here; the first time takes about 25 minutes on four processors" >&2
+    mkdir -p "$here/out" && digest=$(digest_of_sources "$here") || cannot_run "no program can be built here, since $here can't be written"
     if ! (cd "$here/crates/$crate" && rt run -- </dev/null 2>&1 >/dev/null) | progress >&2; then
-        echo "$name: the program could not be built; 'rt check' in crates/$crate says why" >&2
-        exit 1
+        cannot_run "the program could not be built; 'rt check' in crates/$crate says why"
     fi
     echo "$digest" >"$made"
     echo "$name: built" >&2
 }
 
-# Says in program which of both to run.
+# Says in program which one to run.
 choose_program() {
-    if is_of_these_sources && runs_here; then
-        program=$shipped
-    else
-        is_built "$here" "$crate" || build
-        program=$built
+    reason='no program of these sources is shipped here'
+    if is_of_these_sources; then
+        ! choose_shipped || return 0
+        reason='the shipped program does not run on this machine'
     fi
+    program=$built
+    is_built "$here" "$crate" || build "$reason"
 }

@@ -2,7 +2,9 @@
 """examples/scale/make.py FOLDER COUNT DIFFERENT
 
 Writes two folders of series, of which some differ. FOLDER/sent and FOLDER/received get COUNT files each; DIFFERENT pairs of them, spread evenly,
-differ at some time to come, and FOLDER/differing has their names. The other pairs have the same occurrences in other words.
+differ at some time to come. The other pairs have the same occurrences in other words. Beside them stand some files as a folder of
+exports has them: names with blanks, files that are refused, files that one of both folders lacks. FOLDER/expected has a line for each pair
+that is not equal: what is said of it, without the moment of a `no`, a tab, and the name.
 """
 import sys
 from pathlib import Path
@@ -31,21 +33,36 @@ def pair(number, differs):
     return f"{start}\nRRULE:{sent}\n", f"{start}\nRRULE:{received}\n"
 
 
+WEEKLY = "DTSTART;VALUE=DATE:20230102\nRRULE:FREQ=WEEKLY\n"
+FORTNIGHTLY = "DTSTART;VALUE=DATE:20230102\nRRULE:FREQ=WEEKLY;INTERVAL=2\n"
+EVENT = "BEGIN:VEVENT\nDTSTART;VALUE=DATE:20240101\nRRULE:FREQ=DAILY\nEND:VEVENT\n"
+OTHER = "BEGIN:VEVENT\nDTSTART;VALUE=DATE:20240102\nRRULE:FREQ=YEARLY\nEND:VEVENT\n"
+# Name, what was sent, what was received, and what is said of the pair if it is not equal.
+ODD = [
+    ("team meeting.ics", WEEKLY, WEEKLY, None),
+    ("it's a \"choir\" $HOME.ics", WEEKLY, FORTNIGHTLY, "no"),
+    ("whole calendar 1.ics", EVENT, EVENT + OTHER, "refused B SeveralEvents"),
+    ("whole calendar 2.ics", EVENT, OTHER + EVENT, "refused B SeveralEvents"),
+    ("latin.ics", WEEKLY, "DTSTART;VALUE=DATE:20240101\nRRULE:FREQ=SOMETIMES\n", "refused B BadRule 2"),
+    ("lost on the way.ics", WEEKLY, None, "missing B"),
+    ("new.ics", None, WEEKLY, "missing A"),
+]
+
+
 def main():
     folder, count, different = Path(sys.argv[1]), int(sys.argv[2]), int(sys.argv[3])
     (folder / "sent").mkdir(parents=True)
     (folder / "received").mkdir()
     step = count // different if different else count + 1
-    differing = []
+    pairs = list(ODD)
     for number in range(count):
         differs = number // step < different and number % step == number // step % 4
-        name = f"{number:06}.ics"
-        sent, received = pair(number, differs)
-        (folder / "sent" / name).write_text(sent)
-        (folder / "received" / name).write_text(received)
-        if differs:
-            differing.append(name)
-    (folder / "differing").write_text("".join(f"{name}\n" for name in differing))
+        pairs.append((f"{number:06}.ics", *pair(number, differs), "no" if differs else None))
+    for name, sent, received, _ in pairs:
+        for side, text in (("sent", sent), ("received", received)):
+            if text is not None:
+                (folder / side / name).write_text(text)
+    (folder / "expected").write_text("".join(f"{said}\t{name}\n" for name, _, _, said in sorted(pairs) if said))
 
 
 main()

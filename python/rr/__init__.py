@@ -1,3 +1,4 @@
+# Copyright the rr authors. SPDX-License-Identifier: MIT OR Apache-2.0
 """Whether a repeating series survived a trip between calendars, for all years to come.
 
 >>> import rr
@@ -11,11 +12,14 @@ lost
 >>> rr.occurrences(received, 3)
 [datetime.date(2024, 1, 1), datetime.date(2024, 1, 15), datetime.date(2024, 1, 29)]
 
-A series is the text or the bytes of a calendar file. One in another language, or with an offset from UTC, is a `Series`:
+A series is the text or the bytes of a calendar file, the `Path` of one, or a list of dates or moments. One in another language, or with
+an offset from UTC, is a `Series`:
 
 >>> phone = rr.Series("DTSTART:20240101T090000\\nRRULE:D1 #0\\n", "vcal")
 >>> rr.nth(phone, 366)
 datetime.datetime(2024, 12, 31, 9, 0)
+>>> rr.within(rr.occurrences(phone, 3), phone)
+True
 
 What can't be read, or is beyond the limits, is refused by an exception that says why:
 
@@ -24,46 +28,31 @@ Traceback (most recent call last):
     ...
 rr.Refused: A: BadRule 2
 
-Calls keep nothing, and the interpreter's lock is not held while one runs: threads may call at once. The shared library is the file that
-the environment's RR_LIBRARY names, or librr.so beside this module, or the one that is shipped beside it in the repository, or else
-librr.so.1 where the system finds it.
+Calls keep nothing, and the interpreter's lock is not held while one runs: threads may call at once. `python -m rr` takes the words of the
+program. The shared library is the file that the environment's RR_LIBRARY names, or librr.so beside this module (librr.dylib on a Mac,
+librr.dll on Windows), or the one that is shipped beside it in the repository, or librr.so.1 if the system finds it. If none can be
+loaded, the import fails with an ImportError that names the machine.
 """
 from __future__ import annotations
 
 import ctypes
 import datetime
-import os
-import re
 from dataclasses import dataclass
-from pathlib import Path
-from typing import Literal, Union
+from typing import Literal
+
+from ._library import NO, NO_MEMORY, REFUSED, TOO_SMALL, USAGE, rr_answer, version
+from ._series import AnySeries, Language, Moment, Operand, Series, Text, is_aware, moment_of, operand, text_of
 
 __all__ = [
-    "Clash", "Differs", "OutOfMemory", "Refused", "Series",
+    "AnySeries", "Clash", "Differs", "Language", "Moment", "OutOfMemory", "Refused", "Series", "Text", "__version__",
     "answer", "canon", "canon1", "check", "clear", "common", "disjoint", "equal", "infer", "minus", "nth", "occurrences", "rank",
     "translate", "union", "within",
 ]
 
-Language = Literal["rrule", "vcal", "graph", "list", "canon", "rscale"]
-Moment = Union[datetime.date, datetime.datetime, str]
-"""A date, or a moment of the local clock; its text where the year is past 9999, which the standard library does not have."""
-
-
-@dataclass(frozen=True)
-class Series:
-    """A text, its language, and how far local time is ahead of UTC where a moment of the text is in UTC.
-
-    >>> utc = "DTSTART:20240101T090000\\nRRULE:FREQ=DAILY;UNTIL=20240102T080000Z\\n"
-    >>> occurrences(Series(utc, offset=datetime.timedelta(hours=1)), 5)
-    [datetime.datetime(2024, 1, 1, 9, 0), datetime.datetime(2024, 1, 2, 9, 0)]
-    """
-
-    text: str | bytes
-    language: Language = "rrule"
-    offset: datetime.timedelta | None = None
-
-
-AnySeries = Union[Series, str, bytes]
+__version__ = version()
+# What a line and most texts have room in; a longer answer costs a second call.
+_ROOM, _TEXT_ROOM = 4096, 65_536
+_LINE = len("2024-02-29T09:30:00\n")
 
 
 @dataclass(frozen=True)
@@ -112,65 +101,24 @@ class OutOfMemory(MemoryError):
     """There was no memory for the answer."""
 
 
-def _library() -> ctypes.CDLL:
-    here = Path(__file__).resolve().parent
-    named = os.environ.get("RR_LIBRARY")
-    if named:
-        return ctypes.CDLL(named)
-    for place in (here / "librr.so", here.parent.parent / "release" / "librr-x86_64-linux.so"):
-        if place.exists():
-            return ctypes.CDLL(str(place))
-    return ctypes.CDLL("librr.so.1")
-
-
-_answer = _library().rr_answer
-_answer.restype = ctypes.c_uint32
-_answer.argtypes = [ctypes.c_char_p, ctypes.c_size_t] * 3 + [ctypes.c_void_p, ctypes.c_size_t, ctypes.POINTER(ctypes.c_uint64)]
-
-_NO, _REFUSED, _USAGE, _NO_MEMORY, _TOO_SMALL = 1, 2, 3, 6, 8
-# What a line and most texts have room in; a longer answer costs a second call.
-_ROOM, _TEXT_ROOM = 4096, 65_536
-_LINE = len("2024-02-29T09:30:00\n")
-
-
 def answer(words: list[str], a: bytes = b"", b: bytes = b"", room: int = _ROOM) -> tuple[int, bytes]:
     """The program's exit status and what it prints, for the words of its command line and the bytes of the operands. Where the answer has
-    more bytes than the room, it is computed once more.
+    more bytes than the room, it is computed once more. Bytes of a word that are no text may stand in it as the interpreter has them.
 
     >>> answer(["check", "rrule:a"], b"DTSTART;VALUE=DATE:20240101\\nRRULE:FREQ=WEEKLY\\n")
     (0, b'cycle 7\\n')
     """
     if any("\0" in word for word in words):
         raise ValueError("a word has no zero byte")
-    said, length = "\0".join(words).encode(), ctypes.c_uint64()
+    said, length = "\0".join(words).encode("utf-8", "surrogateescape"), ctypes.c_uint64()
     while True:
         out = ctypes.create_string_buffer(max(room, 1))
-        status = _answer(said, len(said), a, len(a), b, len(b), out, room, ctypes.byref(length))
-        if status == _NO_MEMORY:
+        status = rr_answer(said, len(said), a, len(a), b, len(b), out, room, ctypes.byref(length))
+        if status == NO_MEMORY:
             raise OutOfMemory
-        if status != _TOO_SMALL:
+        if status != TOO_SMALL:
             return status, ctypes.string_at(out, length.value)
         room = length.value
-
-
-def _moment(text: str) -> Moment:
-    """What a printed date or moment is in the standard library.
-
-    >>> _moment("2024-01-03"), _moment("2024-01-03T09:30:00"), _moment("10000-01-01")
-    (datetime.date(2024, 1, 3), datetime.datetime(2024, 1, 3, 9, 30), '10000-01-01')
-    """
-    if not re.match(r"(?!0000)\d{4}-", text):
-        return text
-    return datetime.datetime.fromisoformat(text) if "T" in text else datetime.date.fromisoformat(text)
-
-
-def _text_of(moment: Moment) -> str:
-    """A date or moment as it is written in a word. A moment has whole seconds and no zone."""
-    if isinstance(moment, datetime.datetime):
-        if moment.tzinfo is not None or moment.microsecond:
-            raise ValueError("a moment has whole seconds, and no zone: it is one of the local clock")
-        return moment.isoformat()
-    return moment.isoformat() if isinstance(moment, datetime.date) else moment
 
 
 def _seconds_of(duration: datetime.timedelta | int) -> str:
@@ -182,55 +130,57 @@ def _seconds_of(duration: datetime.timedelta | int) -> str:
     return str(duration // datetime.timedelta(seconds=1))
 
 
-def _series(series: AnySeries) -> Series:
-    return series if isinstance(series, Series) else Series(series)
-
-
-def _word_of(series: Series, name: str) -> str:
-    """The word for a series, under a name."""
-    if series.offset is None:
-        return f"{series.language}:{name}"
-    minutes = series.offset // datetime.timedelta(minutes=1)
-    if datetime.timedelta(minutes=minutes) != series.offset:
-        raise ValueError("an offset has whole minutes")
-    return f"{series.language}@{'-' if minutes < 0 else '+'}{abs(minutes) // 60:02}:{abs(minutes) % 60:02}:{name}"
-
-
-def _bytes_of(series: Series) -> bytes:
-    return series.text.encode() if isinstance(series.text, str) else bytes(series.text)
+def _count(n: int, most: int) -> str:
+    """A number of occurrences, as it is written in a word."""
+    if not 1 <= n <= most:
+        raise ValueError(f"the number of an occurrence is 1 to {most:,}, and not {n:,}")
+    return str(n)
 
 
 def _place(place: str | None = None) -> int | str | None:
     return int(place) if place and place.isdecimal() else place
 
 
-def _ask(words: list[str], a: Series, b: Series | None = None, room: int = _ROOM) -> tuple[int, str]:
+def _ask(words: list[str], a: Operand, b: Operand | None = None, room: int = _ROOM) -> tuple[int, str]:
     """The status and the answer, where it is no refusal. The words end with those of the operands."""
-    status, out = answer(words, _bytes_of(a), b"" if b is None else _bytes_of(b), room)
-    if status == _REFUSED:
-        _, operand, name, *place = out.decode().split()
-        raise Refused(operand, name, _place(*place))
-    if status >= _USAGE:
+    status, out = answer(words, a.data, b"" if b is None else b.data, room)
+    if status == REFUSED:
+        _, side, name, *place = out.decode().split()
+        raise Refused(side, name, _place(*place))
+    if status >= USAGE:
         raise ValueError(f"not within what rr takes: {' '.join(words)}")
     return status, out.decode()
 
 
-def _of_one(words: list[str], series: AnySeries, room: int = _ROOM) -> tuple[int, str]:
-    a = _series(series)
-    return _ask([*words, _word_of(a, "a")], a, room=room)
+def _of_one(words: list[str], a: Operand, room: int = _ROOM) -> tuple[int, str]:
+    return _ask([*words, a.word("a")], a, room=room)
 
 
-def _of_two(command: str, a: AnySeries, b: AnySeries, room: int = _ROOM) -> tuple[int, str]:
-    a, b = _series(a), _series(b)
-    return _ask([command, _word_of(a, "a"), _word_of(b, "b")], a, b, room)
+def _of_two(command: str, a: Operand, b: Operand, room: int = _ROOM) -> tuple[int, str]:
+    return _ask([command, a.word("a"), b.word("b")], a, b, room)
+
+
+def _text_of_one(command: list[str], series: AnySeries) -> str:
+    return _of_one(command, operand(series), _TEXT_ROOM)[1]
+
+
+def _text_of_two(command: str, a: AnySeries, b: AnySeries) -> str:
+    return _of_two(command, operand(a), operand(b), _TEXT_ROOM)[1]
+
+
+def _shared(text: str, a: Operand, b: Operand) -> Moment:
+    """A printed moment of both, which has a zone if both have it."""
+    return a.moment(text) if "T" not in text or a.zone() == b.zone() else moment_of(text)
 
 
 def _verdict(question: str, a: AnySeries, b: AnySeries) -> Literal[True] | Differs:
-    status, out = _of_two(question, a, b)
-    if status != _NO:
+    one, other = operand(a), operand(b)
+    status, out = _of_two(question, one, other)
+    if status != NO:
         return True
     _, moment, side = out.split()
-    return Differs(_moment(moment), side)
+    sides = {"A": one, "B": other}
+    return Differs(sides[side].moment(moment) if side in sides else _shared(moment, one, other), side)
 
 
 def equal(a: AnySeries, b: AnySeries) -> Literal[True] | Differs:
@@ -275,9 +225,12 @@ def clear(a: AnySeries, a_lasts: datetime.timedelta | int, b: AnySeries, b_lasts
     >>> clear(course, 3600, board, 3600)
     True
     """
-    a, b = _series(a), _series(b)
-    status, out = _ask(["clear", _seconds_of(a_lasts), _word_of(a, "a"), _seconds_of(b_lasts), _word_of(b, "b")], a, b)
-    return Clash(*map(_moment, out.split()[1:])) if status == _NO else True
+    one, other = operand(a), operand(b)
+    status, out = _ask(["clear", _seconds_of(a_lasts), one.word("a"), _seconds_of(b_lasts), other.word("b")], one, other)
+    if status != NO:
+        return True
+    _, moment, of_a, of_b = out.split()
+    return Clash(_shared(moment, one, other), one.moment(of_a), other.moment(of_b))
 
 
 def canon(series: AnySeries) -> str:
@@ -289,7 +242,7 @@ def canon(series: AnySeries) -> str:
     >>> canon(Series(text, "canon")) == text
     True
     """
-    return _of_one(["canon"], series, _TEXT_ROOM)[1]
+    return _text_of_one(["canon"], series)
 
 
 def canon1(series: AnySeries) -> str:
@@ -298,7 +251,7 @@ def canon1(series: AnySeries) -> str:
     >>> canon1("DTSTART;VALUE=DATE:20240101\\n")
     'rrcanon 1\\ndays\\nf 2024-01-01\\nb 0 0 1\\n'
     """
-    return _of_one(["canon1"], series, _TEXT_ROOM)[1]
+    return _text_of_one(["canon1"], series)
 
 
 def union(a: AnySeries, b: AnySeries) -> str:
@@ -307,7 +260,7 @@ def union(a: AnySeries, b: AnySeries) -> str:
     >>> equal(Series(union("DTSTART;VALUE=DATE:20240101\\n", "DTSTART;VALUE=DATE:20240102\\n"), "canon"), Series("2024-01-01\\n2024-01-02\\n", "list"))
     True
     """
-    return _of_two("union", a, b, _TEXT_ROOM)[1]
+    return _text_of_two("union", a, b)
 
 
 def common(a: AnySeries, b: AnySeries) -> str:
@@ -316,7 +269,7 @@ def common(a: AnySeries, b: AnySeries) -> str:
     >>> common("DTSTART;VALUE=DATE:20240101\\n", "DTSTART;VALUE=DATE:20240102\\n")
     'rrcanon 2\\nnone\\n'
     """
-    return _of_two("common", a, b, _TEXT_ROOM)[1]
+    return _text_of_two("common", a, b)
 
 
 def minus(a: AnySeries, b: AnySeries) -> str:
@@ -325,7 +278,7 @@ def minus(a: AnySeries, b: AnySeries) -> str:
     >>> minus(Series("2024-01-01\\n2024-01-02\\n", "list"), "DTSTART;VALUE=DATE:20240102\\n") == canon("DTSTART;VALUE=DATE:20240101\\n")
     True
     """
-    return _of_two("minus", a, b, _TEXT_ROOM)[1]
+    return _text_of_two("minus", a, b)
 
 
 def check(series: AnySeries) -> int:
@@ -336,7 +289,7 @@ def check(series: AnySeries) -> int:
     >>> check("DTSTART;VALUE=DATE:20240101\\nRRULE:FREQ=WEEKLY;INTERVAL=2\\n")
     14
     """
-    return int(_of_one(["check"], series)[1].split()[1])
+    return int(_of_one(["check"], operand(series))[1].split()[1])
 
 
 def occurrences(series: AnySeries, n: int) -> list[Moment]:
@@ -347,7 +300,10 @@ def occurrences(series: AnySeries, n: int) -> list[Moment]:
     >>> occurrences("DTSTART;VALUE=DATE:99991231\\nRRULE:FREQ=DAILY\\n", 2)
     [datetime.date(9999, 12, 31), '10000-01-01']
     """
-    return [_moment(line) for line in _of_one(["list", str(n)], series, max(_ROOM, _LINE * min(n, 100_000)))[1].splitlines()]
+    it = operand(series)
+    lines = _of_one(["list", _count(n, 100_000)], it, max(_ROOM, _LINE * n))[1].splitlines()
+    zone = it.zone() if lines and "T" in lines[0] else None
+    return [moment_of(line, zone) for line in lines]
 
 
 def nth(series: AnySeries, n: int) -> Moment | None:
@@ -357,8 +313,9 @@ def nth(series: AnySeries, n: int) -> Moment | None:
     datetime.date(2424, 1, 1)
     >>> nth("DTSTART;VALUE=DATE:20240101\\n", 2)
     """
-    status, out = _of_one(["nth", str(n)], series)
-    return None if status == _NO else _moment(out.strip())
+    it = operand(series)
+    status, out = _of_one(["nth", _count(n, 1_125_899_906_842_624)], it)
+    return None if status == NO else it.moment(out.strip())
 
 
 def rank(series: AnySeries, moment: Moment) -> int:
@@ -367,7 +324,9 @@ def rank(series: AnySeries, moment: Moment) -> int:
     >>> rank("DTSTART;VALUE=DATE:20240101\\nRRULE:FREQ=WEEKLY\\n", datetime.date(2024, 12, 31))
     53
     """
-    return int(_of_one(["rank", _text_of(moment)], series)[1])
+    it = operand(series)
+    zone = it.zone() if is_aware(moment) else None
+    return int(_of_one(["rank", text_of(moment, zone)], it)[1])
 
 
 def translate(series: AnySeries, language: Literal["rrule", "vcal", "graph"]) -> str:
@@ -376,7 +335,7 @@ def translate(series: AnySeries, language: Literal["rrule", "vcal", "graph"]) ->
     >>> translate("DTSTART:20240101T090000\\nRRULE:FREQ=DAILY\\n", "vcal")
     'DTSTART:20240101T090000\\r\\nRRULE:D1 #0\\r\\n'
     """
-    return _of_one(["translate", language], series, _TEXT_ROOM)[1]
+    return _text_of_one(["translate", language], series)
 
 
 def infer(series: AnySeries) -> str:
@@ -385,4 +344,4 @@ def infer(series: AnySeries) -> str:
     >>> infer(Series("2024-01-31\\n2024-03-31\\n2024-05-31\\n", "list"))
     'DTSTART;VALUE=DATE:20240131\\r\\nRRULE:FREQ=MONTHLY;COUNT=3;BYMONTHDAY=31\\r\\n'
     """
-    return _of_one(["infer"], series, _TEXT_ROOM)[1]
+    return _text_of_one(["infer"], series)

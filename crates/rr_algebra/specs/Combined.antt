@@ -1,4 +1,4 @@
--- PairNumbers, common parts and differences of sets of occurrences.
+-- Unions, common parts and differences of sets of occurrences.
 use Rattle.std.specs.Prelude.{◌≡◌, ◌≢◌, ◌⊎◌, ℕ, ◌<◌, if◌then◌else◌, List, [], All, AllPairs, Contains, nat_lt, ⊤, Result, Ok, Err, ℤ, pos, ◌+ℤ◌, ◌≤ℤ◌}
 use Rattle.rr_model.specs.Bounds.{latest_near}
 use Rattle.rr_model.specs.Moment.{Occurrences, is_same_kind}

@@ -25,10 +25,10 @@ use std::sync::ledger::Ledger;
 /// Whether two sets have equal occurrences for all years to come, whatever their common cycle is; else the first
 /// occurrence that exactly one of them has.
 ///
-/// Where `equal` walks a sequence that anyone reads, this reads two that are counted, so that its contract says how many days
-/// it reads: of each sequence the days from the lesser first occupied day to both periods past the later settled day, each
-/// once at most, and two more. Two sequences of two kinds, or of which one is empty, are told by a day of each.
-/// A no names an occurrence up to the greatest day, 3,000,000,000,000. It takes no memory.
+/// Where `equal` walks a sequence that anyone reads, this reads two that are counted, so that its contract says in how many
+/// steps: at most as many as both sequences together have days from the lesser first occupied day to both periods past the
+/// later settled day, and two more; at most two if one is empty. A step tells one day, or a stretch of days none of which is
+/// occupied. A no names an occurrence up to the greatest day, 3,000,000,000,000. It takes no memory.
 pub fn equal_long<A: DaySeq + Drop, B: DaySeq + Drop, L: Ledger>(
     a: &Counted<A, L>,
     b: &Counted<B, L>,

@@ -1,5 +1,5 @@
 -- The answers, as the code has them.
-use Rattle.std.proofs.Common.{◌≡◌, ◌⊎◌, ◌↔◌, inl, inr, ℕ, zero, suc, ◌+◌, ◌-◌, ◌*◌, ◌%◌, ◌/◌, ◌<◌, ◌≤◌, List, [], ◌∷◌, get_or, length, ℤ, pos}
+use Rattle.std.proofs.Common.{◌≡◌, ℕ, zero, suc, ◌+◌, ◌-◌, ◌*◌, ◌%◌, ◌/◌, ◌<◌, ◌≤◌, List, [], ◌∷◌, get_or, length, ℤ, pos}
 use Rattle.std.proofs.Common.{◌+ℤ◌, ◌-ℤ◌, ◌≤ℤ◌, ◌<ℤ◌, nat_abs, refl, sym, ap, subst, ◌∙◌, arith}
 use Rattle.std.specs.Prelude.{int_lt, nat_lt}
 use Rattle.std.specs.List.{Contains}
@@ -15,9 +15,9 @@ use Rattle.rr_model.specs.declared.sketch.Sketch.{Sketch}
 use Rattle.rr_model.proofs.RisingSetLemmas.{Contains-none, set_same}
 use Rattle.rr_word.proofs.SketchLemmas.{repeats, rising_on}
 use Rattle.rr_word.proofs.WindowLemmas.{turns}
-use Rattle.rr_sums.specs.declared.Entry.{Entry}
-use Rattle.rr_rank.specs.Counts.{IsBegin, IsDayCounted, IsDayOfNumber, IsRanked, count_on, days_before, numbers_on}
-use Rattle.rr_rank.specs.Rank.{HasExactly, HasFewer, IsNth, IsPast, IsRank}
+use Rattle.rr_rank.specs.declared.sums.Entry.{Entry}
+use Rattle.rr_rank.specs.Counts.{IsDayCounted, IsDayOfNumber, IsRanked, days_before, numbers_on}
+use Rattle.rr_rank.specs.Rank.{HasFewer, IsNth, IsPast, IsRank}
 use Rattle.rr_times.specs.Split.{SplitsAt}
 use Rattle.rr_rank.specs.Turns.{IsTurnedCount, IsTurnedDay, seconds_up_to}
 use Rattle.rr_rank.proofs.CountLemmas.{count-add, count-le, count-most, count-suc, few_on}

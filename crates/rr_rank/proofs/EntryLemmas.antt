@@ -1,11 +1,11 @@
 -- One day more.
-use Rattle.std.proofs.Common.{◌≡◌, ℕ, zero, suc, ◌+◌, List, [], ◌∷◌, ◌++◌, length, ℤ, pos, ◌+ℤ◌, refl, sym, ap, subst, ◌∙◌, arith}
+use Rattle.std.proofs.Common.{◌≡◌, ℕ, suc, ◌+◌, List, [], ◌∷◌, ◌++◌, length, ℤ, pos, ◌+ℤ◌, refl, sym, ap, subst, ◌∙◌, arith}
 use Rattle.std.proofs.lemmas.Int.{ints}
 use Rattle.std.proofs.lemmas.List.{append-nil}
 use Rattle.rr_model.specs.Sets.Sketch.{times_on}
 use Rattle.rr_model.specs.declared.sketch.Sketch.{Sketch}
-use Rattle.rr_sums.specs.declared.Entry.{Entry}
-use Rattle.rr_rank.specs.Counts.{IsBegin, IsRanked, count_on, days_before, entries_of, entry_if_some, sums_of, with_day}
+use Rattle.rr_rank.specs.declared.sums.Entry.{Entry}
+use Rattle.rr_rank.specs.Counts.{IsBegin, IsRanked, count_on, days_before, entries_of, entry_if_some, with_day}
 use Rattle.rr_rank.proofs.CountLemmas.{count-suc}
 
 by_length : (entries : List Entry) (day : ℤ) (before : ℕ) (times : List ℕ)

@@ -1,23 +1,23 @@
 -- What is kept of a sequence, and what reading it tells.
-use Rattle.std.proofs.Common.{◌≡◌, ◌⊎◌, inl, inr, ℕ, zero, suc, ◌+◌, ◌-◌, ◌*◌, ◌<◌, ◌≤◌, true, false, List, [], ◌++◌, append_assoc, get_or, length}
-use Rattle.std.proofs.Common.{length-append, ℤ, pos, neg_ℤ, ◌+ℤ◌, ◌-ℤ◌, ◌≤ℤ◌, ◌<ℤ◌, nat_abs, refl, sym, ap, subst, ◌∙◌, arith}
+use Rattle.std.proofs.Common.{◌≡◌, inl, inr, ℕ, zero, suc, ◌+◌, ◌-◌, ◌*◌, ◌<◌, ◌≤◌, true, false, List, ◌++◌, append_assoc, length}
+use Rattle.std.proofs.Common.{length-append, ℤ, pos, ◌+ℤ◌, ◌-ℤ◌, ◌≤ℤ◌, ◌<ℤ◌, nat_abs, sym, ap, subst, ◌∙◌, arith}
 use Rattle.std.specs.Prelude.{◌^◌, Some, slice_get}
 use Rattle.std.proofs.lemmas.Bool.{cases_lt}
 use Rattle.std.proofs.lemmas.Int.{ints, by_lt_z}
 use Rattle.std.proofs.lemmas.List.{append-nil}
 use Rattle.std.proofs.lemmas.Option.{get_or_from_slice_get}
-use Rattle.std.proofs.Math.Nat.{le_trans, mul-le-mul_left, pow-suc, pow-le-pow_right}
+use Rattle.std.proofs.Math.Nat.{pow-suc, pow-le-pow_right}
 use Rattle.rr_model.specs.Sets.Occupied.{day_shapes, shape_if_some}
-use Rattle.rr_model.specs.Sets.Sketch.{HasRisingDays, IsTimeSet, IsValidSketch, times_in, times_on}
+use Rattle.rr_model.specs.Sets.Sketch.{IsValidSketch, times_in, times_on}
 use Rattle.rr_model.specs.declared.sketch.DayShape.{DayShape}
 use Rattle.rr_model.specs.declared.sketch.Sketch.{Sketch}
 use Rattle.rr_word.proofs.OccupiedLemmas.{occupied_has, occupied_rises, occupied_sets}
 use Rattle.rr_word.proofs.OneLeastLemmas.{before_part, first_period}
 use Rattle.rr_word.proofs.ShapeLemmas.{shapes_only, times_in-early, times_in-late}
-use Rattle.rr_sums.specs.declared.Entry.{Entry}
-use Rattle.rr_rank.specs.Counts.{IsBegin, IsDayCounted, IsDayOfNumber, IsRanked, count_on, days_before, occupied_count, sums_of}
-use Rattle.rr_rank.specs.Rank.{AreFewSteps, HasBinaryDigits}
-use Rattle.rr_rank.specs.Search.{IsSortedBy, entry_at, is_below}
+use Rattle.rr_rank.specs.declared.sums.Entry.{Entry}
+use Rattle.rr_rank.specs.Counts.{IsBegin, IsDayCounted, IsDayOfNumber, IsRanked, count_on, days_before, occupied_count}
+use Rattle.rr_rank.specs.Rank.{AreFewSteps}
+use Rattle.rr_rank.specs.Search.{entry_at, is_below}
 use Rattle.rr_rank.specs.declared.search.Key.TheVariants.{Day, Before}
 use Rattle.rr_rank.proofs.PlaceLemmas.{found_count, found_day}
 use Rattle.rr_rank.proofs.SumsLemmas.{AreSums, are_sums, many_sums}

@@ -1,16 +1,14 @@
 -- What the place that a search finds tells.
-use Rattle.std.proofs.Common.{◌≡◌, ◌⊎◌, inl, inr, ℕ, zero, suc, ◌+◌, ◌-◌, ◌<◌, ◌≤◌, Bool, true, false, List, [], ◌∷◌, length, ℤ, pos, ◌+ℤ◌, ◌≤ℤ◌}
-use Rattle.std.proofs.Common.{◌<ℤ◌, refl, sym, ap, subst, ◌∙◌, arith}
-use Rattle.std.specs.Prelude.{int_lt, nat_lt}
-use Rattle.std.proofs.lemmas.Bool.{cases_lt, cases_order, false≢true}
+use Rattle.std.proofs.Common.{◌≡◌, ◌⊎◌, inl, inr, ℕ, suc, ◌+◌, ◌-◌, ◌<◌, ◌≤◌, true, false, List, [], ◌∷◌, length, ℤ, pos, ◌+ℤ◌, ◌≤ℤ◌}
+use Rattle.std.proofs.Common.{◌<ℤ◌, refl, ap, ◌∙◌, arith}
+use Rattle.std.proofs.lemmas.Bool.{cases_lt, cases_order}
 use Rattle.std.proofs.lemmas.Bool.Decides.{nat_tests}
-use Rattle.std.proofs.lemmas.Int.{ints, by_lt_z}
+use Rattle.std.proofs.lemmas.Int.{ints}
 use Rattle.rr_model.specs.Sets.Sketch.{times_on}
 use Rattle.rr_model.specs.declared.sketch.Sketch.{Sketch}
-use Rattle.rr_sums.specs.declared.Entry.{Entry}
+use Rattle.rr_rank.specs.declared.sums.Entry.{Entry}
 use Rattle.rr_rank.specs.Counts.{count_on}
 use Rattle.rr_rank.specs.Search.{IsSortedBy, entry_at, is_below}
-use Rattle.rr_rank.specs.declared.search.Key.{Key}
 use Rattle.rr_rank.specs.declared.search.Key.TheVariants.{Day, Before}
 use Rattle.rr_rank.proofs.CountLemmas.{count-empty, count-le, count-suc, count-zero}
 use Rattle.rr_rank.proofs.SumsLemmas.{AreSums}

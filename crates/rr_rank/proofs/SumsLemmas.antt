@@ -1,5 +1,5 @@
 -- Occupied days with how many occurrences come before them.
-use Rattle.std.proofs.Common.{◌≡◌, ◌⊎◌, inl, inr, ℕ, zero, suc, ◌+◌, ◌<◌, ◌≤◌, List, [], ◌∷◌, ◌++◌, get_or, length, length-append, ℤ, pos, ◌+ℤ◌, ◌≤ℤ◌}
+use Rattle.std.proofs.Common.{◌≡◌, ◌⊎◌, inl, inr, ℕ, zero, suc, ◌+◌, ◌<◌, ◌≤◌, List, [], ◌∷◌, ◌++◌, length, length-append, ℤ, pos, ◌+ℤ◌}
 use Rattle.std.proofs.Common.{◌<ℤ◌, refl, sym, ap, subst, ◌∙◌, arith}
 use Rattle.std.proofs.lemmas.Bool.{cases_order}
 use Rattle.std.proofs.lemmas.Int.{ints}
@@ -9,7 +9,7 @@ use Rattle.rr_model.specs.Sets.Sketch.{times_on}
 use Rattle.rr_model.specs.Sets.Occupied.{day_shapes, shape_if_some}
 use Rattle.rr_model.specs.declared.sketch.DayShape.{DayShape}
 use Rattle.rr_model.specs.declared.sketch.Sketch.{Sketch}
-use Rattle.rr_sums.specs.declared.Entry.{Entry}
+use Rattle.rr_rank.specs.declared.sums.Entry.{Entry}
 use Rattle.rr_rank.specs.Counts.{count_on, entries_of, entry_if_some, sums_of}
 use Rattle.rr_rank.specs.Search.{entry_at}
 

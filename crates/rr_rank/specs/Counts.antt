@@ -1,10 +1,11 @@
 -- The occurrences of days in a row, counted day by day.
-use Rattle.std.specs.Prelude.{◌≡◌, ℕ, zero, suc, ◌+◌, ◌<◌, ◌≤◌, List, [], ◌∷◌, ◌++◌, length, map, ℤ, pos, nat_abs, ◌+ℤ◌, ◌-ℤ◌, ◌≤ℤ◌, ◌<ℤ◌}
+use Rattle.std.specs.Prelude.{◌≡◌, ℕ, zero, suc, ◌+◌, ◌<◌, ◌≤◌, List, [], ◌∷◌, ◌++◌, length, map, Option, None, Some, ℤ, pos, nat_abs, ◌+ℤ◌, ◌-ℤ◌, ◌≤ℤ◌, ◌<ℤ◌}
+use Rattle.std.specs.Int.{int_min}
 use Rattle.rr_model.specs.Bounds.{earliest_near}
 use Rattle.rr_model.specs.Moment.{moment_at}
-use Rattle.rr_model.specs.Sets.Sketch.{times_on}
+use Rattle.rr_model.specs.Sets.Sketch.{IsFirstDay, times_on}
 use Rattle.rr_model.specs.declared.sketch.Sketch.{Sketch}
-use Rattle.rr_sums.specs.declared.Entry.{Entry}
+use Rattle.rr_rank.specs.declared.sums.Entry.{Entry}
 
 -- the numbers of the occurrences at these seconds of a day
 abbrev pub numbers_at : Sketch → ℤ → List ℕ → List ℤ
@@ -50,6 +51,15 @@ pub record IsBegin (s : Sketch) (q : ℤ) : Type 0 where
   pub low : earliest_near ≤ℤ q
   pub not_after : q ≤ℤ s.settled
   pub early : (d : ℤ) → d <ℤ q → times_on s d ≡ []
+
+-- the settled day, or the first occupied day if that is earlier
+abbrev pub begin_day : Sketch → Option ℤ → ℤ
+begin_day s None = s.settled
+begin_day s (Some first) = int_min first s.settled
+
+-- q is that day
+abbrev pub IsBeginDay : Sketch → ℤ → Type 0
+IsBeginDay s q = (first : Option ℤ) → IsFirstDay s first → q ≡ begin_day s first
 
 -- the entries with one for a day, where it has occurrences
 abbrev pub with_day : List Entry → ℤ → ℕ → ℕ → List Entry

@@ -1,11 +1,12 @@
 -- Occurrences by their number: which is the n-th, and how many are not after a moment.
-use Rattle.std.specs.Prelude.{◌≡◌, ℕ, ◌+◌, ◌-◌, ◌^◌, ◌<◌, ◌≤◌, List, length, ℤ, ◌≤ℤ◌, ◌<ℤ◌, int_lt}
+use Rattle.std.specs.Prelude.{◌≡◌, ℕ, ◌+◌, ◌-◌, ◌^◌, ◌<◌, ◌≤◌, List, length, Option, ℤ, ◌≤ℤ◌, ◌<ℤ◌, int_lt}
 use Rattle.rr_model.specs.Bounds.{latest_taken}
 use Rattle.rr_model.specs.Moment.{Before, Occurrences, day_part}
 use Rattle.rr_model.specs.Rising.Sets.{IsSetOf}
-use Rattle.rr_model.specs.Sets.Sketch.{StandsIn}
+use Rattle.rr_model.specs.Sets.Sketch.{IsFirstDay, StandsIn}
 use Rattle.rr_model.specs.declared.kind.Kind.{Kind}
 use Rattle.rr_model.specs.declared.sketch.Sketch.{Sketch}
+use Rattle.rr_rank.specs.Counts.{begin_day, counted_days}
 use Rattle.rr_rank.specs.declared.nth.Nth.{Nth}
 use Rattle.rr_rank.specs.declared.nth.Nth.TheVariants.{At, Fewer, Past}
 
@@ -60,6 +61,11 @@ HasBinaryDigits n k = (2 ^ (k - 1) ≤ n) × (n < 2 ^ k)
 -- at most three steps more than the number of days plus one has binary digits
 abbrev pub AreFewSteps : ℕ → ℕ → Type 0
 AreFewSteps days steps = (k : ℕ) → HasBinaryDigits (days + 1) k → steps ≤ k + 3
+
+-- at most one step for each day from the settled day, or from the first occupied day if that is earlier, to a period past the
+-- settled day
+abbrev pub IsOneStepADay : Sketch → ℕ → Type 0
+IsOneStepADay s steps = (first : Option ℤ) → IsFirstDay s first → steps ≤ counted_days s (begin_day s first)
 
 -- ---- laws
 

@@ -5,8 +5,8 @@ ghost use Rattle.rr_rank.specs.Counts.{IsDayCounted, IsDayOfNumber, IsRanked, co
 ghost use Rattle.rr_rank.specs.Rank.{AreFewSteps};
 
 use crate::search::{Key, first_index};
+use crate::sums::Sums;
 use rr_steps::Steps;
-use rr_sums::Sums;
 use rr_word::{Counted, DaySeq};
 use std::sync::ledger::Ledger;
 

@@ -3,17 +3,17 @@ ghost use Rattle.std.specs.Prelude.{◌≡◌, ◌-◌, ◌+◌, ◌*◌, ◌<�
 ghost use Rattle.rr_model.specs.Moment.Years.{IsInYears};
 ghost use Rattle.rr_model.specs.Rising.{Rises};
 ghost use Rattle.rr_model.specs.Sets.Sketch.{IsNearDay, StandsIn};
-ghost use Rattle.rr_rank.specs.Counts.{IsBegin, IsRanked, count_on, entries_of, occupied_count, with_day};
+ghost use Rattle.rr_rank.specs.Counts.{IsBegin, IsBeginDay, IsRanked, count_on, entries_of, occupied_count, with_day};
 ghost use Rattle.rr_model.specs.Moment.{day_part};
-ghost use Rattle.rr_rank.specs.Rank.{AreFewSteps, IsNthOf, IsRank};
+ghost use Rattle.rr_rank.specs.Rank.{AreFewSteps, IsNthOf, IsOneStepADay, IsRank};
 ghost use Rattle.rr_rank.specs.Turns.{IsTurnedCount};
 
 use crate::day_read::{Totals, day_counted, day_of_number};
 use crate::nth::Nth;
+use crate::sums::{Entry, Sums};
 use crate::turns::{TurnedCount, day_later, seconds_up_to, turned_count, turned_day};
 use rr_model::{Kind, NoMemory, day_part, moment_at};
 use rr_steps::Steps;
-use rr_sums::{Entry, Sums};
 use rr_times::count_below;
 use rr_word::{Counted, DaySeq, days_between};
 use std::alloc::Global;
@@ -44,13 +44,15 @@ impl<'a, A: DaySeq + Drop, L: Ledger> Model for Ranked<'a, A, L> {
 }
 
 impl<'a, A: DaySeq + Drop, L: Ledger> Ranked<'a, A, L> {
-    /// The sequence with its counts, for which each day up to a period past the settled day is read once.
+    /// The sequence with its counts. It takes at most one step for each day from the settled day, or from the first occupied day
+    /// if that is earlier, to a period past the settled day.
     pub fn new(
         alloc: Global,
         seq: &'a Counted<A, L>,
         steps: &mut Steps<L>,
     ) -> Result<Self, NoMemory>
-        ensures { IfOk result (λ r. r ≡ seq.now) }
+        ensures value { IfOk result (λ r. r ≡ seq.now) }
+        ensures steps { IsOneStepADay (A.sketch seq.now) (steps.new - steps.old) }
     {
         let from = begin_of(seq);
         let before = days_between(from, seq.settled());
@@ -179,6 +181,7 @@ fn fill<A: DaySeq + Drop, L: Ledger>(
     requires count { begun ≡ count_on (A.sketch seq.now) from begin }
     ensures entries { OnOk result (sums.new ≡ entries_of (A.sketch seq.now) from end) }
     ensures count { IfOk result (λ c. c ≡ count_on (A.sketch seq.now) from end) }
+    ensures steps { steps.new ≤ steps.old + (end - begin) }
 {
     let mut count = begun;
     for k in begin..end {
@@ -208,6 +211,7 @@ fn put_if_some<L: Ledger>(
 // The lesser of the settled day and the first occupied one.
 fn begin_of<A: DaySeq + Drop, L: Ledger>(seq: &Counted<A, L>) -> i64
     ensures begin { IsBegin (A.sketch seq.now) result }
+    ensures least { IsBeginDay (A.sketch seq.now) result }
     ensures near { IsNearDay result }
 {
     let settled = seq.settled();

@@ -2,8 +2,8 @@
 ghost use Rattle.std.specs.Prelude.{◌≡◌, ◌-◌, ◌*◌, ◌^◌, ◌<◌, ◌≤◌, ℕ, true, false, length};
 ghost use Rattle.rr_rank.specs.Search.{IsSortedBy, entry_at, is_below};
 
+use crate::sums::{Entry, Sums};
 use rr_steps::Steps;
-use rr_sums::{Entry, Sums};
 use std::sync::ledger::Ledger;
 
 /// What is sought among the entries.

@@ -9,6 +9,6 @@ mod words;
 
 pub use lists::have_number_form;
 pub use numbers::number_within;
-pub use parts::{is_present, no_parts, parts_of, with_part_value, without_last_semicolon};
+pub use parts::{is_present, no_parts, parts_of, put_part_value, without_last_semicolon};
 pub use rule::{end_of, rule_of, rule_with, takes_start};
 pub use words::part_named;

@@ -4,8 +4,9 @@ use std::sync::ledger::{Blank, Book, Ledger, Share};
 
 /// A counter of steps. Contracts see it as a number of steps, from 0.
 ///
-/// It takes no bytes, and nothing is counted when the program runs. Only `tick` and `tick_many` change it, so a function that
-/// is handed a counter and says by how much it grows says how many steps it takes.
+/// It takes no bytes, and nothing is counted when the program runs. Only `tick` and `tick_many` change it. A function with the
+/// ledger as a type parameter can make no second counter of it, since `new` wants a blank of the ledger's name. So if all that
+/// it reads is read by counters of that ledger alone, its clause on the counter says in how many steps it reads.
 ///
 /// A caller that counts nothing takes `Brand` for the ledger and `Steps::new(Blank::new(1))`, and names the ledger in its
 /// proof.

@@ -1,13 +1,14 @@
 // What an event states of itself as part of a calendar (RFC 5545, sections 3.6.1 and 3.8.4.4).
 ghost use Rattle.std.specs.Prelude.{◌≡◌, ◌<◌, ◌+◌, ◌^◌, length, map, IfOk, option_map};
-ghost use Rattle.rr_trip.specs.Event.{event_of, has_rule_or_date, is_cancelled, is_rule_or_date, recurrence_of, recurrence_on, zone_of};
+ghost use Rattle.std.specs.List.{filter};
+ghost use Rattle.rr_trip.specs.Event.{event_of, has_rule_or_date, is_cancelled, is_component_line, is_rule_or_date, recurrence_of, recurrence_on, used_in, zone_of};
 ghost use Rattle.rr_events.specs.Finding.{lines_in};
 
 use crate::key::first_line;
 use crate::parameter::parameter_of;
 use rr_events::{Piece, first_named, first_value, own_lines};
-use rr_ical::{scan_lines, value_of_line};
-use rr_model::{Bytes, Line, LineList, LineName, NoMemory, Scan, UsedLine};
+use rr_ical::{line_kind, scan_lines, value_of_line};
+use rr_model::{Bytes, Line, LineKind, LineList, LineName, NoMemory, Scan, UsedLine};
 use rr_text::lines_from;
 use std::alloc::Global;
 
@@ -29,7 +30,7 @@ pub struct Recurrence {
 pub struct Event {
     /// The number of the line of its BEGIN.
     pub first: u64,
-    /// Its used lines.
+    /// Its used lines; an instance that is cancelled is not read, and has none.
     pub scan: Scan,
     /// Its RECURRENCE-ID, where it is an instance.
     pub recurrence: Option<Recurrence>,
@@ -82,6 +83,41 @@ fn is_cancelled(own: &[&Line]) -> bool
     first_value(b"STATUS", own).eq_ignore_ascii_case(b"CANCELLED")
 }
 
+// Whether a line begins or ends a component.
+fn is_component_line(line: &Line) -> bool
+    ensures { result ≡ is_component_line line.now }
+{
+    matches!(
+        line_kind(line.text.as_slice()),
+        LineKind::Begin | LineKind::End
+    )
+}
+
+// The lines that begin and end components.
+fn component_lines(alloc: Global, lines: LineList) -> Result<LineList, NoMemory>
+    ensures { IfOk result (λ kept. kept ≡ filter is_component_line lines) }
+{
+    let mut kept = LineList::new(alloc);
+    for line in lines.into_items() {
+        if is_component_line(&line) {
+            kept.put(line)?;
+        }
+    }
+    Ok(kept)
+}
+
+// The used lines of an event; one that is not read has none.
+fn used_in(alloc: Global, is_unread: bool, lines: LineList) -> Result<Scan, NoMemory>
+    ensures { IfOk result (λ scan. scan ≡ used_in is_unread lines) }
+{
+    if is_unread {
+        let lines = component_lines(alloc, lines)?;
+        scan_lines(alloc, false, 0, lines)
+    } else {
+        scan_lines(alloc, false, 0, lines)
+    }
+}
+
 // What the lines of an event state.
 fn event_of(alloc: Global, lines: LineList) -> Result<Event, NoMemory>
     ensures { IfOk result (λ event. event ≡ event_of lines) }
@@ -95,9 +131,10 @@ fn event_of(alloc: Global, lines: LineList) -> Result<Event, NoMemory>
             zone_of(alloc, first_named(b"DTSTART", &own))?,
         )
     };
+    let is_unread = recurrence.is_some() && is_cancelled;
     Ok(Event {
         first,
-        scan: scan_lines(alloc, false, 0, lines)?,
+        scan: used_in(alloc, is_unread, lines)?,
         recurrence,
         is_cancelled,
         zone,

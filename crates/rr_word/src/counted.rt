@@ -10,11 +10,13 @@ use rr_steps::Steps;
 use std::marker::{Model, PhantomData};
 use std::sync::ledger::Ledger;
 
-/// A sequence of days whose days are read in counted steps: what a call tells of one day costs one step.
+/// A sequence of days whose days are read in counted steps of one ledger: a step tells one day, or a stretch of days none of
+/// which is occupied.
 ///
-/// Contracts see it as the sequence. It is read in no other way, so a function that is handed one and says by how much the
-/// counter grows says how many days it reads. What is told of no day (the kind, the first day, the settled day, the period,
-/// the seconds of a number) costs no step. No call takes memory.
+/// Contracts see it as the sequence. It is read in no other way, and by counters of its ledger alone, so a function with that
+/// ledger as a type parameter that says by how much its counter grows says in how many steps it reads. The kind, the first day,
+/// the settled day, the period, the seconds of a number and the length of a row (`days_after`) cost no step. No call takes
+/// memory.
 #[derive(Drop)]
 pub struct Counted<A: DaySeq + Drop, L: Ledger> {
     seq: A,

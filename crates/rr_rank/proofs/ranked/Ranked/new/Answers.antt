@@ -1,5 +1,5 @@
-use Rattle.std.proofs.Common.{w64, to_z, of_z, ◌+◌, ◌≡◌, refl, sym, ap, ◌∙◌, arith}
-use Rattle.std.proofs.lemmas.Int.{ints, to_z-of_z}
+use Rattle.std.proofs.Common.{w64, to_z, of_z, ◌+◌, sym, arith}
+use Rattle.std.proofs.lemmas.Int.{ints}
 use Rattle.rr_rank.proofs.CountLemmas.{count-zero}
 use Rattle.rr_rank.proofs.EntryLemmas.{all_counted, begin_at, none_yet}
 use Rattle.rr_rank.proofs.ranked.Ranked.new.Goals as goal
