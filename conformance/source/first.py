@@ -96,6 +96,9 @@ def numbered_days():
         yield draft("numbered-day-in-month-of-year", DAY_IN_MONTH_OF_YEAR, "20240101T020000", f"FREQ=YEARLY;BYMONTH={month};BYDAY={days}")
     for interval, days in ((3, "1MO"), (4, "-1TH"), (2, "5SU")):
         yield draft("numbered-day-in-month-of-year", DAY_IN_MONTH_OF_YEAR, "20240101", f"FREQ=YEARLY;INTERVAL={interval};BYMONTH=3,9;BYDAY={days}")
+    yield draft("numbered-day-in-year", DAY_IN_YEAR, "20240101", "FREQ=YEARLY;BYMONTHDAY=1,2,3,4,5;BYDAY=1MO")
+    yield draft("numbered-day-in-month-of-year", DAY_IN_MONTH_OF_YEAR, "20240101", "FREQ=YEARLY;BYMONTH=3,11;BYMONTHDAY=1,3,5,7;BYDAY=1SU")
+    yield draft("numbered-day-in-month", DAY_IN_MONTH, "20240101", "FREQ=MONTHLY;BYMONTHDAY=8,9,10;BYDAY=2WE")
     for days in ("1MO", "2TU", "3WE", "4TH", "5FR", "-1FR", "-2MO", "-3SU", "-4SA", "-5WE", "1SU,3SU", "1MO,-1FR", "5MO,5TU", "2SA,-2SA", "+1TU"):
         yield draft("numbered-day-in-month", DAY_IN_MONTH, "20240101", f"FREQ=MONTHLY;BYDAY={days}")
     for rule, since in (
