@@ -19,7 +19,10 @@ RULE_READINGS = {name: {"readings": {"rules": name}} for name in ("all rules tog
 
 def left_open():
     """(tag, why, start, rules, dates, exceptions, readings)"""
-    for rule, since in (("FREQ=WEEKLY;BYDAY=MO", "20240103"), ("FREQ=WEEKLY;BYDAY=MO;COUNT=4", "20240103"), ("FREQ=MONTHLY;BYMONTHDAY=15", "20240101"),
+    for rule, since in (
+            ("FREQ=WEEKLY;BYDAY=MO", "20240103"),
+            ("FREQ=WEEKLY;BYDAY=MO;COUNT=4", "20240103"),
+            ("FREQ=MONTHLY;BYMONTHDAY=15", "20240101"),
                         ("FREQ=MONTHLY;BYDAY=1FR;COUNT=3", "20240110T090000"), ("FREQ=YEARLY;BYMONTH=3;BYDAY=-1SU", "20240101T020000"),
                         ("FREQ=DAILY;BYHOUR=9;COUNT=3", "20240101T083000"), ("FREQ=YEARLY;BYMONTH=2;BYMONTHDAY=29", "20240301"),
                         ("FREQ=DAILY;BYDAY=SA,SU;UNTIL=20240114", "20240102"), ("FREQ=MONTHLY;BYDAY=MO,TU,WE,TH,FR;BYSETPOS=-1", "20240115")):
@@ -27,11 +30,15 @@ def left_open():
     yield ("start-not-synchronized", UNSYNCHRONISED + " An example of its own, every Friday the 13th, has such a start, excludes it and lists the first reading.",
            "19970902T090000", ["FREQ=MONTHLY;BYDAY=FR;BYMONTHDAY=13"], [], ["19970902T090000"], {"start only if the rule chooses it": {}})
     for rule, since in (("FREQ=YEARLY;INTERVAL=2;BYWEEKNO=1;BYDAY=MO", "20240101"),
-                        ("FREQ=YEARLY;BYWEEKNO=1;BYDAY=MO,TU,WE;BYSETPOS=1", "20240101"), ("FREQ=YEARLY;INTERVAL=3;BYWEEKNO=-1;BYDAY=SA,SU", "20241228"),
+                        ("FREQ=YEARLY;BYWEEKNO=1;BYDAY=MO,TU,WE;BYSETPOS=1", "20240101"),
+                        ("FREQ=YEARLY;INTERVAL=3;BYWEEKNO=-1;BYDAY=SA,SU", "20241228"),
                         ("FREQ=YEARLY;BYMONTH=12;BYWEEKNO=1;BYDAY=MO", "20241230")):
         yield "week-over-new-year", WEEK_INTERVAL, since, [rule], [], [], WEEK_READINGS
-    for rules, since in ((["FREQ=WEEKLY;BYDAY=MO", "FREQ=MONTHLY;BYMONTHDAY=1"], "20240101"), (["FREQ=DAILY;COUNT=3", "FREQ=WEEKLY;COUNT=4"], "20240101T090000"),
-                         (["FREQ=MONTHLY;BYDAY=1MO", "FREQ=MONTHLY;BYMONTHDAY=1;UNTIL=20240601"], "20240101"), (["FREQ=YEARLY", "FREQ=DAILY;INTERVAL=100"], "20240101")):
+    for rules, since in (
+            (["FREQ=WEEKLY;BYDAY=MO", "FREQ=MONTHLY;BYMONTHDAY=1"], "20240101"),
+            (["FREQ=DAILY;COUNT=3", "FREQ=WEEKLY;COUNT=4"], "20240101T090000"),
+                         (["FREQ=MONTHLY;BYDAY=1MO", "FREQ=MONTHLY;BYMONTHDAY=1;UNTIL=20240601"], "20240101"),
+                         (["FREQ=YEARLY", "FREQ=DAILY;INTERVAL=100"], "20240101")):
         yield "several-rules", SEVERAL, since, rules, [], [], RULE_READINGS
     for a, second, minute in (("FREQ=DAILY;BYSECOND=0,60", "FREQ=DAILY;BYSECOND=0,59", "FREQ=DAILY;BYMINUTE=0,1;BYSECOND=0"),
                               ("FREQ=HOURLY;BYSECOND=0,60", "FREQ=HOURLY;BYSECOND=0,59", "FREQ=HOURLY;BYMINUTE=0,1;BYSECOND=0")):
@@ -44,5 +51,7 @@ def left_open():
         yield "until-of-another-type", UNTIL_TYPE, since, [rule], [], [], {"without the day of UNTIL, or to its midnight": {"rule": early}, "with the day of UNTIL": {"rule": late}}
     yield ("exception-of-another-type", EXCEPTION_TYPE, "20240101T090000", ["FREQ=DAILY;COUNT=4"], [], ["20240103"],
            {"the date takes out nothing": {"exceptions": []}, "the date takes out its day": {"exceptions": ["20240103T090000"]}})
-    for rule, since, dates in (("FREQ=WEEKLY;COUNT=3", "20240108", ["20240101"]), ("FREQ=MONTHLY;BYMONTHDAY=15", "20240115T090000", ["20231224T180000"])):
+    for rule, since, dates in (
+            ("FREQ=WEEKLY;COUNT=3", "20240108", ["20240101"]),
+            ("FREQ=MONTHLY;BYMONTHDAY=15", "20240115T090000", ["20231224T180000"])):
         yield "date-before-the-start", DATE_BEFORE, since, [rule], dates, [], {"it is an occurrence": {}, "it is left out": {"dates": []}}
