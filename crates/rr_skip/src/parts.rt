@@ -5,13 +5,14 @@ ghost use Rattle.rr_model.specs.Answers.{Answers};
 ghost use Rattle.rr_model.specs.Text.RuleValues.{pieces, rising_values};
 ghost use Rattle.rr_model.specs.Text.Steps.{in_turn};
 ghost use Rattle.rr_model.specs.Text.UsedLines.{is_name_byte};
+ghost use Rattle.rr_ical.specs.Steps.{Becomes};
 ghost use Rattle.rr_skip.specs.Parts.{front_day, front_days, has_scale_part, is_scale_name, is_taken, no_scale_parts, scale_part_named};
 ghost use Rattle.rr_skip.specs.Parts.{scale_parts, scale_parts_of, skip_named, with_scale, with_scale_part, with_scale_value, with_taken_value};
 
 use crate::Skip;
 use rr_model::{Fault, NumberBounds, Numbers, PartName, Refusal, RuleParts};
 use rr_rule_parts::{
-    have_number_form, is_present, no_parts, number_within, part_named, with_part_value,
+    have_number_form, is_present, no_parts, number_within, part_named, put_part_value,
     without_last_semicolon,
 };
 use rr_text::{is_word, line_value, split_once};
@@ -97,21 +98,19 @@ fn is_scale_name(text: &[u8]) -> bool
     !text.is_empty() && are_name_bytes(text)
 }
 
-// The parts with RSCALE, whose value is judged.
+// Notes RSCALE, whose value is judged.
 #[tactic(auto, unfolding(crate::specs::Parts::with_scale))]
-fn with_scale(line: u64, parts: ScaledParts, text: &[u8]) -> Result<ScaledParts, Refusal>
-    ensures { result ≡ with_scale line parts text.now }
+fn put_scale(line: u64, parts: &mut ScaledParts, text: &[u8]) -> Result<(), Fault>
+    ensures { Becomes (with_scale line parts.old text.now) parts.new result }
 {
     if !is_scale_name(text) {
-        return Err(Refusal::BadRule(line));
+        return Err(Fault::Refused(Refusal::BadRule(line)));
     }
     if !is_word(text, b"GREGORIAN") {
-        return Err(Refusal::Extended);
+        return Err(Fault::Refused(Refusal::Extended));
     }
-    Ok(ScaledParts {
-        has_scale: true,
-        ..parts
-    })
+    parts.has_scale = true;
+    Ok(())
 }
 
 #[tactic(auto, unfolding(crate::specs::Parts::skip_named))]
@@ -164,79 +163,69 @@ fn front_days(alloc: Global, line: u64, text: &[u8]) -> Result<Numbers, Fault>
     }
 }
 
-// The parts of RFC 5545 with the value of one more.
-fn with_taken_value(
+// Puts the value of one more part of RFC 5545 in its place.
+fn put_taken_value(
     alloc: Global,
     line: u64,
-    parts: RuleParts,
+    parts: &mut RuleParts,
     name: PartName,
     text: &[u8],
-) -> Result<RuleParts, Fault>
-    ensures { Answers (with_taken_value line parts name text.now) result }
+) -> Result<(), Fault>
+    ensures { Becomes (with_taken_value line parts.old name text.now) parts.new result }
 {
     match name {
         PartName::ByMonthDay => {
-            let mut parts = parts;
             parts.by_month_day = front_days(alloc, line, text)?;
-            Ok(parts)
+            Ok(())
         }
-        name => with_part_value(alloc, line, parts, name, text),
+        name => put_part_value(alloc, line, parts, name, text),
     }
 }
 
-// The parts with SKIP.
-fn with_skip(line: u64, parts: ScaledParts, text: &[u8]) -> Result<ScaledParts, Refusal>
-    ensures { result ≡ with_scale_value line parts ScalePart.Skipping text.now }
+// Puts SKIP in its place.
+fn put_skip(line: u64, parts: &mut ScaledParts, text: &[u8]) -> Result<(), Fault>
+    ensures { Becomes (with_scale_value line parts.old ScalePart.Skipping text.now) parts.new result }
 {
     let skip = skip_named(text).ok_or(Refusal::BadRule(line))?;
-    Ok(ScaledParts {
-        skip: Some(skip),
-        ..parts
-    })
+    parts.skip = Some(skip);
+    Ok(())
 }
 
-// The parts with the value of one more.
-fn with_scale_value(
+// Puts the value of one more part in its place.
+fn put_scale_value(
     alloc: Global,
     line: u64,
-    parts: ScaledParts,
+    parts: &mut ScaledParts,
     name: ScalePart,
     text: &[u8],
-) -> Result<ScaledParts, Fault>
-    ensures { Answers (with_scale_value line parts name text.now) result }
+) -> Result<(), Fault>
+    ensures { Becomes (with_scale_value line parts.old name text.now) parts.new result }
 {
     match name {
-        ScalePart::Scale => Ok(with_scale(line, parts, text)?),
-        ScalePart::Skipping => Ok(with_skip(line, parts, text)?),
-        ScalePart::Of(name) => {
-            let more = with_taken_value(alloc, line, parts.parts, name, text)?;
-            Ok(ScaledParts {
-                has_scale: parts.has_scale,
-                skip: parts.skip,
-                parts: more,
-            })
-        }
+        ScalePart::Scale => put_scale(line, parts, text),
+        ScalePart::Skipping => put_skip(line, parts, text),
+        ScalePart::Of(name) => put_taken_value(alloc, line, &mut parts.parts, name, text),
     }
 }
 
-// The parts with one more, `NAME=value`.
+// Puts one more part, `NAME=value`, in its place.
 #[tactic(auto, unfolding(crate::specs::Parts::with_scale_part))]
-fn with_scale_part(
+fn put_scale_part(
     alloc: Global,
     line: u64,
-    parts: ScaledParts,
+    parts: &mut ScaledParts,
     text: &[u8],
-) -> Result<ScaledParts, Fault>
-    ensures { Answers (with_scale_part line parts text.now) result }
+) -> Result<(), Fault>
+    ensures { Becomes (with_scale_part line parts.old text.now) parts.new result }
 {
     let Some((name, value)) = split_once(text, b'=') else {
         return Err(Fault::Refused(Refusal::BadRule(line)));
     };
     let name = scale_part_named(line, name)?;
-    if has_scale_part(&parts, name) {
+    if has_scale_part(parts, name) {
         return Err(Fault::Refused(Refusal::PartTwice(line)));
     }
-    with_scale_value(alloc, line, parts, name, value)
+    put_scale_value(alloc, line, parts, name, value)
 }
 
 fn no_scale_parts(alloc: Global) -> ScaledParts
@@ -255,7 +244,7 @@ fn scale_parts_between(alloc: Global, line: u64, text: &[u8]) -> Result<ScaledPa
 {
     let mut parts = no_scale_parts(alloc);
     for piece in text.split(|b| *b == b';') {
-        parts = with_scale_part(alloc, line, parts, piece)?;
+        put_scale_part(alloc, line, &mut parts, piece)?;
     }
     Ok(parts)
 }

@@ -5,17 +5,21 @@ use Rattle.std.proofs.lemmas.List.{length_push}
 use Rattle.std.proofs.lemmas.Result.{err_from_is_err_and}
 use Rattle.rr_model.specs.Text.RuleValues.{pieces}
 use Rattle.rr_model.proofs.TurnLemmas.{goes_on, ends, done}
+use Rattle.rr_ical.proofs.KeptLemmas.{refused_answers}
 use Rattle.rr_skip.specs.Parts.{with_scale_part}
 use Rattle.rr_skip.proofs.parts.scale_parts_between.Goals as goal
 
-pub returns-in_err-parts : goal.returns-in_err-parts
-returns-in_err-parts c =
+pub returns-in_err-put_scale_part : goal.returns-in_err-put_scale_part
+returns-in_err-put_scale_part c =
     let turn = YieldsList-turn
     (YieldsList-from_slice_split _ (λ b. b == 59) c.args.text.now (cc) (cc) (cc)
     (λ x b q k. search (rules, tests))) c.loop-piece.yielded _ c.loop-piece.yielded_by _ _ c.in-Some.piece c.in-Some.is c.next.ensures.steps in
     let p = err_from_is_err_and c.from_residual.result c.from_residual.ensures.1 in
-    rw (p.1, p.2) (ends (with_scale_part c.args.line) (pieces 59 c.args.text.now) c.loop-piece.parts
-    (length c.loop-piece.yielded) c.in-Some.piece.now c.in_err-parts.field-0.0 _ turn c.in_err-parts.ensures c.loop-piece.invariant)
+    let fault = c.in_err-put_scale_part.field-0.0 in
+    let parts = c.loop-piece.parts in
+    rw (p.1, p.2) (ends (with_scale_part c.args.line) (pieces 59 c.args.text.now) parts (length c.loop-piece.yielded) c.in-Some.piece.now fault _ turn
+    (refused_answers (with_scale_part c.args.line parts c.in-Some.piece.now) c.put_scale_part.new.parts fault c.in_err-put_scale_part.ensures)
+    c.loop-piece.invariant)
 
 pub loop-piece-preserved : goal.loop-piece-preserved
 loop-piece-preserved c =
@@ -23,7 +27,7 @@ loop-piece-preserved c =
     (YieldsList-from_slice_split _ (λ b. b == 59) c.args.text.now (cc) (cc) (cc)
     (λ x b q k. search (rules, tests))) c.loop-piece.yielded _ c.loop-piece.yielded_by _ _ c.in-Some.piece c.in-Some.is c.next.ensures.steps in
     goes_on (with_scale_part c.args.line) (pieces 59 c.args.text.now) c.loop-piece.parts _ (length c.loop-piece.yielded) _ c.in-Some.piece.now _ turn
-    (length_push c.loop-piece.yielded c.in-Some.piece) c.in_ok-parts.ensures c.loop-piece.invariant
+    (length_push c.loop-piece.yielded c.in-Some.piece) c.in_ok-put_scale_part.ensures c.loop-piece.invariant
 
 pub returns : goal.returns
 returns c =
