@@ -76,15 +76,16 @@ module _ (word : List ℕ) (some : is_named [] word ≡ false) where
           inner true = ap (λ (b : Bool). if b then Some (empty number) else first_named word (own_lines names lines)) (sym some)
           inner false = refl
 
+  less_by : (line : Line) (lines : List Line) → ((names : List (List ℕ)) → Finds names (filter has_text lines) lines) → (names : List (List ℕ)) (b : Bool)
+      → has_text line ≡ b → Finds names (cond b (line ∷ filter has_text lines) (filter has_text lines)) (line ∷ lines)
+  less_by line lines more names true h = one_kept names line (filter has_text lines) lines more
+  less_by line lines more names false h =
+      more names ∙ one_empty names line.number lines
+      ∙ ap (λ (l : Line). first_named word (own_lines names (l ∷ lines))) (sym (is_empty line h))
+
   found_less : (lines : List Line) (names : List (List ℕ)) → Finds names (filter has_text lines) lines
   found_less [] names = refl
-  found_less (line ∷ lines) names = by (has_text line) refl
-    where
-      by : (b : Bool) → has_text line ≡ b → Finds names (cond b (line ∷ filter has_text lines) (filter has_text lines)) (line ∷ lines)
-      by true h = one_kept names line (filter has_text lines) lines (found_less lines)
-      by false h =
-          found_less lines names ∙ one_empty names line.number lines
-          ∙ ap (λ (l : Line). first_named word (own_lines names (l ∷ lines))) (sym (is_empty line h))
+  found_less (line ∷ lines) names = less_by line lines (λ ns. found_less lines ns) names (has_text line) refl
 
   pub found_full : (lines : List Line) → Finds [] (full_lines lines) lines
   found_full [] = refl
@@ -92,17 +93,18 @@ module _ (word : List ℕ) (some : is_named [] word ≡ false) where
 
 -- ---- the lines that are read
 
+components_by : (line : Line) (lines : List Line) → filter is_component_line (filter has_text lines) ≡ filter is_component_line lines → (b : Bool)
+    → has_text line ≡ b
+    → filter is_component_line (cond b (line ∷ filter has_text lines) (filter has_text lines)) ≡ filter is_component_line (line ∷ lines)
+components_by line lines more true h = ap (λ (ls : List Line). cond (is_component_line line) (line ∷ ls) ls) more
+components_by line lines more false h =
+    more
+    ∙ ap (λ (c : Bool). cond c (line ∷ filter is_component_line lines) (filter is_component_line lines))
+    (sym (ap is_component_line (is_empty line h) ∙ empty-component line.number))
+
 components_less : (lines : List Line) → filter is_component_line (filter has_text lines) ≡ filter is_component_line lines
 components_less [] = refl
-components_less (line ∷ lines) = by (has_text line) refl
-  where
-    by : (b : Bool) → has_text line ≡ b
-        → filter is_component_line (cond b (line ∷ filter has_text lines) (filter has_text lines)) ≡ filter is_component_line (line ∷ lines)
-    by true h = ap (λ (ls : List Line). cond (is_component_line line) (line ∷ ls) ls) (components_less lines)
-    by false h =
-        components_less lines
-        ∙ ap (λ (c : Bool). cond c (line ∷ filter is_component_line lines) (filter is_component_line lines))
-        (sym (ap is_component_line (is_empty line h) ∙ empty-component line.number))
+components_less (line ∷ lines) = components_by line lines (components_less lines) (has_text line) refl
 
 components_full : (lines : List Line) → filter is_component_line (full_lines lines) ≡ filter is_component_line lines
 components_full [] = refl
@@ -118,16 +120,17 @@ scan_kept line components less lines more = by (left_by false components line)
     by (Err refusal) = refl
     by (Ok step) = ap (λ (s : Scan). scan_from (Ok step) (λ after. s)) (more step.components)
 
+scan_by : (line : Line) (lines : List Line) → ((after : Components) → scan_of false 0 after (filter has_text lines) ≡ scan_of false 0 after lines)
+    → (components : Components) (b : Bool) → has_text line ≡ b
+    → scan_of false 0 components (cond b (line ∷ filter has_text lines) (filter has_text lines)) ≡ scan_of false 0 components (line ∷ lines)
+scan_by line lines more components true h = scan_kept line components (filter has_text lines) lines more
+scan_by line lines more components false h =
+    more components ∙ sym (empty-scan components line.number (λ after. scan_of false 0 after lines))
+    ∙ ap (λ (l : Line). scan_of false 0 components (l ∷ lines)) (sym (is_empty line h))
+
 scan_less : (lines : List Line) (components : Components) → scan_of false 0 components (filter has_text lines) ≡ scan_of false 0 components lines
 scan_less [] components = refl
-scan_less (line ∷ lines) components = by (has_text line) refl
-  where
-    by : (b : Bool) → has_text line ≡ b
-        → scan_of false 0 components (cond b (line ∷ filter has_text lines) (filter has_text lines)) ≡ scan_of false 0 components (line ∷ lines)
-    by true h = scan_kept line components (filter has_text lines) lines (scan_less lines)
-    by false h =
-        scan_less lines components ∙ sym (empty-scan components line.number (λ after. scan_of false 0 after lines))
-        ∙ ap (λ (l : Line). scan_of false 0 components (l ∷ lines)) (sym (is_empty line h))
+scan_less (line ∷ lines) components = scan_by line lines (λ after. scan_less lines after) components (has_text line) refl
 
 scan_full : (lines : List Line) → scan_of false 0 no_components (full_lines lines) ≡ scan_of false 0 no_components lines
 scan_full [] = refl
