@@ -11,17 +11,28 @@ one_painted a b first day n old out next is e h' =
 
 -- ---- the usual times
 
+-- no day has no times
+pub usual_none : (a b : Sketch) (first : ℤ) → usual_times a b first 0 ≡ []
+unfolding usual_times
+usual_none a b first = refl
+
 module _ (a b : Sketch) (first : ℤ) (i : ℕ) (times : List ℕ) (day : ℤ) (at : day ≡ first +ℤ pos i) (is : times ≡ times_of_day a b day)
     (none : usual_times a b first i ≡ []) where
   usual_here : usual_times a b first (suc i) ≡ times
+  unfolding usual_times
   usual_here =
       ap (λ (ts : List ℕ). times_or ts (times_of_day a b (first +ℤ pos i))) none ∙ ap (times_of_day a b) (sym at) ∙ sym is
 
-  pub usual_next : times ≡ [] → usual_times a b first (i + 1) ≡ []
-  usual_next e = rw add-one (usual_here ∙ e)
+  pub usual_next : length times ≡ 0 → usual_times a b first (i + 1) ≡ []
+  usual_next no_times = rw add-one (usual_here ∙ by times no_times)
+    where
+      by : (ts : List ℕ) → length ts ≡ 0 → ts ≡ []
+      by [] e = refl
+      by (s ∷ ss) e = absurd (omega (arith, e))
 
   -- what was found stays
   kept : (s : ℕ) (ss : List ℕ) (m : ℕ) → times ≡ s ∷ ss → usual_times a b first (suc i + m) ≡ s ∷ ss
+  unfolding usual_times
   kept s ss zero e = let none : suc i + 0 ≡ suc i = omega arith in rw none (usual_here ∙ e)
   kept s ss (suc m) e =
       let more : suc i + suc m ≡ suc (suc i + m) = omega arith in

@@ -60,7 +60,7 @@ abbrev pub times_of_day : Sketch → Sketch → ℤ → List ℕ
 times_of_day a b day = times_or (times_on a day) (times_on b day)
 
 -- the times of the first day with some among n days in a row
-abbrev pub usual_times : Sketch → Sketch → ℤ → ℕ → List ℕ
+unfoldable pub usual_times : Sketch → Sketch → ℤ → ℕ → List ℕ
 usual_times a b first zero = []
 usual_times a b first (suc n) = times_or (usual_times a b first n) (times_of_day a b (first +ℤ pos n))
 
