@@ -67,7 +67,7 @@ no_fault asked status h (inr e) = no_memory asked (subst (λ (s : Status). IsEnd
 module _ (asked : Option Asked) (held : List ℕ → Option (List ℕ)) (x : Answer) (said : IsAnswerTo asked held x) (bytes : List ℕ) (same : bytes ≡ x.bytes)
     (old new : Option (List ℕ)) where
   pub ends_failed : AppendedPart old bytes new → IfSome (contents asked held) (λ files. Ends WriteFault 0 (IsAnswer asked files) old new)
-  ends_failed part = IfSome_then (contents asked held) said (λ files is. (refl, x, is, subst (λ b. AppendedPart old b new) same part))
+  ends_failed part = IfSome_then (contents asked held) said (λ files is. (refl, (x, is, subst (λ b. AppendedPart old b new) same part)))
 
   pub ends_done : IsEnding asked x.status → Appended old bytes new → IfSome (contents asked held) (λ files. Ends x.status x.in_utc (IsAnswer asked files) old new)
   ends_done h whole =

@@ -9,7 +9,7 @@ use Rattle.rr_model.specs.declared.rule.Series.{Series}
 use Rattle.rr_model.specs.declared.stamp.Stamp.{Stamp}
 use Rattle.rr_trip.specs.Edited.{◌>=>◌, AnswersKey, Names, Shifts, at_event, common_start, edited_alone, edited_event, edited_with_series, fault_at, first_number}
 use Rattle.rr_trip.specs.Edited.{key_in_turn, moment_of, no_names, recurrence_stamp, series_of_starts, shifts_of, stamp_on, start_line, start_of, starts_of}
-use Rattle.rr_trip.specs.Edited.{with_instance, with_moment, with_name, with_new_name, with_start, with_start_at, within_dates}
+use Rattle.rr_trip.specs.Edited.{with_instance, with_moment, with_name, with_new_name, with_start_at, within_dates}
 use Rattle.rr_trip.specs.declared.event.Event.{Event}
 use Rattle.rr_trip.specs.declared.event.Recurrence.{Recurrence}
 use Rattle.rr_trip.specs.declared.gather.KeyFault.{KeyFault}

@@ -12,11 +12,9 @@ use Rattle.rr_model.specs.Rising.{with_value}
 use Rattle.rr_model.specs.Rule.Validity.{is_absent}
 use Rattle.rr_model.specs.Series.Validity.{IsValidSeries}
 use Rattle.rr_model.specs.Text.Calendars.{calendar_scan, rrule_language, rule_beside, series_of_event}
-use Rattle.rr_model.specs.Text.Lists.{series_of_list}
 use Rattle.rr_model.specs.Text.Passes.{date_beside, date_value, passes}
 use Rattle.rr_model.specs.Text.RuleValues.{◌>>=◌}
 use Rattle.rr_model.specs.declared.kind.Kind.{Kind}
-use Rattle.rr_model.specs.declared.kind.Kind.TheVariants.{Days}
 use Rattle.rr_model.specs.declared.limits.TheConstants.{MAX_DATES}
 use Rattle.rr_model.specs.declared.refusal.Refusal.{Refusal}
 use Rattle.rr_model.specs.declared.refusal.Refusal.TheVariants.{TooManyParts}

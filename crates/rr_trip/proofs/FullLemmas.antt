@@ -9,11 +9,9 @@ use Rattle.rr_model.specs.declared.refusal.Refusal.{Refusal}
 use Rattle.rr_model.specs.declared.used.Scan.{Scan}
 use Rattle.rr_events.specs.Cutting.{full_lines, has_text}
 use Rattle.rr_events.specs.Events.{open_after}
-use Rattle.rr_events.specs.Own.{first_named, first_value, own_line, own_lines}
-use Rattle.rr_trip.specs.Event.{event_by, event_of, is_component_line, is_unread, read_lines, used_in}
-use Rattle.rr_trip.specs.Keys.{first_line, key_by, key_of}
-use Rattle.rr_trip.specs.declared.event.Event.{Event}
-use Rattle.rr_trip.specs.declared.key.Key.{Key}
+use Rattle.rr_events.specs.Own.{first_named, own_line, own_lines}
+use Rattle.rr_trip.specs.Event.{event_by, event_of, is_component_line, is_unread, used_in}
+use Rattle.rr_trip.specs.Keys.{first_line, key_of}
 
 -- ---- one empty line
 

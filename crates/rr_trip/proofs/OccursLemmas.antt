@@ -1,5 +1,5 @@
 -- What occurs in the events of a key.
-use Rattle.std.proofs.Common.{◌≡◌, ◌⊎◌, ◌↔◌, inl, inr, refl, sym, ◌∙◌, subst, Bool, true, false, if◌then◌else◌, List, [], ◌∷◌, ℤ, ℕ, Option, None, Some, Ok, Err}
+use Rattle.std.proofs.Common.{◌≡◌, ◌↔◌, inl, inr, refl, sym, subst, Bool, true, false, if◌then◌else◌, List, [], ◌∷◌, ℤ, ℕ, Option, None, Some, Ok}
 use Rattle.std.specs.Prelude.{Contains}
 use Rattle.std.proofs.lemmas.Bool.{false≢true}
 use Rattle.rr_model.specs.Series.Occurrences.{Occurs}
@@ -9,7 +9,7 @@ use Rattle.rr_model.specs.declared.rule.Series.{Series}
 use Rattle.rr_model.proofs.RisingSetLemmas.{Contains-cons_cases, Contains-head, Contains-none, Contains-tail}
 use Rattle.rr_rrule.proofs.BesideLemmas.{scan-valid}
 use Rattle.rr_trip.specs.Edited.{Shifts, at_event, common_start, edited_alone, edited_by, edited_event, edited_series, edited_with_series, first_number, key_events, key_in_turn}
-use Rattle.rr_trip.specs.Edited.{no_names, series_of_starts, shifts_of, stamp_on, start_line, start_of, starts_of, with_name, with_values, within_dates}
+use Rattle.rr_trip.specs.Edited.{no_names, series_of_starts, shifts_of, stamp_on, start_line, start_of, starts_of, with_name, within_dates}
 use Rattle.rr_trip.specs.Instances.{EventsOccur, IsOfEvents, IsOfSeries, IsOfStarts, OccursShifted, StartsOccur}
 use Rattle.rr_trip.specs.declared.event.Event.{Event}
 use Rattle.rr_trip.proofs.DateSetLemmas.{put_in}

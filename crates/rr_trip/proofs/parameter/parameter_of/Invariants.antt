@@ -1,4 +1,4 @@
-use Rattle.std.proofs.Common.{◌≡◌, ◌+◌, false, length, ℕ, List, Option, Some, None}
+use Rattle.std.proofs.Common.{◌≡◌, false}
 use Rattle.std.specs.Prelude.{option_map}
 use Rattle.rr_trip.specs.Parameters.{first_parameter, later_pieces, parameter_pieces, parameters_of}
 use Rattle.rr_trip.proofs.ParameterLemmas.{left_in}
