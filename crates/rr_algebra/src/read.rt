@@ -1,5 +1,7 @@
 // Canonical texts as input.
-ghost use Rattle.std.specs.Prelude.{◌≡◌, ◌↔◌, ◌≤◌, ◌∷◌, [], IfOk, IfSome, IsTrue, None, drop};
+ghost use Rattle.std.specs.Prelude.{◌≡◌, ◌↔◌, ◌≤◌, ◌∷◌, [], IfOk, IfSome, IsTrue, None, drop, false};
+ghost use Rattle.rr_canon.specs.Least.{least_sketch};
+ghost use Rattle.rr_canon.specs.Versions.{text_in};
 ghost use Rattle.rr_days.specs.Sequence.{sketch};
 ghost use Rattle.rr_model.specs.Answers.{RefusedExactlyWhere};
 ghost use Rattle.rr_model.specs.declared.refusal.Refusal.TheVariants.{NotCanonical};
@@ -15,7 +17,7 @@ use crate::expansion::{LAST_DAY, fill_up, is_read_day, sequence_of_parts};
 use crate::parts::take_parts;
 use crate::runs::begins_with;
 use crate::sets::take_sets;
-use rr_canon::{Version, describe_in, least};
+use rr_canon::{LeastSeq, Version, describe_in, least};
 use rr_days::{Folded, sequence_of_numbers};
 use rr_model::{Fault, Kind, MAX_CYCLE_DAYS, NoMemory, Refusal};
 use rr_shapes::Shapes;
@@ -133,7 +135,36 @@ fn is_first_read(first: Option<i64>) -> bool
 fn has_read_days<A: DaySeq>(seq: &A) -> bool
     ensures { IsTrue result ↔ HasReadDays (A.sketch seq.now) }
 {
-    is_first_read(seq.first()) && seq.settled() <= LAST_DAY && seq.period() <= MAX_CYCLE_DAYS
+    let read = is_first_read(seq.first());
+    if !read {
+        return false;
+    }
+    let settled = seq.settled();
+    settled <= LAST_DAY && seq.period() <= MAX_CYCLE_DAYS
+}
+
+// Whether a text is that of a least sketch within the bounds, in the version that it says.
+fn is_text_of(alloc: Global, text: &[u8], least: &LeastSeq) -> Result<bool, NoMemory>
+    ensures { IfOk result (λ same. IsTrue same ↔ (HasReadDays (least_sketch least.now)
+        × (text.now ≡ text_in (version_read text.now) (least_sketch least.now)))) }
+{
+    let version = version_of(text);
+    let within = has_read_days(least);
+    if !within {
+        return Ok(false);
+    }
+    let printed = describe_in(alloc, version, least)?;
+    Ok(is_same_text(printed.as_slice(), text))
+}
+
+// Whether a text is a descriptor, where its lines state these days.
+fn is_descriptor(alloc: Global, text: &[u8], days: &Folded) -> Result<bool, NoMemory>
+    requires { IsStated (drop 10 text.now) (sketch days.now) }
+    ensures yes { IfOk result (λ is. IsTrue is → IsDescriptor text.now (sketch days.now)) }
+    ensures no { IfOk result (λ is. is ≡ false → HasNoDescriptor text.now) }
+{
+    let least = least(alloc, days)?;
+    is_text_of(alloc, text, &least)
 }
 
 // The sequence that a descriptor states. What is read is printed again in its version, so that it is refused exactly where the text is
@@ -142,18 +173,12 @@ fn read_text(alloc: Global, text: &[u8]) -> Result<Described, Fault>
     ensures described { IfOk result (λ f. IsDescriptor text.now (sketch f)) }
     ensures refused { RefusedExactlyWhere (HasNoDescriptor text.now) NotCanonical result }
 {
-    let version = version_of(text);
     let days = match read_days(alloc, after_bytes(text, 10)) {
         Ok(days) => days,
         Err(fault) => return Err(fault),
     };
-    let least = least(alloc, &days)?;
-    let within = has_read_days(&least);
-    if !within {
-        return Err(Fault::Refused(Refusal::NotCanonical));
-    }
-    let printed = describe_in(alloc, version, &least)?;
-    if is_same_text(printed.as_slice(), text) {
+    let same = is_descriptor(alloc, text, &days)?;
+    if same {
         Ok(days)
     } else {
         Err(Fault::Refused(Refusal::NotCanonical))

@@ -67,12 +67,25 @@ pub fn led_by_free(alloc: Global, days: FoldedDays, free: usize) -> Result<Folde
     if free == 0 {
         return Ok(days);
     }
-    let mut numbers = Pages::new(alloc);
-    numbers.reserve(free.saturating_add(days.numbers.len()))?;
-    numbers.push_same(0, free)?;
-    numbers.push_from(&days.numbers, 0, days.numbers.len())?;
-    Ok(FoldedDays {
-        numbers,
-        shapes: days.shapes,
-    })
+    match led_numbers(alloc, &days.numbers, free) {
+        Ok(numbers) => Ok(FoldedDays {
+            numbers,
+            shapes: days.shapes,
+        }),
+        Err(no_memory) => {
+            drop(days);
+            Err(no_memory)
+        }
+    }
+}
+
+// The numbers with `free` zeros before them.
+fn led_numbers(alloc: Global, numbers: &Pages, free: usize) -> Result<Pages, NoMemory>
+    ensures { IfOk result (λ led. led ≡ replicate free 0 ++ numbers.now) }
+{
+    let mut led = Pages::new(alloc);
+    led.reserve(free.saturating_add(numbers.len()))?;
+    led.push_same(0, free)?;
+    led.push_from(numbers, 0, numbers.len())?;
+    Ok(led)
 }

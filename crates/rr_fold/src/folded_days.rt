@@ -84,9 +84,36 @@ pub(crate) fn days_of_lazy<L: Lazy + Drop>(
     ensures refused { RefusesTooMany (L.tree lazy) end result }
 {
     let mut lazy = lazy;
+    let days = walked_days(alloc, &mut lazy, first, end);
+    drop(lazy);
+    days
+}
+
+// The days of an iterator that was not asked yet, from one on and below another. It is borrowed, so that no exit drops it.
+fn walked_days<L: Lazy>(
+    alloc: Global,
+    lazy: &mut L,
+    first: i64,
+    end: i64,
+) -> Result<FoldedDays, Fault>
+    requires low { first_day_of_all ≤ℤ first }
+    requires order { first <ℤ end }
+    requires high { end ≤ℤ pos 40_000_000 }
+    requires unasked { IsUnasked (L.position lazy.old) }
+    requires knows { (sets : List (List ℕ)) → L.knows lazy.old sets }
+    requires early { HasNoDayBefore (L.tree lazy.old) first }
+    ensures folded { IfOk result (AreDaysOf (L.tree lazy.old) first end) }
+    ensures whole { IfOk result (λ days. end ≡ first +ℤ pos (length days.numbers)) }
+    ensures refused { RefusesTooMany (L.tree lazy.old) end result }
+{
     let mut walk = Walk::new(alloc, days_between(first, end))?;
-    match walk.walk_to(alloc, &mut lazy, first, end) {
-        Ok(()) => Ok(walk.days),
-        Err(fault) => Err(fault),
+    let walked = walk.walk_to(alloc, lazy, first, end);
+    let days = walk.into_days();
+    match walked {
+        Ok(()) => Ok(days),
+        Err(fault) => {
+            drop(days);
+            Err(fault)
+        }
     }
 }

@@ -112,8 +112,17 @@ pub fn days_by_rules(
     if given.minus.is_empty() {
         return Ok(days);
     }
-    let out = days_of_dates(alloc, given.kind, &given.minus, first, end)?;
-    combination_of(alloc, Op::Minus, &days, &out)
+    let out = match days_of_dates(alloc, given.kind, &given.minus, first, end) {
+        Ok(out) => out,
+        Err(fault) => {
+            drop(days);
+            return Err(fault);
+        }
+    };
+    let made = combination_of(alloc, Op::Minus, &days, &out);
+    drop(out);
+    drop(days);
+    made
 }
 
 // The days of the rules and of the dates added from one on and below another, without those of the excluded rules.
@@ -138,7 +147,7 @@ fn kept_days(
     }
     let excluded = series.excluded.as_slice();
     let counted = counts.excluded.as_slice();
-    let out = days_of_rules(
+    let out = match days_of_rules(
         alloc,
         series.kind,
         series.start,
@@ -146,8 +155,17 @@ fn kept_days(
         counted,
         first,
         end,
-    )?;
-    combination_of(alloc, Op::Minus, &days, &out)
+    ) {
+        Ok(out) => out,
+        Err(fault) => {
+            drop(days);
+            return Err(fault);
+        }
+    };
+    let made = combination_of(alloc, Op::Minus, &days, &out);
+    drop(out);
+    drop(days);
+    made
 }
 
 // The days of the rules and of the dates added, from one on and below another.
@@ -172,8 +190,17 @@ fn given_days(
     if series.plus.is_empty() {
         return Ok(days);
     }
-    let dates = days_of_dates(alloc, series.kind, &series.plus, first, end)?;
-    combination_of(alloc, Op::Union, &dates, &days)
+    let dates = match days_of_dates(alloc, series.kind, &series.plus, first, end) {
+        Ok(dates) => dates,
+        Err(fault) => {
+            drop(days);
+            return Err(fault);
+        }
+    };
+    let made = combination_of(alloc, Op::Union, &dates, &days);
+    drop(dates);
+    drop(days);
+    made
 }
 
 // The days of rules together, of each of which this was counted, from one on that is not after their start's and below another.
@@ -224,8 +251,17 @@ fn days_from_start(
 {
     let mut days = days_of_rule(alloc, &rules[0], counted[0], kind, start, end)?;
     for index in 1..rules.len() {
-        let more = days_of_rule(alloc, &rules[index], counted[index], kind, start, end)?;
-        days = combination_of(alloc, Op::Union, &days, &more)?;
+        let more = match days_of_rule(alloc, &rules[index], counted[index], kind, start, end) {
+            Ok(more) => more,
+            Err(fault) => {
+                drop(days);
+                return Err(fault);
+            }
+        };
+        let both = combination_of(alloc, Op::Union, &days, &more);
+        drop(more);
+        drop(days);
+        days = both?;
     }
     Ok(days)
 }

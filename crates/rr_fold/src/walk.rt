@@ -35,6 +35,13 @@ impl Walk {
         })
     }
 
+    // The days that were walked.
+    pub(crate) fn into_days(self) -> FoldedDays
+        ensures { result ≡ self.days }
+    {
+        self.days
+    }
+
     // Walks an iterator up to a day, from where it stands on; the first one is the day of the first number.
     pub(crate) fn walk_to<L: Lazy>(
         &mut self,

@@ -9,7 +9,7 @@ ghost use Rattle.rr_model.specs.Moment.Years.{IsInYears};
 ghost use Rattle.rr_model.specs.Rule.Validity.{IsValidRule};
 ghost use Rattle.rr_model.specs.declared.rule.Rule.{Rule};
 ghost use Rattle.rr_fold.specs.Rules.{AreDaysChosen};
-ghost use Rattle.rr_fold.specs.Walks.{IsWalk};
+ghost use Rattle.rr_fold.specs.Walks.{IsNewWalk, IsWalk};
 ghost use Rattle.rr_fold.specs.Years.{HasEqualYears, IsFinerThanDays, IsYearUpTo, IsYearWalk, KeepsNoYear, KeepsYears, LeavesNoUnitOut, RepeatsByYears};
 
 use crate::folded_days::FoldedDays;
@@ -106,14 +106,45 @@ pub fn days_by_years(
 {
     let first = day_part(kind, start);
     let mut walk = Walk::new(alloc, days_between(first, end))?;
+    let walked = walk_rule(alloc, rule, period, kind, start, end, &mut walk);
+    let days = walk.into_days();
+    match walked {
+        Ok(()) => Ok(days),
+        Err(fault) => {
+            drop(days);
+            Err(fault)
+        }
+    }
+}
+
+// Walks or copies the days of a rule from its start's day on and below the end.
+fn walk_rule(
+    alloc: Global,
+    rule: &Rule,
+    period: usize,
+    kind: Kind,
+    start: i64,
+    end: i64,
+    walk: &mut Walk,
+) -> Result<(), Fault>
+    requires valid { IsValidRule kind rule.now }
+    requires in_years { IsInYears kind start }
+    requires repeats { RepeatsByYears rule.now period }
+    requires some { 1 ≤ period }
+    requires few { period ≤ 1_000 }
+    requires order { day_part kind start <ℤ end }
+    requires high { end ≤ℤ pos 40_000_000 }
+    requires new { IsNewWalk walk.old }
+    ensures folded { OnOk result (AreDaysChosen kind start rule.now end walk.new.days) }
+    ensures whole { OnOk result
+        (end ≡ day_part kind start +ℤ pos (length walk.new.days.numbers)) }
+{
+    let first = day_part(kind, start);
     let mut lazy = RuleLazy::new(alloc, rule, kind, start)?;
-    let walked = walk_by_years(alloc, rule, period, &mut lazy, &mut walk, first, end);
+    let walked = walk_by_years(alloc, rule, period, &mut lazy, walk, first, end);
     // By a call, or else the proof follows the drop into each list that the iterator holds.
     drop(lazy);
-    match walked {
-        Ok(()) => Ok(walk.days),
-        Err(fault) => Err(fault),
-    }
+    walked
 }
 
 // Walks or copies the days from the first one on and below the end, after what was walked before the first one.

@@ -1,6 +1,6 @@
--- The JSON of each type of pattern and range, its members by name (Microsoft Graph, recurrencePattern, recurrenceRange, event).
-use Rattle.std.specs.Prelude.{ℕ, false, ℤ, List, codes, map}
-use Rattle.serde_json.specs.Data.{Data, Members, array, boolean, member, no_members, number, object, string, unsigned}
+-- The JSON of each type of pattern, its members by name (Microsoft Graph, recurrencePattern), and of the start of an event.
+use Rattle.std.specs.Prelude.{ℕ, ℤ, List, codes, map}
+use Rattle.serde_json.specs.Data.{Data, Members, array, member, no_members, number, object, string, unsigned}
 use Rattle.serde_json.specs.View.{items_of}
 use Rattle.rr_model.specs.Graph.Text.{day_names, day_text, index_text}
 
@@ -58,32 +58,8 @@ relative_yearly_json interval days index month = object
     (days_member days (text_member (codes "index") (index_text index) (interval_member interval
     (number_member (codes "month") month (type_member (codes "relativeYearly"))))))
 
--- ---- ranges
-
--- a range of the type `noEnd`: from a start date on, without an end
-abbrev pub no_end_json : Data → Data
-no_end_json start = object (member (codes "startDate") start (type_member (codes "noEnd")))
-
--- a range of the type `endDate`: from a start date up to a last day
-abbrev pub end_date_json : Data → Data → Data
-end_date_json start last = object (member (codes "endDate") last (member (codes "startDate") start (type_member (codes "endDate"))))
-
--- a range of the type `numbered`: from a start date on, `count` occurrences
-abbrev pub numbered_json : Data → ℕ → Data
-numbered_json start count = object
-    (number_member (codes "numberOfOccurrences") count (member (codes "startDate") start (type_member (codes "numbered"))))
-
--- ---- recurrences and events
-
--- a recurrence: a pattern and its range
-abbrev pub recurrence_json : Data → Data → Data
-recurrence_json pattern range = object (member (codes "pattern") pattern (member (codes "range") range no_members))
+-- ---- the start of an event
 
 -- the start of an event, in local time
 abbrev pub start_json : Data → Data
 start_json moment = object (member (codes "dateTime") moment no_members)
-
--- an event that is not all day: its recurrence and its start
-abbrev pub event_json : Data → Data → Data
-event_json recurrence start = object
-    (member (codes "isAllDay") (boolean false) (member (codes "recurrence") recurrence (member (codes "start") start no_members)))

@@ -12,18 +12,22 @@ use std::alloc::Global;
 pub(crate) fn rule_of_pattern(alloc: Global, pattern: &Pattern, end: End) -> Result<Rule, NoMemory>
     ensures { IfOk result (λ made. made ≡ rule_of_pattern pattern.now end) }
 {
+    let by_month = months_of(alloc, pattern)?;
+    let by_month_day = month_days_of(alloc, pattern)?;
+    let by_day = days_of(alloc, pattern)?;
+    let by_set_pos = set_positions_of(alloc, pattern)?;
     Ok(Rule {
         freq: form_freq(pattern.form),
         interval: pattern.interval,
-        by_month: months_of(alloc, pattern)?,
+        by_month,
         by_week_no: Numbers::new(alloc),
         by_year_day: Numbers::new(alloc),
-        by_month_day: month_days_of(alloc, pattern)?,
-        by_day: days_of(alloc, pattern)?,
+        by_month_day,
+        by_day,
         by_hour: Numbers::new(alloc),
         by_minute: Numbers::new(alloc),
         by_second: Numbers::new(alloc),
-        by_set_pos: set_positions_of(alloc, pattern)?,
+        by_set_pos,
         week_start: week_start_of(pattern),
         end,
     })

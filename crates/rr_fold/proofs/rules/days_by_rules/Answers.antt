@@ -32,17 +32,17 @@ returns-then-is_empty-clause-folded c =
     folded_same (kept_from s c.args.first) (tree_of s) (no_minus s c.args.first c.args.end sound c.requires.rules c.requires.early none) c.args.first c.args.end
     days.shapes days.numbers (rw (value, to_z-of_z c.ranges.first, to_z-of_z c.ranges.end) at c.in_ok-days.ensures.folded)
 
-pub combination_of-requires-clause-long : goal.combination_of-requires-clause-long
-combination_of-requires-clause-long c = omega (arith, ints, c.in_ok-days.ensures.whole, c.in_ok-out.ensures.whole)
+pub combination_of-made-requires-clause-long : goal.combination_of-made-requires-clause-long
+combination_of-made-requires-clause-long c = omega (arith, ints, c.in_ok-days.ensures.whole, c.in-Ok.ensures.whole)
 
-pub combination_of-requires-clause-empty : goal.combination_of-requires-clause-empty
-combination_of-requires-clause-empty c = (c.in_ok-days.ensures.folded.empty, c.in_ok-out.ensures.folded.empty)
+pub combination_of-made-requires-clause-empty : goal.combination_of-made-requires-clause-empty
+combination_of-made-requires-clause-empty c = (c.in_ok-days.ensures.folded.empty, c.in-Ok.ensures.folded.empty)
 
-pub combination_of-requires-clause-ones : goal.combination_of-requires-clause-ones
-combination_of-requires-clause-ones c = numbers_within _ _ _ c.in_ok-days.days.shapes c.in_ok-days.days.numbers c.in_ok-days.ensures.folded
+pub combination_of-made-requires-clause-ones : goal.combination_of-made-requires-clause-ones
+combination_of-made-requires-clause-ones c = numbers_within _ _ _ c.in_ok-days.days.shapes c.in_ok-days.days.numbers c.in_ok-days.ensures.folded
 
-pub combination_of-requires-clause-others : goal.combination_of-requires-clause-others
-combination_of-requires-clause-others c = numbers_within _ _ _ c.in_ok-out.out.shapes c.in_ok-out.out.numbers c.in_ok-out.ensures.folded
+pub combination_of-made-requires-clause-others : goal.combination_of-made-requires-clause-others
+combination_of-made-requires-clause-others c = numbers_within _ _ _ c.in-Ok.out.shapes c.in-Ok.out.numbers c.in-Ok.ensures.folded
 
 pub returns-clause-folded : goal.returns-clause-folded
 returns-clause-folded c =
@@ -52,19 +52,19 @@ returns-clause-folded c =
     let f = to_z-of_z c.ranges.first in
     let e = to_z-of_z c.ranges.end in
     let days = c.in_ok-days.days in
-    let out = c.in_ok-out.out in
+    let out = c.in-Ok.out in
     if_ok_map (λ (made : FoldedDays). AreCombined Minus days.shapes days.numbers out.shapes out.numbers made.shapes made.numbers)
     (λ made. IsFoldedTo (tree_of s) c.args.first c.args.end made.shapes made.numbers)
     (λ made h. combined_folded Minus (tree_of s) (kept_from s c.args.first) (dates_of s.kind (dates_from s.kind c.args.first s.minus))
     c.args.first c.args.end days.shapes days.numbers out.shapes out.numbers made.shapes made.numbers
-    (rw (value, f, e) at c.in_ok-days.ensures.folded) (rw (value, f, e) at c.in_ok-out.ensures.folded)
-    (rw (f, e) at c.in_ok-days.ensures.whole) (rw (f, e) at c.in_ok-out.ensures.whole)
-    (series_alike s c.args.first c.args.end sound c.requires.rules c.requires.early) h) c.combination_of.result c.combination_of.ensures
+    (rw (value, f, e) at c.in_ok-days.ensures.folded) (rw (value, f, e) at c.in-Ok.ensures.folded)
+    (rw (f, e) at c.in_ok-days.ensures.whole) (rw (f, e) at c.in-Ok.ensures.whole)
+    (series_alike s c.args.first c.args.end sound c.requires.rules c.requires.early) h) c.combination_of-made.result c.combination_of-made.ensures
 
 pub returns-clause-whole : goal.returns-clause-whole
 returns-clause-whole c =
     let days = c.in_ok-days.days in
-    let out = c.in_ok-out.out in
+    let out = c.in-Ok.out in
     let whole = rw (to_z-of_z c.ranges.first, to_z-of_z c.ranges.end) at c.in_ok-days.ensures.whole in
     if_ok_map (λ (made : FoldedDays). AreCombined Minus days.shapes days.numbers out.shapes out.numbers made.shapes made.numbers)
-    (λ made. c.args.end ≡ c.args.first +ℤ pos (length made.numbers)) (λ made h. omega (arith, ints, whole, h.whole)) c.combination_of.result c.combination_of.ensures
+    (λ made. c.args.end ≡ c.args.first +ℤ pos (length made.numbers)) (λ made h. omega (arith, ints, whole, h.whole)) c.combination_of-made.result c.combination_of-made.ensures

@@ -42,18 +42,18 @@ days_of_rule-requires-in-loop-index-clause-counted c =
     count_at c.args.kind c.args.start (to_z w64 (of_z w64 c.args.start)) (to_z-of_z c.ranges.start) list c.args.counted.now c.requires.counted
     c.loop-index.index c.index-rules-index.result _ c.loop-index-test.true c.index-rules-index.is
 
-pub combination_of-requires-clause-long : goal.combination_of-requires-clause-long
-combination_of-requires-clause-long c = omega (arith, ints, c.loop-index.invariant.1, c.in_ok-more.ensures.whole)
+pub combination_of-both-requires-clause-long : goal.combination_of-both-requires-clause-long
+combination_of-both-requires-clause-long c = omega (arith, ints, c.loop-index.invariant.1, c.in-Ok.ensures.whole)
 
-pub combination_of-requires-clause-empty : goal.combination_of-requires-clause-empty
-combination_of-requires-clause-empty c = (c.loop-index.invariant.0.empty, c.in_ok-more.ensures.folded.empty)
+pub combination_of-both-requires-clause-empty : goal.combination_of-both-requires-clause-empty
+combination_of-both-requires-clause-empty c = (c.loop-index.invariant.0.empty, c.in-Ok.ensures.folded.empty)
 
-pub combination_of-requires-clause-ones : goal.combination_of-requires-clause-ones
-combination_of-requires-clause-ones c = numbers_within _ _ _ c.loop-index.days.shapes c.loop-index.days.numbers c.loop-index.invariant.0
+pub combination_of-both-requires-clause-ones : goal.combination_of-both-requires-clause-ones
+combination_of-both-requires-clause-ones c = numbers_within _ _ _ c.loop-index.days.shapes c.loop-index.days.numbers c.loop-index.invariant.0
 
-pub combination_of-requires-clause-others : goal.combination_of-requires-clause-others
-combination_of-requires-clause-others c =
-    numbers_within _ _ _ c.in_ok-more.more.shapes c.in_ok-more.more.numbers c.in_ok-more.ensures.folded
+pub combination_of-both-requires-clause-others : goal.combination_of-both-requires-clause-others
+combination_of-both-requires-clause-others c =
+    numbers_within _ _ _ c.in-Ok.more.shapes c.in-Ok.more.numbers c.in-Ok.ensures.folded
 
 pub loop-index-preserved : goal.loop-index-preserved
 loop-index-preserved c =
@@ -61,12 +61,12 @@ loop-index-preserved c =
     let start : ℤ = to_z w64 (of_z w64 c.args.start) in
     let end : ℤ = to_z w64 (of_z w64 c.args.end) in
     let old = c.loop-index.days in
-    let more = c.in_ok-more.more in
+    let more = c.in-Ok.more in
     let new = c.in_ok-days-2.days in
     let made = c.in_ok-days-2.ensures in (
       next_folded c.args.kind start (day_part c.args.kind start) end list c.loop-index.index c.index-rules-index.result c.loop-index-test.true
-          c.index-rules-index.is new.shapes new.numbers old.shapes old.numbers more.shapes more.numbers c.loop-index.invariant.0 c.in_ok-more.ensures.folded
-          c.loop-index.invariant.1 c.in_ok-more.ensures.whole made,
+          c.index-rules-index.is new.shapes new.numbers old.shapes old.numbers more.shapes more.numbers c.loop-index.invariant.0 c.in-Ok.ensures.folded
+          c.loop-index.invariant.1 c.in-Ok.ensures.whole made,
       omega (arith, ints, c.loop-index.invariant.1, made.whole),
     )
 

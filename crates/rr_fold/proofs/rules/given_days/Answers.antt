@@ -37,17 +37,17 @@ returns-then-is_empty-clause-folded c =
     folded_same (members_of_rules s.kind s.start s.rules) (given_from s c.args.first) (no_plus s c.args.first none) c.args.first c.args.end days.shapes days.numbers
     (rw (start, to_z-of_z c.ranges.first, to_z-of_z c.ranges.end, c.as_slice-rules.ensures) at c.in_ok-days.ensures.folded)
 
-pub combination_of-requires-clause-long : goal.combination_of-requires-clause-long
-combination_of-requires-clause-long c = omega (arith, ints, c.in_ok-days.ensures.whole, c.in_ok-dates.ensures.whole)
+pub combination_of-made-requires-clause-long : goal.combination_of-made-requires-clause-long
+combination_of-made-requires-clause-long c = omega (arith, ints, c.in_ok-days.ensures.whole, c.in-Ok.ensures.whole)
 
-pub combination_of-requires-clause-empty : goal.combination_of-requires-clause-empty
-combination_of-requires-clause-empty c = (c.in_ok-dates.ensures.folded.empty, c.in_ok-days.ensures.folded.empty)
+pub combination_of-made-requires-clause-empty : goal.combination_of-made-requires-clause-empty
+combination_of-made-requires-clause-empty c = (c.in-Ok.ensures.folded.empty, c.in_ok-days.ensures.folded.empty)
 
-pub combination_of-requires-clause-ones : goal.combination_of-requires-clause-ones
-combination_of-requires-clause-ones c = numbers_within _ _ _ c.in_ok-dates.dates.shapes c.in_ok-dates.dates.numbers c.in_ok-dates.ensures.folded
+pub combination_of-made-requires-clause-ones : goal.combination_of-made-requires-clause-ones
+combination_of-made-requires-clause-ones c = numbers_within _ _ _ c.in-Ok.dates.shapes c.in-Ok.dates.numbers c.in-Ok.ensures.folded
 
-pub combination_of-requires-clause-others : goal.combination_of-requires-clause-others
-combination_of-requires-clause-others c = numbers_within _ _ _ c.in_ok-days.days.shapes c.in_ok-days.days.numbers c.in_ok-days.ensures.folded
+pub combination_of-made-requires-clause-others : goal.combination_of-made-requires-clause-others
+combination_of-made-requires-clause-others c = numbers_within _ _ _ c.in_ok-days.days.shapes c.in_ok-days.days.numbers c.in_ok-days.ensures.folded
 
 pub returns-clause-folded : goal.returns-clause-folded
 returns-clause-folded c =
@@ -56,18 +56,18 @@ returns-clause-folded c =
     let f = to_z-of_z c.ranges.first in
     let e = to_z-of_z c.ranges.end in
     let days = c.in_ok-days.days in
-    let dates = c.in_ok-dates.dates in
+    let dates = c.in-Ok.dates in
     if_ok_map (λ (made : FoldedDays). AreCombined Union dates.shapes dates.numbers days.shapes days.numbers made.shapes made.numbers)
     (λ made. IsFoldedTo (given_from s c.args.first) c.args.first c.args.end made.shapes made.numbers)
     (λ made h. combined_folded Union (given_from s c.args.first) (dates_of s.kind (dates_from s.kind c.args.first s.plus))
     (members_of_rules s.kind s.start s.rules) c.args.first c.args.end dates.shapes dates.numbers days.shapes days.numbers made.shapes made.numbers
-    (rw (f, e) at c.in_ok-dates.ensures.folded) (rw (start, f, e, c.as_slice-rules.ensures) at c.in_ok-days.ensures.folded)
-    (rw (f, e) at c.in_ok-dates.ensures.whole) (rw (f, e) at c.in_ok-days.ensures.whole) (λ d x. refl) h) c.combination_of.result c.combination_of.ensures
+    (rw (f, e) at c.in-Ok.ensures.folded) (rw (start, f, e, c.as_slice-rules.ensures) at c.in_ok-days.ensures.folded)
+    (rw (f, e) at c.in-Ok.ensures.whole) (rw (f, e) at c.in_ok-days.ensures.whole) (λ d x. refl) h) c.combination_of-made.result c.combination_of-made.ensures
 
 pub returns-clause-whole : goal.returns-clause-whole
 returns-clause-whole c =
     let days = c.in_ok-days.days in
-    let dates = c.in_ok-dates.dates in
-    let whole = rw (to_z-of_z c.ranges.first, to_z-of_z c.ranges.end) at c.in_ok-dates.ensures.whole in
+    let dates = c.in-Ok.dates in
+    let whole = rw (to_z-of_z c.ranges.first, to_z-of_z c.ranges.end) at c.in-Ok.ensures.whole in
     if_ok_map (λ (made : FoldedDays). AreCombined Union dates.shapes dates.numbers days.shapes days.numbers made.shapes made.numbers)
-    (λ made. c.args.end ≡ c.args.first +ℤ pos (length made.numbers)) (λ made h. omega (arith, ints, whole, h.whole)) c.combination_of.result c.combination_of.ensures
+    (λ made. c.args.end ≡ c.args.first +ℤ pos (length made.numbers)) (λ made h. omega (arith, ints, whole, h.whole)) c.combination_of-made.result c.combination_of-made.ensures
