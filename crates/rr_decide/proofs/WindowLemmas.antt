@@ -6,6 +6,7 @@ use Rattle.std.proofs.lemmas.Bool.{cases_lt, false≢true}
 use Rattle.std.proofs.lemmas.Int.{ints, by_lt_z}
 use Rattle.rr_model.specs.Whole.Divisors.{lcm}
 use Rattle.rr_model.specs.Rising.{Rises}
+use Rattle.rr_model.specs.Whole.Periodic.{AgreeFrom}
 use Rattle.rr_model.specs.Sets.Sketch.{IsValidSketch, times_on}
 use Rattle.rr_word.specs.SketchLaws.{IsCommonMultiple}
 use Rattle.rr_model.specs.declared.sketch.Sketch.{Sketch}
@@ -16,7 +17,9 @@ use Rattle.rr_model.proofs.PeriodicLemmas.{offset}
 use Rattle.rr_model.proofs.SecondsLemmas.{Contains-or_not, one_list}
 use Rattle.rr_word.proofs.SketchLemmas.{agreement_of_sketches_lasts, common_window, rising_on}
 use Rattle.rr_word.specs.Stretches.{AreFree}
-use Rattle.rr_decide.specs.Question.{HasNoneBefore, IsFirstDayShown, IsFirstShown, IsWindow, ShowsNone, ShowsNoneBelow, ShowsNoneWithin, shown_by}
+use Rattle.std.specs.Prelude.{Option, None, Some, IfNone}
+use Rattle.rr_decide.specs.declared.days.Shown.{Shown}
+use Rattle.rr_decide.specs.Question.{HasNoneBefore, IsFirstDayShown, IsFirstShown, IsWindow, ShowsNone, ShowsNoneBelow, ShowsNoneFor, ShowsNoneWithin, shown_by}
 use Rattle.rr_model.specs.declared.question.Question.TheVariants.{Equal}
 use Rattle.rr_decide.proofs.StandsLemmas.{none_before_first}
 
@@ -46,15 +49,38 @@ pub multiple_window : (shows : Side → Bool) (s u : Sketch) (c : ℕ) → IsVal
 multiple_window shows s u c vs vu common q ls lu none d l =
     common_window (λ xs ys. ShowsNone shows xs ys) s u q c vs vu ls lu common none d l
 
+-- a walk from one day to a window's end tells of every later day
+pub each_later_day : (shows : Side → Bool) (s u : Sketch) (from last to : ℤ) (n : ℕ) → IsWindow shows s u n → s.settled ≤ℤ last → u.settled ≤ℤ last
+    → from ≤ℤ last → to ≡ last +ℤ pos n → ShowsNoneWithin shows s u from to → (d : ℤ) → from ≤ℤ d → ShowsNone shows (times_on s d) (times_on u d)
+each_later_day shows s u from last to n window ls lu fl is walked d after =
+    let P : Type 0 = ShowsNone shows (times_on s d) (times_on u d) in
+    by_lt_z {P = P} d last (λ l. walked d after (omega (arith, ints))) (λ g.
+    window last ls lu (λ x low high. walked x (omega (arith, ints)) (omega (arith, ints))) d g)
+
 -- a walk from the first occupied day to a window's end tells of every day
 pub every_day : (shows : Side → Bool) (s u : Sketch) (from last to : ℤ) (n : ℕ) → s.kind ≡ u.kind → IsWindow shows s u n → HasNoneBefore s from
     → HasNoneBefore u from → s.settled ≤ℤ last → u.settled ≤ℤ last → from ≤ℤ last → to ≡ last +ℤ pos n → ShowsNoneWithin shows s u from to → (d : ℤ)
     → ShowsNone shows (times_on s d) (times_on u d)
 every_day shows s u from last to n e window ns nu ls lu fl is walked d =
     let P : Type 0 = ShowsNone shows (times_on s d) (times_on u d) in
-    by_lt_z {P = P} d from (λ before. none_before_first shows s u e from ns nu d before) (λ after.
-    by_lt_z {P = P} d last (λ l. walked d after (omega (arith, ints))) (λ g.
-    window last ls lu (λ x low high. walked x (omega (arith, ints)) (omega (arith, ints))) d g))
+    by_lt_z {P = P} d from (λ before. none_before_first shows s u e from ns nu d before)
+    (λ after. each_later_day shows s u from last to n window ls lu fl is walked d after)
+
+-- the two are equal on every later day, where a walk to a window's end shows no difference
+pub equal_from : (s u : Sketch) (from last to : ℤ) (n : ℕ) → IsValidSketch s → IsValidSketch u → IsWindow (shown_by Equal) s u n → s.settled ≤ℤ last
+    → u.settled ≤ℤ last → from ≤ℤ last → to ≡ last +ℤ pos n → ShowsNoneWithin (shown_by Equal) s u from to → AgreeFrom (times_on s) (times_on u) from
+equal_from s u from last to n vs vu window ls lu fl is walked d after =
+    one_where_none_shown (times_on s d) (times_on u d) (rising_on s d vs) (rising_on u d vu)
+    (each_later_day (shown_by Equal) s u from last to n window ls lu fl is walked d after)
+
+-- as a walk that found none says it
+pub equal_if_none : (s u : Sketch) (from from' last : ℤ) (days n : ℕ) (r : Option Shown) → IsValidSketch s → IsValidSketch u
+    → IsWindow (shown_by Equal) s u n → s.settled ≤ℤ last → u.settled ≤ℤ last → from ≤ℤ last → from' ≡ from
+    → from +ℤ pos days ≡ last +ℤ pos n → IfNone r (ShowsNoneFor Equal s u from' days) → IfNone r (AgreeFrom (times_on s) (times_on u) from)
+equal_if_none s u from from' last days n None vs vu window ls lu fl ef is walked =
+    equal_from s u from last (from +ℤ pos days) n vs vu window ls lu fl is
+    (λ d low high. walked d (omega (arith, ints, ef)) (omega (arith, ints, ef)))
+equal_if_none s u from from' last days n (Some r) vs vu window ls lu fl ef is walked = tt
 
 -- ---- a walk
 

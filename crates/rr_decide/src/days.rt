@@ -34,7 +34,8 @@ pub fn first_day_shown<A: DaySeq, B: DaySeq>(
     from: i64,
     days: u64,
 ) -> Option<Shown>
-    requires near { IsNearDay from }
+    requires low { earliest_near ≤ℤ from }
+    requires high { from ≤ℤ pos 2_800_000_000_000 }
     requires few { days ≤ 5_000_000_000 }
     ensures none { IfNone result
         (ShowsNoneFor question (A.sketch a.now) (B.sketch b.now) from days) }
@@ -71,7 +72,7 @@ fn look_from<A: DaySeq, B: DaySeq>(
     quiet: &mut Quiet,
 ) -> Look
     requires low { earliest_near ≤ℤ day }
-    requires high { day ≤ℤ pos 6_000_000_000 }
+    requires high { day ≤ℤ pos 2_900_000_000_000 }
     requires some { 1 ≤ most }
     requires few { most ≤ 5_000_000_000 }
     requires quiet { IsQuiet (shown_by question) (A.sets a.now) (B.sets b.now) quiet.old }

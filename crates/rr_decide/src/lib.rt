@@ -10,5 +10,7 @@ mod question;
 mod quiet;
 mod verdicts;
 
-pub use decide::{disjoint, equal, verdict, within};
+pub use days::Shown;
+pub use decide::{disjoint, equal, next_difference, verdict, within};
 pub use long::equal_long;
+pub use merge::first_shown;

@@ -1,0 +1,8 @@
+pub mod SideLemmas
+pub mod OrderLemmas
+pub mod OneLemmas
+pub mod SecondLemmas
+pub mod NextLemmas
+pub mod FoundLemmas
+pub mod ApartLemmas
+mod DifferenceExamples

@@ -1,0 +1,5 @@
+pub mod DayLemmas
+pub mod NextLemmas
+pub mod WindowLemmas
+pub mod TakenLemmas
+mod WindowExamples

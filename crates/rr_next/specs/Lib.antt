@@ -1,0 +1,3 @@
+pub mod First
+pub mod Next
+pub mod Window
