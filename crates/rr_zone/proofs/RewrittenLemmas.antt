@@ -1,0 +1,152 @@
+-- The lines of an event written again.
+use Rattle.std.proofs.Common.{◌≡◌, ℕ, zero, suc, ◌+◌, ◌-◌, ◌<◌, ◌==◌, ◌&&◌, not, Bool, true, false, ℤ, List, [], ◌∷◌, ◌++◌, length}
+use Rattle.std.proofs.Common.{refl, sym, ap, ◌∙◌, codes, arith, append_assoc, append-nil, Result, Ok, Err, OnOk}
+use Rattle.std.specs.List.{onto_first}
+use Rattle.rr_model.specs.Text.Event.{is_in_event}
+use Rattle.rr_model.specs.Text.Lines.{begins_blank, physical_lines}
+use Rattle.rr_model.specs.declared.line.Line.{Line}
+use Rattle.rr_model.specs.declared.refusal.Refusal.{Refusal}
+use Rattle.rr_events.specs.Cutting.{raw_texts, IsCut}
+use Rattle.rr_events.specs.Events.{open_after}
+use Rattle.rr_events.specs.Finding.{before}
+use Rattle.rr_events.specs.RawLines.{RawLine, bytes_of, raw_line, raw_lines_at, raw_lines_from}
+use Rattle.rr_events.specs.declared.find.Piece.{Piece}
+use Rattle.rr_events.proofs.PartLemmas.{part-before}
+use Rattle.rr_events.proofs.SegmentLemmas.{cut-line, raw-first}
+use Rattle.rr_zone.specs.Lines.{local_line}
+use Rattle.rr_zone.specs.Rewritten.{blank_lines, local_lines, local_raw, local_step, rewritten}
+use Rattle.rr_zone.specs.Zones.{raw_lines_in}
+use Rattle.rr_zone.specs.declared.clock.LocalTime.{LocalTime}
+
+-- ---- physical lines with a blank alone
+
+blank_more : (n : ℕ) → 0 < n → codes "\n " ++ blank_lines (n - 1) ≡ blank_lines n
+blank_more zero h = absurd (omega (arith, h))
+blank_more (suc n) h = let same : suc n - 1 ≡ n = omega arith in rw same refl
+
+pub blank_written : (old new all : List ℕ) (n m : ℕ) → 0 < n → m ≡ n - 1 → new ≡ old ++ codes "\n " → old ++ blank_lines n ≡ all
+    → new ++ blank_lines m ≡ all
+blank_written old new all n m h e more so_far =
+    rw (e, more) (append_assoc old (codes "\n ") (blank_lines (n - 1)) ∙ ap (λ (x : List ℕ). old ++ x) (blank_more n h) ∙ so_far)
+
+-- ---- the bytes of all lines are the text
+
+abbrev all_bytes : List (List ℕ) → List ℕ
+all_bytes [] = []
+all_bytes (bytes ∷ more) = bytes ++ all_bytes more
+
+onto_first-bytes : (b : ℕ) (texts : List (List ℕ)) → all_bytes (onto_first b texts) ≡ b ∷ all_bytes texts
+onto_first-bytes b [] = refl
+onto_first-bytes b (text ∷ texts) = refl
+
+texts-bytes : (text : List ℕ) → all_bytes (raw_texts text) ≡ text
+texts-bytes [] = refl
+texts-bytes (b ∷ bs) = by (texts-bytes bs) ((b == 10) && not (begins_blank bs)) refl
+  where
+    by : all_bytes (raw_texts bs) ≡ bs → (ends : Bool) → ((b == 10) && not (begins_blank bs)) ≡ ends → all_bytes (raw_texts (b ∷ bs)) ≡ b ∷ bs
+    by more true e = rw e (ap (λ (t : List ℕ). b ∷ t) more)
+    by more false e = rw e (onto_first-bytes b (raw_texts bs) ∙ ap (λ (t : List ℕ). b ∷ t) more)
+
+raws-bytes : (number : ℕ) (texts : List (List ℕ)) → bytes_of (raw_lines_from number texts) ≡ all_bytes texts
+raws-bytes number [] = refl
+raws-bytes number (bytes ∷ more) = ap (λ (t : List ℕ). bytes ++ t) (raws-bytes (number + length (physical_lines bytes)) more)
+
+pub all-bytes : (number : ℕ) (text : List ℕ) → bytes_of (raw_lines_at number text) ≡ text
+all-bytes number text = raws-bytes number (raw_texts text) ∙ texts-bytes text
+
+-- ---- one line
+
+-- the raw line of a cut is that of what stands before the rest
+pub front-part : (number : ℕ) (text : List ℕ) (line : Line) (after : List ℕ) (next : ℕ) (cut : IsCut number text line after next)
+    → before text after ≡ cut.one.part
+front-part number text line after next cut = part-before text cut.one.part after cut.one.parts.joined
+
+raw-line : (number : ℕ) (text : List ℕ) (line : Line) (after : List ℕ) (next : ℕ) → IsCut number text line after next
+    → (raw_line number (before text after)).line ≡ line
+raw-line number text line after next cut =
+    ap (λ (t : List ℕ). (raw_line number t).line) (front-part number text line after next cut) ∙ cut-line number text line after next cut
+
+first-raw : (number : ℕ) (text : List ℕ) (line : Line) (after : List ℕ) (next : ℕ) → IsCut number text line after next
+    → raw_lines_at number text ≡ raw_line number (before text after) ∷ raw_lines_at next after
+first-raw number text line after next cut =
+    raw-first number text line after next cut
+    ∙ ap (λ (t : List ℕ). raw_line number t ∷ raw_lines_at next after) (sym (front-part number text line after next cut))
+
+-- a text that is another is written in its place
+pub own-put : {A E : Type 0} (r : Result A E) (old new text bytes written line : List ℕ) (blanks : ℕ) → written ≡ line
+    → OnOk r (new ≡ old ++ rewritten written text bytes blanks) → OnOk r (new ≡ old ++ rewritten line text bytes blanks)
+own-put r old new text bytes written line blanks e h = rw e at h
+
+module _ (local : ℤ → LocalTime) (is_instance : Bool) where
+  own-by : (raw : RawLine) (line : Line) (bytes : List ℕ) (blanks : ℕ) → raw.line ≡ line → raw.bytes ≡ bytes → length (physical_lines raw.bytes) - 1 ≡ blanks
+      → local_raw local is_instance true raw ≡ rewritten (local_line local is_instance line.text) line.text bytes blanks
+  own-by raw line bytes blanks l b n = rw (n, l, b) refl
+
+  -- the event's own line
+  pub own-raw : (number : ℕ) (text : List ℕ) (line : Line) (after : List ℕ) (next : ℕ) → IsCut number text line after next
+      → local_raw local is_instance true (raw_line number (before text after))
+      ≡ rewritten (local_line local is_instance line.text) line.text (before text after) (next - number - 1)
+  own-raw number text line after next cut =
+      let lines : length (physical_lines (before text after)) ≡ length (physical_lines cut.one.part) =
+      ap (λ (t : List ℕ). length (physical_lines t)) (front-part number text line after next cut) in
+      own-by (raw_line number (before text after)) line (before text after) (next - number - 1) (raw-line number text line after next cut) refl
+      (omega (arith, lines, cut.one.counted))
+
+  -- it is written
+  pub cut-put : {A E : Type 0} (r : Result A E) (number : ℕ) (text : List ℕ) (line : Line) (after : List ℕ) (next : ℕ) → IsCut number text line after next
+      → (old new bytes : List ℕ) (blanks : ℕ) → bytes ≡ before text after → blanks ≡ next - number - 1
+      → OnOk r (new ≡ old ++ rewritten (local_line local is_instance line.text) line.text bytes blanks)
+      → OnOk r (new ≡ old ++ local_raw local is_instance true (raw_line number (before text after)))
+  cut-put (Ok x) number text line after next cut old new bytes blanks b n h =
+      h ∙ ap (λ (t : List ℕ). old ++ t) (rw (b, n) refl ∙ sym (own-raw number text line after next cut))
+  cut-put (Err e) number text line after next cut old new bytes blanks b n h = tt
+
+  -- ---- one line more
+
+  lines-more : (names after_names : List (List ℕ)) (rest after : Piece) (line : Line) → IsCut rest.first rest.text.now line after.text.now after.first
+      → open_after names line ≡ Ok after_names
+      → local_lines local is_instance names (raw_lines_in rest)
+      ≡ local_raw local is_instance (is_in_event names && is_in_event after_names) (raw_line rest.first (before rest.text.now after.text.now))
+      ++ local_lines local is_instance after_names (raw_lines_in after)
+  lines-more names after_names rest after line cut opened =
+      let raw = raw_line rest.first (before rest.text.now after.text.now) in
+      let same : open_after names raw.line ≡ Ok after_names =
+      ap (open_after names) (raw-line rest.first rest.text.now line after.text.now after.first cut) ∙ opened in
+      ap (local_lines local is_instance names) (first-raw rest.first rest.text.now line after.text.now after.first cut)
+      ∙ ap (λ (r : Result (List (List ℕ)) Refusal). local_step local is_instance (is_in_event names) raw (raw_lines_in after) r
+      (λ now. local_lines local is_instance now (raw_lines_in after))) same
+
+  pub event-more : (names after_names : List (List ℕ)) (rest after : Piece) (line : Line) (is_own : Bool) (old new all : List ℕ)
+      → IsCut rest.first rest.text.now line after.text.now after.first → open_after names line ≡ Ok after_names
+      → is_own ≡ (is_in_event names && is_in_event after_names)
+      → new ≡ old ++ local_raw local is_instance is_own (raw_line rest.first (before rest.text.now after.text.now))
+      → old ++ local_lines local is_instance names (raw_lines_in rest) ≡ all
+      → new ++ local_lines local is_instance after_names (raw_lines_in after) ≡ all
+  event-more names after_names rest after line is_own old new all cut opened own put so_far =
+      let raw = raw_line rest.first (before rest.text.now after.text.now) in
+      ap (λ (t : List ℕ). t ++ local_lines local is_instance after_names (raw_lines_in after)) put
+      ∙ append_assoc old (local_raw local is_instance is_own raw) (local_lines local is_instance after_names (raw_lines_in after))
+      ∙ ap (λ (b : Bool). old ++ (local_raw local is_instance b raw ++ local_lines local is_instance after_names (raw_lines_in after))) own
+      ∙ ap (λ (t : List ℕ). old ++ t) (sym (lines-more names after_names rest after line cut opened)) ∙ so_far
+
+  -- behind a fault all stays
+  pub event-fault : (names : List (List ℕ)) (rest after : Piece) (line : Line) (refusal : Refusal) (old new all : List ℕ)
+      → IsCut rest.first rest.text.now line after.text.now after.first → open_after names line ≡ Err refusal
+      → new ≡ old ++ rest.text.now → old ++ local_lines local is_instance names (raw_lines_in rest) ≡ all → new ≡ all
+  event-fault names rest after line refusal old new all cut opened put so_far =
+      let raw = raw_line rest.first (before rest.text.now after.text.now) in
+      let first = first-raw rest.first rest.text.now line after.text.now after.first cut in
+      let same : open_after names raw.line ≡ Err refusal =
+      ap (open_after names) (raw-line rest.first rest.text.now line after.text.now after.first cut) ∙ opened in
+      let stays : local_lines local is_instance names (raw_lines_in rest) ≡ rest.text.now =
+      ap (local_lines local is_instance names) first
+      ∙ ap (λ (r : Result (List (List ℕ)) Refusal). local_step local is_instance (is_in_event names) raw (raw_lines_in after) r
+      (λ now. local_lines local is_instance now (raw_lines_in after))) same
+      ∙ ap bytes_of (sym first) ∙ all-bytes rest.first rest.text.now in
+      put ∙ ap (λ (t : List ℕ). old ++ t) (sym stays) ∙ so_far
+
+  -- nothing is left
+  pub event-done : (names : List (List ℕ)) (rest : Piece) (old all : List ℕ) → rest.text.now ≡ []
+      → old ++ local_lines local is_instance names (raw_lines_in rest) ≡ all → old ≡ all
+  event-done names rest old all none so_far =
+      sym (append-nil old) ∙ ap (λ (t : List ℕ). old ++ local_lines local is_instance names (raw_lines_at rest.first t)) (sym none) ∙ so_far

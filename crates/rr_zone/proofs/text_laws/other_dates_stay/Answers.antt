@@ -1,0 +1,5 @@
+use Rattle.rr_zone.proofs.StayLemmas.{other_dates_stay as law}
+use Rattle.rr_zone.proofs.text_laws.other_dates_stay.Goals as goal
+
+pub returns : goal.returns
+returns c = law

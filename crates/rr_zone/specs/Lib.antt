@@ -1,0 +1,17 @@
+pub mod Clocks
+pub mod Events
+pub mod Known
+pub mod Lines
+pub mod Local
+pub mod Observances
+pub mod Offsets
+pub mod Onsets
+pub mod Parts
+pub mod Rewritten
+pub mod Series
+pub mod Tables
+pub mod TextLaws
+pub mod Unread
+pub mod Values
+pub mod ZoneLaws
+pub mod Zones
