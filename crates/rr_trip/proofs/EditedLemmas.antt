@@ -1,7 +1,7 @@
 -- The edited series of a key is valid.
 use Rattle.std.proofs.Common.{◌≡◌, ℕ, ◌+◌, ◌≤◌, Bool, true, false, if◌then◌else◌, List, [], ◌∷◌, length, Option, None, Some, Ok, Err}
 use Rattle.std.proofs.Common.{refl, subst, arith, ℤ, pos}
-use Rattle.std.specs.Prelude.{All, int_lt, nat_lt, ◌||◌}
+use Rattle.std.specs.Prelude.{All, int_lt, nat_lt, not, ◌&&◌, ◌||◌}
 use Rattle.std.specs.List.{list_any}
 use Rattle.std.specs.Ordering.{int_eq}
 use Rattle.std.proofs.lemmas.Bool.Decides.{nat_tests}
@@ -13,11 +13,12 @@ use Rattle.rr_model.specs.Rule.Validity.{is_absent}
 use Rattle.rr_model.specs.Series.Validity.{IsValidSeries}
 use Rattle.rr_model.specs.Text.Calendars.{calendar_scan, rrule_language, rule_beside, series_of_event}
 use Rattle.rr_model.specs.Text.Passes.{date_beside, date_value, passes}
+use Rattle.rr_model.specs.Text.Rules.{has_time}
 use Rattle.rr_model.specs.Text.RuleValues.{◌>>=◌}
 use Rattle.rr_model.specs.declared.kind.Kind.{Kind}
 use Rattle.rr_model.specs.declared.limits.TheConstants.{MAX_DATES}
 use Rattle.rr_model.specs.declared.refusal.Refusal.{Refusal}
-use Rattle.rr_model.specs.declared.refusal.Refusal.TheVariants.{TooManyParts}
+use Rattle.rr_model.specs.declared.refusal.Refusal.TheVariants.{TooManyParts, UtcMoment}
 use Rattle.rr_model.specs.declared.rule.Series.{Series}
 use Rattle.rr_model.specs.declared.stamp.Stamp.{Stamp}
 use Rattle.rr_model.specs.declared.used.Scan.{Scan}
@@ -27,7 +28,7 @@ use Rattle.rr_model.proofs.YearLemmas.{four_digit_year}
 use Rattle.rr_ical.proofs.BesideLemmas.{date_beside-in_years, date_value-stamp}
 use Rattle.rr_rrule.proofs.BesideLemmas.{scan-valid}
 use Rattle.rr_text.proofs.StepLemmas.{and_then_ok, step_keeps}
-use Rattle.rr_trip.specs.Edited.{◌>=>◌, Shifts, at_event, common_start, edited_alone, edited_by, edited_event, edited_series, edited_with_series, first_number}
+use Rattle.rr_trip.specs.Edited.{◌>=>◌, Shifts, at_event, common_start, edited_alone, edited_by, edited_event, edited_series, edited_with_series, first_number, instance_beside}
 use Rattle.rr_trip.specs.Edited.{key_in_turn, moment_of, no_names, no_shifts, series_of_starts, shifts_of, stamp_on, start_beside, start_line, start_of, start_on}
 use Rattle.rr_trip.specs.Edited.{starts_of, unless_at_fault, values_outside, with_instance, with_instance_by, with_moment, with_name, with_shifts, with_start, with_start_at}
 use Rattle.rr_trip.specs.Edited.{with_values, within_dates}
@@ -45,10 +46,18 @@ record AreInYears (kind : Kind) (shifts : Shifts) : Type 0 where
   starts : All (IsInYears kind) shifts.starts
 
 module _ (offset : Option ℤ) (start : Stamp) where
-  beside-in_years : (line : ℕ) (text : List ℕ) (at : ℤ) → date_value line text >>= date_beside offset start line ≡ Ok at → IsInYears start.kind at
+  -- an instance that is not refused stands beside the start as a date of it does
+  is_beside : (line : ℕ) (stamp : Stamp) (at : ℤ) → instance_beside offset start line stamp ≡ Ok at → date_beside offset start line stamp ≡ Ok at
+  is_beside line stamp at h = by (has_time stamp.kind && (start.utc && not stamp.utc)) h
+    where
+      by : (b : Bool) → (if b then Err UtcMoment else date_beside offset start line stamp) ≡ Ok at → date_beside offset start line stamp ≡ Ok at
+      by true e = absurd (cc)
+      by false e = e
+
+  beside-in_years : (line : ℕ) (text : List ℕ) (at : ℤ) → date_value line text >>= instance_beside offset start line ≡ Ok at → IsInYears start.kind at
   beside-in_years line text at h =
-      let value = and_then_ok (date_value line text) (date_beside offset start line) at h in
-      date_beside-in_years offset start line value.0 at (date_value-stamp line text value.0 value.1) value.2
+      let value = and_then_ok (date_value line text) (instance_beside offset start line) at h in
+      date_beside-in_years offset start line value.0 at (date_value-stamp line text value.0 value.1) (is_beside line value.0 at value.2)
 
   start_on-in_years : (line : Option UsedLine) (at : ℤ) → start_on offset start line ≡ Ok at → IsInYears start.kind at
   start_on-in_years None at h = absurd (cc)

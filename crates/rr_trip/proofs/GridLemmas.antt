@@ -1,7 +1,17 @@
--- One day more of a painted month.
+-- One cell and one day more of a painted month.
 use Rattle.std.proofs.Common.{◌≡◌, ℕ, zero, suc, ◌+◌, ◌-◌, ◌<◌, ℤ, pos, ◌+ℤ◌, List, [], ◌∷◌, ◌++◌, length, refl, ap, sym, ◌∙◌, append_assoc, append-nil, add-one, subst, arith}
+use Rattle.std.specs.Prelude.{Result, Ok, Err}
+use Rattle.std.specs.Result.{OnOk}
 use Rattle.rr_model.specs.declared.sketch.Sketch.{Sketch}
 use Rattle.rr_trip.specs.Grid.{Grows, HasMonth, HasMonths, IsPictureOf, cell_text, cells_text, first_of_month, month_after, times_of_day, times_or, usual_times}
+
+-- a row and then the sign of a day are put
+pub cell_put : {T E : Type 0} (r : Result T E) (next put out row : List ℕ) (said sign : ℕ) → put ≡ out ++ row → said ≡ sign
+    → OnOk r (next ≡ put ++ 32 ∷ 32 ∷ said ∷ []) → OnOk r (next ≡ out ++ (row ++ 32 ∷ 32 ∷ sign ∷ []))
+cell_put (Ok x) next put out row said sign e s h =
+    h ∙ ap (λ (xs : List ℕ). xs ++ 32 ∷ 32 ∷ said ∷ []) e ∙ append_assoc out row (32 ∷ 32 ∷ said ∷ [])
+    ∙ ap (λ (n : ℕ). out ++ (row ++ 32 ∷ 32 ∷ n ∷ [])) s
+cell_put (Err x) next put out row said sign e s h = tt
 
 pub one_painted : (a b : Sketch) (first day : ℤ) (n : ℕ) (old out next : List ℕ) → day ≡ first +ℤ pos n → out ≡ old ++ cells_text a b first n
     → next ≡ out ++ cell_text a b day → next ≡ old ++ cells_text a b first (n + 1)

@@ -1,5 +1,4 @@
 mod InstanceLemmas
-mod ParameterLemmas
 mod FullLemmas
 mod KeyStepLemmas
 mod EditLemmas

@@ -1,6 +1,6 @@
 -- One part more of a printed text.
-use Rattle.std.proofs.Common.{◌≡◌, ℕ, ◌+◌, ◌<◌, List, ◌∷◌, ◌++◌, length, get_or, drop, sym, ap, ◌∙◌, append_assoc}
-use Rattle.std.proofs.lemmas.List.{drop_more}
+use Rattle.std.proofs.Common.{◌≡◌, ℕ, ◌+◌, ◌<◌, ◌≤◌, List, [], ◌∷◌, ◌++◌, length, get_or, drop, sym, ap, ◌∙◌, append_assoc}
+use Rattle.std.proofs.lemmas.List.{append-nil, at_drop_all, drop_more}
 use Rattle.std.specs.Prelude.{Result, Ok, Err}
 use Rattle.std.specs.Result.{OnOk}
 
@@ -18,3 +18,9 @@ pub put_twice : {T E : Type 0} (r : Result T E) (next out first second : List �
     → OnOk r (next ≡ out ++ (first ++ second))
 put_twice (Ok x) next out first second h = h ∙ append_assoc out first second
 put_twice (Err e) next out first second h = tt
+
+-- nothing is left to print
+pub all_printed : {X Y : Type 0} (whole : List X → List Y) (out all : List Y) (xs : List X) (i : ℕ) → whole [] ≡ [] → length xs ≤ i
+    → out ++ whole (drop i xs) ≡ all → out ≡ all
+all_printed whole out all xs i none end so_far =
+    sym (append-nil out) ∙ ap (λ ys. out ++ ys) (sym none) ∙ sym (at_drop_all (λ ys. out ++ whole ys) xs i end) ∙ so_far

@@ -1,5 +1,5 @@
 -- The lines of sorted entries are a report of both calendars.
-use Rattle.std.proofs.Common.{◌≡◌, ℕ, ◌+◌, ◌-◌, ◌≤◌, Bool, true, false, append_assoc, cond, length-drop, ℤ, List, [], ◌∷◌, ◌++◌, length, get_or, drop, map, Option, sym, take, refl, ap, ◌∙◌, subst, arith}
+use Rattle.std.proofs.Common.{◌≡◌, ℕ, ◌+◌, ◌-◌, ◌≤◌, zero-add, add-zero, add_assoc, Bool, true, false, append_assoc, cond, length-drop, ℤ, List, [], ◌∷◌, ◌++◌, length, get_or, drop, map, Option, sym, take, refl, ap, ◌∙◌, subst, arith}
 use Rattle.std.specs.Cmp.{IsTotalOrder, nat_cmp_total, tied_itself}
 use Rattle.std.specs.Cmp.Lexicographic.{nat_list_cmp_total}
 use Rattle.std.specs.List.{All, Contains, filter, prefix_len, take_while}
@@ -19,7 +19,7 @@ use Rattle.rr_events.specs.declared.find.Piece.{Piece}
 use Rattle.rr_trip.specs.Entries.{IsNumbered, IsSortedOf, entries_of, entry_of, events_in, has_key, is_of_a}
 use Rattle.rr_trip.specs.Event.{event_of}
 use Rattle.rr_trip.specs.Keys.{is_same_key, key_cmp, key_of}
-use Rattle.rr_trip.specs.Report.{AreLinesOf, IsLineOf, IsReport, IsRunAt, after_a, events_at, front_of_a, keys_of}
+use Rattle.rr_trip.specs.Report.{AreLinesOf, IsLineOf, IsReport, IsRunAt, IsRunCount, after_a, events_at, front_of_a, keys_of}
 use Rattle.rr_trip.specs.Said.{IsSaid}
 use Rattle.rr_trip.specs.declared.entry.Entry.{Entry}
 use Rattle.rr_trip.specs.declared.key.Key.{Key}
@@ -137,6 +137,34 @@ pub IsUpTo-end : (offset : Option ℤ) (entries : List Entry) (lines : List Repo
     → drop start entries ≡ [] → AreLinesOf offset entries lines
 IsUpTo-end offset entries lines start so_far none =
     subst (AreLinesOf offset entries) (append-nil lines) (so_far.joins [] (subst (λ es. AreLinesOf offset es []) (sym none) AreLinesOf.none))
+
+-- as many runs are counted as stand before this place
+pub record IsCountedTo (entries : List Entry) (count start : ℕ) : Type 0 where
+  pub joins : (more : ℕ) → IsRunCount (drop start entries) more → IsRunCount entries (count + more)
+  pub few : count ≤ start
+  pub within : start ≤ length entries
+
+pub IsCountedTo-start : (entries : List Entry) → IsCountedTo entries 0 0
+IsCountedTo-start entries = record {
+  joins = λ more is. subst (IsRunCount entries) (sym (zero-add more)) is;
+  few = omega arith;
+  within = omega arith;
+}
+
+pub IsCountedTo-next : (entries : List Entry) (count start : ℕ) (first : Entry) (run : List Entry) → IsRunAt (drop start entries) first run
+    → IsCountedTo entries count start → IsCountedTo entries (count + 1) (start + length run)
+IsCountedTo-next entries count start first run at so_far =
+    let long = run_length (drop start entries) first run at in record {
+      joins = λ more is. subst (IsRunCount entries) (sym (add_assoc count 1 more))
+          (so_far.joins (1 + more) (IsRunCount.next (drop start entries) run first more at
+          (subst (λ es. IsRunCount es more) (sym (drop-drop (length run) start entries)) is)));
+      few = omega (arith, so_far.few, long);
+      within = omega (arith, so_far.within, long, length-drop start entries);
+    }
+
+pub IsCountedTo-end : (entries : List Entry) (count start : ℕ) → IsCountedTo entries count start → drop start entries ≡ [] → IsRunCount entries count
+IsCountedTo-end entries count start so_far none =
+    subst (IsRunCount entries) (add-zero count) (so_far.joins 0 (subst (λ es. IsRunCount es 0) (sym none) IsRunCount.none))
 
 pub run_numbered : (entries : List Entry) (start : ℕ) (first : Entry) (run : List Entry) → IsRunAt (drop start entries) first run
     → All IsNumbered entries → All IsNumbered run

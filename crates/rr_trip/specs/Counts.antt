@@ -1,11 +1,13 @@
 -- How many keys there are, and of how many each is said.
-use Rattle.std.specs.Prelude.{ℕ, Bool, true, false, ◌||◌, nat_lt, if◌then◌else◌, List, length, count_by}
+use Rattle.std.specs.Prelude.{ℕ, Bool, true, false, not, ◌||◌, nat_lt, if◌then◌else◌, List, length, count_by}
 use Rattle.rr_model.specs.declared.refusal.Refusal.TheVariants.{UtcMoment}
 use Rattle.rr_model.specs.declared.verdict.Side.{Side}
 use Rattle.rr_model.specs.declared.verdict.Side.TheVariants.{A, B, Both}
 use Rattle.rr_model.specs.declared.verdict.Verdict.TheVariants.{Yes, No}
 use Rattle.rr_trip.specs.declared.gather.KeyRefusal.{KeyRefusal}
 use Rattle.rr_trip.specs.declared.gather.KeyRefusal.TheVariants as key_refusal
+use Rattle.rr_trip.specs.declared.report.Counted.{Counted}
+use Rattle.rr_trip.specs.declared.report.Counted.TheVariants as counted
 use Rattle.rr_trip.specs.declared.report.Counts.{Counts}
 use Rattle.rr_trip.specs.declared.report.ReportLine.{ReportLine}
 use Rattle.rr_trip.specs.declared.report.Status.{Status}
@@ -57,6 +59,21 @@ is_in_utc (Only side) = false
 is_in_utc (Refused side refusal) = is_utc refusal
 is_in_utc (Compared verdict one_zone) = false
 
+-- the zones of the key's events differ
+abbrev pub has_other_zone : Said → Bool
+has_other_zone (Only side) = false
+has_other_zone (Refused side refusal) = false
+has_other_zone (Compared verdict one_zone) = not one_zone
+
+-- a key is counted so
+abbrev pub is_counted : Counted → Said → Bool
+is_counted counted.Equal said = is_equal said
+is_counted counted.Differs said = differs said
+is_counted (counted.Only side) said = is_only side said
+is_counted counted.Refused said = is_refused said
+is_counted counted.OtherZone said = has_other_zone said
+is_counted counted.InUtc said = is_in_utc said
+
 -- how many lines of a report say what the test asks for
 abbrev pub count_said : (Said → Bool) → List ReportLine → ℕ
 count_said is lines = count_by (λ (line : ReportLine). is line.said) lines
@@ -70,6 +87,7 @@ counts_of lines = record {
   only_a = count_said (is_only A) lines;
   only_b = count_said (is_only B) lines;
   refused = count_said is_refused lines;
+  zone = count_said has_other_zone lines;
 }
 
 -- how a comparison with these counts ends

@@ -10,13 +10,14 @@ use Rattle.rr_model.specs.Text.Calendars.{calendar_scan}
 use Rattle.rr_model.specs.Text.Lists.{series_of_list}
 use Rattle.rr_model.specs.Text.Passes.{date_beside, date_value}
 use Rattle.rr_model.specs.Text.RuleValues.{◌>>=◌}
+use Rattle.rr_model.specs.Text.Rules.{has_time}
 use Rattle.rr_model.specs.declared.kind.Kind.{Kind}
 use Rattle.rr_model.specs.declared.kind.Kind.TheVariants.{Days, Moments}
 use Rattle.rr_model.specs.declared.limits.TheConstants.{MAX_DATES}
 use Rattle.rr_model.specs.declared.refusal.Fault.{Fault}
 use Rattle.rr_model.specs.declared.refusal.Fault.TheVariants as fault
 use Rattle.rr_model.specs.declared.refusal.Refusal.{Refusal}
-use Rattle.rr_model.specs.declared.refusal.Refusal.TheVariants.{NoStart, TooManyParts}
+use Rattle.rr_model.specs.declared.refusal.Refusal.TheVariants.{NoStart, TooManyParts, UtcMoment}
 use Rattle.rr_model.specs.declared.rule.Series.{Series}
 use Rattle.rr_model.specs.declared.stamp.Stamp.{Stamp}
 use Rattle.rr_model.specs.declared.used.LineName.{LineName}
@@ -119,14 +120,19 @@ abbrev pub stamp_on : Option UsedLine → Result Stamp Refusal
 stamp_on None = Err NoStart
 stamp_on (Some line) = date_value line.number line.value
 
+-- A date or a moment of an instance beside the start. Local time beside a start in UTC is refused, as UTC beside local time is.
+abbrev pub instance_beside : Option ℤ → Stamp → ℕ → Stamp → Result ℤ Refusal
+instance_beside offset start line stamp =
+    if has_time stamp.kind && (start.utc && not stamp.utc) then Err UtcMoment else date_beside offset start line stamp
+
 -- a date or a moment of a RECURRENCE-ID beside the start
 abbrev pub moment_of : Option ℤ → Stamp → Recurrence → Result ℤ Refusal
-moment_of offset start recurrence = date_value recurrence.line recurrence.value >>= date_beside offset start recurrence.line
+moment_of offset start recurrence = date_value recurrence.line recurrence.value >>= instance_beside offset start recurrence.line
 
 -- the start on a line beside the start of a series
 abbrev pub start_on : Option ℤ → Stamp → Option UsedLine → Result ℤ Refusal
 start_on offset start None = Err NoStart
-start_on offset start (Some line) = date_value line.number line.value >>= date_beside offset start line.number
+start_on offset start (Some line) = date_value line.number line.value >>= instance_beside offset start line.number
 
 -- the start of an instance, which the reader takes, beside the start of its series
 abbrev pub start_beside : Option ℤ → Stamp → Scan → Result ℤ Refusal

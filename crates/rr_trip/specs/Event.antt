@@ -1,5 +1,5 @@
 -- What an event states of itself as part of a calendar (RFC 5545, sections 3.6.1 and 3.8.4.4).
-use Rattle.std.specs.Prelude.{ℕ, Bool, true, false, ◌&&◌, List, [], codes, Option, Some, option_and_then, option_map}
+use Rattle.std.specs.Prelude.{ℕ, Bool, true, false, ◌&&◌, List, [], codes, Option, option_map}
 use Rattle.std.specs.List.{filter, list_any}
 use Rattle.std.specs.Option.{is_some}
 use Rattle.std.specs.Str.{str_eq_ignore_ascii_case}
@@ -12,15 +12,12 @@ use Rattle.rr_model.specs.declared.used.LineName.{LineName}
 use Rattle.rr_model.specs.declared.used.LineName.TheVariants.{Rrule, Rdate}
 use Rattle.rr_model.specs.declared.used.Scan.{Scan}
 use Rattle.rr_model.specs.declared.used.UsedLine.{UsedLine}
-use Rattle.rr_trip.specs.Keys.{first_line}
 use Rattle.rr_events.specs.Own.{first_named, first_value, own_lines, value_or_empty}
-use Rattle.rr_trip.specs.Parameters.{parameter_of}
+use Rattle.rr_events.specs.Parameters.{parameter_of}
+use Rattle.rr_trip.specs.Keys.{first_line}
+use Rattle.rr_trip.specs.Zones.{event_zones}
 use Rattle.rr_trip.specs.declared.event.Event.{Event}
 use Rattle.rr_trip.specs.declared.event.Recurrence.{Recurrence}
-
--- the TZID parameter of a line, the empty text where there is none
-abbrev pub zone_of : Option Line → List ℕ
-zone_of line = value_or_empty (option_and_then (λ (l : Line). parameter_of (codes "TZID") l.text) line)
 
 -- what a RECURRENCE-ID line states
 abbrev pub recurrence_on : Line → Recurrence
@@ -28,7 +25,6 @@ recurrence_on line = record {
   line = line.number;
   value = value_or_empty (value_of_line line.text);
   has_range = is_some (parameter_of (codes "RANGE") line.text);
-  zone = zone_of (Some line);
 }
 
 -- the RECURRENCE-ID among the lines of an event
@@ -74,7 +70,7 @@ event_by first scan own = record {
   scan = scan;
   recurrence = recurrence_of own;
   is_cancelled = is_cancelled own;
-  zone = zone_of (first_named (codes "DTSTART") own);
+  zones = event_zones (is_cancelled own) own;
 }
 
 -- what the lines of an event state; they are numbered as in the whole text

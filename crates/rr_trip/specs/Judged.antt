@@ -1,5 +1,5 @@
 -- The events of a key in one calendar, as days (RFC 5545, section 3.8.5).
-use Rattle.std.specs.Prelude.{◌≡◌, ℕ, if◌then◌else◌, ℤ, List, [], ◌∷◌, ◌++◌, Option, None, Some, Result, Ok, Err, ⊤}
+use Rattle.std.specs.Prelude.{◌≡◌, ℕ, ℤ, List, [], ◌∷◌, ◌++◌, Option, None, Some, Result, Ok, Err, ⊤}
 use Rattle.rr_days.specs.Sequence.{sketch}
 use Rattle.rr_fold.specs.Judged.{all_limits}
 use Rattle.rr_model.specs.Moment.Years.{OccurFromYearOne}
@@ -13,7 +13,6 @@ use Rattle.rr_model.specs.declared.rule.Series.{Series}
 use Rattle.rr_model.specs.declared.sketch.Sketch.{Sketch}
 use Rattle.rr_trip.specs.Edited.{KeyEvents, first_number, key_events, series_of_events}
 use Rattle.rr_trip.specs.declared.event.Event.{Event}
-use Rattle.rr_trip.specs.declared.event.Recurrence.{Recurrence}
 use Rattle.rr_trip.specs.declared.gather.KeyFault.{KeyFault}
 use Rattle.rr_trip.specs.declared.gather.KeyFault.TheVariants as key_fault
 use Rattle.rr_trip.specs.declared.gather.KeyRefusal.{KeyRefusal}
@@ -36,7 +35,7 @@ IsFaultOf series fault.NoMemory = ⊤
 
 -- the days of a key have its series and its zones, and are those of that series
 abbrev pub AreDaysOfKey : KeySeries → KeyDays → Type 0
-AreDaysOfKey key made = (made.series ≡ key.series) × (made.zones.items ≡ key.zones.items) × IsFoldOf made.series (sketch made.days)
+AreDaysOfKey key made = (made.series ≡ key.series) × (made.zones ≡ key.zones) × IsFoldOf made.series (sketch made.days)
 
 -- ---- the events of a key
 
@@ -83,34 +82,25 @@ IsFaultBy line series key_fault.NoMemory = ⊤
 
 -- ---- zones
 
--- the TZID parameters of an event by its RECURRENCE-ID: its own and that of its DTSTART, where it is not cancelled
-abbrev pub zones_by : Event → Option Recurrence → List (List ℕ)
-zones_by event None = event.zone ∷ []
-zones_by event (Some recurrence) = if event.is_cancelled then recurrence.zone ∷ [] else recurrence.zone ∷ event.zone ∷ []
-
--- the TZID parameters of an event
-abbrev pub zones_of : Event → List (List ℕ)
-zones_of event = zones_by event event.recurrence
-
--- the TZID parameters of a list of events
+-- the zones of a list of events
 abbrev pub zones_of_all : List Event → List (List ℕ)
 zones_of_all [] = []
-zones_of_all (event ∷ events) = zones_of event ++ zones_of_all events
+zones_of_all (event ∷ events) = event.zones ++ zones_of_all events
 
--- the TZID parameters of the series, where there is one
+-- the zones of the series, if there is one
 abbrev pub zones_of_series : Option Event → List (List ℕ)
 zones_of_series None = []
-zones_of_series (Some event) = zones_of event
+zones_of_series (Some event) = event.zones
 
--- the TZID parameters of the series and the instances
+-- the zones of the series and the instances
 abbrev pub zones_in : KeyEvents → List (List ℕ)
 zones_in all = zones_of_series all.series ++ zones_of_all all.instances
 
--- the TZID parameters of the events of a key, where these are not refused
+-- the zones of the events of a key, unless these are refused
 abbrev pub zones_by_events : Result KeyEvents KeyRefusal → List (List ℕ)
 zones_by_events (Ok all) = zones_in all
 zones_by_events (Err r) = []
 
--- the TZID parameters of the events of a key
+-- the zones of the events of a key
 abbrev pub key_zones : List Event → List (List ℕ)
 key_zones events = zones_by_events (key_events events)

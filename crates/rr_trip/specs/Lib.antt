@@ -1,5 +1,5 @@
-pub mod Parameters
 pub mod Keys
+pub mod Zones
 pub mod Event
 pub mod Entries
 pub mod Edited

@@ -8,7 +8,7 @@ use Rattle.rr_model.specs.declared.refusal.Refusal.TheVariants.{BadLine, BadMome
 use Rattle.rr_model.specs.declared.verdict.Side.{Side}
 use Rattle.rr_model.specs.declared.verdict.Verdict.{Verdict}
 use Rattle.rr_model.specs.declared.verdict.Verdict.TheVariants.{Yes, No}
-use Rattle.rr_trip.specs.Counts.{counts_of, is_equal}
+use Rattle.rr_trip.specs.Counts.{counts_of, has_other_zone, is_equal}
 use Rattle.rr_trip.specs.declared.file.FileRefusal.{FileRefusal}
 use Rattle.rr_trip.specs.declared.file.FileRefusal.TheVariants as file
 use Rattle.rr_trip.specs.declared.gather.KeyRefusal.{KeyRefusal}
@@ -97,7 +97,7 @@ abbrev pub verdict_text : List ℕ → Verdict → List ℕ
 verdict_text key Yes = codes "equal " ++ key
 verdict_text key (No kind at side) = codes "differs " ++ key ++ codes " no " ++ extended_text kind at ++ codes " " ++ side_text side
 
--- behind the line of a key whose zones differ
+-- what stands behind the line of a key: the mark of zones that differ
 abbrev pub zone_text : Bool → List ℕ
 zone_text true = []
 zone_text false = codes " zone"
@@ -108,9 +108,9 @@ said_text key (Only side) = codes "only " ++ side_text side ++ codes " " ++ key
 said_text key (Refused side r) = codes "refused " ++ key ++ codes " " ++ side_text side ++ codes " " ++ key_refusal_text r
 said_text key (Compared verdict one_zone) = verdict_text key verdict ++ zone_text one_zone
 
--- a line is printed where those of equal keys are left out
+-- a line is printed if those of equal keys in the same zones are left out
 abbrev pub is_difference : Said → Bool
-is_difference said = not (is_equal said)
+is_difference said = not (is_equal said) || has_other_zone said
 
 -- the line of a key, or nothing where it is left out
 abbrev pub line_text : Bool → ReportLine → List ℕ
@@ -126,7 +126,8 @@ lines_text only_differences (line ∷ lines) = line_text only_differences line +
 abbrev pub counts_text : Counts → List ℕ
 counts_text counts =
     codes "events " ++ decimal counts.events ++ codes " equal " ++ decimal counts.equal ++ codes " differs " ++ decimal counts.differs
-    ++ codes " only-A " ++ decimal counts.only_a ++ codes " only-B " ++ decimal counts.only_b ++ codes " refused " ++ decimal counts.refused ++ codes "\n"
+    ++ codes " only-A " ++ decimal counts.only_a ++ codes " only-B " ++ decimal counts.only_b ++ codes " refused " ++ decimal counts.refused
+    ++ codes " zone " ++ decimal counts.zone ++ codes "\n"
 
 -- The report as it is printed: the lines of the keys, and the counts of all.
 unfoldable pub report_text : Bool → List ReportLine → List ℕ

@@ -1,5 +1,5 @@
 -- What is said of each key of two calendars.
-use Rattle.std.specs.Prelude.{◌≡◌, ℕ, ℤ, All, List, [], ◌∷◌, ◌++◌, map, take_while, drop, length, Option, Result, Ok, Err, ⊤}
+use Rattle.std.specs.Prelude.{◌≡◌, ℕ, ◌+◌, ℤ, All, List, [], ◌∷◌, ◌++◌, map, take_while, drop, length, Option, Result, Ok, Err, ⊤}
 use Rattle.std.specs.List.{Contains, filter}
 use Rattle.rr_model.specs.Rising.{Rises}
 use Rattle.rr_model.specs.declared.line.Line.{Line}
@@ -76,6 +76,12 @@ pub record IsRunAt (entries : List Entry) (first : Entry) (run : List Entry) : T
   pub more : List Entry
   pub begins : entries ≡ first ∷ more
   pub run_is : run ≡ take_while (has_key first.key) entries
+
+-- entries have as many runs of one key
+pub data IsRunCount : List Entry → ℕ → Type 0 where
+  none : IsRunCount [] 0
+  next : (entries run : List Entry) (first : Entry) (count : ℕ) → IsRunAt entries first run → IsRunCount (drop (length run) entries) count
+      → IsRunCount entries (1 + count)
 
 -- the lines of entries, run by run of one key
 pub data AreLinesOf (offset : Option ℤ) : List Entry → List ReportLine → Type 0 where

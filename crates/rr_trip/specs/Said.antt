@@ -21,7 +21,7 @@ use Rattle.rr_trip.specs.declared.said.Said.{Said}
 use Rattle.rr_trip.specs.declared.said.Said.TheVariants.{Only, Refused, Compared}
 use Rattle.rr_text.specs.Printed.{IsPrintable}
 
--- the TZID parameters are all the same
+-- the zones are all the same
 abbrev pub have_one_zone : List (List ℕ) → Bool
 have_one_zone [] = true
 have_one_zone (zone ∷ zones) = list_all (bytes_eq zone) zones
@@ -72,7 +72,7 @@ pub record IsComparedWith (offset : Option ℤ) (a : Series) (b : List Event) (v
   pub second : IsKeySeries offset b series
   pub is_verdict : IsEqualVerdict (Occurs a) (Occurs series) verdict
 
--- What is said where A states a series with these TZID parameters: the refusal of the events of B, or the verdict, and whether the zones
+-- What is said where A states a series with these zones: the refusal of the events of B, or the verdict, and whether the zones
 -- are the same.
 abbrev pub IsSaidWith : Option ℤ → Series → List (List ℕ) → List Event → Said → Type 0
 IsSaidWith offset a zones b (Only side) = ⊥

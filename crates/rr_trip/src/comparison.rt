@@ -2,9 +2,9 @@
 ghost use Rattle.std.specs.Prelude.{◌≡◌, [], map, All, IfOk, MatchOption};
 ghost use Rattle.rr_events.specs.Finding.{lines_in};
 ghost use Rattle.rr_trip.specs.Entries.{IsNumbered, IsNumberedPiece};
-ghost use Rattle.rr_trip.specs.Report.{AnswersTrip, AreLinesOf, IsLineOf, IsReport, IsRunAt};
+ghost use Rattle.rr_trip.specs.Report.{AnswersTrip, AreLinesOf, IsLineOf, IsReport, IsRunAt, IsRunCount};
 
-use crate::entry::{Entry, count_keys, count_of_a, count_of_key, sorted_entries};
+use crate::entry::{Entry, count_of_a, count_of_key, sorted_entries};
 use crate::file::{TripFault, read_file};
 use crate::key::{Key, copy_key};
 use crate::report::{Report, ReportLine};
@@ -32,6 +32,19 @@ fn first_run<'a, 'b>(entries: &'b [Entry<'a>]) -> Option<Run<'a, 'b>>
         first,
         entries: &entries[..count],
     })
+}
+
+// How many keys sorted entries have.
+fn count_keys(entries: &[Entry]) -> usize
+    ensures { IsRunCount entries.now result }
+{
+    let mut count = 0;
+    let mut start = 0;
+    while let Some(run) = first_run(&entries[start..]) {
+        count += 1;
+        start += run.entries.len();
+    }
+    count
 }
 
 // What is said of a run of this key, whose entries of A come first.

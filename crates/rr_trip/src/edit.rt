@@ -4,7 +4,7 @@ ghost use Rattle.std.specs.List.{list_any};
 ghost use Rattle.std.specs.Ordering.{int_eq};
 ghost use Rattle.rr_model.specs.Answers.{Answers};
 ghost use Rattle.rr_model.specs.Moment.Years.{IsInYears};
-ghost use Rattle.rr_trip.specs.Edited.{AnswersKey, edited_event, edited_series, edited_with_series, is_start, minus_without_starts, moment_of, no_shifts, series_of_starts, shifts_of, stamp_on, start_beside, start_line, start_of, values_outside, with_instance, with_moment, with_shifts, with_start, with_start_at, with_values, within_dates};
+ghost use Rattle.rr_trip.specs.Edited.{AnswersKey, edited_event, edited_series, edited_with_series, instance_beside, is_start, minus_without_starts, moment_of, no_shifts, series_of_starts, shifts_of, stamp_on, start_beside, start_line, start_of, values_outside, with_instance, with_moment, with_shifts, with_start, with_start_at, with_values, within_dates};
 
 use crate::date_set::DateSet;
 use crate::event::{Event, Recurrence};
@@ -92,12 +92,22 @@ pub(crate) fn stamp_of(scan: &Scan) -> Result<Stamp, Refusal>
     }
 }
 
+// A date or moment of an instance beside the start; local time beside a start in UTC is refused.
+fn instance_beside(setting: Setting, line: u64, stamp: Stamp) -> Result<i64, Refusal>
+    ensures { result ≡ instance_beside setting.offset setting.start line stamp }
+{
+    if stamp.kind == Kind::Moments && setting.start.utc && !stamp.utc {
+        return Err(Refusal::UtcMoment);
+    }
+    date_beside(setting, line, stamp)
+}
+
 // The date or moment of a RECURRENCE-ID beside the start.
 fn moment_of(setting: Setting, recurrence: &Recurrence) -> Result<i64, Refusal>
     ensures { result ≡ moment_of setting.offset setting.start recurrence.now }
 {
     let stamp = date_value(recurrence.line, recurrence.value.as_slice())?;
-    date_beside(setting, recurrence.line, stamp)
+    instance_beside(setting, recurrence.line, stamp)
 }
 
 // The start of an instance beside the start of its series.
@@ -109,7 +119,7 @@ fn start_beside(alloc: Global, setting: Setting, scan: &Scan) -> Result<i64, Fau
         return Err(Fault::Refused(Refusal::NoStart));
     };
     let stamp = date_value(line.number, line.value.as_slice())?;
-    Ok(date_beside(setting, line.number, stamp)?)
+    Ok(instance_beside(setting, line.number, stamp)?)
 }
 
 // The start of an instance is put in, where it is not cancelled.

@@ -54,13 +54,6 @@ pub fn sorted_entries<'a>(
     Ok(entries)
 }
 
-/// How many keys sorted entries have.
-pub fn count_keys(entries: &[Entry]) -> usize {
-    entries
-        .chunk_by(|x, y| compare_keys(&x.key, &y.key).is_eq())
-        .count()
-}
-
 /// How many entries at the front have this key.
 pub fn count_of_key(key: &Key, entries: &[Entry]) -> usize
     ensures { result ≡ length (take_while (has_key key.now) entries.now) }

@@ -1,12 +1,12 @@
 // What an event states of itself as part of a calendar (RFC 5545, sections 3.6.1 and 3.8.4.4).
-ghost use Rattle.std.specs.Prelude.{◌≡◌, ◌<◌, ◌+◌, ◌^◌, length, map, IfOk, option_map};
+ghost use Rattle.std.specs.Prelude.{◌≡◌, ◌<◌, ◌+◌, ◌^◌, length, map, IfOk};
 ghost use Rattle.std.specs.List.{filter};
-ghost use Rattle.rr_trip.specs.Event.{event_of, has_rule_or_date, is_cancelled, is_component_line, is_rule_or_date, recurrence_of, recurrence_on, used_in, zone_of};
+ghost use Rattle.rr_trip.specs.Event.{event_of, has_rule_or_date, is_cancelled, is_component_line, is_rule_or_date, recurrence_of, recurrence_on, used_in};
 ghost use Rattle.rr_events.specs.Finding.{lines_in};
 
 use crate::key::first_line;
-use crate::parameter::parameter_of;
-use rr_events::{Piece, first_named, first_value, full_lines, own_lines};
+use crate::zone::{ZoneList, event_zones};
+use rr_events::{Piece, first_named, first_value, full_lines, own_lines, parameter_of};
 use rr_ical::{line_kind, scan_lines, value_of_line};
 use rr_model::{Bytes, Line, LineKind, LineList, LineName, NoMemory, Scan, UsedLine};
 use std::alloc::Global;
@@ -20,8 +20,6 @@ pub struct Recurrence {
     pub value: Bytes,
     /// Whether it has a RANGE parameter.
     pub has_range: bool,
-    /// Its TZID parameter without the quotes around it, empty where it has none.
-    pub zone: Bytes,
 }
 
 /// What an event of a calendar states of itself.
@@ -35,19 +33,8 @@ pub struct Event {
     pub recurrence: Option<Recurrence>,
     /// Whether its STATUS is CANCELLED.
     pub is_cancelled: bool,
-    /// The TZID parameter of its DTSTART without the quotes around it, empty where it has none.
-    pub zone: Bytes,
-}
-
-// The TZID parameter of a line.
-fn zone_of(alloc: Global, line: Option<&Line>) -> Result<Bytes, NoMemory>
-    ensures { IfOk result (λ zone. zone ≡ zone_of (option_map (λ l. l.now) line.entry)) }
-{
-    let Some(line) = line else {
-        return Ok(Bytes::new(alloc));
-    };
-    let zone = parameter_of(b"TZID", line.text.as_slice()).unwrap_or(b"");
-    Ok(Bytes::of(alloc, zone)?)
+    /// The zones in which its lines state their moments.
+    pub zones: ZoneList,
 }
 
 // What a RECURRENCE-ID line states.
@@ -60,7 +47,6 @@ fn recurrence_on(alloc: Global, line: &Line) -> Result<Recurrence, NoMemory>
         line: line.number,
         value: Bytes::of(alloc, value)?,
         has_range: parameter_of(b"RANGE", text).is_some(),
-        zone: zone_of(alloc, Some(line))?,
     })
 }
 
@@ -122,12 +108,13 @@ fn event_of(alloc: Global, lines: LineList) -> Result<Event, NoMemory>
     ensures { IfOk result (λ event. event ≡ event_of lines) }
 {
     let first = first_line(lines.as_slice());
-    let (recurrence, is_cancelled, zone) = {
+    let (recurrence, is_cancelled, zones) = {
         let own = own_lines(alloc, lines.as_slice())?;
+        let is_cancelled = is_cancelled(&own);
         (
             recurrence_of(alloc, &own)?,
-            is_cancelled(&own),
-            zone_of(alloc, first_named(b"DTSTART", &own))?,
+            is_cancelled,
+            event_zones(alloc, is_cancelled, &own)?,
         )
     };
     let is_unread = recurrence.is_some() && is_cancelled;
@@ -136,7 +123,7 @@ fn event_of(alloc: Global, lines: LineList) -> Result<Event, NoMemory>
         scan: used_in(alloc, is_unread, lines)?,
         recurrence,
         is_cancelled,
-        zone,
+        zones,
     })
 }
 

@@ -13,7 +13,7 @@ use std::alloc::Global;
 pub const MAX_FILE: usize = 67_108_864;
 
 /// Why a whole file is refused.
-#[derive(Clone, Copy, Debug, PartialEq, Eq)]
+#[derive(Clone, Copy)]
 pub enum FileRefusal {
     /// It has more than `MAX_FILE` bytes.
     TooLong,
@@ -25,7 +25,7 @@ pub enum FileRefusal {
 }
 
 /// What a call that compares two files answers in place of a value.
-#[derive(Clone, Copy, Debug, PartialEq, Eq)]
+#[derive(Clone, Copy)]
 pub enum TripFault {
     /// A file is refused.
     Refused {

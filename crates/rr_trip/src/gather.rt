@@ -10,7 +10,7 @@ use std::alloc::{AllocFailed, Global};
 use std::marker::Model;
 
 /// Why the events of a key are refused.
-#[derive(Clone, Copy, Debug, PartialEq, Eq)]
+#[derive(Clone, Copy)]
 pub enum KeyRefusal {
     /// By the reader or by a limit, with the number of the line of the event's BEGIN.
     Event {
@@ -30,7 +30,7 @@ pub enum KeyRefusal {
 }
 
 /// What a call that judges the events of a key answers in place of a value.
-#[derive(Clone, Copy, Debug, PartialEq, Eq)]
+#[derive(Clone, Copy)]
 pub enum KeyFault {
     /// The events are refused.
     Refused(KeyRefusal),

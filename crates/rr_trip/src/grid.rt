@@ -1,7 +1,7 @@
 // Three months of two sequences of days as they are painted for a person.
 ghost use Rattle.std.specs.Prelude.{◌≡◌, ◌≤ℤ◌, ◌+ℤ◌, ◌-ℤ◌, ◌++◌, pos, IfOk, OnOk};
-ghost use Rattle.rr_model.specs.Calendar.{IsDayWithin};
-ghost use Rattle.rr_trip.specs.Grid.{Grows, HasMonth, HasMonths, HasMonthsAfter, HasPicture, IsPainted, IsPictureOf, cell_text, cells_text, day_sign, first_of_month, month_after, month_length, sign_of, times_of_day, usual_times};
+ghost use Rattle.rr_model.specs.Calendar.{IsDayWithin, weekday_of};
+ghost use Rattle.rr_trip.specs.Grid.{Grows, HasMonth, HasMonths, HasMonthsAfter, HasPicture, IsPainted, IsPictureOf, cell_text, cells_text, day_sign, first_of_month, month_after, month_length, row_text, sign_of, times_of_day, usual_times};
 
 use crate::printing::push;
 use rr_cal::{date_of, days_in_month, weekday};
@@ -38,6 +38,15 @@ fn day_sign<A: DaySeq, B: DaySeq>(a: &A, b: &B, day: i64) -> u8
     sign_of(a.kind().is_same(b.kind()), a.at(day), b.at(day))
 }
 
+// Puts the end of a row before a Monday.
+fn push_row(out: &mut Vec<u8>, day: i64) -> Result<(), NoMemory>
+    requires { IsDayWithin 0 day }
+    ensures { OnOk result (out.new.items ≡ out.old.items ++ row_text (weekday_of day)) }
+{
+    let row: &[u8] = if weekday(day) == 0 { b"\n" } else { b"" };
+    push(out, row)
+}
+
 // Puts the cell of a day; a Monday begins a row.
 fn push_cell<A: DaySeq, B: DaySeq>(
     out: &mut Vec<u8>,
@@ -49,9 +58,7 @@ fn push_cell<A: DaySeq, B: DaySeq>(
     ensures { OnOk result (out.new.items
         ≡ out.old.items ++ cell_text (A.sketch a.now) (B.sketch b.now) day) }
 {
-    if weekday(day) == 0 {
-        push(out, b"\n")?;
-    }
+    push_row(out, day)?;
     push(out, &[b' ', b' ', day_sign(a, b, day)])
 }
 

@@ -2,7 +2,7 @@
 ghost use Rattle.std.specs.Prelude.{◌≡◌, ◌++◌, All, IfErr, IfOk, Ok, OnOk};
 ghost use Rattle.rr_model.specs.Series.Validity.{IsValidSeries};
 ghost use Rattle.rr_days.specs.Sequence.{sketch};
-ghost use Rattle.rr_trip.specs.Judged.{AreDaysOfKey, IsFaultBy, IsFaultOf, IsFoldOf, IsKeyFault, IsStated, first_of, key_zones, zones_in, zones_of, zones_of_all};
+ghost use Rattle.rr_trip.specs.Judged.{AreDaysOfKey, IsFaultBy, IsFaultOf, IsFoldOf, IsKeyFault, IsStated, first_of, key_zones, zones_in, zones_of_all};
 ghost use Rattle.rr_trip.specs.Edited.{series_of_events};
 ghost use Rattle.rr_trip.specs.Entries.{IsNumbered, events_in};
 
@@ -11,10 +11,11 @@ use crate::entry::Entry;
 use crate::event::Event;
 use crate::gather::{Gathered, KeyFault, at_event, gather};
 use crate::series::series_with_instances;
+use crate::zone::ZoneList;
 use rr_check::{Checked, admit, check};
 use rr_days::Folded;
 use rr_fold::fold;
-use rr_model::{Bytes, Fault, NoMemory, Series};
+use rr_model::{Fault, NoMemory, Series};
 use std::alloc::Global;
 
 // A series that no limit refuses, and its days.
@@ -44,8 +45,8 @@ fn days_of(alloc: Global, series: Series) -> Result<SeriesDays, Fault>
 pub struct KeySeries {
     /// Their series.
     pub series: Series,
-    /// The TZID parameters without the quotes around them, empty where there is none.
-    pub zones: Vec<Bytes>,
+    /// The zones in which they state their moments.
+    pub zones: ZoneList,
     /// The number of the line that a refusal by a limit is reported at.
     pub line: u64,
 }
@@ -57,41 +58,27 @@ pub struct KeyDays {
     pub series: Checked,
     /// The days that the series is folded into.
     pub days: Folded,
-    /// The TZID parameters without the quotes around them, empty where there is none.
-    pub zones: Vec<Bytes>,
+    /// The zones in which its events state their moments.
+    pub zones: ZoneList,
 }
 
-// Puts the TZID parameters of an event: that of its RECURRENCE-ID, and that of its DTSTART where it is read.
-fn put_zones(alloc: Global, zones: &mut Vec<Bytes>, event: &Event) -> Result<(), NoMemory>
-    ensures { OnOk result (zones.new.items ≡ zones.old.items ++ zones_of event.now) }
-{
-    if let Some(recurrence) = &event.recurrence {
-        zones.push(Bytes::of(alloc, recurrence.zone.as_slice())?)?;
-        if event.is_cancelled {
-            return Ok(());
-        }
-    }
-    zones.push(Bytes::of(alloc, event.zone.as_slice())?)?;
-    Ok(())
-}
-
-// Puts the TZID parameters of several events.
-fn put_all_zones(alloc: Global, zones: &mut Vec<Bytes>, events: &[Event]) -> Result<(), NoMemory>
-    ensures { OnOk result (zones.new.items ≡ zones.old.items ++ zones_of_all events.now) }
+// Puts the zones of several events.
+fn put_all_zones(alloc: Global, zones: &mut ZoneList, events: &[Event]) -> Result<(), NoMemory>
+    ensures { OnOk result (zones.new ≡ zones.old ++ zones_of_all events.now) }
 {
     for event in events {
-        put_zones(alloc, zones, event)?;
+        zones.put_all(alloc, event.zones.as_slice())?;
     }
     Ok(())
 }
 
-// The TZID parameters of the events of a key, those of its series first.
-fn zones_of(alloc: Global, events: &Gathered) -> Result<Vec<Bytes>, NoMemory>
-    ensures { IfOk result (λ zones. zones.items ≡ zones_in events.now) }
+// The zones of the events of a key, those of its series first.
+fn zones_of(alloc: Global, events: &Gathered) -> Result<ZoneList, NoMemory>
+    ensures { IfOk result (λ zones. zones ≡ zones_in events.now) }
 {
-    let mut zones = Vec::new(alloc);
+    let mut zones = ZoneList::new(alloc);
     if let Some(event) = events.series() {
-        put_zones(alloc, &mut zones, event)?;
+        zones.put_all(alloc, event.zones.as_slice())?;
     }
     put_all_zones(alloc, &mut zones, events.instances())?;
     Ok(zones)
@@ -116,7 +103,7 @@ pub fn key_series(
     requires { All IsNumbered entries.now }
     ensures accepted { IfOk result (λ key. IsStated offset (events_in entries.now)
         key.line key.series) }
-    ensures zones { IfOk result (λ key. key.zones.items ≡ key_zones (events_in entries.now)) }
+    ensures zones { IfOk result (λ key. key.zones ≡ key_zones (events_in entries.now)) }
     ensures refused { IfErr result (IsKeyFault offset (events_in entries.now)) }
 {
     let events = gather(alloc, entries)?;
@@ -151,7 +138,7 @@ pub fn key_days(alloc: Global, offset: Option<i32>, entries: &[Entry]) -> Result
     ensures states { IfOk result (λ key. series_of_events offset (events_in entries.now)
         ≡ Ok key.series) }
     ensures folded { IfOk result (λ key. IsFoldOf key.series (sketch key.days)) }
-    ensures zones { IfOk result (λ key. key.zones.items ≡ key_zones (events_in entries.now)) }
+    ensures zones { IfOk result (λ key. key.zones ≡ key_zones (events_in entries.now)) }
     ensures refused { IfErr result (IsKeyFault offset (events_in entries.now)) }
 {
     match key_series(alloc, offset, entries) {

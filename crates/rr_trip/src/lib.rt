@@ -13,7 +13,6 @@ mod grid;
 mod judge;
 mod key;
 mod laws;
-mod parameter;
 mod printing;
 mod report;
 mod said;
@@ -21,6 +20,7 @@ mod same;
 mod series;
 mod shown;
 mod watch;
+mod zone;
 
 pub use comparison::compare;
 pub use file::{FileRefusal, MAX_FILE, TripFault};

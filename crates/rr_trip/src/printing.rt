@@ -8,7 +8,7 @@ ghost use Rattle.rr_trip.specs.Said.{IsPrintableSaid};
 use crate::file::FileRefusal;
 use crate::gather::KeyRefusal;
 use crate::key::Key;
-use crate::report::{Counts, Report, ReportLine};
+use crate::report::{Counts, Report, ReportLine, has_other_zone, is_equal};
 use crate::said::Said;
 use rr_model::{NoMemory, Refusal, Side, Verdict};
 use rr_text::{push_extended, push_unsigned, side_text};
@@ -192,17 +192,11 @@ pub fn push_said(alloc: Global, out: &mut Vec<u8>, name: &[u8], said: Said) -> R
     }
 }
 
-// Whether a line is printed where those of equal keys are left out.
+// Whether a line is printed if those of equal keys in the same zones are left out.
 fn is_difference(said: Said) -> bool
     ensures { result ≡ is_difference said }
 {
-    !matches!(
-        said,
-        Said::Compared {
-            verdict: Verdict::Yes,
-            ..
-        }
-    )
+    !is_equal(said) || has_other_zone(said)
 }
 
 // The line of a key, or nothing where it is left out.
@@ -250,11 +244,12 @@ fn push_counts(out: &mut Vec<u8>, counts: Counts) -> Result<(), NoMemory>
     push_numbered(out, b" only-A ", counts.only_a as u64)?;
     push_numbered(out, b" only-B ", counts.only_b as u64)?;
     push_numbered(out, b" refused ", counts.refused as u64)?;
+    push_numbered(out, b" zone ", counts.zone as u64)?;
     push(out, b"\n")
 }
 
-/// The report as it is printed: a line for each key, or, with `only_differences`, for each that is not equal, and a last line
-/// with the counts of all.
+/// The report as it is printed: a line for each key, or, with `only_differences`, for each that is not equal or whose zones
+/// differ, and a last line with the counts of all.
 #[tactic(auto, unfolding(crate::specs::Printed::report_text))]
 pub fn print(alloc: Global, only_differences: bool, report: &Report) -> Result<Vec<u8>, NoMemory>
     requires { All (λ line. IsPrintableSaid line.said) report.now.lines.items }

@@ -1,6 +1,6 @@
 // What is said of each key of two calendars, and how many of each there are.
 ghost use Rattle.std.specs.Prelude.{◌≡◌};
-ghost use Rattle.rr_trip.specs.Counts.{count_said, counts_of, differs, is_equal, is_in_utc, is_only, is_refused, status_of};
+ghost use Rattle.rr_trip.specs.Counts.{count_said, counts_of, differs, has_other_zone, is_counted, is_equal, is_in_utc, is_only, is_refused, status_of};
 
 use crate::gather::KeyRefusal;
 use crate::key::Key;
@@ -24,7 +24,7 @@ pub struct Report {
 }
 
 /// How many keys there are, and of how many each is said.
-#[derive(Clone, Copy, Debug, PartialEq, Eq)]
+#[derive(Clone, Copy)]
 pub struct Counts {
     /// All keys.
     pub events: usize,
@@ -38,10 +38,12 @@ pub struct Counts {
     pub only_b: usize,
     /// Those that are refused.
     pub refused: usize,
+    /// Those that are compared and whose zones differ.
+    pub zone: usize,
 }
 
 /// How a comparison ends.
-#[derive(Clone, Copy, Debug, PartialEq, Eq)]
+#[derive(Clone, Copy)]
 pub enum Status {
     /// All keys are equal.
     Equal,
@@ -51,8 +53,8 @@ pub enum Status {
     Refused,
 }
 
-// Whether this is said of a key.
-fn is_equal(said: Said) -> bool
+/// Whether the events of a key have equal occurrences in both.
+pub(crate) fn is_equal(said: Said) -> bool
     ensures { result ≡ is_equal said }
 {
     matches!(
@@ -91,6 +93,19 @@ fn is_refused(said: Said) -> bool
     matches!(said, Said::Refused { .. })
 }
 
+/// Whether the zones of the events of a key differ.
+pub(crate) fn has_other_zone(said: Said) -> bool
+    ensures { result ≡ has_other_zone said }
+{
+    matches!(
+        said,
+        Said::Compared {
+            one_zone: false,
+            ..
+        }
+    )
+}
+
 /// Whether events of a key are refused for a moment in UTC beside local time, which no stated offset relates.
 pub fn is_in_utc(said: Said) -> bool
     ensures { result ≡ is_in_utc said }
@@ -107,16 +122,47 @@ pub fn is_in_utc(said: Said) -> bool
     )
 }
 
+// What is counted of the keys.
+#[derive(Clone, Copy)]
+enum Counted {
+    Equal,
+    Differs,
+    Only(Side),
+    Refused,
+    OtherZone,
+    InUtc,
+}
+
+// Whether a key is counted so.
+fn is_counted(counted: Counted, said: Said) -> bool
+    ensures { result ≡ is_counted counted said }
+{
+    match counted {
+        Counted::Equal => is_equal(said),
+        Counted::Differs => differs(said),
+        Counted::Only(side) => is_only(side, said),
+        Counted::Refused => is_refused(said),
+        Counted::OtherZone => has_other_zone(said),
+        Counted::InUtc => is_in_utc(said),
+    }
+}
+
+// How many keys are counted so.
+fn count_said(lines: &[ReportLine], counted: Counted) -> usize
+    ensures { result ≡ count_said (is_counted counted) lines.now }
+{
+    lines
+        .iter()
+        .filter(|line| is_counted(counted, line.said))
+        .count()
+}
+
 impl Report {
     /// How many keys are refused for a moment in UTC beside local time.
     pub fn in_utc_count(&self) -> usize
         ensures { result ≡ count_said is_in_utc self.now.lines.items }
     {
-        self.lines
-            .as_slice()
-            .iter()
-            .filter(|line| is_in_utc(line.said))
-            .count()
+        count_said(self.lines.as_slice(), Counted::InUtc)
     }
 
     /// How many keys there are, and of how many each is said.
@@ -126,17 +172,12 @@ impl Report {
         let lines = self.lines.as_slice();
         Counts {
             events: lines.len(),
-            equal: lines.iter().filter(|line| is_equal(line.said)).count(),
-            differs: lines.iter().filter(|line| differs(line.said)).count(),
-            only_a: lines
-                .iter()
-                .filter(|line| is_only(Side::A, line.said))
-                .count(),
-            only_b: lines
-                .iter()
-                .filter(|line| is_only(Side::B, line.said))
-                .count(),
-            refused: lines.iter().filter(|line| is_refused(line.said)).count(),
+            equal: count_said(lines, Counted::Equal),
+            differs: count_said(lines, Counted::Differs),
+            only_a: count_said(lines, Counted::Only(Side::A)),
+            only_b: count_said(lines, Counted::Only(Side::B)),
+            refused: count_said(lines, Counted::Refused),
+            zone: count_said(lines, Counted::OtherZone),
         }
     }
 }

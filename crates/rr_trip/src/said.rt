@@ -17,7 +17,7 @@ use rr_model::{Bytes, NoMemory, Side, Verdict};
 use std::alloc::Global;
 
 /// What is said of a key.
-#[derive(Clone, Copy, Debug, PartialEq, Eq)]
+#[derive(Clone, Copy)]
 pub enum Said {
     /// Only this calendar has an event of the key.
     Only(Side),
@@ -32,7 +32,7 @@ pub enum Said {
     Compared {
         /// Whether they have equal occurrences, else the first that one of them alone has.
         verdict: Verdict,
-        /// Whether the TZID parameters of the key's events are all the same.
+        /// Whether the zones of the key's events are all the same: UTC, or TZID parameters.
         one_zone: bool,
     },
 }
@@ -50,7 +50,7 @@ fn are_zone(zone: &Bytes, zones: &[Bytes]) -> bool
     zones.iter().all(|other| is_zone(zone, other))
 }
 
-// Whether the TZID parameters of both calendars are all the same.
+// Whether the zones of both calendars are all the same.
 fn have_one_zone(a: &[Bytes], b: &[Bytes]) -> bool
     ensures { result ≡ have_one_zone (a.now ++ b.now) }
 {
@@ -74,11 +74,11 @@ fn refusal_on(side: Side, fault: KeyFault) -> Result<Said, NoMemory>
 // The verdict on both calendars.
 fn verdict_on(a: &KeyDays, b: &KeyDays) -> Said
     ensures { IsCompared (sketch a.now.days) (sketch b.now.days)
-        (have_one_zone (a.now.zones.items ++ b.now.zones.items)) result }
+        (have_one_zone (a.now.zones ++ b.now.zones)) result }
 {
     Said::Compared {
         verdict: equal(&a.days, &b.days),
-        one_zone: have_one_zone(&a.zones, &b.zones),
+        one_zone: have_one_zone(a.zones.as_slice(), b.zones.as_slice()),
     }
 }
 
@@ -87,7 +87,7 @@ fn said_by_days(alloc: Global, a: &KeyDays, b: KeySeries) -> Result<Said, NoMemo
     requires folded { IsFoldOf a.now.series (sketch a.now.days) }
     requires valid { IsValidSeries b.series }
     ensures said { IfOk result (IsSaidBeside a.now.series b.line b.series
-        (have_one_zone (a.now.zones.items ++ b.zones.items))) }
+        (have_one_zone (a.now.zones ++ b.zones))) }
     ensures printable { IfOk result IsPrintableSaid }
 {
     match days_of_key(alloc, b) {
@@ -101,13 +101,13 @@ fn said_beside(alloc: Global, a: &KeyDays, b: KeySeries) -> Result<Said, NoMemor
     requires folded { IsFoldOf a.now.series (sketch a.now.days) }
     requires valid { IsValidSeries b.series }
     ensures said { IfOk result (IsSaidBeside a.now.series b.line b.series
-        (have_one_zone (a.now.zones.items ++ b.zones.items))) }
+        (have_one_zone (a.now.zones ++ b.zones))) }
     ensures printable { IfOk result IsPrintableSaid }
 {
     if is_same_series(a.series.series(), &b.series) {
         return Ok(Said::Compared {
             verdict: Verdict::Yes,
-            one_zone: have_one_zone(&a.zones, &b.zones),
+            one_zone: have_one_zone(a.zones.as_slice(), b.zones.as_slice()),
         });
     }
     said_by_days(alloc, a, b)
@@ -117,8 +117,7 @@ fn said_beside(alloc: Global, a: &KeyDays, b: KeySeries) -> Result<Said, NoMemor
 fn said_with(alloc: Global, offset: Option<i32>, a: &KeyDays, b: &[Entry]) -> Result<Said, NoMemory>
     requires folded { IsFoldOf a.now.series (sketch a.now.days) }
     requires b { All IsNumbered b.now }
-    ensures said { IfOk result (IsSaidWith offset a.now.series a.now.zones.items
-        (events_in b.now)) }
+    ensures said { IfOk result (IsSaidWith offset a.now.series a.now.zones (events_in b.now)) }
     ensures printable { IfOk result IsPrintableSaid }
 {
     match key_series(alloc, offset, b) {

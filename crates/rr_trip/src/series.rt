@@ -10,8 +10,8 @@ use std::alloc::Global;
 /// The series of a key with its instances as dates.
 ///
 /// The refusal is that of the series' own event by the reader, then instance by instance, of its RECURRENCE-ID `BadMoment`,
-/// `MixedKinds` or `UtcMoment`, `TwoInstances`, and, where it is not cancelled, what the reader refuses and the same of its
-/// DTSTART; then `ExcludedRule`, and `TooManyParts` for more than `MAX_DATES` dates. A series that is cancelled has the
+/// `MixedKinds` or `UtcMoment` (UTC beside local time, or local time beside UTC), `TwoInstances`, and, where it is not
+/// cancelled, what the reader refuses and the same of its DTSTART; then `ExcludedRule`, and `TooManyParts` for more than `MAX_DATES` dates. A series that is cancelled has the
 /// starts of its instances alone.
 ///
 /// Instances without a series are their starts. The refusal is first that of a RECURRENCE-ID, `BadMoment` or, where it

@@ -50,4 +50,4 @@ returns-clause-accepted c =
 
 pub returns-clause-zones : goal.returns-clause-zones
 returns-clause-zones c =
-    zones_are c.args.offset (events_in c.args.entries.now) c.in_ok-events.events c.in_ok-events.ensures c.in_ok-zones.zones.items c.in_ok-zones.ensures
+    zones_are c.args.offset (events_in c.args.entries.now) c.in_ok-events.events c.in_ok-events.ensures c.in_ok-zones.zones c.in_ok-zones.ensures

@@ -3,4 +3,4 @@ use Rattle.rr_trip.specs.Judged.{zones_of_all}
 use Rattle.rr_trip.proofs.judge.put_all_zones.Given as goal
 
 abbrev pub invariant-loop-event : goal.invariant-loop-event
-invariant-loop-event l = l.zones.items ++ zones_of_all (drop l.event-index l.events) ≡ l.fn.zones.items ++ zones_of_all l.events
+invariant-loop-event l = l.zones ++ zones_of_all (drop l.event-index l.events) ≡ l.fn.zones ++ zones_of_all l.events

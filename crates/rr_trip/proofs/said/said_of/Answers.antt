@@ -31,7 +31,7 @@ said_with-requires-clause-folded c = c.in-Ok.ensures.folded
 pub returns-in-Ok-clause-said : goal.returns-in-Ok-clause-said
 returns-in-Ok-clause-said c =
     IfOk-weaker c.said_with.result _ _
-    (λ said h. both_said c.args.offset (events_in c.args.a.now) (events_in c.args.b.now) c.in-Ok.days.series c.in-Ok.days.zones.items said
+    (λ said h. both_said c.args.offset (events_in c.args.a.now) (events_in c.args.b.now) c.in-Ok.days.series c.in-Ok.days.zones said
     (some_events c.args.a.now (λ none. grind (arith, nat_tests))) (some_events c.args.b.now (λ none. grind (arith, nat_tests)))
     (record { states = c.in-Ok.ensures.states; unrefused = c.in-Ok.ensures.folded.unrefused }) c.in-Ok.ensures.zones h)
     c.said_with.ensures.said

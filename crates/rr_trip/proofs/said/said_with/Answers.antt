@@ -10,14 +10,14 @@ said_beside-requires c = record { folded = c.requires.folded; valid = c.in-Ok.en
 pub returns-in-Ok-clause-said : goal.returns-in-Ok-clause-said
 returns-in-Ok-clause-said c =
     IfOk-weaker c.said_beside.result _ _
-    (λ said h. said_of_stated c.args.offset c.args.a.now.series c.args.a.now.zones.items c.in-Ok.b.zones.items (events_in c.args.b.now) c.in-Ok.b.series
+    (λ said h. said_of_stated c.args.offset c.args.a.now.series c.args.a.now.zones c.in-Ok.b.zones (events_in c.args.b.now) c.in-Ok.b.series
     c.in-Ok.b.line said c.in-Ok.ensures.accepted c.in-Ok.ensures.zones h)
     c.said_beside.ensures.said
 
 pub returns-in-Err-clause-said : goal.returns-in-Err-clause-said
 returns-in-Err-clause-said c =
     IfOk-weaker c.refusal_on.result _ _
-    (λ x e. said_of_refused c.args.offset c.args.a.now.series c.args.a.now.zones.items (events_in c.args.b.now) c.in-Err.fault x c.in-Err.ensures.refused e)
+    (λ x e. said_of_refused c.args.offset c.args.a.now.series c.args.a.now.zones (events_in c.args.b.now) c.in-Err.fault x c.in-Err.ensures.refused e)
     c.refusal_on.ensures
 
 pub returns-in-Err-clause-printable : goal.returns-in-Err-clause-printable

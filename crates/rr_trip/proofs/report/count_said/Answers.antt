@@ -2,13 +2,13 @@ use Rattle.std.proofs.Common.{◌∙◌, rules, tests}
 use Rattle.std.proofs.lemmas.Iterator.{YieldsList-from_slice}
 use Rattle.std.proofs.lemmas.Iterator.Consumers.{YieldsList-from_filter, count_from_yields_List}
 use Rattle.std.proofs.lemmas.List.Sums.{length-filter}
-use Rattle.rr_trip.specs.Counts.{is_in_utc}
+use Rattle.rr_trip.specs.Counts.{is_counted}
 use Rattle.rr_trip.specs.declared.report.ReportLine.{ReportLine}
-use Rattle.rr_trip.proofs.report.Report.in_utc_count.Goals as goal
+use Rattle.rr_trip.proofs.report.count_said.Goals as goal
 
 pub returns : goal.returns
 returns c =
     count_from_yields_List c.filter.result _ c.count.ensures.ran
-    (YieldsList-from_filter _ (λ (line : ReportLine). is_in_utc line.said) (YieldsList-from_slice c.args.self.now.lines.items cc)
+    (YieldsList-from_filter _ (λ (line : ReportLine). is_counted c.args.counted line.said) (YieldsList-from_slice c.args.lines.now cc)
     c.filter.ensures.closure (λ x r q k. search (rules, tests)))
-    ∙ length-filter (λ (line : ReportLine). is_in_utc line.said) c.args.self.now.lines.items
+    ∙ length-filter (λ (line : ReportLine). is_counted c.args.counted line.said) c.args.lines.now
