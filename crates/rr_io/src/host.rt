@@ -1,5 +1,5 @@
 // Files, standard input and standard output.
-ghost use Rattle.std.specs.Prelude.{◌≡◌, ◌<◌, ◌≤◌, ◌^◌, []};
+ghost use Rattle.std.specs.Prelude.{◌≡◌, ◌<◌, ◌≤◌, ◌^◌, ◌-◌, [], length, option_map, slice_get};
 ghost use Rattle.rr_io.specs.Outside.{IsFrontIfTold, failed_after, faults_after};
 
 use crate::{FetchError, PutError, Sink, Source};
@@ -16,6 +16,8 @@ pub struct HostSource<R: Files + Input + Drop> {
     alloc: Global,
     rt: R,
     failed: Vec<String>,
+    // Why the last of them failed.
+    why: Option<ErrorKind>,
 }
 
 impl<R: Files + Input + Drop> Model for HostSource<R> {
@@ -26,11 +28,17 @@ impl<R: Files + Input + Drop> Model for HostSource<R> {
     ghost view = { λ s. map string_bytes s.failed.items };
 }
 
+// How many of the first bytes of a put are kept.
+const FRONT: usize = 64;
+
 /// The standard output of the system.
 #[derive(Drop)]
 pub struct HostSink<R: Print + Drop> {
     rt: R,
     faults: u64,
+    // The first bytes of the last put, `kept` of them.
+    front: [u8; FRONT],
+    kept: usize,
 }
 
 impl<R: Print + Drop> Model for HostSink<R> {
@@ -60,6 +68,17 @@ impl<R: Files + Input + Drop> HostSource<R> {
             alloc,
             rt,
             failed: Vec::new(alloc),
+            why: None,
+        }
+    }
+
+    /// The name whose fetch failed last, and why.
+    pub fn failure(&self) -> Option<(&str, Option<ErrorKind>)>
+        ensures { option_map (λ f. f.0.now) result ≡ slice_get self.now (length self.now - 1) }
+    {
+        match self.failed.last() {
+            None => None,
+            Some(name) => Some((name.as_str(), self.why)),
         }
     }
 
@@ -102,8 +121,9 @@ impl<R: Files + Input + Drop> Source for HostSource<R> {
         match self.read_name(alloc, name, limit) {
             Ok(bytes) => Ok(bytes),
             Err(error) if error.kind() == ErrorKind::OutOfMemory => Err(FetchError::NoMemory),
-            Err(_) => {
+            Err(error) => {
                 self.failed.push(noted)?;
+                self.why = Some(error.kind());
                 Err(FetchError::Failed)
             }
         }
@@ -115,7 +135,26 @@ impl<R: Print + Drop> HostSink<R> {
     pub fn new(rt: R) -> Self
         ensures { result ≡ 0 }
     {
-        HostSink { rt, faults: 0 }
+        HostSink {
+            rt,
+            faults: 0,
+            front: [0; FRONT],
+            kept: 0,
+        }
+    }
+
+    /// The first bytes of the last put, 64 at most.
+    pub fn front(&self) -> &[u8] {
+        &self.front[..self.kept.min(FRONT)]
+    }
+
+    // Keeps the first bytes of a put. The count stays.
+    fn keep_front(&mut self, bytes: &[u8])
+        ensures { self.new ≡ self.old }
+    {
+        let kept = bytes.len().min(FRONT);
+        self.front[..kept].copy_from_slice(&bytes[..kept]);
+        self.kept = kept;
     }
 }
 
@@ -130,6 +169,7 @@ impl<R: Print + Drop> Sink for HostSink<R> {
         ensures counts { self.new ≡ faults_after result self.old }
         ensures never_falls { self.old ≤ self.new }
     {
+        self.keep_front(bytes);
         // Goes on after a short write. A write that takes nothing of some bytes is an error.
         if io::writer(&self.rt).write_all(bytes).is_ok() {
             return Ok(());

@@ -1,0 +1,146 @@
+// What `rr-calendars` notes: which of its words is wrong, and what to do about an answer.
+ghost use Rattle.rr_notes.specs.Visible.{IsVisibleNote};
+
+use crate::visible::{shown, visible};
+use rr_text::offset_of;
+use std::alloc::{AllocError, Global};
+
+// Whether a word is an option with a word of its own behind it.
+fn takes_word(option: &str) -> bool {
+    option == "--offset" || option == "--show"
+}
+
+// Whether a text is an offset from UTC, as +01:00.
+fn is_offset(text: &str) -> bool {
+    match text.split_once(':') {
+        None => false,
+        Some((signed_hours, minutes)) => {
+            offset_of(signed_hours.as_bytes(), minutes.as_bytes()).is_some()
+        }
+    }
+}
+
+// What is wrong with the word behind an option.
+fn note_on_value(alloc: Global, option: &str, word: &str) -> Result<Option<String>, AllocError> {
+    if option == "--show" && word.is_empty() {
+        return Ok(Some(format!(in alloc; "--show wants a UID")?));
+    }
+    if option == "--offset" && !is_offset(word) {
+        let word = shown(alloc, word)?;
+        return Ok(Some(format!(in alloc; "'{word}' is no offset from UTC, as +01:00")?));
+    }
+    Ok(None)
+}
+
+// What is wrong with a word that is an option or a file.
+fn note_on_option(alloc: Global, word: &str) -> Result<Option<String>, AllocError> {
+    if word.is_empty() {
+        return Ok(Some(format!(in alloc; "the name of a file is empty")?));
+    }
+    if !word.starts_with("--") {
+        return Ok(None);
+    }
+    match word {
+        "--differences" => Ok(None),
+        "--offset" => Ok(None),
+        "--show" => Ok(None),
+        "--help" => Ok(Some(format!(in alloc; "--help stands alone")?)),
+        _ => {
+            let word = shown(alloc, word)?;
+            Ok(Some(format!(in alloc;
+                "{word} is no option: these are --differences, --offset, --show and --help"
+            )?))
+        }
+    }
+}
+
+// What is wrong with the first word that is wrong by itself, or with an option at the end.
+fn note_on_first(alloc: Global, words: &[&str]) -> Result<Option<String>, AllocError> {
+    let mut option = "";
+    for word in words {
+        let word: &str = word;
+        let is_value = takes_word(option);
+        let note = if is_value {
+            note_on_value(alloc, option, word)?
+        } else {
+            note_on_option(alloc, word)?
+        };
+        if note.is_some() {
+            return Ok(note);
+        }
+        option = if is_value { "" } else { word };
+    }
+    if takes_word(option) {
+        return Ok(Some(format!(in alloc; "{option} wants a word behind it")?));
+    }
+    Ok(None)
+}
+
+// The files among the words.
+fn files_of<'a>(alloc: Global, words: &[&'a str]) -> Result<Vec<&'a str>, AllocError> {
+    let mut files = Vec::new(alloc);
+    let mut option = "";
+    for word in words {
+        let word: &'a str = word;
+        let is_value = takes_word(option);
+        if !is_value && !word.starts_with("--") {
+            files.push(word)?;
+        }
+        option = if is_value { "" } else { word };
+    }
+    Ok(files)
+}
+
+// What is wrong with words that ask nothing.
+fn text_on_words(alloc: Global, words: &[&str]) -> Result<String, AllocError> {
+    if let Some(text) = note_on_first(alloc, words)? {
+        return Ok(text);
+    }
+    let files = files_of(alloc, words)?;
+    match files.as_slice() {
+        [old, new] => {
+            if *old == "-" && *new == "-" {
+                format!(in alloc; "standard input can be read once: one file alone may be -")
+            } else {
+                format!(in alloc; "an option stands twice")
+            }
+        }
+        files => {
+            let count = files.len();
+            format!(in alloc; "two files are wanted, OLD and NEW, and {count} are named")
+        }
+    }
+}
+
+/// What is wrong with words of `rr-calendars` that ask nothing, and what is wanted.
+pub fn note_on_calendar_words(alloc: Global, words: &[&str]) -> Result<String, AllocError>
+    ensures { IsVisibleNote result }
+{
+    let text = text_on_words(alloc, words)?;
+    visible(alloc, text.as_bytes())
+}
+
+/// What to do about the refusal of a file that an answer begins with. The first 64 bytes of the answer are enough.
+pub fn note_on_calendar_refusal(answer: &[u8]) -> Option<&'static str> {
+    match answer {
+        b"refused A NoEvents\n" | b"refused B NoEvents\n" => {
+            Some("the file is no iCalendar: 'rr' reads one event of other languages")
+        }
+        _ => None,
+    }
+}
+
+/// How many events were not compared for want of an offset, if any.
+pub fn note_on_utc(alloc: Global, count: usize) -> Result<Option<String>, AllocError> {
+    if count == 0 {
+        return Ok(None);
+    }
+    if count == 1 {
+        return Ok(Some(format!(in alloc;
+            "1 event states UTC beside local time that no zone of its file turns: give --offset"
+        )?));
+    }
+    Ok(Some(format!(in alloc;
+        "{count} events state UTC beside local time that no zone of their file turns: give --offset"
+    )?))
+}
