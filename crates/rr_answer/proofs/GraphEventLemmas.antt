@@ -1,5 +1,5 @@
 -- What is read of a Graph text is a valid event.
-use Rattle.std.proofs.Common.{◌≡◌, ℕ, ◌+◌, ◌<◌, ◌==◌, Bool, true, false, if◌then◌else◌, Option, None, Some, List, length}
+use Rattle.std.proofs.Common.{◌≡◌, ℕ, ◌<◌, ◌==◌, Bool, true, false, if◌then◌else◌, Option, None, Some, List, length}
 use Rattle.std.proofs.Common.{take, drop, slice_index, option_map, option_and_then, ℤ, ◌+ℤ◌, codes, refl, sym, ap, subst, ◌∙◌}
 use Rattle.std.specs.Prelude.{Ok, ok_or}
 use Rattle.std.specs.Ordering.{int_eq}
@@ -38,11 +38,11 @@ use Rattle.rr_graph.proofs.ReadPatternLemmas.{pattern_of-valid, within-lies}
 
 -- ---- dates and moments
 
-extended_date-in_years : (text : List ℕ) (day : ℤ) → extended_date_of text ≡ Some day → HasFourDigitYear day
+pub extended_date-in_years : (text : List ℕ) (day : ℤ) → extended_date_of text ≡ Some day → HasFourDigitYear day
 unfolding extended_date_of
 extended_date-in_years text day h = basic_date-in_years (date_digits text) day (where_some _ (basic_date (date_digits text)) day h)
 
-extended_time-below : (text : List ℕ) (second : ℕ) → extended_time_of text ≡ Some second → second < 86_400
+pub extended_time-below : (text : List ℕ) (second : ℕ) → extended_time_of text ≡ Some second → second < 86_400
 unfolding extended_time_of
 extended_time-below text second h = basic_time-below (time_digits text) second (where_some _ (basic_time (time_digits text)) second h)
 

@@ -13,7 +13,7 @@ use Rattle.rr_answer.specs.OperandReading.{AnswersRead, IsDescriptorRead, IsStat
 use Rattle.rr_answer.specs.Subjects.{Subject, as_subject, of_series, of_sketch, of_skipping}
 use Rattle.rr_model.specs.Text.Lines.{without_mark}
 use Rattle.rr_answer.specs.declared.command.Language.{Language}
-use Rattle.rr_answer.specs.declared.command.Language.TheVariants.{Rrule, Vcal, Graph, List as list, Canon, Rscale}
+use Rattle.rr_answer.specs.declared.command.Language.TheVariants.{Rrule, ZonedRrule, Vcal, Graph, List as list, Canon, Rscale, ZonedRscale}
 use Rattle.rr_answer.proofs.DescriptorLemmas.{descriptor_is_one}
 
 -- ---- there is one reading
@@ -35,11 +35,13 @@ descriptor_read_is_one text (Err refusal) (Err other) p q = ap Err (p.0 ∙ sym 
 
 stated_is_one : (language : Language) (offset : Option ℤ) (bytes : List ℕ) → IsOne (IsStatedIn language offset bytes)
 stated_is_one Rrule offset bytes x y p q = p ∙ sym q
+stated_is_one ZonedRrule offset bytes x y p q = p ∙ sym q
 stated_is_one list offset bytes x y p q = p ∙ sym q
 stated_is_one Vcal offset bytes x y p q = p ∙ sym q
 stated_is_one Graph offset bytes x y p q = p ∙ sym q
 stated_is_one Canon offset bytes x y p q = descriptor_read_is_one (without_mark bytes) x y p q
 stated_is_one Rscale offset bytes x y p q = p ∙ sym q
+stated_is_one ZonedRscale offset bytes x y p q = p ∙ sym q
 
 pub subject_read_is_one : (operand : Operand) (bytes : List ℕ) → IsOne (IsSubjectRead operand bytes)
 unfolding IsSubjectRead

@@ -22,11 +22,11 @@ use Rattle.rr_graph.proofs.OccurrenceLemmas.{counterpart_has_occurrences as grap
 use Rattle.rr_text.proofs.StepLemmas.{and_then_ok}
 use Rattle.rr_vcal.proofs.OccurrenceLemmas.{counterpart_has_occurrences as vcal_counterpart}
 use Rattle.rr_vcal.proofs.ValidReadLemmas.{answer-valid}
-use Rattle.rr_answer.specs.OperandReading.{IsDescriptorRead, IsStatedIn, IsSubjectRead}
+use Rattle.rr_answer.specs.OperandReading.{IsDescriptorRead, IsStatedIn, IsSubjectRead, reads_zoned_rrule, reads_zoned_rscale}
 use Rattle.rr_answer.specs.OwnSense.{OccursAsStated, OwnSense}
 use Rattle.rr_answer.specs.Subjects.{OccursIn, Subject, as_skipping, as_subject, of_series, of_sketch, of_skipping}
 use Rattle.rr_answer.specs.declared.command.Language.{Language}
-use Rattle.rr_answer.specs.declared.command.Language.TheVariants.{Rrule, Vcal, Graph, List as list, Canon, Rscale}
+use Rattle.rr_answer.specs.declared.command.Language.TheVariants.{Rrule, ZonedRrule, Vcal, Graph, List as list, Canon, Rscale, ZonedRscale}
 use Rattle.rr_answer.proofs.DescriptorLemmas.{descriptor_is_one}
 use Rattle.rr_algebra.specs.Stated.{IsDescriptor}
 use Rattle.rr_model.specs.Sets.Sketch.{StandsIn}
@@ -110,6 +110,7 @@ stated_in :
     (language : Language) (offset : Option ℤ) (bytes : List ℕ) (subject : Subject) → IsStatedIn language offset bytes (Ok subject)
     → HaveEqualOccurrences (OccursIn subject) (OccursAsStated language offset bytes)
 stated_in Rrule offset bytes subject h = series_stated (reads_calendar offset bytes) subject h
+stated_in ZonedRrule offset bytes subject h = series_stated (reads_zoned_rrule bytes) subject h
 stated_in list offset bytes subject h = series_stated (reads_list bytes) subject h
 stated_in Vcal offset bytes subject h =
     stated_occurs VSeries (reads_vcal offset bytes) series_of_vseries OccursInVseries
@@ -119,6 +120,7 @@ stated_in Graph offset bytes subject h =
     (λ e p k t. graph_counterpart e k t (reads_graph-valid offset bytes e p)) subject h
 stated_in Canon offset bytes subject h = descriptor_stated (without_mark bytes) subject h
 stated_in Rscale offset bytes subject h = skipping_stated (reads_rscale offset bytes) subject h
+stated_in ZonedRscale offset bytes subject h = skipping_stated (reads_zoned_rscale bytes) subject h
 
 pub own_sense : OwnSense
 unfolding IsSubjectRead

@@ -1,6 +1,7 @@
 // What is said of two operands.
-ghost use Rattle.std.specs.Prelude.{◌≡◌, IfOk, IsTrue, ◌≤ℤ◌, pos};
+ghost use Rattle.std.specs.Prelude.{◌≡◌, ◌≤◌, IfOk, IsTrue, ◌≤ℤ◌, pos};
 ghost use Rattle.rr_model.specs.declared.question.Question.TheVariants.{Equal};
+ghost use Rattle.rr_model.specs.declared.limits.TheConstants.{MAX_CYCLE_DAYS};
 ghost use Rattle.rr_days.specs.Sequence.{sketch};
 ghost use Rattle.rr_answer.specs.Answer.{IsPairAnswer, IsSaidBeside};
 ghost use Rattle.rr_answer.specs.Command.{HasDurations};
@@ -14,6 +15,7 @@ ghost use Rattle.rr_answer.specs.declared.command.Inquiry.TheVariants.{Verdict a
 use crate::clashes::clash_outcome;
 use crate::combining::combined_outcome;
 use crate::command::{Inquiry, Operand};
+use crate::differing::differences_outcome;
 use crate::folding::read_folded;
 use crate::outcome::{Outcome, outcome_of_fault, outcome_of_verdict};
 use crate::verdicts::verdict_outcome;
@@ -32,6 +34,8 @@ fn said_of_both(
     requires durations { HasDurations inquiry }
     requires a { IsFromYearOneOn (sketch a.now) }
     requires b { IsFromYearOneOn (sketch b.now) }
+    requires short_a { (sketch a.now).period ≤ MAX_CYCLE_DAYS }
+    requires short_b { (sketch b.now).period ≤ MAX_CYCLE_DAYS }
     requires near_a { (sketch a.now).settled ≤ℤ pos 40_000_000 }
     requires near_b { (sketch b.now).settled ≤ℤ pos 40_000_000 }
     ensures { IfOk result (λ x. IsSaidOfFolds inquiry (sketch a.now) (sketch b.now) (answer_of x)) }
@@ -43,6 +47,7 @@ fn said_of_both(
             duration_a,
             duration_b,
         } => clash_outcome(alloc, duration_a, a, duration_b, b),
+        Inquiry::Differences(count) => differences_outcome(alloc, count, a, b),
     }
 }
 
@@ -56,6 +61,7 @@ fn outcome_beside(
 ) -> Result<Outcome, NoMemory>
     requires durations { HasDurations inquiry }
     requires years { IsFromYearOneOn (sketch a.now) }
+    requires short { (sketch a.now).period ≤ MAX_CYCLE_DAYS }
     requires near { (sketch a.now).settled ≤ℤ pos 40_000_000 }
     ensures { IfOk result
         (λ x. IsSaidBeside inquiry (sketch a.now) (IsReadOf b.entry text_b.now) (answer_of x)) }

@@ -8,10 +8,14 @@ use Rattle.rr_answer.specs.Parsed.{operand_in}
 use Rattle.rr_answer.specs.Verdicts.{IsSaidOfBoth}
 use Rattle.rr_answer.proofs.JudgementLemmas.{fault_said}
 use Rattle.rr_answer.proofs.SaidOfBothLemmas.{fold_from_year_one}
+use Rattle.rr_answer.proofs.ShortLemmas.{folded_is_short}
 use Rattle.rr_answer.proofs.pairs.outcome_beside.Goals as goal
 
 pub said_of_both-requires-clause-b : goal.said_of_both-requires-clause-b
 said_of_both-requires-clause-b c = fold_from_year_one c.in-Ok.ensures.accepted.subject _ c.in-Ok.ensures.accepted.fold
+
+pub said_of_both-requires-clause-short_b : goal.said_of_both-requires-clause-short_b
+said_of_both-requires-clause-short_b c = folded_is_short (operand_in c.args.b) c.args.text_b.now _ c.in-Ok.ensures.accepted
 
 pub said_of_both-requires-clause-near_b : goal.said_of_both-requires-clause-near_b
 said_of_both-requires-clause-near_b c = c.in-Ok.ensures.accepted.fold.near

@@ -8,10 +8,14 @@ use Rattle.rr_answer.specs.Parsed.{operand_in}
 use Rattle.rr_answer.specs.Said.{answer_of_verdict}
 use Rattle.rr_answer.proofs.OneTextLemmas.{said_of_one_text}
 use Rattle.rr_answer.proofs.SaidOfBothLemmas.{fold_from_year_one}
+use Rattle.rr_answer.proofs.ShortLemmas.{folded_is_short}
 use Rattle.rr_answer.proofs.pairs.pair_outcome.Goals as goal
 
 pub outcome_beside-requires-clause-years : goal.outcome_beside-requires-clause-years
 outcome_beside-requires-clause-years c = fold_from_year_one c.in-Ok.ensures.accepted.subject _ c.in-Ok.ensures.accepted.fold
+
+pub outcome_beside-requires-clause-short : goal.outcome_beside-requires-clause-short
+outcome_beside-requires-clause-short c = folded_is_short (operand_in c.args.a) c.args.text_a.now _ c.in-Ok.ensures.accepted
 
 pub outcome_beside-requires-clause-near : goal.outcome_beside-requires-clause-near
 outcome_beside-requires-clause-near c = c.in-Ok.ensures.accepted.fold.near
