@@ -1,4 +1,3 @@
-mod WordLemmas
-mod AnswerLemmas
+mod EndingLemmas
 mod FetchLemmas
 mod RunLemmas

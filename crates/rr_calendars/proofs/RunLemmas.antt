@@ -1,24 +1,12 @@
 -- What a run leaves, by what was worked out and what the put answers.
 use Rattle.std.proofs.Common.{◌≡◌, ◌⊎◌, inl, inr, ℕ, List, Option, Some, None, IfSome, IsNone, refl, subst}
-use Rattle.std.specs.Prelude.{IfOk, Result}
 use Rattle.std.proofs.lemmas.Option.{IfSome_then}
-use Rattle.rr_io.specs.declared.source.FetchError.{FetchError}
 use Rattle.rr_io.specs.Outside.{Appended, AppendedPart}
-use Rattle.rr_calendars.specs.Outcomes.{outcome_is}
-use Rattle.rr_calendars.specs.Run.{Answer, Ends, HasCause, IsAnswer, IsAnswerTo, IsEnding, contents}
-use Rattle.rr_calendars.specs.Words.{Asked}
-use Rattle.rr_calendars.specs.declared.answer.Outcome.{Outcome}
-use Rattle.rr_calendars.specs.declared.status.Status.{Status}
-use Rattle.rr_calendars.specs.declared.status.Status.TheVariants.{Equal, Differs, Refused, Usage, ReadFault, WriteFault, NoMemory}
-
--- ---- what the words ask
-
--- what answers one thing that is asked answers the same thing
-pub ok_answer_to : (held : List ℕ → Option (List ℕ)) (said asked : Option Asked) (r : Result Outcome FetchError) → said ≡ asked
-    → IfOk r (λ (x : Outcome). IsAnswerTo said held (outcome_is x)) → IfOk r (λ (x : Outcome). IsAnswerTo asked held (outcome_is x))
-ok_answer_to held said asked r e h = subst (λ (w : Option Asked). IfOk r (λ (x : Outcome). IsAnswerTo w held (outcome_is x))) e h
-
--- ---- an answer that was put
+use Rattle.rr_compare.specs.Answer.{Answer, IsAnswer}
+use Rattle.rr_calendars.specs.Run.{Ends, HasCause, IsAnswerTo, IsEnding, contents}
+use Rattle.rr_compare.specs.Words.{Asked}
+use Rattle.rr_compare.specs.declared.status.Status.{Status}
+use Rattle.rr_compare.specs.declared.status.Status.TheVariants.{Equal, Differs, Refused, Usage, ReadFault, WriteFault, NoMemory}
 
 -- what holds of each status that an answer can have
 of_ending : (P : Status → Type 0) (asked : Option Asked) (status : Status) → IsEnding asked status → P Equal → P Differs → P Refused → P Usage → P status

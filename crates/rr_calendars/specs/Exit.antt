@@ -1,9 +1,9 @@
 -- The exit status of the program.
 use Rattle.std.specs.Prelude.{ℕ, Result, Ok, Err}
-use Rattle.rr_calendars.specs.Run.{code_of}
+use Rattle.rr_compare.specs.Answer.{code_of}
 use Rattle.rr_io.specs.declared.not_run.NotRun.{NotRun}
 use Rattle.rr_io.specs.declared.not_run.NotRun.TheVariants.{NoText, NoMemory}
-use Rattle.rr_calendars.specs.declared.status.Ended.{Ended}
+use Rattle.rr_calendars.specs.declared.ended.Ended.{Ended}
 
 -- the exit status: the number of the status where the words were run, 7 where one is no text, and 6 out of memory for them
 abbrev pub exit_number : Result Ended NotRun → ℕ

@@ -2,7 +2,7 @@
 ghost use Rattle.std.specs.Prelude.{◌≡◌};
 ghost use Rattle.rr_calendars.specs.Exit.{exit_number};
 
-use crate::status::Ended;
+use crate::ended::Ended;
 use rr_io::NotRun;
 
 /// The exit status: the number of the status where the words were run.

@@ -1,24 +1,75 @@
 //! `rr-calendars` says of two calendar files whether each event survived the trip between them.
 #![tactic(auto)]
 
-mod answer;
+mod ended;
 mod exit;
 mod program;
 mod progress;
-mod status;
-mod words;
 mod work;
 
+pub use ended::Ended;
 use exit::exit_number;
 pub use program::run;
 use progress::Progress;
+pub use rr_compare::Status;
+use rr_compare::{Asked, parse};
 use rr_io::{HostSink, HostSource, NotRun};
-pub use status::{Ended, Status};
+use rr_notes::{
+    NO_MEMORY, NO_TEXT, WRITE_FAULT, note_on_calendar_refusal, note_on_calendar_words,
+    note_on_file, note_on_utc, note_on_zones_of_file,
+};
+use rr_trip::MAX_FILE;
+use std::alloc::AllocError;
 use std::env;
 use std::io::IsTerminal;
 use std::process::ExitCode;
 
-// Runs the words of the system over its files and standard streams.
+// What is noted of how a run ended, by the first bytes of what it put.
+fn fixed_note(status: Status, answer: &[u8]) -> Option<&'static str> {
+    match status {
+        Status::Refused => note_on_calendar_refusal(answer),
+        Status::WriteFault => Some(WRITE_FAULT),
+        Status::NoMemory => Some(NO_MEMORY),
+        _ => None,
+    }
+}
+
+// What is noted of words that ask nothing, and of a file that could not be read.
+fn made_note(
+    rt: &HostRuntime,
+    status: Status,
+    words: &[&str],
+    source: &HostSource<&HostRuntime>,
+) -> Result<Option<String>, AllocError> {
+    let alloc = rt.alloc();
+    match status {
+        Status::Usage => Ok(Some(note_on_calendar_words(alloc, words)?)),
+        Status::ReadFault => match source.failure() {
+            None => Ok(None),
+            Some((name, why)) => Ok(Some(note_on_file(alloc, name, why)?)),
+        },
+        _ => Ok(None),
+    }
+}
+
+// Notes on standard error. What can't be written is left out.
+fn note(rt: &HostRuntime, text: &str) {
+    let _ = eprintln!(rt; "rr-calendars: {text}");
+}
+
+// Notes which zone of each file turns nothing, and why.
+fn note_zones(rt: &HostRuntime, words: &[&str]) {
+    let Some(Asked::Comparison(request)) = parse(words) else {
+        return;
+    };
+    for name in [request.old, request.new] {
+        if let Some(text) = note_on_zones_of_file(rt, name, MAX_FILE) {
+            note(rt, text.as_str());
+        }
+    }
+}
+
+// Runs the words of the system over its files and standard streams, and notes what to do about the answer.
 fn run_on_host(rt: &HostRuntime) -> Result<Ended, NotRun> {
     let alloc = rt.alloc();
     let mut words = Vec::new(alloc);
@@ -32,28 +83,33 @@ fn run_on_host(rt: &HostRuntime) -> Result<Ended, NotRun> {
     let mut source = HostSource::new(alloc, rt);
     let mut sink = HostSink::new(rt);
     let mut progress = Progress::new(rt, rt.stderr().is_terminal());
-    Ok(run(
-        alloc,
-        texts.as_slice(),
-        &mut source,
-        &mut sink,
-        &mut progress,
-    ))
+    let words = texts.as_slice();
+    let ended = run(alloc, words, &mut source, &mut sink, &mut progress);
+    if let Some(text) = fixed_note(ended.status, sink.front()) {
+        note(rt, text);
+    }
+    if let Ok(Some(text)) = made_note(rt, ended.status, words, &source) {
+        note(rt, text.as_str());
+    }
+    if ended.in_utc > 0 {
+        note_zones(rt, words);
+    }
+    Ok(ended)
 }
 
-// Notes on standard error how many events were not compared for want of an offset; a note that can't be written is left out.
-fn note(rt: &HostRuntime, in_utc: usize) {
-    if in_utc == 1 {
-        let _ = eprintln!(rt; "1 event states UTC beside local time: give --offset");
-    } else if in_utc > 1 {
-        let _ = eprintln!(rt; "{in_utc} events state UTC beside local time: give --offset");
+// Notes on standard error how many events were not compared for want of an offset.
+fn note_utc(rt: &HostRuntime, in_utc: usize) {
+    if let Ok(Some(text)) = note_on_utc(rt.alloc(), in_utc) {
+        let _ = eprintln!(rt; "{text}");
     }
 }
 
 fn main(rt: HostRuntime) -> ExitCode {
     let ended = run_on_host(&rt);
-    if let Ok(ended) = ended {
-        note(&rt, ended.in_utc);
+    match ended {
+        Ok(ended) => note_utc(&rt, ended.in_utc),
+        Err(NotRun::NoText) => note(&rt, NO_TEXT),
+        Err(NotRun::NoMemory) => note(&rt, NO_MEMORY),
     }
     ExitCode::from(exit_number(ended))
 }

@@ -1,10 +1,11 @@
 // The top call.
 ghost use Rattle.std.specs.Prelude.{◌≡◌, ◌⊎◌, IsNone};
-ghost use Rattle.rr_calendars.specs.Parsed.{asked_of_words};
+ghost use Rattle.rr_compare.specs.Parsed.{asked_of_words};
 ghost use Rattle.rr_calendars.specs.Run.{EndsAnswered, HasCause, IsComplete};
 
-use crate::status::{Ended, Status};
+use crate::ended::Ended;
 use crate::work::outcome_of;
+use rr_compare::Status;
 use rr_io::{FetchError, PutError, Sink, Source};
 use rr_trip::Watch;
 use std::alloc::Global;

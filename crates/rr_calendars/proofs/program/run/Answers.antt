@@ -1,10 +1,10 @@
 use Rattle.std.proofs.Common.{inl, inr, refl, rules}
 use Rattle.std.proofs.lemmas.Option.{IfSome_then}
 use Rattle.rr_io.proofs.ToldLemmas.{of_all}
-use Rattle.rr_calendars.specs.Outcomes.{outcome_is}
-use Rattle.rr_calendars.specs.Parsed.{words_of}
+use Rattle.rr_compare.specs.Outcomes.{outcome_is}
+use Rattle.rr_compare.specs.Parsed.{words_of}
 use Rattle.rr_calendars.specs.Run.{contents}
-use Rattle.rr_calendars.specs.Words.{asked_of}
+use Rattle.rr_compare.specs.Words.{asked_of}
 use Rattle.rr_calendars.proofs.RunLemmas.{caused, ends_done, ends_failed, no_fault, usage_none}
 use Rattle.rr_calendars.proofs.program.run.Goals as goal
 

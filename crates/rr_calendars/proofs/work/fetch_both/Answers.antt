@@ -1,4 +1,4 @@
-use Rattle.rr_calendars.specs.Parsed.{request_in}
+use Rattle.rr_compare.specs.Parsed.{request_in}
 use Rattle.rr_calendars.proofs.FetchLemmas.{both_fetched}
 use Rattle.rr_calendars.proofs.work.fetch_both.Goals as goal
 

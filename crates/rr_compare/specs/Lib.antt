@@ -1,0 +1,4 @@
+pub mod Words
+pub mod Parsed
+pub mod Answer
+pub mod Outcomes

@@ -1,0 +1,50 @@
+-- What the values of the program mean.
+use Rattle.std.specs.Prelude.{ℕ, List, map, Option, Some, option_map}
+use Rattle.std.specs.Borrow.{Bor}
+use Rattle.rr_compare.specs.Words.{Asked, Given, Request, asked_of, comparison, help}
+use Rattle.rr_compare.specs.declared.words.Asked.{Asked as ParsedAsked}
+use Rattle.rr_compare.specs.declared.words.Asked.TheVariants.{Help, Comparison}
+use Rattle.rr_compare.specs.declared.words.Given.{Given as ParsedGiven}
+use Rattle.rr_compare.specs.declared.words.Request.{Request as ParsedRequest}
+
+-- the texts that the words are
+abbrev pub words_of : List (Bor (List ℕ)) → List (List ℕ)
+words_of words = map (λ (w : Bor (List ℕ)). w.now) words
+
+-- what the words ask, where they ask something
+abbrev pub asked_of_words : List (Bor (List ℕ)) → Option Asked
+asked_of_words words = asked_of (words_of words)
+
+-- the text of a word, where there is one
+abbrev pub word_in : Option (Bor (List ℕ)) → Option (List ℕ)
+word_in word = option_map (λ (w : Bor (List ℕ)). w.now) word
+
+-- the words so far that a value of the program is
+abbrev pub given_in : ParsedGiven → Given
+given_in given = record {
+  old = word_in given.old;
+  new = word_in given.new;
+  only_differences = given.only_differences;
+  offset = given.offset;
+  show = word_in given.show;
+  next = given.next;
+}
+
+-- the comparison that a value of the program is
+abbrev pub request_in : ParsedRequest → Request
+request_in request = record {
+  old = request.old.now;
+  new = request.new.now;
+  only_differences = request.only_differences;
+  offset = request.offset;
+  show = word_in request.show;
+}
+
+-- what is asked by a request of the program
+abbrev pub comparison_in : ParsedRequest → Option Asked
+comparison_in request = Some (comparison (request_in request))
+
+-- what a value of the program asks
+abbrev pub asked_in : ParsedAsked → Asked
+asked_in Help = help
+asked_in (Comparison request) = comparison (request_in request)

@@ -1,0 +1,116 @@
+-- The words of the command line: two files, and options at any place.
+use Rattle.std.specs.Prelude.{ℕ, ◌==◌, nat_eq, Bool, true, false, not, ◌&&◌, ◌||◌, if◌then◌else◌, ℤ, List, [], ◌∷◌, length, take, drop, slice_index}
+use Rattle.std.specs.List.{starts_with}
+use Rattle.std.specs.Prelude.{Option, Some, None, option_and_then, option_map, bytes_eq, codes}
+use Rattle.std.specs.Option.{is_some}
+use Rattle.rr_text.specs.Offset.{offset_of}
+use Rattle.rr_compare.specs.declared.words.Next.{Next}
+use Rattle.rr_compare.specs.declared.words.Next.TheVariants.{Word, Offset, Name}
+
+-- what is asked of two files: their names, whether equal events are left out, the stated offset from UTC in seconds, and the name of
+-- the only event that is asked for
+pub record Request : Type 0 where
+  pub old : List ℕ
+  pub new : List ℕ
+  pub only_differences : Bool
+  pub offset : Option ℤ
+  pub show : Option (List ℕ)
+
+-- what the words of the command ask for
+pub data Asked : Type 0 where
+  help : Asked
+  comparison : Request → Asked
+
+-- what the words state so far
+pub record Given : Type 0 where
+  pub old : Option (List ℕ)
+  pub new : Option (List ℕ)
+  pub only_differences : Bool
+  pub offset : Option ℤ
+  pub show : Option (List ℕ)
+  pub next : Next
+
+-- what is stated before the first word
+abbrev pub nothing_given : Given
+nothing_given = record { old = None; new = None; only_differences = false; offset = None; show = None; next = Word }
+
+-- an offset from UTC: hours after their sign, a colon, and minutes
+abbrev pub offset_in : List ℕ → Option ℤ
+offset_in text = if (length text == 6) && (slice_index text 3 == 58) then offset_of (take 3 text) (drop 4 text) else None
+
+-- a word that is no file's name: it is empty, or begins with `--`
+abbrev pub is_no_name : List ℕ → Bool
+is_no_name word = (length word == 0) || starts_with nat_eq word (codes "--")
+
+-- the words so far with one name more: that of A, or else that of B; None where both are there
+abbrev pub with_file : Given → List ℕ → Option Given
+with_file given name =
+    if is_no_name name then None
+    else (if not (is_some given.old) then Some (record given { old = Some name })
+    else (if is_some given.new then None else Some (record given { new = Some name })))
+
+-- the words so far with the value of `--offset`; None where it is no offset
+abbrev pub with_offset : Given → List ℕ → Option Given
+with_offset given text = option_map (λ offset. record given { offset = Some offset; next = Word }) (offset_in text)
+
+-- the words so far with the value of `--show`; None where it is empty
+abbrev pub with_name : Given → List ℕ → Option Given
+with_name given [] = None
+with_name given (b ∷ bs) = Some (record given { show = Some (b ∷ bs); next = Word })
+
+-- the words so far with one word more that is no option's value; each option may be given once
+abbrev pub with_option : Given → List ℕ → Option Given
+with_option given word =
+    if bytes_eq word (codes "--differences") && not given.only_differences then Some (record given { only_differences = true })
+    else (if bytes_eq word (codes "--offset") && not (is_some given.offset) then Some (record given { next = Offset })
+    else (if bytes_eq word (codes "--show") && not (is_some given.show) then Some (record given { next = Name })
+    else with_file given word))
+
+-- the words so far with one word more, by what the word before asks for; None where it is refused
+abbrev pub with_next : Next → Given → List ℕ → Option Given
+with_next Word given word = with_option given word
+with_next Offset given word = with_offset given word
+with_next Name given word = with_name given word
+
+-- the words so far with one word more; None where it is refused
+abbrev pub with_word : Given → List ℕ → Option Given
+with_word given word = with_next given.next given word
+
+-- the words so far with these words more; None where one is refused
+abbrev pub with_words : Given → List (List ℕ) → Option Given
+with_words given [] = Some given
+with_words given (word ∷ words) = option_and_then (λ next. with_words next words) (with_word given word)
+
+-- what all the words of a comparison state; None where one is refused
+abbrev pub given_of : List (List ℕ) → Option Given
+given_of words = with_words nothing_given words
+
+-- no option waits for its value
+abbrev pub is_word : Next → Bool
+is_word Word = true
+is_word Offset = false
+is_word Name = false
+
+-- both names are `-`, standard input
+abbrev pub are_input : List ℕ → List ℕ → Bool
+are_input old new = bytes_eq old (codes "-") && bytes_eq new (codes "-")
+
+-- what a comparison of two files asks for; None where an option waits for its value, or both files are standard input
+abbrev pub request_by : Given → List ℕ → List ℕ → Option Request
+request_by given old new =
+    if not (is_word given.next) || are_input old new then None
+    else Some (record { old = old; new = new; only_differences = given.only_differences; offset = given.offset; show = given.show })
+
+-- the comparison that the words ask
+abbrev pub request_of : Given → Option Request
+request_of given = option_and_then (λ old. option_and_then (λ new. request_by given old new) given.new) given.old
+
+-- the words are `--help` alone
+abbrev pub is_help : List (List ℕ) → Bool
+is_help [] = false
+is_help (word ∷ []) = bytes_eq word (codes "--help")
+is_help (word ∷ next ∷ words) = false
+
+-- what the words ask, where they ask something
+unfoldable pub asked_of : List (List ℕ) → Option Asked
+asked_of words = if is_help words then Some help else option_and_then (λ given. option_map comparison (request_of given)) (given_of words)

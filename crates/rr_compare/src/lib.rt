@@ -1,0 +1,10 @@
+//! What `rr-calendars` answers to words, over the bytes of both files: no file is read and nothing is written.
+#![tactic(auto)]
+
+mod answers;
+mod status;
+mod words;
+
+pub use answers::{Outcome, answer, answer_to};
+pub use status::Status;
+pub use words::{Asked, HELP, Request, USAGE, parse};

@@ -1,0 +1,249 @@
+// The words of the command line.
+ghost use Rattle.std.specs.Prelude.{◌≡◌, option_map};
+ghost use Rattle.rr_compare.specs.Words.{are_input, given_of, is_help, is_word, offset_in, request_of, with_file, with_name, with_offset, with_option, with_word};
+ghost use Rattle.rr_compare.specs.Parsed.{asked_in, asked_of_words, given_in, request_in, words_of};
+
+use rr_text::offset_of;
+
+/// What is said of words that ask nothing.
+pub const USAGE: &[u8] =
+    b"usage: rr-calendars OLD NEW [--differences] [--offset +HH:MM] [--show UID]\n";
+
+/// The page of help.
+pub const HELP: &[u8] =
+    b"rr-calendars says of two calendar files whether each event survived the trip between them, for all years to come.
+
+  rr-calendars OLD NEW [--differences] [--offset +HH:MM] [--show UID]
+
+OLD and NEW are calendar files (iCalendar, RFC 5545) of at most 64 MiB; one of the two may be - for standard input.
+Events are found again by their UID. There is a line for each, in the order of their UIDs:
+
+  equal UID                           the same occurrences
+  differs UID no MOMENT A             the first occurrence that only OLD (A) or only NEW (B) has
+  only A UID                          only this file has the event
+  refused UID A REASON LINE           the event cannot be read, with the line in the file
+
+Behind it stands zone where TZID parameters differ, or UTC stands beside local time: local times are compared, and zones are not.
+--differences leaves out the lines of equal events without zone. Moments of UTC beside local time are read by the zones that the file
+defines; --offset states local time less UTC, for those that no zone turns.
+The last line counts them all. On a terminal a comparison of more than a second says how far it is.
+
+--show UID prints the line of this event alone, the UID as it is printed here, and below it, where it differs, the month of the
+first difference and the two after it, Monday first: = for a day with the same times in both, x for one with others, A and B
+for a day that this file alone has, . for one that none has; then the days with others than the usual times. Of a UID that neither
+file has it prints unknown UID, with status 2.
+
+The status is 0 where all are equal, 1 where one differs or stands in one file alone, 2 where none does but one is refused,
+3 for other words, 4 where a file could not be read, 5 where the output could not be written, 6 out of memory, 7 where a word is
+no text in UTF-8.
+";
+
+/// What is asked of two files.
+#[derive(Clone, Copy)]
+pub struct Request<'a> {
+    /// The name of the file A, which is not empty.
+    pub old: &'a str,
+    /// The name of the file B, which is not empty.
+    pub new: &'a str,
+    /// Whether the lines of equal events are left out.
+    pub only_differences: bool,
+    /// The stated offset, local time less UTC, in seconds.
+    pub offset: Option<i32>,
+    /// The name of the only event that is asked for, as a report prints it, which is not empty.
+    pub show: Option<&'a str>,
+}
+
+/// What the words ask.
+#[derive(Clone, Copy)]
+pub enum Asked<'a> {
+    /// The page of help.
+    Help,
+    /// A comparison.
+    Comparison(Request<'a>),
+}
+
+/// What the next word is.
+#[derive(Clone, Copy, Debug, PartialEq, Eq)]
+pub enum Next {
+    /// A file or an option.
+    Word,
+    /// The value of `--offset`.
+    Offset,
+    /// The value of `--show`.
+    Name,
+}
+
+// The words so far.
+#[derive(Clone, Copy)]
+struct Given<'a> {
+    old: Option<&'a str>,
+    new: Option<&'a str>,
+    only_differences: bool,
+    offset: Option<i32>,
+    show: Option<&'a str>,
+    next: Next,
+}
+
+// An offset from UTC in seconds: hours after their sign, a colon, and minutes.
+fn offset_in(text: &[u8]) -> Option<i32>
+    ensures { result ≡ offset_in text.now }
+{
+    if text.len() == 6 && text[3] == b':' {
+        offset_of(&text[..3], &text[4..])
+    } else {
+        None
+    }
+}
+
+// With the name of a file, the first of which is A.
+fn with_file<'a>(given: Given<'a>, name: &'a str) -> Option<Given<'a>>
+    ensures { option_map given_in result ≡ with_file (given_in given.entry) name.now }
+{
+    if name.is_empty() || name.starts_with("--") {
+        return None;
+    }
+    if given.old.is_none() {
+        return Some(Given {
+            old: Some(name),
+            ..given
+        });
+    }
+    if given.new.is_some() {
+        return None;
+    }
+    Some(Given {
+        new: Some(name),
+        ..given
+    })
+}
+
+// With the value of `--offset`.
+fn with_offset<'a>(given: Given<'a>, text: &str) -> Option<Given<'a>>
+    ensures { option_map given_in result ≡ with_offset (given_in given.entry) text.now }
+{
+    let offset = offset_in(text.as_bytes())?;
+    Some(Given {
+        offset: Some(offset),
+        next: Next::Word,
+        ..given
+    })
+}
+
+// With the value of `--show`.
+fn with_name<'a>(given: Given<'a>, name: &'a str) -> Option<Given<'a>>
+    ensures { option_map given_in result ≡ with_name (given_in given.entry) name.now }
+{
+    if name.is_empty() {
+        return None;
+    }
+    Some(Given {
+        show: Some(name),
+        next: Next::Word,
+        ..given
+    })
+}
+
+// With a word that is no option's value. Each option is given once.
+fn with_option<'a>(given: Given<'a>, word: &'a str) -> Option<Given<'a>>
+    ensures { option_map given_in result ≡ with_option (given_in given.entry) word.now }
+{
+    match word {
+        "--differences" if !given.only_differences => Some(Given {
+            only_differences: true,
+            ..given
+        }),
+        "--offset" if given.offset.is_none() => Some(Given {
+            next: Next::Offset,
+            ..given
+        }),
+        "--show" if given.show.is_none() => Some(Given {
+            next: Next::Name,
+            ..given
+        }),
+        _ => with_file(given, word),
+    }
+}
+
+// With one word more.
+fn with_word<'a>(given: Given<'a>, word: &'a str) -> Option<Given<'a>>
+    ensures { option_map given_in result ≡ with_word (given_in given.entry) word.now }
+{
+    match given.next {
+        Next::Word => with_option(given, word),
+        Next::Offset => with_offset(given, word),
+        Next::Name => with_name(given, word),
+    }
+}
+
+// The words of a comparison, files and options in any order.
+fn given_of<'a>(words: &[&'a str]) -> Option<Given<'a>>
+    ensures { option_map given_in result ≡ given_of (words_of words.now) }
+{
+    let mut given = Given {
+        old: None,
+        new: None,
+        only_differences: false,
+        offset: None,
+        show: None,
+        next: Next::Word,
+    };
+    for word in words {
+        given = with_word(given, word)?;
+    }
+    Some(given)
+}
+
+// Whether no option waits for its value.
+fn is_word(next: Next) -> bool
+    ensures { result ≡ is_word next }
+{
+    matches!(next, Next::Word)
+}
+
+// Whether both are standard input.
+fn are_input(old: &str, new: &str) -> bool
+    ensures { result ≡ are_input old.now new.now }
+{
+    old == "-" && new == "-"
+}
+
+// The comparison that the words ask. Standard input, `-`, can be one of the files alone.
+fn request_of<'a>(given: Given<'a>) -> Option<Request<'a>>
+    ensures { option_map request_in result ≡ request_of (given_in given.entry) }
+{
+    let old = given.old?;
+    let new = given.new?;
+    if !is_word(given.next) || are_input(old, new) {
+        return None;
+    }
+    Some(Request {
+        old,
+        new,
+        only_differences: given.only_differences,
+        offset: given.offset,
+        show: given.show,
+    })
+}
+
+// Whether `--help` is the only word.
+fn is_help(words: &[&str]) -> bool
+    ensures { result ≡ is_help (words_of words.now) }
+{
+    if words.len() != 1 {
+        return false;
+    }
+    words[0] == "--help"
+}
+
+/// What the words ask, where they ask something: `--help` alone, or two files, with `--differences`, `--offset` and `--show`
+/// at any place.
+#[tactic(auto, unfolding(crate::specs::Words::asked_of))]
+pub fn parse<'a>(words: &[&'a str]) -> Option<Asked<'a>>
+    ensures { option_map asked_in result ≡ asked_of_words words.now }
+{
+    if is_help(words) {
+        return Some(Asked::Help);
+    }
+    let given = given_of(words)?;
+    Some(Asked::Comparison(request_of(given)?))
+}
